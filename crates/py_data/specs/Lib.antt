@@ -1,3 +1,11 @@
 pub mod Collection
-pub mod Refusal
+pub mod Heap
+pub mod Shape
+pub mod Made
+pub mod Row
+pub mod Sense
+pub mod Rest
 pub mod World
+pub mod Sight
+pub mod Frames
+pub mod Refusal

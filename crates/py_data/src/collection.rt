@@ -1,5 +1,5 @@
 //! Lists that contracts see as lists, without where they lie in memory.
-ghost use Rattle.std.specs.Prelude.{◌≡◌, ℕ, ◌+◌, ◌-◌, ◌<◌, ◌≤◌, List, [], ◌∷◌, ◌++◌, length, slice_get, slice_set, option_copied, IfOk, IsOk, OnErr, OnOk, remove, take};
+ghost use Rattle.std.specs.Prelude.{◌≡◌, ℕ, ◌+◌, ◌-◌, ◌<◌, ◌≤◌, List, [], ◌∷◌, ◌++◌, length, slice_get, slice_index_or, slice_set, option_copied, IfOk, IsOk, OnErr, OnOk, remove, take};
 ghost use Rattle.py_data.specs.Collection.{Logged};
 
 use crate::value::{Addr, Value};
@@ -94,6 +94,14 @@ impl<T: Drop> Items<T> {
 }
 
 impl<T: Copy> Items<T> {
+    /// The element at a place.
+    pub fn at(&self, i: usize) -> T
+        requires { i < length self.now }
+        ensures { (d : T) → result ≡ slice_index_or self.now i d }
+    {
+        self.items[i]
+    }
+
     pub fn from_slice(alloc: Global, items: &[T]) -> Result<Items<T>, NoMemory>
         ensures { IfOk result (λ a. a ≡ items.now) }
     {

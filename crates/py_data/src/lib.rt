@@ -1,12 +1,19 @@
 //! Values, records and views of the object heap, and what every operation over a view means.
 #![tactic(auto)]
 
-pub mod collection;
-pub mod refusal;
-pub mod stop;
-pub mod value;
+mod collection;
+mod entry;
+mod laws;
+mod record;
+mod refusal;
+mod stop;
+mod value;
+mod view;
 
 pub use collection::{Bytes, Duplicate, Items, Log, Names, NoMemory, Values};
+pub use laws::frame_law;
+pub use record::{Entry, Fault, Got, LENGTH_LIMIT, Record, With};
 pub use refusal::{Construct, Refusal};
 pub use stop::{Conflict, Conflicts, Out, Side, Stop};
 pub use value::{Addr, Kind, Value};
+pub use view::{Peek, View};

@@ -1,0 +1,4 @@
+pub mod Back
+pub mod Short
+pub mod Finding
+pub mod Naming

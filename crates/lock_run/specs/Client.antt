@@ -1,0 +1,40 @@
+-- What a client's step does over a view.
+use Rattle.std.specs.Prelude.{◌≡◌, ℕ, List, ◌++◌, Option, Some, slice_get, slice_set}
+use Rattle.py_data.specs.declared.stop.Stop.{Stop}
+use Rattle.py_data.specs.Heap.{Heap}
+use Rattle.py_data.specs.Row.{Row}
+use Rattle.py_data.specs.Sense.{Sense, Bracket, Run, Stopped}
+use Rattle.py_data.specs.Sight.{Sight, Does, opened}
+use Rattle.py_data.specs.World.{World}
+use Rattle.lock_run.specs.declared.client.Outcome.{Outcome}
+use Rattle.lock_run.specs.declared.client.Outcome.TheVariants.{Waits}
+use Rattle.lock_run.specs.declared.client.Life.TheVariants.{Lives}
+use Rattle.lock_run.specs.Prog.{Prog}
+
+-- one state of a sound list
+abbrev pub Standing : {S : Type 0} → (List S → Type 0) → S → Type 0
+Standing sound s = (ss : List _) × (t : ℕ) × (slice_get ss t ≡ Some s) × sound ss
+
+-- the meaning of a step happened
+abbrev pub Stepped : {S X : Type 0} → Sense S X → Bracket S X → Row S (Outcome × S) → X → Outcome → S → X → Type 0
+Stepped u b row old o s new = (v : _) × b.opens old v × Run u row v (o, s) new
+
+-- the step met a Stop and was taken back
+abbrev pub StepStopped : {S X : Type 0} → Sense S X → Bracket S X → Row S (Outcome × S) → X → Stop → X → Type 0
+StepStopped u b row old e new = (v : _) × (w : _) × b.opens old v × Stopped u row v e w × b.undoes w new
+
+-- each step of a living thread of a sound list leaves a sound one
+abbrev pub StaysSound : {S : Type 0} → Prog S → (Heap → List S → Type 0) → Type 0
+StaysSound {S} p sound =
+    (ss : List S) (t : ℕ) (s : S) (h : Heap) (w : World) (o : Outcome) (s1 : S) (y : Sight S) →
+    sound h ss → slice_get ss t ≡ Some s → p.life s ≡ Lives → Does (p.row s) (opened S h w) (o, s1) y → sound y.heap (slice_set (ss ++ y.started) t s1)
+
+pub record Unchanged {S : Type 0} (x y : Sight S) : Type 0 where
+  pub heap : y.heap ≡ x.heap
+  pub made : y.made ≡ x.made
+  pub started : y.started ≡ x.started
+  pub world : y.world ≡ x.world
+
+-- a step that waits changes nothing
+abbrev pub WaitsQuietly : {S : Type 0} → Prog S → Type 0
+WaitsQuietly {S} p = (s s1 : S) (x y : Sight S) → Does (p.row s) x (Waits, s1) y → (s1 ≡ s) × Unchanged x y

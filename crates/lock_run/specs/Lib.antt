@@ -1,0 +1,10 @@
+pub mod Journal
+pub mod Space
+pub mod Given
+pub mod Changes
+pub mod PlainState
+pub mod PlainSense
+pub mod PlainLaws
+pub mod Prog
+pub mod Client
+pub mod Machine

@@ -1,0 +1,127 @@
+-- What a plain view holds, as values, and what its calls do.
+use Rattle.std.specs.Prelude.{◌≡◌, ◌⊎◌, ℕ, ◌+◌, ◌≤◌, ◌<◌, List, [], ◌∷◌, ◌++◌, Option, Some, None, Bool, true, false, length, take, drop, is_some, IsSome}
+use Rattle.py_data.specs.declared.value.Value.{Value}
+use Rattle.py_data.specs.declared.value.Kind.TheVariants.{Dict}
+use Rattle.py_data.specs.declared.stop.Out.TheVariants.{Output, ErrorOutput}
+use Rattle.py_data.specs.declared.stop.Stop.{Stop}
+use Rattle.py_data.specs.declared.stop.Stop.TheVariants.{ReadFault, WriteFault, ErrFault, OutOfMemory}
+use Rattle.py_data.specs.Heap.{Heap, Rec, put_at, is_tracked, with_value, with_push, cut_to, with_pair, without_pair}
+use Rattle.py_data.specs.Shape.{find}
+use Rattle.py_data.specs.Row.{Call, Read, Find, SetVal, Push, Truncate, PushPair, DropPair, Make, Start, Put, Take, MidLine, SetMidLine, Reply}
+use Rattle.py_data.specs.Sight.{Fits, CanSet, CanPush, CanPair}
+use Rattle.py_data.specs.World.{IsLine, shrunk, grown}
+use Rattle.stm_io.specs.Outside.{Rose}
+
+pub record PlainState (S : Type 0) : Type 0 where
+  pub heap : Heap
+  pub base : Heap          -- the heap when the step began
+  pub made : List ℕ        -- the names given in this turn
+  pub kept : List ℕ        -- those given when the step began
+  pub left : List ℕ        -- the names that are left
+  pub was_left : List ℕ    -- those left when the step began
+  pub free : Bool          -- made records get fresh names
+  pub bad : Bool           -- a call lacked a name
+  pub started : List S
+  pub stopped : Option Stop
+  pub mid : Bool
+  pub was_mid : Bool       -- the flag when the step began
+  pub input : Option (List ℕ)
+  pub out : Option (List ℕ)
+  pub err : Option (List ℕ)
+  pub reads : ℕ            -- the counts of faults
+  pub writes : ℕ
+  pub errs : ℕ
+
+abbrev pub Changes : {S : Type 0} → ℕ → (Rec → Type 0) → (Rec → Rec) → PlainState S → PlainState S → Type 0
+Changes a ok f d e = (q : Rec) × (d.heap a ≡ Some q) × ok q × (e ≡ record d { heap = put_at d.heap a (f q) })
+
+-- the names from which the next one is taken, where they are given
+abbrev pub Named : Bool → ℕ → List ℕ → List ℕ → Type 0
+Named true n left left1 = left1 ≡ left
+Named false n left left1 = left ≡ n ∷ left1
+
+abbrev pub PlainDoes : {S : Type 0} (c : Call S) → PlainState S → Reply c → PlainState S → Type 0
+PlainDoes (Read a) d r e = (d.heap a ≡ Some r) × (e ≡ d)
+PlainDoes (Find a key) d o e = (q : Rec) × (d.heap a ≡ Some q) × Fits d.heap q key × (o ≡ find d.heap q.values key) × (e ≡ d)
+PlainDoes (SetVal a i v) d r e = Changes a (CanSet i) (with_value i v) d e
+PlainDoes (Push a v) d r e = Changes a CanPush (with_push v) d e
+PlainDoes (Truncate a n) d r e = Changes a CanPush (cut_to n) d e
+PlainDoes (PushPair a key v) d r e = Changes a CanPair (with_pair key v) d e
+PlainDoes (DropPair a k) d r e = Changes a CanPair (without_pair k) d e
+PlainDoes (Make q) d n e = Named d.free n d.left e.left × (d.heap n ≡ None) × (e ≡ record d { heap = put_at d.heap n q; made = d.made ++ n ∷ []; left = e.left })
+PlainDoes (Start s) d r e = e ≡ record d { started = d.started ++ s ∷ [] }
+PlainDoes (Put Output b) d r e = (e ≡ record d { out = grown d.out b; writes = e.writes }) × (d.writes ≤ e.writes)
+PlainDoes (Put ErrorOutput b) d r e = (e ≡ record d { err = grown d.err b; errs = e.errs }) × (d.errs ≤ e.errs)
+PlainDoes (Take most) d l e =
+    IsLine d.input most l × (length l ≤ most) × (e ≡ record d { input = shrunk d.input (length l); reads = e.reads }) × (d.reads ≤ e.reads)
+PlainDoes MidLine d b e = (b ≡ d.mid) × (e ≡ d)
+PlainDoes (SetMidLine b) d r e = e ≡ record d { mid = b }
+
+-- there is no name that could be given
+abbrev pub NoName : Heap → List ℕ → Type 0
+NoName h [] = Unit {0}
+NoName h (n ∷ ns) = is_some (h n) ≡ true
+
+-- what a Stop leaves of the rest
+pub record Steady {S : Type 0} (d e : PlainState S) (s : Stop) : Type 0 where
+  pub base : e.base ≡ d.base
+  pub kept : e.kept ≡ d.kept
+  pub was_left : e.was_left ≡ d.was_left
+  pub free : e.free ≡ d.free
+  pub was_mid : e.was_mid ≡ d.was_mid
+  pub reads : d.reads ≤ e.reads
+  pub writes : d.writes ≤ e.writes
+  pub errs : d.errs ≤ e.errs
+  pub stopped : e.stopped ≡ Some s
+
+pub record SameIn {S : Type 0} (d e : PlainState S) : Type 0 where
+  pub same : e.input ≡ d.input
+pub record SameOut {S : Type 0} (d e : PlainState S) : Type 0 where
+  pub same : e.out ≡ d.out
+pub record SameErr {S : Type 0} (d e : PlainState S) : Type 0 where
+  pub same : e.err ≡ d.err
+pub record SameBad {S : Type 0} (d e : PlainState S) : Type 0 where
+  pub same : e.bad ≡ d.bad
+
+abbrev pub ReadStops : {S : Type 0} → Call S → PlainState S → PlainState S → Type 0
+ReadStops (Take most) d e = ((k : ℕ) × (e.input ≡ shrunk d.input k)) × Rose d.reads e.reads
+ReadStops _ d e = ⊥
+
+abbrev pub WriteStops : {S : Type 0} → Call S → PlainState S → PlainState S → Type 0
+WriteStops (Put Output b) d e = ((k : ℕ) × (e.out ≡ grown d.out (take k b))) × Rose d.writes e.writes
+WriteStops _ d e = ⊥
+
+abbrev pub ErrStops : {S : Type 0} → Call S → PlainState S → PlainState S → Type 0
+ErrStops (Put ErrorOutput b) d e = ((k : ℕ) × (e.err ≡ grown d.err (take k b))) × Rose d.errs e.errs
+ErrStops _ d e = ⊥
+
+-- which calls take memory
+abbrev pub MemoryStops : {S : Type 0} → Call S → PlainState S → PlainState S → Type 0
+MemoryStops (Make q) d e = (e.bad ≡ d.bad) ⊎ ((e.bad ≡ true) × (d.free ≡ false) × NoName d.heap d.left)
+MemoryStops (Read a) d e = ⊥
+MemoryStops (Find a key) d e = ⊥
+MemoryStops MidLine d e = ⊥
+MemoryStops (SetMidLine b) d e = ⊥
+MemoryStops _ d e = e.bad ≡ d.bad
+
+abbrev pub Why : {S : Type 0} → Stop → Call S → PlainState S → PlainState S → Type 0
+Why ReadFault c d e = ReadStops c d e × SameOut d e × SameErr d e × SameBad d e
+Why WriteFault c d e = WriteStops c d e × SameIn d e × SameErr d e × SameBad d e
+Why ErrFault c d e = ErrStops c d e × SameIn d e × SameOut d e × SameBad d e
+Why OutOfMemory c d e = MemoryStops c d e × SameIn d e × SameOut d e × SameErr d e
+Why _ c d e = ⊥
+
+abbrev pub PlainRefuses : {S : Type 0} → Call S → PlainState S → Stop → PlainState S → Type 0
+PlainRefuses c d s e = Steady d e s × Why s c d e
+
+abbrev pub PlainOpens : {S : Type 0} → PlainState S → PlainState S → Type 0
+PlainOpens d e = e ≡ record d { base = d.heap; kept = d.made; was_left = d.left; was_mid = d.mid; bad = false; started = []; stopped = None }
+
+abbrev pub PlainUndoes : {S : Type 0} → PlainState S → PlainState S → Type 0
+PlainUndoes d e = e ≡ record d { heap = d.base; made = d.kept; left = d.was_left; mid = d.was_mid; started = []; stopped = None }
+
+-- a look changes nothing at all
+abbrev pub Still : {S X : Type 0} → Call S → X → X → Type 0
+Still (Read a) v w = w ≡ v
+Still (Find a key) v w = w ≡ v
+Still _ v w = Unit {0}

@@ -1,0 +1,123 @@
+-- How the parts of a row's meaning are put together.
+use Rattle.std.proofs.Common.{◌≡◌, ◌||◌, ℕ, ◌+◌, ◌<◌, ◌≤◌, Bool, true, false, cond, List, [], ◌∷◌, length, Option, Some, None, Result, Ok, Err, MatchOption, MatchResult, ◌⊎◌, inl, inr, refl, sym, ap, subst, ◌∙◌, arith, IsSome, unwrap_or}
+use Rattle.std.specs.Result.{IsErrAnd}
+use Rattle.py_data.specs.declared.stop.Stop.{Stop}
+use Rattle.py_data.specs.declared.stop.Stop.TheVariants.{OutOfMemory}
+use Rattle.py_data.specs.Heap.{Heap, Rec, Has, at, blank, put_at}
+use Rattle.py_data.specs.Row.{Call, Reply, Row, Ret, Do, Read, bind}
+use Rattle.py_data.specs.Sense.{Sense, Lawful, Effect, Asks, IfThere, Safe, Run, Stopped, Meets, IsLive}
+
+module _ {S X : Type 0} (u : Sense S X) where
+  module _ {A : Type 0} where
+    pub run-ret : (a : A) (v : X) → Run u (Ret a) v a v
+    unfolding Run
+    run-ret a v = (refl, refl)
+
+    pub run-do : (c : Call S) (k : Reply c → Row S A) (v m w : X) (r : Reply c) (b : A) → u.does c v r m → Run u (k r) m b w → Run u (Do c k) v b w
+    unfolding Run
+    run-do c k v m w r b d h = (r, m, d, h)
+
+    pub own-memory : (p : Row S A) (v : X) → Stopped u p v OutOfMemory v
+    unfolding Stopped
+    own-memory (Ret a) v = (refl, refl)
+    own-memory (Do c k) v = inl (refl, refl)
+
+    pub stop-refused : (c : Call S) (k : Reply c → Row S A) (v w : X) (e : Stop) → u.refuses c v e w → Stopped u (Do c k) v e w
+    unfolding Stopped
+    stop-refused c k v w e h = inr (inl h)
+
+    pub stop-later : (c : Call S) (k : Reply c → Row S A) (v m w : X) (r : Reply c) (e : Stop) → u.does c v r m → Stopped u (k r) m e w → Stopped u (Do c k) v e w
+    unfolding Stopped
+    stop-later c k v m w r e d h = inr (inr (r, m, d, h))
+
+  module _ {A B : Type 0} where
+    pub run-bind : (p : Row S A) (f : A → Row S B) (v m w : X) (a : A) (b : B) → Run u p v a m → Run u (f a) m b w → Run u (bind p f) v b w
+    unfolding Run bind
+    run-bind (Ret x) f v m w a b h g = subst (λ z. Run u (f z) v b w) h.0 (subst (λ z. Run u (f a) z b w) h.1 g)
+    run-bind (Do c k) f v m w a b h g = (h.0, h.1, h.2, run-bind (k h.0) f h.1 m w a b h.3 g)
+
+    pub stop-first : (p : Row S A) (f : A → Row S B) (v w : X) (e : Stop) → Stopped u p v e w → Stopped u (bind p f) v e w
+    unfolding Stopped bind
+    stop-first (Ret x) f v w e h = subst (λ z. Stopped u (f x) v z w) (sym h.0) (subst (λ z. Stopped u (f x) v OutOfMemory z) (sym h.1) (own-memory (f x) v))
+    stop-first (Do c k) f v w e h = elim h [
+      | inl mine ↦ inl mine
+      | inr g ↦ elim g [
+        | inl refused ↦ inr (inl refused)
+        | inr d ↦ inr (inr (d.0, d.1, d.2, stop-first (k d.0) f d.1 w e d.3))
+      ]
+    ]
+
+    pub stop-then : (p : Row S A) (f : A → Row S B) (v m w : X) (a : A) (e : Stop) → Run u p v a m → Stopped u (f a) m e w → Stopped u (bind p f) v e w
+    unfolding Run Stopped bind
+    stop-then (Ret x) f v m w a e h g = subst (λ z. Stopped u (f z) v e w) h.0 (subst (λ z. Stopped u (f a) z e w) h.1 g)
+    stop-then (Do c k) f v m w a e h g = inr (inr (h.0, h.1, h.2, stop-then (k h.0) f h.1 m w a e h.3 g))
+
+pub some-is : (o : Option Rec) (r : Rec) → o ≡ Some r → unwrap_or o blank ≡ r
+some-is o r e = ap (λ o. unwrap_or o blank) e
+
+module _ {S X : Type 0} {u : Sense S X} where
+  -- what a look leaves and shows
+  pub read-heap : (L : Lawful u) (a : ℕ) (v w : X) (r : Rec) → u.does (Read a) v r w → u.heap w ≡ u.heap v
+  read-heap L a v w r d = (L.effect (Read a) v r w d).1
+
+  pub read-at : (L : Lawful u) (a : ℕ) (v w : X) (r : Rec) → u.does (Read a) v r w → at (u.heap v) a ≡ r
+  unfolding at
+  read-at L a v w r d = some-is (u.heap v a) r (L.effect (Read a) v r w d).0
+
+  pub read-seen : (L : Lawful u) (a : ℕ) (v w : X) (r : Rec) → u.does (Read a) v r w → u.seen a w
+  read-seen L a v w r d = L.seen (Read a) v r w a d refl
+
+  -- a second look at a record
+  pub again : (L : Lawful u) (a : ℕ) (v m w : X) (r q : Rec) → u.does (Read a) v r m → u.does (Read a) m q w → w ≡ m
+  again L a v m w r q d g = L.same a m q w (read-seen L a v m r d) g
+
+  pub not-again : (L : Lawful u) (a : ℕ) (v m w : X) (r : Rec) (e : Stop) → u.does (Read a) v r m → u.refuses (Read a) m e w → ⊥
+  not-again L a v m w r e d g = L.sure a m e w (read-seen L a v m r d) g
+
+module _ {S A : Type 0} where
+  pub safe-asks : (p : Bool) (c : Call S) (k : Reply c → Row S A) (h : Heap) → Safe p (Do c k) h → Asks p c h
+  unfolding Safe
+  safe-asks p c k h s = s.0
+
+module _ {S X A : Type 0} {u : Sense S X} where
+  pub safe-next : (L : Lawful u) (p : Bool) (c : Call S) (k : Reply c → Row S A) (v m : X) (r : Reply c) → Safe p (Do c k) (u.heap v) → u.does c v r m → Safe p (k r) (u.heap m)
+  unfolding Safe
+  safe-next L p c k v m r s d = s.1 r (u.heap m) (L.effect c v r m d)
+
+
+module _ {S X A : Type 0} (u : Sense S X) where
+  pub meets-ret : (a : A) (v : X) → Meets u (Ret a) v v (Ok a)
+  unfolding Meets
+  meets-ret a v = run-ret u a v
+
+  pub meets-own : (p : Row S A) (v : X) → Meets u p v v (Err OutOfMemory)
+  unfolding Meets
+  meets-own p v = own-memory u p v
+
+  pub meets-refused : (c : Call S) (k : Reply c → Row S A) (v w : X) (e : Stop) → u.refuses c v e w → Meets u (Do c k) v w (Err e)
+  unfolding Meets
+  meets-refused c k v w e h = stop-refused u c k v w e h
+
+  pub meets-do : (c : Call S) (k : Reply c → Row S A) (v m w : X) (r : Reply c) (res : Result A Stop) → u.does c v r m → Meets u (k r) m w res → Meets u (Do c k) v w res
+  unfolding Meets
+  meets-do c k v m w r (Ok b) d h = run-do u c k v m w r b d h
+  meets-do c k v m w r (Err e) d h = stop-later u c k v m w r e d h
+
+  pub meets-answer : (a : A) (v : X) (res : Result A Stop) → MatchResult res (λ x. x ≡ a) (λ e. e ≡ OutOfMemory) → Meets u (Ret a) v v res
+  unfolding Meets
+  meets-answer a v (Ok x) h = subst (λ y. Run u (Ret a) v y v) (sym h) (run-ret u a v)
+  meets-answer a v (Err e) h = subst (λ y. Stopped u (Ret a) v y v) (sym h) (own-memory u (Ret a) v)
+
+  -- two looks at a record are one
+  pub meets-twice : (L : Lawful u) (a : ℕ) (k : Rec → Row S A) (v m n w : X) (r q : Rec) (res : Result A Stop) → u.does (Read a) v r m → u.does (Read a) m q n → Meets u (k r) m w res → Meets u (Do (Read a) k) v w res
+  meets-twice L a k v m n w r q res d g h = meets-do (Read a) k v m w r res d h
+
+-- what a safe row asks after a look at a record
+pub asks-after : {S X A : Type 0} {u : Sense S X} (L : Lawful u) (p : Bool) (a : ℕ) (k : Rec → Row S A) (v m : X) (r : Rec) (c : Call S) (k2 : Reply c → Row S A)
+    → Safe p (Do (Read a) k) (u.heap v) → u.does (Read a) v r m → k r ≡ Do c k2 → Asks p c (u.heap m)
+asks-after {u = u} L p a k v m r c k2 s d e = safe-asks p c k2 (u.heap m) (subst (λ q. Safe p q (u.heap m)) e (safe-next L p (Read a) k v m r s d))
+
+pub ruleset row_steps = (meets-ret, meets-own, meets-refused, meets-do, meets-answer, read-heap, read-at, again, not-again, safe-asks, asks-after)
+
+-- for operations that look at a record once and change it
+pub ruleset change_steps = (meets-ret, meets-own, meets-refused, meets-do, meets-answer, safe-asks, asks-after)

@@ -1,0 +1,134 @@
+-- The names decide what a row does, where the source tells its bytes.
+use Rattle.std.proofs.Common.{◌≡◌, ◌⊎◌, ℕ, Bool, true, false, List, [], ◌∷◌, ◌++◌, length, drop, Option, Some, None, refl, sym, ◌∙◌, ap, subst, append_assoc, append-nil}
+use Rattle.py_data.specs.Heap.{Rec, with_value, with_push, cut_to, with_pair, without_pair}
+use Rattle.py_data.specs.Row.{Call, Reply, Row, Ret, Do, Read, Find, SetVal, Push, Truncate, PushPair, DropPair, Make, Start, Put, Take, MidLine, SetMidLine}
+use Rattle.py_data.specs.Shape.{find}
+use Rattle.py_data.specs.Sense.{Run}
+use Rattle.py_data.specs.declared.stop.Out.TheVariants.{Output, ErrorOutput}
+use Rattle.py_data.specs.Sight.{Sight, Act, Does, Edited, looked_at, edited, made_new, started_one, in_world, pure}
+use Rattle.py_data.specs.World.{World, IsLine, line_of, shrunk, wrote, took}
+
+pub record IsTold {S : Type 0} (s : Sight S) : Type 0 where
+  pub bytes : List ℕ
+  pub is : s.world.input ≡ Some bytes
+
+-- the names that a call takes
+abbrev pub names_of : {S : Type 0} (c : Call S) → Reply c → List ℕ
+names_of (Make q) n = n ∷ []
+names_of (Read a) r = []
+names_of (Find d key) r = []
+names_of (SetVal a i v) r = []
+names_of (Push a v) r = []
+names_of (Truncate a n) r = []
+names_of (PushPair d key v) r = []
+names_of (DropPair d k) r = []
+names_of (Start p) r = []
+names_of (Put on bytes) r = []
+names_of (Take most) r = []
+names_of MidLine r = []
+names_of (SetMidLine mid) r = []
+
+none_new : {S : Type 0} (s t : Sight S) → t.made ≡ s.made → t.made ≡ s.made ++ []
+none_new s t e = e ∙ sym (append-nil s.made)
+
+pub act_made : {S : Type 0} (c : Call S) (s : Sight S) (r : Reply c) (t : Sight S) → Act c s r t → t.made ≡ s.made ++ names_of c r
+act_made (Read a) s r t d = none_new s t (ap (λ t. t.made) d.1)
+act_made (Find a key) s r t d = none_new s t (ap (λ t. t.made) d.4)
+act_made (SetVal a i v) s r t d = none_new s t (ap (λ t. t.made) d.3)
+act_made (Push a v) s r t d = none_new s t (ap (λ t. t.made) d.3)
+act_made (Truncate a n) s r t d = none_new s t (ap (λ t. t.made) d.3)
+act_made (PushPair a key v) s r t d = none_new s t (ap (λ t. t.made) d.3)
+act_made (DropPair a n) s r t d = none_new s t (ap (λ t. t.made) d.3)
+act_made (Make q) s n t d = ap (λ t. t.made) d.1
+act_made (Start p) s r t d = none_new s t (ap (λ t. t.made) d)
+act_made (Put on bytes) s r t d = none_new s t (ap (λ t. t.made) d)
+act_made (Take most) s r t d = none_new s t (ap (λ t. t.made) d.1)
+act_made MidLine s r t d = none_new s t (ap (λ t. t.made) d.1)
+act_made (SetMidLine mid) s r t d = none_new s t (ap (λ t. t.made) d)
+
+pub does_made : {S A : Type 0} (w : Row S A) (s t : Sight S) (y : A) → Does w s y t → (rest : List ℕ) × (t.made ≡ s.made ++ rest)
+unfolding Run
+does_made (Ret x) s t y d = ([], ap (λ t. t.made) d.1 ∙ sym (append-nil s.made))
+does_made (Do c k) s t y d =
+    let m = does_made (k d.0) d.1 t y d.3 in
+    (names_of c d.0 ++ m.0, m.1 ∙ ap (λ l. l ++ m.0) (act_made c s d.0 d.1 d.2) ∙ append_assoc s.made (names_of c d.0) m.0)
+
+same_first : (xs ys zs : List ℕ) (n m : ℕ) → xs ++ n ∷ ys ≡ xs ++ m ∷ zs → n ≡ m
+same_first [] ys zs n m e = cc
+same_first (x ∷ xs) ys zs n m e = same_first xs ys zs n m cc
+
+same_new : {S : Type 0} (c : Call S) (r q : Reply c) (xs ys zs : List ℕ) → xs ++ (names_of c r ++ ys) ≡ xs ++ (names_of c q ++ zs) → names_of c q ≡ names_of c r
+same_new (Make p) n m xs ys zs e = ap (λ a. a ∷ []) (sym (same_first xs ys zs n m e))
+same_new (Read a) r q xs ys zs e = refl
+same_new (Find d key) r q xs ys zs e = refl
+same_new (SetVal a i v) r q xs ys zs e = refl
+same_new (Push a v) r q xs ys zs e = refl
+same_new (Truncate a n) r q xs ys zs e = refl
+same_new (PushPair d key v) r q xs ys zs e = refl
+same_new (DropPair d k) r q xs ys zs e = refl
+same_new (Start p) r q xs ys zs e = refl
+same_new (Put on bytes) r q xs ys zs e = refl
+same_new (Take most) r q xs ys zs e = refl
+same_new MidLine r q xs ys zs e = refl
+same_new (SetMidLine mid) r q xs ys zs e = refl
+
+-- two equal records at an address
+one_rec : (o : Option Rec) (r q : Rec) → o ≡ Some r → o ≡ Some q → q ≡ r
+one_rec o r q e f = let g : Some q ≡ Some r = sym f ∙ e in cc
+
+same_edited : {S : Type 0} (a : ℕ) (ok : Rec → Type 0) (f : Rec → Rec) (s t t' : Sight S) → Edited a ok f s t → Edited a ok f s t' → t' ≡ t
+same_edited a ok f s t t' d e = e.3 ∙ ap (λ r. edited a (f r) s) (one_rec (s.heap a) d.0 e.0 d.1 e.1) ∙ sym d.3
+
+same_line : (i : Option (List ℕ)) (bytes l k : List ℕ) (most : ℕ) → i ≡ Some bytes → IsLine i most l → IsLine i most k → k ≡ l
+same_line (Some xs) bytes l k most e d f = f ∙ sym d
+same_line None bytes l k most e d f = cc
+
+first_name : (n m : ℕ) → m ∷ [] ≡ n ∷ [] → m ≡ n
+first_name n m e = cc
+
+pub act_same : {S : Type 0} (c : Call S) (s : Sight S) (r q : Reply c) (t t' : Sight S) → IsTold s → Act c s r t → Act c s q t' → names_of c q ≡ names_of c r → (q ≡ r) × (t' ≡ t)
+act_same (Read a) s r q t t' k d e n = let p = one_rec (s.heap a) r q d.0 e.0 in (p, e.1 ∙ ap (λ r. looked_at a r s) p ∙ sym d.1)
+act_same (Find a key) s r q t t' k d e n =
+    let p = one_rec (s.heap a) d.0 e.0 d.1 e.1 in
+    (e.3 ∙ ap (λ r. find s.heap r.values key) p ∙ sym d.3, e.4 ∙ ap (λ r. looked_at a r s) p ∙ sym d.4)
+act_same (SetVal a i v) s r q t t' k d e n = (refl, same_edited a _ (with_value i v) s t t' d e)
+act_same (Push a v) s r q t t' k d e n = (refl, same_edited a _ (with_push v) s t t' d e)
+act_same (Truncate a i) s r q t t' k d e n = (refl, same_edited a _ (cut_to i) s t t' d e)
+act_same (PushPair a key v) s r q t t' k d e n = (refl, same_edited a _ (with_pair key v) s t t' d e)
+act_same (DropPair a i) s r q t t' k d e n = (refl, same_edited a _ (without_pair i) s t t' d e)
+act_same (Make p) s r q t t' k d e n = let x = first_name r q n in (x, e.1 ∙ ap (λ m. made_new m p s) x ∙ sym d.1)
+act_same (Start p) s r q t t' k d e n = (refl, e ∙ sym d)
+act_same (Put on bytes) s r q t t' k d e n = (refl, e ∙ sym d)
+act_same (Take most) s r q t t' k d e n = let x = same_line s.world.input k.bytes r q most k.is d.0 e.0 in (x, e.1 ∙ ap (λ l. in_world (took l s.world) s) x ∙ sym d.1)
+act_same MidLine s r q t t' k d e n = (e.0 ∙ sym d.0, e.1 ∙ sym d.1)
+act_same (SetMidLine mid) s r q t t' k d e n = (refl, e ∙ sym d)
+
+told_by : {S : Type 0} (s t : Sight S) → t.world.input ≡ s.world.input → IsTold s → IsTold t
+told_by s t e k = record { bytes = k.bytes; is = e ∙ k.is }
+
+pub act_told : {S : Type 0} (c : Call S) (s : Sight S) (r : Reply c) (t : Sight S) → Act c s r t → IsTold s → IsTold t
+act_told (Read a) s r t d k = told_by s t (ap (λ t. t.world.input) d.1) k
+act_told (Find a key) s r t d k = told_by s t (ap (λ t. t.world.input) d.4) k
+act_told (SetVal a i v) s r t d k = told_by s t (ap (λ t. t.world.input) d.3) k
+act_told (Push a v) s r t d k = told_by s t (ap (λ t. t.world.input) d.3) k
+act_told (Truncate a n) s r t d k = told_by s t (ap (λ t. t.world.input) d.3) k
+act_told (PushPair a key v) s r t d k = told_by s t (ap (λ t. t.world.input) d.3) k
+act_told (DropPair a n) s r t d k = told_by s t (ap (λ t. t.world.input) d.3) k
+act_told (Make q) s n t d k = told_by s t (ap (λ t. t.world.input) d.1) k
+act_told (Start p) s r t d k = told_by s t (ap (λ t. t.world.input) d) k
+act_told (Put Output bytes) s r t d k = told_by s t (ap (λ t. t.world.input) d) k
+act_told (Put ErrorOutput bytes) s r t d k = told_by s t (ap (λ t. t.world.input) d) k
+act_told (Take most) s l t d k = record { bytes = drop (length l) k.bytes; is = ap (λ t. t.world.input) d.1 ∙ ap (λ i. shrunk i (length l)) k.is }
+act_told MidLine s r t d k = told_by s t (ap (λ t. t.world.input) d.1) k
+act_told (SetMidLine mid) s r t d k = told_by s t (ap (λ t. t.world.input) d) k
+
+pub does_same : {S A : Type 0} (w : Row S A) (s t t' : Sight S) (y y' : A) → IsTold s → Does w s y t → Does w s y' t' → t'.made ≡ t.made → (y' ≡ y) × (t' ≡ t)
+unfolding Run
+does_same (Ret x) s t t' y y' k d e m = (e.0 ∙ sym d.0, e.1 ∙ sym d.1)
+does_same (Do c f) s t t' y y' k d e m =
+    let p = does_made (f d.0) d.1 t y d.3 in
+    let q = does_made (f e.0) e.1 t' y' e.3 in
+    let names : names_of c e.0 ≡ names_of c d.0 = same_new c d.0 e.0 s.made p.0 q.0
+      (sym (append_assoc s.made (names_of c d.0) p.0) ∙ sym (ap (λ l. l ++ p.0) (act_made c s d.0 d.1 d.2)) ∙ sym p.1 ∙ sym m ∙ q.1 ∙ ap (λ l. l ++ q.0) (act_made c s e.0 e.1 e.2) ∙ append_assoc s.made (names_of c e.0) q.0) in
+    let one = act_same c s d.0 e.0 d.1 e.1 k d.2 e.2 names in
+    does_same (f d.0) d.1 t t' y y' (act_told c s d.0 d.1 d.2 k) d.3 (subst (λ z. Run pure (f z) d.1 y' t') one.0 (subst (λ z. Run pure (f e.0) z y' t') one.1 e.3)) m

@@ -1,0 +1,190 @@
+-- What a view says of itself, and when code over a view has done what a row means.
+use Rattle.std.specs.Prelude.{◌≡◌, ◌⊎◌, ℕ, ◌+◌, ◌*◌, ◌<◌, ◌≤◌, Bool, true, false, List, length, Option, Some, None, Result, Ok, Err, MatchOption}
+use Rattle.py_data.specs.declared.value.Value.{Value}
+use Rattle.py_data.specs.declared.value.Kind.{Kind}
+use Rattle.py_data.specs.declared.value.Kind.TheVariants.{List as ListKind, Dict}
+use Rattle.py_data.specs.declared.stop.Out.TheVariants.{Output, ErrorOutput}
+use Rattle.py_data.specs.declared.stop.Stop.{Stop}
+use Rattle.py_data.specs.declared.stop.Stop.TheVariants.{Lost, NeedSolo, NeedHeap, Full, ReadFault, WriteFault, ErrFault, OutOfMemory}
+use Rattle.py_data.specs.declared.record.TheConstants.{LENGTH_LIMIT}
+use Rattle.py_data.specs.Heap.{Heap, Rec, Has, at, put_at, is_tracked, with_value, with_push, cut_to, with_pair, without_pair}
+use Rattle.py_data.specs.Shape.{IsKey, ArePairs, find, IsShaped}
+use Rattle.py_data.specs.Row.{Call, Reply, Row, Ret, Do, Read, Find, SetVal, Push, Truncate, PushPair, DropPair, Make, Start, Put, Take, MidLine, SetMidLine}
+
+-- X is the type of the view.
+pub record Sense (S X : Type 0) : Type 1 where
+  pub heap : X → Heap                                  -- the records that it shows
+  pub partial : Bool                                   -- it may be asked for a record that it doesn't show
+  pub stopped : X → Option Stop                        -- the Stop that it gave since `open_step`
+  pub can_stop : Stop → Bool                           -- the Stops that it can give
+  pub does : (c : Call S) → X → Reply c → X → Type 0   -- what a call answers and leaves
+  pub refuses : Call S → X → Stop → X → Type 0         -- with which Stop a call may be refused, and what that leaves
+  pub seen : ℕ → X → Type 0                            -- the record was looked at, or a look at it isn't tracked
+
+-- another record in the place of one
+abbrev pub Edits : ℕ → (Rec → Rec) → Heap → Heap → Type 0
+Edits a f h h1 = Has h a × (h1 ≡ put_at h a (f (at h a)))
+
+-- what each call answers over a heap, and what it leaves of it
+abbrev pub Effect : {S : Type 0} (c : Call S) → Heap → Reply c → Heap → Type 0
+Effect (Read a) h r h1 = (h a ≡ Some r) × (h1 ≡ h)
+Effect (Find d key) h o h1 = Has h d × (o ≡ find h (at h d).values key) × (h1 ≡ h)
+Effect (SetVal a i v) h u h1 = Edits a (with_value i v) h h1
+Effect (Push a v) h u h1 = Edits a (with_push v) h h1
+Effect (Truncate a n) h u h1 = Edits a (cut_to n) h h1
+Effect (PushPair d key v) h u h1 = Edits d (with_pair key v) h h1
+Effect (DropPair d k) h u h1 = Edits d (without_pair k) h h1
+Effect (Make r) h a h1 = (h a ≡ None) × (h1 ≡ put_at h a r)
+Effect (Start s) h u h1 = h1 ≡ h
+Effect (Put on bytes) h u h1 = h1 ≡ h
+Effect (Take most) h l h1 = (length l ≤ most) × (h1 ≡ h)
+Effect MidLine h mid h1 = h1 ≡ h
+Effect (SetMidLine mid) h u h1 = h1 ≡ h
+
+-- a condition on a record, as far as the heap reaches
+abbrev pub IfThere : Bool → Option Rec → (Rec → Type 0) → Type 0
+IfThere partial o p = MatchOption o (partial ≡ true) p
+
+-- A key that is looked for in a dictionary. Over a part of a heap nothing is asked: the view tests what it lacks.
+abbrev pub AsksKey : Bool → Heap → Value → Rec → Type 0
+AsksKey true h key r = r.kind ≡ Dict
+AsksKey false h key r = (r.kind ≡ Dict) × IsKey h key × ArePairs h r.values
+
+-- of a dictionary's values only those of its pairs may be set, not the keys
+abbrev pub IsValuePlace : Kind → ℕ → Type 0
+IsValuePlace Dict i = (k : ℕ) × (i ≡ 2 * k + 1)
+IsValuePlace _ i = Unit {0}
+
+-- the condition of each call
+unfoldable pub Asks : {S : Type 0} → Bool → Call S → Heap → Type 0
+Asks p (Read a) h = IfThere p (h a) (λ r. Unit {0})
+Asks p (Find d key) h = IfThere p (h d) (AsksKey p h key)
+Asks p (SetVal a i v) h = IfThere p (h a) (λ r. (is_tracked r.kind ≡ true) × (i < length r.values) × IsValuePlace r.kind i)
+Asks p (Push a v) h = IfThere p (h a) (λ r. (r.kind ≡ ListKind) × (length r.values < LENGTH_LIMIT))
+Asks p (Truncate a n) h = IfThere p (h a) (λ r. r.kind ≡ ListKind)
+Asks p (PushPair d key v) h = IfThere p (h d) (λ r. AsksKey p h key r × (find h r.values key ≡ None) × (length r.values + 1 < LENGTH_LIMIT))
+Asks p (DropPair d k) h = IfThere p (h d) (λ r. (r.kind ≡ Dict) × (2 * k + 1 < length r.values))
+Asks true (Make r) h = (length r.values ≤ LENGTH_LIMIT) × (length r.bytes ≤ LENGTH_LIMIT)
+Asks false (Make r) h = IsShaped h r × (length r.values ≤ LENGTH_LIMIT) × (length r.bytes ≤ LENGTH_LIMIT)
+Asks p (Take most) h = 1 ≤ most
+Asks p (Start s) h = Unit {0}
+Asks p (Put on bytes) h = Unit {0}
+Asks p MidLine h = Unit {0}
+Asks p (SetMidLine mid) h = Unit {0}
+
+-- the conditions of a row's calls hold, whatever the calls before them answer
+unfoldable pub Safe : {S A : Type 0} → Bool → Row S A → Heap → Type 0
+Safe p (Ret a) h = Unit {0}
+Safe p (Do c k) h = Asks p c h × ((r : Reply c) (h1 : Heap) → Effect c h r h1 → Safe p (k r) h1)
+
+-- the Stops with which each call can be refused
+abbrev pub can_refuse_change : Stop → Bool
+can_refuse_change ReadFault = false
+can_refuse_change WriteFault = false
+can_refuse_change ErrFault = false
+can_refuse_change NeedSolo = false
+can_refuse_change _ = true
+
+abbrev pub can_refuse_make : Stop → Bool
+can_refuse_make (Lost c) = false
+can_refuse_make e = can_refuse_change e
+
+abbrev pub can_refuse_look : Stop → Bool
+can_refuse_look NeedHeap = true
+can_refuse_look OutOfMemory = true
+can_refuse_look _ = false
+
+abbrev pub can_refuse_put : Stop → Stop → Bool
+can_refuse_put fault NeedSolo = true
+can_refuse_put fault OutOfMemory = true
+can_refuse_put WriteFault WriteFault = true
+can_refuse_put ErrFault ErrFault = true
+can_refuse_put ReadFault ReadFault = true
+can_refuse_put fault e = false
+
+abbrev pub can_refuse : {S : Type 0} → Call S → Stop → Bool
+can_refuse (Read a) e = can_refuse_look e
+can_refuse (Find d key) e = can_refuse_look e
+can_refuse (SetVal a i v) e = can_refuse_change e
+can_refuse (Push a v) e = can_refuse_change e
+can_refuse (Truncate a n) e = can_refuse_change e
+can_refuse (PushPair d key v) e = can_refuse_change e
+can_refuse (DropPair d k) e = can_refuse_change e
+can_refuse (Make r) e = can_refuse_make e
+can_refuse (Start s) e = can_refuse_look e
+can_refuse (Put Output bytes) e = can_refuse_put WriteFault e
+can_refuse (Put ErrorOutput bytes) e = can_refuse_put ErrFault e
+can_refuse (Take most) e = can_refuse_put ReadFault e
+can_refuse MidLine e = false
+can_refuse (SetMidLine mid) e = false
+
+module _ {S X : Type 0} (u : Sense S X) where
+  -- From v the row was done, with the answer b, which left w.
+  unfoldable pub Run : {A : Type 0} → Row S A → X → A → X → Type 0
+  Run (Ret a) v b w = (b ≡ a) × (w ≡ v)
+  Run (Do c k) v b w = (r : Reply c) × (m : X) × u.does c v r m × Run (k r) m b w
+
+  -- From v the row was stopped by e, which left w: its calls were done up to some place, and there the view refused
+  -- the next one, or the code found no memory of its own.
+  unfoldable pub Stopped : {A : Type 0} → Row S A → X → Stop → X → Type 0
+  Stopped (Ret a) v e w = (e ≡ OutOfMemory) × (w ≡ v)
+  Stopped (Do c k) v e w =
+      ((e ≡ OutOfMemory) × (w ≡ v)) ⊎ (u.refuses c v e w ⊎ ((r : Reply c) × (m : X) × u.does c v r m × Stopped (k r) m e w))
+
+  -- what code with the row's meaning ensures
+  unfoldable pub Meets : {A : Type 0} → Row S A → X → X → Result A Stop → Type 0
+  Meets row v w (Ok b) = Run row v b w
+  Meets row v w (Err e) = Stopped row v e w
+
+  -- from v the row was begun, which left w, and q is left to be done
+  unfoldable pub Upto : {A : Type 0} → Row S A → X → Row S A → X → Type 0
+  Upto (Ret a) v q w = (q ≡ Ret a) × (w ≡ v)
+  Upto (Do c k) v q w = ((q ≡ Do c k) × (w ≡ v)) ⊎ ((r : Reply c) × (m : X) × u.does c v r m × Upto (k r) m q w)
+
+  abbrev pub IsLive : X → Type 0
+  IsLive v = u.stopped v ≡ None
+
+  -- the clause of a method that looks at a record, and of one that does a call
+  abbrev pub Shows : {A : Type 0} → ℕ → (Rec → A) → X → X → Result A Stop → Type 0
+  Shows a f v w (Ok x) = u.does (Read a) v (at (u.heap v) a) w × (x ≡ f (at (u.heap v) a))
+  Shows a f v w (Err e) = u.refuses (Read a) v e w
+
+  abbrev pub Answers : (c : Call S) {A : Type 0} → (A → Reply c) → X → X → Result A Stop → Type 0
+  Answers c f v w (Ok x) = u.does c v (f x) w
+  Answers c f v w (Err e) = u.refuses c v e w
+
+-- the record that a call looks at or changes
+abbrev pub touches : {S : Type 0} → Call S → Option ℕ
+touches (Read a) = Some a
+touches (Find d key) = Some d
+touches (SetVal a i v) = Some a
+touches (Push a v) = Some a
+touches (Truncate a n) = Some a
+touches (PushPair d key v) = Some d
+touches (DropPair d k) = Some d
+touches _ = None
+
+-- what holds of each view
+pub record Lawful {S X : Type 0} (u : Sense S X) : Type 0 where
+  pub effect : (c : Call S) (v : X) (r : Reply c) (w : X) → u.does c v r w → Effect c (u.heap v) r (u.heap w)
+  pub live : (c : Call S) (v : X) (r : Reply c) (w : X) → u.does c v r w → IsLive u w
+  pub seen : (c : Call S) (v : X) (r : Reply c) (w : X) (a : ℕ) → u.does c v r w → touches c ≡ Some a → u.seen a w
+  pub stays : (c : Call S) (v : X) (r : Reply c) (w : X) (a : ℕ) → u.does c v r w → u.seen a v → u.seen a w
+  pub same : (a : ℕ) (v : X) (r : Rec) (w : X) → u.seen a v → u.does (Read a) v r w → w ≡ v
+  pub sure : (a : ℕ) (v : X) (e : Stop) (w : X) → u.seen a v → u.refuses (Read a) v e w → ⊥
+  pub halts : (c : Call S) (v : X) (e : Stop) (w : X) → u.refuses c v e w → u.stopped w ≡ Some e
+  pub cause : (c : Call S) (v : X) (e : Stop) (w : X) → u.refuses c v e w → (can_refuse c e ≡ true) × (u.can_stop e ≡ true)
+
+-- How a view brackets a step.
+pub record Bracket (S X : Type 0) : Type 1 where
+  pub base : X → Heap             -- the records as they were when the step was opened
+  pub solo : X → Bool             -- it may print, and set the flag
+  pub opens : X → X → Type 0
+  pub undoes : X → X → Type 0
+
+pub record IsBracket {S X : Type 0} (u : Sense S X) (b : Bracket S X) : Type 0 where
+  pub keeps : (c : Call S) (v : X) (r : Reply c) (w : X) → u.does c v r w → (b.base w ≡ b.base v) × (b.solo w ≡ b.solo v)
+  pub keeps_refused : (c : Call S) (v : X) (e : Stop) (w : X) → u.refuses c v e w → (b.base w ≡ b.base v) × (b.solo w ≡ b.solo v)
+  pub opened : (v w : X) → b.opens v w → (u.heap w ≡ u.heap v) × (b.base w ≡ u.heap v) × IsLive u w
+  pub undone : (v w : X) → b.undoes v w → (u.heap w ≡ b.base v) × IsLive u w
+  pub put : (v w : X) (bytes : List ℕ) → u.does (Put Output bytes) v tt w → b.solo v ≡ true

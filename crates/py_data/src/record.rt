@@ -1,0 +1,48 @@
+//! Records of the heap, and the answers of object operations.
+use crate::collection::{Bytes, Values};
+use crate::value::{Kind, Value};
+
+/// The most values, or bytes, of one record.
+pub const LENGTH_LIMIT: usize = 1_048_576;
+
+/// A record to be made: its kind, its values, and the bytes that a Str has.
+#[derive(Debug, Drop)]
+pub struct Record {
+    pub kind: Kind,
+    pub values: Values,
+    pub bytes: Bytes,
+}
+
+/// A record that stands in a heap. A List or a Dict has a room and a first room, numbers of values that no script can
+/// tell: how many values there is room for, and for how many there was when the record was made. They are 0 for the
+/// other kinds.
+#[derive(Debug, Drop)]
+pub struct Entry {
+    pub kind: Kind,
+    pub values: Values,
+    pub bytes: Bytes,
+    pub room: usize,
+    pub first: usize,
+}
+
+/// What an exception says besides its class.
+#[derive(Debug, Drop)]
+pub enum With {
+    Nothing,
+    Text(Bytes),
+    Held(Value),
+}
+
+/// An exception that an operation raises: the number of its class, and what it says.
+#[derive(Debug, Drop)]
+pub struct Fault {
+    pub exc: u8,
+    pub with: With,
+}
+
+/// The answer of an operation: a value, or an exception.
+#[derive(Debug, Drop)]
+pub enum Got<T> {
+    Is(T),
+    Raise(Fault),
+}
