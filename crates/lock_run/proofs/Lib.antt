@@ -1,4 +1,10 @@
 pub mod Back
 pub mod Short
-pub mod Finding
 pub mod Naming
+pub mod Finding
+pub mod Following
+pub mod Stepping
+pub mod IsPlainView
+pub mod Turning
+pub mod Ready
+pub mod StepsMirror

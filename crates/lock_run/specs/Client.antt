@@ -1,8 +1,8 @@
 -- What a client's step does over a view.
-use Rattle.std.specs.Prelude.{◌≡◌, ℕ, List, ◌++◌, Option, Some, slice_get, slice_set}
+use Rattle.std.specs.Prelude.{◌≡◌, ℕ, Bool, List, ◌++◌, Option, Some, slice_get, slice_set}
 use Rattle.py_data.specs.declared.stop.Stop.{Stop}
 use Rattle.py_data.specs.Heap.{Heap}
-use Rattle.py_data.specs.Row.{Row}
+use Rattle.py_data.specs.Row.{Call, Reply, Row, Ret, Do, Put, MidLine}
 use Rattle.py_data.specs.Sense.{Sense, Bracket, Run, Stopped}
 use Rattle.py_data.specs.Sight.{Sight, Does, opened}
 use Rattle.py_data.specs.World.{World}
@@ -38,3 +38,26 @@ pub record Unchanged {S : Type 0} (x y : Sight S) : Type 0 where
 -- a step that waits changes nothing
 abbrev pub WaitsQuietly : {S : Type 0} → Prog S → Type 0
 WaitsQuietly {S} p = (s s1 : S) (x y : Sight S) → Does (p.row s) x (Waits, s1) y → (s1 ≡ s) × Unchanged x y
+
+-- the row waits over this heap, whatever the world
+abbrev pub Waiting : {S : Type 0} → Row S (Outcome × S) → Heap → Type 0
+Waiting {S} row h = (w : World) → (q : S) × (z : Sight S) × Does row (opened S h w) (Waits, q) z
+
+-- the row doesn't wait over this heap
+abbrev pub Going : {S : Type 0} → Row S (Outcome × S) → Heap → Type 0
+Going {S} row h = (w : World) (q : S) (z : Sight S) → Does row (opened S h w) (Waits, q) z → ⊥
+
+-- the next call of a row writes
+abbrev pub Writes : {S A : Type 0} → Row S A → Type 0
+Writes (Do (Put on bytes) k) = Unit {0}
+Writes _ = ⊥
+
+-- what comes behind a call that asks for the flag
+abbrev pub WritesThen : {S A : Type 0} (c : Call S) → (Reply c → Row S A) → Type 0
+WritesThen MidLine k = (mid : Bool) → Writes (k mid)
+WritesThen _ k = Unit {0}
+
+-- a row that asks whether the output is in mid line writes next
+abbrev pub AsksToPrint : {S A : Type 0} → Row S A → Type 0
+AsksToPrint (Ret a) = Unit {0}
+AsksToPrint (Do c k) = WritesThen c k × ((r : Reply c) → AsksToPrint (k r))

@@ -8,3 +8,6 @@ pub mod PlainLaws
 pub mod Prog
 pub mod Client
 pub mod Machine
+pub mod Turns
+pub mod LockState
+pub mod Whys

@@ -1,11 +1,13 @@
 -- The one-lock machine: one heap, one list of threads, one world.
 use Rattle.std.specs.Prelude.{◌≡◌, ◌≢◌, ℕ, ◌≤◌, zero, suc, List, [], ◌∷◌, ◌++◌, Option, Some, None, slice_get, slice_set}
 use Rattle.py_data.specs.Heap.{Heap}
+use Rattle.py_data.specs.Collection.{places}
 use Rattle.py_data.specs.Sight.{Sight, Does, opened}
 use Rattle.py_data.specs.World.{World}
 use Rattle.lock_run.specs.declared.client.Outcome.{Outcome}
 use Rattle.lock_run.specs.declared.client.Outcome.TheVariants.{Waits as WaitsNow}
 use Rattle.lock_run.specs.declared.client.Life.TheVariants.{Lives}
+use Rattle.lock_run.specs.declared.turn.Turn.{Turn}
 use Rattle.lock_run.specs.Prog.{Prog}
 
 pub record Machine (S : Type 0) : Type 0 where
@@ -25,26 +27,21 @@ abbrev pub Steps : {S : Type 0} → Prog S → ℕ → S → Sight S → S → S
 Steps p zero q s q1 s1 = (q1 ≡ q) × (s1 ≡ s)
 Steps {S} p (suc n) q s q1 s1 = (r : S) × (u : Sight S) × Steps p n q s r u × Step p r u q1 s1
 
-pub record TurnOf : Type 0 where
-  pub thread : ℕ
-  pub steps : ℕ
-  pub names : List ℕ
-
 -- the machine once the thread has the state q and has left s
 abbrev pub machine_after : {S : Type 0} → Machine S → ℕ → S → Sight S → Machine S
 machine_after m t q s = record { heap = s.heap; threads = slice_set m.threads t q ++ s.started; world = s.world }
 
-pub record DoesTurn {S : Type 0} (p : Prog S) (m : Machine S) (t : TurnOf) (m1 : Machine S) : Type 0 where
+pub record DoesTurn {S : Type 0} (p : Prog S) (m : Machine S) (t : Turn) (m1 : Machine S) : Type 0 where
   pub before : S
   pub after : S
   pub sight : Sight S
   pub is : slice_get m.threads t.thread ≡ Some before
   pub some : 1 ≤ t.steps
   pub steps : Steps p t.steps before (opened S m.heap m.world) after sight
-  pub names : sight.made ≡ t.names
+  pub names : sight.made ≡ places t.names
   pub gives : m1 ≡ machine_after m t.thread after sight
 
-abbrev pub Runs : {S : Type 0} → Prog S → Machine S → List TurnOf → Machine S → Type 0
+abbrev pub Runs : {S : Type 0} → Prog S → Machine S → List Turn → Machine S → Type 0
 Runs p m [] m1 = m1 ≡ m
 Runs {S} p m (t ∷ ts) m1 = (u : Machine S) × DoesTurn p m t u × Runs p u ts m1
 

@@ -1,27 +1,38 @@
 //! A client: what the threads of a machine do, over any view.
-ghost use Rattle.std.specs.Prelude.{◌≡◌, List, [], ◌∷◌, Option, None, IfOk, IfErr, OnErr};
+ghost use Rattle.std.specs.Prelude.{◌≡◌, ◌↔◌, IsTrue, true, false, List, [], ◌∷◌, IfOk, IfErr, OnErr};
 ghost use Rattle.py_data.specs.Heap.{Heap, no_records};
-ghost use Rattle.lock_run.specs.Client.{Standing, Stepped, StepStopped, StaysSound, WaitsQuietly};
+ghost use Rattle.lock_run.specs.Client.{Standing, Stepped, StepStopped, StaysSound, WaitsQuietly, AsksToPrint, Waiting, Going};
 ghost use Rattle.lock_run.specs.Prog.{Prog};
 ghost use Rattle.lock_run.specs.declared.client.Life.TheVariants.{Lives};
 
 use py_data::{NoMemory, Peek, Stop, View};
 use std::alloc::Global;
 
-#[derive(Clone, Copy, PartialEq, Eq, Debug)]
+/// How a step ended.
+#[derive(Clone, Copy, Debug, Drop, PartialEq, Eq)]
 pub enum Outcome {
+    /// It was done.
     Done,
+    /// The thread must wait. Nothing was done.
     Waits,
+    /// It was done, and was the thread's last.
     Ended,
 }
 
-#[derive(Clone, Copy, PartialEq, Eq, Debug)]
+/// Whether a thread lives, and how it ended.
+#[derive(Clone, Copy, Debug, Drop, PartialEq, Eq)]
 pub enum Life {
     Lives,
     Ended,
+    /// It ended by an exception.
     Failed,
 }
 
+/// What the threads of a machine do, step by step, over any view.
+///
+/// Contracts see a client as a program: the row of each state's next step, which states live, and the first state. Its
+/// threads share one heap, and which lists of states may stand over which heaps is the client's own to say: that is what
+/// it needs to run, and each step keeps it.
 pub trait Client {
     type State: Drop;
 
@@ -31,15 +42,11 @@ pub trait Client {
     /// Which states may stand over a heap.
     ghost sound: { Self → Heap → List Self.State → Type 0 };
 
+    /// The state of the first thread.
     fn first(&self, alloc: Global) -> Result<Self::State, NoMemory>
         ensures { IfOk result (λ s. s ≡ (prog self.now).first) };
 
-    fn life(&self, s: &Self::State) -> Life
-        ensures { result ≡ (prog self.now).life s.now };
-
-    fn copy(&self, alloc: Global, s: &Self::State) -> Result<Self::State, NoMemory>
-        ensures { IfOk result (λ t. t ≡ s.now) };
-
+    /// One step of a thread that lives. At a Stop the state is as before, and the view's step was taken back.
     fn step<V: View<Self::State>>(&self, alloc: Global, s: &mut Self::State, v: &mut V) -> Result<Outcome, Stop>
         requires stands { Standing (sound self.now (V.sense.heap v.old)) s.old }
         requires lives { (prog self.now).life s.old ≡ Lives }
@@ -47,9 +54,31 @@ pub trait Client {
         ensures err { IfErr result (λ e. StepStopped V.sense V.bracket ((prog self.now).row s.old) v.old e v.new) }
         ensures state { OnErr result (s.new ≡ s.old) };
 
+    /// The thread's next step over that heap would wait.
+    fn blocked<P: Peek>(&self, s: &Self::State, heap: &P) -> bool
+        requires stands { Standing (sound self.now (P.image heap.now)) s.now }
+        requires lives { (prog self.now).life s.now ≡ Lives }
+        ensures yes { result ≡ true → Waiting ((prog self.now).row s.now) (P.image heap.now) }
+        ensures not { result ≡ false → Going ((prog self.now).row s.now) (P.image heap.now) };
+
+    fn life(&self, s: &Self::State) -> Life
+        ensures { result ≡ (prog self.now).life s.now };
+
+    fn copy(&self, alloc: Global, s: &Self::State) -> Result<Self::State, NoMemory>
+        ensures { IfOk result (λ t. t ≡ s.now) };
+
+    fn same(&self, a: &Self::State, b: &Self::State) -> bool
+        ensures { IsTrue result ↔ (a.now ≡ b.now) };
+
+    /// The first state alone may stand over the empty heap.
     ghost sound_first: { (c : Self) → sound c no_records ((prog c).first ∷ []) };
 
+    /// A step leaves states that may stand over the heap that it leaves.
     ghost sound_step: { (c : Self) → StaysSound (prog c) (sound c) };
 
+    /// A step that waits leaves all as it was.
     ghost waits_quietly: { (c : Self) → WaitsQuietly (prog c) };
+
+    /// A step that asks whether the output is in mid line goes on to write.
+    ghost asks_to_print: { (c : Self) (s : Self.State) → AsksToPrint ((prog c).row s) };
 }

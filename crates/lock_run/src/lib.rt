@@ -5,10 +5,13 @@ mod change;
 mod client;
 mod find;
 mod given;
+mod machine;
 mod plain;
 mod space;
+mod threads;
 mod turn;
 
 pub use client::{Client, Life, Outcome};
+pub use machine::LockRun;
 pub use plain::PlainView;
 pub use turn::{History, Turn, TurnFault, TurnWhy};

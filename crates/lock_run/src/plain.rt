@@ -3,8 +3,9 @@ use crate::change::Change;
 use crate::find::find_pair;
 use crate::given::Given;
 use crate::space::Space;
+use crate::threads::Threads;
 use py_data::{Addr, Entry, Kind, LENGTH_LIMIT, Names, NoMemory, Out, Peek, Record, Stop, Value, View};
-use std::alloc::{AllocError, Global};
+use std::alloc::Global;
 use stm_io::{PutError, Sink, Source, TakeError};
 
 #[derive(Drop)]
@@ -70,17 +71,12 @@ impl<S: Drop, I: Source, O: Sink, E: Sink> PlainView<S, I, O, E> {
         stop
     }
 
-    /// Moves the states that the step started to the end of a list, of which there is no place for 2^32 or more.
-    pub fn move_started(&mut self, to: &mut Vec<S>) -> Result<(), NoMemory>
-        requires { length to.old.items < 2 ^ 32 }
-        ensures ok { OnOk result (to.new.items ≡ to.old.items ++ self.old.started.items) }
-        ensures few { length to.new.items < 2 ^ 32 }
-        ensures err { OnErr result (to.new.items ≡ to.old.items) }
+    /// Moves the states that the step started to the end of the threads.
+    pub fn move_started(&mut self, to: &mut Threads<S>) -> Result<(), NoMemory>
+        ensures ok { OnOk result (to.new ≡ to.old ++ self.old.started.items) }
+        ensures err { OnErr result (to.new ≡ to.old) }
         ensures rest { self.new ≡ record self.old { started = self.new.started } }
     {
-        if self.started.len() > u32::MAX as usize - to.len() {
-            return Err(AllocError);
-        }
         to.append(&mut self.started)
     }
 

@@ -1,0 +1,295 @@
+-- One step of a turn.
+use Rattle.std.proofs.Common.{◌≡◌, ◌≢◌, ◌⊎◌, inl, inr, ℕ, zero, suc, ◌+◌, ◌≤◌, ◌<◌, ◌^◌, min, List, [], ◌∷◌, ◌++◌, Bool, true, false, Option, Some, None, length, take, drop, slice_get, slice_set, refl, sym, ◌∙◌, ap, subst, arith, append-nil, append_assoc}
+use Rattle.py_data.specs.declared.stop.Stop.{Stop}
+use Rattle.py_data.specs.declared.stop.Stop.TheVariants.{Lost, NeedSolo, NeedHeap, Full, ReadFault as ReadStop, WriteFault as WriteStop, ErrFault as ErrStop, OutOfMemory as MemoryStop}
+use Rattle.py_data.specs.declared.stop.Out.TheVariants.{Output, ErrorOutput}
+use Rattle.py_data.specs.Heap.{Heap, Rec}
+use Rattle.py_data.specs.Row.{Call, Reply, Row, Ret, Do, Read, Find, SetVal, Push, Truncate, PushPair, DropPair, Make, Start, Put, Take, MidLine, SetMidLine}
+use Rattle.py_data.specs.Sense.{Sense, Bracket, Run, Stopped, Upto}
+use Rattle.py_data.specs.Sight.{Sight, Does, opened, pure}
+use Rattle.py_data.specs.World.{World, shrunk, grown}
+use Rattle.py_data.specs.Frames.{Afresh}
+use Rattle.py_data.proofs.Mirror.{does_afresh}
+use Rattle.py_data.proofs.Whole.{StoppedAt, stopped_at}
+use Rattle.stm_io.specs.Outside.{Rose}
+use Rattle.lock_run.specs.declared.client.Outcome.{Outcome}
+use Rattle.lock_run.specs.declared.client.Outcome.TheVariants.{Waits as WaitsNow}
+use Rattle.lock_run.specs.declared.client.Life.TheVariants.{Lives}
+use Rattle.lock_run.specs.declared.turn.TurnWhy.{TurnWhy}
+use Rattle.lock_run.specs.declared.turn.TurnWhy.TheVariants.{NotThere, Ended, Waits, BadNames, ReadFault, WriteFault, ErrFault, OutOfMemory}
+use Rattle.lock_run.specs.Whys.{why_of_stop, memory_why}
+use Rattle.lock_run.specs.Prog.{Prog}
+use Rattle.lock_run.specs.Client.{Stepped, StepStopped, StaysSound, WaitsQuietly}
+use Rattle.lock_run.specs.PlainState.{PlainState, PlainRefuses, PlainOpens, PlainUndoes, NoName, Why, Steady}
+use Rattle.lock_run.specs.Machine.{Machine, Step, Steps}
+use Rattle.lock_run.specs.Turns.{Stands, Calls, Front, CutIn, LeavesNothing, CutWhy, CutTold, Going}
+use Rattle.lock_run.proofs.Following.{IsPlain, Shows, Keeps, keeps_trans, run_shown, upto_shown, run_keeps, upto_keeps, run_upto, upto_none}
+
+-- lists of threads
+pub get_set : {A : Type 0} (xs ys : List A) (t : ℕ) (x y : A) → slice_get xs t ≡ Some x → slice_get (slice_set xs t y ++ ys) t ≡ Some y
+get_set [] ys t x y e = cc
+get_set (z ∷ zs) ys zero x y e = refl
+get_set (z ∷ zs) ys (suc t) x y e = get_set zs ys t x y e
+
+pub set_set : {A : Type 0} (xs ys : List A) (t : ℕ) (x y z : A) → slice_get xs t ≡ Some x → slice_set (slice_set xs t y ++ ys) t z ≡ slice_set xs t z ++ ys
+set_set [] ys t x y z e = cc
+set_set (w ∷ ws) ys zero x y z e = refl
+set_set (w ∷ ws) ys (suc t) x y z e = ap (λ l. w ∷ l) (set_set ws ys t x y z e)
+
+pub shrunk_none : (i : Option (List ℕ)) → shrunk i 0 ≡ i
+shrunk_none None = refl
+shrunk_none (Some xs) = refl
+
+pub then_grown : (o : Option (List ℕ)) (xs ys : List ℕ) → grown (grown o xs) ys ≡ grown o (xs ++ ys)
+then_grown None xs ys = refl
+then_grown (Some zs) xs ys = ap Some (append_assoc zs xs ys)
+
+pub grown_none : (o : Option (List ℕ)) → grown o [] ≡ o
+grown_none None = refl
+grown_none (Some xs) = ap Some (append-nil xs)
+
+-- the state when the step is opened
+abbrev pub state_opened : {S : Type 0} → PlainState S → PlainState S
+state_opened d = record d { base = d.heap; kept = d.made; was_left = d.left; was_mid = d.mid; bad = false; started = []; stopped = None }
+
+module _ {S : Type 0} (p : Prog S) (t k : ℕ) (names : List ℕ) (o e : Option (List ℕ)) (m : Machine S) (d0 d : PlainState S) (ts : List S) (g : Going p t k names o e m d0 d ts) where
+  -- the state of the thread is the one that the steps gave
+  pub state_is : (s : S) → slice_get ts t ≡ Some s → s ≡ g.after
+  state_is s h =
+      let a : slice_get ts t ≡ Some g.after = subst (λ l. slice_get l t ≡ Some g.after) (sym g.threads) (get_set m.threads g.sight.started t g.before g.after g.is) in
+      let q : Some s ≡ Some g.after = sym h ∙ a in cc
+
+  pub going_shows : (v : PlainState S) → v ≡ state_opened d → Shows o e g.sight.started v g.sight
+  going_shows v h = subst (λ (z : PlainState S). Shows o e g.sight.started z g.sight) (sym h)
+      (record { heap = g.heap; made = g.made; started = sym (append-nil g.sight.started); input = g.input; out = g.out; err = g.err; mid = g.mid })
+
+  -- the step was done
+  pub step_goes : {X : Type 0} (u : Sense S X) (b : Bracket S X) (D : X → PlainState S) (i : IsPlain u b D) (s s1 : S) (c : Outcome) (v w : X) (d1 : PlainState S)
+      → slice_get ts t ≡ Some s → p.life s ≡ Lives → D v ≡ d → Stepped u b (p.row s) v c s1 w → c ≢ WaitsNow → d1 ≡ record (D w) { started = d1.started }
+      → Going p t (suc k) names o e m d0 d1 (slice_set (ts ++ (D w).started) t s1)
+  step_goes u b D i s s1 c v w d1 gs ls dv st nw ed =
+      let es = state_is s gs in
+      let v1 = st.0 in
+      let op : D v1 ≡ state_opened d = i.opens v v1 st.1 ∙ ap state_opened dv in
+      let r = run_shown u b D i o e g.sight.started (p.row s) v1 (c, s1) w g.sight st.2 (going_shows (D v1) op) in
+      let kp = run_keeps u b D i (p.row s) v1 (c, s1) w st.2 in
+      let y = r.0 in
+      let sh = r.2 in
+      let one : Step p g.after g.sight s1 y = subst (λ (q : S). Step p q g.sight s1 y) es (record { lives = ls; outcome = c; goes_on = nw; does = r.1 }) in
+      let free : (D w).free ≡ d.free = kp.free ∙ ap (λ z. z.free) op in
+      let reads : d.reads ≤ (D w).reads = let x = kp.reads in let q : (D v1).reads ≡ d.reads = ap (λ z. z.reads) op in omega arith in
+      let writes : d.writes ≤ (D w).writes = let x = kp.writes in let q : (D v1).writes ≡ d.writes = ap (λ z. z.writes) op in omega arith in
+      let errs : d.errs ≤ (D w).errs = let x = kp.errs in let q : (D v1).errs ≡ d.errs = ap (λ z. z.errs) op in omega arith in
+      record {
+        before = g.before;
+        after = s1;
+        sight = y;
+        is = g.is;
+        steps = (g.after, g.sight, g.steps, one);
+        heap = sh.heap ∙ sym (ap (λ z. z.heap) ed);
+        made = sh.made ∙ sym (ap (λ z. z.made) ed);
+        input = sh.input ∙ sym (ap (λ z. z.input) ed);
+        out = ap (λ z. z.out) ed ∙ sh.out;
+        err = ap (λ z. z.err) ed ∙ sh.err;
+        mid = sh.mid ∙ sym (ap (λ z. z.mid) ed);
+        threads = ap (λ l. slice_set (l ++ (D w).started) t s1) g.threads
+          ∙ ap (λ l. slice_set l t s1) (append_assoc (slice_set m.threads t g.after) g.sight.started (D w).started)
+          ∙ set_set m.threads (g.sight.started ++ (D w).started) t g.before g.after s1 g.is
+          ∙ ap (λ l. slice_set m.threads t s1 ++ l) (sym sh.started);
+        named = λ f. ap (λ z. z.made ++ z.left) ed ∙ kp.names (ap (λ z. z.free) op ∙ sym free ∙ sym (ap (λ z. z.free) ed) ∙ f) ∙ ap (λ z. z.made ++ z.left) op ∙ g.named (sym free ∙ sym (ap (λ z. z.free) ed) ∙ f);
+        reads = let x = g.reads in let q : d1.reads ≡ (D w).reads = ap (λ z. z.reads) ed in omega arith;
+        writes = let x = g.writes in let q : d1.writes ≡ (D w).writes = ap (λ z. z.writes) ed in omega arith;
+        errs = let x = g.errs in let q : d1.errs ≡ (D w).errs = ap (λ z. z.errs) ed in omega arith;
+      }
+
+  -- nothing of the next step was done
+  abbrev pub cut_here : CutIn p t k o e m d ts
+  cut_here = record {
+    before = g.before; after = g.after; sight = g.sight; is = g.is; steps = g.steps; heap = sym g.heap; mid = sym g.mid; threads = g.threads;
+    left = p.row g.after; place = g.sight; upto = upto_none pure (p.row g.after) g.sight; more = []; more_err = []; taken = 0;
+    out = g.out ∙ ap (grown o) (sym (append-nil g.sight.world.out)); err = g.err ∙ ap (grown e) (sym (append-nil g.sight.world.err)); input = sym g.input ∙ sym (shrunk_none g.sight.world.input);
+    front = inl refl; front_err = inl refl; front_in = inl refl;
+  }
+
+  pub nothing_here : LeavesNothing cut_here
+  nothing_here = record { world = refl; more = refl; more_err = refl; taken = refl }
+
+  -- a part of the next step was done and taken back: x is the state at that place, and w the state after the call that was cut
+  abbrev pub cut_part : (left : Row S (Outcome × S)) (y : Sight S) (x w d1 : PlainState S) (more more_err : List ℕ) (taken : ℕ)
+      → Upto pure (p.row g.after) g.sight left y → Shows o e g.sight.started x y → Keeps (state_opened d) x
+      → w.base ≡ x.base → w.was_mid ≡ x.was_mid → w.out ≡ grown x.out more → w.err ≡ grown x.err more_err → w.input ≡ shrunk x.input taken
+      → PlainUndoes w d1 → Front left Output more → Front left ErrorOutput more_err → (taken ≡ 0) ⊎ ((most : ℕ) × Calls left (Take most))
+      → CutIn p t k o e m d1 ts
+  cut_part left y x w d1 more more_err taken up sh kp base mid out err input un f fe fi = record {
+    before = g.before; after = g.after; sight = g.sight; is = g.is; steps = g.steps;
+    heap = ap (λ z. z.heap) un ∙ base ∙ kp.base ∙ sym g.heap;
+    mid = ap (λ z. z.mid) un ∙ mid ∙ kp.was_mid ∙ sym g.mid;
+    threads = g.threads;
+    left = left; place = y; upto = up; more = more; more_err = more_err; taken = taken;
+    out = ap (λ z. z.out) un ∙ out ∙ ap (λ l. grown l more) sh.out ∙ then_grown o y.world.out more;
+    err = ap (λ z. z.err) un ∙ err ∙ ap (λ l. grown l more_err) sh.err ∙ then_grown e y.world.err more_err;
+    input = ap (λ z. z.input) un ∙ input ∙ ap (λ i. shrunk i taken) (sym sh.input);
+    front = f; front_err = fe; front_in = fi;
+  }
+
+  -- the names that stay given are those of the steps before
+  made_part : (x w d1 : PlainState S) → w.kept ≡ x.kept → Keeps (state_opened d) x → PlainUndoes w d1 → d1.made ≡ g.sight.made
+  made_part x w d1 kept kp un = ap (λ z. z.made) un ∙ kept ∙ kp.kept ∙ sym g.made
+
+  -- what is told of a step that was cut
+  abbrev Told : PlainState S → TurnWhy → Type 0
+  Told d1 why = CutTold p t k names o e m d0 d1 ts why
+
+  -- a call of the next step was refused
+  refused_memory : (c : Call S) (f : Reply c → Row S (Outcome × S)) (y : Sight S) (x w d1 : PlainState S) (ls : p.life g.after ≡ Lives) (bad : Bool) → d1.bad ≡ bad
+      → Upto pure (p.row g.after) g.sight (Do c f) y → Shows o e g.sight.started x y → Keeps (state_opened d) x → PlainRefuses c x MemoryStop w → PlainUndoes w d1
+      → Told d1 (memory_why bad)
+  refused_memory c f y x w d1 ls false eb up sh kp rf un =
+      (cut_part (Do c f) y x w d1 [] [] 0 up sh kp rf.0.base rf.0.was_mid (rf.1.2.same ∙ sym (grown_none x.out)) (rf.1.3.same ∙ sym (grown_none x.err)) (rf.1.1.same ∙ sym (shrunk_none x.input)) un (inl refl) (inl refl) (inl refl), made_part x w d1 rf.0.kept kp un, tt)
+  refused_memory (Make q) f y x w d1 ls true eb up sh kp rf un =
+      let bd : w.bad ≡ true = sym (ap (λ z. z.bad) un) ∙ eb in
+      elim rf.1.0 [
+        | inl h ↦ absurd (let q : true ≡ false = sym bd ∙ h ∙ kp.bad in cc)
+        | inr h ↦ (
+          cut_part (Do (Make q) f) y x w d1 [] [] 0 up sh kp rf.0.base rf.0.was_mid (rf.1.2.same ∙ sym (grown_none x.out)) (rf.1.3.same ∙ sym (grown_none x.err)) (rf.1.1.same ∙ sym (shrunk_none x.input)) un (inl refl) (inl refl) (inl refl),
+          made_part x w d1 rf.0.kept kp un, 
+          (ls, ap (λ z. z.free) un ∙ rf.0.free ∙ h.1, q, x.left, (f, refl), ap (λ l. l ++ x.left) sh.made ∙ kp.names (sym kp.free ∙ h.1) ∙ g.named (sym kp.free ∙ h.1), subst (λ (a : Heap). NoName a x.left) (sym sh.heap) h.2))
+      ]
+  refused_memory (SetVal a i v) f y x w d1 ls true eb up sh kp rf un = absurd (let q : true ≡ false = sym eb ∙ ap (λ z. z.bad) un ∙ rf.1.0 ∙ kp.bad in cc)
+  refused_memory (Push a v) f y x w d1 ls true eb up sh kp rf un = absurd (let q : true ≡ false = sym eb ∙ ap (λ z. z.bad) un ∙ rf.1.0 ∙ kp.bad in cc)
+  refused_memory (Truncate a n) f y x w d1 ls true eb up sh kp rf un = absurd (let q : true ≡ false = sym eb ∙ ap (λ z. z.bad) un ∙ rf.1.0 ∙ kp.bad in cc)
+  refused_memory (PushPair a key v) f y x w d1 ls true eb up sh kp rf un = absurd (let q : true ≡ false = sym eb ∙ ap (λ z. z.bad) un ∙ rf.1.0 ∙ kp.bad in cc)
+  refused_memory (DropPair a n) f y x w d1 ls true eb up sh kp rf un = absurd (let q : true ≡ false = sym eb ∙ ap (λ z. z.bad) un ∙ rf.1.0 ∙ kp.bad in cc)
+  refused_memory (Start s) f y x w d1 ls true eb up sh kp rf un = absurd (let q : true ≡ false = sym eb ∙ ap (λ z. z.bad) un ∙ rf.1.0 ∙ kp.bad in cc)
+  refused_memory (Put on bytes) f y x w d1 ls true eb up sh kp rf un = absurd (let q : true ≡ false = sym eb ∙ ap (λ z. z.bad) un ∙ rf.1.0 ∙ kp.bad in cc)
+  refused_memory (Take most) f y x w d1 ls true eb up sh kp rf un = absurd (let q : true ≡ false = sym eb ∙ ap (λ z. z.bad) un ∙ rf.1.0 ∙ kp.bad in cc)
+  refused_memory (Read a) f y x w d1 ls true eb up sh kp rf un = absurd rf.1.0
+  refused_memory (Find a key) f y x w d1 ls true eb up sh kp rf un = absurd rf.1.0
+  refused_memory MidLine f y x w d1 ls true eb up sh kp rf un = absurd rf.1.0
+  refused_memory (SetMidLine mid) f y x w d1 ls true eb up sh kp rf un = absurd rf.1.0
+
+  -- a count that rose in the step has risen since the turn began
+  rose_by : (a b c b1 : ℕ) → a ≤ b → Rose b c → b1 ≡ c → Rose a b1
+  rose_by a b c b1 l r q = omega arith
+
+  refused : (c : Call S) (f : Reply c → Row S (Outcome × S)) (y : Sight S) (x w d1 : PlainState S) (ls : p.life g.after ≡ Lives) (s : Stop)
+      → Upto pure (p.row g.after) g.sight (Do c f) y → Shows o e g.sight.started x y → Keeps (state_opened d) x → PlainRefuses c x s w → PlainUndoes w d1
+      → Told d1 (why_of_stop s d1.bad)
+  refused c f y x w d1 ls MemoryStop up sh kp rf un = refused_memory c f y x w d1 ls d1.bad refl up sh kp rf un
+  refused (Take most) f y x w d1 ls ReadStop up sh kp rf un =
+      let h = rf.1.0 in
+      let l : d0.reads ≤ x.reads = let a = g.reads in let b = kp.reads in omega arith in
+      (cut_part (Do (Take most) f) y x w d1 [] [] h.0.0 up sh kp rf.0.base rf.0.was_mid (rf.1.1.same ∙ sym (grown_none x.out)) (rf.1.2.same ∙ sym (grown_none x.err)) h.0.1 un (inl refl) (inl refl) (inr (most, (f, refl))),
+        made_part x w d1 rf.0.kept kp un, 
+        (ls, most, (f, refl), rose_by d0.reads x.reads w.reads d1.reads l h.1 (ap (λ z. z.reads) un)))
+  refused (Put Output bytes) f y x w d1 ls WriteStop up sh kp rf un =
+      let h = rf.1.0 in
+      let l : d0.writes ≤ x.writes = let a = g.writes in let b = kp.writes in omega arith in
+      (cut_part (Do (Put Output bytes) f) y x w d1 (take h.0.0 bytes) [] 0 up sh kp rf.0.base rf.0.was_mid h.0.1 (rf.1.2.same ∙ sym (grown_none x.err)) (rf.1.1.same ∙ sym (shrunk_none x.input)) un (inr (bytes, h.0.0, (f, refl), refl)) (inl refl) (inl refl),
+        made_part x w d1 rf.0.kept kp un, 
+        (ls, bytes, (f, refl), rose_by d0.writes x.writes w.writes d1.writes l h.1 (ap (λ z. z.writes) un)))
+  refused (Put ErrorOutput bytes) f y x w d1 ls ErrStop up sh kp rf un =
+      let h = rf.1.0 in
+      let l : d0.errs ≤ x.errs = let a = g.errs in let b = kp.errs in omega arith in
+      (cut_part (Do (Put ErrorOutput bytes) f) y x w d1 [] (take h.0.0 bytes) 0 up sh kp rf.0.base rf.0.was_mid (rf.1.2.same ∙ sym (grown_none x.out)) h.0.1 (rf.1.1.same ∙ sym (shrunk_none x.input)) un (inl refl) (inr (bytes, h.0.0, (f, refl), refl)) (inl refl),
+        made_part x w d1 rf.0.kept kp un, 
+        (ls, bytes, (f, refl), rose_by d0.errs x.errs w.errs d1.errs l h.1 (ap (λ z. z.errs) un)))
+  refused _ f y x w d1 ls ReadStop up sh kp rf un = absurd rf.1.0
+  refused _ f y x w d1 ls WriteStop up sh kp rf un = absurd rf.1.0
+  refused _ f y x w d1 ls ErrStop up sh kp rf un = absurd rf.1.0
+  refused _ f y x w d1 ls _ up sh kp rf un = absurd rf.1
+
+  -- the step met a Stop
+  pub step_stopped : {X : Type 0} (u : Sense S X) (b : Bracket S X) (D : X → PlainState S) (i : IsPlain u b D) (s : S) (c : Stop) (v w : X)
+      → slice_get ts t ≡ Some s → p.life s ≡ Lives → D v ≡ d → StepStopped u b (p.row s) v c w
+      → Told (D w) (why_of_stop c (D w).bad)
+  step_stopped {X} u b D i s c v w gs ls dv st =
+      let es = state_is s gs in
+      let v1 = st.0 in
+      let w1 = st.1 in
+      let op : D v1 ≡ state_opened d = i.opens v v1 st.2 ∙ ap state_opened dv in
+      let at = stopped_at u (p.row s) v1 c w1 st.3 in
+      let sh = upto_shown u b D i o e g.sight.started (p.row s) at.left v1 at.place g.sight at.upto (going_shows (D v1) op) in
+      let kp : Keeps (state_opened d) (D at.place) = subst (λ (z : PlainState S). Keeps z (D at.place)) op (upto_keeps u b D i (p.row s) at.left v1 at.place at.upto) in
+      let up : Upto pure (p.row g.after) g.sight at.left sh.0 = subst (λ (q : S). Upto pure (p.row q) g.sight at.left sh.0) es sh.1 in
+      let lv : p.life g.after ≡ Lives = subst (λ (q : S). p.life q ≡ Lives) es ls in
+      let un = i.undoes w1 w st.4 in
+      elim at.why [
+        | inl own ↦
+            let same : D w1 ≡ D at.place = ap D own.1 in
+            let bad : (D w).bad ≡ false = ap (λ z. z.bad) un ∙ ap (λ z. z.bad) same ∙ kp.bad in
+            let cut : CutIn p t k o e m (D w) ts = cut_part at.left sh.0 (D at.place) (D w1) (D w) [] [] 0 up sh.2 kp (ap (λ z. z.base) same) (ap (λ z. z.was_mid) same)
+              (ap (λ z. z.out) same ∙ sym (grown_none (D at.place).out)) (ap (λ z. z.err) same ∙ sym (grown_none (D at.place).err)) (ap (λ z. z.input) same ∙ sym (shrunk_none (D at.place).input)) un (inl refl) (inl refl) (inl refl) in
+            let P : TurnWhy → Type 0 = λ y. Told (D w) y in
+            let wy : why_of_stop c (D w).bad ≡ OutOfMemory = ap (λ z. why_of_stop z (D w).bad) own.0 ∙ ap (λ z. memory_why z) bad in
+            subst P (sym wy) (cut, made_part (D at.place) (D w1) (D w) (ap (λ z. z.kept) same) kp un, tt)
+        | inr r ↦
+            refused r.0 r.1 sh.0 (D at.place) (D w1) (D w) lv c (subst (λ (q : Row S (Outcome × S)). Upto pure (p.row g.after) g.sight q sh.0) r.2 up) sh.2 kp (i.refuses r.0 at.place c w1 r.3) un
+      ]
+
+  -- the step ran whole and was taken back
+  pub step_whole : {X : Type 0} (u : Sense S X) (b : Bracket S X) (D : X → PlainState S) (i : IsPlain u b D) (s s1 : S) (c : Outcome) (v w : X) (d1 : PlainState S)
+      → slice_get ts t ≡ Some s → p.life s ≡ Lives → D v ≡ d → Stepped u b (p.row s) v c s1 w → (w1 : PlainState S) → w1 ≡ record (D w) { started = w1.started } → PlainUndoes w1 d1
+      → Told d1 OutOfMemory × ((WaitsQuietly p) → c ≡ WaitsNow → Told d1 Waits)
+  step_whole u b D i s s1 c v w d1 gs ls dv st w1 ew un =
+      let es = state_is s gs in
+      let v1 = st.0 in
+      let op : D v1 ≡ state_opened d = i.opens v v1 st.1 ∙ ap state_opened dv in
+      let r = run_shown u b D i o e g.sight.started (p.row s) v1 (c, s1) w g.sight st.2 (going_shows (D v1) op) in
+      let kp : Keeps (state_opened d) (D w) = subst (λ (z : PlainState S). Keeps z (D w)) op (run_keeps u b D i (p.row s) v1 (c, s1) w st.2) in
+      let dd : Does (p.row g.after) g.sight (c, s1) r.0 = subst (λ (q : S). Does (p.row q) g.sight (c, s1) r.0) es r.1 in
+      let lv : p.life g.after ≡ Lives = subst (λ (q : S). p.life q ≡ Lives) es ls in
+      let cut : CutIn p t k o e m d1 ts = cut_part (Ret (c, s1)) r.0 (D w) w1 d1 [] [] 0 (run_upto pure (p.row g.after) g.sight (c, s1) r.0 dd) r.2 kp (ap (λ z. z.base) ew) (ap (λ z. z.was_mid) ew)
+        (ap (λ z. z.out) ew ∙ sym (grown_none (D w).out)) (ap (λ z. z.err) ew ∙ sym (grown_none (D w).err)) (ap (λ z. z.input) ew ∙ sym (shrunk_none (D w).input)) un (inl refl) (inl refl) (inl refl) in
+      let made = made_part (D w) w1 d1 (ap (λ z. z.kept) ew) kp un in
+      ((cut, made, tt), λ quiet ec.
+        let dw : Does (p.row g.after) g.sight (WaitsNow, s1) r.0 = subst (λ (q : Outcome). Does (p.row g.after) g.sight (q, s1) r.0) ec dd in
+        (cut_part (Ret (c, s1)) r.0 (D w) w1 d1 [] [] 0 (run_upto pure (p.row g.after) g.sight (c, s1) r.0 dd) r.2 kp (ap (λ z. z.base) ew) (ap (λ z. z.was_mid) ew)
+        (ap (λ z. z.out) ew ∙ sym (grown_none (D w).out)) (ap (λ z. z.err) ew ∙ sym (grown_none (D w).err)) (ap (λ z. z.input) ew ∙ sym (shrunk_none (D w).input)) un (inl refl) (inl refl) (inl refl),
+          made,
+          (lv, record { world = (quiet g.after s1 g.sight r.0 dw).1.world; more = refl; more_err = refl; taken = refl }, s1, dw, (quiet g.after s1 g.sight r.0 dw).1)))
+
+-- a step leaves a sound list of threads
+pub sound_after : {S X : Type 0} (p : Prog S) (sound : Heap → List S → Type 0) (law : StaysSound p sound) (u : Sense S X) (b : Bracket S X) (D : X → PlainState S) (i : IsPlain u b D)
+    (ts : List S) (t : ℕ) (s s1 : S) (c : Outcome) (v w : X) → sound (D v).heap ts → slice_get ts t ≡ Some s → p.life s ≡ Lives → Stepped u b (p.row s) v c s1 w
+    → sound (D w).heap (slice_set (ts ++ (D w).started) t s1)
+sound_after {S} p sound law u b D i ts t s s1 c v w so gs ls st =
+    let d = D v in
+    let v1 = st.0 in
+    let op : D v1 ≡ state_opened d = i.opens v v1 st.1 in
+    let world : World = record { input = d.input; out = []; err = []; mid = d.mid } in
+    let x : Sight S = record (opened S d.heap world) { made = d.made } in
+    let sh : Shows d.out d.err [] (D v1) x = subst (λ (z : PlainState S). Shows d.out d.err [] z x) (sym op)
+      (record { heap = refl; made = refl; started = refl; input = refl; out = sym (grown_none d.out); err = sym (grown_none d.err); mid = refl }) in
+    let r = run_shown u b D i d.out d.err [] (p.row s) v1 (c, s1) w x st.2 sh in
+    let a = does_afresh (p.row s) x r.0 (c, s1) r.1 in
+    let y = a.0 in
+    let f = a.1 in
+    let hy : y.heap ≡ (D w).heap = (λ i q. f.heap q i) ∙ r.2.heap in
+    let sy : y.started ≡ (D w).started = sym f.started ∙ r.2.started in
+    subst (λ (h : Heap). sound h (slice_set (ts ++ (D w).started) t s1)) hy
+      (subst (λ (l : List S). sound y.heap (slice_set (ts ++ l) t s1)) sy (law ts t s d.heap world c s1 y so gs ls f.does))
+
+-- what is taken back is as before
+pub undone_run : {S X : Type 0} (p : Prog S) (u : Sense S X) (b : Bracket S X) (D : X → PlainState S) (i : IsPlain u b D) (s s1 : S) (c : Outcome) (v w : X) (w1 d1 : PlainState S)
+    → Stepped u b (p.row s) v c s1 w → w1 ≡ record (D w) { started = w1.started } → PlainUndoes w1 d1 → d1.heap ≡ (D v).heap
+undone_run p u b D i s s1 c v w w1 d1 st ew un =
+    ap (λ z. z.heap) un ∙ ap (λ z. z.base) ew ∙ (run_keeps u b D i (p.row s) st.0 (c, s1) w st.2).base ∙ ap (λ z. z.base) (i.opens v st.0 st.1)
+
+pub undone_stop : {S X : Type 0} (p : Prog S) (u : Sense S X) (b : Bracket S X) (D : X → PlainState S) (i : IsPlain u b D) (s : S) (c : Stop) (v w : X)
+    → StepStopped u b (p.row s) v c w → (D w).heap ≡ (D v).heap
+undone_stop p u b D i s c v w st =
+    let at = stopped_at u (p.row s) st.0 c st.1 st.3 in
+    let kp = upto_keeps u b D i (p.row s) at.left st.0 at.place at.upto in
+    let base : (D st.1).base ≡ (D at.place).base = elim at.why [ inl own ↦ ap (λ z. (D z).base) own.1 | inr r ↦ (i.refuses r.0 at.place c st.1 r.3).0.base ] in
+    ap (λ z. z.heap) (i.undoes st.1 w st.4) ∙ base ∙ kp.base ∙ ap (λ z. z.base) (i.opens v st.0 st.2)
+
+pub free_run : {S X : Type 0} (p : Prog S) (u : Sense S X) (b : Bracket S X) (D : X → PlainState S) (i : IsPlain u b D) (s s1 : S) (c : Outcome) (v w : X) → Stepped u b (p.row s) v c s1 w → (D w).free ≡ (D v).free
+free_run p u b D i s s1 c v w st = (run_keeps u b D i (p.row s) st.0 (c, s1) w st.2).free ∙ ap (λ z. z.free) (i.opens v st.0 st.1)
+
+pub free_stop : {S X : Type 0} (p : Prog S) (u : Sense S X) (b : Bracket S X) (D : X → PlainState S) (i : IsPlain u b D) (s : S) (c : Stop) (v w : X) → StepStopped u b (p.row s) v c w → (D w).free ≡ (D v).free
+free_stop p u b D i s c v w st =
+    let at = stopped_at u (p.row s) st.0 c st.1 st.3 in
+    let kp = upto_keeps u b D i (p.row s) at.left st.0 at.place at.upto in
+    let free : (D st.1).free ≡ (D at.place).free = elim at.why [ inl own ↦ ap (λ z. (D z).free) own.1 | inr r ↦ (i.refuses r.0 at.place c st.1 r.3).0.free ] in
+    ap (λ z. z.free) (i.undoes st.1 w st.4) ∙ free ∙ kp.free ∙ ap (λ z. z.free) (i.opens v st.0 st.2)

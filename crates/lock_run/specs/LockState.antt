@@ -1,0 +1,39 @@
+-- What a one-lock machine holds, as values.
+use Rattle.std.specs.Prelude.{◌≡◌, ℕ, List, [], Option, Bool, true, false}
+use Rattle.py_data.specs.Heap.{Heap}
+use Rattle.py_data.specs.World.{World}
+use Rattle.stm_io.specs.Outside.{SourceState, SinkState}
+use Rattle.lock_run.specs.declared.machine.LockRun.{LockRun}
+use Rattle.lock_run.specs.declared.client.Life.TheVariants.{Lives}
+use Rattle.lock_run.specs.Prog.{Prog}
+use Rattle.lock_run.specs.Client.{Going, Waiting}
+use Rattle.lock_run.specs.PlainSense.{plain_state}
+use Rattle.lock_run.specs.Turns.{LockState}
+
+abbrev pub lock_state : {C S I O E : Type 0} → (I → SourceState) → (O → SinkState) → (E → SinkState) → LockRun C I O E S → LockState S
+lock_state input out err run = record { view = plain_state input out err run.view; threads = run.threads }
+
+abbrev pub lock_client : {C S I O E : Type 0} → LockRun C I O E S → C
+lock_client run = run.client.now
+
+-- the states of the threads stand over the heap
+abbrev pub IsSound : {S : Type 0} → (Heap → List S → Type 0) → LockState S → Type 0
+IsSound sound s = sound s.view.heap s.threads
+
+-- whether a thread can go on: it lives, and its next step over this heap doesn't wait
+abbrev pub IsReady : {S : Type 0} → Prog S → S → Heap → Bool → Type 0
+IsReady p s h true = (p.life s ≡ Lives) × Going (p.row s) h
+IsReady p s h false = p.life s ≡ Lives → Waiting (p.row s) h
+
+-- the world at the beginning of a run: an input that tells this, nothing written yet
+abbrev pub first_world : Option (List ℕ) → World
+first_world input = record { input = input; out = []; err = []; mid = false }
+
+-- the devices of a machine are these, as far as they tell of themselves
+pub record HasDevices {S : Type 0} (s : LockState S) (source : SourceState) (sink error_sink : SinkState) : Type 0 where
+  pub input : s.view.input ≡ source.told
+  pub out : s.view.out ≡ sink.told
+  pub err : s.view.err ≡ error_sink.told
+  pub reads : s.view.reads ≡ source.faults
+  pub writes : s.view.writes ≡ sink.faults
+  pub errs : s.view.errs ≡ error_sink.faults
