@@ -7,10 +7,10 @@ use Rattle.lock_run.specs.Client.{Going, Waiting}
 use Rattle.lock_run.specs.LockState.{IsReady}
 
 ready_of : {S : Type 0} (p : Prog S) (s : S) (h : Heap) (blocked : Bool) → p.life s ≡ Lives → (blocked ≡ true → Waiting (p.row s) h) → (blocked ≡ false → Going (p.row s) h) → IsReady p s h (not blocked)
-ready_of p s h true l yes no = λ e. yes refl
-ready_of p s h false l yes no = (l, no refl)
+ready_of p s h true l waits goes = λ e. waits refl
+ready_of p s h false l waits goes = (l, goes refl)
 
 -- a living thread can go on where it isn't blocked
 pub ready_by : {S : Type 0} (o : Option S) (p : Prog S) (s : S) (h : Heap) (blocked : Bool) → o ≡ Some s → p.life s ≡ Lives → (blocked ≡ true → Waiting (p.row s) h) → (blocked ≡ false → Going (p.row s) h)
     → IfSome o (λ q. IsReady p q h (not blocked))
-ready_by o p s h blocked e l yes no = subst (λ z. IfSome z (λ q. IsReady p q h (not blocked))) (sym e) (ready_of p s h blocked l yes no)
+ready_by o p s h blocked e l waits goes = subst (λ z. IfSome z (λ q. IsReady p q h (not blocked))) (sym e) (ready_of p s h blocked l waits goes)
