@@ -1,1 +1,2 @@
+pub mod LineForm
 pub mod LineText
