@@ -1,1 +1,2 @@
+pub mod LineNames
 pub mod LineWords

@@ -6,7 +6,7 @@ ghost use Rattle.stm_top.specs.LineForm.{cell_of, cell_for, with_name};
 
 use indexmap::IndexSet;
 use py_data::NoMemory;
-use std::alloc::{AllocError, Global};
+use std::alloc::Global;
 use std::marker::Model;
 
 /// Names in order of first assignment, which contracts see as that list. A name is found in constant time, but for
@@ -49,9 +49,7 @@ impl<'a> Names<'a> {
         ensures names { OnOk result (self.new ≡ with_name self.old word.now) }
         ensures err { OnErr result (self.new ≡ self.old) }
     {
-        match self.set.insert_full(word) {
-            Ok((cell, _)) => Ok(cell as u32),
-            Err(_) => Err(AllocError),
-        }
+        let (cell, _) = self.set.insert_full(word)?;
+        Ok(cell as u32)
     }
 }
