@@ -1,8 +1,8 @@
 -- The line form: which program a text of lines is, or the first line that hasn't the form. States `docs/LANGUAGE.md`,
 -- "The line form".
-use Rattle.std.specs.Prelude.{◌≡◌, ℕ, ◌+◌, Bool, true, false, ◌&&◌, not, List, [], ◌∷◌, ◌++◌, length, drop, ◌==◌, nat_eq, if◌then◌else◌, Option, Some, None, Result, Ok, Err, position, codes, ℤ, pos, negsuc, ◌+ℤ◌, ◌-ℤ◌, ◌*ℤ◌, option_and_then}
+use Rattle.std.specs.Prelude.{◌≡◌, ℕ, ◌+◌, Bool, true, false, ◌&&◌, not, List, [], ◌∷◌, ◌++◌, length, take, drop, ◌==◌, if◌then◌else◌, Option, Some, None, Result, Ok, Err, position, codes, ℤ, pos, negsuc, ◌+ℤ◌, ◌-ℤ◌, ◌*ℤ◌, option_and_then}
 use Rattle.std.specs.Option.{option_map, option_or}
-use Rattle.std.specs.List.{list_all, list_any, position_or_len, slice_split, starts_with}
+use Rattle.std.specs.List.{list_all, list_any, position_or_len, slice_split}
 use Rattle.std.specs.Str.{bytes_eq}
 use Rattle.std.proofs.Math.IntN.{neg_ℤ}
 use Rattle.py_data.specs.Arithmetic.{floor_quotient, floor_remainder}
@@ -106,6 +106,9 @@ pub record Reading : Type 0 where
   pub names : List (List ℕ)
   pub statements : List Statement
 
+abbrev pub reading : List (List ℕ) → List Statement → Reading
+reading names statements = record { names = names; statements = statements }
+
 -- the number of a name that is assigned: its own, or the next
 abbrev pub cell_for : List (List ℕ) → List ℕ → ℕ
 cell_for names w = position_or_len (bytes_eq w) names
@@ -128,16 +131,24 @@ assignment_of names (name ∷ sign ∷ ws) = if is_name name && bytes_eq sign (c
 unfoldable pub after_assignment : Reading → List ℕ → Option Reading
 after_assignment r line = option_map (λ p. with_assignment r p.0 p.1) (assignment_of r.names (words line))
 
+-- a text's parts between its commas
+abbrev pub between_commas : List ℕ → List (List ℕ)
+between_commas text = slice_split (λ b. b == 44) text
+
 -- the items of a `print` line stand between its commas
 unfoldable pub after_print : Reading → List ℕ → Option Reading
-after_print r rest = option_map (with_print r) (items_of r.names (slice_split (λ b. b == 44) rest))
+after_print r rest = option_map (with_print r) (items_of r.names (between_commas rest))
+
+abbrev pub begins_with_space : List ℕ → Bool
+begins_with_space [] = false
+begins_with_space (b ∷ bs) = is_space b
 
 -- spaces alone, or `print` and a space, or an assignment that doesn't begin with a space
 unfoldable pub after_line : Reading → List ℕ → Option Reading
 after_line r line =
     if list_all is_space line then Some r
-    else (if starts_with nat_eq line (codes "print ") then after_print r (drop 6 line)
-    else (if starts_with nat_eq line (codes " ") then None else after_assignment r line))
+    else (if bytes_eq (take 6 line) (codes "print ") then after_print r (drop 6 line)
+    else (if begins_with_space line then None else after_assignment r line))
 
 -- ---- texts
 abbrev pub next_lines : (Reading → ℕ → Result LineProgram ℕ) → ℕ → Option Reading → Result LineProgram ℕ
@@ -154,4 +165,4 @@ abbrev pub lines_of : List ℕ → List (List ℕ)
 lines_of text = slice_split (λ b. b == 10) text
 
 abbrev pub program_of : List ℕ → Result LineProgram ℕ
-program_of text = program_from (lines_of text) (record { names = []; statements = [] }) 1
+program_of text = program_from (lines_of text) (reading [] []) 1

@@ -1,6 +1,7 @@
 //! The line form: scripts of assignments and `print` lines over numbers and names.
 
 mod items;
+mod lines;
 mod names;
 mod words;
 

@@ -122,6 +122,14 @@ fn all_digits(text: &[u8]) -> bool
     text.iter().all(|byte| is_digit(*byte))
 }
 
+/// Whether a line has spaces alone, or nothing.
+#[tactic(auto, unfolding(crate::specs::LineText::is_space))]
+pub(super) fn is_blank(line: &[u8]) -> bool
+    ensures { result ≡ list_all is_space line.now }
+{
+    line.iter().all(|byte| *byte == b' ')
+}
+
 /// Whether a word is one of these.
 fn is_among(words: &[&[u8]], word: &[u8]) -> bool
     ensures { result ≡ list_any (λ r. bytes_eq r.now word.now) words.now }
