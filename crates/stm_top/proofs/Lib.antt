@@ -1,2 +1,3 @@
+pub mod LineItems
 pub mod LineNames
 pub mod LineWords
