@@ -7,7 +7,7 @@ use Rattle.std.proofs.lemmas.List.{at_drop_more}
 use Rattle.std.proofs.lemmas.Nat.{pow-add}
 use Rattle.std.proofs.Math.Nat.{pow-le-pow_right}
 use Rattle.std.proofs.lemmas.Grind.{common_steps}
-use Rattle.stm_top.specs.LineText.{is_letter, is_digit, is_word_byte, is_space, starts_run, with_byte, words, run_length, is_reserved, is_name, is_number, is_number_of, number_of, value_of, with_digit}
+use Rattle.stm_top.specs.LineText.{is_letter, is_digit, is_word_byte, is_space, begins_with_space, starts_run, with_byte, words, run_length, is_reserved, is_name, is_number, is_number_of, number_of, value_of, with_digit}
 
 pub cases_true : {P : Type 0} (b : Bool) → (b ≡ true → P) → (b ≡ false → P) → P
 cases_true b f g = ⊎_elim f g (cases_Bool b)
@@ -132,3 +132,11 @@ digit_step ds i v h l k b =
     let m = ten_more i in
     let n = nine i (omega arith) in
     (d.0, d.1, omega arith, omega arith)
+
+pub begins_none : (w : List ℕ) → length w ≡ 0 → begins_with_space w ≡ false
+begins_none [] e = refl
+begins_none (b ∷ bs) e = absurd (omega arith)
+
+pub begins_from : (w : List ℕ) (b : ℕ) (bs : List ℕ) → w ≡ b ∷ bs → begins_with_space w ≡ (b == 32)
+unfolding is_space
+begins_from w b bs e = ap begins_with_space e

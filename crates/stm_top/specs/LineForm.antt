@@ -6,7 +6,7 @@ use Rattle.std.specs.List.{list_all, list_any, position_or_len, slice_split}
 use Rattle.std.specs.Str.{bytes_eq}
 use Rattle.std.proofs.Math.IntN.{neg_ℤ}
 use Rattle.py_data.specs.Arithmetic.{floor_quotient, floor_remainder}
-use Rattle.stm_top.specs.LineText.{is_space, words, number_of, is_name}
+use Rattle.stm_top.specs.LineText.{is_space, begins_with_space, words, number_of, is_name}
 use Rattle.stm_top.specs.declared.line_form.Operator.{Operator}
 use Rattle.stm_top.specs.declared.line_form.Operator.TheVariants.{Add, Subtract, Multiply, Divide, Remainder}
 use Rattle.stm_top.specs.declared.line_form.Item.{Item}
@@ -138,10 +138,6 @@ between_commas text = slice_split (λ b. b == 44) text
 -- the items of a `print` line stand between its commas
 unfoldable pub after_print : Reading → List ℕ → Option Reading
 after_print r rest = option_map (with_print r) (items_of r.names (between_commas rest))
-
-abbrev pub begins_with_space : List ℕ → Bool
-begins_with_space [] = false
-begins_with_space (b ∷ bs) = is_space b
 
 -- spaces alone, or `print` and a space, or an assignment that doesn't begin with a space
 unfoldable pub after_line : Reading → List ℕ → Option Reading

@@ -16,6 +16,10 @@ is_word_byte b = is_letter b || is_digit b
 unfoldable pub is_space : ℕ → Bool
 is_space b = b == 32
 
+abbrev pub begins_with_space : List ℕ → Bool
+begins_with_space [] = false
+begins_with_space (b ∷ bs) = is_space b
+
 abbrev pub starts_run : List ℕ → Bool
 starts_run [] = false
 starts_run (b ∷ bs) = is_word_byte b

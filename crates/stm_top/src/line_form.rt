@@ -1,11 +1,17 @@
 //! The line form: scripts of assignments and `print` lines over numbers and names.
 
+ghost use Rattle.std.specs.Prelude.{◌≡◌};
+ghost use Rattle.stm_top.specs.declared.line_form.LineError.TheVariants.{OutOfMemory};
+
 mod items;
 mod lines;
 mod names;
+mod program;
 mod words;
 
+pub use program::read_program;
 use py_data::Items;
+use std::alloc::AllocError;
 use thiserror::Error;
 
 /// What a calculation does with its two numbers.
@@ -61,4 +67,12 @@ pub enum LineError {
     /// There was no memory for the program.
     #[error("out of memory")]
     OutOfMemory,
+}
+
+impl From<AllocError> for LineError {
+    ghost from_gives = { λ _ e. e ≡ OutOfMemory };
+
+    fn from(_e: AllocError) -> LineError {
+        LineError::OutOfMemory
+    }
 }

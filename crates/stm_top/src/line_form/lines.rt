@@ -5,7 +5,7 @@ ghost use Rattle.stm_top.specs.LineForm.{items_of, between_commas, assignment_of
 
 use crate::line_form::items::read_item;
 use crate::line_form::names::Names;
-use crate::line_form::words::{is_blank, is_name, next_word};
+use crate::line_form::words::{begins_with_space, is_blank, is_name, next_word};
 use crate::line_form::{Item, Statement};
 use py_data::{Items, NoMemory};
 use std::alloc::Global;
@@ -98,7 +98,7 @@ pub(super) fn take_line<'a>(
     if let Some(rest) = line.strip_prefix(b"print ") {
         return take_print(alloc, names, statements, rest);
     }
-    if matches!(line, [b' ', ..]) {
+    if begins_with_space(line) {
         return Ok(false);
     }
     take_assignment(names, statements, line)

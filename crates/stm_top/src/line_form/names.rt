@@ -33,6 +33,14 @@ impl<'a> Names<'a> {
         }
     }
 
+    /// How many names are assigned.
+    pub fn len(&self) -> u32
+        requires { length self.now < 2 ^ 32 }
+        ensures { result ≡ length self.now }
+    {
+        self.set.len() as u32
+    }
+
     /// The number of an assigned name.
     pub fn find(&self, word: &[u8]) -> Option<u32>
         requires { length self.now < 2 ^ 32 }

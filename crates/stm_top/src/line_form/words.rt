@@ -1,6 +1,6 @@
 //! The words of a line, and what each may be.
 ghost use Rattle.std.specs.Prelude.{◌≡◌, ◌≢◌, ◌≤◌, ◌<◌, true, slice_index, take, drop, List, [], ◌∷◌, length, MatchOption, option_map};
-ghost use Rattle.stm_top.specs.LineText.{is_letter, is_digit, is_word_byte, is_space, starts_run, words, run_length, is_reserved, is_name, is_number, is_number_of, number_of, value_of};
+ghost use Rattle.stm_top.specs.LineText.{is_letter, is_digit, is_word_byte, is_space, begins_with_space, words, run_length, is_reserved, is_name, is_number, is_number_of, number_of, value_of};
 ghost use Rattle.std.specs.List.{list_all, list_any};
 ghost use Rattle.std.specs.Str.{bytes_eq};
 
@@ -128,6 +128,16 @@ pub(super) fn is_blank(line: &[u8]) -> bool
     ensures { result ≡ list_all is_space line.now }
 {
     line.iter().all(|byte| *byte == b' ')
+}
+
+#[tactic(auto, using(crate::proofs::LineWords::begins_none, crate::proofs::LineWords::begins_from))]
+pub(super) fn begins_with_space(line: &[u8]) -> bool
+    ensures { result ≡ begins_with_space line.now }
+{
+    match line.split_first() {
+        None => false,
+        Some((first, _)) => *first == b' ',
+    }
 }
 
 /// Whether a word is one of these.
