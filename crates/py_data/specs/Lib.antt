@@ -1,3 +1,4 @@
+pub mod Arithmetic
 pub mod Collection
 pub mod Heap
 pub mod Shape

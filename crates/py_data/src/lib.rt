@@ -1,6 +1,7 @@
 //! Values, records and views of the object heap, and what every operation over a view means.
 #![tactic(auto)]
 
+pub mod arithmetic;
 mod collection;
 mod entry;
 mod laws;

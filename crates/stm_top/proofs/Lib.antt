@@ -1,0 +1,4 @@
+pub mod LineItems
+pub mod LineNames
+pub mod LineSteps
+pub mod LineWords

@@ -1,0 +1,4 @@
+//! The top call: a script's text to its run.
+#![tactic(auto)]
+
+pub mod line_form;

@@ -1,0 +1,32 @@
+//! The program that a text of the line form is.
+ghost use Rattle.std.specs.Prelude.{◌≡◌, ◌≤◌, ℕ, length, IfOk, Ok, Err};
+ghost use Rattle.stm_top.specs.LineForm.{program_of};
+
+use crate::line_form::lines::take_line;
+use crate::line_form::names::Names;
+use crate::line_form::{LineError, LineProgram};
+use py_data::Items;
+use std::alloc::Global;
+
+/// The program that a text of the line form is, or the number of the first line that hasn't the form.
+///
+/// The time grows with the text's length, and no faster.
+pub fn read_program(alloc: Global, text: &[u8]) -> Result<LineProgram, LineError>
+    requires { length text.now ≤ 4194304 }
+    ensures program { IfOk result (λ program. program_of text.now ≡ Ok program) }
+    ensures refused { (line : ℕ) → result ≡ Err (LineError.Refused line) → program_of text.now ≡ Err line }
+{
+    let mut names = Names::new(alloc);
+    let mut statements = Items::new(alloc);
+    let mut line = 0;
+    for bytes in text.split(|byte| *byte == b'\n') {
+        line += 1;
+        if !take_line(alloc, &mut names, &mut statements, bytes)? {
+            return Err(LineError::Refused { line });
+        }
+    }
+    Ok(LineProgram {
+        cells: names.len(),
+        statements,
+    })
+}
