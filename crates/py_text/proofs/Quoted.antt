@@ -1,14 +1,14 @@
 -- The body of a string's text stands for the string.
-use Rattle.std.proofs.Common.{◌≡◌, ◌≢◌, ℕ, suc, ◌+◌, ◌-◌, ◌*◌, ◌/◌, ◌%◌, ◌<◌, ◌≤◌, Bool, true, false, ◌==◌, ◌&&◌, ◌||◌, ltb, eqb, not, if◌then◌else◌, ◌⊎◌, inl, inr, ⊎_elim, List, [], ◌∷◌, ◌++◌, length, get_or, take, drop, Fits, w8, IfOk, Result, Ok, Err, option_map, Some, None, refl, sym, ap, ◌∙◌, subst, append_assoc, eq-eqb, arith}
-use Rattle.std.proofs.lemmas.Bool.{ne_eqb, eqb-true, eqb-false, ltb-true, ltb-false, lt-ltb, cases_eq, cases_lt, cases_Bool}
+use Rattle.std.proofs.Common.{◌≡◌, ℕ, suc, ◌+◌, ◌-◌, ◌*◌, ◌/◌, ◌%◌, ◌<◌, Bool, true, false, ◌==◌, ◌&&◌, ◌||◌, ltb, not, if◌then◌else◌, ◌⊎◌, inl, inr, List, [], ◌∷◌, ◌++◌, length, get_or, take, drop, Fits, w8, IfOk, Result, Ok, Err, option_map, Some, refl, sym, ap, ◌∙◌, subst, arith}
+use Rattle.std.proofs.lemmas.Bool.{ne_eqb, eqb-true, eqb-false, lt-ltb}
 use Rattle.std.proofs.lemmas.List.{length-append}
 use Rattle.std.proofs.Math.Seq.{take-append_seam}
 use Rattle.std.proofs.lemmas.Str.{digit_value-digit_char}
 use Rattle.std.specs.Char.{digit_value, digit_char}
 use Rattle.std.specs.List.{flat_map, list_any, AllByRecursion}
-use Rattle.py_text.specs.Escape.{line_ends, spelled, escape_at, hex, is_hex, then_spelled, unescaped}
+use Rattle.py_text.specs.Escape.{line_ends, spelled, hex, is_hex, then_spelled, unescaped}
 use Rattle.py_text.specs.Repr.{quote_of, shown, repr_body, repr_of, between_quotes}
-use Rattle.py_text.proofs.Spelling.{line_ends-cons, spelled_plain}
+use Rattle.py_text.proofs.Spelling.{spelled_plain}
 
 abbrev pub IsQuote : ℕ → Type 0
 IsQuote q = (q ≡ 39) ⊎ (q ≡ 34)

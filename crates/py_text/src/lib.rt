@@ -12,3 +12,6 @@ pub use error::TextError;
 pub use int::{print_int, read_int};
 pub use literal::unescape;
 pub use repr::repr_bytes;
+
+#[cfg(test)]
+mod tests;

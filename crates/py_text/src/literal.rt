@@ -25,7 +25,11 @@ fn after_line_end(b: u8, more: &[u8]) -> &[u8]
     let Some((c, rest)) = split_bytes(more) else {
         return more;
     };
-    if b == b'\r' && *c == b'\n' { rest } else { more }
+    if b == b'\r' && *c == b'\n' {
+        rest
+    } else {
+        more
+    }
 }
 
 /// The body with CR LF and CR as LF.

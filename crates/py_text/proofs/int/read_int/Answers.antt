@@ -1,7 +1,6 @@
-use Rattle.std.proofs.Common.{◌≡◌, ◌+◌, ◌*◌, ◌<◌, ◌≤◌, length, take, get_or, refl, sym, ap, ◌∙◌, arith}
+use Rattle.std.proofs.Common.{◌≡◌, ◌+◌, ◌*◌, take, refl, sym, ap, ◌∙◌, arith}
 use Rattle.std.proofs.lemmas.Int.Digits.{digits_value_more}
 use Rattle.std.proofs.lemmas.Str.Parse.{digits_value-take-le}
-use Rattle.std.specs.Char.{digit_value}
 use Rattle.std.specs.Str.Parse.{digits_value}
 use Rattle.py_text.proofs.Digits.{base_of_digits}
 use Rattle.py_text.proofs.int.read_int.Goals as goal
@@ -18,4 +17,5 @@ loop-b-preserved c =
     let more = digits_value_more c.args.base c.args.digits.now c.loop-b.b-index c.loop-b-test.true in
     record {
       same = ap (λ v. v * c.args.base + c.digit_value.result) c.loop-b.invariant.same ∙ ap (λ d. digits_value c.args.base (take c.loop-b.b-index c.args.digits.now) * c.args.base + d) c.digit_value.ensures ∙ sym more;
-      small = omega (arith, c.if-next-gt-MOST.false) }
+      small = omega (arith, c.if-next-gt-MOST.false);
+    }

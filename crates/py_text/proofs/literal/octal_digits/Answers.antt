@@ -1,4 +1,4 @@
-use Rattle.std.proofs.Common.{◌<◌, ◌≤◌, ◌≡◌, ◌∙◌, ap, sym, ltb, false, le-ltb, length, take, arith}
+use Rattle.std.proofs.Common.{◌≡◌, ◌∙◌, ap, sym, ltb, le-ltb, length, take, arith}
 use Rattle.std.proofs.Math.Seq.{take-length}
 use Rattle.py_text.proofs.Digits.{octal_digits_stop}
 use Rattle.py_text.proofs.literal.octal_digits.Goals as goal
