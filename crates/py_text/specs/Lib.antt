@@ -1,0 +1,3 @@
+pub mod Int
+pub mod Escape
+pub mod Repr
