@@ -94,6 +94,14 @@ impl<T: Drop> Items<T> {
 }
 
 impl<T: Copy> Items<T> {
+    /// Adds the elements of a slice at the end.
+    pub fn extend_from_slice(&mut self, more: &[T]) -> Result<(), NoMemory>
+        ensures ok { OnOk result (self.new ≡ self.old ++ more.now) }
+        ensures err { OnErr result (self.new ≡ self.old) }
+    {
+        self.items.extend_from_slice(more)
+    }
+
     /// The element at a place.
     pub fn at(&self, i: usize) -> T
         requires { i < length self.now }

@@ -1,3 +1,5 @@
 pub mod LineForm
 pub mod LineSound
 pub mod LineText
+pub mod LineRun
+pub mod LineStand

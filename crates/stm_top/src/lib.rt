@@ -2,3 +2,4 @@
 #![tactic(auto)]
 
 pub mod line_form;
+mod line_run;
