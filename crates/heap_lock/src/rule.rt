@@ -1,0 +1,46 @@
+// The rule of the table under a lock, and its kinds of step by name. None of these types has a value.
+ghost use Rattle.heap_lock.specs.Rule.{IsLock, first_view, split_left, split_right, joined, spent, Takes, Gives};
+
+use crate::job::Job;
+use crate::view::{Key, View};
+use atomic_table::{Join, Play, Split, TableRule};
+use std::marker::PhantomData;
+
+pub struct LockRule<T> {
+    marker: PhantomData<T>,
+}
+
+impl<T: Job> TableRule<Option<T>, View<T::Description>, Key<T>> for LockRule<T> {
+    ghost holds = { λ key. IsLock T.job T.good key.parts (T.job key.opening.value) };
+
+    ghost first = { λ key. first_view key.parts (T.job key.opening.value) };
+}
+
+pub struct Take<T> {
+    marker: PhantomData<T>,
+}
+
+impl<T: Job> Play<Option<T>, View<T::Description>> for Take<T> {
+    ghost then = { λ step. Takes T.job T.good };
+}
+
+pub struct Give;
+
+impl<T, J> Play<Option<T>, View<J>> for Give {
+    ghost then = { λ step before found. Gives before };
+}
+
+/// How the parts of a seat are split, and how those of two seats are joined.
+pub struct Parts;
+
+impl<J> Split<View<J>> for Parts {
+    ghost left = { split_left };
+
+    ghost right = { split_right };
+}
+
+impl<J> Join<View<J>> for Parts {
+    ghost both = { joined };
+
+    ghost spent = { spent };
+}

@@ -1,0 +1,42 @@
+// A seat at a lock.
+ghost use Rattle.std.specs.Prelude.{◌≡◌, ◌≢◌, false, []};
+ghost use Rattle.heap_lock.specs.Views.{SeatView};
+ghost use Rattle.heap_lock.specs.Rule.{view, IsSeat};
+
+use crate::job::Job;
+use crate::view::View;
+use std::marker::Model;
+
+/// A thread's right to take the value of a lock. It has no bytes.
+///
+/// A seat has some of the lock's parts, which are numbers. Who has them all may close the lock. A seat that is dropped
+/// takes its parts with it, and its lock can then never be closed.
+pub struct Seat<T: Job> {
+    pub(crate) inner: atomic_table::Seat<Option<T>, View<T::Description>>,
+}
+
+impl<T: Job> Model for Seat<T> {
+    ghost Value = { SeatView T.Description };
+
+    ghost view = { λ s. record { lock = s.inner.table_id; parts = s.inner.me.0.parts; holds = s.inner.me.0.holds; job = s.inner.me.0.job } };
+
+    ghost invariant = { λ s. IsSeat s.inner.me };
+}
+
+impl<T: Job> Seat<T> {
+    // A type with a `drop` is taken apart in its own methods alone.
+    pub(crate) fn into_inner(self) -> atomic_table::Seat<Option<T>, View<T::Description>>
+        ensures lock { result.table_id ≡ self.lock }
+        ensures view { result.me.0 ≡ view self.parts self.holds self.job }
+        ensures seat { IsSeat result.me }
+    {
+        let Self { inner } = self;
+        inner
+    }
+}
+
+impl<T: Job> Drop for Seat<T> {
+    fn drop(self) {
+        let Self { inner: _ } = self;
+    }
+}

@@ -1,0 +1,1 @@
+// Threads that count under a lock.
