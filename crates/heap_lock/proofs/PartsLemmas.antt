@@ -1,5 +1,5 @@
 -- Lists of parts.
-use Rattle.std.proofs.Common.{◌≡◌, ℕ, zero, suc, ◌+◌, ◌<◌, ◌≤◌, ◌≢◌, ◌==◌, nat_lt, nat_le, if◌then◌else◌, List, [], ◌∷◌, length, get_or, All, Contains, Bool, true, false, refl, ap, arith}
+use Rattle.std.proofs.Common.{◌≡◌, ℕ, zero, suc, ◌+◌, ◌<◌, ◌≤◌, ◌≢◌, ◌==◌, nat_lt, nat_le, if◌then◌else◌, List, [], ◌∷◌, length, All, Contains, Bool, true, false, refl, arith}
 use mathlib.Core.Logic.{dite}
 use native.Mathlib.Decide.{ℕ_discrete}
 use Rattle.std.proofs.lemmas.Bool.Decides.{nat_tests}
@@ -21,8 +21,8 @@ times-with_part : (part x : ℕ) (ys : List ℕ) → times part (with_part x ys)
 times-with_part part x [] = times-cons part x []
 times-with_part part x (y ∷ ys) =
     elim (nat_le y x) as (λ b. times part (if b then x ∷ y ∷ ys else y ∷ with_part x ys) ≡ (if x == part then 1 else 0) + times part (y ∷ ys)) [
-      true ↦ times-cons part x (y ∷ ys)
-    | false ↦ omega (arith, times-cons part y (with_part x ys), times-cons part y ys, times-with_part part x ys)
+      | true ↦ times-cons part x (y ∷ ys)
+      | false ↦ omega (arith, times-cons part y (with_part x ys), times-cons part y ys, times-with_part part x ys)
     ]
 
 pub times-merged : (part : ℕ) (xs ys : List ℕ) → times part (merged xs ys) ≡ times part xs + times part ys
@@ -55,11 +55,14 @@ length-all_parts (suc n) = omega (arith, length-all_parts n)
 later : (part x : ℕ) (xs : List ℕ) → Contains xs part → Contains (x ∷ xs) part
 later part x xs has = (suc has.0, omega (arith, has.1), has.2)
 
-pub has_all_parts : (n : ℕ) → HasAllParts n (all_parts n)
-has_all_parts zero part within = absurd (omega arith)
-has_all_parts (suc n) part within = dite (ℕ_discrete n part)
+contains-all_parts : (n part : ℕ) → part < n → Contains (all_parts n) part
+contains-all_parts zero part within = absurd (omega arith)
+contains-all_parts (suc n) part within = dite (ℕ_discrete n part)
     (λ same. (0, omega arith, same))
-    (λ apart. later part n (all_parts n) (has_all_parts n part (omega arith)))
+    (λ apart. later part n (all_parts n) (contains-all_parts n part (omega arith)))
+
+pub has_all_parts : (n : ℕ) → HasAllParts n (all_parts n)
+has_all_parts n = record { each = contains-all_parts n }
 
 -- the order
 
@@ -70,29 +73,6 @@ at_most-all_parts (suc n) most within = All-cons (λ other. other ≤ most) n (a
 pub descending-all_parts : (n : ℕ) → IsDescending (all_parts n)
 descending-all_parts zero = tt
 descending-all_parts (suc n) = (at_most-all_parts n n (omega arith), descending-all_parts n)
-
-pub descending-lower_parts : (parts : List ℕ) → IsDescending parts → IsDescending (lower_parts parts)
-descending-lower_parts [] order = tt
-descending-lower_parts (x ∷ xs) order = order.1
-
-pub descending-highest_part : (parts : List ℕ) → IsDescending (highest_part parts)
-descending-highest_part [] = tt
-descending-highest_part (x ∷ xs) = (All-nil (λ other. other ≤ x), tt)
-
--- a split and a join of the two
-
-pub at_most-highest_part : (parts : List ℕ) → IsDescending parts → All (λ part. All (λ other. other ≤ part) (lower_parts parts)) (highest_part parts)
-at_most-highest_part [] order = All-nil (λ part. All (λ other. other ≤ part) [])
-at_most-highest_part (x ∷ xs) order = All-cons (λ part. All (λ other. other ≤ part) xs) x [] order.0 (All-nil (λ part. All (λ other. other ≤ part) xs))
-
-pub length_split : (parts : List ℕ) → 1 ≤ length parts → length (lower_parts parts) + 1 ≡ length parts
-length_split [] some = absurd (omega arith)
-length_split (x ∷ xs) some = omega arith
-
-pub merged_split : (parts : List ℕ) → IsDescending parts → merged (highest_part parts) (lower_parts parts) ≡ parts
-merged_split [] order = refl
-merged_split (x ∷ []) order = refl
-merged_split (x ∷ y ∷ ys) order = let at_most : y ≤ x = order.0 0 0 (omega arith) in let test : nat_le y x ≡ true = grind (arith, nat_tests) in ap (λ b. if b then x ∷ y ∷ ys else y ∷ with_part x ys) test
 
 length-with_part : (x : ℕ) (ys : List ℕ) → length (with_part x ys) ≡ length ys + 1
 length-with_part x [] = refl
@@ -109,8 +89,8 @@ at_most-with_part most x (y ∷ ys) here all =
     let first : y ≤ most = all 0 0 (omega arith) in
     let later : All (λ other. other ≤ most) ys = λ k d within. all (suc k) d (omega arith) in
     elim (nat_le y x) as (λ b. All (λ other. other ≤ most) (if b then x ∷ y ∷ ys else y ∷ with_part x ys)) [
-      true ↦ All-cons (λ other. other ≤ most) x (y ∷ ys) here all
-    | false ↦ All-cons (λ other. other ≤ most) y (with_part x ys) first (at_most-with_part most x ys here later)
+      | true ↦ All-cons (λ other. other ≤ most) x (y ∷ ys) here all
+      | false ↦ All-cons (λ other. other ≤ most) y (with_part x ys) first (at_most-with_part most x ys here later)
     ]
 
 -- whichever way the test goes by which a part finds its place

@@ -1,5 +1,5 @@
 -- The parts of a lock. A lock with n parts has the numbers 0 to n - 1 as its parts. They are dealt out among its seats, so that who has all of them knows that no other seat is left.
-use Rattle.std.specs.Prelude.{◌≡◌, ℕ, zero, suc, ◌<◌, ◌≤◌, ◌==◌, nat_le, if◌then◌else◌, List, [], ◌∷◌, All, Contains, count_by}
+use Rattle.std.specs.Prelude.{ℕ, zero, suc, ◌<◌, ◌≤◌, ◌==◌, nat_le, if◌then◌else◌, List, [], ◌∷◌, All, Contains, count_by}
 
 -- all parts of a lock with n parts, the highest first
 abbrev pub all_parts : ℕ → List ℕ
@@ -7,8 +7,8 @@ all_parts zero = []
 all_parts (suc n) = n ∷ all_parts n
 
 -- each part of a lock with n parts is in the list
-abbrev pub HasAllParts : ℕ → List ℕ → Type 0
-HasAllParts n parts = (part : ℕ) → part < n → Contains parts part
+pub record HasAllParts (n : ℕ) (parts : List ℕ) : Type 0 where
+  pub each : (part : ℕ) → part < n → Contains parts part
 
 -- how often a part stands in the list
 abbrev pub times : ℕ → List ℕ → ℕ

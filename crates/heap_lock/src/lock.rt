@@ -34,17 +34,13 @@ impl<T: Job> HeapLock<T> {
     ///
     /// `parts` is a count: as many seats can there be at once. The seat has all of them, 0 to `parts - 1`.
     /// At want of memory the value comes back. No other call of a lock or a seat wants memory.
-    pub fn new(
-        alloc: Global,
-        value: T,
-        parts: u8,
-    ) -> Result<(HeapLock<T>, Seat<T>), (NoMemory, T)>
+    pub fn new(alloc: Global, value: T, parts: u8) -> Result<(HeapLock<T>, Seat<T>), (NoMemory, T)>
         requires good { T.good value }
         requires parts { 1 ≤ parts }
         ensures lock { IfOk result (λ r. r.0.parts ≡ parts) }
         ensures seat { IfOk result (λ r. r.1 ≡ record { lock = r.0.id; parts = all_parts parts; holds = false; job = Some (T.job value) }) }
         ensures count { IfOk result (λ r. length r.1.parts ≡ parts) }
-        ensures all { IfOk result (λ r. HasAllParts parts r.1.parts) }
+        ensures all { IfOk result (λ r. HasAllParts r.0.parts r.1.parts) }
         ensures back { IfErr result (λ r. r.1 ≡ value) }
     {
         let mut slots = match Vec::with_capacity(alloc, 1) {
@@ -83,7 +79,8 @@ impl<T: Job> HeapLock<T> {
         ensures none { IfNone result (seat.new ≡ seat.old) }
     {
         let shared = &self.table.shared;
-        if shared.compare_exchange::<Take<T>>(&mut seat.inner, 0, 0, 1) != 0 {
+        let found = shared.compare_exchange::<Take<T>>(&mut seat.inner, 0, 0, 1);
+        if found != 0 {
             return None;
         }
         shared.exchange(&mut seat.inner, 0, None)

@@ -1,5 +1,5 @@
 // The rule of the table under a lock, and its kinds of step by name. None of these types has a value.
-ghost use Rattle.heap_lock.specs.Rule.{IsLock, first_view, split_left, split_right, joined, spent, Takes, Gives};
+ghost use Rattle.heap_lock.specs.Rule.{FollowsRule, first_view, split_left, split_right, joined, spent, Takes, Gives};
 
 use crate::job::Job;
 use crate::view::{Key, View};
@@ -11,7 +11,7 @@ pub struct LockRule<T> {
 }
 
 impl<T: Job> TableRule<Option<T>, View<T::Description>, Key<T>> for LockRule<T> {
-    ghost holds = { λ key. IsLock T.job T.good key.parts (T.job key.opening.value) };
+    ghost holds = { λ key. FollowsRule T.job T.good key.parts (T.job key.opening.value) };
 
     ghost first = { λ key. first_view key.parts (T.job key.opening.value) };
 }

@@ -1,7 +1,7 @@
 // A seat at a lock.
-ghost use Rattle.std.specs.Prelude.{◌≡◌, ◌≢◌, false, []};
+ghost use Rattle.std.specs.Prelude.{◌≡◌};
 ghost use Rattle.heap_lock.specs.Views.{SeatView};
-ghost use Rattle.heap_lock.specs.Rule.{view, IsSeat};
+ghost use Rattle.heap_lock.specs.Rule.{IsSeat};
 
 use crate::job::Job;
 use crate::view::View;
@@ -27,7 +27,9 @@ impl<T: Job> Seat<T> {
     // A type with a `drop` is taken apart in its own methods alone.
     pub(crate) fn into_inner(self) -> atomic_table::Seat<Option<T>, View<T::Description>>
         ensures lock { result.table_id ≡ self.lock }
-        ensures view { result.me.0 ≡ view self.parts self.holds self.job }
+        ensures parts { result.me.0.parts ≡ self.parts }
+        ensures holds { result.me.0.holds ≡ self.holds }
+        ensures job { result.me.0.job ≡ self.job }
         ensures seat { IsSeat result.me }
     {
         let Self { inner } = self;

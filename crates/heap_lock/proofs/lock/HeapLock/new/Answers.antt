@@ -1,4 +1,4 @@
-use Rattle.std.proofs.Common.{◌≡◌, ◌≢◌, arith, List, [], ◌∷◌, ◌++◌, Option, Some, sym, ap, ◌∙◌, subst}
+use Rattle.std.proofs.Common.{◌≡◌, ◌≢◌, arith, List, [], ◌∷◌, ◌++◌, Option, Some, sym, ap, ◌∙◌}
 use Rattle.heap_lock.specs.Parts.{all_parts}
 use Rattle.heap_lock.proofs.PartsLemmas.{some_from_length, length-all_parts, has_all_parts, descending-all_parts}
 use Rattle.heap_lock.proofs.RuleLemmas.{makes_lock, free_seat}
@@ -19,4 +19,4 @@ pub returns-in-Ok-made-clause-count : goal.returns-in-Ok-made-clause-count
 returns-in-Ok-made-clause-count g c = rw c.in-Ok-made.ensures.ok.4 (length-all_parts c.args.parts)
 
 pub returns-in-Ok-made-clause-all : goal.returns-in-Ok-made-clause-all
-returns-in-Ok-made-clause-all g c = rw c.in-Ok-made.ensures.ok.4 (has_all_parts c.args.parts)
+returns-in-Ok-made-clause-all g c = rw (c.in-Ok-made.ensures.ok.4, c.in-Ok-made.ensures.ok.5) (has_all_parts c.args.parts)

@@ -8,4 +8,5 @@ split_seat-inner-requires g c =
     let v = c.seat.inside.inner.me.0 in
     let free : v.holds ≡ false = ap (λ (s : SeatView g.row.T-Description.Denot). s.holds) c.seat.view_is ∙ c.requires.free in
     let two : 2 ≤ length v.parts = subst (λ (s : SeatView g.row.T-Description.Denot). 2 ≤ length s.parts) (sym c.seat.view_is) c.requires.parts in
-    (search rules, search rules, splits_lock g.T.Job.job g.T.Job.good c.self.inside.table.shared.key.parts (g.T.Job.job c.self.inside.table.shared.key.opening.value) _ v free two)
+    let key = c.self.inside.table.shared.key in
+    (search rules, search rules, splits_lock g.T.Job.job g.T.Job.good key.parts (g.T.Job.job key.opening.value) _ v free two)
