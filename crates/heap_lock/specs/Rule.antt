@@ -1,8 +1,8 @@
--- The rule of the lock, and its eight kinds of step.
+-- The rule of the lock, and its eight kinds of step (docs/HEAP.md, "The heap lock").
 --
 -- A lock is a table of one word and one slot. Word 0 is 0 where the lock is free, and 1 where a seat holds the value. The slot is at home, or it is out with the seat that holds. The table keeps a view of each seat that there ever was.
 --
--- The rule holds between any two steps of its threads. The kinds of step are these; each keeps the rule, and nothing else changes a lock.
+-- The rule holds between any two steps, whichever threads make them. There are these kinds of step. Each keeps the rule, and nothing else changes a lock.
 --   making         `first_view`: word 0 is 0, the slot is at home with the value, and the one view has the job and all the parts, and holds nothing
 --   split          `split_left`, `split_right`: a seat that holds nothing gives its highest part to a new one
 --   join           `joined`, `spent`: a seat gets the parts of another, where neither holds, and the other is spent

@@ -1,4 +1,4 @@
--- What contracts see of a lock and of a seat.
+-- What contracts see of a lock and of a seat (docs/HEAP.md, "The heap lock").
 use Rattle.std.specs.Prelude.{ℕ, Bool, List, Option}
 use Rattle.atomic_table.specs.Seated.{TableId}
 
@@ -7,7 +7,7 @@ pub record LockView : Type 0 where
   pub id : TableId
   pub parts : ℕ
 
--- A seat: of which lock it is, its parts with the highest first, whether it holds the value, and the job of the value. Each seat that a caller has has a job
+-- A seat: of which lock it is, its parts with the highest first, whether it holds the value, and the job of the value. Its job is Some: None is for a seat that was joined to another, and such a seat is gone
 pub record SeatView (J : Type 0) : Type 0 where
   pub lock : TableId
   pub parts : List ℕ

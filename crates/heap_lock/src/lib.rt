@@ -1,4 +1,8 @@
-//! A lock round one value, which a thread takes out with a seat and gives back. Whenever a thread takes it, it is good and of the job that it was made for.
+//! A lock round one value. A thread takes the value out with its seat, and gives it back.
+//! Whenever the value is taken, it is good and of the job that the lock was made for.
+//!
+//! A lock is a table of `atomic_table` with one word and one slot. `specs/Rule.antt` has its rule
+//! and its eight kinds of step, and docs/HEAP.md, "The heap lock", says both in words.
 #![tactic(auto)]
 
 mod job;

@@ -13,10 +13,13 @@ use std::marker::Model;
 use std::snapshot::Snapshot;
 use std::sync::Wait;
 
-/// Want of memory.
+/// Want of memory, the one error of this crate.
 pub type NoMemory = AllocError;
 
-/// A lock round one value of type `T`. While no seat holds the value, the lock has a good value of the job that it was made with.
+/// A lock round one value of type `T`, which threads share by reference. Whenever no seat holds the
+/// value, the lock has a good value of the job that it was made with.
+///
+/// A lock can't be dropped. `close` ends it.
 pub struct HeapLock<T: Job> {
     table: Table<Option<T>, View<T::Description>, Key<T>, LockRule<T>, Global>,
 }
@@ -30,15 +33,22 @@ impl<T: Job> Model for HeapLock<T> {
 }
 
 impl<T: Job> HeapLock<T> {
-    /// Makes a lock round the value, with its first seat.
+    /// Makes a lock round the value, with its first seat, which has all the parts and holds nothing.
     ///
-    /// `parts` is a count: as many seats can there be at once. The seat has all of them, 0 to `parts - 1`.
-    /// At want of memory the value comes back. No other call of a lock or a seat wants memory.
+    /// `parts` is a count, from 1 to 255: at most so many seats can there be at once. The parts
+    /// themselves are the numbers 0 to `parts - 1`.
+    ///
+    /// At want of memory, the only error, the value comes back. No other call takes memory.
     pub fn new(alloc: Global, value: T, parts: u8) -> Result<(HeapLock<T>, Seat<T>), (NoMemory, T)>
         requires good { T.good value }
         requires parts { 1 ≤ parts }
         ensures lock { IfOk result (λ r. r.0.parts ≡ parts) }
-        ensures seat { IfOk result (λ r. r.1 ≡ record { lock = r.0.id; parts = all_parts parts; holds = false; job = Some (T.job value) }) }
+        ensures seat { IfOk result (λ r. r.1 ≡ record {
+          lock = r.0.id;
+          parts = all_parts parts;
+          holds = false;
+          job = Some (T.job value);
+        }) }
         ensures count { IfOk result (λ r. length r.1.parts ≡ parts) }
         ensures all { IfOk result (λ r. HasAllParts r.0.parts r.1.parts) }
         ensures back { IfErr result (λ r. r.1 ≡ value) }
@@ -86,9 +96,11 @@ impl<T: Job> HeapLock<T> {
         shared.exchange(&mut seat.inner, 0, None)
     }
 
-    /// Takes the value out of the lock. It waits until the lock is free, and tries again and again meanwhile.
+    /// Takes the value out of the lock, for the seat to hold until it gives a value back.
     ///
-    /// The value is good and of the seat's job, whatever the other threads did with it. No claim is made that the call returns.
+    /// It tries until it finds the lock free, and lets other threads run in between. In any schedule
+    /// the value is good and of the seat's job. That the call returns is not claimed, and neither is
+    /// any order among threads that wait. It takes no memory.
     pub fn take<Rt: Wait>(&self, rt: &Rt, seat: &mut Seat<T>) -> T
         requires lock { seat.old.lock ≡ self.now.id }
         requires free { seat.old.holds ≡ false }
@@ -105,7 +117,8 @@ impl<T: Job> HeapLock<T> {
         unreachable!()
     }
 
-    /// Puts a value back and frees the lock.
+    /// Puts a value back, which need not be the one that was taken, and frees the lock. It neither
+    /// waits nor takes memory.
     pub fn give(&self, seat: &mut Seat<T>, value: T)
         requires lock { seat.old.lock ≡ self.now.id }
         requires holds { seat.old.holds ≡ true }
@@ -119,7 +132,8 @@ impl<T: Job> HeapLock<T> {
         shared.store::<Give>(&mut seat.inner, 0, 0);
     }
 
-    /// Makes a new seat, which takes over the highest part of the seat. It has the same job and holds nothing.
+    /// Makes a new seat, for another thread. It takes over the highest part of the seat, has the same
+    /// job and holds nothing. Each seat keeps at least one part. It neither waits nor takes memory.
     pub fn split(&self, seat: &mut Seat<T>) -> Seat<T>
         requires lock { seat.old.lock ≡ self.now.id }
         requires free { seat.old.holds ≡ false }
@@ -127,6 +141,7 @@ impl<T: Job> HeapLock<T> {
         ensures seat { seat.new ≡ record seat.old { parts = lower_parts seat.old.parts } }
         ensures new { result ≡ record seat.old { parts = highest_part seat.old.parts } }
         ensures count { length seat.new.parts + 1 ≡ length seat.old.parts }
+        // No part that stays is above the one that goes.
         ensures highest { All (λ part. All (λ other. other ≤ part) seat.new.parts) result.parts }
         // Joined again, the two have the parts that the one had.
         ensures again { merged result.parts seat.new.parts ≡ seat.old.parts }
@@ -135,7 +150,8 @@ impl<T: Job> HeapLock<T> {
         Seat { inner }
     }
 
-    /// Ends the other seat. The seat then has the parts of both.
+    /// Ends the other seat. The seat then has the parts of both, with the highest first. It neither
+    /// waits nor takes memory.
     pub fn join(&self, seat: &mut Seat<T>, other: Seat<T>)
         requires lock { (seat.old.lock ≡ self.now.id) × (other.lock ≡ self.now.id) }
         requires free { (seat.old.holds ≡ false) × (other.holds ≡ false) }
@@ -147,7 +163,7 @@ impl<T: Job> HeapLock<T> {
             .join_seat::<Parts>(&mut seat.inner, other.into_inner());
     }
 
-    // What the slot has, once the lock is gone.
+    // Ends the table, and gives what its slot has.
     fn into_slot(self, seat: Seat<T>) -> Option<T>
         requires lock { seat.lock ≡ self.id }
         requires free { seat.holds ≡ false }
@@ -161,9 +177,9 @@ impl<T: Job> HeapLock<T> {
         value
     }
 
-    /// Ends the lock and the seat, and gives the value for good.
+    /// Ends the lock and the seat, and gives the value for good. It neither waits nor takes memory.
     ///
-    /// The seat has all the parts, so no other seat is left and no thread can hold the value.
+    /// A seat with all the parts is the only one, so where it holds nothing the lock is free.
     pub fn close(self, seat: Seat<T>) -> T
         requires lock { seat.lock ≡ self.id }
         requires free { seat.holds ≡ false }

@@ -1,4 +1,4 @@
-// The rule of the table under a lock, and its kinds of step by name. None of these types has a value.
+// The rule of a lock's table, and names for its kinds of step. No value of these types is made.
 ghost use Rattle.heap_lock.specs.Rule.{FollowsRule, first_view, split_left, split_right, joined, spent, Takes, Gives};
 
 use crate::job::Job;
@@ -6,6 +6,7 @@ use crate::view::{Key, View};
 use atomic_table::{Join, Play, Split, TableRule};
 use std::marker::PhantomData;
 
+/// The rule, for a lock that opens with the key's value and count of parts.
 pub struct LockRule<T> {
     marker: PhantomData<T>,
 }
@@ -16,6 +17,7 @@ impl<T: Job> TableRule<Option<T>, View<T::Description>, Key<T>> for LockRule<T> 
     ghost first = { λ key. first_view key.parts (T.job key.opening.value) };
 }
 
+/// A compare-and-exchange of word 0 from 0 to 1.
 pub struct Take<T> {
     marker: PhantomData<T>,
 }
@@ -24,6 +26,7 @@ impl<T: Job> Play<Option<T>, View<T::Description>> for Take<T> {
     ghost then = { λ step. Takes T.job T.good };
 }
 
+/// A store of 0 in word 0.
 pub struct Give;
 
 impl<T, J> Play<Option<T>, View<J>> for Give {

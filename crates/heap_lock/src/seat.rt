@@ -9,8 +9,10 @@ use std::marker::Model;
 
 /// A thread's right to take the value of a lock. It has no bytes.
 ///
-/// A seat has some of the lock's parts, which are numbers. Who has them all may close the lock. A seat that is dropped
-/// takes its parts with it, and its lock can then never be closed.
+/// A seat has some of the lock's parts, which are numbers from 0 to 254. Each part is with one seat,
+/// so a seat with all of them is the only one, and may close the lock. A seat that is dropped takes
+/// its parts with it: its lock can then never be closed. A seat may move to another thread where the
+/// value may.
 pub struct Seat<T: Job> {
     pub(crate) inner: atomic_table::Seat<Option<T>, View<T::Description>>,
 }
@@ -18,7 +20,9 @@ pub struct Seat<T: Job> {
 impl<T: Job> Model for Seat<T> {
     ghost Value = { SeatView T.Description };
 
-    ghost view = { λ s. record { lock = s.inner.table_id; parts = s.inner.me.0.parts; holds = s.inner.me.0.holds; job = s.inner.me.0.job } };
+    ghost view = { λ s.
+        let v = s.inner.me.0 in
+        record { lock = s.inner.table_id; parts = v.parts; holds = v.holds; job = v.job } };
 
     ghost invariant = { λ s. IsSeat s.inner.me };
 }

@@ -1,15 +1,17 @@
-// What the table under a lock knows of a seat, and what it is told when it is made. No value of either view is ever computed.
+// What the table of a lock knows of a seat, and what it is told when it is made.
+// Both are for proofs: no view is ever made, and a key has no bytes but its count.
 use std::collections::LinkedList;
 use std::snapshot::Snapshot;
 
-/// The view of a seat: its parts, whether it holds the value, and the job of the value. A seat that was joined to another has no parts and no job.
+/// A seat's parts with the highest first, whether it holds the value, and the job of the value.
+/// A seat that was joined to another has no parts and no job.
 pub struct View<J> {
     pub parts: LinkedList<u8>,
     pub holds: bool,
     pub job: Option<J>,
 }
 
-/// How many parts the lock has, and the value that it opens with, whose job is the lock's.
+/// How many parts the lock has, and the value that it opens with. The job of that value is the lock's.
 pub struct Key<T> {
     pub parts: u8,
     pub opening: Snapshot<T>,
