@@ -1,0 +1,18 @@
+//! A lock round one value. A thread takes the value out with its seat, and gives it back.
+//! Whenever the value is taken, it is good and of the job that the lock was made for.
+//!
+//! A lock is a table of `atomic_table` with one word and one slot. `specs/Rule.antt` has its rule
+//! and its eight kinds of step, and docs/HEAP.md, "The heap lock", says both in words.
+#![tactic(auto)]
+
+mod job;
+mod lock;
+mod rule;
+mod seat;
+#[cfg(test)]
+mod tests;
+mod view;
+
+pub use job::Job;
+pub use lock::{HeapLock, NoMemory};
+pub use seat::Seat;

@@ -1,0 +1,18 @@
+// What the table of a lock knows of a seat, and what it is told when it is made.
+// Both are for proofs: no view is ever made, and a key has no bytes but its count.
+use std::collections::LinkedList;
+use std::snapshot::Snapshot;
+
+/// A seat's parts with the highest first, whether it holds the value, and the job of the value.
+/// A seat that was joined to another has no parts and no job.
+pub struct View<J> {
+    pub parts: LinkedList<u8>,
+    pub holds: bool,
+    pub job: Option<J>,
+}
+
+/// How many parts the lock has, and the value that it opens with. The job of that value is the lock's.
+pub struct Key<T> {
+    pub parts: u8,
+    pub opening: Snapshot<T>,
+}
