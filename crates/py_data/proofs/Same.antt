@@ -6,11 +6,8 @@ use Rattle.py_data.specs.Shape.{find}
 use Rattle.py_data.specs.Sense.{Run}
 use Rattle.py_data.specs.declared.stop.Out.TheVariants.{Output, ErrorOutput}
 use Rattle.py_data.specs.Sight.{Sight, Act, Does, Edited, looked_at, edited, made_new, started_one, in_world, pure}
+use Rattle.py_data.specs.Laws.{IsTold}
 use Rattle.py_data.specs.World.{World, IsLine, line_of, shrunk, wrote, took}
-
-pub record IsTold {S : Type 0} (s : Sight S) : Type 0 where
-  pub bytes : List ℕ
-  pub is : s.world.input ≡ Some bytes
 
 -- the names that a call takes
 abbrev pub names_of : {S : Type 0} (c : Call S) → Reply c → List ℕ
@@ -72,6 +69,12 @@ same_new (Take most) r q xs ys zs e = refl
 same_new MidLine r q xs ys zs e = refl
 same_new (SetMidLine mid) r q xs ys zs e = refl
 
+-- the names of a call, of the row behind it and of what comes after both
+names_then : {S A : Type 0} (c : Call S) (w : Row S A) (s : Sight S) (r : Reply c) (m t : Sight S) (y : A) (rest : List ℕ) → Act c s r m → Does w m y t → (more : List ℕ) × (t.made ++ rest ≡ s.made ++ (names_of c r ++ more))
+names_then c w s r m t y rest a d =
+    let p = does_made w m t y d in
+    (p.0 ++ rest, ap (λ l. l ++ rest) (p.1 ∙ ap (λ l. l ++ p.0) (act_made c s r m a) ∙ append_assoc s.made (names_of c r) p.0) ∙ append_assoc s.made (names_of c r ++ p.0) rest ∙ ap (λ l. s.made ++ l) (append_assoc (names_of c r) p.0 rest))
+
 -- two equal records at an address
 one_rec : (o : Option Rec) (r q : Rec) → o ≡ Some r → o ≡ Some q → q ≡ r
 one_rec o r q e f = let g : Some q ≡ Some r = sym f ∙ e in cc
@@ -122,13 +125,13 @@ act_told (Take most) s l t d k = record { bytes = drop (length l) k.bytes; is = 
 act_told MidLine s r t d k = told_by s t (ap (λ t. t.world.input) d.1) k
 act_told (SetMidLine mid) s r t d k = told_by s t (ap (λ t. t.world.input) d) k
 
-pub does_same : {S A : Type 0} (w : Row S A) (s t t' : Sight S) (y y' : A) → IsTold s → Does w s y t → Does w s y' t' → t'.made ≡ t.made → (y' ≡ y) × (t' ≡ t)
+-- two runs of a row whose names are the first of one list
+pub does_along : {S A : Type 0} (w : Row S A) (s t t1 : Sight S) (y y1 : A) (rest rest1 : List ℕ) → IsTold s → Does w s y t → Does w s y1 t1 → t1.made ++ rest1 ≡ t.made ++ rest → (y1 ≡ y) × (t1 ≡ t)
 unfolding Run
-does_same (Ret x) s t t' y y' k d e m = (e.0 ∙ sym d.0, e.1 ∙ sym d.1)
-does_same (Do c f) s t t' y y' k d e m =
-    let p = does_made (f d.0) d.1 t y d.3 in
-    let q = does_made (f e.0) e.1 t' y' e.3 in
-    let names : names_of c e.0 ≡ names_of c d.0 = same_new c d.0 e.0 s.made p.0 q.0
-      (sym (append_assoc s.made (names_of c d.0) p.0) ∙ sym (ap (λ l. l ++ p.0) (act_made c s d.0 d.1 d.2)) ∙ sym p.1 ∙ sym m ∙ q.1 ∙ ap (λ l. l ++ q.0) (act_made c s e.0 e.1 e.2) ∙ append_assoc s.made (names_of c e.0) q.0) in
+does_along (Ret x) s t t1 y y1 rest rest1 k d e m = (e.0 ∙ sym d.0, e.1 ∙ sym d.1)
+does_along (Do c f) s t t1 y y1 rest rest1 k d e m =
+    let p = names_then c (f d.0) s d.0 d.1 t y rest d.2 d.3 in
+    let q = names_then c (f e.0) s e.0 e.1 t1 y1 rest1 e.2 e.3 in
+    let names : names_of c e.0 ≡ names_of c d.0 = same_new c d.0 e.0 s.made p.0 q.0 (sym p.1 ∙ sym m ∙ q.1) in
     let one = act_same c s d.0 e.0 d.1 e.1 k d.2 e.2 names in
-    does_same (f d.0) d.1 t t' y y' (act_told c s d.0 d.1 d.2 k) d.3 (subst (λ z. Run pure (f z) d.1 y' t') one.0 (subst (λ z. Run pure (f e.0) z y' t') one.1 e.3)) m
+    does_along (f d.0) d.1 t t1 y y1 rest rest1 (act_told c s d.0 d.1 d.2 k) d.3 (subst (λ z. Run pure (f z) d.1 y1 t1) one.0 (subst (λ z. Run pure (f e.0) z y1 t1) one.1 e.3)) m

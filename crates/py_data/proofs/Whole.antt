@@ -4,6 +4,7 @@ use Rattle.py_data.specs.declared.stop.Stop.{Stop}
 use Rattle.py_data.specs.declared.stop.Stop.TheVariants.{OutOfMemory}
 use Rattle.py_data.specs.Row.{Call, Reply, Row, Ret, Do, bind}
 use Rattle.py_data.specs.Sense.{Sense, Run, Stopped, Upto}
+use Rattle.py_data.specs.Laws.{StoppedAt}
 
 module _ {S X A : Type 0} (u : Sense S X) (P : X → X → Type 0) (none : (v : X) → P v v) (join : (v m w : X) → P v m → P m w → P v w) where
   pub run_steps : ((c : Call S) (v : X) (r : Reply c) (w : X) → u.does c v r w → P v w) → (row : Row S A) (v : X) (b : A) (w : X) → Run u row v b w → P v w
@@ -42,13 +43,6 @@ module _ {S X Y A : Type 0} (u : Sense S X) (z : Sense S Y) (R : X → Y → Typ
         let more = upto_follows (k d.0) d.1 q w one.0 d.3 one.2 in
         (more.0, inr (d.0, one.0, one.1, more.1), more.2)
   ]
-
--- the place at which a row was stopped, with q left
-pub record StoppedAt {S X A : Type 0} (u : Sense S X) (row : Row S A) (v : X) (e : Stop) (w : X) : Type 0 where
-  pub left : Row S A
-  pub place : X
-  pub upto : Upto u row v left place
-  pub why : ((e ≡ OutOfMemory) × (w ≡ place)) ⊎ ((c : Call S) × (k : Reply c → Row S A) × (left ≡ Do c k) × u.refuses c place e w)
 
 pub stopped_at : {S X A : Type 0} (u : Sense S X) (row : Row S A) (v : X) (e : Stop) (w : X) → Stopped u row v e w → StoppedAt u row v e w
 unfolding Stopped Upto

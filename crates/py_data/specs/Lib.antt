@@ -9,4 +9,5 @@ pub mod Rest
 pub mod World
 pub mod Sight
 pub mod Frames
+pub mod Laws
 pub mod Refusal

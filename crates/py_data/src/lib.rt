@@ -12,7 +12,7 @@ mod value;
 mod view;
 
 pub use collection::{Bytes, Duplicate, Items, Log, Names, NoMemory, Values};
-pub use laws::frame_law;
+pub use laws::{afresh_law, bind_law, frame_law, names_law, stop_law, world_law};
 pub use record::{Entry, Fault, Got, LENGTH_LIMIT, Record, With};
 pub use refusal::{Construct, Refusal};
 pub use stop::{Conflict, Conflicts, Out, Side, Stop};
