@@ -8,3 +8,5 @@ pub mod IsPlainView
 pub mod Turning
 pub mod Ready
 pub mod StepsMirror
+pub mod Along
+pub mod Accept

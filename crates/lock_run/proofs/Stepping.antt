@@ -10,7 +10,7 @@ use Rattle.py_data.specs.Sight.{Sight, Does, opened, pure}
 use Rattle.py_data.specs.World.{World, shrunk, grown}
 use Rattle.py_data.specs.Frames.{Afresh}
 use Rattle.py_data.proofs.Mirror.{does_afresh}
-use Rattle.py_data.proofs.Whole.{StoppedAt, stopped_at}
+use Rattle.py_data.proofs.Whole.{stopped_at}
 use Rattle.stm_io.specs.Outside.{Rose}
 use Rattle.lock_run.specs.declared.client.Outcome.{Outcome}
 use Rattle.lock_run.specs.declared.client.Outcome.TheVariants.{Waits as WaitsNow}
@@ -22,7 +22,7 @@ use Rattle.lock_run.specs.Prog.{Prog}
 use Rattle.lock_run.specs.Client.{Stepped, StepStopped, StaysSound, WaitsQuietly}
 use Rattle.lock_run.specs.PlainState.{PlainState, PlainRefuses, PlainOpens, PlainUndoes, NoName, Why, Steady}
 use Rattle.lock_run.specs.Machine.{Machine, Step, Steps}
-use Rattle.lock_run.specs.Turns.{Stands, Calls, Front, CutIn, LeavesNothing, CutWhy, CutTold, Going}
+use Rattle.lock_run.specs.Turns.{Calls, Front, CutIn, LeavesNothing, CutWhy, Begins, CutTold, Going}
 use Rattle.lock_run.proofs.Following.{IsPlain, Shows, Keeps, keeps_trans, run_shown, upto_shown, run_keeps, upto_keeps, run_upto, upto_none}
 
 -- lists of threads
@@ -114,6 +114,10 @@ module _ {S : Type 0} (p : Prog S) (t k : ℕ) (names : List ℕ) (o e : Option 
   pub nothing_here : LeavesNothing cut_here
   nothing_here = record { world = refl; more = refl; more_err = refl; taken = refl }
 
+  -- the names that were given are the first of those planned
+  pub begins_here : d.free ≡ false → Begins g.sight.made names
+  begins_here f = (d.left, ap (λ l. l ++ d.left) g.made ∙ g.named f)
+
   -- a part of the next step was done and taken back: x is the state at that place, and w the state after the call that was cut
   abbrev pub cut_part : (left : Row S (Outcome × S)) (y : Sight S) (x w d1 : PlainState S) (more more_err : List ℕ) (taken : ℕ)
       → Upto pure (p.row g.after) g.sight left y → Shows o e g.sight.started x y → Keeps (state_opened d) x
@@ -136,6 +140,9 @@ module _ {S : Type 0} (p : Prog S) (t k : ℕ) (names : List ℕ) (o e : Option 
   made_part : (x w d1 : PlainState S) → w.kept ≡ x.kept → Keeps (state_opened d) x → PlainUndoes w d1 → d1.made ≡ g.sight.made
   made_part x w d1 kept kp un = ap (λ z. z.made) un ∙ kept ∙ kp.kept ∙ sym g.made
 
+  begins_part : (x w d1 : PlainState S) → w.free ≡ x.free → Keeps (state_opened d) x → PlainUndoes w d1 → d1.free ≡ false → Begins g.sight.made names
+  begins_part x w d1 free kp un f = begins_here (sym kp.free ∙ sym free ∙ sym (ap (λ z. z.free) un) ∙ f)
+
   -- what is told of a step that was cut
   abbrev Told : PlainState S → TurnWhy → Type 0
   Told d1 why = CutTold p t k names o e m d0 d1 ts why
@@ -145,15 +152,16 @@ module _ {S : Type 0} (p : Prog S) (t k : ℕ) (names : List ℕ) (o e : Option 
       → Upto pure (p.row g.after) g.sight (Do c f) y → Shows o e g.sight.started x y → Keeps (state_opened d) x → PlainRefuses c x MemoryStop w → PlainUndoes w d1
       → Told d1 (memory_why bad)
   refused_memory c f y x w d1 ls false eb up sh kp rf un =
-      (cut_part (Do c f) y x w d1 [] [] 0 up sh kp rf.0.base rf.0.was_mid (rf.1.2.same ∙ sym (grown_none x.out)) (rf.1.3.same ∙ sym (grown_none x.err)) (rf.1.1.same ∙ sym (shrunk_none x.input)) un (inl refl) (inl refl) (inl refl), made_part x w d1 rf.0.kept kp un, tt)
+      (cut_part (Do c f) y x w d1 [] [] 0 up sh kp rf.0.base rf.0.was_mid (rf.1.2.same ∙ sym (grown_none x.out)) (rf.1.3.same ∙ sym (grown_none x.err)) (rf.1.1.same ∙ sym (shrunk_none x.input)) un (inl refl) (inl refl) (inl refl), made_part x w d1 rf.0.kept kp un, tt, begins_part x w d1 rf.0.free kp un)
   refused_memory (Make q) f y x w d1 ls true eb up sh kp rf un =
       let bd : w.bad ≡ true = sym (ap (λ z. z.bad) un) ∙ eb in
       elim rf.1.0 [
         | inl h ↦ absurd (let q : true ≡ false = sym bd ∙ h ∙ kp.bad in cc)
         | inr h ↦ (
           cut_part (Do (Make q) f) y x w d1 [] [] 0 up sh kp rf.0.base rf.0.was_mid (rf.1.2.same ∙ sym (grown_none x.out)) (rf.1.3.same ∙ sym (grown_none x.err)) (rf.1.1.same ∙ sym (shrunk_none x.input)) un (inl refl) (inl refl) (inl refl),
-          made_part x w d1 rf.0.kept kp un, 
-          (ls, ap (λ z. z.free) un ∙ rf.0.free ∙ h.1, q, x.left, (f, refl), ap (λ l. l ++ x.left) sh.made ∙ kp.names (sym kp.free ∙ h.1) ∙ g.named (sym kp.free ∙ h.1), subst (λ (a : Heap). NoName a x.left) (sym sh.heap) h.2))
+          made_part x w d1 rf.0.kept kp un,
+          (ls, ap (λ z. z.free) un ∙ rf.0.free ∙ h.1, q, x.left, (f, refl), ap (λ l. l ++ x.left) sh.made ∙ kp.names (sym kp.free ∙ h.1) ∙ g.named (sym kp.free ∙ h.1), subst (λ (a : Heap). NoName a x.left) (sym sh.heap) h.2),
+          begins_part x w d1 rf.0.free kp un)
       ]
   refused_memory (SetVal a i v) f y x w d1 ls true eb up sh kp rf un = absurd (let q : true ≡ false = sym eb ∙ ap (λ z. z.bad) un ∙ rf.1.0 ∙ kp.bad in cc)
   refused_memory (Push a v) f y x w d1 ls true eb up sh kp rf un = absurd (let q : true ≡ false = sym eb ∙ ap (λ z. z.bad) un ∙ rf.1.0 ∙ kp.bad in cc)
@@ -180,20 +188,20 @@ module _ {S : Type 0} (p : Prog S) (t k : ℕ) (names : List ℕ) (o e : Option 
       let h = rf.1.0 in
       let l : d0.reads ≤ x.reads = let a = g.reads in let b = kp.reads in omega arith in
       (cut_part (Do (Take most) f) y x w d1 [] [] h.0.0 up sh kp rf.0.base rf.0.was_mid (rf.1.1.same ∙ sym (grown_none x.out)) (rf.1.2.same ∙ sym (grown_none x.err)) h.0.1 un (inl refl) (inl refl) (inr (most, (f, refl))),
-        made_part x w d1 rf.0.kept kp un, 
-        (ls, most, (f, refl), rose_by d0.reads x.reads w.reads d1.reads l h.1 (ap (λ z. z.reads) un)))
+        made_part x w d1 rf.0.kept kp un,
+        (ls, most, (f, refl), rose_by d0.reads x.reads w.reads d1.reads l h.1 (ap (λ z. z.reads) un)), begins_part x w d1 rf.0.free kp un)
   refused (Put Output bytes) f y x w d1 ls WriteStop up sh kp rf un =
       let h = rf.1.0 in
       let l : d0.writes ≤ x.writes = let a = g.writes in let b = kp.writes in omega arith in
       (cut_part (Do (Put Output bytes) f) y x w d1 (take h.0.0 bytes) [] 0 up sh kp rf.0.base rf.0.was_mid h.0.1 (rf.1.2.same ∙ sym (grown_none x.err)) (rf.1.1.same ∙ sym (shrunk_none x.input)) un (inr (bytes, h.0.0, (f, refl), refl)) (inl refl) (inl refl),
-        made_part x w d1 rf.0.kept kp un, 
-        (ls, bytes, (f, refl), rose_by d0.writes x.writes w.writes d1.writes l h.1 (ap (λ z. z.writes) un)))
+        made_part x w d1 rf.0.kept kp un,
+        (ls, bytes, (f, refl), rose_by d0.writes x.writes w.writes d1.writes l h.1 (ap (λ z. z.writes) un)), begins_part x w d1 rf.0.free kp un)
   refused (Put ErrorOutput bytes) f y x w d1 ls ErrStop up sh kp rf un =
       let h = rf.1.0 in
       let l : d0.errs ≤ x.errs = let a = g.errs in let b = kp.errs in omega arith in
       (cut_part (Do (Put ErrorOutput bytes) f) y x w d1 [] (take h.0.0 bytes) 0 up sh kp rf.0.base rf.0.was_mid (rf.1.2.same ∙ sym (grown_none x.out)) h.0.1 (rf.1.1.same ∙ sym (shrunk_none x.input)) un (inl refl) (inr (bytes, h.0.0, (f, refl), refl)) (inl refl),
-        made_part x w d1 rf.0.kept kp un, 
-        (ls, bytes, (f, refl), rose_by d0.errs x.errs w.errs d1.errs l h.1 (ap (λ z. z.errs) un)))
+        made_part x w d1 rf.0.kept kp un,
+        (ls, bytes, (f, refl), rose_by d0.errs x.errs w.errs d1.errs l h.1 (ap (λ z. z.errs) un)), begins_part x w d1 rf.0.free kp un)
   refused _ f y x w d1 ls ReadStop up sh kp rf un = absurd rf.1.0
   refused _ f y x w d1 ls WriteStop up sh kp rf un = absurd rf.1.0
   refused _ f y x w d1 ls ErrStop up sh kp rf un = absurd rf.1.0
@@ -222,7 +230,7 @@ module _ {S : Type 0} (p : Prog S) (t k : ℕ) (names : List ℕ) (o e : Option 
               (ap (λ z. z.out) same ∙ sym (grown_none (D at.place).out)) (ap (λ z. z.err) same ∙ sym (grown_none (D at.place).err)) (ap (λ z. z.input) same ∙ sym (shrunk_none (D at.place).input)) un (inl refl) (inl refl) (inl refl) in
             let P : TurnWhy → Type 0 = λ y. Told (D w) y in
             let wy : why_of_stop c (D w).bad ≡ OutOfMemory = ap (λ z. why_of_stop z (D w).bad) own.0 ∙ ap (λ z. memory_why z) bad in
-            subst P (sym wy) (cut, made_part (D at.place) (D w1) (D w) (ap (λ z. z.kept) same) kp un, tt)
+            subst P (sym wy) (cut, made_part (D at.place) (D w1) (D w) (ap (λ z. z.kept) same) kp un, tt, begins_part (D at.place) (D w1) (D w) (ap (λ z. z.free) same) kp un)
         | inr r ↦
             refused r.0 r.1 sh.0 (D at.place) (D w1) (D w) lv c (subst (λ (q : Row S (Outcome × S)). Upto pure (p.row g.after) g.sight q sh.0) r.2 up) sh.2 kp (i.refuses r.0 at.place c w1 r.3) un
       ]
@@ -242,12 +250,13 @@ module _ {S : Type 0} (p : Prog S) (t k : ℕ) (names : List ℕ) (o e : Option 
       let cut : CutIn p t k o e m d1 ts = cut_part (Ret (c, s1)) r.0 (D w) w1 d1 [] [] 0 (run_upto pure (p.row g.after) g.sight (c, s1) r.0 dd) r.2 kp (ap (λ z. z.base) ew) (ap (λ z. z.was_mid) ew)
         (ap (λ z. z.out) ew ∙ sym (grown_none (D w).out)) (ap (λ z. z.err) ew ∙ sym (grown_none (D w).err)) (ap (λ z. z.input) ew ∙ sym (shrunk_none (D w).input)) un (inl refl) (inl refl) (inl refl) in
       let made = made_part (D w) w1 d1 (ap (λ z. z.kept) ew) kp un in
-      ((cut, made, tt), λ quiet ec.
+      let along = begins_part (D w) w1 d1 (ap (λ z. z.free) ew) kp un in
+      ((cut, made, tt, along), λ quiet ec.
         let dw : Does (p.row g.after) g.sight (WaitsNow, s1) r.0 = subst (λ (q : Outcome). Does (p.row g.after) g.sight (q, s1) r.0) ec dd in
         (cut_part (Ret (c, s1)) r.0 (D w) w1 d1 [] [] 0 (run_upto pure (p.row g.after) g.sight (c, s1) r.0 dd) r.2 kp (ap (λ z. z.base) ew) (ap (λ z. z.was_mid) ew)
         (ap (λ z. z.out) ew ∙ sym (grown_none (D w).out)) (ap (λ z. z.err) ew ∙ sym (grown_none (D w).err)) (ap (λ z. z.input) ew ∙ sym (shrunk_none (D w).input)) un (inl refl) (inl refl) (inl refl),
           made,
-          (lv, record { world = (quiet g.after s1 g.sight r.0 dw).1.world; more = refl; more_err = refl; taken = refl }, s1, dw, (quiet g.after s1 g.sight r.0 dw).1)))
+          (lv, record { world = (quiet g.after s1 g.sight r.0 dw).1.world; more = refl; more_err = refl; taken = refl }, s1, dw, (quiet g.after s1 g.sight r.0 dw).1), along))
 
 -- a step leaves a sound list of threads
 pub sound_after : {S X : Type 0} (p : Prog S) (sound : Heap → List S → Type 0) (law : StaysSound p sound) (u : Sense S X) (b : Bracket S X) (D : X → PlainState S) (i : IsPlain u b D)

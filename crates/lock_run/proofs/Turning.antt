@@ -14,7 +14,7 @@ use Rattle.lock_run.specs.declared.turn.TurnWhy.TheVariants.{NotThere, Ended, Wa
 use Rattle.lock_run.specs.Prog.{Prog}
 use Rattle.lock_run.specs.PlainState.{PlainState}
 use Rattle.lock_run.specs.Machine.{Machine, Steps, DoesTurn, machine_after}
-use Rattle.lock_run.specs.Turns.{LockState, Stands, CutIn, LeavesNothing, CutWhy, CutTold, Going, Reach, ReachCut, TurnDone, TurnCut, Rests, FreeDone, FreeCut}
+use Rattle.lock_run.specs.Turns.{LockState, Stands, CutIn, LeavesNothing, CutWhy, Begins, CutTold, Going, Reach, ReachCut, TurnDone, TurnCut, Rests, FreeDone, FreeCut}
 use Rattle.lock_run.proofs.Stepping.{cut_here, get_set, shrunk_none}
 
 slice_none : {A : Type 0} (xs : List A) (t : ℕ) → length xs ≤ t → slice_get xs t ≡ None
@@ -88,12 +88,12 @@ module _ {S : Type 0} (p : Prog S) (thread : ℕ) (a : LockState S) (d1 : PlainS
 
     -- or one of them was not
     pub cuts : (t : Turn) (c : LockState S) (done : ℕ) (why : TurnWhy) → t.thread ≡ thread → Begun a.view d1 (places t.names)
-        → ReachCut p thread t.steps done why (record { view = d1; threads = a.threads }) c → TurnCut p t done why a c
-    cuts t c done why et bg rc = λ o e m st.
+        → ReachCut p thread t.steps done why (record { view = d1; threads = a.threads }) c → c.view.free ≡ false → TurnCut p t done why a c
+    cuts t c done why et bg rc fr = λ o e m st.
         let z = rc.1 (places t.names) o e m a.view (begins (places t.names) o e m st lt bg) in
-        let P : ℕ → Type 0 = λ i. (x : CutIn p i done o e m c.view c.threads) × CutWhy p i done (places t.names) o e m a.view c.view c.threads why x in
-        let y = subst P (sym et) (z.0, z.2) in
-        inr (y.0, inl (rc.0, y.1))
+        let P : ℕ → Type 0 = λ i. (x : CutIn p i done o e m c.view c.threads) × CutWhy p i done (places t.names) o e m a.view c.view c.threads why x × Begins x.sight.made (places t.names) in
+        let y = subst P (sym et) (z.0, z.2, z.3 fr) in
+        inr (y.0, inl (rc.0, y.1), y.2)
 
     -- or names are left
     pub leaves : (t : Turn) (c : LockState S) → t.thread ≡ thread → Begun a.view d1 (places t.names)
@@ -103,13 +103,15 @@ module _ {S : Type 0} (p : Prog S) (thread : ℕ) (a : LockState S) (d1 : PlainS
         let h = head c.view.left more in
         let P : ℕ → Type 0 = λ i. (x : CutIn p i t.steps o e m c.view c.threads) × (x.sight.made ≡ c.view.made) in
         let y = subst P (sym et) (cut_here _ _ _ _ _ _ _ _ _ _ g, g.made) in
-        inr (y.0, inr (refl, refl, h.0, h.1, sym (g.named fr) ∙ ap (λ l. l ++ c.view.left) (sym y.1) ∙ ap (λ l. y.0.sight.made ++ l) h.2))
+        inr (y.0, inr (refl, refl, h.0, h.1, sym (g.named fr) ∙ ap (λ l. l ++ c.view.left) (sym y.1) ∙ ap (λ l. y.0.sight.made ++ l) h.2), (c.view.left, ap (λ l. l ++ c.view.left) y.1 ∙ g.named fr))
 
     -- or the names found no memory
     pub starves : (t : Turn) → t.thread ≡ thread → 1 ≤ t.steps → Begun a.view d1 [] → TurnCut p t 0 OutOfMemory a (record { view = d1; threads = a.threads })
     starves t et some bg = λ o e m st.
-        let P : ℕ → Type 0 = λ i. CutIn p i 0 o e m d1 a.threads in
-        inr (subst P (sym et) (cut_here _ _ _ _ _ _ _ _ _ _ (begins [] o e m st lt bg)), inl (some, tt))
+        let P : ℕ → Type 0 = λ i. (x : CutIn p i 0 o e m d1 a.threads) × (x.sight.made ≡ []) in
+        let g = begins [] o e m st lt bg in
+        let y = subst P (sym et) (cut_here _ _ _ _ _ _ _ _ _ _ g, g.made ∙ ap (λ z. z.made) bg.rest) in
+        inr (y.0, inl (some, tt), (places t.names, ap (λ l. l ++ places t.names) y.1))
 
 -- or there is no such thread
 pub lacks : {S : Type 0} (p : Prog S) (t : Turn) (a : LockState S) → length a.threads ≤ t.thread → TurnCut p t 0 NotThere a a

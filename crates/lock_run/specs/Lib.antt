@@ -9,5 +9,6 @@ pub mod Prog
 pub mod Client
 pub mod Machine
 pub mod Turns
+pub mod TurnLaws
 pub mod LockState
 pub mod Whys

@@ -90,9 +90,15 @@ CutWhy p t done names o e m d d1 ts1 WriteFault c = (p.life c.after ≡ Lives) �
 CutWhy p t done names o e m d d1 ts1 ErrFault c = (p.life c.after ≡ Lives) × (bytes : List ℕ) × Calls c.left (Put ErrorOutput bytes) × Rose d.errs d1.errs
 CutWhy p t done names o e m d d1 ts1 OutOfMemory c = Unit {0}
 
--- what is told of steps that were cut: how much stays, with the names that it gave, and why
+-- a list is the beginning of another
+abbrev pub Begins : List ℕ → List ℕ → Type 0
+Begins xs names = (rest : List ℕ) × (xs ++ rest ≡ names)
+
+-- What is told of steps that were cut: how much stays, with the names that it gave, and why. Where names are planned, those
+-- that were given are the first of them.
 abbrev pub CutTold : {S : Type 0} (p : Prog S) (t done : ℕ) (names : List ℕ) (o e : Option (List ℕ)) (m : Machine S) (d d1 : PlainState S) (ts1 : List S) → TurnWhy → Type 0
-CutTold p t done names o e m d d1 ts1 why = (c : CutIn p t done o e m d1 ts1) × (d1.made ≡ c.sight.made) × CutWhy p t done names o e m d d1 ts1 why c
+CutTold p t done names o e m d d1 ts1 why =
+    (c : CutIn p t done o e m d1 ts1) × (d1.made ≡ c.sight.made) × CutWhy p t done names o e m d d1 ts1 why c × (d1.free ≡ false → Begins c.sight.made names)
 
 -- After k steps of the thread, from a turn's beginning at d0: the state and the threads show what the steps left.
 pub record Going {S : Type 0} (p : Prog S) (t k : ℕ) (names : List ℕ) (o e : Option (List ℕ)) (m : Machine S) (d0 d : PlainState S) (ts : List S) : Type 0 where
@@ -133,14 +139,16 @@ ReachCut {S} p t steps done why a b =
     (done < steps) × ((names : List ℕ) (o e : Option (List ℕ)) (m : Machine S) (d0 : PlainState S) → Going p t 0 names o e m d0 a.view a.threads
       → CutTold p t done names o e m d0 b.view b.threads why)
 
--- A turn that was cut: there is no such thread; or all steps were done and names are left; or the next step wasn't done.
+-- A turn that was cut: there is no such thread; or all steps were done and names are left; or the next step wasn't done. The
+-- steps that stay gave the first of the turn's names.
 abbrev pub TurnCut : {S : Type 0} → Prog S → Turn → ℕ → TurnWhy → LockState S → LockState S → Type 0
 TurnCut {S} p t done why a b =
     (o e : Option (List ℕ)) (m : Machine S) → Stands o e a.view a.threads m →
       ((why ≡ NotThere) × (done ≡ 0) × (slice_get m.threads t.thread ≡ None) × Stands o e b.view b.threads m)
       ⊎ ((c : CutIn p t.thread done o e m b.view b.threads)
         × (((done < t.steps) × CutWhy p t.thread done (places t.names) o e m a.view b.view b.threads why c)
-          ⊎ ((done ≡ t.steps) × (why ≡ BadNames) × (n : ℕ) × (rest : List ℕ) × (places t.names ≡ c.sight.made ++ n ∷ rest))))
+          ⊎ ((done ≡ t.steps) × (why ≡ BadNames) × (n : ℕ) × (rest : List ℕ) × (places t.names ≡ c.sight.made ++ n ∷ rest)))
+        × Begins c.sight.made (places t.names))
 
 -- the thread has ended, or its next step waits
 pub record Rests {S : Type 0} (p : Prog S) (m : Machine S) (t : ℕ) : Type 0 where

@@ -5,6 +5,7 @@ mod change;
 mod client;
 mod find;
 mod given;
+mod laws;
 mod machine;
 mod plain;
 mod space;
@@ -12,6 +13,7 @@ mod threads;
 mod turn;
 
 pub use client::{Client, Life, Outcome};
+pub use laws::{accept_law, run_law, turn_law};
 pub use machine::LockRun;
 pub use plain::PlainView;
 pub use turn::{History, Turn, TurnFault, TurnWhy};

@@ -1,12 +1,13 @@
 -- The names decide what a row does, where the source tells its bytes.
-use Rattle.std.proofs.Common.{◌≡◌, ◌⊎◌, ℕ, Bool, true, false, List, [], ◌∷◌, ◌++◌, length, drop, Option, Some, None, refl, sym, ◌∙◌, ap, subst, append_assoc, append-nil}
+use Rattle.std.proofs.Common.{◌≡◌, ◌⊎◌, inl, inr, ℕ, Bool, true, false, List, [], ◌∷◌, ◌++◌, length, drop, Option, Some, None, refl, sym, ◌∙◌, ap, subst, append_assoc, append-nil}
 use Rattle.py_data.specs.Heap.{Rec, with_value, with_push, cut_to, with_pair, without_pair}
 use Rattle.py_data.specs.Row.{Call, Reply, Row, Ret, Do, Read, Find, SetVal, Push, Truncate, PushPair, DropPair, Make, Start, Put, Take, MidLine, SetMidLine}
 use Rattle.py_data.specs.Shape.{find}
-use Rattle.py_data.specs.Sense.{Run}
+use Rattle.py_data.specs.Sense.{Run, Upto}
 use Rattle.py_data.specs.declared.stop.Out.TheVariants.{Output, ErrorOutput}
 use Rattle.py_data.specs.Sight.{Sight, Act, Does, Edited, looked_at, edited, made_new, started_one, in_world, pure}
 use Rattle.py_data.specs.Laws.{IsTold}
+use Rattle.py_data.proofs.Whole.{run_steps, upto_steps}
 use Rattle.py_data.specs.World.{World, IsLine, line_of, shrunk, wrote, took}
 
 -- the names that a call takes
@@ -69,11 +70,10 @@ same_new (Take most) r q xs ys zs e = refl
 same_new MidLine r q xs ys zs e = refl
 same_new (SetMidLine mid) r q xs ys zs e = refl
 
--- the names of a call, of the row behind it and of what comes after both
-names_then : {S A : Type 0} (c : Call S) (w : Row S A) (s : Sight S) (r : Reply c) (m t : Sight S) (y : A) (rest : List ℕ) → Act c s r m → Does w m y t → (more : List ℕ) × (t.made ++ rest ≡ s.made ++ (names_of c r ++ more))
-names_then c w s r m t y rest a d =
-    let p = does_made w m t y d in
-    (p.0 ++ rest, ap (λ l. l ++ rest) (p.1 ∙ ap (λ l. l ++ p.0) (act_made c s r m a) ∙ append_assoc s.made (names_of c r) p.0) ∙ append_assoc s.made (names_of c r ++ p.0) rest ∙ ap (λ l. s.made ++ l) (append_assoc (names_of c r) p.0 rest))
+-- the names of a call, of what is done behind it and of what comes after both
+names_then : {S : Type 0} (c : Call S) (s : Sight S) (r : Reply c) (m t : Sight S) (more rest : List ℕ) → Act c s r m → t.made ≡ m.made ++ more → t.made ++ rest ≡ s.made ++ (names_of c r ++ (more ++ rest))
+names_then c s r m t more rest a e =
+    ap (λ l. l ++ rest) (e ∙ ap (λ l. l ++ more) (act_made c s r m a) ∙ append_assoc s.made (names_of c r) more) ∙ append_assoc s.made (names_of c r ++ more) rest ∙ ap (λ l. s.made ++ l) (append_assoc (names_of c r) more rest)
 
 -- two equal records at an address
 one_rec : (o : Option Rec) (r q : Rec) → o ≡ Some r → o ≡ Some q → q ≡ r
@@ -125,13 +125,39 @@ act_told (Take most) s l t d k = record { bytes = drop (length l) k.bytes; is = 
 act_told MidLine s r t d k = told_by s t (ap (λ t. t.world.input) d.1) k
 act_told (SetMidLine mid) s r t d k = told_by s t (ap (λ t. t.world.input) d) k
 
--- two runs of a row whose names are the first of one list
+-- a call of both of two ways to do a row is the same where the names of both are the first of one list
+one_call : {S : Type 0} (c : Call S) (s : Sight S) (r q : Reply c) (m n t z : Sight S) (more more1 rest rest1 : List ℕ) → IsTold s → Act c s r m → Act c s q n → t.made ≡ m.made ++ more → z.made ≡ n.made ++ more1
+    → z.made ++ rest1 ≡ t.made ++ rest → (q ≡ r) × (n ≡ m)
+one_call c s r q m n t z more more1 rest rest1 k d e f g h =
+    act_same c s r q m n k d e (same_new c r q s.made (more ++ rest) (more1 ++ rest1) (sym (names_then c s r m t more rest d f) ∙ sym h ∙ names_then c s q n z more1 rest1 e g))
+
+pub does_told : {S A : Type 0} (w : Row S A) (s t : Sight S) (y : A) → Does w s y t → IsTold s → IsTold t
+does_told w s t y d = run_steps pure (λ s t. IsTold s → IsTold t) (λ s k. k) (λ s m t f g k. g (f k)) (λ c s r t. act_told c s r t) w s y t d
+
+pub upto_made : {S A : Type 0} (w q : Row S A) (s t : Sight S) → Upto pure w s q t → (rest : List ℕ) × (t.made ≡ s.made ++ rest)
+upto_made w q s t d =
+    upto_steps pure (λ s t. (rest : List ℕ) × (t.made ≡ s.made ++ rest)) (λ s. ([], sym (append-nil s.made)))
+      (λ s m t f g. (f.0 ++ g.0, g.1 ∙ ap (λ l. l ++ g.0) f.1 ∙ append_assoc s.made f.0 g.0)) (λ c s r t a. (names_of c r, act_made c s r t a)) w s q t d
+
+-- two ways to do a row whose names are the first of one list
 pub does_along : {S A : Type 0} (w : Row S A) (s t t1 : Sight S) (y y1 : A) (rest rest1 : List ℕ) → IsTold s → Does w s y t → Does w s y1 t1 → t1.made ++ rest1 ≡ t.made ++ rest → (y1 ≡ y) × (t1 ≡ t)
 unfolding Run
 does_along (Ret x) s t t1 y y1 rest rest1 k d e m = (e.0 ∙ sym d.0, e.1 ∙ sym d.1)
 does_along (Do c f) s t t1 y y1 rest rest1 k d e m =
-    let p = names_then c (f d.0) s d.0 d.1 t y rest d.2 d.3 in
-    let q = names_then c (f e.0) s e.0 e.1 t1 y1 rest1 e.2 e.3 in
-    let names : names_of c e.0 ≡ names_of c d.0 = same_new c d.0 e.0 s.made p.0 q.0 (sym p.1 ∙ sym m ∙ q.1) in
-    let one = act_same c s d.0 e.0 d.1 e.1 k d.2 e.2 names in
+    let p = does_made (f d.0) d.1 t y d.3 in
+    let q = does_made (f e.0) e.1 t1 y1 e.3 in
+    let one = one_call c s d.0 e.0 d.1 e.1 t t1 p.0 q.0 rest rest1 k d.2 e.2 p.1 q.1 m in
     does_along (f d.0) d.1 t t1 y y1 rest rest1 (act_told c s d.0 d.1 d.2 k) d.3 (subst (λ z. Run pure (f z) d.1 y1 t1) one.0 (subst (λ z. Run pure (f e.0) z y1 t1) one.1 e.3)) m
+
+-- a row that was begun along the names with which it can be done: what is left of it leads to the same end
+pub upto_along : {S A : Type 0} (w q : Row S A) (s z t : Sight S) (y : A) (rest rest1 : List ℕ) → IsTold s → Does w s y t → Upto pure w s q z → z.made ++ rest1 ≡ t.made ++ rest → Does q z y t
+unfolding Run Upto
+upto_along {S} (Ret x) q s z t y rest rest1 k d u m = subst (λ (v : Row S _). Run pure v z y t) (sym u.0) (subst (λ (v : Sight S). Run pure (Ret x) v y t) (sym u.1) d)
+upto_along {S} (Do c f) q s z t y rest rest1 k d u m = elim u [
+  | inl e ↦ subst (λ (v : Row S _). Run pure v z y t) (sym e.0) (subst (λ (v : Sight S). Run pure (Do c f) v y t) (sym e.1) d)
+  | inr e ↦
+      let p = does_made (f d.0) d.1 t y d.3 in
+      let g = upto_made (f e.0) q e.1 z e.3 in
+      let one = one_call c s d.0 e.0 d.1 e.1 t z p.0 g.0 rest rest1 k d.2 e.2 p.1 g.1 m in
+      upto_along (f d.0) q d.1 z t y rest rest1 (act_told c s d.0 d.1 d.2 k) d.3 (subst (λ v. Upto pure (f v) d.1 q z) one.0 (subst (λ v. Upto pure (f e.0) v q z) one.1 e.3)) m
+]
