@@ -218,37 +218,51 @@ pub act_mirror : {S : Type 0} (fr : Frame S) (c : Call S) (s s' : Sight S) (r : 
 act_mirror fr (Read a) s s' r m d mi g = at_end fr (Read a) s s' r m (looked_at a r s) d.1 (λ g. (looked_at a r s', (look_there fr s s' a r d.0 mi g, refl), mirror_look fr s s' a r mi)) g
 act_mirror fr (Find a key) s s' o m d mi g =
     at_end fr (Find a key) s s' o m (looked_at a d.0 s) d.4 (λ g.
-      let fx = fixed_there fr s s' (looked_at a d.0 s) mi g in
-      let k = d.2 in
-      (looked_at a d.0 s', (d.0, look_there fr s s' a d.0 d.1 mi g, (k.0, key_there s.heap s'.heap fx key k.1, pairs_there s.heap s'.heap fx d.0.values k.2),
-        d.3 ∙ sym (find_there s.heap s'.heap fx 0 d.0.values key k.2 k.1), refl), mirror_look fr s s' a d.0 mi)) g
+    let fx = fixed_there fr s s' (looked_at a d.0 s) mi g in
+    let k = d.2 in (
+      looked_at a d.0 s',
+      (
+        d.0,
+        look_there fr s s' a d.0 d.1 mi g,
+        (k.0, key_there s.heap s'.heap fx key k.1, pairs_there s.heap s'.heap fx d.0.values k.2),
+        d.3 ∙ sym (find_there s.heap s'.heap fx 0 d.0.values key k.2 k.1),
+        refl,
+      ),
+      mirror_look fr s s' a d.0 mi,
+    )) g
 act_mirror fr (SetVal a i v) s s' r m d mi g = mirror_edited fr a _ (with_value i v) s s' m d mi g
 act_mirror fr (Push a v) s s' r m d mi g = mirror_edited fr a _ (with_push v) s s' m d mi g
 act_mirror fr (Truncate a n) s s' r m d mi g = mirror_edited fr a _ (cut_to n) s s' m d mi g
 act_mirror fr (PushPair a key v) s s' r m d mi g = mirror_edited fr a _ (with_pair key v) s s' m d mi g
 act_mirror fr (DropPair a n) s s' r m d mi g = mirror_edited fr a _ (without_pair n) s s' m d mi g
 act_mirror fr (Make q) s s' n m d mi g =
-    at_end fr (Make q) s s' n m (made_new n q s) d.1 (λ g.
-      (made_new n q s', (elim (cases_Bool (s.touched n)) [
-        | inl y ↦ mi.inside n y ∙ d.0
-        | inr y ↦ mi.outside n y ∙ g.fresh n y (or_left (eqb n n) (s.touched n) (eq-eqb n n refl)) d.0
-      ], refl), mirror_make fr s s' n q mi)) g
+    at_end fr (Make q) s s' n m (made_new n q s) d.1 (λ g. (
+      made_new n q s',
+      (
+        elim (cases_Bool (s.touched n)) [
+          | inl y ↦ mi.inside n y ∙ d.0
+          | inr y ↦ mi.outside n y ∙ g.fresh n y (or_left (eqb n n) (s.touched n) (eq-eqb n n refl)) d.0
+        ],
+        refl,
+      ),
+      mirror_make fr s s' n q mi,
+    )) g
 act_mirror fr (Start p) s s' r m d mi g = at_end fr (Start p) s s' r m (started_one p s) d (λ g. (started_one p s', refl, mirror_start fr s s' p mi)) g
 act_mirror fr (Put on bytes) s s' r m d mi g =
     at_end fr (Put on bytes) s s' r m (in_world (wrote on bytes s.world) s) d (λ g.
-      (in_world (wrote on bytes s'.world) s', refl, mirror_in_world fr s s' _ _ (ap (wrote on bytes) (mirror_world fr s s' (in_world (wrote on bytes s.world) s) mi g refl)) mi)) g
+    (in_world (wrote on bytes s'.world) s', refl, mirror_in_world fr s s' _ _ (ap (wrote on bytes) (mirror_world fr s s' (in_world (wrote on bytes s.world) s) mi g refl)) mi)) g
 act_mirror fr (Take most) s s' l m d mi g =
     at_end fr (Take most) s s' l m (in_world (took l s.world) s) d.1 (λ g.
-      let e = mirror_world fr s s' (in_world (took l s.world) s) mi g refl in
-      (in_world (took l s'.world) s', (subst (λ (w : World). IsLine w.input most l) (sym e) d.0, refl), mirror_in_world fr s s' _ _ (ap (took l) e) mi)) g
+    let e = mirror_world fr s s' (in_world (took l s.world) s) mi g refl in
+    (in_world (took l s'.world) s', (subst (λ (w : World). IsLine w.input most l) (sym e) d.0, refl), mirror_in_world fr s s' _ _ (ap (took l) e) mi)) g
 act_mirror fr MidLine s s' mid m d mi g =
     at_end fr MidLine s s' mid m (in_world s.world s) d.1 (λ g.
-      let e = mirror_world fr s s' (in_world s.world s) mi g refl in
-      (in_world s'.world s', (d.0 ∙ ap (λ (w : World). w.mid) (sym e), refl), mirror_in_world fr s s' _ _ e mi)) g
+    let e = mirror_world fr s s' (in_world s.world s) mi g refl in
+    (in_world s'.world s', (d.0 ∙ ap (λ (w : World). w.mid) (sym e), refl), mirror_in_world fr s s' _ _ e mi)) g
 act_mirror fr (SetMidLine mid) s s' r m d mi g =
     at_end fr (SetMidLine mid) s s' r m (in_world (record s.world { mid = mid }) s) d (λ g.
-      let e = mirror_world fr s s' (in_world (record s.world { mid = mid }) s) mi g refl in
-      (in_world (record s'.world { mid = mid }) s', refl, mirror_in_world fr s s' _ _ (ap (λ (w : World). record w { mid = mid }) e) mi)) g
+    let e = mirror_world fr s s' (in_world (record s.world { mid = mid }) s) mi g refl in
+    (in_world (record s'.world { mid = mid }) s', refl, mirror_in_world fr s s' _ _ (ap (λ (w : World). record w { mid = mid }) e) mi)) g
 
 -- and a row
 abbrev pub Mirrored : {S A : Type 0} → Frame S → Row S A → Sight S → A → Sight S → Type 0

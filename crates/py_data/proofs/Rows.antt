@@ -90,7 +90,6 @@ module _ {S X A : Type 0} {u : Sense S X} where
   unfolding Safe
   safe-next L p c k v m r s d = s.1 r (u.heap m) (L.effect c v r m d)
 
-
 module _ {S X A : Type 0} (u : Sense S X) where
   pub meets-ret : (a : A) (v : X) → Meets u (Ret a) v v (Ok a)
   unfolding Meets

@@ -137,7 +137,7 @@ does_told w s t y d = run_steps pure (λ s t. IsTold s → IsTold t) (λ s k. k)
 pub upto_made : {S A : Type 0} (w q : Row S A) (s t : Sight S) → Upto pure w s q t → (rest : List ℕ) × (t.made ≡ s.made ++ rest)
 upto_made w q s t d =
     upto_steps pure (λ s t. (rest : List ℕ) × (t.made ≡ s.made ++ rest)) (λ s. ([], sym (append-nil s.made)))
-      (λ s m t f g. (f.0 ++ g.0, g.1 ∙ ap (λ l. l ++ g.0) f.1 ∙ append_assoc s.made f.0 g.0)) (λ c s r t a. (names_of c r, act_made c s r t a)) w s q t d
+    (λ s m t f g. (f.0 ++ g.0, g.1 ∙ ap (λ l. l ++ g.0) f.1 ∙ append_assoc s.made f.0 g.0)) (λ c s r t a. (names_of c r, act_made c s r t a)) w s q t d
 
 -- two ways to do a row whose names are the first of one list
 pub does_along : {S A : Type 0} (w : Row S A) (s t t1 : Sight S) (y y1 : A) (rest rest1 : List ℕ) → IsTold s → Does w s y t → Does w s y1 t1 → t1.made ++ rest1 ≡ t.made ++ rest → (y1 ≡ y) × (t1 ≡ t)

@@ -3,6 +3,7 @@ use Rattle.std.specs.Prelude.{ℕ}
 use Rattle.py_data.specs.declared.refusal.Refusal.{Refusal}
 use Rattle.py_data.specs.declared.refusal.Refusal.TheVariants.{BadCharacter, BadDedent, OpenString, NumberWide, Unexpected, LeftOut, Deep, Misplaced, Doubled, Closure, TooLarge, BadEscape}
 
+-- the number of a refusal, from 1 to 12
 abbrev pub refusal_number : Refusal → ℕ
 refusal_number (BadCharacter line) = 1
 refusal_number (BadDedent line) = 2
@@ -17,6 +18,7 @@ refusal_number (Closure line) = 10
 refusal_number (TooLarge line) = 11
 refusal_number (BadEscape line) = 12
 
+-- the line of the refused place, from 1
 abbrev pub refusal_line : Refusal → ℕ
 refusal_line (BadCharacter line) = line
 refusal_line (BadDedent line) = line

@@ -1,4 +1,5 @@
--- What is left of a row in the middle of it.
+-- What is left of a row in the middle of it: for proofs of operations that go through a row call by call. States
+-- `docs/HEAP.md`, "Rows".
 use Rattle.std.specs.Prelude.{◌≡◌, ℕ, Result, Some}
 use Rattle.py_data.specs.Heap.{Rec, Has, at}
 use Rattle.py_data.specs.declared.stop.Stop.{Stop}

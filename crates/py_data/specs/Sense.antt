@@ -1,4 +1,5 @@
--- What a view says of itself, and when code over a view has done what a row means.
+-- What a view says of itself, which of its calls may be made and refused, and when code over a view has done what a row means.
+-- States `docs/HEAP.md`, "Views", "Rows" and "Stops".
 use Rattle.std.specs.Prelude.{◌≡◌, ◌⊎◌, ℕ, ◌+◌, ◌*◌, ◌<◌, ◌≤◌, Bool, true, false, List, length, Option, Some, None, Result, Ok, Err, MatchOption}
 use Rattle.py_data.specs.declared.value.Value.{Value}
 use Rattle.py_data.specs.declared.value.Kind.{Kind}
@@ -13,13 +14,13 @@ use Rattle.py_data.specs.Row.{Call, Reply, Row, Ret, Do, Read, Find, SetVal, Pus
 
 -- X is the type of the view.
 pub record Sense (S X : Type 0) : Type 1 where
-  pub heap : X → Heap                                  -- the records that it shows
-  pub partial : Bool                                   -- it may be asked for a record that it doesn't show
-  pub stopped : X → Option Stop                        -- the Stop that it gave since `open_step`
-  pub can_stop : Stop → Bool                           -- the Stops that it can give
-  pub does : (c : Call S) → X → Reply c → X → Type 0   -- what a call answers and leaves
-  pub refuses : Call S → X → Stop → X → Type 0         -- with which Stop a call may be refused, and what that leaves
-  pub seen : ℕ → X → Type 0                            -- the record was looked at, or a look at it isn't tracked
+  pub heap : X → Heap  -- the records that it shows
+  pub partial : Bool  -- it may be asked for a record that it doesn't show
+  pub stopped : X → Option Stop  -- the Stop that it gave since `open_step`
+  pub can_stop : Stop → Bool  -- the Stops that it can give
+  pub does : (c : Call S) → X → Reply c → X → Type 0  -- what a call answers and leaves
+  pub refuses : Call S → X → Stop → X → Type 0  -- with which Stop a call may be refused, and what that leaves
+  pub seen : ℕ → X → Type 0  -- the record was looked at, or a look at it isn't tracked
 
 -- another record in the place of one
 abbrev pub Edits : ℕ → (Rec → Rec) → Heap → Heap → Type 0
@@ -77,7 +78,7 @@ unfoldable pub Safe : {S A : Type 0} → Bool → Row S A → Heap → Type 0
 Safe p (Ret a) h = Unit {0}
 Safe p (Do c k) h = Asks p c h × ((r : Reply c) (h1 : Heap) → Effect c h r h1 → Safe p (k r) h1)
 
--- the Stops with which each call can be refused
+-- a change: any Stop but the faults of devices and the need to be solo
 abbrev pub can_refuse_change : Stop → Bool
 can_refuse_change ReadFault = false
 can_refuse_change WriteFault = false
@@ -85,15 +86,18 @@ can_refuse_change ErrFault = false
 can_refuse_change NeedSolo = false
 can_refuse_change _ = true
 
+-- making a record: as a change, but it loses no conflict, since no other transaction sees a new record
 abbrev pub can_refuse_make : Stop → Bool
 can_refuse_make (Lost c) = false
 can_refuse_make e = can_refuse_change e
 
+-- a look, and a thread to be started: a record that is not among those given, or no memory
 abbrev pub can_refuse_look : Stop → Bool
 can_refuse_look NeedHeap = true
 can_refuse_look OutOfMemory = true
 can_refuse_look _ = false
 
+-- printing and taking input: the step isn't solo, there is no memory, or the device's own fault
 abbrev pub can_refuse_put : Stop → Stop → Bool
 can_refuse_put fault NeedSolo = true
 can_refuse_put fault OutOfMemory = true
@@ -102,6 +106,7 @@ can_refuse_put ErrFault ErrFault = true
 can_refuse_put ReadFault ReadFault = true
 can_refuse_put fault e = false
 
+-- which Stop each call can meet, over any view
 abbrev pub can_refuse : {S : Type 0} → Call S → Stop → Bool
 can_refuse (Read a) e = can_refuse_look e
 can_refuse (Find d key) e = can_refuse_look e
@@ -141,14 +146,16 @@ module _ {S X : Type 0} (u : Sense S X) where
   Upto (Ret a) v q w = (q ≡ Ret a) × (w ≡ v)
   Upto (Do c k) v q w = ((q ≡ Do c k) × (w ≡ v)) ⊎ ((r : Reply c) × (m : X) × u.does c v r m × Upto (k r) m q w)
 
+  -- no Stop was given since the step was opened
   abbrev pub IsLive : X → Type 0
   IsLive v = u.stopped v ≡ None
 
-  -- the clause of a method that looks at a record, and of one that does a call
+  -- the clause of a method that looks at a record, and shows f of it
   abbrev pub Shows : {A : Type 0} → ℕ → (Rec → A) → X → X → Result A Stop → Type 0
   Shows a f v w (Ok x) = u.does (Read a) v (at (u.heap v) a) w × (x ≡ f (at (u.heap v) a))
   Shows a f v w (Err e) = u.refuses (Read a) v e w
 
+  -- the clause of a method that does a call: f makes the call's reply of the method's answer
   abbrev pub Answers : (c : Call S) {A : Type 0} → (A → Reply c) → X → X → Result A Stop → Type 0
   Answers c f v w (Ok x) = u.does c v (f x) w
   Answers c f v w (Err e) = u.refuses c v e w
@@ -177,11 +184,12 @@ pub record Lawful {S X : Type 0} (u : Sense S X) : Type 0 where
 
 -- How a view brackets a step.
 pub record Bracket (S X : Type 0) : Type 1 where
-  pub base : X → Heap             -- the records as they were when the step was opened
-  pub solo : X → Bool             -- it may print, and set the flag
+  pub base : X → Heap  -- the records as they were when the step was opened
+  pub solo : X → Bool  -- it may print, and set the flag
   pub opens : X → X → Type 0
   pub undoes : X → X → Type 0
 
+-- what holds of the brackets of each view: calls keep the base, a step opens over it, and taking the step back gives it again
 pub record IsBracket {S X : Type 0} (u : Sense S X) (b : Bracket S X) : Type 0 where
   pub keeps : (c : Call S) (v : X) (r : Reply c) (w : X) → u.does c v r w → (b.base w ≡ b.base v) × (b.solo w ≡ b.solo v)
   pub keeps_refused : (c : Call S) (v : X) (e : Stop) (w : X) → u.refuses c v e w → (b.base w ≡ b.base v) × (b.solo w ≡ b.solo v)

@@ -1,4 +1,5 @@
--- Keys of dictionaries, and the shape that a record of each kind has.
+-- Which values can be keys, when two keys are equal, and the shape of the values of each kind of record. States
+-- `docs/HEAP.md`, "Keys" and "Shapes".
 use Rattle.std.specs.Prelude.{nat_eq, ◌≡◌, ◌≢◌, ◌⊎◌, ℕ, ℤ, pos, negsuc, ◌+ℤ◌, ◌*ℤ◌, ◌≤ℤ◌, ◌+◌, ◌*◌, ◌<◌, ◌≤◌, zero, suc, Bool, true, false, cond, List, [], ◌∷◌, length, Option, Some, None, eqb, ◌||◌, ◌&&◌}
 use Rattle.std.specs.Ordering.{int_eq}
 use lib.Pointwise.{pointwise}
@@ -13,23 +14,26 @@ abbrev pub text_by : Kind → List ℕ → Option (List ℕ)
 text_by Str bs = Some bs
 text_by _ bs = None
 
+-- the bytes of the string at an address, if a string is there
 abbrev pub text_in : Option Rec → Option (List ℕ)
 text_in None = None
 text_in (Some r) = text_by r.kind r.bytes
 
+-- the same bytes in the same order
 abbrev pub same_bytes : List ℕ → List ℕ → Bool
 same_bytes xs ys = pointwise nat_eq xs ys
 
--- strings by bytes, other records by identity
+-- two addresses as keys: strings are equal by their bytes, other records by identity
 abbrev pub same_text : Bool → Option (List ℕ) → Option (List ℕ) → Bool
 same_text same (Some xs) (Some ys) = same_bytes xs ys
 same_text same _ _ = same
 
--- numbers by value, where a truth value is 0 or 1; strings by bytes; all else by identity
+-- a truth value as a number
 abbrev pub bit : Bool → ℤ
 bit true = pos 1
 bit false = pos 0
 
+-- equal keys: numbers by value, where a truth value is 0 or 1; strings by bytes; all else by identity
 abbrev pub same_key : Heap → Value → Value → Bool
 same_key h (Int i) (Int j) = int_eq i j
 same_key h (Int i) (BoolValue b) = int_eq i (bit b)
@@ -46,9 +50,11 @@ find_from h n [] key = None
 find_from h n (k ∷ []) key = None
 find_from h n (k ∷ v ∷ rest) key = cond (same_key h k key) (Some n) (find_from h (n + 1) rest key)
 
+-- the least number of a pair whose key is equal: the place of a key in a dictionary
 abbrev pub find : Heap → List Value → Value → Option ℕ
 find h values key = find_from h 0 values key
 
+-- a record of these kinds can be a key
 abbrev pub is_key_kind : Kind → Bool
 is_key_kind Str = true
 is_key_kind Function = true
@@ -56,6 +62,7 @@ is_key_kind Class = true
 is_key_kind Instance = true
 is_key_kind _ = false
 
+-- a record is there, and its kind has this property
 abbrev pub KindIn : Option Rec → (Kind → Type 0) → Type 0
 KindIn None p = ⊥
 KindIn (Some r) p = p r.kind
@@ -81,18 +88,22 @@ KeysDiffer h [] = Unit {0}
 KeysDiffer h (k ∷ []) = Unit {0}
 KeysDiffer h (k ∷ v ∷ rest) = (find h rest k ≡ None) × KeysDiffer h rest
 
+-- the address of a record of this kind
 abbrev pub RefTo : Heap → Kind → Value → Type 0
 RefTo h k (Ref a) = KindIn (h a.0) (λ q. q ≡ k)
 RefTo h k _ = ⊥
 
+-- a whole number that is not negative
 abbrev pub IsCount : Value → Type 0
 IsCount (Int (pos n)) = Unit {0}
 IsCount _ = ⊥
 
+-- a truth value
 abbrev pub IsBool : Value → Type 0
 IsBool (BoolValue b) = Unit {0}
 IsBool _ = ⊥
 
+-- None, or a value that has this property
 abbrev pub NoneOr : (Value → Type 0) → Value → Type 0
 NoneOr p NoneValue = Unit {0}
 NoneOr p v = p v
@@ -107,14 +118,17 @@ abbrev pub IsRange : Value → Value → Value → Type 0
 IsRange (Int start) (Int stop) (Int step) = (step ≢ pos 0) × EndsWithin 9_223_372_036_854_775_807 start stop step
 IsRange _ _ _ = ⊥
 
+-- the number of a thread that a script can start
 abbrev pub IsThreadNumber : Value → Type 0
 IsThreadNumber (Int (pos n)) = (1 ≤ n) × (n ≤ 1_023)
 IsThreadNumber _ = ⊥
 
+-- what a method can call: a builtin or a function
 abbrev pub IsCallable : Heap → Value → Type 0
 IsCallable h (Builtin b) = Unit {0}
 IsCallable h v = RefTo h Function v
 
+-- a record of these kinds can be gone through
 abbrev pub is_iterable : Kind → Bool
 is_iterable ListKind = true
 is_iterable Tuple = true
@@ -123,6 +137,7 @@ is_iterable Dict = true
 is_iterable Range = true
 is_iterable _ = false
 
+-- the address of a record that can be gone through
 abbrev pub IsIterable : Heap → Value → Type 0
 IsIterable h (Ref a) = KindIn (h a.0) (λ k. is_iterable k ≡ true)
 IsIterable h _ = ⊥
@@ -144,14 +159,17 @@ HasShape h Lock (held ∷ []) = IsBool held
 HasShape h Thread (target ∷ args ∷ number ∷ ended ∷ []) = RefTo h Tuple args × NoneOr IsThreadNumber number × IsBool ended
 HasShape h _ _ = ⊥
 
+-- no record but a string has bytes
 abbrev pub OnlyStrings : Kind → List ℕ → Type 0
 OnlyStrings Str bs = Unit {0}
 OnlyStrings _ bs = bs ≡ []
 
+-- Unset stands in cells alone
 abbrev pub HoldsNoUnset : Kind → List Value → Type 0
 HoldsNoUnset Cell vs = Unit {0}
 HoldsNoUnset k [] = Unit {0}
 HoldsNoUnset k (v ∷ vs) = (v ≢ Unset) × HoldsNoUnset k vs
 
+-- the record has its kind's shape
 abbrev pub IsShaped : Heap → Rec → Type 0
 IsShaped h r = HasShape h r.kind r.values × OnlyStrings r.kind r.bytes × HoldsNoUnset r.kind r.values

@@ -1,4 +1,5 @@
 -- What a row means by itself: over a heap and a world, with the bookkeeping of what it looks at, changes, makes and starts.
+-- States `docs/HEAP.md`, "Rows".
 use Rattle.std.specs.Prelude.{◌≡◌, ◌≢◌, ◌⊎◌, ℕ, ◌≤◌, ◌<◌, Bool, true, false, cond, ◌||◌, ◌&&◌, eqb, List, [], ◌∷◌, ◌++◌, length, take, drop, Option, Some, None}
 use Rattle.py_data.specs.declared.value.Value.{Value}
 use Rattle.py_data.specs.declared.value.Kind.TheVariants.{Dict, List as ListKind}
@@ -11,38 +12,46 @@ use Rattle.py_data.specs.Sense.{Sense, Run}
 -- what one thread sees, and what it has done
 pub record Sight (S : Type 0) : Type 0 where
   pub heap : Heap
-  pub looked : Marks        -- the tracked records that were looked at or changed
-  pub touched : Marks       -- the records that were changed or made
+  pub looked : Marks  -- the tracked records that were looked at or changed
+  pub touched : Marks  -- the records that were changed or made
   pub made : List ℕ
   pub started : List S
   pub world : World
-  pub used : Bool           -- the world was asked or changed
+  pub used : Bool  -- the world was asked or changed
 
+-- one address more
 abbrev pub with_mark : ℕ → Marks → Marks
 with_mark a m = λ b. eqb b a || m b
 
+-- after a look at a record: a tracked one is marked
 abbrev pub looked_at : {S : Type 0} → ℕ → Rec → Sight S → Sight S
 looked_at a r s = record s { looked = λ b. (eqb b a && is_tracked r.kind) || s.looked b }
 
+-- after a change of a record: it counts as a look too
 abbrev pub edited : {S : Type 0} → ℕ → Rec → Sight S → Sight S
 edited a r s = record s { heap = put_at s.heap a r; looked = with_mark a s.looked; touched = with_mark a s.touched }
 
+-- after a record was made: its name is the last of those given
 abbrev pub made_new : {S : Type 0} → ℕ → Rec → Sight S → Sight S
 made_new n r s = record s { heap = put_at s.heap n r; touched = with_mark n s.touched; made = s.made ++ n ∷ [] }
 
+-- after a thread was started
 abbrev pub started_one : {S : Type 0} → S → Sight S → Sight S
 started_one p s = record s { started = s.started ++ p ∷ [] }
 
+-- after a call that asks or changes the world
 abbrev pub in_world : {S : Type 0} → World → Sight S → Sight S
 in_world w s = record s { world = w; used = true }
 
--- which records can be changed: by another value, by a push or a cut, by a pair
+-- another value in a place needs a tracked record that has the place
 abbrev pub CanSet : ℕ → Rec → Type 0
 CanSet i r = (is_tracked r.kind ≡ true) × (i < length r.values)
 
+-- a push or a cut needs a List
 abbrev pub CanPush : Rec → Type 0
 CanPush r = r.kind ≡ ListKind
 
+-- a pair needs a Dict
 abbrev pub CanPair : Rec → Type 0
 CanPair r = r.kind ≡ Dict
 
@@ -54,7 +63,7 @@ Edited a ok f s t = (r : Rec) × (s.heap a ≡ Some r) × ok r × (t ≡ edited 
 abbrev pub Fits : Heap → Rec → Value → Type 0
 Fits h r key = (r.kind ≡ Dict) × IsKey h key × ArePairs h r.values
 
--- what each call does
+-- what each call answers and leaves: the meaning of a row, call by call
 abbrev pub Act : {S : Type 0} (c : Call S) → Sight S → Reply c → Sight S → Type 0
 Act (Read a) s r t = (s.heap a ≡ Some r) × (t ≡ looked_at a r s)
 Act (Find d key) s o t = (r : Rec) × (s.heap d ≡ Some r) × Fits s.heap r key × (o ≡ find s.heap r.values key) × (t ≡ looked_at d r s)
@@ -78,9 +87,11 @@ pure = record { heap = λ s. s.heap; partial = false; stopped = λ s. None; can_
 abbrev pub Does : {S A : Type 0} → Row S A → Sight S → A → Sight S → Type 0
 Does {S} row s y t = Run {S = S} pure row s y t
 
+-- no address
 abbrev pub no_marks : Marks
 no_marks b = false
 
+-- an address is in a list
 abbrev pub mem : ℕ → List ℕ → Bool
 mem a [] = false
 mem a (x ∷ xs) = eqb a x || mem a xs

@@ -12,6 +12,7 @@ pub record World : Type 0 where
   pub err : List ℕ
   pub mid : Bool
 
+-- the world once bytes were written to one of its outputs
 abbrev pub wrote : Out → List ℕ → World → World
 wrote Output bytes w = record w { out = w.out ++ bytes }
 wrote ErrorOutput bytes w = record w { err = w.err ++ bytes }
@@ -35,5 +36,6 @@ abbrev pub grown : Option (List ℕ) → List ℕ → Option (List ℕ)
 grown None b = None
 grown (Some xs) b = Some (xs ++ b)
 
+-- the world once a line was taken
 abbrev pub took : List ℕ → World → World
 took l w = record w { input = shrunk w.input (length l) }

@@ -18,7 +18,7 @@ pub type Values = Items<Value>;
 /// The addresses that a turn's new records got, in order.
 pub type Names = Items<Addr>;
 
-/// A list of plain elements.
+/// A list of elements. Contracts see of it the elements in their order, and nothing of where they lie.
 #[derive(Debug, Drop)]
 pub struct Items<T> {
     items: Vec<T>,
@@ -36,6 +36,7 @@ impl<T> Model for Items<T> {
 }
 
 impl<T> Items<T> {
+    /// A list without elements. It takes no memory.
     pub fn new(alloc: Global) -> Items<T>
         ensures { result ≡ [] }
     {
@@ -44,18 +45,21 @@ impl<T> Items<T> {
         }
     }
 
+    /// How many elements it has.
     pub fn len(&self) -> usize
         ensures { result ≡ length self.now }
     {
         self.items.len()
     }
 
+    /// The element at a place, counted from 0, if there is one.
     pub fn get(&self, i: usize) -> Option<&T>
         ensures { option_copied result ≡ slice_get self.now i }
     {
         self.items.get(i)
     }
 
+    /// The elements in their order.
     pub fn as_slice(&self) -> &[T]
         ensures { result.now ≡ self.now }
     {
@@ -64,6 +68,7 @@ impl<T> Items<T> {
 }
 
 impl<T: Drop> Items<T> {
+    /// Adds an element at the end. At want of memory the list stays as it is.
     pub fn push(&mut self, x: T) -> Result<(), NoMemory>
         ensures ok { OnOk result (self.new ≡ self.old ++ x ∷ []) }
         ensures err { OnErr result (self.new ≡ self.old) }
@@ -72,6 +77,7 @@ impl<T: Drop> Items<T> {
         Ok(())
     }
 
+    /// Puts another element in a place.
     pub fn set(&mut self, i: usize, x: T)
         requires { i < length self.old }
         ensures { self.new ≡ slice_set self.old i x }
@@ -79,12 +85,14 @@ impl<T: Drop> Items<T> {
         self.items[i] = x;
     }
 
+    /// Keeps the first `n` elements, or all where there are fewer.
     pub fn truncate(&mut self, n: usize)
         ensures { self.new ≡ take n self.old }
     {
         self.items.truncate(n);
     }
 
+    /// Takes an element out; those behind it close the gap.
     pub fn remove(&mut self, i: usize)
         requires { i < length self.old }
         ensures { self.new ≡ remove self.old i }
@@ -94,7 +102,7 @@ impl<T: Drop> Items<T> {
 }
 
 impl<T: Copy> Items<T> {
-    /// Adds the elements of a slice at the end.
+    /// Adds the elements of a slice at the end. At want of memory the list stays as it is.
     pub fn extend_from_slice(&mut self, more: &[T]) -> Result<(), NoMemory>
         ensures ok { OnOk result (self.new ≡ self.old ++ more.now) }
         ensures err { OnErr result (self.new ≡ self.old) }
@@ -110,6 +118,7 @@ impl<T: Copy> Items<T> {
         self.items[i]
     }
 
+    /// A list of the elements of a slice.
     pub fn from_slice(alloc: Global, items: &[T]) -> Result<Items<T>, NoMemory>
         ensures { IfOk result (λ a. a ≡ items.now) }
     {
@@ -118,6 +127,7 @@ impl<T: Copy> Items<T> {
         })
     }
 
+    /// An equal list in memory of its own.
     pub fn copy(&self, alloc: Global) -> Result<Items<T>, NoMemory>
         ensures { IfOk result (λ a. a ≡ self.now) }
     {
@@ -129,6 +139,7 @@ impl<T: Copy> Items<T> {
 
 /// A value of which an equal one can be made.
 pub trait Duplicate: Drop {
+    /// An equal value in memory of its own.
     fn duplicate(&self, alloc: Global) -> Result<Self, NoMemory>
         ensures { IfOk result (λ a. a ≡ self.now) };
 }
@@ -149,6 +160,7 @@ impl<T> Model for Log<T> {
 }
 
 impl<T: Drop> Log<T> {
+    /// A log without elements. It takes no memory.
     pub fn new(alloc: Global) -> Log<T>
         ensures { result.entries ≡ [] }
     {
@@ -157,12 +169,14 @@ impl<T: Drop> Log<T> {
         }
     }
 
+    /// How many elements it has.
     pub fn len(&self) -> usize
         ensures { result ≡ length self.now.entries }
     {
         self.items.len()
     }
 
+    /// The element at a place, counted from 0, if there is one.
     pub fn get(&self, i: usize) -> Option<&T>
         ensures { option_copied result ≡ slice_get self.now.entries i }
     {
@@ -178,6 +192,7 @@ impl<T: Drop> Log<T> {
         self.items.reserve(n)
     }
 
+    /// Adds an element at the end. Where room was made for it, there is memory. At want of memory the log stays as it is.
     pub fn push(&mut self, x: T) -> Result<(), NoMemory>
         ensures ok { OnOk result (self.new.entries ≡ self.old.entries ++ x ∷ []) }
         ensures err { OnErr result (self.new.entries ≡ self.old.entries) }
@@ -190,6 +205,7 @@ impl<T: Drop> Log<T> {
 }
 
 impl<T: Duplicate> Log<T> {
+    /// A log of equal elements, in memory of its own.
     pub fn copy(&self, alloc: Global) -> Result<Log<T>, NoMemory>
         ensures { IfOk result (λ a. a.entries ≡ self.now.entries) }
     {

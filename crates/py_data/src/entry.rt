@@ -9,7 +9,7 @@ use crate::value::{Kind, Value};
 use std::alloc::Global;
 
 impl Entry {
-    /// The entry of a record that is made now.
+    /// The entry of a record that is made now, with the room of its kind and count of values. It copies both lists.
     pub fn of(alloc: Global, made: &Record) -> Result<Entry, NoMemory>
         requires { length made.now.values ≤ LENGTH_LIMIT }
         ensures { IfOk result (λ e. e ≡ rec_of made.now) }
@@ -24,6 +24,7 @@ impl Entry {
         })
     }
 
+    /// An equal entry in memory of its own, its rooms too.
     pub fn copy(&self, alloc: Global) -> Result<Entry, NoMemory>
         ensures { IfOk result (λ e. e ≡ self.now) }
     {
@@ -36,6 +37,7 @@ impl Entry {
         })
     }
 
+    /// Puts another value in a place.
     pub fn set_val(&mut self, i: usize, v: Value)
         requires { i < length self.old.values }
         ensures { self.new ≡ with_value i v self.old }
@@ -43,7 +45,7 @@ impl Entry {
         self.values.set(i, v);
     }
 
-    /// A full record doubles its room.
+    /// Adds a value at the end. A full record doubles its room first; a room of 0 becomes 1.
     pub fn push_val(&mut self, v: Value) -> Result<(), NoMemory>
         requires { length self.old.values ≤ LENGTH_LIMIT }
         ensures { OnOk result (self.new ≡ with_push v self.old) }
@@ -55,6 +57,7 @@ impl Entry {
         Ok(())
     }
 
+    /// Adds a pair at the end, as two pushes. At want of memory its key may stand there already.
     pub fn push_pair(&mut self, key: Value, v: Value) -> Result<(), NoMemory>
         requires { length self.old.values < LENGTH_LIMIT }
         ensures { OnOk result (self.new ≡ with_pair key v self.old) }
@@ -64,13 +67,14 @@ impl Entry {
         Ok(())
     }
 
+    /// Keeps the first `n` values. The room stays.
     pub fn truncate(&mut self, n: usize)
         ensures { self.new ≡ cut_to n self.old }
     {
         self.values.truncate(n);
     }
 
-    /// The pairs behind close the gap.
+    /// Takes out the pair of a number, counted from 0; those behind it close the gap. The room stays.
     pub fn drop_pair(&mut self, place: usize)
         requires { 2 * place + 1 < length self.old.values }
         ensures { self.new ≡ without_pair place self.old }
@@ -88,13 +92,7 @@ fn first_room(kind: Kind, n: usize) -> usize
     ensures { result ≡ room_of kind n }
 {
     match kind {
-        Kind::List => {
-            if n == 0 {
-                0
-            } else {
-                power_from(20, n)
-            }
-        }
+        Kind::List => { if n == 0 { 0 } else { power_from(20, n) } }
         Kind::Dict => power_from(20, n).max(2),
         _ => 0,
     }

@@ -8,6 +8,8 @@ mod laws;
 mod record;
 mod refusal;
 mod stop;
+#[cfg(test)]
+mod tests;
 mod value;
 mod view;
 
