@@ -36,9 +36,7 @@ make_first r k s t y d =
 
 module _ {S : Type 0} (p : Prog S) (t : Turn) (o e : Option (List ℕ)) (m m1 : Machine S) (told : IsSome m.world.input) (d : DoesTurn p m t m1) (done : ℕ) (d1 : PlainState S) (ts1 : List S)
     (c : CutIn p t.thread done o e m d1 ts1) (b : Begins c.sight.made (places t.names)) where
-  start : Sight S
-  start = opened S m.heap m.world
-
+  -- the thread's state at the turn's beginning
   before : c.before ≡ d.before
   before = one_state (slice_get m.threads t.thread) d.before c.before d.is c.is
 
@@ -50,7 +48,7 @@ module _ {S : Type 0} (p : Prog S) (t : Turn) (o e : Option (List ℕ)) (m m1 : 
   cut_on f =
       let g = does_made (p.row f.state) f.sight f.after (f.step.outcome, f.next) f.step.does in
       steps_along p done d.before (opened S m.heap m.world) f.state c.after f.sight c.sight (g.0 ++ f.rest) b.0 (told_of (opened S m.heap m.world) told) f.steps its_steps
-        (b.1 ∙ sym d.names ∙ f.made ∙ ap (λ l. l ++ f.rest) g.1 ∙ append_assoc f.sight.made g.0 f.rest)
+      (b.1 ∙ sym d.names ∙ f.made ∙ ap (λ l. l ++ f.rest) g.1 ∙ append_assoc f.sight.made g.0 f.rest)
 
   -- all steps were done, and names are left
   pub none_left : (n : ℕ) (rest : List ℕ) → done ≡ t.steps → places t.names ≡ c.sight.made ++ n ∷ rest → ⊥
@@ -63,9 +61,11 @@ module _ {S : Type 0} (p : Prog S) (t : Turn) (o e : Option (List ℕ)) (m m1 : 
       absurd (omega arith)
 
   module _ (l : done < t.steps) where
+    -- the turn's steps up to the one that was cut
     first : FirstSteps p done d.before (opened S m.heap m.world) d.sight
     first = first_steps p t.steps done d.before (opened S m.heap m.world) d.after d.sight l d.steps
 
+    -- there, and so where the cut turn stood, the source tells its bytes still
     first_told : (f : FirstSteps p done d.before (opened S m.heap m.world) d.sight) → IsTold f.sight
     first_told f = steps_told p done d.before (opened S m.heap m.world) f.state f.sight f.steps (told_of (opened S m.heap m.world) told)
 
@@ -78,6 +78,7 @@ module _ {S : Type 0} (p : Prog S) (t : Turn) (o e : Option (List ℕ)) (m m1 : 
     cut_told : (f : FirstSteps p done d.before (opened S m.heap m.world) d.sight) → IsTold c.sight
     cut_told f = subst IsTold (sym (cut_on f).1) (first_told f)
 
+    -- each cause within the machine contradicts what the turn does next
     pub outside_by : (a : PlainState S) (why : TurnWhy) (f : FirstSteps p done d.before (opened S m.heap m.world) d.sight) → CutWhy p t.thread done (places t.names) o e m a d1 ts1 why c → IsOutside why
     outside_by a ReadFault f w = tt
     outside_by a WriteFault f w = tt
@@ -87,13 +88,13 @@ module _ {S : Type 0} (p : Prog S) (t : Turn) (o e : Option (List ℕ)) (m m1 : 
     outside_by a Ended f w = w.0 (ap p.life (cut_on f).0 ∙ f.step.lives)
     outside_by a Waits f w =
         let same = does_along (p.row c.after) c.sight f.after c.place (f.step.outcome, f.next) (WaitsNow, w.2) f.rest b.0 (cut_told f) (next_does f) w.3
-          (ap (λ l. l ++ b.0) w.4.made ∙ b.1 ∙ sym d.names ∙ f.made) in
+        (ap (λ l. l ++ b.0) w.4.made ∙ b.1 ∙ sym d.names ∙ f.made) in
         f.step.goes_on (sym (ap (λ y. y.0) same.0))
     outside_by a BadNames f w =
         let left = upto_along (p.row c.after) c.left c.sight c.place f.after (f.step.outcome, f.next) f.rest w.3 (cut_told f) (next_does f) c.upto (w.5 ∙ sym d.names ∙ f.made) in
         let made = make_first w.2 w.4.0 c.place f.after (f.step.outcome, f.next) (subst (λ (q : Row S (Outcome × S)). Does q c.place (f.step.outcome, f.next) f.after) w.4.1 left) in
         let names : c.place.made ++ w.3 ≡ c.place.made ++ (made.0 ∷ (made.2 ++ f.rest)) =
-          w.5 ∙ sym d.names ∙ f.made ∙ ap (λ l. l ++ f.rest) made.3 ∙ append_assoc c.place.made (made.0 ∷ made.2) f.rest in
+        w.5 ∙ sym d.names ∙ f.made ∙ ap (λ l. l ++ f.rest) made.3 ∙ append_assoc c.place.made (made.0 ∷ made.2) f.rest in
         can_name c.place.heap made.0 w.3 (made.2 ++ f.rest) made.1 (same_rest c.place.made w.3 (made.0 ∷ (made.2 ++ f.rest)) names) w.6
 
     pub outside_in : (a : PlainState S) (why : TurnWhy) → CutWhy p t.thread done (places t.names) o e m a d1 ts1 why c → IsOutside why

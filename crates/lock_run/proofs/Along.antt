@@ -34,9 +34,9 @@ steps_along {S} p (suc n) q s q1 q2 s1 s2 rest1 rest2 k d e m =
     let a = does_made (p.row d.0) d.1 s1 (d.3.outcome, q1) d.3.does in
     let b = does_made (p.row e.0) e.1 s2 (e.3.outcome, q2) e.3.does in
     let first = steps_along p n q s d.0 e.0 d.1 e.1 (a.0 ++ rest1) (b.0 ++ rest2) k d.2 e.2
-      (sym (append_assoc e.1.made b.0 rest2) ∙ ap (λ l. l ++ rest2) (sym b.1) ∙ m ∙ ap (λ l. l ++ rest1) a.1 ∙ append_assoc d.1.made a.0 rest1) in
+    (sym (append_assoc e.1.made b.0 rest2) ∙ ap (λ l. l ++ rest2) (sym b.1) ∙ m ∙ ap (λ l. l ++ rest1) a.1 ∙ append_assoc d.1.made a.0 rest1) in
     let last : Does (p.row d.0) d.1 (e.3.outcome, q2) s2 =
-      subst (λ (r : S). Does (p.row r) d.1 (e.3.outcome, q2) s2) first.0 (subst (λ (u : Sight S). Does (p.row e.0) u (e.3.outcome, q2) s2) first.1 e.3.does) in
+    subst (λ (r : S). Does (p.row r) d.1 (e.3.outcome, q2) s2) first.0 (subst (λ (u : Sight S). Does (p.row e.0) u (e.3.outcome, q2) s2) first.1 e.3.does) in
     let one = does_along (p.row d.0) d.1 s1 s2 (d.3.outcome, q1) (e.3.outcome, q2) rest1 rest2 (steps_told p n q s d.0 d.1 d.2 k) d.3.does last m in
     (ap (λ y. y.1) one.0, one.1)
 

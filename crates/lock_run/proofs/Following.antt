@@ -37,43 +37,63 @@ abbrev pub ShownBy : {S : Type 0} → Option (List ℕ) → Option (List ℕ) �
 ShownBy {S} o e st c x r d1 = (y : Sight S) × Act c x r y × Shows o e st d1 y
 
 changed_shown : {S : Type 0} (o e : Option (List ℕ)) (st : List S) (a : ℕ) (ok : Rec → Type 0) (f : Rec → Rec) (d d1 : PlainState S) (x : Sight S) → Changes a ok f d d1 → Shows o e st d x → (y : Sight S) × Edited a ok f x y × Shows o e st d1 y
-changed_shown {S} o e st a ok f d d1 x h s =
-    (edited a (f h.0) x, (h.0, ap (λ g. g a) s.heap ∙ h.1, h.2, refl),
-      subst (λ (z : PlainState S). Shows o e st z (edited a (f h.0) x)) (sym h.3) (record { heap = ap (λ g. put_at g a (f h.0)) s.heap; made = s.made; started = s.started; input = s.input; out = s.out; err = s.err; mid = s.mid }))
+changed_shown {S} o e st a ok f d d1 x h s = (
+  edited a (f h.0) x,
+  (h.0, ap (λ g. g a) s.heap ∙ h.1, h.2, refl),
+  subst (λ (z : PlainState S). Shows o e st z (edited a (f h.0) x)) (sym h.3) (record { heap = ap (λ g. put_at g a (f h.0)) s.heap; made = s.made; started = s.started; input = s.input; out = s.out; err = s.err; mid = s.mid }),
+)
 
 pub act_shown : {S : Type 0} (o e : Option (List ℕ)) (st : List S) (c : Call S) (d : PlainState S) (r : Reply c) (d1 : PlainState S) (x : Sight S) → PlainDoes c d r d1 → Shows o e st d x → ShownBy o e st c x r d1
-act_shown {S} o e st (Read a) d r d1 x h s =
-    (looked_at a r x, (ap (λ g. g a) s.heap ∙ h.0, refl),
-      subst (λ (z : PlainState S). Shows o e st z (looked_at a r x)) (sym h.1) (record { heap = s.heap; made = s.made; started = s.started; input = s.input; out = s.out; err = s.err; mid = s.mid }))
-act_shown {S} o e st (Find a key) d r d1 x h s =
-    (looked_at a h.0 x, (h.0, ap (λ g. g a) s.heap ∙ h.1, subst (λ (g : Heap). Fits g h.0 key) (sym s.heap) h.2, subst (λ (g : Heap). r ≡ find g h.0.values key) (sym s.heap) h.3, refl),
-      subst (λ (z : PlainState S). Shows o e st z (looked_at a h.0 x)) (sym h.4) (record { heap = s.heap; made = s.made; started = s.started; input = s.input; out = s.out; err = s.err; mid = s.mid }))
+act_shown {S} o e st (Read a) d r d1 x h s = (
+  looked_at a r x,
+  (ap (λ g. g a) s.heap ∙ h.0, refl),
+  subst (λ (z : PlainState S). Shows o e st z (looked_at a r x)) (sym h.1) (record { heap = s.heap; made = s.made; started = s.started; input = s.input; out = s.out; err = s.err; mid = s.mid }),
+)
+act_shown {S} o e st (Find a key) d r d1 x h s = (
+  looked_at a h.0 x,
+  (h.0, ap (λ g. g a) s.heap ∙ h.1, subst (λ (g : Heap). Fits g h.0 key) (sym s.heap) h.2, subst (λ (g : Heap). r ≡ find g h.0.values key) (sym s.heap) h.3, refl),
+  subst (λ (z : PlainState S). Shows o e st z (looked_at a h.0 x)) (sym h.4) (record { heap = s.heap; made = s.made; started = s.started; input = s.input; out = s.out; err = s.err; mid = s.mid }),
+)
 act_shown o e st (SetVal a i v) d r d1 x h s = changed_shown o e st a _ (with_value i v) d d1 x h s
 act_shown o e st (Push a v) d r d1 x h s = changed_shown o e st a _ (with_push v) d d1 x h s
 act_shown o e st (Truncate a n) d r d1 x h s = changed_shown o e st a _ (cut_to n) d d1 x h s
 act_shown o e st (PushPair a key v) d r d1 x h s = changed_shown o e st a _ (with_pair key v) d d1 x h s
 act_shown o e st (DropPair a n) d r d1 x h s = changed_shown o e st a _ (without_pair n) d d1 x h s
-act_shown {S} o e st (Make q) d n d1 x h s =
-    (made_new n q x, (ap (λ g. g n) s.heap ∙ h.1, refl),
-      subst (λ (z : PlainState S). Shows o e st z (made_new n q x)) (sym h.2) (record { heap = ap (λ g. put_at g n q) s.heap; made = ap (λ l. l ++ n ∷ []) s.made; started = s.started; input = s.input; out = s.out; err = s.err; mid = s.mid }))
-act_shown {S} o e st (Start p) d r d1 x h s =
-    (started_one p x, refl,
-      subst (λ (z : PlainState S). Shows o e st z (started_one p x)) (sym h) (record { heap = s.heap; made = s.made; started = ap (λ l. l ++ p ∷ []) s.started ∙ append_assoc st d.started (p ∷ []); input = s.input; out = s.out; err = s.err; mid = s.mid }))
-act_shown {S} o e st (Put Output b) d r d1 x h s =
-    (in_world (wrote Output b x.world) x, refl,
-      subst (λ (z : PlainState S). Shows o e st z (in_world (wrote Output b x.world) x)) (sym h.0) (record { heap = s.heap; made = s.made; started = s.started; input = s.input; out = ap (λ l. grown l b) s.out ∙ grown_then o x.world.out b; err = s.err; mid = s.mid }))
-act_shown {S} o e st (Put ErrorOutput b) d r d1 x h s =
-    (in_world (wrote ErrorOutput b x.world) x, refl,
-      subst (λ (z : PlainState S). Shows o e st z (in_world (wrote ErrorOutput b x.world) x)) (sym h.0) (record { heap = s.heap; made = s.made; started = s.started; input = s.input; out = s.out; err = ap (λ l. grown l b) s.err ∙ grown_then e x.world.err b; mid = s.mid }))
-act_shown {S} o e st (Take most) d l d1 x h s =
-    (in_world (took l x.world) x, (subst (λ (i : Option (List ℕ)). IsLine i most l) (sym s.input) h.0, refl),
-      subst (λ (z : PlainState S). Shows o e st z (in_world (took l x.world) x)) (sym h.2) (record { heap = s.heap; made = s.made; started = s.started; input = ap (λ i. shrunk i (length l)) s.input; out = s.out; err = s.err; mid = s.mid }))
-act_shown {S} o e st MidLine d r d1 x h s =
-    (in_world x.world x, (h.0 ∙ sym s.mid, refl),
-      subst (λ (z : PlainState S). Shows o e st z (in_world x.world x)) (sym h.1) (record { heap = s.heap; made = s.made; started = s.started; input = s.input; out = s.out; err = s.err; mid = s.mid }))
-act_shown {S} o e st (SetMidLine mid) d r d1 x h s =
-    (in_world (record x.world { mid = mid }) x, refl,
-      subst (λ (z : PlainState S). Shows o e st z (in_world (record x.world { mid = mid }) x)) (sym h) (record { heap = s.heap; made = s.made; started = s.started; input = s.input; out = s.out; err = s.err; mid = refl }))
+act_shown {S} o e st (Make q) d n d1 x h s = (
+  made_new n q x,
+  (ap (λ g. g n) s.heap ∙ h.1, refl),
+  subst (λ (z : PlainState S). Shows o e st z (made_new n q x)) (sym h.2) (record { heap = ap (λ g. put_at g n q) s.heap; made = ap (λ l. l ++ n ∷ []) s.made; started = s.started; input = s.input; out = s.out; err = s.err; mid = s.mid }),
+)
+act_shown {S} o e st (Start p) d r d1 x h s = (
+  started_one p x,
+  refl,
+  subst (λ (z : PlainState S). Shows o e st z (started_one p x)) (sym h) (record { heap = s.heap; made = s.made; started = ap (λ l. l ++ p ∷ []) s.started ∙ append_assoc st d.started (p ∷ []); input = s.input; out = s.out; err = s.err; mid = s.mid }),
+)
+act_shown {S} o e st (Put Output b) d r d1 x h s = (
+  in_world (wrote Output b x.world) x,
+  refl,
+  subst (λ (z : PlainState S). Shows o e st z (in_world (wrote Output b x.world) x)) (sym h.0) (record { heap = s.heap; made = s.made; started = s.started; input = s.input; out = ap (λ l. grown l b) s.out ∙ grown_then o x.world.out b; err = s.err; mid = s.mid }),
+)
+act_shown {S} o e st (Put ErrorOutput b) d r d1 x h s = (
+  in_world (wrote ErrorOutput b x.world) x,
+  refl,
+  subst (λ (z : PlainState S). Shows o e st z (in_world (wrote ErrorOutput b x.world) x)) (sym h.0) (record { heap = s.heap; made = s.made; started = s.started; input = s.input; out = s.out; err = ap (λ l. grown l b) s.err ∙ grown_then e x.world.err b; mid = s.mid }),
+)
+act_shown {S} o e st (Take most) d l d1 x h s = (
+  in_world (took l x.world) x,
+  (subst (λ (i : Option (List ℕ)). IsLine i most l) (sym s.input) h.0, refl),
+  subst (λ (z : PlainState S). Shows o e st z (in_world (took l x.world) x)) (sym h.2) (record { heap = s.heap; made = s.made; started = s.started; input = ap (λ i. shrunk i (length l)) s.input; out = s.out; err = s.err; mid = s.mid }),
+)
+act_shown {S} o e st MidLine d r d1 x h s = (
+  in_world x.world x,
+  (h.0 ∙ sym s.mid, refl),
+  subst (λ (z : PlainState S). Shows o e st z (in_world x.world x)) (sym h.1) (record { heap = s.heap; made = s.made; started = s.started; input = s.input; out = s.out; err = s.err; mid = s.mid }),
+)
+act_shown {S} o e st (SetMidLine mid) d r d1 x h s = (
+  in_world (record x.world { mid = mid }) x,
+  refl,
+  subst (λ (z : PlainState S). Shows o e st z (in_world (record x.world { mid = mid }) x)) (sym h) (record { heap = s.heap; made = s.made; started = s.started; input = s.input; out = s.out; err = s.err; mid = refl }),
+)
 
 -- what a call leaves alone
 pub record Keeps {S : Type 0} (d d1 : PlainState S) : Type 0 where
@@ -96,9 +116,16 @@ keeps_same {S} d d1 h = subst (λ (z : PlainState S). Keeps d z) (sym h) (keeps_
 
 pub keeps_trans : {S : Type 0} (d d1 d2 : PlainState S) → Keeps d d1 → Keeps d1 d2 → Keeps d d2
 keeps_trans d d1 d2 p q = record {
-  base = q.base ∙ p.base; kept = q.kept ∙ p.kept; was_left = q.was_left ∙ p.was_left; was_mid = q.was_mid ∙ p.was_mid; free = q.free ∙ p.free; bad = q.bad ∙ p.bad;
+  base = q.base ∙ p.base;
+  kept = q.kept ∙ p.kept;
+  was_left = q.was_left ∙ p.was_left;
+  was_mid = q.was_mid ∙ p.was_mid;
+  free = q.free ∙ p.free;
+  bad = q.bad ∙ p.bad;
   names = λ e. q.names (p.free ∙ e) ∙ p.names e;
-  reads = let x = p.reads in let y = q.reads in omega arith; writes = let x = p.writes in let y = q.writes in omega arith; errs = let x = p.errs in let y = q.errs in omega arith;
+  reads = let x = p.reads in let y = q.reads in omega arith;
+  writes = let x = p.writes in let y = q.writes in omega arith;
+  errs = let x = p.errs in let y = q.errs in omega arith;
 }
 
 keeps_changed : {S : Type 0} (a : ℕ) (ok : Rec → Type 0) (f : Rec → Rec) (d d1 : PlainState S) → Changes a ok f d d1 → Keeps d d1
@@ -117,9 +144,16 @@ act_keeps (Truncate a n) d r d1 h = keeps_changed a _ (cut_to n) d d1 h
 act_keeps (PushPair a key v) d r d1 h = keeps_changed a _ (with_pair key v) d d1 h
 act_keeps (DropPair a n) d r d1 h = keeps_changed a _ (without_pair n) d d1 h
 act_keeps {S} (Make q) d n d1 h = record {
-  base = ap (λ z. z.base) h.2; kept = ap (λ z. z.kept) h.2; was_left = ap (λ z. z.was_left) h.2; was_mid = ap (λ z. z.was_mid) h.2; free = ap (λ z. z.free) h.2; bad = ap (λ z. z.bad) h.2;
+  base = ap (λ z. z.base) h.2;
+  kept = ap (λ z. z.kept) h.2;
+  was_left = ap (λ z. z.was_left) h.2;
+  was_mid = ap (λ z. z.was_mid) h.2;
+  free = ap (λ z. z.free) h.2;
+  bad = ap (λ z. z.bad) h.2;
   names = λ e. ap (λ z. z.made ++ d1.left) h.2 ∙ named_rest d.free n d.made d.left d1.left h.0 e;
-  reads = let x : d1.reads ≡ d.reads = ap (λ z. z.reads) h.2 in omega arith; writes = let x : d1.writes ≡ d.writes = ap (λ z. z.writes) h.2 in omega arith; errs = let x : d1.errs ≡ d.errs = ap (λ z. z.errs) h.2 in omega arith;
+  reads = let x : d1.reads ≡ d.reads = ap (λ z. z.reads) h.2 in omega arith;
+  writes = let x : d1.writes ≡ d.writes = ap (λ z. z.writes) h.2 in omega arith;
+  errs = let x : d1.errs ≡ d.errs = ap (λ z. z.errs) h.2 in omega arith;
 }
 act_keeps {S} (Start s) d r d1 h = subst (λ (z : PlainState S). Keeps d z) (sym h) (record { base = refl; kept = refl; was_left = refl; was_mid = refl; free = refl; bad = refl; names = λ e. refl; reads = omega arith; writes = omega arith; errs = omega arith })
 act_keeps {S} (Put Output b) d r d1 h = let w = h.1 in subst (λ (z : PlainState S). Keeps d z) (sym h.0) (record { base = refl; kept = refl; was_left = refl; was_mid = refl; free = refl; bad = refl; names = λ e. refl; reads = omega arith; writes = w; errs = omega arith })

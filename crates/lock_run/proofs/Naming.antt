@@ -31,11 +31,6 @@ next_name xs i n e = next_by xs i (i + 1) n (add-one i) e
     next_by (x ∷ xs) zero j n q e = let p : x ≡ n = cc in ap (λ (a : Addr). a.0 ∷ places xs) p ∙ ap (λ k. n.0 ∷ places (drop k (x ∷ xs))) (sym q)
     next_by (x ∷ xs) (suc i) j n q e = next_by xs i (suc i) n refl e ∙ ap (λ k. n.0 ∷ places (drop k (x ∷ xs))) (sym q)
 
-pub index_within : {A : Type 0} (xs : List A) (i : ℕ) (x : A) → slice_get xs i ≡ Some x → i < length xs
-index_within [] i x e = cc
-index_within (y ∷ ys) zero x e = omega arith
-index_within (y ∷ ys) (suc i) x e = let h = index_within ys i x e in omega arith
-
 pub named_next : (free : Bool) (xs : List Addr) (i : ℕ) (n : Addr) → free ≡ false → slice_get xs i ≡ Some n → Named free n.0 (places (drop i xs)) (places (drop (i + 1) xs))
 named_next false xs i n f e = next_name xs i n e
 named_next true xs i n f e = cc

@@ -28,7 +28,7 @@ short_put h a r s t = record {
   each = λ b q e. elim (cases_Bool (eqb b a)) [
     | inl y ↦ let f : Some r ≡ Some q = sym (cond-true (eqb b a) (Some r) (h b) y) ∙ e in let g : r ≡ q = cc in subst IsShort g t
     | inr n ↦ s.each b q (sym (cond-false (eqb b a) (Some r) (h b) n) ∙ e)
-  ]
+  ];
 }
 
 pub short_same : (h g : Heap) → g ≡ h → AreShort h → AreShort g
@@ -37,13 +37,6 @@ short_same h g e s = subst AreShort (sym e) s
 pub short_either : (h g : Heap) (a : ℕ) (r : Rec) → (g ≡ put_at h a r) ⊎ (g ≡ h) → AreShort h → IsShort r → AreShort g
 short_either h g a r (inl e) s t = short_same (put_at h a r) g e (short_put h a r s t)
 short_either h g a r (inr e) s t = short_same h g e s
-
--- what stands in a short heap is short
-pub short_at : (h : Heap) (a : ℕ) (r : Rec) → AreShort h → h a ≡ Some r → IsShort r
-short_at h a r s e = s.each a r e
-
-pub short_nothing : (h : Heap) → h ≡ (λ _. None) → AreShort h
-short_nothing h e = record { each = λ a r f. let g : Some r ≡ None = sym f ∙ ap (λ k. k a) e in absurd (let q : None ≡ Some r = sym g in cc) }
 
 -- the test of one record, and of the records of a journal
 short_test : (r : Rec) → IsShort r → is_short (Some r) ≡ true
@@ -80,5 +73,5 @@ short_back h g a o e s t = subst AreShort (sym e) (record {
   each = λ b q f. elim (cases_Bool (eqb b a)) [
     | inl y ↦ let k : o ≡ Some q = sym (cond-true (eqb b a) o (h b) y) ∙ f in test_short q (ap is_short (sym k) ∙ t)
     | inr n ↦ s.each b q (sym (cond-false (eqb b a) o (h b) n) ∙ f)
-  ]
+  ];
 })

@@ -23,7 +23,7 @@ use Rattle.lock_run.specs.Client.{Stepped, StepStopped, StaysSound, WaitsQuietly
 use Rattle.lock_run.specs.PlainState.{PlainState, PlainRefuses, PlainOpens, PlainUndoes, NoName, Why, Steady}
 use Rattle.lock_run.specs.Machine.{Machine, Step, Steps}
 use Rattle.lock_run.specs.Turns.{Calls, Front, CutIn, LeavesNothing, CutWhy, Begins, CutTold, Going}
-use Rattle.lock_run.proofs.Following.{IsPlain, Shows, Keeps, keeps_trans, run_shown, upto_shown, run_keeps, upto_keeps, run_upto, upto_none}
+use Rattle.lock_run.proofs.Following.{IsPlain, Shows, grown_then, Keeps, keeps_trans, run_shown, upto_shown, run_keeps, upto_keeps, run_upto, upto_none}
 
 -- lists of threads
 pub get_set : {A : Type 0} (xs ys : List A) (t : ℕ) (x y : A) → slice_get xs t ≡ Some x → slice_get (slice_set xs t y ++ ys) t ≡ Some y
@@ -39,10 +39,6 @@ set_set (w ∷ ws) ys (suc t) x y z e = ap (λ l. w ∷ l) (set_set ws ys t x y 
 pub shrunk_none : (i : Option (List ℕ)) → shrunk i 0 ≡ i
 shrunk_none None = refl
 shrunk_none (Some xs) = refl
-
-pub then_grown : (o : Option (List ℕ)) (xs ys : List ℕ) → grown (grown o xs) ys ≡ grown o (xs ++ ys)
-then_grown None xs ys = refl
-then_grown (Some zs) xs ys = ap Some (append_assoc zs xs ys)
 
 pub grown_none : (o : Option (List ℕ)) → grown o [] ≡ o
 grown_none None = refl
@@ -93,9 +89,9 @@ module _ {S : Type 0} (p : Prog S) (t k : ℕ) (names : List ℕ) (o e : Option 
         err = ap (λ z. z.err) ed ∙ sh.err;
         mid = sh.mid ∙ sym (ap (λ z. z.mid) ed);
         threads = ap (λ l. slice_set (l ++ (D w).started) t s1) g.threads
-          ∙ ap (λ l. slice_set l t s1) (append_assoc (slice_set m.threads t g.after) g.sight.started (D w).started)
-          ∙ set_set m.threads (g.sight.started ++ (D w).started) t g.before g.after s1 g.is
-          ∙ ap (λ l. slice_set m.threads t s1 ++ l) (sym sh.started);
+            ∙ ap (λ l. slice_set l t s1) (append_assoc (slice_set m.threads t g.after) g.sight.started (D w).started)
+            ∙ set_set m.threads (g.sight.started ++ (D w).started) t g.before g.after s1 g.is
+            ∙ ap (λ l. slice_set m.threads t s1 ++ l) (sym sh.started);
         named = λ f. ap (λ z. z.made ++ z.left) ed ∙ kp.names (ap (λ z. z.free) op ∙ sym free ∙ sym (ap (λ z. z.free) ed) ∙ f) ∙ ap (λ z. z.made ++ z.left) op ∙ g.named (sym free ∙ sym (ap (λ z. z.free) ed) ∙ f);
         reads = let x = g.reads in let q : d1.reads ≡ (D w).reads = ap (λ z. z.reads) ed in omega arith;
         writes = let x = g.writes in let q : d1.writes ≡ (D w).writes = ap (λ z. z.writes) ed in omega arith;
@@ -105,10 +101,26 @@ module _ {S : Type 0} (p : Prog S) (t k : ℕ) (names : List ℕ) (o e : Option 
   -- nothing of the next step was done
   abbrev pub cut_here : CutIn p t k o e m d ts
   cut_here = record {
-    before = g.before; after = g.after; sight = g.sight; is = g.is; steps = g.steps; heap = sym g.heap; mid = sym g.mid; threads = g.threads;
-    left = p.row g.after; place = g.sight; upto = upto_none pure (p.row g.after) g.sight; more = []; more_err = []; taken = 0;
-    out = g.out ∙ ap (grown o) (sym (append-nil g.sight.world.out)); err = g.err ∙ ap (grown e) (sym (append-nil g.sight.world.err)); input = sym g.input ∙ sym (shrunk_none g.sight.world.input);
-    front = inl refl; front_err = inl refl; front_in = inl refl;
+    before = g.before;
+    after = g.after;
+    sight = g.sight;
+    is = g.is;
+    steps = g.steps;
+    heap = sym g.heap;
+    mid = sym g.mid;
+    threads = g.threads;
+    left = p.row g.after;
+    place = g.sight;
+    upto = upto_none pure (p.row g.after) g.sight;
+    more = [];
+    more_err = [];
+    taken = 0;
+    out = g.out ∙ ap (grown o) (sym (append-nil g.sight.world.out));
+    err = g.err ∙ ap (grown e) (sym (append-nil g.sight.world.err));
+    input = sym g.input ∙ sym (shrunk_none g.sight.world.input);
+    front = inl refl;
+    front_err = inl refl;
+    front_in = inl refl;
   }
 
   pub nothing_here : LeavesNothing cut_here
@@ -125,15 +137,26 @@ module _ {S : Type 0} (p : Prog S) (t k : ℕ) (names : List ℕ) (o e : Option 
       → PlainUndoes w d1 → Front left Output more → Front left ErrorOutput more_err → (taken ≡ 0) ⊎ ((most : ℕ) × Calls left (Take most))
       → CutIn p t k o e m d1 ts
   cut_part left y x w d1 more more_err taken up sh kp base mid out err input un f fe fi = record {
-    before = g.before; after = g.after; sight = g.sight; is = g.is; steps = g.steps;
+    before = g.before;
+    after = g.after;
+    sight = g.sight;
+    is = g.is;
+    steps = g.steps;
     heap = ap (λ z. z.heap) un ∙ base ∙ kp.base ∙ sym g.heap;
     mid = ap (λ z. z.mid) un ∙ mid ∙ kp.was_mid ∙ sym g.mid;
     threads = g.threads;
-    left = left; place = y; upto = up; more = more; more_err = more_err; taken = taken;
-    out = ap (λ z. z.out) un ∙ out ∙ ap (λ l. grown l more) sh.out ∙ then_grown o y.world.out more;
-    err = ap (λ z. z.err) un ∙ err ∙ ap (λ l. grown l more_err) sh.err ∙ then_grown e y.world.err more_err;
+    left = left;
+    place = y;
+    upto = up;
+    more = more;
+    more_err = more_err;
+    taken = taken;
+    out = ap (λ z. z.out) un ∙ out ∙ ap (λ l. grown l more) sh.out ∙ grown_then o y.world.out more;
+    err = ap (λ z. z.err) un ∙ err ∙ ap (λ l. grown l more_err) sh.err ∙ grown_then e y.world.err more_err;
     input = ap (λ z. z.input) un ∙ input ∙ ap (λ i. shrunk i taken) (sym sh.input);
-    front = f; front_err = fe; front_in = fi;
+    front = f;
+    front_err = fe;
+    front_in = fi;
   }
 
   -- the names that stay given are those of the steps before
@@ -161,7 +184,8 @@ module _ {S : Type 0} (p : Prog S) (t k : ℕ) (names : List ℕ) (o e : Option 
           cut_part (Do (Make q) f) y x w d1 [] [] 0 up sh kp rf.0.base rf.0.was_mid (rf.1.2.same ∙ sym (grown_none x.out)) (rf.1.3.same ∙ sym (grown_none x.err)) (rf.1.1.same ∙ sym (shrunk_none x.input)) un (inl refl) (inl refl) (inl refl),
           made_part x w d1 rf.0.kept kp un,
           (ls, ap (λ z. z.free) un ∙ rf.0.free ∙ h.1, q, x.left, (f, refl), ap (λ l. l ++ x.left) sh.made ∙ kp.names (sym kp.free ∙ h.1) ∙ g.named (sym kp.free ∙ h.1), subst (λ (a : Heap). NoName a x.left) (sym sh.heap) h.2),
-          begins_part x w d1 rf.0.free kp un)
+          begins_part x w d1 rf.0.free kp un,
+        )
       ]
   refused_memory (SetVal a i v) f y x w d1 ls true eb up sh kp rf un = absurd (let q : true ≡ false = sym eb ∙ ap (λ z. z.bad) un ∙ rf.1.0 ∙ kp.bad in cc)
   refused_memory (Push a v) f y x w d1 ls true eb up sh kp rf un = absurd (let q : true ≡ false = sym eb ∙ ap (λ z. z.bad) un ∙ rf.1.0 ∙ kp.bad in cc)
@@ -186,22 +210,28 @@ module _ {S : Type 0} (p : Prog S) (t k : ℕ) (names : List ℕ) (o e : Option 
   refused c f y x w d1 ls MemoryStop up sh kp rf un = refused_memory c f y x w d1 ls d1.bad refl up sh kp rf un
   refused (Take most) f y x w d1 ls ReadStop up sh kp rf un =
       let h = rf.1.0 in
-      let l : d0.reads ≤ x.reads = let a = g.reads in let b = kp.reads in omega arith in
-      (cut_part (Do (Take most) f) y x w d1 [] [] h.0.0 up sh kp rf.0.base rf.0.was_mid (rf.1.1.same ∙ sym (grown_none x.out)) (rf.1.2.same ∙ sym (grown_none x.err)) h.0.1 un (inl refl) (inl refl) (inr (most, (f, refl))),
+      let l : d0.reads ≤ x.reads = let a = g.reads in let b = kp.reads in omega arith in (
+        cut_part (Do (Take most) f) y x w d1 [] [] h.0.0 up sh kp rf.0.base rf.0.was_mid (rf.1.1.same ∙ sym (grown_none x.out)) (rf.1.2.same ∙ sym (grown_none x.err)) h.0.1 un (inl refl) (inl refl) (inr (most, (f, refl))),
         made_part x w d1 rf.0.kept kp un,
-        (ls, most, (f, refl), rose_by d0.reads x.reads w.reads d1.reads l h.1 (ap (λ z. z.reads) un)), begins_part x w d1 rf.0.free kp un)
+        (ls, most, (f, refl), rose_by d0.reads x.reads w.reads d1.reads l h.1 (ap (λ z. z.reads) un)),
+        begins_part x w d1 rf.0.free kp un,
+      )
   refused (Put Output bytes) f y x w d1 ls WriteStop up sh kp rf un =
       let h = rf.1.0 in
-      let l : d0.writes ≤ x.writes = let a = g.writes in let b = kp.writes in omega arith in
-      (cut_part (Do (Put Output bytes) f) y x w d1 (take h.0.0 bytes) [] 0 up sh kp rf.0.base rf.0.was_mid h.0.1 (rf.1.2.same ∙ sym (grown_none x.err)) (rf.1.1.same ∙ sym (shrunk_none x.input)) un (inr (bytes, h.0.0, (f, refl), refl)) (inl refl) (inl refl),
+      let l : d0.writes ≤ x.writes = let a = g.writes in let b = kp.writes in omega arith in (
+        cut_part (Do (Put Output bytes) f) y x w d1 (take h.0.0 bytes) [] 0 up sh kp rf.0.base rf.0.was_mid h.0.1 (rf.1.2.same ∙ sym (grown_none x.err)) (rf.1.1.same ∙ sym (shrunk_none x.input)) un (inr (bytes, h.0.0, (f, refl), refl)) (inl refl) (inl refl),
         made_part x w d1 rf.0.kept kp un,
-        (ls, bytes, (f, refl), rose_by d0.writes x.writes w.writes d1.writes l h.1 (ap (λ z. z.writes) un)), begins_part x w d1 rf.0.free kp un)
+        (ls, bytes, (f, refl), rose_by d0.writes x.writes w.writes d1.writes l h.1 (ap (λ z. z.writes) un)),
+        begins_part x w d1 rf.0.free kp un,
+      )
   refused (Put ErrorOutput bytes) f y x w d1 ls ErrStop up sh kp rf un =
       let h = rf.1.0 in
-      let l : d0.errs ≤ x.errs = let a = g.errs in let b = kp.errs in omega arith in
-      (cut_part (Do (Put ErrorOutput bytes) f) y x w d1 [] (take h.0.0 bytes) 0 up sh kp rf.0.base rf.0.was_mid (rf.1.2.same ∙ sym (grown_none x.out)) h.0.1 (rf.1.1.same ∙ sym (shrunk_none x.input)) un (inl refl) (inr (bytes, h.0.0, (f, refl), refl)) (inl refl),
+      let l : d0.errs ≤ x.errs = let a = g.errs in let b = kp.errs in omega arith in (
+        cut_part (Do (Put ErrorOutput bytes) f) y x w d1 [] (take h.0.0 bytes) 0 up sh kp rf.0.base rf.0.was_mid (rf.1.2.same ∙ sym (grown_none x.out)) h.0.1 (rf.1.1.same ∙ sym (shrunk_none x.input)) un (inl refl) (inr (bytes, h.0.0, (f, refl), refl)) (inl refl),
         made_part x w d1 rf.0.kept kp un,
-        (ls, bytes, (f, refl), rose_by d0.errs x.errs w.errs d1.errs l h.1 (ap (λ z. z.errs) un)), begins_part x w d1 rf.0.free kp un)
+        (ls, bytes, (f, refl), rose_by d0.errs x.errs w.errs d1.errs l h.1 (ap (λ z. z.errs) un)),
+        begins_part x w d1 rf.0.free kp un,
+      )
   refused _ f y x w d1 ls ReadStop up sh kp rf un = absurd rf.1.0
   refused _ f y x w d1 ls WriteStop up sh kp rf un = absurd rf.1.0
   refused _ f y x w d1 ls ErrStop up sh kp rf un = absurd rf.1.0
@@ -227,7 +257,7 @@ module _ {S : Type 0} (p : Prog S) (t k : ℕ) (names : List ℕ) (o e : Option 
             let same : D w1 ≡ D at.place = ap D own.1 in
             let bad : (D w).bad ≡ false = ap (λ z. z.bad) un ∙ ap (λ z. z.bad) same ∙ kp.bad in
             let cut : CutIn p t k o e m (D w) ts = cut_part at.left sh.0 (D at.place) (D w1) (D w) [] [] 0 up sh.2 kp (ap (λ z. z.base) same) (ap (λ z. z.was_mid) same)
-              (ap (λ z. z.out) same ∙ sym (grown_none (D at.place).out)) (ap (λ z. z.err) same ∙ sym (grown_none (D at.place).err)) (ap (λ z. z.input) same ∙ sym (shrunk_none (D at.place).input)) un (inl refl) (inl refl) (inl refl) in
+            (ap (λ z. z.out) same ∙ sym (grown_none (D at.place).out)) (ap (λ z. z.err) same ∙ sym (grown_none (D at.place).err)) (ap (λ z. z.input) same ∙ sym (shrunk_none (D at.place).input)) un (inl refl) (inl refl) (inl refl) in
             let P : TurnWhy → Type 0 = λ y. Told (D w) y in
             let wy : why_of_stop c (D w).bad ≡ OutOfMemory = ap (λ z. why_of_stop z (D w).bad) own.0 ∙ ap (λ z. memory_why z) bad in
             subst P (sym wy) (cut, made_part (D at.place) (D w1) (D w) (ap (λ z. z.kept) same) kp un, tt, begins_part (D at.place) (D w1) (D w) (ap (λ z. z.free) same) kp un)
@@ -248,15 +278,19 @@ module _ {S : Type 0} (p : Prog S) (t k : ℕ) (names : List ℕ) (o e : Option 
       let dd : Does (p.row g.after) g.sight (c, s1) r.0 = subst (λ (q : S). Does (p.row q) g.sight (c, s1) r.0) es r.1 in
       let lv : p.life g.after ≡ Lives = subst (λ (q : S). p.life q ≡ Lives) es ls in
       let cut : CutIn p t k o e m d1 ts = cut_part (Ret (c, s1)) r.0 (D w) w1 d1 [] [] 0 (run_upto pure (p.row g.after) g.sight (c, s1) r.0 dd) r.2 kp (ap (λ z. z.base) ew) (ap (λ z. z.was_mid) ew)
-        (ap (λ z. z.out) ew ∙ sym (grown_none (D w).out)) (ap (λ z. z.err) ew ∙ sym (grown_none (D w).err)) (ap (λ z. z.input) ew ∙ sym (shrunk_none (D w).input)) un (inl refl) (inl refl) (inl refl) in
+      (ap (λ z. z.out) ew ∙ sym (grown_none (D w).out)) (ap (λ z. z.err) ew ∙ sym (grown_none (D w).err)) (ap (λ z. z.input) ew ∙ sym (shrunk_none (D w).input)) un (inl refl) (inl refl) (inl refl) in
       let made = made_part (D w) w1 d1 (ap (λ z. z.kept) ew) kp un in
-      let along = begins_part (D w) w1 d1 (ap (λ z. z.free) ew) kp un in
-      ((cut, made, tt, along), λ quiet ec.
-        let dw : Does (p.row g.after) g.sight (WaitsNow, s1) r.0 = subst (λ (q : Outcome). Does (p.row g.after) g.sight (q, s1) r.0) ec dd in
-        (cut_part (Ret (c, s1)) r.0 (D w) w1 d1 [] [] 0 (run_upto pure (p.row g.after) g.sight (c, s1) r.0 dd) r.2 kp (ap (λ z. z.base) ew) (ap (λ z. z.was_mid) ew)
-        (ap (λ z. z.out) ew ∙ sym (grown_none (D w).out)) (ap (λ z. z.err) ew ∙ sym (grown_none (D w).err)) (ap (λ z. z.input) ew ∙ sym (shrunk_none (D w).input)) un (inl refl) (inl refl) (inl refl),
-          made,
-          (lv, record { world = (quiet g.after s1 g.sight r.0 dw).1.world; more = refl; more_err = refl; taken = refl }, s1, dw, (quiet g.after s1 g.sight r.0 dw).1), along))
+      let along = begins_part (D w) w1 d1 (ap (λ z. z.free) ew) kp un in (
+        (cut, made, tt, along),
+        λ quiet ec.
+            let dw : Does (p.row g.after) g.sight (WaitsNow, s1) r.0 = subst (λ (q : Outcome). Does (p.row g.after) g.sight (q, s1) r.0) ec dd in (
+              cut_part (Ret (c, s1)) r.0 (D w) w1 d1 [] [] 0 (run_upto pure (p.row g.after) g.sight (c, s1) r.0 dd) r.2 kp (ap (λ z. z.base) ew) (ap (λ z. z.was_mid) ew)
+                  (ap (λ z. z.out) ew ∙ sym (grown_none (D w).out)) (ap (λ z. z.err) ew ∙ sym (grown_none (D w).err)) (ap (λ z. z.input) ew ∙ sym (shrunk_none (D w).input)) un (inl refl) (inl refl) (inl refl),
+              made,
+              (lv, record { world = (quiet g.after s1 g.sight r.0 dw).1.world; more = refl; more_err = refl; taken = refl }, s1, dw, (quiet g.after s1 g.sight r.0 dw).1),
+              along,
+            ),
+      )
 
 -- a step leaves a sound list of threads
 pub sound_after : {S X : Type 0} (p : Prog S) (sound : Heap → List S → Type 0) (law : StaysSound p sound) (u : Sense S X) (b : Bracket S X) (D : X → PlainState S) (i : IsPlain u b D)
@@ -269,7 +303,7 @@ sound_after {S} p sound law u b D i ts t s s1 c v w so gs ls st =
     let world : World = record { input = d.input; out = []; err = []; mid = d.mid } in
     let x : Sight S = record (opened S d.heap world) { made = d.made } in
     let sh : Shows d.out d.err [] (D v1) x = subst (λ (z : PlainState S). Shows d.out d.err [] z x) (sym op)
-      (record { heap = refl; made = refl; started = refl; input = refl; out = sym (grown_none d.out); err = sym (grown_none d.err); mid = refl }) in
+    (record { heap = refl; made = refl; started = refl; input = refl; out = sym (grown_none d.out); err = sym (grown_none d.err); mid = refl }) in
     let r = run_shown u b D i d.out d.err [] (p.row s) v1 (c, s1) w x st.2 sh in
     let a = does_afresh (p.row s) x r.0 (c, s1) r.1 in
     let y = a.0 in
@@ -277,7 +311,7 @@ sound_after {S} p sound law u b D i ts t s s1 c v w so gs ls st =
     let hy : y.heap ≡ (D w).heap = (λ i q. f.heap q i) ∙ r.2.heap in
     let sy : y.started ≡ (D w).started = sym f.started ∙ r.2.started in
     subst (λ (h : Heap). sound h (slice_set (ts ++ (D w).started) t s1)) hy
-      (subst (λ (l : List S). sound y.heap (slice_set (ts ++ l) t s1)) sy (law ts t s d.heap world c s1 y so gs ls f.does))
+    (subst (λ (l : List S). sound y.heap (slice_set (ts ++ l) t s1)) sy (law ts t s d.heap world c s1 y so gs ls f.does))
 
 -- what is taken back is as before
 pub undone_run : {S X : Type 0} (p : Prog S) (u : Sense S X) (b : Bracket S X) (D : X → PlainState S) (i : IsPlain u b D) (s s1 : S) (c : Outcome) (v w : X) (w1 d1 : PlainState S)

@@ -45,7 +45,7 @@ pub begun_by : {S : Type 0} (d d1 : PlainState S) (made kept left was names : Li
     → made ≡ [] → kept ≡ [] → (free ≡ false → left ≡ names) → Begun d d1 names
 begun_by {S} d d1 made kept left was names free e em ek el = record {
   rest = e ∙ ap (λ l. record d { made = l; kept = kept; left = left; was_left = was; free = free }) em ∙ ap (λ l. record d { made = []; kept = l; left = left; was_left = was; free = free }) ek
-    ∙ ap {B = PlainState S} (λ (z : PlainState S). record d { made = []; kept = []; left = z.left; was_left = z.was_left; free = z.free }) (sym e);
+      ∙ ap {B = PlainState S} (λ (z : PlainState S). record d { made = []; kept = []; left = z.left; was_left = z.was_left; free = z.free }) (sym e);
   named = λ f. ap (λ z. z.left) e ∙ el (sym (ap (λ z. z.free) e) ∙ f);
 }
 
@@ -64,9 +64,17 @@ module _ {S : Type 0} (p : Prog S) (thread : ℕ) (a : LockState S) (d1 : PlainS
       let is : slice_get m.threads thread ≡ Some b.0 = ap (λ l. slice_get l thread) st.threads ∙ b.1 in
       let ed = bg.rest in
       record {
-        before = b.0; after = b.0; sight = opened S m.heap m.world; is = is; steps = (refl, refl);
-        heap = st.heap ∙ sym (ap (λ z. z.heap) ed); made = sym (ap (λ z. z.made) ed); input = st.input ∙ sym (ap (λ z. z.input) ed);
-        out = ap (λ z. z.out) ed ∙ st.out; err = ap (λ z. z.err) ed ∙ st.err; mid = st.mid ∙ sym (ap (λ z. z.mid) ed);
+        before = b.0;
+        after = b.0;
+        sight = opened S m.heap m.world;
+        is = is;
+        steps = (refl, refl);
+        heap = st.heap ∙ sym (ap (λ z. z.heap) ed);
+        made = sym (ap (λ z. z.made) ed);
+        input = st.input ∙ sym (ap (λ z. z.input) ed);
+        out = ap (λ z. z.out) ed ∙ st.out;
+        err = ap (λ z. z.err) ed ∙ st.err;
+        mid = st.mid ∙ sym (ap (λ z. z.mid) ed);
         threads = sym st.threads ∙ sym (set_same m.threads thread b.0 is) ∙ sym (append-nil (slice_set m.threads thread b.0));
         named = λ f. ap (λ z. z.made ++ d1.left) ed ∙ bg.named f;
         reads = let q : d1.reads ≡ a.view.reads = ap (λ z. z.reads) ed in omega arith;
@@ -80,11 +88,20 @@ module _ {S : Type 0} (p : Prog S) (thread : ℕ) (a : LockState S) (d1 : PlainS
         → Reach p thread t.steps (record { view = d1; threads = a.threads }) c → c.view.free ≡ false → c.view.left ≡ [] → TurnDone p t a c
     ends t c et some bg rc fr none = λ o e m st.
         let g = rc (places t.names) o e m a.view (begins (places t.names) o e m st lt bg) in
-        let names : g.sight.made ≡ places t.names = g.made ∙ sym (append-nil c.view.made) ∙ sym (ap (λ l. c.view.made ++ l) none) ∙ g.named fr in
-        (machine_after m thread g.after g.sight,
+        let names : g.sight.made ≡ places t.names = g.made ∙ sym (append-nil c.view.made) ∙ sym (ap (λ l. c.view.made ++ l) none) ∙ g.named fr in (
+          machine_after m thread g.after g.sight,
           record { heap = g.heap; threads = sym g.threads; input = g.input; out = g.out; err = g.err; mid = g.mid },
-          record { before = g.before; after = g.after; sight = g.sight; is = ap (slice_get m.threads) et ∙ g.is; some = some; steps = g.steps; names = names;
-            gives = ap (λ i. machine_after m i g.after g.sight) (sym et) })
+          record {
+            before = g.before;
+            after = g.after;
+            sight = g.sight;
+            is = ap (slice_get m.threads) et ∙ g.is;
+            some = some;
+            steps = g.steps;
+            names = names;
+            gives = ap (λ i. machine_after m i g.after g.sight) (sym et);
+          },
+        )
 
     -- or one of them was not
     pub cuts : (t : Turn) (c : LockState S) (done : ℕ) (why : TurnWhy) → t.thread ≡ thread → Begun a.view d1 (places t.names)
@@ -117,10 +134,6 @@ module _ {S : Type 0} (p : Prog S) (thread : ℕ) (a : LockState S) (d1 : PlainS
 pub lacks : {S : Type 0} (p : Prog S) (t : Turn) (a : LockState S) → length a.threads ≤ t.thread → TurnCut p t 0 NotThere a a
 lacks p t a le = λ o e m st. inl (refl, refl, ap (λ l. slice_get l t.thread) st.threads ∙ slice_none a.threads t.thread le, st)
 
-pub if_err : {A E : Type 0} (res : Result A E) (e : E) (P : E → Type 0) → IsErrAnd res (λ x. x ≡ e) → P e → IfErr res P
-if_err (Ok x) e P h p = tt
-if_err (Err x) e P h p = subst P (sym h) p
-
 pub none_of : (b : Bool) (xs : List ℕ) → (0 < length xs → b ≡ true) → b ≡ false → xs ≡ []
 none_of b [] f e = refl
 none_of b (x ∷ xs) f e = absurd (let q : true ≡ false = sym (f (omega arith)) ∙ e in cc)
@@ -131,13 +144,27 @@ module _ {S : Type 0} (p : Prog S) (thread most : ℕ) (a b : LockState S) (d1 d
   -- all steps were done
   pub free_ends : (t : Turn) → t.thread ≡ thread → t.steps ≡ most → 1 ≤ most → places t.names ≡ b.view.made
       → Reach p thread most (record { view = d1; threads = a.threads }) b → FreeDone p thread most t a (record { view = d2; threads = b.threads })
-  free_ends t et es some en rc = (et, omega arith, omega arith, λ o e m st.
-      let g = rc [] o e m a.view (begins p thread a d1 [] o e m st lt bg) in
-      (machine_after m thread g.after g.sight,
-        record { heap = g.heap ∙ sym (ap (λ z. z.heap) ed); threads = sym g.threads; input = g.input ∙ sym (ap (λ z. z.input) ed); out = ap (λ z. z.out) ed ∙ g.out; err = ap (λ z. z.err) ed ∙ g.err; mid = g.mid ∙ sym (ap (λ z. z.mid) ed) },
-        record { before = g.before; after = g.after; sight = g.sight; is = ap (slice_get m.threads) et ∙ g.is; some = omega arith; steps = subst (λ k. Steps p k g.before (opened S m.heap m.world) g.after g.sight) (sym es) g.steps; names = g.made ∙ sym en;
-          gives = ap (λ i. machine_after m i g.after g.sight) (sym et) },
-        inl es))
+  free_ends t et es some en rc = (
+    et,
+    omega arith,
+    omega arith,
+    λ o e m st.
+        let g = rc [] o e m a.view (begins p thread a d1 [] o e m st lt bg) in (
+          machine_after m thread g.after g.sight,
+          record { heap = g.heap ∙ sym (ap (λ z. z.heap) ed); threads = sym g.threads; input = g.input ∙ sym (ap (λ z. z.input) ed); out = ap (λ z. z.out) ed ∙ g.out; err = ap (λ z. z.err) ed ∙ g.err; mid = g.mid ∙ sym (ap (λ z. z.mid) ed) },
+          record {
+            before = g.before;
+            after = g.after;
+            sight = g.sight;
+            is = ap (slice_get m.threads) et ∙ g.is;
+            some = omega arith;
+            steps = subst (λ k. Steps p k g.before (opened S m.heap m.world) g.after g.sight) (sym es) g.steps;
+            names = g.made ∙ sym en;
+            gives = ap (λ i. machine_after m i g.after g.sight) (sym et);
+          },
+          inl es,
+        ),
+  )
 
   -- nothing of a next step is left: what stands is the machine after the steps that were done
   module _ (t : Turn) (done : ℕ) (et : t.thread ≡ thread) (es : t.steps ≡ done) (some : 1 ≤ done) (en : places t.names ≡ b.view.made) (o e : Option (List ℕ)) (m : Machine S) where
@@ -147,13 +174,21 @@ module _ {S : Type 0} (p : Prog S) (thread most : ℕ) (a b : LockState S) (d1 d
     stays c made n why =
         let out : b.view.out ≡ grown o c.sight.world.out = c.out ∙ ap (λ l. grown o (c.place.world.out ++ l)) n.more ∙ ap (grown o) (append-nil c.place.world.out) ∙ ap (λ x. grown o x.out) n.world in
         let err : b.view.err ≡ grown e c.sight.world.err = c.err ∙ ap (λ l. grown e (c.place.world.err ++ l)) n.more_err ∙ ap (grown e) (append-nil c.place.world.err) ∙ ap (λ x. grown e x.err) n.world in
-        let input : b.view.input ≡ c.sight.world.input = c.input ∙ ap (λ k. shrunk c.place.world.input k) n.taken ∙ shrunk_none c.place.world.input ∙ ap (λ x. x.input) n.world in
-        (machine_after m thread c.after c.sight,
+        let input : b.view.input ≡ c.sight.world.input = c.input ∙ ap (λ k. shrunk c.place.world.input k) n.taken ∙ shrunk_none c.place.world.input ∙ ap (λ x. x.input) n.world in (
+          machine_after m thread c.after c.sight,
           record { heap = sym c.heap ∙ sym (ap (λ z. z.heap) ed); threads = sym c.threads; input = sym input ∙ sym (ap (λ z. z.input) ed); out = ap (λ z. z.out) ed ∙ out; err = ap (λ z. z.err) ed ∙ err; mid = sym c.mid ∙ sym (ap (λ z. z.mid) ed) },
-          record { before = c.before; after = c.after; sight = c.sight; is = ap (slice_get m.threads) et ∙ c.is; some = omega arith;
-            steps = subst (λ k. Steps p k c.before (opened S m.heap m.world) c.after c.sight) (sym es) c.steps; names = sym made ∙ sym en;
-            gives = ap (λ i. machine_after m i c.after c.sight) (sym et) },
-          record { state = c.after; is = get_set m.threads c.sight.started thread c.before c.after c.is; why = why })
+          record {
+            before = c.before;
+            after = c.after;
+            sight = c.sight;
+            is = ap (slice_get m.threads) et ∙ c.is;
+            some = omega arith;
+            steps = subst (λ k. Steps p k c.before (opened S m.heap m.world) c.after c.sight) (sym es) c.steps;
+            names = sym made ∙ sym en;
+            gives = ap (λ i. machine_after m i c.after c.sight) (sym et);
+          },
+          record { state = c.after; is = get_set m.threads c.sight.started thread c.before c.after c.is; why = why },
+        )
 
     stays_by : (why : TurnWhy) → (why ≡ Ended) ⊎ (why ≡ Waits) → CutTold p thread done [] o e m a.view b.view b.threads why
         → (m1 : Machine S) × Stands o e d2 b.threads m1 × DoesTurn p m t m1 × Rests p m1 thread
@@ -169,16 +204,38 @@ module _ {S : Type 0} (p : Prog S) (thread most : ℕ) (a b : LockState S) (d1 d
   -- the thread rests after some of them
   pub free_rests : (t : Turn) (done : ℕ) (why : TurnWhy) → t.thread ≡ thread → t.steps ≡ done → 1 ≤ done → places t.names ≡ b.view.made → (why ≡ Ended) ⊎ (why ≡ Waits)
       → ReachCut p thread most done why (record { view = d1; threads = a.threads }) b → FreeDone p thread most t a (record { view = d2; threads = b.threads })
-  free_rests t done why et es some en wy rc = (et, omega arith, (let l = rc.0 in omega arith), λ o e m st.
-      let z = stays_by t done et es some en o e m why wy (rc.1 [] o e m a.view (begins p thread a d1 [] o e m st lt bg)) in
-      (z.0, z.1, z.2, inr z.3))
+  free_rests t done why et es some en wy rc = (
+    et,
+    omega arith,
+    (let l = rc.0 in omega arith),
+    λ o e m st.
+        let z = stays_by t done et es some en o e m why wy (rc.1 [] o e m a.view (begins p thread a d1 [] o e m st lt bg)) in
+        (z.0, z.1, z.2, inr z.3),
+  )
 
   -- what was handed out doesn't show in what is told of a cut
   abbrev told_after : (done : ℕ) (o e : Option (List ℕ)) (m : Machine S) (c : CutIn p thread done o e m b.view b.threads) → CutIn p thread done o e m d2 b.threads
   told_after done o e m c = record {
-    before = c.before; after = c.after; sight = c.sight; is = c.is; steps = c.steps; heap = ap (λ z. z.heap) ed ∙ c.heap; mid = ap (λ z. z.mid) ed ∙ c.mid; threads = c.threads;
-    left = c.left; place = c.place; upto = c.upto; more = c.more; more_err = c.more_err; taken = c.taken;
-    out = ap (λ z. z.out) ed ∙ c.out; err = ap (λ z. z.err) ed ∙ c.err; input = ap (λ z. z.input) ed ∙ c.input; front = c.front; front_err = c.front_err; front_in = c.front_in;
+    before = c.before;
+    after = c.after;
+    sight = c.sight;
+    is = c.is;
+    steps = c.steps;
+    heap = ap (λ z. z.heap) ed ∙ c.heap;
+    mid = ap (λ z. z.mid) ed ∙ c.mid;
+    threads = c.threads;
+    left = c.left;
+    place = c.place;
+    upto = c.upto;
+    more = c.more;
+    more_err = c.more_err;
+    taken = c.taken;
+    out = ap (λ z. z.out) ed ∙ c.out;
+    err = ap (λ z. z.err) ed ∙ c.err;
+    input = ap (λ z. z.input) ed ∙ c.input;
+    front = c.front;
+    front_err = c.front_err;
+    front_in = c.front_in;
   }
 
   rose_after : (x y z : ℕ) → z ≡ y → Rose x y → Rose x z

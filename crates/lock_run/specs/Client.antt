@@ -1,4 +1,4 @@
--- What a client's step does over a view.
+-- What a client's step does over a view, and the laws that a client keeps. States `docs/HEAP.md`, "Clients".
 use Rattle.std.specs.Prelude.{◌≡◌, ℕ, Bool, List, ◌++◌, Option, Some, slice_get, slice_set}
 use Rattle.py_data.specs.declared.stop.Stop.{Stop}
 use Rattle.py_data.specs.Heap.{Heap}
@@ -11,15 +11,15 @@ use Rattle.lock_run.specs.declared.client.Outcome.TheVariants.{Waits}
 use Rattle.lock_run.specs.declared.client.Life.TheVariants.{Lives}
 use Rattle.lock_run.specs.Prog.{Prog}
 
--- one state of a sound list
+-- the state is one of a list that may stand over the heap
 abbrev pub Standing : {S : Type 0} → (List S → Type 0) → S → Type 0
 Standing sound s = (ss : List _) × (t : ℕ) × (slice_get ss t ≡ Some s) × sound ss
 
--- the meaning of a step happened
+-- the step was opened and its row was done
 abbrev pub Stepped : {S X : Type 0} → Sense S X → Bracket S X → Row S (Outcome × S) → X → Outcome → S → X → Type 0
 Stepped u b row old o s new = (v : _) × b.opens old v × Run u row v (o, s) new
 
--- the step met a Stop and was taken back
+-- the step was opened, its row met a Stop, and the step was taken back
 abbrev pub StepStopped : {S X : Type 0} → Sense S X → Bracket S X → Row S (Outcome × S) → X → Stop → X → Type 0
 StepStopped u b row old e new = (v : _) × (w : _) × b.opens old v × Stopped u row v e w × b.undoes w new
 
@@ -29,6 +29,7 @@ StaysSound {S} p sound =
     (ss : List S) (t : ℕ) (s : S) (h : Heap) (w : World) (o : Outcome) (s1 : S) (y : Sight S) →
     sound h ss → slice_get ss t ≡ Some s → p.life s ≡ Lives → Does (p.row s) (opened S h w) (o, s1) y → sound y.heap (slice_set (ss ++ y.started) t s1)
 
+-- heap, made names, started states and world are as they were; only looks may have been added
 pub record Unchanged {S : Type 0} (x y : Sight S) : Type 0 where
   pub heap : y.heap ≡ x.heap
   pub made : y.made ≡ x.made

@@ -1,8 +1,9 @@
--- A journal of records that were replaced, by which changes are taken back.
+-- A journal of the records that a step replaced, by which its changes are taken back. States `docs/HEAP.md`, "The plain view".
 use Rattle.std.specs.Prelude.{ℕ, List, [], ◌∷◌, Option, Some, None, cond, eqb, Bool, true, ◌&&◌, ◌||◌, not, is_some, length, leb}
 use Rattle.py_data.specs.declared.record.TheConstants.{LENGTH_LIMIT}
 use Rattle.py_data.specs.Heap.{Rec, Heap}
 
+-- the heap with what stood at an address put back
 abbrev pub restore_at : Heap → ℕ → Option Rec → Heap
 restore_at h a o = λ b. cond (eqb b a) o (h b)
 

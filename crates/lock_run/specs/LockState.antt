@@ -1,4 +1,4 @@
--- What a one-lock machine holds, as values.
+-- What a LockRun holds, as values. States `docs/HEAP.md`, "The one-lock machine".
 use Rattle.std.specs.Prelude.{◌≡◌, ℕ, List, [], Option, Bool, true, false}
 use Rattle.py_data.specs.Heap.{Heap}
 use Rattle.py_data.specs.World.{World}
@@ -10,9 +10,11 @@ use Rattle.lock_run.specs.Client.{Going, Waiting}
 use Rattle.lock_run.specs.PlainSense.{plain_state}
 use Rattle.lock_run.specs.Turns.{LockState}
 
+-- the view and the threads of a LockRun
 abbrev pub lock_state : {C S I O E : Type 0} → (I → SourceState) → (O → SinkState) → (E → SinkState) → LockRun C I O E S → LockState S
 lock_state input out err run = record { view = plain_state input out err run.view; threads = run.threads }
 
+-- its client
 abbrev pub lock_client : {C S I O E : Type 0} → LockRun C I O E S → C
 lock_client run = run.client.now
 

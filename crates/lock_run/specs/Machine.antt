@@ -1,4 +1,5 @@
--- The one-lock machine: one heap, one list of threads, one world.
+-- The one-lock machine: one heap, one list of threads, one world, and the turns that it does. States `docs/HEAP.md`, "The
+-- one-lock machine" and "Turns and runs".
 use Rattle.std.specs.Prelude.{◌≡◌, ◌≢◌, ℕ, ◌≤◌, zero, suc, List, [], ◌∷◌, ◌++◌, Option, Some, None, slice_get, slice_set}
 use Rattle.py_data.specs.Heap.{Heap}
 use Rattle.py_data.specs.Collection.{places}
@@ -10,6 +11,7 @@ use Rattle.lock_run.specs.declared.client.Life.TheVariants.{Lives}
 use Rattle.lock_run.specs.declared.turn.Turn.{Turn}
 use Rattle.lock_run.specs.Prog.{Prog}
 
+-- a state of the machine: its heap, the states of its threads in the order of their numbers, and its world
 pub record Machine (S : Type 0) : Type 0 where
   pub heap : Heap
   pub threads : List S
@@ -31,6 +33,7 @@ Steps {S} p (suc n) q s q1 s1 = (r : S) × (u : Sight S) × Steps p n q s r u ×
 abbrev pub machine_after : {S : Type 0} → Machine S → ℕ → S → Sight S → Machine S
 machine_after m t q s = record { heap = s.heap; threads = slice_set m.threads t q ++ s.started; world = s.world }
 
+-- a turn: so many steps of the thread, whose new records got exactly the turn's names, in order
 pub record DoesTurn {S : Type 0} (p : Prog S) (m : Machine S) (t : Turn) (m1 : Machine S) : Type 0 where
   pub before : S
   pub after : S
@@ -41,10 +44,11 @@ pub record DoesTurn {S : Type 0} (p : Prog S) (m : Machine S) (t : Turn) (m1 : M
   pub names : sight.made ≡ places t.names
   pub gives : m1 ≡ machine_after m t.thread after sight
 
+-- a run: turns one after another
 abbrev pub Runs : {S : Type 0} → Prog S → Machine S → List Turn → Machine S → Type 0
 Runs p m [] m1 = m1 ≡ m
 Runs {S} p m (t ∷ ts) m1 = (u : Machine S) × DoesTurn p m t u × Runs p u ts m1
 
--- the first state
+-- the first state: an empty heap, the first thread alone, and this world
 abbrev pub begin_with : {S : Type 0} → Prog S → World → Machine S
 begin_with p w = record { heap = λ _. None; threads = p.first ∷ []; world = w }

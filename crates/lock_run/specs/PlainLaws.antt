@@ -1,4 +1,4 @@
--- A plain view keeps the laws of views.
+-- A plain view keeps the laws of views: the proofs that `impl View for PlainView` cites. States `docs/HEAP.md`, "Views".
 use Rattle.std.specs.Prelude.{◌≡◌, ℕ, List, Option, Some, None, Bool, true, false}
 use Rattle.std.proofs.Common.{ap, refl, ◌∙◌, sym, subst, IsSome}
 use Rattle.py_data.specs.declared.stop.Stop.{Stop}
@@ -13,9 +13,11 @@ use Rattle.stm_io.specs.Outside.{SourceState, SinkState}
 use Rattle.lock_run.specs.PlainState.{PlainState, PlainDoes, PlainRefuses, PlainOpens, PlainUndoes, Still, Changes, Why}
 use Rattle.lock_run.specs.PlainSense.{plain_sense, plain_bracket, plain_stops}
 
+-- a change of a record is one of the heap
 changes_edits : {S : Type 0} (a : ℕ) (ok : Rec → Type 0) (f : Rec → Rec) (d e : PlainState S) → Changes a ok f d e → Edits a f d.heap e.heap
 changes_edits a ok f d e h = (subst IsSome (sym h.1) refl, ap (λ d. d.heap) h.3 ∙ ap (λ q. put_at d.heap a (f q)) (sym (at-is d.heap a h.0 h.1)))
 
+-- each call does to the heap what such a call does over any view
 pub plain_effect : {S : Type 0} (c : Call S) (d : PlainState S) (r : Reply c) (e : PlainState S) → PlainDoes c d r e → Effect c d.heap r e.heap
 plain_effect (Read a) d r e h = (h.0, ap (λ d. d.heap) h.1)
 plain_effect (Find a key) d r e h = (subst IsSome (sym h.1) refl, h.3 ∙ ap (λ q. find d.heap q.values key) (sym (at-is d.heap a h.0 h.1)), ap (λ d. d.heap) h.4)
@@ -32,6 +34,7 @@ plain_effect (Take most) d r e h = (h.1, ap (λ d. d.heap) h.2)
 plain_effect MidLine d r e h = ap (λ d. d.heap) h.1
 plain_effect (SetMidLine b) d r e h = ap (λ d. d.heap) h
 
+-- no call changes the base of the step
 pub plain_base : {S : Type 0} (c : Call S) (d : PlainState S) (r : Reply c) (e : PlainState S) → PlainDoes c d r e → e.base ≡ d.base
 plain_base (Read a) d r e h = ap (λ d. d.base) h.1
 plain_base (Find a key) d r e h = ap (λ d. d.base) h.4
@@ -48,6 +51,7 @@ plain_base (Take most) d r e h = ap (λ d. d.base) h.2
 plain_base MidLine d r e h = ap (λ d. d.base) h.1
 plain_base (SetMidLine b) d r e h = ap (λ d. d.base) h
 
+-- no look is refused
 no_look_stops : {S : Type 0} (a : ℕ) (d e : PlainState S) (s : Stop) → Why s (Read a) d e → ⊥
 no_look_stops a d e ReadFault w = w.0
 no_look_stops a d e WriteFault w = w.0
@@ -55,6 +59,7 @@ no_look_stops a d e ErrFault w = w.0
 no_look_stops a d e OutOfMemory w = w.0
 no_look_stops a d e _ w = w
 
+-- each Stop is one that such a call can meet, and one of those that a plain view gives
 stop_cause : {S : Type 0} (c : Call S) (d e : PlainState S) (s : Stop) → Why s c d e → (can_refuse c s ≡ true) × (plain_stops s ≡ true)
 stop_cause (Take most) d e ReadFault w = (refl, refl)
 stop_cause _ d e ReadFault w = absurd w.0

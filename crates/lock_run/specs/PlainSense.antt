@@ -1,4 +1,4 @@
--- The state of a plain view, and what the view says of itself.
+-- The state of a plain view, and what the view says of itself as a view. States `docs/HEAP.md`, "The plain view" and "Views".
 use Rattle.std.specs.Prelude.{◌≡◌, ℕ, List, Option, None, drop, take, Bool, true, false}
 use Rattle.py_data.specs.declared.stop.Stop.{Stop}
 use Rattle.py_data.specs.declared.stop.Stop.TheVariants.{ReadFault, WriteFault, ErrFault, OutOfMemory}
@@ -10,6 +10,7 @@ use Rattle.lock_run.specs.PlainState.{PlainState, PlainDoes, PlainRefuses, Plain
 use Rattle.lock_run.specs.Given.{given_all, given_kept}
 use Rattle.lock_run.specs.Space.{space_heap, space_base}
 
+-- what a plain view holds, by what its devices tell of themselves
 abbrev pub plain_state : {S I O E : Type 0} → (I → SourceState) → (O → SinkState) → (E → SinkState) → PlainView S I O E → PlainState S
 plain_state input out err v = record {
   heap = space_heap v.space;
@@ -32,6 +33,7 @@ plain_state input out err v = record {
   errs = (err v.errors).faults;
 }
 
+-- the Stops that a plain view can give
 abbrev pub plain_stops : Stop → Bool
 plain_stops ReadFault = true
 plain_stops WriteFault = true
@@ -40,6 +42,7 @@ plain_stops OutOfMemory = true
 plain_stops _ = false
 
 module _ {S I O E : Type 0} (input : I → SourceState) (out : O → SinkState) (err : E → SinkState) where
+  -- its heap, its calls and its Stops
   abbrev pub plain_sense : Sense S (PlainView S I O E)
   plain_sense = record {
     heap = λ v. space_heap v.space;
@@ -51,6 +54,7 @@ module _ {S I O E : Type 0} (input : I → SourceState) (out : O → SinkState) 
     seen = λ a v. Unit {0};
   }
 
+  -- how it opens a step and takes it back; it may always print
   abbrev pub plain_bracket : Bracket S (PlainView S I O E)
   plain_bracket = record {
     base = λ v. space_base v.space;

@@ -1,4 +1,5 @@
--- What a turn of LockRun does: a turn of the machine, or why it was cut and what stays.
+-- What a turn of a LockRun does: a turn of the machine, or why it was cut and what stays. States `docs/HEAP.md`, "Turns and
+-- runs".
 use Rattle.std.specs.Prelude.{◌≡◌, ◌≢◌, ◌⊎◌, ℕ, ◌≤◌, ◌<◌, List, [], ◌∷◌, ◌++◌, Option, Some, None, take, slice_get, slice_set, Bool, true, false, suc}
 use Rattle.py_data.specs.declared.stop.Out.{Out}
 use Rattle.py_data.specs.declared.stop.Out.TheVariants.{Output, ErrorOutput}
@@ -34,7 +35,8 @@ pub record Stands {S : Type 0} (o e : Option (List ℕ)) (d : PlainState S) (ts 
   pub err : d.err ≡ grown e m.world.err
   pub mid : m.world.mid ≡ d.mid
 
--- the machine does the turn
+-- A turn that was done: whichever machine the LockRun showed before, the machine can do the turn, and the LockRun shows what
+-- it leads to.
 abbrev pub TurnDone : {S : Type 0} → Prog S → Turn → LockState S → LockState S → Type 0
 TurnDone {S} p t a b = (o e : Option (List ℕ)) (m : Machine S) → Stands o e a.view a.threads m → (m1 : Machine S) × Stands o e b.view b.threads m1 × DoesTurn p m t m1
 
@@ -119,36 +121,38 @@ pub record Going {S : Type 0} (p : Prog S) (t k : ℕ) (names : List ℕ) (o e :
   pub writes : d0.writes ≤ d.writes
   pub errs : d0.errs ≤ d.errs
 
--- one step of a turn
+-- a step that was done: one step more of the turn
 abbrev pub StepGoes : {S : Type 0} → Prog S → ℕ → LockState S → LockState S → Type 0
 StepGoes {S} p t a b =
     (k : ℕ) (names : List ℕ) (o e : Option (List ℕ)) (m : Machine S) (d0 : PlainState S) → Going p t k names o e m d0 a.view a.threads → Going p t (suc k) names o e m d0 b.view b.threads
 
+-- a step that was not done: what the steps before it left is told, with the cause
 abbrev pub StepCut : {S : Type 0} → Prog S → ℕ → TurnWhy → LockState S → LockState S → Type 0
 StepCut {S} p t why a b =
     (k : ℕ) (names : List ℕ) (o e : Option (List ℕ)) (m : Machine S) (d0 : PlainState S) → Going p t k names o e m d0 a.view a.threads
-      → CutTold p t k names o e m d0 b.view b.threads why
+    → CutTold p t k names o e m d0 b.view b.threads why
 
--- k steps of a turn, and steps that were cut
+-- k steps of a turn were done
 abbrev pub Reach : {S : Type 0} → Prog S → ℕ → ℕ → LockState S → LockState S → Type 0
 Reach {S} p t k a b =
     (names : List ℕ) (o e : Option (List ℕ)) (m : Machine S) (d0 : PlainState S) → Going p t 0 names o e m d0 a.view a.threads → Going p t k names o e m d0 b.view b.threads
 
+-- fewer than so many steps were done, and the next was not
 abbrev pub ReachCut : {S : Type 0} → Prog S → ℕ → ℕ → ℕ → TurnWhy → LockState S → LockState S → Type 0
 ReachCut {S} p t steps done why a b =
     (done < steps) × ((names : List ℕ) (o e : Option (List ℕ)) (m : Machine S) (d0 : PlainState S) → Going p t 0 names o e m d0 a.view a.threads
-      → CutTold p t done names o e m d0 b.view b.threads why)
+    → CutTold p t done names o e m d0 b.view b.threads why)
 
 -- A turn that was cut: there is no such thread; or all steps were done and names are left; or the next step wasn't done. The
 -- steps that stay gave the first of the turn's names.
 abbrev pub TurnCut : {S : Type 0} → Prog S → Turn → ℕ → TurnWhy → LockState S → LockState S → Type 0
 TurnCut {S} p t done why a b =
     (o e : Option (List ℕ)) (m : Machine S) → Stands o e a.view a.threads m →
-      ((why ≡ NotThere) × (done ≡ 0) × (slice_get m.threads t.thread ≡ None) × Stands o e b.view b.threads m)
-      ⊎ ((c : CutIn p t.thread done o e m b.view b.threads)
-        × (((done < t.steps) × CutWhy p t.thread done (places t.names) o e m a.view b.view b.threads why c)
-          ⊎ ((done ≡ t.steps) × (why ≡ BadNames) × (n : ℕ) × (rest : List ℕ) × (places t.names ≡ c.sight.made ++ n ∷ rest)))
-        × Begins c.sight.made (places t.names))
+    ((why ≡ NotThere) × (done ≡ 0) × (slice_get m.threads t.thread ≡ None) × Stands o e b.view b.threads m)
+    ⊎ ((c : CutIn p t.thread done o e m b.view b.threads)
+    × (((done < t.steps) × CutWhy p t.thread done (places t.names) o e m a.view b.view b.threads why c)
+    ⊎ ((done ≡ t.steps) × (why ≡ BadNames) × (n : ℕ) × (rest : List ℕ) × (places t.names ≡ c.sight.made ++ n ∷ rest)))
+    × Begins c.sight.made (places t.names))
 
 -- the thread has ended, or its next step waits
 pub record Rests {S : Type 0} (p : Prog S) (m : Machine S) (t : ℕ) : Type 0 where
@@ -166,6 +170,6 @@ FreeDone {S} p thread most t a b =
 abbrev pub FreeCut : {S : Type 0} → Prog S → ℕ → ℕ → ℕ → List ℕ → TurnWhy → LockState S → LockState S → Type 0
 FreeCut {S} p thread most done names why a b =
     (o e : Option (List ℕ)) (m : Machine S) → Stands o e a.view a.threads m →
-      ((why ≡ NotThere) × (done ≡ 0) × (names ≡ []) × (slice_get m.threads thread ≡ None) × Stands o e b.view b.threads m)
-      ⊎ ((c : CutIn p thread done o e m b.view b.threads)
-        × (done < most) × (c.sight.made ≡ names) × (why ≢ BadNames) × ((why ≡ Ended) ⊎ (why ≡ Waits) → done ≡ 0) × CutWhy p thread done names o e m a.view b.view b.threads why c)
+    ((why ≡ NotThere) × (done ≡ 0) × (names ≡ []) × (slice_get m.threads thread ≡ None) × Stands o e b.view b.threads m)
+    ⊎ ((c : CutIn p thread done o e m b.view b.threads)
+    × (done < most) × (c.sight.made ≡ names) × (why ≢ BadNames) × ((why ≡ Ended) ⊎ (why ≡ Waits) → done ≡ 0) × CutWhy p thread done names o e m a.view b.view b.threads why c)

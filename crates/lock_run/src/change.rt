@@ -1,20 +1,27 @@
-//! A record after a change.
+//! Changes of records, each made on a copy.
 ghost use Rattle.std.specs.Prelude.{◌≡◌, IfOk};
 ghost use Rattle.lock_run.specs.Changes.{after, Allows};
 
 use py_data::{Entry, NoMemory, Value};
 use std::alloc::Global;
 
-/// One change of a record.
+/// One change of a record, as the calls of a view ask for it.
 #[derive(Clone, Copy, Drop)]
 pub enum Change {
+    /// Another value in a place.
     Set(usize, Value),
+    /// A value at the end.
     Push(Value),
+    /// The first so many values stay.
     Cut(usize),
+    /// A key and its value at the end.
     Pair(Value, Value),
+    /// The pair of that number goes.
     Unpair(usize),
 }
 
+/// The record after a change. It copies all values and bytes of the record, so a change takes time and memory of the
+/// record's length, and one that finds no memory leaves the record as it is.
 pub fn changed(alloc: Global, e: &Entry, c: Change) -> Result<Entry, NoMemory>
     requires { Allows c e.now }
     ensures { IfOk result (λ t. t ≡ after c e.now) }

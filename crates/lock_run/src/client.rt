@@ -47,26 +47,34 @@ pub trait Client {
         ensures { IfOk result (λ s. s ≡ (prog self.now).first) };
 
     /// One step of a thread that lives. At a Stop the state is as before, and the view's step was taken back.
-    fn step<V: View<Self::State>>(&self, alloc: Global, s: &mut Self::State, v: &mut V) -> Result<Outcome, Stop>
+    fn step<V: View<Self::State>>(
+        &self,
+        alloc: Global,
+        s: &mut Self::State,
+        v: &mut V,
+    ) -> Result<Outcome, Stop>
         requires stands { Standing (sound self.now (V.sense.heap v.old)) s.old }
         requires lives { (prog self.now).life s.old ≡ Lives }
         ensures ok { IfOk result (λ o. Stepped V.sense V.bracket ((prog self.now).row s.old) v.old o s.new v.new) }
         ensures err { IfErr result (λ e. StepStopped V.sense V.bracket ((prog self.now).row s.old) v.old e v.new) }
         ensures state { OnErr result (s.new ≡ s.old) };
 
-    /// The thread's next step over that heap would wait.
+    /// The thread's next step over that heap would wait. It takes no memory.
     fn blocked<P: Peek>(&self, s: &Self::State, heap: &P) -> bool
         requires stands { Standing (sound self.now (P.image heap.now)) s.now }
         requires lives { (prog self.now).life s.now ≡ Lives }
         ensures yes { result ≡ true → Waiting ((prog self.now).row s.now) (P.image heap.now) }
         ensures not { result ≡ false → Going ((prog self.now).row s.now) (P.image heap.now) };
 
+    /// Whether a thread of this state lives.
     fn life(&self, s: &Self::State) -> Life
         ensures { result ≡ (prog self.now).life s.now };
 
+    /// An equal state in memory of its own.
     fn copy(&self, alloc: Global, s: &Self::State) -> Result<Self::State, NoMemory>
         ensures { IfOk result (λ t. t ≡ s.now) };
 
+    /// Two states are equal.
     fn same(&self, a: &Self::State, b: &Self::State) -> bool
         ensures { IsTrue result ↔ (a.now ≡ b.now) };
 

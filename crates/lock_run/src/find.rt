@@ -6,6 +6,7 @@ ghost use Rattle.lock_run.specs.Space.{space_heap};
 use crate::space::Space;
 use py_data::{Kind, Value, Values};
 
+/// The bytes of the string at an address, if a string is there.
 fn text(space: &Space, a: u32) -> Option<&[u8]>
     ensures { MatchOption result (text_in (space_heap space.now a) ≡ None) (λ b. text_in (space_heap space.now a) ≡ Some b.now) }
 {
@@ -18,6 +19,7 @@ fn text(space: &Space, a: u32) -> Option<&[u8]>
     }
 }
 
+/// Two keys are equal.
 fn same(space: &Space, x: Value, y: Value) -> bool
     ensures { result ≡ same_key (space_heap space.now) x y }
 {
@@ -36,6 +38,7 @@ fn same(space: &Space, x: Value, y: Value) -> bool
     }
 }
 
+/// The number, from 0, of the first pair whose key is equal. It goes through the pairs one after another.
 pub fn find_pair(space: &Space, values: &Values, key: Value) -> Option<usize>
     ensures found { result ≡ find (space_heap space.now) values.now key }
     ensures within { IfSome result (λ i. 2 * i + 1 < length values.now) }

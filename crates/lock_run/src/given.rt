@@ -18,6 +18,7 @@ pub struct Given {
 impl Given {
     ghost use Rattle.lock_run.specs.Given.{given_all, given_kept};
 
+    /// No names are given yet.
     pub fn new(alloc: Global) -> Self
         ensures all { given_all result ≡ [] }
         ensures kept { given_kept result ≡ [] }
@@ -29,6 +30,7 @@ impl Given {
         }
     }
 
+    /// A record got this name.
     pub fn add(&mut self, n: Addr) -> Result<(), NoMemory>
         ensures all { OnOk result (given_all self.new ≡ given_all self.old ++ n.0 ∷ []) }
         ensures kept { given_kept self.new ≡ given_kept self.old }
@@ -45,7 +47,7 @@ impl Given {
         self.kept = self.names.len();
     }
 
-    /// The step is taken back.
+    /// The step is taken back: the names that it gave are given no more.
     pub fn undo(&mut self)
         ensures all { given_all self.new ≡ given_kept self.old }
         ensures kept { given_kept self.new ≡ given_kept self.old }

@@ -13,7 +13,7 @@ mod threads;
 mod turn;
 
 pub use client::{Client, Life, Outcome};
-pub use laws::{accept_law, run_law, turn_law};
+pub use laws::{accept_law, run_law, steps_law, turn_law};
 pub use machine::LockRun;
 pub use plain::PlainView;
 pub use turn::{History, Turn, TurnFault, TurnWhy};

@@ -1,4 +1,4 @@
-//! The one-lock machine.
+//! The one-lock machine: a plain view and the threads that take turns over it.
 ghost use Rattle.std.specs.Prelude.{◌≡◌, ◌⊎◌, ◌<◌, true, false};
 ghost use Rattle.lock_run.specs.declared.client.Outcome.TheVariants.{Waits};
 ghost use Rattle.lock_run.specs.declared.turn.TurnWhy.TheVariants.{Ended, Waits as TurnWaits};
@@ -12,6 +12,7 @@ use py_data::{Names, NoMemory, Stop, View};
 use std::alloc::Global;
 use stm_io::{Sink, Source};
 
+/// Why a turn is cut, by the Stop of its step, and whether a name was wanting in it.
 fn why_of(stop: Stop, bad: bool) -> TurnWhy
     ensures { result ≡ why_of_stop stop bad }
 {
@@ -30,6 +31,7 @@ fn why_of(stop: Stop, bad: bool) -> TurnWhy
     }
 }
 
+/// The thread must wait.
 fn is_wait(outcome: Outcome) -> bool
     ensures yes { result ≡ true → outcome ≡ Waits }
     ensures not { result ≡ false → outcome ≡ Waits → ⊥ }
@@ -62,8 +64,9 @@ fn ends_turn(cut: Cut) -> bool
 
 /// Threads of a client that take turns over one heap: the interpreter under one global lock.
 ///
-/// Contracts see of it a `LockState`: what its view holds, and the states of its threads (`specs/LockState.antt`). Each
-/// step copies the thread's state first, so that a step that is cut leaves it as it was.
+/// Contracts see of it a `LockState`: what its view holds, and the states of its threads (`specs/Turns.antt`). Each step
+/// copies the thread's state first, so that a step that is cut leaves it as it was. After a turn that was cut the machine
+/// can be used on: it shows what the steps that stay left, but for what the step that was cut wrote and took.
 #[derive(Drop)]
 pub struct LockRun<'p, C: Client, I, O, E> {
     alloc: Global,
@@ -109,6 +112,7 @@ impl<'p, C: Client, I: Source, O: Sink, E: Sink> LockRun<'p, C, I, O, E> {
         }
     }
 
+    /// How many threads there are; they have the numbers below it.
     pub fn threads(&self) -> u32
         ensures { result ≡ length (lock_state I.state O.state E.state self.now).threads }
     {
@@ -123,7 +127,7 @@ impl<'p, C: Client, I: Source, O: Sink, E: Sink> LockRun<'p, C, I, O, E> {
         self.client.life(self.threads.at(t))
     }
 
-    /// The thread lives, and its next step wouldn't wait.
+    /// The thread lives, and its next step wouldn't wait. It asks the client over the heap, and takes no memory.
     pub fn ready(&self, t: u32) -> bool
         requires there { t < length (lock_state I.state O.state E.state self.now).threads }
         requires sound { IsSound (C.sound (lock_client self.now)) (lock_state I.state O.state E.state self.now) }

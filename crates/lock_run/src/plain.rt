@@ -1,13 +1,21 @@
-//! A view over a map and three devices.
+//! A view over a map and three devices: the sight of a thread that has the heap for itself.
 use crate::change::Change;
 use crate::find::find_pair;
 use crate::given::Given;
 use crate::space::Space;
 use crate::threads::Threads;
-use py_data::{Addr, Entry, Kind, LENGTH_LIMIT, Names, NoMemory, Out, Peek, Record, Stop, Value, View};
+use py_data::{
+    Addr, Entry, Kind, LENGTH_LIMIT, Names, NoMemory, Out, Peek, Record, Stop, Value, View,
+};
 use std::alloc::Global;
 use stm_io::{PutError, Sink, Source, TakeError};
 
+/// A heap as a map, with the three devices: the view of a machine whose threads take turns. It may print and read at any
+/// step, it loses no conflict, and it has no limit of words. It gives the Stops ReadFault, WriteFault, ErrFault and
+/// OutOfMemory.
+///
+/// A change of a record copies it twice, so that the step can be taken back, and `find_key` goes through the pairs. A new
+/// record gets the next planned name; or, where names are free, the first unused one from the last fresh one on.
 #[derive(Drop)]
 pub struct PlainView<S, I, O, E> {
     alloc: Global,
@@ -37,6 +45,7 @@ impl<S: Drop, I: Source, O: Sink, E: Sink> PlainView<S, I, O, E> {
     ghost use Rattle.py_data.specs.Heap.{put_at};
     ghost use Rattle.py_data.specs.Made.{rec_of};
 
+    /// An empty heap over these devices, with a flag that is false and names that are free.
     pub fn new(alloc: Global, input: I, output: O, errors: E) -> Self
         ensures heap { space_heap result.space ≡ (λ _. None) }
         ensures live { result.stopped ≡ None }
@@ -63,6 +72,7 @@ impl<S: Drop, I: Source, O: Sink, E: Sink> PlainView<S, I, O, E> {
         }
     }
 
+    /// Keeps a Stop, and hands it on.
     fn fail(&mut self, stop: Stop) -> Stop
         ensures same { result ≡ stop }
         ensures rest { self.new ≡ record self.old { stopped = Some stop } }
@@ -80,14 +90,14 @@ impl<S: Drop, I: Source, O: Sink, E: Sink> PlainView<S, I, O, E> {
         to.append(&mut self.started)
     }
 
-    /// A call lacked a name.
+    /// In this step a call lacked a name: none was left, or the next one was used already.
     pub fn is_bad(&self) -> bool
         ensures { result ≡ self.now.bad }
     {
         self.bad
     }
 
-    /// The next records get these names, in order.
+    /// The next records get these names, in order. No name is given yet in this turn.
     pub fn set_plan(&mut self, plan: Names)
         ensures left { places (drop self.new.next self.new.plan) ≡ places plan }
         ensures made { given_all self.new.given ≡ [] }
@@ -101,7 +111,7 @@ impl<S: Drop, I: Source, O: Sink, E: Sink> PlainView<S, I, O, E> {
         let _ = self.given.take();
     }
 
-    /// The next records get fresh names.
+    /// The next records get fresh names. No name is given yet in this turn.
     pub fn set_free(&mut self)
         ensures made { given_all self.new.given ≡ [] }
         ensures kept { given_kept self.new.given ≡ [] }
@@ -111,7 +121,7 @@ impl<S: Drop, I: Source, O: Sink, E: Sink> PlainView<S, I, O, E> {
         let _ = self.given.take();
     }
 
-    /// Hands out the names that were given.
+    /// Hands out the names that were given in this turn, in order.
     pub fn take_names(&mut self) -> Names
         ensures names { places result ≡ given_all self.old.given }
         ensures rest { self.new ≡ record self.old { given = self.new.given } }
@@ -119,6 +129,7 @@ impl<S: Drop, I: Source, O: Sink, E: Sink> PlainView<S, I, O, E> {
         self.given.take()
     }
 
+    /// Planned names are left.
     pub fn has_names(&self) -> bool
         ensures { result ≡ true ↔ (0 < length (places (drop self.now.next self.now.plan))) }
     {
@@ -137,13 +148,7 @@ impl<S: Drop, I: Source, O: Sink, E: Sink> PlainView<S, I, O, E> {
         }
         let _count = self.plan.len();
         match self.plan.get(self.next) {
-            Some(n) => {
-                if self.space.has(n.0) {
-                    None
-                } else {
-                    Some(*n)
-                }
-            }
+            Some(n) => { if self.space.has(n.0) { None } else { Some(*n) } }
             None => None,
         }
     }
@@ -191,6 +196,7 @@ impl<S: Drop, I: Source, O: Sink, E: Sink> PlainView<S, I, O, E> {
         }
     }
 
+    /// The three devices.
     pub fn finish(self) -> (I, O, E)
         ensures { (result.0 ≡ self.input) × (result.1 ≡ self.output) × (result.2 ≡ self.errors) }
     {
@@ -321,11 +327,7 @@ impl<S: Drop, I: Source, O: Sink, E: Sink> View<S> for PlainView<S, I, O, E> {
 
     #[tactic(auto, unfolding(py_data::specs::Sense::Asks, py_data::specs::Heap::at))]
     fn push_val(&mut self, a: Addr, v: Value) -> Result<(), Stop> {
-        if self
-            .space
-            .replace(self.alloc, a.0, Change::Push(v))
-            .is_ok()
-        {
+        if self.space.replace(self.alloc, a.0, Change::Push(v)).is_ok() {
             Ok(())
         } else {
             Err(self.fail(Stop::OutOfMemory))

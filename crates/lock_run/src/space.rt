@@ -12,6 +12,7 @@ use py_data::{Entry, NoMemory};
 use std::alloc::Global;
 use std::collections::BTreeMap;
 
+/// Puts a record at an address.
 fn place(records: &mut BTreeMap<u32, Entry>, a: u32, r: Entry) -> Result<(), NoMemory>
     ensures ok { OnOk result (tree.get nat_cmp records.new ≡ put_at (tree.get nat_cmp records.old) a r) }
     ensures err { OnErr result (tree.get nat_cmp records.new ≡ tree.get nat_cmp records.old) }
@@ -20,6 +21,7 @@ fn place(records: &mut BTreeMap<u32, Entry>, a: u32, r: Entry) -> Result<(), NoM
     Ok(())
 }
 
+/// Puts back what stood at an address. Where a record stands there already, this takes no memory.
 fn restore(records: &mut BTreeMap<u32, Entry>, a: u32, old: Option<Entry>)
     requires { is_some old ≡ true → is_some (tree.get nat_cmp records.old a) ≡ true }
     ensures { tree.get nat_cmp records.new ≡ restore_at (tree.get nat_cmp records.old) a old }
@@ -35,6 +37,8 @@ fn restore(records: &mut BTreeMap<u32, Entry>, a: u32, old: Option<Entry>)
     }
 }
 
+/// The records of a heap, and a journal of what stood before at each address that the open step changed, the last one
+/// last. A look takes time of the logarithm of how many records there are, and taking a step back goes through its journal.
 #[derive(Drop)]
 pub struct Space {
     records: BTreeMap<u32, Entry>,
@@ -49,6 +53,7 @@ impl Space {
     ghost use Rattle.lock_run.specs.Changes.{Allows, IsShort, after, Replaced};
     ghost use Rattle.py_data.specs.Sense.{IfThere};
 
+    /// No records.
     pub fn new(alloc: Global) -> Self
         ensures heap { space_heap result ≡ (λ _. None) }
         ensures base { space_base result ≡ (λ _. None) }
@@ -59,7 +64,7 @@ impl Space {
         }
     }
 
-    /// The record at an address.
+    /// The record at an address, if one is there.
     pub fn look(&self, a: u32) -> Option<&Entry>
         ensures entry { option_copied result ≡ space_heap self.now a }
         ensures short { IfSome result (λ r. IsShort r.now) }
@@ -67,13 +72,14 @@ impl Space {
         self.records.get(&a)
     }
 
+    /// Whether a record is there.
     pub fn has(&self, a: u32) -> bool
         ensures { result ≡ is_some (space_heap self.now a) }
     {
         self.records.contains_key(&a)
     }
 
-    /// Puts another record in the place of one that is there.
+    /// Puts another record in the place of one that is there, and a copy of that one into the journal.
     fn change(&mut self, alloc: Global, a: u32, r: Entry) -> Result<(), NoMemory>
         requires there { IsSome (space_heap self.old a) }
         requires short { IsShort r }
@@ -101,7 +107,8 @@ impl Space {
         place(&mut self.records, a, r)
     }
 
-    /// The record at an address after a change.
+    /// Makes a change of the record at an address. It copies the record twice: once to change it, once for the journal. At want
+    /// of memory the records are as before.
     pub fn replace(&mut self, alloc: Global, a: u32, c: Change) -> Result<(), NoMemory>
         requires { IfThere false (space_heap self.old a) (λ r. Allows c r) }
         ensures heap { OnOk result (Replaced a (after c) (space_heap self.old) (space_heap self.new)) }
@@ -115,6 +122,7 @@ impl Space {
         self.change(alloc, a, r)
     }
 
+    /// Opens a step: what stands now is what `undo` gives back.
     pub fn open(&mut self)
         ensures heap { space_heap self.new ≡ space_heap self.old }
         ensures base { space_base self.new ≡ space_heap self.old }
@@ -122,6 +130,7 @@ impl Space {
         self.journal.clear();
     }
 
+    /// Takes the step back, its last change first. It takes no memory.
     pub fn undo(&mut self)
         ensures heap { space_heap self.new ≡ space_base self.old }
         ensures base { space_base self.new ≡ space_base self.old }

@@ -11,10 +11,12 @@ pub struct Turn {
     pub thread: u32,
     /// How many steps it does, at least 1.
     pub steps: u64,
+    /// The addresses of the records that it makes, in order.
     pub names: Names,
 }
 
 impl Turn {
+    /// An equal turn in memory of its own.
     pub fn copy(&self, alloc: Global) -> Result<Turn, NoMemory>
         ensures { IfOk result (λ t. t ≡ self.now) }
     {

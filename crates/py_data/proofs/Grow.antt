@@ -50,9 +50,6 @@ pub mem_append : (a : ℕ) (xs ys : List ℕ) → mem a (xs ++ ys) ≡ (mem a xs
 mem_append a [] ys = refl
 mem_append a (x ∷ xs) ys = elim (eqb a x) as (λ b. (b || mem a (xs ++ ys)) ≡ ((b || mem a xs) || mem a ys)) [ true ↦ refl | false ↦ mem_append a xs ys ]
 
-pub mem_last : (a : ℕ) (xs : List ℕ) → mem a (xs ++ a ∷ []) ≡ true
-mem_last a xs = mem_append a xs (a ∷ []) ∙ or_right (mem a xs) (eqb a a || false) (or_left (eqb a a) false (eq-eqb a a refl))
-
 pub grows_refl : {S : Type 0} (s : Sight S) → Grows s s
 grows_refl s = record {
   looked = λ a h. h;

@@ -113,10 +113,6 @@ module _ {S X A : Type 0} (u : Sense S X) where
   meets-answer a v (Ok x) h = subst (λ y. Run u (Ret a) v y v) (sym h) (run-ret u a v)
   meets-answer a v (Err e) h = subst (λ y. Stopped u (Ret a) v y v) (sym h) (own-memory u (Ret a) v)
 
-  -- two looks at a record are one
-  pub meets-twice : (L : Lawful u) (a : ℕ) (k : Rec → Row S A) (v m n w : X) (r q : Rec) (res : Result A Stop) → u.does (Read a) v r m → u.does (Read a) m q n → Meets u (k r) m w res → Meets u (Do (Read a) k) v w res
-  meets-twice L a k v m n w r q res d g h = meets-do (Read a) k v m w r res d h
-
 -- what a safe row asks after a look at a record
 pub asks-after : {S X A : Type 0} {u : Sense S X} (L : Lawful u) (p : Bool) (a : ℕ) (k : Rec → Row S A) (v m : X) (r : Rec) (c : Call S) (k2 : Reply c → Row S A)
     → Safe p (Do (Read a) k) (u.heap v) → u.does (Read a) v r m → k r ≡ Do c k2 → Asks p c (u.heap m)

@@ -14,7 +14,7 @@ loop-done-init g c = record { there = c.requires.there; sound = c.requires.sound
 pub loop-done-preserved : goal.loop-done-preserved
 loop-done-preserved g c =
     let one : StepGoes (g.C.Client.prog c.args.self.now.client.now) c.args.t (lock g c.loop-done.self) (lock g c.step_one.new.self)
-      = subst (λ cl. StepGoes (g.C.Client.prog cl.now) c.args.t (lock g c.loop-done.self) (lock g c.step_one.new.self)) c.loop-done.invariant.client c.in-Ok.ensures.done in
+    = subst (λ cl. StepGoes (g.C.Client.prog cl.now) c.args.t (lock g c.loop-done.self) (lock g c.step_one.new.self)) c.loop-done.invariant.client c.in-Ok.ensures.done in
     let same : suc c.loop-done.done ≡ c.loop-done.done + 1 = omega arith in
     record {
       there = c.step_one.ensures.there;
@@ -22,13 +22,13 @@ loop-done-preserved g c =
       free = c.step_one.ensures.free ∙ c.loop-done.invariant.free;
       client = c.step_one.ensures.client ∙ c.loop-done.invariant.client;
       reached = subst (λ k. Reach (g.C.Client.prog c.args.self.now.client.now) c.args.t k (lock g c.args.self.now) (lock g c.step_one.new.self)) same
-        (λ names o e m d0 go. one c.loop-done.done names o e m d0 (c.loop-done.invariant.reached names o e m d0 go));
+          (λ names o e m d0 go. one c.loop-done.done names o e m d0 (c.loop-done.invariant.reached names o e m d0 go));
     }
 
 pub returns-in-Err-clause-cut : goal.returns-in-Err-clause-cut
 returns-in-Err-clause-cut g c =
     let one : StepCut (g.C.Client.prog c.args.self.now.client.now) c.args.t c.in-Err.why (lock g c.loop-done.self) (lock g c.step_one.new.self)
-      = subst (λ cl. StepCut (g.C.Client.prog cl.now) c.args.t c.in-Err.why (lock g c.loop-done.self) (lock g c.step_one.new.self)) c.loop-done.invariant.client c.in-Err.ensures.cut in
+    = subst (λ cl. StepCut (g.C.Client.prog cl.now) c.args.t c.in-Err.why (lock g c.loop-done.self) (lock g c.step_one.new.self)) c.loop-done.invariant.client c.in-Err.ensures.cut in
     (c.loop-done-test.true, λ names o e m d0 go. one c.loop-done.done names o e m d0 (c.loop-done.invariant.reached names o e m d0 go))
 
 pub returns-clause-done : goal.returns-clause-done

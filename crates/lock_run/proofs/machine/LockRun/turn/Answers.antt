@@ -33,11 +33,11 @@ returns-then-has_names-clause-cut g c =
     let e1 : Begun (state g c.args.self.now.view) (state g c.set_plan.new.self) [] = begun_by _ _ _ _ _ _ [] false (ap (state g) c.set_plan.ensures.rest) c.set_plan.ensures.made c.set_plan.ensures.kept (λ f. ap places c.new-2.ensures) in
     let e2 : Begun (state g c.set_plan.new.self) (state g c.set_plan-2.new.self) (places c.args.names.now) = begun_by _ _ _ _ _ _ (places c.args.names.now) false (ap (state g) c.set_plan-2.ensures.rest) c.set_plan-2.ensures.made c.set_plan-2.ensures.kept (λ f. ap places c.in-Ok.ensures) in
     leaves (g.C.Client.prog c.args.self.now.client.now) c.args.thread (lock g c.args.self.now) (state g c.set_plan-2.new.self) (omega arith) (record { thread = c.args.thread; steps = c.args.steps; names = c.args.names.now }) (lock g c.go.new.self) refl (begun_again _ _ _ _ _ e1 e2)
-      c.in-Ok-go.ensures.done (c.go.ensures.free ∙ ap (λ v. v.free) c.set_plan-2.ensures.rest) (c.has_names.ensures.0 c.if-has_names.true)
+    c.in-Ok-go.ensures.done (c.go.ensures.free ∙ ap (λ v. v.free) c.set_plan-2.ensures.rest) (c.has_names.ensures.0 c.if-has_names.true)
 
 pub returns-clause-done : goal.returns-clause-done
 returns-clause-done g c =
     let e1 : Begun (state g c.args.self.now.view) (state g c.set_plan.new.self) [] = begun_by _ _ _ _ _ _ [] false (ap (state g) c.set_plan.ensures.rest) c.set_plan.ensures.made c.set_plan.ensures.kept (λ f. ap places c.new-2.ensures) in
     let e2 : Begun (state g c.set_plan.new.self) (state g c.set_plan-2.new.self) (places c.args.names.now) = begun_by _ _ _ _ _ _ (places c.args.names.now) false (ap (state g) c.set_plan-2.ensures.rest) c.set_plan-2.ensures.made c.set_plan-2.ensures.kept (λ f. ap places c.in-Ok.ensures) in
     ends (g.C.Client.prog c.args.self.now.client.now) c.args.thread (lock g c.args.self.now) (state g c.set_plan-2.new.self) (omega arith) (record { thread = c.args.thread; steps = c.args.steps; names = c.args.names.now }) (lock g c.go.new.self) refl c.requires.some (begun_again _ _ _ _ _ e1 e2)
-      c.in-Ok-go.ensures.done (c.go.ensures.free ∙ ap (λ v. v.free) c.set_plan-2.ensures.rest) (none_of _ _ c.has_names.ensures.1 c.if-has_names.false)
+    c.in-Ok-go.ensures.done (c.go.ensures.free ∙ ap (λ v. v.free) c.set_plan-2.ensures.rest) (none_of _ _ c.has_names.ensures.1 c.if-has_names.false)

@@ -11,7 +11,7 @@ invariant_of-self-2-clause-undoable c =
     let h = tree.get nat_cmp c.args.self.now.records in
     let h1 = tree.get nat_cmp c.place.new.records in
     ok_add c.args.self.now.journal.items c.push.new.self.items h h1 c.args.a c.args.r (search rules) c.requires.fresh c.args.self.now.undoable
-      (either (h1 ≡ put_at h c.args.a c.args.r) (h1 ≡ h) c.place.result c.place.ensures.ok c.place.ensures.err)
+    (either (h1 ≡ put_at h c.args.a c.args.r) (h1 ≡ h) c.place.result c.place.ensures.ok c.place.ensures.err)
 
 pub invariant_of-self-2-clause-short : goal.invariant_of-self-2-clause-short
 invariant_of-self-2-clause-short c =
@@ -27,4 +27,4 @@ returns-clause-base c =
     let h = tree.get nat_cmp c.args.self.now.records in
     let h1 = tree.get nat_cmp c.place.new.records in
     base_of_either c.args.self.now.journal.items c.push.new.self.items h h1 c.args.a None c.args.r (search rules) c.requires.fresh
-      (either (h1 ≡ put_at h c.args.a c.args.r) (h1 ≡ h) c.place.result c.place.ensures.ok c.place.ensures.err)
+    (either (h1 ≡ put_at h c.args.a c.args.r) (h1 ≡ h) c.place.result c.place.ensures.ok c.place.ensures.err)

@@ -11,7 +11,7 @@ invariant_of-self-2-clause-undoable c =
     let h = tree.get nat_cmp c.args.self.now.records in
     let h1 = tree.get nat_cmp c.place.new.records in
     ok_change c.args.self.now.journal.items c.push.new.self.items h h1 c.args.a c.in_ok-old-in-Some.old c.args.r (search rules) (search rules) c.args.self.now.undoable
-      (either (h1 ≡ put_at h c.args.a c.args.r) (h1 ≡ h) c.place.result c.place.ensures.ok c.place.ensures.err)
+    (either (h1 ≡ put_at h c.args.a c.args.r) (h1 ≡ h) c.place.result c.place.ensures.ok c.place.ensures.err)
 
 pub invariant_of-self-2-clause-short : goal.invariant_of-self-2-clause-short
 invariant_of-self-2-clause-short c =
@@ -28,4 +28,4 @@ returns-clause-base c =
     let h = tree.get nat_cmp c.args.self.now.records in
     let h1 = tree.get nat_cmp c.place.new.records in
     base_of_either c.args.self.now.journal.items c.push.new.self.items h h1 c.args.a (Some c.in_ok-old-in-Some.old) c.args.r (search rules) (search rules)
-      (either (h1 ≡ put_at h c.args.a c.args.r) (h1 ≡ h) c.place.result c.place.ensures.ok c.place.ensures.err)
+    (either (h1 ≡ put_at h c.args.a c.args.r) (h1 ≡ h) c.place.result c.place.ensures.ok c.place.ensures.err)

@@ -11,7 +11,7 @@ restore-requires c =
     let h = tree.get nat_cmp c.loop-a.self.records in
     let ej : c.loop-a.self.journal.items ≡ c.pop.new.self.items ++ (c.in-Some.a, c.in-Some.old) ∷ [] = search rules in
     implies_of_or (is_some c.in-Some.old) (is_some (h c.in-Some.a))
-      (ok_last c.pop.new.self.items c.loop-a.self.journal.items c.in-Some.a c.in-Some.old h ej c.loop-a.self.undoable).1
+    (ok_last c.pop.new.self.items c.loop-a.self.journal.items c.in-Some.a c.in-Some.old h ej c.loop-a.self.undoable).1
 
 pub invariant_of-self-clause-undoable : goal.invariant_of-self-clause-undoable
 invariant_of-self-clause-undoable c =
@@ -23,7 +23,7 @@ pub invariant_of-self-clause-short : goal.invariant_of-self-clause-short
 invariant_of-self-clause-short c =
     let ej : c.loop-a.self.journal.items ≡ c.pop.new.self.items ++ (c.in-Some.a, c.in-Some.old) ∷ [] = search rules in
     short_back (tree.get nat_cmp c.loop-a.self.records) (tree.get nat_cmp c.restore.new.records) c.in-Some.a c.in-Some.old c.restore.ensures c.loop-a.self.short
-      (all_last c.pop.new.self.items c.loop-a.self.journal.items c.in-Some.a c.in-Some.old ej c.loop-a.self.old_short).0
+    (all_last c.pop.new.self.items c.loop-a.self.journal.items c.in-Some.a c.in-Some.old ej c.loop-a.self.old_short).0
 
 pub invariant_of-self-clause-old_short : goal.invariant_of-self-clause-old_short
 invariant_of-self-clause-old_short c =
