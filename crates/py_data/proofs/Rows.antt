@@ -36,6 +36,12 @@ module _ {S X : Type 0} (u : Sense S X) where
     run-bind (Ret x) f v m w a b h g = subst (λ z. Run u (f z) v b w) h.0 (subst (λ z. Run u (f a) z b w) h.1 g)
     run-bind (Do c k) f v m w a b h g = (h.0, h.1, h.2, run-bind (k h.0) f h.1 m w a b h.3 g)
 
+    -- and back
+    pub bind-run : (p : Row S A) (f : A → Row S B) (v : X) (b : B) (w : X) → Run u (bind p f) v b w → (a : A) × (m : X) × Run u p v a m × Run u (f a) m b w
+    unfolding Run bind
+    bind-run (Ret x) f v b w h = (x, v, (refl, refl), h)
+    bind-run (Do c k) f v b w h = let r = bind-run (k h.0) f h.1 b w h.3 in (r.0, r.1, (h.0, h.1, h.2, r.2), r.3)
+
     pub stop-first : (p : Row S A) (f : A → Row S B) (v w : X) (e : Stop) → Stopped u p v e w → Stopped u (bind p f) v e w
     unfolding Stopped bind
     stop-first (Ret x) f v w e h = subst (λ z. Stopped u (f x) v z w) (sym h.0) (subst (λ z. Stopped u (f x) v OutOfMemory z) (sym h.1) (own-memory (f x) v))
