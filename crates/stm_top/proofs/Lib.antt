@@ -1,4 +1,5 @@
 pub mod LineItems
 pub mod LineNames
+pub mod LineProducts
 pub mod LineSteps
 pub mod LineWords

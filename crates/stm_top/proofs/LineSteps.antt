@@ -1,5 +1,5 @@
 -- Each line that is read keeps a program sound.
-use Rattle.std.proofs.Common.{◌≡◌, ℕ, zero, suc, ◌+◌, ◌-◌, ◌*◌, ◌^◌, ◌<◌, ◌≤◌, Bool, true, false, cond, ltb, ◌&&◌, List, [], ◌∷◌, ◌++◌, length, get_or, take, drop, ⊎_elim, inl, inr, ◌⊎◌, slice_get, fold, lit<, refl, subst, sym, ap, ◌∙◌, Option, Some, None, Result, Ok, Err, count_by, ◌==◌, arith, ℤ, pos, negsuc, neg_ℤ, ◌≤ℤ◌, IsTrue, Contains, All, position}
+use Rattle.std.proofs.Common.{◌≡◌, ℕ, zero, suc, ◌+◌, ◌-◌, ◌*◌, ◌^◌, ◌<◌, ◌≤◌, Bool, true, false, cond, ltb, ◌&&◌, List, [], ◌∷◌, ◌++◌, length, get_or, take, drop, ⊎_elim, inl, inr, ◌⊎◌, slice_get, fold, lit<, refl, subst, sym, ap, ◌∙◌, Option, Some, None, Result, Ok, Err, count_by, MatchBool, ◌==◌, arith, ℤ, pos, negsuc, neg_ℤ, ◌≤ℤ◌, IsTrue, Contains, All, position}
 use Rattle.std.specs.Prelude.{option_and_then}
 use Rattle.std.specs.Option.{option_map, option_or}
 use Rattle.std.specs.List.{list_all, list_any, position_or_len, AllByRecursion}
@@ -8,7 +8,7 @@ use Rattle.std.proofs.lemmas.Int.{ints}
 use Rattle.std.proofs.lemmas.Nat.{mul-le, pow-add}
 use Rattle.std.proofs.Math.Nat.{pow-le-pow_right, pow-suc}
 use Rattle.std.proofs.lemmas.Bool.Decides.{nat_tests}
-use Rattle.std.proofs.lemmas.List.{take-append-le, take_at, length_push}
+use Rattle.std.proofs.lemmas.List.{take-append-le, take_at, length_push, at_drop_more, at_drop_all}
 use Rattle.std.proofs.lemmas.List.Sums.{count_by-le-length}
 use Rattle.std.proofs.lemmas.List.Splits.{length-slice_split}
 use Rattle.std.proofs.lemmas.Bool.{cases_lt}
@@ -285,3 +285,26 @@ pub well_formed : (text : List ℕ) (p : LineProgram) → length text ≤ 419430
 well_formed text p l e =
     let n = length-slice_split (λ b. b == 10) text in
     sound_program (lines_of text) (reading [] []) 1 p sound_start (omega (arith, n, count_by-le-length (λ b. b == 10) text)) e
+
+-- ---- a loop over the lines
+program_here : (ls : List (List ℕ)) (r : Reading) (n line : ℕ) (l : List ℕ) → (n < length ls) × (l ≡ get_or ls n l) → program_from (drop n ls) r line ≡ next_lines (program_from (drop (n + 1) ls)) line (after_line r l)
+unfolding program_from
+program_here ls r n line l t = at_drop_more (λ xs. program_from xs r line) ls n l t.0 ∙ ap (λ x. next_lines (program_from (drop (n + 1) ls)) line (after_line r x)) (sym t.1)
+
+pub program_more : (ls : List (List ℕ)) (r r' : Reading) (n n' line : ℕ) (l : List ℕ) (all : Result LineProgram ℕ) → (n < length ls) × (l ≡ get_or ls n l) → after_line r l ≡ Some r' → n' ≡ n + 1 → program_from (drop n ls) r line ≡ all → program_from (drop n' ls) r' (line + 1) ≡ all
+program_more ls r r' n n' line l all t e k h = rw k (ap (next_lines (program_from (drop (n + 1) ls)) line) (sym e) ∙ sym (program_here ls r n line l t) ∙ h)
+
+pub program_stop : (ls : List (List ℕ)) (r : Reading) (n line : ℕ) (l : List ℕ) (all : Result LineProgram ℕ) → (n < length ls) × (l ≡ get_or ls n l) → after_line r l ≡ None → program_from (drop n ls) r line ≡ all → all ≡ Err line
+program_stop ls r n line l all t e h = sym h ∙ program_here ls r n line l t ∙ ap (next_lines (program_from (drop (n + 1) ls)) line) e
+
+pub program_end : (ls : List (List ℕ)) (r : Reading) (n line cells : ℕ) (all : Result LineProgram ℕ) → length ls ≤ n → cells ≡ length r.names → program_from (drop n ls) r line ≡ all → all ≡ Ok (record { cells = cells; statements = r.statements })
+unfolding program_from
+program_end ls r n line cells all t e h = rw e (sym h ∙ at_drop_all (λ xs. program_from xs r line) ls n t)
+
+pub match_true : (b : Bool) (P Q : Type 0) → MatchBool b P Q → b ≡ true → P
+match_true true P Q m e = m
+match_true false P Q m e = absurd (cc)
+
+pub match_false : (b : Bool) (P Q : Type 0) → MatchBool b P Q → b ≡ false → Q
+match_false true P Q m e = absurd (cc)
+match_false false P Q m e = m
