@@ -78,3 +78,6 @@ impl From<AllocError> for LineError {
         LineError::OutOfMemory
     }
 }
+
+#[cfg(test)]
+mod tests;
