@@ -1,5 +1,5 @@
 -- The product of two small numbers fits 64 bits.
-use Rattle.std.proofs.Common.{ℕ, ◌≤◌, ◌*ℤ◌, ℤ, pos, negsuc, FitsSigned, w64, lit<, arith}
+use Rattle.std.proofs.Common.{◌≤◌, ◌*ℤ◌, ℤ, pos, negsuc, FitsSigned, w64, lit<, arith}
 use Rattle.std.specs.Prelude.{unsigned_abs}
 use Rattle.std.proofs.lemmas.Int.{ints, fits_signed_mul}
 use Rattle.stm_top.specs.LineSound.{IsSmall}

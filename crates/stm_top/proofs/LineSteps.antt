@@ -1,11 +1,11 @@
 -- Each line that is read keeps a program sound.
-use Rattle.std.proofs.Common.{◌≡◌, ℕ, zero, suc, ◌+◌, ◌-◌, ◌*◌, ◌^◌, ◌<◌, ◌≤◌, Bool, true, false, cond, ltb, ◌&&◌, List, [], ◌∷◌, ◌++◌, length, get_or, take, drop, ⊎_elim, inl, inr, ◌⊎◌, slice_get, fold, lit<, refl, subst, sym, ap, ◌∙◌, Option, Some, None, Result, Ok, Err, count_by, MatchBool, ◌==◌, arith, ℤ, pos, negsuc, neg_ℤ, ◌≤ℤ◌, IsTrue, Contains, All, position}
+use Rattle.std.proofs.Common.{◌≡◌, ℕ, zero, suc, ◌+◌, ◌*◌, ◌^◌, ◌<◌, ◌≤◌, Bool, true, false, cond, ltb, ◌&&◌, List, [], ◌∷◌, ◌++◌, length, get_or, take, drop, ⊎_elim, inl, inr, ◌⊎◌, slice_get, fold, lit<, refl, subst, sym, ap, ◌∙◌, Option, Some, None, Result, Ok, Err, MatchBool, ◌==◌, arith, ℤ, pos, neg_ℤ, Contains, position}
 use Rattle.std.specs.Prelude.{option_and_then}
 use Rattle.std.specs.Option.{option_map, option_or}
 use Rattle.std.specs.List.{list_all, list_any, position_or_len, AllByRecursion}
 use Rattle.std.specs.Str.{bytes_eq}
 use Rattle.std.proofs.lemmas.Int.{ints}
-use Rattle.std.proofs.lemmas.Nat.{mul-le, pow-add}
+use Rattle.std.proofs.lemmas.Nat.{mul-le}
 use Rattle.std.proofs.Math.Nat.{pow-le-pow_right, pow-suc}
 use Rattle.std.proofs.lemmas.Bool.Decides.{nat_tests}
 use Rattle.std.proofs.lemmas.List.{take-append-le, take_at, length_push, at_drop_more, at_drop_all}
@@ -13,10 +13,9 @@ use Rattle.std.proofs.lemmas.List.Sums.{count_by-le-length}
 use Rattle.std.proofs.lemmas.List.Splits.{length-slice_split}
 use Rattle.std.proofs.lemmas.Bool.{cases_lt}
 use Rattle.std.proofs.lemmas.List.Elements.{Contains-append_left, Contains-push, All-from_recursion}
-use Rattle.stm_top.specs.LineText.{is_digit, is_number, number_of, value_of, with_digit, words, is_space, begins_with_space}
-use Rattle.stm_top.specs.LineForm.{operator_of, is_defined, unsigned_of, signed_of, calculation_from, calculation_of, cell_of, name_of, item_of, items_of, Reading, reading, cell_for, with_name, with_print, with_assignment, assignment_of, after_assignment, after_print, after_line, between_commas, program_from, next_lines, lines_of, program_of}
+use Rattle.stm_top.specs.LineText.{is_digit, is_number, number_of, value_of, with_digit, words}
+use Rattle.stm_top.specs.LineForm.{operator_of, unsigned_of, signed_of, calculation_from, calculation_of, name_of, item_of, items_of, Reading, reading, cell_for, with_name, with_print, with_assignment, assignment_of, after_assignment, after_print, after_line, between_commas, program_from, next_lines, lines_of, program_of}
 use Rattle.stm_top.specs.LineSound.{IsSmall, cells_assigned, IsReady, IsFit, IsWellFormed}
-use Rattle.stm_top.specs.declared.line_form.Operator.{Operator}
 use Rattle.stm_top.specs.declared.line_form.Item.{Item}
 use Rattle.stm_top.specs.declared.line_form.Item.TheVariants.{Name, Number, Calculation}
 use Rattle.stm_top.specs.declared.line_form.Statement.{Statement}

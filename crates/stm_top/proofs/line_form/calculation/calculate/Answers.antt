@@ -1,4 +1,4 @@
-use Rattle.std.proofs.Common.{◌*ℤ◌, w64, to_z, of_z, ap, sym}
+use Rattle.std.proofs.Common.{◌*ℤ◌, w64, ap, sym}
 use Rattle.std.proofs.lemmas.Int.{to_z-of_z}
 use Rattle.stm_top.specs.LineForm.{calculated}
 use Rattle.stm_top.proofs.LineProducts.{small_product}

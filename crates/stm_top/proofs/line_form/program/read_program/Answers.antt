@@ -1,9 +1,9 @@
-use Rattle.std.proofs.Common.{◌≡◌, ◌==◌, ◌+◌, length, ap, ◌∙◌, Ok, Err, rules, arith}
+use Rattle.std.proofs.Common.{◌≡◌, ◌==◌, ◌+◌, length, ap, ◌∙◌, Err, rules, arith}
 use borrow.Author.Tests.{tests}
 use Rattle.std.proofs.lemmas.List.{length_push}
 use Rattle.std.proofs.lemmas.Iterator.Splits.{YieldsList-from_slice_split}
 use Rattle.std.proofs.lemmas.Iterator.Consumers.{YieldsList-turn, YieldsList-end}
-use Rattle.stm_top.specs.LineForm.{reading, after_line, lines_of, program_of}
+use Rattle.stm_top.specs.LineForm.{reading, lines_of, program_of}
 use Rattle.stm_top.proofs.LineSteps.{program_more, program_stop, program_end, keeps_line, match_true, match_false, well_formed}
 use Rattle.stm_top.proofs.line_form.program.read_program.Goals as goal
 
