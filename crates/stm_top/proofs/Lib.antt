@@ -1,5 +1,6 @@
 pub mod LineItems
 pub mod LineNames
+pub mod LineProducts
 pub mod LineSteps
 pub mod LineWords
 pub mod LineCells

@@ -3,13 +3,15 @@
 ghost use Rattle.std.specs.Prelude.{◌≡◌};
 ghost use Rattle.stm_top.specs.declared.line_form.LineError.TheVariants.{OutOfMemory};
 
+mod calculation;
 mod items;
 mod lines;
 mod names;
 mod program;
 mod words;
 
-pub use program::read_program;
+pub use calculation::calculate;
+pub use program::{line_program_law, read_program};
 use py_data::Items;
 use std::alloc::AllocError;
 use thiserror::Error;
@@ -76,3 +78,6 @@ impl From<AllocError> for LineError {
         LineError::OutOfMemory
     }
 }
+
+#[cfg(test)]
+mod tests;
