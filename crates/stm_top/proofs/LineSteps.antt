@@ -14,10 +14,10 @@ use Rattle.std.proofs.lemmas.List.Splits.{length-slice_split}
 use Rattle.std.proofs.lemmas.Bool.{cases_lt}
 use Rattle.std.proofs.lemmas.List.Elements.{Contains-append_left, Contains-push, All-from_recursion}
 use Rattle.stm_top.specs.LineText.{is_digit, is_number, number_of, value_of, with_digit, words}
-use Rattle.stm_top.specs.LineForm.{operator_of, unsigned_of, signed_of, calculation_from, calculation_of, name_of, item_of, items_of, Reading, reading, cell_for, with_name, with_print, with_assignment, assignment_of, after_assignment, after_print, after_line, between_commas, program_from, next_lines, lines_of, program_of}
+use Rattle.stm_top.specs.LineForm.{operator_of, unsigned_of, signed_of, calculation_from, calculated, calculation_of, name_of, item_of, items_of, Reading, reading, cell_for, with_name, with_print, with_assignment, assignment_of, after_assignment, after_print, after_line, between_commas, program_from, next_lines, lines_of, program_of}
 use Rattle.stm_top.specs.LineSound.{IsSmall, cells_assigned, IsReady, IsFit, IsWellFormed}
 use Rattle.stm_top.specs.declared.line_form.Item.{Item}
-use Rattle.stm_top.specs.declared.line_form.Item.TheVariants.{Name, Number, Calculation}
+use Rattle.stm_top.specs.declared.line_form.Item.TheVariants.{Name, Number}
 use Rattle.stm_top.specs.declared.line_form.Statement.{Statement}
 use Rattle.stm_top.specs.declared.line_form.Statement.TheVariants.{Assign, Print}
 use Rattle.stm_top.specs.declared.line_form.LineProgram.{LineProgram}
@@ -64,18 +64,22 @@ digits_below v (d ∷ ds) h =
     let below = digits_below (with_digit v d) ds rest in
     one_digit _ (with_digit v d) v (10 ^ length ds) _ below (omega arith) (pow-suc 10 (length ds))
 
-pub number_small : (w : List ℕ) (n : ℕ) → number_of w ≡ Some n → n ≤ 999999999
+pub value_small : (w : List ℕ) → is_number w ≡ true → value_of w ≤ 999999999
+value_small w h =
+    let below = digits_below 0 w (number_digits w h) in
+    let nine = pow-le-pow_right {n = 10} (lit< tt) {i = length w} {j = 9} (number_length w h) in
+    omega (arith, below, nine)
+
+number_small : (w : List ℕ) (n : ℕ) → number_of w ≡ Some n → n ≤ 999999999
 unfolding number_of
 number_small w n h =
     let e = if_some (is_number w) (value_of w) n h in
-    let below = digits_below 0 w (number_digits w e.0) in
-    let nine = pow-le-pow_right {n = 10} (lit< tt) {i = length w} {j = 9} (number_length w e.0) in
-    omega (arith, below, nine, e.1)
+    subst (λ n. n ≤ 999999999) e.1 (value_small w e.0)
 
-small_pos : (n : ℕ) → n ≤ 999999999 → IsSmall (pos n)
+pub small_pos : (n : ℕ) → n ≤ 999999999 → IsSmall (pos n)
 small_pos n h = record { low = omega (arith, ints); high = omega (arith, ints) }
 
-small_neg : (n : ℕ) → n ≤ 999999999 → IsSmall (neg_ℤ (pos n))
+pub small_neg : (n : ℕ) → n ≤ 999999999 → IsSmall (neg_ℤ (pos n))
 small_neg n h = record { low = omega (arith, ints); high = omega (arith, ints) }
 
 unsigned_small : (ws : List (List ℕ)) (p : ℕ × List (List ℕ)) → unsigned_of ws ≡ Some p → p.0 ≤ 999999999
@@ -92,18 +96,18 @@ signed_cases false w ws p h =
     let m = map_some (number_of w) (λ n. (pos n, ws)) p h in
     subst (λ (x : ℤ × List (List ℕ)). IsSmall x.0) m.2 (small_pos m.0 (number_small w m.0 m.1))
 
-signed_small : (ws : List (List ℕ)) (p : ℤ × List (List ℕ)) → signed_of ws ≡ Some p → IsSmall p.0
+pub signed_small : (ws : List (List ℕ)) (p : ℤ × List (List ℕ)) → signed_of ws ≡ Some p → IsSmall p.0
 signed_small [] p h = absurd (cc)
 signed_small (w ∷ ws) p h = signed_cases (bytes_eq w (45 ∷ [])) w ws p h
 
 -- ---- items
-calculation_ready : (cells : ℕ) (before : List ℕ) (a : ℤ) (ws : List (List ℕ)) (item : Item) → IsSmall a → calculation_from a ws ≡ Some item → IsReady cells before item
-calculation_ready cells before a [] item s h = subst (IsReady cells before) (some_same (Number a) item h) s
-calculation_ready cells before a (w ∷ ws) item s h =
+calculation_ready : (cells : ℕ) (before : List ℕ) (a : ℤ) (ws : List (List ℕ)) (item : Item) → calculation_from a ws ≡ Some item → IsReady cells before item
+calculation_ready cells before a [] item h = subst (IsReady cells before) (some_same (Number a) item h) tt
+calculation_ready cells before a (w ∷ ws) item h =
     let o = then_some (operator_of w) _ item h in
     let b = then_some (signed_of ws) _ item o.2 in
-    let e = if_some _ (Calculation a o.0 b.0.0) item b.2 in
-    subst (IsReady cells before) e.1 (s, signed_small ws b.0 b.1, and_right _ _ e.0)
+    let e = if_some _ (Number (calculated a o.0 b.0.0)) item b.2 in
+    subst (IsReady cells before) e.1 tt
 
 name_ready : (names : List (List ℕ)) (before : List ℕ) (ws : List (List ℕ)) (cell : ℕ) → ((c : ℕ) → c < length names → Contains before c) → name_of names ws ≡ Some cell → (cell < length names) × Contains before cell
 name_ready names before [] cell s h = absurd (cc)
@@ -114,7 +118,7 @@ item_cases : (names : List (List ℕ)) (before : List ℕ) (ws : List (List ℕ)
 item_cases names before ws item (Some cell) s e h = subst (IsReady (length names) before) (some_same (Name cell) item h) (name_ready names before ws cell s e)
 item_cases names before ws item None s e h =
     let p = then_some (signed_of ws) _ item h in
-    calculation_ready (length names) before p.0.0 p.0.1 item (signed_small ws p.0 p.1) p.2
+    calculation_ready (length names) before p.0.0 p.0.1 item p.2
 
 item_ready : (names : List (List ℕ)) (before : List ℕ) (ws : List (List ℕ)) (item : Item) → ((c : ℕ) → c < length names → Contains before c) → item_of names ws ≡ Some item → IsReady (length names) before item
 unfolding item_of
@@ -138,7 +142,6 @@ pub record IsSound (r : Reading) : Type 0 where
 ready_more : (n m : ℕ) (before : List ℕ) (item : Item) → n ≤ m → IsReady n before item → IsReady m before item
 ready_more n m before (Name cell) l h = (omega (arith, h.0), h.1)
 ready_more n m before (Number value) l h = h
-ready_more n m before (Calculation left operator right) l h = h
 
 fit_more : (n m : ℕ) (before : List ℕ) (s : Statement) → n ≤ m → IsFit n before s → IsFit m before s
 fit_more n m before (Assign cell item) l h = (omega (arith, h.0), ready_more n m before item l h.1)

@@ -18,7 +18,7 @@ use Rattle.lock_run.specs.declared.client.Outcome.TheVariants.{Done, Ended, Wait
 use Rattle.lock_run.specs.declared.client.Life.TheVariants.{Lives, Ended as HasEnded}
 use Rattle.lock_run.specs.Client.{StaysSound, WaitsQuietly, WritesThen, AsksToPrint}
 use Rattle.stm_top.specs.declared.line_form.Item.{Item}
-use Rattle.stm_top.specs.declared.line_form.Item.TheVariants.{Name, Number, Calculation}
+use Rattle.stm_top.specs.declared.line_form.Item.TheVariants.{Name, Number}
 use Rattle.stm_top.specs.declared.line_form.Statement.{Statement}
 use Rattle.stm_top.specs.declared.line_form.Statement.TheVariants.{Assign, Print}
 use Rattle.stm_top.specs.declared.line_form.LineProgram.{LineProgram}
@@ -117,7 +117,6 @@ item_valued : {S : Type 0} (cells : List Addr) (item : Item) (x y : Sight S) (v 
 unfolding Run
 item_valued cells (Name k) x y v d = valued (slice_get cells k) x y v d
 item_valued cells (Number n) x y v d = (keeps_heap x y (ap (λ s. s.heap) d.1) (ap (λ s. s.started) d.1), λ c. subst IsSimple (sym d.0) tt)
-item_valued cells (Calculation a operator b) x y v d = (keeps_heap x y (ap (λ s. s.heap) d.1) (ap (λ s. s.started) d.1), λ c. subst IsSimple (sym d.0) tt)
 
 was_set : {S : Type 0} (o : Option Addr) (v : Value) (x y : Sight S) (u : Unit {0}) → Does (set_cell o v) x u y → IsSimple v → Keeps x y
 unfolding set_cell Run
@@ -252,7 +251,6 @@ value_silent S (Some a) = (tt, λ r. tt)
 item_silent : (S : Type 0) (cells : List Addr) (item : Item) → NeverAsks (item_row {S = S} cells item)
 item_silent S cells (Name k) = value_silent S (slice_get cells k)
 item_silent S cells (Number n) = tt
-item_silent S cells (Calculation a operator b) = tt
 
 set_silent : (S : Type 0) (o : Option Addr) (v : Value) → NeverAsks (set_cell {S = S} o v)
 unfolding set_cell

@@ -35,13 +35,9 @@ pub enum Item {
     Name {
         cell: u32,
     },
+    /// A number, or what a calculation of two numbers gives.
     Number {
         value: i64,
-    },
-    Calculation {
-        left: i64,
-        operator: Operator,
-        right: i64,
     },
 }
 

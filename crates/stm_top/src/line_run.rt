@@ -80,7 +80,6 @@ fn value_of<S, V: View<S>>(v: &mut V, cells: &Names, item: Item) -> Result<Value
             None => Ok(Value::Unset),
         },
         Item::Number { value } => Ok(Value::Int(value)),
-        Item::Calculation { .. } => Ok(Value::Int(0)),
     }
 }
 
