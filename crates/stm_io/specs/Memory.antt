@@ -19,8 +19,8 @@ abbrev pub planned : List Fail → Plan
 planned fails = record { fails = fails; calls = 0 }
 
 -- one call later
-abbrev pub next : Plan → Plan
-next p = record { fails = p.fails; calls = counted p.calls }
+abbrev pub called : Plan → Plan
+called p = record { fails = p.fails; calls = counted p.calls }
 
 -- after how many bytes the next call fails, if it is to fail: the first failure with its number counts
 abbrev pub due : Plan → Option ℕ

@@ -1,15 +1,16 @@
 //! Failures that are planned.
 ghost use Rattle.std.specs.Prelude.{◌≡◌};
-ghost use Rattle.stm_io.specs.Memory.{due, next, planned};
+ghost use Rattle.stm_io.specs.Memory.{called, due, planned};
 
 use std::marker::Model;
 
-/// A failure of a device in memory.
+/// A failure that is planned for a device in memory. Of two for the same call the earlier one in the list counts.
 #[derive(Clone, Copy, Debug, PartialEq, Eq)]
 pub struct Fail {
     /// The number of the call that fails, from 1.
     pub call: u64,
-    /// After how many bytes it fails; where there are fewer, after all of them.
+    /// After how many bytes taken from a source or written to a sink it fails; where there are fewer, after all of them.
+    /// Of a loader it plays no part.
     pub bytes: usize,
 }
 
@@ -37,9 +38,9 @@ impl Schedule {
     }
 
     /// Counts a call, and answers after how many bytes it is to fail, if it is to fail.
-    pub fn next(&mut self) -> Option<usize>
+    pub fn count_call(&mut self) -> Option<usize>
         ensures due { result ≡ due self.old }
-        ensures counted { self.new ≡ next self.old }
+        ensures calls { self.new ≡ called self.old }
     {
         self.calls = self.calls.saturating_add(1);
         let call = self.calls;

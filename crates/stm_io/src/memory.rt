@@ -1,7 +1,7 @@
 //! Devices in memory whose calls fail as planned.
 ghost use Rattle.std.specs.Prelude.{◌≡◌, ◌≤◌, ℕ, List, [], ◌∷◌, ◌++◌, length, drop, take, IfOk, IfErr, OnOk};
 ghost use Rattle.py_data.specs.World.{line_of};
-ghost use Rattle.stm_io.specs.Memory.{next, planned, mem_loader_state, mem_source_state, mem_sink_state, MemLoads, MemTakes, MemPuts};
+ghost use Rattle.stm_io.specs.Memory.{called, planned, mem_loader_state, mem_source_state, mem_sink_state, MemLoads, MemTakes, MemPuts};
 ghost use Rattle.stm_io.specs.Outside.{ends_after, LoadStops};
 
 use crate::device::{Loader, Sink, Source};
@@ -66,12 +66,12 @@ impl Loader for MemLoader {
 
         // The plan and the name decide which answer it is, where there is memory.
         ensures cause { MemLoads name.now result self.old self.new }
-        ensures plan { self.new.plan ≡ next self.old.plan }
+        ensures plan { self.new.plan ≡ called self.old.plan }
         ensures later { self.old.faults ≤ self.new.faults }
     {
-        let due = self.schedule.next();
-        self.asked
-            .push(Bytes::from_slice(self.alloc, name.as_bytes())?)?;
+        let due = self.schedule.count_call();
+        let bytes = Bytes::from_slice(self.alloc, name.as_bytes())?;
+        self.asked.push(bytes)?;
         if due.is_some() || name.as_bytes() != self.name.as_slice() {
             self.faults = self.faults.saturating_add(1);
             return Err(LoadError::Failed);
@@ -141,10 +141,10 @@ impl Source for MemSource {
 
         // The plan decides which answer it is, where there is memory.
         ensures cause { MemTakes result self.old self.new }
-        ensures plan { self.new.plan ≡ next self.old.plan }
+        ensures plan { self.new.plan ≡ called self.old.plan }
         ensures later { self.old.faults ≤ self.new.faults }
     {
-        let due = self.schedule.next();
+        let due = self.schedule.count_call();
         let rest = &self.text[self.taken..];
         if let Some(bytes) = due {
             self.taken += bytes.min(rest.len());
@@ -207,10 +207,10 @@ impl Sink for MemSink {
     fn put(&mut self, bytes: &[u8]) -> Result<(), PutError>
         // The plan decides which answer it is, where there is memory.
         ensures written { MemPuts bytes.now result self.old self.new }
-        ensures plan { self.new.plan ≡ next self.old.plan }
+        ensures plan { self.new.plan ≡ called self.old.plan }
         ensures later { self.old.faults ≤ self.new.faults }
     {
-        match self.schedule.next() {
+        match self.schedule.count_call() {
             Some(most) => {
                 self.bytes.extend_from_slice(front(bytes, most))?;
                 self.faults = self.faults.saturating_add(1);

@@ -57,8 +57,8 @@ impl Loader for SureLoader {
         ensures same { self.new.text ≡ self.old.text }
         ensures sure { IsOkUnless result LoadError.OutOfMemory }
     {
-        self.asked
-            .push(Bytes::from_slice(self.alloc, name.as_bytes())?)?;
+        let bytes = Bytes::from_slice(self.alloc, name.as_bytes())?;
+        self.asked.push(bytes)?;
         Ok(Vec::from_slice(self.alloc, front(self.text.as_slice(), most))?)
     }
 
