@@ -1,5 +1,5 @@
-//! Devices in memory whose calls fail as planned.
-ghost use Rattle.std.specs.Prelude.{◌≡◌, ◌≤◌, ℕ, List, [], ◌∷◌, ◌++◌, length, drop, take, IfOk, IfErr, OnOk};
+//! Devices in memory whose calls fail as planned. Each holds one that never fails.
+ghost use Rattle.std.specs.Prelude.{◌≡◌, ◌≤◌, [], ◌∷◌, ◌++◌, length, drop, take, IfOk, IfErr, OnOk};
 ghost use Rattle.py_data.specs.World.{line_of};
 ghost use Rattle.stm_io.specs.Memory.{called, planned, mem_loader_state, mem_source_state, mem_sink_state, MemLoads, MemTakes, MemPuts};
 ghost use Rattle.stm_io.specs.Outside.{ends_after, LoadStops};
@@ -7,18 +7,17 @@ ghost use Rattle.stm_io.specs.Outside.{ends_after, LoadStops};
 use crate::device::{Loader, Sink, Source};
 use crate::error::{LoadError, PutError, TakeError};
 use crate::fail::{Fail, Schedule};
-use crate::piece::{first_line, front};
-use py_data::{Bytes, Items};
+use crate::piece::front;
+use crate::sure::{SureLoader, SureSink, SureSource};
+use py_data::Bytes;
 use std::alloc::Global;
 use std::marker::Model;
 
 /// A loader that knows one file.
 #[derive(Debug, Drop)]
 pub struct MemLoader {
-    alloc: Global,
     name: Vec<u8>,
-    text: Vec<u8>,
-    asked: Items<Bytes>,
+    loader: SureLoader,
     schedule: Schedule,
     faults: u64,
 }
@@ -28,7 +27,7 @@ impl Model for MemLoader {
 
     ghost Value = { MemLoaderValue };
 
-    ghost view = { λ a. record { name = a.name.items; text = a.text.items; asked = a.asked; plan = a.schedule; faults = a.faults } };
+    ghost view = { λ a. record { name = a.name.items; text = a.loader.text; asked = a.loader.asked; plan = a.schedule; faults = a.faults } };
 }
 
 impl MemLoader {
@@ -37,10 +36,8 @@ impl MemLoader {
         ensures { result ≡ record { name = name.items; text = text.items; asked = []; plan = planned fails.items; faults = 0 } }
     {
         MemLoader {
-            alloc,
             name,
-            text,
-            asked: Items::new(alloc),
+            loader: SureLoader::new(alloc, text),
             schedule: Schedule::new(fails),
             faults: 0,
         }
@@ -50,7 +47,7 @@ impl MemLoader {
     pub fn asked(&self) -> &[Bytes]
         ensures { result.now ≡ self.now.asked }
     {
-        self.asked.as_slice()
+        self.loader.asked()
     }
 }
 
@@ -70,13 +67,12 @@ impl Loader for MemLoader {
         ensures later { self.old.faults ≤ self.new.faults }
     {
         let due = self.schedule.count_call();
-        let bytes = Bytes::from_slice(self.alloc, name.as_bytes())?;
-        self.asked.push(bytes)?;
+        self.loader.ask(name)?;
         if due.is_some() || name.as_bytes() != self.name.as_slice() {
             self.faults = self.faults.saturating_add(1);
             return Err(LoadError::Failed);
         }
-        Ok(Vec::from_slice(self.alloc, front(self.text.as_slice(), most))?)
+        Ok(self.loader.text(most)?)
     }
 
     fn faults(&self) -> u64 {
@@ -87,23 +83,17 @@ impl Loader for MemLoader {
 /// A source of one text.
 #[derive(Debug, Drop)]
 pub struct MemSource {
-    alloc: Global,
-    text: Vec<u8>,
-    taken: usize,
+    source: SureSource,
     schedule: Schedule,
     faults: u64,
-    ends: u64,
 }
 
 impl Model for MemSource {
-    ghost use Rattle.std.specs.Prelude.{◌≤◌, length, drop};
     ghost use Rattle.stm_io.specs.Memory.{MemSourceValue};
 
     ghost Value = { MemSourceValue };
 
-    ghost view = { λ a. record { rest = drop a.taken a.text.items; plan = a.schedule; faults = a.faults; ends = a.ends } };
-
-    ghost invariant = { λ a. a.taken ≤ length a.text.items };
+    ghost view = { λ a. record { rest = a.source.rest; plan = a.schedule; faults = a.faults; ends = a.source.ends } };
 }
 
 impl MemSource {
@@ -112,12 +102,9 @@ impl MemSource {
         ensures { result ≡ record { rest = text.items; plan = planned fails.items; faults = 0; ends = 0 } }
     {
         MemSource {
-            alloc,
-            text,
-            taken: 0,
+            source: SureSource::new(alloc, text),
             schedule: Schedule::new(fails),
             faults: 0,
-            ends: 0,
         }
     }
 
@@ -125,7 +112,7 @@ impl MemSource {
     pub fn ends(&self) -> u64
         ensures { result ≡ self.now.ends }
     {
-        self.ends
+        self.source.ends()
     }
 }
 
@@ -144,20 +131,12 @@ impl Source for MemSource {
         ensures plan { self.new.plan ≡ called self.old.plan }
         ensures later { self.old.faults ≤ self.new.faults }
     {
-        let due = self.schedule.count_call();
-        let rest = &self.text[self.taken..];
-        if let Some(bytes) = due {
-            self.taken += bytes.min(rest.len());
+        if let Some(bytes) = self.schedule.count_call() {
+            self.source.lose(bytes);
             self.faults = self.faults.saturating_add(1);
             return Err(TakeError::Failed);
         }
-        let line = first_line(rest, most);
-        let answer = Vec::from_slice(self.alloc, line)?;
-        self.taken += line.len();
-        if answer.is_empty() {
-            self.ends = self.ends.saturating_add(1);
-        }
-        Ok(answer)
+        self.source.take_line(most)
     }
 
     fn faults(&self) -> u64 {
@@ -168,7 +147,7 @@ impl Source for MemSource {
 /// A sink that keeps what is written to it.
 #[derive(Debug, Drop)]
 pub struct MemSink {
-    bytes: Vec<u8>,
+    sink: SureSink,
     schedule: Schedule,
     faults: u64,
 }
@@ -178,7 +157,7 @@ impl Model for MemSink {
 
     ghost Value = { MemSinkValue };
 
-    ghost view = { λ a. record { written = a.bytes.items; plan = a.schedule; faults = a.faults } };
+    ghost view = { λ a. record { written = a.sink; plan = a.schedule; faults = a.faults } };
 }
 
 impl MemSink {
@@ -187,7 +166,7 @@ impl MemSink {
         ensures { result ≡ record { written = []; plan = planned fails.items; faults = 0 } }
     {
         MemSink {
-            bytes: Vec::new(alloc),
+            sink: SureSink::new(alloc),
             schedule: Schedule::new(fails),
             faults: 0,
         }
@@ -197,7 +176,7 @@ impl MemSink {
     pub fn written(&self) -> &[u8]
         ensures { result.now ≡ self.now.written }
     {
-        self.bytes.as_slice()
+        self.sink.written()
     }
 }
 
@@ -210,17 +189,12 @@ impl Sink for MemSink {
         ensures plan { self.new.plan ≡ called self.old.plan }
         ensures later { self.old.faults ≤ self.new.faults }
     {
-        match self.schedule.count_call() {
-            Some(most) => {
-                self.bytes.extend_from_slice(front(bytes, most))?;
-                self.faults = self.faults.saturating_add(1);
-                Err(PutError::Failed)
-            }
-            None => {
-                self.bytes.extend_from_slice(bytes)?;
-                Ok(())
-            }
+        if let Some(most) = self.schedule.count_call() {
+            self.sink.put(front(bytes, most))?;
+            self.faults = self.faults.saturating_add(1);
+            return Err(PutError::Failed);
         }
+        self.sink.put(bytes)
     }
 
     fn faults(&self) -> u64 {

@@ -1,13 +1,13 @@
 //! Devices that never fail.
 ghost use Rattle.std.specs.Prelude.{◌≡◌, ◌≤◌, ℕ, List, [], ◌∷◌, ◌++◌, length, drop, take, IfOk, IfErr, OnOk, OnErr, IsOkUnless};
 ghost use Rattle.py_data.specs.World.{line_of};
-ghost use Rattle.stm_io.specs.Memory.{SureLoaderValue, SureSourceValue, sure_loader_state, sure_source_state, sure_sink_state};
-ghost use Rattle.stm_io.specs.Outside.{ends_after, LoadStops, TakeStops, Puts, PutCause};
+ghost use Rattle.stm_io.specs.Memory.{sure_loader_state, sure_source_state, sure_sink_state};
+ghost use Rattle.stm_io.specs.Outside.{ends_after, LoadStops};
 
 use crate::device::{Gate, Loader, Sink, Source};
 use crate::error::{LoadError, PutError, TakeError};
 use crate::piece::{first_line, front};
-use py_data::{Bytes, Items};
+use py_data::{Bytes, Items, NoMemory};
 use std::alloc::Global;
 use std::marker::Model;
 
@@ -45,6 +45,23 @@ impl SureLoader {
     {
         self.asked.as_slice()
     }
+
+    /// Keeps that name.
+    pub(crate) fn ask(&mut self, name: &str) -> Result<(), NoMemory>
+        ensures ok { OnOk result (self.new.asked ≡ self.old.asked ++ name.now ∷ []) }
+        ensures err { OnErr result (self.new.asked ≡ self.old.asked) }
+        ensures same { self.new.text ≡ self.old.text }
+    {
+        let bytes = Bytes::from_slice(self.alloc, name.as_bytes())?;
+        self.asked.push(bytes)
+    }
+
+    /// The first `most` bytes of its text, or all of a shorter one.
+    pub(crate) fn text(&self, most: usize) -> Result<Vec<u8>, NoMemory>
+        ensures { IfOk result (λ v. v.items ≡ take most self.now.text) }
+    {
+        Vec::from_slice(self.alloc, front(self.text.as_slice(), most))
+    }
 }
 
 impl Loader for SureLoader {
@@ -57,9 +74,8 @@ impl Loader for SureLoader {
         ensures same { self.new.text ≡ self.old.text }
         ensures sure { IsOkUnless result LoadError.OutOfMemory }
     {
-        let bytes = Bytes::from_slice(self.alloc, name.as_bytes())?;
-        self.asked.push(bytes)?;
-        Ok(Vec::from_slice(self.alloc, front(self.text.as_slice(), most))?)
+        self.ask(name)?;
+        Ok(self.text(most)?)
     }
 
     fn faults(&self) -> u64 {
@@ -105,6 +121,14 @@ impl SureSource {
         ensures { result ≡ self.now.ends }
     {
         self.ends
+    }
+
+    /// Loses that many bytes, or all where there are fewer.
+    pub(crate) fn lose(&mut self, bytes: usize)
+        ensures rest { self.new.rest ≡ drop bytes self.old.rest }
+        ensures same { self.new.ends ≡ self.old.ends }
+    {
+        self.taken += bytes.min(self.text.len() - self.taken);
     }
 }
 
