@@ -1,4 +1,10 @@
 //! Why a device gave no answer.
+ghost use Rattle.std.specs.Prelude.{◌≡◌};
+ghost use Rattle.stm_io.specs.declared.error.LoadError.TheVariants.{OutOfMemory as LoadMemory};
+ghost use Rattle.stm_io.specs.declared.error.PutError.TheVariants.{OutOfMemory as PutMemory};
+ghost use Rattle.stm_io.specs.declared.error.TakeError.TheVariants.{OutOfMemory as TakeMemory};
+
+use std::alloc::AllocError;
 use thiserror::Error;
 
 /// Why a text wasn't loaded.
@@ -32,4 +38,28 @@ pub enum PutError {
     /// There was no memory, and nothing was written.
     #[error("out of memory")]
     OutOfMemory,
+}
+
+impl From<AllocError> for LoadError {
+    ghost from_gives = { λ _ e. e ≡ LoadMemory };
+
+    fn from(_e: AllocError) -> LoadError {
+        LoadError::OutOfMemory
+    }
+}
+
+impl From<AllocError> for TakeError {
+    ghost from_gives = { λ _ e. e ≡ TakeMemory };
+
+    fn from(_e: AllocError) -> TakeError {
+        TakeError::OutOfMemory
+    }
+}
+
+impl From<AllocError> for PutError {
+    ghost from_gives = { λ _ e. e ≡ PutMemory };
+
+    fn from(_e: AllocError) -> PutError {
+        PutError::OutOfMemory
+    }
 }

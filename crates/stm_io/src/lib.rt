@@ -3,6 +3,16 @@
 
 mod device;
 mod error;
+mod fail;
+mod memory;
+mod piece;
+mod sure;
 
 pub use device::{Gate, Loader, Sink, Source};
 pub use error::{LoadError, PutError, TakeError};
+pub use fail::Fail;
+pub use memory::{MemLoader, MemSink, MemSource};
+pub use sure::{OpenGate, SureLoader, SureSink, SureSource};
+
+#[cfg(test)]
+mod tests;

@@ -1,4 +1,8 @@
 pub mod LineItems
 pub mod LineNames
+pub mod LineProducts
 pub mod LineSteps
 pub mod LineWords
+pub mod LineCells
+pub mod LinePrinting
+pub mod LineStepping

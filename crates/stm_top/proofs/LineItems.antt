@@ -1,9 +1,9 @@
 -- Items and lines that are read one after another.
-use Rattle.std.proofs.Common.{◌≡◌, ℕ, ◌+◌, ◌<◌, ◌≤◌, Bool, true, false, List, [], ◌∷◌, ◌++◌, length, get_or, drop, refl, subst, sym, ap, ◌∙◌, append_assoc, append-nil, Option, Some, None, Result, Ok, Err, arith}
+use Rattle.std.proofs.Common.{◌≡◌, ℕ, ◌+◌, ◌<◌, ◌≤◌, List, [], ◌∷◌, ◌++◌, length, get_or, drop, refl, sym, ap, ◌∙◌, append_assoc, append-nil, Option, Some, None}
 use Rattle.std.specs.Option.{option_map}
 use Rattle.std.proofs.lemmas.List.{at_drop_more, at_drop_all}
 use Rattle.stm_top.specs.LineText.{words}
-use Rattle.stm_top.specs.LineForm.{item_of, items_of, ◌>>=◌, Reading, reading, after_line, program_from}
+use Rattle.stm_top.specs.LineForm.{item_of, items_of, ◌>>=◌}
 use Rattle.stm_top.specs.declared.line_form.Item.{Item}
 
 -- what items are left after some, put behind those

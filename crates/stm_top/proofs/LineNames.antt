@@ -1,5 +1,5 @@
 -- A list of names, searched through what it was made from.
-use Rattle.std.proofs.Common.{◌≡◌, ℕ, ◌+◌, Bool, true, false, cond, ltb, not, List, [], ◌∷◌, ◌++◌, length, map, refl, subst, sym, ap, ◌∙◌, ◌||◌, position, Option, Some, None}
+use Rattle.std.proofs.Common.{◌≡◌, ℕ, ◌+◌, Bool, true, false, cond, not, List, [], ◌∷◌, ◌++◌, map, refl, subst, sym, ap, ◌∙◌, ◌||◌, position}
 use Rattle.std.specs.List.{list_any, prefix_len, position_or_len}
 use Rattle.std.proofs.lemmas.List.{length-map, map-append}
 

@@ -1,13 +1,12 @@
 -- What the readers of words owe.
-use Rattle.std.proofs.Common.{◌≡◌, ◌≢◌, ℕ, zero, suc, ◌+◌, ◌-◌, ◌*◌, ◌^◌, ◌<◌, ◌≤◌, Bool, true, false, cond, eqb, leb, ◌&&◌, ◌||◌, not, List, [], ◌∷◌, length, get_or, lit<, take, drop, max, fold, ⊎_elim, subst, refl, sym, ap, ◌∙◌, arith, rules, nat_le, ◌==◌}
-use Rattle.std.specs.List.{list_all, list_any, onto_first}
+use Rattle.std.proofs.Common.{◌≡◌, ◌≢◌, ℕ, zero, suc, ◌+◌, ◌-◌, ◌*◌, ◌^◌, ◌<◌, ◌≤◌, Bool, true, false, ◌&&◌, not, List, [], ◌∷◌, length, get_or, lit<, take, drop, max, ⊎_elim, subst, refl, sym, ap, ◌∙◌, arith, nat_le, ◌==◌}
+use Rattle.std.specs.List.{list_all, onto_first}
 use Rattle.std.proofs.lemmas.Bool.Decides.{nat_tests}
 use Rattle.std.proofs.lemmas.Bool.{cases_Bool}
 use Rattle.std.proofs.lemmas.List.{at_drop_more}
 use Rattle.std.proofs.lemmas.Nat.{pow-add}
 use Rattle.std.proofs.Math.Nat.{pow-le-pow_right}
-use Rattle.std.proofs.lemmas.Grind.{common_steps}
-use Rattle.stm_top.specs.LineText.{is_letter, is_digit, is_word_byte, is_space, begins_with_space, starts_run, with_byte, words, run_length, is_reserved, is_name, is_number, is_number_of, number_of, value_of, with_digit}
+use Rattle.stm_top.specs.LineText.{is_letter, is_digit, is_word_byte, is_space, begins_with_space, starts_run, with_byte, words, run_length, is_reserved, is_name, is_number, is_number_of}
 
 pub cases_true : {P : Type 0} (b : Bool) → (b ≡ true → P) → (b ≡ false → P) → P
 cases_true b f g = ⊎_elim f g (cases_Bool b)

@@ -3,3 +3,5 @@ pub mod LineSound
 pub mod LineText
 pub mod LineRun
 pub mod LineStand
+pub mod LineClient
+pub mod LineLaws

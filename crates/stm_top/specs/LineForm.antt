@@ -1,6 +1,6 @@
 -- The line form: which program a text of lines is, or the first line that hasn't the form. States `docs/LANGUAGE.md`,
 -- "The line form".
-use Rattle.std.specs.Prelude.{◌≡◌, ℕ, ◌+◌, Bool, true, false, ◌&&◌, not, List, [], ◌∷◌, ◌++◌, length, take, drop, ◌==◌, if◌then◌else◌, Option, Some, None, Result, Ok, Err, position, codes, ℤ, pos, negsuc, ◌+ℤ◌, ◌-ℤ◌, ◌*ℤ◌, option_and_then}
+use Rattle.std.specs.Prelude.{ℕ, ◌+◌, Bool, true, false, ◌&&◌, not, List, [], ◌∷◌, ◌++◌, length, take, drop, ◌==◌, if◌then◌else◌, Option, Some, None, Result, Ok, Err, position, codes, ℤ, pos, negsuc, ◌+ℤ◌, ◌-ℤ◌, ◌*ℤ◌, option_and_then}
 use Rattle.std.specs.Option.{option_map, option_or}
 use Rattle.std.specs.List.{list_all, list_any, position_or_len, slice_split}
 use Rattle.std.specs.Str.{bytes_eq}
@@ -10,7 +10,7 @@ use Rattle.stm_top.specs.LineText.{is_space, begins_with_space, words, number_of
 use Rattle.stm_top.specs.declared.line_form.Operator.{Operator}
 use Rattle.stm_top.specs.declared.line_form.Operator.TheVariants.{Add, Subtract, Multiply, Divide, Remainder}
 use Rattle.stm_top.specs.declared.line_form.Item.{Item}
-use Rattle.stm_top.specs.declared.line_form.Item.TheVariants.{Name, Number, Calculation}
+use Rattle.stm_top.specs.declared.line_form.Item.TheVariants.{Name, Number}
 use Rattle.stm_top.specs.declared.line_form.Statement.{Statement}
 use Rattle.stm_top.specs.declared.line_form.Statement.TheVariants.{Assign, Print}
 use Rattle.stm_top.specs.declared.line_form.LineProgram.{LineProgram}
@@ -66,13 +66,13 @@ signed_of (w ∷ ws) =
     if bytes_eq w (codes "-") then option_map (λ p. (neg_ℤ (pos p.0), p.1)) (unsigned_of ws)
     else option_map (λ n. (pos n, ws)) (number_of w)
 
--- what the words after a number make of it
+-- what the words after a number make of it: the number itself, or what a calculation with it gives
 abbrev pub calculation_from : ℤ → List (List ℕ) → Option Item
 calculation_from a [] = Some (Number a)
 calculation_from a (w ∷ ws) = do
   operator ← operator_of w
   p ← signed_of ws
-  if length p.1 == 0 && is_defined operator p.0 then Some (Calculation a operator p.0) else None
+  if length p.1 == 0 && is_defined operator p.0 then Some (Number (calculated a operator p.0)) else None
 
 abbrev pub calculation_of : List (List ℕ) → Option Item
 calculation_of ws = do

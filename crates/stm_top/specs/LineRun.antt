@@ -1,5 +1,5 @@
 -- What a program of the line form does, step by step. States `docs/LANGUAGE.md`, "What a line does".
-use Rattle.std.specs.Prelude.{◌≡◌, ℕ, ◌+◌, ◌≤◌, zero, suc, Bool, true, false, List, [], ◌∷◌, ◌++◌, length, Option, Some, None, slice_get, pos}
+use Rattle.std.specs.Prelude.{◌≡◌, ℕ, ◌+◌, ◌≤◌, zero, suc, Bool, true, false, List, [], ◌∷◌, ◌++◌, length, Option, Some, None, slice_get}
 use Rattle.std.specs.Fmt.{signed_decimal}
 use Rattle.py_data.specs.declared.value.Addr.{Addr}
 use Rattle.py_data.specs.declared.value.Value.{Value}
@@ -14,7 +14,7 @@ use Rattle.lock_run.specs.declared.client.Life.{Life}
 use Rattle.lock_run.specs.declared.client.Life.TheVariants.{Lives, Ended as HasEnded}
 use Rattle.lock_run.specs.Prog.{Prog}
 use Rattle.stm_top.specs.declared.line_form.Item.{Item}
-use Rattle.stm_top.specs.declared.line_form.Item.TheVariants.{Name, Number, Calculation}
+use Rattle.stm_top.specs.declared.line_form.Item.TheVariants.{Name, Number}
 use Rattle.stm_top.specs.declared.line_form.Statement.{Statement}
 use Rattle.stm_top.specs.declared.line_form.Statement.TheVariants.{Assign, Print}
 use Rattle.stm_top.specs.declared.line_form.LineProgram.{LineProgram}
@@ -44,7 +44,6 @@ cell_value None = Ret Unset
 abbrev pub item_row : {S : Type 0} → List Addr → Item → Row S Value
 item_row cells (Name k) = cell_value (slice_get cells k)
 item_row cells (Number n) = Ret (Int n)
-item_row cells (Calculation a operator b) = Ret (Int (pos 0))
 
 unfoldable pub set_cell : {S : Type 0} → Option Addr → Value → Row S (Unit {0})
 set_cell (Some a) v = Do (SetVal a.0 0 v) (λ _. Ret tt)

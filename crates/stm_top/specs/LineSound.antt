@@ -1,11 +1,10 @@
 -- What holds of every program of the line form. States `docs/LANGUAGE.md`, "The line form".
 use Rattle.std.specs.Prelude.{◌≡◌, ℕ, ◌^◌, ◌<◌, List, [], ◌∷◌, take, slice_get, Some, ℤ, pos, negsuc, ◌≤ℤ◌, IsTrue, All, Contains}
 use Rattle.stm_top.specs.declared.line_form.Item.{Item}
-use Rattle.stm_top.specs.declared.line_form.Item.TheVariants.{Name, Number, Calculation}
+use Rattle.stm_top.specs.declared.line_form.Item.TheVariants.{Name, Number}
 use Rattle.stm_top.specs.declared.line_form.Statement.{Statement}
 use Rattle.stm_top.specs.declared.line_form.Statement.TheVariants.{Assign, Print}
 use Rattle.stm_top.specs.declared.line_form.LineProgram.{LineProgram}
-use Rattle.stm_top.specs.LineForm.{is_defined}
 
 -- a number of at most nine digits, with or without a minus
 pub record IsSmall (z : ℤ) : Type 0 where
@@ -18,12 +17,10 @@ cells_assigned [] = []
 cells_assigned (Assign cell item ∷ statements) = cell ∷ cells_assigned statements
 cells_assigned (Print items ∷ statements) = cells_assigned statements
 
--- an item can be computed once these cells are assigned: its name is one of them, its numbers are small, and its divisor
--- isn't 0
+-- an item has a value once these cells are assigned: a name is one of them
 abbrev pub IsReady : ℕ → List ℕ → Item → Type 0
 IsReady cells before (Name cell) = (cell < cells) × Contains before cell
-IsReady cells before (Number value) = IsSmall value
-IsReady cells before (Calculation left operator right) = IsSmall left × IsSmall right × IsTrue (is_defined operator right)
+IsReady cells before (Number value) = Unit {0}
 
 abbrev pub IsFit : ℕ → List ℕ → Statement → Type 0
 IsFit cells before (Assign cell item) = (cell < cells) × IsReady cells before item

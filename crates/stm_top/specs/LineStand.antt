@@ -26,11 +26,15 @@ pub record AreCells (h : Heap) : Type 0 where
 
 -- each of these addresses is in the heap
 pub record AreThere (h : Heap) (cells : List Addr) : Type 0 where
-  pub there : (k : ℕ) (a : Addr) → slice_get cells k ≡ Some a → Has h a.0
+  pub each : (k : ℕ) (a : Addr) → slice_get cells k ≡ Some a → Has h a.0
+
+-- a heap of Cells alone, these among them
+pub record Holds (h : Heap) (cells : List Addr) : Type 0 where
+  pub heap : AreCells h
+  pub there : AreThere h cells
 
 -- one thread, whose Cells are in a heap of Cells
 pub record LineSound (h : Heap) (ss : List LineState) : Type 0 where
   pub state : LineState
   pub alone : ss ≡ state ∷ []
-  pub heap : AreCells h
-  pub cells : AreThere h state.cells
+  pub holds : Holds h state.cells

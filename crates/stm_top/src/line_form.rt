@@ -3,13 +3,15 @@
 ghost use Rattle.std.specs.Prelude.{◌≡◌};
 ghost use Rattle.stm_top.specs.declared.line_form.LineError.TheVariants.{OutOfMemory};
 
+mod calculation;
 mod items;
 mod lines;
 mod names;
 mod program;
 mod words;
 
-pub use program::read_program;
+pub use calculation::calculate;
+pub use program::{line_program_law, read_program};
 use py_data::Items;
 use std::alloc::AllocError;
 use thiserror::Error;
@@ -33,13 +35,9 @@ pub enum Item {
     Name {
         cell: u32,
     },
+    /// A number, or what a calculation of two numbers gives.
     Number {
         value: i64,
-    },
-    Calculation {
-        left: i64,
-        operator: Operator,
-        right: i64,
     },
 }
 
@@ -76,3 +74,6 @@ impl From<AllocError> for LineError {
         LineError::OutOfMemory
     }
 }
+
+#[cfg(test)]
+mod tests;

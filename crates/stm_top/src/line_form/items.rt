@@ -1,8 +1,10 @@
 //! The items of a line: names, numbers and calculations.
-ghost use Rattle.std.specs.Prelude.{◌≡◌, ◌^◌, ◌<◌, length, Some, None, MatchOption};
+ghost use Rattle.std.specs.Prelude.{◌≡◌, ◌^◌, ◌<◌, ◌≤◌, length, Some, None, IfSome, MatchOption};
+ghost use Rattle.stm_top.specs.LineSound.{IsSmall};
 ghost use Rattle.stm_top.specs.LineText.{words};
 ghost use Rattle.stm_top.specs.LineForm.{operator_of, unsigned_of, signed_of, calculation_from, name_of, item_of, is_defined};
 
+use crate::line_form::calculation::calculate;
 use crate::line_form::names::Names;
 use crate::line_form::words::{next_word, read_number};
 use crate::line_form::{Item, Operator};
@@ -24,7 +26,8 @@ fn read_operator(word: &[u8]) -> Option<Operator>
 }
 
 fn read_unsigned(text: &[u8]) -> Option<(u32, &[u8])>
-    ensures { MatchOption result (unsigned_of (words text.now) ≡ None) (λ p. unsigned_of (words text.now) ≡ Some (p.0, words p.1.now)) }
+    ensures unsigned { MatchOption result (unsigned_of (words text.now) ≡ None) (λ p. unsigned_of (words text.now) ≡ Some (p.0, words p.1.now)) }
+    ensures small { IfSome result (λ p. p.0 ≤ 999999999) }
 {
     let (word, rest) = next_word(text)?;
     let number = read_number(word)?;
@@ -33,7 +36,8 @@ fn read_unsigned(text: &[u8]) -> Option<(u32, &[u8])>
 
 /// A number that may have a minus in front, and the text after it.
 fn read_signed(text: &[u8]) -> Option<(i64, &[u8])>
-    ensures { MatchOption result (signed_of (words text.now) ≡ None) (λ p. signed_of (words text.now) ≡ Some (p.0, words p.1.now)) }
+    ensures signed { MatchOption result (signed_of (words text.now) ≡ None) (λ p. signed_of (words text.now) ≡ Some (p.0, words p.1.now)) }
+    ensures small { IfSome result (λ p. IsSmall p.0) }
 {
     let (word, rest) = next_word(text)?;
     if word == MINUS {
@@ -53,8 +57,9 @@ fn is_defined(operator: Operator, right: i64) -> bool
     }
 }
 
-/// What the text after a number makes of it.
+/// What the text after a number makes of it: the number itself, or what a calculation with it gives.
 fn read_calculation(left: i64, text: &[u8]) -> Option<Item>
+    requires { IsSmall left }
     ensures { result ≡ calculation_from left (words text.now) }
 {
     let Some((word, rest)) = next_word(text) else {
@@ -65,10 +70,8 @@ fn read_calculation(left: i64, text: &[u8]) -> Option<Item>
     if next_word(rest).is_some() || !is_defined(operator, right) {
         return None;
     }
-    Some(Item::Calculation {
-        left,
-        operator,
-        right,
+    Some(Item::Number {
+        value: calculate(left, operator, right),
     })
 }
 

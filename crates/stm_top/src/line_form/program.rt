@@ -1,6 +1,8 @@
 //! The program that a text of the line form is.
-ghost use Rattle.std.specs.Prelude.{◌≡◌, ◌≤◌, ℕ, length, IfOk, Ok, Err};
+ghost use Rattle.std.specs.Prelude.{◌≡◌, ◌≤◌, ℕ, List, length, IfOk, Ok, Err};
 ghost use Rattle.stm_top.specs.LineForm.{program_of};
+ghost use Rattle.stm_top.specs.LineSound.{IsWellFormed};
+ghost use Rattle.stm_top.specs.declared.line_form.LineProgram.{LineProgram};
 
 use crate::line_form::lines::take_line;
 use crate::line_form::names::Names;
@@ -15,6 +17,7 @@ pub fn read_program(alloc: Global, text: &[u8]) -> Result<LineProgram, LineError
     requires { length text.now ≤ 4194304 }
     ensures program { IfOk result (λ program. program_of text.now ≡ Ok program) }
     ensures refused { (line : ℕ) → result ≡ Err (LineError.Refused line) → program_of text.now ≡ Err line }
+    ensures well_formed { IfOk result IsWellFormed }
 {
     let mut names = Names::new(alloc);
     let mut statements = Items::new(alloc);
@@ -30,3 +33,8 @@ pub fn read_program(alloc: Global, text: &[u8]) -> Result<LineProgram, LineError
         statements,
     })
 }
+
+/// The law of the line form: each statement can run once those before it have, and each cell is assigned.
+pub fn line_program_law()
+    ensures { (text : List ℕ) (program : LineProgram) → length text ≤ 4194304 → program_of text ≡ Ok program → IsWellFormed program }
+{}

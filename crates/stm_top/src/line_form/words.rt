@@ -1,5 +1,5 @@
 //! The words of a line, and what each may be.
-ghost use Rattle.std.specs.Prelude.{◌≡◌, ◌≢◌, ◌≤◌, ◌<◌, true, slice_index, take, drop, List, [], ◌∷◌, length, MatchOption, option_map};
+ghost use Rattle.std.specs.Prelude.{◌≡◌, ◌≢◌, ◌≤◌, ◌<◌, true, slice_index, take, drop, List, [], ◌∷◌, length, MatchOption, option_map, IfSome};
 ghost use Rattle.stm_top.specs.LineText.{is_letter, is_digit, is_word_byte, is_space, begins_with_space, words, run_length, is_reserved, is_name, is_number, is_number_of, number_of, value_of};
 ghost use Rattle.std.specs.List.{list_all, list_any};
 ghost use Rattle.std.specs.Str.{bytes_eq};
@@ -194,9 +194,10 @@ fn is_number_of(first: u8, rest: &[u8]) -> bool
 }
 
 /// The number that a word is.
-#[tactic(auto, using(crate::proofs::LineWords::number_digits, crate::proofs::LineWords::number_length), unfolding(crate::specs::LineText::number_of))]
+#[tactic(auto, using(crate::proofs::LineWords::number_digits, crate::proofs::LineWords::number_length, crate::proofs::LineSteps::value_small), unfolding(crate::specs::LineText::number_of))]
 pub(super) fn read_number(word: &[u8]) -> Option<u32>
-    ensures { result ≡ number_of word.now }
+    ensures number { result ≡ number_of word.now }
+    ensures small { IfSome result (λ n. n ≤ 999999999) }
 {
     if !is_number(word) {
         return None;

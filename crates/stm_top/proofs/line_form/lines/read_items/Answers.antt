@@ -3,7 +3,7 @@ use borrow.Author.Tests.{tests}
 use Rattle.std.proofs.lemmas.List.{length_push}
 use Rattle.std.proofs.lemmas.Iterator.Splits.{YieldsList-from_slice_split}
 use Rattle.std.proofs.lemmas.Iterator.Consumers.{YieldsList-turn, YieldsList-end}
-use Rattle.stm_top.specs.LineForm.{items_of, between_commas}
+use Rattle.stm_top.specs.LineForm.{between_commas}
 use Rattle.stm_top.proofs.LineItems.{items_next, items_stop, items_end}
 use Rattle.stm_top.proofs.line_form.lines.read_items.Goals as goal
 

@@ -1,8 +1,7 @@
-use Rattle.std.proofs.Common.{get_or, arith, ◌∙◌}
+use Rattle.std.proofs.Common.{arith}
 use Rattle.std.proofs.lemmas.List.Sums.{fold_more}
 use Rattle.std.proofs.lemmas.Grind.{common_steps}
-use Rattle.stm_top.specs.LineText.{with_digit}
-use Rattle.stm_top.proofs.LineWords.{IsDigitStep, digit_step}
+use Rattle.stm_top.proofs.LineWords.{digit_step}
 use Rattle.stm_top.proofs.line_form.words.value_of.Goals as goal
 
 pub overflow_mul-value : goal.overflow_mul-value

@@ -1,4 +1,4 @@
-use Rattle.std.proofs.Common.{◌≡◌, ◌<◌, ◌^◌, take, fold}
+use Rattle.std.proofs.Common.{◌≡◌, ◌<◌, ◌^◌, take}
 use Rattle.stm_top.specs.LineText.{value_of}
 use Rattle.stm_top.proofs.line_form.words.value_of.Given as goal
 

@@ -1,0 +1,96 @@
+-- A heap of Cells: what its Cells can be asked, and the loops that make and print them.
+use Rattle.std.proofs.Common.{◌≡◌, ℕ, zero, suc, ◌+◌, ◌-◌, ◌<◌, ◌≤◌, Bool, true, false, List, [], ◌∷◌, ◌++◌, length, drop, Option, Some, None, Result, Ok, Err, MatchOption, slice_get, IsSome, refl, sym, ap, subst, ◌∙◌, arith, unwrap_or, get_or}
+use Rattle.py_data.specs.declared.value.Addr.{Addr}
+use Rattle.py_data.specs.declared.value.Value.{Value}
+use Rattle.py_data.specs.declared.value.Value.TheVariants.{Unset, Int}
+use Rattle.py_data.specs.declared.value.Kind.{Kind}
+use Rattle.py_data.specs.declared.value.Kind.TheVariants.{Cell}
+use Rattle.py_data.specs.declared.stop.Stop.{Stop}
+use Rattle.py_data.specs.declared.stop.Stop.TheVariants.{OutOfMemory}
+use Rattle.py_data.specs.declared.stop.Out.TheVariants.{Output}
+use Rattle.py_data.specs.Heap.{Heap, Rec, Has, at, value_at, is_tracked}
+use Rattle.py_data.specs.Row.{Row, Ret, Do, Read, SetVal, Make, Put, bind}
+use Rattle.py_data.specs.Sense.{Sense, Lawful, Asks, Safe, IfThere, IsValuePlace, Meets, IsLive, Shows, Answers}
+use Rattle.py_data.specs.Rest.{Leads}
+use Rattle.py_data.proofs.Steps.{there-is, at-is, leads-do, leads-ret, leads-refused, leads-own, leads-call, leads-call-stop, leads-begin}
+use Rattle.py_data.proofs.Rows.{read-at, read-heap}
+use Rattle.stm_top.specs.declared.line_form.Item.{Item}
+use Rattle.stm_top.specs.LineRun.{unset_cell, with_cell, make_cells, item_row, print_row, text_of, after_space}
+use Rattle.stm_top.specs.LineStand.{IsSimple, IsCell, AreCells, AreThere, Holds}
+
+some_of : (o : Option Rec) → IsSome o → (r : Rec) × (o ≡ Some r)
+some_of None h = absurd (let q : false ≡ true = h in cc)
+some_of (Some r) h = (r, refl)
+
+-- the record of a name's Cell
+pub cell_here : (h : Heap) (cells : List Addr) (k : ℕ) (a : Addr) → Holds h cells → slice_get cells k ≡ Some a → (r : Rec) × (h a.0 ≡ Some r) × IsCell r
+cell_here h cells k a s e =
+    let o = some_of (h a.0) (s.there.each k a e) in
+    (o.0, o.1, s.heap.each a.0 o.0 o.1)
+
+one_value : (r : Rec) → IsCell r → length r.values ≡ 1
+one_value r c = ap length c.values
+
+-- it has a value to be read
+pub read_there : (p : Bool) (h : Heap) (cells : List Addr) (k : ℕ) (a : Addr) → Holds h cells → slice_get cells k ≡ Some a → IfThere p (h a.0) (λ r. 0 < length r.values)
+read_there p h cells k a s e =
+    let c = cell_here h cells k a s e in
+    there-is h a.0 c.0 p (λ r. 0 < length r.values) c.1 (let n = one_value c.0 c.2 in omega arith)
+
+place_of : (k : Kind) → k ≡ Cell → IsValuePlace k 0
+place_of k e = subst (λ z. IsValuePlace z 0) (sym e) tt
+
+-- and can be set
+pub set_there : (S : Type 0) (p : Bool) (h : Heap) (cells : List Addr) (k : ℕ) (a : Addr) (v : Value) → Holds h cells → slice_get cells k ≡ Some a → Asks {S = S} p (SetVal a.0 0 v) h
+unfolding Asks
+set_there S p h cells k a v s e =
+    let c = cell_here h cells k a s e in
+    there-is h a.0 c.0 p (λ r. (is_tracked r.kind ≡ true) × (0 < length r.values) × IsValuePlace r.kind 0) c.1 (ap is_tracked c.2.kind, (let n = one_value c.0 c.2 in omega arith), place_of c.0.kind c.2.kind)
+
+-- a new Cell has its shape
+pub make_asks : (S : Type 0) (p : Bool) (h : Heap) → Asks {S = S} p (Make unset_cell) h
+unfolding Asks
+make_asks S true h = (omega arith, omega arith)
+make_asks S false h = ((tt, refl, tt), omega arith, omega arith)
+
+pub make_safe : (S : Type 0) (p : Bool) (n : ℕ) (cells : List Addr) (h : Heap) → Safe {S = S} p (make_cells n cells) h
+unfolding make_cells Safe
+make_safe S p zero cells h = tt
+make_safe S p (suc n) cells h = (make_asks S p h, λ a h1 e. make_safe S p n (with_cell cells a) h1)
+
+-- ---- the loop that makes the Cells, before its turn i
+pub record Making {S X : Type 0} (u : Sense S X) (n i : ℕ) (cells : List Addr) (v w : X) : Type 0 where
+  pub leads : Leads u (make_cells {S = S} n []) v (make_cells (n - i) cells) w
+
+module _ {S X : Type 0} {u : Sense S X} {n : ℕ} {v : X} where
+  pub making_first : IsLive u v → Making u n 0 [] v v
+  making_first l = record { leads = subst (λ k. Leads u (make_cells {S = S} n []) v (make_cells k []) v) (sym n_zero) (record { finish = λ x res m. m; safe = make_safe S u.partial n [] (u.heap v); live = l }) }
+    where
+      n_zero : n - 0 ≡ n
+      n_zero = omega arith
+
+  making_next : {i : ℕ} {cells : List Addr} {w : X} → Making u n i cells v w → i < n → Leads u (make_cells {S = S} n []) v (Do (Make unset_cell) (λ a. make_cells (n - (i + 1)) (with_cell cells a))) w
+  unfolding make_cells
+  making_next {i} {cells} {w} m h = subst (λ k. Leads u (make_cells {S = S} n []) v (make_cells k cells) w) (left_over i h) m.leads
+    where
+      left_over : (i : ℕ) → i < n → n - i ≡ suc (n - (i + 1))
+      left_over i h = omega arith
+
+  pub making_live : {i : ℕ} {cells : List Addr} {w : X} → Making u n i cells v w → IsLive u w
+  making_live m = m.leads.live
+
+  pub making_more : (L : Lawful u) {i : ℕ} {cells : List Addr} {w : X} (a : ℕ) (x : X) → Making u n i cells v w → i < n → u.does (Make unset_cell) w a x → Making u n (i + 1) (with_cell cells a) v x
+  making_more L a x m h d = record { leads = leads-do L a (making_next m h) d }
+
+  pub making_refused : {i : ℕ} {cells : List Addr} {w : X} (e : Stop) (x : X) → Making u n i cells v w → i < n → u.refuses (Make unset_cell) w e x → Meets u (make_cells {S = S} n []) v x (Err e)
+  making_refused e x m h d = leads-refused (making_next m h) d
+
+  pub making_starved : {i : ℕ} {cells : List Addr} {w : X} → Making u n i cells v w → Meets u (make_cells {S = S} n []) v w (Err OutOfMemory)
+  making_starved m = leads-own m.leads
+
+  pub making_last : {i : ℕ} {cells : List Addr} {w : X} → Making u n i cells v w → n ≤ i → Meets u (make_cells {S = S} n []) v w (Ok cells)
+  unfolding make_cells
+  making_last {i} {cells} {w} m h = leads-ret (subst (λ k. Leads u (make_cells {S = S} n []) v (make_cells k cells) w) (none_left i h) m.leads)
+    where
+      none_left : (i : ℕ) → n ≤ i → n - i ≡ zero
+      none_left i h = omega arith
