@@ -22,7 +22,7 @@ use Rattle.lock_run.specs.Prog.{Prog}
 use Rattle.lock_run.specs.Client.{Stepped, StepStopped, StaysSound, WaitsQuietly}
 use Rattle.lock_run.specs.PlainState.{PlainState, PlainRefuses, PlainOpens, PlainUndoes, NoName, Why, Steady}
 use Rattle.lock_run.specs.Machine.{Machine, Step, Steps}
-use Rattle.lock_run.specs.Turns.{Calls, Front, CutIn, LeavesNothing, CutWhy, Begins, CutTold, Going}
+use Rattle.lock_run.specs.Turns.{NoneFall, Calls, Front, CutIn, LeavesNothing, CutWhy, Begins, CutTold, Going}
 use Rattle.lock_run.proofs.Following.{IsPlain, Shows, grown_then, Keeps, keeps_trans, run_shown, upto_shown, run_keeps, upto_keeps, run_upto, upto_none}
 
 -- lists of threads
@@ -336,3 +336,43 @@ free_stop p u b D i s c v w st =
     let kp = upto_keeps u b D i (p.row s) at.left st.0 at.place at.upto in
     let free : (D st.1).free ≡ (D at.place).free = elim at.why [ inl own ↦ ap (λ z. (D z).free) own.1 | inr r ↦ (i.refuses r.0 at.place c st.1 r.3).0.free ] in
     ap (λ z. z.free) (i.undoes st.1 w st.4) ∙ free ∙ kp.free ∙ ap (λ z. z.free) (i.opens v st.0 st.2)
+
+-- no count of faults falls
+pub falls_none : {S : Type 0} (d : PlainState S) → NoneFall d d
+falls_none d = record { reads = omega arith; writes = omega arith; errs = omega arith }
+
+pub falls_next : {S : Type 0} (d d1 d2 : PlainState S) → NoneFall d d1 → NoneFall d1 d2 → NoneFall d d2
+falls_next d d1 d2 f g = record {
+  reads = let x = f.reads in let y = g.reads in omega arith; writes = let x = f.writes in let y = g.writes in omega arith; errs = let x = f.errs in let y = g.errs in omega arith;
+}
+
+falls_keeps : {S : Type 0} (d d1 : PlainState S) → Keeps d d1 → NoneFall d d1
+falls_keeps d d1 k = record { reads = k.reads; writes = k.writes; errs = k.errs }
+
+-- where the counts are the same
+falls_same : {S : Type 0} (d d1 : PlainState S) → d1.reads ≡ d.reads → d1.writes ≡ d.writes → d1.errs ≡ d.errs → NoneFall d d1
+falls_same d d1 r w e = record { reads = omega (arith, r); writes = omega (arith, w); errs = omega (arith, e) }
+
+falls_opened : {S : Type 0} (d d1 : PlainState S) → PlainOpens d d1 → NoneFall d d1
+falls_opened d d1 h = falls_same d d1 (ap (λ z. z.reads) h) (ap (λ z. z.writes) h) (ap (λ z. z.errs) h)
+
+pub falls_undone : {S : Type 0} (d d1 : PlainState S) → PlainUndoes d d1 → NoneFall d d1
+falls_undone d d1 h = falls_same d d1 (ap (λ z. z.reads) h) (ap (λ z. z.writes) h) (ap (λ z. z.errs) h)
+
+pub falls_started : {S : Type 0} (d d1 : PlainState S) (l : List S) → d1 ≡ record d { started = l } → NoneFall d d1
+falls_started d d1 l h = falls_same d d1 (ap (λ z. z.reads) h) (ap (λ z. z.writes) h) (ap (λ z. z.errs) h)
+
+pub falls_run : {S X : Type 0} (p : Prog S) (u : Sense S X) (b : Bracket S X) (D : X → PlainState S) (i : IsPlain u b D) (s s1 : S) (c : Outcome) (v w : X) → Stepped u b (p.row s) v c s1 w → NoneFall (D v) (D w)
+falls_run p u b D i s s1 c v w st =
+    falls_next (D v) (D st.0) (D w) (falls_opened (D v) (D st.0) (i.opens v st.0 st.1)) (falls_keeps (D st.0) (D w) (run_keeps u b D i (p.row s) st.0 (c, s1) w st.2))
+
+pub falls_stop : {S X : Type 0} (p : Prog S) (u : Sense S X) (b : Bracket S X) (D : X → PlainState S) (i : IsPlain u b D) (s : S) (c : Stop) (v w : X) → StepStopped u b (p.row s) v c w → NoneFall (D v) (D w)
+falls_stop p u b D i s c v w st =
+    let at = stopped_at u (p.row s) st.0 c st.1 st.3 in
+    let opened = falls_opened (D v) (D st.0) (i.opens v st.0 st.2) in
+    let upto = falls_keeps (D st.0) (D at.place) (upto_keeps u b D i (p.row s) at.left st.0 at.place at.upto) in
+    let last : NoneFall (D at.place) (D st.1) = elim at.why [
+      | inl own ↦ falls_same (D at.place) (D st.1) (ap (λ z. (D z).reads) own.1) (ap (λ z. (D z).writes) own.1) (ap (λ z. (D z).errs) own.1)
+      | inr r ↦ let y = (i.refuses r.0 at.place c st.1 r.3).0 in record { reads = y.reads; writes = y.writes; errs = y.errs }
+    ] in
+    falls_next (D v) (D st.0) (D w) opened (falls_next (D st.0) (D at.place) (D w) upto (falls_next (D at.place) (D st.1) (D w) last (falls_undone (D st.1) (D w) (i.undoes st.1 w st.4))))

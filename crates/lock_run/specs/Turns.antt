@@ -26,6 +26,12 @@ pub record LockState (S : Type 0) : Type 0 where
   pub view : PlainState S
   pub threads : List S
 
+-- no count of faults falls
+pub record NoneFall {S : Type 0} (d d1 : PlainState S) : Type 0 where
+  pub reads : d.reads ≤ d1.reads
+  pub writes : d.writes ≤ d1.writes
+  pub errs : d.errs ≤ d1.errs
+
 -- The view and the threads show m, where the outputs stood at o and e when the outputs of m were empty.
 pub record Stands {S : Type 0} (o e : Option (List ℕ)) (d : PlainState S) (ts : List S) (m : Machine S) : Type 0 where
   pub heap : m.heap ≡ d.heap

@@ -81,7 +81,7 @@ impl<'p, C: Client, I: Source, O: Sink, E: Sink> LockRun<'p, C, I, O, E> {
     ghost use Rattle.lock_run.specs.declared.client.Life.TheVariants.{Lives};
     ghost use Rattle.lock_run.specs.LockState.{lock_state, lock_client, IsSound, IsReady, first_world, HasDevices};
     ghost use Rattle.lock_run.specs.Machine.{begin_with};
-    ghost use Rattle.lock_run.specs.Turns.{Stands, TurnDone, TurnCut, FreeDone, FreeCut, StepGoes, StepCut, Reach, ReachCut};
+    ghost use Rattle.lock_run.specs.Turns.{NoneFall, Stands, TurnDone, TurnCut, FreeDone, FreeCut, StepGoes, StepCut, Reach, ReachCut};
 
     /// A machine at its first state: an empty heap and the client's first thread. At want of memory the devices come back.
     pub fn new(
@@ -165,6 +165,7 @@ impl<'p, C: Client, I: Source, O: Sink, E: Sink> LockRun<'p, C, I, O, E> {
         ensures client { self.new.client ≡ self.old.client }
         ensures free { self.new.view.free ≡ self.old.view.free }
         ensures there { t < length self.new.threads }
+        ensures counts { NoneFall (lock_state I.state O.state E.state self.old).view (lock_state I.state O.state E.state self.new).view }
         ensures done { OnOk result (StepGoes (C.prog self.old.client.now) t (lock_state I.state O.state E.state self.old) (lock_state I.state O.state E.state self.new)) }
         ensures cut { IfErr result (λ w. StepCut (C.prog self.old.client.now) t w (lock_state I.state O.state E.state self.old) (lock_state I.state O.state E.state self.new)) }
     {
@@ -200,6 +201,7 @@ impl<'p, C: Client, I: Source, O: Sink, E: Sink> LockRun<'p, C, I, O, E> {
         ensures sound { IsSound (C.sound self.new.client.now) (lock_state I.state O.state E.state self.new) }
         ensures client { self.new.client ≡ self.old.client }
         ensures free { self.new.view.free ≡ self.old.view.free }
+        ensures counts { NoneFall (lock_state I.state O.state E.state self.old).view (lock_state I.state O.state E.state self.new).view }
         ensures done { OnOk result (Reach (C.prog self.old.client.now) t steps (lock_state I.state O.state E.state self.old) (lock_state I.state O.state E.state self.new)) }
         ensures cut { IfErr result (λ f. ReachCut (C.prog self.old.client.now) t steps f.done f.why (lock_state I.state O.state E.state self.old) (lock_state I.state O.state E.state self.new)) }
     {
@@ -220,6 +222,7 @@ impl<'p, C: Client, I: Source, O: Sink, E: Sink> LockRun<'p, C, I, O, E> {
         requires sound { IsSound (C.sound (lock_client self.old)) (lock_state I.state O.state E.state self.old) }
         ensures sound { IsSound (C.sound (lock_client self.new)) (lock_state I.state O.state E.state self.new) }
         ensures client { lock_client self.new ≡ lock_client self.old }
+        ensures counts { NoneFall (lock_state I.state O.state E.state self.old).view (lock_state I.state O.state E.state self.new).view }
         ensures done { OnOk result (TurnDone (C.prog (lock_client self.old)) (record { thread = thread; steps = steps; names = names.now })
             (lock_state I.state O.state E.state self.old) (lock_state I.state O.state E.state self.new)) }
         ensures cut { IfErr result (λ f. TurnCut (C.prog (lock_client self.old)) (record { thread = thread; steps = steps; names = names.now }) f.done f.why
@@ -272,6 +275,7 @@ impl<'p, C: Client, I: Source, O: Sink, E: Sink> LockRun<'p, C, I, O, E> {
         requires sound { IsSound (C.sound (lock_client self.old)) (lock_state I.state O.state E.state self.old) }
         ensures sound { IsSound (C.sound (lock_client self.new)) (lock_state I.state O.state E.state self.new) }
         ensures client { lock_client self.new ≡ lock_client self.old }
+        ensures counts { NoneFall (lock_state I.state O.state E.state self.old).view (lock_state I.state O.state E.state self.new).view }
         ensures done { IfOk result (λ t. FreeDone (C.prog (lock_client self.old)) thread most t (lock_state I.state O.state E.state self.old) (lock_state I.state O.state E.state self.new)) }
         ensures cut { IfErr result (λ f. FreeCut (C.prog (lock_client self.old)) thread most f.done (places f.names) f.why
             (lock_state I.state O.state E.state self.old) (lock_state I.state O.state E.state self.new)) }

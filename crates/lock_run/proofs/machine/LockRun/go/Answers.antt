@@ -2,6 +2,7 @@ use Rattle.std.proofs.Common.{◌≡◌, ℕ, arith, subst, refl, ◌∙◌, suc
 use Rattle.lock_run.specs.declared.machine.LockRun.{LockRun}
 use Rattle.lock_run.specs.LockState.{lock_state}
 use Rattle.lock_run.specs.Turns.{LockState, Reach, StepGoes, StepCut}
+use Rattle.lock_run.proofs.Stepping.{falls_none, falls_next}
 use Rattle.lock_run.proofs.machine.LockRun.go.Given as given
 use Rattle.lock_run.proofs.machine.LockRun.go.Goals as goal
 
@@ -9,7 +10,7 @@ abbrev lock : (g : given.Over) → LockRun g.row.C.Denot g.row.I.Denot g.row.O.D
 lock g run = lock_state g.I.Source.state g.O.Sink.state g.E.Sink.state run
 
 pub loop-done-init : goal.loop-done-init
-loop-done-init g c = record { there = c.requires.there; sound = c.requires.sound; free = refl; client = refl; reached = λ names o e m d0 go. go }
+loop-done-init g c = record { there = c.requires.there; sound = c.requires.sound; free = refl; counts = falls_none (lock g c.args.self.now).view; client = refl; reached = λ names o e m d0 go. go }
 
 pub loop-done-preserved : goal.loop-done-preserved
 loop-done-preserved g c =
@@ -20,6 +21,7 @@ loop-done-preserved g c =
       there = c.step_one.ensures.there;
       sound = c.step_one.ensures.sound;
       free = c.step_one.ensures.free ∙ c.loop-done.invariant.free;
+      counts = falls_next (lock g c.args.self.now).view (lock g c.loop-done.self).view (lock g c.step_one.new.self).view c.loop-done.invariant.counts c.step_one.ensures.counts;
       client = c.step_one.ensures.client ∙ c.loop-done.invariant.client;
       reached = subst (λ k. Reach (g.C.Client.prog c.args.self.now.client.now) c.args.t k (lock g c.args.self.now) (lock g c.step_one.new.self)) same
           (λ names o e m d0 go. one c.loop-done.done names o e m d0 (c.loop-done.invariant.reached names o e m d0 go));
@@ -35,3 +37,9 @@ pub returns-clause-done : goal.returns-clause-done
 returns-clause-done g c =
     let n : c.loop-done.done ≡ c.args.steps = omega arith in
     subst (λ k. Reach (g.C.Client.prog c.args.self.now.client.now) c.args.t k (lock g c.args.self.now) (lock g c.loop-done.self)) n c.loop-done.invariant.reached
+
+pub returns-in-Err-clause-counts : goal.returns-in-Err-clause-counts
+returns-in-Err-clause-counts g c = falls_next (lock g c.args.self.now).view (lock g c.loop-done.self).view (lock g c.step_one.new.self).view c.loop-done.invariant.counts c.step_one.ensures.counts
+
+pub returns-clause-counts : goal.returns-clause-counts
+returns-clause-counts g c = c.loop-done.invariant.counts

@@ -8,7 +8,7 @@ use Rattle.lock_run.specs.declared.turn.TurnWhy.TheVariants.{OutOfMemory}
 use Rattle.lock_run.specs.Turns.{CutTold, Going}
 use Rattle.lock_run.proofs.Following.{IsPlain}
 use Rattle.lock_run.proofs.IsPlainView.{is_plain}
-use Rattle.lock_run.proofs.Stepping.{step_goes, step_whole, step_stopped, sound_after, undone_run, undone_stop, free_run, free_stop}
+use Rattle.lock_run.proofs.Stepping.{step_goes, step_whole, step_stopped, sound_after, undone_run, undone_stop, free_run, free_stop, falls_none, falls_next, falls_undone, falls_started, falls_run, falls_stop}
 use Rattle.lock_run.proofs.machine.LockRun.step_one.Given as given
 use Rattle.lock_run.proofs.machine.LockRun.step_one.Goals as goal
 
@@ -82,3 +82,27 @@ returns-in-Err-move_started-clause-free g c = ap (λ z. z.free) c.undo_step-in-E
 
 pub returns-in-Err-step-clause-free : goal.returns-in-Err-step-clause-free
 returns-in-Err-step-clause-free g c = free_stop (g.C.Client.prog c.args.self.now.client.now) _ _ (state g) (plain g) c.in-Ok.s c.in-Err-step.stop c.args.self.now.view c.step.new.v c.in-Err-step.ensures.err
+
+pub returns-in-Err-clause-counts : goal.returns-in-Err-clause-counts
+returns-in-Err-clause-counts g c = falls_none (state g c.args.self.now.view)
+
+pub returns-then-is_wait-clause-counts : goal.returns-then-is_wait-clause-counts
+returns-then-is_wait-clause-counts g c =
+    falls_next (state g c.args.self.now.view) (state g c.step.new.v) (state g c.undo_step.new.self)
+    (falls_run (g.C.Client.prog c.args.self.now.client.now) _ _ (state g) (plain g) c.in-Ok.s c.step.new.s c.in-Ok-step.outcome c.args.self.now.view c.step.new.v c.in-Ok-step.ensures.ok)
+    (falls_undone _ _ c.undo_step.ensures)
+
+pub returns-in-Ok-move_started-clause-counts : goal.returns-in-Ok-move_started-clause-counts
+returns-in-Ok-move_started-clause-counts g c =
+    falls_next (state g c.args.self.now.view) (state g c.step.new.v) (state g c.move_started.new.self)
+    (falls_run (g.C.Client.prog c.args.self.now.client.now) _ _ (state g) (plain g) c.in-Ok.s c.step.new.s c.in-Ok-step.outcome c.args.self.now.view c.step.new.v c.in-Ok-step.ensures.ok)
+    (falls_started _ _ _ (ap (state g) c.move_started.ensures.rest))
+
+pub returns-in-Err-move_started-clause-counts : goal.returns-in-Err-move_started-clause-counts
+returns-in-Err-move_started-clause-counts g c =
+    falls_next (state g c.args.self.now.view) (state g c.step.new.v) (state g c.undo_step-in-Err-move_started.new.self)
+    (falls_run (g.C.Client.prog c.args.self.now.client.now) _ _ (state g) (plain g) c.in-Ok.s c.step.new.s c.in-Ok-step.outcome c.args.self.now.view c.step.new.v c.in-Ok-step.ensures.ok)
+    (falls_next (state g c.step.new.v) (state g c.move_started.new.self) (state g c.undo_step-in-Err-move_started.new.self) (falls_started _ _ _ (ap (state g) c.move_started.ensures.rest)) (falls_undone _ _ c.undo_step-in-Err-move_started.ensures))
+
+pub returns-in-Err-step-clause-counts : goal.returns-in-Err-step-clause-counts
+returns-in-Err-step-clause-counts g c = falls_stop (g.C.Client.prog c.args.self.now.client.now) _ _ (state g) (plain g) c.in-Ok.s c.in-Err-step.stop c.args.self.now.view c.step.new.v c.in-Err-step.ensures.err
