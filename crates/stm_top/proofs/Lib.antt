@@ -6,3 +6,4 @@ pub mod LineWords
 pub mod LineCells
 pub mod LinePrinting
 pub mod LineStepping
+pub mod Taking

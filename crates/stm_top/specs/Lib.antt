@@ -5,3 +5,4 @@ pub mod LineRun
 pub mod LineStand
 pub mod LineClient
 pub mod LineLaws
+pub mod Script

@@ -3,3 +3,4 @@
 
 pub mod line_form;
 mod line_run;
+mod script;
