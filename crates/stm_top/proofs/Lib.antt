@@ -7,3 +7,4 @@ pub mod LineCells
 pub mod LinePrinting
 pub mod LineStepping
 pub mod Taking
+pub mod TurnsMade

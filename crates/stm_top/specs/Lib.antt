@@ -6,3 +6,5 @@ pub mod LineStand
 pub mod LineClient
 pub mod LineLaws
 pub mod Script
+pub mod Answer
+pub mod TopCall

@@ -1,5 +1,5 @@
 -- The threads of a program of the line form keep the laws of clients.
-use Rattle.std.specs.Prelude.{◌≡◌, ℕ, zero, suc, ◌+◌, Bool, true, false, cond, List, [], ◌∷◌, ◌++◌, Option, Some, None, slice_get, slice_set, eqb}
+use Rattle.std.specs.Prelude.{◌≡◌, ◌⊎◌, ℕ, zero, suc, ◌+◌, Bool, true, false, cond, List, [], ◌∷◌, ◌++◌, Option, Some, None, slice_get, slice_set, eqb}
 use Rattle.std.proofs.Common.{ap, refl, ◌∙◌, sym, subst, IsSome, inl, inr}
 use Rattle.std.proofs.lemmas.Bool.{cases_Bool, cond-true, cond-false, eq-eqb}
 use Rattle.py_data.specs.declared.value.Addr.{Addr}
@@ -216,66 +216,110 @@ line_goes p s s1 x y d = no_wait p s s.place x y s1 d
 pub line_waits_quietly : (p : LineProgram) → WaitsQuietly (line_prog p)
 line_waits_quietly p s s1 x y d = absurd (line_goes p s s1 x y d)
 
--- ---- no step asks whether the output is in mid line
-abbrev IsOther : {S : Type 0} → Call S → Type 0
-IsOther MidLine = ⊥
-IsOther _ = Unit {0}
+-- ---- which calls a step makes
+-- each call of the row is such a call
+abbrev pub OnlyCalls : {S A : Type 0} → (Call S → Type 0) → Row S A → Type 0
+OnlyCalls f (Ret a) = Unit {0}
+OnlyCalls f (Do c k) = f c × ((r : Reply c) → OnlyCalls f (k r))
 
-abbrev NeverAsks : {S A : Type 0} → Row S A → Type 0
-NeverAsks (Ret a) = Unit {0}
-NeverAsks (Do c k) = IsOther c × ((r : Reply c) → NeverAsks (k r))
+-- a call of an assignment, or of the step that makes the Cells
+abbrev pub IsQuiet : {S : Type 0} → Call S → Type 0
+IsQuiet (Read a) = Unit {0}
+IsQuiet (SetVal a i v) = Unit {0}
+IsQuiet (Make r) = Unit {0}
+IsQuiet _ = ⊥
 
-never_then : {S A B : Type 0} (r : Row S A) (f : A → Row S B) → NeverAsks r → ((a : A) → NeverAsks (f a)) → NeverAsks (bind r f)
+-- or else a write to the output
+abbrev pub IsLineCall : {S : Type 0} → Call S → Type 0
+IsLineCall (Read a) = Unit {0}
+IsLineCall (SetVal a i v) = Unit {0}
+IsLineCall (Make r) = Unit {0}
+IsLineCall (Put Output bytes) = Unit {0}
+IsLineCall _ = ⊥
+
+only_then : {S A B : Type 0} (w : Call S → Type 0) (r : Row S A) (f : A → Row S B) → OnlyCalls w r → ((a : A) → OnlyCalls w (f a)) → OnlyCalls w (bind r f)
 unfolding bind
-never_then (Ret a) f m n = n a
-never_then (Do c k) f m n = (m.0, λ r. never_then (k r) f (m.1 r) n)
+only_then w (Ret a) f m n = n a
+only_then w (Do c k) f m n = (m.0, λ r. only_then w (k r) f (m.1 r) n)
 
-writes_then : {S A : Type 0} (c : Call S) (k : Reply c → Row S A) → IsOther c → WritesThen c k
+only_wider : {S A : Type 0} (v w : Call S → Type 0) (r : Row S A) → ((c : Call S) → v c → w c) → OnlyCalls v r → OnlyCalls w r
+only_wider v w (Ret a) h m = tt
+only_wider v w (Do c k) h m = (h c m.0, λ r. only_wider v w (k r) h (m.1 r))
+
+quiet_line : {S : Type 0} (c : Call S) → IsQuiet c → IsLineCall c
+quiet_line (Read a) h = tt
+quiet_line (SetVal a i v) h = tt
+quiet_line (Make r) h = tt
+quiet_line _ h = absurd h
+
+made_quiet : (S : Type 0) (n : ℕ) (cells : List Addr) → OnlyCalls IsQuiet (make_cells {S = S} n cells)
+unfolding make_cells
+made_quiet S zero cells = tt
+made_quiet S (suc n) cells = (tt, λ a. made_quiet S n (with_cell cells a))
+
+value_quiet : (S : Type 0) (o : Option Addr) → OnlyCalls IsQuiet (cell_value {S = S} o)
+unfolding cell_value
+value_quiet S None = tt
+value_quiet S (Some a) = (tt, λ r. tt)
+
+item_quiet : (S : Type 0) (cells : List Addr) (item : Item) → OnlyCalls IsQuiet (item_row {S = S} cells item)
+item_quiet S cells (Name k) = value_quiet S (slice_get cells k)
+item_quiet S cells (Number n) = tt
+
+set_quiet : (S : Type 0) (o : Option Addr) (v : Value) → OnlyCalls IsQuiet (set_cell {S = S} o v)
+unfolding set_cell
+set_quiet S None v = tt
+set_quiet S (Some a) v = (tt, λ u. tt)
+
+print_calls : (S : Type 0) (cells : List Addr) (later : Bool) (items : List Item) → OnlyCalls IsLineCall (print_row {S = S} cells later items)
+unfolding print_row
+print_calls S cells later [] = (tt, λ u. tt)
+print_calls S cells later (item ∷ items) =
+    only_then IsLineCall (item_row cells item) (λ v. Do (Put Output (after_space later (text_of v))) (λ _. print_row cells true items))
+    (only_wider IsQuiet IsLineCall (item_row cells item) quiet_line (item_quiet S cells item)) (λ v. (tt, λ u. print_calls S cells true items))
+
+assign_quiet : (S : Type 0) (cells : List Addr) (k : ℕ) (item : Item) → OnlyCalls IsQuiet (statement_row {S = S} cells (Assign k item))
+unfolding statement_row
+assign_quiet S cells k item = only_then IsQuiet (item_row cells item) (set_cell (slice_get cells k)) (item_quiet S cells item) (set_quiet S (slice_get cells k))
+
+prints_only : (S : Type 0) (cells : List Addr) (items : List Item) → OnlyCalls IsLineCall (statement_row {S = S} cells (Print items))
+unfolding statement_row
+prints_only S cells items = print_calls S cells false items
+
+-- the next statement is a `print`
+pub record PrintsNext (p : LineProgram) (s : LineState) : Type 0 where
+  pub at : ℕ
+  pub place : s.place ≡ At at
+  pub items : List Item
+  pub statement : slice_get p.statements at ≡ Some (Print items)
+
+at_calls : (p : LineProgram) (s : LineState) (k : ℕ) (o : Option Statement) → s.place ≡ At k → slice_get p.statements k ≡ o → OnlyCalls IsQuiet (at_statement s k o) ⊎ (PrintsNext p s × OnlyCalls IsLineCall (at_statement s k o))
+at_calls p s k None e f = inl tt
+at_calls p s k (Some (Assign j item)) e f = inl (only_then IsQuiet (statement_row s.cells (Assign j item)) (λ _. Ret (Done, state_at (At (k + 1)) s.cells)) (assign_quiet LineState s.cells j item) (λ u. tt))
+at_calls p s k (Some (Print items)) e f =
+    inr (record { at = k; place = e; items = items; statement = f }, only_then IsLineCall (statement_row s.cells (Print items)) (λ _. Ret (Done, state_at (At (k + 1)) s.cells)) (prints_only LineState s.cells items) (λ u. tt))
+
+place_calls : (p : LineProgram) (s : LineState) (place : Place) → s.place ≡ place → OnlyCalls IsQuiet (at_place p s place) ⊎ (PrintsNext p s × OnlyCalls IsLineCall (at_place p s place))
+place_calls p s Start e = inl (only_then IsQuiet (make_cells p.cells []) (λ cells. Ret (Done, state_at (At 0) cells)) (made_quiet LineState p.cells []) (λ cells. tt))
+place_calls p s (At k) e = at_calls p s k (slice_get p.statements k) e refl
+place_calls p s Over e = inl tt
+
+-- a step looks at Cells, sets them and makes them; or it prints, and then its statement is a `print`
+pub quiet_or_prints : (p : LineProgram) (s : LineState) → OnlyCalls IsQuiet (line_row p s) ⊎ (PrintsNext p s × OnlyCalls IsLineCall (line_row p s))
+unfolding line_row
+quiet_or_prints p s = place_calls p s s.place refl
+
+pub line_calls : (p : LineProgram) (s : LineState) → OnlyCalls IsLineCall (line_row p s)
+line_calls p s = elim (quiet_or_prints p s) [ inl q ↦ only_wider IsQuiet IsLineCall (line_row p s) quiet_line q | inr r ↦ r.1 ]
+
+-- ---- so no step asks whether the output is in mid line
+writes_then : {S : Type 0} (c : Call S) (k : Reply c → Row S (Outcome × S)) → IsLineCall c → WritesThen c k
 writes_then MidLine k h = absurd h
 writes_then _ k h = tt
 
-never_asks : {S A : Type 0} (r : Row S A) → NeverAsks r → AsksToPrint r
+never_asks : {S : Type 0} (r : Row S (Outcome × S)) → OnlyCalls IsLineCall r → AsksToPrint r
 never_asks (Ret a) m = tt
 never_asks (Do c k) m = (writes_then c k m.0, λ r. never_asks (k r) (m.1 r))
 
-made_silent : (S : Type 0) (n : ℕ) (cells : List Addr) → NeverAsks (make_cells {S = S} n cells)
-unfolding make_cells
-made_silent S zero cells = tt
-made_silent S (suc n) cells = (tt, λ a. made_silent S n (with_cell cells a))
-
-value_silent : (S : Type 0) (o : Option Addr) → NeverAsks (cell_value {S = S} o)
-unfolding cell_value
-value_silent S None = tt
-value_silent S (Some a) = (tt, λ r. tt)
-
-item_silent : (S : Type 0) (cells : List Addr) (item : Item) → NeverAsks (item_row {S = S} cells item)
-item_silent S cells (Name k) = value_silent S (slice_get cells k)
-item_silent S cells (Number n) = tt
-
-set_silent : (S : Type 0) (o : Option Addr) (v : Value) → NeverAsks (set_cell {S = S} o v)
-unfolding set_cell
-set_silent S None v = tt
-set_silent S (Some a) v = (tt, λ u. tt)
-
-print_silent : (S : Type 0) (cells : List Addr) (later : Bool) (items : List Item) → NeverAsks (print_row {S = S} cells later items)
-unfolding print_row
-print_silent S cells later [] = (tt, λ u. tt)
-print_silent S cells later (item ∷ items) = never_then (item_row cells item) (λ v. Do (Put Output (after_space later (text_of v))) (λ _. print_row cells true items)) (item_silent S cells item) (λ v. (tt, λ u. print_silent S cells true items))
-
-statement_silent : (S : Type 0) (cells : List Addr) (statement : Statement) → NeverAsks (statement_row {S = S} cells statement)
-unfolding statement_row
-statement_silent S cells (Assign k item) = never_then (item_row cells item) (set_cell (slice_get cells k)) (item_silent S cells item) (set_silent S (slice_get cells k))
-statement_silent S cells (Print items) = print_silent S cells false items
-
-place_silent : (p : LineProgram) (s : LineState) (place : Place) → NeverAsks (at_place p s place)
-place_silent p s Start = never_then (make_cells p.cells []) (λ cells. Ret (Done, state_at (At 0) cells)) (made_silent LineState p.cells []) (λ cells. tt)
-place_silent p s (At k) = at_silent (slice_get p.statements k)
-  where
-    at_silent : (statement : Option Statement) → NeverAsks (at_statement s k statement)
-    at_silent (Some statement) = never_then (statement_row s.cells statement) (λ _. Ret (Done, state_at (At (k + 1)) s.cells)) (statement_silent LineState s.cells statement) (λ u. tt)
-    at_silent None = tt
-place_silent p s Over = tt
-
 pub line_asks_to_print : (p : LineProgram) (s : LineState) → AsksToPrint (line_row p s)
-unfolding line_row
-line_asks_to_print p s = never_asks (at_place p s s.place) (place_silent p s s.place)
+line_asks_to_print p s = never_asks (line_row p s) (line_calls p s)

@@ -1,6 +1,12 @@
 //! The top call: a script's text to its run.
 #![tactic(auto)]
 
+mod answer;
 pub mod line_form;
 mod line_run;
 mod script;
+mod status;
+mod turns;
+
+pub use script::SCRIPT_LIMIT;
+pub use status::Status;

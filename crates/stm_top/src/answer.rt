@@ -1,0 +1,75 @@
+//! What a call has to say: its status, and the text that it writes to the error output.
+ghost use Rattle.std.specs.Prelude.{◌≡◌, IfOk};
+ghost use Rattle.stm_top.specs.Answer.{status_of, text_of, IsText};
+
+use crate::status::Status;
+use py_data::{Bytes, NoMemory};
+use py_text::print_int;
+use std::alloc::Global;
+
+/// What a call has to say.
+#[derive(Clone, Copy, Debug, PartialEq, Eq)]
+pub(crate) enum Answer {
+    Done,
+    Usage,
+    /// The line, from 1, is the first that hasn't the line form.
+    NotBuilt { line: u32 },
+    InputFailed,
+    OutputFailed,
+    OutOfMemory,
+    ScriptTooLong,
+}
+
+const USAGE: &[u8] =
+    b"pystm: usage: pystm [--segments N] [--length N] [--pages N] [--budget N] FILE, - or --demo N\n";
+
+impl Answer {
+    pub(crate) fn status(self) -> Status
+        ensures { result ≡ status_of self }
+    {
+        match self {
+            Answer::Done => Status::Done,
+            Answer::Usage => Status::Usage,
+            Answer::NotBuilt { .. } => Status::Refused,
+            Answer::InputFailed => Status::InputFailed,
+            Answer::OutputFailed => Status::OutputFailed,
+            Answer::OutOfMemory => Status::OutOfMemory,
+            Answer::ScriptTooLong => Status::ScriptTooLong,
+        }
+    }
+
+    /// The text, or none where there is no memory for it.
+    pub(crate) fn text(self, alloc: Global) -> Bytes
+        ensures { IsText self result }
+    {
+        match self.whole_text(alloc) {
+            Ok(text) => text,
+            Err(_) => Bytes::new(alloc),
+        }
+    }
+
+    fn whole_text(self, alloc: Global) -> Result<Bytes, NoMemory>
+        ensures { IfOk result (λ text. text ≡ text_of self) }
+    {
+        match self {
+            Answer::Done => Ok(Bytes::new(alloc)),
+            Answer::Usage => Bytes::from_slice(alloc, USAGE),
+            Answer::NotBuilt { line } => not_built(alloc, line),
+            Answer::InputFailed => Bytes::from_slice(alloc, b"pystm: cannot read the input\n"),
+            Answer::OutputFailed => Bytes::from_slice(alloc, b"pystm: cannot write the output\n"),
+            Answer::OutOfMemory => Bytes::from_slice(alloc, b"pystm: out of memory\n"),
+            Answer::ScriptTooLong => {
+                Bytes::from_slice(alloc, b"pystm: script longer than 4194304 bytes\n")
+            }
+        }
+    }
+}
+
+fn not_built(alloc: Global, line: u32) -> Result<Bytes, NoMemory>
+    ensures { IfOk result (λ text. text ≡ text_of (Answer.NotBuilt line)) }
+{
+    let mut text = Bytes::from_slice(alloc, b"pystm: line ")?;
+    text.extend_from_slice(print_int(alloc, i64::from(line))?.as_slice())?;
+    text.extend_from_slice(b": refusal 13: not built\n")?;
+    Ok(text)
+}
