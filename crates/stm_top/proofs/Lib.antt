@@ -8,3 +8,4 @@ pub mod LinePrinting
 pub mod LineStepping
 pub mod Taking
 pub mod TurnsMade
+pub mod TopSteps

@@ -1,5 +1,7 @@
 -- What the top call does, and why it answers as it does. States `docs/LANGUAGE.md`, "The top call".
-use Rattle.std.specs.Prelude.{◌≡◌, ◌≢◌, ◌⊎◌, ℕ, List, [], ◌∷◌, ◌++◌, Option, Result, Ok, Err, codes}
+use Rattle.std.specs.String.{string_bytes}
+use Rattle.std.specs.Prelude.{◌≡◌, ◌≢◌, ◌⊎◌, String, ℕ, map, List, [], ◌∷◌, ◌++◌, Option, Result, Ok, Err, Bool, true, false, codes}
+use Rattle.std.specs.Str.{bytes_eq}
 use Rattle.py_data.specs.declared.stop.Out.TheVariants.{Output}
 use Rattle.py_data.specs.Row.{Row}
 use Rattle.py_data.specs.Sense.{Upto}
@@ -37,6 +39,16 @@ devices_of source sink error_sink input out err = record { input = source input;
 abbrev pub source_words : List (List ℕ)
 source_words = codes "-" ∷ []
 
+-- whether they are these words
+abbrev pub names_source : List (List ℕ) → Bool
+names_source [] = false
+names_source (word ∷ []) = bytes_eq word (codes "-")
+names_source (word ∷ next ∷ words) = false
+
+-- the bytes of words
+abbrev pub bytes_of : {Z : Type 0} → List (String Z) → List (List ℕ)
+bytes_of words = map string_bytes words
+
 -- ---- a run
 -- The turns are a run of the one-lock machine, from m to `machine`. The output is that before, then the run's, and then a
 -- front of what the next step writes: of that step's row `left` is left at `place`. The other devices are as they were.
@@ -71,6 +83,18 @@ TurnsEnd OutputFailed r faults faults1 = PrintFailed r faults faults1
 TurnsEnd OutOfMemory r faults faults1 = Unit {0}
 TurnsEnd _ r faults faults1 = ⊥
 
+-- nothing ran, and nothing was written
+pub record NothingRan (a : Devices) (turns : List Turn) (b : Devices) : Type 0 where
+  pub turns_none : turns ≡ []
+  pub out : b.out ≡ a.out
+  pub err : b.err ≡ a.err
+
+-- how a program came to its end: there was no memory for the machine, or it ran
+abbrev pub ProgramEnded : LineProgram → Devices → Answer → List Turn → Devices → Type 0
+ProgramEnded p a answer turns b =
+    (NothingRan a turns b × (answer ≡ OutOfMemory))
+    ⊎ ((r : Ran p (begin_with (line_prog p) (first_world a.input.told)) a.out.told a.err.told turns b.input.told b.out.told b.err.told) × TurnsEnd answer r a.out.faults b.out.faults)
+
 -- ---- the whole call
 -- a script was taken that is a program
 pub record HasProgram (a : Devices) : Type 0 where
@@ -83,12 +107,6 @@ pub record HasProgram (a : Devices) : Type 0 where
 -- it ran so far, from the machine's first state
 abbrev pub ProgramRan : (a : Devices) → HasProgram a → List Turn → Devices → Type 0
 ProgramRan a h turns b = Ran h.program (begin_with (line_prog h.program) (first_world h.source.told)) a.out.told a.err.told turns b.input.told b.out.told b.err.told
-
--- nothing ran, and nothing was written
-pub record NothingRan (a : Devices) (turns : List Turn) (b : Devices) : Type 0 where
-  pub turns_none : turns ≡ []
-  pub out : b.out ≡ a.out
-  pub err : b.err ≡ a.err
 
 -- The cause of each answer, with what stands before its text is written.
 abbrev pub Caused : Answer → Devices → List Turn → Devices → Type 0

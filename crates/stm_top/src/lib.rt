@@ -6,7 +6,9 @@ pub mod line_form;
 mod line_run;
 mod script;
 mod status;
+mod top;
 mod turns;
 
 pub use script::SCRIPT_LIMIT;
 pub use status::Status;
+pub use top::{run_words, Report};
