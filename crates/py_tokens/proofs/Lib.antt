@@ -1,0 +1,5 @@
+pub mod CharacterLemmas
+pub mod Digits
+pub mod Stacks
+pub mod Laying
+pub mod Loop

@@ -38,11 +38,19 @@ Moves (Ok u) f stack stack' old new = (added : List Token) × (new ≡ old ++ ad
 Moves (Err (Refused e)) f stack stack' old new = (rest : List ℕ → Laid) → f stack rest ≡ Err e
 Moves (Err OutOfMemory) f stack stack' old new = Unit {0}
 
--- one token, with the indentation before it where it is a line's first
+-- the indentation before a line's first token
+abbrev pub begun : Place → Mode → List ℕ → (List ℕ → Laid) → Laid
+begun p (Fresh column) stack rest = indented p column stack rest
+begun p (Held column) stack rest = indented p column stack rest
+begun p (Within depth) stack rest = rest stack
+
 abbrev pub took : Token → Mode → List ℕ → (List ℕ → Laid) → Laid
-took t (Fresh column) stack rest = indented (before_token t) column stack (λ s. before (t ∷ []) (rest s))
-took t (Held column) stack rest = indented (before_token t) column stack (λ s. before (t ∷ []) (rest s))
-took t (Within depth) stack rest = before (t ∷ []) (rest stack)
+took t m stack rest = begun (before_token t) m stack (λ s. before (t ∷ []) (rest s))
+
+-- a token, inside so many brackets after it
+abbrev pub Takes : Result Mode TokenError → ℕ → (List ℕ → (List ℕ → Laid) → Laid) → List ℕ → List ℕ → List Token → List Token → Type 0
+Takes (Ok m) depth f stack stack' old new = (m ≡ Within depth) × Moves (Ok tt) f stack stack' old new
+Takes (Err e) depth f stack stack' old new = Moves (Err e) f stack stack' old new
 
 abbrev pub depth_of : Mode → ℕ
 depth_of (Fresh column) = 0
@@ -89,7 +97,11 @@ Finishes view (Ok ts) last m stack old = before old (to_come last None m stack [
 Finishes view (Err e) last m stack old = e ≡ OutOfMemory
 
 -- a place where no rule continues, for this reason, if there was memory to find it
-abbrev pub Breaks : TokenError → Place → TokenError → Mode → List ℕ → Type 0
+abbrev pub Breaks : TokenError → Place → Refusal → Mode → List ℕ → Type 0
+Breaks (Refused r) p e m stack = (last : Place) → to_come last (Some e) m stack (Plain (token_at k.End p) ∷ []) ≡ Err r
 Breaks OutOfMemory p e m stack = Unit {0}
-Breaks (Refused r) p OutOfMemory m stack = ⊥
-Breaks (Refused r) p (Refused e) m stack = (last : Place) → to_come last (Some e) m stack (Plain (token_at k.End p) ∷ []) ≡ Err r
+
+-- the same for any reason why no word was read
+abbrev pub Stops : TokenError → Place → TokenError → Mode → List ℕ → Type 0
+Stops r p (Refused e) m stack = Breaks r p e m stack
+Stops r p OutOfMemory m stack = r ≡ OutOfMemory

@@ -126,6 +126,7 @@ fn characters(alloc: Global, bytes: &[u8], at: u32) -> Result<Items<Character>, 
 }
 
 /// The characters of a text, after a byte order mark.
+#[tactic(auto, unfolding(crate::specs::Characters::text_characters))]
 pub fn text_characters(alloc: Global, text: &[u8]) -> Result<Items<Character>, NoMemory>
     requires { length text.now < 2 ^ 32 }
     ensures { IfOk result (λ cs. cs ≡ text_characters text.now) }

@@ -2,7 +2,7 @@
 ghost use Rattle.std.specs.Prelude.{◌≡◌, ◌+◌, ◌^◌, ◌<◌, ◌≤◌, [], ◌∷◌, ◌++◌, reverse, length, IfOk, OnOk, OnErr};
 ghost use Rattle.py_tokens.specs.Layout.{after_blank, popped, indented};
 ghost use Rattle.py_tokens.specs.Place.{token_at, before_token};
-ghost use Rattle.py_tokens.specs.Tokens.{Moves, Lays, Closes, Finishes, Breaks, Ends, took, depth_of, blanked, held, reach};
+ghost use Rattle.py_tokens.specs.Tokens.{Moves, Lays, Closes, Finishes, Breaks, Stops, Ends, Takes, begun, took, depth_of, blanked, held, reach};
 
 use crate::error::TokenError;
 use crate::token::{Place, Token, TokenKind, token_at};
@@ -30,7 +30,12 @@ pub fn push<T: Drop>(items: &mut Vec<T>, x: T) -> Result<(), NoMemory>
 }
 
 /// Pops the entries above the column, each with a Dedent; the next must equal it.
-fn dedent(stack: &mut Vec<usize>, out: &mut Vec<Token>, place: Place, column: usize) -> Result<(), TokenError>
+fn dedent(
+    stack: &mut Vec<usize>,
+    out: &mut Vec<Token>,
+    place: Place,
+    column: usize,
+) -> Result<(), TokenError>
     ensures { Moves result (popped place column) (reverse stack.old.items) (reverse stack.new.items) out.old.items out.new.items }
 {
     let line = place.line;
@@ -51,7 +56,12 @@ fn dedent(stack: &mut Vec<usize>, out: &mut Vec<Token>, place: Place, column: us
 }
 
 /// Brings the stack to this column.
-fn indent(stack: &mut Vec<usize>, out: &mut Vec<Token>, place: Place, column: usize) -> Result<(), TokenError>
+fn indent(
+    stack: &mut Vec<usize>,
+    out: &mut Vec<Token>,
+    place: Place,
+    column: usize,
+) -> Result<(), TokenError>
     ensures { Moves result (indented place column) (reverse stack.old.items) (reverse stack.new.items) out.old.items out.new.items }
 {
     let line = place.line;
@@ -94,21 +104,41 @@ fn before_token(t: &Token) -> Place
     }
 }
 
-/// One token, with the indentation before it where it is a line's first.
-fn take(mode: Mode, stack: &mut Vec<usize>, out: &mut Vec<Token>, t: Token) -> Result<(), TokenError>
-    ensures { Moves result (took t mode) (reverse stack.old.items) (reverse stack.new.items) out.old.items out.new.items }
+/// The indentation before a line's first token, which stands after this place.
+fn begin_line(
+    mode: Mode,
+    stack: &mut Vec<usize>,
+    out: &mut Vec<Token>,
+    place: Place,
+) -> Result<(), TokenError>
+    ensures { Moves result (begun place mode) (reverse stack.old.items) (reverse stack.new.items) out.old.items out.new.items }
 {
     match mode {
-        Mode::Fresh(column) => indent(stack, out, before_token(&t), column)?,
-        Mode::Held(column) => indent(stack, out, before_token(&t), column)?,
-        Mode::Within(_) => {}
+        Mode::Fresh(column) => indent(stack, out, place, column),
+        Mode::Held(column) => indent(stack, out, place, column),
+        Mode::Within(_) => Ok(()),
     }
+}
+
+/// One token, inside so many brackets after it.
+fn take(
+    mode: Mode,
+    stack: &mut Vec<usize>,
+    out: &mut Vec<Token>,
+    t: Token,
+    depth: usize,
+) -> Result<Mode, TokenError>
+    ensures takes { Takes result depth (took t mode) (reverse stack.old.items) (reverse stack.new.items) out.old.items out.new.items }
+    ensures reaches { IfOk result (λ m. reach m ≡ depth) }
+{
+    begin_line(mode, stack, out, before_token(&t))?;
     push(out, t)?;
-    Ok(())
+    Ok(Mode::Within(depth))
 }
 
 fn depth_of(mode: Mode) -> usize
-    ensures { result ≡ depth_of mode }
+    ensures value { result ≡ depth_of mode }
+    ensures within { result ≤ reach mode }
 {
     match mode {
         Mode::Fresh(_) => 0,
@@ -158,7 +188,12 @@ fn line_end(mode: Mode, out: &mut Vec<Token>, place: Place) -> Result<Mode, Toke
 }
 
 /// One more word.
-pub fn lay(mode: Mode, stack: &mut Vec<usize>, out: &mut Vec<Token>, w: Word) -> Result<Mode, TokenError>
+pub fn lay(
+    mode: Mode,
+    stack: &mut Vec<usize>,
+    out: &mut Vec<Token>,
+    w: Word,
+) -> Result<Mode, TokenError>
     requires small { reach mode < 2 ^ 60 }
     ensures lays { Lays result mode (reverse stack.old.items) w (reverse stack.new.items) out.old.items out.new.items }
     ensures grows { IfOk result (λ m. reach m ≤ reach mode + 8) }
@@ -168,18 +203,9 @@ pub fn lay(mode: Mode, stack: &mut Vec<usize>, out: &mut Vec<Token>, w: Word) ->
         Word::Comment => Ok(held(mode)),
         Word::Joint => Ok(held(mode)),
         Word::LineEnd(place) => line_end(mode, out, place),
-        Word::Opens(t) => {
-            take(mode, stack, out, t)?;
-            Ok(Mode::Within(depth_of(mode) + 1))
-        }
-        Word::Closes(t) => {
-            take(mode, stack, out, t)?;
-            Ok(Mode::Within(depth_of(mode).saturating_sub(1)))
-        }
-        Word::Plain(t) => {
-            take(mode, stack, out, t)?;
-            Ok(Mode::Within(depth_of(mode)))
-        }
+        Word::Opens(t) => take(mode, stack, out, t, depth_of(mode) + 1),
+        Word::Closes(t) => take(mode, stack, out, t, depth_of(mode).saturating_sub(1)),
+        Word::Plain(t) => take(mode, stack, out, t, depth_of(mode)),
     }
 }
 
@@ -202,7 +228,12 @@ fn close(stack: &mut Vec<usize>, out: &mut Vec<Token>, end: Place) -> Result<(),
 }
 
 /// The end of the text.
-pub fn finish(mode: Mode, mut stack: Vec<usize>, mut out: Vec<Token>, end: Place) -> Result<Vec<Token>, TokenError>
+pub fn finish(
+    mode: Mode,
+    mut stack: Vec<usize>,
+    mut out: Vec<Token>,
+    end: Place,
+) -> Result<Vec<Token>, TokenError>
     ensures { Finishes (λ v. v.items) result end mode (reverse stack.items) out.items }
 {
     if let Mode::Within(_) = mode {
@@ -214,7 +245,13 @@ pub fn finish(mode: Mode, mut stack: Vec<usize>, mut out: Vec<Token>, end: Place
 
 /// What the text is refused for where no rule continues, at this place and for this reason: the indentation of the place
 /// comes first.
-pub fn broken(mode: Mode, mut stack: Vec<usize>, mut out: Vec<Token>, place: Place, reason: TokenError) -> TokenError
+fn broken(
+    mode: Mode,
+    mut stack: Vec<usize>,
+    mut out: Vec<Token>,
+    place: Place,
+    reason: Refusal,
+) -> TokenError
     ensures { Breaks result place reason mode (reverse stack.items) }
 {
     let before = Place {
@@ -222,13 +259,24 @@ pub fn broken(mode: Mode, mut stack: Vec<usize>, mut out: Vec<Token>, place: Pla
         to: place.from,
         line: place.line,
     };
-    let moved = match mode {
-        Mode::Fresh(column) => indent(&mut stack, &mut out, before, column),
-        Mode::Held(column) => indent(&mut stack, &mut out, before, column),
-        Mode::Within(_) => Ok(()),
-    };
-    match moved {
-        Ok(()) => reason,
+    match begin_line(mode, &mut stack, &mut out, before) {
+        Ok(()) => TokenError::Refused(reason),
         Err(e) => e,
+    }
+}
+
+/// Why the text has no tokens, where no word was read at this place, for this reason.
+pub fn stopped(
+    mode: Mode,
+    stack: Vec<usize>,
+    out: Vec<Token>,
+    place: Place,
+    reason: TokenError,
+) -> TokenError
+    ensures { Stops result place reason mode (reverse stack.items) }
+{
+    match reason {
+        TokenError::Refused(refusal) => broken(mode, stack, out, place, refusal),
+        TokenError::OutOfMemory => TokenError::OutOfMemory,
     }
 }

@@ -6,7 +6,7 @@ ghost use Rattle.py_tokens.specs.Tokens.{Tokenizes};
 
 use crate::character::{Character, split, text_characters};
 use crate::error::TokenError;
-use crate::layout::{Mode, broken, finish, lay, push};
+use crate::layout::{Mode, finish, lay, push, stopped};
 use crate::token::{Place, Token, place_of};
 use crate::word::word_at;
 use std::alloc::Global;
@@ -45,10 +45,13 @@ fn lexed(alloc: Global, size: u32, chars: &[Character]) -> Result<Vec<Token>, To
         };
         match word_at(alloc, size, rest) {
             Ok((w, more)) => {
-                mode = lay(mode, &mut stack, &mut out, w)?;
+                match lay(mode, &mut stack, &mut out, w) {
+                    Ok(next) => mode = next,
+                    Err(e) => return Err(e),
+                }
                 rest = more;
             }
-            Err(e) => return Err(broken(mode, stack, out, place_of(c), e)),
+            Err(e) => return Err(stopped(mode, stack, out, place_of(c), e)),
         }
     }
     finish(mode, stack, out, end)

@@ -85,7 +85,8 @@ fn quotes(q: Quoting, chars: &[Character]) -> bool
     ensures { result ≡ quotes q chars.now }
 {
     let mark = Class::Byte(q.mark);
-    next_is(mark, chars) && (!q.triple || (next_is(mark, skip(chars, 1)) && next_is(mark, skip(chars, 2))))
+    next_is(mark, chars)
+        && (!q.triple || (next_is(mark, skip(chars, 1)) && next_is(mark, skip(chars, 2))))
 }
 
 fn quotes_len(q: Quoting) -> usize
@@ -175,7 +176,13 @@ fn escape_fault(p: Prefix, body: &[Character]) -> Option<u32>
 }
 
 /// The token of a literal with this body, before the rest.
-fn closed<'a>(alloc: Global, line: u32, p: Prefix, body: &[Character], rest: &'a [Character]) -> Found<'a>
+fn closed<'a>(
+    alloc: Global,
+    line: u32,
+    p: Prefix,
+    body: &[Character],
+    rest: &'a [Character],
+) -> Found<'a>
     ensures { Reads (λ r. r.now) result (closed line p body.now rest.now) }
 {
     if p.unicode {

@@ -32,7 +32,13 @@ fn refused<'a>(line: u32) -> Found<'a>
 }
 
 /// The integer that the digits write.
-fn int_of<'a>(alloc: Global, line: u32, base: Base, digits: &[Character], rest: &'a [Character]) -> Found<'a>
+fn int_of<'a>(
+    alloc: Global,
+    line: u32,
+    base: Base,
+    digits: &[Character],
+    rest: &'a [Character],
+) -> Found<'a>
     requires some { 0 < length digits.now }
     requires of_base { AllDigits (base_of base) (map byte_of digits.now) }
     ensures { Reads (λ r. r.now) result (int_of line (digits_value (base_of base) (map byte_of digits.now)) rest.now) }
@@ -44,7 +50,13 @@ fn int_of<'a>(alloc: Global, line: u32, base: Base, digits: &[Character], rest: 
     }
 }
 
-fn suffixed<'a>(alloc: Global, line: u32, base: Base, digits: &[Character], rest: &'a [Character]) -> Found<'a>
+fn suffixed<'a>(
+    alloc: Global,
+    line: u32,
+    base: Base,
+    digits: &[Character],
+    rest: &'a [Character],
+) -> Found<'a>
     requires some { 0 < length digits.now }
     requires of_base { AllDigits (base_of base) (map byte_of digits.now) }
     ensures { Reads (λ r. r.now) result (suffixed line base digits.now rest.now) }
@@ -147,7 +159,12 @@ fn unprefixed<'a>(alloc: Global, line: u32, chars: &'a [Character]) -> Found<'a>
 }
 
 /// After a first digit 0.
-fn after_zero<'a>(alloc: Global, line: u32, all: &'a [Character], chars: &'a [Character]) -> Found<'a>
+fn after_zero<'a>(
+    alloc: Global,
+    line: u32,
+    all: &'a [Character],
+    chars: &'a [Character],
+) -> Found<'a>
     ensures { Reads (λ r. r.now) result (after_zero line all.now chars.now) }
 {
     if next_is(Class::Letter(b'x'), chars) {

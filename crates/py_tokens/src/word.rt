@@ -186,7 +186,13 @@ fn joint<'a>(c: Character, more: &'a [Character]) -> Piece<'a>
 }
 
 /// The token at the front of `all`, whose first character is `c`, and whose others are `more`.
-fn token_front<'a>(alloc: Global, size: u32, c: Character, more: &[Character], all: &'a [Character]) -> Piece<'a>
+fn token_front<'a>(
+    alloc: Global,
+    size: u32,
+    c: Character,
+    more: &[Character],
+    all: &'a [Character],
+) -> Piece<'a>
     ensures { Reads (λ r. r.now) result (token_front size c more.now all.now) }
 {
     let digit = Class::Digit(Base::Ten);
