@@ -1,5 +1,5 @@
 -- What one more word adds to the tokens that are still to come.
-use Rattle.std.proofs.Common.{◌≡◌, ℕ, ◌+◌, ◌-◌, List, [], ◌∷◌, ◌++◌, Option, Some, None, Result, Ok, Err, refl, sym, ap, ◌∙◌, subst, append-nil}
+use Rattle.std.proofs.Common.{◌≡◌, ℕ, ◌+◌, ◌-◌, List, [], ◌∷◌, ◌++◌, Option, Some, Result, Ok, Err, refl, sym, ap, ◌∙◌, subst, append-nil}
 use Rattle.py_data.specs.declared.refusal.Refusal.{Refusal}
 use Rattle.py_tokens.specs.declared.error.TokenError.{TokenError}
 use Rattle.py_tokens.specs.declared.error.TokenError.TheVariants.{Refused, OutOfMemory}
@@ -45,7 +45,7 @@ as_mode n n' m stack stack' old new w e h = subst (λ z. Lays (Ok z) m stack w s
 -- ---- tokens
 
 -- what is still to come after a token, inside so many brackets
-abbrev Follows : Mode → Token → Word → ℕ → Type 0
+abbrev pub Follows : Mode → Token → Word → ℕ → Type 0
 Follows m t w depth = (last : Place) (stop : Option Refusal) (ws : List Word) (stack : List ℕ) → to_come last stop m stack (w ∷ ws) ≡ took t m stack (λ s. to_come last stop (Within depth) s ws)
 
 split_first : (t : Token) (ts us : List Token) (r : Laid) → before ((t ∷ ts) ++ us) r ≡ before (t ∷ []) (before (ts ++ us) r)
@@ -56,17 +56,17 @@ split_line : (last : Place) (stop : Option Refusal) (t : Token) (column : ℕ) (
     ≡ indented (before_token t) column stack (λ s. before (t ∷ []) (before (tokens_in ls.0.words ++ token_at k.Newline ls.0.end ∷ []) (lines_laid last stop s ls.1)))
 split_line last stop t column stack ls = λ i. indented (before_token t) column stack (λ s. split_first t (tokens_in ls.0.words) (token_at k.Newline ls.0.end ∷ []) (lines_laid last stop s ls.1) i)
 
-follows_opens : (m : Mode) (t : Token) → Follows m t (Opens t) (depth_of m + 1)
+pub follows_opens : (m : Mode) (t : Token) → Follows m t (Opens t) (depth_of m + 1)
 follows_opens (Fresh c) t last stop ws stack = split_line last stop t c stack (lines last (joined (0 + 1) ws))
 follows_opens (Held c) t last stop ws stack = split_line last stop t c stack (lines last (joined (0 + 1) ws))
 follows_opens (Within d) t last stop ws stack = let ls = lines last (joined (d + 1) ws) in split_first t (tokens_in ls.0.words) (token_at k.Newline ls.0.end ∷ []) (lines_laid last stop stack ls.1)
 
-follows_closes : (m : Mode) (t : Token) → Follows m t (Closes t) (depth_of m - 1)
+pub follows_closes : (m : Mode) (t : Token) → Follows m t (Closes t) (depth_of m - 1)
 follows_closes (Fresh c) t last stop ws stack = split_line last stop t c stack (lines last (joined (0 - 1) ws))
 follows_closes (Held c) t last stop ws stack = split_line last stop t c stack (lines last (joined (0 - 1) ws))
 follows_closes (Within d) t last stop ws stack = let ls = lines last (joined (d - 1) ws) in split_first t (tokens_in ls.0.words) (token_at k.Newline ls.0.end ∷ []) (lines_laid last stop stack ls.1)
 
-follows_plain : (m : Mode) (t : Token) → Follows m t (Plain t) (depth_of m)
+pub follows_plain : (m : Mode) (t : Token) → Follows m t (Plain t) (depth_of m)
 follows_plain (Fresh c) t last stop ws stack = split_line last stop t c stack (lines last (joined 0 ws))
 follows_plain (Held c) t last stop ws stack = split_line last stop t c stack (lines last (joined 0 ws))
 follows_plain (Within d) t last stop ws stack = let ls = lines last (joined d ws) in split_first t (tokens_in ls.0.words) (token_at k.Newline ls.0.end ∷ []) (lines_laid last stop stack ls.1)

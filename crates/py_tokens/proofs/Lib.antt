@@ -3,3 +3,4 @@ pub mod Digits
 pub mod Stacks
 pub mod Laying
 pub mod Loop
+pub mod InOrder

@@ -1,5 +1,5 @@
 -- The loop over a text's words: what was added so far, and what the words that are left add.
-use Rattle.std.proofs.Common.{◌≡◌, ℕ, zero, suc, ◌+◌, ◌-◌, ◌<◌, ◌≤◌, List, [], ◌∷◌, ◌++◌, length, Option, Some, None, Result, Ok, Err, refl, sym, ap, ◌∙◌, subst, arith}
+use Rattle.std.proofs.Common.{◌≡◌, ℕ, zero, suc, ◌+◌, ◌-◌, ◌<◌, ◌≤◌, List, [], ◌∷◌, length, Some, None, Result, Ok, Err, refl, sym, ap, ◌∙◌, subst, arith}
 use Rattle.py_data.specs.declared.refusal.Refusal.{Refusal}
 use Rattle.py_tokens.specs.declared.character.Character.{Character}
 use Rattle.py_tokens.specs.declared.error.TokenError.{TokenError}
@@ -13,8 +13,8 @@ use Rattle.py_tokens.specs.declared.word.Word.{Word}
 use Rattle.py_tokens.specs.declared.word.Word.TheVariants.{Plain}
 use Rattle.py_tokens.specs.Characters.{last_line}
 use Rattle.py_tokens.specs.Place.{place, place_of, token_at}
-use Rattle.py_tokens.specs.Words.{Piece, word_at, Cut, with_word, cut_more, cut, Reads}
-use Rattle.py_tokens.specs.Layout.{Laid, before, laid, lexed}
+use Rattle.py_tokens.specs.Words.{word_at, Cut, with_word, cut_more, cut, Reads}
+use Rattle.py_tokens.specs.Layout.{before, laid, lexed}
 use Rattle.py_tokens.specs.Tokens.{to_come, Lays, Finishes, Breaks, Stops, Tokenizes}
 use Rattle.py_tokens.proofs.Stacks.{before_append, before_nothing}
 

@@ -1,5 +1,5 @@
 -- Classes of characters, and the longest run of one at the front of a text.
-use Rattle.std.specs.Prelude.{ℕ, ◌+◌, Bool, true, false, nat_lt, nat_le, ◌==◌, ◌&&◌, ◌||◌, not, List, [], ◌∷◌, take, drop}
+use Rattle.std.specs.Prelude.{ℕ, ◌+◌, Bool, false, nat_lt, nat_le, ◌==◌, ◌&&◌, ◌||◌, not, List, [], ◌∷◌, take, drop}
 use Rattle.std.specs.Char.{digit_value}
 use Rattle.std.specs.List.{prefix_len}
 use Rattle.py_tokens.specs.declared.character.Character.{Character}

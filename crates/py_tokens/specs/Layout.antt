@@ -1,6 +1,6 @@
 -- From the words of a text to its tokens, by logical lines and the indentation stack. States `docs/LANGUAGE.md`, "Lines"
 -- and "Indentation".
-use Rattle.std.specs.Prelude.{◌≡◌, ℕ, suc, ◌+◌, ◌-◌, ◌*◌, ◌/◌, ◌^◌, ◌<◌, Bool, nat_lt, ◌==◌, if◌then◌else◌, List, [], ◌∷◌, ◌++◌, length, Option, Some, None, Result, Ok, Err}
+use Rattle.std.specs.Prelude.{ℕ, ◌+◌, ◌-◌, ◌*◌, ◌/◌, nat_lt, ◌==◌, if◌then◌else◌, List, [], ◌∷◌, ◌++◌, length, Option, Some, None, Result, Ok, Err}
 use Rattle.py_data.specs.declared.refusal.Refusal.{Refusal}
 use Rattle.py_data.specs.declared.refusal.Refusal.TheVariants.{BadDedent}
 use Rattle.py_tokens.specs.declared.character.Character.{Character}
@@ -11,7 +11,7 @@ use Rattle.py_tokens.specs.declared.word.Word.{Word}
 use Rattle.py_tokens.specs.declared.word.Word.TheVariants.{Blank, Comment, Joint, LineEnd, Opens, Closes, Plain}
 use Rattle.py_tokens.specs.Place.{place, token_at, before_token}
 use Rattle.py_tokens.specs.Characters.{last_line, text_characters}
-use Rattle.py_tokens.specs.Words.{Cut, cut}
+use Rattle.py_tokens.specs.Words.{cut}
 
 -- ---- logical lines
 
@@ -20,7 +20,7 @@ abbrev pub joined : ℕ → List Word → List Word
 joined depth [] = []
 joined depth (Opens t ∷ ws) = Opens t ∷ joined (depth + 1) ws
 joined depth (Closes t ∷ ws) = Closes t ∷ joined (depth - 1) ws
-joined depth (LineEnd p ∷ ws) = if depth == 0 then LineEnd p ∷ joined depth ws else joined depth ws
+joined depth (LineEnd p ∷ ws) = if depth == 0 then LineEnd p ∷ joined 0 ws else joined depth ws
 joined depth (Blank b ∷ ws) = Blank b ∷ joined depth ws
 joined depth (Comment ∷ ws) = Comment ∷ joined depth ws
 joined depth (Joint ∷ ws) = Joint ∷ joined depth ws

@@ -1,5 +1,5 @@
 -- Names, keywords and operators. States `docs/LANGUAGE.md`, "Names and keywords" and "Operators".
-use Rattle.std.specs.Prelude.{ℕ, Bool, true, false, ◌==◌, ◌&&◌, if◌then◌else◌, List, [], ◌∷◌, length, map, drop, Option, Some, None, Ok}
+use Rattle.std.specs.Prelude.{ℕ, Bool, true, ◌&&◌, if◌then◌else◌, List, [], ◌∷◌, length, map, drop, Option, Some, None, Ok}
 use Rattle.std.specs.Str.{bytes_eq}
 use Rattle.py_tokens.specs.declared.character.Character.{Character}
 use Rattle.py_tokens.specs.declared.class.Class.TheVariants.{Byte, Name, Quote}

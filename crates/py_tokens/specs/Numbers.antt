@@ -1,5 +1,5 @@
 -- The longest number at the front of a text. States `docs/LANGUAGE.md`, "Numbers".
-use Rattle.std.specs.Prelude.{ℕ, pos, ◌^◌, Bool, nat_lt, ◌==◌, ◌&&◌, if◌then◌else◌, List, length, map, drop, Result, Ok, Err}
+use Rattle.std.specs.Prelude.{ℕ, pos, ◌^◌, nat_lt, ◌==◌, ◌&&◌, if◌then◌else◌, List, length, map, drop, Result, Ok, Err}
 use Rattle.std.specs.Str.Parse.{digits_value}
 use Rattle.py_data.specs.declared.refusal.Refusal.{Refusal}
 use Rattle.py_data.specs.declared.refusal.Refusal.TheVariants.{BadCharacter, NumberWide}

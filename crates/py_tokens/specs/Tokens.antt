@@ -1,5 +1,5 @@
 -- What the calls of this crate promise.
-use Rattle.std.specs.Prelude.{◌≡◌, ℕ, ◌+◌, ◌^◌, ◌<◌, List, [], ◌∷◌, ◌++◌, Option, Some, None, Result, Ok, Err}
+use Rattle.std.specs.Prelude.{◌≡◌, ℕ, List, [], ◌∷◌, ◌++◌, Option, Some, None, Result, Ok, Err}
 use Rattle.py_data.specs.declared.refusal.Refusal.{Refusal}
 use Rattle.py_tokens.specs.declared.error.TokenError.{TokenError}
 use Rattle.py_tokens.specs.declared.error.TokenError.TheVariants.{Refused, OutOfMemory}
@@ -11,7 +11,7 @@ use Rattle.py_tokens.specs.declared.token.TokenKind.TheVariants as k
 use Rattle.py_tokens.specs.declared.word.Word.{Word}
 use Rattle.py_tokens.specs.declared.word.Word.TheVariants.{Plain, LineEnd}
 use Rattle.py_tokens.specs.Place.{token_at, before_token}
-use Rattle.py_tokens.specs.Layout.{Line, Lines, joined, lines, tokens_in, column_after, after_blank, Laid, before, indented, closing, line_laid, lines_laid}
+use Rattle.py_tokens.specs.Layout.{Lines, joined, lines, tokens_in, column_after, after_blank, Laid, before, indented, closing, line_laid, lines_laid}
 
 -- The tokens, which `view` gives as a list, are exactly the text's, or the refusal is exactly its one; want of memory is free.
 abbrev pub Tokenizes : {X : Type 0} → (X → List Token) → Result X TokenError → Laid → Type 0

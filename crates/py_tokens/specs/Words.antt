@@ -1,5 +1,5 @@
 -- From a text to its words: the longest piece at the front, again and again. States `docs/LANGUAGE.md`, "Tokens".
-use Rattle.std.specs.Prelude.{◌≡◌, ℕ, zero, suc, Bool, false, ◌==◌, ◌&&◌, ◌||◌, if◌then◌else◌, List, [], ◌∷◌, length, drop, Option, Some, None, Result, Ok, Err}
+use Rattle.std.specs.Prelude.{◌≡◌, ℕ, zero, suc, Bool, false, ◌==◌, ◌&&◌, ◌||◌, if◌then◌else◌, List, [], ◌∷◌, drop, Option, Some, None, Result, Ok, Err}
 use Rattle.py_data.specs.declared.refusal.Refusal.{Refusal}
 use Rattle.py_data.specs.declared.refusal.Refusal.TheVariants.{BadCharacter}
 use Rattle.py_tokens.specs.declared.character.Character.{Character}
@@ -10,7 +10,6 @@ use Rattle.py_tokens.specs.declared.error.TokenError.TheVariants as error
 use Rattle.py_tokens.specs.declared.operator.TheConstants as operator
 use Rattle.py_tokens.specs.declared.token.Place.{Place}
 use Rattle.py_tokens.specs.declared.token.Token.{Token}
-use Rattle.py_tokens.specs.declared.token.TokenKind.{TokenKind}
 use Rattle.py_tokens.specs.declared.token.TokenKind.TheVariants as k
 use Rattle.py_tokens.specs.declared.word.Word.{Word}
 use Rattle.py_tokens.specs.declared.word.Word.TheVariants.{Blank, Comment, Joint, LineEnd, Opens, Closes, Plain}

@@ -1,4 +1,4 @@
-use Rattle.std.proofs.Common.{◌≡◌, ◌+◌, ◌-◌, ◌≤◌, suc, length, drop, refl, ap, ◌∙◌, length-drop, arith}
+use Rattle.std.proofs.Common.{◌≡◌, ◌-◌, suc, length, refl, ap, ◌∙◌, length-drop, arith}
 use Rattle.py_tokens.proofs.CharacterLemmas.{characters_step, line_end_size-within, line_after-le}
 use Rattle.py_tokens.proofs.character.characters.Goals as goal
 

@@ -1,4 +1,4 @@
-use Rattle.std.proofs.Common.{Ok, Err, subst, sym}
+use Rattle.std.proofs.Common.{Ok, Err}
 use Rattle.py_tokens.proofs.Laying.{breaks}
 use Rattle.py_tokens.proofs.layout.broken.Goals as goal
 

@@ -1,4 +1,4 @@
-use Rattle.std.proofs.Common.{◌≡◌, ◌+◌, ◌-◌, ◌∙◌, reverse, Ok, ap}
+use Rattle.std.proofs.Common.{◌-◌, ◌∙◌, reverse, Ok, ap}
 use Rattle.py_tokens.specs.declared.word.Word.TheVariants.{Blank, Comment, Joint, Opens, Closes, Plain}
 use Rattle.py_tokens.proofs.Laying.{as_word, as_mode, lays_blank, lays_comment, lays_joint, lays_opens, lays_closes, lays_plain}
 use Rattle.py_tokens.proofs.layout.lay.Goals as goal
