@@ -87,7 +87,7 @@ lays_plain r m t depth stack stack' old new e h = lays_token r m t (Plain t) (de
 
 -- ---- a place where no rule continues
 
-breaks_at : (p last : Place) (e : Refusal) (m : Mode) (stack : List ℕ) → to_come last (Some e) m stack (Plain (token_at k.End p) ∷ []) ≡ begun (place p.from p.from p.line) m stack (λ s. Err e)
+breaks_at : (p last : Place) (e : Refusal) (m : Mode) (stack : List ℕ) → to_come last (Some e) m stack (Plain (token_at (k.Name []) p) ∷ []) ≡ begun (place p.from p.from p.line) m stack (λ s. Err e)
 breaks_at p last e (Fresh c) stack = refl
 breaks_at p last e (Held c) stack = refl
 breaks_at p last e (Within d) stack = refl

@@ -4,3 +4,4 @@ pub mod Stacks
 pub mod Laying
 pub mod Loop
 pub mod InOrder
+pub mod Streams

@@ -33,7 +33,7 @@ unfolding cut
 cut_word n size c cs more w e = ap (cut_more c (cut n size)) e
 
 abbrev stopped : Character → Refusal → Cut
-stopped c e = record { words = Plain (token_at k.End (place_of c)) ∷ []; stop = Some e }
+stopped c e = record { words = Plain (token_at (k.Name []) (place_of c)) ∷ []; stop = Some e }
 
 cut_bad : (n size : ℕ) (c : Character) (cs : List Character) (e : Refusal) → word_at size (c ∷ cs) ≡ Err e → cut (suc n) size (c ∷ cs) ≡ stopped c e
 unfolding cut

@@ -8,4 +8,4 @@ pub mod Strings
 pub mod Words
 pub mod Layout
 pub mod Tokens
-pub mod Slices
+pub mod Stream

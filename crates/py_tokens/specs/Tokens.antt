@@ -98,7 +98,7 @@ Finishes view (Err e) last m stack old = e ≡ OutOfMemory
 
 -- a place where no rule continues, for this reason, if there was memory to find it
 abbrev pub Breaks : TokenError → Place → Refusal → Mode → List ℕ → Type 0
-Breaks (Refused r) p e m stack = (last : Place) → to_come last (Some e) m stack (Plain (token_at k.End p) ∷ []) ≡ Err r
+Breaks (Refused r) p e m stack = (last : Place) → to_come last (Some e) m stack (Plain (token_at (k.Name []) p) ∷ []) ≡ Err r
 Breaks OutOfMemory p e m stack = Unit {0}
 
 -- the same for any reason why no word was read

@@ -75,10 +75,10 @@ pub record Cut : Type 0 where
 abbrev pub with_word : Word → Cut → Cut
 with_word w c = record { words = w ∷ c.words; stop = c.stop }
 
--- Where no rule continues, a token that is none stands for the rest, so that its indentation counts.
+-- Where no rule continues, a token (a name without bytes) stands for the rest, so that its indentation counts.
 abbrev pub cut_more : Character → (List Character → Cut) → Piece → Cut
 cut_more c rest (Ok p) = with_word p.0 (rest p.1)
-cut_more c rest (Err e) = record { words = Plain (token_at k.End (place_of c)) ∷ []; stop = Some e }
+cut_more c rest (Err e) = record { words = Plain (token_at (k.Name []) (place_of c)) ∷ []; stop = Some e }
 
 -- The first number bounds the words: each takes a character, so the count of characters is enough.
 unfoldable pub cut : ℕ → ℕ → List Character → Cut

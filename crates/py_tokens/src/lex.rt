@@ -2,7 +2,7 @@
 ghost use Rattle.std.specs.Prelude.{◌≡◌, ◌^◌, ◌<◌, length, IfOk};
 ghost use Rattle.py_tokens.specs.Characters.{last_line};
 ghost use Rattle.py_tokens.specs.Layout.{lexed, tokens_of_text};
-ghost use Rattle.py_tokens.specs.Slices.{AreSlices};
+ghost use Rattle.py_tokens.specs.Stream.{IsStream};
 ghost use Rattle.py_tokens.specs.Tokens.{Tokenizes};
 
 use crate::character::{Character, split, text_characters};
@@ -58,13 +58,13 @@ fn lexed(alloc: Global, size: u32, chars: &[Character]) -> Result<Vec<Token>, To
     finish(mode, stack, out, end)
 }
 
-/// The tokens of the text, by its logical lines and the indentation of each: slices of the text, in order, of which the
-/// last is End. A text has fewer than 2^32 bytes. A text that has no tokens is refused for the earliest place where no
-/// rule continues.
+/// The tokens of the text, by its logical lines and the indentation of each: slices of the text in order, in which each
+/// Dedent ends a block that an Indent began, and the last token is End. A text has fewer than 2^32 bytes. A text that has no
+/// tokens is refused for the earliest place where no rule continues.
 pub fn tokens(alloc: Global, text: &[u8]) -> Result<Vec<Token>, TokenError>
     requires { length text.now < 2 ^ 32 }
     ensures exact { Tokenizes (λ v. v.items) result (tokens_of_text text.now) }
-    ensures slices { IfOk result (λ v. AreSlices (length text.now) 0 v.items) }
+    ensures stream { IfOk result (λ v. IsStream (length text.now) 0 0 v.items) }
 {
     let chars = text_characters(alloc, text)?;
     lexed(alloc, text.len() as u32, chars.as_slice())

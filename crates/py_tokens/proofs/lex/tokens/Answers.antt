@@ -4,7 +4,7 @@ use Rattle.py_tokens.specs.Layout.{lexed, tokens_of_text}
 use Rattle.py_tokens.specs.Tokens.{Tokenizes}
 use Rattle.py_tokens.specs.Characters.{text_characters}
 use Rattle.py_tokens.proofs.CharacterLemmas.{length-text_characters}
-use Rattle.py_tokens.proofs.InOrder.{slices_of}
+use Rattle.py_tokens.proofs.Streams.{stream_of}
 use Rattle.py_tokens.proofs.lex.tokens.Goals as goal
 
 pub lexed-requires : goal.lexed-requires
@@ -19,5 +19,5 @@ exact c = subst (λ cs. Tokenizes {X = Vec Token Global} (λ v. v.items) c.lexed
 pub returns-clause-exact : goal.returns-clause-exact
 returns-clause-exact c = exact c
 
-pub returns-clause-slices : goal.returns-clause-slices
-returns-clause-slices c = slices_of {X = Vec Token Global} (λ v. v.items) c.lexed.result c.args.text.now (exact c)
+pub returns-clause-stream : goal.returns-clause-stream
+returns-clause-stream c = stream_of {X = Vec Token Global} (λ v. v.items) c.lexed.result c.args.text.now (exact c)
