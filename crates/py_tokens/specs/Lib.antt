@@ -1,0 +1,11 @@
+pub mod Place
+pub mod Characters
+pub mod Classes
+pub mod Tables
+pub mod Names
+pub mod Numbers
+pub mod Strings
+pub mod Words
+pub mod Layout
+pub mod Tokens
+pub mod Stream
