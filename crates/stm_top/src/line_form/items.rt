@@ -24,7 +24,9 @@ fn read_operator(word: &[u8]) -> Option<Operator>
 }
 
 fn read_unsigned(text: &[u8]) -> Option<(u32, &[u8])>
-    ensures { MatchOption result (unsigned_of (words text.now) ≡ None) (λ p. unsigned_of (words text.now) ≡ Some (p.0, words p.1.now)) }
+    ensures { MatchOption result
+        (unsigned_of (words text.now) ≡ None)
+        (λ p. unsigned_of (words text.now) ≡ Some (p.0, words p.1.now)) }
 {
     let (word, rest) = next_word(text)?;
     let number = read_number(word)?;
@@ -33,7 +35,9 @@ fn read_unsigned(text: &[u8]) -> Option<(u32, &[u8])>
 
 /// A number that may have a minus in front, and the text after it.
 fn read_signed(text: &[u8]) -> Option<(i64, &[u8])>
-    ensures { MatchOption result (signed_of (words text.now) ≡ None) (λ p. signed_of (words text.now) ≡ Some (p.0, words p.1.now)) }
+    ensures { MatchOption result
+        (signed_of (words text.now) ≡ None)
+        (λ p. signed_of (words text.now) ≡ Some (p.0, words p.1.now)) }
 {
     let (word, rest) = next_word(text)?;
     if word == MINUS {
