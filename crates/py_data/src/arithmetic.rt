@@ -41,8 +41,10 @@ pub fn floor_modulo(a: i64, b: i64) -> i64
 /// The law of both: they make the dividend up again, what is left is on the divisor's side of 0 and nearer to 0 than it,
 /// and no other two numbers do so.
 pub fn floor_division_law()
-    ensures divides { (a b : ℤ) → b ≢ pos 0 → IsFloorDivision a b (floor_quotient a b) (floor_remainder a b) }
-    ensures alone { (a b q r : ℤ) → b ≢ pos 0 → IsFloorDivision a b q r → (q ≡ floor_quotient a b) × (r ≡ floor_remainder a b) }
+    ensures divides { (a b : ℤ) → b ≢ pos 0
+        → IsFloorDivision a b (floor_quotient a b) (floor_remainder a b) }
+    ensures alone { (a b q r : ℤ) → b ≢ pos 0 → IsFloorDivision a b q r
+        → (q ≡ floor_quotient a b) × (r ≡ floor_remainder a b) }
 {}
 
 #[cfg(test)]

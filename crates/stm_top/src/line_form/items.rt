@@ -26,7 +26,9 @@ fn read_operator(word: &[u8]) -> Option<Operator>
 }
 
 fn read_unsigned(text: &[u8]) -> Option<(u32, &[u8])>
-    ensures unsigned { MatchOption result (unsigned_of (words text.now) ≡ None) (λ p. unsigned_of (words text.now) ≡ Some (p.0, words p.1.now)) }
+    ensures unsigned { MatchOption result
+        (unsigned_of (words text.now) ≡ None)
+        (λ p. unsigned_of (words text.now) ≡ Some (p.0, words p.1.now)) }
     ensures small { IfSome result (λ p. p.0 ≤ 999999999) }
 {
     let (word, rest) = next_word(text)?;
@@ -36,7 +38,9 @@ fn read_unsigned(text: &[u8]) -> Option<(u32, &[u8])>
 
 /// A number that may have a minus in front, and the text after it.
 fn read_signed(text: &[u8]) -> Option<(i64, &[u8])>
-    ensures signed { MatchOption result (signed_of (words text.now) ≡ None) (λ p. signed_of (words text.now) ≡ Some (p.0, words p.1.now)) }
+    ensures signed { MatchOption result
+        (signed_of (words text.now) ≡ None)
+        (λ p. signed_of (words text.now) ≡ Some (p.0, words p.1.now)) }
     ensures small { IfSome result (λ p. IsSmall p.0) }
 {
     let (word, rest) = next_word(text)?;

@@ -30,7 +30,9 @@ fn read_items(alloc: Global, names: &Names, text: &[u8]) -> Result<Option<Items<
 /// The name and the item of an assignment.
 fn read_assignment<'a>(names: &Names, line: &'a [u8]) -> Option<(&'a [u8], Item)>
     requires { length names.now < 2 ^ 32 }
-    ensures { MatchOption result (assignment_of names.now (words line.now) ≡ None) (λ p. assignment_of names.now (words line.now) ≡ Some (p.0.now, p.1)) }
+    ensures { MatchOption result
+        (assignment_of names.now (words line.now) ≡ None)
+        (λ p. assignment_of names.now (words line.now) ≡ Some (p.0.now, p.1)) }
 {
     let (name, rest) = next_word(line)?;
     let (sign, rest) = next_word(rest)?;
@@ -49,7 +51,8 @@ fn take_assignment<'a>(
 ) -> Result<bool, NoMemory>
     requires { length names.old < 2 ^ 32 }
     ensures { IfOk result (λ taken. MatchBool taken
-        (after_assignment (reading names.old statements.old) line.now ≡ Some (reading names.new statements.new))
+        (after_assignment (reading names.old statements.old) line.now
+        ≡ Some (reading names.new statements.new))
         (after_assignment (reading names.old statements.old) line.now ≡ None)) }
 {
     let Some((name, item)) = read_assignment(names, line) else {
@@ -69,7 +72,8 @@ fn take_print(
 ) -> Result<bool, NoMemory>
     requires { length names.now < 2 ^ 32 }
     ensures { IfOk result (λ taken. MatchBool taken
-        (after_print (reading names.now statements.old) rest.now ≡ Some (reading names.now statements.new))
+        (after_print (reading names.now statements.old) rest.now
+        ≡ Some (reading names.now statements.new))
         (after_print (reading names.now statements.old) rest.now ≡ None)) }
 {
     let Some(items) = read_items(alloc, names, rest)? else {
@@ -89,7 +93,8 @@ pub(super) fn take_line<'a>(
 ) -> Result<bool, NoMemory>
     requires { length names.old < 2 ^ 32 }
     ensures { IfOk result (λ taken. MatchBool taken
-        (after_line (reading names.old statements.old) line.now ≡ Some (reading names.new statements.new))
+        (after_line (reading names.old statements.old) line.now
+        ≡ Some (reading names.new statements.new))
         (after_line (reading names.old statements.old) line.now ≡ None)) }
 {
     if is_blank(line) {

@@ -16,7 +16,8 @@ use std::alloc::Global;
 pub fn read_program(alloc: Global, text: &[u8]) -> Result<LineProgram, LineError>
     requires { length text.now ≤ 4194304 }
     ensures program { IfOk result (λ program. program_of text.now ≡ Ok program) }
-    ensures refused { (line : ℕ) → result ≡ Err (LineError.Refused line) → program_of text.now ≡ Err line }
+    ensures refused { (line : ℕ)
+        → result ≡ Err (LineError.Refused line) → program_of text.now ≡ Err line }
     ensures well_formed { IfOk result IsWellFormed }
 {
     let mut names = Names::new(alloc);
@@ -36,5 +37,6 @@ pub fn read_program(alloc: Global, text: &[u8]) -> Result<LineProgram, LineError
 
 /// The law of the line form: each statement can run once those before it have, and each cell is assigned.
 pub fn line_program_law()
-    ensures { (text : List ℕ) (program : LineProgram) → length text ≤ 4194304 → program_of text ≡ Ok program → IsWellFormed program }
+    ensures { (text : List ℕ) (program : LineProgram)
+        → length text ≤ 4194304 → program_of text ≡ Ok program → IsWellFormed program }
 {}

@@ -91,7 +91,9 @@ fn run_length(text: &[u8]) -> usize
 
 /// The first word of a text, and the text after it.
 pub(super) fn next_word(text: &[u8]) -> Option<(&[u8], &[u8])>
-    ensures { MatchOption result (words text.now ≡ []) (λ p. words text.now ≡ p.0.now ∷ words p.1.now) }
+    ensures { MatchOption result
+        (words text.now ≡ [])
+        (λ p. words text.now ≡ p.0.now ∷ words p.1.now) }
 {
     let rest = after_spaces(text);
     if rest.is_empty() {
