@@ -1,10 +1,10 @@
 -- A turn that the machine can do is cut by an outer cause only.
-use Rattle.std.proofs.Common.{◌≡◌, ◌≢◌, ◌⊎◌, inl, inr, ℕ, ◌<◌, ◌+◌, Bool, true, false, List, [], ◌∷◌, ◌++◌, length, Option, Some, None, slice_get, is_some, IsSome, refl, sym, ◌∙◌, ap, subst, arith, append_assoc, append-nil, length-append}
+use Rattle.std.proofs.Common.{◌≡◌, inl, inr, ℕ, ◌<◌, true, false, List, [], ◌∷◌, ◌++◌, length, Option, Some, None, slice_get, is_some, IsSome, sym, ◌∙◌, ap, subst, arith, append_assoc, append-nil, length-append}
 use Rattle.py_data.specs.Collection.{places}
 use Rattle.py_data.specs.Heap.{Rec, Heap}
-use Rattle.py_data.specs.Row.{Row, Do, Reply, Make}
+use Rattle.py_data.specs.Row.{Row, Do, Make}
 use Rattle.py_data.specs.Sense.{Run}
-use Rattle.py_data.specs.Sight.{Sight, Does, opened, pure}
+use Rattle.py_data.specs.Sight.{Sight, Does, opened}
 use Rattle.py_data.specs.Laws.{IsTold}
 use Rattle.py_data.proofs.Same.{does_made, does_along, upto_along}
 use Rattle.lock_run.specs.declared.client.Outcome.{Outcome}

@@ -1,11 +1,9 @@
 -- The names decide what steps, turns and runs do, where the source tells its bytes.
-use Rattle.std.proofs.Common.{◌≡◌, ◌⊎◌, inl, inr, ℕ, zero, suc, ◌≤◌, ◌<◌, Bool, true, false, List, [], ◌∷◌, ◌++◌, Option, Some, None, leb, slice_get, IsSome, refl, sym, ◌∙◌, ap, subst, arith, append_assoc, append-nil}
+use Rattle.std.proofs.Common.{◌≡◌, inl, inr, ℕ, zero, suc, ◌<◌, true, false, List, [], ◌∷◌, ◌++◌, Option, Some, None, leb, slice_get, IsSome, refl, sym, ◌∙◌, ap, subst, arith, append_assoc, append-nil}
 use Rattle.std.proofs.lemmas.Bool.{cases_Bool, leb-true, leb-false}
-use Rattle.py_data.specs.Collection.{places}
 use Rattle.py_data.specs.Sight.{Sight, Does, opened}
 use Rattle.py_data.specs.Laws.{IsTold}
 use Rattle.py_data.proofs.Same.{does_made, does_told, does_along}
-use Rattle.lock_run.specs.declared.client.Outcome.{Outcome}
 use Rattle.lock_run.specs.declared.turn.Turn.{Turn}
 use Rattle.lock_run.specs.Prog.{Prog}
 use Rattle.lock_run.specs.Machine.{Machine, Step, Steps, DoesTurn, Runs, machine_after}

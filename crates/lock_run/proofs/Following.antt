@@ -1,5 +1,5 @@
 -- What a plain view does is what the machine does.
-use Rattle.std.proofs.Common.{◌≡◌, ◌≢◌, ◌⊎◌, inl, inr, ℕ, zero, suc, ◌+◌, ◌≤◌, ◌<◌, ◌^◌, ◌-◌, min, List, [], ◌∷◌, ◌++◌, Bool, true, false, Option, Some, None, Result, Ok, Err, length, take, drop, slice_get, slice_set, refl, sym, ◌∙◌, ap, subst, arith, append-nil, append_assoc}
+use Rattle.std.proofs.Common.{◌≡◌, inl, inr, ℕ, ◌≤◌, List, [], ◌∷◌, ◌++◌, Bool, true, false, Option, Some, None, length, refl, sym, ◌∙◌, ap, subst, arith, append_assoc}
 use Rattle.py_data.specs.declared.stop.Stop.{Stop}
 use Rattle.py_data.specs.declared.stop.Out.TheVariants.{Output, ErrorOutput}
 use Rattle.py_data.specs.Heap.{Heap, Rec, put_at, with_value, with_push, cut_to, with_pair, without_pair}
@@ -7,9 +7,8 @@ use Rattle.py_data.specs.Shape.{find}
 use Rattle.py_data.specs.Row.{Call, Reply, Row, Ret, Do, Read, Find, SetVal, Push, Truncate, PushPair, DropPair, Make, Start, Put, Take, MidLine, SetMidLine}
 use Rattle.py_data.specs.Sense.{Sense, Bracket, Run, Upto}
 use Rattle.py_data.specs.Sight.{Sight, Act, Does, Edited, Fits, looked_at, edited, made_new, started_one, in_world, pure}
-use Rattle.py_data.specs.World.{World, IsLine, wrote, took, shrunk, grown}
-use Rattle.py_data.proofs.Whole.{Follows, run_follows, upto_follows, run_steps, upto_steps}
-use Rattle.stm_io.specs.Outside.{Rose}
+use Rattle.py_data.specs.World.{IsLine, wrote, took, shrunk, grown}
+use Rattle.py_data.proofs.Whole.{run_follows, upto_follows, run_steps, upto_steps}
 use Rattle.lock_run.specs.PlainState.{PlainState, PlainDoes, PlainRefuses, PlainOpens, PlainUndoes, Changes, Named}
 
 -- a view that is a plain view as far as its state tells

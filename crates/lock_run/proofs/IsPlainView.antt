@@ -1,8 +1,5 @@
 -- A plain view is plain.
-use Rattle.std.proofs.Common.{◌≡◌, ℕ, List, Option}
-use Rattle.lock_run.specs.declared.plain.PlainView.{PlainView}
 use Rattle.stm_io.specs.Outside.{SourceState, SinkState}
-use Rattle.lock_run.specs.PlainState.{PlainState}
 use Rattle.lock_run.specs.PlainSense.{plain_state, plain_sense, plain_bracket}
 use Rattle.lock_run.proofs.Following.{IsPlain}
 

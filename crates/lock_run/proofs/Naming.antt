@@ -1,5 +1,5 @@
 -- The names that are left.
-use Rattle.std.proofs.Common.{◌≡◌, ℕ, ◌+◌, ◌*◌, ◌≤◌, ◌<◌, zero, suc, Bool, true, false, List, [], ◌∷◌, Option, Some, None, drop, slice_get, is_some, refl, sym, ap, subst, ◌∙◌, arith, IfSome, add-one, length}
+use Rattle.std.proofs.Common.{◌≡◌, ℕ, ◌+◌, ◌*◌, ◌≤◌, ◌<◌, zero, suc, Bool, true, false, List, [], ◌∷◌, Option, Some, None, drop, slice_get, is_some, refl, sym, ap, subst, ◌∙◌, arith, IfSome, add-one}
 use Rattle.py_data.specs.declared.value.Addr.{Addr}
 use Rattle.py_data.specs.Collection.{places}
 use Rattle.py_data.specs.Heap.{Heap}

@@ -1,5 +1,5 @@
 -- Whether a thread can go on.
-use Rattle.std.proofs.Common.{◌≡◌, Bool, true, false, not, Option, Some, None, IfSome, refl, sym, ap, subst}
+use Rattle.std.proofs.Common.{◌≡◌, Bool, true, false, not, Option, Some, IfSome, refl, sym, subst}
 use Rattle.py_data.specs.Heap.{Heap}
 use Rattle.lock_run.specs.declared.client.Life.TheVariants.{Lives}
 use Rattle.lock_run.specs.Prog.{Prog}

@@ -1,14 +1,13 @@
 -- One step of a turn.
-use Rattle.std.proofs.Common.{◌≡◌, ◌≢◌, ◌⊎◌, inl, inr, ℕ, zero, suc, ◌+◌, ◌≤◌, ◌<◌, ◌^◌, min, List, [], ◌∷◌, ◌++◌, Bool, true, false, Option, Some, None, length, take, drop, slice_get, slice_set, refl, sym, ◌∙◌, ap, subst, arith, append-nil, append_assoc}
+use Rattle.std.proofs.Common.{◌≡◌, ◌≢◌, ◌⊎◌, inl, inr, ℕ, zero, suc, ◌≤◌, List, [], ◌∷◌, ◌++◌, Bool, true, false, Option, Some, None, take, slice_get, slice_set, refl, sym, ◌∙◌, ap, subst, arith, append-nil, append_assoc}
 use Rattle.py_data.specs.declared.stop.Stop.{Stop}
-use Rattle.py_data.specs.declared.stop.Stop.TheVariants.{Lost, NeedSolo, NeedHeap, Full, ReadFault as ReadStop, WriteFault as WriteStop, ErrFault as ErrStop, OutOfMemory as MemoryStop}
+use Rattle.py_data.specs.declared.stop.Stop.TheVariants.{ReadFault as ReadStop, WriteFault as WriteStop, ErrFault as ErrStop, OutOfMemory as MemoryStop}
 use Rattle.py_data.specs.declared.stop.Out.TheVariants.{Output, ErrorOutput}
-use Rattle.py_data.specs.Heap.{Heap, Rec}
+use Rattle.py_data.specs.Heap.{Heap}
 use Rattle.py_data.specs.Row.{Call, Reply, Row, Ret, Do, Read, Find, SetVal, Push, Truncate, PushPair, DropPair, Make, Start, Put, Take, MidLine, SetMidLine}
-use Rattle.py_data.specs.Sense.{Sense, Bracket, Run, Stopped, Upto}
+use Rattle.py_data.specs.Sense.{Sense, Bracket, Upto}
 use Rattle.py_data.specs.Sight.{Sight, Does, opened, pure}
 use Rattle.py_data.specs.World.{World, shrunk, grown}
-use Rattle.py_data.specs.Frames.{Afresh}
 use Rattle.py_data.proofs.Mirror.{does_afresh}
 use Rattle.py_data.proofs.Whole.{stopped_at}
 use Rattle.stm_io.specs.Outside.{Rose}
@@ -16,14 +15,14 @@ use Rattle.lock_run.specs.declared.client.Outcome.{Outcome}
 use Rattle.lock_run.specs.declared.client.Outcome.TheVariants.{Waits as WaitsNow}
 use Rattle.lock_run.specs.declared.client.Life.TheVariants.{Lives}
 use Rattle.lock_run.specs.declared.turn.TurnWhy.{TurnWhy}
-use Rattle.lock_run.specs.declared.turn.TurnWhy.TheVariants.{NotThere, Ended, Waits, BadNames, ReadFault, WriteFault, ErrFault, OutOfMemory}
+use Rattle.lock_run.specs.declared.turn.TurnWhy.TheVariants.{Waits, OutOfMemory}
 use Rattle.lock_run.specs.Whys.{why_of_stop, memory_why}
 use Rattle.lock_run.specs.Prog.{Prog}
 use Rattle.lock_run.specs.Client.{Stepped, StepStopped, StaysSound, WaitsQuietly}
-use Rattle.lock_run.specs.PlainState.{PlainState, PlainRefuses, PlainOpens, PlainUndoes, NoName, Why, Steady}
-use Rattle.lock_run.specs.Machine.{Machine, Step, Steps}
-use Rattle.lock_run.specs.Turns.{NoneFall, Calls, Front, CutIn, LeavesNothing, CutWhy, Begins, CutTold, Going}
-use Rattle.lock_run.proofs.Following.{IsPlain, Shows, grown_then, Keeps, keeps_trans, run_shown, upto_shown, run_keeps, upto_keeps, run_upto, upto_none}
+use Rattle.lock_run.specs.PlainState.{PlainState, PlainRefuses, PlainOpens, PlainUndoes, NoName}
+use Rattle.lock_run.specs.Machine.{Machine, Step}
+use Rattle.lock_run.specs.Turns.{NoneFall, Calls, Front, CutIn, LeavesNothing, Begins, CutTold, Going}
+use Rattle.lock_run.proofs.Following.{IsPlain, Shows, grown_then, Keeps, run_shown, upto_shown, run_keeps, upto_keeps, run_upto, upto_none}
 
 -- lists of threads
 pub get_set : {A : Type 0} (xs ys : List A) (t : ℕ) (x y : A) → slice_get xs t ≡ Some x → slice_get (slice_set xs t y ++ ys) t ≡ Some y

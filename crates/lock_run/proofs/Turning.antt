@@ -1,10 +1,9 @@
 -- A whole turn.
-use Rattle.std.proofs.Common.{◌≡◌, ◌≢◌, ◌⊎◌, inl, inr, ℕ, zero, suc, ◌≤◌, ◌<◌, List, [], ◌∷◌, ◌++◌, Bool, true, false, Option, Some, None, length, slice_get, slice_set, refl, sym, ◌∙◌, ap, subst, arith, append-nil, Result, Ok, Err, IfErr}
-use Rattle.std.specs.Result.{IsErrAnd}
+use Rattle.std.proofs.Common.{◌≡◌, ◌≢◌, ◌⊎◌, inl, inr, ℕ, zero, suc, ◌≤◌, ◌<◌, List, [], ◌∷◌, ◌++◌, Bool, true, false, Option, Some, None, length, slice_get, slice_set, refl, sym, ◌∙◌, ap, subst, arith, append-nil}
 use Rattle.py_data.specs.Collection.{places}
 use Rattle.py_data.specs.Sight.{Sight, Does, opened}
 use Rattle.stm_io.specs.Outside.{Rose}
-use Rattle.py_data.specs.World.{World, grown, shrunk}
+use Rattle.py_data.specs.World.{grown, shrunk}
 use Rattle.py_data.proofs.Mirror.{does_afresh}
 use Rattle.lock_run.specs.declared.client.Outcome.TheVariants.{Waits as WaitsNow}
 use Rattle.lock_run.specs.declared.client.Life.TheVariants.{Lives}

@@ -1,6 +1,6 @@
 -- What a change makes of a record, and when it may be made; and records within the limit of length. States `docs/HEAP.md`,
 -- "Records" and "The plain view".
-use Rattle.std.specs.Prelude.{◌≡◌, ℕ, ◌+◌, ◌*◌, ◌<◌, ◌≤◌, length, Some, List}
+use Rattle.std.specs.Prelude.{◌≡◌, ℕ, ◌+◌, ◌*◌, ◌<◌, ◌≤◌, length, Some}
 use Rattle.py_data.specs.declared.record.TheConstants.{LENGTH_LIMIT}
 use Rattle.py_data.specs.Heap.{Heap, Rec, put_at, with_value, with_push, cut_to, with_pair, without_pair}
 use Rattle.lock_run.specs.declared.change.Change.{Change}

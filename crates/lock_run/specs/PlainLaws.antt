@@ -1,16 +1,16 @@
 -- A plain view keeps the laws of views: the proofs that `impl View for PlainView` cites. States `docs/HEAP.md`, "Views".
-use Rattle.std.specs.Prelude.{◌≡◌, ℕ, List, Option, Some, None, Bool, true, false}
+use Rattle.std.specs.Prelude.{◌≡◌, ℕ, true}
 use Rattle.std.proofs.Common.{ap, refl, ◌∙◌, sym, subst, IsSome}
 use Rattle.py_data.specs.declared.stop.Stop.{Stop}
-use Rattle.py_data.specs.declared.stop.Stop.TheVariants.{Lost, NeedSolo, NeedHeap, Full, ReadFault, WriteFault, ErrFault, OutOfMemory}
+use Rattle.py_data.specs.declared.stop.Stop.TheVariants.{ReadFault, WriteFault, ErrFault, OutOfMemory}
 use Rattle.py_data.specs.declared.stop.Out.TheVariants.{Output, ErrorOutput}
-use Rattle.py_data.specs.Heap.{Heap, Rec, at, put_at, Has, with_value, with_push, cut_to, with_pair, without_pair}
+use Rattle.py_data.specs.Heap.{Rec, put_at, with_value, with_push, cut_to, with_pair, without_pair}
 use Rattle.py_data.specs.Shape.{find}
 use Rattle.py_data.specs.Row.{Call, Read, Find, SetVal, Push, Truncate, PushPair, DropPair, Make, Start, Put, Take, MidLine, SetMidLine, Reply}
-use Rattle.py_data.specs.Sense.{Sense, Bracket, Lawful, IsBracket, Effect, Edits, can_refuse, touches}
+use Rattle.py_data.specs.Sense.{Lawful, IsBracket, Effect, Edits, can_refuse}
 use Rattle.py_data.proofs.Steps.{at-is}
 use Rattle.stm_io.specs.Outside.{SourceState, SinkState}
-use Rattle.lock_run.specs.PlainState.{PlainState, PlainDoes, PlainRefuses, PlainOpens, PlainUndoes, Still, Changes, Why}
+use Rattle.lock_run.specs.PlainState.{PlainState, PlainDoes, Changes, Why}
 use Rattle.lock_run.specs.PlainSense.{plain_sense, plain_bracket, plain_stops}
 
 -- a change of a record is one of the heap

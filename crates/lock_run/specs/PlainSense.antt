@@ -1,5 +1,5 @@
 -- The state of a plain view, and what the view says of itself as a view. States `docs/HEAP.md`, "The plain view" and "Views".
-use Rattle.std.specs.Prelude.{◌≡◌, ℕ, List, Option, None, drop, take, Bool, true, false}
+use Rattle.std.specs.Prelude.{◌≡◌, None, drop, Bool, true, false}
 use Rattle.py_data.specs.declared.stop.Stop.{Stop}
 use Rattle.py_data.specs.declared.stop.Stop.TheVariants.{ReadFault, WriteFault, ErrFault, OutOfMemory}
 use Rattle.py_data.specs.Sense.{Sense, Bracket}

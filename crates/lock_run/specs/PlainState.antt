@@ -1,11 +1,9 @@
 -- What a plain view holds, as values, and what each of its calls does to it. States `docs/HEAP.md`, "The plain view".
-use Rattle.std.specs.Prelude.{◌≡◌, ◌⊎◌, ℕ, ◌+◌, ◌≤◌, ◌<◌, List, [], ◌∷◌, ◌++◌, Option, Some, None, Bool, true, false, length, take, drop, is_some, IsSome}
-use Rattle.py_data.specs.declared.value.Value.{Value}
-use Rattle.py_data.specs.declared.value.Kind.TheVariants.{Dict}
+use Rattle.std.specs.Prelude.{◌≡◌, ◌⊎◌, ℕ, ◌≤◌, List, [], ◌∷◌, ◌++◌, Option, Some, None, Bool, true, false, length, take, is_some}
 use Rattle.py_data.specs.declared.stop.Out.TheVariants.{Output, ErrorOutput}
 use Rattle.py_data.specs.declared.stop.Stop.{Stop}
 use Rattle.py_data.specs.declared.stop.Stop.TheVariants.{ReadFault, WriteFault, ErrFault, OutOfMemory}
-use Rattle.py_data.specs.Heap.{Heap, Rec, put_at, is_tracked, with_value, with_push, cut_to, with_pair, without_pair}
+use Rattle.py_data.specs.Heap.{Heap, Rec, put_at, with_value, with_push, cut_to, with_pair, without_pair}
 use Rattle.py_data.specs.Shape.{find}
 use Rattle.py_data.specs.Row.{Call, Read, Find, SetVal, Push, Truncate, PushPair, DropPair, Make, Start, Put, Take, MidLine, SetMidLine, Reply}
 use Rattle.py_data.specs.Sight.{Fits, CanSet, CanPush, CanPair}

@@ -1,12 +1,12 @@
 -- What a turn of a LockRun does: a turn of the machine, or why it was cut and what stays. States `docs/HEAP.md`, "Turns and
 -- runs".
-use Rattle.std.specs.Prelude.{◌≡◌, ◌≢◌, ◌⊎◌, ℕ, ◌≤◌, ◌<◌, List, [], ◌∷◌, ◌++◌, Option, Some, None, take, slice_get, slice_set, Bool, true, false, suc}
+use Rattle.std.specs.Prelude.{◌≡◌, ◌≢◌, ◌⊎◌, ℕ, ◌≤◌, ◌<◌, List, [], ◌∷◌, ◌++◌, Option, Some, None, take, slice_get, slice_set, false, suc}
 use Rattle.py_data.specs.declared.stop.Out.{Out}
 use Rattle.py_data.specs.declared.stop.Out.TheVariants.{Output, ErrorOutput}
-use Rattle.py_data.specs.Row.{Row, Ret, Do, Call, Reply, Make, Put, Take}
+use Rattle.py_data.specs.Row.{Row, Do, Call, Reply, Make, Put, Take}
 use Rattle.py_data.specs.Sense.{Upto}
 use Rattle.py_data.specs.Sight.{Sight, Does, opened, pure}
-use Rattle.py_data.specs.World.{World, shrunk, grown}
+use Rattle.py_data.specs.World.{shrunk, grown}
 use Rattle.py_data.specs.Collection.{places}
 use Rattle.py_data.specs.Heap.{Rec}
 use Rattle.stm_io.specs.Outside.{Rose}
@@ -19,7 +19,7 @@ use Rattle.lock_run.specs.declared.turn.Turn.{Turn}
 use Rattle.lock_run.specs.Prog.{Prog}
 use Rattle.lock_run.specs.Client.{Unchanged}
 use Rattle.lock_run.specs.PlainState.{PlainState, NoName}
-use Rattle.lock_run.specs.Machine.{Machine, Steps, DoesTurn, machine_after}
+use Rattle.lock_run.specs.Machine.{Machine, Steps, DoesTurn}
 
 -- what a one-lock machine holds: its view, and the states of its threads in the order of their numbers
 pub record LockState (S : Type 0) : Type 0 where

@@ -1,12 +1,11 @@
 -- A row that doesn't use the world, over another world.
-use Rattle.std.proofs.Common.{◌≡◌, true, false, refl, sym, ◌∙◌, ap}
+use Rattle.std.proofs.Common.{◌≡◌, true, false, refl, ◌∙◌, ap}
 use Rattle.std.proofs.lemmas.Bool.{both_ways}
 use Rattle.py_data.specs.Heap.{Heap}
 use Rattle.py_data.specs.Row.{Call, Reply, Row, Ret, Do, Read, Find, SetVal, Push, Truncate, PushPair, DropPair, Make, Start, Put, Take, MidLine, SetMidLine}
 use Rattle.py_data.specs.Sense.{Run}
 use Rattle.py_data.specs.Sight.{Sight, Act, Does, opened}
 use Rattle.py_data.specs.World.{World}
-use Rattle.py_data.specs.Frames.{Grows}
 use Rattle.py_data.proofs.Grow.{back, does_grows}
 
 -- the same sight, but for its world

@@ -1,12 +1,12 @@
 -- Whatever the row, a sight only grows.
-use Rattle.std.proofs.Common.{◌≡◌, ◌≢◌, ◌⊎◌, ℕ, zero, suc, ◌+◌, ◌*◌, ◌≤◌, ◌==◌, Bool, true, false, cond, ◌||◌, ◌&&◌, eqb, List, [], ◌∷◌, ◌++◌, length, take, drop, Option, Some, None, refl, sym, ◌∙◌, ap, subst, inl, inr, arith}
+use Rattle.std.proofs.Common.{◌≡◌, ℕ, ◌*◌, ◌≤◌, ◌==◌, Bool, true, false, cond, ◌||◌, ◌&&◌, eqb, List, [], ◌∷◌, ◌++◌, length, Some, None, refl, sym, ◌∙◌, ap, subst, inl, inr, arith}
 use Rattle.std.proofs.lemmas.Bool.{cases_Bool, both_ways, or_cases, or_parts, or_right, or_left, eqb-true, eq-eqb, cond-true, cond-false}
 use Rattle.std.proofs.lemmas.Bool.Decides.{nat_tests}
 use Rattle.py_data.specs.declared.value.Value.{Value}
-use Rattle.py_data.specs.Heap.{Heap, Marks, Rec, put_at, is_tracked, with_value, with_push, cut_to, with_pair, without_pair}
+use Rattle.py_data.specs.Heap.{Heap, Rec, put_at, is_tracked, with_value, with_push, cut_to, with_pair, without_pair}
 use Rattle.py_data.specs.Row.{Call, Reply, Row, Ret, Do, Read, Find, SetVal, Push, Truncate, PushPair, DropPair, Make, Start, Put, Take, MidLine, SetMidLine}
 use Rattle.py_data.specs.Sense.{Run}
-use Rattle.py_data.specs.Sight.{Sight, Act, Does, Edited, with_mark, looked_at, edited, made_new, started_one, in_world, mem, pure}
+use Rattle.py_data.specs.Sight.{Sight, Act, Does, Edited, looked_at, edited, made_new, started_one, in_world, mem}
 use Rattle.py_data.specs.World.{World, wrote, took}
 use Rattle.py_data.specs.Frames.{KeptAs, Grows}
 

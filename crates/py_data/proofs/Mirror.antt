@@ -1,18 +1,18 @@
 -- The frame law, for all rows: the same row over another heap and world that agree on what it looks at.
-use Rattle.std.proofs.Common.{◌≡◌, ◌≢◌, ◌⊎◌, ℕ, zero, suc, ◌+◌, Bool, true, false, cond, ◌||◌, ◌&&◌, eqb, List, [], ◌∷◌, ◌++◌, length, take, drop, Option, Some, None, refl, sym, ◌∙◌, ap, subst, inl, inr, append_assoc, append-nil}
-use Rattle.std.proofs.lemmas.Bool.{cases_Bool, both_ways, or_cases, or_parts, or_right, or_left, eqb-true, eq-eqb, cond-true, cond-false, and_from}
+use Rattle.std.proofs.Common.{◌≡◌, ℕ, ◌+◌, Bool, true, false, cond, ◌||◌, ◌&&◌, eqb, List, [], ◌∷◌, ◌++◌, Option, Some, None, refl, sym, ◌∙◌, ap, subst, inl, inr, append_assoc, append-nil}
+use Rattle.std.proofs.lemmas.Bool.{cases_Bool, both_ways, or_cases, or_parts, or_right, or_left, eq-eqb, cond-true, and_from}
 use Rattle.py_data.specs.declared.value.Value.{Value}
 use Rattle.py_data.specs.declared.value.Value.TheVariants.{Unset, None as NoneValue, Bool as BoolValue, Int, Ref, Builtin}
 use Rattle.py_data.specs.declared.value.Kind.{Kind}
 use Rattle.py_data.specs.declared.value.Kind.TheVariants.{Str, Tuple, List as ListKind, Dict, Cell, Function, Class, Instance, Method, Iter, Range, Lock, Thread}
 use Rattle.py_data.specs.Heap.{Heap, Marks, Rec, put_at, is_tracked, with_value, with_push, cut_to, with_pair, without_pair}
-use Rattle.py_data.specs.Shape.{is_key_kind, KindIn, IsKey, ArePairs, text_in, same_text, same_key, find, find_from}
+use Rattle.py_data.specs.Shape.{is_key_kind, KindIn, IsKey, ArePairs, text_in, same_text, same_key, find_from}
 use Rattle.py_data.specs.Row.{Call, Reply, Row, Ret, Do, Read, Find, SetVal, Push, Truncate, PushPair, DropPair, Make, Start, Put, Take, MidLine, SetMidLine}
 use Rattle.py_data.specs.Sense.{Run}
-use Rattle.py_data.specs.Sight.{Sight, Act, Does, Edited, Fits, with_mark, looked_at, edited, made_new, started_one, in_world, mem, no_marks, opened, pure}
+use Rattle.py_data.specs.Sight.{Sight, Act, Does, Edited, with_mark, looked_at, edited, made_new, started_one, in_world, mem, no_marks, opened}
 use Rattle.py_data.specs.World.{World, IsLine, wrote, took}
-use Rattle.py_data.specs.Frames.{KeptAs, Grows, Frame, Mirrors, Agrees, plain, AgreesOn, SameStep, Afresh}
-use Rattle.py_data.proofs.Grow.{with_rec_here, with_rec_there, back, grows_refl, grows_trans, grows_look, grows_edit, grows_make, grows_start, grows_world, kept_value, kept_push, kept_cut, kept_pair, kept_without, act_grows, does_grows}
+use Rattle.py_data.specs.Frames.{Grows, Frame, Mirrors, Agrees, plain, AgreesOn, SameStep, Afresh}
+use Rattle.py_data.proofs.Grow.{with_rec_there, back, grows_refl, act_grows, does_grows}
 
 -- on a part of the way
 pub agrees_part : {S : Type 0} (base : Heap) (w : World) (s s1 t1 t : Sight S) → Grows s s1 → Grows t1 t → Agrees base w s t → Agrees base w s1 t1

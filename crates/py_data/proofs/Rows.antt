@@ -1,11 +1,10 @@
 -- How the parts of a row's meaning are put together.
-use Rattle.std.proofs.Common.{◌≡◌, ◌||◌, ℕ, ◌+◌, ◌<◌, ◌≤◌, Bool, true, false, cond, List, [], ◌∷◌, length, Option, Some, None, Result, Ok, Err, MatchOption, MatchResult, ◌⊎◌, inl, inr, refl, sym, ap, subst, ◌∙◌, arith, IsSome, unwrap_or}
-use Rattle.std.specs.Result.{IsErrAnd}
+use Rattle.std.proofs.Common.{◌≡◌, ℕ, Bool, Option, Some, Result, Ok, Err, MatchResult, inl, inr, refl, sym, ap, subst, unwrap_or}
 use Rattle.py_data.specs.declared.stop.Stop.{Stop}
 use Rattle.py_data.specs.declared.stop.Stop.TheVariants.{OutOfMemory}
-use Rattle.py_data.specs.Heap.{Heap, Rec, Has, at, blank, put_at}
+use Rattle.py_data.specs.Heap.{Heap, Rec, at, blank}
 use Rattle.py_data.specs.Row.{Call, Reply, Row, Ret, Do, Read, bind}
-use Rattle.py_data.specs.Sense.{Sense, Lawful, Effect, Asks, IfThere, Safe, Run, Stopped, Meets, IsLive}
+use Rattle.py_data.specs.Sense.{Sense, Lawful, Asks, Safe, Run, Stopped, Meets}
 
 module _ {S X : Type 0} (u : Sense S X) where
   module _ {A : Type 0} where

@@ -1,14 +1,14 @@
 -- The names decide what a row does, where the source tells its bytes.
-use Rattle.std.proofs.Common.{◌≡◌, ◌⊎◌, inl, inr, ℕ, Bool, true, false, List, [], ◌∷◌, ◌++◌, length, drop, Option, Some, None, refl, sym, ◌∙◌, ap, subst, append_assoc, append-nil}
+use Rattle.std.proofs.Common.{◌≡◌, inl, inr, ℕ, List, [], ◌∷◌, ◌++◌, length, drop, Option, Some, None, refl, sym, ◌∙◌, ap, subst, append_assoc, append-nil}
 use Rattle.py_data.specs.Heap.{Rec, with_value, with_push, cut_to, with_pair, without_pair}
 use Rattle.py_data.specs.Row.{Call, Reply, Row, Ret, Do, Read, Find, SetVal, Push, Truncate, PushPair, DropPair, Make, Start, Put, Take, MidLine, SetMidLine}
 use Rattle.py_data.specs.Shape.{find}
 use Rattle.py_data.specs.Sense.{Run, Upto}
 use Rattle.py_data.specs.declared.stop.Out.TheVariants.{Output, ErrorOutput}
-use Rattle.py_data.specs.Sight.{Sight, Act, Does, Edited, looked_at, edited, made_new, started_one, in_world, pure}
+use Rattle.py_data.specs.Sight.{Sight, Act, Does, Edited, looked_at, edited, made_new, in_world, pure}
 use Rattle.py_data.specs.Laws.{IsTold}
 use Rattle.py_data.proofs.Whole.{run_steps, upto_steps}
-use Rattle.py_data.specs.World.{World, IsLine, line_of, shrunk, wrote, took}
+use Rattle.py_data.specs.World.{IsLine, shrunk, took}
 
 -- the names that a call takes
 abbrev pub names_of : {S : Type 0} (c : Call S) → Reply c → List ℕ

@@ -1,12 +1,12 @@
 -- One call of a row after another: what is left of the row, and how a Stop ends it.
-use Rattle.std.proofs.Common.{◌≡◌, ℕ, ◌+◌, ◌<◌, ◌≤◌, Bool, true, false, cond, eqb, List, [], ◌∷◌, length, Option, Some, None, Result, Ok, Err, MatchOption, ◌⊎◌, inl, inr, refl, sym, ap, subst, ◌∙◌, IsSome, unwrap_or, arith}
+use Rattle.std.proofs.Common.{◌≡◌, ℕ, Bool, true, eqb, Some, Result, Ok, Err, MatchOption, refl, sym, ap, subst, ◌∙◌, unwrap_or}
 use Rattle.std.proofs.lemmas.Bool.{eq-eqb, cond-true}
 use Rattle.std.specs.Result.{IsErrAnd}
 use Rattle.py_data.specs.declared.stop.Stop.{Stop}
 use Rattle.py_data.specs.declared.stop.Stop.TheVariants.{OutOfMemory}
-use Rattle.py_data.specs.Heap.{Heap, Rec, Has, at, blank, put_at}
+use Rattle.py_data.specs.Heap.{Heap, Rec, at, blank, put_at}
 use Rattle.py_data.specs.Row.{Call, Reply, Row, Ret, Do, Read, bind}
-use Rattle.py_data.specs.Sense.{Sense, Lawful, Effect, Edits, Asks, Safe, Run, Stopped, Meets, IsLive, touches}
+use Rattle.py_data.specs.Sense.{Sense, Lawful, Edits, Asks, Safe, Run, Meets, IsLive, touches}
 use Rattle.py_data.specs.Rest.{Leads, Stands}
 use Rattle.py_data.proofs.Rows.{run-bind, stop-first, stop-then, meets-ret, meets-own, meets-refused, meets-do, safe-asks, safe-next}
 

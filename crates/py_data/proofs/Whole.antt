@@ -1,8 +1,7 @@
 -- From calls to rows: what holds of each call holds of a row, and a row over one view is one over another that shows the same.
-use Rattle.std.proofs.Common.{◌≡◌, ◌⊎◌, ℕ, List, Option, Some, None, refl, sym, ap, subst, ◌∙◌, inl, inr}
+use Rattle.std.proofs.Common.{refl, sym, subst, inl, inr}
 use Rattle.py_data.specs.declared.stop.Stop.{Stop}
-use Rattle.py_data.specs.declared.stop.Stop.TheVariants.{OutOfMemory}
-use Rattle.py_data.specs.Row.{Call, Reply, Row, Ret, Do, bind}
+use Rattle.py_data.specs.Row.{Call, Reply, Row, Ret, Do}
 use Rattle.py_data.specs.Sense.{Sense, Run, Stopped, Upto}
 use Rattle.py_data.specs.Laws.{StoppedAt}
 

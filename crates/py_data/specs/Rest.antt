@@ -1,7 +1,7 @@
 -- What is left of a row in the middle of it: for proofs of operations that go through a row call by call. States
 -- `docs/HEAP.md`, "Rows".
 use Rattle.std.specs.Prelude.{◌≡◌, ℕ, Result, Some}
-use Rattle.py_data.specs.Heap.{Rec, Has, at}
+use Rattle.py_data.specs.Heap.{Rec}
 use Rattle.py_data.specs.declared.stop.Stop.{Stop}
 use Rattle.py_data.specs.Row.{Row}
 use Rattle.py_data.specs.Sense.{Sense, Meets, Safe, IsLive}

@@ -1,6 +1,6 @@
 -- What a row means by itself: over a heap and a world, with the bookkeeping of what it looks at, changes, makes and starts.
 -- States `docs/HEAP.md`, "Rows".
-use Rattle.std.specs.Prelude.{◌≡◌, ◌≢◌, ◌⊎◌, ℕ, ◌≤◌, ◌<◌, Bool, true, false, cond, ◌||◌, ◌&&◌, eqb, List, [], ◌∷◌, ◌++◌, length, take, drop, Option, Some, None}
+use Rattle.std.specs.Prelude.{◌≡◌, ℕ, ◌<◌, Bool, true, false, ◌||◌, ◌&&◌, eqb, List, [], ◌∷◌, ◌++◌, length, Some, None}
 use Rattle.py_data.specs.declared.value.Value.{Value}
 use Rattle.py_data.specs.declared.value.Kind.TheVariants.{Dict, List as ListKind}
 use Rattle.py_data.specs.Heap.{Heap, Marks, Rec, put_at, is_tracked, with_value, with_push, cut_to, with_pair, without_pair}

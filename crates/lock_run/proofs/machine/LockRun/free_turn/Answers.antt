@@ -1,11 +1,11 @@
-use Rattle.std.proofs.Common.{◌≡◌, ◌∙◌, ap, arith, refl, sym, true, []}
+use Rattle.std.proofs.Common.{◌∙◌, ap, arith, refl, true, []}
 use Rattle.lock_run.specs.declared.machine.LockRun.{LockRun}
 use Rattle.lock_run.specs.declared.plain.PlainView.{PlainView}
 use Rattle.lock_run.specs.PlainState.{PlainState}
 use Rattle.lock_run.specs.PlainSense.{plain_state}
 use Rattle.lock_run.specs.LockState.{lock_state}
 use Rattle.lock_run.specs.Turns.{LockState}
-use Rattle.lock_run.proofs.Turning.{Begun, begun_by, free_ends, free_rests, free_cut, free_lacks}
+use Rattle.lock_run.proofs.Turning.{Begun, begun_by, free_ends, free_rests, free_cut}
 use Rattle.lock_run.proofs.machine.LockRun.free_turn.Given as given
 use Rattle.lock_run.proofs.machine.LockRun.free_turn.Goals as goal
 

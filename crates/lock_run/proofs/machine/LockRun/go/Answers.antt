@@ -1,4 +1,4 @@
-use Rattle.std.proofs.Common.{◌≡◌, ℕ, arith, subst, refl, ◌∙◌, suc, ◌+◌}
+use Rattle.std.proofs.Common.{◌≡◌, arith, subst, refl, ◌∙◌, suc, ◌+◌}
 use Rattle.lock_run.specs.declared.machine.LockRun.{LockRun}
 use Rattle.lock_run.specs.LockState.{lock_state}
 use Rattle.lock_run.specs.Turns.{LockState, Reach, StepGoes, StepCut}

@@ -1,4 +1,4 @@
-use Rattle.std.proofs.Common.{refl, ◌∙◌, ap, sym}
+use Rattle.std.proofs.Common.{◌∙◌, ap, sym}
 use Rattle.lock_run.proofs.Stepping.{cut_here, nothing_here, begins_here, state_is}
 use Rattle.lock_run.proofs.machine.LockRun.pick.Goals as goal
 

@@ -1,4 +1,4 @@
-use Rattle.std.proofs.Common.{◌≡◌, ◌∙◌, sym}
+use Rattle.std.proofs.Common.{◌∙◌, sym}
 use Rattle.lock_run.proofs.Ready.{ready_by}
 use Rattle.lock_run.proofs.machine.LockRun.ready.Goals as goal
 

@@ -1,9 +1,8 @@
-use Rattle.std.proofs.Common.{rules, ◌≡◌, ℕ, Option, Some, None, ap, sym, ◌∙◌, subst, slice_get, slice_set, refl, [], ◌++◌, List, suc}
+use Rattle.std.proofs.Common.{◌≡◌, ap, sym, ◌∙◌, subst, slice_set, refl, ◌++◌, suc}
 use Rattle.lock_run.specs.declared.plain.PlainView.{PlainView}
-use Rattle.lock_run.specs.PlainState.{PlainState, PlainUndoes}
+use Rattle.lock_run.specs.PlainState.{PlainState}
 use Rattle.lock_run.specs.PlainSense.{plain_state, plain_sense, plain_bracket}
 use Rattle.lock_run.specs.Whys.{why_of_stop}
-use Rattle.lock_run.specs.Prog.{Prog}
 use Rattle.lock_run.specs.declared.turn.TurnWhy.TheVariants.{OutOfMemory}
 use Rattle.lock_run.specs.Turns.{CutTold, Going}
 use Rattle.lock_run.proofs.Following.{IsPlain}

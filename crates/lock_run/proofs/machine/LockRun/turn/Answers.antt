@@ -1,8 +1,7 @@
-use Rattle.std.proofs.Common.{◌≡◌, ◌∙◌, ap, arith, refl, sym, false, [], subst}
+use Rattle.std.proofs.Common.{◌∙◌, ap, arith, refl, false, []}
 use Rattle.py_data.specs.Collection.{places}
 use Rattle.lock_run.specs.declared.machine.LockRun.{LockRun}
 use Rattle.lock_run.specs.declared.plain.PlainView.{PlainView}
-use Rattle.lock_run.specs.declared.turn.Turn.{Turn}
 use Rattle.lock_run.specs.PlainState.{PlainState}
 use Rattle.lock_run.specs.PlainSense.{plain_state}
 use Rattle.lock_run.specs.LockState.{lock_state}

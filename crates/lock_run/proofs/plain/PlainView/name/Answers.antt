@@ -1,4 +1,4 @@
-use Rattle.std.proofs.Common.{◌≡◌, ◌∙◌, ap, sym, Some, None, slice_get}
+use Rattle.std.proofs.Common.{◌∙◌, ap, sym}
 use Rattle.std.specs.Option.{option_copied}
 use Rattle.lock_run.proofs.Naming.{name_taken, name_missing}
 use Rattle.lock_run.proofs.plain.PlainView.name.Goals as goal
