@@ -1,8 +1,8 @@
 -- What reads and writes in a row do to known bytes.
-use Rattle.std.proofs.Common.{◌≡◌, ℕ, ◌+◌, List, [], ◌++◌, Option, None, Some, refl, sym, ap, ◌∙◌, append_assoc, append-nil, ◌-◌, ◌≤◌, IfSome, length, take, drop}
+use Rattle.std.proofs.Common.{◌≡◌, ℕ, ◌+◌, List, [], ◌++◌, Option, None, Some, refl, sym, ap, ◌∙◌, append_assoc, append-nil, take-append-drop, ◌-◌, ◌≤◌, IfSome, length, take, drop}
 use Rattle.std.proofs.lemmas.List.{take_all, take_rest}
 use Rattle.std.proofs.Math.Seq.{take-add, take-append_seam}
-use Rattle.std.specs.Io.KnownBytes.{Appends, Consumes, IsAtEnd, Keeps}
+use Rattle.std.specs.Io.KnownBytes.{Appends, Consumes, IsAtEnd, Keeps, prepend_known}
 
 pub Appends-nil : (a : Option (List ℕ)) → Appends a a []
 Appends-nil None = tt
@@ -64,3 +64,12 @@ pub Consumes-front : (a b : Option (List ℕ)) (bs : List ℕ) (most : ℕ) → 
 Consumes-front None b bs most p h = tt
 Consumes-front (Some x) None bs most p h = absurd p
 Consumes-front (Some x) (Some y) bs most p h = sym (ap (take most) p ∙ ap (λ n. take n (bs ++ y)) (sym h) ∙ take-append_seam bs y)
+
+-- a front of what is held is taken
+pub Keeps-taken : (a r : Option (List ℕ)) (held rest line : List ℕ) (n : ℕ) → Keeps a (prepend_known held r) → line ≡ take n held → rest ≡ drop n held
+    → Consumes a (prepend_known rest r) line
+Keeps-taken None r held rest line n k e f = tt
+Keeps-taken (Some x) None held rest line n k e f = absurd k
+Keeps-taken (Some x) (Some y) held rest line n k e f =
+    let parts : held ≡ line ++ rest = sym (take-append-drop n held) ∙ ap (λ l. l ++ drop n held) (sym e) ∙ ap (λ l. line ++ l) (sym f) in
+    sym k ∙ ap (λ l. l ++ y) parts ∙ append_assoc line rest y

@@ -1,6 +1,5 @@
 //! Bytes that were read ahead of the lines that were taken.
-ghost use Rattle.std.specs.Prelude.{◌≡◌, ◌≢◌, ◌<◌, ◌≤◌, ◌+◌, Some, [], length, drop, take, slice_get, All, IfSome, IfNone, IfOk, OnErr};
-ghost use Rattle.std.specs.Io.{StartsWith, appended_bytes};
+ghost use Rattle.std.specs.Prelude.{◌≡◌, ◌≢◌, ◌<◌, ◌≤◌, ◌+◌, Some, [], length, drop, take, slice_get, All, IfSome, IfNone, IfOk, OnOk, OnErr};
 ghost use Rattle.std.specs.Io.KnownBytes.{Consumes, IsAtEnd, Keeps, prepend_known};
 ghost use Rattle.py_data.specs.World.{line_of};
 
@@ -98,27 +97,31 @@ impl LineBuffer {
         Ok(seen)
     }
 
+    /// Gives up the room of what was taken.
+    fn settle(&mut self)
+        ensures { self.new ≡ self.old }
+    {
+        self.bytes.drain(..self.taken);
+        self.taken = 0;
+    }
+
     /// One read, whose bytes it then holds too. None means the end.
     fn read_more<R: Read>(&mut self, reader: &mut R) -> Result<usize, TakeError>
-        ensures longer { IfOk result (λ n. length self.new ≡ length self.old + n) }
-        ensures grows { StartsWith self.new self.old }
-        ensures bytes { Consumes (R.remaining reader.old) (R.remaining reader.new) (appended_bytes self.old self.new) }
+        ensures more { IfOk result (λ n. length self.new ≡ length self.old + n) }
+        ensures bytes { OnOk result (Keeps (prepend_known self.old (R.remaining reader.old)) (prepend_known self.new (R.remaining reader.new))) }
+        ensures front { OnOk result (take (length self.old) self.new ≡ self.old) }
         ensures end { IfOk result (λ n. n ≡ 0 → IsAtEnd (R.remaining reader.new)) }
-        ensures kept { OnErr result (self.new ≡ self.old) }
+        ensures kept { OnErr result ((self.new ≡ self.old) × Keeps (R.remaining reader.old) (R.remaining reader.new)) }
     {
-        let held = self.bytes.len();
-        self.bytes.resize(held + PIECE, 0)?;
-        let answer = read_some(reader, &mut self.bytes[held..]);
-        match answer {
-            Ok(n) => {
-                self.bytes.truncate(held + n);
-                Ok(n)
-            }
-            Err(_) => {
-                self.bytes.truncate(held);
-                Err(TakeError::Failed)
-            }
-        }
+        self.settle();
+        self.bytes.reserve(PIECE)?;
+        let mut piece = [0u8; PIECE];
+        let Ok(count) = read_some(reader, &mut piece) else {
+            return Err(TakeError::Failed);
+        };
+        // There is room.
+        self.bytes.extend_from_slice(&piece[..count])?;
+        Ok(count)
     }
 }
 

@@ -1,7 +1,7 @@
 //! The loader over files.
 ghost use Rattle.std.specs.Prelude.{◌≡◌, ◌≤◌, [], ◌∷◌, ◌++◌, length, take, None, IfSome, IfOk, IfErr, OnOk, OnErr};
 ghost use Rattle.stm_io.specs.Outside.{LoadStops};
-ghost use Rattle.pystm.specs.Files.{faults_after_load, file_loader_state};
+ghost use Rattle.pystm.specs.Devices.{faults_after_load, file_loader_state};
 
 use crate::steady::read_some;
 use py_data::{Bytes, Items, NoMemory};
@@ -25,7 +25,7 @@ pub struct FileLoader<F> {
 }
 
 impl<F> Model for FileLoader<F> {
-    ghost use Rattle.pystm.specs.Files.{FileLoaderValue};
+    ghost use Rattle.pystm.specs.Devices.{FileLoaderValue};
 
     ghost Value = { FileLoaderValue };
 

@@ -1,5 +1,5 @@
 -- The text and what the reader has left are what the reader had.
-use Rattle.std.proofs.Common.{◌≡◌, ◌≤◌, ◌-◌, length}
+use Rattle.std.proofs.Common.{◌≤◌, ◌-◌, length}
 use Rattle.std.specs.Io.KnownBytes.{Consumes}
 use Rattle.pystm.proofs.loader.read_front.Given as goal
 

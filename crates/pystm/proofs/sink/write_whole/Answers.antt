@@ -1,4 +1,4 @@
-use Rattle.std.proofs.Common.{rules, length-drop}
+use Rattle.std.proofs.Common.{rules}
 use Rattle.pystm.proofs.Known.{Appends-front}
 use Rattle.pystm.proofs.sink.write_whole.Goals as goal
 
