@@ -12,10 +12,10 @@ use Rattle.py_data.specs.World.{line_of}
 through-missed : (xs : List ℕ) → All (λ b. b ≢ 10) xs → take_through 10 xs ≡ xs
 through-missed [] h = refl
 through-missed (x ∷ xs) h = at (eqb x 10) refl (through-missed xs (All-tail (λ b. b ≢ 10) x xs h))
-    where
-      at : (b : Bool) → eqb x 10 ≡ b → take_through 10 xs ≡ xs → cond b (x ∷ []) (x ∷ take_through 10 xs) ≡ x ∷ xs
-      at true is rest = absurd (All-head (λ b. b ≢ 10) x xs h (eqb-true x 10 is))
-      at false is rest = ap (λ l. x ∷ l) rest
+  where
+    at : (b : Bool) → eqb x 10 ≡ b → take_through 10 xs ≡ xs → cond b (x ∷ []) (x ∷ take_through 10 xs) ≡ x ∷ xs
+    at true is rest = absurd (All-head (λ b. b ≢ 10) x xs h (eqb-true x 10 is))
+    at false is rest = ap (λ l. x ∷ l) rest
 
 -- the line ends with the first newline, whatever follows
 through-found : (xs zs : List ℕ) (i : ℕ) → All (λ b. b ≢ 10) (take i xs) → i < length xs → get_or xs i 0 ≡ 10 → take_through 10 (xs ++ zs) ≡ take (i + 1) xs
@@ -24,12 +24,12 @@ through-found (x ∷ xs) zs zero h within e = rw e refl
 through-found (x ∷ xs) zs (suc i) h within e =
     let here : i < length xs = omega arith in
     at (eqb x 10) refl (through-found xs zs i (All-tail (λ b. b ≢ 10) x (take i xs) h) here e)
-    where
-      at : (b : Bool) → eqb x 10 ≡ b → take_through 10 (xs ++ zs) ≡ take (i + 1) xs → cond b (x ∷ []) (x ∷ take_through 10 (xs ++ zs)) ≡ take (suc i + 1) (x ∷ xs)
-      at true is rest = absurd (All-head (λ b. b ≢ 10) x (take i xs) h (eqb-true x 10 is))
-      at false is rest =
-          let more : suc i + 1 ≡ suc (i + 1) = omega arith in
-          rw more (ap (λ l. x ∷ l) rest)
+  where
+    at : (b : Bool) → eqb x 10 ≡ b → take_through 10 (xs ++ zs) ≡ take (i + 1) xs → cond b (x ∷ []) (x ∷ take_through 10 (xs ++ zs)) ≡ take (suc i + 1) (x ∷ xs)
+    at true is rest = absurd (All-head (λ b. b ≢ 10) x (take i xs) h (eqb-true x 10 is))
+    at false is rest =
+        let more : suc i + 1 ≡ suc (i + 1) = omega arith in
+        rw more (ap (λ l. x ∷ l) rest)
 
 -- the bytes that can be of the line begin with those that are held
 front : (held rest : List ℕ) (most : ℕ) → take most (held ++ rest) ≡ take most held ++ take (most - length (take most held)) (drop most held ++ rest)
@@ -76,4 +76,4 @@ end-known (Some x) (Some y) held more most seen k end size front all within none
     let whole : take seen held ≡ held = take_all seen held (omega arith) in
     let line : x ≡ held = sym k ∙ ap (λ l. l ++ y) same ∙ ap (λ l. held ++ l) end ∙ append-nil held in
     ap (take seen) same ∙ whole
-        ∙ sym (ap (line_of most) line ∙ ap (take_through 10) (take_all most held (omega arith)) ∙ through-missed held (subst (All (λ b. b ≢ 10)) whole none))
+    ∙ sym (ap (line_of most) line ∙ ap (take_through 10) (take_all most held (omega arith)) ∙ through-missed held (subst (All (λ b. b ≢ 10)) whole none))

@@ -89,7 +89,12 @@ impl<F: Files + Drop> Loader for FileLoader<F> {
 }
 
 /// The first `most` bytes of the file of that path, or all of a shorter one.
-fn read_file<F: Files>(files: &F, alloc: Global, path: &str, most: usize) -> Result<Vec<u8>, LoadError>
+fn read_file<F: Files>(
+    files: &F,
+    alloc: Global,
+    path: &str,
+    most: usize,
+) -> Result<Vec<u8>, LoadError>
     ensures { IfOk result (λ v. length v.items ≤ most) }
 {
     match File::open(files, path) {
@@ -114,4 +119,61 @@ fn read_front<R: Read>(reader: &mut R, alloc: Global, most: usize) -> Result<Vec
         }
     }
     Ok(text)
+}
+
+#[cfg(test)]
+mod tests {
+    use super::*;
+    use crate::slow::Slow;
+    use std::test::Fail;
+
+    #[test]
+    fn loads_real_files(rt: HostRuntime) -> Result<(), Fail> {
+        let mut loader = FileLoader::new(&rt, rt.alloc());
+        let kind = "/proc/sys/kernel/ostype";
+        let table: [(&str, usize, Option<&[u8]>); 6] = [
+            (kind, 100, Some(b"Linux\n")),
+            (kind, 6, Some(b"Linux\n")),
+            (kind, 3, Some(b"Lin")),
+            ("/dev/null", 5, Some(b"")),
+            ("/", 5, None),
+            ("/no/such/file", 5, None),
+        ];
+        for (name, most, wanted) in table {
+            match (loader.load(name, most), wanted) {
+                (Ok(text), Some(bytes)) => assert_eq!(rt; text.as_slice(), bytes),
+                (answer, wanted) => assert!(rt;
+                    answer == Err(LoadError::Failed) && wanted.is_none(),
+                    "{name}"
+                ),
+            }
+        }
+        assert_eq!(rt; loader.load("/dev/zero", 20000)?.len(), 20000);
+        assert_eq!(rt; loader.faults(), 2);
+        assert!(rt;
+            loader.asked().len() == 7 && loader.asked()[3].as_slice() == b"/dev/null".as_slice()
+        );
+        Ok(())
+    }
+
+    #[test]
+    fn reads_the_front_by_small_reads(rt: HostRuntime) -> Result<(), Fail> {
+        let table: [(usize, usize, Option<&[u8]>); 4] = [
+            (9, 99, Some(b"abcde")),
+            (2, 99, Some(b"ab")),
+            (9, 1, None),
+            (9, 11, None),
+        ];
+        for (most, breaks_at, wanted) in table {
+            let mut reader = Slow::new(rt.alloc(), b"abcde", breaks_at)?;
+            match (read_front(&mut reader, rt.alloc(), most), wanted) {
+                (Ok(text), Some(bytes)) => assert_eq!(rt; text.as_slice(), bytes),
+                (answer, wanted) => assert!(rt;
+                    answer == Err(LoadError::Failed) && wanted.is_none(),
+                    "{breaks_at}"
+                ),
+            }
+        }
+        Ok(())
+    }
 }

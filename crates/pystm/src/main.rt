@@ -5,6 +5,8 @@
 mod buffer;
 mod loader;
 mod sink;
+#[cfg(test)]
+mod slow;
 mod source;
 mod steady;
 mod words;
@@ -51,3 +53,28 @@ fn stop_for_memory(rt: &HostRuntime) -> u8
     OUT_OF_MEMORY
 }
 
+#[cfg(test)]
+mod tests {
+    use super::*;
+    use std::test::Fail;
+    use stm_io::{Loader, Source};
+
+    /// Uses each device through its trait alone, and asks that it can cross threads.
+    fn used<L: Loader + Send + Drop, I: Source + Send + Drop, O: Sink + Send + Drop>(
+        mut loader: L,
+        mut input: I,
+        mut out: O,
+    ) -> bool {
+        let loaded = loader.load("/dev/null", 1).is_ok() && loader.faults() == 0;
+        let taken = input.take_line(1).is_ok() && input.faults() == 0;
+        loaded && taken && out.put(b"").is_ok() && out.faults() == 0
+    }
+
+    #[test]
+    fn devices_are_used_by_their_traits(rt: HostRuntime) -> Result<(), Fail> {
+        let loader = FileLoader::new(&rt, rt.alloc());
+        let input = StdinSource::new(rt.alloc(), rt.stdin());
+        assert!(rt; used(loader, input, StdoutSink::new(rt.stdout())));
+        Ok(())
+    }
+}

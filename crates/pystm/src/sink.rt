@@ -68,3 +68,42 @@ fn write_whole<W: Write>(writer: &mut W, bytes: &[u8]) -> io::Result<()>
     }
     writer.flush()
 }
+
+#[cfg(test)]
+mod tests {
+    use super::*;
+    use crate::slow::Slow;
+    use std::test::Fail;
+
+    #[test]
+    fn writes_to_both_outputs(rt: HostRuntime) -> Result<(), Fail> {
+        let mut out = StdoutSink::new(rt.stdout());
+        assert!(rt; out.put(b"to the output\n").is_ok() && out.put(b"").is_ok());
+        assert_eq!(rt; out.faults(), 0);
+        let mut err = StderrSink::new(rt.stderr());
+        assert!(rt; err.put(b"to the error output\n").is_ok() && err.put(b"").is_ok());
+        assert_eq!(rt; err.faults(), 0);
+        Ok(())
+    }
+
+    /// The numbers of calls that break, the text that is then written, and how often the sink failed.
+    #[test]
+    fn writes_all_by_small_writes(rt: HostRuntime) -> Result<(), Fail> {
+        let table: [(usize, &[u8], u64); 4] = [
+            (99, b"abcde", 0),
+            (1, b"de", 1),
+            (5, b"abde", 1),
+            (7, b"abc", 1),
+        ];
+        for (breaks_at, wanted, faults) in table {
+            let mut sink = WriterSink::new(Slow::new(rt.alloc(), b"", breaks_at)?);
+            let first = sink.put(b"abc");
+            assert!(rt; first.is_ok() || first == Err(PutError::Failed));
+            let second = sink.put(b"de");
+            assert!(rt; second.is_ok() || breaks_at == 7);
+            assert_eq!(rt; sink.writer.text.as_slice(), wanted);
+            assert_eq!(rt; sink.faults(), faults);
+        }
+        Ok(())
+    }
+}

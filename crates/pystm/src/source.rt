@@ -81,3 +81,45 @@ impl<R: Read + Drop> Source for ReaderSource<R> {
         self.faults
     }
 }
+
+#[cfg(test)]
+mod tests {
+    use super::*;
+    use crate::slow::Slow;
+    use std::test::Fail;
+
+    #[test]
+    fn takes_from_the_standard_input(rt: HostRuntime) -> Result<(), Fail> {
+        let mut source = StdinSource::new(rt.alloc(), rt.stdin());
+        let is_end = source.take_line(16)?.is_empty();
+        assert!(rt; (source.ends() == 1) == is_end);
+        assert_eq!(rt; source.faults(), 0);
+        Ok(())
+    }
+
+    /// Whichever read breaks, no byte is lost.
+    #[test]
+    fn takes_lines_by_small_reads(rt: HostRuntime) -> Result<(), Fail> {
+        for breaks_at in 1..24 {
+            let reader = Slow::new(rt.alloc(), b"ab\ncde\n\nf", breaks_at)?;
+            let mut source = ReaderSource::new(rt.alloc(), reader);
+            let mut all = Vec::new(rt.alloc());
+            for _ in 0..8 {
+                match source.take_line(3) {
+                    Ok(line) => {
+                        all.extend_from_slice(line.as_slice())?;
+                        all.push(b'|')?;
+                    }
+                    Err(_) => all.push(b'!')?,
+                }
+            }
+            all.retain(|b| *b != b'!');
+            assert!(rt;
+                all.as_slice().starts_with(b"ab\n|cde|\n|\n|f||"),
+                "{breaks_at}"
+            );
+            assert!(rt; source.faults() <= 1 && source.ends() >= 1, "{breaks_at}");
+        }
+        Ok(())
+    }
+}

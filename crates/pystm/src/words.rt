@@ -21,7 +21,11 @@ pub fn read_words<E: Env>(environment: &E, alloc: Global) -> Result<Vec<String>,
 }
 
 /// The bytes of the word at that place, if there is one. The room is doubled until they fit.
-fn read_word<E: Env>(environment: &E, alloc: Global, i: usize) -> Result<Option<Vec<u8>>, AllocError> {
+fn read_word<E: Env>(
+    environment: &E,
+    alloc: Global,
+    i: usize,
+) -> Result<Option<Vec<u8>>, AllocError> {
     let mut room = FIRST_ROOM;
     for _ in 0..usize::BITS {
         let mut bytes = vec![in alloc; 0u8; room]?;
@@ -45,5 +49,48 @@ fn text_or_empty(alloc: Global, bytes: Vec<u8>) -> String
     match String::from_utf8(bytes) {
         Ok(text) => text,
         Err(_) => String::new(alloc),
+    }
+}
+
+#[cfg(test)]
+mod tests {
+    use super::*;
+    use std::test::Fail;
+
+    /// The words of a process: its name, a lone `-`, a byte that is no text, and a long word.
+    struct Given;
+
+    impl Env for Given {
+        fn arg(&self, i: usize, buf: &mut [u8]) -> Result<usize, FillError> {
+            let long = [b'x'; 1000];
+            let word: &[u8] = match i {
+                0 => b"pystm",
+                1 => b"-",
+                2 => b"a\xff",
+                3 => &long,
+                _ => return Err(FillError::NotPresent),
+            };
+            if word.len() > buf.len() {
+                return Err(FillError::TooLong);
+            }
+            buf[..word.len()].copy_from_slice(word);
+            Ok(word.len())
+        }
+
+        fn var(&self, _name: &str, _buf: &mut [u8]) -> Result<usize, FillError> {
+            Err(FillError::NotPresent)
+        }
+
+        fn var_at(&self, _i: usize, _buf: &mut [u8]) -> Result<usize, FillError> {
+            Err(FillError::NotPresent)
+        }
+    }
+
+    #[test]
+    fn reads_all_words_but_the_name(rt: HostRuntime) -> Result<(), Fail> {
+        let words = read_words(&Given, rt.alloc())?;
+        assert_eq!(rt; words.len(), 3);
+        assert!(rt; words[0].as_str() == "-" && words[1].is_empty() && words[2].len() == 1000);
+        Ok(())
     }
 }

@@ -10,7 +10,7 @@ returns-in-Some-clause-line g c =
     let h = c.held-held.ensures in
     let m = c.min-end.ensures in
     let w : take c.min-end.result c.held-held.result.now ≡ take c.args.most c.loop-seen.self =
-        ap (λ n. take n c.held-held.result.now) m ∙ take_min c.args.most c.held-held.result.now ∙ ap (take c.args.most) h in
+    ap (λ n. take n c.held-held.result.now) m ∙ take_min c.args.most c.held-held.result.now ∙ ap (take c.args.most) h in
     found-known _ _ _ _ _ _ keeps w c.in-Some.ensures.first c.in-Some.ensures.newline
 
 pub returns-after-loop-seen-clause-line : goal.returns-after-loop-seen-clause-line
@@ -30,4 +30,4 @@ returns-then-branch-eq0-clause-line g c =
     let more = read.more in
     let w : take c.min-end.result c.held-held.result.now ≡ take c.min-end.result c.loop-seen.self = ap (take c.min-end.result) c.held-held.ensures in
     end-known _ _ c.loop-seen.self c.read_more.new.self c.args.most c.min-end.result (Keeps-trans _ _ _ keeps read.bytes) (read.end nothing)
-        (omega arith) read.front (omega arith) (omega arith) (subst (All (λ b. b ≢ 10)) w c.in_default.ensures.none)
+    (omega arith) read.front (omega arith) (omega arith) (subst (All (λ b. b ≢ 10)) w c.in_default.ensures.none)
