@@ -20,6 +20,7 @@ use crate::words::read_words;
 use std::alloc::AllocError;
 use std::process::ExitCode;
 use stm_io::{OpenGate, Sink};
+use stm_top::run_words;
 
 /// The status where the words find no memory.
 const OUT_OF_MEMORY: u8 = 11;
@@ -40,8 +41,8 @@ fn run(rt: &HostRuntime, words: &[String]) -> u8 {
     let out = StdoutSink::new(rt.stdout());
     let err = StderrSink::new(rt.stderr());
     let gate = OpenGate;
-    let _ = (words, loader, input, out, err, gate);
-    0
+    let report = run_words(rt, alloc, words, loader, input, out, err, &gate);
+    report.status.number()
 }
 
 /// Says that there was no memory for the words. A failure of that write changes nothing.
