@@ -5,3 +5,4 @@ pub mod Laying
 pub mod Loop
 pub mod InOrder
 pub mod Streams
+pub mod Whole

@@ -1,5 +1,5 @@
 -- From a text to its words: the longest piece at the front, again and again. States `docs/LANGUAGE.md`, "Tokens".
-use Rattle.std.specs.Prelude.{◌≡◌, ℕ, zero, suc, Bool, false, ◌==◌, ◌&&◌, ◌||◌, if◌then◌else◌, List, [], ◌∷◌, drop, Option, Some, None, Result, Ok, Err}
+use Rattle.std.specs.Prelude.{◌≡◌, ℕ, zero, suc, Bool, false, ◌==◌, ◌&&◌, ◌||◌, if◌then◌else◌, List, [], ◌∷◌, drop, Option, Some, None, Result, Ok, Err, ◌+◌, length}
 use Rattle.py_data.specs.declared.refusal.Refusal.{Refusal}
 use Rattle.py_data.specs.declared.refusal.Refusal.TheVariants.{BadCharacter}
 use Rattle.py_tokens.specs.declared.character.Character.{Character}
@@ -85,6 +85,10 @@ unfoldable pub cut : ℕ → ℕ → List Character → Cut
 cut zero size cs = record { words = []; stop = None }
 cut (suc n) size [] = record { words = []; stop = None }
 cut (suc n) size (c ∷ cs) = cut_more c (cut n size) (word_at size (c ∷ cs))
+
+-- Further turns give no further words: no part of the text is left out.
+abbrev pub IsWhole : ℕ → List Character → Type 0
+IsWhole size cs = (n : ℕ) → cut (length cs + n) size cs ≡ cut (length cs) size cs
 
 -- ---- contracts
 

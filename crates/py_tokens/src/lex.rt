@@ -1,9 +1,10 @@
 //! The tokens of a text.
 ghost use Rattle.std.specs.Prelude.{◌≡◌, ◌^◌, ◌<◌, length, IfOk};
-ghost use Rattle.py_tokens.specs.Characters.{last_line};
+ghost use Rattle.py_tokens.specs.Characters.{last_line, text_characters};
 ghost use Rattle.py_tokens.specs.Layout.{lexed, tokens_of_text};
 ghost use Rattle.py_tokens.specs.Stream.{IsStream};
 ghost use Rattle.py_tokens.specs.Tokens.{Tokenizes};
+ghost use Rattle.py_tokens.specs.Words.{IsWhole};
 
 use crate::character::{Character, split, text_characters};
 use crate::error::TokenError;
@@ -65,6 +66,7 @@ pub fn tokens(alloc: Global, text: &[u8]) -> Result<Vec<Token>, TokenError>
     requires { length text.now < 2 ^ 32 }
     ensures exact { Tokenizes (λ v. v.items) result (tokens_of_text text.now) }
     ensures stream { IfOk result (λ v. IsStream (length text.now) 0 0 v.items) }
+    ensures whole { IsWhole (length text.now) (text_characters text.now) }
 {
     let chars = text_characters(alloc, text)?;
     lexed(alloc, text.len() as u32, chars.as_slice())

@@ -5,6 +5,7 @@ use Rattle.py_tokens.specs.Tokens.{Tokenizes}
 use Rattle.py_tokens.specs.Characters.{text_characters}
 use Rattle.py_tokens.proofs.CharacterLemmas.{length-text_characters}
 use Rattle.py_tokens.proofs.Streams.{stream_of}
+use Rattle.py_tokens.proofs.Whole.{cut_whole}
 use Rattle.py_tokens.proofs.lex.tokens.Goals as goal
 
 pub lexed-requires : goal.lexed-requires
@@ -21,3 +22,9 @@ returns-clause-exact c = exact c
 
 pub returns-clause-stream : goal.returns-clause-stream
 returns-clause-stream c = stream_of {X = Vec Token Global} (λ v. v.items) c.lexed.result c.args.text.now (exact c)
+
+pub returns-clause-whole : goal.returns-clause-whole
+returns-clause-whole c = cut_whole (length c.args.text.now) (text_characters c.args.text.now)
+
+pub returns-in_err-chars-clause-whole : goal.returns-in_err-chars-clause-whole
+returns-in_err-chars-clause-whole c = cut_whole (length c.args.text.now) (text_characters c.args.text.now)
