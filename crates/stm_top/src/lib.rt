@@ -12,3 +12,6 @@ mod turns;
 pub use script::SCRIPT_LIMIT;
 pub use status::Status;
 pub use top::{run_words, Report};
+
+#[cfg(test)]
+mod tests;
