@@ -8,13 +8,12 @@ use Rattle.lock_run.specs.LockState.{first_world, HasDevices}
 use Rattle.lock_run.specs.Machine.{Machine, begin_with}
 use Rattle.lock_run.specs.Turns.{LockState, Stands}
 use Rattle.stm_top.specs.declared.answer.Answer.{Answer}
-use Rattle.stm_top.specs.declared.answer.Answer.TheVariants.{Done, Usage, NotBuilt, InputFailed, OutputFailed, OutOfMemory, ScriptTooLong}
+use Rattle.stm_top.specs.declared.answer.Answer.TheVariants.{Done, Usage, Refused, NotBuilt, InputFailed, OutputFailed, OutOfMemory, ScriptTooLong}
 use Rattle.stm_top.specs.declared.line_form.LineProgram.{LineProgram}
 use Rattle.stm_top.specs.declared.line_run.LineState.{LineState}
-use Rattle.stm_top.specs.LineForm.{program_of}
 use Rattle.stm_top.specs.LineRun.{line_prog}
 use Rattle.stm_top.specs.Script.{ScriptTaken}
-use Rattle.stm_top.specs.TopCall.{Devices, Ran, TurnsEnd, NothingRan, ProgramEnded, HasProgram, ProgramRan, Caused, TextPut}
+use Rattle.stm_top.specs.TopCall.{Devices, Ran, TurnsEnd, NothingRan, ProgramEnded, HasProgram, ProgramRan, IsProgram, Caused, TextPut}
 
 -- a machine's turns are a program's, and its devices are the call's
 module _ (a b : Devices) (answer : Answer) (turns : List Turn) where
@@ -35,7 +34,7 @@ module _ (a b : Devices) (answer : Answer) (turns : List Turn) where
       inr (subst (λ x. RanTo x b.input.told b.out.told b.err.told a.out.faults b.out.faults) e z5)
 
   -- a program that was read from a script that was taken
-  pub script_ran : (script : List ℕ) (p : LineProgram) (source : SourceState) → ScriptTaken script a.input source → program_of script ≡ Ok p → ProgramEnded p (record a { input = source }) answer turns b → Caused answer a turns b
+  pub script_ran : (script : List ℕ) (p : LineProgram) (source : SourceState) → ScriptTaken script a.input source → IsProgram script p → ProgramEnded p (record a { input = source }) answer turns b → Caused answer a turns b
   script_ran script p source t is (inl n) =
       subst (λ x. Caused x a turns b) (sym n.1) (inl (record { turns_none = n.0.turns_none; out = n.0.out; err = n.0.err }))
   script_ran script p source t is (inr z) = ran_for answer z
@@ -48,6 +47,7 @@ module _ (a b : Devices) (answer : Answer) (turns : List Turn) where
       ran_for OutputFailed z = (has, z.0, z.1)
       ran_for OutOfMemory z = inr (has, z.0)
       ran_for Usage z = absurd z.1
+      ran_for (Refused refusal) z = absurd z.1
       ran_for (NotBuilt line) z = absurd z.1
       ran_for InputFailed z = absurd z.1
       ran_for ScriptTooLong z = absurd z.1

@@ -1,10 +1,13 @@
 -- What a call has to say. States `docs/LANGUAGE.md`, "The top call".
 use Rattle.std.specs.Prelude.{◌≡◌, ◌⊎◌, ℕ, List, [], ◌∷◌, ◌++◌, codes, pos}
 use Rattle.std.specs.Fmt.{signed_decimal}
+use Rattle.py_data.specs.declared.refusal.Refusal.{Refusal}
+use Rattle.py_data.specs.declared.refusal.Refusal.TheVariants.{BadCharacter, BadDedent, OpenString, NumberWide, Unexpected, LeftOut, Deep, Misplaced, Doubled, Closure, TooLarge, BadEscape}
+use Rattle.py_data.specs.Refusal.{refusal_number, refusal_line}
 use Rattle.stm_top.specs.declared.status.Status.{Status}
 use Rattle.stm_top.specs.declared.status.Status.TheVariants.{Done, Failed, Usage, Refused, LoaderFailed, InputFailed, OutputFailed, ErrorOutputFailed, HeapFull, Stuck, BudgetSpent, OutOfMemory, ScriptTooLong}
 use Rattle.stm_top.specs.declared.answer.Answer.{Answer}
-use Rattle.stm_top.specs.declared.answer.Answer.TheVariants.{Done as IsDone, Usage as IsUsage, NotBuilt, InputFailed as IsInputFailed, OutputFailed as IsOutputFailed, OutOfMemory as IsOutOfMemory, ScriptTooLong as IsScriptTooLong}
+use Rattle.stm_top.specs.declared.answer.Answer.TheVariants.{Done as IsDone, Usage as IsUsage, Refused as IsRefused, NotBuilt, InputFailed as IsInputFailed, OutputFailed as IsOutputFailed, OutOfMemory as IsOutOfMemory, ScriptTooLong as IsScriptTooLong}
 
 -- the exit status
 abbrev pub number_of : Status → ℕ
@@ -25,17 +28,36 @@ number_of ScriptTooLong = 12
 abbrev pub status_of : Answer → Status
 status_of IsDone = Done
 status_of IsUsage = Usage
+status_of (IsRefused refusal) = Refused
 status_of (NotBuilt line) = Refused
 status_of IsInputFailed = InputFailed
 status_of IsOutputFailed = OutputFailed
 status_of IsOutOfMemory = OutOfMemory
 status_of IsScriptTooLong = ScriptTooLong
 
+abbrev pub refusal_name : Refusal → List ℕ
+refusal_name (BadCharacter line) = codes "bad character"
+refusal_name (BadDedent line) = codes "bad dedent"
+refusal_name (OpenString line) = codes "open string"
+refusal_name (NumberWide line) = codes "number wide"
+refusal_name (Unexpected line) = codes "unexpected"
+refusal_name (LeftOut construct line) = codes "left out"
+refusal_name (Deep line) = codes "deep"
+refusal_name (Misplaced line) = codes "misplaced"
+refusal_name (Doubled line) = codes "doubled"
+refusal_name (Closure line) = codes "closure"
+refusal_name (TooLarge line) = codes "too large"
+refusal_name (BadEscape line) = codes "bad escape"
+
+abbrev pub refusal_text : (line number : ℕ) → List ℕ → List ℕ
+refusal_text line number name = codes "pystm: line " ++ signed_decimal (pos line) ++ codes ": refusal " ++ signed_decimal (pos number) ++ codes ": " ++ name ++ codes "\n"
+
 -- what it writes to the error output: a line, or nothing
 abbrev pub text_of : Answer → List ℕ
 text_of IsDone = []
 text_of IsUsage = codes "pystm: usage: pystm [--segments N] [--length N] [--pages N] [--budget N] FILE, - or --demo N\n"
-text_of (NotBuilt line) = codes "pystm: line " ++ signed_decimal (pos line) ++ codes ": refusal 13: not built\n"
+text_of (IsRefused refusal) = refusal_text (refusal_line refusal) (refusal_number refusal) (refusal_name refusal)
+text_of (NotBuilt line) = refusal_text line 13 (codes "not built")
 text_of IsInputFailed = codes "pystm: cannot read the input\n"
 text_of IsOutputFailed = codes "pystm: cannot write the output\n"
 text_of IsOutOfMemory = codes "pystm: out of memory\n"

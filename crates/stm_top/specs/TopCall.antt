@@ -9,6 +9,8 @@ use Rattle.py_data.specs.Sight.{Sight, opened, pure}
 use Rattle.py_data.specs.World.{grown}
 use Rattle.stm_io.specs.declared.error.PutError.{PutError}
 use Rattle.stm_io.specs.Outside.{SourceState, SinkState, Rose, Puts, PutCause}
+use Rattle.py_tokens.specs.declared.token.Token.{Token}
+use Rattle.py_tokens.specs.Layout.{tokens_of_text}
 use Rattle.lock_run.specs.declared.client.Outcome.{Outcome}
 use Rattle.lock_run.specs.declared.client.Life.TheVariants.{Lives}
 use Rattle.lock_run.specs.declared.turn.Turn.{Turn}
@@ -16,7 +18,7 @@ use Rattle.lock_run.specs.LockState.{first_world}
 use Rattle.lock_run.specs.Machine.{Machine, Runs, begin_with}
 use Rattle.lock_run.specs.Turns.{Front}
 use Rattle.stm_top.specs.declared.answer.Answer.{Answer}
-use Rattle.stm_top.specs.declared.answer.Answer.TheVariants.{Done, Usage, NotBuilt, InputFailed, OutputFailed, OutOfMemory, ScriptTooLong}
+use Rattle.stm_top.specs.declared.answer.Answer.TheVariants.{Done, Usage, Refused, NotBuilt, InputFailed, OutputFailed, OutOfMemory, ScriptTooLong}
 use Rattle.stm_top.specs.declared.status.Status.{Status}
 use Rattle.stm_top.specs.declared.line_form.LineProgram.{LineProgram}
 use Rattle.stm_top.specs.declared.line_run.LineState.{LineState}
@@ -95,6 +97,22 @@ ProgramEnded p a answer turns b =
     (NothingRan a turns b × (answer ≡ OutOfMemory))
     ⊎ ((r : Ran p (begin_with (line_prog p) (first_world a.input.told)) a.out.told a.err.told turns b.input.told b.out.told b.err.told) × TurnsEnd answer r a.out.faults b.out.faults)
 
+-- ---- the script's text
+pub record HasTokens (script : List ℕ) : Type 0 where
+  pub tokens : List Token
+  pub are : tokens_of_text script ≡ Ok tokens
+
+-- it has tokens and the line form
+abbrev pub IsProgram : List ℕ → LineProgram → Type 0
+IsProgram script program = HasTokens script × (program_of script ≡ Ok program)
+
+-- why it isn't a program: it has no tokens, or it has tokens and not the line form
+abbrev pub NoProgram : List ℕ → Answer → Type 0
+NoProgram script (Refused refusal) = tokens_of_text script ≡ Err refusal
+NoProgram script (NotBuilt line) = HasTokens script × (program_of script ≡ Err line)
+NoProgram script OutOfMemory = Unit {0}
+NoProgram script _ = ⊥
+
 -- ---- the whole call
 -- a script was taken that is a program
 pub record HasProgram (a : Devices) : Type 0 where
@@ -102,7 +120,7 @@ pub record HasProgram (a : Devices) : Type 0 where
   pub source : SourceState
   pub taken : ScriptTaken script a.input source
   pub program : LineProgram
-  pub is : program_of script ≡ Ok program
+  pub is : IsProgram script program
 
 -- it ran so far, from the machine's first state
 abbrev pub ProgramRan : (a : Devices) → HasProgram a → List Turn → Devices → Type 0
@@ -113,7 +131,8 @@ abbrev pub Caused : Answer → Devices → List Turn → Devices → Type 0
 Caused Usage a turns b = NothingRan a turns b × (b.input ≡ a.input)
 Caused InputFailed a turns b = NothingRan a turns b × TakingFailed a.input b.input
 Caused ScriptTooLong a turns b = NothingRan a turns b × TooMuchTaken a.input b.input
-Caused (NotBuilt line) a turns b = NothingRan a turns b × (script : List ℕ) × ScriptTaken script a.input b.input × (program_of script ≡ Err line)
+Caused (Refused refusal) a turns b = NothingRan a turns b × (script : List ℕ) × ScriptTaken script a.input b.input × NoProgram script (Refused refusal)
+Caused (NotBuilt line) a turns b = NothingRan a turns b × (script : List ℕ) × ScriptTaken script a.input b.input × NoProgram script (NotBuilt line)
 Caused Done a turns b = (h : HasProgram a) × (r : ProgramRan a h turns b) × TurnsEnd Done r a.out.faults b.out.faults
 Caused OutputFailed a turns b = (h : HasProgram a) × (r : ProgramRan a h turns b) × TurnsEnd OutputFailed r a.out.faults b.out.faults
 Caused OutOfMemory a turns b = NothingRan a turns b ⊎ ((h : HasProgram a) × ProgramRan a h turns b)

@@ -1,9 +1,9 @@
 //! What a call has to say: its status, and the text that it writes to the error output.
 ghost use Rattle.std.specs.Prelude.{◌≡◌, IfOk};
-ghost use Rattle.stm_top.specs.Answer.{status_of, text_of, IsText};
+ghost use Rattle.stm_top.specs.Answer.{status_of, text_of, refusal_name, refusal_text, IsText};
 
 use crate::status::Status;
-use py_data::{Bytes, NoMemory};
+use py_data::{Bytes, NoMemory, Refusal};
 use py_text::print_int;
 use std::alloc::Global;
 
@@ -12,6 +12,8 @@ use std::alloc::Global;
 pub(crate) enum Answer {
     Done,
     Usage,
+    /// The script has no tokens.
+    Refused { refusal: Refusal },
     /// The line, from 1, is the first that hasn't the line form.
     NotBuilt { line: u32 },
     InputFailed,
@@ -30,7 +32,7 @@ impl Answer {
         match self {
             Answer::Done => Status::Done,
             Answer::Usage => Status::Usage,
-            Answer::NotBuilt { .. } => Status::Refused,
+            Answer::Refused { .. } | Answer::NotBuilt { .. } => Status::Refused,
             Answer::InputFailed => Status::InputFailed,
             Answer::OutputFailed => Status::OutputFailed,
             Answer::OutOfMemory => Status::OutOfMemory,
@@ -54,7 +56,10 @@ impl Answer {
         match self {
             Answer::Done => Ok(Bytes::new(alloc)),
             Answer::Usage => Bytes::from_slice(alloc, USAGE),
-            Answer::NotBuilt { line } => not_built(alloc, line),
+            Answer::Refused { refusal } => {
+                refused(alloc, refusal.line(), refusal.number(), refusal_name(refusal))
+            }
+            Answer::NotBuilt { line } => refused(alloc, line, 13, b"not built"),
             Answer::InputFailed => Bytes::from_slice(alloc, b"pystm: cannot read the input\n"),
             Answer::OutputFailed => Bytes::from_slice(alloc, b"pystm: cannot write the output\n"),
             Answer::OutOfMemory => Bytes::from_slice(alloc, b"pystm: out of memory\n"),
@@ -65,11 +70,35 @@ impl Answer {
     }
 }
 
-fn not_built(alloc: Global, line: u32) -> Result<Bytes, NoMemory>
-    ensures { IfOk result (λ text. text ≡ text_of (Answer.NotBuilt line)) }
+/// The name of a refusal's kind.
+fn refusal_name(refusal: Refusal) -> &'static [u8]
+    ensures { result.now ≡ refusal_name refusal }
+{
+    match refusal {
+        Refusal::BadCharacter { .. } => b"bad character",
+        Refusal::BadDedent { .. } => b"bad dedent",
+        Refusal::OpenString { .. } => b"open string",
+        Refusal::NumberWide { .. } => b"number wide",
+        Refusal::Unexpected { .. } => b"unexpected",
+        Refusal::LeftOut { .. } => b"left out",
+        Refusal::Deep { .. } => b"deep",
+        Refusal::Misplaced { .. } => b"misplaced",
+        Refusal::Doubled { .. } => b"doubled",
+        Refusal::Closure { .. } => b"closure",
+        Refusal::TooLarge { .. } => b"too large",
+        Refusal::BadEscape { .. } => b"bad escape",
+    }
+}
+
+fn refused(alloc: Global, line: u32, number: u8, name: &[u8]) -> Result<Bytes, NoMemory>
+    ensures { IfOk result (λ text. text ≡ refusal_text line number name.now) }
 {
     let mut text = Bytes::from_slice(alloc, b"pystm: line ")?;
     text.extend_from_slice(print_int(alloc, i64::from(line))?.as_slice())?;
-    text.extend_from_slice(b": refusal 13: not built\n")?;
+    text.extend_from_slice(b": refusal ")?;
+    text.extend_from_slice(print_int(alloc, i64::from(number))?.as_slice())?;
+    text.extend_from_slice(b": ")?;
+    text.extend_from_slice(name)?;
+    text.extend_from_slice(b"\n")?;
     Ok(text)
 }

@@ -1,7 +1,7 @@
 //! The top call: from the words to the end of the run.
-ghost use Rattle.std.specs.Prelude.{◌≡◌, ◌≢◌, []};
+ghost use Rattle.std.specs.Prelude.{◌≡◌, ◌≢◌, ◌≤◌, [], length, IfOk, IfErr};
 ghost use Rattle.stm_top.specs.declared.answer.Answer.TheVariants.{Usage};
-ghost use Rattle.stm_top.specs.TopCall.{devices_of, bytes_of, names_source, ProgramEnded, Caused, TextPut, Answered};
+ghost use Rattle.stm_top.specs.TopCall.{devices_of, bytes_of, names_source, IsProgram, NoProgram, ProgramEnded, Caused, TextPut, Answered};
 
 use crate::answer::Answer;
 use crate::line_form::{read_program, LineError, LineProgram};
@@ -11,6 +11,7 @@ use crate::status::Status;
 use crate::turns::run_turns;
 use lock_run::{History, LockRun};
 use py_data::{Bytes, Conflicts};
+use py_tokens::{tokens, TokenError};
 use std::alloc::Global;
 use stm_io::{Gate, Loader, Sink, Source, TakeError};
 
@@ -76,6 +77,24 @@ fn run_program<I: Source, O: Sink, E: Sink>(
     }
 }
 
+/// The program that a script is, or why it is none.
+fn read_script(alloc: Global, script: &[u8]) -> Result<LineProgram, Answer>
+    requires { length script.now ≤ 4194304 }
+    ensures program { IfOk result (λ program. IsProgram script.now program) }
+    ensures none { IfErr result (λ answer. NoProgram script.now answer) }
+{
+    match tokens(alloc, script) {
+        Ok(_) => (),
+        Err(TokenError::Refused(refusal)) => return Err(Answer::Refused { refusal }),
+        Err(TokenError::OutOfMemory) => return Err(Answer::OutOfMemory),
+    }
+    match read_program(alloc, script) {
+        Ok(program) => Ok(program),
+        Err(LineError::Refused { line }) => Err(Answer::NotBuilt { line }),
+        Err(LineError::OutOfMemory) => Err(Answer::OutOfMemory),
+    }
+}
+
 /// Takes the script and runs it.
 fn run_script<I: Source, O: Sink, E: Sink>(
     alloc: Global,
@@ -87,10 +106,9 @@ fn run_script<I: Source, O: Sink, E: Sink>(
     ensures words { result.answer ≢ Usage }
 {
     let answer = match take_script(alloc, &mut input) {
-        Ok(Some(script)) => match read_program(alloc, script.as_slice()) {
+        Ok(Some(script)) => match read_script(alloc, script.as_slice()) {
             Ok(program) => return run_program(alloc, program, input, out, err),
-            Err(LineError::Refused { line }) => Answer::NotBuilt { line },
-            Err(LineError::OutOfMemory) => Answer::OutOfMemory,
+            Err(answer) => answer,
         },
         Ok(None) => Answer::ScriptTooLong,
         Err(TakeError::Failed) => Answer::InputFailed,
