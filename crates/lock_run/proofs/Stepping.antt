@@ -342,7 +342,9 @@ falls_none d = record { reads = omega arith; writes = omega arith; errs = omega 
 
 pub falls_next : {S : Type 0} (d d1 d2 : PlainState S) → NoneFall d d1 → NoneFall d1 d2 → NoneFall d d2
 falls_next d d1 d2 f g = record {
-  reads = let x = f.reads in let y = g.reads in omega arith; writes = let x = f.writes in let y = g.writes in omega arith; errs = let x = f.errs in let y = g.errs in omega arith;
+  reads = let x = f.reads in let y = g.reads in omega arith;
+  writes = let x = f.writes in let y = g.writes in omega arith;
+  errs = let x = f.errs in let y = g.errs in omega arith;
 }
 
 falls_keeps : {S : Type 0} (d d1 : PlainState S) → Keeps d d1 → NoneFall d d1

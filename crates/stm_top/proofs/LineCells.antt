@@ -1,22 +1,18 @@
 -- A heap of Cells: what its Cells can be asked, and the loops that make and print them.
-use Rattle.std.proofs.Common.{◌≡◌, ℕ, zero, suc, ◌+◌, ◌-◌, ◌<◌, ◌≤◌, Bool, true, false, List, [], ◌∷◌, ◌++◌, length, drop, Option, Some, None, Result, Ok, Err, MatchOption, slice_get, IsSome, refl, sym, ap, subst, ◌∙◌, arith, unwrap_or, get_or}
+use Rattle.std.proofs.Common.{◌≡◌, ℕ, zero, suc, ◌+◌, ◌-◌, ◌<◌, ◌≤◌, Bool, true, false, List, [], length, Option, Some, None, Ok, Err, slice_get, IsSome, refl, sym, ap, subst, arith}
 use Rattle.py_data.specs.declared.value.Addr.{Addr}
 use Rattle.py_data.specs.declared.value.Value.{Value}
-use Rattle.py_data.specs.declared.value.Value.TheVariants.{Unset, Int}
 use Rattle.py_data.specs.declared.value.Kind.{Kind}
 use Rattle.py_data.specs.declared.value.Kind.TheVariants.{Cell}
 use Rattle.py_data.specs.declared.stop.Stop.{Stop}
 use Rattle.py_data.specs.declared.stop.Stop.TheVariants.{OutOfMemory}
-use Rattle.py_data.specs.declared.stop.Out.TheVariants.{Output}
-use Rattle.py_data.specs.Heap.{Heap, Rec, Has, at, value_at, is_tracked}
-use Rattle.py_data.specs.Row.{Row, Ret, Do, Read, SetVal, Make, Put, bind}
-use Rattle.py_data.specs.Sense.{Sense, Lawful, Asks, Safe, IfThere, IsValuePlace, Meets, IsLive, Shows, Answers}
+use Rattle.py_data.specs.Heap.{Heap, Rec, is_tracked}
+use Rattle.py_data.specs.Row.{Do, SetVal, Make}
+use Rattle.py_data.specs.Sense.{Sense, Lawful, Asks, Safe, IfThere, IsValuePlace, Meets, IsLive}
 use Rattle.py_data.specs.Rest.{Leads}
-use Rattle.py_data.proofs.Steps.{there-is, at-is, leads-do, leads-ret, leads-refused, leads-own, leads-call, leads-call-stop, leads-begin}
-use Rattle.py_data.proofs.Rows.{read-at, read-heap}
-use Rattle.stm_top.specs.declared.line_form.Item.{Item}
-use Rattle.stm_top.specs.LineRun.{unset_cell, with_cell, make_cells, item_row, print_row, text_of, after_space}
-use Rattle.stm_top.specs.LineStand.{IsSimple, IsCell, AreCells, AreThere, Holds}
+use Rattle.py_data.proofs.Steps.{there-is, leads-do, leads-ret, leads-refused, leads-own}
+use Rattle.stm_top.specs.LineRun.{unset_cell, with_cell, make_cells}
+use Rattle.stm_top.specs.LineStand.{IsCell, Holds}
 
 some_of : (o : Option Rec) → IsSome o → (r : Rec) × (o ≡ Some r)
 some_of None h = absurd (let q : false ≡ true = h in cc)

@@ -1,5 +1,5 @@
 -- The loop that prints the items of a line.
-use Rattle.std.proofs.Common.{◌≡◌, ℕ, zero, suc, ◌+◌, ◌-◌, ◌<◌, ◌≤◌, Bool, true, false, List, [], ◌∷◌, ◌++◌, length, drop, Option, Some, None, Result, Ok, Err, slice_get, refl, sym, ap, subst, ◌∙◌, arith, get_or, add-one}
+use Rattle.std.proofs.Common.{◌≡◌, ℕ, ◌+◌, ◌<◌, ◌≤◌, Bool, true, false, List, [], ◌∷◌, length, drop, Result, Ok, Err, refl, sym, ap, subst, ◌∙◌, get_or, add-one}
 use Rattle.std.proofs.Math.Seq.{drop-cons}
 use Rattle.std.proofs.Math.ListN.{drop_of_length-le}
 use Rattle.py_data.specs.declared.value.Addr.{Addr}
@@ -9,10 +9,8 @@ use Rattle.py_data.specs.declared.stop.Stop.TheVariants.{OutOfMemory}
 use Rattle.py_data.specs.declared.stop.Out.TheVariants.{Output}
 use Rattle.py_data.specs.Row.{Row, Ret, Do, Put, bind}
 use Rattle.py_data.specs.Sense.{Sense, Lawful, Meets, IsLive, Answers}
-use Rattle.py_data.specs.Heap.{Heap}
 use Rattle.stm_top.specs.declared.line_form.Item.{Item}
 use Rattle.stm_top.specs.LineRun.{item_row, print_row, text_of, after_space}
-use Rattle.stm_top.specs.LineStand.{Holds}
 use Rattle.py_data.proofs.Rows.{meets-ret, meets-own, meets-refused, meets-do}
 use Rattle.py_data.proofs.Steps.{meets-bind, meets-bind-err}
 

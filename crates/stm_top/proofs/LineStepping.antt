@@ -1,10 +1,10 @@
 -- The steps of a program of the line form, over any view.
-use Rattle.std.proofs.Common.{◌≡◌, ◌↔◌, ℕ, zero, suc, ◌+◌, ◌<◌, Bool, true, false, List, [], ◌∷◌, length, arith, Option, Some, None, Result, Ok, Err, IsTrue, eqb, slice_get, refl, sym, ap, subst, ◌∙◌}
+use Rattle.std.proofs.Common.{◌≡◌, ◌↔◌, ℕ, zero, suc, ◌+◌, ◌<◌, Bool, true, List, [], ◌∷◌, length, arith, Some, None, Ok, Err, IsTrue, eqb, slice_get, sym, ap, subst, ◌∙◌}
 use Rattle.std.proofs.lemmas.Bool.{eqb-true, eq-eqb}
 use Rattle.std.specs.Bool.{Decides}
 use Rattle.py_data.specs.declared.value.Addr.{Addr}
 use Rattle.py_data.specs.declared.stop.Stop.{Stop}
-use Rattle.py_data.specs.Row.{Row, Ret, bind}
+use Rattle.py_data.specs.Row.{Row, Ret}
 use Rattle.py_data.specs.Sense.{Sense, Bracket, Run, Stopped, Meets}
 use Rattle.py_data.proofs.Rows.{run-bind, run-ret, stop-first}
 use Rattle.lock_run.specs.declared.client.Outcome.{Outcome}
@@ -12,7 +12,6 @@ use Rattle.lock_run.specs.declared.client.Outcome.TheVariants.{Done, Ended}
 use Rattle.lock_run.specs.Client.{Stepped, StepStopped}
 use Rattle.stm_top.specs.declared.line_form.Statement.{Statement}
 use Rattle.stm_top.specs.declared.line_form.LineProgram.{LineProgram}
-use Rattle.stm_top.specs.declared.line_run.Place.{Place}
 use Rattle.stm_top.specs.declared.line_run.Place.TheVariants.{Start, At, Over}
 use Rattle.stm_top.specs.declared.line_run.LineState.{LineState}
 use Rattle.stm_top.specs.LineRun.{state_at, make_cells, statement_row, at_statement, at_place, line_row}
@@ -70,6 +69,7 @@ same_lists xs ys zs ws test e f d = ((λ t. sym e ∙ d.0 (is_true t) ∙ f), λ
   where
     is_true : IsTrue test → test ≡ true
     is_true t = t
+
     true_is : test ≡ true → IsTrue test
     true_is t = t
 

@@ -1,12 +1,12 @@
 -- Lines that are taken one after another make a script.
-use Rattle.std.proofs.Common.{◌≡◌, ◌≢◌, ℕ, zero, suc, ◌+◌, ◌-◌, ◌≤◌, min, Bool, true, false, cond, ◌==◌, List, [], ◌∷◌, ◌++◌, length, take, drop, Option, Some, None, IfSome, refl, sym, ap, subst, ◌∙◌, arith, append_assoc}
+use Rattle.std.proofs.Common.{◌≡◌, ◌≢◌, ℕ, zero, suc, ◌+◌, ◌-◌, ◌≤◌, Bool, true, false, cond, ◌==◌, List, [], ◌∷◌, ◌++◌, length, take, drop, Option, Some, None, IfSome, refl, sym, ap, subst, ◌∙◌, arith, append_assoc}
 use Rattle.std.specs.Io.BufRead.{take_through}
 use Rattle.std.proofs.Math.Seq.{drop-append-add, drop-append_seam}
 use Rattle.py_data.specs.World.{line_of, IsLine, shrunk}
 use Rattle.stm_io.specs.Outside.{SourceState, counted, Rose, ends_after, TakeStops}
 use Rattle.stm_io.specs.declared.error.TakeError.{TakeError}
 use Rattle.stm_io.specs.declared.error.TakeError.TheVariants.{Failed, OutOfMemory}
-use Rattle.stm_top.specs.Script.{TakenFrom, TakenSoFar, ScriptTaken, TooMuchTaken, TakingFailed, TakingStopped}
+use Rattle.stm_top.specs.Script.{TakenFrom, TakenSoFar, ScriptTaken, TakingFailed, TakingStopped}
 
 -- ---- a line is a front of what is left
 through_front : (b : ℕ) (xs : List ℕ) → (rest : List ℕ) × (xs ≡ take_through b xs ++ rest)

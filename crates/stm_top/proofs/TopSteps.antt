@@ -1,5 +1,5 @@
 -- The steps of the top call, put together.
-use Rattle.std.proofs.Common.{◌≡◌, ◌≢◌, ◌⊎◌, inl, inr, ℕ, ◌≤◌, Bool, true, false, ◌==◌, List, [], ◌∷◌, ◌++◌, Option, Some, None, Result, Ok, Err, refl, sym, ap, subst, ◌∙◌, arith, append-nil, length}
+use Rattle.std.proofs.Common.{◌≡◌, inl, inr, ℕ, true, ◌==◌, List, [], ◌∷◌, Option, Some, None, Ok, refl, sym, ap, subst, ◌∙◌, arith, append-nil, length}
 use Rattle.std.proofs.lemmas.Bool.Decides.{nat_tests}
 use Rattle.py_data.specs.World.{grown}
 use Rattle.stm_io.specs.Outside.{SourceState, SinkState}
@@ -13,7 +13,7 @@ use Rattle.stm_top.specs.declared.line_form.LineProgram.{LineProgram}
 use Rattle.stm_top.specs.declared.line_run.LineState.{LineState}
 use Rattle.stm_top.specs.LineRun.{line_prog}
 use Rattle.stm_top.specs.Script.{ScriptTaken}
-use Rattle.stm_top.specs.TopCall.{Devices, Ran, TurnsEnd, NothingRan, ProgramEnded, HasProgram, ProgramRan, IsProgram, Caused, TextPut}
+use Rattle.stm_top.specs.TopCall.{Devices, Ran, TurnsEnd, ProgramEnded, HasProgram, ProgramRan, IsProgram, Caused, TextPut}
 
 -- a machine's turns are a program's, and its devices are the call's
 module _ (a b : Devices) (answer : Answer) (turns : List Turn) where

@@ -2,20 +2,20 @@
 use Rattle.std.proofs.Common.{◌≡◌, ◌≢◌, ◌⊎◌, inl, inr, ℕ, zero, suc, ◌+◌, ◌-◌, ◌≤◌, ◌<◌, List, [], ◌∷◌, ◌++◌, length, Option, Some, None, IfSome, slice_get, slice_set, refl, sym, ap, subst, ◌∙◌, arith, append-nil}
 use Rattle.std.proofs.lemmas.Option.{slice_get_within}
 use Rattle.py_data.specs.declared.stop.Out.TheVariants.{Output, ErrorOutput}
-use Rattle.py_data.specs.Row.{Call, Reply, Row, Ret, Do, Read, SetVal, Make, Put, Take, bind}
+use Rattle.py_data.specs.Row.{Call, Reply, Row, Ret, Do, Read, SetVal, Make, Put, Take}
 use Rattle.py_data.specs.Sense.{Run, Upto}
 use Rattle.py_data.specs.Sight.{Sight, Act, Does, opened, pure}
 use Rattle.py_data.specs.World.{World, grown, shrunk}
 use Rattle.py_data.proofs.Rows.{bind-run}
 use Rattle.stm_io.specs.Outside.{Rose}
 use Rattle.lock_run.specs.declared.client.Outcome.{Outcome}
-use Rattle.lock_run.specs.declared.client.Outcome.TheVariants.{Done as DoneStep, Ended as EndedStep, Waits as WaitsNow}
+use Rattle.lock_run.specs.declared.client.Outcome.TheVariants.{Done as DoneStep, Ended as EndedStep}
 use Rattle.lock_run.specs.declared.client.Life.{Life}
 use Rattle.lock_run.specs.declared.client.Life.TheVariants.{Lives}
 use Rattle.lock_run.specs.declared.turn.TurnWhy.{TurnWhy}
 use Rattle.lock_run.specs.declared.turn.TurnWhy.TheVariants.{NotThere, Ended, Waits, BadNames, ReadFault, WriteFault, ErrFault, OutOfMemory}
 use Rattle.lock_run.specs.declared.turn.Turn.{Turn}
-use Rattle.lock_run.specs.Machine.{Machine, Step, Steps, DoesTurn, Runs, machine_after}
+use Rattle.lock_run.specs.Machine.{Machine, Steps, DoesTurn, Runs}
 use Rattle.lock_run.specs.PlainState.{PlainState}
 use Rattle.lock_run.specs.Turns.{LockState, NoneFall, Stands, Calls, Front, CutIn, CutWhy, FreeDone, FreeCut}
 use Rattle.lock_run.specs.TurnLaws.{SnocLaw}
@@ -154,7 +154,7 @@ turn_nearer p t a b s e d =
     let w = z.2 in
     let same : w.before ≡ s = head_is a.threads s w.before t.thread e d.0 w.is in
     let near : left_of p w.after.place < left_of p s.place =
-          subst (λ (z : LineState). left_of p w.after.place < left_of p z.place) same (one_step p t.steps w.before w.after (opened LineState a.view.heap (machine_here a).world) w.sight (let u = d.1 in let v = d.2 in omega (arith, u, v)) w.steps) in
+    subst (λ (z : LineState). left_of p w.after.place < left_of p z.place) same (one_step p t.steps w.before w.after (opened LineState a.view.heap (machine_here a).world) w.sight (let u = d.1 in let v = d.2 in omega (arith, u, v)) w.steps) in
     let after : b.threads ≡ slice_set a.threads t.thread w.after ++ w.sight.started = sym z.1.threads ∙ ap (λ (m : Machine LineState). m.threads) w.gives in
     let list : b.threads ≡ w.after ∷ w.sight.started = after ∙ ap (λ k. slice_set a.threads k w.after ++ w.sight.started) d.0 ∙ ap (λ l. slice_set l 0 w.after ++ w.sight.started) e in
     subst (λ l. distance p l < distance p a.threads) (sym list) (subst (λ l. left_of p w.after.place < distance p l) (sym e) near)
@@ -163,9 +163,15 @@ turn_nearer p t a b s e d =
 pub stopped_there : (p : LineProgram) (m : Machine LineState) (o e : Option (List ℕ)) (turns : List Turn) (l : LockState LineState) (s : LineState) → SoFar p m o e turns l → m.world.err ≡ [] → l.threads ≡ s ∷ []
     → Ran p m o e turns l.view.input l.view.out l.view.err
 stopped_there p m o e turns l s f n a = record {
-  machine = f.machine; runs = f.runs; state = s; only = f.stands.threads ∙ a;
-  left = line_row p s; place = opened LineState f.machine.heap f.machine.world; upto = upto_begin (line_row p s) (opened LineState f.machine.heap f.machine.world);
-  more = []; front = inl refl;
+  machine = f.machine;
+  runs = f.runs;
+  state = s;
+  only = f.stands.threads ∙ a;
+  left = line_row p s;
+  place = opened LineState f.machine.heap f.machine.world;
+  upto = upto_begin (line_row p s) (opened LineState f.machine.heap f.machine.world);
+  more = [];
+  front = inl refl;
   out = f.stands.out ∙ ap (grown o) (sym (append-nil f.machine.world.out));
   err = f.stands.err ∙ ap (grown e) (f.err ∙ n) ∙ grown_nothing e;
   input = sym f.stands.input ∙ f.input;
@@ -220,13 +226,24 @@ cut_ran p m o e turns a b s done names why f n t d = elim (d o e f.machine f.sta
       let rest = upto_rest (line_row p s) c.left x c.place (line_calls p s) g.1 in
       let nothing : c.place.world.err ++ c.more_err ≡ [] = ap (λ l. l ++ c.more_err) (rest.0 ∙ f.err ∙ n) ∙ no_front c.left c.more_err calls c.front_err in
       let r : Ran p m o e turns b.view.input b.view.out b.view.err = record {
-        machine = f.machine; runs = f.runs; state = s; only = only; left = c.left; place = c.place; upto = g.1; more = c.more; front = c.front; out = c.out;
+        machine = f.machine;
+        runs = f.runs;
+        state = s;
+        only = only;
+        left = c.left;
+        place = c.place;
+        upto = g.1;
+        more = c.more;
+        front = c.front;
+        out = c.out;
         err = c.err ∙ ap (grown e) nothing ∙ grown_nothing e;
         input = c.input ∙ ap (shrunk c.place.world.input) (no_take c.left c.taken calls c.front_in) ∙ shrunk_nothing c.place.world.input ∙ rest.1 ∙ f.input;
-      } in
-      (r, λ w.
-        let u : CutWhy (line_prog p) 0 done names o e f.machine a.view b.view b.threads WriteFault c = subst (λ y. CutWhy (line_prog p) 0 done names o e f.machine a.view b.view b.threads y c) w z.5 in
-        record { prints = print_next p s c.left x c.place u.1 g.1 u.2; rose = u.3 })
+      } in (
+        r,
+        λ w.
+            let u : CutWhy (line_prog p) 0 done names o e f.machine a.view b.view b.threads WriteFault c = subst (λ y. CutWhy (line_prog p) 0 done names o e f.machine a.view b.view b.threads y c) w z.5 in
+            record { prints = print_next p s c.left x c.place u.1 g.1 u.2; rose = u.3 },
+      )
 ]
 
 why_cut : (p : LineProgram) (s : LineState) (done : ℕ) (names : List ℕ) (o e : Option (List ℕ)) (m : Machine LineState) (d d1 : PlainState LineState) (ts1 : List LineState) (why : TurnWhy) (c : CutIn (line_prog p) 0 done o e m d1 ts1) → done < 1 → m.threads ≡ s ∷ []
@@ -253,7 +270,9 @@ rose_since a b c p r = omega (arith, p, r)
 
 pub falls_since : (d d1 d2 : PlainState LineState) → NoneFall d d1 → NoneFall d1 d2 → NoneFall d d2
 falls_since d d1 d2 f g = record {
-  reads = let x = f.reads in let y = g.reads in omega arith; writes = let x = f.writes in let y = g.writes in omega arith; errs = let x = f.errs in let y = g.errs in omega arith;
+  reads = let x = f.reads in let y = g.reads in omega arith;
+  writes = let x = f.writes in let y = g.writes in omega arith;
+  errs = let x = f.errs in let y = g.errs in omega arith;
 }
 
 -- ---- the ends, as the loop meets them

@@ -1,21 +1,18 @@
 -- The threads of a program of the line form keep the laws of clients.
-use Rattle.std.specs.Prelude.{◌≡◌, ◌⊎◌, ℕ, zero, suc, ◌+◌, Bool, true, false, cond, List, [], ◌∷◌, ◌++◌, Option, Some, None, slice_get, slice_set, eqb}
+use Rattle.std.specs.Prelude.{◌≡◌, ◌⊎◌, ℕ, zero, suc, ◌+◌, Bool, true, false, List, [], ◌∷◌, ◌++◌, Option, Some, None, slice_get, slice_set, eqb}
 use Rattle.std.proofs.Common.{ap, refl, ◌∙◌, sym, subst, IsSome, inl, inr}
 use Rattle.std.proofs.lemmas.Bool.{cases_Bool, cond-true, cond-false, eq-eqb}
 use Rattle.py_data.specs.declared.value.Addr.{Addr}
 use Rattle.py_data.specs.declared.value.Value.{Value}
-use Rattle.py_data.specs.declared.value.Value.TheVariants.{Unset, Int}
-use Rattle.py_data.specs.declared.value.Kind.TheVariants.{Cell}
+use Rattle.py_data.specs.declared.value.Value.TheVariants.{Unset}
 use Rattle.py_data.specs.declared.stop.Out.TheVariants.{Output}
-use Rattle.py_data.specs.Heap.{Heap, Rec, Has, at, put_at, value_at, with_value, no_records}
-use Rattle.py_data.specs.World.{World}
+use Rattle.py_data.specs.Heap.{Heap, Rec, Has, put_at, value_at, with_value, no_records}
 use Rattle.py_data.specs.Row.{Call, Reply, Row, Ret, Do, Read, SetVal, Make, Put, MidLine, bind}
 use Rattle.py_data.specs.Sense.{Run}
 use Rattle.py_data.specs.Sight.{Sight, Does, opened, pure}
 use Rattle.py_data.proofs.Rows.{bind-run}
 use Rattle.lock_run.specs.declared.client.Outcome.{Outcome}
 use Rattle.lock_run.specs.declared.client.Outcome.TheVariants.{Done, Ended, Waits}
-use Rattle.lock_run.specs.declared.client.Life.TheVariants.{Lives, Ended as HasEnded}
 use Rattle.lock_run.specs.Client.{StaysSound, WaitsQuietly, WritesThen, AsksToPrint}
 use Rattle.stm_top.specs.declared.line_form.Item.{Item}
 use Rattle.stm_top.specs.declared.line_form.Item.TheVariants.{Name, Number}
@@ -25,7 +22,7 @@ use Rattle.stm_top.specs.declared.line_form.LineProgram.{LineProgram}
 use Rattle.stm_top.specs.declared.line_run.Place.{Place}
 use Rattle.stm_top.specs.declared.line_run.Place.TheVariants.{Start, At, Over}
 use Rattle.stm_top.specs.declared.line_run.LineState.{LineState}
-use Rattle.stm_top.specs.LineRun.{state_at, unset_cell, with_cell, make_cells, cell_value, item_row, text_of, after_space, print_row, set_cell, statement_row, at_statement, at_place, line_row, life_at, line_prog}
+use Rattle.stm_top.specs.LineRun.{state_at, unset_cell, with_cell, make_cells, cell_value, item_row, text_of, after_space, print_row, set_cell, statement_row, at_statement, at_place, line_row, line_prog}
 use Rattle.stm_top.specs.LineStand.{IsSimple, IsCell, AreCells, AreThere, Holds, LineSound}
 
 -- ---- the first state over the empty heap
@@ -60,7 +57,7 @@ put_cells h a r c s = record {
   each = λ b q e. elim (cases_Bool (eqb b a)) [
     | inl y ↦ subst IsCell (let g : Some r ≡ Some q = sym (cond-true (eqb b a) (Some r) (h b) y) ∙ e in cc) s
     | inr n ↦ c.each b q (sym (cond-false (eqb b a) (Some r) (h b) n) ∙ e)
-  ]
+  ];
 }
 
 put_there : (h : Heap) (a b : ℕ) (r : Rec) → Has h b → Has (put_at h a r) b
@@ -109,9 +106,10 @@ made_cells {S} (suc n) cells made x y d t =
 valued : {S : Type 0} (o : Option Addr) (x y : Sight S) (v : Value) → Does (cell_value o) x v y → Keeps x y × (AreCells x.heap → IsSimple v)
 unfolding cell_value Run
 valued None x y v d = (keeps_heap x y (ap (λ s. s.heap) d.1) (ap (λ s. s.started) d.1), λ c. subst IsSimple (sym d.0) tt)
-valued (Some a) x y v d =
-    (keeps_heap x y (ap (λ s. s.heap) d.3.1 ∙ ap (λ s. s.heap) d.2.1) (ap (λ s. s.started) d.3.1 ∙ ap (λ s. s.started) d.2.1),
-      λ c. subst IsSimple (sym d.3.0) (value_simple d.0 (c.each a.0 d.0 d.2.0)))
+valued (Some a) x y v d = (
+  keeps_heap x y (ap (λ s. s.heap) d.3.1 ∙ ap (λ s. s.heap) d.2.1) (ap (λ s. s.started) d.3.1 ∙ ap (λ s. s.started) d.2.1),
+  λ c. subst IsSimple (sym d.3.0) (value_simple d.0 (c.each a.0 d.0 d.2.0)),
+)
 
 item_valued : {S : Type 0} (cells : List Addr) (item : Item) (x y : Sight S) (v : Value) → Does (item_row cells item) x v y → Keeps x y × (AreCells x.heap → IsSimple v)
 unfolding Run

@@ -1,13 +1,13 @@
 -- What a program of the line form does, step by step. States `docs/LANGUAGE.md`, "What a line does".
-use Rattle.std.specs.Prelude.{◌≡◌, ℕ, ◌+◌, ◌≤◌, zero, suc, Bool, true, false, List, [], ◌∷◌, ◌++◌, length, Option, Some, None, slice_get}
+use Rattle.std.specs.Prelude.{ℕ, ◌+◌, zero, suc, Bool, true, false, List, [], ◌∷◌, ◌++◌, Option, Some, None, slice_get}
 use Rattle.std.specs.Fmt.{signed_decimal}
 use Rattle.py_data.specs.declared.value.Addr.{Addr}
 use Rattle.py_data.specs.declared.value.Value.{Value}
 use Rattle.py_data.specs.declared.value.Value.TheVariants.{Unset, Int}
 use Rattle.py_data.specs.declared.value.Kind.TheVariants.{Cell}
 use Rattle.py_data.specs.declared.stop.Out.TheVariants.{Output}
-use Rattle.py_data.specs.Heap.{Heap, Rec, new_rec, value_at}
-use Rattle.py_data.specs.Row.{Row, Ret, Do, Read, SetVal, Make, Put, bind, ◌>>=◌}
+use Rattle.py_data.specs.Heap.{Rec, new_rec, value_at}
+use Rattle.py_data.specs.Row.{Row, Ret, Do, Read, SetVal, Make, Put, bind}
 use Rattle.lock_run.specs.declared.client.Outcome.{Outcome}
 use Rattle.lock_run.specs.declared.client.Outcome.TheVariants.{Done, Ended}
 use Rattle.lock_run.specs.declared.client.Life.{Life}

@@ -1,5 +1,5 @@
 -- What holds of every program of the line form. States `docs/LANGUAGE.md`, "The line form".
-use Rattle.std.specs.Prelude.{◌≡◌, ℕ, ◌^◌, ◌<◌, List, [], ◌∷◌, take, slice_get, Some, ℤ, pos, negsuc, ◌≤ℤ◌, IsTrue, All, Contains}
+use Rattle.std.specs.Prelude.{◌≡◌, ℕ, ◌^◌, ◌<◌, List, [], ◌∷◌, take, slice_get, Some, ℤ, pos, negsuc, ◌≤ℤ◌, All, Contains}
 use Rattle.stm_top.specs.declared.line_form.Item.{Item}
 use Rattle.stm_top.specs.declared.line_form.Item.TheVariants.{Name, Number}
 use Rattle.stm_top.specs.declared.line_form.Statement.{Statement}

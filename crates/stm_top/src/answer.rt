@@ -57,7 +57,12 @@ impl Answer {
             Answer::Done => Ok(Bytes::new(alloc)),
             Answer::Usage => Bytes::from_slice(alloc, USAGE),
             Answer::Refused { refusal } => {
-                refused(alloc, refusal.line(), refusal.number(), refusal_name(refusal))
+                refused(
+                    alloc,
+                    refusal.line(),
+                    refusal.number(),
+                    refusal_name(refusal),
+                )
             }
             Answer::NotBuilt { line } => refused(alloc, line, 13, b"not built"),
             Answer::InputFailed => Bytes::from_slice(alloc, b"pystm: cannot read the input\n"),

@@ -11,7 +11,7 @@ mod turns;
 
 pub use script::SCRIPT_LIMIT;
 pub use status::Status;
-pub use top::{run_words, Report};
+pub use top::{Report, run_words};
 
 #[cfg(test)]
 mod tests;

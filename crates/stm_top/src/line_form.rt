@@ -32,13 +32,9 @@ pub enum Operator {
 #[derive(Clone, Copy, Debug, Drop, PartialEq, Eq)]
 pub enum Item {
     /// A name that an earlier line assigned.
-    Name {
-        cell: u32,
-    },
+    Name { cell: u32 },
     /// A number, or what a calculation of two numbers gives.
-    Number {
-        value: i64,
-    },
+    Number { value: i64 },
 }
 
 /// A line that isn't spaces alone.

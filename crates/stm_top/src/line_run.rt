@@ -7,7 +7,9 @@ ghost use Rattle.stm_top.specs.LineStand.{Holds};
 
 use crate::line_form::{Item, LineProgram, Statement};
 use lock_run::{Client, Life, Outcome};
-use py_data::{Addr, Bytes, Items, Kind, Names, NoMemory, Out, Peek, Record, Stop, Value, Values, View};
+use py_data::{
+    Addr, Bytes, Items, Kind, Names, NoMemory, Out, Peek, Record, Stop, Value, Values, View,
+};
 use py_text::print_int;
 use std::alloc::Global;
 

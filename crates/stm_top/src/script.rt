@@ -12,7 +12,10 @@ pub const SCRIPT_LIMIT: usize = 4_194_304;
 /// Takes the script, line by line, to the source's end: its bytes, or nothing where there are more than a script may have.
 /// Of a longer text it takes one byte more than a script may have. The memory grows with the script.
 #[tactic(auto, using(crate::proofs::Taking::stopped_there))]
-pub(crate) fn take_script<I: Source>(alloc: Global, input: &mut I) -> Result<Option<Bytes>, TakeError>
+pub(crate) fn take_script<I: Source>(
+    alloc: Global,
+    input: &mut I,
+) -> Result<Option<Bytes>, TakeError>
     ensures whole { IfOk result (λ t. IfSome t (λ script. ScriptTaken script (I.state input.old) (I.state input.new))) }
     ensures long { result ≡ Ok None → TooMuchTaken (I.state input.old) (I.state input.new) }
     ensures stopped { IfErr result (λ e. TakingStopped e (I.state input.old) (I.state input.new)) }

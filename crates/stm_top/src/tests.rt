@@ -6,7 +6,7 @@ ghost use Rattle.stm_top.specs.LineStand.{LineSound};
 
 use crate::line_form::read_program;
 use crate::line_run::LineClient;
-use crate::{run_words, Report, SCRIPT_LIMIT};
+use crate::{Report, SCRIPT_LIMIT, run_words};
 use lock_run::{LockRun, Turn, TurnWhy};
 use py_data::Names;
 use std::alloc::{AllocError, Global};
@@ -65,7 +65,11 @@ fn report(
 fn in_a_line(alloc: Global, bytes: &[u8]) -> Result<String, AllocError> {
     let mut text = String::new(alloc);
     for byte in bytes {
-        text.push(if *byte == b'\n' { ';' } else { char::from(*byte) })?;
+        text.push(if *byte == b'\n' {
+            ';'
+        } else {
+            char::from(*byte)
+        })?;
     }
     Ok(text)
 }
@@ -79,19 +83,17 @@ fn told(alloc: Global, report: &MemReport) -> Result<String, AllocError> {
 }
 
 /// What a script answers, in which `;` stands for a newline.
-fn answer(
-    rt: &impl Abort,
-    alloc: Global,
-    script: &str,
-    plan: Plan,
-) -> Result<String, AllocError> {
+fn answer(rt: &impl Abort, alloc: Global, script: &str, plan: Plan) -> Result<String, AllocError> {
     let mut bytes = Vec::new(alloc);
     for byte in script.as_bytes() {
         bytes.push(if *byte == b';' { b'\n' } else { *byte })?;
     }
     let mut words = Vec::new(alloc);
     words.push(format!(in alloc; "-")?)?;
-    told(alloc, &report(rt, alloc, words.as_slice(), bytes.as_slice(), plan)?)
+    told(
+        alloc,
+        &report(rt, alloc, words.as_slice(), bytes.as_slice(), plan)?,
+    )
 }
 
 /// Scripts, each with its answer behind `|`. Written by hand, the outputs as Python 2.7 prints them.
@@ -139,12 +141,19 @@ fn runs_scripts(rt: HostRuntime) -> Tested {
 fn input_fails(rt: HostRuntime) -> Tested {
     for takes in 1..=4 {
         for bytes in 0..=1 {
-            let plan = Plan { takes, bytes, ..NO_FAILURE };
+            let plan = Plan {
+                takes,
+                bytes,
+                ..NO_FAILURE
+            };
             let shown = answer(&rt, rt.alloc(), "x = 1;print x;print 2, x;", plan)?;
             assert_eq!(rt; shown.as_str(), "5~~pystm: cannot read the input;~0");
         }
     }
-    let plan = Plan { takes: 5, ..NO_FAILURE };
+    let plan = Plan {
+        takes: 5,
+        ..NO_FAILURE
+    };
     let shown = answer(&rt, rt.alloc(), "x = 1;print x;print 2, x;", plan)?;
     assert_eq!(rt; shown.as_str(), "0~1;2 1;~~5");
     Ok(())
@@ -171,7 +180,9 @@ fn check_puts(rt: &impl Abort, alloc: Global, rows: &str) -> Result<usize, test:
         let (out, turns) = rest.split_once('|').ok_or("a row without turns")?;
         let plan = Plan {
             puts: puts.parse::<u64>().map_err(|_| "a call that is no number")?,
-            bytes: bytes.parse::<usize>().map_err(|_| "bytes that are no number")?,
+            bytes: bytes
+                .parse::<usize>()
+                .map_err(|_| "bytes that are no number")?,
             ..NO_FAILURE
         };
         let shown = answer(rt, alloc, "x = 1;print x;print 2, x;", plan)?;
@@ -185,10 +196,16 @@ fn check_puts(rt: &impl Abort, alloc: Global, rows: &str) -> Result<usize, test:
 #[test]
 fn output_fails(rt: HostRuntime) -> Tested {
     assert_eq!(rt; check_puts(&rt, rt.alloc(), FAILED_PUTS)?, 10);
-    let plan = Plan { puts: 2, ..NO_FAILURE };
+    let plan = Plan {
+        puts: 2,
+        ..NO_FAILURE
+    };
     let shown = answer(&rt, rt.alloc(), "print 1;print 2;", plan)?;
     assert_eq!(rt; shown.as_str(), "6~1~pystm: cannot write the output;~1");
-    let plan = Plan { puts: 6, ..NO_FAILURE };
+    let plan = Plan {
+        puts: 6,
+        ..NO_FAILURE
+    };
     let shown = answer(&rt, rt.alloc(), "x = 1;print x;print 2, x;", plan)?;
     assert_eq!(rt; shown.as_str(), "0~1;2 1;~~5");
     Ok(())
@@ -196,30 +213,38 @@ fn output_fails(rt: HostRuntime) -> Tested {
 
 #[test]
 fn error_output_fails(rt: HostRuntime) -> Tested {
-    let plan = Plan { errs: 1, bytes: 6, ..NO_FAILURE };
+    let plan = Plan {
+        errs: 1,
+        bytes: 6,
+        ..NO_FAILURE
+    };
     let shown = answer(&rt, rt.alloc(), "print y;", plan)?;
     assert_eq!(rt; shown.as_str(), "3~~pystm:~0");
     Ok(())
 }
 
-/// Words that don't name the source: none, a file, the source twice.
+/// What words answer that are separated by spaces, with what was asked of the loader and of the source.
+fn word_answer(rt: &impl Abort, alloc: Global, text: &str) -> Result<String, AllocError> {
+    let mut words = Vec::new(alloc);
+    for word in text.split(' ') {
+        words.push(format!(in alloc; "{word}")?)?;
+    }
+    let left = report(rt, alloc, words.as_slice(), b"print 1\n", NO_FAILURE)?;
+    let told = told(alloc, &left)?;
+    let asked = left.loader.asked().len();
+    format!(in alloc; "{told}~{asked}~{}", left.input.ends())
+}
+
 #[test]
 fn words_are_refused(rt: HostRuntime) -> Tested {
-    let alloc = rt.alloc();
-    let mut words = Vec::new(alloc);
-    let wanted = "2~~pystm: usage: pystm [--segments N] [--length N] [--pages N] [--budget N] FILE, - or --demo N;~0";
-    let none = report(&rt, alloc, words.as_slice(), b"print 1\n", NO_FAILURE)?;
-    assert_eq!(rt; told(alloc, &none)?.as_str(), wanted);
-    words.push(format!(in alloc; "FILE")?)?;
-    let file = report(&rt, alloc, words.as_slice(), b"print 1\n", NO_FAILURE)?;
-    assert_eq!(rt; told(alloc, &file)?.as_str(), wanted);
-    assert!(rt; file.loader.asked().is_empty());
-    words.truncate(0);
-    words.push(format!(in alloc; "-")?)?;
-    words.push(format!(in alloc; "-")?)?;
-    let twice = report(&rt, alloc, words.as_slice(), b"print 1\n", NO_FAILURE)?;
-    assert_eq!(rt; told(alloc, &twice)?.as_str(), wanted);
-    assert!(rt; twice.input.ends() == 0 && twice.conflicts.len() == 0);
+    let usage =
+        "2~~pystm: usage: pystm [--segments N] [--length N] [--pages N] [--budget N] FILE, - or --demo N;~0~0~0";
+    for text in ["", "FILE", "- -", "-- -", "--demo", "--segments 4 -"] {
+        let shown = word_answer(&rt, rt.alloc(), text)?;
+        assert_eq!(rt; shown.as_str(), usage, "{text:?}");
+    }
+    let shown = word_answer(&rt, rt.alloc(), "-")?;
+    assert_eq!(rt; shown.as_str(), "0~1;~~3~0~1");
     Ok(())
 }
 
@@ -229,7 +254,10 @@ fn spaces(rt: &impl Abort, alloc: Global, count: usize) -> Result<String, AllocE
     script.resize(count, b' ')?;
     let mut words = Vec::new(alloc);
     words.push(format!(in alloc; "-")?)?;
-    told(alloc, &report(rt, alloc, words.as_slice(), script.as_slice(), NO_FAILURE)?)
+    told(
+        alloc,
+        &report(rt, alloc, words.as_slice(), script.as_slice(), NO_FAILURE)?,
+    )
 }
 
 #[test]

@@ -4,14 +4,14 @@ ghost use Rattle.stm_top.specs.declared.answer.Answer.TheVariants.{Usage};
 ghost use Rattle.stm_top.specs.TopCall.{devices_of, bytes_of, names_source, IsProgram, NoProgram, ProgramEnded, Caused, TextPut, Answered};
 
 use crate::answer::Answer;
-use crate::line_form::{read_program, LineError, LineProgram};
+use crate::line_form::{LineError, LineProgram, read_program};
 use crate::line_run::LineClient;
 use crate::script::take_script;
 use crate::status::Status;
 use crate::turns::run_turns;
 use lock_run::{History, LockRun};
 use py_data::{Bytes, Conflicts};
-use py_tokens::{tokens, TokenError};
+use py_tokens::{TokenError, tokens};
 use std::alloc::Global;
 use stm_io::{Gate, Loader, Sink, Source, TakeError};
 

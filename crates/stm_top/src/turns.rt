@@ -10,7 +10,7 @@ ghost use Rattle.stm_top.specs.declared.line_run.LineState.{LineState};
 
 use crate::answer::Answer;
 use crate::line_run::{LineClient, LineState};
-use lock_run::{run_law, History, Life, LockRun, TurnWhy};
+use lock_run::{History, Life, LockRun, TurnWhy, run_law};
 use stm_io::{Sink, Source};
 
 /// Runs the machine's only thread to its end, one step a turn. The turns that were done join the history. There is room for
@@ -26,7 +26,7 @@ pub(crate) fn run_turns<I: Source, O: Sink, E: Sink>(
         → Stands o e (lock_state I.state O.state E.state run.old).view (lock_state I.state O.state E.state run.old).threads m
         → m.world.err ≡ []
         → (r : Ran (program_in (lock_client run.old)) m o e history.new.entries (lock_state I.state O.state E.state run.new).view.input (lock_state I.state O.state E.state run.new).view.out (lock_state I.state O.state E.state run.new).view.err)
-            × TurnsEnd result r (lock_state I.state O.state E.state run.old).view.writes (lock_state I.state O.state E.state run.new).view.writes }
+        × TurnsEnd result r (lock_state I.state O.state E.state run.old).view.writes (lock_state I.state O.state E.state run.new).view.writes }
 {
     run_law::<LineState>();
     'turns: while run.life(0) == Life::Lives {

@@ -1,4 +1,4 @@
-use Rattle.std.proofs.Common.{◌≡◌, ◌∙◌, sym}
+use Rattle.std.proofs.Common.{◌∙◌, sym}
 use Rattle.stm_top.proofs.LineCells.{set_there}
 use Rattle.stm_top.proofs.line_run.assign.Goals as goal
 

@@ -1,8 +1,7 @@
-use Rattle.std.proofs.Common.{◌≡◌, arith, subst, sym, [], ◌<◌, ◌+◌}
+use Rattle.std.proofs.Common.{arith, subst, sym, ◌+◌}
 use Rattle.py_data.specs.Row.{Make}
 use Rattle.py_data.specs.Sense.{Asks}
 use Rattle.py_data.proofs.Steps.{stop-as}
-use Rattle.stm_top.specs.LineRun.{unset_cell, with_cell}
 use Rattle.stm_top.proofs.LineCells.{Making, making_first, making_more, making_refused, making_starved, making_last, make_asks}
 use Rattle.stm_top.proofs.line_run.make_all.Goals as goal
 
@@ -27,7 +26,7 @@ pub loop-i-preserved : goal.loop-i-preserved
 loop-i-preserved g c =
     let d = subst (λ r. g.V.View.sense.does (Make r) c.loop-i.v c.in_ok-a.a.0 c.make.new.self) c.in_ok-cell.ensures c.in_ok-a.ensures in
     subst (λ cells. Making g.V.View.sense c.args.n (c.loop-i._i + 1) cells c.args.v.now c.make.new.self) (sym c.in_ok-push.ensures.ok)
-      (making_more g.met.V.View.lawful c.in_ok-a.a.0 c.make.new.self c.loop-i.invariant (omega arith) d)
+    (making_more g.met.V.View.lawful c.in_ok-a.a.0 c.make.new.self c.loop-i.invariant (omega arith) d)
 
 pub returns : goal.returns
 returns g c = making_last c.loop-i.invariant (omega arith)

@@ -1,9 +1,8 @@
-use Rattle.std.proofs.Common.{◌≡◌, arith, subst, sym, ap, ◌∙◌, refl, [], ◌∷◌, ◌<◌, ◌≤◌, ◌+◌, get_or, length}
+use Rattle.std.proofs.Common.{arith, subst, ap, ◌∙◌, ◌≤◌, length}
 use Rattle.py_data.specs.declared.stop.Out.TheVariants.{Output}
 use Rattle.py_data.specs.Row.{Put}
 use Rattle.py_data.proofs.Steps.{stop-as}
-use Rattle.stm_top.specs.LineRun.{text_of, after_space}
-use Rattle.stm_top.proofs.LinePrinting.{Printing, printing_no_value, printing_no_text, printing_refused, printing_more, printing_last, next_among}
+use Rattle.stm_top.proofs.LinePrinting.{printing_no_value, printing_no_text, printing_refused, printing_more, printing_last, next_among}
 use Rattle.stm_top.proofs.line_run.print_items.Goals as goal
 
 pub returns-in_err-value : goal.returns-in_err-value

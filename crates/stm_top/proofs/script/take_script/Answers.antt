@@ -1,5 +1,5 @@
-use Rattle.std.proofs.Common.{◌≡◌, ◌≢◌, ap, subst, sym, arith, refl, length, length-append, ◌∙◌, ◌++◌}
-use Rattle.stm_top.specs.Script.{TakenSoFar, ScriptTaken}
+use Rattle.std.proofs.Common.{◌≡◌, ap, subst, sym, arith, length, length-append, ◌∙◌, ◌++◌}
+use Rattle.stm_top.specs.Script.{TakenSoFar}
 use Rattle.stm_top.proofs.Taking.{room_more, one_line_more, at_the_end}
 use Rattle.stm_top.proofs.script.take_script.Goals as goal
 
@@ -10,7 +10,8 @@ returns-then-is_empty-clause-whole g c =
 
 pub lines-preserved : goal.lines-preserved
 lines-preserved g c =
-    let e : c.extend_from_slice.new.self ≡ c.lines.script ++ c.in_ok-line.line.items = c.in_ok-extend_from_slice.ensures.ok ∙ ap (λ z. c.lines.script ++ z) c.as_slice.ensures.value in
-    (room_more (length c.lines.script) (length c.in_ok-line.line.items) _ (search (arith)) (search (arith, c.in_ok-line.ensures.short)) (ap length e ∙ length-append c.lines.script c.in_ok-line.line.items),
+    let e : c.extend_from_slice.new.self ≡ c.lines.script ++ c.in_ok-line.line.items = c.in_ok-extend_from_slice.ensures.ok ∙ ap (λ z. c.lines.script ++ z) c.as_slice.ensures.value in (
+      room_more (length c.lines.script) (length c.in_ok-line.line.items) _ (search (arith)) (search (arith, c.in_ok-line.ensures.short)) (ap length e ∙ length-append c.lines.script c.in_ok-line.line.items),
       subst (λ z. TakenSoFar z (g.I.Source.state c.args.input.now) (g.I.Source.state c.take_line.new.self)) (sym e)
-      (one_line_more c.lines.script c.in_ok-line.line.items (g.I.Source.state c.args.input.now) (g.I.Source.state c.lines.input) (g.I.Source.state c.take_line.new.self) _ c.lines.invariant.1 c.in_ok-line.ensures.line c.in_ok-line.ensures.rest c.in_ok-line.ensures.ends c.take_line.ensures.later (λ q. search (arith, q))))
+          (one_line_more c.lines.script c.in_ok-line.line.items (g.I.Source.state c.args.input.now) (g.I.Source.state c.lines.input) (g.I.Source.state c.take_line.new.self) _ c.lines.invariant.1 c.in_ok-line.ensures.line c.in_ok-line.ensures.rest c.in_ok-line.ensures.ends c.take_line.ensures.later (λ q. search (arith, q))),
+    )

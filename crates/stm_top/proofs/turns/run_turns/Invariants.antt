@@ -1,7 +1,7 @@
 use Rattle.std.proofs.Common.{◌≡◌, List, ℕ, Option}
 use Rattle.lock_run.specs.LockState.{lock_state, lock_client, IsSound}
 use Rattle.lock_run.specs.Machine.{Machine}
-use Rattle.lock_run.specs.Turns.{Stands, NoneFall, LockState}
+use Rattle.lock_run.specs.Turns.{Stands, NoneFall}
 use Rattle.stm_top.specs.LineClient.{program_in}
 use Rattle.stm_top.specs.LineStand.{LineSound}
 use Rattle.stm_top.specs.declared.line_run.LineState.{LineState}

@@ -1,4 +1,4 @@
-use Rattle.std.proofs.Common.{◌≡◌, ◌∙◌, ◌<◌, ap, sym, arith, length}
+use Rattle.std.proofs.Common.{◌∙◌, ◌<◌, ap, sym, arith, length}
 use Rattle.std.specs.Option.{option_copied}
 use Rattle.stm_top.proofs.LineStepping.{first_done, first_stopped, statement_done, statement_stopped, last_done, index_within}
 use Rattle.stm_top.proofs.line_run.LineClientClient.step.Goals as goal
