@@ -1,5 +1,4 @@
 //! The top call over devices in memory, and a history that is run again turn by turn.
-ghost use Rattle.std.specs.Prelude.{◌≡◌, ◌≤◌};
 ghost use Rattle.lock_run.specs.LockState.{lock_state, IsSound};
 ghost use Rattle.stm_io.specs.Memory.{mem_sink_state, mem_source_state};
 ghost use Rattle.stm_top.specs.LineStand.{LineSound};
@@ -7,12 +6,12 @@ ghost use Rattle.stm_top.specs.LineStand.{LineSound};
 use crate::line_form::read_program;
 use crate::line_run::LineClient;
 use crate::{Report, SCRIPT_LIMIT, run_words};
-use lock_run::{LockRun, Turn, TurnWhy};
-use py_data::Names;
+use lock_run::{History, LockRun, Turn, TurnWhy};
+use py_data::{Addr, Names};
 use std::alloc::{AllocError, Global};
 use std::process::Abort;
 use std::test;
-use stm_io::{Fail, MemLoader, MemSink, MemSource, OpenGate, SureLoader};
+use stm_io::{Fail, MemLoader, MemSink, MemSource, OpenGate};
 
 type Tested = Result<(), test::Fail>;
 
@@ -265,5 +264,137 @@ fn script_has_a_limit(rt: HostRuntime) -> Tested {
     assert_eq!(rt; spaces(&rt, rt.alloc(), SCRIPT_LIMIT)?.as_str(), "0~~~2");
     let wanted = "12~~pystm: script longer than 4194304 bytes;~0";
     assert_eq!(rt; spaces(&rt, rt.alloc(), SCRIPT_LIMIT + 1)?.as_str(), wanted);
+    Ok(())
+}
+
+type MemRun<'p> = LockRun<'p, LineClient, MemSource, MemSink, MemSink>;
+
+/// Does a turn, and answers the steps that stay done where it is cut for its names.
+fn turn_again(
+    rt: &impl Abort,
+    run: &mut MemRun<'_>,
+    turn: &Turn,
+    names: &Names,
+) -> Result<Option<u64>, test::Fail>
+    requires { IsSound LineSound (lock_state mem_source_state mem_sink_state mem_sink_state run.old) }
+    ensures { IsSound LineSound (lock_state mem_source_state mem_sink_state mem_sink_state run.new) }
+{
+    assert!(rt; turn.steps >= 1);
+    match run.turn(turn.thread, turn.steps, names) {
+        Ok(()) => Ok(None),
+        Err(fault) => {
+            assert!(rt; fault.why == TurnWhy::BadNames);
+            Ok(Some(fault.done))
+        }
+    }
+}
+
+/// Does a turn of a history, which isn't cut.
+fn next_turn(
+    rt: &impl Abort,
+    run: &mut MemRun<'_>,
+    history: &History,
+    i: usize,
+) -> Result<(), test::Fail>
+    requires { IsSound LineSound (lock_state mem_source_state mem_sink_state mem_sink_state run.old) }
+    ensures { IsSound LineSound (lock_state mem_source_state mem_sink_state mem_sink_state run.new) }
+{
+    let turn = history.get(i).ok_or("a turn is missing")?;
+    assert!(rt; turn_again(rt, run, turn, &turn.names)?.is_none());
+    Ok(())
+}
+
+/// How the first turn's names are changed: as they were, one left over, one doubled, one too few.
+#[derive(Clone, Copy)]
+enum Change {
+    None,
+    Over,
+    Doubled,
+    Few,
+}
+
+fn changed(alloc: Global, names: &Names, change: Change) -> Result<Names, test::Fail> {
+    let mut names = names.copy(alloc)?;
+    let first = *names.get(0).ok_or("no name")?;
+    let last = names.len().saturating_sub(1);
+    match change {
+        Change::None => (),
+        Change::Over => names.push(Addr(77))?,
+        Change::Doubled => {
+            names.truncate(last);
+            names.push(first)?;
+        }
+        Change::Few => names.truncate(last),
+    }
+    Ok(names)
+}
+
+/// Does the first turn with these names, and then the other four, where it isn't cut. Answers the steps that stay done
+/// where it is.
+fn turns_again(
+    rt: &impl Abort,
+    run: &mut MemRun<'_>,
+    history: &History,
+    names: &Names,
+) -> Result<Option<u64>, test::Fail>
+    requires { IsSound LineSound (lock_state mem_source_state mem_sink_state mem_sink_state run.old) }
+{
+    let turn = history.get(0).ok_or("no turn")?;
+    let done = turn_again(rt, run, turn, names)?;
+    if done.is_none() {
+        next_turn(rt, run, history, 1)?;
+        next_turn(rt, run, history, 2)?;
+        next_turn(rt, run, history, 3)?;
+        next_turn(rt, run, history, 4)?;
+    }
+    Ok(done)
+}
+
+/// Runs a history again on a machine of its own. Answers the steps of the first turn that stay done where it is cut, and
+/// the bytes that were written.
+fn replayed(
+    rt: &impl Abort,
+    alloc: Global,
+    client: &LineClient,
+    history: &History,
+    names: &Names,
+) -> Result<(Option<u64>, MemSink), test::Fail> {
+    let input = MemSource::new(alloc, Vec::new(alloc), Vec::new(alloc));
+    let out = MemSink::new(alloc, Vec::new(alloc));
+    let err = MemSink::new(alloc, Vec::new(alloc));
+    match LockRun::new(alloc, client, input, out, err) {
+        Ok(mut run) => {
+            let done = turns_again(rt, &mut run, history, names)?;
+            Ok((done, run.finish().1))
+        }
+        Err(_) => Err("no memory".into()),
+    }
+}
+
+const TWO_NAMES: &[u8] = b"x = 1\ny = x\nprint x, y\n";
+
+/// Runs a script, and its history again, where the first turn's names are changed.
+fn replay(rt: &impl Abort, alloc: Global, change: Change) -> Result<String, test::Fail> {
+    let mut words = Vec::new(alloc);
+    words.push(format!(in alloc; "-")?)?;
+    let left = report(rt, alloc, words.as_slice(), TWO_NAMES, NO_FAILURE)?;
+    let client = LineClient::new(read_program(alloc, TWO_NAMES).map_err(|_| "no program")?);
+    let turn = left.history.get(0).ok_or("no turn")?;
+    let names = changed(alloc, &turn.names, change)?;
+    let (done, out) = replayed(rt, alloc, &client, &left.history, &names)?;
+    let written = in_a_line(alloc, out.written())?;
+    Ok(format!(in alloc; "{done:?}~{written}")?)
+}
+
+#[test]
+fn history_runs_again(rt: HostRuntime) -> Tested {
+    let whole = replay(&rt, rt.alloc(), Change::None)?;
+    assert_eq!(rt; whole.as_str(), "None~1 1;");
+    let over = replay(&rt, rt.alloc(), Change::Over)?;
+    assert_eq!(rt; over.as_str(), "Some(1)~");
+    let doubled = replay(&rt, rt.alloc(), Change::Doubled)?;
+    assert_eq!(rt; doubled.as_str(), "Some(0)~");
+    let few = replay(&rt, rt.alloc(), Change::Few)?;
+    assert_eq!(rt; few.as_str(), "Some(0)~");
     Ok(())
 }
