@@ -1,0 +1,4 @@
+pub mod Publish
+pub mod Kept
+pub mod Commit
+pub mod New

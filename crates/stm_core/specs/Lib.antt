@@ -1,0 +1,4 @@
+pub mod CoreState
+pub mod Good
+pub mod Moves
+pub mod Passes

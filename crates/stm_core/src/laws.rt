@@ -1,0 +1,32 @@
+//! Laws of the transactional core, as contracts: a call of such a function does nothing, and gives its caller's proof the
+//! facts of its clauses.
+ghost use Rattle.std.specs.Prelude.{◌≡◌, ◌≤◌, ℕ, List, true, false};
+ghost use Rattle.py_data.specs.Heap.{Heap};
+ghost use Rattle.py_data.specs.World.{World};
+ghost use Rattle.py_data.specs.Sight.{mem};
+ghost use Rattle.lock_run.specs.Prog.{Prog};
+ghost use Rattle.lock_run.specs.Machine.{Machine};
+ghost use Rattle.stm_core.specs.CoreState.{Transaction, CoreState, Running, committed, overlay, world_after, threads_after, core_new};
+ghost use Rattle.stm_core.specs.Good.{Stands, Apart, Good};
+ghost use Rattle.stm_core.specs.Moves.{Advances, Move, Follows};
+ghost use Rattle.stm_core.specs.Passes.{NoneWins, after_commit};
+
+/// A core is good when it is made, and each list of moves keeps it good.
+pub fn good_law<S>()
+    ensures new { (p : Prog S) (w : World) (most : ℕ) → Good p (committed (core_new p w)) most (core_new p w) }
+    ensures moves { (p : Prog S) (start : Machine S) (most : ℕ) (k k1 : CoreState S) (ms : List (Move S)) → Good p start most k → Follows p most k ms k1 → Good p start most k1 }
+{}
+
+/// A transaction that makes a step still stands, and a commit leaves each other transaction standing that has not looked at
+/// what it changed.
+pub fn stands_law<S>()
+    ensures advance { (p : Prog S) (h : Heap) (ts : List S) (w : World) (x x1 : Transaction S) → Stands p h ts w x → Advances p h w x x1 → Stands p h ts w x1 }
+    ensures commit { (p : Prog S) (h : Heap) (ts : List S) (w : World) (x y : Transaction S) → Stands p h ts w x → Stands p h ts w y → Apart x y
+        → ((a : ℕ) → mem a x.changed ≡ true → y.looked a ≡ false) → Stands p (overlay h x.changes) (threads_after ts x) (world_after w x) y }
+{}
+
+/// A commit in two passes is a list of moves, where the first pass meets no reader that wins.
+pub fn commit_law<S>()
+    ensures { (p : Prog S) (most i : ℕ) (x : Transaction S) (js : List ℕ) (k : CoreState S) → k.segments i ≡ Running x → 1 ≤ x.steps → NoneWins i x k
+        → ((j : ℕ) (y : Transaction S) → k.segments j ≡ Running y → mem j js ≡ true) → (ms : List (Move S)) × Follows p most k ms (after_commit i x js k) }
+{}

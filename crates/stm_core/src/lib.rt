@@ -1,0 +1,8 @@
+//! The transactional core: several transactions of a client's threads over one store.
+#![tactic(auto)]
+
+mod cause;
+mod laws;
+
+pub use cause::Cause;
+pub use laws::{commit_law, good_law, stands_law};
