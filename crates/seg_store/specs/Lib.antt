@@ -1,0 +1,4 @@
+pub mod Meaning
+pub mod Calls
+pub mod Store
+pub mod Laws

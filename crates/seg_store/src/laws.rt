@@ -1,0 +1,16 @@
+//! Laws of what a segment sees, as contracts: a call of this function does nothing, and gives its caller's proof the facts of
+//! its clauses.
+ghost use Rattle.std.specs.Prelude.{ℕ};
+ghost use Rattle.py_data.specs.Heap.{Rec};
+ghost use Rattle.seg_store.specs.Meaning.{Part, Meaning};
+ghost use Rattle.seg_store.specs.Laws.{PartSet, LockLaw, ChangeShows, MakeShows, StepShows, EndShows};
+
+/// What a segment sees and holds after each call of a store.
+pub fn sees_law()
+    ensures part { (k : ℕ) (p : Part) (m : Meaning) → PartSet k p m }
+    ensures lock { LockLaw }
+    ensures change { (k a : ℕ) (f : Rec → Rec) (m : Meaning) → ChangeShows k a f m }
+    ensures make { (k n : ℕ) (r : Rec) (m : Meaning) → MakeShows k n r m }
+    ensures step { (k : ℕ) (m : Meaning) → StepShows k m }
+    ensures ended { (k : ℕ) (m : Meaning) → EndShows k m }
+{}
