@@ -19,7 +19,8 @@ use Rattle.lock_run.specs.Machine.{Machine, Steps}
 use Rattle.lock_run.proofs.StepsMirror.{steps_grows}
 use Rattle.lock_run.proofs.Along.{runs_snoc}
 use Rattle.stm_core.specs.declared.cause.Cause.{Cause}
-use Rattle.stm_core.specs.CoreState.{Transaction, Segment, Idle, Doomed, Running, CoreState, committed, loser, winner, wins, overlay, turn_of, world_after, sight_of, set_segment, with_segment, with_conflict, fresh}
+use Rattle.seg_store.specs.Meaning.{overlay}
+use Rattle.stm_core.specs.CoreState.{Transaction, Segment, Idle, Doomed, Running, CoreState, committed, loser, winner, wins, turn_of, world_after, sight_of, set_segment, with_segment, with_conflict, fresh}
 use Rattle.stm_core.specs.Good.{Stands, Apart, IsConflict, Unfinished, Good}
 use Rattle.stm_core.specs.Moves.{IsStanding, Advances, IsFree, Stays, first_cause, begun_at, published, Move, Begins, Drops, Dooms, Loses, Goes, Rests, Commits, Keeps, Next, Follows}
 use Rattle.stm_core.proofs.Publish.{publish_stands, publish_turn, get_set_other, get_append}

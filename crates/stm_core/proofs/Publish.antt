@@ -10,7 +10,8 @@ use Rattle.py_data.proofs.Grow.{back}
 use Rattle.lock_run.specs.Prog.{Prog}
 use Rattle.lock_run.specs.Machine.{DoesTurn}
 use Rattle.lock_run.proofs.StepsMirror.{steps_grows, steps_mirror}
-use Rattle.stm_core.specs.CoreState.{Transaction, over, overlay, owned, turn_of, world_after, threads_after}
+use Rattle.seg_store.specs.Meaning.{over, overlay}
+use Rattle.stm_core.specs.CoreState.{Transaction, owned, turn_of, world_after, threads_after}
 use Rattle.stm_core.specs.Good.{Stands, Apart}
 
 pub get_set_other : {X : Type 0} (xs : List X) (i j : ℕ) (x : X) → i ≢ j → slice_get (slice_set xs i x) j ≡ slice_get xs j

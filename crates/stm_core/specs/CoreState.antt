@@ -11,6 +11,7 @@ use Rattle.py_data.specs.Sight.{Sight, mem, no_marks}
 use Rattle.lock_run.specs.declared.turn.Turn.{Turn}
 use Rattle.lock_run.specs.Prog.{Prog}
 use Rattle.lock_run.specs.Machine.{Machine}
+use Rattle.seg_store.specs.Meaning.{overlay}
 use Rattle.stm_core.specs.declared.cause.Cause.{Cause}
 
 -- a transaction that runs: its thread, the steps done so far, and what they changed, locked, looked at, made and started
@@ -65,14 +66,6 @@ abbrev pub side : {S : Type 0} → ℕ → Transaction S → Side
 side i x = record { segment = i; thread = x.thread; begun = x.begun; solo = x.solo }
 
 -- ---- what a transaction sees
-
-abbrev pub over : Option Rec → Option Rec → Option Rec
-over None y = y
-over (Some r) y = Some r
-
--- a heap with changed records laid over it
-abbrev pub overlay : Heap → Heap → Heap
-overlay image changes = λ a. over (changes a) (image a)
 
 -- the records that it holds: those that it has locked and those that it made
 abbrev pub owned : {S : Type 0} → Transaction S → Marks

@@ -9,7 +9,8 @@ use Rattle.lock_run.specs.declared.client.Life.TheVariants.{Lives}
 use Rattle.lock_run.specs.declared.turn.Turn.{Turn}
 use Rattle.lock_run.specs.Prog.{Prog}
 use Rattle.lock_run.specs.Machine.{Machine, Steps, Runs}
-use Rattle.stm_core.specs.CoreState.{Transaction, Doomed, Running, CoreState, committed, loser, winner, wins, over, owned}
+use Rattle.seg_store.specs.Meaning.{over}
+use Rattle.stm_core.specs.CoreState.{Transaction, Doomed, Running, CoreState, committed, loser, winner, wins, owned}
 
 -- a lock: on a tracked record of the image, which counts as looked at
 pub record IsLocked (image : Heap) (looked : Marks) (a : ℕ) : Type 0 where

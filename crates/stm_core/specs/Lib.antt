@@ -2,3 +2,4 @@ pub mod CoreState
 pub mod Good
 pub mod Moves
 pub mod Passes
+pub mod Books

@@ -9,7 +9,8 @@ use Rattle.lock_run.specs.declared.client.Life.TheVariants.{Lives}
 use Rattle.lock_run.specs.Prog.{Prog}
 use Rattle.lock_run.specs.Machine.{Step}
 use Rattle.stm_core.specs.declared.cause.Cause.{Cause}
-use Rattle.stm_core.specs.CoreState.{Transaction, Idle, Doomed, Running, CoreState, loser, winner, wins, side, over, overlay, owned, turn_of, world_after, threads_after, sight_of, set_segment, with_segment, with_conflict, fresh}
+use Rattle.seg_store.specs.Meaning.{over, overlay}
+use Rattle.stm_core.specs.CoreState.{Transaction, Idle, Doomed, Running, CoreState, loser, winner, wins, side, owned, turn_of, world_after, threads_after, sight_of, set_segment, with_segment, with_conflict, fresh}
 use Rattle.stm_core.specs.Good.{IsLocked}
 
 -- A conflict stands: the writer has locked the record, and the other has looked at it or asks to change it. The loser is the

@@ -1,6 +1,7 @@
 //! The transactional core: several transactions of a client's threads over one store.
 #![tactic(auto)]
 
+mod books;
 mod cause;
 mod laws;
 

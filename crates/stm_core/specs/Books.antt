@@ -1,0 +1,110 @@
+-- The books of a core as values, and the core's state that they and a store stand for. States `docs/HEAP.md`, "The
+-- transactional core".
+use Rattle.std.specs.Prelude.{◌≡◌, ◌≢◌, ℕ, ◌+◌, ◌<◌, ◌≤◌, Bool, true, false, ◌&&◌, List, [], ◌∷◌, length, take, map, Option, Some, None, slice_get}
+use Rattle.std.specs.List.{sum_by}
+use Rattle.py_data.specs.declared.value.Addr.{Addr}
+use Rattle.py_data.specs.declared.stop.Side.{Side}
+use Rattle.py_data.specs.Heap.{Rec, Heap, Marks, is_tracked}
+use Rattle.py_data.specs.World.{World}
+use Rattle.py_data.specs.Collection.{places}
+use Rattle.py_data.specs.Sight.{mem}
+use Rattle.seg_store.specs.Meaning.{Part, Meaning, holds}
+use Rattle.stm_core.specs.declared.books.Progress.{Progress}
+use Rattle.stm_core.specs.declared.books.Work.{Work}
+use Rattle.stm_core.specs.declared.books.Hand.{Hand}
+use Rattle.stm_core.specs.declared.books.Hand.TheVariants as hand
+use Rattle.stm_core.specs.declared.books.Books.{Books}
+use Rattle.stm_core.specs.CoreState.{Transaction, Segment, Idle, Doomed, Running, CoreState}
+
+-- ---- of one hand
+
+abbrev pub is_running : {S : Type 0} → Option (Hand S) → Bool
+is_running (Some (hand.Runs w)) = true
+is_running _ = false
+
+abbrev pub started_of : {S : Type 0} → Option (Hand S) → ℕ
+started_of (Some (hand.Runs w)) = length w.progress.started
+started_of _ = 0
+
+abbrev pub names_of : {S : Type 0} → Option (Hand S) → List Addr
+names_of (Some (hand.Runs w)) = w.progress.names
+names_of _ = []
+
+-- a transaction runs on the segment
+abbrev pub runs_at : {S : Type 0} → List (Hand S) → ℕ → Bool
+runs_at hs j = is_running (slice_get hs j)
+
+-- how many threads its transaction started
+abbrev pub started_at : {S : Type 0} → List (Hand S) → ℕ → ℕ
+started_at hs j = started_of (slice_get hs j)
+
+abbrev pub names_at : {S : Type 0} → List (Hand S) → ℕ → List Addr
+names_at hs j = names_of (slice_get hs j)
+
+abbrev pub one_running : {S : Type 0} → Hand S → ℕ
+one_running (hand.Runs w) = 1
+one_running _ = 0
+
+abbrev pub one_started : {S : Type 0} → Hand S → ℕ
+one_started (hand.Runs w) = length w.progress.started
+one_started _ = 0
+
+-- ---- the core's state
+
+-- the transaction that a part of a store and the work in hand are
+abbrev pub transaction : {S : Type 0} → World → Part → Work S → Transaction S
+transaction w p x = record {
+  thread = x.thread;
+  steps = x.steps;
+  state = x.state;
+  changes = p.changes;
+  changed = p.changed;
+  looked = p.looked;
+  made = x.progress.names;
+  started = x.progress.started;
+  begun = x.begun;
+  solo = false;
+  world = w;
+}
+
+abbrev pub segment_of : {S : Type 0} → World → Part → Option (Hand S) → Segment S
+segment_of w p None = Idle
+segment_of w p (Some hand.Idle) = Idle
+segment_of w p (Some (hand.Doomed f)) = Doomed f
+segment_of w p (Some (hand.Runs x)) = Running (transaction w p x)
+
+-- the state of the core, in this world
+abbrev pub core_of : {S : Type 0} → World → Meaning → Books S → CoreState S
+core_of w m b = record {
+  image = m.image;
+  threads = b.threads.entries;
+  world = w;
+  history = b.history.entries;
+  conflicts = b.conflicts.entries;
+  begun = b.begun;
+  last = b.last;
+  cause = b.cause;
+  segments = λ j. segment_of w (m.part j) (slice_get b.hands.items j);
+}
+
+-- ---- what fits
+
+-- a lock is on a tracked record of the image, which counts as looked at
+abbrev pub is_lock : Option Rec → Bool → Bool
+is_lock None marked = false
+is_lock (Some r) marked = is_tracked r.kind && marked
+
+-- Store and books fit, while the transaction of segment k is out of its hand and has come so far.
+pub record Fit {S : Type 0} (k : ℕ) (m : Meaning) (b : Books S) (p : Progress S) : Type 0 where
+  pub mine : k < m.segments
+  pub hands : length b.hands.items ≡ m.segments
+  pub out : runs_at b.hands.items k ≡ false
+  pub holders : (j a : ℕ) → j ≢ k → holds (m.part j) a ≡ true → runs_at b.hands.items j ≡ true
+  pub names : (j : ℕ) → runs_at b.hands.items j ≡ true → places (names_at b.hands.items j) ≡ (m.part j).made
+  pub own_names : places p.names ≡ (m.part k).made
+  pub kept_names : places (take p.kept_names p.names) ≡ (m.part k).kept_made
+  pub locked : (j a : ℕ) → mem a (m.part j).changed ≡ true → is_lock (m.image a) ((m.part j).looked a) ≡ true
+  pub turns : sum_by one_running b.hands.items < b.history.room
+  pub losses : sum_by one_running b.hands.items < b.conflicts.room
+  pub pending : sum_by one_started b.hands.items + length p.started ≡ b.pending
+  pub threads : b.pending ≤ b.threads.room
