@@ -3,3 +3,6 @@ pub mod Good
 pub mod Moves
 pub mod Passes
 pub mod Books
+pub mod Hold
+pub mod SegSense
+pub mod SegLaws

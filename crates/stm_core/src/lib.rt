@@ -4,6 +4,7 @@
 mod books;
 mod cause;
 mod laws;
+mod segment;
 
 pub use cause::Cause;
 pub use laws::{commit_law, good_law, stands_law};

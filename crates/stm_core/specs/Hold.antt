@@ -1,0 +1,176 @@
+-- What a segment's view holds, as values, and what each of its calls does. States `docs/HEAP.md`, "The view of a segment".
+use Rattle.std.specs.Prelude.{◌≡◌, ◌≢◌, ℕ, ◌+◌, ◌<◌, ◌≤◌, ◌⊎◌, Bool, true, false, List, [], ◌∷◌, ◌++◌, Option, Some, None, length, take}
+use Rattle.py_data.specs.declared.stop.Side.{Side}
+use Rattle.py_data.specs.declared.stop.Conflict.{Conflict}
+use Rattle.py_data.specs.declared.stop.Stop.{Stop}
+use Rattle.py_data.specs.declared.stop.Stop.TheVariants.{Lost, NeedSolo, Full, OutOfMemory}
+use Rattle.py_data.specs.Heap.{Rec, Heap, Marks}
+use Rattle.py_data.specs.World.{World}
+use Rattle.py_data.specs.Sense.{touches}
+use Rattle.py_data.specs.Row.{Call, Reply, Read, Find, SetVal, Push, Truncate, PushPair, DropPair, Make, Start, Put, Take, MidLine, SetMidLine}
+use Rattle.py_data.specs.Sight.{Sight, Act, mem}
+use Rattle.seg_store.specs.Meaning.{Part, Meaning, sees, saw, holds}
+use Rattle.seg_store.specs.Calls.{after_open, after_undo}
+use Rattle.stm_core.specs.declared.books.Progress.{Progress}
+use Rattle.stm_core.specs.declared.books.Books.{Books}
+use Rattle.stm_core.specs.CoreState.{Transaction, Segment, Doomed, Running, CoreState, side, wins, with_segment, with_conflict}
+use Rattle.stm_core.specs.Books.{core_of}
+
+-- the store, the books and the progress of the segment's transaction, and the Stop since its open step began
+pub record Hold (S : Type 0) : Type 0 where
+  pub meaning : Meaning
+  pub reserved : ℕ
+  pub books : Books S
+  pub progress : Progress S
+  pub stopped : Option Stop
+
+-- a world that no step of a transaction that isn't solo looks at
+abbrev pub no_world : World
+no_world = record { input = None; out = []; err = []; mid = false }
+
+-- what the thread sees and has done
+abbrev pub sight : {S : Type 0} → ℕ → Hold S → Sight S
+sight k d = record {
+  heap = sees d.meaning k;
+  looked = (d.meaning.part k).looked;
+  touched = holds (d.meaning.part k);
+  made = (d.meaning.part k).made;
+  started = d.progress.started;
+  world = no_world;
+  used = false;
+}
+
+-- ---- what a call may do to other segments
+
+-- the side `me` meets the writer of a record that it asks to change, and wins: the writer's segment is doomed
+pub record DoomsOne {S : Type 0} (k : ℕ) (me : Side) (f : Conflict) (c c1 : CoreState S) : Type 0 where
+  pub writer : Transaction S
+  pub writes : c.segments f.writer.segment ≡ Running writer
+  pub writer_is : f.writer ≡ side f.writer.segment writer
+  pub other : f.other ≡ me
+  pub differ : f.writer.segment ≢ k
+  pub held : mem f.at.0 writer.changed ≡ true
+  pub asks : f.asks ≡ true
+  pub lost : f.lost ≡ 0
+  pub wins_ : wins me f.writer ≡ true
+  pub gives : c1 ≡ with_conflict f (with_segment f.writer.segment (Doomed f) c)
+
+-- these conflicts, one after another
+abbrev pub Dooms : {S : Type 0} → ℕ → Side → List Conflict → CoreState S → CoreState S → Type 0
+Dooms k me [] c c1 = c1 ≡ c
+Dooms {S} k me (f ∷ fs) c c1 = (u : CoreState S) × DoomsOne k me f c u × Dooms k me fs u c1
+
+-- what a call of segment k, which acts for the side `me`, leaves beside its own sight: other segments are only doomed
+pub record Beside {S : Type 0} (k : ℕ) (me : Side) (d e : Hold S) : Type 0 where
+  pub saw : saw e.meaning k ≡ saw d.meaning k
+  pub image : e.meaning.image ≡ d.meaning.image
+  pub segments : e.meaning.segments ≡ d.meaning.segments
+  pub limit : e.meaning.limit ≡ d.meaning.limit
+  pub reserved : d.reserved ≤ e.reserved
+  pub dooms : List Conflict
+  pub others : (w : World) → Dooms k me dooms (core_of w d.meaning d.books) (core_of w e.meaning e.books)
+  pub kept_names : e.progress.kept_names ≡ d.progress.kept_names
+  pub kept_started : e.progress.kept_started ≡ d.progress.kept_started
+  pub names : take e.progress.kept_names e.progress.names ≡ take d.progress.kept_names d.progress.names
+  pub started : take e.progress.kept_started e.progress.started ≡ take d.progress.kept_started d.progress.started
+  pub made : (e.meaning.part k).kept_made ≡ (d.meaning.part k).kept_made
+  pub looked : (a : ℕ) → (d.meaning.part k).looked a ≡ true → (e.meaning.part k).looked a ≡ true
+  pub locks : (a : ℕ) → mem a (d.meaning.part k).changed ≡ true → mem a (e.meaning.part k).changed ≡ true
+
+-- ---- calls that are done
+
+abbrev pub Inside : {S : Type 0} → ℕ → Side → (c : Call S) → Hold S → Reply c → Hold S → Type 0
+Inside k me c d r e = Act c (sight k d) r (sight k e) × Beside k me d e × (e.stopped ≡ None)
+
+-- A transaction that isn't solo writes nothing and takes no input, and asks for the flag in vain.
+abbrev pub SegDoes : {S : Type 0} → ℕ → Side → (c : Call S) → Hold S → Reply c → Hold S → Type 0
+SegDoes k me (Put on bytes) d r e = ⊥
+SegDoes k me (Take most) d r e = ⊥
+SegDoes k me (SetMidLine b) d r e = ⊥
+SegDoes k me MidLine d r e = (r ≡ false) × (e ≡ d) × (e.stopped ≡ None)
+SegDoes k me (Read a) d r e = Inside k me (Read a) d r e
+SegDoes k me (Find a v) d r e = Inside k me (Find a v) d r e
+SegDoes k me (SetVal a i v) d r e = Inside k me (SetVal a i v) d r e
+SegDoes k me (Push a v) d r e = Inside k me (Push a v) d r e
+SegDoes k me (Truncate a n) d r e = Inside k me (Truncate a n) d r e
+SegDoes k me (PushPair a x v) d r e = Inside k me (PushPair a x v) d r e
+SegDoes k me (DropPair a n) d r e = Inside k me (DropPair a n) d r e
+SegDoes k me (Make q) d r e = Inside k me (Make q) d r e
+SegDoes k me (Start s) d r e = Inside k me (Start s) d r e
+
+-- ---- calls that are refused
+
+-- a call that prints or reads
+abbrev pub IsOuter : {S : Type 0} → Call S → Type 0
+IsOuter (Put on bytes) = Unit {0}
+IsOuter (Take most) = Unit {0}
+IsOuter _ = ⊥
+
+-- a call that changes a record
+abbrev pub IsChange : {S : Type 0} → Call S → Type 0
+IsChange (SetVal a i v) = Unit {0}
+IsChange (Push a v) = Unit {0}
+IsChange (Truncate a n) = Unit {0}
+IsChange (PushPair a x v) = Unit {0}
+IsChange (DropPair a n) = Unit {0}
+IsChange _ = ⊥
+
+-- a call that may want words
+abbrev pub IsGrowth : {S : Type 0} → Call S → Type 0
+IsGrowth (Push a v) = Unit {0}
+IsGrowth (PushPair a x v) = Unit {0}
+IsGrowth (Make q) = Unit {0}
+IsGrowth _ = ⊥
+
+-- a call that takes memory
+abbrev pub IsHeld : {S : Type 0} → Call S → Type 0
+IsHeld (Put on bytes) = ⊥
+IsHeld (Take most) = ⊥
+IsHeld MidLine = ⊥
+IsHeld (SetMidLine b) = ⊥
+IsHeld _ = Unit {0}
+
+-- the side `me` asks to change a record that another segment has changed, and doesn't win
+pub record LosesTo {S : Type 0} (k : ℕ) (me : Side) (f : Conflict) (c : CoreState S) : Type 0 where
+  pub writer : Transaction S
+  pub writes : c.segments f.writer.segment ≡ Running writer
+  pub writer_is : f.writer ≡ side f.writer.segment writer
+  pub other : f.other ≡ me
+  pub differ : f.writer.segment ≢ k
+  pub held : mem f.at.0 writer.changed ≡ true
+  pub asks : f.asks ≡ true
+  pub lost : f.lost ≡ 1
+  pub loses : wins me f.writer ≡ false
+
+-- why each Stop comes
+abbrev pub SegWhy : {S : Type 0} → ℕ → Side → Stop → Call S → Hold S → Type 0
+SegWhy k me (Lost f) c e = IsChange c × (touches c ≡ Some f.at.0) × ((w : World) → LosesTo k me f (core_of w e.meaning e.books))
+SegWhy k me NeedSolo c e = IsOuter c
+SegWhy k me (Full r n l) c e = IsGrowth c × (r ≡ e.reserved) × (l ≡ e.meaning.limit) × (l < r + n)
+SegWhy k me OutOfMemory c e = IsHeld c
+SegWhy k me _ c e = ⊥
+
+-- a call that was refused: at most one record more was looked at or locked, the one that the call asks for
+pub record SegRefuses {S : Type 0} (k : ℕ) (me : Side) (c : Call S) (d : Hold S) (s : Stop) (e : Hold S) : Type 0 where
+  pub stopped : e.stopped ≡ Some s
+  pub beside : Beside k me d e
+  pub why : SegWhy k me s c e
+  pub looked : (a : ℕ) → (e.meaning.part k).looked a ≡ true → ((d.meaning.part k).looked a ≡ true) ⊎ (touches c ≡ Some a)
+  pub locks : (a : ℕ) → mem a (e.meaning.part k).changed ≡ true → (mem a (d.meaning.part k).changed ≡ true) ⊎ (touches c ≡ Some a)
+
+-- ---- how a step is opened and taken back
+
+abbrev pub SegOpens : {S : Type 0} → ℕ → Hold S → Hold S → Type 0
+SegOpens k d e = e ≡ record d {
+  meaning = after_open k d.meaning;
+  progress = record d.progress { kept_names = length d.progress.names; kept_started = length d.progress.started };
+  stopped = None;
+}
+
+abbrev pub SegUndoes : {S : Type 0} → ℕ → Hold S → Hold S → Type 0
+SegUndoes k d e = e ≡ record d {
+  meaning = after_undo k d.meaning;
+  books = record d.books { pending = e.books.pending };
+  progress = record d.progress { names = take d.progress.kept_names d.progress.names; started = take d.progress.kept_started d.progress.started };
+  stopped = None;
+}
