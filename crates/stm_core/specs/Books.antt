@@ -41,6 +41,11 @@ started_at hs j = started_of (slice_get hs j)
 abbrev pub names_at : {S : Type 0} → List (Hand S) → ℕ → List Addr
 names_at hs j = names_of (slice_get hs j)
 
+-- the transaction of a segment, as a side of a conflict
+abbrev pub side_of : {S : Type 0} → ℕ → Side → Option (Hand S) → Side
+side_of j none (Some (hand.Runs w)) = record { segment = j; thread = w.thread; begun = w.begun; solo = false }
+side_of j none _ = none
+
 abbrev pub one_running : {S : Type 0} → Hand S → ℕ
 one_running (hand.Runs w) = 1
 one_running _ = 0

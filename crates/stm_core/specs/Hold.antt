@@ -1,16 +1,18 @@
 -- What a segment's view holds, as values, and what each of its calls does. States `docs/HEAP.md`, "The view of a segment".
-use Rattle.std.specs.Prelude.{◌≡◌, ◌≢◌, ℕ, ◌+◌, ◌<◌, ◌≤◌, ◌⊎◌, Bool, true, false, List, [], ◌∷◌, ◌++◌, Option, Some, None, length, take}
+use Rattle.std.specs.Prelude.{◌≡◌, ◌≢◌, ℕ, ◌+◌, ◌<◌, ◌≤◌, ◌⊎◌, Bool, true, false, cond, not, ◌||◌, List, [], ◌∷◌, ◌++◌, Option, Some, None, length, take}
 use Rattle.py_data.specs.declared.stop.Side.{Side}
 use Rattle.py_data.specs.declared.stop.Conflict.{Conflict}
 use Rattle.py_data.specs.declared.stop.Stop.{Stop}
 use Rattle.py_data.specs.declared.stop.Stop.TheVariants.{Lost, NeedSolo, Full, OutOfMemory}
-use Rattle.py_data.specs.Heap.{Rec, Heap, Marks}
+use Rattle.py_data.specs.Heap.{Rec, Heap, Marks, is_tracked}
 use Rattle.py_data.specs.World.{World}
 use Rattle.py_data.specs.Sense.{touches}
 use Rattle.py_data.specs.Row.{Call, Reply, Read, Find, SetVal, Push, Truncate, PushPair, DropPair, Make, Start, Put, Take, MidLine, SetMidLine}
-use Rattle.py_data.specs.Sight.{Sight, Act, mem}
+use Rattle.py_data.specs.Sight.{Sight, Act, mem, with_mark}
+use Rattle.seg_store.specs.declared.store.StoreFault.{StoreFault}
+use Rattle.seg_store.specs.declared.store.StoreFault.TheVariants.{Full as FullStore, OutOfMemory as NoMemoryLeft}
 use Rattle.seg_store.specs.Meaning.{Part, Meaning, sees, saw, holds}
-use Rattle.seg_store.specs.Calls.{after_open, after_undo}
+use Rattle.seg_store.specs.Calls.{after_open, after_undo, after_mark}
 use Rattle.stm_core.specs.declared.books.Progress.{Progress}
 use Rattle.stm_core.specs.declared.books.Books.{Books}
 use Rattle.stm_core.specs.CoreState.{Transaction, Segment, Doomed, Running, CoreState, side, wins, with_segment, with_conflict}
@@ -174,3 +176,48 @@ SegUndoes k d e = e ≡ record d {
   progress = record d.progress { names = take d.progress.kept_names d.progress.names; started = take d.progress.kept_started d.progress.started };
   stopped = None;
 }
+
+-- ---- parts of calls
+
+-- a look at this record changes nothing: looks at it aren't noted, or it was seen
+abbrev pub is_noted : Option Rec → Bool → Bool
+is_noted None marked = false
+is_noted (Some r) marked = not (is_tracked r.kind) || marked
+
+-- a look at a record is noted
+abbrev pub Looks : ℕ → ℕ → Meaning → Meaning → Type 0
+Looks a k m m1 = m1 ≡ cond (is_noted (sees m k a) ((m.part k).looked a)) m (after_mark k a m)
+
+-- a store's fault as a Stop
+abbrev pub stop_of : StoreFault → Stop
+stop_of (FullStore r n l) = Full r n l
+stop_of NoMemoryLeft = OutOfMemory
+
+-- what a view holds, put together
+abbrev pub holding : {S : Type 0} → Meaning → ℕ → Books S → Progress S → Option Stop → Hold S
+holding m r b p o = record { meaning = m; reserved = r; books = b; progress = p; stopped = o }
+
+-- the segment holds the record, and sees what it saw
+pub record Holds {S : Type 0} (k : ℕ) (me : Side) (a : ℕ) (d e : Hold S) : Type 0 where
+  pub shown : sees e.meaning k ≡ sees d.meaning k
+  pub touched : holds (e.meaning.part k) ≡ with_mark a (holds (d.meaning.part k))
+  pub looked : (e.meaning.part k).looked ≡ with_mark a (d.meaning.part k).looked
+  pub made : (e.meaning.part k).made ≡ (d.meaning.part k).made
+  pub progress : e.progress ≡ d.progress
+  pub stopped : e.stopped ≡ d.stopped
+  pub beside : Beside k me d e
+
+-- why a call on the record a failed; where it may want words, the heap may be full
+abbrev pub FailWhy : {S : Type 0} → ℕ → Side → ℕ → Type 0 → Stop → Hold S → Type 0
+FailWhy k me a grows (Lost f) e = (f.at.0 ≡ a) × ((w : World) → LosesTo k me f (core_of w e.meaning e.books))
+FailWhy k me a grows (Full r n l) e = grows × (r ≡ e.reserved) × (l ≡ e.meaning.limit) × (l < r + n)
+FailWhy k me a grows OutOfMemory e = Unit {0}
+FailWhy k me a grows _ e = ⊥
+
+-- a call on the record a failed: at most that record more was looked at or locked
+pub record Fails {S : Type 0} (k : ℕ) (me : Side) (a : ℕ) (grows : Type 0) (d : Hold S) (s : Stop) (e : Hold S) : Type 0 where
+  pub stopped : e.stopped ≡ Some s
+  pub beside : Beside k me d e
+  pub why : FailWhy k me a grows s e
+  pub looked : (b : ℕ) → (e.meaning.part k).looked b ≡ true → ((d.meaning.part k).looked b ≡ true) ⊎ (b ≡ a)
+  pub locks : (b : ℕ) → mem b (e.meaning.part k).changed ≡ true → (mem b (d.meaning.part k).changed ≡ true) ⊎ (b ≡ a)

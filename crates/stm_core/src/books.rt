@@ -1,11 +1,11 @@
 //! What a core keeps beside its store: the committed states of the threads, what each segment has in hand, the history and
 //! the conflicts.
-ghost use Rattle.std.specs.Prelude.{◌≡◌, ◌<◌, ◌≤◌, ◌+◌, ◌++◌, [], ◌∷◌, length, true, slice_set};
-ghost use Rattle.stm_core.specs.Books.{runs_at, started_at};
+ghost use Rattle.std.specs.Prelude.{◌≡◌, ◌<◌, ◌≤◌, ◌+◌, ◌++◌, [], ◌∷◌, length, true, slice_set, slice_get};
+ghost use Rattle.stm_core.specs.Books.{runs_at, started_at, side_of};
 
 use crate::cause::Cause;
 use lock_run::History;
-use py_data::{Conflict, Conflicts, Items, Log, Names};
+use py_data::{Conflict, Conflicts, Items, Log, Names, Side};
 use std::mem;
 
 /// The names that a transaction gave and the threads that it started, and how many of them there were when its open step
@@ -58,6 +58,22 @@ pub struct Books<T> {
 }
 
 impl<T: Drop> Books<T> {
+    /// The transaction of a segment, as a side of a conflict.
+    pub fn side(&self, j: u8) -> Side
+        requires { runs_at self.now.hands.items j ≡ true }
+        ensures { result ≡ side_of j result (slice_get self.now.hands.items j) }
+    {
+        match &self.hands[j as usize] {
+            Hand::Runs(work) => Side {
+                segment: j,
+                thread: work.thread,
+                begun: work.begun,
+                solo: false,
+            },
+            _ => unreachable!(),
+        }
+    }
+
     /// The transaction of a segment lost a conflict: the segment is doomed with it.
     pub fn doom(&mut self, j: u8, f: Conflict)
         requires runs { runs_at self.old.hands.items j ≡ true }

@@ -1,10 +1,28 @@
 //! A segment's view: the sight of a transaction that shares the heap with others.
-ghost use Rattle.std.specs.Prelude.{◌≡◌, ℕ};
-ghost use Rattle.stm_core.specs.Books.{Fit};
+ghost use Rattle.std.specs.Prelude.{◌≡◌, ◌≢◌, ℕ, ◌<◌, ◌≤◌, ◌+◌, ◌++◌, [], ◌∷◌, true, false, length, slice_set, Some, None, OnOk, OnErr, IfErr, IfSome};
+ghost use Rattle.py_data.specs.declared.stop.Stop.TheVariants.{OutOfMemory};
+ghost use Rattle.py_data.specs.Heap.{Has, at, is_tracked};
+ghost use Rattle.py_data.specs.Sight.{with_mark};
+ghost use Rattle.seg_store.specs.Meaning.{Meaning, sees, holds};
+ghost use Rattle.seg_store.specs.Calls.{after_drop, after_lock};
+ghost use Rattle.seg_store.specs.Store.{NoOther, IsStore};
+ghost use Rattle.stm_core.specs.Books.{Fit, runs_at};
+ghost use Rattle.stm_core.specs.Hold.{holding, Holds, Fails, is_noted, Looks, stop_of};
 
-use crate::books::{Books, Progress};
-use py_data::{Side, Stop};
-use seg_store::SegStore;
+use crate::books::{Books, Hand, Progress};
+use py_data::{Addr, Conflict, Kind, Side, Stop};
+use seg_store::{SegStore, StoreFault};
+
+/// A record of this kind changes, and a look at it is noted.
+#[tactic(auto, unfolding(py_data::specs::Heap::is_tracked))]
+fn is_tracked_kind(kind: Kind) -> bool
+    ensures { result ≡ is_tracked kind }
+{
+    matches!(
+        kind,
+        Kind::List | Kind::Dict | Kind::Cell | Kind::Iter | Kind::Lock | Kind::Thread
+    )
+}
 
 /// The sight of a transaction on one segment of a store. It isn't solo: a step that prints or reads is refused.
 #[derive(Drop)]
@@ -16,4 +34,142 @@ pub struct SegView<'a, T, S: SegStore> {
     side: Side,
     stopped: Option<Stop>,
     ghost fits: { Fit segment (S.meaning store.now) books.now progress.now },
+}
+
+impl<'a, T: Drop, S: SegStore> SegView<'a, T, S> {
+    /// The view of a segment whose transaction was taken out of its hand.
+    pub fn new(
+        store: &'a mut S,
+        books: &'a mut Books<T>,
+        progress: &'a mut Progress<T>,
+        segment: u8,
+        side: Side,
+    ) -> SegView<'a, T, S>
+        requires { Fit segment (S.meaning store.old) books.old progress.old }
+        ensures same_store { (result.store.ghost_name ≡ store.entry.ghost_name) × (result.store.now ≡ store.old) }
+        ensures same_books { (result.books.ghost_name ≡ books.entry.ghost_name) × (result.books.now ≡ books.old) }
+        ensures same_progress { (result.progress.ghost_name ≡ progress.entry.ghost_name) × (result.progress.now ≡ progress.old) }
+        ensures rest { (result.segment ≡ segment) × (result.side ≡ side) × (result.stopped ≡ None) }
+    {
+        SegView {
+            store,
+            books,
+            progress,
+            segment,
+            side,
+            stopped: None,
+        }
+    }
+
+    /// Keeps a Stop, and hands it on.
+    fn fail(&mut self, stop: Stop) -> Stop
+        ensures same { result ≡ stop }
+        ensures stopped { self.new.stopped ≡ Some stop }
+        ensures stays { (self.new.segment ≡ self.old.segment) × (self.new.side ≡ self.old.side) }
+        ensures refs { (self.new.store.ghost_name ≡ self.old.store.ghost_name) × (self.new.books.ghost_name ≡ self.old.books.ghost_name) × (self.new.progress.ghost_name ≡ self.old.progress.ghost_name) }
+        ensures store { self.new.store.now ≡ self.old.store.now }
+        ensures books { self.new.books.now ≡ self.old.books.now }
+        ensures progress { self.new.progress.now ≡ self.old.progress.now }
+    {
+        self.stopped = Some(stop);
+        stop
+    }
+
+    /// Keeps why the store refused a change, as a Stop.
+    fn refuse(&mut self, fault: StoreFault) -> Stop
+        ensures same { result ≡ stop_of fault }
+        ensures stopped { self.new.stopped ≡ Some result }
+        ensures stays { (self.new.segment ≡ self.old.segment) × (self.new.side ≡ self.old.side) }
+        ensures refs { (self.new.store.ghost_name ≡ self.old.store.ghost_name) × (self.new.books.ghost_name ≡ self.old.books.ghost_name) × (self.new.progress.ghost_name ≡ self.old.progress.ghost_name) }
+        ensures store { self.new.store.now ≡ self.old.store.now }
+        ensures books { self.new.books.now ≡ self.old.books.now }
+        ensures progress { self.new.progress.now ≡ self.old.progress.now }
+    {
+        match fault {
+            StoreFault::Full {
+                reserved,
+                need,
+                limit,
+            } => self.fail(Stop::Full {
+                reserved,
+                need,
+                limit,
+            }),
+            StoreFault::OutOfMemory => self.fail(Stop::OutOfMemory),
+        }
+    }
+
+    /// The record was seen already, or a look at it isn't noted.
+    fn is_seen(&self, a: Addr) -> bool
+        requires there { Has (sees (S.meaning self.now.store.now) self.now.segment) a.0 }
+        ensures { result ≡ is_noted (sees (S.meaning self.now.store.now) self.now.segment a.0) (((S.meaning self.now.store.now).part self.now.segment).looked a.0) }
+    {
+        if is_tracked_kind(self.store.kind(self.segment, a)) {
+            self.store.has_looked(self.segment, a)
+        } else {
+            true
+        }
+    }
+
+    /// Notes a look at a record, where looks at it are noted and it wasn't seen yet.
+    fn look(&mut self, a: Addr) -> Result<(), Stop>
+        requires there { Has (sees (S.meaning self.old.store.now) self.old.segment) a.0 }
+        ensures done { OnOk result (Looks a.0 self.old.segment (S.meaning self.old.store.now) (S.meaning self.new.store.now)) }
+        ensures stopped { OnOk result (self.new.stopped ≡ self.old.stopped) }
+        ensures quiet { is_noted (sees (S.meaning self.old.store.now) self.old.segment a.0) (((S.meaning self.old.store.now).part self.old.segment).looked a.0) ≡ true → self.new ≡ self.old }
+        ensures err { IfErr result (λ e. (e ≡ OutOfMemory) × (self.new.stopped ≡ Some OutOfMemory) × (S.meaning self.new.store.now ≡ S.meaning self.old.store.now)) }
+        ensures unsure { IfErr result (λ e. is_noted (sees (S.meaning self.old.store.now) self.old.segment a.0) (((S.meaning self.old.store.now).part self.old.segment).looked a.0) ≡ false) }
+        ensures stays { (self.new.segment ≡ self.old.segment) × (self.new.side ≡ self.old.side) }
+        ensures refs { (self.new.store.ghost_name ≡ self.old.store.ghost_name) × (self.new.books.ghost_name ≡ self.old.books.ghost_name) × (self.new.progress.ghost_name ≡ self.old.progress.ghost_name) }
+        ensures books { self.new.books.now ≡ self.old.books.now }
+        ensures progress { self.new.progress.now ≡ self.old.progress.now }
+        ensures reserved { S.reserved self.new.store.now ≡ S.reserved self.old.store.now }
+    {
+        if self.is_seen(a) {
+            return Ok(());
+        }
+        match self.store.mark(self.segment, a) {
+            Ok(()) => Ok(()),
+            Err(_) => Err(self.fail(Stop::OutOfMemory)),
+        }
+    }
+
+    /// The transaction of segment j loses: the segment is doomed with this conflict, and holds nothing any more.
+    fn doom(&mut self, j: u8, f: Conflict)
+        requires other { j ≢ self.old.segment }
+        requires runs { runs_at self.old.books.now.hands.items j ≡ true }
+        ensures store { S.meaning self.new.store.now ≡ after_drop j (S.meaning self.old.store.now) }
+        ensures reserved { S.reserved self.new.store.now ≡ S.reserved self.old.store.now }
+        ensures books { self.new.books.now ≡ record self.old.books.now { hands = self.new.books.now.hands; pending = self.new.books.now.pending; conflicts = self.new.books.now.conflicts } }
+        ensures hands { self.new.books.now.hands.items ≡ slice_set self.old.books.now.hands.items j (Hand.Doomed f) }
+        ensures conflicts { self.new.books.now.conflicts.entries ≡ self.old.books.now.conflicts.entries ++ f ∷ [] }
+        ensures progress { self.new.progress.now ≡ self.old.progress.now }
+        ensures stopped { self.new.stopped ≡ self.old.stopped }
+        ensures stays { (self.new.segment ≡ self.old.segment) × (self.new.side ≡ self.old.side) }
+        ensures refs { (self.new.store.ghost_name ≡ self.old.store.ghost_name) × (self.new.books.ghost_name ≡ self.old.books.ghost_name) × (self.new.progress.ghost_name ≡ self.old.progress.ghost_name) }
+    {
+        self.books.doom(j, f);
+        self.store.drop_changes(j);
+    }
+
+    /// Takes the write lock of a record that no other segment holds.
+    fn lock(&mut self, a: Addr) -> Result<(), Stop>
+        requires there { Has (sees (S.meaning self.old.store.now) self.old.segment) a.0 }
+        requires tracked { is_tracked (at (sees (S.meaning self.old.store.now) self.old.segment) a.0).kind ≡ true }
+        requires free { NoOther (S.meaning self.old.store.now) self.old.segment a.0 }
+        requires store { IsStore (S.reserved self.old.store.now) (S.meaning self.old.store.now) }
+        ensures ok { OnOk result (S.meaning self.new.store.now ≡ after_lock self.old.segment a.0 (S.meaning self.old.store.now)) }
+        ensures stopped { OnOk result (self.new.stopped ≡ self.old.stopped) }
+        ensures err { IfErr result (λ e. (e ≡ OutOfMemory) × (self.new.stopped ≡ Some OutOfMemory) × (S.meaning self.new.store.now ≡ S.meaning self.old.store.now)) }
+        ensures reserved { S.reserved self.new.store.now ≡ S.reserved self.old.store.now }
+        ensures books { self.new.books.now ≡ self.old.books.now }
+        ensures progress { self.new.progress.now ≡ self.old.progress.now }
+        ensures stays { (self.new.segment ≡ self.old.segment) × (self.new.side ≡ self.old.side) }
+        ensures refs { (self.new.store.ghost_name ≡ self.old.store.ghost_name) × (self.new.books.ghost_name ≡ self.old.books.ghost_name) × (self.new.progress.ghost_name ≡ self.old.progress.ghost_name) }
+    {
+        match self.store.lock(self.segment, a) {
+            Ok(()) => Ok(()),
+            Err(_) => Err(self.fail(Stop::OutOfMemory)),
+        }
+    }
 }
