@@ -1,5 +1,5 @@
 -- How a segment's view comes to hold a record, and what that leaves beside its own sight.
-use Rattle.std.proofs.Common.{◌≡◌, ◌≢◌, ◌⊎◌, ◌<◌, ◌≤◌, ◌+◌, ℕ, zero, suc, Bool, true, false, cond, not, ◌||◌, ◌&&◌, eqb, List, [], ◌∷◌, ◌++◌, length, take, slice_get, slice_set, Option, Some, None, refl, sym, ◌∙◌, ap, subst, inl, inr, arith, IsSome, is_some}
+use Rattle.std.proofs.Common.{◌≡◌, ◌≢◌, ◌⊎◌, ◌<◌, ◌≤◌, ◌+◌, ℕ, zero, suc, Bool, true, false, cond, not, ◌||◌, ◌&&◌, eqb, List, [], ◌∷◌, ◌++◌, length, take, slice_get, slice_set, Option, Some, None, refl, sym, ◌∙◌, ap, subst, inl, inr, arith, IsSome, is_some, Result, Ok, Err, OnOk}
 use Rattle.std.proofs.lemmas.Bool.{cases_Bool, both_ways, or_cases, or_left, or_right, eqb-true, eqb-false, eq-eqb, ne_eqb, cond-true, cond-false, and_from, and_parts}
 use Rattle.std.proofs.lemmas.Option.{slice_get_within}
 use Rattle.py_data.specs.declared.stop.Side.{Side}
@@ -12,7 +12,7 @@ use Rattle.py_data.specs.Collection.{places}
 use Rattle.py_data.specs.Sight.{mem, with_mark}
 use Rattle.py_data.proofs.Grow.{mem_append}
 use Rattle.seg_store.specs.Meaning.{Part, Meaning, sees, saw, holds, overlay, over, with_part}
-use Rattle.seg_store.specs.Calls.{marked, locked, ended, after_mark, after_lock, after_drop}
+use Rattle.seg_store.specs.Calls.{marked, first_locked, locked, ended, after_mark, after_lock, after_drop}
 use Rattle.seg_store.specs.Store.{IsStore, NoOther}
 use Rattle.seg_store.proofs.Sees.{same_marks, own_part, other_part, lock_shows}
 use Rattle.stm_core.specs.declared.books.Progress.{Progress}
@@ -25,6 +25,7 @@ use Rattle.stm_core.specs.CoreState as model
 use Rattle.stm_core.specs.Books.{is_running, runs_at, side_of, transaction, segment_of, core_of, Fit}
 use Rattle.stm_core.specs.Hold.{Hold, DoomsOne, Dooms, Beside, LosesTo, Holds, Fails, FailWhy, is_noted, Looks, holding}
 use Rattle.stm_core.proofs.Publish.{get_set_other}
+use Rattle.stm_core.proofs.Looking.{noted_tracked}
 use Rattle.stm_core.proofs.Fits.{get_set_same, work_at, runs_within, seen_image}
 
 -- ---- beside
@@ -208,3 +209,212 @@ mark_again a m h = same_marks (with_mark a m) m (λ b. elim (cases_Bool (eqb b a
   | inl y ↦ ap (λ z. z || m b) y ∙ sym (ap m (eqb-true b a y) ∙ h)
   | inr y ↦ ap (λ z. z || m b) y
 ])
+
+-- ---- a record is held
+
+-- the parts of a look
+looks_part : (a k : ℕ) (m m1 : Meaning) → Looks a k m m1 → (m1 ≡ m) ⊎ (m1 ≡ after_mark k a m)
+looks_part a k m m1 h = elim (cases_Bool (is_noted (sees m k a) ((m.part k).looked a))) [
+  | inl y ↦ inl (h ∙ cond-true (is_noted (sees m k a) ((m.part k).looked a)) m (after_mark k a m) y)
+  | inr y ↦ inr (h ∙ cond-false (is_noted (sees m k a) ((m.part k).looked a)) m (after_mark k a m) y)
+]
+
+-- a look at a tracked record marks it
+pub looks_mark : (a k : ℕ) (m m1 : Meaning) → Has (sees m k) a → is_tracked (at (sees m k) a).kind ≡ true → Looks a k m m1 → (m1.part k).looked ≡ with_mark a (m.part k).looked
+looks_mark a k m m1 there t h = elim (cases_Bool (is_noted (sees m k a) ((m.part k).looked a))) [
+  | inl y ↦ ap (λ (z : Meaning). (z.part k).looked) (h ∙ cond-true (is_noted (sees m k a) ((m.part k).looked a)) m (after_mark k a m) y)
+      ∙ sym (mark_again a (m.part k).looked (sym (noted_tracked (sees m k) a ((m.part k).looked a) there t) ∙ y))
+  | inr y ↦ ap (λ (z : Meaning). (z.part k).looked) (h ∙ cond-false (is_noted (sees m k a) ((m.part k).looked a)) m (after_mark k a m) y) ∙ ap (λ (z : Part). z.looked) (own_part k (marked a (m.part k)) m)
+]
+
+-- a look leaves the rest
+pub looks_beside : {S : Type 0} (me : Side) (a k : ℕ) (m m1 : Meaning) (r : ℕ) (b : Books S) (p : Progress S) (o o1 : Option Stop) → runs_at b.hands.items k ≡ false → Looks a k m m1
+    → Beside k me (holding m r b p o) (holding m1 r b p o1)
+looks_beside {S} me a k m m1 r b p o o1 out h = elim (looks_part a k m m1 h) [
+  | inl e ↦ subst (λ z. Beside k me (holding m r b p o) (holding z r b p o1)) (sym e) (again (beside_refl k me (holding m r b p o)))
+  | inr e ↦ subst (λ z. Beside k me (holding m r b p o) (holding z r b p o1)) (sym e)
+      (beside_own k me m (marked a (m.part k)) r r b p o o1 out (omega arith) refl refl (λ c l. or_right (eqb c a) ((m.part k).looked c) l) (λ c l. l))
+]
+  where
+    again : Beside k me (holding m r b p o) (holding m r b p o) → Beside k me (holding m r b p o) (holding m r b p o1)
+    again s = record { saw = s.saw; image = s.image; segments = s.segments; limit = s.limit; reserved = s.reserved; dooms = s.dooms; others = s.others; kept_names = s.kept_names; kept_started = s.kept_started; names = s.names; started = s.started; made = s.made; looked = s.looked; locks = s.locks }
+
+pub looks_same : (a k : ℕ) (m m1 : Meaning) → Looks a k m m1 → (sees m1 k ≡ sees m k) × (holds (m1.part k) ≡ holds (m.part k)) × ((m1.part k).made ≡ (m.part k).made) × ((m1.part k).changed ≡ (m.part k).changed)
+looks_same a k m m1 h = elim (looks_part a k m m1 h) [
+  | inl e ↦ (ap (λ z. sees z k) e, ap (λ (z : Meaning). holds (z.part k)) e, ap (λ (z : Meaning). (z.part k).made) e, ap (λ (z : Meaning). (z.part k).changed) e)
+  | inr e ↦ let q = own_part k (marked a (m.part k)) m in
+      (ap (λ z. sees z k) e ∙ ap (λ (z : Part). overlay m.image z.changes) q, ap (λ (z : Meaning). holds (z.part k)) e ∙ ap holds q, ap (λ (z : Meaning). (z.part k).made) e ∙ ap (λ (z : Part). z.made) q, ap (λ (z : Meaning). (z.part k).changed) e ∙ ap (λ (z : Part). z.changed) q)
+]
+
+-- a look at a record that the segment holds
+pub holds_looked : {S : Type 0} (me : Side) (a k : ℕ) (m m1 : Meaning) (r r1 : ℕ) (b b1 : Books S) (p p1 : Progress S) (o o1 : Option Stop) → runs_at b.hands.items k ≡ false → Has (sees m k) a → is_tracked (at (sees m k) a).kind ≡ true
+    → holds (m.part k) a ≡ true → Looks a k m m1 → r1 ≡ r → b1 ≡ b → p1 ≡ p → o1 ≡ o → Holds k me a (holding m r b p o) (holding m1 r1 b1 p1 o1)
+holds_looked {S} me a k m m1 r r1 b b1 p p1 o o1 out there t held h er eb ep eo =
+    let s = looks_same a k m m1 h in
+    let base : Holds k me a (holding m r b p o) (holding m1 r b p o) = record {
+      shown = s.0;
+      touched = s.1 ∙ sym (mark_again a (holds (m.part k)) held);
+      looked = looks_mark a k m m1 there t h;
+      made = s.2;
+      progress = refl;
+      stopped = refl;
+      beside = looks_beside me a k m m1 r b p o o out h;
+    } in
+    subst (λ z. Holds k me a (holding m r b p o) (holding m1 z b1 p1 o1)) (sym er) (subst (λ z. Holds k me a (holding m r b p o) (holding m1 r z p1 o1)) (sym eb)
+    (subst (λ z. Holds k me a (holding m r b p o) (holding m1 r b z o1)) (sym ep) (subst (λ z. Holds k me a (holding m r b p o) (holding m1 r b p z)) (sym eo) base)))
+
+-- a record that no other segment holds is locked
+pub holds_locked : {S : Type 0} (me : Side) (a k : ℕ) (m m1 : Meaning) (r r1 : ℕ) (b b1 : Books S) (p p1 : Progress S) (o o1 : Option Stop) → runs_at b.hands.items k ≡ false → IsStore r m → Has (sees m k) a
+    → m1 ≡ after_lock k a m → r1 ≡ r → b1 ≡ b → p1 ≡ p → o1 ≡ o → Holds k me a (holding m r b p o) (holding m1 r1 b1 p1 o1)
+holds_locked {S} me a k m m1 r r1 b b1 p p1 o o1 out s there em er eb ep eo =
+    let l = lock_shows r m k a s there in
+    let q = locked a (at (sees m k) a) (m.part k) in
+    let base : Holds k me a (holding m r b p o) (holding (after_lock k a m) r b p o) = record {
+      shown = l.seen;
+      touched = l.held;
+      looked = ap (λ (z : Part). z.looked) (own_part k q m) ∙ marks (holds (m.part k) a);
+      made = ap (λ (z : Part). z.made) (own_part k q m) ∙ makes (holds (m.part k) a);
+      progress = refl;
+      stopped = refl;
+      beside = beside_own k me m q r r b p o o out (omega arith) (ap (λ (z : Part). overlay m.image z.kept) (sym (own_part k q m)) ∙ l.before) (kept (holds (m.part k) a))
+          (λ c h. ap (λ (f : Marks). f c) (marks (holds (m.part k) a)) ∙ or_right (eqb c a) ((m.part k).looked c) h) (λ c h. more (holds (m.part k) a) c h);
+    } in
+    subst (λ z. Holds k me a (holding m r b p o) (holding z r1 b1 p1 o1)) (sym em) (subst (λ z. Holds k me a (holding m r b p o) (holding (after_lock k a m) z b1 p1 o1)) (sym er)
+    (subst (λ z. Holds k me a (holding m r b p o) (holding (after_lock k a m) r z p1 o1)) (sym eb)
+    (subst (λ z. Holds k me a (holding m r b p o) (holding (after_lock k a m) r b z o1)) (sym ep) (subst (λ z. Holds k me a (holding m r b p o) (holding (after_lock k a m) r b p z)) (sym eo) base))))
+  where
+    marks : (h : Bool) → (cond h (marked a (m.part k)) (first_locked a (at (sees m k) a) (m.part k))).looked ≡ with_mark a (m.part k).looked
+    marks true = refl
+    marks false = refl
+
+    makes : (h : Bool) → (cond h (marked a (m.part k)) (first_locked a (at (sees m k) a) (m.part k))).made ≡ (m.part k).made
+    makes true = refl
+    makes false = refl
+
+    kept : (h : Bool) → (cond h (marked a (m.part k)) (first_locked a (at (sees m k) a) (m.part k))).kept_made ≡ (m.part k).kept_made
+    kept true = refl
+    kept false = refl
+
+    more : (h : Bool) (c : ℕ) → mem c (m.part k).changed ≡ true → mem c (cond h (marked a (m.part k)) (first_locked a (at (sees m k) a) (m.part k))).changed ≡ true
+    more true c x = x
+    more false c x = mem_append c (m.part k).changed (a ∷ []) ∙ or_left (mem c (m.part k).changed) (mem c (a ∷ [])) x
+
+-- first a doom of another segment, and then the record is held
+pub holds_after : {S : Type 0} (k : ℕ) (me : Side) (a j : ℕ) (f : Conflict) (m : Meaning) (r : ℕ) (b b1 : Books S) (p : Progress S) (o : Option Stop) (e : Hold S) → j ≢ k → ((w : World) → Dooms k me (f ∷ []) (core_of w m b) (core_of w (after_drop j m) b1))
+    → Holds k me a (holding (after_drop j m) r b1 p o) e → Holds k me a (holding m r b p o) e
+holds_after k me a j f m r b b1 p o e n ds h =
+    let q = other_part j (ended (m.part j)) m k (λ x. n (sym x)) in
+    record {
+      shown = h.shown ∙ ap (λ (z : Part). overlay m.image z.changes) q;
+      touched = h.touched ∙ ap (λ (z : Part). with_mark a (holds z)) q;
+      looked = h.looked ∙ ap (λ (z : Part). with_mark a z.looked) q;
+      made = h.made ∙ ap (λ (z : Part). z.made) q;
+      progress = h.progress;
+      stopped = h.stopped;
+      beside = beside_then k me (holding m r b p o) (holding (after_drop j m) r b1 p o) e (beside_doom k me j f m r b b1 p o n ds) h.beside;
+    }
+
+-- ---- a call that failed
+
+-- nothing but the Stop changed
+beside_stop : {S : Type 0} (k : ℕ) (me : Side) (m : Meaning) (r r1 : ℕ) (b : Books S) (p : Progress S) (o o1 : Option Stop) → r ≤ r1 → Beside k me (holding m r b p o) (holding m r1 b p o1)
+beside_stop k me m r r1 b p o o1 le = record {
+  saw = refl;
+  image = refl;
+  segments = refl;
+  limit = refl;
+  reserved = le;
+  dooms = [];
+  others = λ w. refl;
+  kept_names = refl;
+  kept_started = refl;
+  names = refl;
+  started = refl;
+  made = refl;
+  looked = λ a h. h;
+  locks = λ a h. h;
+}
+
+-- the call was refused and the store, the books and the progress are as before
+pub fails_alone : {S : Type 0} (k : ℕ) (me : Side) (a : ℕ) (grows : Type 0) (m m1 : Meaning) (r r1 : ℕ) (b b1 : Books S) (p p1 : Progress S) (o o1 : Option Stop) (s : Stop) → m1 ≡ m → r ≤ r1 → b1 ≡ b → p1 ≡ p → o1 ≡ Some s
+    → FailWhy k me a grows s (holding m r1 b p (Some s)) → Fails k me a grows (holding m r b p o) s (holding m1 r1 b1 p1 o1)
+fails_alone {S} k me a grows m m1 r r1 b b1 p p1 o o1 s em le eb ep eo why =
+    let base : Fails k me a grows (holding m r b p o) s (holding m r1 b p (Some s)) = record {
+      stopped = refl;
+      beside = beside_stop k me m r r1 b p o (Some s) le;
+      why = why;
+      looked = λ c h. inl h;
+      locks = λ c h. inl h;
+    } in
+    subst (λ z. Fails k me a grows (holding m r b p o) s (holding z r1 b1 p1 o1)) (sym em) (subst (λ z. Fails k me a grows (holding m r b p o) s (holding m r1 z p1 o1)) (sym eb)
+    (subst (λ z. Fails k me a grows (holding m r b p o) s (holding m r1 b z o1)) (sym ep) (subst (λ z. Fails k me a grows (holding m r b p o) s (holding m r1 b p z)) (sym eo) base)))
+
+-- it found no memory
+pub fails_memory : {S : Type 0} (k : ℕ) (me : Side) (a : ℕ) (grows : Type 0) (m m1 : Meaning) (r r1 : ℕ) (b b1 : Books S) (p p1 : Progress S) (o o1 : Option Stop) (e : Stop) → e ≡ OutOfMemory → o1 ≡ Some OutOfMemory → m1 ≡ m → r1 ≡ r → b1 ≡ b → p1 ≡ p
+    → Fails k me a grows (holding m r b p o) e (holding m1 r1 b1 p1 o1)
+fails_memory {S} k me a grows m m1 r r1 b b1 p p1 o o1 e ee eo em er eb ep =
+    subst (λ z. Fails k me a grows (holding m r b p o) z (holding m1 r1 b1 p1 o1)) (sym ee)
+    (fails_alone k me a grows m m1 r r1 b b1 p p1 o o1 OutOfMemory em (omega (arith, er)) eb ep eo tt)
+
+-- the segment loses to another one
+pub fails_lost : {S : Type 0} (k : ℕ) (me : Side) (a j : ℕ) (f : Conflict) (m m1 : Meaning) (r r1 : ℕ) (b b1 : Books S) (p p1 : Progress S) (o o1 : Option Stop) (s : Stop) → s ≡ Lost f → j ≢ k → runs_at b.hands.items j ≡ true → f.at.0 ≡ a
+    → f.writer ≡ side_of j f.writer (slice_get b.hands.items j) → f.other ≡ me → f.asks ≡ true → f.lost ≡ 1 → wins me f.writer ≡ false → mem a (m.part j).changed ≡ true
+    → m1 ≡ m → r1 ≡ r → b1 ≡ b → p1 ≡ p → o1 ≡ Some s → Fails k me a (⊥) (holding m r b p o) s (holding m1 r1 b1 p1 o1)
+fails_lost {S} k me a j f m m1 r r1 b b1 p p1 o o1 s es n run at wr ot as' lo wi held em er eb ep eo =
+    let x = work_at b.hands.items j run in
+    let why : (w : World) → LosesTo k me f (core_of w m b) = λ w.
+        let q : f.writer ≡ side j (transaction w (m.part j) x.0) = side_is w m b.hands.items j f.writer x.0 x.1 wr in
+        let sj : f.writer.segment ≡ j = ap (λ z. z.segment) q in
+        record {
+          writer = transaction w (m.part j) x.0;
+          writes = ap (core_of w m b).segments sj ∙ ap (segment_of w (m.part j)) x.1;
+          writer_is = q ∙ ap (λ i. side i (transaction w (m.part j) x.0)) (sym sj);
+          other = ot;
+          differ = λ e. n (sym sj ∙ e);
+          held = ap (λ z. mem z (m.part j).changed) at ∙ held;
+          asks = as';
+          lost = lo;
+          loses = wi;
+        } in
+    subst (λ z. Fails k me a (⊥) (holding m r b p o) z (holding m1 r1 b1 p1 o1)) (sym es)
+    (fails_alone k me a (⊥) m m1 r r1 b b1 p p1 o o1 (Lost f) em (omega (arith, er)) eb ep (eo ∙ ap Some es) (at, why))
+
+-- first a doom of another segment, and then the call failed
+pub fails_after : {S : Type 0} (k : ℕ) (me : Side) (a j : ℕ) (f : Conflict) (m : Meaning) (r : ℕ) (b b1 : Books S) (p : Progress S) (o : Option Stop) (s : Stop) (e : Hold S) → j ≢ k → ((w : World) → Dooms k me (f ∷ []) (core_of w m b) (core_of w (after_drop j m) b1))
+    → Fails k me a (⊥) (holding (after_drop j m) r b1 p o) s e → Fails k me a (⊥) (holding m r b p o) s e
+fails_after k me a j f m r b b1 p o s e n ds h =
+    let q = other_part j (ended (m.part j)) m k (λ x. n (sym x)) in
+    record {
+      stopped = h.stopped;
+      beside = beside_then k me (holding m r b p o) (holding (after_drop j m) r b1 p o) e (beside_doom k me j f m r b b1 p o n ds) h.beside;
+      why = h.why;
+      looked = λ c x. elim (h.looked c x) [ inl y ↦ inl (sym (ap (λ (z : Part). z.looked c) q) ∙ y) | inr y ↦ inr y ];
+      locks = λ c x. elim (h.locks c x) [ inl y ↦ inl (sym (ap (λ (z : Part). mem c z.changed) q) ∙ y) | inr y ↦ inr y ];
+    }
+
+pub on_ok_two : {T E P Q R : Type 0} (r : Result T E) → (P → Q → R) → OnOk r P → OnOk r Q → OnOk r R
+on_ok_two (Ok x) f p q = f p q
+on_ok_two (Err x) f p q = tt
+
+-- the view once another segment was doomed
+pub record Doomed_ {S : Type 0} (k : ℕ) (me : Side) (j : ℕ) (f : Conflict) (m : Meaning) (r : ℕ) (b : Books S) (p : Progress S) (o : Option Stop) (k1 : ℕ) (me1 : Side) (m1 : Meaning) (r1 : ℕ) (b1 : Books S) (p1 : Progress S) (o1 : Option Stop) : Type 0 where
+  pub other : j ≢ k
+  pub dooms : (w : World) → Dooms k me (f ∷ []) (core_of w m b) (core_of w (after_drop j m) b1)
+  pub segment : k1 ≡ k
+  pub me_is : me1 ≡ me
+  pub meaning : m1 ≡ after_drop j m
+  pub reserved : r1 ≡ r
+  pub progress : p1 ≡ p
+  pub stopped : o1 ≡ o
+
+module _ {S : Type 0} (k : ℕ) (me : Side) (j : ℕ) (f : Conflict) (m : Meaning) (r : ℕ) (b : Books S) (p : Progress S) (o : Option Stop) (k1 : ℕ) (me1 : Side) (m1 : Meaning) (r1 : ℕ) (b1 : Books S) (p1 : Progress S) (o1 : Option Stop)
+    (d : Doomed_ k me j f m r b p o k1 me1 m1 r1 b1 p1 o1) (a : ℕ) (e : Hold S) where
+  moved : (P : ℕ → Side → Hold S → Type 0) → P k1 me1 (holding m1 r1 b1 p1 o1) → P k me (holding (after_drop j m) r b1 p o)
+  moved P h = subst (λ z. P k me (holding (after_drop j m) r b1 p z)) d.stopped (subst (λ z. P k me (holding (after_drop j m) r b1 z o1)) d.progress (subst (λ z. P k me (holding (after_drop j m) z b1 p1 o1)) d.reserved
+      (subst (λ z. P k me (holding z r1 b1 p1 o1)) d.meaning (subst (λ z. P k z (holding m1 r1 b1 p1 o1)) d.me_is (subst (λ z. P z me1 (holding m1 r1 b1 p1 o1)) d.segment h)))))
+
+  pub holds_then : Holds k1 me1 a (holding m1 r1 b1 p1 o1) e → Holds k me a (holding m r b p o) e
+  holds_then h = holds_after k me a j f m r b b1 p o e d.other d.dooms (moved (λ i s z. Holds i s a z e) h)
+
+  pub fails_then : (s : Stop) → Fails k1 me1 a (⊥) (holding m1 r1 b1 p1 o1) s e → Fails k me a (⊥) (holding m r b p o) s e
+  fails_then s h = fails_after k me a j f m r b b1 p o s e d.other d.dooms (moved (λ i z x. Fails i z a (⊥) x s e) h)

@@ -6,6 +6,7 @@ ghost use Rattle.py_data.specs.Sight.{with_mark};
 ghost use Rattle.seg_store.specs.Meaning.{Meaning, sees, holds};
 ghost use Rattle.seg_store.specs.Calls.{after_drop, after_lock};
 ghost use Rattle.seg_store.specs.Store.{NoOther, IsStore};
+ghost use Rattle.stm_core.specs.CoreState.{wins};
 ghost use Rattle.stm_core.specs.Books.{Fit, runs_at};
 ghost use Rattle.stm_core.specs.Hold.{holding, Holds, Fails, is_noted, Looks, stop_of};
 
@@ -22,6 +23,13 @@ fn is_tracked_kind(kind: Kind) -> bool
         kind,
         Kind::List | Kind::Dict | Kind::Cell | Kind::Iter | Kind::Lock | Kind::Thread
     )
+}
+
+/// Of two sides of a conflict the first one wins: the solo one does, and otherwise the one that began earlier.
+fn wins(x: Side, y: Side) -> bool
+    ensures { result ≡ wins x y }
+{
+    x.solo || (!y.solo && x.begun < y.begun)
 }
 
 /// The sight of a transaction on one segment of a store. It isn't solo: a step that prints or reads is refused.
@@ -152,24 +160,89 @@ impl<'a, T: Drop, S: SegStore> SegView<'a, T, S> {
         self.store.drop_changes(j);
     }
 
+    /// Looks at a record that the segment holds.
+    fn look_held(&mut self, a: Addr) -> Result<(), Stop>
+        requires there { Has (sees (S.meaning self.old.store.now) self.old.segment) a.0 }
+        requires tracked { is_tracked (at (sees (S.meaning self.old.store.now) self.old.segment) a.0).kind ≡ true }
+        requires held { holds ((S.meaning self.old.store.now).part self.old.segment) a.0 ≡ true }
+        ensures ok { OnOk result (Holds self.old.segment self.old.side a.0 (holding (S.meaning self.old.store.now) (S.reserved self.old.store.now) self.old.books.now self.old.progress.now self.old.stopped) (holding (S.meaning self.new.store.now) (S.reserved self.new.store.now) self.new.books.now self.new.progress.now self.new.stopped)) }
+        ensures err { IfErr result (λ e. Fails self.old.segment self.old.side a.0 (⊥) (holding (S.meaning self.old.store.now) (S.reserved self.old.store.now) self.old.books.now self.old.progress.now self.old.stopped) e (holding (S.meaning self.new.store.now) (S.reserved self.new.store.now) self.new.books.now self.new.progress.now self.new.stopped)) }
+        ensures stays { (self.new.segment ≡ self.old.segment) × (self.new.side ≡ self.old.side) }
+        ensures refs { (self.new.store.ghost_name ≡ self.old.store.ghost_name) × (self.new.books.ghost_name ≡ self.old.books.ghost_name) × (self.new.progress.ghost_name ≡ self.old.progress.ghost_name) }
+    {
+        self.look(a)
+    }
+
     /// Takes the write lock of a record that no other segment holds.
     fn lock(&mut self, a: Addr) -> Result<(), Stop>
         requires there { Has (sees (S.meaning self.old.store.now) self.old.segment) a.0 }
         requires tracked { is_tracked (at (sees (S.meaning self.old.store.now) self.old.segment) a.0).kind ≡ true }
         requires free { NoOther (S.meaning self.old.store.now) self.old.segment a.0 }
-        requires store { IsStore (S.reserved self.old.store.now) (S.meaning self.old.store.now) }
-        ensures ok { OnOk result (S.meaning self.new.store.now ≡ after_lock self.old.segment a.0 (S.meaning self.old.store.now)) }
-        ensures stopped { OnOk result (self.new.stopped ≡ self.old.stopped) }
-        ensures err { IfErr result (λ e. (e ≡ OutOfMemory) × (self.new.stopped ≡ Some OutOfMemory) × (S.meaning self.new.store.now ≡ S.meaning self.old.store.now)) }
-        ensures reserved { S.reserved self.new.store.now ≡ S.reserved self.old.store.now }
-        ensures books { self.new.books.now ≡ self.old.books.now }
-        ensures progress { self.new.progress.now ≡ self.old.progress.now }
+        ensures ok { OnOk result (Holds self.old.segment self.old.side a.0 (holding (S.meaning self.old.store.now) (S.reserved self.old.store.now) self.old.books.now self.old.progress.now self.old.stopped) (holding (S.meaning self.new.store.now) (S.reserved self.new.store.now) self.new.books.now self.new.progress.now self.new.stopped)) }
+        ensures err { IfErr result (λ e. Fails self.old.segment self.old.side a.0 (⊥) (holding (S.meaning self.old.store.now) (S.reserved self.old.store.now) self.old.books.now self.old.progress.now self.old.stopped) e (holding (S.meaning self.new.store.now) (S.reserved self.new.store.now) self.new.books.now self.new.progress.now self.new.stopped)) }
         ensures stays { (self.new.segment ≡ self.old.segment) × (self.new.side ≡ self.old.side) }
         ensures refs { (self.new.store.ghost_name ≡ self.old.store.ghost_name) × (self.new.books.ghost_name ≡ self.old.books.ghost_name) × (self.new.progress.ghost_name ≡ self.old.progress.ghost_name) }
     {
+        self.store.known();
         match self.store.lock(self.segment, a) {
             Ok(()) => Ok(()),
             Err(_) => Err(self.fail(Stop::OutOfMemory)),
+        }
+    }
+
+    /// Takes the write lock of a record that segment j has locked: one of the two loses.
+    fn meet(&mut self, j: u8, a: Addr) -> Result<(), Stop>
+        requires other { j ≢ self.old.segment }
+        requires runs { runs_at self.old.books.now.hands.items j ≡ true }
+        requires there { Has (sees (S.meaning self.old.store.now) self.old.segment) a.0 }
+        requires tracked { is_tracked (at (sees (S.meaning self.old.store.now) self.old.segment) a.0).kind ≡ true }
+        requires held { holds ((S.meaning self.old.store.now).part j) a.0 ≡ true }
+        ensures ok { OnOk result (Holds self.old.segment self.old.side a.0 (holding (S.meaning self.old.store.now) (S.reserved self.old.store.now) self.old.books.now self.old.progress.now self.old.stopped) (holding (S.meaning self.new.store.now) (S.reserved self.new.store.now) self.new.books.now self.new.progress.now self.new.stopped)) }
+        ensures err { IfErr result (λ e. Fails self.old.segment self.old.side a.0 (⊥) (holding (S.meaning self.old.store.now) (S.reserved self.old.store.now) self.old.books.now self.old.progress.now self.old.stopped) e (holding (S.meaning self.new.store.now) (S.reserved self.new.store.now) self.new.books.now self.new.progress.now self.new.stopped)) }
+        ensures stays { (self.new.segment ≡ self.old.segment) × (self.new.side ≡ self.old.side) }
+        ensures refs { (self.new.store.ghost_name ≡ self.old.store.ghost_name) × (self.new.books.ghost_name ≡ self.old.books.ghost_name) × (self.new.progress.ghost_name ≡ self.old.progress.ghost_name) }
+    {
+        self.store.known();
+        let writer = self.books.side(j);
+        if !wins(self.side, writer) {
+            let lost = Conflict {
+                at: a,
+                writer,
+                other: self.side,
+                asks: true,
+                lost: 1,
+            };
+            return Err(self.fail(Stop::Lost(lost)));
+        }
+        let won = Conflict {
+            at: a,
+            writer,
+            other: self.side,
+            asks: true,
+            lost: 0,
+        };
+        self.doom(j, won);
+        self.lock(a)
+    }
+
+    /// Takes the write lock of a record, which counts as a look at it.
+    fn hold(&mut self, a: Addr) -> Result<(), Stop>
+        requires there { Has (sees (S.meaning self.old.store.now) self.old.segment) a.0 }
+        requires tracked { is_tracked (at (sees (S.meaning self.old.store.now) self.old.segment) a.0).kind ≡ true }
+        ensures ok { OnOk result (Holds self.old.segment self.old.side a.0 (holding (S.meaning self.old.store.now) (S.reserved self.old.store.now) self.old.books.now self.old.progress.now self.old.stopped) (holding (S.meaning self.new.store.now) (S.reserved self.new.store.now) self.new.books.now self.new.progress.now self.new.stopped)) }
+        ensures err { IfErr result (λ e. Fails self.old.segment self.old.side a.0 (⊥) (holding (S.meaning self.old.store.now) (S.reserved self.old.store.now) self.old.books.now self.old.progress.now self.old.stopped) e (holding (S.meaning self.new.store.now) (S.reserved self.new.store.now) self.new.books.now self.new.progress.now self.new.stopped)) }
+        ensures stays { (self.new.segment ≡ self.old.segment) × (self.new.side ≡ self.old.side) }
+        ensures refs { (self.new.store.ghost_name ≡ self.old.store.ghost_name) × (self.new.books.ghost_name ≡ self.old.books.ghost_name) × (self.new.progress.ghost_name ≡ self.old.progress.ghost_name) }
+    {
+        match self.store.holder(a) {
+            None => self.lock(a),
+            Some(j) => {
+                if j == self.segment {
+                    self.look_held(a)
+                } else {
+                    self.meet(j, a)
+                }
+            }
         }
     }
 }
