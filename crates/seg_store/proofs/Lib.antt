@@ -1,1 +1,4 @@
 pub mod Sees
+pub mod Marking
+pub mod Owning
+pub mod Turning
