@@ -2,3 +2,4 @@ pub mod Sees
 pub mod Marking
 pub mod Owning
 pub mod Turning
+pub mod Placing
