@@ -1,7 +1,6 @@
 pub mod Back
 pub mod Short
 pub mod Naming
-pub mod Finding
 pub mod Following
 pub mod Stepping
 pub mod IsPlainView

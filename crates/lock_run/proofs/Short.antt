@@ -1,26 +1,10 @@
 -- Records stay within the limit of values and bytes.
-use Rattle.std.proofs.Common.{◌≡◌, ◌⊎◌, inl, inr, ℕ, ◌+◌, ◌*◌, Bool, true, false, eqb, ◌&&◌, leb, List, [], ◌∷◌, ◌++◌, length, Option, Some, None, refl, sym, ◌∙◌, ap, subst, arith, length-append}
+use Rattle.std.proofs.Common.{◌≡◌, ◌⊎◌, inl, inr, ℕ, Bool, true, false, eqb, ◌&&◌, leb, List, [], ◌∷◌, ◌++◌, length, Option, Some, None, refl, sym, ◌∙◌, ap, subst}
 use Rattle.std.proofs.lemmas.Bool.{cases_Bool, cond-true, cond-false, and_from, and_parts, le-leb, leb-true}
-use Rattle.std.proofs.lemmas.List.{length-set, length-take}
-use Rattle.std.proofs.lemmas.List.Edits.{length-remove}
-use Rattle.std.specs.List.{remove}
 use Rattle.py_data.specs.declared.record.TheConstants.{LENGTH_LIMIT}
 use Rattle.py_data.specs.Heap.{Heap, Rec, put_at}
-use Rattle.lock_run.specs.declared.change.Change.{Change}
-use Rattle.lock_run.specs.declared.change.Change.TheVariants.{Set, Push, Cut, Pair, Unpair}
-use Rattle.lock_run.specs.Changes.{after, Allows, IsShort, AreShort}
+use Rattle.py_data.specs.Changes.{IsShort, AreShort}
 use Rattle.lock_run.specs.Journal.{restore_at, is_short, all_short}
-
--- a change that is allowed leaves a short record
-pub short_after : (c : Change) (r : Rec) → Allows c r → IsShort r → IsShort (after c r)
-short_after (Set i x) r h s = (let a = s.0 in omega (arith, length-set r.values i x), s.1)
-short_after (Push x) r h s = (omega (arith, length-append r.values (x ∷ [])), s.1)
-short_after (Cut n) r h s = (let a = s.0 in omega (arith, length-take n r.values), s.1)
-short_after (Pair key x) r h s = (omega (arith, length-append (r.values ++ key ∷ []) (x ∷ []), length-append r.values (key ∷ [])), s.1)
-short_after (Unpair k) r h s =
-    let a : length (remove r.values (2 * k)) + 1 ≡ length r.values = length-remove r.values (2 * k) (omega arith) in
-    let b : length (remove (remove r.values (2 * k)) (2 * k)) + 1 ≡ length (remove r.values (2 * k)) = length-remove (remove r.values (2 * k)) (2 * k) (omega arith) in
-    (let l = s.0 in omega arith, s.1)
 
 pub short_put : (h : Heap) (a : ℕ) (r : Rec) → AreShort h → IsShort r → AreShort (put_at h a r)
 short_put h a r s t = record {

@@ -1,7 +1,6 @@
 pub mod Journal
 pub mod Space
 pub mod Given
-pub mod Changes
 pub mod PlainState
 pub mod PlainSense
 pub mod PlainLaws

@@ -1,9 +1,7 @@
 //! The one-lock machine: threads of a client that take turns over one heap.
 #![tactic(auto)]
 
-mod change;
 mod client;
-mod find;
 mod given;
 mod laws;
 mod machine;

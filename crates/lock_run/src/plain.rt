@@ -1,11 +1,10 @@
 //! A view over a map and three devices: the sight of a thread that has the heap for itself.
-use crate::change::Change;
-use crate::find::find_pair;
 use crate::given::Given;
 use crate::space::Space;
 use crate::threads::Threads;
 use py_data::{
-    Addr, Entry, Kind, LENGTH_LIMIT, Names, NoMemory, Out, Peek, Record, Stop, Value, View,
+    Addr, Change, Entry, Kind, LENGTH_LIMIT, Names, NoMemory, Out, Peek, Record, Stop, Value, View,
+    find_pair,
 };
 use std::alloc::Global;
 use stm_io::{PutError, Sink, Source, TakeError};

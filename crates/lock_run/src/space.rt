@@ -5,10 +5,9 @@ ghost use Rattle.std.specs.Ordering.{nat_cmp};
 ghost use Rattle.std.specs.BTreeMap as tree;
 ghost use Rattle.py_data.specs.Heap.{put_at};
 ghost use Rattle.lock_run.specs.Journal.{journal_ok, restore_at, all_short};
-ghost use Rattle.lock_run.specs.Changes.{AreShort};
+ghost use Rattle.py_data.specs.Changes.{AreShort};
 
-use crate::change::{Change, changed};
-use py_data::{Entry, NoMemory};
+use py_data::{Change, Entry, NoMemory, Records, changed};
 use std::alloc::Global;
 use std::collections::BTreeMap;
 
@@ -50,7 +49,7 @@ pub struct Space {
 
 impl Space {
     ghost use Rattle.lock_run.specs.Space.{space_heap, space_base};
-    ghost use Rattle.lock_run.specs.Changes.{Allows, IsShort, after, Replaced};
+    ghost use Rattle.py_data.specs.Changes.{Allows, IsShort, after, Replaced};
     ghost use Rattle.py_data.specs.Sense.{IfThere};
 
     /// No records.
@@ -138,5 +137,15 @@ impl Space {
         while let Some((a, old)) = self.journal.pop() {
             restore(&mut self.records, a, old);
         }
+    }
+}
+
+impl Records for Space {
+    ghost use Rattle.lock_run.specs.Space.{space_heap};
+
+    ghost records = { space_heap };
+
+    fn record(&self, a: u32) -> Option<&Entry> {
+        self.look(a)
     }
 }

@@ -2,8 +2,10 @@
 #![tactic(auto)]
 
 pub mod arithmetic;
+mod change;
 mod collection;
 mod entry;
+mod find;
 mod laws;
 mod record;
 mod refusal;
@@ -13,7 +15,9 @@ mod tests;
 mod value;
 mod view;
 
+pub use change::{Change, changed};
 pub use collection::{Bytes, Duplicate, Items, Log, Names, NoMemory, Values};
+pub use find::{Records, find_pair};
 pub use laws::{afresh_law, bind_law, frame_law, names_law, stop_law, world_law};
 pub use record::{Entry, Fault, Got, LENGTH_LIMIT, Record, With};
 pub use refusal::{Construct, Refusal};

@@ -1,1 +1,5 @@
 pub mod Sees
+pub mod Marking
+pub mod Owning
+pub mod Turning
+pub mod Placing

@@ -1,8 +1,10 @@
 //! Changes of records, each made on a copy.
 ghost use Rattle.std.specs.Prelude.{◌≡◌, IfOk};
-ghost use Rattle.lock_run.specs.Changes.{after, Allows};
+ghost use Rattle.py_data.specs.Changes.{after, Allows, IsShort};
 
-use py_data::{Entry, NoMemory, Value};
+use crate::collection::NoMemory;
+use crate::record::Entry;
+use crate::value::Value;
 use std::alloc::Global;
 
 /// One change of a record, as the calls of a view ask for it.
@@ -20,11 +22,13 @@ pub enum Change {
     Unpair(usize),
 }
 
-/// The record after a change. It copies all values and bytes of the record, so a change takes time and memory of the
-/// record's length, and one that finds no memory leaves the record as it is.
+/// The record after a change, which is within the limit of length if the record was. It copies all values and bytes of the
+/// record, so a change takes time and memory of the record's length, and one that finds no memory leaves the record as it
+/// is.
 pub fn changed(alloc: Global, e: &Entry, c: Change) -> Result<Entry, NoMemory>
     requires { Allows c e.now }
-    ensures { IfOk result (λ t. t ≡ after c e.now) }
+    ensures after { IfOk result (λ t. t ≡ after c e.now) }
+    ensures short { IsShort e.now → IfOk result IsShort }
 {
     let mut r = e.copy(alloc)?;
     match c {

@@ -3,8 +3,8 @@
 use Rattle.std.specs.Prelude.{◌≡◌, ℕ, ◌+◌, ◌*◌, ◌<◌, ◌≤◌, length, Some}
 use Rattle.py_data.specs.declared.record.TheConstants.{LENGTH_LIMIT}
 use Rattle.py_data.specs.Heap.{Heap, Rec, put_at, with_value, with_push, cut_to, with_pair, without_pair}
-use Rattle.lock_run.specs.declared.change.Change.{Change}
-use Rattle.lock_run.specs.declared.change.Change.TheVariants.{Set, Push, Cut, Pair, Unpair}
+use Rattle.py_data.specs.declared.change.Change.{Change}
+use Rattle.py_data.specs.declared.change.Change.TheVariants.{Set, Push, Cut, Pair, Unpair}
 
 -- the record after a change
 abbrev pub after : Change → Rec → Rec
