@@ -259,6 +259,7 @@ holds_looked {S} me a k m m1 r r1 b b1 p p1 o o1 out there t held h er eb ep eo 
       progress = refl;
       stopped = refl;
       beside = looks_beside me a k m m1 r b p o o out h;
+      locks = λ c l. inl (ap (mem c) (sym s.3) ∙ l);
     } in
     subst (λ z. Holds k me a (holding m r b p o) (holding m1 z b1 p1 o1)) (sym er) (subst (λ z. Holds k me a (holding m r b p o) (holding m1 r z p1 o1)) (sym eb)
     (subst (λ z. Holds k me a (holding m r b p o) (holding m1 r b z o1)) (sym ep) (subst (λ z. Holds k me a (holding m r b p o) (holding m1 r b p z)) (sym eo) base)))
@@ -278,6 +279,7 @@ holds_locked {S} me a k m m1 r r1 b b1 p p1 o o1 out s there em er eb ep eo =
       stopped = refl;
       beside = beside_own k me m q r r b p o o out (omega arith) (ap (λ (z : Part). overlay m.image z.kept) (sym (own_part k q m)) ∙ l.before) (kept (holds (m.part k) a))
           (λ c h. ap (λ (f : Marks). f c) (marks (holds (m.part k) a)) ∙ or_right (eqb c a) ((m.part k).looked c) h) (λ c h. more (holds (m.part k) a) c h);
+      locks = λ c h. fewer (holds (m.part k) a) c (ap (λ (z : Part). mem c z.changed) (sym (own_part k q m)) ∙ h);
     } in
     subst (λ z. Holds k me a (holding m r b p o) (holding z r1 b1 p1 o1)) (sym em) (subst (λ z. Holds k me a (holding m r b p o) (holding (after_lock k a m) z b1 p1 o1)) (sym er)
     (subst (λ z. Holds k me a (holding m r b p o) (holding (after_lock k a m) r z p1 o1)) (sym eb)
@@ -299,6 +301,13 @@ holds_locked {S} me a k m m1 r r1 b b1 p p1 o o1 out s there em er eb ep eo =
     more true c x = x
     more false c x = mem_append c (m.part k).changed (a ∷ []) ∙ or_left (mem c (m.part k).changed) (mem c (a ∷ [])) x
 
+    fewer : (h : Bool) (c : ℕ) → mem c (cond h (marked a (m.part k)) (first_locked a (at (sees m k) a) (m.part k))).changed ≡ true → (mem c (m.part k).changed ≡ true) ⊎ (c ≡ a)
+    fewer true c x = inl x
+    fewer false c x = elim (or_cases (mem c (m.part k).changed) (mem c (a ∷ [])) (sym (mem_append c (m.part k).changed (a ∷ [])) ∙ x)) [
+      | inl y ↦ inl y
+      | inr y ↦ elim (or_cases (eqb c a) false y) [ inl z ↦ inr (eqb-true c a z) | inr z ↦ absurd (both_ways false refl z) ]
+    ]
+
 -- first a doom of another segment, and then the record is held
 pub holds_after : {S : Type 0} (k : ℕ) (me : Side) (a j : ℕ) (f : Conflict) (m : Meaning) (r : ℕ) (b b1 : Books S) (p : Progress S) (o : Option Stop) (e : Hold S) → j ≢ k → ((w : World) → Dooms k me (f ∷ []) (core_of w m b) (core_of w (after_drop j m) b1))
     → Holds k me a (holding (after_drop j m) r b1 p o) e → Holds k me a (holding m r b p o) e
@@ -312,6 +321,7 @@ holds_after k me a j f m r b b1 p o e n ds h =
       progress = h.progress;
       stopped = h.stopped;
       beside = beside_then k me (holding m r b p o) (holding (after_drop j m) r b1 p o) e (beside_doom k me j f m r b b1 p o n ds) h.beside;
+      locks = λ c x. elim (h.locks c x) [ inl y ↦ inl (sym (ap (λ (z : Part). mem c z.changed) q) ∙ y) | inr y ↦ inr y ];
     }
 
 -- ---- a call that failed

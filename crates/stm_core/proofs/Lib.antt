@@ -5,3 +5,4 @@ pub mod New
 pub mod Looking
 pub mod Fits
 pub mod Holding
+pub mod Changing

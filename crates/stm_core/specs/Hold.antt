@@ -8,7 +8,11 @@ use Rattle.py_data.specs.Heap.{Rec, Heap, Marks, is_tracked}
 use Rattle.py_data.specs.World.{World}
 use Rattle.py_data.specs.Sense.{touches}
 use Rattle.py_data.specs.Row.{Call, Reply, Read, Find, SetVal, Push, Truncate, PushPair, DropPair, Make, Start, Put, Take, MidLine, SetMidLine}
-use Rattle.py_data.specs.Sight.{Sight, Act, mem, with_mark}
+use Rattle.py_data.specs.Sight.{Sight, Act, Edited, CanSet, CanPush, CanPair, mem, with_mark}
+use Rattle.py_data.specs.declared.change.Change.{Change}
+use Rattle.py_data.specs.declared.change.Change.TheVariants as change
+use Rattle.py_data.specs.Changes.{after}
+use Rattle.seg_store.specs.Store.{CanSet as MaySet, CanPush as MayPush, CanCut as MayCut, CanPair as MayPair, HasPair}
 use Rattle.seg_store.specs.declared.store.StoreFault.{StoreFault}
 use Rattle.seg_store.specs.declared.store.StoreFault.TheVariants.{Full as FullStore, OutOfMemory as NoMemoryLeft}
 use Rattle.seg_store.specs.Meaning.{Part, Meaning, sees, saw, holds}
@@ -206,6 +210,7 @@ pub record Holds {S : Type 0} (k : ℕ) (me : Side) (a : ℕ) (d e : Hold S) : T
   pub progress : e.progress ≡ d.progress
   pub stopped : e.stopped ≡ d.stopped
   pub beside : Beside k me d e
+  pub locks : (b : ℕ) → mem b (e.meaning.part k).changed ≡ true → (mem b (d.meaning.part k).changed ≡ true) ⊎ (b ≡ a)
 
 -- why a call on the record a failed; where it may want words, the heap may be full
 abbrev pub FailWhy : {S : Type 0} → ℕ → Side → ℕ → Type 0 → Stop → Hold S → Type 0
@@ -221,3 +226,36 @@ pub record Fails {S : Type 0} (k : ℕ) (me : Side) (a : ℕ) (grows : Type 0) (
   pub why : FailWhy k me a grows s e
   pub looked : (b : ℕ) → (e.meaning.part k).looked b ≡ true → ((d.meaning.part k).looked b ≡ true) ⊎ (b ≡ a)
   pub locks : (b : ℕ) → mem b (e.meaning.part k).changed ≡ true → (mem b (d.meaning.part k).changed ≡ true) ⊎ (b ≡ a)
+
+-- ---- changes
+
+-- what a change needs of the record at an address
+abbrev pub Can : Change → Heap → ℕ → Type 0
+Can (change.Set i v) h a = MaySet h a i
+Can (change.Push v) h a = MayPush h a
+Can (change.Cut n) h a = MayCut h a
+Can (change.Pair x v) h a = MayPair h a x
+Can (change.Unpair n) h a = HasPair h a n
+
+-- of which records it may be made
+abbrev pub Fits : Change → Rec → Type 0
+Fits (change.Set i v) = CanSet i
+Fits (change.Push v) = CanPush
+Fits (change.Cut n) = CanPush
+Fits (change.Pair x v) = CanPair
+Fits (change.Unpair n) = CanPair
+
+-- it may want words
+abbrev pub MayGrow : Change → Type 0
+MayGrow (change.Push v) = Unit {0}
+MayGrow (change.Pair x v) = Unit {0}
+MayGrow _ = ⊥
+
+-- why a store refuses a change
+abbrev pub FaultWhy : Type 0 → ℕ → ℕ → StoreFault → Type 0
+FaultWhy grows reserved limit NoMemoryLeft = Unit {0}
+FaultWhy grows reserved limit (FullStore r n l) = grows × (r ≡ reserved) × (l ≡ limit) × (l < r + n)
+
+-- a change that was done
+abbrev pub Changed : {S : Type 0} → ℕ → Side → ℕ → Change → Hold S → Hold S → Type 0
+Changed k me a c d e = Edited a (Fits c) (after c) (sight k d) (sight k e) × Beside k me d e × (e.stopped ≡ None)

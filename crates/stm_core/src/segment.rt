@@ -2,16 +2,16 @@
 ghost use Rattle.std.specs.Prelude.{◌≡◌, ◌≢◌, ℕ, ◌<◌, ◌≤◌, ◌+◌, ◌++◌, [], ◌∷◌, true, false, length, slice_set, Some, None, OnOk, OnErr, IfErr, IfSome};
 ghost use Rattle.py_data.specs.declared.stop.Stop.TheVariants.{OutOfMemory};
 ghost use Rattle.py_data.specs.Heap.{Has, at, is_tracked};
-ghost use Rattle.py_data.specs.Sight.{with_mark};
+ghost use Rattle.py_data.specs.Changes.{after};
 ghost use Rattle.seg_store.specs.Meaning.{Meaning, sees, holds};
-ghost use Rattle.seg_store.specs.Calls.{after_drop, after_lock};
+ghost use Rattle.seg_store.specs.Calls.{after_drop, after_lock, after_change};
 ghost use Rattle.seg_store.specs.Store.{NoOther, IsStore};
 ghost use Rattle.stm_core.specs.CoreState.{wins};
 ghost use Rattle.stm_core.specs.Books.{Fit, runs_at};
-ghost use Rattle.stm_core.specs.Hold.{holding, Holds, Fails, is_noted, Looks, stop_of};
+ghost use Rattle.stm_core.specs.Hold.{holding, Can, MayGrow, FaultWhy, Changed, Holds, Fails, is_noted, Looks, stop_of};
 
 use crate::books::{Books, Hand, Progress};
-use py_data::{Addr, Conflict, Kind, Side, Stop};
+use py_data::{Addr, Change, Conflict, Kind, Side, Stop};
 use seg_store::{SegStore, StoreFault};
 
 /// A record of this kind changes, and a look at it is noted.
@@ -243,6 +243,47 @@ impl<'a, T: Drop, S: SegStore> SegView<'a, T, S> {
                     self.meet(j, a)
                 }
             }
+        }
+    }
+
+    /// Changes a record that the segment holds.
+    fn change_held(&mut self, a: Addr, change: Change) -> Result<(), StoreFault>
+        requires held { holds ((S.meaning self.old.store.now).part self.old.segment) a.0 ≡ true }
+        requires can { Can change (sees (S.meaning self.old.store.now) self.old.segment) a.0 }
+        ensures ok { OnOk result (S.meaning self.new.store.now ≡ after_change self.old.segment a.0 (after change) (S.meaning self.old.store.now)) }
+        ensures err { OnErr result (S.meaning self.new.store.now ≡ S.meaning self.old.store.now) }
+        ensures cause { IfErr result (FaultWhy (MayGrow change) (S.reserved self.new.store.now) (S.meaning self.old.store.now).limit) }
+        ensures reserved { S.reserved self.old.store.now ≤ S.reserved self.new.store.now }
+        ensures books { self.new.books.now ≡ self.old.books.now }
+        ensures progress { self.new.progress.now ≡ self.old.progress.now }
+        ensures stopped { self.new.stopped ≡ self.old.stopped }
+        ensures stays { (self.new.segment ≡ self.old.segment) × (self.new.side ≡ self.old.side) }
+        ensures refs { (self.new.store.ghost_name ≡ self.old.store.ghost_name) × (self.new.books.ghost_name ≡ self.old.books.ghost_name) × (self.new.progress.ghost_name ≡ self.old.progress.ghost_name) }
+    {
+        match change {
+            Change::Set(i, v) => self.store.set_val(self.segment, a, i, v),
+            Change::Push(v) => self.store.push_val(self.segment, a, v),
+            Change::Cut(n) => self.store.truncate(self.segment, a, n),
+            Change::Pair(key, v) => self.store.push_pair(self.segment, a, key, v),
+            Change::Unpair(n) => self.store.drop_pair(self.segment, a, n),
+        }
+    }
+
+    /// Takes the write lock of a record, and changes it.
+    fn change(&mut self, a: Addr, change: Change) -> Result<(), Stop>
+        requires live { self.old.stopped ≡ None }
+        requires can { Can change (sees (S.meaning self.old.store.now) self.old.segment) a.0 }
+        ensures ok { OnOk result (Changed self.old.segment self.old.side a.0 change (holding (S.meaning self.old.store.now) (S.reserved self.old.store.now) self.old.books.now self.old.progress.now self.old.stopped) (holding (S.meaning self.new.store.now) (S.reserved self.new.store.now) self.new.books.now self.new.progress.now self.new.stopped)) }
+        ensures err { IfErr result (λ e. Fails self.old.segment self.old.side a.0 (MayGrow change) (holding (S.meaning self.old.store.now) (S.reserved self.old.store.now) self.old.books.now self.old.progress.now self.old.stopped) e (holding (S.meaning self.new.store.now) (S.reserved self.new.store.now) self.new.books.now self.new.progress.now self.new.stopped)) }
+        ensures stays { (self.new.segment ≡ self.old.segment) × (self.new.side ≡ self.old.side) }
+        ensures refs { (self.new.store.ghost_name ≡ self.old.store.ghost_name) × (self.new.books.ghost_name ≡ self.old.books.ghost_name) × (self.new.progress.ghost_name ≡ self.old.progress.ghost_name) }
+    {
+        match self.hold(a) {
+            Ok(()) => match self.change_held(a, change) {
+                Ok(()) => Ok(()),
+                Err(fault) => Err(self.refuse(fault)),
+            },
+            Err(stop) => Err(stop),
         }
     }
 }

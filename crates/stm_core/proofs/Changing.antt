@@ -1,0 +1,148 @@
+-- Changes of records that a segment holds.
+use Rattle.std.proofs.Common.{◌≡◌, ◌≢◌, ◌⊎◌, ◌<◌, ◌≤◌, ◌+◌, ℕ, Bool, true, false, cond, ◌||◌, eqb, List, [], ◌∷◌, length, take, Option, Some, None, Result, Ok, Err, OnOk, OnErr, IfErr, MatchOption, refl, sym, ◌∙◌, ap, subst, inl, inr, arith, IsSome, unwrap_or}
+use Rattle.std.proofs.lemmas.Bool.{both_ways, or_cases, or_left, eqb-true, eq-eqb}
+use Rattle.py_data.specs.declared.stop.Side.{Side}
+use Rattle.py_data.specs.declared.stop.Stop.{Stop}
+use Rattle.py_data.specs.declared.stop.Stop.TheVariants.{Lost, NeedSolo, NeedHeap, Full, ReadFault, WriteFault, ErrFault, OutOfMemory}
+use Rattle.py_data.specs.declared.value.Kind.{Kind}
+use Rattle.py_data.specs.declared.value.Kind.TheVariants as kind
+use Rattle.py_data.specs.declared.change.Change.{Change}
+use Rattle.py_data.specs.declared.change.Change.TheVariants.{Set, Push, Cut, Pair, Unpair}
+use Rattle.py_data.specs.Changes.{after}
+use Rattle.py_data.specs.Heap.{Rec, Heap, Has, at, is_tracked, put_at, blank}
+use Rattle.py_data.specs.Sight.{Sight, Edited, edited, mem, with_mark}
+use Rattle.py_data.specs.Row.{Call}
+use Rattle.py_data.specs.Sense.{touches, IfThere}
+use Rattle.seg_store.specs.declared.store.StoreFault.{StoreFault}
+use Rattle.seg_store.specs.declared.store.StoreFault.TheVariants.{Full as FullStore, OutOfMemory as NoMemoryLeft}
+use Rattle.seg_store.specs.Meaning.{Part, Meaning, sees, saw, holds, overlay, with_part}
+use Rattle.seg_store.specs.Calls.{changed, after_change}
+use Rattle.seg_store.proofs.Sees.{own_part, change_shows}
+use Rattle.stm_core.specs.declared.books.Progress.{Progress}
+use Rattle.stm_core.specs.declared.books.Books.{Books}
+use Rattle.stm_core.specs.declared.books.Hand.{Hand}
+use Rattle.stm_core.specs.Books.{runs_at, Fit}
+use Rattle.stm_core.specs.Hold.{Hold, sight, Beside, Holds, Fails, FailWhy, SegRefuses, SegWhy, IsChange, IsGrowth, IsHeld, Can, Fits, MayGrow, FaultWhy, Changed, holding, stop_of}
+use Rattle.stm_core.proofs.Holding.{beside_then, beside_own, fails_alone}
+use Rattle.stm_core.proofs.Fits.{fit_own}
+
+-- a change keeps store and books fitting
+pub fit_change : {S : Type 0} (k a : ℕ) (f : Rec → Rec) (m : Meaning) (b : Books S) (p : Progress S) → Fit k m b p → Fit k (after_change k a f m) b p
+fit_change k a f m b p h = fit_own k m (changed a (f (at (sees m k) a)) (m.part k)) b p p h h.own_names h.kept_names (λ c l. h.locked k c l) refl
+
+pub fit_change_result : {S E : Type 0} (x : Result (Unit {0}) E) (k a : ℕ) (f : Rec → Rec) (m m1 : Meaning) (b : Books S) (p : Progress S) → Fit k m b p → OnOk x (m1 ≡ after_change k a f m) → OnErr x (m1 ≡ m) → Fit k m1 b p
+fit_change_result (Ok u) k a f m m1 b p h ok err = subst (λ z. Fit k z b p) (sym ok) (fit_change k a f m b p h)
+fit_change_result (Err u) k a f m m1 b p h ok err = subst (λ z. Fit k z b p) (sym err) h
+
+-- ---- the record that a change is made of
+
+-- a change can be made of a record that is there, which is tracked
+pub record Ready (c : Change) (h : Heap) (a : ℕ) : Type 0 where
+  pub entry : Rec
+  pub is : h a ≡ Some entry
+  pub there : Has h a
+  pub at_is : at h a ≡ entry
+  pub tracked : is_tracked (at h a).kind ≡ true
+  pub fits : Fits c entry
+
+-- what a condition says of the record that is there
+of_there : (h : Heap) (a : ℕ) (P Q : Rec → Type 0) → IfThere false (h a) P → ((r : Rec) → P r → Q r) → (r : Rec) × (h a ≡ Some r) × Q r
+of_there h a P Q t f = go (h a) refl t
+  where
+    go : (o : Option Rec) → h a ≡ o → IfThere false o P → (r : Rec) × (h a ≡ Some r) × Q r
+    go None e x = absurd (both_ways false refl x)
+    go (Some r) e x = (r, e, f r x)
+
+can_fits : (c : Change) (h : Heap) (a : ℕ) → Can c h a → (r : Rec) × (h a ≡ Some r) × ((is_tracked r.kind ≡ true) × Fits c r)
+can_fits (Set i v) h a t = of_there h a _ _ t (λ r x. (x.0, (x.0, x.1)))
+can_fits (Push v) h a t = of_there h a _ _ t (λ r x. (ap is_tracked x.0, x.0))
+can_fits (Cut n) h a t = of_there h a _ _ t (λ r x. (ap is_tracked x, x))
+can_fits (Pair k v) h a t = of_there h a _ _ t (λ r x. (ap is_tracked x.0.0, x.0.0))
+can_fits (Unpair n) h a t = of_there h a _ _ t (λ r x. (ap is_tracked x.0, x.0))
+
+pub can_ready : (c : Change) (h : Heap) (a : ℕ) → Can c h a → Ready c h a
+unfolding at
+can_ready c h a t =
+    let r = can_fits c h a t in
+    let e : at h a ≡ r.0 = ap (λ o. unwrap_or o blank) r.1 in
+    record { entry = r.0; is = r.1; there = subst IsSome (sym r.1) refl; at_is = e; tracked = ap (λ (q : Rec). is_tracked q.kind) e ∙ r.2.0; fits = r.2.1 }
+
+-- ---- a change that was done
+
+-- what a change of a held record leaves beside
+pub beside_change : {S : Type 0} (k : ℕ) (me : Side) (a : ℕ) (f : Rec → Rec) (d e e2 : Hold S) → runs_at e.books.hands.items k ≡ false → Beside k me d e
+    → e2.meaning ≡ after_change k a f e.meaning → e.reserved ≤ e2.reserved → e2.books ≡ e.books → e2.progress ≡ e.progress → Beside k me d e2
+beside_change {S} k me a f d e e2 out g em er eb ep =
+    let q = changed a (f (at (sees e.meaning k) a)) (e.meaning.part k) in
+    let own : Beside k me e (holding (with_part k q e.meaning) e2.reserved e.books e.progress e2.stopped) = beside_own k me e.meaning q e.reserved e2.reserved e.books e.progress e.stopped e2.stopped out er refl refl (λ c h. h) (λ c h. h) in
+    beside_then k me d e e2 g (subst (λ z. Beside k me e (holding z e2.reserved e2.books e2.progress e2.stopped)) (sym em) (subst (λ z. Beside k me e (holding (after_change k a f e.meaning) e2.reserved z e2.progress e2.stopped)) (sym eb)
+    (subst (λ z. Beside k me e (holding (after_change k a f e.meaning) e2.reserved e.books z e2.stopped)) (sym ep) own)))
+
+-- the sight once the record was held and changed
+pub change_done : {S : Type 0} (k : ℕ) (me : Side) (a : ℕ) (c : Change) (d e e2 : Hold S) → Can c (sees d.meaning k) a → d.stopped ≡ None → runs_at e.books.hands.items k ≡ false → Holds k me a d e
+    → e2.meaning ≡ after_change k a (after c) e.meaning → e.reserved ≤ e2.reserved → e2.books ≡ e.books → e2.progress ≡ e.progress → e2.stopped ≡ e.stopped → Changed k me a c d e2
+change_done {S} k me a c d e e2 can live out h em er eb ep es =
+    let r = can_ready c (sees d.meaning k) a can in
+    let s = change_shows k a (after c) e.meaning in
+    let same_at : at (sees e.meaning k) a ≡ r.entry = ap (λ z. at z a) h.shown ∙ r.at_is in
+    let part : (e2.meaning.part k) ≡ changed a (after c (at (sees e.meaning k) a)) (e.meaning.part k) = ap (λ (z : Meaning). z.part k) em ∙ own_part k (changed a (after c (at (sees e.meaning k) a)) (e.meaning.part k)) e.meaning in
+    let heap : sees e2.meaning k ≡ put_at (sees d.meaning k) a (after c r.entry) =
+    ap (λ z. sees z k) em ∙ s.seen ∙ ap (λ z. put_at z a (after c (at (sees e.meaning k) a))) h.shown ∙ ap (λ z. put_at (sees d.meaning k) a (after c z)) same_at in
+    let looked : (e2.meaning.part k).looked ≡ with_mark a (d.meaning.part k).looked = ap (λ (z : Part). z.looked) part ∙ h.looked in
+    let touched : holds (e2.meaning.part k) ≡ with_mark a (holds (d.meaning.part k)) = ap (λ (z : Part). holds z) part ∙ h.touched in
+    let made : (e2.meaning.part k).made ≡ (d.meaning.part k).made = ap (λ (z : Part). z.made) part ∙ h.made in
+    let started : e2.progress.started ≡ d.progress.started = ap (λ (z : Progress S). z.started) (ep ∙ h.progress) in
+    let sights : sight k e2 ≡ edited a (after c r.entry) (sight k d) = λ i. record (sight k e2) { heap = heap i; looked = looked i; touched = touched i; made = made i; started = started i } in
+    ((r.entry, r.is, r.fits, sights), beside_change k me a (after c) d e e2 out h.beside em er eb ep, es ∙ h.stopped ∙ live)
+
+-- ---- a change that was refused
+
+-- the Stop of a store's fault has its cause
+fault_why : {S : Type 0} (k : ℕ) (me : Side) (a : ℕ) (grows : Type 0) (m : Meaning) (r : ℕ) (b : Books S) (p : Progress S) (o : Option Stop) (x : StoreFault) → FaultWhy grows r m.limit x → FailWhy k me a grows (stop_of x) (holding m r b p o)
+fault_why k me a grows m r b p o (FullStore u n l) w = w
+fault_why k me a grows m r b p o NoMemoryLeft w = tt
+
+-- the store refused the change of a record that was held
+pub change_refused : {S : Type 0} (k : ℕ) (me : Side) (a : ℕ) (grows : Type 0) (d e e2 : Hold S) (x : StoreFault) (s : Stop) → Holds k me a d e → e2.meaning ≡ e.meaning → e.reserved ≤ e2.reserved → e2.books ≡ e.books → e2.progress ≡ e.progress
+    → s ≡ stop_of x → e2.stopped ≡ Some s → FaultWhy grows e2.reserved e.meaning.limit x → Fails k me a grows d s e2
+change_refused {S} k me a grows d e e2 x s h em er eb ep es eo why =
+    let w : FailWhy k me a grows s (holding e.meaning e2.reserved e.books e.progress (Some s)) =
+    subst (λ z. FailWhy k me a grows z (holding e.meaning e2.reserved e.books e.progress (Some s))) (sym es) (fault_why k me a grows e.meaning e2.reserved e.books e.progress (Some s) x why) in
+    let last = fails_alone k me a grows e.meaning e2.meaning e.reserved e2.reserved e.books e2.books e.progress e2.progress e.stopped e2.stopped s em er eb ep eo w in
+    record {
+      stopped = eo;
+      beside = beside_then k me d e e2 h.beside last.beside;
+      why = last.why;
+      looked = λ b l. marks b (ap (λ (z : Meaning). (z.part k).looked b) (sym em) ∙ l);
+      locks = λ b l. h.locks b (ap (λ (z : Meaning). mem b (z.part k).changed) (sym em) ∙ l);
+    }
+  where
+    marks : (b : ℕ) → (e.meaning.part k).looked b ≡ true → ((d.meaning.part k).looked b ≡ true) ⊎ (b ≡ a)
+    marks b l = elim (or_cases (eqb b a) ((d.meaning.part k).looked b) (sym (ap (λ f. f b) h.looked) ∙ l)) [ inl y ↦ inr (eqb-true b a y) | inr y ↦ inl y ]
+
+-- a failed call of a record is a call of a view that was refused
+pub refused_change : {S : Type 0} (k : ℕ) (me : Side) (a : ℕ) (grows : Type 0) (c : Call S) (d : Hold S) (s : Stop) (e : Hold S) → IsChange c → IsHeld c → touches c ≡ Some a → (grows → IsGrowth c) → Fails k me a grows d s e → SegRefuses k me c d s e
+refused_change {S} k me a grows c d s e change held at grow f = record {
+  stopped = f.stopped;
+  beside = f.beside;
+  why = reason s f.why;
+  looked = λ b l. elim (f.looked b l) [ inl x ↦ inl x | inr x ↦ inr (at ∙ ap Some (sym x)) ];
+  locks = λ b l. elim (f.locks b l) [ inl x ↦ inl x | inr x ↦ inr (at ∙ ap Some (sym x)) ];
+}
+  where
+    reason : (z : Stop) → FailWhy k me a grows z e → SegWhy k me z c e
+    reason (Lost q) w = (change, at ∙ ap Some (sym w.0), w.1)
+    reason (Full r n l) w = (grow w.0, w.1, w.2, w.3)
+    reason OutOfMemory w = held
+    reason _ w = absurd w
+
+-- ---- the same segment, by another name
+
+pub change_held_at : (k k1 a : ℕ) (m m1 : Meaning) → k1 ≡ k → holds (m1.part k) ≡ with_mark a (holds (m.part k)) → holds (m1.part k1) a ≡ true
+change_held_at k k1 a m m1 e h = ap (λ z. holds (m1.part z) a) e ∙ ap (λ f. f a) h ∙ or_left (eqb a a) (holds (m.part k) a) (eq-eqb a a refl)
+
+pub runs_moved : {S : Type 0} (hs : List (Hand S)) (k1 k : ℕ) → k1 ≡ k → runs_at hs k1 ≡ false → runs_at hs k ≡ false
+runs_moved hs k1 k e h = subst (λ z. runs_at hs z ≡ false) e h
+
+pub after_moved : (k k1 a : ℕ) (f : Rec → Rec) (m m1 : Meaning) → k1 ≡ k → m1 ≡ after_change k1 a f m → m1 ≡ after_change k a f m
+after_moved k k1 a f m m1 e h = subst (λ z. m1 ≡ after_change z a f m) e h
