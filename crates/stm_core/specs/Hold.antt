@@ -4,11 +4,11 @@ use Rattle.py_data.specs.declared.stop.Side.{Side}
 use Rattle.py_data.specs.declared.stop.Conflict.{Conflict}
 use Rattle.py_data.specs.declared.stop.Stop.{Stop}
 use Rattle.py_data.specs.declared.stop.Stop.TheVariants.{Lost, NeedSolo, Full, OutOfMemory}
-use Rattle.py_data.specs.Heap.{Rec, Heap, Marks, is_tracked}
+use Rattle.py_data.specs.Heap.{Rec, Heap, Marks, at, is_tracked}
 use Rattle.py_data.specs.World.{World}
 use Rattle.py_data.specs.Sense.{touches}
 use Rattle.py_data.specs.Row.{Call, Reply, Read, Find, SetVal, Push, Truncate, PushPair, DropPair, Make, Start, Put, Take, MidLine, SetMidLine}
-use Rattle.py_data.specs.Sight.{Sight, Act, Edited, CanSet, CanPush, CanPair, mem, with_mark}
+use Rattle.py_data.specs.Sight.{Sight, Act, Edited, looked_at, CanSet, CanPush, CanPair, mem, with_mark}
 use Rattle.py_data.specs.declared.change.Change.{Change}
 use Rattle.py_data.specs.declared.change.Change.TheVariants as change
 use Rattle.py_data.specs.Changes.{after}
@@ -259,3 +259,7 @@ FaultWhy grows reserved limit (FullStore r n l) = grows × (r ≡ reserved) × (
 -- a change that was done
 abbrev pub Changed : {S : Type 0} → ℕ → Side → ℕ → Change → Hold S → Hold S → Type 0
 Changed k me a c d e = Edited a (Fits c) (after c) (sight k d) (sight k e) × Beside k me d e × (e.stopped ≡ None)
+
+-- a look that was done
+abbrev pub Sees : {S : Type 0} → ℕ → Side → ℕ → Hold S → Hold S → Type 0
+Sees k me a d e = (sight k e ≡ looked_at a (at (sees d.meaning k) a) (sight k d)) × Beside k me d e × (e.stopped ≡ None)

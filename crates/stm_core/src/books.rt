@@ -1,11 +1,12 @@
 //! What a core keeps beside its store: the committed states of the threads, what each segment has in hand, the history and
 //! the conflicts.
-ghost use Rattle.std.specs.Prelude.{◌≡◌, ◌<◌, ◌≤◌, ◌+◌, ◌++◌, [], ◌∷◌, length, true, slice_set, slice_get};
+ghost use Rattle.std.specs.Prelude.{◌≡◌, ◌<◌, ◌≤◌, ◌+◌, ◌++◌, [], ◌∷◌, length, true, slice_set, slice_get, take, OnOk, OnErr};
 ghost use Rattle.stm_core.specs.Books.{runs_at, started_at, side_of};
 
 use crate::cause::Cause;
 use lock_run::History;
-use py_data::{Conflict, Conflicts, Items, Log, Names, Side};
+use py_data::{Conflict, Conflicts, Items, Log, Names, NoMemory, Side};
+use std::alloc::AllocError;
 use std::mem;
 
 /// The names that a transaction gave and the threads that it started, and how many of them there were when its open step
@@ -57,7 +58,45 @@ pub struct Books<T> {
     pub cause: Option<Cause>,
 }
 
+impl<T: Drop> Progress<T> {
+    /// A step begins: what stands now is kept.
+    pub fn open(&mut self)
+        ensures { self.new ≡ record self.old { kept_names = length self.old.names; kept_started = length self.old.started } }
+    {
+        self.kept_names = self.names.len();
+        self.kept_started = self.started.len();
+    }
+
+    /// Takes back the names and the threads of the step, and tells how many threads these were.
+    pub fn undo(&mut self) -> usize
+        ensures back { self.new ≡ record self.old { names = take self.old.kept_names self.old.names; started = take self.old.kept_started self.old.started } }
+        ensures count { result + length self.new.started ≡ length self.old.started }
+    {
+        let before = self.started.len();
+        self.names.truncate(self.kept_names);
+        self.started.truncate(self.kept_started);
+        before - self.started.len()
+    }
+}
+
 impl<T: Drop> Books<T> {
+    /// A running transaction starts a thread, for whose commit there is room then.
+    pub fn start(&mut self, progress: &mut Progress<T>, s: T) -> Result<(), NoMemory>
+        ensures rest { self.new ≡ record self.old { threads = self.new.threads; pending = self.new.pending } }
+        ensures threads { self.new.threads.entries ≡ self.old.threads.entries }
+        ensures room { self.old.threads.room ≤ self.new.threads.room }
+        ensures ok { OnOk result ((self.new.pending ≡ self.old.pending + 1) × (self.new.pending ≤ self.new.threads.room) × (progress.new ≡ record progress.old { started = progress.old.started ++ s ∷ [] })) }
+        ensures err { OnErr result ((self.new.pending ≡ self.old.pending) × (progress.new ≡ progress.old)) }
+    {
+        let Some(pending) = self.pending.checked_add(1) else {
+            return Err(AllocError);
+        };
+        self.threads.reserve(pending)?;
+        progress.started.push(s)?;
+        self.pending = pending;
+        Ok(())
+    }
+
     /// The transaction of a segment, as a side of a conflict.
     pub fn side(&self, j: u8) -> Side
         requires { runs_at self.now.hands.items j ≡ true }

@@ -1,17 +1,20 @@
 //! A segment's view: the sight of a transaction that shares the heap with others.
-ghost use Rattle.std.specs.Prelude.{◌≡◌, ◌≢◌, ℕ, ◌<◌, ◌≤◌, ◌+◌, ◌++◌, [], ◌∷◌, true, false, length, slice_set, Some, None, OnOk, OnErr, IfErr, IfSome};
+ghost use Rattle.std.specs.Prelude.{◌≡◌, ◌≢◌, ℕ, ◌<◌, ◌≤◌, ◌+◌, ◌++◌, [], ◌∷◌, true, false, length, slice_set, Some, None, OnOk, OnErr, IfOk, IfErr, IfSome};
 ghost use Rattle.py_data.specs.declared.stop.Stop.TheVariants.{OutOfMemory};
 ghost use Rattle.py_data.specs.Heap.{Has, at, is_tracked};
 ghost use Rattle.py_data.specs.Changes.{after};
+ghost use Rattle.py_data.specs.Shape.{IsShaped};
+ghost use Rattle.py_data.specs.Made.{rec_of};
 ghost use Rattle.seg_store.specs.Meaning.{Meaning, sees, holds};
-ghost use Rattle.seg_store.specs.Calls.{after_drop, after_lock, after_change};
-ghost use Rattle.seg_store.specs.Store.{NoOther, IsStore};
+ghost use Rattle.seg_store.specs.Calls.{after_drop, after_lock, after_change, after_make};
+ghost use Rattle.seg_store.specs.Store.{NoOther, IsFree};
 ghost use Rattle.stm_core.specs.CoreState.{wins};
 ghost use Rattle.stm_core.specs.Books.{Fit, runs_at};
-ghost use Rattle.stm_core.specs.Hold.{holding, Can, MayGrow, FaultWhy, Changed, Holds, Fails, is_noted, Looks, stop_of};
+ghost use Rattle.stm_core.specs.SegSense.{Seen};
+ghost use Rattle.stm_core.specs.Hold.{holding, Sees, Can, MayGrow, FaultWhy, Changed, Holds, Fails, is_noted, Looks, stop_of};
 
 use crate::books::{Books, Hand, Progress};
-use py_data::{Addr, Change, Conflict, Kind, Side, Stop};
+use py_data::{Addr, Change, Conflict, Kind, LENGTH_LIMIT, Out, Record, Side, Stop, Value, View};
 use seg_store::{SegStore, StoreFault};
 
 /// A record of this kind changes, and a look at it is noted.
@@ -284,6 +287,199 @@ impl<'a, T: Drop, S: SegStore> SegView<'a, T, S> {
                 Err(fault) => Err(self.refuse(fault)),
             },
             Err(stop) => Err(stop),
+        }
+    }
+
+    /// Makes a record, for whose name a place was made.
+    fn name_made(&mut self, r: &Record) -> Result<Addr, StoreFault>
+        requires shape { IsShaped (sees (S.meaning self.old.store.now) self.old.segment) (rec_of r.now) }
+        requires values { length r.now.values ≤ LENGTH_LIMIT }
+        requires bytes { length r.now.bytes ≤ LENGTH_LIMIT }
+        ensures fresh { IfOk result (λ n. IsFree (S.meaning self.old.store.now) n.0) }
+        ensures ok { IfOk result (λ n. S.meaning self.new.store.now ≡ after_make self.old.segment n.0 (rec_of r.now) (S.meaning self.old.store.now)) }
+        ensures names { IfOk result (λ n. self.new.progress.now ≡ record self.old.progress.now { names = self.old.progress.now.names ++ n ∷ [] }) }
+        ensures err { OnErr result (S.meaning self.new.store.now ≡ S.meaning self.old.store.now) }
+        ensures same { OnErr result (self.new.progress.now ≡ self.old.progress.now) }
+        ensures cause { IfErr result (FaultWhy (Unit {0}) (S.reserved self.new.store.now) (S.meaning self.old.store.now).limit) }
+        ensures reserved { S.reserved self.old.store.now ≤ S.reserved self.new.store.now }
+        ensures books { self.new.books.now ≡ self.old.books.now }
+        ensures stopped { self.new.stopped ≡ self.old.stopped }
+        ensures stays { (self.new.segment ≡ self.old.segment) × (self.new.side ≡ self.old.side) }
+        ensures refs { (self.new.store.ghost_name ≡ self.old.store.ghost_name) × (self.new.books.ghost_name ≡ self.old.books.ghost_name) × (self.new.progress.ghost_name ≡ self.old.progress.ghost_name) }
+    {
+        let last = self.progress.names.len();
+        self.progress.names.push(Addr(0))?;
+        match self.store.make(self.segment, r) {
+            Ok(n) => {
+                self.progress.names.set(last, n);
+                Ok(n)
+            }
+            Err(fault) => {
+                self.progress.names.truncate(last);
+                Err(fault)
+            }
+        }
+    }
+
+    /// Looks at a record.
+    fn see(&mut self, a: Addr) -> Result<(), Stop>
+        requires live { self.old.stopped ≡ None }
+        requires there { Has (sees (S.meaning self.old.store.now) self.old.segment) a.0 }
+        ensures ok { OnOk result (Sees self.old.segment self.old.side a.0 (holding (S.meaning self.old.store.now) (S.reserved self.old.store.now) self.old.books.now self.old.progress.now self.old.stopped) (holding (S.meaning self.new.store.now) (S.reserved self.new.store.now) self.new.books.now self.new.progress.now self.new.stopped)) }
+        ensures quiet { Seen a.0 self.old.segment (holding (S.meaning self.old.store.now) (S.reserved self.old.store.now) self.old.books.now self.old.progress.now self.old.stopped) → self.new ≡ self.old }
+        ensures err { IfErr result (λ e. Fails self.old.segment self.old.side a.0 (⊥) (holding (S.meaning self.old.store.now) (S.reserved self.old.store.now) self.old.books.now self.old.progress.now self.old.stopped) e (holding (S.meaning self.new.store.now) (S.reserved self.new.store.now) self.new.books.now self.new.progress.now self.new.stopped)) }
+        ensures unsure { IfErr result (λ e. (e ≡ OutOfMemory) × (Seen a.0 self.old.segment (holding (S.meaning self.old.store.now) (S.reserved self.old.store.now) self.old.books.now self.old.progress.now self.old.stopped) → ⊥)) }
+        ensures stays { (self.new.segment ≡ self.old.segment) × (self.new.side ≡ self.old.side) }
+        ensures refs { (self.new.store.ghost_name ≡ self.old.store.ghost_name) × (self.new.books.ghost_name ≡ self.old.books.ghost_name) × (self.new.progress.ghost_name ≡ self.old.progress.ghost_name) }
+    {
+        self.look(a)
+    }
+}
+
+impl<'a, T: Drop, S: SegStore> View<T> for SegView<'a, T, S> {
+    ghost use Rattle.std.specs.Prelude.{◌≡◌};
+    ghost use Rattle.stm_core.specs.Hold.{holding};
+    ghost use Rattle.stm_core.specs.SegSense.{seg_sense, seg_bracket};
+    ghost use Rattle.stm_core.specs.SegLaws.{seg_lawful, seg_bracketed};
+
+    ghost sense = { seg_sense (λ v. holding (S.meaning v.store.now) (S.reserved v.store.now) v.books.now v.progress.now v.stopped) (λ v. v.segment) (λ v. v.side)
+        (λ v w. (w.store.ghost_name ≡ v.store.ghost_name) × (w.books.ghost_name ≡ v.books.ghost_name) × (w.progress.ghost_name ≡ v.progress.ghost_name)) };
+
+    ghost bracket = { seg_bracket (λ v. holding (S.meaning v.store.now) (S.reserved v.store.now) v.books.now v.progress.now v.stopped) (λ v. v.segment) (λ v. v.side)
+        (λ v w. (w.store.ghost_name ≡ v.store.ghost_name) × (w.books.ghost_name ≡ v.books.ghost_name) × (w.progress.ghost_name ≡ v.progress.ghost_name)) };
+
+    ghost lawful = { seg_lawful (λ v. holding (S.meaning v.store.now) (S.reserved v.store.now) v.books.now v.progress.now v.stopped) (λ v. v.segment) (λ v. v.side)
+        (λ v w. (w.store.ghost_name ≡ v.store.ghost_name) × (w.books.ghost_name ≡ v.books.ghost_name) × (w.progress.ghost_name ≡ v.progress.ghost_name)) };
+
+    ghost bracketed = { seg_bracketed (λ v. holding (S.meaning v.store.now) (S.reserved v.store.now) v.books.now v.progress.now v.stopped) (λ v. v.segment) (λ v. v.side)
+        (λ v w. (w.store.ghost_name ≡ v.store.ghost_name) × (w.books.ghost_name ≡ v.books.ghost_name) × (w.progress.ghost_name ≡ v.progress.ghost_name)) };
+
+    fn open_step(&mut self) {
+        self.store.open_step(self.segment);
+        self.progress.open();
+        self.stopped = None;
+    }
+
+    fn undo_step(&mut self) {
+        self.store.undo_step(self.segment);
+        self.books.pending -= self.progress.undo();
+        self.stopped = None;
+    }
+
+    fn stopped(&self) -> Option<Stop> {
+        self.stopped
+    }
+
+    #[tactic(auto, unfolding(py_data::specs::Sense::Asks, py_data::specs::Heap::at))]
+    fn kind(&mut self, a: Addr) -> Result<Kind, Stop> {
+        match self.see(a) {
+            Ok(()) => Ok(self.store.kind(self.segment, a)),
+            Err(stop) => Err(stop),
+        }
+    }
+
+    #[tactic(auto, unfolding(py_data::specs::Sense::Asks, py_data::specs::Heap::at))]
+    fn set_val(&mut self, a: Addr, i: usize, v: Value) -> Result<(), Stop> {
+        self.change(a, Change::Set(i, v))
+    }
+
+    #[tactic(auto, unfolding(py_data::specs::Sense::Asks, py_data::specs::Heap::at))]
+    fn push_val(&mut self, a: Addr, v: Value) -> Result<(), Stop> {
+        self.change(a, Change::Push(v))
+    }
+
+    #[tactic(auto, unfolding(py_data::specs::Sense::Asks, py_data::specs::Heap::at))]
+    fn truncate(&mut self, a: Addr, n: usize) -> Result<(), Stop> {
+        self.change(a, Change::Cut(n))
+    }
+
+    #[tactic(auto, unfolding(py_data::specs::Sense::Asks, py_data::specs::Heap::at))]
+    fn push_pair(&mut self, d: Addr, key: Value, v: Value) -> Result<(), Stop> {
+        self.change(d, Change::Pair(key, v))
+    }
+
+    #[tactic(auto, unfolding(py_data::specs::Sense::Asks, py_data::specs::Heap::at))]
+    fn drop_pair(&mut self, d: Addr, place: usize) -> Result<(), Stop> {
+        self.change(d, Change::Unpair(place))
+    }
+
+    fn put(&mut self, _on: Out, _bytes: &[u8]) -> Result<(), Stop> {
+        Err(self.fail(Stop::NeedSolo))
+    }
+
+    fn take_line(&mut self, _most: usize) -> Result<Vec<u8>, Stop> {
+        Err(self.fail(Stop::NeedSolo))
+    }
+
+    fn mid_line(&self) -> bool {
+        false
+    }
+
+    fn set_mid_line(&mut self, _mid: bool) {
+        unreachable!()
+    }
+
+    #[tactic(auto, unfolding(py_data::specs::Sense::Asks, py_data::specs::Heap::at))]
+    fn len(&mut self, a: Addr) -> Result<usize, Stop> {
+        match self.see(a) {
+            Ok(()) => Ok(match self.store.kind(self.segment, a) {
+                Kind::Str => 0,
+                _ => self.store.len(self.segment, a),
+            }),
+            Err(stop) => Err(stop),
+        }
+    }
+
+    #[tactic(auto, unfolding(py_data::specs::Sense::Asks, py_data::specs::Heap::at))]
+    fn val(&mut self, a: Addr, i: usize) -> Result<Value, Stop> {
+        match self.see(a) {
+            Ok(()) => Ok(self.store.val(self.segment, a, i)),
+            Err(stop) => Err(stop),
+        }
+    }
+
+    #[tactic(auto, unfolding(py_data::specs::Sense::Asks, py_data::specs::Heap::at))]
+    fn byte_len(&mut self, a: Addr) -> Result<usize, Stop> {
+        match self.see(a) {
+            Ok(()) => Ok(match self.store.kind(self.segment, a) {
+                Kind::Str => self.store.len(self.segment, a),
+                _ => 0,
+            }),
+            Err(stop) => Err(stop),
+        }
+    }
+
+    #[tactic(auto, unfolding(py_data::specs::Sense::Asks, py_data::specs::Heap::at))]
+    fn copy_bytes(&mut self, a: Addr, from: usize, out: &mut [u8]) -> Result<(), Stop> {
+        match self.see(a) {
+            Ok(()) => {
+                self.store.copy_bytes(self.segment, a, from, out);
+                Ok(())
+            }
+            Err(stop) => Err(stop),
+        }
+    }
+
+    #[tactic(auto, unfolding(py_data::specs::Sense::Asks, py_data::specs::Heap::at))]
+    fn find_key(&mut self, d: Addr, key: Value) -> Result<Option<usize>, Stop> {
+        match self.see(d) {
+            Ok(()) => Ok(self.store.find_key(self.segment, d, key)),
+            Err(stop) => Err(stop),
+        }
+    }
+
+    #[tactic(auto, unfolding(py_data::specs::Sense::Asks, py_data::specs::Heap::at))]
+    fn make(&mut self, r: &Record) -> Result<Addr, Stop> {
+        match self.name_made(r) {
+            Ok(n) => Ok(n),
+            Err(fault) => Err(self.refuse(fault)),
+        }
+    }
+
+    fn start_thread(&mut self, s: T) -> Result<(), Stop> {
+        match self.books.start(self.progress, s) {
+            Ok(()) => Ok(()),
+            Err(_) => Err(self.fail(Stop::OutOfMemory)),
         }
     }
 }
