@@ -28,7 +28,7 @@ use Rattle.stm_core.proofs.Fits.{fit_own}
 
 -- a change keeps store and books fitting
 pub fit_change : {S : Type 0} (k a : ℕ) (f : Rec → Rec) (m : Meaning) (b : Books S) (p : Progress S) → Fit k m b p → Fit k (after_change k a f m) b p
-fit_change k a f m b p h = fit_own k m (changed a (f (at (sees m k) a)) (m.part k)) b p p h h.own_names h.kept_names (λ c l. h.locked k c l) refl
+fit_change k a f m b p h = fit_own k m (changed a (f (at (sees m k) a)) (m.part k)) b p p h h.own_names h.kept_names h.within (λ c l. h.locked k c l) refl
 
 pub fit_change_result : {S E : Type 0} (x : Result (Unit {0}) E) (k a : ℕ) (f : Rec → Rec) (m m1 : Meaning) (b : Books S) (p : Progress S) → Fit k m b p → OnOk x (m1 ≡ after_change k a f m) → OnErr x (m1 ≡ m) → Fit k m1 b p
 fit_change_result (Ok u) k a f m m1 b p h ok err = subst (λ z. Fit k z b p) (sym ok) (fit_change k a f m b p h)

@@ -67,9 +67,9 @@ other : (j k : ℕ) (q : Part) (m : Meaning) → j ≢ k → (with_part k q m).p
 other j k q m n = cond-false (eqb j k) q (m.part j) (ne_eqb j k n)
 
 -- only the segment's own part and the progress of its transaction changed
-pub fit_own : {S : Type 0} (k : ℕ) (m : Meaning) (q : Part) (b : Books S) (p p1 : Progress S) → Fit k m b p → places p1.names ≡ q.made → places (take p1.kept_names p1.names) ≡ q.kept_made
+pub fit_own : {S : Type 0} (k : ℕ) (m : Meaning) (q : Part) (b : Books S) (p p1 : Progress S) → Fit k m b p → places p1.names ≡ q.made → places (take p1.kept_names p1.names) ≡ q.kept_made → p1.kept_names ≤ length p1.names
     → ((a : ℕ) → mem a q.changed ≡ true → is_lock (m.image a) (q.looked a) ≡ true) → length p1.started ≡ length p.started → Fit k (with_part k q m) b p1
-fit_own k m q b p p1 f names kept locks st = record {
+fit_own k m q b p p1 f names kept within locks st = record {
   mine = f.mine;
   hands = f.hands;
   out = f.out;
@@ -77,6 +77,7 @@ fit_own k m q b p p1 f names kept locks st = record {
   names = λ j r. f.names j r ∙ sym (ap (λ (z : Part). z.made) (other j k q m (runs_other b.hands.items j k r f.out)));
   own_names = names ∙ sym (ap (λ (z : Part). z.made) (own k q m));
   kept_names = kept ∙ sym (ap (λ (z : Part). z.kept_made) (own k q m));
+  within = within;
   locked = λ j a h. elim (cases_Bool (eqb j k)) [
     | inl y ↦ let e : (with_part k q m).part j ≡ q = cond-true (eqb j k) q (m.part j) y in
         subst (λ (z : Part). is_lock (m.image a) (z.looked a) ≡ true) (sym e) (locks a (subst (λ (z : Part). mem a z.changed ≡ true) e h))
@@ -95,7 +96,7 @@ lock_marked None a b looked e = absurd (both_ways false refl e)
 lock_marked (Some r) a b looked e = let t = and_parts (is_tracked r.kind) (looked b) e in and_from (is_tracked r.kind) (with_mark a looked b) t.0 (or_right (eqb b a) (looked b) t.1)
 
 pub fit_mark : {S : Type 0} (k a : ℕ) (m : Meaning) (b : Books S) (p : Progress S) → Fit k m b p → Fit k (after_mark k a m) b p
-fit_mark k a m b p f = fit_own k m (marked a (m.part k)) b p p f f.own_names f.kept_names (λ c h. lock_marked (m.image c) a c (m.part k).looked (f.locked k c h)) refl
+fit_mark k a m b p f = fit_own k m (marked a (m.part k)) b p p f f.own_names f.kept_names f.within (λ c h. lock_marked (m.image c) a c (m.part k).looked (f.locked k c h)) refl
 
 -- a record that no segment's change hides stands in the image
 pub seen_image : (r : ℕ) (m : Meaning) (k a : ℕ) → IsStore r m → holds (m.part k) a ≡ false → sees m k a ≡ m.image a
@@ -131,7 +132,7 @@ fit_lock {S} r k a m b p s there tracked f = go (holds (m.part k) a) refl
 
     go : (h : Bool) → holds (m.part k) a ≡ h → Fit k (after_lock k a m) b p
     go true e = subst (λ z. Fit k (with_part k z m) b p) (sym (cond-true (holds (m.part k) a) (marked a (m.part k)) q e)) (fit_mark k a m b p f)
-    go false e = subst (λ z. Fit k (with_part k z m) b p) (sym (cond-false (holds (m.part k) a) (marked a (m.part k)) q e)) (fit_own k m q b p p f f.own_names f.kept_names (lock e) refl)
+    go false e = subst (λ z. Fit k (with_part k z m) b p) (sym (cond-false (holds (m.part k) a) (marked a (m.part k)) q e)) (fit_own k m q b p p f f.own_names f.kept_names f.within (lock e) refl)
 
 pub fit_lock_result : {S E : Type 0} (x : Result (Unit {0}) E) (r k a : ℕ) (m m1 : Meaning) (b : Books S) (p : Progress S) → IsStore r m → Has (sees m k) a → is_tracked (at (sees m k) a).kind ≡ true → Fit k m b p
     → OnOk x (m1 ≡ after_lock k a m) → OnErr x (m1 ≡ m) → Fit k m1 b p
@@ -179,6 +180,7 @@ fit_doom {S} k m b b1 p j c f n r hs pe hi th co =
           ap (λ o. places (names_of o)) (at_other i ne) ∙ f.names i (sym (ap is_running (at_other i ne)) ∙ ri) ∙ sym (ap (λ (z : Part). z.made) (other i j (ended (m.part j)) m ne));
       own_names = f.own_names ∙ sym (ap (λ (z : Part). z.made) kp);
       kept_names = f.kept_names ∙ sym (ap (λ (z : Part). z.kept_made) kp);
+      within = f.within;
       locked = λ i a h. elim (cases_Bool (eqb i j)) [
         | inl y ↦ absurd (both_ways false refl (subst (λ (z : Part). mem a z.changed ≡ true) (cond-true (eqb i j) (ended (m.part j)) (m.part i) y) h))
         | inr y ↦ let e : (after_drop j m).part i ≡ m.part i = cond-false (eqb i j) (ended (m.part j)) (m.part i) y in

@@ -45,8 +45,8 @@ beside_refl k me d = record {
   others = λ w. refl;
   kept_names = refl;
   kept_started = refl;
-  names = refl;
-  started = refl;
+  names = λ h. (h, refl);
+  started = λ h. (h, refl);
   made = refl;
   looked = λ a h. h;
   locks = λ a h. h;
@@ -63,8 +63,8 @@ beside_then k me d e f g h = record {
   others = λ w. dooms_then k me g.dooms h.dooms (core_of w d.meaning d.books) (core_of w e.meaning e.books) (core_of w f.meaning f.books) (g.others w) (h.others w);
   kept_names = h.kept_names ∙ g.kept_names;
   kept_started = h.kept_started ∙ g.kept_started;
-  names = h.names ∙ g.names;
-  started = h.started ∙ g.started;
+  names = λ n. let x = g.names n in let y = h.names x.0 in (y.0, y.1 ∙ x.1);
+  started = λ n. let x = g.started n in let y = h.started x.0 in (y.0, y.1 ∙ x.1);
   made = h.made ∙ g.made;
   looked = λ a m. h.looked a (g.looked a m);
   locks = λ a m. h.locks a (g.locks a m);
@@ -101,8 +101,8 @@ beside_own k me m q r r1 b p o o1 out le shown made looked locks = let e = own_p
   others = λ w. core_own w k q m b out;
   kept_names = refl;
   kept_started = refl;
-  names = refl;
-  started = refl;
+  names = λ h. (h, refl);
+  started = λ h. (h, refl);
   made = ap (λ (z : Part). z.kept_made) e ∙ made;
   looked = λ a h. ap (λ (z : Part). z.looked a) e ∙ looked a h;
   locks = λ a h. ap (λ (z : Part). mem a z.changed) e ∙ locks a h;
@@ -176,8 +176,8 @@ beside_doom k me j f m rs b b1 p o n ds = let e = other_part j (ended (m.part j)
   others = ds;
   kept_names = refl;
   kept_started = refl;
-  names = refl;
-  started = refl;
+  names = λ h. (h, refl);
+  started = λ h. (h, refl);
   made = ap (λ (z : Part). z.kept_made) e;
   looked = λ a h. ap (λ (z : Part). z.looked a) e ∙ h;
   locks = λ a h. ap (λ (z : Part). mem a z.changed) e ∙ h;
@@ -327,7 +327,7 @@ holds_after k me a j f m r b b1 p o e n ds h =
 -- ---- a call that failed
 
 -- nothing but the Stop changed
-beside_stop : {S : Type 0} (k : ℕ) (me : Side) (m : Meaning) (r r1 : ℕ) (b : Books S) (p : Progress S) (o o1 : Option Stop) → r ≤ r1 → Beside k me (holding m r b p o) (holding m r1 b p o1)
+pub beside_stop : {S : Type 0} (k : ℕ) (me : Side) (m : Meaning) (r r1 : ℕ) (b : Books S) (p : Progress S) (o o1 : Option Stop) → r ≤ r1 → Beside k me (holding m r b p o) (holding m r1 b p o1)
 beside_stop k me m r r1 b p o o1 le = record {
   saw = refl;
   image = refl;
@@ -338,8 +338,8 @@ beside_stop k me m r r1 b p o o1 le = record {
   others = λ w. refl;
   kept_names = refl;
   kept_started = refl;
-  names = refl;
-  started = refl;
+  names = λ h. (h, refl);
+  started = λ h. (h, refl);
   made = refl;
   looked = λ a h. h;
   locks = λ a h. h;

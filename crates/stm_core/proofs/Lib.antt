@@ -6,3 +6,4 @@ pub mod Looking
 pub mod Fits
 pub mod Holding
 pub mod Changing
+pub mod Seeing

@@ -108,6 +108,7 @@ pub record Fit {S : Type 0} (k : ℕ) (m : Meaning) (b : Books S) (p : Progress 
   pub names : (j : ℕ) → runs_at b.hands.items j ≡ true → places (names_at b.hands.items j) ≡ (m.part j).made
   pub own_names : places p.names ≡ (m.part k).made
   pub kept_names : places (take p.kept_names p.names) ≡ (m.part k).kept_made
+  pub within : p.kept_names ≤ length p.names
   pub locked : (j a : ℕ) → mem a (m.part j).changed ≡ true → is_lock (m.image a) ((m.part j).looked a) ≡ true
   pub turns : sum_by one_running b.hands.items < b.history.room
   pub losses : sum_by one_running b.hands.items < b.conflicts.room

@@ -4,11 +4,11 @@ use Rattle.py_data.specs.declared.stop.Side.{Side}
 use Rattle.py_data.specs.declared.stop.Conflict.{Conflict}
 use Rattle.py_data.specs.declared.stop.Stop.{Stop}
 use Rattle.py_data.specs.declared.stop.Stop.TheVariants.{Lost, NeedSolo, Full, OutOfMemory}
-use Rattle.py_data.specs.Heap.{Rec, Heap, Marks, at, is_tracked}
+use Rattle.py_data.specs.Heap.{Rec, Heap, Marks, is_tracked}
 use Rattle.py_data.specs.World.{World}
 use Rattle.py_data.specs.Sense.{touches}
 use Rattle.py_data.specs.Row.{Call, Reply, Read, Find, SetVal, Push, Truncate, PushPair, DropPair, Make, Start, Put, Take, MidLine, SetMidLine}
-use Rattle.py_data.specs.Sight.{Sight, Act, Edited, looked_at, CanSet, CanPush, CanPair, mem, with_mark}
+use Rattle.py_data.specs.Sight.{Sight, Act, Edited, CanSet, CanPush, CanPair, mem, with_mark}
 use Rattle.py_data.specs.declared.change.Change.{Change}
 use Rattle.py_data.specs.declared.change.Change.TheVariants as change
 use Rattle.py_data.specs.Changes.{after}
@@ -66,6 +66,10 @@ abbrev pub Dooms : {S : Type 0} → ℕ → Side → List Conflict → CoreState
 Dooms k me [] c c1 = c1 ≡ c
 Dooms {S} k me (f ∷ fs) c c1 = (u : CoreState S) × DoomsOne k me f c u × Dooms k me fs u c1
 
+-- the first n of a list, where it has so many, are the first of another one
+abbrev pub KeepsFront : {X : Type 0} → ℕ → List X → ℕ → List X → Type 0
+KeepsFront n xs n1 ys = n ≤ length xs → (n1 ≤ length ys) × (take n1 ys ≡ take n xs)
+
 -- what a call of segment k, which acts for the side `me`, leaves beside its own sight: other segments are only doomed
 pub record Beside {S : Type 0} (k : ℕ) (me : Side) (d e : Hold S) : Type 0 where
   pub saw : saw e.meaning k ≡ saw d.meaning k
@@ -77,8 +81,8 @@ pub record Beside {S : Type 0} (k : ℕ) (me : Side) (d e : Hold S) : Type 0 whe
   pub others : (w : World) → Dooms k me dooms (core_of w d.meaning d.books) (core_of w e.meaning e.books)
   pub kept_names : e.progress.kept_names ≡ d.progress.kept_names
   pub kept_started : e.progress.kept_started ≡ d.progress.kept_started
-  pub names : take e.progress.kept_names e.progress.names ≡ take d.progress.kept_names d.progress.names
-  pub started : take e.progress.kept_started e.progress.started ≡ take d.progress.kept_started d.progress.started
+  pub names : KeepsFront d.progress.kept_names d.progress.names e.progress.kept_names e.progress.names
+  pub started : KeepsFront d.progress.kept_started d.progress.started e.progress.kept_started e.progress.started
   pub made : (e.meaning.part k).kept_made ≡ (d.meaning.part k).kept_made
   pub looked : (a : ℕ) → (d.meaning.part k).looked a ≡ true → (e.meaning.part k).looked a ≡ true
   pub locks : (a : ℕ) → mem a (d.meaning.part k).changed ≡ true → mem a (e.meaning.part k).changed ≡ true
@@ -259,7 +263,3 @@ FaultWhy grows reserved limit (FullStore r n l) = grows × (r ≡ reserved) × (
 -- a change that was done
 abbrev pub Changed : {S : Type 0} → ℕ → Side → ℕ → Change → Hold S → Hold S → Type 0
 Changed k me a c d e = Edited a (Fits c) (after c) (sight k d) (sight k e) × Beside k me d e × (e.stopped ≡ None)
-
--- a look that was done
-abbrev pub Sees : {S : Type 0} → ℕ → Side → ℕ → Hold S → Hold S → Type 0
-Sees k me a d e = (sight k e ≡ looked_at a (at (sees d.meaning k) a) (sight k d)) × Beside k me d e × (e.stopped ≡ None)

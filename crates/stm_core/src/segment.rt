@@ -1,17 +1,20 @@
 //! A segment's view: the sight of a transaction that shares the heap with others.
-ghost use Rattle.std.specs.Prelude.{◌≡◌, ◌≢◌, ℕ, ◌<◌, ◌≤◌, ◌+◌, ◌++◌, [], ◌∷◌, true, false, length, slice_set, Some, None, OnOk, OnErr, IfOk, IfErr, IfSome};
+ghost use Rattle.std.specs.Prelude.{◌≡◌, ◌≢◌, ℕ, ◌<◌, ◌≤◌, ◌+◌, ◌*◌, ◌++◌, [], ◌∷◌, true, false, length, take, drop, slice_set, Some, None, OnOk, OnErr, IfOk, IfErr, IfSome};
 ghost use Rattle.py_data.specs.declared.stop.Stop.TheVariants.{OutOfMemory};
-ghost use Rattle.py_data.specs.Heap.{Has, at, is_tracked};
+ghost use Rattle.py_data.specs.Heap.{Has, at, value_at, is_tracked};
 ghost use Rattle.py_data.specs.Changes.{after};
-ghost use Rattle.py_data.specs.Shape.{IsShaped};
+ghost use Rattle.py_data.specs.Shape.{IsShaped, IsKey, ArePairs, find};
+ghost use Rattle.py_data.specs.Sense.{IfThere};
+ghost use Rattle.py_data.specs.declared.value.Kind.TheVariants.{Dict};
 ghost use Rattle.py_data.specs.Made.{rec_of};
 ghost use Rattle.seg_store.specs.Meaning.{Meaning, sees, holds};
 ghost use Rattle.seg_store.specs.Calls.{after_drop, after_lock, after_change, after_make};
 ghost use Rattle.seg_store.specs.Store.{NoOther, IsFree};
 ghost use Rattle.stm_core.specs.CoreState.{wins};
 ghost use Rattle.stm_core.specs.Books.{Fit, runs_at};
+ghost use Rattle.py_data.specs.Row.{Read};
 ghost use Rattle.stm_core.specs.SegSense.{Seen};
-ghost use Rattle.stm_core.specs.Hold.{holding, Sees, Can, MayGrow, FaultWhy, Changed, Holds, Fails, is_noted, Looks, stop_of};
+ghost use Rattle.stm_core.specs.Hold.{holding, SegDoes, SegRefuses, Can, MayGrow, FaultWhy, Changed, Holds, Fails, is_noted, Looks, stop_of};
 
 use crate::books::{Books, Hand, Progress};
 use py_data::{Addr, Change, Conflict, Kind, LENGTH_LIMIT, Out, Record, Side, Stop, Value, View};
@@ -321,14 +324,74 @@ impl<'a, T: Drop, S: SegStore> SegView<'a, T, S> {
         }
     }
 
+    /// The kind of a record. No look is noted.
+    fn kind_of(&self, a: Addr) -> Kind
+        requires { IfThere false ((sees (S.meaning self.now.store.now) self.now.segment) a.0) (λ r. Unit {0}) }
+        ensures { result ≡ (at (sees (S.meaning self.now.store.now) self.now.segment) a.0).kind }
+    {
+        self.store.kind(self.segment, a)
+    }
+
+    /// The count of a record's values. No look is noted.
+    fn count_of(&self, a: Addr) -> usize
+        requires { IfThere false ((sees (S.meaning self.now.store.now) self.now.segment) a.0) (λ r. Unit {0}) }
+        ensures count { result ≡ length (at (sees (S.meaning self.now.store.now) self.now.segment) a.0).values }
+        ensures fits { result ≤ LENGTH_LIMIT }
+    {
+        self.store.known();
+        match self.store.kind(self.segment, a) {
+            Kind::Str => 0,
+            _ => self.store.len(self.segment, a),
+        }
+    }
+
+    /// The count of a record's bytes. No look is noted.
+    fn byte_count_of(&self, a: Addr) -> usize
+        requires { IfThere false ((sees (S.meaning self.now.store.now) self.now.segment) a.0) (λ r. Unit {0}) }
+        ensures count { result ≡ length (at (sees (S.meaning self.now.store.now) self.now.segment) a.0).bytes }
+        ensures fits { result ≤ LENGTH_LIMIT }
+    {
+        self.store.known();
+        match self.store.kind(self.segment, a) {
+            Kind::Str => self.store.len(self.segment, a),
+            _ => 0,
+        }
+    }
+
+    /// A value of a record. No look is noted.
+    fn value_of(&self, a: Addr, i: usize) -> Value
+        requires { IfThere false ((sees (S.meaning self.now.store.now) self.now.segment) a.0) (λ r. i < length r.values) }
+        ensures { result ≡ value_at (at (sees (S.meaning self.now.store.now) self.now.segment) a.0).values i }
+    {
+        self.store.val(self.segment, a, i)
+    }
+
+    /// Copies bytes of a record. No look is noted.
+    fn bytes_of(&self, a: Addr, from: usize, out: &mut [u8])
+        requires { IfThere false ((sees (S.meaning self.now.store.now) self.now.segment) a.0) (λ r. from + length out.old ≤ length r.bytes) }
+        ensures { out.new ≡ take (length out.old) (drop from (at (sees (S.meaning self.now.store.now) self.now.segment) a.0).bytes) }
+    {
+        self.store.copy_bytes(self.segment, a, from, out);
+    }
+
+    /// The number of the pair of a dictionary with an equal key. No look is noted.
+    fn place_of(&self, d: Addr, key: Value) -> Option<usize>
+        requires { IfThere false ((sees (S.meaning self.now.store.now) self.now.segment) d.0) (λ r. (r.kind ≡ Dict) × IsKey (sees (S.meaning self.now.store.now) self.now.segment) key × ArePairs (sees (S.meaning self.now.store.now) self.now.segment) r.values) }
+        ensures found { result ≡ find (sees (S.meaning self.now.store.now) self.now.segment) (at (sees (S.meaning self.now.store.now) self.now.segment) d.0).values key }
+        ensures fits { IfSome result (λ i. 2 * i + 1 < LENGTH_LIMIT) }
+    {
+        self.store.find_key(self.segment, d, key)
+    }
+
     /// Looks at a record.
     fn see(&mut self, a: Addr) -> Result<(), Stop>
         requires live { self.old.stopped ≡ None }
         requires there { Has (sees (S.meaning self.old.store.now) self.old.segment) a.0 }
-        ensures ok { OnOk result (Sees self.old.segment self.old.side a.0 (holding (S.meaning self.old.store.now) (S.reserved self.old.store.now) self.old.books.now self.old.progress.now self.old.stopped) (holding (S.meaning self.new.store.now) (S.reserved self.new.store.now) self.new.books.now self.new.progress.now self.new.stopped)) }
+        ensures ok { OnOk result (SegDoes self.old.segment self.old.side (Read a.0) (holding (S.meaning self.old.store.now) (S.reserved self.old.store.now) self.old.books.now self.old.progress.now self.old.stopped) (at (sees (S.meaning self.old.store.now) self.old.segment) a.0) (holding (S.meaning self.new.store.now) (S.reserved self.new.store.now) self.new.books.now self.new.progress.now self.new.stopped)) }
+        ensures same { OnOk result (sees (S.meaning self.new.store.now) self.new.segment ≡ sees (S.meaning self.old.store.now) self.old.segment) }
         ensures quiet { Seen a.0 self.old.segment (holding (S.meaning self.old.store.now) (S.reserved self.old.store.now) self.old.books.now self.old.progress.now self.old.stopped) → self.new ≡ self.old }
-        ensures err { IfErr result (λ e. Fails self.old.segment self.old.side a.0 (⊥) (holding (S.meaning self.old.store.now) (S.reserved self.old.store.now) self.old.books.now self.old.progress.now self.old.stopped) e (holding (S.meaning self.new.store.now) (S.reserved self.new.store.now) self.new.books.now self.new.progress.now self.new.stopped)) }
-        ensures unsure { IfErr result (λ e. (e ≡ OutOfMemory) × (Seen a.0 self.old.segment (holding (S.meaning self.old.store.now) (S.reserved self.old.store.now) self.old.books.now self.old.progress.now self.old.stopped) → ⊥)) }
+        ensures err { IfErr result (λ e. SegRefuses self.old.segment self.old.side (Read a.0) (holding (S.meaning self.old.store.now) (S.reserved self.old.store.now) self.old.books.now self.old.progress.now self.old.stopped) e (holding (S.meaning self.new.store.now) (S.reserved self.new.store.now) self.new.books.now self.new.progress.now self.new.stopped)) }
+        ensures unsure { IfErr result (λ e. Seen a.0 self.old.segment (holding (S.meaning self.old.store.now) (S.reserved self.old.store.now) self.old.books.now self.old.progress.now self.old.stopped) → ⊥) }
         ensures stays { (self.new.segment ≡ self.old.segment) × (self.new.side ≡ self.old.side) }
         ensures refs { (self.new.store.ghost_name ≡ self.old.store.ghost_name) × (self.new.books.ghost_name ≡ self.old.books.ghost_name) × (self.new.progress.ghost_name ≡ self.old.progress.ghost_name) }
     {
@@ -371,14 +434,6 @@ impl<'a, T: Drop, S: SegStore> View<T> for SegView<'a, T, S> {
     }
 
     #[tactic(auto, unfolding(py_data::specs::Sense::Asks, py_data::specs::Heap::at))]
-    fn kind(&mut self, a: Addr) -> Result<Kind, Stop> {
-        match self.see(a) {
-            Ok(()) => Ok(self.store.kind(self.segment, a)),
-            Err(stop) => Err(stop),
-        }
-    }
-
-    #[tactic(auto, unfolding(py_data::specs::Sense::Asks, py_data::specs::Heap::at))]
     fn set_val(&mut self, a: Addr, i: usize, v: Value) -> Result<(), Stop> {
         self.change(a, Change::Set(i, v))
     }
@@ -403,6 +458,57 @@ impl<'a, T: Drop, S: SegStore> View<T> for SegView<'a, T, S> {
         self.change(d, Change::Unpair(place))
     }
 
+    #[tactic(auto, unfolding(py_data::specs::Sense::Asks))]
+    fn kind(&mut self, a: Addr) -> Result<Kind, Stop> {
+        let kind = self.kind_of(a);
+        match self.see(a) {
+            Ok(()) => Ok(kind),
+            Err(stop) => Err(stop),
+        }
+    }
+
+    #[tactic(auto, unfolding(py_data::specs::Sense::Asks))]
+    fn len(&mut self, a: Addr) -> Result<usize, Stop> {
+        let count = self.count_of(a);
+        match self.see(a) {
+            Ok(()) => Ok(count),
+            Err(stop) => Err(stop),
+        }
+    }
+
+    #[tactic(auto, unfolding(py_data::specs::Sense::Asks))]
+    fn val(&mut self, a: Addr, i: usize) -> Result<Value, Stop> {
+        let value = self.value_of(a, i);
+        match self.see(a) {
+            Ok(()) => Ok(value),
+            Err(stop) => Err(stop),
+        }
+    }
+
+    #[tactic(auto, unfolding(py_data::specs::Sense::Asks))]
+    fn byte_len(&mut self, a: Addr) -> Result<usize, Stop> {
+        let count = self.byte_count_of(a);
+        match self.see(a) {
+            Ok(()) => Ok(count),
+            Err(stop) => Err(stop),
+        }
+    }
+
+    #[tactic(auto, unfolding(py_data::specs::Sense::Asks))]
+    fn copy_bytes(&mut self, a: Addr, from: usize, out: &mut [u8]) -> Result<(), Stop> {
+        self.bytes_of(a, from, out);
+        self.see(a)
+    }
+
+    #[tactic(auto, unfolding(py_data::specs::Sense::Asks))]
+    fn find_key(&mut self, d: Addr, key: Value) -> Result<Option<usize>, Stop> {
+        let place = self.place_of(d, key);
+        match self.see(d) {
+            Ok(()) => Ok(place),
+            Err(stop) => Err(stop),
+        }
+    }
+
     fn put(&mut self, _on: Out, _bytes: &[u8]) -> Result<(), Stop> {
         Err(self.fail(Stop::NeedSolo))
     }
@@ -417,55 +523,6 @@ impl<'a, T: Drop, S: SegStore> View<T> for SegView<'a, T, S> {
 
     fn set_mid_line(&mut self, _mid: bool) {
         unreachable!()
-    }
-
-    #[tactic(auto, unfolding(py_data::specs::Sense::Asks, py_data::specs::Heap::at))]
-    fn len(&mut self, a: Addr) -> Result<usize, Stop> {
-        match self.see(a) {
-            Ok(()) => Ok(match self.store.kind(self.segment, a) {
-                Kind::Str => 0,
-                _ => self.store.len(self.segment, a),
-            }),
-            Err(stop) => Err(stop),
-        }
-    }
-
-    #[tactic(auto, unfolding(py_data::specs::Sense::Asks, py_data::specs::Heap::at))]
-    fn val(&mut self, a: Addr, i: usize) -> Result<Value, Stop> {
-        match self.see(a) {
-            Ok(()) => Ok(self.store.val(self.segment, a, i)),
-            Err(stop) => Err(stop),
-        }
-    }
-
-    #[tactic(auto, unfolding(py_data::specs::Sense::Asks, py_data::specs::Heap::at))]
-    fn byte_len(&mut self, a: Addr) -> Result<usize, Stop> {
-        match self.see(a) {
-            Ok(()) => Ok(match self.store.kind(self.segment, a) {
-                Kind::Str => self.store.len(self.segment, a),
-                _ => 0,
-            }),
-            Err(stop) => Err(stop),
-        }
-    }
-
-    #[tactic(auto, unfolding(py_data::specs::Sense::Asks, py_data::specs::Heap::at))]
-    fn copy_bytes(&mut self, a: Addr, from: usize, out: &mut [u8]) -> Result<(), Stop> {
-        match self.see(a) {
-            Ok(()) => {
-                self.store.copy_bytes(self.segment, a, from, out);
-                Ok(())
-            }
-            Err(stop) => Err(stop),
-        }
-    }
-
-    #[tactic(auto, unfolding(py_data::specs::Sense::Asks, py_data::specs::Heap::at))]
-    fn find_key(&mut self, d: Addr, key: Value) -> Result<Option<usize>, Stop> {
-        match self.see(d) {
-            Ok(()) => Ok(self.store.find_key(self.segment, d, key)),
-            Err(stop) => Err(stop),
-        }
     }
 
     #[tactic(auto, unfolding(py_data::specs::Sense::Asks, py_data::specs::Heap::at))]
