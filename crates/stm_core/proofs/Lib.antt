@@ -7,3 +7,4 @@ pub mod Fits
 pub mod Holding
 pub mod Changing
 pub mod Seeing
+pub mod Stepping

@@ -1,0 +1,265 @@
+-- A step over a segment's view is a step of its transaction, with dooms of others before it.
+use Rattle.std.proofs.Common.{◌≡◌, ◌≢◌, ◌⊎◌, ◌<◌, ◌≤◌, ◌+◌, ℕ, zero, suc, Bool, true, false, cond, not, ◌||◌, ◌&&◌, eqb, List, [], ◌∷◌, ◌++◌, length, take, slice_get, map, Option, Some, None, refl, sym, ◌∙◌, ap, subst, inl, inr, arith, is_some}
+use Rattle.std.proofs.lemmas.Bool.{cases_Bool, both_ways, or_cases, or_left, or_right, or_parts, eqb-true, eqb-false, eq-eqb, ne_eqb, cond-true, cond-false, and_parts, false_from_ne_true}
+use Rattle.py_data.specs.declared.value.Addr.{Addr}
+use Rattle.py_data.specs.declared.stop.Side.{Side}
+use Rattle.py_data.specs.declared.stop.Conflict.{Conflict}
+use Rattle.py_data.specs.declared.stop.Stop.{Stop}
+use Rattle.py_data.specs.Heap.{Rec, Heap, is_tracked}
+use Rattle.py_data.specs.World.{World}
+use Rattle.py_data.specs.Collection.{places}
+use Rattle.py_data.specs.Row.{Call, Reply, Row, Ret, Do, Read, Find, SetVal, Push, Truncate, PushPair, DropPair, Make, Start, Put, Take, MidLine, SetMidLine}
+use Rattle.py_data.specs.Sense.{Sense, Bracket, Run, Stopped, Upto}
+use Rattle.py_data.specs.Sight.{Sight, Act, Does, mem}
+use Rattle.lock_run.specs.declared.client.Outcome.{Outcome}
+use Rattle.lock_run.specs.declared.client.Outcome.TheVariants.{Waits as WaitsNow}
+use Rattle.lock_run.specs.declared.client.Life.TheVariants.{Lives}
+use Rattle.lock_run.specs.Prog.{Prog}
+use Rattle.lock_run.specs.Client.{AsksToPrint, Writes, WritesThen}
+use Rattle.lock_run.specs.Machine.{Step}
+use Rattle.seg_store.specs.Meaning.{Part, Meaning, sees, saw, holds, overlay, over}
+use Rattle.seg_store.specs.Store.{IsStore}
+use Rattle.stm_core.specs.declared.books.Progress.{Progress}
+use Rattle.stm_core.specs.declared.books.Work.{Work}
+use Rattle.stm_core.specs.declared.books.Hand.{Hand}
+use Rattle.stm_core.specs.declared.books.Hand.TheVariants.{Idle as IdleHand, Doomed as DoomedHand, Runs}
+use Rattle.stm_core.specs.declared.books.Books.{Books}
+use Rattle.stm_core.specs.CoreState.{Transaction, Segment, Idle, Doomed, Running, CoreState, loser, winner, wins, side, owned, world_after, sight_of, set_segment, with_segment, with_conflict}
+use Rattle.stm_core.specs.Good.{IsLocked}
+use Rattle.stm_core.specs.Moves.{IsStanding, Advances, IsFree, Move, Dooms as DoomsMove, Goes, Next, Follows}
+use Rattle.stm_core.specs.Books.{is_running, runs_at, names_of, names_at, is_lock, transaction, segment_of, core_of, Fit}
+use Rattle.stm_core.specs.Hold.{Hold, sight, DoomsOne, Dooms, Beside, SegDoes, Inside}
+use Rattle.stm_core.specs.SegSense.{seg_sense, Stays}
+use Rattle.stm_core.proofs.Holding.{beside_refl, beside_then}
+use Rattle.stm_core.proofs.Commit.{follows_append}
+
+-- a sight with another world
+abbrev at_world : {S : Type 0} → World → Sight S → Sight S
+at_world w s = record s { world = w }
+
+-- a call that was done is done in any world
+act_world : {S : Type 0} (w : World) (k : ℕ) (me : Side) (c : Call S) (d : Hold S) (r : Reply c) (e : Hold S) → SegDoes k me c d r e → ((c ≡ MidLine) → ⊥) → Act c (at_world w (sight k d)) r (at_world w (sight k e))
+act_world w k me (Put on bytes) d r e h n = absurd h
+act_world w k me (Take most) d r e h n = absurd h
+act_world w k me (SetMidLine b) d r e h n = absurd h
+act_world w k me MidLine d r e h n = absurd (n refl)
+act_world w k me (Read a) d r e h n = (h.0.0, ap (at_world w) h.0.1)
+act_world w k me (Find a v) d r e h n = (h.0.0, h.0.1, h.0.2, h.0.3, ap (at_world w) h.0.4)
+act_world w k me (SetVal a i v) d r e h n = (h.0.0, h.0.1, h.0.2, ap (at_world w) h.0.3)
+act_world w k me (Push a v) d r e h n = (h.0.0, h.0.1, h.0.2, ap (at_world w) h.0.3)
+act_world w k me (Truncate a i) d r e h n = (h.0.0, h.0.1, h.0.2, ap (at_world w) h.0.3)
+act_world w k me (PushPair a x v) d r e h n = (h.0.0, h.0.1, h.0.2, ap (at_world w) h.0.3)
+act_world w k me (DropPair a i) d r e h n = (h.0.0, h.0.1, h.0.2, ap (at_world w) h.0.3)
+act_world w k me (Make q) d r e h n = (h.0.0, ap (at_world w) h.0.1)
+act_world w k me (Start s) d r e h n = ap (at_world w) h.0
+
+-- what it leaves beside
+call_beside : {S : Type 0} (k : ℕ) (me : Side) (c : Call S) (d : Hold S) (r : Reply c) (e : Hold S) → SegDoes k me c d r e → Beside k me d e
+call_beside k me (Put on bytes) d r e h = absurd h
+call_beside k me (Take most) d r e h = absurd h
+call_beside k me (SetMidLine b) d r e h = absurd h
+call_beside k me MidLine d r e h = subst (Beside k me d) (sym h.1) (beside_refl k me d)
+call_beside k me (Read a) d r e h = h.1
+call_beside k me (Find a v) d r e h = h.1
+call_beside k me (SetVal a i v) d r e h = h.1
+call_beside k me (Push a v) d r e h = h.1
+call_beside k me (Truncate a i) d r e h = h.1
+call_beside k me (PushPair a x v) d r e h = h.1
+call_beside k me (DropPair a i) d r e h = h.1
+call_beside k me (Make q) d r e h = h.1
+call_beside k me (Start s) d r e h = h.1
+
+-- is the call the question for the flag?
+is_mid : {S : Type 0} (c : Call S) → (c ≡ MidLine) ⊎ (c ≡ MidLine → ⊥)
+is_mid MidLine = inl refl
+is_mid (Put on bytes) = inr (λ e. cc)
+is_mid (Take most) = inr (λ e. cc)
+is_mid (SetMidLine b) = inr (λ e. cc)
+is_mid (Read a) = inr (λ e. cc)
+is_mid (Find a v) = inr (λ e. cc)
+is_mid (SetVal a i v) = inr (λ e. cc)
+is_mid (Push a v) = inr (λ e. cc)
+is_mid (Truncate a i) = inr (λ e. cc)
+is_mid (PushPair a x v) = inr (λ e. cc)
+is_mid (DropPair a i) = inr (λ e. cc)
+is_mid (Make q) = inr (λ e. cc)
+is_mid (Start s) = inr (λ e. cc)
+
+module _ {S X : Type 0} (hold : X → Hold S) (segment : X → ℕ) (me : X → Side) (same : X → X → Type 0) (w : World) where
+  -- a row that writes next isn't done
+  no_write : {A : Type 0} (row : Row S A) (v : X) (y : A) (u : X) → Writes row → Run (seg_sense hold segment me same) row v y u → ⊥
+  unfolding Run
+  no_write (Do (Put on bytes) k) v y u h d = d.2.0
+  no_write (Ret a) v y u h d = h
+  no_write (Do (Take most) k) v y u h d = h
+  no_write (Do MidLine k) v y u h d = h
+  no_write (Do (SetMidLine b) k) v y u h d = h
+  no_write (Do (Read a) k) v y u h d = h
+  no_write (Do (Find a x) k) v y u h d = h
+  no_write (Do (SetVal a i x) k) v y u h d = h
+  no_write (Do (Push a x) k) v y u h d = h
+  no_write (Do (Truncate a i) k) v y u h d = h
+  no_write (Do (PushPair a z x) k) v y u h d = h
+  no_write (Do (DropPair a i) k) v y u h d = h
+  no_write (Do (Make q) k) v y u h d = h
+  no_write (Do (Start s) k) v y u h d = h
+
+  -- after the question for the flag nothing is done
+  no_question : {A : Type 0} (c : Call S) (k : Reply c → Row S A) (r : Reply c) (m : X) (y : A) (u : X) → c ≡ MidLine → WritesThen c k → Run (seg_sense hold segment me same) (k r) m y u → ⊥
+  no_question MidLine k r m y u e h d = no_write (k r) m y u (h r) d
+  no_question (Put on bytes) k r m y u e h d = cc
+  no_question (Take most) k r m y u e h d = cc
+  no_question (SetMidLine b) k r m y u e h d = cc
+  no_question (Read a) k r m y u e h d = cc
+  no_question (Find a v) k r m y u e h d = cc
+  no_question (SetVal a i v) k r m y u e h d = cc
+  no_question (Push a v) k r m y u e h d = cc
+  no_question (Truncate a i) k r m y u e h d = cc
+  no_question (PushPair a x v) k r m y u e h d = cc
+  no_question (DropPair a i) k r m y u e h d = cc
+  no_question (Make q) k r m y u e h d = cc
+  no_question (Start s) k r m y u e h d = cc
+
+  -- a row that was done over the view was done over what the segment sees
+  pub row_done : {A : Type 0} (k : ℕ) (s : Side) (row : Row S A) (v : X) (y : A) (u : X) → segment v ≡ k → me v ≡ s → AsksToPrint row → Run (seg_sense hold segment me same) row v y u
+      → Does row (at_world w (sight k (hold v))) y (at_world w (sight k (hold u))) × Beside k s (hold v) (hold u)
+  unfolding Run
+  row_done k s (Ret a) v y u ek es q d = ((d.0, ap (λ z. at_world w (sight k (hold z))) d.1), subst (λ z. Beside k s (hold v) (hold z)) (sym d.1) (beside_refl k s (hold v)))
+  row_done k s (Do c f) v y u ek es q d =
+      let done : SegDoes k s c (hold v) d.0 (hold d.1) = subst (λ i. SegDoes i s c (hold v) d.0 (hold d.1)) ek (subst (λ z. SegDoes (segment v) z c (hold v) d.0 (hold d.1)) es d.2.0) in
+      let n : c ≡ MidLine → ⊥ = λ e. no_question c f d.0 d.1 y u e q.0 d.3 in
+      let rest = row_done k s (f d.0) d.1 y u (d.2.1.segment_is ∙ ek) (d.2.1.me_is ∙ es) (q.1 d.0) d.3 in
+      ((d.0, at_world w (sight k (hold d.1)), act_world w k s c (hold v) d.0 (hold d.1) done n, rest.0), beside_then k s (hold v) (hold d.1) (hold u) (call_beside k s c (hold v) d.0 (hold d.1) done) rest.1)
+
+-- ---- the transaction of the segment
+
+-- a lock, in words
+pub locked_is : (image : Heap) (p : Part) (a : ℕ) → is_lock (image a) (p.looked a) ≡ true → IsLocked image p.looked a
+locked_is image p a h = go (image a) refl h
+  where
+    go : (o : Option Rec) → image a ≡ o → is_lock o (p.looked a) ≡ true → IsLocked image p.looked a
+    go None e t = absurd (both_ways false refl t)
+    go (Some q) e t = let x = and_parts (is_tracked q.kind) (p.looked a) t in record { entry = q; is = e; tracked = x.0; marked = x.1 }
+
+-- what the transaction owns is what the store says that the segment holds
+pub owned_is : {S : Type 0} (w : World) (p : Part) (x : Work S) → places x.progress.names ≡ p.made → owned (transaction w p x) ≡ holds p
+owned_is w p x e i a = mem a p.changed || mem a (e i)
+
+-- what isn't held isn't changed
+pub unchanged : (r : ℕ) (m : Meaning) (k a : ℕ) → IsStore r m → holds (m.part k) a ≡ false → (m.part k).changes a ≡ None
+unchanged r m k a s h = go ((m.part k).changes a) (s.changes k a ∙ h)
+  where
+    go : (o : Option Rec) → is_some o ≡ false → o ≡ None
+    go None e = refl
+    go (Some q) e = absurd (both_ways true e refl)
+
+-- the sight of the transaction is the one that the view shows
+pub sight_is : {S : Type 0} (w : World) (k : ℕ) (m : Meaning) (x : Work S) (d : Hold S) → places x.progress.names ≡ (m.part k).made → sees d.meaning k ≡ sees m k → (d.meaning.part k).looked ≡ (m.part k).looked
+    → holds (d.meaning.part k) ≡ holds (m.part k) → (d.meaning.part k).made ≡ (m.part k).made → d.progress.started ≡ x.progress.started → at_world w (sight k d) ≡ sight_of m.image w (transaction w (m.part k) x)
+sight_is {S} w k m x d names heap looked held made started i = record {
+  heap = heap i;
+  looked = looked i;
+  touched = (held ∙ sym (owned_is w (m.part k) x names)) i;
+  made = (made ∙ sym names) i;
+  started = started i;
+  world = w;
+  used = false;
+}
+
+-- one step more
+pub advances : {S : Type 0} (prog : Prog S) (w : World) (k : ℕ) (m m1 : Meaning) (r1 : ℕ) (b1 : Books S) (x x1 : Work S) (d e : Hold S) (o : Outcome) → prog.life x.state ≡ Lives → (o ≢ WaitsNow)
+    → Does (prog.row x.state) (at_world w (sight k d)) (o, x1.state) (at_world w (sight k e)) → at_world w (sight k d) ≡ sight_of m.image w (transaction w (m.part k) x)
+    → e.meaning ≡ m1 → e.progress.started ≡ x1.progress.started → m1.image ≡ m.image → places x1.progress.names ≡ (m1.part k).made → IsStore r1 m1 → ((a : ℕ) → mem a (m1.part k).changed ≡ true → is_lock (m1.image a) ((m1.part k).looked a) ≡ true)
+    → x1.thread ≡ x.thread → x1.begun ≡ x.begun → x1.steps ≡ suc x.steps → Advances prog m.image w (transaction w (m.part k) x) (transaction w (m1.part k) x1)
+advances {S} prog w k m m1 r1 b1 x x1 d e o lives goes does start em es im names st locks th be sp =
+    let own = owned_is w (m1.part k) x1 names in
+    record {
+      sight = at_world w (sight k e);
+      step = record { lives = lives; outcome = o; goes_on = goes; does = subst (λ s. Does (prog.row x.state) s (o, x1.state) (at_world w (sight k e))) start does };
+      quiet = λ h. refl;
+      thread = th;
+      begun = be;
+      solo = refl;
+      steps = sp;
+      view = λ a. ap (λ (z : Meaning). sees z k a) em ∙ ap (λ (h : Heap). over ((m1.part k).changes a) (h a)) im;
+      made = ap (λ (z : Meaning). (z.part k).made) em ∙ sym names;
+      started = es;
+      looked = λ a h. sym (ap (λ (z : Meaning). (z.part k).looked a) em) ∙ h;
+      touched = λ a h. ap (λ f. f a) own ∙ sym (ap (λ (z : Meaning). holds (z.part k) a) em) ∙ h;
+      within = λ a h. unchanged r1 m1 k a st (sym (ap (λ f. f a) own) ∙ h);
+      locked = λ a h. let l = locked_is m1.image (m1.part k) a (locks a h) in record { entry = l.entry; is = sym (ap (λ (z : Heap). z a) im) ∙ l.is; tracked = l.tracked; marked = l.marked };
+      unused = λ a h. sym (ap (λ (z : Heap). z a) im) ∙ st.unused k a (sym (ap (mem a) names) ∙ h);
+      world_is = λ h. absurd (both_ways false refl h);
+    }
+
+-- its locks and names are no other's
+pub is_free : {S : Type 0} (w : World) (k r : ℕ) (m : Meaning) (b : Books S) (x : Work S) → IsStore r m → places x.progress.names ≡ (m.part k).made → ((j : ℕ) → runs_at b.hands.items j ≡ true → places (names_at b.hands.items j) ≡ (m.part j).made)
+    → IsFree (core_of w m b) k (transaction w (m.part k) x)
+is_free {S} w k r m b x s names others = record {
+  changed = λ j y n e a h. let q = of_other j y e in
+      ap (λ (z : Transaction S). mem a z.changed) (sym q.1) ∙ first_false (mem a (m.part j).changed) (mem a (m.part j).made) (s.apart k j a (λ z. n (sym z)) (or_left (mem a (m.part k).changed) (mem a (m.part k).made) h));
+  made = λ j y n e a h. let q = of_other j y e in
+      ap (λ (z : Transaction S). mem a (places z.made)) (sym q.1) ∙ ap (mem a) (same_names j q.0 q.2)
+      ∙ last_false (mem a (m.part j).changed) (mem a (m.part j).made) (s.apart k j a (λ z. n (sym z)) (or_right (mem a (m.part k).changed) (mem a (m.part k).made) (sym (ap (mem a) names) ∙ h)));
+}
+  where
+    first_false : (p q : Bool) → (p || q) ≡ false → p ≡ false
+    first_false false q e = refl
+    first_false true q e = e
+
+    last_false : (p q : Bool) → (p || q) ≡ false → q ≡ false
+    last_false false q e = e
+    last_false true q e = absurd (both_ways true e refl)
+
+    of_other : (j : ℕ) (y : Transaction S) → segment_of w (m.part j) (slice_get b.hands.items j) ≡ Running y → (z : Work S) × (transaction w (m.part j) z ≡ y) × (slice_get b.hands.items j ≡ Some (Runs z))
+    of_other j y e = go (slice_get b.hands.items j) refl e
+      where
+        go : (o : Option (Hand S)) → slice_get b.hands.items j ≡ o → segment_of w (m.part j) o ≡ Running y → (z : Work S) × (transaction w (m.part j) z ≡ y) × (slice_get b.hands.items j ≡ Some (Runs z))
+        go None f h = absurd cc
+        go (Some IdleHand) f h = absurd cc
+        go (Some (DoomedHand c)) f h = absurd cc
+        go (Some (Runs z)) f h = (z, cc, f)
+
+    same_names : (j : ℕ) (z : Work S) → slice_get b.hands.items j ≡ Some (Runs z) → places z.progress.names ≡ (m.part j).made
+    same_names j z f = sym (ap (λ o. places (names_of o)) f) ∙ others j (ap is_running f)
+
+-- ---- dooms of other segments
+
+-- two segments set, one after the other
+set_swap : {S : Type 0} (i j : ℕ) (s r : Segment S) (f : ℕ → Segment S) → i ≢ j → set_segment i s (set_segment j r f) ≡ set_segment j r (set_segment i s f)
+set_swap {S} i j s r f n q x = at x q
+  where
+    at : (x : ℕ) → set_segment i s (set_segment j r f) x ≡ set_segment j r (set_segment i s f) x
+    at x = elim (cases_Bool (eqb x i)) [
+      | inl y ↦ let d : eqb x j ≡ false = ne_eqb x j (λ e. n (sym (eqb-true x i y) ∙ e)) in
+          cond-true (eqb x i) s (cond (eqb x j) r (f x)) y ∙ sym (cond-false (eqb x j) r (cond (eqb x i) s (f x)) d ∙ cond-true (eqb x i) s (f x) y)
+      | inr y ↦ cond-false (eqb x i) s (cond (eqb x j) r (f x)) y ∙ ap (cond (eqb x j) r) (sym (cond-false (eqb x i) s (f x) y))
+    ]
+
+-- the conflicts by which the transaction x of segment k doomed others are moves
+pub dooms_moves : {S : Type 0} (prog : Prog S) (most k : ℕ) (x : Transaction S) (fs : List Conflict) (c c1 : CoreState S) → Dooms k (side k x) fs c c1
+    → Follows prog most (with_segment k (Running x) c) (map DoomsMove fs) (with_segment k (Running x) c1)
+dooms_moves prog most k x [] c c1 h = ap (with_segment k (Running x)) h
+dooms_moves {S} prog most k x (f ∷ fs) c c1 h =
+    let o = h.1 in
+    let u = h.0 in
+    let here : (with_segment k (Running x) c).segments k ≡ Running x = cond-true (eqb k k) (Running x) (c.segments k) (eq-eqb k k refl) in
+    let lose : loser f ≡ f.writer = cond-true (eqb f.lost 0) f.writer f.other (eq-eqb f.lost 0 o.lost) in
+    let win : winner f ≡ f.other = cond-true (eqb f.lost 0) f.other f.writer (eq-eqb f.lost 0 o.lost) in
+    let at_k : f.other.segment ≡ k = ap (λ (z : Side). z.segment) o.other in
+    let stands : IsStanding (with_segment k (Running x) c) f = record {
+      x = o.writer;
+      y = x;
+      writes = cond-false (eqb f.writer.segment k) (Running x) (c.segments f.writer.segment) (ne_eqb f.writer.segment k o.differ) ∙ o.writes;
+      reads = ap (with_segment k (Running x) c).segments at_k ∙ here;
+      writer = o.writer_is;
+      other = o.other ∙ ap (λ i. side i x) (sym at_k);
+      differ = λ e. o.differ (e ∙ at_k);
+      held = o.held;
+      seen = inr o.asks;
+      loses = ap (λ z. wins z (loser f)) win ∙ ap (λ z. wins z (loser f)) o.other ∙ ap (wins (side k x)) lose ∙ o.wins_;
+    } in
+    let gives : with_segment k (Running x) u ≡ with_conflict f (with_segment (loser f).segment (Doomed f) (with_segment k (Running x) c)) =
+    ap (with_segment k (Running x)) o.gives ∙ (λ i. record (with_conflict f c) { segments = set_swap k f.writer.segment (Running x) (Doomed f) c.segments (λ e. o.differ (sym e)) i })
+    ∙ ap (λ (z : Side). with_conflict f (with_segment z.segment (Doomed f) (with_segment k (Running x) c))) (sym lose) in
+    (with_segment k (Running x) u, (stands, gives), dooms_moves prog most k x fs u c1 h.2)
