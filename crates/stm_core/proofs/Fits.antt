@@ -1,5 +1,5 @@
 -- Store and books still fit after each call of a segment's view.
-use Rattle.std.proofs.Common.{◌≡◌, ◌≢◌, ◌<◌, ◌≤◌, ◌+◌, ℕ, zero, suc, Bool, true, false, cond, ◌||◌, ◌&&◌, eqb, List, [], ◌∷◌, ◌++◌, length, take, slice_get, slice_set, Option, Some, None, Result, Ok, Err, OnOk, OnErr, IfErr, refl, sym, ◌∙◌, ap, subst, inl, inr, arith, IsSome, unwrap_or, is_some, map, length-set}
+use Rattle.std.proofs.Common.{◌≡◌, ◌≢◌, ◌<◌, ◌≤◌, ◌+◌, ◌-◌, ℕ, zero, suc, Bool, true, false, cond, ◌||◌, ◌&&◌, eqb, List, [], ◌∷◌, ◌++◌, length, take, slice_get, slice_set, Option, Some, None, Result, Ok, Err, OnOk, OnErr, IfErr, refl, sym, ◌∙◌, ap, subst, inl, inr, arith, IsSome, unwrap_or, is_some, map, length-set, length-append}
 use Rattle.std.specs.List.{sum_by}
 use Rattle.std.proofs.lemmas.List.Sums.{sum_by-cons}
 use Rattle.std.proofs.lemmas.Bool.{cases_Bool, both_ways, or_cases, or_left, or_right, eqb-true, eqb-false, eq-eqb, ne_eqb, cond-true, cond-false, and_from, and_parts}
@@ -11,14 +11,14 @@ use Rattle.py_data.specs.Collection.{places}
 use Rattle.py_data.specs.Sight.{mem, with_mark}
 use Rattle.py_data.proofs.Grow.{mem_append}
 use Rattle.seg_store.specs.Meaning.{Part, Meaning, sees, holds, overlay, over, with_part}
-use Rattle.seg_store.specs.Calls.{marked, first_locked, locked, ended, after_mark, after_lock, after_drop}
+use Rattle.seg_store.specs.Calls.{marked, first_locked, locked, ended, opened, undone, after_mark, after_lock, after_drop, after_open, after_undo}
 use Rattle.seg_store.specs.Store.{IsStore}
 use Rattle.stm_core.specs.declared.books.Progress.{Progress}
 use Rattle.stm_core.specs.declared.books.Work.{Work}
 use Rattle.stm_core.specs.declared.books.Hand.{Hand}
 use Rattle.stm_core.specs.declared.books.Hand.TheVariants.{Idle, Doomed, Runs}
 use Rattle.stm_core.specs.declared.books.Books.{Books}
-use Rattle.stm_core.specs.Books.{is_running, started_of, names_of, runs_at, started_at, names_at, one_running, one_started, is_lock, Fit}
+use Rattle.stm_core.specs.Books.{WorkFits, is_running, started_of, names_of, runs_at, started_at, names_at, one_running, one_started, is_lock, Fit}
 use Rattle.stm_core.proofs.Publish.{get_set_other}
 
 -- ---- lists
@@ -74,7 +74,7 @@ fit_own k m q b p p1 f names kept within locks st = record {
   hands = f.hands;
   out = f.out;
   holders = λ j a n h. f.holders j a n (subst (λ (z : Part). holds z a ≡ true) (other j k q m n) h);
-  names = λ j r. f.names j r ∙ sym (ap (λ (z : Part). z.made) (other j k q m (runs_other b.hands.items j k r f.out)));
+  works = λ j x e. subst (λ (z : Part). WorkFits z x) (sym (other j k q m (runs_other b.hands.items j k (ap is_running e) f.out))) (f.works j x e);
   own_names = names ∙ sym (ap (λ (z : Part). z.made) (own k q m));
   kept_names = kept ∙ sym (ap (λ (z : Part). z.kept_made) (own k q m));
   within = within;
@@ -176,8 +176,7 @@ fit_doom {S} k m b b1 p j c f n r hs pe hi th co =
         | inl y ↦ absurd (both_ways false refl (subst (λ (z : Part). holds z a ≡ true) (cond-true (eqb i j) (ended (m.part j)) (m.part i) y) h))
         | inr y ↦ ap is_running (at_other i (eqb-false i j y)) ∙ f.holders i a ne (subst (λ (z : Part). holds z a ≡ true) (cond-false (eqb i j) (ended (m.part j)) (m.part i) y) h)
       ];
-      names = λ i ri. let ne = not_j i ri in
-          ap (λ o. places (names_of o)) (at_other i ne) ∙ f.names i (sym (ap is_running (at_other i ne)) ∙ ri) ∙ sym (ap (λ (z : Part). z.made) (other i j (ended (m.part j)) m ne));
+      works = λ i x e. let ne = not_j i (ap is_running e) in subst (λ (z : Part). WorkFits z x) (sym (other i j (ended (m.part j)) m ne)) (f.works i x (sym (at_other i ne) ∙ e));
       own_names = f.own_names ∙ sym (ap (λ (z : Part). z.made) kp);
       kept_names = f.kept_names ∙ sym (ap (λ (z : Part). z.kept_made) kp);
       within = f.within;
@@ -191,3 +190,101 @@ fit_doom {S} k m b b1 p j c f n r hs pe hi th co =
       pending = omega (arith, started, ss, pe, pend, ws);
       threads = let t = f.threads in omega (arith, th, pe, t);
     }
+
+-- ---- looks, and the brackets of a step
+
+pub fit_mark_result : {S E : Type 0} (x : Result (Unit {0}) E) (k a : ℕ) (m m1 : Meaning) (b : Books S) (p : Progress S) → Fit k m b p → OnOk x (m1 ≡ after_mark k a m) → OnErr x (m1 ≡ m) → Fit k m1 b p
+fit_mark_result (Ok u) k a m m1 b p h ok err = subst (λ z. Fit k z b p) (sym ok) (fit_mark k a m b p h)
+fit_mark_result (Err u) k a m m1 b p h ok err = subst (λ z. Fit k z b p) (sym err) h
+
+take_whole : {X : Type 0} (xs : List X) → take (length xs) xs ≡ xs
+take_whole [] = refl
+take_whole (x ∷ xs) = ap (λ z. x ∷ z) (take_whole xs)
+
+take_twice : {X : Type 0} (n : ℕ) (xs : List X) → take n (take n xs) ≡ take n xs
+take_twice zero xs = refl
+take_twice (suc n) [] = refl
+take_twice (suc n) (x ∷ xs) = ap (λ z. x ∷ z) (take_twice n xs)
+
+within_take : {X : Type 0} (n : ℕ) (xs : List X) → n ≤ length xs → n ≤ length (take n xs)
+within_take zero xs h = omega arith
+within_take (suc n) [] h = absurd (omega arith)
+within_take (suc n) (x ∷ xs) h = let r = within_take n xs (omega arith) in omega (arith, r)
+
+pub fit_open : {S : Type 0} (k : ℕ) (m m1 : Meaning) (b : Books S) (p p1 : Progress S) → Fit k m b p → m1 ≡ after_open k m → p1 ≡ record p { kept_names = length p.names; kept_started = length p.started } → Fit k m1 b p1
+fit_open {S} k m m1 b p p1 f em ep =
+    let q : Progress S = record p { kept_names = length p.names; kept_started = length p.started } in
+    subst (λ z. Fit k z b p1) (sym em) (subst (Fit k (after_open k m) b) (sym ep)
+    (fit_own k m (opened (m.part k)) b p q f f.own_names (ap places (take_whole p.names) ∙ f.own_names) (omega arith) (λ c l. f.locked k c l) refl))
+
+pub fit_undo : {S : Type 0} (k : ℕ) (m m1 : Meaning) (b b1 : Books S) (p p1 : Progress S) (n : ℕ) → Fit k m b p → m1 ≡ after_undo k m → p1 ≡ record p { names = take p.kept_names p.names; started = take p.kept_started p.started } → n + length p1.started ≡ length p.started
+    → b1 ≡ record b { pending = b1.pending } → b1.pending + n ≡ b.pending → Fit k m1 b1 p1
+fit_undo {S} k m m1 b b1 p p1 n f em ep en eb pe =
+    let q : Progress S = record p { names = take p.kept_names p.names; started = p.started } in
+    let g = fit_own k m (undone (m.part k)) b p q f f.kept_names (ap places (take_twice p.kept_names p.names) ∙ f.kept_names) (within_take p.kept_names p.names f.within) (λ c l. f.locked k c l) refl in
+    let hs : b1.hands.items ≡ b.hands.items = ap (λ (z : Books S). z.hands.items) eb in
+    let names : p1.names ≡ take p.kept_names p.names = ap (λ (z : Progress S). z.names) ep in
+    let kept : p1.kept_names ≡ p.kept_names = ap (λ (z : Progress S). z.kept_names) ep in
+    let hi : b1.history.room ≡ b.history.room = ap (λ (z : Books S). z.history.room) eb in
+    let co : b1.conflicts.room ≡ b.conflicts.room = ap (λ (z : Books S). z.conflicts.room) eb in
+    let th : b1.threads.room ≡ b.threads.room = ap (λ (z : Books S). z.threads.room) eb in
+    let sr : sum_by one_running b1.hands.items ≡ sum_by one_running b.hands.items = ap (sum_by one_running) hs in
+    let ss : sum_by one_started b1.hands.items ≡ sum_by one_started b.hands.items = ap (sum_by one_started) hs in
+    let t = f.turns in let l = f.losses in let d = f.pending in let r = f.threads in
+    subst (λ z. Fit k z b1 p1) (sym em) (record {
+      mine = g.mine;
+      hands = ap length hs ∙ g.hands;
+      out = ap (λ z. runs_at z k) hs ∙ g.out;
+      holders = λ j a ne h. ap (λ z. runs_at z j) hs ∙ g.holders j a ne h;
+      works = λ j x e. g.works j x (sym (ap (λ z. slice_get z j) hs) ∙ e);
+      own_names = ap places names ∙ g.own_names;
+      kept_names = ap (λ z. places (take z p1.names)) kept ∙ ap (λ z. places (take p.kept_names z)) names ∙ g.kept_names;
+      within = subst (λ z. z ≤ length p1.names) (sym kept) (subst (λ z. p.kept_names ≤ length z) (sym names) g.within);
+      locked = g.locked;
+      turns = omega (arith, sr, hi, t);
+      losses = omega (arith, sr, co, l);
+      pending = omega (arith, ss, pe, en, d);
+      threads = omega (arith, th, pe, r);
+    })
+
+pub fit_start : {S E : Type 0} (x : Result (Unit {0}) E) (k : ℕ) (m : Meaning) (b b1 : Books S) (p p1 : Progress S) (s : S) → Fit k m b p → b1 ≡ record b { threads = b1.threads; pending = b1.pending } → b.threads.room ≤ b1.threads.room
+    → OnOk x ((b1.pending ≡ b.pending + 1) × (b1.pending ≤ b1.threads.room) × (p1 ≡ record p { started = p.started ++ s ∷ [] })) → OnErr x ((b1.pending ≡ b.pending) × (p1 ≡ p)) → Fit k m b1 p1
+fit_start {S} x k m b b1 p p1 s f eb room ok err = go x ok err
+  where
+    with_books : (q : Progress S) → q.names ≡ p.names → q.kept_names ≡ p.kept_names → sum_by one_started b.hands.items + length q.started ≡ b1.pending → b1.pending ≤ b1.threads.room → Fit k m b1 q
+    with_books q names kept pending threads =
+        let hs : b1.hands.items ≡ b.hands.items = ap (λ (z : Books S). z.hands.items) eb in
+        let hi : b1.history.room ≡ b.history.room = ap (λ (z : Books S). z.history.room) eb in
+        let co : b1.conflicts.room ≡ b.conflicts.room = ap (λ (z : Books S). z.conflicts.room) eb in
+        let sr : sum_by one_running b1.hands.items ≡ sum_by one_running b.hands.items = ap (sum_by one_running) hs in
+        let ss : sum_by one_started b1.hands.items ≡ sum_by one_started b.hands.items = ap (sum_by one_started) hs in
+        let t = f.turns in let l = f.losses in
+        record {
+          mine = f.mine;
+          hands = ap length hs ∙ f.hands;
+          out = ap (λ z. runs_at z k) hs ∙ f.out;
+          holders = λ j a ne h. ap (λ z. runs_at z j) hs ∙ f.holders j a ne h;
+          works = λ j y e. f.works j y (sym (ap (λ z. slice_get z j) hs) ∙ e);
+          own_names = ap places names ∙ f.own_names;
+          kept_names = ap (λ z. places (take z q.names)) kept ∙ ap (λ z. places (take p.kept_names z)) names ∙ f.kept_names;
+          within = subst (λ z. z ≤ length q.names) (sym kept) (subst (λ z. p.kept_names ≤ length z) (sym names) f.within);
+          locked = f.locked;
+          turns = omega (arith, sr, hi, t);
+          losses = omega (arith, sr, co, l);
+          pending = omega (arith, ss, pending);
+          threads = threads;
+        }
+
+    go : {E : Type 0} (y : Result (Unit {0}) E) → OnOk y ((b1.pending ≡ b.pending + 1) × (b1.pending ≤ b1.threads.room) × (p1 ≡ record p { started = p.started ++ s ∷ [] })) → OnErr y ((b1.pending ≡ b.pending) × (p1 ≡ p)) → Fit k m b1 p1
+    go (Ok u) h g =
+        let l : length p1.started ≡ length p.started + 1 = ap (λ (z : Progress S). length z.started) h.2 ∙ length-append p.started (s ∷ []) in
+        let d = f.pending in let e = h.0 in
+        with_books p1 (ap (λ (z : Progress S). z.names) h.2) (ap (λ (z : Progress S). z.kept_names) h.2) (omega (arith, l, d, e)) h.1
+    go (Err u) h g =
+        let l : length p1.started ≡ length p.started = ap (λ (z : Progress S). length z.started) g.1 in
+        let d = f.pending in let e = g.0 in let r = f.threads in
+        with_books p1 (ap (λ (z : Progress S). z.names) g.1) (ap (λ (z : Progress S). z.kept_names) g.1) (omega (arith, l, d, e)) (omega (arith, e, r, room))
+
+-- what the step started is no more than what is pending
+pub undone_pending : {S : Type 0} (k : ℕ) (m : Meaning) (b : Books S) (p : Progress S) (n l : ℕ) → Fit k m b p → n + l ≡ length p.started → (b.pending - n) + n ≡ b.pending
+undone_pending k m b p n l f e = let d = f.pending in omega (arith, d, e)

@@ -8,3 +8,5 @@ pub mod Holding
 pub mod Changing
 pub mod Seeing
 pub mod Stepping
+pub mod Stopping
+pub mod Wholes

@@ -301,3 +301,11 @@ count_bytes _ vs bs o n = ap length o
 
 pub count_of_str : (x : Kind) (vs : List Value) (bs : List ℕ) → x ≡ StrKind → length_by x vs bs ≡ length bs
 count_of_str x vs bs e = ap (λ z. length_by z vs bs) e
+
+-- the place made for a name is given back
+pub name_back : {X : Type 0} (xs ys zs : List X) (x : X) (n : ℕ) → ys ≡ xs ++ x ∷ [] → n ≡ length xs → zs ≡ take n ys → zs ≡ xs
+name_back {X} xs ys zs x n e l t = t ∙ ap (take n) e ∙ ap (λ z. take z (xs ++ x ∷ [])) l ∙ front xs
+  where
+    front : (ws : List X) → take (length ws) (ws ++ x ∷ []) ≡ ws
+    front [] = refl
+    front (w ∷ ws) = ap (λ z. w ∷ z) (front ws)

@@ -27,14 +27,14 @@ use Rattle.stm_core.specs.declared.books.Books.{Books}
 use Rattle.stm_core.specs.CoreState.{Transaction, Segment, Idle, Doomed, Running, CoreState, loser, winner, wins, side, owned, world_after, sight_of, set_segment, with_segment, with_conflict}
 use Rattle.stm_core.specs.Good.{IsLocked}
 use Rattle.stm_core.specs.Moves.{IsStanding, Advances, IsFree, Move, Dooms as DoomsMove, Goes, Next, Follows}
-use Rattle.stm_core.specs.Books.{is_running, runs_at, names_of, names_at, is_lock, transaction, segment_of, core_of, Fit}
+use Rattle.stm_core.specs.Books.{WorkFits, is_running, runs_at, names_of, names_at, is_lock, transaction, segment_of, core_of, Fit}
 use Rattle.stm_core.specs.Hold.{Hold, sight, DoomsOne, Dooms, Beside, SegDoes, Inside}
 use Rattle.stm_core.specs.SegSense.{seg_sense, Stays}
 use Rattle.stm_core.proofs.Holding.{beside_refl, beside_then}
 use Rattle.stm_core.proofs.Commit.{follows_append}
 
 -- a sight with another world
-abbrev at_world : {S : Type 0} → World → Sight S → Sight S
+abbrev pub at_world : {S : Type 0} → World → Sight S → Sight S
 at_world w s = record s { world = w }
 
 -- a call that was done is done in any world
@@ -54,7 +54,7 @@ act_world w k me (Make q) d r e h n = (h.0.0, ap (at_world w) h.0.1)
 act_world w k me (Start s) d r e h n = ap (at_world w) h.0
 
 -- what it leaves beside
-call_beside : {S : Type 0} (k : ℕ) (me : Side) (c : Call S) (d : Hold S) (r : Reply c) (e : Hold S) → SegDoes k me c d r e → Beside k me d e
+pub call_beside : {S : Type 0} (k : ℕ) (me : Side) (c : Call S) (d : Hold S) (r : Reply c) (e : Hold S) → SegDoes k me c d r e → Beside k me d e
 call_beside k me (Put on bytes) d r e h = absurd h
 call_beside k me (Take most) d r e h = absurd h
 call_beside k me (SetMidLine b) d r e h = absurd h
@@ -68,22 +68,6 @@ call_beside k me (PushPair a x v) d r e h = h.1
 call_beside k me (DropPair a i) d r e h = h.1
 call_beside k me (Make q) d r e h = h.1
 call_beside k me (Start s) d r e h = h.1
-
--- is the call the question for the flag?
-is_mid : {S : Type 0} (c : Call S) → (c ≡ MidLine) ⊎ (c ≡ MidLine → ⊥)
-is_mid MidLine = inl refl
-is_mid (Put on bytes) = inr (λ e. cc)
-is_mid (Take most) = inr (λ e. cc)
-is_mid (SetMidLine b) = inr (λ e. cc)
-is_mid (Read a) = inr (λ e. cc)
-is_mid (Find a v) = inr (λ e. cc)
-is_mid (SetVal a i v) = inr (λ e. cc)
-is_mid (Push a v) = inr (λ e. cc)
-is_mid (Truncate a i) = inr (λ e. cc)
-is_mid (PushPair a x v) = inr (λ e. cc)
-is_mid (DropPair a i) = inr (λ e. cc)
-is_mid (Make q) = inr (λ e. cc)
-is_mid (Start s) = inr (λ e. cc)
 
 module _ {S X : Type 0} (hold : X → Hold S) (segment : X → ℕ) (me : X → Side) (same : X → X → Type 0) (w : World) where
   -- a row that writes next isn't done
@@ -193,13 +177,13 @@ advances {S} prog w k m m1 r1 b1 x x1 d e o lives goes does start em es im names
     }
 
 -- its locks and names are no other's
-pub is_free : {S : Type 0} (w : World) (k r : ℕ) (m : Meaning) (b : Books S) (x : Work S) → IsStore r m → places x.progress.names ≡ (m.part k).made → ((j : ℕ) → runs_at b.hands.items j ≡ true → places (names_at b.hands.items j) ≡ (m.part j).made)
+pub is_free : {S : Type 0} (w : World) (k r : ℕ) (m : Meaning) (b : Books S) (x : Work S) → IsStore r m → places x.progress.names ≡ (m.part k).made → ((j : ℕ) (z : Work S) → slice_get b.hands.items j ≡ Some (Runs z) → WorkFits (m.part j) z)
     → IsFree (core_of w m b) k (transaction w (m.part k) x)
 is_free {S} w k r m b x s names others = record {
   changed = λ j y n e a h. let q = of_other j y e in
       ap (λ (z : Transaction S). mem a z.changed) (sym q.1) ∙ first_false (mem a (m.part j).changed) (mem a (m.part j).made) (s.apart k j a (λ z. n (sym z)) (or_left (mem a (m.part k).changed) (mem a (m.part k).made) h));
   made = λ j y n e a h. let q = of_other j y e in
-      ap (λ (z : Transaction S). mem a (places z.made)) (sym q.1) ∙ ap (mem a) (same_names j q.0 q.2)
+      ap (λ (z : Transaction S). mem a (places z.made)) (sym q.1) ∙ ap (mem a) (others j q.0 q.2).names
       ∙ last_false (mem a (m.part j).changed) (mem a (m.part j).made) (s.apart k j a (λ z. n (sym z)) (or_right (mem a (m.part k).changed) (mem a (m.part k).made) (sym (ap (mem a) names) ∙ h)));
 }
   where
@@ -219,9 +203,6 @@ is_free {S} w k r m b x s names others = record {
         go (Some IdleHand) f h = absurd cc
         go (Some (DoomedHand c)) f h = absurd cc
         go (Some (Runs z)) f h = (z, cc, f)
-
-    same_names : (j : ℕ) (z : Work S) → slice_get b.hands.items j ≡ Some (Runs z) → places z.progress.names ≡ (m.part j).made
-    same_names j z f = sym (ap (λ o. places (names_of o)) f) ∙ others j (ap is_running f)
 
 -- ---- dooms of other segments
 

@@ -99,13 +99,19 @@ abbrev pub is_lock : Option Rec → Bool → Bool
 is_lock None marked = false
 is_lock (Some r) marked = is_tracked r.kind && marked
 
+-- what a transaction in its hand has told agrees with what the store keeps of it
+pub record WorkFits {S : Type 0} (p : Part) (x : Work S) : Type 0 where
+  pub names : places x.progress.names ≡ p.made
+  pub kept_names : places (take x.progress.kept_names x.progress.names) ≡ p.kept_made
+  pub within : x.progress.kept_names ≤ length x.progress.names
+
 -- Store and books fit, while the transaction of segment k is out of its hand and has come so far.
 pub record Fit {S : Type 0} (k : ℕ) (m : Meaning) (b : Books S) (p : Progress S) : Type 0 where
   pub mine : k < m.segments
   pub hands : length b.hands.items ≡ m.segments
   pub out : runs_at b.hands.items k ≡ false
   pub holders : (j a : ℕ) → j ≢ k → holds (m.part j) a ≡ true → runs_at b.hands.items j ≡ true
-  pub names : (j : ℕ) → runs_at b.hands.items j ≡ true → places (names_at b.hands.items j) ≡ (m.part j).made
+  pub works : (j : ℕ) (x : Work S) → slice_get b.hands.items j ≡ Some (hand.Runs x) → WorkFits (m.part j) x
   pub own_names : places p.names ≡ (m.part k).made
   pub kept_names : places (take p.kept_names p.names) ≡ (m.part k).kept_made
   pub within : p.kept_names ≤ length p.names

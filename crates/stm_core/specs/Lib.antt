@@ -6,3 +6,4 @@ pub mod Books
 pub mod Hold
 pub mod SegSense
 pub mod SegLaws
+pub mod Whole

@@ -2,7 +2,7 @@ use Rattle.std.proofs.Common.{refl, sym, ◌∙◌, ap, subst, ◌++◌, [], ◌
 use Rattle.py_data.specs.Made.{rec_of}
 use Rattle.stm_core.specs.declared.books.Progress.{Progress}
 use Rattle.stm_core.specs.Books.{Fit}
-use Rattle.stm_core.proofs.Seeing.{fit_made, name_set}
+use Rattle.stm_core.proofs.Seeing.{fit_made, name_set, name_back}
 use Rattle.stm_core.proofs.segment.SegView.name_made.Given as given
 use Rattle.stm_core.proofs.segment.SegView.name_made.Goals as goal
 
@@ -15,3 +15,9 @@ invariant_of-self-in-Ok g c = record {
 
 pub returns-in-Ok-clause-names : goal.returns-in-Ok-clause-names
 returns-in-Ok-clause-names g c = ap (λ l. record c.args.self.now.progress.now { names = l }) (name_set c.args.self.now.progress.now.names c.push.new.self c.set.new.self _ c.in-Ok.n c.len-last.result c.in_ok-push.ensures.ok c.len-last.ensures c.set.ensures)
+
+pub invariant_of-self-in-Err : goal.invariant_of-self-in-Err
+invariant_of-self-in-Err g c = record {
+  fits = subst (λ m. Fit c.args.self.now.segment m c.args.self.now.books.now (record c.args.self.now.progress.now { names = c.truncate.new.self })) (sym c.in-Err.ensures.err)
+      (subst (λ l. Fit c.args.self.now.segment (g.S.SegStore.meaning c.args.self.now.store.now) c.args.self.now.books.now (record c.args.self.now.progress.now { names = l })) (sym (name_back c.args.self.now.progress.now.names c.push.new.self c.truncate.new.self _ c.len-last.result c.in_ok-push.ensures.ok c.len-last.ensures c.truncate.ensures)) c.args.self.now.fits);
+}

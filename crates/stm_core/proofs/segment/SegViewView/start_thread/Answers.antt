@@ -1,4 +1,5 @@
 use Rattle.std.proofs.Common.{refl, sym, ◌∙◌, ap}
+use Rattle.stm_core.proofs.Fits.{fit_start}
 use Rattle.stm_core.proofs.Seeing.{start_done, start_refused}
 use Rattle.stm_core.proofs.segment.SegViewView.start_thread.Goals as goal
 
@@ -12,3 +13,6 @@ returns-in-Err g c = (start_refused c.args.self.now.segment c.args.self.now.side
     c.args.self.now.books.now c.start.new.self c.fail.new.self.books.now c.args.self.now.progress.now c.start.new.progress c.fail.new.self.progress.now c.args.self.now.stopped c.fail.new.self.stopped c.fail.result c.fail.ensures.same c.fail.ensures.stopped
     (ap g.S.SegStore.meaning c.fail.ensures.store) (ap g.S.SegStore.reserved c.fail.ensures.store) c.start.ensures.rest c.start.ensures.threads c.fail.ensures.books c.in-Err.ensures.err.1 c.fail.ensures.progress,
   record { segment_is = c.fail.ensures.stays.0; me_is = c.fail.ensures.stays.1; same_is = c.fail.ensures.refs }, tt)
+
+pub invariant_of-self : goal.invariant_of-self
+invariant_of-self g c = record { fits = fit_start c.start.result c.args.self.now.segment (g.S.SegStore.meaning c.args.self.now.store.now) c.args.self.now.books.now c.start.new.self c.args.self.now.progress.now c.start.new.progress c.args.s c.args.self.now.fits c.start.ensures.rest c.start.ensures.room c.start.ensures.ok c.start.ensures.err }

@@ -1,0 +1,93 @@
+-- A row over a segment's view that was stopped, and a step that was taken back.
+use Rattle.std.proofs.Common.{◌≡◌, ◌≢◌, ◌⊎◌, ◌<◌, ◌≤◌, ◌+◌, ℕ, zero, suc, Bool, true, false, cond, ◌||◌, eqb, List, [], ◌∷◌, ◌++◌, length, take, slice_get, Option, Some, None, refl, sym, ◌∙◌, ap, subst, inl, inr, arith}
+use Rattle.std.proofs.lemmas.Bool.{cases_Bool, both_ways, or_cases, or_left, or_right}
+use Rattle.py_data.specs.declared.stop.Side.{Side}
+use Rattle.py_data.specs.declared.stop.Conflict.{Conflict}
+use Rattle.py_data.specs.declared.stop.Stop.{Stop}
+use Rattle.py_data.specs.declared.stop.Stop.TheVariants.{OutOfMemory}
+use Rattle.py_data.specs.Heap.{Rec, Heap}
+use Rattle.py_data.specs.World.{World}
+use Rattle.py_data.specs.Collection.{places}
+use Rattle.py_data.specs.Row.{Call, Reply, Row, Ret, Do, Read, Find, SetVal, Push, Truncate, PushPair, DropPair, Make, Start, Put, Take, MidLine, SetMidLine}
+use Rattle.py_data.specs.Sense.{Stopped, Upto}
+use Rattle.py_data.specs.Sight.{Sight, Act, mem, pure}
+use Rattle.lock_run.specs.Client.{AsksToPrint, Writes, WritesThen}
+use Rattle.seg_store.specs.Meaning.{Part, Meaning, sees, saw, holds, overlay, over}
+use Rattle.stm_core.specs.CoreState.{Transaction, owned}
+use Rattle.stm_core.specs.Moves.{Stays}
+use Rattle.seg_store.specs.Store.{IsStore}
+use Rattle.stm_core.specs.declared.books.Work.{Work}
+use Rattle.stm_core.specs.Books.{transaction, is_lock}
+use Rattle.stm_core.specs.Hold.{Hold, sight, Beside, SegDoes, SegWhy, SegRefuses}
+use Rattle.stm_core.specs.SegSense.{seg_sense}
+use Rattle.stm_core.specs.Whole.{StopsAt}
+use Rattle.stm_core.proofs.Holding.{beside_refl, beside_then}
+use Rattle.stm_core.proofs.Stepping.{call_beside, owned_is, unchanged, locked_is}
+
+-- a sight with another world, that was used or not
+abbrev pub at_used : {S : Type 0} → World → Bool → Sight S → Sight S
+at_used w u s = record s { world = w; used = u }
+
+-- a call that was done is done in any world that is not in the middle of a line
+act_used : {S : Type 0} (w : World) (u : Bool) (k : ℕ) (me : Side) (c : Call S) (d : Hold S) (r : Reply c) (e : Hold S) → w.mid ≡ false → SegDoes k me c d r e → (u1 : Bool) × Act c (at_used w u (sight k d)) r (at_used w u1 (sight k e))
+act_used w u k me (Put on bytes) d r e n h = absurd h
+act_used w u k me (Take most) d r e n h = absurd h
+act_used w u k me (SetMidLine b) d r e n h = absurd h
+act_used w u k me MidLine d r e n h = (true, (h.0 ∙ sym n, ap (λ z. at_used w true (sight k z)) h.1))
+act_used w u k me (Read a) d r e n h = (u, (h.0.0, ap (at_used w u) h.0.1))
+act_used w u k me (Find a v) d r e n h = (u, (h.0.0, h.0.1, h.0.2, h.0.3, ap (at_used w u) h.0.4))
+act_used w u k me (SetVal a i v) d r e n h = (u, (h.0.0, h.0.1, h.0.2, ap (at_used w u) h.0.3))
+act_used w u k me (Push a v) d r e n h = (u, (h.0.0, h.0.1, h.0.2, ap (at_used w u) h.0.3))
+act_used w u k me (Truncate a i) d r e n h = (u, (h.0.0, h.0.1, h.0.2, ap (at_used w u) h.0.3))
+act_used w u k me (PushPair a x v) d r e n h = (u, (h.0.0, h.0.1, h.0.2, ap (at_used w u) h.0.3))
+act_used w u k me (DropPair a i) d r e n h = (u, (h.0.0, h.0.1, h.0.2, ap (at_used w u) h.0.3))
+act_used w u k me (Make q) d r e n h = (u, (h.0.0, ap (at_used w u) h.0.1))
+act_used w u k me (Start s) d r e n h = (u, ap (at_used w u) h.0)
+
+module _ {S X : Type 0} (hold : X → Hold S) (segment : X → ℕ) (me : X → Side) (same : X → X → Type 0) (w : World) where
+  -- a row that was stopped left the rest as it was, and stopped at some place for some cause
+  pub row_stopped : {A : Type 0} (k : ℕ) (s : Side) (used : Bool) (row : Row S A) (v : X) (e : Stop) (u : X) → w.mid ≡ false → segment v ≡ k → me v ≡ s → Stopped (seg_sense hold segment me same) row v e u
+      → Beside k s (hold v) (hold u) × StopsAt k s row (at_used w used (sight k (hold v))) e (hold u)
+  unfolding Stopped Upto
+  row_stopped k s used (Ret a) v e u n ek es d = (subst (λ z. Beside k s (hold v) (hold z)) (sym d.1) (beside_refl k s (hold v)), record { left = Ret a; place = at_used w used (sight k (hold v)); upto = (refl, refl); why = inl d.0 })
+  row_stopped k s used (Do c f) v e u n ek es d = elim d [
+    | inl x ↦ (subst (λ z. Beside k s (hold v) (hold z)) (sym x.1) (beside_refl k s (hold v)), record { left = Do c f; place = at_used w used (sight k (hold v)); upto = inl (refl, refl); why = inl x.0 })
+    | inr y ↦ elim y [
+      | inl r ↦ let h : SegRefuses k s c (hold v) e (hold u) = subst (λ i. SegRefuses i s c (hold v) e (hold u)) ek (subst (λ z. SegRefuses (segment v) z c (hold v) e (hold u)) es r.0) in
+          (h.beside, record { left = Do c f; place = at_used w used (sight k (hold v)); upto = inl (refl, refl); why = inr (c, f, refl, h.why) })
+      | inr z ↦ let done : SegDoes k s c (hold v) z.0 (hold z.1) = subst (λ i. SegDoes i s c (hold v) z.0 (hold z.1)) ek (subst (λ q. SegDoes (segment v) q c (hold v) z.0 (hold z.1)) es z.2.0) in
+          let act = act_used w used k s c (hold v) z.0 (hold z.1) n done in
+          let rest = row_stopped k s act.0 (f z.0) z.1 e u n (z.2.1.segment_is ∙ ek) (z.2.1.me_is ∙ es) z.3 in
+          (beside_then k s (hold v) (hold z.1) (hold u) (call_beside k s c (hold v) z.0 (hold z.1) done) rest.0,
+            record { left = rest.1.left; place = rest.1.place; upto = inr (z.0, at_used w act.0 (sight k (hold z.1)), act.1, rest.1.upto); why = rest.1.why })
+    ]
+  ]
+
+-- ---- a step that leaves looks and locks alone
+
+-- the transaction is as before, but for looks and locks
+pub stays : {S : Type 0} (w : World) (k : ℕ) (m m1 : Meaning) (r1 : ℕ) (x x1 : Work S) → m1.image ≡ m.image → sees m1 k ≡ sees m k → places x.progress.names ≡ (m.part k).made → places x1.progress.names ≡ (m1.part k).made → IsStore r1 m1
+    → ((a : ℕ) → mem a (m1.part k).changed ≡ true → is_lock (m1.image a) ((m1.part k).looked a) ≡ true) → x1.thread ≡ x.thread → x1.begun ≡ x.begun → x1.steps ≡ x.steps → x1.state ≡ x.state → x1.progress.names ≡ x.progress.names
+    → x1.progress.started ≡ x.progress.started → ((a : ℕ) → (m.part k).looked a ≡ true → (m1.part k).looked a ≡ true) → ((a : ℕ) → mem a (m.part k).changed ≡ true → mem a (m1.part k).changed ≡ true)
+    → Stays m.image (transaction w (m.part k) x) (transaction w (m1.part k) x1)
+stays {S} w k m m1 r1 x x1 im seen names names1 st locks th be sp se nm started looked more =
+    let own = owned_is w (m.part k) x names in
+    let own1 = owned_is w (m1.part k) x1 names1 in
+    record {
+      thread = th;
+      steps = sp;
+      state = se;
+      made = nm;
+      started = started;
+      begun = be;
+      solo = refl;
+      world = refl;
+      view = λ a. ap (λ (h : Heap). over ((m1.part k).changes a) (h a)) (sym im) ∙ ap (λ (h : Heap). h a) seen;
+      looked = looked;
+      more = λ a h. elim (or_cases (mem a (m.part k).changed) (mem a (places x.progress.names)) h) [
+        | inl y ↦ or_left (mem a (m1.part k).changed) (mem a (places x1.progress.names)) (more a y)
+        | inr y ↦ or_right (mem a (m1.part k).changed) (mem a (places x1.progress.names)) (ap (λ l. mem a (places l)) nm ∙ y)
+      ];
+      within = λ a h. unchanged r1 m1 k a st (sym (ap (λ f. f a) own1) ∙ h);
+      locked = λ a h. let l = locked_is m1.image (m1.part k) a (locks a h) in record { entry = l.entry; is = sym (ap (λ (z : Heap). z a) im) ∙ l.is; tracked = l.tracked; marked = l.marked };
+    }

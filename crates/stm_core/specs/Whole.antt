@@ -1,0 +1,57 @@
+-- Store and books fit together, with a transaction out of its hand and with all in their hands. States `docs/HEAP.md`, "The
+-- transactional core".
+use Rattle.std.specs.Prelude.{◌≡◌, ◌≢◌, ◌⊎◌, ℕ, ◌+◌, ◌<◌, ◌≤◌, Bool, true, false, List, [], ◌∷◌, ◌++◌, length, take, Option, Some, None, slice_get, suc, map}
+use Rattle.std.specs.List.{sum_by}
+use Rattle.py_data.specs.declared.stop.Side.{Side}
+use Rattle.py_data.specs.declared.stop.Conflict.{Conflict}
+use Rattle.py_data.specs.declared.stop.Stop.{Stop}
+use Rattle.py_data.specs.declared.stop.Stop.TheVariants.{OutOfMemory}
+use Rattle.py_data.specs.World.{World}
+use Rattle.py_data.specs.Collection.{places}
+use Rattle.py_data.specs.Row.{Call, Reply, Row, Do}
+use Rattle.py_data.specs.Sense.{Upto}
+use Rattle.py_data.specs.Sight.{Sight, mem, pure}
+use Rattle.lock_run.specs.declared.client.Outcome.{Outcome}
+use Rattle.lock_run.specs.declared.client.Outcome.TheVariants.{Waits as WaitsNow}
+use Rattle.lock_run.specs.Prog.{Prog}
+use Rattle.seg_store.specs.Meaning.{Part, Meaning, sees, holds}
+use Rattle.stm_core.specs.declared.books.Work.{Work}
+use Rattle.stm_core.specs.declared.books.Hand.{Hand}
+use Rattle.stm_core.specs.declared.books.Hand.TheVariants.{Runs}
+use Rattle.stm_core.specs.declared.books.Books.{Books}
+use Rattle.stm_core.specs.CoreState.{Transaction, CoreState, sight_of, side}
+use Rattle.stm_core.specs.Moves.{Advances, Stays, IsFree}
+use Rattle.stm_core.specs.Books.{WorkFits, runs_at, one_running, one_started, is_lock, transaction, core_of}
+use Rattle.stm_core.specs.Hold.{Dooms, SegWhy, Hold}
+
+-- all transactions are in their hands
+pub record Whole {S : Type 0} (m : Meaning) (b : Books S) : Type 0 where
+  pub hands : length b.hands.items ≡ m.segments
+  pub holders : (j a : ℕ) → holds (m.part j) a ≡ true → runs_at b.hands.items j ≡ true
+  pub works : (j : ℕ) (x : Work S) → slice_get b.hands.items j ≡ Some (Runs x) → WorkFits (m.part j) x
+  pub locked : (j a : ℕ) → mem a (m.part j).changed ≡ true → is_lock (m.image a) ((m.part j).looked a) ≡ true
+  pub turns : sum_by one_running b.hands.items ≤ b.history.room
+  pub losses : sum_by one_running b.hands.items ≤ b.conflicts.room
+  pub pending : sum_by one_started b.hands.items ≡ b.pending
+  pub threads : b.pending ≤ b.threads.room
+
+-- ---- a step
+
+-- the same work, one step further
+abbrev pub stepped : {S : Type 0} → Work S → Work S
+stepped x = record x { steps = suc x.steps }
+
+-- other segments were doomed by these conflicts, and then the step was done, or it waits
+pub record StepDone {S : Type 0} (p : Prog S) (w : World) (k : ℕ) (me : Side) (o : Outcome) (m : Meaning) (b : Books S) (x : Work S) (m1 : Meaning) (b1 : Books S) (x1 : Work S) : Type 0 where
+  pub dooms : List Conflict
+  pub others : Dooms k me dooms (core_of w m b) (core_of w m1 b1)
+  pub goes : o ≢ WaitsNow → Advances p m.image w (transaction w (m.part k) x) (transaction w (m1.part k) (stepped x1))
+  pub waits : o ≡ WaitsNow → Stays m.image (transaction w (m.part k) x) (transaction w (m1.part k) x1)
+  pub image : m1.image ≡ m.image
+
+-- where a row was stopped: its calls were done up to a place, and there the code found no memory, or the next call was refused
+pub record StopsAt {S A : Type 0} (k : ℕ) (me : Side) (row : Row S A) (s : Sight S) (e : Stop) (d : Hold S) : Type 0 where
+  pub left : Row S A
+  pub place : Sight S
+  pub upto : Upto pure row s left place
+  pub why : (e ≡ OutOfMemory) ⊎ ((c : Call S) × (f : Reply c → Row S A) × (left ≡ Do c f) × SegWhy k me e c d)
