@@ -10,3 +10,5 @@ pub mod Seeing
 pub mod Stepping
 pub mod Stopping
 pub mod Wholes
+pub mod Soundness
+pub mod StepOut

@@ -5,7 +5,7 @@ use Rattle.std.specs.List.{sum_by}
 use Rattle.py_data.specs.declared.stop.Side.{Side}
 use Rattle.py_data.specs.declared.stop.Conflict.{Conflict}
 use Rattle.py_data.specs.declared.stop.Stop.{Stop}
-use Rattle.py_data.specs.declared.stop.Stop.TheVariants.{OutOfMemory}
+use Rattle.py_data.specs.declared.stop.Stop.TheVariants.{Lost, NeedSolo, Full, OutOfMemory}
 use Rattle.py_data.specs.World.{World}
 use Rattle.py_data.specs.Collection.{places}
 use Rattle.py_data.specs.Row.{Call, Reply, Row, Do}
@@ -22,7 +22,7 @@ use Rattle.stm_core.specs.declared.books.Books.{Books}
 use Rattle.stm_core.specs.CoreState.{Transaction, CoreState, sight_of, side}
 use Rattle.stm_core.specs.Moves.{Advances, Stays, IsFree}
 use Rattle.stm_core.specs.Books.{WorkFits, runs_at, one_running, one_started, is_lock, transaction, core_of}
-use Rattle.stm_core.specs.Hold.{Dooms, SegWhy, Hold}
+use Rattle.stm_core.specs.Hold.{Dooms, SegWhy, LosesTo, IsOuter, Hold}
 
 -- all transactions are in their hands
 pub record Whole {S : Type 0} (m : Meaning) (b : Books S) : Type 0 where
@@ -55,3 +55,32 @@ pub record StopsAt {S A : Type 0} (k : ℕ) (me : Side) (row : Row S A) (s : Sig
   pub place : Sight S
   pub upto : Upto pure row s left place
   pub why : (e ≡ OutOfMemory) ⊎ ((c : Call S) × (f : Reply c → Row S A) × (left ≡ Do c f) × SegWhy k me e c d)
+
+-- why a step wasn't done, as the core is afterwards
+abbrev pub CutWhy : {S : Type 0} → ℕ → Side → Stop → CoreState S → ℕ → ℕ → Type 0
+CutWhy k me (Lost f) c reserved limit = LosesTo k me f c
+CutWhy k me NeedSolo c reserved limit = Unit {0}
+CutWhy k me (Full r n l) c reserved limit = (r ≡ reserved) × (l ≡ limit) × (l < r + n)
+CutWhy k me OutOfMemory c reserved limit = Unit {0}
+CutWhy k me _ c reserved limit = ⊥
+
+-- where a step prints or reads: its calls were done up to a place, and the next one prints or reads
+pub record MeetsOuter {S A : Type 0} (row : Row S A) (s : Sight S) : Type 0 where
+  pub call : Call S
+  pub next : Reply call → Row S A
+  pub place : Sight S
+  pub upto : Upto pure row s (Do call next) place
+  pub outer : IsOuter call
+
+abbrev pub IfSolo : {S A : Type 0} → Stop → Row S A → Sight S → Type 0
+IfSolo NeedSolo row s = MeetsOuter row s
+IfSolo _ row s = Unit {0}
+
+-- Other segments were doomed by these conflicts, and then the step was cut and taken back: looks and locks stay.
+pub record StepCut {S : Type 0} (p : Prog S) (w : World) (k : ℕ) (me : Side) (e : Stop) (m : Meaning) (b : Books S) (x : Work S) (m1 : Meaning) (r1 : ℕ) (b1 : Books S) (x1 : Work S) : Type 0 where
+  pub dooms : List Conflict
+  pub others : Dooms k me dooms (core_of w m b) (core_of w m1 b1)
+  pub stays : Stays m.image (transaction w (m.part k) x) (transaction w (m1.part k) x1)
+  pub image : m1.image ≡ m.image
+  pub why : CutWhy k me e (core_of w m1 b1) r1 m1.limit
+  pub solo : IfSolo e (p.row x.state) (sight_of m.image w (transaction w (m.part k) x))

@@ -3,6 +3,7 @@
 
 mod books;
 mod cause;
+mod core;
 mod laws;
 mod segment;
 

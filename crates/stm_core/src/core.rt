@@ -1,0 +1,62 @@
+//! The transactional core: transactions of a client's threads on the segments of a store.
+ghost use Rattle.std.specs.Prelude.{◌≡◌, ◌<◌, IfOk, IfErr};
+
+use crate::books::{Books, Hand, Work};
+use crate::segment::SegView;
+use lock_run::{Client, Outcome};
+use py_data::{Side, Stop};
+use seg_store::SegStore;
+use std::alloc::Global;
+
+/// Several transactions of a client's threads over one store.
+#[derive(Drop)]
+pub struct Core<'p, C: Client, S, I, O, E> {
+    alloc: Global,
+    client: &'p C,
+    store: S,
+    books: Books<C::State>,
+    length: u64,
+    budget: u64,
+    input: I,
+    out: O,
+    err: E,
+}
+
+impl<'p, C: Client, S: SegStore, I: Drop, O: Drop, E: Drop> Core<'p, C, S, I, O, E> {
+    ghost use Rattle.std.specs.Prelude.{◌≡◌, ◌<◌, IfOk, IfErr, OnErr, false};
+    ghost use Rattle.py_data.specs.World.{World};
+    ghost use Rattle.lock_run.specs.Client.{Standing};
+    ghost use Rattle.lock_run.specs.declared.client.Life.TheVariants.{Lives};
+    ghost use Rattle.seg_store.specs.Meaning.{sees};
+    ghost use Rattle.stm_core.specs.CoreState.{side};
+    ghost use Rattle.stm_core.specs.Books.{Fit, transaction};
+    ghost use Rattle.stm_core.specs.Whole.{StepDone, StepCut};
+
+    /// One step of the transaction of segment k, which was taken out of its hand.
+    fn step_out(&mut self, k: u8, work: &mut Work<C::State>) -> Result<Outcome, Stop>
+        ghost world: { World }
+        requires dry { world.mid ≡ false }
+        requires fit { Fit k (S.meaning self.old.store) self.old.books work.old.progress }
+        requires stands { Standing (C.sound self.old.client.now (sees (S.meaning self.old.store) k)) work.old.state }
+        requires lives { (C.prog self.old.client.now).life work.old.state ≡ Lives }
+        ensures fit { Fit k (S.meaning self.new.store) self.new.books work.new.progress }
+        ensures rest { self.new ≡ record self.old { store = self.new.store; books = self.new.books } }
+        ensures done { IfOk result (λ o. StepDone (C.prog self.old.client.now) world k (side k (transaction world ((S.meaning self.old.store).part k) work.old)) o (S.meaning self.old.store) self.old.books work.old (S.meaning self.new.store) self.new.books work.new) }
+        ensures cut { IfErr result (λ e. StepCut (C.prog self.old.client.now) world k (side k (transaction world ((S.meaning self.old.store).part k) work.old)) e (S.meaning self.old.store) self.old.books work.old (S.meaning self.new.store) (S.reserved self.new.store) self.new.books work.new) }
+    {
+        let side = Side {
+            segment: k,
+            thread: work.thread,
+            begun: work.begun,
+            solo: false,
+        };
+        let mut view = SegView::new(
+            &mut self.store,
+            &mut self.books,
+            &mut work.progress,
+            k,
+            side,
+        );
+        self.client.step(self.alloc, &mut work.state, &mut view)
+    }
+}
