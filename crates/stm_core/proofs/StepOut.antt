@@ -1,5 +1,5 @@
 -- One step of a client over a segment's view, as the core sees it.
-use Rattle.std.proofs.Common.{◌≡◌, ◌≢◌, ◌⊎◌, ◌<◌, ◌≤◌, ◌+◌, ℕ, zero, suc, Bool, true, false, cond, ◌||◌, eqb, List, [], ◌∷◌, ◌++◌, length, take, slice_get, Option, Some, None, refl, sym, ◌∙◌, ap, subst, inl, inr, arith}
+use Rattle.std.proofs.Common.{◌≡◌, ◌≢◌, ◌⊎◌, ◌<◌, ◌≤◌, ◌+◌, ℕ, zero, suc, Bool, true, false, cond, ◌||◌, eqb, List, [], ◌∷◌, ◌++◌, length, take, slice_get, Option, Some, None, refl, sym, ◌∙◌, ap, subst, inl, inr, arith, Result, Ok, Err, IfOk, IfErr, OnErr}
 use Rattle.std.proofs.lemmas.Bool.{both_ways, cond-true, eq-eqb}
 use Rattle.std.proofs.lemmas.List.{take_all}
 use Rattle.py_data.specs.declared.value.Addr.{Addr}
@@ -48,6 +48,10 @@ places_same (x ∷ xs) (y ∷ ys) e =
 take_whole : {X : Type 0} (n : ℕ) (xs : List X) → n ≡ length xs → take n xs ≡ xs
 take_whole n xs e = ap (λ z. take z xs) e ∙ take_all (length xs) xs (omega arith)
 
+pub if_err_on : {T E : Type 0} {P Q : E → Type 0} {R : Type 0} (r : Result T E) → ((e : E) → P e → R → Q e) → IfErr r P → OnErr r R → IfErr r Q
+if_err_on (Ok x) f p q = tt
+if_err_on (Err e) f p q = f e p q
+
 module _ {S X : Type 0} (hold : X → Hold S) (segment : X → ℕ) (me : X → Side) (same : X → X → Type 0) (same_refl : (v : X) → same v v) (same_then : (u v w : X) → same u v → same v w → same u w) where
   stays_then : (u v w : X) → Stays hold segment me same u v → Stays hold segment me same v w → Stays hold segment me same u w
   stays_then u v w a b = record { segment_is = b.segment_is ∙ a.segment_is; me_is = b.me_is ∙ a.me_is; same_is = same_then u v w a.same_is b.same_is }
@@ -71,6 +75,12 @@ module _ {S X : Type 0} (hold : X → Hold S) (segment : X → ℕ) (me : X → 
 
   pub cut_stays : (row : Row S (Outcome × S)) (v : X) (e : Stop) (u : X) → StepStopped (seg_sense hold segment me same) (seg_bracket hold segment me same) row v e u → Stays hold segment me same v u
   cut_stays row v e u h = stays_then v h.0 u h.2.1 (stays_then h.0 h.1 u (stop_stays row h.0 e h.1 h.3) h.4.1)
+
+  -- whichever way a step ends, the view borrows the same things
+  pub result_stays : (row : Row S (Outcome × S)) (v : X) (r : Result Outcome Stop) (s : S) (u : X) → IfOk r (λ o. Stepped (seg_sense hold segment me same) (seg_bracket hold segment me same) row v o s u)
+      → IfErr r (λ e. StepStopped (seg_sense hold segment me same) (seg_bracket hold segment me same) row v e u) → Stays hold segment me same v u
+  result_stays row v (Ok o) s u ok err = stepped_stays row v o s u ok
+  result_stays row v (Err e) s u ok err = cut_stays row v e u err
 
   module _ (prog : Prog S) (w : World) (dry : w.mid ≡ false) (k : ℕ) (s : Side) (v u : X) (ek : segment v ≡ k) (es : me v ≡ s) (x x1 : Work S) (m1 : Meaning) (r1 : ℕ) (b1 : Books S)
       (xp : (hold v).progress ≡ x.progress) (fit : Fit k (hold v).meaning (hold v).books (hold v).progress) (fit1 : Fit k m1 b1 x1.progress) (store : IsStore r1 m1)

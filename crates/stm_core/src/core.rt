@@ -34,15 +34,13 @@ impl<'p, C: Client, S: SegStore, I: Drop, O: Drop, E: Drop> Core<'p, C, S, I, O,
 
     /// One step of the transaction of segment k, which was taken out of its hand.
     fn step_out(&mut self, k: u8, work: &mut Work<C::State>) -> Result<Outcome, Stop>
-        ghost world: { World }
-        requires dry { world.mid ≡ false }
         requires fit { Fit k (S.meaning self.old.store) self.old.books work.old.progress }
         requires stands { Standing (C.sound self.old.client.now (sees (S.meaning self.old.store) k)) work.old.state }
         requires lives { (C.prog self.old.client.now).life work.old.state ≡ Lives }
         ensures fit { Fit k (S.meaning self.new.store) self.new.books work.new.progress }
         ensures rest { self.new ≡ record self.old { store = self.new.store; books = self.new.books } }
-        ensures done { IfOk result (λ o. StepDone (C.prog self.old.client.now) world k (side k (transaction world ((S.meaning self.old.store).part k) work.old)) o (S.meaning self.old.store) self.old.books work.old (S.meaning self.new.store) self.new.books work.new) }
-        ensures cut { IfErr result (λ e. StepCut (C.prog self.old.client.now) world k (side k (transaction world ((S.meaning self.old.store).part k) work.old)) e (S.meaning self.old.store) self.old.books work.old (S.meaning self.new.store) (S.reserved self.new.store) self.new.books work.new) }
+        ensures done { IfOk result (λ o. (world : World) → world.mid ≡ false → StepDone (C.prog self.old.client.now) world k (side k (transaction world ((S.meaning self.old.store).part k) work.old)) o (S.meaning self.old.store) self.old.books work.old (S.meaning self.new.store) self.new.books work.new) }
+        ensures cut { IfErr result (λ e. (world : World) → world.mid ≡ false → StepCut (C.prog self.old.client.now) world k (side k (transaction world ((S.meaning self.old.store).part k) work.old)) e (S.meaning self.old.store) self.old.books work.old (S.meaning self.new.store) (S.reserved self.new.store) self.new.books work.new) }
     {
         let side = Side {
             segment: k,
@@ -57,6 +55,8 @@ impl<'p, C: Client, S: SegStore, I: Drop, O: Drop, E: Drop> Core<'p, C, S, I, O,
             k,
             side,
         );
-        self.client.step(self.alloc, &mut work.state, &mut view)
+        let result = self.client.step(self.alloc, &mut work.state, &mut view);
+        self.store.known();
+        result
     }
 }
