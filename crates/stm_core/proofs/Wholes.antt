@@ -1,20 +1,22 @@
 -- A transaction is taken out of its hand, and put back.
-use Rattle.std.proofs.Common.{◌≡◌, ◌≢◌, ◌<◌, ◌≤◌, ◌+◌, ℕ, zero, suc, Bool, true, false, cond, eqb, List, [], ◌∷◌, length, take, slice_get, slice_set, Option, Some, None, refl, sym, ◌∙◌, ap, subst, inl, inr, arith, length-set}
+use Rattle.std.proofs.Common.{◌≡◌, ◌≢◌, ◌<◌, ◌≤◌, ◌+◌, ℕ, zero, suc, Bool, true, false, cond, eqb, List, [], ◌∷◌, ◌++◌, length, take, slice_get, slice_set, Option, Some, None, refl, sym, ◌∙◌, ap, subst, inl, inr, arith, length-set}
 use Rattle.std.specs.List.{sum_by}
 use Rattle.std.proofs.lemmas.Bool.{cases_Bool, both_ways, eqb-true, eqb-false, eq-eqb, cond-true, cond-false}
 use Rattle.std.proofs.lemmas.Option.{slice_get_within}
 use Rattle.py_data.specs.Collection.{places}
 use Rattle.py_data.specs.World.{World}
 use Rattle.py_data.specs.Sight.{mem}
+use Rattle.py_data.specs.declared.stop.Conflict.{Conflict}
 use Rattle.seg_store.specs.Meaning.{Part, Meaning, holds}
+use Rattle.seg_store.specs.Calls.{ended, after_drop}
 use Rattle.stm_core.specs.declared.books.Progress.{Progress}
 use Rattle.stm_core.specs.declared.books.Work.{Work}
 use Rattle.stm_core.specs.declared.books.Hand.{Hand}
 use Rattle.stm_core.specs.declared.books.Hand.TheVariants.{Idle, Runs}
 use Rattle.stm_core.specs.declared.books.Books.{Books}
-use Rattle.stm_core.specs.CoreState.{Running, set_segment, with_segment}
+use Rattle.stm_core.specs.CoreState.{Running, set_segment, with_segment, with_conflict}
 use Rattle.stm_core.specs.CoreState as model
-use Rattle.stm_core.specs.Books.{WorkFits, is_running, runs_at, names_of, names_at, one_running, one_started, transaction, segment_of, core_of, Fit}
+use Rattle.stm_core.specs.Books.{WorkFits, is_running, runs_at, names_of, names_at, one_running, one_started, is_lock, transaction, segment_of, core_of, Fit}
 use Rattle.stm_core.specs.Whole.{Whole}
 use Rattle.stm_core.proofs.Publish.{get_set_other}
 use Rattle.stm_core.proofs.Fits.{get_set_same, sum_set, work_at}
@@ -122,3 +124,79 @@ module _ {S : Type 0} (k : ℕ) (m : Meaning) (b b1 : Books S) where
             ∙ sym (cond-true (eqb x k) (segment_of w (m.part k) (Some h)) (segment_of w (m.part x) (slice_get b.hands.items x)) y)
         | inr n ↦ ap (segment_of w (m.part x)) (set_there h s x (eqb-false x k n)) ∙ sym (cond-false (eqb x k) (segment_of w (m.part k) (Some h)) (segment_of w (m.part x) (slice_get b.hands.items x)) n)
       ]
+
+-- a transaction that was taken out is dropped
+pub dropped : {S : Type 0} (k : ℕ) (m : Meaning) (b b1 : Books S) (p : Progress S) → Fit k m b p → slice_get b.hands.items k ≡ Some Idle → b1 ≡ record b { pending = b1.pending } → b1.pending + length p.started ≡ b.pending → Whole (after_drop k m) b1
+dropped {S} k m b b1 p f e eb pe =
+    let hs : b1.hands.items ≡ b.hands.items = ap (λ (z : Books S). z.hands.items) eb in
+    let hi : b1.history.room ≡ b.history.room = ap (λ (z : Books S). z.history.room) eb in
+    let co : b1.conflicts.room ≡ b.conflicts.room = ap (λ (z : Books S). z.conflicts.room) eb in
+    let th : b1.threads.room ≡ b.threads.room = ap (λ (z : Books S). z.threads.room) eb in
+    let sr : sum_by one_running b1.hands.items ≡ sum_by one_running b.hands.items = ap (sum_by one_running) hs in
+    let ss : sum_by one_started b1.hands.items ≡ sum_by one_started b.hands.items = ap (sum_by one_started) hs in
+    let t = f.turns in let l = f.losses in let d = f.pending in let r = f.threads in
+    record {
+      hands = ap length hs ∙ f.hands;
+      holders = λ j a h. elim (cases_Bool (eqb j k)) [
+        | inl y ↦ absurd (both_ways false refl (subst (λ (z : Part). holds z a ≡ true) (cond-true (eqb j k) (ended (m.part k)) (m.part j) y) h))
+        | inr n ↦ ap (λ z. runs_at z j) hs ∙ f.holders j a (eqb-false j k n) (subst (λ (z : Part). holds z a ≡ true) (cond-false (eqb j k) (ended (m.part k)) (m.part j) n) h)
+      ];
+      works = λ j x h. elim (cases_Bool (eqb j k)) [
+        | inl y ↦ absurd (let q : slice_get b.hands.items k ≡ Some (Runs x) = ap (slice_get b.hands.items) (sym (eqb-true j k y)) ∙ sym (ap (λ z. slice_get z j) hs) ∙ h in let u : Some Idle ≡ Some (Runs x) = sym e ∙ q in cc)
+        | inr n ↦ subst (λ (z : Part). WorkFits z x) (sym (cond-false (eqb j k) (ended (m.part k)) (m.part j) n)) (f.works j x (sym (ap (λ z. slice_get z j) hs) ∙ h))
+      ];
+      locked = λ j a h. elim (cases_Bool (eqb j k)) [
+        | inl y ↦ absurd (both_ways false refl (subst (λ (z : Part). mem a z.changed ≡ true) (cond-true (eqb j k) (ended (m.part k)) (m.part j) y) h))
+        | inr n ↦ let q : (after_drop k m).part j ≡ m.part j = cond-false (eqb j k) (ended (m.part k)) (m.part j) n in
+            subst (λ (z : Part). is_lock (m.image a) (z.looked a) ≡ true) (sym q) (f.locked j a (subst (λ (z : Part). mem a z.changed ≡ true) q h))
+      ];
+      turns = omega (arith, sr, hi, t);
+      losses = omega (arith, sr, co, l);
+      pending = omega (arith, ss, pe, d);
+      threads = omega (arith, th, pe, r);
+    }
+
+-- a conflict is noted, for which there is room
+pub noted : {S : Type 0} (m : Meaning) (b b1 : Books S) → Whole m b → sum_by one_running b.hands.items < b.conflicts.room → b1 ≡ record b { conflicts = b1.conflicts } → b.conflicts.room ≤ b1.conflicts.room + 1 → Whole m b1
+noted {S} m b b1 f lt eb room =
+    let hs : b1.hands.items ≡ b.hands.items = ap (λ (z : Books S). z.hands.items) eb in
+    let hi : b1.history.room ≡ b.history.room = ap (λ (z : Books S). z.history.room) eb in
+    let th : b1.threads.room ≡ b.threads.room = ap (λ (z : Books S). z.threads.room) eb in
+    let pe : b1.pending ≡ b.pending = ap (λ (z : Books S). z.pending) eb in
+    let sr : sum_by one_running b1.hands.items ≡ sum_by one_running b.hands.items = ap (sum_by one_running) hs in
+    let ss : sum_by one_started b1.hands.items ≡ sum_by one_started b.hands.items = ap (sum_by one_started) hs in
+    let t = f.turns in let d = f.pending in let r = f.threads in
+    record {
+      hands = ap length hs ∙ f.hands;
+      holders = λ j a h. ap (λ z. runs_at z j) hs ∙ f.holders j a h;
+      works = λ j x h. f.works j x (sym (ap (λ z. slice_get z j) hs) ∙ h);
+      locked = f.locked;
+      turns = omega (arith, sr, hi, t);
+      losses = omega (arith, sr, lt, room);
+      pending = omega (arith, ss, pe, d);
+      threads = omega (arith, th, pe, r);
+    }
+
+pub core_noted : {S : Type 0} (w : World) (m : Meaning) (b b1 : Books S) (f : Conflict) → b1 ≡ record b { conflicts = b1.conflicts } → b1.conflicts.entries ≡ b.conflicts.entries ++ f ∷ [] → core_of w m b1 ≡ with_conflict f (core_of w m b)
+core_noted {S} w m b b1 f eb ec i = record {
+  image = m.image;
+  threads = ap (λ (z : Books S). z.threads.entries) eb i;
+  world = w;
+  history = ap (λ (z : Books S). z.history.entries) eb i;
+  conflicts = ec i;
+  begun = ap (λ (z : Books S). z.begun) eb i;
+  last = ap (λ (z : Books S). z.last) eb i;
+  cause = ap (λ (z : Books S). z.cause) eb i;
+  segments = λ x. segment_of w (m.part x) (slice_get (ap (λ (z : Books S). z.hands.items) eb i) x);
+}
+
+-- while a transaction is out, there is room for its conflict
+pub still_room : {S : Type 0} (k : ℕ) (m : Meaning) (b b1 : Books S) (p : Progress S) → Fit k m b p → b1 ≡ record b { pending = b1.pending } → sum_by one_running b1.hands.items < b1.conflicts.room
+still_room {S} k m b b1 p f eb =
+    let sr : sum_by one_running b1.hands.items ≡ sum_by one_running b.hands.items = ap (λ (z : Books S). sum_by one_running z.hands.items) eb in
+    let co : b1.conflicts.room ≡ b.conflicts.room = ap (λ (z : Books S). z.conflicts.room) eb in
+    let l = f.losses in
+    omega (arith, sr, co, l)
+
+pub some_room : {S : Type 0} (k : ℕ) (m : Meaning) (b b1 : Books S) (p : Progress S) → Fit k m b p → b1 ≡ record b { pending = b1.pending } → 0 < b1.conflicts.room
+some_room k m b b1 p f eb = let l = still_room k m b b1 p f eb in omega (arith, l)

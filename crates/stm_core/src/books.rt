@@ -1,6 +1,6 @@
 //! What a core keeps beside its store: the committed states of the threads, what each segment has in hand, the history and
 //! the conflicts.
-ghost use Rattle.std.specs.Prelude.{◌≡◌, ◌<◌, ◌≤◌, ◌+◌, ◌++◌, [], ◌∷◌, length, true, slice_set, slice_get, take, OnOk, OnErr};
+ghost use Rattle.std.specs.Prelude.{◌≡◌, ◌<◌, ◌≤◌, ◌+◌, ◌++◌, [], ◌∷◌, length, true, slice_set, slice_get, Some, take, OnOk, OnErr};
 ghost use Rattle.stm_core.specs.Books.{runs_at, started_at, side_of};
 
 use crate::cause::Cause;
@@ -113,6 +113,47 @@ impl<T: Drop> Books<T> {
         }
     }
 
+    /// Takes out what a segment has in hand; the hand is empty then.
+    pub fn take(&mut self, k: u8) -> Hand<T>
+        requires { k < length self.old.hands.items }
+        ensures hand { slice_get self.old.hands.items k ≡ Some result }
+        ensures hands { self.new.hands.items ≡ slice_set self.old.hands.items k Hand.Idle }
+        ensures rest { self.new ≡ record self.old { hands = self.new.hands } }
+    {
+        mem::replace(&mut self.hands[k as usize], Hand::Idle)
+    }
+
+    /// Puts a transaction into a segment's hand.
+    pub fn put(&mut self, k: u8, work: Work<T>)
+        requires { k < length self.old.hands.items }
+        ensures hands { self.new.hands.items ≡ slice_set self.old.hands.items k (Hand.Runs work) }
+        ensures rest { self.new ≡ record self.old { hands = self.new.hands } }
+    {
+        self.hands[k as usize] = Hand::Runs(work);
+    }
+
+    /// What a transaction that ends started is pending no more.
+    pub fn forget(&mut self, count: usize)
+        requires { count ≤ self.old.pending }
+        ensures rest { self.new ≡ record self.old { pending = self.new.pending } }
+        ensures pending { self.new.pending + count ≡ self.old.pending }
+    {
+        self.pending -= count;
+    }
+
+    /// Notes a conflict.
+    pub fn note(&mut self, f: Conflict)
+        requires { 0 < self.old.conflicts.room }
+        ensures rest { self.new ≡ record self.old { conflicts = self.new.conflicts } }
+        ensures conflicts { self.new.conflicts.entries ≡ self.old.conflicts.entries ++ f ∷ [] }
+        ensures room { self.old.conflicts.room ≤ self.new.conflicts.room + 1 }
+    {
+        match self.conflicts.push(f) {
+            Ok(()) => (),
+            Err(_) => unreachable!(),
+        }
+    }
+
     /// The transaction of a segment lost a conflict: the segment is doomed with it.
     pub fn doom(&mut self, j: u8, f: Conflict)
         requires runs { runs_at self.old.hands.items j ≡ true }
@@ -128,9 +169,6 @@ impl<T: Drop> Books<T> {
             Hand::Runs(work) => self.pending -= work.progress.started.len(),
             _ => unreachable!(),
         }
-        match self.conflicts.push(f) {
-            Ok(()) => (),
-            Err(_) => unreachable!(),
-        }
+        self.note(f);
     }
 }

@@ -4,7 +4,7 @@ ghost use Rattle.std.specs.Prelude.{◌≡◌, ◌<◌, IfOk, IfErr};
 use crate::books::{Books, Hand, Work};
 use crate::segment::SegView;
 use lock_run::{Client, Outcome};
-use py_data::{Side, Stop};
+use py_data::{Conflict, Side, Stop};
 use seg_store::SegStore;
 use std::alloc::Global;
 
@@ -23,14 +23,14 @@ pub struct Core<'p, C: Client, S, I, O, E> {
 }
 
 impl<'p, C: Client, S: SegStore, I: Drop, O: Drop, E: Drop> Core<'p, C, S, I, O, E> {
-    ghost use Rattle.std.specs.Prelude.{◌≡◌, ◌<◌, IfOk, IfErr, OnErr, false};
+    ghost use Rattle.std.specs.Prelude.{◌≡◌, ◌<◌, IfOk, IfErr, OnErr, false, slice_get, Some, []};
     ghost use Rattle.py_data.specs.World.{World};
     ghost use Rattle.lock_run.specs.Client.{Standing};
     ghost use Rattle.lock_run.specs.declared.client.Life.TheVariants.{Lives};
     ghost use Rattle.seg_store.specs.Meaning.{sees};
-    ghost use Rattle.stm_core.specs.CoreState.{side};
-    ghost use Rattle.stm_core.specs.Books.{Fit, transaction};
-    ghost use Rattle.stm_core.specs.Whole.{StepDone, StepCut};
+    ghost use Rattle.stm_core.specs.CoreState.{side, with_conflict, with_segment, Running};
+    ghost use Rattle.stm_core.specs.Books.{Fit, transaction, core_of};
+    ghost use Rattle.stm_core.specs.Whole.{Whole, StepDone, StepCut};
 
     /// One step of the transaction of segment k, which was taken out of its hand.
     fn step_out(&mut self, k: u8, work: &mut Work<C::State>) -> Result<Outcome, Stop>
@@ -58,5 +58,41 @@ impl<'p, C: Client, S: SegStore, I: Drop, O: Drop, E: Drop> Core<'p, C, S, I, O,
         let result = self.client.step(self.alloc, &mut work.state, &mut view);
         self.store.known();
         result
+    }
+
+    /// Drops the transaction of segment k, which was taken out of its hand.
+    fn drop_out(&mut self, k: u8, work: Work<C::State>)
+        requires fit { Fit k (S.meaning self.old.store) self.old.books work.progress }
+        requires idle { slice_get self.old.books.hands.items k ≡ Some Hand.Idle }
+        ensures rest { self.new ≡ record self.old { store = self.new.store; books = self.new.books } }
+        ensures whole { Whole (S.meaning self.new.store) self.new.books }
+        ensures core { (world : World) → core_of world (S.meaning self.new.store) self.new.books ≡ core_of world (S.meaning self.old.store) self.old.books }
+        ensures room { self.new.books ≡ record self.old.books { pending = self.new.books.pending } }
+    {
+        self.books.forget(work.progress.started.len());
+        self.store.drop_changes(k);
+    }
+
+    /// The transaction of segment k, which was taken out of its hand, lost a conflict to another.
+    fn lose_out(&mut self, k: u8, work: Work<C::State>, f: Conflict)
+        requires fit { Fit k (S.meaning self.old.store) self.old.books work.progress }
+        requires idle { slice_get self.old.books.hands.items k ≡ Some Hand.Idle }
+        ensures rest { self.new ≡ record self.old { store = self.new.store; books = self.new.books } }
+        ensures whole { Whole (S.meaning self.new.store) self.new.books }
+        ensures core { (world : World) → core_of world (S.meaning self.new.store) self.new.books ≡ with_conflict f (core_of world (S.meaning self.old.store) self.old.books) }
+    {
+        self.drop_out(k, work);
+        self.books.note(f);
+    }
+
+    /// Puts the transaction of segment k back into its hand.
+    fn put_back(&mut self, k: u8, work: Work<C::State>)
+        requires fit { Fit k (S.meaning self.old.store) self.old.books work.progress }
+        requires idle { slice_get self.old.books.hands.items k ≡ Some Hand.Idle }
+        ensures rest { self.new ≡ record self.old { books = self.new.books } }
+        ensures whole { Whole (S.meaning self.new.store) self.new.books }
+        ensures core { (world : World) → core_of world (S.meaning self.new.store) self.new.books ≡ with_segment k (Running (transaction world ((S.meaning self.old.store).part k) work)) (core_of world (S.meaning self.old.store) self.old.books) }
+    {
+        self.books.put(k, work);
     }
 }
