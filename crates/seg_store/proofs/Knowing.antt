@@ -62,10 +62,10 @@ front_of : (h : Option Hand) → (more : List ℕ) × (made_in h ≡ kept_in h +
 front_of None = ([], refl)
 front_of (Some h) = (places (drop h.kept h.made), sym (sym (map-append (λ (a : Addr). a.0) (take h.kept h.made) (drop h.kept h.made)) ∙ ap places (take-append-drop h.kept h.made)))
 
-pub is_store : (t : Objects) (s : Hands) (n : ℕ) → 1 ≤ n → n ≤ 8 → IsSound t s n → IsStore 0 (meaning_in t s n)
-is_store t s n l m w = record {
-  some = l;
-  few = m;
+pub is_store : (t : Objects) (s : Hands) (n : ℕ) → IsSound t s n → IsStore 0 (meaning_in t s n)
+is_store t s n w = record {
+  some = w.some;
+  few = w.few;
   room = omega arith;
   changes = λ j a. some_now (held_in j (t a)) ∙ sym (holds_held t s n w j a);
   kept = λ j a. kept_or (is_some (before_of (held_in j (t a)))) (is_some (held_in j (t a))) (is_some (committed_in (t a))) (w.locked a j)

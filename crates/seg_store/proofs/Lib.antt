@@ -6,3 +6,6 @@ pub mod Placing
 pub mod Calling
 pub mod Slices
 pub mod Knowing
+pub mod Halves
+pub mod Goodness
+pub mod Stores

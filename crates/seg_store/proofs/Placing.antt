@@ -67,6 +67,8 @@ module _ (t : Objects) (s : Hands) (n k a : ℕ) (o : Object) (h : Hand) (p : Is
       let s1 = with_hand k h s in
       let t1 = with_object a o t in
       record {
+        some = w.some;
+        few = w.few;
         within = λ b j e. elim (eqb_tells j k) [
           | inl y ↦ subst (λ i. i < n) (sym y.1) p.below
           | inr d ↦ w.within b j (sym (ap is_some (held_placed j d.1 b)) ∙ e)
@@ -123,6 +125,8 @@ pub hand_sound : (t : Objects) (s : Hands) (n k : ℕ) (g h : Hand) → s k ≡ 
 hand_sound t s n k g h is ec em ek w =
     let s1 = with_hand k h s in
     record {
+      some = w.some;
+      few = w.few;
       within = w.within;
       locked = w.locked;
       changed = λ j b. elim (eqb_tells j k) [

@@ -198,6 +198,8 @@ turn_sound turn k t s n h w is =
     let s1 = with_hand k (turned_hand turn h) s in
     let t1 = turned_objects turn k t in
     record {
+      some = w.some;
+      few = w.few;
       within = λ a j e. elim (eqb_tells j k) [
         | inl y ↦ w.within a j (ap (λ i. is_some (held_in i (t a))) y.1 ∙ some_after turn (held_in k (t a)) (sym (ap is_some (held_own turn k (t a))) ∙ sym (ap (λ i. is_some (held_in i (t1 a))) y.1) ∙ e))
         | inr d ↦ w.within a j (sym (ap is_some (held_other turn j k (t a) d.1)) ∙ e)

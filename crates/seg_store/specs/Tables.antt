@@ -90,6 +90,8 @@ pub record IsGood (r : Rec) : Type 0 where
   pub one : one_list r.kind r.values r.bytes ≡ true
 
 pub record IsSound (t : Objects) (s : Hands) (n : ℕ) : Type 0 where
+  pub some : 1 ≤ n
+  pub few : n ≤ 8
   pub within : (a : ℕ) (k : ℕ) → is_some (held_in k (t a)) ≡ true → k < n
   pub locked : (a k : ℕ) → is_some (committed_in (t a)) ≡ true → is_some (before_of (held_in k (t a))) ≡ is_some (held_in k (t a))
   pub changed : (k a : ℕ) → mem a (changed_in (s k)) ≡ is_changed k (t a)

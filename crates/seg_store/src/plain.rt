@@ -15,7 +15,7 @@ use std::alloc::Global;
 fn turn_objects(objects: &mut Vec<Object>, k: u8, turn: Turn)
     ensures { slice_get objects.new.items ≡ turned_objects turn k (slice_get objects.old.items) }
 {
-    for o in objects.iter_mut() {
+    'objects: for o in objects.iter_mut() {
         o.turn(k, turn);
     }
 }
@@ -29,8 +29,6 @@ pub struct PlainStore {
     alloc: Global,
     objects: Vec<Object>,
     hands: Vec<Hand>,
-    ghost some: { 1 ≤ length hands.items },
-    ghost few: { length hands.items ≤ 8 },
     ghost sound: { IsSound (slice_get objects.items) (slice_get hands.items) (length hands.items) },
 }
 
@@ -46,12 +44,19 @@ impl PlainStore {
     ghost use Rattle.seg_store.specs.Tables.{IsGood, held_in, committed_in, after_turn, one_list};
     ghost use Rattle.seg_store.specs.Plain.{plain_meaning, empty_meaning};
 
+    /// What is kept of an address.
+    fn object(&self, a: u32) -> Option<&Object>
+        ensures { option_copied result ≡ slice_get self.now.objects.items a }
+    {
+        self.objects.get(a as usize)
+    }
+
     /// The record of the image at an address.
     fn committed(&self, a: u32) -> Option<&Entry>
         ensures entry { option_copied result ≡ (plain_meaning self.now).image a }
         ensures good { IfSome result (λ r. IsGood r.now) }
     {
-        match self.objects.get(a as usize) {
+        match self.object(a) {
             Some(o) => o.committed.as_ref(),
             None => None,
         }
@@ -62,7 +67,7 @@ impl PlainStore {
         ensures entry { option_copied result ≡ sees (plain_meaning self.now) k a }
         ensures good { IfSome result (λ r. IsGood r.now) }
     {
-        match self.objects.get(a as usize) {
+        match self.object(a) {
             Some(o) => o.seen(k),
             None => None,
         }
