@@ -1,6 +1,6 @@
 -- Each call of a store of maps: what it makes of the meaning, and that what always holds still does.
-use Rattle.std.proofs.Common.{◌≡◌, ◌≢◌, ◌⊎◌, inl, inr, ℕ, ◌<◌, ◌≤◌, zero, suc, Bool, true, false, cond, ◌||◌, ◌&&◌, not, eqb, List, [], ◌∷◌, ◌++◌, length, take, Option, Some, None, is_some, option_map, unwrap_or, refl, sym, ◌∙◌, ap, subst, arith, length-append}
-use Rattle.std.proofs.lemmas.Bool.{cases_Bool, cond-true, cond-false, or_parts}
+use Rattle.std.proofs.Common.{◌≡◌, ◌≢◌, inl, inr, ℕ, ◌<◌, ◌≤◌, Bool, true, false, cond, ◌||◌, ◌&&◌, not, eqb, [], ◌∷◌, ◌++◌, length, take, Option, Some, None, is_some, option_map, unwrap_or, refl, sym, ◌∙◌, ap, subst, arith, length-append}
+use Rattle.std.proofs.lemmas.Bool.{cond-true, cond-false}
 use Rattle.std.proofs.lemmas.Bool.Decides.{eqb_tells}
 use Rattle.std.proofs.lemmas.List.{take-append-le}
 use Rattle.py_data.specs.declared.value.Addr.{Addr}
@@ -12,23 +12,28 @@ use Rattle.seg_store.specs.declared.object.Since.TheVariants.{Made, Same, Was}
 use Rattle.seg_store.specs.declared.object.Held.{Held}
 use Rattle.seg_store.specs.declared.object.Object.{Object}
 use Rattle.seg_store.specs.declared.hand.Hand.{Hand}
-use Rattle.seg_store.specs.Meaning.{Part, Meaning, over, sees, holds, with_part}
-use Rattle.seg_store.specs.Calls.{begun, marked, first_locked, locked, changed, made, after_begin, after_mark, after_lock, after_change, after_make}
+use Rattle.seg_store.specs.Meaning.{Meaning, over, sees, holds, with_part}
+use Rattle.seg_store.specs.Calls.{marked, first_locked, changed, after_begin, after_mark, after_lock, after_change, after_make}
 use Rattle.seg_store.specs.Objects.{own, now_of, before, before_of, since_then, replaced}
 use Rattle.seg_store.specs.Hands.{marks_of}
 use Rattle.seg_store.specs.Tables.{Objects, Hands, committed_in, held_in, changed_in, made_in, kept_in, part_in, meaning_in, is_changed, is_made, is_kept, IsGood, IsSound, with_object, with_hand}
-use Rattle.seg_store.proofs.Sees.{same_heap, same_number, other_number, own_part, mem_last}
+use Rattle.seg_store.proofs.Sees.{same_number, other_number, mem_last}
 use Rattle.seg_store.proofs.Marking.{places_last}
-use Rattle.seg_store.proofs.Owning.{held_one, some_now}
-use Rattle.seg_store.proofs.Turning.{same_part, own_hand}
+use Rattle.seg_store.proofs.Owning.{held_one}
+use Rattle.seg_store.proofs.Turning.{same_part}
 use Rattle.seg_store.proofs.Placing.{IsPlaced, each_object, placed_means, placed_sound, hand_means, hand_sound}
 
 -- the parts with a segment's own part set are the same
 pub part_again : (k : ℕ) (m : Meaning) → with_part k (m.part k) m ≡ m
-part_again k m = λ i. record { image = m.image; part = λ j. (elim (eqb_tells j k) as (λ q. cond (eqb j k) (m.part k) (m.part j) ≡ m.part j) [
-  | inl y ↦ cond-true (eqb j k) (m.part k) (m.part j) y.0 ∙ sym (ap m.part y.1)
-  | inr n ↦ cond-false (eqb j k) (m.part k) (m.part j) n.0
-]) i; segments = m.segments; limit = m.limit }
+part_again k m = λ i. record {
+  image = m.image;
+  part = λ j. (elim (eqb_tells j k) as (λ q. cond (eqb j k) (m.part k) (m.part j) ≡ m.part j) [
+    | inl y ↦ cond-true (eqb j k) (m.part k) (m.part j) y.0 ∙ sym (ap m.part y.1)
+    | inr n ↦ cond-false (eqb j k) (m.part k) (m.part j) n.0
+  ]) i;
+  segments = m.segments;
+  limit = m.limit;
+}
 
 pub hand_again : (k : ℕ) (h : Hand) (s : Hands) → s k ≡ Some h → with_hand k h s ≡ s
 hand_again k h s is = λ i j. (elim (eqb_tells j k) as (λ q. with_hand k h s j ≡ s j) [
@@ -53,7 +58,7 @@ own_by k r v = cond-true (eqb k k) (Some (held_by k r v)) None (same_number k)
 own_by_other : (j k : ℕ) (r : Rec) (v : Since) → j ≢ k → own j (Some (held_by k r v)) ≡ None
 own_by_other j k r v d = cond-false (eqb k j) (Some (held_by k r v)) None (other_number k j (λ e. d (sym e)))
 
-at_is : (h : Heap) (a : ℕ) (r : Rec) → h a ≡ Some r → at h a ≡ r
+pub at_is : (h : Heap) (a : ℕ) (r : Rec) → h a ≡ Some r → at h a ≡ r
 unfolding at
 at_is h a r e = ap (λ o. unwrap_or o blank) e
 
@@ -62,7 +67,7 @@ at_is h a r e = ap (λ o. unwrap_or o blank) e
 module _ (t : Objects) (s : Hands) (n k : ℕ) (g h : Hand) (is : s k ≡ Some g) (ec : h.changed ≡ g.changed) (em : h.made ≡ g.made) (ek : h.kept ≡ g.kept) where
   looks_part : part_in k t (Some h) ≡ record (part_in k t (s k)) { looked = marks_of h }
   looks_part = same_part _ _ (λ a. refl) (ap places ec ∙ sym (ap changed_in is)) (ap places em ∙ sym (ap made_in is)) (λ a. refl) (λ a. refl)
-    (ap (λ xs. places (take h.kept xs)) em ∙ ap (λ i. places (take i g.made)) ek ∙ sym (ap kept_in is))
+      (ap (λ xs. places (take h.kept xs)) em ∙ ap (λ i. places (take i g.made)) ek ∙ sym (ap kept_in is))
 
   pub mark_means : (a : ℕ) → marks_of h ≡ with_mark a (marks_of g) → meaning_in t (with_hand k h s) n ≡ after_mark k a (meaning_in t s n)
   mark_means a e = hand_means t s n k h ∙ ap (λ p. with_part k p (meaning_in t s n)) (looks_part ∙ ap (λ m. record (part_in k t (s k)) { looked = m }) (e ∙ ap (λ x. with_mark a (part_in k t x).looked) (sym is)))
@@ -94,7 +99,7 @@ lock_again t s n k a w e =
 
 -- the first lock of a record
 module _ (t : Objects) (s : Hands) (n k : ℕ) (a : Addr) (g h : Hand) (o : Object) (r : Rec) (w : IsSound t s n) (below : k < n) (is : s k ≡ Some g) (there : t a.0 ≡ Some o) (stands : o.committed ≡ Some r) (free : o.held ≡ None)
-  (ec : h.changed ≡ g.changed ++ a ∷ []) (em : h.made ≡ g.made) (ek : h.kept ≡ g.kept) (el : marks_of h ≡ with_mark a.0 (marks_of g)) where
+    (ec : h.changed ≡ g.changed ++ a ∷ []) (em : h.made ≡ g.made) (ek : h.kept ≡ g.kept) (el : marks_of h ≡ with_mark a.0 (marks_of g)) where
   abbrev locked_object : Object
   locked_object = record { committed = o.committed; held = Some (held_by k r Same) }
 
@@ -108,17 +113,17 @@ module _ (t : Objects) (s : Hands) (n k : ℕ) (a : Addr) (g h : Hand) (o : Obje
     others = λ j d. own_by_other j k r Same d ∙ sym (unheld j);
     locked = λ e. ap (λ x. is_some (before_of x)) (own_by k r Same) ∙ sym (ap is_some (own_by k r Same));
     changed = each_object (λ b x. mem b (places h.changed) ≡ is_changed k x) a.0 locked_object t
-      (ap (λ xs. mem a.0 (places xs)) ec ∙ ap (mem a.0) (places_last g.changed a) ∙ mem_last a.0 a.0 (places g.changed) ∙ ap (λ b. b || mem a.0 (places g.changed)) (same_number a.0)
+        (ap (λ xs. mem a.0 (places xs)) ec ∙ ap (mem a.0) (places_last g.changed a) ∙ mem_last a.0 a.0 (places g.changed) ∙ ap (λ b. b || mem a.0 (places g.changed)) (same_number a.0)
         ∙ sym (ap (λ x. is_some x && is_some o.committed) (own_by k r Same) ∙ ap is_some stands))
-      (λ b d. ap (λ xs. mem b (places xs)) ec ∙ ap (mem b) (places_last g.changed a) ∙ mem_last b a.0 (places g.changed) ∙ ap (λ x. x || mem b (places g.changed)) (other_number b a.0 d) ∙ sym (ap (λ x. mem b (changed_in x)) is) ∙ w.changed k b);
+        (λ b d. ap (λ xs. mem b (places xs)) ec ∙ ap (mem b) (places_last g.changed a) ∙ mem_last b a.0 (places g.changed) ∙ ap (λ x. x || mem b (places g.changed)) (other_number b a.0 d) ∙ sym (ap (λ x. mem b (changed_in x)) is) ∙ w.changed k b);
     made = each_object (λ b x. mem b (places h.made) ≡ is_made k x) a.0 locked_object t
-      (ap (λ xs. mem a.0 (places xs)) em ∙ sym (ap (λ x. mem a.0 (made_in x)) is) ∙ w.made k a.0 ∙ ap (λ x. is_some x && not (is_some (committed_in (t a.0)))) (unheld k)
+        (ap (λ xs. mem a.0 (places xs)) em ∙ sym (ap (λ x. mem a.0 (made_in x)) is) ∙ w.made k a.0 ∙ ap (λ x. is_some x && not (is_some (committed_in (t a.0)))) (unheld k)
         ∙ sym (ap (λ x. is_some x && not (is_some o.committed)) (own_by k r Same) ∙ ap (λ x. not (is_some x)) stands))
-      (λ b d. ap (λ xs. mem b (places xs)) em ∙ sym (ap (λ x. mem b (made_in x)) is) ∙ w.made k b);
+        (λ b d. ap (λ xs. mem b (places xs)) em ∙ sym (ap (λ x. mem b (made_in x)) is) ∙ w.made k b);
     kept = each_object (λ b x. mem b (places (take h.kept h.made)) ≡ is_kept k x) a.0 locked_object t
-      (kept_same a.0 ∙ w.kept k a.0 ∙ ap (λ x. is_some (before_of x) && not (is_some (committed_in (t a.0)))) (unheld k)
+        (kept_same a.0 ∙ w.kept k a.0 ∙ ap (λ x. is_some (before_of x) && not (is_some (committed_in (t a.0)))) (unheld k)
         ∙ sym (ap (λ x. is_some (before_of x) && not (is_some o.committed)) (own_by k r Same) ∙ ap (λ x. not (is_some x)) stands))
-      (λ b d. kept_same b ∙ w.kept k b);
+        (λ b d. kept_same b ∙ w.kept k b);
     front = subst (λ xs. h.kept ≤ length xs) (sym em) (subst (λ i. i ≤ length g.made) (sym ek) (w.front k g is));
     now = λ q e. w.good a.0 q (ap committed_in there ∙ stands ∙ sym (ap now_of (own_by k r Same)) ∙ e);
     before = λ q e. w.good a.0 q (ap committed_in there ∙ stands ∙ sym (ap before_of (own_by k r Same)) ∙ e);
@@ -129,12 +134,12 @@ module _ (t : Objects) (s : Hands) (n k : ℕ) (a : Addr) (g h : Hand) (o : Obje
 
   lock_part : part_in k (with_object a.0 locked_object t) (Some h) ≡ first_locked a.0 r (part_in k t (s k))
   lock_part = same_part _ _
-    (object_shows now_of k a.0 r locked_object t (ap now_of (own_by k r Same)))
-    (ap places ec ∙ places_last g.changed a ∙ ap (λ x. changed_in x ++ a.0 ∷ []) (sym is))
-    (ap places em ∙ sym (ap made_in is))
-    (λ b. ap (λ (f : ℕ → Bool). f b) el ∙ ap (λ x. with_mark a.0 (part_in k t x).looked b) (sym is))
-    (object_shows before_of k a.0 r locked_object t (ap before_of (own_by k r Same)))
-    (ap (λ xs. places (take h.kept xs)) em ∙ ap (λ i. places (take i g.made)) ek ∙ sym (ap kept_in is))
+      (object_shows now_of k a.0 r locked_object t (ap now_of (own_by k r Same)))
+      (ap places ec ∙ places_last g.changed a ∙ ap (λ x. changed_in x ++ a.0 ∷ []) (sym is))
+      (ap places em ∙ sym (ap made_in is))
+      (λ b. ap (λ (f : ℕ → Bool). f b) el ∙ ap (λ x. with_mark a.0 (part_in k t x).looked b) (sym is))
+      (object_shows before_of k a.0 r locked_object t (ap before_of (own_by k r Same)))
+      (ap (λ xs. places (take h.kept xs)) em ∙ ap (λ i. places (take i g.made)) ek ∙ sym (ap kept_in is))
 
   pub lock_means : meaning_in (with_object a.0 locked_object t) (with_hand k h s) n ≡ after_lock k a.0 (meaning_in t s n)
   lock_means =
@@ -143,7 +148,7 @@ module _ (t : Objects) (s : Hands) (n k : ℕ) (a : Addr) (g h : Hand) (o : Obje
       let unlocked : holds (m.part k) a.0 ≡ false = holds_is t s n w k a.0 ∙ ap is_some (unheld k) in
       placed_means t s n k a.0 locked_object h lock_placed
       ∙ ap (λ p. with_part k p m) (lock_part ∙ ap (λ q. first_locked a.0 q (part_in k t (s k))) (sym (at_is (sees m k) a.0 r sight))
-        ∙ sym (cond-false (holds (m.part k) a.0) (marked a.0 (m.part k)) (first_locked a.0 (at (sees m k) a.0) (m.part k)) unlocked))
+      ∙ sym (cond-false (holds (m.part k) a.0) (marked a.0 (m.part k)) (first_locked a.0 (at (sees m k) a.0) (m.part k)) unlocked))
 
   pub lock_sound : IsSound (with_object a.0 locked_object t) (with_hand k h s) n
   lock_sound = placed_sound t s n k a.0 locked_object h lock_placed w
@@ -197,14 +202,14 @@ module _ (t : Objects) (s : Hands) (n k a : ℕ) (g : Hand) (o : Object) (r : Re
     others = change_others;
     locked = λ e. ap is_some change_before ∙ w.locked a k (sym (ap is_some change_committed) ∙ e) ∙ sym change_some;
     changed = each_object (λ b x. mem b (places g.changed) ≡ is_changed k x) a changed_object t
-      (sym (ap (λ x. mem a (changed_in x)) is) ∙ w.changed k a ∙ sym (ap (λ x. x && is_some o.committed) change_some ∙ ap (λ c. is_some (held_in k (t a)) && is_some c) change_committed))
-      (λ b d. sym (ap (λ x. mem b (changed_in x)) is) ∙ w.changed k b);
+        (sym (ap (λ x. mem a (changed_in x)) is) ∙ w.changed k a ∙ sym (ap (λ x. x && is_some o.committed) change_some ∙ ap (λ c. is_some (held_in k (t a)) && is_some c) change_committed))
+        (λ b d. sym (ap (λ x. mem b (changed_in x)) is) ∙ w.changed k b);
     made = each_object (λ b x. mem b (places g.made) ≡ is_made k x) a changed_object t
-      (sym (ap (λ x. mem a (made_in x)) is) ∙ w.made k a ∙ sym (ap (λ x. x && not (is_some o.committed)) change_some ∙ ap (λ c. is_some (held_in k (t a)) && not (is_some c)) change_committed))
-      (λ b d. sym (ap (λ x. mem b (made_in x)) is) ∙ w.made k b);
+        (sym (ap (λ x. mem a (made_in x)) is) ∙ w.made k a ∙ sym (ap (λ x. x && not (is_some o.committed)) change_some ∙ ap (λ c. is_some (held_in k (t a)) && not (is_some c)) change_committed))
+        (λ b d. sym (ap (λ x. mem b (made_in x)) is) ∙ w.made k b);
     kept = each_object (λ b x. mem b (places (take g.kept g.made)) ≡ is_kept k x) a changed_object t
-      (sym (ap (λ x. mem a (kept_in x)) is) ∙ w.kept k a ∙ sym (ap (λ x. is_some x && not (is_some o.committed)) change_before ∙ ap (λ c. is_some (before_of (held_in k (t a))) && not (is_some c)) change_committed))
-      (λ b d. sym (ap (λ x. mem b (kept_in x)) is) ∙ w.kept k b);
+        (sym (ap (λ x. mem a (kept_in x)) is) ∙ w.kept k a ∙ sym (ap (λ x. is_some x && not (is_some o.committed)) change_before ∙ ap (λ c. is_some (before_of (held_in k (t a))) && not (is_some c)) change_committed))
+        (λ b d. sym (ap (λ x. mem b (kept_in x)) is) ∙ w.kept k b);
     front = w.front k g is;
     now = λ q e. let f : Some r ≡ Some q = sym (ap now_of (change_own k) ∙ now_replaced r (held_in k (t a)) held) ∙ e in let p : r ≡ q = cc in subst IsGood p good;
     before = λ q e. w.good_before a k q (sym change_before ∙ e);
@@ -212,10 +217,10 @@ module _ (t : Objects) (s : Hands) (n k a : ℕ) (g : Hand) (o : Object) (r : Re
 
   change_part : part_in k (with_object a changed_object t) (Some g) ≡ changed a r (part_in k t (s k))
   change_part = same_part _ _
-    (object_shows now_of k a r changed_object t (ap now_of (change_own k) ∙ now_replaced r (held_in k (t a)) held))
-    (sym (ap changed_in is)) (sym (ap made_in is)) (λ b. ap (λ x. (part_in k t x).looked b) (sym is))
-    (each_object (λ b x. before_of (held_in k x) ≡ before_of (held_in k (t b))) a changed_object t change_before (λ b d. refl))
-    (sym (ap kept_in is))
+      (object_shows now_of k a r changed_object t (ap now_of (change_own k) ∙ now_replaced r (held_in k (t a)) held))
+      (sym (ap changed_in is)) (sym (ap made_in is)) (λ b. ap (λ x. (part_in k t x).looked b) (sym is))
+      (each_object (λ b x. before_of (held_in k x) ≡ before_of (held_in k (t b))) a changed_object t change_before (λ b d. refl))
+      (sym (ap kept_in is))
 
   pub change_means : (f : Rec → Rec) → r ≡ f (at (sees (meaning_in t s n) k) a) → meaning_in (with_object a changed_object t) s n ≡ after_change k a f (meaning_in t s n)
   change_means f e =
@@ -239,14 +244,14 @@ module _ (t : Objects) (s : Hands) (n k a : ℕ) (g : Hand) (w : IsSound t s n) 
     others = λ j d. sym (ap (held_in j) free);
     locked = λ e. refl;
     changed = each_object (λ b x. mem b (places g.changed) ≡ is_changed k x) a blank_object t
-      (sym (ap (λ x. mem a (changed_in x)) is) ∙ w.changed k a ∙ ap (is_changed k) free)
-      (λ b d. sym (ap (λ x. mem b (changed_in x)) is) ∙ w.changed k b);
+        (sym (ap (λ x. mem a (changed_in x)) is) ∙ w.changed k a ∙ ap (is_changed k) free)
+        (λ b d. sym (ap (λ x. mem b (changed_in x)) is) ∙ w.changed k b);
     made = each_object (λ b x. mem b (places g.made) ≡ is_made k x) a blank_object t
-      (sym (ap (λ x. mem a (made_in x)) is) ∙ w.made k a ∙ ap (is_made k) free)
-      (λ b d. sym (ap (λ x. mem b (made_in x)) is) ∙ w.made k b);
+        (sym (ap (λ x. mem a (made_in x)) is) ∙ w.made k a ∙ ap (is_made k) free)
+        (λ b d. sym (ap (λ x. mem b (made_in x)) is) ∙ w.made k b);
     kept = each_object (λ b x. mem b (places (take g.kept g.made)) ≡ is_kept k x) a blank_object t
-      (sym (ap (λ x. mem a (kept_in x)) is) ∙ w.kept k a ∙ ap (is_kept k) free)
-      (λ b d. sym (ap (λ x. mem b (kept_in x)) is) ∙ w.kept k b);
+        (sym (ap (λ x. mem a (kept_in x)) is) ∙ w.kept k a ∙ ap (is_kept k) free)
+        (λ b d. sym (ap (λ x. mem b (kept_in x)) is) ∙ w.kept k b);
     front = w.front k g is;
     now = λ q e. cc;
     before = λ q e. cc;
@@ -257,10 +262,10 @@ module _ (t : Objects) (s : Hands) (n k a : ℕ) (g : Hand) (w : IsSound t s n) 
       ap (λ u. meaning_in (with_object a blank_object t) u n) (sym (hand_again k g s is))
       ∙ placed_means t s n k a blank_object g blank_placed
       ∙ ap (λ p. with_part k p (meaning_in t s n)) (same_part _ _
-        (each_object (λ b x. now_of (held_in k x) ≡ now_of (held_in k (t b))) a blank_object t (sym (ap (λ x. now_of (held_in k x)) free)) (λ b d. refl))
-        (sym (ap changed_in is)) (sym (ap made_in is)) (λ b. ap (λ x. (part_in k t x).looked b) (sym is))
-        (each_object (λ b x. before_of (held_in k x) ≡ before_of (held_in k (t b))) a blank_object t (sym (ap (λ x. before_of (held_in k x)) free)) (λ b d. refl))
-        (sym (ap kept_in is)))
+      (each_object (λ b x. now_of (held_in k x) ≡ now_of (held_in k (t b))) a blank_object t (sym (ap (λ x. now_of (held_in k x)) free)) (λ b d. refl))
+      (sym (ap changed_in is)) (sym (ap made_in is)) (λ b. ap (λ x. (part_in k t x).looked b) (sym is))
+      (each_object (λ b x. before_of (held_in k x) ≡ before_of (held_in k (t b))) a blank_object t (sym (ap (λ x. before_of (held_in k x)) free)) (λ b d. refl))
+      (sym (ap kept_in is)))
       ∙ part_again k (meaning_in t s n)
 
   pub blank_sound : IsSound (with_object a blank_object t) s n
@@ -269,7 +274,7 @@ module _ (t : Objects) (s : Hands) (n k a : ℕ) (g : Hand) (w : IsSound t s n) 
 -- ---- a record is made
 
 module _ (t : Objects) (s : Hands) (n k : ℕ) (a : Addr) (g h : Hand) (r : Rec) (w : IsSound t s n) (below : k < n) (is : s k ≡ Some g) (free : t a.0 ≡ Some blank_object) (good : IsGood r)
-  (ec : h.changed ≡ g.changed) (em : h.made ≡ g.made ++ a ∷ []) (ek : h.kept ≡ g.kept) (el : h.looked ≡ g.looked) where
+    (ec : h.changed ≡ g.changed) (em : h.made ≡ g.made ++ a ∷ []) (ek : h.kept ≡ g.kept) (el : h.looked ≡ g.looked) where
   abbrev made_object : Object
   made_object = record { committed = None; held = Some (held_by k r Made) }
 
@@ -286,14 +291,14 @@ module _ (t : Objects) (s : Hands) (n k : ℕ) (a : Addr) (g h : Hand) (r : Rec)
     others = λ j d. own_by_other j k r Made d ∙ sym (ap (held_in j) free);
     locked = λ e. cc;
     changed = each_object (λ b x. mem b (places h.changed) ≡ is_changed k x) a.0 made_object t
-      (ap (λ xs. mem a.0 (places xs)) ec ∙ sym (ap (λ x. mem a.0 (changed_in x)) is) ∙ w.changed k a.0 ∙ ap (is_changed k) free ∙ sym (ap (λ x. is_some x && false) (own_by k r Made)))
-      (λ b d. ap (λ xs. mem b (places xs)) ec ∙ sym (ap (λ x. mem b (changed_in x)) is) ∙ w.changed k b);
+        (ap (λ xs. mem a.0 (places xs)) ec ∙ sym (ap (λ x. mem a.0 (changed_in x)) is) ∙ w.changed k a.0 ∙ ap (is_changed k) free ∙ sym (ap (λ x. is_some x && false) (own_by k r Made)))
+        (λ b d. ap (λ xs. mem b (places xs)) ec ∙ sym (ap (λ x. mem b (changed_in x)) is) ∙ w.changed k b);
     made = each_object (λ b x. mem b (places h.made) ≡ is_made k x) a.0 made_object t
-      (ap (λ xs. mem a.0 (places xs)) em ∙ ap (mem a.0) (places_last g.made a) ∙ mem_last a.0 a.0 (places g.made) ∙ ap (λ b. b || mem a.0 (places g.made)) (same_number a.0) ∙ sym (ap (λ x. is_some x && true) (own_by k r Made)))
-      (λ b d. ap (λ xs. mem b (places xs)) em ∙ ap (mem b) (places_last g.made a) ∙ mem_last b a.0 (places g.made) ∙ ap (λ x. x || mem b (places g.made)) (other_number b a.0 d) ∙ sym (ap (λ x. mem b (made_in x)) is) ∙ w.made k b);
+        (ap (λ xs. mem a.0 (places xs)) em ∙ ap (mem a.0) (places_last g.made a) ∙ mem_last a.0 a.0 (places g.made) ∙ ap (λ b. b || mem a.0 (places g.made)) (same_number a.0) ∙ sym (ap (λ x. is_some x && true) (own_by k r Made)))
+        (λ b d. ap (λ xs. mem b (places xs)) em ∙ ap (mem b) (places_last g.made a) ∙ mem_last b a.0 (places g.made) ∙ ap (λ x. x || mem b (places g.made)) (other_number b a.0 d) ∙ sym (ap (λ x. mem b (made_in x)) is) ∙ w.made k b);
     kept = each_object (λ b x. mem b (places (take h.kept h.made)) ≡ is_kept k x) a.0 made_object t
-      (kept_front a.0 ∙ w.kept k a.0 ∙ ap (is_kept k) free ∙ sym (ap (λ x. is_some (before_of x) && true) (own_by k r Made)))
-      (λ b d. kept_front b ∙ w.kept k b);
+        (kept_front a.0 ∙ w.kept k a.0 ∙ ap (is_kept k) free ∙ sym (ap (λ x. is_some (before_of x) && true) (own_by k r Made)))
+        (λ b d. kept_front b ∙ w.kept k b);
     front = let l = w.front k g is in let e = length-append g.made (a ∷ []) in subst (λ xs. h.kept ≤ length xs) (sym em) (subst (λ i. i ≤ length (g.made ++ a ∷ [])) (sym ek) (omega arith));
     now = λ q e. let f : Some r ≡ Some q = sym (ap now_of (own_by k r Made)) ∙ e in let p : r ≡ q = cc in subst IsGood p good;
     before = λ q e. let f : before_of (Some (held_by k r Made)) ≡ Some q = sym (ap before_of (own_by k r Made)) ∙ e in cc;
@@ -303,12 +308,12 @@ module _ (t : Objects) (s : Hands) (n k : ℕ) (a : Addr) (g h : Hand) (r : Rec)
   make_means =
       placed_means t s n k a.0 made_object h make_placed
       ∙ ap (λ p. with_part k p (meaning_in t s n)) (same_part _ _
-        (object_shows now_of k a.0 r made_object t (ap now_of (own_by k r Made)))
-        (ap places ec ∙ sym (ap changed_in is))
-        (ap places em ∙ places_last g.made a ∙ ap (λ x. made_in x ++ a.0 ∷ []) (sym is))
-        (λ b. ap (λ xs. mem b (places xs)) el ∙ ap (λ x. (part_in k t x).looked b) (sym is))
-        (each_object (λ b x. before_of (held_in k x) ≡ before_of (held_in k (t b))) a.0 made_object t (ap before_of (own_by k r Made) ∙ sym (ap (λ x. before_of (held_in k x)) free)) (λ b d. refl))
-        (ap places kept_made ∙ sym (ap kept_in is)))
+      (object_shows now_of k a.0 r made_object t (ap now_of (own_by k r Made)))
+      (ap places ec ∙ sym (ap changed_in is))
+      (ap places em ∙ places_last g.made a ∙ ap (λ x. made_in x ++ a.0 ∷ []) (sym is))
+      (λ b. ap (λ xs. mem b (places xs)) el ∙ ap (λ x. (part_in k t x).looked b) (sym is))
+      (each_object (λ b x. before_of (held_in k x) ≡ before_of (held_in k (t b))) a.0 made_object t (ap before_of (own_by k r Made) ∙ sym (ap (λ x. before_of (held_in k x)) free)) (λ b d. refl))
+      (ap places kept_made ∙ sym (ap kept_in is)))
 
   pub make_sound : IsSound (with_object a.0 made_object t) (with_hand k h s) n
   make_sound = placed_sound t s n k a.0 made_object h make_placed w

@@ -1,20 +1,17 @@
 -- What always holds of a store of maps is what a store tells.
-use Rattle.std.proofs.Common.{◌≡◌, ◌≢◌, ℕ, ◌≤◌, Bool, true, false, cond, ◌||◌, ◌&&◌, not, List, [], ◌∷◌, ◌++◌, length, take, drop, map, Option, Some, None, is_some, refl, sym, ◌∙◌, ap, subst, arith, take-append-drop}
+use Rattle.std.proofs.Common.{◌≡◌, ℕ, Bool, true, false, ◌||◌, ◌&&◌, not, List, [], ◌∷◌, ◌++◌, take, drop, Option, Some, None, is_some, refl, sym, ◌∙◌, ap, arith, take-append-drop}
 use Rattle.std.proofs.lemmas.List.{map-append}
 use Rattle.py_data.specs.declared.value.Value.{Value}
 use Rattle.py_data.specs.declared.value.Kind.{Kind}
 use Rattle.py_data.specs.declared.value.Kind.TheVariants.{Str, Tuple, List as ListKind, Dict, Cell, Function, Class, Instance, Method, Iter, Range, Lock, Thread}
 use Rattle.py_data.specs.declared.value.Addr.{Addr}
 use Rattle.py_data.specs.Collection.{places}
-use Rattle.py_data.specs.Heap.{Rec, Heap, Has}
+use Rattle.py_data.specs.Heap.{Rec}
 use Rattle.py_data.specs.Sight.{mem}
-use Rattle.seg_store.specs.declared.object.Held.{Held}
-use Rattle.seg_store.specs.declared.object.Object.{Object}
 use Rattle.seg_store.specs.declared.hand.Hand.{Hand}
-use Rattle.seg_store.specs.Meaning.{Part, Meaning, holds}
-use Rattle.seg_store.specs.Store.{OneList, IsStored, AreStored, IsStore}
-use Rattle.seg_store.specs.Objects.{now_of, before_of}
-use Rattle.seg_store.specs.Tables.{Objects, Hands, committed_in, held_in, changed_in, made_in, kept_in, meaning_in, is_changed, is_made, is_kept, is_empty, one_list, IsGood, IsSound}
+use Rattle.seg_store.specs.Store.{OneList, IsStored, IsStore}
+use Rattle.seg_store.specs.Objects.{before_of}
+use Rattle.seg_store.specs.Tables.{Objects, Hands, committed_in, held_in, made_in, kept_in, meaning_in, is_changed, is_empty, one_list, IsGood, IsSound}
 use Rattle.seg_store.proofs.Owning.{held_one, some_now}
 use Rattle.seg_store.proofs.Calling.{holds_held}
 
@@ -69,7 +66,7 @@ is_store t s n w = record {
   room = omega arith;
   changes = λ j a. some_now (held_in j (t a)) ∙ sym (holds_held t s n w j a);
   kept = λ j a. kept_or (is_some (before_of (held_in j (t a)))) (is_some (held_in j (t a))) (is_some (committed_in (t a))) (w.locked a j)
-    ∙ sym (ap (λ b. b || mem a (kept_in (s j))) (w.changed j a) ∙ ap (λ b. is_changed j (t a) || b) (w.kept j a));
+      ∙ sym (ap (λ b. b || mem a (kept_in (s j))) (w.changed j a) ∙ ap (λ b. is_changed j (t a) || b) (w.kept j a));
   front = λ j. front_of (s j);
   locked = λ j a e. both_true (is_some (held_in j (t a))) (is_some (committed_in (t a))) (sym (w.changed j a) ∙ e);
   unused = λ j a e. none_from (is_some (held_in j (t a))) (committed_in (t a)) (sym (w.made j a) ∙ e);

@@ -1,12 +1,11 @@
 -- A store of maps: what it keeps of each address, and the lists of each segment. States `docs/HEAP.md`, "The store of maps".
-use Rattle.std.specs.Prelude.{◌≡◌, ℕ, ◌<◌, ◌≤◌, Bool, true, cond, not, ◌&&◌, eqb, List, [], ◌∷◌, ◌++◌, length, take, Option, Some, None, is_some, option_map}
-use Rattle.py_data.specs.declared.value.Addr.{Addr}
+use Rattle.std.specs.Prelude.{◌≡◌, ℕ, ◌<◌, ◌≤◌, Bool, true, cond, not, ◌&&◌, eqb, List, [], ◌∷◌, length, take, Option, Some, None, is_some, option_map}
 use Rattle.py_data.specs.declared.record.TheConstants.{LENGTH_LIMIT}
 use Rattle.py_data.specs.declared.value.Kind.{Kind}
 use Rattle.py_data.specs.declared.value.Kind.TheVariants.{Str}
 use Rattle.py_data.specs.declared.value.Value.{Value}
 use Rattle.py_data.specs.Collection.{places}
-use Rattle.py_data.specs.Heap.{Rec, Heap, Marks}
+use Rattle.py_data.specs.Heap.{Rec, Marks}
 use Rattle.py_data.specs.Sight.{mem}
 use Rattle.seg_store.specs.declared.object.Held.{Held}
 use Rattle.seg_store.specs.declared.object.Object.{Object}
@@ -15,8 +14,8 @@ use Rattle.seg_store.specs.declared.object.Turn.TheVariants.{Open, Undo, Publish
 use Rattle.seg_store.specs.declared.hand.Hand.{Hand}
 use Rattle.seg_store.specs.Meaning.{Part, Meaning}
 use Rattle.seg_store.specs.Calls.{after_open, after_undo, after_publish, after_drop}
-use Rattle.seg_store.specs.Objects.{own, now_of, before, before_of, turned}
-use Rattle.seg_store.specs.Hands.{turned_hand, marks_of}
+use Rattle.seg_store.specs.Objects.{own, now_of, before_of, turned}
+use Rattle.seg_store.specs.Hands.{marks_of}
 
 -- what is kept of each address, and of each segment
 abbrev pub Objects : Type 0

@@ -1,4 +1,4 @@
-use Rattle.std.proofs.Common.{rules, arith, length, ◌≡◌, ap, sym, ◌∙◌}
+use Rattle.std.proofs.Common.{arith}
 use Rattle.seg_store.specs.Objects.{turned}
 use Rattle.seg_store.proofs.Halves.{half-step, half-written, half-length}
 use Rattle.seg_store.proofs.plain.turn_objects.Goals as goal
