@@ -57,7 +57,7 @@ module _ (t : Objects) (s : Hands) (n k a : ℕ) (o : Object) (h : Hand) (p : Is
   ]
 
   pub placed_means : meaning_in (with_object a o t) (with_hand k h s) n ≡ with_part k (part_in k (with_object a o t) (Some h)) (meaning_in t s n)
-  placed_means = same_meaning _ t _ s n (with_part k (part_in k (with_object a o t) (Some h)) (meaning_in t s n)) refl refl committed_placed parts_placed
+  placed_means = same_meaning _ _ n (with_part k (part_in k (with_object a o t) (Some h)) (meaning_in t s n)) refl refl committed_placed parts_placed
 
   pub placed_sound : IsSound t s n → IsSound (with_object a o t) (with_hand k h s) n
   placed_sound w =
@@ -113,7 +113,7 @@ module _ (t : Objects) (s : Hands) (n k a : ℕ) (o : Object) (h : Hand) (p : Is
 -- ---- other lists of one segment, which name the same records
 
 pub hand_means : (t : Objects) (s : Hands) (n k : ℕ) (h : Hand) → meaning_in t (with_hand k h s) n ≡ with_part k (part_in k t (Some h)) (meaning_in t s n)
-hand_means t s n k h = same_meaning _ t _ s n (with_part k (part_in k t (Some h)) (meaning_in t s n)) refl refl (λ a. refl) (λ j. elim (eqb_tells j k) [
+hand_means t s n k h = same_meaning _ _ n (with_part k (part_in k t (Some h)) (meaning_in t s n)) refl refl (λ a. refl) (λ j. elim (eqb_tells j k) [
   | inl y ↦ ap (λ i. part_in i t (with_hand k h s i)) y.1 ∙ ap (part_in k t) (own_hand k h s) ∙ sym (cond-true (eqb j k) (part_in k t (Some h)) (part_in j t (s j)) y.0)
   | inr d ↦ ap (part_in j t) (other_hand k h s j d.1) ∙ sym (cond-false (eqb j k) (part_in k t (Some h)) (part_in j t (s j)) d.0)
 ])

@@ -247,7 +247,7 @@ module _ (t : Objects) (s : Hands) (n : ℕ) (free : (a : ℕ) → t a ≡ None)
   }
 
   pub new_means : meaning_in t s n ≡ empty_meaning n
-  new_means = same_meaning t t s s n (empty_meaning n) refl refl (λ a. ap committed_in (free a))
+  new_means = same_meaning t s n (empty_meaning n) refl refl (λ a. ap committed_in (free a))
       (λ j. same_part _ _ (λ a. ap (λ x. now_of (held_in j x)) (free a)) (empty_changed j) (empty_made j) (λ a. ap (λ (f : ℕ → Bool). f a) (empty_marks j)) (λ a. ap (λ x. before_of (held_in j x)) (free a)) (empty_kept j))
 
 pub new_leaves : (os : List Object) (hs : List Hand) (n : ℕ) → os ≡ [] → hs ≡ replicate n empty_hand → 1 ≤ n → n ≤ 8 → Leaves os hs (empty_meaning n)

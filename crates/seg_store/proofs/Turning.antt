@@ -20,9 +20,9 @@ use Rattle.seg_store.proofs.Sees.{same_number, other_number}
 use Rattle.seg_store.proofs.Owning.{after_own, held_own, held_other, committed_turned, committed_other, now_open, before_open, now_undo, before_undo, own_publish, own_drop, some_after, some_before, some_undo, before_after}
 
 -- meanings with the same image and the same parts
-pub same_meaning : (t1 t2 : Objects) (s1 s2 : Hands) (n : ℕ) (m : Meaning) → m.segments ≡ n → m.limit ≡ 18_446_744_073_709_551_615
-    → ((a : ℕ) → committed_in (t1 a) ≡ m.image a) → ((j : ℕ) → part_in j t1 (s1 j) ≡ m.part j) → meaning_in t1 s1 n ≡ m
-same_meaning t1 t2 s1 s2 n m e f p q = λ i. record { image = λ a. p a i; part = λ j. q j i; segments = sym e i; limit = sym f i }
+pub same_meaning : (t : Objects) (s : Hands) (n : ℕ) (m : Meaning) → m.segments ≡ n → m.limit ≡ 18_446_744_073_709_551_615
+    → ((a : ℕ) → committed_in (t a) ≡ m.image a) → ((j : ℕ) → part_in j t (s j) ≡ m.part j) → meaning_in t s n ≡ m
+same_meaning t s n m e f p q = λ i. record { image = λ a. p a i; part = λ j. q j i; segments = sym e i; limit = sym f i }
 
 pub own_hand : (k : ℕ) (h : Hand) (s : Hands) → with_hand k h s k ≡ Some h
 own_hand k h s = cond-true (eqb k k) (Some h) (s k) (same_number k)
@@ -82,10 +82,10 @@ parts_turned turn k t s n h is j = elim (eqb_tells j k) [
 
 pub turn_means : (turn : Turn) (k : ℕ) (t : Objects) (s : Hands) (n : ℕ) (h : Hand) → s k ≡ Some h
     → meaning_in (turned_objects turn k t) (with_hand k (turned_hand turn h) s) n ≡ after_turn turn k (meaning_in t s n)
-turn_means Open k t s n h is = same_meaning _ t _ s n (after_turn Open k (meaning_in t s n)) refl refl (image_turned Open k t s n) (parts_turned Open k t s n h is)
-turn_means Undo k t s n h is = same_meaning _ t _ s n (after_turn Undo k (meaning_in t s n)) refl refl (image_turned Undo k t s n) (parts_turned Undo k t s n h is)
-turn_means Publish k t s n h is = same_meaning _ t _ s n (after_turn Publish k (meaning_in t s n)) refl refl (image_turned Publish k t s n) (parts_turned Publish k t s n h is)
-turn_means Drop k t s n h is = same_meaning _ t _ s n (after_turn Drop k (meaning_in t s n)) refl refl (image_turned Drop k t s n) (parts_turned Drop k t s n h is)
+turn_means Open k t s n h is = same_meaning _ _ n (after_turn Open k (meaning_in t s n)) refl refl (image_turned Open k t s n) (parts_turned Open k t s n h is)
+turn_means Undo k t s n h is = same_meaning _ _ n (after_turn Undo k (meaning_in t s n)) refl refl (image_turned Undo k t s n) (parts_turned Undo k t s n h is)
+turn_means Publish k t s n h is = same_meaning _ _ n (after_turn Publish k (meaning_in t s n)) refl refl (image_turned Publish k t s n) (parts_turned Publish k t s n h is)
+turn_means Drop k t s n h is = same_meaning _ _ n (after_turn Drop k (meaning_in t s n)) refl refl (image_turned Drop k t s n) (parts_turned Drop k t s n h is)
 
 -- ---- what always holds
 
