@@ -3,3 +3,9 @@ pub mod Marking
 pub mod Owning
 pub mod Turning
 pub mod Placing
+pub mod Calling
+pub mod Slices
+pub mod Knowing
+pub mod Halves
+pub mod Goodness
+pub mod Stores

@@ -1,5 +1,5 @@
 -- What a segment holds of one address, after a turn of a segment.
-use Rattle.std.proofs.Common.{◌≡◌, ◌≢◌, ◌⊎◌, inl, inr, ℕ, Bool, true, false, cond, ◌||◌, ◌&&◌, not, eqb, Option, Some, None, is_some, option_map, refl, sym, ◌∙◌, ap, subst}
+use Rattle.std.proofs.Common.{◌≡◌, ◌≢◌, inl, inr, ℕ, Bool, true, false, cond, eqb, Option, Some, None, is_some, option_map, refl, sym, ◌∙◌, ap}
 use Rattle.std.proofs.lemmas.Bool.{cases_Bool, cond-true, cond-false}
 use Rattle.std.proofs.lemmas.Bool.Decides.{eqb_tells}
 use Rattle.py_data.specs.Heap.{Rec}
@@ -9,8 +9,7 @@ use Rattle.seg_store.specs.declared.object.Held.{Held}
 use Rattle.seg_store.specs.declared.object.Object.{Object}
 use Rattle.seg_store.specs.declared.object.Turn.{Turn}
 use Rattle.seg_store.specs.declared.object.Turn.TheVariants.{Open, Undo, Publish, Drop}
-use Rattle.seg_store.specs.Meaning.{over}
-use Rattle.seg_store.specs.Objects.{own, now_of, before, before_of, undone_by, undone, held_after, committed_after, at_own, turned}
+use Rattle.seg_store.specs.Objects.{own, now_of, before, before_of, undone_by, held_after, committed_after, at_own, turned}
 use Rattle.seg_store.specs.Tables.{committed_in, held_in}
 use Rattle.seg_store.proofs.Sees.{other_number}
 

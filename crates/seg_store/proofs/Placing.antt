@@ -1,19 +1,16 @@
 -- One address of a store of maps with another object, and one segment with other lists.
-use Rattle.std.proofs.Common.{◌≡◌, ◌≢◌, ◌⊎◌, inl, inr, ℕ, ◌<◌, ◌≤◌, zero, suc, Bool, true, false, cond, ◌||◌, ◌&&◌, not, eqb, List, [], ◌∷◌, ◌++◌, length, take, Option, Some, None, is_some, option_map, refl, sym, ◌∙◌, ap, subst, arith}
-use Rattle.std.proofs.lemmas.Bool.{cases_Bool, cond-true, cond-false}
+use Rattle.std.proofs.Common.{◌≡◌, ◌≢◌, inl, inr, ℕ, ◌<◌, ◌≤◌, true, cond, ◌&&◌, not, eqb, length, take, Option, Some, is_some, refl, sym, ◌∙◌, ap, subst}
+use Rattle.std.proofs.lemmas.Bool.{cond-true, cond-false}
 use Rattle.std.proofs.lemmas.Bool.Decides.{eqb_tells}
-use Rattle.py_data.specs.declared.value.Addr.{Addr}
 use Rattle.py_data.specs.Collection.{places}
-use Rattle.py_data.specs.Heap.{Rec, Heap, put_at}
+use Rattle.py_data.specs.Heap.{Rec}
 use Rattle.py_data.specs.Sight.{mem}
-use Rattle.seg_store.specs.declared.object.Held.{Held}
 use Rattle.seg_store.specs.declared.object.Object.{Object}
 use Rattle.seg_store.specs.declared.hand.Hand.{Hand}
-use Rattle.seg_store.specs.Meaning.{Part, Meaning, with_part}
+use Rattle.seg_store.specs.Meaning.{with_part}
 use Rattle.seg_store.specs.Objects.{own, now_of, before_of}
-use Rattle.seg_store.specs.Hands.{marks_of}
-use Rattle.seg_store.specs.Tables.{Objects, Hands, committed_in, held_in, changed_in, made_in, kept_in, marks_in, part_in, meaning_in, is_changed, is_made, is_kept, IsGood, IsSound, with_object, with_hand}
-use Rattle.seg_store.proofs.Sees.{same_heap, same_number, other_number}
+use Rattle.seg_store.specs.Tables.{Objects, Hands, committed_in, held_in, changed_in, made_in, kept_in, part_in, meaning_in, is_changed, is_made, is_kept, IsGood, IsSound, with_object, with_hand}
+use Rattle.seg_store.proofs.Sees.{same_number, other_number}
 use Rattle.seg_store.proofs.Turning.{same_meaning, same_part, own_hand, other_hand}
 
 -- a property of each address: of the one that is set, and of the others
@@ -53,20 +50,22 @@ module _ (t : Objects) (s : Hands) (n k a : ℕ) (o : Object) (h : Hand) (p : Is
   parts_placed : (j : ℕ) → part_in j (with_object a o t) (with_hand k h s j) ≡ cond (eqb j k) (part_in k (with_object a o t) (Some h)) (part_in j t (s j))
   parts_placed j = elim (eqb_tells j k) [
     | inl y ↦ ap (λ i. part_in i (with_object a o t) (with_hand k h s i)) y.1 ∙ ap (part_in k (with_object a o t)) (own_hand k h s)
-      ∙ sym (cond-true (eqb j k) (part_in k (with_object a o t) (Some h)) (part_in j t (s j)) y.0)
+        ∙ sym (cond-true (eqb j k) (part_in k (with_object a o t) (Some h)) (part_in j t (s j)) y.0)
     | inr d ↦ ap (part_in j (with_object a o t)) (other_hand k h s j d.1)
-      ∙ same_part _ _ (λ b. ap now_of (held_placed j d.1 b)) refl refl (λ b. refl) (λ b. ap before_of (held_placed j d.1 b)) refl
-      ∙ sym (cond-false (eqb j k) (part_in k (with_object a o t) (Some h)) (part_in j t (s j)) d.0)
+        ∙ same_part _ _ (λ b. ap now_of (held_placed j d.1 b)) refl refl (λ b. refl) (λ b. ap before_of (held_placed j d.1 b)) refl
+        ∙ sym (cond-false (eqb j k) (part_in k (with_object a o t) (Some h)) (part_in j t (s j)) d.0)
   ]
 
   pub placed_means : meaning_in (with_object a o t) (with_hand k h s) n ≡ with_part k (part_in k (with_object a o t) (Some h)) (meaning_in t s n)
-  placed_means = same_meaning _ t _ s n (with_part k (part_in k (with_object a o t) (Some h)) (meaning_in t s n)) refl refl committed_placed parts_placed
+  placed_means = same_meaning _ _ n (with_part k (part_in k (with_object a o t) (Some h)) (meaning_in t s n)) refl refl committed_placed parts_placed
 
   pub placed_sound : IsSound t s n → IsSound (with_object a o t) (with_hand k h s) n
   placed_sound w =
       let s1 = with_hand k h s in
       let t1 = with_object a o t in
       record {
+        some = w.some;
+        few = w.few;
         within = λ b j e. elim (eqb_tells j k) [
           | inl y ↦ subst (λ i. i < n) (sym y.1) p.below
           | inr d ↦ w.within b j (sym (ap is_some (held_placed j d.1 b)) ∙ e)
@@ -114,7 +113,7 @@ module _ (t : Objects) (s : Hands) (n k a : ℕ) (o : Object) (h : Hand) (p : Is
 -- ---- other lists of one segment, which name the same records
 
 pub hand_means : (t : Objects) (s : Hands) (n k : ℕ) (h : Hand) → meaning_in t (with_hand k h s) n ≡ with_part k (part_in k t (Some h)) (meaning_in t s n)
-hand_means t s n k h = same_meaning _ t _ s n (with_part k (part_in k t (Some h)) (meaning_in t s n)) refl refl (λ a. refl) (λ j. elim (eqb_tells j k) [
+hand_means t s n k h = same_meaning _ _ n (with_part k (part_in k t (Some h)) (meaning_in t s n)) refl refl (λ a. refl) (λ j. elim (eqb_tells j k) [
   | inl y ↦ ap (λ i. part_in i t (with_hand k h s i)) y.1 ∙ ap (part_in k t) (own_hand k h s) ∙ sym (cond-true (eqb j k) (part_in k t (Some h)) (part_in j t (s j)) y.0)
   | inr d ↦ ap (part_in j t) (other_hand k h s j d.1) ∙ sym (cond-false (eqb j k) (part_in k t (Some h)) (part_in j t (s j)) d.0)
 ])
@@ -123,6 +122,8 @@ pub hand_sound : (t : Objects) (s : Hands) (n k : ℕ) (g h : Hand) → s k ≡ 
 hand_sound t s n k g h is ec em ek w =
     let s1 = with_hand k h s in
     record {
+      some = w.some;
+      few = w.few;
       within = w.within;
       locked = w.locked;
       changed = λ j b. elim (eqb_tells j k) [
@@ -139,7 +140,7 @@ hand_sound t s n k g h is ec em ek w =
       ];
       front = λ j f e. elim (eqb_tells j k) [
         | inl y ↦ let q1 : Some h ≡ Some f = sym (own_hand k h s) ∙ sym (ap s1 y.1) ∙ e in let q : h ≡ f = cc in
-          subst (λ (f : Hand). f.kept ≤ length f.made) q (subst (λ xs. h.kept ≤ length xs) (sym em) (subst (λ i. i ≤ length g.made) (sym ek) (w.front k g is)))
+            subst (λ (f : Hand). f.kept ≤ length f.made) q (subst (λ xs. h.kept ≤ length xs) (sym em) (subst (λ i. i ≤ length g.made) (sym ek) (w.front k g is)))
         | inr d ↦ w.front j f (sym (other_hand k h s j d.1) ∙ e)
       ];
       good = w.good;

@@ -5,7 +5,7 @@ use Rattle.std.proofs.lemmas.Bool.Decides.{eqb_tells}
 use Rattle.py_data.specs.Heap.{Rec, Heap, Marks, Has, at, put_at, blank}
 use Rattle.py_data.specs.Sight.{mem}
 use Rattle.seg_store.specs.Meaning.{Part, Meaning, over, overlay, sees, saw, holds, with_part}
-use Rattle.seg_store.specs.Calls.{marked, first_locked, locked, changed, made, opened, undone, ended, after_lock, after_open, after_undo}
+use Rattle.seg_store.specs.Calls.{marked, first_locked, locked, changed, made, opened, undone, ended, after_lock, after_open, after_undo, after_drop}
 use Rattle.seg_store.specs.Store.{IsStore}
 use Rattle.seg_store.specs.Laws.{PartSet, LockShows, ChangeShows, MakeShows, StepShows, EndShows}
 
@@ -33,6 +33,13 @@ own_part k p m = cond-true (eqb k k) p (m.part k) (same_number k)
 
 pub other_part : (k : ℕ) (p : Part) (m : Meaning) (j : ℕ) → j ≢ k → (with_part k p m).part j ≡ m.part j
 other_part k p m j d = cond-false (eqb j k) p (m.part j) (other_number j k d)
+
+-- where a segment's changes were dropped, it has locked and made nothing
+pub dropped_changed : (k : ℕ) (m m1 : Meaning) → m1 ≡ after_drop k m → (m1.part k).changed ≡ []
+dropped_changed k m m1 e = ap (λ (n : Meaning). (n.part k).changed) e ∙ ap (λ (p : Part). p.changed) (own_part k (ended (m.part k)) m)
+
+pub dropped_made : (k : ℕ) (m m1 : Meaning) → m1 ≡ after_drop k m → (m1.part k).made ≡ []
+dropped_made k m m1 e = ap (λ (n : Meaning). (n.part k).made) e ∙ ap (λ (p : Part). p.made) (own_part k (ended (m.part k)) m)
 
 pub part_set : (k : ℕ) (p : Part) (m : Meaning) → PartSet k p m
 part_set k p m = record { own = own_part k p m; others = other_part k p m }

@@ -1,29 +1,28 @@
 -- A turn of a segment: what it makes of the meaning, and that what always holds still does.
-use Rattle.std.proofs.Common.{◌≡◌, ◌≢◌, ◌⊎◌, inl, inr, ℕ, ◌<◌, ◌≤◌, Bool, true, false, cond, ◌||◌, ◌&&◌, not, eqb, List, [], ◌∷◌, ◌++◌, length, take, Option, Some, None, is_some, option_map, refl, sym, ◌∙◌, ap, subst, arith, zero, suc, take_all}
+use Rattle.std.proofs.Common.{◌≡◌, ◌≢◌, inl, inr, ℕ, ◌≤◌, Bool, true, false, cond, ◌&&◌, not, eqb, List, [], ◌∷◌, length, take, Option, Some, None, is_some, option_map, refl, sym, ◌∙◌, ap, subst, arith, zero, suc, take_all}
 use Rattle.std.proofs.lemmas.List.{length-take}
-use Rattle.std.proofs.lemmas.Bool.{cases_Bool, cond-true, cond-false}
+use Rattle.std.proofs.lemmas.Bool.{cond-true, cond-false}
 use Rattle.std.proofs.lemmas.Bool.Decides.{eqb_tells}
-use Rattle.py_data.specs.declared.value.Addr.{Addr}
 use Rattle.py_data.specs.Collection.{places}
-use Rattle.py_data.specs.Heap.{Rec, Heap, no_records}
+use Rattle.py_data.specs.Heap.{Rec, Heap}
 use Rattle.py_data.specs.Sight.{mem}
 use Rattle.seg_store.specs.declared.object.Held.{Held}
 use Rattle.seg_store.specs.declared.object.Object.{Object}
 use Rattle.seg_store.specs.declared.object.Turn.{Turn}
 use Rattle.seg_store.specs.declared.object.Turn.TheVariants.{Open, Undo, Publish, Drop}
 use Rattle.seg_store.specs.declared.hand.Hand.{Hand}
-use Rattle.seg_store.specs.Meaning.{Part, Meaning, over, overlay, sees, with_part}
+use Rattle.seg_store.specs.Meaning.{Part, Meaning, over, sees}
 use Rattle.seg_store.specs.Calls.{opened, undone, ended}
 use Rattle.seg_store.specs.Objects.{now_of, before_of, committed_after, turned}
-use Rattle.seg_store.specs.Hands.{turned_hand, marks_of}
-use Rattle.seg_store.specs.Tables.{Objects, Hands, committed_in, held_in, changed_in, made_in, kept_in, marks_in, part_in, meaning_in, is_changed, is_made, is_kept, IsGood, IsSound, turned_objects, with_hand, after_turn}
-use Rattle.seg_store.proofs.Sees.{same_heap, same_number, other_number}
-use Rattle.seg_store.proofs.Owning.{after_own, held_own, held_other, committed_turned, committed_other, now_open, before_open, now_undo, before_undo, own_publish, own_drop, some_now, some_after, some_before, some_undo, before_after}
+use Rattle.seg_store.specs.Hands.{turned_hand}
+use Rattle.seg_store.specs.Tables.{Objects, Hands, committed_in, held_in, changed_in, made_in, kept_in, part_in, meaning_in, is_changed, is_made, is_kept, IsGood, IsSound, turned_objects, with_hand, after_turn}
+use Rattle.seg_store.proofs.Sees.{same_number, other_number}
+use Rattle.seg_store.proofs.Owning.{after_own, held_own, held_other, committed_turned, committed_other, now_open, before_open, now_undo, before_undo, own_publish, own_drop, some_after, some_before, some_undo, before_after}
 
 -- meanings with the same image and the same parts
-pub same_meaning : (t1 t2 : Objects) (s1 s2 : Hands) (n : ℕ) (m : Meaning) → m.segments ≡ n → m.limit ≡ 18_446_744_073_709_551_615
-    → ((a : ℕ) → committed_in (t1 a) ≡ m.image a) → ((j : ℕ) → part_in j t1 (s1 j) ≡ m.part j) → meaning_in t1 s1 n ≡ m
-same_meaning t1 t2 s1 s2 n m e f p q = λ i. record { image = λ a. p a i; part = λ j. q j i; segments = sym e i; limit = sym f i }
+pub same_meaning : (t : Objects) (s : Hands) (n : ℕ) (m : Meaning) → m.segments ≡ n → m.limit ≡ 18_446_744_073_709_551_615
+    → ((a : ℕ) → committed_in (t a) ≡ m.image a) → ((j : ℕ) → part_in j t (s j) ≡ m.part j) → meaning_in t s n ≡ m
+same_meaning t s n m e f p q = λ i. record { image = λ a. p a i; part = λ j. q j i; segments = sym e i; limit = sym f i }
 
 pub own_hand : (k : ℕ) (h : Hand) (s : Hands) → with_hand k h s k ≡ Some h
 own_hand k h s = cond-true (eqb k k) (Some h) (s k) (same_number k)
@@ -72,21 +71,21 @@ parts_turned : (turn : Turn) (k : ℕ) (t : Objects) (s : Hands) (n : ℕ) (h : 
     → (j : ℕ) → part_in j (turned_objects turn k t) (with_hand k (turned_hand turn h) s j) ≡ cond (eqb j k) (turned_part turn (part_in k t (s k))) (part_in j t (s j))
 parts_turned turn k t s n h is j = elim (eqb_tells j k) [
   | inl y ↦ ap (λ i. part_in i (turned_objects turn k t) (with_hand k (turned_hand turn h) s i)) y.1
-    ∙ ap (part_in k (turned_objects turn k t)) (own_hand k (turned_hand turn h) s)
-    ∙ own_part_in turn k t h
-    ∙ ap (λ x. turned_part turn (part_in k t x)) (sym is)
-    ∙ sym (cond-true (eqb j k) (turned_part turn (part_in k t (s k))) (part_in j t (s j)) y.0)
+      ∙ ap (part_in k (turned_objects turn k t)) (own_hand k (turned_hand turn h) s)
+      ∙ own_part_in turn k t h
+      ∙ ap (λ x. turned_part turn (part_in k t x)) (sym is)
+      ∙ sym (cond-true (eqb j k) (turned_part turn (part_in k t (s k))) (part_in j t (s j)) y.0)
   | inr n ↦ ap (part_in j (turned_objects turn k t)) (other_hand k (turned_hand turn h) s j n.1)
-    ∙ other_part_in turn j k t (s j) n.1
-    ∙ sym (cond-false (eqb j k) (turned_part turn (part_in k t (s k))) (part_in j t (s j)) n.0)
+      ∙ other_part_in turn j k t (s j) n.1
+      ∙ sym (cond-false (eqb j k) (turned_part turn (part_in k t (s k))) (part_in j t (s j)) n.0)
 ]
 
 pub turn_means : (turn : Turn) (k : ℕ) (t : Objects) (s : Hands) (n : ℕ) (h : Hand) → s k ≡ Some h
     → meaning_in (turned_objects turn k t) (with_hand k (turned_hand turn h) s) n ≡ after_turn turn k (meaning_in t s n)
-turn_means Open k t s n h is = same_meaning _ t _ s n (after_turn Open k (meaning_in t s n)) refl refl (image_turned Open k t s n) (parts_turned Open k t s n h is)
-turn_means Undo k t s n h is = same_meaning _ t _ s n (after_turn Undo k (meaning_in t s n)) refl refl (image_turned Undo k t s n) (parts_turned Undo k t s n h is)
-turn_means Publish k t s n h is = same_meaning _ t _ s n (after_turn Publish k (meaning_in t s n)) refl refl (image_turned Publish k t s n) (parts_turned Publish k t s n h is)
-turn_means Drop k t s n h is = same_meaning _ t _ s n (after_turn Drop k (meaning_in t s n)) refl refl (image_turned Drop k t s n) (parts_turned Drop k t s n h is)
+turn_means Open k t s n h is = same_meaning _ _ n (after_turn Open k (meaning_in t s n)) refl refl (image_turned Open k t s n) (parts_turned Open k t s n h is)
+turn_means Undo k t s n h is = same_meaning _ _ n (after_turn Undo k (meaning_in t s n)) refl refl (image_turned Undo k t s n) (parts_turned Undo k t s n h is)
+turn_means Publish k t s n h is = same_meaning _ _ n (after_turn Publish k (meaning_in t s n)) refl refl (image_turned Publish k t s n) (parts_turned Publish k t s n h is)
+turn_means Drop k t s n h is = same_meaning _ _ n (after_turn Drop k (meaning_in t s n)) refl refl (image_turned Drop k t s n) (parts_turned Drop k t s n h is)
 
 -- ---- what always holds
 
@@ -198,15 +197,17 @@ turn_sound turn k t s n h w is =
     let s1 = with_hand k (turned_hand turn h) s in
     let t1 = turned_objects turn k t in
     record {
+      some = w.some;
+      few = w.few;
       within = λ a j e. elim (eqb_tells j k) [
         | inl y ↦ w.within a j (ap (λ i. is_some (held_in i (t a))) y.1 ∙ some_after turn (held_in k (t a)) (sym (ap is_some (held_own turn k (t a))) ∙ sym (ap (λ i. is_some (held_in i (t1 a))) y.1) ∙ e))
         | inr d ↦ w.within a j (sym (ap is_some (held_other turn j k (t a) d.1)) ∙ e)
       ];
       locked = λ a j e. elim (eqb_tells j k) [
         | inl y ↦ ap (λ i. is_some (before_of (held_in i (t1 a)))) y.1 ∙ ap (λ g. is_some (before_of g)) (held_own turn k (t a)) ∙ before_after turn (held_in k (t a))
-          ∙ sym (ap is_some (held_own turn k (t a))) ∙ sym (ap (λ i. is_some (held_in i (t1 a))) y.1)
+            ∙ sym (ap is_some (held_own turn k (t a))) ∙ sym (ap (λ i. is_some (held_in i (t1 a))) y.1)
         | inr d ↦ ap (λ g. is_some (before_of g)) (held_other turn j k (t a) d.1)
-          ∙ held_or (held_in j (t a)) (λ f. w.locked a j (sym (ap is_some (committed_other turn j k (t a) d.1 f)) ∙ e)) ∙ sym (ap is_some (held_other turn j k (t a) d.1))
+            ∙ held_or (held_in j (t a)) (λ f. w.locked a j (sym (ap is_some (committed_other turn j k (t a) d.1 f)) ∙ e)) ∙ sym (ap is_some (held_other turn j k (t a) d.1))
       ];
       changed = λ j a. elim (eqb_tells j k) [
         | inl y ↦ ap (λ i. mem a (changed_in (s1 i))) y.1 ∙ ap (λ x. mem a (changed_in x)) (own_hand k (turned_hand turn h) s) ∙ own_changed turn k t s n h w is a ∙ sym (ap (λ i. is_changed i (t1 a)) y.1)
@@ -222,7 +223,7 @@ turn_sound turn k t s n h w is =
       ];
       front = λ j g e. elim (eqb_tells j k) [
         | inl y ↦ let f : Some (turned_hand turn h) ≡ Some g = sym (own_hand k (turned_hand turn h) s) ∙ sym (ap s1 y.1) ∙ e in
-          let q : turned_hand turn h ≡ g = cc in subst (λ (g : Hand). g.kept ≤ length g.made) q (own_front turn h (w.front k h is))
+            let q : turned_hand turn h ≡ g = cc in subst (λ (g : Hand). g.kept ≤ length g.made) q (own_front turn h (w.front k h is))
         | inr d ↦ w.front j g (sym (other_hand k (turned_hand turn h) s j d.1) ∙ e)
       ];
       good = λ a r e. good_after turn k t s n w a r (sym (committed_turned turn k (t a)) ∙ e);

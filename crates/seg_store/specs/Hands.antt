@@ -1,5 +1,5 @@
 -- The lists of one segment of a store of maps. States `docs/HEAP.md`, "The store of maps".
-use Rattle.std.specs.Prelude.{ℕ, List, [], length, take, Option, Some, None}
+use Rattle.std.specs.Prelude.{[], length, take}
 use Rattle.py_data.specs.Collection.{places}
 use Rattle.py_data.specs.Heap.{Marks}
 use Rattle.py_data.specs.Sight.{mem}

@@ -5,3 +5,4 @@ pub mod Laws
 pub mod Objects
 pub mod Hands
 pub mod Tables
+pub mod Plain

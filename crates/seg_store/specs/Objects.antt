@@ -1,5 +1,5 @@
 -- What a store of maps keeps of one address. States `docs/HEAP.md`, "The store of maps".
-use Rattle.std.specs.Prelude.{ℕ, Bool, cond, eqb, Option, Some, None}
+use Rattle.std.specs.Prelude.{ℕ, cond, eqb, Option, Some, None}
 use Rattle.py_data.specs.Heap.{Rec}
 use Rattle.seg_store.specs.declared.object.Since.{Since}
 use Rattle.seg_store.specs.declared.object.Since.TheVariants.{Made, Same, Was}

@@ -1,12 +1,11 @@
 -- A store of maps: what it keeps of each address, and the lists of each segment. States `docs/HEAP.md`, "The store of maps".
-use Rattle.std.specs.Prelude.{◌≡◌, ℕ, ◌<◌, ◌≤◌, Bool, true, cond, not, ◌&&◌, eqb, List, [], ◌∷◌, ◌++◌, length, take, Option, Some, None, is_some, option_map}
-use Rattle.py_data.specs.declared.value.Addr.{Addr}
+use Rattle.std.specs.Prelude.{◌≡◌, ℕ, ◌<◌, ◌≤◌, Bool, true, false, cond, not, ◌&&◌, eqb, List, [], ◌∷◌, length, take, Option, Some, None, is_some, option_map}
 use Rattle.py_data.specs.declared.record.TheConstants.{LENGTH_LIMIT}
 use Rattle.py_data.specs.declared.value.Kind.{Kind}
 use Rattle.py_data.specs.declared.value.Kind.TheVariants.{Str}
 use Rattle.py_data.specs.declared.value.Value.{Value}
 use Rattle.py_data.specs.Collection.{places}
-use Rattle.py_data.specs.Heap.{Rec, Heap, Marks}
+use Rattle.py_data.specs.Heap.{Rec, Marks}
 use Rattle.py_data.specs.Sight.{mem}
 use Rattle.seg_store.specs.declared.object.Held.{Held}
 use Rattle.seg_store.specs.declared.object.Object.{Object}
@@ -15,8 +14,8 @@ use Rattle.seg_store.specs.declared.object.Turn.TheVariants.{Open, Undo, Publish
 use Rattle.seg_store.specs.declared.hand.Hand.{Hand}
 use Rattle.seg_store.specs.Meaning.{Part, Meaning}
 use Rattle.seg_store.specs.Calls.{after_open, after_undo, after_publish, after_drop}
-use Rattle.seg_store.specs.Objects.{own, now_of, before, before_of, turned}
-use Rattle.seg_store.specs.Hands.{turned_hand, marks_of}
+use Rattle.seg_store.specs.Objects.{own, now_of, before_of, turned}
+use Rattle.seg_store.specs.Hands.{marks_of}
 
 -- what is kept of each address, and of each segment
 abbrev pub Objects : Type 0
@@ -75,21 +74,27 @@ is_made k x = is_some (held_in k x) && not (is_some (committed_in x))
 abbrev pub is_kept : ℕ → Option Object → Bool
 is_kept k x = is_some (before_of (held_in k x)) && not (is_some (committed_in x))
 
--- a Str has bytes alone, and a record of another kind values alone
+-- a list without elements
 abbrev pub is_empty : {T : Type 0} → List T → Bool
 is_empty [] = true
-is_empty (x ∷ xs) = not true
+is_empty (x ∷ xs) = false
 
+-- a Str has bytes alone, and a record of another kind values alone
 abbrev pub one_list : Kind → List Value → List ℕ → Bool
 one_list Str vs bs = is_empty vs
 one_list _ vs bs = is_empty bs
 
+-- a record of the store: within the limit of length, with one list
 pub record IsGood (r : Rec) : Type 0 where
   pub values : length r.values ≤ LENGTH_LIMIT
   pub bytes : length r.bytes ≤ LENGTH_LIMIT
   pub one : one_list r.kind r.values r.bytes ≡ true
 
+-- The lists of each segment name what the objects say that it holds. A record of the image that is held was there when the
+-- step began.
 pub record IsSound (t : Objects) (s : Hands) (n : ℕ) : Type 0 where
+  pub some : 1 ≤ n
+  pub few : n ≤ 8
   pub within : (a : ℕ) (k : ℕ) → is_some (held_in k (t a)) ≡ true → k < n
   pub locked : (a k : ℕ) → is_some (committed_in (t a)) ≡ true → is_some (before_of (held_in k (t a))) ≡ is_some (held_in k (t a))
   pub changed : (k a : ℕ) → mem a (changed_in (s k)) ≡ is_changed k (t a)

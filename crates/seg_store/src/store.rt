@@ -83,18 +83,20 @@ pub trait SegStore: Peek {
         ensures meaning { meaning self.new ≡ after_begin k (meaning self.old) }
         ensures reserved { reserved self.new ≡ reserved self.old };
 
+    /// The kind of a record that the segment sees.
     fn kind(&self, k: u8, a: Addr) -> Kind
         requires segment { k < (meaning self.now).segments }
         requires there { Has (sees (meaning self.now) k) a.0 }
         ensures { result ≡ (at (sees (meaning self.now) k) a.0).kind };
 
-    /// The count of a record's values; of a Str that of its bytes.
+    /// The count of a record's values; of a Str that of its bytes. It is at most `LENGTH_LIMIT`.
     fn len(&self, k: u8, a: Addr) -> usize
         requires segment { k < (meaning self.now).segments }
         requires there { Has (sees (meaning self.now) k) a.0 }
         ensures length { result ≡ length_of (at (sees (meaning self.now) k) a.0) }
         ensures fits { result ≤ LENGTH_LIMIT };
 
+    /// The value at a place of a record, from 0.
     fn val(&self, k: u8, a: Addr, i: usize) -> Value
         requires segment { k < (meaning self.now).segments }
         requires there { HasPlace (sees (meaning self.now) k) a.0 i }
