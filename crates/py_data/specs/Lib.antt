@@ -3,6 +3,7 @@ pub mod Collection
 pub mod Heap
 pub mod Shape
 pub mod Made
+pub mod Fault
 pub mod Row
 pub mod Sense
 pub mod Rest

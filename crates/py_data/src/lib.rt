@@ -4,6 +4,7 @@
 pub mod arithmetic;
 mod collection;
 mod entry;
+pub mod exception;
 mod laws;
 mod record;
 mod refusal;
