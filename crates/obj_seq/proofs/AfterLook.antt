@@ -1,5 +1,5 @@
 -- A row that looks at a record, then does what the record says, and answers.
-use Rattle.std.proofs.Common.{◌≡◌, ℕ, Bool, Ok, Err, refl, sym, ap, subst, ◌∙◌}
+use Rattle.std.proofs.Common.{◌≡◌, ℕ, Ok, Err, sym, ap, subst, ◌∙◌}
 use Rattle.py_data.specs.declared.stop.Stop.{Stop}
 use Rattle.py_data.specs.Heap.{Rec, at}
 use Rattle.py_data.specs.Row.{Row, Ret, Do, Read, bind}

@@ -1,11 +1,11 @@
 -- The loops that close and open a gap in a list.
-use Rattle.std.proofs.Common.{◌≡◌, ℕ, ◌+◌, ◌<◌, ◌≤◌, List, ◌∷◌, drop, sym, subst, Result, Ok, Err, arith}
+use Rattle.std.proofs.Common.{◌≡◌, ℕ, ◌+◌, ◌<◌, ◌≤◌, List, drop, sym, subst, Result, Ok, Err, arith}
 use Rattle.py_data.specs.declared.value.Value.{Value}
 use Rattle.py_data.specs.declared.stop.Stop.{Stop}
 use Rattle.py_data.specs.Heap.{Rec, at, value_at}
-use Rattle.py_data.specs.Row.{Call, Reply, Row, Ret, Do, Read, SetVal, Push, Truncate}
+use Rattle.py_data.specs.Row.{Row, Ret, Do, Read, SetVal, Push, Truncate}
 use Rattle.py_data.specs.Sense.{Sense, Lawful, Meets, Answers}
-use Rattle.py_data.specs.Rest.{Leads, Stands}
+use Rattle.py_data.specs.Rest.{Leads}
 use Rattle.py_data.proofs.Steps.{leads-do, leads-ret, leads-refused}
 use Rattle.obj_seq.specs.Seq.{gap_row, shift_row}
 use Rattle.obj_seq.proofs.Tail.{Tail, tail-looked, tail-value, tail-end, tail-set}

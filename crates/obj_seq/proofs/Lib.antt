@@ -5,3 +5,6 @@ pub mod CollectLoop
 pub mod AfterLook
 pub mod PartSteps
 pub mod ReverseLoop
+pub mod Forms
+pub mod IterSteps
+pub mod RangeItems

@@ -7,7 +7,7 @@ use Rattle.py_data.specs.declared.value.Kind.{Kind}
 use Rattle.py_data.specs.declared.record.Got.TheVariants.{Is}
 use Rattle.py_data.specs.declared.record.TheConstants.{LENGTH_LIMIT}
 use Rattle.py_data.specs.Heap.{Rec, value_at, new_rec}
-use Rattle.py_data.specs.Row.{Row, Ret, bind}
+use Rattle.py_data.specs.Row.{Ret, bind}
 use Rattle.obj_seq.specs.Seq.{place, bound, bound_or, part, if_place, gap_row, shift_row, pop_at, insert_at}
 
 pub at-place : {A : Type 0} (o : Option ℕ) (k : ℕ) (f : ℕ → A) (z : A) → o ≡ Some k → if_place o f z ≡ f k

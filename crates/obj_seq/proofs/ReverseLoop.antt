@@ -1,11 +1,11 @@
 -- The loop that turns a list round.
-use Rattle.std.proofs.Common.{◌≡◌, ℕ, ◌+◌, ◌-◌, ◌<◌, ◌≤◌, List, [], ◌∷◌, length, drop, take, reverse, get_or, Ok, refl, sym, ap, subst, ◌∙◌, arith}
+use Rattle.std.proofs.Common.{◌≡◌, ℕ, ◌+◌, ◌-◌, ◌<◌, ◌≤◌, List, [], ◌∷◌, length, drop, reverse, get_or, Ok, refl, sym, ap, subst, ◌∙◌, arith}
 use Rattle.std.proofs.Math.ListN.{drop_of_length-le}
 use Rattle.std.proofs.lemmas.List.{get_or-reverse, length-reverse, take_all}
 use Rattle.py_data.specs.declared.value.Value.{Value}
 use Rattle.py_data.specs.declared.value.Value.TheVariants.{Unset}
 use Rattle.py_data.specs.Heap.{at}
-use Rattle.py_data.specs.Row.{Row, Ret, Do, Read, SetVal}
+use Rattle.py_data.specs.Row.{Ret, Do, Read, SetVal}
 use Rattle.py_data.specs.Sense.{Sense, Lawful, Safe, Meets, IsLive}
 use Rattle.py_data.specs.Rest.{Leads}
 use Rattle.py_data.proofs.Steps.{leads-do, leads-ret}

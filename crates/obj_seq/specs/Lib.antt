@@ -1,1 +1,3 @@
 pub mod Seq
+pub mod Range
+pub mod Iter

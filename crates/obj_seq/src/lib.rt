@@ -1,9 +1,15 @@
 //! Lists and tuples over any view.
 #![tactic(auto)]
 
+mod advance;
 mod change;
+mod iter;
 mod look;
 mod place;
+mod range;
 
+pub use advance::next;
 pub use change::{del_item, insert, pop, reverse, set_item};
+pub use iter::make_iter;
 pub use look::{item, slice};
+pub use range::{range_item, range_length};
