@@ -8,3 +8,4 @@ pub mod ReverseLoop
 pub mod Forms
 pub mod IterSteps
 pub mod RangeItems
+pub mod Leaving

@@ -1,3 +1,4 @@
 pub mod Seq
 pub mod Range
 pub mod Iter
+pub mod Laws

@@ -1,0 +1,21 @@
+//! What the operations on lists leave, as laws over each view: a call of such a function does nothing, and gives its
+//! caller's proof the facts of its clauses.
+ghost use Rattle.obj_seq.specs.Laws.{PopLaw, DelLaw, InsertLaw, ReverseLaw};
+
+use py_data::View;
+
+/// An item that is taken out leaves the others in their order, and `pop` answers it.
+pub fn pop_law<S, V: View<S>>()
+    ensures pop { PopLaw V.sense }
+    ensures del { DelLaw V.sense }
+{}
+
+/// A value that is inserted stands between the items before its place and those from there on.
+pub fn insert_law<S, V: View<S>>()
+    ensures { InsertLaw V.sense }
+{}
+
+/// `reverse` leaves the items in the opposite order.
+pub fn reverse_law<S, V: View<S>>()
+    ensures { ReverseLaw V.sense }
+{}
