@@ -1,0 +1,6 @@
+//! Dictionaries over any view.
+#![tactic(auto)]
+
+mod pair;
+
+pub use pair::{del, get, set};
