@@ -1,1 +1,2 @@
 pub mod FindSteps
+pub mod Halves

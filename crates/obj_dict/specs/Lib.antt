@@ -1,1 +1,2 @@
 pub mod Dict
+pub mod Listing
