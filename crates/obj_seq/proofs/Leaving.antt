@@ -8,20 +8,20 @@ use Rattle.py_data.specs.declared.value.Value.{Value}
 use Rattle.py_data.specs.declared.record.Fault.{Fault}
 use Rattle.py_data.specs.declared.record.Got.{Got}
 use Rattle.py_data.specs.declared.record.Got.TheVariants.{Is, Raise}
-use Rattle.py_data.specs.Heap.{Heap, Rec, at, value_at, with_value, with_push, cut_to}
-use Rattle.py_data.specs.Row.{Row, Ret, Read, SetVal, Push, Truncate, bind}
+use Rattle.py_data.specs.Heap.{Heap, Rec, at, put_at, value_at, new_rec, with_value, with_push, cut_to}
+use Rattle.py_data.specs.Row.{Row, Ret, Read, SetVal, Push, Truncate, Make, bind}
 use Rattle.py_data.specs.Sense.{Sense, Lawful, Edits, Run}
 use Rattle.py_data.proofs.Rows.{bind-run}
 use Rattle.py_data.proofs.Steps.{at-is, put-here}
-use Rattle.obj_seq.specs.Seq.{place, if_place, bound, put_row, gap_row, shift_row, del_item_at, pop_at, insert_at}
-use Rattle.obj_seq.specs.Laws.{Leaves, PopLaw, DelLaw, InsertLaw, ReverseLaw}
+use Rattle.obj_seq.specs.Seq.{place, if_place, bound, put_row, gap_row, shift_row, del_item_at, pop_at, insert_at, slice_at, bound_or, part}
+use Rattle.obj_seq.specs.Laws.{Leaves, PopLaw, DelLaw, InsertLaw, ReverseLaw, SliceLaw}
 
 -- one change of a record
 pub record Changed (a : ℕ) (r : Rec) (h h1 : Heap) : Type 0 where
   pub is : h1 a ≡ Some r
   pub others : (b : ℕ) → b ≢ a → h1 b ≡ h b
 
-changed : (a : ℕ) (f : Rec → Rec) (r : Rec) (h h1 : Heap) → h a ≡ Some r → Edits a f h h1 → Changed a (f r) h h1
+pub changed : (a : ℕ) (f : Rec → Rec) (r : Rec) (h h1 : Heap) → h a ≡ Some r → Edits a f h h1 → Changed a (f r) h h1
 changed a f r h h1 e d = record {
   is = ap (λ g. g a) d.1 ∙ put-here h a (f (at h a)) ∙ ap (λ q. Some (f q)) (at-is h a r e);
   others = λ b n. ap (λ g. g b) d.1 ∙ cond-false (eqb b a) (Some (f (at h a))) (h b) (ne_eqb b a n);
@@ -44,11 +44,11 @@ some-behind xs ys k y e = omega (arith, length-drop k xs, ap length e)
 behind : (xs ys : List Value) (k : ℕ) (x y : Value) → drop (k + 1) xs ≡ y ∷ ys → drop (k + 1 + 1) (set xs k x) ≡ ys
 behind xs ys k x y e = drop-set-lt (k + 1 + 1) xs k x (omega arith) ∙ sym (drop-drop 1 (k + 1) xs) ∙ ap (drop 1) e
 
-place-within : (i : ℤ) (n k : ℕ) → place i n ≡ Some k → k < n
+pub place-within : (i : ℤ) (n k : ℕ) → place i n ≡ Some k → k < n
 place-within (pos m) n k e = elim (cases_lt m n) [ inl l ↦ grind (arith, nat_tests) | inr l ↦ grind (arith, nat_tests) ]
 place-within (negsuc m) n k e = elim (cases_lt m n) [ inl l ↦ grind (arith, nat_tests) | inr l ↦ grind (arith, nat_tests) ]
 
-bound-within : (i : ℤ) (n : ℕ) → bound i n ≤ n
+pub bound-within : (i : ℤ) (n : ℕ) → bound i n ≤ n
 bound-within (pos m) n = omega arith
 bound-within (negsuc m) n = omega arith
 
@@ -166,3 +166,18 @@ module _ {S X : Type 0} {u : Sense S X} (L : Lawful u) where
       let d1 = subst (λ q. Run u (put_row a 0 (reverse q.values)) d.1 tt w) q.0 d.3 in
       let l = put-leaves L a 0 (reverse r.values) r d.1 w (ap (λ h. h a) q.1 ∙ e) (omega (arith, length-reverse r.values)) d1 in
       subst (λ h. Leaves a r (reverse r.values) h (u.heap w)) q.1 l
+
+  pub slice-law : SliceLaw u
+  unfolding Run
+  slice-law a from to r v w x e d =
+      let q = looked-is L a r d.0 v d.1 e d.2 in
+      let d1 = subst (λ q. Run u (slice_at from to q) d.1 (Is x) w) q.0 d.3 in
+      let made = new_rec r.kind (part r.values (bound_or from 0 (length r.values)) (bound_or to (length r.values) (length r.values))) [] in
+      let f = L.effect (Make made) d.1 d1.0 d1.1 d1.2 in
+      let last : u.heap w ≡ put_at (u.heap v) d1.0 made = ap u.heap d1.3.1 ∙ f.1 ∙ ap (λ h. put_at h d1.0 made) q.1 in (
+        d1.0,
+        (let g = d1.3.0 in cc),
+        ap (λ h. h d1.0) (sym q.1) ∙ f.0,
+        ap (λ h. h d1.0) last ∙ put-here (u.heap v) d1.0 made,
+        λ c n. ap (λ h. h c) last ∙ cond-false (eqb c d1.0) (Some made) (u.heap v c) (ne_eqb c d1.0 n),
+      )

@@ -9,3 +9,4 @@ pub mod Forms
 pub mod IterSteps
 pub mod RangeItems
 pub mod Leaving
+pub mod Safely

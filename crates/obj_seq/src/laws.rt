@@ -1,6 +1,7 @@
 //! What the operations on lists leave, as laws over each view: a call of such a function does nothing, and gives its
 //! caller's proof the facts of its clauses.
-ghost use Rattle.obj_seq.specs.Laws.{PopLaw, DelLaw, InsertLaw, ReverseLaw};
+ghost use Rattle.obj_seq.specs.Laws.{PopLaw, DelLaw, InsertLaw, ReverseLaw, SliceLaw};
+ghost use Rattle.obj_seq.specs.Safety.{SafeLaw};
 
 use py_data::View;
 
@@ -18,4 +19,14 @@ pub fn insert_law<S, V: View<S>>()
 /// `reverse` leaves the items in the opposite order.
 pub fn reverse_law<S, V: View<S>>()
     ensures { ReverseLaw V.sense }
+{}
+
+/// A slice is a new record of the values between its bounds.
+pub fn slice_law<S, V: View<S>>()
+    ensures { SliceLaw V.sense }
+{}
+
+/// Each operation may be begun at a list that the view shows; a slice of a tuple may be taken too.
+pub fn safe_law<S>()
+    ensures { SafeLaw S }
 {}
