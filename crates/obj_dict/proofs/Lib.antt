@@ -1,2 +1,3 @@
 pub mod FindSteps
 pub mod Halves
+pub mod Pairing

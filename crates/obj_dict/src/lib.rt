@@ -1,8 +1,10 @@
 //! Dictionaries over any view.
 #![tactic(auto)]
 
+mod laws;
 mod listing;
 mod pair;
 
+pub use laws::pair_law;
 pub use listing::{Part, list_of};
 pub use pair::{del, get, set};
