@@ -10,7 +10,7 @@ use Rattle.py_data.specs.Rest.{Leads}
 use Rattle.py_data.proofs.Steps.{leads-begin, leads-do, safe-then}
 use Rattle.obj_dict.specs.Dict.{key_row, if_key}
 
-within : (h : Heap) (vs : List Value) (key : Value) (n i : ℕ) → find_from h n vs key ≡ Some i → (n ≤ i) × (2 * i + 1 < 2 * n + length vs)
+pub within : (h : Heap) (vs : List Value) (key : Value) (n i : ℕ) → find_from h n vs key ≡ Some i → (n ≤ i) × (2 * i + 1 < 2 * n + length vs)
 within h [] key n i e = cc
 within h (k ∷ []) key n i e = cc
 within h (k ∷ v ∷ rest) key n i e = by (same_key h k key) (λ f. within h rest key (n + 1) i f) e

@@ -1,3 +1,4 @@
 pub mod FindSteps
 pub mod Halves
 pub mod Pairing
+pub mod Safely
