@@ -10,3 +10,4 @@ pub mod IterSteps
 pub mod RangeItems
 pub mod Leaving
 pub mod Safely
+pub mod SafeIters

@@ -18,16 +18,16 @@ use Rattle.obj_seq.specs.Seq.{place, if_place, bound, part, put_row, gap_row, sh
 use Rattle.obj_seq.specs.Safety.{IsList, IsSequence, IsShown, SafeLaw}
 use Rattle.obj_seq.proofs.Leaving.{changed, place-within, bound-within}
 
-shown : (p : Bool) (o : Option Rec) (P : Rec → Type 0) → IfThere p o P → IfThere p o IsShown
+pub shown : (p : Bool) (o : Option Rec) (P : Rec → Type 0) → IfThere p o P → IfThere p o IsShown
 shown p None P h = h
 shown p (Some r) P h = tt
 
 module _ (S : Type 0) (p : Bool) where
-  safe-read : {A : Type 0} (h : Heap) (a : ℕ) (k : Rec → Row S A) (P : Rec → Type 0) → IfThere p (h a) P → ((r : Rec) → h a ≡ Some r → P r → Safe p (k r) h) → Safe p (Do (Read a) k) h
+  pub safe-read : {A : Type 0} (h : Heap) (a : ℕ) (k : Rec → Row S A) (P : Rec → Type 0) → IfThere p (h a) P → ((r : Rec) → h a ≡ Some r → P r → Safe p (k r) h) → Safe p (Do (Read a) k) h
   unfolding Safe Asks
   safe-read h a k P t f = (shown p (h a) P t, λ r h1 e. subst (Safe p (k r)) (sym e.1) (f r e.0 (there-of h a r p P e.0 t)))
 
-  safe-ret : {A : Type 0} (x : A) (h : Heap) → Safe {S = S} p (Ret x) h
+  pub safe-ret : {A : Type 0} (x : A) (h : Heap) → Safe {S = S} p (Ret x) h
   unfolding Safe
   safe-ret x h = tt
 
@@ -36,7 +36,7 @@ module _ (S : Type 0) (p : Bool) where
   safe-place (Some k) f z h s t = s k refl
   safe-place None f z h s t = t
 
-  safe-cond : {A : Type 0} (b : Bool) (q z : Row S A) (h : Heap) → (b ≡ true → Safe p q h) → (b ≡ false → Safe p z h) → Safe p (cond b q z) h
+  pub safe-cond : {A : Type 0} (b : Bool) (q z : Row S A) (h : Heap) → (b ≡ true → Safe p q h) → (b ≡ false → Safe p z h) → Safe p (cond b q z) h
   safe-cond true q z h s t = s refl
   safe-cond false q z h s t = t refl
 

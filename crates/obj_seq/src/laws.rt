@@ -1,7 +1,7 @@
 //! What the operations on lists leave, as laws over each view: a call of such a function does nothing, and gives its
 //! caller's proof the facts of its clauses.
 ghost use Rattle.obj_seq.specs.Laws.{PopLaw, DelLaw, InsertLaw, ReverseLaw, SliceLaw};
-ghost use Rattle.obj_seq.specs.Safety.{SafeLaw};
+ghost use Rattle.obj_seq.specs.Safety.{SafeLaw, SafeIterLaw};
 
 use py_data::View;
 
@@ -29,4 +29,9 @@ pub fn slice_law<S, V: View<S>>()
 /// Each operation may be begun at a list that the view shows; a slice of a tuple may be taken too.
 pub fn safe_law<S>()
     ensures { SafeLaw S }
+{}
+
+/// An iterator may be made over any value, and go on wherever it stands.
+pub fn safe_iter_law<S>()
+    ensures { SafeIterLaw S }
 {}
