@@ -2,3 +2,4 @@ pub mod FindSteps
 pub mod Halves
 pub mod Pairing
 pub mod Safely
+pub mod SafeListing
