@@ -4,6 +4,7 @@ pub mod Heap
 pub mod Shape
 pub mod Made
 pub mod Changes
+pub mod Fault
 pub mod Row
 pub mod Sense
 pub mod Rest

@@ -5,6 +5,7 @@ pub mod arithmetic;
 mod change;
 mod collection;
 mod entry;
+pub mod exception;
 mod find;
 mod laws;
 mod record;

@@ -1,0 +1,5 @@
+pub mod FindSteps
+pub mod Halves
+pub mod Pairing
+pub mod Safely
+pub mod SafeListing

@@ -1,0 +1,4 @@
+pub mod Dict
+pub mod Listing
+pub mod PairLaws
+pub mod Safety

@@ -1,0 +1,10 @@
+//! Dictionaries over any view.
+#![tactic(auto)]
+
+mod laws;
+mod listing;
+mod pair;
+
+pub use laws::{pair_law, safe_law, safe_list_law};
+pub use listing::{Part, list_of};
+pub use pair::{del, get, set};

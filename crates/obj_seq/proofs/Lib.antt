@@ -1,0 +1,13 @@
+pub mod Places
+pub mod Tail
+pub mod GapLoop
+pub mod CollectLoop
+pub mod AfterLook
+pub mod PartSteps
+pub mod ReverseLoop
+pub mod Forms
+pub mod IterSteps
+pub mod RangeItems
+pub mod Leaving
+pub mod Safely
+pub mod SafeIters

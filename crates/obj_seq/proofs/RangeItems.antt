@@ -1,0 +1,44 @@
+-- The items of a range lie between its start and its stop, so they have 64 bits.
+use Rattle.std.proofs.Common.{◌≡◌, ℕ, zero, suc, ◌*◌, ◌<◌, ◌≤◌, ◌/◌, ℤ, pos, negsuc, neg_ℤ, ◌+ℤ◌, ◌-ℤ◌, ◌≤ℤ◌, FitsSigned, w64, refl, sym, subst, arith}
+use Rattle.std.proofs.Math.Nat.{div-mul-le_self, mul-le-mul_left}
+use Rattle.std.proofs.Math.IntN.{pos-*ℤ-pos, pos-*ℤ-negsuc}
+use Rattle.std.proofs.lemmas.Int.{ints}
+use Rattle.obj_seq.specs.Range.{steps, range_length, range_item}
+
+-- k steps are no longer than the way
+pub record IsOnWay (d : ℤ) (m : ℕ) : Type 0 where
+  pub way : ℕ
+  pub is : d ≡ pos (suc way)
+  pub short : m ≤ way
+
+on-way : (d : ℤ) (s k : ℕ) → k < steps d s → IsOnWay d (k * s)
+on-way (pos zero) s k h = absurd (omega arith)
+on-way (pos (suc w)) s k h =
+    let a : k ≤ w / s = omega arith in
+    let b = mul-le-mul_left s a in
+    let c = div-mul-le_self w s in
+    record { way = w; is = refl; short = omega (arith, b, c) }
+on-way (negsuc n) s k h = absurd (omega arith)
+
+-- what lies between two numbers of 64 bits has 64 bits
+below-top : (n : ℕ) (high : ℤ) → FitsSigned w64 high → pos n ≤ℤ high → FitsSigned w64 (pos n)
+below-top n (pos h) f l = let g = f.sfits in record { sfits = omega (arith, ints) }
+below-top n (negsuc h) f l = absurd (omega (arith, ints))
+
+above-bottom : (n : ℕ) (low : ℤ) → FitsSigned w64 low → low ≤ℤ negsuc n → FitsSigned w64 (negsuc n)
+above-bottom n (pos h) f l = absurd (omega (arith, ints))
+above-bottom n (negsuc h) f l = let g = f.sfits in record { sfits = omega (arith, ints) }
+
+between : (low z high : ℤ) → FitsSigned w64 low → FitsSigned w64 high → low ≤ℤ z → z ≤ℤ high → FitsSigned w64 z
+between low (pos n) high f g l h = below-top n high g h
+between low (negsuc n) high f g l h = above-bottom n low f l
+
+up-fits : (a b : ℤ) (m : ℕ) → FitsSigned w64 a → FitsSigned w64 b → IsOnWay (b -ℤ a) m → FitsSigned w64 (a +ℤ pos m)
+up-fits a b m f g h = let e = h.is in let l = h.short in between a (a +ℤ pos m) b f g (omega (arith, ints)) (omega (arith, ints))
+
+down-fits : (a b : ℤ) (m : ℕ) → FitsSigned w64 a → FitsSigned w64 b → IsOnWay (a -ℤ b) m → FitsSigned w64 (a +ℤ neg_ℤ (pos m))
+down-fits a b m f g h = let e = h.is in let l = h.short in between b (a +ℤ neg_ℤ (pos m)) a g f (omega (arith, ints)) (omega (arith, ints))
+
+pub item-fits : (start stop step : ℤ) (k : ℕ) → FitsSigned w64 start → FitsSigned w64 stop → k < range_length start stop step → FitsSigned w64 (range_item start step k)
+item-fits start stop (pos s) k f g h = subst (λ z. FitsSigned w64 (start +ℤ z)) (sym (pos-*ℤ-pos k s)) (up-fits start stop (k * s) f g (on-way (stop -ℤ start) s k h))
+item-fits start stop (negsuc s) k f g h = subst (λ z. FitsSigned w64 (start +ℤ z)) (sym (pos-*ℤ-negsuc k s)) (down-fits start stop (k * suc s) f g (on-way (start -ℤ stop) (suc s) k h))

@@ -1,0 +1,136 @@
+//! Going through lists, tuples, strings, dictionaries and ranges.
+ghost use Rattle.std.specs.Prelude.{◌≡◌, ◌<◌, ◌≤◌, ◌^◌, length, pos, IfOk, IfSome, [], ◌∷◌};
+ghost use Rattle.py_data.specs.declared.value.Value.TheVariants.{Int, Ref};
+ghost use Rattle.py_data.specs.declared.value.Kind.TheVariants.{Range};
+ghost use Rattle.py_data.specs.Sense.{Meets, Safe, IsLive, IfThere, Asks, Shows};
+ghost use Rattle.py_data.specs.Heap.{at};
+ghost use Rattle.py_data.specs.Row.{Do, Read};
+ghost use Rattle.obj_seq.specs.Range.{IsRangeForm};
+ghost use Rattle.obj_seq.specs.Iter.{iter_row, make_iter_row, iter_values, count_of, count_range, is_iter, CanIter, IfRange};
+
+use crate::range::range_length;
+use py_data::exception::{TYPE_ERROR, raise};
+use py_data::{Addr, Bytes, Got, Kind, NoMemory, Record, Stop, Value, Values, View};
+use std::alloc::Global;
+
+/// The values of an iterator's record.
+fn iter_values(alloc: Global, over: Addr, at: u64, count: u64) -> Result<Values, NoMemory>
+    requires at { at < 2 ^ 63 }
+    requires count { count < 2 ^ 63 }
+    ensures { IfOk result (λ vs. vs ≡ iter_values over.0 at count) }
+{
+    let mut values = Values::new(alloc);
+    values.push(Value::Ref(over))?;
+    values.push(Value::Int(at as i64))?;
+    values.push(Value::Int(count as i64))?;
+    Ok(values)
+}
+
+/// The length of the range of these values.
+fn length_in(start: Value, stop: Value, step: Value) -> Option<u64>
+    requires { IsRangeForm (start ∷ stop ∷ step ∷ []) }
+    ensures value { result ≡ count_range (start ∷ stop ∷ step ∷ []) }
+    ensures fits { IfSome result (λ n. n < 2 ^ 63) }
+{
+    match (start, stop, step) {
+        (Value::Int(start), Value::Int(stop), Value::Int(step)) => {
+            Some(range_length(start, stop, step))
+        }
+        _ => None,
+    }
+}
+
+/// The length of a range's record.
+#[tactic(auto, using(py_data::proofs::Rows::row_steps))]
+fn count_range<S, V: View<S>>(v: &mut V, a: Addr) -> Result<Option<u64>, Stop>
+    requires live { IsLive V.sense v.old }
+    requires form { IfThere V.sense.partial (V.sense.heap v.old a.0) (λ r. IsRangeForm r.values) }
+    ensures fits { IfOk result (λ o. IfSome o (λ n. n < 2 ^ 63)) }
+    ensures shows { Shows V.sense a.0 (λ r. count_range r.values) v.old v.new result }
+{
+    let start = v.val(a, 0)?;
+    let stop = v.val(a, 1)?;
+    let step = v.val(a, 2)?;
+    Ok(length_in(start, stop, step))
+}
+
+/// The length of a record that can be gone through: of its items, its bytes, its pairs or its numbers.
+#[tactic(auto, using(py_data::proofs::Rows::row_steps))]
+fn count<S, V: View<S>>(v: &mut V, a: Addr) -> Result<Option<u64>, Stop>
+    requires live { IsLive V.sense v.old }
+    requires there { Asks {S = S} V.sense.partial (Read a.0) (V.sense.heap v.old) }
+    requires form { IfThere V.sense.partial (V.sense.heap v.old a.0) IfRange }
+    ensures shows { Shows V.sense a.0 (λ r. count_of r.kind r.values r.bytes) v.old v.new result }
+    ensures fits { IfOk result (λ o. IfSome o (λ n. n < 2 ^ 63)) }
+{
+    match v.kind(a)? {
+        Kind::List | Kind::Tuple => Ok(Some(v.len(a)? as u64)),
+        Kind::Str => Ok(Some(v.byte_len(a)? as u64)),
+        Kind::Dict => Ok(Some((v.len(a)? / 2) as u64)),
+        Kind::Range => count_range(v, a),
+        _ => Ok(None),
+    }
+}
+
+fn is_iter(kind: Kind) -> bool
+    ensures { result ≡ is_iter kind }
+{
+    matches!(kind, Kind::Iter)
+}
+
+/// A new iterator over a record with a length, if that can be gone through.
+#[tactic(auto, using(py_data::proofs::Rows::row_steps), unfolding(crate::specs::Iter::make_iter_row))]
+fn iter_of<S, V: View<S>>(
+    alloc: Global,
+    v: &mut V,
+    a: Addr,
+    count: Option<u64>,
+) -> Result<Got<Value>, Stop>
+    requires live { IsLive V.sense v.old }
+    requires fits { IfSome count (λ n. n < 2 ^ 63) }
+    requires safe { Safe V.sense.partial (make_iter_row {S = S} a.0 count) (V.sense.heap v.old) }
+    ensures { Meets V.sense (make_iter_row a.0 count) v.old v.new result }
+{
+    match count {
+        Some(n) => {
+            let made = Record {
+                kind: Kind::Iter,
+                values: iter_values(alloc, a, 0, n)?,
+                bytes: Bytes::new(alloc),
+            };
+            Ok(Got::Is(Value::Ref(v.make(&made)?)))
+        }
+        None => raise(alloc, TYPE_ERROR, b"not iterable"),
+    }
+}
+
+/// A new iterator over a record, or the record itself where it is one.
+#[tactic(auto, using(py_data::proofs::Rows::row_steps))]
+fn iter_over<S, V: View<S>>(alloc: Global, v: &mut V, a: Addr) -> Result<Got<Value>, Stop>
+    requires live { IsLive V.sense v.old }
+    requires form { IfThere V.sense.partial (V.sense.heap v.old a.0) IfRange }
+    requires safe { Safe V.sense.partial (iter_row {S = S} (Ref a)) (V.sense.heap v.old) }
+    ensures { Meets V.sense (iter_row (Ref a)) v.old v.new result }
+{
+    let kind = v.kind(a)?;
+    if is_iter(kind) {
+        return Ok(Got::Is(Value::Ref(a)));
+    }
+    let count = count(v, a)?;
+    iter_of(alloc, v, a, count)
+}
+
+/// An iterator over a list, a tuple, a string, a dictionary (its keys) or a range, at its start; of an iterator it is the
+/// iterator itself. TypeError for any other value.
+#[tactic(auto, using(py_data::proofs::Rows::row_steps))]
+pub fn make_iter<S, V: View<S>>(alloc: Global, v: &mut V, x: Value) -> Result<Got<Value>, Stop>
+    requires live { IsLive V.sense v.old }
+    requires form { CanIter V.sense.partial (V.sense.heap v.old) x }
+    requires safe { Safe V.sense.partial (iter_row {S = S} x) (V.sense.heap v.old) }
+    ensures { Meets V.sense (iter_row x) v.old v.new result }
+{
+    match x {
+        Value::Ref(a) => iter_over(alloc, v, a),
+        _ => raise(alloc, TYPE_ERROR, b"not iterable"),
+    }
+}

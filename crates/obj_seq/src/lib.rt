@@ -1,0 +1,17 @@
+//! Lists and tuples over any view.
+#![tactic(auto)]
+
+mod advance;
+mod change;
+mod iter;
+mod laws;
+mod look;
+mod place;
+mod range;
+
+pub use advance::next;
+pub use change::{del_item, insert, pop, reverse, set_item};
+pub use iter::make_iter;
+pub use laws::{insert_law, pop_law, reverse_law, safe_iter_law, safe_law, slice_law};
+pub use look::{item, slice};
+pub use range::{range_item, range_length};

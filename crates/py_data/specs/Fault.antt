@@ -1,0 +1,38 @@
+-- The exceptions that operations on objects raise. States `docs/LANGUAGE.md`, "Exceptions".
+use Rattle.std.specs.Prelude.{ℕ, List, codes}
+use Rattle.py_data.specs.declared.value.Value.{Value}
+use Rattle.py_data.specs.declared.record.Fault.{Fault}
+use Rattle.py_data.specs.declared.record.With.TheVariants.{Nothing, Text, Held}
+use Rattle.py_data.specs.declared.exception.TheConstants.{TYPE_ERROR, RUNTIME_ERROR, MEMORY_ERROR, INDEX_ERROR, KEY_ERROR}
+
+-- an exception of a class with a text
+abbrev pub text_fault : ℕ → List ℕ → Fault
+text_fault exc text = record { exc = exc; with = Text text }
+
+-- no item has this index
+abbrev pub index_fault : Fault
+index_fault = text_fault INDEX_ERROR (codes "index out of range")
+
+-- a list without items has none to take out
+abbrev pub empty_fault : Fault
+empty_fault = text_fault INDEX_ERROR (codes "pop from empty list")
+
+-- the record would have more values than one may have
+abbrev pub memory_fault : Fault
+memory_fault = record { exc = MEMORY_ERROR; with = Nothing }
+
+-- the value can't be gone through
+abbrev pub iterable_fault : Fault
+iterable_fault = text_fault TYPE_ERROR (codes "not iterable")
+
+-- pairs came or went while a dictionary was gone through
+abbrev pub size_fault : Fault
+size_fault = text_fault RUNTIME_ERROR (codes "dictionary changed size during iteration")
+
+-- the value can't be a key
+abbrev pub hash_fault : Fault
+hash_fault = text_fault TYPE_ERROR (codes "unhashable")
+
+-- the key isn't there
+abbrev pub key_fault : Value → Fault
+key_fault key = record { exc = KEY_ERROR; with = Held key }
