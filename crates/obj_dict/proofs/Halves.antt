@@ -14,7 +14,7 @@ use Rattle.py_data.specs.Row.{Row, Ret, Do, Read, Make}
 use Rattle.py_data.specs.Sense.{Sense, Lawful, Meets, Safe}
 use Rattle.py_data.specs.Rest.{Leads, Stands}
 use Rattle.py_data.proofs.Rows.{meets-own, meets-do, read-heap, safe-next}
-use Rattle.py_data.proofs.Steps.{stands-again, stands-read, as-err, at-is, leads-do, leads-ret}
+use Rattle.py_data.proofs.Steps.{stands-again, as-err, at-is, leads-do, leads-ret}
 use Rattle.obj_dict.specs.Listing.{half, tuples_row}
 
 pub half-next : (second : Bool) (vs : List Value) (i : ℕ) → 2 * i + 1 < length vs → half second (take (2 * (i + 1)) vs) ≡ half second (take (2 * i) vs) ++ value_at vs (2 * i + cond second 1 0) ∷ []
@@ -53,11 +53,6 @@ module _ {S X : Type 0} (u : Sense S X) where
   look-then L a k v m w res d h =
       let same : at (u.heap m) a ≡ at (u.heap v) a = ap (λ h. at h a) (read-heap L a v m (at (u.heap v) a) d) in
       meets-do u (Read a) k v m w (at (u.heap v) a) res d (subst (λ r. Meets u (k r) m w res) same h)
-
-  pub stands-looked : (L : Lawful u) (a : ℕ) (v m : X) → u.does (Read a) v (at (u.heap v) a) m → Stands u a (at (u.heap m) a) m
-  stands-looked L a v m d =
-      let same : at (u.heap m) a ≡ at (u.heap v) a = ap (λ h. at h a) (read-heap L a v m (at (u.heap v) a) d) in
-      subst (λ r. Stands u a r m) (sym same) (stands-read L (at (u.heap v) a) d)
 
 -- a record stands when another was made
 stands-made : {S X : Type 0} {u : Sense S X} (L : Lawful u) {a b : ℕ} {r made : Rec} {w x : X} → Stands u a r w → u.does (Make made) w b x → Stands u a r x

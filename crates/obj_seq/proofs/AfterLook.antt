@@ -1,12 +1,11 @@
 -- A row that looks at a record, then does what the record says, and answers.
-use Rattle.std.proofs.Common.{◌≡◌, ℕ, Ok, Err, sym, ap, subst, ◌∙◌}
-use Rattle.py_data.specs.declared.stop.Stop.{Stop}
+use Rattle.std.proofs.Common.{◌≡◌, ℕ, Ok, sym, ap, subst, ◌∙◌}
 use Rattle.py_data.specs.Heap.{Rec, at}
 use Rattle.py_data.specs.Row.{Row, Ret, Do, Read, bind}
 use Rattle.py_data.specs.Sense.{Sense, Lawful, Safe, Meets, IsLive}
 use Rattle.py_data.specs.Rest.{Leads}
 use Rattle.py_data.proofs.Rows.{meets-ret, meets-do, read-heap}
-use Rattle.py_data.proofs.Steps.{meets-bind, meets-bind-err, part-after, leads-begin, leads-do}
+use Rattle.py_data.proofs.Steps.{meets-bind, leads-begin, leads-do}
 
 module _ {S X A B : Type 0} (u : Sense S X) (L : Lawful u) (a : ℕ) (k : Rec → Row S B) (v m : X) (row : Rec → Row S A) (f : A → Row S B)
     (looked : u.does (Read a) v (at (u.heap v) a) m) (is : k (at (u.heap v) a) ≡ bind (row (at (u.heap v) a)) f) where
@@ -19,16 +18,6 @@ module _ {S X A B : Type 0} (u : Sense S X) (L : Lawful u) (a : ℕ) (k : Rec �
       let part : Meets u (row (at (u.heap v) a)) m w (Ok x) = subst (λ r. Meets u (row r) m w (Ok x)) same-record h in
       let whole = meets-bind u (row (at (u.heap v) a)) f m w w x (Ok b) part (subst (λ q. Meets u q w w (Ok b)) (sym e) (meets-ret u b w)) in
       meets-do u (Read a) k v m w (at (u.heap v) a) (Ok b) looked (subst (λ q. Meets u q m w (Ok b)) (sym is) whole)
-
-  -- the part is stopped
-  pub stop-after-look : (w : X) (e : Stop) → Meets u (row (at (u.heap m) a)) m w (Err e) → Meets u (Do (Read a) k) v w (Err e)
-  stop-after-look w e h =
-      let part : Meets u (row (at (u.heap v) a)) m w (Err e) = subst (λ r. Meets u (row r) m w (Err e)) same-record h in
-      meets-do u (Read a) k v m w (at (u.heap v) a) (Err e) looked (subst (λ q. Meets u q m w (Err e)) (sym is) (meets-bind-err u (row (at (u.heap v) a)) f m w e part))
-
-  -- what the part needs
-  pub safe-after-look : Safe u.partial (Do (Read a) k) (u.heap v) → Safe u.partial (row (at (u.heap m) a)) (u.heap m)
-  safe-after-look s = subst (λ r. Safe u.partial (row r) (u.heap m)) (sym same-record) (part-after L u.partial a k v m (at (u.heap v) a) (row (at (u.heap v) a)) f s looked is)
 
 -- the row after one look, or several, at its first record
 module _ {S X : Type 0} {u : Sense S X} (L : Lawful u) {a : ℕ} {v m x : X} (looked : u.does (Read a) v (at (u.heap v) a) m) (same : x ≡ m) where

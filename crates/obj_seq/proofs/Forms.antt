@@ -1,16 +1,16 @@
 -- What the values of iterators and ranges say.
-use Rattle.std.proofs.Common.{◌≡◌, ℕ, pos, ◌+◌, ◌<◌, Bool, List, [], ◌∷◌, length, take, drop, get_or, slice_get, Option, Some, None, refl, sym, ap, ◌∙◌, arith}
+use Rattle.std.proofs.Common.{◌≡◌, ℕ, pos, ◌+◌, ◌<◌, List, [], ◌∷◌, length, take, drop, get_or, slice_get, Some, refl, sym, ap, ◌∙◌, arith}
 use Rattle.std.proofs.lemmas.List.{get_or-drop, length-drop}
 use Rattle.std.proofs.lemmas.Option.{slice_get-get_or}
 use Rattle.py_data.specs.declared.value.Value.{Value}
 use Rattle.py_data.specs.declared.value.Value.TheVariants.{Int, Ref}
-use Rattle.py_data.specs.Heap.{Heap, Rec, at, value_at}
+use Rattle.py_data.specs.Heap.{Rec, at, value_at}
 use Rattle.py_data.specs.Row.{Read}
 use Rattle.py_data.specs.Sense.{Sense, Lawful, IfThere}
 use Rattle.py_data.proofs.Rows.{again}
 use Rattle.py_data.proofs.Steps.{there-of}
 use Rattle.obj_seq.specs.Range.{IsRangeForm}
-use Rattle.obj_seq.specs.Iter.{IsIterForm, CanNextWith, parts_of}
+use Rattle.obj_seq.specs.Iter.{IsIterForm}
 use Rattle.obj_seq.proofs.AfterLook.{looked-record}
 
 -- what is asked of a record that is there holds of one that was looked at
@@ -51,14 +51,6 @@ iter-read {u = u} L a v m1 m2 q over place count form d e g f l =
     let e2 = l ∙ ap (λ r. value_at r.values 2) same2 in
     let three = iter-three r.values (asked L a (λ r. IsIterForm r.values) v m1 r d form) in
     rw (e, e1, e2) three
-
-can-form : (p : Bool) (h : Heap) (vs : List Value) → CanNextWith p h (parts_of vs) → IsIterForm vs
-can-form p h (Ref a ∷ Int (pos k) ∷ Int (pos n) ∷ []) c = tt
-can-form p h _ c = absurd c
-
-pub can-forms : (p : Bool) (h : Heap) (o : Option Rec) → IfThere p o (λ q. CanNextWith p h (parts_of q.values)) → IfThere p o (λ q. IsIterForm q.values)
-can-forms p h None c = c
-can-forms p h (Some q) c = can-form p h q.values c
 
 first-of : (xs : List ℕ) → 0 < length xs → get_or (take 1 xs) 0 0 ≡ get_or xs 0 0
 first-of [] h = absurd (omega arith)

@@ -4,10 +4,8 @@ use Rattle.std.proofs.lemmas.Bool.{cond-true, cond-false}
 use Rattle.py_data.specs.declared.value.Value.{Value}
 use Rattle.py_data.specs.declared.value.Value.TheVariants.{Ref}
 use Rattle.py_data.specs.declared.value.Kind.TheVariants.{Str}
-use Rattle.py_data.specs.declared.record.Got.TheVariants.{Raise}
 use Rattle.py_data.specs.Heap.{Rec, at, new_rec}
-use Rattle.py_data.specs.Row.{Ret, Do, Read, Make}
-use Rattle.py_data.specs.Fault.{size_fault}
+use Rattle.py_data.specs.Row.{Do, Read, Make}
 use Rattle.py_data.specs.Sense.{Sense, Lawful, Safe, IsLive}
 use Rattle.obj_seq.specs.declared.advance.Parts.{Parts}
 use Rattle.py_data.proofs.Steps.{leads-begin, leads-do}
@@ -25,7 +23,7 @@ iter-leads {S = S} {u = u} L {a = a} {v = v} {m = m} {x = x} {q = q} o d g none 
     let here = looked-record L d same ∙ sym (looked-record L d refl) in
     subst (λ c. Leads u (Do (Read a) (iter_of {S = S} a)) v (make_iter_row a c) x) (ap (λ r. count_of r.kind r.values r.bytes) here ∙ sym e) l
 
--- going on over a string, over a dictionary that has changed, and over what else there is
+-- going on over a string, and over what else there is
 module _ {S X : Type 0} {u : Sense S X} (L : Lawful u) {a : ℕ} {v m : X} (it place count : ℕ) (looked : u.does (Read a) v (at (u.heap v) a) m)
     (safe : Safe {S = S} u.partial (Do (Read a) (next_over it place count)) (u.heap v)) (live : IsLive u v) where
   pub byte-leads : {x : X} {q : Rec} (b : Option ℕ) → u.does (Read a) m q x → is_str (at (u.heap v) a).kind ≡ true → b ≡ slice_get (at (u.heap m) a).bytes place
@@ -39,12 +37,6 @@ module _ {S X : Type 0} {u : Sense S X} (L : Lawful u) {a : ℕ} {v m : X} (it p
   module _ {n : X} {q : Rec} (second : u.does (Read a) m q n) (not_str : is_str (at (u.heap v) a).kind ≡ false) where
     same-here : at (u.heap m) a ≡ at (u.heap v) a
     same-here = looked-record L looked refl
-
-    pub changed-leads : has_changed (at (u.heap m) a).kind (at (u.heap m) a).values count ≡ true → Leads u (Do (Read a) (next_over {S = S} it place count)) v (Ret (Raise size_fault)) n
-    changed-leads is =
-        let same = again L a v m n (at (u.heap v) a) q looked second in
-        let is1 = ap (λ r. has_changed r.kind r.values count) (sym same-here) ∙ is in
-        leads-looked L looked same (next_over it place count) (λ r. Ret (Raise size_fault)) safe live (cond-false _ _ _ not_str ∙ cond-true _ _ _ is1)
 
     pub pick-leads : {x : X} {p : Rec} (o : Option Value) → u.does (Read a) n p x → has_changed (at (u.heap m) a).kind (at (u.heap m) a).values count ≡ false → o ≡ pick (at (u.heap n) a).kind (at (u.heap n) a).values place
         → Leads u (Do (Read a) (next_over {S = S} it place count)) v (go_or_end it place o) x

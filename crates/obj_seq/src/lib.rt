@@ -8,6 +8,8 @@ mod laws;
 mod look;
 mod place;
 mod range;
+#[cfg(test)]
+mod tests;
 
 pub use advance::next;
 pub use change::{del_item, insert, pop, reverse, set_item};
