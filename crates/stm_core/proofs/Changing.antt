@@ -1,28 +1,26 @@
 -- Changes of records that a segment holds.
-use Rattle.std.proofs.Common.{◌≡◌, ◌≢◌, ◌⊎◌, ◌<◌, ◌≤◌, ◌+◌, ℕ, Bool, true, false, cond, ◌||◌, eqb, List, [], ◌∷◌, length, take, Option, Some, None, Result, Ok, Err, OnOk, OnErr, IfErr, MatchOption, refl, sym, ◌∙◌, ap, subst, inl, inr, arith, IsSome, unwrap_or}
+use Rattle.std.proofs.Common.{◌≡◌, ◌⊎◌, ◌≤◌, ℕ, true, false, eqb, List, Option, Some, None, Result, Ok, Err, OnOk, OnErr, refl, sym, ◌∙◌, ap, subst, inl, inr, IsSome, unwrap_or}
 use Rattle.std.proofs.lemmas.Bool.{both_ways, or_cases, or_left, eqb-true, eq-eqb}
 use Rattle.py_data.specs.declared.stop.Side.{Side}
 use Rattle.py_data.specs.declared.stop.Stop.{Stop}
-use Rattle.py_data.specs.declared.stop.Stop.TheVariants.{Lost, NeedSolo, NeedHeap, Full, ReadFault, WriteFault, ErrFault, OutOfMemory}
-use Rattle.py_data.specs.declared.value.Kind.{Kind}
-use Rattle.py_data.specs.declared.value.Kind.TheVariants as kind
+use Rattle.py_data.specs.declared.stop.Stop.TheVariants.{Lost, Full, OutOfMemory}
 use Rattle.py_data.specs.declared.change.Change.{Change}
 use Rattle.py_data.specs.declared.change.Change.TheVariants.{Set, Push, Cut, Pair, Unpair}
 use Rattle.py_data.specs.Changes.{after}
 use Rattle.py_data.specs.Heap.{Rec, Heap, Has, at, is_tracked, put_at, blank}
-use Rattle.py_data.specs.Sight.{Sight, Edited, edited, mem, with_mark}
+use Rattle.py_data.specs.Sight.{edited, mem, with_mark}
 use Rattle.py_data.specs.Row.{Call}
 use Rattle.py_data.specs.Sense.{touches, IfThere}
 use Rattle.seg_store.specs.declared.store.StoreFault.{StoreFault}
 use Rattle.seg_store.specs.declared.store.StoreFault.TheVariants.{Full as FullStore, OutOfMemory as NoMemoryLeft}
-use Rattle.seg_store.specs.Meaning.{Part, Meaning, sees, saw, holds, overlay, with_part}
+use Rattle.seg_store.specs.Meaning.{Part, Meaning, sees, holds, with_part}
 use Rattle.seg_store.specs.Calls.{changed, after_change}
 use Rattle.seg_store.proofs.Sees.{own_part, change_shows}
 use Rattle.stm_core.specs.declared.books.Progress.{Progress}
 use Rattle.stm_core.specs.declared.books.Books.{Books}
 use Rattle.stm_core.specs.declared.books.Hand.{Hand}
 use Rattle.stm_core.specs.Books.{runs_at, Fit}
-use Rattle.stm_core.specs.Hold.{Hold, sight, Beside, Holds, Fails, FailWhy, SegRefuses, SegWhy, IsChange, IsGrowth, IsHeld, Can, Fits, MayGrow, FaultWhy, Changed, holding, stop_of}
+use Rattle.stm_core.specs.Hold.{Hold, sight, Beside, Holds, Fails, FailWhy, SegRefuses, SegWhy, IsChange, IsGrowth, IsHeld, Can, Fits, FaultWhy, Changed, holding, stop_of}
 use Rattle.stm_core.proofs.Holding.{beside_then, beside_own, fails_alone}
 use Rattle.stm_core.proofs.Fits.{fit_own}
 

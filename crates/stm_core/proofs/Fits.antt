@@ -1,24 +1,23 @@
 -- Store and books still fit after each call of a segment's view.
-use Rattle.std.proofs.Common.{◌≡◌, ◌≢◌, ◌<◌, ◌≤◌, ◌+◌, ◌-◌, ℕ, zero, suc, Bool, true, false, cond, ◌||◌, ◌&&◌, eqb, List, [], ◌∷◌, ◌++◌, length, take, slice_get, slice_set, Option, Some, None, Result, Ok, Err, OnOk, OnErr, IfErr, refl, sym, ◌∙◌, ap, subst, inl, inr, arith, IsSome, unwrap_or, is_some, map, length-set, length-append}
+use Rattle.std.proofs.Common.{◌≡◌, ◌≢◌, ◌<◌, ◌≤◌, ◌+◌, ◌-◌, ℕ, zero, suc, Bool, true, false, eqb, List, [], ◌∷◌, ◌++◌, length, take, slice_get, slice_set, Option, Some, None, Result, Ok, Err, OnOk, OnErr, refl, sym, ◌∙◌, ap, subst, inl, inr, arith, IsSome, unwrap_or, is_some, length-set, length-append}
 use Rattle.std.specs.List.{sum_by}
 use Rattle.std.proofs.lemmas.List.Sums.{sum_by-cons}
 use Rattle.std.proofs.lemmas.Bool.{cases_Bool, both_ways, or_cases, or_left, or_right, eqb-true, eqb-false, eq-eqb, ne_eqb, cond-true, cond-false, and_from, and_parts}
 use Rattle.std.proofs.lemmas.Option.{slice_get_within}
-use Rattle.py_data.specs.declared.value.Addr.{Addr}
 use Rattle.py_data.specs.declared.stop.Conflict.{Conflict}
-use Rattle.py_data.specs.Heap.{Rec, Heap, Has, at, is_tracked, blank}
+use Rattle.py_data.specs.Heap.{Rec, Has, at, is_tracked, blank}
 use Rattle.py_data.specs.Collection.{places}
 use Rattle.py_data.specs.Sight.{mem, with_mark}
 use Rattle.py_data.proofs.Grow.{mem_append}
-use Rattle.seg_store.specs.Meaning.{Part, Meaning, sees, holds, overlay, over, with_part}
-use Rattle.seg_store.specs.Calls.{marked, first_locked, locked, ended, opened, undone, after_mark, after_lock, after_drop, after_open, after_undo}
+use Rattle.seg_store.specs.Meaning.{Part, Meaning, sees, holds, over, with_part}
+use Rattle.seg_store.specs.Calls.{marked, first_locked, ended, opened, undone, after_mark, after_lock, after_drop, after_open, after_undo}
 use Rattle.seg_store.specs.Store.{IsStore}
 use Rattle.stm_core.specs.declared.books.Progress.{Progress}
 use Rattle.stm_core.specs.declared.books.Work.{Work}
 use Rattle.stm_core.specs.declared.books.Hand.{Hand}
 use Rattle.stm_core.specs.declared.books.Hand.TheVariants.{Idle, Doomed, Runs}
 use Rattle.stm_core.specs.declared.books.Books.{Books}
-use Rattle.stm_core.specs.Books.{WorkFits, is_running, started_of, names_of, runs_at, started_at, names_at, one_running, one_started, is_lock, Fit}
+use Rattle.stm_core.specs.Books.{WorkFits, is_running, started_of, runs_at, started_at, one_running, one_started, is_lock, Fit}
 use Rattle.stm_core.proofs.Publish.{get_set_other}
 
 -- ---- lists

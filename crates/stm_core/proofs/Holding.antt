@@ -1,17 +1,15 @@
 -- How a segment's view comes to hold a record, and what that leaves beside its own sight.
-use Rattle.std.proofs.Common.{◌≡◌, ◌≢◌, ◌⊎◌, ◌<◌, ◌≤◌, ◌+◌, ℕ, zero, suc, Bool, true, false, cond, not, ◌||◌, ◌&&◌, eqb, List, [], ◌∷◌, ◌++◌, length, take, slice_get, slice_set, Option, Some, None, refl, sym, ◌∙◌, ap, subst, inl, inr, arith, IsSome, is_some, Result, Ok, Err, OnOk}
-use Rattle.std.proofs.lemmas.Bool.{cases_Bool, both_ways, or_cases, or_left, or_right, eqb-true, eqb-false, eq-eqb, ne_eqb, cond-true, cond-false, and_from, and_parts}
-use Rattle.std.proofs.lemmas.Option.{slice_get_within}
+use Rattle.std.proofs.Common.{◌≡◌, ◌≢◌, ◌⊎◌, ◌<◌, ◌≤◌, ℕ, Bool, true, false, cond, ◌||◌, eqb, List, [], ◌∷◌, ◌++◌, length, slice_get, slice_set, Option, Some, None, refl, sym, ◌∙◌, ap, subst, inl, inr, arith, IsSome, is_some, Result, Ok, Err, OnOk}
+use Rattle.std.proofs.lemmas.Bool.{cases_Bool, both_ways, or_cases, or_left, or_right, eqb-true, eqb-false, cond-true, cond-false}
 use Rattle.py_data.specs.declared.stop.Side.{Side}
 use Rattle.py_data.specs.declared.stop.Conflict.{Conflict}
 use Rattle.py_data.specs.declared.stop.Stop.{Stop}
-use Rattle.py_data.specs.declared.stop.Stop.TheVariants.{Lost, Full, OutOfMemory}
-use Rattle.py_data.specs.Heap.{Rec, Heap, Marks, Has, at, is_tracked}
+use Rattle.py_data.specs.declared.stop.Stop.TheVariants.{Lost, OutOfMemory}
+use Rattle.py_data.specs.Heap.{Rec, Marks, Has, at, is_tracked}
 use Rattle.py_data.specs.World.{World}
-use Rattle.py_data.specs.Collection.{places}
 use Rattle.py_data.specs.Sight.{mem, with_mark}
 use Rattle.py_data.proofs.Grow.{mem_append}
-use Rattle.seg_store.specs.Meaning.{Part, Meaning, sees, saw, holds, overlay, over, with_part}
+use Rattle.seg_store.specs.Meaning.{Part, Meaning, sees, saw, holds, overlay, with_part}
 use Rattle.seg_store.specs.Calls.{marked, first_locked, locked, ended, after_mark, after_lock, after_drop}
 use Rattle.seg_store.specs.Store.{IsStore, NoOther}
 use Rattle.seg_store.proofs.Sees.{same_marks, own_part, other_part, lock_shows}
@@ -22,8 +20,8 @@ use Rattle.stm_core.specs.declared.books.Hand.TheVariants.{Idle, Doomed, Runs}
 use Rattle.stm_core.specs.declared.books.Books.{Books}
 use Rattle.stm_core.specs.CoreState.{Transaction, Segment, Running, CoreState, side, wins, with_segment, with_conflict, set_segment}
 use Rattle.stm_core.specs.CoreState as model
-use Rattle.stm_core.specs.Books.{is_running, runs_at, side_of, transaction, segment_of, core_of, Fit}
-use Rattle.stm_core.specs.Hold.{Hold, DoomsOne, Dooms, Beside, LosesTo, Holds, Fails, FailWhy, is_noted, Looks, holding}
+use Rattle.stm_core.specs.Books.{is_running, runs_at, side_of, transaction, segment_of, core_of}
+use Rattle.stm_core.specs.Hold.{Hold, Dooms, Beside, LosesTo, Holds, Fails, FailWhy, is_noted, Looks, holding}
 use Rattle.stm_core.proofs.Publish.{get_set_other}
 use Rattle.stm_core.proofs.Looking.{noted_tracked}
 use Rattle.stm_core.proofs.Fits.{get_set_same, work_at, runs_within, seen_image}
@@ -148,8 +146,8 @@ dooms_one {S} k me j f m b b1 n r wr ot as' lo wi held rest hs cs w =
     let x = work_at b.hands.items j r in
     let s : f.writer ≡ side j (transaction w (m.part j) x.0) = side_is w m b.hands.items j f.writer x.0 x.1 wr in
     let sj : f.writer.segment ≡ j = ap (λ z. z.segment) s in
-    let run : (core_of w m b).segments j ≡ Running (transaction w (m.part j) x.0) = ap (segment_of w (m.part j)) x.1 in
-    (core_of w (after_drop j m) b1,
+    let run : (core_of w m b).segments j ≡ Running (transaction w (m.part j) x.0) = ap (segment_of w (m.part j)) x.1 in (
+      core_of w (after_drop j m) b1,
       record {
         writer = transaction w (m.part j) x.0;
         writes = ap (core_of w m b).segments sj ∙ run;
@@ -162,7 +160,8 @@ dooms_one {S} k me j f m b b1 n r wr ot as' lo wi held rest hs cs w =
         wins_ = wi;
         gives = core_doomed w j f m b b1 (runs_within b.hands.items j r) rest hs cs ∙ ap (λ i. with_conflict f (with_segment i (model.Doomed f) (core_of w m b))) (sym sj);
       },
-      refl)
+      refl,
+    )
 
 pub beside_doom : {S : Type 0} (k : ℕ) (me : Side) (j : ℕ) (f : Conflict) (m : Meaning) (rs : ℕ) (b b1 : Books S) (p : Progress S) (o : Option Stop) → j ≢ k → ((w : World) → Dooms k me (f ∷ []) (core_of w m b) (core_of w (after_drop j m) b1))
     → Beside k me (holding m rs b p o) (holding (after_drop j m) rs b1 p o)
@@ -373,19 +372,19 @@ pub fails_lost : {S : Type 0} (k : ℕ) (me : Side) (a j : ℕ) (f : Conflict) (
 fails_lost {S} k me a j f m m1 r r1 b b1 p p1 o o1 s es n run at wr ot as' lo wi held em er eb ep eo =
     let x = work_at b.hands.items j run in
     let why : (w : World) → LosesTo k me f (core_of w m b) = λ w.
-        let q : f.writer ≡ side j (transaction w (m.part j) x.0) = side_is w m b.hands.items j f.writer x.0 x.1 wr in
-        let sj : f.writer.segment ≡ j = ap (λ z. z.segment) q in
-        record {
-          writer = transaction w (m.part j) x.0;
-          writes = ap (core_of w m b).segments sj ∙ ap (segment_of w (m.part j)) x.1;
-          writer_is = q ∙ ap (λ i. side i (transaction w (m.part j) x.0)) (sym sj);
-          other = ot;
-          differ = λ e. n (sym sj ∙ e);
-          held = ap (λ z. mem z (m.part j).changed) at ∙ held;
-          asks = as';
-          lost = lo;
-          loses = wi;
-        } in
+    let q : f.writer ≡ side j (transaction w (m.part j) x.0) = side_is w m b.hands.items j f.writer x.0 x.1 wr in
+    let sj : f.writer.segment ≡ j = ap (λ z. z.segment) q in
+    record {
+      writer = transaction w (m.part j) x.0;
+      writes = ap (core_of w m b).segments sj ∙ ap (segment_of w (m.part j)) x.1;
+      writer_is = q ∙ ap (λ i. side i (transaction w (m.part j) x.0)) (sym sj);
+      other = ot;
+      differ = λ e. n (sym sj ∙ e);
+      held = ap (λ z. mem z (m.part j).changed) at ∙ held;
+      asks = as';
+      lost = lo;
+      loses = wi;
+    } in
     subst (λ z. Fails k me a (⊥) (holding m r b p o) z (holding m1 r1 b1 p1 o1)) (sym es)
     (fails_alone k me a (⊥) m m1 r r1 b b1 p p1 o o1 (Lost f) em (omega (arith, er)) eb ep (eo ∙ ap Some es) (at, why))
 

@@ -1,6 +1,6 @@
 -- Looks at records, as a segment's view notes them.
-use Rattle.std.proofs.Common.{◌≡◌, ℕ, Bool, true, false, cond, not, ◌||◌, ◌&&◌, eqb, Option, Some, None, refl, sym, ◌∙◌, ap, subst, inl, inr, IsSome, unwrap_or}
-use Rattle.std.proofs.lemmas.Bool.{cases_Bool, both_ways, cond-true, cond-false}
+use Rattle.std.proofs.Common.{◌≡◌, ℕ, Bool, true, false, not, ◌||◌, Option, Some, None, sym, ◌∙◌, ap, IsSome, unwrap_or}
+use Rattle.std.proofs.lemmas.Bool.{cond-true, cond-false}
 use Rattle.py_data.specs.Heap.{Rec, Heap, Has, at, is_tracked, blank}
 use Rattle.seg_store.specs.Meaning.{Meaning, sees}
 use Rattle.seg_store.specs.Calls.{after_mark}

@@ -1,7 +1,7 @@
 -- Looks at records, and the other calls that change no record.
 use Rattle.py_data.proofs.Steps.{at-is}
-use Rattle.std.proofs.Common.{◌≡◌, ◌≢◌, ◌⊎◌, ◌<◌, ◌≤◌, ◌+◌, ℕ, Bool, true, false, cond, not, ◌||◌, ◌&&◌, eqb, List, [], ◌∷◌, ◌++◌, length, take, slice_get, zero, suc, Option, Some, None, Result, Ok, Err, OnOk, IfErr, refl, sym, ◌∙◌, ap, subst, inl, inr, arith, IsSome, unwrap_or, slice_set, length-append}
-use Rattle.std.proofs.lemmas.Bool.{cases_Bool, both_ways, or_cases, or_left, or_right, eqb-true, eqb-false, eq-eqb, cond-true, cond-false, and_from}
+use Rattle.std.proofs.Common.{◌≡◌, ◌≢◌, ◌≤◌, ◌+◌, ℕ, Bool, true, false, not, ◌||◌, ◌&&◌, eqb, List, [], ◌∷◌, ◌++◌, length, take, slice_get, zero, suc, Option, Some, None, refl, sym, ◌∙◌, ap, subst, inl, inr, arith, IsSome, unwrap_or, slice_set, length-append}
+use Rattle.std.proofs.lemmas.Bool.{cases_Bool, both_ways, cond-true}
 use Rattle.py_data.specs.declared.value.Addr.{Addr}
 use Rattle.py_data.specs.declared.value.Value.{Value}
 use Rattle.py_data.specs.declared.stop.Side.{Side}
@@ -13,13 +13,13 @@ use Rattle.py_data.specs.declared.value.Kind.{Kind}
 use Rattle.py_data.specs.World.{World}
 use Rattle.py_data.specs.Collection.{places}
 use Rattle.py_data.specs.Shape.{find, IsKey, ArePairs}
-use Rattle.py_data.specs.Sight.{Sight, looked_at, made_new, started_one, mem, with_mark}
-use Rattle.py_data.specs.Row.{Call, Read, Find, Make, Start, Put, Take}
-use Rattle.py_data.specs.Sense.{touches, IfThere}
+use Rattle.py_data.specs.Sight.{looked_at, with_mark}
+use Rattle.py_data.specs.Row.{Call, Read, Find, Make, Start}
+use Rattle.py_data.specs.Sense.{IfThere}
 use Rattle.seg_store.specs.declared.store.StoreFault.{StoreFault}
 use Rattle.seg_store.specs.declared.store.StoreFault.TheVariants.{Full as FullStore, OutOfMemory as NoMemoryLeft}
-use Rattle.seg_store.specs.Meaning.{Part, Meaning, sees, saw, holds, overlay, over, with_part}
-use Rattle.seg_store.specs.Calls.{marked, after_mark, made, after_make}
+use Rattle.seg_store.specs.Meaning.{Part, Meaning, sees, holds, over}
+use Rattle.seg_store.specs.Calls.{after_mark, made, after_make}
 use Rattle.seg_store.specs.Store.{IsFree, IsStore, IsStored, OneList}
 use Rattle.seg_store.proofs.Sees.{same_marks, own_part, make_shows}
 use Rattle.stm_core.specs.declared.books.Progress.{Progress}
@@ -27,7 +27,7 @@ use Rattle.stm_core.specs.declared.books.Books.{Books}
 use Rattle.stm_core.specs.Books.{runs_at, segment_of, core_of, Fit}
 use Rattle.stm_core.specs.Hold.{Hold, sight, Beside, SegDoes, SegRefuses, SegWhy, IsOuter, holding, is_noted, Looks, FaultWhy, stop_of}
 use Rattle.stm_core.specs.SegSense.{Seen}
-use Rattle.stm_core.proofs.Looking.{noted_tracked, noted_fixed}
+use Rattle.stm_core.proofs.Looking.{noted_fixed}
 use Rattle.stm_core.proofs.Holding.{looks_beside, looks_same, looks_mark, beside_own, beside_stop}
 use Rattle.stm_core.proofs.Fits.{fit_own}
 
@@ -153,8 +153,8 @@ start_done {S} k me m r b b1 p p1 o s out live eb et ep =
     let started : p1.started ≡ p.started ++ s ∷ [] = ap (λ (z : Progress S). z.started) ep in
     let kept : p1.kept_started ≡ p.kept_started = ap (λ (z : Progress S). z.kept_started) ep in
     let names : p1.names ≡ p.names = ap (λ (z : Progress S). z.names) ep in
-    let kept_names : p1.kept_names ≡ p.kept_names = ap (λ (z : Progress S). z.kept_names) ep in
-    (λ i. record (sight k (holding m r b p o)) { started = started i },
+    let kept_names : p1.kept_names ≡ p.kept_names = ap (λ (z : Progress S). z.kept_names) ep in (
+      λ i. record (sight k (holding m r b p o)) { started = started i },
       record {
         saw = refl;
         image = refl;
@@ -171,7 +171,8 @@ start_done {S} k me m r b b1 p p1 o s out live eb et ep =
         looked = λ a h. h;
         locks = λ a h. h;
       },
-      live)
+      live,
+    )
 
 -- ---- a record that is made
 
@@ -202,8 +203,8 @@ make_done {S} k me m m1 r r1 b b1 p p1 o o1 q a out live free em er eb ep eo =
     let d = holding m r b p o in
     let e = holding m1 r1 b1 p1 o1 in
     let own = beside_own k me m (made a.0 q (m.part k)) r r1 b p o o1 out er refl refl (λ c h. h) (λ c h. h) in
-    let moved : Beside k me d (holding m1 r1 b1 p o1) = subst (λ z. Beside k me d (holding z r1 b1 p o1)) (sym em) (subst (λ z. Beside k me d (holding (after_make k a.0 q m) r1 z p o1)) (sym eb) own) in
-    ((none, λ i. record (sight k e) { heap = heap i; looked = looked i; touched = touched i; made = makes i; started = started i }),
+    let moved : Beside k me d (holding m1 r1 b1 p o1) = subst (λ z. Beside k me d (holding z r1 b1 p o1)) (sym em) (subst (λ z. Beside k me d (holding (after_make k a.0 q m) r1 z p o1)) (sym eb) own) in (
+      (none, λ i. record (sight k e) { heap = heap i; looked = looked i; touched = touched i; made = makes i; started = started i }),
       record {
         saw = moved.saw;
         image = moved.image;
@@ -220,7 +221,8 @@ make_done {S} k me m m1 r r1 b b1 p p1 o o1 q a out live free em er eb ep eo =
         looked = moved.looked;
         locks = moved.locks;
       },
-      eo ∙ live)
+      eo ∙ live,
+    )
 
 pub make_refused : {S : Type 0} (k : ℕ) (me : Side) (m m1 : Meaning) (r r1 : ℕ) (b b1 : Books S) (p p1 : Progress S) (o o1 : Option Stop) (q : Rec) (x : StoreFault) (s : Stop) → m1 ≡ m → r ≤ r1 → b1 ≡ b → p1 ≡ p → s ≡ stop_of x → o1 ≡ Some s
     → FaultWhy (Unit {0}) r1 m.limit x → SegRefuses k me (Make q) (holding m r b p o) s (holding m1 r1 b1 p1 o1)
@@ -247,8 +249,20 @@ start_refused {S} k me x m m1 r r1 b b1 b2 p p1 p2 o o1 s es eo em er eb et eb2 
     let full : SegRefuses k me (Start x) (holding m r b p o) OutOfMemory (holding m r b1 p (Some OutOfMemory)) = record {
       stopped = refl;
       beside = record {
-        saw = refl; image = refl; segments = refl; limit = refl; reserved = omega arith; dooms = []; others = λ w. core_started w m b b1 eb et;
-        kept_names = refl; kept_started = refl; names = λ h. (h, refl); started = λ h. (h, refl); made = refl; looked = λ a h. h; locks = λ a h. h;
+        saw = refl;
+        image = refl;
+        segments = refl;
+        limit = refl;
+        reserved = omega arith;
+        dooms = [];
+        others = λ w. core_started w m b b1 eb et;
+        kept_names = refl;
+        kept_started = refl;
+        names = λ h. (h, refl);
+        started = λ h. (h, refl);
+        made = refl;
+        looked = λ a h. h;
+        locks = λ a h. h;
       };
       why = tt;
       looked = λ a h. inl h;

@@ -1,7 +1,6 @@
 -- What a client keeps between a heap and the states of the threads is kept by runs, and by the steps of a transaction.
-use Rattle.std.proofs.Common.{◌≡◌, ◌≢◌, ℕ, zero, suc, List, [], ◌∷◌, ◌++◌, slice_get, slice_set, Option, Some, refl, sym, ◌∙◌, ap, subst, append-nil, append_assoc}
+use Rattle.std.proofs.Common.{◌≡◌, ℕ, zero, suc, List, [], ◌∷◌, ◌++◌, slice_get, slice_set, Some, refl, sym, ◌∙◌, ap, subst, append-nil, append_assoc}
 use Rattle.py_data.specs.Heap.{Heap}
-use Rattle.py_data.specs.World.{World}
 use Rattle.py_data.specs.Sight.{Sight, opened}
 use Rattle.py_data.proofs.Mirror.{does_afresh}
 use Rattle.lock_run.specs.Prog.{Prog}
@@ -11,7 +10,7 @@ use Rattle.lock_run.specs.Machine.{Machine, Steps, DoesTurn, Runs}
 use Rattle.lock_run.proofs.Stepping.{get_set, set_set}
 use Rattle.seg_store.specs.Meaning.{overlay}
 use Rattle.stm_core.specs.CoreState.{Transaction, Running, CoreState}
-use Rattle.stm_core.specs.Good.{Stands, Good}
+use Rattle.stm_core.specs.Good.{Good}
 
 set_self : {X : Type 0} (xs : List X) (i : ℕ) (x : X) → slice_get xs i ≡ Some x → slice_set xs i x ≡ xs
 set_self [] i x e = refl

@@ -1,39 +1,34 @@
 -- One step of a client over a segment's view, as the core sees it.
-use Rattle.std.proofs.Common.{◌≡◌, ◌≢◌, ◌⊎◌, ◌<◌, ◌≤◌, ◌+◌, ℕ, zero, suc, Bool, true, false, cond, ◌||◌, eqb, List, [], ◌∷◌, ◌++◌, length, take, slice_get, Option, Some, None, refl, sym, ◌∙◌, ap, subst, inl, inr, arith, Result, Ok, Err, IfOk, IfErr, OnErr}
-use Rattle.std.proofs.lemmas.Bool.{both_ways, cond-true, eq-eqb}
+use Rattle.std.proofs.Common.{◌≡◌, ℕ, suc, false, List, [], ◌∷◌, length, take, refl, sym, ◌∙◌, ap, subst, inl, inr, arith, Result, Ok, Err, IfOk, IfErr, OnErr}
 use Rattle.std.proofs.lemmas.List.{take_all}
 use Rattle.py_data.specs.declared.value.Addr.{Addr}
 use Rattle.py_data.specs.declared.stop.Side.{Side}
-use Rattle.py_data.specs.declared.stop.Conflict.{Conflict}
 use Rattle.py_data.specs.declared.stop.Stop.{Stop}
 use Rattle.py_data.specs.declared.stop.Stop.TheVariants.{Lost, NeedSolo, NeedHeap, Full, ReadFault, WriteFault, ErrFault, OutOfMemory}
-use Rattle.py_data.specs.Heap.{Heap}
 use Rattle.py_data.specs.World.{World}
 use Rattle.py_data.specs.Collection.{places}
-use Rattle.py_data.specs.Row.{Call, Reply, Row, Ret, Do}
+use Rattle.py_data.specs.Row.{Row, Ret, Do}
 use Rattle.py_data.specs.Sense.{Run, Stopped, Upto}
 use Rattle.py_data.specs.Sight.{Sight, Does, mem, pure}
 use Rattle.lock_run.specs.declared.client.Outcome.{Outcome}
-use Rattle.lock_run.specs.declared.client.Outcome.TheVariants.{Waits as WaitsNow}
 use Rattle.lock_run.specs.declared.client.Life.TheVariants.{Lives}
 use Rattle.lock_run.specs.Prog.{Prog}
 use Rattle.lock_run.specs.Client.{AsksToPrint, Stepped, StepStopped, WaitsQuietly}
-use Rattle.seg_store.specs.Meaning.{Part, Meaning, sees, saw, holds, overlay}
-use Rattle.seg_store.specs.Calls.{opened, undone, after_open, after_undo}
+use Rattle.seg_store.specs.Meaning.{Part, Meaning, sees, saw, holds}
+use Rattle.seg_store.specs.Calls.{opened, undone}
 use Rattle.seg_store.specs.Store.{IsStore}
 use Rattle.seg_store.proofs.Sees.{own_part, step_shows}
 use Rattle.stm_core.specs.declared.books.Progress.{Progress}
 use Rattle.stm_core.specs.declared.books.Work.{Work}
 use Rattle.stm_core.specs.declared.books.Books.{Books}
-use Rattle.stm_core.specs.CoreState.{Transaction, CoreState, side, sight_of}
-use Rattle.stm_core.specs.Moves.{Advances, Stays as TxStays}
+use Rattle.stm_core.specs.CoreState.{sight_of}
 use Rattle.stm_core.specs.Books.{runs_at, transaction, core_of, Fit}
-use Rattle.stm_core.specs.Hold.{Hold, sight, Beside, Dooms, SegDoes, SegOpens, SegUndoes, SegWhy, LosesTo, IsOuter}
+use Rattle.stm_core.specs.Hold.{Hold, sight, Dooms, SegOpens, SegUndoes, LosesTo}
 use Rattle.stm_core.specs.SegSense.{seg_sense, seg_bracket, Stays}
 use Rattle.stm_core.specs.Whole.{stepped, StepDone, StepCut, StopsAt, CutWhy, MeetsOuter, IfSolo}
 use Rattle.stm_core.proofs.Holding.{core_own}
 use Rattle.stm_core.proofs.Stepping.{at_world, row_done, sight_is, advances}
-use Rattle.stm_core.proofs.Stopping.{at_used, row_stopped, stays}
+use Rattle.stm_core.proofs.Stopping.{row_stopped, stays}
 
 places_same : (xs ys : List Addr) → places xs ≡ places ys → xs ≡ ys
 places_same [] [] e = refl
@@ -150,9 +145,9 @@ module _ {S X : Type 0} (hold : X → Hold S) (segment : X → ℕ) (me : X → 
         let kn : (hold v1).progress.kept_names ≡ length (hold v1).progress.names = ap (λ (z : Hold S). z.progress.kept_names) op ∙ sym (ap (λ (z : Hold S). length z.progress.names) op) in
         let ks : (hold v1).progress.kept_started ≡ length (hold v1).progress.started = ap (λ (z : Hold S). z.progress.kept_started) op ∙ sym (ap (λ (z : Hold S). length z.progress.started) op) in
         let named : x1.progress.names ≡ x.progress.names = sym (ap (λ (z : Progress S). z.names) ep) ∙ ap (λ (z : Hold S). z.progress.names) un ∙ (st.0.names (omega (arith, kn))).1 ∙ take_whole (hold v1).progress.kept_names (hold v1).progress.names kn
-            ∙ ap (λ (z : Hold S). z.progress.names) op ∙ ap (λ (z : Progress S). z.names) xp in
+        ∙ ap (λ (z : Hold S). z.progress.names) op ∙ ap (λ (z : Progress S). z.names) xp in
         let started : x1.progress.started ≡ x.progress.started = sym (ap (λ (z : Progress S). z.started) ep) ∙ ap (λ (z : Hold S). z.progress.started) un ∙ (st.0.started (omega (arith, ks))).1 ∙ take_whole (hold v1).progress.kept_started (hold v1).progress.started ks
-            ∙ ap (λ (z : Hold S). z.progress.started) op ∙ ap (λ (z : Progress S). z.started) xp in
+        ∙ ap (λ (z : Hold S). z.progress.started) op ∙ ap (λ (z : Progress S). z.started) xp in
         record {
           dooms = st.0.dooms;
           others = subst (λ c. Dooms k s st.0.dooms c (core_of w m1 b1)) (core_begins v1 op) (subst (Dooms k s st.0.dooms (core_of w (hold v1).meaning (hold v1).books)) (sym core1) (st.0.others w));

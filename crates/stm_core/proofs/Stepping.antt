@@ -1,37 +1,32 @@
 -- A step over a segment's view is a step of its transaction, with dooms of others before it.
-use Rattle.std.proofs.Common.{◌≡◌, ◌≢◌, ◌⊎◌, ◌<◌, ◌≤◌, ◌+◌, ℕ, zero, suc, Bool, true, false, cond, not, ◌||◌, ◌&&◌, eqb, List, [], ◌∷◌, ◌++◌, length, take, slice_get, map, Option, Some, None, refl, sym, ◌∙◌, ap, subst, inl, inr, arith, is_some}
-use Rattle.std.proofs.lemmas.Bool.{cases_Bool, both_ways, or_cases, or_left, or_right, or_parts, eqb-true, eqb-false, eq-eqb, ne_eqb, cond-true, cond-false, and_parts, false_from_ne_true}
-use Rattle.py_data.specs.declared.value.Addr.{Addr}
+use Rattle.std.proofs.Common.{◌≡◌, ◌≢◌, ℕ, suc, Bool, true, false, cond, ◌||◌, eqb, List, [], ◌∷◌, slice_get, map, Option, Some, None, refl, sym, ◌∙◌, ap, subst, inl, inr, is_some}
+use Rattle.std.proofs.lemmas.Bool.{cases_Bool, both_ways, or_left, or_right, eqb-true, eq-eqb, ne_eqb, cond-true, cond-false, and_parts}
 use Rattle.py_data.specs.declared.stop.Side.{Side}
 use Rattle.py_data.specs.declared.stop.Conflict.{Conflict}
-use Rattle.py_data.specs.declared.stop.Stop.{Stop}
 use Rattle.py_data.specs.Heap.{Rec, Heap, is_tracked}
 use Rattle.py_data.specs.World.{World}
 use Rattle.py_data.specs.Collection.{places}
 use Rattle.py_data.specs.Row.{Call, Reply, Row, Ret, Do, Read, Find, SetVal, Push, Truncate, PushPair, DropPair, Make, Start, Put, Take, MidLine, SetMidLine}
-use Rattle.py_data.specs.Sense.{Sense, Bracket, Run, Stopped, Upto}
+use Rattle.py_data.specs.Sense.{Run}
 use Rattle.py_data.specs.Sight.{Sight, Act, Does, mem}
 use Rattle.lock_run.specs.declared.client.Outcome.{Outcome}
 use Rattle.lock_run.specs.declared.client.Outcome.TheVariants.{Waits as WaitsNow}
 use Rattle.lock_run.specs.declared.client.Life.TheVariants.{Lives}
 use Rattle.lock_run.specs.Prog.{Prog}
 use Rattle.lock_run.specs.Client.{AsksToPrint, Writes, WritesThen}
-use Rattle.lock_run.specs.Machine.{Step}
-use Rattle.seg_store.specs.Meaning.{Part, Meaning, sees, saw, holds, overlay, over}
+use Rattle.seg_store.specs.Meaning.{Part, Meaning, sees, holds, over}
 use Rattle.seg_store.specs.Store.{IsStore}
-use Rattle.stm_core.specs.declared.books.Progress.{Progress}
 use Rattle.stm_core.specs.declared.books.Work.{Work}
 use Rattle.stm_core.specs.declared.books.Hand.{Hand}
 use Rattle.stm_core.specs.declared.books.Hand.TheVariants.{Idle as IdleHand, Doomed as DoomedHand, Runs}
 use Rattle.stm_core.specs.declared.books.Books.{Books}
-use Rattle.stm_core.specs.CoreState.{Transaction, Segment, Idle, Doomed, Running, CoreState, loser, winner, wins, side, owned, world_after, sight_of, set_segment, with_segment, with_conflict}
+use Rattle.stm_core.specs.CoreState.{Transaction, Segment, Doomed, Running, CoreState, loser, winner, wins, side, owned, sight_of, set_segment, with_segment, with_conflict}
 use Rattle.stm_core.specs.Good.{IsLocked}
-use Rattle.stm_core.specs.Moves.{IsStanding, Advances, IsFree, Move, Dooms as DoomsMove, Goes, Next, Follows}
-use Rattle.stm_core.specs.Books.{WorkFits, is_running, runs_at, names_of, names_at, is_lock, transaction, segment_of, core_of, Fit}
-use Rattle.stm_core.specs.Hold.{Hold, sight, DoomsOne, Dooms, Beside, SegDoes, Inside}
-use Rattle.stm_core.specs.SegSense.{seg_sense, Stays}
+use Rattle.stm_core.specs.Moves.{IsStanding, Advances, IsFree, Dooms as DoomsMove, Follows}
+use Rattle.stm_core.specs.Books.{WorkFits, is_lock, transaction, segment_of, core_of}
+use Rattle.stm_core.specs.Hold.{Hold, sight, Dooms, Beside, SegDoes}
+use Rattle.stm_core.specs.SegSense.{seg_sense}
 use Rattle.stm_core.proofs.Holding.{beside_refl, beside_then}
-use Rattle.stm_core.proofs.Commit.{follows_append}
 
 -- a sight with another world
 abbrev pub at_world : {S : Type 0} → World → Sight S → Sight S

@@ -1,24 +1,20 @@
 -- A row over a segment's view that was stopped, and a step that was taken back.
-use Rattle.std.proofs.Common.{◌≡◌, ◌≢◌, ◌⊎◌, ◌<◌, ◌≤◌, ◌+◌, ℕ, zero, suc, Bool, true, false, cond, ◌||◌, eqb, List, [], ◌∷◌, ◌++◌, length, take, slice_get, Option, Some, None, refl, sym, ◌∙◌, ap, subst, inl, inr, arith}
-use Rattle.std.proofs.lemmas.Bool.{cases_Bool, both_ways, or_cases, or_left, or_right}
+use Rattle.std.proofs.Common.{◌≡◌, ℕ, Bool, true, false, refl, sym, ◌∙◌, ap, subst, inl, inr}
+use Rattle.std.proofs.lemmas.Bool.{or_cases, or_left, or_right}
 use Rattle.py_data.specs.declared.stop.Side.{Side}
-use Rattle.py_data.specs.declared.stop.Conflict.{Conflict}
 use Rattle.py_data.specs.declared.stop.Stop.{Stop}
-use Rattle.py_data.specs.declared.stop.Stop.TheVariants.{OutOfMemory}
-use Rattle.py_data.specs.Heap.{Rec, Heap}
+use Rattle.py_data.specs.Heap.{Heap}
 use Rattle.py_data.specs.World.{World}
 use Rattle.py_data.specs.Collection.{places}
 use Rattle.py_data.specs.Row.{Call, Reply, Row, Ret, Do, Read, Find, SetVal, Push, Truncate, PushPair, DropPair, Make, Start, Put, Take, MidLine, SetMidLine}
 use Rattle.py_data.specs.Sense.{Stopped, Upto}
-use Rattle.py_data.specs.Sight.{Sight, Act, mem, pure}
-use Rattle.lock_run.specs.Client.{AsksToPrint, Writes, WritesThen}
-use Rattle.seg_store.specs.Meaning.{Part, Meaning, sees, saw, holds, overlay, over}
-use Rattle.stm_core.specs.CoreState.{Transaction, owned}
+use Rattle.py_data.specs.Sight.{Sight, Act, mem}
+use Rattle.seg_store.specs.Meaning.{Meaning, sees, over}
 use Rattle.stm_core.specs.Moves.{Stays}
 use Rattle.seg_store.specs.Store.{IsStore}
 use Rattle.stm_core.specs.declared.books.Work.{Work}
 use Rattle.stm_core.specs.Books.{transaction, is_lock}
-use Rattle.stm_core.specs.Hold.{Hold, sight, Beside, SegDoes, SegWhy, SegRefuses}
+use Rattle.stm_core.specs.Hold.{Hold, sight, Beside, SegDoes, SegRefuses}
 use Rattle.stm_core.specs.SegSense.{seg_sense}
 use Rattle.stm_core.specs.Whole.{StopsAt}
 use Rattle.stm_core.proofs.Holding.{beside_refl, beside_then}
@@ -57,9 +53,10 @@ module _ {S X : Type 0} (hold : X → Hold S) (segment : X → ℕ) (me : X → 
           (h.beside, record { left = Do c f; place = at_used w used (sight k (hold v)); upto = inl (refl, refl); why = inr (c, f, refl, h.why) })
       | inr z ↦ let done : SegDoes k s c (hold v) z.0 (hold z.1) = subst (λ i. SegDoes i s c (hold v) z.0 (hold z.1)) ek (subst (λ q. SegDoes (segment v) q c (hold v) z.0 (hold z.1)) es z.2.0) in
           let act = act_used w used k s c (hold v) z.0 (hold z.1) n done in
-          let rest = row_stopped k s act.0 (f z.0) z.1 e u n (z.2.1.segment_is ∙ ek) (z.2.1.me_is ∙ es) z.3 in
-          (beside_then k s (hold v) (hold z.1) (hold u) (call_beside k s c (hold v) z.0 (hold z.1) done) rest.0,
-            record { left = rest.1.left; place = rest.1.place; upto = inr (z.0, at_used w act.0 (sight k (hold z.1)), act.1, rest.1.upto); why = rest.1.why })
+          let rest = row_stopped k s act.0 (f z.0) z.1 e u n (z.2.1.segment_is ∙ ek) (z.2.1.me_is ∙ es) z.3 in (
+            beside_then k s (hold v) (hold z.1) (hold u) (call_beside k s c (hold v) z.0 (hold z.1) done) rest.0,
+            record { left = rest.1.left; place = rest.1.place; upto = inr (z.0, at_used w act.0 (sight k (hold z.1)), act.1, rest.1.upto); why = rest.1.why },
+          )
     ]
   ]
 

@@ -1,9 +1,8 @@
 -- A transaction is taken out of its hand, and put back.
-use Rattle.std.proofs.Common.{◌≡◌, ◌≢◌, ◌<◌, ◌≤◌, ◌+◌, ℕ, zero, suc, Bool, true, false, cond, eqb, List, [], ◌∷◌, ◌++◌, length, take, slice_get, slice_set, Option, Some, None, refl, sym, ◌∙◌, ap, subst, inl, inr, arith, length-set}
+use Rattle.std.proofs.Common.{◌≡◌, ◌≢◌, ◌<◌, ◌≤◌, ◌+◌, ℕ, true, false, eqb, [], ◌∷◌, ◌++◌, length, slice_get, slice_set, Some, refl, sym, ◌∙◌, ap, subst, inl, inr, arith, length-set}
 use Rattle.std.specs.List.{sum_by}
-use Rattle.std.proofs.lemmas.Bool.{cases_Bool, both_ways, eqb-true, eqb-false, eq-eqb, cond-true, cond-false}
+use Rattle.std.proofs.lemmas.Bool.{cases_Bool, both_ways, eqb-true, eqb-false, cond-true, cond-false}
 use Rattle.std.proofs.lemmas.Option.{slice_get_within}
-use Rattle.py_data.specs.Collection.{places}
 use Rattle.py_data.specs.World.{World}
 use Rattle.py_data.specs.Sight.{mem}
 use Rattle.py_data.specs.declared.stop.Conflict.{Conflict}
@@ -14,12 +13,11 @@ use Rattle.stm_core.specs.declared.books.Work.{Work}
 use Rattle.stm_core.specs.declared.books.Hand.{Hand}
 use Rattle.stm_core.specs.declared.books.Hand.TheVariants.{Idle, Runs}
 use Rattle.stm_core.specs.declared.books.Books.{Books}
-use Rattle.stm_core.specs.CoreState.{Running, set_segment, with_segment, with_conflict}
-use Rattle.stm_core.specs.CoreState as model
-use Rattle.stm_core.specs.Books.{WorkFits, is_running, runs_at, names_of, names_at, one_running, one_started, is_lock, transaction, segment_of, core_of, Fit}
+use Rattle.stm_core.specs.CoreState.{set_segment, with_segment, with_conflict}
+use Rattle.stm_core.specs.Books.{WorkFits, is_running, runs_at, one_running, one_started, is_lock, segment_of, core_of, Fit}
 use Rattle.stm_core.specs.Whole.{Whole}
 use Rattle.stm_core.proofs.Publish.{get_set_other}
-use Rattle.stm_core.proofs.Fits.{get_set_same, sum_set, work_at}
+use Rattle.stm_core.proofs.Fits.{get_set_same, sum_set}
 
 -- another hand in the place of one, and the rest of the books
 pub record Set {S : Type 0} (k : ℕ) (h : Hand S) (b b1 : Books S) : Type 0 where

@@ -1,10 +1,10 @@
 -- The books of a core as values, and the core's state that they and a store stand for. States `docs/HEAP.md`, "The
 -- transactional core".
-use Rattle.std.specs.Prelude.{◌≡◌, ◌≢◌, ℕ, ◌+◌, ◌<◌, ◌≤◌, Bool, true, false, ◌&&◌, List, [], ◌∷◌, length, take, map, Option, Some, None, slice_get}
+use Rattle.std.specs.Prelude.{◌≡◌, ◌≢◌, ℕ, ◌+◌, ◌<◌, ◌≤◌, Bool, true, false, ◌&&◌, List, [], length, take, Option, Some, None, slice_get}
 use Rattle.std.specs.List.{sum_by}
 use Rattle.py_data.specs.declared.value.Addr.{Addr}
 use Rattle.py_data.specs.declared.stop.Side.{Side}
-use Rattle.py_data.specs.Heap.{Rec, Heap, Marks, is_tracked}
+use Rattle.py_data.specs.Heap.{Rec, is_tracked}
 use Rattle.py_data.specs.World.{World}
 use Rattle.py_data.specs.Collection.{places}
 use Rattle.py_data.specs.Sight.{mem}

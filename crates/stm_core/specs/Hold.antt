@@ -1,10 +1,10 @@
 -- What a segment's view holds, as values, and what each of its calls does. States `docs/HEAP.md`, "The view of a segment".
-use Rattle.std.specs.Prelude.{◌≡◌, ◌≢◌, ℕ, ◌+◌, ◌<◌, ◌≤◌, ◌⊎◌, Bool, true, false, cond, not, ◌||◌, List, [], ◌∷◌, ◌++◌, Option, Some, None, length, take}
+use Rattle.std.specs.Prelude.{◌≡◌, ◌≢◌, ℕ, ◌+◌, ◌<◌, ◌≤◌, ◌⊎◌, Bool, true, false, cond, not, ◌||◌, List, [], ◌∷◌, Option, Some, None, length, take}
 use Rattle.py_data.specs.declared.stop.Side.{Side}
 use Rattle.py_data.specs.declared.stop.Conflict.{Conflict}
 use Rattle.py_data.specs.declared.stop.Stop.{Stop}
 use Rattle.py_data.specs.declared.stop.Stop.TheVariants.{Lost, NeedSolo, Full, OutOfMemory}
-use Rattle.py_data.specs.Heap.{Rec, Heap, Marks, is_tracked}
+use Rattle.py_data.specs.Heap.{Rec, Heap, is_tracked}
 use Rattle.py_data.specs.World.{World}
 use Rattle.py_data.specs.Sense.{touches}
 use Rattle.py_data.specs.Row.{Call, Reply, Read, Find, SetVal, Push, Truncate, PushPair, DropPair, Make, Start, Put, Take, MidLine, SetMidLine}
@@ -15,11 +15,11 @@ use Rattle.py_data.specs.Changes.{after}
 use Rattle.seg_store.specs.Store.{CanSet as MaySet, CanPush as MayPush, CanCut as MayCut, CanPair as MayPair, HasPair}
 use Rattle.seg_store.specs.declared.store.StoreFault.{StoreFault}
 use Rattle.seg_store.specs.declared.store.StoreFault.TheVariants.{Full as FullStore, OutOfMemory as NoMemoryLeft}
-use Rattle.seg_store.specs.Meaning.{Part, Meaning, sees, saw, holds}
+use Rattle.seg_store.specs.Meaning.{Meaning, sees, saw, holds}
 use Rattle.seg_store.specs.Calls.{after_open, after_undo, after_mark}
 use Rattle.stm_core.specs.declared.books.Progress.{Progress}
 use Rattle.stm_core.specs.declared.books.Books.{Books}
-use Rattle.stm_core.specs.CoreState.{Transaction, Segment, Doomed, Running, CoreState, side, wins, with_segment, with_conflict}
+use Rattle.stm_core.specs.CoreState.{Transaction, Doomed, Running, CoreState, side, wins, with_segment, with_conflict}
 use Rattle.stm_core.specs.Books.{core_of}
 
 -- the store, the books and the progress of the segment's transaction, and the Stop since its open step began

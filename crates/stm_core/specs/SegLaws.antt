@@ -1,22 +1,22 @@
 -- A segment's view keeps the laws of views: the proofs that `impl View for SegView` cites. States `docs/HEAP.md`, "Views".
-use Rattle.std.specs.Prelude.{◌≡◌, ◌≢◌, ◌⊎◌, ℕ, Bool, true, false, cond, eqb, ◌||◌, ◌&&◌, Option, Some, None}
+use Rattle.std.specs.Prelude.{◌≡◌, ◌⊎◌, ℕ, true, eqb, ◌&&◌, Some, None}
 use Rattle.std.proofs.Common.{ap, refl, ◌∙◌, sym, subst, inl, inr, IsSome}
-use Rattle.std.proofs.lemmas.Bool.{cases_Bool, both_ways, or_left, or_right, and_from, eqb-true, eqb-false, eq-eqb, cond-true, cond-false}
+use Rattle.std.proofs.lemmas.Bool.{or_left, and_from, eq-eqb, cond-true}
 use Rattle.py_data.specs.declared.stop.Side.{Side}
 use Rattle.py_data.specs.declared.stop.Stop.{Stop}
-use Rattle.py_data.specs.declared.stop.Stop.TheVariants.{Lost, NeedSolo, NeedHeap, Full, ReadFault, WriteFault, ErrFault, OutOfMemory}
+use Rattle.py_data.specs.declared.stop.Stop.TheVariants.{Lost, NeedSolo, Full, OutOfMemory}
 use Rattle.py_data.specs.declared.stop.Out.TheVariants.{Output, ErrorOutput}
-use Rattle.py_data.specs.Heap.{Rec, Heap, is_tracked, put_at, with_value, with_push, cut_to, with_pair, without_pair}
+use Rattle.py_data.specs.Heap.{Rec, is_tracked, put_at, with_value, with_push, cut_to, with_pair, without_pair}
 use Rattle.py_data.specs.Shape.{find}
 use Rattle.py_data.specs.Row.{Call, Read, Find, SetVal, Push, Truncate, PushPair, DropPair, Make, Start, Put, Take, MidLine, SetMidLine, Reply}
 use Rattle.py_data.specs.Sense.{Lawful, IsBracket, Effect, Edits, can_refuse, touches}
-use Rattle.py_data.specs.Sight.{Sight, Act, Edited, edited, looked_at, made_new}
+use Rattle.py_data.specs.Sight.{Sight, Edited, looked_at}
 use Rattle.py_data.proofs.Steps.{at-is}
 use Rattle.py_data.proofs.Grow.{act_grows, grows_refl, with_rec_here}
 use Rattle.py_data.specs.Frames.{Grows}
-use Rattle.seg_store.specs.Meaning.{Part, Meaning, sees, saw, overlay}
+use Rattle.seg_store.specs.Meaning.{Meaning, sees, saw, overlay}
 use Rattle.seg_store.specs.Calls.{after_open, after_undo, opened, undone}
-use Rattle.stm_core.specs.Hold.{Hold, sight, SegDoes, SegRefuses, SegWhy, Inside, IsOuter, IsHeld, IsChange, IsGrowth}
+use Rattle.stm_core.specs.Hold.{Hold, sight, SegDoes, SegWhy, Inside}
 use Rattle.stm_core.specs.SegSense.{Seen, seg_stops, seg_sense, seg_bracket}
 
 -- what a call that was done shows of itself: all but the question for the flag are done on sights
@@ -150,10 +150,14 @@ module _ {T X : Type 0} (hold : X → Hold T) (segment : X → ℕ) (me : X → 
   seg_bracketed = record {
     keeps = λ c v r w d. (ap (saw (hold w).meaning) d.1.segment_is ∙ kept_base (segment v) (me v) c (hold v) r (hold w) d.0, refl);
     keeps_refused = λ c v e w h. (ap (saw (hold w).meaning) h.1.segment_is ∙ h.0.beside.saw, refl);
-    opened = λ v w h. (ap (sees (hold w).meaning) h.1.segment_is ∙ ap (λ z. sees z.meaning (segment v)) h.0 ∙ (opens_shown (segment v) (hold v).meaning).0,
+    opened = λ v w h. (
+      ap (sees (hold w).meaning) h.1.segment_is ∙ ap (λ z. sees z.meaning (segment v)) h.0 ∙ (opens_shown (segment v) (hold v).meaning).0,
       ap (saw (hold w).meaning) h.1.segment_is ∙ ap (λ z. saw z.meaning (segment v)) h.0 ∙ (opens_shown (segment v) (hold v).meaning).1,
-      ap (λ z. z.stopped) h.0);
-    undone = λ v w h. (ap (sees (hold w).meaning) h.1.segment_is ∙ ap (λ z. sees z.meaning (segment v)) h.0 ∙ undo_shown (segment v) (hold v).meaning,
-      ap (λ z. z.stopped) h.0);
+      ap (λ z. z.stopped) h.0,
+    );
+    undone = λ v w h. (
+      ap (sees (hold w).meaning) h.1.segment_is ∙ ap (λ z. sees z.meaning (segment v)) h.0 ∙ undo_shown (segment v) (hold v).meaning,
+      ap (λ z. z.stopped) h.0,
+    );
     put = λ v w bytes d. absurd d.0;
   }

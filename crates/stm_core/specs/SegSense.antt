@@ -1,12 +1,12 @@
 -- What a segment's view says of itself as a view. States `docs/HEAP.md`, "The view of a segment" and "Views".
-use Rattle.std.specs.Prelude.{◌≡◌, ℕ, Bool, true, false, Option, None, ◌⊎◌, Some}
+use Rattle.std.specs.Prelude.{◌≡◌, ℕ, Bool, true, false, Some}
 use Rattle.py_data.specs.declared.stop.Side.{Side}
 use Rattle.py_data.specs.declared.stop.Stop.{Stop}
 use Rattle.py_data.specs.declared.stop.Stop.TheVariants.{Lost, NeedSolo, Full, OutOfMemory}
 use Rattle.py_data.specs.Heap.{Rec, is_tracked}
 use Rattle.py_data.specs.Row.{Call, Read}
 use Rattle.py_data.specs.Sense.{Sense, Bracket}
-use Rattle.seg_store.specs.Meaning.{Meaning, sees, saw}
+use Rattle.seg_store.specs.Meaning.{sees, saw}
 use Rattle.stm_core.specs.Hold.{Hold, SegDoes, SegRefuses, SegOpens, SegUndoes}
 
 -- the Stops that a segment's view can give

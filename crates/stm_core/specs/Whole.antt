@@ -1,26 +1,24 @@
 -- Store and books fit together, with a transaction out of its hand and with all in their hands. States `docs/HEAP.md`, "The
 -- transactional core".
-use Rattle.std.specs.Prelude.{◌≡◌, ◌≢◌, ◌⊎◌, ℕ, ◌+◌, ◌<◌, ◌≤◌, Bool, true, false, List, [], ◌∷◌, ◌++◌, length, take, Option, Some, None, slice_get, suc, map}
+use Rattle.std.specs.Prelude.{◌≡◌, ◌≢◌, ◌⊎◌, ℕ, ◌+◌, ◌<◌, ◌≤◌, true, List, length, Some, slice_get, suc}
 use Rattle.std.specs.List.{sum_by}
 use Rattle.py_data.specs.declared.stop.Side.{Side}
 use Rattle.py_data.specs.declared.stop.Conflict.{Conflict}
 use Rattle.py_data.specs.declared.stop.Stop.{Stop}
 use Rattle.py_data.specs.declared.stop.Stop.TheVariants.{Lost, NeedSolo, Full, OutOfMemory}
 use Rattle.py_data.specs.World.{World}
-use Rattle.py_data.specs.Collection.{places}
 use Rattle.py_data.specs.Row.{Call, Reply, Row, Do}
 use Rattle.py_data.specs.Sense.{Upto}
 use Rattle.py_data.specs.Sight.{Sight, mem, pure}
 use Rattle.lock_run.specs.declared.client.Outcome.{Outcome}
 use Rattle.lock_run.specs.declared.client.Outcome.TheVariants.{Waits as WaitsNow}
 use Rattle.lock_run.specs.Prog.{Prog}
-use Rattle.seg_store.specs.Meaning.{Part, Meaning, sees, holds}
+use Rattle.seg_store.specs.Meaning.{Meaning, holds}
 use Rattle.stm_core.specs.declared.books.Work.{Work}
-use Rattle.stm_core.specs.declared.books.Hand.{Hand}
 use Rattle.stm_core.specs.declared.books.Hand.TheVariants.{Runs}
 use Rattle.stm_core.specs.declared.books.Books.{Books}
-use Rattle.stm_core.specs.CoreState.{Transaction, CoreState, sight_of, side}
-use Rattle.stm_core.specs.Moves.{Advances, Stays, IsFree}
+use Rattle.stm_core.specs.CoreState.{CoreState, sight_of}
+use Rattle.stm_core.specs.Moves.{Advances, Stays}
 use Rattle.stm_core.specs.Books.{WorkFits, runs_at, one_running, one_started, is_lock, transaction, core_of}
 use Rattle.stm_core.specs.Hold.{Dooms, SegWhy, LosesTo, IsOuter, Hold}
 

@@ -1,4 +1,4 @@
-use Rattle.std.proofs.Common.{arith, ap, ◌∙◌, ◌<◌}
+use Rattle.std.proofs.Common.{ap, ◌∙◌}
 use Rattle.stm_core.specs.CoreState.{with_conflict}
 use Rattle.stm_core.proofs.Wholes.{noted, core_noted, still_room, some_room}
 use Rattle.stm_core.proofs.core.Core.lose_out.Goals as goal

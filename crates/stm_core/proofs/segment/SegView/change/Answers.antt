@@ -1,8 +1,6 @@
-use Rattle.std.proofs.Common.{ap, sym, ◌∙◌, subst, eqb, true, refl}
-use Rattle.std.proofs.lemmas.Bool.{or_left, eq-eqb}
 use Rattle.py_data.specs.Changes.{after}
-use Rattle.seg_store.specs.Meaning.{sees, holds}
-use Rattle.stm_core.specs.Hold.{holding, Changed}
+use Rattle.seg_store.specs.Meaning.{sees}
+use Rattle.stm_core.specs.Hold.{holding}
 use Rattle.stm_core.proofs.Changing.{can_ready, change_done, change_held_at, runs_moved, after_moved}
 use Rattle.stm_core.proofs.segment.SegView.change.Goals as goal
 

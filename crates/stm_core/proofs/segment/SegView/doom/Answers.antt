@@ -1,4 +1,4 @@
-use Rattle.std.proofs.Common.{arith, ◌∙◌, sym, ap, refl, subst, ◌<◌, length}
+use Rattle.std.proofs.Common.{sym, ap, subst, ◌<◌}
 use Rattle.stm_core.specs.Books.{Fit}
 use Rattle.stm_core.proofs.Fits.{started_pending, runs_within, fit_doom}
 use Rattle.stm_core.proofs.segment.SegView.doom.Goals as goal

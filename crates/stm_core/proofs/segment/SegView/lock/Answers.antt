@@ -1,4 +1,4 @@
-use Rattle.std.proofs.Common.{refl, ap, sym, ◌∙◌}
+use Rattle.std.proofs.Common.{refl, ap, ◌∙◌}
 use Rattle.stm_core.proofs.Holding.{holds_locked, fails_memory}
 use Rattle.stm_core.proofs.Fits.{fit_lock_result}
 use Rattle.stm_core.proofs.segment.SegView.lock.Goals as goal

@@ -1,9 +1,7 @@
-use Rattle.std.proofs.Common.{refl, sym, ◌∙◌, ap, subst, ◌++◌, [], ◌∷◌}
+use Rattle.std.proofs.Common.{refl, sym, ap, subst}
 use Rattle.py_data.specs.Made.{rec_of}
-use Rattle.stm_core.specs.declared.books.Progress.{Progress}
 use Rattle.stm_core.specs.Books.{Fit}
 use Rattle.stm_core.proofs.Seeing.{fit_made, name_set, name_back}
-use Rattle.stm_core.proofs.segment.SegView.name_made.Given as given
 use Rattle.stm_core.proofs.segment.SegView.name_made.Goals as goal
 
 pub invariant_of-self-in-Ok : goal.invariant_of-self-in-Ok

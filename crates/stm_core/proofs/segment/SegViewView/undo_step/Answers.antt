@@ -1,4 +1,4 @@
-use Rattle.std.proofs.Common.{arith, refl, length}
+use Rattle.std.proofs.Common.{refl, length}
 use Rattle.stm_core.proofs.Fits.{fit_undo, undone_pending}
 use Rattle.stm_core.proofs.segment.SegViewView.undo_step.Goals as goal
 
