@@ -43,7 +43,7 @@ use Rattle.py_parser.specs.declared.fault.Construct.TheVariants as left
 pub tests_nil : (r : Tall (List Expr)) → plus_tests r [] ≡ r
 tests_nil r = same (append-nil r.tree) (omega arith) refl
 
-links_nil : (r : Tall (List Link)) → r.form ≡ Plain → plus_links r [] ≡ r
+pub links_nil : (r : Tall (List Link)) → r.form ≡ Plain → plus_links r [] ≡ r
 links_nil r e = same (append-nil r.tree) (omega arith) (sym e)
 
 pub tests_trailing : (next : Test) (f : ℕ) (found : Tall (List Expr)) (p : Place) (us : List Token) → 0 < f → comes 14 (first us) ≡ false → tests_at next f found (at c.comma p ∷ us) ≡ Ok ((found, true), us)
@@ -57,7 +57,7 @@ links_first : {x : Marks} {l : Level} {ls : List Link} {us : List Token} → Lin
 links_first (G.link l o p q e a) rest = (word_links o l e, word_stops o l e)
 links_first (G.more_links l o p q e a r) rest = (word_links o l e, word_stops o l e)
 
-s_links_end : (l : Level) (next : Test) (f : ℕ) (found : Tall (List Link)) (us : List Token) → links l (first us) ≡ false → links_at l next f found us ≡ Ok (found, us)
+pub s_links_end : (l : Level) (next : Test) (f : ℕ) (found : Tall (List Link)) (us : List Token) → links l (first us) ≡ false → links_at l next f found us ≡ Ok (found, us)
 unfolding links_at
 s_links_end l next zero found us h = refl
 s_links_end l next (suc f) found us h = ap (λ o. linked next (links_at l next f) o found us) (none_of (operator_of l (first us)) h)
@@ -105,7 +105,7 @@ s_pairs : (next : Test) (f : ℕ) (found : Tall (List Pair)) (p : Place) (us : L
 unfolding pairs_at
 s_pairs next f found p us h = rw h refl
 
-s_pairs_end : (next : Test) (f : ℕ) (found : Tall (List Pair)) (us : List Token) → is_op 38 (first us) ≡ false → pairs_at next f found us ≡ Ok (found, us)
+pub s_pairs_end : (next : Test) (f : ℕ) (found : Tall (List Pair)) (us : List Token) → is_op 38 (first us) ≡ false → pairs_at next f found us ≡ Ok (found, us)
 unfolding pairs_at
 s_pairs_end next zero found us h = refl
 s_pairs_end next (suc f) found us h = rw h refl
@@ -115,7 +115,7 @@ unfolding pairs_at
 pairs_trailing next zero found p us b h = absurd (omega arith)
 pairs_trailing next (suc f) found p us b h = rw h refl
 
-pairs_nil : (r : Tall (List Pair)) → r.form ≡ Plain → plus_pairs r [] ≡ r
+pub pairs_nil : (r : Tall (List Pair)) → r.form ≡ Plain → plus_pairs r [] ≡ r
 pairs_nil r e = same (append-nil r.tree) (omega arith) (sym e)
 
 pairs_one : (r : Tall (List Pair)) (a b : Expr) → push_pair r (of a) (of b) ≡ plus_pairs r (record { key = a; value = b } ∷ [])
@@ -124,10 +124,10 @@ pairs_one r a b = sym (pairs_nil (push_pair r (of a) (of b)) refl) ∙ push_pair
 dict_one : (a b : Expr) → of_dict (push_pair (plain [] 0) (of a) (of b)) ≡ of (e.Dict (record { key = a; value = b } ∷ []))
 dict_one a b = ap of_dict (pairs_one (plain [] 0) a b) ∙ as_dict (record { key = a; value = b } ∷ [])
 
-trailers_nil : (r : Tall (List Trailer)) → plus_trailers r [] ≡ r
+pub trailers_nil : (r : Tall (List Trailer)) → plus_trailers r [] ≡ r
 trailers_nil r = same (append-nil r.tree) (omega arith) refl
 
-trail_long : {x : Marks} {r : Trailer} {us : List Token} → Trails x r us → 0 < length us
+pub trail_long : {x : Marks} {r : Trailer} {us : List Token} → Trails x r us → 0 < length us
 trail_long (G.attribute x n p q) = omega arith
 trail_long (G.index p q {ts = ts} a) = omega (arith, length-append ts (at c.close_square q ∷ []))
 trail_long (G.slice p q r {ts = ts} {us = us} a b) = omega (arith, length-append (ts ++ at c.colon q ∷ us) (at c.close_square r ∷ []))
@@ -141,7 +141,7 @@ s_trailers : (under : Below) (g f : ℕ) (found : Tall (List Trailer)) (us : Lis
 unfolding trailers_at
 s_trailers under g f found us h = rw h refl
 
-s_trailers_end : (under : Below) (g f : ℕ) (found : Tall (List Trailer)) (us : List Token) → trails (first us) ≡ false → trailers_at under g f found us ≡ Ok (found, us)
+pub s_trailers_end : (under : Below) (g f : ℕ) (found : Tall (List Trailer)) (us : List Token) → trails (first us) ≡ false → trailers_at under g f found us ≡ Ok (found, us)
 unfolding trailers_at
 s_trailers_end under g zero found us h = refl
 s_trailers_end under g (suc f) found us h = rw h refl
@@ -248,7 +248,7 @@ strings (G.more x w p {r = r} {ts = ts} q) g d rest b h s =
     (then_reads x _ (λ x. Ok (of_string x.0, x.1)) (w ++ r) rest _ rest (complete_strings q g w rest (omega arith) s) (inl (ap (λ v. Ok (v, rest)) (as_string (w ++ r)))))
 strings (G.unicode p) g d rest b h s = inr (left.Unicode, _, refl, reads_atom g d _ h ∙ s_other (reads g (d - 1)) g other.Unicode p rest left.Unicode refl)
 
-named_nil : (r : Tall (List Named)) → r.form ≡ Plain → plus_named r [] ≡ r
+pub named_nil : (r : Tall (List Named)) → r.form ≡ Plain → plus_named r [] ≡ r
 named_nil r e = same (append-nil r.tree) (omega arith) (sym e)
 
 nameds_one : (r : Tall (List Named)) (n : List ℕ) (a : Expr) → push_named r n (of a) ≡ plus_named r (record { name = n; value = a } ∷ [])
@@ -270,7 +270,7 @@ name_14 g d m p us b s = ok_of (name_read 14 (omega arith) g d m p us b s)
 abbrev named_next : Test → ℕ → Tall (List Expr) → List ℕ → Tall Expr × List Token → Reads (Tall Trailer)
 named_next next f found n b = named_at next f (push_named (plain [] 0) n b.0) b.1 >>= λ ns. Ok (of_call found ns.0, ns.1)
 
-s_named_end : (next : Test) (f : ℕ) (found : Tall (List Named)) (us : List Token) → is_op 38 (first us) ≡ false → named_at next f found us ≡ Ok (found, us)
+pub s_named_end : (next : Test) (f : ℕ) (found : Tall (List Named)) (us : List Token) → is_op 38 (first us) ≡ false → named_at next f found us ≡ Ok (found, us)
 unfolding named_at
 s_named_end next zero found us h = refl
 s_named_end next (suc f) found us h = rw h refl

@@ -8,3 +8,9 @@ mod Simple
 mod Blocks
 mod Whole
 mod Tests
+mod Told
+mod Tells
+mod Atoms
+mod Trails
+mod Rungs
+mod Levels
