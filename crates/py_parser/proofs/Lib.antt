@@ -1,0 +1,10 @@
+mod Steps
+mod Facts
+mod Values
+mod Begin
+mod Complete
+mod Unique
+mod Simple
+mod Blocks
+mod Whole
+mod Tests
