@@ -9,7 +9,8 @@ use Rattle.py_tree.specs.declared.expr.Expr.{Expr}
 use Rattle.py_tree.specs.Height.{height}
 use Rattle.py_parser.specs.declared.fault.Fault.TheVariants.{LeftOut, Deep}
 use Rattle.py_parser.specs.Grammar.{Marks}
-use Rattle.py_parser.specs.Tall.{Tall, push, start, of_tuple}
+use Rattle.py_parser.specs.declared.tall.Tall.{Tall}
+use Rattle.py_parser.specs.Tall.{push, start, of_tuple}
 use Rattle.py_tree.specs.Height.{tops}
 use Rattle.py_tree.proofs.Heights as hh
 use Rattle.std.proofs.Common.{map}
@@ -38,7 +39,7 @@ use Rattle.py_parser.specs.Grammar.{Is, Strings, Tests, Commas, Exprs, Pairs, Li
 use Rattle.py_tree.specs.Height.{top_or, highest}
 use Rattle.py_parser.specs.Reading.{op_at, keyword_at, name_at}
 use Rattle.py_parser.specs.Codes as c
-use Rattle.py_parser.specs.declared.fault.Construct.TheVariants as left
+use Rattle.py_data.specs.declared.refusal.Construct.TheVariants as left
 
 -- what begins no further clause
 abbrev pub clear : TokenKind → Bool

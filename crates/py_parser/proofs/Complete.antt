@@ -11,11 +11,12 @@ use Rattle.py_tree.specs.declared.expr.Level.{Level}
 use Rattle.py_tree.specs.declared.expr.Operator.{Operator}
 use Rattle.py_tree.specs.Height.{height}
 use Rattle.py_tree.specs.Form.{form}
-use Rattle.py_parser.specs.declared.fault.Construct.{Construct}
+use Rattle.py_data.specs.declared.refusal.Construct.{Construct}
 use Rattle.py_parser.specs.declared.fault.Fault.TheVariants.{LeftOut}
 use Rattle.py_parser.specs.Words.{below, level_of}
 use Rattle.py_parser.specs.Grammar.{Marks}
-use Rattle.py_parser.specs.Tall.{Tall, plain, push, none, start, push_link, push_pair, push_named, push_trailer, of_name, of_string, of_tuple, of_list, of_dict, of_trail, of_power, of_sign, of_chain, of_not, of_choice, of_attribute, of_index, of_slice, of_call}
+use Rattle.py_parser.specs.declared.tall.Tall.{Tall}
+use Rattle.py_parser.specs.Tall.{plain, push, none, start, push_link, push_pair, push_named, push_trailer, of_name, of_string, of_tuple, of_list, of_dict, of_trail, of_power, of_sign, of_chain, of_not, of_choice, of_attribute, of_index, of_slice, of_call}
 use Rattle.py_tree.specs.Height.{tops, tops_links, tops_pairs, tops_named, tops_trailers, height_trailer}
 use Rattle.py_tree.proofs.Heights as hh
 use Rattle.py_tree.specs.declared.form.Form.{Form}
@@ -26,7 +27,8 @@ use Rattle.py_tree.specs.declared.expr.Pair.{Pair}
 use Rattle.py_tree.specs.declared.expr.Named.{Named}
 use Rattle.py_tree.specs.declared.expr.Trailer.{Trailer}
 use Rattle.py_tree.specs.declared.expr.Trailer.TheVariants as t
-use Rattle.py_parser.specs.Reading.{Reads, Test, ◌>>=◌, Below, first, rest, is_op, is_keyword, comes, is_some, Chosen, rung_of, rung_at, reads, atom_at, trail_at, power_at, chain_at, choice_at, after_at, trails, links, links_at}
+use Rattle.py_parser.specs.declared.rung.Rung.TheVariants.{Chosen}
+use Rattle.py_parser.specs.Reading.{Reads, Test, ◌>>=◌, Below, first, rest, is_op, is_keyword, comes, is_some, rung_of, rung_at, reads, atom_at, trail_at, power_at, chain_at, choice_at, after_at, trails, links, links_at}
 use Rattle.py_parser.proofs.Steps.{of, Reaches, then_reads, at_same, reads_atom, reads_up, quiet, after_quiet, none_of}
 use Rattle.py_parser.proofs.Facts.{no, no_head, not_op, not_keyword, stops_down, takes_not, rung_below, word_stops, word_links, operator_step}
 use Rattle.py_parser.proofs.Values.{plus_tests, push_tests, plus_links, push_links, plus_pairs, push_pairs, plus_named, push_nameds, plus_trailers, push_trailers, of_r, of_or, same, as_name, as_int, as_string, as_group, as_unit, as_tuple, as_no_list, as_list, as_dict, as_trail, as_power, as_sign, as_chain, as_not, as_choice, as_attribute, as_index, as_slice, as_call}
@@ -38,7 +40,7 @@ use Rattle.py_parser.specs.Grammar.{Is, Strings, Tests, Commas, Exprs, Pairs, Li
 use Rattle.py_tree.specs.Height.{top_or}
 use Rattle.py_parser.specs.Reading.{is_bare, is_none, linked, operator_of, round_close, list_close, dict_close, dict_value, tests_at, pairs_at, op_at, keyword_at, name_at, trailers_at, trailer_at, subscript_at, index_close, slice_at, slice_close, call_at, args_at, arg_by, named_at, keyed}
 use Rattle.py_parser.specs.Codes as c
-use Rattle.py_parser.specs.declared.fault.Construct.TheVariants as left
+use Rattle.py_data.specs.declared.refusal.Construct.TheVariants as left
 
 pub tests_nil : (r : Tall (List Expr)) → plus_tests r [] ≡ r
 tests_nil r = same (append-nil r.tree) (omega arith) refl

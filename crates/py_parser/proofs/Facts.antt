@@ -9,10 +9,11 @@ use Rattle.py_tree.specs.declared.expr.Level.{Level}
 use Rattle.py_tree.specs.declared.expr.Level.TheVariants as level
 use Rattle.py_tree.specs.declared.expr.Operator.{Operator}
 use Rattle.py_tree.specs.declared.expr.Operator.TheVariants as op
-use Rattle.py_parser.specs.declared.fault.Construct.{Construct}
+use Rattle.py_data.specs.declared.refusal.Construct.{Construct}
 use Rattle.py_parser.specs.Words.{below, level_of, first_word}
-use Rattle.py_parser.specs.Tall.{Tall}
-use Rattle.py_parser.specs.Reading.{Reader, Test, ◌>>=◌, first, is_op, is_keyword, comes, starts, is_some, Chained, rung_of, sign_of, links}
+use Rattle.py_parser.specs.declared.tall.Tall.{Tall}
+use Rattle.py_parser.specs.declared.rung.Rung.TheVariants.{Chained}
+use Rattle.py_parser.specs.Reading.{Reader, Test, ◌>>=◌, first, is_op, is_keyword, comes, starts, is_some, rung_of, sign_of, links}
 use Rattle.py_parser.specs.Tall.{push_link}
 use Rattle.py_parser.specs.Words.{spelled}
 use Rattle.py_parser.specs.Reading.{linked, operator_of, operator_rest, keyword_at}

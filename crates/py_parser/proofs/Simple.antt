@@ -12,7 +12,8 @@ use Rattle.py_tree.specs.Height.{height}
 use Rattle.py_tree.specs.Form.{form}
 use Rattle.py_parser.specs.declared.fault.Fault.TheVariants.{LeftOut}
 use Rattle.py_parser.specs.Grammar.{Marks}
-use Rattle.py_parser.specs.Tall.{Tall, push, none, start}
+use Rattle.py_parser.specs.declared.tall.Tall.{Tall}
+use Rattle.py_parser.specs.Tall.{push, none, start}
 use Rattle.py_tree.specs.Height.{tops}
 use Rattle.py_tree.specs.Form.{is_target}
 use Rattle.py_tree.proofs.Heights as hh
@@ -40,7 +41,7 @@ use Rattle.py_tree.proofs.Talls as ht
 use Rattle.py_parser.specs.Grammar.{Is, Strings, Tests, Commas, Exprs, Pairs, Links, Trailers, Trails, Maybe, Args}
 use Rattle.py_parser.specs.Reading.{tests_at, keyword_at, name_at}
 use Rattle.py_parser.specs.Codes as c
-use Rattle.py_parser.specs.declared.fault.Construct.TheVariants as left
+use Rattle.py_data.specs.declared.refusal.Construct.TheVariants as left
 
 -- what may follow a simple statement
 pub data Ends : TokenKind → Type 0 where

@@ -5,12 +5,14 @@ use Rattle.py_tree.specs.declared.expr.Expr.{Expr}
 use Rattle.py_tree.specs.declared.expr.Level.{Level}
 use Rattle.py_tree.specs.Height.{height}
 use Rattle.py_tree.specs.Form.{form}
-use Rattle.py_parser.specs.declared.fault.Construct.{Construct}
+use Rattle.py_data.specs.declared.refusal.Construct.{Construct}
 use Rattle.py_parser.specs.declared.fault.Fault.TheVariants.{LeftOut}
 use Rattle.py_parser.specs.Words.{below}
 use Rattle.py_parser.specs.Grammar.{Marks}
-use Rattle.py_parser.specs.Tall.{Tall}
-use Rattle.py_parser.specs.Reading.{Reads, Test, ◌>>=◌, Below, first, is_op, is_keyword, is_some, Rung, Trailed, Powered, Signed, Chained, Negated, Chosen, Listed, rung_of, rung_at, level_at, reads, atom_at, trail_at, power_at, chain_at, choice_at, after_at, signed, sign_of, trails, links}
+use Rattle.py_parser.specs.declared.tall.Tall.{Tall}
+use Rattle.py_parser.specs.declared.rung.Rung.{Rung}
+use Rattle.py_parser.specs.declared.rung.Rung.TheVariants.{Trailed, Powered, Signed, Chained, Negated, Chosen, Listed}
+use Rattle.py_parser.specs.Reading.{Reads, Test, ◌>>=◌, Below, first, is_op, is_keyword, is_some, rung_of, rung_at, level_at, reads, atom_at, trail_at, power_at, chain_at, choice_at, after_at, signed, sign_of, trails, links}
 use Rattle.py_parser.specs.Follow.{takes, heads}
 
 -- a tree with its height and form

@@ -3,7 +3,7 @@ use Rattle.std.proofs.Common.{◌≡◌, max, List, [], length, Ok, Err, None, i
 use Rattle.py_tokens.specs.declared.token.Token.{Token}
 use Rattle.py_tree.specs.declared.expr.Expr.{Expr}
 use Rattle.py_tree.specs.Height.{height}
-use Rattle.py_parser.specs.Tall.{Tall}
+use Rattle.py_parser.specs.declared.tall.Tall.{Tall}
 use Rattle.py_parser.specs.Grammar.{Exprs}
 use Rattle.py_parser.specs.Reading.{Reads, is_some}
 use Rattle.py_parser.proofs.Steps.{Reaches}

@@ -1,7 +1,9 @@
 -- What may follow an expression without being taken for a part of it. It belongs to the reading of `Reading`, which `docs/LANGUAGE.md`, "Grammar", is the rule of.
 use Rattle.std.specs.Prelude.{ℕ, zero, suc, Bool, false, not, ◌&&◌, ◌||◌}
 use Rattle.py_tokens.specs.declared.token.TokenKind.{TokenKind}
-use Rattle.py_parser.specs.Reading.{Rung, Trailed, Powered, Signed, Chained, Negated, Chosen, Listed, rung_of, is_op, is_keyword, is_some, comes, trails, links, sign_of, string_of, is_unicode}
+use Rattle.py_parser.specs.declared.rung.Rung.{Rung}
+use Rattle.py_parser.specs.declared.rung.Rung.TheVariants.{Trailed, Powered, Signed, Chained, Negated, Chosen, Listed}
+use Rattle.py_parser.specs.Reading.{rung_of, is_op, is_keyword, is_some, comes, trails, links, sign_of, string_of, is_unicode}
 
 -- what a rung takes after the level below it
 abbrev pub takes : Rung → TokenKind → Bool

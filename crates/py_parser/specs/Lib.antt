@@ -7,3 +7,4 @@ pub mod Tall
 pub mod Reading
 pub mod Follow
 pub mod Lines
+pub mod Outcome

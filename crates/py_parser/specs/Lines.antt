@@ -6,7 +6,8 @@ use Rattle.py_tokens.specs.declared.token.TokenKind.{TokenKind}
 use Rattle.py_tokens.specs.declared.token.TokenKind.TheVariants as k
 use Rattle.py_tree.specs.Form.{is_target, is_single}
 use Rattle.py_parser.specs.Words.{line_of}
-use Rattle.py_parser.specs.Tall.{Tall, push, start, of_tuple, tree_or}
+use Rattle.py_parser.specs.declared.tall.Tall.{Tall}
+use Rattle.py_parser.specs.Tall.{push, start, of_tuple, tree_or}
 use Rattle.py_tree.specs.declared.expr.Expr.{Expr}
 use Rattle.py_tree.specs.declared.expr.Operator.{Operator}
 use Rattle.py_tree.specs.declared.stmt.Stmt.{Stmt}
@@ -17,7 +18,7 @@ use Rattle.py_tree.specs.declared.stmt.Param.{Param}
 use Rattle.py_tree.specs.declared.stmt.Arm.{Arm}
 use Rattle.py_tree.specs.declared.stmt.Clause.{Clause}
 use Rattle.py_tree.specs.declared.stmt.Handler.{Handler}
-use Rattle.py_parser.specs.declared.fault.Construct.TheVariants as left
+use Rattle.py_data.specs.declared.refusal.Construct.TheVariants as left
 use Rattle.py_parser.specs.declared.fault.Fault.TheVariants.{Unexpected, LeftOut, Deep}
 use Rattle.py_parser.specs.Words.{assigned, is_module, is_member}
 use Rattle.py_parser.specs.Reading.{Reads, Reader, ◌>>=◌, Below, first, rest, is_op, is_keyword, is_some, op_at, keyword_at, name_at, comes, tests_at, reads}

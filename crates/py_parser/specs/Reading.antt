@@ -7,7 +7,10 @@ use Rattle.py_tokens.specs.declared.token.TokenKind.{TokenKind}
 use Rattle.py_tokens.specs.declared.token.TokenKind.TheVariants as k
 use Rattle.py_tree.specs.declared.form.Form.{Form}
 use Rattle.py_tree.specs.declared.form.Form.TheVariants.{Bare}
-use Rattle.py_parser.specs.Tall.{Tall, plain, push, none, start, push_link, push_pair, push_named, push_trailer, of_name, of_int, of_string, of_group, unit, of_tuple, of_list, of_dict, of_trail, of_power, of_sign, of_chain, of_not, of_choice, of_attribute, of_index, of_slice, of_call}
+use Rattle.py_parser.specs.declared.rung.Rung.{Rung}
+use Rattle.py_parser.specs.declared.rung.Rung.TheVariants.{Trailed, Powered, Signed, Chained, Negated, Chosen, Listed}
+use Rattle.py_parser.specs.declared.tall.Tall.{Tall}
+use Rattle.py_parser.specs.Tall.{plain, push, none, start, push_link, push_pair, push_named, push_trailer, of_name, of_int, of_string, of_group, unit, of_tuple, of_list, of_dict, of_trail, of_power, of_sign, of_chain, of_not, of_choice, of_attribute, of_index, of_slice, of_call}
 use Rattle.py_tree.specs.declared.expr.Expr.{Expr}
 use Rattle.py_tree.specs.declared.expr.Link.{Link}
 use Rattle.py_tree.specs.declared.expr.Pair.{Pair}
@@ -20,8 +23,8 @@ use Rattle.py_tree.specs.declared.expr.Operator.TheVariants as op
 use Rattle.py_tree.specs.declared.expr.Sign.{Sign}
 use Rattle.py_tree.specs.declared.expr.Sign.TheVariants as sign
 use Rattle.py_parser.specs.Words.{below}
-use Rattle.py_parser.specs.declared.fault.Construct.{Construct}
-use Rattle.py_parser.specs.declared.fault.Construct.TheVariants as left
+use Rattle.py_data.specs.declared.refusal.Construct.{Construct}
+use Rattle.py_data.specs.declared.refusal.Construct.TheVariants as left
 use Rattle.py_parser.specs.declared.fault.Fault.{Fault}
 use Rattle.py_parser.specs.declared.fault.Fault.TheVariants.{Unexpected, LeftOut, Deep}
 
@@ -376,16 +379,6 @@ after_at under g d a ts = if is_op 38 (first ts) then (if nat_lt d (a.tall + 1) 
 abbrev pub signed : Below → ℕ → Test → Option Sign → Test
 signed under d operand None ts = operand ts
 signed under d operand (Some s) ts = if nat_lt d 2 then Err (Deep, ts) else (under.read 3 (rest ts) >>= λ a. Ok (of_sign s a.0, a.1))
-
--- what a level of expressions adds to the level below it
-pub data Rung : Type 0 where
-  Trailed : Rung
-  Powered : Rung
-  Signed : Rung
-  Chained : Level → Rung
-  Negated : Rung
-  Chosen : Rung
-  Listed : Rung
 
 abbrev pub rung_of : ℕ → Rung
 rung_of n =

@@ -1,5 +1,6 @@
 -- A tree with its height and its form, as reading builds it. The heights are those of `docs/LANGUAGE.md`, "Height".
 use Rattle.std.specs.Prelude.{ℕ, ℤ, ◌+◌, max, ◌&&◌, true, false, List, [], ◌∷◌, ◌++◌, Option, Some, None}
+use Rattle.py_parser.specs.declared.tall.Tall.{Tall}
 use Rattle.py_tree.specs.declared.form.Form.{Form}
 use Rattle.py_tree.specs.declared.form.Form.TheVariants.{Bare, Part, Cut, Many, Plain}
 use Rattle.py_tree.specs.Form.{is_target}
@@ -13,12 +14,6 @@ use Rattle.py_tree.specs.declared.expr.Named.{Named}
 use Rattle.py_tree.specs.declared.expr.Level.{Level}
 use Rattle.py_tree.specs.declared.expr.Operator.{Operator}
 use Rattle.py_tree.specs.declared.expr.Sign.{Sign}
-
--- `tall` of a list is that of its highest part, and 0 for none.
-pub record Tall (A : Type 0) : Type 0 where
-  pub tree : A
-  pub tall : ℕ
-  pub form : Form
 
 abbrev pub plain : {A : Type 0} → A → ℕ → Tall A
 plain a h = record { tree = a; tall = h; form = Plain }

@@ -1,5 +1,6 @@
 -- The tokens that operators, modules and their members are spelled with. States `docs/LANGUAGE.md`, "Grammar".
-use Rattle.std.specs.Prelude.{ℕ, Bool, true, false, ◌==◌, ◌&&◌, ◌||◌, List, [], ◌∷◌, Option, Some, None, if◌then◌else◌}
+use Rattle.std.specs.Prelude.{codes, ℕ, Bool, true, false, ◌==◌, ◌&&◌, ◌||◌, List, [], ◌∷◌, Option, Some, None, if◌then◌else◌}
+use Rattle.std.specs.Str.{bytes_eq}
 use Rattle.py_tokens.specs.declared.token.Token.{Token}
 use Rattle.py_tokens.specs.declared.token.TokenKind.{TokenKind}
 use Rattle.py_parser.specs.Codes as c
@@ -114,29 +115,14 @@ assigned n =
     (if n == 19 then Some op.BitOr else
     (if n == 20 then Some op.BitXor else None)))))))))))
 
-abbrev pub same_bytes : List ℕ → List ℕ → Bool
-same_bytes [] [] = true
-same_bytes [] (y ∷ ys) = false
-same_bytes (x ∷ xs) [] = false
-same_bytes (x ∷ xs) (y ∷ ys) = (x == y) && same_bytes xs ys
-
--- `thread`
-abbrev pub thread_name : List ℕ
-thread_name = 116 ∷ 104 ∷ 114 ∷ 101 ∷ 97 ∷ 100 ∷ []
-
--- `threading`
-abbrev pub threading_name : List ℕ
-threading_name = 116 ∷ 104 ∷ 114 ∷ 101 ∷ 97 ∷ 100 ∷ 105 ∷ 110 ∷ 103 ∷ []
-
 abbrev pub is_module : List ℕ → Bool
-is_module n = same_bytes n thread_name || same_bytes n threading_name
+is_module n = bytes_eq n (codes "thread") || bytes_eq n (codes "threading")
 
--- `start_new_thread`, `allocate_lock`, `error`; `Thread`, `Lock`
+-- what may be imported from a module
 abbrev pub is_member : List ℕ → List ℕ → Bool
 is_member m n =
-    (same_bytes m thread_name && (same_bytes n (115 ∷ 116 ∷ 97 ∷ 114 ∷ 116 ∷ 95 ∷ 110 ∷ 101 ∷ 119 ∷ 95 ∷ 116 ∷ 104 ∷ 114 ∷ 101 ∷ 97 ∷ 100 ∷ []) ||
-    (same_bytes n (97 ∷ 108 ∷ 108 ∷ 111 ∷ 99 ∷ 97 ∷ 116 ∷ 101 ∷ 95 ∷ 108 ∷ 111 ∷ 99 ∷ 107 ∷ []) || same_bytes n (101 ∷ 114 ∷ 114 ∷ 111 ∷ 114 ∷ [])))) ||
-    (same_bytes m threading_name && (same_bytes n (84 ∷ 104 ∷ 114 ∷ 101 ∷ 97 ∷ 100 ∷ []) || same_bytes n (76 ∷ 111 ∷ 99 ∷ 107 ∷ [])))
+    (bytes_eq m (codes "thread") && (bytes_eq n (codes "start_new_thread") || (bytes_eq n (codes "allocate_lock") || bytes_eq n (codes "error")))) ||
+    (bytes_eq m (codes "threading") && (bytes_eq n (codes "Thread") || bytes_eq n (codes "Lock")))
 
 -- the token's number of the assignment with an operator, such as `+=`
 abbrev pub augment_word : Operator → Option ℕ

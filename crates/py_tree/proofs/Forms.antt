@@ -1,5 +1,5 @@
 -- The equations of `form`.
-use Rattle.std.proofs.Common.{◌≡◌, ℕ, ℤ, ◌+◌, max, List, [], ◌∷◌, ◌++◌, map, Option, Some, None, refl, sym, ap, ◌∙◌, subst, ◌<◌, arith}
+use Rattle.std.proofs.Common.{◌≡◌, ℕ, ℤ, List, [], ◌∷◌, map, Option, sym, ap, ◌∙◌}
 use Rattle.py_tree.specs.declared.expr.Expr.{Expr}
 use Rattle.py_tree.specs.declared.expr.Trailer.{Trailer}
 use Rattle.py_tree.specs.declared.expr.Link.{Link}
@@ -12,7 +12,7 @@ use Rattle.py_tree.specs.declared.expr.Expr.TheOpen as open'
 use Rattle.py_tree.specs.declared.expr.Expr.TheFolds.{fold-roll-Expr, fold-roll-Trailer}
 use Rattle.py_tree.specs.declared.expr.Trailer.TheVariants as t
 use Rattle.py_tree.specs.declared.form.Form.{Form}
-use Rattle.py_tree.specs.declared.form.Form.TheVariants.{Bare, Part, Cut, Many, Plain}
+use Rattle.py_tree.specs.declared.form.Form.TheVariants.{Bare, Part, Cut, Plain}
 use Rattle.py_tree.specs.Form.{many, last_form, form, form_trailer, expr_form, trailer_form}
 
 pub form_name : (n : List ℕ) → form (Name n) ≡ Bare
