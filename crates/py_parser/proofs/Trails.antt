@@ -26,16 +26,19 @@ use Rattle.py_tree.specs.declared.expr.Operator.TheVariants as op
 use Rattle.py_tree.specs.Height.{height, tops, tops_links, tops_pairs, tops_named, tops_trailers, height_trailer, top_or}
 use Rattle.py_tree.specs.Form.{form, form_trailer}
 use Rattle.py_tree.proofs.Heights as hh
-use Rattle.py_parser.specs.declared.fault.Construct.{Construct}
-use Rattle.py_parser.specs.declared.fault.Construct.TheVariants as left
+use Rattle.py_data.specs.declared.refusal.Construct.{Construct}
+use Rattle.py_data.specs.declared.refusal.Construct.TheVariants as left
 use Rattle.py_parser.specs.declared.fault.Fault.{Fault}
 use Rattle.py_parser.specs.declared.fault.Fault.TheVariants.{Unexpected, LeftOut, Deep}
 use Rattle.py_parser.specs.Codes as c
 use Rattle.py_parser.specs.Words.{below, level_of, first_word, spelled, sign_word}
 use Rattle.py_parser.specs.Grammar as G
 use Rattle.py_parser.specs.Grammar.{Marks, Is, Strings, Tests, Commas, Exprs, Pairs, Links, Trailers, Trails, Maybe, Args}
-use Rattle.py_parser.specs.Tall.{Tall, plain, push, none, start, joined, push_link, push_pair, push_named, push_trailer, of_name, of_int, of_string, of_group, unit, of_tuple, of_list, of_dict, of_trail, of_power, of_sign, of_chain, of_not, of_choice, of_attribute, of_index, of_slice, of_call}
-use Rattle.py_parser.specs.Reading.{named_at, args_at, arg_by, keyed, is_bare, is_none, slice_close, slice_at, index_close, subscript_at, call_at, trailer_at, trailers_at, no_start, joined as joined_strings, name_or, name_of, string_of, is_unicode, strings_at, Reads, Reader, Test, ◌>>=◌, Below, first, rest, is_op, is_keyword, comes, starts, left_at, is_some, Rung, Trailed, Powered, Signed, Chained, Negated, Chosen, Listed, rung_of, rung_at, level_at, reads, atom_at, trail_at, power_at, chain_at, choice_at, after_at, signed, sign_of, trails, links, links_at, round_at, round_close, list_at, list_close, dict_at, dict_close, dict_value, atom_of, pairs_at, tests_at, keyword_at, op_at, name_at}
+use Rattle.py_parser.specs.declared.tall.Tall.{Tall}
+use Rattle.py_parser.specs.Tall.{plain, push, none, start, joined, push_link, push_pair, push_named, push_trailer, of_name, of_int, of_string, of_group, unit, of_tuple, of_list, of_dict, of_trail, of_power, of_sign, of_chain, of_not, of_choice, of_attribute, of_index, of_slice, of_call}
+use Rattle.py_parser.specs.declared.rung.Rung.{Rung}
+use Rattle.py_parser.specs.declared.rung.Rung.TheVariants.{Trailed, Powered, Signed, Chained, Negated, Chosen, Listed}
+use Rattle.py_parser.specs.Reading.{named_at, args_at, arg_by, keyed, is_bare, is_none, slice_close, slice_at, index_close, subscript_at, call_at, trailer_at, trailers_at, no_start, joined as joined_strings, name_or, name_of, string_of, is_unicode, strings_at, Reads, Reader, Test, ◌>>=◌, Below, first, rest, is_op, is_keyword, comes, starts, left_at, is_some, rung_of, rung_at, level_at, reads, atom_at, trail_at, power_at, chain_at, choice_at, after_at, signed, sign_of, trails, links, links_at, round_at, round_close, list_at, list_close, dict_at, dict_close, dict_value, atom_of, pairs_at, tests_at, keyword_at, op_at, name_at}
 use Rattle.py_parser.proofs.Steps.{of}
 use Rattle.py_parser.proofs.Facts.{no, apart, some_inj, and_left, and_right}
 use Rattle.py_parser.proofs.Complete.{tests_nil, pairs_nil, named_nil, trailers_nil, s_pairs_end, s_trailers_end, s_named_end, trail_long}
