@@ -14,3 +14,4 @@ mod Atoms
 mod Trails
 mod Rungs
 mod Levels
+mod Targets

@@ -12,6 +12,8 @@ use Rattle.py_parser.specs.declared.fault.Fault.{Fault}
 use Rattle.py_parser.specs.declared.fault.Fault.TheVariants.{Unexpected, LeftOut, Deep}
 use Rattle.py_parser.specs.Grammar.{Marks}
 use Rattle.py_parser.specs.Statements.{Body}
+use Rattle.py_parser.specs.Words.{line_of}
+use Rattle.std.proofs.Common.{nat_le}
 use Rattle.py_parser.specs.Reading.{Reads, Reader, ◌>>=◌, first, is_op, is_keyword}
 
 -- ---- what modules begin with
@@ -292,3 +294,36 @@ told_kind F' t = told_as (λ us s. ap (λ z. F' z us) s) t
 
 pub told_pre : {A : Type 0} {y : ℕ} {pre pre' ts : List Token} {again : Reader A} {r : Reads A} {Q : A → List Token → Type 0} → pre ≡ pre' → Told y pre ts again Q r → Told y pre' ts again Q r
 told_pre {y = y} {ts = ts} {again = again} {r = r} {Q = Q} e t = subst (λ z. Told y z ts again Q r) e t
+
+-- by the line on which it begins
+line_split : (ts fs us vs : List Token) → ts ≡ fs ++ us → SameFirst us vs → line_of (fs ++ vs) ≡ line_of ts
+line_split ts fs us vs e s = same_line (fs ++ us) (fs ++ vs) (same_after fs us vs s) ∙ ap line_of (sym e)
+  where
+    same_line : (ts us : List Token) → SameFirst ts us → line_of us ≡ line_of ts
+    same_line [] [] h = refl
+    same_line [] (u ∷ us) h = absurd h
+    same_line (t ∷ ts) [] h = absurd h
+    same_line (t ∷ ts) (u ∷ us) h = ap (λ z. z.line) (sym h)
+
+pub told_line : {A : Type 0} {y : ℕ} {pre ts : List Token} {Q : A → List Token → Type 0} {r : Reads A} (F' : ℕ → Reader A) → Told y pre ts (F' (line_of ts)) Q r → Told y pre ts (λ us. F' (line_of us) us) Q r
+told_line {ts = ts} {r = Ok x} F' t = let p = t.tells in record { tells = record { front = p.front; split = p.split; holds = p.holds; same = λ us s. ap (λ z. F' z (p.front ++ us)) (line_split ts p.front x.1 us p.split s) ∙ p.same us s } }
+told_line {ts = ts} {r = Err x} F' t = let p = t.tells in record { tells = record { front = p.front; split = p.split; before = p.before; beyond = p.beyond; same = λ us s z. ap (λ z. F' z (p.front ++ us)) (line_split ts p.front x.1 us p.split s) ∙ p.same us s z } }
+
+-- a height for which there is room
+pub told_room : {A : Type 0} {y : ℕ} {pre ts : List Token} {X' : Reader A} {X : Reads A} {Q : A → List Token → Type 0} (d n : ℕ) (κ : TokenKind) → first ts ≡ κ → Opens low pre → ((p : Place) → Opens any (pre ++ at κ p ∷ [])) → (n ≤ d → Told y pre ts X' Q X) →
+    Told y pre ts (λ us. if nat_le n (more y d) then X' us else Err (Deep, us)) Q (if nat_le n d then X else Err (Deep, ts))
+told_room {A = A} {y = y} {pre = pre} {ts = ts} {X' = X'} {X = X} {Q = Q} d n κ w o b h = go (nat_le n d) refl
+  where
+    small : nat_le n d ≡ true → nat_le n (more y d) ≡ true
+    small e = let i : n ≤ d = grind (arith, e) in let j : n ≤ more y d = omega (arith, more_is y d) in grind (arith, j)
+
+    go : (b : Bool) → nat_le n d ≡ b → Told y pre ts (λ us. if nat_le n (more y d) then X' us else Err (Deep, us)) Q (if nat_le n d then X else Err (Deep, ts))
+    go false e = rw e (record { tells = record { front = []; split = refl; before = alone low pre o;
+      beyond = λ t us q. subst (λ z. Opens any (z ++ t ∷ [])) (sym (append-nil pre)) (subst (λ z. Opens any (pre ++ z ∷ [])) (sym (first_token ts κ t us w q)) (b _));
+      same = λ us s z. let i : more y d ≡ d = omega (arith, more_is y d, z) in rw i (rw e refl) } })
+    go true e = told_same {X' = X'} {q = X} (rw e refl) (λ us s. rw (small e) refl) (h (grind (arith, e)))
+
+-- a refusal in another reader's words
+pub told_err : {A B : Type 0} {y : ℕ} {pre ts : List Token} {again : Reader A} {again' : Reader B} {Q : A → List Token → Type 0} {Q' : B → List Token → Type 0} {f : Fault} {us : List Token} →
+    ((vs : List Token) (ws : List Token) → again vs ≡ Err (f, ws) → again' vs ≡ Err (f, ws)) → Told y pre ts again Q (Err (f, us)) → Told y pre ts again' Q' (Err (f, us))
+told_err h t = let p = t.tells in record { tells = record { front = p.front; split = p.split; before = p.before; beyond = p.beyond; same = λ us s z. h (p.front ++ us) us (p.same us s z) } }
