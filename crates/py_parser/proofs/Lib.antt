@@ -15,3 +15,5 @@ mod Trails
 mod Rungs
 mod Levels
 mod Targets
+mod Simples
+mod Worded

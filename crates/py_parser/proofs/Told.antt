@@ -327,3 +327,13 @@ told_room {A = A} {y = y} {pre = pre} {ts = ts} {X' = X'} {X = X} {Q = Q} d n κ
 pub told_err : {A B : Type 0} {y : ℕ} {pre ts : List Token} {again : Reader A} {again' : Reader B} {Q : A → List Token → Type 0} {Q' : B → List Token → Type 0} {f : Fault} {us : List Token} →
     ((vs : List Token) (ws : List Token) → again vs ≡ Err (f, ws) → again' vs ≡ Err (f, ws)) → Told y pre ts again Q (Err (f, us)) → Told y pre ts again' Q' (Err (f, us))
 told_err h t = let p = t.tells in record { tells = record { front = p.front; split = p.split; before = p.before; beyond = p.beyond; same = λ us s z. h (p.front ++ us) us (p.same us s z) } }
+
+-- by a test that is not of the tokens
+pub told_when : {A : Type 0} {y : ℕ} {pre ts : List Token} {X' Y' : Reader A} {X Y : Reads A} {Q : A → List Token → Type 0} (b : Bool) → (b ≡ true → Told y pre ts X' Q X) → (b ≡ false → Told y pre ts Y' Q Y) → Told y pre ts (λ us. if b then X' us else Y' us) Q (if b then X else Y)
+told_when true h i = h refl
+told_when false h i = i refl
+
+-- by the number of a keyword that comes first
+pub told_case : {A : Type 0} {y : ℕ} {pre ts : List Token} {X' Y' : Reader A} {X Y : Reads A} {Q : A → List Token → Type 0} (n m : ℕ) → first ts ≡ k.Keyword n → ((p : Place) (us : List Token) → ts ≡ at (k.Keyword m) p ∷ us → Told y pre ts X' Q X) → ((n == m) ≡ false → Told y pre ts Y' Q Y) →
+    Told y pre ts (λ us. if n == m then X' us else Y' us) Q (if n == m then X else Y)
+told_case {ts = ts} n m q h i = told_when (n == m) (λ e. let f = there ts (k.Keyword m) (q ∙ ap (λ z. k.Keyword z) (grind (arith, e))) (λ z. cc) in h f.0 f.1 f.2) i

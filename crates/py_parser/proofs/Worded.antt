@@ -1,0 +1,180 @@
+-- What reading a simple statement tells.
+use Rattle.std.proofs.Common.{◌≡◌, ℕ, ℤ, zero, suc, ◌+◌, ◌-◌, ◌<◌, ◌≤◌, max, ◌==◌, nat_eq, nat_lt, nat_le, Bool, true, false, not, ◌&&◌, ◌||◌, List, [], ◌∷◌, ◌++◌, length, Result, Ok, Err, Option, Some, None, ◌⊎◌, inl, inr, refl, sym, ap, ◌∙◌, subst, append_assoc, append-nil, arith, length-append, eq-eqb, le-ltb, if◌then◌else◌}
+use Rattle.py_tokens.specs.declared.token.Token.{Token}
+use Rattle.py_tokens.specs.declared.token.TokenKind.{TokenKind}
+use Rattle.py_tokens.specs.declared.token.TokenKind.TheVariants as k
+use Rattle.py_tokens.specs.declared.token.Other.TheVariants as other
+use Rattle.py_tokens.specs.declared.token.Place.{Place}
+use Rattle.py_tokens.specs.Place.{token_at as at}
+use Rattle.py_tree.specs.declared.expr.Expr.{Expr}
+use Rattle.py_tree.specs.declared.expr.Expr.TheVariants as ex
+use Rattle.py_tree.proofs.Forms as ff
+use Rattle.py_tree.specs.Form.{last_form}
+use Rattle.std.proofs.Common.{map}
+use Rattle.py_tree.specs.declared.form.Form.{Form}
+use Rattle.py_tree.specs.declared.form.Form.TheVariants.{Bare, Part, Cut, Many, Plain}
+use Rattle.py_tree.specs.declared.expr.Link.{Link}
+use Rattle.py_tree.specs.declared.expr.Pair.{Pair}
+use Rattle.py_tree.specs.declared.expr.Named.{Named}
+use Rattle.py_tree.specs.declared.expr.Trailer.{Trailer}
+use Rattle.py_tree.specs.declared.expr.Trailer.TheVariants as t
+use Rattle.py_tree.specs.declared.expr.Sign.{Sign}
+use Rattle.py_tree.specs.declared.expr.Sign.TheVariants as sign
+use Rattle.py_tree.specs.declared.expr.Level.{Level}
+use Rattle.py_tree.specs.declared.expr.Level.TheVariants as level
+use Rattle.py_tree.specs.declared.expr.Operator.{Operator}
+use Rattle.py_tree.specs.declared.expr.Operator.TheVariants as op
+use Rattle.py_tree.specs.Height.{height, tops, tops_links, tops_pairs, tops_named, tops_trailers, height_trailer, top_or}
+use Rattle.py_tree.specs.Form.{is_target, is_single, many, all_targets, form, form_trailer}
+use Rattle.py_tree.proofs.Heights as hh
+use Rattle.py_data.specs.declared.refusal.Construct.{Construct}
+use Rattle.py_data.specs.declared.refusal.Construct.TheVariants as left
+use Rattle.py_parser.specs.declared.fault.Fault.{Fault}
+use Rattle.py_parser.specs.declared.fault.Fault.TheVariants.{Unexpected, LeftOut, Deep}
+use Rattle.py_parser.specs.Codes as c
+use Rattle.py_parser.specs.Words.{more_words, below, level_of, first_word, spelled, sign_word}
+use Rattle.py_parser.specs.Grammar as G
+use Rattle.py_parser.specs.Grammar.{Marks, Is, Strings, Tests, Commas, Exprs, Pairs, Links, Trailers, Trails, Maybe, Args}
+use Rattle.py_parser.specs.declared.tall.Tall.{Tall}
+use Rattle.py_parser.specs.Tall.{tree_or, plain, push, start as start', joined, push_link, push_pair, push_named, push_trailer, of_name, of_int, of_string, of_group, unit, of_tuple, of_list, of_dict, of_trail, of_power, of_sign, of_chain, of_not, of_choice, of_attribute, of_index, of_slice, of_call}
+use Rattle.py_parser.specs.declared.rung.Rung.{Rung}
+use Rattle.py_parser.specs.declared.rung.Rung.TheVariants.{Trailed, Powered, Signed, Chained, Negated, Chosen, Listed}
+use Rattle.py_parser.specs.Reading.{linked, operator_of, operator_rest, too_deep, named_at, args_at, arg_by, keyed, is_bare, is_none, slice_close, slice_at, index_close, subscript_at, call_at, trailer_at, trailers_at, no_start, joined as joined_strings, name_or, name_of, string_of, is_unicode, strings_at, Reads, Reader, Test, ◌>>=◌, Below, first, rest, is_op, is_keyword, comes, starts, left_at, is_some, rung_of, rung_at, level_at, reads, atom_at, trail_at, power_at, chain_at, choice_at, after_at, signed, sign_of, trails, links, links_at, round_at, round_close, list_at, list_close, dict_at, dict_close, dict_value, atom_of, pairs_at, tests_at, keyword_at, op_at, name_at}
+use Rattle.py_parser.proofs.Steps.{of, none_of}
+use Rattle.py_parser.proofs.Facts.{or_mono, and_mono, word_links, rung_below, below_small, no, apart, some_inj, and_left, and_right}
+use Rattle.py_parser.proofs.Complete.{tests_nil, pairs_nil, named_nil, trailers_nil, s_pairs_end, s_trailers_end, s_named_end, trail_long, links_nil, s_links_end}
+use Rattle.py_parser.proofs.Begin.{s_tests_end, s_strings_end, long, headed}
+use Rattle.py_parser.proofs.Values.{plus_tests, push_tests, plus_links, push_links, plus_pairs, push_pairs, plus_named, push_nameds, plus_trailers, push_trailers, of_r, of_or, same, as_name, as_int, as_string, as_group, as_unit, as_tuple, as_no_list, as_list, as_dict, as_trail, as_power, as_sign, as_chain, as_not, as_choice, as_attribute, as_index, as_slice, as_call}
+use Rattle.py_parser.specs.Follow.{heads}
+use Rattle.py_parser.proofs.Told.{Stays, Beyond, Mode, any, low, marked, Fits, Opens, cut, near, alone, SameFirst, same_first, with_first, with_none, more, more_is, Told, told_done, told_ends, told_refused, told_left, told_as, told_same, told_if, told_deep, told_post, told_take, told_word, told_bind, told_map, told_case, told_when, told_line, told_room, told_err, told_kind, told_pre, on, here, move, within, bare, there}
+use Rattle.py_parser.proofs.Tells.{only_op, only_keyword, Hole, Read, Tell, told_read, told_need, told_need_word, told_need_name, only_name, only_string, p0, word, is_word, free, length_after, Commaed, trailing, further, Following, no_more, commaed, then_tests, then_commas, AfterTest, itself, tupled, then_exprs, MoreStrings, no_string, strung, then_strings, tell_strings, Listing, Commaing, tell_tests, tell_commas}
+use Rattle.py_parser.proofs.Atoms.{tell_atom, Unders, lift, left_start, told_no_start, either}
+use Rattle.py_parser.proofs.Trails.{tell_trail}
+use Rattle.py_parser.proofs.Rungs.{Known, known, LinksHole, tell_some_links, low_level}
+
+use Rattle.py_tree.specs.Form.{is_target, is_single, many, all_targets}
+use Rattle.py_parser.specs.Words.{line_of}
+use Rattle.py_parser.specs.Statements as S
+use Rattle.py_parser.specs.Statements.{slices, Target, Targets, Loops, Equals}
+use Rattle.py_parser.specs.Lines.{checked, Stop, target_at, targets_at, loops_at, loop_at, equals_at, maybe_at, ends_del, ends_loop, ends_caught, is_newline}
+
+use Rattle.py_parser.proofs.Targets.{ExprsHole, ReadExprs, TellExprs, told_exprs, exprs_word, told_checked, target_any, single_any, target_of, word_target}
+use Rattle.py_parser.proofs.Simple.{exprs_headed}
+use Rattle.py_parser.specs.Words.{assigned, augment_word, is_module, is_member}
+use Rattle.py_parser.specs.Statements.{Names, Renamed, Imports, Simple}
+use Rattle.py_parser.specs.Lines.{run_or_assign, assigned_of, run_at, names_at, import_name_at, renamed_at, imported_at, imports_at, print_at, raise_at, assert_at, from_at, worded_at, running_at, simple_by, simple_at}
+use Rattle.py_tree.specs.declared.stmt.Stmt.{Stmt}
+use Rattle.py_tree.specs.declared.stmt.Stmt.TheVariants as st
+use Rattle.py_tree.specs.declared.stmt.Imported.{Imported}
+use Rattle.py_tree.specs.Tall.{tall, talls}
+use Rattle.py_tree.proofs.Talls as ht
+
+use Rattle.py_parser.proofs.Simples.{TargetHole, SliceHole, Targeted, Targeting, told_target, FollowTargets, no_target, another, then_targets, FollowNames, no_name, more_names, then_names, FollowImports, no_import, more_imports, OneImport, then_imports, tell_names, tell_imported, tell_imports, tell_import_name, tell_targets, tell_running, SimpleHole, EndHole, ReadSimple}
+use Rattle.std.proofs.Common.{codes}
+use Rattle.std.specs.Str.{bytes_eq}
+
+pub data MaybeExprs : Marks → Option Expr → List Token → Type 0 where
+  no_exprs : (x : Marks) → MaybeExprs x None []
+  some_exprs : {x : Marks} {a : Expr} {us : List Token} → Exprs x a us → MaybeExprs x (Some a) us
+
+tree_of : (o : Option Expr) → tree_or (of_or o) ≡ o
+tree_of None = refl
+tree_of (Some a) = refl
+
+returned : {x : Marks} (p : Place) {o : Option Expr} {us : List Token} → MaybeExprs x o us → Simple x (st.Return p.line o) (at c.return_ p ∷ us)
+returned {x = x} p (no_exprs _) = S.Simple.return_none x p
+returned p (some_exprs q) = S.Simple.return p q
+
+member : (m : List ℕ) → is_module m ≡ true → (n : List ℕ) × (is_member m n ≡ true)
+member m e = go (bytes_eq m (codes "thread")) (bytes_eq m (codes "threading")) refl refl e
+  where
+    go : (a b : Bool) → bytes_eq m (codes "thread") ≡ a → bytes_eq m (codes "threading") ≡ b → (a || b) ≡ true → (n : List ℕ) × (is_member m n ≡ true)
+    go true b i j h = (codes "error", rw i refl)
+    go false true i j h = (codes "Lock", rw i (rw j refl))
+    go false false i j h = no (sym h)
+
+module _ (w y g d : ℕ) (under' under : Below) (below : Unders y g d under' under) (exprs : TellExprs y g d (under'.read 15) (under.read 15)) (targets : Targeting y g d under' under) where
+  abbrev Hole' : List Token → Type 0
+  Hole' pre = SimpleHole w y g d under' under below exprs targets pre
+
+  abbrev Read' : Stmt → List Token → Type 0
+  Read' = ReadSimple w y g d under' under below exprs targets
+
+  n14 : (x : Marks) → Is x 14 (ex.Name []) word
+  n14 x = is_word 14 x (omega arith)
+
+  tell_print : (p : Place) (pre ts : List Token) → length ts ≤ g → Hole' pre → Told y (pre ++ at c.print_ p ∷ []) ts (print_at under' (more w g) p.line) (λ v us. Read' v (at c.print_ p ∷ us)) (print_at under g p.line ts)
+  unfolding print_at
+  tell_print p pre ts l hole =
+      let o : Opens low (pre ++ at c.print_ p ∷ []) = hole low (st.Print p.line [] false) _ (S.Simple.print_end None p) (λ b. omega (arith, ht.tall_print p.line [] false)) in
+      told_word (is_op 7) c.shift_right (only_op 7) refl
+        (λ q us e. told_left c.shift_right (ap first e) o (λ i. here (simp append_assoc) (hole (marked left.PrintTo) (st.Pass p.line) _ (S.Simple.print_to p i) free)))
+        (λ e1. told_if (comes 14)
+          (λ c'. told_read 14 d _ _ (below.read 14 (omega arith) (pre ++ at c.print_ p ∷ []) ts l o (λ m a us r h. here (simp append_assoc) (hole m (st.Print p.line (a ∷ []) false) _ (S.Simple.print p (G.only r)) (λ b. omega (arith, h b, ht.tall_print p.line (a ∷ []) false)))))
+            (λ a fs rest q is h. told_map (λ v. st.Print p.line v.0.tree v.1)
+              (tell_tests w y g d (under'.read 14) (under.read 14) (below.read 14 (omega arith)) g (start' (of a)) ((pre ++ at c.print_ p ∷ []) ++ fs) rest (omega (arith, l, length_after ts fs rest q)) (omega arith)
+                (λ m es b vs r j. here (simp append_assoc) (hole m (st.Print p.line (a ∷ es) b) _ (S.Simple.print p (then_tests (is m.marks) r)) (λ z. omega (arith, h, j z, ht.tall_print p.line (a ∷ es) b)))))
+              (λ v vs r. let val : st.Print p.line v.0.tree v.1 ≡ st.Print p.line (a ∷ r.0) v.1 = ap (λ z. st.Print p.line z.tree v.1) r.1 in
+                rw val ((λ x. S.Simple.print p (then_tests (is x) (r.2 x))), omega (arith, h, r.3, ht.tall_print p.line (a ∷ r.0) v.1)))))
+          (λ c'. told_done ((λ x. S.Simple.print_end x p), omega (arith, ht.tall_print p.line [] false))))
+
+  tell_maybe : (pre ts : List Token) → length ts ≤ g → Opens low pre → ((m : Mode) (o : Option Expr) (us : List Token) → MaybeExprs m.marks o us → Fits m (top_or o) d → Opens m (pre ++ us)) →
+      Told y pre ts (maybe_at under' 15) (λ v fs. (o : Option Expr) × (v ≡ of_or o) × ((x : Marks) → MaybeExprs x o fs) × (top_or o ≤ d)) (maybe_at under 15 ts)
+  unfolding maybe_at
+  tell_maybe pre ts l o hole = told_if (comes 15)
+      (λ c'. told_map (λ a. Some a) (exprs pre ts l o (λ m a us r h. hole m (Some a) us (some_exprs r) h)) (λ v fs r. (Some r.0, ap (λ z. Some z) r.1, (λ x. some_exprs (r.2 x)), r.3)))
+      (λ c'. told_done (None, refl, no_exprs, omega arith))
+
+  tell_return : (p : Place) (pre ts : List Token) → length ts ≤ g → Hole' pre → Told y (pre ++ at c.return_ p ∷ []) ts (λ us. maybe_at under' 15 us >>= λ a. Ok (st.Return p.line (tree_or a.0), a.1)) (λ v us. Read' v (at c.return_ p ∷ us)) (maybe_at under 15 ts >>= λ a. Ok (st.Return p.line (tree_or a.0), a.1))
+  tell_return p pre ts l hole = told_map (λ v. st.Return p.line (tree_or v))
+      (tell_maybe (pre ++ at c.return_ p ∷ []) ts l (hole low (st.Return p.line None) _ (S.Simple.return_none None p) (λ b. omega (arith, ht.tall_return p.line None)))
+        (λ m o us r h. here (simp append_assoc) (hole m (st.Return p.line o) _ (returned p r) (λ b. omega (arith, h b, ht.tall_return p.line o)))))
+      (λ v us r. let val : st.Return p.line (tree_or v) ≡ st.Return p.line r.0 = ap (λ z. st.Return p.line (tree_or z)) r.1 ∙ ap (λ z. st.Return p.line z) (tree_of r.0) in
+        rw val ((λ x. returned p (r.2 x)), omega (arith, r.3, ht.tall_return p.line r.0)))
+
+  tell_raise_at : (p : Place) (pre : List Token) (a : Expr) (fs ts : List Token) → length ts ≤ g → ((x : Marks) → Is x 14 a fs) → height a ≤ d → Hole' pre →
+      Told y ((pre ++ at c.raise_ p ∷ []) ++ fs) ts (λ us. raise_at under' p.line (of a, us)) (λ v us. Read' v (at c.raise_ p ∷ (fs ++ us))) (raise_at under p.line (of a, ts))
+  unfolding raise_at
+  tell_raise_at p pre a fs ts l is h hole = told_word (is_op 38) c.comma (only_op 38) refl
+      (λ q us e. rw e (told_take (told_read 14 d _ _ (below.read 14 (omega arith) (((pre ++ at c.raise_ p ∷ []) ++ fs) ++ at c.comma q ∷ []) us (omega (arith, l, ap length e))
+          (on word (simp append_assoc) (hole low (st.Raise p.line (Some a) (Some (ex.Name []))) _ (S.Simple.raise_two p q (is None) (n14 None)) (λ b. omega (arith, h, hh.height_pos a, hh.height_name [], ht.tall_raise p.line (Some a) (Some (ex.Name []))))))
+          (λ m b vs r j. here (simp append_assoc) (hole m (st.Raise p.line (Some a) (Some b)) _ (S.Simple.raise_two p q (is m.marks) r) (λ z. omega (arith, h, j z, ht.tall_raise p.line (Some a) (Some b))))))
+        (λ b gs rest q2 is2 h2. told_word (is_op 38) c.comma (only_op 38) refl
+          (λ q3 us3 e3. told_left c.comma (ap first e3) (here (simp append_assoc) (hole low (st.Raise p.line (Some a) (Some b)) _ (S.Simple.raise_two p q (is None) (is2 None)) (λ z. omega (arith, h, h2, ht.tall_raise p.line (Some a) (Some b)))))
+            (λ i. here (simp append_assoc) (hole (marked left.Traceback) (st.Raise p.line (Some a) (Some b)) _ (S.Simple.traceback p q i (is (Some left.Traceback)) (is2 (Some left.Traceback))) free)))
+          (λ e3. told_done ((λ x. move (Simple x (st.Raise p.line (Some a) (Some b))) (ap (λ z. at c.raise_ p ∷ (fs ++ at c.comma q ∷ z)) (sym (append-nil gs))) (S.Simple.raise_two p q (is x) (is2 x))), omega (arith, h, h2, ht.tall_raise p.line (Some a) (Some b))))))))
+      (λ e. told_done ((λ x. move (Simple x (st.Raise p.line (Some a) None)) (ap (λ z. at c.raise_ p ∷ z) (sym (append-nil fs))) (S.Simple.raise_one p (is x))), omega (arith, h, ht.tall_raise p.line (Some a) None)))
+
+  tell_raise : (p : Place) (pre ts : List Token) → length ts ≤ g → Hole' pre → Told y (pre ++ at c.raise_ p ∷ []) ts (λ us. if comes 14 (first us) then (under'.read 14 us >>= raise_at under' p.line) else Ok (st.Raise p.line None None, us)) (λ v us. Read' v (at c.raise_ p ∷ us)) (if comes 14 (first ts) then (under.read 14 ts >>= raise_at under p.line) else Ok (st.Raise p.line None None, ts))
+  tell_raise p pre ts l hole =
+      let o : Opens low (pre ++ at c.raise_ p ∷ []) = hole low (st.Raise p.line None None) _ (S.Simple.raise_none None p) (λ b. omega (arith, ht.tall_raise p.line None None)) in
+      told_if (comes 14)
+      (λ c'. told_read 14 d _ _ (below.read 14 (omega arith) (pre ++ at c.raise_ p ∷ []) ts l o (λ m a us r h. here (simp append_assoc) (hole m (st.Raise p.line (Some a) None) _ (S.Simple.raise_one p r) (λ b. omega (arith, h b, ht.tall_raise p.line (Some a) None)))))
+        (λ a fs rest q is h. tell_raise_at p pre a fs rest (omega (arith, l, length_after ts fs rest q)) is h hole))
+      (λ c'. told_done ((λ x. S.Simple.raise_none x p), omega (arith, ht.tall_raise p.line None None)))
+
+  tell_assert_at : (p : Place) (pre : List Token) (a : Expr) (fs ts : List Token) → length ts ≤ g → ((x : Marks) → Is x 14 a fs) → height a ≤ d → Hole' pre →
+      Told y ((pre ++ at c.assert_ p ∷ []) ++ fs) ts (λ us. assert_at under' p.line (of a, us)) (λ v us. Read' v (at c.assert_ p ∷ (fs ++ us))) (assert_at under p.line (of a, ts))
+  unfolding assert_at
+  tell_assert_at p pre a fs ts l is h hole = told_word (is_op 38) c.comma (only_op 38) refl
+      (λ q us e. rw e (told_take (told_map (λ b. st.Assert p.line a (Some b.tree)) (below.read 14 (omega arith) (((pre ++ at c.assert_ p ∷ []) ++ fs) ++ at c.comma q ∷ []) us (omega (arith, l, ap length e))
+          (on word (simp append_assoc) (hole low (st.Assert p.line a (Some (ex.Name []))) _ (S.Simple.assert_two p q (is None) (n14 None)) (λ b. omega (arith, h, hh.height_pos a, hh.height_name [], ht.tall_assert p.line a (Some (ex.Name []))))))
+          (λ m b vs r j. here (simp append_assoc) (hole m (st.Assert p.line a (Some b)) _ (S.Simple.assert_two p q (is m.marks) r) (λ z. omega (arith, h, j z, ht.tall_assert p.line a (Some b))))))
+        (λ v vs r. let val : st.Assert p.line a (Some v.tree) ≡ st.Assert p.line a (Some r.0) = ap (λ z. st.Assert p.line a (Some z.tree)) r.1 in
+          rw val ((λ x. S.Simple.assert_two p q (is x) (r.2 x)), omega (arith, h, r.3, ht.tall_assert p.line a (Some r.0)))))))
+      (λ e. told_done ((λ x. move (Simple x (st.Assert p.line a None)) (ap (λ z. at c.assert_ p ∷ z) (sym (append-nil fs))) (S.Simple.assert_one p (is x))), omega (arith, h, ht.tall_assert p.line a None)))
+
+  tell_from : (p : Place) (pre ts : List Token) → length ts ≤ g → Opens low (pre ++ at c.from_ p ∷ []) → Hole' pre → Told y (pre ++ at c.from_ p ∷ []) ts (from_at (more w g) p.line) (λ v us. Read' v (at c.from_ p ∷ us)) (from_at g p.line ts)
+  unfolding from_at
+  tell_from p pre ts l o hole =
+      let tf : (m : List ℕ) (is : List Imported) → tall (st.From p.line m is) ≡ 1 = λ m is. ht.tall_from p.line m is in
+      told_bind _ _ _ (tell_import_name w y is_module (pre ++ at c.from_ p ∷ []) ts o (λ n i e. here (simp append_assoc) (hole (marked left.Import) (st.Pass p.line) _ (S.Simple.from_wrong n p i e) free)))
+      (λ m fs us q r. let mem = member m r.2 in let n0 = mem.0 in let e0 = mem.1 in
+        rw r.1 (told_need_word 17 _ _ (on (at c.import_ p0 ∷ at (k.Name n0) p0 ∷ []) (simp append_assoc) (hole low (st.From p.line m (record { name = n0; bound = None } ∷ [])) _ (S.Simple.from m p r.0 p0 r.2 (S.Imports.one (is_member m) None n0 p0 e0 S.Renamed.same)) (λ b. omega (arith, tf m (record { name = n0; bound = None } ∷ [])))))
+        (λ p2 us2 q2. told_bind _ _ _ (tell_imported w y (is_member m) (((pre ++ at c.from_ p ∷ []) ++ at (k.Name m) r.0 ∷ []) ++ at c.import_ p2 ∷ []) us2
+            (on (at (k.Name n0) p0 ∷ []) (simp append_assoc) (hole low (st.From p.line m (record { name = n0; bound = None } ∷ [])) _ (S.Simple.from m p r.0 p2 r.2 (S.Imports.one (is_member m) None n0 p0 e0 S.Renamed.same)) (λ b. omega (arith, tf m (record { name = n0; bound = None } ∷ [])))))
+            (λ n p3 e3. here (simp append_assoc) (hole (marked left.Import) (st.From p.line m []) _ (S.Simple.from m p r.0 p2 r.2 (S.Imports.wrong (is_member m) n p3 e3)) free))
+            (λ z i vs j. here (simp append_assoc) (hole z (st.From p.line m (i ∷ [])) _ (S.Simple.from m p r.0 p2 r.2 (move (Imports (is_member m) z.marks (i ∷ [])) (append-nil vs) (then_imports (is_member m) z.marks i vs j (no_import (is_member m) z.marks)))) (λ b. omega (arith, tf m (i ∷ []))))))
+          (λ i gs us3 q3 j. told_map (λ is. st.From p.line m is) (tell_imports w y (is_member m) n0 e0 g (i ∷ []) ((((pre ++ at c.from_ p ∷ []) ++ at (k.Name m) r.0 ∷ []) ++ at c.import_ p2 ∷ []) ++ gs) us3 (omega (arith, l, length_after ts fs us q, ap length q2, length_after us2 gs us3 q3))
+              (λ z is vs s. here (simp append_assoc) (hole z (st.From p.line m (i ∷ is)) _ (S.Simple.from m p r.0 p2 r.2 (then_imports (is_member m) z.marks i gs j s)) (λ b. omega (arith, tf m (i ∷ is))))))
+            (λ v vs s. rw s.1 ((λ x. S.Simple.from m p r.0 p2 r.2 (then_imports (is_member m) x i gs j (s.2 x))), omega (arith, tf m (i ∷ s.0))))))))
