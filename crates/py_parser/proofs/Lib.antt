@@ -17,3 +17,4 @@ mod Levels
 mod Targets
 mod Simples
 mod Worded
+mod Bodies
