@@ -137,13 +137,13 @@ simple_long (S.Simple.import p q) = omega arith
 simple_long (S.Simple.from m p q r t v) = omega arith
 
 module _ (w y g d : ℕ) (under' under : Below) (below : Unders y g d under' under) (exprs : TellExprs y g d (under'.read 15) (under.read 15)) (targets : Targeting y g d under' under) where
-  abbrev LineHole : List Token → Type 0
+  abbrev pub LineHole : List Token → Type 0
   LineHole pre = (m : Mode) (ss : List Stmt) (us : List Token) → Line m.marks ss us → Fits m (talls ss) (suc d) → Opens m (pre ++ us)
 
-  abbrev FollowHole : List Token → Type 0
+  abbrev pub FollowHole : List Token → Type 0
   FollowHole pre = (m : Mode) (ss : List Stmt) (us : List Token) → FollowLine m.marks ss us → Fits m (talls ss) (suc d) → Opens m (pre ++ us)
 
-  tell_line_more : (f : ℕ) (found : List Stmt) (pre ts : List Token) → length ts < f → f ≤ g → FollowHole pre →
+  pub tell_line_more : (f : ℕ) (found : List Stmt) (pre ts : List Token) → length ts < f → f ≤ g → FollowHole pre →
       Told y pre ts (line_more (simple_at under' (more w g) (more y (suc d))) (more w f) found) (λ v fs. (ss : List Stmt) × (v ≡ found ++ ss) × ((x : Marks) → FollowLine x ss fs) × (talls ss ≤ suc d)) (line_more (simple_at under g (suc d)) f found ts)
   unfolding line_more
   tell_line_more zero found pre ts l i hole = absurd (omega (arith, l))
@@ -217,13 +217,13 @@ told_body {A = A} {y = y} {pre = pre} {ts = ts} {Q = Q} g d block' block K' K te
 
 module _ (w y g d : ℕ) (under' under : Below) (below : Unders y g d under' under) (targets : Targeting y g d under' under) (block' block : Suite) (tell : TellBlock y g d block' block) (z2 : 2 ≤ d) where
   -- an arm: a test, a colon and a block
-  abbrev ArmHole : List Token → Type 0
+  abbrev pub ArmHole : List Token → Type 0
   ArmHole pre = (m : Mode) (a : Expr) (ss : List Stmt) (q : Place) (ts us : List Token) → Is m.marks 14 a ts → Block m.marks ss us → Fits m (max (height a) (tall_block ss)) d → Opens m (pre ++ (ts ++ at c.colon q ∷ us))
 
-  abbrev ArmRead : ℕ → Arm → List Token → Type 0
+  abbrev pub ArmRead : ℕ → Arm → List Token → Type 0
   ArmRead l v fs = (q : Place) × (ts us : List Token) × (fs ≡ ts ++ at c.colon q ∷ us) × ((x : Marks) → Is x 14 v.test ts) × ((x : Marks) → Block x v.body us) × (v ≡ record { line = l; test = v.test; body = v.body }) × (tall_arm v ≤ d)
 
-  tell_arm : (line : ℕ) (pre ts : List Token) → length ts ≤ g → ArmHole pre → Told y pre ts (arm_at under' block' line) (ArmRead line) (arm_at under block line ts)
+  pub tell_arm : (line : ℕ) (pre ts : List Token) → length ts ≤ g → ArmHole pre → Told y pre ts (arm_at under' block' line) (ArmRead line) (arm_at under block line ts)
   unfolding arm_at
   tell_arm line pre ts l hole =
       told_read 14 d _ _ (below.read 14 (omega arith) pre ts l
@@ -233,13 +233,13 @@ module _ (w y g d : ℕ) (under' under : Below) (below : Unders y g d under' und
           (λ m p ss us r j. here (simp append_assoc) (hole m a ss p fs us (is m.marks) r (λ b. omega (arith, h, j b))))
           (λ p ss gs rest2 q2 bs h2. told_done (p, fs, gs, ap (λ z. fs ++ at c.colon p ∷ z) (append-nil gs), is, bs, refl, omega (arith, h, h2))))
 
-  abbrev ElifsHole : List Token → Type 0
+  abbrev pub ElifsHole : List Token → Type 0
   ElifsHole pre = (m : Mode) (rs : List Arm) (us : List Token) → Elifs m.marks rs us → Fits m (tall_arms rs) d → Opens m (pre ++ us)
 
   then_elif : {x : Marks} (p : Place) (v : Arm) (fs : List Token) → ArmRead p.line v fs → {rs : List Arm} {us : List Token} → Elifs x rs us → Elifs x (v ∷ rs) (at c.elif_ p ∷ (fs ++ us))
   then_elif {x = x} p v fs r {rs = rs} {us = us} e = subst (λ z. Elifs x (z ∷ rs) (at c.elif_ p ∷ (fs ++ us))) (sym r.6) (subst (λ z. Elifs x (record { line = p.line; test = v.test; body = v.body } ∷ rs) (at c.elif_ p ∷ (z ++ us))) (sym r.3) (S.elif p r.0 (r.4 x) (r.5 x) e))
 
-  tell_elifs : (f : ℕ) (found : List Arm) (pre ts : List Token) → length ts ≤ f → f ≤ g → ElifsHole pre →
+  pub tell_elifs : (f : ℕ) (found : List Arm) (pre ts : List Token) → length ts ≤ f → f ≤ g → ElifsHole pre →
       Told y pre ts (elifs_at under' block' (more w f) found) (λ v fs. (rs : List Arm) × (v ≡ found ++ rs) × ((x : Marks) → Elifs x rs fs) × (tall_arms rs ≤ d)) (elifs_at under block f found ts)
   unfolding elifs_at
   tell_elifs zero found pre [] l i hole = told_ends found ([], sym (append-nil found), S.no_elif, omega arith) refl (λ us s. with_none (λ z. elifs_at under' block' w found z ≡ Ok (found, z)) us (ends w) s)
@@ -257,7 +257,7 @@ module _ (w y g d : ℕ) (under' under : Below) (below : Unders y g d under' und
       (λ e. told_done ([], sym (append-nil found), S.no_elif, omega arith))
 
   -- a clause that a keyword begins, or none
-  tell_clause : (n : ℕ) (F : Marks → Option Clause → List Token → Type 0) → ((x : Marks) → F x None []) → ((x : Marks) (p q : Place) (ss : List Stmt) (us : List Token) → Block x ss us → F x (Some (record { line = p.line; body = ss })) (at (k.Keyword n) p ∷ at c.colon q ∷ us)) →
+  pub tell_clause : (n : ℕ) (F : Marks → Option Clause → List Token → Type 0) → ((x : Marks) → F x None []) → ((x : Marks) (p q : Place) (ss : List Stmt) (us : List Token) → Block x ss us → F x (Some (record { line = p.line; body = ss })) (at (k.Keyword n) p ∷ at c.colon q ∷ us)) →
       (pre ts : List Token) → length ts ≤ g → ((m : Mode) (o : Option Clause) (us : List Token) → F m.marks o us → Fits m (tall_clause o) d → Opens m (pre ++ us)) →
       Told y pre ts (clause_at n block') (λ v fs. ((x : Marks) → F x v fs) × (tall_clause v ≤ d)) (clause_at n block ts)
   unfolding clause_at
@@ -269,10 +269,10 @@ module _ (w y g d : ℕ) (under' under : Below) (below : Unders y g d under' und
 
   -- ---- `except` clauses
 
-  abbrev CaughtHole : List Token → Type 0
+  abbrev pub CaughtHole : List Token → Type 0
   CaughtHole pre = (m : Mode) (a b : Option Expr) (us : List Token) → Caught m.marks a b us → Fits m (max (top_or a) (top_or b)) d → Opens m (pre ++ us)
 
-  tell_caught : (pre ts : List Token) → length ts ≤ g → Opens low pre → CaughtHole pre → ((a b : Expr) (us : List Token) (p : Place) → Caught (Some left.SliceForm) (Some a) (Some b) us → Opens (marked left.SliceForm) (pre ++ (us ++ at c.colon p ∷ []))) →
+  pub tell_caught : (pre ts : List Token) → length ts ≤ g → Opens low pre → CaughtHole pre → ((a b : Expr) (us : List Token) (p : Place) → Caught (Some left.SliceForm) (Some a) (Some b) us → Opens (marked left.SliceForm) (pre ++ (us ++ at c.colon p ∷ []))) →
       Told y pre ts (caught_at under') (λ v fs. ((x : Marks) → Caught x v.0 v.1 fs) × (max (top_or v.0) (top_or v.1) ≤ d)) (caught_at under ts)
   unfolding caught_at
   tell_caught pre ts l o hole slice = told_if (comes 14)
@@ -295,13 +295,13 @@ module _ (w y g d : ℕ) (under' under : Below) (below : Unders y g d under' und
       (λ c'. told_done (S.Caught.all, omega arith))
 
   -- one clause: what it catches, a colon and a block
-  abbrev HandlerHole : List Token → Type 0
+  abbrev pub HandlerHole : List Token → Type 0
   HandlerHole pre = (m : Mode) (a b : Option Expr) (ss : List Stmt) (q : Place) (ts us : List Token) → Caught m.marks a b ts → Block m.marks ss us → Fits m (max (max (top_or a) (top_or b)) (tall_block ss)) d → Opens m (pre ++ (ts ++ at c.colon q ∷ us))
 
-  abbrev HandlerRead : ℕ → Handler → List Token → Type 0
+  abbrev pub HandlerRead : ℕ → Handler → List Token → Type 0
   HandlerRead l v fs = (q : Place) × (ts us : List Token) × (fs ≡ ts ++ at c.colon q ∷ us) × ((x : Marks) → Caught x v.test v.target ts) × ((x : Marks) → Block x v.body us) × (v ≡ record { line = l; test = v.test; target = v.target; body = v.body }) × (tall_handler v ≤ d)
 
-  tell_handler : (line : ℕ) (pre ts : List Token) → length ts ≤ g → HandlerHole pre → Told y pre ts (handler_at under' block' line) (HandlerRead line) (handler_at under block line ts)
+  pub tell_handler : (line : ℕ) (pre ts : List Token) → length ts ≤ g → HandlerHole pre → Told y pre ts (handler_at under' block' line) (HandlerRead line) (handler_at under block line ts)
   unfolding handler_at
   tell_handler line pre ts l hole =
       told_bind _ _ _ (tell_caught pre ts l
@@ -316,7 +316,7 @@ module _ (w y g d : ℕ) (under' under : Below) (below : Unders y g d under' und
     no_except : (x : Marks) → FollowExcepts x [] []
     excepting : {x : Marks} {hs : List Handler} {us : List Token} → Excepts x hs us → FollowExcepts x hs us
 
-  abbrev ExceptsHole : List Token → Type 0
+  abbrev pub ExceptsHole : List Token → Type 0
   ExceptsHole pre = (m : Mode) (hs : List Handler) (us : List Token) → Excepts m.marks hs us → Fits m (tall_handlers hs) d → Opens m (pre ++ us)
 
   except_follow : {x : Marks} (p q : Place) {a : Expr} {b : Option Expr} {ss : List Stmt} {ts us : List Token} → Caught x (Some a) b ts → Block x ss us → {hs : List Handler} {vs : List Token} → FollowExcepts x hs vs → Excepts x (record { line = p.line; test = Some a; target = b; body = ss } ∷ hs) (at c.except_ p ∷ ((ts ++ at c.colon q ∷ us) ++ vs))
@@ -331,10 +331,10 @@ module _ (w y g d : ℕ) (under' under : Below) (below : Unders y g d under' und
   last_except : {x : Marks} (p : Place) (v : Handler) (fs : List Token) → HandlerRead p.line v fs → Excepts x (v ∷ []) (at c.except_ p ∷ fs)
   last_except {x = x} p v fs r = subst (λ z. Excepts x (z ∷ []) (at c.except_ p ∷ fs)) (sym r.6) (subst (λ z. Excepts x (record { line = p.line; test = v.test; target = v.target; body = v.body } ∷ []) (at c.except_ p ∷ z)) (sym r.3) (S.except_one p r.0 (r.4 x) (r.5 x)))
 
-  abbrev TellHandlers : ℕ → Type 0
+  abbrev pub TellHandlers : ℕ → Type 0
   TellHandlers f = (found : List Handler) (pre ts : List Token) → length ts ≤ f → f ≤ g → ExceptsHole pre → Told y pre ts (handlers_at under' block' (more w f) found) (λ v fs. (hs : List Handler) × (v ≡ found ++ hs) × ((x : Marks) → FollowExcepts x hs fs) × (tall_handlers hs ≤ d)) (handlers_at under block f found ts)
 
-  tell_excepting : (f : ℕ) → TellHandlers f → (found : List Handler) (pre ts : List Token) (p : Place) (us : List Token) → ts ≡ at c.except_ p ∷ us → length ts ≤ suc f → suc f ≤ g → ExceptsHole pre →
+  pub tell_excepting : (f : ℕ) → TellHandlers f → (found : List Handler) (pre ts : List Token) (p : Place) (us : List Token) → ts ≡ at c.except_ p ∷ us → length ts ≤ suc f → suc f ≤ g → ExceptsHole pre →
       Told y (pre ++ at c.except_ p ∷ []) us (λ vs. handler_at under' block' p.line vs >>= λ h. (if is_some h.0.test then handlers_at under' block' (more w f) (found ++ h.0 ∷ []) h.1 else Ok (found ++ h.0 ∷ [], h.1))) (λ v fs. (hs : List Handler) × (v ≡ found ++ hs) × ((x : Marks) → Excepts x hs (at c.except_ p ∷ fs)) × (tall_handlers hs ≤ d)) (handler_at under block p.line us >>= λ h. (if is_some h.0.test then handlers_at under block f (found ++ h.0 ∷ []) h.1 else Ok (found ++ h.0 ∷ [], h.1)))
   tell_excepting f again found pre ts p us e l i hole =
       told_bind _ _ _ (tell_handler p.line (pre ++ at c.except_ p ∷ []) us (omega (arith, l, i, ap length e))
@@ -350,7 +350,7 @@ module _ (w y g d : ℕ) (under' under : Below) (below : Unders y g d under' und
               (λ m hs vs s j. here (simp append_assoc) (hole m (v ∷ hs) _ (then_except p v fs r a t (excepting s)) (λ b. omega (arith, r.7, j b))))))
           (λ e2. no (sym (ap is_some t) ∙ e2))
 
-  tell_handlers : (f : ℕ) → TellHandlers f
+  pub tell_handlers : (f : ℕ) → TellHandlers f
   unfolding handlers_at
   tell_handlers zero found pre [] l i hole = told_ends found ([], sym (append-nil found), no_except, omega arith) refl (λ us s. with_none (λ z. handlers_at under' block' w found z ≡ Ok (found, z)) us (ends w) s)
     where
@@ -363,7 +363,7 @@ module _ (w y g d : ℕ) (under' under : Below) (below : Unders y g d under' und
       (λ e. told_done ([], sym (append-nil found), no_except, omega arith))
 
   -- where `except` comes
-  tell_some_handlers : (f : ℕ) (found : List Handler) (pre ts : List Token) → is_keyword 10 (first ts) ≡ true → length ts ≤ f → f ≤ g → ExceptsHole pre →
+  pub tell_some_handlers : (f : ℕ) (found : List Handler) (pre ts : List Token) → is_keyword 10 (first ts) ≡ true → length ts ≤ f → f ≤ g → ExceptsHole pre →
       Told y pre ts (handlers_at under' block' (more w f) found) (λ v fs. (hs : List Handler) × (v ≡ found ++ hs) × ((x : Marks) → Excepts x hs fs) × (tall_handlers hs ≤ d)) (handlers_at under block f found ts)
   unfolding handlers_at
   tell_some_handlers zero found pre [] e l i hole = no (sym e)
@@ -374,17 +374,17 @@ module _ (w y g d : ℕ) (under' under : Below) (below : Unders y g d under' und
 
   -- ---- compound statements
 
-  abbrev CompoundHole : List Token → Type 0
+  abbrev pub CompoundHole : List Token → Type 0
   CompoundHole pre = (m : Mode) (a : Stmt) (us : List Token) → Compound m.marks a us → Fits m (tall a) (suc d) → Opens m (pre ++ us)
 
-  abbrev ReadCompound : Stmt → List Token → Type 0
+  abbrev pub ReadCompound : Stmt → List Token → Type 0
   ReadCompound v fs = ((x : Marks) → Compound x v fs) × (tall v ≤ suc d)
 
   finally_some : (m : Mode) (o : Option Clause) (us : List Token) → Finally m.marks o us → is_some o ≡ true → (f : Clause) × (o ≡ Some f)
   finally_some m None us q e = no (sym e)
   finally_some m (Some f) us q e = (f, refl)
 
-  tell_try_excepts : (p p2 : Place) (ss : List Stmt) (fs : List Token) → ((x : Marks) → Block x ss fs) → tall_block ss ≤ d → (pre ts : List Token) → is_keyword 10 (first ts) ≡ true → length ts ≤ g → CompoundHole pre →
+  pub tell_try_excepts : (p p2 : Place) (ss : List Stmt) (fs : List Token) → ((x : Marks) → Block x ss fs) → tall_block ss ≤ d → (pre ts : List Token) → is_keyword 10 (first ts) ≡ true → length ts ≤ g → CompoundHole pre →
       Told y ((pre ++ at c.try_ p ∷ []) ++ at c.colon p2 ∷ fs) ts (λ us. handlers_at under' block' (more w g) [] us >>= λ hs. (clause_at 9 block' hs.1 >>= λ o. (clause_at 12 block' o.1 >>= λ f. Ok (st.Try (record { line = p.line; body = ss }) hs.0 o.0 f.0, f.1)))) (λ v us. ReadCompound v (at c.try_ p ∷ (at c.colon p2 ∷ (fs ++ us)))) (handlers_at under block g [] ts >>= λ hs. (clause_at 9 block hs.1 >>= λ o. (clause_at 12 block o.1 >>= λ f. Ok (st.Try (record { line = p.line; body = ss }) hs.0 o.0 f.0, f.1))))
   tell_try_excepts p p2 ss fs is h pre ts e l hole =
       let b : Clause = record { line = p.line; body = ss } in
@@ -396,7 +396,7 @@ module _ (w y g d : ℕ) (under' under : Below) (below : Unders y g d under' und
               (λ m f us r3 j. here (simp append_assoc) (hole m (st.Try b r.0 o f) _ (S.try p p2 (is m.marks) (r.2 m.marks) (r2.0 m.marks) r3) (λ z. omega (arith, h, r.3, r2.1, j z, ht.tall_try b r.0 o f)))))
             (λ f us r3. ((λ x. move (Compound x (st.Try b r.0 o f)) (simp append_assoc) (S.try p p2 (is x) (r.2 x) (r2.0 x) (r3.0 x))), omega (arith, h, r.3, r2.1, r3.1, ht.tall_try b r.0 o f))))))
 
-  tell_try : (p p2 : Place) (ss : List Stmt) (fs : List Token) → ((x : Marks) → Block x ss fs) → tall_block ss ≤ d → (pre ts : List Token) → length ts ≤ g → CompoundHole pre →
+  pub tell_try : (p p2 : Place) (ss : List Stmt) (fs : List Token) → ((x : Marks) → Block x ss fs) → tall_block ss ≤ d → (pre ts : List Token) → length ts ≤ g → CompoundHole pre →
       Told y ((pre ++ at c.try_ p ∷ []) ++ at c.colon p2 ∷ fs) ts (try_at under' block' (more w g) (record { line = p.line; body = ss })) (λ v us. ReadCompound v (at c.try_ p ∷ (at c.colon p2 ∷ (fs ++ us)))) (try_at under block g (record { line = p.line; body = ss }) ts)
   unfolding try_at clause_at
   tell_try p p2 ss fs is h pre ts l hole =

@@ -18,3 +18,4 @@ mod Targets
 mod Simples
 mod Worded
 mod Bodies
+mod Compounds
