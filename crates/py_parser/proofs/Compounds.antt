@@ -138,16 +138,16 @@ loops_end a fs es vs is (no_target _) = (a, move (Loops (Some left.SliceForm) a)
 loops_end a fs es vs is (another q r) = several_targets q is r
 
 module _ (w y g d : ℕ) (lower' lower : Below) (targets : Targeting y g d lower' lower) where
-  abbrev LoopsHole : List Token → Type 0
+  abbrev pub LoopsHole : List Token → Type 0
   LoopsHole pre = (m : Mode) (es : List Expr) (us : List Token) → FollowLoops m.marks es us → Fits m (tops es) d → Opens m (pre ++ us)
 
-  abbrev LoopsSlice : List Token → Type 0
+  abbrev pub LoopsSlice : List Token → Type 0
   LoopsSlice pre = (es : List Expr) (us : List Token) (κ : TokenKind) (p : Place) → FollowTargets (Some left.SliceForm) es us → ends_loop κ ≡ true → Opens (marked left.SliceForm) (pre ++ (us ++ at κ p ∷ []))
 
-  abbrev TellLoops : ℕ → Type 0
+  abbrev pub TellLoops : ℕ → Type 0
   TellLoops f = (found : Tall (List Expr)) (pre ts : List Token) → length ts ≤ f → f ≤ g → LoopsHole pre → LoopsSlice pre → Told y pre ts (loops_at lower' (more w f) found) (λ v fs. (es : List Expr) × (v ≡ plus_tests found es) × ((x : Marks) → FollowLoops x es fs) × (tops es ≤ d)) (loops_at lower f found ts)
 
-  tell_loop_comma : (f : ℕ) → TellLoops f → (found : Tall (List Expr)) (pre : List Token) (p : Place) (us : List Token) → length us ≤ f → f ≤ g → LoopsHole pre → LoopsSlice pre →
+  pub tell_loop_comma : (f : ℕ) → TellLoops f → (found : Tall (List Expr)) (pre : List Token) (p : Place) (us : List Token) → length us ≤ f → f ≤ g → LoopsHole pre → LoopsSlice pre →
       Told y pre (at c.comma p ∷ us) (loops_at lower' (more w (suc f)) found) (λ v fs. (es : List Expr) × (v ≡ plus_tests found es) × ((x : Marks) → CommaedLoops x es fs) × (tops es ≤ d)) (loops_at lower (suc f) found (at c.comma p ∷ us))
   unfolding loops_at
   tell_loop_comma f again found pre p us l i hole slice = told_take (told_if (comes 1)
@@ -160,7 +160,7 @@ module _ (w y g d : ℕ) (lower' lower : Below) (targets : Targeting y g d lower
             (λ es vs κ p2 r e. here (simp append_assoc) (slice (a ∷ es) _ κ p2 (another p (then_targets (is (Some left.SliceForm)) r)) e)))))
       (λ c'. told_done ([], sym (tests_nil found), (λ x. loop_comma x p), omega arith)))
 
-  tell_loops : (f : ℕ) → TellLoops f
+  pub tell_loops : (f : ℕ) → TellLoops f
   unfolding loops_at
   tell_loops zero found pre [] l i hole slice = told_ends found ([], sym (tests_nil found), no_loop, omega arith) refl (λ us s. with_none (λ z. loops_at lower' w found z ≡ Ok (found, z)) us (ends w) s)
     where
@@ -172,7 +172,7 @@ module _ (w y g d : ℕ) (lower' lower : Below) (targets : Targeting y g d lower
       (λ p us q. rw q (told_as {X' = loops_at lower' (more w (suc f)) found} (λ vs s. rw s refl) (told_post (λ v fs r. (r.0, r.1, (λ x. looped (r.2 x)), r.3)) (tell_loop_comma f (tell_loops f) found pre p us (omega (arith, l, ap length q)) (omega (arith, i)) hole slice))))
       (λ e. told_done ([], sym (tests_nil found), no_loop, omega arith))
 
-  tell_some_loops : (f : ℕ) (found : Tall (List Expr)) (pre ts : List Token) → is_op 38 (first ts) ≡ true → length ts ≤ f → f ≤ g → LoopsHole pre → LoopsSlice pre →
+  pub tell_some_loops : (f : ℕ) (found : Tall (List Expr)) (pre ts : List Token) → is_op 38 (first ts) ≡ true → length ts ≤ f → f ≤ g → LoopsHole pre → LoopsSlice pre →
       Told y pre ts (loops_at lower' (more w f) found) (λ v fs. (es : List Expr) × (v ≡ plus_tests found es) × ((x : Marks) → CommaedLoops x es fs) × (tops es ≤ d)) (loops_at lower f found ts)
   tell_some_loops zero found pre [] e l i hole slice = no (sym e)
   tell_some_loops zero found pre (t ∷ ts) e l i hole slice = absurd (omega (arith, l))
@@ -224,16 +224,16 @@ later_true true = tt
 later_true false = tt
 
 module _ (w y g d : ℕ) (under' under : Below) (below : Unders y g d under' under) (block' block : Suite) (tell : TellBlock y g d block' block) (z2 : 2 ≤ d) where
-  abbrev ParamsHole : Bool → List Token → Type 0
+  abbrev pub ParamsHole : Bool → List Token → Type 0
   ParamsHole b pre = (m : Mode) (as' : List Param) (us : List Token) → Parameters m.marks b as' us → Fits m (defaults as') d → Opens m (pre ++ us)
 
-  abbrev ParamRead : Bool → Param → List Token → Type 0
+  abbrev pub ParamRead : Bool → Param → List Token → Type 0
   ParamRead b v fs = Later b (is_some v.default) × ((x : Marks) → Parameter x (is_some v.default) v fs) × (top_or v.default ≤ d)
 
   word_param : (x : Marks) (b : Bool) → Parameters x b (record { name = []; default = Some (ex.Name []) } ∷ []) (at (k.Name []) p0 ∷ at c.assign p0 ∷ word)
   word_param x b = S.Parameters.one b true (later_true b) (S.Parameter.default [] p0 p0 (is_word 14 x (omega arith)))
 
-  tell_param : (b : Bool) (pre ts : List Token) → length ts ≤ g → Opens low pre → ParamsHole b pre → Told y pre ts (param_at under' b) (ParamRead b) (param_at under b ts)
+  pub tell_param : (b : Bool) (pre ts : List Token) → length ts ≤ g → Opens low pre → ParamsHole b pre → Told y pre ts (param_at under' b) (ParamRead b) (param_at under b ts)
   unfolding param_at
   tell_param b pre ts l o hole = told_if (λ κ. is_op 23 κ || is_op 4 κ)
       (λ t. elim (either (is_op 23 (first ts)) (is_op 4 (first ts)) t) [
@@ -254,11 +254,11 @@ module _ (w y g d : ℕ) (under' under : Below) (below : Unders y g d under' und
       plain n p us o2 true e = told_when b (λ q. told_refused o2) (λ q. no (sym e ∙ q))
       plain n p us o2 false e = told_when b (λ q. no (sym q ∙ e)) (λ q. told_done (subst (λ z. Later z false) (sym e) tt, (λ x. S.Parameter.plain x n p), omega arith))
 
-  abbrev TellParams : ℕ → Type 0
+  abbrev pub TellParams : ℕ → Type 0
   TellParams f = (b : Bool) (found : List Param) (pre ts : List Token) → length ts < f → f ≤ g → Opens low pre → ParamsHole b pre →
       Told y pre ts (params_at under' (more w f) b found) (λ v fs. (as' : List Param) × (v ≡ found ++ as') × ((x : Marks) → Parameters x b as' fs) × (defaults as' ≤ d)) (params_at under f b found ts)
 
-  tell_params : (f : ℕ) → TellParams f
+  pub tell_params : (f : ℕ) → TellParams f
   unfolding params_at
   tell_params zero b found pre ts l i o hole = absurd (omega (arith, l))
   tell_params (suc f) b found pre ts l i o hole =
@@ -280,7 +280,7 @@ module _ (w y g d : ℕ) (under' under : Below) (below : Unders y g d under' und
   abbrev ReadCompound' : Stmt → List Token → Type 0
   ReadCompound' v fs = ((x : Marks) → Compound x v fs) × (tall v ≤ suc d)
 
-  tell_def : (p : Place) (pre ts : List Token) → length ts ≤ g → CompoundHole' pre → Told y (pre ++ at c.def_ p ∷ []) ts (def_at under' block' (more w g) p.line) (λ v us. ReadCompound' v (at c.def_ p ∷ us)) (def_at under block g p.line ts)
+  pub tell_def : (p : Place) (pre ts : List Token) → length ts ≤ g → CompoundHole' pre → Told y (pre ++ at c.def_ p ∷ []) ts (def_at under' block' (more w g) p.line) (λ v us. ReadCompound' v (at c.def_ p ∷ us)) (def_at under block g p.line ts)
   unfolding def_at
   tell_def p pre ts l hole =
       let fit : (n : List ℕ) (ps : List Param) (ss : List Stmt) → tall (st.Def p.line n ps ss) ≡ max (defaults ps) (tall_block ss) + 1 = λ n ps ss. ht.tall_def p.line n ps ss in
@@ -297,7 +297,7 @@ module _ (w y g d : ℕ) (under' under : Below) (below : Unders y g d under' und
             (λ m p5 ss vs s j. here (simp append_assoc) (hole m (st.Def p.line n ps ss) _ (S.def n p p2 p3 p4 p5 (r.0 m.marks) s) (λ b. omega (arith, r.1, j b, fit n ps ss))))
             (λ p5 ss gs rest2 q5 s h. told_done ((λ x. move (Compound x (st.Def p.line n ps ss)) (ap (λ z. at c.def_ p ∷ at (k.Name n) p2 ∷ at c.open_round p3 ∷ (fs ++ at c.close_round p4 ∷ at c.colon p5 ∷ z)) (sym (append-nil gs))) (S.def n p p2 p3 p4 p5 (r.0 x) (s x))), omega (arith, r.1, h, fit n ps ss)))))))
 
-  tell_base : (pre ts : List Token) → length ts ≤ g → ((m : Mode) (o : Option Expr) (us : List Token) → Base m.marks o us → Fits m (top_or o) d → Opens m (pre ++ us)) →
+  pub tell_base : (pre ts : List Token) → length ts ≤ g → ((m : Mode) (o : Option Expr) (us : List Token) → Base m.marks o us → Fits m (top_or o) d → Opens m (pre ++ us)) →
       Told y pre ts (base_at under') (λ v fs. (o : Option Expr) × (v ≡ of_or o) × ((x : Marks) → Base x o fs) × (top_or o ≤ d)) (base_at under ts)
   unfolding base_at maybe_at
   tell_base pre ts l hole = told_word (is_op 32) c.open_round (only_op 32) refl
@@ -322,7 +322,7 @@ module _ (w y g d : ℕ) (under' under : Below) (below : Unders y g d under' und
           just_of : {x : Marks} {a : Expr} {us : List Token} → Maybe x (Some a) us → Is x 14 a us
           just_of (G.just q) = q
 
-  tell_class : (p : Place) (pre ts : List Token) → length ts ≤ g → CompoundHole' pre → Told y (pre ++ at c.class_ p ∷ []) ts (class_at under' block' p.line) (λ v us. ReadCompound' v (at c.class_ p ∷ us)) (class_at under block p.line ts)
+  pub tell_class : (p : Place) (pre ts : List Token) → length ts ≤ g → CompoundHole' pre → Told y (pre ++ at c.class_ p ∷ []) ts (class_at under' block' p.line) (λ v us. ReadCompound' v (at c.class_ p ∷ us)) (class_at under block p.line ts)
   unfolding class_at
   tell_class p pre ts l hole =
       let fit : (n : List ℕ) (a : Option Expr) (ss : List Stmt) → tall (st.Class p.line n a ss) ≡ max (top_or a) (tall_block ss) + 1 = λ n a ss. ht.tall_class p.line n a ss in

@@ -19,3 +19,4 @@ mod Simples
 mod Worded
 mod Bodies
 mod Compounds
+mod Wholes
