@@ -20,3 +20,4 @@ mod Worded
 mod Bodies
 mod Compounds
 mod Wholes
+mod Modules
