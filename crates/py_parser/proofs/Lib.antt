@@ -21,3 +21,4 @@ mod Bodies
 mod Compounds
 mod Wholes
 mod Modules
+mod Bodied

@@ -133,7 +133,7 @@ module _ (w y g d : ℕ) (P' P : Parts) (e' : P'.under ≡ reads (more w g) (mor
       (subst (λ z. Told y pre ts (line_at (reads (more w g) (more y d)) (more w g) (more y (suc d))) (ReadStatement (suc d)) (line_at z g (suc d) ts)) (sym e)
         (told_post (λ v fs r. ((λ x. S.line (r.0 x)), r.1)) (tell_line w y g d (reads (more w g) (more y d)) (reads g d) (unders w y g d) (tell_exprs w y g d) targets pre ts l o (λ m ss us r h. hole m ss us (S.line r) h))))
 
-  tell_statement_at : TellStatement y g (suc d) (statement_at P' (more w g) (more y (suc d))) (statement_at P g (suc d))
+  pub tell_statement_at : TellStatement y g (suc d) (statement_at P' (more w g) (more y (suc d))) (statement_at P g (suc d))
   unfolding statement_at
   tell_statement_at pre ts l o hole = told_kind (λ κ us. statement_by P' (more w g) (more y (suc d)) κ us) (go (first ts) refl)
     where
