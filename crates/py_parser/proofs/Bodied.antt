@@ -212,7 +212,7 @@ only_end k.End e = refl
 only_end x e = no (sym e)
 
 module _ (w y g d : ℕ) (targets : Targets' w y g) where
-  tell_body : (f : ℕ) (found : List Stmt) (pre ts : List Token) → length ts ≤ f → f ≤ g → 0 < length ts → EndsOnce (pre ++ ts) → BodyHole (suc d) pre →
+  pub tell_body : (f : ℕ) (found : List Stmt) (pre ts : List Token) → length ts ≤ f → f ≤ g → 0 < length ts → EndsOnce (pre ++ ts) → BodyHole (suc d) pre →
       Told y pre ts (body_more (statements_at (more w g) (more y (suc d))) (more w f) found) (λ v fs. (ss : List Stmt) × (v ≡ found ++ ss) × ((x : Marks) → Body x ss fs) × (talls ss ≤ suc d)) (body_more (statements_at g (suc d)) f found ts)
   unfolding body_more
   tell_body zero found pre ts l i n h hole = absurd (omega (arith, l, n))

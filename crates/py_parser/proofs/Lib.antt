@@ -22,3 +22,5 @@ mod Compounds
 mod Wholes
 mod Modules
 mod Bodied
+mod NoEnd
+mod Results

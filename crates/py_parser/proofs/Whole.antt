@@ -50,7 +50,7 @@ s_more : (statement : Suite) (f : ℕ) (found : List Stmt) (us : List Token) →
 unfolding body_more
 s_more statement f found us h = rw (stray_end (first us) h) (rw (stray_newline (first us) h) refl)
 
-complete_body : {x : Marks} {ss : List Stmt} {ts : List Token} → Body x ss ts → (g d f : ℕ) (found : List Stmt) → length ts ≤ g → length ts ≤ f → talls ss ≤ d → Reaches x (body_more (statements_at g d) f found ts) (found ++ ss) []
+pub complete_body : {x : Marks} {ss : List Stmt} {ts : List Token} → Body x ss ts → (g d f : ℕ) (found : List Stmt) → length ts ≤ g → length ts ≤ f → talls ss ≤ d → Reaches x (body_more (statements_at g d) f found ts) (found ++ ss) []
 complete_body (S.end x p) g d zero found l m h = absurd (omega arith)
 complete_body (S.end x p) g d (suc f) found l m h = inl (s_end (statements_at g d) f found p [] ∙ ap (λ z. Ok (z, [])) (sym (append-nil found)))
 complete_body (S.newline p r) g d zero found l m h = absurd (omega arith)
@@ -68,7 +68,7 @@ unfolding module_at tall_module
 complete_module {x = x} {ss = ss} {ts = ts} q h =
     then_reads x _ (λ b. Ok (record { body = b.0 }, b.1)) ss [] _ [] (complete_body q (length ts) 99 (length ts) [] (omega arith) (omega arith) (omega (arith, highest_talls ss))) (inl refl)
 
-read : {A : Type 0} {r : Reads A} {v : A} {us : List Token} → Reaches None r v us → r ≡ Ok (v, us)
+pub read : {A : Type 0} {r : Reads A} {v : A} {us : List Token} → Reaches None r v us → r ≡ Ok (v, us)
 read (inl p) = p
 read (inr p) = no (sym (ap is_some p.2))
 

@@ -1,0 +1,176 @@
+-- What the reading of a module answers: a module of these tokens and of a height of at most 100, every such module, or where and why there is none.
+use Rattle.std.proofs.Common.{◌≡◌, ℕ, zero, suc, ◌+◌, ◌≤◌, ◌<◌, max, Bool, true, false, List, [], ◌∷◌, ◌++◌, length, Result, Ok, Err, Option, Some, None, ◌⊎◌, inl, inr, refl, sym, ap, ◌∙◌, subst, append_assoc, append-nil, arith, length-append}
+use Rattle.py_data.specs.declared.refusal.Construct.{Construct}
+use Rattle.py_tokens.specs.declared.token.Token.{Token}
+use Rattle.py_tokens.specs.declared.token.TokenKind.TheVariants as k
+use Rattle.py_tokens.specs.declared.token.Place.{Place}
+use Rattle.py_tokens.specs.Place.{token_at as at}
+use Rattle.py_tree.specs.declared.stmt.Stmt.{Stmt}
+use Rattle.py_tree.specs.declared.stmt.Module.{Module}
+use Rattle.py_tree.specs.Tall.{tall_module, talls}
+use Rattle.py_parser.specs.declared.fault.Fault.{Fault}
+use Rattle.py_parser.specs.declared.fault.Fault.TheVariants.{Unexpected, LeftOut, Deep}
+use Rattle.py_parser.specs.Grammar.{Marks}
+use Rattle.py_parser.specs.Statements as S
+use Rattle.py_parser.specs.Statements.{Body, IsModule}
+use Rattle.py_parser.specs.Words.{line_of}
+use Rattle.py_parser.specs.Reading.{Reads, ◌>>=◌, is_some}
+use Rattle.py_parser.specs.Lines.{statements_at, body_more, module_at}
+use Rattle.py_parser.specs.Refused.{Begins, BeginsWith, NoneBegins, Because, RefusedAt, EndsOnce}
+use Rattle.py_parser.proofs.Steps.{Reaches}
+use Rattle.py_parser.proofs.Facts.{no}
+use Rattle.py_parser.proofs.Blocks.{highest_talls}
+use Rattle.py_parser.proofs.Whole.{complete_body}
+use Rattle.py_parser.proofs.Told.{Beyond, Mode, any, low, marked, Fits, Opens, SameFirst, more, more_is, Stays, Told, Took, Stopped}
+use Rattle.py_parser.proofs.Bodied.{Targets', BodyHole, tell_body}
+
+-- What targets tell, with all budgets and turns.
+abbrev pub TellsTargets : Type 0
+TellsTargets = (w y g : ℕ) → Targets' w y g
+
+abbrev Taken : List Stmt → List Token → Type 0
+Taken v fs = (ss : List Stmt) × (v ≡ [] ++ ss) × ((x : Marks) → Body x ss fs) × (talls ss ≤ 99)
+
+whole : (d : ℕ) → d ≡ 99 → BodyHole d []
+whole d e m ss us p h = record { body = ss; more = []; spells = subst (Body m.marks ss) (sym (append-nil us)) p; fits = λ z. omega (arith, h z, e) }
+
+some_tokens : (ts : List Token) → EndsOnce ts → 0 < length ts
+some_tokens [] h = absurd h
+some_tokens (t ∷ ts) h = omega arith
+
+told_body : TellsTargets → (w y : ℕ) (ts : List Token) → EndsOnce ts → Told y [] ts (body_more (statements_at (more w (length ts)) (more y 99)) (more w (length ts)) []) Taken (body_more (statements_at (length ts) 99) (length ts) [] ts)
+told_body targets w y ts h = tell_body w y (length ts) 98 (targets w y (length ts)) (length ts) [] [] ts (omega arith) (omega arith) (some_tokens ts h) h (whole 99 refl)
+
+-- ---- after End comes nothing
+
+body_last : {x : Marks} {ss : List Stmt} {ts : List Token} → Body x ss ts → (fs : List Token) × (p : Place) × (ts ≡ fs ++ at k.End p ∷ [])
+body_last (S.Body.end x p) = ([], p, refl)
+body_last (S.Body.newline p r) = let l = body_last r in (at k.Newline p ∷ l.0, l.1, ap (λ z. at k.Newline p ∷ z) l.2)
+body_last (S.Body.more {ts = ts} {us = us} q r) = let l = body_last r in (ts ++ l.0, l.1, ap (λ z. ts ++ z) l.2 ∙ sym (append_assoc ts l.0 (at k.End l.1 ∷ [])))
+
+cons_none : (t : Token) (ts : List Token) → t ∷ ts ≡ [] → ⊥
+cons_none t ts e = cc
+
+ends_rest : (xs : List Token) (p : Place) (ys : List Token) → EndsOnce (xs ++ at k.End p ∷ ys) → ys ≡ []
+ends_rest [] p ys (inl q) = q.1
+ends_rest [] p ys (inr q) = absurd (q.0 refl)
+ends_rest (x ∷ []) p ys (inl q) = absurd (cons_none _ _ q.1)
+ends_rest (x ∷ z ∷ xs) p ys (inl q) = absurd (cons_none _ _ q.1)
+ends_rest (x ∷ xs) p ys (inr q) = ends_rest xs p ys q.1
+
+body_rest : {x : Marks} {ss : List Stmt} (fs rest : List Token) → Body x ss fs → EndsOnce (fs ++ rest) → rest ≡ []
+body_rest fs rest p h = let l = body_last p in ends_rest l.0 l.1 rest (subst EndsOnce (ap (λ z. z ++ rest) l.2 ∙ append_assoc l.0 (at k.End l.1 ∷ []) rest) h)
+
+module_tall : (m : Module) → tall_module m ≡ talls m.body + 1
+unfolding tall_module
+module_tall m = ap (λ z. z + 1) (highest_talls m.body)
+
+pub found : TellsTargets → (ts : List Token) (m : Module) (rest : List Token) → EndsOnce ts → module_at (length ts) ts ≡ Ok (m, rest) → IsModule m ts × (tall_module m ≤ 100)
+unfolding module_at
+found targets ts m rest h e = go (body_more (statements_at (length ts) 99) (length ts) [] ts) (told_body targets 0 0 ts h) e
+  where
+    go : (r : Reads (List Stmt)) → Told 0 [] ts (body_more (statements_at (more 0 (length ts)) (more 0 99)) (more 0 (length ts)) []) Taken r → (r >>= λ b. Ok (record { body = b.0 }, b.1)) ≡ Ok (m, rest) → IsModule m ts × (tall_module m ≤ 100)
+    go (Err x) t q = absurd (bad q)
+      where
+        bad : ◌≡◌ {A = Reads Module} (Err x) (Ok (m, rest)) → ⊥
+        bad q = cc
+    go (Ok x) t q =
+        let p = t.tells in
+        let is : m ≡ record { body = x.0 } = sym (ap value q) in
+        let none = body_rest p.front x.1 (p.holds.2 None) (subst EndsOnce p.split h) in
+        let all : ts ≡ p.front = p.split ∙ ap (λ z. p.front ++ z) none ∙ append-nil p.front in
+        let body : Body None x.0 ts = subst (λ z. Body None z ts) (sym p.holds.1) (subst (Body None p.holds.0) (sym all) (p.holds.2 None)) in
+        let low' : talls x.0 ≤ 99 = omega (arith, ap talls p.holds.1, p.holds.3) in
+        subst (λ z. IsModule z ts × (tall_module z ≤ 100)) (sym is) (body, omega (arith, module_tall (record { body = x.0 }), low'))
+      where
+        value : Reads Module → Module
+        value (Ok z) = z.0
+        value (Err z) = m
+
+-- ---- refusals
+
+cancel : (fs gs rest : List Token) → fs ++ rest ≡ gs ++ rest → fs ≡ gs
+cancel [] [] rest e = refl
+cancel [] (g ∷ gs) rest e = absurd (omega (arith, ap length e, length-append gs rest))
+cancel (f ∷ fs) [] rest e = absurd (omega (arith, ap length e, length-append fs rest))
+cancel (f ∷ fs) (g ∷ gs) rest e = let a : f ≡ g = ap (first_or f) e in let b : fs ++ rest ≡ gs ++ rest = ap tail e in ap (λ z. z ∷ fs) a ∙ ap (λ z. g ∷ z) (cancel fs gs rest b)
+  where
+    first_or : Token → List Token → Token
+    first_or d [] = d
+    first_or d (t ∷ ts) = t
+
+    tail : List Token → List Token
+    tail [] = []
+    tail (t ∷ ts) = ts
+
+err_ok : {A : Type 0} (x : Fault × List Token) (y : A × List Token) (r : Reads A) → r ≡ Err x → r ≡ Ok y → ⊥
+err_ok x y r p q = let e : Err x ≡ Ok y = sym p ∙ q in cc
+
+err_left : {A : Type 0} (us vs : List Token) (c : Construct) (r : Reads A) → r ≡ Err (Unexpected, us) → r ≡ Err (LeftOut c, vs) → ⊥
+err_left {A = A} us vs c r p q = no (sym (ap unexpected p) ∙ ap unexpected q)
+  where
+    unexpected : Reads A → Bool
+    unexpected (Err (Unexpected, zs)) = true
+    unexpected x = false
+
+always : (f : Fault) → Stays 0 f
+always Unexpected = tt
+always (LeftOut c) = tt
+always Deep = refl
+
+module _ (targets : TellsTargets) (ts : List Token) (h : EndsOnce ts) (f : Fault) (rest : List Token) (e : body_more (statements_at (length ts) 99) (length ts) [] ts ≡ Err (f, rest)) where
+  stop : (w y : ℕ) → Stopped y [] ts (body_more (statements_at (more w (length ts)) (more y 99)) (more w (length ts)) []) f rest
+  stop w y = (subst (Told y [] ts (body_more (statements_at (more w (length ts)) (more y 99)) (more w (length ts)) []) Taken) e (told_body targets w y ts h)).tells
+
+  abbrev front : List Token
+  front = (stop 0 0).front
+
+  same_front : (w y : ℕ) → (stop w y).front ≡ front
+  same_front w y = cancel ((stop w y).front) front rest (sym (stop w y).split ∙ (stop 0 0).split)
+
+  again : (w y : ℕ) (us : List Token) → SameFirst rest us → Stays y f → body_more (statements_at (more w (length ts)) (more y 99)) (more w (length ts)) [] (front ++ us) ≡ Err (f, us)
+  again w y us s z = ap (λ q. body_more (statements_at (more w (length ts)) (more y 99)) (more w (length ts)) [] (q ++ us)) (sym (same_front w y)) ∙ (stop w y).same us s z
+
+  module _ (t : Token) (us : List Token) (r : rest ≡ t ∷ us) where
+    reads_it : {x : Marks} {ss : List Stmt} (y : ℕ) (more' : List Token) → Body x ss ((front ++ t ∷ []) ++ more') → talls ss ≤ more y 99 → Stays y f →
+        (body_more (statements_at (more (length (front ++ t ∷ more')) (length ts)) (more y 99)) (more (length (front ++ t ∷ more')) (length ts)) [] (front ++ t ∷ more') ≡ Err (f, t ∷ more')) ×
+        Reaches x (body_more (statements_at (more (length (front ++ t ∷ more')) (length ts)) (more y 99)) (more (length (front ++ t ∷ more')) (length ts)) [] (front ++ t ∷ more')) ([] ++ ss) []
+    reads_it {x = x} {ss = ss} y more' p i z =
+        let n = length (front ++ t ∷ more') in let big : n ≤ more n (length ts) = omega (arith, more_is n (length ts)) in
+        (again n y (t ∷ more') (subst (λ q. SameFirst q (t ∷ more')) (sym r) refl) z,
+         complete_body (subst (Body x ss) (append_assoc front (t ∷ []) more') p) (more n (length ts)) (more y 99) (more n (length ts)) [] big big i)
+
+    none_with : (y : ℕ) → Stays y f → (d : ℕ) → d ≤ more y 99 + 1 → Begins d (front ++ t ∷ []) → ⊥
+    none_with y z d i b =
+        let q = reads_it y b.1 b.2 (omega (arith, b.3, module_tall b.0, i)) z in
+        elim q.1 [ inl ok ↦ err_ok _ _ _ q.0 ok | inr bad ↦ no (sym (ap is_some bad.2)) ]
+
+    before : Begins 100 front
+    before = let o = (stop 0 0).before in let m : Module = record { body = o.body } in (m, o.more, o.spells, omega (arith, o.fits refl, module_tall m))
+
+    beyond_any : Opens any ((stop 0 0).front ++ t ∷ []) → (d : ℕ) × Begins d (front ++ t ∷ [])
+    beyond_any o = let m : Module = record { body = o.body } in (tall_module m, (m, o.more, o.spells, omega arith))
+
+    because : Because f (front ++ t ∷ [])
+    because = go f refl
+      where
+        more_room : (d : ℕ) → d ≤ more d 99 + 1
+        more_room d = omega (arith, more_is d 99)
+
+        none : (d : ℕ) → Stays d f → Begins d (front ++ t ∷ []) → ⊥
+        none d z b = none_with d z d (more_room d) b
+
+        go : (g : Fault) → f ≡ g → Because g (front ++ t ∷ [])
+        go Deep q = beyond_any (subst (λ z. Beyond z ((stop 0 0).front ++ t ∷ [])) q ((stop 0 0).beyond t us r))
+        go (LeftOut c) q = ((λ d. none d (subst (Stays d) (sym q) tt)), let o = subst (λ z. Beyond z ((stop 0 0).front ++ t ∷ [])) q ((stop 0 0).beyond t us r) in (o.body, o.more, o.spells))
+        go Unexpected q = ((λ d. none d (subst (Stays d) (sym q) tt)), λ c b. with_mark c b q)
+          where
+            with_mark : (c : Construct) → BeginsWith c (front ++ t ∷ []) → f ≡ Unexpected → ⊥
+            with_mark c b q =
+                let d = talls b.0 in
+                let i : d ≤ more d 99 = omega (arith, more_is d 99) in
+                let w = reads_it d b.1 b.2 i (subst (Stays d) (sym q) tt) in
+                elim w.1 [ inl ok ↦ err_ok _ _ _ w.0 ok | inr bad ↦ err_left (t ∷ b.1) bad.1 bad.0 _ (w.0 ∙ ap (λ z. Err (z, t ∷ b.1)) q) bad.3 ]
+
+    refused_there : RefusedAt ts f (line_of rest)
+    refused_there = record { front = front; token = t; rest = us; split = (stop 0 0).split ∙ ap (λ z. front ++ z) r; line_is = ap line_of r; before = before; here = none_with 0 (always f) 100 (omega arith); because = because }
