@@ -46,7 +46,7 @@ use Rattle.py_parser.proofs.Complete.{tests_nil, pairs_nil, named_nil, trailers_
 use Rattle.py_parser.proofs.Begin.{s_tests_end, s_strings_end, long, headed}
 use Rattle.py_parser.proofs.Values.{plus_tests, push_tests, plus_links, push_links, plus_pairs, push_pairs, plus_named, push_nameds, plus_trailers, push_trailers, of_r, of_or, same, as_name, as_int, as_string, as_group, as_unit, as_tuple, as_no_list, as_list, as_dict, as_trail, as_power, as_sign, as_chain, as_not, as_choice, as_attribute, as_index, as_slice, as_call}
 use Rattle.py_parser.specs.Follow.{heads}
-use Rattle.py_parser.proofs.Told.{Stays, Beyond, Mode, any, low, marked, Fits, Opens, cut, near, alone, SameFirst, same_first, with_first, with_none, more, more_is, Told, told_done, told_ends, told_refused, told_left, told_as, told_same, told_if, told_deep, told_post, told_take, told_word, told_bind, told_map, told_case, told_when, told_line, told_room, told_err, told_kind, told_pre, on, here, move, within, bare, there}
+use Rattle.py_parser.proofs.Told.{TargetPlace, placed, Stays, Beyond, Mode, any, low, marked, Fits, Opens, cut, near, alone, SameFirst, same_first, with_first, with_none, more, more_is, Told, told_done, told_ends, told_refused, told_left, told_as, told_same, told_if, told_deep, told_post, told_take, told_word, told_bind, told_map, told_case, told_when, told_line, told_room, told_err, told_kind, told_pre, on, here, move, within, bare, there}
 use Rattle.py_parser.proofs.Tells.{only_op, only_keyword, Hole, Read, Tell, told_read, told_need, told_need_word, told_need_name, only_name, only_string, p0, word, is_word, free, length_after, Commaed, trailing, further, Following, no_more, commaed, then_tests, then_commas, AfterTest, itself, tupled, then_exprs, MoreStrings, no_string, strung, then_strings, tell_strings, Listing, Commaing, tell_tests, tell_commas}
 use Rattle.py_parser.proofs.Atoms.{tell_atom, Unders, lift, left_start, told_no_start, either}
 use Rattle.py_parser.proofs.Trails.{tell_trail}
@@ -280,13 +280,13 @@ module _ (w y g d : ℕ) (under' under : Below) (below : Unders y g d under' und
         (λ a fs rest q is h. let l2 : length rest ≤ g = omega (arith, l, length_after ts fs rest q) in told_if (λ κ. is_keyword 1 κ || is_op 38 κ)
           (λ t. elim (either (is_keyword 1 (first rest)) (is_op 38 (first rest)) t) [
               inl e ↦ let f = there rest c.as_ (only_keyword 1 (first rest) e) (λ z. cc) in let f0 = f.0 in
-                rw f.2 (told_take (told_target d _ _ (targets.target ends_caught ((pre ++ fs) ++ at c.as_ f.0 ∷ []) f.1 (omega (arith, l2, ap length f.2))
+                rw f.2 (told_take (told_target d _ _ (targets.target ends_caught ((pre ++ fs) ++ at c.as_ f.0 ∷ []) f.1 (placed (pre ++ fs) (at c.as_ f.0) refl) (omega (arith, l2, ap length f.2))
                   (on word (simp append_assoc) (hole low (Some a) (Some (ex.Name [])) _ (S.Caught.named f0 (is None) (word_target None)) (λ b. omega (arith, h, hh.height_pos a, hh.height_name []))))
                   (λ m b vs r j. here (simp append_assoc) (hole m (Some a) (Some b) _ (S.Caught.named f0 (is m.marks) r) (λ z. omega (arith, h, j z))))
                   (λ b vs κ p r e2. rw (only_op 39 κ e2) (here (simp append_assoc) (slice a b _ p (S.Caught.named f0 (is (Some left.SliceForm)) r)))))
                 (λ b gs rest2 q2 is2 h2. told_done ((λ x. move (Caught x (Some a) (Some b)) (ap (λ z. fs ++ at c.as_ f0 ∷ z) (sym (append-nil gs))) (S.Caught.named f0 (is x) (is2 x))), omega (arith, h, h2)))))
             | inr e ↦ let f = there rest c.comma (only_op 38 (first rest) e) (λ z. cc) in let f0 = f.0 in
-                rw f.2 (told_take (told_target d _ _ (targets.target ends_caught ((pre ++ fs) ++ at c.comma f.0 ∷ []) f.1 (omega (arith, l2, ap length f.2))
+                rw f.2 (told_take (told_target d _ _ (targets.target ends_caught ((pre ++ fs) ++ at c.comma f.0 ∷ []) f.1 (placed (pre ++ fs) (at c.comma f.0) refl) (omega (arith, l2, ap length f.2))
                   (on word (simp append_assoc) (hole low (Some a) (Some (ex.Name [])) _ (S.Caught.comma f0 (is None) (word_target None)) (λ b. omega (arith, h, hh.height_pos a, hh.height_name []))))
                   (λ m b vs r j. here (simp append_assoc) (hole m (Some a) (Some b) _ (S.Caught.comma f0 (is m.marks) r) (λ z. omega (arith, h, j z))))
                   (λ b vs κ p r e2. rw (only_op 39 κ e2) (here (simp append_assoc) (slice a b _ p (S.Caught.comma f0 (is (Some left.SliceForm)) r)))))

@@ -46,7 +46,7 @@ use Rattle.py_parser.proofs.Complete.{tests_nil, pairs_nil, named_nil, trailers_
 use Rattle.py_parser.proofs.Begin.{s_tests_end, s_strings_end, long, headed}
 use Rattle.py_parser.proofs.Values.{plus_tests, push_tests, plus_links, push_links, plus_pairs, push_pairs, plus_named, push_nameds, plus_trailers, push_trailers, of_r, of_or, same, as_name, as_int, as_string, as_group, as_unit, as_tuple, as_no_list, as_list, as_dict, as_trail, as_power, as_sign, as_chain, as_not, as_choice, as_attribute, as_index, as_slice, as_call}
 use Rattle.py_parser.specs.Follow.{heads}
-use Rattle.py_parser.proofs.Told.{Stays, Beyond, Mode, any, low, marked, Fits, Opens, cut, near, alone, SameFirst, same_first, with_first, with_none, more, more_is, Told, told_done, told_ends, told_refused, told_left, told_as, told_same, told_if, told_deep, told_post, told_take, told_word, told_bind, told_map, told_case, told_when, told_line, told_room, told_err, told_kind, told_pre, on, here, move, within, bare, there}
+use Rattle.py_parser.proofs.Told.{TargetPlace, placed, Stays, Beyond, Mode, any, low, marked, Fits, Opens, cut, near, alone, SameFirst, same_first, with_first, with_none, more, more_is, Told, told_done, told_ends, told_refused, told_left, told_as, told_same, told_if, told_deep, told_post, told_take, told_word, told_bind, told_map, told_case, told_when, told_line, told_room, told_err, told_kind, told_pre, on, here, move, within, bare, there}
 use Rattle.py_parser.proofs.Tells.{only_op, only_keyword, Hole, Read, Tell, told_read, told_need, told_need_word, told_need_name, only_name, only_string, p0, word, is_word, free, length_after, Commaed, trailing, further, Following, no_more, commaed, then_tests, then_commas, AfterTest, itself, tupled, then_exprs, MoreStrings, no_string, strung, then_strings, tell_strings, Listing, Commaing, tell_tests, tell_commas}
 use Rattle.py_parser.proofs.Atoms.{tell_atom, Unders, lift, left_start, told_no_start, either}
 use Rattle.py_parser.proofs.Trails.{tell_trail}
@@ -151,7 +151,7 @@ module _ (w y g d : ℕ) (lower' lower : Below) (targets : Targeting y g d lower
       Told y pre (at c.comma p ∷ us) (loops_at lower' (more w (suc f)) found) (λ v fs. (es : List Expr) × (v ≡ plus_tests found es) × ((x : Marks) → CommaedLoops x es fs) × (tops es ≤ d)) (loops_at lower (suc f) found (at c.comma p ∷ us))
   unfolding loops_at
   tell_loop_comma f again found pre p us l i hole slice = told_take (told_if (comes 1)
-      (λ c'. told_target d _ _ (targets.target ends_loop (pre ++ at c.comma p ∷ []) us (omega (arith, l, i)) (hole low [] _ (looped (loop_comma None p)) (λ b. omega arith))
+      (λ c'. told_target d _ _ (targets.target ends_loop (pre ++ at c.comma p ∷ []) us (placed pre (at c.comma p) refl) (omega (arith, l, i)) (hole low [] _ (looped (loop_comma None p)) (λ b. omega arith))
           (λ m a vs r h. on [] (simp (append_assoc, append-nil)) (hole m (a ∷ []) _ (looped (further_loop p r (no_loop m.marks))) (λ b. omega (arith, h b))))
           (λ a vs κ p2 r e. here (simp append_assoc) (slice (a ∷ []) _ κ p2 (another p (S.Targets.one r)) e)))
         (λ a fs rest q is h. told_post (λ v vs r. (a ∷ r.0, r.1 ∙ push_tests found a r.0, (λ x. further_loop p (is x) (r.2 x)), omega (arith, h, r.3)))
@@ -181,12 +181,12 @@ module _ (w y g d : ℕ) (lower' lower : Below) (targets : Targeting y g d lower
 
 -- with a budget d + 1 for one target, and d for each of several
 module _ (w y g d : ℕ) (under' under lower' lower : Below) (targets : Targeting y g (suc d) under' under) (lowers : Targeting y g d lower' lower) where
-  pub tell_loop : (pre ts : List Token) → length ts ≤ g → Opens low pre → ((m : Mode) (t : Expr) (us : List Token) → Loops m.marks t us → Fits m (height t) (suc d) → Opens m (pre ++ us)) →
+  pub tell_loop : (pre ts : List Token) → TargetPlace pre → length ts ≤ g → Opens low pre → ((m : Mode) (t : Expr) (us : List Token) → Loops m.marks t us → Fits m (height t) (suc d) → Opens m (pre ++ us)) →
       ((t : Expr) (us : List Token) (p : Place) → Loops (Some left.SliceForm) t us → Opens (marked left.SliceForm) (pre ++ (us ++ at c.in_ p ∷ []))) →
       Told y pre ts (loop_at under' lower' (more y (suc d)) (more w g)) (λ v fs. (t : Expr) × (v ≡ of t) × ((x : Marks) → Loops x t fs) × (height t ≤ suc d)) (loop_at under lower (suc d) g ts)
   unfolding loop_at
-  tell_loop pre ts l o hole slice =
-      told_target (suc d) _ _ (targets.target ends_loop pre ts l o (λ m a us r h. hole m a us (S.Loops.single r) h)
+  tell_loop pre ts place l o hole slice =
+      told_target (suc d) _ _ (targets.target ends_loop pre ts place l o (λ m a us r h. hole m a us (S.Loops.single r) h)
           (λ a us κ p r e. elim (either (is_op 38 κ) (is_keyword 18 κ) e) [
               inl q ↦ rw (only_op 38 κ q) (hole (marked left.SliceForm) (ex.Tuple (a ∷ [])) _ (S.Loops.lone p r) free)
             | inr q ↦ rw (only_keyword 18 κ q) (slice a us p (S.Loops.single r)) ]))

@@ -387,6 +387,9 @@ stays g (suc y) n l κ us e z = go (starts n κ) refl
     go true q = absurd (let deep : too_deep n κ ≡ Deep = rw q refl in let i : suc y ≡ 0 = subst (Stays (suc y)) deep z in omega (arith, i))
     go false q = refuses n l g y us (ap (starts n) e ∙ q) ∙ ap (λ w. Err (no_start (left_at n w), us)) e ∙ sym (rw q refl)
 
+unexpected_deep : Unexpected ≡ Deep → ⊥
+unexpected_deep e = cc
+
 no_budget : (w y g n : ℕ) → n ≤ 14 → Tell y g 0 n ((reads (more w g) (more y 0)).read n) ((reads g 0).read n)
 unfolding reads
 no_budget w y g n l pre ts len o hole = record {
@@ -394,7 +397,7 @@ no_budget w y g n l pre ts len o hole = record {
     front = [];
     split = refl;
     before = alone low pre o;
-    beyond = λ t us e. above t us e (starts n (first ts)) refl;
+    beyond = λ t us e. above t us e (starts n (first ts)) refl; ahead = λ dd r. absurd (unexpected_deep (sym (ap (λ z. too_deep n (first z)) r) ∙ dd));
     same = λ us s z. stays (more w g) y n l (first ts) us (same_first ts us s) z;
   };
 }

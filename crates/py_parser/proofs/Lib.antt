@@ -16,6 +16,7 @@ mod Rungs
 mod Levels
 mod Targets
 mod Simples
+mod Aims
 mod Worded
 mod Bodies
 mod Compounds

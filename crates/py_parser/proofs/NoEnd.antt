@@ -107,21 +107,21 @@ has_end (t ∷ ts) = is_end t.kind || has_end ts
 pub record NoEnd (ts : List Token) : Type 0 where
   pub none : has_end ts ≡ false
 
-nil : NoEnd []
+pub nil : NoEnd []
 nil = record { none = refl }
 
 no_or : (a b : Bool) → a ≡ false → b ≡ false → (a || b) ≡ false
 no_or true b e f = e
 no_or false b e f = f
 
-step : {t : Token} {ts : List Token} → is_end t.kind ≡ false → NoEnd ts → NoEnd (t ∷ ts)
+pub step : {t : Token} {ts : List Token} → is_end t.kind ≡ false → NoEnd ts → NoEnd (t ∷ ts)
 step {t = t} {ts = ts} e n = record { none = no_or (is_end t.kind) (has_end ts) e n.none }
 
 append_none : (ts us : List Token) → has_end ts ≡ false → has_end us ≡ false → has_end (ts ++ us) ≡ false
 append_none [] us e f = f
 append_none (t ∷ ts) us e f = no_or (is_end t.kind) _ (or_left (is_end t.kind) _ e) (append_none ts us (or_right (is_end t.kind) _ e) f)
 
-no2 : {ts us : List Token} → NoEnd ts → NoEnd us → NoEnd (ts ++ us)
+pub no2 : {ts us : List Token} → NoEnd ts → NoEnd us → NoEnd (ts ++ us)
 no2 {ts = ts} {us = us} n m = record { none = append_none ts us n.none m.none }
 
 no_sign : (s : Sign) → is_end (sign_word s) ≡ false

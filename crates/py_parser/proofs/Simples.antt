@@ -46,7 +46,7 @@ use Rattle.py_parser.proofs.Complete.{tests_nil, pairs_nil, named_nil, trailers_
 use Rattle.py_parser.proofs.Begin.{s_tests_end, s_strings_end, long, headed}
 use Rattle.py_parser.proofs.Values.{plus_tests, push_tests, plus_links, push_links, plus_pairs, push_pairs, plus_named, push_nameds, plus_trailers, push_trailers, of_r, of_or, same, as_name, as_int, as_string, as_group, as_unit, as_tuple, as_no_list, as_list, as_dict, as_trail, as_power, as_sign, as_chain, as_not, as_choice, as_attribute, as_index, as_slice, as_call}
 use Rattle.py_parser.specs.Follow.{heads}
-use Rattle.py_parser.proofs.Told.{Stays, Beyond, Mode, any, low, marked, Fits, Opens, cut, near, alone, SameFirst, same_first, with_first, with_none, more, more_is, Told, told_done, told_ends, told_refused, told_left, told_as, told_same, told_if, told_deep, told_post, told_take, told_word, told_bind, told_map, told_case, told_when, told_line, told_room, told_err, told_kind, told_pre, on, here, move, within, bare, there}
+use Rattle.py_parser.proofs.Told.{TargetPlace, placed, Stays, Beyond, Mode, any, low, marked, Fits, Opens, cut, near, alone, SameFirst, same_first, with_first, with_none, more, more_is, Told, told_done, told_ends, told_refused, told_left, told_as, told_same, told_if, told_deep, told_post, told_take, told_word, told_bind, told_map, told_case, told_when, told_line, told_room, told_err, told_kind, told_pre, on, here, move, within, bare, there}
 use Rattle.py_parser.proofs.Tells.{only_op, only_keyword, Hole, Read, Tell, told_read, told_need, told_need_word, told_need_name, only_name, only_string, p0, word, is_word, free, length_after, Commaed, trailing, further, Following, no_more, commaed, then_tests, then_commas, AfterTest, itself, tupled, then_exprs, MoreStrings, no_string, strung, then_strings, tell_strings, Listing, Commaing, tell_tests, tell_commas}
 use Rattle.py_parser.proofs.Atoms.{tell_atom, Unders, lift, left_start, told_no_start, either}
 use Rattle.py_parser.proofs.Trails.{tell_trail}
@@ -83,7 +83,7 @@ Targeted d v fs = (a : Expr) × (v ≡ of a) × ((x : Marks) → Target x a fs) 
 
 -- Reading a target tells.
 pub record Targeting (y g d : ℕ) (under' under : Below) : Type 0 where
-  pub target : (after : Stop) (pre ts : List Token) → length ts ≤ g → Opens low pre → TargetHole d pre → SliceHole after pre → Told y pre ts (target_at under' after) (Targeted d) (target_at under after ts)
+  pub target : (after : Stop) (pre ts : List Token) → TargetPlace pre → length ts ≤ g → Opens low pre → TargetHole d pre → SliceHole after pre → Told y pre ts (target_at under' after) (Targeted d) (target_at under after ts)
 
 pub told_target : {A : Type 0} {y : ℕ} {pre ts : List Token} {again : Test} {r : Reads (Tall Expr)} {Q : A → List Token → Type 0} (d : ℕ) (K' K : Tall Expr × List Token → Reads A) → Told y pre ts again (Targeted d) r →
     ((a : Expr) (fs rest : List Token) → ts ≡ fs ++ rest → ((x : Marks) → Target x a fs) → height a ≤ d → Told y (pre ++ fs) rest (λ us. K' (of a, us)) (λ b us. Q b (fs ++ us)) (K (of a, rest))) →
@@ -227,7 +227,7 @@ module _ (w y g d : ℕ) (under' under : Below) (below : Unders y g d under' und
       ends (suc n) = refl
   tell_targets zero found pre (t ∷ ts) l i z' hole slice = absurd (omega (arith, l))
   tell_targets (suc f) found pre ts l i z' hole slice = told_word (is_op 38) c.comma (only_op 38) refl
-      (λ p us q. rw q (told_take (told_target d _ _ (targets.target ends_del (pre ++ at c.comma p ∷ []) us (omega (arith, l, i, ap length q))
+      (λ p us q. rw q (told_take (told_target d _ _ (targets.target ends_del (pre ++ at c.comma p ∷ []) us (placed pre (at c.comma p) refl) (omega (arith, l, i, ap length q))
           (on word (simp append_assoc) (hole low (ex.Name [] ∷ []) _ (another p (S.Targets.one (word_target None))) (λ b. omega (arith, z', hh.height_name []))))
           (λ m a us r h. here (simp append_assoc) (hole m (a ∷ []) _ (another p (S.Targets.one r)) (λ b. omega (arith, h b))))
           (λ a us κ p2 r e. here (simp append_assoc) (slice (a ∷ []) _ κ p2 (another p (S.Targets.one r)) e)))

@@ -10,7 +10,9 @@ use Rattle.py_tree.specs.Tall.{talls}
 use Rattle.py_data.specs.declared.refusal.Construct.{Construct}
 use Rattle.py_parser.specs.declared.fault.Fault.{Fault}
 use Rattle.py_parser.specs.declared.fault.Fault.TheVariants.{Unexpected, LeftOut, Deep}
-use Rattle.py_parser.specs.Grammar.{Marks}
+use Rattle.py_parser.specs.Grammar.{Marks, Is}
+use Rattle.py_parser.specs.Refused.{before_target}
+use Rattle.py_tree.specs.declared.expr.Expr.{Expr}
 use Rattle.py_parser.specs.Statements.{Body}
 use Rattle.py_parser.specs.Words.{line_of}
 use Rattle.std.proofs.Common.{nat_le}
@@ -37,14 +39,44 @@ abbrev pub Fits : Mode → ℕ → ℕ → Type 0
 Fits m h d = m.bounded ≡ true → h ≤ d
 
 -- some module of the mode begins with these tokens
-pub record Opens (m : Mode) (ts : List Token) : Type 0 where
+pub record Shown (m : Mode) (ts : List Token) : Type 0 where
   pub body : List Stmt
   pub more : List Token
   pub spells : Body m.marks body (ts ++ more)
   pub fits : Fits m (talls body) 99
 
+pub cut_shown : (m : Mode) (ts us : List Token) → Shown m (ts ++ us) → Shown m ts
+cut_shown m ts us o = record { body = o.body; more = us ++ o.more; spells = subst (Body m.marks o.body) (append_assoc ts us o.more) o.spells; fits = o.fits }
+
+abbrev pub unbounded : Mode → Mode
+unbounded m = record { marks = m.marks; bounded = false }
+
+-- they end in an expression in the place of a target, or just after it
+pub record Corner (m : Mode) (ts : List Token) : Type 0 where
+  pub before : List Token
+  pub word : Token
+  pub target : List Token
+  pub more : List Token
+  pub tree : Expr
+  pub split : ts ++ more ≡ (before ++ word ∷ []) ++ target
+  pub place : before_target word.kind ≡ true
+  pub spells : Is m.marks 1 tree target
+  pub shown : Shown (unbounded m) ts
+
+pub record Opens (m : Mode) (ts : List Token) : Type 0 where
+  pub opens : Shown m ts ⊎ ((m.bounded ≡ true) × Corner m ts)
+
 pub cut : (m : Mode) (ts us : List Token) → Opens m (ts ++ us) → Opens m ts
-cut m ts us o = record { body = o.body; more = us ++ o.more; spells = subst (Body m.marks o.body) (append_assoc ts us o.more) o.spells; fits = o.fits }
+cut m ts us o = record { opens = elim o.opens [
+    inl s ↦ inl (cut_shown m ts us s)
+  | inr p ↦ let q = p.1 in inr (p.0, record { before = q.before; word = q.word; target = q.target; more = us ++ q.more; tree = q.tree; split = sym (append_assoc ts us q.more) ∙ q.split; place = q.place; spells = q.spells; shown = cut_shown (unbounded m) ts us q.shown }) ] }
+
+-- where a target has to stand
+abbrev pub TargetPlace : List Token → Type 0
+TargetPlace pre = (fs : List Token) × (t : Token) × (pre ≡ fs ++ t ∷ []) × (before_target t.kind ≡ true)
+
+pub placed : (fs : List Token) (t : Token) → before_target t.kind ≡ true → TargetPlace (fs ++ t ∷ [])
+placed fs t e = (fs, t, refl, e)
 
 -- grouped to the left
 pub near : (m : Mode) (ts us vs : List Token) → Opens m (ts ++ (us ++ vs)) → Opens m ((ts ++ us) ++ vs)
@@ -137,6 +169,8 @@ module _ {A : Type 0} (y : ℕ) (pre ts : List Token) (again : Reader A) where
 
   pub record Stopped (f : Fault) (rest : List Token) : Type 0 where
     pub front : List Token
+    -- Deep is for a token that is there
+    pub ahead : f ≡ Deep → rest ≡ [] → Opens any ((pre ++ front) ++ at k.End (record { from = 0; to = 0; line = 0 }) ∷ [])
     pub split : ts ≡ front ++ rest
     -- a module begins with what was taken
     pub before : Opens low (pre ++ front)
@@ -151,6 +185,12 @@ module _ {A : Type 0} (y : ℕ) (pre ts : List Token) (again : Reader A) where
   pub record Told (Q : A → List Token → Type 0) (r : Reads A) : Type 0 where
     pub tells : Tells Q r
 
+not_deep_unexpected : Unexpected ≡ Deep → ⊥
+not_deep_unexpected e = cc
+
+not_deep_left : (c : Construct) → LeftOut c ≡ Deep → ⊥
+not_deep_left c e = cc
+
 -- ---- how it is told
 
 -- nothing is taken
@@ -162,7 +202,7 @@ pub told_ends : {A : Type 0} {y : ℕ} {pre ts : List Token} {again : Reader A} 
 told_ends {y = y} {pre = pre} {ts = ts} {again = again} {Q = Q} a h e s = subst (Told y pre ts again Q) (sym e) (record { tells = record { front = []; split = refl; holds = h; same = s } })
 
 pub told_refused : {A : Type 0} {y : ℕ} {pre ts : List Token} {Q : A → List Token → Type 0} → Opens low pre → Told y pre ts (λ us. Err (Unexpected, us)) Q (Err (Unexpected, ts))
-told_refused {pre = pre} o = record { tells = record { front = []; split = refl; before = alone low pre o; beyond = λ t us e. tt; same = λ us s z. refl } }
+told_refused {pre = pre} o = record { tells = record { front = []; split = refl; before = alone low pre o; beyond = λ t us e. tt; ahead = λ d e. absurd (not_deep_unexpected d); same = λ us s z. refl } }
 
 -- the first token, where its kind is known
 pub first_token : (ts : List Token) (κ : TokenKind) (t : Token) (us : List Token) → first ts ≡ κ → ts ≡ t ∷ us → t ≡ at κ (record { from = t.from; to = t.to; line = t.line })
@@ -177,6 +217,7 @@ pub told_left : {A : Type 0} {y : ℕ} {pre ts : List Token} {Q : A → List Tok
 told_left {pre = pre} {ts = ts} {c = c} κ e o b = record {
   tells = record {
     front = [];
+    ahead = λ d q. absurd (not_deep_left c d);
     split = refl;
     before = alone low pre o;
     beyond = λ t us q. subst (λ z. Opens (marked c) (z ++ t ∷ [])) (sym (append-nil pre)) (subst (λ z. Opens (marked c) (pre ++ z ∷ [])) (sym (first_token ts κ t us e q)) (b _));
@@ -187,7 +228,7 @@ told_left {pre = pre} {ts = ts} {c = c} κ e o b = record {
 -- the same reader in other words, where its first token is the same
 pub told_as : {A : Type 0} {y : ℕ} {pre ts : List Token} {X' again : Reader A} {Q : A → List Token → Type 0} {q : Reads A} → ((us : List Token) → first us ≡ first ts → again us ≡ X' us) → Told y pre ts X' Q q → Told y pre ts again Q q
 told_as {ts = ts} {q = Ok x} h t = let p = t.tells in record { tells = record { front = p.front; split = p.split; holds = p.holds; same = λ us s. h (p.front ++ us) (first_split ts p.front x.1 us p.split s) ∙ p.same us s } }
-told_as {ts = ts} {q = Err x} h t = let p = t.tells in record { tells = record { front = p.front; split = p.split; before = p.before; beyond = p.beyond; same = λ us s z. h (p.front ++ us) (first_split ts p.front x.1 us p.split s) ∙ p.same us s z } }
+told_as {ts = ts} {q = Err x} h t = let p = t.tells in record { tells = record { front = p.front; split = p.split; before = p.before; beyond = p.beyond; ahead = p.ahead; same = λ us s z. h (p.front ++ us) (first_split ts p.front x.1 us p.split s) ∙ p.same us s z } }
 
 pub told_same : {A : Type 0} {y : ℕ} {pre ts : List Token} {X' again : Reader A} {Q : A → List Token → Type 0} {q r : Reads A} → r ≡ q → ((us : List Token) → first us ≡ first ts → again us ≡ X' us) → Told y pre ts X' Q q → Told y pre ts again Q r
 told_same {y = y} {pre = pre} {ts = ts} {again = again} {Q = Q} e h t = subst (Told y pre ts again Q) (sym e) (told_as h t)
@@ -212,6 +253,7 @@ told_deep {A = A} {y = y} {pre = pre} {ts = ts} {X' = X'} {X = X} {Q = Q} d n κ
     go true e = rw e (record {
       tells = record {
         front = [];
+        ahead = λ dd r. subst (λ z. Opens any (z ++ at k.End (record { from = 0; to = 0; line = 0 }) ∷ [])) (sym (append-nil pre)) (subst (λ z. Opens any (pre ++ at z (record { from = 0; to = 0; line = 0 }) ∷ [])) (sym w ∙ ap first r) (b (record { from = 0; to = 0; line = 0 })));
         split = refl;
         before = alone low pre o;
         beyond = λ t us q. subst (λ z. Opens any (z ++ t ∷ [])) (sym (append-nil pre)) (subst (λ z. Opens any (pre ++ z ∷ [])) (sym (first_token ts κ t us w q)) (b _));
@@ -223,7 +265,7 @@ told_deep {A = A} {y = y} {pre = pre} {ts = ts} {X' = X'} {X = X} {Q = Q} d n κ
 -- what holds of what was taken
 pub told_post : {A : Type 0} {y : ℕ} {pre ts : List Token} {again : Reader A} {Q T : A → List Token → Type 0} {r : Reads A} → ((a : A) (fs : List Token) → Q a fs → T a fs) → Told y pre ts again Q r → Told y pre ts again T r
 told_post {r = Ok x} h t = let p = t.tells in record { tells = record { front = p.front; split = p.split; holds = h x.0 p.front p.holds; same = p.same } }
-told_post {r = Err x} h t = let p = t.tells in record { tells = record { front = p.front; split = p.split; before = p.before; beyond = p.beyond; same = p.same } }
+told_post {r = Err x} h t = let p = t.tells in record { tells = record { front = p.front; split = p.split; before = p.before; beyond = p.beyond; ahead = p.ahead; same = p.same } }
 
 -- a token is taken
 pub told_take : {A : Type 0} {y : ℕ} {pre : List Token} {ts : List Token} {again : Reader A} {Q : A → List Token → Type 0} {r : Reads A} {t : Token} → Told y (pre ++ t ∷ []) ts (λ us. again (t ∷ us)) (λ a fs. Q a (t ∷ fs)) r → Told y pre (t ∷ ts) again Q r
@@ -234,6 +276,7 @@ told_take {pre = pre} {r = Err x} {t = t} q = let p = q.tells in record {
     split = ap (λ z. t ∷ z) p.split;
     before = subst (Opens low) (append_assoc pre (t ∷ []) p.front) p.before;
     beyond = λ u us e. subst (λ z. Beyond x.0 (z ++ u ∷ [])) (append_assoc pre (t ∷ []) p.front) (p.beyond u us e);
+  ahead = λ d e. subst (λ z. Opens any (z ++ at k.End (record { from = 0; to = 0; line = 0 }) ∷ [])) (append_assoc pre (t ∷ []) p.front) (p.ahead d e);
     same = p.same;
   };
 }
@@ -255,7 +298,7 @@ told_word {A = A} {y = y} {pre = pre} {ts = ts} {X' = X'} {Y' = Y'} {X = X} {Y =
 pub told_bind : {A B : Type 0} {y : ℕ} {pre ts : List Token} {again : Reader A} {r : Reads A} {Q : B → List Token → Type 0} (K' K : A × List Token → Reads B) (T : A → List Token → Type 0) →
     Told y pre ts again T r → ((a : A) (fs rest : List Token) → ts ≡ fs ++ rest → T a fs → Told y (pre ++ fs) rest (λ us. K' (a, us)) (λ b us. Q b (fs ++ us)) (K (a, rest))) →
     Told y pre ts (λ us. again us >>= K') Q (r >>= K)
-told_bind {r = Err x} K' K T q h = let p = q.tells in record { tells = record { front = p.front; split = p.split; before = p.before; beyond = p.beyond; same = λ us s z. ap (λ r. r >>= K') (p.same us s z) } }
+told_bind {r = Err x} K' K T q h = let p = q.tells in record { tells = record { front = p.front; split = p.split; before = p.before; beyond = p.beyond; ahead = p.ahead; same = λ us s z. ap (λ r. r >>= K') (p.same us s z) } }
 told_bind {A = A} {B = B} {y = y} {pre = pre} {ts = ts} {again = again} {r = Ok x} {Q = Q} K' K T q h = go (K x) (h x.0 q.tells.front x.1 q.tells.split q.tells.holds)
   where
     follows : (fs us vs : List Token) (b : Reads B) → x.1 ≡ fs ++ us → SameFirst us vs → K' (x.0, fs ++ vs) ≡ b → (again ((q.tells.front ++ fs) ++ vs) >>= K') ≡ b
@@ -278,6 +321,7 @@ told_bind {A = A} {B = B} {y = y} {pre = pre} {ts = ts} {again = again} {r = Ok 
         split = q.tells.split ∙ ap (λ z. q.tells.front ++ z) p.split ∙ sym (append_assoc q.tells.front p.front z.1);
         before = subst (Opens low) (append_assoc pre q.tells.front p.front) p.before;
         beyond = λ t us e. subst (λ w. Beyond z.0 (w ++ t ∷ [])) (append_assoc pre q.tells.front p.front) (p.beyond t us e);
+      ahead = λ d e. subst (λ w. Opens any (w ++ at k.End (record { from = 0; to = 0; line = 0 }) ∷ [])) (append_assoc pre q.tells.front p.front) (p.ahead d e);
         same = λ us s h. follows p.front z.1 us (Err (z.0, us)) p.split s (p.same us s h);
       };
     }
@@ -286,7 +330,7 @@ told_bind {A = A} {B = B} {y = y} {pre = pre} {ts = ts} {again = again} {r = Ok 
 pub told_map : {A B : Type 0} {y : ℕ} {pre ts : List Token} {again : Reader A} {r : Reads A} {T : A → List Token → Type 0} {Q : B → List Token → Type 0} (f : A → B) → Told y pre ts again T r → ((a : A) (fs : List Token) → T a fs → Q (f a) fs) →
     Told y pre ts (λ us. again us >>= λ x. Ok (f x.0, x.1)) Q (r >>= λ x. Ok (f x.0, x.1))
 told_map {r = Ok x} f q h = let p = q.tells in record { tells = record { front = p.front; split = p.split; holds = h x.0 p.front p.holds; same = λ us s. ap (λ r. r >>= λ x. Ok (f x.0, x.1)) (p.same us s) } }
-told_map {r = Err x} f q h = let p = q.tells in record { tells = record { front = p.front; split = p.split; before = p.before; beyond = p.beyond; same = λ us s z. ap (λ r. r >>= λ x. Ok (f x.0, x.1)) (p.same us s z) } }
+told_map {r = Err x} f q h = let p = q.tells in record { tells = record { front = p.front; split = p.split; before = p.before; beyond = p.beyond; ahead = p.ahead; same = λ us s z. ap (λ r. r >>= λ x. Ok (f x.0, x.1)) (p.same us s z) } }
 
 -- by the first token's kind
 pub told_kind : {A : Type 0} {y : ℕ} {pre ts : List Token} {Q : A → List Token → Type 0} {r : Reads A} (F' : TokenKind → Reader A) → Told y pre ts (F' (first ts)) Q r → Told y pre ts (λ us. F' (first us) us) Q r
@@ -307,7 +351,7 @@ line_split ts fs us vs e s = same_line (fs ++ us) (fs ++ vs) (same_after fs us v
 
 pub told_line : {A : Type 0} {y : ℕ} {pre ts : List Token} {Q : A → List Token → Type 0} {r : Reads A} (F' : ℕ → Reader A) → Told y pre ts (F' (line_of ts)) Q r → Told y pre ts (λ us. F' (line_of us) us) Q r
 told_line {ts = ts} {r = Ok x} F' t = let p = t.tells in record { tells = record { front = p.front; split = p.split; holds = p.holds; same = λ us s. ap (λ z. F' z (p.front ++ us)) (line_split ts p.front x.1 us p.split s) ∙ p.same us s } }
-told_line {ts = ts} {r = Err x} F' t = let p = t.tells in record { tells = record { front = p.front; split = p.split; before = p.before; beyond = p.beyond; same = λ us s z. ap (λ z. F' z (p.front ++ us)) (line_split ts p.front x.1 us p.split s) ∙ p.same us s z } }
+told_line {ts = ts} {r = Err x} F' t = let p = t.tells in record { tells = record { front = p.front; split = p.split; before = p.before; beyond = p.beyond; ahead = p.ahead; same = λ us s z. ap (λ z. F' z (p.front ++ us)) (line_split ts p.front x.1 us p.split s) ∙ p.same us s z } }
 
 -- a height for which there is room
 pub told_room : {A : Type 0} {y : ℕ} {pre ts : List Token} {X' : Reader A} {X : Reads A} {Q : A → List Token → Type 0} (d n : ℕ) (κ : TokenKind) → first ts ≡ κ → Opens low pre → ((p : Place) → Opens any (pre ++ at κ p ∷ [])) → (n ≤ d → Told y pre ts X' Q X) →
@@ -319,14 +363,14 @@ told_room {A = A} {y = y} {pre = pre} {ts = ts} {X' = X'} {X = X} {Q = Q} d n κ
 
     go : (b : Bool) → nat_le n d ≡ b → Told y pre ts (λ us. if nat_le n (more y d) then X' us else Err (Deep, us)) Q (if nat_le n d then X else Err (Deep, ts))
     go false e = rw e (record { tells = record { front = []; split = refl; before = alone low pre o;
-      beyond = λ t us q. subst (λ z. Opens any (z ++ t ∷ [])) (sym (append-nil pre)) (subst (λ z. Opens any (pre ++ z ∷ [])) (sym (first_token ts κ t us w q)) (b _));
+      beyond = λ t us q. subst (λ z. Opens any (z ++ t ∷ [])) (sym (append-nil pre)) (subst (λ z. Opens any (pre ++ z ∷ [])) (sym (first_token ts κ t us w q)) (b _)); ahead = λ dd r. subst (λ z. Opens any (z ++ at k.End (record { from = 0; to = 0; line = 0 }) ∷ [])) (sym (append-nil pre)) (subst (λ z. Opens any (pre ++ at z (record { from = 0; to = 0; line = 0 }) ∷ [])) (sym w ∙ ap first r) (b (record { from = 0; to = 0; line = 0 })));
       same = λ us s z. let i : more y d ≡ d = omega (arith, more_is y d, z) in rw i (rw e refl) } })
     go true e = told_same {X' = X'} {q = X} (rw e refl) (λ us s. rw (small e) refl) (h (grind (arith, e)))
 
 -- a refusal in another reader's words
 pub told_err : {A B : Type 0} {y : ℕ} {pre ts : List Token} {again : Reader A} {again' : Reader B} {Q : A → List Token → Type 0} {Q' : B → List Token → Type 0} {f : Fault} {us : List Token} →
     ((vs : List Token) (ws : List Token) → again vs ≡ Err (f, ws) → again' vs ≡ Err (f, ws)) → Told y pre ts again Q (Err (f, us)) → Told y pre ts again' Q' (Err (f, us))
-told_err h t = let p = t.tells in record { tells = record { front = p.front; split = p.split; before = p.before; beyond = p.beyond; same = λ us s z. h (p.front ++ us) us (p.same us s z) } }
+told_err h t = let p = t.tells in record { tells = record { front = p.front; split = p.split; before = p.before; beyond = p.beyond; ahead = p.ahead; same = λ us s z. h (p.front ++ us) us (p.same us s z) } }
 
 -- by a test that is not of the tokens
 pub told_when : {A : Type 0} {y : ℕ} {pre ts : List Token} {X' Y' : Reader A} {X Y : Reads A} {Q : A → List Token → Type 0} (b : Bool) → (b ≡ true → Told y pre ts X' Q X) → (b ≡ false → Told y pre ts Y' Q Y) → Told y pre ts (λ us. if b then X' us else Y' us) Q (if b then X else Y)

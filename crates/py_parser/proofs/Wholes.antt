@@ -46,7 +46,7 @@ use Rattle.py_parser.proofs.Complete.{tests_nil, pairs_nil, named_nil, trailers_
 use Rattle.py_parser.proofs.Begin.{s_tests_end, s_strings_end, long, headed}
 use Rattle.py_parser.proofs.Values.{plus_tests, push_tests, plus_links, push_links, plus_pairs, push_pairs, plus_named, push_nameds, plus_trailers, push_trailers, of_r, of_or, same, as_name, as_int, as_string, as_group, as_unit, as_tuple, as_no_list, as_list, as_dict, as_trail, as_power, as_sign, as_chain, as_not, as_choice, as_attribute, as_index, as_slice, as_call}
 use Rattle.py_parser.specs.Follow.{heads}
-use Rattle.py_parser.proofs.Told.{Stays, Beyond, Mode, any, low, marked, Fits, Opens, cut, near, alone, SameFirst, same_first, with_first, with_none, more, more_is, Told, told_done, told_ends, told_refused, told_left, told_as, told_same, told_if, told_deep, told_post, told_take, told_word, told_bind, told_map, told_case, told_when, told_line, told_room, told_err, told_kind, told_pre, on, here, move, within, bare, there}
+use Rattle.py_parser.proofs.Told.{TargetPlace, placed, Stays, Beyond, Mode, any, low, marked, Fits, Opens, cut, near, alone, SameFirst, same_first, with_first, with_none, more, more_is, Told, told_done, told_ends, told_refused, told_left, told_as, told_same, told_if, told_deep, told_post, told_take, told_word, told_bind, told_map, told_case, told_when, told_line, told_room, told_err, told_kind, told_pre, on, here, move, within, bare, there}
 use Rattle.py_parser.proofs.Tells.{only_op, only_keyword, Hole, Read, Tell, told_read, told_need, told_need_word, told_need_name, only_name, only_string, p0, word, is_word, free, length_after, Commaed, trailing, further, Following, no_more, commaed, then_tests, then_commas, AfterTest, itself, tupled, then_exprs, MoreStrings, no_string, strung, then_strings, tell_strings, Listing, Commaing, tell_tests, tell_commas}
 use Rattle.py_parser.proofs.Atoms.{tell_atom, Unders, lift, left_start, told_no_start, either}
 use Rattle.py_parser.proofs.Trails.{tell_trail}
@@ -140,7 +140,7 @@ module _ (w y g d0 : ℕ) (under' under lower' lower : Below) (below : Unders y 
   tell_for p pre ts l hole =
       let nm : Expr = ex.Name [] in
       let fit : (t a : Expr) (ss : List Stmt) (o : Option Clause) → tall (st.For p.line t a ss o) ≡ max (max (height t) (height a)) (max (tall_block ss) (tall_clause o)) + 1 = λ t a ss o. ht.tall_for p.line t a ss o in
-      told_bind _ _ _ (tell_loop w y g d0 under' under lower' lower targets lowers (pre ++ at c.for_ p ∷ []) ts l
+      told_bind _ _ _ (tell_loop w y g d0 under' under lower' lower targets lowers (pre ++ at c.for_ p ∷ []) ts (placed pre (at c.for_ p) refl) l
           (on (word ++ at c.in_ p0 ∷ word ++ at c.colon p0 ∷ body0) (simp append_assoc) (hole low (st.For p.line nm nm pass0 None) _ (S.for' p p0 p0 (S.Loops.single (word_target None)) (exprs_word None) (block0 None) (S.no_else None)) (λ b. omega (arith, z2, tall0, hh.height_name [], fit nm nm pass0 None))))
           (λ m t us r h. on (at c.in_ p0 ∷ word ++ at c.colon p0 ∷ body0) (simp append_assoc) (hole m (st.For p.line t nm pass0 None) _ (S.for' p p0 p0 r (exprs_word m.marks) (block0 m.marks) (S.no_else m.marks)) (λ b. omega (arith, z2, h b, tall0, hh.height_name [], fit t nm pass0 None))))
           (λ t us p2 r. on (word ++ at c.colon p0 ∷ body0) (simp append_assoc) (hole (marked left.SliceForm) (st.For p.line t nm pass0 None) _ (S.for' p p2 p0 r (exprs_word (Some left.SliceForm)) (block0 (Some left.SliceForm)) (S.no_else (Some left.SliceForm))) free)))

@@ -46,7 +46,7 @@ use Rattle.py_parser.proofs.Complete.{tests_nil, pairs_nil, named_nil, trailers_
 use Rattle.py_parser.proofs.Begin.{s_tests_end, s_strings_end, long, headed}
 use Rattle.py_parser.proofs.Values.{plus_tests, push_tests, plus_links, push_links, plus_pairs, push_pairs, plus_named, push_nameds, plus_trailers, push_trailers, of_r, of_or, same, as_name, as_int, as_string, as_group, as_unit, as_tuple, as_no_list, as_list, as_dict, as_trail, as_power, as_sign, as_chain, as_not, as_choice, as_attribute, as_index, as_slice, as_call}
 use Rattle.py_parser.specs.Follow.{heads}
-use Rattle.py_parser.proofs.Told.{Stays, Beyond, Mode, any, low, marked, Fits, Opens, cut, near, alone, SameFirst, same_first, with_first, with_none, more, more_is, Told, told_done, told_ends, told_refused, told_left, told_as, told_same, told_if, told_deep, told_post, told_take, told_word, told_bind, told_map, told_case, told_when, told_line, told_room, told_err, told_kind, told_pre, on, here, move, within, bare, there}
+use Rattle.py_parser.proofs.Told.{TargetPlace, placed, Stays, Beyond, Mode, any, low, marked, Fits, Opens, cut, near, alone, SameFirst, same_first, with_first, with_none, more, more_is, Told, told_done, told_ends, told_refused, told_left, told_as, told_same, told_if, told_deep, told_post, told_take, told_word, told_bind, told_map, told_case, told_when, told_line, told_room, told_err, told_kind, told_pre, on, here, move, within, bare, there}
 use Rattle.py_parser.proofs.Tells.{only_op, only_keyword, Hole, Read, Tell, told_read, told_need, told_need_word, told_need_name, only_name, only_string, p0, word, is_word, free, length_after, Commaed, trailing, further, Following, no_more, commaed, then_tests, then_commas, AfterTest, itself, tupled, then_exprs, MoreStrings, no_string, strung, then_strings, tell_strings, Listing, Commaing, tell_tests, tell_commas}
 use Rattle.py_parser.proofs.Atoms.{tell_atom, Unders, lift, left_start, told_no_start, either}
 use Rattle.py_parser.proofs.Trails.{tell_trail}
@@ -184,7 +184,7 @@ module _ (w y g d : ℕ) (under' under : Below) (below : Unders y g d under' und
 
   tell_del : (p : Place) (pre ts : List Token) → length ts ≤ g → 0 < d → Hole' pre → End' pre → Told y (pre ++ at c.del_ p ∷ []) ts (λ us. target_at under' ends_del us >>= λ a. (targets_at under' (more w g) (start' a.0) a.1 >>= λ es. Ok (st.Del p.line es.0.tree, es.1))) (λ v us. Read' v (at c.del_ p ∷ us)) (target_at under ends_del ts >>= λ a. (targets_at under g (start' a.0) a.1 >>= λ es. Ok (st.Del p.line es.0.tree, es.1)))
   tell_del p pre ts l z' hole end =
-      told_target d _ _ (targets.target ends_del (pre ++ at c.del_ p ∷ []) ts l
+      told_target d _ _ (targets.target ends_del (pre ++ at c.del_ p ∷ []) ts (placed pre (at c.del_ p) refl) l
           (on word (simp append_assoc) (hole low (st.Del p.line (ex.Name [] ∷ [])) _ (S.Simple.del p (S.Targets.one (word_target None))) (λ b. omega (arith, z', hh.height_name [], ht.tall_del p.line (ex.Name [] ∷ [])))))
           (λ m a us r h. here (simp append_assoc) (hole m (st.Del p.line (a ∷ [])) _ (S.Simple.del p (S.Targets.one r)) (λ b. omega (arith, h b, ht.tall_del p.line (a ∷ [])))))
           (λ a us κ p2 r e. ended (a ∷ []) us κ p2 (S.Targets.one r) (λ i q. S.Targets.more i r q) e))
