@@ -20,7 +20,11 @@ use Rattle.py_parser.specs.Refused.{InTarget, Begins, BeginsWith, NoneBegins, Be
 use Rattle.py_parser.proofs.Steps.{Reaches}
 use Rattle.py_parser.proofs.Facts.{no}
 use Rattle.py_parser.proofs.Blocks.{highest_talls}
-use Rattle.py_parser.proofs.Whole.{complete_body}
+use Rattle.py_parser.proofs.Whole.{complete_body, only}
+use Rattle.py_parser.specs.Parses.{Parses}
+use Rattle.py_parser.specs.Outcome.{Fails}
+use Rattle.py_parser.specs.declared.error.ParseError.{ParseError}
+use Rattle.py_parser.specs.declared.error.ParseError.TheVariants.{Refused, OutOfMemory}
 use Rattle.py_parser.proofs.Told.{Beyond, Mode, any, low, marked, Fits, Opens, Shown, SameFirst, more, more_is, Stays, Told, Took, Stopped}
 use Rattle.py_parser.proofs.NoEnd.{NoEnd, nil, step, no2, no_Statement}
 use Rattle.py_parser.proofs.Steps.{or_left}
@@ -273,3 +277,19 @@ unique ts m n p q =
     body_or : List Stmt → Reads (List Stmt) → List Stmt
     body_or ss (Ok x) = x.0
     body_or ss (Err x) = ss
+
+-- ---- what a call answers
+
+ok_same : (m x : Module) (rest : List Token) (r : Reads Module) → r ≡ Ok (x, rest) → r ≡ Ok (m, []) → x ≡ m
+ok_same m x rest r p q = ap value (sym p ∙ q)
+  where
+    value : Reads Module → Module
+    value (Ok z) = z.0
+    value (Err z) = m
+
+pub parses_ok : (ts : List Token) (m : Module) (rest : List Token) → EndsOnce ts → module_at (length ts) ts ≡ Ok (m, rest) → Parses ts (Ok m)
+parses_ok ts m rest h e = (found ts m rest h e, λ n p i. ok_same n m rest (module_at (length ts) ts) e (only n ts p i))
+
+pub parses_err : (ts : List Token) (x : ParseError) → EndsOnce ts → Fails x (module_at (length ts) ts) → Parses ts (Err x)
+parses_err ts OutOfMemory h e = (tt, λ m p i. tt)
+parses_err ts (Refused r) h e = ((e.0, line_of e.1, e.3, refused ts e.0 e.1 h e.2), λ m p i. err_ok (e.0, e.1) (m, []) (module_at (length ts) ts) e.2 (only m ts p i))

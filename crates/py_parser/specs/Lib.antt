@@ -8,3 +8,4 @@ pub mod Reading
 pub mod Follow
 pub mod Lines
 pub mod Outcome
+pub mod Parses
