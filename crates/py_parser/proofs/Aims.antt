@@ -51,13 +51,11 @@ use Rattle.py_parser.proofs.Tells.{only_op, only_keyword, Hole, Read, Tell, told
 use Rattle.py_parser.proofs.Atoms.{tell_atom, Unders, lift, left_start, told_no_start, either}
 use Rattle.py_parser.proofs.Trails.{tell_trail}
 use Rattle.py_parser.proofs.Rungs.{Known, known, LinksHole, tell_some_links, low_level}
-
 use Rattle.py_tree.specs.Form.{is_target, is_single, many, all_targets}
 use Rattle.py_parser.specs.Words.{line_of}
 use Rattle.py_parser.specs.Statements as S
 use Rattle.py_parser.specs.Statements.{slices, Target, Targets, Loops, Equals}
 use Rattle.py_parser.specs.Lines.{checked, Stop, target_at, targets_at, loops_at, loop_at, equals_at, maybe_at, ends_del, ends_loop, ends_caught, is_newline}
-
 use Rattle.py_parser.proofs.Targets.{ExprsHole, ReadExprs, TellExprs, told_exprs, exprs_word, told_checked, target_any, single_any, target_of, word_target}
 use Rattle.py_parser.proofs.Simple.{exprs_headed}
 use Rattle.py_parser.specs.Words.{assigned, augment_word, is_module, is_member}
@@ -68,7 +66,6 @@ use Rattle.py_tree.specs.declared.stmt.Stmt.TheVariants as st
 use Rattle.py_tree.specs.declared.stmt.Imported.{Imported}
 use Rattle.py_tree.specs.Tall.{tall, talls}
 use Rattle.py_tree.proofs.Talls as ht
-
 use Rattle.py_parser.proofs.Simples.{TargetHole, SliceHole, Targeted, Targeting}
 use Rattle.py_parser.proofs.Levels.{unders}
 
@@ -161,7 +158,9 @@ tell_checked {y = y} {pre = pre} {ts = ts} {Q = Q} after a o m h = go (is_target
         bad false q = told_same {X' = λ us. Err (Unexpected, us)} {q = Err (Unexpected, ts)} (rw e (rw q refl)) (λ us s. rw e (rw s (rw q refl))) (told_refused o)
 
 pub aims : (w y g d : ℕ) → Targeting y g d (reads (more w g) (more y d)) (reads g d)
-aims w y g d = record { target = λ after pre ts place l o hole slice. told_read 1 d (checked after) (checked after) ((unders w y g d).read 1 (omega arith) pre ts l o (aim_hole d pre place hole))
-  (λ a fs rest q is h. tell_checked after a (aim_hole d pre place hole low a fs (is None) (λ b. h))
-    (λ t e p. near (marked left.SliceForm) pre fs (at (first rest) p ∷ []) (slice a fs (first rest) p (record { spells = is (Some left.SliceForm); is = t }) e))
-    (λ t. (a, refl, (λ x. move (Target x a) (sym (append-nil fs)) (target_of is t x)), h))) }
+aims w y g d = record {
+  target = λ after pre ts place l o hole slice. told_read 1 d (checked after) (checked after) ((unders w y g d).read 1 (omega arith) pre ts l o (aim_hole d pre place hole))
+      (λ a fs rest q is h. tell_checked after a (aim_hole d pre place hole low a fs (is None) (λ b. h))
+      (λ t e p. near (marked left.SliceForm) pre fs (at (first rest) p ∷ []) (slice a fs (first rest) p (record { spells = is (Some left.SliceForm); is = t }) e))
+      (λ t. (a, refl, (λ x. move (Target x a) (sym (append-nil fs)) (target_of is t x)), h)));
+}

@@ -51,13 +51,11 @@ use Rattle.py_parser.proofs.Tells.{only_op, only_keyword, Hole, Read, Tell, told
 use Rattle.py_parser.proofs.Atoms.{tell_atom, Unders, lift, left_start, told_no_start, either}
 use Rattle.py_parser.proofs.Trails.{tell_trail}
 use Rattle.py_parser.proofs.Rungs.{Known, known, LinksHole, tell_some_links, low_level}
-
 use Rattle.py_tree.specs.Form.{is_target, is_single, many, all_targets}
 use Rattle.py_parser.specs.Words.{line_of}
 use Rattle.py_parser.specs.Statements as S
 use Rattle.py_parser.specs.Statements.{slices, Target, Targets, Loops, Equals}
 use Rattle.py_parser.specs.Lines.{checked, Stop, target_at, targets_at, loops_at, loop_at, equals_at, maybe_at, ends_del, ends_loop, ends_caught, is_newline}
-
 use Rattle.py_parser.proofs.Targets.{ExprsHole, ReadExprs, TellExprs, told_exprs, exprs_word, told_checked, target_any, single_any, target_of, word_target}
 use Rattle.py_parser.proofs.Simple.{exprs_headed}
 use Rattle.py_parser.specs.Words.{assigned, augment_word, is_module, is_member}
@@ -68,11 +66,9 @@ use Rattle.py_tree.specs.declared.stmt.Stmt.TheVariants as st
 use Rattle.py_tree.specs.declared.stmt.Imported.{Imported}
 use Rattle.py_tree.specs.Tall.{tall, talls}
 use Rattle.py_tree.proofs.Talls as ht
-
 use Rattle.py_parser.proofs.Simples.{TargetHole, SliceHole, Targeted, Targeting, told_target, FollowTargets, no_target, another, then_targets, FollowNames, no_name, more_names, then_names, FollowImports, no_import, more_imports, OneImport, then_imports, tell_names, tell_imported, tell_imports, tell_import_name, tell_targets, tell_running, SimpleHole, EndHole, ReadSimple}
 use Rattle.std.proofs.Common.{codes}
 use Rattle.std.specs.Str.{bytes_eq}
-
 use Rattle.py_parser.proofs.Worded.{tell_simple}
 use Rattle.py_parser.specs.Statements.{Line, Parameter, Later, Parameters, Params, Base, Caught, Statement, Suite as Suites, Block, Elifs, Else, Finally, Excepts, Compound}
 use Rattle.py_parser.specs.Lines.{is_indent, is_dedent, is_end, plain_at, line_more, line_at, Suite, body_at, arm_at, elifs_at, clause_at, caught_at, handler_at, handlers_at, try_at, param_at, params_at, def_at, base_at, class_at, Parts, compound_at, is_compound, statement_by, statement_at, suite_at, block_at, line_of_at, statements_at, body_more}
@@ -82,19 +78,15 @@ use Rattle.py_tree.specs.declared.stmt.Clause.{Clause}
 use Rattle.py_tree.specs.declared.stmt.Handler.{Handler}
 use Rattle.py_tree.specs.Tall.{tall_block, tall_arm, tall_arms, tall_clause, tall_handler, tall_handlers, defaults}
 use Rattle.py_parser.proofs.Blocks.{talls_append}
-
 use Rattle.py_parser.proofs.Bodies.{only_newline, only_indent, told_plain, BlockHole, ReadBlock, TellBlock, body0, pass0, block0, tall0, told_body, tell_arm, ArmRead, tell_elifs, tell_clause, tell_try, CompoundHole, ReadCompound}
-
 use Rattle.py_parser.proofs.Compounds.{tell_loop, tell_def, tell_class}
 use Rattle.py_parser.proofs.Bodies.{tell_line}
 use Rattle.py_parser.proofs.Targets.{tell_exprs}
 use Rattle.py_parser.proofs.Levels.{unders}
 use Rattle.py_parser.proofs.Blocks.{statement_long}
-
 use Rattle.py_parser.proofs.Wholes.{tell_compound}
 use Rattle.py_parser.proofs.Bodies.{told_plain, only_newline, only_indent}
 use Rattle.py_parser.specs.Statements.{Body}
-
 use Rattle.py_parser.proofs.Modules.{StatementHole, ReadStatement, TellStatement, tell_statement_at, tell_block}
 use Rattle.py_parser.specs.Refused.{EndsOnce}
 use Rattle.py_parser.proofs.Told.{Took, Stopped}
@@ -197,10 +189,10 @@ tell_statements w y g targets (suc (suc d)) = tell_statement_at w y g (suc (suc 
     (record { under = reads (more w g) (suc (suc (more y d))); lower = reads (more w g) (suc (more y d)); budget = suc (suc (more y d)); block = block_at (line_of_at (more w g) (suc (more y d))) (statements_at (more w g) (suc (more y d))) (more w g) })
     (record { under = reads g (suc (suc d)); lower = reads g (suc d); budget = suc (suc d); block = block_at (line_of_at g (suc d)) (statements_at g (suc d)) g }) refl refl (targets (suc (suc d)))
     (λ h n ic pre ts f l hole. tell_compound w y g (suc d) (reads (more w g) (suc (suc (more y d)))) (reads g (suc (suc d))) (reads (more w g) (suc (more y d))) (reads g (suc d)) (unders w y g (suc (suc d))) (tell_exprs w y g (suc (suc d))) (targets (suc (suc d))) (targets (suc d))
-      (block_at (line_of_at (more w g) (suc (more y d))) (statements_at (more w g) (suc (more y d))) (more w g)) (block_at (line_of_at g (suc d)) (statements_at g (suc d)) g)
-      (tell_block w y g (suc d) (statements_at (more w g) (suc (more y d))) (statements_at g (suc d)) (line_of_at (more w g) (suc (more y d))) (line_of_at g (suc d)) (tell_statements w y g targets d)
-        (λ pre ts l o hole. tell_line w y g d (reads (more w g) (more y d)) (reads g d) (unders w y g d) (tell_exprs w y g d) (targets d) pre ts l o hole) (omega arith))
-      (omega (arith, h)) n ic pre ts f l hole)
+    (block_at (line_of_at (more w g) (suc (more y d))) (statements_at (more w g) (suc (more y d))) (more w g)) (block_at (line_of_at g (suc d)) (statements_at g (suc d)) g)
+    (tell_block w y g (suc d) (statements_at (more w g) (suc (more y d))) (statements_at g (suc d)) (line_of_at (more w g) (suc (more y d))) (line_of_at g (suc d)) (tell_statements w y g targets d)
+    (λ pre ts l o hole. tell_line w y g d (reads (more w g) (more y d)) (reads g d) (unders w y g d) (tell_exprs w y g d) (targets d) pre ts l o hole) (omega arith))
+    (omega (arith, h)) n ic pre ts f l hole)
 
 -- ---- modules
 
@@ -222,13 +214,13 @@ module _ (w y g d : ℕ) (targets : Targets' w y g) where
       let o : Opens low pre = cut low pre (at k.End p0 ∷ []) (hole low [] _ (S.Body.end None p0) (λ b. omega arith)) in
       told_if is_end (λ e. let same : t ≡ at k.End p = ap (λ z. at z p) (only_end t.kind e) in told_take (told_done ([], sym (append-nil found), (λ x. subst (λ z. Body x [] (z ∷ [])) (sym same) (S.Body.end x p)), omega arith)))
       (λ e1. told_if is_newline
-        (λ e. let same : t ≡ at k.Newline p = ap (λ z. at z p) (only_newline t.kind e) in
-          told_take (told_post (λ v fs r. (r.0, r.1, (λ x. subst (λ z. Body x r.0 (z ∷ fs)) (sym same) (S.Body.newline p (r.2 x))), r.3))
-            (tell_body f found (pre ++ t ∷ []) us (omega (arith, l)) (omega (arith, i)) (more_comes pre (t ∷ []) us h ([], t, refl, e1)) (subst EndsOnce (sym (append_assoc pre (t ∷ []) us)) h)
-              (λ m ss vs r j. here (simp append_assoc) (hole m ss (t ∷ vs) (subst (λ z. Body m.marks ss (z ∷ vs)) (sym same) (S.Body.newline p r)) j)))))
-        (λ e2. told_bind _ _ _ (tell_statements w y g targets d pre (t ∷ us) (omega (arith, l, i)) o
-            (λ m ss vs r j. on (at k.End p0 ∷ []) (simp (append_assoc, append-nil)) (hole m (ss ++ []) _ (S.Body.more r (S.Body.end m.marks p0)) (λ b. omega (arith, j b, talls_append ss [])))))
-          (λ ss fs rest q r. 
-            told_post (λ v vs s. (ss ++ s.0, s.1 ∙ append_assoc found ss s.0, (λ x. S.Body.more (r.0 x) (s.2 x)), omega (arith, r.1, s.3, talls_append ss s.0)))
-            (tell_body f (found ++ ss) (pre ++ fs) rest (omega (arith, l, ap length q, length-append fs rest, statement_long (r.0 None))) (omega (arith, i)) (more_comes pre fs rest (subst (λ z. EndsOnce (pre ++ z)) q h) (statement_last (r.0 None))) (subst EndsOnce (ap (λ z. pre ++ z) q ∙ sym (append_assoc pre fs rest)) h)
-              (λ m bs vs s j. here (simp append_assoc) (hole m (ss ++ bs) _ (S.Body.more (r.0 m.marks) s) (λ b. omega (arith, r.1, j b, talls_append ss bs))))))))
+      (λ e. let same : t ≡ at k.Newline p = ap (λ z. at z p) (only_newline t.kind e) in
+      told_take (told_post (λ v fs r. (r.0, r.1, (λ x. subst (λ z. Body x r.0 (z ∷ fs)) (sym same) (S.Body.newline p (r.2 x))), r.3))
+      (tell_body f found (pre ++ t ∷ []) us (omega (arith, l)) (omega (arith, i)) (more_comes pre (t ∷ []) us h ([], t, refl, e1)) (subst EndsOnce (sym (append_assoc pre (t ∷ []) us)) h)
+      (λ m ss vs r j. here (simp append_assoc) (hole m ss (t ∷ vs) (subst (λ z. Body m.marks ss (z ∷ vs)) (sym same) (S.Body.newline p r)) j)))))
+      (λ e2. told_bind _ _ _ (tell_statements w y g targets d pre (t ∷ us) (omega (arith, l, i)) o
+      (λ m ss vs r j. on (at k.End p0 ∷ []) (simp (append_assoc, append-nil)) (hole m (ss ++ []) _ (S.Body.more r (S.Body.end m.marks p0)) (λ b. omega (arith, j b, talls_append ss [])))))
+      (λ ss fs rest q r.
+      told_post (λ v vs s. (ss ++ s.0, s.1 ∙ append_assoc found ss s.0, (λ x. S.Body.more (r.0 x) (s.2 x)), omega (arith, r.1, s.3, talls_append ss s.0)))
+      (tell_body f (found ++ ss) (pre ++ fs) rest (omega (arith, l, ap length q, length-append fs rest, statement_long (r.0 None))) (omega (arith, i)) (more_comes pre fs rest (subst (λ z. EndsOnce (pre ++ z)) q h) (statement_last (r.0 None))) (subst EndsOnce (ap (λ z. pre ++ z) q ∙ sym (append_assoc pre fs rest)) h)
+      (λ m bs vs s j. here (simp append_assoc) (hole m (ss ++ bs) _ (S.Body.more (r.0 m.marks) s) (λ b. omega (arith, r.1, j b, talls_append ss bs))))))))

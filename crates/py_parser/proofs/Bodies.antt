@@ -51,13 +51,11 @@ use Rattle.py_parser.proofs.Tells.{only_op, only_keyword, Hole, Read, Tell, told
 use Rattle.py_parser.proofs.Atoms.{tell_atom, Unders, lift, left_start, told_no_start, either}
 use Rattle.py_parser.proofs.Trails.{tell_trail}
 use Rattle.py_parser.proofs.Rungs.{Known, known, LinksHole, tell_some_links, low_level}
-
 use Rattle.py_tree.specs.Form.{is_target, is_single, many, all_targets}
 use Rattle.py_parser.specs.Words.{line_of}
 use Rattle.py_parser.specs.Statements as S
 use Rattle.py_parser.specs.Statements.{slices, Target, Targets, Loops, Equals}
 use Rattle.py_parser.specs.Lines.{checked, Stop, target_at, targets_at, loops_at, loop_at, equals_at, maybe_at, ends_del, ends_loop, ends_caught, is_newline}
-
 use Rattle.py_parser.proofs.Targets.{ExprsHole, ReadExprs, TellExprs, told_exprs, exprs_word, told_checked, target_any, single_any, target_of, word_target}
 use Rattle.py_parser.proofs.Simple.{exprs_headed}
 use Rattle.py_parser.specs.Words.{assigned, augment_word, is_module, is_member}
@@ -68,11 +66,9 @@ use Rattle.py_tree.specs.declared.stmt.Stmt.TheVariants as st
 use Rattle.py_tree.specs.declared.stmt.Imported.{Imported}
 use Rattle.py_tree.specs.Tall.{tall, talls}
 use Rattle.py_tree.proofs.Talls as ht
-
 use Rattle.py_parser.proofs.Simples.{TargetHole, SliceHole, Targeted, Targeting, told_target, FollowTargets, no_target, another, then_targets, FollowNames, no_name, more_names, then_names, FollowImports, no_import, more_imports, OneImport, then_imports, tell_names, tell_imported, tell_imports, tell_import_name, tell_targets, tell_running, SimpleHole, EndHole, ReadSimple}
 use Rattle.std.proofs.Common.{codes}
 use Rattle.std.specs.Str.{bytes_eq}
-
 use Rattle.py_parser.proofs.Worded.{tell_simple}
 use Rattle.py_parser.specs.Statements.{Line, Parameter, Later, Parameters, Params, Base, Caught, Statement, Suite as Suites, Block, Elifs, Else, Finally, Excepts, Compound}
 use Rattle.py_parser.specs.Lines.{is_indent, is_dedent, is_end, plain_at, line_more, line_at, Suite, body_at, arm_at, elifs_at, clause_at, caught_at, handler_at, handlers_at, try_at, param_at, params_at, def_at, base_at, class_at, Parts, compound_at, is_compound, statement_by, statement_at, suite_at, block_at, line_of_at, statements_at, body_more}
@@ -149,30 +145,32 @@ module _ (w y g d : ℕ) (under' under : Below) (below : Unders y g d under' und
   tell_line_more zero found pre ts l i hole = absurd (omega (arith, l))
   tell_line_more (suc f) found pre ts l i hole = told_word (is_op 41) c.semicolon (only_op 41) refl
       (λ p us q. rw q (told_take (told_word is_newline k.Newline only_newline refl
-        (λ p2 us2 q2. rw q2 (told_take (told_done ([], sym (append-nil found), (λ x. semi_end x p p2), omega arith))))
-        (λ e. told_bind _ _ _ (tell_simple w y g d under' under below exprs targets (pre ++ at c.semicolon p ∷ []) us (omega (arith, l, i, ap length q))
-            (on (at k.Newline p0 ∷ []) (simp append_assoc) (hole low [] _ (semi_end None p p0) (λ b. omega arith)))
-            (λ m a vs r h. on (at k.Newline p0 ∷ []) (simp append_assoc) (hole m (a ∷ []) _ (further_line p (S.Line.end p0 r)) (λ b. omega (arith, h b))))
-            (λ a vs κ p2 r e2. elim (either (is_op 41 κ) (is_newline κ) e2) [
-                inl z ↦ rw (only_op 41 κ z) (on (at k.Newline p0 ∷ []) (simp append_assoc) (hole (marked left.SliceForm) (a ∷ []) _ (further_line p (S.Line.end_semicolon p2 p0 r)) free))
-              | inr z ↦ rw (only_newline κ z) (here (simp append_assoc) (hole (marked left.SliceForm) (a ∷ []) _ (further_line p (S.Line.end p2 r)) free)) ]))
-          (λ a fs rest q3 r. told_post (λ v vs s. (a ∷ s.0, s.1 ∙ append_assoc found (a ∷ []) s.0, (λ x. further_line p (then_line (r.0 x) (s.2 x))), omega (arith, r.1, s.3)))
-            (tell_line_more f (found ++ a ∷ []) ((pre ++ at c.semicolon p ∷ []) ++ fs) rest (omega (arith, l, ap length q, length_after us fs rest q3)) (omega (arith, i))
-              (λ m ss vs s j. here (simp append_assoc) (hole m (a ∷ ss) _ (further_line p (then_line (r.0 m.marks) s)) (λ b. omega (arith, r.1, j b)))))))))) 
+      (λ p2 us2 q2. rw q2 (told_take (told_done ([], sym (append-nil found), (λ x. semi_end x p p2), omega arith))))
+      (λ e. told_bind _ _ _ (tell_simple w y g d under' under below exprs targets (pre ++ at c.semicolon p ∷ []) us (omega (arith, l, i, ap length q))
+      (on (at k.Newline p0 ∷ []) (simp append_assoc) (hole low [] _ (semi_end None p p0) (λ b. omega arith)))
+      (λ m a vs r h. on (at k.Newline p0 ∷ []) (simp append_assoc) (hole m (a ∷ []) _ (further_line p (S.Line.end p0 r)) (λ b. omega (arith, h b))))
+      (λ a vs κ p2 r e2. elim (either (is_op 41 κ) (is_newline κ) e2) [
+        | inl z ↦ rw (only_op 41 κ z) (on (at k.Newline p0 ∷ []) (simp append_assoc) (hole (marked left.SliceForm) (a ∷ []) _ (further_line p (S.Line.end_semicolon p2 p0 r)) free))
+        | inr z ↦ rw (only_newline κ z) (here (simp append_assoc) (hole (marked left.SliceForm) (a ∷ []) _ (further_line p (S.Line.end p2 r)) free))
+      ]))
+      (λ a fs rest q3 r. told_post (λ v vs s. (a ∷ s.0, s.1 ∙ append_assoc found (a ∷ []) s.0, (λ x. further_line p (then_line (r.0 x) (s.2 x))), omega (arith, r.1, s.3)))
+      (tell_line_more f (found ++ a ∷ []) ((pre ++ at c.semicolon p ∷ []) ++ fs) rest (omega (arith, l, ap length q, length_after us fs rest q3)) (omega (arith, i))
+      (λ m ss vs s j. here (simp append_assoc) (hole m (a ∷ ss) _ (further_line p (then_line (r.0 m.marks) s)) (λ b. omega (arith, r.1, j b))))))))))
       (λ e. told_plain is_newline k.Newline only_newline refl _ _ (on (at k.Newline p0 ∷ []) refl (hole low [] _ (end_line None p0) (λ b. omega arith)))
-        (λ p us q. told_done ([], sym (append-nil found), (λ x. end_line x p), omega arith)))
+      (λ p us q. told_done ([], sym (append-nil found), (λ x. end_line x p), omega arith)))
 
   pub tell_line : (pre ts : List Token) → length ts ≤ g → Opens low pre → LineHole pre →
       Told y pre ts (line_at under' (more w g) (more y (suc d))) (λ v fs. ((x : Marks) → Line x v fs) × (talls v ≤ suc d)) (line_at under g (suc d) ts)
   unfolding line_at
   tell_line pre ts l o hole = told_bind _ _ _ (tell_simple w y g d under' under below exprs targets pre ts l o
-        (λ m a us r h. on (at k.Newline p0 ∷ []) (simp append_assoc) (hole m (a ∷ []) _ (S.Line.end p0 r) (λ b. omega (arith, h b))))
-        (λ a us κ p r e. elim (either (is_op 41 κ) (is_newline κ) e) [
-            inl z ↦ rw (only_op 41 κ z) (on (at k.Newline p0 ∷ []) (simp append_assoc) (hole (marked left.SliceForm) (a ∷ []) _ (S.Line.end_semicolon p p0 r) free))
-          | inr z ↦ rw (only_newline κ z) (hole (marked left.SliceForm) (a ∷ []) _ (S.Line.end p r) free) ]))
+      (λ m a us r h. on (at k.Newline p0 ∷ []) (simp append_assoc) (hole m (a ∷ []) _ (S.Line.end p0 r) (λ b. omega (arith, h b))))
+      (λ a us κ p r e. elim (either (is_op 41 κ) (is_newline κ) e) [
+        | inl z ↦ rw (only_op 41 κ z) (on (at k.Newline p0 ∷ []) (simp append_assoc) (hole (marked left.SliceForm) (a ∷ []) _ (S.Line.end_semicolon p p0 r) free))
+        | inr z ↦ rw (only_newline κ z) (hole (marked left.SliceForm) (a ∷ []) _ (S.Line.end p r) free)
+      ]))
       (λ a fs rest q r. told_post (λ v us s. rw s.1 ((λ x. then_line (r.0 x) (s.2 x)), omega (arith, r.1, s.3)))
-        (tell_line_more g (a ∷ []) (pre ++ fs) rest (omega (arith, l, ap length q, length-append fs rest, simple_long (r.0 None))) (omega arith)
-          (λ m ss us s j. here (simp append_assoc) (hole m (a ∷ ss) _ (then_line (r.0 m.marks) s) (λ b. omega (arith, r.1, j b))))))
+      (tell_line_more g (a ∷ []) (pre ++ fs) rest (omega (arith, l, ap length q, length-append fs rest, simple_long (r.0 None))) (omega arith)
+      (λ m ss us s j. here (simp append_assoc) (hole m (a ∷ ss) _ (then_line (r.0 m.marks) s) (λ b. omega (arith, r.1, j b))))))
 
 -- ---- bodies
 
@@ -206,11 +204,11 @@ pub told_body : {A : Type 0} {y : ℕ} {pre ts : List Token} {Q : A → List Tok
 unfolding body_at
 told_body {A = A} {y = y} {pre = pre} {ts = ts} {Q = Q} g d block' block K' K tell l z hole h =
     told_bind K' K (λ ss fs. (p : Place) × (us : List Token) × (fs ≡ at c.colon p ∷ us) × ((x : Marks) → Block x ss us) × (tall_block ss ≤ d))
-      (told_need 39 _ _ (on (at c.colon p0 ∷ body0) refl (hole low p0 pass0 body0 (block0 None) (λ b. omega (arith, z, tall0))))
-        (λ p us q. told_post (λ v vs r. (p, vs, refl, r.0, r.1)) (tell (pre ++ at c.colon p ∷ []) us (omega (arith, l, ap length q))
-          (on body0 (simp append_assoc) (hole low p pass0 body0 (block0 None) (λ b. omega (arith, z, tall0))))
-          (λ m ss vs r j. here (simp append_assoc) (hole m p ss vs r j)))))
-      (λ ss fs rest q r. move_front fs (at c.colon r.0 ∷ r.1) ss rest r.2 (h r.0 ss r.1 rest (q ∙ ap (λ z. z ++ rest) r.2) r.3 r.4))
+    (told_need 39 _ _ (on (at c.colon p0 ∷ body0) refl (hole low p0 pass0 body0 (block0 None) (λ b. omega (arith, z, tall0))))
+    (λ p us q. told_post (λ v vs r. (p, vs, refl, r.0, r.1)) (tell (pre ++ at c.colon p ∷ []) us (omega (arith, l, ap length q))
+    (on body0 (simp append_assoc) (hole low p pass0 body0 (block0 None) (λ b. omega (arith, z, tall0))))
+    (λ m ss vs r j. here (simp append_assoc) (hole m p ss vs r j)))))
+    (λ ss fs rest q r. move_front fs (at c.colon r.0 ∷ r.1) ss rest r.2 (h r.0 ss r.1 rest (q ∙ ap (λ z. z ++ rest) r.2) r.3 r.4))
   where
     move_front : (fs gs : List Token) (ss : List Stmt) (rest : List Token) → fs ≡ gs → Told y (pre ++ gs) rest (λ us. K' (ss, us)) (λ b us. Q b (gs ++ us)) (K (ss, rest)) → Told y (pre ++ fs) rest (λ us. K' (ss, us)) (λ b us. Q b (fs ++ us)) (K (ss, rest))
     move_front fs gs ss rest e t = subst (λ z. Told y (pre ++ z) rest (λ us. K' (ss, us)) (λ b us. Q b (z ++ us)) (K (ss, rest))) (sym e) t
@@ -227,11 +225,11 @@ module _ (w y g d : ℕ) (under' under : Below) (below : Unders y g d under' und
   unfolding arm_at
   tell_arm line pre ts l hole =
       told_read 14 d _ _ (below.read 14 (omega arith) pre ts l
-          (on (word ++ at c.colon p0 ∷ body0) refl (hole low (ex.Name []) pass0 p0 word body0 (is_word 14 None (omega arith)) (block0 None) (λ b. omega (arith, z2, tall0, hh.height_name []))))
-          (λ m a us r h. on (at c.colon p0 ∷ body0) (simp append_assoc) (hole m a pass0 p0 us body0 r (block0 m.marks) (λ b. omega (arith, z2, tall0, h b)))))
-        (λ a fs rest q is h. told_body g d block' block _ _ tell (omega (arith, l, length_after ts fs rest q)) z2
-          (λ m p ss us r j. here (simp append_assoc) (hole m a ss p fs us (is m.marks) r (λ b. omega (arith, h, j b))))
-          (λ p ss gs rest2 q2 bs h2. told_done (p, fs, gs, ap (λ z. fs ++ at c.colon p ∷ z) (append-nil gs), is, bs, refl, omega (arith, h, h2))))
+      (on (word ++ at c.colon p0 ∷ body0) refl (hole low (ex.Name []) pass0 p0 word body0 (is_word 14 None (omega arith)) (block0 None) (λ b. omega (arith, z2, tall0, hh.height_name []))))
+      (λ m a us r h. on (at c.colon p0 ∷ body0) (simp append_assoc) (hole m a pass0 p0 us body0 r (block0 m.marks) (λ b. omega (arith, z2, tall0, h b)))))
+      (λ a fs rest q is h. told_body g d block' block _ _ tell (omega (arith, l, length_after ts fs rest q)) z2
+      (λ m p ss us r j. here (simp append_assoc) (hole m a ss p fs us (is m.marks) r (λ b. omega (arith, h, j b))))
+      (λ p ss gs rest2 q2 bs h2. told_done (p, fs, gs, ap (λ z. fs ++ at c.colon p ∷ z) (append-nil gs), is, bs, refl, omega (arith, h, h2))))
 
   abbrev pub ElifsHole : List Token → Type 0
   ElifsHole pre = (m : Mode) (rs : List Arm) (us : List Token) → Elifs m.marks rs us → Fits m (tall_arms rs) d → Opens m (pre ++ us)
@@ -250,10 +248,10 @@ module _ (w y g d : ℕ) (under' under : Below) (below : Unders y g d under' und
   tell_elifs zero found pre (t ∷ ts) l i hole = absurd (omega (arith, l))
   tell_elifs (suc f) found pre ts l i hole = told_word (is_keyword 8) c.elif_ (only_keyword 8) refl
       (λ p us q. rw q (told_take (told_bind _ _ _ (tell_arm p.line (pre ++ at c.elif_ p ∷ []) us (omega (arith, l, i, ap length q))
-          (λ m a ss p2 ts2 us2 r b h. on [] (simp (append_assoc, append-nil)) (hole m (record { line = p.line; test = a; body = ss } ∷ []) _ (S.elif p p2 r b (S.no_elif m.marks)) (λ z. omega (arith, h z)))))
-        (λ v fs rest q2 r. told_post (λ v2 vs s. (v ∷ s.0, s.1 ∙ append_assoc found (v ∷ []) s.0, (λ x. then_elif p v fs r (s.2 x)), omega (arith, r.7, s.3)))
-          (tell_elifs f (found ++ v ∷ []) ((pre ++ at c.elif_ p ∷ []) ++ fs) rest (omega (arith, l, ap length q, length_after us fs rest q2)) (omega (arith, i))
-            (λ m rs vs s j. here (simp append_assoc) (hole m (v ∷ rs) _ (then_elif p v fs r s) (λ z. omega (arith, r.7, j z)))))))))
+      (λ m a ss p2 ts2 us2 r b h. on [] (simp (append_assoc, append-nil)) (hole m (record { line = p.line; test = a; body = ss } ∷ []) _ (S.elif p p2 r b (S.no_elif m.marks)) (λ z. omega (arith, h z)))))
+      (λ v fs rest q2 r. told_post (λ v2 vs s. (v ∷ s.0, s.1 ∙ append_assoc found (v ∷ []) s.0, (λ x. then_elif p v fs r (s.2 x)), omega (arith, r.7, s.3)))
+      (tell_elifs f (found ++ v ∷ []) ((pre ++ at c.elif_ p ∷ []) ++ fs) rest (omega (arith, l, ap length q, length_after us fs rest q2)) (omega (arith, i))
+      (λ m rs vs s j. here (simp append_assoc) (hole m (v ∷ rs) _ (then_elif p v fs r s) (λ z. omega (arith, r.7, j z)))))))))
       (λ e. told_done ([], sym (append-nil found), S.no_elif, omega arith))
 
   -- a clause that a keyword begins, or none
@@ -263,8 +261,8 @@ module _ (w y g d : ℕ) (under' under : Below) (below : Unders y g d under' und
   unfolding clause_at
   tell_clause n F none' some' pre ts l hole = told_word (is_keyword n) (k.Keyword n) (only_keyword n) refl
       (λ p us q. rw q (told_take (told_body g d block' block _ _ tell (omega (arith, l, ap length q)) z2
-          (λ m p2 ss vs r j. here (simp append_assoc) (hole m (Some (record { line = p.line; body = ss })) _ (some' m.marks p p2 ss vs r) j))
-          (λ p2 ss fs rest q2 r h. told_done ((λ x. move (F x (Some (record { line = p.line; body = ss }))) (ap (λ z. at (k.Keyword n) p ∷ at c.colon p2 ∷ z) (sym (append-nil fs))) (some' x p p2 ss fs (r x))), h)))))
+      (λ m p2 ss vs r j. here (simp append_assoc) (hole m (Some (record { line = p.line; body = ss })) _ (some' m.marks p p2 ss vs r) j))
+      (λ p2 ss fs rest q2 r h. told_done ((λ x. move (F x (Some (record { line = p.line; body = ss }))) (ap (λ z. at (k.Keyword n) p ∷ at c.colon p2 ∷ z) (sym (append-nil fs))) (some' x p p2 ss fs (r x))), h)))))
       (λ e. told_done (none', omega arith))
 
   -- ---- `except` clauses
@@ -277,21 +275,22 @@ module _ (w y g d : ℕ) (under' under : Below) (below : Unders y g d under' und
   unfolding caught_at
   tell_caught pre ts l o hole slice = told_if (comes 14)
       (λ c'. told_read 14 d _ _ (below.read 14 (omega arith) pre ts l o (λ m a us r h. hole m (Some a) None us (S.Caught.test r) (λ b. omega (arith, h b))))
-        (λ a fs rest q is h. let l2 : length rest ≤ g = omega (arith, l, length_after ts fs rest q) in told_if (λ κ. is_keyword 1 κ || is_op 38 κ)
-          (λ t. elim (either (is_keyword 1 (first rest)) (is_op 38 (first rest)) t) [
-              inl e ↦ let f = there rest c.as_ (only_keyword 1 (first rest) e) (λ z. cc) in let f0 = f.0 in
-                rw f.2 (told_take (told_target d _ _ (targets.target ends_caught ((pre ++ fs) ++ at c.as_ f.0 ∷ []) f.1 (placed (pre ++ fs) (at c.as_ f.0) refl) (omega (arith, l2, ap length f.2))
-                  (on word (simp append_assoc) (hole low (Some a) (Some (ex.Name [])) _ (S.Caught.named f0 (is None) (word_target None)) (λ b. omega (arith, h, hh.height_pos a, hh.height_name []))))
-                  (λ m b vs r j. here (simp append_assoc) (hole m (Some a) (Some b) _ (S.Caught.named f0 (is m.marks) r) (λ z. omega (arith, h, j z))))
-                  (λ b vs κ p r e2. rw (only_op 39 κ e2) (here (simp append_assoc) (slice a b _ p (S.Caught.named f0 (is (Some left.SliceForm)) r)))))
-                (λ b gs rest2 q2 is2 h2. told_done ((λ x. move (Caught x (Some a) (Some b)) (ap (λ z. fs ++ at c.as_ f0 ∷ z) (sym (append-nil gs))) (S.Caught.named f0 (is x) (is2 x))), omega (arith, h, h2)))))
-            | inr e ↦ let f = there rest c.comma (only_op 38 (first rest) e) (λ z. cc) in let f0 = f.0 in
-                rw f.2 (told_take (told_target d _ _ (targets.target ends_caught ((pre ++ fs) ++ at c.comma f.0 ∷ []) f.1 (placed (pre ++ fs) (at c.comma f.0) refl) (omega (arith, l2, ap length f.2))
-                  (on word (simp append_assoc) (hole low (Some a) (Some (ex.Name [])) _ (S.Caught.comma f0 (is None) (word_target None)) (λ b. omega (arith, h, hh.height_pos a, hh.height_name []))))
-                  (λ m b vs r j. here (simp append_assoc) (hole m (Some a) (Some b) _ (S.Caught.comma f0 (is m.marks) r) (λ z. omega (arith, h, j z))))
-                  (λ b vs κ p r e2. rw (only_op 39 κ e2) (here (simp append_assoc) (slice a b _ p (S.Caught.comma f0 (is (Some left.SliceForm)) r)))))
-                (λ b gs rest2 q2 is2 h2. told_done ((λ x. move (Caught x (Some a) (Some b)) (ap (λ z. fs ++ at c.comma f0 ∷ z) (sym (append-nil gs))) (S.Caught.comma f0 (is x) (is2 x))), omega (arith, h, h2))))) ])
-          (λ e. told_done ((λ x. move (Caught x (Some a) None) (sym (append-nil fs)) (S.Caught.test (is x))), omega (arith, h)))))
+      (λ a fs rest q is h. let l2 : length rest ≤ g = omega (arith, l, length_after ts fs rest q) in told_if (λ κ. is_keyword 1 κ || is_op 38 κ)
+      (λ t. elim (either (is_keyword 1 (first rest)) (is_op 38 (first rest)) t) [
+        | inl e ↦ let f = there rest c.as_ (only_keyword 1 (first rest) e) (λ z. cc) in let f0 = f.0 in
+            rw f.2 (told_take (told_target d _ _ (targets.target ends_caught ((pre ++ fs) ++ at c.as_ f.0 ∷ []) f.1 (placed (pre ++ fs) (at c.as_ f.0) refl) (omega (arith, l2, ap length f.2))
+            (on word (simp append_assoc) (hole low (Some a) (Some (ex.Name [])) _ (S.Caught.named f0 (is None) (word_target None)) (λ b. omega (arith, h, hh.height_pos a, hh.height_name []))))
+            (λ m b vs r j. here (simp append_assoc) (hole m (Some a) (Some b) _ (S.Caught.named f0 (is m.marks) r) (λ z. omega (arith, h, j z))))
+            (λ b vs κ p r e2. rw (only_op 39 κ e2) (here (simp append_assoc) (slice a b _ p (S.Caught.named f0 (is (Some left.SliceForm)) r)))))
+            (λ b gs rest2 q2 is2 h2. told_done ((λ x. move (Caught x (Some a) (Some b)) (ap (λ z. fs ++ at c.as_ f0 ∷ z) (sym (append-nil gs))) (S.Caught.named f0 (is x) (is2 x))), omega (arith, h, h2)))))
+        | inr e ↦ let f = there rest c.comma (only_op 38 (first rest) e) (λ z. cc) in let f0 = f.0 in
+            rw f.2 (told_take (told_target d _ _ (targets.target ends_caught ((pre ++ fs) ++ at c.comma f.0 ∷ []) f.1 (placed (pre ++ fs) (at c.comma f.0) refl) (omega (arith, l2, ap length f.2))
+            (on word (simp append_assoc) (hole low (Some a) (Some (ex.Name [])) _ (S.Caught.comma f0 (is None) (word_target None)) (λ b. omega (arith, h, hh.height_pos a, hh.height_name []))))
+            (λ m b vs r j. here (simp append_assoc) (hole m (Some a) (Some b) _ (S.Caught.comma f0 (is m.marks) r) (λ z. omega (arith, h, j z))))
+            (λ b vs κ p r e2. rw (only_op 39 κ e2) (here (simp append_assoc) (slice a b _ p (S.Caught.comma f0 (is (Some left.SliceForm)) r)))))
+            (λ b gs rest2 q2 is2 h2. told_done ((λ x. move (Caught x (Some a) (Some b)) (ap (λ z. fs ++ at c.comma f0 ∷ z) (sym (append-nil gs))) (S.Caught.comma f0 (is x) (is2 x))), omega (arith, h, h2)))))
+      ])
+      (λ e. told_done ((λ x. move (Caught x (Some a) None) (sym (append-nil fs)) (S.Caught.test (is x))), omega (arith, h)))))
       (λ c'. told_done (S.Caught.all, omega arith))
 
   -- one clause: what it catches, a colon and a block
@@ -305,12 +304,12 @@ module _ (w y g d : ℕ) (under' under : Below) (below : Unders y g d under' und
   unfolding handler_at
   tell_handler line pre ts l hole =
       told_bind _ _ _ (tell_caught pre ts l
-          (on (at c.colon p0 ∷ body0) refl (hole low None None pass0 p0 [] body0 (S.Caught.all None) (block0 None) (λ b. omega (arith, z2, tall0))))
-          (λ m a b us r h. on (at c.colon p0 ∷ body0) (simp append_assoc) (hole m a b pass0 p0 us body0 r (block0 m.marks) (λ z. omega (arith, z2, tall0, h z))))
-          (λ a b us p r. on body0 (simp append_assoc) (hole (marked left.SliceForm) (Some a) (Some b) pass0 p us body0 r (block0 (Some left.SliceForm)) free)))
-        (λ v fs rest q is. told_body g d block' block _ _ tell (omega (arith, l, length_after ts fs rest q)) z2
-          (λ m p ss us r j. here (simp append_assoc) (hole m v.0 v.1 ss p fs us (is.0 m.marks) r (λ b. omega (arith, is.1, j b))))
-          (λ p ss gs rest2 q2 bs h2. told_done (p, fs, gs, ap (λ z. fs ++ at c.colon p ∷ z) (append-nil gs), is.0, bs, refl, omega (arith, is.1, h2))))
+      (on (at c.colon p0 ∷ body0) refl (hole low None None pass0 p0 [] body0 (S.Caught.all None) (block0 None) (λ b. omega (arith, z2, tall0))))
+      (λ m a b us r h. on (at c.colon p0 ∷ body0) (simp append_assoc) (hole m a b pass0 p0 us body0 r (block0 m.marks) (λ z. omega (arith, z2, tall0, h z))))
+      (λ a b us p r. on body0 (simp append_assoc) (hole (marked left.SliceForm) (Some a) (Some b) pass0 p us body0 r (block0 (Some left.SliceForm)) free)))
+      (λ v fs rest q is. told_body g d block' block _ _ tell (omega (arith, l, length_after ts fs rest q)) z2
+      (λ m p ss us r j. here (simp append_assoc) (hole m v.0 v.1 ss p fs us (is.0 m.marks) r (λ b. omega (arith, is.1, j b))))
+      (λ p ss gs rest2 q2 bs h2. told_done (p, fs, gs, ap (λ z. fs ++ at c.colon p ∷ z) (append-nil gs), is.0, bs, refl, omega (arith, is.1, h2))))
 
   pub data FollowExcepts : Marks → List Handler → List Token → Type 0 where
     no_except : (x : Marks) → FollowExcepts x [] []
@@ -326,7 +325,7 @@ module _ (w y g d : ℕ) (under' under : Below) (below : Unders y g d under' und
   then_except : {x : Marks} (p : Place) (v : Handler) (fs : List Token) → HandlerRead p.line v fs → (a : Expr) → v.test ≡ Some a → {hs : List Handler} {us : List Token} → FollowExcepts x hs us → Excepts x (v ∷ hs) (at c.except_ p ∷ (fs ++ us))
   then_except {x = x} p v fs r a e {hs = hs} {us = us} f =
       subst (λ z. Excepts x (z ∷ hs) (at c.except_ p ∷ (fs ++ us))) (sym (r.6 ∙ ap (λ z. record { line = p.line; test = z; target = v.target; body = v.body }) e))
-        (subst (λ z. Excepts x (record { line = p.line; test = Some a; target = v.target; body = v.body } ∷ hs) (at c.except_ p ∷ (z ++ us))) (sym r.3) (except_follow p r.0 (subst (λ z. Caught x z v.target r.1) e (r.4 x)) (r.5 x) f))
+      (subst (λ z. Excepts x (record { line = p.line; test = Some a; target = v.target; body = v.body } ∷ hs) (at c.except_ p ∷ (z ++ us))) (sym r.3) (except_follow p r.0 (subst (λ z. Caught x z v.target r.1) e (r.4 x)) (r.5 x) f))
 
   last_except : {x : Marks} (p : Place) (v : Handler) (fs : List Token) → HandlerRead p.line v fs → Excepts x (v ∷ []) (at c.except_ p ∷ fs)
   last_except {x = x} p v fs r = subst (λ z. Excepts x (z ∷ []) (at c.except_ p ∷ fs)) (sym r.6) (subst (λ z. Excepts x (record { line = p.line; test = v.test; target = v.target; body = v.body } ∷ []) (at c.except_ p ∷ z)) (sym r.3) (S.except_one p r.0 (r.4 x) (r.5 x)))
@@ -338,16 +337,16 @@ module _ (w y g d : ℕ) (under' under : Below) (below : Unders y g d under' und
       Told y (pre ++ at c.except_ p ∷ []) us (λ vs. handler_at under' block' p.line vs >>= λ h. (if is_some h.0.test then handlers_at under' block' (more w f) (found ++ h.0 ∷ []) h.1 else Ok (found ++ h.0 ∷ [], h.1))) (λ v fs. (hs : List Handler) × (v ≡ found ++ hs) × ((x : Marks) → Excepts x hs (at c.except_ p ∷ fs)) × (tall_handlers hs ≤ d)) (handler_at under block p.line us >>= λ h. (if is_some h.0.test then handlers_at under block f (found ++ h.0 ∷ []) h.1 else Ok (found ++ h.0 ∷ [], h.1)))
   tell_excepting f again found pre ts p us e l i hole =
       told_bind _ _ _ (tell_handler p.line (pre ++ at c.except_ p ∷ []) us (omega (arith, l, i, ap length e))
-          (λ m a b ss q vs ws r bl h. here (simp append_assoc) (hole m (record { line = p.line; test = a; target = b; body = ss } ∷ []) _ (S.except_one p q r bl) (λ z. omega (arith, h z)))))
-        (λ v fs rest q r. go v fs rest q r v.test refl)
+      (λ m a b ss q vs ws r bl h. here (simp append_assoc) (hole m (record { line = p.line; test = a; target = b; body = ss } ∷ []) _ (S.except_one p q r bl) (λ z. omega (arith, h z)))))
+      (λ v fs rest q r. go v fs rest q r v.test refl)
     where
       go : (v : Handler) (fs rest : List Token) → us ≡ fs ++ rest → HandlerRead p.line v fs → (t : Option Expr) → v.test ≡ t →
           Told y ((pre ++ at c.except_ p ∷ []) ++ fs) rest (λ vs. if is_some v.test then handlers_at under' block' (more w f) (found ++ v ∷ []) vs else Ok (found ++ v ∷ [], vs)) (λ v2 vs. (hs : List Handler) × (v2 ≡ found ++ hs) × ((x : Marks) → Excepts x hs (at c.except_ p ∷ (fs ++ vs))) × (tall_handlers hs ≤ d)) (if is_some v.test then handlers_at under block f (found ++ v ∷ []) rest else Ok (found ++ v ∷ [], rest))
       go v fs rest q r None t = told_when (is_some v.test) (λ e2. no (sym e2 ∙ ap is_some t)) (λ e2. told_done (v ∷ [], refl, (λ x. move (λ z. Excepts x (v ∷ []) (at c.except_ p ∷ z)) (sym (append-nil fs)) (last_except p v fs r)), omega (arith, r.7)))
       go v fs rest q r (Some a) t = told_when (is_some v.test)
           (λ e2. told_post (λ v2 vs s. (v ∷ s.0, s.1 ∙ append_assoc found (v ∷ []) s.0, (λ x. then_except p v fs r a t (s.2 x)), omega (arith, r.7, s.3)))
-            (again (found ++ v ∷ []) ((pre ++ at c.except_ p ∷ []) ++ fs) rest (omega (arith, l, ap length e, length_after us fs rest q)) (omega (arith, i))
-              (λ m hs vs s j. here (simp append_assoc) (hole m (v ∷ hs) _ (then_except p v fs r a t (excepting s)) (λ b. omega (arith, r.7, j b))))))
+          (again (found ++ v ∷ []) ((pre ++ at c.except_ p ∷ []) ++ fs) rest (omega (arith, l, ap length e, length_after us fs rest q)) (omega (arith, i))
+          (λ m hs vs s j. here (simp append_assoc) (hole m (v ∷ hs) _ (then_except p v fs r a t (excepting s)) (λ b. omega (arith, r.7, j b))))))
           (λ e2. no (sym (ap is_some t) ∙ e2))
 
   pub tell_handlers : (f : ℕ) → TellHandlers f
@@ -389,12 +388,12 @@ module _ (w y g d : ℕ) (under' under : Below) (below : Unders y g d under' und
   tell_try_excepts p p2 ss fs is h pre ts e l hole =
       let b : Clause = record { line = p.line; body = ss } in
       told_bind _ _ _ (tell_some_handlers g [] ((pre ++ at c.try_ p ∷ []) ++ at c.colon p2 ∷ fs) ts e l (omega arith)
-          (λ m hs us r j. on [] (simp append_assoc) (hole m (st.Try b hs None None) _ (S.try p p2 (is m.marks) r (S.no_else m.marks) (S.no_finally m.marks)) (λ z. omega (arith, h, j z, ht.tall_try b hs None None)))))
-        (λ hs gs rest q r. rw r.1 (told_bind _ _ _ (tell_clause 9 Else S.no_else (λ x p3 p4 ss2 us2 b2. S.else' p3 p4 b2) (((pre ++ at c.try_ p ∷ []) ++ at c.colon p2 ∷ fs) ++ gs) rest (omega (arith, l, length_after ts gs rest q))
-            (λ m o us r2 j. on [] (simp append_assoc) (hole m (st.Try b r.0 o None) _ (S.try p p2 (is m.marks) (r.2 m.marks) r2 (S.no_finally m.marks)) (λ z. omega (arith, h, r.3, j z, ht.tall_try b r.0 o None)))))
-          (λ o ks rest2 q2 r2. told_map (λ f. st.Try b r.0 o f) (tell_clause 12 Finally S.no_finally (λ x p3 p4 ss2 us2 b2. S.finally p3 p4 b2) ((((pre ++ at c.try_ p ∷ []) ++ at c.colon p2 ∷ fs) ++ gs) ++ ks) rest2 (omega (arith, l, length_after ts gs rest q, length_after rest ks rest2 q2))
-              (λ m f us r3 j. here (simp append_assoc) (hole m (st.Try b r.0 o f) _ (S.try p p2 (is m.marks) (r.2 m.marks) (r2.0 m.marks) r3) (λ z. omega (arith, h, r.3, r2.1, j z, ht.tall_try b r.0 o f)))))
-            (λ f us r3. ((λ x. move (Compound x (st.Try b r.0 o f)) (simp append_assoc) (S.try p p2 (is x) (r.2 x) (r2.0 x) (r3.0 x))), omega (arith, h, r.3, r2.1, r3.1, ht.tall_try b r.0 o f))))))
+      (λ m hs us r j. on [] (simp append_assoc) (hole m (st.Try b hs None None) _ (S.try p p2 (is m.marks) r (S.no_else m.marks) (S.no_finally m.marks)) (λ z. omega (arith, h, j z, ht.tall_try b hs None None)))))
+      (λ hs gs rest q r. rw r.1 (told_bind _ _ _ (tell_clause 9 Else S.no_else (λ x p3 p4 ss2 us2 b2. S.else' p3 p4 b2) (((pre ++ at c.try_ p ∷ []) ++ at c.colon p2 ∷ fs) ++ gs) rest (omega (arith, l, length_after ts gs rest q))
+      (λ m o us r2 j. on [] (simp append_assoc) (hole m (st.Try b r.0 o None) _ (S.try p p2 (is m.marks) (r.2 m.marks) r2 (S.no_finally m.marks)) (λ z. omega (arith, h, r.3, j z, ht.tall_try b r.0 o None)))))
+      (λ o ks rest2 q2 r2. told_map (λ f. st.Try b r.0 o f) (tell_clause 12 Finally S.no_finally (λ x p3 p4 ss2 us2 b2. S.finally p3 p4 b2) ((((pre ++ at c.try_ p ∷ []) ++ at c.colon p2 ∷ fs) ++ gs) ++ ks) rest2 (omega (arith, l, length_after ts gs rest q, length_after rest ks rest2 q2))
+      (λ m f us r3 j. here (simp append_assoc) (hole m (st.Try b r.0 o f) _ (S.try p p2 (is m.marks) (r.2 m.marks) (r2.0 m.marks) r3) (λ z. omega (arith, h, r.3, r2.1, j z, ht.tall_try b r.0 o f)))))
+      (λ f us r3. ((λ x. move (Compound x (st.Try b r.0 o f)) (simp append_assoc) (S.try p p2 (is x) (r.2 x) (r2.0 x) (r3.0 x))), omega (arith, h, r.3, r2.1, r3.1, ht.tall_try b r.0 o f))))))
 
   pub tell_try : (p p2 : Place) (ss : List Stmt) (fs : List Token) → ((x : Marks) → Block x ss fs) → tall_block ss ≤ d → (pre ts : List Token) → length ts ≤ g → CompoundHole pre →
       Told y ((pre ++ at c.try_ p ∷ []) ++ at c.colon p2 ∷ fs) ts (try_at under' block' (more w g) (record { line = p.line; body = ss })) (λ v us. ReadCompound v (at c.try_ p ∷ (at c.colon p2 ∷ (fs ++ us)))) (try_at under block g (record { line = p.line; body = ss }) ts)
@@ -403,14 +402,14 @@ module _ (w y g d : ℕ) (under' under : Below) (below : Unders y g d under' und
       let b : Clause = record { line = p.line; body = ss } in let f0 : Clause = record { line = 0; body = pass0 } in
       told_if (is_keyword 10) (λ e. tell_try_excepts p p2 ss fs is h pre ts e l hole)
       (λ e1. told_word (is_keyword 12) c.finally_ (only_keyword 12) refl
-        (λ p3 us q. rw q (told_take (told_map2 p3 us (omega (arith, l, ap length q)) b h hole)))
-        (λ e2. told_refused (on (at c.finally_ p0 ∷ at c.colon p0 ∷ body0) (simp append_assoc) (hole low (st.Try b [] None (Some f0)) _ (S.try_finally p p2 (is None) (S.finally p0 p0 (block0 None))) (λ z. omega (arith, h, z2, tall0, ht.tall_try b [] None (Some f0)))))))
+      (λ p3 us q. rw q (told_take (told_map2 p3 us (omega (arith, l, ap length q)) b h hole)))
+      (λ e2. told_refused (on (at c.finally_ p0 ∷ at c.colon p0 ∷ body0) (simp append_assoc) (hole low (st.Try b [] None (Some f0)) _ (S.try_finally p p2 (is None) (S.finally p0 p0 (block0 None))) (λ z. omega (arith, h, z2, tall0, ht.tall_try b [] None (Some f0)))))))
     where
-      told_map2 : (p3 : Place) (us : List Token) → length us ≤ g → (b : Clause) → tall_block ss ≤ d → CompoundHole pre → 
+      told_map2 : (p3 : Place) (us : List Token) → length us ≤ g → (b : Clause) → tall_block ss ≤ d → CompoundHole pre →
           Told y (((pre ++ at c.try_ p ∷ []) ++ at c.colon p2 ∷ fs) ++ at c.finally_ p3 ∷ []) us (λ vs. (body_at block' vs >>= λ b2. Ok (Some (record { line = p3.line; body = b2.0 }), b2.1)) >>= λ f. Ok (st.Try (record { line = p.line; body = ss }) [] None f.0, f.1)) (λ v vs. ReadCompound v (at c.try_ p ∷ (at c.colon p2 ∷ (fs ++ at c.finally_ p3 ∷ vs)))) ((body_at block us >>= λ b2. Ok (Some (record { line = p3.line; body = b2.0 }), b2.1)) >>= λ f. Ok (st.Try (record { line = p.line; body = ss }) [] None f.0, f.1))
-      told_map2 p3 us l3 b h hole = told_map (λ f. st.Try (record { line = p.line; body = ss }) [] None f) 
+      told_map2 p3 us l3 b h hole = told_map (λ f. st.Try (record { line = p.line; body = ss }) [] None f)
           (told_body {Q = λ v vs. (ss2 : List Stmt) × (p4 : Place) × (gs : List Token) × (v ≡ Some (record { line = p3.line; body = ss2 })) × (vs ≡ at c.colon p4 ∷ gs) × ((x : Marks) → Block x ss2 gs) × (tall_block ss2 ≤ d)} g d block' block _ _ tell l3 z2
-            (λ m p4 ss2 vs r j. here (simp append_assoc) (hole m (st.Try (record { line = p.line; body = ss }) [] None (Some (record { line = p3.line; body = ss2 }))) _ (S.try_finally p p2 (is m.marks) (S.finally p3 p4 r)) (λ z. omega (arith, h, j z, ht.tall_try (record { line = p.line; body = ss }) [] None (Some (record { line = p3.line; body = ss2 }))))))
-            (λ p4 ss2 gs rest2 q2 r h2. told_done (ss2, p4, gs, refl, ap (λ z. at c.colon p4 ∷ z) (append-nil gs), r, h2)))
+          (λ m p4 ss2 vs r j. here (simp append_assoc) (hole m (st.Try (record { line = p.line; body = ss }) [] None (Some (record { line = p3.line; body = ss2 }))) _ (S.try_finally p p2 (is m.marks) (S.finally p3 p4 r)) (λ z. omega (arith, h, j z, ht.tall_try (record { line = p.line; body = ss }) [] None (Some (record { line = p3.line; body = ss2 }))))))
+          (λ p4 ss2 gs rest2 q2 r h2. told_done (ss2, p4, gs, refl, ap (λ z. at c.colon p4 ∷ z) (append-nil gs), r, h2)))
           (λ v vs r. subst (λ z. ReadCompound (st.Try (record { line = p.line; body = ss }) [] None z) (at c.try_ p ∷ (at c.colon p2 ∷ (fs ++ at c.finally_ p3 ∷ vs)))) (sym r.3)
-            (rw r.4 ((λ x. S.try_finally p p2 (is x) (S.finally p3 r.1 (r.5 x))), omega (arith, h, r.6, ht.tall_try (record { line = p.line; body = ss }) [] None (Some (record { line = p3.line; body = r.0 }))))))
+          (rw r.4 ((λ x. S.try_finally p p2 (is x) (S.finally p3 r.1 (r.5 x))), omega (arith, h, r.6, ht.tall_try (record { line = p.line; body = ss }) [] None (Some (record { line = p3.line; body = r.0 }))))))

@@ -51,13 +51,11 @@ use Rattle.py_parser.proofs.Tells.{only_op, only_keyword, Hole, Read, Tell, told
 use Rattle.py_parser.proofs.Atoms.{tell_atom, Unders, lift, left_start, told_no_start, either}
 use Rattle.py_parser.proofs.Trails.{tell_trail}
 use Rattle.py_parser.proofs.Rungs.{Known, known, LinksHole, tell_some_links, low_level}
-
 use Rattle.py_tree.specs.Form.{is_target, is_single, many, all_targets}
 use Rattle.py_parser.specs.Words.{line_of}
 use Rattle.py_parser.specs.Statements as S
 use Rattle.py_parser.specs.Statements.{slices, Target, Targets, Loops, Equals}
 use Rattle.py_parser.specs.Lines.{checked, Stop, target_at, targets_at, loops_at, loop_at, equals_at, maybe_at, ends_del, ends_loop, ends_caught, is_newline}
-
 use Rattle.py_parser.proofs.Targets.{ExprsHole, ReadExprs, TellExprs, told_exprs, exprs_word, told_checked, target_any, single_any, target_of, word_target}
 use Rattle.py_parser.proofs.Simple.{exprs_headed}
 use Rattle.py_parser.specs.Words.{assigned, augment_word, is_module, is_member}
@@ -68,11 +66,9 @@ use Rattle.py_tree.specs.declared.stmt.Stmt.TheVariants as st
 use Rattle.py_tree.specs.declared.stmt.Imported.{Imported}
 use Rattle.py_tree.specs.Tall.{tall, talls}
 use Rattle.py_tree.proofs.Talls as ht
-
 use Rattle.py_parser.proofs.Simples.{TargetHole, SliceHole, Targeted, Targeting, told_target, FollowTargets, no_target, another, then_targets, FollowNames, no_name, more_names, then_names, FollowImports, no_import, more_imports, OneImport, then_imports, tell_names, tell_imported, tell_imports, tell_import_name, tell_targets, tell_running, SimpleHole, EndHole, ReadSimple}
 use Rattle.std.proofs.Common.{codes}
 use Rattle.std.specs.Str.{bytes_eq}
-
 use Rattle.py_parser.proofs.Worded.{tell_simple}
 use Rattle.py_parser.specs.Statements.{Line, Parameter, Later, Parameters, Params, Base, Caught, Statement, Suite as Suites, Block, Elifs, Else, Finally, Excepts, Compound}
 use Rattle.py_parser.specs.Lines.{is_indent, is_dedent, is_end, plain_at, line_more, line_at, Suite, body_at, arm_at, elifs_at, clause_at, caught_at, handler_at, handlers_at, try_at, param_at, params_at, def_at, base_at, class_at, Parts, compound_at, is_compound, statement_by, statement_at, suite_at, block_at, line_of_at, statements_at, body_more}
@@ -82,7 +78,6 @@ use Rattle.py_tree.specs.declared.stmt.Clause.{Clause}
 use Rattle.py_tree.specs.declared.stmt.Handler.{Handler}
 use Rattle.py_tree.specs.Tall.{tall_block, tall_arm, tall_arms, tall_clause, tall_handler, tall_handlers, defaults}
 use Rattle.py_parser.proofs.Blocks.{talls_append}
-
 use Rattle.py_parser.proofs.Bodies.{only_newline, only_indent, told_plain, BlockHole, ReadBlock, TellBlock, body0, pass0, block0, tall0, told_body, tell_arm, ArmRead, tell_elifs, tell_clause, tell_try, CompoundHole, ReadCompound}
 
 tree_of : (o : Option Expr) → tree_or (of_or o) ≡ o
@@ -152,12 +147,12 @@ module _ (w y g d : ℕ) (lower' lower : Below) (targets : Targeting y g d lower
   unfolding loops_at
   tell_loop_comma f again found pre p us l i hole slice = told_take (told_if (comes 1)
       (λ c'. told_target d _ _ (targets.target ends_loop (pre ++ at c.comma p ∷ []) us (placed pre (at c.comma p) refl) (omega (arith, l, i)) (hole low [] _ (looped (loop_comma None p)) (λ b. omega arith))
-          (λ m a vs r h. on [] (simp (append_assoc, append-nil)) (hole m (a ∷ []) _ (looped (further_loop p r (no_loop m.marks))) (λ b. omega (arith, h b))))
-          (λ a vs κ p2 r e. here (simp append_assoc) (slice (a ∷ []) _ κ p2 (another p (S.Targets.one r)) e)))
-        (λ a fs rest q is h. told_post (λ v vs r. (a ∷ r.0, r.1 ∙ push_tests found a r.0, (λ x. further_loop p (is x) (r.2 x)), omega (arith, h, r.3)))
-          (again (push found (of a)) ((pre ++ at c.comma p ∷ []) ++ fs) rest (omega (arith, l, length_after us fs rest q)) i
-            (λ m es vs r j. here (simp append_assoc) (hole m (a ∷ es) _ (looped (further_loop p (is m.marks) r)) (λ b. omega (arith, h, j b))))
-            (λ es vs κ p2 r e. here (simp append_assoc) (slice (a ∷ es) _ κ p2 (another p (then_targets (is (Some left.SliceForm)) r)) e)))))
+      (λ m a vs r h. on [] (simp (append_assoc, append-nil)) (hole m (a ∷ []) _ (looped (further_loop p r (no_loop m.marks))) (λ b. omega (arith, h b))))
+      (λ a vs κ p2 r e. here (simp append_assoc) (slice (a ∷ []) _ κ p2 (another p (S.Targets.one r)) e)))
+      (λ a fs rest q is h. told_post (λ v vs r. (a ∷ r.0, r.1 ∙ push_tests found a r.0, (λ x. further_loop p (is x) (r.2 x)), omega (arith, h, r.3)))
+      (again (push found (of a)) ((pre ++ at c.comma p ∷ []) ++ fs) rest (omega (arith, l, length_after us fs rest q)) i
+      (λ m es vs r j. here (simp append_assoc) (hole m (a ∷ es) _ (looped (further_loop p (is m.marks) r)) (λ b. omega (arith, h, j b))))
+      (λ es vs κ p2 r e. here (simp append_assoc) (slice (a ∷ es) _ κ p2 (another p (then_targets (is (Some left.SliceForm)) r)) e)))))
       (λ c'. told_done ([], sym (tests_nil found), (λ x. loop_comma x p), omega arith)))
 
   pub tell_loops : (f : ℕ) → TellLoops f
@@ -187,16 +182,17 @@ module _ (w y g d : ℕ) (under' under lower' lower : Below) (targets : Targetin
   unfolding loop_at
   tell_loop pre ts place l o hole slice =
       told_target (suc d) _ _ (targets.target ends_loop pre ts place l o (λ m a us r h. hole m a us (S.Loops.single r) h)
-          (λ a us κ p r e. elim (either (is_op 38 κ) (is_keyword 18 κ) e) [
-              inl q ↦ rw (only_op 38 κ q) (hole (marked left.SliceForm) (ex.Tuple (a ∷ [])) _ (S.Loops.lone p r) free)
-            | inr q ↦ rw (only_keyword 18 κ q) (slice a us p (S.Loops.single r)) ]))
-        (λ a fs rest q is h. told_word (is_op 38) c.comma (only_op 38) refl
-          (λ p us q2. told_room (suc d) (height a + 1) c.comma (ap first q2) (hole low a fs (S.Loops.single (is None)) (λ b. h)) (λ i. here (simp append_assoc) (hole any (ex.Tuple (a ∷ [])) _ (S.Loops.lone i (is None)) free))
-            (λ room. told_map of_tuple (tell_some_loops w y g d lower' lower lowers g (start' (of a)) (pre ++ fs) rest (ap (λ z. is_op 38 (first z)) q2) (omega (arith, l, length_after ts fs rest q)) (omega arith)
-                (λ m es vs r j. near m pre fs vs (follow m a fs (is m.marks) h room es vs r j))
-                (λ es vs κ p2 r e. move (λ z. Opens (marked left.SliceForm) z) (sym (append_assoc pre fs (vs ++ at κ p2 ∷ []))) (follow_slice a fs (is (Some left.SliceForm)) es vs κ p2 r e)))
-              (λ v vs r. (ex.Tuple (a ∷ r.0), ap of_tuple r.1 ∙ as_tuple a r.0, (λ x. then_loops (is x) (r.2 x)), omega (arith, room, r.3, hh.height_tuple (a ∷ r.0))))))
-          (λ e. told_done (a, refl, (λ x. move (Loops x a) (sym (append-nil fs)) (S.Loops.single (is x))), h)))
+      (λ a us κ p r e. elim (either (is_op 38 κ) (is_keyword 18 κ) e) [
+        | inl q ↦ rw (only_op 38 κ q) (hole (marked left.SliceForm) (ex.Tuple (a ∷ [])) _ (S.Loops.lone p r) free)
+        | inr q ↦ rw (only_keyword 18 κ q) (slice a us p (S.Loops.single r))
+      ]))
+      (λ a fs rest q is h. told_word (is_op 38) c.comma (only_op 38) refl
+      (λ p us q2. told_room (suc d) (height a + 1) c.comma (ap first q2) (hole low a fs (S.Loops.single (is None)) (λ b. h)) (λ i. here (simp append_assoc) (hole any (ex.Tuple (a ∷ [])) _ (S.Loops.lone i (is None)) free))
+      (λ room. told_map of_tuple (tell_some_loops w y g d lower' lower lowers g (start' (of a)) (pre ++ fs) rest (ap (λ z. is_op 38 (first z)) q2) (omega (arith, l, length_after ts fs rest q)) (omega arith)
+      (λ m es vs r j. near m pre fs vs (follow m a fs (is m.marks) h room es vs r j))
+      (λ es vs κ p2 r e. move (λ z. Opens (marked left.SliceForm) z) (sym (append_assoc pre fs (vs ++ at κ p2 ∷ []))) (follow_slice a fs (is (Some left.SliceForm)) es vs κ p2 r e)))
+      (λ v vs r. (ex.Tuple (a ∷ r.0), ap of_tuple r.1 ∙ as_tuple a r.0, (λ x. then_loops (is x) (r.2 x)), omega (arith, room, r.3, hh.height_tuple (a ∷ r.0))))))
+      (λ e. told_done (a, refl, (λ x. move (Loops x a) (sym (append-nil fs)) (S.Loops.single (is x))), h)))
     where
       follow : (m : Mode) (a : Expr) (fs : List Token) → Target m.marks a fs → height a ≤ suc d → height a + 1 ≤ suc d → (es : List Expr) (vs : List Token) → FollowLoops m.marks es vs → Fits m (tops es) d → Opens m (pre ++ (fs ++ vs))
       follow m a fs is h room es vs (no_loop _) j = hole m a _ (move (Loops m.marks a) (sym (append-nil fs)) (S.Loops.single is)) (λ b. h)
@@ -204,8 +200,9 @@ module _ (w y g d : ℕ) (under' under lower' lower : Below) (targets : Targetin
 
       follow_slice : (a : Expr) (fs : List Token) → Target (Some left.SliceForm) a fs → (es : List Expr) (vs : List Token) (κ : TokenKind) (p : Place) → FollowTargets (Some left.SliceForm) es vs → ends_loop κ ≡ true → Opens (marked left.SliceForm) (pre ++ (fs ++ (vs ++ at κ p ∷ [])))
       follow_slice a fs is es vs κ p f e = elim (either (is_op 38 κ) (is_keyword 18 κ) e) [
-          inl q ↦ rw (only_op 38 κ q) (let r = loops_comma a fs es vs p is f in here (simp append_assoc) (hole (marked left.SliceForm) r.0 _ r.1 free))
-        | inr q ↦ rw (only_keyword 18 κ q) (let r = loops_end a fs es vs is f in here (simp append_assoc) (slice r.0 _ p r.1)) ]
+        | inl q ↦ rw (only_op 38 κ q) (let r = loops_comma a fs es vs p is f in here (simp append_assoc) (hole (marked left.SliceForm) r.0 _ r.1 free))
+        | inr q ↦ rw (only_keyword 18 κ q) (let r = loops_end a fs es vs is f in here (simp append_assoc) (slice r.0 _ p r.1))
+      ]
 
 -- ---- parameters
 
@@ -237,18 +234,19 @@ module _ (w y g d : ℕ) (under' under : Below) (below : Unders y g d under' und
   unfolding param_at
   tell_param b pre ts l o hole = told_if (λ κ. is_op 23 κ || is_op 4 κ)
       (λ t. elim (either (is_op 23 (first ts)) (is_op 4 (first ts)) t) [
-          inl q ↦ told_left c.star (only_op 23 (first ts) q) o (λ p. hole (marked left.StarArgument) [] _ (S.Parameters.starred b p) free)
-        | inr q ↦ told_left c.power (only_op 4 (first ts) q) o (λ p. hole (marked left.StarArgument) [] _ (S.Parameters.double_starred b p) free) ])
+        | inl q ↦ told_left c.star (only_op 23 (first ts) q) o (λ p. hole (marked left.StarArgument) [] _ (S.Parameters.starred b p) free)
+        | inr q ↦ told_left c.power (only_op 4 (first ts) q) o (λ p. hole (marked left.StarArgument) [] _ (S.Parameters.double_starred b p) free)
+      ])
       (λ e1. told_word (is_op 32) c.open_round (only_op 32) refl
-        (λ p us q. told_left c.open_round (ap first q) o (λ i. hole (marked left.TupleArgument) [] _ (S.Parameters.tuple b i) free))
-        (λ e2. told_need_name _ _ o (λ n p us q. 
-          let o2 : Opens low (pre ++ at (k.Name n) p ∷ []) = on (at c.assign p0 ∷ word) (simp append_assoc) (hole low (record { name = n; default = Some (ex.Name []) } ∷ []) _ (S.Parameters.one b true (later_true b) (S.Parameter.default n p p0 (is_word 14 None (omega arith)))) (λ z. omega (arith, z2, hh.height_name []))) in
-          told_word (is_op 42) c.assign (only_op 42) refl
-          (λ p2 us2 q2. rw q2 (told_take (told_map (λ a. record { name = n; default = Some a.tree }) (below.read 14 (omega arith) ((pre ++ at (k.Name n) p ∷ []) ++ at c.assign p2 ∷ []) us2 (omega (arith, l, ap length q, ap length q2))
-              (on word (simp append_assoc) (hole low (record { name = n; default = Some (ex.Name []) } ∷ []) _ (S.Parameters.one b true (later_true b) (S.Parameter.default n p p2 (is_word 14 None (omega arith)))) (λ z. omega (arith, z2, hh.height_name []))))
-              (λ m a vs r h. here (simp append_assoc) (hole m (record { name = n; default = Some a } ∷ []) _ (S.Parameters.one b true (later_true b) (S.Parameter.default n p p2 r)) (λ z. omega (arith, h z)))))
-            (λ v vs r. subst (λ z. ParamRead b (record { name = n; default = Some z.tree }) (at (k.Name n) p ∷ at c.assign p2 ∷ vs)) (sym r.1) (later_true b, (λ x. S.Parameter.default n p p2 (r.2 x)), r.3)))))
-          (λ e3. plain n p us o2 b refl)))) 
+      (λ p us q. told_left c.open_round (ap first q) o (λ i. hole (marked left.TupleArgument) [] _ (S.Parameters.tuple b i) free))
+      (λ e2. told_need_name _ _ o (λ n p us q.
+      let o2 : Opens low (pre ++ at (k.Name n) p ∷ []) = on (at c.assign p0 ∷ word) (simp append_assoc) (hole low (record { name = n; default = Some (ex.Name []) } ∷ []) _ (S.Parameters.one b true (later_true b) (S.Parameter.default n p p0 (is_word 14 None (omega arith)))) (λ z. omega (arith, z2, hh.height_name []))) in
+      told_word (is_op 42) c.assign (only_op 42) refl
+      (λ p2 us2 q2. rw q2 (told_take (told_map (λ a. record { name = n; default = Some a.tree }) (below.read 14 (omega arith) ((pre ++ at (k.Name n) p ∷ []) ++ at c.assign p2 ∷ []) us2 (omega (arith, l, ap length q, ap length q2))
+      (on word (simp append_assoc) (hole low (record { name = n; default = Some (ex.Name []) } ∷ []) _ (S.Parameters.one b true (later_true b) (S.Parameter.default n p p2 (is_word 14 None (omega arith)))) (λ z. omega (arith, z2, hh.height_name []))))
+      (λ m a vs r h. here (simp append_assoc) (hole m (record { name = n; default = Some a } ∷ []) _ (S.Parameters.one b true (later_true b) (S.Parameter.default n p p2 r)) (λ z. omega (arith, h z)))))
+      (λ v vs r. subst (λ z. ParamRead b (record { name = n; default = Some z.tree }) (at (k.Name n) p ∷ at c.assign p2 ∷ vs)) (sym r.1) (later_true b, (λ x. S.Parameter.default n p p2 (r.2 x)), r.3)))))
+      (λ e3. plain n p us o2 b refl))))
     where
       plain : (n : List ℕ) (p : Place) (us : List Token) → Opens low (pre ++ at (k.Name n) p ∷ []) → (e : Bool) → b ≡ e → Told y (pre ++ at (k.Name n) p ∷ []) us (λ vs. if b then Err (Unexpected, vs) else Ok (record { name = n; default = None }, vs)) (λ v fs. ParamRead b v (at (k.Name n) p ∷ fs)) (if b then Err (Unexpected, us) else Ok (record { name = n; default = None }, us))
       plain n p us o2 true e = told_when b (λ q. told_refused o2) (λ q. no (sym e ∙ q))
@@ -263,16 +261,16 @@ module _ (w y g d : ℕ) (under' under : Below) (below : Unders y g d under' und
   tell_params zero b found pre ts l i o hole = absurd (omega (arith, l))
   tell_params (suc f) b found pre ts l i o hole =
       told_bind _ _ _ (tell_param b pre ts (omega (arith, l, i)) o hole)
-        (λ v fs rest q r. 
-          let o2 : Opens low (pre ++ fs) = hole low (v ∷ []) _ (S.Parameters.one b (is_some v.default) r.0 (r.1 None)) (λ z. omega (arith, r.2)) in
-          told_word (is_op 38) c.comma (only_op 38) refl
-          (λ p us q2. rw q2 (told_take (told_if (is_op 33)
-            (λ c'. told_done (v ∷ [], refl, (λ x. S.Parameters.one_comma b (is_some v.default) p r.0 (r.1 x)), omega (arith, r.2)))
-            (λ c'. told_post (λ v2 vs s. (v ∷ s.0, s.1 ∙ append_assoc found (v ∷ []) s.0, (λ x. S.Parameters.more b (is_some v.default) p r.0 (r.1 x) (s.2 x)), omega (arith, r.2, s.3)))
-              (tell_params f (is_some v.default) (found ++ v ∷ []) ((pre ++ fs) ++ at c.comma p ∷ []) us (omega (arith, l, ap length q2, length_after ts fs rest q)) (omega (arith, i))
-                (here (simp append_assoc) (hole low (v ∷ []) _ (S.Parameters.one_comma b (is_some v.default) p r.0 (r.1 None)) (λ z. omega (arith, r.2))))
-                (λ m as' vs s j. here (simp append_assoc) (hole m (v ∷ as') _ (S.Parameters.more b (is_some v.default) p r.0 (r.1 m.marks) s) (λ z. omega (arith, r.2, j z)))))))))
-          (λ e. told_done (v ∷ [], refl, (λ x. move (Parameters x b (v ∷ [])) (sym (append-nil fs)) (S.Parameters.one b (is_some v.default) r.0 (r.1 x))), omega (arith, r.2))))
+      (λ v fs rest q r.
+      let o2 : Opens low (pre ++ fs) = hole low (v ∷ []) _ (S.Parameters.one b (is_some v.default) r.0 (r.1 None)) (λ z. omega (arith, r.2)) in
+      told_word (is_op 38) c.comma (only_op 38) refl
+      (λ p us q2. rw q2 (told_take (told_if (is_op 33)
+      (λ c'. told_done (v ∷ [], refl, (λ x. S.Parameters.one_comma b (is_some v.default) p r.0 (r.1 x)), omega (arith, r.2)))
+      (λ c'. told_post (λ v2 vs s. (v ∷ s.0, s.1 ∙ append_assoc found (v ∷ []) s.0, (λ x. S.Parameters.more b (is_some v.default) p r.0 (r.1 x) (s.2 x)), omega (arith, r.2, s.3)))
+      (tell_params f (is_some v.default) (found ++ v ∷ []) ((pre ++ fs) ++ at c.comma p ∷ []) us (omega (arith, l, ap length q2, length_after ts fs rest q)) (omega (arith, i))
+      (here (simp append_assoc) (hole low (v ∷ []) _ (S.Parameters.one_comma b (is_some v.default) p r.0 (r.1 None)) (λ z. omega (arith, r.2))))
+      (λ m as' vs s j. here (simp append_assoc) (hole m (v ∷ as') _ (S.Parameters.more b (is_some v.default) p r.0 (r.1 m.marks) s) (λ z. omega (arith, r.2, j z)))))))))
+      (λ e. told_done (v ∷ [], refl, (λ x. move (Parameters x b (v ∷ [])) (sym (append-nil fs)) (S.Parameters.one b (is_some v.default) r.0 (r.1 x))), omega (arith, r.2))))
 
   abbrev CompoundHole' : List Token → Type 0
   CompoundHole' pre = (m : Mode) (a : Stmt) (us : List Token) → Compound m.marks a us → Fits m (tall a) (suc d) → Opens m (pre ++ us)
@@ -286,33 +284,33 @@ module _ (w y g d : ℕ) (under' under : Below) (below : Unders y g d under' und
       let fit : (n : List ℕ) (ps : List Param) (ss : List Stmt) → tall (st.Def p.line n ps ss) ≡ max (defaults ps) (tall_block ss) + 1 = λ n ps ss. ht.tall_def p.line n ps ss in
       told_need_name _ _ (on (at (k.Name []) p0 ∷ at c.open_round p0 ∷ at c.close_round p0 ∷ at c.colon p0 ∷ body0) (simp append_assoc) (hole low (st.Def p.line [] [] pass0) _ (S.def [] p p0 p0 p0 p0 (S.Params.none None) (block0 None)) (λ b. omega (arith, z2, tall0, fit [] [] pass0))))
       (λ n p2 us q. told_need 32 _ _ (on (at c.open_round p0 ∷ at c.close_round p0 ∷ at c.colon p0 ∷ body0) (simp append_assoc) (hole low (st.Def p.line n [] pass0) _ (S.def n p p2 p0 p0 p0 (S.Params.none None) (block0 None)) (λ b. omega (arith, z2, tall0, fit n [] pass0))))
-      (λ p3 us2 q2. 
-        let o3 : Opens low (((pre ++ at c.def_ p ∷ []) ++ at (k.Name n) p2 ∷ []) ++ at c.open_round p3 ∷ []) = on (at c.close_round p0 ∷ at c.colon p0 ∷ body0) (simp append_assoc) (hole low (st.Def p.line n [] pass0) _ (S.def n p p2 p3 p0 p0 (S.Params.none None) (block0 None)) (λ b. omega (arith, z2, tall0, fit n [] pass0))) in
-        told_bind _ _ (λ v fs. ((x : Marks) → Params x v fs) × (defaults v ≤ d))
-          (told_if (is_op 33) (λ c'. told_done (S.Params.none, omega arith))
-            (λ c'. told_post (λ v fs r. rw r.1 ((λ x. S.Params.some (r.2 x)), r.3)) (tell_params g false [] (((pre ++ at c.def_ p ∷ []) ++ at (k.Name n) p2 ∷ []) ++ at c.open_round p3 ∷ []) us2 (omega (arith, l, ap length q, ap length q2)) (omega arith) o3
-              (λ m as' vs r j. on (at c.close_round p0 ∷ at c.colon p0 ∷ body0) (simp append_assoc) (hole m (st.Def p.line n as' pass0) _ (S.def n p p2 p3 p0 p0 (S.Params.some r) (block0 m.marks)) (λ b. omega (arith, z2, tall0, j b, fit n as' pass0)))))))
-        (λ ps fs rest q3 r. told_need 33 _ _ (on (at c.close_round p0 ∷ at c.colon p0 ∷ body0) (simp append_assoc) (hole low (st.Def p.line n ps pass0) _ (S.def n p p2 p3 p0 p0 (r.0 None) (block0 None)) (λ b. omega (arith, z2, tall0, r.1, fit n ps pass0))))
-          (λ p4 us4 q4. told_body g d block' block _ _ tell (omega (arith, l, ap length q, ap length q2, length_after us2 fs rest q3, ap length q4)) z2
-            (λ m p5 ss vs s j. here (simp append_assoc) (hole m (st.Def p.line n ps ss) _ (S.def n p p2 p3 p4 p5 (r.0 m.marks) s) (λ b. omega (arith, r.1, j b, fit n ps ss))))
-            (λ p5 ss gs rest2 q5 s h. told_done ((λ x. move (Compound x (st.Def p.line n ps ss)) (ap (λ z. at c.def_ p ∷ at (k.Name n) p2 ∷ at c.open_round p3 ∷ (fs ++ at c.close_round p4 ∷ at c.colon p5 ∷ z)) (sym (append-nil gs))) (S.def n p p2 p3 p4 p5 (r.0 x) (s x))), omega (arith, r.1, h, fit n ps ss)))))))
+      (λ p3 us2 q2.
+      let o3 : Opens low (((pre ++ at c.def_ p ∷ []) ++ at (k.Name n) p2 ∷ []) ++ at c.open_round p3 ∷ []) = on (at c.close_round p0 ∷ at c.colon p0 ∷ body0) (simp append_assoc) (hole low (st.Def p.line n [] pass0) _ (S.def n p p2 p3 p0 p0 (S.Params.none None) (block0 None)) (λ b. omega (arith, z2, tall0, fit n [] pass0))) in
+      told_bind _ _ (λ v fs. ((x : Marks) → Params x v fs) × (defaults v ≤ d))
+      (told_if (is_op 33) (λ c'. told_done (S.Params.none, omega arith))
+      (λ c'. told_post (λ v fs r. rw r.1 ((λ x. S.Params.some (r.2 x)), r.3)) (tell_params g false [] (((pre ++ at c.def_ p ∷ []) ++ at (k.Name n) p2 ∷ []) ++ at c.open_round p3 ∷ []) us2 (omega (arith, l, ap length q, ap length q2)) (omega arith) o3
+      (λ m as' vs r j. on (at c.close_round p0 ∷ at c.colon p0 ∷ body0) (simp append_assoc) (hole m (st.Def p.line n as' pass0) _ (S.def n p p2 p3 p0 p0 (S.Params.some r) (block0 m.marks)) (λ b. omega (arith, z2, tall0, j b, fit n as' pass0)))))))
+      (λ ps fs rest q3 r. told_need 33 _ _ (on (at c.close_round p0 ∷ at c.colon p0 ∷ body0) (simp append_assoc) (hole low (st.Def p.line n ps pass0) _ (S.def n p p2 p3 p0 p0 (r.0 None) (block0 None)) (λ b. omega (arith, z2, tall0, r.1, fit n ps pass0))))
+      (λ p4 us4 q4. told_body g d block' block _ _ tell (omega (arith, l, ap length q, ap length q2, length_after us2 fs rest q3, ap length q4)) z2
+      (λ m p5 ss vs s j. here (simp append_assoc) (hole m (st.Def p.line n ps ss) _ (S.def n p p2 p3 p4 p5 (r.0 m.marks) s) (λ b. omega (arith, r.1, j b, fit n ps ss))))
+      (λ p5 ss gs rest2 q5 s h. told_done ((λ x. move (Compound x (st.Def p.line n ps ss)) (ap (λ z. at c.def_ p ∷ at (k.Name n) p2 ∷ at c.open_round p3 ∷ (fs ++ at c.close_round p4 ∷ at c.colon p5 ∷ z)) (sym (append-nil gs))) (S.def n p p2 p3 p4 p5 (r.0 x) (s x))), omega (arith, r.1, h, fit n ps ss)))))))
 
   pub tell_base : (pre ts : List Token) → length ts ≤ g → ((m : Mode) (o : Option Expr) (us : List Token) → Base m.marks o us → Fits m (top_or o) d → Opens m (pre ++ us)) →
       Told y pre ts (base_at under') (λ v fs. (o : Option Expr) × (v ≡ of_or o) × ((x : Marks) → Base x o fs) × (top_or o ≤ d)) (base_at under ts)
   unfolding base_at maybe_at
   tell_base pre ts l hole = told_word (is_op 32) c.open_round (only_op 32) refl
       (λ p us q. rw q (told_take (told_bind _ _ (λ v fs. (o : Option Expr) × (v ≡ of_or o) × ((x : Marks) → Maybe x o fs) × (top_or o ≤ d))
-          (told_if (comes 14)
-            (λ c'. told_map (λ a. Some a) (below.read 14 (omega arith) (pre ++ at c.open_round p ∷ []) us (omega (arith, l, ap length q))
-                (on (at c.close_round p0 ∷ []) (simp append_assoc) (hole low None _ (S.Base.round p p0 (G.nothing None)) (λ b. omega arith)))
-                (λ m a vs r h. on (at c.close_round p0 ∷ []) (simp append_assoc) (hole m (Some a) _ (S.Base.round p p0 (G.just r)) h)))
-              (λ v fs r. (Some r.0, ap (λ z. Some z) r.1, (λ x. G.just (r.2 x)), r.3)))
-            (λ c'. told_done (None, refl, G.nothing, omega arith)))
-        (λ v fs rest q2 r. subst (λ z. Told y ((pre ++ at c.open_round p ∷ []) ++ fs) rest (λ us. if is_some z && is_op 38 (first us) then Err (LeftOut left.MultipleBases, us) else (op_at 33 us >>= λ close. Ok (z, close.1))) (λ b us. (o : Option Expr) × (b ≡ of_or o) × ((x : Marks) → Base x o (at c.open_round p ∷ (fs ++ us))) × (top_or o ≤ d)) (if is_some z && is_op 38 (first rest) then Err (LeftOut left.MultipleBases, rest) else (op_at 33 rest >>= λ close. Ok (z, close.1)))) (sym r.1)
-          (let o2 : Opens low ((pre ++ at c.open_round p ∷ []) ++ fs) = on (at c.close_round p0 ∷ []) (simp append_assoc) (hole low r.0 _ (S.Base.round p p0 (r.2 None)) (λ b. r.3)) in
-            told_if (λ κ. is_some (of_or r.0) && is_op 38 κ)
-              (λ t. told_left c.comma (only_op 38 (first rest) (and_right (is_some (of_or r.0)) _ t)) o2 (λ i. here (simp append_assoc) (many pre p fs r.0 r.2 (and_left (is_some (of_or r.0)) _ t) i hole)))
-              (λ e. told_need 33 _ _ o2 (λ p2 us2 q3. told_done (r.0, refl, (λ x. S.Base.round p p2 (r.2 x)), r.3))))))))
+      (told_if (comes 14)
+      (λ c'. told_map (λ a. Some a) (below.read 14 (omega arith) (pre ++ at c.open_round p ∷ []) us (omega (arith, l, ap length q))
+      (on (at c.close_round p0 ∷ []) (simp append_assoc) (hole low None _ (S.Base.round p p0 (G.nothing None)) (λ b. omega arith)))
+      (λ m a vs r h. on (at c.close_round p0 ∷ []) (simp append_assoc) (hole m (Some a) _ (S.Base.round p p0 (G.just r)) h)))
+      (λ v fs r. (Some r.0, ap (λ z. Some z) r.1, (λ x. G.just (r.2 x)), r.3)))
+      (λ c'. told_done (None, refl, G.nothing, omega arith)))
+      (λ v fs rest q2 r. subst (λ z. Told y ((pre ++ at c.open_round p ∷ []) ++ fs) rest (λ us. if is_some z && is_op 38 (first us) then Err (LeftOut left.MultipleBases, us) else (op_at 33 us >>= λ close. Ok (z, close.1))) (λ b us. (o : Option Expr) × (b ≡ of_or o) × ((x : Marks) → Base x o (at c.open_round p ∷ (fs ++ us))) × (top_or o ≤ d)) (if is_some z && is_op 38 (first rest) then Err (LeftOut left.MultipleBases, rest) else (op_at 33 rest >>= λ close. Ok (z, close.1)))) (sym r.1)
+      (let o2 : Opens low ((pre ++ at c.open_round p ∷ []) ++ fs) = on (at c.close_round p0 ∷ []) (simp append_assoc) (hole low r.0 _ (S.Base.round p p0 (r.2 None)) (λ b. r.3)) in
+      told_if (λ κ. is_some (of_or r.0) && is_op 38 κ)
+      (λ t. told_left c.comma (only_op 38 (first rest) (and_right (is_some (of_or r.0)) _ t)) o2 (λ i. here (simp append_assoc) (many pre p fs r.0 r.2 (and_left (is_some (of_or r.0)) _ t) i hole)))
+      (λ e. told_need 33 _ _ o2 (λ p2 us2 q3. told_done (r.0, refl, (λ x. S.Base.round p p2 (r.2 x)), r.3))))))))
       (λ e. told_done (None, refl, S.Base.none, omega arith))
     where
       many : (pre : List Token) (p : Place) (fs : List Token) (o : Option Expr) → ((x : Marks) → Maybe x o fs) → is_some (of_or o) ≡ true → (i : Place) → ((m : Mode) (o : Option Expr) (us : List Token) → Base m.marks o us → Fits m (top_or o) d → Opens m (pre ++ us)) → Opens (marked left.MultipleBases) (pre ++ at c.open_round p ∷ (fs ++ at c.comma i ∷ []))
@@ -328,8 +326,8 @@ module _ (w y g d : ℕ) (under' under : Below) (below : Unders y g d under' und
       let fit : (n : List ℕ) (a : Option Expr) (ss : List Stmt) → tall (st.Class p.line n a ss) ≡ max (top_or a) (tall_block ss) + 1 = λ n a ss. ht.tall_class p.line n a ss in
       told_need_name _ _ (on (at (k.Name []) p0 ∷ at c.colon p0 ∷ body0) (simp append_assoc) (hole low (st.Class p.line [] None pass0) _ (S.class [] p p0 p0 (S.Base.none None) (block0 None)) (λ b. omega (arith, z2, tall0, fit [] None pass0))))
       (λ n p2 us q. told_bind _ _ _ (tell_base ((pre ++ at c.class_ p ∷ []) ++ at (k.Name n) p2 ∷ []) us (omega (arith, l, ap length q))
-          (λ m o vs r j. on (at c.colon p0 ∷ body0) (simp append_assoc) (hole m (st.Class p.line n o pass0) _ (S.class n p p2 p0 r (block0 m.marks)) (λ b. omega (arith, z2, tall0, j b, fit n o pass0)))))
-        (λ v fs rest q2 r. told_body g d block' block _ _ tell (omega (arith, l, ap length q, length_after us fs rest q2)) z2
-          (λ m p5 ss vs s j. here (simp append_assoc) (hole m (st.Class p.line n r.0 ss) _ (S.class n p p2 p5 (r.2 m.marks) s) (λ b. omega (arith, r.3, j b, fit n r.0 ss))))
-          (λ p5 ss gs rest2 q5 s h. told_done (subst (λ z. ReadCompound' (st.Class p.line n z ss) (at c.class_ p ∷ at (k.Name n) p2 ∷ (fs ++ at c.colon p5 ∷ (gs ++ [])))) (sym (ap tree_or r.1 ∙ tree_of r.0))
-            ((λ x. move (Compound x (st.Class p.line n r.0 ss)) (ap (λ z. at c.class_ p ∷ at (k.Name n) p2 ∷ (fs ++ at c.colon p5 ∷ z)) (sym (append-nil gs))) (S.class n p p2 p5 (r.2 x) (s x))), omega (arith, r.3, h, fit n r.0 ss))))))
+      (λ m o vs r j. on (at c.colon p0 ∷ body0) (simp append_assoc) (hole m (st.Class p.line n o pass0) _ (S.class n p p2 p0 r (block0 m.marks)) (λ b. omega (arith, z2, tall0, j b, fit n o pass0)))))
+      (λ v fs rest q2 r. told_body g d block' block _ _ tell (omega (arith, l, ap length q, length_after us fs rest q2)) z2
+      (λ m p5 ss vs s j. here (simp append_assoc) (hole m (st.Class p.line n r.0 ss) _ (S.class n p p2 p5 (r.2 m.marks) s) (λ b. omega (arith, r.3, j b, fit n r.0 ss))))
+      (λ p5 ss gs rest2 q5 s h. told_done (subst (λ z. ReadCompound' (st.Class p.line n z ss) (at c.class_ p ∷ at (k.Name n) p2 ∷ (fs ++ at c.colon p5 ∷ (gs ++ [])))) (sym (ap tree_or r.1 ∙ tree_of r.0))
+      ((λ x. move (Compound x (st.Class p.line n r.0 ss)) (ap (λ z. at c.class_ p ∷ at (k.Name n) p2 ∷ (fs ++ at c.colon p5 ∷ z)) (sym (append-nil gs))) (S.class n p p2 p5 (r.2 x) (s x))), omega (arith, r.3, h, fit n r.0 ss))))))

@@ -397,7 +397,8 @@ no_budget w y g n l pre ts len o hole = record {
     front = [];
     split = refl;
     before = alone low pre o;
-    beyond = λ t us e. above t us e (starts n (first ts)) refl; ahead = λ dd r. absurd (unexpected_deep (sym (ap (λ z. too_deep n (first z)) r) ∙ dd));
+    beyond = λ t us e. above t us e (starts n (first ts)) refl;
+    ahead = λ dd r. absurd (unexpected_deep (sym (ap (λ z. too_deep n (first z)) r) ∙ dd));
     same = λ us s z. stays (more w g) y n l (first ts) us (same_first ts us s) z;
   };
 }

@@ -52,13 +52,11 @@ use Rattle.py_parser.proofs.Tells.{only_op, only_keyword, Hole, Read, Tell, told
 use Rattle.py_parser.proofs.Atoms.{tell_atom, Unders, lift, left_start, told_no_start, either}
 use Rattle.py_parser.proofs.Trails.{tell_trail}
 use Rattle.py_parser.proofs.Rungs.{Known, known, LinksHole, tell_some_links, low_level}
-
 use Rattle.py_tree.specs.Form.{is_target, is_single, many, all_targets}
 use Rattle.py_parser.specs.Words.{line_of}
 use Rattle.py_parser.specs.Statements as S
 use Rattle.py_parser.specs.Statements.{slices, Target, Targets, Loops, Equals}
 use Rattle.py_parser.specs.Lines.{checked, Stop, target_at, targets_at, loops_at, loop_at, equals_at, maybe_at, ends_del, ends_loop, ends_caught, is_newline}
-
 use Rattle.py_parser.proofs.Targets.{ExprsHole, ReadExprs, TellExprs, told_exprs, exprs_word, told_checked, target_any, single_any, target_of, word_target}
 use Rattle.py_parser.proofs.Simple.{exprs_headed}
 use Rattle.py_parser.specs.Words.{assigned, augment_word, is_module, is_member}
@@ -69,11 +67,9 @@ use Rattle.py_tree.specs.declared.stmt.Stmt.TheVariants as st
 use Rattle.py_tree.specs.declared.stmt.Imported.{Imported}
 use Rattle.py_tree.specs.Tall.{tall, talls}
 use Rattle.py_tree.proofs.Talls as ht
-
 use Rattle.py_parser.proofs.Simples.{TargetHole, SliceHole, Targeted, Targeting, told_target, FollowTargets, no_target, another, then_targets, FollowNames, no_name, more_names, then_names, FollowImports, no_import, more_imports, OneImport, then_imports, tell_names, tell_imported, tell_imports, tell_import_name, tell_targets, tell_running, SimpleHole, EndHole, ReadSimple}
 use Rattle.std.proofs.Common.{codes}
 use Rattle.std.specs.Str.{bytes_eq}
-
 use Rattle.py_parser.proofs.Worded.{tell_simple}
 use Rattle.py_parser.specs.Statements.{Line, Parameter, Later, Parameters, Params, Base, Caught, Statement, Suite as Suites, Block, Elifs, Else, Finally, Excepts, Compound}
 use Rattle.py_parser.specs.Lines.{is_indent, is_dedent, is_end, plain_at, line_more, line_at, Suite, body_at, arm_at, elifs_at, clause_at, caught_at, handler_at, handlers_at, try_at, param_at, params_at, def_at, base_at, class_at, Parts, compound_at, is_compound, statement_by, statement_at, suite_at, block_at, line_of_at, statements_at, body_more}
@@ -83,19 +79,15 @@ use Rattle.py_tree.specs.declared.stmt.Clause.{Clause}
 use Rattle.py_tree.specs.declared.stmt.Handler.{Handler}
 use Rattle.py_tree.specs.Tall.{tall_block, tall_arm, tall_arms, tall_clause, tall_handler, tall_handlers, defaults}
 use Rattle.py_parser.proofs.Blocks.{talls_append}
-
 use Rattle.py_parser.proofs.Bodies.{only_newline, only_indent, told_plain, BlockHole, ReadBlock, TellBlock, body0, pass0, block0, tall0, told_body, tell_arm, ArmRead, tell_elifs, tell_clause, tell_try, CompoundHole, ReadCompound}
-
 use Rattle.py_parser.proofs.Compounds.{tell_loop, tell_def, tell_class}
 use Rattle.py_parser.proofs.Bodies.{tell_line}
 use Rattle.py_parser.proofs.Targets.{tell_exprs}
 use Rattle.py_parser.proofs.Levels.{unders}
 use Rattle.py_parser.proofs.Blocks.{statement_long}
-
 use Rattle.py_parser.proofs.Wholes.{tell_compound}
 use Rattle.py_parser.proofs.Bodies.{told_plain, only_newline, only_indent}
 use Rattle.py_parser.specs.Statements.{Body}
-
 use Rattle.py_parser.proofs.Modules.{StatementHole, ReadStatement, TellStatement, tell_statement_at, tell_block}
 use Rattle.py_parser.specs.Refused.{EndsOnce}
 use Rattle.py_parser.proofs.Told.{Took, Stopped}
@@ -370,4 +362,3 @@ mutual
   no_Compound (S.Compound.try_finally _ _ h1 h2) = step refl (step refl (no2 (no_Block h1) (no_Finally h2)))
   no_Compound (S.Compound.def _ _ _ _ _ _ h1 h2) = step refl (step refl (step refl (no2 (no_Params h1) (step refl (step refl (no_Block h2))))))
   no_Compound (S.Compound.class _ _ _ _ h1 h2) = step refl (step refl (no2 (no_Base h1) (step refl (no_Block h2))))
-

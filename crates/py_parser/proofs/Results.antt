@@ -163,9 +163,10 @@ module _ (ts : List Token) (h : EndsOnce ts) (f : Fault) (rest : List Token) (e 
         (body_more (statements_at (more (length (front ++ t ∷ more')) (length ts)) (more y 99)) (more (length (front ++ t ∷ more')) (length ts)) [] (front ++ t ∷ more') ≡ Err (f, t ∷ more')) ×
         Reaches x (body_more (statements_at (more (length (front ++ t ∷ more')) (length ts)) (more y 99)) (more (length (front ++ t ∷ more')) (length ts)) [] (front ++ t ∷ more')) ([] ++ ss) []
     reads_it {x = x} {ss = ss} y more' p i z =
-        let n = length (front ++ t ∷ more') in let big : n ≤ more n (length ts) = omega (arith, more_is n (length ts)) in
-        (again n y (t ∷ more') (subst (λ q. SameFirst q (t ∷ more')) (sym r) refl) z,
-         complete_body (subst (Body x ss) (append_assoc front (t ∷ []) more') p) (more n (length ts)) (more y 99) (more n (length ts)) [] big big i)
+        let n = length (front ++ t ∷ more') in let big : n ≤ more n (length ts) = omega (arith, more_is n (length ts)) in (
+          again n y (t ∷ more') (subst (λ q. SameFirst q (t ∷ more')) (sym r) refl) z,
+          complete_body (subst (Body x ss) (append_assoc front (t ∷ []) more') p) (more n (length ts)) (more y 99) (more n (length ts)) [] big big i,
+        )
 
     none_with : (y : ℕ) → Stays y f → (d : ℕ) → d ≤ more y 99 + 1 → Begins d (front ++ t ∷ []) → ⊥
     none_with y z d i b =
@@ -177,8 +178,9 @@ module _ (ts : List Token) (h : EndsOnce ts) (f : Fault) (rest : List Token) (e 
 
     before : Begins 100 front ⊎ InTarget front
     before = elim (stop 0 0).before.opens [
-        inl o ↦ inl (let m : Module = record { body = o.body } in (m, o.more, o.spells, omega (arith, o.fits refl, module_tall m)))
-      | inr p ↦ let q = p.1 in inr (record { before = q.before; word = q.word; target = q.target; more = q.more; tree = q.tree; split = q.split; place = q.place; spells = q.spells; begins = begins q.shown }) ]
+      | inl o ↦ inl (let m : Module = record { body = o.body } in (m, o.more, o.spells, omega (arith, o.fits refl, module_tall m)))
+      | inr p ↦ let q = p.1 in inr (record { before = q.before; word = q.word; target = q.target; more = q.more; tree = q.tree; split = q.split; place = q.place; spells = q.spells; begins = begins q.shown })
+    ]
 
     really : {m : Mode} {z : List Token} → m.bounded ≡ false → Opens m z → Shown m z
     really e o = elim o.opens [ inl s ↦ s | inr p ↦ no (sym p.0 ∙ e) ]
@@ -216,8 +218,9 @@ module _ (ts : List Token) (h : EndsOnce ts) (f : Fault) (rest : List Token) (e 
       let same : ts ≡ front = (stop 0 0).split ∙ ap (λ z. front ++ z) r ∙ append-nil front in
       let shown = (stop 0 0).before.opens in
       elim shown [
-          inl o ↦ closed same o.body o.more o.spells (omega (arith, o.fits refl))
-        | inr p ↦ let q = p.1 in by_fault f refl same q.shown.body q.shown.more q.shown.spells ]
+        | inl o ↦ closed same o.body o.more o.spells (omega (arith, o.fits refl))
+        | inr p ↦ let q = p.1 in by_fault f refl same q.shown.body q.shown.more q.shown.spells
+      ]
     where
       again_all : (y : ℕ) → Stays y f → body_more (statements_at (more (length ts) (length ts)) (more y 99)) (more (length ts) (length ts)) [] ts ≡ Err (f, [])
       again_all y z = ap (λ q. body_more (statements_at (more (length ts) (length ts)) (more y 99)) (more (length ts) (length ts)) [] q) ((stop 0 0).split ∙ ap (λ z. front ++ z) r) ∙ again (length ts) y [] (subst (λ q. SameFirst q []) (sym r) tt) z
@@ -240,8 +243,9 @@ module _ (ts : List Token) (h : EndsOnce ts) (f : Fault) (rest : List Token) (e 
       by_fault Unexpected q same ss more' p = closed_high same ss more' p (λ y. subst (Stays y) (sym q) tt)
       by_fault (LeftOut c) q same ss more' p = closed_high same ss more' p (λ y. subst (Stays y) (sym q) tt)
       by_fault Deep q same ss more' p = elim ((stop 0 0).ahead q r).opens [
-          inl o ↦ cons_none _ _ (no_more same o.body (at k.End (record { from = 0; to = 0; line = 0 }) ∷ o.more) (subst (Body None o.body) (append_assoc front (at k.End (record { from = 0; to = 0; line = 0 }) ∷ []) o.more) o.spells))
-        | inr w ↦ no (sym w.0) ]
+        | inl o ↦ cons_none _ _ (no_more same o.body (at k.End (record { from = 0; to = 0; line = 0 }) ∷ o.more) (subst (Body None o.body) (append_assoc front (at k.End (record { from = 0; to = 0; line = 0 }) ∷ []) o.more) o.spells))
+        | inr w ↦ no (sym w.0)
+      ]
 
 refused_by : (ts : List Token) (h : EndsOnce ts) (f : Fault) (rest : List Token) → body_more (statements_at (length ts) 99) (length ts) [] ts ≡ Err (f, rest) → RefusedAt ts f (line_of rest)
 refused_by ts h f [] e = absurd (not_none ts h f [] e refl)

@@ -51,13 +51,11 @@ use Rattle.py_parser.proofs.Tells.{only_op, only_keyword, Hole, Read, Tell, told
 use Rattle.py_parser.proofs.Atoms.{tell_atom, Unders, lift, left_start, told_no_start, either}
 use Rattle.py_parser.proofs.Trails.{tell_trail}
 use Rattle.py_parser.proofs.Rungs.{Known, known, LinksHole, tell_some_links, low_level}
-
 use Rattle.py_tree.specs.Form.{is_target, is_single, many, all_targets}
 use Rattle.py_parser.specs.Words.{line_of}
 use Rattle.py_parser.specs.Statements as S
 use Rattle.py_parser.specs.Statements.{slices, Target, Targets, Loops, Equals}
 use Rattle.py_parser.specs.Lines.{checked, Stop, target_at, targets_at, loops_at, loop_at, equals_at, maybe_at, ends_del, ends_loop, ends_caught, is_newline}
-
 use Rattle.py_parser.proofs.Targets.{ExprsHole, ReadExprs, TellExprs, told_exprs, exprs_word, told_checked, target_any, single_any, target_of, word_target}
 use Rattle.py_parser.proofs.Simple.{exprs_headed}
 use Rattle.py_parser.specs.Words.{assigned, augment_word, is_module, is_member}
@@ -161,8 +159,8 @@ module _ (w y : ℕ) where
   tell_names zero found pre (t ∷ ts) l hole = absurd (omega (arith, l))
   tell_names (suc f) found pre ts l hole = told_word (is_op 38) c.comma (only_op 38) refl
       (λ p us q. rw q (told_take (told_need_name _ _ (on word (simp append_assoc) (hole low ([] ∷ []) _ (more_names p (S.Names.one [] p0))))
-        (λ n p2 us2 q2. told_post (λ v vs r. (n ∷ r.0, r.1 ∙ append_assoc found (n ∷ []) r.0, more_names p (then_names n p2 r.2)))
-          (tell_names f (found ++ n ∷ []) ((pre ++ at c.comma p ∷ []) ++ at (k.Name n) p2 ∷ []) us2 (omega (arith, l, ap length q, ap length q2)) (λ m ns vs r. here (simp append_assoc) (hole m (n ∷ ns) _ (more_names p (then_names n p2 r)))))))))
+      (λ n p2 us2 q2. told_post (λ v vs r. (n ∷ r.0, r.1 ∙ append_assoc found (n ∷ []) r.0, more_names p (then_names n p2 r.2)))
+      (tell_names f (found ++ n ∷ []) ((pre ++ at c.comma p ∷ []) ++ at (k.Name n) p2 ∷ []) us2 (omega (arith, l, ap length q, ap length q2)) (λ m ns vs r. here (simp append_assoc) (hole m (n ∷ ns) _ (more_names p (then_names n p2 r)))))))))
       (λ e. told_done ([], sym (append-nil found), no_name))
 
   pub tell_renamed : (pre ts : List Token) → ((m : Mode) (o : Option (List ℕ)) (us : List Token) → Renamed o us → Opens m (pre ++ us)) → Told y pre ts renamed_at Renamed (renamed_at ts)
@@ -189,8 +187,8 @@ module _ (w y : ℕ) where
   unfolding imported_at
   tell_imported may pre ts o wrong hole = told_bind _ _ _ (tell_import_name may pre ts o wrong)
       (λ n fs us q r. told_map (λ m. record { name = n; bound = m }) (tell_renamed (pre ++ fs) us
-          (λ m b vs j. here (simp append_assoc) (hole m (record { name = n; bound = b }) (fs ++ vs) (n, r.0, b, vs, refl, ap (λ z. z ++ vs) r.1, r.2, j))))
-        (λ b vs j. (n, r.0, b, vs, refl, ap (λ z. z ++ vs) r.1, r.2, j)))
+      (λ m b vs j. here (simp append_assoc) (hole m (record { name = n; bound = b }) (fs ++ vs) (n, r.0, b, vs, refl, ap (λ z. z ++ vs) r.1, r.2, j))))
+      (λ b vs j. (n, r.0, b, vs, refl, ap (λ z. z ++ vs) r.1, r.2, j)))
 
   pub tell_imports : (may : List ℕ → Bool) (n0 : List ℕ) → may n0 ≡ true → (f : ℕ) (found : List Imported) (pre ts : List Token) → length ts ≤ f → ((m : Mode) (is : List Imported) (us : List Token) → FollowImports may m.marks is us → Opens m (pre ++ us)) →
       Told y pre ts (imports_at may (more w f) found) (λ v fs. (is : List Imported) × (v ≡ found ++ is) × ((x : Marks) → FollowImports may x is fs)) (imports_at may f found ts)
@@ -203,11 +201,11 @@ module _ (w y : ℕ) where
   tell_imports may n0 e0 zero found pre (t ∷ ts) l hole = absurd (omega (arith, l))
   tell_imports may n0 e0 (suc f) found pre ts l hole = told_word (is_op 38) c.comma (only_op 38) refl
       (λ p us q. rw q (told_take (told_bind _ _ _ (tell_imported may (pre ++ at c.comma p ∷ []) us
-          (on (at (k.Name n0) p0 ∷ []) (simp append_assoc) (hole low (record { name = n0; bound = None } ∷ []) _ (more_imports p (S.Imports.one may None n0 p0 e0 S.Renamed.same))))
-          (λ n p2 e. here (simp append_assoc) (hole (marked left.Import) [] _ (more_imports p (S.Imports.wrong may n p2 e))))
-          (λ m i vs j. here (simp append_assoc) (hole m (i ∷ []) _ (more_imports p (move (Imports may m.marks (i ∷ [])) (append-nil vs) (then_imports may m.marks i vs j (no_import may m.marks)))))))
-        (λ i fs us2 q2 j. told_post (λ v vs r. (i ∷ r.0, r.1 ∙ append_assoc found (i ∷ []) r.0, λ x. more_imports p (then_imports may x i fs j (r.2 x))))
-          (tell_imports may n0 e0 f (found ++ i ∷ []) ((pre ++ at c.comma p ∷ []) ++ fs) us2 (omega (arith, l, ap length q, length_after us fs us2 q2)) (λ m is vs r. here (simp append_assoc) (hole m (i ∷ is) _ (more_imports p (then_imports may m.marks i fs j r)))))))))
+      (on (at (k.Name n0) p0 ∷ []) (simp append_assoc) (hole low (record { name = n0; bound = None } ∷ []) _ (more_imports p (S.Imports.one may None n0 p0 e0 S.Renamed.same))))
+      (λ n p2 e. here (simp append_assoc) (hole (marked left.Import) [] _ (more_imports p (S.Imports.wrong may n p2 e))))
+      (λ m i vs j. here (simp append_assoc) (hole m (i ∷ []) _ (more_imports p (move (Imports may m.marks (i ∷ [])) (append-nil vs) (then_imports may m.marks i vs j (no_import may m.marks)))))))
+      (λ i fs us2 q2 j. told_post (λ v vs r. (i ∷ r.0, r.1 ∙ append_assoc found (i ∷ []) r.0, λ x. more_imports p (then_imports may x i fs j (r.2 x))))
+      (tell_imports may n0 e0 f (found ++ i ∷ []) ((pre ++ at c.comma p ∷ []) ++ fs) us2 (omega (arith, l, ap length q, length_after us fs us2 q2)) (λ m is vs r. here (simp append_assoc) (hole m (i ∷ is) _ (more_imports p (then_imports may m.marks i fs j r)))))))))
       (λ e. told_done ([], sym (append-nil found), no_import may))
 
 module _ (w y g d : ℕ) (under' under : Below) (below : Unders y g d under' under) (exprs : TellExprs y g d (under'.read 15) (under.read 15)) (targets : Targeting y g d under' under) where
@@ -228,13 +226,13 @@ module _ (w y g d : ℕ) (under' under : Below) (below : Unders y g d under' und
   tell_targets zero found pre (t ∷ ts) l i z' hole slice = absurd (omega (arith, l))
   tell_targets (suc f) found pre ts l i z' hole slice = told_word (is_op 38) c.comma (only_op 38) refl
       (λ p us q. rw q (told_take (told_target d _ _ (targets.target ends_del (pre ++ at c.comma p ∷ []) us (placed pre (at c.comma p) refl) (omega (arith, l, i, ap length q))
-          (on word (simp append_assoc) (hole low (ex.Name [] ∷ []) _ (another p (S.Targets.one (word_target None))) (λ b. omega (arith, z', hh.height_name []))))
-          (λ m a us r h. here (simp append_assoc) (hole m (a ∷ []) _ (another p (S.Targets.one r)) (λ b. omega (arith, h b))))
-          (λ a us κ p2 r e. here (simp append_assoc) (slice (a ∷ []) _ κ p2 (another p (S.Targets.one r)) e)))
-        (λ a fs rest q2 is h. told_post (λ v us r. (a ∷ r.0, r.1 ∙ append_assoc found.tree (a ∷ []) r.0, (λ x. another p (then_targets (is x) (r.2 x))), omega (arith, h, r.3)))
-          (tell_targets f (push found (of a)) ((pre ++ at c.comma p ∷ []) ++ fs) rest (omega (arith, l, ap length q, length_after us fs rest q2)) (omega (arith, i)) z'
-            (λ m es us r j. here (simp append_assoc) (hole m (a ∷ es) _ (another p (then_targets (is m.marks) r)) (λ b. omega (arith, h, j b))))
-            (λ es us κ p2 r e. here (simp append_assoc) (slice (a ∷ es) _ κ p2 (another p (then_targets (is (Some left.SliceForm)) r)) e)))))))
+      (on word (simp append_assoc) (hole low (ex.Name [] ∷ []) _ (another p (S.Targets.one (word_target None))) (λ b. omega (arith, z', hh.height_name []))))
+      (λ m a us r h. here (simp append_assoc) (hole m (a ∷ []) _ (another p (S.Targets.one r)) (λ b. omega (arith, h b))))
+      (λ a us κ p2 r e. here (simp append_assoc) (slice (a ∷ []) _ κ p2 (another p (S.Targets.one r)) e)))
+      (λ a fs rest q2 is h. told_post (λ v us r. (a ∷ r.0, r.1 ∙ append_assoc found.tree (a ∷ []) r.0, (λ x. another p (then_targets (is x) (r.2 x))), omega (arith, h, r.3)))
+      (tell_targets f (push found (of a)) ((pre ++ at c.comma p ∷ []) ++ fs) rest (omega (arith, l, ap length q, length_after us fs rest q2)) (omega (arith, i)) z'
+      (λ m es us r j. here (simp append_assoc) (hole m (a ∷ es) _ (another p (then_targets (is m.marks) r)) (λ b. omega (arith, h, j b))))
+      (λ es us κ p2 r e. here (simp append_assoc) (slice (a ∷ es) _ κ p2 (another p (then_targets (is (Some left.SliceForm)) r)) e)))))))
       (λ e. told_done ([], sym (append-nil found.tree), no_target, omega arith))
 
   abbrev pub EqualsHole : List Token → Type 0
@@ -253,17 +251,17 @@ module _ (w y g d : ℕ) (under' under : Below) (below : Unders y g d under' und
   tell_equals (suc f) found pre a fs ts l i is h hole =
       let o : Opens low (pre ++ fs) = hole low [] a _ (S.Equals.value (is None)) (λ b. omega (arith, h)) in
       told_word (is_op 42) c.assign (only_op 42) refl
-        (λ p us q. told_checked (is_op 42) a _ _ o
-          (λ t e p2. move (λ z. Opens (marked left.SliceForm) ((pre ++ fs) ++ z)) (ap (λ z. at z p2 ∷ []) (ap first (sym q))) (on word (simp append_assoc) (hole (marked left.SliceForm) (a ∷ []) (ex.Name []) _ (S.Equals.equals p2 (is (Some left.SliceForm)) t (S.Equals.value (exprs_word (Some left.SliceForm)))) free)))
-          (λ t. let o2 : Opens low ((pre ++ fs) ++ at c.assign p ∷ []) = on word (simp append_assoc) (hole low (a ∷ []) (ex.Name []) _ (S.Equals.equals p (is None) (target_any (is None) t None) (S.Equals.value (exprs_word None))) (λ b. omega (arith, h, hh.height_pos a, hh.height_name []))) in
-            rw q (told_take (told_word (is_keyword 30) c.yield_ (only_keyword 30) refl
-              (λ p3 us3 q3. told_left c.yield_ (ap first q3) o2 (λ p4. here (simp append_assoc) (hole (marked left.Generator) (a ∷ []) (ex.Tuple []) _ (S.Equals.equals p (is (Some left.Generator)) (target_any (is None) t (Some left.Generator)) (S.Equals.yielded p4)) free)))
-              (λ e2. told_exprs d _ _ (exprs ((pre ++ fs) ++ at c.assign p ∷ []) us (omega (arith, l, i, ap length q)) o2
-                  (λ m b us r j. here (simp append_assoc) (hole m (a ∷ []) b _ (S.Equals.equals p (is m.marks) (target_any (is None) t m.marks) (S.Equals.value r)) (λ z. omega (arith, h, j z)))))
-                (λ b gs rest q4 is2 h2. told_post (λ v vs r. (a ∷ r.0, r.1, r.2 ∙ ap (λ z. (z, r.1)) (append_assoc found (a ∷ []) r.0), (λ x. S.Equals.equals p (is x) (target_any (is None) t x) (r.3 x)), omega (arith, h, r.4), λ e. no (sym e)))
-                  (tell_equals f (found ++ a ∷ []) ((pre ++ fs) ++ at c.assign p ∷ []) b gs rest (omega (arith, l, ap length q, length_after us gs rest q4)) (omega (arith, i)) is2 h2
-                    (λ m es b us r j. here (simp append_assoc) (hole m (a ∷ es) b _ (S.Equals.equals p (is m.marks) (target_any (is None) t m.marks) r) (λ z. omega (arith, h, j z)))))))))))
-        (λ e. told_done ([], a, ap (λ z. (z, a)) (sym (append-nil found)), (λ x. S.Equals.value (move (Exprs x a) (sym (append-nil fs)) (is x))), omega (arith, h), λ e x. move (Exprs x a) (sym (append-nil fs)) (is x)))
+      (λ p us q. told_checked (is_op 42) a _ _ o
+      (λ t e p2. move (λ z. Opens (marked left.SliceForm) ((pre ++ fs) ++ z)) (ap (λ z. at z p2 ∷ []) (ap first (sym q))) (on word (simp append_assoc) (hole (marked left.SliceForm) (a ∷ []) (ex.Name []) _ (S.Equals.equals p2 (is (Some left.SliceForm)) t (S.Equals.value (exprs_word (Some left.SliceForm)))) free)))
+      (λ t. let o2 : Opens low ((pre ++ fs) ++ at c.assign p ∷ []) = on word (simp append_assoc) (hole low (a ∷ []) (ex.Name []) _ (S.Equals.equals p (is None) (target_any (is None) t None) (S.Equals.value (exprs_word None))) (λ b. omega (arith, h, hh.height_pos a, hh.height_name []))) in
+      rw q (told_take (told_word (is_keyword 30) c.yield_ (only_keyword 30) refl
+      (λ p3 us3 q3. told_left c.yield_ (ap first q3) o2 (λ p4. here (simp append_assoc) (hole (marked left.Generator) (a ∷ []) (ex.Tuple []) _ (S.Equals.equals p (is (Some left.Generator)) (target_any (is None) t (Some left.Generator)) (S.Equals.yielded p4)) free)))
+      (λ e2. told_exprs d _ _ (exprs ((pre ++ fs) ++ at c.assign p ∷ []) us (omega (arith, l, i, ap length q)) o2
+      (λ m b us r j. here (simp append_assoc) (hole m (a ∷ []) b _ (S.Equals.equals p (is m.marks) (target_any (is None) t m.marks) (S.Equals.value r)) (λ z. omega (arith, h, j z)))))
+      (λ b gs rest q4 is2 h2. told_post (λ v vs r. (a ∷ r.0, r.1, r.2 ∙ ap (λ z. (z, r.1)) (append_assoc found (a ∷ []) r.0), (λ x. S.Equals.equals p (is x) (target_any (is None) t x) (r.3 x)), omega (arith, h, r.4), λ e. no (sym e)))
+      (tell_equals f (found ++ a ∷ []) ((pre ++ fs) ++ at c.assign p ∷ []) b gs rest (omega (arith, l, ap length q, length_after us gs rest q4)) (omega (arith, i)) is2 h2
+      (λ m es b us r j. here (simp append_assoc) (hole m (a ∷ es) b _ (S.Equals.equals p (is m.marks) (target_any (is None) t m.marks) r) (λ z. omega (arith, h, j z)))))))))))
+      (λ e. told_done ([], a, ap (λ z. (z, a)) (sym (append-nil found)), (λ x. S.Equals.value (move (Exprs x a) (sym (append-nil fs)) (is x))), omega (arith, h), λ e x. move (Exprs x a) (sym (append-nil fs)) (is x)))
 
   abbrev pub SimpleHole : List Token → Type 0
   SimpleHole pre = (m : Mode) (a : Stmt) (us : List Token) → Simple m.marks a us → Fits m (tall a) (suc d) → Opens m (pre ++ us)
@@ -291,13 +289,13 @@ module _ (w y g d : ℕ) (under' under : Below) (below : Unders y g d under' und
           let f = there us (k.Op n) fw (λ z. cc) in let f0 = f.0 in
           let o2 : Opens low ((pre ++ fs) ++ at (k.Op n) f.0 ∷ []) = on word (simp append_assoc) (hole low (st.Augment (line_of fs) a o (ex.Name [])) _ (S.Simple.augment n o f.0 aw (is None) (single_any a e None) (exprs_word None)) (λ b. omega (arith, h, hh.height_pos a, hh.height_name [], ht.tall_augment (line_of fs) a o (ex.Name [])))) in
           told_same {X' = λ vs. if is_keyword 30 (first (rest vs)) then Err (LeftOut left.Generator, rest vs) else (under'.read 15 (rest vs) >>= λ b. Ok (st.Augment (line_of ts) a o b.0.tree, b.1))}
-            {q = if is_keyword 30 (first (rest us)) then Err (LeftOut left.Generator, rest us) else (under.read 15 (rest us) >>= λ b. Ok (st.Augment (line_of ts) a o b.0.tree, b.1))} (rw e refl) (λ vs s. rw e refl)
-            (rw f.2 (told_take (told_word (is_keyword 30) c.yield_ (only_keyword 30) refl
-              (λ p us2 q2. told_left c.yield_ (ap first q2) o2 (λ p2. here (simp append_assoc) (hole (marked left.Generator) (st.Augment (line_of fs) a o a) _ (S.Simple.augment_yield n o f0 p2 aw (is (Some left.Generator)) e) free)))
-              (λ e2. told_map (λ b. st.Augment (line_of ts) a o b.tree) (exprs ((pre ++ fs) ++ at (k.Op n) f.0 ∷ []) f.1 (omega (arith, l, ap length f.2)) o2
-                  (λ m b vs r j. here (simp append_assoc) (hole m (st.Augment (line_of fs) a o b) _ (S.Simple.augment n o f0 aw (is m.marks) (single_any a e m.marks) r) (λ z. omega (arith, h, j z, ht.tall_augment (line_of fs) a o b)))))
-                (λ v vs r. let val : st.Augment (line_of ts) a o v.tree ≡ st.Augment (line_of fs) a o r.0 = ap (λ z. st.Augment z a o v.tree) (exprs_line (is None) ts us q) ∙ ap (λ z. st.Augment (line_of fs) a o z.tree) r.1 in
-                  rw val ((λ x. S.Simple.augment n o f0 aw (is x) (single_any a e x) (r.2 x)), omega (arith, h, r.3, ht.tall_augment (line_of fs) a o r.0)))))))
+          {q = if is_keyword 30 (first (rest us)) then Err (LeftOut left.Generator, rest us) else (under.read 15 (rest us) >>= λ b. Ok (st.Augment (line_of ts) a o b.0.tree, b.1))} (rw e refl) (λ vs s. rw e refl)
+          (rw f.2 (told_take (told_word (is_keyword 30) c.yield_ (only_keyword 30) refl
+          (λ p us2 q2. told_left c.yield_ (ap first q2) o2 (λ p2. here (simp append_assoc) (hole (marked left.Generator) (st.Augment (line_of fs) a o a) _ (S.Simple.augment_yield n o f0 p2 aw (is (Some left.Generator)) e) free)))
+          (λ e2. told_map (λ b. st.Augment (line_of ts) a o b.tree) (exprs ((pre ++ fs) ++ at (k.Op n) f.0 ∷ []) f.1 (omega (arith, l, ap length f.2)) o2
+          (λ m b vs r j. here (simp append_assoc) (hole m (st.Augment (line_of fs) a o b) _ (S.Simple.augment n o f0 aw (is m.marks) (single_any a e m.marks) r) (λ z. omega (arith, h, j z, ht.tall_augment (line_of fs) a o b)))))
+          (λ v vs r. let val : st.Augment (line_of ts) a o v.tree ≡ st.Augment (line_of fs) a o r.0 = ap (λ z. st.Augment z a o v.tree) (exprs_line (is None) ts us q) ∙ ap (λ z. st.Augment (line_of fs) a o z.tree) r.1 in
+          rw val ((λ x. S.Simple.augment n o f0 aw (is x) (single_any a e x) (r.2 x)), omega (arith, h, r.3, ht.tall_augment (line_of fs) a o r.0)))))))
       go false e = go2 (is_single true (form a)) refl
         where
           go2 : (b : Bool) → is_single true (form a) ≡ b → Told y (pre ++ fs) us (λ vs. run_at under' (more w g) (line_of ts) (of a, vs) (Some o)) (λ v vs. ReadSimple v (fs ++ vs)) (run_at under g (line_of ts) (of a, us) (Some o))
@@ -328,7 +326,7 @@ module _ (w y g d : ℕ) (under' under : Below) (below : Unders y g d under' und
   unfolding running_at run_at
   tell_running pre ts l o hole = told_line (λ line us. under'.read 15 us >>= λ a. run_at under' (more w g) line a (assigned_of (first a.1)))
       (told_exprs d _ _ (exprs pre ts l o (λ m a us p h. hole m (st.Do (line_of us) a) us (S.Simple.run p) (λ b. omega (arith, h b, ht.tall_do (line_of us) a))))
-        (λ a fs rest q is h. told_kind (λ κ us. run_at under' (more w g) (line_of ts) (of a, us) (assigned_of κ)) (go a fs rest q is h (assigned_of (first rest)) refl)))
+      (λ a fs rest q is h. told_kind (λ κ us. run_at under' (more w g) (line_of ts) (of a, us) (assigned_of κ)) (go a fs rest q is h (assigned_of (first rest)) refl)))
     where
       go : (a : Expr) (fs us : List Token) → ts ≡ fs ++ us → ((x : Marks) → Exprs x a fs) → height a ≤ d → (o : Option Operator) → assigned_of (first us) ≡ o →
           Told y (pre ++ fs) us (λ vs. run_at under' (more w g) (line_of ts) (of a, vs) (assigned_of (first us))) (λ v vs. ReadSimple v (fs ++ vs)) (run_at under g (line_of ts) (of a, us) (assigned_of (first us)))
@@ -336,4 +334,4 @@ module _ (w y g d : ℕ) (under' under : Below) (below : Unders y g d under' und
       go a fs us q is h None e = rw e (told_map (λ v. run_or_assign (line_of ts) v.0 v.1)
           (tell_equals g [] pre a fs us (omega (arith, l, length_after ts fs us q)) (omega arith) is h (λ m es b vs r j. let s = equals_simple m es b vs r in hole m s.0 vs s.1 (λ z. omega (arith, j z, s.2))))
           (λ v vs r. let val : run_or_assign (line_of ts) v.0 v.1 ≡ run_or_assign (line_of ts) r.0 r.1 = ap (λ z. run_or_assign (line_of ts) z.0 z.1) r.2 in
-            rw val ((λ x. run_value (line_of ts) r.0 r.1 (fs ++ vs) x (exprs_line (is None) ts us q ∙ sym (line_front fs vs (long (exprs_headed (is None))))) (r.3 x) (λ e. r.5 e x)), omega (arith, r.4, run_height (line_of ts) r.0 r.1))))
+          rw val ((λ x. run_value (line_of ts) r.0 r.1 (fs ++ vs) x (exprs_line (is None) ts us q ∙ sym (line_front fs vs (long (exprs_headed (is None))))) (r.3 x) (λ e. r.5 e x)), omega (arith, r.4, run_height (line_of ts) r.0 r.1))))

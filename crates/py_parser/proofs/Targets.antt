@@ -51,7 +51,6 @@ use Rattle.py_parser.proofs.Tells.{only_op, only_keyword, Hole, Read, Tell, told
 use Rattle.py_parser.proofs.Atoms.{tell_atom, Unders, lift, left_start, told_no_start, either}
 use Rattle.py_parser.proofs.Trails.{tell_trail}
 use Rattle.py_parser.proofs.Rungs.{Known, known, LinksHole, tell_some_links, low_level}
-
 use Rattle.py_tree.specs.Form.{is_target, is_single, many, all_targets}
 use Rattle.py_parser.proofs.Levels.{unders, tell_after}
 use Rattle.py_parser.specs.Words.{line_of}
@@ -101,8 +100,8 @@ more_15 : (w y g d : ℕ) → TellExprs y g (suc d) ((reads (more w g) (more y (
 unfolding reads level_at
 more_15 w y g d pre ts l o hole =
     told_read 14 (suc d) _ _ ((unders w y g (suc d)).read 14 (omega arith) pre ts l o (λ m a us p h. hole m a us (G.single p) h))
-      (λ a fs rest q is h. told_post (λ v us r. (r.0, r.1, (λ x. then_exprs (is x) (r.2 x)), r.3))
-        (tell_after w y g d (reads (more w g) (more y d)) (reads g d) (unders w y g d) a (pre ++ fs) rest (omega (arith, l, length_after ts fs rest q)) h (λ m b us r j. near m pre fs us (hole m b (fs ++ us) (then_exprs (is m.marks) r) j))))
+    (λ a fs rest q is h. told_post (λ v us r. (r.0, r.1, (λ x. then_exprs (is x) (r.2 x)), r.3))
+    (tell_after w y g d (reads (more w g) (more y d)) (reads g d) (unders w y g d) a (pre ++ fs) rest (omega (arith, l, length_after ts fs rest q)) h (λ m b us r j. near m pre fs us (hole m b (fs ++ us) (then_exprs (is m.marks) r) j))))
 
 pub tell_exprs : (w y g d : ℕ) → TellExprs y g d ((reads (more w g) (more y d)).read 15) ((reads g d).read 15)
 tell_exprs w y g zero pre ts l o hole = subst (λ z. Told y pre ts ((reads (more w g) (more y 0)).read 15) (ReadExprs 0) z) (sym (zero_15 g ts))

@@ -67,9 +67,12 @@ pub record Opens (m : Mode) (ts : List Token) : Type 0 where
   pub opens : Shown m ts ⊎ ((m.bounded ≡ true) × Corner m ts)
 
 pub cut : (m : Mode) (ts us : List Token) → Opens m (ts ++ us) → Opens m ts
-cut m ts us o = record { opens = elim o.opens [
-    inl s ↦ inl (cut_shown m ts us s)
-  | inr p ↦ let q = p.1 in inr (p.0, record { before = q.before; word = q.word; target = q.target; more = us ++ q.more; tree = q.tree; split = sym (append_assoc ts us q.more) ∙ q.split; place = q.place; spells = q.spells; shown = cut_shown (unbounded m) ts us q.shown }) ] }
+cut m ts us o = record {
+  opens = elim o.opens [
+    | inl s ↦ inl (cut_shown m ts us s)
+    | inr p ↦ let q = p.1 in inr (p.0, record { before = q.before; word = q.word; target = q.target; more = us ++ q.more; tree = q.tree; split = sym (append_assoc ts us q.more) ∙ q.split; place = q.place; spells = q.spells; shown = cut_shown (unbounded m) ts us q.shown })
+  ];
+}
 
 -- where a target has to stand
 abbrev pub TargetPlace : List Token → Type 0
@@ -276,7 +279,7 @@ told_take {pre = pre} {r = Err x} {t = t} q = let p = q.tells in record {
     split = ap (λ z. t ∷ z) p.split;
     before = subst (Opens low) (append_assoc pre (t ∷ []) p.front) p.before;
     beyond = λ u us e. subst (λ z. Beyond x.0 (z ++ u ∷ [])) (append_assoc pre (t ∷ []) p.front) (p.beyond u us e);
-  ahead = λ d e. subst (λ z. Opens any (z ++ at k.End (record { from = 0; to = 0; line = 0 }) ∷ [])) (append_assoc pre (t ∷ []) p.front) (p.ahead d e);
+    ahead = λ d e. subst (λ z. Opens any (z ++ at k.End (record { from = 0; to = 0; line = 0 }) ∷ [])) (append_assoc pre (t ∷ []) p.front) (p.ahead d e);
     same = p.same;
   };
 }
@@ -321,7 +324,7 @@ told_bind {A = A} {B = B} {y = y} {pre = pre} {ts = ts} {again = again} {r = Ok 
         split = q.tells.split ∙ ap (λ z. q.tells.front ++ z) p.split ∙ sym (append_assoc q.tells.front p.front z.1);
         before = subst (Opens low) (append_assoc pre q.tells.front p.front) p.before;
         beyond = λ t us e. subst (λ w. Beyond z.0 (w ++ t ∷ [])) (append_assoc pre q.tells.front p.front) (p.beyond t us e);
-      ahead = λ d e. subst (λ w. Opens any (w ++ at k.End (record { from = 0; to = 0; line = 0 }) ∷ [])) (append_assoc pre q.tells.front p.front) (p.ahead d e);
+        ahead = λ d e. subst (λ w. Opens any (w ++ at k.End (record { from = 0; to = 0; line = 0 }) ∷ [])) (append_assoc pre q.tells.front p.front) (p.ahead d e);
         same = λ us s h. follows p.front z.1 us (Err (z.0, us)) p.split s (p.same us s h);
       };
     }
@@ -362,9 +365,16 @@ told_room {A = A} {y = y} {pre = pre} {ts = ts} {X' = X'} {X = X} {Q = Q} d n κ
     small e = let i : n ≤ d = grind (arith, e) in let j : n ≤ more y d = omega (arith, more_is y d) in grind (arith, j)
 
     go : (b : Bool) → nat_le n d ≡ b → Told y pre ts (λ us. if nat_le n (more y d) then X' us else Err (Deep, us)) Q (if nat_le n d then X else Err (Deep, ts))
-    go false e = rw e (record { tells = record { front = []; split = refl; before = alone low pre o;
-      beyond = λ t us q. subst (λ z. Opens any (z ++ t ∷ [])) (sym (append-nil pre)) (subst (λ z. Opens any (pre ++ z ∷ [])) (sym (first_token ts κ t us w q)) (b _)); ahead = λ dd r. subst (λ z. Opens any (z ++ at k.End (record { from = 0; to = 0; line = 0 }) ∷ [])) (sym (append-nil pre)) (subst (λ z. Opens any (pre ++ at z (record { from = 0; to = 0; line = 0 }) ∷ [])) (sym w ∙ ap first r) (b (record { from = 0; to = 0; line = 0 })));
-      same = λ us s z. let i : more y d ≡ d = omega (arith, more_is y d, z) in rw i (rw e refl) } })
+    go false e = rw e (record {
+      tells = record {
+        front = [];
+        split = refl;
+        before = alone low pre o;
+        beyond = λ t us q. subst (λ z. Opens any (z ++ t ∷ [])) (sym (append-nil pre)) (subst (λ z. Opens any (pre ++ z ∷ [])) (sym (first_token ts κ t us w q)) (b _));
+        ahead = λ dd r. subst (λ z. Opens any (z ++ at k.End (record { from = 0; to = 0; line = 0 }) ∷ [])) (sym (append-nil pre)) (subst (λ z. Opens any (pre ++ at z (record { from = 0; to = 0; line = 0 }) ∷ [])) (sym w ∙ ap first r) (b (record { from = 0; to = 0; line = 0 })));
+        same = λ us s z. let i : more y d ≡ d = omega (arith, more_is y d, z) in rw i (rw e refl);
+      };
+    })
     go true e = told_same {X' = X'} {q = X} (rw e refl) (λ us s. rw (small e) refl) (h (grind (arith, e)))
 
 -- a refusal in another reader's words
