@@ -1,5 +1,5 @@
 -- What reading atoms and trailers tells.
-use Rattle.std.proofs.Common.{◌≡◌, ℕ, ℤ, zero, suc, ◌+◌, ◌-◌, ◌<◌, ◌≤◌, max, ◌==◌, nat_eq, nat_lt, nat_le, Bool, true, false, not, ◌&&◌, ◌||◌, List, [], ◌∷◌, ◌++◌, length, Result, Ok, Err, Option, Some, None, ◌⊎◌, inl, inr, refl, sym, ap, ◌∙◌, subst, append_assoc, append-nil, arith, length-append, eq-eqb, le-ltb, if◌then◌else◌}
+use Rattle.std.proofs.Common.{◌≡◌, ℕ, zero, suc, ◌≤◌, ◌==◌, nat_le, Bool, true, false, ◌&&◌, ◌||◌, List, [], ◌∷◌, ◌++◌, length, Ok, Err, Option, Some, None, ◌⊎◌, inl, inr, refl, sym, ap, ◌∙◌, subst, append_assoc, append-nil, arith, if◌then◌else◌}
 use Rattle.py_tokens.specs.declared.token.Token.{Token}
 use Rattle.py_tokens.specs.declared.token.TokenKind.{TokenKind}
 use Rattle.py_tokens.specs.declared.token.TokenKind.TheVariants as k
@@ -8,41 +8,24 @@ use Rattle.py_tokens.specs.declared.token.Place.{Place}
 use Rattle.py_tokens.specs.Place.{token_at as at}
 use Rattle.py_tree.specs.declared.expr.Expr.{Expr}
 use Rattle.py_tree.specs.declared.expr.Expr.TheVariants as ex
-use Rattle.py_tree.specs.declared.form.Form.{Form}
-use Rattle.py_tree.specs.declared.form.Form.TheVariants.{Bare, Part, Cut, Many, Plain}
-use Rattle.py_tree.specs.declared.expr.Link.{Link}
+use Rattle.py_tree.specs.declared.form.Form.TheVariants.{Plain}
 use Rattle.py_tree.specs.declared.expr.Pair.{Pair}
-use Rattle.py_tree.specs.declared.expr.Named.{Named}
-use Rattle.py_tree.specs.declared.expr.Trailer.{Trailer}
-use Rattle.py_tree.specs.declared.expr.Trailer.TheVariants as t
-use Rattle.py_tree.specs.declared.expr.Sign.{Sign}
-use Rattle.py_tree.specs.declared.expr.Level.{Level}
-use Rattle.py_tree.specs.declared.expr.Level.TheVariants as level
-use Rattle.py_tree.specs.declared.expr.Operator.{Operator}
-use Rattle.py_tree.specs.declared.expr.Operator.TheVariants as op
-use Rattle.py_tree.specs.Height.{height, tops, tops_links, tops_pairs, tops_named, tops_trailers, height_trailer, top_or}
-use Rattle.py_tree.specs.Form.{form, form_trailer}
+use Rattle.py_tree.specs.Height.{height, tops_pairs}
 use Rattle.py_tree.proofs.Heights as hh
 use Rattle.py_data.specs.declared.refusal.Construct.{Construct}
 use Rattle.py_data.specs.declared.refusal.Construct.TheVariants as left
-use Rattle.py_parser.specs.declared.fault.Fault.{Fault}
-use Rattle.py_parser.specs.declared.fault.Fault.TheVariants.{Unexpected, LeftOut, Deep}
 use Rattle.py_parser.specs.Codes as c
-use Rattle.py_parser.specs.Words.{below, level_of, first_word, spelled, sign_word}
 use Rattle.py_parser.specs.Grammar as G
 use Rattle.py_parser.specs.Grammar.{Marks, Is, Strings, Tests, Commas, Exprs, Pairs, Links, Trailers, Trails, Maybe, Args}
 use Rattle.py_parser.specs.declared.tall.Tall.{Tall}
-use Rattle.py_parser.specs.Tall.{plain, push, none, start, joined, push_link, push_pair, push_named, push_trailer, of_name, of_int, of_string, of_group, unit, of_tuple, of_list, of_dict, of_trail, of_power, of_sign, of_chain, of_not, of_choice, of_attribute, of_index, of_slice, of_call}
-use Rattle.py_parser.specs.declared.rung.Rung.{Rung}
-use Rattle.py_parser.specs.declared.rung.Rung.TheVariants.{Trailed, Powered, Signed, Chained, Negated, Chosen, Listed}
-use Rattle.py_parser.specs.Reading.{no_start, joined as joined_strings, name_or, name_of, string_of, is_unicode, strings_at, Reads, Reader, Test, ◌>>=◌, Below, first, rest, is_op, is_keyword, comes, starts, left_at, is_some, rung_of, rung_at, level_at, reads, atom_at, trail_at, power_at, chain_at, choice_at, after_at, signed, sign_of, trails, links, links_at, round_at, round_close, list_at, list_close, dict_at, dict_close, dict_value, atom_of, pairs_at, tests_at, keyword_at, op_at, name_at}
+use Rattle.py_parser.specs.Tall.{plain, start, push_pair, of_string, of_tuple, of_list, of_dict}
+use Rattle.py_parser.specs.Reading.{no_start, Test, Below, first, rest, is_op, is_keyword, comes, left_at, is_some, atom_at, round_at, round_close, list_at, list_close, dict_at, dict_close, dict_value, atom_of, pairs_at}
 use Rattle.py_parser.proofs.Steps.{of}
-use Rattle.py_parser.proofs.Facts.{no, apart, some_inj}
-use Rattle.py_parser.proofs.Complete.{tests_nil, pairs_nil, named_nil, trailers_nil, s_pairs_end, s_trailers_end}
-use Rattle.py_parser.proofs.Begin.{s_tests_end, s_strings_end}
-use Rattle.py_parser.proofs.Values.{plus_tests, push_tests, plus_links, push_links, plus_pairs, push_pairs, plus_named, push_nameds, plus_trailers, push_trailers, of_r, of_or, same, as_name, as_int, as_string, as_group, as_unit, as_tuple, as_no_list, as_list, as_dict, as_trail, as_power, as_sign, as_chain, as_not, as_choice, as_attribute, as_index, as_slice, as_call}
-use Rattle.py_parser.proofs.Told.{Mode, any, low, marked, Fits, Opens, cut, near, alone, SameFirst, same_first, with_first, with_none, more, more_is, Told, told_done, told_ends, told_refused, told_left, told_as, told_same, told_if, told_deep, told_post, told_take, told_word, told_bind, told_map, told_kind, on, here, move, within, bare, there}
-use Rattle.py_parser.proofs.Tells.{only_op, only_keyword, Hole, Read, Tell, told_read, told_need, told_need_word, told_need_name, only_name, only_string, p0, word, is_word, free, length_after, Commaed, trailing, further, Following, no_more, commaed, then_tests, then_commas, AfterTest, itself, tupled, then_exprs, MoreStrings, no_string, strung, then_strings, tell_strings, Listing, Commaing, tell_tests, tell_commas}
+use Rattle.py_parser.proofs.Facts.{no, some_inj}
+use Rattle.py_parser.proofs.Complete.{pairs_nil, s_pairs_end}
+use Rattle.py_parser.proofs.Values.{plus_pairs, push_pairs, as_name, as_int, as_string, as_group, as_unit, as_tuple, as_no_list, as_list, as_dict}
+use Rattle.py_parser.proofs.Told.{Mode, low, marked, Fits, Opens, with_none, more, Told, told_done, told_ends, told_refused, told_left, told_same, told_if, told_post, told_take, told_word, told_bind, told_map, told_kind, on, here, move, there}
+use Rattle.py_parser.proofs.Tells.{only_op, only_keyword, Hole, Read, Tell, told_read, told_need, p0, word, is_word, free, length_after, then_tests, then_commas, AfterTest, then_strings, tell_strings, tell_tests, tell_commas}
 
 -- What expressions below tell: a level of them, and a comma after a test.
 pub record Unders (y g d : ℕ) (under' under : Below) : Type 0 where

@@ -1,84 +1,43 @@
 -- What reading compound statements tells.
-use Rattle.std.proofs.Common.{◌≡◌, ℕ, ℤ, zero, suc, ◌+◌, ◌-◌, ◌<◌, ◌≤◌, max, ◌==◌, nat_eq, nat_lt, nat_le, Bool, true, false, not, ◌&&◌, ◌||◌, List, [], ◌∷◌, ◌++◌, length, Result, Ok, Err, Option, Some, None, ◌⊎◌, inl, inr, refl, sym, ap, ◌∙◌, subst, append_assoc, append-nil, arith, length-append, eq-eqb, le-ltb, if◌then◌else◌}
+use Rattle.std.proofs.Common.{◌≡◌, ℕ, zero, suc, ◌+◌, ◌<◌, ◌≤◌, max, Bool, true, false, ◌&&◌, ◌||◌, List, [], ◌∷◌, ◌++◌, length, Ok, Err, Option, Some, None, inl, inr, refl, sym, ap, ◌∙◌, subst, append_assoc, append-nil, arith, if◌then◌else◌}
 use Rattle.py_tokens.specs.declared.token.Token.{Token}
 use Rattle.py_tokens.specs.declared.token.TokenKind.{TokenKind}
 use Rattle.py_tokens.specs.declared.token.TokenKind.TheVariants as k
-use Rattle.py_tokens.specs.declared.token.Other.TheVariants as other
 use Rattle.py_tokens.specs.declared.token.Place.{Place}
 use Rattle.py_tokens.specs.Place.{token_at as at}
 use Rattle.py_tree.specs.declared.expr.Expr.{Expr}
 use Rattle.py_tree.specs.declared.expr.Expr.TheVariants as ex
-use Rattle.py_tree.proofs.Forms as ff
-use Rattle.py_tree.specs.Form.{last_form}
-use Rattle.std.proofs.Common.{map}
-use Rattle.py_tree.specs.declared.form.Form.{Form}
-use Rattle.py_tree.specs.declared.form.Form.TheVariants.{Bare, Part, Cut, Many, Plain}
-use Rattle.py_tree.specs.declared.expr.Link.{Link}
-use Rattle.py_tree.specs.declared.expr.Pair.{Pair}
-use Rattle.py_tree.specs.declared.expr.Named.{Named}
-use Rattle.py_tree.specs.declared.expr.Trailer.{Trailer}
-use Rattle.py_tree.specs.declared.expr.Trailer.TheVariants as t
-use Rattle.py_tree.specs.declared.expr.Sign.{Sign}
-use Rattle.py_tree.specs.declared.expr.Sign.TheVariants as sign
-use Rattle.py_tree.specs.declared.expr.Level.{Level}
-use Rattle.py_tree.specs.declared.expr.Level.TheVariants as level
-use Rattle.py_tree.specs.declared.expr.Operator.{Operator}
-use Rattle.py_tree.specs.declared.expr.Operator.TheVariants as op
-use Rattle.py_tree.specs.Height.{height, tops, tops_links, tops_pairs, tops_named, tops_trailers, height_trailer, top_or}
-use Rattle.py_tree.specs.Form.{is_target, is_single, many, all_targets, form, form_trailer}
+use Rattle.py_tree.specs.Height.{height, tops, top_or}
 use Rattle.py_tree.proofs.Heights as hh
-use Rattle.py_data.specs.declared.refusal.Construct.{Construct}
 use Rattle.py_data.specs.declared.refusal.Construct.TheVariants as left
-use Rattle.py_parser.specs.declared.fault.Fault.{Fault}
-use Rattle.py_parser.specs.declared.fault.Fault.TheVariants.{Unexpected, LeftOut, Deep}
+use Rattle.py_parser.specs.declared.fault.Fault.TheVariants.{Unexpected, LeftOut}
 use Rattle.py_parser.specs.Codes as c
-use Rattle.py_parser.specs.Words.{more_words, below, level_of, first_word, spelled, sign_word}
 use Rattle.py_parser.specs.Grammar as G
 use Rattle.py_parser.specs.Grammar.{Marks, Is, Strings, Tests, Commas, Exprs, Pairs, Links, Trailers, Trails, Maybe, Args}
 use Rattle.py_parser.specs.declared.tall.Tall.{Tall}
-use Rattle.py_parser.specs.Tall.{tree_or, plain, push, start as start', joined, push_link, push_pair, push_named, push_trailer, of_name, of_int, of_string, of_group, unit, of_tuple, of_list, of_dict, of_trail, of_power, of_sign, of_chain, of_not, of_choice, of_attribute, of_index, of_slice, of_call}
-use Rattle.py_parser.specs.declared.rung.Rung.{Rung}
-use Rattle.py_parser.specs.declared.rung.Rung.TheVariants.{Trailed, Powered, Signed, Chained, Negated, Chosen, Listed}
-use Rattle.py_parser.specs.Reading.{linked, operator_of, operator_rest, too_deep, named_at, args_at, arg_by, keyed, is_bare, is_none, slice_close, slice_at, index_close, subscript_at, call_at, trailer_at, trailers_at, no_start, joined as joined_strings, name_or, name_of, string_of, is_unicode, strings_at, Reads, Reader, Test, ◌>>=◌, Below, first, rest, is_op, is_keyword, comes, starts, left_at, is_some, rung_of, rung_at, level_at, reads, atom_at, trail_at, power_at, chain_at, choice_at, after_at, signed, sign_of, trails, links, links_at, round_at, round_close, list_at, list_close, dict_at, dict_close, dict_value, atom_of, pairs_at, tests_at, keyword_at, op_at, name_at}
-use Rattle.py_parser.proofs.Steps.{of, none_of}
-use Rattle.py_parser.proofs.Facts.{or_mono, and_mono, word_links, rung_below, below_small, no, apart, some_inj, and_left, and_right}
-use Rattle.py_parser.proofs.Complete.{tests_nil, pairs_nil, named_nil, trailers_nil, s_pairs_end, s_trailers_end, s_named_end, trail_long, links_nil, s_links_end}
-use Rattle.py_parser.proofs.Begin.{s_tests_end, s_strings_end, long, headed}
-use Rattle.py_parser.proofs.Values.{plus_tests, push_tests, plus_links, push_links, plus_pairs, push_pairs, plus_named, push_nameds, plus_trailers, push_trailers, of_r, of_or, same, as_name, as_int, as_string, as_group, as_unit, as_tuple, as_no_list, as_list, as_dict, as_trail, as_power, as_sign, as_chain, as_not, as_choice, as_attribute, as_index, as_slice, as_call}
-use Rattle.py_parser.specs.Follow.{heads}
-use Rattle.py_parser.proofs.Told.{TargetPlace, placed, Stays, Beyond, Mode, any, low, marked, Fits, Opens, cut, near, alone, SameFirst, same_first, with_first, with_none, more, more_is, Told, told_done, told_ends, told_refused, told_left, told_as, told_same, told_if, told_deep, told_post, told_take, told_word, told_bind, told_map, told_case, told_when, told_line, told_room, told_err, told_kind, told_pre, on, here, move, within, bare, there}
-use Rattle.py_parser.proofs.Tells.{only_op, only_keyword, Hole, Read, Tell, told_read, told_need, told_need_word, told_need_name, only_name, only_string, p0, word, is_word, free, length_after, Commaed, trailing, further, Following, no_more, commaed, then_tests, then_commas, AfterTest, itself, tupled, then_exprs, MoreStrings, no_string, strung, then_strings, tell_strings, Listing, Commaing, tell_tests, tell_commas}
-use Rattle.py_parser.proofs.Atoms.{tell_atom, Unders, lift, left_start, told_no_start, either}
-use Rattle.py_parser.proofs.Trails.{tell_trail}
-use Rattle.py_parser.proofs.Rungs.{Known, known, LinksHole, tell_some_links, low_level}
-use Rattle.py_tree.specs.Form.{is_target, is_single, many, all_targets}
-use Rattle.py_parser.specs.Words.{line_of}
+use Rattle.py_parser.specs.Tall.{tree_or, push, start as start', of_tuple}
+use Rattle.py_parser.specs.Reading.{◌>>=◌, Below, first, is_op, is_keyword, comes, is_some, op_at}
+use Rattle.py_parser.proofs.Steps.{of}
+use Rattle.py_parser.proofs.Facts.{no, and_left, and_right}
+use Rattle.py_parser.proofs.Complete.{tests_nil}
+use Rattle.py_parser.proofs.Values.{plus_tests, push_tests, of_or, as_tuple}
+use Rattle.py_parser.proofs.Told.{TargetPlace, placed, Mode, any, low, marked, Fits, Opens, near, with_none, more, Told, told_done, told_ends, told_refused, told_left, told_as, told_if, told_post, told_take, told_word, told_bind, told_map, told_when, told_room, on, here, move, there}
+use Rattle.py_parser.proofs.Tells.{only_op, only_keyword, told_need, told_need_name, p0, word, is_word, free, length_after}
+use Rattle.py_parser.proofs.Atoms.{Unders, either}
 use Rattle.py_parser.specs.Statements as S
 use Rattle.py_parser.specs.Statements.{slices, Target, Targets, Loops, Equals}
-use Rattle.py_parser.specs.Lines.{checked, Stop, target_at, targets_at, loops_at, loop_at, equals_at, maybe_at, ends_del, ends_loop, ends_caught, is_newline}
-use Rattle.py_parser.proofs.Targets.{ExprsHole, ReadExprs, TellExprs, told_exprs, exprs_word, told_checked, target_any, single_any, target_of, word_target}
-use Rattle.py_parser.proofs.Simple.{exprs_headed}
-use Rattle.py_parser.specs.Words.{assigned, augment_word, is_module, is_member}
+use Rattle.py_parser.specs.Lines.{loops_at, loop_at, maybe_at, ends_loop}
 use Rattle.py_parser.specs.Statements.{Names, Renamed, Imports, Simple}
-use Rattle.py_parser.specs.Lines.{run_or_assign, assigned_of, run_at, names_at, import_name_at, renamed_at, imported_at, imports_at, print_at, raise_at, assert_at, from_at, worded_at, running_at, simple_by, simple_at}
 use Rattle.py_tree.specs.declared.stmt.Stmt.{Stmt}
 use Rattle.py_tree.specs.declared.stmt.Stmt.TheVariants as st
-use Rattle.py_tree.specs.declared.stmt.Imported.{Imported}
-use Rattle.py_tree.specs.Tall.{tall, talls}
+use Rattle.py_tree.specs.Tall.{tall}
 use Rattle.py_tree.proofs.Talls as ht
-use Rattle.py_parser.proofs.Simples.{TargetHole, SliceHole, Targeted, Targeting, told_target, FollowTargets, no_target, another, then_targets, FollowNames, no_name, more_names, then_names, FollowImports, no_import, more_imports, OneImport, then_imports, tell_names, tell_imported, tell_imports, tell_import_name, tell_targets, tell_running, SimpleHole, EndHole, ReadSimple}
-use Rattle.std.proofs.Common.{codes}
-use Rattle.std.specs.Str.{bytes_eq}
-use Rattle.py_parser.proofs.Worded.{tell_simple}
+use Rattle.py_parser.proofs.Simples.{Targeting, told_target, FollowTargets, no_target, another, then_targets}
 use Rattle.py_parser.specs.Statements.{Line, Parameter, Later, Parameters, Params, Base, Caught, Statement, Suite as Suites, Block, Elifs, Else, Finally, Excepts, Compound}
-use Rattle.py_parser.specs.Lines.{is_indent, is_dedent, is_end, plain_at, line_more, line_at, Suite, body_at, arm_at, elifs_at, clause_at, caught_at, handler_at, handlers_at, try_at, param_at, params_at, def_at, base_at, class_at, Parts, compound_at, is_compound, statement_by, statement_at, suite_at, block_at, line_of_at, statements_at, body_more}
+use Rattle.py_parser.specs.Lines.{Suite, param_at, params_at, def_at, base_at, class_at}
 use Rattle.py_tree.specs.declared.stmt.Param.{Param}
-use Rattle.py_tree.specs.declared.stmt.Arm.{Arm}
-use Rattle.py_tree.specs.declared.stmt.Clause.{Clause}
-use Rattle.py_tree.specs.declared.stmt.Handler.{Handler}
-use Rattle.py_tree.specs.Tall.{tall_block, tall_arm, tall_arms, tall_clause, tall_handler, tall_handlers, defaults}
-use Rattle.py_parser.proofs.Blocks.{talls_append}
-use Rattle.py_parser.proofs.Bodies.{only_newline, only_indent, told_plain, BlockHole, ReadBlock, TellBlock, body0, pass0, block0, tall0, told_body, tell_arm, ArmRead, tell_elifs, tell_clause, tell_try, CompoundHole, ReadCompound}
+use Rattle.py_tree.specs.Tall.{tall_block, defaults}
+use Rattle.py_parser.proofs.Bodies.{TellBlock, body0, pass0, block0, tall0, told_body}
 
 tree_of : (o : Option Expr) → tree_or (of_or o) ≡ o
 tree_of None = refl

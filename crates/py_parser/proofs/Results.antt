@@ -1,5 +1,5 @@
 -- What the reading of a module answers: a module of these tokens and of a height of at most 100, every such module, or where and why there is none.
-use Rattle.std.proofs.Common.{◌≡◌, ℕ, zero, suc, ◌+◌, ◌≤◌, ◌<◌, max, Bool, true, false, List, [], ◌∷◌, ◌++◌, length, Result, Ok, Err, Option, Some, None, ◌⊎◌, inl, inr, refl, sym, ap, ◌∙◌, subst, append_assoc, append-nil, arith, length-append}
+use Rattle.std.proofs.Common.{◌≡◌, ℕ, ◌+◌, ◌≤◌, ◌<◌, max, Bool, true, false, List, [], ◌∷◌, ◌++◌, length, Ok, Err, None, ◌⊎◌, inl, inr, refl, sym, ap, ◌∙◌, subst, append_assoc, append-nil, arith, length-append}
 use Rattle.py_data.specs.declared.refusal.Construct.{Construct}
 use Rattle.py_tokens.specs.declared.token.Token.{Token}
 use Rattle.py_tokens.specs.declared.token.TokenKind.TheVariants as k
@@ -16,7 +16,7 @@ use Rattle.py_parser.specs.Statements.{Body, IsModule}
 use Rattle.py_parser.specs.Words.{line_of}
 use Rattle.py_parser.specs.Reading.{Reads, ◌>>=◌, is_some}
 use Rattle.py_parser.specs.Lines.{statements_at, body_more, module_at}
-use Rattle.py_parser.specs.Refused.{InTarget, Begins, BeginsWith, NoneBegins, Because, RefusedAt, EndsOnce}
+use Rattle.py_parser.specs.Refused.{InTarget, Begins, BeginsWith, Because, RefusedAt, EndsOnce}
 use Rattle.py_parser.proofs.Steps.{Reaches}
 use Rattle.py_parser.proofs.Facts.{no}
 use Rattle.py_parser.proofs.Blocks.{highest_talls}
@@ -25,7 +25,7 @@ use Rattle.py_parser.specs.Parses.{Parses}
 use Rattle.py_parser.specs.Outcome.{Fails}
 use Rattle.py_parser.specs.declared.error.ParseError.{ParseError}
 use Rattle.py_parser.specs.declared.error.ParseError.TheVariants.{Refused, OutOfMemory}
-use Rattle.py_parser.proofs.Told.{Beyond, Mode, any, low, marked, Fits, Opens, Shown, SameFirst, more, more_is, Stays, Told, Took, Stopped}
+use Rattle.py_parser.proofs.Told.{Beyond, Mode, any, Opens, Shown, SameFirst, more, more_is, Stays, Told, Stopped}
 use Rattle.py_parser.proofs.NoEnd.{NoEnd, nil, step, no2, no_Statement}
 use Rattle.py_parser.proofs.Steps.{or_left}
 use Rattle.py_parser.proofs.Begin.{or_right}

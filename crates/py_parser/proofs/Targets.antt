@@ -1,5 +1,5 @@
 -- What reading several expressions and targets tells.
-use Rattle.std.proofs.Common.{◌≡◌, ℕ, ℤ, zero, suc, ◌+◌, ◌-◌, ◌<◌, ◌≤◌, max, ◌==◌, nat_eq, nat_lt, nat_le, Bool, true, false, not, ◌&&◌, ◌||◌, List, [], ◌∷◌, ◌++◌, length, Result, Ok, Err, Option, Some, None, ◌⊎◌, inl, inr, refl, sym, ap, ◌∙◌, subst, append_assoc, append-nil, arith, length-append, eq-eqb, le-ltb, if◌then◌else◌}
+use Rattle.std.proofs.Common.{◌≡◌, ℕ, zero, suc, ◌≤◌, Bool, true, false, ◌&&◌, List, [], ◌∷◌, ◌++◌, length, Err, Some, None, refl, sym, ap, ◌∙◌, subst, arith}
 use Rattle.py_tokens.specs.declared.token.Token.{Token}
 use Rattle.py_tokens.specs.declared.token.TokenKind.{TokenKind}
 use Rattle.py_tokens.specs.declared.token.TokenKind.TheVariants as k
@@ -13,50 +13,24 @@ use Rattle.py_tree.specs.Form.{last_form}
 use Rattle.std.proofs.Common.{map}
 use Rattle.py_tree.specs.declared.form.Form.{Form}
 use Rattle.py_tree.specs.declared.form.Form.TheVariants.{Bare, Part, Cut, Many, Plain}
-use Rattle.py_tree.specs.declared.expr.Link.{Link}
-use Rattle.py_tree.specs.declared.expr.Pair.{Pair}
-use Rattle.py_tree.specs.declared.expr.Named.{Named}
 use Rattle.py_tree.specs.declared.expr.Trailer.{Trailer}
-use Rattle.py_tree.specs.declared.expr.Trailer.TheVariants as t
-use Rattle.py_tree.specs.declared.expr.Sign.{Sign}
-use Rattle.py_tree.specs.declared.expr.Sign.TheVariants as sign
-use Rattle.py_tree.specs.declared.expr.Level.{Level}
-use Rattle.py_tree.specs.declared.expr.Level.TheVariants as level
-use Rattle.py_tree.specs.declared.expr.Operator.{Operator}
-use Rattle.py_tree.specs.declared.expr.Operator.TheVariants as op
-use Rattle.py_tree.specs.Height.{height, tops, tops_links, tops_pairs, tops_named, tops_trailers, height_trailer, top_or}
-use Rattle.py_tree.specs.Form.{is_target, is_single, many, all_targets, form, form_trailer}
-use Rattle.py_tree.proofs.Heights as hh
-use Rattle.py_data.specs.declared.refusal.Construct.{Construct}
+use Rattle.py_tree.specs.Height.{height}
+use Rattle.py_tree.specs.Form.{is_target, is_single, all_targets, form, form_trailer}
 use Rattle.py_data.specs.declared.refusal.Construct.TheVariants as left
 use Rattle.py_parser.specs.declared.fault.Fault.{Fault}
-use Rattle.py_parser.specs.declared.fault.Fault.TheVariants.{Unexpected, LeftOut, Deep}
-use Rattle.py_parser.specs.Codes as c
-use Rattle.py_parser.specs.Words.{more_words, below, level_of, first_word, spelled, sign_word}
+use Rattle.py_parser.specs.declared.fault.Fault.TheVariants.{Unexpected, LeftOut}
 use Rattle.py_parser.specs.Grammar as G
 use Rattle.py_parser.specs.Grammar.{Marks, Is, Strings, Tests, Commas, Exprs, Pairs, Links, Trailers, Trails, Maybe, Args}
 use Rattle.py_parser.specs.declared.tall.Tall.{Tall}
-use Rattle.py_parser.specs.Tall.{plain, push, start as start', joined, push_link, push_pair, push_named, push_trailer, of_name, of_int, of_string, of_group, unit, of_tuple, of_list, of_dict, of_trail, of_power, of_sign, of_chain, of_not, of_choice, of_attribute, of_index, of_slice, of_call}
-use Rattle.py_parser.specs.declared.rung.Rung.{Rung}
-use Rattle.py_parser.specs.declared.rung.Rung.TheVariants.{Trailed, Powered, Signed, Chained, Negated, Chosen, Listed}
-use Rattle.py_parser.specs.Reading.{linked, operator_of, operator_rest, too_deep, named_at, args_at, arg_by, keyed, is_bare, is_none, slice_close, slice_at, index_close, subscript_at, call_at, trailer_at, trailers_at, no_start, joined as joined_strings, name_or, name_of, string_of, is_unicode, strings_at, Reads, Reader, Test, ◌>>=◌, Below, first, rest, is_op, is_keyword, comes, starts, left_at, is_some, rung_of, rung_at, level_at, reads, atom_at, trail_at, power_at, chain_at, choice_at, after_at, signed, sign_of, trails, links, links_at, round_at, round_close, list_at, list_close, dict_at, dict_close, dict_value, atom_of, pairs_at, tests_at, keyword_at, op_at, name_at}
-use Rattle.py_parser.proofs.Steps.{of, none_of}
-use Rattle.py_parser.proofs.Facts.{or_mono, and_mono, word_links, rung_below, below_small, no, apart, some_inj, and_left, and_right}
-use Rattle.py_parser.proofs.Complete.{tests_nil, pairs_nil, named_nil, trailers_nil, s_pairs_end, s_trailers_end, s_named_end, trail_long, links_nil, s_links_end}
-use Rattle.py_parser.proofs.Begin.{s_tests_end, s_strings_end, long, headed}
-use Rattle.py_parser.proofs.Values.{plus_tests, push_tests, plus_links, push_links, plus_pairs, push_pairs, plus_named, push_nameds, plus_trailers, push_trailers, of_r, of_or, same, as_name, as_int, as_string, as_group, as_unit, as_tuple, as_no_list, as_list, as_dict, as_trail, as_power, as_sign, as_chain, as_not, as_choice, as_attribute, as_index, as_slice, as_call}
-use Rattle.py_parser.specs.Follow.{heads}
-use Rattle.py_parser.proofs.Told.{Stays, Beyond, Mode, any, low, marked, Fits, Opens, cut, near, alone, SameFirst, same_first, with_first, with_none, more, more_is, Told, told_done, told_ends, told_refused, told_left, told_as, told_same, told_if, told_deep, told_post, told_take, told_word, told_bind, told_map, told_line, told_room, told_err, told_kind, told_pre, on, here, move, within, bare, there}
-use Rattle.py_parser.proofs.Tells.{only_op, only_keyword, Hole, Read, Tell, told_read, told_need, told_need_word, told_need_name, only_name, only_string, p0, word, is_word, free, length_after, Commaed, trailing, further, Following, no_more, commaed, then_tests, then_commas, AfterTest, itself, tupled, then_exprs, MoreStrings, no_string, strung, then_strings, tell_strings, Listing, Commaing, tell_tests, tell_commas}
-use Rattle.py_parser.proofs.Atoms.{tell_atom, Unders, lift, left_start, told_no_start, either}
-use Rattle.py_parser.proofs.Trails.{tell_trail}
-use Rattle.py_parser.proofs.Rungs.{Known, known, LinksHole, tell_some_links, low_level}
-use Rattle.py_tree.specs.Form.{is_target, is_single, many, all_targets}
+use Rattle.py_parser.specs.Reading.{too_deep, Reads, Test, ◌>>=◌, first, level_at, reads, after_at}
+use Rattle.py_parser.proofs.Steps.{of}
+use Rattle.py_parser.proofs.Facts.{no, and_left, and_right}
+use Rattle.py_parser.proofs.Told.{Mode, low, marked, Fits, Opens, near, more, Told, told_refused, told_left, told_same, told_post, told_bind, told_err}
+use Rattle.py_parser.proofs.Tells.{Read, told_read, word, is_word, length_after, then_exprs}
+use Rattle.py_tree.specs.Form.{is_target, is_single, all_targets}
 use Rattle.py_parser.proofs.Levels.{unders, tell_after}
-use Rattle.py_parser.specs.Words.{line_of}
-use Rattle.py_parser.specs.Statements as S
-use Rattle.py_parser.specs.Statements.{slices, Target, Targets, Loops, Equals}
-use Rattle.py_parser.specs.Lines.{checked, Stop, target_at, targets_at, loops_at, loop_at, equals_at, maybe_at, ends_del, ends_loop, ends_caught, is_newline}
+use Rattle.py_parser.specs.Statements.{slices, Target}
+use Rattle.py_parser.specs.Lines.{checked, Stop}
 
 -- ---- expressions
 

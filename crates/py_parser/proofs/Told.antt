@@ -1,5 +1,5 @@
 -- What reading tells, whatever it answers: what was taken, or why it stopped and that nothing else could follow.
-use Rattle.std.proofs.Common.{◌≡◌, ℕ, zero, suc, ◌+◌, ◌-◌, ◌<◌, ◌≤◌, max, ◌==◌, nat_lt, Bool, true, false, List, [], ◌∷◌, ◌++◌, length, Result, Ok, Err, Option, Some, None, ◌⊎◌, inl, inr, refl, sym, ap, ◌∙◌, subst, append_assoc, append-nil, if◌then◌else◌, arith, length-append}
+use Rattle.std.proofs.Common.{◌≡◌, ℕ, zero, suc, ◌+◌, ◌≤◌, ◌==◌, nat_lt, Bool, true, false, List, [], ◌∷◌, ◌++◌, Ok, Err, Some, None, ◌⊎◌, inl, inr, refl, sym, ap, ◌∙◌, subst, append_assoc, append-nil, if◌then◌else◌, arith}
 use Rattle.py_tokens.specs.declared.token.Token.{Token}
 use Rattle.py_tokens.specs.declared.token.TokenKind.{TokenKind}
 use Rattle.py_tokens.specs.declared.token.TokenKind.TheVariants as k
@@ -16,7 +16,7 @@ use Rattle.py_tree.specs.declared.expr.Expr.{Expr}
 use Rattle.py_parser.specs.Statements.{Body}
 use Rattle.py_parser.specs.Words.{line_of}
 use Rattle.std.proofs.Common.{nat_le}
-use Rattle.py_parser.specs.Reading.{Reads, Reader, ◌>>=◌, first, is_op, is_keyword}
+use Rattle.py_parser.specs.Reading.{Reads, Reader, ◌>>=◌, first}
 
 -- ---- what modules begin with
 
