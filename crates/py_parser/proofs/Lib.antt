@@ -1,3 +1,4 @@
+mod Turns
 mod Steps
 mod Facts
 mod Values

@@ -8,3 +8,5 @@ pub mod Reading
 pub mod Follow
 pub mod Lines
 pub mod Outcome
+pub mod Asking
+pub mod Pieces
