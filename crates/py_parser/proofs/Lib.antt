@@ -1,3 +1,4 @@
+mod Unfold
 mod Turns
 mod Steps
 mod Facts

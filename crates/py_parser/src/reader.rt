@@ -18,6 +18,7 @@ use std::alloc::Global;
 pub const TEST: u8 = 14;
 
 /// Reads the parts of an expression. What stands inside them is read by `inner`, of a height of at most `budget`.
+#[derive(Drop)]
 pub struct Reader<F> {
     pub alloc: Global,
     /// Bounds the turns of each loop.
