@@ -1,3 +1,5 @@
+mod Unfold
+mod Turns
 mod Steps
 mod Facts
 mod Values

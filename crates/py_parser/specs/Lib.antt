@@ -9,3 +9,5 @@ pub mod Follow
 pub mod Lines
 pub mod Outcome
 pub mod Parses
+pub mod Asking
+pub mod Pieces

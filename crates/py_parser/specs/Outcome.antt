@@ -7,6 +7,7 @@ use Rattle.py_parser.specs.declared.error.ParseError.{ParseError}
 use Rattle.py_parser.specs.declared.error.ParseError.TheVariants.{Refused, OutOfMemory}
 use Rattle.py_parser.specs.declared.fault.Fault.{Fault}
 use Rattle.py_parser.specs.declared.fault.Fault.TheVariants.{Unexpected, LeftOut, Deep}
+use Rattle.py_tree.specs.declared.stmt.Module.{Module}
 use Rattle.py_parser.specs.Words.{line_of}
 use Rattle.py_parser.specs.Reading.{Reads}
 
@@ -24,3 +25,8 @@ Fails (Refused r) read = (f : Fault) × (rest : List Token) × (read ≡ Err (f,
 abbrev pub Gives : {X A : Type 0} → (X → A × List Token) → Result X ParseError → Reads A → Type 0
 Gives view (Ok x) read = read ≡ Ok (view x)
 Gives view (Err e) read = Fails e read
+
+-- what `parse` returned is the module that reading gives, or what it stopped for; want of memory is free
+abbrev pub Parses : Result Module ParseError → Reads Module → Type 0
+Parses (Ok m) read = (rest : List Token) × (read ≡ Ok (m, rest))
+Parses (Err e) read = Fails e read

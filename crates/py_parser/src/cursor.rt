@@ -1,6 +1,7 @@
 //! The tokens from a place on.
 ghost use Rattle.std.specs.Prelude.{◌≡◌, [], ◌∷◌, MatchOption, Err};
 ghost use Rattle.py_parser.specs.declared.error.ParseError.TheVariants as error;
+ghost use Rattle.py_parser.specs.Lines.{is_newline, is_indent, is_dedent, is_end};
 ghost use Rattle.py_parser.specs.Outcome.{Gives, refusal_of};
 ghost use Rattle.py_parser.specs.Reading.{first, rest, is_op, is_keyword, op_at, keyword_at, name_at, starts, left_at, no_start, comes};
 ghost use Rattle.py_parser.specs.Words.{line_of};
@@ -198,4 +199,80 @@ pub fn comes(n: u8, tokens: &[Token]) -> bool
     ensures { result ≡ comes n (first tokens.now) }
 {
     starts(n, tokens) || left_out(n, tokens).is_some()
+}
+
+fn is_newline(kind: &TokenKind) -> bool
+    ensures { result ≡ is_newline kind.now }
+{
+    match kind {
+        TokenKind::Newline => true,
+        _ => false,
+    }
+}
+
+/// Whether a logical line ends here.
+pub fn newline_next(tokens: &[Token]) -> bool
+    ensures { result ≡ is_newline (first tokens.now) }
+{
+    match split(tokens) {
+        None => false,
+        Some((token, _)) => is_newline(&token.kind),
+    }
+}
+
+fn is_indent(kind: &TokenKind) -> bool
+    ensures { result ≡ is_indent kind.now }
+{
+    match kind {
+        TokenKind::Indent => true,
+        _ => false,
+    }
+}
+
+/// Whether a block's lines begin here.
+pub fn indent_next(tokens: &[Token]) -> bool
+    ensures { result ≡ is_indent (first tokens.now) }
+{
+    match split(tokens) {
+        None => false,
+        Some((token, _)) => is_indent(&token.kind),
+    }
+}
+
+fn is_dedent(kind: &TokenKind) -> bool
+    ensures { result ≡ is_dedent kind.now }
+{
+    match kind {
+        TokenKind::Dedent => true,
+        _ => false,
+    }
+}
+
+/// Whether a block ends here.
+pub fn dedent_next(tokens: &[Token]) -> bool
+    ensures { result ≡ is_dedent (first tokens.now) }
+{
+    match split(tokens) {
+        None => false,
+        Some((token, _)) => is_dedent(&token.kind),
+    }
+}
+
+fn is_end(kind: &TokenKind) -> bool
+    ensures { result ≡ is_end kind.now }
+{
+    match kind {
+        TokenKind::End => true,
+        _ => false,
+    }
+}
+
+/// Whether the text ends here, as it does where there are no tokens.
+pub fn end_next(tokens: &[Token]) -> bool
+    ensures { result ≡ is_end (first tokens.now) }
+{
+    match split(tokens) {
+        None => true,
+        Some((token, _)) => is_end(&token.kind),
+    }
 }

@@ -1,7 +1,7 @@
 //! Trees with their heights and forms, as reading builds them.
 ghost use Rattle.std.specs.Prelude.{◌≡◌, IfOk, OnOk};
 ghost use Rattle.py_tree.specs.declared.form.Form.TheVariants.{Plain};
-ghost use Rattle.py_tree.specs.Form.{is_target};
+ghost use Rattle.py_tree.specs.Form.{is_target, is_single};
 ghost use Rattle.py_parser.specs.Reading.{is_bare};
 ghost use Rattle.py_parser.specs.Tall.{joined, plain, none, start, push, push_link, push_pair, push_named, push_trailer};
 
@@ -32,6 +32,18 @@ pub fn is_target(slices: bool, form: Form) -> bool
         Form::Cut => slices,
         Form::Many(strict, wide) => if slices { wide } else { strict },
         Form::Plain => false,
+    }
+}
+
+/// Whether it is an augmented target, where slices count as targets or where they don't.
+pub fn is_single(slices: bool, form: Form) -> bool
+    ensures { result ≡ is_single slices form }
+{
+    match form {
+        Form::Bare => true,
+        Form::Part => true,
+        Form::Cut => slices,
+        _ => false,
     }
 }
 
