@@ -1,4 +1,4 @@
-use Rattle.std.proofs.Common.{◌≡◌, ◌+◌, arith}
+use Rattle.std.proofs.Common.{arith}
 use Rattle.std.proofs.lemmas.Grind.{common_steps}
 use Rattle.py_parser.proofs.Unfold.{read_up, after_up}
 use Rattle.py_parser.proofs.expression.read_by.Goals as goal

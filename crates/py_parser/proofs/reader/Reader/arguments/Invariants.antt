@@ -1,4 +1,4 @@
-use Rattle.std.proofs.Common.{◌≡◌, ◌-◌, ◌≤◌, [], ◌∷◌}
+use Rattle.std.proofs.Common.{◌≡◌, ◌-◌, ◌≤◌}
 use Rattle.py_parser.specs.Reading.{reads, args_at}
 use Rattle.py_parser.specs.Tall.{none}
 use Rattle.py_parser.proofs.reader.Reader.arguments.Given as goal

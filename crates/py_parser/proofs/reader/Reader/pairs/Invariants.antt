@@ -1,4 +1,4 @@
-use Rattle.std.proofs.Common.{◌≡◌, ◌-◌, ◌≤◌, [], ◌∷◌}
+use Rattle.std.proofs.Common.{◌≡◌, ◌-◌, ◌≤◌, []}
 use Rattle.py_tree.specs.declared.form.Form.TheVariants.{Plain}
 use Rattle.py_parser.specs.Reading.{reads, pairs_at}
 use Rattle.py_parser.specs.Tall.{plain, push_pair}

@@ -1,4 +1,4 @@
-use Rattle.std.proofs.Common.{◌≡◌, ◌-◌, ◌≤◌, [], ◌∷◌}
+use Rattle.std.proofs.Common.{◌≡◌, ◌-◌, ◌≤◌, []}
 use Rattle.py_parser.specs.Reading.{reads, trailers_at}
 use Rattle.py_parser.specs.Tall.{plain}
 use Rattle.py_parser.proofs.reader.Reader.trailers.Given as goal
