@@ -1,0 +1,15 @@
+use Rattle.py_parser.proofs.Whole.{only}
+use Rattle.py_parser.proofs.Results.{found, refused, unique}
+use Rattle.py_parser.proofs.laws.grammar_law.Goals as goal
+
+pub returns-clause-found : goal.returns-clause-found
+returns-clause-found c = found
+
+pub returns-clause-only : goal.returns-clause-only
+returns-clause-only c = λ ts m q h. only m ts q h
+
+pub returns-clause-refused : goal.returns-clause-refused
+returns-clause-refused c = refused
+
+pub returns-clause-one : goal.returns-clause-one
+returns-clause-one c = unique

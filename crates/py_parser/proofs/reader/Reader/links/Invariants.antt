@@ -1,0 +1,12 @@
+use Rattle.std.proofs.Common.{◌≡◌, ◌-◌, ◌≤◌, []}
+use Rattle.py_tree.specs.declared.form.Form.TheVariants.{Plain}
+use Rattle.py_parser.specs.Reading.{reads, links_at}
+use Rattle.py_parser.specs.Tall.{plain}
+use Rattle.py_parser.specs.Words.{below}
+use Rattle.py_parser.proofs.reader.Reader.links.Given as goal
+
+abbrev pub invariant-turns : goal.invariant-turns
+invariant-turns g l =
+    (links_at l.fn.level ((reads l.fn.self.turns l.fn.self.budget).read (below l.fn.level)) l.fn.self.turns (plain [] 0) l.fn.tokens ≡ links_at l.fn.level ((reads l.fn.self.turns l.fn.self.budget).read (below l.fn.level)) (l.fn.self.turns - l._turn) l.found l.more)
+    × (l.found.tall ≤ l.fn.self.budget)
+    × (l.found.form ≡ Plain)

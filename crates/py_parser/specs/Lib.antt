@@ -1,0 +1,13 @@
+pub mod Codes
+pub mod Words
+pub mod Grammar
+pub mod Statements
+pub mod Refused
+pub mod Tall
+pub mod Reading
+pub mod Follow
+pub mod Lines
+pub mod Outcome
+pub mod Parses
+pub mod Asking
+pub mod Pieces

@@ -1,0 +1,20 @@
+//! The law of the grammar, as a contract: a call of this function does nothing, and gives its caller's proof the facts of its
+//! clauses.
+ghost use Rattle.std.specs.Prelude.{◌≡◌, ◌≤◌, List, [], length, Ok, Err};
+ghost use Rattle.py_tokens.specs.declared.token.Token.{Token};
+ghost use Rattle.py_tree.specs.declared.stmt.Module.{Module};
+ghost use Rattle.py_tree.specs.Tall.{tall_module};
+ghost use Rattle.py_parser.specs.declared.fault.Fault.{Fault};
+ghost use Rattle.py_parser.specs.Statements.{IsModule};
+ghost use Rattle.py_parser.specs.Refused.{RefusedAt, EndsOnce};
+ghost use Rattle.py_parser.specs.Lines.{module_at};
+ghost use Rattle.py_parser.specs.Words.{line_of};
+
+/// Reading a list of tokens, in which End stands once, as the last, answers its module, of a height of at most 100, wherever
+/// there is one, and else refuses the first token with which no such module begins. A list of tokens has one module at most.
+pub fn grammar_law()
+    ensures found { (ts : List Token) (m : Module) (rest : List Token) → EndsOnce ts → module_at (length ts) ts ≡ Ok (m, rest) → IsModule m ts × (tall_module m ≤ 100) }
+    ensures only { (ts : List Token) (m : Module) → IsModule m ts → tall_module m ≤ 100 → module_at (length ts) ts ≡ Ok (m, []) }
+    ensures refused { (ts : List Token) (f : Fault) (rest : List Token) → EndsOnce ts → module_at (length ts) ts ≡ Err (f, rest) → RefusedAt ts f (line_of rest) }
+    ensures one { (ts : List Token) (m n : Module) → IsModule m ts → IsModule n ts → m ≡ n }
+{}
