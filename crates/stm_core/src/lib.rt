@@ -3,7 +3,7 @@
 
 mod books;
 mod cause;
-mod core;
+mod engine;
 mod laws;
 mod segment;
 
