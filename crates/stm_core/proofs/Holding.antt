@@ -157,7 +157,7 @@ dooms_one {S} k me j f m b b1 n r wr ot as' lo wi held rest hs cs w =
         held = held;
         asks = as';
         lost = lo;
-        wins_ = wi;
+        winning = wi;
         gives = core_doomed w j f m b b1 (runs_within b.hands.items j r) rest hs cs ∙ ap (λ i. with_conflict f (with_segment i (model.Doomed f) (core_of w m b))) (sym sj);
       },
       refl,
@@ -406,7 +406,7 @@ on_ok_two (Ok x) f p q = f p q
 on_ok_two (Err x) f p q = tt
 
 -- the view once another segment was doomed
-pub record Doomed_ {S : Type 0} (k : ℕ) (me : Side) (j : ℕ) (f : Conflict) (m : Meaning) (r : ℕ) (b : Books S) (p : Progress S) (o : Option Stop) (k1 : ℕ) (me1 : Side) (m1 : Meaning) (r1 : ℕ) (b1 : Books S) (p1 : Progress S) (o1 : Option Stop) : Type 0 where
+pub record AfterDoom {S : Type 0} (k : ℕ) (me : Side) (j : ℕ) (f : Conflict) (m : Meaning) (r : ℕ) (b : Books S) (p : Progress S) (o : Option Stop) (k1 : ℕ) (me1 : Side) (m1 : Meaning) (r1 : ℕ) (b1 : Books S) (p1 : Progress S) (o1 : Option Stop) : Type 0 where
   pub other : j ≢ k
   pub dooms : (w : World) → Dooms k me (f ∷ []) (core_of w m b) (core_of w (after_drop j m) b1)
   pub segment : k1 ≡ k
@@ -417,7 +417,7 @@ pub record Doomed_ {S : Type 0} (k : ℕ) (me : Side) (j : ℕ) (f : Conflict) (
   pub stopped : o1 ≡ o
 
 module _ {S : Type 0} (k : ℕ) (me : Side) (j : ℕ) (f : Conflict) (m : Meaning) (r : ℕ) (b : Books S) (p : Progress S) (o : Option Stop) (k1 : ℕ) (me1 : Side) (m1 : Meaning) (r1 : ℕ) (b1 : Books S) (p1 : Progress S) (o1 : Option Stop)
-    (d : Doomed_ k me j f m r b p o k1 me1 m1 r1 b1 p1 o1) (a : ℕ) (e : Hold S) where
+    (d : AfterDoom k me j f m r b p o k1 me1 m1 r1 b1 p1 o1) (a : ℕ) (e : Hold S) where
   moved : (P : ℕ → Side → Hold S → Type 0) → P k1 me1 (holding m1 r1 b1 p1 o1) → P k me (holding (after_drop j m) r b1 p o)
   moved P h = subst (λ z. P k me (holding (after_drop j m) r b1 p z)) d.stopped (subst (λ z. P k me (holding (after_drop j m) r b1 z o1)) d.progress (subst (λ z. P k me (holding (after_drop j m) z b1 p1 o1)) d.reserved
       (subst (λ z. P k me (holding z r1 b1 p1 o1)) d.meaning (subst (λ z. P k z (holding m1 r1 b1 p1 o1)) d.me_is (subst (λ z. P z me1 (holding m1 r1 b1 p1 o1)) d.segment h)))))

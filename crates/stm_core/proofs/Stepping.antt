@@ -233,7 +233,7 @@ dooms_moves {S} prog most k x (f ∷ fs) c c1 h =
       differ = λ e. o.differ (e ∙ at_k);
       held = o.held;
       seen = inr o.asks;
-      loses = ap (λ z. wins z (loser f)) win ∙ ap (λ z. wins z (loser f)) o.other ∙ ap (wins (side k x)) lose ∙ o.wins_;
+      loses = ap (λ z. wins z (loser f)) win ∙ ap (λ z. wins z (loser f)) o.other ∙ ap (wins (side k x)) lose ∙ o.winning;
     } in
     let gives : with_segment k (Running x) u ≡ with_conflict f (with_segment (loser f).segment (Doomed f) (with_segment k (Running x) c)) =
     ap (with_segment k (Running x)) o.gives ∙ (λ i. record (with_conflict f c) { segments = set_swap k f.writer.segment (Running x) (Doomed f) c.segments (λ e. o.differ (sym e)) i })

@@ -58,7 +58,7 @@ pub record DoomsOne {S : Type 0} (k : ℕ) (me : Side) (f : Conflict) (c c1 : Co
   pub held : mem f.at.0 writer.changed ≡ true
   pub asks : f.asks ≡ true
   pub lost : f.lost ≡ 0
-  pub wins_ : wins me f.writer ≡ true
+  pub winning : wins me f.writer ≡ true
   pub gives : c1 ≡ with_conflict f (with_segment f.writer.segment (Doomed f) c)
 
 -- these conflicts, one after another

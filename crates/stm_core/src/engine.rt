@@ -10,19 +10,14 @@ use std::alloc::Global;
 
 /// Several transactions of a client's threads over one store.
 #[derive(Drop)]
-pub struct Core<'p, C: Client, S, I, O, E> {
+pub struct Core<'p, C: Client, S> {
     alloc: Global,
     client: &'p C,
     store: S,
     books: Books<C::State>,
-    length: u64,
-    budget: u64,
-    input: I,
-    out: O,
-    err: E,
 }
 
-impl<'p, C: Client, S: SegStore, I: Drop, O: Drop, E: Drop> Core<'p, C, S, I, O, E> {
+impl<'p, C: Client, S: SegStore> Core<'p, C, S> {
     ghost use Rattle.std.specs.Prelude.{◌≡◌, ◌<◌, IfOk, IfErr, OnErr, false, slice_get, Some, []};
     ghost use Rattle.py_data.specs.World.{World};
     ghost use Rattle.lock_run.specs.Client.{Standing};
