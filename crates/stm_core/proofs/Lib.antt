@@ -12,3 +12,4 @@ pub mod Stopping
 pub mod Wholes
 pub mod Soundness
 pub mod StepOut
+pub mod Advancing

@@ -7,3 +7,4 @@ pub mod Hold
 pub mod SegSense
 pub mod SegLaws
 pub mod Whole
+pub mod Advance

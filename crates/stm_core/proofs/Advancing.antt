@@ -1,0 +1,150 @@
+-- Steps of a transaction, one after another, as moves of the core.
+use Rattle.std.proofs.Common.{◌≡◌, ◌≢◌, ◌⊎◌, ◌<◌, ◌≤◌, ◌+◌, ℕ, zero, suc, Bool, true, false, cond, eqb, List, [], ◌∷◌, ◌++◌, length, slice_get, map, Option, Some, None, All, refl, sym, ◌∙◌, ap, subst, inl, inr, arith}
+use Rattle.std.specs.List.{sum_by}
+use Rattle.std.proofs.lemmas.List.Sums.{sum_by-append, sum_by-cons}
+use Rattle.std.proofs.lemmas.List.Elements.{All-append, All-cons, All-nil}
+use Rattle.std.proofs.lemmas.Bool.{cases_Bool, both_ways, eqb-true, eqb-false, eq-eqb, ne_eqb, cond-true, cond-false}
+use Rattle.std.proofs.lemmas.Option.{slice_get_within}
+use Rattle.py_data.specs.declared.stop.Side.{Side}
+use Rattle.py_data.specs.declared.stop.Conflict.{Conflict}
+use Rattle.py_data.specs.declared.stop.Stop.{Stop}
+use Rattle.py_data.specs.Heap.{Heap}
+use Rattle.py_data.specs.World.{World}
+use Rattle.py_data.specs.Sight.{mem}
+use Rattle.py_data.specs.Collection.{places}
+use Rattle.lock_run.specs.declared.client.Outcome.{Outcome}
+use Rattle.lock_run.specs.declared.client.Outcome.TheVariants.{Waits as WaitsNow}
+use Rattle.lock_run.specs.Prog.{Prog}
+use Rattle.lock_run.specs.Client.{Standing, StaysSound}
+use Rattle.seg_store.specs.Meaning.{Part, Meaning, sees}
+use Rattle.seg_store.specs.Store.{IsStore}
+use Rattle.stm_core.specs.declared.books.Work.{Work}
+use Rattle.stm_core.specs.declared.books.Hand.{Hand}
+use Rattle.stm_core.specs.declared.books.Hand.TheVariants.{Idle as IdleHand, Doomed as DoomedHand, Runs}
+use Rattle.stm_core.specs.declared.books.Books.{Books}
+use Rattle.stm_core.specs.CoreState.{Transaction, Segment, Idle, Doomed, Running, CoreState, side, set_segment, with_segment, with_conflict}
+use Rattle.stm_core.specs.Moves.{Advances, Stays, IsFree, Move, Dooms as DoomsMove, Goes, Rests, Next, Follows}
+use Rattle.stm_core.specs.Books.{WorkFits, transaction, segment_of, core_of, Fit}
+use Rattle.stm_core.specs.Hold.{DoomsOne, Dooms}
+use Rattle.stm_core.specs.Whole.{stepped, StepDone, StepCut}
+use Rattle.stm_core.specs.Advance.{IsAdvance, steps_of, core_with, Gone, Sane}
+use Rattle.stm_core.proofs.Commit.{follows_append}
+use Rattle.stm_core.proofs.Kept.{good_after}
+use Rattle.stm_core.proofs.Stepping.{dooms_moves, is_free}
+use Rattle.stm_core.proofs.Soundness.{sound_transaction}
+
+-- dooms of others leave the segment's own hand alone
+pub dooms_own : {S : Type 0} (k : ℕ) (me : Side) (fs : List Conflict) (c c1 : CoreState S) → Dooms k me fs c c1 → c1.segments k ≡ c.segments k
+dooms_own k me [] c c1 h = ap (λ (z : CoreState _). z.segments k) h
+dooms_own {S} k me (f ∷ fs) c c1 h =
+    dooms_own k me fs h.0 c1 h.2 ∙ ap (λ (z : CoreState S). z.segments k) h.1.gives ∙ cond-false (eqb k f.writer.segment) (Doomed f) (c.segments k) (ne_eqb k f.writer.segment (λ e. h.1.differ (sym e)))
+
+-- a hand that shows as idle is empty
+pub idle_hand : {S : Type 0} (w : World) (p : Part) (hs : List (Hand S)) (k : ℕ) → k < length hs → segment_of w p (slice_get hs k) ≡ Idle → slice_get hs k ≡ Some IdleHand
+idle_hand {S} w p hs k lt e = go (slice_get hs k) refl e
+  where
+    there : (xs : List (Hand S)) (i : ℕ) → i < length xs → slice_get xs i ≡ None → ⊥
+    there [] i h q = omega arith
+    there (x ∷ xs) zero h q = cc
+    there (x ∷ xs) (suc i) h q = there xs i (omega arith) q
+
+    go : (o : Option (Hand S)) → slice_get hs k ≡ o → segment_of w p o ≡ Idle → slice_get hs k ≡ Some IdleHand
+    go None q h = absurd (there hs k lt q)
+    go (Some IdleHand) q h = q
+    go (Some (DoomedHand f)) q h = absurd cc
+    go (Some (Runs x)) q h = absurd cc
+
+kinds_dooms : {S : Type 0} (k : ℕ) (fs : List Conflict) → All (IsAdvance {S = S} k) (map DoomsMove fs)
+kinds_dooms k [] = All-nil (IsAdvance k)
+kinds_dooms k (f ∷ fs) = All-cons (IsAdvance k) (DoomsMove f) (map DoomsMove fs) tt (kinds_dooms k fs)
+
+count_dooms : (S : Type 0) (fs : List Conflict) → sum_by (steps_of {S = S}) (map DoomsMove fs) ≡ 0
+count_dooms S [] = refl
+count_dooms S (f ∷ fs) = let a = sum_by-cons (steps_of {S = S}) (DoomsMove f) (map DoomsMove fs) in let b = count_dooms S fs in omega (arith, a, b)
+
+-- a segment set twice
+set_again : {S : Type 0} (k : ℕ) (s r : Segment S) (f : ℕ → Segment S) → set_segment k s (set_segment k r f) ≡ set_segment k s f
+set_again {S} k s r f q x = at x q
+  where
+    at : (x : ℕ) → set_segment k s (set_segment k r f) x ≡ set_segment k s f x
+    at x = elim (eqb x k) as (λ b. cond b s (cond b r (f x)) ≡ cond b s (f x)) [ true ↦ refl | false ↦ refl ]
+
+-- dooms of others, and then one move of the segment itself
+then_move : {S : Type 0} (p : Prog S) (most k n d : ℕ) (w : World) (m m1 : Meaning) (b b1 : Books S) (x x1 : Work S) (c0 : CoreState S) (fs : List Conflict) (move : Move S) → Gone p most k n c0 (core_with w k m b x)
+    → Dooms k (side k (transaction w (m.part k) x)) fs (core_of w m b) (core_of w m1 b1)
+    → Next p most (with_segment k (Running (transaction w (m.part k) x)) (core_of w m1 b1)) move (core_with w k m1 b1 x1) → IsAdvance k move → steps_of move ≡ d → Gone p most k (n + d) c0 (core_with w k m1 b1 x1)
+then_move {S} p most k n d w m m1 b b1 x x1 c0 fs move g ds next kind count =
+    let tx = transaction w (m.part k) x in
+    let mid = with_segment k (Running tx) (core_of w m1 b1) in
+    let end = core_with w k m1 b1 x1 in
+    let more = map DoomsMove fs ++ move ∷ [] in
+    let a = follows_append p most (core_with w k m b x) mid end (map DoomsMove fs) (move ∷ []) (dooms_moves p most k tx fs (core_of w m b) (core_of w m1 b1) ds) (end, next, refl) in
+    let s = sum_by-append (steps_of {S = S}) g.moves more in
+    let t = sum_by-append (steps_of {S = S}) (map DoomsMove fs) (move ∷ []) in
+    let u = sum_by-cons (steps_of {S = S}) move [] in
+    let z = count_dooms S fs in
+    let c = g.count in
+    record {
+      moves = g.moves ++ more;
+      follows = follows_append p most c0 (core_with w k m b x) end g.moves more g.follows a;
+      kinds = All-append (IsAdvance k) g.moves more g.kinds (All-append (IsAdvance k) (map DoomsMove fs) (move ∷ []) (kinds_dooms k fs) (All-cons (IsAdvance k) move [] kind (All-nil (IsAdvance k))));
+      count = omega (arith, s, t, u, z, c, count);
+    }
+
+-- what is free of the others stays so with the transaction in its segment
+free_with : {S : Type 0} (k : ℕ) (s : Segment S) (c : CoreState S) (x : Transaction S) → IsFree c k x → IsFree (with_segment k s c) k x
+free_with k s c x f = record {
+  changed = λ j y n e a h. f.changed j y n (sym (cond-false (eqb j k) s (c.segments j) (ne_eqb j k n)) ∙ e) a h;
+  made = λ j y n e a h. f.made j y n (sym (cond-false (eqb j k) s (c.segments j) (ne_eqb j k n)) ∙ e) a h;
+}
+
+module _ {S : Type 0} (p : Prog S) (most k n : ℕ) (w : World) (m m1 : Meaning) (r1 : ℕ) (b b1 : Books S) (x x1 : Work S) (c0 : CoreState S) (g : Gone p most k n c0 (core_with w k m b x)) where
+  here : (s : Segment S) (c : CoreState S) → (with_segment k s c).segments k ≡ s
+  here s c = cond-true (eqb k k) s (c.segments k) (eq-eqb k k refl)
+
+  again : (s r : Segment S) (c : CoreState S) → with_segment k s c ≡ with_segment k s (with_segment k r c)
+  again s r c i = record c { segments = sym (set_again k s r c.segments) i }
+
+  -- one step more
+  pub gone_step : (o : Outcome) → o ≢ WaitsNow → StepDone p w k (side k (transaction w (m.part k) x)) o m b x m1 b1 x1 → suc x.steps ≤ most → IsStore r1 m1 → Fit k m1 b1 x1.progress → Gone p most k (n + 1) c0 (core_with w k m1 b1 (stepped x1))
+  gone_step o goes d le st fit =
+      let tx = transaction w (m.part k) x in
+      let tx1 = transaction w (m1.part k) (stepped x1) in
+      let v : Advances p m1.image w tx tx1 = subst (λ h. Advances p h w tx tx1) (sym d.image) (d.goes goes) in
+      let free = free_with k (Running tx) (core_of w m1 b1) tx1 (is_free w k r1 m1 b1 (stepped x1) st fit.own_names fit.works) in
+      then_move p most k n 1 w m m1 b b1 x (stepped x1) c0 d.dooms (Goes k tx tx1) g d.others (here (Running tx) (core_of w m1 b1), le, v, free, again (Running tx1) (Running tx) (core_of w m1 b1)) refl refl
+
+  -- a step that left looks and locks alone
+  gone_rest : (fs : List Conflict) → Dooms k (side k (transaction w (m.part k) x)) fs (core_of w m b) (core_of w m1 b1) → Stays m.image (transaction w (m.part k) x) (transaction w (m1.part k) x1) → m1.image ≡ m.image → IsStore r1 m1 → Fit k m1 b1 x1.progress
+      → Gone p most k (n + 0) c0 (core_with w k m1 b1 x1)
+  gone_rest fs ds stays im st fit =
+      let tx = transaction w (m.part k) x in
+      let tx1 = transaction w (m1.part k) x1 in
+      let v : Stays m1.image tx tx1 = subst (λ h. Stays h tx tx1) (sym im) stays in
+      let free = free_with k (Running tx) (core_of w m1 b1) tx1 (is_free w k r1 m1 b1 x1 st fit.own_names fit.works) in
+      then_move p most k n 0 w m m1 b b1 x x1 c0 fs (Rests k tx tx1) g ds (here (Running tx) (core_of w m1 b1), v, free, again (Running tx1) (Running tx) (core_of w m1 b1)) refl refl
+
+  same_count : Gone p most k (n + 0) c0 (core_with w k m1 b1 x1) → Gone p most k n c0 (core_with w k m1 b1 x1)
+  same_count z = let c = z.count in record { moves = z.moves; follows = z.follows; kinds = z.kinds; count = omega (arith, c) }
+
+  -- a step that waits
+  pub gone_wait : (o : Outcome) → o ≡ WaitsNow → StepDone p w k (side k (transaction w (m.part k) x)) o m b x m1 b1 x1 → IsStore r1 m1 → Fit k m1 b1 x1.progress → Gone p most k n c0 (core_with w k m1 b1 x1)
+  gone_wait o waits d st fit = same_count (gone_rest d.dooms d.others (d.waits waits) d.image st fit)
+
+  -- a step that was cut
+  pub gone_cut : (e : Stop) → StepCut p w k (side k (transaction w (m.part k) x)) e m b x m1 r1 b1 x1 → IsStore r1 m1 → Fit k m1 b1 x1.progress → Gone p most k n c0 (core_with w k m1 b1 x1)
+  gone_cut e d st fit = same_count (gone_rest d.dooms d.others d.stays d.image st fit)
+
+-- ---- the good core on the way
+
+-- after these steps the transaction's state may stand over what it sees
+pub sane_stands : {S : Type 0} (p : Prog S) (sound : Heap → List S → Type 0) (most k : ℕ) (m : Meaning) (b : Books S) (x : Work S) → StaysSound p sound → Sane p sound most k m b x → Standing (sound (sees m k)) x.state
+sane_stands p sound most k m b x law s = sound_transaction p sound law s.start most (core_with s.world k m b x) k (transaction s.world (m.part k) x) s.first s.good (cond-true (eqb k k) (Running (transaction s.world (m.part k) x)) ((core_of s.world m b).segments k) (eq-eqb k k refl))
+
+-- steps keep it good
+pub sane_after : {S : Type 0} (p : Prog S) (sound : Heap → List S → Type 0) (most k n : ℕ) (m m1 : Meaning) (b b1 : Books S) (x x1 : Work S) → (s : Sane p sound most k m b x) → Gone p most k n (core_with s.world k m b x) (core_with s.world k m1 b1 x1) → Sane p sound most k m1 b1 x1
+sane_after p sound most k n m m1 b b1 x x1 s g = record { world = s.world; dry = s.dry; start = s.start; first = s.first; good = good_after p s.start most (core_with s.world k m b x) (core_with s.world k m1 b1 x1) g.moves s.good g.follows }
+
+-- no step yet
+pub gone_none : {S : Type 0} (p : Prog S) (most k : ℕ) (c : CoreState S) → Gone p most k 0 c c
+gone_none {S} p most k c = record { moves = []; follows = refl; kinds = All-nil (IsAdvance k); count = refl }
