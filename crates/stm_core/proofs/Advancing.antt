@@ -1,19 +1,16 @@
 -- Steps of a transaction, one after another, as moves of the core.
-use Rattle.std.proofs.Common.{◌≡◌, ◌≢◌, ◌⊎◌, ◌<◌, ◌≤◌, ◌+◌, ℕ, zero, suc, Bool, true, false, cond, eqb, List, [], ◌∷◌, ◌++◌, length, slice_get, map, Option, Some, None, All, refl, sym, ◌∙◌, ap, subst, inl, inr, arith}
+use Rattle.std.proofs.Common.{◌≡◌, ◌≢◌, ◌<◌, ◌≤◌, ◌+◌, ℕ, zero, suc, true, false, cond, eqb, List, [], ◌∷◌, ◌++◌, length, slice_get, map, Option, Some, None, All, refl, sym, ◌∙◌, ap, subst, arith}
 use Rattle.std.specs.List.{sum_by}
 use Rattle.std.proofs.lemmas.List.Sums.{sum_by-append, sum_by-cons}
 use Rattle.std.proofs.lemmas.List.Elements.{All-append, All-cons, All-nil}
-use Rattle.std.proofs.lemmas.Bool.{cases_Bool, both_ways, eqb-true, eqb-false, eq-eqb, ne_eqb, cond-true, cond-false}
-use Rattle.std.proofs.lemmas.Option.{slice_get_within}
+use Rattle.std.proofs.lemmas.Bool.{eq-eqb, ne_eqb, cond-true, cond-false}
 use Rattle.py_data.specs.declared.stop.Side.{Side}
 use Rattle.py_data.specs.declared.stop.Conflict.{Conflict}
 use Rattle.py_data.specs.declared.stop.Stop.{Stop}
 use Rattle.py_data.specs.Heap.{Heap}
 use Rattle.py_data.specs.World.{World}
-use Rattle.py_data.specs.Sight.{mem}
-use Rattle.py_data.specs.Collection.{places}
 use Rattle.lock_run.specs.declared.client.Outcome.{Outcome}
-use Rattle.lock_run.specs.declared.client.Outcome.TheVariants.{Waits as WaitsNow}
+use Rattle.lock_run.specs.declared.client.Outcome.TheVariants.{Done, Ended, Waits as WaitsNow}
 use Rattle.lock_run.specs.Prog.{Prog}
 use Rattle.lock_run.specs.Client.{Standing, StaysSound}
 use Rattle.seg_store.specs.Meaning.{Part, Meaning, sees}
@@ -22,10 +19,10 @@ use Rattle.stm_core.specs.declared.books.Work.{Work}
 use Rattle.stm_core.specs.declared.books.Hand.{Hand}
 use Rattle.stm_core.specs.declared.books.Hand.TheVariants.{Idle as IdleHand, Doomed as DoomedHand, Runs}
 use Rattle.stm_core.specs.declared.books.Books.{Books}
-use Rattle.stm_core.specs.CoreState.{Transaction, Segment, Idle, Doomed, Running, CoreState, side, set_segment, with_segment, with_conflict}
-use Rattle.stm_core.specs.Moves.{Advances, Stays, IsFree, Move, Dooms as DoomsMove, Goes, Rests, Next, Follows}
-use Rattle.stm_core.specs.Books.{WorkFits, transaction, segment_of, core_of, Fit}
-use Rattle.stm_core.specs.Hold.{DoomsOne, Dooms}
+use Rattle.stm_core.specs.CoreState.{Transaction, Segment, Idle, Doomed, Running, CoreState, side, set_segment, with_segment}
+use Rattle.stm_core.specs.Moves.{Advances, Stays, IsFree, Move, Dooms as DoomsMove, Goes, Rests, Next}
+use Rattle.stm_core.specs.Books.{transaction, segment_of, core_of, Fit}
+use Rattle.stm_core.specs.Hold.{Dooms}
 use Rattle.stm_core.specs.Whole.{stepped, StepDone, StepCut}
 use Rattle.stm_core.specs.Advance.{IsAdvance, steps_of, core_with, Gone, Sane}
 use Rattle.stm_core.proofs.Commit.{follows_append}
@@ -148,3 +145,37 @@ sane_after p sound most k n m m1 b b1 x x1 s g = record { world = s.world; dry =
 -- no step yet
 pub gone_none : {S : Type 0} (p : Prog S) (most k : ℕ) (c : CoreState S) → Gone p most k 0 c c
 gone_none {S} p most k c = record { moves = []; follows = refl; kinds = All-nil (IsAdvance k); count = refl }
+
+-- ---- a step, whichever way it ended
+
+-- the hand stays empty
+pub idle_after : {S : Type 0} (w : World) (k : ℕ) (me : Side) (fs : List Conflict) (m m1 : Meaning) (b b1 : Books S) (x1 : Work S) → Dooms k me fs (core_of w m b) (core_of w m1 b1) → slice_get b.hands.items k ≡ Some IdleHand → Fit k m1 b1 x1.progress
+    → slice_get b1.hands.items k ≡ Some IdleHand
+idle_after w k me fs m m1 b b1 x1 ds idle fit =
+    idle_hand w (m1.part k) b1.hands.items k (subst (λ n. k < n) (sym fit.hands) fit.mine) (dooms_own k me fs (core_of w m b) (core_of w m1 b1) ds ∙ ap (segment_of w (m.part k)) idle)
+
+-- any world will do to tell that
+pub dry_world : World
+dry_world = record { input = None; out = []; err = []; mid = false }
+
+pub done_idle : {S : Type 0} (p : Prog S) (k : ℕ) (o : Outcome) (m m1 : Meaning) (b b1 : Books S) (x x1 : Work S) → ((w : World) → w.mid ≡ false → StepDone p w k (side k (transaction w (m.part k) x)) o m b x m1 b1 x1)
+    → slice_get b.hands.items k ≡ Some IdleHand → Fit k m1 b1 x1.progress → slice_get b1.hands.items k ≡ Some IdleHand
+unfolding dry_world
+done_idle p k o m m1 b b1 x x1 d idle fit = let z = d dry_world refl in idle_after dry_world k (side k (transaction dry_world (m.part k) x)) z.dooms m m1 b b1 x1 z.others idle fit
+
+pub cut_idle : {S : Type 0} (p : Prog S) (k : ℕ) (e : Stop) (m m1 : Meaning) (r1 : ℕ) (b b1 : Books S) (x x1 : Work S) → ((w : World) → w.mid ≡ false → StepCut p w k (side k (transaction w (m.part k) x)) e m b x m1 r1 b1 x1)
+    → slice_get b.hands.items k ≡ Some IdleHand → Fit k m1 b1 x1.progress → slice_get b1.hands.items k ≡ Some IdleHand
+unfolding dry_world
+cut_idle p k e m m1 r1 b b1 x x1 d idle fit = let z = d dry_world refl in idle_after dry_world k (side k (transaction dry_world (m.part k) x)) z.dooms m m1 b b1 x1 z.others idle fit
+
+pub gone_same : {S : Type 0} (p : Prog S) (most k n : ℕ) (c c1 : CoreState S) → Gone p most k n c c1 → Gone p most k (n + 0) c c1
+gone_same p most k n c c1 z = let e = z.count in record { moves = z.moves; follows = z.follows; kinds = z.kinds; count = omega (arith, e) }
+
+pub gone_more : {S : Type 0} (p : Prog S) (most k n d : ℕ) (c c1 : CoreState S) → d ≡ 1 → Gone p most k (n + 1) c c1 → Gone p most k (n + d) c c1
+gone_more p most k n d c c1 one z = let e = z.count in record { moves = z.moves; follows = z.follows; kinds = z.kinds; count = omega (arith, e, one) }
+
+pub done_not_waits : Done ≢ WaitsNow
+done_not_waits e = cc
+
+pub ended_not_waits : Ended ≢ WaitsNow
+ended_not_waits e = cc

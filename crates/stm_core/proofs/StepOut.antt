@@ -77,7 +77,7 @@ module _ {S X : Type 0} (hold : X → Hold S) (segment : X → ℕ) (me : X → 
   result_stays row v (Ok o) s u ok err = stepped_stays row v o s u ok
   result_stays row v (Err e) s u ok err = cut_stays row v e u err
 
-  module _ (prog : Prog S) (w : World) (dry : w.mid ≡ false) (k : ℕ) (s : Side) (v u : X) (ek : segment v ≡ k) (es : me v ≡ s) (x x1 : Work S) (m1 : Meaning) (r1 : ℕ) (b1 : Books S)
+  module _ (prog : Prog S) (w : World) (dry : w.mid ≡ false) (k : ℕ) (s : Side) (mortal : s.solo ≡ false) (v u : X) (ek : segment v ≡ k) (es : me v ≡ s) (x x1 : Work S) (m1 : Meaning) (r1 : ℕ) (b1 : Books S)
       (xp : (hold v).progress ≡ x.progress) (fit : Fit k (hold v).meaning (hold v).books (hold v).progress) (fit1 : Fit k m1 b1 x1.progress) (store : IsStore r1 m1)
       (lives : prog.life x.state ≡ Lives) (asks : AsksToPrint (prog.row x.state)) (th : x1.thread ≡ x.thread) (be : x1.begun ≡ x.begun) (sp : x1.steps ≡ x.steps)
       (em : (hold u).meaning ≡ m1) (er : (hold u).reserved ≡ r1) (eb : (hold u).books ≡ b1) (ep : (hold u).progress ≡ x1.progress) where
@@ -106,7 +106,7 @@ module _ {S X : Type 0} (hold : X → Hold S) (segment : X → ℕ) (me : X → 
     step_done o quiet h =
         let v1 = h.0 in
         let op : SegOpens k (hold v) (hold v1) = subst (λ i. SegOpens i (hold v) (hold v1)) ek h.1.0 in
-        let r = row_done hold segment me same w k s (prog.row x.state) v1 (o, x1.state) u (h.1.1.segment_is ∙ ek) (h.1.1.me_is ∙ es) asks h.2 in
+        let r = row_done hold segment me same w k s mortal (prog.row x.state) v1 (o, x1.state) u (h.1.1.segment_is ∙ ek) (h.1.1.me_is ∙ es) asks h.2 in
         let start = begins v1 op in
         let im : m1.image ≡ m.image = sym (ap (λ (z : Meaning). z.image) em) ∙ r.1.image ∙ ap (λ (z : Hold S). z.meaning.image) op in
         record {
@@ -132,7 +132,7 @@ module _ {S X : Type 0} (hold : X → Hold S) (segment : X → ℕ) (me : X → 
         let v1 = h.0 in
         let u1 = h.1 in
         let op : SegOpens k (hold v) (hold v1) = subst (λ i. SegOpens i (hold v) (hold v1)) ek h.2.0 in
-        let st = row_stopped hold segment me same w k s false (prog.row x.state) v1 e u1 dry (h.2.1.segment_is ∙ ek) (h.2.1.me_is ∙ es) h.3 in
+        let st = row_stopped hold segment me same w k s mortal false (prog.row x.state) v1 e u1 dry (h.2.1.segment_is ∙ ek) (h.2.1.me_is ∙ es) h.3 in
         let sk : segment u1 ≡ k = (stop_stays (prog.row x.state) v1 e u1 h.3).segment_is ∙ h.2.1.segment_is ∙ ek in
         let un : SegUndoes k (hold u1) (hold u) = subst (λ i. SegUndoes i (hold u1) (hold u)) sk h.4.0 in
         let out1 : runs_at (hold u1).books.hands.items k ≡ false = ap (λ (z : Hold S). runs_at z.books.hands.items k) (sym un) ∙ ap (λ (z : Books S). runs_at z.hands.items k) eb ∙ fit1.out in

@@ -33,26 +33,26 @@ abbrev pub at_world : {S : Type 0} → World → Sight S → Sight S
 at_world w s = record s { world = w }
 
 -- a call that was done is done in any world
-act_world : {S : Type 0} (w : World) (k : ℕ) (me : Side) (c : Call S) (d : Hold S) (r : Reply c) (e : Hold S) → SegDoes k me c d r e → ((c ≡ MidLine) → ⊥) → Act c (at_world w (sight k d)) r (at_world w (sight k e))
-act_world w k me (Put on bytes) d r e h n = absurd h
-act_world w k me (Take most) d r e h n = absurd h
-act_world w k me (SetMidLine b) d r e h n = absurd h
-act_world w k me MidLine d r e h n = absurd (n refl)
-act_world w k me (Read a) d r e h n = (h.0.0, ap (at_world w) h.0.1)
-act_world w k me (Find a v) d r e h n = (h.0.0, h.0.1, h.0.2, h.0.3, ap (at_world w) h.0.4)
-act_world w k me (SetVal a i v) d r e h n = (h.0.0, h.0.1, h.0.2, ap (at_world w) h.0.3)
-act_world w k me (Push a v) d r e h n = (h.0.0, h.0.1, h.0.2, ap (at_world w) h.0.3)
-act_world w k me (Truncate a i) d r e h n = (h.0.0, h.0.1, h.0.2, ap (at_world w) h.0.3)
-act_world w k me (PushPair a x v) d r e h n = (h.0.0, h.0.1, h.0.2, ap (at_world w) h.0.3)
-act_world w k me (DropPair a i) d r e h n = (h.0.0, h.0.1, h.0.2, ap (at_world w) h.0.3)
-act_world w k me (Make q) d r e h n = (h.0.0, ap (at_world w) h.0.1)
-act_world w k me (Start s) d r e h n = ap (at_world w) h.0
+act_world : {S : Type 0} (w : World) (k : ℕ) (me : Side) (c : Call S) (d : Hold S) (r : Reply c) (e : Hold S) → me.solo ≡ false → SegDoes k me c d r e → ((c ≡ MidLine) → ⊥) → Act c (at_world w (sight k d)) r (at_world w (sight k e))
+act_world w k me (Put on bytes) d r e mortal h n = absurd h
+act_world w k me (Take most) d r e mortal h n = absurd h
+act_world w k me (SetMidLine b) d r e mortal h n = absurd (both_ways me.solo mortal h.0)
+act_world w k me MidLine d r e mortal h n = absurd (n refl)
+act_world w k me (Read a) d r e mortal h n = (h.0.0, ap (at_world w) h.0.1)
+act_world w k me (Find a v) d r e mortal h n = (h.0.0, h.0.1, h.0.2, h.0.3, ap (at_world w) h.0.4)
+act_world w k me (SetVal a i v) d r e mortal h n = (h.0.0, h.0.1, h.0.2, ap (at_world w) h.0.3)
+act_world w k me (Push a v) d r e mortal h n = (h.0.0, h.0.1, h.0.2, ap (at_world w) h.0.3)
+act_world w k me (Truncate a i) d r e mortal h n = (h.0.0, h.0.1, h.0.2, ap (at_world w) h.0.3)
+act_world w k me (PushPair a x v) d r e mortal h n = (h.0.0, h.0.1, h.0.2, ap (at_world w) h.0.3)
+act_world w k me (DropPair a i) d r e mortal h n = (h.0.0, h.0.1, h.0.2, ap (at_world w) h.0.3)
+act_world w k me (Make q) d r e mortal h n = (h.0.0, ap (at_world w) h.0.1)
+act_world w k me (Start s) d r e mortal h n = ap (at_world w) h.0
 
 -- what it leaves beside
 pub call_beside : {S : Type 0} (k : ℕ) (me : Side) (c : Call S) (d : Hold S) (r : Reply c) (e : Hold S) → SegDoes k me c d r e → Beside k me d e
 call_beside k me (Put on bytes) d r e h = absurd h
 call_beside k me (Take most) d r e h = absurd h
-call_beside k me (SetMidLine b) d r e h = absurd h
+call_beside k me (SetMidLine b) d r e h = subst (Beside k me d) (sym h.1) (beside_refl k me d)
 call_beside k me MidLine d r e h = subst (Beside k me d) (sym h.1) (beside_refl k me d)
 call_beside k me (Read a) d r e h = h.1
 call_beside k me (Find a v) d r e h = h.1
@@ -100,15 +100,15 @@ module _ {S X : Type 0} (hold : X → Hold S) (segment : X → ℕ) (me : X → 
   no_question (Start s) k r m y u e h d = cc
 
   -- a row that was done over the view was done over what the segment sees
-  pub row_done : {A : Type 0} (k : ℕ) (s : Side) (row : Row S A) (v : X) (y : A) (u : X) → segment v ≡ k → me v ≡ s → AsksToPrint row → Run (seg_sense hold segment me same) row v y u
+  pub row_done : {A : Type 0} (k : ℕ) (s : Side) (mortal : s.solo ≡ false) (row : Row S A) (v : X) (y : A) (u : X) → segment v ≡ k → me v ≡ s → AsksToPrint row → Run (seg_sense hold segment me same) row v y u
       → Does row (at_world w (sight k (hold v))) y (at_world w (sight k (hold u))) × Beside k s (hold v) (hold u)
   unfolding Run
-  row_done k s (Ret a) v y u ek es q d = ((d.0, ap (λ z. at_world w (sight k (hold z))) d.1), subst (λ z. Beside k s (hold v) (hold z)) (sym d.1) (beside_refl k s (hold v)))
-  row_done k s (Do c f) v y u ek es q d =
+  row_done k s mortal (Ret a) v y u ek es q d = ((d.0, ap (λ z. at_world w (sight k (hold z))) d.1), subst (λ z. Beside k s (hold v) (hold z)) (sym d.1) (beside_refl k s (hold v)))
+  row_done k s mortal (Do c f) v y u ek es q d =
       let done : SegDoes k s c (hold v) d.0 (hold d.1) = subst (λ i. SegDoes i s c (hold v) d.0 (hold d.1)) ek (subst (λ z. SegDoes (segment v) z c (hold v) d.0 (hold d.1)) es d.2.0) in
       let n : c ≡ MidLine → ⊥ = λ e. no_question c f d.0 d.1 y u e q.0 d.3 in
-      let rest = row_done k s (f d.0) d.1 y u (d.2.1.segment_is ∙ ek) (d.2.1.me_is ∙ es) (q.1 d.0) d.3 in
-      ((d.0, at_world w (sight k (hold d.1)), act_world w k s c (hold v) d.0 (hold d.1) done n, rest.0), beside_then k s (hold v) (hold d.1) (hold u) (call_beside k s c (hold v) d.0 (hold d.1) done) rest.1)
+      let rest = row_done k s mortal (f d.0) d.1 y u (d.2.1.segment_is ∙ ek) (d.2.1.me_is ∙ es) (q.1 d.0) d.3 in
+      ((d.0, at_world w (sight k (hold d.1)), act_world w k s c (hold v) d.0 (hold d.1) mortal done n, rest.0), beside_then k s (hold v) (hold d.1) (hold u) (call_beside k s c (hold v) d.0 (hold d.1) done) rest.1)
 
 -- ---- the transaction of the segment
 

@@ -1,6 +1,6 @@
 -- A row over a segment's view that was stopped, and a step that was taken back.
 use Rattle.std.proofs.Common.{◌≡◌, ℕ, Bool, true, false, refl, sym, ◌∙◌, ap, subst, inl, inr}
-use Rattle.std.proofs.lemmas.Bool.{or_cases, or_left, or_right}
+use Rattle.std.proofs.lemmas.Bool.{both_ways, or_cases, or_left, or_right}
 use Rattle.py_data.specs.declared.stop.Side.{Side}
 use Rattle.py_data.specs.declared.stop.Stop.{Stop}
 use Rattle.py_data.specs.Heap.{Heap}
@@ -25,35 +25,35 @@ abbrev pub at_used : {S : Type 0} → World → Bool → Sight S → Sight S
 at_used w u s = record s { world = w; used = u }
 
 -- a call that was done is done in any world that is not in the middle of a line
-act_used : {S : Type 0} (w : World) (u : Bool) (k : ℕ) (me : Side) (c : Call S) (d : Hold S) (r : Reply c) (e : Hold S) → w.mid ≡ false → SegDoes k me c d r e → (u1 : Bool) × Act c (at_used w u (sight k d)) r (at_used w u1 (sight k e))
-act_used w u k me (Put on bytes) d r e n h = absurd h
-act_used w u k me (Take most) d r e n h = absurd h
-act_used w u k me (SetMidLine b) d r e n h = absurd h
-act_used w u k me MidLine d r e n h = (true, (h.0 ∙ sym n, ap (λ z. at_used w true (sight k z)) h.1))
-act_used w u k me (Read a) d r e n h = (u, (h.0.0, ap (at_used w u) h.0.1))
-act_used w u k me (Find a v) d r e n h = (u, (h.0.0, h.0.1, h.0.2, h.0.3, ap (at_used w u) h.0.4))
-act_used w u k me (SetVal a i v) d r e n h = (u, (h.0.0, h.0.1, h.0.2, ap (at_used w u) h.0.3))
-act_used w u k me (Push a v) d r e n h = (u, (h.0.0, h.0.1, h.0.2, ap (at_used w u) h.0.3))
-act_used w u k me (Truncate a i) d r e n h = (u, (h.0.0, h.0.1, h.0.2, ap (at_used w u) h.0.3))
-act_used w u k me (PushPair a x v) d r e n h = (u, (h.0.0, h.0.1, h.0.2, ap (at_used w u) h.0.3))
-act_used w u k me (DropPair a i) d r e n h = (u, (h.0.0, h.0.1, h.0.2, ap (at_used w u) h.0.3))
-act_used w u k me (Make q) d r e n h = (u, (h.0.0, ap (at_used w u) h.0.1))
-act_used w u k me (Start s) d r e n h = (u, ap (at_used w u) h.0)
+act_used : {S : Type 0} (w : World) (u : Bool) (k : ℕ) (me : Side) (c : Call S) (d : Hold S) (r : Reply c) (e : Hold S) → me.solo ≡ false → w.mid ≡ false → SegDoes k me c d r e → (u1 : Bool) × Act c (at_used w u (sight k d)) r (at_used w u1 (sight k e))
+act_used w u k me (Put on bytes) d r e mortal n h = absurd h
+act_used w u k me (Take most) d r e mortal n h = absurd h
+act_used w u k me (SetMidLine b) d r e mortal n h = absurd (both_ways me.solo mortal h.0)
+act_used w u k me MidLine d r e mortal n h = (true, (h.0 ∙ sym n, ap (λ z. at_used w true (sight k z)) h.1))
+act_used w u k me (Read a) d r e mortal n h = (u, (h.0.0, ap (at_used w u) h.0.1))
+act_used w u k me (Find a v) d r e mortal n h = (u, (h.0.0, h.0.1, h.0.2, h.0.3, ap (at_used w u) h.0.4))
+act_used w u k me (SetVal a i v) d r e mortal n h = (u, (h.0.0, h.0.1, h.0.2, ap (at_used w u) h.0.3))
+act_used w u k me (Push a v) d r e mortal n h = (u, (h.0.0, h.0.1, h.0.2, ap (at_used w u) h.0.3))
+act_used w u k me (Truncate a i) d r e mortal n h = (u, (h.0.0, h.0.1, h.0.2, ap (at_used w u) h.0.3))
+act_used w u k me (PushPair a x v) d r e mortal n h = (u, (h.0.0, h.0.1, h.0.2, ap (at_used w u) h.0.3))
+act_used w u k me (DropPair a i) d r e mortal n h = (u, (h.0.0, h.0.1, h.0.2, ap (at_used w u) h.0.3))
+act_used w u k me (Make q) d r e mortal n h = (u, (h.0.0, ap (at_used w u) h.0.1))
+act_used w u k me (Start s) d r e mortal n h = (u, ap (at_used w u) h.0)
 
 module _ {S X : Type 0} (hold : X → Hold S) (segment : X → ℕ) (me : X → Side) (same : X → X → Type 0) (w : World) where
   -- a row that was stopped left the rest as it was, and stopped at some place for some cause
-  pub row_stopped : {A : Type 0} (k : ℕ) (s : Side) (used : Bool) (row : Row S A) (v : X) (e : Stop) (u : X) → w.mid ≡ false → segment v ≡ k → me v ≡ s → Stopped (seg_sense hold segment me same) row v e u
+  pub row_stopped : {A : Type 0} (k : ℕ) (s : Side) (mortal : s.solo ≡ false) (used : Bool) (row : Row S A) (v : X) (e : Stop) (u : X) → w.mid ≡ false → segment v ≡ k → me v ≡ s → Stopped (seg_sense hold segment me same) row v e u
       → Beside k s (hold v) (hold u) × StopsAt k s row (at_used w used (sight k (hold v))) e (hold u)
   unfolding Stopped Upto
-  row_stopped k s used (Ret a) v e u n ek es d = (subst (λ z. Beside k s (hold v) (hold z)) (sym d.1) (beside_refl k s (hold v)), record { left = Ret a; place = at_used w used (sight k (hold v)); upto = (refl, refl); why = inl d.0 })
-  row_stopped k s used (Do c f) v e u n ek es d = elim d [
+  row_stopped k s mortal used (Ret a) v e u n ek es d = (subst (λ z. Beside k s (hold v) (hold z)) (sym d.1) (beside_refl k s (hold v)), record { left = Ret a; place = at_used w used (sight k (hold v)); upto = (refl, refl); why = inl d.0 })
+  row_stopped k s mortal used (Do c f) v e u n ek es d = elim d [
     | inl x ↦ (subst (λ z. Beside k s (hold v) (hold z)) (sym x.1) (beside_refl k s (hold v)), record { left = Do c f; place = at_used w used (sight k (hold v)); upto = inl (refl, refl); why = inl x.0 })
     | inr y ↦ elim y [
       | inl r ↦ let h : SegRefuses k s c (hold v) e (hold u) = subst (λ i. SegRefuses i s c (hold v) e (hold u)) ek (subst (λ z. SegRefuses (segment v) z c (hold v) e (hold u)) es r.0) in
           (h.beside, record { left = Do c f; place = at_used w used (sight k (hold v)); upto = inl (refl, refl); why = inr (c, f, refl, h.why) })
       | inr z ↦ let done : SegDoes k s c (hold v) z.0 (hold z.1) = subst (λ i. SegDoes i s c (hold v) z.0 (hold z.1)) ek (subst (λ q. SegDoes (segment v) q c (hold v) z.0 (hold z.1)) es z.2.0) in
-          let act = act_used w used k s c (hold v) z.0 (hold z.1) n done in
-          let rest = row_stopped k s act.0 (f z.0) z.1 e u n (z.2.1.segment_is ∙ ek) (z.2.1.me_is ∙ es) z.3 in (
+          let act = act_used w used k s c (hold v) z.0 (hold z.1) mortal n done in
+          let rest = row_stopped k s mortal act.0 (f z.0) z.1 e u n (z.2.1.segment_is ∙ ek) (z.2.1.me_is ∙ es) z.3 in (
             beside_then k s (hold v) (hold z.1) (hold u) (call_beside k s c (hold v) z.0 (hold z.1) done) rest.0,
             record { left = rest.1.left; place = rest.1.place; upto = inr (z.0, at_used w act.0 (sight k (hold z.1)), act.1, rest.1.upto); why = rest.1.why },
           )

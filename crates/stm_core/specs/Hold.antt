@@ -92,11 +92,11 @@ pub record Beside {S : Type 0} (k : ℕ) (me : Side) (d e : Hold S) : Type 0 whe
 abbrev pub Inside : {S : Type 0} → ℕ → Side → (c : Call S) → Hold S → Reply c → Hold S → Type 0
 Inside k me c d r e = Act c (sight k d) r (sight k e) × Beside k me d e × (e.stopped ≡ None)
 
--- A transaction that isn't solo writes nothing and takes no input, and asks for the flag in vain.
+-- A transaction writes nothing and takes no input, and asks for the flag in vain; only a solo one may set it, and none is yet.
 abbrev pub SegDoes : {S : Type 0} → ℕ → Side → (c : Call S) → Hold S → Reply c → Hold S → Type 0
 SegDoes k me (Put on bytes) d r e = ⊥
 SegDoes k me (Take most) d r e = ⊥
-SegDoes k me (SetMidLine b) d r e = ⊥
+SegDoes k me (SetMidLine b) d r e = (me.solo ≡ true) × (e ≡ d) × (e.stopped ≡ None)
 SegDoes k me MidLine d r e = (r ≡ false) × (e ≡ d) × (e.stopped ≡ None)
 SegDoes k me (Read a) d r e = Inside k me (Read a) d r e
 SegDoes k me (Find a v) d r e = Inside k me (Find a v) d r e

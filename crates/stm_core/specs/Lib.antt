@@ -8,3 +8,4 @@ pub mod SegSense
 pub mod SegLaws
 pub mod Whole
 pub mod Advance
+pub mod Pauses

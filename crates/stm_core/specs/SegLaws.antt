@@ -23,7 +23,7 @@ use Rattle.stm_core.specs.SegSense.{Seen, seg_stops, seg_sense, seg_bracket}
 inside : {T : Type 0} (k : ℕ) (me : Side) (c : Call T) (d : Hold T) (r : Reply c) (e : Hold T) → SegDoes k me c d r e → Inside k me c d r e ⊎ ((e ≡ d) × (e.stopped ≡ None))
 inside k me (Put on bytes) d r e h = absurd h
 inside k me (Take most) d r e h = absurd h
-inside k me (SetMidLine b) d r e h = absurd h
+inside k me (SetMidLine b) d r e h = inr (h.1, h.2)
 inside k me MidLine d r e h = inr (h.1, h.2)
 inside k me (Read a) d r e h = inl h
 inside k me (Find a v) d r e h = inl h
@@ -41,7 +41,7 @@ edits a ok f s t h = (subst IsSome (sym h.1) refl, ap (λ z. z.heap) h.3 ∙ ap 
 effect : {T : Type 0} (k : ℕ) (me : Side) (c : Call T) (d : Hold T) (r : Reply c) (e : Hold T) → SegDoes k me c d r e → Effect c (sees d.meaning k) r (sees e.meaning k)
 effect k me (Put on bytes) d r e h = absurd h
 effect k me (Take most) d r e h = absurd h
-effect k me (SetMidLine b) d r e h = absurd h
+effect k me (SetMidLine b) d r e h = ap (λ z. sees z.meaning k) h.1
 effect k me MidLine d r e h = ap (λ z. sees z.meaning k) h.1
 effect k me (Read a) d r e h = (h.0.0, ap (λ z. z.heap) h.0.1)
 effect k me (Find a v) d r e h = (subst IsSome (sym h.0.1) refl, h.0.3 ∙ ap (λ q. find (sees d.meaning k) q.values v) (sym (at-is (sees d.meaning k) a h.0.0 h.0.1)), ap (λ z. z.heap) h.0.4)
@@ -79,7 +79,7 @@ seen_look a k q d e is h = record {
 seen_by : {T : Type 0} (k : ℕ) (me : Side) (c : Call T) (d : Hold T) (r : Reply c) (e : Hold T) (a : ℕ) → SegDoes k me c d r e → touches c ≡ Some a → Seen a k e
 seen_by k me (Put on bytes) d r e a h t = absurd h
 seen_by k me (Take most) d r e a h t = absurd h
-seen_by k me (SetMidLine b) d r e a h t = absurd h
+seen_by k me (SetMidLine b) d r e a h t = absurd cc
 seen_by k me MidLine d r e a h t = absurd cc
 seen_by k me (Make q) d r e a h t = absurd cc
 seen_by k me (Start s) d r e a h t = absurd cc
@@ -148,8 +148,8 @@ module _ {T X : Type 0} (hold : X → Hold T) (segment : X → ℕ) (me : X → 
 
   pub seg_bracketed : IsBracket (seg_sense hold segment me same) (seg_bracket hold segment me same)
   seg_bracketed = record {
-    keeps = λ c v r w d. (ap (saw (hold w).meaning) d.1.segment_is ∙ kept_base (segment v) (me v) c (hold v) r (hold w) d.0, refl);
-    keeps_refused = λ c v e w h. (ap (saw (hold w).meaning) h.1.segment_is ∙ h.0.beside.saw, refl);
+    keeps = λ c v r w d. (ap (saw (hold w).meaning) d.1.segment_is ∙ kept_base (segment v) (me v) c (hold v) r (hold w) d.0, ap (λ z. z.solo) d.1.me_is);
+    keeps_refused = λ c v e w h. (ap (saw (hold w).meaning) h.1.segment_is ∙ h.0.beside.saw, ap (λ z. z.solo) h.1.me_is);
     opened = λ v w h. (
       ap (sees (hold w).meaning) h.1.segment_is ∙ ap (λ z. sees z.meaning (segment v)) h.0 ∙ (opens_shown (segment v) (hold v).meaning).0,
       ap (saw (hold w).meaning) h.1.segment_is ∙ ap (λ z. saw z.meaning (segment v)) h.0 ∙ (opens_shown (segment v) (hold v).meaning).1,

@@ -52,11 +52,11 @@ module _ {T X : Type 0} (hold : X → Hold T) (segment : X → ℕ) (me : X → 
     seen = λ a v. Seen a (segment v) (hold v);
   }
 
-  -- a transaction that isn't solo
+  -- how it opens a step and takes it back
   abbrev pub seg_bracket : Bracket T X
   seg_bracket = record {
     base = λ v. saw (hold v).meaning (segment v);
-    solo = λ v. false;
+    solo = λ v. (me v).solo;
     opens = λ v w. SegOpens (segment v) (hold v) (hold w) × Stays v w;
     undoes = λ v w. SegUndoes (segment v) (hold v) (hold w) × Stays v w;
   }

@@ -3,10 +3,23 @@ ghost use Rattle.std.specs.Prelude.{◌≡◌, ◌<◌, IfOk, IfErr};
 
 use crate::books::{Books, Hand, Work};
 use crate::segment::SegView;
-use lock_run::{Client, Outcome};
+use lock_run::{Client, Life, Outcome};
 use py_data::{Conflict, Side, Stop};
 use seg_store::SegStore;
 use std::alloc::Global;
+
+/// Why steps of a transaction come to an end.
+#[derive(Clone, Copy, Debug, Drop)]
+pub enum Pause {
+    /// All of them were done.
+    Whole,
+    /// The next one waits.
+    Waits,
+    /// The last one was the thread's last.
+    Ended,
+    /// The next one was cut, and taken back.
+    Stopped(Stop),
+}
 
 /// Several transactions of a client's threads over one store.
 #[derive(Drop)]
@@ -18,14 +31,18 @@ pub struct Core<'p, C: Client, S> {
 }
 
 impl<'p, C: Client, S: SegStore> Core<'p, C, S> {
-    ghost use Rattle.std.specs.Prelude.{◌≡◌, ◌<◌, IfOk, IfErr, OnErr, false, slice_get, Some, []};
+    ghost use Rattle.std.specs.Prelude.{◌≡◌, ◌<◌, ◌+◌, ◌-◌, ◌^◌, ℕ, IfOk, IfErr, OnErr, false, slice_get, Some, []};
     ghost use Rattle.py_data.specs.World.{World};
     ghost use Rattle.lock_run.specs.Client.{Standing};
     ghost use Rattle.lock_run.specs.declared.client.Life.TheVariants.{Lives};
     ghost use Rattle.seg_store.specs.Meaning.{sees};
     ghost use Rattle.stm_core.specs.CoreState.{side, with_conflict, with_segment, Running};
     ghost use Rattle.stm_core.specs.Books.{Fit, transaction, core_of};
-    ghost use Rattle.stm_core.specs.Whole.{Whole, StepDone, StepCut};
+    ghost use Rattle.stm_core.specs.Whole.{Whole, stepped, StepDone, StepCut};
+    ghost use Rattle.seg_store.specs.Store.{IsStore};
+    ghost use Rattle.stm_core.specs.CoreState.{CoreState};
+    ghost use Rattle.stm_core.specs.Advance.{Gone, Sane, core_with};
+    ghost use Rattle.stm_core.specs.Pauses.{done_by};
 
     /// One step of the transaction of segment k, which was taken out of its hand.
     fn step_out(&mut self, k: u8, work: &mut Work<C::State>) -> Result<Outcome, Stop>
@@ -33,7 +50,9 @@ impl<'p, C: Client, S: SegStore> Core<'p, C, S> {
         requires stands { Standing (C.sound self.old.client.now (sees (S.meaning self.old.store) k)) work.old.state }
         requires lives { (C.prog self.old.client.now).life work.old.state ≡ Lives }
         ensures fit { Fit k (S.meaning self.new.store) self.new.books work.new.progress }
+        ensures store { IsStore (S.reserved self.new.store) (S.meaning self.new.store) }
         ensures rest { self.new ≡ record self.old { store = self.new.store; books = self.new.books } }
+        ensures same { (work.new.thread ≡ work.old.thread) × (work.new.begun ≡ work.old.begun) × (work.new.steps ≡ work.old.steps) }
         ensures done { IfOk result (λ o. (world : World) → world.mid ≡ false → StepDone (C.prog self.old.client.now) world k (side k (transaction world ((S.meaning self.old.store).part k) work.old)) o (S.meaning self.old.store) self.old.books work.old (S.meaning self.new.store) self.new.books work.new) }
         ensures cut { IfErr result (λ e. (world : World) → world.mid ≡ false → StepCut (C.prog self.old.client.now) world k (side k (transaction world ((S.meaning self.old.store).part k) work.old)) e (S.meaning self.old.store) self.old.books work.old (S.meaning self.new.store) (S.reserved self.new.store) self.new.books work.new) }
     {
@@ -53,6 +72,45 @@ impl<'p, C: Client, S: SegStore> Core<'p, C, S> {
         let result = self.client.step(self.alloc, &mut work.state, &mut view);
         self.store.known();
         result
+    }
+
+    /// Counts a step that was done, and looks whether the thread lives on.
+    fn count(&self, work: &mut Work<C::State>) -> Pause
+        requires { work.old.steps < 2 ^ 64 - 1 }
+        ensures work { work.new ≡ stepped work.old }
+        ensures one { done_by result ≡ 1 }
+        ensures lives { result ≡ Pause.Whole → (C.prog self.now.client.now).life work.new.state ≡ Lives }
+    {
+        work.steps += 1;
+        match self.client.life(&work.state) {
+            Life::Lives => Pause::Whole,
+            _ => Pause::Ended,
+        }
+    }
+
+    /// One step more of the transaction of segment k, which was taken out of its hand and has done fewer steps than the
+    /// length.
+    fn step_on(&mut self, k: u8, work: &mut Work<C::State>, length: u64) -> Pause
+        requires fit { Fit k (S.meaning self.old.store) self.old.books work.old.progress }
+        requires idle { slice_get self.old.books.hands.items k ≡ Some Hand.Idle }
+        requires sane { Sane (C.prog self.old.client.now) (C.sound self.old.client.now) length k (S.meaning self.old.store) self.old.books work.old }
+        requires lives { (C.prog self.old.client.now).life work.old.state ≡ Lives }
+        requires short { work.old.steps < length }
+        ensures fit { Fit k (S.meaning self.new.store) self.new.books work.new.progress }
+        ensures idle { slice_get self.new.books.hands.items k ≡ Some Hand.Idle }
+        ensures rest { self.new ≡ record self.old { store = self.new.store; books = self.new.books } }
+        ensures sane { Sane (C.prog self.old.client.now) (C.sound self.old.client.now) length k (S.meaning self.new.store) self.new.books work.new }
+        ensures gone { (w : World) (n : ℕ) (c : CoreState C.State) → w.mid ≡ false → Gone (C.prog self.old.client.now) length k n c (core_with w k (S.meaning self.old.store) self.old.books work.old)
+            → Gone (C.prog self.old.client.now) length k (n + done_by result) c (core_with w k (S.meaning self.new.store) self.new.books work.new) }
+        ensures steps { work.new.steps ≡ work.old.steps + done_by result }
+        ensures lives { result ≡ Pause.Whole → (C.prog self.old.client.now).life work.new.state ≡ Lives }
+    {
+        match self.step_out(k, work) {
+            Ok(Outcome::Waits) => Pause::Waits,
+            Ok(Outcome::Done) => self.count(work),
+            Ok(Outcome::Ended) => self.count(work),
+            Err(stop) => Pause::Stopped(stop),
+        }
     }
 
     /// Drops the transaction of segment k, which was taken out of its hand.

@@ -38,7 +38,8 @@ fn wins(x: Side, y: Side) -> bool
     x.solo || (!y.solo && x.begun < y.begun)
 }
 
-/// The sight of a transaction on one segment of a store. It isn't solo: a step that prints or reads is refused.
+/// The sight of a transaction on one segment of a store. No transaction is solo yet: a step that prints or reads is refused,
+/// so none comes to set the flag.
 #[derive(Drop)]
 pub struct SegView<'a, T, S: SegStore> {
     store: &'a mut S,
@@ -521,9 +522,7 @@ impl<'a, T: Drop, S: SegStore> View<T> for SegView<'a, T, S> {
         false
     }
 
-    fn set_mid_line(&mut self, _mid: bool) {
-        unreachable!()
-    }
+    fn set_mid_line(&mut self, _mid: bool) {}
 
     #[tactic(auto, unfolding(py_data::specs::Sense::Asks, py_data::specs::Heap::at))]
     fn make(&mut self, r: &Record) -> Result<Addr, Stop> {

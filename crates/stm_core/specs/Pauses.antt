@@ -1,0 +1,11 @@
+-- How many steps an end of steps counts. States `docs/HEAP.md`, "Events".
+use Rattle.std.specs.Prelude.{ℕ}
+use Rattle.stm_core.specs.declared.engine.Pause.{Pause}
+use Rattle.stm_core.specs.declared.engine.Pause.TheVariants.{Whole, Waits, Ended, Stopped}
+
+-- the steps that were done where one was asked for
+abbrev pub done_by : Pause → ℕ
+done_by Whole = 1
+done_by Waits = 0
+done_by Ended = 1
+done_by (Stopped e) = 0
