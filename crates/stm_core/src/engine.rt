@@ -31,7 +31,7 @@ pub struct Core<'p, C: Client, S> {
 }
 
 impl<'p, C: Client, S: SegStore> Core<'p, C, S> {
-    ghost use Rattle.std.specs.Prelude.{◌≡◌, ◌<◌, ◌+◌, ◌-◌, ◌^◌, ℕ, IfOk, IfErr, OnErr, false, slice_get, Some, []};
+    ghost use Rattle.std.specs.Prelude.{◌≡◌, ◌<◌, ◌≤◌, ◌+◌, ◌-◌, ◌^◌, ℕ, IfOk, IfErr, OnErr, false, slice_get, Some, []};
     ghost use Rattle.py_data.specs.World.{World};
     ghost use Rattle.lock_run.specs.Client.{Standing};
     ghost use Rattle.lock_run.specs.declared.client.Life.TheVariants.{Lives};
@@ -111,6 +111,34 @@ impl<'p, C: Client, S: SegStore> Core<'p, C, S> {
             Ok(Outcome::Ended) => self.count(work),
             Err(stop) => Pause::Stopped(stop),
         }
+    }
+
+    /// At most so many steps of the transaction of segment k, which was taken out of its hand: how many were done, and why
+    /// they came to an end.
+    fn run_out(&mut self, k: u8, work: &mut Work<C::State>, length: u64, most: u64) -> (u64, Pause)
+        requires fit { Fit k (S.meaning self.old.store) self.old.books work.old.progress }
+        requires idle { slice_get self.old.books.hands.items k ≡ Some Hand.Idle }
+        requires sane { Sane (C.prog self.old.client.now) (C.sound self.old.client.now) length k (S.meaning self.old.store) self.old.books work.old }
+        requires lives { (C.prog self.old.client.now).life work.old.state ≡ Lives }
+        requires short { work.old.steps + most ≤ length }
+        ensures fit { Fit k (S.meaning self.new.store) self.new.books work.new.progress }
+        ensures idle { slice_get self.new.books.hands.items k ≡ Some Hand.Idle }
+        ensures rest { self.new ≡ record self.old { store = self.new.store; books = self.new.books } }
+        ensures sane { Sane (C.prog self.old.client.now) (C.sound self.old.client.now) length k (S.meaning self.new.store) self.new.books work.new }
+        ensures gone { (w : World) (n : ℕ) (c : CoreState C.State) → w.mid ≡ false → Gone (C.prog self.old.client.now) length k n c (core_with w k (S.meaning self.old.store) self.old.books work.old)
+            → Gone (C.prog self.old.client.now) length k (n + result.0) c (core_with w k (S.meaning self.new.store) self.new.books work.new) }
+        ensures steps { work.new.steps ≡ work.old.steps + result.0 }
+        ensures whole { result.1 ≡ Pause.Whole → result.0 ≡ most }
+    {
+        'turns: for done in 0..most {
+            match self.step_on(k, work, length) {
+                Pause::Whole => (),
+                Pause::Waits => return (done, Pause::Waits),
+                Pause::Ended => return (done + 1, Pause::Ended),
+                Pause::Stopped(stop) => return (done, Pause::Stopped(stop)),
+            }
+        }
+        (most, Pause::Whole)
     }
 
     /// Drops the transaction of segment k, which was taken out of its hand.
