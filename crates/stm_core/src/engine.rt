@@ -1,4 +1,4 @@
-//! The transactional core: transactions of a client's threads on the segments of a store.
+//! The engine of the transactional core: transactions of a client's threads on the segments of a store.
 ghost use Rattle.std.specs.Prelude.{◌≡◌, ◌<◌, IfOk, IfErr};
 
 use crate::books::{Books, Hand, Work};
@@ -23,14 +23,14 @@ pub enum Pause {
 
 /// Several transactions of a client's threads over one store.
 #[derive(Drop)]
-pub struct Core<'p, C: Client, S> {
+pub struct Engine<'p, C: Client, S> {
     alloc: Global,
     client: &'p C,
     store: S,
     books: Books<C::State>,
 }
 
-impl<'p, C: Client, S: SegStore> Core<'p, C, S> {
+impl<'p, C: Client, S: SegStore> Engine<'p, C, S> {
     ghost use Rattle.std.specs.Prelude.{◌≡◌, ◌<◌, ◌≤◌, ◌+◌, ◌-◌, ◌^◌, ℕ, IfOk, IfErr, OnErr, false, slice_get, Some, []};
     ghost use Rattle.py_data.specs.World.{World};
     ghost use Rattle.lock_run.specs.Client.{Standing};

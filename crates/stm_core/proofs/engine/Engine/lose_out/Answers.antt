@@ -1,7 +1,7 @@
 use Rattle.std.proofs.Common.{ap, ◌∙◌}
 use Rattle.stm_core.specs.CoreState.{with_conflict}
 use Rattle.stm_core.proofs.Wholes.{noted, core_noted, still_room, some_room}
-use Rattle.stm_core.proofs.engine.Core.lose_out.Goals as goal
+use Rattle.stm_core.proofs.engine.Engine.lose_out.Goals as goal
 
 pub note-requires : goal.note-requires
 note-requires g c = some_room c.args.k (g.S.SegStore.meaning c.args.self.now.store) c.args.self.now.books c.drop_out.new.self.books c.args.work.progress c.requires.fit c.drop_out.ensures.room

@@ -6,8 +6,8 @@ use Rattle.stm_core.specs.Whole.{StepDone, StepCut}
 use Rattle.stm_core.specs.Hold.{Hold, holding}
 use Rattle.std.proofs.lemmas.Result.{IfOk-weaker}
 use Rattle.stm_core.proofs.StepOut.{result_stays, step_done, step_cut, if_err_on}
-use Rattle.stm_core.proofs.engine.Core.step_out.Given as given
-use Rattle.stm_core.proofs.engine.Core.step_out.Goals as goal
+use Rattle.stm_core.proofs.engine.Engine.step_out.Given as given
+use Rattle.stm_core.proofs.engine.Engine.step_out.Goals as goal
 
 abbrev View : given.Over → Type 0
 View g = SegView g.row.C-State.Denot g.row.S.Denot g.S.SegStore g.S.Peek

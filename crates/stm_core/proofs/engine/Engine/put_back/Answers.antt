@@ -1,7 +1,7 @@
 use Rattle.std.proofs.lemmas.Option.{slice_get_within}
 use Rattle.stm_core.specs.declared.books.Hand.TheVariants.{Idle, Runs}
 use Rattle.stm_core.proofs.Wholes.{put_back, core_set}
-use Rattle.stm_core.proofs.engine.Core.put_back.Goals as goal
+use Rattle.stm_core.proofs.engine.Engine.put_back.Goals as goal
 
 pub returns-clause-whole : goal.returns-clause-whole
 returns-clause-whole g c = put_back c.args.k (g.S.SegStore.meaning c.args.self.now.store) c.args.self.now.books c.put.new.self c.args.work c.requires.fit c.requires.idle (record { rest = c.put.ensures.rest; hands = c.put.ensures.hands })

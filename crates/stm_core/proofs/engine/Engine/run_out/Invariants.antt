@@ -5,7 +5,7 @@ use Rattle.stm_core.specs.declared.books.Hand.TheVariants.{Idle}
 use Rattle.stm_core.specs.CoreState.{CoreState}
 use Rattle.stm_core.specs.Books.{Fit}
 use Rattle.stm_core.specs.Advance.{Gone, Sane, core_with}
-use Rattle.stm_core.proofs.engine.Core.run_out.Given as goal
+use Rattle.stm_core.proofs.engine.Engine.run_out.Given as goal
 
 abbrev pub invariant-turns : goal.invariant-turns
 invariant-turns g l = record {

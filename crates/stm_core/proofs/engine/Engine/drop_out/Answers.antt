@@ -1,7 +1,7 @@
 use Rattle.std.proofs.Common.{sym, subst, ap, ◌∙◌, ◌+◌}
 use Rattle.stm_core.specs.Whole.{Whole}
 use Rattle.stm_core.proofs.Wholes.{dropped}
-use Rattle.stm_core.proofs.engine.Core.drop_out.Goals as goal
+use Rattle.stm_core.proofs.engine.Engine.drop_out.Goals as goal
 
 pub returns-clause-whole : goal.returns-clause-whole
 returns-clause-whole g c = subst (λ m. Whole m c.forget.new.self) (sym c.drop_changes.ensures.meaning)

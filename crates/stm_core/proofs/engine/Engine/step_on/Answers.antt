@@ -3,7 +3,7 @@ use Rattle.stm_core.specs.Advance.{Gone, Sane, core_with}
 use Rattle.stm_core.specs.Whole.{stepped}
 use Rattle.stm_core.specs.Pauses.{done_by}
 use Rattle.stm_core.proofs.Advancing.{sane_stands, sane_after, gone_none, gone_step, gone_wait, gone_cut, gone_more, gone_same, done_idle, cut_idle, done_not_waits, ended_not_waits}
-use Rattle.stm_core.proofs.engine.Core.step_on.Goals as goal
+use Rattle.stm_core.proofs.engine.Engine.step_on.Goals as goal
 
 pub step_out-requires-clause-stands : goal.step_out-requires-clause-stands
 step_out-requires-clause-stands g c = sane_stands (g.C.Client.prog c.args.self.now.client.now) (g.C.Client.sound c.args.self.now.client.now) c.args.length c.args.k (g.S.SegStore.meaning c.args.self.now.store) c.args.self.now.books c.args.work.now (g.met.C.Client.sound_step c.args.self.now.client.now) c.requires.sane
