@@ -36,3 +36,11 @@ hash_fault = text_fault TYPE_ERROR (codes "unhashable")
 -- the key isn't there
 abbrev pub key_fault : Value → Fault
 key_fault key = record { exc = KEY_ERROR; with = Held key }
+
+-- values are nested too deep in one another
+abbrev pub depth_fault : Fault
+depth_fault = text_fault RUNTIME_ERROR (codes "maximum recursion depth exceeded")
+
+-- an operation isn't for operands of these types
+abbrev pub operand_fault : Fault
+operand_fault = text_fault TYPE_ERROR (codes "unsupported operand")

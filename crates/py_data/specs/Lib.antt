@@ -5,6 +5,11 @@ pub mod Shape
 pub mod Made
 pub mod Changes
 pub mod Fault
+pub mod Closed
+pub mod Comparing
+pub mod Truth
+pub mod Texts
+pub mod Worked
 pub mod Row
 pub mod Sense
 pub mod Rest
