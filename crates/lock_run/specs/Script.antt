@@ -33,9 +33,12 @@ IsFit cells (Look k) = k < cells
 IsFit cells (Set k n) = k < cells
 IsFit cells _ = Unit {0}
 
--- each thread has an act, and each act names a Cell that there is
+-- a list has an act, and each act is fit
+abbrev pub HasFit : ℕ → List Act → Type 0
+HasFit cells acts = (acts ≢ []) × All (IsFit cells) acts
+
 abbrev pub AreFit : ℕ → List (List Act) → Type 0
-AreFit cells lists = All (λ acts. (acts ≢ []) × All (IsFit cells) acts) lists
+AreFit cells lists = All (HasFit cells) lists
 
 -- ---- the step of thread 0: the Cells, the List, and a thread for each list of acts
 abbrev pub zero_cell : Rec

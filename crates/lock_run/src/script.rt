@@ -1,9 +1,9 @@
 //! A script: threads that do given acts over a few Cells and a List. It is a client for tests over what happens in a
 //! machine.
-ghost use Rattle.std.specs.Prelude.{◌≡◌, ◌↔◌, [], slice_get, IfOk, IsTrue};
+ghost use Rattle.std.specs.Prelude.{◌≡◌, ◌↔◌, [], slice_get, IfOk, IsTrue, All};
 ghost use Rattle.py_data.specs.Sense.{Meets, Safe, IsLive};
 ghost use Rattle.py_data.specs.Made.{rec_of};
-ghost use Rattle.lock_run.specs.Script.{zero_cell, empty_list, make_cells, start_threads, list_and_threads, prelude_row, look_row, set_row, push_row, act_row};
+ghost use Rattle.lock_run.specs.Script.{zero_cell, empty_list, make_cells, start_threads, list_and_threads, prelude_row, look_row, set_row, push_row, act_row, IsFit, HasFit, AreFit};
 
 use crate::client::{Client, Life, Outcome};
 use py_data::{
@@ -208,6 +208,40 @@ fn perform<S, V: View<S>>(v: &mut V, cells: &Names, list: Addr, act: Act) -> Res
     }
 }
 
+/// The Cell of an act is one of so many.
+fn is_fit(cells: u32, act: Act) -> bool
+    ensures { IsTrue result ↔ IsFit cells act }
+{
+    match act {
+        Act::Look(k) => k < cells,
+        Act::Set(k, _) => k < cells,
+        _ => true,
+    }
+}
+
+/// Each act of a list is fit.
+fn all_fit(cells: u32, acts: &[Act]) -> bool
+    ensures { IsTrue result ↔ All (IsFit cells) acts.now }
+{
+    acts.iter().all(|act| is_fit(cells, *act))
+}
+
+/// A list has an act, and each is fit.
+fn has_fit(cells: u32, acts: &Acts) -> bool
+    ensures { IsTrue result ↔ HasFit cells acts.now }
+{
+    let some = acts.len() > 0;
+    let fit = all_fit(cells, acts.as_slice());
+    some && fit
+}
+
+/// Each list has an act, and each act is fit.
+fn are_fit(cells: u32, lists: &[Acts]) -> bool
+    ensures { IsTrue result ↔ AreFit cells lists.now }
+{
+    lists.iter().all(|acts| has_fit(cells, acts))
+}
+
 /// Two lists of addresses are equal.
 fn are_same(a: &Names, b: &Names) -> bool
     ensures { IsTrue result ↔ (a.now ≡ b.now) }
@@ -225,8 +259,20 @@ pub struct Script {
 }
 
 impl Script {
-    ghost use Rattle.std.specs.Prelude.{◌≡◌, ◌<◌, ◌+◌, ◌^◌, length, IfSome};
+    ghost use Rattle.std.specs.Prelude.{◌≡◌, ◌<◌, ◌+◌, ◌^◌, length, true, false, IfSome};
     ghost use Rattle.lock_run.specs.Script.{cells_in, lists_in, act_at, AreFit};
+
+    /// Whether these can make a script: there are fewer than 2^32 - 1 lists, none is empty, and each Cell that an act names
+    /// is one of so many.
+    pub fn fits(cells: u32, lists: &[Acts]) -> bool
+        ensures few { result ≡ true → length lists.now + 1 < 2 ^ 32 }
+        ensures fit { result ≡ true → AreFit cells lists.now }
+        ensures not { result ≡ false → length lists.now + 1 < 2 ^ 32 → AreFit cells lists.now → ⊥ }
+    {
+        let few = lists.len() < u32::MAX as usize;
+        let fit = are_fit(cells, lists);
+        few && fit
+    }
 
     /// A script of so many Cells, and of a list of acts for each thread but thread 0.
     pub fn new(cells: u32, lists: Vec<Acts>) -> Script
