@@ -8,6 +8,8 @@ mod machine;
 mod plain;
 mod script;
 mod space;
+#[cfg(test)]
+mod tests;
 mod threads;
 mod turn;
 
