@@ -1,5 +1,5 @@
 -- The records of a script: what its acts ask of them, and the loops that make the Cells and start the threads.
-use Rattle.std.proofs.Common.{◌≡◌, ℕ, zero, suc, ◌+◌, ◌-◌, ◌<◌, ◌≤◌, Bool, true, false, List, [], ◌∷◌, length, Option, Some, None, Ok, Err, slice_get, cond, refl, sym, ap, subst, ◌∙◌, arith, inl, inr}
+use Rattle.std.proofs.Common.{◌≡◌, ℕ, zero, suc, ◌+◌, ◌-◌, ◌<◌, ◌≤◌, Bool, true, false, List, [], length, Option, Some, None, Ok, Err, slice_get, cond, refl, sym, ap, subst, ◌∙◌, arith}
 use Rattle.std.specs.Prelude.{ltb}
 use Rattle.std.proofs.lemmas.Bool.{ltb-true}
 use Rattle.py_data.specs.declared.value.Addr.{Addr}
@@ -11,7 +11,7 @@ use Rattle.py_data.specs.declared.stop.Stop.{Stop}
 use Rattle.py_data.specs.declared.stop.Stop.TheVariants.{OutOfMemory}
 use Rattle.py_data.specs.declared.record.TheConstants.{LENGTH_LIMIT}
 use Rattle.py_data.specs.Heap.{Heap, Rec, is_tracked}
-use Rattle.py_data.specs.Row.{Row, Ret, Do, SetVal, Push, Make, Start}
+use Rattle.py_data.specs.Row.{Ret, Do, Push, Make, Start}
 use Rattle.py_data.specs.Sense.{Sense, Lawful, Asks, Safe, IsValuePlace, Meets, IsLive}
 use Rattle.py_data.specs.Rest.{Leads}
 use Rattle.py_data.proofs.Steps.{there-is, leads-do, leads-ret, leads-refused, leads-own}
@@ -19,7 +19,7 @@ use Rattle.lock_run.specs.declared.script.Act.{Act}
 use Rattle.lock_run.specs.declared.script.Act.TheVariants.{Look, Set, Push as PushAct, Put as PutAct}
 use Rattle.lock_run.specs.declared.script.ScriptState.{ScriptState}
 use Rattle.lock_run.specs.declared.script.ScriptState.TheVariants.{Acts}
-use Rattle.lock_run.specs.Script.{zero_cell, empty_list, with_cell, make_cells, start_threads, look_row, set_row, push_row, act_row, IsCell, IsList, Is, HasCells, HasList}
+use Rattle.lock_run.specs.Script.{zero_cell, empty_list, with_cell, make_cells, start_threads, look_row, set_row, push_row, act_row, IsList, HasCells, HasList}
 
 -- ---- what the acts ask
 value_place : (k : Kind) → k ≡ Cell → IsValuePlace k 0

@@ -1,10 +1,9 @@
 -- The steps of a script, over any view.
-use Rattle.std.proofs.Common.{◌≡◌, ◌↔◌, ℕ, ◌+◌, Bool, true, false, ◌&&◌, List, length, Option, Some, None, Ok, Err, IsTrue, eqb, nat_eq, refl, sym, ap, subst, ◌∙◌}
+use Rattle.std.proofs.Common.{◌≡◌, ◌↔◌, ℕ, ◌+◌, Bool, true, List, length, Option, Some, None, Ok, Err, IsTrue, eqb, sym, ap, subst, ◌∙◌}
 use Rattle.std.proofs.lemmas.Bool.{eqb-true, eq-eqb}
 use Rattle.std.specs.Bool.{Decides}
 use Rattle.py_data.specs.declared.value.Addr.{Addr}
 use Rattle.py_data.specs.declared.stop.Stop.{Stop}
-use Rattle.py_data.specs.Heap.{Heap}
 use Rattle.py_data.specs.Row.{Row, Ret}
 use Rattle.py_data.specs.Sense.{Sense, Bracket, IsBracket, Run, Stopped, Meets, Safe}
 use Rattle.py_data.proofs.Rows.{run-bind, run-ret, stop-first}

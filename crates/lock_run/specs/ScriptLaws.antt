@@ -10,7 +10,7 @@ use Rattle.py_data.specs.declared.value.Kind.{Kind}
 use Rattle.py_data.specs.declared.value.Kind.TheVariants.{Cell, List as ListKind}
 use Rattle.py_data.specs.declared.record.TheConstants.{LENGTH_LIMIT}
 use Rattle.py_data.specs.Heap.{Heap, Rec, put_at, no_records, with_value, with_push}
-use Rattle.py_data.specs.Row.{Call, Reply, Row, Ret, Do, Read, SetVal, Push, Make, Start, Put, MidLine, bind}
+use Rattle.py_data.specs.Row.{Call, Reply, Row, Ret, Do, Push, MidLine, bind}
 use Rattle.py_data.specs.Sense.{Run}
 use Rattle.py_data.specs.Sight.{Sight, Does, opened, pure}
 use Rattle.py_data.proofs.Rows.{bind-run}
