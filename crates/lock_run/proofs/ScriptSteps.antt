@@ -24,17 +24,21 @@ perform_safe u b p s number done cells list act v v1 bracket opens stands e =
     let l : IsStanding (u.heap v) s = one_of (u.heap v) stands.0 stands.1 s stands.2 stands.3.all in
     subst (λ h. Safe {S = ScriptState} p (act_row cells list act) h) (sym (bracket.opened v v1 opens).0) (act_safe ScriptState p (u.heap v) cells list act (subst (IsStanding (u.heap v)) e l))
 
+-- a thread that was ended
+pub has_ended : (out : Outcome) (s1 : ScriptState) → out ≡ Ended → s1 ≡ Over → ◌≡◌ {A = Outcome × ScriptState} (out, s1) (Ended, Over)
+has_ended out s1 e f = let start : ◌≡◌ {A = Outcome × ScriptState} (out, s1) (Ended, s1) = ap (λ o. (o, s1)) e in start ∙ ap (λ s. (Ended, s)) f
+
 module _ {X : Type 0} (u : Sense ScriptState X) (b : Bracket ScriptState X) (n : ℕ) (lists : List (List Act)) (s : ScriptState) (v v1 : X) (opens : b.opens v v1) where
   abbrev then_over : Unit {0} → Row ScriptState (Outcome × ScriptState)
   then_over _ = Ret (Ended, Over)
 
   -- the step of thread 0
-  pub prelude_done : (count : ℕ) (w : X) → count ≡ length lists → s ≡ Prelude → Meets u (prelude_row n count) v1 w (Ok tt) → Stepped u b (script_row n lists s) v Ended Over w
+  pub prelude_done : (count : ℕ) (q : Outcome × ScriptState) (w : X) → count ≡ length lists → s ≡ Prelude → q ≡ (Ended, Over) → Meets u (prelude_row n count) v1 w (Ok tt) → Stepped u b (script_row n lists s) v q.0 q.1 w
   unfolding script_row Meets
-  prelude_done count w c e m =
+  prelude_done count q w c e ends m =
       let all : Meets u (prelude_row n (length lists)) v1 w (Ok tt) = subst (λ k. Meets u (prelude_row n k) v1 w (Ok tt)) c m in
       let r = run-bind u (prelude_row n (length lists)) then_over v1 w w tt (Ended, Over) all (run-ret u (Ended, Over) w) in
-      (v1, opens, subst (λ q. Run u (script_row n lists q) v1 (Ended, Over) w) (sym e) r)
+      (v1, opens, subst (λ z. Run u (script_row n lists s) v1 z w) (sym ends) (subst (λ z. Run u (script_row n lists z) v1 (Ended, Over) w) (sym e) r))
 
   pub prelude_stopped : (count : ℕ) (stop : Stop) (w w1 : X) → count ≡ length lists → s ≡ Prelude → Meets u (prelude_row n count) v1 w (Err stop) → b.undoes w w1 → StepStopped u b (script_row n lists s) v stop w1
   unfolding script_row Meets
@@ -47,14 +51,14 @@ module _ {X : Type 0} (u : Sense ScriptState X) (b : Bracket ScriptState X) (n :
     after _ = Ret (now_done (act_at lists number (done + 1)) number (done + 1) cells list)
 
     -- an act, after which the thread has this act left or none
-    pub act_done : (act : Act) (next : Option Act) (w : X) → act_at lists number done ≡ Some act → act_at lists number (done + 1) ≡ next → Meets u (act_row cells list act) v1 w (Ok tt)
-        → Stepped u b (script_row n lists s) v (now_done next number (done + 1) cells list).0 (now_done next number (done + 1) cells list).1 w
+    pub act_done : (act : Act) (next : Option Act) (q : Outcome × ScriptState) (w : X) → act_at lists number done ≡ Some act → act_at lists number (done + 1) ≡ next → q ≡ now_done next number (done + 1) cells list
+        → Meets u (act_row cells list act) v1 w (Ok tt) → Stepped u b (script_row n lists s) v q.0 q.1 w
     unfolding script_row Meets after
-    act_done act next w is left m =
-        let q = now_done next number (done + 1) cells list in
-        let last : Run u (after tt) w q w = subst (λ o. Run u (Ret (now_done o number (done + 1) cells list)) w q w) (sym left) (run-ret u q w) in
-        let r = run-bind u (act_row cells list act) after v1 w w tt q m last in
-        (v1, opens, subst (λ z. Run u (script_row n lists z) v1 q w) (sym e) (subst (λ o. Run u (at_act lists number done cells list o) v1 q w) (sym is) r))
+    act_done act next q w is left ends m =
+        let p = now_done next number (done + 1) cells list in
+        let last : Run u (after tt) w p w = subst (λ o. Run u (Ret (now_done o number (done + 1) cells list)) w p w) (sym left) (run-ret u p w) in
+        let r = run-bind u (act_row cells list act) after v1 w w tt p m last in
+        (v1, opens, subst (λ z. Run u (script_row n lists s) v1 z w) (sym ends) (subst (λ z. Run u (script_row n lists z) v1 p w) (sym e) (subst (λ o. Run u (at_act lists number done cells list o) v1 p w) (sym is) r)))
 
     pub act_stopped : (act : Act) (stop : Stop) (w w1 : X) → act_at lists number done ≡ Some act → Meets u (act_row cells list act) v1 w (Err stop) → b.undoes w w1 → StepStopped u b (script_row n lists s) v stop w1
     unfolding script_row Meets after
@@ -63,9 +67,9 @@ module _ {X : Type 0} (u : Sense ScriptState X) (b : Bracket ScriptState X) (n :
         (v1, w, opens, subst (λ z. Stopped u (script_row n lists z) v1 stop w) (sym e) (subst (λ o. Stopped u (at_act lists number done cells list o) v1 stop w) (sym is) r), un)
 
     -- no act is left
-    pub none_left : act_at lists number done ≡ None → Stepped u b (script_row n lists s) v Ended Over v1
+    pub none_left : (q : Outcome × ScriptState) → act_at lists number done ≡ None → q ≡ (Ended, Over) → Stepped u b (script_row n lists s) v q.0 q.1 v1
     unfolding script_row
-    none_left is = (v1, opens, subst (λ z. Run u (script_row n lists z) v1 (Ended, Over) v1) (sym e) (subst (λ o. Run u (at_act lists number done cells list o) v1 (Ended, Over) v1) (sym is) (run-ret u (Ended, Over) v1)))
+    none_left q is ends = (v1, opens, subst (λ z. Run u (script_row n lists s) v1 z v1) (sym ends) (subst (λ z. Run u (script_row n lists z) v1 (Ended, Over) v1) (sym e) (subst (λ o. Run u (at_act lists number done cells list o) v1 (Ended, Over) v1) (sym is) (run-ret u (Ended, Over) v1))))
 
 -- ---- equal lists of addresses
 pub same_lists : (xs ys zs ws : List Addr) (test : Bool) → xs ≡ zs → ys ≡ ws → Decides test (xs ≡ ys) → IsTrue test ↔ (zs ≡ ws)

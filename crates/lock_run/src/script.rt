@@ -3,6 +3,8 @@
 ghost use Rattle.std.specs.Prelude.{◌≡◌, ◌↔◌, [], slice_get, IfOk, IsTrue, All};
 ghost use Rattle.py_data.specs.Sense.{Meets, Safe, IsLive};
 ghost use Rattle.py_data.specs.Made.{rec_of};
+ghost use Rattle.lock_run.specs.declared.client.Outcome.TheVariants.{Ended};
+ghost use Rattle.lock_run.specs.declared.script.ScriptState.TheVariants.{Over};
 ghost use Rattle.lock_run.specs.Script.{zero_cell, empty_list, make_cells, start_threads, list_and_threads, prelude_row, look_row, set_row, push_row, act_row, IsFit, HasFit, AreFit};
 
 use crate::client::{Client, Life, Outcome};
@@ -208,6 +210,15 @@ fn perform<S, V: View<S>>(v: &mut V, cells: &Names, list: Addr, act: Act) -> Res
     }
 }
 
+/// Ends a thread.
+fn end(s: &mut ScriptState) -> Outcome
+    ensures ended { result ≡ Ended }
+    ensures over { s.new ≡ Over }
+{
+    *s = ScriptState::Over;
+    Outcome::Ended
+}
+
 /// The Cell of an act is one of so many.
 fn is_fit(cells: u32, act: Act) -> bool
     ensures { IsTrue result ↔ IsFit cells act }
@@ -337,10 +348,7 @@ impl Client for Script {
         v.open_step();
         match s {
             ScriptState::Prelude => match begin(alloc, v, self.cells, self.count()) {
-                Ok(()) => {
-                    *s = ScriptState::Over;
-                    Ok(Outcome::Ended)
-                }
+                Ok(()) => Ok(end(s)),
                 Err(stop) => {
                     v.undo_step();
                     Err(stop)
@@ -358,20 +366,14 @@ impl Client for Script {
                             *done += 1;
                             Ok(Outcome::Done)
                         }
-                        None => {
-                            *s = ScriptState::Over;
-                            Ok(Outcome::Ended)
-                        }
+                        None => Ok(end(s)),
                     },
                     Err(stop) => {
                         v.undo_step();
                         Err(stop)
                     }
                 },
-                None => {
-                    *s = ScriptState::Over;
-                    Ok(Outcome::Ended)
-                }
+                None => Ok(end(s)),
             },
             ScriptState::Over => unreachable!(),
         }
