@@ -25,7 +25,7 @@ use Rattle.stm_core.specs.Books.{transaction, segment_of, core_of, Fit}
 use Rattle.stm_core.specs.Hold.{Dooms}
 use Rattle.stm_core.specs.Whole.{stepped, StepDone, StepCut}
 use Rattle.stm_core.specs.Advance.{IsAdvance, steps_of, core_with, Gone, Sane}
-use Rattle.stm_core.proofs.Commit.{follows_append}
+use Rattle.stm_core.proofs.TwoPasses.{follows_append}
 use Rattle.stm_core.proofs.Kept.{good_after}
 use Rattle.stm_core.proofs.Stepping.{dooms_moves, is_free}
 use Rattle.stm_core.proofs.Soundness.{sound_transaction}

@@ -1,6 +1,6 @@
 pub mod Publish
 pub mod Kept
-pub mod Commit
+pub mod TwoPasses
 pub mod New
 pub mod Looking
 pub mod Fits
@@ -13,3 +13,8 @@ pub mod Wholes
 pub mod Soundness
 pub mod StepOut
 pub mod Advancing
+pub mod Committing
+pub mod Publishing
+pub mod Beginning
+pub mod Hands
+pub mod Standings

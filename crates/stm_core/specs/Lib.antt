@@ -9,3 +9,8 @@ pub mod SegLaws
 pub mod Whole
 pub mod Advance
 pub mod Pauses
+pub mod SaneCore
+pub mod Readers
+pub mod Committed
+pub mod Begun
+pub mod Standing

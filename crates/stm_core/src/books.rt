@@ -4,8 +4,9 @@ ghost use Rattle.std.specs.Prelude.{◌≡◌, ◌<◌, ◌≤◌, ◌+◌, ◌+
 ghost use Rattle.stm_core.specs.Books.{runs_at, started_at, side_of};
 
 use crate::cause::Cause;
+use crate::threads::{Started, Threads};
 use lock_run::History;
-use py_data::{Conflict, Conflicts, Items, Log, Names, NoMemory, Side};
+use py_data::{Conflict, Conflicts, Names, NoMemory, Side};
 use std::alloc::AllocError;
 use std::mem;
 
@@ -15,7 +16,7 @@ use std::mem;
 pub struct Progress<T> {
     pub names: Names,
     pub kept_names: usize,
-    pub started: Items<T>,
+    pub started: Started<T>,
     pub kept_started: usize,
 }
 
@@ -42,7 +43,7 @@ pub enum Hand<T> {
 #[derive(Drop)]
 pub struct Books<T> {
     /// The committed states of the threads, with room for all that running transactions started.
-    pub threads: Log<T>,
+    pub threads: Threads<T>,
     /// How many threads the running transactions started, all together.
     pub pending: usize,
     /// What each segment has in hand.

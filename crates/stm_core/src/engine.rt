@@ -24,10 +24,13 @@ pub enum Pause {
 /// Several transactions of a client's threads over one store.
 #[derive(Drop)]
 pub struct Engine<'p, C: Client, S> {
-    alloc: Global,
-    client: &'p C,
-    store: S,
-    books: Books<C::State>,
+    pub alloc: Global,
+    pub client: &'p C,
+    pub store: S,
+    pub books: Books<C::State>,
+    /// How many steps the turns of the history have, all together; where they have more than there are numbers, the last
+    /// number.
+    pub spent: u64,
 }
 
 impl<'p, C: Client, S: SegStore> Engine<'p, C, S> {
@@ -142,7 +145,7 @@ impl<'p, C: Client, S: SegStore> Engine<'p, C, S> {
     }
 
     /// Drops the transaction of segment k, which was taken out of its hand.
-    fn drop_out(&mut self, k: u8, work: Work<C::State>)
+    pub fn drop_out(&mut self, k: u8, work: Work<C::State>)
         requires fit { Fit k (S.meaning self.old.store) self.old.books work.progress }
         requires idle { slice_get self.old.books.hands.items k ≡ Some Hand.Idle }
         ensures rest { self.new ≡ record self.old { store = self.new.store; books = self.new.books } }
@@ -155,7 +158,7 @@ impl<'p, C: Client, S: SegStore> Engine<'p, C, S> {
     }
 
     /// The transaction of segment k, which was taken out of its hand, lost a conflict to another.
-    fn lose_out(&mut self, k: u8, work: Work<C::State>, f: Conflict)
+    pub fn lose_out(&mut self, k: u8, work: Work<C::State>, f: Conflict)
         requires fit { Fit k (S.meaning self.old.store) self.old.books work.progress }
         requires idle { slice_get self.old.books.hands.items k ≡ Some Hand.Idle }
         ensures rest { self.new ≡ record self.old { store = self.new.store; books = self.new.books } }

@@ -1,11 +1,18 @@
 //! The transactional core: several transactions of a client's threads over one store.
 #![tactic(auto)]
 
+mod begin;
 mod books;
 mod cause;
+mod commit;
 mod engine;
 mod laws;
 mod segment;
+mod standing;
+mod threads;
 
+pub use begin::BeginError;
 pub use cause::Cause;
+pub use commit::Commit;
 pub use laws::{commit_law, good_law, stands_law};
+pub use standing::{RunState, Slot};

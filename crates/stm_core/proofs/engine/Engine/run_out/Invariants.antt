@@ -13,6 +13,7 @@ invariant-turns g l = record {
   idle : slice_get l.self.books.hands.items l.k ≡ Some Idle;
   client : l.self.client ≡ l.initial.self.client;
   alloc : l.self.alloc ≡ l.initial.self.alloc;
+  spent : l.self.spent ≡ l.initial.self.spent;
   sane : Sane (g.C.Client.prog l.initial.self.client.now) (g.C.Client.sound l.initial.self.client.now) l.length l.k (g.S.SegStore.meaning l.self.store) l.self.books l.work;
   lives : (g.C.Client.prog l.initial.self.client.now).life l.work.state ≡ Lives;
   steps : l.work.steps ≡ l.initial.work.steps + l.done;
