@@ -9,3 +9,4 @@ pub mod SegLaws
 pub mod Whole
 pub mod Advance
 pub mod Pauses
+pub mod SaneCore
