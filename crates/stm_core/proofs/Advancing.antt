@@ -60,7 +60,7 @@ count_dooms S [] = refl
 count_dooms S (f ∷ fs) = let a = sum_by-cons (steps_of {S = S}) (DoomsMove f) (map DoomsMove fs) in let b = count_dooms S fs in omega (arith, a, b)
 
 -- a segment set twice
-set_again : {S : Type 0} (k : ℕ) (s r : Segment S) (f : ℕ → Segment S) → set_segment k s (set_segment k r f) ≡ set_segment k s f
+pub set_again : {S : Type 0} (k : ℕ) (s r : Segment S) (f : ℕ → Segment S) → set_segment k s (set_segment k r f) ≡ set_segment k s f
 set_again {S} k s r f q x = at x q
   where
     at : (x : ℕ) → set_segment k s (set_segment k r f) x ≡ set_segment k s f x
@@ -155,7 +155,7 @@ idle_after w k me fs m m1 b b1 x1 ds idle fit =
     idle_hand w (m1.part k) b1.hands.items k (subst (λ n. k < n) (sym fit.hands) fit.mine) (dooms_own k me fs (core_of w m b) (core_of w m1 b1) ds ∙ ap (segment_of w (m.part k)) idle)
 
 -- any world will do to tell that
-pub dry_world : World
+unfoldable pub dry_world : World
 dry_world = record { input = None; out = []; err = []; mid = false }
 
 pub done_idle : {S : Type 0} (p : Prog S) (k : ℕ) (o : Outcome) (m m1 : Meaning) (b b1 : Books S) (x x1 : Work S) → ((w : World) → w.mid ≡ false → StepDone p w k (side k (transaction w (m.part k) x)) o m b x m1 b1 x1)

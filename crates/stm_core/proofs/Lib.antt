@@ -11,5 +11,9 @@ pub mod Stepping
 pub mod Stopping
 pub mod Wholes
 pub mod Soundness
+pub mod Afresh
 pub mod StepOut
+pub mod Pausing
 pub mod Advancing
+pub mod Settling
+pub mod Advanced

@@ -29,6 +29,7 @@ use Rattle.stm_core.specs.Whole.{stepped, StepDone, StepCut, StopsAt, CutWhy, Me
 use Rattle.stm_core.proofs.Holding.{core_own}
 use Rattle.stm_core.proofs.Stepping.{at_world, row_done, sight_is, advances}
 use Rattle.stm_core.proofs.Stopping.{row_stopped, stays}
+use Rattle.stm_core.proofs.Afresh.{waits_afresh}
 
 places_same : (xs ys : List Addr) → places xs ≡ places ys → xs ≡ ys
 places_same [] [] e = refl
@@ -123,7 +124,15 @@ module _ {S X : Type 0} (hold : X → Hold S) (segment : X → ℕ) (me : X → 
               (sym (ap (λ (z : Progress S). z.started) ep) ∙ q.1.started ∙ ap (λ (z : Hold S). z.progress.started) op ∙ ap (λ (z : Progress S). z.started) xp)
               (λ a l. ap (λ (z : Meaning). (z.part k).looked a) (sym em) ∙ r.1.looked a (ap (λ (z : Part). z.looked a) part ∙ l))
               (λ a l. ap (λ (z : Meaning). mem a (z.part k).changed) (sym em) ∙ r.1.locks a (ap (λ (z : Part). mem a z.changed) part ∙ l));
+          waiting = λ e w1.
+              let r1 = row_done hold segment me same w1 k s mortal (prog.row x.state) v1 (o, x1.state) u (h.1.1.segment_is ∙ ek) (h.1.1.me_is ∙ es) asks h.2 in
+              waits_afresh (prog.row x.state) (at_world w1 (sight k (hold v1))) (at_world w1 (sight k (hold u))) (sees m k) w1 x1.state (ap (λ (z : Hold S). sees z.meaning k) op ∙ (step_shows k m).opened) refl
+              (subst (λ z. Does (prog.row x.state) (at_world w1 (sight k (hold v1))) (z, x1.state) (at_world w1 (sight k (hold u)))) e r1.0);
           image = im;
+          shape = (
+            sym (ap (λ (z : Meaning). z.segments) em) ∙ r.1.segments ∙ ap (λ (z : Hold S). z.meaning.segments) op,
+            sym (ap (λ (z : Meaning). z.limit) em) ∙ r.1.limit ∙ ap (λ (z : Hold S). z.meaning.limit) op,
+          );
         }
 
     -- a step that was cut, and taken back
@@ -155,6 +164,10 @@ module _ {S X : Type 0} (hold : X → Hold S) (segment : X → ℕ) (me : X → 
               (λ a l. ap (λ (z : Part). z.looked a) part1 ∙ st.0.looked a (ap (λ (z : Part). z.looked a) part ∙ l))
               (λ a l. ap (λ (z : Part). mem a z.changed) part1 ∙ st.0.locks a (ap (λ (z : Part). mem a z.changed) part ∙ l));
           image = im;
+          shape = (
+            sym (ap (λ (z : Meaning). z.segments) em) ∙ ap (λ (z : Hold S). z.meaning.segments) un ∙ st.0.segments ∙ ap (λ (z : Hold S). z.meaning.segments) op,
+            sym (ap (λ (z : Meaning). z.limit) em) ∙ ap (λ (z : Hold S). z.meaning.limit) un ∙ st.0.limit ∙ ap (λ (z : Hold S). z.meaning.limit) op,
+          );
           why = cut_why e (sym core1) (sym er ∙ ap (λ (z : Hold S). z.reserved) un) (sym (ap (λ (z : Meaning). z.limit) em) ∙ ap (λ (z : Hold S). z.meaning.limit) un) st.1;
           solo = if_solo e (begins v1 op) st.1;
         }

@@ -10,3 +10,5 @@ pub mod Whole
 pub mod Advance
 pub mod Pauses
 pub mod SaneCore
+pub mod Pausing
+pub mod Advanced
