@@ -142,18 +142,18 @@ module _ {S : Type 0} (p : Prog S) (most k : ℕ) where
   led_then : (c u v : CoreState S) → Led p most k c u → Led p most k u v → Led p most k c v
   led_then c u v a b = record { moves = a.moves ++ b.moves; follows = follows_append p most c u v a.moves b.moves a.follows b.follows; own = All-append (IsOwn k) a.moves b.moves a.own b.own }
 
-  advance_own : (mv : Move S) → IsAdvance k mv → IsOwn k mv
-  advance_own (Dooms f) h = tt
-  advance_own (Goes i x x1) h = h
-  advance_own (Rests i x x1) h = h
-  advance_own (Begins i t q) h = absurd h
-  advance_own (Drops i) h = absurd h
-  advance_own (Loses f) h = absurd h
-  advance_own (Commits i x) h = absurd h
-  advance_own (Keeps e) h = absurd h
+  advance_own : (image : Heap) (w : World) (mv : Move S) → IsAdvance p image w k mv → IsOwn k mv
+  advance_own image w (Dooms f) h = tt
+  advance_own image w (Goes i x x1) h = h.0
+  advance_own image w (Rests i x x1) h = h.0
+  advance_own image w (Begins i t q) h = absurd h
+  advance_own image w (Drops i) h = absurd h
+  advance_own image w (Loses f) h = absurd h
+  advance_own image w (Commits i x) h = absurd h
+  advance_own image w (Keeps e) h = absurd h
 
   gone_led : (n : ℕ) (c c1 : CoreState S) → Gone p most k n c c1 → Led p most k c c1
-  gone_led n c c1 g = record { moves = g.moves; follows = g.follows; own = All-weaker (IsAdvance k) (IsOwn k) advance_own g.moves g.kinds }
+  gone_led n c c1 g = record { moves = g.moves; follows = g.follows; own = All-weaker (IsAdvance p c.image c.world k) (IsOwn k) (advance_own c.image c.world) g.moves g.kinds }
 
   none_led : (c c1 : CoreState S) → c1 ≡ c → Led p most k c c1
   none_led c c1 e = record { moves = []; follows = e; own = All-nil (IsOwn k) }

@@ -6,6 +6,7 @@ pub mod Books
 pub mod Hold
 pub mod SegSense
 pub mod SegLaws
+pub mod Asking
 pub mod Whole
 pub mod Advance
 pub mod Pauses

@@ -21,6 +21,7 @@ use Rattle.stm_core.specs.declared.books.Books.{Books}
 use Rattle.stm_core.specs.CoreState.{CoreState, sight_of}
 use Rattle.stm_core.specs.Moves.{Advances, Stays}
 use Rattle.stm_core.specs.Books.{WorkFits, runs_at, one_running, one_started, is_lock, transaction, core_of}
+use Rattle.stm_core.specs.Asking.{AsksOnly}
 use Rattle.stm_core.specs.Hold.{Dooms, SegWhy, LosesTo, IsOuter, Hold}
 
 -- all transactions are in their hands
@@ -51,15 +52,14 @@ pub record StepDone {S : Type 0} (p : Prog S) (w : World) (k : ℕ) (me : Side) 
   pub goes : o ≢ WaitsNow → Advances p m.image w (transaction w (m.part k) x) (transaction w (m1.part k) (stepped x1))
   pub waits : o ≡ WaitsNow → Stays m.image (transaction w (m.part k) x) (transaction w (m1.part k) x1)
   pub waiting : o ≡ WaitsNow → Waiting (p.row x.state) (sees m k)
+  pub asks : AsksOnly (p.row x.state) (sight_of m.image w (transaction w (m.part k) x)) (m1.part k).looked (m1.part k).changed
   pub image : m1.image ≡ m.image
   pub shape : SameShape m m1
 
 -- where a row was stopped: its calls were done up to a place, and there the code found no memory, or the next call was refused
 pub record StopsAt {S A : Type 0} (k : ℕ) (me : Side) (row : Row S A) (s : Sight S) (e : Stop) (d : Hold S) : Type 0 where
-  pub left : Row S A
-  pub place : Sight S
-  pub upto : Upto pure row s left place
-  pub why : (e ≡ OutOfMemory) ⊎ ((c : Call S) × (f : Reply c → Row S A) × (left ≡ Do c f) × SegWhy k me e c d)
+  pub asks : AsksOnly row s (d.meaning.part k).looked (d.meaning.part k).changed
+  pub why : (e ≡ OutOfMemory) ⊎ ((c : Call S) × (f : Reply c → Row S A) × (asks.left ≡ Do c f) × SegWhy k me e c d)
 
 -- why a step wasn't done, as the core is afterwards
 abbrev pub CutWhy : {S : Type 0} → ℕ → Side → Stop → CoreState S → ℕ → ℕ → Type 0
@@ -86,6 +86,7 @@ pub record StepCut {S : Type 0} (p : Prog S) (w : World) (k : ℕ) (me : Side) (
   pub dooms : List Conflict
   pub others : Dooms k me dooms (core_of w m b) (core_of w m1 b1)
   pub stays : Stays m.image (transaction w (m.part k) x) (transaction w (m1.part k) x1)
+  pub asks : AsksOnly (p.row x.state) (sight_of m.image w (transaction w (m.part k) x)) (m1.part k).looked (m1.part k).changed
   pub image : m1.image ≡ m.image
   pub shape : SameShape m m1
   pub why : CutWhy k me e (core_of w m1 b1) r1 m1.limit
