@@ -11,10 +11,14 @@ pub mod Stepping
 pub mod Stopping
 pub mod Wholes
 pub mod Soundness
+pub mod Afresh
 pub mod StepOut
+pub mod Pausing
 pub mod Advancing
 pub mod Committing
 pub mod Publishing
 pub mod Beginning
 pub mod Hands
 pub mod Standings
+pub mod Settling
+pub mod Advanced

@@ -31,7 +31,7 @@ impl<'p, C: Client, S: SegStore> Engine<'p, C, S> {
     ghost use Rattle.seg_store.specs.Store.{IsStore};
     ghost use Rattle.stm_core.specs.Moves.{begun_at};
     ghost use Rattle.stm_core.specs.Books.{one_running, core_of};
-    ghost use Rattle.stm_core.specs.Whole.{Whole};
+    ghost use Rattle.stm_core.specs.Whole.{Whole, SameShape};
     ghost use Rattle.stm_core.specs.SaneCore.{SaneCore};
     ghost use Rattle.stm_core.specs.Begun.{IsCount, Begun, IsFresh};
 
@@ -76,6 +76,7 @@ impl<'p, C: Client, S: SegStore> Engine<'p, C, S> {
         requires loss { sum_by one_running self.old.books.hands.items < self.old.books.conflicts.room }
         ensures whole { Whole (S.meaning self.new.store) self.new.books }
         ensures rest { self.new ≡ record self.old { store = self.new.store; books = self.new.books } }
+        ensures shape { SameShape (S.meaning self.old.store) (S.meaning self.new.store) }
         ensures core { (w : World) → core_of w (S.meaning self.new.store) self.new.books ≡ begun_at k work.thread work.state (core_of w (S.meaning self.old.store) self.old.books) }
     {
         self.store.known();
@@ -99,6 +100,7 @@ impl<'p, C: Client, S: SegStore> Engine<'p, C, S> {
         ensures store { IsStore (S.reserved self.new.store) (S.meaning self.new.store) }
         ensures count { IsCount self.new.spent self.new.books.history.entries }
         ensures rest { self.new ≡ record self.old { store = self.new.store; books = self.new.books } }
+        ensures shape { SameShape (S.meaning self.old.store) (S.meaning self.new.store) }
         ensures begun { (w : World) → Begun (C.prog self.old.client.now) k t budget result (core_of w (S.meaning self.old.store) self.old.books) (core_of w (S.meaning self.new.store) self.new.books) }
         ensures sane { (most : ℕ) → SaneCore (C.prog self.old.client.now) (C.sound self.old.client.now) most (S.meaning self.old.store) self.old.books
             → SaneCore (C.prog self.old.client.now) (C.sound self.old.client.now) most (S.meaning self.new.store) self.new.books }

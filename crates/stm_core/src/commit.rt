@@ -98,7 +98,7 @@ impl<'p, C: Client, S: SegStore> Engine<'p, C, S> {
     ghost use Rattle.stm_core.specs.Moves.{published};
     ghost use Rattle.stm_core.specs.Passes.{doom_one, doom_readers};
     ghost use Rattle.stm_core.specs.Books.{Fit, transaction, core_of};
-    ghost use Rattle.stm_core.specs.Whole.{Whole};
+    ghost use Rattle.stm_core.specs.Whole.{Whole, SameShape};
     ghost use Rattle.stm_core.specs.Advance.{core_with};
     ghost use Rattle.stm_core.specs.SaneCore.{SaneCore};
     ghost use Rattle.stm_core.specs.Begun.{IsCount};
@@ -171,7 +171,7 @@ impl<'p, C: Client, S: SegStore> Engine<'p, C, S> {
         ensures rest { self.new ≡ record self.old { store = self.new.store; books = self.new.books } }
         ensures idle { slice_get self.new.books.hands.items k ≡ slice_get self.old.books.hands.items k }
         ensures part { (S.meaning self.new.store).part k ≡ (S.meaning self.old.store).part k }
-        ensures segments { (S.meaning self.new.store).segments ≡ (S.meaning self.old.store).segments }
+        ensures shape { SameShape (S.meaning self.old.store) (S.meaning self.new.store) }
         ensures core { (w : World) → core_with w k (S.meaning self.new.store) self.new.books work.now
             ≡ cond (eqb j k) (core_with w k (S.meaning self.old.store) self.old.books work.now)
             (doom_one k (transaction w ((S.meaning self.old.store).part k) work.now) j (core_with w k (S.meaning self.old.store) self.old.books work.now) ((core_with w k (S.meaning self.old.store) self.old.books work.now).segments j)) }
@@ -179,12 +179,7 @@ impl<'p, C: Client, S: SegStore> Engine<'p, C, S> {
         match self.read_by(k, j) {
             None => (),
             Some(at) => {
-                let writer = Side {
-                    segment: k,
-                    thread: work.thread,
-                    begun: work.begun,
-                    solo: false,
-                };
+                let writer = work.side(k);
                 let other = self.books.side(j);
                 let lost = Conflict {
                     at,
@@ -206,6 +201,7 @@ impl<'p, C: Client, S: SegStore> Engine<'p, C, S> {
         ensures rest { self.new ≡ record self.old { store = self.new.store; books = self.new.books } }
         ensures idle { slice_get self.new.books.hands.items k ≡ slice_get self.old.books.hands.items k }
         ensures part { (S.meaning self.new.store).part k ≡ (S.meaning self.old.store).part k }
+        ensures shape { SameShape (S.meaning self.old.store) (S.meaning self.new.store) }
         ensures core { (w : World) → core_with w k (S.meaning self.new.store) self.new.books work.now
             ≡ doom_readers k (transaction w ((S.meaning self.old.store).part k) work.now) (range_with_len 0 (S.meaning self.old.store).segments) (core_with w k (S.meaning self.old.store) self.old.books work.now) }
     {
@@ -224,6 +220,7 @@ impl<'p, C: Client, S: SegStore> Engine<'p, C, S> {
         ensures whole { Whole (S.meaning self.new.store) self.new.books }
         ensures count { IsCount self.new.spent self.new.books.history.entries }
         ensures rest { self.new ≡ record self.old { store = self.new.store; books = self.new.books; spent = self.new.spent } }
+        ensures shape { SameShape (S.meaning self.old.store) (S.meaning self.new.store) }
         ensures place { result ≡ length self.old.books.history.entries }
         ensures core { (w : World) → core_of w (S.meaning self.new.store) self.new.books ≡ published k (transaction w ((S.meaning self.old.store).part k) work) (core_with w k (S.meaning self.old.store) self.old.books work) }
     {
@@ -245,6 +242,7 @@ impl<'p, C: Client, S: SegStore> Engine<'p, C, S> {
         ensures whole { Whole (S.meaning self.new.store) self.new.books }
         ensures count { IsCount self.new.spent self.new.books.history.entries }
         ensures rest { self.new ≡ record self.old { store = self.new.store; books = self.new.books; spent = self.new.spent } }
+        ensures shape { SameShape (S.meaning self.old.store) (S.meaning self.new.store) }
         ensures ends { (w : World) → CommitEnds k (S.meaning self.old.store).segments (transaction w ((S.meaning self.old.store).part k) work) result
             (core_with w k (S.meaning self.old.store) self.old.books work) (core_of w (S.meaning self.new.store) self.new.books) }
     {
@@ -252,12 +250,7 @@ impl<'p, C: Client, S: SegStore> Engine<'p, C, S> {
             self.drop_out(k, work);
             return Ok(Commit::Nothing);
         }
-        let me = Side {
-            segment: k,
-            thread: work.thread,
-            begun: work.begun,
-            solo: false,
-        };
+        let me = work.side(k);
         match self.beaten(k, me) {
             Some(f) => {
                 self.lose_out(k, work, f);
@@ -287,6 +280,7 @@ impl<'p, C: Client, S: SegStore> Engine<'p, C, S> {
         ensures store { IsStore (S.reserved self.new.store) (S.meaning self.new.store) }
         ensures count { IsCount self.new.spent self.new.books.history.entries }
         ensures rest { self.new ≡ record self.old { store = self.new.store; books = self.new.books; spent = self.new.spent } }
+        ensures shape { SameShape (S.meaning self.old.store) (S.meaning self.new.store) }
         ensures committed { (w : World) → Committed k (S.meaning self.old.store).segments result (core_of w (S.meaning self.old.store) self.old.books) (core_of w (S.meaning self.new.store) self.new.books) }
         ensures sane { (most : ℕ) → SaneCore (C.prog self.old.client.now) (C.sound self.old.client.now) most (S.meaning self.old.store) self.old.books
             → SaneCore (C.prog self.old.client.now) (C.sound self.old.client.now) most (S.meaning self.new.store) self.new.books }

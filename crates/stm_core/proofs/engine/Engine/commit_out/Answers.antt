@@ -1,4 +1,4 @@
-use Rattle.std.proofs.Common.{◌≡◌, ◌≢◌, ◌<◌, ◌≤◌, List, length, sym, ap, subst, ◌∙◌, arith}
+use Rattle.std.proofs.Common.{◌≡◌, ◌≢◌, ◌<◌, ◌≤◌, List, Some, None, length, sym, ap, subst, ◌∙◌, arith}
 use Rattle.std.specs.List.{range_with_len}
 use Rattle.stm_core.specs.CoreState.{with_conflict}
 use Rattle.stm_core.specs.Moves.{published}
@@ -6,6 +6,7 @@ use Rattle.stm_core.specs.Books.{transaction}
 use Rattle.stm_core.specs.Hold.{no_world}
 use Rattle.stm_core.specs.Advance.{core_with}
 use Rattle.stm_core.specs.Begun.{IsCount}
+use Rattle.stm_core.specs.Readers.{FirstBeats}
 use Rattle.stm_core.proofs.Committing.{none_wins, beaten_is}
 use Rattle.stm_core.proofs.Publishing.{left_idle, dooms_keep}
 use Rattle.stm_core.proofs.engine.Engine.commit_out.Goals as goal
@@ -34,7 +35,7 @@ returns-in-Some-clause-ends g c = λ w.
     let m = g.S.SegStore.meaning c.args.self.now.store in
     let n : c.args.work.steps ≢ 0 = c.if-work-eq0.false in (
       omega (arith, n),
-      beaten_is w c.args.k m c.args.self.now.books c.args.work m.segments c.in-Some.f c.in-Some.ensures,
+      beaten_is w c.args.k m c.args.self.now.books c.args.work m.segments c.in-Some.f (subst (λ s. FirstBeats c.args.self.now.books.hands.items m c.args.k s m.segments (Some c.in-Some.f)) c.side-me.ensures c.in-Some.ensures),
       c.lose_out.ensures.core w ∙ ap (with_conflict c.in-Some.f) (left_idle w c.args.k m c.args.self.now.books c.args.work c.requires.idle),
     )
 
@@ -46,7 +47,7 @@ returns-in-None-clause-ends g c = λ w.
     let u = core_with w c.args.k m c.args.self.now.books c.args.work in
     let n : c.args.work.steps ≢ 0 = c.if-work-eq0.false in (
       omega (arith, n),
-      none_wins w c.args.k m c.args.self.now.books c.args.work m.segments c.requires.fit.hands c.in-None.ensures c.requires.numbers,
+      none_wins w c.args.k m c.args.self.now.books c.args.work m.segments c.requires.fit.hands (subst (λ s. FirstBeats c.args.self.now.books.hands.items m c.args.k s m.segments None) c.side-me.ensures c.in-None.ensures) c.requires.numbers,
       c.publish.ensures.place ∙ ap (λ k. length k.history) (c.doom_readers.ensures.core w) ∙ ap length (dooms_keep c.args.k tx (range_with_len 0 m.segments) u).1,
       c.publish.ensures.core w ∙ ap (λ p. published c.args.k (transaction w p c.args.work) (core_with w c.args.k m1 c.doom_readers.new.self.books c.args.work)) c.doom_readers.ensures.part ∙ ap (published c.args.k tx) (c.doom_readers.ensures.core w),
     )

@@ -1,4 +1,4 @@
-use Rattle.std.proofs.Common.{refl, sym, ap, subst, ◌∙◌, slice_get}
+use Rattle.std.proofs.Common.{false, sym, ap, subst, ◌∙◌, slice_get}
 use Rattle.stm_core.specs.Books.{Fit, side_of}
 use Rattle.stm_core.specs.Advance.{core_with}
 use Rattle.stm_core.proofs.Publish.{get_set_other}
@@ -30,5 +30,5 @@ pub returns-in-Some-clause-core : goal.returns-in-Some-clause-core
 returns-in-Some-clause-core g c = λ w.
     let m = g.S.SegStore.meaning c.args.self.now.store in
     ap (λ n. core_with w c.args.k n c.doom.new.self c.args.work.now) c.drop_changes.ensures.meaning
-    ∙ doom_some w c.args.k m c.args.self.now.books c.args.work.now c.args.j c.in-Some.at.0 _ c.doom.new.self c.in-Some.ensures refl (λ z q. c.side-other.ensures ∙ ap (side_of c.args.j c.side-other.result) q)
+    ∙ doom_some w c.args.k m c.args.self.now.books c.args.work.now c.args.j c.in-Some.at.0 _ c.doom.new.self c.in-Some.ensures (ap (λ s. record { at = c.in-Some.at; writer = s; other = c.side-other.result; asks = false; lost = 1 }) c.side-writer.ensures) (λ z q. c.side-other.ensures ∙ ap (side_of c.args.j c.side-other.result) q)
     c.doom.ensures.rest c.doom.ensures.hands c.doom.ensures.conflicts
