@@ -1,5 +1,5 @@
 -- Steps of a transaction, one after another, as moves of the core.
-use Rattle.std.proofs.Common.{◌≡◌, ◌≢◌, ◌<◌, ◌≤◌, ◌+◌, ℕ, zero, suc, true, false, cond, eqb, List, [], ◌∷◌, ◌++◌, length, slice_get, map, Option, Some, None, All, refl, sym, ◌∙◌, ap, subst, arith}
+use Rattle.std.proofs.Common.{◌≡◌, ◌≢◌, ◌<◌, ◌≤◌, ◌+◌, ℕ, zero, suc, true, false, cond, eqb, List, [], ◌∷◌, ◌++◌, length, slice_get, map, Option, Some, None, All, refl, sym, ◌∙◌, ap, subst, subst₂, arith}
 use Rattle.std.specs.List.{sum_by}
 use Rattle.std.proofs.lemmas.List.Sums.{sum_by-append, sum_by-cons}
 use Rattle.std.proofs.lemmas.List.Elements.{All-append, All-cons, All-nil}
@@ -19,13 +19,14 @@ use Rattle.stm_core.specs.declared.books.Work.{Work}
 use Rattle.stm_core.specs.declared.books.Hand.{Hand}
 use Rattle.stm_core.specs.declared.books.Hand.TheVariants.{Idle as IdleHand, Doomed as DoomedHand, Runs}
 use Rattle.stm_core.specs.declared.books.Books.{Books}
-use Rattle.stm_core.specs.CoreState.{Transaction, Segment, Idle, Doomed, Running, CoreState, side, set_segment, with_segment}
+use Rattle.stm_core.specs.CoreState.{Transaction, Segment, Idle, Doomed, Running, CoreState, side, sight_of, set_segment, with_segment}
 use Rattle.stm_core.specs.Moves.{Advances, Stays, IsFree, Move, Dooms as DoomsMove, Goes, Rests, Next}
 use Rattle.stm_core.specs.Books.{transaction, segment_of, core_of, Fit}
 use Rattle.stm_core.specs.Hold.{Dooms}
+use Rattle.stm_core.specs.Asking.{AsksOnly}
 use Rattle.stm_core.specs.Whole.{stepped, StepDone, StepCut}
 use Rattle.stm_core.specs.Advance.{IsAdvance, steps_of, core_with, Gone, Sane}
-use Rattle.stm_core.proofs.Commit.{follows_append}
+use Rattle.stm_core.proofs.TwoPasses.{follows_append}
 use Rattle.stm_core.proofs.Kept.{good_after}
 use Rattle.stm_core.proofs.Stepping.{dooms_moves, is_free}
 use Rattle.stm_core.proofs.Soundness.{sound_transaction}
@@ -51,16 +52,16 @@ idle_hand {S} w p hs k lt e = go (slice_get hs k) refl e
     go (Some (DoomedHand f)) q h = absurd cc
     go (Some (Runs x)) q h = absurd cc
 
-kinds_dooms : {S : Type 0} (k : ℕ) (fs : List Conflict) → All (IsAdvance {S = S} k) (map DoomsMove fs)
-kinds_dooms k [] = All-nil (IsAdvance k)
-kinds_dooms k (f ∷ fs) = All-cons (IsAdvance k) (DoomsMove f) (map DoomsMove fs) tt (kinds_dooms k fs)
+kinds_dooms : {S : Type 0} (p : Prog S) (h : Heap) (w : World) (k : ℕ) (fs : List Conflict) → All (IsAdvance p h w k) (map DoomsMove fs)
+kinds_dooms p h w k [] = All-nil (IsAdvance p h w k)
+kinds_dooms p h w k (f ∷ fs) = All-cons (IsAdvance p h w k) (DoomsMove f) (map DoomsMove fs) tt (kinds_dooms p h w k fs)
 
 count_dooms : (S : Type 0) (fs : List Conflict) → sum_by (steps_of {S = S}) (map DoomsMove fs) ≡ 0
 count_dooms S [] = refl
 count_dooms S (f ∷ fs) = let a = sum_by-cons (steps_of {S = S}) (DoomsMove f) (map DoomsMove fs) in let b = count_dooms S fs in omega (arith, a, b)
 
 -- a segment set twice
-set_again : {S : Type 0} (k : ℕ) (s r : Segment S) (f : ℕ → Segment S) → set_segment k s (set_segment k r f) ≡ set_segment k s f
+pub set_again : {S : Type 0} (k : ℕ) (s r : Segment S) (f : ℕ → Segment S) → set_segment k s (set_segment k r f) ≡ set_segment k s f
 set_again {S} k s r f q x = at x q
   where
     at : (x : ℕ) → set_segment k s (set_segment k r f) x ≡ set_segment k s f x
@@ -69,12 +70,13 @@ set_again {S} k s r f q x = at x q
 -- dooms of others, and then one move of the segment itself
 then_move : {S : Type 0} (p : Prog S) (most k n d : ℕ) (w : World) (m m1 : Meaning) (b b1 : Books S) (x x1 : Work S) (c0 : CoreState S) (fs : List Conflict) (move : Move S) → Gone p most k n c0 (core_with w k m b x)
     → Dooms k (side k (transaction w (m.part k) x)) fs (core_of w m b) (core_of w m1 b1)
-    → Next p most (with_segment k (Running (transaction w (m.part k) x)) (core_of w m1 b1)) move (core_with w k m1 b1 x1) → IsAdvance k move → steps_of move ≡ d → Gone p most k (n + d) c0 (core_with w k m1 b1 x1)
-then_move {S} p most k n d w m m1 b b1 x x1 c0 fs move g ds next kind count =
+    → Next p most (with_segment k (Running (transaction w (m.part k) x)) (core_of w m1 b1)) move (core_with w k m1 b1 x1) → m1.image ≡ m.image → IsAdvance p m.image w k move → steps_of move ≡ d → Gone p most k (n + d) c0 (core_with w k m1 b1 x1)
+then_move {S} p most k n d w m m1 b b1 x x1 c0 fs move g ds next im kind count =
     let tx = transaction w (m.part k) x in
     let mid = with_segment k (Running tx) (core_of w m1 b1) in
     let end = core_with w k m1 b1 x1 in
     let more = map DoomsMove fs ++ move ∷ [] in
+    let K : Move S → Type 0 = IsAdvance p c0.image c0.world k in
     let a = follows_append p most (core_with w k m b x) mid end (map DoomsMove fs) (move ∷ []) (dooms_moves p most k tx fs (core_of w m b) (core_of w m1 b1) ds) (end, next, refl) in
     let s = sum_by-append (steps_of {S = S}) g.moves more in
     let t = sum_by-append (steps_of {S = S}) (map DoomsMove fs) (move ∷ []) in
@@ -84,8 +86,10 @@ then_move {S} p most k n d w m m1 b b1 x x1 c0 fs move g ds next kind count =
     record {
       moves = g.moves ++ more;
       follows = follows_append p most c0 (core_with w k m b x) end g.moves more g.follows a;
-      kinds = All-append (IsAdvance k) g.moves more g.kinds (All-append (IsAdvance k) (map DoomsMove fs) (move ∷ []) (kinds_dooms k fs) (All-cons (IsAdvance k) move [] kind (All-nil (IsAdvance k))));
+      kinds = All-append K g.moves more g.kinds (All-append K (map DoomsMove fs) (move ∷ []) (kinds_dooms p c0.image c0.world k fs) (All-cons K move [] (subst₂ (λ h v. IsAdvance p h v k move) g.image g.world kind) (All-nil K)));
       count = omega (arith, s, t, u, z, c, count);
+      image = im ∙ g.image;
+      world = g.world;
     }
 
 -- what is free of the others stays so with the transaction in its segment
@@ -109,28 +113,28 @@ module _ {S : Type 0} (p : Prog S) (most k n : ℕ) (w : World) (m m1 : Meaning)
       let tx1 = transaction w (m1.part k) (stepped x1) in
       let v : Advances p m1.image w tx tx1 = subst (λ h. Advances p h w tx tx1) (sym d.image) (d.goes goes) in
       let free = free_with k (Running tx) (core_of w m1 b1) tx1 (is_free w k r1 m1 b1 (stepped x1) st fit.own_names fit.works) in
-      then_move p most k n 1 w m m1 b b1 x (stepped x1) c0 d.dooms (Goes k tx tx1) g d.others (here (Running tx) (core_of w m1 b1), le, v, free, again (Running tx1) (Running tx) (core_of w m1 b1)) refl refl
+      then_move p most k n 1 w m m1 b b1 x (stepped x1) c0 d.dooms (Goes k tx tx1) g d.others (here (Running tx) (core_of w m1 b1), le, v, free, again (Running tx1) (Running tx) (core_of w m1 b1)) d.image (refl, d.asks) refl
 
   -- a step that left looks and locks alone
-  gone_rest : (fs : List Conflict) → Dooms k (side k (transaction w (m.part k) x)) fs (core_of w m b) (core_of w m1 b1) → Stays m.image (transaction w (m.part k) x) (transaction w (m1.part k) x1) → m1.image ≡ m.image → IsStore r1 m1 → Fit k m1 b1 x1.progress
-      → Gone p most k (n + 0) c0 (core_with w k m1 b1 x1)
-  gone_rest fs ds stays im st fit =
+  gone_rest : (fs : List Conflict) → Dooms k (side k (transaction w (m.part k) x)) fs (core_of w m b) (core_of w m1 b1) → Stays m.image (transaction w (m.part k) x) (transaction w (m1.part k) x1) → m1.image ≡ m.image
+      → AsksOnly (p.row x.state) (sight_of m.image w (transaction w (m.part k) x)) (m1.part k).looked (m1.part k).changed → IsStore r1 m1 → Fit k m1 b1 x1.progress → Gone p most k (n + 0) c0 (core_with w k m1 b1 x1)
+  gone_rest fs ds stays im asks st fit =
       let tx = transaction w (m.part k) x in
       let tx1 = transaction w (m1.part k) x1 in
       let v : Stays m1.image tx tx1 = subst (λ h. Stays h tx tx1) (sym im) stays in
       let free = free_with k (Running tx) (core_of w m1 b1) tx1 (is_free w k r1 m1 b1 x1 st fit.own_names fit.works) in
-      then_move p most k n 0 w m m1 b b1 x x1 c0 fs (Rests k tx tx1) g ds (here (Running tx) (core_of w m1 b1), v, free, again (Running tx1) (Running tx) (core_of w m1 b1)) refl refl
+      then_move p most k n 0 w m m1 b b1 x x1 c0 fs (Rests k tx tx1) g ds (here (Running tx) (core_of w m1 b1), v, free, again (Running tx1) (Running tx) (core_of w m1 b1)) im (refl, asks) refl
 
   same_count : Gone p most k (n + 0) c0 (core_with w k m1 b1 x1) → Gone p most k n c0 (core_with w k m1 b1 x1)
-  same_count z = let c = z.count in record { moves = z.moves; follows = z.follows; kinds = z.kinds; count = omega (arith, c) }
+  same_count z = let c = z.count in record { moves = z.moves; follows = z.follows; kinds = z.kinds; count = omega (arith, c); image = z.image; world = z.world }
 
   -- a step that waits
   pub gone_wait : (o : Outcome) → o ≡ WaitsNow → StepDone p w k (side k (transaction w (m.part k) x)) o m b x m1 b1 x1 → IsStore r1 m1 → Fit k m1 b1 x1.progress → Gone p most k n c0 (core_with w k m1 b1 x1)
-  gone_wait o waits d st fit = same_count (gone_rest d.dooms d.others (d.waits waits) d.image st fit)
+  gone_wait o waits d st fit = same_count (gone_rest d.dooms d.others (d.waits waits) d.image d.asks st fit)
 
   -- a step that was cut
   pub gone_cut : (e : Stop) → StepCut p w k (side k (transaction w (m.part k) x)) e m b x m1 r1 b1 x1 → IsStore r1 m1 → Fit k m1 b1 x1.progress → Gone p most k n c0 (core_with w k m1 b1 x1)
-  gone_cut e d st fit = same_count (gone_rest d.dooms d.others d.stays d.image st fit)
+  gone_cut e d st fit = same_count (gone_rest d.dooms d.others d.stays d.image d.asks st fit)
 
 -- ---- the good core on the way
 
@@ -144,7 +148,7 @@ sane_after p sound most k n m m1 b b1 x x1 s g = record { world = s.world; dry =
 
 -- no step yet
 pub gone_none : {S : Type 0} (p : Prog S) (most k : ℕ) (c : CoreState S) → Gone p most k 0 c c
-gone_none {S} p most k c = record { moves = []; follows = refl; kinds = All-nil (IsAdvance k); count = refl }
+gone_none {S} p most k c = record { moves = []; follows = refl; kinds = All-nil (IsAdvance p c.image c.world k); count = refl; image = refl; world = refl }
 
 -- ---- a step, whichever way it ended
 
@@ -155,7 +159,7 @@ idle_after w k me fs m m1 b b1 x1 ds idle fit =
     idle_hand w (m1.part k) b1.hands.items k (subst (λ n. k < n) (sym fit.hands) fit.mine) (dooms_own k me fs (core_of w m b) (core_of w m1 b1) ds ∙ ap (segment_of w (m.part k)) idle)
 
 -- any world will do to tell that
-pub dry_world : World
+unfoldable pub dry_world : World
 dry_world = record { input = None; out = []; err = []; mid = false }
 
 pub done_idle : {S : Type 0} (p : Prog S) (k : ℕ) (o : Outcome) (m m1 : Meaning) (b b1 : Books S) (x x1 : Work S) → ((w : World) → w.mid ≡ false → StepDone p w k (side k (transaction w (m.part k) x)) o m b x m1 b1 x1)
@@ -169,10 +173,10 @@ unfolding dry_world
 cut_idle p k e m m1 r1 b b1 x x1 d idle fit = let z = d dry_world refl in idle_after dry_world k (side k (transaction dry_world (m.part k) x)) z.dooms m m1 b b1 x1 z.others idle fit
 
 pub gone_same : {S : Type 0} (p : Prog S) (most k n : ℕ) (c c1 : CoreState S) → Gone p most k n c c1 → Gone p most k (n + 0) c c1
-gone_same p most k n c c1 z = let e = z.count in record { moves = z.moves; follows = z.follows; kinds = z.kinds; count = omega (arith, e) }
+gone_same p most k n c c1 z = let e = z.count in record { moves = z.moves; follows = z.follows; kinds = z.kinds; count = omega (arith, e); image = z.image; world = z.world }
 
 pub gone_more : {S : Type 0} (p : Prog S) (most k n d : ℕ) (c c1 : CoreState S) → d ≡ 1 → Gone p most k (n + 1) c c1 → Gone p most k (n + d) c c1
-gone_more p most k n d c c1 one z = let e = z.count in record { moves = z.moves; follows = z.follows; kinds = z.kinds; count = omega (arith, e, one) }
+gone_more p most k n d c c1 one z = let e = z.count in record { moves = z.moves; follows = z.follows; kinds = z.kinds; count = omega (arith, e, one); image = z.image; world = z.world }
 
 pub done_not_waits : Done ≢ WaitsNow
 done_not_waits e = cc

@@ -1,6 +1,6 @@
 pub mod Publish
 pub mod Kept
-pub mod Commit
+pub mod TwoPasses
 pub mod New
 pub mod Looking
 pub mod Fits
@@ -11,5 +11,14 @@ pub mod Stepping
 pub mod Stopping
 pub mod Wholes
 pub mod Soundness
+pub mod Afresh
 pub mod StepOut
+pub mod Pausing
 pub mod Advancing
+pub mod Committing
+pub mod Publishing
+pub mod Beginning
+pub mod Hands
+pub mod Standings
+pub mod Settling
+pub mod Advanced

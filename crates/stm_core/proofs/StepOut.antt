@@ -1,5 +1,6 @@
 -- One step of a client over a segment's view, as the core sees it.
 use Rattle.std.proofs.Common.{◌≡◌, ℕ, suc, false, List, [], ◌∷◌, length, take, refl, sym, ◌∙◌, ap, subst, inl, inr, arith, Result, Ok, Err, IfOk, IfErr, OnErr}
+use Rattle.std.proofs.lemmas.Bool.{or_left}
 use Rattle.std.proofs.lemmas.List.{take_all}
 use Rattle.py_data.specs.declared.value.Addr.{Addr}
 use Rattle.py_data.specs.declared.stop.Side.{Side}
@@ -26,9 +27,11 @@ use Rattle.stm_core.specs.Books.{runs_at, transaction, core_of, Fit}
 use Rattle.stm_core.specs.Hold.{Hold, sight, Dooms, SegOpens, SegUndoes, LosesTo}
 use Rattle.stm_core.specs.SegSense.{seg_sense, seg_bracket, Stays}
 use Rattle.stm_core.specs.Whole.{stepped, StepDone, StepCut, StopsAt, CutWhy, MeetsOuter, IfSolo}
+use Rattle.lock_run.proofs.Following.{run_upto}
 use Rattle.stm_core.proofs.Holding.{core_own}
 use Rattle.stm_core.proofs.Stepping.{at_world, row_done, sight_is, advances}
 use Rattle.stm_core.proofs.Stopping.{row_stopped, stays}
+use Rattle.stm_core.proofs.Afresh.{waits_afresh}
 
 places_same : (xs ys : List Addr) → places xs ≡ places ys → xs ≡ ys
 places_same [] [] e = refl
@@ -123,7 +126,22 @@ module _ {S X : Type 0} (hold : X → Hold S) (segment : X → ℕ) (me : X → 
               (sym (ap (λ (z : Progress S). z.started) ep) ∙ q.1.started ∙ ap (λ (z : Hold S). z.progress.started) op ∙ ap (λ (z : Progress S). z.started) xp)
               (λ a l. ap (λ (z : Meaning). (z.part k).looked a) (sym em) ∙ r.1.looked a (ap (λ (z : Part). z.looked a) part ∙ l))
               (λ a l. ap (λ (z : Meaning). mem a (z.part k).changed) (sym em) ∙ r.1.locks a (ap (λ (z : Part). mem a z.changed) part ∙ l));
+          waiting = λ e w1.
+              let r1 = row_done hold segment me same w1 k s mortal (prog.row x.state) v1 (o, x1.state) u (h.1.1.segment_is ∙ ek) (h.1.1.me_is ∙ es) asks h.2 in
+              waits_afresh (prog.row x.state) (at_world w1 (sight k (hold v1))) (at_world w1 (sight k (hold u))) (sees m k) w1 x1.state (ap (λ (z : Hold S). sees z.meaning k) op ∙ (step_shows k m).opened) refl
+              (subst (λ z. Does (prog.row x.state) (at_world w1 (sight k (hold v1))) (z, x1.state) (at_world w1 (sight k (hold u)))) e r1.0);
+          asks = record {
+            left = Ret (o, x1.state);
+            place = at_world w (sight k (hold u));
+            upto = run_upto pure (prog.row x.state) (sight_of m.image w (transaction w (m.part k) x)) (o, x1.state) (at_world w (sight k (hold u))) (subst (λ z. Does (prog.row x.state) z (o, x1.state) (at_world w (sight k (hold u)))) start r.0);
+            looks = λ a h. inl (ap (λ (z : Meaning). (z.part k).looked a) em ∙ h);
+            locks = λ a h. inl (or_left (mem a ((hold u).meaning.part k).changed) (mem a ((hold u).meaning.part k).made) (ap (λ (z : Meaning). mem a (z.part k).changed) em ∙ h));
+          };
           image = im;
+          shape = (
+            sym (ap (λ (z : Meaning). z.segments) em) ∙ r.1.segments ∙ ap (λ (z : Hold S). z.meaning.segments) op,
+            sym (ap (λ (z : Meaning). z.limit) em) ∙ r.1.limit ∙ ap (λ (z : Hold S). z.meaning.limit) op,
+          );
         }
 
     -- a step that was cut, and taken back
@@ -154,7 +172,18 @@ module _ {S X : Type 0} (hold : X → Hold S) (segment : X → ℕ) (me : X → 
           stays = stays w k m m1 r1 x x1 im seen names fit1.own_names store (fit1.locked k) th be sp state named started
               (λ a l. ap (λ (z : Part). z.looked a) part1 ∙ st.0.looked a (ap (λ (z : Part). z.looked a) part ∙ l))
               (λ a l. ap (λ (z : Part). mem a z.changed) part1 ∙ st.0.locks a (ap (λ (z : Part). mem a z.changed) part ∙ l));
+          asks = record {
+            left = st.1.asks.left;
+            place = st.1.asks.place;
+            upto = subst (λ z. Upto pure (prog.row x.state) z st.1.asks.left st.1.asks.place) (begins v1 op) st.1.asks.upto;
+            looks = λ a h. st.1.asks.looks a (ap (λ (z : Part). z.looked a) (sym part1) ∙ h);
+            locks = λ a h. st.1.asks.locks a (ap (λ (z : Part). mem a z.changed) (sym part1) ∙ h);
+          };
           image = im;
+          shape = (
+            sym (ap (λ (z : Meaning). z.segments) em) ∙ ap (λ (z : Hold S). z.meaning.segments) un ∙ st.0.segments ∙ ap (λ (z : Hold S). z.meaning.segments) op,
+            sym (ap (λ (z : Meaning). z.limit) em) ∙ ap (λ (z : Hold S). z.meaning.limit) un ∙ st.0.limit ∙ ap (λ (z : Hold S). z.meaning.limit) op,
+          );
           why = cut_why e (sym core1) (sym er ∙ ap (λ (z : Hold S). z.reserved) un) (sym (ap (λ (z : Meaning). z.limit) em) ∙ ap (λ (z : Hold S). z.meaning.limit) un) st.1;
           solo = if_solo e (begins v1 op) st.1;
         }
@@ -172,6 +201,6 @@ module _ {S X : Type 0} (hold : X → Hold S) (segment : X → ℕ) (me : X → 
         if_solo : {row : Row S (Outcome × S)} {z z1 : Sight S} (y : Stop) {d : Hold S} → z ≡ z1 → StopsAt k s row z y d → IfSolo y row z1
         if_solo {row} {z} NeedSolo e a = elim a.why [
           | inl q ↦ (let p = q in absurd cc)
-          | inr q ↦ subst (MeetsOuter row) e (record { call = q.0; next = q.1; place = a.place; upto = subst (λ l. Upto pure row z l a.place) q.2 a.upto; outer = q.3 })
+          | inr q ↦ subst (MeetsOuter row) e (record { call = q.0; next = q.1; place = a.asks.place; upto = subst (λ l. Upto pure row z l a.asks.place) q.2 a.asks.upto; outer = q.3 })
         ]
         if_solo _ e a = tt

@@ -202,7 +202,7 @@ is_free {S} w k r m b x s names others = record {
 -- ---- dooms of other segments
 
 -- two segments set, one after the other
-set_swap : {S : Type 0} (i j : ℕ) (s r : Segment S) (f : ℕ → Segment S) → i ≢ j → set_segment i s (set_segment j r f) ≡ set_segment j r (set_segment i s f)
+pub set_swap : {S : Type 0} (i j : ℕ) (s r : Segment S) (f : ℕ → Segment S) → i ≢ j → set_segment i s (set_segment j r f) ≡ set_segment j r (set_segment i s f)
 set_swap {S} i j s r f n q x = at x q
   where
     at : (x : ℕ) → set_segment i s (set_segment j r f) x ≡ set_segment j r (set_segment i s f) x

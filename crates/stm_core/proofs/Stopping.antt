@@ -8,7 +8,7 @@ use Rattle.py_data.specs.World.{World}
 use Rattle.py_data.specs.Collection.{places}
 use Rattle.py_data.specs.Row.{Call, Reply, Row, Ret, Do, Read, Find, SetVal, Push, Truncate, PushPair, DropPair, Make, Start, Put, Take, MidLine, SetMidLine}
 use Rattle.py_data.specs.Sense.{Stopped, Upto}
-use Rattle.py_data.specs.Sight.{Sight, Act, mem}
+use Rattle.py_data.specs.Sight.{Sight, Act, mem, pure}
 use Rattle.seg_store.specs.Meaning.{Meaning, sees, over}
 use Rattle.stm_core.specs.Moves.{Stays}
 use Rattle.seg_store.specs.Store.{IsStore}
@@ -16,6 +16,7 @@ use Rattle.stm_core.specs.declared.books.Work.{Work}
 use Rattle.stm_core.specs.Books.{transaction, is_lock}
 use Rattle.stm_core.specs.Hold.{Hold, sight, Beside, SegDoes, SegRefuses}
 use Rattle.stm_core.specs.SegSense.{seg_sense}
+use Rattle.stm_core.specs.Asking.{AsksOnly}
 use Rattle.stm_core.specs.Whole.{StopsAt}
 use Rattle.stm_core.proofs.Holding.{beside_refl, beside_then}
 use Rattle.stm_core.proofs.Stepping.{call_beside, owned_is, unchanged, locked_is}
@@ -41,21 +42,49 @@ act_used w u k me (Make q) d r e mortal n h = (u, (h.0.0, ap (at_used w u) h.0.1
 act_used w u k me (Start s) d r e mortal n h = (u, ap (at_used w u) h.0)
 
 module _ {S X : Type 0} (hold : X → Hold S) (segment : X → ℕ) (me : X → Side) (same : X → X → Type 0) (w : World) where
+  -- nothing was asked for since
+  asks_none : {A : Type 0} (k : ℕ) (used : Bool) (row left : Row S A) (v u : X) → u ≡ v → Upto pure row (at_used w used (sight k (hold v))) left (at_used w used (sight k (hold v)))
+      → AsksOnly row (at_used w used (sight k (hold v))) ((hold u).meaning.part k).looked ((hold u).meaning.part k).changed
+  asks_none k used row left v u e upto = record {
+    left = left;
+    place = at_used w used (sight k (hold v));
+    upto = upto;
+    looks = λ a h. inl (ap (λ z. ((hold z).meaning.part k).looked a) (sym e) ∙ h);
+    locks = λ a h. inl (or_left (mem a ((hold v).meaning.part k).changed) (mem a ((hold v).meaning.part k).made) (ap (λ z. mem a ((hold z).meaning.part k).changed) (sym e) ∙ h));
+  }
+
   -- a row that was stopped left the rest as it was, and stopped at some place for some cause
   pub row_stopped : {A : Type 0} (k : ℕ) (s : Side) (mortal : s.solo ≡ false) (used : Bool) (row : Row S A) (v : X) (e : Stop) (u : X) → w.mid ≡ false → segment v ≡ k → me v ≡ s → Stopped (seg_sense hold segment me same) row v e u
       → Beside k s (hold v) (hold u) × StopsAt k s row (at_used w used (sight k (hold v))) e (hold u)
   unfolding Stopped Upto
-  row_stopped k s mortal used (Ret a) v e u n ek es d = (subst (λ z. Beside k s (hold v) (hold z)) (sym d.1) (beside_refl k s (hold v)), record { left = Ret a; place = at_used w used (sight k (hold v)); upto = (refl, refl); why = inl d.0 })
+  row_stopped k s mortal used (Ret a) v e u n ek es d = (
+    subst (λ z. Beside k s (hold v) (hold z)) (sym d.1) (beside_refl k s (hold v)),
+    record { asks = asks_none k used (Ret a) (Ret a) v u d.1 (refl, refl); why = inl d.0 },
+  )
   row_stopped k s mortal used (Do c f) v e u n ek es d = elim d [
-    | inl x ↦ (subst (λ z. Beside k s (hold v) (hold z)) (sym x.1) (beside_refl k s (hold v)), record { left = Do c f; place = at_used w used (sight k (hold v)); upto = inl (refl, refl); why = inl x.0 })
+    | inl x ↦ (subst (λ z. Beside k s (hold v) (hold z)) (sym x.1) (beside_refl k s (hold v)), record { asks = asks_none k used (Do c f) (Do c f) v u x.1 (inl (refl, refl)); why = inl x.0 })
     | inr y ↦ elim y [
-      | inl r ↦ let h : SegRefuses k s c (hold v) e (hold u) = subst (λ i. SegRefuses i s c (hold v) e (hold u)) ek (subst (λ z. SegRefuses (segment v) z c (hold v) e (hold u)) es r.0) in
-          (h.beside, record { left = Do c f; place = at_used w used (sight k (hold v)); upto = inl (refl, refl); why = inr (c, f, refl, h.why) })
+      | inl r ↦ let h : SegRefuses k s c (hold v) e (hold u) = subst (λ i. SegRefuses i s c (hold v) e (hold u)) ek (subst (λ z. SegRefuses (segment v) z c (hold v) e (hold u)) es r.0) in (
+        h.beside,
+        record {
+          asks = record {
+            left = Do c f;
+            place = at_used w used (sight k (hold v));
+            upto = inl (refl, refl);
+            looks = h.looked;
+            locks = λ a l. elim (h.locks a l) [ inl y ↦ inl (or_left (mem a ((hold v).meaning.part k).changed) (mem a ((hold v).meaning.part k).made) y) | inr y ↦ inr y ];
+          };
+          why = inr (c, f, refl, h.why);
+        },
+      )
       | inr z ↦ let done : SegDoes k s c (hold v) z.0 (hold z.1) = subst (λ i. SegDoes i s c (hold v) z.0 (hold z.1)) ek (subst (λ q. SegDoes (segment v) q c (hold v) z.0 (hold z.1)) es z.2.0) in
           let act = act_used w used k s c (hold v) z.0 (hold z.1) mortal n done in
           let rest = row_stopped k s mortal act.0 (f z.0) z.1 e u n (z.2.1.segment_is ∙ ek) (z.2.1.me_is ∙ es) z.3 in (
             beside_then k s (hold v) (hold z.1) (hold u) (call_beside k s c (hold v) z.0 (hold z.1) done) rest.0,
-            record { left = rest.1.left; place = rest.1.place; upto = inr (z.0, at_used w act.0 (sight k (hold z.1)), act.1, rest.1.upto); why = rest.1.why },
+            record {
+              asks = record { left = rest.1.asks.left; place = rest.1.asks.place; upto = inr (z.0, at_used w act.0 (sight k (hold z.1)), act.1, rest.1.asks.upto); looks = rest.1.asks.looks; locks = rest.1.asks.locks };
+              why = rest.1.why;
+            },
           )
     ]
   ]

@@ -25,10 +25,10 @@ pub record Set {S : Type 0} (k : ℕ) (h : Hand S) (b b1 : Books S) : Type 0 whe
   pub hands : b1.hands.items ≡ slice_set b.hands.items k h
 
 module _ {S : Type 0} (k : ℕ) (m : Meaning) (b b1 : Books S) where
-  set_here : (h : Hand S) → Set k h b b1 → k < length b.hands.items → slice_get b1.hands.items k ≡ Some h
+  pub set_here : (h : Hand S) → Set k h b b1 → k < length b.hands.items → slice_get b1.hands.items k ≡ Some h
   set_here h s lt = ap (λ l. slice_get l k) s.hands ∙ get_set_same b.hands.items k h lt
 
-  set_there : (h : Hand S) → Set k h b b1 → (j : ℕ) → j ≢ k → slice_get b1.hands.items j ≡ slice_get b.hands.items j
+  pub set_there : (h : Hand S) → Set k h b b1 → (j : ℕ) → j ≢ k → slice_get b1.hands.items j ≡ slice_get b.hands.items j
   set_there h s j n = ap (λ l. slice_get l j) s.hands ∙ get_set_other b.hands.items k j h (λ e. n (sym e))
 
   -- taken out

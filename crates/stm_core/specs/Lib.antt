@@ -6,6 +6,14 @@ pub mod Books
 pub mod Hold
 pub mod SegSense
 pub mod SegLaws
+pub mod Asking
 pub mod Whole
 pub mod Advance
 pub mod Pauses
+pub mod SaneCore
+pub mod Readers
+pub mod Committed
+pub mod Begun
+pub mod Standing
+pub mod Pausing
+pub mod Advanced

@@ -1,5 +1,5 @@
 -- How many steps an end of steps counts. States `docs/HEAP.md`, "Events".
-use Rattle.std.specs.Prelude.{ℕ}
+use Rattle.std.specs.Prelude.{◌≡◌, ℕ, ◌<◌, ◌≤◌}
 use Rattle.stm_core.specs.declared.engine.Pause.{Pause}
 use Rattle.stm_core.specs.declared.engine.Pause.TheVariants.{Whole, Waits, Ended, Stopped}
 
@@ -9,3 +9,10 @@ done_by Whole = 1
 done_by Waits = 0
 done_by Ended = 1
 done_by (Stopped e) = 0
+
+-- how many steps were done where so many were asked for
+abbrev pub PauseCount : ℕ → ℕ → Pause → Type 0
+PauseCount most n Whole = n ≡ most
+PauseCount most n Ended = (1 ≤ n) × (n ≤ most)
+PauseCount most n Waits = n < most
+PauseCount most n (Stopped e) = n < most

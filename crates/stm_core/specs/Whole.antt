@@ -12,14 +12,16 @@ use Rattle.py_data.specs.Sense.{Upto}
 use Rattle.py_data.specs.Sight.{Sight, mem, pure}
 use Rattle.lock_run.specs.declared.client.Outcome.{Outcome}
 use Rattle.lock_run.specs.declared.client.Outcome.TheVariants.{Waits as WaitsNow}
+use Rattle.lock_run.specs.Client.{Waiting}
 use Rattle.lock_run.specs.Prog.{Prog}
-use Rattle.seg_store.specs.Meaning.{Meaning, holds}
+use Rattle.seg_store.specs.Meaning.{Meaning, sees, holds}
 use Rattle.stm_core.specs.declared.books.Work.{Work}
 use Rattle.stm_core.specs.declared.books.Hand.TheVariants.{Runs}
 use Rattle.stm_core.specs.declared.books.Books.{Books}
 use Rattle.stm_core.specs.CoreState.{CoreState, sight_of}
 use Rattle.stm_core.specs.Moves.{Advances, Stays}
 use Rattle.stm_core.specs.Books.{WorkFits, runs_at, one_running, one_started, is_lock, transaction, core_of}
+use Rattle.stm_core.specs.Asking.{AsksOnly}
 use Rattle.stm_core.specs.Hold.{Dooms, SegWhy, LosesTo, IsOuter, Hold}
 
 -- all transactions are in their hands
@@ -33,6 +35,10 @@ pub record Whole {S : Type 0} (m : Meaning) (b : Books S) : Type 0 where
   pub pending : sum_by one_started b.hands.items ≡ b.pending
   pub threads : b.pending ≤ b.threads.room
 
+-- a store of as many segments, and of the same limit
+abbrev pub SameShape : Meaning → Meaning → Type 0
+SameShape m m1 = (m1.segments ≡ m.segments) × (m1.limit ≡ m.limit)
+
 -- ---- a step
 
 -- the same work, one step further
@@ -45,14 +51,15 @@ pub record StepDone {S : Type 0} (p : Prog S) (w : World) (k : ℕ) (me : Side) 
   pub others : Dooms k me dooms (core_of w m b) (core_of w m1 b1)
   pub goes : o ≢ WaitsNow → Advances p m.image w (transaction w (m.part k) x) (transaction w (m1.part k) (stepped x1))
   pub waits : o ≡ WaitsNow → Stays m.image (transaction w (m.part k) x) (transaction w (m1.part k) x1)
+  pub waiting : o ≡ WaitsNow → Waiting (p.row x.state) (sees m k)
+  pub asks : AsksOnly (p.row x.state) (sight_of m.image w (transaction w (m.part k) x)) (m1.part k).looked (m1.part k).changed
   pub image : m1.image ≡ m.image
+  pub shape : SameShape m m1
 
 -- where a row was stopped: its calls were done up to a place, and there the code found no memory, or the next call was refused
 pub record StopsAt {S A : Type 0} (k : ℕ) (me : Side) (row : Row S A) (s : Sight S) (e : Stop) (d : Hold S) : Type 0 where
-  pub left : Row S A
-  pub place : Sight S
-  pub upto : Upto pure row s left place
-  pub why : (e ≡ OutOfMemory) ⊎ ((c : Call S) × (f : Reply c → Row S A) × (left ≡ Do c f) × SegWhy k me e c d)
+  pub asks : AsksOnly row s (d.meaning.part k).looked (d.meaning.part k).changed
+  pub why : (e ≡ OutOfMemory) ⊎ ((c : Call S) × (f : Reply c → Row S A) × (asks.left ≡ Do c f) × SegWhy k me e c d)
 
 -- why a step wasn't done, as the core is afterwards
 abbrev pub CutWhy : {S : Type 0} → ℕ → Side → Stop → CoreState S → ℕ → ℕ → Type 0
@@ -79,6 +86,8 @@ pub record StepCut {S : Type 0} (p : Prog S) (w : World) (k : ℕ) (me : Side) (
   pub dooms : List Conflict
   pub others : Dooms k me dooms (core_of w m b) (core_of w m1 b1)
   pub stays : Stays m.image (transaction w (m.part k) x) (transaction w (m1.part k) x1)
+  pub asks : AsksOnly (p.row x.state) (sight_of m.image w (transaction w (m.part k) x)) (m1.part k).looked (m1.part k).changed
   pub image : m1.image ≡ m.image
+  pub shape : SameShape m m1
   pub why : CutWhy k me e (core_of w m1 b1) r1 m1.limit
   pub solo : IfSolo e (p.row x.state) (sight_of m.image w (transaction w (m.part k) x))

@@ -1,11 +1,13 @@
 //! What a core keeps beside its store: the committed states of the threads, what each segment has in hand, the history and
 //! the conflicts.
-ghost use Rattle.std.specs.Prelude.{◌≡◌, ◌<◌, ◌≤◌, ◌+◌, ◌++◌, [], ◌∷◌, length, true, slice_set, slice_get, Some, take, OnOk, OnErr};
+ghost use Rattle.std.specs.Prelude.{◌≡◌, ◌<◌, ◌≤◌, ◌+◌, ◌++◌, [], ◌∷◌, length, true, false, slice_set, slice_get, Some, take, OnOk, OnErr};
 ghost use Rattle.stm_core.specs.Books.{runs_at, started_at, side_of};
+ghost use Rattle.stm_core.specs.Moves.{first_cause};
 
 use crate::cause::Cause;
+use crate::threads::{Started, Threads};
 use lock_run::History;
-use py_data::{Conflict, Conflicts, Items, Log, Names, NoMemory, Side};
+use py_data::{Conflict, Conflicts, Names, NoMemory, Side};
 use std::alloc::AllocError;
 use std::mem;
 
@@ -15,7 +17,7 @@ use std::mem;
 pub struct Progress<T> {
     pub names: Names,
     pub kept_names: usize,
-    pub started: Items<T>,
+    pub started: Started<T>,
     pub kept_started: usize,
 }
 
@@ -42,7 +44,7 @@ pub enum Hand<T> {
 #[derive(Drop)]
 pub struct Books<T> {
     /// The committed states of the threads, with room for all that running transactions started.
-    pub threads: Log<T>,
+    pub threads: Threads<T>,
     /// How many threads the running transactions started, all together.
     pub pending: usize,
     /// What each segment has in hand.
@@ -79,6 +81,20 @@ impl<T: Drop> Progress<T> {
     }
 }
 
+impl<T: Drop> Work<T> {
+    /// The transaction of a segment, as a side of a conflict.
+    pub fn side(&self, segment: u8) -> Side
+        ensures { result ≡ record { segment = segment; thread = self.now.thread; begun = self.now.begun; solo = false } }
+    {
+        Side {
+            segment,
+            thread: self.thread,
+            begun: self.begun,
+            solo: false,
+        }
+    }
+}
+
 impl<T: Drop> Books<T> {
     /// A running transaction starts a thread, for whose commit there is room then.
     pub fn start(&mut self, progress: &mut Progress<T>, s: T) -> Result<(), NoMemory>
@@ -103,12 +119,7 @@ impl<T: Drop> Books<T> {
         ensures { result ≡ side_of j result (slice_get self.now.hands.items j) }
     {
         match &self.hands[j as usize] {
-            Hand::Runs(work) => Side {
-                segment: j,
-                thread: work.thread,
-                begun: work.begun,
-                solo: false,
-            },
+            Hand::Runs(work) => work.side(j),
             _ => unreachable!(),
         }
     }
@@ -139,6 +150,17 @@ impl<T: Drop> Books<T> {
         ensures pending { self.new.pending + count ≡ self.old.pending }
     {
         self.pending -= count;
+    }
+
+    /// Keeps a cause for which the core goes on no more, unless one is kept already.
+    pub fn keep(&mut self, cause: Cause)
+        ensures rest { self.new ≡ record self.old { cause = self.new.cause } }
+        ensures cause { self.new.cause ≡ first_cause self.old.cause cause }
+    {
+        match self.cause {
+            None => self.cause = Some(cause),
+            Some(_) => (),
+        }
     }
 
     /// Notes a conflict.

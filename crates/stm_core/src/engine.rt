@@ -2,9 +2,10 @@
 ghost use Rattle.std.specs.Prelude.{◌≡◌, ◌<◌, IfOk, IfErr};
 
 use crate::books::{Books, Hand, Work};
+use crate::cause::Cause;
 use crate::segment::SegView;
 use lock_run::{Client, Life, Outcome};
-use py_data::{Conflict, Side, Stop};
+use py_data::{Conflict, Stop};
 use seg_store::SegStore;
 use std::alloc::Global;
 
@@ -24,25 +25,31 @@ pub enum Pause {
 /// Several transactions of a client's threads over one store.
 #[derive(Drop)]
 pub struct Engine<'p, C: Client, S> {
-    alloc: Global,
-    client: &'p C,
-    store: S,
-    books: Books<C::State>,
+    pub alloc: Global,
+    pub client: &'p C,
+    pub store: S,
+    pub books: Books<C::State>,
+    /// How many steps the turns of the history have, all together; where they have more than there are numbers, the last
+    /// number.
+    pub spent: u64,
 }
 
 impl<'p, C: Client, S: SegStore> Engine<'p, C, S> {
-    ghost use Rattle.std.specs.Prelude.{◌≡◌, ◌<◌, ◌≤◌, ◌+◌, ◌-◌, ◌^◌, ℕ, IfOk, IfErr, OnErr, false, slice_get, Some, []};
+    ghost use Rattle.std.specs.Prelude.{◌≡◌, ◌≢◌, ◌<◌, ◌≤◌, ◌+◌, ◌-◌, ◌^◌, ℕ, IfOk, IfErr, OnErr, false, slice_get, Some, []};
     ghost use Rattle.py_data.specs.World.{World};
     ghost use Rattle.lock_run.specs.Client.{Standing};
     ghost use Rattle.lock_run.specs.declared.client.Life.TheVariants.{Lives};
     ghost use Rattle.seg_store.specs.Meaning.{sees};
     ghost use Rattle.stm_core.specs.CoreState.{side, with_conflict, with_segment, Running};
     ghost use Rattle.stm_core.specs.Books.{Fit, transaction, core_of};
-    ghost use Rattle.stm_core.specs.Whole.{Whole, stepped, StepDone, StepCut};
+    ghost use Rattle.stm_core.specs.Whole.{Whole, SameShape, stepped, StepDone, StepCut};
+    ghost use Rattle.stm_core.specs.Advanced.{with_cause};
+    ghost use Rattle.seg_store.specs.Calls.{after_drop};
     ghost use Rattle.seg_store.specs.Store.{IsStore};
     ghost use Rattle.stm_core.specs.CoreState.{CoreState};
     ghost use Rattle.stm_core.specs.Advance.{Gone, Sane, core_with};
-    ghost use Rattle.stm_core.specs.Pauses.{done_by};
+    ghost use Rattle.stm_core.specs.Pauses.{done_by, PauseCount};
+    ghost use Rattle.stm_core.specs.Pausing.{PauseWhy};
 
     /// One step of the transaction of segment k, which was taken out of its hand.
     fn step_out(&mut self, k: u8, work: &mut Work<C::State>) -> Result<Outcome, Stop>
@@ -56,12 +63,7 @@ impl<'p, C: Client, S: SegStore> Engine<'p, C, S> {
         ensures done { IfOk result (λ o. (world : World) → world.mid ≡ false → StepDone (C.prog self.old.client.now) world k (side k (transaction world ((S.meaning self.old.store).part k) work.old)) o (S.meaning self.old.store) self.old.books work.old (S.meaning self.new.store) self.new.books work.new) }
         ensures cut { IfErr result (λ e. (world : World) → world.mid ≡ false → StepCut (C.prog self.old.client.now) world k (side k (transaction world ((S.meaning self.old.store).part k) work.old)) e (S.meaning self.old.store) self.old.books work.old (S.meaning self.new.store) (S.reserved self.new.store) self.new.books work.new) }
     {
-        let side = Side {
-            segment: k,
-            thread: work.thread,
-            begun: work.begun,
-            solo: false,
-        };
+        let side = work.side(k);
         let mut view = SegView::new(
             &mut self.store,
             &mut self.books,
@@ -80,6 +82,7 @@ impl<'p, C: Client, S: SegStore> Engine<'p, C, S> {
         ensures work { work.new ≡ stepped work.old }
         ensures one { done_by result ≡ 1 }
         ensures lives { result ≡ Pause.Whole → (C.prog self.now.client.now).life work.new.state ≡ Lives }
+        ensures ended { result ≡ Pause.Ended → (C.prog self.now.client.now).life work.new.state ≢ Lives }
     {
         work.steps += 1;
         match self.client.life(&work.state) {
@@ -103,7 +106,8 @@ impl<'p, C: Client, S: SegStore> Engine<'p, C, S> {
         ensures gone { (w : World) (n : ℕ) (c : CoreState C.State) → w.mid ≡ false → Gone (C.prog self.old.client.now) length k n c (core_with w k (S.meaning self.old.store) self.old.books work.old)
             → Gone (C.prog self.old.client.now) length k (n + done_by result) c (core_with w k (S.meaning self.new.store) self.new.books work.new) }
         ensures steps { work.new.steps ≡ work.old.steps + done_by result }
-        ensures lives { result ≡ Pause.Whole → (C.prog self.old.client.now).life work.new.state ≡ Lives }
+        ensures shape { SameShape (S.meaning self.old.store) (S.meaning self.new.store) }
+        ensures why { PauseWhy (C.prog self.old.client.now) k result (S.meaning self.new.store) (S.reserved self.new.store) self.new.books work.new }
     {
         match self.step_out(k, work) {
             Ok(Outcome::Waits) => Pause::Waits,
@@ -115,7 +119,13 @@ impl<'p, C: Client, S: SegStore> Engine<'p, C, S> {
 
     /// At most so many steps of the transaction of segment k, which was taken out of its hand: how many were done, and why
     /// they came to an end.
-    fn run_out(&mut self, k: u8, work: &mut Work<C::State>, length: u64, most: u64) -> (u64, Pause)
+    pub fn run_out(
+        &mut self,
+        k: u8,
+        work: &mut Work<C::State>,
+        length: u64,
+        most: u64,
+    ) -> (u64, Pause)
         requires fit { Fit k (S.meaning self.old.store) self.old.books work.old.progress }
         requires idle { slice_get self.old.books.hands.items k ≡ Some Hand.Idle }
         requires sane { Sane (C.prog self.old.client.now) (C.sound self.old.client.now) length k (S.meaning self.old.store) self.old.books work.old }
@@ -128,7 +138,9 @@ impl<'p, C: Client, S: SegStore> Engine<'p, C, S> {
         ensures gone { (w : World) (n : ℕ) (c : CoreState C.State) → w.mid ≡ false → Gone (C.prog self.old.client.now) length k n c (core_with w k (S.meaning self.old.store) self.old.books work.old)
             → Gone (C.prog self.old.client.now) length k (n + result.0) c (core_with w k (S.meaning self.new.store) self.new.books work.new) }
         ensures steps { work.new.steps ≡ work.old.steps + result.0 }
-        ensures whole { result.1 ≡ Pause.Whole → result.0 ≡ most }
+        ensures count { PauseCount most result.0 result.1 }
+        ensures shape { SameShape (S.meaning self.old.store) (S.meaning self.new.store) }
+        ensures why { PauseWhy (C.prog self.old.client.now) k result.1 (S.meaning self.new.store) (S.reserved self.new.store) self.new.books work.new }
     {
         'turns: for done in 0..most {
             match self.step_on(k, work, length) {
@@ -142,32 +154,50 @@ impl<'p, C: Client, S: SegStore> Engine<'p, C, S> {
     }
 
     /// Drops the transaction of segment k, which was taken out of its hand.
-    fn drop_out(&mut self, k: u8, work: Work<C::State>)
+    pub fn drop_out(&mut self, k: u8, work: Work<C::State>)
         requires fit { Fit k (S.meaning self.old.store) self.old.books work.progress }
         requires idle { slice_get self.old.books.hands.items k ≡ Some Hand.Idle }
         ensures rest { self.new ≡ record self.old { store = self.new.store; books = self.new.books } }
         ensures whole { Whole (S.meaning self.new.store) self.new.books }
         ensures core { (world : World) → core_of world (S.meaning self.new.store) self.new.books ≡ core_of world (S.meaning self.old.store) self.old.books }
         ensures room { self.new.books ≡ record self.old.books { pending = self.new.books.pending } }
+        ensures store { S.meaning self.new.store ≡ after_drop k (S.meaning self.old.store) }
+        ensures reserved { S.reserved self.new.store ≡ S.reserved self.old.store }
     {
         self.books.forget(work.progress.started.len());
         self.store.drop_changes(k);
     }
 
     /// The transaction of segment k, which was taken out of its hand, lost a conflict to another.
-    fn lose_out(&mut self, k: u8, work: Work<C::State>, f: Conflict)
+    pub fn lose_out(&mut self, k: u8, work: Work<C::State>, f: Conflict)
         requires fit { Fit k (S.meaning self.old.store) self.old.books work.progress }
         requires idle { slice_get self.old.books.hands.items k ≡ Some Hand.Idle }
         ensures rest { self.new ≡ record self.old { store = self.new.store; books = self.new.books } }
         ensures whole { Whole (S.meaning self.new.store) self.new.books }
         ensures core { (world : World) → core_of world (S.meaning self.new.store) self.new.books ≡ with_conflict f (core_of world (S.meaning self.old.store) self.old.books) }
+        ensures store { S.meaning self.new.store ≡ after_drop k (S.meaning self.old.store) }
+        ensures reserved { S.reserved self.new.store ≡ S.reserved self.old.store }
     {
         self.drop_out(k, work);
         self.books.note(f);
     }
 
+    /// The transaction of segment k, which was taken out of its hand, is dropped for this cause, which is kept.
+    pub fn give_up(&mut self, k: u8, work: Work<C::State>, cause: Cause)
+        requires fit { Fit k (S.meaning self.old.store) self.old.books work.progress }
+        requires idle { slice_get self.old.books.hands.items k ≡ Some Hand.Idle }
+        ensures rest { self.new ≡ record self.old { store = self.new.store; books = self.new.books } }
+        ensures whole { Whole (S.meaning self.new.store) self.new.books }
+        ensures core { (world : World) → core_of world (S.meaning self.new.store) self.new.books ≡ with_cause cause (core_of world (S.meaning self.old.store) self.old.books) }
+        ensures store { S.meaning self.new.store ≡ after_drop k (S.meaning self.old.store) }
+        ensures reserved { S.reserved self.new.store ≡ S.reserved self.old.store }
+    {
+        self.drop_out(k, work);
+        self.books.keep(cause);
+    }
+
     /// Puts the transaction of segment k back into its hand.
-    fn put_back(&mut self, k: u8, work: Work<C::State>)
+    pub fn put_back(&mut self, k: u8, work: Work<C::State>)
         requires fit { Fit k (S.meaning self.old.store) self.old.books work.progress }
         requires idle { slice_get self.old.books.hands.items k ≡ Some Hand.Idle }
         ensures rest { self.new ≡ record self.old { books = self.new.books } }

@@ -1,6 +1,6 @@
 //! Laws of the transactional core, as contracts: a call of such a function does nothing, and gives its caller's proof the
 //! facts of its clauses.
-ghost use Rattle.std.specs.Prelude.{◌≡◌, ◌≤◌, ℕ, List, true, false};
+ghost use Rattle.std.specs.Prelude.{◌≡◌, ◌≤◌, ℕ, List, Result, true, false};
 ghost use Rattle.py_data.specs.Heap.{Heap};
 ghost use Rattle.py_data.specs.World.{World};
 ghost use Rattle.py_data.specs.Sight.{mem};
@@ -11,6 +11,9 @@ ghost use Rattle.stm_core.specs.CoreState.{Transaction, CoreState, Running, comm
 ghost use Rattle.stm_core.specs.Good.{Stands, Apart, Good};
 ghost use Rattle.stm_core.specs.Moves.{Advances, Move, Follows};
 ghost use Rattle.stm_core.specs.Passes.{NoneWins, after_commit};
+ghost use Rattle.stm_core.specs.declared.answers.Advance.{Advance};
+ghost use Rattle.stm_core.specs.declared.answers.AdvanceError.{AdvanceError};
+ghost use Rattle.stm_core.specs.Advanced.{Advanced, Led, OnlyOwn};
 
 /// A core is good when it is made, and each list of moves keeps it good.
 pub fn good_law<S>()
@@ -30,4 +33,11 @@ pub fn stands_law<S>()
 pub fn commit_law<S>()
     ensures { (p : Prog S) (most i : ℕ) (x : Transaction S) (js : List ℕ) (k : CoreState S) → k.segments i ≡ Running x → 1 ≤ x.steps → NoneWins i x k
         → ((j : ℕ) (y : Transaction S) → k.segments j ≡ Running y → mem j js ≡ true) → (ms : List (Move S)) × Follows p most k ms (after_commit i x js k) }
+{}
+
+/// A call of `advance` is a list of moves by which segment k goes on; and such moves leave the committed state, the history and
+/// the count of transactions as they were, and of the other segments doom some by conflicts that stood.
+pub fn advance_law<S>()
+    ensures moves { (p : Prog S) (start : Machine S) (length k most reserved limit : ℕ) (c c1 : CoreState S) (r : Result Advance AdvanceError) → Good p start length c → Advanced p length k most reserved limit c r c1 → Led p length k c c1 }
+    ensures own { (p : Prog S) (length k : ℕ) (c c1 : CoreState S) → Led p length k c c1 → OnlyOwn p length k c c1 }
 {}

@@ -1,11 +1,21 @@
 //! The transactional core: several transactions of a client's threads over one store.
 #![tactic(auto)]
 
+mod advance;
+mod answers;
+mod begin;
 mod books;
 mod cause;
+mod commit;
 mod engine;
 mod laws;
 mod segment;
+mod standing;
+mod threads;
 
+pub use answers::{Advance, AdvanceError};
+pub use begin::BeginError;
 pub use cause::Cause;
-pub use laws::{commit_law, good_law, stands_law};
+pub use commit::Commit;
+pub use laws::{advance_law, commit_law, good_law, stands_law};
+pub use standing::{RunState, Slot};

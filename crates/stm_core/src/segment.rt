@@ -32,7 +32,7 @@ fn is_tracked_kind(kind: Kind) -> bool
 }
 
 /// Of two sides of a conflict the first one wins: the solo one does, and otherwise the one that began earlier.
-fn wins(x: Side, y: Side) -> bool
+pub fn wins(x: Side, y: Side) -> bool
     ensures { result ≡ wins x y }
 {
     x.solo || (!y.solo && x.begun < y.begun)

@@ -1,4 +1,4 @@
-use Rattle.stm_core.proofs.Commit.{commit_follows}
+use Rattle.stm_core.proofs.TwoPasses.{commit_follows}
 use Rattle.stm_core.proofs.laws.commit_law.Goals as goal
 
 pub returns : goal.returns

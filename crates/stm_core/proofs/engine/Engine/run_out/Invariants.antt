@@ -4,6 +4,7 @@ use Rattle.lock_run.specs.declared.client.Life.TheVariants.{Lives}
 use Rattle.stm_core.specs.declared.books.Hand.TheVariants.{Idle}
 use Rattle.stm_core.specs.CoreState.{CoreState}
 use Rattle.stm_core.specs.Books.{Fit}
+use Rattle.stm_core.specs.Whole.{SameShape}
 use Rattle.stm_core.specs.Advance.{Gone, Sane, core_with}
 use Rattle.stm_core.proofs.engine.Engine.run_out.Given as goal
 
@@ -13,6 +14,8 @@ invariant-turns g l = record {
   idle : slice_get l.self.books.hands.items l.k ≡ Some Idle;
   client : l.self.client ≡ l.initial.self.client;
   alloc : l.self.alloc ≡ l.initial.self.alloc;
+  spent : l.self.spent ≡ l.initial.self.spent;
+  shape : SameShape (g.S.SegStore.meaning l.initial.self.store) (g.S.SegStore.meaning l.self.store);
   sane : Sane (g.C.Client.prog l.initial.self.client.now) (g.C.Client.sound l.initial.self.client.now) l.length l.k (g.S.SegStore.meaning l.self.store) l.self.books l.work;
   lives : (g.C.Client.prog l.initial.self.client.now).life l.work.state ≡ Lives;
   steps : l.work.steps ≡ l.initial.work.steps + l.done;

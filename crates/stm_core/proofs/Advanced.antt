@@ -1,0 +1,244 @@
+-- A call of advance is a list of moves, and leaves all but its own segment alone.
+use Rattle.std.proofs.Common.{◌≡◌, ◌≢◌, ℕ, false, true, Bool, cond, not, ◌||◌, ◌&&◌, eqb, ltb, List, [], ◌∷◌, ◌++◌, Result, Ok, Err, All, refl, sym, ◌∙◌, ap, subst, inl, inr, append-nil, append_assoc, arith}
+use Rattle.std.proofs.lemmas.Bool.{both_ways, ne_eqb, cond-false}
+use Rattle.std.proofs.lemmas.Bool.Decides.{nat_tests}
+use Rattle.std.proofs.lemmas.List.Elements.{All-append, All-cons, All-nil, All-head, All-tail, All-weaker, Contains-append_left, Contains-append_right, Contains-push}
+use Rattle.py_data.specs.declared.stop.Side.{Side}
+use Rattle.py_data.specs.declared.stop.Conflict.{Conflict}
+use Rattle.py_data.specs.Heap.{Heap}
+use Rattle.py_data.specs.World.{World}
+use Rattle.lock_run.specs.declared.client.Life.{Life}
+use Rattle.lock_run.specs.declared.client.Life.TheVariants.{Lives, Ended as EndedLife, Failed as FailedLife}
+use Rattle.lock_run.specs.Prog.{Prog}
+use Rattle.lock_run.specs.Machine.{Machine}
+use Rattle.seg_store.specs.Meaning.{Meaning}
+use Rattle.stm_core.specs.declared.answers.Advance.{Advance}
+use Rattle.stm_core.specs.declared.answers.Advance.TheVariants.{Ran, Waits, Ended, NeedSolo}
+use Rattle.stm_core.specs.declared.answers.AdvanceError.{AdvanceError}
+use Rattle.stm_core.specs.declared.answers.AdvanceError.TheVariants.{Lost, Failed}
+use Rattle.stm_core.specs.declared.books.Books.{Books}
+use Rattle.stm_core.specs.CoreState.{Transaction, Segment, Idle, Doomed, Running, CoreState, loser, winner, wins, side, set_segment, with_segment, with_conflict, committed, core_new}
+use Rattle.stm_core.specs.Good.{Good}
+use Rattle.stm_core.specs.Moves.{IsStanding, Move, Begins, Drops, Dooms, Loses, Goes, Rests, Commits, Keeps, Next, Follows}
+use Rattle.stm_core.specs.Books.{core_of}
+use Rattle.stm_core.specs.Hold.{LosesTo}
+use Rattle.stm_core.specs.Advance.{IsAdvance, Gone}
+use Rattle.stm_core.specs.Advanced.{IsLeft, OnlyOwn, IsOwn, Ends, StepsTaken, AdvancedFrom, Advanced, Led}
+use Rattle.stm_core.specs.SaneCore.{SaneCore}
+use Rattle.stm_core.proofs.TwoPasses.{follows_append}
+use Rattle.stm_core.proofs.Kept.{set_cases, good_after}
+
+-- of two numbers one is less
+one_less : (a b : ℕ) → a ≢ b → ltb b a ≡ false → ltb a b ≡ true
+one_less a b n e = grind (arith, nat_tests)
+
+-- of two sides that began at different times one wins
+wins_back : (x y : Side) → x.begun ≢ y.begun → wins y x ≡ false → wins x y ≡ true
+wins_back x y n h = go x.solo y.solo h
+  where
+    go : (a b : Bool) → (b || (not a && ltb y.begun x.begun)) ≡ false → (a || (not b && ltb x.begun y.begun)) ≡ true
+    go true b e = refl
+    go false true e = absurd (both_ways true e refl)
+    go false false e = one_less x.begun y.begun n e
+
+module _ {S : Type 0} (p : Prog S) (most k : ℕ) where
+  -- ---- what such moves leave alone
+
+  -- what a conflict is, seen from a state of the core: it stood in a state that moves lead to
+  abbrev Stood : CoreState S → Conflict → Type 0
+  Stood c f = (u : CoreState S) × (ms : List (Move S)) × Follows p most c ms u × IsStanding u f
+
+  -- nothing was done
+  own_none : (c : CoreState S) → OnlyOwn p most k c c
+  own_none c = record { image = refl; threads = refl; world = refl; history = refl; begun = refl; last = refl; new = []; conflicts = sym (append-nil c.conflicts); stood = All-nil (Stood c); others = λ j n. inl refl }
+
+  -- the segment itself was set
+  own_set : (s : Segment S) (c c1 : CoreState S) → c1 ≡ with_segment k s c → OnlyOwn p most k c c1
+  own_set s c c1 e = record {
+    image = ap (λ (z : CoreState S). z.image) e;
+    threads = ap (λ (z : CoreState S). z.threads) e;
+    world = ap (λ (z : CoreState S). z.world) e;
+    history = ap (λ (z : CoreState S). z.history) e;
+    begun = ap (λ (z : CoreState S). z.begun) e;
+    last = ap (λ (z : CoreState S). z.last) e;
+    new = [];
+    conflicts = ap (λ (z : CoreState S). z.conflicts) e ∙ sym (append-nil c.conflicts);
+    stood = All-nil (Stood c);
+    others = λ j n. inl (ap (λ (z : CoreState S). z.segments j) e ∙ cond-false (eqb j k) s (c.segments j) (ne_eqb j k n));
+  }
+
+  -- a conflict that stands was added, and its loser's segment set
+  own_conflict : (f : Conflict) (s : Segment S) (c c1 : CoreState S) → IsStanding c f → c1 ≡ with_conflict f (with_segment (loser f).segment s c)
+      → ((j : ℕ) → j ≢ k → IsLeft (f ∷ []) (c.segments j) (cond (eqb j (loser f).segment) s (c.segments j))) → OnlyOwn p most k c c1
+  own_conflict f s c c1 st e left = record {
+    image = ap (λ (z : CoreState S). z.image) e;
+    threads = ap (λ (z : CoreState S). z.threads) e;
+    world = ap (λ (z : CoreState S). z.world) e;
+    history = ap (λ (z : CoreState S). z.history) e;
+    begun = ap (λ (z : CoreState S). z.begun) e;
+    last = ap (λ (z : CoreState S). z.last) e;
+    new = f ∷ [];
+    conflicts = ap (λ (z : CoreState S). z.conflicts) e;
+    stood = All-cons (Stood c) f [] (c, [], refl, st) (All-nil (Stood c));
+    others = λ j n. subst (IsLeft (f ∷ []) (c.segments j)) (sym (ap (λ (z : CoreState S). z.segments j) e)) (left j n);
+  }
+
+  -- one such move
+  own_next : (mv : Move S) (c c1 : CoreState S) → IsOwn k mv → Next p most c mv c1 → OnlyOwn p most k c c1
+  own_next (Begins i t q) c c1 o n = absurd o
+  own_next (Commits i x) c c1 o n = absurd o
+  own_next (Drops i) c c1 o n = own_set Idle c c1 (n.1 ∙ ap (λ z. with_segment z Idle c) o)
+  own_next (Goes i x x1) c c1 o n = own_set (Running x1) c c1 (n.4 ∙ ap (λ z. with_segment z (Running x1) c) o)
+  own_next (Rests i x x1) c c1 o n = own_set (Running x1) c c1 (n.3 ∙ ap (λ z. with_segment z (Running x1) c) o)
+  own_next (Dooms f) c c1 o n = own_conflict f (Doomed f) c c1 n.0 n.1 (λ j d. go j (eqb j (loser f).segment))
+    where
+      go : (j : ℕ) (b : Bool) → IsLeft (f ∷ []) (c.segments j) (cond b (Doomed f) (c.segments j))
+      go j true = inr (f, Contains-push [] f, refl)
+      go j false = inl refl
+  own_next (Loses f) c c1 o n = own_conflict f Idle c c1 n.0 n.1 (λ j d. inl (cond-false (eqb j (loser f).segment) Idle (c.segments j) (ne_eqb j (loser f).segment (λ e. d (e ∙ o)))))
+  own_next (Keeps y) c c1 o n =
+      let e = n.5 in
+      record {
+        image = ap (λ (z : CoreState S). z.image) e;
+        threads = ap (λ (z : CoreState S). z.threads) e;
+        world = ap (λ (z : CoreState S). z.world) e;
+        history = ap (λ (z : CoreState S). z.history) e;
+        begun = ap (λ (z : CoreState S). z.begun) e;
+        last = ap (λ (z : CoreState S). z.last) e;
+        new = [];
+        conflicts = ap (λ (z : CoreState S). z.conflicts) e ∙ sym (append-nil c.conflicts);
+        stood = All-nil (Stood c);
+        others = λ j d. inl (ap (λ (z : CoreState S). z.segments j) e);
+      }
+
+  -- some moves, and then more
+  own_then : (c u v : CoreState S) (ms : List (Move S)) → Follows p most c ms u → OnlyOwn p most k c u → OnlyOwn p most k u v → OnlyOwn p most k c v
+  own_then c u v ms fl a b = record {
+    image = b.image ∙ a.image;
+    threads = b.threads ∙ a.threads;
+    world = b.world ∙ a.world;
+    history = b.history ∙ a.history;
+    begun = b.begun ∙ a.begun;
+    last = b.last ∙ a.last;
+    new = a.new ++ b.new;
+    conflicts = b.conflicts ∙ ap (λ l. l ++ b.new) a.conflicts ∙ append_assoc c.conflicts a.new b.new;
+    stood = All-append (Stood c) a.new b.new a.stood (All-weaker (Stood u) (Stood c) (λ f h. (h.0, ms ++ h.1, follows_append p most c u h.0 ms h.1 fl h.2, h.3)) b.new b.stood);
+    others = λ j n. left (c.segments j) (u.segments j) (v.segments j) (a.others j n) (b.others j n);
+  }
+    where
+      left : (s r t : Segment S) → IsLeft a.new s r → IsLeft b.new r t → IsLeft (a.new ++ b.new) s t
+      left s r t x y = elim y [
+        | inl e ↦ elim x [ inl d ↦ inl (e ∙ d) | inr d ↦ inr (d.0, Contains-append_left a.new b.new d.0 d.1, e ∙ d.2) ]
+        | inr d ↦ inr (d.0, Contains-append_right a.new b.new d.0 d.1, d.2)
+      ]
+
+  own_follows : (ms : List (Move S)) (c c1 : CoreState S) → All (IsOwn k) ms → Follows p most c ms c1 → OnlyOwn p most k c c1
+  own_follows [] c c1 o f = subst (OnlyOwn p most k c) (sym f) (own_none c)
+  own_follows (m ∷ ms) c c1 o f =
+      own_then c f.0 c1 (m ∷ []) (f.0, f.1, refl) (own_next m c f.0 (All-head (IsOwn k) m ms o) f.1) (own_follows ms f.0 c1 (All-tail (IsOwn k) m ms o) f.2)
+
+  -- ---- a call is such moves
+
+  led_then : (c u v : CoreState S) → Led p most k c u → Led p most k u v → Led p most k c v
+  led_then c u v a b = record { moves = a.moves ++ b.moves; follows = follows_append p most c u v a.moves b.moves a.follows b.follows; own = All-append (IsOwn k) a.moves b.moves a.own b.own }
+
+  advance_own : (image : Heap) (w : World) (mv : Move S) → IsAdvance p image w k mv → IsOwn k mv
+  advance_own image w (Dooms f) h = tt
+  advance_own image w (Goes i x x1) h = h.0
+  advance_own image w (Rests i x x1) h = h.0
+  advance_own image w (Begins i t q) h = absurd h
+  advance_own image w (Drops i) h = absurd h
+  advance_own image w (Loses f) h = absurd h
+  advance_own image w (Commits i x) h = absurd h
+  advance_own image w (Keeps e) h = absurd h
+
+  gone_led : (n : ℕ) (c c1 : CoreState S) → Gone p most k n c c1 → Led p most k c c1
+  gone_led n c c1 g = record { moves = g.moves; follows = g.follows; own = All-weaker (IsAdvance p c.image c.world k) (IsOwn k) (advance_own c.image c.world) g.moves g.kinds }
+
+  none_led : (c c1 : CoreState S) → c1 ≡ c → Led p most k c c1
+  none_led c c1 e = record { moves = []; follows = e; own = All-nil (IsOwn k) }
+
+  one_led : (mv : Move S) (c c1 : CoreState S) → IsOwn k mv → Next p most c mv c1 → Led p most k c c1
+  one_led mv c c1 o n = record { moves = mv ∷ []; follows = (c1, n, refl); own = All-cons (IsOwn k) mv [] o (All-nil (IsOwn k)) }
+
+  -- the conflict that the segment loses stands
+  lost_stands : (start : Machine S) (u : CoreState S) (x : Transaction S) (f : Conflict) → Good p start most u → u.segments k ≡ Running x → LosesTo k (side k x) f u → IsStanding u f × ((loser f).segment ≡ k)
+  lost_stands start u x f g runs l =
+      let at_k : f.other.segment ≡ k = ap (λ (z : Side). z.segment) l.other in
+      let one : eqb f.lost 0 ≡ false = ap (λ n. eqb n 0) l.lost in
+      let lose : loser f ≡ f.other = cond-false (eqb f.lost 0) f.writer f.other one in
+      let win : winner f ≡ f.writer = cond-false (eqb f.lost 0) f.other f.writer one in
+      let apart = g.apart f.writer.segment k l.writer x l.differ l.writes runs in
+      let differ : f.writer.begun ≢ (side k x).begun = λ e. apart.begun (sym (ap (λ (z : Side). z.begun) l.writer_is) ∙ e) in (
+        record {
+          x = l.writer;
+          y = x;
+          writes = l.writes;
+          reads = ap u.segments at_k ∙ runs;
+          writer = l.writer_is;
+          other = l.other ∙ ap (λ i. side i x) (sym at_k);
+          differ = λ e. l.differ (e ∙ at_k);
+          held = l.held;
+          seen = inr l.asks;
+          loses = ap (λ z. wins z (loser f)) win ∙ ap (wins f.writer) (lose ∙ l.other) ∙ wins_back f.writer (side k x) differ l.loses;
+        },
+        ap (λ (z : Side). z.segment) lose ∙ at_k,
+      )
+
+  -- what comes after the steps
+  ends_led : (start : Machine S) (reserved limit : ℕ) (u : CoreState S) (x : Transaction S) (r : Result Advance AdvanceError) (c1 : CoreState S) → Good p start most u → u.segments k ≡ Running x → x.solo ≡ false → Ends p k reserved limit u x r c1 → Led p most k u c1
+  ends_led start reserved limit u x (Ok (Ran n)) c1 g runs mortal h = none_led u c1 h.1
+  ends_led start reserved limit u x (Ok (Waits n)) c1 g runs mortal h = none_led u c1 h.2
+  ends_led start reserved limit u x (Ok (Ended n)) c1 g runs mortal h = none_led u c1 h.1
+  ends_led start reserved limit u x (Ok (NeedSolo n)) c1 g runs mortal h = none_led u c1 h.2
+  ends_led start reserved limit u x (Err (Lost f)) c1 g runs mortal h =
+      let l = lost_stands start u x f g runs h.1 in
+      one_led (Loses f) u c1 l.1 (l.0, h.2 ∙ ap (λ i. with_conflict f (with_segment i Idle u)) (sym l.1))
+  ends_led start reserved limit u x (Err (Failed y)) c1 g runs mortal h =
+      let v = with_segment k Idle u in
+      let st = g.stands k x runs in
+      let drops : Next p most u (Drops k) v = (λ z e s. absurd (both_ways z.solo (ap (λ (q : Transaction S). q.solo) (same_run z e) ∙ mortal) s), refl) in
+      let keeps : Next p most v (Keeps y) c1 = (x.thread, st.before, st.is, st.lives, λ j z e. rests j z e, h.2) in
+      led_then u v c1 (one_led (Drops k) u v refl drops) (one_led (Keeps y) v c1 tt keeps)
+    where
+      same_run : (z : Transaction S) → u.segments k ≡ Running z → z ≡ x
+      same_run z e = let q : Running z ≡ Running x = sym e ∙ runs in cc
+
+      rests : (j : ℕ) (z : Transaction S) → set_segment k Idle u.segments j ≡ Running z → x.thread ≢ z.thread
+      rests j z e = elim (set_cases k j Idle (Running z) u.segments e) [
+        | inl q ↦ absurd (let d : Idle ≡ Running z = q.1 in cc)
+        | inr q ↦ (g.apart k j x z (λ d. q.0 (sym d)) runs q.1).threads
+      ]
+
+  taken_led : (start : Machine S) (m reserved limit : ℕ) (c : CoreState S) (r : Result Advance AdvanceError) (c1 : CoreState S) → Good p start most c → StepsTaken p most k m reserved limit c r c1 → Led p most k c c1
+  taken_led start m reserved limit c r c1 g t =
+      led_then c t.before c1 (gone_led t.steps c t.before t.gone) (ends_led start reserved limit t.before t.last r c1 (good_after p start most c t.before t.gone.moves g t.gone.follows) t.runs t.mortal t.ends)
+
+  from_led : (start : Machine S) (m reserved limit : ℕ) (c : CoreState S) (r : Result Advance AdvanceError) (c1 : CoreState S) (s : Segment S) → c.segments k ≡ s → Good p start most c → AdvancedFrom s p most k m reserved limit c r c1 → Led p most k c c1
+  from_led start m reserved limit c r c1 Idle is g a = absurd a
+  from_led start m reserved limit c r c1 (Doomed f) is g a = one_led (Drops k) c c1 refl (λ z e s. absurd (let q : Doomed f ≡ Running z = sym is ∙ e in cc), a.1)
+  from_led start m reserved limit c r c1 (Running x) is g a = go (p.life x.state) refl
+    where
+      go : (l : Life) → p.life x.state ≡ l → Led p most k c c1
+      go Lives e = taken_led start m reserved limit c r c1 g (a.1 e)
+      go EndedLife e = none_led c c1 (a.0 (λ h. let q : EndedLife ≡ Lives = sym e ∙ h in cc)).1
+      go FailedLife e = none_led c c1 (a.0 (λ h. let q : FailedLife ≡ Lives = sym e ∙ h in cc)).1
+
+  -- a call is a list of moves
+  pub advanced_led : (start : Machine S) (m reserved limit : ℕ) (c : CoreState S) (r : Result Advance AdvanceError) (c1 : CoreState S) → Good p start most c → Advanced p most k m reserved limit c r c1 → Led p most k c c1
+  advanced_led start m reserved limit c r c1 g a = from_led start m reserved limit c r c1 (c.segments k) refl g a
+
+  -- which leave all but its own segment alone
+  pub led_own : (c c1 : CoreState S) → Led p most k c c1 → OnlyOwn p most k c c1
+  led_own c c1 l = own_follows l.moves c c1 l.own l.follows
+
+  -- the core stays good
+  pub sane_advanced : (sound : Heap → List S → Type 0) (m reserved limit : ℕ) (r : Result Advance AdvanceError) (mm m1 : Meaning) (b b1 : Books S) → SaneCore p sound most mm b
+      → ((w : World) → w.mid ≡ false → Advanced p most k m reserved limit (core_of w mm b) r (core_of w m1 b1)) → SaneCore p sound most m1 b1
+  sane_advanced sound m reserved limit r mm m1 b b1 s a = record {
+    first = s.first;
+    good = λ w dry.
+        let g = s.good w dry in
+        let l = advanced_led (committed (core_new p w)) m reserved limit (core_of w mm b) r (core_of w m1 b1) g (a w dry) in
+        good_after p (committed (core_new p w)) most (core_of w mm b) (core_of w m1 b1) l.moves g l.follows;
+  }

@@ -1,0 +1,51 @@
+-- What a row does up to a place doesn't depend on the bookkeeping that it began with.
+use Rattle.std.proofs.Common.{◌≡◌, ℕ, refl, sym, ◌∙◌, ap, subst}
+use Rattle.py_data.specs.Heap.{Rec, Heap, put_at, with_value, with_push, cut_to, with_pair, without_pair}
+use Rattle.py_data.specs.Shape.{find}
+use Rattle.py_data.specs.World.{World, wrote, took, IsLine}
+use Rattle.py_data.specs.Row.{Call, Reply, Row, Do, Read, Find, SetVal, Push, Truncate, PushPair, DropPair, Make, Start, Put, Take, MidLine, SetMidLine}
+use Rattle.py_data.specs.Sight.{Sight, Act, Edited, CanSet, CanPush, CanPair, Fits, Does, pure, opened, looked_at, edited, made_new, started_one, in_world}
+use Rattle.py_data.proofs.Mirror.{does_afresh}
+use Rattle.py_data.proofs.Whole.{upto_follows}
+use Rattle.lock_run.specs.declared.client.Outcome.{Outcome}
+use Rattle.lock_run.specs.declared.client.Outcome.TheVariants.{Waits as WaitsNow}
+use Rattle.stm_core.specs.Whole.{MeetsOuter}
+
+-- another sight of the same heap and the same world
+abbrev Same : {S : Type 0} → Sight S → Sight S → Type 0
+Same s t = (t.heap ≡ s.heap) × (t.world ≡ s.world)
+
+edited_same : {S : Type 0} (a : ℕ) (ok : Rec → Type 0) (f : Rec → Rec) (v w s : Sight S) → Edited a ok f v w → Same v s → (t : Sight S) × Edited a ok f s t × Same w t
+edited_same {S} a ok f v w s h e = (edited a (f h.0) s, (h.0, ap (λ (z : Heap). z a) e.0 ∙ h.1, h.2, refl), (ap (λ z. put_at z a (f h.0)) e.0 ∙ sym (ap (λ (z : Sight S). z.heap) h.3), e.1 ∙ sym (ap (λ (z : Sight S). z.world) h.3)))
+
+-- each call is done there too
+act_same : {S : Type 0} (c : Call S) (v : Sight S) (r : Reply c) (w s : Sight S) → Act c v r w → Same v s → (t : Sight S) × Act c s r t × Same w t
+act_same {S} (Read a) v r w s h e = (looked_at a r s, (ap (λ (z : Heap). z a) e.0 ∙ h.0, refl), (e.0 ∙ sym (ap (λ (z : Sight S). z.heap) h.1), e.1 ∙ sym (ap (λ (z : Sight S). z.world) h.1)))
+act_same {S} (Find d key) v r w s h e = (
+  looked_at d h.0 s,
+  (h.0, ap (λ (z : Heap). z d) e.0 ∙ h.1, subst (λ z. Fits z h.0 key) (sym e.0) h.2, h.3 ∙ ap (λ z. find z h.0.values key) (sym e.0), refl),
+  (e.0 ∙ sym (ap (λ (z : Sight S). z.heap) h.4), e.1 ∙ sym (ap (λ (z : Sight S). z.world) h.4)),
+)
+act_same (SetVal a i x) v r w s h e = edited_same a (CanSet i) (with_value i x) v w s h e
+act_same (Push a x) v r w s h e = edited_same a CanPush (with_push x) v w s h e
+act_same (Truncate a n) v r w s h e = edited_same a CanPush (cut_to n) v w s h e
+act_same (PushPair d key x) v r w s h e = edited_same d CanPair (with_pair key x) v w s h e
+act_same (DropPair d n) v r w s h e = edited_same d CanPair (without_pair n) v w s h e
+act_same {S} (Make q) v r w s h e = (made_new r q s, (ap (λ (z : Heap). z r) e.0 ∙ h.0, refl), (ap (λ z. put_at z r q) e.0 ∙ sym (ap (λ (z : Sight S). z.heap) h.1), e.1 ∙ sym (ap (λ (z : Sight S). z.world) h.1)))
+act_same {S} (Start q) v r w s h e = (started_one q s, refl, (e.0 ∙ sym (ap (λ (z : Sight S). z.heap) h), e.1 ∙ sym (ap (λ (z : Sight S). z.world) h)))
+act_same {S} (Put on bytes) v r w s h e = (in_world (wrote on bytes s.world) s, refl, (e.0 ∙ sym (ap (λ (z : Sight S). z.heap) h), ap (wrote on bytes) e.1 ∙ sym (ap (λ (z : Sight S). z.world) h)))
+act_same {S} (Take most) v r w s h e = (in_world (took r s.world) s, (subst (λ (z : World). IsLine z.input most r) (sym e.1) h.0, refl), (e.0 ∙ sym (ap (λ (z : Sight S). z.heap) h.1), ap (took r) e.1 ∙ sym (ap (λ (z : Sight S). z.world) h.1)))
+act_same {S} MidLine v r w s h e = (in_world s.world s, (h.0 ∙ ap (λ (z : World). z.mid) (sym e.1), refl), (e.0 ∙ sym (ap (λ (z : Sight S). z.heap) h.1), e.1 ∙ sym (ap (λ (z : Sight S). z.world) h.1)))
+act_same {S} (SetMidLine b) v r w s h e = (in_world (record s.world { mid = b }) s, refl, (e.0 ∙ sym (ap (λ (z : Sight S). z.heap) h), ap (λ (z : World). record z { mid = b }) e.1 ∙ sym (ap (λ (z : Sight S). z.world) h)))
+
+-- a row that prints or reads does so whatever the bookkeeping
+pub outer_afresh : {S A : Type 0} (row : Row S A) (s : Sight S) (h : Heap) (w : World) → s.heap ≡ h → s.world ≡ w → MeetsOuter row s → MeetsOuter row (opened S h w)
+outer_afresh {S} row s h w eh ew m =
+    let u = upto_follows pure pure Same (record { call = act_same }) row s (Do m.call m.next) m.place (opened S h w) m.upto (sym eh, sym ew) in
+    record { call = m.call; next = m.next; place = u.0; upto = u.1; outer = m.outer }
+
+-- and one that waits waits
+pub waits_afresh : {S : Type 0} (row : Row S (Outcome × S)) (s t : Sight S) (h : Heap) (w : World) (q : S) → s.heap ≡ h → s.world ≡ w → Does row s (WaitsNow, q) t → (p : S) × (z : Sight S) × Does row (opened S h w) (WaitsNow, p) z
+waits_afresh {S} row s t h w q eh ew d =
+    let a = does_afresh row s t (WaitsNow, q) d in
+    (q, a.0, subst (λ z. Does row (opened S h z) (WaitsNow, q) a.0) ew (subst (λ z. Does row (opened S z s.world) (WaitsNow, q) a.0) eh a.1.does))

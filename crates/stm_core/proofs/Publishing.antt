@@ -1,0 +1,277 @@
+-- What a commit leaves of store and books, and the moves that it is.
+use Rattle.std.proofs.Common.{◌≡◌, ◌≢◌, ◌<◌, ◌≤◌, ◌+◌, ◌-◌, ◌^◌, min, ℕ, zero, suc, true, false, cond, eqb, List, [], ◌∷◌, ◌++◌, length, slice_get, slice_set, Option, Some, None, Result, Ok, Err, refl, sym, ◌∙◌, ap, subst, inl, inr, arith, length-set}
+use Rattle.std.specs.List.{sum_by, range_with_len}
+use Rattle.std.proofs.lemmas.Bool.{cases_Bool, both_ways, or_left, or_right, eqb-true, eqb-false, eq-eqb, ne_eqb, cond-true, cond-false}
+use Rattle.std.proofs.lemmas.Option.{slice_get_within}
+use Rattle.std.proofs.lemmas.List.Sums.{sum_by-append}
+use Rattle.py_data.specs.Heap.{Heap}
+use Rattle.py_data.specs.World.{World}
+use Rattle.py_data.specs.Sight.{mem}
+use Rattle.py_data.specs.declared.stop.Conflict.{Conflict}
+use Rattle.lock_run.specs.Prog.{Prog}
+use Rattle.lock_run.specs.Machine.{Machine}
+use Rattle.lock_run.specs.declared.turn.Turn.{Turn}
+use Rattle.seg_store.specs.Meaning.{Part, Meaning, sees, holds}
+use Rattle.seg_store.specs.Calls.{ended, after_publish}
+use Rattle.seg_store.specs.Store.{IsStore}
+use Rattle.stm_core.specs.declared.books.Progress.{Progress}
+use Rattle.stm_core.specs.declared.books.Work.{Work}
+use Rattle.stm_core.specs.declared.books.Hand.{Hand}
+use Rattle.stm_core.specs.declared.books.Hand.TheVariants.{Idle as IdleHand, Doomed as DoomedHand, Runs}
+use Rattle.stm_core.specs.declared.books.Books.{Books}
+use Rattle.stm_core.specs.declared.commit.Commit.{Commit}
+use Rattle.stm_core.specs.declared.commit.Commit.TheVariants.{Committed as AtTurn, Nothing}
+use Rattle.stm_core.specs.CoreState.{Transaction, Segment, Idle, Doomed, Running, CoreState, side, wins, turn_of, set_segment, with_segment, with_conflict}
+use Rattle.stm_core.specs.Good.{Good}
+use Rattle.stm_core.specs.Moves.{IsStanding, Move, Drops, Loses, Next, published}
+use Rattle.stm_core.specs.Books.{WorkFits, is_running, runs_at, one_running, one_started, is_lock, transaction, segment_of, core_of, Fit}
+use Rattle.stm_core.specs.Passes.{met, doom_met, doom_one, doom_readers}
+use Rattle.stm_core.specs.Whole.{Whole}
+use Rattle.stm_core.specs.Hold.{no_world}
+use Rattle.stm_core.specs.Advance.{core_with}
+use Rattle.stm_core.specs.SaneCore.{SaneCore}
+use Rattle.stm_core.specs.Begun.{steps_done, IsCount}
+use Rattle.stm_core.specs.Committed.{Beaten, CommitEnds, CommitOf, Committed}
+use Rattle.stm_core.proofs.Publish.{get_set_other}
+use Rattle.stm_core.proofs.Fits.{get_set_same, sum_set, seen_image}
+use Rattle.stm_core.proofs.Kept.{good_next}
+use Rattle.stm_core.proofs.TwoPasses.{met_some, commit_good}
+use Rattle.stm_core.proofs.Wholes.{Set, core_set}
+
+-- ---- publishing
+
+-- the books of a transaction that is committed
+pub record Adds {S : Type 0} (x : Work S) (b b1 : Books S) : Type 0 where
+  pub rest : b1 ≡ record b { threads = b1.threads; pending = b1.pending; history = b1.history }
+  pub threads : b1.threads.entries ≡ slice_set b.threads.entries x.thread x.state ++ x.progress.started
+  pub thread_room : b.threads.room ≤ b1.threads.room + length x.progress.started
+  pub pending : b1.pending + length x.progress.started ≡ b.pending
+  pub history : b1.history.entries ≡ b.history.entries ++ record { thread = x.thread; steps = x.steps; names = x.progress.names } ∷ []
+  pub history_room : b.history.room ≤ b1.history.room + 1
+
+module _ {S : Type 0} (k : ℕ) (m : Meaning) (b b1 : Books S) (x : Work S) where
+  part_there : (j : ℕ) → j ≢ k → (after_publish k m).part j ≡ m.part j
+  part_there j n = cond-false (eqb j k) (ended (m.part k)) (m.part j) (ne_eqb j k n)
+
+  hands_same : Adds x b b1 → b1.hands.items ≡ b.hands.items
+  hands_same a = ap (λ (z : Books S). z.hands.items) a.rest
+
+  pub published_whole : (r : ℕ) → IsStore r m → Fit k m b x.progress → slice_get b.hands.items k ≡ Some IdleHand → Adds x b b1 → Whole (after_publish k m) b1
+  published_whole r s f e a =
+      let hs = hands_same a in
+      let co : b1.conflicts.room ≡ b.conflicts.room = ap (λ (z : Books S). z.conflicts.room) a.rest in
+      let sr : sum_by one_running b1.hands.items ≡ sum_by one_running b.hands.items = ap (sum_by one_running) hs in
+      let ss : sum_by one_started b1.hands.items ≡ sum_by one_started b.hands.items = ap (sum_by one_started) hs in
+      let t = f.turns in let l = f.losses in let d = f.pending in let h = f.threads in
+      let tr = a.thread_room in let pe = a.pending in let hr = a.history_room in
+      record {
+        hands = ap length hs ∙ f.hands;
+        holders = λ j i q. elim (cases_Bool (eqb j k)) [
+          | inl y ↦ absurd (both_ways false refl (subst (λ (z : Part). holds z i ≡ true) (cond-true (eqb j k) (ended (m.part k)) (m.part j) y) q))
+          | inr n ↦ ap (λ z. runs_at z j) hs ∙ f.holders j i (eqb-false j k n) (subst (λ (z : Part). holds z i ≡ true) (part_there j (eqb-false j k n)) q)
+        ];
+        works = λ j y q. elim (cases_Bool (eqb j k)) [
+          | inl z ↦ absurd (let w : slice_get b.hands.items k ≡ Some (Runs y) = ap (slice_get b.hands.items) (sym (eqb-true j k z)) ∙ sym (ap (λ u. slice_get u j) hs) ∙ q in let v : Some IdleHand ≡ Some (Runs y) = sym e ∙ w in cc)
+          | inr n ↦ subst (λ (z : Part). WorkFits z y) (sym (part_there j (eqb-false j k n))) (f.works j y (sym (ap (λ u. slice_get u j) hs) ∙ q))
+        ];
+        locked = λ j i q. elim (cases_Bool (eqb j k)) [
+          | inl y ↦ absurd (both_ways false refl (subst (λ (z : Part). mem i z.changed ≡ true) (cond-true (eqb j k) (ended (m.part k)) (m.part j) y) q))
+          | inr n ↦ let p = part_there j (eqb-false j k n) in
+              let c : mem i (m.part j).changed ≡ true = subst (λ (z : Part). mem i z.changed ≡ true) p q in
+              let free = s.apart j k i (eqb-false j k n) (or_left (mem i (m.part j).changed) (mem i (m.part j).made) c) in
+              subst (λ (z : Part). is_lock (sees m k i) (z.looked i) ≡ true) (sym p) (subst (λ o. is_lock o ((m.part j).looked i) ≡ true) (sym (seen_image r m k i s free)) (f.locked j i c))
+        ];
+        turns = omega (arith, sr, t, hr);
+        losses = omega (arith, sr, co, l);
+        pending = omega (arith, ss, pe, d);
+        threads = omega (arith, tr, pe, h);
+      }
+
+  pub core_published : (w : World) → slice_get b.hands.items k ≡ Some IdleHand → Adds x b b1 → core_of w (after_publish k m) b1 ≡ published k (transaction w (m.part k) x) (core_with w k m b x)
+  core_published w e a i = record {
+    image = sees m k;
+    threads = a.threads i;
+    world = w;
+    history = a.history i;
+    conflicts = ap (λ (z : Books S). z.conflicts.entries) a.rest i;
+    begun = ap (λ (z : Books S). z.begun) a.rest i;
+    last = ap (λ (z : Books S). z.last) a.rest i;
+    cause = ap (λ (z : Books S). z.cause) a.rest i;
+    segments = λ j. same j i;
+  }
+    where
+      same : (j : ℕ) → segment_of w ((after_publish k m).part j) (slice_get b1.hands.items j)
+          ≡ set_segment k Idle (set_segment k (Running (transaction w (m.part k) x)) (λ y. segment_of w (m.part y) (slice_get b.hands.items y))) j
+      same j = elim (cases_Bool (eqb j k)) [
+        | inl y ↦ ap (segment_of w ((after_publish k m).part j)) (ap (λ l. slice_get l j) (hands_same a) ∙ ap (slice_get b.hands.items) (eqb-true j k y) ∙ e)
+            ∙ sym (cond-true (eqb j k) Idle (cond (eqb j k) (Running (transaction w (m.part k) x)) (segment_of w (m.part j) (slice_get b.hands.items j))) y)
+        | inr n ↦ ap (λ p. segment_of w p (slice_get b1.hands.items j)) (part_there j (eqb-false j k n)) ∙ ap (λ l. segment_of w (m.part j) (slice_get l j)) (hands_same a)
+            ∙ sym (cond-false (eqb j k) Idle (cond (eqb j k) (Running (transaction w (m.part k) x)) (segment_of w (m.part j) (slice_get b.hands.items j))) n
+            ∙ cond-false (eqb j k) (Running (transaction w (m.part k) x)) (segment_of w (m.part j) (slice_get b.hands.items j)) n)
+      ]
+
+-- while a transaction is out of its hand, the hand shows as idle
+pub left_idle : {S : Type 0} (w : World) (k : ℕ) (m : Meaning) (b : Books S) (x : Work S) → slice_get b.hands.items k ≡ Some IdleHand → core_of w m b ≡ with_segment k Idle (core_with w k m b x)
+left_idle {S} w k m b x e i = record (core_of w m b) { segments = λ j. same j i }
+  where
+    same : (j : ℕ) → segment_of w (m.part j) (slice_get b.hands.items j) ≡ set_segment k Idle (set_segment k (Running (transaction w (m.part k) x)) (λ y. segment_of w (m.part y) (slice_get b.hands.items y))) j
+    same j = elim (cases_Bool (eqb j k)) [
+      | inl y ↦ ap (segment_of w (m.part j)) (ap (slice_get b.hands.items) (eqb-true j k y) ∙ e) ∙ sym (cond-true (eqb j k) Idle (cond (eqb j k) (Running (transaction w (m.part k) x)) (segment_of w (m.part j) (slice_get b.hands.items j))) y)
+      | inr n ↦ sym (cond-false (eqb j k) Idle (cond (eqb j k) (Running (transaction w (m.part k) x)) (segment_of w (m.part j) (slice_get b.hands.items j))) n
+          ∙ cond-false (eqb j k) (Running (transaction w (m.part k) x)) (segment_of w (m.part j) (slice_get b.hands.items j)) n)
+    ]
+
+-- the second pass leaves the committed states and the history
+pub dooms_keep : {S : Type 0} (k : ℕ) (x : Transaction S) (js : List ℕ) (c : CoreState S) → ((doom_readers k x js c).threads ≡ c.threads) × ((doom_readers k x js c).history ≡ c.history)
+dooms_keep k x [] c = (refl, refl)
+dooms_keep {S} k x (j ∷ js) c =
+    let u = cond (eqb j k) c (doom_one k x j c (c.segments j)) in
+    let r = dooms_keep k x js u in
+    let q = elim (eqb j k) as (λ e. ((cond e c (doom_one k x j c (c.segments j))).threads ≡ c.threads) × ((cond e c (doom_one k x j c (c.segments j))).history ≡ c.history)) [ true ↦ (refl, refl) | false ↦ one (c.segments j) ] in
+    (r.0 ∙ q.0, r.1 ∙ q.1)
+  where
+    met_keep : (y : Transaction S) (o : Option ℕ) → ((doom_met k x j y c o).threads ≡ c.threads) × ((doom_met k x j y c o).history ≡ c.history)
+    met_keep y None = (refl, refl)
+    met_keep y (Some a) = (refl, refl)
+
+    one : (s : Segment S) → ((doom_one k x j c s).threads ≡ c.threads) × ((doom_one k x j c s).history ≡ c.history)
+    one Idle = (refl, refl)
+    one (Doomed f) = (refl, refl)
+    one (Running y) = met_keep y (met x.changed y.looked)
+
+-- the count of the history's steps, with one turn more
+pub count_more : (spent : ℕ) (ts : List Turn) (t : Turn) → IsCount spent ts → IsCount (min (spent + t.steps) (2 ^ 64 - 1)) (ts ++ t ∷ [])
+count_more spent ts t e =
+    let s = sum_by-append (λ (u : Turn). u.steps) ts (t ∷ []) in
+    grind (arith, e, s)
+
+-- ---- a transaction taken out of its hand
+
+module _ {S : Type 0} (k : ℕ) (m : Meaning) (b b1 : Books S) where
+  -- the hand of a doomed segment is emptied
+  pub emptied : (f : Conflict) → Whole m b → slice_get b.hands.items k ≡ Some (DoomedHand f) → Set k IdleHand b b1 → Whole m b1
+  emptied f h e s =
+      let lt = slice_get_within b.hands.items k (DoomedHand f) e in
+      let here : slice_get b1.hands.items k ≡ Some IdleHand = ap (λ l. slice_get l k) s.hands ∙ get_set_same b.hands.items k IdleHand lt in
+      let there : (j : ℕ) → j ≢ k → slice_get b1.hands.items j ≡ slice_get b.hands.items j = λ j n. ap (λ l. slice_get l j) s.hands ∙ get_set_other b.hands.items k j IdleHand (λ q. n (sym q)) in
+      let running = sum_set one_running b.hands.items k (DoomedHand f) IdleHand e in
+      let started = sum_set one_started b.hands.items k (DoomedHand f) IdleHand e in
+      let sr : sum_by one_running b1.hands.items ≡ sum_by one_running (slice_set b.hands.items k IdleHand) = ap (sum_by one_running) s.hands in
+      let ss : sum_by one_started b1.hands.items ≡ sum_by one_started (slice_set b.hands.items k IdleHand) = ap (sum_by one_started) s.hands in
+      let hi : b1.history.room ≡ b.history.room = ap (λ (z : Books S). z.history.room) s.rest in
+      let co : b1.conflicts.room ≡ b.conflicts.room = ap (λ (z : Books S). z.conflicts.room) s.rest in
+      let th : b1.threads.room ≡ b.threads.room = ap (λ (z : Books S). z.threads.room) s.rest in
+      let pe : b1.pending ≡ b.pending = ap (λ (z : Books S). z.pending) s.rest in
+      let t = h.turns in let l = h.losses in let p = h.pending in let r = h.threads in
+      let not_k : (j : ℕ) → runs_at b.hands.items j ≡ true → j ≢ k = λ j ri q. both_ways (runs_at b.hands.items j) (ap (runs_at b.hands.items) q ∙ ap is_running e) ri in
+      let not_k1 : (j : ℕ) → runs_at b1.hands.items j ≡ true → j ≢ k = λ j ri q. both_ways (runs_at b1.hands.items j) (ap (runs_at b1.hands.items) q ∙ ap is_running here) ri in
+      record {
+        hands = ap length s.hands ∙ length-set b.hands.items k IdleHand ∙ h.hands;
+        holders = λ j a q. let ri = h.holders j a q in ap is_running (there j (not_k j ri)) ∙ ri;
+        works = λ j y q. let n = not_k1 j (ap is_running q) in h.works j y (sym (there j n) ∙ q);
+        locked = h.locked;
+        turns = omega (arith, running, sr, hi, t);
+        losses = omega (arith, running, sr, co, l);
+        pending = omega (arith, started, ss, pe, p);
+        threads = omega (arith, th, pe, r);
+      }
+
+  module _ (x : Work S) (e : slice_get b.hands.items k ≡ Some (Runs x)) (s : Set k IdleHand b b1) where
+    pub core_taken : (w : World) → core_with w k m b1 x ≡ core_of w m b
+    core_taken w =
+        ap (with_segment k (Running (transaction w (m.part k) x))) (core_set k m b b1 w IdleHand s (slice_get_within b.hands.items k (Runs x) e))
+        ∙ (λ i. record (core_of w m b) { segments = λ j. same j i })
+      where
+        same : (j : ℕ) → set_segment k (Running (transaction w (m.part k) x)) (set_segment k Idle (core_of w m b).segments) j ≡ (core_of w m b).segments j
+        same j = elim (cases_Bool (eqb j k)) [
+          | inl y ↦ cond-true (eqb j k) (Running (transaction w (m.part k) x)) (cond (eqb j k) Idle ((core_of w m b).segments j)) y ∙ sym (ap (core_of w m b).segments (eqb-true j k y) ∙ ap (segment_of w (m.part k)) e)
+          | inr n ↦ cond-false (eqb j k) (Running (transaction w (m.part k) x)) (cond (eqb j k) Idle ((core_of w m b).segments j)) n ∙ cond-false (eqb j k) Idle ((core_of w m b).segments j) n
+        ]
+
+    -- its thread is there
+    pub thread_there : (p : Prog S) (start : Machine S) (most : ℕ) (w : World) → Good p start most (core_of w m b) → x.thread < length b1.threads.entries
+    thread_there p start most w g =
+        let st = g.stands k (transaction w (m.part k) x) (ap (segment_of w (m.part k)) e) in
+        let lt = slice_get_within b.threads.entries x.thread st.before st.is in
+        subst (λ (l : List S). x.thread < length l) (sym (ap (λ (z : Books S). z.threads.entries) s.rest)) lt
+
+    -- its number is no other's
+    pub number_alone : (p : Prog S) (start : Machine S) (most : ℕ) (w : World) → Good p start most (core_of w m b) → (j : ℕ) (y : Work S) → slice_get b1.hands.items j ≡ Some (Runs y) → y.begun ≢ x.begun
+    number_alone p start most w g j y h q =
+        let here : slice_get b1.hands.items k ≡ Some IdleHand = ap (λ l. slice_get l k) s.hands ∙ get_set_same b.hands.items k IdleHand (slice_get_within b.hands.items k (Runs x) e) in
+        let n : k ≢ j = λ d. (let u : Some IdleHand ≡ Some (Runs y) = sym here ∙ ap (slice_get b1.hands.items) d ∙ h in cc) in
+        let there : slice_get b.hands.items j ≡ Some (Runs y) = sym (ap (λ l. slice_get l j) s.hands ∙ get_set_other b.hands.items k j IdleHand n) ∙ h in
+        (g.apart k j (transaction w (m.part k) x) (transaction w (m.part j) y) n (ap (segment_of w (m.part k)) e) (ap (segment_of w (m.part j)) there)).begun (sym q)
+
+    -- what the commit of the transaction makes of the core is what the commit of its segment makes of it
+    pub committed_taken : (w : World) (n : ℕ) (r : Result Commit Conflict) (c1 : CoreState S) → CommitEnds k n (transaction w (m.part k) x) r (core_with w k m b1 x) c1 → Committed k n r (core_of w m b) c1
+    committed_taken w n r c1 h =
+        subst (λ (z : Segment S). CommitOf k n z r (core_of w m b) c1) (sym (ap (segment_of w (m.part k)) e))
+        (subst (λ (c : CoreState S). CommitEnds k n (transaction w (m.part k) x) r c c1) (core_taken w) h)
+
+  pub committed_doomed : (f : Conflict) → slice_get b.hands.items k ≡ Some (DoomedHand f) → Set k IdleHand b b1 → (w : World) (n : ℕ) → Committed k n (Err f) (core_of w m b) (core_of w m b1)
+  committed_doomed f e s w n =
+      subst (λ (z : Segment S). CommitOf k n z (Err f) (core_of w m b) (core_of w m b1)) (sym (ap (segment_of w (m.part k)) e))
+      (refl, core_set k m b b1 w IdleHand s (slice_get_within b.hands.items k (DoomedHand f) e))
+
+-- ---- a commit keeps the core good
+
+mem_range : (a n j : ℕ) → a ≤ j → j < a + n → mem j (range_with_len a n) ≡ true
+mem_range a zero j le lt = absurd (omega arith)
+mem_range a (suc n) j le lt = elim (cases_Bool (eqb j a)) [
+  | inl y ↦ or_left (eqb j a) (mem j (range_with_len (a + 1) n)) y
+  | inr q ↦ let d = eqb-false j a q in or_right (eqb j a) (mem j (range_with_len (a + 1) n)) (mem_range (a + 1) n j (omega arith) (omega arith))
+]
+
+module _ {S : Type 0} (p : Prog S) (start : Machine S) (most k n : ℕ) (c c1 : CoreState S) (g : Good p start most c) (within : (j : ℕ) (y : Transaction S) → c.segments j ≡ Running y → j < n) where
+  beaten_stands : (x : Transaction S) (f : Conflict) → c.segments k ≡ Running x → Beaten k x f c → IsStanding c f × (with_conflict f (with_segment k Idle c) ≡ with_conflict f (with_segment f.writer.segment Idle c)) × (f.lost ≡ 0)
+  beaten_stands x f is h =
+      let r = met_some x.changed h.reader.looked f.at.0 h.seen in
+      let ww : f.writer ≡ side k x = ap (λ (z : Conflict). z.writer) h.is in
+      let ws : f.writer.segment ≡ k = ap (λ (z : Conflict). z.writer.segment) h.is in
+      let lo : f.lost ≡ 0 = ap (λ (z : Conflict). z.lost) h.is in (
+        record {
+          x = x;
+          y = h.reader;
+          writes = ap c.segments ws ∙ is;
+          reads = h.reads;
+          writer = ww ∙ ap (λ i. side i x) (sym ws);
+          other = ap (λ (z : Conflict). z.other) h.is;
+          differ = λ e. h.differ (sym e ∙ ws);
+          held = r.0;
+          seen = inl r.1;
+          loses = ap (λ l. wins (cond (eqb l 0) f.other f.writer) (cond (eqb l 0) f.writer f.other)) lo ∙ ap (wins f.other) ww ∙ h.beats;
+        },
+        ap (λ i. with_conflict f (with_segment i Idle c)) (sym ws),
+        lo,
+      )
+
+  ends_good : (x : Transaction S) (r : Result Commit Conflict) → c.segments k ≡ Running x → CommitEnds k n x r c c1 → Good p start most c1
+  ends_good x (Ok Nothing) is h = good_next p start most c c1 (Drops k) g ((λ y e s. (let q : x ≡ y = (let u : Running x ≡ Running y = sym is ∙ e in cc) in ap (λ (z : Transaction S). z.steps) (sym q) ∙ h.0)), h.1)
+  ends_good x (Ok (AtTurn i)) is h = subst (Good p start most) (sym h.3) (commit_good p start most k x (range_with_len 0 n) c g is h.0 h.1 (λ j y e. mem_range 0 n j (omega arith) (let lt = within j y e in omega (arith, lt))))
+  ends_good x (Err f) is h =
+      let b = beaten_stands x f is h.1 in
+      good_next p start most c c1 (Loses f) g (b.0, h.2 ∙ b.1 ∙ ap (λ l. with_conflict f (with_segment (cond (eqb l 0) f.writer f.other).segment Idle c)) (sym b.2))
+
+  pub committed_good : (r : Result Commit Conflict) → Committed k n r c c1 → Good p start most c1
+  committed_good r h = go (c.segments k) refl h
+    where
+      go : (s : Segment S) → c.segments k ≡ s → CommitOf k n s r c c1 → Good p start most c1
+      go Idle e q = absurd q
+      go (Doomed f) e q = good_next p start most c c1 (Drops k) g ((λ y d s. absurd (let u : Doomed f ≡ Running y = sym e ∙ d in cc)), q.1)
+      go (Running x) e q = ends_good x r e q
+
+-- a segment that runs has a hand
+pub running_within : {S : Type 0} (w : World) (m : Meaning) (b : Books S) (j : ℕ) (y : Transaction S) → length b.hands.items ≡ m.segments → (core_of w m b).segments j ≡ Running y → j < m.segments
+running_within {S} w m b j y len e = go (slice_get b.hands.items j) refl
+  where
+    go : (o : Option (Hand S)) → slice_get b.hands.items j ≡ o → j < m.segments
+    go None q = absurd (let u : Idle ≡ Running y = sym (ap (segment_of w (m.part j)) q) ∙ e in cc)
+    go (Some h) q = subst (λ n. j < n) len (slice_get_within b.hands.items j h q)
+
+pub committed_sane : {S : Type 0} (p : Prog S) (sound : Heap → List S → Type 0) (most k : ℕ) (m m1 : Meaning) (b b1 : Books S) (r : Result Commit Conflict) → length b.hands.items ≡ m.segments
+    → ((w : World) → Committed k m.segments r (core_of w m b) (core_of w m1 b1)) → SaneCore p sound most m b → SaneCore p sound most m1 b1
+committed_sane p sound most k m m1 b b1 r len h s = record {
+  first = s.first;
+  good = λ w d. committed_good p _ most k m.segments (core_of w m b) (core_of w m1 b1) (s.good w d) (λ j y e. running_within w m b j y len e) r (h w);
+}

@@ -1,0 +1,26 @@
+//! What calls of a core answer.
+use crate::cause::Cause;
+use py_data::Conflict;
+
+/// How steps of a transaction that goes on came to an end, and how many of them this call did.
+#[derive(Clone, Copy, Debug, Drop, PartialEq, Eq)]
+pub enum Advance {
+    /// All steps that were asked for were done, and the thread lives.
+    Ran(u64),
+    /// The next step waits, over what the transaction sees.
+    Waits(u64),
+    /// The last step was the thread's last. The number is 0 where the thread had ended in its transaction before the call.
+    Ended(u64),
+    /// The next step prints or reads, which only a solo transaction may.
+    NeedSolo(u64),
+}
+
+/// Why a transaction went no further. Its segment has nothing in hand then, and what it did is dropped.
+#[derive(Clone, Copy, Debug, Drop, PartialEq, Eq)]
+pub enum AdvanceError {
+    /// The transaction lost this conflict: before the call, or to another transaction that has changed the record which the next
+    /// step asks to change.
+    Lost(Conflict),
+    /// The heap is full, or there was no memory. The core keeps the first cause that it met.
+    Failed(Cause),
+}

@@ -1,0 +1,133 @@
+//! How a transaction begins.
+ghost use Rattle.std.specs.Prelude.{◌≡◌};
+
+use crate::books::{Hand, Progress, Work};
+use crate::cause::Cause;
+use crate::engine::Engine;
+use crate::threads::Started;
+use lock_run::Client;
+use py_data::{Items, NoMemory};
+use seg_store::SegStore;
+
+/// Why no transaction begins. The first of these that holds is told.
+#[derive(Clone, Copy, Debug, Drop, PartialEq, Eq)]
+pub enum BeginError {
+    /// The core goes on no more, for this cause.
+    Over(Cause),
+    /// That segment, from 0, has a transaction in hand, or is doomed.
+    Busy(u8),
+    /// No thread has that number; or it has ended, a segment runs it, or it waits.
+    NotReady(u32),
+    /// The history has as many steps as the budget, or 2^64 - 1 transactions were begun.
+    AtBudget,
+    /// There was no memory.
+    OutOfMemory,
+}
+
+impl<'p, C: Client, S: SegStore> Engine<'p, C, S> {
+    ghost use Rattle.std.specs.Prelude.{◌≡◌, ℕ, ◌<◌, ◌≤◌, ◌-◌, ◌^◌, length, slice_get, Some, IfOk};
+    ghost use Rattle.std.specs.List.{sum_by};
+    ghost use Rattle.py_data.specs.World.{World};
+    ghost use Rattle.seg_store.specs.Store.{IsStore};
+    ghost use Rattle.stm_core.specs.Moves.{begun_at};
+    ghost use Rattle.stm_core.specs.Books.{one_running, core_of};
+    ghost use Rattle.stm_core.specs.Whole.{Whole, SameShape};
+    ghost use Rattle.stm_core.specs.SaneCore.{SaneCore};
+    ghost use Rattle.stm_core.specs.Begun.{IsCount, Begun, IsFresh};
+
+    /// A transaction of the thread, as it begins, and room for its turn and a conflict.
+    fn make_work(&mut self, t: u32) -> Result<Work<C::State>, NoMemory>
+        requires there { t < length self.old.books.threads.entries }
+        requires few { length self.old.books.hands.items ≤ 8 }
+        ensures rest { self.new ≡ record self.old { books = record self.old.books { history = self.new.books.history; conflicts = self.new.books.conflicts } } }
+        ensures turns { self.new.books.history.entries ≡ self.old.books.history.entries }
+        ensures turns_kept { self.old.books.history.room ≤ self.new.books.history.room }
+        ensures losses { self.new.books.conflicts.entries ≡ self.old.books.conflicts.entries }
+        ensures losses_kept { self.old.books.conflicts.room ≤ self.new.books.conflicts.room }
+        ensures turn_room { IfOk result (λ x. sum_by one_running self.old.books.hands.items < self.new.books.history.room) }
+        ensures loss_room { IfOk result (λ x. sum_by one_running self.old.books.hands.items < self.new.books.conflicts.room) }
+        ensures fresh { IfOk result (IsFresh t self.old.books) }
+    {
+        let state = self.client.copy(self.alloc, self.books.threads.at(t))?;
+        let count = self.books.running() + 1;
+        self.books.history.reserve(count)?;
+        self.books.conflicts.reserve(count)?;
+        Ok(Work {
+            thread: t,
+            begun: self.books.begun,
+            steps: 0,
+            state,
+            progress: Progress {
+                names: Items::new(self.alloc),
+                kept_names: 0,
+                started: Started::new(self.alloc),
+                kept_started: 0,
+            },
+        })
+    }
+
+    /// Begins a transaction on segment k, which is idle. There is room for its turn and a conflict.
+    fn start(&mut self, k: u8, work: Work<C::State>)
+        requires whole { Whole (S.meaning self.old.store) self.old.books }
+        requires idle { slice_get self.old.books.hands.items k ≡ Some Hand.Idle }
+        requires fresh { IsFresh work.thread self.old.books work }
+        requires few { self.old.books.begun < 2 ^ 64 - 1 }
+        requires turn { sum_by one_running self.old.books.hands.items < self.old.books.history.room }
+        requires loss { sum_by one_running self.old.books.hands.items < self.old.books.conflicts.room }
+        ensures whole { Whole (S.meaning self.new.store) self.new.books }
+        ensures rest { self.new ≡ record self.old { store = self.new.store; books = self.new.books } }
+        ensures shape { SameShape (S.meaning self.old.store) (S.meaning self.new.store) }
+        ensures core { (w : World) → core_of w (S.meaning self.new.store) self.new.books ≡ begun_at k work.thread work.state (core_of w (S.meaning self.old.store) self.old.books) }
+    {
+        self.store.known();
+        self.store.begin(k);
+        self.books.begun += 1;
+        self.books.last = Some(work.thread);
+        self.books.put(k, work);
+    }
+
+    /// Begins a transaction of thread t on segment k. The budget is the most steps that the history is to have before one
+    /// begins.
+    ///
+    /// It copies the thread's state, and makes room for a turn and a conflict. At want of memory the cause OutOfMemory is
+    /// kept. At any other error all stays as it was.
+    pub fn begin(&mut self, k: u8, t: u32, budget: u64) -> Result<(), BeginError>
+        requires segment { k < (S.meaning self.old.store).segments }
+        requires whole { Whole (S.meaning self.old.store) self.old.books }
+        requires count { IsCount self.old.spent self.old.books.history.entries }
+        requires sane { (most : ℕ) × SaneCore (C.prog self.old.client.now) (C.sound self.old.client.now) most (S.meaning self.old.store) self.old.books }
+        ensures whole { Whole (S.meaning self.new.store) self.new.books }
+        ensures store { IsStore (S.reserved self.new.store) (S.meaning self.new.store) }
+        ensures count { IsCount self.new.spent self.new.books.history.entries }
+        ensures rest { self.new ≡ record self.old { store = self.new.store; books = self.new.books } }
+        ensures shape { SameShape (S.meaning self.old.store) (S.meaning self.new.store) }
+        ensures begun { (w : World) → Begun (C.prog self.old.client.now) k t budget result (core_of w (S.meaning self.old.store) self.old.books) (core_of w (S.meaning self.new.store) self.new.books) }
+        ensures sane { (most : ℕ) → SaneCore (C.prog self.old.client.now) (C.sound self.old.client.now) most (S.meaning self.old.store) self.old.books
+            → SaneCore (C.prog self.old.client.now) (C.sound self.old.client.now) most (S.meaning self.new.store) self.new.books }
+    {
+        self.store.known();
+        if let Some(cause) = self.books.cause {
+            return Err(BeginError::Over(cause));
+        }
+        if !self.books.is_idle(k) {
+            return Err(BeginError::Busy(k));
+        }
+        if !self.is_ready(t) {
+            return Err(BeginError::NotReady(t));
+        }
+        if self.is_spent(budget) || self.books.begun == u64::MAX {
+            return Err(BeginError::AtBudget);
+        }
+        match self.make_work(t) {
+            Ok(work) => {
+                self.start(k, work);
+                self.store.known();
+                Ok(())
+            }
+            Err(_) => {
+                self.books.cause = Some(Cause::OutOfMemory);
+                Err(BeginError::OutOfMemory)
+            }
+        }
+    }
+}

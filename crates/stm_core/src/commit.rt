@@ -1,0 +1,301 @@
+//! How a transaction is committed, in two passes over the others.
+ghost use Rattle.std.specs.Prelude.{◌≡◌, ◌<◌, ◌≤◌, ◌+◌, ◌++◌, [], ◌∷◌, length, slice_get, slice_set};
+ghost use Rattle.stm_core.specs.Books.{runs_at};
+ghost use Rattle.stm_core.specs.CoreState.{turn_of};
+ghost use Rattle.stm_core.specs.Passes.{met};
+ghost use Rattle.stm_core.specs.Readers.{place_of};
+
+use crate::books::{Books, Hand, Progress, Work};
+use crate::engine::Engine;
+use crate::segment::wins;
+use lock_run::{Client, Turn};
+use py_data::{Addr, Conflict, Side};
+use seg_store::SegStore;
+
+/// What a commit answers where no conflict was lost.
+#[derive(Clone, Copy, Debug, Drop, PartialEq, Eq)]
+pub enum Commit {
+    /// The transaction is the turn of that number in the history, from 0.
+    Committed(u64),
+    /// It had run no step, and was dropped.
+    Nothing,
+}
+
+/// The first record that segment k has locked, in the order of the locks, and that segment j has looked at.
+fn first_read<S: SegStore>(store: &S, k: u8, j: u8) -> Option<Addr>
+    requires writer { k < (S.meaning store.now).segments }
+    requires reader { j < (S.meaning store.now).segments }
+    ensures { met ((S.meaning store.now).part k).changed ((S.meaning store.now).part j).looked ≡ place_of result }
+{
+    let count = store.changed_len(k);
+    for i in 0..count {
+        let a = store.changed_at(k, i);
+        if store.has_looked(j, a) {
+            return Some(a);
+        }
+    }
+    None
+}
+
+impl<T: Drop> Books<T> {
+    /// Whether a transaction runs on the segment.
+    pub fn runs(&self, j: u8) -> bool
+        requires { j < length self.now.hands.items }
+        ensures { result ≡ runs_at self.now.hands.items j }
+    {
+        matches!(self.hands[j as usize], Hand::Runs(_))
+    }
+
+    /// Commits a transaction: its turn, the state of its thread, and the threads that it started. There is room for them.
+    fn add_turn(&mut self, work: Work<T>)
+        requires thread { work.thread < length self.old.threads.entries }
+        requires turns { 0 < self.old.history.room }
+        requires pending { length work.progress.started ≤ self.old.pending }
+        requires threads { self.old.pending ≤ self.old.threads.room }
+        ensures rest { self.new ≡ record self.old { threads = self.new.threads; pending = self.new.pending; history = self.new.history } }
+        ensures threads { self.new.threads.entries ≡ slice_set self.old.threads.entries work.thread work.state ++ work.progress.started }
+        ensures thread_room { self.old.threads.room ≤ self.new.threads.room + length work.progress.started }
+        ensures pending { self.new.pending + length work.progress.started ≡ self.old.pending }
+        ensures history { self.new.history.entries ≡ self.old.history.entries ++ record { thread = work.thread; steps = work.steps; names = work.progress.names } ∷ [] }
+        ensures history_room { self.old.history.room ≤ self.new.history.room + 1 }
+    {
+        let Work {
+            thread,
+            begun: _,
+            steps,
+            state,
+            progress,
+        } = work;
+        let Progress {
+            names,
+            kept_names: _,
+            started,
+            kept_started: _,
+        } = progress;
+        self.pending -= started.len();
+        self.threads.set(thread, state);
+        self.threads.append(started);
+        let turn = Turn {
+            thread,
+            steps,
+            names,
+        };
+        match self.history.push(turn) {
+            Ok(()) => (),
+            Err(_) => unreachable!(),
+        }
+    }
+}
+
+impl<'p, C: Client, S: SegStore> Engine<'p, C, S> {
+    ghost use Rattle.std.specs.Prelude.{◌≡◌, ◌≢◌, ℕ, ◌<◌, ◌≤◌, [], length, slice_get, Some, cond, eqb};
+    ghost use Rattle.std.specs.List.{range_with_len};
+    ghost use Rattle.py_data.specs.World.{World};
+    ghost use Rattle.seg_store.specs.Store.{IsStore};
+    ghost use Rattle.stm_core.specs.declared.books.Work.{Work};
+    ghost use Rattle.stm_core.specs.declared.books.Hand.TheVariants.{Idle, Runs};
+    ghost use Rattle.stm_core.specs.CoreState.{with_segment};
+    ghost use Rattle.stm_core.specs.Moves.{published};
+    ghost use Rattle.stm_core.specs.Passes.{doom_one, doom_readers};
+    ghost use Rattle.stm_core.specs.Books.{Fit, transaction, core_of};
+    ghost use Rattle.stm_core.specs.Whole.{Whole, SameShape};
+    ghost use Rattle.stm_core.specs.Advance.{core_with};
+    ghost use Rattle.stm_core.specs.SaneCore.{SaneCore};
+    ghost use Rattle.stm_core.specs.Begun.{IsCount};
+    ghost use Rattle.stm_core.specs.Readers.{place_of, read_at, work_side, Beats, FirstBeats};
+    ghost use Rattle.stm_core.specs.Committed.{CommitEnds, Committed};
+
+    /// The first record that segment k has locked and that the transaction of segment j, another one, has looked at.
+    fn read_by(&self, k: u8, j: u8) -> Option<Addr>
+        requires writer { k < (S.meaning self.now.store).segments }
+        requires reader { j < (S.meaning self.now.store).segments }
+        requires hands { length self.now.books.hands.items ≡ (S.meaning self.now.store).segments }
+        ensures { read_at self.now.books.hands.items (S.meaning self.now.store) k j ≡ place_of result }
+    {
+        if j != k && self.books.runs(j) {
+            first_read(&self.store, k, j)
+        } else {
+            None
+        }
+    }
+
+    /// The conflict by which the writer `me` of segment k loses to the transaction of segment j, if that is a reader that
+    /// wins.
+    fn beaten_by(&self, k: u8, me: Side, j: u8) -> Option<Conflict>
+        requires writer { k < (S.meaning self.now.store).segments }
+        requires reader { j < (S.meaning self.now.store).segments }
+        requires hands { length self.now.books.hands.items ≡ (S.meaning self.now.store).segments }
+        ensures { Beats self.now.books.hands.items (S.meaning self.now.store) k me j result }
+    {
+        match self.read_by(k, j) {
+            None => None,
+            Some(at) => {
+                let other = self.books.side(j);
+                if wins(other, me) {
+                    Some(Conflict {
+                        at,
+                        writer: me,
+                        other,
+                        asks: false,
+                        lost: 0,
+                    })
+                } else {
+                    None
+                }
+            }
+        }
+    }
+
+    /// The first pass of a commit: the first segment whose transaction is a reader that wins.
+    fn beaten(&self, k: u8, me: Side) -> Option<Conflict>
+        requires writer { k < (S.meaning self.now.store).segments }
+        requires hands { length self.now.books.hands.items ≡ (S.meaning self.now.store).segments }
+        ensures { FirstBeats self.now.books.hands.items (S.meaning self.now.store) k me (S.meaning self.now.store).segments result }
+    {
+        let count = self.store.segments();
+        for j in 0..count {
+            match self.beaten_by(k, me, j) {
+                None => (),
+                Some(f) => return Some(f),
+            }
+        }
+        None
+    }
+
+    /// The transaction of segment j is doomed, where it has looked at what the transaction of segment k, which was taken out
+    /// of its hand, changed.
+    fn doom_reader(&mut self, k: u8, work: &Work<C::State>, j: u8)
+        requires fit { Fit k (S.meaning self.old.store) self.old.books work.now.progress }
+        requires reader { j < (S.meaning self.old.store).segments }
+        ensures fit { Fit k (S.meaning self.new.store) self.new.books work.now.progress }
+        ensures rest { self.new ≡ record self.old { store = self.new.store; books = self.new.books } }
+        ensures idle { slice_get self.new.books.hands.items k ≡ slice_get self.old.books.hands.items k }
+        ensures part { (S.meaning self.new.store).part k ≡ (S.meaning self.old.store).part k }
+        ensures shape { SameShape (S.meaning self.old.store) (S.meaning self.new.store) }
+        ensures core { (w : World) → core_with w k (S.meaning self.new.store) self.new.books work.now
+            ≡ cond (eqb j k) (core_with w k (S.meaning self.old.store) self.old.books work.now)
+            (doom_one k (transaction w ((S.meaning self.old.store).part k) work.now) j (core_with w k (S.meaning self.old.store) self.old.books work.now) ((core_with w k (S.meaning self.old.store) self.old.books work.now).segments j)) }
+    {
+        match self.read_by(k, j) {
+            None => (),
+            Some(at) => {
+                let writer = work.side(k);
+                let other = self.books.side(j);
+                let lost = Conflict {
+                    at,
+                    writer,
+                    other,
+                    asks: false,
+                    lost: 1,
+                };
+                self.books.doom(j, lost);
+                self.store.drop_changes(j);
+            }
+        }
+    }
+
+    /// The second pass of a commit: all readers are doomed.
+    fn doom_readers(&mut self, k: u8, work: &Work<C::State>)
+        requires fit { Fit k (S.meaning self.old.store) self.old.books work.now.progress }
+        ensures fit { Fit k (S.meaning self.new.store) self.new.books work.now.progress }
+        ensures rest { self.new ≡ record self.old { store = self.new.store; books = self.new.books } }
+        ensures idle { slice_get self.new.books.hands.items k ≡ slice_get self.old.books.hands.items k }
+        ensures part { (S.meaning self.new.store).part k ≡ (S.meaning self.old.store).part k }
+        ensures shape { SameShape (S.meaning self.old.store) (S.meaning self.new.store) }
+        ensures core { (w : World) → core_with w k (S.meaning self.new.store) self.new.books work.now
+            ≡ doom_readers k (transaction w ((S.meaning self.old.store).part k) work.now) (range_with_len 0 (S.meaning self.old.store).segments) (core_with w k (S.meaning self.old.store) self.old.books work.now) }
+    {
+        let count = self.store.segments();
+        'segments: for j in 0..count {
+            self.doom_reader(k, work, j);
+        }
+    }
+
+    /// Commits the transaction of segment k, which was taken out of its hand, and answers the number of its turn.
+    fn publish(&mut self, k: u8, work: Work<C::State>) -> u64
+        requires fit { Fit k (S.meaning self.old.store) self.old.books work.progress }
+        requires idle { slice_get self.old.books.hands.items k ≡ Some Hand.Idle }
+        requires thread { work.thread < length self.old.books.threads.entries }
+        requires count { IsCount self.old.spent self.old.books.history.entries }
+        ensures whole { Whole (S.meaning self.new.store) self.new.books }
+        ensures count { IsCount self.new.spent self.new.books.history.entries }
+        ensures rest { self.new ≡ record self.old { store = self.new.store; books = self.new.books; spent = self.new.spent } }
+        ensures shape { SameShape (S.meaning self.old.store) (S.meaning self.new.store) }
+        ensures place { result ≡ length self.old.books.history.entries }
+        ensures core { (w : World) → core_of w (S.meaning self.new.store) self.new.books ≡ published k (transaction w ((S.meaning self.old.store).part k) work) (core_with w k (S.meaning self.old.store) self.old.books work) }
+    {
+        self.store.known();
+        let place = self.books.history.len() as u64;
+        self.spent = self.spent.saturating_add(work.steps);
+        self.books.add_turn(work);
+        self.store.publish(k);
+        place
+    }
+
+    /// Ends the transaction of segment k, which was taken out of its hand.
+    fn commit_out(&mut self, k: u8, work: Work<C::State>) -> Result<Commit, Conflict>
+        requires fit { Fit k (S.meaning self.old.store) self.old.books work.progress }
+        requires idle { slice_get self.old.books.hands.items k ≡ Some Hand.Idle }
+        requires thread { work.thread < length self.old.books.threads.entries }
+        requires numbers { (j : ℕ) (y : Work C.State) → slice_get self.old.books.hands.items j ≡ Some (Hand.Runs y) → y.begun ≢ work.begun }
+        requires count { IsCount self.old.spent self.old.books.history.entries }
+        ensures whole { Whole (S.meaning self.new.store) self.new.books }
+        ensures count { IsCount self.new.spent self.new.books.history.entries }
+        ensures rest { self.new ≡ record self.old { store = self.new.store; books = self.new.books; spent = self.new.spent } }
+        ensures shape { SameShape (S.meaning self.old.store) (S.meaning self.new.store) }
+        ensures ends { (w : World) → CommitEnds k (S.meaning self.old.store).segments (transaction w ((S.meaning self.old.store).part k) work) result
+            (core_with w k (S.meaning self.old.store) self.old.books work) (core_of w (S.meaning self.new.store) self.new.books) }
+    {
+        if work.steps == 0 {
+            self.drop_out(k, work);
+            return Ok(Commit::Nothing);
+        }
+        let me = work.side(k);
+        match self.beaten(k, me) {
+            Some(f) => {
+                self.lose_out(k, work, f);
+                Err(f)
+            }
+            None => {
+                self.doom_readers(k, &work);
+                Ok(Commit::Committed(self.publish(k, work)))
+            }
+        }
+    }
+
+    /// Ends what segment k has in hand. The slot is idle then. It takes no memory.
+    ///
+    /// A doomed slot answers the conflict that it lost. A transaction that has run no step is dropped. Otherwise there are two
+    /// passes. Where a running transaction that wins has looked at a record that this one changed, the answer is that
+    /// conflict, and all other slots stay as they are. Where none wins, all that have looked at one are doomed, the changes
+    /// become the image's, the state of the thread and the threads that it started become committed, and the turn is added
+    /// to the history.
+    pub fn commit(&mut self, k: u8) -> Result<Commit, Conflict>
+        requires segment { k < (S.meaning self.old.store).segments }
+        requires busy { slice_get self.old.books.hands.items k ≢ Some Hand.Idle }
+        requires whole { Whole (S.meaning self.old.store) self.old.books }
+        requires count { IsCount self.old.spent self.old.books.history.entries }
+        requires sane { (most : ℕ) × SaneCore (C.prog self.old.client.now) (C.sound self.old.client.now) most (S.meaning self.old.store) self.old.books }
+        ensures whole { Whole (S.meaning self.new.store) self.new.books }
+        ensures store { IsStore (S.reserved self.new.store) (S.meaning self.new.store) }
+        ensures count { IsCount self.new.spent self.new.books.history.entries }
+        ensures rest { self.new ≡ record self.old { store = self.new.store; books = self.new.books; spent = self.new.spent } }
+        ensures shape { SameShape (S.meaning self.old.store) (S.meaning self.new.store) }
+        ensures committed { (w : World) → Committed k (S.meaning self.old.store).segments result (core_of w (S.meaning self.old.store) self.old.books) (core_of w (S.meaning self.new.store) self.new.books) }
+        ensures sane { (most : ℕ) → SaneCore (C.prog self.old.client.now) (C.sound self.old.client.now) most (S.meaning self.old.store) self.old.books
+            → SaneCore (C.prog self.old.client.now) (C.sound self.old.client.now) most (S.meaning self.new.store) self.new.books }
+    {
+        match self.books.take(k) {
+            Hand::Runs(work) => {
+                let result = self.commit_out(k, work);
+                self.store.known();
+                result
+            }
+            Hand::Doomed(f) => {
+                self.store.known();
+                Err(f)
+            }
+            Hand::Idle => unreachable!(),
+        }
+    }
+}

@@ -1,0 +1,210 @@
+//! How a core stands: what its segments have in hand, which thread is next, and how the run stands.
+ghost use Rattle.std.specs.Prelude.{◌≡◌, ◌≢◌, ℕ, ◌<◌, ◌≤◌, true, false, length, slice_get, Some};
+ghost use Rattle.std.specs.List.{sum_by};
+ghost use Rattle.stm_core.specs.declared.books.Work.{Work};
+ghost use Rattle.stm_core.specs.declared.books.Hand.TheVariants.{Idle, Runs};
+ghost use Rattle.stm_core.specs.Books.{one_running};
+
+use crate::books::{Books, Hand};
+use crate::cause::Cause;
+use crate::engine::Engine;
+use lock_run::{Client, Life};
+use seg_store::SegStore;
+
+/// What a segment has in hand.
+#[derive(Clone, Copy, Debug, Drop, PartialEq, Eq)]
+pub enum Slot {
+    /// Nothing.
+    Idle,
+    /// A transaction that runs.
+    Running {
+        /// The number of its thread, from 0.
+        thread: u32,
+        /// How many steps it has run.
+        steps: u64,
+        /// It can't be aborted.
+        solo: bool,
+    },
+    /// A conflict that its transaction lost to another.
+    Doomed,
+}
+
+/// How a run stands.
+#[derive(Clone, Copy, Debug, Drop, PartialEq, Eq)]
+pub enum RunState {
+    /// A transaction runs, or may begin.
+    Running,
+    /// All threads have ended.
+    Done,
+    /// Each thread that lives waits.
+    Stuck,
+    /// The history has the budget's steps.
+    Spent,
+    /// The core goes on no more, for this cause.
+    Faulted(Cause),
+}
+
+impl<T: Drop> Books<T> {
+    /// Whether a segment has nothing in hand.
+    pub fn is_idle(&self, k: u8) -> bool
+        requires { k < length self.now.hands.items }
+        ensures yes { result ≡ true → slice_get self.now.hands.items k ≡ Some Hand.Idle }
+        ensures not { result ≡ false → slice_get self.now.hands.items k ≢ Some Hand.Idle }
+    {
+        matches!(self.hands[k as usize], Hand::Idle)
+    }
+
+    /// How many transactions run.
+    pub fn running(&self) -> usize
+        ensures count { result ≡ sum_by one_running self.now.hands.items }
+        ensures few { result ≤ length self.now.hands.items }
+    {
+        let mut count = 0;
+        for hand in &self.hands {
+            if let Hand::Runs(_) = hand {
+                count += 1;
+            }
+        }
+        count
+    }
+
+    /// Whether a segment runs the thread.
+    pub fn runs_thread(&self, t: u32) -> bool
+        ensures yes { result ≡ true → (j : ℕ) × (y : Work T) × (slice_get self.now.hands.items j ≡ Some (Hand.Runs y)) × (y.thread ≡ t) }
+        ensures not { result ≡ false → (j : ℕ) (y : Work T) → slice_get self.now.hands.items j ≡ Some (Hand.Runs y) → t ≢ y.thread }
+    {
+        for hand in &self.hands {
+            if let Hand::Runs(work) = hand {
+                if work.thread == t {
+                    return true;
+                }
+            }
+        }
+        false
+    }
+}
+
+impl<'p, C: Client, S: SegStore> Engine<'p, C, S> {
+    ghost use Rattle.std.specs.Prelude.{◌≡◌, ℕ, ◌<◌, ◌≤◌, true, false, length};
+    ghost use Rattle.py_data.specs.World.{World};
+    ghost use Rattle.stm_core.specs.Books.{core_of};
+    ghost use Rattle.stm_core.specs.Whole.{Whole};
+    ghost use Rattle.stm_core.specs.SaneCore.{SaneCore};
+    ghost use Rattle.stm_core.specs.Begun.{IsReady, IsUnready, IsCount, steps_done};
+    ghost use Rattle.stm_core.specs.Standing.{slot_of, SomeLives, AllEnded, FirstReady, IsNext, IsOutcome};
+
+    /// Whether the history has the budget's steps.
+    pub fn is_spent(&self, budget: u64) -> bool
+        requires { IsCount self.now.spent self.now.books.history.entries }
+        ensures yes { result ≡ true → budget ≤ steps_done self.now.books.history.entries }
+        ensures not { result ≡ false → steps_done self.now.books.history.entries < budget }
+    {
+        self.spent >= budget
+    }
+
+    /// What a segment has in hand. It takes no memory.
+    pub fn slot(&self, k: u8) -> Slot
+        requires { k < length self.now.books.hands.items }
+        ensures { (w : World) → result ≡ slot_of ((core_of w (S.meaning self.now.store) self.now.books).segments k) }
+    {
+        match &self.books.hands[k as usize] {
+            Hand::Idle => Slot::Idle,
+            Hand::Doomed(_) => Slot::Doomed,
+            Hand::Runs(work) => Slot::Running {
+                thread: work.thread,
+                steps: work.steps,
+                solo: false,
+            },
+        }
+    }
+
+    /// Whether a transaction of the thread may begin: the thread lives, no segment runs it, and over the image it doesn't wait.
+    pub fn is_ready(&self, t: u32) -> bool
+        requires { (most : ℕ) × SaneCore (C.prog self.now.client.now) (C.sound self.now.client.now) most (S.meaning self.now.store) self.now.books }
+        ensures yes { result ≡ true → (w : World) → IsReady (C.prog self.now.client.now) (core_of w (S.meaning self.now.store) self.now.books) t }
+        ensures not { result ≡ false → (w : World) → IsUnready (C.prog self.now.client.now) (core_of w (S.meaning self.now.store) self.now.books) t }
+    {
+        if t >= self.books.threads.len() || self.books.runs_thread(t) {
+            return false;
+        }
+        let state = self.books.threads.at(t);
+        match self.client.life(state) {
+            Life::Lives => !self.client.blocked(state, &self.store),
+            _ => false,
+        }
+    }
+
+    /// The first ready thread of those from one number on and below another.
+    fn first_ready(&self, from: u32, to: u32) -> Option<u32>
+        requires { (most : ℕ) × SaneCore (C.prog self.now.client.now) (C.sound self.now.client.now) most (S.meaning self.now.store) self.now.books }
+        ensures { (w : World) → FirstReady (C.prog self.now.client.now) (core_of w (S.meaning self.now.store) self.now.books) from to result }
+    {
+        for t in from..to {
+            if self.is_ready(t) {
+                return Some(t);
+            }
+        }
+        None
+    }
+
+    /// The thread whose transaction is to begin next: the least ready thread above the one last begun, else the least ready
+    /// one. There is none exactly where each thread has ended, runs, or waits. It takes no memory.
+    pub fn next_ready(&self) -> Option<u32>
+        requires { (most : ℕ) × SaneCore (C.prog self.now.client.now) (C.sound self.now.client.now) most (S.meaning self.now.store) self.now.books }
+        ensures { (w : World) → IsNext (C.prog self.now.client.now) (core_of w (S.meaning self.now.store) self.now.books) result }
+    {
+        let count = self.books.threads.len();
+        let Some(last) = self.books.last else {
+            return self.first_ready(0, count);
+        };
+        if last >= count {
+            return self.first_ready(0, count);
+        }
+        match self.first_ready(last + 1, count) {
+            Some(t) => Some(t),
+            None => self.first_ready(0, last + 1),
+        }
+    }
+
+    /// Whether a thread lives.
+    fn some_lives(&self) -> bool
+        ensures yes { result ≡ true → (w : World) → SomeLives (C.prog self.now.client.now) (core_of w (S.meaning self.now.store) self.now.books) }
+        ensures not { result ≡ false → (w : World) → AllEnded (C.prog self.now.client.now) (core_of w (S.meaning self.now.store) self.now.books) }
+    {
+        for t in 0..self.books.threads.len() {
+            if let Life::Lives = self.client.life(self.books.threads.at(t)) {
+                return true;
+            }
+        }
+        false
+    }
+
+    /// How the run stands, by the first of these that holds: the cause that is kept; all threads have ended; a segment runs;
+    /// each thread that lives waits; the history has the budget's steps; it goes on. It takes no memory.
+    pub fn outcome(&self, budget: u64) -> RunState
+        requires whole { Whole (S.meaning self.now.store) self.now.books }
+        requires count { IsCount self.now.spent self.now.books.history.entries }
+        requires sane { (most : ℕ) × SaneCore (C.prog self.now.client.now) (C.sound self.now.client.now) most (S.meaning self.now.store) self.now.books }
+        ensures { (w : World) → IsOutcome (C.prog self.now.client.now) budget (core_of w (S.meaning self.now.store) self.now.books) result }
+    {
+        if let Some(cause) = self.books.cause {
+            return RunState::Faulted(cause);
+        }
+        if !self.some_lives() {
+            return RunState::Done;
+        }
+        if self.books.running() > 0 {
+            return RunState::Running;
+        }
+        match self.next_ready() {
+            None => RunState::Stuck,
+            Some(_) => {
+                if self.is_spent(budget) {
+                    RunState::Spent
+                } else {
+                    RunState::Running
+                }
+            }
+        }
+    }
+}
