@@ -22,3 +22,5 @@ pub mod Hands
 pub mod Standings
 pub mod Settling
 pub mod Advanced
+pub mod Calling
+pub mod EventSteps

@@ -17,3 +17,5 @@ pub mod Begun
 pub mod Standing
 pub mod Pausing
 pub mod Advanced
+pub mod Events
+pub mod CoreHeld

@@ -8,14 +8,18 @@ mod books;
 mod cause;
 mod commit;
 mod engine;
+mod events;
 mod laws;
 mod segment;
 mod standing;
 mod threads;
+mod transactions;
 
 pub use answers::{Advance, AdvanceError};
 pub use begin::BeginError;
 pub use cause::Cause;
 pub use commit::Commit;
+pub use events::{Event, Reply};
 pub use laws::{advance_law, commit_law, good_law, stands_law};
 pub use standing::{RunState, Slot};
+pub use transactions::Core;

@@ -1,0 +1,44 @@
+-- What a core is to its callers: its state in each world, what stays the same, and when it is good. States `docs/HEAP.md`, "The
+-- transactional core" and "A good core".
+use Rattle.std.specs.Prelude.{◌≡◌, ℕ, List}
+use Rattle.py_data.specs.Heap.{Heap}
+use Rattle.py_data.specs.World.{World}
+use Rattle.lock_run.specs.Prog.{Prog}
+use Rattle.seg_store.specs.Meaning.{Meaning}
+use Rattle.seg_store.specs.Store.{IsStore}
+use Rattle.stm_core.specs.declared.transactions.Core.{Core}
+use Rattle.stm_core.specs.CoreState.{CoreState}
+use Rattle.stm_core.specs.Books.{core_of}
+use Rattle.stm_core.specs.Whole.{Whole}
+use Rattle.stm_core.specs.SaneCore.{SaneCore}
+use Rattle.stm_core.specs.Begun.{IsCount}
+use Rattle.stm_core.specs.Events.{Limits}
+
+-- the core's state, in this world
+abbrev pub core_at : {C S I O E T : Type 0} → (S → Meaning) → World → Core C S I O E T → CoreState T
+core_at meaning w x = core_of w (meaning x.engine.store) x.engine.books
+
+abbrev pub core_store : {C S I O E T : Type 0} → Core C S I O E T → S
+core_store x = x.engine.store
+
+-- the client whose threads it runs
+abbrev pub core_client : {C S I O E T : Type 0} → Core C S I O E T → C
+core_client x = x.engine.client.now
+
+abbrev pub core_limits : {C S I O E T : Type 0} → (S → Meaning) → Core C S I O E T → Limits
+core_limits meaning x = record { length = x.length; budget = x.budget; segments = (meaning x.engine.store).segments; words = (meaning x.engine.store).limit }
+
+-- Store and books fit together, and in each world that is not in the middle of a line the core's state is good.
+pub record IsGoodCore {C S I O E T : Type 0} (prog : C → Prog T) (sound : C → Heap → List T → Type 0) (reserved : S → ℕ) (meaning : S → Meaning) (x : Core C S I O E T) : Type 0 where
+  pub store : IsStore (reserved x.engine.store) (meaning x.engine.store)
+  pub whole : Whole (meaning x.engine.store) x.engine.books
+  pub count : IsCount x.engine.spent x.engine.books.history.entries
+  pub sane : SaneCore (prog x.engine.client.now) (sound x.engine.client.now) x.length (meaning x.engine.store) x.engine.books
+
+-- the job stays: the same client, limits and devices
+pub record SameJob {C S I O E T : Type 0} (meaning : S → Meaning) (x y : Core C S I O E T) : Type 0 where
+  pub client : core_client y ≡ core_client x
+  pub limits : core_limits meaning y ≡ core_limits meaning x
+  pub input : y.input ≡ x.input
+  pub out : y.out ≡ x.out
+  pub err : y.err ≡ x.err

@@ -1,0 +1,109 @@
+//! Events: calls of a core as values, for lists of them.
+ghost use Rattle.std.specs.Prelude.{◌≡◌, ◌&&◌, nat_lt, [], ◌∷◌, MatchOption};
+ghost use Rattle.stm_core.specs.Events.{begin_reply, advance_reply, commit_reply, is_busy, is_within};
+
+use crate::answers::{Advance, AdvanceError};
+use crate::begin::BeginError;
+use crate::cause::Cause;
+use crate::commit::Commit;
+use crate::standing::Slot;
+use py_data::Conflict;
+
+/// A call of a core on the segment of the first number.
+#[derive(Clone, Copy, Debug, Drop, PartialEq, Eq)]
+pub enum Event {
+    /// A transaction of the thread of this number begins.
+    Begin(u8, u32),
+    /// Its transaction does at most so many steps, at least 1.
+    Advance(u8, u64),
+    /// Its transaction is committed.
+    Commit(u8),
+}
+
+/// What an event was answered.
+#[derive(Clone, Copy, Debug, Drop, PartialEq, Eq)]
+pub enum Reply {
+    /// The condition of the call didn't hold, and it wasn't made: there is no such segment; nothing is in hand to advance or
+    /// to commit; no step is asked for; or the steps would be more than the length.
+    Skipped,
+    Begun,
+    Refused(BeginError),
+    Advanced(Advance),
+    /// The number of the turn in the history, from 0.
+    Committed(u64),
+    /// The transaction had done no step, and was dropped.
+    Nothing,
+    /// The transaction lost this conflict, and nothing of it is left.
+    Lost(Conflict),
+    /// The core goes on no more, for this cause.
+    Failed(Cause),
+}
+
+/// What a begin that answered this is replied as.
+pub fn begin_reply(answer: Result<(), BeginError>) -> Reply
+    ensures { result ≡ begin_reply answer }
+{
+    match answer {
+        Ok(()) => Reply::Begun,
+        Err(e) => Reply::Refused(e),
+    }
+}
+
+/// What an advance that answered this is replied as.
+pub fn advance_reply(answer: Result<Advance, AdvanceError>) -> Reply
+    ensures { result ≡ advance_reply answer }
+{
+    match answer {
+        Ok(advance) => Reply::Advanced(advance),
+        Err(AdvanceError::Lost(f)) => Reply::Lost(f),
+        Err(AdvanceError::Failed(cause)) => Reply::Failed(cause),
+    }
+}
+
+/// What a commit that answered this is replied as.
+pub fn commit_reply(answer: Result<Commit, Conflict>) -> Reply
+    ensures { result ≡ commit_reply answer }
+{
+    match answer {
+        Ok(Commit::Committed(n)) => Reply::Committed(n),
+        Ok(Commit::Nothing) => Reply::Nothing,
+        Err(f) => Reply::Lost(f),
+    }
+}
+
+/// Something is in hand.
+pub fn is_busy(slot: Slot) -> bool
+    ensures { result ≡ is_busy slot }
+{
+    match slot {
+        Slot::Idle => false,
+        _ => true,
+    }
+}
+
+/// So many steps more are within the length.
+fn is_within(slot: Slot, most: u64, length: u64) -> bool
+    ensures { result ≡ is_within length most slot }
+{
+    match slot {
+        Slot::Running { steps, .. } => match steps.checked_add(most) {
+            Some(sum) => sum <= length,
+            None => false,
+        },
+        _ => true,
+    }
+}
+
+/// Something is in hand, some steps are asked for, and they are within the length.
+pub fn may_advance(slot: Slot, most: u64, length: u64) -> bool
+    ensures { result ≡ (is_busy slot && (nat_lt 0 most && is_within length most slot)) }
+{
+    is_busy(slot) && 0 < most && is_within(slot, most, length)
+}
+
+/// The first event, and those after it.
+pub fn split(list: &[Event]) -> Option<(&Event, &[Event])>
+    ensures { MatchOption result (list.now ≡ []) (λ p. list.now ≡ p.0.now ∷ p.1.now) }
+{
+    list.split_first()
+}
