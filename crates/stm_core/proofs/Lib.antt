@@ -22,3 +22,4 @@ pub mod Hands
 pub mod Standings
 pub mod Settling
 pub mod Advanced
+pub mod Ends

@@ -17,3 +17,4 @@ pub mod Begun
 pub mod Standing
 pub mod Pausing
 pub mod Advanced
+pub mod Finishing

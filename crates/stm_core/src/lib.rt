@@ -8,6 +8,7 @@ mod books;
 mod cause;
 mod commit;
 mod engine;
+mod finish;
 mod laws;
 mod segment;
 mod standing;
