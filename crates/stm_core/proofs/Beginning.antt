@@ -85,7 +85,7 @@ spent_not spent budget n e f h = grind (arith, e, f, h)
 
 -- ---- a transaction begins
 
-mem_none : (xs : List ℕ) → ((a : ℕ) → mem a xs ≡ false) → xs ≡ []
+pub mem_none : (xs : List ℕ) → ((a : ℕ) → mem a xs ≡ false) → xs ≡ []
 mem_none [] h = refl
 mem_none (x ∷ xs) h = absurd (both_ways (mem x (x ∷ xs)) (h x) (or_left (eqb x x) (mem x xs) (eq-eqb x x refl)))
 

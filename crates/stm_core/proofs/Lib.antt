@@ -24,3 +24,4 @@ pub mod Settling
 pub mod Advanced
 pub mod Calling
 pub mod EventSteps
+pub mod Ends

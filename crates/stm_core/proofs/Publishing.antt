@@ -148,14 +148,14 @@ count_more spent ts t e =
 -- ---- a transaction taken out of its hand
 
 module _ {S : Type 0} (k : ℕ) (m : Meaning) (b b1 : Books S) where
-  -- the hand of a doomed segment is emptied
-  pub emptied : (f : Conflict) → Whole m b → slice_get b.hands.items k ≡ Some (DoomedHand f) → Set k IdleHand b b1 → Whole m b1
-  emptied f h e s =
-      let lt = slice_get_within b.hands.items k (DoomedHand f) e in
+  -- a hand in which no transaction runs is emptied
+  pub emptied : (o : Hand S) → is_running (Some o) ≡ false → one_running o ≡ 0 → one_started o ≡ 0 → Whole m b → slice_get b.hands.items k ≡ Some o → Set k IdleHand b b1 → Whole m b1
+  emptied o quiet one two h e s =
+      let lt = slice_get_within b.hands.items k o e in
       let here : slice_get b1.hands.items k ≡ Some IdleHand = ap (λ l. slice_get l k) s.hands ∙ get_set_same b.hands.items k IdleHand lt in
       let there : (j : ℕ) → j ≢ k → slice_get b1.hands.items j ≡ slice_get b.hands.items j = λ j n. ap (λ l. slice_get l j) s.hands ∙ get_set_other b.hands.items k j IdleHand (λ q. n (sym q)) in
-      let running = sum_set one_running b.hands.items k (DoomedHand f) IdleHand e in
-      let started = sum_set one_started b.hands.items k (DoomedHand f) IdleHand e in
+      let running = sum_set one_running b.hands.items k o IdleHand e in
+      let started = sum_set one_started b.hands.items k o IdleHand e in
       let sr : sum_by one_running b1.hands.items ≡ sum_by one_running (slice_set b.hands.items k IdleHand) = ap (sum_by one_running) s.hands in
       let ss : sum_by one_started b1.hands.items ≡ sum_by one_started (slice_set b.hands.items k IdleHand) = ap (sum_by one_started) s.hands in
       let hi : b1.history.room ≡ b.history.room = ap (λ (z : Books S). z.history.room) s.rest in
@@ -163,16 +163,16 @@ module _ {S : Type 0} (k : ℕ) (m : Meaning) (b b1 : Books S) where
       let th : b1.threads.room ≡ b.threads.room = ap (λ (z : Books S). z.threads.room) s.rest in
       let pe : b1.pending ≡ b.pending = ap (λ (z : Books S). z.pending) s.rest in
       let t = h.turns in let l = h.losses in let p = h.pending in let r = h.threads in
-      let not_k : (j : ℕ) → runs_at b.hands.items j ≡ true → j ≢ k = λ j ri q. both_ways (runs_at b.hands.items j) (ap (runs_at b.hands.items) q ∙ ap is_running e) ri in
+      let not_k : (j : ℕ) → runs_at b.hands.items j ≡ true → j ≢ k = λ j ri q. both_ways (runs_at b.hands.items j) (ap (runs_at b.hands.items) q ∙ ap is_running e ∙ quiet) ri in
       let not_k1 : (j : ℕ) → runs_at b1.hands.items j ≡ true → j ≢ k = λ j ri q. both_ways (runs_at b1.hands.items j) (ap (runs_at b1.hands.items) q ∙ ap is_running here) ri in
       record {
         hands = ap length s.hands ∙ length-set b.hands.items k IdleHand ∙ h.hands;
         holders = λ j a q. let ri = h.holders j a q in ap is_running (there j (not_k j ri)) ∙ ri;
         works = λ j y q. let n = not_k1 j (ap is_running q) in h.works j y (sym (there j n) ∙ q);
         locked = h.locked;
-        turns = omega (arith, running, sr, hi, t);
-        losses = omega (arith, running, sr, co, l);
-        pending = omega (arith, started, ss, pe, p);
+        turns = omega (arith, one, running, sr, hi, t);
+        losses = omega (arith, one, running, sr, co, l);
+        pending = omega (arith, two, started, ss, pe, p);
         threads = omega (arith, th, pe, r);
       }
 

@@ -42,3 +42,9 @@ pub record SameJob {C S I O E T : Type 0} (meaning : S → Meaning) (x y : Core 
   pub input : y.input ≡ x.input
   pub out : y.out ≡ x.out
   pub err : y.err ≡ x.err
+
+-- its devices are these
+pub record HasDevices {C S I O E T : Type 0} (input : I) (out : O) (err : E) (x : Core C S I O E T) : Type 0 where
+  pub input_is : x.input ≡ input
+  pub out_is : x.out ≡ out
+  pub err_is : x.err ≡ err

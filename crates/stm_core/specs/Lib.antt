@@ -19,3 +19,4 @@ pub mod Pausing
 pub mod Advanced
 pub mod Events
 pub mod CoreHeld
+pub mod Finishing

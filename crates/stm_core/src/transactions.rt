@@ -6,10 +6,35 @@ use crate::begin::BeginError;
 use crate::commit::Commit;
 use crate::engine::Engine;
 use crate::events::{Event, Reply, advance_reply, begin_reply, commit_reply, is_busy, may_advance, split};
+use crate::finish::Remains;
 use crate::standing::{RunState, Slot};
 use lock_run::{Client, History};
 use py_data::{Conflict, Conflicts, NoMemory};
 use seg_store::SegStore;
+use std::alloc::Global;
+
+/// The greatest length.
+pub const LENGTH_LIMIT: u64 = 1_000_000;
+
+/// The greatest budget.
+pub const BUDGET_LIMIT: u64 = 1_000_000_000_000_000;
+
+/// What a core hands out at its end.
+#[derive(Drop)]
+pub struct Finished<S, I, O, E> {
+    /// How the run stands.
+    pub state: RunState,
+    /// Thread 0 ended by an exception.
+    pub failed: bool,
+    /// The committed turns, in the order of their commits.
+    pub history: History,
+    /// The conflicts that transactions lost.
+    pub conflicts: Conflicts,
+    pub store: S,
+    pub input: I,
+    pub out: O,
+    pub err: E,
+}
 
 /// Several transactions of a client's threads on the segments of a store, each of which is aborted or becomes a turn of the
 /// history.
@@ -28,15 +53,61 @@ pub struct Core<'p, C: Client, S, I, O, E> {
     err: E,
 }
 
-impl<'p, C: Client, S: SegStore, I, O, E> Core<'p, C, S, I, O, E> {
-    ghost use Rattle.std.specs.Prelude.{◌≡◌, ◌<◌, ◌≤◌, ◌+◌, false, true, IfOk, OnErr};
+impl<'p, C: Client, S: SegStore + Drop, I, O, E> Core<'p, C, S, I, O, E> {
+    ghost use Rattle.std.specs.Prelude.{◌≡◌, ◌≤◌, IfOk, IfErr};
     ghost use Rattle.py_data.specs.World.{World};
-    ghost use Rattle.stm_core.specs.CoreState.{Transaction, Idle, Running};
-    ghost use Rattle.stm_core.specs.CoreHeld.{core_at, core_client, core_limits, core_store, IsGoodCore, SameJob};
+    ghost use Rattle.seg_store.specs.Store.{IsEmpty};
+    ghost use Rattle.stm_core.specs.CoreState.{core_new};
+    ghost use Rattle.stm_core.specs.CoreHeld.{core_at, core_client, core_limits, HasDevices, IsGoodCore};
+
+    /// A core over an empty store, whose only thread is the client's first. At want of memory the devices come back.
+    ///
+    /// `length` is the most steps of a transaction, from 1 to `LENGTH_LIMIT`; with `budget` steps in the history, from 1 to
+    /// `BUDGET_LIMIT`, no transaction begins.
+    pub fn new(
+        alloc: Global,
+        client: &'p C,
+        store: S,
+        length: u64,
+        budget: u64,
+        input: I,
+        out: O,
+        err: E,
+    ) -> Result<Core<'p, C, S, I, O, E>, (NoMemory, I, O, E)>
+        requires store { IsEmpty (S.meaning store) (S.peaks store) }
+        requires length { (1 ≤ length) × (length ≤ LENGTH_LIMIT) }
+        requires budget { (1 ≤ budget) × (budget ≤ BUDGET_LIMIT) }
+        ensures good { IfOk result (λ x. IsGoodCore C.prog C.sound S.reserved S.meaning x) }
+        ensures client { IfOk result (λ x. core_client x ≡ client.now) }
+        ensures limits { IfOk result (λ x. core_limits S.meaning x ≡ record { length = length; budget = budget; segments = (S.meaning store).segments; words = (S.meaning store).limit }) }
+        ensures devices { IfOk result (λ x. HasDevices input out err x) }
+        ensures state { IfOk result (λ x. (w : World) → core_at S.meaning w x ≡ core_new (C.prog client.now) w) }
+        ensures back { IfErr result (λ e. (e.1 ≡ input) × (e.2 ≡ out) × (e.3 ≡ err)) }
+    {
+        store.known();
+        match Engine::new(alloc, client, store) {
+            Ok(engine) => Ok(Core {
+                engine,
+                length,
+                budget,
+                input,
+                out,
+                err,
+            }),
+            Err((failed, _)) => Err((failed, input, out, err)),
+        }
+    }
+}
+
+impl<'p, C: Client, S: SegStore, I, O, E> Core<'p, C, S, I, O, E> {
+    ghost use Rattle.std.specs.Prelude.{◌≡◌, ◌<◌, ℕ, false, true, IfOk, OnErr};
+    ghost use Rattle.py_data.specs.World.{World};
+    ghost use Rattle.stm_core.specs.CoreHeld.{core_at, core_client, core_limits, core_store, HasDevices, IsGoodCore, SameJob};
     ghost use Rattle.stm_core.specs.Begun.{Begun};
     ghost use Rattle.stm_core.specs.Advanced.{Advanced};
     ghost use Rattle.stm_core.specs.Committed.{Committed};
     ghost use Rattle.stm_core.specs.Standing.{slot_of, IsNext, IsOutcome};
+    ghost use Rattle.stm_core.specs.Finishing.{idle_core, IsUnused, HasFailed};
     ghost use Rattle.stm_core.specs.Events.{may_make, EventMade, EventsMade};
 
     /// Begins a transaction of thread `t` on segment `k`. It copies the thread's state, and makes room for a turn and a
@@ -128,6 +199,45 @@ impl<'p, C: Client, S: SegStore, I, O, E> Core<'p, C, S, I, O, E> {
         ensures { (w : World) → (core_at S.meaning w self.now).conflicts ≡ result.now.entries }
     {
         &self.engine.books.conflicts
+    }
+
+    /// Drops what runs, and hands out the rest. The image of the store is the committed one, and no segment has changes in it.
+    pub fn finish(self) -> Finished<S, I, O, E>
+        requires good { IsGoodCore C.prog C.sound S.reserved S.meaning self }
+        ensures state { (w : World) → IsOutcome (C.prog (core_client self)) (core_limits S.meaning self).budget (idle_core (core_at S.meaning w self)) result.state }
+        ensures failed { result.failed ≡ true → (w : World) → HasFailed (C.prog (core_client self)) (core_at S.meaning w self) }
+        ensures lasting { result.failed ≡ false → (w : World) → HasFailed (C.prog (core_client self)) (core_at S.meaning w self) → ⊥ }
+        ensures history { (w : World) → (core_at S.meaning w self).history ≡ result.history.entries }
+        ensures conflicts { (w : World) → (core_at S.meaning w self).conflicts ≡ result.conflicts.entries }
+        ensures image { (w : World) → (core_at S.meaning w self).image ≡ (S.meaning result.store).image }
+        ensures unused { (j : ℕ) → IsUnused ((S.meaning result.store).part j) }
+        ensures devices { HasDevices result.input result.out result.err self }
+    {
+        let Core {
+            engine,
+            length: _,
+            budget,
+            input,
+            out,
+            err,
+        } = self;
+        let Remains {
+            state,
+            failed,
+            history,
+            conflicts,
+            store,
+        } = engine.finish(budget);
+        Finished {
+            state,
+            failed,
+            history,
+            conflicts,
+            store,
+            input,
+            out,
+            err,
+        }
     }
 
     /// The condition of an event holds.

@@ -1,6 +1,6 @@
 use Rattle.std.proofs.Common.{Err, refl, ap, ◌∙◌, slice_get}
 use Rattle.std.proofs.lemmas.Option.{slice_get_within}
-use Rattle.stm_core.specs.declared.books.Hand.TheVariants.{Idle, Runs}
+use Rattle.stm_core.specs.declared.books.Hand.TheVariants.{Idle, Doomed, Runs}
 use Rattle.stm_core.specs.Hold.{no_world}
 use Rattle.stm_core.proofs.Fits.{get_set_same}
 use Rattle.stm_core.proofs.Wholes.{taken}
@@ -38,7 +38,7 @@ returns-in-Runs-clause-sane g c = λ most s.
 
 pub returns-in-Doomed-clause-whole : goal.returns-in-Doomed-clause-whole
 returns-in-Doomed-clause-whole g c =
-    emptied c.args.k (g.S.SegStore.meaning c.args.self.now.store) c.args.self.now.books c.take.new.self c.in-Doomed.f c.requires.whole c.in-Doomed.ensures.hand (record { rest = c.take.ensures.rest; hands = c.take.ensures.hands })
+    emptied c.args.k (g.S.SegStore.meaning c.args.self.now.store) c.args.self.now.books c.take.new.self (Doomed c.in-Doomed.f) refl refl refl c.requires.whole c.in-Doomed.ensures.hand (record { rest = c.take.ensures.rest; hands = c.take.ensures.hands })
 
 pub returns-in-Doomed-clause-committed : goal.returns-in-Doomed-clause-committed
 returns-in-Doomed-clause-committed g c = λ w.

@@ -1,0 +1,146 @@
+-- How an engine begins, and what it leaves at its end.
+use Rattle.std.proofs.Common.{◌≡◌, ◌≢◌, ◌⊎◌, ◌<◌, ◌≤◌, ◌+◌, ℕ, zero, suc, Bool, true, false, cond, eqb, ltb, List, [], ◌∷◌, ◌++◌, length, slice_get, slice_set, Option, Some, None, refl, sym, ◌∙◌, ap, subst, inl, inr, arith, length-set}
+use Rattle.std.specs.List.{sum_by}
+use Rattle.std.proofs.lemmas.Bool.{cases_Bool, both_ways, or_parts, eqb-false, cond-true, cond-false, ltb-true, ltb-false}
+use Rattle.std.proofs.lemmas.Option.{slice_get_within}
+use Rattle.std.proofs.lemmas.List.Sums.{sum_by-cons}
+use Rattle.py_data.specs.Heap.{Heap, no_records}
+use Rattle.py_data.specs.World.{World}
+use Rattle.py_data.specs.Sight.{mem}
+use Rattle.lock_run.specs.Prog.{Prog}
+use Rattle.lock_run.specs.Machine.{Machine}
+use Rattle.seg_store.specs.Meaning.{Part, Meaning, holds}
+use Rattle.stm_core.specs.declared.books.Work.{Work}
+use Rattle.stm_core.specs.declared.books.Hand.{Hand}
+use Rattle.stm_core.specs.declared.books.Hand.TheVariants.{Idle as IdleHand, Doomed as DoomedHand, Runs}
+use Rattle.stm_core.specs.declared.books.Books.{Books}
+use Rattle.stm_core.specs.CoreState.{Transaction, Segment, Idle, Doomed, Running, CoreState, committed, core_new, set_segment, with_segment}
+use Rattle.stm_core.specs.Good.{Good}
+use Rattle.stm_core.specs.Moves.{Drops}
+use Rattle.stm_core.specs.Books.{is_running, runs_at, one_running, one_started, segment_of, core_of}
+use Rattle.stm_core.specs.Whole.{Whole}
+use Rattle.stm_core.specs.SaneCore.{SaneCore}
+use Rattle.stm_core.specs.Finishing.{idle_core, IsUnused}
+use Rattle.stm_core.proofs.New.{good_new}
+use Rattle.stm_core.proofs.Kept.{good_next}
+use Rattle.stm_core.proofs.Beginning.{beyond, mem_none}
+use Rattle.stm_core.proofs.Committing.{running_work}
+
+-- ---- empty hands
+
+pub get_push : {X : Type 0} (xs : List X) (y : X) (j : ℕ) (x : X) → slice_get (xs ++ y ∷ []) j ≡ Some x → (slice_get xs j ≡ Some x) ⊎ (x ≡ y)
+get_push [] y zero x e = let same : y ≡ x = cc in inr (sym same)
+get_push [] y (suc j) x e = absurd cc
+get_push (z ∷ xs) y zero x e = inl e
+get_push (z ∷ xs) y (suc j) x e = get_push xs y j x e
+
+abbrev pub AllIdle : {S : Type 0} → List (Hand S) → Type 0
+AllIdle {S} hs = (j : ℕ) (h : Hand S) → slice_get hs j ≡ Some h → h ≡ IdleHand
+
+pub push_idle : {S : Type 0} (hs : List (Hand S)) → AllIdle hs → AllIdle (hs ++ IdleHand ∷ [])
+push_idle hs all j h e = elim (get_push hs IdleHand j h e) [
+  | inl x ↦ all j h x
+  | inr x ↦ x
+]
+
+sum_idle : {S : Type 0} (f : Hand S → ℕ) → f IdleHand ≡ 0 → (hs : List (Hand S)) → AllIdle hs → sum_by f hs ≡ 0
+sum_idle f z [] all = refl
+sum_idle f z (h ∷ hs) all =
+    let s = sum_by-cons f h hs in
+    let r = sum_idle f z hs (λ j x e. all (suc j) x e) in
+    let n : f h ≡ 0 = ap f (all 0 h refl) ∙ z in
+    omega (arith, s, r, n)
+
+-- ---- a new engine
+
+pub record IsNew {S : Type 0} (p : Prog S) (m : Meaning) (b : Books S) : Type 0 where
+  pub image : (a : ℕ) → m.image a ≡ None
+  pub changed : (j : ℕ) → (m.part j).changed ≡ []
+  pub made : (j : ℕ) → (m.part j).made ≡ []
+  pub hands : length b.hands.items ≡ m.segments
+  pub idle : AllIdle b.hands.items
+  pub threads : b.threads.entries ≡ p.first ∷ []
+  pub pending : b.pending ≡ 0
+  pub history : b.history.entries ≡ []
+  pub conflicts : b.conflicts.entries ≡ []
+  pub begun : b.begun ≡ 0
+  pub last : b.last ≡ None
+  pub cause : b.cause ≡ None
+
+module _ {S : Type 0} (p : Prog S) (m : Meaning) (b : Books S) (n : IsNew p m b) where
+  pub new_whole : Whole m b
+  new_whole =
+      let r = sum_idle one_running refl b.hands.items n.idle in
+      let s = sum_idle one_started refl b.hands.items n.idle in
+      let q = n.pending in
+      record {
+        hands = n.hands;
+        holders = λ j a h. absurd (both_ways false refl (sym (ap (λ (z : List ℕ). holds (record (m.part j) { changed = z }) a) (n.changed j) ∙ ap (λ (z : List ℕ). mem a z) (n.made j)) ∙ h));
+        works = λ j x e. absurd (let u : Runs x ≡ IdleHand = n.idle j (Runs x) e in cc);
+        locked = λ j a h. absurd (both_ways false refl (sym (ap (mem a) (n.changed j)) ∙ h));
+        turns = omega (arith, r);
+        losses = omega (arith, r);
+        pending = omega (arith, s, q);
+        threads = omega (arith, q);
+      }
+
+  pub core_is_new : (w : World) → core_of w m b ≡ core_new p w
+  core_is_new w i = record {
+    image = λ a. n.image a i;
+    threads = n.threads i;
+    world = w;
+    history = n.history i;
+    conflicts = n.conflicts i;
+    begun = n.begun i;
+    last = n.last i;
+    cause = n.cause i;
+    segments = λ j. same j (slice_get b.hands.items j) refl i;
+  }
+    where
+      same : (j : ℕ) (o : Option (Hand S)) → slice_get b.hands.items j ≡ o → segment_of w (m.part j) (slice_get b.hands.items j) ≡ Idle
+      same j None e = ap (segment_of w (m.part j)) e
+      same j (Some h) e = ap (segment_of w (m.part j)) (e ∙ ap Some (n.idle j h e))
+
+  pub new_sane : (sound : Heap → List S → Type 0) (most : ℕ) → sound no_records (p.first ∷ []) → SaneCore p sound most m b
+  new_sane sound most f = record { first = f; good = λ w d. subst (Good p (committed (core_new p w)) most) (sym (core_is_new w)) (good_new p w most) }
+
+-- ---- what runs is dropped
+
+pub dropped_sane : {S : Type 0} (p : Prog S) (sound : Heap → List S → Type 0) (most k : ℕ) (m m1 : Meaning) (b b1 : Books S) → ((w : World) → core_of w m1 b1 ≡ with_segment k Idle (core_of w m b)) → SaneCore p sound most m b → SaneCore p sound most m1 b1
+dropped_sane {S} p sound most k m m1 b b1 e s = record {
+  first = s.first;
+  good = λ w d. good_next p _ most (core_of w m b) (core_of w m1 b1) (Drops k) (s.good w d) (mortal w, e w);
+}
+  where
+    mortal : (w : World) (x : Transaction S) → (core_of w m b).segments k ≡ Running x → x.solo ≡ true → x.steps ≡ 0
+    mortal w x is so = let r = running_work w (m.part k) (slice_get b.hands.items k) x is in absurd (both_ways false refl (sym (ap (λ (z : Transaction S). z.solo) r.2) ∙ so))
+
+pub still_idle : {S : Type 0} (k i : ℕ) (c : CoreState S) → (i < k → c.segments i ≡ Idle) → i < k + 1 → (with_segment k Idle c).segments i ≡ Idle
+still_idle k i c h lt = elim (cases_Bool (eqb i k)) [
+  | inl y ↦ cond-true (eqb i k) Idle (c.segments i) y
+  | inr n ↦ let d = eqb-false i k n in cond-false (eqb i k) Idle (c.segments i) n ∙ h (omega (arith, d, lt))
+]
+
+module _ {S : Type 0} (m : Meaning) (b : Books S) (h : Whole m b) (idle : (w : World) (i : ℕ) → i < m.segments → (core_of w m b).segments i ≡ Idle) where
+  idle_there : (w : World) (i : ℕ) → (core_of w m b).segments i ≡ Idle
+  idle_there w i = elim (cases_Bool (ltb i m.segments)) [
+    | inl y ↦ idle w i (ltb-true i m.segments y)
+    | inr n ↦ let le = ltb-false i m.segments n in let q = h.hands in ap (segment_of w (m.part i)) (beyond b.hands.items i (omega (arith, le, q)))
+  ]
+
+  pub core_idle : (w : World) → core_of w m b ≡ idle_core (core_of w m b)
+  core_idle w i = record (core_of w m b) { segments = λ j. idle_there w j i }
+
+  resting : (w : World) (q : Part) (o : Option (Hand S)) → segment_of w q o ≡ Idle → is_running o ≡ false
+  resting w q None e = refl
+  resting w q (Some IdleHand) e = refl
+  resting w q (Some (DoomedHand f)) e = refl
+  resting w q (Some (Runs x)) e = absurd cc
+
+  pub unused : (w : World) (j : ℕ) → IsUnused (m.part j)
+  unused w j =
+      let none : (a : ℕ) → holds (m.part j) a ≡ false = λ a. elim (cases_Bool (holds (m.part j) a)) [
+        | inl y ↦ absurd (both_ways (runs_at b.hands.items j) (resting w (m.part j) (slice_get b.hands.items j) (idle_there w j)) (h.holders j a y))
+        | inr n ↦ n
+      ] in
+      (mem_none (m.part j).changed (λ a. (or_parts (mem a (m.part j).changed) (mem a (m.part j).made) (none a)).0), mem_none (m.part j).made (λ a. (or_parts (mem a (m.part j).changed) (mem a (m.part j).made) (none a)).1))
