@@ -204,14 +204,14 @@ impl<'p, C: Client, S: SegStore, I, O, E> Core<'p, C, S, I, O, E> {
     /// Drops what runs, and hands out the rest. The image of the store is the committed one, and no segment has changes in it.
     pub fn finish(self) -> Finished<S, I, O, E>
         requires good { IsGoodCore C.prog C.sound S.reserved S.meaning self }
-        ensures state { (w : World) → IsOutcome (C.prog (core_client self)) (core_limits S.meaning self).budget (idle_core (core_at S.meaning w self)) result.state }
-        ensures failed { result.failed ≡ true → (w : World) → HasFailed (C.prog (core_client self)) (core_at S.meaning w self) }
-        ensures lasting { result.failed ≡ false → (w : World) → HasFailed (C.prog (core_client self)) (core_at S.meaning w self) → ⊥ }
-        ensures history { (w : World) → (core_at S.meaning w self).history ≡ result.history.entries }
-        ensures conflicts { (w : World) → (core_at S.meaning w self).conflicts ≡ result.conflicts.entries }
-        ensures image { (w : World) → (core_at S.meaning w self).image ≡ (S.meaning result.store).image }
+        ensures state { (w : World) → IsOutcome (C.prog (core_client self.entry)) (core_limits S.meaning self.entry).budget (idle_core (core_at S.meaning w self.entry)) result.state }
+        ensures failed { result.failed ≡ true → (w : World) → HasFailed (C.prog (core_client self.entry)) (core_at S.meaning w self.entry) }
+        ensures lasting { result.failed ≡ false → (w : World) → HasFailed (C.prog (core_client self.entry)) (core_at S.meaning w self.entry) → ⊥ }
+        ensures history { (w : World) → (core_at S.meaning w self.entry).history ≡ result.history.entries }
+        ensures conflicts { (w : World) → (core_at S.meaning w self.entry).conflicts ≡ result.conflicts.entries }
+        ensures image { (w : World) → (core_at S.meaning w self.entry).image ≡ (S.meaning result.store).image }
         ensures unused { (j : ℕ) → IsUnused ((S.meaning result.store).part j) }
-        ensures devices { HasDevices result.input result.out result.err self }
+        ensures devices { HasDevices result.input result.out result.err self.entry }
     {
         let Core {
             engine,
