@@ -20,3 +20,4 @@ pub mod Advanced
 pub mod Events
 pub mod CoreHeld
 pub mod Finishing
+pub mod ScriptCore

@@ -13,6 +13,8 @@ mod finish;
 mod laws;
 mod segment;
 mod standing;
+#[cfg(test)]
+mod tests;
 mod threads;
 mod transactions;
 

@@ -1,0 +1,11 @@
+-- A good core of a script over the store of maps, for tests.
+use Rattle.lock_run.specs.declared.script.Script.{Script}
+use Rattle.lock_run.specs.declared.script.ScriptState.{ScriptState}
+use Rattle.lock_run.specs.Script.{cells_in, lists_in, script_prog, ScriptSound}
+use Rattle.seg_store.specs.declared.plain.PlainStore.{PlainStore}
+use Rattle.seg_store.specs.Plain.{plain_meaning}
+use Rattle.stm_core.specs.declared.transactions.Core.{Core}
+use Rattle.stm_core.specs.CoreHeld.{IsGoodCore}
+
+abbrev pub IsGoodScriptCore : {I O E : Type 0} → Core Script PlainStore I O E ScriptState → Type 0
+IsGoodScriptCore x = IsGoodCore (λ c. script_prog (cells_in c) (lists_in c)) (λ c. ScriptSound) (λ s. 0) plain_meaning x
