@@ -9,3 +9,5 @@ pub mod Ready
 pub mod StepsMirror
 pub mod Along
 pub mod Accept
+pub mod ScriptRecords
+pub mod ScriptSteps

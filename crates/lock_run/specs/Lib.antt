@@ -11,3 +11,5 @@ pub mod Turns
 pub mod TurnLaws
 pub mod LockState
 pub mod Whys
+pub mod Script
+pub mod ScriptLaws

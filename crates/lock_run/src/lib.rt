@@ -6,7 +6,10 @@ mod given;
 mod laws;
 mod machine;
 mod plain;
+mod script;
 mod space;
+#[cfg(test)]
+mod tests;
 mod threads;
 mod turn;
 
@@ -14,4 +17,5 @@ pub use client::{Client, Life, Outcome};
 pub use laws::{accept_law, run_law, steps_law, turn_law};
 pub use machine::LockRun;
 pub use plain::PlainView;
+pub use script::{Act, Acts, Script, ScriptState};
 pub use turn::{History, Turn, TurnFault, TurnWhy};

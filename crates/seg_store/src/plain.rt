@@ -52,8 +52,8 @@ impl PlainStore {
         self.objects.get(a as usize)
     }
 
-    /// The record of the image at an address.
-    fn committed(&self, a: u32) -> Option<&Entry>
+    /// The record of the image at an address, if one stands there.
+    pub fn committed(&self, a: u32) -> Option<&Entry>
         ensures entry { option_copied result ≡ (plain_meaning self.now).image a }
         ensures good { IfSome result (λ r. IsGood r.now) }
     {
@@ -63,8 +63,8 @@ impl PlainStore {
         }
     }
 
-    /// The record that a segment sees at an address.
-    fn seen(&self, k: u8, a: u32) -> Option<&Entry>
+    /// The record that a segment sees at an address, if one stands there.
+    pub fn seen(&self, k: u8, a: u32) -> Option<&Entry>
         ensures entry { option_copied result ≡ sees (plain_meaning self.now) k a }
         ensures good { IfSome result (λ r. IsGood r.now) }
     {
