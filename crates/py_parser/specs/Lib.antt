@@ -11,3 +11,4 @@ pub mod Outcome
 pub mod Parses
 pub mod Asking
 pub mod Pieces
+pub mod Stops
