@@ -12,3 +12,4 @@ pub mod Parses
 pub mod Asking
 pub mod Pieces
 pub mod Stops
+pub mod SimplePieces
