@@ -13,3 +13,4 @@ pub mod Asking
 pub mod Pieces
 pub mod Stops
 pub mod SimplePieces
+pub mod Suites

@@ -88,7 +88,7 @@ fn print<'a>(
 }
 
 /// The tree of a test, where there is one.
-fn tree_or(test: Option<Tall<Expr>>) -> Option<Expr>
+pub fn tree_or(test: Option<Tall<Expr>>) -> Option<Expr>
     ensures { result ≡ tree_or test }
 {
     match test {

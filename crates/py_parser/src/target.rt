@@ -19,7 +19,7 @@ use sqlite_items::Items;
 use std::alloc::Global;
 
 /// The level of targets: atoms with what trails them.
-const TARGET: u8 = 1;
+pub const TARGET: u8 = 1;
 
 /// Where a target stands.
 #[derive(Clone, Copy, Debug, Drop, PartialEq, Eq)]
