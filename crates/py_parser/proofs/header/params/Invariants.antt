@@ -1,4 +1,4 @@
-use Rattle.std.proofs.Common.{◌≡◌, ◌-◌, ◌≤◌, [], ◌∷◌, false}
+use Rattle.std.proofs.Common.{◌≡◌, ◌-◌, [], false}
 use Rattle.py_parser.specs.Lines.{params_at}
 use Rattle.py_parser.specs.Reading.{reads}
 use Rattle.py_parser.proofs.header.params.Given as goal

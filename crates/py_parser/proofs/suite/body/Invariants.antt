@@ -1,4 +1,4 @@
-use Rattle.std.proofs.Common.{◌≡◌, ◌-◌, ◌≤◌, [], ◌∷◌, false}
+use Rattle.std.proofs.Common.{◌≡◌, ◌-◌, []}
 use Rattle.py_parser.specs.Lines.{body_more, statements_at}
 use Rattle.py_parser.proofs.suite.body.Given as goal
 

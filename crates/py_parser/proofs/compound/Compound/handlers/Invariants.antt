@@ -1,4 +1,4 @@
-use Rattle.std.proofs.Common.{◌≡◌, ◌-◌, ◌≤◌, [], ◌∷◌, false}
+use Rattle.std.proofs.Common.{◌≡◌, ◌-◌, []}
 use Rattle.py_parser.specs.Lines.{handlers_at}
 use Rattle.py_parser.specs.Reading.{reads}
 use Rattle.py_parser.specs.Suites.{inner_block}

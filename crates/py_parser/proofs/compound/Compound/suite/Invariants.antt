@@ -1,4 +1,4 @@
-use Rattle.std.proofs.Common.{◌≡◌, ◌-◌, ◌≤◌, [], ◌∷◌, false}
+use Rattle.std.proofs.Common.{◌≡◌, ◌-◌, []}
 use Rattle.py_parser.specs.Lines.{suite_at, statements_at}
 use Rattle.py_parser.proofs.compound.Compound.suite.Given as goal
 
