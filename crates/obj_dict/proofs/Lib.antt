@@ -3,3 +3,4 @@ pub mod Halves
 pub mod Pairing
 pub mod Safely
 pub mod SafeListing
+pub mod Whole

@@ -4,10 +4,10 @@ use Rattle.py_data.specs.declared.value.Value.{Value}
 use Rattle.obj_dict.specs.Listing.{half}
 use Rattle.obj_dict.specs.PairLaws.{ArePaired, PairLaw}
 
-double : (i : ℕ) → 2 * suc i ≡ suc (suc (2 * i))
+pub double : (i : ℕ) → 2 * suc i ≡ suc (suc (2 * i))
 double i = omega arith
 
-double-more : (i : ℕ) → 2 * suc i + 1 ≡ suc (suc (2 * i + 1))
+pub double-more : (i : ℕ) → 2 * suc i + 1 ≡ suc (suc (2 * i + 1))
 double-more i = omega arith
 
 keys-stay : (vs : List Value) (i : ℕ) (x : Value) → half false (set vs (2 * i + 1) x) ≡ half false vs

@@ -1,12 +1,26 @@
-//! What the changes of a dictionary do to its keys and values, as a law: a call of it does nothing, and gives its caller's
-//! proof the facts of its clause.
+//! What the operations on dictionaries do to the keys and values, as laws: a call of such a function does nothing, and gives
+//! its caller's proof the facts of its clauses.
+ghost use Rattle.obj_dict.specs.Laws.{HashLaw, GetLaw, SetLaw, NewLaw, FullLaw, DelLaw, LackLaw};
 ghost use Rattle.obj_dict.specs.PairLaws.{PairLaw};
 ghost use Rattle.obj_dict.specs.Safety.{SafeLaw, SafeListLaw};
+
+use py_data::View;
 
 /// A key that is set again keeps its place and stays as it was; a new one comes last; a pair that goes leaves the others in
 /// their order.
 pub fn pair_law()
     ensures { PairLaw }
+{}
+
+/// What `get`, `set` and `del` answer and leave, by the place of the key in the dictionary.
+pub fn dict_law<S, V: View<S>>()
+    ensures unhashable { HashLaw V.sense }
+    ensures get { GetLaw V.sense }
+    ensures set { SetLaw V.sense }
+    ensures set_new { NewLaw V.sense }
+    ensures set_full { FullLaw V.sense }
+    ensures del { DelLaw V.sense }
+    ensures del_missing { LackLaw V.sense }
 {}
 
 /// Each operation may be begun at a dictionary that the view shows, with any value for the key.

@@ -1,4 +1,5 @@
 mod Unfold
+mod Suites
 mod Turns
 mod Steps
 mod Facts
@@ -27,3 +28,4 @@ mod Modules
 mod Bodied
 mod NoEnd
 mod Results
+mod Ends

@@ -11,3 +11,6 @@ pub mod Outcome
 pub mod Parses
 pub mod Asking
 pub mod Pieces
+pub mod Stops
+pub mod SimplePieces
+pub mod Suites

@@ -1,6 +1,8 @@
-//! The law of the grammar, as a contract: a call of this function does nothing, and gives its caller's proof the facts of its
-//! clauses.
-ghost use Rattle.std.specs.Prelude.{◌≡◌, ◌≤◌, List, [], length, Ok, Err};
+//! The laws of the grammar, as contracts: a call of such a function does nothing, and gives its caller's proof the facts of
+//! its clauses.
+ghost use Rattle.std.specs.Prelude.{◌≡◌, ℕ, ◌≤◌, List, [], length, Ok, Err};
+ghost use Rattle.py_tokens.specs.Layout.{tokens_of_text};
+ghost use Rattle.py_tokens.specs.Stream.{IsStream};
 ghost use Rattle.py_tokens.specs.declared.token.Token.{Token};
 ghost use Rattle.py_tree.specs.declared.stmt.Module.{Module};
 ghost use Rattle.py_tree.specs.Tall.{tall_module};
@@ -17,4 +19,11 @@ pub fn grammar_law()
     ensures only { (ts : List Token) (m : Module) → IsModule m ts → tall_module m ≤ 100 → module_at (length ts) ts ≡ Ok (m, []) }
     ensures refused { (ts : List Token) (f : Fault) (rest : List Token) → EndsOnce ts → module_at (length ts) ts ≡ Err (f, rest) → RefusedAt ts f (line_of rest) }
     ensures one { (ts : List Token) (m n : Module) → IsModule m ts → IsModule n ts → m ≡ n }
+{}
+
+/// In the tokens of a text End stands once, as the last, as `parse` asks; so it does in each stream, as which `tokens` of
+/// `py_tokens` says its answer.
+pub fn ends_law()
+    ensures text { (text : List ℕ) (ts : List Token) → tokens_of_text text ≡ Ok ts → EndsOnce ts }
+    ensures stream { (size at depth : ℕ) (ts : List Token) → IsStream size at depth ts → EndsOnce ts }
 {}

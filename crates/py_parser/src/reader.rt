@@ -17,6 +17,9 @@ use std::alloc::Global;
 /// The level of tests.
 pub const TEST: u8 = 14;
 
+/// The level of tests with commas between them.
+pub const TESTS: u8 = 15;
+
 /// Reads the parts of an expression. What stands inside them is read by `inner`, of a height of at most `budget`.
 #[derive(Drop)]
 pub struct Reader<F> {

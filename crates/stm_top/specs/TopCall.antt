@@ -1,7 +1,8 @@
 -- What the top call does, and why it answers as it does. States `docs/LANGUAGE.md`, "The top call".
 use Rattle.std.specs.String.{string_bytes}
-use Rattle.std.specs.Prelude.{◌≡◌, ◌≢◌, ◌⊎◌, String, ℕ, map, List, [], ◌∷◌, ◌++◌, Option, Result, Ok, Err, Bool, false, codes}
+use Rattle.std.specs.Prelude.{◌≡◌, ◌≢◌, ◌≤◌, ◌⊎◌, String, ℕ, map, List, [], ◌∷◌, ◌++◌, Option, Result, Ok, Err, Bool, false, codes}
 use Rattle.std.specs.Str.{bytes_eq}
+use Rattle.py_data.specs.declared.refusal.Refusal.{Refusal}
 use Rattle.py_data.specs.declared.stop.Out.TheVariants.{Output}
 use Rattle.py_data.specs.Row.{Row}
 use Rattle.py_data.specs.Sense.{Upto}
@@ -11,6 +12,12 @@ use Rattle.stm_io.specs.declared.error.PutError.{PutError}
 use Rattle.stm_io.specs.Outside.{SourceState, SinkState, Rose, Puts, PutCause}
 use Rattle.py_tokens.specs.declared.token.Token.{Token}
 use Rattle.py_tokens.specs.Layout.{tokens_of_text}
+use Rattle.py_tree.specs.declared.stmt.Module.{Module}
+use Rattle.py_tree.specs.Tall.{tall_module}
+use Rattle.py_parser.specs.declared.fault.Fault.{Fault}
+use Rattle.py_parser.specs.Outcome.{refusal_of}
+use Rattle.py_parser.specs.Refused.{RefusedAt}
+use Rattle.py_parser.specs.Statements.{IsModule}
 use Rattle.lock_run.specs.declared.client.Outcome.{Outcome}
 use Rattle.lock_run.specs.declared.client.Life.TheVariants.{Lives}
 use Rattle.lock_run.specs.declared.turn.Turn.{Turn}
@@ -98,18 +105,31 @@ ProgramEnded p a answer turns b =
     ⊎ ((r : Ran p (begin_with (line_prog p) (first_world a.input.told)) a.out.told a.err.told turns b.input.told b.out.told b.err.told) × TurnsEnd answer r a.out.faults b.out.faults)
 
 -- ---- the script's text
-pub record HasTokens (script : List ℕ) : Type 0 where
+-- its tokens have a tree, of a height of at most 100
+pub record HasTree (script : List ℕ) : Type 0 where
   pub tokens : List Token
   pub are : tokens_of_text script ≡ Ok tokens
+  pub tree : Module
+  pub is : IsModule tree tokens
+  pub low : tall_module tree ≤ 100
 
--- it has tokens and the line form
+-- its tokens have no such tree, and are refused where that shows first
+pub record HasNoTree (script : List ℕ) (refusal : Refusal) : Type 0 where
+  pub tokens : List Token
+  pub are : tokens_of_text script ≡ Ok tokens
+  pub fault : Fault
+  pub line : ℕ
+  pub is : refusal ≡ refusal_of fault line
+  pub refused : RefusedAt tokens fault line
+
+-- it has a tree and the line form
 abbrev pub IsProgram : List ℕ → LineProgram → Type 0
-IsProgram script program = HasTokens script × (program_of script ≡ Ok program)
+IsProgram script program = HasTree script × (program_of script ≡ Ok program)
 
--- why it isn't a program: it has no tokens, or it has tokens and not the line form
+-- why it isn't a program: it has no tokens; or they have no tree; or it has a tree and not the line form
 abbrev pub NoProgram : List ℕ → Answer → Type 0
-NoProgram script (Refused refusal) = tokens_of_text script ≡ Err refusal
-NoProgram script (NotBuilt line) = HasTokens script × (program_of script ≡ Err line)
+NoProgram script (Refused refusal) = (tokens_of_text script ≡ Err refusal) ⊎ HasNoTree script refusal
+NoProgram script (NotBuilt line) = HasTree script × (program_of script ≡ Err line)
 NoProgram script OutOfMemory = Unit {0}
 NoProgram script _ = ⊥
 

@@ -109,7 +109,13 @@ x = 1;y = x;x = 2;print x, y, -3;|0~2 1 -3;~~6
 a = 1;A = 2;_ = 3;a9 = 4;print a, A, _, a9, a;|0~1 2 3 4 1;~~7
 print y;|3~~pystm: line 1: refusal 13: not built;~0
 x = x;|3~~pystm: line 1: refusal 13: not built;~0
-print 1;;print 2 2;print 3 3;|3~~pystm: line 3: refusal 13: not built;~0
+print 1;;print 2 2;print 3 3;|3~~pystm: line 3: refusal 5: unexpected;~0
+print 1;;print 2**2;print 3 3;|3~~pystm: line 4: refusal 5: unexpected;~0
+print 1;;print 2**2;print 3;|3~~pystm: line 3: refusal 13: not built;~0
+print 1 +|3~~pystm: line 1: refusal 5: unexpected;~0
+x = 1;x = 1.5|3~~pystm: line 2: refusal 6: left out;~0
+print ((((((((((((((((((((((((((((((((((((((((((((((((((1))))))))))))))))))))))))))))))))))))))))))))))))))|3~~pystm: line 1: refusal 13: not built;~0
+print ((((((((((((((((((((((((((((((((((((((((((((((((((((((((((((((((((((((((((((((((((((((((((((((((((((((((((((((((((((((((((((((((((((((((((((((((((((((((((((((((((((((((((((((((((((((((((((((((((((((((1))))))))))))))))))))))))))))))))))))))))))))))))))))))))))))))))))))))))))))))))))))))))))))))))))))))))))))))))))))))))))))))))))))))))))))))))))))))))))))))))))))))))))))))))))))))))))))))))))))))))|3~~pystm: line 1: refusal 7: deep;~0
 x = 1 / 0;|3~~pystm: line 1: refusal 13: not built;~0
 print 1;$;|3~~pystm: line 2: refusal 1: bad character;~0
 if 1:;  a = 1; b = 2;|3~~pystm: line 3: refusal 2: bad dedent;~0
@@ -130,7 +136,7 @@ fn check_scripts(rt: &impl Abort, alloc: Global, rows: &str) -> Result<usize, te
 
 #[test]
 fn runs_scripts(rt: HostRuntime) -> Tested {
-    assert_eq!(rt; check_scripts(&rt, rt.alloc(), SCRIPTS)?, 20);
+    assert_eq!(rt; check_scripts(&rt, rt.alloc(), SCRIPTS)?, 26);
     Ok(())
 }
 

@@ -1,7 +1,9 @@
 //! The top call: from the words to the end of the run.
-ghost use Rattle.std.specs.Prelude.{◌≡◌, ◌≢◌, ◌≤◌, [], length, IfOk, IfErr};
+ghost use Rattle.std.specs.Prelude.{◌≡◌, ◌≢◌, ◌≤◌, [], length, Ok, IfOk, IfErr, OnOk};
+ghost use Rattle.py_tokens.specs.Layout.{tokens_of_text};
+ghost use Rattle.py_parser.specs.Refused.{EndsOnce};
 ghost use Rattle.stm_top.specs.declared.answer.Answer.TheVariants.{Usage};
-ghost use Rattle.stm_top.specs.TopCall.{devices_of, bytes_of, names_source, IsProgram, NoProgram, ProgramEnded, Caused, TextPut, Answered};
+ghost use Rattle.stm_top.specs.TopCall.{devices_of, bytes_of, names_source, HasTree, IsProgram, NoProgram, ProgramEnded, Caused, TextPut, Answered};
 
 use crate::answer::Answer;
 use crate::line_form::{LineError, LineProgram, read_program};
@@ -11,7 +13,8 @@ use crate::status::Status;
 use crate::turns::run_turns;
 use lock_run::{History, LockRun};
 use py_data::{Bytes, Conflicts};
-use py_tokens::{TokenError, tokens};
+use py_parser::{ParseError, ends_law, parse};
+use py_tokens::{Token, TokenError, tokens};
 use std::alloc::Global;
 use stm_io::{Gate, Loader, Sink, Source, TakeError};
 
@@ -77,17 +80,41 @@ fn run_program<I: Source, O: Sink, E: Sink>(
     }
 }
 
+/// The tokens of a script, or why it has none.
+fn tokens_of(alloc: Global, script: &[u8]) -> Result<Vec<Token>, Answer>
+    requires { length script.now ≤ 4194304 }
+    ensures tokens { IfOk result (λ found. (tokens_of_text script.now ≡ Ok found.items) × EndsOnce found.items) }
+    ensures none { IfErr result (λ answer. NoProgram script.now answer) }
+{
+    ends_law();
+    match tokens(alloc, script) {
+        Ok(found) => Ok(found),
+        Err(TokenError::Refused(refusal)) => Err(Answer::Refused { refusal }),
+        Err(TokenError::OutOfMemory) => Err(Answer::OutOfMemory),
+    }
+}
+
+/// Asks whether a script has a tree, or why it has none. The tree goes.
+fn check_tree(alloc: Global, script: &[u8]) -> Result<(), Answer>
+    requires { length script.now ≤ 4194304 }
+    ensures tree { OnOk result (HasTree script.now) }
+    ensures none { IfErr result (λ answer. NoProgram script.now answer) }
+{
+    let found = tokens_of(alloc, script)?;
+    match parse(alloc, found.as_slice()) {
+        Ok(_) => Ok(()),
+        Err(ParseError::Refused(refusal)) => Err(Answer::Refused { refusal }),
+        Err(ParseError::OutOfMemory) => Err(Answer::OutOfMemory),
+    }
+}
+
 /// The program that a script is, or why it is none.
 fn read_script(alloc: Global, script: &[u8]) -> Result<LineProgram, Answer>
     requires { length script.now ≤ 4194304 }
     ensures program { IfOk result (λ program. IsProgram script.now program) }
     ensures none { IfErr result (λ answer. NoProgram script.now answer) }
 {
-    match tokens(alloc, script) {
-        Ok(_) => (),
-        Err(TokenError::Refused(refusal)) => return Err(Answer::Refused { refusal }),
-        Err(TokenError::OutOfMemory) => return Err(Answer::OutOfMemory),
-    }
+    check_tree(alloc, script)?;
     match read_program(alloc, script) {
         Ok(program) => Ok(program),
         Err(LineError::Refused { line }) => Err(Answer::NotBuilt { line }),
