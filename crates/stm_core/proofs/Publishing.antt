@@ -37,6 +37,7 @@ use Rattle.stm_core.proofs.Fits.{get_set_same, sum_set, seen_image}
 use Rattle.stm_core.proofs.Kept.{good_next}
 use Rattle.stm_core.proofs.TwoPasses.{met_some, commit_good}
 use Rattle.stm_core.proofs.Wholes.{Set, core_set}
+use Rattle.stm_core.proofs.Settling.{core_taken}
 
 -- ---- publishing
 
@@ -177,17 +178,6 @@ module _ {S : Type 0} (k : ℕ) (m : Meaning) (b b1 : Books S) where
       }
 
   module _ (x : Work S) (e : slice_get b.hands.items k ≡ Some (Runs x)) (s : Set k IdleHand b b1) where
-    pub core_taken : (w : World) → core_with w k m b1 x ≡ core_of w m b
-    core_taken w =
-        ap (with_segment k (Running (transaction w (m.part k) x))) (core_set k m b b1 w IdleHand s (slice_get_within b.hands.items k (Runs x) e))
-        ∙ (λ i. record (core_of w m b) { segments = λ j. same j i })
-      where
-        same : (j : ℕ) → set_segment k (Running (transaction w (m.part k) x)) (set_segment k Idle (core_of w m b).segments) j ≡ (core_of w m b).segments j
-        same j = elim (cases_Bool (eqb j k)) [
-          | inl y ↦ cond-true (eqb j k) (Running (transaction w (m.part k) x)) (cond (eqb j k) Idle ((core_of w m b).segments j)) y ∙ sym (ap (core_of w m b).segments (eqb-true j k y) ∙ ap (segment_of w (m.part k)) e)
-          | inr n ↦ cond-false (eqb j k) (Running (transaction w (m.part k) x)) (cond (eqb j k) Idle ((core_of w m b).segments j)) n ∙ cond-false (eqb j k) Idle ((core_of w m b).segments j) n
-        ]
-
     -- its thread is there
     pub thread_there : (p : Prog S) (start : Machine S) (most : ℕ) (w : World) → Good p start most (core_of w m b) → x.thread < length b1.threads.entries
     thread_there p start most w g =
@@ -207,7 +197,7 @@ module _ {S : Type 0} (k : ℕ) (m : Meaning) (b b1 : Books S) where
     pub committed_taken : (w : World) (n : ℕ) (r : Result Commit Conflict) (c1 : CoreState S) → CommitEnds k n (transaction w (m.part k) x) r (core_with w k m b1 x) c1 → Committed k n r (core_of w m b) c1
     committed_taken w n r c1 h =
         subst (λ (z : Segment S). CommitOf k n z r (core_of w m b) c1) (sym (ap (segment_of w (m.part k)) e))
-        (subst (λ (c : CoreState S). CommitEnds k n (transaction w (m.part k) x) r c c1) (core_taken w) h)
+        (subst (λ (c : CoreState S). CommitEnds k n (transaction w (m.part k) x) r c c1) (core_taken k m b b1 w x e s) h)
 
   pub committed_doomed : (f : Conflict) → slice_get b.hands.items k ≡ Some (DoomedHand f) → Set k IdleHand b b1 → (w : World) (n : ℕ) → Committed k n (Err f) (core_of w m b) (core_of w m b1)
   committed_doomed f e s w n =

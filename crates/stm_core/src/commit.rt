@@ -252,13 +252,13 @@ impl<'p, C: Client, S: SegStore> Engine<'p, C, S> {
         }
         let me = work.side(k);
         match self.beaten(k, me) {
-            Some(f) => {
-                self.lose_out(k, work, f);
-                Err(f)
-            }
             None => {
                 self.doom_readers(k, &work);
                 Ok(Commit::Committed(self.publish(k, work)))
+            }
+            Some(f) => {
+                self.lose_out(k, work, f);
+                Err(f)
             }
         }
     }
