@@ -20,6 +20,12 @@ type MemCore<'p> = Core<'p, Script, PlainStore, MemSource, MemSink, MemSink>;
 
 type MemRun<'p> = LockRun<'p, Script, MemSource, MemSink, MemSink>;
 
+/// Threads with these lists of acts, over two Cells.
+fn script_of(rt: &impl Abort, lists: Vec<Acts>) -> Script {
+    assert!(rt; Script::fits(2, lists.as_slice()));
+    Script::new(2, lists)
+}
+
 /// Two threads with these acts, over two Cells.
 fn script(
     rt: &impl Abort,
@@ -30,8 +36,7 @@ fn script(
     let mut lists = Vec::new(alloc);
     lists.push(Acts::from_slice(alloc, first)?)?;
     lists.push(Acts::from_slice(alloc, second)?)?;
-    assert!(rt; Script::fits(2, lists.as_slice()));
-    Ok(Script::new(2, lists))
+    Ok(script_of(rt, lists))
 }
 
 fn source(alloc: Global) -> MemSource {
@@ -53,7 +58,16 @@ fn core<'p>(
 {
     assert!(rt; budget >= 1 && budget <= 1_000);
     let store = PlainStore::new(alloc, 3)?;
-    match Core::new(alloc, client, store, 4, budget, source(alloc), sink(alloc), sink(alloc)) {
+    match Core::new(
+        alloc,
+        client,
+        store,
+        4,
+        budget,
+        source(alloc),
+        sink(alloc),
+        sink(alloc),
+    ) {
         Ok(core) => Ok(core),
         Err(_) => Err("no memory".into()),
     }
@@ -235,7 +249,10 @@ fn disjoint_writes_commit(rt: HostRuntime) -> Tested {
     for k in 0..2 {
         assert_eq!(&rt; (seen(&rt, &core, k, 0), seen(&rt, &core, k, 1)), (1, 2));
     }
-    assert_eq!(&rt; (committed(&rt, &core, 0), committed(&rt, &core, 1)), (1, 2));
+    assert_eq!(&rt;
+        (committed(&rt, &core, 0), committed(&rt, &core, 1)),
+        (1, 2)
+    );
     Ok(())
 }
 
@@ -314,5 +331,165 @@ fn stands_and_ends(rt: HostRuntime) -> Tested {
     assert!(&rt; !finished.failed);
     assert_eq!(&rt; finished.history.len(), 3);
     assert_eq!(&rt; finished.conflicts.len(), 0);
+    Ok(())
+}
+
+/// A transaction of one step of thread 1, so many times.
+fn look_often(rt: &impl Abort, core: &mut MemCore<'_>, times: u64) -> Tested
+    requires { IsGoodScriptCore core.old }
+    ensures { IsGoodScriptCore core.new }
+{
+    let list = [Event::Begin(0, 1), Event::Advance(0, 1), Event::Commit(0)];
+    'times: for n in 0..times {
+        let wanted = [
+            Reply::Begun,
+            Reply::Advanced(Advance::Ran(1)),
+            Reply::Committed(n.saturating_add(1)),
+        ];
+        play(rt, core, &list, &wanted)?;
+    }
+    Ok(())
+}
+
+/// A look at one Cell, and then so many at the other.
+fn looks(alloc: Global, count: usize) -> Result<Vec<Act>, test::Fail> {
+    let mut acts = Vec::new(alloc);
+    acts.push(Act::Look(0))?;
+    for _look in 0..count {
+        acts.push(Act::Look(1))?;
+    }
+    Ok(acts)
+}
+
+/// A thread that looked at a Cell 255 transactions ago isn't in the way of another that sets it.
+#[test]
+fn looks_end_with_their_transaction(rt: HostRuntime) -> Tested {
+    let acts = looks(rt.alloc(), 299)?;
+    let client = script(&rt, rt.alloc(), acts.as_slice(), &[Act::Set(0, 5)])?;
+    let mut core = begun(&rt, rt.alloc(), &client, 1_000)?;
+    look_often(&rt, &mut core, 255)?;
+    let list = [
+        Event::Begin(0, 1),
+        Event::Advance(0, 1),
+        Event::Begin(1, 2),
+        Event::Advance(1, 1),
+        Event::Commit(1),
+    ];
+    let wanted = [
+        Reply::Begun,
+        Reply::Advanced(Advance::Ran(1)),
+        Reply::Begun,
+        Reply::Advanced(Advance::Ended(1)),
+        Reply::Committed(256),
+    ];
+    play(&rt, &mut core, &list, &wanted)?;
+    play(
+        &rt,
+        &mut core,
+        &[Event::Commit(0)],
+        &[Reply::Committed(257)],
+    )?;
+    assert_eq!(&rt; committed(&rt, &core, 0), 5);
+    Ok(())
+}
+
+/// The next number of a row of numbers, from 0 to 65,535, that look like any.
+fn draw(seed: &mut u32) -> u32 {
+    *seed = seed.wrapping_mul(1_664_525).wrapping_add(1_013_904_223);
+    *seed >> 16
+}
+
+fn draw_event(seed: &mut u32) -> Event {
+    let k = (draw(seed) % 3) as u8;
+    match draw(seed) % 4 {
+        0 => Event::Begin(k, draw(seed) % 4),
+        1 => Event::Advance(k, 1),
+        2 => Event::Advance(k, 2),
+        _ => Event::Commit(k),
+    }
+}
+
+/// So many events of three segments and three threads.
+fn draw_events(alloc: Global, seed: u32, count: usize) -> Result<Vec<Event>, test::Fail> {
+    let mut seed = seed;
+    let mut list = Vec::new(alloc);
+    for _event in 0..count {
+        list.push(draw_event(&mut seed))?;
+    }
+    Ok(list)
+}
+
+/// Three threads that look at, set and push what the others do.
+fn three(rt: &impl Abort, alloc: Global) -> Result<Script, test::Fail> {
+    let mut lists = Vec::new(alloc);
+    let first = [Act::Look(0), Act::Set(1, 1), Act::Push(7)];
+    let second = [Act::Set(0, 2), Act::Look(1), Act::Push(8)];
+    let third = [Act::Look(1), Act::Set(0, 3), Act::Set(1, 4)];
+    lists.push(Acts::from_slice(alloc, &first)?)?;
+    lists.push(Acts::from_slice(alloc, &second)?)?;
+    lists.push(Acts::from_slice(alloc, &third)?)?;
+    Ok(script_of(rt, lists))
+}
+
+/// A machine at its first state.
+fn machine<'p>(alloc: Global, client: &'p Script) -> Result<MemRun<'p>, test::Fail>
+    ensures { IfOk result (λ run. IsSound ScriptSound (lock_state mem_source_state mem_sink_state mem_sink_state run)) }
+{
+    match LockRun::new(alloc, client, source(alloc), sink(alloc), sink(alloc)) {
+        Ok(run) => Ok(run),
+        Err(_) => Err("no memory".into()),
+    }
+}
+
+/// The machine does a turn, with the names that it gave.
+fn again(rt: &impl Abort, run: &mut MemRun<'_>, turn: &Turn)
+    requires { IsSound ScriptSound (lock_state mem_source_state mem_sink_state mem_sink_state run.old) }
+    ensures { IsSound ScriptSound (lock_state mem_source_state mem_sink_state mem_sink_state run.new) }
+{
+    assert!(rt; turn.steps >= 1);
+    assert!(rt; run.turn(turn.thread, turn.steps, &turn.names).is_ok());
+}
+
+/// The machine does the turns of a history, one after another.
+fn all_again(rt: &impl Abort, run: &mut MemRun<'_>, history: &History)
+    requires { IsSound ScriptSound (lock_state mem_source_state mem_sink_state mem_sink_state run.old) }
+{
+    'turns: for i in 0..history.len() {
+        match history.get(i) {
+            Some(turn) => again(rt, run, turn),
+            None => panic!(rt; "no turn"),
+        }
+    }
+}
+
+/// Makes the events of a list on a core, and does its history's turns again on a machine: how many turns and conflicts
+/// there were.
+fn on_both(
+    rt: &impl Abort,
+    alloc: Global,
+    client: &Script,
+    seed: u32,
+) -> Result<(usize, usize), test::Fail> {
+    let mut core = begun(rt, alloc, client, 1_000)?;
+    let list = draw_events(alloc, seed, 60)?;
+    core.run_events(list.as_slice())?;
+    let mut run = machine(alloc, client)?;
+    all_again(rt, &mut run, core.history());
+    Ok((core.history().len(), core.conflicts().len()))
+}
+
+/// The histories of 500 lists of events are runs of the one-lock machine.
+#[test]
+fn histories_run_again(rt: HostRuntime) -> Tested {
+    let client = three(&rt, rt.alloc())?;
+    let mut turns = 0usize;
+    let mut conflicts = 0usize;
+    for seed in 0..500 {
+        let (more, lost) = on_both(&rt, rt.alloc(), &client, seed)?;
+        turns = turns.saturating_add(more);
+        conflicts = conflicts.saturating_add(lost);
+    }
+    assert!(&rt; turns > 1_000_000, "{turns} {conflicts}");
+    assert!(&rt; conflicts > 100, "{conflicts}");
     Ok(())
 }

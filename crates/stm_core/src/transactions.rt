@@ -5,7 +5,9 @@ use crate::answers::{Advance, AdvanceError};
 use crate::begin::BeginError;
 use crate::commit::Commit;
 use crate::engine::Engine;
-use crate::events::{Event, Reply, advance_reply, begin_reply, commit_reply, is_busy, may_advance, split};
+use crate::events::{
+    Event, Reply, advance_reply, begin_reply, commit_reply, is_busy, may_advance, split,
+};
 use crate::finish::Remains;
 use crate::standing::{RunState, Slot};
 use lock_run::{Client, History};
@@ -251,9 +253,7 @@ impl<'p, C: Client, S: SegStore, I, O, E> Core<'p, C, S, I, O, E> {
                 k < self.engine.store.segments()
                     && may_advance(self.engine.slot(k), most, self.length)
             }
-            Event::Commit(k) => {
-                k < self.engine.store.segments() && is_busy(self.engine.slot(k))
-            }
+            Event::Commit(k) => { k < self.engine.store.segments() && is_busy(self.engine.slot(k)) }
         }
     }
 
