@@ -1,13 +1,13 @@
 -- How a transaction begins, as store and books show it, and the moves that it is.
-use Rattle.std.proofs.Common.{◌≡◌, ◌≢◌, ◌⊎◌, ◌<◌, ◌≤◌, ◌+◌, ◌-◌, ◌^◌, min, ℕ, zero, suc, Bool, true, false, cond, eqb, List, [], ◌∷◌, ◌++◌, length, take, slice_get, slice_set, Option, Some, None, Result, Ok, Err, is_some, refl, sym, ◌∙◌, ap, subst, inl, inr, arith, length-set}
+use Rattle.std.proofs.Common.{◌≡◌, ◌≢◌, ◌<◌, ◌≤◌, ◌+◌, ◌-◌, ◌^◌, min, ℕ, zero, suc, true, false, eqb, List, [], ◌∷◌, ◌++◌, length, take, slice_get, slice_set, Option, Some, None, Result, Ok, Err, is_some, refl, sym, ◌∙◌, ap, subst, inl, inr, arith, length-set}
 use Rattle.std.specs.List.{sum_by}
 use Rattle.std.proofs.lemmas.Bool.{cases_Bool, both_ways, or_left, or_parts, eqb-true, eqb-false, eq-eqb, ne_eqb, cond-true, cond-false}
 use Rattle.std.proofs.lemmas.Option.{slice_get_within}
-use Rattle.py_data.specs.Heap.{Rec, Heap, no_records}
+use Rattle.py_data.specs.Heap.{Rec, Heap}
 use Rattle.py_data.specs.World.{World}
 use Rattle.py_data.specs.Collection.{places}
 use Rattle.py_data.specs.Sight.{mem, no_marks}
-use Rattle.lock_run.specs.Client.{StaysSound, Standing, Waiting, Going}
+use Rattle.lock_run.specs.Client.{StaysSound, Waiting, Going}
 use Rattle.lock_run.specs.declared.client.Life.TheVariants.{Lives}
 use Rattle.lock_run.specs.Prog.{Prog}
 use Rattle.lock_run.specs.Machine.{Machine}
@@ -17,19 +17,18 @@ use Rattle.seg_store.specs.Store.{IsStore}
 use Rattle.stm_core.specs.declared.cause.Cause.{Cause}
 use Rattle.stm_core.specs.declared.cause.Cause.TheVariants.{OutOfMemory as NoMemoryLeft}
 use Rattle.stm_core.specs.declared.books.Work.{Work}
-use Rattle.stm_core.specs.declared.books.Hand.{Hand}
-use Rattle.stm_core.specs.declared.books.Hand.TheVariants.{Idle as IdleHand, Doomed as DoomedHand, Runs}
+use Rattle.stm_core.specs.declared.books.Hand.TheVariants.{Idle as IdleHand, Runs}
 use Rattle.stm_core.specs.declared.books.Books.{Books}
 use Rattle.stm_core.specs.declared.begin.BeginError.{BeginError}
 use Rattle.stm_core.specs.declared.begin.BeginError.TheVariants.{Over, Busy, NotReady, AtBudget, OutOfMemory}
-use Rattle.stm_core.specs.CoreState.{Transaction, Segment, Idle, Running, CoreState, committed, core_new, set_segment, fresh}
+use Rattle.stm_core.specs.CoreState.{Transaction, Running, CoreState, committed, core_new, set_segment, fresh}
 use Rattle.stm_core.specs.Good.{Good}
-use Rattle.stm_core.specs.Moves.{Move, Begins, Keeps, Next, first_cause, begun_at}
+use Rattle.stm_core.specs.Moves.{Begins, Keeps, first_cause, begun_at}
 use Rattle.stm_core.specs.Books.{WorkFits, is_running, runs_at, one_running, one_started, is_lock, transaction, segment_of, core_of}
 use Rattle.stm_core.specs.Hold.{no_world}
 use Rattle.stm_core.specs.Whole.{Whole}
 use Rattle.stm_core.specs.SaneCore.{SaneCore}
-use Rattle.stm_core.specs.Begun.{RunsOn, IsReady, IsUnready, UnreadyAt, steps_done, IsCount, IsSpent, CanBegin, Begun, IsFresh}
+use Rattle.stm_core.specs.Begun.{IsReady, IsUnready, UnreadyAt, Begun, IsFresh}
 use Rattle.stm_core.proofs.Publish.{get_set_other}
 use Rattle.stm_core.proofs.Fits.{get_set_same, sum_set}
 use Rattle.stm_core.proofs.Kept.{good_next}

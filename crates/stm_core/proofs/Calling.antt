@@ -1,5 +1,5 @@
 -- What the condition of a call on the core's state says of the books, and how the job and a good core come back out of the engine.
-use Rattle.std.proofs.Common.{◌≡◌, ◌<◌, ◌≤◌, ◌+◌, ℕ, Bool, true, false, ◌&&◌, nat_lt, nat_le, List, Option, Some, None, Result, slice_get, refl, sym, ◌∙◌, ap, subst, arith}
+use Rattle.std.proofs.Common.{◌≡◌, ◌<◌, ◌≤◌, ◌+◌, ℕ, Bool, true, false, ◌&&◌, nat_lt, nat_le, List, Option, Some, Result, slice_get, refl, sym, ◌∙◌, ap, subst, arith}
 use Rattle.std.proofs.lemmas.Bool.Decides.{nat_tests}
 use Rattle.py_data.specs.World.{World}
 use Rattle.py_data.specs.Heap.{Heap}
@@ -13,13 +13,12 @@ use Rattle.stm_core.specs.declared.books.Books.{Books}
 use Rattle.stm_core.specs.declared.events.Event.TheVariants as event
 use Rattle.stm_core.specs.declared.engine.Engine.{Engine}
 use Rattle.stm_core.specs.declared.transactions.Core.{Core}
-use Rattle.stm_core.specs.CoreState.{CoreState}
 use Rattle.stm_core.specs.Books.{segment_of, core_of}
 use Rattle.stm_core.specs.Standing.{slot_of}
 use Rattle.stm_core.specs.Whole.{Whole, SameShape}
 use Rattle.stm_core.specs.SaneCore.{SaneCore}
 use Rattle.stm_core.specs.Begun.{IsCount}
-use Rattle.stm_core.specs.CoreHeld.{core_client, core_limits, IsGoodCore, SameJob}
+use Rattle.stm_core.specs.CoreHeld.{IsGoodCore, SameJob}
 use Rattle.stm_core.specs.Events.{Limits, is_busy, is_within, may_make}
 use Rattle.stm_core.specs.declared.answers.Advance.{Advance}
 use Rattle.stm_core.specs.declared.answers.AdvanceError.{AdvanceError}

@@ -1,7 +1,7 @@
 -- The two passes of a commit, as store and books show them.
 use Rattle.std.proofs.Common.{◌≡◌, ◌≢◌, ◌<◌, ◌≤◌, ◌+◌, ◌-◌, ℕ, zero, suc, true, false, cond, not, ◌&&◌, eqb, List, [], ◌∷◌, ◌++◌, length, drop, slice_get, slice_set, Option, Some, None, refl, sym, ◌∙◌, ap, subst, inl, inr, arith}
 use Rattle.std.specs.List.{range_with_len}
-use Rattle.std.proofs.lemmas.Bool.{cases_Bool, both_ways, eqb-true, eqb-false, eq-eqb, ne_eqb, cond-true, cond-false, ltb-false, lt-ltb}
+use Rattle.std.proofs.lemmas.Bool.{cases_Bool, eqb-false, eq-eqb, ne_eqb, cond-true, cond-false, ltb-false, lt-ltb}
 use Rattle.std.proofs.lemmas.List.{drop_all}
 use Rattle.py_data.specs.declared.stop.Side.{Side}
 use Rattle.py_data.specs.declared.stop.Conflict.{Conflict}
@@ -14,12 +14,12 @@ use Rattle.stm_core.specs.declared.books.Work.{Work}
 use Rattle.stm_core.specs.declared.books.Hand.{Hand}
 use Rattle.stm_core.specs.declared.books.Hand.TheVariants.{Idle as IdleHand, Doomed as DoomedHand, Runs}
 use Rattle.stm_core.specs.declared.books.Books.{Books}
-use Rattle.stm_core.specs.CoreState.{Transaction, Segment, Idle, Doomed, Running, CoreState, side, wins, set_segment, with_segment, with_conflict}
+use Rattle.stm_core.specs.CoreState.{Transaction, Doomed, Running, CoreState, side, wins, with_segment, with_conflict}
 use Rattle.stm_core.specs.Books.{is_running, runs_at, side_of, transaction, segment_of, core_of}
 use Rattle.stm_core.specs.Passes.{met, read_conflict, doom_met, doom_one, doom_readers, NoneWins}
 use Rattle.stm_core.specs.Advance.{core_with}
 use Rattle.stm_core.specs.Readers.{read_at, work_side, Beats, FirstBeats}
-use Rattle.stm_core.specs.Committed.{lost_conflict, Beaten}
+use Rattle.stm_core.specs.Committed.{Beaten}
 use Rattle.stm_core.proofs.Fits.{work_at, runs_within}
 use Rattle.stm_core.proofs.Stepping.{set_swap}
 use Rattle.stm_core.proofs.Holding.{core_doomed}

@@ -1,20 +1,17 @@
 -- How an engine begins, and what it leaves at its end.
-use Rattle.std.proofs.Common.{◌≡◌, ◌≢◌, ◌⊎◌, ◌<◌, ◌≤◌, ◌+◌, ℕ, zero, suc, Bool, true, false, cond, eqb, ltb, List, [], ◌∷◌, ◌++◌, length, slice_get, slice_set, Option, Some, None, refl, sym, ◌∙◌, ap, subst, inl, inr, arith, length-set}
+use Rattle.std.proofs.Common.{◌≡◌, ◌⊎◌, ◌<◌, ◌+◌, ℕ, zero, suc, true, false, eqb, ltb, List, [], ◌∷◌, ◌++◌, length, slice_get, Option, Some, None, refl, sym, ◌∙◌, ap, subst, inl, inr, arith}
 use Rattle.std.specs.List.{sum_by}
 use Rattle.std.proofs.lemmas.Bool.{cases_Bool, both_ways, or_parts, eqb-false, cond-true, cond-false, ltb-true, ltb-false}
-use Rattle.std.proofs.lemmas.Option.{slice_get_within}
 use Rattle.std.proofs.lemmas.List.Sums.{sum_by-cons}
 use Rattle.py_data.specs.Heap.{Heap, no_records}
 use Rattle.py_data.specs.World.{World}
 use Rattle.py_data.specs.Sight.{mem}
 use Rattle.lock_run.specs.Prog.{Prog}
-use Rattle.lock_run.specs.Machine.{Machine}
 use Rattle.seg_store.specs.Meaning.{Part, Meaning, holds}
-use Rattle.stm_core.specs.declared.books.Work.{Work}
 use Rattle.stm_core.specs.declared.books.Hand.{Hand}
 use Rattle.stm_core.specs.declared.books.Hand.TheVariants.{Idle as IdleHand, Doomed as DoomedHand, Runs}
 use Rattle.stm_core.specs.declared.books.Books.{Books}
-use Rattle.stm_core.specs.CoreState.{Transaction, Segment, Idle, Doomed, Running, CoreState, committed, core_new, set_segment, with_segment}
+use Rattle.stm_core.specs.CoreState.{Transaction, Idle, Running, CoreState, committed, core_new, with_segment}
 use Rattle.stm_core.specs.Good.{Good}
 use Rattle.stm_core.specs.Moves.{Drops}
 use Rattle.stm_core.specs.Books.{is_running, runs_at, one_running, one_started, segment_of, core_of}

@@ -1,5 +1,5 @@
 -- Events one after another: what the loop over a list of them keeps.
-use Rattle.std.proofs.Common.{◌≡◌, ℕ, Bool, true, false, List, [], ◌∷◌, ◌++◌, append_assoc, append-nil, refl, sym, ◌∙◌, subst}
+use Rattle.std.proofs.Common.{◌≡◌, Bool, true, false, List, [], ◌∷◌, ◌++◌, append_assoc, append-nil, refl, sym, ◌∙◌, subst}
 use Rattle.lock_run.specs.Prog.{Prog}
 use Rattle.stm_core.specs.declared.events.Event.{Event}
 use Rattle.stm_core.specs.declared.events.Reply.{Reply}

@@ -1,7 +1,7 @@
 -- What a commit leaves of store and books, and the moves that it is.
 use Rattle.std.proofs.Common.{◌≡◌, ◌≢◌, ◌<◌, ◌≤◌, ◌+◌, ◌-◌, ◌^◌, min, ℕ, zero, suc, true, false, cond, eqb, List, [], ◌∷◌, ◌++◌, length, slice_get, slice_set, Option, Some, None, Result, Ok, Err, refl, sym, ◌∙◌, ap, subst, inl, inr, arith, length-set}
 use Rattle.std.specs.List.{sum_by, range_with_len}
-use Rattle.std.proofs.lemmas.Bool.{cases_Bool, both_ways, or_left, or_right, eqb-true, eqb-false, eq-eqb, ne_eqb, cond-true, cond-false}
+use Rattle.std.proofs.lemmas.Bool.{cases_Bool, both_ways, or_left, or_right, eqb-true, eqb-false, ne_eqb, cond-true, cond-false}
 use Rattle.std.proofs.lemmas.Option.{slice_get_within}
 use Rattle.std.proofs.lemmas.List.Sums.{sum_by-append}
 use Rattle.py_data.specs.Heap.{Heap}
@@ -14,23 +14,21 @@ use Rattle.lock_run.specs.declared.turn.Turn.{Turn}
 use Rattle.seg_store.specs.Meaning.{Part, Meaning, sees, holds}
 use Rattle.seg_store.specs.Calls.{ended, after_publish}
 use Rattle.seg_store.specs.Store.{IsStore}
-use Rattle.stm_core.specs.declared.books.Progress.{Progress}
 use Rattle.stm_core.specs.declared.books.Work.{Work}
 use Rattle.stm_core.specs.declared.books.Hand.{Hand}
 use Rattle.stm_core.specs.declared.books.Hand.TheVariants.{Idle as IdleHand, Doomed as DoomedHand, Runs}
 use Rattle.stm_core.specs.declared.books.Books.{Books}
 use Rattle.stm_core.specs.declared.commit.Commit.{Commit}
 use Rattle.stm_core.specs.declared.commit.Commit.TheVariants.{Committed as AtTurn, Nothing}
-use Rattle.stm_core.specs.CoreState.{Transaction, Segment, Idle, Doomed, Running, CoreState, side, wins, turn_of, set_segment, with_segment, with_conflict}
+use Rattle.stm_core.specs.CoreState.{Transaction, Segment, Idle, Doomed, Running, CoreState, side, wins, set_segment, with_segment, with_conflict}
 use Rattle.stm_core.specs.Good.{Good}
-use Rattle.stm_core.specs.Moves.{IsStanding, Move, Drops, Loses, Next, published}
+use Rattle.stm_core.specs.Moves.{IsStanding, Drops, Loses, published}
 use Rattle.stm_core.specs.Books.{WorkFits, is_running, runs_at, one_running, one_started, is_lock, transaction, segment_of, core_of, Fit}
 use Rattle.stm_core.specs.Passes.{met, doom_met, doom_one, doom_readers}
 use Rattle.stm_core.specs.Whole.{Whole}
-use Rattle.stm_core.specs.Hold.{no_world}
 use Rattle.stm_core.specs.Advance.{core_with}
 use Rattle.stm_core.specs.SaneCore.{SaneCore}
-use Rattle.stm_core.specs.Begun.{steps_done, IsCount}
+use Rattle.stm_core.specs.Begun.{IsCount}
 use Rattle.stm_core.specs.Committed.{Beaten, CommitEnds, CommitOf, Committed}
 use Rattle.stm_core.proofs.Publish.{get_set_other}
 use Rattle.stm_core.proofs.Fits.{get_set_same, sum_set, seen_image}

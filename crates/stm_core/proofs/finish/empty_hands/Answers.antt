@@ -1,5 +1,4 @@
-use Rattle.std.proofs.Common.{◌≡◌, List, ◌++◌, ◌∷◌, [], length, sym, subst, ◌∙◌, ap, arith, length-append}
-use Rattle.stm_core.specs.declared.books.Hand.{Hand}
+use Rattle.std.proofs.Common.{◌≡◌, ◌++◌, ◌∷◌, [], length, sym, subst, ap, arith, length-append}
 use Rattle.stm_core.specs.declared.books.Hand.TheVariants.{Idle}
 use Rattle.stm_core.proofs.Ends.{AllIdle, push_idle}
 use Rattle.stm_core.proofs.finish.empty_hands.Goals as goal

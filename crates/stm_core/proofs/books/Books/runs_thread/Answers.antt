@@ -1,4 +1,4 @@
-use Rattle.std.proofs.Common.{◌≡◌, ◌≢◌, ◌<◌, ◌+◌, ℕ, length, slice_get, Some, arith, sym, ap, subst, below_more}
+use Rattle.std.proofs.Common.{◌≡◌, ◌≢◌, slice_get, Some, arith, sym, subst, below_more}
 use Rattle.std.proofs.lemmas.Option.{slice_get_within}
 use Rattle.stm_core.specs.declared.books.Work.{Work}
 use Rattle.stm_core.specs.declared.books.Hand.TheVariants.{Runs}

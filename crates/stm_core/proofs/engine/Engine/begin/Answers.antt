@@ -1,4 +1,4 @@
-use Rattle.std.proofs.Common.{◌≡◌, ◌<◌, Some, Ok, Err, refl, sym, ap, subst, ◌∙◌, arith}
+use Rattle.std.proofs.Common.{◌≡◌, Some, Ok, Err, refl, sym, ap, subst, ◌∙◌, arith}
 use Rattle.std.proofs.lemmas.Option.{slice_get_within}
 use Rattle.stm_core.specs.declared.cause.Cause.TheVariants.{OutOfMemory as NoMemoryLeft}
 use Rattle.stm_core.specs.declared.begin.BeginError.TheVariants.{OutOfMemory}

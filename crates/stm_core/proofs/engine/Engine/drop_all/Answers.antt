@@ -1,5 +1,4 @@
-use Rattle.std.proofs.Common.{ap, subst, sym, ◌∙◌, ◌<◌, arith}
-use Rattle.stm_core.specs.CoreState.{Idle}
+use Rattle.std.proofs.Common.{ap, subst, sym, ◌∙◌, arith}
 use Rattle.stm_core.specs.Books.{core_of}
 use Rattle.stm_core.specs.SaneCore.{SaneCore}
 use Rattle.stm_core.specs.Finishing.{idle_core}

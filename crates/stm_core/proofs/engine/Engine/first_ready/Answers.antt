@@ -1,4 +1,4 @@
-use Rattle.std.proofs.Common.{◌<◌, ◌≤◌, arith, below_more}
+use Rattle.std.proofs.Common.{◌≤◌, arith, below_more}
 use Rattle.stm_core.specs.Books.{core_of}
 use Rattle.stm_core.specs.Begun.{IsUnready}
 use Rattle.stm_core.proofs.engine.Engine.first_ready.Goals as goal

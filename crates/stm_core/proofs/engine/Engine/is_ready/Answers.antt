@@ -1,4 +1,4 @@
-use Rattle.std.proofs.Common.{◌≡◌, ◌≤◌, length, sym, subst, ◌∙◌, arith}
+use Rattle.std.proofs.Common.{sym, subst, ◌∙◌, arith}
 use Rattle.lock_run.specs.Client.{Waiting, Going}
 use Rattle.stm_core.proofs.Hands.{not_true, not_false}
 use Rattle.stm_core.proofs.Beginning.{sound_core, ready, unready_none, unready_runs, unready_waits}

@@ -1,4 +1,3 @@
-use Rattle.std.proofs.Common.{arith}
 use Rattle.stm_core.specs.Books.{core_of}
 use Rattle.stm_core.proofs.Standings.{next_none, next_far, next_above, next_below}
 use Rattle.stm_core.proofs.engine.Engine.next_ready.Goals as goal

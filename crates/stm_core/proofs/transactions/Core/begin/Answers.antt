@@ -1,7 +1,5 @@
-use Rattle.std.proofs.Common.{ap, refl}
-use Rattle.stm_core.proofs.Advancing.{dry_world}
+use Rattle.std.proofs.Common.{ap}
 use Rattle.stm_core.proofs.Calling.{good_again, same_again}
-use Rattle.stm_core.specs.CoreHeld.{core_limits}
 use Rattle.stm_core.proofs.transactions.Core.begin.Goals as goal
 
 pub returns-clause-good : goal.returns-clause-good

@@ -1,7 +1,7 @@
 use Rattle.stm_core.specs.declared.events.Event.TheVariants.{Begin, Advance, Commit}
 use Rattle.stm_core.specs.CoreHeld.{core_at, core_limits}
 use Rattle.stm_core.proofs.Advancing.{dry_world}
-use Rattle.stm_core.proofs.Calling.{below, left}
+use Rattle.stm_core.proofs.Calling.{below}
 use Rattle.stm_core.proofs.EventSteps.{may_now}
 use Rattle.stm_core.proofs.transactions.Core.make.Goals as goal
 

@@ -1,4 +1,4 @@
-use Rattle.std.proofs.Common.{rules, arith, ◌≡◌}
+use Rattle.std.proofs.Common.{rules, arith}
 use Rattle.stm_core.specs.CoreHeld.{core_at, core_client, core_limits}
 use Rattle.stm_core.proofs.Calling.{same_then}
 use Rattle.stm_core.proofs.EventSteps.{turn, ended}
