@@ -8,7 +8,7 @@ ghost use Rattle.stm_core.specs.ScriptCore.{IsGoodScriptCore};
 use crate::{Advance, BeginError, Core, Event, Reply, RunState, Slot};
 use lock_run::{Act, Acts, History, LockRun, Script, Turn};
 use py_data::{Addr, Conflict, Side, Value};
-use seg_store::PlainStore;
+use seg_store::{PlainStore, SegStore};
 use std::alloc::Global;
 use std::process::Abort;
 use std::test;
@@ -136,6 +136,14 @@ fn seen(rt: &impl Abort, core: &MemCore<'_>, k: u8, place: usize) -> i64 {
         Some(Value::Int(n)) => *n,
         _ => panic!(rt; "no number"),
     }
+}
+
+/// What a segment has in hand.
+fn slot(rt: &impl Abort, core: &MemCore<'_>, k: u8) -> Slot
+    requires { IsGoodScriptCore core.now }
+{
+    assert!(rt; k < core.store().segments());
+    core.slot(k)
 }
 
 /// The side of a transaction that isn't solo.
@@ -287,7 +295,13 @@ fn calls_are_refused(rt: HostRuntime) -> Tested {
         Reply::Advanced(Advance::NeedSolo(0)),
         Reply::Nothing,
     ];
-    play(&rt, &mut core, &list, &wanted)
+    play(&rt, &mut core, &list, &wanted)?;
+    assert_eq!(&rt;
+        (committed(&rt, &core, 0), committed(&rt, &core, 1)),
+        (0, 0)
+    );
+    assert_eq!(&rt; core.history().len(), 1);
+    Ok(())
 }
 
 /// With the budget's steps in the history no transaction begins.
@@ -297,7 +311,12 @@ fn budget_is_kept(rt: HostRuntime) -> Tested {
     let mut core = begun(&rt, rt.alloc(), &client, 1)?;
     assert!(&rt; core.outcome() == RunState::Spent);
     let wanted = [Reply::Refused(BeginError::AtBudget)];
-    play(&rt, &mut core, &[Event::Begin(0, 1)], &wanted)
+    play(&rt, &mut core, &[Event::Begin(0, 1)], &wanted)?;
+    assert_eq!(&rt;
+        (committed(&rt, &core, 0), committed(&rt, &core, 1)),
+        (0, 0)
+    );
+    Ok(())
 }
 
 /// How a core stands while a thread runs, and when all have ended.
@@ -310,6 +329,13 @@ fn stands_and_ends(rt: HostRuntime) -> Tested {
     let list = [Event::Begin(2, 1), Event::Advance(2, 1)];
     let wanted = [Reply::Begun, Reply::Advanced(Advance::Ended(1))];
     play(&rt, &mut core, &list, &wanted)?;
+    let running = Slot::Running {
+        thread: 1,
+        steps: 1,
+        solo: false,
+    };
+    assert!(&rt; slot(&rt, &core, 2) == running);
+    assert!(&rt; slot(&rt, &core, 0) == Slot::Idle);
     assert!(&rt; core.next_ready() == Some(2));
     assert!(&rt; core.outcome() == RunState::Running);
     let list = [

@@ -1,6 +1,4 @@
 //! The transactional core, as its callers have it.
-ghost use Rattle.std.specs.Prelude.{◌≡◌, false};
-
 use crate::answers::{Advance, AdvanceError};
 use crate::begin::BeginError;
 use crate::commit::Commit;
