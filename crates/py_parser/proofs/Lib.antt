@@ -29,3 +29,4 @@ mod Bodied
 mod NoEnd
 mod Results
 mod Ends
+mod Lined
