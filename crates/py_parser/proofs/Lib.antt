@@ -30,3 +30,5 @@ mod NoEnd
 mod Results
 mod Ends
 mod Lined
+mod LinedKinds
+mod LinedText

@@ -51,12 +51,12 @@ MayClose Start = Unit {0}
 MayClose Dedented = Unit {0}
 MayClose _ = ⊥
 
--- Of one lexeme of this kind and line, after this line, inside so many blocks: what is asked of it, of those after it, and of the last.
+-- Of one lexeme of this kind and line, after this line, inside so many blocks: what is asked of it, of those after it, and of the last. Those that lay lines out have no line.
 abbrev pub Stands : TokenKind → ℕ → ℕ → ℕ → Stand → (ℕ → ℕ → Stand → Type 0) → Type 0 → Type 0
-Stands Newline at line depth s rest last = (s ≡ Within 0) × rest (line + 1) depth Start
-Stands Indent at line depth s rest last = (s ≡ Start) × rest line (depth + 1) Indented
-Stands Dedent at line depth s rest last = MayClose s × (0 < depth) × rest line (depth - 1) Dedented
-Stands End at line depth s rest last = MayClose s × (depth ≡ 0) × last
+Stands Newline at line depth s rest last = (s ≡ Within 0) × rest (line + 1) depth Start × (at ≡ 0)
+Stands Indent at line depth s rest last = (s ≡ Start) × rest line (depth + 1) Indented × (at ≡ 0)
+Stands Dedent at line depth s rest last = MayClose s × (0 < depth) × rest line (depth - 1) Dedented × (at ≡ 0)
+Stands End at line depth s rest last = MayClose s × (depth ≡ 0) × last × (at ≡ 0)
 Stands (Name bs) at line depth s rest last = (line ≤ at) × IsWord (Name bs) × rest at depth (Within (brackets s))
 Stands (Keyword n) at line depth s rest last = (line ≤ at) × IsWord (Keyword n) × rest at depth (Within (brackets s))
 Stands (Int n) at line depth s rest last = (line ≤ at) × IsWord (Int n) × rest at depth (Within (brackets s))
