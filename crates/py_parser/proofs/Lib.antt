@@ -32,3 +32,13 @@ mod Ends
 mod Lined
 mod LinedKinds
 mod LinedText
+mod WrittenRows
+mod WrittenTables
+mod WrittenFronts
+mod WrittenNames
+mod WrittenNumbers
+mod WrittenStrings
+mod WrittenWords
+mod WrittenSteps
+mod WrittenAgain
+mod WrittenText
