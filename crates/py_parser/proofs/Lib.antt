@@ -32,13 +32,3 @@ mod Ends
 mod Lined
 mod LinedKinds
 mod LinedText
-mod WrittenRows
-mod WrittenTables
-mod WrittenFronts
-mod WrittenNames
-mod WrittenNumbers
-mod WrittenStrings
-mod WrittenWords
-mod WrittenSteps
-mod WrittenAgain
-mod WrittenText
