@@ -12,6 +12,7 @@ use Rattle.py_tree.specs.declared.expr.Named.{Named}
 use Rattle.py_tree.specs.declared.expr.Pair.{Pair}
 use Rattle.py_tree.specs.declared.expr.Trailer.TheVariants as t
 use Rattle.py_tree.specs.declared.writer.Writer.{Writer}
+use Rattle.py_tree.specs.Canonical.{all, ended, trailing}
 use Rattle.py_tree.specs.Lexeme.{Lexeme, lexeme}
 use Rattle.py_tree.specs.Spelling.{Words, led, commas, all_words, round, tuple_words, words, words_trailer, words_named, words_pair, words_link, operator_words}
 use Rattle.py_tree.specs.Writing.{joints}
@@ -82,7 +83,11 @@ tuple_spelled es = words_tuple es ∙ ap round (lone words es)
 pub call_spelled : (es : List Expr) (ns : List Named) → words_trailer (t.Call es ns) ≡ round (commas (map words es) ++ listed (not (length es == 0)) (map words_named ns))
 call_spelled es ns = words_call es ns ∙ ap round (both_lists words es (map words_named ns))
 
-pub ruleset spelled = (words_name, words_int, words_str, words_group, tuple_spelled, words_list, words_dict, words_trail, words_power, words_unary, words_chain, words_not, words_choice, words_attribute, words_index, words_slice, call_spelled, spell_append)
+pub trailing_is : (b : Bool) → trailing b ≡ comma_if b
+trailing_is true = refl
+trailing_is false = refl
+
+pub ruleset spelled = (words_name, words_int, words_str, words_group, tuple_spelled, words_list, words_dict, words_trail, words_power, words_unary, words_chain, words_not, words_choice, words_attribute, words_index, words_slice, call_spelled, trailing_is, spell_append)
 
 -- ---- what stands in lists
 
@@ -99,3 +104,14 @@ named_spelled line w a b u n name is e f g =
 pub link_spelled : (line : ℕ) (w a u : Writer) (l : Link) → a ≡ spell line w (operator_words l.operator) → u ≡ spell line a (words l.operand) → u ≡ spell line w (words_link l)
 link_spelled line w a u l e f =
     f ∙ (ap (λ z. spell line z (words l.operand)) e ∙ sym (ap (spell line w) (words_link_is l) ∙ spell_append line w (operator_words l.operator) (words l.operand)))
+
+-- ---- statements
+
+-- each with a word after it
+pub ended_more : (line : ℕ) (w v u total : Writer) (k : TokenKind) (xs : List Expr) (i : ℕ) (x : Expr) → i < length xs → x ≡ get_or xs i x → v ≡ spell line w (words x) → u ≡ put v (lexeme k line) →
+    spell line w (ended k (all (drop i xs))) ≡ total → spell line u (ended k (all (drop (i + 1) xs))) ≡ total
+ended_more line w v u total k xs i x l e p q h =
+    let rest = ended k (all (drop (i + 1) xs)) in
+    ap (λ z. spell line z rest) (q ∙ ap (λ z. put z (lexeme k line)) p)
+    ∙ (sym (spell_append line w (words x) (k ∷ rest))
+    ∙ (sym (ap (λ z. spell line w (ended k (all z))) (next_item xs i x l e)) ∙ h))

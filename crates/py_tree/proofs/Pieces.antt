@@ -18,6 +18,7 @@ use Rattle.py_tree.specs.declared.stmt.Stmt.TheFolds.{fold-Arm, fold-Clause, fol
 use Rattle.py_tree.specs.Lexeme.{Lexeme}
 use Rattle.py_tree.specs.Spelling.{commas, round, words}
 use Rattle.py_tree.specs.Canonical.{Piece, Simple, Compound, block_lexemes, all, ended, expr_or, led_or, assigning, trailing, name_words, imported_words, param_words, base_words, head, Headless, clauses, arms, all_lexemes, stmt_piece, arm_lexemes, clause_lexemes, handler_lexemes, piece, pieces}
+pub use Rattle.py_tree.specs.Clauses.{lexemes_arm, lexemes_arms, lexemes_if, lexemes_clause, lexemes_clause_or, lexemes_handler, lexemes_handlers}
 
 -- ---- simple statements
 
@@ -78,33 +79,6 @@ unfolding piece
 piece_from l m is = ap piece (sym (s.rolls-From l m is)) ∙ fold-roll-Stmt Piece Headless Headless (List Lexeme) stmt_piece arm_lexemes clause_lexemes handler_lexemes (open'.From l m is)
 
 -- ---- clauses
-
--- an arm after its keyword
-abbrev pub lexemes_arm : TokenKind → Arm → List Lexeme
-lexemes_arm w a = head a.line (w ∷ words a.test) ++ block_lexemes a.line (pieces a.body)
-
-abbrev pub lexemes_arms : TokenKind → List Arm → List Lexeme
-lexemes_arms w [] = []
-lexemes_arms w (a ∷ as') = lexemes_arm w a ++ lexemes_arms w as'
-
--- `if` and what follows
-abbrev pub lexemes_if : List Arm → List Lexeme
-lexemes_if [] = []
-lexemes_if (a ∷ as') = lexemes_arm (k.Keyword keyword.IF) a ++ lexemes_arms (k.Keyword keyword.ELIF) as'
-
-abbrev pub lexemes_clause : TokenKind → Clause → List Lexeme
-lexemes_clause w c = head c.line (w ∷ []) ++ block_lexemes c.line (pieces c.body)
-
-abbrev pub lexemes_clause_or : TokenKind → Option Clause → List Lexeme
-lexemes_clause_or w None = []
-lexemes_clause_or w (Some c) = lexemes_clause w c
-
-abbrev pub lexemes_handler : Handler → List Lexeme
-lexemes_handler h = head h.line (k.Keyword keyword.EXCEPT ∷ expr_or h.test ++ led_or (k.Keyword keyword.AS) h.target) ++ block_lexemes h.line (pieces h.body)
-
-abbrev pub lexemes_handlers : List Handler → List Lexeme
-lexemes_handlers [] = []
-lexemes_handlers (h ∷ hs) = lexemes_handler h ++ lexemes_handlers hs
 
 folded_arm : Arm → Headless
 folded_arm = fold-Arm Piece Headless Headless (List Lexeme) stmt_piece arm_lexemes clause_lexemes handler_lexemes

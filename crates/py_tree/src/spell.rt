@@ -62,7 +62,7 @@ fn sign(w: &mut Writer, line: u32, sign: Sign) -> Result<(), NoMemory>
 }
 
 /// A comma, if it is needed.
-fn separate(w: &mut Writer, line: u32, needed: bool) -> Result<(), NoMemory>
+pub fn separate(w: &mut Writer, line: u32, needed: bool) -> Result<(), NoMemory>
     ensures { OnOk result (w.new ≡ spell line w.old (comma_if needed)) }
 {
     if needed {
