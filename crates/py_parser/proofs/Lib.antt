@@ -42,3 +42,7 @@ mod WrittenWords
 mod WrittenSteps
 mod WrittenAgain
 mod WrittenText
+mod CanonWords
+mod CanonExpr
+mod CanonReads
+mod CanonSimple
