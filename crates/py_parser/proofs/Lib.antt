@@ -32,3 +32,7 @@ mod Ends
 mod Lined
 mod LinedKinds
 mod LinedText
+mod LinedWords
+mod LinedSimple
+mod LinedLaid
+mod LinedBlocks
