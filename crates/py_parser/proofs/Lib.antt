@@ -46,3 +46,7 @@ mod CanonWords
 mod CanonExpr
 mod CanonReads
 mod CanonSimple
+mod LinedWords
+mod LinedSimple
+mod LinedLaid
+mod LinedBlocks

@@ -20,7 +20,7 @@ use Rattle.py_tokens.proofs.Stacks.{before_append, before_nothing}
 use Rattle.py_tree.specs.Laid.{after_word}
 use Rattle.py_tree.specs.Lexeme.{Lexeme, lexeme, lexeme_of, line_kept}
 use Rattle.py_tree.specs.Writing.{joints}
-use Rattle.py_parser.proofs.WrittenRows.{plain, row, ahead, word_for, Spelt, plain-row}
+use Rattle.py_tree.proofs.WrittenRows.{plain, row, ahead, word_for, Spelt, plain-row}
 
 -- ---- from characters to tokens
 

@@ -12,7 +12,7 @@ use Rattle.py_tokens.specs.Numbers.{ten, number_at}
 use Rattle.py_tokens.specs.Strings.{prefix, string_at}
 use Rattle.py_tokens.specs.Names.{name_at}
 use Rattle.py_tokens.specs.Words.{token_word, token_front, word_at}
-use Rattle.py_parser.proofs.WrittenRows.{row, quiet, both}
+use Rattle.py_tree.proofs.WrittenRows.{row, quiet, both}
 
 -- ---- tests of a byte
 

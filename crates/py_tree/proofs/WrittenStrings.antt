@@ -18,8 +18,8 @@ use Rattle.py_tokens.specs.Characters.{character}
 use Rattle.py_tokens.specs.Classes.{holds, next_is}
 use Rattle.py_tokens.specs.Strings.{prefix, quotes, quotes_len, body_len, bad_line, escape_fault, text_of, literal, quoted, string_at}
 use Rattle.py_tokens.specs.Words.{token_word}
-use Rattle.py_parser.proofs.WrittenRows.{row, ahead, is_quiet, quiet, Spelt, entry}
-use Rattle.py_parser.proofs.WrittenFronts.{other, skip, hit, front_string, bytes_row}
+use Rattle.py_tree.proofs.WrittenRows.{row, ahead, is_quiet, quiet, Spelt, entry}
+use Rattle.py_tree.proofs.WrittenFronts.{other, skip, hit, front_string, bytes_row}
 
 -- ---- one byte
 

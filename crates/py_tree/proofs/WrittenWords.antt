@@ -5,11 +5,11 @@ use Rattle.py_tokens.specs.declared.token.TokenKind.{TokenKind}
 use Rattle.py_tokens.specs.declared.token.TokenKind.TheVariants as k
 use Rattle.py_tree.specs.Laid.{IsWord}
 use Rattle.py_tree.specs.Writing.{spelling}
-use Rattle.py_parser.proofs.WrittenRows.{Spelt}
-use Rattle.py_parser.proofs.WrittenNames.{spelt_name}
-use Rattle.py_parser.proofs.WrittenNumbers.{spelt_int}
-use Rattle.py_parser.proofs.WrittenStrings.{spelt_string}
-use Rattle.py_parser.proofs.WrittenTables.{spelt_keyword, spelt_operator}
+use Rattle.py_tree.proofs.WrittenRows.{Spelt}
+use Rattle.py_tree.proofs.WrittenNames.{spelt_name}
+use Rattle.py_tree.proofs.WrittenNumbers.{spelt_int}
+use Rattle.py_tree.proofs.WrittenStrings.{spelt_string}
+use Rattle.py_tree.proofs.WrittenTables.{spelt_keyword, spelt_operator}
 
 pub spelt : (kind : TokenKind) → IsWord kind → Spelt kind (spelling kind)
 spelt (k.Name bs) h = spelt_name bs h.0 h.1

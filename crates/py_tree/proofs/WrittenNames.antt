@@ -11,8 +11,8 @@ use Rattle.py_tokens.specs.Names.{word_number, name_kind, named, name_at}
 use Rattle.py_tokens.specs.Tables.{keywords}
 use Rattle.py_tokens.specs.Words.{token_word}
 use Rattle.py_tree.specs.Laid.{is_name}
-use Rattle.py_parser.proofs.WrittenRows.{row, Spelt, entry, both}
-use Rattle.py_parser.proofs.WrittenFronts.{front_name, quiet_by, bytes_row, run_row, after_row}
+use Rattle.py_tree.proofs.WrittenRows.{row, Spelt, entry, both}
+use Rattle.py_tree.proofs.WrittenFronts.{front_name, quiet_by, bytes_row, run_row, after_row}
 
 name_row : (line' at line from to later : ℕ) (bs : List ℕ) (rest : List Character) → list_all (holds class.Name) bs ≡ true →
     name_at line' (row at line bs ++ character 32 from to later ∷ rest) ≡ Ok (name_kind (word_number keywords bs) bs, character 32 from to later ∷ rest)

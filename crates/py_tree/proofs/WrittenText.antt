@@ -14,11 +14,11 @@ use Rattle.py_tree.specs.Laid.{Stand, IsWord, brackets, after_word, Stands, IsLa
 use Rattle.py_tree.specs.Laid.Stand.{Start, Within}
 use Rattle.py_tree.specs.Lexeme.{Lexeme, lexeme, lexeme_of}
 use Rattle.py_tree.specs.Writing.{spelling, Pen, pen, joints, gap, worded, written, first_pen}
-use Rattle.py_parser.proofs.WrittenRows.{plain, is_quiet, quiet, both, quiet_byte}
-use Rattle.py_parser.proofs.WrittenFronts.{skip}
-use Rattle.py_parser.proofs.WrittenWords.{spelt}
-use Rattle.py_parser.proofs.WrittenSteps.{Comes}
-use Rattle.py_parser.proofs.WrittenAgain.{again}
+use Rattle.py_tree.proofs.WrittenRows.{plain, is_quiet, quiet, both, quiet_byte}
+use Rattle.py_tree.proofs.WrittenFronts.{skip}
+use Rattle.py_tree.proofs.WrittenWords.{spelt}
+use Rattle.py_tree.proofs.WrittenSteps.{Comes}
+use Rattle.py_tree.proofs.WrittenAgain.{again}
 
 -- ---- bytes
 

@@ -14,9 +14,9 @@ use Rattle.py_tree.specs.Laid.{Stand, IsWord, brackets, after_word, MayClose, St
 use Rattle.py_tree.specs.Laid.Stand.{Start, Indented, Dedented, Within}
 use Rattle.py_tree.specs.Lexeme.{Lexeme, lexeme, lexeme_of, line_kept}
 use Rattle.py_tree.specs.Writing.{spelling, pen, joints, worded, written}
-use Rattle.py_parser.proofs.WrittenFronts.{skip}
-use Rattle.py_parser.proofs.WrittenWords.{spelt}
-use Rattle.py_parser.proofs.WrittenSteps.{Text, Turns, comes_nothing, text_space, text_newline, text_word, text_first, past_ends, past_blanks, past_joints}
+use Rattle.py_tree.proofs.WrittenFronts.{skip}
+use Rattle.py_tree.proofs.WrittenWords.{spelt}
+use Rattle.py_tree.proofs.WrittenSteps.{Text, Turns, comes_nothing, text_space, text_newline, text_word, text_first, past_ends, past_blanks, past_joints}
 
 -- ---- blocks that are open
 

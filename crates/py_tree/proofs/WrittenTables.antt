@@ -9,7 +9,7 @@ use Rattle.py_tokens.specs.Tables.{keywords, operators}
 use Rattle.py_tokens.specs.Words.{word_at}
 use Rattle.py_tree.specs.Writing.{word_of}
 use Rattle.py_tree.specs.Laid.{has_number}
-use Rattle.py_parser.proofs.WrittenRows.{Spelt, entry}
+use Rattle.py_tree.proofs.WrittenRows.{Spelt, entry}
 
 -- each word of a table is read as a token of its number
 abbrev EachSpelt : (ℕ → TokenKind) → List (List ℕ × ℕ) → Type 0

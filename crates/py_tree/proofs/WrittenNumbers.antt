@@ -14,8 +14,8 @@ use Rattle.py_tokens.specs.Characters.{character}
 use Rattle.py_tokens.specs.Classes.{holds, is_name_start, next_is}
 use Rattle.py_tokens.specs.Numbers.{ten, int_of, after_point, after_exponent, float, whole, number_at}
 use Rattle.py_tokens.specs.Words.{token_word}
-use Rattle.py_parser.proofs.WrittenRows.{row, Spelt, entry, both}
-use Rattle.py_parser.proofs.WrittenFronts.{skip, hit, front_number, quiet_by, bytes_row, run_row, after_row}
+use Rattle.py_tree.proofs.WrittenRows.{row, Spelt, entry, both}
+use Rattle.py_tree.proofs.WrittenFronts.{skip, hit, front_number, quiet_by, bytes_row, run_row, after_row}
 
 -- ---- digits
 
