@@ -29,9 +29,6 @@ mod Bodied
 mod NoEnd
 mod Results
 mod Ends
-mod Lined
-mod LinedKinds
-mod LinedText
 mod LinedWords
 mod LinedSimple
 mod LinedLaid
