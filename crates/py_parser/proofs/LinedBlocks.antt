@@ -27,9 +27,9 @@ use Rattle.py_parser.specs.Words.{line_of}
 use Rattle.py_parser.specs.Statements as S
 use Rattle.py_parser.specs.Statements.{Line, Parameter, Parameters, Params, Base, Caught, Statement, Suite, Block, Elifs, Else, Finally, Excepts, Compound, Body, IsModule}
 use Rattle.py_parser.specs.Grammar.{Marks}
-use Rattle.py_parser.proofs.Lined.{IsLined, AllKept, lined-le, lined-tail, lined-after, kept-front, kept-after}
-use Rattle.py_parser.proofs.LinedKinds.{Bytes}
-use Rattle.py_parser.proofs.LinedText.{lined_text, kept_text}
+use Rattle.py_tree.proofs.Lined.{IsLined, AllKept, lined-le, lined-tail, lined-after, kept-front, kept-after}
+use Rattle.py_tree.proofs.LinedKinds.{Bytes}
+use Rattle.py_tree.proofs.LinedText.{lined_text, kept_text}
 use Rattle.py_parser.proofs.LinedWords.{Even, Phrase, Evens, even_nil, even_cons, even2, phrase_cons, phrase_round, even_commas, phrase_Is, phrase_Exprs, even_Maybe}
 use Rattle.py_parser.proofs.LinedSimple.{Starts, starts_append, line_append, lined_start, phrase_Target, phrase_Loops}
 use Rattle.py_parser.proofs.LinedLaid.{regroup, clause_laid, close_brackets, Ready, starts_Line, line_begins, After, line_laid}

@@ -16,7 +16,7 @@ use Rattle.py_parser.specs.Words.{line_of}
 use Rattle.py_parser.specs.Statements as S
 use Rattle.py_parser.specs.Statements.{Line}
 use Rattle.py_parser.specs.Grammar.{Marks}
-use Rattle.py_parser.proofs.Lined.{IsLined, AllKept, kept-front, kept-after}
+use Rattle.py_tree.proofs.Lined.{IsLined, AllKept, kept-front, kept-after}
 use Rattle.py_parser.proofs.LinedWords.{AllWords, after_words, is_some, Phrase, even_nil, even_cons, phrase2}
 use Rattle.py_parser.proofs.LinedSimple.{Starts, starts_append, line_append, lined_start, starts_Simple, IsSimple, simple_is}
 

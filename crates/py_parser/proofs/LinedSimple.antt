@@ -25,7 +25,7 @@ use Rattle.py_parser.specs.Grammar as G
 use Rattle.py_parser.specs.Grammar.{Marks, Is, Strings, Exprs, Commas}
 use Rattle.py_parser.specs.Statements as S
 use Rattle.py_parser.specs.Statements.{Target, Targets, Loops, Equals, Names, Renamed, Imports, Simple}
-use Rattle.py_parser.proofs.Lined.{lined_kind, IsLined, lined-after, AllKept, kept-front, kept-after}
+use Rattle.py_tree.proofs.Lined.{lined_kind, IsLined, lined-after, AllKept, kept-front, kept-after}
 use Rattle.py_parser.proofs.LinedWords.{Even, Phrase, is_some, even_nil, even_cons, even2, phrase_cons, phrase2, phrase_as, phrase_round, Evens, even_commas, even_tuple, phrase_Is, phrase_Exprs, evens_Tests}
 
 -- ---- the first token

@@ -24,7 +24,7 @@ use Rattle.py_tree.proofs.Spellings.{words_name, words_int, words_str, words_gro
 use Rattle.py_parser.specs.Words.{spelled}
 use Rattle.py_parser.specs.Grammar as G
 use Rattle.py_parser.specs.Grammar.{Marks, Is, Strings, Tests, Commas, Exprs, Pairs, Links, Trailers, Trails, Maybe, Args}
-use Rattle.py_parser.proofs.Lined.{AllKept, kept-front, kept-after}
+use Rattle.py_tree.proofs.Lined.{AllKept, kept-front, kept-after}
 
 -- ---- words
 
