@@ -92,7 +92,7 @@ group_of f (enclosed p q s) = G.Is.group p q (f _ s)
 unit_of : {ts : List Token} → Two c.open_round c.close_round ts → Is None 0 (e.Tuple []) ts
 unit_of (two p q) = G.Is.unit None p q
 
-round_of : {es : List Expr} {ts : List Token} → Again (tuple_words (map words es)) (Commas None es) → Enclosed c.open_round c.close_round (tuple_words (map words es)) ts → Is None 0 (e.Tuple es) ts
+pub round_of : {es : List Expr} {ts : List Token} → Again (tuple_words (map words es)) (Commas None es) → Enclosed c.open_round c.close_round (tuple_words (map words es)) ts → Is None 0 (e.Tuple es) ts
 round_of f (enclosed p q s) = G.Is.round p q (f _ s)
 
 no_list_of : {ts : List Token} → Two c.open_square c.close_square ts → Is None 0 (e.List []) ts
@@ -155,13 +155,13 @@ args_led (G.Args.named n p q h) = refl
 args_led (G.Args.named_comma n p q r h) = refl
 args_led (G.Args.more_named n p q r h i) = refl
 
-more_tests_of : {a : Expr} {es : List Expr} {ts : List Token} → Again (words a) (Is None 14 a) → Again (commas (map words es)) (Tests None es false) → Parted (words a) c.comma (commas (map words es)) ts → Tests None (a ∷ es) false ts
+pub more_tests_of : {a : Expr} {es : List Expr} {ts : List Token} → Again (words a) (Is None 14 a) → Again (commas (map words es)) (Tests None es false) → Parted (words a) c.comma (commas (map words es)) ts → Tests None (a ∷ es) false ts
 more_tests_of f g (parted p s t) = G.Tests.more_tests p (f _ s) (g _ t)
 
-lone_of : {a : Expr} {ts : List Token} → Again (words a) (Is None 14 a) → Closed (words a) c.comma ts → Commas None (a ∷ []) ts
+pub lone_of : {a : Expr} {ts : List Token} → Again (words a) (Is None 14 a) → Closed (words a) c.comma ts → Commas None (a ∷ []) ts
 lone_of f (closed p s) = G.Commas.lone p (f _ s)
 
-several_of : {a : Expr} {es : List Expr} {ts : List Token} → Again (words a) (Is None 14 a) → Again (commas (map words es)) (Tests None es false) → Parted (words a) c.comma (commas (map words es)) ts → Commas None (a ∷ es) ts
+pub several_of : {a : Expr} {es : List Expr} {ts : List Token} → Again (words a) (Is None 14 a) → Again (commas (map words es)) (Tests None es false) → Parted (words a) c.comma (commas (map words es)) ts → Commas None (a ∷ es) ts
 several_of f g (parted p s t) = G.Commas.several p (f _ s) (g _ t)
 
 -- ---- pairs, links, trailers, arguments

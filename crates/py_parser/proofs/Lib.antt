@@ -37,3 +37,6 @@ mod CanonWords
 mod CanonExpr
 mod CanonReads
 mod CanonSimple
+mod CanonSteps
+mod CanonHeads
+mod CanonBlocks
