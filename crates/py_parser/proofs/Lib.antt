@@ -40,3 +40,4 @@ mod CanonSimple
 mod CanonSteps
 mod CanonHeads
 mod CanonBlocks
+mod CanonLaw
