@@ -22,7 +22,7 @@ use Rattle.py_tokens.specs.Names.{word_number, name_kind, named, name_at, operat
 use Rattle.py_tokens.specs.Tables.{keywords}
 use Rattle.py_tokens.proofs.InOrder.{IsInLine}
 use Rattle.py_tree.specs.Laid.{is_name, has_number}
-use Rattle.py_parser.proofs.Lined.{IsKept}
+use Rattle.py_tree.proofs.Lined.{IsKept}
 
 abbrev pub Bytes : List ℕ → Type 0
 Bytes bs = All (λ b. b < 256) bs

@@ -24,8 +24,8 @@ use Rattle.py_tokens.specs.Layout.{lines, lines_laid, tokens_in, joined, after_b
 use Rattle.py_tokens.specs.Tokens.{to_come, took, depth_of}
 use Rattle.py_tokens.proofs.InOrder.{IsInLine}
 use Rattle.py_tokens.proofs.Laying.{follows_opens, follows_closes, follows_plain}
-use Rattle.py_parser.proofs.Lined.{lined_kind, IsLined, lined-le, IsKept, AllKept}
-use Rattle.py_parser.proofs.LinedKinds.{Bytes, Chars, chars-le, chars-drop, chars-end, line_after-more, ReadGood, good_name, good_number, good_string, operator_at-has}
+use Rattle.py_tree.proofs.Lined.{lined_kind, IsLined, lined-le, IsKept, AllKept}
+use Rattle.py_tree.proofs.LinedKinds.{Bytes, Chars, chars-le, chars-drop, chars-end, line_after-more, ReadGood, good_name, good_number, good_string, operator_at-has}
 
 -- ---- words
 
