@@ -1,5 +1,5 @@
 -- The lexemes of clauses and of statements one after another, as they are written. States `docs/LANGUAGE.md`, "The canonical text".
-use Rattle.std.specs.Prelude.{ℕ, Bool, true, false, ◌==◌, ◌||◌, if◌then◌else◌, List, [], ◌∷◌, ◌++◌, Option, Some, None}
+use Rattle.std.specs.Prelude.{ℕ, Bool, ◌==◌, ◌||◌, if◌then◌else◌, List, [], ◌∷◌, ◌++◌, Option, Some, None}
 use Rattle.py_tokens.specs.declared.keyword.TheConstants as keyword
 use Rattle.py_tokens.specs.declared.operator.TheConstants as operator
 use Rattle.py_tokens.specs.declared.token.TokenKind.{TokenKind}

@@ -205,16 +205,11 @@ pub fn import(w: &mut Writer, line: u32, is: &[Imported]) -> Result<(), NoMemory
     all_imported(w, line, is)
 }
 
-pub fn import_from(
-    w: &mut Writer,
-    line: u32,
-    module: &[u8],
-    is: &[Imported],
-) -> Result<(), NoMemory>
-    ensures { OnOk result (w.new ≡ spell line w.old (k.Keyword kw.FROM ∷ k.Name module.now ∷ k.Keyword kw.IMPORT ∷ commas (map imported_words is.now))) }
+pub fn import_from(w: &mut Writer, line: u32, from: &[u8], is: &[Imported]) -> Result<(), NoMemory>
+    ensures { OnOk result (w.new ≡ spell line w.old (k.Keyword kw.FROM ∷ k.Name from.now ∷ k.Keyword kw.IMPORT ∷ commas (map imported_words is.now))) }
 {
     w.keyword(line, keyword::FROM)?;
-    w.name(line, module)?;
+    w.name(line, from)?;
     import(w, line, is)
 }
 

@@ -171,4 +171,12 @@ impl Writer {
     {
         self.depth = self.depth.saturating_sub(1);
     }
+
+    /// What is written.
+    pub fn into_text(self) -> Bytes
+        ensures { result ≡ self.text }
+    {
+        let Writer { text, .. } = self;
+        text
+    }
 }
