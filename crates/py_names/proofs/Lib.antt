@@ -1,0 +1,4 @@
+mod Said
+mod Says
+mod NameLists
+mod Added

@@ -1,0 +1,4 @@
+pub mod Outline
+pub mod Roles
+pub mod Scopes
+pub mod Resolves
