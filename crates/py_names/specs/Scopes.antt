@@ -93,14 +93,27 @@ pub record Names : Type 0 where
   pub declared : List (List ℕ)
   pub parameters : List (List ℕ)
 
-abbrev pub names_of : List Event → Names
-names_of es = record {
-  kind = kind_of Module es;
-  mentioned = noted_all mention [] es;
-  bound = noted_all binding [] es;
-  declared = noted_all declaration [] es;
-  parameters = noted_all parameter [] es;
+abbrev pub names_after : Names → Event → Names
+names_after b e = record {
+  kind = kind_after b.kind e;
+  mentioned = noted b.mentioned (mention e);
+  bound = noted b.bound (binding e);
+  declared = noted b.declared (declaration e);
+  parameters = noted b.parameters (parameter e);
 }
+
+-- the names of a body after some more events
+abbrev pub names_from : Names → List Event → Names
+names_from b es = record {
+  kind = kind_of b.kind es;
+  mentioned = noted_all mention b.mentioned es;
+  bound = noted_all binding b.bound es;
+  declared = noted_all declaration b.declared es;
+  parameters = noted_all parameter b.parameters es;
+}
+
+abbrev pub no_names : Names
+no_names = record { kind = Module; mentioned = []; bound = []; declared = []; parameters = [] }
 
 -- ---- scopes
 
@@ -124,7 +137,7 @@ scope_of b = record { locals = filter (is_local b) b.mentioned; globals = filter
 
 -- the names of a body of a module that says this
 abbrev pub body : List Event → ℕ → Names
-body es k = names_of (said_in k (placed [] 0 es))
+body es k = names_from no_names (said_in k (placed [] 0 es))
 
 -- one scope for each body, in the order of the bodies
 pub record AreScopes (es : List Event) (scopes : List Scope) : Type 0 where
@@ -143,16 +156,13 @@ abbrev pub is_parameter : (ℕ → Names) → List ℕ → List ℕ → Bool
 is_parameter b [] n = false
 is_parameter b (k ∷ outer) n = has n (b k).parameters
 
--- what a place is refused for
-abbrev pub fault_at : (ℕ → Names) → Placed → Option Refusal
-fault_at b p = of p.event
-  where
-    of : Event → Option Refusal
-    of (Misplaced line) = Some (refusal.Misplaced line)
-    of (Doubled line) = Some (refusal.Doubled line)
-    of (Declares line n) = if is_parameter b p.inside n then Some (refusal.Misplaced line) else None
-    of (Uses line n) = if is_closure b p.inside n then Some (refusal.Closure line) else None
-    of _ = None
+-- what an event is refused for, inside these bodies
+abbrev pub refused : (ℕ → Names) → List ℕ → Event → Option Refusal
+refused b inside (Misplaced line) = Some (refusal.Misplaced line)
+refused b inside (Doubled line) = Some (refusal.Doubled line)
+refused b inside (Declares line n) = if is_parameter b inside n then Some (refusal.Misplaced line) else None
+refused b inside (Uses line n) = if is_closure b inside n then Some (refusal.Closure line) else None
+refused b inside _ = None
 
 abbrev pub first_of : Option Refusal → Option Refusal → Option Refusal
 first_of (Some r) more = Some r
@@ -161,7 +171,7 @@ first_of None more = more
 -- the earliest place that is refused
 abbrev pub first_fault : (ℕ → Names) → List Placed → Option Refusal
 first_fault b [] = None
-first_fault b (p ∷ ps) = first_of (fault_at b p) (first_fault b ps)
+first_fault b (p ∷ ps) = first_of (refused b p.inside p.event) (first_fault b ps)
 
 abbrev pub fault : List Event → Option Refusal
 fault es = first_fault (body es) (placed [] 0 es)

@@ -6,9 +6,11 @@ mod error;
 mod event;
 mod expression;
 mod names;
+mod nest;
 mod outline;
 mod scope;
 mod statement;
+mod table;
 
 pub use error::NameFault;
 pub use scope::{Scope, Scopes, Texts};

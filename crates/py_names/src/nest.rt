@@ -1,5 +1,5 @@
 //! The bodies that stand round a place.
-ghost use Rattle.std.specs.Prelude.{◌≡◌, ◌∷◌, [], drop, OnOk};
+ghost use Rattle.std.specs.Prelude.{◌≡◌, ◌∷◌, [], drop, reverse, MatchOption, OnOk};
 
 use py_data::NoMemory;
 use sqlite_items::Items;
@@ -42,5 +42,13 @@ impl Nest {
         ensures { self.new ≡ drop 1 self.old }
     {
         let _ = self.bodies.pop();
+    }
+
+    /// The innermost body, and those round it, the outermost first.
+    pub fn split(&self) -> Option<(usize, &[usize])>
+        ensures { MatchOption result (self.now ≡ []) (λ p. self.now ≡ p.0 ∷ reverse p.1.now) }
+    {
+        let (last, others) = self.bodies.as_slice().split_last()?;
+        Some((*last, others))
     }
 }

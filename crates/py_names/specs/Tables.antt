@@ -1,0 +1,23 @@
+-- The names of all bodies, event by event, as the code gathers them. It belongs to `Scopes`.
+use Rattle.std.specs.Prelude.{ℕ, List, [], ◌∷◌, ◌++◌, length, get_or, slice_set}
+use Rattle.py_names.specs.declared.event.Event.{Event}
+use Rattle.py_names.specs.declared.event.Event.TheVariants.{Enter, Leave}
+use Rattle.py_names.specs.Scopes.{Names, names_after, no_names, inside_after}
+
+-- the names of a body
+abbrev pub at : List Names → ℕ → Names
+at ts k = get_or ts k no_names
+
+-- with one more event of a body, if it is there
+abbrev pub told : List Names → List ℕ → Event → List Names
+told ts [] e = ts
+told ts (b ∷ bs) e = slice_set ts b (names_after (at ts b) e)
+
+abbrev pub tables_after : List Names → List ℕ → Event → List Names
+tables_after ts inside (Enter k) = ts ++ names_after no_names (Enter k) ∷ []
+tables_after ts inside Leave = ts
+tables_after ts inside e = told ts inside e
+
+abbrev pub tables_by : List Names → List ℕ → List Event → List Names
+tables_by ts inside [] = ts
+tables_by ts inside (e ∷ es) = tables_by (tables_after ts inside e) (inside_after e (length ts) inside) es
