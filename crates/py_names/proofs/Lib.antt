@@ -2,3 +2,5 @@ mod Said
 mod Says
 mod NameLists
 mod Added
+mod Tables
+mod Closures

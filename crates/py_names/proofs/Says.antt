@@ -13,10 +13,9 @@ use Rattle.py_tree.specs.declared.stmt.Stmt.TheOpen as open'
 use Rattle.py_tree.specs.declared.stmt.Stmt.TheFolds.{fold-Arm, fold-Clause, fold-Handler, fold-roll-Stmt, fold_out-Arm, fold_out-Clause, fold_out-Handler}
 use Rattle.py_tree.proofs.Talls.{tall_if, tall_while, tall_for, tall_try, tall_def, tall_class}
 use Rattle.py_names.specs.declared.event.BodyKind.TheVariants as kind
-use Rattle.py_names.specs.declared.event.Event.{Event}
 use Rattle.py_names.specs.declared.event.Event.TheVariants.{Enter, Leave, Declares}
 use Rattle.py_names.specs.declared.statement.Where.{Where}
-use Rattle.py_names.specs.Outline.{joined, bound_name, read, target, read_all, target_all, read_some, target_some, outside, inside_function, inside_loop, inside_finally, inside_clause, only_where, imported, Says, says_all, says_some, parameters, takes, raises, stmt_step, arm_step, clause_step, handler_step, says, says_block, says_arm, says_arms, says_clause, says_handler, says_handlers}
+use Rattle.py_names.specs.Outline.{bound_name, read, target, read_all, target_all, read_some, target_some, outside, inside_function, inside_loop, inside_finally, inside_clause, only_where, imported, Says, says_all, parameters, takes, raises, stmt_step, arm_step, clause_step, handler_step, says, says_block, says_arm, says_arms, says_clause, says_handler, says_handlers}
 
 folded_arm : Arm → Says
 folded_arm = fold-Arm Says Says Says Says stmt_step arm_step clause_step handler_step

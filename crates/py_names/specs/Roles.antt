@@ -1,5 +1,5 @@
 -- What an expression says, by how it stands. It belongs to `Outline`.
-use Rattle.std.specs.Prelude.{ℕ, List, [], ◌∷◌, ◌++◌, Option, Some, None}
+use Rattle.std.specs.Prelude.{ℕ, List, Option}
 use Rattle.py_tree.specs.declared.expr.Expr.{Expr}
 use Rattle.py_names.specs.declared.event.Event.{Event}
 use Rattle.py_names.specs.declared.expression.Role.{Role}

@@ -2,15 +2,19 @@
 //! stand.
 #![tactic(auto)]
 
+mod check;
 mod error;
 mod event;
 mod expression;
+mod gather;
 mod names;
 mod nest;
 mod outline;
+mod resolver;
 mod scope;
 mod statement;
 mod table;
 
 pub use error::NameFault;
+pub use resolver::resolve;
 pub use scope::{Scope, Scopes, Texts};

@@ -1,5 +1,5 @@
 //! Lists of names without repetition.
-ghost use Rattle.std.specs.Prelude.{◌≡◌, [], OnOk, OnErr};
+ghost use Rattle.std.specs.Prelude.{◌≡◌, [], map, OnOk, OnErr};
 ghost use Rattle.py_names.specs.Outline.{has, with_name};
 
 use indexmap::IndexSet;
@@ -47,7 +47,9 @@ impl<'a> NameSet<'a> {
     }
 
     /// The names, in their order.
-    pub fn as_slice(&self) -> &[&'a [u8]] {
+    pub fn as_slice(&self) -> &[&'a [u8]]
+        ensures { map (λ x. x.now) result.now ≡ self.now }
+    {
         self.set.as_slice()
     }
 }

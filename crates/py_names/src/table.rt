@@ -1,13 +1,11 @@
 //! What each body says of names.
-ghost use Rattle.std.specs.Prelude.{◌≡◌, OnOk, filter, IfOk, not, if◌then◌else◌};
+ghost use Rattle.std.specs.Prelude.{◌≡◌, map, OnOk};
 ghost use Rattle.py_names.specs.Outline.{has};
-ghost use Rattle.py_names.specs.Scopes.{is_function, is_global, is_local, names_after, no_names, scope_of};
+ghost use Rattle.py_names.specs.Scopes.{is_function, is_local, names_after, no_names};
 
 use crate::event::{BodyKind, Event};
-use crate::expression::split;
 use crate::names::NameSet;
-use crate::scope::{Scope, Texts};
-use py_data::{Bytes, NoMemory};
+use py_data::NoMemory;
 use std::alloc::Global;
 use std::marker::Model;
 
@@ -110,5 +108,12 @@ impl<'a> Table<'a> {
             BodyKind::Module => false,
             BodyKind::Class => false,
         }
+    }
+
+    /// The names that the body mentions, in the order of first mention.
+    pub fn mentioned(&self) -> &[&'a [u8]]
+        ensures { map (λ x. x.now) result.now ≡ self.now.mentioned }
+    {
+        self.mentioned.as_slice()
     }
 }

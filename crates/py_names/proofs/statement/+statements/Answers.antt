@@ -1,7 +1,7 @@
-use Rattle.std.proofs.Common.{sym, ap, ◌∙◌, arith, ◌≤◌, ◌+◌, ◌*◌, ◌<◌}
+use Rattle.std.proofs.Common.{sym, ap, ◌∙◌, arith}
 use Rattle.std.proofs.lemmas.Grind.{common_steps}
 use Rattle.std.proofs.lemmas.List.{append-nil}
-use Rattle.py_tree.specs.Tall.{tall, talls, tall_clause, tall_handlers}
+use Rattle.py_tree.specs.Tall.{tall, talls, tall_handlers}
 use Rattle.py_tree.proofs.Talls.{tall_for, tall_try}
 use Rattle.py_names.proofs.Added.{two, three, four}
 use Rattle.py_names.proofs.Says.{says_assign, says_augment, says_pass, says_return, says_assert, says_if, says_while, says_for, says_try, says_def, says_class}

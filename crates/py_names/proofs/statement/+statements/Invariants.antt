@@ -1,4 +1,4 @@
-use Rattle.std.proofs.Common.{◌≡◌, ◌++◌, [], ◌+◌, ◌*◌, ◌≤◌, length}
+use Rattle.std.proofs.Common.{◌≡◌, ◌++◌, ◌+◌, ◌*◌, ◌≤◌, length}
 use Rattle.py_tree.specs.Tall.{tall, talls, tall_arm, tall_arms, tall_clause, tall_handlers}
 use Rattle.py_names.specs.Outline.{says_block, says_arms, says_handlers}
 use Rattle.py_names.proofs.statement.+statements.Given as goal

@@ -1,4 +1,4 @@
-use Rattle.std.proofs.Common.{◌≡◌, ◌++◌, [], map, length}
+use Rattle.std.proofs.Common.{◌≡◌, ◌++◌, map, length}
 use Rattle.py_names.specs.declared.event.Event.TheVariants.{Declares}
 use Rattle.py_names.proofs.statement.declares.Given as goal
 

@@ -1,4 +1,4 @@
-use Rattle.std.proofs.Common.{◌≡◌, ◌++◌, [], map, length}
+use Rattle.std.proofs.Common.{◌≡◌, ◌++◌, length}
 use Rattle.py_names.specs.Outline.{imported}
 use Rattle.py_names.proofs.statement.imports.Given as goal
 
