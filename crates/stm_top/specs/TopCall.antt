@@ -1,6 +1,6 @@
 -- What the top call does, and why it answers as it does. States `docs/LANGUAGE.md`, "The top call".
 use Rattle.std.specs.String.{string_bytes}
-use Rattle.std.specs.Prelude.{◌≡◌, ◌≢◌, ◌≤◌, ◌⊎◌, String, ℕ, map, List, [], ◌∷◌, ◌++◌, Option, Result, Ok, Err, Bool, false, codes}
+use Rattle.std.specs.Prelude.{◌≡◌, ◌≢◌, ◌≤◌, ◌⊎◌, String, ℕ, map, List, [], ◌∷◌, ◌++◌, Option, Some, None, Result, Ok, Err, Bool, false, codes}
 use Rattle.std.specs.Str.{bytes_eq}
 use Rattle.py_data.specs.declared.refusal.Refusal.{Refusal}
 use Rattle.py_data.specs.declared.stop.Out.TheVariants.{Output}
@@ -18,6 +18,8 @@ use Rattle.py_parser.specs.declared.fault.Fault.{Fault}
 use Rattle.py_parser.specs.Outcome.{refusal_of}
 use Rattle.py_parser.specs.Refused.{RefusedAt}
 use Rattle.py_parser.specs.Statements.{IsModule}
+use Rattle.py_names.specs.Outline.{outline}
+use Rattle.py_names.specs.Scopes.{fault}
 use Rattle.lock_run.specs.declared.client.Outcome.{Outcome}
 use Rattle.lock_run.specs.declared.client.Life.TheVariants.{Lives}
 use Rattle.lock_run.specs.declared.turn.Turn.{Turn}
@@ -122,14 +124,28 @@ pub record HasNoTree (script : List ℕ) (refusal : Refusal) : Type 0 where
   pub is : refusal ≡ refusal_of fault line
   pub refused : RefusedAt tokens fault line
 
--- it has a tree and the line form
-abbrev pub IsProgram : List ℕ → LineProgram → Type 0
-IsProgram script program = HasTree script × (program_of script ≡ Ok program)
+-- it has this tree
+abbrev pub IsTree : List ℕ → Module → Type 0
+IsTree script tree = (h : HasTree script) × (h.tree ≡ tree)
 
--- why it isn't a program: it has no tokens; or they have no tree; or it has a tree and not the line form
+-- it has a tree in which no name and no statement is refused, so that its bodies have scopes
+pub record HasScopes (script : List ℕ) : Type 0 where
+  pub tree : HasTree script
+  pub allowed : fault (outline tree.tree) ≡ None
+
+-- it has a tree in which a name or a statement is refused, where that shows first
+pub record HasNoScopes (script : List ℕ) (refusal : Refusal) : Type 0 where
+  pub tree : HasTree script
+  pub refused : fault (outline tree.tree) ≡ Some refusal
+
+-- it has scopes and the line form
+abbrev pub IsProgram : List ℕ → LineProgram → Type 0
+IsProgram script program = HasScopes script × (program_of script ≡ Ok program)
+
+-- why it isn't a program: it has no tokens; or they have no tree; or that has no scopes; or it has scopes and not the line form
 abbrev pub NoProgram : List ℕ → Answer → Type 0
-NoProgram script (Refused refusal) = (tokens_of_text script ≡ Err refusal) ⊎ HasNoTree script refusal
-NoProgram script (NotBuilt line) = HasTree script × (program_of script ≡ Err line)
+NoProgram script (Refused refusal) = (tokens_of_text script ≡ Err refusal) ⊎ (HasNoTree script refusal ⊎ HasNoScopes script refusal)
+NoProgram script (NotBuilt line) = HasScopes script × (program_of script ≡ Err line)
 NoProgram script OutOfMemory = Unit {0}
 NoProgram script _ = ⊥
 

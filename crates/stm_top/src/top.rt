@@ -3,7 +3,7 @@ ghost use Rattle.std.specs.Prelude.{◌≡◌, ◌≢◌, ◌≤◌, [], length,
 ghost use Rattle.py_tokens.specs.Layout.{tokens_of_text};
 ghost use Rattle.py_parser.specs.Refused.{EndsOnce};
 ghost use Rattle.stm_top.specs.declared.answer.Answer.TheVariants.{Usage};
-ghost use Rattle.stm_top.specs.TopCall.{devices_of, bytes_of, names_source, HasTree, IsProgram, NoProgram, ProgramEnded, Caused, TextPut, Answered};
+ghost use Rattle.stm_top.specs.TopCall.{devices_of, bytes_of, names_source, HasScopes, IsTree, IsProgram, NoProgram, ProgramEnded, Caused, TextPut, Answered};
 
 use crate::answer::Answer;
 use crate::line_form::{LineError, LineProgram, read_program};
@@ -13,8 +13,10 @@ use crate::status::Status;
 use crate::turns::run_turns;
 use lock_run::{History, LockRun};
 use py_data::{Bytes, Conflicts};
+use py_names::{NameFault, resolve};
 use py_parser::{ParseError, ends_law, parse};
 use py_tokens::{Token, TokenError, tokens};
+use py_tree::Module;
 use std::alloc::Global;
 use stm_io::{Gate, Loader, Sink, Source, TakeError};
 
@@ -94,17 +96,31 @@ fn tokens_of(alloc: Global, script: &[u8]) -> Result<Vec<Token>, Answer>
     }
 }
 
-/// Asks whether a script has a tree, or why it has none. The tree goes.
-fn check_tree(alloc: Global, script: &[u8]) -> Result<(), Answer>
+/// The tree of a script, or why it has none.
+fn tree_of(alloc: Global, script: &[u8]) -> Result<Module, Answer>
     requires { length script.now ≤ 4194304 }
-    ensures tree { OnOk result (HasTree script.now) }
+    ensures tree { IfOk result (IsTree script.now) }
     ensures none { IfErr result (λ answer. NoProgram script.now answer) }
 {
     let found = tokens_of(alloc, script)?;
     match parse(alloc, found.as_slice()) {
-        Ok(_) => Ok(()),
+        Ok(tree) => Ok(tree),
         Err(ParseError::Refused(refusal)) => Err(Answer::Refused { refusal }),
         Err(ParseError::OutOfMemory) => Err(Answer::OutOfMemory),
+    }
+}
+
+/// Asks whether a script has scopes, or why it has none. Its tree and they go.
+fn check_scopes(alloc: Global, script: &[u8]) -> Result<(), Answer>
+    requires { length script.now ≤ 4194304 }
+    ensures scopes { OnOk result (HasScopes script.now) }
+    ensures none { IfErr result (λ answer. NoProgram script.now answer) }
+{
+    let tree = tree_of(alloc, script)?;
+    match resolve(alloc, &tree) {
+        Ok(_) => Ok(()),
+        Err(NameFault::Refused(refusal)) => Err(Answer::Refused { refusal }),
+        Err(NameFault::OutOfMemory) => Err(Answer::OutOfMemory),
     }
 }
 
@@ -114,7 +130,7 @@ fn read_script(alloc: Global, script: &[u8]) -> Result<LineProgram, Answer>
     ensures program { IfOk result (λ program. IsProgram script.now program) }
     ensures none { IfErr result (λ answer. NoProgram script.now answer) }
 {
-    check_tree(alloc, script)?;
+    check_scopes(alloc, script)?;
     match read_program(alloc, script) {
         Ok(program) => Ok(program),
         Err(LineError::Refused { line }) => Err(Answer::NotBuilt { line }),

@@ -1,0 +1,6 @@
+mod Said
+mod Says
+mod NameLists
+mod Added
+mod Tables
+mod Closures
