@@ -1,28 +1,22 @@
 -- What calls and rows leave of what the tests of objects know.
-use Rattle.std.proofs.Common.{◌≡◌, ◌≢◌, ℕ, zero, suc, ◌+◌, ◌<◌, ◌≤◌, eqb, Bool, true, false, cond, ltb, List, [], ◌∷◌, ◌++◌, length, remove, set, Option, Some, None, IsSome, Result, Ok, Err, MatchOption, inl, inr, refl, sym, ap, subst, ◌∙◌, arith, pos}
+use Rattle.std.proofs.Common.{◌≡◌, ℕ, ◌≤◌, eqb, Bool, true, false, cond, List, [], length, Option, Some, None, IsSome, Result, Ok, Err, inl, refl, sym, ap, subst, ◌∙◌, arith}
 use Rattle.std.specs.Prelude.{IfOk, IfSome}
 use Rattle.std.specs.Result.{result_err}
-use Rattle.std.proofs.lemmas.Bool.{cond-true, cond-false, eq-eqb, ne_eqb, eqb-true, cases_lt}
+use Rattle.std.proofs.lemmas.Bool.{eqb-true}
 use Rattle.py_data.specs.declared.value.Addr.{Addr}
 use Rattle.py_data.specs.declared.value.Value.{Value}
-use Rattle.py_data.specs.declared.value.Value.TheVariants.{Unset, None as NoneValue, Bool as BoolValue, Int, Ref, Builtin}
 use Rattle.py_data.specs.declared.value.Kind.{Kind}
-use Rattle.py_data.specs.declared.value.Kind.TheVariants.{Str, List as ListKind, Dict, Iter}
+use Rattle.py_data.specs.declared.value.Kind.TheVariants.{Str, List as ListKind, Dict}
 use Rattle.py_data.specs.declared.stop.Stop.{Stop}
 use Rattle.py_data.specs.declared.record.TheConstants.{LENGTH_LIMIT}
-use Rattle.py_data.specs.declared.record.Got.{Got}
-use Rattle.py_data.specs.Heap.{Heap, Rec, Has, at, put_at, new_rec, with_value, with_push, cut_to, with_pair, without_pair}
-use Rattle.py_data.specs.Shape.{HoldsNoUnset, KindIn, IsKey, ArePairs, is_key_kind, find}
-use Rattle.py_data.specs.Row.{Call, Reply, Row, Ret, Do, Read, Find, SetVal, Push, Truncate, PushPair, DropPair, Make, Start, Put, Take, MidLine, SetMidLine}
+use Rattle.py_data.specs.Heap.{Heap, Rec, at, put_at, new_rec, with_value, with_push, cut_to, with_pair, without_pair}
+use Rattle.py_data.specs.Shape.{HoldsNoUnset, KindIn, ArePairs}
+use Rattle.py_data.specs.Row.{Call, Reply, Row, Read, Find, SetVal, Push, Truncate, PushPair, DropPair, Make, Start, Put, Take, MidLine, SetMidLine}
 use Rattle.py_data.specs.Sense.{Sense, Lawful, Asks, Answers, Effect, Edits, Run, Stopped, Meets, IfThere, IsLive}
 use Rattle.py_data.proofs.Steps.{at-is, put-here, live-after}
 use Rattle.py_data.proofs.Whole.{run_steps}
 use Rattle.obj_seq.specs.Safety.{IsList, IsShown}
-use Rattle.obj_dict.specs.Dict.{set_row, get_row, del_row}
-use Rattle.obj_dict.specs.Listing.{half}
-use Rattle.obj_dict.specs.PairLaws.{ArePaired}
-use Rattle.obj_dict.specs.Laws.{Leaves, HashLaw, GetLaw, SetLaw, NewLaw, FullLaw, DelLaw, LackLaw}
-use Rattle.stm_top.specs.Objects.{HasKind, KindsStay, IsDictAt, IsIterAt, ItersStay, HoldsAny, HoldsList, HoldsDict, HoldsIter, HoldsSequence}
+use Rattle.stm_top.specs.Objects.{HasKind, KindsStay, HoldsAny, HoldsList, HoldsDict, HoldsSequence}
 
 -- ---- kinds
 

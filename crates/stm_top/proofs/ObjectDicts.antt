@@ -1,30 +1,25 @@
 -- What the operations on dictionaries and iterators leave of what the tests of objects know.
-use Rattle.std.proofs.Common.{◌≡◌, ◌≢◌, ℕ, zero, suc, ◌+◌, ◌<◌, ◌≤◌, eqb, Bool, true, false, cond, List, [], ◌∷◌, ◌++◌, length, remove, Option, Some, None, Result, Ok, Err, inl, inr, refl, sym, ap, subst, ◌∙◌, arith, pos, slice_get}
-use Rattle.std.specs.Prelude.{IfOk, ◌⊎◌, slice_set}
-use Rattle.std.proofs.lemmas.Bool.{cond-true, cond-false, eq-eqb, ne_eqb, eqb-true, cases_lt}
-use Rattle.py_data.specs.declared.value.Addr.{Addr}
+use Rattle.std.proofs.Common.{◌≡◌, ◌≢◌, ℕ, zero, suc, ◌+◌, eqb, Bool, true, false, List, [], ◌∷◌, ◌++◌, length, remove, Option, Some, None, Result, Ok, Err, inl, inr, refl, sym, ap, subst, ◌∙◌, arith}
+use Rattle.std.specs.Prelude.{IfOk, ◌⊎◌}
+use Rattle.std.proofs.lemmas.Bool.{eq-eqb, eqb-true, cases_lt}
 use Rattle.py_data.specs.declared.value.Value.{Value}
 use Rattle.py_data.specs.declared.value.Value.TheVariants.{Unset, None as NoneValue, Bool as BoolValue, Int, Ref, Builtin}
 use Rattle.py_data.specs.declared.value.Kind.{Kind}
-use Rattle.py_data.specs.declared.value.Kind.TheVariants.{Str, Tuple, List as ListKind, Dict, Cell, Function, Class, Instance, Method, Iter, Range, Lock, Thread}
+use Rattle.py_data.specs.declared.value.Kind.TheVariants.{Dict, Iter, Range}
 use Rattle.py_data.specs.declared.stop.Stop.{Stop}
 use Rattle.py_data.specs.declared.record.TheConstants.{LENGTH_LIMIT}
 use Rattle.py_data.specs.declared.record.Got.{Got}
-use Rattle.py_data.specs.declared.record.Got.TheVariants.{Is, Raise}
-use Rattle.py_data.specs.Heap.{Heap, Rec, at, put_at, new_rec, with_value}
-use Rattle.py_data.specs.Shape.{KindIn, IsKey, ArePairs, IsShaped, is_key_kind, is_iterable, find}
-use Rattle.py_data.specs.Row.{Row, Ret, Do, Read, SetVal, Make}
-use Rattle.py_data.specs.Sense.{Sense, Lawful, Asks, Answers, Edits, Run, Meets, IfThere}
-use Rattle.py_data.specs.Fault.{size_fault}
-use Rattle.py_data.proofs.Steps.{at-is, put-here, there-is, live-after}
-use Rattle.obj_seq.specs.Iter.{iter_values, iter_row, iter_of, is_iter, make_iter_row, count_of, next_row, next_with, next_over, parts_of, go_or_end, byte_or_end, pick, has_changed, is_str, CanNext, CanNextWith, CanIter, IfRange}
-use Rattle.obj_seq.specs.Safety.{IsIter, IsThere as IsShownValue}
+use Rattle.py_data.specs.Heap.{Heap, Rec}
+use Rattle.py_data.specs.Shape.{KindIn, IsKey, ArePairs, is_key_kind, is_iterable, find}
+use Rattle.py_data.specs.Row.{Row}
+use Rattle.py_data.specs.Sense.{Sense, Lawful, Run, Meets, IfThere}
+use Rattle.py_data.proofs.Steps.{there-is, live-after}
 use Rattle.obj_dict.specs.Dict.{get_row, set_row, del_row}
 use Rattle.obj_dict.specs.Listing.{half}
 use Rattle.obj_dict.specs.PairLaws.{ArePaired}
-use Rattle.obj_dict.specs.Safety.{IsDict, IsThere}
+use Rattle.obj_dict.specs.Safety.{IsDict}
 use Rattle.obj_dict.specs.Laws.{Leaves, HashLaw, GetLaw, SetLaw, NewLaw, FullLaw, DelLaw, LackLaw}
-use Rattle.stm_top.specs.Objects.{HasKind, KindsStay, OldStay, IsDictAt, IsIterAt, ItersStay, IterMade, IsContainer, HoldsDict, HoldsContainer, HoldsIter}
+use Rattle.stm_top.specs.Objects.{KindsStay, OldStay, IsDictAt, IsIterAt, ItersStay, HoldsDict, HoldsContainer}
 use Rattle.stm_top.proofs.ObjectCalls.{run-kinds}
 
 -- ---- keys

@@ -1,25 +1,24 @@
 -- What iterators do to what the tests of objects know.
-use Rattle.std.proofs.Common.{◌≡◌, ◌≢◌, ℕ, ◌+◌, eqb, Bool, true, false, cond, List, [], ◌∷◌, length, Option, Some, None, Result, Ok, Err, refl, sym, ap, subst, ◌∙◌, arith, pos, slice_get}
+use Rattle.std.proofs.Common.{◌≡◌, ◌≢◌, ℕ, ◌+◌, eqb, Bool, true, false, cond, [], ◌∷◌, Option, Some, None, Result, Ok, Err, refl, sym, ap, subst, ◌∙◌, pos, slice_get}
 use Rattle.std.specs.Prelude.{IfOk, IfSome, slice_set}
-use Rattle.std.proofs.lemmas.Bool.{cond-true, cond-false, ne_eqb}
+use Rattle.std.proofs.lemmas.Bool.{cond-false, ne_eqb}
 use Rattle.py_data.specs.declared.value.Addr.{Addr}
 use Rattle.py_data.specs.declared.value.Value.{Value}
 use Rattle.py_data.specs.declared.value.Value.TheVariants.{Unset, None as NoneValue, Bool as BoolValue, Int, Ref, Builtin}
 use Rattle.py_data.specs.declared.value.Kind.{Kind}
 use Rattle.py_data.specs.declared.value.Kind.TheVariants.{Str, Tuple, List as ListKind, Dict, Cell, Function, Class, Instance, Method, Iter, Range, Lock, Thread}
 use Rattle.py_data.specs.declared.stop.Stop.{Stop}
-use Rattle.py_data.specs.declared.record.TheConstants.{LENGTH_LIMIT}
 use Rattle.py_data.specs.declared.record.Got.{Got}
 use Rattle.py_data.specs.declared.record.Got.TheVariants.{Is, Raise}
-use Rattle.py_data.specs.Heap.{Heap, Rec, at, put_at, new_rec, with_value}
-use Rattle.py_data.specs.Shape.{is_iterable, IsShaped}
-use Rattle.py_data.specs.Row.{Row, Ret, Do, Read, SetVal, Make}
-use Rattle.py_data.specs.Sense.{Sense, Lawful, Asks, Answers, Edits, Run, Meets, IfThere, IsLive}
+use Rattle.py_data.specs.Heap.{Heap, Rec, put_at, new_rec, with_value}
+use Rattle.py_data.specs.Shape.{is_iterable}
+use Rattle.py_data.specs.Row.{Row, Ret, Read, SetVal, Make}
+use Rattle.py_data.specs.Sense.{Sense, Lawful, Asks, Answers, Run, Meets, IfThere, IsLive}
 use Rattle.py_data.specs.Fault.{size_fault}
 use Rattle.py_data.proofs.Steps.{at-is, put-here, there-is, live-after}
 use Rattle.obj_seq.specs.declared.advance.Parts.{Parts}
-use Rattle.obj_seq.specs.Iter.{iter_values, iter_row, iter_of, is_iter, make_iter_row, count_of, next_row, next_with, next_over, parts_of, go_or_end, byte_or_end, pick, has_changed, is_str, CanNext, CanNextWith, CanIter, IfRange}
-use Rattle.obj_seq.specs.Safety.{IsIter, IsThere, IsShown}
+use Rattle.obj_seq.specs.Iter.{iter_values, iter_row, iter_of, is_iter, make_iter_row, count_of, next_row, next_with, next_over, parts_of, go_or_end, byte_or_end, pick, has_changed, is_str, CanNext, CanNextWith, IfRange}
+use Rattle.obj_seq.specs.Safety.{IsIter, IsShown}
 use Rattle.stm_top.proofs.ObjectCalls.{run-kinds}
 use Rattle.stm_top.specs.Objects.{HoldsMade, OldStay, KindsStay, IsIterAt, IterMade, IsContainer, HoldsContainer, HoldsIter}
 

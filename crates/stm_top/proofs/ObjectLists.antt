@@ -1,19 +1,19 @@
 -- New lists that operations answer, and lists as they are looked at.
-use Rattle.std.proofs.Common.{◌≡◌, ℕ, ℤ, ◌+◌, ◌≤◌, Bool, true, false, List, [], ◌∷◌, ◌++◌, length, Option, Some, None, IsSome, Result, Ok, Err, refl, sym, ap, subst, ◌∙◌, arith, pos, unwrap_or}
+use Rattle.std.proofs.Common.{◌≡◌, ℕ, ℤ, true, false, List, [], ◌∷◌, ◌++◌, length, Option, Some, None, IsSome, Result, Ok, Err, refl, sym, ap, subst, ◌∙◌, arith, pos, unwrap_or}
 use Rattle.std.specs.Prelude.{IfOk, IfSome}
 use Rattle.py_data.specs.declared.value.Addr.{Addr}
 use Rattle.py_data.specs.declared.value.Value.{Value}
-use Rattle.py_data.specs.declared.value.Value.TheVariants.{Unset, None as NoneValue, Bool as BoolValue, Int, Ref, Builtin}
+use Rattle.py_data.specs.declared.value.Value.TheVariants.{Int, Ref}
 use Rattle.py_data.specs.declared.value.Kind.TheVariants.{List as ListKind, Dict}
 use Rattle.py_data.specs.declared.stop.Stop.{Stop}
 use Rattle.py_data.specs.declared.record.Got.{Got}
 use Rattle.py_data.specs.declared.record.Got.TheVariants.{Is, Raise}
-use Rattle.py_data.specs.Heap.{Heap, Rec, blank, at, new_rec, length_of, put_at}
+use Rattle.py_data.specs.Heap.{Heap, Rec, blank, at, new_rec, length_of}
 use Rattle.py_data.specs.Shape.{HoldsNoUnset, KindIn}
 use Rattle.py_data.specs.Row.{Row, Make, bind}
 use Rattle.py_data.specs.Sense.{Sense, Lawful, Answers, Run, Meets, IfThere, IsLive}
 use Rattle.py_data.proofs.Rows.{bind-run}
-use Rattle.py_data.proofs.Steps.{put-here, there-is, at-is}
+use Rattle.py_data.proofs.Steps.{put-here, there-is}
 use Rattle.obj_seq.specs.Seq.{slice_row}
 use Rattle.obj_seq.specs.Laws.{SliceLaw}
 use Rattle.obj_seq.specs.Safety.{IsSequence}

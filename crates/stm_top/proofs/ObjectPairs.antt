@@ -1,11 +1,13 @@
 -- Dictionaries of many keys.
-use Rattle.std.proofs.Common.{◌≡◌, ◌≢◌, ℕ, zero, suc, ◌+◌, ◌*◌, ◌<◌, ◌≤◌, eqb, Bool, true, false, cond, List, [], ◌∷◌, ◌++◌, length, Option, Some, None, Result, Ok, Err, refl, sym, ap, subst, ◌∙◌, arith, pos}
+use Rattle.std.proofs.Common.{◌≡◌, ℕ, ℤ, zero, suc, ◌+◌, ◌^◌, ◌<◌, ◌≤◌, Bool, true, false, cond, List, [], ◌∷◌, ◌++◌, length, Option, Some, None, Result, Ok, Err, refl, sym, ap, subst, ◌∙◌, arith, pos, append_assoc, to_z, of_z, w64}
 use Rattle.std.specs.Prelude.{IfOk}
 use Rattle.std.specs.Ordering.{int_eq}
+use Rattle.std.specs.Int.RustNames.{unsigned_abs}
+use Rattle.std.proofs.lemmas.Int.{to_z-of_z, fits_signed_from_abs}
 use Rattle.std.proofs.lemmas.Bool.Decides.{Decides-int_eq}
 use Rattle.py_data.specs.declared.value.Addr.{Addr}
 use Rattle.py_data.specs.declared.value.Value.{Value}
-use Rattle.py_data.specs.declared.value.Value.TheVariants.{Unset, Int}
+use Rattle.py_data.specs.declared.value.Value.TheVariants.{Int}
 use Rattle.py_data.specs.declared.value.Kind.TheVariants.{Dict}
 use Rattle.py_data.specs.declared.stop.Stop.{Stop}
 use Rattle.py_data.specs.Heap.{Heap, Rec, new_rec}
@@ -18,6 +20,21 @@ use Rattle.stm_top.specs.Objects.{HoldsDict, pairs_from}
 pub pairs-more : (i n : ℕ) → pairs_from i (suc n) ≡ pairs_from i n ++ Int (pos (i + n)) ∷ Int (pos 0) ∷ []
 pairs-more i zero = ap (λ j. Int (pos j) ∷ Int (pos 0) ∷ []) (omega arith)
 pairs-more i (suc n) = let e : suc i + n ≡ i + suc n = omega arith in ap (λ vs. Int (pos i) ∷ Int (pos 0) ∷ vs) (pairs-more (suc i) n ∙ ap (λ j. pairs_from (suc i) n ++ Int (pos j) ∷ Int (pos 0) ∷ []) e)
+
+-- a number as code has it
+as-number : (n : ℕ) (i : ℤ) → n < 4_294_967_296 → i ≡ pos n → to_z w64 (of_z w64 i) ≡ pos n
+as-number n i l e =
+    let less : unsigned_abs (pos n) < 2 ^ 63 = omega (arith, l) in
+    ap (λ z. to_z w64 (of_z w64 z)) e ∙ to_z-of_z w64 (pos n) (fits_signed_from_abs w64 (pos n) less)
+
+-- one pair more
+pub pairs-step : (n : ℕ) (i : ℤ) (vs ws xs : List Value) → n < 4_294_967_296 → i ≡ pos n → vs ≡ pairs_from 0 n → ws ≡ vs ++ Int (to_z w64 (of_z w64 i)) ∷ [] → xs ≡ ws ++ Int (pos 0) ∷ [] → xs ≡ pairs_from 0 (n + 1)
+pairs-step n i vs ws xs l same e f g =
+    let none : 0 + n ≡ n = omega arith in
+    let next : suc n ≡ n + 1 = omega arith in
+    let ends = Int (pos n) ∷ Int (pos 0) ∷ [] in
+    let first : ws ≡ vs ++ Int (pos n) ∷ [] = f ∙ ap (λ z. vs ++ Int z ∷ []) (as-number n i l same) in
+    g ∙ ap (λ zs. zs ++ Int (pos 0) ∷ []) first ∙ append_assoc vs (Int (pos n) ∷ []) (Int (pos 0) ∷ []) ∙ ap (λ zs. zs ++ ends) e ∙ sym (pairs-more 0 n ∙ ap (λ m. pairs_from 0 n ++ Int (pos m) ∷ Int (pos 0) ∷ []) none) ∙ ap (pairs_from 0) next
 
 pairs-length : (i n : ℕ) → length (pairs_from i n) ≡ n + n
 pairs-length i zero = refl

@@ -1,23 +1,23 @@
 -- What going through a string gives and leaves.
-use Rattle.std.proofs.Common.{◌≡◌, ◌≢◌, ℕ, ◌+◌, ◌<◌, eqb, Bool, true, false, cond, List, [], ◌∷◌, length, Option, Some, None, Result, Ok, Err, refl, sym, ap, subst, ◌∙◌, arith, pos, slice_get, unwrap_or}
+use Rattle.std.proofs.Common.{◌≡◌, ◌≢◌, ℕ, ◌+◌, eqb, cond, [], ◌∷◌, length, Option, Some, None, Result, Ok, Err, refl, sym, ap, subst, ◌∙◌, pos, slice_get, unwrap_or}
 use Rattle.std.specs.Prelude.{IfOk, IfSome, slice_set}
 use Rattle.std.proofs.lemmas.Bool.{cond-true, cond-false, ne_eqb}
 use Rattle.py_data.specs.declared.value.Addr.{Addr}
 use Rattle.py_data.specs.declared.value.Value.{Value}
-use Rattle.py_data.specs.declared.value.Value.TheVariants.{Unset, None as NoneValue, Bool as BoolValue, Int, Ref, Builtin}
+use Rattle.py_data.specs.declared.value.Value.TheVariants.{Int, Ref}
 use Rattle.py_data.specs.declared.value.Kind.TheVariants.{Str, Iter, Range}
 use Rattle.py_data.specs.declared.stop.Stop.{Stop}
 use Rattle.py_data.specs.declared.record.Got.{Got}
 use Rattle.py_data.specs.declared.record.Got.TheVariants.{Is, Raise}
 use Rattle.py_data.specs.Heap.{Heap, Rec, blank, at, put_at, new_rec, with_value, length_of}
 use Rattle.py_data.specs.Shape.{KindIn, is_iterable}
-use Rattle.py_data.specs.Row.{Row, Ret, Do, Read, SetVal, Make}
+use Rattle.py_data.specs.Row.{Ret, Read, SetVal, Make}
 use Rattle.py_data.specs.Sense.{Sense, Lawful, Run, Meets, IsLive}
 use Rattle.py_data.specs.Fault.{size_fault}
 use Rattle.py_data.proofs.Steps.{at-is, put-here, live-after}
-use Rattle.obj_seq.specs.Iter.{iter_values, next_row, next_with, next_over, parts_of, go_or_end, byte_or_end, pick, has_changed, is_str}
+use Rattle.obj_seq.specs.Iter.{next_row, next_with, next_over, parts_of, go_or_end, byte_or_end, pick, has_changed, is_str}
 use Rattle.stm_top.proofs.ObjectCalls.{run-kinds}
-use Rattle.stm_top.proofs.ObjectIters.{make-old}
+use Rattle.stm_top.proofs.ObjectIters.{made-old}
 use Rattle.stm_top.specs.Objects.{HasKind, OldStay, IsIterAt, IterMade, IsTextIterAt, TextNext, HoldsContainer, HoldsTextIter}
 
 -- an iterator over a string is an iterator
@@ -141,7 +141,7 @@ module _ {S X : Type 0} {u : Sense S X} (L : Lawful u) where
   byte-text it place (Some y) m w x t d =
       let q = new_rec Str [] (y ∷ []) in
       let f = L.effect (Make q) m d.0 d.1 d.2 in
-      let old = make-old (u.heap m) (u.heap d.1) d.0 q f.0 f.1 in
+      let old = made-old L m q d.1 (Ok (record { 0 = d.0 })) d.2 in
       let k : HasKind (u.heap d.1) d.0 Str = subst (λ o. KindIn o (λ k. k ≡ Str)) (sym (ap (λ h. h d.0) f.1 ∙ put-here (u.heap m) d.0 q)) refl in
       go-text it place d.0 d.1 w x (text-old (u.heap m) (u.heap d.1) it old t) k d.3
 

@@ -8,4 +8,6 @@ pub mod LineLaws
 pub mod Script
 pub mod Answer
 pub mod Objects
+pub mod ObjectTuples
+pub mod Objects
 pub mod TopCall

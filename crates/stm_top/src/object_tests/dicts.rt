@@ -1,18 +1,22 @@
 //! Dictionaries over a plain view.
-ghost use Rattle.std.specs.Prelude.{◌≡◌, ◌≤◌, length, IfOk};
+ghost use Rattle.std.specs.Prelude.{◌≡◌, ◌≤◌, length, IfOk, IfSome};
 ghost use Rattle.py_data.specs.declared.record.TheConstants.{LENGTH_LIMIT};
+ghost use Rattle.py_data.specs.declared.value.Kind.TheVariants.{Tuple};
+ghost use Rattle.py_data.specs.declared.value.Value.TheVariants.{Ref};
 ghost use Rattle.py_data.specs.Sense.{IsLive};
 ghost use Rattle.obj_dict.specs.Safety.{IsThere};
-ghost use Rattle.stm_top.specs.Objects.{HoldsDict, HoldsListed, HoldsRef, pairs_from};
+ghost use Rattle.stm_top.specs.ObjectTuples.{IsTupleListAt, TupleList};
+ghost use Rattle.stm_top.specs.Objects.{HasKind, HoldsDict, HoldsListed, HoldsRef, pairs_from};
 
 use super::{
-    Tested, answered, contents, dictionary, done, is_memory_error, len_of, new_dict, new_text,
-    new_three, plain, raises, set_of,
+    Tested, address_of, answered, contents, dictionary, done, is_memory_error, len_of, new_dict,
+    new_text, new_three, plain, raises, set_of,
 };
 use obj_dict::{Part, del, get, list_of};
 use py_data::exception::{KEY_ERROR, TYPE_ERROR};
 use py_data::{
-    Addr, Bytes, Fault, Got, Kind, LENGTH_LIMIT, NoMemory, Record, Stop, Value, Values, View, With,
+    Addr, Bytes, Fault, Got, Kind, LENGTH_LIMIT, NoMemory, Peek, Record, Stop, Value, Values, View,
+    With,
 };
 use std::alloc::{AllocError, Global};
 use std::process::Abort;
@@ -242,6 +246,64 @@ fn are_even_pairs(values: &[Value]) -> bool {
     true
 }
 
+/// What `list_of` answers for the items of a dictionary.
+fn items_answer<S, V: View<S>>(alloc: Global, v: &mut V, d: Addr) -> Result<Got<Value>, Stop>
+    requires { HoldsListed V.sense d.0 v.old }
+    ensures { IfOk result (λ x. TupleList x (V.sense.heap v.new)) }
+{
+    obj_dict::safe_list_law::<S>();
+    list_of(alloc, v, d, Part::Items)
+}
+
+/// Adds None, and behind it the items of a tuple, as an image shows them.
+fn push_tuple<P: Peek>(image: &P, a: Addr, values: &mut Values) -> Result<(), NoMemory>
+    requires { HasKind (P.image image.now) a.0 Tuple }
+{
+    values.push(Value::None)?;
+    let n = image.peek_len(a);
+    'turns: for i in 0..n {
+        values.push(image.peek_val(a, i))?;
+    }
+    Ok(())
+}
+
+/// The address that a value is, if it is one.
+fn referred(x: Value) -> Option<Addr>
+    ensures { IfSome result (λ a. x ≡ Ref a) }
+{
+    match x {
+        Value::Ref(a) => Some(a),
+        _ => None,
+    }
+}
+
+/// The items of each tuple of a list, behind a None for each.
+fn tuples_in<P: Peek>(alloc: Global, image: &P, a: Addr) -> Result<Values, NoMemory>
+    requires { IsTupleListAt (P.image image.now) a.0 }
+{
+    let n = image.peek_len(a);
+    let mut values = Values::new(alloc);
+    'turns: for i in 0..n {
+        if let Some(tuple) = referred(image.peek_val(a, i)) {
+            push_tuple(image, tuple, &mut values)?;
+        }
+    }
+    Ok(values)
+}
+
+/// The tuples that the dictionary of the pairs 1, 2 and 3, 4 gives: the items of each behind a None.
+fn listed_items<S, V: View<S> + Peek>(alloc: Global, v: &mut V) -> Result<Values, Stop>
+    requires live { IsLive V.sense v.old }
+    requires same { (x : V) → V.image x ≡ V.sense.heap x }
+{
+    let d = new_pairs(alloc, v)?;
+    let got = items_answer(alloc, v, d)?;
+    match address_of(&got) {
+        Some(a) => Ok(tuples_in(alloc, v, a)?),
+        None => Ok(Values::new(alloc)),
+    }
+}
+
 /// The pairs of so many keys, from 0 on, each with 0.
 fn zero_pairs(alloc: Global, n: u32) -> Result<Values, NoMemory>
     ensures { IfOk result (λ vs. vs ≡ pairs_from 0 n) }
@@ -434,7 +496,15 @@ fn lists_values(rt: HostRuntime) -> Tested {
 fn lists_items(rt: HostRuntime) -> Tested {
     let alloc = rt.alloc();
     let mut v = plain(alloc);
-    let tuples = done(&rt, listed_pairs(alloc, &mut v, Part::Items))?;
-    assert_eq!(rt; tuples.len(), 2);
+    let tuples = done(&rt, listed_items(alloc, &mut v))?;
+    let wanted = [
+        Value::None,
+        Value::Int(1),
+        Value::Int(2),
+        Value::None,
+        Value::Int(3),
+        Value::Int(4),
+    ];
+    assert_eq!(rt; tuples.as_slice(), wanted.as_slice());
     Ok(())
 }

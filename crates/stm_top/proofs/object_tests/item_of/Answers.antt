@@ -1,4 +1,3 @@
-use Rattle.obj_seq.specs.Seq.{item_row}
 use Rattle.stm_top.proofs.ObjectCalls.{any-there, any-after}
 use Rattle.stm_top.proofs.object_tests.item_of.Goals as goal
 

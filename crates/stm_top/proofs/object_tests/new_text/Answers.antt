@@ -1,4 +1,4 @@
-use Rattle.std.proofs.Common.{ap, subst, sym, length, arith}
+use Rattle.std.proofs.Common.{ap, length, arith}
 use Rattle.stm_top.proofs.ObjectCalls.{text-asks, text-made, made-live, made-kinds}
 use Rattle.stm_top.proofs.ObjectIters.{made-old}
 use Rattle.std.proofs.Common.{refl}

@@ -1,3 +1,4 @@
+use Rattle.py_data.specs.declared.value.Kind.TheVariants.{Str}
 use Rattle.stm_top.proofs.ObjectCalls.{key-there}
 use Rattle.stm_top.proofs.ObjectDicts.{dict-old}
 use Rattle.stm_top.proofs.object_tests.dicts.set_text.Goals as goal
@@ -9,4 +10,4 @@ set_of-requires-clause-dict g c = record {
 }
 
 pub set_of-requires-clause-key : goal.set_of-requires-clause-key
-set_of-requires-clause-key g c = key-there g.V.View.sense.partial _ c.in_ok-key.key.0 _ c.in_ok-key.ensures.text
+set_of-requires-clause-key g c = key-there g.V.View.sense.partial (g.V.View.sense.heap c.new_text.new.v) c.in_ok-key.key.0 Str c.in_ok-key.ensures.text

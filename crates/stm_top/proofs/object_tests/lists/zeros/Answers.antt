@@ -1,4 +1,4 @@
-use Rattle.std.proofs.Common.{sym, subst, arith, ap, length, pos, ◌++◌, ◌∷◌, []}
+use Rattle.std.proofs.Common.{sym, subst, arith, ap, length, pos, ◌∷◌, []}
 use Rattle.std.proofs.lemmas.List.{length-append}
 use Rattle.py_data.specs.declared.value.Kind.TheVariants.{List as ListKind}
 use Rattle.py_data.specs.declared.value.Value.TheVariants.{Int}
