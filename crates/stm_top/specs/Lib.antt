@@ -9,5 +9,4 @@ pub mod Script
 pub mod Answer
 pub mod Objects
 pub mod ObjectTuples
-pub mod Objects
 pub mod TopCall
