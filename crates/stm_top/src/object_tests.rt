@@ -1,4 +1,5 @@
-//! The operations on lists, tuples, dictionaries and iterators over a plain view. What is expected is what Python 2.7 does.
+//! The operations on lists, tuples, dictionaries and iterators over a plain view. What is expected is written by hand: it is
+//! what Python 2.7 does, with the texts of exceptions that this language has.
 //!
 //! The functions between the tests and the operations are generic over views, and each says what it needs and leaves, so
 //! that a test is a few calls of them. Those that several subjects need stand here.
