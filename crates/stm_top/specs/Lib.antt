@@ -7,4 +7,6 @@ pub mod LineClient
 pub mod LineLaws
 pub mod Script
 pub mod Answer
+pub mod Objects
+pub mod ObjectTuples
 pub mod TopCall
