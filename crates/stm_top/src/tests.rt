@@ -116,6 +116,10 @@ print 1 +|3~~pystm: line 1: refusal 5: unexpected;~0
 x = 1;x = 1.5|3~~pystm: line 2: refusal 6: left out;~0
 print ((((((((((((((((((((((((((((((((((((((((((((((((((1))))))))))))))))))))))))))))))))))))))))))))))))))|3~~pystm: line 1: refusal 13: not built;~0
 print ((((((((((((((((((((((((((((((((((((((((((((((((((((((((((((((((((((((((((((((((((((((((((((((((((((((((((((((((((((((((((((((((((((((((((((((((((((((((((((((((((((((((((((((((((((((((((((((((((((((((1))))))))))))))))))))))))))))))))))))))))))))))))))))))))))))))))))))))))))))))))))))))))))))))))))))))))))))))))))))))))))))))))))))))))))))))))))))))))))))))))))))))))))))))))))))))))))))))))))))))))|3~~pystm: line 1: refusal 7: deep;~0
+return 1;|3~~pystm: line 1: refusal 8: misplaced;~0
+def f(a, a): pass;|3~~pystm: line 1: refusal 9: doubled;~0
+def f(x):;  def g():;    return x;|3~~pystm: line 3: refusal 10: closure;~0
+def f(x): return x;|3~~pystm: line 1: refusal 13: not built;~0
 x = 1 / 0;|3~~pystm: line 1: refusal 13: not built;~0
 print 1;$;|3~~pystm: line 2: refusal 1: bad character;~0
 if 1:;  a = 1; b = 2;|3~~pystm: line 3: refusal 2: bad dedent;~0
@@ -136,7 +140,7 @@ fn check_scripts(rt: &impl Abort, alloc: Global, rows: &str) -> Result<usize, te
 
 #[test]
 fn runs_scripts(rt: HostRuntime) -> Tested {
-    assert_eq!(rt; check_scripts(&rt, rt.alloc(), SCRIPTS)?, 26);
+    assert_eq!(rt; check_scripts(&rt, rt.alloc(), SCRIPTS)?, 30);
     Ok(())
 }
 
