@@ -4,3 +4,4 @@ mod NameLists
 mod Added
 mod Tables
 mod Closures
+mod ScopeLemmas

@@ -7,6 +7,7 @@ mod error;
 mod event;
 mod expression;
 mod gather;
+mod laws;
 mod names;
 mod nest;
 mod outline;
@@ -16,5 +17,6 @@ mod statement;
 mod table;
 
 pub use error::NameFault;
+pub use laws::scope_law;
 pub use resolver::resolve;
 pub use scope::{Scope, Scopes, Texts};
