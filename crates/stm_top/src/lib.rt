@@ -14,6 +14,8 @@ pub use status::Status;
 pub use top::{Report, run_words};
 
 #[cfg(test)]
+mod canonical_tests;
+#[cfg(test)]
 mod names_tests;
 #[cfg(test)]
 mod object_tests;
