@@ -42,6 +42,7 @@ module _ (n : List ℕ) where
       same : (q : Bool) → bytes_eq n m ≡ q → has m ns ≡ true → has n ns ≡ (has n ns || q)
       same false g f = sym (or-false (has n ns))
       same true g f = ap (λ z. has z ns) ((bytes_eq-Decides n m).0 g) ∙ f ∙ sym (or-true (has n ns))
+
       go : (q : Bool) → has m ns ≡ q → has n (cond q ns (ns ++ m ∷ [])) ≡ (has n ns || bytes_eq n m)
       go true f = same (bytes_eq n m) refl f
       go false f = list_any-append (bytes_eq n) ns (m ∷ []) ∙ ap (λ z. has n ns || z) (or-false (bytes_eq n m))
