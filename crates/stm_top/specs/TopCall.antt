@@ -107,11 +107,10 @@ ProgramEnded p a answer turns b =
     ⊎ ((r : Ran p (begin_with (line_prog p) (first_world a.input.told)) a.out.told a.err.told turns b.input.told b.out.told b.err.told) × TurnsEnd answer r a.out.faults b.out.faults)
 
 -- ---- the script's text
--- its tokens have a tree, of a height of at most 100
-pub record HasTree (script : List ℕ) : Type 0 where
+-- its tokens have this tree, of a height of at most 100
+pub record IsTree (script : List ℕ) (tree : Module) : Type 0 where
   pub tokens : List Token
   pub are : tokens_of_text script ≡ Ok tokens
-  pub tree : Module
   pub is : IsModule tree tokens
   pub low : tall_module tree ≤ 100
 
@@ -124,19 +123,17 @@ pub record HasNoTree (script : List ℕ) (refusal : Refusal) : Type 0 where
   pub is : refusal ≡ refusal_of fault line
   pub refused : RefusedAt tokens fault line
 
--- it has this tree
-abbrev pub IsTree : List ℕ → Module → Type 0
-IsTree script tree = (h : HasTree script) × (h.tree ≡ tree)
-
 -- it has a tree in which no name and no statement is refused, so that its bodies have scopes
 pub record HasScopes (script : List ℕ) : Type 0 where
-  pub tree : HasTree script
-  pub allowed : fault (outline tree.tree) ≡ None
+  pub tree : Module
+  pub is : IsTree script tree
+  pub allowed : fault (outline tree) ≡ None
 
 -- it has a tree in which a name or a statement is refused, where that shows first
 pub record HasNoScopes (script : List ℕ) (refusal : Refusal) : Type 0 where
-  pub tree : HasTree script
-  pub refused : fault (outline tree.tree) ≡ Some refusal
+  pub tree : Module
+  pub is : IsTree script tree
+  pub refused : fault (outline tree) ≡ Some refusal
 
 -- it has scopes and the line form
 abbrev pub IsProgram : List ℕ → LineProgram → Type 0
