@@ -10,3 +10,4 @@ pub mod NameLists
 pub mod Coded
 pub mod Rests
 pub mod WorkedRows
+pub mod Arms

@@ -40,6 +40,13 @@ impl Emitter {
         }
     }
 
+    /// The next hidden slot.
+    pub fn slots(&self) -> u32
+        ensures { result ≡ self.now.slots }
+    {
+        self.slots
+    }
+
     /// One more instruction, of this line.
     pub fn put(&mut self, line: u32, draft: Draft) -> Result<(), Fault>
         ensures done { IfOk result (λ _. self.new ≡ put self.old line draft) }

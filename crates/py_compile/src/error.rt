@@ -34,3 +34,13 @@ impl From<AllocError> for Fault {
         Fault::OutOfMemory
     }
 }
+
+impl From<AllocError> for CompileError {
+    ghost use Rattle.py_compile.specs.declared.error.CompileError.TheVariants.{OutOfMemory};
+
+    ghost from_gives = { λ _ e. e ≡ OutOfMemory };
+
+    fn from(_e: AllocError) -> CompileError {
+        CompileError::OutOfMemory
+    }
+}

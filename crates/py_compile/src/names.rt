@@ -100,6 +100,23 @@ impl<'a> Model for Names<'a> {
 }
 
 impl<'a> Names<'a> {
+    /// What the parts say.
+    pub fn new(
+        is_class: bool,
+        locals: &'a NameSet<'a>,
+        texts: &'a NameSet<'a>,
+        cells: &'a NameSet<'a>,
+        keys: &'a [Texts],
+    ) -> Names<'a> {
+        Names {
+            is_class,
+            locals,
+            texts,
+            cells,
+            keys,
+        }
+    }
+
     /// The root of a string.
     pub fn text(&self, bytes: &[u8]) -> u32
         ensures { result ≡ text self.now bytes.now }
