@@ -12,6 +12,8 @@ mod names;
 mod statement;
 mod target;
 #[cfg(test)]
+mod name_tests;
+#[cfg(test)]
 mod tests;
 mod uses;
 

@@ -1,7 +1,7 @@
 //! What a body knows of names.
 ghost use Rattle.std.specs.Prelude.{◌≡◌, [], ◌∷◌, ◌≤◌, ◌<◌, ◌+◌, ◌^◌, IfSome, length, MatchOption, OnErr, OnOk};
 ghost use Rattle.py_compile.specs.Expressions.{key_names};
-ghost use Rattle.py_compile.specs.Names.{cell, find_name, has, home, key_list, list_number, number_in, same_names, text};
+ghost use Rattle.py_compile.specs.Names.{cell, find_name, first_cell, has, home, key_list, list_number, number_in, same_names, text};
 ghost use Rattle.py_compile.specs.Uses.{with_name};
 
 use crate::home::Home;
@@ -80,15 +80,15 @@ impl<'a> NameSet<'a> {
 /// What a body knows of names: whether it is that of a class, the names that it binds, and of the whole program the strings
 /// and the global names among the roots; and the names in each of its keyword lists.
 #[derive(Drop)]
-pub struct Names<'a> {
+pub struct Names<'s, 'a> {
     is_class: bool,
-    locals: &'a NameSet<'a>,
-    texts: &'a NameSet<'a>,
-    cells: &'a NameSet<'a>,
-    keys: &'a [Texts],
+    locals: &'s NameSet<'a>,
+    texts: &'s NameSet<'a>,
+    cells: &'s NameSet<'a>,
+    keys: &'s [Texts],
 }
 
-impl<'a> Model for Names<'a> {
+impl<'s, 'a> Model for Names<'s, 'a> {
     ghost use Rattle.std.specs.Prelude.{◌+◌, ◌<◌, ◌^◌, length};
     ghost use Rattle.py_compile.specs.Names.{Known, first_cell};
 
@@ -99,15 +99,20 @@ impl<'a> Model for Names<'a> {
     ghost invariant = { λ n. (first_cell n.texts.now n.cells.now + length n.cells.now < 2 ^ 32) × (length n.locals.now < 2 ^ 32) × (length n.keys.now < 2 ^ 32) };
 }
 
-impl<'a> Names<'a> {
-    /// What the parts say.
+impl<'s, 'a> Names<'s, 'a> {
+    /// What a body knows, by its parts. Roots, slots and keyword lists have numbers of 32 bits.
     pub fn new(
         is_class: bool,
-        locals: &'a NameSet<'a>,
-        texts: &'a NameSet<'a>,
-        cells: &'a NameSet<'a>,
-        keys: &'a [Texts],
-    ) -> Names<'a> {
+        locals: &'s NameSet<'a>,
+        texts: &'s NameSet<'a>,
+        cells: &'s NameSet<'a>,
+        keys: &'s [Texts],
+    ) -> Names<'s, 'a>
+        requires roots { first_cell texts.now cells.now + length cells.now < 2 ^ 32 }
+        requires slots { length locals.now < 2 ^ 32 }
+        requires lists { length keys.now < 2 ^ 32 }
+        ensures { result ≡ record { is_class = is_class; locals = locals.now; texts = texts.now; cells = cells.now; keys = keys.now } }
+    {
         Names {
             is_class,
             locals,
