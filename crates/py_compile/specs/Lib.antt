@@ -5,6 +5,7 @@ pub mod Names
 pub mod Expressions
 pub mod Statements
 pub mod Uses
+pub mod Tallies
 pub mod Whole
 pub mod Behind
 pub mod Rounds

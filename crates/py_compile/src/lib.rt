@@ -1,18 +1,12 @@
-//! From trees to programs, by a table of templates with labels.
+//! Scratch.
 #![tactic(auto)]
 
-mod bodies;
-mod compile;
 mod draft;
-mod emitter;
 mod error;
 mod expression;
 mod home;
 mod names;
 mod statement;
-mod target;
-#[cfg(test)]
-mod tests;
 mod uses;
 
 pub use error::CompileError;

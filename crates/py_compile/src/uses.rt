@@ -1,31 +1,45 @@
-//! What a module uses of roots and keyword lists, in the order of the text.
-ghost use Rattle.std.specs.Prelude.{◌≡◌};
+//! What a module uses of strings, global names and keyword lists, in the order of the text.
+ghost use Rattle.std.specs.Prelude.{◌≡◌, ◌+◌, ◌++◌, ◌∷◌, [], get_or, map, replicate, IfOk, OnOk};
+ghost use Rattle.std.specs.List.{list_any};
+ghost use Rattle.py_compile.specs.Expressions.{key_names};
+ghost use Rattle.py_compile.specs.Names.{has, same_names};
+ghost use Rattle.py_compile.specs.Tallies.{inside, read_links, read_named, read_pairs, read_trailers, tally, told, told_all, told_some};
+ghost use Rattle.py_compile.specs.Uses.{Text, import_use, key_use, name_bound, name_read, read_defaults, read_some, used_trailer};
 
-use crate::bodies::bodies_in;
 use crate::expression::is_none;
 use crate::names::{NameSet, same_names, split};
 use crate::statement::bound_name;
 use py_code::Texts;
 use py_data::{Bytes, NoMemory};
-use py_tree::{Clause, Expr, Imported, Link, Named, Pair, Param, Stmt, Trailer};
+use py_tree::{Expr, Imported, Link, Named, Pair, Param, Trailer};
 use sqlite_items::{Boxed, Items};
-use std::alloc::Global;
+use std::alloc::{AllocError, Global};
+use std::marker::Model;
 
-/// What was used so far: the strings, the global names, and by their numbers the keyword lists of the bodies.
+/// What was used so far: the strings, the global names, and by their numbers the keyword lists of the bodies; and the number
+/// of the next body.
 #[derive(Drop)]
-pub struct Uses<'a> {
+pub struct Tally<'a> {
     alloc: Global,
-    pub texts: NameSet<'a>,
-    pub cells: NameSet<'a>,
-    pub keys: Vec<Items<Texts>>,
+    texts: NameSet<'a>,
+    cells: NameSet<'a>,
+    keys: Vec<Items<Texts>>,
+    next: usize,
 }
 
-/// A body: its number, whether it is a class's, and the names that it binds.
-#[derive(Clone, Copy, Drop)]
-pub struct Inside<'b> {
+impl<'a> Model for Tally<'a> {
+    ghost use Rattle.py_compile.specs.Tallies.{Tally};
+
+    ghost Value = { Tally };
+
+    ghost view = { λ t. record { texts = t.texts; cells = t.cells; keys = t.keys.items; next = t.next } };
+}
+
+/// A body: its number, and whether it is a class's.
+#[derive(Clone, Copy, Debug, Drop)]
+pub struct Place {
     pub number: usize,
     pub is_class: bool,
-    pub locals: &'b [NameSet<'b>],
 }
 
 /// How an expression stands in a statement.
@@ -35,365 +49,245 @@ pub enum Role {
     Target,
 }
 
-impl<'a> Uses<'a> {
-    /// Nothing, for so many bodies: each has the empty keyword list.
-    pub fn new(alloc: Global, bodies: usize) -> Result<Uses<'a>, NoMemory> {
-        let mut keys = Vec::new(alloc);
-        for _ in 0..bodies {
-            let mut lists = Items::new(alloc);
-            lists.push(Texts::new(alloc))?;
-            keys.push(lists)?;
-        }
-        Ok(Uses {
-            alloc,
-            texts: NameSet::new(alloc),
-            cells: NameSet::new(alloc),
-            keys,
-        })
-    }
-
-    /// A name that is read.
-    fn read_name(
-        &mut self,
-        is_class: bool,
-        locals: &NameSet,
-        name: &'a [u8],
-    ) -> Result<(), NoMemory> {
-        if is_none(name) {
-            return Ok(());
-        }
-        if locals.has(name) {
-            if is_class {
-                self.texts.note(name)?;
-                self.cells.note(name)?;
-            }
-            return Ok(());
-        }
-        self.cells.note(name)
-    }
-
-    /// A name that is bound or deleted.
-    fn bind_name(
-        &mut self,
-        is_class: bool,
-        locals: &NameSet,
-        name: &'a [u8],
-    ) -> Result<(), NoMemory> {
-        if locals.has(name) {
-            if is_class {
-                self.texts.note(name)?;
-            }
-            return Ok(());
-        }
-        self.cells.note(name)
-    }
-
-    /// The keyword list of a call.
-    fn note_keys(&mut self, number: usize, named: &[Named]) -> Result<(), NoMemory> {
-        if named.is_empty() {
-            return Ok(());
-        }
-        if number >= self.keys.len() {
-            return Ok(());
-        }
-        let mut rest = self.keys[number].as_slice();
-        'lists: while let Some((list, more)) = split(rest) {
-            if same_names(named, list.as_slice()) {
-                return Ok(());
-            }
-            rest = more;
-        }
-        let names = names_of(self.alloc, named)?;
-        self.keys[number].push(names)
+/// Whether a body binds a name, where the bodies bind these names.
+fn is_own(all: &[NameSet], b: Place, name: &[u8]) -> bool
+    ensures { result ≡ has name.now (get_or all.now b.number []) }
+{
+    match all.get(b.number) {
+        Some(locals) => locals.has(name),
+        None => false,
     }
 }
 
-fn names_of(alloc: Global, named: &[Named]) -> Result<Texts, NoMemory> {
+/// The names of keyword arguments.
+fn names_of(alloc: Global, named: &[Named]) -> Result<Texts, NoMemory>
+    ensures { IfOk result (λ names. names ≡ key_names named.now) }
+{
     let mut names = Texts::new(alloc);
     let mut rest = named;
     'names: while let Some((x, more)) = split(rest) {
-        names.push(Bytes::from_slice(alloc, x.name.as_slice())?)?;
+        let name = x.name.copy(alloc)?;
+        names.push(name)?;
         rest = more;
     }
     Ok(names)
 }
 
-/// What an expression uses.
-#[cycle(expressions)]
-fn expression<'a>(out: &mut Uses<'a>, b: Inside, role: Role, x: &'a Expr) -> Result<(), NoMemory> {
-    match x {
-        Expr::Name(name) => {
-            if b.number < b.locals.len() {
-                match role {
-                    Role::Read => out.read_name(b.is_class, &b.locals[b.number], name.as_slice()),
-                    Role::Target => out.bind_name(b.is_class, &b.locals[b.number], name.as_slice()),
-                }
-            } else {
-                Ok(())
-            }
-        }
-        Expr::Int(_) => Ok(()),
-        Expr::Str(s) => out.texts.note(s.as_slice()),
-        Expr::Group(a) => expression(out, b, role, a.get()),
-        Expr::Tuple(items) => expressions(out, b, role, items.as_slice()),
-        Expr::List(items) => expressions(out, b, role, items.as_slice()),
-        Expr::Dict(items) => pairs(out, b, items.as_slice()),
-        Expr::Trail(a, items) => {
-            expression(out, b, Role::Read, a.get())?;
-            trailers(out, b, items.as_slice())
-        }
-        Expr::Power(x, y) => {
-            expression(out, b, Role::Read, x.get())?;
-            expression(out, b, Role::Read, y.get())
-        }
-        Expr::Unary(_, x) => expression(out, b, Role::Read, x.get()),
-        Expr::Chain(_, x, items) => {
-            expression(out, b, Role::Read, x.get())?;
-            links(out, b, items.as_slice())
-        }
-        Expr::Not(x) => expression(out, b, Role::Read, x.get()),
-        Expr::Choice(x, c, y) => {
-            expression(out, b, Role::Read, x.get())?;
-            expression(out, b, Role::Read, c.get())?;
-            expression(out, b, Role::Read, y.get())
-        }
-    }
-}
-
-#[cycle(expressions)]
-fn expressions<'a>(
-    out: &mut Uses<'a>,
-    b: Inside,
-    role: Role,
-    items: &'a [Expr],
-) -> Result<(), NoMemory> {
-    let mut rest = items;
-    'items: while let Some((x, more)) = split(rest) {
-        expression(out, b, role, x)?;
-        rest = more;
-    }
-    Ok(())
-}
-
-#[cycle(expressions)]
-fn pairs<'a>(out: &mut Uses<'a>, b: Inside, items: &'a [Pair]) -> Result<(), NoMemory> {
-    let mut rest = items;
-    'items: while let Some((x, more)) = split(rest) {
-        expression(out, b, Role::Read, &x.key)?;
-        expression(out, b, Role::Read, &x.value)?;
-        rest = more;
-    }
-    Ok(())
-}
-
-#[cycle(expressions)]
-fn links<'a>(out: &mut Uses<'a>, b: Inside, items: &'a [Link]) -> Result<(), NoMemory> {
-    let mut rest = items;
-    'items: while let Some((x, more)) = split(rest) {
-        expression(out, b, Role::Read, &x.operand)?;
-        rest = more;
-    }
-    Ok(())
-}
-
-#[cycle(expressions)]
-fn trailers<'a>(out: &mut Uses<'a>, b: Inside, items: &'a [Trailer]) -> Result<(), NoMemory> {
-    let mut rest = items;
-    'items: while let Some((x, more)) = split(rest) {
-        match x {
-            Trailer::Attribute(name) => out.texts.note(name.as_slice())?,
-            Trailer::Index(i) => expression(out, b, Role::Read, i.get())?,
-            Trailer::Slice(i, j) => {
-                bound(out, b, i)?;
-                bound(out, b, j)?;
-            }
-            Trailer::Call(args, named) => {
-                expressions(out, b, Role::Read, args.as_slice())?;
-                keywords(out, b, named.as_slice())?;
-            }
+/// Whether a list of names is among these.
+fn is_listed(lists: &[Texts], named: &[Named]) -> bool
+    ensures { result ≡ list_any (same_names (key_names named.now)) lists.now }
+{
+    let mut rest = lists;
+    'lists: while let Some((list, more)) = split(rest) {
+        if same_names(named, list.as_slice()) {
+            return true;
         }
         rest = more;
     }
-    Ok(())
+    false
 }
 
-#[cycle(expressions)]
-fn bound<'a>(out: &mut Uses<'a>, b: Inside, x: &'a Option<Boxed<Expr>>) -> Result<(), NoMemory> {
-    match x {
-        Some(a) => expression(out, b, Role::Read, a.get()),
-        None => Ok(()),
+impl<'a> Tally<'a> {
+    /// A string is used.
+    fn text(&mut self, bytes: &'a [u8]) -> Result<(), NoMemory>
+        ensures { OnOk result (self.new ≡ tally self.old (Text bytes.now ∷ [])) }
+    {
+        self.texts.note(bytes)?;
+        Ok(())
     }
-}
 
-#[cycle(expressions)]
-fn keywords<'a>(out: &mut Uses<'a>, b: Inside, items: &'a [Named]) -> Result<(), NoMemory> {
-    let mut rest = items;
-    'items: while let Some((x, more)) = split(rest) {
-        out.texts.note(x.name.as_slice())?;
-        expression(out, b, Role::Read, &x.value)?;
-        rest = more;
+    /// A name is read.
+    fn read_name(&mut self, all: &[NameSet], b: Place, name: &'a [u8]) -> Result<(), NoMemory>
+        ensures { OnOk result (self.new ≡ tally self.old (name_read (inside all.now b) name.now)) }
+    {
+        if is_none(name) {
+            return Ok(());
+        }
+        if !is_own(all, b, name) {
+            self.cells.note(name)?;
+            return Ok(());
+        }
+        if b.is_class {
+            self.texts.note(name)?;
+            self.cells.note(name)?;
+        }
+        Ok(())
     }
-    out.note_keys(b.number, items)
-}
 
-fn some<'a>(
-    out: &mut Uses<'a>,
-    b: Inside,
-    role: Role,
-    x: &'a Option<Expr>,
-) -> Result<(), NoMemory> {
-    match x {
-        Some(x) => expression(out, b, role, x),
-        None => Ok(()),
+    /// A name is bound or deleted.
+    fn bind_name(&mut self, all: &[NameSet], b: Place, name: &'a [u8]) -> Result<(), NoMemory>
+        ensures { OnOk result (self.new ≡ tally self.old (name_bound (inside all.now b) name.now)) }
+    {
+        if !is_own(all, b, name) {
+            self.cells.note(name)?;
+            return Ok(());
+        }
+        if b.is_class {
+            self.texts.note(name)?;
+        }
+        Ok(())
     }
-}
 
-fn binds<'a>(out: &mut Uses<'a>, b: Inside, name: &'a [u8]) -> Result<(), NoMemory> {
-    if b.number < b.locals.len() {
-        out.bind_name(b.is_class, &b.locals[b.number], name)
-    } else {
+    /// The keyword list of a call, if it has keywords.
+    fn note_keys(&mut self, b: Place, named: &[Named]) -> Result<(), NoMemory>
+        ensures { OnOk result (self.new ≡ tally self.old (key_use b.number (key_names named.now))) }
+    {
+        if named.is_empty() {
+            return Ok(());
+        }
+        if b.number >= self.keys.len() {
+            return Ok(());
+        }
+        let lists = &mut self.keys[b.number];
+        if is_listed(lists.as_slice(), named) {
+            return Ok(());
+        }
+        let names = names_of(self.alloc, named)?;
+        lists.push(names)?;
         Ok(())
     }
 }
 
-fn imports<'a>(out: &mut Uses<'a>, b: Inside, items: &'a [Imported]) -> Result<(), NoMemory> {
-    let mut rest = items;
-    'items: while let Some((x, more)) = split(rest) {
-        binds(out, b, bound_name(x))?;
-        rest = more;
-    }
-    Ok(())
-}
-
-fn defaults<'a>(out: &mut Uses<'a>, b: Inside, items: &'a [Param]) -> Result<(), NoMemory> {
-    let mut rest = items;
-    'items: while let Some((x, more)) = split(rest) {
-        some(out, b, Role::Read, &x.default)?;
-        rest = more;
-    }
-    Ok(())
-}
-
-/// What these statements use in a body; their own bodies are numbered from that number on.
-#[cycle(statements)]
-pub fn block<'a>(
-    out: &mut Uses<'a>,
-    b: Inside,
-    items: &'a [Stmt],
-    first: u32,
-) -> Result<u32, NoMemory> {
-    let mut number = first;
-    let mut rest = items;
-    'items: while let Some((x, more)) = split(rest) {
-        statement(out, b, x, number)?;
-        number += bodies_in(x);
-        rest = more;
-    }
-    Ok(number)
-}
-
-#[cycle(statements)]
-fn clause<'a>(
-    out: &mut Uses<'a>,
-    b: Inside,
-    x: &'a Option<Clause>,
-    first: u32,
-) -> Result<u32, NoMemory> {
+/// What an expression uses.
+#[cycle(uses)]
+#[tactic(auto, using(crate::proofs::Used::used_rules))]
+fn expression<'a>(out: &mut Tally<'a>, all: &[NameSet], b: Place, role: Role, x: &'a Expr) -> Result<(), NoMemory>
+    ensures { OnOk result (out.new ≡ tally out.old (told role (inside all.now b) x.now)) }
+{
     match x {
-        Some(c) => block(out, b, c.body.as_slice(), first),
-        None => Ok(first),
+        Expr::Name(name) => match role {
+            Role::Read => out.read_name(all, b, name.as_slice()),
+            Role::Target => out.bind_name(all, b, name.as_slice()),
+        },
+        Expr::Int(_) => Ok(()),
+        Expr::Str(s) => out.text(s.as_slice()),
+        Expr::Group(a) => expression(out, all, b, role, a.get()),
+        Expr::Tuple(items) => expressions(out, all, b, role, items.as_slice()),
+        Expr::List(items) => expressions(out, all, b, role, items.as_slice()),
+        Expr::Dict(items) => pairs(out, all, b, items.as_slice()),
+        Expr::Trail(a, items) => {
+            expression(out, all, b, Role::Read, a.get())?;
+            trailers(out, all, b, items.as_slice())?;
+            Ok(())
+        }
+        Expr::Power(x, y) => {
+            expression(out, all, b, Role::Read, x.get())?;
+            expression(out, all, b, Role::Read, y.get())?;
+            Ok(())
+        }
+        Expr::Unary(_, x) => expression(out, all, b, Role::Read, x.get()),
+        Expr::Chain(_, x, items) => {
+            expression(out, all, b, Role::Read, x.get())?;
+            links(out, all, b, items.as_slice())?;
+            Ok(())
+        }
+        Expr::Not(x) => expression(out, all, b, Role::Read, x.get()),
+        Expr::Choice(x, c, y) => {
+            expression(out, all, b, Role::Read, x.get())?;
+            expression(out, all, b, Role::Read, c.get())?;
+            expression(out, all, b, Role::Read, y.get())?;
+            Ok(())
+        }
     }
 }
 
-/// What a statement uses.
-#[cycle(statements)]
-fn statement<'a>(out: &mut Uses<'a>, b: Inside, s: &'a Stmt, first: u32) -> Result<(), NoMemory> {
-    match s {
-        Stmt::Do(_, x) => expression(out, b, Role::Read, x),
-        Stmt::Assign(_, targets, x) => {
-            expressions(out, b, Role::Target, targets.as_slice())?;
-            expression(out, b, Role::Read, x)
-        }
-        Stmt::Augment(_, x, _, y) => {
-            expression(out, b, Role::Read, x)?;
-            expression(out, b, Role::Target, x)?;
-            expression(out, b, Role::Read, y)
-        }
-        Stmt::Print(_, items, _) => expressions(out, b, Role::Read, items.as_slice()),
-        Stmt::Pass(_) => Ok(()),
-        Stmt::Break(_) => Ok(()),
-        Stmt::Continue(_) => Ok(()),
-        Stmt::Return(_, x) => some(out, b, Role::Read, x),
-        Stmt::Raise(_, x, v) => {
-            some(out, b, Role::Read, x)?;
-            some(out, b, Role::Read, v)
-        }
-        Stmt::Del(_, targets) => expressions(out, b, Role::Target, targets.as_slice()),
-        Stmt::Global(_, _) => Ok(()),
-        Stmt::Assert(_, x, message) => {
-            expression(out, b, Role::Read, x)?;
-            some(out, b, Role::Read, message)
-        }
-        Stmt::Import(_, items) => imports(out, b, items.as_slice()),
-        Stmt::From(_, _, items) => imports(out, b, items.as_slice()),
-        Stmt::If(items, other) => {
-            let mut number = first;
-            let mut rest = items.as_slice();
-            'arms: while let Some((arm, more)) = split(rest) {
-                expression(out, b, Role::Read, &arm.test)?;
-                number = block(out, b, arm.body.as_slice(), number)?;
-                rest = more;
-            }
-            let _ = clause(out, b, other, number)?;
+/// What these use, one after another.
+#[cycle(uses)]
+fn expressions<'a>(out: &mut Tally<'a>, all: &[NameSet], b: Place, role: Role, items: &'a [Expr]) -> Result<(), NoMemory>
+    ensures { OnOk result (out.new ≡ tally out.old (told_all role (inside all.now b) items.now)) }
+{
+    let mut rest = items;
+    'items: while let Some((x, more)) = split(rest) {
+        expression(out, all, b, role, x)?;
+        rest = more;
+    }
+    Ok(())
+}
+
+/// What the keys and values of a dictionary use.
+#[cycle(uses)]
+fn pairs<'a>(out: &mut Tally<'a>, all: &[NameSet], b: Place, items: &'a [Pair]) -> Result<(), NoMemory>
+    ensures { OnOk result (out.new ≡ tally out.old (read_pairs (inside all.now b) items.now)) }
+{
+    let mut rest = items;
+    'items: while let Some((x, more)) = split(rest) {
+        expression(out, all, b, Role::Read, &x.key)?;
+        expression(out, all, b, Role::Read, &x.value)?;
+        rest = more;
+    }
+    Ok(())
+}
+
+/// What the operands behind operators use.
+#[cycle(uses)]
+fn links<'a>(out: &mut Tally<'a>, all: &[NameSet], b: Place, items: &'a [Link]) -> Result<(), NoMemory>
+    ensures { OnOk result (out.new ≡ tally out.old (read_links (inside all.now b) items.now)) }
+{
+    let mut rest = items;
+    'items: while let Some((x, more)) = split(rest) {
+        expression(out, all, b, Role::Read, &x.operand)?;
+        rest = more;
+    }
+    Ok(())
+}
+
+/// What trailers use.
+#[cycle(uses)]
+fn trailers<'a>(out: &mut Tally<'a>, all: &[NameSet], b: Place, items: &'a [Trailer]) -> Result<(), NoMemory>
+    ensures { OnOk result (out.new ≡ tally out.old (read_trailers (inside all.now b) items.now)) }
+{
+    let mut rest = items;
+    'items: while let Some((x, more)) = split(rest) {
+        trailer(out, all, b, x)?;
+        rest = more;
+    }
+    Ok(())
+}
+
+/// What a trailer uses.
+#[cycle(uses)]
+#[tactic(auto, using(crate::proofs::Used::used_rules))]
+fn trailer<'a>(out: &mut Tally<'a>, all: &[NameSet], b: Place, x: &'a Trailer) -> Result<(), NoMemory>
+    ensures { OnOk result (out.new ≡ tally out.old (used_trailer (inside all.now b) x.now)) }
+{
+    match x {
+        Trailer::Attribute(name) => out.text(name.as_slice()),
+        Trailer::Index(i) => expression(out, all, b, Role::Read, i.get()),
+        Trailer::Slice(i, j) => {
+            bound(out, all, b, i)?;
+            bound(out, all, b, j)?;
             Ok(())
         }
-        Stmt::While(arm, other) => {
-            expression(out, b, Role::Read, &arm.test)?;
-            let number = block(out, b, arm.body.as_slice(), first)?;
-            let _ = clause(out, b, other, number)?;
-            Ok(())
-        }
-        Stmt::For(_, target, x, body, other) => {
-            expression(out, b, Role::Target, target)?;
-            expression(out, b, Role::Read, x)?;
-            let number = block(out, b, body.as_slice(), first)?;
-            let _ = clause(out, b, other, number)?;
-            Ok(())
-        }
-        Stmt::Try(x, items, other, last) => {
-            let mut number = block(out, b, x.body.as_slice(), first)?;
-            let mut rest = items.as_slice();
-            'handlers: while let Some((handler, more)) = split(rest) {
-                some(out, b, Role::Read, &handler.test)?;
-                some(out, b, Role::Target, &handler.target)?;
-                number = block(out, b, handler.body.as_slice(), number)?;
-                rest = more;
-            }
-            number = clause(out, b, other, number)?;
-            let _ = clause(out, b, last, number)?;
-            Ok(())
-        }
-        Stmt::Def(_, name, params, body) => {
-            binds(out, b, name.as_slice())?;
-            defaults(out, b, params.as_slice())?;
-            let inside = Inside {
-                number: first as usize,
-                is_class: false,
-                locals: b.locals,
-            };
-            let _ = block(out, inside, body.as_slice(), first + 1)?;
-            Ok(())
-        }
-        Stmt::Class(_, name, base, body) => {
-            binds(out, b, name.as_slice())?;
-            some(out, b, Role::Read, base)?;
-            let inside = Inside {
-                number: first as usize,
-                is_class: true,
-                locals: b.locals,
-            };
-            let _ = block(out, inside, body.as_slice(), first + 1)?;
+        Trailer::Call(args, named) => {
+            expressions(out, all, b, Role::Read, args.as_slice())?;
+            keywords(out, all, b, named.as_slice())?;
+            out.note_keys(b, named.as_slice())?;
             Ok(())
         }
     }
+}
+
+/// What a slice's bound uses.
+#[cycle(uses)]
+fn bound<'a>(out: &mut Tally<'a>, all: &[NameSet], b: Place, x: &'a Option<Boxed<Expr>>) -> Result<(), NoMemory>
+    ensures { OnOk result (out.new ≡ tally out.old (read_some (inside all.now b) x.now)) }
+{
+    match x {
+        Some(a) => expression(out, all, b, Role::Read, a.get()),
+        None => Ok(()),
+    }
+}
+
+/// What keyword arguments use.
+#[cycle(uses)]
+fn keywords<'a>(out: &mut Tally<'a>, all: &[NameSet], b: Place, items: &'a [Named]) -> Result<(), NoMemory>
+    ensures { OnOk result (out.new ≡ tally out.old (read_named (inside all.now b) items.now)) }
+{
+    let mut rest = items;
+    'items: while let Some((x, more)) = split(rest) {
+        out.text(x.name.as_slice())?;
+        expression(out, all, b, Role::Read, &x.value)?;
+        rest = more;
+    }
+    Ok(())
 }
