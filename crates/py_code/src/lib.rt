@@ -3,6 +3,9 @@
 
 pub mod builtin;
 mod instr;
+pub mod listing;
+#[cfg(test)]
+mod listing_tests;
 pub mod operator;
 mod program;
 #[cfg(test)]
