@@ -14,4 +14,6 @@ pub use status::Status;
 pub use top::{Report, run_words};
 
 #[cfg(test)]
+mod canonical_tests;
+#[cfg(test)]
 mod tests;
