@@ -1,0 +1,10 @@
+//! The operators of UNARY.
+
+/// `+`.
+pub const PLUS: u8 = 0;
+
+/// `-`.
+pub const MINUS: u8 = 1;
+
+/// `~`.
+pub const INVERT: u8 = 2;

@@ -1,0 +1,819 @@
+-- Statements lead from a shape to itself, whatever surrounds them.
+use Rattle.std.proofs.Common.{◌≡◌, ℕ, ◌+◌, ◌<◌, ◌≤◌, ◌^◌, List, [], ◌∷◌, Some, None, Bool, true, false, refl, sym, subst, arith, length, map, get_or, drop}
+use Rattle.std.specs.Prelude.{IsTrue}
+use Rattle.py_code.specs.declared.instr.Constant.{Constant}
+use Rattle.py_code.specs.declared.instr.Constant.TheVariants.{Root}
+use Rattle.py_code.specs.declared.instr.Instr.{Instr}
+use Rattle.py_code.specs.declared.instr.Instr.TheVariants.{Const, Pop, Dup, Rot2, Dup2, Rot3, LoadLocal, StoreLocal, LoadAttr, StoreAttr, LoadItem, StoreItem, DelAttr, DelItem, Not, InPlace, Jump, JumpFalse, Iter, Next, Call, Return, MakeFunction, ClassBody, Try, PopTry, ExcMatch, MakeRaised, Raise, PrintItem, PrintNewline}
+use Rattle.py_code.specs.Effects.{Limits, effect, On, Sh, floor_of, IsKnown, IsText}
+use Rattle.py_compile.specs.declared.home.Home.{Home}
+use Rattle.py_compile.specs.Template.{Piece, Op, Hidden, To, Here, Alone, Sub, size_of, row}
+use Rattle.py_compile.specs.Table.{E, A, H, M, B, load, store, nothing, one, assign, del_attr, del_item, add_name, add_attr, add_item, expression, print_one, print_line, import_one, raise_one, raise_two, assert_with, assert_alone, def, class, arm, all_arms, while, for, try_except, clause_bare, clause_test, clause_target, try_finally, Around, InWhile, InFor, InTry, InClause, InFinally, break_code, continue_code, leaves, return, raise_again}
+use Rattle.py_compile.proofs.Typed.{Ring, ring_at, Typed, Goes, template_typed}
+use Rattle.py_compile.proofs.Ops.{sh, op, load_op, store_op, pop_op, pop_try_op, raise_op, return_op, jump_op, jump_false, next_op, try_op}
+use Rattle.py_compile.proofs.Values.{Each, Room, own_ring, Value, Store, Change, changes, same, values, many_values}
+
+module _ (k : Limits) where
+  -- what surrounds a statement fits the shape at which it stands: one ring for each construct
+  abbrev pub AroundFits : List Around → List Ring → ℕ → List ℕ → Type 0
+  AroundFits [] gs h bs = floor_of bs ≤ h
+  AroundFits (InWhile ∷ c) gs h bs = (get_or (ring_at gs 0).labels E None ≡ Some (sh h bs)) × (get_or (ring_at gs 0).labels A None ≡ Some (sh h bs)) × AroundFits c (drop 1 gs) h bs
+  AroundFits (InFor ∷ c) gs h bs = (low : ℕ) × (h ≡ low + 1) × (get_or (ring_at gs 0).labels E None ≡ Some (sh low bs)) × (get_or (ring_at gs 0).labels A None ≡ Some (sh h bs)) × AroundFits c (drop 1 gs) low bs
+  AroundFits (InTry ∷ c) gs h bs = (outer : List ℕ) × (bs ≡ h ∷ outer) × AroundFits c (drop 1 gs) h outer
+  AroundFits (InClause ∷ c) gs h bs = (0 < (ring_at gs 0).own) × AroundFits c (drop 1 gs) h bs
+  AroundFits (InFinally fin ∷ c) gs h bs = (outer : List ℕ) × (bs ≡ h ∷ outer) × Typed k fin (drop 1 gs) (sh h outer) (sh h outer) × AroundFits c (drop 1 gs) h outer
+
+  pub low : (c : List Around) (gs : List Ring) (h : ℕ) (bs : List ℕ) → AroundFits c gs h bs → floor_of bs ≤ h
+  low [] gs h bs f = f
+  low (InWhile ∷ c) gs h bs f = low c (drop 1 gs) h bs f.2
+  low (InFor ∷ c) gs h bs (l, e, a, b, f) = let r = low c (drop 1 gs) l bs f in omega (arith, r, e)
+  low (InTry ∷ c) gs h bs (o, e, f) = let r : floor_of (h ∷ o) ≤ h = omega arith in subst (λ z. floor_of z ≤ h) (sym e) r
+  low (InClause ∷ c) gs h bs f = low c (drop 1 gs) h bs f.1
+  low (InFinally fin ∷ c) gs h bs (o, e, t, f) = let r : floor_of (h ∷ o) ≤ h = omega arith in subst (λ z. floor_of z ≤ h) (sym e) r
+
+  -- a statement inside these constructs
+  pub record Does (c : List Around) (b : Piece) : Type 0 where
+    pub typed : (gs : List Ring) (h : ℕ) (bs : List ℕ) → AroundFits c gs h bs → Room h b → Typed k b gs (sh h bs) (sh h bs)
+
+  -- one that never ends at its end
+  pub record Leaves (c : List Around) (b : Piece) : Type 0 where
+    pub typed : (gs : List Ring) (h : ℕ) (bs : List ℕ) (s : Sh) → AroundFits c gs h bs → Room h b → Typed k b gs (sh h bs) s
+
+  pub leaves_does : (c : List Around) (b : Piece) → Leaves c b → Does c b
+  leaves_does c b w = record { typed = λ gs h bs f room. w.typed gs h bs (sh h bs) f room }
+
+  each_does : (c : List Around) (gs : List Ring) (h : ℕ) (bs : List ℕ) (ps : List Piece) → AroundFits c gs h bs → Each (Does c) ps → h + size_of (map (Sub 1) ps) + 8 < 2 ^ 32 → Each (λ b. Typed k b gs (sh h bs) (sh h bs)) ps
+  each_does c gs h bs [] f vs room = tt
+  each_does c gs h bs (p ∷ ps) f (v, vs) room = (v.typed gs h bs f (omega (arith, room)), each_does c gs h bs ps f vs (omega (arith, room)))
+
+  pub block_does : (c : List Around) (ps : List Piece) → Each (Does c) ps → Does c (row ps)
+  block_does c ps vs = record { typed = λ gs h bs f room. same k gs ps (sh h bs) (each_does c gs h bs ps f vs room) }
+
+  -- break and continue stand in a loop, a raise alone in a clause
+  abbrev pub in_loop : List Around → Bool
+  in_loop [] = false
+  in_loop (InWhile ∷ c) = true
+  in_loop (InFor ∷ c) = true
+  in_loop (_ ∷ c) = in_loop c
+
+  abbrev pub in_clause : List Around → Bool
+  in_clause [] = false
+  in_clause (InClause ∷ c) = true
+  in_clause (_ ∷ c) = in_clause c
+
+  -- an except clause: E is the end of its try
+  pub record Clause (c : List Around) (b : Piece) : Type 0 where
+    pub typed : (gs : List Ring) (h : ℕ) (bs : List ℕ) → AroundFits (InClause ∷ c) gs h bs → get_or (ring_at gs 0).labels E None ≡ Some (sh h bs) → Room h b → Typed k b gs (sh h bs) (sh h bs)
+
+  -- the slot of the innermost clause
+  abbrev pub SlotFits : List Around → List Ring → Type 0
+  SlotFits [] gs = ⊥
+  SlotFits (InClause ∷ c) gs = 0 < (ring_at gs 0).own
+  SlotFits (_ ∷ c) gs = SlotFits c (drop 1 gs)
+
+  slot_fits : (c : List Around) (gs : List Ring) (h : ℕ) (bs : List ℕ) → AroundFits c gs h bs → IsTrue (in_clause c) → SlotFits c gs
+  slot_fits [] gs h bs f i = cc
+  slot_fits (InClause ∷ c) gs h bs f i = f.0
+  slot_fits (InWhile ∷ c) gs h bs f i = slot_fits c (drop 1 gs) h bs f.2 i
+  slot_fits (InFor ∷ c) gs h bs (l, e, a, b, g) i = slot_fits c (drop 1 gs) l bs g i
+  slot_fits (InTry ∷ c) gs h bs (o, e, g) i = slot_fits c (drop 1 gs) h o g i
+  slot_fits (InFinally fin ∷ c) gs h bs (o, e, t, g) i = slot_fits c (drop 1 gs) h o g i
+
+  module _ (ln : ℕ) where
+    pub nothing_does : (c : List Around) → Does c (nothing ln)
+    nothing_does c = record { typed = λ gs h bs f room. template_typed k ln 0 0 [] [] gs _ _ refl refl refl }
+
+    -- the end of a block, where the blocks are these
+    pop_here : (h : ℕ) (bs outer : List ℕ) → bs ≡ h ∷ outer → h + 1 < 2 ^ 32 → Goes k PopTry (sh h bs) (sh h outer)
+    pop_here h bs outer e room = subst (λ z. Goes k PopTry (sh h z) (sh h outer)) (sym e) (pop_try_op k h outer room)
+
+    pub break_does : (c : List Around) → IsTrue (in_loop c) → Leaves c (break_code ln c)
+    break_does [] i = cc
+    break_does (InWhile ∷ c) i = record {
+      typed = λ gs h bs s f room. template_typed k ln 0 0 (To 1 Jump E ∷ []) [] gs _ _ refl refl
+          (s, (sh h bs, f.0, jump_op k h bs s (low (InWhile ∷ c) gs h bs f) (omega (arith, room))), refl);
+    }
+    break_does (InFor ∷ c) i = record {
+      typed = λ gs h bs s f room. let (l, e, a, b, g) = f in
+          let floor = low c (drop 1 gs) l bs g in
+          template_typed k ln 0 0 (Op Pop ∷ To 1 Jump E ∷ []) [] gs _ _ refl refl (
+            sh l bs,
+            subst (λ z. Goes k Pop (sh z bs) (sh l bs)) (sym e) (pop_op k l bs floor (omega (arith, room, e))),
+            (s, (sh l bs, a, jump_op k l bs s floor (omega (arith, room, e))), refl),
+          );
+    }
+    break_does (InTry ∷ c) i = let r = break_does c i in record {
+      typed = λ gs h bs s f room. let (o, e, g) = f in
+          template_typed k ln 0 0 (Op PopTry ∷ Sub 2 (break_code ln c) ∷ []) [] gs _ _ refl refl
+          (sh h o, pop_here h bs o e (omega (arith, room)), (s, r.typed (drop 1 gs) h o s g (omega (arith, room)), refl));
+    }
+    break_does (InClause ∷ c) i = let r = break_does c i in record {
+      typed = λ gs h bs s f room.
+          template_typed k ln 0 0 (Sub 2 (break_code ln c) ∷ []) [] gs _ _ refl refl (s, r.typed (drop 1 gs) h bs s f.1 (omega (arith, room)), refl);
+    }
+    break_does (InFinally fin ∷ c) i = let r = break_does c i in record {
+      typed = λ gs h bs s f room. let (o, e, t, g) = f in
+          template_typed k ln 0 0 (Op PopTry ∷ Sub 2 fin ∷ Sub 2 (break_code ln c) ∷ []) [] gs _ _ refl refl
+          (sh h o, pop_here h bs o e (omega (arith, room)), (sh h o, t, (s, r.typed (drop 1 gs) h o s g (omega (arith, room)), refl)));
+    }
+
+    pub continue_does : (c : List Around) → IsTrue (in_loop c) → Leaves c (continue_code ln c)
+    continue_does [] i = cc
+    continue_does (InWhile ∷ c) i = record {
+      typed = λ gs h bs s f room. template_typed k ln 0 0 (To 1 Jump A ∷ []) [] gs _ _ refl refl
+          (s, (sh h bs, f.1, jump_op k h bs s (low (InWhile ∷ c) gs h bs f) (omega (arith, room))), refl);
+    }
+    continue_does (InFor ∷ c) i = record {
+      typed = λ gs h bs s f room. template_typed k ln 0 0 (To 1 Jump A ∷ []) [] gs _ _ refl refl
+          (s, (sh h bs, f.3, jump_op k h bs s (low (InFor ∷ c) gs h bs f) (omega (arith, room))), refl);
+    }
+    continue_does (InTry ∷ c) i = let r = continue_does c i in record {
+      typed = λ gs h bs s f room. let (o, e, g) = f in
+          template_typed k ln 0 0 (Op PopTry ∷ Sub 2 (continue_code ln c) ∷ []) [] gs _ _ refl refl
+          (sh h o, pop_here h bs o e (omega (arith, room)), (s, r.typed (drop 1 gs) h o s g (omega (arith, room)), refl));
+    }
+    continue_does (InClause ∷ c) i = let r = continue_does c i in record {
+      typed = λ gs h bs s f room.
+          template_typed k ln 0 0 (Sub 2 (continue_code ln c) ∷ []) [] gs _ _ refl refl (s, r.typed (drop 1 gs) h bs s f.1 (omega (arith, room)), refl);
+    }
+    continue_does (InFinally fin ∷ c) i = let r = continue_does c i in record {
+      typed = λ gs h bs s f room. let (o, e, t, g) = f in
+          template_typed k ln 0 0 (Op PopTry ∷ Sub 2 fin ∷ Sub 2 (continue_code ln c) ∷ []) [] gs _ _ refl refl
+          (sh h o, pop_here h bs o e (omega (arith, room)), (sh h o, t, (s, r.typed (drop 1 gs) h o s g (omega (arith, room)), refl)));
+    }
+
+    -- the shape on the way out of the body
+    record Out (gs : List Ring) (h : ℕ) (bs : List ℕ) (c : List Around) : Type 0 where
+      height : ℕ
+      blocks : List ℕ
+      typed : Typed k (leaves ln c) gs (sh h bs) (sh height blocks)
+      floor : floor_of blocks ≤ height
+      less : height ≤ h
+
+    out : (c : List Around) (gs : List Ring) (h : ℕ) (bs : List ℕ) → AroundFits c gs h bs → Room h (leaves ln c) → Out gs h bs c
+    out [] gs h bs f room = record { height = h; blocks = bs; typed = template_typed k ln 0 0 [] [] gs _ _ refl refl refl; floor = f; less = omega arith }
+    out (InWhile ∷ c) gs h bs f room = let o = out c (drop 1 gs) h bs f.2 (omega (arith, room)) in record { height = o.height; blocks = o.blocks; typed = template_typed k ln 0 0 (Sub 2 (leaves ln c) ∷ []) [] gs _ _ refl refl (sh o.height o.blocks, o.typed, refl); floor = o.floor; less = o.less }
+    out (InFor ∷ c) gs h bs (l, e, a, b, g) room =
+        let o = out c (drop 1 gs) l bs g (omega (arith, room, e)) in
+        record {
+          height = o.height;
+          blocks = o.blocks;
+          typed = template_typed k ln 0 0 (Op Pop ∷ Sub 2 (leaves ln c) ∷ []) [] gs _ _ refl refl
+              (sh l bs, subst (λ z. Goes k Pop (sh z bs) (sh l bs)) (sym e) (pop_op k l bs (low c (drop 1 gs) l bs g) (omega (arith, room, e))), (sh o.height o.blocks, o.typed, refl));
+          floor = o.floor;
+          less = omega (arith, e, o.less);
+        }
+    out (InTry ∷ c) gs h bs (l, e, g) room =
+        let o = out c (drop 1 gs) h l g (omega (arith, room)) in
+        record {
+          height = o.height;
+          blocks = o.blocks;
+          typed = template_typed k ln 0 0 (Op PopTry ∷ Sub 2 (leaves ln c) ∷ []) [] gs _ _ refl refl
+              (sh h l, pop_here h bs l e (omega (arith, room)), (sh o.height o.blocks, o.typed, refl));
+          floor = o.floor;
+          less = o.less;
+        }
+    out (InClause ∷ c) gs h bs f room = let o = out c (drop 1 gs) h bs f.1 (omega (arith, room)) in record { height = o.height; blocks = o.blocks; typed = template_typed k ln 0 0 (Sub 2 (leaves ln c) ∷ []) [] gs _ _ refl refl (sh o.height o.blocks, o.typed, refl); floor = o.floor; less = o.less }
+    out (InFinally fin ∷ c) gs h bs (l, e, t, g) room =
+        let o = out c (drop 1 gs) h l g (omega (arith, room)) in
+        record {
+          height = o.height;
+          blocks = o.blocks;
+          typed = template_typed k ln 0 0 (Op PopTry ∷ Sub 2 fin ∷ Sub 2 (leaves ln c) ∷ []) [] gs _ _ refl refl
+              (sh h l, pop_here h bs l e (omega (arith, room)), (sh h l, t, (sh o.height o.blocks, o.typed, refl)));
+          floor = o.floor;
+          less = o.less;
+        }
+
+    pub return_does : (e : Piece) (c : List Around) → Value k e → Leaves c (return ln e c)
+    return_does e c ve = record {
+      typed = λ gs h bs s f room.
+          let le = low c gs h bs f in
+          let o = out c gs h bs f (omega (arith, room)) in
+          template_typed k ln 1 0 (Alone e ∷ Hidden 0 StoreLocal ∷ Sub 1 (leaves ln c) ∷ Hidden 0 LoadLocal ∷ Op Return ∷ []) [] gs _ _ refl refl (
+            sh (h + 1) bs,
+            ve.typed h bs le (omega (arith, room)),
+            (
+              sh h bs,
+              (omega arith, λ r lt. store_op k r h bs lt le (omega (arith, room))),
+              (
+                sh o.height o.blocks,
+                o.typed,
+                (
+                  sh (o.height + 1) o.blocks,
+                  (omega arith, λ r lt. load_op k r o.height o.blocks lt o.floor (omega (arith, room, o.less))),
+                  (s, return_op k o.height o.blocks s o.floor (omega (arith, room, o.less)), refl),
+                ),
+              ),
+            ),
+          );
+    }
+
+    raise_again_typed : (c : List Around) (gs : List Ring) (h : ℕ) (bs : List ℕ) (s : Sh) → SlotFits c gs → floor_of bs ≤ h → Room h (raise_again ln c) → Typed k (raise_again ln c) gs (sh h bs) s
+    raise_again_typed [] gs h bs s i le room = absurd i
+    raise_again_typed (InClause ∷ c) gs h bs s i le room = template_typed k ln 0 0 (Hidden 1 LoadLocal ∷ Op Raise ∷ []) [] gs _ _ refl refl
+        (sh (h + 1) bs, (i, λ r lt. load_op k r h bs lt le (omega (arith, room))), (s, raise_op k h bs s le (omega (arith, room)), refl))
+    raise_again_typed (InWhile ∷ c) gs h bs s i le room = template_typed k ln 0 0 (Sub 2 (raise_again ln c) ∷ []) [] gs _ _ refl refl (s, raise_again_typed c (drop 1 gs) h bs s i le (omega (arith, room)), refl)
+    raise_again_typed (InFor ∷ c) gs h bs s i le room = template_typed k ln 0 0 (Sub 2 (raise_again ln c) ∷ []) [] gs _ _ refl refl (s, raise_again_typed c (drop 1 gs) h bs s i le (omega (arith, room)), refl)
+    raise_again_typed (InTry ∷ c) gs h bs s i le room = template_typed k ln 0 0 (Sub 2 (raise_again ln c) ∷ []) [] gs _ _ refl refl (s, raise_again_typed c (drop 1 gs) h bs s i le (omega (arith, room)), refl)
+    raise_again_typed (InFinally fin ∷ c) gs h bs s i le room = template_typed k ln 0 0 (Sub 2 (raise_again ln c) ∷ []) [] gs _ _ refl refl (s, raise_again_typed c (drop 1 gs) h bs s i le (omega (arith, room)), refl)
+
+    pub raise_again_does : (c : List Around) → IsTrue (in_clause c) → Leaves c (raise_again ln c)
+    raise_again_does c i = record { typed = λ gs h bs s f room. raise_again_typed c gs h bs s (slot_fits c gs h bs f i) (low c gs h bs f) room }
+
+    -- Simple statements.
+
+    inplace_op : (o h : ℕ) (bs : List ℕ) → o < 12 → floor_of bs ≤ h → h + 4 < 2 ^ 32 → Goes k (InPlace o) (sh (h + 1 + 1) bs) (sh (h + 1) bs)
+    inplace_op o h bs lt le room = op k (InPlace o) (h + 1 + 1) (h + 1) bs refl lt (omega (arith, le)) (omega (arith, room)) (omega arith)
+
+    pub assign_does : (c : List Around) (e : Piece) (ts : List Piece) (t : Piece) → Value k e → Each (Change k) ts → Store k t → Does c (assign ln e ts t)
+    assign_does c e ts t ve vs vt = record {
+      typed = λ gs h bs f room. let le = low c gs h bs f in
+          template_typed k ln 0 0 (Alone e ∷ Alone (row ts) ∷ Alone t ∷ []) [] gs _ _ refl refl (
+            sh (h + 1) bs,
+            ve.typed h bs le (omega (arith, room)),
+            (
+              sh (h + 1) bs,
+              same k [] ts (sh (h + 1) bs) (changes k ln ts h bs vs le (omega (arith, room))),
+              (sh h bs, vt.typed h bs le (omega (arith, room)), refl),
+            ),
+          );
+    }
+
+    -- an instruction that leaves the stack as it is, as the deletion of a name
+    pub one_does : (c : List Around) (i : Instr) → (effect k i).flow ≡ On → (effect k i).pops ≡ 0 → (effect k i).pushes ≡ 0 → IsKnown k i → Does c (one ln i)
+    one_does c i a b p d = record {
+      typed = λ gs h bs f room. let le = low c gs h bs f in
+          template_typed k ln 0 0 (Op i ∷ []) [] gs _ _ refl refl (sh h bs, op k i h h bs a d (omega (arith, b, le)) (omega (arith, p, room)) (omega (arith, b, p)), refl);
+    }
+
+    pub del_attr_does : (c : List Around) (o : Piece) (n : ℕ) → Value k o → IsText k n → Does c (del_attr ln o n)
+    del_attr_does c o n vo kn = record {
+      typed = λ gs h bs f room. let le = low c gs h bs f in
+          template_typed k ln 0 0 (Alone o ∷ Op (DelAttr n) ∷ []) [] gs _ _ refl refl (
+            sh (h + 1) bs,
+            vo.typed h bs le (omega (arith, room)),
+            (sh h bs, op k (DelAttr n) (h + 1) h bs refl kn (omega (arith, le)) (omega (arith, room)) (omega arith), refl),
+          );
+    }
+
+    pub del_item_does : (c : List Around) (o i : Piece) → Value k o → Value k i → Does c (del_item ln o i)
+    del_item_does c o i vo vi = record {
+      typed = λ gs h bs f room. let le = low c gs h bs f in
+          template_typed k ln 0 0 (Alone o ∷ Alone i ∷ Op DelItem ∷ []) [] gs _ _ refl refl (
+            sh (h + 1) bs,
+            vo.typed h bs le (omega (arith, room)),
+            (
+              sh (h + 1 + 1) bs,
+              vi.typed (h + 1) bs (omega (arith, le)) (omega (arith, room, vo.some)),
+              (sh h bs, op k DelItem (h + 1 + 1) h bs refl tt (omega (arith, le)) (omega (arith, room)) (omega arith), refl),
+            ),
+          );
+    }
+
+    -- a name's home is known
+    abbrev pub IsHome : Home → Type 0
+    IsHome x = ((effect k (load x)).flow ≡ On) × ((effect k (load x)).pops ≡ 0) × ((effect k (load x)).pushes ≡ 1) × IsKnown k (load x) × ((effect k (store x)).flow ≡ On) × ((effect k (store x)).pops ≡ 1) × ((effect k (store x)).pushes ≡ 0) × IsKnown k (store x)
+
+    load_home : (x : Home) (h : ℕ) (bs : List ℕ) → IsHome x → floor_of bs ≤ h → h + 4 < 2 ^ 32 → Goes k (load x) (sh h bs) (sh (h + 1) bs)
+    load_home x h bs (a, b, c, d, p, q, r, s) le room = op k (load x) h (h + 1) bs a d (omega (arith, le, b)) (omega (arith, room, c)) (omega (arith, b, c))
+
+    store_home : (x : Home) (h : ℕ) (bs : List ℕ) → IsHome x → floor_of bs ≤ h → h + 4 < 2 ^ 32 → Goes k (store x) (sh (h + 1) bs) (sh h bs)
+    store_home x h bs (a, b, c, d, p, q, r, s) le room = op k (store x) (h + 1) h bs p s (omega (arith, le, q)) (omega (arith, room, r)) (omega (arith, q, r))
+
+    pub add_name_does : (c : List Around) (x : Home) (o : ℕ) (e : Piece) → IsHome x → o < 12 → Value k e → Does c (add_name ln x o e)
+    add_name_does c x o e ix lt ve = record {
+      typed = λ gs h bs f room. let le = low c gs h bs f in
+          template_typed k ln 0 0 (Op (load x) ∷ Alone e ∷ Op (InPlace o) ∷ Op (store x) ∷ []) [] gs _ _ refl refl (
+            sh (h + 1) bs,
+            load_home x h bs ix le (omega (arith, room)),
+            (
+              sh (h + 1 + 1) bs,
+              ve.typed (h + 1) bs (omega (arith, le)) (omega (arith, room)),
+              (
+                sh (h + 1) bs,
+                inplace_op o h bs lt le (omega (arith, room)),
+                (sh h bs, store_home x h bs ix le (omega (arith, room)), refl),
+              ),
+            ),
+          );
+    }
+
+    pub add_attr_does : (c : List Around) (a : Piece) (n o : ℕ) (e : Piece) → IsText k n → o < 12 → Value k a → Value k e → Does c (add_attr ln a n o e)
+    add_attr_does c a n o e kn lt va ve = record {
+      typed = λ gs h bs f room. let le = low c gs h bs f in
+          template_typed k ln 0 0 (Alone a ∷ Op Dup ∷ Op (LoadAttr n) ∷ Alone e ∷ Op (InPlace o) ∷ Op Rot2 ∷ Op (StoreAttr n) ∷ []) [] gs _ _ refl refl (
+            sh (h + 1) bs,
+            va.typed h bs le (omega (arith, room)),
+            (
+              sh (h + 1 + 1) bs,
+              op k Dup (h + 1) (h + 1 + 1) bs refl tt (omega (arith, le)) (omega (arith, room)) (omega arith),
+              (
+                sh (h + 1 + 1) bs,
+                op k (LoadAttr n) (h + 1 + 1) (h + 1 + 1) bs refl kn (omega (arith, le)) (omega (arith, room)) (omega arith),
+                (
+                  sh (h + 1 + 1 + 1) bs,
+                  ve.typed (h + 1 + 1) bs (omega (arith, le)) (omega (arith, room)),
+                  (
+                    sh (h + 1 + 1) bs,
+                    inplace_op o (h + 1) bs lt (omega (arith, le)) (omega (arith, room)),
+                    (
+                      sh (h + 1 + 1) bs,
+                      op k Rot2 (h + 1 + 1) (h + 1 + 1) bs refl tt (omega (arith, le)) (omega (arith, room)) (omega arith),
+                      (sh h bs, op k (StoreAttr n) (h + 1 + 1) h bs refl kn (omega (arith, le)) (omega (arith, room)) (omega arith), refl),
+                    ),
+                  ),
+                ),
+              ),
+            ),
+          );
+    }
+
+    pub add_item_does : (c : List Around) (a i : Piece) (o : ℕ) (e : Piece) → o < 12 → Value k a → Value k i → Value k e → Does c (add_item ln a i o e)
+    add_item_does c a i o e lt va vi ve = record {
+      typed = λ gs h bs f room. let le = low c gs h bs f in
+          template_typed k ln 0 0 (Alone a ∷ Alone i ∷ Op Dup2 ∷ Op LoadItem ∷ Alone e ∷ Op (InPlace o) ∷ Op Rot3 ∷ Op StoreItem ∷ []) [] gs _ _ refl refl (
+            sh (h + 1) bs,
+            va.typed h bs le (omega (arith, room)),
+            (
+              sh (h + 1 + 1) bs,
+              vi.typed (h + 1) bs (omega (arith, le)) (omega (arith, room)),
+              (
+                sh (h + 1 + 1 + 1 + 1) bs,
+                op k Dup2 (h + 1 + 1) (h + 1 + 1 + 1 + 1) bs refl tt (omega (arith, le)) (omega (arith, room)) (omega arith),
+                (
+                  sh (h + 1 + 1 + 1) bs,
+                  op k LoadItem (h + 1 + 1 + 1 + 1) (h + 1 + 1 + 1) bs refl tt (omega (arith, le)) (omega (arith, room)) (omega arith),
+                  (
+                    sh (h + 1 + 1 + 1 + 1) bs,
+                    ve.typed (h + 1 + 1 + 1) bs (omega (arith, le)) (omega (arith, room)),
+                    (
+                      sh (h + 1 + 1 + 1) bs,
+                      inplace_op o (h + 1 + 1) bs lt (omega (arith, le)) (omega (arith, room)),
+                      (
+                        sh (h + 1 + 1 + 1) bs,
+                        op k Rot3 (h + 1 + 1 + 1) (h + 1 + 1 + 1) bs refl tt (omega (arith, le)) (omega (arith, room)) (omega arith),
+                        (sh h bs, op k StoreItem (h + 1 + 1 + 1) h bs refl tt (omega (arith, le)) (omega (arith, room)) (omega arith), refl),
+                      ),
+                    ),
+                  ),
+                ),
+              ),
+            ),
+          );
+    }
+
+    pub expression_does : (c : List Around) (e : Piece) → Value k e → Does c (expression ln e)
+    expression_does c e ve = record {
+      typed = λ gs h bs f room. let le = low c gs h bs f in
+          template_typed k ln 0 0 (Alone e ∷ Op Pop ∷ []) [] gs _ _ refl refl
+          (sh (h + 1) bs, ve.typed h bs le (omega (arith, room)), (sh h bs, pop_op k h bs le (omega (arith, room)), refl));
+    }
+
+    pub print_one_does : (c : List Around) (e : Piece) → Value k e → Does c (print_one ln e)
+    print_one_does c e ve = record {
+      typed = λ gs h bs f room. let le = low c gs h bs f in
+          template_typed k ln 0 0 (Alone e ∷ Op PrintItem ∷ []) [] gs _ _ refl refl
+          (sh (h + 1) bs, ve.typed h bs le (omega (arith, room)), (sh h bs, op k PrintItem (h + 1) h bs refl tt (omega (arith, le)) (omega (arith, room)) (omega arith), refl));
+    }
+
+    each_print : (es : List Piece) → Each (Value k) es → Each (Does []) (map (print_one ln) es)
+    each_print [] vs = tt
+    each_print (e ∷ es) (v, vs) = (print_one_does [] e v, each_print es vs)
+
+    pub print_line_does : (c : List Around) (es : List Piece) → Each (Value k) es → Does c (print_line ln es)
+    print_line_does c es vs = let b = block_does [] (map (print_one ln) es) (each_print es vs) in record {
+      typed = λ gs h bs f room. let le = low c gs h bs f in
+          template_typed k ln 0 0 (Alone (row (map (print_one ln) es)) ∷ Op PrintNewline ∷ []) [] gs _ _ refl refl
+          (sh h bs, b.typed [] h bs le (omega (arith, room)), (sh h bs, op k PrintNewline h h bs refl tt (omega (arith, le)) (omega (arith, room)) (omega arith), refl));
+    }
+
+    pub import_does : (c : List Around) (t : Constant) (x : Home) → IsHome x → IsKnown k (Const t) → Does c (import_one ln t x)
+    import_does c t x ix kn = record {
+      typed = λ gs h bs f room. let le = low c gs h bs f in
+          template_typed k ln 0 0 (Op (Const t) ∷ Op (store x) ∷ []) [] gs _ _ refl refl
+          (sh (h + 1) bs, op k (Const t) h (h + 1) bs refl kn (omega (arith, le)) (omega (arith, room)) (omega arith), (sh h bs, store_home x h bs ix le (omega (arith, room)), refl));
+    }
+
+    pub raise_one_does : (c : List Around) (e : Piece) → Value k e → Leaves c (raise_one ln e)
+    raise_one_does c e ve = record {
+      typed = λ gs h bs s f room. let le = low c gs h bs f in
+          template_typed k ln 0 0 (Alone e ∷ Op (MakeRaised 0) ∷ Op Raise ∷ []) [] gs _ _ refl refl (
+            sh (h + 1) bs,
+            ve.typed h bs le (omega (arith, room)),
+            (
+              sh (h + 1) bs,
+              op k (MakeRaised 0) (h + 1) (h + 1) bs refl (omega arith) (omega (arith, le)) (omega (arith, room)) (omega arith),
+              (s, raise_op k h bs s le (omega (arith, room)), refl),
+            ),
+          );
+    }
+
+    pub raise_two_does : (c : List Around) (e v : Piece) → Value k e → Value k v → Leaves c (raise_two ln e v)
+    raise_two_does c e v ve vv = record {
+      typed = λ gs h bs s f room. let le = low c gs h bs f in
+          template_typed k ln 0 0 (Alone e ∷ Alone v ∷ Op (MakeRaised 1) ∷ Op Raise ∷ []) [] gs _ _ refl refl (
+            sh (h + 1) bs,
+            ve.typed h bs le (omega (arith, room)),
+            (
+              sh (h + 1 + 1) bs,
+              vv.typed (h + 1) bs (omega (arith, le)) (omega (arith, room)),
+              (
+                sh (h + 1) bs,
+                op k (MakeRaised 1) (h + 1 + 1) (h + 1) bs refl (omega arith) (omega (arith, le)) (omega (arith, room)) (omega arith),
+                (s, raise_op k h bs s le (omega (arith, room)), refl),
+              ),
+            ),
+          );
+    }
+
+    root_op : (h : ℕ) (bs : List ℕ) → 13 < k.cells → floor_of bs ≤ h → h + 4 < 2 ^ 32 → Goes k (Const (Root 13)) (sh h bs) (sh (h + 1) bs)
+    root_op h bs lt le room = op k (Const (Root 13)) h (h + 1) bs refl (omega arith, lt) (omega (arith, le)) (omega (arith, room)) (omega arith)
+
+    not_op : (h : ℕ) (bs : List ℕ) → floor_of bs ≤ h → h + 4 < 2 ^ 32 → Goes k Not (sh (h + 1) bs) (sh (h + 1) bs)
+    not_op h bs le room = op k Not (h + 1) (h + 1) bs refl tt (omega (arith, le)) (omega (arith, room)) (omega arith)
+
+    pub assert_with_does : (c : List Around) (t m : Piece) → 13 < k.cells → 0 < length k.keys → get_or k.keys 0 0 ≡ 0 → Value k t → Value k m → Does c (assert_with ln t m)
+    assert_with_does c t m root some none vt vm = record {
+      typed = λ gs h bs f room. let le = low c gs h bs f in
+          template_typed k ln 0 1 (Alone t ∷ Op Not ∷ To 0 JumpFalse E ∷ Op (Const (Root 13)) ∷ Alone m ∷ Op (Call 1 0) ∷ Op Raise ∷ Here E ∷ []) (Some (sh h bs) ∷ []) gs _ _ refl refl (
+            sh (h + 1) bs,
+            vt.typed h bs le (omega (arith, room)),
+            (
+              sh (h + 1) bs,
+              not_op h bs le (omega (arith, room)),
+              (
+                sh h bs,
+                (sh h bs, refl, jump_false k h bs le (omega (arith, room))),
+                (
+                  sh (h + 1) bs,
+                  root_op h bs root le (omega (arith, room)),
+                  (
+                    sh (h + 1 + 1) bs,
+                    vm.typed (h + 1) bs (omega (arith, le)) (omega (arith, room)),
+                    (
+                      sh (h + 1) bs,
+                      op k (Call 1 0) (h + 1 + 1) (h + 1) bs refl some (omega (arith, le, none)) (omega (arith, room)) (omega (arith, none)),
+                      (
+                        sh h bs,
+                        raise_op k h bs (sh h bs) le (omega (arith, room)),
+                        (sh h bs, (refl, refl), refl),
+                      ),
+                    ),
+                  ),
+                ),
+              ),
+            ),
+          );
+    }
+
+    pub assert_alone_does : (c : List Around) (t : Piece) → 13 < k.cells → Value k t → Does c (assert_alone ln t)
+    assert_alone_does c t root vt = record {
+      typed = λ gs h bs f room. let le = low c gs h bs f in
+          template_typed k ln 0 1 (Alone t ∷ Op Not ∷ To 0 JumpFalse E ∷ Op (Const (Root 13)) ∷ Op (MakeRaised 0) ∷ Op Raise ∷ Here E ∷ []) (Some (sh h bs) ∷ []) gs _ _ refl refl (
+            sh (h + 1) bs,
+            vt.typed h bs le (omega (arith, room)),
+            (
+              sh (h + 1) bs,
+              not_op h bs le (omega (arith, room)),
+              (
+                sh h bs,
+                (sh h bs, refl, jump_false k h bs le (omega (arith, room))),
+                (
+                  sh (h + 1) bs,
+                  root_op h bs root le (omega (arith, room)),
+                  (
+                    sh (h + 1) bs,
+                    op k (MakeRaised 0) (h + 1) (h + 1) bs refl (omega arith) (omega (arith, le)) (omega (arith, room)) (omega arith),
+                    (
+                      sh h bs,
+                      raise_op k h bs (sh h bs) le (omega (arith, room)),
+                      (sh h bs, (refl, refl), refl),
+                    ),
+                  ),
+                ),
+              ),
+            ),
+          );
+    }
+
+    -- Compound statements.
+
+    pub def_does : (c : List Around) (ds : List Piece) (f : ℕ) (x : Home) → IsHome x → Each (Value k) ds → IsKnown k (MakeFunction f (length ds)) → Does c (def ln ds f x)
+    def_does c ds f x ix vs kn = record {
+      typed = λ gs h bs fits room. let le = low c gs h bs fits in
+          template_typed k ln 0 0 (Alone (row ds) ∷ Op (MakeFunction f (length ds)) ∷ Op (store x) ∷ []) [] gs _ _ refl refl (
+            sh (h + length ds) bs,
+            values k ds h bs vs le (omega (arith, room)),
+            (
+              sh (h + 1) bs,
+              op k (MakeFunction f (length ds)) (h + length ds) (h + 1) bs refl kn (omega (arith, le)) (omega (arith, room, many_values k ds vs)) (omega arith),
+              (sh h bs, store_home x h bs ix le (omega (arith, room)), refl),
+            ),
+          );
+    }
+
+    pub class_does : (c : List Around) (b : Piece) (f : ℕ) (x : Home) → IsHome x → Value k b → IsKnown k (ClassBody f) → Does c (class ln b f x)
+    class_does c b f x ix vb kn = record {
+      typed = λ gs h bs fits room. let le = low c gs h bs fits in
+          template_typed k ln 0 0 (Alone b ∷ Op (ClassBody f) ∷ Op (store x) ∷ []) [] gs _ _ refl refl (
+            sh (h + 1) bs,
+            vb.typed h bs le (omega (arith, room)),
+            (
+              sh (h + 1) bs,
+              op k (ClassBody f) (h + 1) (h + 1) bs refl kn (omega (arith, le)) (omega (arith, room)) (omega arith),
+              (sh h bs, store_home x h bs ix le (omega (arith, room)), refl),
+            ),
+          );
+    }
+
+    -- an arm: E is the end of its `if`
+    pub record Arm (c : List Around) (b : Piece) : Type 0 where
+      pub typed : (gs : List Ring) (h : ℕ) (bs : List ℕ) → AroundFits c (drop 1 gs) h bs → get_or (ring_at gs 0).labels E None ≡ Some (sh h bs) → Room h b → Typed k b gs (sh h bs) (sh h bs)
+
+    each_arm : (c : List Around) (gs : List Ring) (h : ℕ) (bs : List ℕ) (ps : List Piece) → AroundFits c (drop 1 gs) h bs → get_or (ring_at gs 0).labels E None ≡ Some (sh h bs) → Each (Arm c) ps → h + size_of (map (Sub 1) ps) + 8 < 2 ^ 32 → Each (λ b. Typed k b gs (sh h bs) (sh h bs)) ps
+    each_arm c gs h bs [] f far vs room = tt
+    each_arm c gs h bs (p ∷ ps) f far (v, vs) room = (v.typed gs h bs f far (omega (arith, room)), each_arm c gs h bs ps f far vs (omega (arith, room)))
+
+    pub arm_is : (c : List Around) (t body : Piece) → Value k t → Does c body → Arm c (arm ln t body)
+    arm_is c t body vt vb = record {
+      typed = λ gs h bs f far room. let le = low c (drop 1 gs) h bs f in
+          template_typed k ln 0 1 (Alone t ∷ To 0 JumpFalse M ∷ Sub 2 body ∷ To 1 Jump E ∷ Here M ∷ []) (Some (sh h bs) ∷ []) gs _ _ refl refl (
+            sh (h + 1) bs,
+            vt.typed h bs le (omega (arith, room)),
+            (
+              sh h bs,
+              (sh h bs, refl, jump_false k h bs le (omega (arith, room))),
+              (
+                sh h bs,
+                vb.typed (drop 1 gs) h bs f (omega (arith, room)),
+                (
+                  sh h bs,
+                  (sh h bs, far, jump_op k h bs (sh h bs) le (omega (arith, room))),
+                  (sh h bs, (refl, refl), refl),
+                ),
+              ),
+            ),
+          );
+    }
+
+    pub all_arms_does : (c : List Around) (ps : List Piece) (other : Piece) → Each (Arm c) ps → Does c other → Does c (all_arms ln ps other)
+    all_arms_does c ps other vs vo = record {
+      typed = λ gs h bs f room.
+          let g : Ring = own_ring 0 (Some (sh h bs) ∷ []) in
+          template_typed k ln 0 1 (Sub 0 (row ps) ∷ Sub 1 other ∷ Here E ∷ []) (Some (sh h bs) ∷ []) gs _ _ refl refl
+          (sh h bs, same k (g ∷ gs) ps (sh h bs) (each_arm c (g ∷ gs) h bs ps f refl vs (omega (arith, room))), (sh h bs, vo.typed gs h bs f (omega (arith, room)), (sh h bs, (refl, refl), refl)));
+    }
+
+    pub while_does : (c : List Around) (t body other : Piece) → Value k t → Does (InWhile ∷ c) body → Does c other → Does c (while ln t body other)
+    while_does c t body other vt vb vo = record {
+      typed = λ gs h bs f room. let le = low c gs h bs f in
+          template_typed k ln 0 3 (Here A ∷ Alone t ∷ To 0 JumpFalse B ∷ Sub 0 body ∷ To 0 Jump A ∷ Here B ∷ Sub 1 other ∷ Here E ∷ []) (Some (sh h bs) ∷ Some (sh h bs) ∷ Some (sh h bs) ∷ []) gs _ _ refl refl (
+            sh h bs,
+            (refl, refl),
+            (
+              sh (h + 1) bs,
+              vt.typed h bs le (omega (arith, room)),
+              (
+                sh h bs,
+                (sh h bs, refl, jump_false k h bs le (omega (arith, room))),
+                (
+                  sh h bs,
+                  vb.typed _ h bs (refl, refl, f) (omega (arith, room)),
+                  (
+                    sh h bs,
+                    (sh h bs, refl, jump_op k h bs (sh h bs) le (omega (arith, room))),
+                    (
+                      sh h bs,
+                      (refl, refl),
+                      (
+                        sh h bs,
+                        vo.typed gs h bs f (omega (arith, room)),
+                        (sh h bs, (refl, refl), refl),
+                      ),
+                    ),
+                  ),
+                ),
+              ),
+            ),
+          );
+    }
+
+    pub for_does : (c : List Around) (t e body other : Piece) → Store k t → Value k e → Does (InFor ∷ c) body → Does c other → Does c (for ln t e body other)
+    for_does c t e body other vt ve vb vo = record {
+      typed = λ gs h bs f room. let le = low c gs h bs f in
+          template_typed k ln 0 3 (Alone e ∷ Op Iter ∷ Here A ∷ To 0 Next B ∷ Alone t ∷ Sub 0 body ∷ To 0 Jump A ∷ Here B ∷ Sub 1 other ∷ Here E ∷ []) (Some (sh h bs) ∷ Some (sh (h + 1) bs) ∷ Some (sh h bs) ∷ []) gs _ _ refl refl (
+            sh (h + 1) bs,
+            ve.typed h bs le (omega (arith, room)),
+            (
+              sh (h + 1) bs,
+              op k Iter (h + 1) (h + 1) bs refl tt (omega (arith, le)) (omega (arith, room)) (omega arith),
+              (
+                sh (h + 1) bs,
+                (refl, refl),
+                (
+                  sh (h + 1 + 1) bs,
+                  (sh h bs, refl, next_op k h bs le (omega (arith, room))),
+                  (
+                    sh (h + 1) bs,
+                    vt.typed (h + 1) bs (omega (arith, le)) (omega (arith, room)),
+                    (
+                      sh (h + 1) bs,
+                      vb.typed _ (h + 1) bs (h, refl, refl, refl, f) (omega (arith, room)),
+                      (
+                        sh h bs,
+                        (sh (h + 1) bs, refl, jump_op k (h + 1) bs (sh h bs) (omega (arith, le)) (omega (arith, room))),
+                        (
+                          sh h bs,
+                          (refl, refl),
+                          (
+                            sh h bs,
+                            vo.typed gs h bs f (omega (arith, room)),
+                            (sh h bs, (refl, refl), refl),
+                          ),
+                        ),
+                      ),
+                    ),
+                  ),
+                ),
+              ),
+            ),
+          );
+    }
+
+    match_op : (h : ℕ) (bs : List ℕ) → floor_of bs ≤ h → h + 4 < 2 ^ 32 → Goes k ExcMatch (sh (h + 1 + 1) bs) (sh (h + 1) bs)
+    match_op h bs le room = op k ExcMatch (h + 1 + 1) (h + 1) bs refl tt (omega (arith, le)) (omega (arith, room)) (omega arith)
+
+    pub clause_bare_is : (c : List Around) (body : Piece) → Does (InClause ∷ c) body → Clause c (clause_bare ln body)
+    clause_bare_is c body vb = record {
+      typed = λ gs h bs f end room. let le = low (InClause ∷ c) gs h bs f in
+          template_typed k ln 0 0 (Sub 1 body ∷ To 1 Jump E ∷ []) [] gs _ _ refl refl
+          (sh h bs, vb.typed gs h bs f (omega (arith, room)), (sh h bs, (sh h bs, end, jump_op k h bs (sh h bs) le (omega (arith, room))), refl));
+    }
+
+    pub clause_test_is : (c : List Around) (t body : Piece) → Value k t → Does (InClause ∷ c) body → Clause c (clause_test ln t body)
+    clause_test_is c t body vt vb = record {
+      typed = λ gs h bs f end room. let le = low (InClause ∷ c) gs h bs f in
+          template_typed k ln 0 1 (Hidden 1 LoadLocal ∷ Alone t ∷ Op ExcMatch ∷ To 0 JumpFalse M ∷ Sub 1 body ∷ To 1 Jump E ∷ Here M ∷ []) (Some (sh h bs) ∷ []) gs _ _ refl refl (
+            sh (h + 1) bs,
+            (f.0, λ r lt. load_op k r h bs lt le (omega (arith, room))),
+            (
+              sh (h + 1 + 1) bs,
+              vt.typed (h + 1) bs (omega (arith, le)) (omega (arith, room)),
+              (
+                sh (h + 1) bs,
+                match_op h bs le (omega (arith, room)),
+                (
+                  sh h bs,
+                  (sh h bs, refl, jump_false k h bs le (omega (arith, room))),
+                  (
+                    sh h bs,
+                    vb.typed gs h bs f (omega (arith, room)),
+                    (
+                      sh h bs,
+                      (sh h bs, end, jump_op k h bs (sh h bs) le (omega (arith, room))),
+                      (sh h bs, (refl, refl), refl),
+                    ),
+                  ),
+                ),
+              ),
+            ),
+          );
+    }
+
+    pub clause_target_is : (c : List Around) (t x body : Piece) → Value k t → Store k x → Does (InClause ∷ c) body → Clause c (clause_target ln t x body)
+    clause_target_is c t x body vt vx vb = record {
+      typed = λ gs h bs f end room. let le = low (InClause ∷ c) gs h bs f in
+          template_typed k ln 0 1 (Hidden 1 LoadLocal ∷ Alone t ∷ Op ExcMatch ∷ To 0 JumpFalse M ∷ Hidden 1 LoadLocal ∷ Alone x ∷ Sub 1 body ∷ To 1 Jump E ∷ Here M ∷ []) (Some (sh h bs) ∷ []) gs _ _ refl refl (
+            sh (h + 1) bs,
+            (f.0, λ r lt. load_op k r h bs lt le (omega (arith, room))),
+            (
+              sh (h + 1 + 1) bs,
+              vt.typed (h + 1) bs (omega (arith, le)) (omega (arith, room)),
+              (
+                sh (h + 1) bs,
+                match_op h bs le (omega (arith, room)),
+                (
+                  sh h bs,
+                  (sh h bs, refl, jump_false k h bs le (omega (arith, room))),
+                  (
+                    sh (h + 1) bs,
+                    (f.0, λ r lt. load_op k r h bs lt le (omega (arith, room))),
+                    (
+                      sh h bs,
+                      vx.typed h bs le (omega (arith, room)),
+                      (
+                        sh h bs,
+                        vb.typed gs h bs f (omega (arith, room)),
+                        (
+                          sh h bs,
+                          (sh h bs, end, jump_op k h bs (sh h bs) le (omega (arith, room))),
+                          (sh h bs, (refl, refl), refl),
+                        ),
+                      ),
+                    ),
+                  ),
+                ),
+              ),
+            ),
+          );
+    }
+
+    each_clause : (c : List Around) (gs : List Ring) (h : ℕ) (bs : List ℕ) (ps : List Piece) → AroundFits (InClause ∷ c) gs h bs → get_or (ring_at gs 0).labels E None ≡ Some (sh h bs) → Each (Clause c) ps → h + size_of (map (Sub 1) ps) + 8 < 2 ^ 32 → Each (λ b. Typed k b gs (sh h bs) (sh h bs)) ps
+    each_clause c gs h bs [] f end vs room = tt
+    each_clause c gs h bs (p ∷ ps) f end (v, vs) room = (v.typed gs h bs f end (omega (arith, room)), each_clause c gs h bs ps f end vs (omega (arith, room)))
+
+    pub try_except_does : (c : List Around) (body : Piece) (clauses : List Piece) (other : Piece) → Does (InTry ∷ c) body → Each (Clause c) clauses → Does c other → Does c (try_except ln body clauses other)
+    try_except_does c body clauses other vb vs vo = record {
+      typed = λ gs h bs f room. let le = low c gs h bs f in
+          let g : Ring = own_ring 1 (Some (sh h bs) ∷ Some (sh (h + 1) bs) ∷ []) in
+          template_typed k ln 1 2 (To 0 Try H ∷ Sub 0 body ∷ Op PopTry ∷ Sub 1 other ∷ To 0 Jump E ∷ Here H ∷ Hidden 0 StoreLocal ∷ Sub 0 (row clauses) ∷ Hidden 0 LoadLocal ∷ Op Raise ∷ Here E ∷ []) (Some (sh h bs) ∷ Some (sh (h + 1) bs) ∷ []) gs _ _ refl refl (
+            sh h (h ∷ bs),
+            (sh (h + 1) bs, refl, try_op k h bs le (omega (arith, room))),
+            (
+              sh h (h ∷ bs),
+              vb.typed (g ∷ gs) h (h ∷ bs) (bs, refl, f) (omega (arith, room)),
+              (
+                sh h bs,
+                pop_try_op k h bs (omega (arith, room)),
+                (
+                  sh h bs,
+                  vo.typed gs h bs f (omega (arith, room)),
+                  (
+                    sh (h + 1) bs,
+                    (sh h bs, refl, jump_op k h bs (sh (h + 1) bs) le (omega (arith, room))),
+                    (
+                      sh (h + 1) bs,
+                      (refl, refl),
+                      (
+                        sh h bs,
+                        (omega arith, λ r lt. store_op k r h bs lt le (omega (arith, room))),
+                        (
+                          sh h bs,
+                          same k (g ∷ gs) clauses (sh h bs) (each_clause c (g ∷ gs) h bs clauses (omega arith, f) refl vs (omega (arith, room))),
+                          (
+                            sh (h + 1) bs,
+                            (omega arith, λ r lt. load_op k r h bs lt le (omega (arith, room))),
+                            (
+                              sh h bs,
+                              raise_op k h bs (sh h bs) le (omega (arith, room)),
+                              (sh h bs, (refl, refl), refl),
+                            ),
+                          ),
+                        ),
+                      ),
+                    ),
+                  ),
+                ),
+              ),
+            ),
+          );
+    }
+
+    pub try_finally_does : (c : List Around) (inner fin : Piece) → Does (InFinally fin ∷ c) inner → Does c fin → Does c (try_finally ln inner fin)
+    try_finally_does c inner fin vi vf = record {
+      typed = λ gs h bs f room. let le = low c gs h bs f in
+          let g : Ring = own_ring 1 (Some (sh h bs) ∷ Some (sh (h + 1) bs) ∷ []) in
+          let ft = vf.typed gs h bs f (omega (arith, room)) in
+          template_typed k ln 1 2 (To 0 Try H ∷ Sub 0 inner ∷ Op PopTry ∷ Sub 1 fin ∷ To 0 Jump E ∷ Here H ∷ Hidden 0 StoreLocal ∷ Sub 1 fin ∷ Hidden 0 LoadLocal ∷ Op Raise ∷ Here E ∷ []) (Some (sh h bs) ∷ Some (sh (h + 1) bs) ∷ []) gs _ _ refl refl (
+            sh h (h ∷ bs),
+            (sh (h + 1) bs, refl, try_op k h bs le (omega (arith, room))),
+            (
+              sh h (h ∷ bs),
+              vi.typed (g ∷ gs) h (h ∷ bs) (bs, refl, ft, f) (omega (arith, room)),
+              (
+                sh h bs,
+                pop_try_op k h bs (omega (arith, room)),
+                (
+                  sh h bs,
+                  ft,
+                  (
+                    sh (h + 1) bs,
+                    (sh h bs, refl, jump_op k h bs (sh (h + 1) bs) le (omega (arith, room))),
+                    (
+                      sh (h + 1) bs,
+                      (refl, refl),
+                      (
+                        sh h bs,
+                        (omega arith, λ r lt. store_op k r h bs lt le (omega (arith, room))),
+                        (
+                          sh h bs,
+                          ft,
+                          (
+                            sh (h + 1) bs,
+                            (omega arith, λ r lt. load_op k r h bs lt le (omega (arith, room))),
+                            (
+                              sh h bs,
+                              raise_op k h bs (sh h bs) le (omega (arith, room)),
+                              (sh h bs, (refl, refl), refl),
+                            ),
+                          ),
+                        ),
+                      ),
+                    ),
+                  ),
+                ),
+              ),
+            ),
+          );
+    }

@@ -1,0 +1,46 @@
+//! Why a tree has no program.
+ghost use Rattle.std.specs.Prelude.{◌≡◌};
+ghost use Rattle.py_compile.specs.declared.error.Fault.TheVariants.{OutOfMemory};
+
+use py_data::Refusal;
+use std::alloc::AllocError;
+use thiserror::Error;
+
+/// Why a module has no program.
+#[derive(Clone, Copy, Debug, Drop, Error, PartialEq, Eq)]
+pub enum CompileError {
+    /// `TooLarge`, with the line of the body that has too many instructions, and 1 for all else that is too large.
+    #[error("the program is too large")]
+    Refused(Refusal),
+    /// There was no memory for the program.
+    #[error("out of memory")]
+    OutOfMemory,
+}
+
+/// Why a body has no code.
+#[derive(Clone, Copy, Debug, Drop, Error, PartialEq, Eq)]
+pub enum Fault {
+    /// It has more instructions than a code may have.
+    #[error("a body is too large")]
+    TooLarge,
+    #[error("out of memory")]
+    OutOfMemory,
+}
+
+impl From<AllocError> for Fault {
+    ghost from_gives = { λ _ e. e ≡ OutOfMemory };
+
+    fn from(_e: AllocError) -> Fault {
+        Fault::OutOfMemory
+    }
+}
+
+impl From<AllocError> for CompileError {
+    ghost use Rattle.py_compile.specs.declared.error.CompileError.TheVariants.{OutOfMemory};
+
+    ghost from_gives = { λ _ e. e ≡ OutOfMemory };
+
+    fn from(_e: AllocError) -> CompileError {
+        CompileError::OutOfMemory
+    }
+}

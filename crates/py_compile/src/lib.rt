@@ -1,0 +1,12 @@
+//! From trees to programs, by a table of templates with labels.
+#![tactic(auto)]
+
+mod draft;
+mod emitter;
+mod error;
+mod home;
+#[cfg(test)]
+mod name_tests;
+mod names;
+
+pub use error::CompileError;

@@ -1,0 +1,222 @@
+//! What a body knows of names.
+ghost use Rattle.std.specs.Prelude.{◌≡◌, [], ◌∷◌, ◌≤◌, ◌<◌, ◌+◌, ◌^◌, IfSome, length, MatchOption, OnErr, OnOk};
+ghost use Rattle.py_compile.specs.Expressions.{key_names};
+ghost use Rattle.py_compile.specs.Names.{cell, find_name, first_cell, has, home, key_list, list_number, number_in, same_names, text};
+ghost use Rattle.py_compile.specs.Uses.{with_name};
+
+use crate::home::Home;
+use indexmap::IndexSet;
+use py_code::Texts;
+use py_data::{Bytes, NoMemory};
+use py_tree::Named;
+use std::alloc::Global;
+use std::marker::Model;
+
+/// The root that is the first string: the cell of the count of threads and the classes stand before it.
+const FIRST_TEXT: usize = 21;
+
+/// Names in the order in which they were noted, which contracts see as that list. A name is found in constant time, but for
+/// collisions of the hash.
+#[derive(Drop)]
+pub struct NameSet<'a> {
+    set: IndexSet<&'a [u8]>,
+}
+
+impl<'a> Model for NameSet<'a> {
+    ghost use Rattle.std.specs.Prelude.{List, ℕ, map};
+
+    ghost Value = { List (List ℕ) };
+
+    ghost view = { λ a. map (λ x. x.now) a.set.keys };
+}
+
+impl<'a> NameSet<'a> {
+    /// No names.
+    pub fn new(alloc: Global) -> NameSet<'a>
+        ensures { result ≡ [] }
+    {
+        NameSet {
+            set: IndexSet::new(alloc),
+        }
+    }
+
+    /// How many names there are.
+    pub fn len(&self) -> usize
+        ensures { result ≡ length self.now }
+    {
+        self.set.len()
+    }
+
+    /// Whether the name is there.
+    pub fn has(&self, name: &[u8]) -> bool
+        ensures { result ≡ has name.now self.now }
+    {
+        self.set.contains(name)
+    }
+
+    /// The place of a name, from 0, if it is there.
+    pub fn find(&self, name: &[u8]) -> Option<usize>
+        ensures place { result ≡ find_name name.now self.now }
+        ensures within { IfSome result (λ i. i < length self.now) }
+    {
+        self.set.get_index_of(name)
+    }
+
+    /// Adds a name, if it isn't there.
+    pub fn note(&mut self, name: &'a [u8]) -> Result<(), NoMemory>
+        ensures names { OnOk result (self.new ≡ with_name self.old name.now) }
+        ensures err { OnErr result (self.new ≡ self.old) }
+    {
+        let _ = self.set.insert_full(name)?;
+        Ok(())
+    }
+
+    /// The names, in their order.
+    pub fn as_slice(&self) -> &[&'a [u8]] {
+        self.set.as_slice()
+    }
+}
+
+/// What a body knows of names: whether it is that of a class, the names that it binds, and of the whole program the strings
+/// and the global names among the roots; and the names in each of its keyword lists.
+#[derive(Drop)]
+pub struct Names<'s, 'a> {
+    is_class: bool,
+    locals: &'s NameSet<'a>,
+    texts: &'s NameSet<'a>,
+    cells: &'s NameSet<'a>,
+    keys: &'s [Texts],
+}
+
+impl<'s, 'a> Model for Names<'s, 'a> {
+    ghost use Rattle.std.specs.Prelude.{◌+◌, ◌<◌, ◌^◌, length};
+    ghost use Rattle.py_compile.specs.Names.{Known, first_cell};
+
+    ghost Value = { Known };
+
+    ghost view = { λ n. record { is_class = n.is_class; locals = n.locals.now; texts = n.texts.now; cells = n.cells.now; keys = n.keys.now } };
+
+    ghost invariant = { λ n. (first_cell n.texts.now n.cells.now + length n.cells.now < 2 ^ 32) × (length n.locals.now < 2 ^ 32) × (length n.keys.now < 2 ^ 32) };
+}
+
+impl<'s, 'a> Names<'s, 'a> {
+    /// What a body knows, by its parts. Roots, slots and keyword lists have numbers of 32 bits.
+    pub fn new(
+        is_class: bool,
+        locals: &'s NameSet<'a>,
+        texts: &'s NameSet<'a>,
+        cells: &'s NameSet<'a>,
+        keys: &'s [Texts],
+    ) -> Names<'s, 'a>
+        requires roots { first_cell texts.now cells.now + length cells.now < 2 ^ 32 }
+        requires slots { length locals.now < 2 ^ 32 }
+        requires lists { length keys.now < 2 ^ 32 }
+        ensures { result ≡ record { is_class = is_class; locals = locals.now; texts = texts.now; cells = cells.now; keys = keys.now } }
+    {
+        Names {
+            is_class,
+            locals,
+            texts,
+            cells,
+            keys,
+        }
+    }
+
+    /// The root of a string.
+    pub fn text(&self, bytes: &[u8]) -> u32
+        ensures { result ≡ text self.now bytes.now }
+    {
+        (FIRST_TEXT + place(self.texts, bytes)) as u32
+    }
+
+    /// The root of a global name.
+    fn cell(&self, name: &[u8]) -> u32
+        ensures { result ≡ cell self.now name.now }
+    {
+        let main = if self.cells.has(b"__name__") { 1 } else { 0 };
+        (FIRST_TEXT + self.texts.len() + main + place(self.cells, name)) as u32
+    }
+
+    /// Where a name lives.
+    pub fn home(&self, name: &[u8]) -> Home
+        ensures { result ≡ home self.now name.now }
+    {
+        match self.locals.find(name) {
+            None => Home::Cell(self.cell(name)),
+            Some(slot) => {
+                if self.is_class {
+                    Home::Body(self.text(name))
+                } else {
+                    Home::Slot(slot as u32)
+                }
+            }
+        }
+    }
+
+    /// The number of the keyword list of a call with these keyword arguments.
+    pub fn key_list(&self, named: &[Named]) -> u32
+        ensures { result ≡ key_list self.now (key_names named.now) }
+    {
+        number_of(self.keys, named)
+    }
+}
+
+/// The number of the keyword list among these; 0 where it isn't there.
+fn number_of(lists: &[Texts], named: &[Named]) -> u32
+    requires { length lists.now < 2 ^ 32 }
+    ensures { result ≡ list_number 0 (key_names named.now) lists.now }
+{
+    let mut rest = lists;
+    let mut number = 0;
+    'lists: while let Some((list, more)) = split(rest) {
+        if same_names(named, list.as_slice()) {
+            return number;
+        }
+        rest = more;
+        number += 1;
+    }
+    0
+}
+
+/// The first of these and the others.
+pub fn split<T>(items: &[T]) -> Option<(&T, &[T])>
+    ensures { MatchOption result (items.now ≡ []) (λ p. items.now ≡ p.0.now ∷ p.1.now) }
+{
+    items.split_first()
+}
+
+/// Whether these are the keywords of a call, in the same order.
+pub fn same_names(named: &[Named], names: &[Bytes]) -> bool
+    ensures { result ≡ same_names (key_names named.now) names.now }
+{
+    let mut left = named;
+    let mut right = names;
+    'names: while let Some((x, more)) = split(left) {
+        match split(right) {
+            None => return false,
+            Some((y, others)) => {
+                if x.name.as_slice() != y.as_slice() {
+                    return false;
+                }
+                left = more;
+                right = others;
+            }
+        }
+    }
+    match split(right) {
+        None => true,
+        Some(_) => false,
+    }
+}
+
+/// The place of a name, or 0 where it isn't there.
+fn place(names: &NameSet, name: &[u8]) -> usize
+    ensures place { result ≡ number_in name.now names.now }
+    ensures within { length names.now ≡ 0 → result ≡ 0 }
+    ensures fits { result ≤ length names.now }
+{
+    match names.find(name) {
+        Some(i) => i,
+        None => 0,
+    }
+}
