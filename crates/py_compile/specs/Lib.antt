@@ -6,3 +6,7 @@ pub mod Expressions
 pub mod Statements
 pub mod Uses
 pub mod Whole
+pub mod Tallies
+pub mod Rounds
+pub mod Gathered
+pub mod Compiles

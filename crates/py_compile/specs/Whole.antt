@@ -28,6 +28,73 @@ module_body ss = record { line = 1; name = []; is_class = false; params = 0; blo
 abbrev pub bodies : List Stmt → List Body
 bodies ss = module_body ss ∷ (stated_block ss).inner 1
 
+-- ---- the roots
+
+abbrev pub text_root : List ℕ → Root
+text_root x = record { kind = Str; number = 0; bytes = x }
+
+abbrev pub cell_root : List ℕ → Root
+cell_root x = record { kind = Cell; number = 0; bytes = x }
+
+abbrev pub class_roots : ℕ → ℕ → List Root
+class_roots c zero = []
+class_roots c (suc n) = record { kind = Class; number = c; bytes = [] } ∷ class_roots (c + 1) n
+
+abbrev pub roots_of : List (List ℕ) → List (List ℕ) → List Root
+roots_of texts cells = cell_root [] ∷ class_roots 0 classes ++ map text_root (texts ++ main_texts cells) ++ map cell_root cells
+
+-- ---- the codes
+
+-- a function's own names have slots, and hidden slots follow
+abbrev pub slots_named : Bool → List (List ℕ) → List (List ℕ)
+slots_named true ns = []
+slots_named false ns = ns
+
+abbrev pub code_by : Body → Known → Piece → Code
+code_by y n p = record {
+  name = y.name;
+  instrs = p.code [] 0 (length (slots_named y.is_class n.locals));
+  lines = p.lines;
+  slots = slots_named y.is_class n.locals ++ replicate p.slots [];
+  params = y.params;
+  keys = map (map (text n)) n.keys;
+}
+
+-- the whole code of a body: the module's begins with SETUP
+abbrev pub whole : ℕ → Body → Known → Piece
+whole zero y n = module_code y.line (y.block n)
+whole (suc b) y n = body_code y.line (y.block n)
+
+-- the code of the body with that number
+abbrev pub code_at : ℕ → Body → Known → Code
+code_at b y n = code_by y n (whole b y n)
+
+-- ---- what is too large
+
+-- a string of more than 1,048,576 bytes
+abbrev pub is_long : List ℕ → Bool
+is_long x = nat_lt 1048576 (length x)
+
+-- the least of two lines
+abbrev pub least : Option ℕ → Option ℕ → Option ℕ
+least None b = b
+least (Some a) None = Some a
+least (Some a) (Some b) = Some (min a b)
+
+-- the line of a body with more than 65,535 instructions
+abbrev pub large_at : ℕ → Body → Known → Option ℕ
+large_at b y n = if nat_lt 65535 (whole b y n).size then Some y.line else None
+
+-- The codes of bodies that are numbered from b on, and the least line of one that is too large, where this is known of names.
+module _ (known : ℕ → Body → Known) where
+  abbrev pub codes_from : ℕ → List Body → List Code
+  codes_from b [] = []
+  codes_from b (y ∷ ys) = code_at b y (known b y) ∷ codes_from (b + 1) ys
+
+  abbrev pub large_bodies : ℕ → List Body → Option ℕ
+  large_bodies b [] = None
+  large_bodies b (y ∷ ys) = least (large_at b y (known b y)) (large_bodies (b + 1) ys)
+
 -- The names that the bodies bind, from the list of their scopes.
 module _ (locals : List (List (List ℕ))) (ss : List Stmt) where
   abbrev pub locals_of : ℕ → List (List ℕ)
@@ -46,78 +113,21 @@ module _ (locals : List (List (List ℕ))) (ss : List Stmt) where
   abbrev pub names_of : ℕ → Body → Known
   names_of b y = record { is_class = y.is_class; locals = locals_of b; texts = texts; cells = cells; keys = keys_from b ([] ∷ []) uses }
 
-  -- ---- the roots
-
-  abbrev pub text_root : List ℕ → Root
-  text_root x = record { kind = Str; number = 0; bytes = x }
-
-  abbrev pub cell_root : List ℕ → Root
-  cell_root x = record { kind = Cell; number = 0; bytes = x }
-
-  abbrev pub class_roots : ℕ → ℕ → List Root
-  class_roots c zero = []
-  class_roots c (suc n) = record { kind = Class; number = c; bytes = [] } ∷ class_roots (c + 1) n
-
   -- the cell of the count of threads, the classes, the strings, the cells of the global names
   abbrev pub roots : List Root
-  roots = cell_root [] ∷ class_roots 0 classes ++ map text_root (texts ++ main_texts cells) ++ map cell_root cells
+  roots = roots_of texts cells
 
-  -- ---- the codes
-
-  -- a function's own names have slots, and hidden slots follow
-  abbrev pub slots_named : Bool → List (List ℕ) → List (List ℕ)
-  slots_named true ns = []
-  slots_named false ns = ns
-
-  -- a module binds no name of its own
-  abbrev pub code_by : ℕ → Body → Known → Piece → Code
-  code_by b y n p = record {
-    name = y.name;
-    instrs = p.code [] 0 (length (slots_named y.is_class n.locals));
-    lines = p.lines;
-    slots = slots_named y.is_class n.locals ++ replicate p.slots [];
-    params = y.params;
-    keys = map (map (text n)) n.keys;
-  }
-
-  -- the whole code of a body: the module's begins with SETUP
-  abbrev pub whole : ℕ → Body → Known → Piece
-  whole zero y n = module_code y.line (y.block n)
-  whole (suc b) y n = body_code y.line (y.block n)
-
-  abbrev pub codes_from : ℕ → List Body → List Code
-  codes_from b [] = []
-  codes_from b (y ∷ ys) = code_by b y (names_of b y) (whole b y (names_of b y)) ∷ codes_from (b + 1) ys
-
-  -- ---- what is too large
-
-  -- more functions or roots than 65,535, or a string of more than 1,048,576 bytes
-  abbrev pub is_long : List ℕ → Bool
-  is_long x = nat_lt 1048576 (length x)
-
+  -- more functions or roots than 65,535, or a string that is too long
   abbrev pub too_many : Bool
   too_many = if nat_lt 65535 (length (bodies ss)) then true else (if nat_lt 65535 (length roots) then true else list_any is_long texts)
 
-  abbrev pub least : Option ℕ → Option ℕ → Option ℕ
-  least None b = b
-  least (Some a) None = Some a
-  least (Some a) (Some b) = Some (min a b)
-
-  -- the least line of a body with more than 65,535 instructions
-  abbrev pub large_body : ℕ → Body → Option ℕ
-  large_body b y = if nat_lt 65535 (whole b y (names_of b y)).size then Some y.line else None
-
-  abbrev pub large_bodies : ℕ → List Body → Option ℕ
-  large_bodies b [] = None
-  large_bodies b (y ∷ ys) = least (large_body b y) (large_bodies (b + 1) ys)
-
   -- The line of TooLarge, or none. No line is before line 1.
   abbrev pub too_large : Option ℕ
-  too_large = if too_many then Some 1 else large_bodies 0 (bodies ss)
+  too_large = if too_many then Some 1 else large_bodies names_of 0 (bodies ss)
 
 -- the program of a module, where nothing is too large
 unfoldable pub program_of : List (List (List ℕ)) → Module → Program
-program_of locals m = record { codes = codes_from locals m.body 0 (bodies m.body); roots = roots locals m.body }
+program_of locals m = record { codes = codes_from (names_of locals m.body) 0 (bodies m.body); roots = roots locals m.body }
 
 -- the line of what is too large, or none
 unfoldable pub too_large_in : List (List (List ℕ)) → Module → Option ℕ

@@ -1,6 +1,8 @@
 //! Why a tree has no program.
 ghost use Rattle.std.specs.Prelude.{◌≡◌};
 ghost use Rattle.py_compile.specs.declared.error.Fault.TheVariants.{OutOfMemory};
+ghost use Rattle.py_compile.specs.declared.error.CompileError.TheVariants.{Refused};
+ghost use Rattle.py_data.specs.declared.refusal.Refusal.TheVariants.{TooLarge};
 
 use py_data::Refusal;
 use std::alloc::AllocError;
@@ -15,6 +17,13 @@ pub enum CompileError {
     /// There was no memory for the program.
     #[error("out of memory")]
     OutOfMemory,
+}
+
+/// A refusal with that line.
+pub fn too_large(line: u32) -> CompileError
+    ensures { result ≡ Refused (TooLarge line) }
+{
+    CompileError::Refused(Refusal::TooLarge { line })
 }
 
 /// Why a body has no code.

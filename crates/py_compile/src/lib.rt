@@ -1,12 +1,22 @@
 //! From trees to programs, by a table of templates with labels.
 #![tactic(auto)]
 
+mod bodies;
+mod body_uses;
+mod codes;
+mod compile;
 mod draft;
 mod emitter;
 mod error;
+mod expression;
 mod home;
 #[cfg(test)]
 mod name_tests;
 mod names;
+mod roots;
+mod statement;
+mod tally;
+mod uses;
 
+pub use compile::compile;
 pub use error::CompileError;

@@ -1,5 +1,5 @@
 //! What a body knows of names.
-ghost use Rattle.std.specs.Prelude.{◌≡◌, [], ◌∷◌, ◌≤◌, ◌<◌, ◌+◌, ◌^◌, IfSome, length, MatchOption, OnErr, OnOk};
+ghost use Rattle.std.specs.Prelude.{◌≡◌, [], ◌∷◌, ◌≤◌, ◌<◌, ◌+◌, ◌^◌, IfSome, length, map, MatchOption, OnErr, OnOk};
 ghost use Rattle.py_compile.specs.Expressions.{key_names};
 ghost use Rattle.py_compile.specs.Names.{cell, find_name, first_cell, has, home, key_list, list_number, number_in, same_names, text};
 ghost use Rattle.py_compile.specs.Uses.{with_name};
@@ -72,7 +72,9 @@ impl<'a> NameSet<'a> {
     }
 
     /// The names, in their order.
-    pub fn as_slice(&self) -> &[&'a [u8]] {
+    pub fn as_slice(&self) -> &[&'a [u8]]
+        ensures { map (λ x. x.now) result.now ≡ self.now }
+    {
         self.set.as_slice()
     }
 }

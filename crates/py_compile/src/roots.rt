@@ -1,0 +1,58 @@
+//! The roots of a program.
+ghost use Rattle.std.specs.Prelude.{◌≡◌, ◌++◌, ◌∷◌, [], map, IfOk, OnOk};
+ghost use Rattle.py_compile.specs.Whole.{cell_root, class_roots, classes, roots_of};
+
+use crate::names::NameSet;
+use py_code::{Root, Roots};
+use py_data::{Bytes, Kind, NoMemory};
+use std::alloc::Global;
+
+/// How many classes there are among the roots.
+const CLASSES: u8 = 20;
+
+fn root(kind: Kind, number: u8, bytes: Bytes) -> Root
+    ensures { result ≡ record { kind = kind; number = number; bytes = bytes } }
+{
+    Root {
+        kind,
+        number,
+        bytes,
+    }
+}
+
+/// The classes, behind the cell of the count of threads.
+fn first_roots(alloc: Global) -> Result<Roots, NoMemory>
+    ensures { IfOk result (λ out. out ≡ cell_root [] ∷ class_roots 0 classes) }
+{
+    let mut out = Roots::new(alloc);
+    out.push(root(Kind::Cell, 0, Bytes::new(alloc)))?;
+    for class in 0..CLASSES {
+        out.push(root(Kind::Class, class, Bytes::new(alloc)))?;
+    }
+    Ok(out)
+}
+
+/// One root of a kind for each of these.
+fn push_all(alloc: Global, out: &mut Roots, kind: Kind, names: &NameSet) -> Result<(), NoMemory>
+    ensures { OnOk result (out.new ≡ out.old ++ map (λ x. record { kind = kind; number = 0; bytes = x }) names.now) }
+{
+    for name in names.as_slice() {
+        let bytes = Bytes::from_slice(alloc, *name)?;
+        out.push(root(kind, 0, bytes))?;
+    }
+    Ok(())
+}
+
+/// The cell of the count of threads, the classes, the strings and the cells of the global names.
+pub fn roots(alloc: Global, texts: &NameSet, cells: &NameSet) -> Result<Roots, NoMemory>
+    ensures { IfOk result (λ out. out ≡ roots_of texts.now cells.now) }
+{
+    let mut out = first_roots(alloc)?;
+    push_all(alloc, &mut out, Kind::Str, texts)?;
+    if cells.has(b"__name__") {
+        let bytes = Bytes::from_slice(alloc, b"__main__")?;
+        out.push(root(Kind::Str, 0, bytes))?;
+    }
+    push_all(alloc, &mut out, Kind::Cell, cells)?;
+    Ok(out)
+}
