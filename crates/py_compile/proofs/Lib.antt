@@ -14,3 +14,4 @@ pub mod Arms
 pub mod Used
 pub mod Tallying
 pub mod UsedStatements
+pub mod Compiled

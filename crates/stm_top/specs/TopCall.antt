@@ -1,8 +1,9 @@
 -- What the top call does, and why it answers as it does. States `docs/LANGUAGE.md`, "The top call".
 use Rattle.std.specs.String.{string_bytes}
-use Rattle.std.specs.Prelude.{◌≡◌, ◌≢◌, ◌≤◌, ◌⊎◌, String, ℕ, map, List, [], ◌∷◌, ◌++◌, Option, Some, None, Result, Ok, Err, Bool, false, codes}
+use Rattle.std.specs.Prelude.{◌≡◌, ◌≢◌, ◌≤◌, ◌⊎◌, String, ℕ, map, List, [], ◌∷◌, ◌++◌, Option, Some, None, option_map, Result, Ok, Err, Bool, false, codes}
 use Rattle.std.specs.Str.{bytes_eq}
 use Rattle.py_data.specs.declared.refusal.Refusal.{Refusal}
+use Rattle.py_data.specs.declared.refusal.Refusal.TheVariants.{TooLarge}
 use Rattle.py_data.specs.declared.stop.Out.TheVariants.{Output}
 use Rattle.py_data.specs.Row.{Row}
 use Rattle.py_data.specs.Sense.{Upto}
@@ -19,7 +20,10 @@ use Rattle.py_parser.specs.Outcome.{refusal_of}
 use Rattle.py_parser.specs.Refused.{RefusedAt}
 use Rattle.py_parser.specs.Statements.{IsModule}
 use Rattle.py_names.specs.Outline.{outline}
-use Rattle.py_names.specs.Scopes.{fault}
+use Rattle.py_names.specs.declared.scope.Scope.{Scope}
+use Rattle.py_names.specs.Scopes.{AreScopes, fault}
+use Rattle.py_compile.specs.Compiles.{bound_in}
+use Rattle.py_compile.specs.Whole.{too_large_in}
 use Rattle.lock_run.specs.declared.client.Outcome.{Outcome}
 use Rattle.lock_run.specs.declared.client.Life.TheVariants.{Lives}
 use Rattle.lock_run.specs.declared.turn.Turn.{Turn}
@@ -123,11 +127,11 @@ pub record HasNoTree (script : List ℕ) (refusal : Refusal) : Type 0 where
   pub is : refusal ≡ refusal_of fault line
   pub refused : RefusedAt tokens fault line
 
--- it has a tree in which no name and no statement is refused, so that its bodies have scopes
-pub record HasScopes (script : List ℕ) : Type 0 where
-  pub tree : Module
+-- it has a tree whose bodies have these scopes, since no name and no statement is refused in it
+pub record HasScopes (script : List ℕ) (tree : Module) (scopes : List Scope) : Type 0 where
   pub is : IsTree script tree
   pub allowed : fault (outline tree) ≡ None
+  pub are : AreScopes (outline tree) scopes
 
 -- it has a tree in which a name or a statement is refused, where that shows first
 pub record HasNoScopes (script : List ℕ) (refusal : Refusal) : Type 0 where
@@ -135,14 +139,29 @@ pub record HasNoScopes (script : List ℕ) (refusal : Refusal) : Type 0 where
   pub is : IsTree script tree
   pub refused : fault (outline tree) ≡ Some refusal
 
--- it has scopes and the line form
-abbrev pub IsProgram : List ℕ → LineProgram → Type 0
-IsProgram script program = HasScopes script × (program_of script ≡ Ok program)
+-- it has scopes, and nothing in its program is too large
+pub record HasCode (script : List ℕ) : Type 0 where
+  pub tree : Module
+  pub scopes : List Scope
+  pub has : HasScopes script tree scopes
+  pub fits : too_large_in (bound_in scopes) tree ≡ None
 
--- why it isn't a program: it has no tokens; or they have no tree; or that has no scopes; or it has scopes and not the line form
+-- it has scopes, and something in its program is too large, with the least line
+pub record HasNoCode (script : List ℕ) (refusal : Refusal) : Type 0 where
+  pub tree : Module
+  pub scopes : List Scope
+  pub has : HasScopes script tree scopes
+  pub refused : option_map TooLarge (too_large_in (bound_in scopes) tree) ≡ Some refusal
+
+-- it has code and the line form
+abbrev pub IsProgram : List ℕ → LineProgram → Type 0
+IsProgram script program = HasCode script × (program_of script ≡ Ok program)
+
+-- why it isn't a program: it has no tokens; or they have no tree; or that has no scopes, or no code; or it has code and not the
+-- line form
 abbrev pub NoProgram : List ℕ → Answer → Type 0
-NoProgram script (Refused refusal) = (tokens_of_text script ≡ Err refusal) ⊎ (HasNoTree script refusal ⊎ HasNoScopes script refusal)
-NoProgram script (NotBuilt line) = HasScopes script × (program_of script ≡ Err line)
+NoProgram script (Refused refusal) = (tokens_of_text script ≡ Err refusal) ⊎ (HasNoTree script refusal ⊎ (HasNoScopes script refusal ⊎ HasNoCode script refusal))
+NoProgram script (NotBuilt line) = HasCode script × (program_of script ≡ Err line)
 NoProgram script OutOfMemory = Unit {0}
 NoProgram script _ = ⊥
 

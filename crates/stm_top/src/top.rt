@@ -3,7 +3,7 @@ ghost use Rattle.std.specs.Prelude.{◌≡◌, ◌≢◌, ◌≤◌, [], length,
 ghost use Rattle.py_tokens.specs.Layout.{tokens_of_text};
 ghost use Rattle.py_parser.specs.Refused.{EndsOnce};
 ghost use Rattle.stm_top.specs.declared.answer.Answer.TheVariants.{Usage};
-ghost use Rattle.stm_top.specs.TopCall.{devices_of, bytes_of, names_source, HasScopes, IsTree, IsProgram, NoProgram, ProgramEnded, Caused, TextPut, Answered};
+ghost use Rattle.stm_top.specs.TopCall.{devices_of, bytes_of, names_source, HasCode, HasScopes, IsTree, IsProgram, NoProgram, ProgramEnded, Caused, TextPut, Answered};
 
 use crate::answer::Answer;
 use crate::line_form::{LineError, LineProgram, read_program};
@@ -12,8 +12,9 @@ use crate::script::take_script;
 use crate::status::Status;
 use crate::turns::run_turns;
 use lock_run::{History, LockRun};
+use py_compile::{CompileError, compile};
 use py_data::{Bytes, Conflicts};
-use py_names::{NameFault, resolve};
+use py_names::{NameFault, Scopes, resolve};
 use py_parser::{ParseError, ends_law, parse};
 use py_tokens::{Token, TokenError, tokens};
 use py_tree::Module;
@@ -110,17 +111,31 @@ fn tree_of(alloc: Global, script: &[u8]) -> Result<Module, Answer>
     }
 }
 
-/// Asks whether a script has scopes, or why it has none. Its tree and they go.
-fn check_scopes(alloc: Global, script: &[u8]) -> Result<(), Answer>
+/// The scopes of a script's tree, or why it has none.
+fn scopes_of(alloc: Global, script: &[u8], tree: &Module) -> Result<Scopes, Answer>
+    requires { IsTree script.now tree.now }
+    ensures scopes { IfOk result (HasScopes script.now tree.now) }
+    ensures none { IfErr result (λ answer. NoProgram script.now answer) }
+{
+    match resolve(alloc, tree) {
+        Ok(scopes) => Ok(scopes),
+        Err(NameFault::Refused(refusal)) => Err(Answer::Refused { refusal }),
+        Err(NameFault::OutOfMemory) => Err(Answer::OutOfMemory),
+    }
+}
+
+/// Asks whether a script has code, or why it has none. Its tree, scopes and code go.
+fn check_code(alloc: Global, script: &[u8]) -> Result<(), Answer>
     requires { length script.now ≤ 4194304 }
-    ensures scopes { OnOk result (HasScopes script.now) }
+    ensures code { OnOk result (HasCode script.now) }
     ensures none { IfErr result (λ answer. NoProgram script.now answer) }
 {
     let tree = tree_of(alloc, script)?;
-    match resolve(alloc, &tree) {
+    let scopes = scopes_of(alloc, script, &tree)?;
+    match compile(alloc, &tree, &scopes) {
         Ok(_) => Ok(()),
-        Err(NameFault::Refused(refusal)) => Err(Answer::Refused { refusal }),
-        Err(NameFault::OutOfMemory) => Err(Answer::OutOfMemory),
+        Err(CompileError::Refused(refusal)) => Err(Answer::Refused { refusal }),
+        Err(CompileError::OutOfMemory) => Err(Answer::OutOfMemory),
     }
 }
 
@@ -130,7 +145,7 @@ fn read_script(alloc: Global, script: &[u8]) -> Result<LineProgram, Answer>
     ensures program { IfOk result (λ program. IsProgram script.now program) }
     ensures none { IfErr result (λ answer. NoProgram script.now answer) }
 {
-    check_scopes(alloc, script)?;
+    check_code(alloc, script)?;
     match read_program(alloc, script) {
         Ok(program) => Ok(program),
         Err(LineError::Refused { line }) => Err(Answer::NotBuilt { line }),
