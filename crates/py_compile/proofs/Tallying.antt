@@ -42,10 +42,17 @@ bump_tally t n us =
     ∙ ap (λ k. record (tally t us) { next = k + n }) (sym (tally_next t us))
     ∙ sym (bump_is (tally t us) n)
 
+later : ℕ → Tally → Tally
+later n z = record z { next = z.next + n }
+
 bump_both : (t : Tally) (m n : ℕ) → bump (bump t m) n ≡ bump t (m + n)
 bump_both t m n =
     let e : t.next + m + n ≡ t.next + (m + n) = omega arith in
-    bump_is (bump t m) n ∙ ap (λ z. record z { next = z.next + n }) (bump_is t m) ∙ ap (λ k. record t { next = k }) e ∙ sym (bump_is t (m + n))
+    bump_is (bump t m) n ∙ ap (later n) (bump_is t m) ∙ ap (λ k. record t { next = k }) e ∙ sym (bump_is t (m + n))
+
+-- one more, of what is left
+pub tally_left : (o : Tally) (us vs : List Use) {p start : Tally} → p ≡ tally o us → tally o (us ++ vs) ≡ start → tally p vs ≡ start
+tally_left o us vs e f = ap (λ z. tally z vs) e ∙ sym (tally-append o us vs) ∙ f
 
 -- one statement after another
 pub turn : (o : Tally) (b : Inside) (s t : Uses) {p q : Tally} → p ≡ done o b s → q ≡ done p b t → q ≡ done o b (in_turn s t)
@@ -58,6 +65,12 @@ turn o b s t {p} e f =
   where
     next : (bump (tally o (s.uses b o.next)) s.bodies).next ≡ o.next + s.bodies
     next = ap (λ z. z.next) (bump_is (tally o (s.uses b o.next)) s.bodies) ∙ ap (λ k. k + s.bodies) (tally_next o (s.uses b o.next))
+
+pub done-turn : (o : Tally) (b : Inside) (s t : Uses) → done o b (in_turn s t) ≡ done (done o b s) b t
+done-turn o b s t = sym (turn o b s t refl refl)
+
+pub turn_left : (o : Tally) (b : Inside) (s t : Uses) {p start : Tally} → p ≡ done o b s → done o b (in_turn s t) ≡ start → done p b t ≡ start
+turn_left o b s t e f = turn o b s t e refl ∙ f
 
 -- a body, behind what stands before it in the body round it
 pub within : (all : List (List (List ℕ))) (o : Tally) (b : Inside) (before : Inside → List Use) (is_class : Bool) (ss : Uses) (place : Place) {p q r : Tally} →

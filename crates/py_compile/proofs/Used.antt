@@ -15,7 +15,7 @@ use Rattle.py_tree.proofs.Heights.{height_group, height_tuple, height_list, heig
 use Rattle.py_compile.specs.declared.uses.Role.{Role}
 use Rattle.py_compile.specs.declared.uses.Role.TheVariants.{Read, Target}
 use Rattle.py_compile.specs.Expressions.{key_names}
-use Rattle.py_compile.specs.Tallies.{told, read_links, read_named, read_pairs, read_trailers}
+use Rattle.py_compile.specs.Tallies.{told, told_all, read_links, read_named, read_pairs, read_trailers}
 use Rattle.py_compile.specs.Uses.{Use, Text, Inside, name_read, name_bound, joined, Used, only, reads, targets, read_or, key_use, expr_step, trailer_step, link_step, named_step, pair_step, used, used_trailer, read, target, read_all, target_all, read_some}
 
 link : Inside → Link → List Use
@@ -173,5 +173,9 @@ told_not Target b a = ap (λ u. u.target) (used_not b a)
 pub told_choice : (r : Role) (b : Inside) (a : Expr) (d : Expr) (f : Expr) → told r b (e.Choice a d f) ≡ read b a ++ read b d ++ read b f
 told_choice Read b a d f = ap (λ u. u.read) (used_choice b a d f)
 told_choice Target b a d f = ap (λ u. u.target) (used_choice b a d f)
+
+pub told_all_cons : (r : Role) (b : Inside) (x : Expr) (xs : List Expr) → told_all r b (x ∷ xs) ≡ told r b x ++ told_all r b xs
+told_all_cons Read b x xs = refl
+told_all_cons Target b x xs = refl
 
 pub ruleset used_rules = (used_name, used_int, used_str, used_group, used_tuple, used_list, used_dict, used_trail, used_power, used_unary, used_chain, used_not, used_choice, used_attribute, used_index, used_slice, used_call, told_int, told_str, told_dict, told_trail, told_power, told_unary, told_chain, told_not, told_choice, height_group, height_tuple, height_list, height_dict, height_trail, height_power, height_unary, height_chain, height_not, height_choice, height_index, height_slice, height_call)

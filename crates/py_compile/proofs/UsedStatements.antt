@@ -16,7 +16,7 @@ use Rattle.py_compile.specs.Uses.{Uses, name_bound, read, target, read_all, targ
 use Rattle.py_compile.specs.Tallies.{locals_in, block_uses, arm_uses, arms_uses, clause_uses, handler_uses, handlers_uses}
 
 module _ (all : List (List (List ℕ))) where
-  L : ℕ → List (List ℕ)
+  abbrev L : ℕ → List (List ℕ)
   L = locals_in all
 
   folded_arm : Arm → Uses

@@ -1,5 +1,5 @@
 -- What `compile` answers. States `docs/LANGUAGE.md`, "Code of a tree".
-use Rattle.std.specs.Prelude.{◌≡◌, ℕ, Bool, List, [], ◌∷◌, map, option_map, Option, Some, None, Result, Ok, Err, get_or}
+use Rattle.std.specs.Prelude.{◌≡◌, ℕ, Bool, List, [], ◌∷◌, map, option_map, Option, Some, None, Result, Ok, Err, get_or, length, ◌≤◌}
 use Rattle.py_data.specs.declared.refusal.Refusal.{Refusal}
 use Rattle.py_data.specs.declared.refusal.Refusal.TheVariants.{TooLarge}
 use Rattle.py_code.specs.declared.program.Program.{Program}
@@ -41,3 +41,8 @@ abbrev pub CodesOf : (ℕ → Body → Known) → List Body → Result (List Cod
 CodesOf known ys (Ok cs) = (large_bodies known 0 ys ≡ None) × (cs ≡ codes_from known 0 ys)
 CodesOf known ys (Err (Refused r)) = option_map TooLarge (large_bodies known 0 ys) ≡ Some r
 CodesOf known ys (Err OutOfMemory) = Unit {0}
+
+-- at least so many, and those behind the first ones are empty
+pub record Padded (n : ℕ) (xs ys : List (List (List ℕ))) : Type 0 where
+  pub long : n ≤ length ys
+  pub same : (b : ℕ) → get_or ys b [] ≡ get_or xs b []

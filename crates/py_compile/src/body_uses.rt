@@ -4,7 +4,7 @@ ghost use Rattle.py_compile.specs.Tallies.{Listed, arm_uses, arms_uses, block_us
 ghost use Rattle.py_compile.specs.Uses.{cells_from, import_use, module_uses, read_defaults, stmt_uses, texts_from};
 
 use crate::names::{NameSet, split};
-use crate::statement::bound_name;
+use crate::simple::bound_name;
 use crate::tally::{Place, Tally};
 use crate::uses::{Role, expression, expressions, some};
 use py_data::NoMemory;
@@ -12,6 +12,7 @@ use py_tree::{Arm, Clause, Handler, Imported, Param, Stmt};
 use std::alloc::Global;
 
 /// What the defaults of parameters use.
+#[tactic(auto, using(crate::proofs::Tallying::tally-append))]
 fn defaults<'a>(out: &mut Tally<'a>, all: &[NameSet], b: Place, items: &'a [Param]) -> Result<(), NoMemory>
     ensures { OnOk result (out.new ≡ tally out.old (read_defaults (inside all.now b) items.now)) }
 {
@@ -24,6 +25,7 @@ fn defaults<'a>(out: &mut Tally<'a>, all: &[NameSet], b: Place, items: &'a [Para
 }
 
 /// What an import uses.
+#[tactic(auto, using(crate::proofs::Tallying::tally-append))]
 fn imports<'a>(out: &mut Tally<'a>, all: &[NameSet], b: Place, items: &'a [Imported]) -> Result<(), NoMemory>
     ensures { OnOk result (out.new ≡ tally out.old (import_use (inside all.now b) items.now)) }
 {
@@ -116,6 +118,7 @@ fn statement<'a>(out: &mut Tally<'a>, all: &[NameSet], b: Place, x: &'a Stmt) ->
 
 /// What the statements of a block use.
 #[cycle(statements)]
+#[tactic(auto, using(crate::proofs::Tallying::tally-append, crate::proofs::Tallying::done-turn))]
 pub fn block<'a>(out: &mut Tally<'a>, all: &[NameSet], b: Place, items: &'a [Stmt]) -> Result<(), NoMemory>
     ensures { OnOk result (out.new ≡ done out.old (inside all.now b) (block_uses all.now items.now)) }
 {
@@ -129,6 +132,7 @@ pub fn block<'a>(out: &mut Tally<'a>, all: &[NameSet], b: Place, items: &'a [Stm
 
 /// What an `if`, `elif` or `while` uses.
 #[cycle(statements)]
+#[tactic(auto, using(crate::proofs::Tallying::tally-append, crate::proofs::Tallying::done-turn))]
 fn arm<'a>(out: &mut Tally<'a>, all: &[NameSet], b: Place, x: &'a Arm) -> Result<(), NoMemory>
     ensures { OnOk result (out.new ≡ done out.old (inside all.now b) (arm_uses all.now x.now)) }
 {
@@ -139,6 +143,7 @@ fn arm<'a>(out: &mut Tally<'a>, all: &[NameSet], b: Place, x: &'a Arm) -> Result
 
 /// What the arms of an `if` use.
 #[cycle(statements)]
+#[tactic(auto, using(crate::proofs::Tallying::tally-append, crate::proofs::Tallying::done-turn))]
 fn arms<'a>(out: &mut Tally<'a>, all: &[NameSet], b: Place, items: &'a [Arm]) -> Result<(), NoMemory>
     ensures { OnOk result (out.new ≡ done out.old (inside all.now b) (arms_uses all.now items.now)) }
 {
@@ -163,6 +168,7 @@ fn clause<'a>(out: &mut Tally<'a>, all: &[NameSet], b: Place, x: &'a Option<Clau
 
 /// What `except` clauses use.
 #[cycle(statements)]
+#[tactic(auto, using(crate::proofs::Tallying::tally-append, crate::proofs::Tallying::done-turn))]
 fn handlers<'a>(out: &mut Tally<'a>, all: &[NameSet], b: Place, items: &'a [Handler]) -> Result<(), NoMemory>
     ensures { OnOk result (out.new ≡ done out.old (inside all.now b) (handlers_uses all.now items.now)) }
 {
@@ -176,6 +182,7 @@ fn handlers<'a>(out: &mut Tally<'a>, all: &[NameSet], b: Place, items: &'a [Hand
 
 /// What an `except` clause uses.
 #[cycle(statements)]
+#[tactic(auto, using(crate::proofs::Tallying::tally-append, crate::proofs::Tallying::done-turn))]
 fn handler<'a>(out: &mut Tally<'a>, all: &[NameSet], b: Place, x: &'a Handler) -> Result<(), NoMemory>
     ensures { OnOk result (out.new ≡ done out.old (inside all.now b) (handler_uses all.now x.now)) }
 {

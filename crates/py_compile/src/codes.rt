@@ -11,7 +11,7 @@ use crate::draft::Draft;
 use crate::emitter::Emitter;
 use crate::error::{CompileError, Fault, too_large};
 use crate::expression::operand;
-use crate::names::{NameSet, Names};
+use crate::names::{NameSet, Names, split};
 use crate::statement::{Around, block};
 use crate::tally::Tally;
 use py_code::{Code, Codes, Constant, Instr, KeyLists, Keys, Texts};
@@ -68,8 +68,10 @@ fn keys(alloc: Global, names: &Names, list: &[Bytes]) -> Result<Keys, NoMemory>
     ensures { IfOk result (λ out. out ≡ map (text names.now) list.now) }
 {
     let mut out = Keys::new(alloc);
-    for name in list {
+    let mut rest = list;
+    'names: while let Some((name, more)) = split(rest) {
         out.push(names.text(name.as_slice()))?;
+        rest = more;
     }
     Ok(out)
 }
@@ -79,9 +81,11 @@ fn key_lists(alloc: Global, names: &Names, lists: &[Texts]) -> Result<KeyLists, 
     ensures { IfOk result (λ out. out ≡ map (map (text names.now)) lists.now) }
 {
     let mut out = KeyLists::new(alloc);
-    for list in lists {
-        let list = keys(alloc, names, list.as_slice())?;
-        out.push(list)?;
+    let mut rest = lists;
+    'lists: while let Some((list, more)) = split(rest) {
+        let keys = keys(alloc, names, list.as_slice())?;
+        out.push(keys)?;
+        rest = more;
     }
     Ok(out)
 }
@@ -148,21 +152,6 @@ fn lesser(found: Option<u32>, line: u32) -> Option<u32>
     }
 }
 
-/// The names of the body with that number; a body without a scope binds none.
-fn own<'s, 'a>(
-    locals: &'s [NameSet<'a>],
-    none: &'s NameSet<'a>,
-    number: usize,
-) -> &'s NameSet<'a>
-    requires { none.now ≡ [] }
-    ensures { result.now ≡ get_or locals.now number [] }
-{
-    match locals.get(number) {
-        Some(names) => names,
-        None => none,
-    }
-}
-
 /// One more code, where none is too large; the least line so far of one that is.
 fn one_more<'a>(
     alloc: Global,
@@ -198,17 +187,17 @@ pub fn codes<'a>(
     used: &Tally<'a>,
 ) -> Result<Codes, CompileError>
     requires place { length used.now.keys ≡ length bodies.now }
+    requires long { length bodies.now ≤ length locals.now }
     requires few { length bodies.now ≤ 65535 }
     requires roots { first_cell used.now.texts used.now.cells + length used.now.cells < 2 ^ 32 }
     ensures { CodesOf (known_in locals.now used.now) (numbered 0 bodies.now) result }
 {
-    let none = NameSet::new(alloc);
     let mut out = Codes::new(alloc);
     let mut found = None;
     let mut number = 0;
     for body in bodies {
-        let locals = own(locals, &none, number);
-        found = one_more(alloc, &mut out, found, number, body, locals, used)?;
+        let own = &locals[number];
+        found = one_more(alloc, &mut out, found, number, body, own, used)?;
         number += 1;
     }
     match found {

@@ -4,7 +4,7 @@
 mod bodies;
 mod body_uses;
 mod codes;
-mod compile;
+mod compiler;
 mod draft;
 mod emitter;
 mod error;
@@ -14,9 +14,10 @@ mod home;
 mod name_tests;
 mod names;
 mod roots;
+mod simple;
 mod statement;
 mod tally;
 mod uses;
 
-pub use compile::compile;
+pub use compiler::compile;
 pub use error::CompileError;

@@ -2,23 +2,14 @@
 ghost use Rattle.std.specs.Prelude.{◌≡◌, ◌<◌, ◌+◌, Err, IfOk, length};
 ghost use Rattle.py_compile.specs.Rounds.{around_of, env_of};
 ghost use Rattle.py_compile.specs.State.{Emitted};
-ghost use Rattle.py_compile.specs.Statements.{all_stated, bound_name, pieces};
+ghost use Rattle.py_compile.specs.Statements.{all_stated, pieces};
 ghost use Rattle.py_compile.specs.Template.{row};
 
 use crate::emitter::Emitter;
 use crate::error::Fault;
 use crate::names::Names;
-use py_tree::{Imported, Stmt};
+use py_tree::Stmt;
 use sqlite_items::Items;
-
-pub fn bound_name(x: &Imported) -> &[u8]
-    ensures { result.now ≡ bound_name x.now.name x.now.bound }
-{
-    match &x.bound {
-        Some(name) => name.as_slice(),
-        None => x.name.as_slice(),
-    }
-}
 
 /// The constructs round a statement, the innermost first: the first label and the hidden slot of each; of a part that a
 /// finally body follows, that body and the number of its first own body.

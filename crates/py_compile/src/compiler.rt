@@ -1,7 +1,7 @@
 //! The program of a module.
-ghost use Rattle.std.specs.Prelude.{◌≡◌, [], IfOk};
+ghost use Rattle.std.specs.Prelude.{◌≡◌, [], IfOk, OnOk};
 ghost use Rattle.std.specs.List.{list_any};
-ghost use Rattle.py_compile.specs.Compiles.{Compiles, bound_in, once_from};
+ghost use Rattle.py_compile.specs.Compiles.{Compiles, Padded, bound_in, once_from};
 ghost use Rattle.py_compile.specs.Gathered.{numbered};
 ghost use Rattle.py_compile.specs.Whole.{bodies, is_long};
 
@@ -51,6 +51,16 @@ fn bound<'a>(alloc: Global, scopes: &'a Scopes) -> Result<Vec<NameSet<'a>>, NoMe
     Ok(sets)
 }
 
+/// As many sets, where there are fewer: a body without a scope binds no name.
+fn pad<'a>(alloc: Global, sets: &mut Vec<NameSet<'a>>, count: usize) -> Result<(), NoMemory>
+    ensures { OnOk result (Padded count sets.old.items sets.new.items) }
+{
+    'sets: while sets.len() < count {
+        sets.push(NameSet::new(alloc))?;
+    }
+    Ok(())
+}
+
 /// The module's own body, and then the others.
 fn all_bodies<'a>(alloc: Global, items: &'a [Stmt]) -> Result<Items<Body<'a>>, NoMemory>
     ensures { IfOk result (λ all. numbered 0 all ≡ bodies items.now) }
@@ -91,12 +101,13 @@ pub fn compile(alloc: Global, m: &Module, scopes: &Scopes) -> Result<Program, Co
     if bodies.len() > MOST {
         return Err(too_large(1));
     }
-    let locals = bound(alloc, scopes)?;
+    let mut locals = bound(alloc, scopes)?;
     let used = module(alloc, locals.as_slice(), bodies.len(), m.body.as_slice())?;
     let roots = roots(alloc, &used.texts, &used.cells)?;
     if roots.len() > MOST || has_long(&used.texts) {
         return Err(too_large(1));
     }
+    pad(alloc, &mut locals, bodies.len())?;
     let codes = codes(alloc, bodies.as_slice(), locals.as_slice(), &used)?;
     Ok(Program { codes, roots })
 }

@@ -1,0 +1,9 @@
+use Rattle.std.proofs.Common.{◌≡◌, ◌++◌, length}
+use Rattle.py_compile.specs.Compiles.{bound_in}
+use Rattle.py_compile.proofs.compiler.bound.Given as goal
+
+abbrev pub invariant-scopes : goal.invariant-scopes
+invariant-scopes l = l.sets.items ++ bound_in l.rest ≡ bound_in l.scopes
+
+abbrev pub decreases-scopes : goal.decreases-scopes
+decreases-scopes l = length l.rest
