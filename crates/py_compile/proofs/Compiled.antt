@@ -1,18 +1,29 @@
 -- What a program is put together from: what was used, the codes one after another, and roots.
-use Rattle.std.proofs.Common.{◌≡◌, ◌≢◌, ℕ, zero, suc, ◌+◌, ◌<◌, ◌≤◌, ◌==◌, List, [], ◌∷◌, ◌++◌, Option, Some, None, Bool, true, false, length, get_or, refl, sym, ap, ◌∙◌, arith, length-append, length-set, append_assoc, append-nil, map, take}
-use Rattle.std.specs.Prelude.{if◌then◌else◌, slice_set, min, unwrap_or, nat_lt}
+use Rattle.std.proofs.Common.{◌≡◌, ◌≢◌, ℕ, zero, suc, ◌+◌, ◌<◌, ◌≤◌, ◌==◌, List, [], ◌∷◌, ◌++◌, Option, Some, None, Bool, true, false, length, get_or, refl, sym, ap, ◌∙◌, arith, length-append, length-set, append_assoc, append-nil, map, take, subst, ◌-◌}
+use Rattle.std.specs.Prelude.{if◌then◌else◌, slice_set, min, unwrap_or, nat_lt, replicate}
 use Rattle.std.proofs.lemmas.Bool.{eqb-true}
-use Rattle.std.proofs.lemmas.List.{get_or-set_same, get_or-set_other, map-append, take_more, length-map}
+use Rattle.std.proofs.lemmas.List.{get_or-set_same, get_or-set_other, map-append, take_more, length-map, length-replicate, get_or-replicate}
+use Rattle.py_code.specs.declared.instr.Instr.{Instr}
 use Rattle.py_code.specs.declared.program.Code.{Code}
 use Rattle.py_compile.specs.declared.bodies.Body.{Body as Gathered}
-use Rattle.py_compile.specs.Template.{Piece}
-use Rattle.py_compile.specs.Names.{Known, first_cell, main_texts}
-use Rattle.py_compile.specs.State.{St, fresh, done, places_of, no_frames, Agree, Emitted}
+use Rattle.py_code.specs.declared.instr.Constant.TheVariants.{None as NoValue}
+use Rattle.py_code.specs.declared.instr.Instr.TheVariants.{Setup, Const, Return}
+use Rattle.py_compile.specs.declared.draft.Draft.TheVariants.{Op as DraftOp}
+use Rattle.py_compile.specs.Template.{Frame, Piece, Op, Sub}
+use Rattle.py_compile.specs.Table.{body_code, module_code}
+use Rattle.py_compile.proofs.Emits.{plain_emitted}
+use Rattle.py_compile.specs.Names.{Known, first_cell, main_texts, text}
+use Rattle.py_compile.specs.State.{St, fresh, put, done, places_of, no_frames, Agree, Emitted}
 use Rattle.py_compile.specs.Statements.{Body}
 use Rattle.py_compile.specs.Gathered.{body_of, numbered}
-use Rattle.py_compile.specs.Uses.{Use, Text, Global, Keys, with_keys, texts_from, cells_from, keys_from}
-use Rattle.py_compile.specs.Tallies.{Tally, tally, tally_one}
-use Rattle.py_compile.specs.Whole.{code_at, large_at, least, codes_from, large_bodies, roots_of, text_root, cell_root, class_roots}
+use Rattle.py_compile.specs.Uses.{Use, Text, Global, Keys, with_keys, texts_from, cells_from, keys_from, module_uses}
+use Rattle.py_tree.specs.declared.stmt.Stmt.{Stmt}
+use Rattle.py_compile.specs.declared.tally.Place.{Place}
+use Rattle.py_compile.specs.Tallies.{Listed, Tally, block_uses, bump, done as after, inside, locals_in, tally, tally_one}
+use Rattle.py_compile.proofs.Tallying.{bump_is}
+use Rattle.py_compile.proofs.UsedStatements.{block}
+use Rattle.py_compile.specs.Compiles.{known_by, known_in}
+use Rattle.py_compile.specs.Whole.{whole, slots_named, code_at, large_at, least, codes_from, large_bodies, roots_of, text_root, cell_root, class_roots}
 
 -- ---- what was gathered
 
@@ -50,6 +61,41 @@ tally_keys b t (Keys c ks ∷ us) lt =
     tally_keys b (tally_one t (Keys c ks)) us (omega (arith, lt, length-set t.keys c (with_keys (get_or t.keys c []) ks)))
     ∙ ap (λ z. keys_from b z us) (after_keys b c ks t.keys lt (b == c) refl)
 
+-- what a module uses was gathered, of so many bodies
+pub record Told (n : ℕ) (us : List Use) (t : Tally) : Type 0 where
+  pub texts : t.texts ≡ texts_from [] us
+  pub cells : t.cells ≡ cells_from [] us
+  pub keys : Listed n t.keys us
+
+module _ (all : List (List (List ℕ))) (ss : List Stmt) (n : ℕ) where
+  start : Tally
+  start = record { texts = []; cells = []; keys = replicate n ([] ∷ []); next = 1 }
+
+  pub module_told : (t0 t1 t2 : Tally) (place : Place) →
+      t0 ≡ record { texts = []; cells = []; keys = replicate n ([] ∷ []); next = 0 } → place ≡ record { number = t0.next; is_class = false } → t1 ≡ bump t0 1 →
+      t2 ≡ after t1 (inside all place) (block_uses all ss) → Told n (module_uses (locals_in all) ss) t2
+  unfolding start module_uses
+  module_told t0 t1 t2 place e at f g = record {
+    texts = ap (λ z. z.texts) final ∙ tally_texts start us ∙ ap (texts_from []) (sym same);
+    cells = ap (λ z. z.cells) final ∙ tally_cells start us ∙ ap (cells_from []) (sym same);
+    keys = record {
+      count = ap (λ z. length z.keys) final ∙ tally_count start us ∙ length-replicate {A = List (List (List ℕ))} n ([] ∷ []);
+      lists = λ b lt. ap (λ z. get_or z.keys b []) final ∙ tally_keys b start us (omega (arith, lt, length-replicate {A = List (List (List ℕ))} n ([] ∷ []))) ∙ ap (λ z. keys_from b z us) (get_or-replicate n b ([] ∷ []) [] lt) ∙ ap (keys_from b ([] ∷ [])) (sym same);
+    };
+  }
+    where
+      us : List Use
+      us = (block_uses all ss).uses (inside all (record { number = 0; is_class = false })) 1
+
+      same : module_uses (locals_in all) ss ≡ us
+      same = ap (λ z. z.uses (inside all (record { number = 0; is_class = false })) 1) (block all ss)
+
+      final : t2 ≡ record (tally start us) { next = (tally start us).next + (block_uses all ss).bodies }
+      final =
+          g ∙ ap (λ z. after z (inside all place) (block_uses all ss)) (f ∙ ap (λ z. bump z 1) e)
+          ∙ ap (λ z. after start (inside all z) (block_uses all ss)) (at ∙ ap (λ z. record { number = z.next; is_class = false }) e)
+          ∙ bump_is (tally start us) (block_uses all ss).bodies
+
 -- ---- the codes
 
 pub length_numbered : (f : ℕ) (xs : List Gathered) → length (numbered f xs) ≡ length xs
@@ -62,17 +108,16 @@ numbered_more f (x ∷ xs) y =
     let e : f + 1 + length xs ≡ f + suc (length xs) = omega arith in
     ap (λ z. body_of f x ∷ z) (numbered_more (f + 1) xs y) ∙ ap (λ k. body_of f x ∷ numbered (f + 1) xs ++ body_of k y ∷ []) e
 
+length_take_below : {X : Type 0} (xs : List X) (i : ℕ) → i < length xs → length (take i xs) ≡ i
+length_take_below [] i lt = absurd (omega (arith, lt))
+length_take_below (x ∷ xs) zero lt = refl
+length_take_below (x ∷ xs) (suc i) lt = ap suc (length_take_below xs i (omega (arith, lt)))
+
 -- one body more, where these are numbered from 0 on
 pub numbered_next : (bs : List Gathered) (i : ℕ) (d : Gathered) → i < length bs → numbered 0 (take (i + 1) bs) ≡ numbered 0 (take i bs) ++ body_of i (get_or bs i d) ∷ []
 numbered_next bs i d lt =
     let n : 0 + length (take i bs) ≡ i = omega (arith, length_take_below bs i lt) in
     ap (numbered 0) (take_more bs i d lt) ∙ numbered_more 0 (take i bs) (get_or bs i d) ∙ ap (λ k. numbered 0 (take i bs) ++ body_of k (get_or bs i d) ∷ []) n
-  where
-    length_take_below : (xs : List Gathered) (i : ℕ) → i < length xs → length (take i xs) ≡ i
-    length_take_below [] i lt = cc
-    length_take_below (x ∷ xs) zero lt = refl
-    length_take_below (x ∷ xs) (suc i) lt = ap suc (length_take_below xs i (omega (arith, lt)))
-
 min_both : (a b c : ℕ) → min (min a b) c ≡ min a (min b c)
 min_both a b c = omega arith
 
@@ -107,6 +152,66 @@ module _ (known : ℕ → Body → Known) where
       ∙ sym (least_both (large_at b x (known b x)) (large_bodies known (b + 1) xs) (large_at (b + 1 + length xs) y (known (b + 1 + length xs) y)))
       ∙ ap (λ k. least (least (large_at b x (known b x)) (large_bodies known (b + 1) xs)) (large_at k y (known k y))) e
 
+-- within a list no default counts
+within_list : {X : Type 0} (xs : List X) (i : ℕ) (d e : X) → i < length xs → get_or xs i d ≡ get_or xs i e
+within_list [] i d e lt = absurd (omega (arith, lt))
+within_list (x ∷ xs) zero d e lt = refl
+within_list (x ∷ xs) (suc i) d e lt = within_list xs i d e (omega (arith, lt))
+
+-- one body more
+module _ (locals : List (List (List ℕ))) (used : Tally) (bs : List Gathered) where
+  K : ℕ → Body → Known
+  K = known_in locals used
+
+  abbrev pub SoFar : ℕ → ℕ → Option ℕ → List Code → Type 0
+  SoFar i number found out =
+      (number ≡ i)
+      × ((found ≡ large_bodies (known_in locals used) 0 (numbered 0 (take i bs)))
+      × (found ≡ None → out ≡ codes_from (known_in locals used) 0 (numbered 0 (take i bs))))
+
+  turn_at : (i : ℕ) (y : Gathered) (own : List (List ℕ)) (found found' : Option ℕ) (out out' : List Code) →
+      i < length bs → y ≡ get_or bs i y → own ≡ get_or locals i [] → SoFar i i found out →
+      found' ≡ least found (large_at i (body_of i y) (known_by own used i y.is_class)) →
+      (found' ≡ None → out' ≡ out ++ code_at i (body_of i y) (known_by own used i y.is_class) ∷ []) →
+      SoFar (i + 1) (i + 1) found' out'
+  unfolding K
+  turn_at i y own found found' out out' lt hy hown so e f =
+      (refl, (larges, λ none. codes none))
+    where
+      more : numbered 0 (take (i + 1) bs) ≡ numbered 0 (take i bs) ++ body_of i y ∷ []
+      more = numbered_next bs i y lt ∙ ap (λ z. numbered 0 (take i bs) ++ body_of i z ∷ []) (sym hy)
+
+      at : 0 + length (numbered 0 (take i bs)) ≡ i
+      at = let p = length_numbered 0 (take i bs) in let q = length_take_below bs i lt in omega (arith, p, q)
+
+      larges : found' ≡ large_bodies K 0 (numbered 0 (take (i + 1) bs))
+      larges =
+          e ∙ ap (λ o. least found (large_at i (body_of i y) (known_by o used i y.is_class))) hown
+          ∙ ap (λ o. least o (large_at i (body_of i y) (K i (body_of i y)))) so.1.0
+          ∙ ap (λ k. least (large_bodies K 0 (numbered 0 (take i bs))) (large_at k (body_of i y) (K k (body_of i y)))) (sym at)
+          ∙ sym (large_more K 0 (numbered 0 (take i bs)) (body_of i y))
+          ∙ ap (large_bodies K 0) (sym more)
+
+      codes : found' ≡ None → out' ≡ codes_from K 0 (numbered 0 (take (i + 1) bs))
+      codes none =
+          f none
+          ∙ ap (λ z. z ++ code_at i (body_of i y) (known_by own used i y.is_class) ∷ []) (so.1.1 (least_apart found (large_at i (body_of i y) (known_by own used i y.is_class)) (sym e ∙ none)).0)
+          ∙ ap (λ o. codes_from K 0 (numbered 0 (take i bs)) ++ code_at i (body_of i y) (known_by o used i y.is_class) ∷ []) hown
+          ∙ ap (λ k. codes_from K 0 (numbered 0 (take i bs)) ++ code_at k (body_of i y) (K k (body_of i y)) ∷ []) (sym at)
+          ∙ sym (codes_more K 0 (numbered 0 (take i bs)) (body_of i y))
+          ∙ ap (codes_from K 0) (sym more)
+
+  pub codes_turn : (i number : ℕ) (y : Gathered) (own : List (List ℕ)) (found found' : Option ℕ) (out out' : List Code) →
+      i < length bs → length bs ≤ length locals → y ≡ get_or bs i y → own ≡ get_or locals number own → SoFar i number found out →
+      found' ≡ least found (large_at number (body_of number y) (known_by own used number y.is_class)) →
+      (found' ≡ None → out' ≡ out ++ code_at number (body_of number y) (known_by own used number y.is_class) ∷ []) →
+      SoFar (i + 1) (number + 1) found' out'
+  codes_turn i number y own found found' out out' lt long hy hown so e f =
+      subst (λ n. SoFar (i + 1) (n + 1) found' out') (sym so.0)
+      (turn_at i y own found found' out out' lt hy (subst (λ n. own ≡ get_or locals n own) so.0 hown ∙ within_list locals i own [] (omega (arith, lt, long))) (refl, so.1)
+      (subst (λ n. found' ≡ least found (large_at n (body_of n y) (known_by own used n y.is_class))) so.0 e)
+      (subst (λ n. found' ≡ None → out' ≡ out ++ code_at n (body_of n y) (known_by own used n y.is_class) ∷ []) so.0 f))
+
 -- the same of both, where both know the same
 module _ (k1 k2 : ℕ → Body → Known) (n : ℕ) (same : (b : ℕ) (y : Body) → b < n → k1 b y ≡ k2 b y) where
   pub codes_same : (b : ℕ) (ys : List Body) → b + length ys ≤ n → codes_from k1 b ys ≡ codes_from k2 b ys
@@ -131,6 +236,38 @@ places_agree (x ∷ xs) (suc l) p h = places_agree xs l p h
 -- what was emitted from the start on
 pub emitted_code : (k : ℕ) (e : St) (p : Piece) → Emitted (fresh k) e p no_frames → done (places_of e.labels) e.code ≡ p.code [] 0 k
 emitted_code k e p h = h.code (places_of e.labels) (places_agree e.labels)
+
+-- a code is what its parts are
+pub code_is : (b : ℕ) (y : Body) (n n' : Known) (named hidden : ℕ) (e0 e : St) (is : List Instr) (ls : List ℕ) (ss : List (List ℕ)) (ks : List (List ℕ)) (lists : List (List (List ℕ))) (nm : List ℕ) →
+    n ≡ n' → e0 ≡ fresh named → named ≡ length (slots_named y.is_class n'.locals) → Emitted e0 e (whole b y n) no_frames →
+    is ≡ done (places_of e.labels) e.code → ls ≡ e.lines → ss ≡ slots_named y.is_class n'.locals ++ replicate hidden [] → hidden ≡ e.slots - named →
+    ks ≡ map (map (text n)) lists → lists ≡ n'.keys → nm ≡ y.name →
+    record { name = nm; instrs = is; lines = ls; slots = ss; params = y.params; keys = ks } ≡ code_at b y n'
+code_is b y n n' named hidden e0 e is ls ss ks lists nm hn he hk em hi hl hs hh hkeys hlists hname =
+    λ i. record { name = hname i; instrs = (hi ∙ emitted_code k e p whole_em) i; lines = (hl ∙ whole_em.lines) i; slots = (hs ∙ ap (λ h. slots_named y.is_class n'.locals ++ replicate h []) left) i; params = y.params; keys = (hkeys ∙ ap (λ z. map (map (text z)) lists) hn ∙ ap (map (map (text n'))) hlists) i }
+  where
+    k : ℕ
+    k = length (slots_named y.is_class n'.locals)
+
+    p : Piece
+    p = whole b y n'
+
+    whole_em : Emitted (fresh k) e p no_frames
+    whole_em = subst (λ z. Emitted (fresh k) e (whole b y z) no_frames) hn (subst (λ z. Emitted z e (whole b y n) no_frames) (he ∙ ap fresh hk) em)
+
+    left : hidden ≡ p.slots
+    left = omega (arith, hh, hk, whole_em.slots)
+
+module _ (line : ℕ) (b : Piece) (env : List ℕ → List Frame) where
+  pub body_arm : (e m1 m2 m3 : St) → Emitted e m1 b env → m2 ≡ put m1 line (DraftOp (Const NoValue)) → m3 ≡ put m2 line (DraftOp Return) → Emitted e m3 (body_code line b) env
+  body_arm e m1 m2 m3 h1 h2 h3 = plain_emitted line env (Sub 1 b ∷ Op (Const NoValue) ∷ Op Return ∷ []) e m3 refl refl (m1, h1, (m2, h2, (m3, h3, refl)))
+
+  pub module_arm : (e m0 m1 m2 m3 : St) → m0 ≡ put e line (DraftOp Setup) → Emitted m0 m1 b env → m2 ≡ put m1 line (DraftOp (Const NoValue)) → m3 ≡ put m2 line (DraftOp Return) → Emitted e m3 (module_code line b) env
+  module_arm e m0 m1 m2 m3 h0 h1 h2 h3 = plain_emitted line env (Op Setup ∷ Sub 1 b ∷ Op (Const NoValue) ∷ Op Return ∷ []) e m3 refl refl (m0, h0, (m1, h1, (m2, h2, (m3, h3, refl))))
+
+pub whole_other : (k : ℕ) (y : Body) (n : Known) → k ≢ 0 → whole k y n ≡ body_code y.line (y.block n)
+whole_other zero y n ne = absurd (ne refl)
+whole_other (suc k) y n ne = refl
 
 -- ---- the roots
 

@@ -15,3 +15,4 @@ pub mod Used
 pub mod Tallying
 pub mod UsedStatements
 pub mod Compiled
+pub mod Compiling

@@ -4,15 +4,12 @@ use Rattle.py_compile.specs.declared.tally.Place.{Place}
 use Rattle.py_compile.specs.Uses.{Use, Text, Global, Keys, Inside, Uses, in_turn, body_used}
 use Rattle.py_compile.specs.Tallies.{Tally, tally, tally_one, bump, done, inside, locals_in}
 
-pub tally-append : (t : Tally) (us vs : List Use) → tally t (us ++ vs) ≡ tally (tally t us) vs
-tally-append t [] vs = refl
-tally-append t (u ∷ us) vs = tally-append (tally_one t u) us vs
+pub tally_append : (t : Tally) (us vs : List Use) → tally t (us ++ vs) ≡ tally (tally t us) vs
+tally_append t [] vs = refl
+tally_append t (u ∷ us) vs = tally_append (tally_one t u) us vs
 
 pub two : (o : Tally) (us vs : List Use) {p q : Tally} → p ≡ tally o us → q ≡ tally p vs → q ≡ tally o (us ++ vs)
-two o us vs e f = f ∙ ap (λ z. tally z vs) e ∙ sym (tally-append o us vs)
-
-pub three : (o : Tally) (us vs ws : List Use) {p q r : Tally} → p ≡ tally o us → q ≡ tally p vs → r ≡ tally q ws → r ≡ tally o ((us ++ vs) ++ ws)
-three o us vs ws e f g = two o (us ++ vs) ws (two o us vs e f) g
+two o us vs e f = f ∙ ap (λ z. tally z vs) e ∙ sym (tally_append o us vs)
 
 one_next : (t : Tally) (u : Use) → (tally_one t u).next ≡ t.next
 one_next t (Text x) = refl
@@ -46,13 +43,10 @@ later : ℕ → Tally → Tally
 later n z = record z { next = z.next + n }
 
 bump_both : (t : Tally) (m n : ℕ) → bump (bump t m) n ≡ bump t (m + n)
+unfolding later
 bump_both t m n =
     let e : t.next + m + n ≡ t.next + (m + n) = omega arith in
     bump_is (bump t m) n ∙ ap (later n) (bump_is t m) ∙ ap (λ k. record t { next = k }) e ∙ sym (bump_is t (m + n))
-
--- one more, of what is left
-pub tally_left : (o : Tally) (us vs : List Use) {p start : Tally} → p ≡ tally o us → tally o (us ++ vs) ≡ start → tally p vs ≡ start
-tally_left o us vs e f = ap (λ z. tally z vs) e ∙ sym (tally-append o us vs) ∙ f
 
 -- one statement after another
 pub turn : (o : Tally) (b : Inside) (s t : Uses) {p q : Tally} → p ≡ done o b s → q ≡ done p b t → q ≡ done o b (in_turn s t)
@@ -61,16 +55,10 @@ turn o b s t {p} e f =
     ∙ ap (λ k. bump (tally (bump (tally o (s.uses b o.next)) s.bodies) (t.uses b k)) t.bodies) next
     ∙ ap (λ z. bump z t.bodies) (bump_tally (tally o (s.uses b o.next)) s.bodies (t.uses b (o.next + s.bodies)))
     ∙ bump_both (tally (tally o (s.uses b o.next)) (t.uses b (o.next + s.bodies))) s.bodies t.bodies
-    ∙ ap (λ z. bump z (s.bodies + t.bodies)) (sym (tally-append o (s.uses b o.next) (t.uses b (o.next + s.bodies))))
+    ∙ ap (λ z. bump z (s.bodies + t.bodies)) (sym (tally_append o (s.uses b o.next) (t.uses b (o.next + s.bodies))))
   where
     next : (bump (tally o (s.uses b o.next)) s.bodies).next ≡ o.next + s.bodies
     next = ap (λ z. z.next) (bump_is (tally o (s.uses b o.next)) s.bodies) ∙ ap (λ k. k + s.bodies) (tally_next o (s.uses b o.next))
-
-pub done-turn : (o : Tally) (b : Inside) (s t : Uses) → done o b (in_turn s t) ≡ done (done o b s) b t
-done-turn o b s t = sym (turn o b s t refl refl)
-
-pub turn_left : (o : Tally) (b : Inside) (s t : Uses) {p start : Tally} → p ≡ done o b s → done o b (in_turn s t) ≡ start → done p b t ≡ start
-turn_left o b s t e f = turn o b s t e refl ∙ f
 
 -- a body, behind what stands before it in the body round it
 pub within : (all : List (List (List ℕ))) (o : Tally) (b : Inside) (before : Inside → List Use) (is_class : Bool) (ss : Uses) (place : Place) {p q r : Tally} →
@@ -84,7 +72,7 @@ within all o b before is_class ss place {p} e at f g =
     ∙ ap (λ z. bump (tally z us) ss.bodies) (ap (λ k. record (tally o (before b)) { next = k + 1 }) (sym (tally_next o (before b))) ∙ sym (bump_is (tally o (before b)) 1))
     ∙ ap (λ z. bump z ss.bodies) (bump_tally (tally o (before b)) 1 us)
     ∙ bump_both (tally (tally o (before b)) us) 1 ss.bodies
-    ∙ ap (λ z. bump z (1 + ss.bodies)) (sym (tally-append o (before b) us))
+    ∙ ap (λ z. bump z (1 + ss.bodies)) (sym (tally_append o (before b) us))
   where
     us : List Use
     us = ss.uses (record { number = o.next; is_class = is_class; locals = locals_in all o.next }) (o.next + 1)

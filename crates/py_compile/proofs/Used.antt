@@ -16,7 +16,7 @@ use Rattle.py_compile.specs.declared.uses.Role.{Role}
 use Rattle.py_compile.specs.declared.uses.Role.TheVariants.{Read, Target}
 use Rattle.py_compile.specs.Expressions.{key_names}
 use Rattle.py_compile.specs.Tallies.{told, told_all, read_links, read_named, read_pairs, read_trailers}
-use Rattle.py_compile.specs.Uses.{Use, Text, Inside, name_read, name_bound, joined, Used, only, reads, targets, read_or, key_use, expr_step, trailer_step, link_step, named_step, pair_step, used, used_trailer, read, target, read_all, target_all, read_some}
+use Rattle.py_compile.specs.Uses.{Use, Text, Keys, Inside, name_read, name_bound, joined, Used, only, reads, targets, read_or, expr_step, trailer_step, link_step, named_step, pair_step, used, used_trailer, read, target, read_all, target_all, read_some}
 
 link : Inside → Link → List Use
 link b = fold-Link Used (List Use) (List Use) (List ℕ × List Use) (List Use) (expr_step b) (trailer_step b) (link_step b) (named_step b) (pair_step b)
@@ -134,9 +134,9 @@ used_slice b None (Some d) = ap (used_trailer b) (sym (t.rolls-Slice None (Some 
 used_slice b (Some a) None = ap (used_trailer b) (sym (t.rolls-Slice (Some a) None)) ∙ fold-roll-Trailer Used (List Use) (List Use) (List ℕ × List Use) (List Use) (expr_step b) (trailer_step b) (link_step b) (named_step b) (pair_step b) (open'.Slice (Some a) None)
 used_slice b (Some a) (Some d) = ap (used_trailer b) (sym (t.rolls-Slice (Some a) (Some d))) ∙ fold-roll-Trailer Used (List Use) (List Use) (List ℕ × List Use) (List Use) (expr_step b) (trailer_step b) (link_step b) (named_step b) (pair_step b) (open'.Slice (Some a) (Some d))
 
-pub used_call : (b : Inside) (es : List Expr) (ks : List Named) → used_trailer b (t.Call es ks) ≡ read_all b es ++ read_named b ks ++ key_use b.number (key_names ks)
+pub used_call : (b : Inside) (es : List Expr) (ks : List Named) → used_trailer b (t.Call es ks) ≡ read_all b es ++ read_named b ks ++ Keys b.number (key_names ks) ∷ []
 unfolding used_trailer used link named pair
-used_call b es ks = ap (used_trailer b) (sym (t.rolls-Call es ks)) ∙ fold-roll-Trailer Used (List Use) (List Use) (List ℕ × List Use) (List Use) (expr_step b) (trailer_step b) (link_step b) (named_step b) (pair_step b) (open'.Call es ks) ∙ ap (λ z. z ++ joined (map (λ k. Text k.0 ∷ k.1) (map (named b) ks)) ++ key_use b.number (map (λ k. k.0) (map (named b) ks))) (reads-all b es) ∙ ap (λ z. read_all b es ++ z ++ key_use b.number (map (λ k. k.0) (map (named b) ks))) (all_named b ks) ∙ ap (λ z. read_all b es ++ read_named b ks ++ key_use b.number z) (all_names b ks)
+used_call b es ks = ap (used_trailer b) (sym (t.rolls-Call es ks)) ∙ fold-roll-Trailer Used (List Use) (List Use) (List ℕ × List Use) (List Use) (expr_step b) (trailer_step b) (link_step b) (named_step b) (pair_step b) (open'.Call es ks) ∙ ap (λ z. z ++ joined (map (λ k. Text k.0 ∷ k.1) (map (named b) ks)) ++ Keys b.number (map (λ k. k.0) (map (named b) ks)) ∷ []) (reads-all b es) ∙ ap (λ z. read_all b es ++ z ++ Keys b.number (map (λ k. k.0) (map (named b) ks)) ∷ []) (all_named b ks) ∙ ap (λ z. read_all b es ++ read_named b ks ++ Keys b.number z ∷ []) (all_names b ks)
 
 pub told_int : (r : Role) (b : Inside) (n : ℤ) → told r b (e.Int n) ≡ []
 told_int Read b n = ap (λ u. u.read) (used_int b n)

@@ -14,7 +14,7 @@ use Rattle.py_tree.specs.declared.stmt.Stmt.TheFolds.{fold-Stmt}
 use Rattle.py_compile.specs.Names.{has, same_names, is_none}
 use Rattle.py_compile.specs.Statements.{bound_name}
 
--- A string, a global name, or a keyword list of the body with that number.
+-- A string, a global name, or the keyword list of a call in the body with that number; without keywords it is empty.
 pub data Use : Type 0 where
   Text : List ℕ → Use
   Global : List ℕ → Use
@@ -66,11 +66,6 @@ abbrev pub read_or : Option Used → List Use
 read_or None = []
 read_or (Some u) = u.read
 
--- a call's keyword list, if it has keywords
-abbrev pub key_use : ℕ → List (List ℕ) → List Use
-key_use number [] = []
-key_use number (k ∷ ks) = Keys number (k ∷ ks) ∷ []
-
 module _ (b : Inside) where
   abbrev pub expr_step : open'.Expr-F Used (List Use) (List Use) (List ℕ × List Use) (List Use) → Used
   expr_step (open'.Name x) = record { read = name_read b x; target = name_bound b x }
@@ -91,7 +86,7 @@ module _ (b : Inside) where
   trailer_step (open'.Attribute m) = Text m ∷ []
   trailer_step (open'.Index u) = u.read
   trailer_step (open'.Slice u v) = read_or u ++ read_or v
-  trailer_step (open'.Call us ks) = reads us ++ joined (map (λ k. Text k.0 ∷ k.1) ks) ++ key_use b.number (map (λ k. k.0) ks)
+  trailer_step (open'.Call us ks) = reads us ++ joined (map (λ k. Text k.0 ∷ k.1) ks) ++ Keys b.number (map (λ k. k.0) ks) ∷ []
 
   abbrev pub link_step : open'.Link-F Used (List Use) (List Use) (List ℕ × List Use) (List Use) → List Use
   link_step l = l.operand.read

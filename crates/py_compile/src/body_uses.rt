@@ -12,7 +12,7 @@ use py_tree::{Arm, Clause, Handler, Imported, Param, Stmt};
 use std::alloc::Global;
 
 /// What the defaults of parameters use.
-#[tactic(auto, using(crate::proofs::Tallying::tally-append))]
+#[tactic(auto, using(crate::proofs::Tallying::tally_append))]
 fn defaults<'a>(out: &mut Tally<'a>, all: &[NameSet], b: Place, items: &'a [Param]) -> Result<(), NoMemory>
     ensures { OnOk result (out.new ≡ tally out.old (read_defaults (inside all.now b) items.now)) }
 {
@@ -25,7 +25,7 @@ fn defaults<'a>(out: &mut Tally<'a>, all: &[NameSet], b: Place, items: &'a [Para
 }
 
 /// What an import uses.
-#[tactic(auto, using(crate::proofs::Tallying::tally-append))]
+#[tactic(auto, using(crate::proofs::Tallying::tally_append))]
 fn imports<'a>(out: &mut Tally<'a>, all: &[NameSet], b: Place, items: &'a [Imported]) -> Result<(), NoMemory>
     ensures { OnOk result (out.new ≡ tally out.old (import_use (inside all.now b) items.now)) }
 {
@@ -39,7 +39,7 @@ fn imports<'a>(out: &mut Tally<'a>, all: &[NameSet], b: Place, items: &'a [Impor
 
 /// What a statement uses.
 #[cycle(statements)]
-#[tactic(auto, using(crate::proofs::UsedStatements::stmt_rules))]
+#[tactic(auto, using(crate::proofs::UsedStatements::stmt_rules, crate::proofs::Tallying::tally_append))]
 fn statement<'a>(out: &mut Tally<'a>, all: &[NameSet], b: Place, x: &'a Stmt) -> Result<(), NoMemory>
     ensures { OnOk result (out.new ≡ done out.old (inside all.now b) (stmt_uses (locals_in all.now) x.now)) }
 {
@@ -118,7 +118,7 @@ fn statement<'a>(out: &mut Tally<'a>, all: &[NameSet], b: Place, x: &'a Stmt) ->
 
 /// What the statements of a block use.
 #[cycle(statements)]
-#[tactic(auto, using(crate::proofs::Tallying::tally-append, crate::proofs::Tallying::done-turn))]
+#[tactic(auto, using(crate::proofs::Tallying::tally_append))]
 pub fn block<'a>(out: &mut Tally<'a>, all: &[NameSet], b: Place, items: &'a [Stmt]) -> Result<(), NoMemory>
     ensures { OnOk result (out.new ≡ done out.old (inside all.now b) (block_uses all.now items.now)) }
 {
@@ -132,7 +132,7 @@ pub fn block<'a>(out: &mut Tally<'a>, all: &[NameSet], b: Place, items: &'a [Stm
 
 /// What an `if`, `elif` or `while` uses.
 #[cycle(statements)]
-#[tactic(auto, using(crate::proofs::Tallying::tally-append, crate::proofs::Tallying::done-turn))]
+#[tactic(auto, using(crate::proofs::Tallying::tally_append))]
 fn arm<'a>(out: &mut Tally<'a>, all: &[NameSet], b: Place, x: &'a Arm) -> Result<(), NoMemory>
     ensures { OnOk result (out.new ≡ done out.old (inside all.now b) (arm_uses all.now x.now)) }
 {
@@ -143,7 +143,7 @@ fn arm<'a>(out: &mut Tally<'a>, all: &[NameSet], b: Place, x: &'a Arm) -> Result
 
 /// What the arms of an `if` use.
 #[cycle(statements)]
-#[tactic(auto, using(crate::proofs::Tallying::tally-append, crate::proofs::Tallying::done-turn))]
+#[tactic(auto, using(crate::proofs::Tallying::tally_append))]
 fn arms<'a>(out: &mut Tally<'a>, all: &[NameSet], b: Place, items: &'a [Arm]) -> Result<(), NoMemory>
     ensures { OnOk result (out.new ≡ done out.old (inside all.now b) (arms_uses all.now items.now)) }
 {
@@ -168,7 +168,7 @@ fn clause<'a>(out: &mut Tally<'a>, all: &[NameSet], b: Place, x: &'a Option<Clau
 
 /// What `except` clauses use.
 #[cycle(statements)]
-#[tactic(auto, using(crate::proofs::Tallying::tally-append, crate::proofs::Tallying::done-turn))]
+#[tactic(auto, using(crate::proofs::Tallying::tally_append))]
 fn handlers<'a>(out: &mut Tally<'a>, all: &[NameSet], b: Place, items: &'a [Handler]) -> Result<(), NoMemory>
     ensures { OnOk result (out.new ≡ done out.old (inside all.now b) (handlers_uses all.now items.now)) }
 {
@@ -182,7 +182,7 @@ fn handlers<'a>(out: &mut Tally<'a>, all: &[NameSet], b: Place, items: &'a [Hand
 
 /// What an `except` clause uses.
 #[cycle(statements)]
-#[tactic(auto, using(crate::proofs::Tallying::tally-append, crate::proofs::Tallying::done-turn))]
+#[tactic(auto, using(crate::proofs::Tallying::tally_append))]
 fn handler<'a>(out: &mut Tally<'a>, all: &[NameSet], b: Place, x: &'a Handler) -> Result<(), NoMemory>
     ensures { OnOk result (out.new ≡ done out.old (inside all.now b) (handler_uses all.now x.now)) }
 {

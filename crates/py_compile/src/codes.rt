@@ -4,6 +4,8 @@ ghost use Rattle.py_compile.specs.Compiles.{CodesOf, known_by, known_in};
 ghost use Rattle.py_compile.specs.Gathered.{body_of, numbered};
 ghost use Rattle.py_compile.specs.Names.{first_cell, text};
 ghost use Rattle.py_compile.specs.State.{Emitted, no_frames};
+ghost use Rattle.py_compile.specs.Statements.{stated_block};
+ghost use Rattle.py_compile.specs.Table.{body_code, module_code};
 ghost use Rattle.py_compile.specs.Whole.{code_at, large_at, least, slots_named, whole};
 
 use crate::bodies::Body;
@@ -19,6 +21,29 @@ use py_data::{Bytes, NoMemory, Refusal};
 use sqlite_items::Items;
 use std::alloc::Global;
 
+/// The instructions of a body that isn't the module's, whose own bodies are numbered from that number on.
+fn emit_inner(e: &mut Emitter, names: &Names, body: &Body, first: u32) -> Result<(), Fault>
+    ensures done { IfOk result (λ _. Emitted e.old e.new (body_code body.now.line ((stated_block body.now.block.now).code names.now [] first)) no_frames) }
+    ensures large { result ≡ Err Fault.TooLarge → 65535 < length e.old.code + (body_code body.now.line ((stated_block body.now.block.now).code names.now [] first)).size }
+{
+    block(e, names, body.block, &Around::Body, first)?;
+    e.put(body.line, Draft::Op(Instr::Const(Constant::None)))?;
+    e.put(body.line, Draft::Op(Instr::Return))?;
+    Ok(())
+}
+
+/// The instructions of the module's body.
+fn emit_module(e: &mut Emitter, names: &Names, body: &Body) -> Result<(), Fault>
+    ensures done { IfOk result (λ _. Emitted e.old e.new (module_code body.now.line ((stated_block body.now.block.now).code names.now [] 1)) no_frames) }
+    ensures large { result ≡ Err Fault.TooLarge → 65535 < length e.old.code + (module_code body.now.line ((stated_block body.now.block.now).code names.now [] 1)).size }
+{
+    e.put(body.line, Draft::Op(Instr::Setup))?;
+    block(e, names, body.block, &Around::Body, 1)?;
+    e.put(body.line, Draft::Op(Instr::Const(Constant::None)))?;
+    e.put(body.line, Draft::Op(Instr::Return))?;
+    Ok(())
+}
+
 /// The instructions of the body with that number.
 fn emit(e: &mut Emitter, names: &Names, number: usize, body: &Body) -> Result<(), Fault>
     requires { number < 65535 }
@@ -26,12 +51,9 @@ fn emit(e: &mut Emitter, names: &Names, number: usize, body: &Body) -> Result<()
     ensures large { result ≡ Err Fault.TooLarge → 65535 < length e.old.code + (whole number (body_of number body.now) names.now).size }
 {
     if number == 0 {
-        e.put(body.line, Draft::Op(Instr::Setup))?;
+        return emit_module(e, names, body);
     }
-    block(e, names, body.block, &Around::Body, (number + 1) as u32)?;
-    e.put(body.line, Draft::Op(Instr::Const(Constant::None)))?;
-    e.put(body.line, Draft::Op(Instr::Return))?;
-    Ok(())
+    emit_inner(e, names, body, (number + 1) as u32)
 }
 
 /// The named slots, and so many hidden ones.

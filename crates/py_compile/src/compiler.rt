@@ -104,7 +104,10 @@ pub fn compile(alloc: Global, m: &Module, scopes: &Scopes) -> Result<Program, Co
     let mut locals = bound(alloc, scopes)?;
     let used = module(alloc, locals.as_slice(), bodies.len(), m.body.as_slice())?;
     let roots = roots(alloc, &used.texts, &used.cells)?;
-    if roots.len() > MOST || has_long(&used.texts) {
+    if roots.len() > MOST {
+        return Err(too_large(1));
+    }
+    if has_long(&used.texts) {
         return Err(too_large(1));
     }
     pad(alloc, &mut locals, bodies.len())?;

@@ -4,7 +4,7 @@ ghost use Rattle.std.specs.List.{list_any};
 ghost use Rattle.py_compile.specs.Expressions.{key_names};
 ghost use Rattle.py_compile.specs.Names.{has, same_names};
 ghost use Rattle.py_compile.specs.Tallies.{bump, inside, tally};
-ghost use Rattle.py_compile.specs.Uses.{Text, key_use, name_bound, name_read};
+ghost use Rattle.py_compile.specs.Uses.{Keys, Text, name_bound, name_read, with_keys};
 
 use crate::expression::is_none;
 use crate::names::{NameSet, same_names, split};
@@ -77,6 +77,18 @@ fn is_listed(lists: &[Texts], named: &[Named]) -> bool
         rest = more;
     }
     false
+}
+
+/// Adds the keywords of a call to these lists, if they aren't there.
+fn note_list(alloc: Global, lists: &mut Items<Texts>, named: &[Named]) -> Result<(), NoMemory>
+    ensures { OnOk result (lists.new ≡ with_keys lists.old (key_names named.now)) }
+{
+    if is_listed(lists.as_slice(), named) {
+        return Ok(());
+    }
+    let names = names_of(alloc, named)?;
+    lists.push(names)?;
+    Ok(())
 }
 
 /// As many bodies with the empty keyword list.
@@ -155,23 +167,14 @@ impl<'a> Tally<'a> {
         Ok(())
     }
 
-    /// The keyword list of a call, if it has keywords.
+    /// The keyword list of a call.
     pub fn note_keys(&mut self, b: Place, named: &[Named]) -> Result<(), NoMemory>
-        ensures { OnOk result (self.new ≡ tally self.old (key_use b.number (key_names named.now))) }
+        ensures { OnOk result (self.new ≡ tally self.old (Keys b.number (key_names named.now) ∷ [])) }
     {
-        if named.is_empty() {
-            return Ok(());
-        }
         if b.number >= self.keys.len() {
             return Ok(());
         }
-        let lists = &mut self.keys[b.number];
-        if is_listed(lists.as_slice(), named) {
-            return Ok(());
-        }
-        let names = names_of(self.alloc, named)?;
-        lists.push(names)?;
-        Ok(())
+        note_list(self.alloc, &mut self.keys[b.number], named)
     }
 
     /// A body begins: its place. Its number is the next one.

@@ -18,7 +18,7 @@ pub enum Role {
 
 /// What an expression uses.
 #[cycle(uses)]
-#[tactic(auto, using(crate::proofs::Used::used_rules))]
+#[tactic(auto, using(crate::proofs::Used::used_rules, crate::proofs::Tallying::tally_append))]
 pub fn expression<'a>(out: &mut Tally<'a>, all: &[NameSet], b: Place, role: Role, x: &'a Expr) -> Result<(), NoMemory>
     ensures { OnOk result (out.new ≡ tally out.old (told role (inside all.now b) x.now)) }
 {
@@ -61,7 +61,7 @@ pub fn expression<'a>(out: &mut Tally<'a>, all: &[NameSet], b: Place, role: Role
 
 /// What these use, one after another.
 #[cycle(uses)]
-#[tactic(auto, using(crate::proofs::Tallying::tally-append, crate::proofs::Used::told_all_cons))]
+#[tactic(auto, using(crate::proofs::Tallying::tally_append, crate::proofs::Used::told_all_cons))]
 pub fn expressions<'a>(out: &mut Tally<'a>, all: &[NameSet], b: Place, role: Role, items: &'a [Expr]) -> Result<(), NoMemory>
     ensures { OnOk result (out.new ≡ tally out.old (told_all role (inside all.now b) items.now)) }
 {
@@ -75,7 +75,7 @@ pub fn expressions<'a>(out: &mut Tally<'a>, all: &[NameSet], b: Place, role: Rol
 
 /// What the keys and values of a dictionary use.
 #[cycle(uses)]
-#[tactic(auto, using(crate::proofs::Tallying::tally-append))]
+#[tactic(auto, using(crate::proofs::Tallying::tally_append))]
 fn pairs<'a>(out: &mut Tally<'a>, all: &[NameSet], b: Place, items: &'a [Pair]) -> Result<(), NoMemory>
     ensures { OnOk result (out.new ≡ tally out.old (read_pairs (inside all.now b) items.now)) }
 {
@@ -90,7 +90,7 @@ fn pairs<'a>(out: &mut Tally<'a>, all: &[NameSet], b: Place, items: &'a [Pair]) 
 
 /// What the operands behind operators use.
 #[cycle(uses)]
-#[tactic(auto, using(crate::proofs::Tallying::tally-append))]
+#[tactic(auto, using(crate::proofs::Tallying::tally_append))]
 fn links<'a>(out: &mut Tally<'a>, all: &[NameSet], b: Place, items: &'a [Link]) -> Result<(), NoMemory>
     ensures { OnOk result (out.new ≡ tally out.old (read_links (inside all.now b) items.now)) }
 {
@@ -104,7 +104,7 @@ fn links<'a>(out: &mut Tally<'a>, all: &[NameSet], b: Place, items: &'a [Link]) 
 
 /// What trailers use.
 #[cycle(uses)]
-#[tactic(auto, using(crate::proofs::Tallying::tally-append))]
+#[tactic(auto, using(crate::proofs::Tallying::tally_append))]
 fn trailers<'a>(out: &mut Tally<'a>, all: &[NameSet], b: Place, items: &'a [Trailer]) -> Result<(), NoMemory>
     ensures { OnOk result (out.new ≡ tally out.old (read_trailers (inside all.now b) items.now)) }
 {
@@ -118,7 +118,7 @@ fn trailers<'a>(out: &mut Tally<'a>, all: &[NameSet], b: Place, items: &'a [Trai
 
 /// What a trailer uses.
 #[cycle(uses)]
-#[tactic(auto, using(crate::proofs::Used::used_rules))]
+#[tactic(auto, using(crate::proofs::Used::used_rules, crate::proofs::Tallying::tally_append))]
 fn trailer<'a>(out: &mut Tally<'a>, all: &[NameSet], b: Place, x: &'a Trailer) -> Result<(), NoMemory>
     ensures { OnOk result (out.new ≡ tally out.old (used_trailer (inside all.now b) x.now)) }
 {
@@ -152,7 +152,7 @@ fn bound<'a>(out: &mut Tally<'a>, all: &[NameSet], b: Place, x: &'a Option<Boxed
 
 /// What keyword arguments use.
 #[cycle(uses)]
-#[tactic(auto, using(crate::proofs::Tallying::tally-append))]
+#[tactic(auto, using(crate::proofs::Tallying::tally_append))]
 fn keywords<'a>(out: &mut Tally<'a>, all: &[NameSet], b: Place, items: &'a [Named]) -> Result<(), NoMemory>
     ensures { OnOk result (out.new ≡ tally out.old (read_named (inside all.now b) items.now)) }
 {

@@ -1,0 +1,25 @@
+use Rattle.std.proofs.Common.{Err, ap, ◌∙◌, length, subst, sym}
+use Rattle.std.specs.Prelude.{option_map}
+use Rattle.py_data.specs.declared.refusal.Refusal.TheVariants.{TooLarge}
+use Rattle.py_compile.specs.Compiles.{Compiles, bound_in}
+use Rattle.py_compile.specs.Whole.{bodies, roots_of}
+use Rattle.py_compile.proofs.Compiling.{compiles_err, compiles_ok, large_is, long_text, many_bodies, many_roots, not_past, past, told_is}
+use Rattle.py_compile.proofs.compiler.compile.Goals as goal
+
+pub returns-then-len-gt-MOST : goal.returns-then-len-gt-MOST
+returns-then-len-gt-MOST c =
+    subst (λ e. Compiles c.args.m.now c.args.scopes.now (Err e)) (sym c.too_large.ensures) (ap (option_map TooLarge) (many_bodies c.args.scopes.now c.args.m.now c.in_ok-bodies.bodies (c.in_ok-bodies.ensures ∙ ap bodies c.as_slice.ensures) (past 65535 c.len.result (length c.in_ok-bodies.bodies) c.if-len-gt-MOST.true c.len.ensures)))
+
+pub returns-then-len-gt-MOST-2 : goal.returns-then-len-gt-MOST-2
+returns-then-len-gt-MOST-2 c =
+    subst (λ e. Compiles c.args.m.now c.args.scopes.now (Err e)) (sym c.too_large-then-len-gt-MOST-2.ensures) (ap (option_map TooLarge) (many_roots c.args.scopes.now c.args.m.now c.in_ok-bodies.bodies (c.in_ok-bodies.ensures ∙ ap bodies c.as_slice.ensures) c.in_ok-used.used (told_is c.as_slice-2.result.now c.as_slice-3.result.now c.len-2.result c.in_ok-used.used (bound_in c.args.scopes.now) c.args.m.now.body (length c.in_ok-bodies.bodies) (c.as_slice-2.ensures.value ∙ c.in_ok-locals.ensures) c.as_slice-3.ensures c.len-2.ensures c.in_ok-used.ensures.texts c.in_ok-used.ensures.cells c.in_ok-used.ensures.keys) (not_past 65535 c.len.result (length c.in_ok-bodies.bodies) c.if-len-gt-MOST.false c.len.ensures) (past 65535 c.len-3.result (length (roots_of c.in_ok-used.used.texts c.in_ok-used.used.cells)) c.if-len-gt-MOST-2.true (c.len-3.ensures ∙ ap length c.in_ok-roots.ensures))))
+
+pub returns-then-has_long : goal.returns-then-has_long
+returns-then-has_long c =
+    subst (λ e. Compiles c.args.m.now c.args.scopes.now (Err e)) (sym c.too_large-then-has_long.ensures) (ap (option_map TooLarge) (long_text c.args.scopes.now c.args.m.now c.in_ok-bodies.bodies (c.in_ok-bodies.ensures ∙ ap bodies c.as_slice.ensures) c.in_ok-used.used (told_is c.as_slice-2.result.now c.as_slice-3.result.now c.len-2.result c.in_ok-used.used (bound_in c.args.scopes.now) c.args.m.now.body (length c.in_ok-bodies.bodies) (c.as_slice-2.ensures.value ∙ c.in_ok-locals.ensures) c.as_slice-3.ensures c.len-2.ensures c.in_ok-used.ensures.texts c.in_ok-used.ensures.cells c.in_ok-used.ensures.keys) (not_past 65535 c.len.result (length c.in_ok-bodies.bodies) c.if-len-gt-MOST.false c.len.ensures) (not_past 65535 c.len-3.result (length (roots_of c.in_ok-used.used.texts c.in_ok-used.used.cells)) c.if-len-gt-MOST-2.false (c.len-3.ensures ∙ ap length c.in_ok-roots.ensures)) ?))
+
+pub returns-in_err-codes : goal.returns-in_err-codes
+returns-in_err-codes c = ?
+
+pub returns : goal.returns
+returns c = ?
