@@ -33,12 +33,19 @@ told_is all ss n used all' ss' n' ea es en t c k =
 pub past : (a b c : ℕ) → a < b → b ≡ c → nat_lt a c ≡ true
 past a b c lt e = lt-ltb a c (omega (arith, lt, e))
 
-pub not_past : (a b c : ℕ) → (a < b → ⊥) → b ≡ c → nat_lt a c ≡ false
-not_past a b c no e = by (nat_lt a c) refl
+pub not_past : (a b c : ℕ) → b ≤ a → b ≡ c → nat_lt a c ≡ false
+not_past a b c le e = by (nat_lt a c) refl
   where
     by : (x : Bool) → nat_lt a c ≡ x → nat_lt a c ≡ false
-    by true h = absurd (no (let lt : a < c = ltb-true a c h in omega (arith, lt, e)))
+    by true h = absurd (let lt : a < c = ltb-true a c h in omega (arith, le, lt, e))
     by false h = h
+
+pub padded_is : (n n' : ℕ) (xs xs' ys : List (List (List ℕ))) → n ≡ n' → xs ≡ xs' → Padded n xs ys → Padded n' xs' ys
+padded_is n n' xs xs' ys en ex p = subst (λ z. Padded z xs' ys) en (subst (λ z. Padded n z ys) ex p)
+
+pub codes_said : (used : Tally) (l l' : List (List (List ℕ))) (ys ys' : List Gathered) (r : Result (List Code) CompileError) → l ≡ l' → ys ≡ ys' →
+    CodesOf (known_in l used) (numbered 0 ys) r → CodesOf (known_in l' used) (numbered 0 ys') r
+codes_said used l l' ys ys' r el ey h = subst (λ z. CodesOf (known_in l' used) (numbered 0 z) r) ey (subst (λ z. CodesOf (known_in z used) (numbered 0 ys) r) el h)
 
 module _ (scopes : List Scope) (m : Module) (bs : List Gathered) (eb : numbered 0 bs ≡ bodies m.body) where
   count : length (bodies m.body) ≡ length bs

@@ -111,6 +111,8 @@ pub fn compile(alloc: Global, m: &Module, scopes: &Scopes) -> Result<Program, Co
         return Err(too_large(1));
     }
     pad(alloc, &mut locals, bodies.len())?;
-    let codes = codes(alloc, bodies.as_slice(), locals.as_slice(), &used)?;
-    Ok(Program { codes, roots })
+    match codes(alloc, bodies.as_slice(), locals.as_slice(), &used) {
+        Ok(codes) => Ok(Program { codes, roots }),
+        Err(e) => Err(e),
+    }
 }
