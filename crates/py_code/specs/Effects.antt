@@ -3,7 +3,7 @@
 use Rattle.std.specs.Prelude.{◌≡◌, ℕ, ◌+◌, ◌-◌, ◌<◌, ◌≤◌, ◌^◌, List, [], ◌∷◌, Option, Some, None, Bool, true, false, IsTrue, get_or, length}
 use Rattle.py_code.specs.declared.builtin.TheConstants.{COUNT}
 use Rattle.py_code.specs.declared.instr.Constant.{Constant}
-use Rattle.py_code.specs.declared.instr.Constant.TheVariants.{None as NoValue, Truth, Int, Builtin, Root}
+use Rattle.py_code.specs.declared.instr.Constant.TheVariants.{Builtin, Root}
 use Rattle.py_code.specs.declared.instr.Instr.{Instr}
 use Rattle.py_code.specs.declared.instr.Instr.TheVariants.{Setup, Const, Pop, Dup, Rot2, Dup2, Rot3, LoadLocal, StoreLocal, DelLocal, LoadGlobal, StoreGlobal, DelGlobal, LoadName, StoreName, DelName, LoadAttr, StoreAttr, DelAttr, LoadMethod, LoadItem, StoreItem, DelItem, Slice, Unary, Not, Binary, InPlace, Compare, Jump, JumpFalse, KeepFalse, KeepTrue, BuildTuple, BuildList, BuildDict, Unpack, Iter, Next, Call, CallMethod, Return, MakeFunction, ClassBody, Try, PopTry, ExcMatch, MakeRaised, Raise, PrintItem, PrintNewline}
 
