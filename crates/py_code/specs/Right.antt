@@ -1,7 +1,8 @@
 -- When a program is right: its roots, what each code is by itself, and what the codes say of one another. States
 -- `docs/LANGUAGE.md`, "Right programs".
-use Rattle.std.specs.Prelude.{◌≡◌, ℕ, zero, suc, ◌+◌, ◌<◌, ◌≤◌, ◌^◌, ◌==◌, codes, List, [], ◌∷◌, ◌++◌, Option, Some, None, Bool, false, IsTrue, All, Contains, drop, length, map, get_or, slice_get}
+use Rattle.std.specs.Prelude.{◌≡◌, ℕ, zero, suc, ◌+◌, ◌<◌, ◌≤◌, ◌^◌, ◌==◌, codes, List, [], ◌∷◌, ◌++◌, Option, Some, None, Bool, true, false, IsTrue, All, if◌then◌else◌, drop, length, map, get_or, slice_get}
 use Rattle.std.specs.List.{flat_map, last_or, list_any}
+use Rattle.std.specs.Str.{bytes_eq}
 use Rattle.py_data.specs.declared.value.Kind.{Kind}
 use Rattle.py_data.specs.declared.value.Kind.TheVariants.{Str, Cell, Class}
 use Rattle.py_code.specs.declared.instr.Instr.{Instr}
@@ -62,10 +63,13 @@ cells_of (r ∷ rs) = cells_by r.kind r.bytes (cells_of rs)
 abbrev pub names_of : List Root → List (List ℕ)
 names_of rs = drop 1 (cells_of rs)
 
--- no name stands twice
-abbrev pub Differ : List (List ℕ) → Type 0
-Differ [] = Unit {0}
-Differ (x ∷ xs) = (Contains xs x → ⊥) × Differ xs
+abbrev pub has : List ℕ → List (List ℕ) → Bool
+has x xs = list_any (bytes_eq x) xs
+
+-- each of these names differs from those before it
+abbrev pub differ : List (List ℕ) → List (List ℕ) → Bool
+differ before [] = true
+differ before (x ∷ xs) = if has x before then false else differ (before ++ x ∷ []) xs
 
 abbrev pub own_name : List ℕ
 own_name = codes "__name__"
@@ -78,8 +82,8 @@ pub record HasRoots (rs : List Root) : Type 0 where
   pub form : rs ≡ roots_of (texts_of rs) (names_of rs)
   pub few : length rs < 2 ^ 16
   pub short : All (λ t. length t ≤ 1048576) (texts_of rs)
-  pub differ : Differ (names_of rs)
-  pub main : Contains (names_of rs) own_name → last_or None (texts_of rs) ≡ Some main_name
+  pub apart : IsTrue (differ [] (names_of rs))
+  pub main : IsTrue (has own_name (names_of rs)) → last_or None (texts_of rs) ≡ Some main_name
 
 -- ---- what the codes say of one another
 
@@ -103,7 +107,7 @@ is_body cs f = get_or (bodies (all_instrs cs) 0 cs) f false
 
 -- a string that is a global name too
 abbrev pub HasCell : List (List ℕ) → Kind → List ℕ → Type 0
-HasCell names Str x = Contains names x
+HasCell names Str x = IsTrue (has x names)
 HasCell names _ x = Unit {0}
 
 abbrev pub HasCellAt : List (List ℕ) → Option Root → Type 0
