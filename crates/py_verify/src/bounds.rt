@@ -10,7 +10,7 @@ use std::marker::Model;
 pub const FIRST_TEXT: usize = 21;
 
 /// What the instructions of a code may name: its slots and keyword lists, the codes, and the roots by their kinds.
-#[derive(Clone, Copy, Drop)]
+#[derive(Drop)]
 pub struct Bounds<'a> {
     code: &'a Code,
     codes: &'a [Code],
@@ -61,7 +61,7 @@ impl<'a> Bounds<'a> {
     pub fn keys_at(&self, l: u32) -> &'a [u32]
         ensures { result.now ≡ get_or self.now.keys l [] }
     {
-        match self.code.keys.get(l as usize) {
+        match self.code.keys.as_slice().get(l as usize) {
             Some(keys) => keys.as_slice(),
             None => &[],
         }

@@ -1,6 +1,6 @@
 //! What an instruction takes from the stack and leaves there, and where it goes on.
 ghost use Rattle.std.specs.Prelude.{◌≡◌, ◌↔◌, ◌<◌, ◌≤◌, ◌^◌, IsTrue};
-ghost use Rattle.py_code.specs.Effects.{effect, pushed_there, target_of};
+ghost use Rattle.py_code.specs.Effects.{effect, jumps, plain, pushed_there, target_of};
 ghost use Rattle.py_verify.specs.Flows.{effect_of, flow_of, next_of};
 ghost use Rattle.py_verify.specs.Work.{Forward};
 
@@ -33,9 +33,9 @@ pub struct Effect {
     pub flow: Flow,
 }
 
-/// So many values are taken, and then so many pushed.
+/// So many values are taken, and then so many pushed; the next place follows.
 fn plain(pops: u64, pushes: u64) -> Effect
-    ensures { result ≡ record { pops = pops; pushes = pushes; flow = Rattle.py_verify.specs.declared.effect.Flow.TheVariants.On } }
+    ensures { effect_of result ≡ plain pops pushes }
 {
     Effect {
         pops,
@@ -44,8 +44,19 @@ fn plain(pops: u64, pushes: u64) -> Effect
     }
 }
 
+/// The same, where another place follows or may follow.
+fn leads(pops: u64, pushes: u64, flow: Flow) -> Effect
+    ensures { effect_of result ≡ jumps pops pushes (flow_of flow) }
+{
+    Effect {
+        pops,
+        pushes,
+        flow,
+    }
+}
+
 /// What an instruction does to the stack.
-pub fn effect(k: &Bounds<'_>, i: Instr) -> Effect
+pub fn effect_in(k: &Bounds<'_>, i: Instr) -> Effect
     ensures { effect_of result ≡ effect k.now i }
 {
     match i {
@@ -66,14 +77,63 @@ pub fn effect(k: &Bounds<'_>, i: Instr) -> Effect
         Instr::StoreItem => plain(3, 0),
         Instr::Slice => plain(3, 1),
         Instr::Rot3 => plain(3, 3),
-        Instr::BuildTuple(n) | Instr::BuildList(n) | Instr::MakeFunction(_, n) => {
-            plain(n as u64, 1)
-        }
+        Instr::BuildTuple(n) | Instr::BuildList(n) => plain(n as u64, 1),
+        Instr::MakeFunction(_, n) => plain(n as u64, 1),
         Instr::BuildDict(n) => plain(n as u64 + n as u64, 1),
         Instr::Unpack(n) => plain(1, n as u64),
         Instr::MakeRaised(n) => plain(1 + n as u64, 1),
         Instr::Call(n, l) => plain(1 + (n as u64 + k.keys_at(l).len() as u64), 1),
         Instr::CallMethod(n, l) => plain(2 + (n as u64 + k.keys_at(l).len() as u64), 1),
-        _ => led(i),
+        Instr::Jump(t) => leads(0, 0, Flow::Over(t)),
+        Instr::JumpFalse(t) => leads(1, 0, Flow::Fork(t, 0)),
+        Instr::KeepFalse(t) | Instr::KeepTrue(t) => leads(1, 0, Flow::Fork(t, 1)),
+        Instr::Next(t) => leads(1, 2, Flow::Fork(t, 0)),
+        Instr::Return | Instr::Raise => leads(1, 0, Flow::Ends),
+        Instr::Try(t) => leads(0, 0, Flow::Opens(t)),
+        Instr::PopTry => leads(0, 0, Flow::Closes),
+    }
+}
+
+impl Flow {
+    /// The place that it names.
+    pub fn target(self) -> Option<usize>
+        ensures { result ≡ target_of (flow_of self) }
+    {
+        match self {
+            Flow::Over(t) | Flow::Fork(t, _) | Flow::Opens(t) => Some(t as usize),
+            _ => None,
+        }
+    }
+
+    /// Whether the place that it names, if it names one, is none before that place.
+    pub fn is_forward(self, first: usize) -> bool
+        ensures { IsTrue result ↔ Forward first (flow_of self) }
+    {
+        match self.target() {
+            Some(t) => first <= t,
+            None => true,
+        }
+    }
+
+    /// The place of the next instruction, where it may follow.
+    pub fn next(self, place: usize) -> Option<usize>
+        requires { place < 2 ^ 63 }
+        ensures { result ≡ next_of (flow_of self) place }
+    {
+        match self {
+            Flow::Ends | Flow::Over(_) => None,
+            _ => Some(place + 1),
+        }
+    }
+
+    /// How many values are pushed at the place that it names.
+    pub fn pushed_there(self) -> u32
+        ensures { result ≡ pushed_there (flow_of self) }
+    {
+        match self {
+            Flow::Fork(_, n) => n,
+            Flow::Opens(_) => 1,
+            _ => 0,
+        }
     }
 }
