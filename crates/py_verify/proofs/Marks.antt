@@ -6,6 +6,7 @@ use Rattle.std.proofs.lemmas.Grind.{common_steps}
 use Rattle.std.proofs.lemmas.Bool.Decides.{nat_tests}
 use Rattle.std.proofs.lemmas.List.Folds.{list_any-append}
 use Rattle.py_code.specs.declared.instr.Instr.{Instr}
+use Rattle.py_code.specs.declared.instr.Instr.TheVariants.{Setup, Const, Pop, Dup, Rot2, Dup2, Rot3, LoadLocal, StoreLocal, DelLocal, LoadGlobal, StoreGlobal, DelGlobal, LoadName, StoreName, DelName, LoadAttr, StoreAttr, DelAttr, LoadMethod, LoadItem, StoreItem, DelItem, Slice, Unary, Not, Binary, InPlace, Compare, Jump, JumpFalse, KeepFalse, KeepTrue, BuildTuple, BuildList, BuildDict, Unpack, Iter, Next, Call, CallMethod, Return, MakeFunction, ClassBody, Try, PopTry, ExcMatch, MakeRaised, Raise, PrintItem, PrintNewline}
 use Rattle.py_code.specs.declared.program.Code.{Code}
 use Rattle.py_code.specs.Right.{bodies, opens_body}
 
@@ -63,3 +64,56 @@ mark_past i t marks e le all cs h =
 
 pub mark_none : (i : Instr) (marks : List Bool) → ((q : ℕ) → opens_body q i ≡ false) → (all : List Instr) (cs : List Code) → marks ≡ bodies all 0 cs → marks ≡ bodies (all ++ i ∷ []) 0 cs
 mark_none i marks other all cs h = h ∙ sym (bodies_kept all i 0 cs (λ q a b. other q))
+
+pub opens_other : (i : Instr) → ((f : ℕ) → i ≡ ClassBody f → ⊥) → (q : ℕ) → opens_body q i ≡ false
+opens_other Setup h q = refl
+opens_other (Const a) h q = refl
+opens_other Pop h q = refl
+opens_other Dup h q = refl
+opens_other Rot2 h q = refl
+opens_other Dup2 h q = refl
+opens_other Rot3 h q = refl
+opens_other (LoadLocal a) h q = refl
+opens_other (StoreLocal a) h q = refl
+opens_other (DelLocal a) h q = refl
+opens_other (LoadGlobal a) h q = refl
+opens_other (StoreGlobal a) h q = refl
+opens_other (DelGlobal a) h q = refl
+opens_other (LoadName a) h q = refl
+opens_other (StoreName a) h q = refl
+opens_other (DelName a) h q = refl
+opens_other (LoadAttr a) h q = refl
+opens_other (StoreAttr a) h q = refl
+opens_other (DelAttr a) h q = refl
+opens_other (LoadMethod a) h q = refl
+opens_other LoadItem h q = refl
+opens_other StoreItem h q = refl
+opens_other DelItem h q = refl
+opens_other Slice h q = refl
+opens_other (Unary a) h q = refl
+opens_other Not h q = refl
+opens_other (Binary a) h q = refl
+opens_other (InPlace a) h q = refl
+opens_other (Compare a) h q = refl
+opens_other (Jump a) h q = refl
+opens_other (JumpFalse a) h q = refl
+opens_other (KeepFalse a) h q = refl
+opens_other (KeepTrue a) h q = refl
+opens_other (BuildTuple a) h q = refl
+opens_other (BuildList a) h q = refl
+opens_other (BuildDict a) h q = refl
+opens_other (Unpack a) h q = refl
+opens_other Iter h q = refl
+opens_other (Next a) h q = refl
+opens_other (Call a b) h q = refl
+opens_other (CallMethod a b) h q = refl
+opens_other Return h q = refl
+opens_other (MakeFunction a b) h q = refl
+opens_other (ClassBody a) h q = absurd (h a refl)
+opens_other (Try a) h q = refl
+opens_other PopTry h q = refl
+opens_other ExcMatch h q = refl
+opens_other (MakeRaised a) h q = refl
+opens_other Raise h q = refl
+opens_other PrintItem h q = refl
+opens_other PrintNewline h q = refl

@@ -1,5 +1,5 @@
 -- A list of names, searched through what it was made from.
-use Rattle.std.proofs.Common.{length, sym, ◌≡◌, ℕ, Bool, true, false, cond, List, [], ◌∷◌, ◌++◌, map, refl, subst, ap, ◌∙◌, ◌||◌}
+use Rattle.std.proofs.Common.{sym, ◌≡◌, Bool, false, cond, List, [], ◌∷◌, ◌++◌, map, refl, subst, ap, ◌∙◌, ◌||◌}
 use Rattle.std.specs.List.{list_any}
 use Rattle.std.proofs.lemmas.List.{map-append}
 

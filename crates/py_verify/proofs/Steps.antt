@@ -1,12 +1,12 @@
 -- The verifier's steps.
 use Rattle.std.proofs.Common.{◌≡◌, ◌≢◌, ℕ, zero, suc, ◌+◌, ◌<◌, ◌≤◌, ◌⊎◌, ⊎_elim, inl, inr, List, [], ◌∷◌, ◌++◌, Option, Some, None, Bool, true, false, length, get_or, refl, sym, ap, ◌∙◌, subst, arith, length-append, length-set, ◌^◌}
-use Rattle.std.specs.Prelude.{slice_get, slice_set, All, Contains, if◌then◌else◌, sum_by, IsTrue, ◌↔◌}
+use Rattle.std.specs.Prelude.{slice_get, slice_set, All, Contains, if◌then◌else◌, IsTrue, ◌↔◌}
 use Rattle.std.proofs.lemmas.List.{get_or-set_same, get_or-set_other, get_or_past, get_or_append_left}
 use Rattle.std.proofs.lemmas.List.Sums.{sum_by-set}
-use Rattle.std.proofs.lemmas.List.Elements.{Contains-append_left, Contains-push, Contains-push_cases, All-append, All-contains}
+use Rattle.std.proofs.lemmas.List.Elements.{Contains-append_left, Contains-push, Contains-push_cases, All-append}
 use Rattle.std.proofs.lemmas.Bool.{cases_eq}
 use Rattle.py_code.specs.declared.instr.Instr.{Instr}
-use Rattle.py_code.specs.Effects.{Effect, Limits, Flow, effect, Sh, Fine, there, after, target_of, goes_on}
+use Rattle.py_code.specs.Effects.{Effect, Limits, effect, Sh, Fine, there, after, target_of, goes_on}
 use Rattle.py_code.specs.Typing.{shape_at, start, Leads, RightAt, IsTyping, IsRight}
 use Rattle.py_verify.specs.Flows.{next_of}
 use Rattle.py_verify.specs.Work.{Forward, Below, Has, spare, left, Grew, Flowed, Flows, Visited, Visits, Going}

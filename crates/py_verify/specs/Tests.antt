@@ -65,3 +65,7 @@ pub record IsFormed (rs : List Root) : Type 0 where
 abbrev pub is_setup : Instr → Bool
 is_setup Setup = true
 is_setup _ = false
+
+abbrev pub no_setup : List Instr → Bool
+no_setup [] = true
+no_setup (i ∷ is) = if is_setup i then false else no_setup is

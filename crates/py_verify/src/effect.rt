@@ -48,11 +48,7 @@ fn plain(pops: u64, pushes: u64) -> Effect
 fn leads(pops: u64, pushes: u64, flow: Flow) -> Effect
     ensures { effect_of result ≡ jumps pops pushes (flow_of flow) }
 {
-    Effect {
-        pops,
-        pushes,
-        flow,
-    }
+    Effect { pops, pushes, flow }
 }
 
 /// What an instruction does to the stack.

@@ -3,8 +3,13 @@
 
 mod bodies;
 mod bounds;
+mod context;
 mod effect;
 mod names;
 mod roots;
+mod setup;
 mod shape;
 mod typing;
+mod verified;
+
+pub use verified::{Verified, verify};

@@ -1,5 +1,5 @@
 //! The tests of a list of roots.
-ghost use Rattle.std.specs.Prelude.{◌≡◌, ◌+◌, ◌∷◌, [], false, true, IfOk, length, MatchOption, option_map, None, Some, IsTrue, ◌↔◌};
+ghost use Rattle.std.specs.Prelude.{◌≡◌, ◌+◌, ◌≤◌, ◌∷◌, [], false, true, IfOk, length, MatchOption, option_map, None, Some, IsTrue, ◌↔◌};
 ghost use Rattle.std.specs.List.{last_or};
 ghost use Rattle.py_code.specs.Right.{cells_of, differ, has, HasRoots, main_name, names_of, own_name, texts_of};
 ghost use Rattle.py_verify.specs.Tests.{any_long, are_cells, are_classes, are_roots, are_texts, is_cell_by, is_class_by, is_empty, is_long_by, is_text_by, IsFormed};
@@ -142,7 +142,8 @@ fn any_long(roots: &[Root]) -> bool
 /// How many strings there are.
 #[tactic(auto, unfolding(py_code::specs::Right::texts_of))]
 pub fn count_texts(roots: &[Root]) -> usize
-    ensures { result ≡ length (texts_of roots.now) }
+    ensures count { result ≡ length (texts_of roots.now) }
+    ensures within { result ≤ length roots.now }
 {
     let mut rest = roots;
     let mut n = 0;

@@ -1,4 +1,4 @@
-use Rattle.std.proofs.Common.{◌≡◌, ◌+◌, ◌-◌, ◌<◌, ◌∷◌, [], arith}
+use Rattle.std.proofs.Common.{arith}
 use Rattle.py_verify.proofs.Listed.{class_none, class_bad, class_more, class_end}
 use Rattle.py_verify.proofs.roots.are_classes.Goals as goal
 

@@ -1,4 +1,4 @@
-use Rattle.std.proofs.Common.{rules, ◌≡◌, arith}
+use Rattle.std.proofs.Common.{arith}
 use Rattle.py_verify.proofs.Listed.{all_formed, not_listed, too_many}
 use Rattle.py_verify.proofs.roots.is_formed.Goals as goal
 

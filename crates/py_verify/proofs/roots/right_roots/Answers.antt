@@ -1,5 +1,3 @@
-use Rattle.std.proofs.Common.{rules, ◌≡◌, arith}
-use Rattle.std.proofs.lemmas.Grind.{common_steps}
 use Rattle.py_code.specs.Right.{cells_of}
 use Rattle.py_verify.proofs.Listed.{names_none, names_some, roots_apart, roots_main, roots_right}
 use Rattle.py_verify.proofs.roots.right_roots.Goals as goal

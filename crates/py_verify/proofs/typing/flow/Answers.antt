@@ -1,6 +1,5 @@
-use Rattle.std.proofs.Common.{rules, ◌≡◌, None, Some, length, ◌≤◌, ◌<◌, arith, sym, ◌∙◌, refl}
+use Rattle.std.proofs.Common.{rules, arith, refl}
 use Rattle.std.proofs.lemmas.Grind.{common_steps}
-use Rattle.py_code.specs.Typing.{shape_at}
 use Rattle.py_verify.proofs.Steps.{flow_past, flow_known, flow_new}
 use Rattle.py_verify.proofs.typing.flow.Goals as goal
 

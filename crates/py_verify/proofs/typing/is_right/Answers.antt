@@ -1,6 +1,6 @@
 use Rattle.std.proofs.Common.{rules, refl, true, false, arith, Bool, ◌≡◌}
 use Rattle.std.proofs.lemmas.Grind.{common_steps}
-use Rattle.std.specs.Prelude.{IsTrue, List, ℕ, Option}
+use Rattle.std.specs.Prelude.{List, ℕ, Option}
 use Rattle.py_code.specs.Effects.{Limits, Sh}
 use Rattle.py_code.specs.declared.instr.Instr.{Instr}
 use Rattle.py_verify.specs.Work.{Visits, Visited}
