@@ -9,6 +9,8 @@ mod names;
 mod roots;
 mod setup;
 mod shape;
+#[cfg(test)]
+mod tests;
 mod typing;
 mod verified;
 
