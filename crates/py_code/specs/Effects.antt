@@ -1,22 +1,20 @@
 -- What each instruction asks of the stack, what it leaves there, and where it goes on. States `docs/LANGUAGE.md`,
 -- "Instructions".
-use Rattle.std.specs.Prelude.{◌≡◌, ℕ, ◌+◌, ◌-◌, ◌<◌, ◌≤◌, ◌^◌, List, [], ◌∷◌, Option, Some, None, Bool, true, false, IsTrue, get_or, length}
+use Rattle.std.specs.Prelude.{ℕ, ◌+◌, ◌-◌, ◌<◌, ◌≤◌, ◌^◌, List, [], ◌∷◌, Option, Some, None, Bool, true, false, All, get_or, length}
 use Rattle.py_code.specs.declared.builtin.TheConstants.{COUNT}
 use Rattle.py_code.specs.declared.instr.Constant.{Constant}
-use Rattle.py_code.specs.declared.instr.Constant.TheVariants.{None as NoValue, Truth, Int, Builtin, Root}
+use Rattle.py_code.specs.declared.instr.Constant.TheVariants.{Builtin, Root}
 use Rattle.py_code.specs.declared.instr.Instr.{Instr}
 use Rattle.py_code.specs.declared.instr.Instr.TheVariants.{Setup, Const, Pop, Dup, Rot2, Dup2, Rot3, LoadLocal, StoreLocal, DelLocal, LoadGlobal, StoreGlobal, DelGlobal, LoadName, StoreName, DelName, LoadAttr, StoreAttr, DelAttr, LoadMethod, LoadItem, StoreItem, DelItem, Slice, Unary, Not, Binary, InPlace, Compare, Jump, JumpFalse, KeepFalse, KeepTrue, BuildTuple, BuildList, BuildDict, Unpack, Iter, Next, Call, CallMethod, Return, MakeFunction, ClassBody, Try, PopTry, ExcMatch, MakeRaised, Raise, PrintItem, PrintNewline}
 
 -- what the instructions of a code may name
 pub record Limits : Type 0 where
   pub slots : ℕ  -- the slots of its frames
-  pub keys : List ℕ  -- how many names each of its keyword lists has
+  pub keys : List (List ℕ)  -- its keyword lists
   pub strings : ℕ  -- the number of the first root that is a string
   pub cells : ℕ  -- the number of the first root that is a global's cell
   pub roots : ℕ  -- how many roots there are
   pub params : List ℕ  -- how many parameters each code has
-  pub bodies : List Bool  -- which codes are those of class bodies
-  pub inside : Bool  -- whether this code is that of a class body
   pub first : ℕ  -- the first place that a jump may name: 1 in the module, else 0
 
 -- where an instruction goes on
@@ -83,8 +81,8 @@ effect k (BuildDict n) = plain (n + n) 1
 effect k (Unpack n) = plain 1 n
 effect k Iter = plain 1 1
 effect k (Next t) = jumps 1 2 (Fork t 0)
-effect k (Call n l) = plain (1 + (n + get_or k.keys l 0)) 1
-effect k (CallMethod n l) = plain (2 + (n + get_or k.keys l 0)) 1
+effect k (Call n l) = plain (1 + (n + length (get_or k.keys l []))) 1
+effect k (CallMethod n l) = plain (2 + (n + length (get_or k.keys l []))) 1
 effect k Return = jumps 1 0 Ends
 effect k (MakeFunction f n) = plain n 1
 effect k (ClassBody f) = plain 1 1
@@ -110,6 +108,10 @@ IsConstant k (Builtin b) = b < COUNT
 IsConstant k (Root r) = (0 < r) × (r < k.cells)
 IsConstant k _ = Unit {0}
 
+-- a keyword list of strings
+abbrev pub IsKeys : Limits → ℕ → Type 0
+IsKeys k l = (l < length k.keys) × All (IsText k) (get_or k.keys l [])
+
 -- what the operands name is there, and of the kind that the instruction needs
 abbrev pub IsKnown : Limits → Instr → Type 0
 IsKnown k (Const c) = IsConstant k c
@@ -119,9 +121,9 @@ IsKnown k (DelLocal s) = s < k.slots
 IsKnown k (LoadGlobal g) = IsCell k g
 IsKnown k (StoreGlobal g) = IsCell k g
 IsKnown k (DelGlobal g) = IsCell k g
-IsKnown k (LoadName n) = IsTrue k.inside × IsText k n
-IsKnown k (StoreName n) = IsTrue k.inside × IsText k n
-IsKnown k (DelName n) = IsTrue k.inside × IsText k n
+IsKnown k (LoadName n) = IsText k n
+IsKnown k (StoreName n) = IsText k n
+IsKnown k (DelName n) = IsText k n
 IsKnown k (LoadAttr n) = IsText k n
 IsKnown k (StoreAttr n) = IsText k n
 IsKnown k (DelAttr n) = IsText k n
@@ -130,10 +132,10 @@ IsKnown k (Unary o) = o < 3
 IsKnown k (Binary o) = o < 12
 IsKnown k (InPlace o) = o < 12
 IsKnown k (Compare o) = o < 10
-IsKnown k (Call n l) = l < length k.keys
-IsKnown k (CallMethod n l) = l < length k.keys
-IsKnown k (MakeFunction f n) = (f < length k.params) × (n ≤ get_or k.params f 0) × (get_or k.bodies f false ≡ false)
-IsKnown k (ClassBody f) = (f < length k.params) × IsTrue (get_or k.bodies f false)
+IsKnown k (Call n l) = IsKeys k l
+IsKnown k (CallMethod n l) = IsKeys k l
+IsKnown k (MakeFunction f n) = (f < length k.params) × (n ≤ get_or k.params f 0)
+IsKnown k (ClassBody f) = f < length k.params
 IsKnown k (MakeRaised n) = n ≤ 1
 IsKnown k _ = Unit {0}
 

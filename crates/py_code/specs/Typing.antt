@@ -25,7 +25,7 @@ pub record RightAt (k : Limits) (t : List (Option Sh)) (p : ℕ) (i : Instr) (s 
 
 -- a typing of a code
 pub record IsTyping (k : Limits) (code : List Instr) (t : List (Option Sh)) : Type 0 where
-  pub few : length code < 2 ^ 16
+  pub few : length code < 2 ^ 32
   pub long : length t ≡ length code
   pub starts : shape_at t 0 ≡ Some start
   pub each : (p : ℕ) (i : Instr) (s : Sh) → slice_get code p ≡ Some i → shape_at t p ≡ Some s → RightAt k t p i s

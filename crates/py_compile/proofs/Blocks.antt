@@ -1,6 +1,6 @@
 -- Statements lead from a shape to itself, whatever surrounds them.
-use Rattle.std.proofs.Common.{◌≡◌, ℕ, ◌+◌, ◌<◌, ◌≤◌, ◌^◌, List, [], ◌∷◌, Some, None, Bool, true, false, refl, sym, subst, arith, length, map, get_or, drop}
-use Rattle.std.specs.Prelude.{IsTrue}
+use Rattle.std.proofs.Common.{◌≡◌, ℕ, ◌+◌, ◌<◌, ◌≤◌, ◌^◌, List, [], ◌∷◌, Some, None, Bool, true, false, refl, ap, sym, subst, arith, length, map, get_or, drop}
+use Rattle.std.specs.Prelude.{All, IsTrue}
 use Rattle.py_code.specs.declared.instr.Constant.{Constant}
 use Rattle.py_code.specs.declared.instr.Constant.TheVariants.{Root}
 use Rattle.py_code.specs.declared.instr.Instr.{Instr}
@@ -12,6 +12,9 @@ use Rattle.py_compile.specs.Table.{E, A, H, M, B, load, store, nothing, one, ass
 use Rattle.py_compile.proofs.Typed.{Ring, ring_at, Typed, Goes, template_typed}
 use Rattle.py_compile.proofs.Ops.{sh, op, load_op, store_op, pop_op, pop_try_op, raise_op, return_op, jump_op, jump_false, next_op, try_op}
 use Rattle.py_compile.proofs.Values.{Each, Room, own_ring, Value, Store, Change, changes, same, values, many_values}
+
+no_keys : (k : Limits) → All (IsText k) []
+no_keys k n d lt = absurd (omega (arith, lt))
 
 module _ (k : Limits) where
   -- what surrounds a statement fits the shape at which it stands: one ring for each construct
@@ -433,7 +436,7 @@ module _ (k : Limits) where
     not_op : (h : ℕ) (bs : List ℕ) → floor_of bs ≤ h → h + 4 < 2 ^ 32 → Goes k Not (sh (h + 1) bs) (sh (h + 1) bs)
     not_op h bs le room = op k Not (h + 1) (h + 1) bs refl tt (omega (arith, le)) (omega (arith, room)) (omega arith)
 
-    pub assert_with_does : (c : List Around) (t m : Piece) → 13 < k.cells → 0 < length k.keys → get_or k.keys 0 0 ≡ 0 → Value k t → Value k m → Does c (assert_with ln t m)
+    pub assert_with_does : (c : List Around) (t m : Piece) → 13 < k.cells → 0 < length k.keys → get_or k.keys 0 [] ≡ [] → Value k t → Value k m → Does c (assert_with ln t m)
     assert_with_does c t m root some none vt vm = record {
       typed = λ gs h bs f room. let le = low c gs h bs f in
           template_typed k ln 0 1 (Alone t ∷ Op Not ∷ To 0 JumpFalse E ∷ Op (Const (Root 13)) ∷ Alone m ∷ Op (Call 1 0) ∷ Op Raise ∷ Here E ∷ []) (Some (sh h bs) ∷ []) gs _ _ refl refl (
@@ -453,7 +456,7 @@ module _ (k : Limits) where
                     vm.typed (h + 1) bs (omega (arith, le)) (omega (arith, room)),
                     (
                       sh (h + 1) bs,
-                      op k (Call 1 0) (h + 1 + 1) (h + 1) bs refl some (omega (arith, le, none)) (omega (arith, room)) (omega (arith, none)),
+                      op k (Call 1 0) (h + 1 + 1) (h + 1) bs refl (some, rw none (no_keys k)) (omega (arith, le, ap length none)) (omega (arith, room)) (omega (arith, ap length none)),
                       (
                         sh h bs,
                         raise_op k h bs (sh h bs) le (omega (arith, room)),

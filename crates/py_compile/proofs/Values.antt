@@ -2,7 +2,7 @@
 use Rattle.std.proofs.Common.{◌≡◌, ℕ, suc, ◌+◌, ◌<◌, ◌≤◌, ◌^◌, List, [], ◌∷◌, Option, Some, None, refl, ap, subst, arith, length, map, get_or}
 use Rattle.py_code.specs.declared.instr.Instr.{Instr}
 use Rattle.py_code.specs.declared.instr.Instr.TheVariants.{Pop, Dup, Rot2, Rot3, LoadAttr, StoreAttr, LoadMethod, LoadItem, StoreItem, Slice, Compare, Jump, JumpFalse, KeepFalse, BuildDict, Unpack, Call, CallMethod}
-use Rattle.py_code.specs.Effects.{Limits, effect, On, Sh, floor_of, IsKnown, IsText}
+use Rattle.py_code.specs.Effects.{Limits, effect, On, Sh, floor_of, IsKeys, IsKnown, IsText}
 use Rattle.py_compile.specs.Template.{Piece, Op, To, Here, Alone, Sub, size_of, row}
 use Rattle.py_compile.specs.Table.{E, F, N, one_value, two_values, link, operators, kept, all_kept, between, chained, conditional, attribute, index, slice, call, method_call, trail, built, pair, one, to_attr, to_item, to_all, also}
 use Rattle.py_compile.proofs.Typed.{Ring, ring_at, Typed, Goes, Jumps, PartsOk, template_typed}
@@ -286,7 +286,7 @@ module _ (k : Limits) where
           );
     }
 
-    pub call_is : (args : List Piece) (l : ℕ) (vs : List Piece) → Each Value args → Each Value vs → l < length k.keys → length vs ≡ get_or k.keys l 0 → Change (call ln args l vs)
+    pub call_is : (args : List Piece) (l : ℕ) (vs : List Piece) → Each Value args → Each Value vs → IsKeys k l → length vs ≡ length (get_or k.keys l []) → Change (call ln args l vs)
     call_is args l vs va vv lt count = record {
       typed = λ h bs le room.
           template_typed k ln 0 0 (Alone (row args) ∷ Alone (row vs) ∷ Op (Call (length args) l) ∷ []) [] [] _ _ refl refl (
@@ -300,7 +300,7 @@ module _ (k : Limits) where
           );
     }
 
-    pub method_call_is : (m : ℕ) (args : List Piece) (l : ℕ) (vs : List Piece) → IsText k m → Each Value args → Each Value vs → l < length k.keys → length vs ≡ get_or k.keys l 0 → Change (method_call ln m args l vs)
+    pub method_call_is : (m : ℕ) (args : List Piece) (l : ℕ) (vs : List Piece) → IsText k m → Each Value args → Each Value vs → IsKeys k l → length vs ≡ length (get_or k.keys l []) → Change (method_call ln m args l vs)
     method_call_is m args l vs im va vv lt count = record {
       typed = λ h bs le room.
           template_typed k ln 0 0 (Op (LoadMethod m) ∷ Alone (row args) ∷ Alone (row vs) ∷ Op (CallMethod (length args) l) ∷ []) [] [] _ _ refl refl (

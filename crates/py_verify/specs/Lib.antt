@@ -1,0 +1,4 @@
+pub mod Flows
+pub mod Tests
+pub mod Whole
+pub mod Work

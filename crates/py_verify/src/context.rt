@@ -1,0 +1,156 @@
+//! A program as the test of one of its codes sees it.
+ghost use Rattle.std.specs.Prelude.{◌≡◌, ◌↔◌, ◌<◌, All, IfOk, IsTrue, length, slice_get};
+ghost use Rattle.py_code.specs.Right.{all_instrs, AreRight, Belongs, bodies, first_place, HasCellAt, is_body, IsRightCode, limits_of, names_of};
+
+use crate::bounds::{Bounds, FIRST_TEXT};
+use crate::names::NameSet;
+use crate::roots::{count_texts, split};
+use crate::setup::{first_place, sets_up};
+use crate::typing::is_right;
+use py_code::{Code, Instr, Root};
+use py_data::{Items, Kind, NoMemory};
+use std::alloc::Global;
+use std::marker::Model;
+
+/// The codes and the roots of a program, with the global names, which codes are those of class bodies, and the first root that
+/// is a global's cell.
+#[derive(Drop)]
+pub struct Context<'s, 'a> {
+    codes: &'s [Code],
+    roots: &'a [Root],
+    names: &'s NameSet<'a>,
+    marks: &'s Items<bool>,
+    first_cell: usize,
+}
+
+impl<'s, 'a> Model for Context<'s, 'a> {
+    ghost use Rattle.std.specs.Prelude.{◌≡◌, ◌+◌, length};
+    ghost use Rattle.py_code.specs.Right.{all_instrs, bodies, first_text, names_of, texts_of};
+    ghost use Rattle.py_verify.specs.Whole.{Around};
+
+    ghost Value = { Around };
+
+    ghost view = { λ w. record { codes = w.codes.now; roots = w.roots.now } };
+
+    ghost invariant = { λ w. (w.names.now ≡ names_of w.roots.now) × (w.marks.now ≡ bodies (all_instrs w.codes.now) 0 w.codes.now) × (w.first_cell ≡ first_text + length (texts_of w.roots.now)) };
+}
+
+impl<'s, 'a> Context<'s, 'a> {
+    /// A program by its parts.
+    pub fn new(
+        codes: &'s [Code],
+        roots: &'a [Root],
+        names: &'s NameSet<'a>,
+        marks: &'s Items<bool>,
+    ) -> Context<'s, 'a>
+        requires names { names.now ≡ names_of roots.now }
+        requires marks { marks.now ≡ bodies (all_instrs codes.now) 0 codes.now }
+        ensures { result ≡ record { codes = codes.now; roots = roots.now } }
+    {
+        Context {
+            codes,
+            roots,
+            names,
+            marks,
+            first_cell: FIRST_TEXT + count_texts(roots),
+        }
+    }
+
+    /// Whether a code is that of a class body.
+    fn is_body(&self, f: usize) -> bool
+        ensures { result ≡ is_body self.now.codes f }
+    {
+        match self.marks.as_slice().get(f) {
+            Some(marked) => *marked,
+            None => false,
+        }
+    }
+
+    /// Whether the string that is that root, if it is one, is a global name too.
+    fn has_cell(&self, r: u32) -> bool
+        ensures { IsTrue result ↔ HasCellAt (names_of self.now.roots) (slice_get self.now.roots r) }
+    {
+        match self.roots.get(r as usize) {
+            Some(root) => match root.kind {
+                Kind::Str => self.names.has(root.bytes.as_slice()),
+                _ => true,
+            },
+            None => true,
+        }
+    }
+
+    /// Whether an instruction may stand in that code, reached or not.
+    fn belongs(&self, n: usize, i: &Instr) -> bool
+        ensures { IsTrue result ↔ Belongs self.now.codes self.now.roots n i.now }
+    {
+        match *i {
+            Instr::LoadName(r) => self.is_body(n) && self.has_cell(r),
+            Instr::StoreName(_) | Instr::DelName(_) => self.is_body(n),
+            Instr::MakeFunction(f, _) => 0 < f && !self.is_body(f as usize),
+            Instr::ClassBody(f) => 0 < f,
+            _ => true,
+        }
+    }
+
+    /// Whether each of these instructions may stand in that code.
+    fn all_belong(&self, n: usize, instrs: &[Instr]) -> bool
+        ensures { IsTrue result ↔ All (Belongs self.now.codes self.now.roots n) instrs.now }
+    {
+        for i in instrs {
+            if !self.belongs(n, i) {
+                return false;
+            }
+        }
+        true
+    }
+
+    /// What the instructions of a code may name.
+    fn bounds(&self, n: usize, code: &'s Code) -> Bounds<'s>
+        ensures { result ≡ limits_of self.now.codes self.now.roots n code.now }
+    {
+        Bounds::new(
+            code,
+            self.codes,
+            self.first_cell,
+            self.roots.len(),
+            first_place(n),
+        )
+    }
+
+    /// Whether a code is right.
+    fn is_right_code(&self, alloc: Global, n: usize, code: &'s Code) -> Result<bool, NoMemory>
+        ensures { IfOk result (λ yes. IsTrue yes ↔ IsRightCode self.now.codes self.now.roots n code.now) }
+    {
+        let instrs = code.instrs.as_slice();
+        if code.lines.len() != instrs.len() {
+            return Ok(false);
+        }
+        if code.params as usize > code.slots.len() {
+            return Ok(false);
+        }
+        if !sets_up(n, instrs) {
+            return Ok(false);
+        }
+        if !self.all_belong(n, instrs) {
+            return Ok(false);
+        }
+        let typed = is_right(alloc, &self.bounds(n, code), instrs)?;
+        Ok(typed)
+    }
+
+    /// Whether each code is right.
+    pub fn are_right(&self, alloc: Global) -> Result<bool, NoMemory>
+        ensures { IfOk result (λ yes. IsTrue yes ↔ AreRight self.now.codes self.now.roots 0 self.now.codes) }
+    {
+        let mut rest = self.codes;
+        let mut n = 0;
+        'codes: while let Some((code, more)) = split(rest) {
+            if !self.is_right_code(alloc, n, code)? {
+                return Ok(false);
+            }
+            rest = more;
+            n += 1;
+        }
+        Ok(true)
+    }
+}

@@ -1,0 +1,17 @@
+//! The test that a program is right, before a machine runs it.
+#![tactic(auto)]
+
+mod bodies;
+mod bounds;
+mod context;
+mod effect;
+mod names;
+mod roots;
+mod setup;
+mod shape;
+#[cfg(test)]
+mod tests;
+mod typing;
+mod verified;
+
+pub use verified::{Verified, verify};
