@@ -11,3 +11,5 @@ pub mod Coded
 pub mod Rests
 pub mod WorkedRows
 pub mod Arms
+pub mod Steps
+pub mod TaskWeights

@@ -6,3 +6,5 @@ pub mod Expressions
 pub mod Statements
 pub mod Uses
 pub mod Whole
+pub mod Tasks
+pub mod TaskWeights

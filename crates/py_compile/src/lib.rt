@@ -4,9 +4,12 @@
 mod draft;
 mod emitter;
 mod error;
+mod expression;
 mod home;
 #[cfg(test)]
 mod name_tests;
 mod names;
+mod target;
+mod task;
 
 pub use error::CompileError;
