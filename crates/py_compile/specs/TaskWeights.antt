@@ -1,5 +1,5 @@
 -- How much is left to be done: what a step puts in the place of a task weighs less than it.
-use Rattle.std.specs.Prelude.{ℕ, ◌+◌, List, [], ◌∷◌, Option, Some, None}
+use Rattle.std.specs.Prelude.{ℕ, ◌+◌, ◌<◌, List, [], ◌∷◌, Option, Some, None}
 use Rattle.py_tree.specs.declared.expr.Expr.{Expr}
 use Rattle.py_tree.specs.declared.expr.Link.{Link}
 use Rattle.py_tree.specs.declared.expr.Named.{Named}
@@ -7,7 +7,9 @@ use Rattle.py_tree.specs.declared.expr.Pair.{Pair}
 use Rattle.py_tree.specs.declared.expr.Trailer.{Trailer}
 use Rattle.py_tree.specs.declared.expr.Expr.TheOpen as open'
 use Rattle.py_tree.specs.declared.expr.Expr.TheFolds.{fold-Expr, fold-Link, fold-Pair, fold-Trailer, fold-Named}
-use Rattle.py_compile.specs.Tasks.{Todo, Value, Values, Behind, Pairs, Keys, Links, Kept, Between, Store, Stores, Delete, Deletes, Augment, Op, To, Mark}
+use Rattle.py_compile.specs.Tasks.{Todo, Value, Values, Behind, Pairs, Keys, Links, Kept, Between, Store, Stores, Delete, Deletes, Augment, Op, To, Mark, Leads}
+use Rattle.py_compile.specs.Names.{Known}
+use Rattle.py_compile.specs.State.{St}
 
 abbrev pub row_weight : List ℕ → ℕ
 row_weight [] = 1
@@ -108,3 +110,12 @@ task_weight (Mark l) = 1
 abbrev pub all_weights : List Todo → ℕ
 all_weights [] = 0
 all_weights (t ∷ ts) = task_weight t + all_weights ts
+
+-- A step: what is left leads to what was to be done, and weighs less.
+pub record Advances (n : Known) (ln : ℕ) (before : List Todo) (e0 : St) (after : List Todo) (e1 : St) : Type 0 where
+  pub leads : Leads n ln before e0 after e1
+  pub fewer : all_weights after < all_weights before
+
+-- A step that emits nothing, in each state.
+pub record Splits (n : Known) (before after : List Todo) : Type 0 where
+  pub advances : (ln : ℕ) (e : St) → Advances n ln before e after e

@@ -122,10 +122,6 @@ pub record Leads (n : Known) (ln : ℕ) (before : List Todo) (e0 : St) (after : 
   pub whole : (e' : St) → RunsAll n ln after e1 e' → RunsAll n ln before e0 e'
   pub size : length e0.code + sizes n ln before ≡ length e1.code + sizes n ln after
 
--- The same, where no label is named: from each state on.
-pub record Splits (n : Known) (before after : List Todo) : Type 0 where
-  pub leads : (ln : ℕ) (e : St) → Leads n ln before e after e
-
 -- a bound of a slice, or None
 abbrev pub bound_task : Option Expr → Todo
 bound_task None = Op (Const NoValue)

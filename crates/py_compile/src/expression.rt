@@ -10,7 +10,8 @@ ghost use Rattle.py_compile.specs.Expressions.{name_value, operator, sign_number
 ghost use Rattle.py_compile.specs.Names.{Known, is_none};
 ghost use Rattle.py_compile.specs.State.{Emitted, no_frames, opened};
 ghost use Rattle.py_compile.specs.Table.{one};
-ghost use Rattle.py_compile.specs.Tasks.{Behind, Between, Keys, Kept, Leads, Links, Mark, Op, Pairs, Runs, Splits, To, Value, Values, bound_task, plain, size, sizes};
+ghost use Rattle.py_compile.specs.Tasks.{Behind, Between, Keys, Kept, Links, Mark, Op, Pairs, Runs, To, Value, Values, bound_task, plain, size, sizes};
+ghost use Rattle.py_compile.specs.TaskWeights.{Advances, Splits};
 ghost use Rattle.py_compile.specs.Template.{row};
 ghost use Rattle.py_tree.specs.declared.expr.Expr.TheVariants.{Chain, Choice};
 ghost use Rattle.py_tree.specs.declared.expr.Level.TheVariants.{Compare as CompareLevel};
@@ -114,13 +115,10 @@ pub fn run<'a>(
 {
     let mut tasks = Tasks::new(e.alloc());
     tasks.push(first)?;
-    for _ in 0..u64::MAX {
-        match tasks.pop() {
-            None => return Ok(()),
-            Some(task) => step(e, names, line, &mut tasks, task)?,
-        }
+    'tasks: while let Some(task) = tasks.pop() {
+        step(e, names, line, &mut tasks, task)?;
     }
-    Err(Fault::OutOfMemory)
+    Ok(())
 }
 
 /// Does the first part of a task, and leaves the others to be done.
@@ -131,7 +129,7 @@ fn step<'a>(
     tasks: &mut Tasks<'a>,
     task: Task<'a>,
 ) -> Result<(), Fault>
-    ensures done { IfOk result (λ _. Leads names.now line (plain task.entry ∷ tasks.old) e.old tasks.new e.new) }
+    ensures done { IfOk result (λ _. Advances names.now line (plain task.entry ∷ tasks.old) e.old tasks.new e.new) }
     ensures large { result ≡ Err Fault.TooLarge → 65535 < length e.old.code + sizes names.now line (plain task.entry ∷ tasks.old) }
 {
     match task {
@@ -175,7 +173,7 @@ fn value<'a>(
     tasks: &mut Tasks<'a>,
     x: &'a Expr,
 ) -> Result<(), Fault>
-    ensures done { IfOk result (λ _. (ln : ℕ) → Leads names.now ln (Value x.now ∷ tasks.old) e.old tasks.new e.new) }
+    ensures done { IfOk result (λ _. (ln : ℕ) → Advances names.now ln (Value x.now ∷ tasks.old) e.old tasks.new e.new) }
     ensures small { result ≡ Err Fault.TooLarge → ⊥ }
 {
     match x {
@@ -241,7 +239,7 @@ fn choice<'a>(
     c: &'a Expr,
     b: &'a Expr,
 ) -> Result<(), Fault>
-    ensures done { IfOk result (λ _. (n : Known) (ln : ℕ) → Leads n ln (Value (Choice a.now c.now b.now) ∷ tasks.old) e.old tasks.new e.new) }
+    ensures done { IfOk result (λ _. (n : Known) (ln : ℕ) → Advances n ln (Value (Choice a.now c.now b.now) ∷ tasks.old) e.old tasks.new e.new) }
     ensures small { result ≡ Err Fault.TooLarge → ⊥ }
 {
     let (base, _) = e.begin(2, 0)?;
@@ -262,7 +260,7 @@ fn chain<'a>(
     a: &'a Expr,
     more: &'a [Link],
 ) -> Result<(), Fault>
-    ensures done { IfOk result (λ _. (n : Known) (ln : ℕ) → Leads n ln (Value (Chain level a.now more.now) ∷ tasks.old) e.old tasks.new e.new) }
+    ensures done { IfOk result (λ _. (n : Known) (ln : ℕ) → Advances n ln (Value (Chain level a.now more.now) ∷ tasks.old) e.old tasks.new e.new) }
     ensures small { result ≡ Err Fault.TooLarge → ⊥ }
 {
     match level {
@@ -300,7 +298,7 @@ fn comparison<'a>(
     a: &'a Expr,
     more: &'a [Link],
 ) -> Result<(), Fault>
-    ensures done { IfOk result (λ _. (n : Known) (ln : ℕ) → Leads n ln (Value (Chain CompareLevel a.now more.now) ∷ tasks.old) e.old tasks.new e.new) }
+    ensures done { IfOk result (λ _. (n : Known) (ln : ℕ) → Advances n ln (Value (Chain CompareLevel a.now more.now) ∷ tasks.old) e.old tasks.new e.new) }
     ensures small { result ≡ Err Fault.TooLarge → ⊥ }
 {
     match split(more) {

@@ -5,7 +5,8 @@ ghost use Rattle.py_code.specs.declared.instr.Instr.TheVariants.{Dup, Dup2, InPl
 ghost use Rattle.py_compile.specs.Expressions.{add_at, all_deleted, coded, operator, stored, value};
 ghost use Rattle.py_compile.specs.Names.{Known};
 ghost use Rattle.py_compile.specs.State.{Emitted, no_frames};
-ghost use Rattle.py_compile.specs.Tasks.{Augment, Behind, Delete, Deletes, Op, Splits, Store, Stores, Value};
+ghost use Rattle.py_compile.specs.Tasks.{Augment, Behind, Delete, Deletes, Op, Store, Stores, Value};
+ghost use Rattle.py_compile.specs.TaskWeights.{Splits};
 ghost use Rattle.py_compile.specs.Template.{row};
 ghost use Rattle.py_tree.specs.declared.expr.Expr.TheVariants.{Trail};
 
