@@ -38,11 +38,16 @@ pub then_ok : {T : Type 0} {E : Type 0} (r : Result T E) (P Q : Type 0) → IfOk
 then_ok (Ok x) P Q h f = f h
 then_ok (Err x) P Q h f = tt
 
-pub split_as : (n : Known) (t t' : Todo) (ts new after : List Todo) → t ≡ t' → new ≡ after → ((ln : ℕ) (e : St) → Advances n ln (t' ∷ ts) e after e) → Splits n (t ∷ ts) new
-split_as n t t' ts new after q r l = record { advances = λ ln e. subst (λ z. Advances n ln (z ∷ ts) e new e) (sym q) (subst (λ z. Advances n ln (t' ∷ ts) e z e) (sym r) (l ln e)) }
+-- a step, where what was to be done and what is left are known by equations
+pub advances_as : (n : Known) (t t' : Todo) (ts new after : List Todo) (e e1 : St) → ((ln : ℕ) → Advances n ln (t' ∷ ts) e after e1) → t ≡ t' → new ≡ after → (ln : ℕ) → Advances n ln (t ∷ ts) e new e1
+advances_as n t t' ts new after e e1 l q r ln = subst (λ z. Advances n ln (z ∷ ts) e new e1) (sym q) (subst (λ z. Advances n ln (t' ∷ ts) e z e1) (sym r) (l ln))
 
-pub advances_as : (n : Known) (ln : ℕ) (t t' : Todo) (ts new after : List Todo) (e e1 : St) → t ≡ t' → new ≡ after → Advances n ln (t' ∷ ts) e after e1 → Advances n ln (t ∷ ts) e new e1
-advances_as n ln t t' ts new after e e1 q r l = subst (λ z. Advances n ln (z ∷ ts) e new e1) (sym q) (subst (λ z. Advances n ln (t' ∷ ts) e z e1) (sym r) l)
+pub split_as : (n : Known) (t t' : Todo) (ts new after : List Todo) → ((ln : ℕ) (e : St) → Advances n ln (t' ∷ ts) e after e) → t ≡ t' → new ≡ after → Splits n (t ∷ ts) new
+split_as n t t' ts new after l q r = record { advances = λ ln e. advances_as n t t' ts new after e e (λ k. l k e) q r ln }
+
+-- a step in this state
+pub split_at : (n : Known) (ln : ℕ) (t t' : Todo) (ts new : List Todo) (e : St) → Splits n (t' ∷ ts) new → t ≡ t' → Advances n ln (t ∷ ts) e new e
+split_at n ln t t' ts new e s q = subst (λ z. Advances n ln (z ∷ ts) e new e) (sym q) (s.advances ln e)
 
 module _ (n : Known) (ln : ℕ) where
   -- Runs of tasks.
@@ -175,14 +180,14 @@ module _ (n : Known) (ln : ℕ) where
       go : (e' : St) → RunsAll n ln (Value a ∷ Value x.operand ∷ Op (Compare (operator x.operator)) ∷ ts) e e' → (m : St) × Emitted e m (two_values ln (Compare (operator x.operator)) (value n ln a) (value n ln x.operand)) no_frames × RunsAll n ln ts m e'
       go e' (m1, h1, (m2, h2, (m3, h3, r))) = (m3, two_values_arm ln no_frames (Compare (operator x.operator)) (value n ln a) (value n ln x.operand) e m1 m2 m3 h1 h2 h3, r)
 
-  pub value_chained : (a : Expr) (x y : Link) (ys : List Link) (base : ℕ) (ts : List Todo) (e e1 : St) → base ≡ length e.labels → e1 ≡ opened e 2 0 → Advances n ln (Value (tree.Chain level.Compare a (x ∷ y ∷ ys)) ∷ ts) e (Value a ∷ Between base x (y ∷ ys) ∷ To Always base ∷ Mark (base + 1) ∷ Op Rot2 ∷ Op Pop ∷ Mark base ∷ ts) e1
-  value_chained a x y ys base ts e e1 eb eo = from_opened (tree.Chain level.Compare a (x ∷ y ∷ ys)) _ 2 (Value a ∷ Between base x (y ∷ ys) ∷ To Always base ∷ Mark (base + 1) ∷ Op Rot2 ∷ Op Pop ∷ Mark base ∷ ts) ts e e1 (coded_chain n ln level.Compare a (x ∷ y ∷ ys)) eo go (omega arith) (omega (arith, weight_chain level.Compare a (x ∷ y ∷ ys)))
+  pub value_chained : (a : Expr) (x y : Link) (ys : List Link) (base : ℕ) (ts : List Todo) (e e1 : St) → base ≡ length e.labels → e1 ≡ opened e 2 0 → Advances n ln (Value (tree.Chain level.Compare a (x ∷ y ∷ ys)) ∷ ts) e (Value a ∷ Between (base + 1) x (y ∷ ys) ∷ To Always base ∷ Mark (base + 1) ∷ Op Rot2 ∷ Op Pop ∷ Mark base ∷ ts) e1
+  value_chained a x y ys base ts e e1 eb eo = from_opened (tree.Chain level.Compare a (x ∷ y ∷ ys)) _ 2 (Value a ∷ Between (base + 1) x (y ∷ ys) ∷ To Always base ∷ Mark (base + 1) ∷ Op Rot2 ∷ Op Pop ∷ Mark base ∷ ts) ts e e1 (coded_chain n ln level.Compare a (x ∷ y ∷ ys)) eo go (omega arith) (omega (arith, weight_chain level.Compare a (x ∷ y ∷ ys)))
     where
       links2 : List (ℕ × Piece)
       links2 = linked n ln (y ∷ ys)
 
-      go : (e' : St) → RunsAll n ln (Value a ∷ Between base x (y ∷ ys) ∷ To Always base ∷ Mark (base + 1) ∷ Op Rot2 ∷ Op Pop ∷ Mark base ∷ ts) e1 e' → (m : St) × Emitted e m (chained ln (value n ln a) (betweens ln (linked_one n ln x) links2) (last_link (linked_one n ln x) links2).1 (last_link (linked_one n ln x) links2).0) no_frames × RunsAll n ln ts m e'
-      go e' (m1, h1, (m4, (m2, m3, h2, h3, h4), (m5, h5, (m6, h6, (m7, h7, (m8, h8, (m9, h9, r))))))) = (m9, chained_arm ln no_frames (value n ln a) (betweens ln (linked_one n ln x) links2) (last_link (linked_one n ln x) links2).1 (last_link (linked_one n ln x) links2).0 base e.slots e e1 m1 m2 m3 m4 m5 m6 m7 m8 m9 eb refl eo h1 h2 h3 h4 h5 h6 h7 h8 h9, r)
+      go : (e' : St) → RunsAll n ln (Value a ∷ Between (base + 1) x (y ∷ ys) ∷ To Always base ∷ Mark (base + 1) ∷ Op Rot2 ∷ Op Pop ∷ Mark base ∷ ts) e1 e' → (m : St) × Emitted e m (chained ln (value n ln a) (betweens ln (linked_one n ln x) links2) (last_link (linked_one n ln x) links2).1 (last_link (linked_one n ln x) links2).0) no_frames × RunsAll n ln ts m e'
+      go e' (m1, h1, (m4, h, (m5, h5, (m6, h6, (m7, h7, (m8, h8, (m9, h9, r))))))) = let w = h base refl in (m9, chained_arm ln no_frames (value n ln a) (betweens ln (linked_one n ln x) links2) (last_link (linked_one n ln x) links2).1 (last_link (linked_one n ln x) links2).0 base e.slots e e1 m1 w.0 w.1.0 m4 m5 m6 m7 m8 m9 eb refl eo h1 w.1.1.0 w.1.1.1.0 w.1.1.1.1 h5 h6 h7 h8 h9, r)
 
   -- the other levels
 
@@ -242,18 +247,20 @@ module _ (n : Known) (ln : ℕ) where
       go : (e' : St) → RunsAll n ln (Value a ∷ To f l ∷ Kept f l x.operand xs ∷ ts) e e' → RunsAll n ln (Kept f l a (x ∷ xs) ∷ ts) e e'
       go e' (m1, h1, (m2, h2, (m3, (k, hk, hl), r))) = (m3, (k, row_cons (λ places. frame_there l 1 0 places ∷ []) (kept ln (jump_of f) (value n ln a)) (deciding n ln f x.operand xs) e m2 k (kept_arm ln l f (value n ln a) e m1 m2 h1 h2) hk, hl), r)
 
-  pub between_none : (l : ℕ) (x : Link) (ts : List Todo) (e : St) → Advances n ln (Between l x [] ∷ ts) e (Value x.operand ∷ Op (Compare (operator x.operator)) ∷ ts) e
-  between_none l x ts e = record { leads = record { whole = go; size = omega arith }; fewer = omega arith }
+  pub between_none : (f : ℕ) (x : Link) (ts : List Todo) (e : St) → Advances n ln (Between f x [] ∷ ts) e (Value x.operand ∷ Op (Compare (operator x.operator)) ∷ ts) e
+  between_none f x ts e = record { leads = record { whole = go; size = omega arith }; fewer = omega arith }
     where
-      go : (e' : St) → RunsAll n ln (Value x.operand ∷ Op (Compare (operator x.operator)) ∷ ts) e e' → RunsAll n ln (Between l x [] ∷ ts) e e'
-      go e' (m1, h1, (m2, h2, r)) = (m2, (e, m1, row_none (λ places. frame_there l 2 0 places ∷ []) e, h1, h2), r)
+      go : (e' : St) → RunsAll n ln (Value x.operand ∷ Op (Compare (operator x.operator)) ∷ ts) e e' → RunsAll n ln (Between f x [] ∷ ts) e e'
+      go e' (m1, h1, (m2, h2, r)) = (m2, λ l eq. (e, m1, row_none (λ places. frame_there l 2 0 places ∷ []) e, h1, h2), r)
 
-  pub between_more : (l : ℕ) (x y : Link) (ys : List Link) (ts : List Todo) (e : St) → Advances n ln (Between l x (y ∷ ys) ∷ ts) e (Value x.operand ∷ Op Dup ∷ Op Rot3 ∷ Op (Compare (operator x.operator)) ∷ To KeepingFalse (l + 1) ∷ Between l y ys ∷ ts) e
-  between_more l x y ys ts e = record { leads = record { whole = go; size = omega arith }; fewer = omega arith }
+  pub between_more : (f : ℕ) (x y : Link) (ys : List Link) (ts : List Todo) (e : St) → Advances n ln (Between f x (y ∷ ys) ∷ ts) e (Value x.operand ∷ Op Dup ∷ Op Rot3 ∷ Op (Compare (operator x.operator)) ∷ To KeepingFalse f ∷ Between f y ys ∷ ts) e
+  between_more f x y ys ts e = record { leads = record { whole = go; size = omega arith }; fewer = omega arith }
     where
-      go : (e' : St) → RunsAll n ln (Value x.operand ∷ Op Dup ∷ Op Rot3 ∷ Op (Compare (operator x.operator)) ∷ To KeepingFalse (l + 1) ∷ Between l y ys ∷ ts) e e' → RunsAll n ln (Between l x (y ∷ ys) ∷ ts) e e'
-      go e' (m1, h1, (m2, h2, (m3, h3, (m4, h4, (m5, h5, (m6, (j, k, hj, hk, hm), r)))))) =
-          (m6, (j, k, row_cons (λ places. frame_there l 2 0 places ∷ []) (between ln (operator x.operator) (value n ln x.operand)) (betweens ln (linked_one n ln y) (linked n ln ys)) e m5 j (between_arm ln l (operator x.operator) (value n ln x.operand) e m1 m2 m3 m4 m5 h1 h2 h3 h4 h5) hj, hk, hm), r)
+      go : (e' : St) → RunsAll n ln (Value x.operand ∷ Op Dup ∷ Op Rot3 ∷ Op (Compare (operator x.operator)) ∷ To KeepingFalse f ∷ Between f y ys ∷ ts) e e' → RunsAll n ln (Between f x (y ∷ ys) ∷ ts) e e'
+      go e' (m1, h1, (m2, h2, (m3, h3, (m4, h4, (m5, h5, (m6, h6, r)))))) = (m6, λ l eq. joined l eq (h6 l eq), r)
+        where
+          joined : (l : ℕ) → f ≡ l + 1 → (j : St) × (k : St) × Emitted m5 j (row (betweens ln (linked_one n ln y) (linked n ln ys))) (λ places. frame_there l 2 0 places ∷ []) × Emitted j k (last_link (linked_one n ln y) (linked n ln ys)).1 no_frames × (m6 ≡ put k ln (DraftOp (Compare (last_link (linked_one n ln y) (linked n ln ys)).0))) → (j : St) × (k : St) × Emitted e j (row (betweens ln (linked_one n ln x) (linked n ln (y ∷ ys)))) (λ places. frame_there l 2 0 places ∷ []) × Emitted j k (last_link (linked_one n ln x) (linked n ln (y ∷ ys))).1 no_frames × (m6 ≡ put k ln (DraftOp (Compare (last_link (linked_one n ln x) (linked n ln (y ∷ ys))).0)))
+          joined l eq (j, k, hj, hk, hm) = (j, k, row_cons (λ places. frame_there l 2 0 places ∷ []) (between ln (operator x.operator) (value n ln x.operand)) (betweens ln (linked_one n ln y) (linked n ln ys)) e m5 j (between_arm ln l (operator x.operator) (value n ln x.operand) e m1 m2 m3 m4 m5 h1 h2 h3 h4 (h5 ∙ ap (λ z. put m4 ln (DraftTo KeepingFalse z)) eq)) hj, hk, hm)
 
   -- What stands behind an atom.
 
@@ -360,7 +367,7 @@ module _ (n : Known) (ln : ℕ) where
   abbrev object : Expr → List Trailer → Piece
   object a front = trailed n ln (value n ln a) (trailers n ln front)
 
-  trail_place : (a : Expr) (front : List Trailer) (x : Trailer) (c : Trailed) → coded_trailer n ln x ≡ c → (coded n ln (tree.Trail a (front ++ x ∷ []))).place ≡ last_place n ln (trailed n ln (value n ln a) (trailers n ln front)) c
+  pub trail_place : (a : Expr) (front : List Trailer) (x : Trailer) (c : Trailed) → coded_trailer n ln x ≡ c → (coded n ln (tree.Trail a (front ++ x ∷ []))).place ≡ last_place n ln (trailed n ln (value n ln a) (trailers n ln front)) c
   trail_place a front x c q =
       ap (λ z. z.place) (coded_trail n ln a (front ++ x ∷ []))
       ∙ ap (λ z. place_of_trail n ln (value n ln a) z) (trailers_last front x c q)

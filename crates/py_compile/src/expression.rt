@@ -322,7 +322,7 @@ fn chained<'a>(
     first: &'a Link,
     others: &'a [Link],
 ) -> Result<(), Fault>
-    ensures done { IfOk result (λ _. (e.new ≡ opened e.old 2 0) × (tasks.new ≡ Value a.now ∷ Between (length e.old.labels) first.now others.now ∷ To Always (length e.old.labels) ∷ Mark (length e.old.labels + 1) ∷ Op Rot2 ∷ Op Pop ∷ Mark (length e.old.labels) ∷ tasks.old)) }
+    ensures done { IfOk result (λ _. (e.new ≡ opened e.old 2 0) × (tasks.new ≡ Value a.now ∷ Between (length e.old.labels + 1) first.now others.now ∷ To Always (length e.old.labels) ∷ Mark (length e.old.labels + 1) ∷ Op Rot2 ∷ Op Pop ∷ Mark (length e.old.labels) ∷ tasks.old)) }
     ensures small { result ≡ Err Fault.TooLarge → ⊥ }
 {
     let (base, _) = e.begin(2, 0)?;
@@ -334,7 +334,7 @@ fn chained<'a>(
     )?;
     tasks.push_three(
         Task::Value(a),
-        Task::Between(base, first, others),
+        Task::Between(base + 1, first, others),
         Task::To(Far::Always, base),
     )
 }
@@ -428,7 +428,7 @@ fn between<'a>(
         Some((x, more)) => {
             tasks.push_three(
                 Task::Op(compare),
-                Task::To(Far::KeepingFalse, label + 1),
+                Task::To(Far::KeepingFalse, label),
                 Task::Between(label, x, more),
             )?;
             tasks.push_three(

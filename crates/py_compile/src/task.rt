@@ -27,8 +27,8 @@ pub enum Task<'a> {
     Links(&'a [Link]),
     /// The operands of `and` or `or`: each but the last jumps to the label where it decides.
     Kept(Far, usize, &'a Expr, &'a [Link]),
-    /// The operands of a comparison of more than two, from the second on: each but the last jumps to the label behind this
-    /// one where it decides.
+    /// The operands of a comparison of more than two, from the second on: each but the last jumps to the label where it
+    /// decides.
     Between(usize, &'a Link, &'a [Link]),
     /// The store of the top to a target.
     Store(&'a Expr),
