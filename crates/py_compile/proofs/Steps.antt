@@ -187,7 +187,7 @@ module _ (n : Known) (ln : ℕ) where
       links2 = linked n ln (y ∷ ys)
 
       go : (e' : St) → RunsAll n ln (Value a ∷ Between (base + 1) x (y ∷ ys) ∷ To Always base ∷ Mark (base + 1) ∷ Op Rot2 ∷ Op Pop ∷ Mark base ∷ ts) e1 e' → (m : St) × Emitted e m (chained ln (value n ln a) (betweens ln (linked_one n ln x) links2) (last_link (linked_one n ln x) links2).1 (last_link (linked_one n ln x) links2).0) no_frames × RunsAll n ln ts m e'
-      go e' (m1, h1, (m4, h, (m5, h5, (m6, h6, (m7, h7, (m8, h8, (m9, h9, r))))))) = let w = h base refl in (m9, chained_arm ln no_frames (value n ln a) (betweens ln (linked_one n ln x) links2) (last_link (linked_one n ln x) links2).1 (last_link (linked_one n ln x) links2).0 base e.slots e e1 m1 w.0 w.1.0 m4 m5 m6 m7 m8 m9 eb refl eo h1 w.1.1.0 w.1.1.1.0 w.1.1.1.1 h5 h6 h7 h8 h9, r)
+      go e' (m1, h1, (m4, h, (m5, h5, (m6, h6, (m7, h7, (m8, h8, (m9, h9, r))))))) = let w = h base refl in (m9, chained_arm ln no_frames (value n ln a) (betweens ln (linked_one n ln x) links2) (last_link (linked_one n ln x) links2).1 (last_link (linked_one n ln x) links2).0 base e.slots e e1 m1 w.0 w.1 m4 m5 m6 m7 m8 m9 eb refl eo h1 w.2 w.3 w.4 h5 h6 h7 h8 h9, r)
 
   -- the other levels
 

@@ -4,7 +4,8 @@
 //! or puts its parts in its place.
 
 ghost use Rattle.std.specs.Prelude.{◌≡◌, ◌<◌, ◌+◌, ◌∷◌, [], ℕ, Err, IfOk, length};
-ghost use Rattle.py_code.specs.declared.instr.Instr.TheVariants.{BuildDict, BuildList, BuildTuple, Pop, Rot2};
+ghost use Rattle.py_code.specs.declared.instr.Constant.TheVariants.{Int as IntValue};
+ghost use Rattle.py_code.specs.declared.instr.Instr.TheVariants.{BuildDict, BuildList, BuildTuple, Const, Pop, Rot2};
 ghost use Rattle.py_compile.specs.declared.draft.Far.TheVariants.{Always};
 ghost use Rattle.py_compile.specs.Expressions.{name_value, operator, sign_number, value, values};
 ghost use Rattle.py_compile.specs.Names.{Known, is_none};
@@ -166,6 +167,13 @@ fn read(names: &Names, x: &[u8]) -> Instr
     }
 }
 
+/// The instruction that pushes a whole number.
+fn integer(i: &i64) -> Instr
+    ensures { result ≡ Const (IntValue i.now) }
+{
+    Instr::Const(Constant::Int(*i))
+}
+
 /// An expression that is read.
 fn value<'a>(
     e: &mut Emitter,
@@ -178,7 +186,7 @@ fn value<'a>(
 {
     match x {
         Expr::Name(name) => tasks.push(Task::Op(read(names, name.as_slice()))),
-        Expr::Int(i) => tasks.push(Task::Op(Instr::Const(Constant::Int(*i)))),
+        Expr::Int(i) => tasks.push(Task::Op(integer(i))),
         Expr::Str(s) => tasks.push(Task::Op(Instr::Const(Constant::Root(
             names.text(s.as_slice()),
         )))),

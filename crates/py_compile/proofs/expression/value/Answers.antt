@@ -8,7 +8,7 @@ pub returns-in-Name-clause-done : goal.returns-in-Name-clause-done
 returns-in-Name-clause-done c = then_ok c.push.result _ _ c.push.ensures.done (λ q. advances_as c.args.names.now _ _ _ _ _ _ _ (λ ln. value_name c.args.names.now ln c.in-Name.name c.read.result _ _ (ap (λ z. name_value c.args.names.now ln z) (sym c.as_slice.ensures) ∙ c.read.ensures ln)) (ap (λ z. Value z) c.in-Name.is) q)
 
 pub returns-in-Int-clause-done : goal.returns-in-Int-clause-done
-returns-in-Int-clause-done c = then_ok c.push-in-Int.result _ _ c.push-in-Int.ensures.done (λ q. advances_as c.args.names.now _ _ _ _ _ _ _ (λ ln. value_int c.args.names.now ln c.in-Int.i _ _) (ap (λ z. Value z) c.in-Int.is) q)
+returns-in-Int-clause-done c = then_ok c.push-in-Int.result _ _ c.push-in-Int.ensures.done (λ q. let f0 = c.integer.ensures in advances_as c.args.names.now _ _ _ _ _ _ _ (λ ln. value_int c.args.names.now ln c.in-Int.i _ _) (ap (λ z. Value z) c.in-Int.is) (cc))
 
 pub returns-in-Str-clause-done : goal.returns-in-Str-clause-done
 returns-in-Str-clause-done c = then_ok c.push-in-Str.result _ _ c.push-in-Str.ensures.done (λ q. let f0 = c.text.ensures in let f1 = c.as_slice-in-Str.ensures in advances_as c.args.names.now _ _ _ _ _ _ _ (λ ln. value_str c.args.names.now ln c.in-Str.s _ _) (ap (λ z. Value z) c.in-Str.is) (cc))
