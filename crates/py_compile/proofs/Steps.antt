@@ -469,17 +469,23 @@ module _ (n : Known) (ln : ℕ) where
   augment_attribute a front m o y ts e = by_augment (tree.Trail a (front ++ trailer.Attribute m ∷ [])) _ o y (Value a ∷ Behind front ∷ Op Dup ∷ Op (LoadAttr (text n m)) ∷ Value y ∷ Op (InPlace (operator o)) ∷ Op Rot2 ∷ Op (StoreAttr (text n m)) ∷ ts) ts e (trail_place a front (trailer.Attribute m) (Attr m) (coded_attribute n ln m)) go (omega arith) (omega (arith, weight_trail a (front ++ trailer.Attribute m ∷ []), weights_last front (trailer.Attribute m), weight_attribute m))
     where
       go : (e' : St) → RunsAll n ln (Value a ∷ Behind front ∷ Op Dup ∷ Op (LoadAttr (text n m)) ∷ Value y ∷ Op (InPlace (operator o)) ∷ Op Rot2 ∷ Op (StoreAttr (text n m)) ∷ ts) e e' → (k : St) × Emitted e k (add_attr ln (object a front) (text n m) (operator o) (value n ln y)) no_frames × RunsAll n ln ts k e'
-      go e' (m1, h1, (m2, h2, (m3, h3, (m4, h4, (m5, h5, (m6, h6, (m7, h7, (m8, h8, r)))))))) =
-          (m8, plain_emitted ln no_frames (Alone (object a front) ∷ PutOp Dup ∷ PutOp (LoadAttr (text n m)) ∷ Alone (value n ln y) ∷ PutOp (InPlace (operator o)) ∷ PutOp Rot2 ∷ PutOp (StoreAttr (text n m)) ∷ []) e m8 refl refl
-          (m2, object_runs a front e m1 m2 h1 h2, (m3, h3, (m4, h4, (m5, h5, (m6, h6, (m7, h7, (m8, h8, refl))))))), r)
+      go e' (m1, h1, (m2, h2, (m3, h3, (m4, h4, (m5, h5, (m6, h6, (m7, h7, (m8, h8, r)))))))) = (
+        m8,
+        plain_emitted ln no_frames (Alone (object a front) ∷ PutOp Dup ∷ PutOp (LoadAttr (text n m)) ∷ Alone (value n ln y) ∷ PutOp (InPlace (operator o)) ∷ PutOp Rot2 ∷ PutOp (StoreAttr (text n m)) ∷ []) e m8 refl refl
+            (m2, object_runs a front e m1 m2 h1 h2, (m3, h3, (m4, h4, (m5, h5, (m6, h6, (m7, h7, (m8, h8, refl))))))),
+        r,
+      )
 
   pub augment_index : (a : Expr) (front : List Trailer) (i : Expr) (o : Operator) (y : Expr) (ts : List Todo) (e : St) → Advances n ln (Augment (tree.Trail a (front ++ trailer.Index i ∷ [])) o y ∷ ts) e (Value a ∷ Behind front ∷ Value i ∷ Op Dup2 ∷ Op LoadItem ∷ Value y ∷ Op (InPlace (operator o)) ∷ Op Rot3 ∷ Op StoreItem ∷ ts) e
   augment_index a front i o y ts e = by_augment (tree.Trail a (front ++ trailer.Index i ∷ [])) _ o y (Value a ∷ Behind front ∷ Value i ∷ Op Dup2 ∷ Op LoadItem ∷ Value y ∷ Op (InPlace (operator o)) ∷ Op Rot3 ∷ Op StoreItem ∷ ts) ts e (trail_place a front (trailer.Index i) (Index (value n ln i)) (coded_index n ln i)) go (omega arith) (omega (arith, weight_trail a (front ++ trailer.Index i ∷ []), weights_last front (trailer.Index i), weight_index i))
     where
       go : (e' : St) → RunsAll n ln (Value a ∷ Behind front ∷ Value i ∷ Op Dup2 ∷ Op LoadItem ∷ Value y ∷ Op (InPlace (operator o)) ∷ Op Rot3 ∷ Op StoreItem ∷ ts) e e' → (k : St) × Emitted e k (add_item ln (object a front) (value n ln i) (operator o) (value n ln y)) no_frames × RunsAll n ln ts k e'
-      go e' (m1, h1, (m2, h2, (m3, h3, (m4, h4, (m5, h5, (m6, h6, (m7, h7, (m8, h8, (m9, h9, r))))))))) =
-          (m9, plain_emitted ln no_frames (Alone (object a front) ∷ Alone (value n ln i) ∷ PutOp Dup2 ∷ PutOp LoadItem ∷ Alone (value n ln y) ∷ PutOp (InPlace (operator o)) ∷ PutOp Rot3 ∷ PutOp StoreItem ∷ []) e m9 refl refl
-          (m2, object_runs a front e m1 m2 h1 h2, (m3, h3, (m4, h4, (m5, h5, (m6, h6, (m7, h7, (m8, h8, (m9, h9, refl)))))))), r)
+      go e' (m1, h1, (m2, h2, (m3, h3, (m4, h4, (m5, h5, (m6, h6, (m7, h7, (m8, h8, (m9, h9, r))))))))) = (
+        m9,
+        plain_emitted ln no_frames (Alone (object a front) ∷ Alone (value n ln i) ∷ PutOp Dup2 ∷ PutOp LoadItem ∷ Alone (value n ln y) ∷ PutOp (InPlace (operator o)) ∷ PutOp Rot3 ∷ PutOp StoreItem ∷ []) e m9 refl refl
+            (m2, object_runs a front e m1 m2 h1 h2, (m3, h3, (m4, h4, (m5, h5, (m6, h6, (m7, h7, (m8, h8, (m9, h9, refl)))))))),
+        r,
+      )
 
   -- rows of targets
   pub stores_none : (ts : List Todo) (e : St) → Advances n ln (Stores [] ∷ ts) e ts e

@@ -105,12 +105,7 @@ pub fn expressions(e: &mut Emitter, names: &Names, line: u32, items: &[Expr]) ->
 }
 
 /// Does a task, with all that it leads to.
-pub fn run<'a>(
-    e: &mut Emitter,
-    names: &Names,
-    line: u32,
-    first: Task<'a>,
-) -> Result<(), Fault>
+pub fn run<'a>(e: &mut Emitter, names: &Names, line: u32, first: Task<'a>) -> Result<(), Fault>
     ensures done { IfOk result (λ _. Runs names.now line (plain first.entry) e.old e.new) }
     ensures large { result ≡ Err Fault.TooLarge → 65535 < length e.old.code + size names.now line (plain first.entry) }
 {
@@ -187,9 +182,9 @@ fn value<'a>(
     match x {
         Expr::Name(name) => tasks.push(Task::Op(read(names, name.as_slice()))),
         Expr::Int(i) => tasks.push(Task::Op(integer(i))),
-        Expr::Str(s) => tasks.push(Task::Op(Instr::Const(Constant::Root(
-            names.text(s.as_slice()),
-        )))),
+        Expr::Str(s) => tasks.push(Task::Op(Instr::Const(Constant::Root(names.text(
+            s.as_slice(),
+        ))))),
         Expr::Group(a) => tasks.push(Task::Value(a.get())),
         Expr::Tuple(items) => tuple(tasks, items.as_slice()),
         Expr::List(items) => list(tasks, items.as_slice()),
@@ -510,7 +505,14 @@ fn attribute<'a>(
         None => tasks.push_two(load, Task::Behind(more)),
         Some((next, others)) => match next {
             Trailer::Call(items, named) => {
-                method(names, tasks, name, items.as_slice(), named.as_slice(), others)
+                method(
+                    names,
+                    tasks,
+                    name,
+                    items.as_slice(),
+                    named.as_slice(),
+                    others,
+                )
             }
             Trailer::Attribute(_) => tasks.push_two(load, Task::Behind(more)),
             Trailer::Index(_) => tasks.push_two(load, Task::Behind(more)),

@@ -206,7 +206,12 @@ pub fn augment_step<'a>(
     match x {
         Expr::Name(name) => {
             let home = names.home(name.as_slice());
-            tasks.push_four(Task::Op(home.load()), Task::Value(y), add, Task::Op(home.store()))
+            tasks.push_four(
+                Task::Op(home.load()),
+                Task::Value(y),
+                add,
+                Task::Op(home.store()),
+            )
         }
         Expr::Group(a) => tasks.push(Task::Augment(a.get(), o, y)),
         Expr::Trail(a, items) => augment_trail(names, tasks, a.get(), items.as_slice(), o, y),
