@@ -5,6 +5,8 @@ mod draft;
 mod emitter;
 mod error;
 mod expression;
+#[cfg(test)]
+mod expression_tests;
 mod home;
 #[cfg(test)]
 mod name_tests;
