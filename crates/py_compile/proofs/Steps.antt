@@ -1,8 +1,8 @@
 -- Each step of the stack of tasks: where the parts are done, the task was done.
-use Rattle.std.proofs.Common.{◌≡◌, ℕ, suc, ℤ, ◌+◌, ◌<◌, ◌≤◌, List, [], ◌∷◌, ◌++◌, length, map, Option, Some, None, Result, Ok, Err, IfOk, refl, sym, ap, ◌∙◌, subst, arith, length-append}
+use Rattle.std.proofs.Common.{◌≡◌, ℕ, suc, ℤ, ◌+◌, ◌<◌, ◌≤◌, List, [], ◌∷◌, ◌++◌, length, Option, Some, None, Result, Ok, Err, IfOk, refl, sym, ap, ◌∙◌, subst, arith, length-append}
 use Rattle.py_code.specs.declared.instr.Constant.TheVariants.{None as NoValue, Root, Int as IntValue}
 use Rattle.py_code.specs.declared.instr.Instr.{Instr}
-use Rattle.py_code.specs.declared.instr.Instr.TheVariants.{Const, Unary, Not, Binary, BuildTuple, BuildList, BuildDict, Compare, Dup, Dup2, Rot2, Rot3, Pop, LoadAttr, StoreAttr, DelAttr, LoadItem, StoreItem, DelItem, Slice, LoadMethod, Call, CallMethod, InPlace, Unpack, KeepTrue, KeepFalse}
+use Rattle.py_code.specs.declared.instr.Instr.TheVariants.{Const, Unary, Not, Binary, BuildTuple, BuildList, BuildDict, Compare, Dup, Dup2, Rot2, Rot3, Pop, LoadAttr, StoreAttr, DelAttr, LoadItem, StoreItem, DelItem, Slice, LoadMethod, Call, CallMethod, InPlace, Unpack}
 use Rattle.py_code.specs.declared.operator.binary.TheConstants.{POWER}
 use Rattle.py_tree.specs.declared.expr.Expr.{Expr}
 use Rattle.py_tree.specs.declared.expr.Trailer.{Trailer}
@@ -18,13 +18,12 @@ use Rattle.py_tree.specs.declared.expr.Trailer.TheVariants as trailer
 use Rattle.py_compile.specs.declared.draft.Draft.TheVariants.{Op as DraftOp, To as DraftTo}
 use Rattle.py_compile.specs.declared.draft.Far.{Far}
 use Rattle.py_compile.specs.declared.draft.Far.TheVariants.{Always, IfFalse, KeepingFalse, KeepingTrue}
-use Rattle.py_compile.specs.declared.home.Home.{Home}
-use Rattle.py_compile.specs.Template.{Frame, Piece, Op as PutOp, Alone, row, template}
-use Rattle.py_compile.specs.Table.{load, store, del, nothing, one, constant, name, one_value, two_values, link, operators, kept, all_kept, between, chained, conditional, attribute, index, slice, call, method_call, trail, built, pair, to_attr, to_item, to_all, del_attr, del_item, add_name, add_attr, add_item}
+use Rattle.py_compile.specs.Template.{Piece, Op as PutOp, Alone, row}
+use Rattle.py_compile.specs.Table.{load, store, del, nothing, one, one_value, two_values, link, operators, kept, all_kept, between, chained, conditional, attribute, index, slice, call, method_call, built, pair, to_all, add_name, add_attr, add_item}
 use Rattle.py_compile.specs.Names.{Known, home, text, key_list}
 use Rattle.py_compile.specs.State.{St, put, marked, opened, jump_of, frame_there, no_frames, Emitted}
-use Rattle.py_compile.specs.Expressions.{operator, sign_number, Place, AtName, AtAttr, AtItem, Spread, NoPlace, Coded, Trailed, Attr, Index, Cut, Called, front_of, store_at, del_at, add_at, name_value, trailed, last_place, place_by, place_of_trail, key_names, chain, comparison, coded, coded_trailer, value, stored, deleted, values, all_stored, all_deleted, linked, links, firsts, last_operand, betweens, last_link, pairs, key_values, behind, trailers, value_some}
-use Rattle.py_compile.specs.Tasks.{Todo, Value, Values, Behind, Pairs, Keys, Links, Kept, Between, Store, Stores, Delete, Deletes, Augment, Op, To, Mark, Runs, RunsAll, size, sizes, deciding, deciding_last, linked_one, added, Leads, bound_task}
+use Rattle.py_compile.specs.Expressions.{operator, sign_number, Place, AtName, Spread, NoPlace, Coded, Trailed, Attr, Index, Cut, Called, front_of, store_at, del_at, add_at, name_value, trailed, last_place, place_by, place_of_trail, key_names, chain, coded, coded_trailer, value, stored, deleted, values, all_stored, all_deleted, linked, links, betweens, last_link, pairs, key_values, behind, trailers, value_some}
+use Rattle.py_compile.specs.Tasks.{Todo, Value, Values, Behind, Pairs, Keys, Links, Kept, Between, Store, Stores, Delete, Deletes, Augment, Op, To, Mark, Runs, RunsAll, size, sizes, deciding, deciding_last, linked_one, Leads, bound_task}
 use Rattle.py_compile.specs.TaskWeights.{weight, weights, weight_some, task_weight, all_weights, Advances, Splits}
 use Rattle.py_compile.proofs.TaskWeights.{weight_name, weight_int, weight_str, weight_group, weight_tuple, weight_list, weight_dict, weight_trail, weight_power, weight_unary, weight_chain, weight_not, weight_choice, weight_attribute, weight_index, weight_slice, weight_call, weight_pos, weights_last}
 use Rattle.py_compile.proofs.Emits.{plain_emitted}

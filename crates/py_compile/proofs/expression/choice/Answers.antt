@@ -1,4 +1,4 @@
-use Rattle.std.proofs.Common.{refl, ap, length, sym, ◌∙◌, ◌++◌, [], ◌∷◌, arith}
+use Rattle.std.proofs.Common.{refl}
 use Rattle.py_compile.proofs.Steps.{advances_as, then_ok, value_choice}
 use Rattle.py_compile.proofs.expression.choice.Goals as goal
 

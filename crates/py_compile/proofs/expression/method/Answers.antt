@@ -1,4 +1,4 @@
-use Rattle.std.proofs.Common.{refl, ap, length, sym, ◌∙◌, ◌++◌, [], ◌∷◌, arith}
+use Rattle.std.proofs.Common.{refl}
 use Rattle.py_compile.proofs.Steps.{attribute_call, split_as, then_ok}
 use Rattle.py_compile.proofs.expression.method.Goals as goal
 

@@ -1,4 +1,3 @@
-use Rattle.std.proofs.Common.{◌≡◌, ℕ}
 use Rattle.std.specs.Prelude.{[], ◌∷◌}
 use Rattle.py_compile.specs.Tasks.{Leads, plain}
 use Rattle.py_compile.specs.TaskWeights.{all_weights}

@@ -1,4 +1,4 @@
-use Rattle.std.proofs.Common.{refl, ap, length, sym, ◌∙◌, ◌++◌, [], ◌∷◌, arith}
+use Rattle.std.proofs.Common.{refl, ap, ◌∙◌, ◌++◌, [], ◌∷◌}
 use Rattle.py_tree.specs.declared.expr.Expr.TheVariants as tree
 use Rattle.py_tree.specs.declared.expr.Trailer.TheVariants as trailer
 use Rattle.py_compile.specs.Tasks.{Augment}

@@ -1,4 +1,4 @@
-use Rattle.std.proofs.Common.{refl, ap, length, sym, ◌∙◌, ◌++◌, [], ◌∷◌, arith}
+use Rattle.std.proofs.Common.{refl, ap}
 use Rattle.py_tree.specs.declared.expr.Expr.TheVariants as tree
 use Rattle.py_compile.specs.Tasks.{Store}
 use Rattle.py_compile.proofs.Coded.{coded_chain, coded_choice, coded_dict, coded_int, coded_not, coded_power, coded_str, coded_unary}

@@ -1,4 +1,4 @@
-use Rattle.std.proofs.Common.{refl, ap, length, sym, ◌∙◌, ◌++◌, [], ◌∷◌, arith}
+use Rattle.std.proofs.Common.{ap}
 use Rattle.py_compile.specs.Tasks.{Stores}
 use Rattle.py_compile.proofs.Steps.{split_as, stores_more, then_ok}
 use Rattle.py_compile.proofs.target.stores.Goals as goal
