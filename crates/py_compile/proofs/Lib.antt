@@ -16,3 +16,5 @@ pub mod Tallying
 pub mod UsedStatements
 pub mod Compiled
 pub mod Compiling
+pub mod Steps
+pub mod TaskWeights

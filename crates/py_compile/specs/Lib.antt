@@ -10,3 +10,5 @@ pub mod Tallies
 pub mod Rounds
 pub mod Gathered
 pub mod Compiles
+pub mod Tasks
+pub mod TaskWeights

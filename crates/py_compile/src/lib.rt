@@ -9,6 +9,8 @@ mod draft;
 mod emitter;
 mod error;
 mod expression;
+#[cfg(test)]
+mod expression_tests;
 mod home;
 #[cfg(test)]
 mod name_tests;
@@ -17,6 +19,8 @@ mod roots;
 mod simple;
 mod statement;
 mod tally;
+mod target;
+mod task;
 mod uses;
 
 pub use compiler::compile;
