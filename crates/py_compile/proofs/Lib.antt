@@ -11,3 +11,6 @@ pub mod Coded
 pub mod Rests
 pub mod WorkedRows
 pub mod Arms
+pub mod Stateds
+pub mod StmtArms
+pub mod Leaves

@@ -4,5 +4,11 @@ pub mod State
 pub mod Names
 pub mod Expressions
 pub mod Statements
+pub mod Rounds
+pub mod Weights
+pub mod Partly
+pub mod Heads
+pub mod Compounds
+pub mod Gathered
 pub mod Uses
 pub mod Whole

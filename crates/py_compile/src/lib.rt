@@ -1,12 +1,18 @@
 //! From trees to programs, by a table of templates with labels.
 #![tactic(auto)]
 
+mod around;
+mod bodies;
 mod draft;
 mod emitter;
 mod error;
+mod expression;
 mod home;
 #[cfg(test)]
 mod name_tests;
 mod names;
+mod parts;
+mod simple;
+mod target;
 
 pub use error::CompileError;

@@ -1,0 +1,256 @@
+//! The bodies of a module, in the order of the text. Blocks are gone through again for each construct that they stand in,
+//! of which there are at most 100.
+ghost use Rattle.std.specs.Prelude.{◌≡◌, ◌<◌, ◌+◌, ◌^◌, ◌++◌, IfOk, OnOk, length, [], ◌∷◌};
+ghost use Rattle.py_compile.specs.Compounds.{otherwise, tried_of};
+ghost use Rattle.py_compile.specs.Gathered.{numbered};
+ghost use Rattle.py_compile.specs.Statements.{all_stated, armed_count, armed_inner, count, handled_count, handled_inner, stated, stated_arms, stated_block, stated_handlers};
+ghost use Rattle.py_compile.specs.Weights.{weights, weights_some};
+
+use crate::names::split;
+use py_data::NoMemory;
+use py_tree::{Arm, Clause, Handler, Stmt};
+use sqlite_items::Items;
+use std::alloc::AllocError;
+
+/// The body of a module, a function or a class.
+#[derive(Drop)]
+pub struct Body<'a> {
+    /// That of its `def` or `class`; 1 for a module.
+    pub line: u32,
+    /// That of its `def` or `class`; empty for a module.
+    pub name: &'a [u8],
+    pub is_class: bool,
+    /// How many parameters it has.
+    pub params: u32,
+    pub block: &'a [Stmt],
+}
+
+/// The statements of a clause, if there is one.
+pub fn clause_body(x: &Option<Clause>) -> &[Stmt]
+    ensures same { otherwise x.now ≡ stated_block result.now }
+    ensures weight { weights_some x.now ≡ weights result.now }
+{
+    match x {
+        Some(c) => c.body.as_slice(),
+        None => &[],
+    }
+}
+
+/// How many bodies stand in a statement.
+#[cycle(counts)]
+#[tactic(auto, using(crate::proofs::Stateds::body_rules))]
+pub fn bodies_in(x: &Stmt) -> u32
+    requires { (stated x.now).bodies < 2 ^ 32 }
+    ensures { result ≡ (stated x.now).bodies }
+{
+    match x {
+        Stmt::If(arms, other) => {
+            bodies_in_arms(arms.as_slice()) + bodies_in_block(clause_body(other))
+        }
+        Stmt::While(arm, other) => {
+            bodies_in_block(arm.body.as_slice()) + bodies_in_block(clause_body(other))
+        }
+        Stmt::For(_, _, _, body, other) => {
+            bodies_in_block(body.as_slice()) + bodies_in_block(clause_body(other))
+        }
+        Stmt::Try(block, handlers, other, last) => {
+            bodies_in_try(block, handlers.as_slice(), other) + bodies_in_block(clause_body(last))
+        }
+        Stmt::Def(_, _, _, body) => 1 + bodies_in_block(body.as_slice()),
+        Stmt::Class(_, _, _, body) => 1 + bodies_in_block(body.as_slice()),
+        Stmt::Do(_, _) | Stmt::Assign(_, _, _) | Stmt::Augment(_, _, _, _) | Stmt::Print(_, _, _) | Stmt::Pass(_) | Stmt::Break(_) | Stmt::Continue(_) | Stmt::Return(_, _) | Stmt::Raise(_, _, _) | Stmt::Del(_, _) | Stmt::Global(_, _) | Stmt::Assert(_, _, _) | Stmt::Import(_, _) | Stmt::From(_, _, _) => 0,
+    }
+}
+
+/// How many stand in a `try` without its finally. Without except clauses it has no else.
+#[cycle(counts)]
+pub fn bodies_in_try(block: &Clause, handlers: &[Handler], other: &Option<Clause>) -> u32
+    requires { (tried_of block.now handlers.now other.now).bodies < 2 ^ 32 }
+    ensures { result ≡ (tried_of block.now handlers.now other.now).bodies }
+{
+    match split(handlers) {
+        None => bodies_in_block(block.body.as_slice()),
+        Some(_) => {
+            bodies_in_block(block.body.as_slice())
+                + (bodies_in_handlers(handlers) + bodies_in_block(clause_body(other)))
+        }
+    }
+}
+
+/// How many stand in a block.
+#[cycle(counts)]
+pub fn bodies_in_block(items: &[Stmt]) -> u32
+    requires { count (all_stated items.now) < 2 ^ 32 }
+    ensures { result ≡ count (all_stated items.now) }
+{
+    let mut n = 0;
+    let mut rest = items;
+    'items: while let Some((x, more)) = split(rest) {
+        n += bodies_in(x);
+        rest = more;
+    }
+    n
+}
+
+/// How many stand in the arms of an `if`.
+#[cycle(counts)]
+pub fn bodies_in_arms(items: &[Arm]) -> u32
+    requires { armed_count (stated_arms items.now) < 2 ^ 32 }
+    ensures { result ≡ armed_count (stated_arms items.now) }
+{
+    let mut n = 0;
+    let mut rest = items;
+    'items: while let Some((x, more)) = split(rest) {
+        n += bodies_in_block(x.body.as_slice());
+        rest = more;
+    }
+    n
+}
+
+/// How many stand in except clauses.
+#[cycle(counts)]
+pub fn bodies_in_handlers(items: &[Handler]) -> u32
+    requires { handled_count (stated_handlers items.now) < 2 ^ 32 }
+    ensures { result ≡ handled_count (stated_handlers items.now) }
+{
+    let mut n = 0;
+    let mut rest = items;
+    'items: while let Some((x, more)) = split(rest) {
+        n += bodies_in_block(x.body.as_slice());
+        rest = more;
+    }
+    n
+}
+
+/// Adds the bodies in these statements, in the order of the text, outer ones before inner ones.
+#[cycle(gatherings)]
+pub fn gather<'a>(out: &mut Items<Body<'a>>, items: &'a [Stmt]) -> Result<(), NoMemory>
+    ensures bodies { OnOk result (numbered 0 out.new ≡ numbered 0 out.old ++ (stated_block items.now).inner (length out.old)) }
+    ensures more { OnOk result (length out.new ≡ length out.old + count (all_stated items.now)) }
+{
+    let mut rest = items;
+    'items: while let Some((x, more)) = split(rest) {
+        gather_one(out, x)?;
+        rest = more;
+    }
+    Ok(())
+}
+
+/// Adds the bodies in a statement.
+#[cycle(gatherings)]
+#[tactic(auto, using(crate::proofs::Stateds::body_rules))]
+fn gather_one<'a>(out: &mut Items<Body<'a>>, x: &'a Stmt) -> Result<(), NoMemory>
+    ensures bodies { OnOk result (numbered 0 out.new ≡ numbered 0 out.old ++ (stated x.now).inner (length out.old)) }
+    ensures more { OnOk result (length out.new ≡ length out.old + (stated x.now).bodies) }
+{
+    match x {
+        Stmt::If(arms, other) => {
+            gather_arms(out, arms.as_slice())?;
+            gather(out, clause_body(other))
+        }
+        Stmt::While(arm, other) => {
+            gather(out, arm.body.as_slice())?;
+            gather(out, clause_body(other))
+        }
+        Stmt::For(_, _, _, body, other) => {
+            gather(out, body.as_slice())?;
+            gather(out, clause_body(other))
+        }
+        Stmt::Try(block, handlers, other, last) => {
+            gather_try(out, block, handlers.as_slice(), other)?;
+            gather(out, clause_body(last))
+        }
+        Stmt::Def(line, name, params, body) => {
+            let params = number(params.len())?;
+            let body = body.as_slice();
+            add(out, *line, name.as_slice(), false, params, body)?;
+            gather(out, body)
+        }
+        Stmt::Class(line, name, _, body) => {
+            let body = body.as_slice();
+            add(out, *line, name.as_slice(), true, 0, body)?;
+            gather(out, body)
+        }
+        Stmt::Do(_, _) | Stmt::Assign(_, _, _) | Stmt::Augment(_, _, _, _) | Stmt::Print(_, _, _) | Stmt::Pass(_) | Stmt::Break(_) | Stmt::Continue(_) | Stmt::Return(_, _) | Stmt::Raise(_, _, _) | Stmt::Del(_, _) | Stmt::Global(_, _) | Stmt::Assert(_, _, _) | Stmt::Import(_, _) | Stmt::From(_, _, _) => Ok(()),
+    }
+}
+
+/// A count as a number of 32 bits. No list in memory is too long for it.
+fn number(n: usize) -> Result<u32, NoMemory>
+    ensures same { IfOk result (λ c. c ≡ n) }
+{
+    match u32::try_from(n) {
+        Ok(c) => Ok(c),
+        Err(_) => Err(AllocError),
+    }
+}
+
+/// Adds a body.
+fn add<'a>(
+    out: &mut Items<Body<'a>>,
+    line: u32,
+    name: &'a [u8],
+    is_class: bool,
+    params: u32,
+    block: &'a [Stmt],
+) -> Result<(), NoMemory>
+    ensures bodies { OnOk result (numbered 0 out.new ≡ numbered 0 out.old ++ record { line = line; name = name.now; is_class = is_class; params = params; block = λ n. (stated_block block.now).code n [] (length out.old + 1) } ∷ []) }
+    ensures more { OnOk result (length out.new ≡ length out.old + 1) }
+{
+    out.push(Body {
+        line,
+        name,
+        is_class,
+        params,
+        block,
+    })
+}
+
+/// Adds the bodies in the arms of an `if`.
+#[cycle(gatherings)]
+fn gather_arms<'a>(out: &mut Items<Body<'a>>, items: &'a [Arm]) -> Result<(), NoMemory>
+    ensures bodies { OnOk result (numbered 0 out.new ≡ numbered 0 out.old ++ armed_inner (stated_arms items.now) (length out.old)) }
+    ensures more { OnOk result (length out.new ≡ length out.old + armed_count (stated_arms items.now)) }
+{
+    let mut rest = items;
+    'items: while let Some((x, more)) = split(rest) {
+        gather(out, x.body.as_slice())?;
+        rest = more;
+    }
+    Ok(())
+}
+
+/// Adds the bodies in except clauses.
+#[cycle(gatherings)]
+fn gather_handlers<'a>(out: &mut Items<Body<'a>>, items: &'a [Handler]) -> Result<(), NoMemory>
+    ensures bodies { OnOk result (numbered 0 out.new ≡ numbered 0 out.old ++ handled_inner (stated_handlers items.now) (length out.old)) }
+    ensures more { OnOk result (length out.new ≡ length out.old + handled_count (stated_handlers items.now)) }
+{
+    let mut rest = items;
+    'items: while let Some((x, more)) = split(rest) {
+        gather(out, x.body.as_slice())?;
+        rest = more;
+    }
+    Ok(())
+}
+
+/// Adds the bodies in a `try` without its finally. Without except clauses it has no else.
+#[cycle(gatherings)]
+fn gather_try<'a>(
+    out: &mut Items<Body<'a>>,
+    block: &'a Clause,
+    handlers: &'a [Handler],
+    other: &'a Option<Clause>,
+) -> Result<(), NoMemory>
+    ensures bodies { OnOk result (numbered 0 out.new ≡ numbered 0 out.old ++ (tried_of block.now handlers.now other.now).inner (length out.old)) }
+    ensures more { OnOk result (length out.new ≡ length out.old + (tried_of block.now handlers.now other.now).bodies) }
+{
+    match split(handlers) {
+        None => gather(out, block.body.as_slice()),
+        Some(_) => {
+            gather(out, block.body.as_slice())?;
+            gather_handlers(out, handlers)?;
+            gather(out, clause_body(other))
+        }
+    }
+}
