@@ -14,3 +14,4 @@ pub mod Arms
 pub mod Stateds
 pub mod StmtArms
 pub mod Leaves
+pub mod Gathers

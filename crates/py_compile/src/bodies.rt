@@ -138,7 +138,7 @@ pub fn gather<'a>(out: &mut Items<Body<'a>>, items: &'a [Stmt]) -> Result<(), No
 
 /// Adds the bodies in a statement.
 #[cycle(gatherings)]
-#[tactic(auto, using(crate::proofs::Stateds::body_rules))]
+#[tactic(auto, using(crate::proofs::Stateds::body_rules, crate::proofs::Gathers::inner_none))]
 fn gather_one<'a>(out: &mut Items<Body<'a>>, x: &'a Stmt) -> Result<(), NoMemory>
     ensures bodies { OnOk result (numbered 0 out.new ≡ numbered 0 out.old ++ (stated x.now).inner (length out.old)) }
     ensures more { OnOk result (length out.new ≡ length out.old + (stated x.now).bodies) }
@@ -146,30 +146,36 @@ fn gather_one<'a>(out: &mut Items<Body<'a>>, x: &'a Stmt) -> Result<(), NoMemory
     match x {
         Stmt::If(arms, other) => {
             gather_arms(out, arms.as_slice())?;
-            gather(out, clause_body(other))
+            gather(out, clause_body(other))?;
+            Ok(())
         }
         Stmt::While(arm, other) => {
             gather(out, arm.body.as_slice())?;
-            gather(out, clause_body(other))
+            gather(out, clause_body(other))?;
+            Ok(())
         }
         Stmt::For(_, _, _, body, other) => {
             gather(out, body.as_slice())?;
-            gather(out, clause_body(other))
+            gather(out, clause_body(other))?;
+            Ok(())
         }
         Stmt::Try(block, handlers, other, last) => {
             gather_try(out, block, handlers.as_slice(), other)?;
-            gather(out, clause_body(last))
+            gather(out, clause_body(last))?;
+            Ok(())
         }
         Stmt::Def(line, name, params, body) => {
             let params = number(params.len())?;
             let body = body.as_slice();
             add(out, *line, name.as_slice(), false, params, body)?;
-            gather(out, body)
+            gather(out, body)?;
+            Ok(())
         }
         Stmt::Class(line, name, _, body) => {
             let body = body.as_slice();
             add(out, *line, name.as_slice(), true, 0, body)?;
-            gather(out, body)
+            gather(out, body)?;
+            Ok(())
         }
         Stmt::Do(_, _) | Stmt::Assign(_, _, _) | Stmt::Augment(_, _, _, _) | Stmt::Print(_, _, _) | Stmt::Pass(_) | Stmt::Break(_) | Stmt::Continue(_) | Stmt::Return(_, _) | Stmt::Raise(_, _, _) | Stmt::Del(_, _) | Stmt::Global(_, _) | Stmt::Assert(_, _, _) | Stmt::Import(_, _) | Stmt::From(_, _, _) => Ok(()),
     }
@@ -203,7 +209,8 @@ fn add<'a>(
         is_class,
         params,
         block,
-    })
+    })?;
+    Ok(())
 }
 
 /// Adds the bodies in the arms of an `if`.
@@ -246,11 +253,15 @@ fn gather_try<'a>(
     ensures more { OnOk result (length out.new ≡ length out.old + (tried_of block.now handlers.now other.now).bodies) }
 {
     match split(handlers) {
-        None => gather(out, block.body.as_slice()),
+        None => {
+            gather(out, block.body.as_slice())?;
+            Ok(())
+        }
         Some(_) => {
             gather(out, block.body.as_slice())?;
             gather_handlers(out, handlers)?;
-            gather(out, clause_body(other))
+            gather(out, clause_body(other))?;
+            Ok(())
         }
     }
 }

@@ -7,9 +7,9 @@ ghost use Rattle.py_compile.specs.Template.{Alone, Frame, Op, To, row};
 ghost use Rattle.py_compile.specs.State.{Emitted, frame_there, no_frames, opened, put};
 ghost use Rattle.py_compile.specs.Partly.{Puts};
 ghost use Rattle.py_compile.specs.Names.{home, library, member};
-ghost use Rattle.py_compile.specs.Expressions.{add_at, all_deleted, coded, operator, value, value_some, values};
+ghost use Rattle.py_compile.specs.Expressions.{add_at, all_deleted, coded, operator, stored, value, value_some, values};
 ghost use Rattle.py_compile.specs.Table.{assert_alone, assert_with, class, def, expression};
-ghost use Rattle.py_compile.specs.Statements.{asserted, assigned, base, bound_name, defaults, deletion, imported, printed, raise_made, taken_from};
+ghost use Rattle.py_compile.specs.Statements.{asserted, assigned, base, bound_name, defaults, deletion, imported, last_target, printed, raise_made, stores_before, taken_from};
 
 use crate::draft::{Draft, Far};
 use crate::emitter::Emitter;
@@ -73,17 +73,33 @@ pub fn assign(
         None => Ok(()),
         Some((first, more)) => {
             expression(e, names, line, x)?;
-            let mut last = first;
-            let mut rest = more;
-            'targets: while let Some((next, others)) = split(rest) {
-                e.put(line, Draft::Op(Instr::Dup))?;
-                store(e, names, line, last)?;
-                last = next;
-                rest = others;
-            }
-            store(e, names, line, last)
+            store_in_turn(e, names, line, first, more)?;
+            Ok(())
         }
     }
+}
+
+/// The stores of the top to this target and to these, of which all but the last keep it.
+fn store_in_turn(
+    e: &mut Emitter,
+    names: &Names,
+    line: u32,
+    first: &Expr,
+    more: &[Expr],
+) -> Result<(), Fault>
+    ensures done { IfOk result (λ _. Puts line 0 no_frames (Alone (row (stores_before names.now line first.now more.now)) ∷ Alone (stored names.now line (last_target first.now more.now)) ∷ []) e.old e.new) }
+    ensures large { result ≡ Err Fault.TooLarge → 65535 < length e.old.code + (row (stores_before names.now line first.now more.now)).size + (stored names.now line (last_target first.now more.now)).size }
+{
+    let mut last = first;
+    let mut rest = more;
+    'targets: while let Some((next, others)) = split(rest) {
+        e.put(line, Draft::Op(Instr::Dup))?;
+        store(e, names, line, last)?;
+        last = next;
+        rest = others;
+    }
+    store(e, names, line, last)?;
+    Ok(())
 }
 
 /// `x += y` and the others.
@@ -121,9 +137,10 @@ pub fn print(
     ensures large { result ≡ Err Fault.TooLarge → 65535 < length e.old.code + (printed names.now line items.now comma).size }
 {
     print_items(e, names, line, items)?;
-    if !comma {
-        e.put(line, Draft::Op(Instr::PrintNewline))?;
+    if comma {
+        return Ok(());
     }
+    e.put(line, Draft::Op(Instr::PrintNewline))?;
     Ok(())
 }
 
@@ -154,10 +171,14 @@ pub fn raise_made(
 {
     expression(e, names, line, x)?;
     match v {
-        None => raise_of(e, line, 0),
+        None => {
+            raise_of(e, line, 0)?;
+            Ok(())
+        }
         Some(v) => {
             expression(e, names, line, v)?;
-            raise_of(e, line, 1)
+            raise_of(e, line, 1)?;
+            Ok(())
         }
     }
 }
