@@ -13,6 +13,7 @@ mod name_tests;
 mod names;
 mod parts;
 mod simple;
+mod statement;
 mod target;
 
 pub use error::CompileError;
