@@ -1,5 +1,5 @@
 -- What is put part by part is the template: one lemma for each template of statements.
-use Rattle.std.proofs.Common.{◌≡◌, ℕ, ◌+◌, ◌<◌, List, [], ◌∷◌, ◌++◌, Option, Some, None, Bool, true, false, refl, length, ap, sym, subst, arith}
+use Rattle.std.proofs.Common.{◌≡◌, ℕ, ◌+◌, ◌<◌, map, List, [], ◌∷◌, ◌++◌, Option, Some, None, Bool, true, false, refl, length, ap, sym, subst, arith}
 use Rattle.py_code.specs.declared.instr.Instr.{Instr}
 use Rattle.py_code.specs.declared.instr.Constant.{Constant}
 use Rattle.py_code.specs.declared.instr.Constant.TheVariants.{Root}
@@ -49,6 +49,9 @@ module _ (line : ℕ) (env : List ℕ → List Frame) where
 
   pub print_arm : (x : Piece) (e m1 m2 : St) → Emitted e m1 x no_frames → m2 ≡ put m1 line (DraftOp PrintItem) → Emitted e m2 (print_one line x) env
   print_arm x e m1 m2 h1 h2 = plain_emitted line env (Alone x ∷ Op PrintItem ∷ []) e m2 refl refl (m1, h1, (m2, h2, refl))
+
+  pub print_line_arm : (xs : List Piece) (e m1 m2 : St) → Emitted e m1 (row (map (print_one line) xs)) no_frames → m2 ≡ put m1 line (DraftOp PrintNewline) → Emitted e m2 (print_line line xs) env
+  print_line_arm xs e m1 m2 h1 h2 = plain_emitted line env (Alone (row (map (print_one line) xs)) ∷ Op PrintNewline ∷ []) e m2 refl refl (m1, h1, (m2, h2, refl))
 
   pub raise_one_arm : (x : Piece) (e m1 m2 : St) → Emitted e m1 x no_frames → m2 ≡ put (put m1 line (DraftOp (MakeRaised 0))) line (DraftOp Raise) → Emitted e m2 (raise_one line x) env
   raise_one_arm x e m1 m2 h1 h2 = plain_emitted line env (Alone x ∷ Op (MakeRaised 0) ∷ Op Raise ∷ []) e m2 refl refl (m1, h1, (put m1 line (DraftOp (MakeRaised 0)), refl, (m2, h2, refl)))

@@ -401,12 +401,12 @@ fn statement(
             let body = body.as_slice();
             for_loop(e, names, *line, target, x, body, other, around, first)
         }
-        Stmt::Try(x, items, other, None) => {
-            tried(e, names, x, items.as_slice(), other, around, first)
-        }
-        Stmt::Try(x, items, other, Some(last)) => {
-            tried_finally(e, names, x, items.as_slice(), other, last, around, first)
-        }
+        Stmt::Try(x, items, other, last) => match last {
+            None => tried(e, names, x, items.as_slice(), other, around, first),
+            Some(fin) => {
+                tried_finally(e, names, x, items.as_slice(), other, fin, around, first)
+            }
+        },
         Stmt::Def(line, name, params, _) => {
             def(e, names, *line, name.as_slice(), params.as_slice(), first)
         }
