@@ -18,3 +18,6 @@ inner_none s a f h = sym (append-nil a) ∙ ap (λ z. a ++ z) (sym h)
 pub numbered_more : (f : ℕ) (ys : List DeclaredBody) (y : DeclaredBody) → numbered f (ys ++ y ∷ []) ≡ numbered f ys ++ body_of (f + length ys) y ∷ []
 numbered_more f [] y = let e : f ≡ f + 0 = omega arith in ap (λ z. body_of z y ∷ []) e
 numbered_more f (x ∷ ys) y = let e : f + 1 + length ys ≡ f + length (x ∷ ys) = omega arith in ap (λ z. body_of f x ∷ z) (numbered_more (f + 1) ys y ∙ ap (λ z. numbered (f + 1) ys ++ body_of z y ∷ []) e)
+
+pub numbered_end : (ys : List DeclaredBody) (y : DeclaredBody) → numbered 0 (ys ++ y ∷ []) ≡ numbered 0 ys ++ body_of (length ys) y ∷ []
+numbered_end ys y = let e : 0 + length ys ≡ length ys = omega arith in numbered_more 0 ys y ∙ ap (λ z. numbered 0 ys ++ body_of z y ∷ []) e

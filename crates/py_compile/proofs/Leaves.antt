@@ -1,4 +1,5 @@
 -- The ways out of constructs, and a raise alone.
+use Rattle.std.specs.Prelude.{IfOk, Result, Ok, Err}
 use Rattle.std.proofs.Common.{◌≡◌, ℕ, ◌+◌, List, [], ◌∷◌, refl, length, arith}
 use Rattle.py_code.specs.declared.instr.Instr.TheVariants.{Pop, LoadLocal, Jump, PopTry, Raise}
 use Rattle.py_compile.specs.declared.draft.Draft.TheVariants.{Op as DraftOp, To as DraftTo}
@@ -10,6 +11,10 @@ use Rattle.py_compile.specs.Table.{nothing, Around, InWhile, InFor, InTry, InCla
 use Rattle.py_compile.specs.Rounds.{leaving}
 use Rattle.py_compile.specs.State.{St, put, Emitted, frame_there}
 use Rattle.py_compile.proofs.Emits.{plain_emitted}
+
+pub ok_map : {A E : Type 0} {P Q : A → Type 0} (r : Result A E) → IfOk r P → ((a : A) → P a → Q a) → IfOk r Q
+ok_map (Ok a) h f = f a h
+ok_map (Err e) h f = h
 
 module _ (line : ℕ) (env : List ℕ → List Frame) (c : List Around) where
   pub leave_none : (w : Way) (e : St) → Emitted e e (leaving w line []) env

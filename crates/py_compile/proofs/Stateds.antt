@@ -12,10 +12,10 @@ use Rattle.py_tree.specs.declared.stmt.Stmt.TheVariants as s
 use Rattle.py_tree.specs.declared.stmt.Stmt.TheOpen as open'
 use Rattle.py_tree.specs.declared.stmt.Stmt.TheFolds.{fold-Arm, fold-Clause, fold-Handler, fold-roll-Stmt, fold_out-Arm, fold_out-Clause, fold_out-Handler}
 use Rattle.py_compile.specs.Template.{row}
-use Rattle.py_compile.specs.Table.{nothing, expression, break_code, continue_code, return, def, class}
-use Rattle.py_compile.specs.Names.{home}
+use Rattle.py_compile.specs.Table.{Around, InTry, try_except, nothing, expression, break_code, continue_code, return, def, class}
+use Rattle.py_compile.specs.Names.{Known, home}
 use Rattle.py_compile.specs.Expressions.{coded, add_at, operator, value, values, value_some, all_deleted}
-use Rattle.py_compile.specs.Statements.{Stated, Armed, Claused, Handled, still, block, count, inners, armed_count, armed_inner, assigned, printed, raised, asserted, imported, taken_from, deletion, base, defaults, other, finally, inner_body, stmt_step, arm_step, clause_step, handler_step, stated, all_stated, stated_arm, stated_arms, stated_clause, stated_some, stated_handler, stated_handlers}
+use Rattle.py_compile.specs.Statements.{Stated, Armed, Claused, Handled, still, block, count, inners, armed_count, armed_inner, assigned, printed, raised, asserted, imported, taken_from, deletion, base, defaults, other, finally, inner_body, stmt_step, arm_step, clause_step, handler_step, stated, all_stated, stated_arm, stated_arms, stated_clause, stated_some, stated_block, stated_handler, stated_handlers, handled, handled_count}
 use Rattle.py_compile.specs.Compounds.{otherwise, if_code, while_code, for_code, tried_of}
 use Rattle.py_compile.specs.Weights as w
 use Rattle.py_compile.specs.Weights.{total, weight_step, weight, weights, weights_arms, weights_handlers, weights_some}
@@ -328,3 +328,7 @@ pub inner_try : (t : Clause) (hs : List Handler) (e d : Option Clause) (f : ℕ)
 inner_try t hs e d f = ap (λ z. z.inner f) (stated_try t hs e d) ∙ finally_inner t.line (tried_of t hs e) (stated_some d) f
 
 pub ruleset body_rules = (stated_do, stated_assign, stated_augment, stated_print, stated_pass, stated_break, stated_continue, stated_return, stated_raise, stated_del, stated_global, stated_assert, stated_import, stated_from, stated_if, stated_while, stated_for, stated_def, stated_class, weight_if, weight_while, weight_for, weight_def, weight_class, weight_try, bodies_try, inner_try)
+
+-- a `try` with except clauses
+pub try_code : (t : Clause) (hs : List Handler) (x : Handler) (xs : List Handler) (e : Option Clause) (n : Known) (c : List Around) (f : ℕ) → hs ≡ x ∷ xs → (tried_of t hs e).code n c f ≡ try_except t.line ((stated_block t.body).code n (InTry ∷ c) f) (handled (stated_handlers hs) n c (f + count (all_stated t.body))) ((otherwise e).code n c (f + count (all_stated t.body) + handled_count (stated_handlers hs)))
+try_code t hs x xs e n c f eq = rw eq refl

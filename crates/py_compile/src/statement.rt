@@ -363,7 +363,8 @@ fn returned(
 {
     let slot = return_head(e, names, line, x)?;
     leave(e, names, line, Way::Out, around)?;
-    return_tail(e, line, slot)
+    return_tail(e, line, slot)?;
+    Ok(())
 }
 
 /// The code of a statement.
