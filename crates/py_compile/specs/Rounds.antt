@@ -1,5 +1,5 @@
 -- The constructs round a statement, as the code has them. It belongs to `Statements` and `State`.
-use Rattle.std.specs.Prelude.{ℕ, ⊤, ◌+◌, ◌<◌, ◌^◌, List, [], ◌∷◌}
+use Rattle.std.specs.Prelude.{ℕ, List, [], ◌∷◌}
 use Rattle.py_compile.specs.declared.around.Around.{Around as Round}
 use Rattle.py_compile.specs.declared.around.Around.TheVariants.{Body, While', For', Try', Clause', Finally'}
 use Rattle.py_compile.specs.declared.around.Way.{Way}
@@ -7,7 +7,7 @@ use Rattle.py_compile.specs.declared.around.Way.TheVariants.{Break, Continue, Ou
 use Rattle.py_compile.specs.Template.{Frame, Piece}
 use Rattle.py_compile.specs.Table.{Around, InWhile, InFor, InTry, InClause, InFinally, break_code, continue_code, leaves}
 use Rattle.py_compile.specs.Names.{Known}
-use Rattle.py_compile.specs.Statements.{all_stated, count, stated_block}
+use Rattle.py_compile.specs.Statements.{stated_block}
 use Rattle.py_compile.specs.State.{frame_there}
 
 abbrev pub around_of : Known → Round → List Around
@@ -25,15 +25,6 @@ env_of (For' b r o) ls = frame_there b 3 0 ls ∷ env_of o ls
 env_of (Try' b s r o) ls = frame_there b 2 s ls ∷ env_of o ls
 env_of (Clause' b s r o) ls = frame_there b 2 s ls ∷ env_of o ls
 env_of (Finally' b s d f r o) ls = frame_there b 2 s ls ∷ env_of o ls
-
--- labels and the numbers of bodies have room
-abbrev pub Fits : Round → Type 0
-Fits Body = ⊤
-Fits (While' b r o) = (b + 3 < 2 ^ 64) × Fits o
-Fits (For' b r o) = (b + 3 < 2 ^ 64) × Fits o
-Fits (Try' b s r o) = Fits o
-Fits (Clause' b s r o) = Fits o
-Fits (Finally' b s d f r o) = (f + count (all_stated d.now) < 2 ^ 32) × Fits o
 
 -- what is done on a way out
 abbrev pub leaving : Way → ℕ → List Around → Piece

@@ -1,11 +1,12 @@
 //! The bodies of a module, in the order of the text. Blocks are gone through again for each construct that they stand in,
 //! of which there are at most 100.
-ghost use Rattle.std.specs.Prelude.{◌≡◌, ◌<◌, ◌+◌, ◌^◌, ◌++◌, IfOk, OnOk, length, [], ◌∷◌};
+ghost use Rattle.std.specs.Prelude.{◌≡◌, ◌+◌, ◌++◌, Err, IfOk, OnOk, length, [], ◌∷◌};
 ghost use Rattle.py_compile.specs.Compounds.{otherwise, tried_of};
 ghost use Rattle.py_compile.specs.Gathered.{numbered};
 ghost use Rattle.py_compile.specs.Statements.{all_stated, armed_count, armed_inner, count, handled_count, handled_inner, stated, stated_arms, stated_block, stated_handlers};
 ghost use Rattle.py_compile.specs.Weights.{weights, weights_some};
 
+use crate::error::Fault;
 use crate::names::split;
 use py_data::NoMemory;
 use py_tree::{Arm, Clause, Handler, Stmt};
@@ -36,90 +37,132 @@ pub fn clause_body(x: &Option<Clause>) -> &[Stmt]
     }
 }
 
+/// The sum of two counts of bodies. No list in memory is so long that it would not fit.
+pub fn sum(a: u32, b: u32) -> Result<u32, Fault>
+    ensures same { IfOk result (λ n. n ≡ a + b) }
+    ensures small { result ≡ Err Fault.TooLarge → ⊥ }
+{
+    match a.checked_add(b) {
+        Some(n) => Ok(n),
+        None => Err(Fault::OutOfMemory),
+    }
+}
+
 /// How many bodies stand in a statement.
 #[cycle(counts)]
 #[tactic(auto, using(crate::proofs::Stateds::body_rules))]
-pub fn bodies_in(x: &Stmt) -> u32
-    requires { (stated x.now).bodies < 2 ^ 32 }
-    ensures { result ≡ (stated x.now).bodies }
+pub fn bodies_in(x: &Stmt) -> Result<u32, Fault>
+    ensures same { IfOk result (λ n. n ≡ (stated x.now).bodies) }
+    ensures small { result ≡ Err Fault.TooLarge → ⊥ }
 {
     match x {
         Stmt::If(arms, other) => {
-            bodies_in_arms(arms.as_slice()) + bodies_in_block(clause_body(other))
+            let a = bodies_in_arms(arms.as_slice())?;
+            let b = bodies_in_block(clause_body(other))?;
+            let n = sum(a, b)?;
+            Ok(n)
         }
         Stmt::While(arm, other) => {
-            bodies_in_block(arm.body.as_slice()) + bodies_in_block(clause_body(other))
+            let a = bodies_in_block(arm.body.as_slice())?;
+            let b = bodies_in_block(clause_body(other))?;
+            let n = sum(a, b)?;
+            Ok(n)
         }
         Stmt::For(_, _, _, body, other) => {
-            bodies_in_block(body.as_slice()) + bodies_in_block(clause_body(other))
+            let a = bodies_in_block(body.as_slice())?;
+            let b = bodies_in_block(clause_body(other))?;
+            let n = sum(a, b)?;
+            Ok(n)
         }
         Stmt::Try(block, handlers, other, last) => {
-            bodies_in_try(block, handlers.as_slice(), other) + bodies_in_block(clause_body(last))
+            let a = bodies_in_try(block, handlers.as_slice(), other)?;
+            let b = bodies_in_block(clause_body(last))?;
+            let n = sum(a, b)?;
+            Ok(n)
         }
-        Stmt::Def(_, _, _, body) => 1 + bodies_in_block(body.as_slice()),
-        Stmt::Class(_, _, _, body) => 1 + bodies_in_block(body.as_slice()),
-        Stmt::Do(_, _) | Stmt::Assign(_, _, _) | Stmt::Augment(_, _, _, _) | Stmt::Print(_, _, _) | Stmt::Pass(_) | Stmt::Break(_) | Stmt::Continue(_) | Stmt::Return(_, _) | Stmt::Raise(_, _, _) | Stmt::Del(_, _) | Stmt::Global(_, _) | Stmt::Assert(_, _, _) | Stmt::Import(_, _) | Stmt::From(_, _, _) => 0,
+        Stmt::Def(_, _, _, body) => {
+            let a = bodies_in_block(body.as_slice())?;
+            let n = sum(1, a)?;
+            Ok(n)
+        }
+        Stmt::Class(_, _, _, body) => {
+            let a = bodies_in_block(body.as_slice())?;
+            let n = sum(1, a)?;
+            Ok(n)
+        }
+        Stmt::Do(_, _) | Stmt::Assign(_, _, _) | Stmt::Augment(_, _, _, _) | Stmt::Print(_, _, _) | Stmt::Pass(_) | Stmt::Break(_) | Stmt::Continue(_) | Stmt::Return(_, _) | Stmt::Raise(_, _, _) | Stmt::Del(_, _) | Stmt::Global(_, _) | Stmt::Assert(_, _, _) | Stmt::Import(_, _) | Stmt::From(_, _, _) => Ok(0),
     }
 }
 
 /// How many stand in a `try` without its finally. Without except clauses it has no else.
 #[cycle(counts)]
-pub fn bodies_in_try(block: &Clause, handlers: &[Handler], other: &Option<Clause>) -> u32
-    requires { (tried_of block.now handlers.now other.now).bodies < 2 ^ 32 }
-    ensures { result ≡ (tried_of block.now handlers.now other.now).bodies }
+pub fn bodies_in_try(
+    block: &Clause,
+    handlers: &[Handler],
+    other: &Option<Clause>,
+) -> Result<u32, Fault>
+    ensures same { IfOk result (λ n. n ≡ (tried_of block.now handlers.now other.now).bodies) }
+    ensures small { result ≡ Err Fault.TooLarge → ⊥ }
 {
+    let a = bodies_in_block(block.body.as_slice())?;
     match split(handlers) {
-        None => bodies_in_block(block.body.as_slice()),
+        None => Ok(a),
         Some(_) => {
-            bodies_in_block(block.body.as_slice())
-                + (bodies_in_handlers(handlers) + bodies_in_block(clause_body(other)))
+            let b = bodies_in_handlers(handlers)?;
+            let c = bodies_in_block(clause_body(other))?;
+            let behind = sum(b, c)?;
+            let n = sum(a, behind)?;
+            Ok(n)
         }
     }
 }
 
 /// How many stand in a block.
 #[cycle(counts)]
-pub fn bodies_in_block(items: &[Stmt]) -> u32
-    requires { count (all_stated items.now) < 2 ^ 32 }
-    ensures { result ≡ count (all_stated items.now) }
+pub fn bodies_in_block(items: &[Stmt]) -> Result<u32, Fault>
+    ensures same { IfOk result (λ n. n ≡ count (all_stated items.now)) }
+    ensures small { result ≡ Err Fault.TooLarge → ⊥ }
 {
     let mut n = 0;
     let mut rest = items;
     'items: while let Some((x, more)) = split(rest) {
-        n += bodies_in(x);
+        let a = bodies_in(x)?;
+        n = sum(n, a)?;
         rest = more;
     }
-    n
+    Ok(n)
 }
 
 /// How many stand in the arms of an `if`.
 #[cycle(counts)]
-pub fn bodies_in_arms(items: &[Arm]) -> u32
-    requires { armed_count (stated_arms items.now) < 2 ^ 32 }
-    ensures { result ≡ armed_count (stated_arms items.now) }
+pub fn bodies_in_arms(items: &[Arm]) -> Result<u32, Fault>
+    ensures same { IfOk result (λ n. n ≡ armed_count (stated_arms items.now)) }
+    ensures small { result ≡ Err Fault.TooLarge → ⊥ }
 {
     let mut n = 0;
     let mut rest = items;
     'items: while let Some((x, more)) = split(rest) {
-        n += bodies_in_block(x.body.as_slice());
+        let a = bodies_in_block(x.body.as_slice())?;
+        n = sum(n, a)?;
         rest = more;
     }
-    n
+    Ok(n)
 }
 
 /// How many stand in except clauses.
 #[cycle(counts)]
-pub fn bodies_in_handlers(items: &[Handler]) -> u32
-    requires { handled_count (stated_handlers items.now) < 2 ^ 32 }
-    ensures { result ≡ handled_count (stated_handlers items.now) }
+pub fn bodies_in_handlers(items: &[Handler]) -> Result<u32, Fault>
+    ensures same { IfOk result (λ n. n ≡ handled_count (stated_handlers items.now)) }
+    ensures small { result ≡ Err Fault.TooLarge → ⊥ }
 {
     let mut n = 0;
     let mut rest = items;
     'items: while let Some((x, more)) = split(rest) {
-        n += bodies_in_block(x.body.as_slice());
+        let a = bodies_in_block(x.body.as_slice())?;
+        n = sum(n, a)?;
         rest = more;
     }
-    n
+    Ok(n)
 }
 
 /// Adds the bodies in these statements, in the order of the text, outer ones before inner ones.

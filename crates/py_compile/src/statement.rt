@@ -6,7 +6,7 @@ ghost use Rattle.py_compile.specs.declared.draft.Far.TheVariants.{Always};
 ghost use Rattle.py_compile.specs.Compounds.{finally_code, for_code, if_code, tried_of, while_code};
 ghost use Rattle.py_compile.specs.Expressions.{value_some};
 ghost use Rattle.py_compile.specs.Names.{Known};
-ghost use Rattle.py_compile.specs.Rounds.{Fits, around_of, env_of, leaving};
+ghost use Rattle.py_compile.specs.Rounds.{around_of, env_of, leaving};
 ghost use Rattle.py_compile.specs.State.{Emitted, frame_there, put};
 ghost use Rattle.py_compile.specs.Statements.{all_stated, armed, armed_count, count, handled, handled_count, pieces, raised, stated, stated_arms, stated_handlers};
 ghost use Rattle.py_compile.specs.Table.{raise_again, return};
@@ -15,7 +15,7 @@ ghost use Rattle.py_compile.specs.Compounds.{otherwise};
 
 use crate::around::{Around, Way};
 use crate::bodies::{
-    bodies_in, bodies_in_arms, bodies_in_block, bodies_in_handlers, bodies_in_try, clause_body,
+    bodies_in, bodies_in_arms, bodies_in_block, bodies_in_handlers, bodies_in_try, clause_body, sum,
 };
 use crate::draft::{Draft, Far};
 use crate::emitter::Emitter;
@@ -64,7 +64,7 @@ fn raise(
     }
 }
 
-/// The jump out of a loop or to its next turn, where the loop is a `for` behind the iterator.
+/// The jump out of a loop or to its next turn.
 fn jump(e: &mut Emitter, line: u32, label: usize) -> Result<(), Fault>
     ensures done { IfOk result (λ _. e.new ≡ put e.old line (DraftTo Always label)) }
     ensures longer { IfOk result (λ _. length e.new.code ≡ length e.old.code + 1) }
@@ -72,6 +72,17 @@ fn jump(e: &mut Emitter, line: u32, label: usize) -> Result<(), Fault>
 {
     e.put(line, Draft::To(Far::Always, label))?;
     Ok(())
+}
+
+/// The label of a loop's next turn. No list in memory has so many labels that there would be none.
+fn again(base: usize) -> Result<usize, Fault>
+    ensures same { IfOk result (λ label. label ≡ base + 1) }
+    ensures small { result ≡ Err Fault.TooLarge → ⊥ }
+{
+    match base.checked_add(1) {
+        Some(label) => Ok(label),
+        None => Err(Fault::OutOfMemory),
+    }
 }
 
 /// The iterator of a `for` is dropped.
@@ -93,7 +104,6 @@ fn leave(
     way: Way,
     around: &Around,
 ) -> Result<(), Fault>
-    requires fits { Fits around.now }
     ensures done { IfOk result (λ _. Emitted e.old e.new (leaving way line (around_of names.now around.now)) (env_of around.now)) }
     ensures large { result ≡ Err Fault.TooLarge → 65535 < length e.old.code + (leaving way line (around_of names.now around.now)).size }
 {
@@ -101,7 +111,10 @@ fn leave(
         Around::Body => Ok(()),
         Around::While(base, outer) => match way {
             Way::Break => jump(e, line, *base),
-            Way::Continue => jump(e, line, *base + 1),
+            Way::Continue => {
+                let label = again(*base)?;
+                jump(e, line, label)
+            }
             Way::Out => leave(e, names, line, way, outer),
         },
         Around::For(base, outer) => match way {
@@ -109,7 +122,10 @@ fn leave(
                 pop(e, line)?;
                 jump(e, line, *base)
             }
-            Way::Continue => jump(e, line, *base + 1),
+            Way::Continue => {
+                let label = again(*base)?;
+                jump(e, line, label)
+            }
             Way::Out => {
                 pop(e, line)?;
                 leave(e, names, line, way, outer)
@@ -137,8 +153,6 @@ pub fn block(
     around: &Around,
     first: u32,
 ) -> Result<(), Fault>
-    requires room { first + count (all_stated items.now) < 2 ^ 32 }
-    requires fits { Fits around.now }
     ensures done { IfOk result (λ _. Emitted e.old e.new (row (pieces (all_stated items.now) names.now (around_of names.now around.now) first)) (env_of around.now)) }
     ensures large { result ≡ Err Fault.TooLarge → 65535 < length e.old.code + (row (pieces (all_stated items.now) names.now (around_of names.now around.now) first)).size }
 {
@@ -146,7 +160,8 @@ pub fn block(
     let mut rest = items;
     'items: while let Some((x, more)) = split(rest) {
         statement(e, names, x, around, number)?;
-        number += bodies_in(x);
+        let inside = bodies_in(x)?;
+        number = sum(number, inside)?;
         rest = more;
     }
     Ok(())
@@ -162,14 +177,13 @@ fn if_else(
     around: &Around,
     first: u32,
 ) -> Result<(), Fault>
-    requires room { first + (armed_count (stated_arms items.now) + (otherwise other.now).bodies) < 2 ^ 32 }
-    requires fits { Fits around.now }
     ensures done { IfOk result (λ _. Emitted e.old e.new (if_code names.now (around_of names.now around.now) first items.now other.now) (env_of around.now)) }
     ensures large { result ≡ Err Fault.TooLarge → 65535 < length e.old.code + (if_code names.now (around_of names.now around.now) first items.now other.now).size }
 {
     let (end, _) = e.begin(1, 0)?;
     arms(e, names, items, end, around, first)?;
-    let number = first + bodies_in_arms(items);
+    let inside = bodies_in_arms(items)?;
+    let number = sum(first, inside)?;
     block(e, names, clause_body(other), around, number)?;
     e.mark(end);
     Ok(())
@@ -185,8 +199,6 @@ fn arms(
     around: &Around,
     first: u32,
 ) -> Result<(), Fault>
-    requires room { first + armed_count (stated_arms items.now) < 2 ^ 32 }
-    requires fits { Fits around.now }
     ensures done { IfOk result (λ _. Emitted e.old e.new (row (armed (stated_arms items.now) names.now (around_of names.now around.now) first)) (λ ls. frame_there end 1 0 ls ∷ env_of around.now ls)) }
     ensures large { result ≡ Err Fault.TooLarge → 65535 < length e.old.code + (row (armed (stated_arms items.now) names.now (around_of names.now around.now) first)).size }
 {
@@ -196,7 +208,8 @@ fn arms(
         let next = arm_head(e, names, x)?;
         block(e, names, x.body.as_slice(), around, number)?;
         arm_tail(e, x.line, next, end)?;
-        number += bodies_in_block(x.body.as_slice());
+        let inside = bodies_in_block(x.body.as_slice())?;
+        number = sum(number, inside)?;
         rest = more;
     }
     Ok(())
@@ -212,8 +225,6 @@ fn while_loop(
     around: &Around,
     first: u32,
 ) -> Result<(), Fault>
-    requires room { first + (count (all_stated arm.now.body) + (otherwise other.now).bodies) < 2 ^ 32 }
-    requires fits { Fits around.now }
     ensures done { IfOk result (λ _. Emitted e.old e.new (while_code names.now (around_of names.now around.now) first arm.now other.now) (env_of around.now)) }
     ensures large { result ≡ Err Fault.TooLarge → 65535 < length e.old.code + (while_code names.now (around_of names.now around.now) first arm.now other.now).size }
 {
@@ -221,7 +232,8 @@ fn while_loop(
     let body = arm.body.as_slice();
     block(e, names, body, &Around::While(base, &*around), first)?;
     loop_tail(e, arm.line, base)?;
-    let number = first + bodies_in_block(body);
+    let inside = bodies_in_block(body)?;
+    let number = sum(first, inside)?;
     block(e, names, clause_body(other), around, number)?;
     e.mark(base);
     Ok(())
@@ -240,15 +252,14 @@ fn for_loop(
     around: &Around,
     first: u32,
 ) -> Result<(), Fault>
-    requires room { first + (count (all_stated body.now) + (otherwise other.now).bodies) < 2 ^ 32 }
-    requires fits { Fits around.now }
     ensures done { IfOk result (λ _. Emitted e.old e.new (for_code names.now (around_of names.now around.now) first line target.now x.now body.now other.now) (env_of around.now)) }
     ensures large { result ≡ Err Fault.TooLarge → 65535 < length e.old.code + (for_code names.now (around_of names.now around.now) first line target.now x.now body.now other.now).size }
 {
     let base = for_head(e, names, line, target, x)?;
     block(e, names, body, &Around::For(base, &*around), first)?;
     loop_tail(e, line, base)?;
-    let number = first + bodies_in_block(body);
+    let inside = bodies_in_block(body)?;
+    let number = sum(first, inside)?;
     block(e, names, clause_body(other), around, number)?;
     e.mark(base);
     Ok(())
@@ -265,8 +276,6 @@ fn handlers(
     outer: &Around,
     first: u32,
 ) -> Result<(), Fault>
-    requires room { first + handled_count (stated_handlers items.now) < 2 ^ 32 }
-    requires fits { Fits outer.now }
     ensures done { IfOk result (λ _. Emitted e.old e.new (row (handled (stated_handlers items.now) names.now (around_of names.now outer.now) first)) (λ ls. frame_there base 2 slot ls ∷ env_of outer.now ls)) }
     ensures large { result ≡ Err Fault.TooLarge → 65535 < length e.old.code + (row (handled (stated_handlers items.now) names.now (around_of names.now outer.now) first)).size }
 {
@@ -277,7 +286,8 @@ fn handlers(
         let body = x.body.as_slice();
         block(e, names, body, &Around::Clause(base, slot, &*outer), number)?;
         handler_tail(e, x.line, next, base)?;
-        number += bodies_in_block(body);
+        let inside = bodies_in_block(body)?;
+        number = sum(number, inside)?;
         rest = more;
     }
     Ok(())
@@ -294,8 +304,6 @@ fn tried(
     around: &Around,
     first: u32,
 ) -> Result<(), Fault>
-    requires room { first + (tried_of x.now items.now other.now).bodies < 2 ^ 32 }
-    requires fits { Fits around.now }
     ensures done { IfOk result (λ _. Emitted e.old e.new ((tried_of x.now items.now other.now).code names.now (around_of names.now around.now) first) (env_of around.now)) }
     ensures large { result ≡ Err Fault.TooLarge → 65535 < length e.old.code + ((tried_of x.now items.now other.now).code names.now (around_of names.now around.now) first).size }
 {
@@ -306,8 +314,10 @@ fn tried(
             let (base, slot) = try_head(e, x.line)?;
             block(e, names, body, &Around::Try(base, slot, &*around), first)?;
             pop_try(e, x.line)?;
-            let behind = first + bodies_in_block(body);
-            let number = behind + bodies_in_handlers(items);
+            let inside = bodies_in_block(body)?;
+            let behind = sum(first, inside)?;
+            let handled = bodies_in_handlers(items)?;
+            let number = sum(behind, handled)?;
             block(e, names, clause_body(other), around, number)?;
             catch(e, x.line, base, slot)?;
             handlers(e, names, items, base, slot, around, behind)?;
@@ -330,12 +340,11 @@ fn tried_finally(
     around: &Around,
     first: u32,
 ) -> Result<(), Fault>
-    requires room { first + ((tried_of x.now items.now other.now).bodies + count (all_stated last.now.body)) < 2 ^ 32 }
-    requires fits { Fits around.now }
     ensures done { IfOk result (λ _. Emitted e.old e.new (finally_code names.now (around_of names.now around.now) first x.now items.now other.now last.now) (env_of around.now)) }
     ensures large { result ≡ Err Fault.TooLarge → 65535 < length e.old.code + (finally_code names.now (around_of names.now around.now) first x.now items.now other.now last.now).size }
 {
-    let number = first + bodies_in_try(x, items, other);
+    let inside = bodies_in_try(x, items, other)?;
+    let number = sum(first, inside)?;
     let (base, slot) = try_head(e, x.line)?;
     let inner = Around::Finally(base, slot, &last.body, number, &*around);
     tried(e, names, x, items, other, &inner, first)?;
@@ -357,7 +366,6 @@ fn returned(
     x: &Option<Expr>,
     around: &Around,
 ) -> Result<(), Fault>
-    requires fits { Fits around.now }
     ensures done { IfOk result (λ _. Emitted e.old e.new (return line (value_some names.now line x.now) (around_of names.now around.now)) (env_of around.now)) }
     ensures large { result ≡ Err Fault.TooLarge → 65535 < length e.old.code + (return line (value_some names.now line x.now) (around_of names.now around.now)).size }
 {
@@ -376,8 +384,6 @@ fn statement(
     around: &Around,
     first: u32,
 ) -> Result<(), Fault>
-    requires room { first + (stated s.now).bodies < 2 ^ 32 }
-    requires fits { Fits around.now }
     ensures done { IfOk result (λ _. Emitted e.old e.new ((stated s.now).code names.now (around_of names.now around.now) first) (env_of around.now)) }
     ensures large { result ≡ Err Fault.TooLarge → 65535 < length e.old.code + ((stated s.now).code names.now (around_of names.now around.now) first).size }
 {

@@ -20,7 +20,7 @@ block-items-preserved t c =
     let w = ap weights e in
     let k = c.items.invariant.1 in
     let l = c.items.invariant.2 in
-    rw c.bodies_in-number.ensures
+    rw (c.in_ok-number.ensures.same, c.in_ok-inside.ensures.same)
     (rest_step (env_of c.args.around.now) c.args.e.now (pieces (all_stated c.args.items.now) c.args.names.now (around_of c.args.names.now c.args.around.now) c.args.first) c.items.e c.statement.new.e ((stated c.in-Some.x.now).code c.args.names.now (around_of c.args.names.now c.args.around.now) c.items.number) (pieces (all_stated c.in-Some.more.now) c.args.names.now (around_of c.args.names.now c.args.around.now) (c.items.number + (stated c.in-Some.x.now).bodies)) (rw e at c.items.invariant.0) c.in_ok-statement.ensures.done, grind (arith, common_steps), grind (arith, common_steps))
 
 pub arms-items-preserved : goal.arms-items-preserved
@@ -30,7 +30,7 @@ arms-items-preserved t c =
     let w = ap weights_arms e in
     let k = c.items.invariant.1 in
     let l = c.items.invariant.2 in
-    rw (c.bodies_in_block-number.ensures, c.as_slice-in-Some.ensures)
+    rw (c.in_ok-number.ensures.same, c.in_ok-inside.ensures.same, c.as_slice-in-Some.ensures)
     (rest_step (λ ls. frame_there c.args.end 1 0 ls ∷ env_of c.args.around.now ls) c.args.e.now (armed (stated_arms c.args.items.now) c.args.names.now (around_of c.args.names.now c.args.around.now) c.args.first) c.items.e c.arm_tail.new.e (arm c.in-Some.x.now.line (value c.args.names.now c.in-Some.x.now.line c.in-Some.x.now.test) ((stated_block c.in-Some.x.now.body).code c.args.names.now (around_of c.args.names.now c.args.around.now) c.items.number)) (armed (stated_arms c.in-Some.more.now) c.args.names.now (around_of c.args.names.now c.args.around.now) (c.items.number + count (all_stated c.in-Some.x.now.body))) (rw e at c.items.invariant.0)
     (arm_arm c.in-Some.x.now.line (env_of c.args.around.now) (value c.args.names.now c.in-Some.x.now.line c.in-Some.x.now.test) ((stated_block c.in-Some.x.now.body).code c.args.names.now (around_of c.args.names.now c.args.around.now) c.items.number) c.args.end c.in_ok-next.next c.items.e _ _ _ c.in_ok-next.ensures.base (c.in_ok-next.ensures.done (λ ls. frame_there c.args.end 1 0 ls ∷ env_of c.args.around.now ls)) (rw c.as_slice.ensures at c.in_ok-block.ensures.done) c.in_ok-arm_tail.ensures.done), grind (arith, common_steps), grind (arith, common_steps))
 
@@ -41,30 +41,30 @@ handlers-items-preserved t c =
     let w = ap weights_handlers e in
     let k = c.items.invariant.1 in
     let l = c.items.invariant.2 in
-    rw (c.bodies_in_block-number.ensures, c.as_slice-body.ensures)
+    rw (c.in_ok-number.ensures.same, c.in_ok-inside.ensures.same, c.as_slice-body.ensures)
     (rest_step (λ ls. frame_there c.args.base 2 c.args.slot ls ∷ env_of c.args.outer.now ls) c.args.e.now (handled (stated_handlers c.args.items.now) c.args.names.now (around_of c.args.names.now c.args.outer.now) c.args.first) c.items.e c.handler_tail.new.e (clause c.args.names.now c.in-Some.x.now.line c.in-Some.x.now.test c.in-Some.x.now.target ((stated_block c.in-Some.x.now.body).code c.args.names.now (InClause ∷ (around_of c.args.names.now c.args.outer.now)) c.items.number)) (handled (stated_handlers c.in-Some.more.now) c.args.names.now (around_of c.args.names.now c.args.outer.now) (c.items.number + count (all_stated c.in-Some.x.now.body))) (rw e at c.items.invariant.0)
     (handler_arm c.args.names.now c.in-Some.x.now.line (env_of c.args.outer.now) c.in-Some.x.now.test c.in-Some.x.now.target c.in_ok-next.next ((stated_block c.in-Some.x.now.body).code c.args.names.now (InClause ∷ (around_of c.args.names.now c.args.outer.now)) c.items.number) c.args.base c.args.slot c.items.e _ _ _ c.in_ok-next.ensures.done (rw c.as_slice-body.ensures at c.in_ok-block.ensures.done) c.in_ok-handler_tail.ensures.done), grind (arith, common_steps), grind (arith, common_steps))
 
 pub if_else-returns-clause-done : goal.if_else-returns-clause-done
 if_else-returns-clause-done t c =
-    if_arm 0 (env_of c.args.around.now) (armed (stated_arms c.args.items.now) c.args.names.now (around_of c.args.names.now c.args.around.now) c.args.first) ((otherwise c.args.other.now).code c.args.names.now (around_of c.args.names.now c.args.around.now) (c.args.first + armed_count (stated_arms c.args.items.now))) c.in_ok-end.end _ c.args.e.now _ _ _ _ c.in_ok-end.ensures.base c.in_ok-end.ensures.slot c.in_ok-end.ensures.done c.in_ok-arms.ensures.done (subst (λ z. Emitted c.arms.new.e c.block.new.e (z.code c.args.names.now (around_of c.args.names.now c.args.around.now) (c.args.first + armed_count (stated_arms c.args.items.now))) (env_of c.args.around.now)) (sym c.clause_body.ensures.same) (rw c.bodies_in_arms.ensures at c.in_ok-block.ensures.done)) c.mark.ensures.done
+    if_arm 0 (env_of c.args.around.now) (armed (stated_arms c.args.items.now) c.args.names.now (around_of c.args.names.now c.args.around.now) c.args.first) ((otherwise c.args.other.now).code c.args.names.now (around_of c.args.names.now c.args.around.now) (c.args.first + armed_count (stated_arms c.args.items.now))) c.in_ok-end.end _ c.args.e.now _ _ _ _ c.in_ok-end.ensures.base c.in_ok-end.ensures.slot c.in_ok-end.ensures.done c.in_ok-arms.ensures.done (subst (λ z. Emitted c.arms.new.e c.block.new.e (z.code c.args.names.now (around_of c.args.names.now c.args.around.now) (c.args.first + armed_count (stated_arms c.args.items.now))) (env_of c.args.around.now)) (sym c.clause_body.ensures.same) (rw (c.in_ok-number.ensures.same, c.in_ok-inside.ensures.same) at c.in_ok-block.ensures.done)) c.mark.ensures.done
 
 pub while_loop-returns-clause-done : goal.while_loop-returns-clause-done
 while_loop-returns-clause-done t c =
-    while_arm c.args.arm.now.line (env_of c.args.around.now) (value c.args.names.now c.args.arm.now.line c.args.arm.now.test) ((stated_block c.args.arm.now.body).code c.args.names.now (InWhile ∷ (around_of c.args.names.now c.args.around.now)) c.args.first) ((otherwise c.args.other.now).code c.args.names.now (around_of c.args.names.now c.args.around.now) (c.args.first + count (all_stated c.args.arm.now.body))) c.in_ok-base.base c.args.e.now _ _ _ _ _ c.in_ok-base.ensures.base (c.in_ok-base.ensures.done (env_of c.args.around.now)) (rw c.as_slice-body.ensures at c.in_ok-block.ensures.done) c.in_ok-loop_tail.ensures.done (subst (λ z. Emitted c.loop_tail.new.e c.block-2.new.e (z.code c.args.names.now (around_of c.args.names.now c.args.around.now) (c.args.first + count (all_stated c.args.arm.now.body))) (env_of c.args.around.now)) (sym c.clause_body.ensures.same) (rw (c.bodies_in_block.ensures, c.as_slice-body.ensures) at c.in_ok-block-2.ensures.done)) c.mark.ensures.done
+    while_arm c.args.arm.now.line (env_of c.args.around.now) (value c.args.names.now c.args.arm.now.line c.args.arm.now.test) ((stated_block c.args.arm.now.body).code c.args.names.now (InWhile ∷ (around_of c.args.names.now c.args.around.now)) c.args.first) ((otherwise c.args.other.now).code c.args.names.now (around_of c.args.names.now c.args.around.now) (c.args.first + count (all_stated c.args.arm.now.body))) c.in_ok-base.base c.args.e.now _ _ _ _ _ c.in_ok-base.ensures.base (c.in_ok-base.ensures.done (env_of c.args.around.now)) (rw c.as_slice-body.ensures at c.in_ok-block.ensures.done) c.in_ok-loop_tail.ensures.done (subst (λ z. Emitted c.loop_tail.new.e c.block-2.new.e (z.code c.args.names.now (around_of c.args.names.now c.args.around.now) (c.args.first + count (all_stated c.args.arm.now.body))) (env_of c.args.around.now)) (sym c.clause_body.ensures.same) (rw (c.in_ok-number.ensures.same, c.in_ok-inside.ensures.same, c.as_slice-body.ensures) at c.in_ok-block-2.ensures.done)) c.mark.ensures.done
 
 pub for_loop-returns-clause-done : goal.for_loop-returns-clause-done
 for_loop-returns-clause-done t c =
-    for_arm c.args.line (env_of c.args.around.now) (stored c.args.names.now c.args.line c.args.target.now) (value c.args.names.now c.args.line c.args.x.now) ((stated_block c.args.body.now).code c.args.names.now (InFor ∷ (around_of c.args.names.now c.args.around.now)) c.args.first) ((otherwise c.args.other.now).code c.args.names.now (around_of c.args.names.now c.args.around.now) (c.args.first + count (all_stated c.args.body.now))) c.in_ok-base.base c.args.e.now _ _ _ _ _ c.in_ok-base.ensures.base (c.in_ok-base.ensures.done (env_of c.args.around.now)) c.in_ok-block.ensures.done c.in_ok-loop_tail.ensures.done (subst (λ z. Emitted c.loop_tail.new.e c.block-2.new.e (z.code c.args.names.now (around_of c.args.names.now c.args.around.now) (c.args.first + count (all_stated c.args.body.now))) (env_of c.args.around.now)) (sym c.clause_body.ensures.same) (rw c.bodies_in_block.ensures at c.in_ok-block-2.ensures.done)) c.mark.ensures.done
+    for_arm c.args.line (env_of c.args.around.now) (stored c.args.names.now c.args.line c.args.target.now) (value c.args.names.now c.args.line c.args.x.now) ((stated_block c.args.body.now).code c.args.names.now (InFor ∷ (around_of c.args.names.now c.args.around.now)) c.args.first) ((otherwise c.args.other.now).code c.args.names.now (around_of c.args.names.now c.args.around.now) (c.args.first + count (all_stated c.args.body.now))) c.in_ok-base.base c.args.e.now _ _ _ _ _ c.in_ok-base.ensures.base (c.in_ok-base.ensures.done (env_of c.args.around.now)) c.in_ok-block.ensures.done c.in_ok-loop_tail.ensures.done (subst (λ z. Emitted c.loop_tail.new.e c.block-2.new.e (z.code c.args.names.now (around_of c.args.names.now c.args.around.now) (c.args.first + count (all_stated c.args.body.now))) (env_of c.args.around.now)) (sym c.clause_body.ensures.same) (rw (c.in_ok-number.ensures.same, c.in_ok-inside.ensures.same) at c.in_ok-block-2.ensures.done)) c.mark.ensures.done
 
 pub tried-returns-in_ok-raise_slot-in-Some-clause-done : goal.tried-returns-in_ok-raise_slot-in-Some-clause-done
 tried-returns-in_ok-raise_slot-in-Some-clause-done t c =
     rw (k.try_code c.args.x.now c.args.items.now c.in-Some.field-0.0.now c.in-Some.field-0.1.now c.args.other.now c.args.names.now (around_of c.args.names.now c.args.around.now) c.args.first c.in-Some.ensures)
-    (try_arm c.args.x.now.line (env_of c.args.around.now) ((stated_block c.args.x.now.body).code c.args.names.now (InTry ∷ (around_of c.args.names.now c.args.around.now)) c.args.first) (handled (stated_handlers c.args.items.now) c.args.names.now (around_of c.args.names.now c.args.around.now) (c.args.first + count (all_stated c.args.x.now.body))) ((otherwise c.args.other.now).code c.args.names.now (around_of c.args.names.now c.args.around.now) (c.args.first + count (all_stated c.args.x.now.body) + handled_count (stated_handlers c.args.items.now))) c.in_ok-base-in-Some.base c.in_ok-base-in-Some.slot c.args.e.now _ _ _ _ _ _ _ _ c.in_ok-base-in-Some.ensures.base c.in_ok-base-in-Some.ensures.slot c.in_ok-base-in-Some.ensures.done (rw c.as_slice-body.ensures at c.in_ok-block-in-Some.ensures.done) c.in_ok-pop_try-in-Some.ensures.done (subst (λ z. Emitted c.pop_try.new.e c.block-in-Some-2.new.e (z.code c.args.names.now (around_of c.args.names.now c.args.around.now) (c.args.first + count (all_stated c.args.x.now.body) + handled_count (stated_handlers c.args.items.now))) (env_of c.args.around.now)) (sym c.clause_body.ensures.same) (rw (c.bodies_in_handlers.ensures, c.bodies_in_block.ensures, c.as_slice-body.ensures) at c.in_ok-block-in-Some-2.ensures.done)) c.in_ok-catch-in-Some.ensures.done (rw (c.bodies_in_block.ensures, c.as_slice-body.ensures) at c.in_ok-handlers-in-Some.ensures.done) c.in_ok-raise_slot-in-Some.ensures.done c.mark.ensures.done)
+    (try_arm c.args.x.now.line (env_of c.args.around.now) ((stated_block c.args.x.now.body).code c.args.names.now (InTry ∷ (around_of c.args.names.now c.args.around.now)) c.args.first) (handled (stated_handlers c.args.items.now) c.args.names.now (around_of c.args.names.now c.args.around.now) (c.args.first + count (all_stated c.args.x.now.body))) ((otherwise c.args.other.now).code c.args.names.now (around_of c.args.names.now c.args.around.now) (c.args.first + count (all_stated c.args.x.now.body) + handled_count (stated_handlers c.args.items.now))) c.in_ok-base-in-Some.base c.in_ok-base-in-Some.slot c.args.e.now _ _ _ _ _ _ _ _ c.in_ok-base-in-Some.ensures.base c.in_ok-base-in-Some.ensures.slot c.in_ok-base-in-Some.ensures.done (rw c.as_slice-body.ensures at c.in_ok-block-in-Some.ensures.done) c.in_ok-pop_try-in-Some.ensures.done (subst (λ z. Emitted c.pop_try.new.e c.block-in-Some-2.new.e (z.code c.args.names.now (around_of c.args.names.now c.args.around.now) (c.args.first + count (all_stated c.args.x.now.body) + handled_count (stated_handlers c.args.items.now))) (env_of c.args.around.now)) (sym c.clause_body.ensures.same) (rw (c.in_ok-number-in-Some.ensures.same, c.in_ok-behind-in-Some.ensures.same, c.in_ok-inside-in-Some.ensures.same, c.in_ok-handled-in-Some.ensures.same, c.as_slice-body.ensures) at c.in_ok-block-in-Some-2.ensures.done)) c.in_ok-catch-in-Some.ensures.done (rw (c.in_ok-behind-in-Some.ensures.same, c.in_ok-inside-in-Some.ensures.same, c.as_slice-body.ensures) at c.in_ok-handlers-in-Some.ensures.done) c.in_ok-raise_slot-in-Some.ensures.done c.mark.ensures.done)
 
 pub tried_finally-returns-clause-done : goal.tried_finally-returns-clause-done
 tried_finally-returns-clause-done t c =
-    finally_arm c.args.x.now.line (env_of c.args.around.now) ((tried_of c.args.x.now c.args.items.now c.args.other.now).code c.args.names.now (InFinally ((stated_block c.args.last.now.body).code c.args.names.now (around_of c.args.names.now c.args.around.now) (c.args.first + (tried_of c.args.x.now c.args.items.now c.args.other.now).bodies)) ∷ (around_of c.args.names.now c.args.around.now)) c.args.first) ((stated_block c.args.last.now.body).code c.args.names.now (around_of c.args.names.now c.args.around.now) (c.args.first + (tried_of c.args.x.now c.args.items.now c.args.other.now).bodies)) c.in_ok-base.base c.in_ok-base.slot c.args.e.now _ _ _ _ _ _ _ _ c.in_ok-base.ensures.base c.in_ok-base.ensures.slot c.in_ok-base.ensures.done (rw c.bodies_in_try.ensures at c.in_ok-tried.ensures.done) c.in_ok-pop_try.ensures.done (rw (c.bodies_in_try.ensures, c.as_slice.ensures) at c.in_ok-block.ensures.done) c.in_ok-catch.ensures.done (rw (c.bodies_in_try.ensures, c.as_slice-2.ensures) at c.in_ok-block-2.ensures.done) c.in_ok-raise_slot.ensures.done c.mark.ensures.done
+    finally_arm c.args.x.now.line (env_of c.args.around.now) ((tried_of c.args.x.now c.args.items.now c.args.other.now).code c.args.names.now (InFinally ((stated_block c.args.last.now.body).code c.args.names.now (around_of c.args.names.now c.args.around.now) (c.args.first + (tried_of c.args.x.now c.args.items.now c.args.other.now).bodies)) ∷ (around_of c.args.names.now c.args.around.now)) c.args.first) ((stated_block c.args.last.now.body).code c.args.names.now (around_of c.args.names.now c.args.around.now) (c.args.first + (tried_of c.args.x.now c.args.items.now c.args.other.now).bodies)) c.in_ok-base.base c.in_ok-base.slot c.args.e.now _ _ _ _ _ _ _ _ c.in_ok-base.ensures.base c.in_ok-base.ensures.slot c.in_ok-base.ensures.done (rw (c.in_ok-number.ensures.same, c.in_ok-inside.ensures.same) at c.in_ok-tried.ensures.done) c.in_ok-pop_try.ensures.done (rw (c.in_ok-number.ensures.same, c.in_ok-inside.ensures.same, c.as_slice.ensures) at c.in_ok-block.ensures.done) c.in_ok-catch.ensures.done (rw (c.in_ok-number.ensures.same, c.in_ok-inside.ensures.same, c.as_slice-2.ensures) at c.in_ok-block-2.ensures.done) c.in_ok-raise_slot.ensures.done c.mark.ensures.done
 
 pub returned-returns-clause-done : goal.returned-returns-clause-done
 returned-returns-clause-done t c =
@@ -77,52 +77,47 @@ leave-returns-in_ok-block-in-Finally-clause-done t c =
 pub statement-leave-requires : goal.statement-leave-requires
 statement-leave-requires t c =
     let w = ap weight c.in-Break.is ∙ k.weight_break c.in-Break.line in
-    (grind (arith, common_steps), c.requires.fits)
+    grind (arith, common_steps)
 
 pub statement-leave-requires-in-Continue : goal.statement-leave-requires-in-Continue
 statement-leave-requires-in-Continue t c =
     let w = ap weight c.in-Continue.is ∙ k.weight_continue c.in-Continue.line in
-    (grind (arith, common_steps), c.requires.fits)
+    grind (arith, common_steps)
 
 pub statement-returned-requires : goal.statement-returned-requires
 statement-returned-requires t c =
     let w = ap weight c.in-Return.is ∙ k.weight_return c.in-Return.line c.in-Return.x in
-    (grind (arith, common_steps), c.requires.fits)
+    grind (arith, common_steps)
 
 pub statement-if_else-requires : goal.statement-if_else-requires
 statement-if_else-requires t c =
     let w = ap weight c.in-If.is ∙ k.weight_if c.in-If.items c.in-If.other in
     let f = ap weights_arms c.as_slice-in-If.ensures in
-    let b = rw (c.in-If.is, k.stated_if c.in-If.items c.in-If.other) at c.requires.room in
-    rw c.as_slice-in-If.ensures (grind (arith, common_steps), (b, c.requires.fits))
+    rw c.as_slice-in-If.ensures grind (arith, common_steps)
 
 pub statement-while_loop-requires : goal.statement-while_loop-requires
 statement-while_loop-requires t c =
     let w = ap weight c.in-While.is ∙ k.weight_while c.in-While.arm c.in-While.other in
-    let b = rw (c.in-While.is, k.stated_while c.in-While.arm c.in-While.other) at c.requires.room in
-    (grind (arith, common_steps), (b, c.requires.fits))
+    grind (arith, common_steps)
 
 pub statement-for_loop-requires : goal.statement-for_loop-requires
 statement-for_loop-requires t c =
     let w = ap weight c.in-For.is ∙ k.weight_for c.in-For.line c.in-For.target c.in-For.x c.in-For.body c.in-For.other in
     let f = ap weights c.as_slice-body.ensures in
-    let b = rw (c.in-For.is, k.stated_for c.in-For.line c.in-For.target c.in-For.x c.in-For.body c.in-For.other) at c.requires.room in
-    rw c.as_slice-body.ensures (grind (arith, common_steps), (b, c.requires.fits))
+    grind (arith, common_steps)
 
 pub statement-tried-requires : goal.statement-tried-requires
 statement-tried-requires t c =
     let w = ap weight c.in-Try.is ∙ k.weight_try c.in-Try.x c.in-Try.items c.in-Try.other c.in-Try.last in
     let f = ap weights_handlers c.as_slice-in-None.ensures in
-    let b = rw (c.in-Try.is, k.stated_try c.in-Try.x c.in-Try.items c.in-Try.other c.in-Try.last, c.in-None.is) at c.requires.room in
-    rw c.as_slice-in-None.ensures (grind (arith, common_steps), (b, c.requires.fits))
+    rw c.as_slice-in-None.ensures grind (arith, common_steps)
 
 pub statement-tried_finally-requires : goal.statement-tried_finally-requires
 statement-tried_finally-requires t c =
     let w = ap weight c.in-Try.is ∙ k.weight_try c.in-Try.x c.in-Try.items c.in-Try.other c.in-Try.last in
     let g = ap weights_some c.in-Some.is in
     let f = ap weights_handlers c.as_slice-in-Some.ensures in
-    let b = rw (c.in-Try.is, k.stated_try c.in-Try.x c.in-Try.items c.in-Try.other c.in-Try.last, c.in-Some.is) at c.requires.room in
-    rw c.as_slice-in-Some.ensures (grind (arith, common_steps), (b, c.requires.fits))
+    rw c.as_slice-in-Some.ensures grind (arith, common_steps)
 
 pub statement-returns-in-Do-clause-done : goal.statement-returns-in-Do-clause-done
 statement-returns-in-Do-clause-done t c =
