@@ -18,3 +18,7 @@ pub mod Compiled
 pub mod Compiling
 pub mod Steps
 pub mod TaskWeights
+pub mod Stateds
+pub mod StmtArms
+pub mod Leaves
+pub mod Gathers

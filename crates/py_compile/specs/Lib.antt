@@ -4,11 +4,15 @@ pub mod State
 pub mod Names
 pub mod Expressions
 pub mod Statements
+pub mod Rounds
+pub mod Weights
+pub mod Partly
+pub mod Heads
+pub mod Compounds
+pub mod Gathered
 pub mod Uses
 pub mod Whole
 pub mod Tallies
-pub mod Rounds
-pub mod Gathered
 pub mod Compiles
 pub mod Tasks
 pub mod TaskWeights

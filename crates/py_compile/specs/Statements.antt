@@ -11,7 +11,7 @@ use Rattle.py_tree.specs.declared.stmt.Clause.{Clause}
 use Rattle.py_tree.specs.declared.stmt.Handler.{Handler}
 use Rattle.py_tree.specs.declared.stmt.Stmt.TheOpen as open'
 use Rattle.py_tree.specs.declared.stmt.Stmt.TheFolds.{fold-Stmt}
-use Rattle.py_compile.specs.Template.{Piece, row}
+use Rattle.py_compile.specs.Template.{Piece, Alone, template, row}
 use Rattle.py_compile.specs.Table.{nothing, constant, also, assign, expression, print_one, print_line, raise_one, raise_two, assert_with, assert_alone, import_one, def, class, arm, all_arms, while, for, try_except, clause_bare, clause_test, clause_target, try_finally, Around, InWhile, InFor, InTry, InClause, InFinally, break_code, continue_code, return, raise_again}
 use Rattle.py_compile.specs.Names.{Known, home, library, member}
 use Rattle.py_compile.specs.Expressions.{coded, add_at, operator, value, values, value_some, stored, all_deleted}
@@ -122,10 +122,18 @@ abbrev pub printed : Known → ℕ → List Expr → Bool → Piece
 printed n ln es true = row (map (print_one ln) (values n ln es))
 printed n ln es false = print_line ln (values n ln es)
 
+-- of an exception that is made of a class or of a class and a value
+abbrev pub raise_made : Known → ℕ → Expr → Option Expr → Piece
+raise_made n ln e None = raise_one ln (value n ln e)
+raise_made n ln e (Some v) = raise_two ln (value n ln e) (value n ln v)
+
 abbrev pub raised : Known → ℕ → List Around → Option Expr → Option Expr → Piece
 raised n ln c None v = raise_again ln c
-raised n ln c (Some e) None = raise_one ln (value n ln e)
-raised n ln c (Some e) (Some v) = raise_two ln (value n ln e) (value n ln v)
+raised n ln c (Some e) v = raise_made n ln e v
+
+-- del t, u
+abbrev pub deletion : ℕ → List Piece → Piece
+deletion ln ts = template ln 0 0 (Alone (row ts) ∷ [])
 
 abbrev pub asserted : Known → ℕ → Expr → Option Expr → Piece
 asserted n ln t None = assert_alone ln (value n ln t)
@@ -182,7 +190,7 @@ stmt_step (open'.Break ln) = still (λ n c. break_code ln c)
 stmt_step (open'.Continue ln) = still (λ n c. continue_code ln c)
 stmt_step (open'.Return ln e) = still (λ n c. return ln (value_some n ln e) c)
 stmt_step (open'.Raise ln e v) = still (λ n c. raised n ln c e v)
-stmt_step (open'.Del ln ts) = still (λ n c. row (all_deleted n ln ts))
+stmt_step (open'.Del ln ts) = still (λ n c. deletion ln (all_deleted n ln ts))
 stmt_step (open'.Global ln xs) = still (λ n c. nothing ln)
 stmt_step (open'.Assert ln t m) = still (λ n c. asserted n ln t m)
 stmt_step (open'.Import ln is) = still (λ n c. row (imported n ln is))

@@ -1,10 +1,15 @@
-//! Scratch.
-ghost use Rattle.std.specs.Prelude.{◌≡◌, ◌++◌, length, OnOk};
+//! The bodies of a module, in the order of the text. Blocks are gone through again for each construct that they stand in,
+//! of which there are at most 100.
+ghost use Rattle.std.specs.Prelude.{◌≡◌, ◌+◌, ◌++◌, Err, IfOk, OnOk, length, [], ◌∷◌};
+ghost use Rattle.py_compile.specs.Compounds.{otherwise, tried_of};
 ghost use Rattle.py_compile.specs.Gathered.{numbered};
-ghost use Rattle.py_compile.specs.Statements.{stated_block};
+ghost use Rattle.py_compile.specs.Statements.{all_stated, armed_count, armed_inner, count, handled_count, handled_inner, stated, stated_arms, stated_block, stated_handlers};
+ghost use Rattle.py_compile.specs.Weights.{weights, weights_some};
 
+use crate::error::Fault;
+use crate::names::split;
 use py_data::NoMemory;
-use py_tree::Stmt;
+use py_tree::{Arm, Clause, Handler, Stmt};
 use sqlite_items::Items;
 use std::alloc::AllocError;
 
@@ -21,8 +26,285 @@ pub struct Body<'a> {
     pub block: &'a [Stmt],
 }
 
-pub fn gather<'a>(bodies: &mut Items<Body<'a>>, items: &'a [Stmt]) -> Result<(), NoMemory>
-    ensures { OnOk result (numbered 0 bodies.new ≡ numbered 0 bodies.old ++ (stated_block items.now).inner (length bodies.old)) }
+/// The statements of a clause, if there is one.
+pub fn clause_body(x: &Option<Clause>) -> &[Stmt]
+    ensures same { otherwise x.now ≡ stated_block result.now }
+    ensures weight { weights_some x.now ≡ weights result.now }
 {
-    Err(AllocError)
+    match x {
+        Some(c) => c.body.as_slice(),
+        None => &[],
+    }
+}
+
+/// The sum of two counts of bodies. No list in memory is so long that it would not fit.
+pub fn sum(a: u32, b: u32) -> Result<u32, Fault>
+    ensures same { IfOk result (λ n. n ≡ a + b) }
+    ensures small { result ≡ Err Fault.TooLarge → ⊥ }
+{
+    match a.checked_add(b) {
+        Some(n) => Ok(n),
+        None => Err(Fault::OutOfMemory),
+    }
+}
+
+/// How many bodies stand in a statement.
+#[cycle(counts)]
+#[tactic(auto, using(crate::proofs::Stateds::body_rules))]
+pub fn bodies_in(x: &Stmt) -> Result<u32, Fault>
+    ensures same { IfOk result (λ n. n ≡ (stated x.now).bodies) }
+    ensures small { result ≡ Err Fault.TooLarge → ⊥ }
+{
+    match x {
+        Stmt::If(arms, other) => {
+            let a = bodies_in_arms(arms.as_slice())?;
+            let b = bodies_in_block(clause_body(other))?;
+            let n = sum(a, b)?;
+            Ok(n)
+        }
+        Stmt::While(arm, other) => {
+            let a = bodies_in_block(arm.body.as_slice())?;
+            let b = bodies_in_block(clause_body(other))?;
+            let n = sum(a, b)?;
+            Ok(n)
+        }
+        Stmt::For(_, _, _, body, other) => {
+            let a = bodies_in_block(body.as_slice())?;
+            let b = bodies_in_block(clause_body(other))?;
+            let n = sum(a, b)?;
+            Ok(n)
+        }
+        Stmt::Try(block, handlers, other, last) => {
+            let a = bodies_in_try(block, handlers.as_slice(), other)?;
+            let b = bodies_in_block(clause_body(last))?;
+            let n = sum(a, b)?;
+            Ok(n)
+        }
+        Stmt::Def(_, _, _, body) => {
+            let a = bodies_in_block(body.as_slice())?;
+            let n = sum(1, a)?;
+            Ok(n)
+        }
+        Stmt::Class(_, _, _, body) => {
+            let a = bodies_in_block(body.as_slice())?;
+            let n = sum(1, a)?;
+            Ok(n)
+        }
+        Stmt::Do(_, _) | Stmt::Assign(_, _, _) | Stmt::Augment(_, _, _, _) | Stmt::Print(_, _, _) | Stmt::Pass(_) | Stmt::Break(_) | Stmt::Continue(_) | Stmt::Return(_, _) | Stmt::Raise(_, _, _) | Stmt::Del(_, _) | Stmt::Global(_, _) | Stmt::Assert(_, _, _) | Stmt::Import(_, _) | Stmt::From(_, _, _) => Ok(0),
+    }
+}
+
+/// How many stand in a `try` without its finally. Without except clauses it has no else.
+#[cycle(counts)]
+pub fn bodies_in_try(
+    block: &Clause,
+    handlers: &[Handler],
+    other: &Option<Clause>,
+) -> Result<u32, Fault>
+    ensures same { IfOk result (λ n. n ≡ (tried_of block.now handlers.now other.now).bodies) }
+    ensures small { result ≡ Err Fault.TooLarge → ⊥ }
+{
+    let a = bodies_in_block(block.body.as_slice())?;
+    match split(handlers) {
+        None => Ok(a),
+        Some(_) => {
+            let b = bodies_in_handlers(handlers)?;
+            let c = bodies_in_block(clause_body(other))?;
+            let behind = sum(b, c)?;
+            let n = sum(a, behind)?;
+            Ok(n)
+        }
+    }
+}
+
+/// How many stand in a block.
+#[cycle(counts)]
+pub fn bodies_in_block(items: &[Stmt]) -> Result<u32, Fault>
+    ensures same { IfOk result (λ n. n ≡ count (all_stated items.now)) }
+    ensures small { result ≡ Err Fault.TooLarge → ⊥ }
+{
+    let mut n = 0;
+    let mut rest = items;
+    'items: while let Some((x, more)) = split(rest) {
+        let a = bodies_in(x)?;
+        n = sum(n, a)?;
+        rest = more;
+    }
+    Ok(n)
+}
+
+/// How many stand in the arms of an `if`.
+#[cycle(counts)]
+pub fn bodies_in_arms(items: &[Arm]) -> Result<u32, Fault>
+    ensures same { IfOk result (λ n. n ≡ armed_count (stated_arms items.now)) }
+    ensures small { result ≡ Err Fault.TooLarge → ⊥ }
+{
+    let mut n = 0;
+    let mut rest = items;
+    'items: while let Some((x, more)) = split(rest) {
+        let a = bodies_in_block(x.body.as_slice())?;
+        n = sum(n, a)?;
+        rest = more;
+    }
+    Ok(n)
+}
+
+/// How many stand in except clauses.
+#[cycle(counts)]
+pub fn bodies_in_handlers(items: &[Handler]) -> Result<u32, Fault>
+    ensures same { IfOk result (λ n. n ≡ handled_count (stated_handlers items.now)) }
+    ensures small { result ≡ Err Fault.TooLarge → ⊥ }
+{
+    let mut n = 0;
+    let mut rest = items;
+    'items: while let Some((x, more)) = split(rest) {
+        let a = bodies_in_block(x.body.as_slice())?;
+        n = sum(n, a)?;
+        rest = more;
+    }
+    Ok(n)
+}
+
+/// Adds the bodies in these statements, in the order of the text, outer ones before inner ones.
+#[cycle(gatherings)]
+pub fn gather<'a>(out: &mut Items<Body<'a>>, items: &'a [Stmt]) -> Result<(), NoMemory>
+    ensures bodies { OnOk result (numbered 0 out.new ≡ numbered 0 out.old ++ (stated_block items.now).inner (length out.old)) }
+    ensures more { OnOk result (length out.new ≡ length out.old + count (all_stated items.now)) }
+{
+    let mut rest = items;
+    'items: while let Some((x, more)) = split(rest) {
+        gather_one(out, x)?;
+        rest = more;
+    }
+    Ok(())
+}
+
+/// Adds the bodies in a statement.
+#[cycle(gatherings)]
+#[tactic(auto, using(crate::proofs::Stateds::body_rules, crate::proofs::Gathers::inner_none))]
+fn gather_one<'a>(out: &mut Items<Body<'a>>, x: &'a Stmt) -> Result<(), NoMemory>
+    ensures bodies { OnOk result (numbered 0 out.new ≡ numbered 0 out.old ++ (stated x.now).inner (length out.old)) }
+    ensures more { OnOk result (length out.new ≡ length out.old + (stated x.now).bodies) }
+{
+    match x {
+        Stmt::If(arms, other) => {
+            gather_arms(out, arms.as_slice())?;
+            gather(out, clause_body(other))?;
+            Ok(())
+        }
+        Stmt::While(arm, other) => {
+            gather(out, arm.body.as_slice())?;
+            gather(out, clause_body(other))?;
+            Ok(())
+        }
+        Stmt::For(_, _, _, body, other) => {
+            gather(out, body.as_slice())?;
+            gather(out, clause_body(other))?;
+            Ok(())
+        }
+        Stmt::Try(block, handlers, other, last) => {
+            gather_try(out, block, handlers.as_slice(), other)?;
+            gather(out, clause_body(last))?;
+            Ok(())
+        }
+        Stmt::Def(line, name, params, body) => {
+            let params = number(params.len())?;
+            let body = body.as_slice();
+            add(out, *line, name.as_slice(), false, params, body)?;
+            gather(out, body)?;
+            Ok(())
+        }
+        Stmt::Class(line, name, _, body) => {
+            let body = body.as_slice();
+            add(out, *line, name.as_slice(), true, 0, body)?;
+            gather(out, body)?;
+            Ok(())
+        }
+        Stmt::Do(_, _) | Stmt::Assign(_, _, _) | Stmt::Augment(_, _, _, _) | Stmt::Print(_, _, _) | Stmt::Pass(_) | Stmt::Break(_) | Stmt::Continue(_) | Stmt::Return(_, _) | Stmt::Raise(_, _, _) | Stmt::Del(_, _) | Stmt::Global(_, _) | Stmt::Assert(_, _, _) | Stmt::Import(_, _) | Stmt::From(_, _, _) => Ok(()),
+    }
+}
+
+/// A count as a number of 32 bits. No list in memory is too long for it.
+fn number(n: usize) -> Result<u32, NoMemory>
+    ensures same { IfOk result (λ c. c ≡ n) }
+{
+    match u32::try_from(n) {
+        Ok(c) => Ok(c),
+        Err(_) => Err(AllocError),
+    }
+}
+
+/// Adds a body.
+fn add<'a>(
+    out: &mut Items<Body<'a>>,
+    line: u32,
+    name: &'a [u8],
+    is_class: bool,
+    params: u32,
+    block: &'a [Stmt],
+) -> Result<(), NoMemory>
+    ensures bodies { OnOk result (numbered 0 out.new ≡ numbered 0 out.old ++ record { line = line; name = name.now; is_class = is_class; params = params; block = λ n. (stated_block block.now).code n [] (length out.old + 1) } ∷ []) }
+    ensures more { OnOk result (length out.new ≡ length out.old + 1) }
+{
+    out.push(Body {
+        line,
+        name,
+        is_class,
+        params,
+        block,
+    })?;
+    Ok(())
+}
+
+/// Adds the bodies in the arms of an `if`.
+#[cycle(gatherings)]
+fn gather_arms<'a>(out: &mut Items<Body<'a>>, items: &'a [Arm]) -> Result<(), NoMemory>
+    ensures bodies { OnOk result (numbered 0 out.new ≡ numbered 0 out.old ++ armed_inner (stated_arms items.now) (length out.old)) }
+    ensures more { OnOk result (length out.new ≡ length out.old + armed_count (stated_arms items.now)) }
+{
+    let mut rest = items;
+    'items: while let Some((x, more)) = split(rest) {
+        gather(out, x.body.as_slice())?;
+        rest = more;
+    }
+    Ok(())
+}
+
+/// Adds the bodies in except clauses.
+#[cycle(gatherings)]
+fn gather_handlers<'a>(out: &mut Items<Body<'a>>, items: &'a [Handler]) -> Result<(), NoMemory>
+    ensures bodies { OnOk result (numbered 0 out.new ≡ numbered 0 out.old ++ handled_inner (stated_handlers items.now) (length out.old)) }
+    ensures more { OnOk result (length out.new ≡ length out.old + handled_count (stated_handlers items.now)) }
+{
+    let mut rest = items;
+    'items: while let Some((x, more)) = split(rest) {
+        gather(out, x.body.as_slice())?;
+        rest = more;
+    }
+    Ok(())
+}
+
+/// Adds the bodies in a `try` without its finally. Without except clauses it has no else.
+#[cycle(gatherings)]
+fn gather_try<'a>(
+    out: &mut Items<Body<'a>>,
+    block: &'a Clause,
+    handlers: &'a [Handler],
+    other: &'a Option<Clause>,
+) -> Result<(), NoMemory>
+    ensures bodies { OnOk result (numbered 0 out.new ≡ numbered 0 out.old ++ (tried_of block.now handlers.now other.now).inner (length out.old)) }
+    ensures more { OnOk result (length out.new ≡ length out.old + (tried_of block.now handlers.now other.now).bodies) }
+{
+    match split(handlers) {
+        None => {
+            gather(out, block.body.as_slice())?;
+            Ok(())
+        }
+        Some(_) => {
+            gather(out, block.body.as_slice())?;
+            gather_handlers(out, handlers)?;
+            gather(out, clause_body(other))?;
+            Ok(())
+        }
+    }
 }

@@ -8,13 +8,14 @@ ghost use Rattle.py_compile.specs.Statements.{stated_block};
 ghost use Rattle.py_compile.specs.Table.{body_code, module_code};
 ghost use Rattle.py_compile.specs.Whole.{code_at, large_at, least, slots_named, whole};
 
+use crate::around::Around;
 use crate::bodies::Body;
 use crate::draft::Draft;
 use crate::emitter::Emitter;
 use crate::error::{CompileError, Fault, too_large};
 use crate::expression::operand;
 use crate::names::{NameSet, Names, split};
-use crate::statement::{Around, block};
+use crate::statement::block;
 use crate::tally::Tally;
 use py_code::{Code, Codes, Constant, Instr, KeyLists, Keys, Texts};
 use py_data::{Bytes, NoMemory, Refusal};

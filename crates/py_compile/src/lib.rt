@@ -1,6 +1,7 @@
 //! From trees to programs, by a table of templates with labels.
 #![tactic(auto)]
 
+mod around;
 mod bodies;
 mod body_uses;
 mod codes;
@@ -15,6 +16,7 @@ mod home;
 #[cfg(test)]
 mod name_tests;
 mod names;
+mod parts;
 mod roots;
 mod simple;
 mod statement;

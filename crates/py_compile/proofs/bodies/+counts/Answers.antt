@@ -1,0 +1,27 @@
+use Rattle.std.proofs.Common.{◌≡◌, ◌<◌, ◌+◌, arith, ap, ◌∙◌}
+use Rattle.std.proofs.lemmas.Grind.{common_steps}
+use Rattle.py_compile.specs.Statements.{stated}
+use Rattle.py_compile.specs.Weights.{weight, weights_handlers}
+use Rattle.py_compile.proofs.Stateds.{bodies_try, weight_try}
+use Rattle.py_compile.proofs.bodies.+counts.Goals as goal
+
+pub bodies_in-bodies_in_try-requires : goal.bodies_in-bodies_in_try-requires
+bodies_in-bodies_in_try-requires t c =
+    let w = ap weight c.in-Try.is ∙ weight_try c.in-Try.block c.in-Try.handlers c.in-Try.other c.in-Try.last in
+    let f = ap weights_handlers c.as_slice-in-Try.ensures in
+    grind (arith, common_steps)
+
+pub bodies_in-bodies_in_block-requires-in-Try : goal.bodies_in-bodies_in_block-requires-in-Try
+bodies_in-bodies_in_block-requires-in-Try t c =
+    let w = ap weight c.in-Try.is ∙ weight_try c.in-Try.block c.in-Try.handlers c.in-Try.other c.in-Try.last in
+    let f = c.clause_body-in-Try.ensures.weight in
+    grind (arith, common_steps)
+
+pub bodies_in-returns-in_ok-n-in-Try-clause-same : goal.bodies_in-returns-in_ok-n-in-Try-clause-same
+bodies_in-returns-in_ok-n-in-Try-clause-same t c =
+    let e = ap (λ z. (stated z).bodies) c.in-Try.is ∙ bodies_try c.in-Try.block c.in-Try.handlers c.in-Try.other c.in-Try.last in
+    let f = ap (λ z. z.bodies) c.clause_body-in-Try.ensures.same in
+    let g = rw c.as_slice-in-Try.ensures at c.in_ok-a-in-Try.ensures.same in
+    let h = c.in_ok-b-in-Try.ensures.same in
+    let k = c.in_ok-n-in-Try.ensures.same in
+    grind (arith, common_steps)

@@ -1,0 +1,13 @@
+use Rattle.std.proofs.Common.{rules, ◌≡◌, ◌<◌, ◌≤◌, ◌+◌, ◌∷◌, ◌++◌, [], ℕ, List, map, length, arith, refl, ap, sym, subst, ◌∙◌}
+use Rattle.std.proofs.lemmas.Grind.{common_steps}
+use Rattle.py_compile.specs.State.{no_frames, put, opened, frame_there}
+use Rattle.py_compile.specs.Expressions.{value, values, stored}
+use Rattle.py_compile.proofs.Rests.{Rest, rest_start, rest_step, rest_end}
+use Rattle.py_compile.proofs.StmtArms.{alone_arm, also_arm, assign_arm, deletion_arm, change_arm, print_arm, print_line_arm, raise_one_arm, raise_two_arm, import_arm, def_arm, class_arm, assert_alone_arm, assert_with_arm, nothing_arm, puts_more}
+use Rattle.py_compile.proofs.simple.assign.Goals as goal
+use Rattle.py_compile.specs.Statements.{last_target, stores_before}
+
+pub returns-in_ok-store_in_turn-in-Some-clause-done : goal.returns-in_ok-store_in_turn-in-Some-clause-done
+returns-in_ok-store_in_turn-in-Some-clause-done c env =
+    let (m, h1, (m2, h2, e)) = c.in_ok-store_in_turn-in-Some.ensures.done in
+    rw c.in-Some.ensures (assign_arm c.args.line env (value c.args.names.now c.args.line c.args.x.now) (stores_before c.args.names.now c.args.line c.in-Some.first.now c.in-Some.more.now) (stored c.args.names.now c.args.line (last_target c.in-Some.first.now c.in-Some.more.now)) c.args.e.now _ _ _ c.in_ok-expression-in-Some.ensures.done h1 (rw e at h2))

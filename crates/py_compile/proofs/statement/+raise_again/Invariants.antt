@@ -1,0 +1,5 @@
+use Rattle.py_compile.specs.Weights.{outside}
+use Rattle.py_compile.proofs.statement.+raise_again.Given as goal
+
+abbrev pub decreases-raise_again : goal.decreases-raise_again
+decreases-raise_again l = outside l.around.now
