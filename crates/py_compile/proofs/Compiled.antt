@@ -1,8 +1,8 @@
 -- What a program is put together from: what was used, the codes one after another, and roots.
-use Rattle.std.proofs.Common.{◌≡◌, ◌≢◌, ℕ, zero, suc, ◌+◌, ◌<◌, ◌≤◌, ◌==◌, List, [], ◌∷◌, ◌++◌, Option, Some, None, Bool, true, false, length, get_or, refl, sym, ap, ◌∙◌, arith, length-append, length-set, append_assoc, append-nil, map, take, subst, ◌-◌}
-use Rattle.std.specs.Prelude.{if◌then◌else◌, slice_set, min, unwrap_or, nat_lt, replicate}
+use Rattle.std.proofs.Common.{◌≡◌, ◌≢◌, ℕ, zero, suc, ◌+◌, ◌<◌, ◌≤◌, ◌==◌, List, [], ◌∷◌, ◌++◌, Option, Some, None, Bool, true, false, length, get_or, refl, sym, ap, ◌∙◌, arith, length-append, length-set, map, take, subst, ◌-◌}
+use Rattle.std.specs.Prelude.{if◌then◌else◌, slice_set, min, unwrap_or, replicate}
 use Rattle.std.proofs.lemmas.Bool.{eqb-true}
-use Rattle.std.proofs.lemmas.List.{get_or-set_same, get_or-set_other, map-append, take_more, length-map, length-replicate, get_or-replicate}
+use Rattle.std.proofs.lemmas.List.{get_or-set_same, get_or-set_other, take_more, length-map, length-replicate, get_or-replicate}
 use Rattle.py_code.specs.declared.instr.Instr.{Instr}
 use Rattle.py_code.specs.declared.program.Code.{Code}
 use Rattle.py_compile.specs.declared.bodies.Body.{Body as Gathered}
@@ -118,6 +118,7 @@ pub numbered_next : (bs : List Gathered) (i : ℕ) (d : Gathered) → i < length
 numbered_next bs i d lt =
     let n : 0 + length (take i bs) ≡ i = omega (arith, length_take_below bs i lt) in
     ap (numbered 0) (take_more bs i d lt) ∙ numbered_more 0 (take i bs) (get_or bs i d) ∙ ap (λ k. numbered 0 (take i bs) ++ body_of k (get_or bs i d) ∷ []) n
+
 min_both : (a b c : ℕ) → min (min a b) c ≡ min a (min b c)
 min_both a b c = omega arith
 
@@ -279,8 +280,11 @@ classes_more c (suc n) =
     ap (class_roots c) f ∙ ap (λ z. class_roots c 1 ++ z) (classes_more (c + 1) n) ∙ ap (λ k. class_roots c (suc n) ++ class_roots k 1) e
 
 pub roots_count : (texts cells : List (List ℕ)) → length (roots_of texts cells) ≡ first_cell texts cells + length cells
-roots_count texts cells = omega (arith,
-    length-append (class_roots 0 20 ++ map text_root (texts ++ main_texts cells)) (map cell_root cells),
-    length-append (class_roots 0 20) (map text_root (texts ++ main_texts cells)),
-    length-append texts (main_texts cells),
-    length-map (texts ++ main_texts cells) text_root, length-map cells cell_root)
+roots_count texts cells = omega (
+  arith,
+  length-append (class_roots 0 20 ++ map text_root (texts ++ main_texts cells)) (map cell_root cells),
+  length-append (class_roots 0 20) (map text_root (texts ++ main_texts cells)),
+  length-append texts (main_texts cells),
+  length-map (texts ++ main_texts cells) text_root,
+  length-map cells cell_root,
+)

@@ -1,5 +1,5 @@
 -- What `compile` answers is the program of the module, or the line of what is too large.
-use Rattle.std.proofs.Common.{◌≡◌, ℕ, ◌<◌, ◌≤◌, List, [], Option, Some, None, Bool, true, false, Result, Ok, Err, length, get_or, refl, sym, ap, ◌∙◌, subst, arith}
+use Rattle.std.proofs.Common.{◌≡◌, ℕ, ◌<◌, ◌≤◌, List, [], Some, Bool, true, false, Result, Ok, Err, length, refl, sym, ap, ◌∙◌, subst, arith}
 use Rattle.std.specs.Prelude.{if◌then◌else◌, nat_lt, option_map}
 use Rattle.std.specs.List.{list_any}
 use Rattle.py_data.specs.declared.refusal.Refusal.TheVariants.{TooLarge}
@@ -86,7 +86,7 @@ module _ (scopes : List Scope) (m : Module) (bs : List Gathered) (eb : numbered 
       program_is =
           let n = length_numbered 0 bs in
           let cs : codes_from (known_in locals used) 0 (numbered 0 bs) ≡ codes_from (names_of (bound_in scopes) m.body) 0 (bodies m.body) =
-              codes_same (known_in locals used) (names_of (bound_in scopes) m.body) (length bs) same 0 (numbered 0 bs) (omega (arith, n)) ∙ ap (codes_from (names_of (bound_in scopes) m.body) 0) eb in
+          codes_same (known_in locals used) (names_of (bound_in scopes) m.body) (length bs) same 0 (numbered 0 bs) (omega (arith, n)) ∙ ap (codes_from (names_of (bound_in scopes) m.body) 0) eb in
           λ i. record { codes = sym cs i; roots = sym roots_are i }
 
       pub compiles_err : (e : CompileError) → too_large_in (bound_in scopes) m ≡ large_bodies (known_in locals used) 0 (numbered 0 bs) →

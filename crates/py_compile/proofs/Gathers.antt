@@ -1,5 +1,5 @@
 -- Bodies behind bodies.
-use Rattle.std.proofs.Common.{◌≡◌, ℕ, ◌+◌, List, [], ◌∷◌, ◌++◌, length, refl, sym, ap, ◌∙◌, append_assoc, append-nil, arith}
+use Rattle.std.proofs.Common.{◌≡◌, ℕ, ◌+◌, List, [], ◌∷◌, ◌++◌, length, sym, ap, ◌∙◌, append_assoc, append-nil, arith}
 use Rattle.py_compile.specs.declared.bodies.Body.{Body as DeclaredBody}
 use Rattle.py_compile.specs.Statements.{Body, Stated}
 use Rattle.py_compile.specs.Gathered.{body_of, numbered}

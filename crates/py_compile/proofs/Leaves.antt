@@ -1,13 +1,13 @@
 -- The ways out of constructs, and a raise alone.
 use Rattle.std.specs.Prelude.{IfOk, Result, Ok, Err}
-use Rattle.std.proofs.Common.{◌≡◌, ℕ, ◌+◌, List, [], ◌∷◌, refl, length, arith}
+use Rattle.std.proofs.Common.{◌≡◌, ℕ, ◌+◌, List, [], ◌∷◌, refl, arith}
 use Rattle.py_code.specs.declared.instr.Instr.TheVariants.{Pop, LoadLocal, Jump, PopTry, Raise}
 use Rattle.py_compile.specs.declared.draft.Draft.TheVariants.{Op as DraftOp, To as DraftTo}
 use Rattle.py_compile.specs.declared.draft.Far.TheVariants.{Always}
 use Rattle.py_compile.specs.declared.around.Way.{Way}
 use Rattle.py_compile.specs.declared.around.Way.TheVariants.{Break, Continue, Out}
 use Rattle.py_compile.specs.Template.{Frame, Piece, Op, Hidden, To, Sub}
-use Rattle.py_compile.specs.Table.{nothing, Around, InWhile, InFor, InTry, InClause, InFinally, break_code, continue_code, leaves, raise_again}
+use Rattle.py_compile.specs.Table.{Around, InWhile, InFor, InTry, InClause, InFinally, break_code, continue_code, leaves, raise_again}
 use Rattle.py_compile.specs.Rounds.{leaving}
 use Rattle.py_compile.specs.State.{St, put, Emitted, frame_there}
 use Rattle.py_compile.proofs.Emits.{plain_emitted}

@@ -1,20 +1,18 @@
 -- What is put part by part is the template: one lemma for each template of statements.
-use Rattle.std.proofs.Common.{◌≡◌, ℕ, ◌+◌, ◌<◌, map, List, [], ◌∷◌, ◌++◌, Option, Some, None, Bool, true, false, refl, length, ap, sym, subst, arith}
-use Rattle.py_code.specs.declared.instr.Instr.{Instr}
+use Rattle.std.proofs.Common.{◌≡◌, ℕ, ◌+◌, map, List, [], ◌∷◌, ◌++◌, Option, Some, None, refl, length, sym, subst}
 use Rattle.py_code.specs.declared.instr.Constant.{Constant}
 use Rattle.py_code.specs.declared.instr.Constant.TheVariants.{Root}
 use Rattle.py_code.specs.declared.instr.Instr.TheVariants.{Pop, Dup, Not, Const, Call, LoadLocal, StoreLocal, Jump, JumpFalse, Iter, Next, Try, PopTry, ExcMatch, MakeRaised, Raise, Return, PrintItem, PrintNewline, MakeFunction, ClassBody}
 use Rattle.py_compile.specs.declared.home.Home.{Home}
 use Rattle.py_compile.specs.declared.draft.Draft.TheVariants.{Op as DraftOp, To as DraftTo}
-use Rattle.py_compile.specs.declared.draft.Far.{Far}
 use Rattle.py_compile.specs.declared.draft.Far.TheVariants.{Always, Trying}
-use Rattle.py_compile.specs.Template.{Frame, Piece, Part, Op, Hidden, To, Here, Alone, Sub, row, template}
+use Rattle.py_compile.specs.Template.{Frame, Piece, Part, Op, Hidden, To, Here, Alone, Sub, row}
 use Rattle.py_compile.specs.Table.{nothing, also, assign, expression, print_one, print_line, raise_one, raise_two, assert_alone, assert_with, import_one, store, def, class, arm, all_arms, while, for, try_except, try_finally, return, leaves, Around}
 use Rattle.py_compile.specs.Names.{Known}
 use Rattle.py_compile.specs.Expressions.{Place, AtName, AtAttr, AtItem, Spread, NoPlace, add_at, value, stored}
 use Rattle.py_compile.specs.Statements.{deletion, clause}
-use Rattle.py_compile.specs.State.{St, put, marked, opened, jump_of, Emitted, no_frames, frame_there}
-use Rattle.py_compile.specs.Partly.{IsPut, Puts}
+use Rattle.py_compile.specs.State.{St, put, marked, opened, Emitted, no_frames, frame_there}
+use Rattle.py_compile.specs.Partly.{Puts}
 use Rattle.py_compile.specs.Heads.{HandlerHead, HandlerTail}
 use Rattle.py_tree.specs.declared.expr.Expr.{Expr}
 use Rattle.py_compile.proofs.Emits.{template_emitted, plain_emitted}

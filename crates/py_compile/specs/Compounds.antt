@@ -1,11 +1,11 @@
 -- The code of compound statements over the tree. It belongs to `Statements`.
-use Rattle.std.specs.Prelude.{ℕ, ◌+◌, List, [], ◌∷◌, Option, Some, None}
+use Rattle.std.specs.Prelude.{ℕ, ◌+◌, List, ◌∷◌, Option}
 use Rattle.py_tree.specs.declared.expr.Expr.{Expr}
 use Rattle.py_tree.specs.declared.stmt.Stmt.{Stmt}
 use Rattle.py_tree.specs.declared.stmt.Arm.{Arm}
 use Rattle.py_tree.specs.declared.stmt.Clause.{Clause}
 use Rattle.py_tree.specs.declared.stmt.Handler.{Handler}
-use Rattle.py_compile.specs.Template.{Piece, row}
+use Rattle.py_compile.specs.Template.{Piece}
 use Rattle.py_compile.specs.Table.{all_arms, while, for, try_finally, Around, InWhile, InFor, InFinally}
 use Rattle.py_compile.specs.Names.{Known}
 use Rattle.py_compile.specs.Expressions.{value, stored}

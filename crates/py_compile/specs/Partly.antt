@@ -1,5 +1,5 @@
 -- The parts of a template, put one after another. It belongs to `Template` and `State`.
-use Rattle.std.specs.Prelude.{◌≡◌, ℕ, zero, suc, ◌+◌, List, [], ◌∷◌, ◌++◌, drop, get_or, Option, Some, None}
+use Rattle.std.specs.Prelude.{◌≡◌, ℕ, List, [], ◌∷◌, drop, get_or}
 use Rattle.py_compile.specs.declared.draft.Draft.TheVariants.{Op as DraftOp, To as DraftTo}
 use Rattle.py_compile.specs.declared.draft.Far.{Far}
 use Rattle.py_compile.specs.Template.{Frame, Part, Op, Hidden, To, Here, Alone, Sub, label_at, slot_at}

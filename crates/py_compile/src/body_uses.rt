@@ -13,7 +13,12 @@ use std::alloc::Global;
 
 /// What the defaults of parameters use.
 #[tactic(auto, using(crate::proofs::Tallying::tally_append))]
-fn defaults<'a>(out: &mut Tally<'a>, all: &[NameSet], b: Place, items: &'a [Param]) -> Result<(), NoMemory>
+fn defaults<'a>(
+    out: &mut Tally<'a>,
+    all: &[NameSet],
+    b: Place,
+    items: &'a [Param],
+) -> Result<(), NoMemory>
     ensures { OnOk result (out.new ≡ tally out.old (read_defaults (inside all.now b) items.now)) }
 {
     let mut rest = items;
@@ -26,7 +31,12 @@ fn defaults<'a>(out: &mut Tally<'a>, all: &[NameSet], b: Place, items: &'a [Para
 
 /// What an import uses.
 #[tactic(auto, using(crate::proofs::Tallying::tally_append))]
-fn imports<'a>(out: &mut Tally<'a>, all: &[NameSet], b: Place, items: &'a [Imported]) -> Result<(), NoMemory>
+fn imports<'a>(
+    out: &mut Tally<'a>,
+    all: &[NameSet],
+    b: Place,
+    items: &'a [Imported],
+) -> Result<(), NoMemory>
     ensures { OnOk result (out.new ≡ tally out.old (import_use (inside all.now b) items.now)) }
 {
     let mut rest = items;
@@ -40,7 +50,12 @@ fn imports<'a>(out: &mut Tally<'a>, all: &[NameSet], b: Place, items: &'a [Impor
 /// What a statement uses.
 #[cycle(statements)]
 #[tactic(auto, using(crate::proofs::UsedStatements::stmt_rules, crate::proofs::Tallying::tally_append))]
-fn statement<'a>(out: &mut Tally<'a>, all: &[NameSet], b: Place, x: &'a Stmt) -> Result<(), NoMemory>
+fn statement<'a>(
+    out: &mut Tally<'a>,
+    all: &[NameSet],
+    b: Place,
+    x: &'a Stmt,
+) -> Result<(), NoMemory>
     ensures { OnOk result (out.new ≡ done out.old (inside all.now b) (stmt_uses (locals_in all.now) x.now)) }
 {
     match x {
@@ -119,7 +134,12 @@ fn statement<'a>(out: &mut Tally<'a>, all: &[NameSet], b: Place, x: &'a Stmt) ->
 /// What the statements of a block use.
 #[cycle(statements)]
 #[tactic(auto, using(crate::proofs::Tallying::tally_append))]
-pub fn block<'a>(out: &mut Tally<'a>, all: &[NameSet], b: Place, items: &'a [Stmt]) -> Result<(), NoMemory>
+pub fn block<'a>(
+    out: &mut Tally<'a>,
+    all: &[NameSet],
+    b: Place,
+    items: &'a [Stmt],
+) -> Result<(), NoMemory>
     ensures { OnOk result (out.new ≡ done out.old (inside all.now b) (block_uses all.now items.now)) }
 {
     let mut rest = items;
@@ -144,7 +164,12 @@ fn arm<'a>(out: &mut Tally<'a>, all: &[NameSet], b: Place, x: &'a Arm) -> Result
 /// What the arms of an `if` use.
 #[cycle(statements)]
 #[tactic(auto, using(crate::proofs::Tallying::tally_append))]
-fn arms<'a>(out: &mut Tally<'a>, all: &[NameSet], b: Place, items: &'a [Arm]) -> Result<(), NoMemory>
+fn arms<'a>(
+    out: &mut Tally<'a>,
+    all: &[NameSet],
+    b: Place,
+    items: &'a [Arm],
+) -> Result<(), NoMemory>
     ensures { OnOk result (out.new ≡ done out.old (inside all.now b) (arms_uses all.now items.now)) }
 {
     let mut rest = items;
@@ -157,7 +182,12 @@ fn arms<'a>(out: &mut Tally<'a>, all: &[NameSet], b: Place, items: &'a [Arm]) ->
 
 /// What an `else` or `finally` uses, if there is one.
 #[cycle(statements)]
-fn clause<'a>(out: &mut Tally<'a>, all: &[NameSet], b: Place, x: &'a Option<Clause>) -> Result<(), NoMemory>
+fn clause<'a>(
+    out: &mut Tally<'a>,
+    all: &[NameSet],
+    b: Place,
+    x: &'a Option<Clause>,
+) -> Result<(), NoMemory>
     ensures { OnOk result (out.new ≡ done out.old (inside all.now b) (clause_uses all.now x.now)) }
 {
     match x {
@@ -169,7 +199,12 @@ fn clause<'a>(out: &mut Tally<'a>, all: &[NameSet], b: Place, x: &'a Option<Clau
 /// What `except` clauses use.
 #[cycle(statements)]
 #[tactic(auto, using(crate::proofs::Tallying::tally_append))]
-fn handlers<'a>(out: &mut Tally<'a>, all: &[NameSet], b: Place, items: &'a [Handler]) -> Result<(), NoMemory>
+fn handlers<'a>(
+    out: &mut Tally<'a>,
+    all: &[NameSet],
+    b: Place,
+    items: &'a [Handler],
+) -> Result<(), NoMemory>
     ensures { OnOk result (out.new ≡ done out.old (inside all.now b) (handlers_uses all.now items.now)) }
 {
     let mut rest = items;
@@ -183,7 +218,12 @@ fn handlers<'a>(out: &mut Tally<'a>, all: &[NameSet], b: Place, items: &'a [Hand
 /// What an `except` clause uses.
 #[cycle(statements)]
 #[tactic(auto, using(crate::proofs::Tallying::tally_append))]
-fn handler<'a>(out: &mut Tally<'a>, all: &[NameSet], b: Place, x: &'a Handler) -> Result<(), NoMemory>
+fn handler<'a>(
+    out: &mut Tally<'a>,
+    all: &[NameSet],
+    b: Place,
+    x: &'a Handler,
+) -> Result<(), NoMemory>
     ensures { OnOk result (out.new ≡ done out.old (inside all.now b) (handler_uses all.now x.now)) }
 {
     some(out, all, b, Role::Read, &x.test)?;
@@ -193,7 +233,12 @@ fn handler<'a>(out: &mut Tally<'a>, all: &[NameSet], b: Place, x: &'a Handler) -
 }
 
 /// What a module uses, whose bodies bind these names and are so many.
-pub fn module<'a>(alloc: Global, all: &[NameSet], count: usize, items: &'a [Stmt]) -> Result<Tally<'a>, NoMemory>
+pub fn module<'a>(
+    alloc: Global,
+    all: &[NameSet],
+    count: usize,
+    items: &'a [Stmt],
+) -> Result<Tally<'a>, NoMemory>
     ensures texts { IfOk result (λ t. t.texts ≡ texts_from [] (module_uses (locals_in all.now) items.now)) }
     ensures cells { IfOk result (λ t. t.cells ≡ cells_from [] (module_uses (locals_in all.now) items.now)) }
     ensures keys { IfOk result (λ t. Listed count t.keys (module_uses (locals_in all.now) items.now)) }

@@ -58,12 +58,7 @@ fn emit(e: &mut Emitter, names: &Names, number: usize, body: &Body) -> Result<()
 }
 
 /// The named slots, and so many hidden ones.
-fn slots(
-    alloc: Global,
-    is_class: bool,
-    locals: &NameSet,
-    hidden: u32,
-) -> Result<Texts, NoMemory>
+fn slots(alloc: Global, is_class: bool, locals: &NameSet, hidden: u32) -> Result<Texts, NoMemory>
     ensures { IfOk result (λ out. out ≡ slots_named is_class locals.now ++ replicate hidden []) }
 {
     let mut out = Texts::new(alloc);

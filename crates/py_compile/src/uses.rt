@@ -19,7 +19,13 @@ pub enum Role {
 /// What an expression uses.
 #[cycle(uses)]
 #[tactic(auto, using(crate::proofs::Used::used_rules, crate::proofs::Tallying::tally_append))]
-pub fn expression<'a>(out: &mut Tally<'a>, all: &[NameSet], b: Place, role: Role, x: &'a Expr) -> Result<(), NoMemory>
+pub fn expression<'a>(
+    out: &mut Tally<'a>,
+    all: &[NameSet],
+    b: Place,
+    role: Role,
+    x: &'a Expr,
+) -> Result<(), NoMemory>
     ensures { OnOk result (out.new ≡ tally out.old (told role (inside all.now b) x.now)) }
 {
     match x {
@@ -62,7 +68,13 @@ pub fn expression<'a>(out: &mut Tally<'a>, all: &[NameSet], b: Place, role: Role
 /// What these use, one after another.
 #[cycle(uses)]
 #[tactic(auto, using(crate::proofs::Tallying::tally_append, crate::proofs::Used::told_all_cons))]
-pub fn expressions<'a>(out: &mut Tally<'a>, all: &[NameSet], b: Place, role: Role, items: &'a [Expr]) -> Result<(), NoMemory>
+pub fn expressions<'a>(
+    out: &mut Tally<'a>,
+    all: &[NameSet],
+    b: Place,
+    role: Role,
+    items: &'a [Expr],
+) -> Result<(), NoMemory>
     ensures { OnOk result (out.new ≡ tally out.old (told_all role (inside all.now b) items.now)) }
 {
     let mut rest = items;
@@ -76,7 +88,12 @@ pub fn expressions<'a>(out: &mut Tally<'a>, all: &[NameSet], b: Place, role: Rol
 /// What the keys and values of a dictionary use.
 #[cycle(uses)]
 #[tactic(auto, using(crate::proofs::Tallying::tally_append))]
-fn pairs<'a>(out: &mut Tally<'a>, all: &[NameSet], b: Place, items: &'a [Pair]) -> Result<(), NoMemory>
+fn pairs<'a>(
+    out: &mut Tally<'a>,
+    all: &[NameSet],
+    b: Place,
+    items: &'a [Pair],
+) -> Result<(), NoMemory>
     ensures { OnOk result (out.new ≡ tally out.old (read_pairs (inside all.now b) items.now)) }
 {
     let mut rest = items;
@@ -91,7 +108,12 @@ fn pairs<'a>(out: &mut Tally<'a>, all: &[NameSet], b: Place, items: &'a [Pair]) 
 /// What the operands behind operators use.
 #[cycle(uses)]
 #[tactic(auto, using(crate::proofs::Tallying::tally_append))]
-fn links<'a>(out: &mut Tally<'a>, all: &[NameSet], b: Place, items: &'a [Link]) -> Result<(), NoMemory>
+fn links<'a>(
+    out: &mut Tally<'a>,
+    all: &[NameSet],
+    b: Place,
+    items: &'a [Link],
+) -> Result<(), NoMemory>
     ensures { OnOk result (out.new ≡ tally out.old (read_links (inside all.now b) items.now)) }
 {
     let mut rest = items;
@@ -105,7 +127,12 @@ fn links<'a>(out: &mut Tally<'a>, all: &[NameSet], b: Place, items: &'a [Link]) 
 /// What trailers use.
 #[cycle(uses)]
 #[tactic(auto, using(crate::proofs::Tallying::tally_append))]
-fn trailers<'a>(out: &mut Tally<'a>, all: &[NameSet], b: Place, items: &'a [Trailer]) -> Result<(), NoMemory>
+fn trailers<'a>(
+    out: &mut Tally<'a>,
+    all: &[NameSet],
+    b: Place,
+    items: &'a [Trailer],
+) -> Result<(), NoMemory>
     ensures { OnOk result (out.new ≡ tally out.old (read_trailers (inside all.now b) items.now)) }
 {
     let mut rest = items;
@@ -119,7 +146,12 @@ fn trailers<'a>(out: &mut Tally<'a>, all: &[NameSet], b: Place, items: &'a [Trai
 /// What a trailer uses.
 #[cycle(uses)]
 #[tactic(auto, using(crate::proofs::Used::used_rules, crate::proofs::Tallying::tally_append))]
-fn trailer<'a>(out: &mut Tally<'a>, all: &[NameSet], b: Place, x: &'a Trailer) -> Result<(), NoMemory>
+fn trailer<'a>(
+    out: &mut Tally<'a>,
+    all: &[NameSet],
+    b: Place,
+    x: &'a Trailer,
+) -> Result<(), NoMemory>
     ensures { OnOk result (out.new ≡ tally out.old (used_trailer (inside all.now b) x.now)) }
 {
     match x {
@@ -141,7 +173,12 @@ fn trailer<'a>(out: &mut Tally<'a>, all: &[NameSet], b: Place, x: &'a Trailer) -
 
 /// What a slice's bound uses.
 #[cycle(uses)]
-fn bound<'a>(out: &mut Tally<'a>, all: &[NameSet], b: Place, x: &'a Option<Boxed<Expr>>) -> Result<(), NoMemory>
+fn bound<'a>(
+    out: &mut Tally<'a>,
+    all: &[NameSet],
+    b: Place,
+    x: &'a Option<Boxed<Expr>>,
+) -> Result<(), NoMemory>
     ensures { OnOk result (out.new ≡ tally out.old (read_some (inside all.now b) x.now)) }
 {
     match x {
@@ -153,7 +190,12 @@ fn bound<'a>(out: &mut Tally<'a>, all: &[NameSet], b: Place, x: &'a Option<Boxed
 /// What keyword arguments use.
 #[cycle(uses)]
 #[tactic(auto, using(crate::proofs::Tallying::tally_append))]
-fn keywords<'a>(out: &mut Tally<'a>, all: &[NameSet], b: Place, items: &'a [Named]) -> Result<(), NoMemory>
+fn keywords<'a>(
+    out: &mut Tally<'a>,
+    all: &[NameSet],
+    b: Place,
+    items: &'a [Named],
+) -> Result<(), NoMemory>
     ensures { OnOk result (out.new ≡ tally out.old (read_named (inside all.now b) items.now)) }
 {
     let mut rest = items;
@@ -166,7 +208,13 @@ fn keywords<'a>(out: &mut Tally<'a>, all: &[NameSet], b: Place, items: &'a [Name
 }
 
 /// What an expression uses, if there is one.
-pub fn some<'a>(out: &mut Tally<'a>, all: &[NameSet], b: Place, role: Role, x: &'a Option<Expr>) -> Result<(), NoMemory>
+pub fn some<'a>(
+    out: &mut Tally<'a>,
+    all: &[NameSet],
+    b: Place,
+    role: Role,
+    x: &'a Option<Expr>,
+) -> Result<(), NoMemory>
     ensures { OnOk result (out.new ≡ tally out.old (told_some role (inside all.now b) x.now)) }
 {
     match x {

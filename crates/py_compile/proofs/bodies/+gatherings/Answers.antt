@@ -1,13 +1,9 @@
-use Rattle.std.proofs.Common.{rules, ◌≡◌, ◌<◌, ◌≤◌, ◌+◌, ◌∷◌, ◌++◌, [], ℕ, List, map, length, arith, refl, ap, sym, subst, ◌∙◌}
+use Rattle.std.proofs.Common.{◌+◌, ◌∷◌, ◌++◌, [], length, arith, ap, sym, ◌∙◌}
 use Rattle.std.proofs.lemmas.Grind.{common_steps}
-use Rattle.py_compile.specs.State.{no_frames, put, opened, frame_there}
-use Rattle.py_compile.specs.Expressions.{value, values, stored}
-use Rattle.py_compile.proofs.Rests.{Rest, rest_start, rest_step, rest_end}
-use Rattle.py_compile.proofs.StmtArms.{alone_arm, also_arm, assign_arm, deletion_arm, change_arm, print_arm, print_line_arm, raise_one_arm, raise_two_arm, import_arm, def_arm, class_arm, assert_alone_arm, assert_with_arm, nothing_arm, puts_more}
 use Rattle.py_compile.proofs.bodies.+gatherings.Goals as goal
 use Rattle.py_compile.specs.Gathered.{numbered}
 use Rattle.py_compile.specs.Compounds.{tried_of}
-use Rattle.py_compile.specs.Statements.{all_stated, armed_count, armed_inner, count, inners, stated, stated_arms, stated_handlers}
+use Rattle.py_compile.specs.Statements.{all_stated, armed_count, armed_inner, count, inners, stated, stated_arms}
 use Rattle.py_compile.specs.Weights.{weight, weights_handlers}
 use Rattle.py_compile.proofs.Gathers.{two}
 use Rattle.py_compile.proofs.Stateds.{stated_if, stated_while, stated_for, stated_def, stated_class, bodies_try, inner_try, weight_try}

@@ -31,16 +31,18 @@ arm-returns t c =
     (turn c.args.out.now (inside c.args.all.now c.args.b) (quiet (λ b. read b c.args.x.now.test)) (block_uses c.args.all.now c.as_slice.result.now) c.in_ok-expression.ensures c.in_ok-block.ensures)
 
 pub block-items-preserved : goal.block-items-preserved
-block-items-preserved t c =
-    (turn c.items.out (inside c.args.all.now c.args.b) (stmt_uses (locals_in c.args.all.now) c.in-Some.x.now) (block_uses c.args.all.now c.in-Some.more.now) c.in_ok-statement.ensures refl
-    ∙ ap (λ z. done c.items.out (inside c.args.all.now c.args.b) (block_uses c.args.all.now z)) (sym c.in-Some.ensures) ∙ c.items.invariant.0,
-    (let e = ap talls c.in-Some.ensures in omega (arith, e, c.items.invariant.1)))
+block-items-preserved t c = (
+  turn c.items.out (inside c.args.all.now c.args.b) (stmt_uses (locals_in c.args.all.now) c.in-Some.x.now) (block_uses c.args.all.now c.in-Some.more.now) c.in_ok-statement.ensures refl
+      ∙ ap (λ z. done c.items.out (inside c.args.all.now c.args.b) (block_uses c.args.all.now z)) (sym c.in-Some.ensures) ∙ c.items.invariant.0,
+  (let e = ap talls c.in-Some.ensures in omega (arith, e, c.items.invariant.1)),
+)
 
 pub arms-items-preserved : goal.arms-items-preserved
-arms-items-preserved t c =
-    (turn c.items.out (inside c.args.all.now c.args.b) (arm_uses c.args.all.now c.in-Some.x.now) (arms_uses c.args.all.now c.in-Some.more.now) c.in_ok-arm.ensures refl
-    ∙ ap (λ z. done c.items.out (inside c.args.all.now c.args.b) (arms_uses c.args.all.now z)) (sym c.in-Some.ensures) ∙ c.items.invariant.0,
-    (let e = ap tall_arms c.in-Some.ensures in omega (arith, e, c.items.invariant.1)))
+arms-items-preserved t c = (
+  turn c.items.out (inside c.args.all.now c.args.b) (arm_uses c.args.all.now c.in-Some.x.now) (arms_uses c.args.all.now c.in-Some.more.now) c.in_ok-arm.ensures refl
+      ∙ ap (λ z. done c.items.out (inside c.args.all.now c.args.b) (arms_uses c.args.all.now z)) (sym c.in-Some.ensures) ∙ c.items.invariant.0,
+  (let e = ap tall_arms c.in-Some.ensures in omega (arith, e, c.items.invariant.1)),
+)
 
 pub handler-returns : goal.handler-returns
 handler-returns t c =
@@ -49,10 +51,11 @@ handler-returns t c =
     (two c.args.out.now (read_some (inside c.args.all.now c.args.b) c.args.x.now.test) (target_some (inside c.args.all.now c.args.b) c.args.x.now.target) c.in_ok-some.ensures c.in_ok-some-2.ensures) c.in_ok-block.ensures)
 
 pub handlers-items-preserved : goal.handlers-items-preserved
-handlers-items-preserved t c =
-    (turn c.items.out (inside c.args.all.now c.args.b) (handler_uses c.args.all.now c.in-Some.x.now) (handlers_uses c.args.all.now c.in-Some.more.now) c.in_ok-handler.ensures refl
-    ∙ ap (λ z. done c.items.out (inside c.args.all.now c.args.b) (handlers_uses c.args.all.now z)) (sym c.in-Some.ensures) ∙ c.items.invariant.0,
-    (let e = ap tall_handlers c.in-Some.ensures in omega (arith, e, c.items.invariant.1)))
+handlers-items-preserved t c = (
+  turn c.items.out (inside c.args.all.now c.args.b) (handler_uses c.args.all.now c.in-Some.x.now) (handlers_uses c.args.all.now c.in-Some.more.now) c.in_ok-handler.ensures refl
+      ∙ ap (λ z. done c.items.out (inside c.args.all.now c.args.b) (handlers_uses c.args.all.now z)) (sym c.in-Some.ensures) ∙ c.items.invariant.0,
+  (let e = ap tall_handlers c.in-Some.ensures in omega (arith, e, c.items.invariant.1)),
+)
 
 pub statement-returns-in_ok-clause-in-If : goal.statement-returns-in_ok-clause-in-If
 statement-returns-in_ok-clause-in-If t c =

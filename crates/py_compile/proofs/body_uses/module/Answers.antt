@@ -1,5 +1,3 @@
-use Rattle.py_compile.specs.Tallies.{locals_in}
-use Rattle.py_compile.specs.Uses.{module_uses}
 use Rattle.py_compile.proofs.Compiled.{module_told}
 use Rattle.py_compile.proofs.body_uses.module.Goals as goal
 

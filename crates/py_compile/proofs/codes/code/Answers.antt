@@ -1,4 +1,4 @@
-use Rattle.std.proofs.Common.{◌≡◌, ◌-◌, ap, rules}
+use Rattle.std.proofs.Common.{◌-◌, ap, rules}
 use Rattle.py_compile.specs.Compiles.{known_by}
 use Rattle.py_compile.specs.Gathered.{body_of}
 use Rattle.py_compile.proofs.Compiled.{code_is}

@@ -1,9 +1,8 @@
-use Rattle.std.proofs.Common.{rules, ◌≡◌, ◌<◌, ◌≤◌, ◌+◌, ◌∷◌, ◌++◌, [], ℕ, List, map, length, arith, refl, ap, sym, subst, ◌∙◌}
+use Rattle.std.proofs.Common.{◌∷◌, [], length, arith, refl, ap}
 use Rattle.std.proofs.lemmas.Grind.{common_steps}
-use Rattle.py_compile.specs.State.{no_frames, put, opened, frame_there}
-use Rattle.py_compile.specs.Expressions.{value, values, stored}
-use Rattle.py_compile.proofs.Rests.{Rest, rest_start, rest_step, rest_end}
-use Rattle.py_compile.proofs.StmtArms.{alone_arm, also_arm, assign_arm, deletion_arm, change_arm, print_arm, print_line_arm, raise_one_arm, raise_two_arm, import_arm, def_arm, class_arm, assert_alone_arm, assert_with_arm, nothing_arm, puts_more}
+use Rattle.py_compile.specs.State.{opened, frame_there}
+use Rattle.py_compile.specs.Expressions.{value, stored}
+use Rattle.py_compile.proofs.StmtArms.{puts_more}
 use Rattle.py_compile.proofs.parts.handler_head.Goals as goal
 use Rattle.py_code.specs.declared.instr.Instr.TheVariants.{LoadLocal, JumpFalse, ExcMatch}
 use Rattle.py_compile.specs.Template.{Op, Hidden, To, Alone}
@@ -16,7 +15,9 @@ returns-in_ok-store-in-Some-target-clause-done c =
     let a = ap (λ z. length z.labels) c.in_ok-put-in-Some-target.ensures.done in
     let b = c.in_ok-store-in-Some-target.ensures.done.more in
     let l = c.in_ok-next-in-Some-target.ensures.labels in
-    rw (c.in-Some.is, c.in-Some-target.is)
-    (c.in_ok-next-in-Some-target.ensures.base, grind (arith, common_steps),
-    λ base env. puts_more c.args.x.now.line c.in_ok-next-in-Some-target.next (λ ls. frame_there c.in_ok-next-in-Some-target.next 1 0 ls ∷ frame_there base 2 c.args.slot ls ∷ env ls) (Hidden 1 LoadLocal ∷ Alone (value c.args.names.now c.args.x.now.line c.in-Some.test) ∷ Op ExcMatch ∷ To 0 JumpFalse 0 ∷ []) (Hidden 1 LoadLocal ∷ Alone (stored c.args.names.now c.args.x.now.line c.in-Some-target.target) ∷ []) (opened c.args.e.now 1 0) _ _ (c.in_ok-next-in-Some-target.ensures.done base env)
-    (_, (c.args.slot, λ ls. refl, c.in_ok-put-in-Some-target.ensures.done), (_, c.in_ok-store-in-Some-target.ensures.done, refl)))
+    rw (c.in-Some.is, c.in-Some-target.is) (
+      c.in_ok-next-in-Some-target.ensures.base,
+      grind (arith, common_steps),
+      λ base env. puts_more c.args.x.now.line c.in_ok-next-in-Some-target.next (λ ls. frame_there c.in_ok-next-in-Some-target.next 1 0 ls ∷ frame_there base 2 c.args.slot ls ∷ env ls) (Hidden 1 LoadLocal ∷ Alone (value c.args.names.now c.args.x.now.line c.in-Some.test) ∷ Op ExcMatch ∷ To 0 JumpFalse 0 ∷ []) (Hidden 1 LoadLocal ∷ Alone (stored c.args.names.now c.args.x.now.line c.in-Some-target.target) ∷ []) (opened c.args.e.now 1 0) _ _ (c.in_ok-next-in-Some-target.ensures.done base env)
+          (_, (c.args.slot, λ ls. refl, c.in_ok-put-in-Some-target.ensures.done), (_, c.in_ok-store-in-Some-target.ensures.done, refl)),
+    )

@@ -1,9 +1,8 @@
-use Rattle.std.proofs.Common.{rules, ◌≡◌, ◌<◌, ◌≤◌, ◌+◌, ◌∷◌, [], ℕ, List, map, length, arith, refl, ap, sym, subst, ◌∙◌}
-use Rattle.std.proofs.lemmas.Grind.{common_steps}
+use Rattle.std.proofs.Common.{rules, map}
 use Rattle.py_compile.specs.State.{no_frames}
-use Rattle.py_compile.specs.Expressions.{value, values, stored}
-use Rattle.py_compile.proofs.Rests.{Rest, rest_start, rest_step, rest_end}
-use Rattle.py_compile.proofs.StmtArms.{alone_arm, also_arm, assign_arm, deletion_arm, change_arm, print_arm, raise_one_arm, raise_two_arm, import_arm, def_arm, class_arm, assert_alone_arm, assert_with_arm, nothing_arm}
+use Rattle.py_compile.specs.Expressions.{value, values}
+use Rattle.py_compile.proofs.Rests.{rest_step, rest_end}
+use Rattle.py_compile.proofs.StmtArms.{print_arm}
 use Rattle.py_compile.proofs.simple.print_items.Goals as goal
 use Rattle.py_compile.specs.Table.{print_one}
 

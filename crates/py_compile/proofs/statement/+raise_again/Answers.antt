@@ -1,4 +1,3 @@
-use Rattle.std.proofs.Common.{refl}
 use Rattle.py_compile.specs.Rounds.{around_of, env_of}
 use Rattle.py_compile.proofs.Leaves.{ok_map, raise_while, raise_for, raise_try, raise_finally}
 use Rattle.py_compile.specs.Statements.{stated_block}

@@ -56,4 +56,3 @@ decreases-trailer l = 8 * height_trailer l.x.now + 3
 
 abbrev pub decreases-trailers : goal.decreases-trailers
 decreases-trailers l = 8 * tops_trailers l.items.now + 4
-
