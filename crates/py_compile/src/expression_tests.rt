@@ -69,7 +69,7 @@ fn emitted(alloc: Global, asked: Asked) -> Result<Instrs, Fault> {
     let own = locals(alloc)?;
     let none = NameSet::new(alloc);
     let lists = lists(alloc)?;
-    if own.len() > 3 || none.len() > 0 || lists.len() > 2 {
+    if own.len() > 3 || lists.len() > 2 {
         return Err(Fault::OutOfMemory);
     }
     let names = Names::new(false, &own, &none, &none, lists.as_slice());
