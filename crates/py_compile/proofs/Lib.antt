@@ -15,3 +15,5 @@ pub mod Stateds
 pub mod StmtArms
 pub mod Leaves
 pub mod Gathers
+pub mod Steps
+pub mod TaskWeights

@@ -12,3 +12,5 @@ pub mod Compounds
 pub mod Gathered
 pub mod Uses
 pub mod Whole
+pub mod Tasks
+pub mod TaskWeights

@@ -88,13 +88,14 @@ impl Emitter {
         Ok((base, slot))
     }
 
-    /// The label stands here.
+    /// The label stands here. A number that no label has changes nothing.
     pub fn mark(&mut self, label: usize)
-        requires { label < length self.old.labels }
         ensures done { self.new ≡ marked self.old label }
         ensures same { length self.new.code ≡ length self.old.code }
     {
-        self.labels[label] = Some(self.code.len() as u32);
+        if label < self.labels.len() {
+            self.labels[label] = Some(self.code.len() as u32);
+        }
     }
 
     /// The instructions and their lines: one pass over the drafts puts the places in.

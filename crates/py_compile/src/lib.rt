@@ -7,6 +7,8 @@ mod draft;
 mod emitter;
 mod error;
 mod expression;
+#[cfg(test)]
+mod expression_tests;
 mod home;
 #[cfg(test)]
 mod name_tests;
@@ -15,5 +17,6 @@ mod parts;
 mod simple;
 mod statement;
 mod target;
+mod task;
 
 pub use error::CompileError;

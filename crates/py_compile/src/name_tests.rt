@@ -84,7 +84,7 @@ fn emitted(alloc: Global) -> Result<(Instrs, Lines), Fault> {
     e.put(1, Draft::To(Far::Always, base))?;
     e.put(2, Draft::Op(Instr::StoreLocal(slot)))?;
     e.mark(base);
-    let code = e.finish(alloc)?;
+    let code = e.finish()?;
     Ok(code)
 }
 

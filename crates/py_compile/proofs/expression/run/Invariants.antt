@@ -1,0 +1,11 @@
+use Rattle.std.proofs.Common.{◌≡◌, ℕ}
+use Rattle.std.specs.Prelude.{[], ◌∷◌}
+use Rattle.py_compile.specs.Tasks.{Leads, plain}
+use Rattle.py_compile.specs.TaskWeights.{all_weights}
+use Rattle.py_compile.proofs.expression.run.Given as goal
+
+abbrev pub invariant-tasks : goal.invariant-tasks
+invariant-tasks l = Leads l.names l.line (plain l.fn.first ∷ []) l.fn.e l.tasks l.e
+
+abbrev pub decreases-tasks : goal.decreases-tasks
+decreases-tasks l = all_weights l.tasks
