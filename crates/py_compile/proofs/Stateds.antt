@@ -310,7 +310,6 @@ pub ruleset stated_rules = (stated_do, stated_assign, stated_augment, stated_pri
 
 pub ruleset weight_rules = (weight_do, weight_assign, weight_augment, weight_print, weight_pass, weight_break, weight_continue, weight_return, weight_raise, weight_del, weight_global, weight_assert, weight_import, weight_from, weight_if, weight_while, weight_for, weight_try, weight_def, weight_class)
 
-
 -- a `try` with or without its finally
 
 finally_bodies : (ln : ℕ) (t : Stated) (d : Option Claused) → (finally ln t d).bodies ≡ t.bodies + (other d).bodies

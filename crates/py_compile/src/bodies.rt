@@ -90,7 +90,20 @@ pub fn bodies_in(x: &Stmt) -> Result<u32, Fault>
             let n = sum(1, a)?;
             Ok(n)
         }
-        Stmt::Do(_, _) | Stmt::Assign(_, _, _) | Stmt::Augment(_, _, _, _) | Stmt::Print(_, _, _) | Stmt::Pass(_) | Stmt::Break(_) | Stmt::Continue(_) | Stmt::Return(_, _) | Stmt::Raise(_, _, _) | Stmt::Del(_, _) | Stmt::Global(_, _) | Stmt::Assert(_, _, _) | Stmt::Import(_, _) | Stmt::From(_, _, _) => Ok(0),
+        Stmt::Do(_, _)
+        | Stmt::Assign(_, _, _)
+        | Stmt::Augment(_, _, _, _)
+        | Stmt::Print(_, _, _)
+        | Stmt::Pass(_)
+        | Stmt::Break(_)
+        | Stmt::Continue(_)
+        | Stmt::Return(_, _)
+        | Stmt::Raise(_, _, _)
+        | Stmt::Del(_, _)
+        | Stmt::Global(_, _)
+        | Stmt::Assert(_, _, _)
+        | Stmt::Import(_, _)
+        | Stmt::From(_, _, _) => Ok(0),
     }
 }
 
@@ -220,7 +233,20 @@ fn gather_one<'a>(out: &mut Items<Body<'a>>, x: &'a Stmt) -> Result<(), NoMemory
             gather(out, body)?;
             Ok(())
         }
-        Stmt::Do(_, _) | Stmt::Assign(_, _, _) | Stmt::Augment(_, _, _, _) | Stmt::Print(_, _, _) | Stmt::Pass(_) | Stmt::Break(_) | Stmt::Continue(_) | Stmt::Return(_, _) | Stmt::Raise(_, _, _) | Stmt::Del(_, _) | Stmt::Global(_, _) | Stmt::Assert(_, _, _) | Stmt::Import(_, _) | Stmt::From(_, _, _) => Ok(()),
+        Stmt::Do(_, _)
+        | Stmt::Assign(_, _, _)
+        | Stmt::Augment(_, _, _, _)
+        | Stmt::Print(_, _, _)
+        | Stmt::Pass(_)
+        | Stmt::Break(_)
+        | Stmt::Continue(_)
+        | Stmt::Return(_, _)
+        | Stmt::Raise(_, _, _)
+        | Stmt::Del(_, _)
+        | Stmt::Global(_, _)
+        | Stmt::Assert(_, _, _)
+        | Stmt::Import(_, _)
+        | Stmt::From(_, _, _) => Ok(()),
     }
 }
 

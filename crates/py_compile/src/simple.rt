@@ -223,13 +223,7 @@ fn assert_alone(e: &mut Emitter, names: &Names, line: u32, x: &Expr) -> Result<(
 }
 
 /// `assert` with a message.
-fn assert_with(
-    e: &mut Emitter,
-    names: &Names,
-    line: u32,
-    x: &Expr,
-    m: &Expr,
-) -> Result<(), Fault>
+fn assert_with(e: &mut Emitter, names: &Names, line: u32, x: &Expr, m: &Expr) -> Result<(), Fault>
     ensures done { IfOk result (λ _. (env : List ℕ → List Frame) → Emitted e.old e.new (assert_with line (value names.now line x.now) (value names.now line m.now)) env) }
     ensures large { result ≡ Err Fault.TooLarge → 65535 < length e.old.code + (assert_with line (value names.now line x.now) (value names.now line m.now)).size }
 {
@@ -301,12 +295,7 @@ pub fn bound_name(x: &Imported) -> &[u8]
 }
 
 /// `import`.
-pub fn import(
-    e: &mut Emitter,
-    names: &Names,
-    line: u32,
-    items: &[Imported],
-) -> Result<(), Fault>
+pub fn import(e: &mut Emitter, names: &Names, line: u32, items: &[Imported]) -> Result<(), Fault>
     ensures done { IfOk result (λ _. (env : List ℕ → List Frame) → Emitted e.old e.new (row (imported names.now line items.now)) env) }
     ensures large { result ≡ Err Fault.TooLarge → 65535 < length e.old.code + (row (imported names.now line items.now)).size }
 {
@@ -321,12 +310,7 @@ pub fn import(
 }
 
 /// `from`.
-pub fn take_from(
-    e: &mut Emitter,
-    names: &Names,
-    line: u32,
-    items: &[Imported],
-) -> Result<(), Fault>
+pub fn take_from(e: &mut Emitter, names: &Names, line: u32, items: &[Imported]) -> Result<(), Fault>
     ensures done { IfOk result (λ _. (env : List ℕ → List Frame) → Emitted e.old e.new (row (taken_from names.now line items.now)) env) }
     ensures large { result ≡ Err Fault.TooLarge → 65535 < length e.old.code + (row (taken_from names.now line items.now)).size }
 {
@@ -341,12 +325,7 @@ pub fn take_from(
 }
 
 /// The defaults of parameters, and how many there are.
-fn defaults(
-    e: &mut Emitter,
-    names: &Names,
-    line: u32,
-    params: &[Param],
-) -> Result<usize, Fault>
+fn defaults(e: &mut Emitter, names: &Names, line: u32, params: &[Param]) -> Result<usize, Fault>
     ensures done { IfOk result (λ _. Emitted e.old e.new (row (values names.now line (defaults params.now))) no_frames) }
     ensures count { IfOk result (λ k. k ≡ length (values names.now line (defaults params.now))) }
     ensures large { result ≡ Err Fault.TooLarge → 65535 < length e.old.code + (row (values names.now line (defaults params.now))).size }

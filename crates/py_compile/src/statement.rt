@@ -22,8 +22,8 @@ use crate::emitter::Emitter;
 use crate::error::Fault;
 use crate::names::{Names, split};
 use crate::parts::{
-    arm_head, arm_tail, catch, for_head, handler_head, handler_tail, loop_tail, pop_try, raise_slot,
-    return_head, return_tail, try_head, while_head,
+    arm_head, arm_tail, catch, for_head, handler_head, handler_tail, loop_tail, pop_try,
+    raise_slot, return_head, return_tail, try_head, while_head,
 };
 use crate::simple::{
     alone, assert, assign, change, class, def, delete, import, print, raise_made, take_from,
@@ -97,13 +97,7 @@ fn pop(e: &mut Emitter, line: u32) -> Result<(), Fault>
 
 /// What is done on a way out, from the innermost construct on. No resolved tree has a break or a continue outside of a loop.
 #[cycle(statements)]
-fn leave(
-    e: &mut Emitter,
-    names: &Names,
-    line: u32,
-    way: Way,
-    around: &Around,
-) -> Result<(), Fault>
+fn leave(e: &mut Emitter, names: &Names, line: u32, way: Way, around: &Around) -> Result<(), Fault>
     ensures done { IfOk result (λ _. Emitted e.old e.new (leaving way line (around_of names.now around.now)) (env_of around.now)) }
     ensures large { result ≡ Err Fault.TooLarge → 65535 < length e.old.code + (leaving way line (around_of names.now around.now)).size }
 {
@@ -410,9 +404,7 @@ fn statement(
         }
         Stmt::Try(x, items, other, last) => match last {
             None => tried(e, names, x, items.as_slice(), other, around, first),
-            Some(fin) => {
-                tried_finally(e, names, x, items.as_slice(), other, fin, around, first)
-            }
+            Some(fin) => { tried_finally(e, names, x, items.as_slice(), other, fin, around, first) }
         },
         Stmt::Def(line, name, params, _) => {
             def(e, names, *line, name.as_slice(), params.as_slice(), first)

@@ -16,7 +16,9 @@ returns-in_ok-store-in-Some-target-clause-done c =
     let a = ap (λ z. length z.labels) c.in_ok-put-in-Some-target.ensures.done in
     let b = c.in_ok-store-in-Some-target.ensures.done.more in
     let l = c.in_ok-next-in-Some-target.ensures.labels in
-    rw (c.in-Some.is, c.in-Some-target.is)
-    (c.in_ok-next-in-Some-target.ensures.base, grind (arith, common_steps),
-    λ base env. puts_more c.args.x.now.line c.in_ok-next-in-Some-target.next (λ ls. frame_there c.in_ok-next-in-Some-target.next 1 0 ls ∷ frame_there base 2 c.args.slot ls ∷ env ls) (Hidden 1 LoadLocal ∷ Alone (value c.args.names.now c.args.x.now.line c.in-Some.test) ∷ Op ExcMatch ∷ To 0 JumpFalse 0 ∷ []) (Hidden 1 LoadLocal ∷ Alone (stored c.args.names.now c.args.x.now.line c.in-Some-target.target) ∷ []) (opened c.args.e.now 1 0) _ _ (c.in_ok-next-in-Some-target.ensures.done base env)
-    (_, (c.args.slot, λ ls. refl, c.in_ok-put-in-Some-target.ensures.done), (_, c.in_ok-store-in-Some-target.ensures.done, refl)))
+    rw (c.in-Some.is, c.in-Some-target.is) (
+      c.in_ok-next-in-Some-target.ensures.base,
+      grind (arith, common_steps),
+      λ base env. puts_more c.args.x.now.line c.in_ok-next-in-Some-target.next (λ ls. frame_there c.in_ok-next-in-Some-target.next 1 0 ls ∷ frame_there base 2 c.args.slot ls ∷ env ls) (Hidden 1 LoadLocal ∷ Alone (value c.args.names.now c.args.x.now.line c.in-Some.test) ∷ Op ExcMatch ∷ To 0 JumpFalse 0 ∷ []) (Hidden 1 LoadLocal ∷ Alone (stored c.args.names.now c.args.x.now.line c.in-Some-target.target) ∷ []) (opened c.args.e.now 1 0) _ _ (c.in_ok-next-in-Some-target.ensures.done base env)
+          (_, (c.args.slot, λ ls. refl, c.in_ok-put-in-Some-target.ensures.done), (_, c.in_ok-store-in-Some-target.ensures.done, refl)),
+    )

@@ -30,9 +30,12 @@ arms-items-preserved t c =
     let w = ap weights_arms e in
     let k = c.items.invariant.1 in
     let l = c.items.invariant.2 in
-    rw (c.in_ok-number.ensures.same, c.in_ok-inside.ensures.same, c.as_slice-in-Some.ensures)
-    (rest_step (λ ls. frame_there c.args.end 1 0 ls ∷ env_of c.args.around.now ls) c.args.e.now (armed (stated_arms c.args.items.now) c.args.names.now (around_of c.args.names.now c.args.around.now) c.args.first) c.items.e c.arm_tail.new.e (arm c.in-Some.x.now.line (value c.args.names.now c.in-Some.x.now.line c.in-Some.x.now.test) ((stated_block c.in-Some.x.now.body).code c.args.names.now (around_of c.args.names.now c.args.around.now) c.items.number)) (armed (stated_arms c.in-Some.more.now) c.args.names.now (around_of c.args.names.now c.args.around.now) (c.items.number + count (all_stated c.in-Some.x.now.body))) (rw e at c.items.invariant.0)
-    (arm_arm c.in-Some.x.now.line (env_of c.args.around.now) (value c.args.names.now c.in-Some.x.now.line c.in-Some.x.now.test) ((stated_block c.in-Some.x.now.body).code c.args.names.now (around_of c.args.names.now c.args.around.now) c.items.number) c.args.end c.in_ok-next.next c.items.e _ _ _ c.in_ok-next.ensures.base (c.in_ok-next.ensures.done (λ ls. frame_there c.args.end 1 0 ls ∷ env_of c.args.around.now ls)) (rw c.as_slice.ensures at c.in_ok-block.ensures.done) c.in_ok-arm_tail.ensures.done), grind (arith, common_steps), grind (arith, common_steps))
+    rw (c.in_ok-number.ensures.same, c.in_ok-inside.ensures.same, c.as_slice-in-Some.ensures) (
+      rest_step (λ ls. frame_there c.args.end 1 0 ls ∷ env_of c.args.around.now ls) c.args.e.now (armed (stated_arms c.args.items.now) c.args.names.now (around_of c.args.names.now c.args.around.now) c.args.first) c.items.e c.arm_tail.new.e (arm c.in-Some.x.now.line (value c.args.names.now c.in-Some.x.now.line c.in-Some.x.now.test) ((stated_block c.in-Some.x.now.body).code c.args.names.now (around_of c.args.names.now c.args.around.now) c.items.number)) (armed (stated_arms c.in-Some.more.now) c.args.names.now (around_of c.args.names.now c.args.around.now) (c.items.number + count (all_stated c.in-Some.x.now.body))) (rw e at c.items.invariant.0)
+          (arm_arm c.in-Some.x.now.line (env_of c.args.around.now) (value c.args.names.now c.in-Some.x.now.line c.in-Some.x.now.test) ((stated_block c.in-Some.x.now.body).code c.args.names.now (around_of c.args.names.now c.args.around.now) c.items.number) c.args.end c.in_ok-next.next c.items.e _ _ _ c.in_ok-next.ensures.base (c.in_ok-next.ensures.done (λ ls. frame_there c.args.end 1 0 ls ∷ env_of c.args.around.now ls)) (rw c.as_slice.ensures at c.in_ok-block.ensures.done) c.in_ok-arm_tail.ensures.done),
+      grind (arith, common_steps),
+      grind (arith, common_steps),
+    )
 
 pub handlers-items-preserved : goal.handlers-items-preserved
 handlers-items-preserved t c =
@@ -41,9 +44,12 @@ handlers-items-preserved t c =
     let w = ap weights_handlers e in
     let k = c.items.invariant.1 in
     let l = c.items.invariant.2 in
-    rw (c.in_ok-number.ensures.same, c.in_ok-inside.ensures.same, c.as_slice-body.ensures)
-    (rest_step (λ ls. frame_there c.args.base 2 c.args.slot ls ∷ env_of c.args.outer.now ls) c.args.e.now (handled (stated_handlers c.args.items.now) c.args.names.now (around_of c.args.names.now c.args.outer.now) c.args.first) c.items.e c.handler_tail.new.e (clause c.args.names.now c.in-Some.x.now.line c.in-Some.x.now.test c.in-Some.x.now.target ((stated_block c.in-Some.x.now.body).code c.args.names.now (InClause ∷ (around_of c.args.names.now c.args.outer.now)) c.items.number)) (handled (stated_handlers c.in-Some.more.now) c.args.names.now (around_of c.args.names.now c.args.outer.now) (c.items.number + count (all_stated c.in-Some.x.now.body))) (rw e at c.items.invariant.0)
-    (handler_arm c.args.names.now c.in-Some.x.now.line (env_of c.args.outer.now) c.in-Some.x.now.test c.in-Some.x.now.target c.in_ok-next.next ((stated_block c.in-Some.x.now.body).code c.args.names.now (InClause ∷ (around_of c.args.names.now c.args.outer.now)) c.items.number) c.args.base c.args.slot c.items.e _ _ _ c.in_ok-next.ensures.done (rw c.as_slice-body.ensures at c.in_ok-block.ensures.done) c.in_ok-handler_tail.ensures.done), grind (arith, common_steps), grind (arith, common_steps))
+    rw (c.in_ok-number.ensures.same, c.in_ok-inside.ensures.same, c.as_slice-body.ensures) (
+      rest_step (λ ls. frame_there c.args.base 2 c.args.slot ls ∷ env_of c.args.outer.now ls) c.args.e.now (handled (stated_handlers c.args.items.now) c.args.names.now (around_of c.args.names.now c.args.outer.now) c.args.first) c.items.e c.handler_tail.new.e (clause c.args.names.now c.in-Some.x.now.line c.in-Some.x.now.test c.in-Some.x.now.target ((stated_block c.in-Some.x.now.body).code c.args.names.now (InClause ∷ (around_of c.args.names.now c.args.outer.now)) c.items.number)) (handled (stated_handlers c.in-Some.more.now) c.args.names.now (around_of c.args.names.now c.args.outer.now) (c.items.number + count (all_stated c.in-Some.x.now.body))) (rw e at c.items.invariant.0)
+          (handler_arm c.args.names.now c.in-Some.x.now.line (env_of c.args.outer.now) c.in-Some.x.now.test c.in-Some.x.now.target c.in_ok-next.next ((stated_block c.in-Some.x.now.body).code c.args.names.now (InClause ∷ (around_of c.args.names.now c.args.outer.now)) c.items.number) c.args.base c.args.slot c.items.e _ _ _ c.in_ok-next.ensures.done (rw c.as_slice-body.ensures at c.in_ok-block.ensures.done) c.in_ok-handler_tail.ensures.done),
+      grind (arith, common_steps),
+      grind (arith, common_steps),
+    )
 
 pub if_else-returns-clause-done : goal.if_else-returns-clause-done
 if_else-returns-clause-done t c =
