@@ -139,7 +139,8 @@ limits_of cs rs n c = record {
   cells = first_text + length (texts_of rs);
   roots = length rs;
   params = map (λ x. x.params) cs;
-  first = first_place n }
+  first = first_place n;
+}
 
 -- SETUP is the first instruction of the first code, and stands nowhere else
 abbrev pub SetsUp : ℕ → List Instr → Type 0
