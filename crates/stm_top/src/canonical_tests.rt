@@ -1,35 +1,16 @@
 //! Canonical texts, by hand from `docs/LANGUAGE.md`, "The canonical text". A row is a text, `?` and the canonical text of its
 //! tree; `$` is a line end.
+use crate::text_rows::{text_of, tree_of};
 use py_data::{Bytes, NoMemory};
-use py_parser::{ends_law, parse};
-use py_tokens::tokens;
 use py_tree::module_text;
 use std::alloc::Global;
 use std::test;
 
 type Tested = Result<(), test::Fail>;
 
-/// The text of this part of a row, with line ends.
-fn text_of(alloc: Global, part: &str) -> Result<Vec<u8>, NoMemory> {
-    let mut text = Vec::new(alloc);
-    for b in part.as_bytes() {
-        text.push(if *b == b'$' { b'\n' } else { *b })?;
-    }
-    Ok(text)
-}
-
 /// The canonical text of the tree of a text, or None where it is too long or has no tree.
 fn canonical(alloc: Global, text: &[u8]) -> Option<Bytes> {
-    if text.len() > 100_000 {
-        return None;
-    }
-    let Ok(found) = tokens(alloc, text) else {
-        return None;
-    };
-    ends_law();
-    let Ok(module) = parse(alloc, found.as_slice()) else {
-        return None;
-    };
+    let module = tree_of(alloc, text)?;
     match module_text(alloc, &module) {
         Ok(text) => Some(text),
         Err(_) => None,

@@ -16,8 +16,12 @@ pub use top::{Report, run_words};
 #[cfg(test)]
 mod canonical_tests;
 #[cfg(test)]
+mod code_tests;
+#[cfg(test)]
 mod names_tests;
 #[cfg(test)]
 mod object_tests;
 #[cfg(test)]
 mod tests;
+#[cfg(test)]
+mod text_rows;

@@ -1,39 +1,13 @@
 //! Scopes and refused names, by hand from `docs/LANGUAGE.md`, "Names and their scopes". A row is an answer, `?` and a text; `$`
 //! is a line end. The scopes of a module's bodies are written one after another, each as its local names, a bar and the
 //! others.
+use crate::text_rows::{text_of, tree_of};
 use py_data::{Bytes, NoMemory, Refusal};
 use py_names::{NameFault, Scope, Scopes, resolve};
-use py_parser::{ends_law, parse};
-use py_tokens::tokens;
-use py_tree::Module;
 use std::alloc::Global;
 use std::test;
 
 type Tested = Result<(), test::Fail>;
-
-/// The row's text, with line ends.
-fn text_of(alloc: Global, row: &str) -> Result<Vec<u8>, NoMemory> {
-    let mut text = Vec::new(alloc);
-    for b in row.as_bytes() {
-        text.push(if *b == b'$' { b'\n' } else { *b })?;
-    }
-    Ok(text)
-}
-
-/// The tree of a text, or None where it is too long or has none.
-fn tree_of(alloc: Global, text: &[u8]) -> Option<Module> {
-    if text.len() > 100_000 {
-        return None;
-    }
-    let Ok(found) = tokens(alloc, text) else {
-        return None;
-    };
-    ends_law();
-    match parse(alloc, found.as_slice()) {
-        Ok(tree) => Some(tree),
-        Err(_) => None,
-    }
-}
 
 /// Adds names with a space before each.
 fn push_names(text: &mut Vec<u8>, names: &[Bytes]) -> Result<(), NoMemory> {

@@ -269,6 +269,30 @@ fn spaces(rt: &impl Abort, alloc: Global, count: usize) -> Result<String, AllocE
     )
 }
 
+/// What a script of so many lines `a = 1` answers.
+fn assignments(rt: &impl Abort, alloc: Global, count: usize) -> Result<String, AllocError> {
+    let mut script = Vec::new(alloc);
+    for _ in 0..count {
+        script.extend_from_slice(b"a = 1\n".as_slice())?;
+    }
+    let mut words = Vec::new(alloc);
+    words.push(format!(in alloc; "-")?)?;
+    told(
+        alloc,
+        &report(rt, alloc, words.as_slice(), script.as_slice(), NO_FAILURE)?,
+    )
+}
+
+/// With SETUP and the last two, as many instructions as a code may have, and then two more.
+#[test]
+fn code_has_a_limit(rt: HostRuntime) -> Tested {
+    let most = assignments(&rt, rt.alloc(), 32_766)?;
+    assert_eq!(rt; most.as_str(), "0~~~32768");
+    let wanted = "3~~pystm: line 1: refusal 11: too large;~0";
+    assert_eq!(rt; assignments(&rt, rt.alloc(), 32_767)?.as_str(), wanted);
+    Ok(())
+}
+
 #[test]
 fn script_has_a_limit(rt: HostRuntime) -> Tested {
     assert_eq!(rt; spaces(&rt, rt.alloc(), SCRIPT_LIMIT)?.as_str(), "0~~~2");
