@@ -17,6 +17,8 @@ mod Atoms
 mod Trails
 mod Rungs
 mod Levels
+mod AimRows
+mod Aimed
 mod Targets
 mod Simples
 mod Aims
