@@ -43,3 +43,6 @@ mod CanonSteps
 mod CanonHeads
 mod CanonBlocks
 mod CanonLaw
+mod AimedInside
+mod AimedAtoms
+mod AimReads

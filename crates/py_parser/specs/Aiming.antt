@@ -104,3 +104,14 @@ aim_atom aim g room kind ts = (reads g room).read 0 ts
 unfoldable pub aim_at : ℕ → ℕ → Test
 aim_at g zero ts = Err (too_deep 1 (first ts), ts)
 aim_at g (suc d) ts = aim_atom (aim_at g d) g d (first ts) ts >>= trail_at (reads g d) g (suc d)
+
+-- ---- what statements read
+
+-- an expression of a level, and what is a target or becomes one
+pub record Readers : Type 0 where
+  pub read : ℕ → Test
+  pub aim : Test
+
+-- with a budget of heights; g bounds the turns of each loop
+abbrev pub readers : ℕ → ℕ → Readers
+readers g d = record { read = (reads g d).read; aim = aim_at g d }
