@@ -1,7 +1,8 @@
 //! Targets.
 ghost use Rattle.std.specs.Prelude.{◌≡◌, ◌≤◌, IfOk};
 ghost use Rattle.py_parser.specs.Outcome.{Gives};
-ghost use Rattle.py_parser.specs.Reading.{reads, first};
+ghost use Rattle.py_parser.specs.Aiming.{readers};
+ghost use Rattle.py_parser.specs.Reading.{first};
 ghost use Rattle.py_parser.specs.Lines.{checked, target_at, targets_at};
 ghost use Rattle.py_parser.specs.Stops.{stop_of};
 ghost use Rattle.py_parser.specs.Tall.{start};
@@ -78,7 +79,7 @@ pub fn target<'a>(
     tokens: &'a [Token],
 ) -> Read<'a, Tall<Expr>>
     requires { budget ≤ HEIGHT_LIMIT }
-    ensures value { Gives (λ x. (x.0, x.1.now)) result (target_at (reads turns budget) (stop_of place) tokens.now) }
+    ensures value { Gives (λ x. (x.0, x.1.now)) result (target_at (readers turns budget) (stop_of place) tokens.now) }
     ensures fits { IfOk result (λ x. x.0.tall ≤ budget) }
 {
     let (target, more) = expression(alloc, turns, budget, Request::Level(TARGET), tokens)?;
@@ -96,7 +97,7 @@ pub fn targets<'a>(
     tokens: &'a [Token],
 ) -> Read<'a, Tall<Items<Expr>>>
     requires { budget ≤ HEIGHT_LIMIT }
-    ensures { Gives (λ x. (x.0, x.1.now)) result (targets_at (reads turns budget) turns (start first) tokens.now) }
+    ensures { Gives (λ x. (x.0, x.1.now)) result (targets_at (readers turns budget) turns (start first) tokens.now) }
 {
     let mut found = start(alloc, first)?;
     let mut more = tokens;
