@@ -22,12 +22,12 @@ use Rattle.py_parser.specs.declared.tall.Tall.{Tall}
 use Rattle.py_parser.specs.Tall.{push, none, joined}
 use Rattle.py_parser.specs.Follow.{takes}
 use Rattle.py_parser.specs.Reading.{Reads, Test, ◌>>=◌, Below, first, rest, is_op, starts, comes, rung_of, power_at, chain_at, choice_at, reads}
-use Rattle.py_parser.specs.Aiming.{after_rung, grown_at, grows, risen_at, element_at, fine, next_at, elements_at, closed_at}
+use Rattle.py_parser.specs.Aiming.{after_rung, grown_at, grows, risen_at, element_at, fine, next_at, elements_at, closing_at, closed_at}
 use Rattle.py_parser.proofs.Steps.{of}
 use Rattle.py_parser.proofs.Facts.{no, and_left, and_right}
 use Rattle.py_parser.proofs.Complete.{tests_nil}
 use Rattle.py_parser.proofs.Values.{plus_tests, push_tests}
-use Rattle.py_parser.proofs.Told.{Mode, any, low, Fits, Opens, alone, near, with_none, more, more_is, Told, told_done, told_ends, told_refused, there, told_as, told_same, told_if, told_post, told_take, told_word, told_bind, on, here, move}
+use Rattle.py_parser.proofs.Told.{Mode, any, low, Fits, Opens, alone, near, with_none, more, more_is, Told, told_done, told_ends, told_refused, there, told_as, told_same, told_if, told_post, told_take, told_word, told_bind, told_map, on, here, move}
 use Rattle.py_parser.proofs.Tells.{only_op, Hole, Read, p0, free, length_after, then_tests, Commaed, trailing, further, Following, no_more, commaed}
 use Rattle.py_parser.proofs.Atoms.{either}
 use Rattle.py_parser.proofs.Levels.{up_to, unders}
@@ -281,12 +281,16 @@ module _ (w y g p : ℕ) (aim' aim : Test) (tell : TellAim y g p aim' aim) where
 
   -- ---- the closing bracket
 
+  tell_closing : (n : ℕ) (v : Tall (List Expr)) (pre ts : List Token) → v.tall ≤ p → Opens low pre → ((i : Place) → Opens any (pre ++ at (k.Op n) i ∷ [])) →
+      Told y pre ts (closing_at n (fine (more y p) v)) (λ x fs. (i : Place) × (fs ≡ at (k.Op n) i ∷ []) × Suits p v.form v.tall) (closing_at n (fine p v) ts)
+  tell_closing n v pre ts tall o above = told_word {X' = λ us. if fine (more y p) v then Ok (tt, rest us) else Err (Deep, us)} {X = if fine p v then Ok (tt, rest ts) else Err (Deep, ts)} (is_op n) (k.Op n) (only_op n) refl (λ i us q. rw q (go i us (fine p v) refl)) (λ q. told_refused o)
+    where
+      go : (i : Place) (us : List Token) (b : Bool) → fine p v ≡ b → Told {A = Unit {0}} y pre (at (k.Op n) i ∷ us) (λ vs. if fine (more y p) v then Ok (tt, rest vs) else Err (Deep, vs)) (λ x fs. (j : Place) × (fs ≡ at (k.Op n) j ∷ []) × Suits p v.form v.tall) (if fine p v then Ok (tt, us) else Err (Deep, at (k.Op n) i ∷ us))
+      go i us true e = told_same {X' = λ vs. Ok (tt, rest vs)} {q = Ok (tt, us)} (rw e refl) (λ vs s. rw (fine_more v e) refl) (told_take (told_done (i, refl, fine_suits v e tall)))
+      go i us false e = told_same {X' = λ vs. if fine (more y p) v then Ok (tt, rest vs) else Err (Deep, vs)} {q = Err (Deep, at (k.Op n) i ∷ us)} (rw e refl) (λ vs s. refl)
+          (told_high (k.Op n) refl o above (λ z vs s. let m : more y p ≡ p = omega (arith, more_is y p, z) in rw m (rw e refl)))
+
   pub tell_closed : {Q : Tall Expr → List Token → Type 0} (n : ℕ) (node : Tall (List Expr) → Tall Expr) (v : Tall (List Expr)) (pre ts : List Token) → v.tall ≤ p → Opens low pre → ((i : Place) → Opens any (pre ++ at (k.Op n) i ∷ [])) →
       ((i : Place) → Suits p v.form v.tall → Q (node v) (at (k.Op n) i ∷ [])) → Told y pre ts (λ us. closed_at n (more y p) node (v, us)) Q (closed_at n p node (v, ts))
   unfolding closed_at
-  tell_closed {Q = Q} n node v pre ts tall o above done = told_word (is_op n) (k.Op n) (only_op n) refl (λ i us q. rw q (go i us (fine p v) refl)) (λ q. told_refused o)
-    where
-      go : (i : Place) (us : List Token) (b : Bool) → fine p v ≡ b → Told y pre (at (k.Op n) i ∷ us) (λ vs. if fine (more y p) v then Ok (node v, rest vs) else Err (Deep, vs)) Q (if fine p v then Ok (node v, us) else Err (Deep, at (k.Op n) i ∷ us))
-      go i us true e = told_same {X' = λ vs. Ok (node v, rest vs)} {q = Ok (node v, us)} (rw e refl) (λ vs s. rw (fine_more v e) refl) (told_take (told_done (done i (fine_suits v e tall))))
-      go i us false e = told_same {X' = λ vs. if fine (more y p) v then Ok (node v, rest vs) else Err (Deep, vs)} {q = Err (Deep, at (k.Op n) i ∷ us)} (rw e refl) (λ vs s. refl)
-          (told_high (k.Op n) refl o above (λ z vs s. let m : more y p ≡ p = omega (arith, more_is y p, z) in rw m (rw e refl)))
+  tell_closed {Q = Q} n node v pre ts tall o above done = told_map (λ x. node v) (tell_closing n v pre ts tall o above) (λ x fs r. subst (Q (node v)) (sym r.1) (done r.0 r.2))

@@ -64,10 +64,12 @@ elements_at aim g room (suc f) found ts =
       a ← next_at aim g room found (rest ts)
       elements_at aim g room f (push found a.0) a.1) else Ok (found, rest ts)) else Err (Deep, ts)) else Ok (found, ts)
 
--- the closing bracket
+-- the closing bracket, where what is in the brackets may stand there
+abbrev pub closing_at : ℕ → Bool → Reader (Unit {0})
+closing_at n fits ts = if is_op n (first ts) then (if fits then Ok (tt, rest ts) else Err (Deep, ts)) else Err (Unexpected, ts)
+
 unfoldable pub closed_at : ℕ → ℕ → (Tall (List Expr) → Tall Expr) → Tall (List Expr) × List Token → Reads (Tall Expr)
-closed_at n room node es =
-    if is_op n (first es.1) then (if fine room es.0 then Ok (node es.0, rest es.1) else Err (Deep, es.1)) else Err (Unexpected, es.1)
+closed_at n room node es = closing_at n (fine room es.0) es.1 >>= λ x. Ok (node es.0, x.1)
 
 -- after `(` and a test
 abbrev pub round_rest : Test → ℕ → ℕ → Tall Expr × List Token → Reads (Tall Expr)
