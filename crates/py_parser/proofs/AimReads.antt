@@ -35,6 +35,7 @@ use Rattle.py_parser.proofs.Begin.{headed, begin, begin_op, long, as_value, comm
 use Rattle.py_parser.proofs.Complete.{complete, complete_links, complete_trailers, links_first, trailers_first, trail_value, tests_nil}
 use Rattle.py_parser.proofs.Levels.{refuses}
 use Rattle.py_parser.proofs.AimedInside.{after_none, risen_none}
+use Rattle.py_parser.proofs.AimUnfold.{grown_up}
 
 -- What is left for: a target of a height of at most p, or any expression of less. With marks it is the second alone.
 abbrev pub Meets : Marks → ℕ → Form → ℕ → Type 0
@@ -56,11 +57,6 @@ pub record Climbs (x : Marks) (n : ℕ) (a : Expr) (whole : List Token) (g q : �
   pub stop : stops 1 (first after) ≡ true
   pub fits : length front ≤ g
   pub grow : Reaches x (grown_at (reads g (q - 1)) g q n (of base, after)) (of a) rest
-
-grown_up : (under : Below) (g d n : ℕ) (a : Tall Expr × List Token) → 0 < n → grown_at under g d n a ≡ (grown_at under g d (n - 1) a >>= after_rung (rung_of n) under g d)
-unfolding grown_at
-grown_up under g d zero a h = absurd (omega (arith, h))
-grown_up under g d (suc n) a h = let e : suc n - 1 ≡ n = omega arith in rw e refl
 
 high : (l : Level) → 3 ≤ below l
 high level.Or = omega arith

@@ -46,3 +46,4 @@ mod CanonLaw
 mod AimedInside
 mod AimedAtoms
 mod AimReads
+mod AimUnfold

@@ -15,3 +15,4 @@ pub mod Pieces
 pub mod Stops
 pub mod SimplePieces
 pub mod Suites
+pub mod AimPieces

@@ -10,11 +10,11 @@ use crate::cursor::{Read, comes, keyword_next, op_next, refused, rest, take_name
 use crate::expression::expression;
 use crate::fault::Fault;
 use crate::node;
-use crate::reader::TEST;
+use crate::reader::{TARGET, TEST};
 use crate::request::Request;
 use crate::statement::maybe;
 use crate::tall::{HEIGHT_LIMIT, Tall, push, start};
-use crate::target::{TARGET, TargetPlace, target};
+use crate::target::{TargetPlace, target};
 use crate::trailer::star_next;
 use py_data::Construct;
 use py_tokens::{Token, keyword, operator};
