@@ -90,7 +90,14 @@ climb (G.up zero l p) n e g q rest b h s i = grown_here (G.up zero l p) n (omega
 climb (G.up (suc m) {x = x} {a = a} {ts = ts} l p) n e g q rest b h s i =
     let z : n ≡ suc m = omega (arith, e) in let r = climb p m refl g q rest b h (stops_down (suc m) (first rest) s) i in
     subst (λ w. Climbs x w a (ts ++ rest) g q rest) (sym z) (record {
-      base = r.base; front = r.front; after = r.after; spells = r.spells; low = r.low; split = r.split; stop = r.stop; fits = r.fits;
+      base = r.base;
+      front = r.front;
+      after = r.after;
+      spells = r.spells;
+      low = r.low;
+      split = r.split;
+      stop = r.stop;
+      fits = r.fits;
       grow = then_reads x _ (after_rung (rung_of (suc m)) (reads g (q - 1)) g q) (of a) rest _ rest r.grow (inl (after_none (rung_of (suc m)) (reads g (q - 1)) g q (of a) rest (takes_not (suc m) (first rest) s)));
     })
 climb (G.trail {ts = ts} {us = us} p r) n e g q rest b h s i = grown_here (G.trail p r) n (omega (arith, e)) g q rest b s
@@ -98,7 +105,14 @@ climb (G.power p {x = x} {a = a} {b = a'} {ts = ts} {us = us} j r) n e g q rest 
     let up = hh.height_power a a' in let low = hh.height_pos a in let low' = hh.height_pos a' in let len = length-append ts (at c.power p ∷ us) in let z : n ≡ 1 = omega (arith, e) in
     let w = climb j 0 refl g q (at c.power p ∷ us ++ rest) (omega (arith, len, b)) (omega (arith, up, h)) refl (begun ts (at c.power p ∷ us) rest i) in
     subst (λ m. Climbs x m (ex.Power a a') ((ts ++ at c.power p ∷ us) ++ rest) g q rest) (sym z) (record {
-      base = w.base; front = w.front; after = w.after; spells = w.spells; low = omega (arith, w.low, up); split = append_assoc ts (at c.power p ∷ us) rest ∙ w.split; stop = w.stop; fits = w.fits;
+      base = w.base;
+      front = w.front;
+      after = w.after;
+      spells = w.spells;
+      low = omega (arith, w.low, up);
+      split = append_assoc ts (at c.power p ∷ us) rest ∙ w.split;
+      stop = w.stop;
+      fits = w.fits;
       grow = then_reads x _ (power_at (reads g (q - 1)) q) (of a) (at c.power p ∷ us ++ rest) _ rest w.grow
           (at_same x _ _ _ rest (s_power (reads g (q - 1)) q (of a) p (us ++ rest) (omega (arith, up, h)))
           (then_reads x _ (λ b. Ok (of_power (of a) b.0, b.1)) (of a') rest _ rest (complete r g (q - 1) rest (omega (arith, len, b)) (omega (arith, up, h)) (three (first rest) s)) (inl (ap (λ v. Ok (v, rest)) (as_power a a')))));
@@ -108,7 +122,14 @@ climb (G.chain l {x = x} {a = a} {ls = ls} {ts = ts} {us = us} p r) n e g q rest
     let z : n ≡ below l = omega (arith, e) in let m : below l ≡ suc (below l - 1) = omega (arith, big) in
     let w = climb p (below l - 1) m g q (us ++ rest) (omega (arith, len, b)) (omega (arith, up, h)) first'.1 (begun ts us rest i) in
     subst (λ v. Climbs x v (ex.Chain l a ls) ((ts ++ us) ++ rest) g q rest) (sym z) (record {
-      base = w.base; front = w.front; after = w.after; spells = w.spells; low = omega (arith, w.low, up); split = append_assoc ts us rest ∙ w.split; stop = w.stop; fits = w.fits;
+      base = w.base;
+      front = w.front;
+      after = w.after;
+      spells = w.spells;
+      low = omega (arith, w.low, up);
+      split = append_assoc ts us rest ∙ w.split;
+      stop = w.stop;
+      fits = w.fits;
       grow = at_same x _ _ _ rest (grown_up (reads g (q - 1)) g q (below l) (of w.base, w.after) (omega (arith, big)) ∙ ap (λ v. grown_at (reads g (q - 1)) g q (below l - 1) (of w.base, w.after) >>= after_rung v (reads g (q - 1)) g q) (rung_below l))
           (then_reads x _ (chain_at l ((reads g (q - 1)).read (below l)) g q) (of a) (us ++ rest) _ rest w.grow
           (at_same x _ _ _ rest (s_chain l ((reads g (q - 1)).read (below l)) g q (of a) (us ++ rest) first'.0 (omega (arith, up, h)))
@@ -122,7 +143,14 @@ climb (G.choice p p' {x = x} {a = a} {b = b'} {d = d'} {ts = ts} {us = us} {vs =
     let same = append_assoc (ts ++ at c.if_ p ∷ us) (at c.else_ p' ∷ vs) rest ∙ append_assoc ts (at c.if_ p ∷ us) (at c.else_ p' ∷ vs ++ rest) in
     let w = climb j 12 refl g q (at c.if_ p ∷ us ++ (at c.else_ p' ∷ vs ++ rest)) (omega (arith, len, len', b)) (omega (arith, up, h)) refl (subst (λ z. starts 1 (first z) ≡ true) same i) in
     subst (λ v. Climbs x v (ex.Choice a b' d') (((ts ++ at c.if_ p ∷ us) ++ at c.else_ p' ∷ vs) ++ rest) g q rest) (sym z) (record {
-      base = w.base; front = w.front; after = w.after; spells = w.spells; low = omega (arith, w.low, up); split = same ∙ w.split; stop = w.stop; fits = w.fits;
+      base = w.base;
+      front = w.front;
+      after = w.after;
+      spells = w.spells;
+      low = omega (arith, w.low, up);
+      split = same ∙ w.split;
+      stop = w.stop;
+      fits = w.fits;
       grow = then_reads x _ (choice_at (reads g (q - 1)) q) (of a) (at c.if_ p ∷ us ++ (at c.else_ p' ∷ vs ++ rest)) _ rest w.grow
           (at_same x _ _ _ rest (s_choice (reads g (q - 1)) q (of a) p (us ++ (at c.else_ p' ∷ vs ++ rest)) (omega (arith, up, h)))
           (then_reads x _ (λ b. keyword_at 9 b.1 >>= λ w. ((reads g (q - 1)).read 14 w.1 >>= λ y. Ok (of_choice (of a) b.0 y.0, y.1))) (of b') (at c.else_ p' ∷ vs ++ rest) _ rest
@@ -463,7 +491,7 @@ module _ (g p : ℕ) (aim : Test) (whole : CompleteAim g p aim) where
   complete_atom (G.choice i q r m n) e h rest b s = absurd (omega (arith, e))
   complete_atom (G.lambda i) e h rest b s = absurd (omega (arith, e))
 
--- ---- with trailers
+  -- ---- with trailers
 
   aim_trail : {x : Marks} {n : ℕ} {a : Expr} {ts : List Token} → Is x n a ts → n ≡ 1 → Meets x (suc p) (form a) (height a) → (rest : List Token) → length ts ≤ g → stops n (first rest) ≡ true → Reaches x (aim_atom aim g p (first (ts ++ rest)) (ts ++ rest) >>= trail_at (reads g p) g (suc p)) (of a) rest
   aim_trail (G.up n {x = x} {a = a} {ts = ts} l r) e h rest b s =

@@ -85,13 +85,7 @@ impl<F: for<'b> Fn(&'b [Token]) -> Result<(Tall<Expr>, &'b [Token]), ParseError>
             let (found, more) = self.read(tokens)?;
             return risen(self.alloc, self.turns, budget, found, more);
         }
-        expression(
-            self.alloc,
-            self.turns,
-            budget,
-            Request::Level(TEST),
-            tokens,
-        )
+        expression(self.alloc, self.turns, budget, Request::Level(TEST), tokens)
     }
 
     /// The test after these.
@@ -105,13 +99,7 @@ impl<F: for<'b> Fn(&'b [Token]) -> Result<(Tall<Expr>, &'b [Token]), ParseError>
     {
         let below = self.room.saturating_sub(1);
         if !is_target(false, found.form) {
-            return expression(
-                self.alloc,
-                self.turns,
-                below,
-                Request::Level(TEST),
-                tokens,
-            );
+            return expression(self.alloc, self.turns, below, Request::Level(TEST), tokens);
         }
         if found.tall < self.room {
             return self.element(below, tokens);
@@ -121,11 +109,7 @@ impl<F: for<'b> Fn(&'b [Token]) -> Result<(Tall<Expr>, &'b [Token]), ParseError>
 
     /// Further tests after the first, each after a comma, which may also trail.
     #[tactic(auto, unfolding(crate::specs::Aiming::elements_at))]
-    fn elements<'a>(
-        &self,
-        first: Tall<Expr>,
-        tokens: &'a [Token],
-    ) -> Read<'a, Tall<Items<Expr>>>
+    fn elements<'a>(&self, first: Tall<Expr>, tokens: &'a [Token]) -> Read<'a, Tall<Items<Expr>>>
         requires calls { F.IsAlwaysCallable self.now.inner }
         requires answers { AnswersAim (F.post self.now.inner) self.now.turns self.now.room }
         requires small { self.now.room < HEIGHT_LIMIT }
@@ -295,10 +279,7 @@ impl<F: for<'b> Fn(&'b [Token]) -> Result<(Tall<Expr>, &'b [Token]), ParseError>
 }
 
 /// What is a target of a height of at most `room + 1` or becomes one, where `inner` reads such expressions of `room`.
-fn aim_by<
-    'a,
-    F: for<'b> Fn(&'b [Token]) -> Result<(Tall<Expr>, &'b [Token]), ParseError> + Drop,
->(
+fn aim_by<'a, F: for<'b> Fn(&'b [Token]) -> Result<(Tall<Expr>, &'b [Token]), ParseError> + Drop>(
     alloc: Global,
     turns: usize,
     room: usize,
