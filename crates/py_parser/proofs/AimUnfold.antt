@@ -1,5 +1,5 @@
 -- The equations of reading targets, by the code's rungs and budgets.
-use Rattle.std.proofs.Common.{◌≡◌, ℕ, zero, suc, ◌+◌, ◌-◌, ◌<◌, nat_lt, nat_le, Bool, true, false, ◌||◌, List, Ok, Err, refl, sym, ap, ◌∙◌, arith, if◌then◌else◌}
+use Rattle.std.proofs.Common.{◌≡◌, ℕ, zero, suc, ◌+◌, ◌-◌, ◌<◌, nat_lt, nat_le, Bool, true, false, ◌&&◌, ◌||◌, List, Ok, Err, refl, sym, ap, ◌∙◌, arith, if◌then◌else◌}
 use Rattle.py_tokens.specs.declared.token.Token.{Token}
 use Rattle.py_tokens.specs.declared.token.TokenKind.{TokenKind}
 use Rattle.py_tree.specs.declared.expr.Expr.{Expr}
@@ -70,8 +70,10 @@ grown_zero zero l under g v us = refl
 grown_zero (suc n) l under g v us = go (grows n (first us)) refl (grown_zero n (omega (arith, l)) under g v us)
   where
     go : (b : Bool) → grows n (first us) ≡ b → grown_at under g 0 n (v, us) ≡ (if grows n (first us) then Err (Deep, us) else Ok (v, us)) → grown_at under g 0 (suc n) (v, us) ≡ (if grows (suc n) (first us) then Err (Deep, us) else Ok (v, us))
-    go true e q = ap (λ r. r >>= after_rung (rung_of (suc n)) under g 0) (q ∙ rw e refl) ∙ rw e refl
-    go false e q = ap (λ r. r >>= after_rung (rung_of (suc n)) under g 0) (q ∙ rw e refl) ∙ last (takes (rung_of (suc n)) (first us)) refl
+    go true e q =
+        let p : grown_at under g 0 n (v, us) ≡ Err (Deep, us) = q ∙ rw e refl in
+        let r : (if grows (suc n) (first us) then Err (Deep, us) else Ok (v, us)) ≡ Err (Deep, us) = rw e refl in ap (λ r. r >>= after_rung (rung_of (suc n)) under g 0) p ∙ sym r
+    go false e q = let p : grown_at under g 0 n (v, us) ≡ Ok (v, us) = q ∙ rw e refl in ap (λ r. r >>= after_rung (rung_of (suc n)) under g 0) p ∙ last (takes (rung_of (suc n)) (first us)) refl
       where
         last : (b : Bool) → takes (rung_of (suc n)) (first us) ≡ b → after_rung (rung_of (suc n)) under g 0 (v, us) ≡ (if grows (suc n) (first us) then Err (Deep, us) else Ok (v, us))
         last true i = after_zero (rung_of (suc n)) (is_between n (omega (arith, l))) under g v us i ∙ rw e (rw i refl)
@@ -84,6 +86,18 @@ risen_zero g v us = go (nat_le v.tall 0) refl
     go : (b : Bool) → nat_le v.tall 0 ≡ b → risen_at g 0 (v, us) ≡ (if grows 13 (first us) then Err (Deep, us) else Ok (v, us))
     go true e = rw e (grown_zero 13 (omega arith) (reads g (0 - 1)) g v us)
     go false e = rw e refl
+
+-- what grows, where a height is left and what was read fits
+pub risen_cases : (g q : ℕ) (v : Tall Expr) (us : List Token) → risen_at g q (v, us) ≡ (if nat_lt 0 q && nat_le v.tall q then grown_at (reads g (q - 1)) g (q - 1 + 1) 13 (v, us) else (if grows 13 (first us) then Err (Deep, us) else Ok (v, us)))
+unfolding risen_at
+risen_cases g zero v us = risen_zero g v us
+risen_cases g (suc q) v us = let e : suc q - 1 + 1 ≡ suc q = omega arith in rw e (go (nat_le v.tall (suc q)) refl)
+  where
+    some : nat_lt 0 (suc q) ≡ true
+    some = let i : 0 < suc q = omega arith in grind (arith, i)
+
+    go : (b : Bool) → nat_le v.tall (suc q) ≡ b → (if nat_le v.tall (suc q) then grown_at (reads g (suc q - 1)) g (suc q) 13 (v, us) else (if grows 13 (first us) then Err (Deep, us) else Ok (v, us))) ≡ (if nat_lt 0 (suc q) && nat_le v.tall (suc q) then grown_at (reads g (suc q - 1)) g (suc q) 13 (v, us) else (if grows 13 (first us) then Err (Deep, us) else Ok (v, us)))
+    go b e = rw some refl
 
 -- ---- budgets
 
