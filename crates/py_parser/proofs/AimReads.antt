@@ -1,5 +1,5 @@
 -- What the grammar has of the level of targets is read where a target stands, or refused as what is left out.
-use Rattle.std.proofs.Common.{◌≡◌, ℕ, zero, suc, ◌+◌, ◌-◌, ◌<◌, ◌≤◌, ◌==◌, nat_lt, nat_le, max, Bool, true, false, ◌||◌, not, List, [], ◌∷◌, ◌++◌, length, Ok, Err, Option, Some, None, ◌⊎◌, inl, inr, refl, sym, ap, ◌∙◌, subst, append_assoc, arith, length-append, if◌then◌else◌, le-ltb}
+use Rattle.std.proofs.Common.{◌≡◌, ℕ, zero, suc, ◌+◌, ◌-◌, ◌<◌, ◌≤◌, ◌==◌, nat_lt, nat_le, Bool, true, false, ◌||◌, List, [], ◌∷◌, ◌++◌, length, Ok, Err, Some, None, ◌⊎◌, inl, inr, refl, sym, ap, ◌∙◌, subst, append_assoc, arith, length-append, if◌then◌else◌, le-ltb}
 use Rattle.py_tokens.specs.declared.token.Token.{Token}
 use Rattle.py_tokens.specs.declared.token.TokenKind.{TokenKind}
 use Rattle.py_tokens.specs.declared.token.TokenKind.TheVariants as k
@@ -18,20 +18,19 @@ use Rattle.py_tree.specs.Height.{height, tops}
 use Rattle.py_tree.proofs.Heights as hh
 use Rattle.py_tree.proofs.Forms as ff
 use Rattle.py_data.specs.declared.refusal.Construct.TheVariants as left
-use Rattle.py_parser.specs.declared.fault.Fault.TheVariants.{LeftOut, Deep}
 use Rattle.py_parser.specs.Codes as c
 use Rattle.py_parser.specs.Words.{below, sign_word}
 use Rattle.py_parser.specs.Grammar as G
 use Rattle.py_parser.specs.Grammar.{Marks, Is, Strings, Tests, Commas}
 use Rattle.py_parser.specs.declared.tall.Tall.{Tall}
 use Rattle.py_parser.specs.Tall.{plain, push, none, start, joined, of_group, of_tuple, of_list, of_trail, of_power, of_chain, of_choice}
-use Rattle.py_parser.specs.Follow.{takes, stops}
-use Rattle.py_parser.specs.Reading.{Reads, Test, ◌>>=◌, Below, first, rest, is_op, is_keyword, is_some, starts, comes, links, keyword_at, rung_of, trail_at, power_at, chain_at, choice_at, reads}
+use Rattle.py_parser.specs.Follow.{stops}
+use Rattle.py_parser.specs.Reading.{Reads, Test, ◌>>=◌, first, rest, is_op, is_some, starts, comes, keyword_at, rung_of, trail_at, power_at, chain_at, choice_at, reads}
 use Rattle.py_parser.specs.Aiming.{after_rung, grown_at, grows, risen_at, element_at, fine, next_at, elements_at, closed_at, round_rest, aim_round, list_rest, aim_list, aim_atom, aim_at}
 use Rattle.py_parser.proofs.Steps.{of, Reaches, then_reads, at_same, trail_quiet}
-use Rattle.py_parser.proofs.Facts.{no, and_left, and_right, not_true, not_op, not_keyword, stops_down, takes_not, rung_below, below_small}
+use Rattle.py_parser.proofs.Facts.{no, and_left, and_right, not_op, not_keyword, stops_down, takes_not, rung_below}
 use Rattle.py_parser.proofs.Values.{plus_tests, push_tests, plus_links, plus_trailers, all_joined, as_name, as_group, as_unit, as_no_list, as_tuple, as_list, as_power, as_chain, as_choice}
-use Rattle.py_parser.proofs.Begin.{headed, begin, begin_op, long, as_value, commas_headed, tests_headed, s_trail, s_power, s_chain, s_choice, s_else, no_comma, no_test}
+use Rattle.py_parser.proofs.Begin.{headed, begin, long, as_value, s_trail, s_power, s_chain, s_choice, s_else, no_comma, no_test}
 use Rattle.py_parser.proofs.Complete.{complete, complete_links, complete_trailers, links_first, trailers_first, trail_value, tests_nil}
 use Rattle.py_parser.proofs.Levels.{refuses}
 use Rattle.py_parser.proofs.AimedInside.{after_none, risen_none}

@@ -4,7 +4,6 @@ use Rattle.py_tokens.specs.declared.token.Token.{Token}
 use Rattle.py_tokens.specs.declared.token.Other.TheVariants as other
 use Rattle.py_tokens.specs.declared.token.TokenKind.{TokenKind}
 use Rattle.py_tokens.specs.declared.token.TokenKind.TheVariants as k
-use Rattle.py_tokens.specs.declared.token.Place.{Place}
 use Rattle.py_tokens.specs.Place.{token_at as at}
 use Rattle.py_data.specs.declared.refusal.Construct.TheVariants as left
 use Rattle.py_parser.specs.declared.fault.Fault.{Fault}

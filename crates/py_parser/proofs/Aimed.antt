@@ -1,5 +1,5 @@
 -- What reading what is or becomes a target tells.
-use Rattle.std.proofs.Common.{◌≡◌, ℕ, zero, suc, ◌+◌, ◌-◌, ◌<◌, ◌≤◌, ◌==◌, nat_lt, nat_le, max, Bool, true, false, ◌&&◌, ◌||◌, List, [], ◌∷◌, ◌++◌, length, map, Ok, Err, Option, Some, None, ◌⊎◌, inl, inr, refl, sym, ap, ◌∙◌, subst, append_assoc, append-nil, arith, if◌then◌else◌}
+use Rattle.std.proofs.Common.{◌≡◌, ℕ, zero, suc, ◌+◌, ◌<◌, ◌≤◌, max, true, false, List, [], ◌∷◌, ◌++◌, length, map, Ok, Err, Option, Some, None, ◌⊎◌, inl, inr, refl, sym, ap, ◌∙◌, subst, append_assoc, append-nil, arith}
 use Rattle.py_tokens.specs.declared.token.Token.{Token}
 use Rattle.py_tokens.specs.declared.token.TokenKind.{TokenKind}
 use Rattle.py_tokens.specs.declared.token.TokenKind.TheVariants as k
@@ -13,34 +13,30 @@ use Rattle.py_tree.specs.declared.expr.Level.{Level}
 use Rattle.py_tree.specs.declared.expr.Level.TheVariants as level
 use Rattle.py_tree.specs.declared.expr.Operator.{Operator}
 use Rattle.py_tree.specs.declared.form.Form.{Form}
-use Rattle.py_tree.specs.declared.form.Form.TheVariants.{Part, Many}
+use Rattle.py_tree.specs.declared.form.Form.TheVariants.{Part}
 use Rattle.py_tree.specs.Form.{is_target, form, form_trailer, last_form}
-use Rattle.py_tree.specs.Height.{height, height_trailer, tops, tops_trailers}
+use Rattle.py_tree.specs.Height.{height, height_trailer, tops_trailers}
 use Rattle.py_tree.proofs.Heights as hh
 use Rattle.py_tree.proofs.Forms as ff
-use Rattle.py_data.specs.declared.refusal.Construct.TheVariants as left
 use Rattle.py_parser.specs.declared.fault.Fault.{Fault}
 use Rattle.py_parser.specs.declared.fault.Fault.TheVariants.{Unexpected, LeftOut, Deep}
-use Rattle.py_parser.specs.declared.rung.Rung.TheVariants.{Powered, Signed, Chained, Negated, Chosen}
 use Rattle.py_parser.specs.Codes as c
 use Rattle.py_parser.specs.Words.{below}
 use Rattle.py_parser.specs.Grammar as G
 use Rattle.py_parser.specs.Grammar.{Marks, Is, Tests, Commas, Trailers, Trails}
 use Rattle.py_parser.specs.declared.tall.Tall.{Tall}
-use Rattle.py_parser.specs.Tall.{plain, push, none, start as start', joined, of_group, of_tuple, of_list, of_trail}
+use Rattle.py_parser.specs.Tall.{plain, of_trail}
 use Rattle.py_parser.specs.Follow.{takes}
-use Rattle.py_parser.specs.Reading.{Reads, Reader, Test, ◌>>=◌, Below, first, rest, is_op, is_keyword, is_some, starts, comes, too_deep, links, operator_of, rung_of, trails, trail_at, reads}
-use Rattle.py_parser.specs.Aiming.{after_rung, grown_at, grows, risen_at, element_at, fine, next_at, elements_at, closed_at, round_rest, aim_round, list_rest, aim_list, aim_atom, aim_at}
+use Rattle.py_parser.specs.Reading.{Reads, Reader, Test, Below, first, is_some, links, operator_of, rung_of, trails, trail_at}
+use Rattle.py_parser.specs.Aiming.{after_rung, grown_at, grows}
 use Rattle.py_parser.proofs.Steps.{of}
-use Rattle.py_parser.proofs.Facts.{no, and_left, and_right, below_small}
-use Rattle.py_parser.proofs.Complete.{tests_nil}
-use Rattle.py_parser.proofs.Values.{plus_tests, push_tests, plus_trailers, as_name, as_group, as_unit, as_no_list, as_tuple, as_list, as_trail}
-use Rattle.py_parser.proofs.Told.{Stays, Mode, any, low, marked, Fits, Opens, alone, near, same_first, SameFirst, with_none, more, more_is, Told, told_done, told_ends, told_refused, first_token, there, told_left, told_as, told_same, told_if, told_deep, told_post, told_take, told_word, told_bind, told_map, told_kind, told_pre, on, here, move}
-use Rattle.py_parser.proofs.Tells.{only_op, only_keyword, Hole, Read, Tell, p0, word, is_word, free, length_after, then_tests, then_commas, Commaed, trailing, further, Following, no_more, commaed}
-use Rattle.py_parser.proofs.Atoms.{Unders, lift, either}
+use Rattle.py_parser.proofs.Facts.{no, below_small}
+use Rattle.py_parser.proofs.Values.{plus_trailers, as_trail}
+use Rattle.py_parser.proofs.Told.{Stays, Mode, any, low, Opens, alone, same_first, more, Told, told_done, first_token, told_if, told_deep, told_post, told_bind, told_map, told_pre, on, here, move}
+use Rattle.py_parser.proofs.Tells.{only_op, only_keyword, Hole, Read, p0, word, is_word, free, length_after}
+use Rattle.py_parser.proofs.Atoms.{Unders, either}
 use Rattle.py_parser.proofs.Trails.{trail_start, tell_some_trailers}
-use Rattle.py_parser.proofs.Rungs.{low_level}
-use Rattle.py_parser.proofs.Levels.{up_to, link_start, tell_power, tell_chain, tell_choice, unders}
+use Rattle.py_parser.proofs.Levels.{up_to, link_start, tell_power, tell_chain, tell_choice}
 
 -- ---- a trailer more
 

@@ -1,5 +1,5 @@
 -- What reading a target tells.
-use Rattle.std.proofs.Common.{◌≡◌, ℕ, zero, suc, ◌+◌, ◌<◌, ◌≤◌, ◌==◌, nat_lt, max, Bool, true, false, ◌||◌, List, [], ◌∷◌, ◌++◌, length, Ok, Err, Some, None, inl, inr, refl, sym, ap, ◌∙◌, subst, append_assoc, arith, if◌then◌else◌}
+use Rattle.std.proofs.Common.{◌≡◌, ℕ, zero, suc, ◌+◌, ◌≤◌, ◌==◌, nat_lt, max, Bool, true, false, ◌||◌, List, [], ◌∷◌, ◌++◌, length, Err, Some, None, inl, inr, refl, sym, ap, ◌∙◌, subst, append_assoc, arith, if◌then◌else◌}
 use Rattle.py_tokens.specs.declared.token.Token.{Token}
 use Rattle.py_tokens.specs.declared.token.TokenKind.{TokenKind}
 use Rattle.py_tokens.specs.declared.token.TokenKind.TheVariants as k
@@ -15,20 +15,20 @@ use Rattle.py_tree.specs.Height.{height}
 use Rattle.py_tree.proofs.Heights as hh
 use Rattle.py_tree.proofs.Forms as ff
 use Rattle.py_data.specs.declared.refusal.Construct.TheVariants as left
-use Rattle.py_parser.specs.declared.fault.Fault.TheVariants.{Unexpected, Deep}
+use Rattle.py_parser.specs.declared.fault.Fault.TheVariants.{Deep}
 use Rattle.py_parser.specs.Codes as c
 use Rattle.py_parser.specs.Grammar as G
 use Rattle.py_parser.specs.Grammar.{Marks, Is}
 use Rattle.py_parser.specs.declared.tall.Tall.{Tall}
 use Rattle.py_parser.specs.Tall.{none, start as start', joined, of_group, of_tuple, of_list}
-use Rattle.py_parser.specs.Reading.{Test, ◌>>=◌, first, rest, is_op, is_keyword, starts, left_at, no_start, too_deep, trail_at, reads}
+use Rattle.py_parser.specs.Reading.{Test, ◌>>=◌, first, rest, is_op, is_keyword, starts, left_at, no_start, trail_at, reads}
 use Rattle.py_parser.specs.Aiming.{closed_at, round_rest, aim_round, list_rest, aim_list, aim_atom, aim_at}
 use Rattle.py_parser.proofs.Steps.{of}
 use Rattle.py_parser.proofs.Facts.{no}
 use Rattle.py_parser.proofs.Complete.{tests_nil}
 use Rattle.py_parser.proofs.Values.{plus_tests, as_name, as_group, as_unit, as_no_list, as_tuple, as_list}
-use Rattle.py_parser.proofs.Told.{Mode, any, low, marked, Opens, more, Told, told_done, told_refused, there, told_left, told_same, told_if, told_deep, told_post, told_take, told_word, told_bind, told_kind, on, here, move}
-use Rattle.py_parser.proofs.Tells.{only_keyword, only_op, Hole, p0, free, length_after, then_tests, then_commas, Commaed, Following}
+use Rattle.py_parser.proofs.Told.{any, low, marked, Opens, more, Told, told_done, told_refused, there, told_left, told_same, told_if, told_deep, told_post, told_take, told_word, told_bind, told_kind, on, here, move}
+use Rattle.py_parser.proofs.Tells.{only_keyword, only_op, p0, free, length_after, then_tests, then_commas, Commaed, Following}
 use Rattle.py_parser.proofs.Atoms.{told_no_start}
 use Rattle.py_parser.proofs.Levels.{unders, start, refuses}
 use Rattle.py_parser.proofs.Aimed.{Suits, AimHole, ReadAim, TellAim, told_high, tell_aimed_trail}

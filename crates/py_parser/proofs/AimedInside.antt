@@ -1,33 +1,31 @@
 -- What reading tests in brackets tells, where the brackets stand in the place of a target.
-use Rattle.std.proofs.Common.{◌≡◌, ℕ, zero, suc, ◌+◌, ◌-◌, ◌<◌, ◌≤◌, nat_lt, nat_le, max, Bool, true, false, ◌&&◌, ◌||◌, List, [], ◌∷◌, ◌++◌, length, Ok, Err, Some, None, ◌⊎◌, inl, inr, refl, sym, ap, ◌∙◌, subst, append_assoc, append-nil, arith, if◌then◌else◌}
+use Rattle.std.proofs.Common.{◌≡◌, ℕ, zero, suc, ◌-◌, ◌<◌, ◌≤◌, nat_lt, nat_le, max, Bool, true, false, ◌||◌, List, [], ◌∷◌, ◌++◌, length, Ok, Err, None, inl, inr, refl, sym, ap, ◌∙◌, subst, append_assoc, append-nil, arith, if◌then◌else◌}
 use Rattle.py_tokens.specs.declared.token.Token.{Token}
-use Rattle.py_tokens.specs.declared.token.TokenKind.{TokenKind}
 use Rattle.py_tokens.specs.declared.token.TokenKind.TheVariants as k
 use Rattle.py_tokens.specs.declared.token.Place.{Place}
 use Rattle.py_tokens.specs.Place.{token_at as at}
 use Rattle.py_tree.specs.declared.expr.Expr.{Expr}
-use Rattle.py_tree.specs.declared.expr.Expr.TheVariants as ex
 use Rattle.py_tree.specs.declared.form.Form.{Form}
 use Rattle.py_tree.specs.declared.form.Form.TheVariants.{Many}
 use Rattle.py_tree.specs.Form.{is_target, form}
-use Rattle.py_tree.specs.Height.{height, tops}
+use Rattle.py_tree.specs.Height.{height}
 use Rattle.py_tree.proofs.Heights as hh
-use Rattle.py_parser.specs.declared.fault.Fault.TheVariants.{Unexpected, Deep}
+use Rattle.py_parser.specs.declared.fault.Fault.TheVariants.{Deep}
 use Rattle.py_parser.specs.declared.rung.Rung.{Rung}
 use Rattle.py_parser.specs.declared.rung.Rung.TheVariants.{Trailed, Powered, Signed, Chained, Negated, Chosen, Listed}
 use Rattle.py_parser.specs.Codes as c
 use Rattle.py_parser.specs.Grammar as G
 use Rattle.py_parser.specs.Grammar.{Marks, Is}
 use Rattle.py_parser.specs.declared.tall.Tall.{Tall}
-use Rattle.py_parser.specs.Tall.{push, none, joined}
+use Rattle.py_parser.specs.Tall.{push, joined}
 use Rattle.py_parser.specs.Follow.{takes}
-use Rattle.py_parser.specs.Reading.{Reads, Test, ◌>>=◌, Below, first, rest, is_op, starts, comes, rung_of, power_at, chain_at, choice_at, reads}
+use Rattle.py_parser.specs.Reading.{Test, ◌>>=◌, Below, first, rest, is_op, starts, comes, rung_of, power_at, chain_at, choice_at, reads}
 use Rattle.py_parser.specs.Aiming.{after_rung, grown_at, grows, risen_at, element_at, fine, next_at, elements_at, closing_at, closed_at}
 use Rattle.py_parser.proofs.Steps.{of}
-use Rattle.py_parser.proofs.Facts.{no, and_left, and_right}
+use Rattle.py_parser.proofs.Facts.{no}
 use Rattle.py_parser.proofs.Complete.{tests_nil}
 use Rattle.py_parser.proofs.Values.{plus_tests, push_tests}
-use Rattle.py_parser.proofs.Told.{Mode, any, low, Fits, Opens, alone, near, with_none, more, more_is, Told, told_done, told_ends, told_refused, there, told_as, told_same, told_if, told_post, told_take, told_word, told_bind, told_map, on, here, move}
+use Rattle.py_parser.proofs.Told.{Mode, any, low, Opens, alone, near, with_none, more, more_is, Told, told_done, told_ends, told_refused, there, told_as, told_same, told_if, told_post, told_take, told_word, told_bind, told_map, on, here, move}
 use Rattle.py_parser.proofs.Tells.{only_op, Hole, Read, p0, free, length_after, then_tests, Commaed, trailing, further, Following, no_more, commaed}
 use Rattle.py_parser.proofs.Atoms.{either}
 use Rattle.py_parser.proofs.Levels.{up_to, unders}

@@ -1,5 +1,5 @@
 -- What reading a target tells.
-use Rattle.std.proofs.Common.{◌≡◌, ℕ, ◌<◌, ◌≤◌, Bool, true, false, ◌&&◌, List, [], ◌∷◌, ◌++◌, Ok, Err, Some, None, inl, inr, refl, sym, ap, ◌∙◌, append-nil, append_assoc, arith}
+use Rattle.std.proofs.Common.{◌≡◌, ℕ, ◌<◌, Bool, true, false, ◌&&◌, List, [], ◌∷◌, ◌++◌, Ok, Err, Some, inl, inr, refl, sym, ◌∙◌, append-nil, append_assoc, arith}
 use Rattle.py_tokens.specs.declared.token.Token.{Token}
 use Rattle.py_tokens.specs.declared.token.TokenKind.TheVariants as k
 use Rattle.py_tokens.specs.declared.token.Place.{Place}
@@ -12,17 +12,17 @@ use Rattle.py_parser.specs.declared.fault.Fault.TheVariants.{Unexpected, LeftOut
 use Rattle.py_parser.specs.Codes as c
 use Rattle.py_parser.specs.Grammar.{Marks, Is}
 use Rattle.py_parser.specs.declared.tall.Tall.{Tall}
-use Rattle.py_parser.specs.Aiming.{aim_at, readers}
+use Rattle.py_parser.specs.Aiming.{readers}
 use Rattle.py_parser.specs.Reading.{first}
-use Rattle.py_parser.specs.Statements.{slices, Target}
+use Rattle.py_parser.specs.Statements.{Target}
 use Rattle.py_parser.specs.Lines.{checked, Stop}
 use Rattle.py_parser.proofs.Steps.{of}
 use Rattle.py_parser.proofs.Facts.{no, and_left, and_right}
-use Rattle.py_parser.proofs.Told.{Mode, low, marked, Opens, near, more, Told, told_done, told_refused, told_left, told_same, told_bind, on, move}
+use Rattle.py_parser.proofs.Told.{low, marked, Opens, near, more, Told, told_done, told_refused, told_left, told_same, told_bind, on, move}
 use Rattle.py_parser.proofs.Tells.{p0}
 use Rattle.py_parser.proofs.Targets.{good, by_marks, target_of}
 use Rattle.py_parser.proofs.Simples.{TargetHole, Targeting}
-use Rattle.py_parser.proofs.Aimed.{Suits, AimHole, ReadAim, extend}
+use Rattle.py_parser.proofs.Aimed.{AimHole, ReadAim, extend}
 use Rattle.py_parser.proofs.AimedAtoms.{tell_aim}
 
 marked_target : {x : Marks} {a : Expr} {us : List Token} → Is x 1 a us → is_target false (form a) ≡ true → Target x a us

@@ -26,7 +26,7 @@ use Rattle.py_parser.specs.Parses.{Parses}
 use Rattle.py_parser.specs.Outcome.{Fails}
 use Rattle.py_parser.specs.declared.error.ParseError.{ParseError}
 use Rattle.py_parser.specs.declared.error.ParseError.TheVariants.{Refused, OutOfMemory}
-use Rattle.py_parser.proofs.Told.{Beyond, Mode, any, Opens, SameFirst, more, more_is, Stays, Told, Stopped}
+use Rattle.py_parser.proofs.Told.{Beyond, any, Opens, SameFirst, more, more_is, Stays, Told, Stopped}
 use Rattle.py_parser.proofs.NoEnd.{NoEnd, nil, step, no2, no_Statement}
 use Rattle.py_parser.proofs.Steps.{or_left}
 use Rattle.py_parser.proofs.Begin.{or_right}

@@ -2,7 +2,7 @@
 -- `Statements` says what a target is; `docs/LANGUAGE.md`, "Height" and "What is refused".
 -- An expression of the level of targets becomes a target by a trailer. That is a node more, but for what ends in trailers.
 -- So with d left for a target, a test in brackets may be a target of d - 1, or any test of d - 2; and all in one pair of brackets are the one or the other.
-use Rattle.std.specs.Prelude.{ℕ, zero, suc, ◌-◌, List, [], ◌∷◌, Ok, Err, nat_lt, nat_le, ◌==◌, ◌||◌, if◌then◌else◌, Bool, true, false}
+use Rattle.std.specs.Prelude.{ℕ, zero, suc, ◌-◌, List, Ok, Err, nat_lt, nat_le, ◌==◌, ◌||◌, if◌then◌else◌, Bool, false}
 use Rattle.py_tokens.specs.declared.token.Token.{Token}
 use Rattle.py_tokens.specs.declared.token.TokenKind.{TokenKind}
 use Rattle.py_tokens.specs.declared.token.TokenKind.TheVariants as k
@@ -11,7 +11,7 @@ use Rattle.py_tree.specs.declared.expr.Expr.{Expr}
 use Rattle.py_data.specs.declared.refusal.Construct.TheVariants as left
 use Rattle.py_parser.specs.declared.fault.Fault.TheVariants.{Unexpected, LeftOut, Deep}
 use Rattle.py_parser.specs.declared.rung.Rung.{Rung}
-use Rattle.py_parser.specs.declared.rung.Rung.TheVariants.{Trailed, Powered, Signed, Chained, Negated, Chosen, Listed}
+use Rattle.py_parser.specs.declared.rung.Rung.TheVariants.{Powered, Chained, Chosen}
 use Rattle.py_parser.specs.declared.tall.Tall.{Tall}
 use Rattle.py_parser.specs.Words.{below}
 use Rattle.py_parser.specs.Tall.{push, none, start, of_name, of_group, unit, of_tuple, of_list}
