@@ -8,7 +8,8 @@ use Rattle.py_tokens.specs.Place.{token_at as at}
 use Rattle.py_parser.specs.declared.fault.Fault.TheVariants.{Deep}
 use Rattle.py_parser.specs.Codes as c
 use Rattle.py_parser.specs.Grammar.{Marks}
-use Rattle.py_parser.specs.Reading.{rest, reads}
+use Rattle.py_parser.specs.Aiming.{readers}
+use Rattle.py_parser.specs.Reading.{rest}
 use Rattle.py_parser.proofs.Facts.{no}
 use Rattle.py_parser.proofs.Told.{Mode, low, Fits, Opens, cut, more, Told, told_done, told_if, told_post, told_take, told_bind, on, here}
 use Rattle.py_parser.proofs.Tells.{p0}
@@ -28,12 +29,11 @@ use Rattle.py_parser.proofs.Blocks.{talls_append}
 use Rattle.py_parser.proofs.Bodies.{only_newline}
 use Rattle.py_parser.proofs.Bodies.{tell_line}
 use Rattle.py_parser.proofs.Targets.{tell_exprs}
-use Rattle.py_parser.proofs.Levels.{unders}
 use Rattle.py_parser.proofs.Blocks.{statement_long}
 use Rattle.py_parser.proofs.Wholes.{tell_compound}
 use Rattle.py_parser.proofs.Bodies.{only_newline}
 use Rattle.py_parser.specs.Statements.{Body}
-use Rattle.py_parser.proofs.Modules.{TellStatement, tell_statement_at, tell_block}
+use Rattle.py_parser.proofs.Modules.{lowers, TellStatement, tell_statement_at, tell_block}
 use Rattle.py_parser.specs.Refused.{EndsOnce}
 
 -- ---- the last token
@@ -116,27 +116,27 @@ more_comes pre fs (t ∷ rest) h l = omega arith
 -- ---- statements with a budget
 
 abbrev pub Targets' : ℕ → ℕ → ℕ → Type 0
-Targets' w y g = (d : ℕ) → Targeting y g d (reads (more w g) (more y d)) (reads g d)
+Targets' w y g = (d : ℕ) → Targeting y g d (readers (more w g) (more y d)) (readers g d)
 
 deep_block : Suite
 deep_block us = Err (Deep, us)
 
 low_statements : (w y g : ℕ) → Targets' w y g → TellStatement y g 1 (statements_at (more w g) (more y 1)) (statements_at g 1)
 unfolding statements_at
-low_statements w zero g targets = tell_statement_at w 0 g 0 (record { under = reads (more w g) 0; lower = reads (more w g) 0; budget = 0; block = λ us. Err (Deep, us) }) (record { under = reads g 0; lower = reads g 0; budget = 0; block = λ us. Err (Deep, us) }) refl refl (targets 0) (λ h. absurd (omega (arith, h)))
-low_statements w (suc y) g targets = tell_statement_at w (suc y) g 0 (record { under = reads (more w g) (suc y); lower = reads (more w g) y; budget = suc y; block = block_at (line_of_at (more w g) y) (statements_at (more w g) y) (more w g) }) (record { under = reads g 0; lower = reads g 0; budget = 0; block = λ us. Err (Deep, us) }) refl refl (targets 0) (λ h. absurd (omega (arith, h)))
+low_statements w zero g targets = tell_statement_at w 0 g 0 (record { under = readers (more w g) 0; lower = readers (more w g) 0; budget = 0; block = λ us. Err (Deep, us) }) (record { under = readers g 0; lower = readers g 0; budget = 0; block = λ us. Err (Deep, us) }) refl refl (targets 0) (λ h. absurd (omega (arith, h)))
+low_statements w (suc y) g targets = tell_statement_at w (suc y) g 0 (record { under = readers (more w g) (suc y); lower = readers (more w g) y; budget = suc y; block = block_at (line_of_at (more w g) y) (statements_at (more w g) y) (more w g) }) (record { under = readers g 0; lower = readers g 0; budget = 0; block = λ us. Err (Deep, us) }) refl refl (targets 0) (λ h. absurd (omega (arith, h)))
 
 pub tell_statements : (w y g : ℕ) → Targets' w y g → (d : ℕ) → TellStatement y g (suc d) (statements_at (more w g) (more y (suc d))) (statements_at g (suc d))
 unfolding statements_at line_of_at
 tell_statements w y g targets zero = low_statements w y g targets
-tell_statements w y g targets (suc zero) = tell_statement_at w y g 1 (record { under = reads (more w g) (suc y); lower = reads (more w g) y; budget = suc y; block = block_at (line_of_at (more w g) y) (statements_at (more w g) y) (more w g) }) (record { under = reads g 1; lower = reads g 0; budget = 1; block = block_at (line_of_at g 0) (statements_at g 0) g }) refl refl (targets 1) (λ h. absurd (omega (arith, h)))
+tell_statements w y g targets (suc zero) = tell_statement_at w y g 1 (record { under = readers (more w g) (suc y); lower = readers (more w g) y; budget = suc y; block = block_at (line_of_at (more w g) y) (statements_at (more w g) y) (more w g) }) (record { under = readers g 1; lower = readers g 0; budget = 1; block = block_at (line_of_at g 0) (statements_at g 0) g }) refl refl (targets 1) (λ h. absurd (omega (arith, h)))
 tell_statements w y g targets (suc (suc d)) = tell_statement_at w y g (suc (suc d))
-    (record { under = reads (more w g) (suc (suc (more y d))); lower = reads (more w g) (suc (more y d)); budget = suc (suc (more y d)); block = block_at (line_of_at (more w g) (suc (more y d))) (statements_at (more w g) (suc (more y d))) (more w g) })
-    (record { under = reads g (suc (suc d)); lower = reads g (suc d); budget = suc (suc d); block = block_at (line_of_at g (suc d)) (statements_at g (suc d)) g }) refl refl (targets (suc (suc d)))
-    (λ h n ic pre ts f l hole. tell_compound w y g (suc d) (reads (more w g) (suc (suc (more y d)))) (reads g (suc (suc d))) (reads (more w g) (suc (more y d))) (reads g (suc d)) (unders w y g (suc (suc d))) (tell_exprs w y g (suc (suc d))) (targets (suc (suc d))) (targets (suc d))
+    (record { under = readers (more w g) (suc (suc (more y d))); lower = readers (more w g) (suc (more y d)); budget = suc (suc (more y d)); block = block_at (line_of_at (more w g) (suc (more y d))) (statements_at (more w g) (suc (more y d))) (more w g) })
+    (record { under = readers g (suc (suc d)); lower = readers g (suc d); budget = suc (suc d); block = block_at (line_of_at g (suc d)) (statements_at g (suc d)) g }) refl refl (targets (suc (suc d)))
+    (λ h n ic pre ts f l hole. tell_compound w y g (suc d) (readers (more w g) (suc (suc (more y d)))) (readers g (suc (suc d))) (readers (more w g) (suc (more y d))) (readers g (suc d)) (lowers w y g (suc (suc d))) (tell_exprs w y g (suc (suc d))) (targets (suc (suc d))) (targets (suc d))
     (block_at (line_of_at (more w g) (suc (more y d))) (statements_at (more w g) (suc (more y d))) (more w g)) (block_at (line_of_at g (suc d)) (statements_at g (suc d)) g)
     (tell_block w y g (suc d) (statements_at (more w g) (suc (more y d))) (statements_at g (suc d)) (line_of_at (more w g) (suc (more y d))) (line_of_at g (suc d)) (tell_statements w y g targets d)
-    (λ pre ts l o hole. tell_line w y g d (reads (more w g) (more y d)) (reads g d) (unders w y g d) (tell_exprs w y g d) (targets d) pre ts l o hole) (omega arith))
+    (λ pre ts l o hole. tell_line w y g d (readers (more w g) (more y d)) (readers g d) (lowers w y g d) (tell_exprs w y g d) (targets d) pre ts l o hole) (omega arith))
     (omega (arith, h)) n ic pre ts f l hole)
 
 -- ---- modules

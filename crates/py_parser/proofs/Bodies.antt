@@ -12,12 +12,13 @@ use Rattle.py_tree.proofs.Heights as hh
 use Rattle.py_data.specs.declared.refusal.Construct.TheVariants as left
 use Rattle.py_parser.specs.Codes as c
 use Rattle.py_parser.specs.Grammar.{Marks, Is}
-use Rattle.py_parser.specs.Reading.{Reads, ◌>>=◌, Below, first, rest, is_op, is_keyword, comes, is_some}
+use Rattle.py_parser.specs.Aiming.{Readers}
+use Rattle.py_parser.specs.Reading.{Reads, ◌>>=◌, first, rest, is_op, is_keyword, comes, is_some}
 use Rattle.py_parser.proofs.Facts.{no}
 use Rattle.py_parser.proofs.Begin.{long}
-use Rattle.py_parser.proofs.Told.{placed, Mode, low, marked, Fits, Opens, with_none, more, Told, told_done, told_ends, told_refused, told_if, told_post, told_take, told_word, told_bind, told_map, told_when, on, here, move, there}
+use Rattle.py_parser.proofs.Told.{Mode, low, marked, Fits, Opens, with_none, more, Told, told_done, told_ends, told_refused, told_if, told_post, told_take, told_word, told_bind, told_map, told_when, on, here, move, there}
 use Rattle.py_parser.proofs.Tells.{only_op, only_keyword, told_read, told_need, p0, word, is_word, free, length_after}
-use Rattle.py_parser.proofs.Atoms.{Unders, either}
+use Rattle.py_parser.proofs.Atoms.{either}
 use Rattle.py_parser.specs.Statements as S
 use Rattle.py_parser.specs.Statements.{slices, Target, Targets, Loops, Equals}
 use Rattle.py_parser.specs.Lines.{ends_caught, is_newline}
@@ -29,7 +30,7 @@ use Rattle.py_tree.specs.declared.stmt.Stmt.{Stmt}
 use Rattle.py_tree.specs.declared.stmt.Stmt.TheVariants as st
 use Rattle.py_tree.specs.Tall.{tall, talls}
 use Rattle.py_tree.proofs.Talls as ht
-use Rattle.py_parser.proofs.Simples.{Targeting, told_target}
+use Rattle.py_parser.proofs.Simples.{Lowers, Targeting, told_target}
 use Rattle.py_parser.proofs.Worded.{tell_simple}
 use Rattle.py_parser.specs.Statements.{Line, Parameter, Later, Parameters, Params, Base, Caught, Statement, Suite as Suites, Block, Elifs, Else, Finally, Excepts, Compound}
 use Rattle.py_parser.specs.Lines.{is_indent, plain_at, line_more, line_at, Suite, body_at, arm_at, elifs_at, clause_at, caught_at, handler_at, handlers_at, try_at}
@@ -91,7 +92,7 @@ simple_long (S.Simple.assert_two p q {ts = ts} {us = us} r t) = omega (arith, le
 simple_long (S.Simple.import p q) = omega arith
 simple_long (S.Simple.from m p q r t v) = omega arith
 
-module _ (w y g d : ℕ) (under' under : Below) (below : Unders y g d under' under) (exprs : TellExprs y g d (under'.read 15) (under.read 15)) (targets : Targeting y g d under' under) where
+module _ (w y g d : ℕ) (under' under : Readers) (below : Lowers y g d under' under) (exprs : TellExprs y g d (under'.read 15) (under.read 15)) (targets : Targeting y g d under' under) where
   abbrev pub LineHole : List Token → Type 0
   LineHole pre = (m : Mode) (ss : List Stmt) (us : List Token) → Line m.marks ss us → Fits m (talls ss) (suc d) → Opens m (pre ++ us)
 
@@ -172,7 +173,7 @@ told_body {A = A} {y = y} {pre = pre} {ts = ts} {Q = Q} g d block' block K' K te
     move_front : (fs gs : List Token) (ss : List Stmt) (rest : List Token) → fs ≡ gs → Told y (pre ++ gs) rest (λ us. K' (ss, us)) (λ b us. Q b (gs ++ us)) (K (ss, rest)) → Told y (pre ++ fs) rest (λ us. K' (ss, us)) (λ b us. Q b (fs ++ us)) (K (ss, rest))
     move_front fs gs ss rest e t = subst (λ z. Told y (pre ++ z) rest (λ us. K' (ss, us)) (λ b us. Q b (z ++ us)) (K (ss, rest))) (sym e) t
 
-module _ (w y g d : ℕ) (under' under : Below) (below : Unders y g d under' under) (targets : Targeting y g d under' under) (block' block : Suite) (tell : TellBlock y g d block' block) (z2 : 2 ≤ d) where
+module _ (w y g d : ℕ) (under' under : Readers) (below : Lowers y g d under' under) (targets : Targeting y g d under' under) (block' block : Suite) (tell : TellBlock y g d block' block) (z2 : 2 ≤ d) where
   -- an arm: a test, a colon and a block
   abbrev pub ArmHole : List Token → Type 0
   ArmHole pre = (m : Mode) (a : Expr) (ss : List Stmt) (q : Place) (ts us : List Token) → Is m.marks 14 a ts → Block m.marks ss us → Fits m (max (height a) (tall_block ss)) d → Opens m (pre ++ (ts ++ at c.colon q ∷ us))
@@ -237,13 +238,13 @@ module _ (w y g d : ℕ) (under' under : Below) (below : Unders y g d under' und
       (λ a fs rest q is h. let l2 : length rest ≤ g = omega (arith, l, length_after ts fs rest q) in told_if (λ κ. is_keyword 1 κ || is_op 38 κ)
       (λ t. elim (either (is_keyword 1 (first rest)) (is_op 38 (first rest)) t) [
         | inl e ↦ let f = there rest c.as_ (only_keyword 1 (first rest) e) (λ z. cc) in let f0 = f.0 in
-            rw f.2 (told_take (told_target d _ _ (targets.target ends_caught ((pre ++ fs) ++ at c.as_ f.0 ∷ []) f.1 (placed (pre ++ fs) (at c.as_ f.0) refl) (omega (arith, l2, ap length f.2))
+            rw f.2 (told_take (told_target d _ _ (targets.target ends_caught ((pre ++ fs) ++ at c.as_ f.0 ∷ []) f.1 (omega (arith, l2, ap length f.2))
             (on word (simp append_assoc) (hole low (Some a) (Some (ex.Name [])) _ (S.Caught.named f0 (is None) (word_target None)) (λ b. omega (arith, h, hh.height_pos a, hh.height_name []))))
             (λ m b vs r j. here (simp append_assoc) (hole m (Some a) (Some b) _ (S.Caught.named f0 (is m.marks) r) (λ z. omega (arith, h, j z))))
             (λ b vs κ p r e2. rw (only_op 39 κ e2) (here (simp append_assoc) (slice a b _ p (S.Caught.named f0 (is (Some left.SliceForm)) r)))))
             (λ b gs rest2 q2 is2 h2. told_done ((λ x. move (Caught x (Some a) (Some b)) (ap (λ z. fs ++ at c.as_ f0 ∷ z) (sym (append-nil gs))) (S.Caught.named f0 (is x) (is2 x))), omega (arith, h, h2)))))
         | inr e ↦ let f = there rest c.comma (only_op 38 (first rest) e) (λ z. cc) in let f0 = f.0 in
-            rw f.2 (told_take (told_target d _ _ (targets.target ends_caught ((pre ++ fs) ++ at c.comma f.0 ∷ []) f.1 (placed (pre ++ fs) (at c.comma f.0) refl) (omega (arith, l2, ap length f.2))
+            rw f.2 (told_take (told_target d _ _ (targets.target ends_caught ((pre ++ fs) ++ at c.comma f.0 ∷ []) f.1 (omega (arith, l2, ap length f.2))
             (on word (simp append_assoc) (hole low (Some a) (Some (ex.Name [])) _ (S.Caught.comma f0 (is None) (word_target None)) (λ b. omega (arith, h, hh.height_pos a, hh.height_name []))))
             (λ m b vs r j. here (simp append_assoc) (hole m (Some a) (Some b) _ (S.Caught.comma f0 (is m.marks) r) (λ z. omega (arith, h, j z))))
             (λ b vs κ p r e2. rw (only_op 39 κ e2) (here (simp append_assoc) (slice a b _ p (S.Caught.comma f0 (is (Some left.SliceForm)) r)))))

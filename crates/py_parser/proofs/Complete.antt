@@ -55,7 +55,7 @@ tests_trailing next (suc f) found p us b h = s_tests_comma next f found p us h
 three : (kind : TokenKind) → stops 2 kind ≡ true → stops 3 kind ≡ true
 three kind h = rw h refl
 
-links_first : {x : Marks} {l : Level} {ls : List Link} {us : List Token} → Links x l ls us → (rest : List Token) → (links l (first (us ++ rest)) ≡ true) × (stops (below l) (first (us ++ rest)) ≡ true)
+pub links_first : {x : Marks} {l : Level} {ls : List Link} {us : List Token} → Links x l ls us → (rest : List Token) → (links l (first (us ++ rest)) ≡ true) × (stops (below l) (first (us ++ rest)) ≡ true)
 links_first (G.link l o p q e a) rest = (word_links o l e, word_stops o l e)
 links_first (G.more_links l o p q e a r) rest = (word_links o l e, word_stops o l e)
 
@@ -86,11 +86,11 @@ trail_first (G.generator_call p q a) rest = (refl, refl)
 trail_first (G.long_slice p q r a b) rest = (refl, refl)
 trail_first (G.slices p q r a b) rest = (refl, refl)
 
-trailers_first : {x : Marks} {rs : List Trailer} {us : List Token} → Trailers x rs us → (rest : List Token) → (trails (first (us ++ rest)) ≡ true) × (stops 0 (first (us ++ rest)) ≡ true)
+pub trailers_first : {x : Marks} {rs : List Trailer} {us : List Token} → Trailers x rs us → (rest : List Token) → (trails (first (us ++ rest)) ≡ true) × (stops 0 (first (us ++ rest)) ≡ true)
 trailers_first (G.last r) rest = trail_first r rest
 trailers_first (G.more_trailers {ts = ts} {us = us} r q) rest = subst (λ w. (trails (first w) ≡ true) × (stops 0 (first w) ≡ true)) (sym (append_assoc ts us rest)) (trail_first r (us ++ rest))
 
-trail_value : {x : Marks} (a : Expr) {rs : List Trailer} {us : List Token} → Trailers x rs us → of_trail (of a) (plus_trailers (plain [] 0) rs) ≡ of (e.Trail a rs)
+pub trail_value : {x : Marks} (a : Expr) {rs : List Trailer} {us : List Token} → Trailers x rs us → of_trail (of a) (plus_trailers (plain [] 0) rs) ≡ of (e.Trail a rs)
 trail_value a (G.last {r = r} q) = as_trail a r []
 trail_value a (G.more_trailers {r = r} {rs = rs} q w) = as_trail a r rs
 
@@ -481,7 +481,7 @@ mutual
       (then_reads x _ (λ a. tests_at ((reads g d).read 14) f (push found a.0) a.1) (of a) (at c.comma p ∷ us ++ rest) _ rest (complete r g d _ (omega arith) (omega arith) refl)
       (as_value x _ _ _ rest (ap (λ v. (v, t)) (push_tests found a es)) (complete_tests m g d f (push found (of a)) p rest (omega arith) (omega arith) (omega arith) s)))
 
-  complete_links : {x : Marks} {l : Level} {ls : List Link} {us : List Token} → Links x l ls us → (g d f : ℕ) (found : Tall (List Link)) (rest : List Token) → length us ≤ g → length us ≤ f → tops_links ls ≤ d → stops (suc (below l)) (first rest) ≡ true → Reaches x (links_at l ((reads g d).read (below l)) f found (us ++ rest)) (plus_links found ls) rest
+  pub complete_links : {x : Marks} {l : Level} {ls : List Link} {us : List Token} → Links x l ls us → (g d f : ℕ) (found : Tall (List Link)) (rest : List Token) → length us ≤ g → length us ≤ f → tops_links ls ≤ d → stops (suc (below l)) (first rest) ≡ true → Reaches x (links_at l ((reads g d).read (below l)) f found (us ++ rest)) (plus_links found ls) rest
   complete_links (G.link l o p q m r) g d zero found rest b i h s = absurd (omega arith)
   complete_links (G.link l o p q {x = x} {a = a} {ts = ts} m r) g d (suc f) found rest b i h s =
       let len = length-append (spelled o p q) ts in
@@ -567,7 +567,7 @@ mutual
       (then_reads x _ (λ b. pairs_at ((reads g d).read 14) f (push_pair found (of a) b.0) b.1) (of b') (at c.comma p' ∷ vs ++ rest) _ rest (complete j g d _ (omega arith) (omega arith) refl)
       (as_value x _ _ _ rest (push_pairs found a b' ps) (complete_pairs m g d f (push_pair found (of a) (of b')) p' rest (omega arith) (omega arith) (omega arith) s)))))
 
-  complete_trailers : {x : Marks} {rs : List Trailer} {us : List Token} → Trailers x rs us → (g d f : ℕ) (found : Tall (List Trailer)) (rest : List Token) → length us ≤ g → length us ≤ f → tops_trailers rs ≤ d → trails (first rest) ≡ false → Reaches x (trailers_at (reads g d) g f found (us ++ rest)) (plus_trailers found rs) rest
+  pub complete_trailers : {x : Marks} {rs : List Trailer} {us : List Token} → Trailers x rs us → (g d f : ℕ) (found : Tall (List Trailer)) (rest : List Token) → length us ≤ g → length us ≤ f → tops_trailers rs ≤ d → trails (first rest) ≡ false → Reaches x (trailers_at (reads g d) g f found (us ++ rest)) (plus_trailers found rs) rest
   complete_trailers (G.last r) g d zero found rest b i h s = absurd (omega (arith, trail_long r))
   complete_trailers (G.last {x = x} {r = w} {ts = ts} r) g d (suc f) found rest b i h s =
       at_same x _ _ _ rest (s_trailers (reads g d) g f found (ts ++ rest) (trail_first r rest).0)

@@ -16,14 +16,15 @@ use Rattle.py_parser.specs.Grammar as G
 use Rattle.py_parser.specs.Grammar.{Marks, Is, Strings, Tests, Commas, Exprs, Pairs, Links, Trailers, Trails, Maybe, Args}
 use Rattle.py_parser.specs.declared.tall.Tall.{Tall}
 use Rattle.py_parser.specs.Tall.{tree_or, push, start as start', of_tuple}
-use Rattle.py_parser.specs.Reading.{◌>>=◌, Below, first, is_op, is_keyword, comes, is_some, op_at}
+use Rattle.py_parser.specs.Aiming.{Readers}
+use Rattle.py_parser.specs.Reading.{◌>>=◌, first, is_op, is_keyword, comes, is_some, op_at}
 use Rattle.py_parser.proofs.Steps.{of}
 use Rattle.py_parser.proofs.Facts.{no, and_left, and_right}
 use Rattle.py_parser.proofs.Complete.{tests_nil}
 use Rattle.py_parser.proofs.Values.{plus_tests, push_tests, of_or, as_tuple}
-use Rattle.py_parser.proofs.Told.{TargetPlace, placed, Mode, any, low, marked, Fits, Opens, near, with_none, more, Told, told_done, told_ends, told_refused, told_left, told_as, told_if, told_post, told_take, told_word, told_bind, told_map, told_when, told_room, on, here, move, there}
+use Rattle.py_parser.proofs.Told.{Mode, any, low, marked, Fits, Opens, near, with_none, more, Told, told_done, told_ends, told_refused, told_left, told_as, told_if, told_post, told_take, told_word, told_bind, told_map, told_when, told_room, on, here, move, there}
 use Rattle.py_parser.proofs.Tells.{only_op, only_keyword, told_need, told_need_name, p0, word, is_word, free, length_after}
-use Rattle.py_parser.proofs.Atoms.{Unders, either}
+use Rattle.py_parser.proofs.Atoms.{either}
 use Rattle.py_parser.specs.Statements as S
 use Rattle.py_parser.specs.Statements.{slices, Target, Targets, Loops, Equals}
 use Rattle.py_parser.specs.Lines.{loops_at, loop_at, maybe_at, ends_loop}
@@ -32,7 +33,7 @@ use Rattle.py_tree.specs.declared.stmt.Stmt.{Stmt}
 use Rattle.py_tree.specs.declared.stmt.Stmt.TheVariants as st
 use Rattle.py_tree.specs.Tall.{tall}
 use Rattle.py_tree.proofs.Talls as ht
-use Rattle.py_parser.proofs.Simples.{Targeting, told_target, FollowTargets, no_target, another, then_targets}
+use Rattle.py_parser.proofs.Simples.{Lowers, Targeting, told_target, FollowTargets, no_target, another, then_targets}
 use Rattle.py_parser.specs.Statements.{Line, Parameter, Later, Parameters, Params, Base, Caught, Statement, Suite as Suites, Block, Elifs, Else, Finally, Excepts, Compound}
 use Rattle.py_parser.specs.Lines.{Suite, param_at, params_at, def_at, base_at, class_at}
 use Rattle.py_tree.specs.declared.stmt.Param.{Param}
@@ -91,7 +92,7 @@ loops_end : (a : Expr) (fs : List Token) (es : List Expr) (vs : List Token) → 
 loops_end a fs es vs is (no_target _) = (a, move (Loops (Some left.SliceForm) a) (sym (append-nil fs)) (S.Loops.single is))
 loops_end a fs es vs is (another q r) = several_targets q is r
 
-module _ (w y g d : ℕ) (lower' lower : Below) (targets : Targeting y g d lower' lower) where
+module _ (w y g d : ℕ) (lower' lower : Readers) (targets : Targeting y g d lower' lower) where
   abbrev pub LoopsHole : List Token → Type 0
   LoopsHole pre = (m : Mode) (es : List Expr) (us : List Token) → FollowLoops m.marks es us → Fits m (tops es) d → Opens m (pre ++ us)
 
@@ -105,7 +106,7 @@ module _ (w y g d : ℕ) (lower' lower : Below) (targets : Targeting y g d lower
       Told y pre (at c.comma p ∷ us) (loops_at lower' (more w (suc f)) found) (λ v fs. (es : List Expr) × (v ≡ plus_tests found es) × ((x : Marks) → CommaedLoops x es fs) × (tops es ≤ d)) (loops_at lower (suc f) found (at c.comma p ∷ us))
   unfolding loops_at
   tell_loop_comma f again found pre p us l i hole slice = told_take (told_if (comes 1)
-      (λ c'. told_target d _ _ (targets.target ends_loop (pre ++ at c.comma p ∷ []) us (placed pre (at c.comma p) refl) (omega (arith, l, i)) (hole low [] _ (looped (loop_comma None p)) (λ b. omega arith))
+      (λ c'. told_target d _ _ (targets.target ends_loop (pre ++ at c.comma p ∷ []) us (omega (arith, l, i)) (hole low [] _ (looped (loop_comma None p)) (λ b. omega arith))
       (λ m a vs r h. on [] (simp (append_assoc, append-nil)) (hole m (a ∷ []) _ (looped (further_loop p r (no_loop m.marks))) (λ b. omega (arith, h b))))
       (λ a vs κ p2 r e. here (simp append_assoc) (slice (a ∷ []) _ κ p2 (another p (S.Targets.one r)) e)))
       (λ a fs rest q is h. told_post (λ v vs r. (a ∷ r.0, r.1 ∙ push_tests found a r.0, (λ x. further_loop p (is x) (r.2 x)), omega (arith, h, r.3)))
@@ -134,13 +135,13 @@ module _ (w y g d : ℕ) (lower' lower : Below) (targets : Targeting y g d lower
       rw h.2 (tell_loop_comma f (tell_loops f) found pre h.0 h.1 (omega (arith, l, ap length h.2)) (omega (arith, i)) hole slice)
 
 -- with a budget d + 1 for one target, and d for each of several
-module _ (w y g d : ℕ) (under' under lower' lower : Below) (targets : Targeting y g (suc d) under' under) (lowers : Targeting y g d lower' lower) where
-  pub tell_loop : (pre ts : List Token) → TargetPlace pre → length ts ≤ g → Opens low pre → ((m : Mode) (t : Expr) (us : List Token) → Loops m.marks t us → Fits m (height t) (suc d) → Opens m (pre ++ us)) →
+module _ (w y g d : ℕ) (under' under lower' lower : Readers) (targets : Targeting y g (suc d) under' under) (lowers : Targeting y g d lower' lower) where
+  pub tell_loop : (pre ts : List Token) → length ts ≤ g → Opens low pre → ((m : Mode) (t : Expr) (us : List Token) → Loops m.marks t us → Fits m (height t) (suc d) → Opens m (pre ++ us)) →
       ((t : Expr) (us : List Token) (p : Place) → Loops (Some left.SliceForm) t us → Opens (marked left.SliceForm) (pre ++ (us ++ at c.in_ p ∷ []))) →
       Told y pre ts (loop_at under' lower' (more y (suc d)) (more w g)) (λ v fs. (t : Expr) × (v ≡ of t) × ((x : Marks) → Loops x t fs) × (height t ≤ suc d)) (loop_at under lower (suc d) g ts)
   unfolding loop_at
-  tell_loop pre ts place l o hole slice =
-      told_target (suc d) _ _ (targets.target ends_loop pre ts place l o (λ m a us r h. hole m a us (S.Loops.single r) h)
+  tell_loop pre ts l o hole slice =
+      told_target (suc d) _ _ (targets.target ends_loop pre ts l o (λ m a us r h. hole m a us (S.Loops.single r) h)
       (λ a us κ p r e. elim (either (is_op 38 κ) (is_keyword 18 κ) e) [
         | inl q ↦ rw (only_op 38 κ q) (hole (marked left.SliceForm) (ex.Tuple (a ∷ [])) _ (S.Loops.lone p r) free)
         | inr q ↦ rw (only_keyword 18 κ q) (slice a us p (S.Loops.single r))
@@ -179,7 +180,7 @@ later_true : (b : Bool) → Later b true
 later_true true = tt
 later_true false = tt
 
-module _ (w y g d : ℕ) (under' under : Below) (below : Unders y g d under' under) (block' block : Suite) (tell : TellBlock y g d block' block) (z2 : 2 ≤ d) where
+module _ (w y g d : ℕ) (under' under : Readers) (below : Lowers y g d under' under) (block' block : Suite) (tell : TellBlock y g d block' block) (z2 : 2 ≤ d) where
   abbrev pub ParamsHole : Bool → List Token → Type 0
   ParamsHole b pre = (m : Mode) (as' : List Param) (us : List Token) → Parameters m.marks b as' us → Fits m (defaults as') d → Opens m (pre ++ us)
 

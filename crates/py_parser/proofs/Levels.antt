@@ -103,12 +103,12 @@ sign_begins sign.Plus e = cc
 sign_begins sign.Minus e = cc
 sign_begins sign.Invert e = cc
 
-link_start : (l : Level) (κ : TokenKind) (o : Operator) → operator_of l κ ≡ Some o → (p : Place) → (us : List Token) × (ls : List Link) × Links None l ls (at κ p ∷ us)
+pub link_start : (l : Level) (κ : TokenKind) (o : Operator) → operator_of l κ ≡ Some o → (p : Place) → (us : List Token) × (ls : List Link) × Links None l ls (at κ p ∷ us)
 link_start l κ o e p = let kn = known l κ o e in
     rw kn.1 (more_words o p0 ++ word, record { operator = o; operand = ex.Name [] } ∷ [], G.link l o p p0 kn.0 (is_word (below l) None (low_level l)))
 
 module _ (w y g d : ℕ) (under' under : Below) (below' : Unders y g d under' under) where
-  tell_power : (pre : List Token) (a : Expr) (fs ts : List Token) → length ts ≤ g → ((x : Marks) → Is x 1 a fs) → height a ≤ suc d → Hole 2 (suc d) pre →
+  pub tell_power : (pre : List Token) (a : Expr) (fs ts : List Token) → length ts ≤ g → ((x : Marks) → Is x 1 a fs) → height a ≤ suc d → Hole 2 (suc d) pre →
       Told y (pre ++ fs) ts (λ us. power_at under' (more y (suc d)) (of a, us)) (λ v us. Read 2 (suc d) v (fs ++ us)) (power_at under (suc d) (of a, ts))
   unfolding power_at
   tell_power pre a fs ts l is h hole =
@@ -134,7 +134,7 @@ module _ (w y g d : ℕ) (under' under : Below) (below' : Unders y g d under' un
           (λ m a us r j. here (simp append_assoc) (hole m (ex.Unary s a) _ (G.signed s t.0 r) (λ b. omega (arith, j b, hh.height_unary s a)))))
           (λ v us r. (ex.Unary s r.0, ap (of_sign s) r.1 ∙ as_sign s r.0, (λ x. G.signed s t.0 (r.2 x)), omega (arith, r.3, hh.height_unary s r.0)))))))
 
-  tell_chain : (l : Level) (pre : List Token) (a : Expr) (fs ts : List Token) → length ts ≤ g → ((x : Marks) → Is x (below l) a fs) → height a ≤ suc d → Hole (suc (below l)) (suc d) pre →
+  pub tell_chain : (l : Level) (pre : List Token) (a : Expr) (fs ts : List Token) → length ts ≤ g → ((x : Marks) → Is x (below l) a fs) → height a ≤ suc d → Hole (suc (below l)) (suc d) pre →
       Told y (pre ++ fs) ts (λ us. chain_at l (under'.read (below l)) (more w g) (more y (suc d)) (of a, us)) (λ v us. Read (suc (below l)) (suc d) v (fs ++ us)) (chain_at l (under.read (below l)) g (suc d) (of a, ts))
   unfolding chain_at
   tell_chain l pre a fs ts len is h hole = told_if (links l) (λ e. some (operator_of l (first ts)) refl e) (λ e. told_done (a, refl, (λ x. move (Is x (suc (below l)) a) (sym (append-nil fs)) (G.up (below l) (omega (arith, below_small l)) (is x))), h))
@@ -160,7 +160,7 @@ module _ (w y g d : ℕ) (under' under : Below) (below' : Unders y g d under' un
       (λ v us r. (ex.Not r.0, ap of_not r.1 ∙ as_not r.0, (λ x. G.negated p (r.2 x)), omega (arith, r.3, hh.height_not r.0)))))))
       (λ e. told_post (λ v fs r. (r.0, r.1, (λ x. G.up 10 (omega arith) (r.2 x)), r.3)) tell)
 
-  tell_choice : (pre : List Token) (a : Expr) (fs ts : List Token) → length ts ≤ g → ((x : Marks) → Is x 13 a fs) → height a ≤ suc d → Hole 14 (suc d) pre →
+  pub tell_choice : (pre : List Token) (a : Expr) (fs ts : List Token) → length ts ≤ g → ((x : Marks) → Is x 13 a fs) → height a ≤ suc d → Hole 14 (suc d) pre →
       Told y (pre ++ fs) ts (λ us. choice_at under' (more y (suc d)) (of a, us)) (λ v us. Read 14 (suc d) v (fs ++ us)) (choice_at under (suc d) (of a, ts))
   unfolding choice_at
   tell_choice pre a fs ts l is h hole =

@@ -17,6 +17,8 @@ mod Atoms
 mod Trails
 mod Rungs
 mod Levels
+mod AimRows
+mod Aimed
 mod Targets
 mod Simples
 mod Aims
@@ -41,3 +43,7 @@ mod CanonSteps
 mod CanonHeads
 mod CanonBlocks
 mod CanonLaw
+mod AimedInside
+mod AimedAtoms
+mod AimReads
+mod AimUnfold

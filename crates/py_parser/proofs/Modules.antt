@@ -8,7 +8,8 @@ use Rattle.py_tokens.specs.Place.{token_at as at}
 use Rattle.py_data.specs.declared.refusal.Construct.TheVariants as left
 use Rattle.py_parser.specs.Codes as c
 use Rattle.py_parser.specs.Grammar.{Marks}
-use Rattle.py_parser.specs.Reading.{first, reads}
+use Rattle.py_parser.specs.Aiming.{readers}
+use Rattle.py_parser.specs.Reading.{first}
 use Rattle.py_parser.proofs.Facts.{no}
 use Rattle.py_parser.proofs.Told.{Mode, any, low, marked, Fits, Opens, more, Told, told_done, told_left, told_deep, told_post, told_take, told_word, told_bind, told_map, told_case, told_when, told_kind, on, here}
 use Rattle.py_parser.proofs.Tells.{p0, word, is_word, free}
@@ -21,7 +22,7 @@ use Rattle.py_parser.specs.Statements.{Names, Renamed, Imports, Simple}
 use Rattle.py_tree.specs.declared.stmt.Stmt.{Stmt}
 use Rattle.py_tree.specs.declared.stmt.Stmt.TheVariants as st
 use Rattle.py_tree.specs.Tall.{tall, talls}
-use Rattle.py_parser.proofs.Simples.{Targeting}
+use Rattle.py_parser.proofs.Simples.{Lowers, Targeting}
 use Rattle.py_parser.specs.Statements.{Line, Parameter, Later, Parameters, Params, Base, Caught, Statement, Suite as Suites, Block, Elifs, Else, Finally, Excepts, Compound}
 use Rattle.py_parser.specs.Lines.{is_indent, is_dedent, line_at, Suite, Parts, compound_at, is_compound, statement_by, statement_at, suite_at, block_at}
 use Rattle.py_parser.proofs.Blocks.{talls_append}
@@ -46,6 +47,9 @@ ReadStatement d v fs = ((x : Marks) → Statement x v fs) × (talls v ≤ d)
 abbrev pub TellStatement : ℕ → ℕ → ℕ → Suite → Suite → Type 0
 TellStatement y g d statement' statement = (pre ts : List Token) → length ts ≤ g → Opens low pre → StatementHole d pre → Told y pre ts statement' (ReadStatement d) (statement ts)
 
+pub lowers : (w y g d : ℕ) → Lowers y g d (readers (more w g) (more y d)) (readers g d)
+lowers w y g d = record { read = (unders w y g d).read }
+
 -- ---- a statement
 
 compound_start : (n : ℕ) → is_compound n ≡ true → (p : Place) → (us : List Token) × (a : Stmt) × Compound None a (at (k.Keyword n) p ∷ us)
@@ -69,12 +73,12 @@ compound_start n e p = elim (either (n == 16) _ e) [
     at_number : (m : ℕ) → (n == m) ≡ true → ((us : List Token) × (a : Stmt) × Compound None a (at (k.Keyword m) p ∷ us)) → (us : List Token) × (a : Stmt) × Compound None a (at (k.Keyword n) p ∷ us)
     at_number m q h = let i : m ≡ n = grind (arith, q) in subst (λ z. (us : List Token) × (a : Stmt) × Compound None a (at (k.Keyword z) p ∷ us)) i h
 
-module _ (w y g d : ℕ) (P' P : Parts) (e' : P'.under ≡ reads (more w g) (more y d)) (e : P.under ≡ reads g d) (targets : Targeting y g d (reads (more w g) (more y d)) (reads g d))
+module _ (w y g d : ℕ) (P' P : Parts) (e' : P'.under ≡ readers (more w g) (more y d)) (e : P.under ≡ readers g d) (targets : Targeting y g d (readers (more w g) (more y d)) (readers g d))
     (compound : (3 ≤ suc d) → (n : ℕ) → is_compound n ≡ true → (pre ts : List Token) → first ts ≡ k.Keyword n → length ts ≤ g → ((m : Mode) (a : Stmt) (us : List Token) → Compound m.marks a us → Fits m (tall a) (suc d) → Opens m (pre ++ us)) → Told y pre ts (compound_at P' (more w g) n) (λ v fs. ((x : Marks) → Compound x v fs) × (tall v ≤ suc d)) (compound_at P g n ts)) where
   tell_lined : (pre ts : List Token) → length ts ≤ g → Opens low pre → StatementHole (suc d) pre → Told y pre ts (line_at P'.under (more w g) (more y (suc d))) (ReadStatement (suc d)) (line_at P.under g (suc d) ts)
   tell_lined pre ts l o hole = subst (λ z. Told y pre ts (line_at z (more w g) (more y (suc d))) (ReadStatement (suc d)) (line_at P.under g (suc d) ts)) (sym e')
-      (subst (λ z. Told y pre ts (line_at (reads (more w g) (more y d)) (more w g) (more y (suc d))) (ReadStatement (suc d)) (line_at z g (suc d) ts)) (sym e)
-      (told_post (λ v fs r. ((λ x. S.line (r.0 x)), r.1)) (tell_line w y g d (reads (more w g) (more y d)) (reads g d) (unders w y g d) (tell_exprs w y g d) targets pre ts l o (λ m ss us r h. hole m ss us (S.line r) h))))
+      (subst (λ z. Told y pre ts (line_at (readers (more w g) (more y d)) (more w g) (more y (suc d))) (ReadStatement (suc d)) (line_at z g (suc d) ts)) (sym e)
+      (told_post (λ v fs r. ((λ x. S.line (r.0 x)), r.1)) (tell_line w y g d (readers (more w g) (more y d)) (readers g d) (lowers w y g d) (tell_exprs w y g d) targets pre ts l o (λ m ss us r h. hole m ss us (S.line r) h))))
 
   pub tell_statement_at : TellStatement y g (suc d) (statement_at P' (more w g) (more y (suc d))) (statement_at P g (suc d))
   unfolding statement_at

@@ -1,5 +1,5 @@
 -- What the reading of a module answers: a module of these tokens and of a height of at most 100, every such module, or where and why there is none.
-use Rattle.std.proofs.Common.{◌≡◌, ℕ, ◌+◌, ◌≤◌, ◌<◌, max, Bool, true, false, List, [], ◌∷◌, ◌++◌, length, Ok, Err, None, ◌⊎◌, inl, inr, refl, sym, ap, ◌∙◌, subst, append_assoc, append-nil, arith, length-append}
+use Rattle.std.proofs.Common.{◌≡◌, ℕ, ◌+◌, ◌≤◌, ◌<◌, max, Bool, true, false, List, [], ◌∷◌, ◌++◌, length, Ok, Err, Some, None, suc, inl, inr, refl, sym, ap, ◌∙◌, subst, append_assoc, append-nil, arith, length-append}
 use Rattle.py_data.specs.declared.refusal.Construct.{Construct}
 use Rattle.py_tokens.specs.declared.token.Token.{Token}
 use Rattle.py_tokens.specs.declared.token.TokenKind.TheVariants as k
@@ -16,16 +16,17 @@ use Rattle.py_parser.specs.Statements.{Body, IsModule}
 use Rattle.py_parser.specs.Words.{line_of}
 use Rattle.py_parser.specs.Reading.{Reads, ◌>>=◌, is_some}
 use Rattle.py_parser.specs.Lines.{statements_at, body_more, module_at}
-use Rattle.py_parser.specs.Refused.{InTarget, Begins, BeginsWith, Because, RefusedAt, EndsOnce}
+use Rattle.py_parser.specs.Refused.{Begins, BeginsWith, Because, RefusedAt, EndsOnce}
 use Rattle.py_parser.proofs.Steps.{Reaches}
 use Rattle.py_parser.proofs.Facts.{no}
+use Rattle.py_parser.proofs.Simple.{slack}
 use Rattle.py_parser.proofs.Blocks.{highest_talls}
 use Rattle.py_parser.proofs.Whole.{complete_body, only}
 use Rattle.py_parser.specs.Parses.{Parses}
 use Rattle.py_parser.specs.Outcome.{Fails}
 use Rattle.py_parser.specs.declared.error.ParseError.{ParseError}
 use Rattle.py_parser.specs.declared.error.ParseError.TheVariants.{Refused, OutOfMemory}
-use Rattle.py_parser.proofs.Told.{Beyond, Mode, any, Opens, Shown, SameFirst, more, more_is, Stays, Told, Stopped}
+use Rattle.py_parser.proofs.Told.{Beyond, any, Opens, SameFirst, more, more_is, Stays, Told, Stopped}
 use Rattle.py_parser.proofs.NoEnd.{NoEnd, nil, step, no2, no_Statement}
 use Rattle.py_parser.proofs.Steps.{or_left}
 use Rattle.py_parser.proofs.Begin.{or_right}
@@ -40,7 +41,7 @@ abbrev Taken : List Stmt → List Token → Type 0
 Taken v fs = (ss : List Stmt) × (v ≡ [] ++ ss) × ((x : Marks) → Body x ss fs) × (talls ss ≤ 99)
 
 whole : (d : ℕ) → d ≡ 99 → BodyHole d []
-whole d e m ss us p h = record { opens = inl (record { body = ss; more = []; spells = subst (Body m.marks ss) (sym (append-nil us)) p; fits = λ z. omega (arith, h z, e) }) }
+whole d e m ss us p h = record { body = ss; more = []; spells = subst (Body m.marks ss) (sym (append-nil us)) p; fits = λ z. omega (arith, h z, e) }
 
 some_tokens : (ts : List Token) → EndsOnce ts → 0 < length ts
 some_tokens [] h = absurd h
@@ -159,7 +160,7 @@ module _ (ts : List Token) (h : EndsOnce ts) (f : Fault) (rest : List Token) (e 
   again w y us s z = ap (λ q. body_more (statements_at (more w (length ts)) (more y 99)) (more w (length ts)) [] (q ++ us)) (sym (same_front w y)) ∙ (stop w y).same us s z
 
   module _ (t : Token) (us : List Token) (r : rest ≡ t ∷ us) where
-    reads_it : {x : Marks} {ss : List Stmt} (y : ℕ) (more' : List Token) → Body x ss ((front ++ t ∷ []) ++ more') → talls ss ≤ more y 99 → Stays y f →
+    reads_it : {x : Marks} {ss : List Stmt} (y : ℕ) (more' : List Token) → Body x ss ((front ++ t ∷ []) ++ more') → slack x + talls ss ≤ more y 99 → Stays y f →
         (body_more (statements_at (more (length (front ++ t ∷ more')) (length ts)) (more y 99)) (more (length (front ++ t ∷ more')) (length ts)) [] (front ++ t ∷ more') ≡ Err (f, t ∷ more')) ×
         Reaches x (body_more (statements_at (more (length (front ++ t ∷ more')) (length ts)) (more y 99)) (more (length (front ++ t ∷ more')) (length ts)) [] (front ++ t ∷ more')) ([] ++ ss) []
     reads_it {x = x} {ss = ss} y more' p i z =
@@ -173,20 +174,11 @@ module _ (ts : List Token) (h : EndsOnce ts) (f : Fault) (rest : List Token) (e 
         let q = reads_it y b.1 b.2 (omega (arith, b.3, module_tall b.0, i)) z in
         elim q.1 [ inl ok ↦ err_ok _ _ _ q.0 ok | inr bad ↦ no (sym (ap is_some bad.2)) ]
 
-    begins : {z : List Token} → Shown any z → (d : ℕ) × Begins d z
-    begins o = let m : Module = record { body = o.body } in (tall_module m, (m, o.more, o.spells, omega arith))
-
-    before : Begins 100 front ⊎ InTarget front
-    before = elim (stop 0 0).before.opens [
-      | inl o ↦ inl (let m : Module = record { body = o.body } in (m, o.more, o.spells, omega (arith, o.fits refl, module_tall m)))
-      | inr p ↦ let q = p.1 in inr (record { before = q.before; word = q.word; target = q.target; more = q.more; tree = q.tree; split = q.split; place = q.place; spells = q.spells; begins = begins q.shown })
-    ]
-
-    really : {m : Mode} {z : List Token} → m.bounded ≡ false → Opens m z → Shown m z
-    really e o = elim o.opens [ inl s ↦ s | inr p ↦ no (sym p.0 ∙ e) ]
+    before : Begins 100 front
+    before = let o = (stop 0 0).before in let m : Module = record { body = o.body } in (m, o.more, o.spells, omega (arith, o.fits refl, module_tall m))
 
     beyond_any : Opens any ((stop 0 0).front ++ t ∷ []) → (d : ℕ) × Begins d (front ++ t ∷ [])
-    beyond_any o = begins (really refl o)
+    beyond_any o = let m : Module = record { body = o.body } in (tall_module m, (m, o.more, o.spells, omega arith))
 
     because : Because f (front ++ t ∷ [])
     because = go f refl
@@ -199,13 +191,13 @@ module _ (ts : List Token) (h : EndsOnce ts) (f : Fault) (rest : List Token) (e 
 
         go : (g : Fault) → f ≡ g → Because g (front ++ t ∷ [])
         go Deep q = beyond_any (subst (λ z. Beyond z ((stop 0 0).front ++ t ∷ [])) q ((stop 0 0).beyond t us r))
-        go (LeftOut c) q = ((λ d. none d (subst (Stays d) (sym q) tt)), let o = really refl (subst (λ z. Beyond z ((stop 0 0).front ++ t ∷ [])) q ((stop 0 0).beyond t us r)) in (o.body, o.more, o.spells))
+        go (LeftOut c) q = ((λ d. none d (subst (Stays d) (sym q) tt)), let o = subst (λ z. Beyond z ((stop 0 0).front ++ t ∷ [])) q ((stop 0 0).beyond t us r) in (o.body, o.more, o.spells))
         go Unexpected q = ((λ d. none d (subst (Stays d) (sym q) tt)), λ c b. with_mark c b q)
           where
             with_mark : (c : Construct) → BeginsWith c (front ++ t ∷ []) → f ≡ Unexpected → ⊥
             with_mark c b q =
-                let d = talls b.0 in
-                let i : d ≤ more d 99 = omega (arith, more_is d 99) in
+                let d = suc (talls b.0) in
+                let i : slack (Some c) + talls b.0 ≤ more d 99 = omega (arith, more_is d 99) in
                 let w = reads_it d b.1 b.2 i (subst (Stays d) (sym q) tt) in
                 elim w.1 [ inl ok ↦ err_ok _ _ _ w.0 ok | inr bad ↦ err_left (t ∷ b.1) bad.1 bad.0 _ (w.0 ∙ ap (λ z. Err (z, t ∷ b.1)) q) bad.3 ]
 
@@ -216,36 +208,15 @@ module _ (ts : List Token) (h : EndsOnce ts) (f : Fault) (rest : List Token) (e 
   not_none : rest ≡ [] → ⊥
   not_none r =
       let same : ts ≡ front = (stop 0 0).split ∙ ap (λ z. front ++ z) r ∙ append-nil front in
-      let shown = (stop 0 0).before.opens in
-      elim shown [
-        | inl o ↦ closed same o.body o.more o.spells (omega (arith, o.fits refl))
-        | inr p ↦ let q = p.1 in by_fault f refl same q.shown.body q.shown.more q.shown.spells
-      ]
+      let o = (stop 0 0).before in closed same o.body o.more o.spells (omega (arith, o.fits refl))
     where
-      again_all : (y : ℕ) → Stays y f → body_more (statements_at (more (length ts) (length ts)) (more y 99)) (more (length ts) (length ts)) [] ts ≡ Err (f, [])
-      again_all y z = ap (λ q. body_more (statements_at (more (length ts) (length ts)) (more y 99)) (more (length ts) (length ts)) [] q) ((stop 0 0).split ∙ ap (λ z. front ++ z) r) ∙ again (length ts) y [] (subst (λ q. SameFirst q []) (sym r) tt) z
-
       no_more : (same : ts ≡ front) (ss : List Stmt) (more' : List Token) → Body None ss (front ++ more') → more' ≡ []
       no_more same ss more' p = let l = body_front p in ends_more front more' l.0 l.1 (subst EndsOnce same h) l.3 l.2
 
       closed : (same : ts ≡ front) (ss : List Stmt) (more' : List Token) → Body None ss (front ++ more') → talls ss ≤ 99 → ⊥
       closed same ss more' p i =
           let q : Body None ss ts = subst (Body None ss) (ap (λ z. front ++ z) (no_more same ss more' p) ∙ append-nil front ∙ sym same) p in
-          elim (complete_body q (length ts) 99 (length ts) [] (omega arith) (omega arith) i) [ inl ok ↦ err_ok _ _ _ e ok | inr bad ↦ no (sym (ap is_some bad.2)) ]
-
-      closed_high : (same : ts ≡ front) (ss : List Stmt) (more' : List Token) → Body None ss (front ++ more') → ((y : ℕ) → Stays y f) → ⊥
-      closed_high same ss more' p z =
-          let q : Body None ss ts = subst (Body None ss) (ap (λ z. front ++ z) (no_more same ss more' p) ∙ append-nil front ∙ sym same) p in
-          let d = talls ss in let big : length ts ≤ more (length ts) (length ts) = omega (arith, more_is (length ts) (length ts)) in
-          elim (complete_body q (more (length ts) (length ts)) (more d 99) (more (length ts) (length ts)) [] big big (omega (arith, more_is d 99))) [ inl ok ↦ err_ok _ _ _ (again_all d (z d)) ok | inr bad ↦ no (sym (ap is_some bad.2)) ]
-
-      by_fault : (g : Fault) → f ≡ g → (same : ts ≡ front) (ss : List Stmt) (more' : List Token) → Body None ss (front ++ more') → ⊥
-      by_fault Unexpected q same ss more' p = closed_high same ss more' p (λ y. subst (Stays y) (sym q) tt)
-      by_fault (LeftOut c) q same ss more' p = closed_high same ss more' p (λ y. subst (Stays y) (sym q) tt)
-      by_fault Deep q same ss more' p = elim ((stop 0 0).ahead q r).opens [
-        | inl o ↦ cons_none _ _ (no_more same o.body (at k.End (record { from = 0; to = 0; line = 0 }) ∷ o.more) (subst (Body None o.body) (append_assoc front (at k.End (record { from = 0; to = 0; line = 0 }) ∷ []) o.more) o.spells))
-        | inr w ↦ no (sym w.0)
-      ]
+          elim (complete_body q (length ts) 99 (length ts) [] (omega arith) (omega arith) (omega (arith, i))) [ inl ok ↦ err_ok _ _ _ e ok | inr bad ↦ no (sym (ap is_some bad.2)) ]
 
 refused_by : (ts : List Token) (h : EndsOnce ts) (f : Fault) (rest : List Token) → body_more (statements_at (length ts) 99) (length ts) [] ts ≡ Err (f, rest) → RefusedAt ts f (line_of rest)
 refused_by ts h f [] e = absurd (not_none ts h f [] e refl)

@@ -18,13 +18,13 @@ use Rattle.py_parser.specs.Codes as c
 use Rattle.py_parser.specs.Grammar.{Marks, Exprs}
 use Rattle.py_parser.specs.declared.tall.Tall.{Tall}
 use Rattle.py_parser.specs.Tall.{push}
-use Rattle.py_parser.specs.Reading.{is_none, name_of, Reads, Test, ◌>>=◌, Below, first, rest, is_op, is_keyword, is_some, name_at}
+use Rattle.py_parser.specs.Aiming.{Readers}
+use Rattle.py_parser.specs.Reading.{is_none, name_of, Reads, Test, ◌>>=◌, first, rest, is_op, is_keyword, is_some, name_at}
 use Rattle.py_parser.proofs.Steps.{of}
 use Rattle.py_parser.proofs.Facts.{no, some_inj}
 use Rattle.py_parser.proofs.Begin.{long}
-use Rattle.py_parser.proofs.Told.{TargetPlace, placed, Mode, low, marked, Fits, Opens, with_none, more, Told, told_done, told_ends, told_refused, told_left, told_same, told_post, told_take, told_word, told_bind, told_map, told_line, told_kind, on, here, move, there}
-use Rattle.py_parser.proofs.Tells.{only_op, only_keyword, told_need_name, only_name, p0, word, free, length_after}
-use Rattle.py_parser.proofs.Atoms.{Unders}
+use Rattle.py_parser.proofs.Told.{Mode, low, marked, Fits, Opens, with_none, more, Told, told_done, told_ends, told_refused, told_left, told_same, told_post, told_take, told_word, told_bind, told_map, told_line, told_kind, on, here, move, there}
+use Rattle.py_parser.proofs.Tells.{Tell, only_op, only_keyword, told_need_name, only_name, p0, word, free, length_after}
 use Rattle.py_tree.specs.Form.{is_single}
 use Rattle.py_parser.specs.Words.{line_of}
 use Rattle.py_parser.specs.Statements as S
@@ -41,6 +41,10 @@ use Rattle.py_tree.specs.declared.stmt.Imported.{Imported}
 use Rattle.py_tree.specs.Tall.{tall}
 use Rattle.py_tree.proofs.Talls as ht
 
+-- What the expressions of a statement tell, by their levels.
+pub record Lowers (y g d : ℕ) (under' under : Readers) : Type 0 where
+  pub read : (n : ℕ) → n ≤ 14 → Tell y g d n (under'.read n) (under.read n)
+
 -- ---- targets
 
 abbrev pub TargetHole : ℕ → List Token → Type 0
@@ -54,8 +58,8 @@ abbrev pub Targeted : ℕ → Tall Expr → List Token → Type 0
 Targeted d v fs = (a : Expr) × (v ≡ of a) × ((x : Marks) → Target x a fs) × (height a ≤ d)
 
 -- Reading a target tells.
-pub record Targeting (y g d : ℕ) (under' under : Below) : Type 0 where
-  pub target : (after : Stop) (pre ts : List Token) → TargetPlace pre → length ts ≤ g → Opens low pre → TargetHole d pre → SliceHole after pre → Told y pre ts (target_at under' after) (Targeted d) (target_at under after ts)
+pub record Targeting (y g d : ℕ) (under' under : Readers) : Type 0 where
+  pub target : (after : Stop) (pre ts : List Token) → length ts ≤ g → Opens low pre → TargetHole d pre → SliceHole after pre → Told y pre ts (target_at under' after) (Targeted d) (target_at under after ts)
 
 pub told_target : {A : Type 0} {y : ℕ} {pre ts : List Token} {again : Test} {r : Reads (Tall Expr)} {Q : A → List Token → Type 0} (d : ℕ) (K' K : Tall Expr × List Token → Reads A) → Told y pre ts again (Targeted d) r →
     ((a : Expr) (fs rest : List Token) → ts ≡ fs ++ rest → ((x : Marks) → Target x a fs) → height a ≤ d → Told y (pre ++ fs) rest (λ us. K' (of a, us)) (λ b us. Q b (fs ++ us)) (K (of a, rest))) →
@@ -182,7 +186,7 @@ module _ (w y : ℕ) where
       (tell_imports may n0 e0 f (found ++ i ∷ []) ((pre ++ at c.comma p ∷ []) ++ fs) us2 (omega (arith, l, ap length q, length_after us fs us2 q2)) (λ m is vs r. here (simp append_assoc) (hole m (i ∷ is) _ (more_imports p (then_imports may m.marks i fs j r)))))))))
       (λ e. told_done ([], sym (append-nil found), no_import may))
 
-module _ (w y g d : ℕ) (under' under : Below) (below : Unders y g d under' under) (exprs : TellExprs y g d (under'.read 15) (under.read 15)) (targets : Targeting y g d under' under) where
+module _ (w y g d : ℕ) (under' under : Readers) (below : Lowers y g d under' under) (exprs : TellExprs y g d (under'.read 15) (under.read 15)) (targets : Targeting y g d under' under) where
   abbrev pub TargetsHole : List Token → Type 0
   TargetsHole pre = (m : Mode) (es : List Expr) (us : List Token) → FollowTargets m.marks es us → Fits m (tops es) d → Opens m (pre ++ us)
 
@@ -199,7 +203,7 @@ module _ (w y g d : ℕ) (under' under : Below) (below : Unders y g d under' und
       ends (suc n) = refl
   tell_targets zero found pre (t ∷ ts) l i z' hole slice = absurd (omega (arith, l))
   tell_targets (suc f) found pre ts l i z' hole slice = told_word (is_op 38) c.comma (only_op 38) refl
-      (λ p us q. rw q (told_take (told_target d _ _ (targets.target ends_del (pre ++ at c.comma p ∷ []) us (placed pre (at c.comma p) refl) (omega (arith, l, i, ap length q))
+      (λ p us q. rw q (told_take (told_target d _ _ (targets.target ends_del (pre ++ at c.comma p ∷ []) us (omega (arith, l, i, ap length q))
       (on word (simp append_assoc) (hole low (ex.Name [] ∷ []) _ (another p (S.Targets.one (word_target None))) (λ b. omega (arith, z', hh.height_name []))))
       (λ m a us r h. here (simp append_assoc) (hole m (a ∷ []) _ (another p (S.Targets.one r)) (λ b. omega (arith, h b))))
       (λ a us κ p2 r e. here (simp append_assoc) (slice (a ∷ []) _ κ p2 (another p (S.Targets.one r)) e)))

@@ -52,7 +52,7 @@ reads_up g (suc d) n us h = let e : suc d - 1 ≡ d = omega arith in rw e (at_su
 
 -- ---- a rung that adds nothing
 
-trail_quiet : (under : Below) (g d : ℕ) (v : Tall Expr) (us : List Token) → trails (first us) ≡ false → trail_at under g d (v, us) ≡ Ok (v, us)
+pub trail_quiet : (under : Below) (g d : ℕ) (v : Tall Expr) (us : List Token) → trails (first us) ≡ false → trail_at under g d (v, us) ≡ Ok (v, us)
 unfolding trail_at
 trail_quiet under g d v us h = rw h refl
 

@@ -6,12 +6,13 @@ use Rattle.py_tokens.specs.declared.token.TokenKind.{TokenKind}
 use Rattle.py_tokens.specs.declared.token.TokenKind.TheVariants as k
 use Rattle.py_parser.specs.declared.fault.Fault.TheVariants.{Deep}
 use Rattle.py_parser.specs.Lines.{Suite, statement_by, statement_at, statements_at, line_of_at, line_at}
-use Rattle.py_parser.specs.Reading.{reads, first}
+use Rattle.py_parser.specs.Aiming.{readers}
+use Rattle.py_parser.specs.Reading.{first}
 use Rattle.py_parser.specs.Suites.{parts_of, inner_block}
 
 -- without room for a block, what reads blocks is not asked
 lowest : (g : ℕ) (block other : Suite) (kind : TokenKind) (ts : List Token) →
-    statement_by (record { under = reads g 0; lower = reads g 0; budget = 0; block = block }) g 1 kind ts ≡ statement_by (record { under = reads g 0; lower = reads g 0; budget = 0; block = other }) g 1 kind ts
+    statement_by (record { under = readers g 0; lower = readers g 0; budget = 0; block = block }) g 1 kind ts ≡ statement_by (record { under = readers g 0; lower = readers g 0; budget = 0; block = other }) g 1 kind ts
 lowest g block other (k.Name n) ts = refl
 lowest g block other (k.Keyword n) ts = refl
 lowest g block other (k.Int n) ts = refl
@@ -43,7 +44,7 @@ pub line_none : (g : ℕ) (ts : List Token) → line_of_at g 0 ts ≡ Err (Deep,
 unfolding line_of_at
 line_none g ts = refl
 
-pub line_up : (g d : ℕ) (ts : List Token) → 0 < d → line_of_at g d ts ≡ line_at (reads g (d - 1)) g d ts
+pub line_up : (g d : ℕ) (ts : List Token) → 0 < d → line_of_at g d ts ≡ line_at (readers g (d - 1)) g d ts
 unfolding line_of_at
 line_up g zero ts h = absurd (omega arith)
 line_up g (suc d) ts h = let e : suc d - 1 ≡ d = omega arith in rw e refl

@@ -122,7 +122,7 @@ trailers_good (G.more_trailers r (G.more_trailers q w)) = trailers_good (G.more_
 mutual
   unfolding good_all
 
-  good : {x : Marks} {n : ℕ} {a : Expr} {ts : List Token} → Is x n a ts → Good (form a)
+  pub good : {x : Marks} {n : ℕ} {a : Expr} {ts : List Token} → Is x n a ts → Good (form a)
   good (G.up n l p) = good p
   good (G.name x n p) = rw (ff.form_name n) (λ e. refl)
   good (G.int x n p) = rw (ff.form_int n) (λ e. e)
@@ -165,7 +165,7 @@ good_exprs : {x : Marks} {a : Expr} {ts : List Token} → Exprs x a ts → Good 
 good_exprs (G.single p) = good p
 good_exprs (G.tuple p) = good_commas p
 
-by_marks : (P : Bool → Type 0) (x : Marks) → P false → P true → P (slices x)
+pub by_marks : (P : Bool → Type 0) (x : Marks) → P false → P true → P (slices x)
 by_marks P None f h = f
 by_marks P (Some left.Float) f h = f
 by_marks P (Some left.Long) f h = f

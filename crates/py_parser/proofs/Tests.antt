@@ -16,6 +16,7 @@ use Rattle.py_data.specs.declared.refusal.Construct.TheVariants as left
 use Rattle.py_parser.specs.declared.fault.Fault.{Fault}
 use Rattle.py_parser.specs.declared.fault.Fault.TheVariants.{Unexpected, LeftOut, Deep}
 use Rattle.py_parser.specs.Reading.{op_at, keyword_at, name_at, strings_at, tests_at, round_at, list_at, pairs_at, dict_at, atom_at, named_at, args_at, slice_at, subscript_at, call_at, trailer_at, trailers_at, trail_at, power_at, links_at, chain_at, choice_at, after_at, level_at, reads, Reads}
+use Rattle.py_parser.specs.Aiming.{grown_at, risen_at, element_at, next_at, elements_at, closed_at, aim_round, aim_list, aim_at}
 use Rattle.py_parser.specs.Lines.{plain_at, maybe_at, checked, targets_at, loops_at, loop_at, equals_at, run_at, names_at, import_name_at, renamed_at, imported_at, imports_at, print_at, raise_at, assert_at, from_at, running_at, simple_at, line_more, line_at, body_at, arm_at, elifs_at, clause_at, caught_at, handler_at, handlers_at, try_at, param_at, params_at, def_at, base_at, class_at, statement_at, suite_at, block_at, line_of_at, statements_at, body_more, module_at}
 
 abbrev place : ℕ → Place
@@ -57,7 +58,7 @@ module _ (one : ℤ) where
 
   -- `for x , in y : pass`
   a5 : told (module_at 40 (tk (k.Keyword 13) ∷ tk (k.Name (120 ∷ [])) ∷ tk (k.Op 38) ∷ tk (k.Keyword 18) ∷ tk (k.Name (121 ∷ [])) ∷ tk (k.Op 39) ∷ tk (k.Keyword 23) ∷ tk (k.Newline) ∷ tk (k.End) ∷ [])) ≡ Ok 0
-  unfolding op_at keyword_at name_at strings_at tests_at round_at list_at pairs_at dict_at atom_at named_at args_at slice_at subscript_at call_at trailer_at trailers_at trail_at power_at links_at chain_at choice_at after_at level_at reads plain_at maybe_at checked targets_at loops_at loop_at equals_at run_at names_at import_name_at renamed_at imported_at imports_at print_at raise_at assert_at from_at running_at simple_at line_more line_at body_at arm_at elifs_at clause_at caught_at handler_at handlers_at try_at param_at params_at def_at base_at class_at statement_at suite_at block_at line_of_at statements_at body_more module_at
+  unfolding op_at keyword_at name_at strings_at tests_at round_at list_at pairs_at dict_at atom_at named_at args_at slice_at subscript_at call_at trailer_at trailers_at trail_at power_at links_at chain_at choice_at after_at level_at reads plain_at maybe_at checked targets_at loops_at loop_at equals_at run_at names_at import_name_at renamed_at imported_at imports_at print_at raise_at assert_at from_at running_at simple_at line_more line_at body_at arm_at elifs_at clause_at caught_at handler_at handlers_at try_at param_at params_at def_at base_at class_at statement_at suite_at block_at line_of_at statements_at body_more module_at grown_at risen_at element_at next_at elements_at closed_at aim_round aim_list aim_at
   a5 = refl
 
   -- `print x ,`
@@ -77,7 +78,7 @@ module _ (one : ℤ) where
 
   -- `del x , ( y ) , [ ]`
   a9 : told (module_at 40 (tk (k.Keyword 7) ∷ tk (k.Name (120 ∷ [])) ∷ tk (k.Op 38) ∷ tk (k.Op 32) ∷ tk (k.Name (121 ∷ [])) ∷ tk (k.Op 33) ∷ tk (k.Op 38) ∷ tk (k.Op 34) ∷ tk (k.Op 35) ∷ tk (k.Newline) ∷ tk (k.End) ∷ [])) ≡ Ok 0
-  unfolding op_at keyword_at name_at strings_at tests_at round_at list_at pairs_at dict_at atom_at named_at args_at slice_at subscript_at call_at trailer_at trailers_at trail_at power_at links_at chain_at choice_at after_at level_at reads plain_at maybe_at checked targets_at loops_at loop_at equals_at run_at names_at import_name_at renamed_at imported_at imports_at print_at raise_at assert_at from_at running_at simple_at line_more line_at body_at arm_at elifs_at clause_at caught_at handler_at handlers_at try_at param_at params_at def_at base_at class_at statement_at suite_at block_at line_of_at statements_at body_more module_at
+  unfolding op_at keyword_at name_at strings_at tests_at round_at list_at pairs_at dict_at atom_at named_at args_at slice_at subscript_at call_at trailer_at trailers_at trail_at power_at links_at chain_at choice_at after_at level_at reads plain_at maybe_at checked targets_at loops_at loop_at equals_at run_at names_at import_name_at renamed_at imported_at imports_at print_at raise_at assert_at from_at running_at simple_at line_more line_at body_at arm_at elifs_at clause_at caught_at handler_at handlers_at try_at param_at params_at def_at base_at class_at statement_at suite_at block_at line_of_at statements_at body_more module_at grown_at risen_at element_at next_at elements_at closed_at aim_round aim_list aim_at
   a9 = refl
 
   -- `if x : NL IN pass NL DE elif y : pass NL else : pass`
@@ -87,7 +88,7 @@ module _ (one : ℤ) where
 
   -- `try : pass NL except E , e : pass NL except : pass NL else : pass NL finally : pass`
   a11 : told (module_at 40 (tk (k.Keyword 27) ∷ tk (k.Op 39) ∷ tk (k.Keyword 23) ∷ tk (k.Newline) ∷ tk (k.Keyword 10) ∷ tk (k.Name (69 ∷ [])) ∷ tk (k.Op 38) ∷ tk (k.Name (101 ∷ [])) ∷ tk (k.Op 39) ∷ tk (k.Keyword 23) ∷ tk (k.Newline) ∷ tk (k.Keyword 10) ∷ tk (k.Op 39) ∷ tk (k.Keyword 23) ∷ tk (k.Newline) ∷ tk (k.Keyword 9) ∷ tk (k.Op 39) ∷ tk (k.Keyword 23) ∷ tk (k.Newline) ∷ tk (k.Keyword 12) ∷ tk (k.Op 39) ∷ tk (k.Keyword 23) ∷ tk (k.Newline) ∷ tk (k.End) ∷ [])) ≡ Ok 0
-  unfolding op_at keyword_at name_at strings_at tests_at round_at list_at pairs_at dict_at atom_at named_at args_at slice_at subscript_at call_at trailer_at trailers_at trail_at power_at links_at chain_at choice_at after_at level_at reads plain_at maybe_at checked targets_at loops_at loop_at equals_at run_at names_at import_name_at renamed_at imported_at imports_at print_at raise_at assert_at from_at running_at simple_at line_more line_at body_at arm_at elifs_at clause_at caught_at handler_at handlers_at try_at param_at params_at def_at base_at class_at statement_at suite_at block_at line_of_at statements_at body_more module_at
+  unfolding op_at keyword_at name_at strings_at tests_at round_at list_at pairs_at dict_at atom_at named_at args_at slice_at subscript_at call_at trailer_at trailers_at trail_at power_at links_at chain_at choice_at after_at level_at reads plain_at maybe_at checked targets_at loops_at loop_at equals_at run_at names_at import_name_at renamed_at imported_at imports_at print_at raise_at assert_at from_at running_at simple_at line_more line_at body_at arm_at elifs_at clause_at caught_at handler_at handlers_at try_at param_at params_at def_at base_at class_at statement_at suite_at block_at line_of_at statements_at body_more module_at grown_at risen_at element_at next_at elements_at closed_at aim_round aim_list aim_at
   a11 = refl
 
   -- `def f ( a , b = 1 , ) : return a`
@@ -372,12 +373,12 @@ module _ (one : ℤ) where
 
   -- `del x [ : ]`
   r43 : told (module_at 40 (tk (k.Keyword 7) ∷ tk (k.Name (120 ∷ [])) ∷ tk (k.Op 34) ∷ tk (k.Op 39) ∷ tk (k.Op 35) ∷ tk (k.Newline) ∷ tk (k.End) ∷ [])) ≡ Err (LeftOut left.SliceForm, 2)
-  unfolding op_at keyword_at name_at strings_at tests_at round_at list_at pairs_at dict_at atom_at named_at args_at slice_at subscript_at call_at trailer_at trailers_at trail_at power_at links_at chain_at choice_at after_at level_at reads plain_at maybe_at checked targets_at loops_at loop_at equals_at run_at names_at import_name_at renamed_at imported_at imports_at print_at raise_at assert_at from_at running_at simple_at line_more line_at body_at arm_at elifs_at clause_at caught_at handler_at handlers_at try_at param_at params_at def_at base_at class_at statement_at suite_at block_at line_of_at statements_at body_more module_at
+  unfolding op_at keyword_at name_at strings_at tests_at round_at list_at pairs_at dict_at atom_at named_at args_at slice_at subscript_at call_at trailer_at trailers_at trail_at power_at links_at chain_at choice_at after_at level_at reads plain_at maybe_at checked targets_at loops_at loop_at equals_at run_at names_at import_name_at renamed_at imported_at imports_at print_at raise_at assert_at from_at running_at simple_at line_more line_at body_at arm_at elifs_at clause_at caught_at handler_at handlers_at try_at param_at params_at def_at base_at class_at statement_at suite_at block_at line_of_at statements_at body_more module_at grown_at risen_at element_at next_at elements_at closed_at aim_round aim_list aim_at
   r43 = refl
 
   -- `for x [ : ] in`
   r44 : told (module_at 40 (tk (k.Keyword 13) ∷ tk (k.Name (120 ∷ [])) ∷ tk (k.Op 34) ∷ tk (k.Op 39) ∷ tk (k.Op 35) ∷ tk (k.Keyword 18) ∷ tk (k.Newline) ∷ tk (k.End) ∷ [])) ≡ Err (LeftOut left.SliceForm, 3)
-  unfolding op_at keyword_at name_at strings_at tests_at round_at list_at pairs_at dict_at atom_at named_at args_at slice_at subscript_at call_at trailer_at trailers_at trail_at power_at links_at chain_at choice_at after_at level_at reads plain_at maybe_at checked targets_at loops_at loop_at equals_at run_at names_at import_name_at renamed_at imported_at imports_at print_at raise_at assert_at from_at running_at simple_at line_more line_at body_at arm_at elifs_at clause_at caught_at handler_at handlers_at try_at param_at params_at def_at base_at class_at statement_at suite_at block_at line_of_at statements_at body_more module_at
+  unfolding op_at keyword_at name_at strings_at tests_at round_at list_at pairs_at dict_at atom_at named_at args_at slice_at subscript_at call_at trailer_at trailers_at trail_at power_at links_at chain_at choice_at after_at level_at reads plain_at maybe_at checked targets_at loops_at loop_at equals_at run_at names_at import_name_at renamed_at imported_at imports_at print_at raise_at assert_at from_at running_at simple_at line_more line_at body_at arm_at elifs_at clause_at caught_at handler_at handlers_at try_at param_at params_at def_at base_at class_at statement_at suite_at block_at line_of_at statements_at body_more module_at grown_at risen_at element_at next_at elements_at closed_at aim_round aim_list aim_at
   r44 = refl
 
   -- `x , *`
@@ -417,7 +418,7 @@ module _ (one : ℤ) where
 
   -- `for x + y`
   r52 : told (module_at 40 (tk (k.Keyword 13) ∷ tk (k.Name (120 ∷ [])) ∷ tk (k.Op 21) ∷ tk (k.Name (121 ∷ [])) ∷ tk (k.Newline) ∷ tk (k.End) ∷ [])) ≡ Err (Unexpected, 4)
-  unfolding op_at keyword_at name_at strings_at tests_at round_at list_at pairs_at dict_at atom_at named_at args_at slice_at subscript_at call_at trailer_at trailers_at trail_at power_at links_at chain_at choice_at after_at level_at reads plain_at maybe_at checked targets_at loops_at loop_at equals_at run_at names_at import_name_at renamed_at imported_at imports_at print_at raise_at assert_at from_at running_at simple_at line_more line_at body_at arm_at elifs_at clause_at caught_at handler_at handlers_at try_at param_at params_at def_at base_at class_at statement_at suite_at block_at line_of_at statements_at body_more module_at
+  unfolding op_at keyword_at name_at strings_at tests_at round_at list_at pairs_at dict_at atom_at named_at args_at slice_at subscript_at call_at trailer_at trailers_at trail_at power_at links_at chain_at choice_at after_at level_at reads plain_at maybe_at checked targets_at loops_at loop_at equals_at run_at names_at import_name_at renamed_at imported_at imports_at print_at raise_at assert_at from_at running_at simple_at line_more line_at body_at arm_at elifs_at clause_at caught_at handler_at handlers_at try_at param_at params_at def_at base_at class_at statement_at suite_at block_at line_of_at statements_at body_more module_at grown_at risen_at element_at next_at elements_at closed_at aim_round aim_list aim_at
   r52 = refl
 
   -- `a not b`
@@ -502,12 +503,12 @@ module _ (one : ℤ) where
 
   -- `for x , y in z : pass`, with budget 3
   d13 : told (statements_at 40 3 (tk (k.Keyword 13) ∷ tk (k.Name (120 ∷ [])) ∷ tk (k.Op 38) ∷ tk (k.Name (121 ∷ [])) ∷ tk (k.Keyword 18) ∷ tk (k.Name (122 ∷ [])) ∷ tk (k.Op 39) ∷ tk (k.Keyword 23) ∷ tk (k.Newline) ∷ tk (k.End) ∷ [])) ≡ Ok 1
-  unfolding op_at keyword_at name_at strings_at tests_at round_at list_at pairs_at dict_at atom_at named_at args_at slice_at subscript_at call_at trailer_at trailers_at trail_at power_at links_at chain_at choice_at after_at level_at reads plain_at maybe_at checked targets_at loops_at loop_at equals_at run_at names_at import_name_at renamed_at imported_at imports_at print_at raise_at assert_at from_at running_at simple_at line_more line_at body_at arm_at elifs_at clause_at caught_at handler_at handlers_at try_at param_at params_at def_at base_at class_at statement_at suite_at block_at line_of_at statements_at body_more module_at
+  unfolding op_at keyword_at name_at strings_at tests_at round_at list_at pairs_at dict_at atom_at named_at args_at slice_at subscript_at call_at trailer_at trailers_at trail_at power_at links_at chain_at choice_at after_at level_at reads plain_at maybe_at checked targets_at loops_at loop_at equals_at run_at names_at import_name_at renamed_at imported_at imports_at print_at raise_at assert_at from_at running_at simple_at line_more line_at body_at arm_at elifs_at clause_at caught_at handler_at handlers_at try_at param_at params_at def_at base_at class_at statement_at suite_at block_at line_of_at statements_at body_more module_at grown_at risen_at element_at next_at elements_at closed_at aim_round aim_list aim_at
   d13 = refl
 
   -- `for x [ 1 ] , y in z : pass`, with budget 3
   d14 : told (statements_at 40 3 (tk (k.Keyword 13) ∷ tk (k.Name (120 ∷ [])) ∷ tk (k.Op 34) ∷ tk (k.Int one) ∷ tk (k.Op 35) ∷ tk (k.Op 38) ∷ tk (k.Name (121 ∷ [])) ∷ tk (k.Keyword 18) ∷ tk (k.Name (122 ∷ [])) ∷ tk (k.Op 39) ∷ tk (k.Keyword 23) ∷ tk (k.Newline) ∷ tk (k.End) ∷ [])) ≡ Err (Deep, 8)
-  unfolding op_at keyword_at name_at strings_at tests_at round_at list_at pairs_at dict_at atom_at named_at args_at slice_at subscript_at call_at trailer_at trailers_at trail_at power_at links_at chain_at choice_at after_at level_at reads plain_at maybe_at checked targets_at loops_at loop_at equals_at run_at names_at import_name_at renamed_at imported_at imports_at print_at raise_at assert_at from_at running_at simple_at line_more line_at body_at arm_at elifs_at clause_at caught_at handler_at handlers_at try_at param_at params_at def_at base_at class_at statement_at suite_at block_at line_of_at statements_at body_more module_at
+  unfolding op_at keyword_at name_at strings_at tests_at round_at list_at pairs_at dict_at atom_at named_at args_at slice_at subscript_at call_at trailer_at trailers_at trail_at power_at links_at chain_at choice_at after_at level_at reads plain_at maybe_at checked targets_at loops_at loop_at equals_at run_at names_at import_name_at renamed_at imported_at imports_at print_at raise_at assert_at from_at running_at simple_at line_more line_at body_at arm_at elifs_at clause_at caught_at handler_at handlers_at try_at param_at params_at def_at base_at class_at statement_at suite_at block_at line_of_at statements_at body_more module_at grown_at risen_at element_at next_at elements_at closed_at aim_round aim_list aim_at
   d14 = refl
 
   -- `- x`, with budget 2

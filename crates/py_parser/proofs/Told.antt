@@ -1,5 +1,5 @@
 -- What reading tells, whatever it answers: what was taken, or why it stopped and that nothing else could follow.
-use Rattle.std.proofs.Common.{◌≡◌, ℕ, zero, suc, ◌+◌, ◌≤◌, ◌==◌, nat_lt, Bool, true, false, List, [], ◌∷◌, ◌++◌, Ok, Err, Some, None, ◌⊎◌, inl, inr, refl, sym, ap, ◌∙◌, subst, append_assoc, append-nil, if◌then◌else◌, arith}
+use Rattle.std.proofs.Common.{◌≡◌, ℕ, zero, suc, ◌+◌, ◌≤◌, ◌==◌, nat_lt, Bool, true, false, List, [], ◌∷◌, ◌++◌, Ok, Err, Some, None, refl, sym, ap, ◌∙◌, subst, append_assoc, append-nil, if◌then◌else◌, arith}
 use Rattle.py_tokens.specs.declared.token.Token.{Token}
 use Rattle.py_tokens.specs.declared.token.TokenKind.{TokenKind}
 use Rattle.py_tokens.specs.declared.token.TokenKind.TheVariants as k
@@ -10,9 +10,7 @@ use Rattle.py_tree.specs.Tall.{talls}
 use Rattle.py_data.specs.declared.refusal.Construct.{Construct}
 use Rattle.py_parser.specs.declared.fault.Fault.{Fault}
 use Rattle.py_parser.specs.declared.fault.Fault.TheVariants.{Unexpected, LeftOut, Deep}
-use Rattle.py_parser.specs.Grammar.{Marks, Is}
-use Rattle.py_parser.specs.Refused.{before_target}
-use Rattle.py_tree.specs.declared.expr.Expr.{Expr}
+use Rattle.py_parser.specs.Grammar.{Marks}
 use Rattle.py_parser.specs.Statements.{Body}
 use Rattle.py_parser.specs.Words.{line_of}
 use Rattle.std.proofs.Common.{nat_le}
@@ -39,47 +37,14 @@ abbrev pub Fits : Mode → ℕ → ℕ → Type 0
 Fits m h d = m.bounded ≡ true → h ≤ d
 
 -- some module of the mode begins with these tokens
-pub record Shown (m : Mode) (ts : List Token) : Type 0 where
+pub record Opens (m : Mode) (ts : List Token) : Type 0 where
   pub body : List Stmt
   pub more : List Token
   pub spells : Body m.marks body (ts ++ more)
   pub fits : Fits m (talls body) 99
 
-pub cut_shown : (m : Mode) (ts us : List Token) → Shown m (ts ++ us) → Shown m ts
-cut_shown m ts us o = record { body = o.body; more = us ++ o.more; spells = subst (Body m.marks o.body) (append_assoc ts us o.more) o.spells; fits = o.fits }
-
-abbrev pub unbounded : Mode → Mode
-unbounded m = record { marks = m.marks; bounded = false }
-
--- they end in an expression in the place of a target, or just after it
-pub record Corner (m : Mode) (ts : List Token) : Type 0 where
-  pub before : List Token
-  pub word : Token
-  pub target : List Token
-  pub more : List Token
-  pub tree : Expr
-  pub split : ts ++ more ≡ (before ++ word ∷ []) ++ target
-  pub place : before_target word.kind ≡ true
-  pub spells : Is m.marks 1 tree target
-  pub shown : Shown (unbounded m) ts
-
-pub record Opens (m : Mode) (ts : List Token) : Type 0 where
-  pub opens : Shown m ts ⊎ ((m.bounded ≡ true) × Corner m ts)
-
 pub cut : (m : Mode) (ts us : List Token) → Opens m (ts ++ us) → Opens m ts
-cut m ts us o = record {
-  opens = elim o.opens [
-    | inl s ↦ inl (cut_shown m ts us s)
-    | inr p ↦ let q = p.1 in inr (p.0, record { before = q.before; word = q.word; target = q.target; more = us ++ q.more; tree = q.tree; split = sym (append_assoc ts us q.more) ∙ q.split; place = q.place; spells = q.spells; shown = cut_shown (unbounded m) ts us q.shown })
-  ];
-}
-
--- where a target has to stand
-abbrev pub TargetPlace : List Token → Type 0
-TargetPlace pre = (fs : List Token) × (t : Token) × (pre ≡ fs ++ t ∷ []) × (before_target t.kind ≡ true)
-
-pub placed : (fs : List Token) (t : Token) → before_target t.kind ≡ true → TargetPlace (fs ++ t ∷ [])
-placed fs t e = (fs, t, refl, e)
+cut m ts us o = record { body = o.body; more = us ++ o.more; spells = subst (Body m.marks o.body) (append_assoc ts us o.more) o.spells; fits = o.fits }
 
 -- grouped to the left
 pub near : (m : Mode) (ts us vs : List Token) → Opens m (ts ++ (us ++ vs)) → Opens m ((ts ++ us) ++ vs)

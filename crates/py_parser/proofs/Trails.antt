@@ -227,7 +227,7 @@ then_trailers : {x : Marks} {r : Trailer} {rs : List Trailer} {ts us : List Toke
 then_trailers {x = x} {r = r} {ts = ts} p (no_trailer _) = move (Trailers x (r ∷ [])) (sym (append-nil ts)) (G.last p)
 then_trailers p (trailed q) = G.more_trailers p q
 
-trail_start : (κ : TokenKind) → trails κ ≡ true → (p : Place) → (us : List Token) × (r : Trailer) × Trails None r (at κ p ∷ us)
+pub trail_start : (κ : TokenKind) → trails κ ≡ true → (p : Place) → (us : List Token) × (r : Trailer) × Trails None r (at κ p ∷ us)
 trail_start κ h p = elim (either (is_op 40 κ) _ h) [
   | inl e ↦ rw (only_op 40 κ e) (at (k.Name []) p0 ∷ [], t.Attribute [], G.attribute None [] p p0)
   | inr i ↦ elim (either (is_op 34 κ) _ i) [
@@ -340,7 +340,7 @@ module _ (w y g d : ℕ) (under' under : Below) (below : Unders y g d under' und
       (λ e. told_done ([], sym (trailers_nil found), no_trailer, omega arith))
 
   -- where a trailer comes
-  tell_some_trailers : (f : ℕ) (found : Tall (List Trailer)) (pre ts : List Token) → length ts ≤ f → f ≤ g → 0 < d → trails (first ts) ≡ true → TrailersHole pre →
+  pub tell_some_trailers : (f : ℕ) (found : Tall (List Trailer)) (pre ts : List Token) → length ts ≤ f → f ≤ g → 0 < d → trails (first ts) ≡ true → TrailersHole pre →
       Told y pre ts (trailers_at under' (more w g) (more w f) found) (λ v fs. (rs : List Trailer) × (v ≡ plus_trailers found rs) × ((x : Marks) → Trailers x rs fs) × (tops_trailers rs ≤ d)) (trailers_at under g f found ts)
   unfolding trailers_at
   tell_some_trailers zero found pre [] l i z' e hole = no (sym e)

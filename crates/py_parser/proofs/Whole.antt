@@ -1,5 +1,5 @@
 -- What the grammar has is read as its module, and has one tree.
-use Rattle.std.proofs.Common.{◌≡◌, ℕ, zero, suc, ◌≤◌, true, false, List, [], ◌∷◌, ◌++◌, length, Ok, None, inl, inr, refl, sym, ap, ◌∙◌, append_assoc, append-nil, arith, length-append}
+use Rattle.std.proofs.Common.{◌≡◌, ℕ, zero, suc, ◌+◌, ◌≤◌, true, false, List, [], ◌∷◌, ◌++◌, length, Ok, None, inl, inr, refl, sym, ap, ◌∙◌, append_assoc, append-nil, arith, length-append}
 use Rattle.py_tokens.specs.declared.token.Token.{Token}
 use Rattle.py_tokens.specs.declared.token.TokenKind.{TokenKind}
 use Rattle.py_tokens.specs.declared.token.TokenKind.TheVariants as k
@@ -10,7 +10,7 @@ use Rattle.py_parser.specs.Reading.{Reads, ◌>>=◌, first, is_some}
 use Rattle.py_parser.proofs.Steps.{Reaches, then_reads, at_same}
 use Rattle.py_parser.proofs.Facts.{no}
 use Rattle.py_parser.proofs.Begin.{as_value}
-use Rattle.py_parser.proofs.Simple.{stray, stray_newline}
+use Rattle.py_parser.proofs.Simple.{slack, stray, stray_newline}
 use Rattle.py_parser.proofs.Blocks.{complete_statement, clear, statement_first, stray_clear, statement_long, talls_append, highest_talls}
 use Rattle.py_parser.specs.Statements.{IsModule}
 use Rattle.py_tree.specs.declared.stmt.Module.{Module}
@@ -50,7 +50,7 @@ s_more : (statement : Suite) (f : ℕ) (found : List Stmt) (us : List Token) →
 unfolding body_more
 s_more statement f found us h = rw (stray_end (first us) h) (rw (stray_newline (first us) h) refl)
 
-pub complete_body : {x : Marks} {ss : List Stmt} {ts : List Token} → Body x ss ts → (g d f : ℕ) (found : List Stmt) → length ts ≤ g → length ts ≤ f → talls ss ≤ d → Reaches x (body_more (statements_at g d) f found ts) (found ++ ss) []
+pub complete_body : {x : Marks} {ss : List Stmt} {ts : List Token} → Body x ss ts → (g d f : ℕ) (found : List Stmt) → length ts ≤ g → length ts ≤ f → slack x + talls ss ≤ d → Reaches x (body_more (statements_at g d) f found ts) (found ++ ss) []
 complete_body (S.end x p) g d zero found l m h = absurd (omega arith)
 complete_body (S.end x p) g d (suc f) found l m h = inl (s_end (statements_at g d) f found p [] ∙ ap (λ z. Ok (z, [])) (sym (append-nil found)))
 complete_body (S.newline p r) g d zero found l m h = absurd (omega arith)
@@ -63,7 +63,7 @@ complete_body (S.more {x = x} {as' = ss} {bs = bs} {ts = ts} {us = us} q r) g d 
     (as_value x _ _ _ [] (append_assoc found ss bs) (complete_body r g d f (found ++ ss) (omega arith) (omega arith) (omega arith))))
 
 -- with or without a mark
-pub complete_module : {x : Marks} {ss : List Stmt} {ts : List Token} → Body x ss ts → tall_module (record { body = ss }) ≤ 100 → Reaches x (module_at (length ts) ts) (record { body = ss }) []
+pub complete_module : {x : Marks} {ss : List Stmt} {ts : List Token} → Body x ss ts → slack x + tall_module (record { body = ss }) ≤ 100 → Reaches x (module_at (length ts) ts) (record { body = ss }) []
 unfolding module_at tall_module
 complete_module {x = x} {ss = ss} {ts = ts} q h =
     then_reads x _ (λ b. Ok (record { body = b.0 }, b.1)) ss [] _ [] (complete_body q (length ts) 99 (length ts) [] (omega arith) (omega arith) (omega (arith, highest_talls ss))) (inl refl)
@@ -74,4 +74,4 @@ read (inr p) = no (sym (ap is_some p.2))
 
 -- a list of tokens that is a module of a height of at most 100 is read as it
 pub only : (m : Module) (ts : List Token) → IsModule m ts → tall_module m ≤ 100 → module_at (length ts) ts ≡ Ok (m, [])
-only m ts q h = read (complete_module q h)
+only m ts q h = read (complete_module q (omega arith))

@@ -1,5 +1,5 @@
 -- What reading statements and blocks tells.
-use Rattle.std.proofs.Common.{◌≡◌, ℕ, suc, ◌+◌, ◌≤◌, max, ◌==◌, Bool, true, false, ◌||◌, List, [], ◌∷◌, ◌++◌, length, Ok, Option, Some, None, refl, sym, ap, ◌∙◌, subst, append_assoc, arith, length-append}
+use Rattle.std.proofs.Common.{◌≡◌, ℕ, suc, ◌+◌, ◌≤◌, max, ◌==◌, Bool, true, false, ◌||◌, List, [], ◌∷◌, ◌++◌, length, Ok, Option, Some, None, sym, ap, ◌∙◌, subst, append_assoc, arith, length-append}
 use Rattle.py_tokens.specs.declared.token.Token.{Token}
 use Rattle.py_tokens.specs.declared.token.TokenKind.TheVariants as k
 use Rattle.py_tokens.specs.declared.token.Place.{Place}
@@ -11,11 +11,12 @@ use Rattle.py_tree.proofs.Heights as hh
 use Rattle.py_data.specs.declared.refusal.Construct.TheVariants as left
 use Rattle.py_parser.specs.Codes as c
 use Rattle.py_parser.specs.Grammar.{Marks, Is}
-use Rattle.py_parser.specs.Reading.{◌>>=◌, Below, first, keyword_at}
+use Rattle.py_parser.specs.Aiming.{Readers}
+use Rattle.py_parser.specs.Reading.{◌>>=◌, first, keyword_at}
 use Rattle.py_parser.proofs.Facts.{no}
-use Rattle.py_parser.proofs.Told.{placed, Mode, low, marked, Fits, Opens, more, Told, told_take, told_bind, told_map, told_case, on, here, move, there}
+use Rattle.py_parser.proofs.Told.{Mode, low, marked, Fits, Opens, more, Told, told_take, told_bind, told_map, told_case, on, here, move, there}
 use Rattle.py_parser.proofs.Tells.{told_need_word, p0, word, free, length_after}
-use Rattle.py_parser.proofs.Atoms.{Unders}
+use Rattle.py_parser.proofs.Simples.{Lowers}
 use Rattle.py_parser.specs.Statements as S
 use Rattle.py_parser.specs.Statements.{slices, Target, Targets, Loops, Equals}
 use Rattle.py_parser.specs.Lines.{loop_at}
@@ -50,7 +51,7 @@ then_while : {x : Marks} (p : Place) (v : Arm) (fs : List Token) (q : Place) (ts
     Compound x (st.While v o) (at c.while_ p ∷ (fs ++ ws))
 then_while {x = x} p v fs q ts us e is bs ve {o = o} {ws = ws} t = subst (λ z. Compound x (st.While z o) (at c.while_ p ∷ (fs ++ ws))) (sym ve) (subst (λ z. Compound x (st.While (record { line = p.line; test = v.test; body = v.body }) o) (at c.while_ p ∷ (z ++ ws))) (sym e) (S.while p q is bs t))
 
-module _ (w y g d0 : ℕ) (under' under lower' lower : Below) (below : Unders y g (suc d0) under' under) (exprs : TellExprs y g (suc d0) (under'.read 15) (under.read 15)) (targets : Targeting y g (suc d0) under' under) (lowers : Targeting y g d0 lower' lower) (block' block : Suite) (tell : TellBlock y g (suc d0) block' block) (z2 : 2 ≤ suc d0) where
+module _ (w y g d0 : ℕ) (under' under lower' lower : Readers) (below : Lowers y g (suc d0) under' under) (exprs : TellExprs y g (suc d0) (under'.read 15) (under.read 15)) (targets : Targeting y g (suc d0) under' under) (lowers : Targeting y g d0 lower' lower) (block' block : Suite) (tell : TellBlock y g (suc d0) block' block) (z2 : 2 ≤ suc d0) where
   abbrev CHole : List Token → Type 0
   CHole pre = (m : Mode) (a : Stmt) (us : List Token) → Compound m.marks a us → Fits m (tall a) (suc (suc d0)) → Opens m (pre ++ us)
 
@@ -83,7 +84,7 @@ module _ (w y g d0 : ℕ) (under' under lower' lower : Below) (below : Unders y 
   tell_for p pre ts l hole =
       let nm : Expr = ex.Name [] in
       let fit : (t a : Expr) (ss : List Stmt) (o : Option Clause) → tall (st.For p.line t a ss o) ≡ max (max (height t) (height a)) (max (tall_block ss) (tall_clause o)) + 1 = λ t a ss o. ht.tall_for p.line t a ss o in
-      told_bind _ _ _ (tell_loop w y g d0 under' under lower' lower targets lowers (pre ++ at c.for_ p ∷ []) ts (placed pre (at c.for_ p) refl) l
+      told_bind _ _ _ (tell_loop w y g d0 under' under lower' lower targets lowers (pre ++ at c.for_ p ∷ []) ts l
       (on (word ++ at c.in_ p0 ∷ word ++ at c.colon p0 ∷ body0) (simp append_assoc) (hole low (st.For p.line nm nm pass0 None) _ (S.for' p p0 p0 (S.Loops.single (word_target None)) (exprs_word None) (block0 None) (S.no_else None)) (λ b. omega (arith, z2, tall0, hh.height_name [], fit nm nm pass0 None))))
       (λ m t us r h. on (at c.in_ p0 ∷ word ++ at c.colon p0 ∷ body0) (simp append_assoc) (hole m (st.For p.line t nm pass0 None) _ (S.for' p p0 p0 r (exprs_word m.marks) (block0 m.marks) (S.no_else m.marks)) (λ b. omega (arith, z2, h b, tall0, hh.height_name [], fit t nm pass0 None))))
       (λ t us p2 r. on (word ++ at c.colon p0 ∷ body0) (simp append_assoc) (hole (marked left.SliceForm) (st.For p.line t nm pass0 None) _ (S.for' p p2 p0 r (exprs_word (Some left.SliceForm)) (block0 (Some left.SliceForm)) (S.no_else (Some left.SliceForm))) free)))

@@ -14,13 +14,14 @@ use Rattle.py_parser.specs.Codes as c
 use Rattle.py_parser.specs.Grammar as G
 use Rattle.py_parser.specs.Grammar.{Marks, Is, Strings, Tests, Commas, Exprs, Pairs, Links, Trailers, Trails, Maybe, Args}
 use Rattle.py_parser.specs.Tall.{tree_or, start as start'}
-use Rattle.py_parser.specs.Reading.{◌>>=◌, Below, first, is_op, comes, name_at}
+use Rattle.py_parser.specs.Aiming.{Readers}
+use Rattle.py_parser.specs.Reading.{◌>>=◌, first, is_op, comes, name_at}
 use Rattle.py_parser.proofs.Steps.{of}
 use Rattle.py_parser.proofs.Facts.{no}
 use Rattle.py_parser.proofs.Values.{of_or}
-use Rattle.py_parser.proofs.Told.{placed, Mode, any, low, marked, Fits, Opens, more, Told, told_done, told_left, told_if, told_deep, told_take, told_word, told_bind, told_map, told_case, told_kind, on, here, move}
+use Rattle.py_parser.proofs.Told.{Mode, any, low, marked, Fits, Opens, more, Told, told_done, told_left, told_if, told_deep, told_take, told_word, told_bind, told_map, told_case, told_kind, on, here, move}
 use Rattle.py_parser.proofs.Tells.{only_op, told_read, told_need_word, told_need_name, p0, word, is_word, free, length_after, then_tests, tell_tests}
-use Rattle.py_parser.proofs.Atoms.{Unders, either}
+use Rattle.py_parser.proofs.Atoms.{either}
 use Rattle.py_parser.specs.Statements as S
 use Rattle.py_parser.specs.Statements.{slices, Target, Targets, Loops, Equals}
 use Rattle.py_parser.specs.Lines.{target_at, targets_at, maybe_at, ends_del}
@@ -33,7 +34,7 @@ use Rattle.py_tree.specs.declared.stmt.Stmt.TheVariants as st
 use Rattle.py_tree.specs.declared.stmt.Imported.{Imported}
 use Rattle.py_tree.specs.Tall.{tall}
 use Rattle.py_tree.proofs.Talls as ht
-use Rattle.py_parser.proofs.Simples.{Targeting, told_target, FollowTargets, no_target, another, then_targets, then_names, no_import, then_imports, tell_names, tell_imported, tell_imports, tell_import_name, tell_targets, tell_running, SimpleHole, EndHole, ReadSimple}
+use Rattle.py_parser.proofs.Simples.{Lowers, Targeting, told_target, FollowTargets, no_target, another, then_targets, then_names, no_import, then_imports, tell_names, tell_imported, tell_imports, tell_import_name, tell_targets, tell_running, SimpleHole, EndHole, ReadSimple}
 use Rattle.std.proofs.Common.{codes}
 use Rattle.std.specs.Str.{bytes_eq}
 
@@ -57,7 +58,7 @@ member m e = go (bytes_eq m (codes "thread")) (bytes_eq m (codes "threading")) r
     go false true i j h = (codes "Lock", rw i (rw j refl))
     go false false i j h = no (sym h)
 
-module _ (w y g d : ℕ) (under' under : Below) (below : Unders y g d under' under) (exprs : TellExprs y g d (under'.read 15) (under.read 15)) (targets : Targeting y g d under' under) where
+module _ (w y g d : ℕ) (under' under : Readers) (below : Lowers y g d under' under) (exprs : TellExprs y g d (under'.read 15) (under.read 15)) (targets : Targeting y g d under' under) where
   abbrev Hole' : List Token → Type 0
   Hole' pre = SimpleHole w y g d under' under below exprs targets pre
 
@@ -148,7 +149,7 @@ module _ (w y g d : ℕ) (under' under : Below) (below : Unders y g d under' und
 
   tell_del : (p : Place) (pre ts : List Token) → length ts ≤ g → 0 < d → Hole' pre → End' pre → Told y (pre ++ at c.del_ p ∷ []) ts (λ us. target_at under' ends_del us >>= λ a. (targets_at under' (more w g) (start' a.0) a.1 >>= λ es. Ok (st.Del p.line es.0.tree, es.1))) (λ v us. Read' v (at c.del_ p ∷ us)) (target_at under ends_del ts >>= λ a. (targets_at under g (start' a.0) a.1 >>= λ es. Ok (st.Del p.line es.0.tree, es.1)))
   tell_del p pre ts l z' hole end =
-      told_target d _ _ (targets.target ends_del (pre ++ at c.del_ p ∷ []) ts (placed pre (at c.del_ p) refl) l
+      told_target d _ _ (targets.target ends_del (pre ++ at c.del_ p ∷ []) ts l
       (on word (simp append_assoc) (hole low (st.Del p.line (ex.Name [] ∷ [])) _ (S.Simple.del p (S.Targets.one (word_target None))) (λ b. omega (arith, z', hh.height_name [], ht.tall_del p.line (ex.Name [] ∷ [])))))
       (λ m a us r h. here (simp append_assoc) (hole m (st.Del p.line (a ∷ [])) _ (S.Simple.del p (S.Targets.one r)) (λ b. omega (arith, h b, ht.tall_del p.line (a ∷ [])))))
       (λ a us κ p2 r e. ended (a ∷ []) us κ p2 (S.Targets.one r) (λ i q. S.Targets.more i r q) e))

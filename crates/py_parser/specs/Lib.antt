@@ -6,6 +6,7 @@ pub mod Refused
 pub mod Tall
 pub mod Reading
 pub mod Follow
+pub mod Aiming
 pub mod Lines
 pub mod Outcome
 pub mod Parses
@@ -14,3 +15,4 @@ pub mod Pieces
 pub mod Stops
 pub mod SimplePieces
 pub mod Suites
+pub mod AimPieces

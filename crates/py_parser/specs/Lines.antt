@@ -21,7 +21,8 @@ use Rattle.py_tree.specs.declared.stmt.Handler.{Handler}
 use Rattle.py_data.specs.declared.refusal.Construct.TheVariants as left
 use Rattle.py_parser.specs.declared.fault.Fault.TheVariants.{Unexpected, LeftOut, Deep}
 use Rattle.py_parser.specs.Words.{assigned, is_module, is_member}
-use Rattle.py_parser.specs.Reading.{Reads, Reader, ◌>>=◌, Below, first, rest, is_op, is_keyword, is_some, op_at, keyword_at, name_at, comes, tests_at, reads}
+use Rattle.py_parser.specs.Reading.{Reads, Reader, ◌>>=◌, first, rest, is_op, is_keyword, is_some, op_at, keyword_at, name_at, comes, tests_at}
+use Rattle.py_parser.specs.Aiming.{Readers, readers}
 
 abbrev pub is_newline : TokenKind → Bool
 is_newline k.Newline = true
@@ -43,7 +44,7 @@ unfoldable pub plain_at : (TokenKind → Bool) → Reader (Unit {0})
 plain_at p ts = if p (first ts) then Ok (tt, rest ts) else Err (Unexpected, ts)
 
 -- a test or an expression of this level, where one comes
-unfoldable pub maybe_at : Below → ℕ → Reader (Option (Tall Expr))
+unfoldable pub maybe_at : Readers → ℕ → Reader (Option (Tall Expr))
 maybe_at under n ts = if comes n (first ts) then (under.read n ts >>= λ a. Ok (Some a.0, a.1)) else Ok (None, ts)
 
 -- ---- targets
@@ -58,8 +59,8 @@ checked after a =
     if is_target false a.0.form then Ok a else
     (if is_target true a.0.form && after (first a.1) then Err (LeftOut left.SliceForm, a.1) else Err (Unexpected, a.1))
 
-abbrev pub target_at : Below → Stop → Reader (Tall Expr)
-target_at under after ts = under.read 1 ts >>= checked after
+abbrev pub target_at : Readers → Stop → Reader (Tall Expr)
+target_at under after ts = under.aim ts >>= checked after
 
 -- what may follow a target of `del`, of `for` and of `except`
 abbrev pub ends_del : Stop
@@ -72,14 +73,14 @@ abbrev pub ends_caught : Stop
 ends_caught kind = is_op 39 kind
 
 -- further targets, each after a comma
-unfoldable pub targets_at : Below → ℕ → Tall (List Expr) → Reader (Tall (List Expr))
+unfoldable pub targets_at : Readers → ℕ → Tall (List Expr) → Reader (Tall (List Expr))
 targets_at under zero found ts = Ok (found, ts)
 targets_at under (suc g) found ts = if is_op 38 (first ts) then (do
   a ← target_at under ends_del (rest ts)
   targets_at under g (push found a.0) a.1) else Ok (found, ts)
 
 -- further targets of `for`; a comma may trail
-unfoldable pub loops_at : Below → ℕ → Tall (List Expr) → Reader (Tall (List Expr))
+unfoldable pub loops_at : Readers → ℕ → Tall (List Expr) → Reader (Tall (List Expr))
 loops_at under zero found ts = Ok (found, ts)
 loops_at under (suc g) found ts = if is_op 38 (first ts) then (if comes 1 (first (rest ts)) then (do
   a ← target_at under ends_loop (rest ts)
@@ -87,7 +88,7 @@ loops_at under (suc g) found ts = if is_op 38 (first ts) then (if comes 1 (first
 
 -- The targets of `for`, with budget d for them and `under` for what is in a tuple of them.
 -- A target is read with the whole budget first, since no comma may follow.
-unfoldable pub loop_at : Below → Below → ℕ → ℕ → Reader (Tall Expr)
+unfoldable pub loop_at : Readers → Readers → ℕ → ℕ → Reader (Tall Expr)
 loop_at same under d g ts = target_at same ends_loop ts >>= λ a.
     (if is_op 38 (first a.1) then (if nat_le (a.0.tall + 1) d then (do
       es ← loops_at under g (start a.0) a.1
@@ -96,7 +97,7 @@ loop_at same under d g ts = target_at same ends_loop ts >>= λ a.
 -- ---- simple statements
 
 -- after an expression, where `=` may follow: the targets, and the value
-unfoldable pub equals_at : Below → ℕ → List Expr → Tall Expr × List Token → Reads (List Expr × Expr)
+unfoldable pub equals_at : Readers → ℕ → List Expr → Tall Expr × List Token → Reads (List Expr × Expr)
 equals_at under zero found a = Ok ((found, a.0.tree), a.1)
 equals_at under (suc g) found a = if is_op 42 (first a.1) then (do
   x ← checked (is_op 42) a
@@ -113,7 +114,7 @@ run_or_assign l [] a = s.Do l a
 run_or_assign l (t ∷ es) a = s.Assign l (t ∷ es) a
 
 -- after the first expression of a statement that began on this line
-unfoldable pub run_at : Below → ℕ → ℕ → Tall Expr × List Token → Option Operator → Reads Stmt
+unfoldable pub run_at : Readers → ℕ → ℕ → Tall Expr × List Token → Option Operator → Reads Stmt
 run_at under g l a (Some o) =
     if is_single false a.0.form then
     (if is_keyword 30 (first (rest a.1)) then Err (LeftOut left.Generator, rest a.1) else (under.read 15 (rest a.1) >>= λ b. Ok (s.Augment l a.0.tree o b.0.tree, b.1))) else
@@ -146,7 +147,7 @@ imports_at may (suc g) found ts = if is_op 38 (first ts) then (do
   imports_at may g (found ++ i.0 ∷ []) i.1) else Ok (found, ts)
 
 -- after `print`
-unfoldable pub print_at : Below → ℕ → ℕ → Reader Stmt
+unfoldable pub print_at : Readers → ℕ → ℕ → Reader Stmt
 print_at under g l ts =
     if is_op 7 (first ts) then Err (LeftOut left.PrintTo, ts) else
     (if comes 14 (first ts) then (do
@@ -155,13 +156,13 @@ print_at under g l ts =
       Ok (s.Print l (es.0).0.tree (es.0).1, es.1)) else Ok (s.Print l [] false, ts))
 
 -- after `raise` and a test
-unfoldable pub raise_at : Below → ℕ → Tall Expr × List Token → Reads Stmt
+unfoldable pub raise_at : Readers → ℕ → Tall Expr × List Token → Reads Stmt
 raise_at under l a = if is_op 38 (first a.1) then (do
   b ← under.read 14 (rest a.1)
   if is_op 38 (first b.1) then Err (LeftOut left.Traceback, b.1) else Ok (s.Raise l (Some a.0.tree) (Some b.0.tree), b.1)) else Ok (s.Raise l (Some a.0.tree) None, a.1)
 
 -- after `assert` and a test
-unfoldable pub assert_at : Below → ℕ → Tall Expr × List Token → Reads Stmt
+unfoldable pub assert_at : Readers → ℕ → Tall Expr × List Token → Reads Stmt
 assert_at under l a = if is_op 38 (first a.1) then (under.read 14 (rest a.1) >>= λ b. Ok (s.Assert l a.0.tree (Some b.0.tree), b.1)) else Ok (s.Assert l a.0.tree None, a.1)
 
 -- after `from`
@@ -174,7 +175,7 @@ from_at g l ts = do
   Ok (s.From l m.0 is.0, is.1)
 
 -- Statements that begin with a keyword, after it; `ts` is all of the statement.
-abbrev pub worded_at : Below → ℕ → ℕ → ℕ → Reader Stmt → Reader Stmt
+abbrev pub worded_at : Readers → ℕ → ℕ → ℕ → Reader Stmt → Reader Stmt
 worded_at under g d n other ts =
     if n == 24 then print_at under g (line_of ts) (rest ts) else
     (if n == 23 then Ok (s.Pass (line_of ts), rest ts) else
@@ -199,15 +200,15 @@ worded_at under g d n other ts =
     (if n == 11 then Err (LeftOut left.Exec, ts) else
     (if n == 30 then Err (LeftOut left.Generator, ts) else other ts))))))))))))
 
-unfoldable pub running_at : Below → ℕ → Reader Stmt
+unfoldable pub running_at : Readers → ℕ → Reader Stmt
 running_at under g ts = under.read 15 ts >>= λ a. run_at under g (line_of ts) a (assigned_of (first a.1))
 
-abbrev pub simple_by : Below → ℕ → ℕ → TokenKind → Reader Stmt
+abbrev pub simple_by : Readers → ℕ → ℕ → TokenKind → Reader Stmt
 simple_by under g d (k.Keyword n) ts = worded_at under g d n (running_at under g) ts
 simple_by under g d _ ts = running_at under g ts
 
 -- a simple statement with budget d above zero; `under` has one less
-unfoldable pub simple_at : Below → ℕ → ℕ → Reader Stmt
+unfoldable pub simple_at : Readers → ℕ → ℕ → Reader Stmt
 simple_at under g d ts = simple_by under g d (first ts) ts
 
 -- further simple statements, each after a semicolon, which may also trail; up to the Newline
@@ -218,7 +219,7 @@ line_more simple (suc g) found ts =
     (if is_newline (first (rest ts)) then Ok (found, rest (rest ts)) else (simple (rest ts) >>= λ a. line_more simple g (found ++ a.0 ∷ []) a.1)) else
     (plain_at is_newline ts >>= λ x. Ok (found, x.1))
 
-unfoldable pub line_at : Below → ℕ → ℕ → Reader (List Stmt)
+unfoldable pub line_at : Readers → ℕ → ℕ → Reader (List Stmt)
 line_at under g d ts = simple_at under g d ts >>= λ a. line_more (simple_at under g d) g (a.0 ∷ []) a.1
 
 -- ---- compound statements
@@ -230,13 +231,13 @@ Suite = Reader (List Stmt)
 unfoldable pub body_at : Suite → Suite
 body_at block ts = op_at 39 ts >>= λ c. block c.1
 
-unfoldable pub arm_at : Below → Suite → ℕ → Reader Arm
+unfoldable pub arm_at : Readers → Suite → ℕ → Reader Arm
 arm_at under block l ts = do
   a ← under.read 14 ts
   b ← body_at block a.1
   Ok (record { line = l; test = a.0.tree; body = b.0 }, b.1)
 
-unfoldable pub elifs_at : Below → Suite → ℕ → List Arm → Reader (List Arm)
+unfoldable pub elifs_at : Readers → Suite → ℕ → List Arm → Reader (List Arm)
 elifs_at under block zero found ts = Ok (found, ts)
 elifs_at under block (suc g) found ts = if is_keyword 8 (first ts) then (do
   a ← arm_at under block (line_of ts) (rest ts)
@@ -247,26 +248,26 @@ unfoldable pub clause_at : ℕ → Suite → Reader (Option Clause)
 clause_at n block ts = if is_keyword n (first ts) then (body_at block (rest ts) >>= λ b. Ok (Some (record { line = line_of ts; body = b.0 }), b.1)) else Ok (None, ts)
 
 -- what may stand between `except` and its colon
-unfoldable pub caught_at : Below → Reader (Option Expr × Option Expr)
+unfoldable pub caught_at : Readers → Reader (Option Expr × Option Expr)
 caught_at under ts = if comes 14 (first ts) then (do
   a ← under.read 14 ts
   if is_keyword 1 (first a.1) || is_op 38 (first a.1) then (target_at under ends_caught (rest a.1) >>= λ b. Ok ((Some a.0.tree, Some b.0.tree), b.1)) else Ok ((Some a.0.tree, None), a.1)) else Ok ((None, None), ts)
 
-unfoldable pub handler_at : Below → Suite → ℕ → Reader Handler
+unfoldable pub handler_at : Readers → Suite → ℕ → Reader Handler
 handler_at under block l ts = do
   c ← caught_at under ts
   b ← body_at block c.1
   Ok (record { line = l; test = (c.0).0; target = (c.0).1; body = b.0 }, b.1)
 
 -- `except` clauses, up to one without a test
-unfoldable pub handlers_at : Below → Suite → ℕ → List Handler → Reader (List Handler)
+unfoldable pub handlers_at : Readers → Suite → ℕ → List Handler → Reader (List Handler)
 handlers_at under block zero found ts = Ok (found, ts)
 handlers_at under block (suc g) found ts = if is_keyword 10 (first ts) then (do
   h ← handler_at under block (line_of ts) (rest ts)
   if is_some h.0.test then handlers_at under block g (found ++ h.0 ∷ []) h.1 else Ok (found ++ h.0 ∷ [], h.1)) else Ok (found, ts)
 
 -- after `try` and its block
-unfoldable pub try_at : Below → Suite → ℕ → Clause → Reader Stmt
+unfoldable pub try_at : Readers → Suite → ℕ → Clause → Reader Stmt
 try_at under block g b ts =
     if is_keyword 10 (first ts) then (do
       hs ← handlers_at under block g [] ts
@@ -278,7 +279,7 @@ try_at under block g b ts =
       Ok (s.Try b [] None f.0, f.1)) else Err (Unexpected, ts))
 
 -- a parameter; the truth value says that one before it has a default
-unfoldable pub param_at : Below → Bool → Reader Param
+unfoldable pub param_at : Readers → Bool → Reader Param
 param_at under later ts =
     if is_op 23 (first ts) || is_op 4 (first ts) then Err (LeftOut left.StarArgument, ts) else
     (if is_op 32 (first ts) then Err (LeftOut left.TupleArgument, ts) else (do
@@ -287,7 +288,7 @@ param_at under later ts =
           (if later then Err (Unexpected, n.1) else Ok (record { name = n.0; default = None }, n.1))))
 
 -- one parameter or more
-unfoldable pub params_at : Below → ℕ → Bool → List Param → Reader (List Param)
+unfoldable pub params_at : Readers → ℕ → Bool → List Param → Reader (List Param)
 params_at under zero later found ts = Ok (found, ts)
 params_at under (suc g) later found ts = do
   p ← param_at under later ts
@@ -295,7 +296,7 @@ params_at under (suc g) later found ts = do
       params_at under g (is_some p.0.default) (found ++ p.0 ∷ []) (rest p.1)) else Ok (found ++ p.0 ∷ [], p.1)
 
 -- after `def`
-unfoldable pub def_at : Below → Suite → ℕ → ℕ → Reader Stmt
+unfoldable pub def_at : Readers → Suite → ℕ → ℕ → Reader Stmt
 def_at under block g l ts = do
   n ← name_at ts
   open' ← op_at 32 n.1
@@ -305,7 +306,7 @@ def_at under block g l ts = do
   Ok (s.Def l n.0 ps.0 b.0, b.1)
 
 -- the base of a class
-unfoldable pub base_at : Below → Reader (Option (Tall Expr))
+unfoldable pub base_at : Readers → Reader (Option (Tall Expr))
 base_at under ts = if is_op 32 (first ts) then (do
   a ← maybe_at under 14 (rest ts)
   if is_some a.0 && is_op 38 (first a.1) then Err (LeftOut left.MultipleBases, a.1) else (do
@@ -313,7 +314,7 @@ base_at under ts = if is_op 32 (first ts) then (do
     Ok (a.0, close.1))) else Ok (None, ts)
 
 -- after `class`
-unfoldable pub class_at : Below → Suite → ℕ → Reader Stmt
+unfoldable pub class_at : Readers → Suite → ℕ → Reader Stmt
 class_at under block l ts = do
   n ← name_at ts
   a ← base_at under n.1
@@ -322,8 +323,8 @@ class_at under block l ts = do
 
 -- What reads the parts of a compound statement: expressions with a budget one less, with two less, and a block.
 pub record Parts : Type 0 where
-  pub under : Below
-  pub lower : Below
+  pub under : Readers
+  pub lower : Readers
   -- the first of these budgets
   pub budget : ℕ
   pub block : Suite
@@ -381,14 +382,14 @@ block_at line statement g ts = if is_newline (first ts) then (do
 -- the simple statements of a line, with budget d
 unfoldable pub line_of_at : ℕ → ℕ → Suite
 line_of_at g zero ts = Err (Deep, ts)
-line_of_at g (suc d) ts = line_at (reads g d) g (suc d) ts
+line_of_at g (suc d) ts = line_at (readers g d) g (suc d) ts
 
 -- a statement with budget d; its block has a budget one less, and the block's statements two less
 unfoldable pub statements_at : ℕ → ℕ → Suite
 statements_at g zero ts = Err (Deep, ts)
-statements_at g (suc zero) ts = statement_at (record { under = reads g 0; lower = reads g 0; budget = 0; block = λ us. Err (Deep, us) }) g 1 ts
+statements_at g (suc zero) ts = statement_at (record { under = readers g 0; lower = readers g 0; budget = 0; block = λ us. Err (Deep, us) }) g 1 ts
 statements_at g (suc (suc d)) ts =
-    statement_at (record { under = reads g (suc d); lower = reads g d; budget = suc d; block = block_at (line_of_at g d) (statements_at g d) g }) g (suc (suc d)) ts
+    statement_at (record { under = readers g (suc d); lower = readers g d; budget = suc d; block = block_at (line_of_at g d) (statements_at g d) g }) g (suc (suc d)) ts
 
 unfoldable pub body_more : Suite → ℕ → List Stmt → Suite
 body_more statement zero found ts = Err (Unexpected, ts)

@@ -1,11 +1,7 @@
 -- Where a list of tokens without a tree is refused. States `docs/LANGUAGE.md`, "What is refused".
-use Rattle.std.specs.Prelude.{◌≡◌, ℕ, ◌≤◌, ◌⊎◌, List, [], ◌∷◌, ◌++◌, Some, None}
+use Rattle.std.specs.Prelude.{◌≡◌, ℕ, ◌≤◌, ◌⊎◌, List, [], ◌∷◌, ◌++◌, Some}
 use Rattle.py_tokens.specs.declared.token.Token.{Token}
-use Rattle.py_tokens.specs.declared.token.TokenKind.{TokenKind}
 use Rattle.py_tokens.specs.declared.token.TokenKind.TheVariants as k
-use Rattle.py_tree.specs.declared.expr.Expr.{Expr}
-use Rattle.py_parser.specs.Grammar.{Is}
-use Rattle.std.specs.Prelude.{Bool, true, false, ◌==◌, ◌||◌}
 use Rattle.py_tree.specs.declared.stmt.Module.{Module}
 use Rattle.py_tree.specs.declared.stmt.Stmt.{Stmt}
 use Rattle.py_tree.specs.Tall.{tall_module}
@@ -32,25 +28,6 @@ Because Deep ts = (d : ℕ) × Begins d ts
 Because (LeftOut c) ts = NoneBegins ts × BeginsWith c ts
 Because Unexpected ts = NoneBegins ts × ((c : Construct) → BeginsWith c ts → ⊥)
 
--- whether only a target may stand after this kind: after `del`, `for`, `as` and a comma in some places
-abbrev pub before_target : TokenKind → Bool
-before_target (k.Keyword n) = n == 7 || (n == 13 || n == 1)
-before_target (k.Op n) = n == 38
-before_target _ = false
-
--- What was read ends in, or just after, an expression in the place of a target of `del`, `for` or `except`.
--- The expression may become one only by a trailer, which is a node more. Some module begins so, whatever its height.
-pub record InTarget (ts : List Token) : Type 0 where
-  pub before : List Token
-  pub word : Token
-  pub target : List Token
-  pub more : List Token
-  pub tree : Expr
-  pub split : ts ++ more ≡ (before ++ word ∷ []) ++ target
-  pub place : before_target word.kind ≡ true
-  pub spells : Is None 1 tree target
-  pub begins : (d : ℕ) × Begins d ts
-
 -- The refused token is the first with which no module of a height of at most 100 begins.
 pub record RefusedAt (ts : List Token) (f : Fault) (line : ℕ) : Type 0 where
   pub front : List Token
@@ -58,8 +35,7 @@ pub record RefusedAt (ts : List Token) (f : Fault) (line : ℕ) : Type 0 where
   pub rest : List Token
   pub split : ts ≡ front ++ token ∷ rest
   pub line_is : line ≡ token.line
-  -- The height of an expression that has to become a target is told at its end, at the latest.
-  pub before : Begins 100 front ⊎ InTarget front
+  pub before : Begins 100 front
   pub here : Begins 100 (front ++ token ∷ []) → ⊥
   pub because : Because f (front ++ token ∷ [])
 

@@ -6,7 +6,8 @@ use Rattle.py_parser.specs.declared.imports.Importable.{Importable}
 use Rattle.py_parser.specs.declared.imports.Importable.TheVariants.{Module, Member}
 use Rattle.py_parser.specs.Tall.{start, tree_or}
 use Rattle.py_parser.specs.Words.{is_module, is_member}
-use Rattle.py_parser.specs.Reading.{Below, Reader, ◌>>=◌, first, comes, name_at}
+use Rattle.py_parser.specs.Reading.{Reader, ◌>>=◌, first, comes, name_at}
+use Rattle.py_parser.specs.Aiming.{Readers}
 use Rattle.py_parser.specs.Lines.{ends_del, maybe_at, target_at, targets_at, names_at, imported_at, imports_at, raise_at, assert_at}
 
 -- whether this name may come where an import asks for a module, or for a member of this module
@@ -15,15 +16,15 @@ may_import Module = is_module
 may_import (Member m) = is_member m
 
 -- after `return`
-abbrev pub return_at : Below → ℕ → Reader Stmt
+abbrev pub return_at : Readers → ℕ → Reader Stmt
 return_at under l ts = maybe_at under 15 ts >>= λ a. Ok (s.Return l (tree_or a.0), a.1)
 
 -- after `raise`
-abbrev pub raise_or_none_at : Below → ℕ → Reader Stmt
+abbrev pub raise_or_none_at : Readers → ℕ → Reader Stmt
 raise_or_none_at under l ts = if comes 14 (first ts) then (under.read 14 ts >>= raise_at under l) else Ok (s.Raise l None None, ts)
 
 -- after `del`
-abbrev pub del_at : Below → ℕ → ℕ → Reader Stmt
+abbrev pub del_at : Readers → ℕ → ℕ → Reader Stmt
 del_at under g l ts = do
   a ← target_at under ends_del ts
   es ← targets_at under g (start a.0) a.1
@@ -37,7 +38,7 @@ global_at g l ts = do
   Ok (s.Global l ns.0, ns.1)
 
 -- after `assert`
-abbrev pub assert_test_at : Below → ℕ → Reader Stmt
+abbrev pub assert_test_at : Readers → ℕ → Reader Stmt
 assert_test_at under l ts = under.read 14 ts >>= assert_at under l
 
 -- after `import`

@@ -9,7 +9,8 @@ use Rattle.py_parser.specs.declared.error.ParseError.{ParseError}
 use Rattle.py_parser.specs.declared.fault.Fault.TheVariants.{Deep}
 use Rattle.py_parser.specs.Lines.{Suite, Parts, block_at, line_of_at, statements_at, params_at, arm_at, elifs_at, clause_at, loop_at, body_at, try_at, compound_at}
 use Rattle.py_parser.specs.Outcome.{Gives}
-use Rattle.py_parser.specs.Reading.{Below, Reader, ◌>>=◌, first, rest, is_op, keyword_at, reads}
+use Rattle.py_parser.specs.Reading.{Reader, ◌>>=◌, first, rest, is_op, keyword_at}
+use Rattle.py_parser.specs.Aiming.{Readers, readers}
 use Rattle.py_parser.specs.Words.{line_of}
 
 -- the block of a statement whose expressions have this budget
@@ -18,7 +19,7 @@ inner_block g d = block_at (line_of_at g (d - 1)) (statements_at g (d - 1)) g
 
 -- what reads the parts of a statement whose expressions have this budget
 abbrev pub parts_of : ℕ → ℕ → Parts
-parts_of g d = record { under = reads g d; lower = reads g (d - 1); budget = d; block = inner_block g d }
+parts_of g d = record { under = readers g d; lower = readers g (d - 1); budget = d; block = inner_block g d }
 
 -- what a reader of statements may answer
 abbrev pub Replies : Type 1
@@ -29,11 +30,11 @@ abbrev pub AnswersStatements : Replies → ℕ → ℕ → Type 0
 AnswersStatements replies g d = (ts : Bor (List Token)) (r : Result (List Stmt × Bor (List Token)) ParseError) → replies ts r → Gives (λ x. (x.0, x.1.now)) r (statements_at g d ts.now)
 
 -- the parameters of a `def`, up to its closing bracket
-abbrev pub parameters_at : Below → ℕ → Reader (List Param)
+abbrev pub parameters_at : Readers → ℕ → Reader (List Param)
 parameters_at under g ts = if is_op 33 (first ts) then Ok ([], ts) else params_at under g false [] ts
 
 -- an `if` statement
-abbrev pub if_at : Below → Suite → ℕ → Reader Stmt
+abbrev pub if_at : Readers → Suite → ℕ → Reader Stmt
 if_at under block g ts = do
   a ← arm_at under block (line_of ts) (rest ts)
   as' ← elifs_at under block g (a.0 ∷ []) a.1
@@ -41,7 +42,7 @@ if_at under block g ts = do
   Ok (s.If as'.0 d.0, d.1)
 
 -- a `while` statement
-abbrev pub while_at : Below → Suite → Reader Stmt
+abbrev pub while_at : Readers → Suite → Reader Stmt
 while_at under block ts = do
   a ← arm_at under block (line_of ts) (rest ts)
   d ← clause_at 9 block a.1
@@ -58,7 +59,7 @@ for_at p g ts = do
   Ok (s.For (line_of ts) t.0.tree a.0.tree b.0 d.0, d.1)
 
 -- a `try` statement
-abbrev pub tried_at : Below → Suite → ℕ → Reader Stmt
+abbrev pub tried_at : Readers → Suite → ℕ → Reader Stmt
 tried_at under block g ts = do
   b ← body_at block (rest ts)
   try_at under block g (record { line = line_of ts; body = b.0 }) b.1

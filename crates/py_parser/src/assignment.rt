@@ -2,7 +2,7 @@
 ghost use Rattle.std.specs.Prelude.{◌≡◌, ◌≤◌, [], None, Some};
 ghost use Rattle.py_parser.specs.Lines.{equals_at, run_or_assign, run_at, running_at};
 ghost use Rattle.py_parser.specs.Outcome.{Gives};
-ghost use Rattle.py_parser.specs.Reading.{reads};
+ghost use Rattle.py_parser.specs.Aiming.{readers};
 
 use crate::cursor::{Read, keyword_next, line_of, op_next, refused, rest};
 use crate::expression::expression;
@@ -28,7 +28,7 @@ fn equals<'a>(
     tokens: &'a [Token],
 ) -> Read<'a, (Items<Expr>, Expr)>
     requires { budget ≤ HEIGHT_LIMIT }
-    ensures { Gives (λ x. (x.0, x.1.now)) result (equals_at (reads turns budget) turns [] (first, tokens.now)) }
+    ensures { Gives (λ x. (x.0, x.1.now)) result (equals_at (readers turns budget) turns [] (first, tokens.now)) }
 {
     let mut targets = Items::new(alloc);
     let mut value = first;
@@ -71,7 +71,7 @@ fn assign<'a>(
     tokens: &'a [Token],
 ) -> Read<'a, Stmt>
     requires { budget ≤ HEIGHT_LIMIT }
-    ensures { Gives (λ x. (x.0, x.1.now)) result (run_at (reads turns budget) turns line (first, tokens.now) None) }
+    ensures { Gives (λ x. (x.0, x.1.now)) result (run_at (readers turns budget) turns line (first, tokens.now) None) }
 {
     let ((targets, value), more) = equals(alloc, turns, budget, first, tokens)?;
     Ok((run_or_assign(line, targets, value), more))
@@ -90,7 +90,7 @@ fn augment<'a>(
     tokens: &'a [Token],
 ) -> Read<'a, Stmt>
     requires { budget ≤ HEIGHT_LIMIT }
-    ensures { Gives (λ x. (x.0, x.1.now)) result (run_at (reads turns budget) turns line (target, tokens.now) (Some operator)) }
+    ensures { Gives (λ x. (x.0, x.1.now)) result (run_at (readers turns budget) turns line (target, tokens.now) (Some operator)) }
 {
     if !is_single(false, target.form) {
         if is_single(true, target.form) {
@@ -115,7 +115,7 @@ pub fn running<'a>(
     tokens: &'a [Token],
 ) -> Read<'a, Stmt>
     requires { budget ≤ HEIGHT_LIMIT }
-    ensures { Gives (λ x. (x.0, x.1.now)) result (running_at (reads turns budget) turns tokens.now) }
+    ensures { Gives (λ x. (x.0, x.1.now)) result (running_at (readers turns budget) turns tokens.now) }
 {
     let (first, more) = expression(alloc, turns, budget, Request::Level(TESTS), tokens)?;
     match assigned_next(more) {

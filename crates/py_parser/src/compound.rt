@@ -3,7 +3,7 @@ ghost use Rattle.std.specs.Prelude.{◌≡◌, ◌+◌, ◌-◌, ◌<◌, ◌≤
 ghost use Rattle.py_tokens.specs.declared.token.TokenKind.TheVariants as k;
 ghost use Rattle.py_parser.specs.Lines.{line_at, body_at, arm_at, elifs_at, clause_at, handler_at, handlers_at, try_at, def_at, class_at, compound_at, is_compound, statement_by, statement_at, suite_at, line_of_at, statements_at};
 ghost use Rattle.py_parser.specs.Outcome.{Gives};
-ghost use Rattle.py_parser.specs.Reading.{reads};
+ghost use Rattle.py_parser.specs.Aiming.{readers};
 ghost use Rattle.py_parser.specs.Suites.{AnswersStatements, inner_block, parts_of, if_at, while_at, for_at, tried_at, alone_at};
 ghost use Rattle.py_parser.specs.Tall.{tree_or};
 
@@ -72,7 +72,7 @@ impl<F: for<'b> Fn(&'b [Token]) -> Result<(Items<Stmt>, &'b [Token]), ParseError
     /// An expression of a level.
     fn read<'a>(&self, level: u8, tokens: &'a [Token]) -> Read<'a, Tall<Expr>>
         requires { self.now.budget < HEIGHT_LIMIT }
-        ensures value { Gives (λ x. (x.0, x.1.now)) result ((reads self.now.turns self.now.budget).read level tokens.now) }
+        ensures value { Gives (λ x. (x.0, x.1.now)) result ((readers self.now.turns self.now.budget).read level tokens.now) }
     {
         expression(
             self.alloc,
@@ -86,7 +86,7 @@ impl<F: for<'b> Fn(&'b [Token]) -> Result<(Items<Stmt>, &'b [Token]), ParseError
     /// The simple statements of a line, of a height of at most `budget + 1`.
     fn simple<'a>(&self, tokens: &'a [Token]) -> Read<'a, Items<Stmt>>
         requires { self.now.budget < HEIGHT_LIMIT }
-        ensures { Gives (λ x. (x.0, x.1.now)) result (line_at (reads self.now.turns self.now.budget) self.now.turns (self.now.budget + 1) tokens.now) }
+        ensures { Gives (λ x. (x.0, x.1.now)) result (line_at (readers self.now.turns self.now.budget) self.now.turns (self.now.budget + 1) tokens.now) }
     {
         line(self.alloc, self.turns, self.budget + 1, tokens)
     }
@@ -162,7 +162,7 @@ impl<F: for<'b> Fn(&'b [Token]) -> Result<(Items<Stmt>, &'b [Token]), ParseError
         requires calls { F.IsAlwaysCallable self.now.statement }
         requires answers { AnswersStatements (F.post self.now.statement) self.now.turns (self.now.budget - 1) }
         requires small { self.now.budget < HEIGHT_LIMIT }
-        ensures { Gives (λ x. (x.0, x.1.now)) result (arm_at (reads self.now.turns self.now.budget) (inner_block self.now.turns self.now.budget) line tokens.now) }
+        ensures { Gives (λ x. (x.0, x.1.now)) result (arm_at (readers self.now.turns self.now.budget) (inner_block self.now.turns self.now.budget) line tokens.now) }
     {
         let (test, more) = self.read(TEST, tokens)?;
         let (body, more) = self.body(more)?;
@@ -176,7 +176,7 @@ impl<F: for<'b> Fn(&'b [Token]) -> Result<(Items<Stmt>, &'b [Token]), ParseError
         requires calls { F.IsAlwaysCallable self.now.statement }
         requires answers { AnswersStatements (F.post self.now.statement) self.now.turns (self.now.budget - 1) }
         requires small { self.now.budget < HEIGHT_LIMIT }
-        ensures { Gives (λ x. (x.0, x.1.now)) result (elifs_at (reads self.now.turns self.now.budget) (inner_block self.now.turns self.now.budget) self.now.turns (first ∷ []) tokens.now) }
+        ensures { Gives (λ x. (x.0, x.1.now)) result (elifs_at (readers self.now.turns self.now.budget) (inner_block self.now.turns self.now.budget) self.now.turns (first ∷ []) tokens.now) }
     {
         let mut found = Items::new(self.alloc);
         found.push(first)?;
@@ -214,7 +214,7 @@ impl<F: for<'b> Fn(&'b [Token]) -> Result<(Items<Stmt>, &'b [Token]), ParseError
         requires calls { F.IsAlwaysCallable self.now.statement }
         requires answers { AnswersStatements (F.post self.now.statement) self.now.turns (self.now.budget - 1) }
         requires small { self.now.budget < HEIGHT_LIMIT }
-        ensures { Gives (λ x. (x.0, x.1.now)) result (handler_at (reads self.now.turns self.now.budget) (inner_block self.now.turns self.now.budget) line tokens.now) }
+        ensures { Gives (λ x. (x.0, x.1.now)) result (handler_at (readers self.now.turns self.now.budget) (inner_block self.now.turns self.now.budget) line tokens.now) }
     {
         let ((test, target), more) = caught(self.alloc, self.turns, self.budget, tokens)?;
         let (body, more) = self.body(more)?;
@@ -233,7 +233,7 @@ impl<F: for<'b> Fn(&'b [Token]) -> Result<(Items<Stmt>, &'b [Token]), ParseError
         requires calls { F.IsAlwaysCallable self.now.statement }
         requires answers { AnswersStatements (F.post self.now.statement) self.now.turns (self.now.budget - 1) }
         requires small { self.now.budget < HEIGHT_LIMIT }
-        ensures { Gives (λ x. (x.0, x.1.now)) result (handlers_at (reads self.now.turns self.now.budget) (inner_block self.now.turns self.now.budget) self.now.turns [] tokens.now) }
+        ensures { Gives (λ x. (x.0, x.1.now)) result (handlers_at (readers self.now.turns self.now.budget) (inner_block self.now.turns self.now.budget) self.now.turns [] tokens.now) }
     {
         let mut found = Items::new(self.alloc);
         let mut more = tokens;
@@ -258,7 +258,7 @@ impl<F: for<'b> Fn(&'b [Token]) -> Result<(Items<Stmt>, &'b [Token]), ParseError
         requires calls { F.IsAlwaysCallable self.now.statement }
         requires answers { AnswersStatements (F.post self.now.statement) self.now.turns (self.now.budget - 1) }
         requires small { self.now.budget < HEIGHT_LIMIT }
-        ensures { Gives (λ x. (x.0, x.1.now)) result (try_at (reads self.now.turns self.now.budget) (inner_block self.now.turns self.now.budget) self.now.turns first tokens.now) }
+        ensures { Gives (λ x. (x.0, x.1.now)) result (try_at (readers self.now.turns self.now.budget) (inner_block self.now.turns self.now.budget) self.now.turns first tokens.now) }
     {
         if keyword_next(tokens, keyword::EXCEPT) {
             let (handlers, more) = self.handlers(tokens)?;
@@ -279,7 +279,7 @@ impl<F: for<'b> Fn(&'b [Token]) -> Result<(Items<Stmt>, &'b [Token]), ParseError
         requires calls { F.IsAlwaysCallable self.now.statement }
         requires answers { AnswersStatements (F.post self.now.statement) self.now.turns (self.now.budget - 1) }
         requires small { self.now.budget < HEIGHT_LIMIT }
-        ensures { Gives (λ x. (x.0, x.1.now)) result (tried_at (reads self.now.turns self.now.budget) (inner_block self.now.turns self.now.budget) self.now.turns tokens.now) }
+        ensures { Gives (λ x. (x.0, x.1.now)) result (tried_at (readers self.now.turns self.now.budget) (inner_block self.now.turns self.now.budget) self.now.turns tokens.now) }
     {
         let line = line_of(tokens);
         let (body, more) = self.body(rest(tokens))?;
@@ -292,7 +292,7 @@ impl<F: for<'b> Fn(&'b [Token]) -> Result<(Items<Stmt>, &'b [Token]), ParseError
         requires calls { F.IsAlwaysCallable self.now.statement }
         requires answers { AnswersStatements (F.post self.now.statement) self.now.turns (self.now.budget - 1) }
         requires small { self.now.budget < HEIGHT_LIMIT }
-        ensures { Gives (λ x. (x.0, x.1.now)) result (def_at (reads self.now.turns self.now.budget) (inner_block self.now.turns self.now.budget) self.now.turns line tokens.now) }
+        ensures { Gives (λ x. (x.0, x.1.now)) result (def_at (readers self.now.turns self.now.budget) (inner_block self.now.turns self.now.budget) self.now.turns line tokens.now) }
     {
         let (name, more) = take_name(self.alloc, tokens)?;
         let more = take_op(more, operator::OPEN_ROUND)?;
@@ -308,7 +308,7 @@ impl<F: for<'b> Fn(&'b [Token]) -> Result<(Items<Stmt>, &'b [Token]), ParseError
         requires calls { F.IsAlwaysCallable self.now.statement }
         requires answers { AnswersStatements (F.post self.now.statement) self.now.turns (self.now.budget - 1) }
         requires small { self.now.budget < HEIGHT_LIMIT }
-        ensures { Gives (λ x. (x.0, x.1.now)) result (class_at (reads self.now.turns self.now.budget) (inner_block self.now.turns self.now.budget) line tokens.now) }
+        ensures { Gives (λ x. (x.0, x.1.now)) result (class_at (readers self.now.turns self.now.budget) (inner_block self.now.turns self.now.budget) line tokens.now) }
     {
         let (name, more) = take_name(self.alloc, tokens)?;
         let (base, more) = base(self.alloc, self.turns, self.budget, more)?;
@@ -321,7 +321,7 @@ impl<F: for<'b> Fn(&'b [Token]) -> Result<(Items<Stmt>, &'b [Token]), ParseError
         requires calls { F.IsAlwaysCallable self.now.statement }
         requires answers { AnswersStatements (F.post self.now.statement) self.now.turns (self.now.budget - 1) }
         requires small { self.now.budget < HEIGHT_LIMIT }
-        ensures { Gives (λ x. (x.0, x.1.now)) result (if_at (reads self.now.turns self.now.budget) (inner_block self.now.turns self.now.budget) self.now.turns tokens.now) }
+        ensures { Gives (λ x. (x.0, x.1.now)) result (if_at (readers self.now.turns self.now.budget) (inner_block self.now.turns self.now.budget) self.now.turns tokens.now) }
     {
         let (first, more) = self.arm(line_of(tokens), rest(tokens))?;
         let (arms, more) = self.elifs(first, more)?;
@@ -334,7 +334,7 @@ impl<F: for<'b> Fn(&'b [Token]) -> Result<(Items<Stmt>, &'b [Token]), ParseError
         requires calls { F.IsAlwaysCallable self.now.statement }
         requires answers { AnswersStatements (F.post self.now.statement) self.now.turns (self.now.budget - 1) }
         requires small { self.now.budget < HEIGHT_LIMIT }
-        ensures { Gives (λ x. (x.0, x.1.now)) result (while_at (reads self.now.turns self.now.budget) (inner_block self.now.turns self.now.budget) tokens.now) }
+        ensures { Gives (λ x. (x.0, x.1.now)) result (while_at (readers self.now.turns self.now.budget) (inner_block self.now.turns self.now.budget) tokens.now) }
     {
         let (arm, more) = self.arm(line_of(tokens), rest(tokens))?;
         let (otherwise, more) = self.clause(keyword::ELSE, more)?;

@@ -2,7 +2,7 @@
 ghost use Rattle.std.specs.Prelude.{◌≡◌, ◌-◌, ◌<◌, ◌≤◌, [], false, IfOk};
 ghost use Rattle.py_parser.specs.Lines.{loops_at, loop_at, caught_at, param_at, params_at, base_at};
 ghost use Rattle.py_parser.specs.Outcome.{Gives};
-ghost use Rattle.py_parser.specs.Reading.{reads};
+ghost use Rattle.py_parser.specs.Aiming.{readers};
 ghost use Rattle.py_parser.specs.Suites.{parameters_at};
 ghost use Rattle.py_parser.specs.Tall.{start};
 
@@ -10,11 +10,11 @@ use crate::cursor::{Read, comes, keyword_next, op_next, refused, rest, take_name
 use crate::expression::expression;
 use crate::fault::Fault;
 use crate::node;
-use crate::reader::TEST;
+use crate::reader::{TARGET, TEST};
 use crate::request::Request;
 use crate::statement::maybe;
 use crate::tall::{HEIGHT_LIMIT, Tall, push, start};
-use crate::target::{TARGET, TargetPlace, target};
+use crate::target::{TargetPlace, target};
 use crate::trailer::star_next;
 use py_data::Construct;
 use py_tokens::{Token, keyword, operator};
@@ -32,7 +32,7 @@ fn param<'a>(
     tokens: &'a [Token],
 ) -> Read<'a, Param>
     requires { budget ≤ HEIGHT_LIMIT }
-    ensures { Gives (λ x. (x.0, x.1.now)) result (param_at (reads turns budget) later tokens.now) }
+    ensures { Gives (λ x. (x.0, x.1.now)) result (param_at (readers turns budget) later tokens.now) }
 {
     if star_next(tokens) {
         return refused(tokens, Fault::LeftOut(Construct::StarArgument));
@@ -62,7 +62,7 @@ fn params<'a>(
     tokens: &'a [Token],
 ) -> Read<'a, Items<Param>>
     requires { budget ≤ HEIGHT_LIMIT }
-    ensures { Gives (λ x. (x.0, x.1.now)) result (params_at (reads turns budget) turns false [] tokens.now) }
+    ensures { Gives (λ x. (x.0, x.1.now)) result (params_at (readers turns budget) turns false [] tokens.now) }
 {
     let mut found = Items::new(alloc);
     let mut later = false;
@@ -90,7 +90,7 @@ pub fn parameters<'a>(
     tokens: &'a [Token],
 ) -> Read<'a, Items<Param>>
     requires { budget ≤ HEIGHT_LIMIT }
-    ensures { Gives (λ x. (x.0, x.1.now)) result (parameters_at (reads turns budget) turns tokens.now) }
+    ensures { Gives (λ x. (x.0, x.1.now)) result (parameters_at (readers turns budget) turns tokens.now) }
 {
     if op_next(tokens, operator::CLOSE_ROUND) {
         return Ok((Items::new(alloc), tokens));
@@ -107,7 +107,7 @@ pub fn caught<'a>(
     tokens: &'a [Token],
 ) -> Read<'a, (Option<Expr>, Option<Expr>)>
     requires { budget ≤ HEIGHT_LIMIT }
-    ensures { Gives (λ x. (x.0, x.1.now)) result (caught_at (reads turns budget) tokens.now) }
+    ensures { Gives (λ x. (x.0, x.1.now)) result (caught_at (readers turns budget) tokens.now) }
 {
     if !comes(TEST, tokens) {
         return Ok(((None, None), tokens));
@@ -129,7 +129,7 @@ pub fn base<'a>(
     tokens: &'a [Token],
 ) -> Read<'a, Option<Tall<Expr>>>
     requires { budget ≤ HEIGHT_LIMIT }
-    ensures { Gives (λ x. (x.0, x.1.now)) result (base_at (reads turns budget) tokens.now) }
+    ensures { Gives (λ x. (x.0, x.1.now)) result (base_at (readers turns budget) tokens.now) }
 {
     if !op_next(tokens, operator::OPEN_ROUND) {
         return Ok((None, tokens));
@@ -153,7 +153,7 @@ fn loop_targets<'a>(
 ) -> Read<'a, Tall<Items<Expr>>>
     requires small { budget ≤ HEIGHT_LIMIT }
     requires low { first.tall ≤ budget }
-    ensures value { Gives (λ x. (x.0, x.1.now)) result (loops_at (reads turns budget) turns (start first) tokens.now) }
+    ensures value { Gives (λ x. (x.0, x.1.now)) result (loops_at (readers turns budget) turns (start first) tokens.now) }
     ensures fits { IfOk result (λ x. x.0.tall ≤ budget) }
 {
     let mut found = start(alloc, first)?;
@@ -182,7 +182,7 @@ pub fn loop_target<'a>(
     tokens: &'a [Token],
 ) -> Read<'a, Tall<Expr>>
     requires { budget < HEIGHT_LIMIT }
-    ensures { Gives (λ x. (x.0, x.1.now)) result (loop_at (reads turns budget) (reads turns (budget - 1)) budget turns tokens.now) }
+    ensures { Gives (λ x. (x.0, x.1.now)) result (loop_at (readers turns budget) (readers turns (budget - 1)) budget turns tokens.now) }
 {
     let (first, more) = target(alloc, turns, budget, TargetPlace::For, tokens)?;
     if !op_next(more, operator::COMMA) {

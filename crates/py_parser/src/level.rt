@@ -1,5 +1,6 @@
 //! Levels of operators.
 ghost use Rattle.std.specs.Prelude.{◌≡◌, ◌+◌, ◌<◌, ◌≤◌, [], max, IfOk, nat_lt};
+ghost use Rattle.py_parser.specs.Aiming.{after_rung, grown_at};
 ghost use Rattle.py_parser.specs.Asking.{Answers};
 ghost use Rattle.py_parser.specs.Outcome.{Gives};
 ghost use Rattle.py_parser.specs.Pieces.{negated_at, signed_at};
@@ -226,5 +227,49 @@ impl<F: for<'b> Fn(Request, &'b [Token]) -> Result<(Tall<Expr>, &'b [Token]), Pa
                 self.after(test, more)
             }
         }
+    }
+
+    /// What a rung adds after its operand.
+    fn after_rung<'a>(
+        &self,
+        rung: Rung,
+        operand: Tall<Expr>,
+        tokens: &'a [Token],
+    ) -> Read<'a, Tall<Expr>>
+        requires calls { F.IsAlwaysCallable self.now.inner }
+        requires answers { Answers (F.post self.now.inner) self.now.turns self.now.budget }
+        requires small { self.now.budget < HEIGHT_LIMIT }
+        requires low { operand.tall ≤ self.now.budget + 1 }
+        ensures value { Gives (λ x. (x.0, x.1.now)) result (after_rung rung (reads self.now.turns self.now.budget) self.now.turns (self.now.budget + 1) (operand, tokens.now)) }
+        ensures fits { IfOk result (λ x. x.0.tall ≤ self.now.budget + 1) }
+    {
+        match rung {
+            Rung::Powered => self.power(operand, tokens),
+            Rung::Chained(operators) => self.chain(operators, operand, tokens),
+            Rung::Chosen => self.choice(operand, tokens),
+            _ => Ok((operand, tokens)),
+        }
+    }
+
+    /// What so many rungs above the level of targets add after an expression of it, one after another.
+    #[tactic(auto, unfolding(crate::specs::Aiming::grown_at))]
+    pub fn grown<'a>(
+        &self,
+        rungs: u8,
+        operand: Tall<Expr>,
+        tokens: &'a [Token],
+    ) -> Read<'a, Tall<Expr>>
+        requires calls { F.IsAlwaysCallable self.now.inner }
+        requires answers { Answers (F.post self.now.inner) self.now.turns self.now.budget }
+        requires small { self.now.budget < HEIGHT_LIMIT }
+        requires low { operand.tall ≤ self.now.budget + 1 }
+        ensures value { Gives (λ x. (x.0, x.1.now)) result (grown_at (reads self.now.turns self.now.budget) self.now.turns (self.now.budget + 1) rungs (operand, tokens.now)) }
+        ensures fits { IfOk result (λ x. x.0.tall ≤ self.now.budget + 1) }
+    {
+        if rungs == 0 {
+            return Ok((operand, tokens));
+        }
+        let (grown, more) = self.grown(rungs - 1, operand, tokens)?;
+        self.after_rung(rung_of(rungs), grown, more)
     }
 }

@@ -14,8 +14,7 @@ use std::alloc::Global;
 ///
 /// A list of tokens has one such module at most, and it is the answer wherever there is one. Else the first token with which
 /// no such module begins is refused, with its line, which is counted from 1: as `Deep` where a higher module begins so, as
-/// `LeftOut` where a module with a construct that the language leaves out begins so, and else as `Unexpected`. In the place
-/// of a target of `del`, `for` or `except` the height may be told later, at the expression's end at the latest.
+/// `LeftOut` where a module with a construct that the language leaves out begins so, and else as `Unexpected`.
 /// `OutOfMemory` says that there was no memory for the tree.
 pub fn parse(alloc: Global, tokens: &[Token]) -> Result<Module, ParseError>
     requires ends { EndsOnce tokens.now }

@@ -14,6 +14,9 @@ use py_tree::Expr;
 use sqlite_items::Items;
 use std::alloc::Global;
 
+/// The level of targets: atoms with what trails them.
+pub const TARGET: u8 = 1;
+
 /// The level of tests.
 pub const TEST: u8 = 14;
 

@@ -2,7 +2,7 @@
 ghost use Rattle.std.specs.Prelude.{◌-◌, ◌<◌, ◌≤◌, [], ◌∷◌};
 ghost use Rattle.py_parser.specs.Lines.{is_newline, plain_at, simple_at, line_more, line_at};
 ghost use Rattle.py_parser.specs.Outcome.{Gives};
-ghost use Rattle.py_parser.specs.Reading.{reads};
+ghost use Rattle.py_parser.specs.Aiming.{readers};
 
 use crate::cursor::{Read, newline_next, op_next, refused, rest};
 use crate::error::ParseError;
@@ -37,7 +37,7 @@ fn line_more<'a>(
 ) -> Read<'a, Items<Stmt>>
     requires small { budget ≤ HEIGHT_LIMIT }
     requires above { 0 < budget }
-    ensures value { Gives (λ x. (x.0, x.1.now)) result (line_more (simple_at (reads turns (budget - 1)) turns budget) turns (first ∷ []) tokens.now) }
+    ensures value { Gives (λ x. (x.0, x.1.now)) result (line_more (simple_at (readers turns (budget - 1)) turns budget) turns (first ∷ []) tokens.now) }
 {
     let mut found = Items::new(alloc);
     found.push(first)?;
@@ -69,7 +69,7 @@ pub fn line<'a>(
 ) -> Read<'a, Items<Stmt>>
     requires small { budget ≤ HEIGHT_LIMIT }
     requires above { 0 < budget }
-    ensures value { Gives (λ x. (x.0, x.1.now)) result (line_at (reads turns (budget - 1)) turns budget tokens.now) }
+    ensures value { Gives (λ x. (x.0, x.1.now)) result (line_at (readers turns (budget - 1)) turns budget tokens.now) }
 {
     let (first, more) = simple(alloc, turns, budget, tokens)?;
     line_more(alloc, turns, budget, first, more)

@@ -2,7 +2,7 @@
 ghost use Rattle.std.specs.Prelude.{◌≡◌, ◌-◌, ◌<◌, ◌≤◌, [], ◌∷◌};
 ghost use Rattle.py_parser.specs.Lines.{maybe_at, names_at, print_at, raise_at, assert_at, worded_at, running_at, simple_at};
 ghost use Rattle.py_parser.specs.Outcome.{Gives};
-ghost use Rattle.py_parser.specs.Reading.{reads};
+ghost use Rattle.py_parser.specs.Aiming.{readers};
 ghost use Rattle.py_parser.specs.SimplePieces.{return_at, raise_or_none_at, del_at, global_at, assert_test_at};
 ghost use Rattle.py_parser.specs.Tall.{tree_or};
 
@@ -31,7 +31,7 @@ pub fn maybe<'a>(
     tokens: &'a [Token],
 ) -> Read<'a, Option<Tall<Expr>>>
     requires { budget ≤ HEIGHT_LIMIT }
-    ensures { Gives (λ x. (x.0, x.1.now)) result (maybe_at (reads turns budget) level tokens.now) }
+    ensures { Gives (λ x. (x.0, x.1.now)) result (maybe_at (readers turns budget) level tokens.now) }
 {
     if !comes(level, tokens) {
         return Ok((None, tokens));
@@ -74,7 +74,7 @@ fn print<'a>(
     tokens: &'a [Token],
 ) -> Read<'a, Stmt>
     requires { budget ≤ HEIGHT_LIMIT }
-    ensures { Gives (λ x. (x.0, x.1.now)) result (print_at (reads turns budget) turns line tokens.now) }
+    ensures { Gives (λ x. (x.0, x.1.now)) result (print_at (readers turns budget) turns line tokens.now) }
 {
     if op_next(tokens, operator::SHIFT_RIGHT) {
         return refused(tokens, Fault::LeftOut(Construct::PrintTo));
@@ -106,7 +106,7 @@ fn return_value<'a>(
     tokens: &'a [Token],
 ) -> Read<'a, Stmt>
     requires { budget ≤ HEIGHT_LIMIT }
-    ensures { Gives (λ x. (x.0, x.1.now)) result (return_at (reads turns budget) line tokens.now) }
+    ensures { Gives (λ x. (x.0, x.1.now)) result (return_at (readers turns budget) line tokens.now) }
 {
     let (value, more) = maybe(alloc, turns, budget, TESTS, tokens)?;
     Ok((Stmt::Return(line, tree_or(value)), more))
@@ -123,7 +123,7 @@ fn raise_more<'a>(
     tokens: &'a [Token],
 ) -> Read<'a, Stmt>
     requires { budget ≤ HEIGHT_LIMIT }
-    ensures { Gives (λ x. (x.0, x.1.now)) result (raise_at (reads turns budget) line (raised, tokens.now)) }
+    ensures { Gives (λ x. (x.0, x.1.now)) result (raise_at (readers turns budget) line (raised, tokens.now)) }
 {
     if !op_next(tokens, operator::COMMA) {
         return Ok((Stmt::Raise(line, Some(raised.tree), None), tokens));
@@ -144,7 +144,7 @@ fn raise<'a>(
     tokens: &'a [Token],
 ) -> Read<'a, Stmt>
     requires { budget ≤ HEIGHT_LIMIT }
-    ensures { Gives (λ x. (x.0, x.1.now)) result (raise_or_none_at (reads turns budget) line tokens.now) }
+    ensures { Gives (λ x. (x.0, x.1.now)) result (raise_or_none_at (readers turns budget) line tokens.now) }
 {
     if !comes(TEST, tokens) {
         return Ok((Stmt::Raise(line, None, None), tokens));
@@ -162,7 +162,7 @@ fn del<'a>(
     tokens: &'a [Token],
 ) -> Read<'a, Stmt>
     requires { budget ≤ HEIGHT_LIMIT }
-    ensures { Gives (λ x. (x.0, x.1.now)) result (del_at (reads turns budget) turns line tokens.now) }
+    ensures { Gives (λ x. (x.0, x.1.now)) result (del_at (readers turns budget) turns line tokens.now) }
 {
     let (first, more) = target(alloc, turns, budget, TargetPlace::Del, tokens)?;
     let (all, more) = targets(alloc, turns, budget, first, more)?;
@@ -189,7 +189,7 @@ fn assert_more<'a>(
     tokens: &'a [Token],
 ) -> Read<'a, Stmt>
     requires { budget ≤ HEIGHT_LIMIT }
-    ensures { Gives (λ x. (x.0, x.1.now)) result (assert_at (reads turns budget) line (test, tokens.now)) }
+    ensures { Gives (λ x. (x.0, x.1.now)) result (assert_at (readers turns budget) line (test, tokens.now)) }
 {
     if !op_next(tokens, operator::COMMA) {
         return Ok((Stmt::Assert(line, test.tree, None), tokens));
@@ -207,7 +207,7 @@ fn assert_test<'a>(
     tokens: &'a [Token],
 ) -> Read<'a, Stmt>
     requires { budget ≤ HEIGHT_LIMIT }
-    ensures { Gives (λ x. (x.0, x.1.now)) result (assert_test_at (reads turns budget) line tokens.now) }
+    ensures { Gives (λ x. (x.0, x.1.now)) result (assert_test_at (readers turns budget) line tokens.now) }
 {
     let (test, more) = expression(alloc, turns, budget, Request::Level(TEST), tokens)?;
     assert_more(alloc, turns, budget, line, test, more)
@@ -223,7 +223,7 @@ fn worded<'a>(
 ) -> Read<'a, Stmt>
     requires small { budget ≤ HEIGHT_LIMIT }
     requires above { 0 < budget }
-    ensures { Gives (λ x. (x.0, x.1.now)) result (worded_at (reads turns (budget - 1)) turns budget word (running_at (reads turns (budget - 1)) turns) tokens.now) }
+    ensures { Gives (λ x. (x.0, x.1.now)) result (worded_at (readers turns (budget - 1)) turns budget word (running_at (readers turns (budget - 1)) turns) tokens.now) }
 {
     let under = budget - 1;
     let line = line_of(tokens);
@@ -252,7 +252,7 @@ fn worded<'a>(
 pub fn simple<'a>(alloc: Global, turns: usize, budget: usize, tokens: &'a [Token]) -> Read<'a, Stmt>
     requires small { budget ≤ HEIGHT_LIMIT }
     requires above { 0 < budget }
-    ensures { Gives (λ x. (x.0, x.1.now)) result (simple_at (reads turns (budget - 1)) turns budget tokens.now) }
+    ensures { Gives (λ x. (x.0, x.1.now)) result (simple_at (readers turns (budget - 1)) turns budget tokens.now) }
 {
     let Some((token, _)) = split(tokens) else {
         return running(alloc, turns, budget - 1, tokens);

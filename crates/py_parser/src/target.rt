@@ -1,25 +1,22 @@
 //! Targets.
 ghost use Rattle.std.specs.Prelude.{◌≡◌, ◌≤◌, IfOk};
 ghost use Rattle.py_parser.specs.Outcome.{Gives};
-ghost use Rattle.py_parser.specs.Reading.{reads, first};
+ghost use Rattle.py_parser.specs.Aiming.{readers};
+ghost use Rattle.py_parser.specs.Reading.{first};
 ghost use Rattle.py_parser.specs.Lines.{checked, target_at, targets_at};
 ghost use Rattle.py_parser.specs.Stops.{stop_of};
 ghost use Rattle.py_parser.specs.Tall.{start};
 
+use crate::aiming::aim;
 use crate::cursor::{Read, keyword_next, newline_next, op_next, refused, rest};
 use crate::error::ParseError;
-use crate::expression::expression;
 use crate::fault::Fault;
-use crate::request::Request;
 use crate::tall::{HEIGHT_LIMIT, Tall, is_target, push, start};
 use py_data::Construct;
 use py_tokens::{Token, keyword, operator};
 use py_tree::Expr;
 use sqlite_items::Items;
 use std::alloc::Global;
-
-/// The level of targets: atoms with what trails them.
-pub const TARGET: u8 = 1;
 
 /// Where a target stands.
 #[derive(Clone, Copy, Debug, Drop, PartialEq, Eq)]
@@ -69,7 +66,7 @@ pub fn check_target(
     refused(tokens, Fault::Unexpected)
 }
 
-/// A target of a height of at most `budget`.
+/// A target of a height of at most `budget`. The first token with which no such target begins is refused.
 pub fn target<'a>(
     alloc: Global,
     turns: usize,
@@ -78,10 +75,10 @@ pub fn target<'a>(
     tokens: &'a [Token],
 ) -> Read<'a, Tall<Expr>>
     requires { budget ≤ HEIGHT_LIMIT }
-    ensures value { Gives (λ x. (x.0, x.1.now)) result (target_at (reads turns budget) (stop_of place) tokens.now) }
+    ensures value { Gives (λ x. (x.0, x.1.now)) result (target_at (readers turns budget) (stop_of place) tokens.now) }
     ensures fits { IfOk result (λ x. x.0.tall ≤ budget) }
 {
-    let (target, more) = expression(alloc, turns, budget, Request::Level(TARGET), tokens)?;
+    let (target, more) = aim(alloc, turns, budget, tokens)?;
     check_target(place, &target, more)?;
     Ok((target, more))
 }
@@ -96,7 +93,7 @@ pub fn targets<'a>(
     tokens: &'a [Token],
 ) -> Read<'a, Tall<Items<Expr>>>
     requires { budget ≤ HEIGHT_LIMIT }
-    ensures { Gives (λ x. (x.0, x.1.now)) result (targets_at (reads turns budget) turns (start first) tokens.now) }
+    ensures { Gives (λ x. (x.0, x.1.now)) result (targets_at (readers turns budget) turns (start first) tokens.now) }
 {
     let mut found = start(alloc, first)?;
     let mut more = tokens;

@@ -143,6 +143,50 @@ fn all_give(alloc: Global, times: u32, rows: &str, want: &str) -> Result<u32, No
     Ok(count)
 }
 
+/// A byte of a row, where `$` is a line end, and `<` and `>` are 95 brackets: a target between them has a height of at most 3.
+fn push_high(text: &mut Vec<u8>, b: u8) -> Result<(), NoMemory> {
+    match b {
+        b'<' => push_often(text, "(", 95),
+        b'>' => push_often(text, ")", 95),
+        b'$' => push_often(text, "\n", 1),
+        _ => {
+            text.push(b)?;
+            Ok(())
+        }
+    }
+}
+
+fn high_text_of(alloc: Global, row: &str) -> Result<Vec<u8>, NoMemory> {
+    let mut text = Vec::new(alloc);
+    for b in row.as_bytes() {
+        push_high(&mut text, *b)?;
+    }
+    Ok(text)
+}
+
+fn high_row_gives(alloc: Global, row: &str, want: &str) -> Result<bool, NoMemory> {
+    let text = high_text_of(alloc, row)?;
+    gives(alloc, text.as_slice(), want)
+}
+
+fn high_row_holds(alloc: Global, row: &str) -> Result<bool, NoMemory> {
+    match row.split_once('|') {
+        None => Ok(false),
+        Some((want, text)) => high_row_gives(alloc, text, want),
+    }
+}
+
+/// How many rows with high targets, an answer and a text behind it, are answered so.
+fn high_answered(alloc: Global, rows: &str) -> Result<u32, NoMemory> {
+    let mut count: u32 = 0;
+    for row in rows.split('\n') {
+        if high_row_holds(alloc, row)? {
+            count = count.saturating_add(1);
+        }
+    }
+    Ok(count)
+}
+
 fn push_if(text: &mut Vec<u8>, depth: u32) -> Result<(), NoMemory> {
     push_often(text, " ", depth)?;
     push_often(text, "if x:\n", 1)
@@ -245,6 +289,44 @@ Unexpected 1|)
 Unexpected 1|x if y
 Unexpected 1|not
 Unexpected 1|  x";
+
+/// In the place of a target, at the limit of height.
+const HIGH_TARGETS: &str = "Module|del <((x))>
+Module|del <a.b.c>
+Module|del <(1).x>
+Module|del <(a, b.c)>
+Module|del <(a.b, 1 .x)>
+Module|del <[f(1).x,]>
+Module|del <{1: a}.x>
+Module|del <().x>
+Module|for <((x))> in y: pass
+Module|for <(x)>, y in z: pass
+Module|for x, <(x)> in y: pass
+Module|try: pass$except x as <(1).x>: pass";
+
+/// The token that is refused stands first in its line.
+const HIGHER_TARGETS: &str = "Deep 2|del <(($(x)))>
+Deep 2|del <(($1)).x>
+Deep 3|del <(a.b,$1$)>
+Deep 2|del <(a.b, c$+ d).x>
+Deep 2|del <(1, a$.b).x>
+Deep 2|del <(a[1:2]$)>
+Deep 2|del <((a,$1).x, b)>
+Deep 2|del <($-a).x>
+Deep 2|del <(a$if b else c).x>
+Deep 2|del <[f(1)$]>
+Deep 2|for <($-a).x> in y: pass
+Deep 1|for <((x))>, y in z: pass
+Deep 2|for x, <($(x))> in y: pass
+Deep 4|try: pass$except x as <(a.b,$1$)>: pass
+Deep 3|try: pass$except x, <($-a).x>: pass
+SliceForm 1|del <a[1:2]>
+SliceForm 2|for <a[1:2]$> in y: pass
+Comprehension 2|del <(a$for b in c)>
+Generator 2|del <($yield)>
+Float 2|del <($1.5)>
+Unexpected 2|del <(a$b)>
+Unexpected 1|del -x";
 
 const SIMPLE: &str = "
 $$
@@ -365,6 +447,18 @@ fn expressions_reach_the_height_limit(rt: HostRuntime) -> Tested {
 #[test]
 fn higher_expressions_are_too_high(rt: HostRuntime) -> Tested {
     assert_eq!(rt; all_give(rt.alloc(), 98, NESTED, "Deep 1")?, 13);
+    Ok(())
+}
+
+#[test]
+fn targets_reach_the_height_limit(rt: HostRuntime) -> Tested {
+    assert_eq!(rt; high_answered(rt.alloc(), HIGH_TARGETS)?, 12);
+    Ok(())
+}
+
+#[test]
+fn higher_targets_are_refused_at_their_token(rt: HostRuntime) -> Tested {
+    assert_eq!(rt; high_answered(rt.alloc(), HIGHER_TARGETS)?, 22);
     Ok(())
 }
 

@@ -1,6 +1,6 @@
 use Rattle.std.proofs.Common.{arith, ◌-◌}
 use Rattle.std.proofs.lemmas.Grind.{common_steps}
-use Rattle.py_parser.specs.Reading.{reads}
+use Rattle.py_parser.specs.Aiming.{readers}
 use Rattle.py_parser.specs.Lines.{simple_at, line_more}
 use Rattle.py_parser.proofs.Turns.{one_more}
 use Rattle.py_parser.proofs.simple_line.line_more.Goals as goal
@@ -8,23 +8,23 @@ use Rattle.py_parser.proofs.simple_line.line_more.Goals as goal
 pub returns-then-newline_next : goal.returns-then-newline_next
 unfolding line_more
 returns-then-newline_next c =
-    let e = one_more (λ n. line_more (simple_at (reads c.args.turns (c.args.budget - 1)) c.args.turns c.args.budget) n c.turns.found c.turns.more.now) _ c.turns._turn c.turns-test.true c.turns.invariant in
+    let e = one_more (λ n. line_more (simple_at (readers c.args.turns (c.args.budget - 1)) c.args.turns c.args.budget) n c.turns.found c.turns.more.now) _ c.turns._turn c.turns-test.true c.turns.invariant in
     grind (arith, common_steps)
 
 pub returns-in_err-after : goal.returns-in_err-after
 unfolding line_more
 returns-in_err-after c =
-    let e = one_more (λ n. line_more (simple_at (reads c.args.turns (c.args.budget - 1)) c.args.turns c.args.budget) n c.turns.found c.turns.more.now) _ c.turns._turn c.turns-test.true c.turns.invariant in
+    let e = one_more (λ n. line_more (simple_at (readers c.args.turns (c.args.budget - 1)) c.args.turns c.args.budget) n c.turns.found c.turns.more.now) _ c.turns._turn c.turns-test.true c.turns.invariant in
     grind (arith, common_steps)
 
 pub returns-in_err-next : goal.returns-in_err-next
 unfolding line_more
 returns-in_err-next c =
-    let e = one_more (λ n. line_more (simple_at (reads c.args.turns (c.args.budget - 1)) c.args.turns c.args.budget) n c.turns.found c.turns.more.now) _ c.turns._turn c.turns-test.true c.turns.invariant in
+    let e = one_more (λ n. line_more (simple_at (readers c.args.turns (c.args.budget - 1)) c.args.turns c.args.budget) n c.turns.found c.turns.more.now) _ c.turns._turn c.turns-test.true c.turns.invariant in
     grind (arith, common_steps)
 
 pub turns-preserved : goal.turns-preserved
 unfolding line_more
 turns-preserved c =
-    let e = one_more (λ n. line_more (simple_at (reads c.args.turns (c.args.budget - 1)) c.args.turns c.args.budget) n c.turns.found c.turns.more.now) _ c.turns._turn c.turns-test.true c.turns.invariant in
+    let e = one_more (λ n. line_more (simple_at (readers c.args.turns (c.args.budget - 1)) c.args.turns c.args.budget) n c.turns.found c.turns.more.now) _ c.turns._turn c.turns-test.true c.turns.invariant in
     grind (arith, common_steps)

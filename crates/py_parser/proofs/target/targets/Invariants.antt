@@ -1,8 +1,8 @@
 use Rattle.std.proofs.Common.{◌≡◌, ◌-◌}
 use Rattle.py_parser.specs.Lines.{targets_at}
-use Rattle.py_parser.specs.Reading.{reads}
+use Rattle.py_parser.specs.Aiming.{readers}
 use Rattle.py_parser.specs.Tall.{start}
 use Rattle.py_parser.proofs.target.targets.Given as goal
 
 abbrev pub invariant-turns : goal.invariant-turns
-invariant-turns l = targets_at (reads l.fn.turns l.fn.budget) l.fn.turns (start l.fn.first) l.fn.tokens ≡ targets_at (reads l.fn.turns l.fn.budget) (l.fn.turns - l._turn) l.found l.more
+invariant-turns l = targets_at (readers l.fn.turns l.fn.budget) l.fn.turns (start l.fn.first) l.fn.tokens ≡ targets_at (readers l.fn.turns l.fn.budget) (l.fn.turns - l._turn) l.found l.more

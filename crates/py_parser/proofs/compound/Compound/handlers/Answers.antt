@@ -1,7 +1,7 @@
 use Rattle.std.proofs.Common.{arith}
 use Rattle.std.proofs.lemmas.Grind.{common_steps}
 use Rattle.py_parser.specs.Lines.{handlers_at}
-use Rattle.py_parser.specs.Reading.{reads}
+use Rattle.py_parser.specs.Aiming.{readers}
 use Rattle.py_parser.specs.Suites.{inner_block}
 use Rattle.py_parser.proofs.Turns.{one_more}
 use Rattle.py_parser.proofs.compound.Compound.handlers.Goals as goal
@@ -9,17 +9,17 @@ use Rattle.py_parser.proofs.compound.Compound.handlers.Goals as goal
 pub returns-in_err-handler : goal.returns-in_err-handler
 unfolding handlers_at
 returns-in_err-handler g c =
-    let e = one_more (λ n. handlers_at (reads c.args.self.now.turns c.args.self.now.budget) (inner_block c.args.self.now.turns c.args.self.now.budget) n c.turns.found c.turns.more.now) _ c.turns._turn c.turns-test.true c.turns.invariant in
+    let e = one_more (λ n. handlers_at (readers c.args.self.now.turns c.args.self.now.budget) (inner_block c.args.self.now.turns c.args.self.now.budget) n c.turns.found c.turns.more.now) _ c.turns._turn c.turns-test.true c.turns.invariant in
     grind (arith, common_steps)
 
 pub returns-then-not-has_test : goal.returns-then-not-has_test
 unfolding handlers_at
 returns-then-not-has_test g c =
-    let e = one_more (λ n. handlers_at (reads c.args.self.now.turns c.args.self.now.budget) (inner_block c.args.self.now.turns c.args.self.now.budget) n c.turns.found c.turns.more.now) _ c.turns._turn c.turns-test.true c.turns.invariant in
+    let e = one_more (λ n. handlers_at (readers c.args.self.now.turns c.args.self.now.budget) (inner_block c.args.self.now.turns c.args.self.now.budget) n c.turns.found c.turns.more.now) _ c.turns._turn c.turns-test.true c.turns.invariant in
     grind (arith, common_steps)
 
 pub turns-preserved : goal.turns-preserved
 unfolding handlers_at
 turns-preserved g c =
-    let e = one_more (λ n. handlers_at (reads c.args.self.now.turns c.args.self.now.budget) (inner_block c.args.self.now.turns c.args.self.now.budget) n c.turns.found c.turns.more.now) _ c.turns._turn c.turns-test.true c.turns.invariant in
+    let e = one_more (λ n. handlers_at (readers c.args.self.now.turns c.args.self.now.budget) (inner_block c.args.self.now.turns c.args.self.now.budget) n c.turns.found c.turns.more.now) _ c.turns._turn c.turns-test.true c.turns.invariant in
     grind (arith, common_steps)

@@ -1,8 +1,8 @@
 use Rattle.std.proofs.Common.{◌≡◌, ◌-◌, []}
 use Rattle.py_parser.specs.Lines.{handlers_at}
-use Rattle.py_parser.specs.Reading.{reads}
+use Rattle.py_parser.specs.Aiming.{readers}
 use Rattle.py_parser.specs.Suites.{inner_block}
 use Rattle.py_parser.proofs.compound.Compound.handlers.Given as goal
 
 abbrev pub invariant-turns : goal.invariant-turns
-invariant-turns g l = handlers_at (reads l.fn.self.turns l.fn.self.budget) (inner_block l.fn.self.turns l.fn.self.budget) l.fn.self.turns [] l.fn.tokens ≡ handlers_at (reads l.fn.self.turns l.fn.self.budget) (inner_block l.fn.self.turns l.fn.self.budget) (l.fn.self.turns - l._turn) l.found l.more
+invariant-turns g l = handlers_at (readers l.fn.self.turns l.fn.self.budget) (inner_block l.fn.self.turns l.fn.self.budget) l.fn.self.turns [] l.fn.tokens ≡ handlers_at (readers l.fn.self.turns l.fn.self.budget) (inner_block l.fn.self.turns l.fn.self.budget) (l.fn.self.turns - l._turn) l.found l.more

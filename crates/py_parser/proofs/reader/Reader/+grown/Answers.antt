@@ -1,0 +1,10 @@
+use Rattle.std.proofs.Common.{◌+◌, arith}
+use Rattle.std.proofs.lemmas.Grind.{common_steps}
+use Rattle.py_parser.specs.Reading.{reads}
+use Rattle.py_parser.proofs.AimUnfold.{grown_up}
+use Rattle.py_parser.proofs.reader.Reader.+grown.Goals as goal
+
+pub returns-clause-value : goal.returns-clause-value
+returns-clause-value g t c =
+    let e = grown_up (reads c.args.self.now.turns c.args.self.now.budget) c.args.self.now.turns (c.args.self.now.budget + 1) c.args.rungs (c.args.operand, c.args.tokens.now) (omega arith) in
+    grind (arith, common_steps)
