@@ -10,8 +10,6 @@ mod draft;
 mod emitter;
 mod error;
 mod expression;
-#[cfg(test)]
-mod expression_tests;
 mod home;
 #[cfg(test)]
 mod name_tests;
