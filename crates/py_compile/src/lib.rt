@@ -11,8 +11,6 @@ mod emitter;
 mod error;
 mod expression;
 mod home;
-#[cfg(test)]
-mod name_tests;
 mod names;
 mod parts;
 mod roots;
