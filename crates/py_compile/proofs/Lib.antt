@@ -22,3 +22,16 @@ pub mod Stateds
 pub mod StmtArms
 pub mod Leaves
 pub mod Gathers
+pub mod ExprInduct
+pub mod UsedRows
+pub mod SaneRows
+pub mod Homes
+pub mod ExprTyped
+pub mod World
+pub mod StmtSimple
+pub mod StmtTyped
+pub mod Numbers
+pub mod Whole
+pub mod RootsMade
+pub mod Sits
+pub mod Clean

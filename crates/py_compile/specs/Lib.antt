@@ -16,3 +16,5 @@ pub mod Tallies
 pub mod Compiles
 pub mod Tasks
 pub mod TaskWeights
+pub mod Sane
+pub mod Legal
