@@ -35,3 +35,4 @@ pub mod Whole
 pub mod RootsMade
 pub mod Sits
 pub mod Clean
+pub mod StmtClean

@@ -87,7 +87,7 @@ module _ (locals : ℕ → List (List ℕ)) (texts cells : List (List ℕ)) (key
     pub inner : (l c : Bool) (j : ℕ) (z : Bool) (f : ℕ) → g l c ≡ true → W (v.uses (I j z) f) → St f (h.block.inner f) → Bo f (h.block.inner f)
 
   -- without bodies
-  still_rel : (g : Known → List Around → Piece) (q : Inside → List Use) (t : Legal) → ((j : ℕ) (z : Bool) (sl p : ℕ) → Sl j z sl → (c : List Around) → t (in_loop (K j sl p) c) (in_clause (K j sl p) c) ≡ true → W (q (I j z)) → Does (K j sl p) c (g (N j z) c)) → Rel (still g) (quiet q) t
+  pub still_rel : (g : Known → List Around → Piece) (q : Inside → List Use) (t : Legal) → ((j : ℕ) (z : Bool) (sl p : ℕ) → Sl j z sl → (c : List Around) → t (in_loop (K j sl p) c) (in_clause (K j sl p) c) ≡ true → W (q (I j z)) → Does (K j sl p) c (g (N j z) c)) → Rel (still g) (quiet q) t
   still_rel g q t d = record { count = λ l c h. refl; long = λ f. refl; good = λ j z sl p s f c h w st. d j z sl p s c h w; inner = λ l c j z f h w st. tt }
 
   -- one after another: uses at the places where the second begins
@@ -97,7 +97,7 @@ module _ (locals : ℕ → List (List ℕ)) (texts cells : List (List ℕ)) (key
   zero_back : (v : Uses) (b : Inside) (f : ℕ) (a : List Use) → W (a ++ v.uses b (f + 0)) → W (v.uses b f)
   zero_back v b f a w = let e : f + 0 ≡ f = omega arith in subst (λ i. W (v.uses b i)) e (back a (v.uses b (f + 0)) w)
 
-  none_rel : Rel (block []) none_used (λ l c. true)
+  pub none_rel : Rel (block []) none_used (λ l c. true)
   none_rel = record { count = λ l c h. refl; long = λ f. refl; good = λ j z sl p s f c h w st. block_does (K j sl p) c [] tt; inner = λ l c j z f h w st. tt }
 
   -- lists of statements, given with their relations
@@ -105,11 +105,11 @@ module _ (locals : ℕ → List (List ℕ)) (texts cells : List (List ℕ)) (key
     Nil : Rels [] [] []
     Cons : {s : Stated} {v : Uses} {g : Legal} {ss : List Stated} {vs : List Uses} {gs : List Legal} → Rel s v g → Rels ss vs gs → Rels (s ∷ ss) (v ∷ vs) (g ∷ gs)
 
-  rels_count : {ss : List Stated} {vs : List Uses} {gs : List Legal} → Rels ss vs gs → (l c : Bool) → all_legal gs l c ≡ true → count ss ≡ (all_in_turn vs).bodies
+  pub rels_count : {ss : List Stated} {vs : List Uses} {gs : List Legal} → Rels ss vs gs → (l c : Bool) → all_legal gs l c ≡ true → count ss ≡ (all_in_turn vs).bodies
   rels_count Nil l c h = refl
   rels_count (Cons {g = g} {gs = gs} r rs) l c h = let q = and_parts (g l c) (all_legal gs l c) h in let a = r.count l c q.0 in let b = rels_count rs l c q.1 in omega (arith, a, b)
 
-  rels_long : {ss : List Stated} {vs : List Uses} {gs : List Legal} → Rels ss vs gs → (f : ℕ) → length (inners ss f) ≡ count ss
+  pub rels_long : {ss : List Stated} {vs : List Uses} {gs : List Legal} → Rels ss vs gs → (f : ℕ) → length (inners ss f) ≡ count ss
   rels_long Nil f = refl
   rels_long (Cons {s = s} {ss = ss} r rs) f = let a = r.long f in let b = rels_long rs (f + s.bodies) in omega (arith, a, b, length-append (s.inner f) (inners ss (f + s.bodies)))
 
@@ -140,11 +140,11 @@ module _ (locals : ℕ → List (List ℕ)) (texts cells : List (List ℕ)) (key
     ArmNil : ArmRels [] [] []
     ArmCons : {a : Armed} {v : Uses} {g : Legal} {as' : List Armed} {vs : List Uses} {gs : List Legal} → ArmRel a v g → ArmRels as' vs gs → ArmRels (a ∷ as') (v ∷ vs) (g ∷ gs)
 
-  arms_count : {as' : List Armed} {vs : List Uses} {gs : List Legal} → ArmRels as' vs gs → (l c : Bool) → all_legal gs l c ≡ true → armed_count as' ≡ (all_in_turn vs).bodies
+  pub arms_count : {as' : List Armed} {vs : List Uses} {gs : List Legal} → ArmRels as' vs gs → (l c : Bool) → all_legal gs l c ≡ true → armed_count as' ≡ (all_in_turn vs).bodies
   arms_count ArmNil l c h = refl
   arms_count (ArmCons {g = g} {gs = gs} r rs) l c h = let q = and_parts (g l c) (all_legal gs l c) h in let a = r.count l c q.0 in let b = arms_count rs l c q.1 in omega (arith, a, b)
 
-  arms_long : {as' : List Armed} {vs : List Uses} {gs : List Legal} → ArmRels as' vs gs → (f : ℕ) → length (armed_inner as' f) ≡ armed_count as'
+  pub arms_long : {as' : List Armed} {vs : List Uses} {gs : List Legal} → ArmRels as' vs gs → (f : ℕ) → length (armed_inner as' f) ≡ armed_count as'
   arms_long ArmNil f = refl
   arms_long (ArmCons {a = x} {as' = as'} r rs) f = let a = r.long f in let b = arms_long rs (f + x.block.bodies) in omega (arith, a, b, length-append (x.block.inner f) (armed_inner as' (f + x.block.bodies)))
 
@@ -176,11 +176,11 @@ module _ (locals : ℕ → List (List ℕ)) (texts cells : List (List ℕ)) (key
     HandlerNil : HandlerRels [] [] []
     HandlerCons : {a : Handled} {v : Uses} {g : Legal} {as' : List Handled} {vs : List Uses} {gs : List Legal} → HandlerRel a v g → HandlerRels as' vs gs → HandlerRels (a ∷ as') (v ∷ vs) (g ∷ gs)
 
-  handlers_count : {as' : List Handled} {vs : List Uses} {gs : List Legal} → HandlerRels as' vs gs → (l c : Bool) → all_legal gs l c ≡ true → handled_count as' ≡ (all_in_turn vs).bodies
+  pub handlers_count : {as' : List Handled} {vs : List Uses} {gs : List Legal} → HandlerRels as' vs gs → (l c : Bool) → all_legal gs l c ≡ true → handled_count as' ≡ (all_in_turn vs).bodies
   handlers_count HandlerNil l c h = refl
   handlers_count (HandlerCons {g = g} {gs = gs} r rs) l c h = let q = and_parts (g l c) (all_legal gs l c) h in let a = r.count l c q.0 in let b = handlers_count rs l c q.1 in omega (arith, a, b)
 
-  handlers_long : {as' : List Handled} {vs : List Uses} {gs : List Legal} → HandlerRels as' vs gs → (f : ℕ) → length (handled_inner as' f) ≡ handled_count as'
+  pub handlers_long : {as' : List Handled} {vs : List Uses} {gs : List Legal} → HandlerRels as' vs gs → (f : ℕ) → length (handled_inner as' f) ≡ handled_count as'
   handlers_long HandlerNil f = refl
   handlers_long (HandlerCons {a = x} {as' = as'} r rs) f = let a = r.long f in let b = handlers_long rs (f + x.block.bodies) in omega (arith, a, b, length-append (x.block.inner f) (handled_inner as' (f + x.block.bodies)))
 
@@ -203,7 +203,7 @@ module _ (locals : ℕ → List (List ℕ)) (texts cells : List (List ℕ)) (key
           (handlers_inner rs l c j z (f + x.block.bodies) q.1 (use_back (all_in_turn vs) (I j z) f x.block.bodies v.bodies (v.uses (I j z) f) (r.count l c q.0) w) (st_back f x.block.bodies (x.block.inner f) (handled_inner as' (f + x.block.bodies)) (r.long f) st))
 
   -- the parts of compound statements
-  arm_rel : (ln : ℕ) (t : Expr) {ss : List Stated} {vs : List Uses} {gs : List Legal} → Rels ss vs gs → ArmRel (record { line = ln; test = t; block = block ss }) (in_turn (quiet (λ b. read b t)) (all_in_turn vs)) (both (always (sane t)) (all_legal gs))
+  pub arm_rel : (ln : ℕ) (t : Expr) {ss : List Stated} {vs : List Uses} {gs : List Legal} → Rels ss vs gs → ArmRel (record { line = ln; test = t; block = block ss }) (in_turn (quiet (λ b. read b t)) (all_in_turn vs)) (both (always (sane t)) (all_legal gs))
   arm_rel ln t {ss = ss} {vs = vs} {gs = gs} rs = record {
     count = λ l c h. let a = rels_count rs l c (and_parts (sane t) (all_legal gs l c) h).1 in omega (arith, a);
     long = rels_long rs;
@@ -218,7 +218,7 @@ module _ (locals : ℕ → List (List ℕ)) (texts cells : List (List ℕ)) (key
   clause_ok j z sl p s c ln (Some e) None b he ht we wt d = clause_test_is (K j sl p) ln c (value (N j z) ln e) b (value_here locals texts cells keys params none j z sl p s ln e he we) d
   clause_ok j z sl p s c ln (Some e) (Some t) b he ht we wt d = clause_target_is (K j sl p) ln c (value (N j z) ln e) (stored (N j z) ln t) b (value_here locals texts cells keys params none j z sl p s ln e he we) (store_here locals texts cells keys params none j z sl p s ln t ht wt) d
 
-  handler_rel : (ln : ℕ) (e t : Option Expr) {ss : List Stated} {vs : List Uses} {gs : List Legal} → Rels ss vs gs → HandlerRel (record { line = ln; test = e; target = t; block = block ss }) (in_turn (quiet (λ b. read_some b e ++ target_some b t)) (all_in_turn vs)) (both (always (sane_some e && lg.target_some t)) (all_legal gs))
+  pub handler_rel : (ln : ℕ) (e t : Option Expr) {ss : List Stated} {vs : List Uses} {gs : List Legal} → Rels ss vs gs → HandlerRel (record { line = ln; test = e; target = t; block = block ss }) (in_turn (quiet (λ b. read_some b e ++ target_some b t)) (all_in_turn vs)) (both (always (sane_some e && lg.target_some t)) (all_legal gs))
   handler_rel ln e t {ss = ss} {vs = vs} {gs = gs} rs = record {
     count = λ l c h. let a = rels_count rs l c (and_parts (sane_some e && lg.target_some t) (all_legal gs l c) h).1 in omega (arith, a);
     long = rels_long rs;
@@ -233,7 +233,7 @@ module _ (locals : ℕ → List (List ℕ)) (texts cells : List (List ℕ)) (key
   }
 
   -- if
-  if_rel : {as' : List Armed} {vs : List Uses} {gs : List Legal} → ArmRels as' vs gs → (e : Stated) (ve : Uses) (ge : Legal) → Rel e ve ge → Rel (record { bodies = armed_count as' + e.bodies; code = λ n c f. all_arms 0 (armed as' n c f) (e.code n c (f + armed_count as')); inner = λ f. armed_inner as' f ++ e.inner (f + armed_count as') }) (in_turn (all_in_turn vs) ve) (both (all_legal gs) ge)
+  pub if_rel : {as' : List Armed} {vs : List Uses} {gs : List Legal} → ArmRels as' vs gs → (e : Stated) (ve : Uses) (ge : Legal) → Rel e ve ge → Rel (record { bodies = armed_count as' + e.bodies; code = λ n c f. all_arms 0 (armed as' n c f) (e.code n c (f + armed_count as')); inner = λ f. armed_inner as' f ++ e.inner (f + armed_count as') }) (in_turn (all_in_turn vs) ve) (both (all_legal gs) ge)
   if_rel {as' = as'} {vs = vs} {gs = gs} rs e ve ge re = record {
     count = λ l c h. let q = and_parts (all_legal gs l c) (ge l c) h in let a = arms_count rs l c q.0 in let b = re.count l c q.1 in omega (arith, a, b);
     long = λ f. let a = arms_long rs f in let b = re.long (f + armed_count as') in omega (arith, a, b, length-append (armed_inner as' f) (e.inner (f + armed_count as')));
@@ -254,7 +254,7 @@ module _ (locals : ℕ → List (List ℕ)) (texts cells : List (List ℕ)) (key
   }
 
   -- while
-  while_rel : (a : Armed) (va : Uses) (ga : Legal) → ArmRel a va ga → (e : Stated) (ve : Uses) (ge : Legal) → Rel e ve ge → Rel (record { bodies = a.block.bodies + e.bodies; code = λ n c f. while a.line (value n a.line a.test) (a.block.code n (InWhile ∷ c) f) (e.code n c (f + a.block.bodies)); inner = λ f. a.block.inner f ++ e.inner (f + a.block.bodies) }) (in_turn va ve) (both (λ l c. ga true c) ge)
+  pub while_rel : (a : Armed) (va : Uses) (ga : Legal) → ArmRel a va ga → (e : Stated) (ve : Uses) (ge : Legal) → Rel e ve ge → Rel (record { bodies = a.block.bodies + e.bodies; code = λ n c f. while a.line (value n a.line a.test) (a.block.code n (InWhile ∷ c) f) (e.code n c (f + a.block.bodies)); inner = λ f. a.block.inner f ++ e.inner (f + a.block.bodies) }) (in_turn va ve) (both (λ l c. ga true c) ge)
   while_rel a va ga ra e ve ge re = record {
     count = λ l c h. let q = and_parts (ga true c) (ge l c) h in let x = ra.count true c q.0 in let y = re.count l c q.1 in omega (arith, x, y);
     long = λ f. let x = ra.long f in let y = re.long (f + a.block.bodies) in omega (arith, x, y, length-append (a.block.inner f) (e.inner (f + a.block.bodies)));
@@ -275,7 +275,7 @@ module _ (locals : ℕ → List (List ℕ)) (texts cells : List (List ℕ)) (key
   }
 
   -- for
-  for_rel : (ln : ℕ) (t x : Expr) {ss : List Stated} {vs : List Uses} {gs : List Legal} → Rels ss vs gs → (e : Stated) (ve : Uses) (ge : Legal) → Rel e ve ge → Rel (record { bodies = count ss + e.bodies; code = λ n c f. for ln (stored n ln t) (value n ln x) ((block ss).code n (InFor ∷ c) f) (e.code n c (f + count ss)); inner = λ f. inners ss f ++ e.inner (f + count ss) }) (in_turn (quiet (λ b. target b t ++ read b x)) (in_turn (all_in_turn vs) ve)) (both (always (is_target_of t && sane x)) (both (λ l c. all_legal gs true c) ge))
+  pub for_rel : (ln : ℕ) (t x : Expr) {ss : List Stated} {vs : List Uses} {gs : List Legal} → Rels ss vs gs → (e : Stated) (ve : Uses) (ge : Legal) → Rel e ve ge → Rel (record { bodies = count ss + e.bodies; code = λ n c f. for ln (stored n ln t) (value n ln x) ((block ss).code n (InFor ∷ c) f) (e.code n c (f + count ss)); inner = λ f. inners ss f ++ e.inner (f + count ss) }) (in_turn (quiet (λ b. target b t ++ read b x)) (in_turn (all_in_turn vs) ve)) (both (always (is_target_of t && sane x)) (both (λ l c. all_legal gs true c) ge))
   for_rel ln t x {ss = ss} {vs = vs} {gs = gs} rs e ve ge re = record {
     count = λ l c h. let q = parts l c h in let a = rels_count rs true c q.1.0 in let b = re.count l c q.1.1 in omega (arith, a, b);
     long = λ f. let a = rels_long rs f in let b = re.long (f + count ss) in omega (arith, a, b, length-append (inners ss f) (e.inner (f + count ss)));
@@ -309,7 +309,7 @@ module _ (locals : ℕ → List (List ℕ)) (texts cells : List (List ℕ)) (key
   three : Legal → Legal → Legal → Bool → Legal
   three gt gh ge b = both gt (both (λ l c. gh l true) (both ge (always b)))
 
-  abbrev three_parts : (gt gh ge : Legal) (b l c : Bool) → (gt l c && (gh l true && (ge l c && b))) ≡ true → (gt l c ≡ true) × (gh l true ≡ true) × (ge l c ≡ true) × (b ≡ true)
+  abbrev pub three_parts : (gt gh ge : Legal) (b l c : Bool) → (gt l c && (gh l true && (ge l c && b))) ≡ true → (gt l c ≡ true) × (gh l true ≡ true) × (ge l c ≡ true) × (b ≡ true)
   three_parts gt gh ge b l c h =
       let q = and_parts (gt l c) (gh l true && (ge l c && b)) h in
       let r = and_parts (gh l true) (ge l c && b) q.1 in
@@ -324,7 +324,7 @@ module _ (locals : ℕ → List (List ℕ)) (texts cells : List (List ℕ)) (key
       let y = back (vh.uses b (f + vt.bodies)) (ve.uses b (f + vt.bodies + vh.bodies)) r in
       (front (vt.uses b f) ((in_turn vh ve).uses b (f + vt.bodies)) w, subst (λ i. W (vh.uses b (f + i))) (sym em) x, rw (em, en) y)
 
-  try_rel : (t : Claused) (vt : Uses) (gt : Legal) → Rel t.block vt gt → {hs : List Handled} {vs : List Uses} {gs : List Legal} → HandlerRels hs vs gs → (e : Stated) (ve : Uses) (ge : Legal) → Rel e ve ge → (b : Bool) → (hs ≡ [] → b ≡ true → ve.bodies ≡ 0) → Rel (tried t hs e) (in_turn vt (in_turn (all_in_turn vs) ve)) (both gt (both (λ l c. all_legal gs l true) (both ge (always b))))
+  pub try_rel : (t : Claused) (vt : Uses) (gt : Legal) → Rel t.block vt gt → {hs : List Handled} {vs : List Uses} {gs : List Legal} → HandlerRels hs vs gs → (e : Stated) (ve : Uses) (ge : Legal) → Rel e ve ge → (b : Bool) → (hs ≡ [] → b ≡ true → ve.bodies ≡ 0) → Rel (tried t hs e) (in_turn vt (in_turn (all_in_turn vs) ve)) (both gt (both (λ l c. all_legal gs l true) (both ge (always b))))
   try_rel t vt gt rt HandlerNil e ve ge re b bare = record {
     count = λ l c h. let q = three_parts gt (λ l c. true) ge b l c h in let x = rt.count l c q.0 in let y = bare refl q.3 in omega (arith, x, y);
     long = rt.long;
@@ -391,7 +391,7 @@ module _ (locals : ℕ → List (List ℕ)) (texts cells : List (List ℕ)) (key
       let far : f + vt.bodies + vh.bodies + ve.bodies ≡ f + m = omega (arith, e) in
       (join a (h ++ x) (front a (h ++ (x ++ d)) w) (join h x (front h (x ++ d) r1) (front x d r2)), subst (λ i. W (vd.uses b i)) far (back x d r2))
 
-  four_parts : (gt gh ge gd : Legal) (b l c : Bool) → (gt l c && (gh l true && (ge l c && (gd l c && b)))) ≡ true → ((gt l c && (gh l true && (ge l c && b))) ≡ true) × (gd l c ≡ true)
+  pub four_parts : (gt gh ge gd : Legal) (b l c : Bool) → (gt l c && (gh l true && (ge l c && (gd l c && b)))) ≡ true → ((gt l c && (gh l true && (ge l c && b))) ≡ true) × (gd l c ≡ true)
   four_parts gt gh ge gd b l c h =
       let q = and_parts (gt l c) (gh l true && (ge l c && (gd l c && b))) h in
       let r = and_parts (gh l true) (ge l c && (gd l c && b)) q.1 in
@@ -402,7 +402,7 @@ module _ (locals : ℕ → List (List ℕ)) (texts cells : List (List ℕ)) (key
   abbrev four : Legal → Legal → Legal → Legal → Bool → Legal
   four gt gh ge gd b = both gt (both (λ l c. gh l true) (both ge (both gd (always b))))
 
-  finally_rel : (ln : ℕ) (t : Stated) (vt vh ve : Uses) (gt gh ge : Legal) (b : Bool) → Rel t (in_turn vt (in_turn vh ve)) (both gt (both (λ l c. gh l true) (both ge (always b)))) → (d : Claused) (vd : Uses) (gd : Legal) → Rel d.block vd gd → Rel (finally ln t (Some d)) (in_turn vt (in_turn vh (in_turn ve vd))) (four gt gh ge gd b)
+  pub finally_rel : (ln : ℕ) (t : Stated) (vt vh ve : Uses) (gt gh ge : Legal) (b : Bool) → Rel t (in_turn vt (in_turn vh ve)) (both gt (both (λ l c. gh l true) (both ge (always b)))) → (d : Claused) (vd : Uses) (gd : Legal) → Rel d.block vd gd → Rel (finally ln t (Some d)) (in_turn vt (in_turn vh (in_turn ve vd))) (four gt gh ge gd b)
   finally_rel ln t vt vh ve gt gh ge b rt d vd gd rd = record {
     count = λ l c h. let q = four_parts gt gh ge gd b l c h in let x = rt.count l c q.0 in let y = rd.count l c q.1 in omega (arith, x, y);
     long = λ f. let x = rt.long f in let y = rd.long (f + t.bodies) in omega (arith, x, y, length-append (t.inner f) (d.block.inner (f + t.bodies)));
@@ -423,7 +423,7 @@ module _ (locals : ℕ → List (List ℕ)) (texts cells : List (List ℕ)) (key
             (rd.inner l c j z (f + t.bodies) q.1 us.1 (st_back f t.bodies (t.inner f) (d.block.inner (f + t.bodies)) (rt.long f) st));
   }
 
-  no_finally_rel : (ln : ℕ) (t : Stated) (vt vh ve : Uses) (gt gh ge : Legal) (b : Bool) → Rel t (in_turn vt (in_turn vh ve)) (both gt (both (λ l c. gh l true) (both ge (always b)))) → Rel (finally ln t None) (in_turn vt (in_turn vh (in_turn ve none_used))) (four gt gh ge (λ l c. true) b)
+  pub no_finally_rel : (ln : ℕ) (t : Stated) (vt vh ve : Uses) (gt gh ge : Legal) (b : Bool) → Rel t (in_turn vt (in_turn vh ve)) (both gt (both (λ l c. gh l true) (both ge (always b)))) → Rel (finally ln t None) (in_turn vt (in_turn vh (in_turn ve none_used))) (four gt gh ge (λ l c. true) b)
   no_finally_rel ln t vt vh ve gt gh ge b rt = record {
     count = λ l c h. let q = four_parts gt gh ge (λ l c. true) b l c h in let x = rt.count l c q.0 in omega (arith, x);
     long = rt.long;
@@ -444,7 +444,7 @@ module _ (locals : ℕ → List (List ℕ)) (texts cells : List (List ℕ)) (key
       by_default None h = omega (arith, h)
       by_default (Some x) h = omega (arith, h)
 
-  def_rel : (ln : ℕ) (x : List ℕ) (ps : List Param) {ss : List Stated} {vs : List Uses} {gs : List Legal} → Rels ss vs gs → Rel (record { bodies = 1 + count ss; code = λ n c f. def ln (values n ln (defaults ps)) f (home n x); inner = inner_body ln x false (length ps) ss }) (body_used locals (λ b. name_bound b x ++ read_defaults b ps) false (all_in_turn vs)) (always (sane_defaults ps && all_legal gs false false))
+  pub def_rel : (ln : ℕ) (x : List ℕ) (ps : List Param) {ss : List Stated} {vs : List Uses} {gs : List Legal} → Rels ss vs gs → Rel (record { bodies = 1 + count ss; code = λ n c f. def ln (values n ln (defaults ps)) f (home n x); inner = inner_body ln x false (length ps) ss }) (body_used locals (λ b. name_bound b x ++ read_defaults b ps) false (all_in_turn vs)) (always (sane_defaults ps && all_legal gs false false))
   def_rel ln x ps {ss = ss} {vs = vs} {gs = gs} rs = record {
     count = λ l c h. let a = rels_count rs false false (and_parts (sane_defaults ps) (all_legal gs false false) h).1 in omega (arith, a);
     long = λ f. let a = rels_long rs (f + 1) in omega (arith, a);
@@ -465,7 +465,7 @@ module _ (locals : ℕ → List (List ℕ)) (texts cells : List (List ℕ)) (key
         ((λ sl p s. block_does (K f sl p) [] (pieces ss (N f false) [] (f + 1)) (rels_good rs f false sl p s (f + 1) [] q.1 u st.2)), rels_inner rs false false f false (f + 1) q.1 u st.2);
   }
 
-  class_rel : (ln : ℕ) (x : List ℕ) (e : Option Expr) {ss : List Stated} {vs : List Uses} {gs : List Legal} → Rels ss vs gs → Rel (record { bodies = 1 + count ss; code = λ n c f. class ln (base n ln e) f (home n x); inner = inner_body ln x true 0 ss }) (body_used locals (λ b. name_bound b x ++ read_some b e) true (all_in_turn vs)) (always (sane_some e && all_legal gs false false))
+  pub class_rel : (ln : ℕ) (x : List ℕ) (e : Option Expr) {ss : List Stated} {vs : List Uses} {gs : List Legal} → Rels ss vs gs → Rel (record { bodies = 1 + count ss; code = λ n c f. class ln (base n ln e) f (home n x); inner = inner_body ln x true 0 ss }) (body_used locals (λ b. name_bound b x ++ read_some b e) true (all_in_turn vs)) (always (sane_some e && all_legal gs false false))
   class_rel ln x e {ss = ss} {vs = vs} {gs = gs} rs = record {
     count = λ l c h. let a = rels_count rs false false (and_parts (sane_some e) (all_legal gs false false) h).1 in omega (arith, a);
     long = λ f. let a = rels_long rs (f + 1) in omega (arith, a);
