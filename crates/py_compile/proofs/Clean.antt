@@ -68,7 +68,7 @@ module _ (ok : ℕ → Type 0) (flags : ℕ → Bool) (z : Bool) where
   part_clean (Alone b) c env p h = c [] p h
   part_clean (Sub d b) c env p h = c (drop d env) p h
 
-  parts_clean : (xs : List Part) → Every PartClean xs → (env : List Frame) (p h : ℕ) → Every Q (code_of env xs p h)
+  pub parts_clean : (xs : List Part) → Every PartClean xs → (env : List Frame) (p h : ℕ) → Every Q (code_of env xs p h)
   parts_clean [] c env p h = tt
   parts_clean (x ∷ xs) c env p h = every_join Q (part_code env x p h) (code_of env xs (p + part_size x) (h + part_slots x)) (part_clean x c.0 env p h) (parts_clean xs c.1 env (p + part_size x) (h + part_slots x))
 

@@ -36,3 +36,4 @@ pub mod RootsMade
 pub mod Sits
 pub mod Clean
 pub mod StmtClean
+pub mod Verifies

@@ -62,7 +62,7 @@ module _ (N : ℕ → Bool → Known) (all : List Instr) where
       (one_part x env p k (λ g o. h g (opens_front a c g o)), parts_sit xs env (p + part_size x) (k + part_slots x) (λ g o. h g (opens_back a c g o)))
 
   -- so are those of its parts
-  sub_parts : (ln own count : ℕ) (xs : List Part) → Sits (template ln own count xs) → Every PartSits xs
+  pub sub_parts : (ln own count : ℕ) (xs : List Part) → Sits (template ln own count xs) → Every PartSits xs
   sub_parts ln own count xs s = parts_sit xs (record { labels = labels_from xs s.place count 0; slot = own_slot own s.slot } ∷ s.env) s.place (s.slot + own) s.opens
 
   rows_sit : (ps : List Piece) → Every PartSits (map (Sub 1) ps) → Every Sits ps
