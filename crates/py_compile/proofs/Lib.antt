@@ -37,3 +37,4 @@ pub mod Sits
 pub mod Clean
 pub mod StmtClean
 pub mod Verifies
+pub mod Assembled

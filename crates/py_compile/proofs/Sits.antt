@@ -25,10 +25,10 @@ use Rattle.py_compile.proofs.ExprInduct.{Every}
 abbrev pub Opens : List Instr → ℕ → Type 0
 Opens is g = list_any (opens_body g) is ≡ true
 
-opens_front : (a c : List Instr) (g : ℕ) → Opens a g → Opens (a ++ c) g
+pub opens_front : (a c : List Instr) (g : ℕ) → Opens a g → Opens (a ++ c) g
 opens_front a c g h = list_any-append (opens_body g) a c ∙ or_left (list_any (opens_body g) a) (list_any (opens_body g) c) h
 
-opens_back : (a c : List Instr) (g : ℕ) → Opens c g → Opens (a ++ c) g
+pub opens_back : (a c : List Instr) (g : ℕ) → Opens c g → Opens (a ++ c) g
 opens_back a c g h = list_any-append (opens_body g) a c ∙ or_right (list_any (opens_body g) a) (list_any (opens_body g) c) h
 
 -- the bodies of a body: what it knows, by its number and whether it is a class's

@@ -1,11 +1,8 @@
 -- Which instructions stand in the code of a body, reached or not: statements.
-use Rattle.std.proofs.Common.{◌≡◌, ◌∙◌, ◌&&◌, ℕ, suc, ◌+◌, ◌<◌, ◌≤◌, List, [], ◌∷◌, ◌++◌, Option, Some, None, Bool, true, false, refl, sym, ap, subst, arith, length, map, length-append}
-use Rattle.std.specs.Str.{bytes_eq}
-use Rattle.std.specs.Prelude.{codes, if◌then◌else◌}
+use Rattle.std.proofs.Common.{◌≡◌, ◌&&◌, ℕ, ◌+◌, ◌<◌, List, [], ◌∷◌, ◌++◌, Option, Some, None, Bool, true, false, refl, sym, subst, arith, length, map, length-append}
 use Rattle.std.proofs.lemmas.Bool.{and_parts}
 use Rattle.py_code.specs.declared.instr.Constant.{Constant}
-use Rattle.py_code.specs.declared.instr.Constant.TheVariants.{None as NoValue, Root}
-use Rattle.py_code.specs.declared.instr.Instr.{Instr}
+use Rattle.py_code.specs.declared.instr.Constant.TheVariants.{Root}
 use Rattle.py_code.specs.declared.instr.Instr.TheVariants.{Const, Pop, Dup, Not, Jump, JumpFalse, LoadLocal, StoreLocal, Iter, Next, Call, Return, MakeFunction, ClassBody, Try, PopTry, ExcMatch, MakeRaised, Raise, PrintItem, PrintNewline}
 use Rattle.py_code.specs.Effects.{Limits}
 use Rattle.py_tree.specs.declared.expr.Expr.{Expr}
@@ -17,15 +14,14 @@ use Rattle.py_tree.specs.declared.stmt.Arm.{Arm as ArmTree, roll-Arm}
 use Rattle.py_tree.specs.declared.stmt.Clause.{Clause as ClauseTree, roll-Clause}
 use Rattle.py_tree.specs.declared.stmt.Handler.{Handler as HandlerTree, roll-Handler}
 use Rattle.py_tree.specs.declared.stmt.Stmt.TheOpen as open'
-use Rattle.py_tree.specs.declared.stmt.Stmt.TheFolds.{fold-Stmt, fold-Arm, fold-Clause, fold-Handler, fold-roll-Stmt, fold-roll-Arm, fold-roll-Clause, fold-roll-Handler, ind-Stmt, map-Stmt, map-Arm, map-Clause, map-Handler}
-use Rattle.py_compile.specs.declared.home.Home.{Home}
-use Rattle.py_compile.specs.Template.{Frame, Piece, Part, Op, Hidden, To, Here, Alone, Sub, template, row}
-use Rattle.py_compile.specs.Table.{A, B, E, H, M, Around, InWhile, InFor, InTry, InClause, InFinally, nothing, constant, also, arm, all_arms, while, for, try_except, try_finally, clause_bare, clause_test, clause_target, def, class, print_one, print_line, import_one, break_code, continue_code, leaves, return, raise_again, store, load}
+use Rattle.py_tree.specs.declared.stmt.Stmt.TheFolds.{fold-Arm, fold-Clause, fold-Handler, fold-roll-Stmt, fold-roll-Arm, fold-roll-Clause, fold-roll-Handler, ind-Stmt, map-Stmt, map-Arm, map-Clause, map-Handler}
+use Rattle.py_compile.specs.Template.{Piece, Op, Hidden, To, Here, Alone, Sub, template, row}
+use Rattle.py_compile.specs.Table.{A, B, E, H, M, Around, InWhile, InFor, InTry, InClause, InFinally, all_arms, while, for, def, class, print_one, import_one, break_code, continue_code, leaves, return, raise_again, store}
 use Rattle.py_compile.specs.Names.{Known, home, text, library, member, has, is_none}
 use Rattle.py_compile.specs.Expressions.{coded, add_at, operator, value, values, value_some, stored, all_stored, all_deleted}
 use Rattle.py_compile.specs.Uses.{Use, Inside, Uses, quiet, in_turn, none_used, all_in_turn, some_used, body_used, name_bound, read, target, read_all, target_all, read_some, target_some, read_defaults, stmt_uses}
 use Rattle.py_compile.specs.Uses as u
-use Rattle.py_compile.specs.Statements.{Body, Stated, Armed, Claused, Handled, still, block, count, pieces, inners, armed, armed_count, armed_inner, handled, handled_count, handled_inner, other, clause, tried, finally, inner_body, base, default_or, defaults, stores_before, last_target, assigned, printed, raised, raise_made, asserted, imported, taken_from, deletion, bound_name, stmt_step, arm_step, clause_step, handler_step, stated, all_stated}
+use Rattle.py_compile.specs.Statements.{Body, Stated, Armed, Claused, Handled, still, block, count, pieces, inners, armed, armed_count, armed_inner, handled, handled_count, handled_inner, clause, tried, finally, inner_body, base, default_or, defaults, stores_before, last_target, assigned, printed, raised, asserted, imported, taken_from, deletion, bound_name, stmt_step, arm_step, clause_step, handler_step, stated, all_stated}
 use Rattle.py_compile.specs.Legal.{Legal, always, both, all_legal, legal_or, has_clause, legal}
 use Rattle.py_compile.specs.Legal as lg
 use Rattle.py_compile.specs.Sane.{sane, sane_some}
@@ -35,7 +31,7 @@ use Rattle.py_compile.proofs.Blocks.{leaves_does, nothing_does, break_does, cont
 use Rattle.py_compile.proofs.StmtSimple.{do_here, assign_here, augment_here, print_here, return_here, raise_here, del_here, assert_here, import_here, from_here}
 use Rattle.py_compile.proofs.StmtTyped.{Rel, ArmRel, HandlerRel, Rels, Nil, Cons, ArmRels, ArmNil, ArmCons, HandlerRels, HandlerNil, HandlerCons, rels_count, rels_long, arms_count, arms_long, handlers_count, handlers_long, still_rel, none_rel, block_rel, arm_rel, handler_rel, if_rel, while_rel, for_rel, try_rel, finally_rel, no_finally_rel, def_rel, class_rel, three_parts, four_parts}
 use Rattle.py_compile.proofs.ExprTyped.{every_front, every_back, every_join}
-use Rattle.py_compile.proofs.Clean.{Fit, NoteOk, IsClean, PlaceClean, template_clean, row_clean, one_clean, load_clean, store_clean, del_clean, ECl, expr_clean, exprs_clean, if_clean, values_clean, stores_clean, deletes_clean, some_clean}
+use Rattle.py_compile.proofs.Clean.{Fit, NoteOk, IsClean, template_clean, row_clean, one_clean, store_clean, expr_clean, exprs_clean, if_clean, values_clean, stores_clean, deletes_clean, some_clean}
 
 -- what loads a constant fits everywhere; the constructs round a statement have clean finally bodies
 module _ (ok : ℕ → Type 0) (flags : ℕ → Bool) (z : Bool) where

@@ -1,33 +1,28 @@
 -- The program of a legal module that isn't too large is right.
-use Rattle.std.proofs.Common.{◌≡◌, ◌∙◌, ◌||◌, ◌==◌, ℕ, zero, suc, ◌+◌, ◌-◌, ◌<◌, ◌≤◌, ◌^◌, List, [], ◌∷◌, ◌++◌, Option, Some, None, Bool, true, false, cond, not, nat_lt, refl, sym, ap, subst, arith, length, map, get_or, length-append, unwrap_or, append_assoc}
-use Rattle.std.specs.Prelude.{All, IsTrue, if◌then◌else◌, position, slice_get}
-use Rattle.std.specs.List.{flat_map, list_any, position_or_len}
+use Rattle.std.proofs.Common.{◌≡◌, ◌∙◌, ◌||◌, ℕ, zero, suc, ◌+◌, ◌<◌, List, [], ◌∷◌, Some, None, Bool, true, false, cond, not, nat_lt, refl, sym, ap, subst, arith, length, get_or, unwrap_or}
+use Rattle.std.specs.Prelude.{All, slice_get}
+use Rattle.std.specs.List.{list_any, position_or_len}
 use Rattle.std.specs.Str.{bytes_eq}
-use Rattle.std.proofs.lemmas.Bool.{eqb-true, ltb-false, ltb-true, or_cases}
-use Rattle.std.proofs.lemmas.List.{get_or-append-add, get_or-map, length-map, map-append, get_or_append_left}
+use Rattle.std.proofs.lemmas.Bool.{eqb-true, ltb-true}
 use Rattle.std.proofs.lemmas.List.Elements.{All-nil, All-cons}
-use Rattle.std.proofs.lemmas.Option.{slice_get-get_or}
-use Rattle.std.proofs.Math.Seq.{get_or-append_seam}
-use Rattle.py_data.specs.declared.value.Kind.TheVariants.{Str}
 use Rattle.py_code.specs.declared.instr.Instr.{Instr}
 use Rattle.py_code.specs.declared.instr.Instr.TheVariants.{Setup, Const, Pop, Dup, Rot2, Dup2, Rot3, LoadLocal, StoreLocal, DelLocal, LoadGlobal, StoreGlobal, DelGlobal, LoadName, StoreName, DelName, LoadAttr, StoreAttr, DelAttr, LoadMethod, LoadItem, StoreItem, DelItem, Slice, Unary, Not, Binary, InPlace, Compare, Jump, JumpFalse, KeepFalse, KeepTrue, BuildTuple, BuildList, BuildDict, Unpack, Iter, Next, Call, CallMethod, Return, MakeFunction, ClassBody, Try, PopTry, ExcMatch, MakeRaised, Raise, PrintItem, PrintNewline}
 use Rattle.py_code.specs.declared.program.Root.{Root}
 use Rattle.py_code.specs.declared.program.Code.{Code}
 use Rattle.py_code.specs.Typing.{HasNoSetup}
-use Rattle.py_code.specs.Right.{opens_body, bodies, all_instrs, is_body, HasCellAt, Belongs, text_root, names_of}
+use Rattle.py_code.specs.Right.{opens_body, bodies, is_body, HasCellAt, Belongs, names_of}
 use Rattle.py_compile.specs.Names.{has, number_in}
 use Rattle.py_compile.proofs.ExprInduct.{Every}
 use Rattle.py_compile.proofs.Homes.{any_place}
 use Rattle.py_compile.proofs.Clean.{Fit}
-use Rattle.py_compile.proofs.Sits.{Opens}
 
 -- what holds of each instruction
-no_setup : (ok : ℕ → Type 0) (flags : ℕ → Bool) (z : Bool) (is : List Instr) → Every (Fit ok flags z) is → HasNoSetup is
+pub no_setup : (ok : ℕ → Type 0) (flags : ℕ → Bool) (z : Bool) (is : List Instr) → Every (Fit ok flags z) is → HasNoSetup is
 no_setup ok flags z [] h p e = absurd (cc)
 no_setup ok flags z (i ∷ is) h zero e = let k : i ≡ Setup = cc in absurd (subst (Fit ok flags z) k h.0)
 no_setup ok flags z (i ∷ is) h (suc p) e = no_setup ok flags z is h.1 p e
 
-every_all : (P Q : Instr → Type 0) → ((i : Instr) → P i → Q i) → (is : List Instr) → Every P is → All Q is
+pub every_all : (P Q : Instr → Type 0) → ((i : Instr) → P i → Q i) → (is : List Instr) → Every P is → All Q is
 every_all P Q f [] h = All-nil Q
 every_all P Q f (i ∷ is) h = All-cons Q i is (f i h.0) (every_all P Q f is h.1)
 
@@ -85,7 +80,7 @@ opens_not ok flags z f Raise q e o = o
 opens_not ok flags z f PrintItem q e o = o
 opens_not ok flags z f PrintNewline q e o = o
 
-opens_none : (ok : ℕ → Type 0) (flags : ℕ → Bool) (z : Bool) (f : ℕ) (is : List Instr) → Every (Fit ok flags z) is → flags f ≡ false → list_any (opens_body f) is ≡ false
+pub opens_none : (ok : ℕ → Type 0) (flags : ℕ → Bool) (z : Bool) (f : ℕ) (is : List Instr) → Every (Fit ok flags z) is → flags f ≡ false → list_any (opens_body f) is ≡ false
 opens_none ok flags z f [] h e = refl
 opens_none ok flags z f (i ∷ is) h e = by_test (opens_body f i) refl (opens_none ok flags z f is h.1 e)
   where
@@ -94,7 +89,7 @@ opens_none ok flags z f (i ∷ is) h e = by_test (opens_body f i) refl (opens_no
     by_test false o m = m
 
 -- what fits in a body belongs in its code
-belongs_from : (cs : List Code) (rs : List Root) (j : ℕ) (flags : ℕ → Bool) (z : Bool) → (z ≡ true → is_body cs j ≡ true) → ((f : ℕ) → flags f ≡ false → is_body cs f ≡ false) → (i : Instr) → Fit (λ r. HasCellAt (names_of rs) (slice_get rs r)) flags z i → Belongs cs rs j i
+pub belongs_from : (cs : List Code) (rs : List Root) (j : ℕ) (flags : ℕ → Bool) (z : Bool) → (z ≡ true → is_body cs j ≡ true) → ((f : ℕ) → flags f ≡ false → is_body cs f ≡ false) → (i : Instr) → Fit (λ r. HasCellAt (names_of rs) (slice_get rs r)) flags z i → Belongs cs rs j i
 belongs_from cs rs j flags z own other (LoadName a) h = (own h.0, h.1)
 belongs_from cs rs j flags z own other (StoreName a) h = own h
 belongs_from cs rs j flags z own other (DelName a) h = own h
@@ -148,20 +143,20 @@ belongs_from cs rs j flags z own other PrintItem h = tt
 belongs_from cs rs j flags z own other PrintNewline h = tt
 
 -- which codes are those of class bodies
-body_at : (is : List Instr) (n : ℕ) (cs : List Code) (f : ℕ) → f < length cs → get_or (bodies is n cs) f false ≡ list_any (opens_body (n + f)) is
+pub body_at : (is : List Instr) (n : ℕ) (cs : List Code) (f : ℕ) → f < length cs → get_or (bodies is n cs) f false ≡ list_any (opens_body (n + f)) is
 unfolding bodies
 body_at is n [] f lt = absurd (omega (arith, lt))
 body_at is n (c ∷ cs) zero lt = let e : n ≡ n + 0 = omega arith in ap (λ k. list_any (opens_body k) is) e
 body_at is n (c ∷ cs) (suc f) lt = let e : n + 1 + f ≡ n + suc f = omega arith in body_at is (n + 1) cs f (omega (arith, lt)) ∙ ap (λ k. list_any (opens_body k) is) e
 
-body_past : (is : List Instr) (n : ℕ) (cs : List Code) (f : ℕ) → list_any (opens_body (n + f)) is ≡ false → get_or (bodies is n cs) f false ≡ false
+pub body_past : (is : List Instr) (n : ℕ) (cs : List Code) (f : ℕ) → list_any (opens_body (n + f)) is ≡ false → get_or (bodies is n cs) f false ≡ false
 unfolding bodies
 body_past is n [] f e = refl
 body_past is n (c ∷ cs) zero e = let k : n ≡ n + 0 = omega arith in ap (λ k. list_any (opens_body k) is) k ∙ e
 body_past is n (c ∷ cs) (suc f) e = let k : n + 1 + f ≡ n + suc f = omega arith in body_past is (n + 1) cs f (ap (λ k. list_any (opens_body k) is) k ∙ e)
 
 -- the string that a number of a name is
-number_is : (x : List ℕ) (ns : List (List ℕ)) (d : List ℕ) → has x ns ≡ true → (number_in x ns < length ns) × (bytes_eq x (get_or ns (number_in x ns) d) ≡ true)
+pub number_is : (x : List ℕ) (ns : List (List ℕ)) (d : List ℕ) → has x ns ≡ true → (number_in x ns < length ns) × (bytes_eq x (get_or ns (number_in x ns) d) ≡ true)
 number_is x ns d h =
     let e : nat_lt (position_or_len (bytes_eq x) ns) (length ns) ≡ true = sym (any_place (bytes_eq x) ns) ∙ h in
     let l = ltb-true (position_or_len (bytes_eq x) ns) (length ns) e in

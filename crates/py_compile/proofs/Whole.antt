@@ -65,10 +65,10 @@ module _ (locals : List (List (List ℕ))) (ss : List Stmt) where
   abbrev pub P : List ℕ
   P = map (λ y. y.params) (whole.bodies ss)
 
-  none : HasNone L T C Ks P
+  pub none : HasNone L T C Ks P
   none j = keys_first j us ([] ∷ []) [] refl
 
-  wide : Wide L T C Ks P us
+  pub wide : Wide L T C Ks P us
   wide = numbers.wide L T C Ks P us (numbers.all_noted [] [] (λ j. [] ∷ []) us)
 
   standing : Standing L T C Ks P 1 ((stated_block ss).inner 1)
@@ -85,14 +85,14 @@ module _ (locals : List (List (List ℕ))) (ss : List Stmt) where
       ((λ sl p s. r.good 0 false sl p s 1 [] h wide standing), r.inner false false 0 false 1 h wide standing)
 
   -- the slots of a code
-  named_slotted : (z : Bool) (j : ℕ) (m : ℕ) → Slotted L T C Ks P j z (length (whole.slots_named z (L j)) + m)
+  pub named_slotted : (z : Bool) (j : ℕ) (m : ℕ) → Slotted L T C Ks P j z (length (whole.slots_named z (L j)) + m)
   named_slotted false j m e = omega arith
   named_slotted true j m e = absurd (cc)
 
   abbrev pub code_at : ℕ → Body → Code
   code_at j y = whole.code_by y (whole.names_of locals ss j y) (whole.whole j y (whole.names_of locals ss j y))
 
-  slots_long : (j : ℕ) (y : Body) → length (code_at j y).slots ≡ length (whole.slots_named y.is_class (L j)) + (whole.whole j y (whole.names_of locals ss j y)).slots
+  pub slots_long : (j : ℕ) (y : Body) → length (code_at j y).slots ≡ length (whole.slots_named y.is_class (L j)) + (whole.whole j y (whole.names_of locals ss j y)).slots
   slots_long j y = let p = whole.whole j y (whole.names_of locals ss j y) in let e : List ℕ = [] in let n = length-replicate p.slots e in omega (arith, n, length-append (whole.slots_named y.is_class (L j)) (replicate p.slots []))
 
   -- a code that isn't too large is right

@@ -1,7 +1,7 @@
 -- A program's names with their numbers, and its bodies one after another.
 use Rattle.std.proofs.Common.{◌≡◌, ℕ, ◌+◌, ◌<◌, ◌≤◌, List, [], ◌∷◌, ◌++◌, Bool, false, refl, subst, arith, length, map, get_or}
 use Rattle.py_code.specs.Effects.{Limits, IsText, IsCell}
-use Rattle.py_compile.specs.Names.{Known, text, cell, first_text, first_cell, list_number}
+use Rattle.py_compile.specs.Names.{Known, text, cell, first_text, first_cell}
 use Rattle.py_compile.specs.Uses.{Use, Text, Global, Keys, Inside}
 use Rattle.py_compile.specs.Statements.{Body}
 use Rattle.py_compile.proofs.Blocks.{Does}
