@@ -38,3 +38,9 @@ pub mod Clean
 pub mod StmtClean
 pub mod Verifies
 pub mod Assembled
+pub mod SaidRows
+pub mod SaysRows
+pub mod ScopeRows
+pub mod LegalRows
+pub mod LegalText
+pub mod LegalStmts

@@ -1,5 +1,5 @@
 -- The equations of `sane`.
-use Rattle.std.proofs.Common.{◌≡◌, ℕ, Bool, ◌&&◌, List, [], ◌∷◌, map, Option, Some, None, refl, sym, ap, ◌∙◌}
+use Rattle.std.proofs.Common.{◌≡◌, ℕ, ℤ, Bool, true, ◌&&◌, List, [], ◌∷◌, map, Option, Some, None, refl, sym, ap, ◌∙◌}
 use Rattle.py_tree.specs.declared.expr.Expr.{Expr}
 use Rattle.py_tree.specs.declared.expr.Trailer.{Trailer}
 use Rattle.py_tree.specs.declared.expr.Link.{Link}
@@ -109,3 +109,19 @@ sane_slice (Some a) (Some c) = ap sane_trailer (sym (t.rolls-Slice (Some a) (Som
 pub sane_call : (xs : List Expr) (ks : List Named) → sane_trailer (t.Call xs ks) ≡ (all_sane xs && sane_named ks)
 unfolding sane sane_trailer link named pair
 sane_call xs ks = ap sane_trailer (sym (t.rolls-Call xs ks)) ∙ fold-roll-Trailer Bool Bool (ℕ × Bool) Bool Bool expr_step trailer_step link_step named_step pair_step (open'.Call xs ks) ∙ ap (λ z. z && all_true (map named ks)) (all_exprs xs) ∙ ap (λ z. all_sane xs && z) (all_named ks)
+
+pub sane_name : (x : List ℕ) → sane (e.Name x) ≡ true
+unfolding sane sane_trailer link named pair
+sane_name x = ap sane (sym (e.rolls-Name x)) ∙ fold-roll-Expr Bool Bool (ℕ × Bool) Bool Bool expr_step trailer_step link_step named_step pair_step (open'.Name x)
+
+pub sane_int : (i : ℤ) → sane (e.Int i) ≡ true
+unfolding sane sane_trailer link named pair
+sane_int i = ap sane (sym (e.rolls-Int i)) ∙ fold-roll-Expr Bool Bool (ℕ × Bool) Bool Bool expr_step trailer_step link_step named_step pair_step (open'.Int i)
+
+pub sane_str : (x : List ℕ) → sane (e.Str x) ≡ true
+unfolding sane sane_trailer link named pair
+sane_str x = ap sane (sym (e.rolls-Str x)) ∙ fold-roll-Expr Bool Bool (ℕ × Bool) Bool Bool expr_step trailer_step link_step named_step pair_step (open'.Str x)
+
+pub sane_attribute : (x : List ℕ) → sane_trailer (t.Attribute x) ≡ true
+unfolding sane sane_trailer link named pair
+sane_attribute x = ap sane_trailer (sym (t.rolls-Attribute x)) ∙ fold-roll-Trailer Bool Bool (ℕ × Bool) Bool Bool expr_step trailer_step link_step named_step pair_step (open'.Attribute x)

@@ -1,0 +1,118 @@
+-- The laws of scopes.
+use Rattle.std.proofs.Common.{◌≡◌, ℕ, Bool, true, false, cond, not, ◌&&◌, ◌||◌, List, [], ◌∷◌, ◌++◌, filter, Option, Some, None, refl, sym, ap, ◌∙◌}
+use Rattle.std.specs.List.{list_any}
+use Rattle.std.specs.Str.{bytes_eq}
+use Rattle.std.proofs.lemmas.List.Folds.{list_any-append}
+use Rattle.std.proofs.lemmas.Slice.Eq.{bytes_eq-Decides}
+use Rattle.py_names.specs.declared.event.Event.{Event}
+use Rattle.py_names.specs.declared.event.Event.TheVariants.{Enter, Leave, Takes, Uses, Binds, Declares, Misplaced, Doubled}
+use Rattle.py_names.specs.declared.event.BodyKind.TheVariants.{Module}
+use Rattle.py_names.specs.Outline.{has, with_name}
+use Rattle.py_names.specs.Scopes.{noted, noted_all, mention, binding, declaration, kind_of, is_module, no_names, names_from, is_local, is_global, scope_of}
+use Rattle.py_names.specs.ScopeLaws.{names_it, mentions, binds, declares, is_own}
+
+or-false : (a : Bool) → (a || false) ≡ a
+or-false true = refl
+or-false false = refl
+
+or-true : (a : Bool) → (a || true) ≡ true
+or-true true = refl
+or-true false = refl
+
+or-assoc : (a b d : Bool) → ((a || b) || d) ≡ (a || (b || d))
+or-assoc true b d = refl
+or-assoc false b d = refl
+
+or-right : (a b : Bool) → b ≡ true → (a || b) ≡ true
+or-right true b e = refl
+or-right false b e = e
+
+turned : (a b : Bool) → (not a && b) ≡ (b && not a)
+turned true true = refl
+turned true false = refl
+turned false true = refl
+turned false false = refl
+
+-- ---- lists of names
+
+module _ (n : List ℕ) where
+  has-with : (ns : List (List ℕ)) (m : List ℕ) → has n (with_name ns m) ≡ (has n ns || bytes_eq n m)
+  has-with ns m = go (has m ns) refl
+    where
+      same : (q : Bool) → bytes_eq n m ≡ q → has m ns ≡ true → has n ns ≡ (has n ns || q)
+      same false g f = sym (or-false (has n ns))
+      same true g f = ap (λ z. has z ns) ((bytes_eq-Decides n m).0 g) ∙ f ∙ sym (or-true (has n ns))
+
+      go : (q : Bool) → has m ns ≡ q → has n (cond q ns (ns ++ m ∷ [])) ≡ (has n ns || bytes_eq n m)
+      go true f = same (bytes_eq n m) refl f
+      go false f = list_any-append (bytes_eq n) ns (m ∷ []) ∙ ap (λ z. has n ns || z) (or-false (bytes_eq n m))
+
+  has-noted : (ns : List (List ℕ)) (o : Option (List ℕ)) → has n (noted ns o) ≡ (has n ns || names_it n o)
+  has-noted ns None = sym (or-false (has n ns))
+  has-noted ns (Some m) = has-with ns m
+
+  has-all : (f : Event → Option (List ℕ)) (ns : List (List ℕ)) (es : List Event) → has n (noted_all f ns es) ≡ (has n ns || list_any (λ e. names_it n (f e)) es)
+  has-all f ns [] = sym (or-false (has n ns))
+  has-all f ns (e ∷ es) =
+      has-all f (noted ns (f e)) es ∙ ap (λ z. z || list_any (λ x. names_it n (f x)) es) (has-noted ns (f e))
+      ∙ or-assoc (has n ns) (names_it n (f e)) (list_any (λ x. names_it n (f x)) es)
+
+  kept : (q b h r p : Bool) → (b ≡ true → q ≡ p) → h ≡ (p && r) → cond q (b || h) h ≡ (p && (b || r))
+  kept true false h r p e f = f
+  kept false false h r p e f = f
+  kept true true h r p e f = ap (λ z. z && true) (e refl)
+  kept false true h r p e f = f ∙ ap (λ z. z && r) (sym (e refl)) ∙ ap (λ z. z && true) (e refl)
+
+  has-cond : (q : Bool) (x : List ℕ) (ns : List (List ℕ)) → has n (cond q (x ∷ ns) ns) ≡ cond q (bytes_eq n x || has n ns) (has n ns)
+  has-cond true x ns = refl
+  has-cond false x ns = refl
+
+  has-filter : (p : List ℕ → Bool) (ns : List (List ℕ)) → has n (filter p ns) ≡ (p n && has n ns)
+  has-filter p [] = nothing (p n)
+    where
+      nothing : (a : Bool) → false ≡ (a && false)
+      nothing true = refl
+      nothing false = refl
+  has-filter p (x ∷ ns) =
+      has-cond (p x) x (filter p ns)
+      ∙ kept (p x) (bytes_eq n x) (has n (filter p ns)) (has n ns) (p n) (λ e. sym (ap p ((bytes_eq-Decides n x).0 e))) (has-filter p ns)
+
+  -- ---- bodies
+
+  same_front : (q a b : Bool) → (a ≡ true → b ≡ true) → (q || a) ≡ true → (q || b) ≡ true
+  same_front true a b f e = refl
+  same_front false a b f e = f e
+
+  mentions-bound : (es : List Event) → binds es n ≡ true → mentions es n ≡ true
+  mentions-bound [] e = e
+  mentions-bound (Enter k ∷ es) e = mentions-bound es e
+  mentions-bound (Leave ∷ es) e = mentions-bound es e
+  mentions-bound (Takes m ∷ es) e = same_front (bytes_eq n m) (binds es n) (mentions es n) (mentions-bound es) e
+  mentions-bound (Uses l m ∷ es) e = or-right (bytes_eq n m) (mentions es n) (mentions-bound es e)
+  mentions-bound (Binds l m ∷ es) e = same_front (bytes_eq n m) (binds es n) (mentions es n) (mentions-bound es) e
+  mentions-bound (Declares l m ∷ es) e = or-right (bytes_eq n m) (mentions es n) (mentions-bound es e)
+  mentions-bound (Misplaced l ∷ es) e = mentions-bound es e
+  mentions-bound (Doubled l ∷ es) e = mentions-bound es e
+
+  own : (es : List Event) → is_local (names_from no_names es) n ≡ is_own es n
+  own es =
+      ap (λ z. not (is_module (kind_of Module es)) && (z && not (has n (noted_all declaration [] es)))) (has-all binding [] es)
+      ∙ ap (λ z. not (is_module (kind_of Module es)) && (binds es n && not z)) (has-all declaration [] es)
+
+  absorbed : (a b d m : Bool) → (b ≡ true → m ≡ true) → ((a && (b && d)) && m) ≡ (a && (b && d))
+  absorbed false b d m f = refl
+  absorbed true false d m f = refl
+  absorbed true true false m f = refl
+  absorbed true true true m f = f refl
+
+  pub local_law : (es : List Event) → has n (scope_of (names_from no_names es)).locals ≡ is_own es n
+  local_law es =
+      has-filter (is_local (names_from no_names es)) (noted_all mention [] es)
+      ∙ ap (λ z. z && has n (noted_all mention [] es)) (own es) ∙ ap (λ z. is_own es n && z) (has-all mention [] es)
+      ∙ absorbed (not (is_module (kind_of Module es))) (binds es n) (not (declares es n)) (mentions es n) (mentions-bound es)
+
+  pub others_law : (es : List Event) → has n (scope_of (names_from no_names es)).globals ≡ (mentions es n && not (is_own es n))
+  others_law es =
+      has-filter (is_global (names_from no_names es)) (noted_all mention [] es)
+      ∙ ap (λ z. not z && has n (noted_all mention [] es)) (own es) ∙ ap (λ z. not (is_own es n) && z) (has-all mention [] es)
+      ∙ turned (is_own es n) (mentions es n)
