@@ -51,8 +51,8 @@ use Rattle.py_compile.proofs.LegalText.{and_true, s_Is, s_Exprs, s_Tests, s_Mayb
 
 -- targets
 targets_cons : (a : Expr) (es : List Expr) → is_target false (form a) ≡ true → sane a ≡ true → are_targets es ≡ true → are_targets (a ∷ es) ≡ true
-targets_cons a es h g more =
-    let p = and_parts (all_targets false (map form es)) (all_sane es) more in
+targets_cons a es h g others =
+    let p = and_parts (all_targets false (map form es)) (all_sane es) others in
     and_true (is_target false (form a) && all_targets false (map form es)) (sane a && all_sane es) (and_true (is_target false (form a)) (all_targets false (map form es)) h p.0) (and_true (sane a) (all_sane es) g p.1)
 
 t_Target : {x : Marks} {a : Expr} {ts : List Token} → Target x a ts → x ≡ None → is_target false (form a) ≡ true
@@ -60,7 +60,7 @@ t_Target {a = a} h z = subst (λ y. is_target (slices y) (form a) ≡ true) z h.
 
 t_Targets : {x : Marks} {es : List Expr} {ts : List Token} → Targets x es ts → x ≡ None → (are_targets es ≡ true) × ((l : ℕ) → AllFree (target_all l es))
 t_Targets (S.Targets.one {a = a} h) z = (targets_cons a [] (t_Target h z) (s_Is h.spells z) refl, λ l. f2 (f_Is h.spells z l).target f0)
-t_Targets (S.Targets.more _ {a = a} {es = es} h more) z = let r = t_Targets more z in (targets_cons a es (t_Target h z) (s_Is h.spells z) r.0, λ l. f2 (f_Is h.spells z l).target (r.1 l))
+t_Targets (S.Targets.more _ {a = a} {es = es} h others) z = let r = t_Targets others z in (targets_cons a es (t_Target h z) (s_Is h.spells z) r.0, λ l. f2 (f_Is h.spells z l).target (r.1 l))
 
 -- the targets of `for`
 tuple_target : (a : Expr) (es : List Expr) → are_targets (a ∷ es) ≡ true → is_target_of (e.Tuple (a ∷ es)) ≡ true
@@ -74,8 +74,8 @@ tuple_free es l h = subst (λ q. AllFree q.target) (sym (said_tuple l es)) h
 t_Loops : {x : Marks} {a : Expr} {ts : List Token} → Loops x a ts → x ≡ None → (is_target_of a ≡ true) × ((l : ℕ) → AllFree (target l a))
 t_Loops (S.Loops.single {a = a} h) z = (and_true (is_target false (form a)) (sane a) (t_Target h z) (s_Is h.spells z), λ l. (f_Is h.spells z l).target)
 t_Loops (S.Loops.lone _ {a = a} h) z = (tuple_target a [] (targets_cons a [] (t_Target h z) (s_Is h.spells z) refl), λ l. tuple_free (a ∷ []) l (f2 (f_Is h.spells z l).target f0))
-t_Loops (S.Loops.several _ {a = a} {b = b} {es = es} h more) z = let r = t_Targets more z in (tuple_target a (b ∷ es) (targets_cons a (b ∷ es) (t_Target h z) (s_Is h.spells z) r.0), λ l. tuple_free (a ∷ b ∷ es) l (f2 (f_Is h.spells z l).target (r.1 l)))
-t_Loops (S.Loops.several_comma _ _ {a = a} {b = b} {es = es} h more) z = let r = t_Targets more z in (tuple_target a (b ∷ es) (targets_cons a (b ∷ es) (t_Target h z) (s_Is h.spells z) r.0), λ l. tuple_free (a ∷ b ∷ es) l (f2 (f_Is h.spells z l).target (r.1 l)))
+t_Loops (S.Loops.several _ {a = a} {b = b} {es = es} h others) z = let r = t_Targets others z in (tuple_target a (b ∷ es) (targets_cons a (b ∷ es) (t_Target h z) (s_Is h.spells z) r.0), λ l. tuple_free (a ∷ b ∷ es) l (f2 (f_Is h.spells z l).target (r.1 l)))
+t_Loops (S.Loops.several_comma _ _ {a = a} {b = b} {es = es} h others) z = let r = t_Targets others z in (tuple_target a (b ∷ es) (targets_cons a (b ∷ es) (t_Target h z) (s_Is h.spells z) r.0), λ l. tuple_free (a ∷ b ∷ es) l (f2 (f_Is h.spells z l).target (r.1 l)))
 
 -- targets and a value
 pub record Given (es : List Expr) (b : Expr) : Type 0 where
@@ -86,7 +86,7 @@ pub record Given (es : List Expr) (b : Expr) : Type 0 where
 
 t_Equals : {x : Marks} {es : List Expr} {b : Expr} {ts : List Token} → Equals x es b ts → x ≡ None → Given es b
 t_Equals (S.Equals.value h) z = record { targets = refl; value = s_Exprs h z; bound = λ l. f0; read = λ l. (f_Exprs h z l).read }
-t_Equals (S.Equals.equals _ {a = a} {es = es} h is more) z = let r = t_Equals more z in record {
+t_Equals (S.Equals.equals _ {a = a} {es = es} h is others) z = let r = t_Equals others z in record {
   targets = targets_cons a es (subst (λ y. is_target (slices y) (form a) ≡ true) z is) (s_Exprs h z) r.targets;
   value = r.value;
   bound = λ l. f2 (f_Exprs h z l).target (r.bound l);
@@ -161,7 +161,7 @@ join_good ss rs w h g = record { legal = legal_join ss rs w.in_loop w.in_clause 
 g_Line : {x : Marks} {ss : List Stmt} {ts : List Token} → Line x ss ts → x ≡ None → (w : Where) → Clears (says_block ss w) → Good ss w
 g_Line (S.Line.end _ {a = a} h) z w c = one_good a w (g_Simple h z w (c_front _ _ c))
 g_Line (S.Line.end_semicolon _ _ {a = a} h) z w c = one_good a w (g_Simple h z w (c_front _ _ c))
-g_Line (S.Line.more _ {a = a} {as' = ss} h more) z w c = more_good a ss w (g_Simple h z w (c_front _ _ c)) (g_Line more z w (c_back _ _ c))
+g_Line (S.Line.more _ {a = a} {as' = ss} h others) z w c = more_good a ss w (g_Simple h z w (c_front _ _ c)) (g_Line others z w (c_back _ _ c))
 
 -- parameters
 record Params' (ps : List Param) : Type 0 where
@@ -169,19 +169,19 @@ record Params' (ps : List Param) : Type 0 where
   free : (l : ℕ) (before : List (List ℕ)) → AllFree (parameters l before ps)
 
 p_cons : (a : Param) (ps : List Param) → sane_some a.default ≡ true → ((l : ℕ) → AllFree (read_some l a.default)) → Params' ps → Params' (a ∷ ps)
-p_cons a ps h f more = record { sane = and_true (sane_some a.default) (sane_defaults ps) h more.sane; free = λ l before. f2 (f2 (f2 (label_free l a.name) (repeated_free l before a.name)) (f l)) (more.free l (with_name before a.name)) }
+p_cons a ps h f others = record { sane = and_true (sane_some a.default) (sane_defaults ps) h others.sane; free = λ l before. f2 (f2 (f2 (label_free l a.name) (repeated_free l before a.name)) (f l)) (others.free l (with_name before a.name)) }
 
 p_nil : Params' []
 p_nil = record { sane = refl; free = λ l before. f0 }
 
 g_Parameter : {x : Marks} {b : Bool} {a : Param} {ts : List Token} → Parameter x b a ts → x ≡ None → (ps : List Param) → Params' ps → Params' (a ∷ ps)
-g_Parameter (S.Parameter.plain _ n _) z ps more = p_cons (record { name = n; default = None }) ps refl (λ l. f0) more
-g_Parameter (S.Parameter.default n _ _ {a = a} h) z ps more = p_cons (record { name = n; default = Some a }) ps (s_Is h z) (λ l. (f_Is h z l).read) more
+g_Parameter (S.Parameter.plain _ n _) z ps others = p_cons (record { name = n; default = None }) ps refl (λ l. f0) others
+g_Parameter (S.Parameter.default n _ _ {a = a} h) z ps others = p_cons (record { name = n; default = Some a }) ps (s_Is h z) (λ l. (f_Is h z l).read) others
 
 g_Parameters : {x : Marks} {b : Bool} {ps : List Param} {ts : List Token} → Parameters x b ps ts → x ≡ None → Params' ps
 g_Parameters (S.Parameters.one _ _ q h) z = g_Parameter h z [] p_nil
 g_Parameters (S.Parameters.one_comma _ _ _ q h) z = g_Parameter h z [] p_nil
-g_Parameters (S.Parameters.more _ _ _ {as' = ps} q h more) z = g_Parameter h z ps (g_Parameters more z)
+g_Parameters (S.Parameters.more _ _ _ {as' = ps} q h others) z = g_Parameter h z ps (g_Parameters others z)
 g_Parameters (S.Parameters.starred _ _) z = absurd (cc)
 g_Parameters (S.Parameters.double_starred _ _) z = absurd (cc)
 g_Parameters (S.Parameters.tuple _ _) z = absurd (cc)
@@ -227,9 +227,9 @@ mutual
 
   g_Elifs : {x : Marks} {rs : List Arm} {ts : List Token} → Elifs x rs ts → x ≡ None → (w : Where) → Clears (says_arms rs w) → (legal_arms rs w.in_loop w.in_clause ≡ true) × AllFree (says_arms rs w)
   g_Elifs (S.Elifs.no_elif _) z w c = (refl, f0)
-  g_Elifs (S.Elifs.elif p _ {a = a} {as' = ss} {rs = rs} h k more) z w c =
+  g_Elifs (S.Elifs.elif p _ {a = a} {as' = ss} {rs = rs} h k others) z w c =
       let g = g_Block k z w (c_back _ _ (c_front _ _ c)) in
-      let r = g_Elifs more z w (c_back _ _ c) in
+      let r = g_Elifs others z w (c_back _ _ c) in
       (and_true (sane a && legal_all ss w.in_loop w.in_clause) (legal_arms rs w.in_loop w.in_clause) (and_true (sane a) (legal_all ss w.in_loop w.in_clause) (s_Is h z) g.legal) r.0, f2 (f2 (f_Is h z p.line).read g.free) r.1)
 
   g_Else : {x : Marks} {d : Option Clause} {ts : List Token} → Else x d ts → x ≡ None → (w : Where) → Clears (says_clause d w) → (legal_clause d w.in_loop w.in_clause ≡ true) × AllFree (says_clause d w)
@@ -245,18 +245,18 @@ mutual
       let q = g_Caught h z in
       let g = g_Block k z w (c_back _ _ (c_front _ _ c)) in
       record { legal = and_true ((sane_some a && lg.target_some b) && legal_all ss w.in_loop w.in_clause) true (and_true (sane_some a && lg.target_some b) (legal_all ss w.in_loop w.in_clause) q.0 g.legal) refl; free = f2 (f2 (f2 (q.1 p.line) (q.2 p.line)) g.free) f0; there = λ d. refl }
-  g_Excepts (S.Excepts.except_more p _ {a = a} {b = b} {as' = ss} {hs = hs} h k more) z w c =
+  g_Excepts (S.Excepts.except_more p _ {a = a} {b = b} {as' = ss} {hs = hs} h k others) z w c =
       let q = g_Caught h z in
       let g = g_Block k z w (c_back _ _ (c_front _ _ c)) in
-      let r = g_Excepts more z w (c_back _ _ c) in
+      let r = g_Excepts others z w (c_back _ _ c) in
       record { legal = and_true ((sane a && lg.target_some b) && legal_all ss w.in_loop w.in_clause) (legal_handlers hs w.in_loop w.in_clause) (and_true (sane a && lg.target_some b) (legal_all ss w.in_loop w.in_clause) q.0 g.legal) r.legal; free = f2 (f2 (f2 (q.1 p.line) (q.2 p.line)) g.free) r.free; there = λ d. refl }
 
   g_Compound : {x : Marks} {a : Stmt} {ts : List Token} → Compound x a ts → x ≡ None → (w : Where) → Clears (says a w) → Fine a w
-  g_Compound (S.Compound.if' p _ {a = a} {as' = ss} {rs = rs} {d = d} h k more last) z w c =
+  g_Compound (S.Compound.if' p _ {a = a} {as' = ss} {rs = rs} {d = d} h k others last) z w c =
       let arms : List Arm = record { line = p.line; test = a; body = ss } ∷ rs in
       let y = clear_as (s.If arms d) w (says_if arms d w) c in
       let g = g_Block k z w (c_back _ _ (c_front _ _ (c_front _ _ y))) in
-      let r = g_Elifs more z w (c_back _ _ (c_front _ _ y)) in
+      let r = g_Elifs others z w (c_back _ _ (c_front _ _ y)) in
       let v = g_Else last z w (c_back _ _ y) in
       told (s.If arms d) w (says_if arms d w) (legal_if arms d w.in_loop w.in_clause ∙ and_true (legal_arms arms w.in_loop w.in_clause) (legal_clause d w.in_loop w.in_clause) (and_true (sane a && legal_all ss w.in_loop w.in_clause) (legal_arms rs w.in_loop w.in_clause) (and_true (sane a) (legal_all ss w.in_loop w.in_clause) (s_Is h z) g.legal) r.0) v.0) (f2 (f2 (f2 (f_Is h z p.line).read g.free) r.1) v.1)
   g_Compound (S.Compound.while p _ {a = a} {as' = ss} {d = d} h k last) z w c =

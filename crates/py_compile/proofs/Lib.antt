@@ -44,3 +44,4 @@ pub mod ScopeRows
 pub mod LegalRows
 pub mod LegalText
 pub mod LegalStmts
+pub mod NoneFree
