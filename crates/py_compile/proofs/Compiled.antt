@@ -23,7 +23,8 @@ use Rattle.py_compile.specs.Tallies.{Listed, Tally, block_uses, bump, done as af
 use Rattle.py_compile.proofs.Tallying.{bump_is}
 use Rattle.py_compile.proofs.UsedStatements.{block}
 use Rattle.py_compile.specs.Compiles.{known_by, known_in}
-use Rattle.py_compile.specs.Whole.{whole, slots_named, code_at, large_at, least, codes_from, large_bodies, roots_of, text_root, cell_root, class_roots}
+use Rattle.py_compile.specs.Whole.{whole, slots_named, code_at, large_at, least, codes_from, large_bodies, roots_with}
+use Rattle.py_code.specs.Right.{text_root, cell_root, class_roots}
 
 -- ---- what was gathered
 
@@ -279,7 +280,7 @@ classes_more c (suc n) =
     let f : suc n + 1 ≡ suc (n + 1) = omega arith in
     ap (class_roots c) f ∙ ap (λ z. class_roots c 1 ++ z) (classes_more (c + 1) n) ∙ ap (λ k. class_roots c (suc n) ++ class_roots k 1) e
 
-pub roots_count : (texts cells : List (List ℕ)) → length (roots_of texts cells) ≡ first_cell texts cells + length cells
+pub roots_count : (texts cells : List (List ℕ)) → length (roots_with texts cells) ≡ first_cell texts cells + length cells
 roots_count texts cells = omega (
   arith,
   length-append (class_roots 0 20 ++ map text_root (texts ++ main_texts cells)) (map cell_root cells),

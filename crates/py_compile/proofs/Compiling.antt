@@ -17,7 +17,7 @@ use Rattle.py_compile.specs.Gathered.{numbered}
 use Rattle.py_compile.specs.Statements.{Body}
 use Rattle.py_compile.specs.Tallies.{Listed, Tally, locals_in}
 use Rattle.py_compile.specs.Uses.{cells_from, module_uses, texts_from}
-use Rattle.py_compile.specs.Whole.{bodies, codes_from, is_long, large_bodies, names_of, program_of, roots, roots_of, too_large_in, too_many}
+use Rattle.py_compile.specs.Whole.{bodies, codes_from, is_long, large_bodies, names_of, program_of, roots, roots_with, too_large_in, too_many}
 use Rattle.py_compile.proofs.Compiled.{Told, length_numbered, codes_same, large_same}
 
 -- what was gathered, by what calls say of it
@@ -56,17 +56,17 @@ module _ (scopes : List Scope) (m : Module) (bs : List Gathered) (eb : numbered 
   many_bodies h = rw (count, h) refl
 
   module _ (used : Tally) (told : Told (length bs) (module_uses (locals_in (bound_in scopes)) m.body) used) where
-    pub roots_are : roots_of used.texts used.cells ≡ roots (bound_in scopes) m.body
-    roots_are = λ i. roots_of (told.texts i) (told.cells i)
+    pub roots_are : roots_with used.texts used.cells ≡ roots (bound_in scopes) m.body
+    roots_are = λ i. roots_with (told.texts i) (told.cells i)
 
-    tests : too_many (bound_in scopes) m.body ≡ (if nat_lt 65535 (length bs) then true else (if nat_lt 65535 (length (roots_of used.texts used.cells)) then true else list_any is_long used.texts))
+    tests : too_many (bound_in scopes) m.body ≡ (if nat_lt 65535 (length bs) then true else (if nat_lt 65535 (length (roots_with used.texts used.cells)) then true else list_any is_long used.texts))
     tests = sym (λ i. if nat_lt 65535 (sym count i) then true else (if nat_lt 65535 (length (roots_are i)) then true else list_any is_long (told.texts i)))
 
-    pub many_roots : nat_lt 65535 (length bs) ≡ false → nat_lt 65535 (length (roots_of used.texts used.cells)) ≡ true → too_large_in (bound_in scopes) m ≡ Some 1
+    pub many_roots : nat_lt 65535 (length bs) ≡ false → nat_lt 65535 (length (roots_with used.texts used.cells)) ≡ true → too_large_in (bound_in scopes) m ≡ Some 1
     unfolding too_large_in
     many_roots h1 h2 = rw (tests, h1, h2) refl
 
-    pub long_text : nat_lt 65535 (length bs) ≡ false → nat_lt 65535 (length (roots_of used.texts used.cells)) ≡ false → list_any is_long used.texts ≡ true → too_large_in (bound_in scopes) m ≡ Some 1
+    pub long_text : nat_lt 65535 (length bs) ≡ false → nat_lt 65535 (length (roots_with used.texts used.cells)) ≡ false → list_any is_long used.texts ≡ true → too_large_in (bound_in scopes) m ≡ Some 1
     unfolding too_large_in
     long_text h1 h2 h3 = rw (tests, h1, h2, h3) refl
 
@@ -74,14 +74,14 @@ module _ (scopes : List Scope) (m : Module) (bs : List Gathered) (eb : numbered 
       same : (b : ℕ) (y : Body) → b < length bs → known_in locals used b y ≡ names_of (bound_in scopes) m.body b y
       same b y lt = λ i. record { is_class = y.is_class; locals = padded.same b i; texts = told.texts i; cells = told.cells i; keys = told.keys.lists b lt i }
 
-      pub large_is : nat_lt 65535 (length bs) ≡ false → nat_lt 65535 (length (roots_of used.texts used.cells)) ≡ false → list_any is_long used.texts ≡ false →
+      pub large_is : nat_lt 65535 (length bs) ≡ false → nat_lt 65535 (length (roots_with used.texts used.cells)) ≡ false → list_any is_long used.texts ≡ false →
           too_large_in (bound_in scopes) m ≡ large_bodies (known_in locals used) 0 (numbered 0 bs)
       unfolding too_large_in
       large_is h1 h2 h3 =
           let n = length_numbered 0 bs in
           rw (tests, h1, h2, h3) (sym (large_same (known_in locals used) (names_of (bound_in scopes) m.body) (length bs) same 0 (numbered 0 bs) (omega (arith, n)) ∙ ap (large_bodies (names_of (bound_in scopes) m.body) 0) eb))
 
-      pub program_is : program_of (bound_in scopes) m ≡ record { codes = codes_from (known_in locals used) 0 (numbered 0 bs); roots = roots_of used.texts used.cells }
+      pub program_is : program_of (bound_in scopes) m ≡ record { codes = codes_from (known_in locals used) 0 (numbered 0 bs); roots = roots_with used.texts used.cells }
       unfolding program_of
       program_is =
           let n = length_numbered 0 bs in
@@ -95,5 +95,5 @@ module _ (scopes : List Scope) (m : Module) (bs : List Gathered) (eb : numbered 
       compiles_err OutOfMemory e h = tt
 
       pub compiles_ok : (cs : List Code) (rs : List Root) → too_large_in (bound_in scopes) m ≡ large_bodies (known_in locals used) 0 (numbered 0 bs) →
-          CodesOf (known_in locals used) (numbered 0 bs) (Ok cs) → rs ≡ roots_of used.texts used.cells → Compiles m scopes (Ok (record { codes = cs; roots = rs }))
+          CodesOf (known_in locals used) (numbered 0 bs) (Ok cs) → rs ≡ roots_with used.texts used.cells → Compiles m scopes (Ok (record { codes = cs; roots = rs }))
       compiles_ok cs rs e h r = (e ∙ h.0, (λ i. record { codes = h.1 i; roots = r i }) ∙ sym program_is)

@@ -7,7 +7,7 @@ use Rattle.py_names.specs.declared.scope.Scope.{Scope}
 use Rattle.py_compile.specs.declared.error.CompileError.{CompileError}
 use Rattle.py_compile.specs.declared.error.CompileError.TheVariants.{Refused, OutOfMemory}
 use Rattle.py_compile.specs.Names.{Known}
-use Rattle.py_compile.specs.Uses.{with_name}
+use Rattle.py_names.specs.Outline.{with_name}
 use Rattle.py_compile.specs.Tallies.{Tally}
 use Rattle.py_compile.specs.Statements.{Body}
 use Rattle.py_code.specs.declared.program.Code.{Code}

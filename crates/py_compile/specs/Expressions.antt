@@ -23,7 +23,8 @@ use Rattle.py_tree.specs.declared.expr.Expr.TheFolds.{fold-Expr, fold-Trailer}
 use Rattle.py_compile.specs.declared.home.Home.{Home}
 use Rattle.py_compile.specs.Template.{Piece, row}
 use Rattle.py_compile.specs.Table.{store, del, nothing, one, constant, name, one_value, two_values, link, operators, kept, all_kept, between, chained, conditional, attribute, index, slice, call, method_call, trail, built, pair, to_attr, to_item, to_all, del_attr, del_item, add_name, add_attr, add_item}
-use Rattle.py_compile.specs.Names.{Known, home, text, key_list, is_none}
+use Rattle.py_compile.specs.Names.{Known, home, text, key_list}
+use Rattle.py_names.specs.Outline.{is_none}
 
 -- the numbers of the operators
 abbrev pub operator : Operator → ℕ

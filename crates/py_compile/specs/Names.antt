@@ -1,10 +1,11 @@
 -- The numbers of a body's names: slots, roots and keyword lists. States `docs/LANGUAGE.md`, "Names in code".
 use Rattle.std.specs.Prelude.{ℕ, ◌+◌, Bool, true, false, if◌then◌else◌, codes, List, [], ◌∷◌, length, position, Option, Some, None, unwrap_or}
-use Rattle.std.specs.List.{list_any}
 use Rattle.std.specs.Str.{bytes_eq}
 use Rattle.py_code.specs.declared.builtin.TheConstants.{ALLOCATE_LOCK, LOCK, START_NEW_THREAD, THREAD, THREADING_MODULE, THREAD_MODULE}
 use Rattle.py_code.specs.declared.instr.Constant.{Constant}
 use Rattle.py_code.specs.declared.instr.Constant.TheVariants.{Root, Builtin}
+use Rattle.py_code.specs.Right.{first_text}
+use Rattle.py_names.specs.Outline.{has}
 use Rattle.py_compile.specs.declared.home.Home.{Home}
 use Rattle.py_compile.specs.declared.home.Home.TheVariants.{Slot, Cell, Body}
 
@@ -17,19 +18,12 @@ pub record Known : Type 0 where
   pub cells : List (List ℕ)
   pub keys : List (List (List ℕ))
 
-abbrev pub has : List ℕ → List (List ℕ) → Bool
-has n ns = list_any (bytes_eq n) ns
-
 -- the place of a name in a list
 abbrev pub find_name : List ℕ → List (List ℕ) → Option ℕ
 find_name n ns = position (bytes_eq n) ns
 
 abbrev pub number_in : List ℕ → List (List ℕ) → ℕ
 number_in n ns = unwrap_or (find_name n ns) 0
-
--- the cell of the count of threads is root 0, and the 20 classes follow
-abbrev pub first_text : ℕ
-first_text = 21
 
 -- where a program names `__name__`, one more string stands behind the others
 abbrev pub main_texts : List (List ℕ) → List (List ℕ)
@@ -67,9 +61,6 @@ list_number i ks (x ∷ xs) = if same_names ks x then i else list_number (i + 1)
 
 abbrev pub key_list : Known → List (List ℕ) → ℕ
 key_list n ks = list_number 0 ks n.keys
-
-abbrev pub is_none : List ℕ → Bool
-is_none n = bytes_eq n (codes "None")
 
 -- a module, and a name that it has; `error` is a class, root 20
 abbrev pub library : List ℕ → Constant

@@ -11,7 +11,8 @@ use Rattle.py_tree.specs.declared.stmt.Param.{Param}
 use Rattle.py_tree.specs.declared.stmt.Imported.{Imported}
 use Rattle.py_tree.specs.declared.stmt.Stmt.TheOpen as open2
 use Rattle.py_tree.specs.declared.stmt.Stmt.TheFolds.{fold-Stmt}
-use Rattle.py_compile.specs.Names.{has, same_names, is_none}
+use Rattle.py_compile.specs.Names.{same_names}
+use Rattle.py_names.specs.Outline.{has, is_none, with_name}
 use Rattle.py_compile.specs.Statements.{bound_name}
 
 -- A string, a global name, or the keyword list of a call in the body with that number; without keywords it is empty.
@@ -207,9 +208,6 @@ module _ (locals : ℕ → List (List ℕ)) where
 -- ---- the numbers
 
 -- each once, in the order of first use
-abbrev pub with_name : List (List ℕ) → List ℕ → List (List ℕ)
-with_name ns x = if has x ns then ns else ns ++ x ∷ []
-
 abbrev pub with_keys : List (List (List ℕ)) → List (List ℕ) → List (List (List ℕ))
 with_keys kss ks = if list_any (same_names ks) kss then kss else kss ++ ks ∷ []
 

@@ -6,6 +6,7 @@ use Rattle.py_data.specs.declared.value.Kind.TheVariants.{Str, Cell, Class}
 use Rattle.py_code.specs.declared.program.Root.{Root}
 use Rattle.py_code.specs.declared.program.Code.{Code}
 use Rattle.py_code.specs.declared.program.Program.{Program}
+use Rattle.py_code.specs.Right.{roots_of}
 use Rattle.py_tree.specs.declared.stmt.Stmt.{Stmt}
 use Rattle.py_tree.specs.declared.stmt.Module.{Module}
 use Rattle.py_compile.specs.Template.{Piece}
@@ -13,10 +14,6 @@ use Rattle.py_compile.specs.Table.{body_code, module_code}
 use Rattle.py_compile.specs.Names.{Known, main_texts, text}
 use Rattle.py_compile.specs.Statements.{Body, stated_block}
 use Rattle.py_compile.specs.Uses.{Use, module_uses, texts_from, cells_from, keys_from}
-
--- how many classes there are among the roots
-abbrev pub classes : ℕ
-classes = 20
 
 -- ---- the bodies
 
@@ -30,18 +27,9 @@ bodies ss = module_body ss ∷ (stated_block ss).inner 1
 
 -- ---- the roots
 
-abbrev pub text_root : List ℕ → Root
-text_root x = record { kind = Str; number = 0; bytes = x }
-
-abbrev pub cell_root : List ℕ → Root
-cell_root x = record { kind = Cell; number = 0; bytes = x }
-
-abbrev pub class_roots : ℕ → ℕ → List Root
-class_roots c zero = []
-class_roots c (suc n) = record { kind = Class; number = c; bytes = [] } ∷ class_roots (c + 1) n
-
-abbrev pub roots_of : List (List ℕ) → List (List ℕ) → List Root
-roots_of texts cells = cell_root [] ∷ class_roots 0 classes ++ map text_root (texts ++ main_texts cells) ++ map cell_root cells
+-- those with these strings and global names
+abbrev pub roots_with : List (List ℕ) → List (List ℕ) → List Root
+roots_with texts cells = roots_of (texts ++ main_texts cells) cells
 
 -- ---- the codes
 
@@ -115,7 +103,7 @@ module _ (locals : List (List (List ℕ))) (ss : List Stmt) where
 
   -- the cell of the count of threads, the classes, the strings, the cells of the global names
   abbrev pub roots : List Root
-  roots = roots_of texts cells
+  roots = roots_with texts cells
 
   -- more functions or roots than 65,535, or a string that is too long
   abbrev pub too_many : Bool

@@ -14,11 +14,12 @@ use crate::draft::Draft;
 use crate::emitter::Emitter;
 use crate::error::{CompileError, Fault, too_large};
 use crate::expression::operand;
-use crate::names::{NameSet, Names, split};
+use crate::names::{Names, split};
 use crate::statement::block;
 use crate::tally::Tally;
 use py_code::{Code, Codes, Constant, Instr, KeyLists, Keys, Texts};
 use py_data::{Bytes, NoMemory, Refusal};
+use py_names::NameSet;
 use sqlite_items::Items;
 use std::alloc::Global;
 

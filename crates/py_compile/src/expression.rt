@@ -8,7 +8,8 @@ ghost use Rattle.py_code.specs.declared.instr.Constant.TheVariants.{Int as IntVa
 ghost use Rattle.py_code.specs.declared.instr.Instr.TheVariants.{BuildDict, BuildList, BuildTuple, Const, Pop, Rot2};
 ghost use Rattle.py_compile.specs.declared.draft.Far.TheVariants.{Always};
 ghost use Rattle.py_compile.specs.Expressions.{name_value, operator, sign_number, value, values};
-ghost use Rattle.py_compile.specs.Names.{Known, is_none};
+ghost use Rattle.py_compile.specs.Names.{Known};
+ghost use Rattle.py_names.specs.Outline.{is_none};
 ghost use Rattle.py_compile.specs.State.{Emitted, no_frames, opened};
 ghost use Rattle.py_compile.specs.Table.{one};
 ghost use Rattle.py_compile.specs.Tasks.{Behind, Between, Keys, Kept, Links, Mark, Op, Pairs, Runs, To, Value, Values, bound_task, plain, size, sizes};

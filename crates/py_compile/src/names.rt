@@ -1,83 +1,18 @@
 //! What a body knows of names.
 ghost use Rattle.std.specs.Prelude.{◌≡◌, [], ◌∷◌, ◌≤◌, ◌<◌, ◌+◌, ◌^◌, IfSome, length, map, MatchOption, OnErr, OnOk};
 ghost use Rattle.py_compile.specs.Expressions.{key_names};
-ghost use Rattle.py_compile.specs.Names.{cell, find_name, first_cell, has, home, key_list, list_number, number_in, same_names, text};
-ghost use Rattle.py_compile.specs.Uses.{with_name};
+ghost use Rattle.py_compile.specs.Names.{cell, find_name, first_cell, home, key_list, list_number, number_in, same_names, text};
+ghost use Rattle.py_names.specs.Outline.{has, with_name};
 
 use crate::home::Home;
-use indexmap::IndexSet;
 use py_code::Texts;
-use py_data::{Bytes, NoMemory};
+use py_data::Bytes;
+use py_names::NameSet;
 use py_tree::Named;
-use std::alloc::Global;
 use std::marker::Model;
 
 /// The root that is the first string: the cell of the count of threads and the classes stand before it.
 const FIRST_TEXT: usize = 21;
-
-/// Names in the order in which they were noted, which contracts see as that list. A name is found in constant time, but for
-/// collisions of the hash.
-#[derive(Drop)]
-pub struct NameSet<'a> {
-    set: IndexSet<&'a [u8]>,
-}
-
-impl<'a> Model for NameSet<'a> {
-    ghost use Rattle.std.specs.Prelude.{List, ℕ, map};
-
-    ghost Value = { List (List ℕ) };
-
-    ghost view = { λ a. map (λ x. x.now) a.set.keys };
-}
-
-impl<'a> NameSet<'a> {
-    /// No names.
-    pub fn new(alloc: Global) -> NameSet<'a>
-        ensures { result ≡ [] }
-    {
-        NameSet {
-            set: IndexSet::new(alloc),
-        }
-    }
-
-    /// How many names there are.
-    pub fn len(&self) -> usize
-        ensures { result ≡ length self.now }
-    {
-        self.set.len()
-    }
-
-    /// Whether the name is there.
-    pub fn has(&self, name: &[u8]) -> bool
-        ensures { result ≡ has name.now self.now }
-    {
-        self.set.contains(name)
-    }
-
-    /// The place of a name, from 0, if it is there.
-    pub fn find(&self, name: &[u8]) -> Option<usize>
-        ensures place { result ≡ find_name name.now self.now }
-        ensures within { IfSome result (λ i. i < length self.now) }
-    {
-        self.set.get_index_of(name)
-    }
-
-    /// Adds a name, if it isn't there.
-    pub fn note(&mut self, name: &'a [u8]) -> Result<(), NoMemory>
-        ensures names { OnOk result (self.new ≡ with_name self.old name.now) }
-        ensures err { OnErr result (self.new ≡ self.old) }
-    {
-        let _ = self.set.insert_full(name)?;
-        Ok(())
-    }
-
-    /// The names, in their order.
-    pub fn as_slice(&self) -> &[&'a [u8]]
-        ensures { map (λ x. x.now) result.now ≡ self.now }
-    {
-        self.set.as_slice()
-    }
-}
 
 /// What a body knows of names: whether it is that of a class, the names that it binds, and of the whole program the strings
 /// and the global names among the roots; and the names in each of its keyword lists.

@@ -1,10 +1,11 @@
 //! The roots of a program.
 ghost use Rattle.std.specs.Prelude.{◌≡◌, ◌++◌, ◌∷◌, [], map, IfOk, OnOk};
-ghost use Rattle.py_compile.specs.Whole.{cell_root, class_roots, classes, roots_of};
+ghost use Rattle.py_compile.specs.Whole.{roots_with};
+ghost use Rattle.py_code.specs.Right.{cell_root, class_roots, classes};
 
-use crate::names::NameSet;
 use py_code::{Root, Roots};
 use py_data::{Bytes, Kind, NoMemory};
+use py_names::NameSet;
 use std::alloc::Global;
 
 /// How many classes there are among the roots.
@@ -45,7 +46,7 @@ fn push_all(alloc: Global, out: &mut Roots, kind: Kind, names: &NameSet) -> Resu
 
 /// The cell of the count of threads, the classes, the strings and the cells of the global names.
 pub fn roots(alloc: Global, texts: &NameSet, cells: &NameSet) -> Result<Roots, NoMemory>
-    ensures { IfOk result (λ out. out ≡ roots_of texts.now cells.now) }
+    ensures { IfOk result (λ out. out ≡ roots_with texts.now cells.now) }
 {
     let mut out = first_roots(alloc)?;
     push_all(alloc, &mut out, Kind::Str, texts)?;

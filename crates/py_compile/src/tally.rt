@@ -2,14 +2,16 @@
 ghost use Rattle.std.specs.Prelude.{◌≡◌, ◌<◌, ◌∷◌, [], get_or, length, replicate, IfOk, OnOk};
 ghost use Rattle.std.specs.List.{list_any};
 ghost use Rattle.py_compile.specs.Expressions.{key_names};
-ghost use Rattle.py_compile.specs.Names.{has, same_names};
+ghost use Rattle.py_compile.specs.Names.{same_names};
+ghost use Rattle.py_names.specs.Outline.{has};
 ghost use Rattle.py_compile.specs.Tallies.{bump, inside, tally};
 ghost use Rattle.py_compile.specs.Uses.{Keys, Text, name_bound, name_read, with_keys};
 
 use crate::expression::is_none;
-use crate::names::{NameSet, same_names, split};
+use crate::names::{same_names, split};
 use py_code::Texts;
 use py_data::NoMemory;
+use py_names::NameSet;
 use py_tree::Named;
 use sqlite_items::Items;
 use std::alloc::{AllocError, Global};

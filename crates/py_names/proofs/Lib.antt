@@ -1,7 +1,7 @@
-mod Said
-mod Says
+pub mod Said
+pub mod Says
 mod NameLists
 mod Added
 mod Tables
 mod Closures
-mod ScopeLemmas
+pub mod ScopeLemmas

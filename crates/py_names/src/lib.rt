@@ -18,5 +18,6 @@ mod table;
 
 pub use error::NameFault;
 pub use laws::scope_law;
+pub use names::NameSet;
 pub use resolver::resolve;
 pub use scope::{Scope, Scopes, Texts};

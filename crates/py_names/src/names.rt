@@ -1,5 +1,6 @@
 //! Lists of names without repetition.
-ghost use Rattle.std.specs.Prelude.{◌≡◌, [], map, OnOk, OnErr};
+ghost use Rattle.std.specs.Prelude.{◌≡◌, ◌<◌, [], length, map, position, IfSome, OnOk, OnErr};
+ghost use Rattle.std.specs.Str.{bytes_eq};
 ghost use Rattle.py_names.specs.Outline.{has, with_name};
 
 use indexmap::IndexSet;
@@ -23,6 +24,7 @@ impl<'a> Model for NameSet<'a> {
 }
 
 impl<'a> NameSet<'a> {
+    /// No names.
     pub fn new(alloc: Global) -> NameSet<'a>
         ensures { result ≡ [] }
     {
@@ -31,10 +33,26 @@ impl<'a> NameSet<'a> {
         }
     }
 
+    /// How many names there are.
+    pub fn len(&self) -> usize
+        ensures { result ≡ length self.now }
+    {
+        self.set.len()
+    }
+
+    /// Whether the name is there.
     pub fn has(&self, name: &[u8]) -> bool
         ensures { result ≡ has name.now self.now }
     {
         self.set.contains(name)
+    }
+
+    /// The place of a name, from 0, if it is there.
+    pub fn find(&self, name: &[u8]) -> Option<usize>
+        ensures place { result ≡ position (bytes_eq name.now) self.now }
+        ensures within { IfSome result (λ i. i < length self.now) }
+    {
+        self.set.get_index_of(name)
     }
 
     /// Adds a name, if it isn't there.

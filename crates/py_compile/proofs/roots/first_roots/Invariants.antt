@@ -1,5 +1,5 @@
 use Rattle.std.proofs.Common.{◌≡◌, ◌∷◌, []}
-use Rattle.py_compile.specs.Whole.{cell_root, class_roots}
+use Rattle.py_code.specs.Right.{cell_root, class_roots}
 use Rattle.py_compile.proofs.roots.first_roots.Given as goal
 
 abbrev pub invariant-loop-class : goal.invariant-loop-class

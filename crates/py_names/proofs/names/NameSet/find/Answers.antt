@@ -1,6 +1,6 @@
 use Rattle.std.specs.Str.{bytes_eq}
-use Rattle.py_compile.proofs.NameLists.{shown_place}
-use Rattle.py_compile.proofs.names.NameSet.find.Goals as goal
+use Rattle.py_names.proofs.NameLists.{shown_place}
+use Rattle.py_names.proofs.names.NameSet.find.Goals as goal
 
 pub returns-clause-place : goal.returns-clause-place
 returns-clause-place c = shown_place (λ k. k.now) (bytes_eq c.args.name.now) c.self.inside.set.keys c.args.self.now _ c.get_index_of.ensures.index c.self.view_is
