@@ -13,7 +13,7 @@ use Rattle.py_tree.specs.declared.stmt.Stmt.TheOpen as open'
 use Rattle.py_tree.specs.declared.stmt.Stmt.TheFolds.{fold-Arm, fold-Clause, fold-Handler, fold-roll-Stmt, fold_out-Arm, fold_out-Clause, fold_out-Handler}
 use Rattle.py_tree.specs.Form.{form, is_single}
 use Rattle.py_compile.proofs.Sane.{sane, all_sane, sane_some}
-use Rattle.py_compile.proofs.Legal.{Legal, always, both, all_legal, legal_or, is_target_of, are_targets, target_some, sane_defaults, raises, has_clause, stmt_step, arm_step, clause_step, handler_step, legal, legal_all}
+use Rattle.py_compile.proofs.Legal.{Legal, always, both, all_legal, is_target_of, are_targets, target_some, sane_defaults, raises, stmt_step, arm_step, clause_step, handler_step, legal, legal_all}
 
 leg_arm : Arm → Legal
 leg_arm = fold-Arm Legal Legal Legal Legal stmt_step arm_step clause_step handler_step

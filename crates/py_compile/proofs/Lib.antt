@@ -40,4 +40,6 @@ pub mod StmtClean
 pub mod Verifies
 pub mod Assembled
 pub mod LegalRows
+pub mod Clear
+pub mod FreeEvents
 pub mod NoneFree

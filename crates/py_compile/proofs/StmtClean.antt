@@ -24,7 +24,7 @@ use Rattle.py_compile.specs.Uses.{Use, Inside, Uses, quiet, in_turn, none_used, 
 use Rattle.py_compile.specs.Uses as u
 use Rattle.py_compile.specs.Statements.{Body, Stated, Armed, Claused, Handled, still, block, count, pieces, inners, armed, armed_count, armed_inner, handled, handled_count, handled_inner, clause, tried, finally, inner_body, base, default_or, defaults, stores_before, last_target, assigned, printed, raised, asserted, imported, taken_from, deletion, bound_name, stmt_step, arm_step, clause_step, handler_step, stated, all_stated}
 use Rattle.py_compile.proofs.Legal.{Legal, always, both, all_legal, legal_or, has_clause, legal}
-use Rattle.py_compile.specs.Legal as lg
+use Rattle.py_compile.proofs.Legal as lg
 use Rattle.py_compile.proofs.Sane.{sane, sane_some}
 use Rattle.py_compile.proofs.ExprInduct.{Every}
 use Rattle.py_compile.proofs.World.{known, inside, lim, HasNone}

@@ -20,7 +20,7 @@ use Rattle.py_compile.specs.Uses as u
 use Rattle.py_compile.specs.Statements.{Body, Stated, Armed, Claused, Handled, still, block, count, pieces, inners, armed, armed_count, armed_inner, handled, handled_count, handled_inner, clause, tried, finally, inner_body, base, default_or, defaults, stmt_step, arm_step, clause_step, handler_step, stated, all_stated}
 use Rattle.py_compile.proofs.Sane.{sane, sane_some}
 use Rattle.py_compile.proofs.Legal.{Legal, always, both, all_legal, legal_or, has_clause, is_target_of, sane_defaults, legal}
-use Rattle.py_compile.specs.Legal as lg
+use Rattle.py_compile.proofs.Legal as lg
 use Rattle.py_compile.proofs.Values.{Each, Value}
 use Rattle.py_compile.proofs.Blocks.{Does, block_does, in_loop, in_clause, leaves_does, nothing_does, break_does, continue_does, Arm, arm_is, all_arms_does, while_does, for_does, Clause, clause_bare_is, clause_test_is, clause_target_is, try_except_does, try_finally_does, def_does, class_does}
 use Rattle.py_compile.proofs.ExprTyped.{every_front, every_back, every_join}
