@@ -27,6 +27,7 @@ pub mod ExprInduct
 pub mod UsedRows
 pub mod SaneRows
 pub mod Homes
+pub mod KeyNumbers
 pub mod ExprTyped
 pub mod World
 pub mod StmtSimple

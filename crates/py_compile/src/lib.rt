@@ -11,6 +11,7 @@ mod emitter;
 mod error;
 mod expression;
 mod home;
+mod key_set;
 mod names;
 mod parts;
 mod roots;
