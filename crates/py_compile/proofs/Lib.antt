@@ -4,6 +4,8 @@ pub mod Values
 pub mod Blocks
 pub mod Emits
 pub mod Rows
+pub mod RowsEqual
+pub mod Deletions
 pub mod Program
 pub mod Examples
 pub mod Coded

@@ -1,5 +1,5 @@
 //! The codes of a program.
-ghost use Rattle.std.specs.Prelude.{◌≡◌, ◌<◌, ◌≤◌, ◌+◌, ◌^◌, ◌++◌, ◌∷◌, [], get_or, length, map, replicate, Err, IfOk, OnOk, None, Some};
+ghost use Rattle.std.specs.Prelude.{◌≡◌, ◌<◌, ◌≤◌, ◌+◌, ◌^◌, ◌++◌, ◌∷◌, [], length, map, replicate, Err, IfOk, OnOk, None, Some};
 ghost use Rattle.py_compile.specs.Compiles.{CodesOf, known_by, known_in};
 ghost use Rattle.py_compile.specs.Expressions.{key_names};
 ghost use Rattle.py_compile.specs.Gathered.{body_of, numbered};
@@ -11,10 +11,10 @@ ghost use Rattle.py_compile.specs.Whole.{code_at, large_at, least, slots_named, 
 
 use crate::around::Around;
 use crate::bodies::Body;
+use crate::count::to_u32;
 use crate::draft::Draft;
 use crate::emitter::Emitter;
 use crate::error::{CompileError, Fault, too_large};
-use crate::expression::operand;
 use crate::key_set::KeySet;
 use crate::names::{Names, split};
 use crate::statement::block;
@@ -116,7 +116,7 @@ fn named_slots(is_class: bool, locals: &NameSet) -> Result<u32, Fault>
     ensures fits { IfOk result (λ _. length locals.now < 2 ^ 32) }
     ensures small { result ≡ Err Fault.TooLarge → ⊥ }
 {
-    let count = operand(locals.len())?;
+    let count = to_u32(locals.len())?;
     if is_class { Ok(0) } else { Ok(count) }
 }
 
@@ -137,7 +137,7 @@ fn code<'a>(
 {
     let lists = used.lists(number);
     let named = named_slots(body.is_class, locals)?;
-    let _ = operand(lists.len())?;
+    let _ = to_u32(lists.len())?;
     let names = Names::new(body.is_class, locals, &used.texts, &used.cells, lists);
     let mut e = Emitter::new(alloc, named);
     emit(&mut e, &names, number, body)?;

@@ -6,6 +6,8 @@ mod bodies;
 mod body_uses;
 mod codes;
 mod compiler;
+mod count;
+mod deletion;
 mod draft;
 mod emitter;
 mod error;

@@ -1,8 +1,7 @@
 //! What a body knows of names.
-ghost use Rattle.std.specs.Prelude.{◌≡◌, [], ◌∷◌, ◌≤◌, ◌<◌, ◌+◌, ◌^◌, IfSome, length, map, MatchOption, OnErr, OnOk};
+ghost use Rattle.std.specs.Prelude.{◌≡◌, [], ◌∷◌, ◌≤◌, ◌<◌, ◌+◌, ◌^◌, length, MatchOption};
 ghost use Rattle.py_compile.specs.Expressions.{key_names};
-ghost use Rattle.py_compile.specs.Names.{cell, find_name, first_cell, home, key_list, number_in, text};
-ghost use Rattle.py_names.specs.Outline.{has, with_name};
+ghost use Rattle.py_compile.specs.Names.{cell, first_cell, home, key_list, number_in, text};
 
 use crate::home::Home;
 use crate::key_set::KeySet;
