@@ -1,5 +1,5 @@
 -- Rows of pieces that are equal: a row inside a row is as its pieces.
-use Rattle.std.proofs.Common.{◌≡◌, ◌∙◌, ℕ, ◌+◌, List, [], ◌∷◌, ◌++◌, refl, sym, ap, arith, append_assoc, map}
+use Rattle.std.proofs.Common.{◌≡◌, ◌∙◌, ℕ, ◌+◌, List, [], ◌∷◌, ◌++◌, sym, ap, arith, append_assoc, map}
 use Rattle.py_compile.specs.Template.{Frame, Piece, Sub, slots_of, lines_of, size_of, code_of, row}
 
 -- one piece behind another
