@@ -24,12 +24,12 @@ pub mod Gathers
 pub mod Sane
 pub mod Legal
 pub mod ExprInduct
-pub mod UsedRows
 pub mod SaneRows
 pub mod Homes
 pub mod ExprTyped
 pub mod World
 pub mod StmtSimple
+pub mod FoldInduct
 pub mod StmtTyped
 pub mod Numbers
 pub mod Whole
@@ -43,3 +43,6 @@ pub mod LegalRows
 pub mod Clear
 pub mod FreeEvents
 pub mod NoneFree
+pub mod LegalText
+pub mod LegalStmts
+pub mod ProgramRight
