@@ -48,7 +48,7 @@ refused_clear b inside (Uses l n) q = tt
 refused_clear b inside (Binds l n) q = tt
 refused_clear b inside (Declares l n) q = tt
 
-first_parts : (a c : Option Refusal) → first_of a c ≡ None → (a ≡ None) × (c ≡ None)
+pub first_parts : (a c : Option Refusal) → first_of a c ≡ None → (a ≡ None) × (c ≡ None)
 first_parts None c q = (refl, q)
 first_parts (Some r) c q = absurd (cc)
 

@@ -24,6 +24,7 @@ pub mod Gathers
 pub mod Sane
 pub mod Legal
 pub mod ExprInduct
+pub mod StmtInduct
 pub mod UsedRows
 pub mod SaneRows
 pub mod Homes
@@ -42,4 +43,8 @@ pub mod Assembled
 pub mod LegalRows
 pub mod Clear
 pub mod FreeEvents
+pub mod Beginnings
+pub mod Begun
+pub mod ParamNames
+pub mod ParamSlots
 pub mod NoneFree
