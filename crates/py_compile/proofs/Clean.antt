@@ -25,8 +25,7 @@ use Rattle.py_compile.specs.Uses.{Use, Text, Global, Keys, Inside, own_read, nam
 use Rattle.py_compile.proofs.Coded as rows
 use Rattle.py_compile.specs.Tallies.{read_links, read_pairs, read_named, read_trailers}
 use Rattle.py_compile.proofs.Used as uses
-use Rattle.py_compile.proofs.ExprInduct.{Every, IfThere, OfLink, OfNamed, OfPair, expr_induct}
-use Rattle.py_compile.proofs.ExprTyped.{every_front, every_back, every_join}
+use Rattle.py_compile.proofs.ExprInduct.{Every, IfThere, OfLink, OfNamed, OfPair, expr_induct, every_front, every_back, every_join}
 use Rattle.py_compile.proofs.Homes.{find_some}
 
 -- what may stand in the code of a body that is a class's or not: by which names have cells, and which codes are classes' bodies

@@ -24,6 +24,7 @@ pub mod Gathers
 pub mod Sane
 pub mod Legal
 pub mod ExprInduct
+pub mod StmtInduct
 pub mod SaneRows
 pub mod Homes
 pub mod ExprTyped
@@ -42,6 +43,10 @@ pub mod Assembled
 pub mod LegalRows
 pub mod Clear
 pub mod FreeEvents
+pub mod Beginnings
+pub mod Begun
+pub mod ParamNames
+pub mod ParamSlots
 pub mod NoneFree
 pub mod LegalText
 pub mod LegalStmts

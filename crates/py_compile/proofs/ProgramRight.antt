@@ -1,23 +1,25 @@
 -- The program of a text's tree and its scopes is right, where nothing is too large.
 use Rattle.std.proofs.Common.{◌≡◌, ◌∙◌, ◌||◌, ℕ, ◌<◌, ◌≤◌, List, [], ◌∷◌, ◌++◌, None, Bool, true, false, nat_lt, refl, sym, ap, subst, length, get_or}
-use Rattle.std.specs.Prelude.{if◌then◌else◌}
+use Rattle.std.specs.Prelude.{Ok, if◌then◌else◌}
 use Rattle.std.specs.Str.{bytes_eq}
 use Rattle.std.proofs.lemmas.Bool.{ltb-true, ltb-false, or_parts}
 use Rattle.std.proofs.lemmas.List.{get_or-map, get_or_past, length-map}
 use Rattle.std.proofs.lemmas.List.Folds.{list_any-append}
 use Rattle.std.proofs.lemmas.Option.{get_or_from_slice_get}
+use Rattle.py_code.specs.declared.program.Program.{Program}
 use Rattle.py_code.specs.Right.{IsRightProgram}
 use Rattle.py_tree.specs.declared.stmt.Module.{Module}
 use Rattle.py_names.specs.declared.scope.Scope.{Scope}
 use Rattle.py_names.specs.Outline.{has, is_none, outline, with_name}
 use Rattle.py_names.specs.Scopes.{AreScopes, body, scope_of}
-use Rattle.py_compile.specs.Compiles.{bound_in, once_from}
+use Rattle.py_compile.specs.Compiles.{Compiles, bound_in, once_from}
 use Rattle.py_compile.specs.Resolved.{IsResolved}
-use Rattle.py_compile.specs.Whole.{bodies, locals_of, program_of, too_large_in}
-use Rattle.py_compile.proofs.Assembled.{ParamsFit, or_false, program_right}
+use Rattle.py_compile.specs.Whole.{locals_of, program_of, too_large_in}
+use Rattle.py_compile.proofs.Assembled.{or_false, program_right}
 use Rattle.py_compile.proofs.FreeEvents.{AllFree}
 use Rattle.py_compile.proofs.LegalStmts.{legal_text}
 use Rattle.py_compile.proofs.NoneFree.{none_free}
+use Rattle.py_compile.proofs.ParamSlots.{params_fit}
 
 -- ---- a name that stands in no list of names stands in none that is made of it
 
@@ -52,7 +54,11 @@ none_bound m scopes free are j x e = by_place (nat_lt j (length scopes)) refl
 
 -- ---- the program
 
-resolved_right : (m : Module) (scopes : List Scope) → IsResolved m scopes → ParamsFit (bound_in scopes) m.body 0 (bodies m.body) → too_large_in (bound_in scopes) m ≡ None → IsRightProgram (program_of (bound_in scopes) m)
-resolved_right m scopes h fit small =
+pub compiled_right : (m : Module) (scopes : List Scope) → IsResolved m scopes → too_large_in (bound_in scopes) m ≡ None → IsRightProgram (program_of (bound_in scopes) m)
+compiled_right m scopes h small =
     let legal = legal_text m h.tokens h.is h.resolves.0 in
-    program_right (bound_in scopes) m legal.0 (none_bound m scopes legal.1 h.resolves.1) fit small
+    program_right (bound_in scopes) m legal.0 (none_bound m scopes legal.1 h.resolves.1) (params_fit m scopes legal.0 h.resolves) small
+
+-- what `compile` answers
+pub compiles_right : (m : Module) (scopes : List Scope) (p : Program) → IsResolved m scopes → Compiles m scopes (Ok p) → IsRightProgram p
+compiles_right m scopes p h done = subst IsRightProgram (sym done.1) (compiled_right m scopes h done.0)

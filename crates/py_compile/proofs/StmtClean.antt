@@ -26,13 +26,12 @@ use Rattle.py_compile.specs.Statements.{Body, Stated, Armed, Claused, Handled, s
 use Rattle.py_compile.proofs.Legal.{Legal, always, both, all_legal, legal_or, has_clause, legal, legal_by_arm, legal_by_clause, legal_by_handler}
 use Rattle.py_compile.proofs.Legal as lg
 use Rattle.py_compile.proofs.Sane.{sane, sane_some}
-use Rattle.py_compile.proofs.ExprInduct.{Every}
+use Rattle.py_compile.proofs.ExprInduct.{Every, every_front, every_back, every_join}
 use Rattle.py_compile.proofs.World.{known, inside, lim, HasNone}
 use Rattle.py_compile.proofs.Blocks.{leaves_does, nothing_does, break_does, continue_does}
 use Rattle.py_compile.proofs.StmtSimple.{do_here, assign_here, augment_here, print_here, return_here, raise_here, del_here, assert_here, import_here, from_here}
 use Rattle.py_compile.proofs.FoldInduct.{Related, Nil, Cons, related_as, related_of, clause_stands, code_by_arm, code_by_clause, code_by_handler, uses_by_arm, uses_by_clause, uses_by_handler, ClauseWith, HandlerWith, LayerWith, IsLayer, every_stmts}
 use Rattle.py_compile.proofs.StmtTyped.{Rel, ArmRel, HandlerRel, rels_count, rels_long, arms_count, arms_long, handlers_count, handlers_long, still_rel, none_rel, block_rel, arm_rel, handler_rel, if_rel, while_rel, for_rel, try_rel, finally_rel, no_finally_rel, def_rel, class_rel, three_parts, four_parts}
-use Rattle.py_compile.proofs.ExprTyped.{every_front, every_back, every_join}
 use Rattle.py_compile.proofs.Clean.{Fit, NoteOk, IsClean, template_clean, row_clean, one_clean, store_clean, expr_clean, exprs_clean, if_clean, values_clean, stores_clean, deletes_clean, some_clean}
 
 -- what loads a constant fits everywhere; the constructs round a statement have clean finally bodies
