@@ -42,7 +42,7 @@ use Rattle.py_compile.proofs.Coded as rows
 use Rattle.py_compile.specs.Tallies.{read_links, read_pairs, read_named, read_trailers}
 use Rattle.py_compile.proofs.Used as uses
 use Rattle.py_compile.proofs.SaneRows as sanes
-use Rattle.py_compile.proofs.ExprInduct.{Every, IfThere, Arms, OfLink, OfNamed, OfPair, expr_induct, every_front, every_back, every_join}
+use Rattle.py_compile.proofs.ExprInduct.{Every, IfThere, Arms, OfLink, OfNamed, OfPair, expr_induct, every_front, every_back}
 use Rattle.py_compile.proofs.Homes.{IsHomed, KeysFit, Covered, Fits, home_bound, read_bound}
 
 -- operators have numbers below 12

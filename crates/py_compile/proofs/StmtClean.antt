@@ -7,22 +7,17 @@ use Rattle.py_code.specs.declared.instr.Instr.TheVariants.{Const, Pop, Dup, Not,
 use Rattle.py_code.specs.Effects.{Limits}
 use Rattle.py_tree.specs.declared.expr.Expr.{Expr}
 use Rattle.py_tree.specs.declared.expr.Operator.{Operator}
-use Rattle.py_tree.specs.declared.stmt.Stmt.{Stmt, roll-Stmt}
+use Rattle.py_tree.specs.declared.stmt.Stmt.{Stmt}
 use Rattle.py_tree.specs.declared.stmt.Param.{Param}
 use Rattle.py_tree.specs.declared.stmt.Imported.{Imported}
-use Rattle.py_tree.specs.declared.stmt.Arm.{Arm as ArmTree, roll-Arm}
-use Rattle.py_tree.specs.declared.stmt.Clause.{Clause as ClauseTree, roll-Clause}
-use Rattle.py_tree.specs.declared.stmt.Handler.{Handler as HandlerTree, roll-Handler}
 use Rattle.py_tree.specs.declared.stmt.Stmt.TheOpen as open'
-use Rattle.py_tree.specs.declared.stmt.Stmt.TheFolds.{fold-Arm, fold-Clause, fold-Handler, fold-roll-Stmt, fold-roll-Arm, fold-roll-Clause, fold-roll-Handler, ind-Stmt, map-Stmt, map-Arm, map-Clause, map-Handler}
 use Rattle.py_compile.specs.Template.{Piece, Op, Hidden, To, Here, Alone, Sub, template, row}
 use Rattle.py_compile.specs.Table.{A, B, E, H, M, Around, InWhile, InFor, InTry, InClause, InFinally, all_arms, while, for, def, class, print_one, import_one, break_code, continue_code, leaves, return, raise_again, store}
 use Rattle.py_compile.specs.Names.{Known, home, text, library, member}
 use Rattle.py_names.specs.Outline.{has, is_none}
 use Rattle.py_compile.specs.Expressions.{coded, add_at, operator, value, values, value_some, stored, all_stored, all_deleted}
-use Rattle.py_compile.specs.Uses.{Use, Inside, Uses, quiet, in_turn, none_used, all_in_turn, some_used, body_used, name_bound, read, target, read_all, target_all, read_some, target_some, read_defaults, stmt_uses}
-use Rattle.py_compile.specs.Uses as u
-use Rattle.py_compile.specs.Statements.{Body, Stated, Armed, Claused, Handled, still, block, count, pieces, inners, armed, armed_count, armed_inner, handled, handled_count, handled_inner, clause, tried, finally, inner_body, base, default_or, defaults, stores_before, last_target, assigned, printed, raised, asserted, imported, taken_from, deletion, bound_name, stmt_step, arm_step, clause_step, handler_step, stated, all_stated}
+use Rattle.py_compile.specs.Uses.{Use, Inside, Uses, quiet, in_turn, none_used, all_in_turn, body_used, name_bound, read, target, read_all, target_all, read_some, target_some, read_defaults, stmt_uses}
+use Rattle.py_compile.specs.Statements.{Body, Stated, Armed, Claused, Handled, still, block, count, pieces, inners, armed, armed_count, armed_inner, handled, handled_count, handled_inner, clause, tried, finally, inner_body, base, default_or, defaults, stores_before, last_target, assigned, printed, raised, asserted, imported, taken_from, deletion, bound_name, stated, all_stated}
 use Rattle.py_compile.proofs.Legal.{Legal, always, both, all_legal, legal_or, has_clause, legal, legal_by_arm, legal_by_clause, legal_by_handler}
 use Rattle.py_compile.proofs.Legal as lg
 use Rattle.py_compile.proofs.Sane.{sane, sane_some}

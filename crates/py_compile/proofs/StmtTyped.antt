@@ -4,20 +4,15 @@ use Rattle.std.proofs.Common.{◌≡◌, ◌&&◌, ℕ, suc, ◌+◌, ◌≤◌,
 use Rattle.std.proofs.lemmas.Bool.{and_parts}
 use Rattle.py_code.specs.Effects.{Limits}
 use Rattle.py_tree.specs.declared.expr.Expr.{Expr}
-use Rattle.py_tree.specs.declared.stmt.Stmt.{Stmt, roll-Stmt}
+use Rattle.py_tree.specs.declared.stmt.Stmt.{Stmt}
 use Rattle.py_tree.specs.declared.stmt.Param.{Param}
-use Rattle.py_tree.specs.declared.stmt.Arm.{Arm as ArmTree, roll-Arm}
-use Rattle.py_tree.specs.declared.stmt.Clause.{Clause as ClauseTree, roll-Clause}
-use Rattle.py_tree.specs.declared.stmt.Handler.{Handler as HandlerTree, roll-Handler}
 use Rattle.py_tree.specs.declared.stmt.Stmt.TheOpen as open'
-use Rattle.py_tree.specs.declared.stmt.Stmt.TheFolds.{fold-Arm, fold-Clause, fold-Handler, fold-roll-Stmt, fold-roll-Arm, fold-roll-Clause, fold-roll-Handler, ind-Stmt, map-Stmt, map-Arm, map-Clause, map-Handler}
 use Rattle.py_compile.specs.Template.{Piece, row}
 use Rattle.py_compile.specs.Table.{Around, InWhile, InFor, InTry, InClause, InFinally, arm, all_arms, while, for, def, class, break_code, continue_code}
 use Rattle.py_compile.specs.Names.{Known, home}
 use Rattle.py_compile.specs.Expressions.{value, values, stored}
-use Rattle.py_compile.specs.Uses.{Use, Inside, Uses, quiet, in_turn, none_used, all_in_turn, some_used, body_used, name_bound, read, target, read_some, target_some, read_defaults, stmt_uses}
-use Rattle.py_compile.specs.Uses as u
-use Rattle.py_compile.specs.Statements.{Body, Stated, Armed, Claused, Handled, still, block, count, pieces, inners, armed, armed_count, armed_inner, handled, handled_count, handled_inner, clause, tried, finally, inner_body, base, default_or, defaults, stmt_step, arm_step, clause_step, handler_step, stated, all_stated}
+use Rattle.py_compile.specs.Uses.{Use, Inside, Uses, quiet, in_turn, none_used, all_in_turn, body_used, name_bound, read, target, read_some, target_some, read_defaults, stmt_uses}
+use Rattle.py_compile.specs.Statements.{Body, Stated, Armed, Claused, Handled, still, block, count, pieces, inners, armed, armed_count, armed_inner, handled, handled_count, handled_inner, clause, tried, finally, inner_body, base, default_or, defaults, stated, all_stated}
 use Rattle.py_compile.proofs.ExprInduct.{every_front, every_back, every_join}
 use Rattle.py_compile.proofs.Sane.{sane, sane_some}
 use Rattle.py_compile.proofs.Legal.{Legal, always, both, all_legal, legal_or, has_clause, is_target_of, sane_defaults, legal, legal_by_arm, legal_by_clause, legal_by_handler}
