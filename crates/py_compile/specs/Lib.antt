@@ -17,3 +17,4 @@ pub mod Tallies
 pub mod Compiles
 pub mod Tasks
 pub mod TaskWeights
+pub mod Resolved
