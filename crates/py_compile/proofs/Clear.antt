@@ -7,8 +7,7 @@ use Rattle.py_names.specs.declared.event.Event.{Event}
 use Rattle.py_names.specs.declared.event.Event.TheVariants.{Enter, Leave, Takes, Uses, Binds, Declares, Misplaced, Doubled}
 use Rattle.py_names.specs.Outline.{is_none, label, only_where, outline}
 use Rattle.py_names.specs.Scopes.{Names, inside_after, bodies_after, placed, body, refused, first_of, first_fault, fault}
-use Rattle.py_compile.proofs.ExprInduct.{Every}
-use Rattle.py_compile.proofs.ExprTyped.{every_front, every_back}
+use Rattle.py_compile.proofs.ExprInduct.{Every, every_front, every_back}
 
 -- what each event is
 abbrev pub Clear : Event → Type 0
@@ -48,7 +47,7 @@ refused_clear b inside (Uses l n) q = tt
 refused_clear b inside (Binds l n) q = tt
 refused_clear b inside (Declares l n) q = tt
 
-first_parts : (a c : Option Refusal) → first_of a c ≡ None → (a ≡ None) × (c ≡ None)
+pub first_parts : (a c : Option Refusal) → first_of a c ≡ None → (a ≡ None) × (c ≡ None)
 first_parts None c q = (refl, q)
 first_parts (Some r) c q = absurd (cc)
 
