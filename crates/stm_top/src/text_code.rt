@@ -1,5 +1,5 @@
 //! From a text to its verified program.
-ghost use Rattle.std.specs.Prelude.{◌≡◌, ◌<◌, ◌^◌, ⊥, List, ℕ, length, Ok, IfOk, IfErr};
+ghost use Rattle.std.specs.Prelude.{◌≡◌, ◌<◌, ◌^◌, List, ℕ, length, Ok, IfOk, IfErr};
 ghost use Rattle.py_data.specs.Refusal.{refusal_line, refusal_number};
 ghost use Rattle.py_data.specs.declared.refusal.Refusal.{Refusal as Reason};
 ghost use Rattle.py_tokens.specs.Layout.{tokens_of_text};
