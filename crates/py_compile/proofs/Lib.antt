@@ -2,6 +2,7 @@ pub mod Typed
 pub mod Ops
 pub mod Values
 pub mod Blocks
+pub mod Constructs
 pub mod Emits
 pub mod Rows
 pub mod Program

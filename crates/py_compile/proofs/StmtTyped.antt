@@ -18,7 +18,8 @@ use Rattle.py_compile.proofs.Sane.{sane, sane_some}
 use Rattle.py_compile.proofs.Legal.{Legal, always, both, all_legal, legal_or, has_clause, is_target_of, sane_defaults, legal, legal_by_arm, legal_by_clause, legal_by_handler}
 use Rattle.py_compile.proofs.Legal as lg
 use Rattle.py_compile.proofs.Values.{Each, Value}
-use Rattle.py_compile.proofs.Blocks.{Does, block_does, in_loop, in_clause, leaves_does, nothing_does, break_does, continue_does, Arm, arm_is, all_arms_does, while_does, for_does, Clause, clause_bare_is, clause_test_is, clause_target_is, try_except_does, try_finally_does, def_does, class_does}
+use Rattle.py_compile.proofs.Blocks.{Does, block_does, in_loop, in_clause, leaves_does, nothing_does, break_does, continue_does, Clause}
+use Rattle.py_compile.proofs.Constructs.{Arm, arm_is, all_arms_does, while_does, for_does, clause_bare_is, clause_test_is, clause_target_is, try_except_does, try_finally_does, def_does, class_does}
 use Rattle.py_compile.proofs.World.{known, inside, lim, Covers, Wide, HasNone, Slotted, Standing, stand_front, stand_back, BodiesOk, bodies_join}
 use Rattle.py_compile.proofs.FoldInduct.{Related, Nil, Cons, related_of, clause_stands, code_by_arm, code_by_clause, code_by_handler, uses_by_arm, uses_by_clause, uses_by_handler, ClauseWith, HandlerWith, LayerWith, IsLayer, every_stmts}
 use Rattle.py_compile.proofs.StmtSimple.{homed_is, value_here, store_here, home_here, do_here, assign_here, augment_here, print_here, return_here, raise_here, del_here, assert_here, import_here, from_here, defaults_here, base_here}
