@@ -1,4 +1,4 @@
--- The program of a legal module that isn't too large is right: the parts put together.
+-- The program of a legal module is right, where nothing is too large: roots, codes and what they say of one another.
 use Rattle.std.proofs.Common.{◌≡◌, ◌∙◌, ◌||◌, ℕ, zero, suc, ◌+◌, ◌<◌, ◌≤◌, ◌^◌, List, [], ◌∷◌, ◌++◌, Option, Some, None, Bool, true, false, nat_lt, refl, sym, ap, subst, arith, length, map, get_or, length-append, append_assoc}
 use Rattle.std.specs.Prelude.{All, if◌then◌else◌, slice_get}
 use Rattle.std.specs.List.{list_any}
@@ -35,8 +35,8 @@ use Rattle.py_compile.proofs.RootsMade.{parts, roots_right}
 use Rattle.py_compile.proofs.Sits.{Opens, opens_front, opens_back, Sits, sub_parts, BodiesSit, AllOpen, module_opens}
 use Rattle.py_compile.proofs.Clean.{Fit, NoteOk, IsClean, template_clean, parts_clean}
 use Rattle.py_compile.proofs.StmtClean.{Flagged, BodiesClean, module_clean}
-use Rattle.py_compile.proofs.Verifies.{no_setup, every_all, opens_none, belongs_from, body_at, body_past, number_is}
-use Rattle.py_compile.proofs.Whole as made
+use Rattle.py_compile.proofs.BelongRows.{no_setup, every_all, opens_none, belongs_from, body_at, body_past, number_is}
+use Rattle.py_compile.proofs.CodesRight as made
 use Rattle.py_compile.proofs.Compiled.{least_apart}
 use Rattle.py_compile.proofs.ParamSlots.{ParamsFit}
 

@@ -1,4 +1,4 @@
--- Statements lead from a shape to itself, whatever surrounds them.
+-- Simple statements lead from a shape to itself, whatever surrounds them, and so do the ways out of constructs.
 use Rattle.std.proofs.Common.{◌≡◌, ℕ, ◌+◌, ◌<◌, ◌≤◌, ◌^◌, List, [], ◌∷◌, Some, None, Bool, true, false, refl, ap, sym, subst, arith, length, map, get_or, drop}
 use Rattle.std.specs.Prelude.{All, IsTrue}
 use Rattle.py_code.specs.declared.instr.Constant.{Constant}

@@ -34,12 +34,12 @@ pub mod StmtSimple
 pub mod FoldInduct
 pub mod StmtTyped
 pub mod Numbers
-pub mod Whole
+pub mod CodesRight
 pub mod RootsMade
 pub mod Sits
 pub mod Clean
 pub mod StmtClean
-pub mod Verifies
+pub mod BelongRows
 pub mod Assembled
 pub mod LegalRows
 pub mod Clear
@@ -49,6 +49,6 @@ pub mod Begun
 pub mod ParamNames
 pub mod ParamSlots
 pub mod NoneFree
-pub mod LegalText
+pub mod LegalExprs
 pub mod LegalStmts
 pub mod ProgramRight
