@@ -5,6 +5,8 @@ pub mod Blocks
 pub mod Constructs
 pub mod Emits
 pub mod Rows
+pub mod RowsEqual
+pub mod Deletions
 pub mod Program
 pub mod Examples
 pub mod Coded
@@ -28,6 +30,7 @@ pub mod ExprInduct
 pub mod StmtInduct
 pub mod SaneRows
 pub mod Homes
+pub mod KeyNumbers
 pub mod ExprTyped
 pub mod World
 pub mod StmtSimple

@@ -3,6 +3,7 @@ pub mod Table
 pub mod State
 pub mod Names
 pub mod Expressions
+pub mod Deletions
 pub mod Statements
 pub mod Rounds
 pub mod Weights
