@@ -8,7 +8,7 @@ use Rattle.py_code.specs.declared.instr.Instr.TheVariants.{Const, Pop, Dup, Rot2
 use Rattle.py_code.specs.Effects.{Limits, effect, On, Sh, floor_of, IsKnown, IsText}
 use Rattle.py_compile.specs.declared.home.Home.{Home}
 use Rattle.py_compile.specs.Template.{Piece, Op, Hidden, To, Here, Alone, Sub, size_of, row}
-use Rattle.py_compile.specs.Table.{E, A, load, store, nothing, one, assign, del_attr, del_item, add_name, add_attr, add_item, expression, print_one, print_line, import_one, raise_one, raise_two, assert_with, assert_alone, for, Around, InWhile, InFor, InTry, InClause, InFinally, break_code, continue_code, leaves, return, raise_again}
+use Rattle.py_compile.specs.Table.{E, A, load, store, nothing, one, assign, del_attr, del_item, add_name, add_attr, add_item, expression, print_one, print_line, import_one, raise_one, raise_two, assert_with, assert_alone, Around, InWhile, InFor, InTry, InClause, InFinally, break_code, continue_code, leaves, return, raise_again}
 use Rattle.py_compile.proofs.Typed.{Ring, ring_at, Typed, Goes, template_typed}
 use Rattle.py_compile.proofs.Ops.{sh, op, load_op, store_op, pop_op, pop_try_op, raise_op, return_op, jump_op, jump_false}
 use Rattle.py_compile.proofs.Values.{Each, Room, Value, Store, Change, changes, same}

@@ -35,6 +35,7 @@ pub mod ExprTyped
 pub mod World
 pub mod StmtSimple
 pub mod FoldInduct
+pub mod UsesInTurn
 pub mod StmtTyped
 pub mod Numbers
 pub mod CodesRight

@@ -1,5 +1,5 @@
 -- Which instructions stand in the code of a body, reached or not: statements.
-use Rattle.std.proofs.Common.{◌≡◌, ◌&&◌, ℕ, ◌+◌, ◌<◌, List, [], ◌∷◌, ◌++◌, Option, Some, None, Bool, true, false, refl, sym, subst, arith, length, map, length-append}
+use Rattle.std.proofs.Common.{◌≡◌, ◌&&◌, ℕ, ◌+◌, ◌<◌, List, [], ◌∷◌, ◌++◌, Option, Some, None, Bool, true, false, refl, subst, arith, length, map, length-append}
 use Rattle.std.proofs.lemmas.Bool.{and_parts}
 use Rattle.py_code.specs.declared.instr.Constant.{Constant}
 use Rattle.py_code.specs.declared.instr.Constant.TheVariants.{Root}
@@ -25,6 +25,7 @@ use Rattle.py_compile.proofs.ExprInduct.{Every, every_front, every_back, every_j
 use Rattle.py_compile.proofs.World.{known, inside, lim, HasNone}
 use Rattle.py_compile.proofs.Blocks.{leaves_does, nothing_does, break_does, continue_does}
 use Rattle.py_compile.proofs.StmtSimple.{do_here, assign_here, augment_here, print_here, return_here, raise_here, del_here, assert_here, import_here, from_here}
+use Rattle.py_compile.proofs.UsesInTurn.{use_back, zero_back, three_uses, four_uses}
 use Rattle.py_compile.proofs.FoldInduct.{Related, Nil, Cons, related_as, related_of, clause_stands, code_by_arm, code_by_clause, code_by_handler, uses_by_arm, uses_by_clause, uses_by_handler, ClauseWith, HandlerWith, LayerWith, IsLayer, every_stmts}
 use Rattle.py_compile.proofs.StmtTyped.{Rel, ArmRel, HandlerRel, rels_count, rels_long, arms_count, arms_long, handlers_count, handlers_long, still_rel, none_rel, block_rel, arm_rel, handler_rel, if_rel, while_rel, for_rel, try_rel, finally_rel, no_finally_rel, def_rel, class_rel, three_parts, four_parts}
 use Rattle.py_compile.proofs.Clean.{Fit, NoteOk, IsClean, template_clean, row_clean, one_clean, store_clean, expr_clean, exprs_clean, if_clean, values_clean, stores_clean, deletes_clean, some_clean}
@@ -193,8 +194,11 @@ module _ (locals : ℕ → List (List ℕ)) (texts cells : List (List ℕ)) (key
   abbrev I : ℕ → Bool → Inside
   I = inside locals texts cells keys params
 
+  abbrev Q : Use → Type 0
+  Q = NoteOk to go
+
   abbrev W : List Use → Type 0
-  W us = Every (NoteOk to go) us
+  W us = Every Q us
 
   abbrev Base : Stated → Uses → Legal → Type 0
   Base = Rel locals texts cells keys params none
@@ -204,15 +208,6 @@ module _ (locals : ℕ → List (List ℕ)) (texts cells : List (List ℕ)) (key
 
   abbrev HandlerBase : Handled → Uses → Legal → Type 0
   HandlerBase = HandlerRel locals texts cells keys params none
-
-  uses_front : (a c : List Use) → W (a ++ c) → W a
-  uses_front a c w = every_front (NoteOk to go) a c w
-
-  uses_back : (a c : List Use) → W (a ++ c) → W c
-  uses_back a c w = every_back (NoteOk to go) a c w
-
-  uses_join : (a c : List Use) → W a → W c → W (a ++ c)
-  uses_join a c w x = every_join (NoteOk to go) a c w x
 
   -- these bodies are those from number f on, and which are classes'
   abbrev pub Flagged : ℕ → List Body → Type 0
@@ -234,12 +229,6 @@ module _ (locals : ℕ → List (List ℕ)) (texts cells : List (List ℕ)) (key
   clean_join : (f m : ℕ) (a c : List Body) → length a ≡ m → BodiesClean f a → BodiesClean (f + m) c → BodiesClean f (a ++ c)
   clean_join f m [] c e h g = let k : f + m ≡ f = omega (arith, e) in subst (λ i. BodiesClean i c) k g
   clean_join f m (y ∷ a) c e h g = let k : f + m ≡ f + 1 + length a = omega (arith, e) in (h.0, clean_join (f + 1) (length a) a c refl h.1 (subst (λ i. BodiesClean i c) k g))
-
-  use_back : (v : Uses) (b : Inside) (f m m' : ℕ) (a : List Use) → m ≡ m' → W (a ++ v.uses b (f + m')) → W (v.uses b (f + m))
-  use_back v b f m m' a e w = subst (λ i. W (v.uses b (f + i))) (sym e) (uses_back a (v.uses b (f + m')) w)
-
-  zero_back : (v : Uses) (b : Inside) (f : ℕ) (a : List Use) → W (a ++ v.uses b (f + 0)) → W (v.uses b f)
-  zero_back v b f a w = let e : f + 0 ≡ f = omega arith in subst (λ i. W (v.uses b i)) e (uses_back a (v.uses b (f + 0)) w)
 
   pub record RelClean (s : Stated) (v : Uses) (g : Legal) : Type 0 where
     pub base : Base s v g
@@ -271,7 +260,7 @@ module _ (locals : ℕ → List (List ℕ)) (texts cells : List (List ℕ)) (key
   list_good (Cons {s = y} {v = v} {g = g} {ss = ss} {vs = vs} {gs = gs} r rs) j z l d f c e a w x =
       let q = and_parts (g l d) (all_legal gs l d) e in
       let t = inners ss (f + y.bodies) in
-      (r.good j z l d f c q.0 a (uses_front (v.uses (I j z) f) ((all_in_turn vs).uses (I j z) (f + v.bodies)) w) (flags_front f (y.inner f) t x), list_good rs j z l d (f + y.bodies) c q.1 a (use_back (all_in_turn vs) (I j z) f y.bodies v.bodies (v.uses (I j z) f) (r.base.count l d q.0) w) (flags_back f y.bodies (y.inner f) t (r.base.long f) x))
+      (r.good j z l d f c q.0 a (every_front Q (v.uses (I j z) f) ((all_in_turn vs).uses (I j z) (f + v.bodies)) w) (flags_front f (y.inner f) t x), list_good rs j z l d (f + y.bodies) c q.1 a (use_back Q (all_in_turn vs) (I j z) f y.bodies v.bodies (v.uses (I j z) f) (r.base.count l d q.0) w) (flags_back f y.bodies (y.inner f) t (r.base.long f) x))
 
   list_inner : {ss : List Stated} {vs : List Uses} {gs : List Legal} → Related RelClean ss vs gs → (l d : Bool) (j : ℕ) (z : Bool) (f : ℕ) → all_legal gs l d ≡ true → W ((all_in_turn vs).uses (I j z) f) → Flagged f (inners ss f) → BodiesClean f (inners ss f)
   list_inner Nil l d j z f e w x = tt
@@ -279,8 +268,8 @@ module _ (locals : ℕ → List (List ℕ)) (texts cells : List (List ℕ)) (key
       let q = and_parts (g l d) (all_legal gs l d) e in
       let t = inners ss (f + y.bodies) in
       clean_join f y.bodies (y.inner f) t (r.base.long f)
-      (r.inner l d j z f q.0 (uses_front (v.uses (I j z) f) ((all_in_turn vs).uses (I j z) (f + v.bodies)) w) (flags_front f (y.inner f) t x))
-      (list_inner rs l d j z (f + y.bodies) q.1 (use_back (all_in_turn vs) (I j z) f y.bodies v.bodies (v.uses (I j z) f) (r.base.count l d q.0) w) (flags_back f y.bodies (y.inner f) t (r.base.long f) x))
+      (r.inner l d j z f q.0 (every_front Q (v.uses (I j z) f) ((all_in_turn vs).uses (I j z) (f + v.bodies)) w) (flags_front f (y.inner f) t x))
+      (list_inner rs l d j z (f + y.bodies) q.1 (use_back Q (all_in_turn vs) (I j z) f y.bodies v.bodies (v.uses (I j z) f) (r.base.count l d q.0) w) (flags_back f y.bodies (y.inner f) t (r.base.long f) x))
 
   block_rel_clean : {ss : List Stated} {vs : List Uses} {gs : List Legal} → Related RelClean ss vs gs → RelClean (block ss) (all_in_turn vs) (all_legal gs)
   block_rel_clean {ss = ss} rs = record { base = block_rel locals texts cells keys params none (lists rs); good = λ j z l d f c e a w x. row_clean ok flags z (pieces ss (N j z) c f) (list_good rs j z l d f c e a w x); inner = list_inner rs }
@@ -293,8 +282,8 @@ module _ (locals : ℕ → List (List ℕ)) (texts cells : List (List ℕ)) (key
   arms_good (Cons {s = y} {v = v} {g = g} {ss = ss} {vs = vs} {gs = gs} r rs) j z l d f c e a w x =
       let q = and_parts (g l d) (all_legal gs l d) e in
       let t = armed_inner ss (f + y.block.bodies) in
-      let p = r.good j z l d f c q.0 a (uses_front (v.uses (I j z) f) ((all_in_turn vs).uses (I j z) (f + v.bodies)) w) (flags_front f (y.block.inner f) t x) in
-      (template_clean ok flags z y.line 0 1 (Alone (value (N j z) y.line y.test) ∷ To 0 JumpFalse M ∷ Sub 2 (y.block.code (N j z) c f) ∷ To 1 Jump E ∷ Here M ∷ []) (p.0, ((λ q. tt), (p.1, ((λ q. tt), (tt, tt))))), arms_good rs j z l d (f + y.block.bodies) c q.1 a (use_back (all_in_turn vs) (I j z) f y.block.bodies v.bodies (v.uses (I j z) f) (r.base.count l d q.0) w) (flags_back f y.block.bodies (y.block.inner f) t (r.base.long f) x))
+      let p = r.good j z l d f c q.0 a (every_front Q (v.uses (I j z) f) ((all_in_turn vs).uses (I j z) (f + v.bodies)) w) (flags_front f (y.block.inner f) t x) in
+      (template_clean ok flags z y.line 0 1 (Alone (value (N j z) y.line y.test) ∷ To 0 JumpFalse M ∷ Sub 2 (y.block.code (N j z) c f) ∷ To 1 Jump E ∷ Here M ∷ []) (p.0, ((λ q. tt), (p.1, ((λ q. tt), (tt, tt))))), arms_good rs j z l d (f + y.block.bodies) c q.1 a (use_back Q (all_in_turn vs) (I j z) f y.block.bodies v.bodies (v.uses (I j z) f) (r.base.count l d q.0) w) (flags_back f y.block.bodies (y.block.inner f) t (r.base.long f) x))
 
   arms_inner : {ss : List Armed} {vs : List Uses} {gs : List Legal} → Related ArmClean ss vs gs → (l d : Bool) (j : ℕ) (z : Bool) (f : ℕ) → all_legal gs l d ≡ true → W ((all_in_turn vs).uses (I j z) f) → Flagged f (armed_inner ss f) → BodiesClean f (armed_inner ss f)
   arms_inner Nil l d j z f e w x = tt
@@ -302,8 +291,8 @@ module _ (locals : ℕ → List (List ℕ)) (texts cells : List (List ℕ)) (key
       let q = and_parts (g l d) (all_legal gs l d) e in
       let t = armed_inner ss (f + y.block.bodies) in
       clean_join f y.block.bodies (y.block.inner f) t (r.base.long f)
-      (r.inner l d j z f q.0 (uses_front (v.uses (I j z) f) ((all_in_turn vs).uses (I j z) (f + v.bodies)) w) (flags_front f (y.block.inner f) t x))
-      (arms_inner rs l d j z (f + y.block.bodies) q.1 (use_back (all_in_turn vs) (I j z) f y.block.bodies v.bodies (v.uses (I j z) f) (r.base.count l d q.0) w) (flags_back f y.block.bodies (y.block.inner f) t (r.base.long f) x))
+      (r.inner l d j z f q.0 (every_front Q (v.uses (I j z) f) ((all_in_turn vs).uses (I j z) (f + v.bodies)) w) (flags_front f (y.block.inner f) t x))
+      (arms_inner rs l d j z (f + y.block.bodies) q.1 (use_back Q (all_in_turn vs) (I j z) f y.block.bodies v.bodies (v.uses (I j z) f) (r.base.count l d q.0) w) (flags_back f y.block.bodies (y.block.inner f) t (r.base.long f) x))
 
   handlers : {ss : List Handled} {vs : List Uses} {gs : List Legal} → Related HandlerClean ss vs gs → Related HandlerBase ss vs gs
   handlers rs = related_as HandlerClean HandlerBase (λ s v g r. r.base) rs
@@ -313,7 +302,7 @@ module _ (locals : ℕ → List (List ℕ)) (texts cells : List (List ℕ)) (key
   handlers_good (Cons {s = y} {v = v} {g = g} {ss = ss} {vs = vs} {gs = gs} r rs) j z l f c e a w x =
       let q = and_parts (g l true) (all_legal gs l true) e in
       let t = handled_inner ss (f + y.block.bodies) in
-      (r.good j z l f c q.0 a (uses_front (v.uses (I j z) f) ((all_in_turn vs).uses (I j z) (f + v.bodies)) w) (flags_front f (y.block.inner f) t x), handlers_good rs j z l (f + y.block.bodies) c q.1 a (use_back (all_in_turn vs) (I j z) f y.block.bodies v.bodies (v.uses (I j z) f) (r.base.count l true q.0) w) (flags_back f y.block.bodies (y.block.inner f) t (r.base.long f) x))
+      (r.good j z l f c q.0 a (every_front Q (v.uses (I j z) f) ((all_in_turn vs).uses (I j z) (f + v.bodies)) w) (flags_front f (y.block.inner f) t x), handlers_good rs j z l (f + y.block.bodies) c q.1 a (use_back Q (all_in_turn vs) (I j z) f y.block.bodies v.bodies (v.uses (I j z) f) (r.base.count l true q.0) w) (flags_back f y.block.bodies (y.block.inner f) t (r.base.long f) x))
 
   handlers_inner : {ss : List Handled} {vs : List Uses} {gs : List Legal} → Related HandlerClean ss vs gs → (l d : Bool) (j : ℕ) (z : Bool) (f : ℕ) → all_legal gs l d ≡ true → W ((all_in_turn vs).uses (I j z) f) → Flagged f (handled_inner ss f) → BodiesClean f (handled_inner ss f)
   handlers_inner Nil l d j z f e w x = tt
@@ -321,8 +310,8 @@ module _ (locals : ℕ → List (List ℕ)) (texts cells : List (List ℕ)) (key
       let q = and_parts (g l d) (all_legal gs l d) e in
       let t = handled_inner ss (f + y.block.bodies) in
       clean_join f y.block.bodies (y.block.inner f) t (r.base.long f)
-      (r.inner l d j z f q.0 (uses_front (v.uses (I j z) f) ((all_in_turn vs).uses (I j z) (f + v.bodies)) w) (flags_front f (y.block.inner f) t x))
-      (handlers_inner rs l d j z (f + y.block.bodies) q.1 (use_back (all_in_turn vs) (I j z) f y.block.bodies v.bodies (v.uses (I j z) f) (r.base.count l d q.0) w) (flags_back f y.block.bodies (y.block.inner f) t (r.base.long f) x))
+      (r.inner l d j z f q.0 (every_front Q (v.uses (I j z) f) ((all_in_turn vs).uses (I j z) (f + v.bodies)) w) (flags_front f (y.block.inner f) t x))
+      (handlers_inner rs l d j z (f + y.block.bodies) q.1 (use_back Q (all_in_turn vs) (I j z) f y.block.bodies v.bodies (v.uses (I j z) f) (r.base.count l d q.0) w) (flags_back f y.block.bodies (y.block.inner f) t (r.base.long f) x))
 
   -- the parts
   arm_rel_clean : (ln : ℕ) (t : Expr) {ss : List Stated} {vs : List Uses} {gs : List Legal} → Related RelClean ss vs gs → ArmClean (record { line = ln; test = t; block = block ss }) (in_turn (quiet (λ b. read b t)) (all_in_turn vs)) (both (always (sane t)) (all_legal gs))
@@ -330,8 +319,8 @@ module _ (locals : ℕ → List (List ℕ)) (texts cells : List (List ℕ)) (key
     base = arm_rel locals texts cells keys params none ln t (lists rs);
     good = λ j z l d f c e a w x.
         let q = and_parts (sane t) (all_legal gs l d) e in
-        (clean_value ok flags z (N j z) (I j z) refl refl refl to go holds (free j) ln t (uses_front (read (I j z) t) ((all_in_turn vs).uses (I j z) (f + 0)) w), row_clean ok flags z (pieces ss (N j z) c f) (list_good rs j z l d f c q.1 a (zero_back (all_in_turn vs) (I j z) f (read (I j z) t) w) x));
-    inner = λ l d j z f e w x. list_inner rs l d j z f (and_parts (sane t) (all_legal gs l d) e).1 (zero_back (all_in_turn vs) (I j z) f (read (I j z) t) w) x;
+        (clean_value ok flags z (N j z) (I j z) refl refl refl to go holds (free j) ln t (every_front Q (read (I j z) t) ((all_in_turn vs).uses (I j z) (f + 0)) w), row_clean ok flags z (pieces ss (N j z) c f) (list_good rs j z l d f c q.1 a (zero_back Q (all_in_turn vs) (I j z) f (read (I j z) t) w) x));
+    inner = λ l d j z f e w x. list_inner rs l d j z f (and_parts (sane t) (all_legal gs l d) e).1 (zero_back Q (all_in_turn vs) (I j z) f (read (I j z) t) w) x;
   }
 
   handler_rel_clean : (ln : ℕ) (e t : Option Expr) {ss : List Stated} {vs : List Uses} {gs : List Legal} → Related RelClean ss vs gs → HandlerClean (record { line = ln; test = e; target = t; block = block ss }) (in_turn (quiet (λ b. read_some b e ++ target_some b t)) (all_in_turn vs)) (both (always (sane_some e && lg.target_some t)) (all_legal gs))
@@ -340,9 +329,9 @@ module _ (locals : ℕ → List (List ℕ)) (texts cells : List (List ℕ)) (key
     good = λ j z l f c h a w x.
         let k = I j z in
         let q = and_parts (sane_some e && lg.target_some t) (all_legal gs l true) h in
-        let us = uses_front (read_some k e ++ target_some k t) ((all_in_turn vs).uses k (f + 0)) w in
-        clean_clause ok flags z (N j z) k refl refl refl to go holds (free j) ln e t (row (pieces ss (N j z) (InClause ∷ c) f)) (uses_front (read_some k e) (target_some k t) us) (uses_back (read_some k e) (target_some k t) us) (row_clean ok flags z (pieces ss (N j z) (InClause ∷ c) f) (list_good rs j z l true f (InClause ∷ c) q.1 a (zero_back (all_in_turn vs) k f (read_some k e ++ target_some k t) w) x));
-    inner = λ l d j z f h w x. list_inner rs l d j z f (and_parts (sane_some e && lg.target_some t) (all_legal gs l d) h).1 (zero_back (all_in_turn vs) (I j z) f (read_some (I j z) e ++ target_some (I j z) t) w) x;
+        let us = every_front Q (read_some k e ++ target_some k t) ((all_in_turn vs).uses k (f + 0)) w in
+        clean_clause ok flags z (N j z) k refl refl refl to go holds (free j) ln e t (row (pieces ss (N j z) (InClause ∷ c) f)) (every_front Q (read_some k e) (target_some k t) us) (every_back Q (read_some k e) (target_some k t) us) (row_clean ok flags z (pieces ss (N j z) (InClause ∷ c) f) (list_good rs j z l true f (InClause ∷ c) q.1 a (zero_back Q (all_in_turn vs) k f (read_some k e ++ target_some k t) w) x));
+    inner = λ l d j z f h w x. list_inner rs l d j z f (and_parts (sane_some e && lg.target_some t) (all_legal gs l d) h).1 (zero_back Q (all_in_turn vs) (I j z) f (read_some (I j z) e ++ target_some (I j z) t) w) x;
   }
 
   if_rel_clean : {as' : List Armed} {vs : List Uses} {gs : List Legal} → Related ArmClean as' vs gs → (e : Stated) (ve : Uses) (ge : Legal) → RelClean e ve ge → RelClean (record { bodies = armed_count as' + e.bodies; code = λ n c f. all_arms 0 (armed as' n c f) (e.code n c (f + armed_count as')); inner = λ f. armed_inner as' f ++ e.inner (f + armed_count as') }) (in_turn (all_in_turn vs) ve) (both (all_legal gs) ge)
@@ -355,8 +344,8 @@ module _ (locals : ℕ → List (List ℕ)) (texts cells : List (List ℕ)) (key
         let t = e.inner (f + armed_count as') in
         let n = arms_long locals texts cells keys params none (arms rs) f in
         template_clean ok flags z 0 0 1 (Sub 0 (row (armed as' (N j z) c f)) ∷ Sub 1 (e.code (N j z) c (f + armed_count as')) ∷ Here E ∷ []) (
-          row_clean ok flags z (armed as' (N j z) c f) (arms_good rs j z l d f c q.0 a (uses_front ((all_in_turn vs).uses k f) (ve.uses k (f + (all_in_turn vs).bodies)) w) (flags_front f (armed_inner as' f) t x)),
-          (re.good j z l d (f + armed_count as') c q.1 a (use_back ve k f (armed_count as') (all_in_turn vs).bodies ((all_in_turn vs).uses k f) m w) (flags_back f (armed_count as') (armed_inner as' f) t n x), (tt, tt)),
+          row_clean ok flags z (armed as' (N j z) c f) (arms_good rs j z l d f c q.0 a (every_front Q ((all_in_turn vs).uses k f) (ve.uses k (f + (all_in_turn vs).bodies)) w) (flags_front f (armed_inner as' f) t x)),
+          (re.good j z l d (f + armed_count as') c q.1 a (use_back Q ve k f (armed_count as') (all_in_turn vs).bodies ((all_in_turn vs).uses k f) m w) (flags_back f (armed_count as') (armed_inner as' f) t n x), (tt, tt)),
         );
     inner = λ l d j z f h w x.
         let k = I j z in
@@ -364,7 +353,7 @@ module _ (locals : ℕ → List (List ℕ)) (texts cells : List (List ℕ)) (key
         let m = arms_count locals texts cells keys params none (arms rs) l d q.0 in
         let t = e.inner (f + armed_count as') in
         let n = arms_long locals texts cells keys params none (arms rs) f in
-        clean_join f (armed_count as') (armed_inner as' f) t n (arms_inner rs l d j z f q.0 (uses_front ((all_in_turn vs).uses k f) (ve.uses k (f + (all_in_turn vs).bodies)) w) (flags_front f (armed_inner as' f) t x)) (re.inner l d j z (f + armed_count as') q.1 (use_back ve k f (armed_count as') (all_in_turn vs).bodies ((all_in_turn vs).uses k f) m w) (flags_back f (armed_count as') (armed_inner as' f) t n x));
+        clean_join f (armed_count as') (armed_inner as' f) t n (arms_inner rs l d j z f q.0 (every_front Q ((all_in_turn vs).uses k f) (ve.uses k (f + (all_in_turn vs).bodies)) w) (flags_front f (armed_inner as' f) t x)) (re.inner l d j z (f + armed_count as') q.1 (use_back Q ve k f (armed_count as') (all_in_turn vs).bodies ((all_in_turn vs).uses k f) m w) (flags_back f (armed_count as') (armed_inner as' f) t n x));
   }
 
   while_rel_clean : (a : Armed) (va : Uses) (ga : Legal) → ArmClean a va ga → (e : Stated) (ve : Uses) (ge : Legal) → RelClean e ve ge → RelClean (record { bodies = a.block.bodies + e.bodies; code = λ n c f. while a.line (value n a.line a.test) (a.block.code n (InWhile ∷ c) f) (e.code n c (f + a.block.bodies)); inner = λ f. a.block.inner f ++ e.inner (f + a.block.bodies) }) (in_turn va ve) (both (λ l c. ga true c) ge)
@@ -375,15 +364,15 @@ module _ (locals : ℕ → List (List ℕ)) (texts cells : List (List ℕ)) (key
         let q = and_parts (ga true d) (ge l d) h in
         let m = ra.base.count true d q.0 in
         let t = e.inner (f + y.block.bodies) in
-        let p = ra.good j z true d f (InWhile ∷ c) q.0 a (uses_front (va.uses k f) (ve.uses k (f + va.bodies)) w) (flags_front f (y.block.inner f) t x) in
+        let p = ra.good j z true d f (InWhile ∷ c) q.0 a (every_front Q (va.uses k f) (ve.uses k (f + va.bodies)) w) (flags_front f (y.block.inner f) t x) in
         template_clean ok flags z y.line 0 3 (Here A ∷ Alone (value (N j z) y.line y.test) ∷ To 0 JumpFalse B ∷ Sub 0 (y.block.code (N j z) (InWhile ∷ c) f) ∷ To 0 Jump A ∷ Here B ∷ Sub 1 (e.code (N j z) c (f + y.block.bodies)) ∷ Here E ∷ [])
-        (tt, (p.0, ((λ q. tt), (p.1, ((λ q. tt), (tt, (re.good j z l d (f + y.block.bodies) c q.1 a (use_back ve k f y.block.bodies va.bodies (va.uses k f) m w) (flags_back f y.block.bodies (y.block.inner f) t (ra.base.long f) x), (tt, tt))))))));
+        (tt, (p.0, ((λ q. tt), (p.1, ((λ q. tt), (tt, (re.good j z l d (f + y.block.bodies) c q.1 a (use_back Q ve k f y.block.bodies va.bodies (va.uses k f) m w) (flags_back f y.block.bodies (y.block.inner f) t (ra.base.long f) x), (tt, tt))))))));
     inner = λ l d j z f h w x.
         let k = I j z in
         let q = and_parts (ga true d) (ge l d) h in
         let m = ra.base.count true d q.0 in
         let t = e.inner (f + y.block.bodies) in
-        clean_join f y.block.bodies (y.block.inner f) t (ra.base.long f) (ra.inner true d j z f q.0 (uses_front (va.uses k f) (ve.uses k (f + va.bodies)) w) (flags_front f (y.block.inner f) t x)) (re.inner l d j z (f + y.block.bodies) q.1 (use_back ve k f y.block.bodies va.bodies (va.uses k f) m w) (flags_back f y.block.bodies (y.block.inner f) t (ra.base.long f) x));
+        clean_join f y.block.bodies (y.block.inner f) t (ra.base.long f) (ra.inner true d j z f q.0 (every_front Q (va.uses k f) (ve.uses k (f + va.bodies)) w) (flags_front f (y.block.inner f) t x)) (re.inner l d j z (f + y.block.bodies) q.1 (use_back Q ve k f y.block.bodies va.bodies (va.uses k f) m w) (flags_back f y.block.bodies (y.block.inner f) t (ra.base.long f) x));
   }
 
   for_parts : (t x : Expr) (gs : List Legal) (ge : Legal) (l d : Bool) → both (always (lg.is_target_of t && sane x)) (both (λ l c. all_legal gs true c) ge) l d ≡ true → (all_legal gs true d ≡ true) × (ge l d ≡ true)
@@ -398,10 +387,10 @@ module _ (locals : ℕ → List (List ℕ)) (texts cells : List (List ℕ)) (key
         let m = rels_count locals texts cells keys params none (lists rs) true d q.0 in
         let r = e.inner (f + count ss) in
         let n = rels_long locals texts cells keys params none (lists rs) f in
-        let hd = uses_front (target k t ++ read k y) ((in_turn (all_in_turn vs) ve).uses k (f + 0)) w in
-        let tl = zero_back (in_turn (all_in_turn vs) ve) k f (target k t ++ read k y) w in
+        let hd = every_front Q (target k t ++ read k y) ((in_turn (all_in_turn vs) ve).uses k (f + 0)) w in
+        let tl = zero_back Q (in_turn (all_in_turn vs) ve) k f (target k t ++ read k y) w in
         template_clean ok flags z ln 0 3 (Alone (value (N j z) ln y) ∷ Op Iter ∷ Here A ∷ To 0 Next B ∷ Alone (stored (N j z) ln t) ∷ Sub 0 ((block ss).code (N j z) (InFor ∷ c) f) ∷ To 0 Jump A ∷ Here B ∷ Sub 1 (e.code (N j z) c (f + count ss)) ∷ Here E ∷ []) (
-          clean_value ok flags z (N j z) k refl refl refl to go holds (free j) ln y (uses_back (target k t) (read k y) hd),
+          clean_value ok flags z (N j z) k refl refl refl to go holds (free j) ln y (every_back Q (target k t) (read k y) hd),
           (
             tt,
             (
@@ -409,10 +398,10 @@ module _ (locals : ℕ → List (List ℕ)) (texts cells : List (List ℕ)) (key
               (
                 (λ q. tt),
                 (
-                  clean_store ok flags z (N j z) k refl refl refl to go holds (free j) ln t (uses_front (target k t) (read k y) hd),
+                  clean_store ok flags z (N j z) k refl refl refl to go holds (free j) ln t (every_front Q (target k t) (read k y) hd),
                   (
-                    row_clean ok flags z (pieces ss (N j z) (InFor ∷ c) f) (list_good rs j z true d f (InFor ∷ c) q.0 a (uses_front ((all_in_turn vs).uses k f) (ve.uses k (f + (all_in_turn vs).bodies)) tl) (flags_front f (inners ss f) r x)),
-                    ((λ q. tt), (tt, (re.good j z l d (f + count ss) c q.1 a (use_back ve k f (count ss) (all_in_turn vs).bodies ((all_in_turn vs).uses k f) m tl) (flags_back f (count ss) (inners ss f) r n x), (tt, tt)))),
+                    row_clean ok flags z (pieces ss (N j z) (InFor ∷ c) f) (list_good rs j z true d f (InFor ∷ c) q.0 a (every_front Q ((all_in_turn vs).uses k f) (ve.uses k (f + (all_in_turn vs).bodies)) tl) (flags_front f (inners ss f) r x)),
+                    ((λ q. tt), (tt, (re.good j z l d (f + count ss) c q.1 a (use_back Q ve k f (count ss) (all_in_turn vs).bodies ((all_in_turn vs).uses k f) m tl) (flags_back f (count ss) (inners ss f) r n x), (tt, tt)))),
                   ),
                 ),
               ),
@@ -425,29 +414,11 @@ module _ (locals : ℕ → List (List ℕ)) (texts cells : List (List ℕ)) (key
         let m = rels_count locals texts cells keys params none (lists rs) true d q.0 in
         let r = e.inner (f + count ss) in
         let n = rels_long locals texts cells keys params none (lists rs) f in
-        let tl = zero_back (in_turn (all_in_turn vs) ve) k f (target k t ++ read k y) w in
-        clean_join f (count ss) (inners ss f) r n (list_inner rs true d j z f q.0 (uses_front ((all_in_turn vs).uses k f) (ve.uses k (f + (all_in_turn vs).bodies)) tl) (flags_front f (inners ss f) r x)) (re.inner l d j z (f + count ss) q.1 (use_back ve k f (count ss) (all_in_turn vs).bodies ((all_in_turn vs).uses k f) m tl) (flags_back f (count ss) (inners ss f) r n x));
+        let tl = zero_back Q (in_turn (all_in_turn vs) ve) k f (target k t ++ read k y) w in
+        clean_join f (count ss) (inners ss f) r n (list_inner rs true d j z f q.0 (every_front Q ((all_in_turn vs).uses k f) (ve.uses k (f + (all_in_turn vs).bodies)) tl) (flags_front f (inners ss f) r x)) (re.inner l d j z (f + count ss) q.1 (use_back Q ve k f (count ss) (all_in_turn vs).bodies ((all_in_turn vs).uses k f) m tl) (flags_back f (count ss) (inners ss f) r n x));
   }
 
   -- try
-  three_uses : (vt vh ve : Uses) (b : Inside) (f m n : ℕ) → m ≡ vt.bodies → n ≡ vh.bodies → W ((in_turn vt (in_turn vh ve)).uses b f) → W (vt.uses b f) × W (vh.uses b (f + m)) × W (ve.uses b (f + m + n))
-  three_uses vt vh ve b f m n em en w =
-      let r = uses_back (vt.uses b f) ((in_turn vh ve).uses b (f + vt.bodies)) w in
-      let x = uses_front (vh.uses b (f + vt.bodies)) (ve.uses b (f + vt.bodies + vh.bodies)) r in
-      let y = uses_back (vh.uses b (f + vt.bodies)) (ve.uses b (f + vt.bodies + vh.bodies)) r in
-      (uses_front (vt.uses b f) ((in_turn vh ve).uses b (f + vt.bodies)) w, subst (λ i. W (vh.uses b (f + i))) (sym em) x, rw (em, en) y)
-
-  four_uses : (vt vh ve vd : Uses) (b : Inside) (f m : ℕ) → m ≡ vt.bodies + (vh.bodies + ve.bodies) → W ((in_turn vt (in_turn vh (in_turn ve vd))).uses b f) → W ((in_turn vt (in_turn vh ve)).uses b f) × W (vd.uses b (f + m))
-  four_uses vt vh ve vd b f m e w =
-      let a = vt.uses b f in
-      let h = vh.uses b (f + vt.bodies) in
-      let x = ve.uses b (f + vt.bodies + vh.bodies) in
-      let d = vd.uses b (f + vt.bodies + vh.bodies + ve.bodies) in
-      let r1 = uses_back a (h ++ (x ++ d)) w in
-      let r2 = uses_back h (x ++ d) r1 in
-      let far : f + vt.bodies + vh.bodies + ve.bodies ≡ f + m = omega (arith, e) in
-      (uses_join a (h ++ x) (uses_front a (h ++ (x ++ d)) w) (uses_join h x (uses_front h (x ++ d) r1) (uses_front x d r2)), subst (λ i. W (vd.uses b i)) far (uses_back x d r2))
-
   three_flags : (t : Claused) (hs : List Handled) (e : Stated) (f : ℕ) → length (t.block.inner f) ≡ t.block.bodies → length (handled_inner hs (f + t.block.bodies)) ≡ handled_count hs → Flagged f (t.block.inner f ++ handled_inner hs (f + t.block.bodies) ++ e.inner (f + t.block.bodies + handled_count hs)) → Flagged f (t.block.inner f) × Flagged (f + t.block.bodies) (handled_inner hs (f + t.block.bodies)) × Flagged (f + t.block.bodies + handled_count hs) (e.inner (f + t.block.bodies + handled_count hs))
   three_flags t hs e f lt lh st =
       let a = t.block.inner f in
@@ -470,22 +441,22 @@ module _ (locals : ℕ → List (List ℕ)) (texts cells : List (List ℕ)) (key
   try_rel_clean : (t : Claused) (vt : Uses) (gt : Legal) → RelClean t.block vt gt → {hs : List Handled} {vs : List Uses} {gs : List Legal} → Related HandlerClean hs vs gs → (e : Stated) (ve : Uses) (ge : Legal) → RelClean e ve ge → (b : Bool) → (hs ≡ [] → b ≡ true → ve.bodies ≡ 0) → RelClean (tried t hs e) (in_turn vt (in_turn (all_in_turn vs) ve)) (both gt (both (λ l c. all_legal gs l true) (both ge (always b))))
   try_rel_clean t vt gt rt Nil e ve ge re b bare = record {
     base = try_rel locals texts cells keys params none t vt gt rt.base Nil e ve ge re.base b bare;
-    good = λ j z l d f c h a w x. rt.good j z l d f c (three_parts locals texts cells keys params none gt (λ l c. true) ge b l d h).0 a (uses_front (vt.uses (I j z) f) ((in_turn none_used ve).uses (I j z) (f + vt.bodies)) w) x;
-    inner = λ l d j z f h w x. rt.inner l d j z f (three_parts locals texts cells keys params none gt (λ l c. true) ge b l d h).0 (uses_front (vt.uses (I j z) f) ((in_turn none_used ve).uses (I j z) (f + vt.bodies)) w) x;
+    good = λ j z l d f c h a w x. rt.good j z l d f c (three_parts locals texts cells keys params none gt (λ l c. true) ge b l d h).0 a (every_front Q (vt.uses (I j z) f) ((in_turn none_used ve).uses (I j z) (f + vt.bodies)) w) x;
+    inner = λ l d j z f h w x. rt.inner l d j z f (three_parts locals texts cells keys params none gt (λ l c. true) ge b l d h).0 (every_front Q (vt.uses (I j z) f) ((in_turn none_used ve).uses (I j z) (f + vt.bodies)) w) x;
   }
   try_rel_clean t vt gt rt (Cons {s = y} {v = v} {g = g} {ss = ss} {vs = vs} {gs = gs} r rs) e ve ge re b bare = record {
     base = try_rel locals texts cells keys params none t vt gt rt.base (handlers hs) e ve ge re.base b bare;
     good = λ j z l d f c h a w x.
         let k = I j z in
         let q = three_parts locals texts cells keys params none gt (all_legal (g ∷ gs)) ge b l d h in
-        let ws = three_uses vt (all_in_turn (v ∷ vs)) ve k f t.block.bodies (handled_count (y ∷ ss)) (rt.base.count l d q.0) (handlers_count locals texts cells keys params none (handlers hs) l true q.1) w in
+        let ws = three_uses Q vt (all_in_turn (v ∷ vs)) ve k f t.block.bodies (handled_count (y ∷ ss)) (rt.base.count l d q.0) (handlers_count locals texts cells keys params none (handlers hs) l true q.1) w in
         let xs = three_flags t (y ∷ ss) e f (rt.base.long f) (handlers_long locals texts cells keys params none (handlers hs) (f + t.block.bodies)) x in
         template_clean ok flags z t.line 1 2 (To 0 Try H ∷ Sub 0 (t.block.code (N j z) (InTry ∷ c) f) ∷ Op PopTry ∷ Sub 1 (e.code (N j z) c (f + t.block.bodies + handled_count (y ∷ ss))) ∷ To 0 Jump E ∷ Here H ∷ Hidden 0 StoreLocal ∷ Sub 0 (row (handled (y ∷ ss) (N j z) c (f + t.block.bodies))) ∷ Hidden 0 LoadLocal ∷ Op Raise ∷ Here E ∷ [])
         ((λ q. tt), (rt.good j z l d f (InTry ∷ c) q.0 a ws.0 xs.0, (tt, (re.good j z l d (f + t.block.bodies + handled_count (y ∷ ss)) c q.2 a ws.2 xs.2, ((λ q. tt), (tt, ((λ s. tt), (row_clean ok flags z (handled (y ∷ ss) (N j z) c (f + t.block.bodies)) (handlers_good hs j z l (f + t.block.bodies) c q.1 a ws.1 xs.1), ((λ s. tt), (tt, (tt, tt)))))))))));
     inner = λ l d j z f h w x.
         let k = I j z in
         let q = three_parts locals texts cells keys params none gt (all_legal (g ∷ gs)) ge b l d h in
-        let ws = three_uses vt (all_in_turn (v ∷ vs)) ve k f t.block.bodies (handled_count (y ∷ ss)) (rt.base.count l d q.0) (handlers_count locals texts cells keys params none (handlers hs) l true q.1) w in
+        let ws = three_uses Q vt (all_in_turn (v ∷ vs)) ve k f t.block.bodies (handled_count (y ∷ ss)) (rt.base.count l d q.0) (handlers_count locals texts cells keys params none (handlers hs) l true q.1) w in
         let xs = three_flags t (y ∷ ss) e f (rt.base.long f) (handlers_long locals texts cells keys params none (handlers hs) (f + t.block.bodies)) x in
         three_clean t (y ∷ ss) e f (rt.base.long f) (handlers_long locals texts cells keys params none (handlers hs) (f + t.block.bodies)) (rt.inner l d j z f q.0 ws.0 xs.0) (handlers_inner hs l true j z (f + t.block.bodies) q.1 ws.1 xs.1) (re.inner l d j z (f + t.block.bodies + handled_count (y ∷ ss)) q.2 ws.2 xs.2);
   }
@@ -501,22 +472,22 @@ module _ (locals : ℕ → List (List ℕ)) (texts cells : List (List ℕ)) (key
     base = finally_rel locals texts cells keys params none ln t vt vh ve gt gh ge b rt.base y vd gd rd.base;
     good = λ j z l d f c h a w x.
         let q = four_parts locals texts cells keys params none gt gh ge gd b l d h in
-        let us = four_uses vt vh ve vd (I j z) f t.bodies (rt.base.count l d q.0) w in
+        let us = four_uses Q vt vh ve vd (I j z) f t.bodies (rt.base.count l d q.0) w in
         let fin = y.block.code (N j z) c (f + t.bodies) in
         let fc = rd.good j z l d (f + t.bodies) c q.1 a us.1 (flags_back f t.bodies (t.inner f) (y.block.inner (f + t.bodies)) (rt.base.long f) x) in
         template_clean ok flags z ln 1 2 (To 0 Try H ∷ Sub 0 (t.code (N j z) (InFinally fin ∷ c) f) ∷ Op PopTry ∷ Sub 1 fin ∷ To 0 Jump E ∷ Here H ∷ Hidden 0 StoreLocal ∷ Sub 1 fin ∷ Hidden 0 LoadLocal ∷ Op Raise ∷ Here E ∷ [])
         ((λ q. tt), (rt.good j z l d f (InFinally fin ∷ c) q.0 (fc, a) us.0 (flags_front f (t.inner f) (y.block.inner (f + t.bodies)) x), (tt, (fc, ((λ q. tt), (tt, ((λ s. tt), (fc, ((λ s. tt), (tt, (tt, tt)))))))))));
     inner = λ l d j z f h w x.
         let q = four_parts locals texts cells keys params none gt gh ge gd b l d h in
-        let us = four_uses vt vh ve vd (I j z) f t.bodies (rt.base.count l d q.0) w in
+        let us = four_uses Q vt vh ve vd (I j z) f t.bodies (rt.base.count l d q.0) w in
         clean_join f t.bodies (t.inner f) (y.block.inner (f + t.bodies)) (rt.base.long f) (rt.inner l d j z f q.0 us.0 (flags_front f (t.inner f) (y.block.inner (f + t.bodies)) x)) (rd.inner l d j z (f + t.bodies) q.1 us.1 (flags_back f t.bodies (t.inner f) (y.block.inner (f + t.bodies)) (rt.base.long f) x));
   }
 
   no_finally_rel_clean : (ln : ℕ) (t : Stated) (vt vh ve : Uses) (gt gh ge : Legal) (b : Bool) → RelClean t (in_turn vt (in_turn vh ve)) (both gt (both (λ l c. gh l true) (both ge (always b)))) → RelClean (finally ln t None) (in_turn vt (in_turn vh (in_turn ve none_used))) (four gt gh ge (λ l c. true) b)
   no_finally_rel_clean ln t vt vh ve gt gh ge b rt = record {
     base = no_finally_rel locals texts cells keys params none ln t vt vh ve gt gh ge b rt.base;
-    good = λ j z l d f c h a w x. rt.good j z l d f c (four_parts locals texts cells keys params none gt gh ge (λ l c. true) b l d h).0 a (four_uses vt vh ve none_used (I j z) f (vt.bodies + (vh.bodies + ve.bodies)) refl w).0 x;
-    inner = λ l d j z f h w x. rt.inner l d j z f (four_parts locals texts cells keys params none gt gh ge (λ l c. true) b l d h).0 (four_uses vt vh ve none_used (I j z) f (vt.bodies + (vh.bodies + ve.bodies)) refl w).0 x;
+    good = λ j z l d f c h a w x. rt.good j z l d f c (four_parts locals texts cells keys params none gt gh ge (λ l c. true) b l d h).0 a (four_uses Q vt vh ve none_used (I j z) f (vt.bodies + (vh.bodies + ve.bodies)) refl w).0 x;
+    inner = λ l d j z f h w x. rt.inner l d j z f (four_parts locals texts cells keys params none gt gh ge (λ l c. true) b l d h).0 (four_uses Q vt vh ve none_used (I j z) f (vt.bodies + (vh.bodies + ve.bodies)) refl w).0 x;
   }
 
   -- functions and classes
@@ -525,11 +496,11 @@ module _ (locals : ℕ → List (List ℕ)) (texts cells : List (List ℕ)) (key
     base = def_rel locals texts cells keys params none ln y ps (lists rs);
     good = λ j z l d f c h a w x.
         let k = I j z in
-        let us = uses_front (name_bound k y ++ read_defaults k ps) ((all_in_turn vs).uses (I f false) (f + 1)) w in
-        clean_def ok flags z (N j z) k refl refl refl to go holds (free j) ln y ps f (x.0, x.1) (uses_back (name_bound k y) (read_defaults k ps) us);
+        let us = every_front Q (name_bound k y ++ read_defaults k ps) ((all_in_turn vs).uses (I f false) (f + 1)) w in
+        clean_def ok flags z (N j z) k refl refl refl to go holds (free j) ln y ps f (x.0, x.1) (every_back Q (name_bound k y) (read_defaults k ps) us);
     inner = λ l d j z f h w x.
         let q = (and_parts (lg.sane_defaults ps) (all_legal gs false false) h).1 in
-        let us = uses_back (name_bound (I j z) y ++ read_defaults (I j z) ps) ((all_in_turn vs).uses (I f false) (f + 1)) w in
+        let us = every_back Q (name_bound (I j z) y ++ read_defaults (I j z) ps) ((all_in_turn vs).uses (I f false) (f + 1)) w in
         (row_clean ok flags false (pieces ss (N f false) [] (f + 1)) (list_good rs f false false false (f + 1) [] q tt us x.2), list_inner rs false false f false (f + 1) q us x.2);
   }
 
@@ -538,11 +509,11 @@ module _ (locals : ℕ → List (List ℕ)) (texts cells : List (List ℕ)) (key
     base = class_rel locals texts cells keys params none ln y e (lists rs);
     good = λ j z l d f c h a w x.
         let k = I j z in
-        let us = uses_front (name_bound k y ++ read_some k e) ((all_in_turn vs).uses (I f true) (f + 1)) w in
-        clean_class ok flags z (N j z) k refl refl refl to go holds (free j) ln y e f (x.0, x.1) (uses_back (name_bound k y) (read_some k e) us);
+        let us = every_front Q (name_bound k y ++ read_some k e) ((all_in_turn vs).uses (I f true) (f + 1)) w in
+        clean_class ok flags z (N j z) k refl refl refl to go holds (free j) ln y e f (x.0, x.1) (every_back Q (name_bound k y) (read_some k e) us);
     inner = λ l d j z f h w x.
         let q = (and_parts (sane_some e) (all_legal gs false false) h).1 in
-        let us = uses_back (name_bound (I j z) y ++ read_some (I j z) e) ((all_in_turn vs).uses (I f true) (f + 1)) w in
+        let us = every_back Q (name_bound (I j z) y ++ read_some (I j z) e) ((all_in_turn vs).uses (I f true) (f + 1)) w in
         (row_clean ok flags true (pieces ss (N f true) [] (f + 1)) (list_good rs f true false false (f + 1) [] q tt us x.2), list_inner rs false false f true (f + 1) q us x.2);
   }
 
