@@ -1,6 +1,6 @@
 -- The code of each statement of a legal module whose uses have numbers leads from a shape to itself, and so does that of each
 -- body inside it.
-use Rattle.std.proofs.Common.{◌≡◌, ◌&&◌, ℕ, suc, ◌+◌, ◌≤◌, List, [], ◌∷◌, ◌++◌, Option, Some, None, Bool, true, false, refl, sym, ap, subst, arith, length, map, length-append}
+use Rattle.std.proofs.Common.{◌≡◌, ◌&&◌, ℕ, suc, ◌+◌, ◌≤◌, List, [], ◌∷◌, ◌++◌, Option, Some, None, Bool, true, false, refl, ap, subst, arith, length, map, length-append}
 use Rattle.std.proofs.lemmas.Bool.{and_parts}
 use Rattle.py_code.specs.Effects.{Limits}
 use Rattle.py_tree.specs.declared.expr.Expr.{Expr}
@@ -13,14 +13,16 @@ use Rattle.py_compile.specs.Names.{Known, home}
 use Rattle.py_compile.specs.Expressions.{value, values, stored}
 use Rattle.py_compile.specs.Uses.{Use, Inside, Uses, quiet, in_turn, none_used, all_in_turn, body_used, name_bound, read, target, read_some, target_some, read_defaults, stmt_uses}
 use Rattle.py_compile.specs.Statements.{Body, Stated, Armed, Claused, Handled, still, block, count, pieces, inners, armed, armed_count, armed_inner, handled, handled_count, handled_inner, clause, tried, finally, inner_body, base, default_or, defaults, stated, all_stated}
-use Rattle.py_compile.proofs.ExprInduct.{every_front, every_back, every_join}
+use Rattle.py_compile.proofs.ExprInduct.{every_front, every_back}
 use Rattle.py_compile.proofs.Sane.{sane, sane_some}
 use Rattle.py_compile.proofs.Legal.{Legal, always, both, all_legal, legal_or, has_clause, is_target_of, sane_defaults, legal, legal_by_arm, legal_by_clause, legal_by_handler}
 use Rattle.py_compile.proofs.Legal as lg
 use Rattle.py_compile.proofs.Values.{Each, Value}
-use Rattle.py_compile.proofs.Blocks.{Does, block_does, in_loop, in_clause, leaves_does, nothing_does, break_does, continue_does, Arm, arm_is, all_arms_does, while_does, for_does, Clause, clause_bare_is, clause_test_is, clause_target_is, try_except_does, try_finally_does, def_does, class_does}
+use Rattle.py_compile.proofs.Blocks.{Does, block_does, in_loop, in_clause, leaves_does, nothing_does, break_does, continue_does, Clause}
+use Rattle.py_compile.proofs.Constructs.{Arm, arm_is, all_arms_does, while_does, for_does, clause_bare_is, clause_test_is, clause_target_is, try_except_does, try_finally_does, def_does, class_does}
 use Rattle.py_compile.proofs.World.{known, inside, lim, Covers, Wide, HasNone, Slotted, Standing, stand_front, stand_back, BodiesOk, bodies_join}
 use Rattle.py_compile.proofs.FoldInduct.{Related, Nil, Cons, related_of, clause_stands, code_by_arm, code_by_clause, code_by_handler, uses_by_arm, uses_by_clause, uses_by_handler, ClauseWith, HandlerWith, LayerWith, IsLayer, every_stmts}
+use Rattle.py_compile.proofs.UsesInTurn.{use_back, zero_back, three_uses, four_uses}
 use Rattle.py_compile.proofs.StmtSimple.{homed_is, value_here, store_here, home_here, do_here, assign_here, augment_here, print_here, return_here, raise_here, del_here, assert_here, import_here, from_here, defaults_here, base_here}
 
 module _ (locals : ℕ → List (List ℕ)) (texts cells : List (List ℕ)) (keys : ℕ → List (List (List ℕ))) (params : List ℕ) (none : HasNone locals texts cells keys params) where
@@ -32,6 +34,9 @@ module _ (locals : ℕ → List (List ℕ)) (texts cells : List (List ℕ)) (key
 
   abbrev I : ℕ → Bool → Inside
   I = inside locals texts cells keys params
+
+  abbrev Q : Use → Type 0
+  Q = Covers locals texts cells keys params
 
   abbrev W : List Use → Type 0
   W us = Wide locals texts cells keys params us
@@ -45,23 +50,14 @@ module _ (locals : ℕ → List (List ℕ)) (texts cells : List (List ℕ)) (key
   abbrev Sl : ℕ → Bool → ℕ → Type 0
   Sl = Slotted locals texts cells keys params
 
-  front : (a c : List Use) → W (a ++ c) → W a
-  front a c w = every_front (Covers locals texts cells keys params) a c w
+  stands_front : (f : ℕ) (a c : List Body) → St f (a ++ c) → St f a
+  stands_front = stand_front locals texts cells keys params
 
-  back : (a c : List Use) → W (a ++ c) → W c
-  back a c w = every_back (Covers locals texts cells keys params) a c w
+  stands_back : (f m : ℕ) (a c : List Body) → length a ≡ m → St f (a ++ c) → St (f + m) c
+  stands_back = stand_back locals texts cells keys params
 
-  join : (a c : List Use) → W a → W c → W (a ++ c)
-  join a c w v = every_join (Covers locals texts cells keys params) a c w v
-
-  st_front : (f : ℕ) (a c : List Body) → St f (a ++ c) → St f a
-  st_front = stand_front locals texts cells keys params
-
-  st_back : (f m : ℕ) (a c : List Body) → length a ≡ m → St f (a ++ c) → St (f + m) c
-  st_back = stand_back locals texts cells keys params
-
-  bo_join : (f m : ℕ) (a c : List Body) → length a ≡ m → Bo f a → Bo (f + m) c → Bo f (a ++ c)
-  bo_join = bodies_join locals texts cells keys params
+  ok_join : (f m : ℕ) (a c : List Body) → length a ≡ m → Bo f a → Bo (f + m) c → Bo f (a ++ c)
+  ok_join = bodies_join locals texts cells keys params
 
   -- a statement, with what it uses and whether it is legal
   pub record Rel (s : Stated) (v : Uses) (g : Legal) : Type 0 where
@@ -86,13 +82,6 @@ module _ (locals : ℕ → List (List ℕ)) (texts cells : List (List ℕ)) (key
   pub still_rel : (g : Known → List Around → Piece) (q : Inside → List Use) (t : Legal) → ((j : ℕ) (z : Bool) (sl p : ℕ) → Sl j z sl → (c : List Around) → t (in_loop (K j sl p) c) (in_clause (K j sl p) c) ≡ true → W (q (I j z)) → Does (K j sl p) c (g (N j z) c)) → Rel (still g) (quiet q) t
   still_rel g q t d = record { count = λ l c h. refl; long = λ f. refl; good = λ j z sl p s f c h w st. d j z sl p s c h w; inner = λ l c j z f h w st. tt }
 
-  -- one after another: uses at the places where the second begins
-  use_back : (v : Uses) (b : Inside) (f m m' : ℕ) (a : List Use) → m ≡ m' → W (a ++ v.uses b (f + m')) → W (v.uses b (f + m))
-  use_back v b f m m' a e w = subst (λ i. W (v.uses b (f + i))) (sym e) (back a (v.uses b (f + m')) w)
-
-  zero_back : (v : Uses) (b : Inside) (f : ℕ) (a : List Use) → W (a ++ v.uses b (f + 0)) → W (v.uses b f)
-  zero_back v b f a w = let e : f + 0 ≡ f = omega arith in subst (λ i. W (v.uses b i)) e (back a (v.uses b (f + 0)) w)
-
   pub none_rel : Rel (block []) none_used (λ l c. true)
   none_rel = record { count = λ l c h. refl; long = λ f. refl; good = λ j z sl p s f c h w st. block_does (K j sl p) c [] tt; inner = λ l c j z f h w st. tt }
 
@@ -111,17 +100,17 @@ module _ (locals : ℕ → List (List ℕ)) (texts cells : List (List ℕ)) (key
       let l = in_loop (K j sl p) c in
       let d = in_clause (K j sl p) c in
       let q = and_parts (g l d) (all_legal gs l d) h in (
-        r.good j z sl p s f c q.0 (front (v.uses (I j z) f) ((all_in_turn vs).uses (I j z) (f + v.bodies)) w) (st_front f (x.inner f) (inners ss (f + x.bodies)) st),
-        rels_good rs j z sl p s (f + x.bodies) c q.1 (use_back (all_in_turn vs) (I j z) f x.bodies v.bodies (v.uses (I j z) f) (r.count l d q.0) w) (st_back f x.bodies (x.inner f) (inners ss (f + x.bodies)) (r.long f) st),
+        r.good j z sl p s f c q.0 (every_front Q (v.uses (I j z) f) ((all_in_turn vs).uses (I j z) (f + v.bodies)) w) (stands_front f (x.inner f) (inners ss (f + x.bodies)) st),
+        rels_good rs j z sl p s (f + x.bodies) c q.1 (use_back Q (all_in_turn vs) (I j z) f x.bodies v.bodies (v.uses (I j z) f) (r.count l d q.0) w) (stands_back f x.bodies (x.inner f) (inners ss (f + x.bodies)) (r.long f) st),
       )
 
   rels_inner : {ss : List Stated} {vs : List Uses} {gs : List Legal} → Related Rel ss vs gs → (l c : Bool) (j : ℕ) (z : Bool) (f : ℕ) → all_legal gs l c ≡ true → W ((all_in_turn vs).uses (I j z) f) → St f (inners ss f) → Bo f (inners ss f)
   rels_inner Nil l c j z f h w st = tt
   rels_inner (Cons {s = x} {v = v} {g = g} {ss = ss} {vs = vs} {gs = gs} r rs) l c j z f h w st =
       let q = and_parts (g l c) (all_legal gs l c) h in
-      bo_join f x.bodies (x.inner f) (inners ss (f + x.bodies)) (r.long f)
-      (r.inner l c j z f q.0 (front (v.uses (I j z) f) ((all_in_turn vs).uses (I j z) (f + v.bodies)) w) (st_front f (x.inner f) (inners ss (f + x.bodies)) st))
-      (rels_inner rs l c j z (f + x.bodies) q.1 (use_back (all_in_turn vs) (I j z) f x.bodies v.bodies (v.uses (I j z) f) (r.count l c q.0) w) (st_back f x.bodies (x.inner f) (inners ss (f + x.bodies)) (r.long f) st))
+      ok_join f x.bodies (x.inner f) (inners ss (f + x.bodies)) (r.long f)
+      (r.inner l c j z f q.0 (every_front Q (v.uses (I j z) f) ((all_in_turn vs).uses (I j z) (f + v.bodies)) w) (stands_front f (x.inner f) (inners ss (f + x.bodies)) st))
+      (rels_inner rs l c j z (f + x.bodies) q.1 (use_back Q (all_in_turn vs) (I j z) f x.bodies v.bodies (v.uses (I j z) f) (r.count l c q.0) w) (stands_back f x.bodies (x.inner f) (inners ss (f + x.bodies)) (r.long f) st))
 
   pub block_rel : {ss : List Stated} {vs : List Uses} {gs : List Legal} → Related Rel ss vs gs → Rel (block ss) (all_in_turn vs) (all_legal gs)
   block_rel {ss = ss} rs = record { count = rels_count rs; long = rels_long rs; good = λ j z sl p s f c h w st. block_does (K j sl p) c (pieces ss (N j z) c f) (rels_good rs j z sl p s f c h w st); inner = rels_inner rs }
@@ -144,18 +133,18 @@ module _ (locals : ℕ → List (List ℕ)) (texts cells : List (List ℕ)) (key
       let l = in_loop (K j sl p) c in
       let d = in_clause (K j sl p) c in
       let q = and_parts (g l d) (all_legal gs l d) h in
-      let t = r.good j z sl p s f c q.0 (front (v.uses (I j z) f) ((all_in_turn vs).uses (I j z) (f + v.bodies)) w) (st_front f (x.block.inner f) (armed_inner as' (f + x.block.bodies)) st) in (
+      let t = r.good j z sl p s f c q.0 (every_front Q (v.uses (I j z) f) ((all_in_turn vs).uses (I j z) (f + v.bodies)) w) (stands_front f (x.block.inner f) (armed_inner as' (f + x.block.bodies)) st) in (
         arm_line (K j sl p) x.line 0 c (arm x.line (value (N j z) x.line x.test) (x.block.code (N j z) c f)) (arm_is (K j sl p) x.line c (value (N j z) x.line x.test) (x.block.code (N j z) c f) t.0 t.1),
-        arms_good rs j z sl p s (f + x.block.bodies) c q.1 (use_back (all_in_turn vs) (I j z) f x.block.bodies v.bodies (v.uses (I j z) f) (r.count l d q.0) w) (st_back f x.block.bodies (x.block.inner f) (armed_inner as' (f + x.block.bodies)) (r.long f) st),
+        arms_good rs j z sl p s (f + x.block.bodies) c q.1 (use_back Q (all_in_turn vs) (I j z) f x.block.bodies v.bodies (v.uses (I j z) f) (r.count l d q.0) w) (stands_back f x.block.bodies (x.block.inner f) (armed_inner as' (f + x.block.bodies)) (r.long f) st),
       )
 
   arms_inner : {as' : List Armed} {vs : List Uses} {gs : List Legal} → Related ArmRel as' vs gs → (l c : Bool) (j : ℕ) (z : Bool) (f : ℕ) → all_legal gs l c ≡ true → W ((all_in_turn vs).uses (I j z) f) → St f (armed_inner as' f) → Bo f (armed_inner as' f)
   arms_inner Nil l c j z f h w st = tt
   arms_inner (Cons {s = x} {v = v} {g = g} {ss = as'} {vs = vs} {gs = gs} r rs) l c j z f h w st =
       let q = and_parts (g l c) (all_legal gs l c) h in
-      bo_join f x.block.bodies (x.block.inner f) (armed_inner as' (f + x.block.bodies)) (r.long f)
-      (r.inner l c j z f q.0 (front (v.uses (I j z) f) ((all_in_turn vs).uses (I j z) (f + v.bodies)) w) (st_front f (x.block.inner f) (armed_inner as' (f + x.block.bodies)) st))
-      (arms_inner rs l c j z (f + x.block.bodies) q.1 (use_back (all_in_turn vs) (I j z) f x.block.bodies v.bodies (v.uses (I j z) f) (r.count l c q.0) w) (st_back f x.block.bodies (x.block.inner f) (armed_inner as' (f + x.block.bodies)) (r.long f) st))
+      ok_join f x.block.bodies (x.block.inner f) (armed_inner as' (f + x.block.bodies)) (r.long f)
+      (r.inner l c j z f q.0 (every_front Q (v.uses (I j z) f) ((all_in_turn vs).uses (I j z) (f + v.bodies)) w) (stands_front f (x.block.inner f) (armed_inner as' (f + x.block.bodies)) st))
+      (arms_inner rs l c j z (f + x.block.bodies) q.1 (use_back Q (all_in_turn vs) (I j z) f x.block.bodies v.bodies (v.uses (I j z) f) (r.count l c q.0) w) (stands_back f x.block.bodies (x.block.inner f) (armed_inner as' (f + x.block.bodies)) (r.long f) st))
 
   -- except clauses
   pub handlers_count : {as' : List Handled} {vs : List Uses} {gs : List Legal} → Related HandlerRel as' vs gs → (l c : Bool) → all_legal gs l c ≡ true → handled_count as' ≡ (all_in_turn vs).bodies
@@ -171,17 +160,17 @@ module _ (locals : ℕ → List (List ℕ)) (texts cells : List (List ℕ)) (key
   handlers_good (Cons {s = x} {v = v} {g = g} {ss = as'} {vs = vs} {gs = gs} r rs) j z sl p s f c h w st =
       let l = in_loop (K j sl p) c in
       let q = and_parts (g l true) (all_legal gs l true) h in (
-        r.good j z sl p s f c q.0 (front (v.uses (I j z) f) ((all_in_turn vs).uses (I j z) (f + v.bodies)) w) (st_front f (x.block.inner f) (handled_inner as' (f + x.block.bodies)) st),
-        handlers_good rs j z sl p s (f + x.block.bodies) c q.1 (use_back (all_in_turn vs) (I j z) f x.block.bodies v.bodies (v.uses (I j z) f) (r.count l true q.0) w) (st_back f x.block.bodies (x.block.inner f) (handled_inner as' (f + x.block.bodies)) (r.long f) st),
+        r.good j z sl p s f c q.0 (every_front Q (v.uses (I j z) f) ((all_in_turn vs).uses (I j z) (f + v.bodies)) w) (stands_front f (x.block.inner f) (handled_inner as' (f + x.block.bodies)) st),
+        handlers_good rs j z sl p s (f + x.block.bodies) c q.1 (use_back Q (all_in_turn vs) (I j z) f x.block.bodies v.bodies (v.uses (I j z) f) (r.count l true q.0) w) (stands_back f x.block.bodies (x.block.inner f) (handled_inner as' (f + x.block.bodies)) (r.long f) st),
       )
 
   handlers_inner : {as' : List Handled} {vs : List Uses} {gs : List Legal} → Related HandlerRel as' vs gs → (l c : Bool) (j : ℕ) (z : Bool) (f : ℕ) → all_legal gs l c ≡ true → W ((all_in_turn vs).uses (I j z) f) → St f (handled_inner as' f) → Bo f (handled_inner as' f)
   handlers_inner Nil l c j z f h w st = tt
   handlers_inner (Cons {s = x} {v = v} {g = g} {ss = as'} {vs = vs} {gs = gs} r rs) l c j z f h w st =
       let q = and_parts (g l c) (all_legal gs l c) h in
-      bo_join f x.block.bodies (x.block.inner f) (handled_inner as' (f + x.block.bodies)) (r.long f)
-      (r.inner l c j z f q.0 (front (v.uses (I j z) f) ((all_in_turn vs).uses (I j z) (f + v.bodies)) w) (st_front f (x.block.inner f) (handled_inner as' (f + x.block.bodies)) st))
-      (handlers_inner rs l c j z (f + x.block.bodies) q.1 (use_back (all_in_turn vs) (I j z) f x.block.bodies v.bodies (v.uses (I j z) f) (r.count l c q.0) w) (st_back f x.block.bodies (x.block.inner f) (handled_inner as' (f + x.block.bodies)) (r.long f) st))
+      ok_join f x.block.bodies (x.block.inner f) (handled_inner as' (f + x.block.bodies)) (r.long f)
+      (r.inner l c j z f q.0 (every_front Q (v.uses (I j z) f) ((all_in_turn vs).uses (I j z) (f + v.bodies)) w) (stands_front f (x.block.inner f) (handled_inner as' (f + x.block.bodies)) st))
+      (handlers_inner rs l c j z (f + x.block.bodies) q.1 (use_back Q (all_in_turn vs) (I j z) f x.block.bodies v.bodies (v.uses (I j z) f) (r.count l c q.0) w) (stands_back f x.block.bodies (x.block.inner f) (handled_inner as' (f + x.block.bodies)) (r.long f) st))
 
   -- the parts of compound statements
   pub arm_rel : (ln : ℕ) (t : Expr) {ss : List Stated} {vs : List Uses} {gs : List Legal} → Related Rel ss vs gs → ArmRel (record { line = ln; test = t; block = block ss }) (in_turn (quiet (λ b. read b t)) (all_in_turn vs)) (both (always (sane t)) (all_legal gs))
@@ -190,8 +179,8 @@ module _ (locals : ℕ → List (List ℕ)) (texts cells : List (List ℕ)) (key
     long = rels_long rs;
     good = λ j z sl p s f c h w st.
         let q = and_parts (sane t) (all_legal gs (in_loop (K j sl p) c) (in_clause (K j sl p) c)) h in
-        (value_here locals texts cells keys params none j z sl p s ln t q.0 (front (read (I j z) t) ((all_in_turn vs).uses (I j z) (f + 0)) w), block_does (K j sl p) c (pieces ss (N j z) c f) (rels_good rs j z sl p s f c q.1 (zero_back (all_in_turn vs) (I j z) f (read (I j z) t) w) st));
-    inner = λ l c j z f h w st. rels_inner rs l c j z f (and_parts (sane t) (all_legal gs l c) h).1 (zero_back (all_in_turn vs) (I j z) f (read (I j z) t) w) st;
+        (value_here locals texts cells keys params none j z sl p s ln t q.0 (every_front Q (read (I j z) t) ((all_in_turn vs).uses (I j z) (f + 0)) w), block_does (K j sl p) c (pieces ss (N j z) c f) (rels_good rs j z sl p s f c q.1 (zero_back Q (all_in_turn vs) (I j z) f (read (I j z) t) w) st));
+    inner = λ l c j z f h w st. rels_inner rs l c j z f (and_parts (sane t) (all_legal gs l c) h).1 (zero_back Q (all_in_turn vs) (I j z) f (read (I j z) t) w) st;
   }
 
   clause_ok : (j : ℕ) (z : Bool) (sl p : ℕ) → Sl j z sl → (c : List Around) (ln : ℕ) (e t : Option Expr) (b : Piece) → sane_some e ≡ true → lg.target_some t ≡ true → W (read_some (I j z) e) → W (target_some (I j z) t) → Does (K j sl p) (InClause ∷ c) b → Clause (K j sl p) c (clause (N j z) ln e t b)
@@ -207,10 +196,10 @@ module _ (locals : ℕ → List (List ℕ)) (texts cells : List (List ℕ)) (key
         let k = I j z in
         let q = and_parts (sane_some e && lg.target_some t) (all_legal gs (in_loop (K j sl p) c) true) h in
         let r = and_parts (sane_some e) (lg.target_some t) q.0 in
-        let u = front (read_some k e ++ target_some k t) ((all_in_turn vs).uses k (f + 0)) w in
-        clause_ok j z sl p s c ln e t (row (pieces ss (N j z) (InClause ∷ c) f)) r.0 r.1 (front (read_some k e) (target_some k t) u) (back (read_some k e) (target_some k t) u)
-        (block_does (K j sl p) (InClause ∷ c) (pieces ss (N j z) (InClause ∷ c) f) (rels_good rs j z sl p s f (InClause ∷ c) q.1 (zero_back (all_in_turn vs) k f (read_some k e ++ target_some k t) w) st));
-    inner = λ l c j z f h w st. rels_inner rs l c j z f (and_parts (sane_some e && lg.target_some t) (all_legal gs l c) h).1 (zero_back (all_in_turn vs) (I j z) f (read_some (I j z) e ++ target_some (I j z) t) w) st;
+        let u = every_front Q (read_some k e ++ target_some k t) ((all_in_turn vs).uses k (f + 0)) w in
+        clause_ok j z sl p s c ln e t (row (pieces ss (N j z) (InClause ∷ c) f)) r.0 r.1 (every_front Q (read_some k e) (target_some k t) u) (every_back Q (read_some k e) (target_some k t) u)
+        (block_does (K j sl p) (InClause ∷ c) (pieces ss (N j z) (InClause ∷ c) f) (rels_good rs j z sl p s f (InClause ∷ c) q.1 (zero_back Q (all_in_turn vs) k f (read_some k e ++ target_some k t) w) st));
+    inner = λ l c j z f h w st. rels_inner rs l c j z f (and_parts (sane_some e && lg.target_some t) (all_legal gs l c) h).1 (zero_back Q (all_in_turn vs) (I j z) f (read_some (I j z) e ++ target_some (I j z) t) w) st;
   }
 
   -- if
@@ -223,15 +212,15 @@ module _ (locals : ℕ → List (List ℕ)) (texts cells : List (List ℕ)) (key
         let q = and_parts (all_legal gs (in_loop (K j sl p) c) (in_clause (K j sl p) c)) (ge (in_loop (K j sl p) c) (in_clause (K j sl p) c)) h in
         let m = arms_count rs (in_loop (K j sl p) c) (in_clause (K j sl p) c) q.0 in
         all_arms_does (K j sl p) 0 c (armed as' (N j z) c f) (e.code (N j z) c (f + armed_count as'))
-        (arms_good rs j z sl p s f c q.0 (front ((all_in_turn vs).uses k f) (ve.uses k (f + (all_in_turn vs).bodies)) w) (st_front f (armed_inner as' f) (e.inner (f + armed_count as')) st))
-        (re.good j z sl p s (f + armed_count as') c q.1 (use_back ve k f (armed_count as') (all_in_turn vs).bodies ((all_in_turn vs).uses k f) m w) (st_back f (armed_count as') (armed_inner as' f) (e.inner (f + armed_count as')) (arms_long rs f) st));
+        (arms_good rs j z sl p s f c q.0 (every_front Q ((all_in_turn vs).uses k f) (ve.uses k (f + (all_in_turn vs).bodies)) w) (stands_front f (armed_inner as' f) (e.inner (f + armed_count as')) st))
+        (re.good j z sl p s (f + armed_count as') c q.1 (use_back Q ve k f (armed_count as') (all_in_turn vs).bodies ((all_in_turn vs).uses k f) m w) (stands_back f (armed_count as') (armed_inner as' f) (e.inner (f + armed_count as')) (arms_long rs f) st));
     inner = λ l c j z f h w st.
         let k = I j z in
         let q = and_parts (all_legal gs l c) (ge l c) h in
         let m = arms_count rs l c q.0 in
-        bo_join f (armed_count as') (armed_inner as' f) (e.inner (f + armed_count as')) (arms_long rs f)
-        (arms_inner rs l c j z f q.0 (front ((all_in_turn vs).uses k f) (ve.uses k (f + (all_in_turn vs).bodies)) w) (st_front f (armed_inner as' f) (e.inner (f + armed_count as')) st))
-        (re.inner l c j z (f + armed_count as') q.1 (use_back ve k f (armed_count as') (all_in_turn vs).bodies ((all_in_turn vs).uses k f) m w) (st_back f (armed_count as') (armed_inner as' f) (e.inner (f + armed_count as')) (arms_long rs f) st));
+        ok_join f (armed_count as') (armed_inner as' f) (e.inner (f + armed_count as')) (arms_long rs f)
+        (arms_inner rs l c j z f q.0 (every_front Q ((all_in_turn vs).uses k f) (ve.uses k (f + (all_in_turn vs).bodies)) w) (stands_front f (armed_inner as' f) (e.inner (f + armed_count as')) st))
+        (re.inner l c j z (f + armed_count as') q.1 (use_back Q ve k f (armed_count as') (all_in_turn vs).bodies ((all_in_turn vs).uses k f) m w) (stands_back f (armed_count as') (armed_inner as' f) (e.inner (f + armed_count as')) (arms_long rs f) st));
   }
 
   -- while
@@ -243,16 +232,16 @@ module _ (locals : ℕ → List (List ℕ)) (texts cells : List (List ℕ)) (key
         let k = I j z in
         let q = and_parts (ga true (in_clause (K j sl p) c)) (ge (in_loop (K j sl p) c) (in_clause (K j sl p) c)) h in
         let m = ra.count true (in_clause (K j sl p) c) q.0 in
-        let t = ra.good j z sl p s f (InWhile ∷ c) q.0 (front (va.uses k f) (ve.uses k (f + va.bodies)) w) (st_front f (a.block.inner f) (e.inner (f + a.block.bodies)) st) in
+        let t = ra.good j z sl p s f (InWhile ∷ c) q.0 (every_front Q (va.uses k f) (ve.uses k (f + va.bodies)) w) (stands_front f (a.block.inner f) (e.inner (f + a.block.bodies)) st) in
         while_does (K j sl p) a.line c (value (N j z) a.line a.test) (a.block.code (N j z) (InWhile ∷ c) f) (e.code (N j z) c (f + a.block.bodies)) t.0 t.1
-        (re.good j z sl p s (f + a.block.bodies) c q.1 (use_back ve k f a.block.bodies va.bodies (va.uses k f) m w) (st_back f a.block.bodies (a.block.inner f) (e.inner (f + a.block.bodies)) (ra.long f) st));
+        (re.good j z sl p s (f + a.block.bodies) c q.1 (use_back Q ve k f a.block.bodies va.bodies (va.uses k f) m w) (stands_back f a.block.bodies (a.block.inner f) (e.inner (f + a.block.bodies)) (ra.long f) st));
     inner = λ l c j z f h w st.
         let k = I j z in
         let q = and_parts (ga true c) (ge l c) h in
         let m = ra.count true c q.0 in
-        bo_join f a.block.bodies (a.block.inner f) (e.inner (f + a.block.bodies)) (ra.long f)
-        (ra.inner true c j z f q.0 (front (va.uses k f) (ve.uses k (f + va.bodies)) w) (st_front f (a.block.inner f) (e.inner (f + a.block.bodies)) st))
-        (re.inner l c j z (f + a.block.bodies) q.1 (use_back ve k f a.block.bodies va.bodies (va.uses k f) m w) (st_back f a.block.bodies (a.block.inner f) (e.inner (f + a.block.bodies)) (ra.long f) st));
+        ok_join f a.block.bodies (a.block.inner f) (e.inner (f + a.block.bodies)) (ra.long f)
+        (ra.inner true c j z f q.0 (every_front Q (va.uses k f) (ve.uses k (f + va.bodies)) w) (stands_front f (a.block.inner f) (e.inner (f + a.block.bodies)) st))
+        (re.inner l c j z (f + a.block.bodies) q.1 (use_back Q ve k f a.block.bodies va.bodies (va.uses k f) m w) (stands_back f a.block.bodies (a.block.inner f) (e.inner (f + a.block.bodies)) (ra.long f) st));
   }
 
   -- for
@@ -264,21 +253,21 @@ module _ (locals : ℕ → List (List ℕ)) (texts cells : List (List ℕ)) (key
         let k = I j z in
         let q = parts (in_loop (K j sl p) c) (in_clause (K j sl p) c) h in
         let m = rels_count rs true (in_clause (K j sl p) c) q.1.0 in
-        let hd = front (target k t ++ read k x) ((in_turn (all_in_turn vs) ve).uses k (f + 0)) w in
-        let tl = zero_back (in_turn (all_in_turn vs) ve) k f (target k t ++ read k x) w in
+        let hd = every_front Q (target k t ++ read k x) ((in_turn (all_in_turn vs) ve).uses k (f + 0)) w in
+        let tl = zero_back Q (in_turn (all_in_turn vs) ve) k f (target k t ++ read k x) w in
         for_does (K j sl p) ln c (stored (N j z) ln t) (value (N j z) ln x) ((block ss).code (N j z) (InFor ∷ c) f) (e.code (N j z) c (f + count ss))
-        (store_here locals texts cells keys params none j z sl p s ln t q.0.0 (front (target k t) (read k x) hd))
-        (value_here locals texts cells keys params none j z sl p s ln x q.0.1 (back (target k t) (read k x) hd))
-        (block_does (K j sl p) (InFor ∷ c) (pieces ss (N j z) (InFor ∷ c) f) (rels_good rs j z sl p s f (InFor ∷ c) q.1.0 (front ((all_in_turn vs).uses k f) (ve.uses k (f + (all_in_turn vs).bodies)) tl) (st_front f (inners ss f) (e.inner (f + count ss)) st)))
-        (re.good j z sl p s (f + count ss) c q.1.1 (use_back ve k f (count ss) (all_in_turn vs).bodies ((all_in_turn vs).uses k f) m tl) (st_back f (count ss) (inners ss f) (e.inner (f + count ss)) (rels_long rs f) st));
+        (store_here locals texts cells keys params none j z sl p s ln t q.0.0 (every_front Q (target k t) (read k x) hd))
+        (value_here locals texts cells keys params none j z sl p s ln x q.0.1 (every_back Q (target k t) (read k x) hd))
+        (block_does (K j sl p) (InFor ∷ c) (pieces ss (N j z) (InFor ∷ c) f) (rels_good rs j z sl p s f (InFor ∷ c) q.1.0 (every_front Q ((all_in_turn vs).uses k f) (ve.uses k (f + (all_in_turn vs).bodies)) tl) (stands_front f (inners ss f) (e.inner (f + count ss)) st)))
+        (re.good j z sl p s (f + count ss) c q.1.1 (use_back Q ve k f (count ss) (all_in_turn vs).bodies ((all_in_turn vs).uses k f) m tl) (stands_back f (count ss) (inners ss f) (e.inner (f + count ss)) (rels_long rs f) st));
     inner = λ l c j z f h w st.
         let k = I j z in
         let q = parts l c h in
         let m = rels_count rs true c q.1.0 in
-        let tl = zero_back (in_turn (all_in_turn vs) ve) k f (target k t ++ read k x) w in
-        bo_join f (count ss) (inners ss f) (e.inner (f + count ss)) (rels_long rs f)
-        (rels_inner rs true c j z f q.1.0 (front ((all_in_turn vs).uses k f) (ve.uses k (f + (all_in_turn vs).bodies)) tl) (st_front f (inners ss f) (e.inner (f + count ss)) st))
-        (re.inner l c j z (f + count ss) q.1.1 (use_back ve k f (count ss) (all_in_turn vs).bodies ((all_in_turn vs).uses k f) m tl) (st_back f (count ss) (inners ss f) (e.inner (f + count ss)) (rels_long rs f) st));
+        let tl = zero_back Q (in_turn (all_in_turn vs) ve) k f (target k t ++ read k x) w in
+        ok_join f (count ss) (inners ss f) (e.inner (f + count ss)) (rels_long rs f)
+        (rels_inner rs true c j z f q.1.0 (every_front Q ((all_in_turn vs).uses k f) (ve.uses k (f + (all_in_turn vs).bodies)) tl) (stands_front f (inners ss f) (e.inner (f + count ss)) st))
+        (re.inner l c j z (f + count ss) q.1.1 (use_back Q ve k f (count ss) (all_in_turn vs).bodies ((all_in_turn vs).uses k f) m tl) (stands_back f (count ss) (inners ss f) (e.inner (f + count ss)) (rels_long rs f) st));
   }
     where
       parts : (l c : Bool) → both (always (is_target_of t && sane x)) (both (λ l c. all_legal gs true c) ge) l c ≡ true → ((is_target_of t ≡ true) × (sane x ≡ true)) × ((all_legal gs true c ≡ true) × (ge l c ≡ true))
@@ -297,24 +286,16 @@ module _ (locals : ℕ → List (List ℕ)) (texts cells : List (List ℕ)) (key
       let x = and_parts (ge l c) b r.1 in
       (q.0, r.0, x.0, x.1)
 
-  -- uses of three parts in turn
-  three_uses : (vt vh ve : Uses) (b : Inside) (f m n : ℕ) → m ≡ vt.bodies → n ≡ vh.bodies → W ((in_turn vt (in_turn vh ve)).uses b f) → W (vt.uses b f) × W (vh.uses b (f + m)) × W (ve.uses b (f + m + n))
-  three_uses vt vh ve b f m n em en w =
-      let r = back (vt.uses b f) ((in_turn vh ve).uses b (f + vt.bodies)) w in
-      let x = front (vh.uses b (f + vt.bodies)) (ve.uses b (f + vt.bodies + vh.bodies)) r in
-      let y = back (vh.uses b (f + vt.bodies)) (ve.uses b (f + vt.bodies + vh.bodies)) r in
-      (front (vt.uses b f) ((in_turn vh ve).uses b (f + vt.bodies)) w, subst (λ i. W (vh.uses b (f + i))) (sym em) x, rw (em, en) y)
-
   pub try_rel : (t : Claused) (vt : Uses) (gt : Legal) → Rel t.block vt gt → {hs : List Handled} {vs : List Uses} {gs : List Legal} → Related HandlerRel hs vs gs → (e : Stated) (ve : Uses) (ge : Legal) → Rel e ve ge → (b : Bool) → (hs ≡ [] → b ≡ true → ve.bodies ≡ 0) → Rel (tried t hs e) (in_turn vt (in_turn (all_in_turn vs) ve)) (both gt (both (λ l c. all_legal gs l true) (both ge (always b))))
   try_rel t vt gt rt Nil e ve ge re b bare = record {
     count = λ l c h. let q = three_parts gt (λ l c. true) ge b l c h in let x = rt.count l c q.0 in let y = bare refl q.3 in omega (arith, x, y);
     long = rt.long;
     good = λ j z sl p s f c h w st.
         let q = three_parts gt (λ l c. true) ge b (in_loop (K j sl p) c) (in_clause (K j sl p) c) h in
-        rt.good j z sl p s f c q.0 (front (vt.uses (I j z) f) ((in_turn none_used ve).uses (I j z) (f + vt.bodies)) w) st;
+        rt.good j z sl p s f c q.0 (every_front Q (vt.uses (I j z) f) ((in_turn none_used ve).uses (I j z) (f + vt.bodies)) w) st;
     inner = λ l c j z f h w st.
         let q = three_parts gt (λ l c. true) ge b l c h in
-        rt.inner l c j z f q.0 (front (vt.uses (I j z) f) ((in_turn none_used ve).uses (I j z) (f + vt.bodies)) w) st;
+        rt.inner l c j z f q.0 (every_front Q (vt.uses (I j z) f) ((in_turn none_used ve).uses (I j z) (f + vt.bodies)) w) st;
   }
   try_rel t vt gt rt (Cons {s = x} {v = v} {g = g} {ss = as'} {vs = vs} {gs = gs} r rs) e ve ge re b bare = record {
     count = λ l c h. let q = three_parts gt (all_legal (g ∷ gs)) ge b l c h in let m = rt.count l c q.0 in let n = handlers_count hs l true q.1 in let y = re.count l c q.2 in omega (arith, m, n, y);
@@ -324,7 +305,7 @@ module _ (locals : ℕ → List (List ℕ)) (texts cells : List (List ℕ)) (key
         let l = in_loop (K j sl p) c in
         let d = in_clause (K j sl p) c in
         let q = three_parts gt (all_legal (g ∷ gs)) ge b l d h in
-        let ws = three_uses vt (all_in_turn (v ∷ vs)) ve k f t.block.bodies (handled_count (x ∷ as')) (rt.count l d q.0) (handlers_count hs l true q.1) w in
+        let ws = three_uses Q vt (all_in_turn (v ∷ vs)) ve k f t.block.bodies (handled_count (x ∷ as')) (rt.count l d q.0) (handlers_count hs l true q.1) w in
         let ss = three_stand f st in
         try_except_does (K j sl p) t.line c (t.block.code (N j z) (InTry ∷ c) f) (handled (x ∷ as') (N j z) c (f + t.block.bodies)) (e.code (N j z) c (f + t.block.bodies + handled_count (x ∷ as')))
         (rt.good j z sl p s f (InTry ∷ c) q.0 ws.0 ss.0)
@@ -333,7 +314,7 @@ module _ (locals : ℕ → List (List ℕ)) (texts cells : List (List ℕ)) (key
     inner = λ l c j z f h w st.
         let k = I j z in
         let q = three_parts gt (all_legal (g ∷ gs)) ge b l c h in
-        let ws = three_uses vt (all_in_turn (v ∷ vs)) ve k f t.block.bodies (handled_count (x ∷ as')) (rt.count l c q.0) (handlers_count hs l true q.1) w in
+        let ws = three_uses Q vt (all_in_turn (v ∷ vs)) ve k f t.block.bodies (handled_count (x ∷ as')) (rt.count l c q.0) (handlers_count hs l true q.1) w in
         let ss = three_stand f st in
         three_join f (rt.inner l c j z f q.0 ws.0 ss.0) (handlers_inner hs l true j z (f + t.block.bodies) q.1 ws.1 ss.1) (re.inner l c j z (f + t.block.bodies + handled_count (x ∷ as')) q.2 ws.2 ss.2);
   }
@@ -346,10 +327,10 @@ module _ (locals : ℕ → List (List ℕ)) (texts cells : List (List ℕ)) (key
           let a = t.block.inner f in
           let b = handled_inner (x ∷ as') (f + t.block.bodies) in
           let c = e.inner (f + t.block.bodies + handled_count (x ∷ as')) in
-          let h = st_front f (a ++ b) c st in
+          let h = stands_front f (a ++ b) c st in
           let len : length (a ++ b) ≡ t.block.bodies + handled_count (x ∷ as') = let m = rt.long f in let n = handlers_long hs (f + t.block.bodies) in omega (arith, m, n, length-append a b) in
           let far : f + (t.block.bodies + handled_count (x ∷ as')) ≡ f + t.block.bodies + handled_count (x ∷ as') = omega arith in
-          (st_front f a b h, st_back f t.block.bodies a b (rt.long f) h, subst (λ i. St i c) far (st_back f (t.block.bodies + handled_count (x ∷ as')) (a ++ b) c len st))
+          (stands_front f a b h, stands_back f t.block.bodies a b (rt.long f) h, subst (λ i. St i c) far (stands_back f (t.block.bodies + handled_count (x ∷ as')) (a ++ b) c len st))
 
       three_join : (f : ℕ) → Bo f (t.block.inner f) → Bo (f + t.block.bodies) (handled_inner (x ∷ as') (f + t.block.bodies)) → Bo (f + t.block.bodies + handled_count (x ∷ as')) (e.inner (f + t.block.bodies + handled_count (x ∷ as'))) → Bo f ((tried t (x ∷ as') e).inner f)
       three_join f p q r' =
@@ -358,20 +339,9 @@ module _ (locals : ℕ → List (List ℕ)) (texts cells : List (List ℕ)) (key
           let c = e.inner (f + t.block.bodies + handled_count (x ∷ as')) in
           let len : length (a ++ b) ≡ t.block.bodies + handled_count (x ∷ as') = let m = rt.long f in let n = handlers_long hs (f + t.block.bodies) in omega (arith, m, n, length-append a b) in
           let far : f + t.block.bodies + handled_count (x ∷ as') ≡ f + (t.block.bodies + handled_count (x ∷ as')) = omega arith in
-          bo_join f (t.block.bodies + handled_count (x ∷ as')) (a ++ b) c len (bo_join f t.block.bodies a b (rt.long f) p q) (subst (λ i. Bo i c) far r')
+          ok_join f (t.block.bodies + handled_count (x ∷ as')) (a ++ b) c len (ok_join f t.block.bodies a b (rt.long f) p q) (subst (λ i. Bo i c) far r')
 
   -- its finally
-  four_uses : (vt vh ve vd : Uses) (b : Inside) (f m : ℕ) → m ≡ vt.bodies + (vh.bodies + ve.bodies) → W ((in_turn vt (in_turn vh (in_turn ve vd))).uses b f) → W ((in_turn vt (in_turn vh ve)).uses b f) × W (vd.uses b (f + m))
-  four_uses vt vh ve vd b f m e w =
-      let a = vt.uses b f in
-      let h = vh.uses b (f + vt.bodies) in
-      let x = ve.uses b (f + vt.bodies + vh.bodies) in
-      let d = vd.uses b (f + vt.bodies + vh.bodies + ve.bodies) in
-      let r1 = back a (h ++ (x ++ d)) w in
-      let r2 = back h (x ++ d) r1 in
-      let far : f + vt.bodies + vh.bodies + ve.bodies ≡ f + m = omega (arith, e) in
-      (join a (h ++ x) (front a (h ++ (x ++ d)) w) (join h x (front h (x ++ d) r1) (front x d r2)), subst (λ i. W (vd.uses b i)) far (back x d r2))
-
   pub four_parts : (gt gh ge gd : Legal) (b l c : Bool) → (gt l c && (gh l true && (ge l c && (gd l c && b)))) ≡ true → ((gt l c && (gh l true && (ge l c && b))) ≡ true) × (gd l c ≡ true)
   four_parts gt gh ge gd b l c h =
       let q = and_parts (gt l c) (gh l true && (ge l c && (gd l c && b))) h in
@@ -391,25 +361,25 @@ module _ (locals : ℕ → List (List ℕ)) (texts cells : List (List ℕ)) (key
         let l = in_loop (K j sl p) c in
         let m = in_clause (K j sl p) c in
         let q = four_parts gt gh ge gd b l m h in
-        let us = four_uses vt vh ve vd (I j z) f t.bodies (rt.count l m q.0) w in
+        let us = four_uses Q vt vh ve vd (I j z) f t.bodies (rt.count l m q.0) w in
         let fin = d.block.code (N j z) c (f + t.bodies) in
         try_finally_does (K j sl p) ln c (t.code (N j z) (InFinally fin ∷ c) f) fin
-        (rt.good j z sl p s f (InFinally fin ∷ c) q.0 us.0 (st_front f (t.inner f) (d.block.inner (f + t.bodies)) st))
-        (rd.good j z sl p s (f + t.bodies) c q.1 us.1 (st_back f t.bodies (t.inner f) (d.block.inner (f + t.bodies)) (rt.long f) st));
+        (rt.good j z sl p s f (InFinally fin ∷ c) q.0 us.0 (stands_front f (t.inner f) (d.block.inner (f + t.bodies)) st))
+        (rd.good j z sl p s (f + t.bodies) c q.1 us.1 (stands_back f t.bodies (t.inner f) (d.block.inner (f + t.bodies)) (rt.long f) st));
     inner = λ l c j z f h w st.
         let q = four_parts gt gh ge gd b l c h in
-        let us = four_uses vt vh ve vd (I j z) f t.bodies (rt.count l c q.0) w in
-        bo_join f t.bodies (t.inner f) (d.block.inner (f + t.bodies)) (rt.long f)
-        (rt.inner l c j z f q.0 us.0 (st_front f (t.inner f) (d.block.inner (f + t.bodies)) st))
-        (rd.inner l c j z (f + t.bodies) q.1 us.1 (st_back f t.bodies (t.inner f) (d.block.inner (f + t.bodies)) (rt.long f) st));
+        let us = four_uses Q vt vh ve vd (I j z) f t.bodies (rt.count l c q.0) w in
+        ok_join f t.bodies (t.inner f) (d.block.inner (f + t.bodies)) (rt.long f)
+        (rt.inner l c j z f q.0 us.0 (stands_front f (t.inner f) (d.block.inner (f + t.bodies)) st))
+        (rd.inner l c j z (f + t.bodies) q.1 us.1 (stands_back f t.bodies (t.inner f) (d.block.inner (f + t.bodies)) (rt.long f) st));
   }
 
   pub no_finally_rel : (ln : ℕ) (t : Stated) (vt vh ve : Uses) (gt gh ge : Legal) (b : Bool) → Rel t (in_turn vt (in_turn vh ve)) (both gt (both (λ l c. gh l true) (both ge (always b)))) → Rel (finally ln t None) (in_turn vt (in_turn vh (in_turn ve none_used))) (four gt gh ge (λ l c. true) b)
   no_finally_rel ln t vt vh ve gt gh ge b rt = record {
     count = λ l c h. let q = four_parts gt gh ge (λ l c. true) b l c h in let x = rt.count l c q.0 in omega (arith, x);
     long = rt.long;
-    good = λ j z sl p s f c h w st. rt.good j z sl p s f c (four_parts gt gh ge (λ l c. true) b (in_loop (K j sl p) c) (in_clause (K j sl p) c) h).0 (four_uses vt vh ve none_used (I j z) f (vt.bodies + (vh.bodies + ve.bodies)) refl w).0 st;
-    inner = λ l c j z f h w st. rt.inner l c j z f (four_parts gt gh ge (λ l c. true) b l c h).0 (four_uses vt vh ve none_used (I j z) f (vt.bodies + (vh.bodies + ve.bodies)) refl w).0 st;
+    good = λ j z sl p s f c h w st. rt.good j z sl p s f c (four_parts gt gh ge (λ l c. true) b (in_loop (K j sl p) c) (in_clause (K j sl p) c) h).0 (four_uses Q vt vh ve none_used (I j z) f (vt.bodies + (vh.bodies + ve.bodies)) refl w).0 st;
+    inner = λ l c j z f h w st. rt.inner l c j z f (four_parts gt gh ge (λ l c. true) b l c h).0 (four_uses Q vt vh ve none_used (I j z) f (vt.bodies + (vh.bodies + ve.bodies)) refl w).0 st;
   }
 
   -- functions and classes
@@ -432,17 +402,17 @@ module _ (locals : ℕ → List (List ℕ)) (texts cells : List (List ℕ)) (key
     good = λ j z sl p s f c h w st.
         let k = I j z in
         let q = and_parts (sane_defaults ps) (all_legal gs false false) h in
-        let u = front (name_bound k x ++ read_defaults k ps) ((all_in_turn vs).uses (I f false) (f + 1)) w in
+        let u = every_front Q (name_bound k x ++ read_defaults k ps) ((all_in_turn vs).uses (I f false) (f + 1)) w in
         let e1 = values_long (N j z) ln (defaults ps) in
         let e2 = defaults_few ps in
         let e3 = st.1 in
         def_does (K j sl p) ln c (values (N j z) ln (defaults ps)) f (home (N j z) x)
-        (homed_is (K j sl p) ln (home (N j z) x) (home_here locals texts cells keys params none j z sl p s x (front (name_bound k x) (read_defaults k ps) u)))
-        (defaults_here locals texts cells keys params none j z sl p s ln ps q.0 (back (name_bound k x) (read_defaults k ps) u))
+        (homed_is (K j sl p) ln (home (N j z) x) (home_here locals texts cells keys params none j z sl p s x (every_front Q (name_bound k x) (read_defaults k ps) u)))
+        (defaults_here locals texts cells keys params none j z sl p s ln ps q.0 (every_back Q (name_bound k x) (read_defaults k ps) u))
         (st.0, omega (arith, e1, e2, e3));
     inner = λ l c j z f h w st.
         let q = and_parts (sane_defaults ps) (all_legal gs false false) h in
-        let u = back (name_bound (I j z) x ++ read_defaults (I j z) ps) ((all_in_turn vs).uses (I f false) (f + 1)) w in
+        let u = every_back Q (name_bound (I j z) x ++ read_defaults (I j z) ps) ((all_in_turn vs).uses (I f false) (f + 1)) w in
         ((λ sl p s. block_does (K f sl p) [] (pieces ss (N f false) [] (f + 1)) (rels_good rs f false sl p s (f + 1) [] q.1 u st.2)), rels_inner rs false false f false (f + 1) q.1 u st.2);
   }
 
@@ -453,14 +423,14 @@ module _ (locals : ℕ → List (List ℕ)) (texts cells : List (List ℕ)) (key
     good = λ j z sl p s f c h w st.
         let k = I j z in
         let q = and_parts (sane_some e) (all_legal gs false false) h in
-        let u = front (name_bound k x ++ read_some k e) ((all_in_turn vs).uses (I f true) (f + 1)) w in
+        let u = every_front Q (name_bound k x ++ read_some k e) ((all_in_turn vs).uses (I f true) (f + 1)) w in
         class_does (K j sl p) ln c (base (N j z) ln e) f (home (N j z) x)
-        (homed_is (K j sl p) ln (home (N j z) x) (home_here locals texts cells keys params none j z sl p s x (front (name_bound k x) (read_some k e) u)))
-        (base_here locals texts cells keys params none j z sl p s ln e q.0 (back (name_bound k x) (read_some k e) u))
+        (homed_is (K j sl p) ln (home (N j z) x) (home_here locals texts cells keys params none j z sl p s x (every_front Q (name_bound k x) (read_some k e) u)))
+        (base_here locals texts cells keys params none j z sl p s ln e q.0 (every_back Q (name_bound k x) (read_some k e) u))
         st.0;
     inner = λ l c j z f h w st.
         let q = and_parts (sane_some e) (all_legal gs false false) h in
-        let u = back (name_bound (I j z) x ++ read_some (I j z) e) ((all_in_turn vs).uses (I f true) (f + 1)) w in
+        let u = every_back Q (name_bound (I j z) x ++ read_some (I j z) e) ((all_in_turn vs).uses (I f true) (f + 1)) w in
         ((λ sl p s. block_does (K f sl p) [] (pieces ss (N f true) [] (f + 1)) (rels_good rs f true sl p s (f + 1) [] q.1 u st.2)), rels_inner rs false false f true (f + 1) q.1 u st.2);
   }
 

@@ -1,4 +1,4 @@
--- The tree of a text whose names resolve is legal.
+-- The expressions of a text whose names resolve compare by operators that compare, and bind no None.
 use Rattle.std.proofs.Common.{◌≡◌, ◌∙◌, ◌&&◌, ℕ, Bool, true, List, [], Option, Some, None, refl, sym, ap, subst}
 use Rattle.py_tokens.specs.declared.token.Token.{Token}
 use Rattle.py_tree.specs.declared.expr.Expr.{Expr}
