@@ -24,7 +24,7 @@ pub mod Gathers
 pub mod Sane
 pub mod Legal
 pub mod ExprInduct
-pub mod StmtInduct
+pub mod StmtCases
 pub mod UsedRows
 pub mod SaneRows
 pub mod Homes
@@ -43,8 +43,9 @@ pub mod Assembled
 pub mod LegalRows
 pub mod Clear
 pub mod FreeEvents
-pub mod Beginnings
+pub mod OrdinaryEvents
 pub mod Begun
+pub mod Unbound
 pub mod ParamNames
 pub mod ParamSlots
 pub mod NoneFree

@@ -4,7 +4,7 @@ use Rattle.std.specs.Prelude.{if◌then◌else◌}
 use Rattle.std.specs.Cmp.{IsEquivalence, decided}
 use Rattle.std.specs.List.{list_any, AllByRecursion, IsDistinct}
 use Rattle.std.specs.Str.{bytes_eq}
-use Rattle.std.proofs.lemmas.Bool.{or_right}
+use Rattle.std.proofs.lemmas.Bool.{or_parts, or_right}
 use Rattle.std.proofs.lemmas.List.Folds.{list_any-append}
 use Rattle.std.proofs.lemmas.Map.Made.{length-le_from_is_member}
 use Rattle.std.proofs.lemmas.Slice.Eq.{bytes_eq-Decides}
@@ -88,10 +88,6 @@ pub record Differ (before : List (List ℕ)) (xs : List (List ℕ)) : Type 0 whe
 
 abbrev pub param_names : List Param → List (List ℕ)
 param_names ps = map (λ p. p.name) ps
-
-or_parts : (a b : Bool) → (a || b) ≡ false → (a ≡ false) × (b ≡ false)
-or_parts true b h = absurd (cc)
-or_parts false b h = (refl, h)
 
 -- those that differ from a list with one more name
 parted : (before : List (List ℕ)) (x : List ℕ) (xs : List (List ℕ)) → AllByRecursion (λ y. has y (before ++ x ∷ []) ≡ false) xs → AllByRecursion (λ y. has y before ≡ false) xs × AllByRecursion (λ y. bytes_eq x y ≡ false) xs
