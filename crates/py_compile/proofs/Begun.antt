@@ -24,7 +24,7 @@ use Rattle.py_compile.proofs.Sane.{sane, sane_some}
 use Rattle.py_compile.proofs.Legal.{is_target_of, sane_defaults, target_some as fits_target, legal, legal_all}
 use Rattle.py_compile.proofs.LegalRows.{legal_arms, legal_clause, legal_handlers, clause_there, legal_if, legal_while, legal_for, legal_try, legal_def, legal_class}
 use Rattle.py_compile.proofs.ExprInduct.{Every, IfThere, every_of}
-use Rattle.py_compile.proofs.StmtCases.{OfArm, OfClause, OfHandler, Cases, stmt_induct}
+use Rattle.py_compile.proofs.StmtInduct.{OfArm, OfClause, OfHandler, Cases, stmt_induct}
 use Rattle.py_compile.proofs.OrdinaryEvents.{Ordinary, AllOrdinary, ordinary_nil, ordinary_cons, ordinary_join, bound_ordinary, only_ordinary, imported_ordinary, declares_ordinary, read_ordinary, target_ordinary, read_all_ordinary, target_all_ordinary, read_some_ordinary, target_some_ordinary, raises_ordinary}
 
 -- Events that begin these bodies, one after another. Those of a `def` stand behind the check of its parameters, and begin with

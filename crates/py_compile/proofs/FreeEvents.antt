@@ -5,8 +5,7 @@ use Rattle.py_tree.specs.declared.stmt.Imported.{Imported}
 use Rattle.py_names.specs.declared.event.Event.{Event}
 use Rattle.py_names.specs.declared.event.Event.TheVariants.{Takes, Uses, Binds, Declares, Misplaced, Doubled}
 use Rattle.py_names.specs.Outline.{is_none, has, used_name, bound_name, label, repeated, Said, plain, only_where, imported_name, imported}
-use Rattle.py_compile.proofs.ExprInduct.{Every}
-use Rattle.py_compile.proofs.ExprTyped.{every_join}
+use Rattle.py_compile.proofs.ExprInduct.{Every, every_join}
 
 -- `None` isn't bound
 abbrev pub Free : Event → Type 0

@@ -4,6 +4,8 @@ pub mod Values
 pub mod Blocks
 pub mod Emits
 pub mod Rows
+pub mod RowsEqual
+pub mod Deletions
 pub mod Program
 pub mod Examples
 pub mod Coded
@@ -24,13 +26,14 @@ pub mod Gathers
 pub mod Sane
 pub mod Legal
 pub mod ExprInduct
-pub mod StmtCases
-pub mod UsedRows
+pub mod StmtInduct
 pub mod SaneRows
 pub mod Homes
+pub mod KeyNumbers
 pub mod ExprTyped
 pub mod World
 pub mod StmtSimple
+pub mod FoldInduct
 pub mod StmtTyped
 pub mod Numbers
 pub mod Whole
@@ -49,3 +52,6 @@ pub mod Unbound
 pub mod ParamNames
 pub mod ParamSlots
 pub mod NoneFree
+pub mod LegalText
+pub mod LegalStmts
+pub mod ProgramRight

@@ -3,6 +3,7 @@ pub mod Table
 pub mod State
 pub mod Names
 pub mod Expressions
+pub mod Deletions
 pub mod Statements
 pub mod Rounds
 pub mod Weights
@@ -16,3 +17,4 @@ pub mod Tallies
 pub mod Compiles
 pub mod Tasks
 pub mod TaskWeights
+pub mod Resolved

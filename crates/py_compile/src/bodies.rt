@@ -6,12 +6,12 @@ ghost use Rattle.py_compile.specs.Gathered.{numbered};
 ghost use Rattle.py_compile.specs.Statements.{all_stated, armed_count, armed_inner, count, handled_count, handled_inner, stated, stated_arms, stated_block, stated_handlers};
 ghost use Rattle.py_compile.specs.Weights.{weights, weights_some};
 
+use crate::count::to_u32;
 use crate::error::Fault;
 use crate::names::split;
 use py_data::NoMemory;
 use py_tree::{Arm, Clause, Handler, Stmt};
 use sqlite_items::Items;
-use std::alloc::AllocError;
 
 /// The body of a module, a function or a class.
 #[derive(Drop)]
@@ -221,7 +221,7 @@ fn gather_one<'a>(out: &mut Items<Body<'a>>, x: &'a Stmt) -> Result<(), NoMemory
             Ok(())
         }
         Stmt::Def(line, name, params, body) => {
-            let params = number(params.len())?;
+            let params = to_u32(params.len())?;
             let body = body.as_slice();
             add(out, *line, name.as_slice(), false, params, body)?;
             gather(out, body)?;
@@ -247,16 +247,6 @@ fn gather_one<'a>(out: &mut Items<Body<'a>>, x: &'a Stmt) -> Result<(), NoMemory
         | Stmt::Assert(_, _, _)
         | Stmt::Import(_, _)
         | Stmt::From(_, _, _) => Ok(()),
-    }
-}
-
-/// A count as a number of 32 bits. No list in memory is too long for it.
-fn number(n: usize) -> Result<u32, NoMemory>
-    ensures same { IfOk result (λ c. c ≡ n) }
-{
-    match u32::try_from(n) {
-        Ok(c) => Ok(c),
-        Err(_) => Err(AllocError),
     }
 }
 

@@ -11,10 +11,11 @@ ghost use Rattle.py_compile.specs.Expressions.{add_at, all_deleted, coded, opera
 ghost use Rattle.py_compile.specs.Table.{assert_alone, assert_with, class, def, expression};
 ghost use Rattle.py_compile.specs.Statements.{asserted, assigned, base, bound_name, defaults, deletion, imported, last_target, printed, raise_made, stores_before, taken_from};
 
+use crate::count::to_u32;
 use crate::draft::{Draft, Far};
 use crate::emitter::Emitter;
 use crate::error::Fault;
-use crate::expression::{expression, operand};
+use crate::expression::expression;
 use crate::names::{Names, split};
 use crate::target::{augment, delete_all, store};
 use py_code::{Constant, Instr, builtin};
@@ -238,7 +239,6 @@ fn assert_with(e: &mut Emitter, names: &Names, line: u32, x: &Expr, m: &Expr) ->
 /// The test of an `assert` and the class that it raises; the label of its end.
 fn assert_head(e: &mut Emitter, names: &Names, line: u32, x: &Expr) -> Result<usize, Fault>
     ensures base { IfOk result (λ base. base ≡ length e.old.labels) }
-    ensures labels { IfOk result (λ base. base < length e.new.labels) }
     ensures done { IfOk result (λ base. (env : List ℕ → List Frame) → Puts line base (λ ls. frame_there base 1 0 ls ∷ env ls) (Alone (value names.now line x.now) ∷ Op Not ∷ To 0 JumpFalse 0 ∷ Op (Const (Root 13)) ∷ []) (opened e.old 1 0) e.new) }
     ensures longer { IfOk result (λ _. length e.new.code ≡ length e.old.code + (value names.now line x.now).size + 3) }
     ensures large { result ≡ Err Fault.TooLarge → 65535 < length e.old.code + (value names.now line x.now).size + 3 }
@@ -355,7 +355,7 @@ pub fn def(
     ensures large { result ≡ Err Fault.TooLarge → 65535 < length e.old.code + (def line (values names.now line (defaults params.now)) number (home names.now name.now)).size }
 {
     let count = defaults(e, names, line, params)?;
-    let n = operand(count)?;
+    let n = to_u32(count)?;
     e.put(line, Draft::Op(Instr::MakeFunction(number, n)))?;
     e.put(line, Draft::Op(names.home(name).store()))?;
     Ok(())

@@ -10,9 +10,10 @@ ghost use Rattle.py_compile.specs.TaskWeights.{Splits};
 ghost use Rattle.py_compile.specs.Template.{row};
 ghost use Rattle.py_tree.specs.declared.expr.Expr.TheVariants.{Trail};
 
+use crate::count::to_u32;
 use crate::emitter::Emitter;
 use crate::error::Fault;
-use crate::expression::{operand, operator_number, run};
+use crate::expression::{operator_number, run};
 use crate::names::{Names, split};
 use crate::task::{Task, Tasks};
 use py_code::Instr;
@@ -83,7 +84,7 @@ fn unpack<'a>(tasks: &mut Tasks<'a>, items: &'a [Expr]) -> Result<(), Fault>
     ensures done { IfOk result (λ _. tasks.new ≡ Op (Unpack (length items.now)) ∷ Stores items.now ∷ tasks.old) }
     ensures small { result ≡ Err Fault.TooLarge → ⊥ }
 {
-    let n = operand(items.len())?;
+    let n = to_u32(items.len())?;
     tasks.push_two(Task::Op(Instr::Unpack(n)), Task::Stores(items))
 }
 
