@@ -16,7 +16,7 @@ use Rattle.py_names.specs.declared.event.BodyKind.TheVariants as kind
 use Rattle.py_names.specs.declared.statement.Where.{Where}
 use Rattle.py_names.specs.Outline.{bound_name, read, target, read_some, target_some, outside, inside_function, inside_loop, inside_finally, inside_clause, parameters, takes, says, says_block, says_arm, says_arms, says_clause, says_handler, says_handlers, outline}
 use Rattle.py_names.proofs.Says.{says_do, says_assign, says_augment, says_print, says_pass, says_break, says_continue, says_return, says_raise, says_del, says_global, says_assert, says_import, says_from, says_if, says_while, says_for, says_try, says_def, says_class}
-use Rattle.py_compile.specs.Statements.{Body, inners, armed_inner, handled_inner, inner_body, stated, all_stated, stated_arms, stated_handlers, count}
+use Rattle.py_compile.specs.Statements.{Body, inners, armed_count, armed_inner, handled_inner, inner_body, stated, all_stated, stated_arms, stated_handlers, count}
 use Rattle.py_compile.specs.Compounds.{otherwise, tried_of}
 use Rattle.py_compile.specs.Whole.{bodies}
 use Rattle.py_compile.proofs.Stateds.{stated_do, stated_assign, stated_augment, stated_print, stated_pass, stated_break, stated_continue, stated_return, stated_raise, stated_del, stated_global, stated_assert, stated_import, stated_from, stated_if, stated_while, stated_for, inner_try, stated_def, stated_class}
@@ -59,7 +59,8 @@ then_ordinary {ys = ys} {es = es} a b h = subst (λ x. Begin x (es ++ a)) (appen
 
 -- ---- statements
 
--- wherever a statement stands, and whatever numbers its bodies have
+-- Wherever a legal statement stands (l: inside a loop; c: inside an except clause), and whatever numbers its bodies have, from f
+-- on. One that isn't legal may have a `try` with an else and no except clause, whose code leaves the else out.
 pub record Begins (x : Stmt) : Type 0 where
   pub begun : (f : ℕ) (w : Where) (l c : Bool) → legal x l c ≡ true → Begin ((stated x).inner f) (says x w)
 
@@ -101,10 +102,10 @@ handlers_begun (x ∷ hs) h f w l c g =
 -- ---- compound statements
 
 if_begins : (as' : List Arm) (e : Option Clause) → Every (OfArm Begins) as' → IfThere (OfClause Begins) e → Begins (s.If as' e)
-if_begins as' e h g = begins_as (s.If as' e) (λ f. armed_inner (stated_arms as') f ++ (otherwise e).inner (f + _)) (λ w. says_arms as' w ++ says_clause e w)
+if_begins as' e h g = begins_as (s.If as' e) (λ f. armed_inner (stated_arms as') f ++ (otherwise e).inner (f + armed_count (stated_arms as'))) (λ w. says_arms as' w ++ says_clause e w)
     (λ f. ap (λ z. z.inner f) (stated_if as' e)) (says_if as' e)
     (λ f w l c k. let q = and_parts (legal_arms as' l c) (legal_clause e l c) (sym (legal_if as' e l c) ∙ k) in
-    join (arms_begun as' h f w l c q.0) (clause_begun e g _ w l c q.1))
+    join (arms_begun as' h f w l c q.0) (clause_begun e g (f + armed_count (stated_arms as')) w l c q.1))
 
 while_begins : (a : Arm) (e : Option Clause) → OfArm Begins a → IfThere (OfClause Begins) e → Begins (s.While a e)
 while_begins a e h g = begins_as (s.While a e) (λ f. inners (all_stated a.body) f ++ (otherwise e).inner (f + count (all_stated a.body))) (λ w. says_arm a (inside_loop w) ++ says_clause e w)

@@ -45,10 +45,9 @@ pub mod Verifies
 pub mod Assembled
 pub mod LegalRows
 pub mod Clear
-pub mod FreeEvents
 pub mod OrdinaryEvents
 pub mod Begun
-pub mod Unbound
+pub mod OnceNames
 pub mod ParamNames
 pub mod ParamSlots
 pub mod NoneFree

@@ -1,4 +1,4 @@
--- Lists of names: what is put into them stays, and names that differ are as many as their list is long.
+-- The parameters of a `def` that isn't refused differ, and names that differ and stand in a list are no more than it is long.
 use Rattle.std.proofs.Common.{◌≡◌, ◌||◌, ℕ, ◌≤◌, Bool, true, false, List, [], ◌∷◌, ◌++◌, length, map, Option, Some, None, refl, sym, ap, ◌∙◌, subst}
 use Rattle.std.specs.Prelude.{if◌then◌else◌}
 use Rattle.std.specs.Cmp.{IsEquivalence, decided}
@@ -19,65 +19,6 @@ use Rattle.py_compile.proofs.Clear.{Clears, clear_front, clear_back}
 
 same_name : IsEquivalence bytes_eq
 same_name = decided bytes_eq bytes_eq-Decides
-
--- ---- found in a part of a list
-
-pub any_before : {A : Type 0} (p : A → Bool) (xs ys : List A) → list_any p xs ≡ true → list_any p (xs ++ ys) ≡ true
-any_before p xs ys h = list_any-append p xs ys ∙ ap (λ b. b || list_any p ys) h
-
-pub any_behind : {A : Type 0} (p : A → Bool) (xs ys : List A) → list_any p ys ≡ true → list_any p (xs ++ ys) ≡ true
-any_behind p xs ys h = list_any-append p xs ys ∙ or_right (list_any p xs) (list_any p ys) h
-
--- ---- names that are put into a list
-
-module _ (x : List ℕ) where
-  with_keeps : (ns : List (List ℕ)) (m : List ℕ) → has x ns ≡ true → has x (with_name ns m) ≡ true
-  with_keeps ns m h = by_test (has m ns)
-    where
-      by_test : (b : Bool) → has x (if b then ns else ns ++ m ∷ []) ≡ true
-      by_test true = h
-      by_test false = any_before (bytes_eq x) ns (m ∷ []) h
-
-  with_gives : (ns : List (List ℕ)) (m : List ℕ) → bytes_eq x m ≡ true → has x (with_name ns m) ≡ true
-  with_gives ns m h = by_test (has m ns) refl
-    where
-      by_test : (b : Bool) → has m ns ≡ b → has x (if b then ns else ns ++ m ∷ []) ≡ true
-      by_test true e = ap (λ y. has y ns) ((bytes_eq-Decides x m).0 h) ∙ e
-      by_test false e = any_behind (bytes_eq x) ns (m ∷ []) (ap (λ b. b || false) h)
-
-  -- the names that events give
-  noted_keeps : (f : Event → Option (List ℕ)) (ns : List (List ℕ)) (es : List Event) → has x ns ≡ true → has x (noted_all f ns es) ≡ true
-  noted_keeps f ns [] h = h
-  noted_keeps f ns (e ∷ es) h = noted_keeps f (noted ns (f e)) es (by_name (f e))
-    where
-      by_name : (o : Option (List ℕ)) → has x (noted ns o) ≡ true
-      by_name None = h
-      by_name (Some m) = with_keeps ns m h
-
-  pub noted_gives : (f : Event → Option (List ℕ)) (ns : List (List ℕ)) (es : List Event) → list_any (λ e. names_it x (f e)) es ≡ true → has x (noted_all f ns es) ≡ true
-  noted_gives f ns [] h = absurd (cc)
-  noted_gives f ns (e ∷ es) h = by_test (names_it x (f e)) refl h (noted_gives f (noted ns (f e)) es)
-    where
-      by_name : (o : Option (List ℕ)) → names_it x o ≡ true → has x (noted ns o) ≡ true
-      by_name None g = absurd (cc)
-      by_name (Some m) g = with_gives ns m g
-
-      by_test : (b : Bool) → names_it x (f e) ≡ b → (b || list_any (λ v. names_it x (f v)) es) ≡ true → (list_any (λ v. names_it x (f v)) es ≡ true → has x (noted_all f (noted ns (f e)) es) ≡ true) → has x (noted_all f (noted ns (f e)) es) ≡ true
-      by_test true q g more = noted_keeps f (noted ns (f e)) es (by_name (f e) q)
-      by_test false q g more = more g
-
-  -- names, each once
-  once_keeps : (ns xs : List (List ℕ)) → has x ns ≡ true → has x (once_from ns xs) ≡ true
-  once_keeps ns [] h = h
-  once_keeps ns (y ∷ xs) h = once_keeps (with_name ns y) xs (with_keeps ns y h)
-
-  pub once_gives : (ns xs : List (List ℕ)) → has x xs ≡ true → has x (once_from ns xs) ≡ true
-  once_gives ns [] h = absurd (cc)
-  once_gives ns (y ∷ xs) h = by_test (bytes_eq x y) refl h (once_gives (with_name ns y) xs)
-    where
-      by_test : (b : Bool) → bytes_eq x y ≡ b → (b || has x xs) ≡ true → (has x xs ≡ true → has x (once_from (with_name ns y) xs) ≡ true) → has x (once_from (with_name ns y) xs) ≡ true
-      by_test true q g more = once_keeps (with_name ns y) xs (with_gives ns y q)
-      by_test false q g more = more g
 
 -- ---- names that differ
 
