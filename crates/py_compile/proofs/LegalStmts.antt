@@ -1,5 +1,5 @@
 -- The statements of a text whose names resolve are legal.
-use Rattle.std.proofs.Common.{◌≡◌, ◌∙◌, ◌&&◌, ℕ, Bool, true, false, not, List, [], ◌∷◌, ◌++◌, map, Option, Some, None, refl, sym, ap, subst, append_assoc}
+use Rattle.std.proofs.Common.{◌≡◌, ◌∙◌, ◌&&◌, Bool, true, false, not, List, [], ◌∷◌, ◌++◌, map, Option, Some, None, refl, sym, ap, subst, append_assoc}
 use Rattle.std.proofs.lemmas.Bool.{and_parts}
 use Rattle.py_tokens.specs.declared.token.Token.{Token}
 use Rattle.py_tree.specs.Form.{form, is_target, is_single, all_targets}
@@ -20,12 +20,10 @@ use Rattle.py_tree.proofs.Forms.{form_tuple}
 use Rattle.py_names.specs.declared.event.Event.{Event}
 use Rattle.py_names.specs.declared.event.Event.TheVariants.{Leave}
 use Rattle.py_names.specs.declared.statement.Where.{Where}
-use Rattle.py_names.specs.Outline.{with_name, read, target, target_all, read_some, outside, inside_function, inside_loop, inside_finally, inside_clause, parameters, takes, says, says_block, says_arms, says_clause, says_handlers, outline}
-use Rattle.py_names.specs.Outline as out
+use Rattle.py_names.specs.Outline.{outside, inside_function, inside_loop, inside_finally, inside_clause, says, says_block, says_arms, says_clause, says_handlers, outline}
 use Rattle.py_names.specs.Scopes.{fault}
-use Rattle.py_names.proofs.Said.{said_tuple}
-use Rattle.py_names.proofs.Says.{says_do, says_assign, says_augment, says_print, says_pass, says_break, says_continue, says_return, says_raise, says_del, says_global, says_assert, says_import, says_from, says_if, says_while, says_for, says_try, says_def, says_class}
-use Rattle.py_compile.proofs.Clear.{Clears, clear_front, clear_back, only_true, label_clear, outline_clear}
+use Rattle.py_names.proofs.Says.{says_break, says_continue, says_raise, says_if, says_while, says_for, says_try, says_def, says_class}
+use Rattle.py_compile.proofs.Clear.{Clears, clear_front, clear_back, only_true, outline_clear}
 use Rattle.py_compile.proofs.LegalRows.{legal_arm, legal_arms, legal_clause, legal_handlers, clause_there, legal_do, legal_assign, legal_augment, legal_print, legal_pass, legal_break, legal_continue, legal_return, legal_raise, legal_del, legal_global, legal_assert, legal_import, legal_from, legal_if, legal_while, legal_for, legal_try, legal_def, legal_class}
 use Rattle.py_compile.proofs.Sane.{sane, all_sane, sane_some}
 use Rattle.py_compile.proofs.Legal.{are_targets, is_target_of, sane_defaults, legal, legal_all}

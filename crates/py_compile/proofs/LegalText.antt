@@ -1,5 +1,5 @@
 -- The expressions of a text are sane.
-use Rattle.std.proofs.Common.{◌≡◌, ◌∙◌, ◌&&◌, ℕ, Bool, true, List, [], Option, Some, None, refl, sym, ap, subst}
+use Rattle.std.proofs.Common.{◌≡◌, ◌∙◌, ◌&&◌, ℕ, Bool, true, List, [], Option, Some, None, refl, ap}
 use Rattle.py_tokens.specs.declared.token.Token.{Token}
 use Rattle.py_tree.specs.declared.expr.Expr.{Expr}
 use Rattle.py_tree.specs.declared.expr.Trailer.{Trailer}

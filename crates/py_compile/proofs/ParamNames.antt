@@ -1,20 +1,16 @@
 -- The parameters of a `def` that isn't refused differ, and names that differ and stand in a list are no more than it is long.
-use Rattle.std.proofs.Common.{◌≡◌, ◌||◌, ℕ, ◌≤◌, Bool, true, false, List, [], ◌∷◌, ◌++◌, length, map, Option, Some, None, refl, sym, ap, ◌∙◌, subst}
+use Rattle.std.proofs.Common.{◌≡◌, ◌||◌, ℕ, ◌≤◌, Bool, true, false, List, [], ◌∷◌, ◌++◌, length, map, refl, sym, ◌∙◌, subst}
 use Rattle.std.specs.Prelude.{if◌then◌else◌}
 use Rattle.std.specs.Cmp.{IsEquivalence, decided}
-use Rattle.std.specs.List.{list_any, AllByRecursion, IsDistinct}
+use Rattle.std.specs.List.{AllByRecursion, IsDistinct}
 use Rattle.std.specs.Str.{bytes_eq}
-use Rattle.std.proofs.lemmas.Bool.{or_parts, or_right}
+use Rattle.std.proofs.lemmas.Bool.{or_parts}
 use Rattle.std.proofs.lemmas.List.Folds.{list_any-append}
 use Rattle.std.proofs.lemmas.Map.Made.{length-le_from_is_member}
 use Rattle.std.proofs.lemmas.Slice.Eq.{bytes_eq-Decides}
 use Rattle.py_tree.specs.declared.stmt.Param.{Param}
-use Rattle.py_names.specs.declared.event.Event.{Event}
 use Rattle.py_names.specs.declared.event.Event.TheVariants.{Doubled}
 use Rattle.py_names.specs.Outline.{has, with_name, label, repeated, read_some, parameters}
-use Rattle.py_names.specs.Scopes.{noted, noted_all}
-use Rattle.py_names.specs.ScopeLaws.{names_it}
-use Rattle.py_compile.specs.Compiles.{once_from}
 use Rattle.py_compile.proofs.Clear.{Clears, clear_front, clear_back}
 
 same_name : IsEquivalence bytes_eq

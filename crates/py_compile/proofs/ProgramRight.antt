@@ -1,7 +1,6 @@
 -- The program of a text's tree and its scopes is right, where nothing is too large.
-use Rattle.std.proofs.Common.{◌≡◌, ◌∙◌, ◌||◌, ℕ, ◌<◌, ◌≤◌, List, [], ◌∷◌, ◌++◌, None, Bool, true, false, nat_lt, refl, sym, ap, subst, length, get_or}
-use Rattle.std.specs.Prelude.{Ok, if◌then◌else◌}
-use Rattle.std.specs.Str.{bytes_eq}
+use Rattle.std.proofs.Common.{◌≡◌, ◌∙◌, ℕ, ◌≤◌, List, [], None, Bool, true, false, nat_lt, refl, sym, ap, subst, get_or}
+use Rattle.std.specs.Prelude.{Ok}
 use Rattle.std.proofs.lemmas.Bool.{ltb-true, ltb-false}
 use Rattle.std.proofs.lemmas.List.{get_or_past, length-map}
 use Rattle.py_code.specs.declared.program.Program.{Program}
