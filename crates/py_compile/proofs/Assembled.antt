@@ -1,4 +1,4 @@
--- The program of a legal module that isn't too large is right: the parts put together.
+-- The program of a legal module is right, where nothing is too large: roots, codes and what they say of one another.
 use Rattle.std.proofs.Common.{◌≡◌, ◌∙◌, ◌||◌, ℕ, zero, suc, ◌+◌, ◌<◌, ◌≤◌, ◌^◌, List, [], ◌∷◌, ◌++◌, Option, Some, None, Bool, true, false, nat_lt, refl, sym, ap, subst, arith, length, map, get_or, length-append, append_assoc}
 use Rattle.std.specs.Prelude.{All, if◌then◌else◌, slice_get}
 use Rattle.std.specs.List.{list_any}
@@ -35,8 +35,9 @@ use Rattle.py_compile.proofs.RootsMade.{parts, roots_right}
 use Rattle.py_compile.proofs.Sits.{Opens, opens_front, opens_back, Sits, sub_parts, BodiesSit, AllOpen, module_opens}
 use Rattle.py_compile.proofs.Clean.{Fit, NoteOk, IsClean, template_clean, parts_clean}
 use Rattle.py_compile.proofs.StmtClean.{Flagged, BodiesClean, module_clean}
-use Rattle.py_compile.proofs.Verifies.{no_setup, every_all, opens_none, belongs_from, body_at, body_past, number_is}
-use Rattle.py_compile.proofs.Whole as made
+use Rattle.py_compile.proofs.BelongRows.{no_setup, every_all, opens_none, belongs_from, body_at, body_past, number_is}
+use Rattle.py_compile.proofs.CodesRight as made
+use Rattle.py_compile.proofs.Compiled.{least_apart}
 use Rattle.py_compile.proofs.ParamSlots.{ParamsFit}
 
 -- the instructions of a whole code: those that fit, behind SETUP in the first one
@@ -83,12 +84,7 @@ whole_lined k (suc j) y n h d few =
     let c = t.sized [] 0 (h + 0) in
     omega (arith, l, c, length-append b.lines (y.line ∷ y.line ∷ []), length-append (b.code [] 0 (h + 0)) (Const NoValue ∷ Return ∷ []))
 
--- the parts of what is too large
-least_none : (a c : Option ℕ) → whole.least a c ≡ None → (a ≡ None) × (c ≡ None)
-least_none None c e = (refl, e)
-least_none (Some a) None e = absurd (cc)
-least_none (Some a) (Some c) e = absurd (cc)
-
+-- a body that is no line of what is too large
 large_none : (b : Bool) (l : ℕ) → (if b then Some l else None) ≡ None → b ≡ false
 large_none true l e = absurd (cc)
 large_none false l e = refl
@@ -269,7 +265,7 @@ module _ (locals : List (List (List ℕ))) (ss : List Stmt) where
     codes_right : Cleans 0 (whole.bodies ss) → (j : ℕ) (ys : List Body) → j + length ys ≡ length cs → BodiesOk L T C Ks P j ys → Cleans j ys → AllOpen N all j ys → whole.large_bodies nm j ys ≡ None → ParamsFit locals j ys → AreRight cs rs j (codes j ys)
     codes_right h j [] n d c o e q = tt
     codes_right h j (y ∷ ys) n d c o e q =
-        let p = least_none (whole.large_at j y (nm j y)) (whole.large_bodies nm (j + 1) ys) e in
+        let p = least_apart (whole.large_at j y (nm j y)) (whole.large_bodies nm (j + 1) ys) e in
         (code_ok h j y (omega (arith, n)) d.0 c.0 o.0 p.0 q.0, codes_right h (j + 1) ys (omega (arith, n)) d.1 c.1 o.1 p.1 q.1)
 
     pub right_program : legal_all ss false false ≡ true → ParamsFit locals 0 (whole.bodies ss) → whole.too_large locals ss ≡ None → IsRightProgram (record { codes = cs; roots = rs })

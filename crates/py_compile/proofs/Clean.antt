@@ -290,8 +290,8 @@ module _ (ok : ℕ → Type 0) (flags : ℕ → Bool) (z : Bool) where
     add_by_clean ln o (x ∷ y' ∷ ts) c h q y d = add_by_clean ln o (y' ∷ ts) c h.1 q y d
 
     -- one arm for each kind of node
-    name_cl : (x : List ℕ) → ECl (e.Name x)
-    name_cl x = record {
+    clean_name : (x : List ℕ) → ECl (e.Name x)
+    clean_name x = record {
       value = λ ln w.
           let u : NW (name_read b x) = subst (λ q. NW q.read) (uses.used_name b x) w in
           subst (λ q. IsClean q.value) (sym (rows.coded_name n ln x)) (by_none ln (is_none x) u);
@@ -305,38 +305,38 @@ module _ (ok : ℕ → Type 0) (flags : ℕ → Bool) (z : Bool) where
         by_none ln true u = one_clean ln (Const NoValue) tt
         by_none ln false u = one_clean ln (load (home n x)) (load_clean x u)
 
-    int_cl : (i : ℤ) → ECl (e.Int i)
-    int_cl i = plain (e.Int i) (λ ln. ap (λ q. q.place) (rows.coded_int n ln i)) (λ ln w. subst (λ q. IsClean q.value) (sym (rows.coded_int n ln i)) (one_clean ln (Const (IntValue i)) tt))
+    clean_int : (i : ℤ) → ECl (e.Int i)
+    clean_int i = plain (e.Int i) (λ ln. ap (λ q. q.place) (rows.coded_int n ln i)) (λ ln w. subst (λ q. IsClean q.value) (sym (rows.coded_int n ln i)) (one_clean ln (Const (IntValue i)) tt))
 
-    str_cl : (x : List ℕ) → ECl (e.Str x)
-    str_cl x = plain (e.Str x) (λ ln. ap (λ q. q.place) (rows.coded_str n ln x)) (λ ln w. subst (λ q. IsClean q.value) (sym (rows.coded_str n ln x)) (one_clean ln (Const (Root (text n x))) tt))
+    clean_str : (x : List ℕ) → ECl (e.Str x)
+    clean_str x = plain (e.Str x) (λ ln. ap (λ q. q.place) (rows.coded_str n ln x)) (λ ln w. subst (λ q. IsClean q.value) (sym (rows.coded_str n ln x)) (one_clean ln (Const (Root (text n x))) tt))
 
-    group_cl : (a : Expr) → ECl a → ECl (e.Group a)
-    group_cl a o = record {
+    clean_group : (a : Expr) → ECl a → ECl (e.Group a)
+    clean_group a o = record {
       value = λ ln w. subst (λ q. IsClean q.value) (sym (rows.coded_group n ln a)) (o.value ln (subst (λ q. NW q.read) (uses.used_group b a) w));
       place = λ ln w. subst (λ q. PlaceClean ln q.place) (sym (rows.coded_group n ln a)) (o.place ln (subst (λ q. NW q.target) (uses.used_group b a) w));
       add = λ ln q y w c. subst (λ r. IsClean (add_at ln r.place q y)) (sym (rows.coded_group n ln a)) (o.add ln q y (subst (λ q. NW q.read) (uses.used_group b a) w) c);
     }
 
-    tuple_cl : (xs : List Expr) → Every ECl xs → ECl (e.Tuple xs)
-    tuple_cl xs os = record {
+    clean_tuple : (xs : List Expr) → Every ECl xs → ECl (e.Tuple xs)
+    clean_tuple xs os = record {
       value = λ ln w. subst (λ q. IsClean q.value) (sym (rows.coded_tuple n ln xs)) (template_clean ln 0 0 (Alone (row (values n ln xs)) ∷ Op (BuildTuple (length xs)) ∷ []) (row_clean (values n ln xs) (values_clean ln xs os (subst (λ q. NW q.read) (uses.used_tuple b xs) w)), (tt, tt)));
       place = λ ln w. subst (λ q. PlaceClean ln q.place) (sym (rows.coded_tuple n ln xs)) (spread_clean ln xs os (subst (λ q. NW q.target) (uses.used_tuple b xs) w));
       add = λ ln q y w c. subst (λ r. IsClean (add_at ln r.place q y)) (sym (rows.coded_tuple n ln xs)) (nothing_clean ln);
     }
 
-    list_cl : (xs : List Expr) → Every ECl xs → ECl (e.List xs)
-    list_cl xs os = record {
+    clean_list : (xs : List Expr) → Every ECl xs → ECl (e.List xs)
+    clean_list xs os = record {
       value = λ ln w. subst (λ q. IsClean q.value) (sym (rows.coded_list n ln xs)) (template_clean ln 0 0 (Alone (row (values n ln xs)) ∷ Op (BuildList (length xs)) ∷ []) (row_clean (values n ln xs) (values_clean ln xs os (subst (λ q. NW q.read) (uses.used_list b xs) w)), (tt, tt)));
       place = λ ln w. subst (λ q. PlaceClean ln q.place) (sym (rows.coded_list n ln xs)) (spread_clean ln xs os (subst (λ q. NW q.target) (uses.used_list b xs) w));
       add = λ ln q y w c. subst (λ r. IsClean (add_at ln r.place q y)) (sym (rows.coded_list n ln xs)) (nothing_clean ln);
     }
 
-    dict_cl : (ps : List Pair) → Every (OfPair ECl TCl) ps → ECl (e.Dict ps)
-    dict_cl ps os = plain (e.Dict ps) (λ ln. ap (λ q. q.place) (rows.coded_dict n ln ps)) (λ ln w. subst (λ q. IsClean q.value) (sym (rows.coded_dict n ln ps)) (template_clean ln 0 0 (Alone (row (pairs n ln ps)) ∷ Op (BuildDict (length ps)) ∷ []) (row_clean (pairs n ln ps) (pairs_clean ln ps os (subst (λ q. NW q.read) (uses.used_dict b ps) w)), (tt, tt))))
+    clean_dict : (ps : List Pair) → Every (OfPair ECl TCl) ps → ECl (e.Dict ps)
+    clean_dict ps os = plain (e.Dict ps) (λ ln. ap (λ q. q.place) (rows.coded_dict n ln ps)) (λ ln w. subst (λ q. IsClean q.value) (sym (rows.coded_dict n ln ps)) (template_clean ln 0 0 (Alone (row (pairs n ln ps)) ∷ Op (BuildDict (length ps)) ∷ []) (row_clean (pairs n ln ps) (pairs_clean ln ps os (subst (λ q. NW q.read) (uses.used_dict b ps) w)), (tt, tt))))
 
-    trail_cl : (a : Expr) (ts : List Trailer) → ECl a → Every TCl ts → ECl (e.Trail a ts)
-    trail_cl a ts o os = record {
+    clean_trail : (a : Expr) (ts : List Trailer) → ECl a → Every TCl ts → ECl (e.Trail a ts)
+    clean_trail a ts o os = record {
       value = λ ln w. let u = reads w in subst (λ q. IsClean q.value) (sym (rows.coded_trail n ln a ts)) (trailed_clean ln (value n ln a) (trailers n ln ts) (o.value ln (front (read b a) (read_trailers b ts) u)) (trailers_clean ln ts os (back (read b a) (read_trailers b ts) u)));
       place = λ ln w.
           let u : NW (read b a ++ read_trailers b ts) = subst (λ q. NW q.target) (uses.used_trail b a ts) w in
@@ -354,39 +354,39 @@ module _ (ok : ℕ → Type 0) (flags : ℕ → Bool) (z : Bool) where
         object : (ln : ℕ) → NW (read b a ++ read_trailers b ts) → Every TrailedClean (trailers n ln ts) → IsClean (trailed n ln (value n ln a) (front_of (trailers n ln ts)))
         object ln u r = trailed_clean ln (value n ln a) (front_of (trailers n ln ts)) (o.value ln (front (read b a) (read_trailers b ts) u)) (front_clean (trailers n ln ts) r)
 
-    power_cl : (a d : Expr) → ECl a → ECl d → ECl (e.Power a d)
-    power_cl a d o q = plain (e.Power a d) (λ ln. ap (λ q. q.place) (rows.coded_power n ln a d)) (λ ln w.
+    clean_power : (a d : Expr) → ECl a → ECl d → ECl (e.Power a d)
+    clean_power a d o q = plain (e.Power a d) (λ ln. ap (λ q. q.place) (rows.coded_power n ln a d)) (λ ln w.
         let u : NW (read b a ++ read b d) = subst (λ q. NW q.read) (uses.used_power b a d) w in
         subst (λ q. IsClean q.value) (sym (rows.coded_power n ln a d)) (template_clean ln 0 0 (Alone (value n ln a) ∷ Alone (value n ln d) ∷ Op (Binary POWER) ∷ []) (o.value ln (front (read b a) (read b d) u), (q.value ln (back (read b a) (read b d) u), (tt, tt)))))
 
-    unary_cl : (g : Sign) (a : Expr) → ECl a → ECl (e.Unary g a)
-    unary_cl g a o = plain (e.Unary g a) (λ ln. ap (λ q. q.place) (rows.coded_unary n ln g a)) (λ ln w. subst (λ q. IsClean q.value) (sym (rows.coded_unary n ln g a)) (template_clean ln 0 0 (Alone (value n ln a) ∷ Op (Unary (sign_number g)) ∷ []) (o.value ln (subst (λ q. NW q.read) (uses.used_unary b g a) w), (tt, tt))))
+    clean_unary : (g : Sign) (a : Expr) → ECl a → ECl (e.Unary g a)
+    clean_unary g a o = plain (e.Unary g a) (λ ln. ap (λ q. q.place) (rows.coded_unary n ln g a)) (λ ln w. subst (λ q. IsClean q.value) (sym (rows.coded_unary n ln g a)) (template_clean ln 0 0 (Alone (value n ln a) ∷ Op (Unary (sign_number g)) ∷ []) (o.value ln (subst (λ q. NW q.read) (uses.used_unary b g a) w), (tt, tt))))
 
-    chain_cl : (l : Level) (a : Expr) (ls : List Link) → ECl a → Every (OfLink ECl TCl) ls → ECl (e.Chain l a ls)
-    chain_cl l a ls o os = plain (e.Chain l a ls) (λ ln. ap (λ q. q.place) (rows.coded_chain n ln l a ls)) (λ ln w.
+    clean_chain : (l : Level) (a : Expr) (ls : List Link) → ECl a → Every (OfLink ECl TCl) ls → ECl (e.Chain l a ls)
+    clean_chain l a ls o os = plain (e.Chain l a ls) (λ ln. ap (λ q. q.place) (rows.coded_chain n ln l a ls)) (λ ln w.
         let u : NW (read b a ++ read_links b ls) = subst (λ q. NW q.read) (uses.used_chain b l a ls) w in
         subst (λ q. IsClean q.value) (sym (rows.coded_chain n ln l a ls)) (chain_clean ln l (value n ln a) (linked n ln ls) (o.value ln (front (read b a) (read_links b ls) u)) (links_parts ln ls os (back (read b a) (read_links b ls) u))))
 
-    not_cl : (a : Expr) → ECl a → ECl (e.Not a)
-    not_cl a o = plain (e.Not a) (λ ln. ap (λ q. q.place) (rows.coded_not n ln a)) (λ ln w. subst (λ q. IsClean q.value) (sym (rows.coded_not n ln a)) (template_clean ln 0 0 (Alone (value n ln a) ∷ Op Not ∷ []) (o.value ln (subst (λ q. NW q.read) (uses.used_not b a) w), (tt, tt))))
+    clean_not : (a : Expr) → ECl a → ECl (e.Not a)
+    clean_not a o = plain (e.Not a) (λ ln. ap (λ q. q.place) (rows.coded_not n ln a)) (λ ln w. subst (λ q. IsClean q.value) (sym (rows.coded_not n ln a)) (template_clean ln 0 0 (Alone (value n ln a) ∷ Op Not ∷ []) (o.value ln (subst (λ q. NW q.read) (uses.used_not b a) w), (tt, tt))))
 
-    choice_cl : (a d g : Expr) → ECl a → ECl d → ECl g → ECl (e.Choice a d g)
-    choice_cl a d g o q r = plain (e.Choice a d g) (λ ln. ap (λ q. q.place) (rows.coded_choice n ln a d g)) (λ ln w.
+    clean_choice : (a d g : Expr) → ECl a → ECl d → ECl g → ECl (e.Choice a d g)
+    clean_choice a d g o q r = plain (e.Choice a d g) (λ ln. ap (λ q. q.place) (rows.coded_choice n ln a d g)) (λ ln w.
         let u : NW (read b a ++ read b d ++ read b g) = subst (λ q. NW q.read) (uses.used_choice b a d g) w in
         let v = front (read b a ++ read b d) (read b g) u in
         subst (λ q. IsClean q.value) (sym (rows.coded_choice n ln a d g)) (template_clean ln 0 2 (Alone (value n ln d) ∷ To 0 JumpFalse N ∷ Alone (value n ln a) ∷ To 0 Jump E ∷ Here N ∷ Alone (value n ln g) ∷ Here E ∷ []) (q.value ln (back (read b a) (read b d) v), ((λ q. tt), (o.value ln (front (read b a) (read b d) v), ((λ q. tt), (tt, (r.value ln (back (read b a ++ read b d) (read b g) u), (tt, tt)))))))))
 
-    attribute_cl : (x : List ℕ) → TCl (t.Attribute x)
-    attribute_cl x = record { parts = λ ln w. subst TrailedClean (sym (rows.coded_attribute n ln x)) tt }
+    clean_attribute : (x : List ℕ) → TCl (t.Attribute x)
+    clean_attribute x = record { parts = λ ln w. subst TrailedClean (sym (rows.coded_attribute n ln x)) tt }
 
-    index_cl : (a : Expr) → ECl a → TCl (t.Index a)
-    index_cl a o = record { parts = λ ln w. subst TrailedClean (sym (rows.coded_index n ln a)) (o.value ln (subst NW (uses.used_index b a) w)) }
+    clean_index : (a : Expr) → ECl a → TCl (t.Index a)
+    clean_index a o = record { parts = λ ln w. subst TrailedClean (sym (rows.coded_index n ln a)) (o.value ln (subst NW (uses.used_index b a) w)) }
 
-    slice_cl : (a d : Option Expr) → IfThere ECl a → IfThere ECl d → TCl (t.Slice a d)
-    slice_cl a d o q = record { parts = λ ln w. let u : NW (read_some b a ++ read_some b d) = subst NW (uses.used_slice b a d) w in subst TrailedClean (sym (rows.coded_slice n ln a d)) (some_clean ln a o (front (read_some b a) (read_some b d) u), some_clean ln d q (back (read_some b a) (read_some b d) u)) }
+    clean_slice : (a d : Option Expr) → IfThere ECl a → IfThere ECl d → TCl (t.Slice a d)
+    clean_slice a d o q = record { parts = λ ln w. let u : NW (read_some b a ++ read_some b d) = subst NW (uses.used_slice b a d) w in subst TrailedClean (sym (rows.coded_slice n ln a d)) (some_clean ln a o (front (read_some b a) (read_some b d) u), some_clean ln d q (back (read_some b a) (read_some b d) u)) }
 
-    call_cl : (xs : List Expr) (ks : List Named) → Every ECl xs → Every (OfNamed ECl TCl) ks → TCl (t.Call xs ks)
-    call_cl xs ks os qs = record {
+    clean_call : (xs : List Expr) (ks : List Named) → Every ECl xs → Every (OfNamed ECl TCl) ks → TCl (t.Call xs ks)
+    clean_call xs ks os qs = record {
       parts = λ ln w.
           let u : NW (read_all b xs ++ read_named b ks ++ Keys b.number (key_names ks) ∷ []) = subst NW (uses.used_call b xs ks) w in
           let v = front (read_all b xs ++ read_named b ks) (Keys b.number (key_names ks) ∷ []) u in
@@ -394,7 +394,7 @@ module _ (ok : ℕ → Type 0) (flags : ℕ → Bool) (z : Bool) where
     }
 
     pub expr_clean : (x : Expr) → ECl x
-    expr_clean = expr_induct ECl TCl (record { name = name_cl; int = int_cl; str = str_cl; group = group_cl; tuple = tuple_cl; list = list_cl; dict = dict_cl; trail = trail_cl; power = power_cl; unary = unary_cl; chain = chain_cl; not = not_cl; choice = choice_cl; attribute = attribute_cl; index = index_cl; slice = slice_cl; call = call_cl })
+    expr_clean = expr_induct ECl TCl (record { name = clean_name; int = clean_int; str = clean_str; group = clean_group; tuple = clean_tuple; list = clean_list; dict = clean_dict; trail = clean_trail; power = clean_power; unary = clean_unary; chain = clean_chain; not = clean_not; choice = clean_choice; attribute = clean_attribute; index = clean_index; slice = clean_slice; call = clean_call })
 
     pub exprs_clean : (xs : List Expr) → Every ECl xs
     exprs_clean [] = tt

@@ -24,6 +24,7 @@ use Rattle.py_compile.proofs.Tallying.{bump_is}
 use Rattle.py_compile.proofs.UsedStatements.{block}
 use Rattle.py_compile.specs.Compiles.{known_by, known_in}
 use Rattle.py_compile.specs.Whole.{whole, slots_named, code_at, large_at, least, codes_from, large_bodies, roots_with}
+use Rattle.py_compile.proofs.Gathers.{numbered_more}
 use Rattle.py_code.specs.Right.{text_root, cell_root, class_roots}
 
 -- ---- what was gathered
@@ -102,12 +103,6 @@ module _ (all : List (List (List ℕ))) (ss : List Stmt) (n : ℕ) where
 pub length_numbered : (f : ℕ) (xs : List Gathered) → length (numbered f xs) ≡ length xs
 length_numbered f [] = refl
 length_numbered f (x ∷ xs) = ap suc (length_numbered (f + 1) xs)
-
-pub numbered_more : (f : ℕ) (xs : List Gathered) (y : Gathered) → numbered f (xs ++ y ∷ []) ≡ numbered f xs ++ body_of (f + length xs) y ∷ []
-numbered_more f [] y = let e : f ≡ f + 0 = omega arith in ap (λ k. body_of k y ∷ []) e
-numbered_more f (x ∷ xs) y =
-    let e : f + 1 + length xs ≡ f + suc (length xs) = omega arith in
-    ap (λ z. body_of f x ∷ z) (numbered_more (f + 1) xs y) ∙ ap (λ k. body_of f x ∷ numbered (f + 1) xs ++ body_of k y ∷ []) e
 
 length_take_below : {X : Type 0} (xs : List X) (i : ℕ) → i < length xs → length (take i xs) ≡ i
 length_take_below [] i lt = absurd (omega (arith, lt))

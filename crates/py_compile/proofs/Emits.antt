@@ -8,7 +8,7 @@ use Rattle.py_compile.specs.declared.draft.Draft.TheVariants.{Op as DraftOp, To 
 use Rattle.py_compile.specs.declared.draft.Far.{Far}
 use Rattle.py_compile.specs.Template.{Frame, Piece, Part, Op, Hidden, To, Here, Alone, Sub, part_size, part_slots, part_lines, size_of, slots_of, lines_of, stands, place_of, labels_from, label_at, slot_at, own_slot, part_code, code_of, template}
 use Rattle.py_compile.specs.State.{St, put, marked, opened, jump_of, done_one, done, number, labels_there, frame_there, no_frames, Agree, Emitted}
-use Rattle.py_compile.proofs.Typed.{has_label, all_stand, stands_below}
+use Rattle.py_compile.proofs.Typed.{has_label, all_stand, if_both, stands_below}
 
 -- each label stands once, and below a count
 abbrev pub not_twice : Part → List Part → Bool
@@ -26,10 +26,6 @@ part_below count _ = true
 abbrev pub below : ℕ → List Part → Bool
 below count [] = true
 below count (x ∷ xs) = if part_below count x then below count xs else false
-
-if_both : (a b : Bool) → IsTrue (if a then b else false) → IsTrue a × IsTrue b
-if_both true b h = (refl, h)
-if_both false b h = cc
 
 once_use : (x : Part) (xs : List Part) (k : ℕ) → IsTrue (not_twice x xs) → IsTrue (stands x k) → IsTrue (has_label xs k) → ⊥
 once_use (Here l) xs k h st has = let e : l ≡ k = eqb-true l k st in no_both (has_label xs l) h (rw e has)

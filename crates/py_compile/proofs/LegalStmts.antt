@@ -1,4 +1,4 @@
--- The statements of a text whose names resolve are legal.
+-- The statements of a text whose names resolve are legal; so the module is legal.
 use Rattle.std.proofs.Common.{◌≡◌, ◌∙◌, ◌&&◌, Bool, true, false, not, List, [], ◌∷◌, ◌++◌, map, Option, Some, None, refl, sym, ap, subst, append_assoc}
 use Rattle.std.proofs.lemmas.Bool.{and_parts}
 use Rattle.py_tokens.specs.declared.token.Token.{Token}
@@ -29,7 +29,7 @@ use Rattle.py_compile.proofs.Sane.{sane, all_sane, sane_some}
 use Rattle.py_compile.proofs.Legal.{are_targets, is_target_of, sane_defaults, legal, legal_all}
 use Rattle.py_compile.proofs.Legal as legality
 use Rattle.py_compile.proofs.SaneRows.{sane_tuple}
-use Rattle.py_compile.proofs.LegalText.{both_true, expr_sane, exprs_sane, tests_sane, maybe_sane}
+use Rattle.py_compile.proofs.LegalExprs.{both_true, expr_sane, exprs_sane, tests_sane, maybe_sane}
 
 -- targets
 targets_cons : (a : Expr) (es : List Expr) → is_target false (form a) ≡ true → sane a ≡ true → are_targets es ≡ true → are_targets (a ∷ es) ≡ true

@@ -2,6 +2,7 @@ pub mod Typed
 pub mod Ops
 pub mod Values
 pub mod Blocks
+pub mod Constructs
 pub mod Emits
 pub mod Rows
 pub mod RowsEqual
@@ -36,12 +37,12 @@ pub mod StmtSimple
 pub mod FoldInduct
 pub mod StmtTyped
 pub mod Numbers
-pub mod Whole
+pub mod CodesRight
 pub mod RootsMade
 pub mod Sits
 pub mod Clean
 pub mod StmtClean
-pub mod Verifies
+pub mod BelongRows
 pub mod Assembled
 pub mod LegalRows
 pub mod Clear
@@ -51,6 +52,6 @@ pub mod OnceNames
 pub mod ParamNames
 pub mod ParamSlots
 pub mod NoneFree
-pub mod LegalText
+pub mod LegalExprs
 pub mod LegalStmts
 pub mod ProgramRight

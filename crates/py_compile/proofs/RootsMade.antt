@@ -51,12 +51,9 @@ main_last ts cs h = by_test (has own_name cs) h
     by_test true e = last_is None ts main_name
     by_test false e = absurd (cc)
 
-abbrev is_long : List ℕ → Bool
-is_long x = nat_lt 1048576 (length x)
-
-all_short : (ts : List (List ℕ)) → list_any is_long ts ≡ false → All (λ t. length t ≤ 1048576) ts
+all_short : (ts : List (List ℕ)) → list_any whole.is_long ts ≡ false → All (λ t. length t ≤ 1048576) ts
 all_short [] h = All-nil (λ t. length t ≤ 1048576)
-all_short (t ∷ ts) h = let q = or_parts (is_long t) (list_any is_long ts) h in All-cons (λ t. length t ≤ 1048576) t ts (ltb-false 1048576 (length t) q.0) (all_short ts q.1)
+all_short (t ∷ ts) h = let q = or_parts (whole.is_long t) (list_any whole.is_long ts) h in All-cons (λ t. length t ≤ 1048576) t ts (ltb-false 1048576 (length t) q.0) (all_short ts q.1)
 
 main_short : (cs : List (List ℕ)) → All (λ t. length t ≤ 1048576) (main_texts cs)
 main_short cs = by_test (has own_name cs)
@@ -80,8 +77,8 @@ module _ (locals : List (List (List ℕ))) (ss : List Stmt) where
 
   pub roots_right : whole.too_many locals ss ≡ false → HasRoots (whole.roots locals ss)
   roots_right e =
-      let p = if_false (nat_lt 65535 (length (whole.bodies ss))) (if nat_lt 65535 (length (whole.roots locals ss)) then true else list_any is_long (whole.texts locals ss)) e in
-      let q = if_false (nat_lt 65535 (length (whole.roots locals ss))) (list_any is_long (whole.texts locals ss)) p.1 in
+      let p = if_false (nat_lt 65535 (length (whole.bodies ss))) (if nat_lt 65535 (length (whole.roots locals ss)) then true else list_any whole.is_long (whole.texts locals ss)) e in
+      let q = if_false (nat_lt 65535 (length (whole.roots locals ss))) (list_any whole.is_long (whole.texts locals ss)) p.1 in
       let ts = whole.texts locals ss ++ main_texts (whole.cells locals ss) in
       let cs = whole.cells locals ss in
       let few = ltb-false 65535 (length (whole.roots locals ss)) q.0 in

@@ -76,22 +76,22 @@ module _ (N : ℕ → Bool → Known) (all : List Instr) where
   BodiesSit f [] = Unit {0}
   BodiesSit f (y ∷ ys) = Sits (y.block (N f y.is_class)) × BodiesSit (f + 1) ys
 
-  bs_front : (f : ℕ) (a c : List Body) → BodiesSit f (a ++ c) → BodiesSit f a
-  bs_front f [] c h = tt
-  bs_front f (y ∷ a) c h = (h.0, bs_front (f + 1) a c h.1)
+  sits_front : (f : ℕ) (a c : List Body) → BodiesSit f (a ++ c) → BodiesSit f a
+  sits_front f [] c h = tt
+  sits_front f (y ∷ a) c h = (h.0, sits_front (f + 1) a c h.1)
 
-  bs_back : (f m : ℕ) (a c : List Body) → length a ≡ m → BodiesSit f (a ++ c) → BodiesSit (f + m) c
-  bs_back f m [] c e h = let k : f ≡ f + m = omega (arith, e) in subst (λ g. BodiesSit g c) k h
-  bs_back f m (y ∷ a) c e h = let k : f + 1 + length a ≡ f + m = omega (arith, e) in subst (λ g. BodiesSit g c) k (bs_back (f + 1) (length a) a c refl h.1)
+  sits_back : (f m : ℕ) (a c : List Body) → length a ≡ m → BodiesSit f (a ++ c) → BodiesSit (f + m) c
+  sits_back f m [] c e h = let k : f ≡ f + m = omega (arith, e) in subst (λ g. BodiesSit g c) k h
+  sits_back f m (y ∷ a) c e h = let k : f + 1 + length a ≡ f + m = omega (arith, e) in subst (λ g. BodiesSit g c) k (sits_back (f + 1) (length a) a c refl h.1)
 
   -- each of these that is a class's has its CLASS_BODY
   abbrev pub AllOpen : ℕ → List Body → Type 0
   AllOpen f [] = Unit {0}
   AllOpen f (y ∷ ys) = (y.is_class ≡ true → Opens all f) × AllOpen (f + 1) ys
 
-  ao_join : (f m : ℕ) (a c : List Body) → length a ≡ m → AllOpen f a → AllOpen (f + m) c → AllOpen f (a ++ c)
-  ao_join f m [] c e h g = let k : f + m ≡ f = omega (arith, e) in subst (λ i. AllOpen i c) k g
-  ao_join f m (y ∷ a) c e h g = let k : f + m ≡ f + 1 + length a = omega (arith, e) in (h.0, ao_join (f + 1) (length a) a c refl h.1 (subst (λ i. AllOpen i c) k g))
+  opens_join : (f m : ℕ) (a c : List Body) → length a ≡ m → AllOpen f a → AllOpen (f + m) c → AllOpen f (a ++ c)
+  opens_join f m [] c e h g = let k : f + m ≡ f = omega (arith, e) in subst (λ i. AllOpen i c) k g
+  opens_join f m (y ∷ a) c e h g = let k : f + m ≡ f + 1 + length a = omega (arith, e) in (h.0, opens_join (f + 1) (length a) a c refl h.1 (subst (λ i. AllOpen i c) k g))
 
   -- a statement
   pub record SitRel (s : Stated) : Type 0 where
@@ -115,14 +115,14 @@ module _ (N : ℕ → Bool → Known) (all : List Instr) where
   list_sits [] rs j z c f p b = tt
   list_sits (s ∷ ss) rs j z c f p b =
       let t = inners ss (f + s.bodies) in
-      ao_join f s.bodies (s.inner f) t (rs.0.long f) (rs.0.sits j z c f p.0 (bs_front f (s.inner f) t b)) (list_sits ss rs.1 j z c (f + s.bodies) p.1 (bs_back f s.bodies (s.inner f) t (rs.0.long f) b))
+      opens_join f s.bodies (s.inner f) t (rs.0.long f) (rs.0.sits j z c f p.0 (sits_front f (s.inner f) t b)) (list_sits ss rs.1 j z c (f + s.bodies) p.1 (sits_back f s.bodies (s.inner f) t (rs.0.long f) b))
 
   block_sit : (ss : List Stated) → Every SitRel ss → SitRel (block ss)
   block_sit ss rs = record { long = list_long ss rs; sits = λ j z c f s b. list_sits ss rs j z c f (row_sits (pieces ss (N j z) c f) s) b }
 
   -- two parts in turn
   two : (f m : ℕ) (a c : List Body) → length a ≡ m → (BodiesSit f a → AllOpen f a) → (BodiesSit (f + m) c → AllOpen (f + m) c) → BodiesSit f (a ++ c) → AllOpen f (a ++ c)
-  two f m a c e x y b = ao_join f m a c e (x (bs_front f a c b)) (y (bs_back f m a c e b))
+  two f m a c e x y b = opens_join f m a c e (x (sits_front f a c b)) (y (sits_back f m a c e b))
 
   -- the parts of the constructs
   arm_sits : (ln : ℕ) (t b : Piece) → Sits (arm ln t b) → Sits b

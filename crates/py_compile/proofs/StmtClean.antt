@@ -85,79 +85,79 @@ module _ (ok : ℕ → Type 0) (flags : ℕ → Bool) (z : Bool) where
     back : (a c : List Use) → NW (a ++ c) → NW c
     back a c h = every_back (NoteOk to go) a c h
 
-    pub value_cl : (ln : ℕ) (x : Expr) → NW (read b x) → C (value n ln x)
-    value_cl ln x w = (expr_clean ok flags z n b names kind cls to go holds free x).value ln w
+    pub clean_value : (ln : ℕ) (x : Expr) → NW (read b x) → C (value n ln x)
+    clean_value ln x w = (expr_clean ok flags z n b names kind cls to go holds free x).value ln w
 
-    pub values_cl : (ln : ℕ) (xs : List Expr) → NW (read_all b xs) → Every C (values n ln xs)
-    values_cl ln xs w = values_clean ok flags z n b names kind cls to go holds free ln xs (exprs_clean ok flags z n b names kind cls to go holds free xs) w
+    pub clean_values : (ln : ℕ) (xs : List Expr) → NW (read_all b xs) → Every C (values n ln xs)
+    clean_values ln xs w = values_clean ok flags z n b names kind cls to go holds free ln xs (exprs_clean ok flags z n b names kind cls to go holds free xs) w
 
-    pub some_cl : (ln : ℕ) (x : Option Expr) → NW (read_some b x) → C (value_some n ln x)
-    some_cl ln x w = some_clean ok flags z n b names kind cls to go holds free ln x (if_clean ok flags z n b names kind cls to go holds free x) w
+    pub clean_some : (ln : ℕ) (x : Option Expr) → NW (read_some b x) → C (value_some n ln x)
+    clean_some ln x w = some_clean ok flags z n b names kind cls to go holds free ln x (if_clean ok flags z n b names kind cls to go holds free x) w
 
-    pub store_cl : (ln : ℕ) (x : Expr) → NW (target b x) → C (stored n ln x)
-    store_cl ln x w = ((expr_clean ok flags z n b names kind cls to go holds free x).place ln w).store
+    pub clean_store : (ln : ℕ) (x : Expr) → NW (target b x) → C (stored n ln x)
+    clean_store ln x w = ((expr_clean ok flags z n b names kind cls to go holds free x).place ln w).store
 
-    stores_cl : (ln : ℕ) (xs : List Expr) → NW (target_all b xs) → Every C (all_stored n ln xs)
-    stores_cl ln xs w = stores_clean ok flags z n b names kind cls to go holds free ln xs (exprs_clean ok flags z n b names kind cls to go holds free xs) w
+    clean_stores : (ln : ℕ) (xs : List Expr) → NW (target_all b xs) → Every C (all_stored n ln xs)
+    clean_stores ln xs w = stores_clean ok flags z n b names kind cls to go holds free ln xs (exprs_clean ok flags z n b names kind cls to go holds free xs) w
 
-    deletes_cl : (ln : ℕ) (xs : List Expr) → NW (target_all b xs) → Every C (all_deleted n ln xs)
-    deletes_cl ln xs w = deletes_clean ok flags z n b names kind cls to go holds free ln xs (exprs_clean ok flags z n b names kind cls to go holds free xs) w
+    clean_deletes : (ln : ℕ) (xs : List Expr) → NW (target_all b xs) → Every C (all_deleted n ln xs)
+    clean_deletes ln xs w = deletes_clean ok flags z n b names kind cls to go holds free ln xs (exprs_clean ok flags z n b names kind cls to go holds free xs) w
 
     name_store : (x : List ℕ) → Fit ok flags z (store (home n x))
     name_store x = store_clean ok flags z n b names kind cls to go holds free x
 
-    pub do_cl : (ln : ℕ) (x : Expr) → NW (read b x) → C (template ln 0 0 (Alone (value n ln x) ∷ Op Pop ∷ []))
-    do_cl ln x w = template_clean ok flags z ln 0 0 (Alone (value n ln x) ∷ Op Pop ∷ []) (value_cl ln x w, (tt, tt))
+    pub clean_do : (ln : ℕ) (x : Expr) → NW (read b x) → C (template ln 0 0 (Alone (value n ln x) ∷ Op Pop ∷ []))
+    clean_do ln x w = template_clean ok flags z ln 0 0 (Alone (value n ln x) ∷ Op Pop ∷ []) (clean_value ln x w, (tt, tt))
 
-    befores_cl : (ln : ℕ) (t : Expr) (ts : List Expr) → Every C (all_stored n ln (t ∷ ts)) → Every C (stores_before n ln t ts) × C (stored n ln (last_target t ts))
-    befores_cl ln t [] h = (tt, h.0)
-    befores_cl ln t (x ∷ xs) h = let r = befores_cl ln x xs h.1 in ((template_clean ok flags z ln 0 0 (Op Dup ∷ Alone (stored n ln t) ∷ []) (tt, (h.0, tt)), r.0), r.1)
+    clean_befores : (ln : ℕ) (t : Expr) (ts : List Expr) → Every C (all_stored n ln (t ∷ ts)) → Every C (stores_before n ln t ts) × C (stored n ln (last_target t ts))
+    clean_befores ln t [] h = (tt, h.0)
+    clean_befores ln t (x ∷ xs) h = let r = clean_befores ln x xs h.1 in ((template_clean ok flags z ln 0 0 (Op Dup ∷ Alone (stored n ln t) ∷ []) (tt, (h.0, tt)), r.0), r.1)
 
-    pub assign_cl : (ln : ℕ) (ts : List Expr) (x : Expr) → NW (target_all b ts ++ read b x) → C (assigned n ln ts x)
-    assign_cl ln [] x w = template_clean ok flags z ln 0 0 [] tt
-    assign_cl ln (t ∷ ts) x w =
-        let s = befores_cl ln t ts (stores_cl ln (t ∷ ts) (front (target_all b (t ∷ ts)) (read b x) w)) in
-        template_clean ok flags z ln 0 0 (Alone (value n ln x) ∷ Alone (row (stores_before n ln t ts)) ∷ Alone (stored n ln (last_target t ts)) ∷ []) (value_cl ln x (back (target_all b (t ∷ ts)) (read b x) w), (row_clean ok flags z (stores_before n ln t ts) s.0, (s.1, tt)))
+    pub clean_assign : (ln : ℕ) (ts : List Expr) (x : Expr) → NW (target_all b ts ++ read b x) → C (assigned n ln ts x)
+    clean_assign ln [] x w = template_clean ok flags z ln 0 0 [] tt
+    clean_assign ln (t ∷ ts) x w =
+        let s = clean_befores ln t ts (clean_stores ln (t ∷ ts) (front (target_all b (t ∷ ts)) (read b x) w)) in
+        template_clean ok flags z ln 0 0 (Alone (value n ln x) ∷ Alone (row (stores_before n ln t ts)) ∷ Alone (stored n ln (last_target t ts)) ∷ []) (clean_value ln x (back (target_all b (t ∷ ts)) (read b x) w), (row_clean ok flags z (stores_before n ln t ts) s.0, (s.1, tt)))
 
-    pub augment_cl : (ln : ℕ) (t : Expr) (o : Operator) (x : Expr) → NW (read b t ++ target b t ++ read b x) → C (add_at ln (coded n ln t).place (operator o) (value n ln x))
-    augment_cl ln t o x w = (expr_clean ok flags z n b names kind cls to go holds free t).add ln (operator o) (value n ln x) (front (read b t) (target b t) (front (read b t ++ target b t) (read b x) w)) (value_cl ln x (back (read b t ++ target b t) (read b x) w))
+    pub clean_augment : (ln : ℕ) (t : Expr) (o : Operator) (x : Expr) → NW (read b t ++ target b t ++ read b x) → C (add_at ln (coded n ln t).place (operator o) (value n ln x))
+    clean_augment ln t o x w = (expr_clean ok flags z n b names kind cls to go holds free t).add ln (operator o) (value n ln x) (front (read b t) (target b t) (front (read b t ++ target b t) (read b x) w)) (clean_value ln x (back (read b t ++ target b t) (read b x) w))
 
-    prints_cl : (ln : ℕ) (vs : List Piece) → Every C vs → Every C (map (print_one ln) vs)
-    prints_cl ln [] h = tt
-    prints_cl ln (v ∷ vs) h = (template_clean ok flags z ln 0 0 (Alone v ∷ Op PrintItem ∷ []) (h.0, (tt, tt)), prints_cl ln vs h.1)
+    clean_prints : (ln : ℕ) (vs : List Piece) → Every C vs → Every C (map (print_one ln) vs)
+    clean_prints ln [] h = tt
+    clean_prints ln (v ∷ vs) h = (template_clean ok flags z ln 0 0 (Alone v ∷ Op PrintItem ∷ []) (h.0, (tt, tt)), clean_prints ln vs h.1)
 
-    pub print_cl : (ln : ℕ) (xs : List Expr) (c : Bool) → NW (read_all b xs) → C (printed n ln xs c)
-    print_cl ln xs true w = row_clean ok flags z (map (print_one ln) (values n ln xs)) (prints_cl ln (values n ln xs) (values_cl ln xs w))
-    print_cl ln xs false w = template_clean ok flags z ln 0 0 (Alone (row (map (print_one ln) (values n ln xs))) ∷ Op PrintNewline ∷ []) (row_clean ok flags z (map (print_one ln) (values n ln xs)) (prints_cl ln (values n ln xs) (values_cl ln xs w)), (tt, tt))
+    pub clean_print : (ln : ℕ) (xs : List Expr) (c : Bool) → NW (read_all b xs) → C (printed n ln xs c)
+    clean_print ln xs true w = row_clean ok flags z (map (print_one ln) (values n ln xs)) (clean_prints ln (values n ln xs) (clean_values ln xs w))
+    clean_print ln xs false w = template_clean ok flags z ln 0 0 (Alone (row (map (print_one ln) (values n ln xs))) ∷ Op PrintNewline ∷ []) (row_clean ok flags z (map (print_one ln) (values n ln xs)) (clean_prints ln (values n ln xs) (clean_values ln xs w)), (tt, tt))
 
-    pub raise_cl : (ln : ℕ) (c : List Around) (x v : Option Expr) → AroundClean c → NW (read_some b x ++ read_some b v) → C (raised n ln c x v)
-    raise_cl ln c None v a w = again_clean ln c a
-    raise_cl ln c (Some x) None a w = template_clean ok flags z ln 0 0 (Alone (value n ln x) ∷ Op (MakeRaised 0) ∷ Op Raise ∷ []) (value_cl ln x (front (read b x) [] w), (tt, (tt, tt)))
-    raise_cl ln c (Some x) (Some v) a w = template_clean ok flags z ln 0 0 (Alone (value n ln x) ∷ Alone (value n ln v) ∷ Op (MakeRaised 1) ∷ Op Raise ∷ []) (value_cl ln x (front (read b x) (read b v) w), (value_cl ln v (back (read b x) (read b v) w), (tt, (tt, tt))))
+    pub clean_raise : (ln : ℕ) (c : List Around) (x v : Option Expr) → AroundClean c → NW (read_some b x ++ read_some b v) → C (raised n ln c x v)
+    clean_raise ln c None v a w = again_clean ln c a
+    clean_raise ln c (Some x) None a w = template_clean ok flags z ln 0 0 (Alone (value n ln x) ∷ Op (MakeRaised 0) ∷ Op Raise ∷ []) (clean_value ln x (front (read b x) [] w), (tt, (tt, tt)))
+    clean_raise ln c (Some x) (Some v) a w = template_clean ok flags z ln 0 0 (Alone (value n ln x) ∷ Alone (value n ln v) ∷ Op (MakeRaised 1) ∷ Op Raise ∷ []) (clean_value ln x (front (read b x) (read b v) w), (clean_value ln v (back (read b x) (read b v) w), (tt, (tt, tt))))
 
-    pub del_cl : (ln : ℕ) (ts : List Expr) → NW (target_all b ts) → C (deletion ln (all_deleted n ln ts))
-    del_cl ln ts w = template_clean ok flags z ln 0 0 (Alone (row (all_deleted n ln ts)) ∷ []) (row_clean ok flags z (all_deleted n ln ts) (deletes_cl ln ts w), tt)
+    pub clean_del : (ln : ℕ) (ts : List Expr) → NW (target_all b ts) → C (deletion ln (all_deleted n ln ts))
+    clean_del ln ts w = template_clean ok flags z ln 0 0 (Alone (row (all_deleted n ln ts)) ∷ []) (row_clean ok flags z (all_deleted n ln ts) (clean_deletes ln ts w), tt)
 
-    pub assert_cl : (ln : ℕ) (t : Expr) (m : Option Expr) → NW (read b t ++ read_some b m) → C (asserted n ln t m)
-    assert_cl ln t None w = template_clean ok flags z ln 0 1 (Alone (value n ln t) ∷ Op Not ∷ To 0 JumpFalse E ∷ Op (Const (Root 13)) ∷ Op (MakeRaised 0) ∷ Op Raise ∷ Here E ∷ []) (value_cl ln t (front (read b t) [] w), (tt, ((λ q. tt), (tt, (tt, (tt, (tt, tt)))))))
-    assert_cl ln t (Some m) w = template_clean ok flags z ln 0 1 (Alone (value n ln t) ∷ Op Not ∷ To 0 JumpFalse E ∷ Op (Const (Root 13)) ∷ Alone (value n ln m) ∷ Op (Call 1 0) ∷ Op Raise ∷ Here E ∷ []) (value_cl ln t (front (read b t) (read b m) w), (tt, ((λ q. tt), (tt, (value_cl ln m (back (read b t) (read b m) w), (tt, (tt, (tt, tt))))))))
+    pub clean_assert : (ln : ℕ) (t : Expr) (m : Option Expr) → NW (read b t ++ read_some b m) → C (asserted n ln t m)
+    clean_assert ln t None w = template_clean ok flags z ln 0 1 (Alone (value n ln t) ∷ Op Not ∷ To 0 JumpFalse E ∷ Op (Const (Root 13)) ∷ Op (MakeRaised 0) ∷ Op Raise ∷ Here E ∷ []) (clean_value ln t (front (read b t) [] w), (tt, ((λ q. tt), (tt, (tt, (tt, (tt, tt)))))))
+    clean_assert ln t (Some m) w = template_clean ok flags z ln 0 1 (Alone (value n ln t) ∷ Op Not ∷ To 0 JumpFalse E ∷ Op (Const (Root 13)) ∷ Alone (value n ln m) ∷ Op (Call 1 0) ∷ Op Raise ∷ Here E ∷ []) (clean_value ln t (front (read b t) (read b m) w), (tt, ((λ q. tt), (tt, (clean_value ln m (back (read b t) (read b m) w), (tt, (tt, (tt, tt))))))))
 
-    import_cl : (ln : ℕ) (k : Constant) (x : List ℕ) → C (import_one ln k (home n x))
-    import_cl ln k x = template_clean ok flags z ln 0 0 (Op (Const k) ∷ Op (store (home n x)) ∷ []) (tt, (name_store x, tt))
+    clean_import : (ln : ℕ) (k : Constant) (x : List ℕ) → C (import_one ln k (home n x))
+    clean_import ln k x = template_clean ok flags z ln 0 0 (Op (Const k) ∷ Op (store (home n x)) ∷ []) (tt, (name_store x, tt))
 
-    imports_cl : (ln : ℕ) (is : List Imported) → Every C (imported n ln is)
-    imports_cl ln [] = tt
-    imports_cl ln (i ∷ is) = (import_cl ln (library i.name) (bound_name i.name i.bound), imports_cl ln is)
+    clean_imports : (ln : ℕ) (is : List Imported) → Every C (imported n ln is)
+    clean_imports ln [] = tt
+    clean_imports ln (i ∷ is) = (clean_import ln (library i.name) (bound_name i.name i.bound), clean_imports ln is)
 
-    froms_cl : (ln : ℕ) (is : List Imported) → Every C (taken_from n ln is)
-    froms_cl ln [] = tt
-    froms_cl ln (i ∷ is) = (import_cl ln (member i.name) (bound_name i.name i.bound), froms_cl ln is)
+    clean_froms : (ln : ℕ) (is : List Imported) → Every C (taken_from n ln is)
+    clean_froms ln [] = tt
+    clean_froms ln (i ∷ is) = (clean_import ln (member i.name) (bound_name i.name i.bound), clean_froms ln is)
 
-    pub import_all_cl : (ln : ℕ) (is : List Imported) → C (row (imported n ln is))
-    import_all_cl ln is = row_clean ok flags z (imported n ln is) (imports_cl ln is)
+    pub clean_import_all : (ln : ℕ) (is : List Imported) → C (row (imported n ln is))
+    clean_import_all ln is = row_clean ok flags z (imported n ln is) (clean_imports ln is)
 
-    pub from_all_cl : (ln : ℕ) (is : List Imported) → C (row (taken_from n ln is))
-    from_all_cl ln is = row_clean ok flags z (taken_from n ln is) (froms_cl ln is)
+    pub clean_from_all : (ln : ℕ) (is : List Imported) → C (row (taken_from n ln is))
+    clean_from_all ln is = row_clean ok flags z (taken_from n ln is) (clean_froms ln is)
 
     defaults_note : (ps : List Param) → NW (read_defaults b ps) → NW (read_all b (defaults ps))
     defaults_note [] w = tt
@@ -167,20 +167,20 @@ module _ (ok : ℕ → Type 0) (flags : ℕ → Bool) (z : Bool) where
         by_default None s r = r
         by_default (Some x) s r = every_join (NoteOk to go) (read b x) (read_all b (defaults ps)) s r
 
-    pub def_cl : (ln : ℕ) (x : List ℕ) (ps : List Param) (f : ℕ) → (0 < f) × (flags f ≡ false) → NW (read_defaults b ps) → C (def ln (values n ln (defaults ps)) f (home n x))
-    def_cl ln x ps f q w = template_clean ok flags z ln 0 0 (Alone (row (values n ln (defaults ps))) ∷ Op (MakeFunction f (length (values n ln (defaults ps)))) ∷ Op (store (home n x)) ∷ []) (row_clean ok flags z (values n ln (defaults ps)) (values_cl ln (defaults ps) (defaults_note ps w)), (q, (name_store x, tt)))
+    pub clean_def : (ln : ℕ) (x : List ℕ) (ps : List Param) (f : ℕ) → (0 < f) × (flags f ≡ false) → NW (read_defaults b ps) → C (def ln (values n ln (defaults ps)) f (home n x))
+    clean_def ln x ps f q w = template_clean ok flags z ln 0 0 (Alone (row (values n ln (defaults ps))) ∷ Op (MakeFunction f (length (values n ln (defaults ps)))) ∷ Op (store (home n x)) ∷ []) (row_clean ok flags z (values n ln (defaults ps)) (clean_values ln (defaults ps) (defaults_note ps w)), (q, (name_store x, tt)))
 
-    base_cl : (ln : ℕ) (x : Option Expr) → NW (read_some b x) → C (base n ln x)
-    base_cl ln None w = one_clean ok flags z ln (Const (Root 1)) tt
-    base_cl ln (Some x) w = value_cl ln x w
+    clean_base : (ln : ℕ) (x : Option Expr) → NW (read_some b x) → C (base n ln x)
+    clean_base ln None w = one_clean ok flags z ln (Const (Root 1)) tt
+    clean_base ln (Some x) w = clean_value ln x w
 
-    pub class_cl : (ln : ℕ) (x : List ℕ) (e : Option Expr) (f : ℕ) → (0 < f) × (flags f ≡ true) → NW (read_some b e) → C (class ln (base n ln e) f (home n x))
-    class_cl ln x e f q w = template_clean ok flags z ln 0 0 (Alone (base n ln e) ∷ Op (ClassBody f) ∷ Op (store (home n x)) ∷ []) (base_cl ln e w, (q, (name_store x, tt)))
+    pub clean_class : (ln : ℕ) (x : List ℕ) (e : Option Expr) (f : ℕ) → (0 < f) × (flags f ≡ true) → NW (read_some b e) → C (class ln (base n ln e) f (home n x))
+    clean_class ln x e f q w = template_clean ok flags z ln 0 0 (Alone (base n ln e) ∷ Op (ClassBody f) ∷ Op (store (home n x)) ∷ []) (clean_base ln e w, (q, (name_store x, tt)))
 
-    pub clause_cl : (ln : ℕ) (e t : Option Expr) (d : Piece) → NW (read_some b e) → NW (target_some b t) → C d → C (clause n ln e t d)
-    clause_cl ln None t d we wt c = template_clean ok flags z ln 0 0 (Sub 1 d ∷ To 1 Jump E ∷ []) (c, ((λ q. tt), tt))
-    clause_cl ln (Some e) None d we wt c = template_clean ok flags z ln 0 1 (Hidden 1 LoadLocal ∷ Alone (value n ln e) ∷ Op ExcMatch ∷ To 0 JumpFalse M ∷ Sub 1 d ∷ To 1 Jump E ∷ Here M ∷ []) ((λ s. tt), (value_cl ln e we, (tt, ((λ q. tt), (c, ((λ q. tt), (tt, tt)))))))
-    clause_cl ln (Some e) (Some t) d we wt c = template_clean ok flags z ln 0 1 (Hidden 1 LoadLocal ∷ Alone (value n ln e) ∷ Op ExcMatch ∷ To 0 JumpFalse M ∷ Hidden 1 LoadLocal ∷ Alone (stored n ln t) ∷ Sub 1 d ∷ To 1 Jump E ∷ Here M ∷ []) ((λ s. tt), (value_cl ln e we, (tt, ((λ q. tt), ((λ s. tt), (store_cl ln t wt, (c, ((λ q. tt), (tt, tt)))))))))
+    pub clean_clause : (ln : ℕ) (e t : Option Expr) (d : Piece) → NW (read_some b e) → NW (target_some b t) → C d → C (clause n ln e t d)
+    clean_clause ln None t d we wt c = template_clean ok flags z ln 0 0 (Sub 1 d ∷ To 1 Jump E ∷ []) (c, ((λ q. tt), tt))
+    clean_clause ln (Some e) None d we wt c = template_clean ok flags z ln 0 1 (Hidden 1 LoadLocal ∷ Alone (value n ln e) ∷ Op ExcMatch ∷ To 0 JumpFalse M ∷ Sub 1 d ∷ To 1 Jump E ∷ Here M ∷ []) ((λ s. tt), (clean_value ln e we, (tt, ((λ q. tt), (c, ((λ q. tt), (tt, tt)))))))
+    clean_clause ln (Some e) (Some t) d we wt c = template_clean ok flags z ln 0 1 (Hidden 1 LoadLocal ∷ Alone (value n ln e) ∷ Op ExcMatch ∷ To 0 JumpFalse M ∷ Hidden 1 LoadLocal ∷ Alone (stored n ln t) ∷ Sub 1 d ∷ To 1 Jump E ∷ Here M ∷ []) ((λ s. tt), (clean_value ln e we, (tt, ((λ q. tt), ((λ s. tt), (clean_store ln t wt, (c, ((λ q. tt), (tt, tt)))))))))
 
 -- compound statements, and the bodies inside them
 module _ (locals : ℕ → List (List ℕ)) (texts cells : List (List ℕ)) (keys : ℕ → List (List (List ℕ))) (params : List ℕ) (none : HasNone locals texts cells keys params) (ok : ℕ → Type 0) (flags : ℕ → Bool) (to go : List ℕ → Type 0) (holds : (x : List ℕ) → to x → go x → ok (text (known locals texts cells keys params 0 false) x)) (free : (j : ℕ) (x : List ℕ) → is_none x ≡ true → has x (locals j) ≡ false) where
@@ -205,148 +205,148 @@ module _ (locals : ℕ → List (List ℕ)) (texts cells : List (List ℕ)) (key
   abbrev HandlerBase : Handled → Uses → Legal → Type 0
   HandlerBase = HandlerRel locals texts cells keys params none
 
-  wf : (a c : List Use) → W (a ++ c) → W a
-  wf a c w = every_front (NoteOk to go) a c w
+  uses_front : (a c : List Use) → W (a ++ c) → W a
+  uses_front a c w = every_front (NoteOk to go) a c w
 
-  wb : (a c : List Use) → W (a ++ c) → W c
-  wb a c w = every_back (NoteOk to go) a c w
+  uses_back : (a c : List Use) → W (a ++ c) → W c
+  uses_back a c w = every_back (NoteOk to go) a c w
 
-  wj : (a c : List Use) → W a → W c → W (a ++ c)
-  wj a c w x = every_join (NoteOk to go) a c w x
+  uses_join : (a c : List Use) → W a → W c → W (a ++ c)
+  uses_join a c w x = every_join (NoteOk to go) a c w x
 
   -- these bodies are those from number f on, and which are classes'
   abbrev pub Flagged : ℕ → List Body → Type 0
   Flagged f [] = Unit {0}
   Flagged f (y ∷ ys) = (0 < f) × (flags f ≡ y.is_class) × Flagged (f + 1) ys
 
-  ff : (f : ℕ) (a c : List Body) → Flagged f (a ++ c) → Flagged f a
-  ff f [] c h = tt
-  ff f (y ∷ a) c h = (h.0, h.1, ff (f + 1) a c h.2)
+  flags_front : (f : ℕ) (a c : List Body) → Flagged f (a ++ c) → Flagged f a
+  flags_front f [] c h = tt
+  flags_front f (y ∷ a) c h = (h.0, h.1, flags_front (f + 1) a c h.2)
 
-  fb : (f m : ℕ) (a c : List Body) → length a ≡ m → Flagged f (a ++ c) → Flagged (f + m) c
-  fb f m [] c e h = let k : f ≡ f + m = omega (arith, e) in subst (λ g. Flagged g c) k h
-  fb f m (y ∷ a) c e h = let k : f + 1 + length a ≡ f + m = omega (arith, e) in subst (λ g. Flagged g c) k (fb (f + 1) (length a) a c refl h.2)
+  flags_back : (f m : ℕ) (a c : List Body) → length a ≡ m → Flagged f (a ++ c) → Flagged (f + m) c
+  flags_back f m [] c e h = let k : f ≡ f + m = omega (arith, e) in subst (λ g. Flagged g c) k h
+  flags_back f m (y ∷ a) c e h = let k : f + 1 + length a ≡ f + m = omega (arith, e) in subst (λ g. Flagged g c) k (flags_back (f + 1) (length a) a c refl h.2)
 
   abbrev pub BodiesClean : ℕ → List Body → Type 0
   BodiesClean f [] = Unit {0}
   BodiesClean f (y ∷ ys) = IsClean ok flags y.is_class (y.block (N f y.is_class)) × BodiesClean (f + 1) ys
 
-  bj : (f m : ℕ) (a c : List Body) → length a ≡ m → BodiesClean f a → BodiesClean (f + m) c → BodiesClean f (a ++ c)
-  bj f m [] c e h g = let k : f + m ≡ f = omega (arith, e) in subst (λ i. BodiesClean i c) k g
-  bj f m (y ∷ a) c e h g = let k : f + m ≡ f + 1 + length a = omega (arith, e) in (h.0, bj (f + 1) (length a) a c refl h.1 (subst (λ i. BodiesClean i c) k g))
+  clean_join : (f m : ℕ) (a c : List Body) → length a ≡ m → BodiesClean f a → BodiesClean (f + m) c → BodiesClean f (a ++ c)
+  clean_join f m [] c e h g = let k : f + m ≡ f = omega (arith, e) in subst (λ i. BodiesClean i c) k g
+  clean_join f m (y ∷ a) c e h g = let k : f + m ≡ f + 1 + length a = omega (arith, e) in (h.0, clean_join (f + 1) (length a) a c refl h.1 (subst (λ i. BodiesClean i c) k g))
 
-  ub : (v : Uses) (b : Inside) (f m m' : ℕ) (a : List Use) → m ≡ m' → W (a ++ v.uses b (f + m')) → W (v.uses b (f + m))
-  ub v b f m m' a e w = subst (λ i. W (v.uses b (f + i))) (sym e) (wb a (v.uses b (f + m')) w)
+  use_back : (v : Uses) (b : Inside) (f m m' : ℕ) (a : List Use) → m ≡ m' → W (a ++ v.uses b (f + m')) → W (v.uses b (f + m))
+  use_back v b f m m' a e w = subst (λ i. W (v.uses b (f + i))) (sym e) (uses_back a (v.uses b (f + m')) w)
 
-  zb : (v : Uses) (b : Inside) (f : ℕ) (a : List Use) → W (a ++ v.uses b (f + 0)) → W (v.uses b f)
-  zb v b f a w = let e : f + 0 ≡ f = omega arith in subst (λ i. W (v.uses b i)) e (wb a (v.uses b (f + 0)) w)
+  zero_back : (v : Uses) (b : Inside) (f : ℕ) (a : List Use) → W (a ++ v.uses b (f + 0)) → W (v.uses b f)
+  zero_back v b f a w = let e : f + 0 ≡ f = omega arith in subst (λ i. W (v.uses b i)) e (uses_back a (v.uses b (f + 0)) w)
 
-  pub record RelC (s : Stated) (v : Uses) (g : Legal) : Type 0 where
+  pub record RelClean (s : Stated) (v : Uses) (g : Legal) : Type 0 where
     pub base : Base s v g
     pub good : (j : ℕ) (z l d : Bool) (f : ℕ) (c : List Around) → g l d ≡ true → AroundClean ok flags z c → W (v.uses (I j z) f) → Flagged f (s.inner f) → IsClean ok flags z (s.code (N j z) c f)
     pub inner : (l d : Bool) (j : ℕ) (z : Bool) (f : ℕ) → g l d ≡ true → W (v.uses (I j z) f) → Flagged f (s.inner f) → BodiesClean f (s.inner f)
 
-  pub record ArmC (a : Armed) (v : Uses) (g : Legal) : Type 0 where
+  pub record ArmClean (a : Armed) (v : Uses) (g : Legal) : Type 0 where
     pub base : ArmBase a v g
     pub good : (j : ℕ) (z l d : Bool) (f : ℕ) (c : List Around) → g l d ≡ true → AroundClean ok flags z c → W (v.uses (I j z) f) → Flagged f (a.block.inner f) → IsClean ok flags z (value (N j z) a.line a.test) × IsClean ok flags z (a.block.code (N j z) c f)
     pub inner : (l d : Bool) (j : ℕ) (z : Bool) (f : ℕ) → g l d ≡ true → W (v.uses (I j z) f) → Flagged f (a.block.inner f) → BodiesClean f (a.block.inner f)
 
-  pub record HandlerC (h : Handled) (v : Uses) (g : Legal) : Type 0 where
+  pub record HandlerClean (h : Handled) (v : Uses) (g : Legal) : Type 0 where
     pub base : HandlerBase h v g
     pub good : (j : ℕ) (z l : Bool) (f : ℕ) (c : List Around) → g l true ≡ true → AroundClean ok flags z c → W (v.uses (I j z) f) → Flagged f (h.block.inner f) → IsClean ok flags z (clause (N j z) h.line h.test h.target (h.block.code (N j z) (InClause ∷ c) f))
     pub inner : (l d : Bool) (j : ℕ) (z : Bool) (f : ℕ) → g l d ≡ true → W (v.uses (I j z) f) → Flagged f (h.block.inner f) → BodiesClean f (h.block.inner f)
 
-  still_c : (g : Known → List Around → Piece) (q : Inside → List Use) (t : Legal) → Base (still g) (quiet q) t → ((j : ℕ) (z : Bool) (c : List Around) → AroundClean ok flags z c → W (q (I j z)) → IsClean ok flags z (g (N j z) c)) → RelC (still g) (quiet q) t
-  still_c g q t r h = record { base = r; good = λ j z l d f c e a w x. h j z c a w; inner = λ l d j z f e w x. tt }
+  still_rel_clean : (g : Known → List Around → Piece) (q : Inside → List Use) (t : Legal) → Base (still g) (quiet q) t → ((j : ℕ) (z : Bool) (c : List Around) → AroundClean ok flags z c → W (q (I j z)) → IsClean ok flags z (g (N j z) c)) → RelClean (still g) (quiet q) t
+  still_rel_clean g q t r h = record { base = r; good = λ j z l d f c e a w x. h j z c a w; inner = λ l d j z f e w x. tt }
 
-  none_c : RelC (block []) none_used (λ l c. true)
-  none_c = record { base = none_rel locals texts cells keys params none; good = λ j z l d f c e a w x. row_clean ok flags z [] tt; inner = λ l d j z f e w x. tt }
+  none_rel_clean : RelClean (block []) none_used (λ l c. true)
+  none_rel_clean = record { base = none_rel locals texts cells keys params none; good = λ j z l d f c e a w x. row_clean ok flags z [] tt; inner = λ l d j z f e w x. tt }
 
   -- lists
-  lists : {ss : List Stated} {vs : List Uses} {gs : List Legal} → Related RelC ss vs gs → Related Base ss vs gs
-  lists rs = related_as RelC Base (λ s v g r. r.base) rs
+  lists : {ss : List Stated} {vs : List Uses} {gs : List Legal} → Related RelClean ss vs gs → Related Base ss vs gs
+  lists rs = related_as RelClean Base (λ s v g r. r.base) rs
 
-  list_good : {ss : List Stated} {vs : List Uses} {gs : List Legal} → Related RelC ss vs gs → (j : ℕ) (z l d : Bool) (f : ℕ) (c : List Around) → all_legal gs l d ≡ true → AroundClean ok flags z c → W ((all_in_turn vs).uses (I j z) f) → Flagged f (inners ss f) → Every (IsClean ok flags z) (pieces ss (N j z) c f)
+  list_good : {ss : List Stated} {vs : List Uses} {gs : List Legal} → Related RelClean ss vs gs → (j : ℕ) (z l d : Bool) (f : ℕ) (c : List Around) → all_legal gs l d ≡ true → AroundClean ok flags z c → W ((all_in_turn vs).uses (I j z) f) → Flagged f (inners ss f) → Every (IsClean ok flags z) (pieces ss (N j z) c f)
   list_good Nil j z l d f c e a w x = tt
   list_good (Cons {s = y} {v = v} {g = g} {ss = ss} {vs = vs} {gs = gs} r rs) j z l d f c e a w x =
       let q = and_parts (g l d) (all_legal gs l d) e in
       let t = inners ss (f + y.bodies) in
-      (r.good j z l d f c q.0 a (wf (v.uses (I j z) f) ((all_in_turn vs).uses (I j z) (f + v.bodies)) w) (ff f (y.inner f) t x), list_good rs j z l d (f + y.bodies) c q.1 a (ub (all_in_turn vs) (I j z) f y.bodies v.bodies (v.uses (I j z) f) (r.base.count l d q.0) w) (fb f y.bodies (y.inner f) t (r.base.long f) x))
+      (r.good j z l d f c q.0 a (uses_front (v.uses (I j z) f) ((all_in_turn vs).uses (I j z) (f + v.bodies)) w) (flags_front f (y.inner f) t x), list_good rs j z l d (f + y.bodies) c q.1 a (use_back (all_in_turn vs) (I j z) f y.bodies v.bodies (v.uses (I j z) f) (r.base.count l d q.0) w) (flags_back f y.bodies (y.inner f) t (r.base.long f) x))
 
-  list_inner : {ss : List Stated} {vs : List Uses} {gs : List Legal} → Related RelC ss vs gs → (l d : Bool) (j : ℕ) (z : Bool) (f : ℕ) → all_legal gs l d ≡ true → W ((all_in_turn vs).uses (I j z) f) → Flagged f (inners ss f) → BodiesClean f (inners ss f)
+  list_inner : {ss : List Stated} {vs : List Uses} {gs : List Legal} → Related RelClean ss vs gs → (l d : Bool) (j : ℕ) (z : Bool) (f : ℕ) → all_legal gs l d ≡ true → W ((all_in_turn vs).uses (I j z) f) → Flagged f (inners ss f) → BodiesClean f (inners ss f)
   list_inner Nil l d j z f e w x = tt
   list_inner (Cons {s = y} {v = v} {g = g} {ss = ss} {vs = vs} {gs = gs} r rs) l d j z f e w x =
       let q = and_parts (g l d) (all_legal gs l d) e in
       let t = inners ss (f + y.bodies) in
-      bj f y.bodies (y.inner f) t (r.base.long f)
-      (r.inner l d j z f q.0 (wf (v.uses (I j z) f) ((all_in_turn vs).uses (I j z) (f + v.bodies)) w) (ff f (y.inner f) t x))
-      (list_inner rs l d j z (f + y.bodies) q.1 (ub (all_in_turn vs) (I j z) f y.bodies v.bodies (v.uses (I j z) f) (r.base.count l d q.0) w) (fb f y.bodies (y.inner f) t (r.base.long f) x))
+      clean_join f y.bodies (y.inner f) t (r.base.long f)
+      (r.inner l d j z f q.0 (uses_front (v.uses (I j z) f) ((all_in_turn vs).uses (I j z) (f + v.bodies)) w) (flags_front f (y.inner f) t x))
+      (list_inner rs l d j z (f + y.bodies) q.1 (use_back (all_in_turn vs) (I j z) f y.bodies v.bodies (v.uses (I j z) f) (r.base.count l d q.0) w) (flags_back f y.bodies (y.inner f) t (r.base.long f) x))
 
-  block_c : {ss : List Stated} {vs : List Uses} {gs : List Legal} → Related RelC ss vs gs → RelC (block ss) (all_in_turn vs) (all_legal gs)
-  block_c {ss = ss} rs = record { base = block_rel locals texts cells keys params none (lists rs); good = λ j z l d f c e a w x. row_clean ok flags z (pieces ss (N j z) c f) (list_good rs j z l d f c e a w x); inner = list_inner rs }
+  block_rel_clean : {ss : List Stated} {vs : List Uses} {gs : List Legal} → Related RelClean ss vs gs → RelClean (block ss) (all_in_turn vs) (all_legal gs)
+  block_rel_clean {ss = ss} rs = record { base = block_rel locals texts cells keys params none (lists rs); good = λ j z l d f c e a w x. row_clean ok flags z (pieces ss (N j z) c f) (list_good rs j z l d f c e a w x); inner = list_inner rs }
 
-  arms : {ss : List Armed} {vs : List Uses} {gs : List Legal} → Related ArmC ss vs gs → Related ArmBase ss vs gs
-  arms rs = related_as ArmC ArmBase (λ s v g r. r.base) rs
+  arms : {ss : List Armed} {vs : List Uses} {gs : List Legal} → Related ArmClean ss vs gs → Related ArmBase ss vs gs
+  arms rs = related_as ArmClean ArmBase (λ s v g r. r.base) rs
 
-  arms_good : {ss : List Armed} {vs : List Uses} {gs : List Legal} → Related ArmC ss vs gs → (j : ℕ) (z l d : Bool) (f : ℕ) (c : List Around) → all_legal gs l d ≡ true → AroundClean ok flags z c → W ((all_in_turn vs).uses (I j z) f) → Flagged f (armed_inner ss f) → Every (IsClean ok flags z) (armed ss (N j z) c f)
+  arms_good : {ss : List Armed} {vs : List Uses} {gs : List Legal} → Related ArmClean ss vs gs → (j : ℕ) (z l d : Bool) (f : ℕ) (c : List Around) → all_legal gs l d ≡ true → AroundClean ok flags z c → W ((all_in_turn vs).uses (I j z) f) → Flagged f (armed_inner ss f) → Every (IsClean ok flags z) (armed ss (N j z) c f)
   arms_good Nil j z l d f c e a w x = tt
   arms_good (Cons {s = y} {v = v} {g = g} {ss = ss} {vs = vs} {gs = gs} r rs) j z l d f c e a w x =
       let q = and_parts (g l d) (all_legal gs l d) e in
       let t = armed_inner ss (f + y.block.bodies) in
-      let p = r.good j z l d f c q.0 a (wf (v.uses (I j z) f) ((all_in_turn vs).uses (I j z) (f + v.bodies)) w) (ff f (y.block.inner f) t x) in
-      (template_clean ok flags z y.line 0 1 (Alone (value (N j z) y.line y.test) ∷ To 0 JumpFalse M ∷ Sub 2 (y.block.code (N j z) c f) ∷ To 1 Jump E ∷ Here M ∷ []) (p.0, ((λ q. tt), (p.1, ((λ q. tt), (tt, tt))))), arms_good rs j z l d (f + y.block.bodies) c q.1 a (ub (all_in_turn vs) (I j z) f y.block.bodies v.bodies (v.uses (I j z) f) (r.base.count l d q.0) w) (fb f y.block.bodies (y.block.inner f) t (r.base.long f) x))
+      let p = r.good j z l d f c q.0 a (uses_front (v.uses (I j z) f) ((all_in_turn vs).uses (I j z) (f + v.bodies)) w) (flags_front f (y.block.inner f) t x) in
+      (template_clean ok flags z y.line 0 1 (Alone (value (N j z) y.line y.test) ∷ To 0 JumpFalse M ∷ Sub 2 (y.block.code (N j z) c f) ∷ To 1 Jump E ∷ Here M ∷ []) (p.0, ((λ q. tt), (p.1, ((λ q. tt), (tt, tt))))), arms_good rs j z l d (f + y.block.bodies) c q.1 a (use_back (all_in_turn vs) (I j z) f y.block.bodies v.bodies (v.uses (I j z) f) (r.base.count l d q.0) w) (flags_back f y.block.bodies (y.block.inner f) t (r.base.long f) x))
 
-  arms_inner : {ss : List Armed} {vs : List Uses} {gs : List Legal} → Related ArmC ss vs gs → (l d : Bool) (j : ℕ) (z : Bool) (f : ℕ) → all_legal gs l d ≡ true → W ((all_in_turn vs).uses (I j z) f) → Flagged f (armed_inner ss f) → BodiesClean f (armed_inner ss f)
+  arms_inner : {ss : List Armed} {vs : List Uses} {gs : List Legal} → Related ArmClean ss vs gs → (l d : Bool) (j : ℕ) (z : Bool) (f : ℕ) → all_legal gs l d ≡ true → W ((all_in_turn vs).uses (I j z) f) → Flagged f (armed_inner ss f) → BodiesClean f (armed_inner ss f)
   arms_inner Nil l d j z f e w x = tt
   arms_inner (Cons {s = y} {v = v} {g = g} {ss = ss} {vs = vs} {gs = gs} r rs) l d j z f e w x =
       let q = and_parts (g l d) (all_legal gs l d) e in
       let t = armed_inner ss (f + y.block.bodies) in
-      bj f y.block.bodies (y.block.inner f) t (r.base.long f)
-      (r.inner l d j z f q.0 (wf (v.uses (I j z) f) ((all_in_turn vs).uses (I j z) (f + v.bodies)) w) (ff f (y.block.inner f) t x))
-      (arms_inner rs l d j z (f + y.block.bodies) q.1 (ub (all_in_turn vs) (I j z) f y.block.bodies v.bodies (v.uses (I j z) f) (r.base.count l d q.0) w) (fb f y.block.bodies (y.block.inner f) t (r.base.long f) x))
+      clean_join f y.block.bodies (y.block.inner f) t (r.base.long f)
+      (r.inner l d j z f q.0 (uses_front (v.uses (I j z) f) ((all_in_turn vs).uses (I j z) (f + v.bodies)) w) (flags_front f (y.block.inner f) t x))
+      (arms_inner rs l d j z (f + y.block.bodies) q.1 (use_back (all_in_turn vs) (I j z) f y.block.bodies v.bodies (v.uses (I j z) f) (r.base.count l d q.0) w) (flags_back f y.block.bodies (y.block.inner f) t (r.base.long f) x))
 
-  handlers : {ss : List Handled} {vs : List Uses} {gs : List Legal} → Related HandlerC ss vs gs → Related HandlerBase ss vs gs
-  handlers rs = related_as HandlerC HandlerBase (λ s v g r. r.base) rs
+  handlers : {ss : List Handled} {vs : List Uses} {gs : List Legal} → Related HandlerClean ss vs gs → Related HandlerBase ss vs gs
+  handlers rs = related_as HandlerClean HandlerBase (λ s v g r. r.base) rs
 
-  handlers_good : {ss : List Handled} {vs : List Uses} {gs : List Legal} → Related HandlerC ss vs gs → (j : ℕ) (z l : Bool) (f : ℕ) (c : List Around) → all_legal gs l true ≡ true → AroundClean ok flags z c → W ((all_in_turn vs).uses (I j z) f) → Flagged f (handled_inner ss f) → Every (IsClean ok flags z) (handled ss (N j z) c f)
+  handlers_good : {ss : List Handled} {vs : List Uses} {gs : List Legal} → Related HandlerClean ss vs gs → (j : ℕ) (z l : Bool) (f : ℕ) (c : List Around) → all_legal gs l true ≡ true → AroundClean ok flags z c → W ((all_in_turn vs).uses (I j z) f) → Flagged f (handled_inner ss f) → Every (IsClean ok flags z) (handled ss (N j z) c f)
   handlers_good Nil j z l f c e a w x = tt
   handlers_good (Cons {s = y} {v = v} {g = g} {ss = ss} {vs = vs} {gs = gs} r rs) j z l f c e a w x =
       let q = and_parts (g l true) (all_legal gs l true) e in
       let t = handled_inner ss (f + y.block.bodies) in
-      (r.good j z l f c q.0 a (wf (v.uses (I j z) f) ((all_in_turn vs).uses (I j z) (f + v.bodies)) w) (ff f (y.block.inner f) t x), handlers_good rs j z l (f + y.block.bodies) c q.1 a (ub (all_in_turn vs) (I j z) f y.block.bodies v.bodies (v.uses (I j z) f) (r.base.count l true q.0) w) (fb f y.block.bodies (y.block.inner f) t (r.base.long f) x))
+      (r.good j z l f c q.0 a (uses_front (v.uses (I j z) f) ((all_in_turn vs).uses (I j z) (f + v.bodies)) w) (flags_front f (y.block.inner f) t x), handlers_good rs j z l (f + y.block.bodies) c q.1 a (use_back (all_in_turn vs) (I j z) f y.block.bodies v.bodies (v.uses (I j z) f) (r.base.count l true q.0) w) (flags_back f y.block.bodies (y.block.inner f) t (r.base.long f) x))
 
-  handlers_inner : {ss : List Handled} {vs : List Uses} {gs : List Legal} → Related HandlerC ss vs gs → (l d : Bool) (j : ℕ) (z : Bool) (f : ℕ) → all_legal gs l d ≡ true → W ((all_in_turn vs).uses (I j z) f) → Flagged f (handled_inner ss f) → BodiesClean f (handled_inner ss f)
+  handlers_inner : {ss : List Handled} {vs : List Uses} {gs : List Legal} → Related HandlerClean ss vs gs → (l d : Bool) (j : ℕ) (z : Bool) (f : ℕ) → all_legal gs l d ≡ true → W ((all_in_turn vs).uses (I j z) f) → Flagged f (handled_inner ss f) → BodiesClean f (handled_inner ss f)
   handlers_inner Nil l d j z f e w x = tt
   handlers_inner (Cons {s = y} {v = v} {g = g} {ss = ss} {vs = vs} {gs = gs} r rs) l d j z f e w x =
       let q = and_parts (g l d) (all_legal gs l d) e in
       let t = handled_inner ss (f + y.block.bodies) in
-      bj f y.block.bodies (y.block.inner f) t (r.base.long f)
-      (r.inner l d j z f q.0 (wf (v.uses (I j z) f) ((all_in_turn vs).uses (I j z) (f + v.bodies)) w) (ff f (y.block.inner f) t x))
-      (handlers_inner rs l d j z (f + y.block.bodies) q.1 (ub (all_in_turn vs) (I j z) f y.block.bodies v.bodies (v.uses (I j z) f) (r.base.count l d q.0) w) (fb f y.block.bodies (y.block.inner f) t (r.base.long f) x))
+      clean_join f y.block.bodies (y.block.inner f) t (r.base.long f)
+      (r.inner l d j z f q.0 (uses_front (v.uses (I j z) f) ((all_in_turn vs).uses (I j z) (f + v.bodies)) w) (flags_front f (y.block.inner f) t x))
+      (handlers_inner rs l d j z (f + y.block.bodies) q.1 (use_back (all_in_turn vs) (I j z) f y.block.bodies v.bodies (v.uses (I j z) f) (r.base.count l d q.0) w) (flags_back f y.block.bodies (y.block.inner f) t (r.base.long f) x))
 
   -- the parts
-  arm_c : (ln : ℕ) (t : Expr) {ss : List Stated} {vs : List Uses} {gs : List Legal} → Related RelC ss vs gs → ArmC (record { line = ln; test = t; block = block ss }) (in_turn (quiet (λ b. read b t)) (all_in_turn vs)) (both (always (sane t)) (all_legal gs))
-  arm_c ln t {ss = ss} {vs = vs} {gs = gs} rs = record {
+  arm_rel_clean : (ln : ℕ) (t : Expr) {ss : List Stated} {vs : List Uses} {gs : List Legal} → Related RelClean ss vs gs → ArmClean (record { line = ln; test = t; block = block ss }) (in_turn (quiet (λ b. read b t)) (all_in_turn vs)) (both (always (sane t)) (all_legal gs))
+  arm_rel_clean ln t {ss = ss} {vs = vs} {gs = gs} rs = record {
     base = arm_rel locals texts cells keys params none ln t (lists rs);
     good = λ j z l d f c e a w x.
         let q = and_parts (sane t) (all_legal gs l d) e in
-        (value_cl ok flags z (N j z) (I j z) refl refl refl to go holds (free j) ln t (wf (read (I j z) t) ((all_in_turn vs).uses (I j z) (f + 0)) w), row_clean ok flags z (pieces ss (N j z) c f) (list_good rs j z l d f c q.1 a (zb (all_in_turn vs) (I j z) f (read (I j z) t) w) x));
-    inner = λ l d j z f e w x. list_inner rs l d j z f (and_parts (sane t) (all_legal gs l d) e).1 (zb (all_in_turn vs) (I j z) f (read (I j z) t) w) x;
+        (clean_value ok flags z (N j z) (I j z) refl refl refl to go holds (free j) ln t (uses_front (read (I j z) t) ((all_in_turn vs).uses (I j z) (f + 0)) w), row_clean ok flags z (pieces ss (N j z) c f) (list_good rs j z l d f c q.1 a (zero_back (all_in_turn vs) (I j z) f (read (I j z) t) w) x));
+    inner = λ l d j z f e w x. list_inner rs l d j z f (and_parts (sane t) (all_legal gs l d) e).1 (zero_back (all_in_turn vs) (I j z) f (read (I j z) t) w) x;
   }
 
-  handler_c : (ln : ℕ) (e t : Option Expr) {ss : List Stated} {vs : List Uses} {gs : List Legal} → Related RelC ss vs gs → HandlerC (record { line = ln; test = e; target = t; block = block ss }) (in_turn (quiet (λ b. read_some b e ++ target_some b t)) (all_in_turn vs)) (both (always (sane_some e && lg.target_some t)) (all_legal gs))
-  handler_c ln e t {ss = ss} {vs = vs} {gs = gs} rs = record {
+  handler_rel_clean : (ln : ℕ) (e t : Option Expr) {ss : List Stated} {vs : List Uses} {gs : List Legal} → Related RelClean ss vs gs → HandlerClean (record { line = ln; test = e; target = t; block = block ss }) (in_turn (quiet (λ b. read_some b e ++ target_some b t)) (all_in_turn vs)) (both (always (sane_some e && lg.target_some t)) (all_legal gs))
+  handler_rel_clean ln e t {ss = ss} {vs = vs} {gs = gs} rs = record {
     base = handler_rel locals texts cells keys params none ln e t (lists rs);
     good = λ j z l f c h a w x.
         let k = I j z in
         let q = and_parts (sane_some e && lg.target_some t) (all_legal gs l true) h in
-        let us = wf (read_some k e ++ target_some k t) ((all_in_turn vs).uses k (f + 0)) w in
-        clause_cl ok flags z (N j z) k refl refl refl to go holds (free j) ln e t (row (pieces ss (N j z) (InClause ∷ c) f)) (wf (read_some k e) (target_some k t) us) (wb (read_some k e) (target_some k t) us) (row_clean ok flags z (pieces ss (N j z) (InClause ∷ c) f) (list_good rs j z l true f (InClause ∷ c) q.1 a (zb (all_in_turn vs) k f (read_some k e ++ target_some k t) w) x));
-    inner = λ l d j z f h w x. list_inner rs l d j z f (and_parts (sane_some e && lg.target_some t) (all_legal gs l d) h).1 (zb (all_in_turn vs) (I j z) f (read_some (I j z) e ++ target_some (I j z) t) w) x;
+        let us = uses_front (read_some k e ++ target_some k t) ((all_in_turn vs).uses k (f + 0)) w in
+        clean_clause ok flags z (N j z) k refl refl refl to go holds (free j) ln e t (row (pieces ss (N j z) (InClause ∷ c) f)) (uses_front (read_some k e) (target_some k t) us) (uses_back (read_some k e) (target_some k t) us) (row_clean ok flags z (pieces ss (N j z) (InClause ∷ c) f) (list_good rs j z l true f (InClause ∷ c) q.1 a (zero_back (all_in_turn vs) k f (read_some k e ++ target_some k t) w) x));
+    inner = λ l d j z f h w x. list_inner rs l d j z f (and_parts (sane_some e && lg.target_some t) (all_legal gs l d) h).1 (zero_back (all_in_turn vs) (I j z) f (read_some (I j z) e ++ target_some (I j z) t) w) x;
   }
 
-  if_c : {as' : List Armed} {vs : List Uses} {gs : List Legal} → Related ArmC as' vs gs → (e : Stated) (ve : Uses) (ge : Legal) → RelC e ve ge → RelC (record { bodies = armed_count as' + e.bodies; code = λ n c f. all_arms 0 (armed as' n c f) (e.code n c (f + armed_count as')); inner = λ f. armed_inner as' f ++ e.inner (f + armed_count as') }) (in_turn (all_in_turn vs) ve) (both (all_legal gs) ge)
-  if_c {as' = as'} {vs = vs} {gs = gs} rs e ve ge re = record {
+  if_rel_clean : {as' : List Armed} {vs : List Uses} {gs : List Legal} → Related ArmClean as' vs gs → (e : Stated) (ve : Uses) (ge : Legal) → RelClean e ve ge → RelClean (record { bodies = armed_count as' + e.bodies; code = λ n c f. all_arms 0 (armed as' n c f) (e.code n c (f + armed_count as')); inner = λ f. armed_inner as' f ++ e.inner (f + armed_count as') }) (in_turn (all_in_turn vs) ve) (both (all_legal gs) ge)
+  if_rel_clean {as' = as'} {vs = vs} {gs = gs} rs e ve ge re = record {
     base = if_rel locals texts cells keys params none (arms rs) e ve ge re.base;
     good = λ j z l d f c h a w x.
         let k = I j z in
@@ -355,8 +355,8 @@ module _ (locals : ℕ → List (List ℕ)) (texts cells : List (List ℕ)) (key
         let t = e.inner (f + armed_count as') in
         let n = arms_long locals texts cells keys params none (arms rs) f in
         template_clean ok flags z 0 0 1 (Sub 0 (row (armed as' (N j z) c f)) ∷ Sub 1 (e.code (N j z) c (f + armed_count as')) ∷ Here E ∷ []) (
-          row_clean ok flags z (armed as' (N j z) c f) (arms_good rs j z l d f c q.0 a (wf ((all_in_turn vs).uses k f) (ve.uses k (f + (all_in_turn vs).bodies)) w) (ff f (armed_inner as' f) t x)),
-          (re.good j z l d (f + armed_count as') c q.1 a (ub ve k f (armed_count as') (all_in_turn vs).bodies ((all_in_turn vs).uses k f) m w) (fb f (armed_count as') (armed_inner as' f) t n x), (tt, tt)),
+          row_clean ok flags z (armed as' (N j z) c f) (arms_good rs j z l d f c q.0 a (uses_front ((all_in_turn vs).uses k f) (ve.uses k (f + (all_in_turn vs).bodies)) w) (flags_front f (armed_inner as' f) t x)),
+          (re.good j z l d (f + armed_count as') c q.1 a (use_back ve k f (armed_count as') (all_in_turn vs).bodies ((all_in_turn vs).uses k f) m w) (flags_back f (armed_count as') (armed_inner as' f) t n x), (tt, tt)),
         );
     inner = λ l d j z f h w x.
         let k = I j z in
@@ -364,33 +364,33 @@ module _ (locals : ℕ → List (List ℕ)) (texts cells : List (List ℕ)) (key
         let m = arms_count locals texts cells keys params none (arms rs) l d q.0 in
         let t = e.inner (f + armed_count as') in
         let n = arms_long locals texts cells keys params none (arms rs) f in
-        bj f (armed_count as') (armed_inner as' f) t n (arms_inner rs l d j z f q.0 (wf ((all_in_turn vs).uses k f) (ve.uses k (f + (all_in_turn vs).bodies)) w) (ff f (armed_inner as' f) t x)) (re.inner l d j z (f + armed_count as') q.1 (ub ve k f (armed_count as') (all_in_turn vs).bodies ((all_in_turn vs).uses k f) m w) (fb f (armed_count as') (armed_inner as' f) t n x));
+        clean_join f (armed_count as') (armed_inner as' f) t n (arms_inner rs l d j z f q.0 (uses_front ((all_in_turn vs).uses k f) (ve.uses k (f + (all_in_turn vs).bodies)) w) (flags_front f (armed_inner as' f) t x)) (re.inner l d j z (f + armed_count as') q.1 (use_back ve k f (armed_count as') (all_in_turn vs).bodies ((all_in_turn vs).uses k f) m w) (flags_back f (armed_count as') (armed_inner as' f) t n x));
   }
 
-  while_c : (a : Armed) (va : Uses) (ga : Legal) → ArmC a va ga → (e : Stated) (ve : Uses) (ge : Legal) → RelC e ve ge → RelC (record { bodies = a.block.bodies + e.bodies; code = λ n c f. while a.line (value n a.line a.test) (a.block.code n (InWhile ∷ c) f) (e.code n c (f + a.block.bodies)); inner = λ f. a.block.inner f ++ e.inner (f + a.block.bodies) }) (in_turn va ve) (both (λ l c. ga true c) ge)
-  while_c y va ga ra e ve ge re = record {
+  while_rel_clean : (a : Armed) (va : Uses) (ga : Legal) → ArmClean a va ga → (e : Stated) (ve : Uses) (ge : Legal) → RelClean e ve ge → RelClean (record { bodies = a.block.bodies + e.bodies; code = λ n c f. while a.line (value n a.line a.test) (a.block.code n (InWhile ∷ c) f) (e.code n c (f + a.block.bodies)); inner = λ f. a.block.inner f ++ e.inner (f + a.block.bodies) }) (in_turn va ve) (both (λ l c. ga true c) ge)
+  while_rel_clean y va ga ra e ve ge re = record {
     base = while_rel locals texts cells keys params none y va ga ra.base e ve ge re.base;
     good = λ j z l d f c h a w x.
         let k = I j z in
         let q = and_parts (ga true d) (ge l d) h in
         let m = ra.base.count true d q.0 in
         let t = e.inner (f + y.block.bodies) in
-        let p = ra.good j z true d f (InWhile ∷ c) q.0 a (wf (va.uses k f) (ve.uses k (f + va.bodies)) w) (ff f (y.block.inner f) t x) in
+        let p = ra.good j z true d f (InWhile ∷ c) q.0 a (uses_front (va.uses k f) (ve.uses k (f + va.bodies)) w) (flags_front f (y.block.inner f) t x) in
         template_clean ok flags z y.line 0 3 (Here A ∷ Alone (value (N j z) y.line y.test) ∷ To 0 JumpFalse B ∷ Sub 0 (y.block.code (N j z) (InWhile ∷ c) f) ∷ To 0 Jump A ∷ Here B ∷ Sub 1 (e.code (N j z) c (f + y.block.bodies)) ∷ Here E ∷ [])
-        (tt, (p.0, ((λ q. tt), (p.1, ((λ q. tt), (tt, (re.good j z l d (f + y.block.bodies) c q.1 a (ub ve k f y.block.bodies va.bodies (va.uses k f) m w) (fb f y.block.bodies (y.block.inner f) t (ra.base.long f) x), (tt, tt))))))));
+        (tt, (p.0, ((λ q. tt), (p.1, ((λ q. tt), (tt, (re.good j z l d (f + y.block.bodies) c q.1 a (use_back ve k f y.block.bodies va.bodies (va.uses k f) m w) (flags_back f y.block.bodies (y.block.inner f) t (ra.base.long f) x), (tt, tt))))))));
     inner = λ l d j z f h w x.
         let k = I j z in
         let q = and_parts (ga true d) (ge l d) h in
         let m = ra.base.count true d q.0 in
         let t = e.inner (f + y.block.bodies) in
-        bj f y.block.bodies (y.block.inner f) t (ra.base.long f) (ra.inner true d j z f q.0 (wf (va.uses k f) (ve.uses k (f + va.bodies)) w) (ff f (y.block.inner f) t x)) (re.inner l d j z (f + y.block.bodies) q.1 (ub ve k f y.block.bodies va.bodies (va.uses k f) m w) (fb f y.block.bodies (y.block.inner f) t (ra.base.long f) x));
+        clean_join f y.block.bodies (y.block.inner f) t (ra.base.long f) (ra.inner true d j z f q.0 (uses_front (va.uses k f) (ve.uses k (f + va.bodies)) w) (flags_front f (y.block.inner f) t x)) (re.inner l d j z (f + y.block.bodies) q.1 (use_back ve k f y.block.bodies va.bodies (va.uses k f) m w) (flags_back f y.block.bodies (y.block.inner f) t (ra.base.long f) x));
   }
 
   for_parts : (t x : Expr) (gs : List Legal) (ge : Legal) (l d : Bool) → both (always (lg.is_target_of t && sane x)) (both (λ l c. all_legal gs true c) ge) l d ≡ true → (all_legal gs true d ≡ true) × (ge l d ≡ true)
   for_parts t x gs ge l d h = and_parts (all_legal gs true d) (ge l d) (and_parts (lg.is_target_of t && sane x) (all_legal gs true d && ge l d) h).1
 
-  for_c : (ln : ℕ) (t y : Expr) {ss : List Stated} {vs : List Uses} {gs : List Legal} → Related RelC ss vs gs → (e : Stated) (ve : Uses) (ge : Legal) → RelC e ve ge → RelC (record { bodies = count ss + e.bodies; code = λ n c f. for ln (stored n ln t) (value n ln y) ((block ss).code n (InFor ∷ c) f) (e.code n c (f + count ss)); inner = λ f. inners ss f ++ e.inner (f + count ss) }) (in_turn (quiet (λ b. target b t ++ read b y)) (in_turn (all_in_turn vs) ve)) (both (always (lg.is_target_of t && sane y)) (both (λ l c. all_legal gs true c) ge))
-  for_c ln t y {ss = ss} {vs = vs} {gs = gs} rs e ve ge re = record {
+  for_rel_clean : (ln : ℕ) (t y : Expr) {ss : List Stated} {vs : List Uses} {gs : List Legal} → Related RelClean ss vs gs → (e : Stated) (ve : Uses) (ge : Legal) → RelClean e ve ge → RelClean (record { bodies = count ss + e.bodies; code = λ n c f. for ln (stored n ln t) (value n ln y) ((block ss).code n (InFor ∷ c) f) (e.code n c (f + count ss)); inner = λ f. inners ss f ++ e.inner (f + count ss) }) (in_turn (quiet (λ b. target b t ++ read b y)) (in_turn (all_in_turn vs) ve)) (both (always (lg.is_target_of t && sane y)) (both (λ l c. all_legal gs true c) ge))
+  for_rel_clean ln t y {ss = ss} {vs = vs} {gs = gs} rs e ve ge re = record {
     base = for_rel locals texts cells keys params none ln t y (lists rs) e ve ge re.base;
     good = λ j z l d f c h a w x.
         let k = I j z in
@@ -398,10 +398,10 @@ module _ (locals : ℕ → List (List ℕ)) (texts cells : List (List ℕ)) (key
         let m = rels_count locals texts cells keys params none (lists rs) true d q.0 in
         let r = e.inner (f + count ss) in
         let n = rels_long locals texts cells keys params none (lists rs) f in
-        let hd = wf (target k t ++ read k y) ((in_turn (all_in_turn vs) ve).uses k (f + 0)) w in
-        let tl = zb (in_turn (all_in_turn vs) ve) k f (target k t ++ read k y) w in
+        let hd = uses_front (target k t ++ read k y) ((in_turn (all_in_turn vs) ve).uses k (f + 0)) w in
+        let tl = zero_back (in_turn (all_in_turn vs) ve) k f (target k t ++ read k y) w in
         template_clean ok flags z ln 0 3 (Alone (value (N j z) ln y) ∷ Op Iter ∷ Here A ∷ To 0 Next B ∷ Alone (stored (N j z) ln t) ∷ Sub 0 ((block ss).code (N j z) (InFor ∷ c) f) ∷ To 0 Jump A ∷ Here B ∷ Sub 1 (e.code (N j z) c (f + count ss)) ∷ Here E ∷ []) (
-          value_cl ok flags z (N j z) k refl refl refl to go holds (free j) ln y (wb (target k t) (read k y) hd),
+          clean_value ok flags z (N j z) k refl refl refl to go holds (free j) ln y (uses_back (target k t) (read k y) hd),
           (
             tt,
             (
@@ -409,10 +409,10 @@ module _ (locals : ℕ → List (List ℕ)) (texts cells : List (List ℕ)) (key
               (
                 (λ q. tt),
                 (
-                  store_cl ok flags z (N j z) k refl refl refl to go holds (free j) ln t (wf (target k t) (read k y) hd),
+                  clean_store ok flags z (N j z) k refl refl refl to go holds (free j) ln t (uses_front (target k t) (read k y) hd),
                   (
-                    row_clean ok flags z (pieces ss (N j z) (InFor ∷ c) f) (list_good rs j z true d f (InFor ∷ c) q.0 a (wf ((all_in_turn vs).uses k f) (ve.uses k (f + (all_in_turn vs).bodies)) tl) (ff f (inners ss f) r x)),
-                    ((λ q. tt), (tt, (re.good j z l d (f + count ss) c q.1 a (ub ve k f (count ss) (all_in_turn vs).bodies ((all_in_turn vs).uses k f) m tl) (fb f (count ss) (inners ss f) r n x), (tt, tt)))),
+                    row_clean ok flags z (pieces ss (N j z) (InFor ∷ c) f) (list_good rs j z true d f (InFor ∷ c) q.0 a (uses_front ((all_in_turn vs).uses k f) (ve.uses k (f + (all_in_turn vs).bodies)) tl) (flags_front f (inners ss f) r x)),
+                    ((λ q. tt), (tt, (re.good j z l d (f + count ss) c q.1 a (use_back ve k f (count ss) (all_in_turn vs).bodies ((all_in_turn vs).uses k f) m tl) (flags_back f (count ss) (inners ss f) r n x), (tt, tt)))),
                   ),
                 ),
               ),
@@ -425,17 +425,17 @@ module _ (locals : ℕ → List (List ℕ)) (texts cells : List (List ℕ)) (key
         let m = rels_count locals texts cells keys params none (lists rs) true d q.0 in
         let r = e.inner (f + count ss) in
         let n = rels_long locals texts cells keys params none (lists rs) f in
-        let tl = zb (in_turn (all_in_turn vs) ve) k f (target k t ++ read k y) w in
-        bj f (count ss) (inners ss f) r n (list_inner rs true d j z f q.0 (wf ((all_in_turn vs).uses k f) (ve.uses k (f + (all_in_turn vs).bodies)) tl) (ff f (inners ss f) r x)) (re.inner l d j z (f + count ss) q.1 (ub ve k f (count ss) (all_in_turn vs).bodies ((all_in_turn vs).uses k f) m tl) (fb f (count ss) (inners ss f) r n x));
+        let tl = zero_back (in_turn (all_in_turn vs) ve) k f (target k t ++ read k y) w in
+        clean_join f (count ss) (inners ss f) r n (list_inner rs true d j z f q.0 (uses_front ((all_in_turn vs).uses k f) (ve.uses k (f + (all_in_turn vs).bodies)) tl) (flags_front f (inners ss f) r x)) (re.inner l d j z (f + count ss) q.1 (use_back ve k f (count ss) (all_in_turn vs).bodies ((all_in_turn vs).uses k f) m tl) (flags_back f (count ss) (inners ss f) r n x));
   }
 
   -- try
   three_uses : (vt vh ve : Uses) (b : Inside) (f m n : ℕ) → m ≡ vt.bodies → n ≡ vh.bodies → W ((in_turn vt (in_turn vh ve)).uses b f) → W (vt.uses b f) × W (vh.uses b (f + m)) × W (ve.uses b (f + m + n))
   three_uses vt vh ve b f m n em en w =
-      let r = wb (vt.uses b f) ((in_turn vh ve).uses b (f + vt.bodies)) w in
-      let x = wf (vh.uses b (f + vt.bodies)) (ve.uses b (f + vt.bodies + vh.bodies)) r in
-      let y = wb (vh.uses b (f + vt.bodies)) (ve.uses b (f + vt.bodies + vh.bodies)) r in
-      (wf (vt.uses b f) ((in_turn vh ve).uses b (f + vt.bodies)) w, subst (λ i. W (vh.uses b (f + i))) (sym em) x, rw (em, en) y)
+      let r = uses_back (vt.uses b f) ((in_turn vh ve).uses b (f + vt.bodies)) w in
+      let x = uses_front (vh.uses b (f + vt.bodies)) (ve.uses b (f + vt.bodies + vh.bodies)) r in
+      let y = uses_back (vh.uses b (f + vt.bodies)) (ve.uses b (f + vt.bodies + vh.bodies)) r in
+      (uses_front (vt.uses b f) ((in_turn vh ve).uses b (f + vt.bodies)) w, subst (λ i. W (vh.uses b (f + i))) (sym em) x, rw (em, en) y)
 
   four_uses : (vt vh ve vd : Uses) (b : Inside) (f m : ℕ) → m ≡ vt.bodies + (vh.bodies + ve.bodies) → W ((in_turn vt (in_turn vh (in_turn ve vd))).uses b f) → W ((in_turn vt (in_turn vh ve)).uses b f) × W (vd.uses b (f + m))
   four_uses vt vh ve vd b f m e w =
@@ -443,20 +443,20 @@ module _ (locals : ℕ → List (List ℕ)) (texts cells : List (List ℕ)) (key
       let h = vh.uses b (f + vt.bodies) in
       let x = ve.uses b (f + vt.bodies + vh.bodies) in
       let d = vd.uses b (f + vt.bodies + vh.bodies + ve.bodies) in
-      let r1 = wb a (h ++ (x ++ d)) w in
-      let r2 = wb h (x ++ d) r1 in
+      let r1 = uses_back a (h ++ (x ++ d)) w in
+      let r2 = uses_back h (x ++ d) r1 in
       let far : f + vt.bodies + vh.bodies + ve.bodies ≡ f + m = omega (arith, e) in
-      (wj a (h ++ x) (wf a (h ++ (x ++ d)) w) (wj h x (wf h (x ++ d) r1) (wf x d r2)), subst (λ i. W (vd.uses b i)) far (wb x d r2))
+      (uses_join a (h ++ x) (uses_front a (h ++ (x ++ d)) w) (uses_join h x (uses_front h (x ++ d) r1) (uses_front x d r2)), subst (λ i. W (vd.uses b i)) far (uses_back x d r2))
 
   three_flags : (t : Claused) (hs : List Handled) (e : Stated) (f : ℕ) → length (t.block.inner f) ≡ t.block.bodies → length (handled_inner hs (f + t.block.bodies)) ≡ handled_count hs → Flagged f (t.block.inner f ++ handled_inner hs (f + t.block.bodies) ++ e.inner (f + t.block.bodies + handled_count hs)) → Flagged f (t.block.inner f) × Flagged (f + t.block.bodies) (handled_inner hs (f + t.block.bodies)) × Flagged (f + t.block.bodies + handled_count hs) (e.inner (f + t.block.bodies + handled_count hs))
   three_flags t hs e f lt lh st =
       let a = t.block.inner f in
       let b = handled_inner hs (f + t.block.bodies) in
       let c = e.inner (f + t.block.bodies + handled_count hs) in
-      let h = ff f (a ++ b) c st in
+      let h = flags_front f (a ++ b) c st in
       let len : length (a ++ b) ≡ t.block.bodies + handled_count hs = omega (arith, lt, lh, length-append a b) in
       let far : f + (t.block.bodies + handled_count hs) ≡ f + t.block.bodies + handled_count hs = omega arith in
-      (ff f a b h, fb f t.block.bodies a b lt h, subst (λ i. Flagged i c) far (fb f (t.block.bodies + handled_count hs) (a ++ b) c len st))
+      (flags_front f a b h, flags_back f t.block.bodies a b lt h, subst (λ i. Flagged i c) far (flags_back f (t.block.bodies + handled_count hs) (a ++ b) c len st))
 
   three_clean : (t : Claused) (hs : List Handled) (e : Stated) (f : ℕ) → length (t.block.inner f) ≡ t.block.bodies → length (handled_inner hs (f + t.block.bodies)) ≡ handled_count hs → BodiesClean f (t.block.inner f) → BodiesClean (f + t.block.bodies) (handled_inner hs (f + t.block.bodies)) → BodiesClean (f + t.block.bodies + handled_count hs) (e.inner (f + t.block.bodies + handled_count hs)) → BodiesClean f (t.block.inner f ++ handled_inner hs (f + t.block.bodies) ++ e.inner (f + t.block.bodies + handled_count hs))
   three_clean t hs e f lt lh p q r =
@@ -465,15 +465,15 @@ module _ (locals : ℕ → List (List ℕ)) (texts cells : List (List ℕ)) (key
       let c = e.inner (f + t.block.bodies + handled_count hs) in
       let len : length (a ++ b) ≡ t.block.bodies + handled_count hs = omega (arith, lt, lh, length-append a b) in
       let far : f + t.block.bodies + handled_count hs ≡ f + (t.block.bodies + handled_count hs) = omega arith in
-      bj f (t.block.bodies + handled_count hs) (a ++ b) c len (bj f t.block.bodies a b lt p q) (subst (λ i. BodiesClean i c) far r)
+      clean_join f (t.block.bodies + handled_count hs) (a ++ b) c len (clean_join f t.block.bodies a b lt p q) (subst (λ i. BodiesClean i c) far r)
 
-  try_c : (t : Claused) (vt : Uses) (gt : Legal) → RelC t.block vt gt → {hs : List Handled} {vs : List Uses} {gs : List Legal} → Related HandlerC hs vs gs → (e : Stated) (ve : Uses) (ge : Legal) → RelC e ve ge → (b : Bool) → (hs ≡ [] → b ≡ true → ve.bodies ≡ 0) → RelC (tried t hs e) (in_turn vt (in_turn (all_in_turn vs) ve)) (both gt (both (λ l c. all_legal gs l true) (both ge (always b))))
-  try_c t vt gt rt Nil e ve ge re b bare = record {
+  try_rel_clean : (t : Claused) (vt : Uses) (gt : Legal) → RelClean t.block vt gt → {hs : List Handled} {vs : List Uses} {gs : List Legal} → Related HandlerClean hs vs gs → (e : Stated) (ve : Uses) (ge : Legal) → RelClean e ve ge → (b : Bool) → (hs ≡ [] → b ≡ true → ve.bodies ≡ 0) → RelClean (tried t hs e) (in_turn vt (in_turn (all_in_turn vs) ve)) (both gt (both (λ l c. all_legal gs l true) (both ge (always b))))
+  try_rel_clean t vt gt rt Nil e ve ge re b bare = record {
     base = try_rel locals texts cells keys params none t vt gt rt.base Nil e ve ge re.base b bare;
-    good = λ j z l d f c h a w x. rt.good j z l d f c (three_parts locals texts cells keys params none gt (λ l c. true) ge b l d h).0 a (wf (vt.uses (I j z) f) ((in_turn none_used ve).uses (I j z) (f + vt.bodies)) w) x;
-    inner = λ l d j z f h w x. rt.inner l d j z f (three_parts locals texts cells keys params none gt (λ l c. true) ge b l d h).0 (wf (vt.uses (I j z) f) ((in_turn none_used ve).uses (I j z) (f + vt.bodies)) w) x;
+    good = λ j z l d f c h a w x. rt.good j z l d f c (three_parts locals texts cells keys params none gt (λ l c. true) ge b l d h).0 a (uses_front (vt.uses (I j z) f) ((in_turn none_used ve).uses (I j z) (f + vt.bodies)) w) x;
+    inner = λ l d j z f h w x. rt.inner l d j z f (three_parts locals texts cells keys params none gt (λ l c. true) ge b l d h).0 (uses_front (vt.uses (I j z) f) ((in_turn none_used ve).uses (I j z) (f + vt.bodies)) w) x;
   }
-  try_c t vt gt rt (Cons {s = y} {v = v} {g = g} {ss = ss} {vs = vs} {gs = gs} r rs) e ve ge re b bare = record {
+  try_rel_clean t vt gt rt (Cons {s = y} {v = v} {g = g} {ss = ss} {vs = vs} {gs = gs} r rs) e ve ge re b bare = record {
     base = try_rel locals texts cells keys params none t vt gt rt.base (handlers hs) e ve ge re.base b bare;
     good = λ j z l d f c h a w x.
         let k = I j z in
@@ -490,68 +490,68 @@ module _ (locals : ℕ → List (List ℕ)) (texts cells : List (List ℕ)) (key
         three_clean t (y ∷ ss) e f (rt.base.long f) (handlers_long locals texts cells keys params none (handlers hs) (f + t.block.bodies)) (rt.inner l d j z f q.0 ws.0 xs.0) (handlers_inner hs l true j z (f + t.block.bodies) q.1 ws.1 xs.1) (re.inner l d j z (f + t.block.bodies + handled_count (y ∷ ss)) q.2 ws.2 xs.2);
   }
     where
-      hs : Related HandlerC (y ∷ ss) (v ∷ vs) (g ∷ gs)
+      hs : Related HandlerClean (y ∷ ss) (v ∷ vs) (g ∷ gs)
       hs = Cons r rs
 
   abbrev four : Legal → Legal → Legal → Legal → Bool → Legal
   four gt gh ge gd b = both gt (both (λ l c. gh l true) (both ge (both gd (always b))))
 
-  finally_c : (ln : ℕ) (t : Stated) (vt vh ve : Uses) (gt gh ge : Legal) (b : Bool) → RelC t (in_turn vt (in_turn vh ve)) (both gt (both (λ l c. gh l true) (both ge (always b)))) → (d : Claused) (vd : Uses) (gd : Legal) → RelC d.block vd gd → RelC (finally ln t (Some d)) (in_turn vt (in_turn vh (in_turn ve vd))) (four gt gh ge gd b)
-  finally_c ln t vt vh ve gt gh ge b rt y vd gd rd = record {
+  finally_rel_clean : (ln : ℕ) (t : Stated) (vt vh ve : Uses) (gt gh ge : Legal) (b : Bool) → RelClean t (in_turn vt (in_turn vh ve)) (both gt (both (λ l c. gh l true) (both ge (always b)))) → (d : Claused) (vd : Uses) (gd : Legal) → RelClean d.block vd gd → RelClean (finally ln t (Some d)) (in_turn vt (in_turn vh (in_turn ve vd))) (four gt gh ge gd b)
+  finally_rel_clean ln t vt vh ve gt gh ge b rt y vd gd rd = record {
     base = finally_rel locals texts cells keys params none ln t vt vh ve gt gh ge b rt.base y vd gd rd.base;
     good = λ j z l d f c h a w x.
         let q = four_parts locals texts cells keys params none gt gh ge gd b l d h in
         let us = four_uses vt vh ve vd (I j z) f t.bodies (rt.base.count l d q.0) w in
         let fin = y.block.code (N j z) c (f + t.bodies) in
-        let fc = rd.good j z l d (f + t.bodies) c q.1 a us.1 (fb f t.bodies (t.inner f) (y.block.inner (f + t.bodies)) (rt.base.long f) x) in
+        let fc = rd.good j z l d (f + t.bodies) c q.1 a us.1 (flags_back f t.bodies (t.inner f) (y.block.inner (f + t.bodies)) (rt.base.long f) x) in
         template_clean ok flags z ln 1 2 (To 0 Try H ∷ Sub 0 (t.code (N j z) (InFinally fin ∷ c) f) ∷ Op PopTry ∷ Sub 1 fin ∷ To 0 Jump E ∷ Here H ∷ Hidden 0 StoreLocal ∷ Sub 1 fin ∷ Hidden 0 LoadLocal ∷ Op Raise ∷ Here E ∷ [])
-        ((λ q. tt), (rt.good j z l d f (InFinally fin ∷ c) q.0 (fc, a) us.0 (ff f (t.inner f) (y.block.inner (f + t.bodies)) x), (tt, (fc, ((λ q. tt), (tt, ((λ s. tt), (fc, ((λ s. tt), (tt, (tt, tt)))))))))));
+        ((λ q. tt), (rt.good j z l d f (InFinally fin ∷ c) q.0 (fc, a) us.0 (flags_front f (t.inner f) (y.block.inner (f + t.bodies)) x), (tt, (fc, ((λ q. tt), (tt, ((λ s. tt), (fc, ((λ s. tt), (tt, (tt, tt)))))))))));
     inner = λ l d j z f h w x.
         let q = four_parts locals texts cells keys params none gt gh ge gd b l d h in
         let us = four_uses vt vh ve vd (I j z) f t.bodies (rt.base.count l d q.0) w in
-        bj f t.bodies (t.inner f) (y.block.inner (f + t.bodies)) (rt.base.long f) (rt.inner l d j z f q.0 us.0 (ff f (t.inner f) (y.block.inner (f + t.bodies)) x)) (rd.inner l d j z (f + t.bodies) q.1 us.1 (fb f t.bodies (t.inner f) (y.block.inner (f + t.bodies)) (rt.base.long f) x));
+        clean_join f t.bodies (t.inner f) (y.block.inner (f + t.bodies)) (rt.base.long f) (rt.inner l d j z f q.0 us.0 (flags_front f (t.inner f) (y.block.inner (f + t.bodies)) x)) (rd.inner l d j z (f + t.bodies) q.1 us.1 (flags_back f t.bodies (t.inner f) (y.block.inner (f + t.bodies)) (rt.base.long f) x));
   }
 
-  no_finally_c : (ln : ℕ) (t : Stated) (vt vh ve : Uses) (gt gh ge : Legal) (b : Bool) → RelC t (in_turn vt (in_turn vh ve)) (both gt (both (λ l c. gh l true) (both ge (always b)))) → RelC (finally ln t None) (in_turn vt (in_turn vh (in_turn ve none_used))) (four gt gh ge (λ l c. true) b)
-  no_finally_c ln t vt vh ve gt gh ge b rt = record {
+  no_finally_rel_clean : (ln : ℕ) (t : Stated) (vt vh ve : Uses) (gt gh ge : Legal) (b : Bool) → RelClean t (in_turn vt (in_turn vh ve)) (both gt (both (λ l c. gh l true) (both ge (always b)))) → RelClean (finally ln t None) (in_turn vt (in_turn vh (in_turn ve none_used))) (four gt gh ge (λ l c. true) b)
+  no_finally_rel_clean ln t vt vh ve gt gh ge b rt = record {
     base = no_finally_rel locals texts cells keys params none ln t vt vh ve gt gh ge b rt.base;
     good = λ j z l d f c h a w x. rt.good j z l d f c (four_parts locals texts cells keys params none gt gh ge (λ l c. true) b l d h).0 a (four_uses vt vh ve none_used (I j z) f (vt.bodies + (vh.bodies + ve.bodies)) refl w).0 x;
     inner = λ l d j z f h w x. rt.inner l d j z f (four_parts locals texts cells keys params none gt gh ge (λ l c. true) b l d h).0 (four_uses vt vh ve none_used (I j z) f (vt.bodies + (vh.bodies + ve.bodies)) refl w).0 x;
   }
 
   -- functions and classes
-  def_c : (ln : ℕ) (y : List ℕ) (ps : List Param) {ss : List Stated} {vs : List Uses} {gs : List Legal} → Related RelC ss vs gs → RelC (record { bodies = 1 + count ss; code = λ n c f. def ln (values n ln (defaults ps)) f (home n y); inner = inner_body ln y false (length ps) ss }) (body_used locals (λ b. name_bound b y ++ read_defaults b ps) false (all_in_turn vs)) (always (lg.sane_defaults ps && all_legal gs false false))
-  def_c ln y ps {ss = ss} {vs = vs} {gs = gs} rs = record {
+  def_rel_clean : (ln : ℕ) (y : List ℕ) (ps : List Param) {ss : List Stated} {vs : List Uses} {gs : List Legal} → Related RelClean ss vs gs → RelClean (record { bodies = 1 + count ss; code = λ n c f. def ln (values n ln (defaults ps)) f (home n y); inner = inner_body ln y false (length ps) ss }) (body_used locals (λ b. name_bound b y ++ read_defaults b ps) false (all_in_turn vs)) (always (lg.sane_defaults ps && all_legal gs false false))
+  def_rel_clean ln y ps {ss = ss} {vs = vs} {gs = gs} rs = record {
     base = def_rel locals texts cells keys params none ln y ps (lists rs);
     good = λ j z l d f c h a w x.
         let k = I j z in
-        let us = wf (name_bound k y ++ read_defaults k ps) ((all_in_turn vs).uses (I f false) (f + 1)) w in
-        def_cl ok flags z (N j z) k refl refl refl to go holds (free j) ln y ps f (x.0, x.1) (wb (name_bound k y) (read_defaults k ps) us);
+        let us = uses_front (name_bound k y ++ read_defaults k ps) ((all_in_turn vs).uses (I f false) (f + 1)) w in
+        clean_def ok flags z (N j z) k refl refl refl to go holds (free j) ln y ps f (x.0, x.1) (uses_back (name_bound k y) (read_defaults k ps) us);
     inner = λ l d j z f h w x.
         let q = (and_parts (lg.sane_defaults ps) (all_legal gs false false) h).1 in
-        let us = wb (name_bound (I j z) y ++ read_defaults (I j z) ps) ((all_in_turn vs).uses (I f false) (f + 1)) w in
+        let us = uses_back (name_bound (I j z) y ++ read_defaults (I j z) ps) ((all_in_turn vs).uses (I f false) (f + 1)) w in
         (row_clean ok flags false (pieces ss (N f false) [] (f + 1)) (list_good rs f false false false (f + 1) [] q tt us x.2), list_inner rs false false f false (f + 1) q us x.2);
   }
 
-  class_c : (ln : ℕ) (y : List ℕ) (e : Option Expr) {ss : List Stated} {vs : List Uses} {gs : List Legal} → Related RelC ss vs gs → RelC (record { bodies = 1 + count ss; code = λ n c f. class ln (base n ln e) f (home n y); inner = inner_body ln y true 0 ss }) (body_used locals (λ b. name_bound b y ++ read_some b e) true (all_in_turn vs)) (always (sane_some e && all_legal gs false false))
-  class_c ln y e {ss = ss} {vs = vs} {gs = gs} rs = record {
+  class_rel_clean : (ln : ℕ) (y : List ℕ) (e : Option Expr) {ss : List Stated} {vs : List Uses} {gs : List Legal} → Related RelClean ss vs gs → RelClean (record { bodies = 1 + count ss; code = λ n c f. class ln (base n ln e) f (home n y); inner = inner_body ln y true 0 ss }) (body_used locals (λ b. name_bound b y ++ read_some b e) true (all_in_turn vs)) (always (sane_some e && all_legal gs false false))
+  class_rel_clean ln y e {ss = ss} {vs = vs} {gs = gs} rs = record {
     base = class_rel locals texts cells keys params none ln y e (lists rs);
     good = λ j z l d f c h a w x.
         let k = I j z in
-        let us = wf (name_bound k y ++ read_some k e) ((all_in_turn vs).uses (I f true) (f + 1)) w in
-        class_cl ok flags z (N j z) k refl refl refl to go holds (free j) ln y e f (x.0, x.1) (wb (name_bound k y) (read_some k e) us);
+        let us = uses_front (name_bound k y ++ read_some k e) ((all_in_turn vs).uses (I f true) (f + 1)) w in
+        clean_class ok flags z (N j z) k refl refl refl to go holds (free j) ln y e f (x.0, x.1) (uses_back (name_bound k y) (read_some k e) us);
     inner = λ l d j z f h w x.
         let q = (and_parts (sane_some e) (all_legal gs false false) h).1 in
-        let us = wb (name_bound (I j z) y ++ read_some (I j z) e) ((all_in_turn vs).uses (I f true) (f + 1)) w in
+        let us = uses_back (name_bound (I j z) y ++ read_some (I j z) e) ((all_in_turn vs).uses (I f true) (f + 1)) w in
         (row_clean ok flags true (pieces ss (N f true) [] (f + 1)) (list_good rs f true false false (f + 1) [] q tt us x.2), list_inner rs false false f true (f + 1) q us x.2);
   }
 
   -- one layer, whose parts are so
   abbrev C-with : Type 0
-  C-with = ClauseWith locals RelC ArmC HandlerC
+  C-with = ClauseWith locals RelClean ArmClean HandlerClean
 
   abbrev H-with : Type 0
-  H-with = HandlerWith locals RelC ArmC HandlerC
+  H-with = HandlerWith locals RelClean ArmClean HandlerClean
 
   abbrev fs : List H-with → List Handled
   fs ys = map code_by_handler (map (λ y. y.0) ys)
@@ -562,43 +562,43 @@ module _ (locals : ℕ → List (List ℕ)) (texts cells : List (List ℕ)) (key
   abbrev ls : List H-with → List Legal
   ls ys = map legal_by_handler (map (λ y. y.0) ys)
 
-  without : (t : C-with) (ys : List H-with) (e : Stated) (ve : Uses) (ge : Legal) → RelC e ve ge → (b : Bool) → (fs ys ≡ [] → b ≡ true → ve.bodies ≡ 0) → RelC (finally (code_by_clause t.0).line (tried (code_by_clause t.0) (fs ys) e) None) (in_turn (uses_by_clause locals t.0) (in_turn (us ys) (in_turn ve none_used))) (four (legal_by_clause t.0) (all_legal (ls ys)) ge (λ l c. true) b)
-  without t ys e ve ge re b bare = no_finally_c (code_by_clause t.0).line (tried (code_by_clause t.0) (fs ys) e) (uses_by_clause locals t.0) (us ys) ve (legal_by_clause t.0) (all_legal (ls ys)) ge b (try_c (code_by_clause t.0) (uses_by_clause locals t.0) (legal_by_clause t.0) t.1 (related_of HandlerC code_by_handler (uses_by_handler locals) legal_by_handler ys) e ve ge re b bare)
+  without : (t : C-with) (ys : List H-with) (e : Stated) (ve : Uses) (ge : Legal) → RelClean e ve ge → (b : Bool) → (fs ys ≡ [] → b ≡ true → ve.bodies ≡ 0) → RelClean (finally (code_by_clause t.0).line (tried (code_by_clause t.0) (fs ys) e) None) (in_turn (uses_by_clause locals t.0) (in_turn (us ys) (in_turn ve none_used))) (four (legal_by_clause t.0) (all_legal (ls ys)) ge (λ l c. true) b)
+  without t ys e ve ge re b bare = no_finally_rel_clean (code_by_clause t.0).line (tried (code_by_clause t.0) (fs ys) e) (uses_by_clause locals t.0) (us ys) ve (legal_by_clause t.0) (all_legal (ls ys)) ge b (try_rel_clean (code_by_clause t.0) (uses_by_clause locals t.0) (legal_by_clause t.0) t.1 (related_of HandlerClean code_by_handler (uses_by_handler locals) legal_by_handler ys) e ve ge re b bare)
 
-  with_finally : (t : C-with) (ys : List H-with) (e : Stated) (ve : Uses) (ge : Legal) → RelC e ve ge → (b : Bool) → (fs ys ≡ [] → b ≡ true → ve.bodies ≡ 0) → (d : C-with) → RelC (finally (code_by_clause t.0).line (tried (code_by_clause t.0) (fs ys) e) (Some (code_by_clause d.0))) (in_turn (uses_by_clause locals t.0) (in_turn (us ys) (in_turn ve (uses_by_clause locals d.0)))) (four (legal_by_clause t.0) (all_legal (ls ys)) ge (legal_by_clause d.0) b)
-  with_finally t ys e ve ge re b bare d = finally_c (code_by_clause t.0).line (tried (code_by_clause t.0) (fs ys) e) (uses_by_clause locals t.0) (us ys) ve (legal_by_clause t.0) (all_legal (ls ys)) ge b (try_c (code_by_clause t.0) (uses_by_clause locals t.0) (legal_by_clause t.0) t.1 (related_of HandlerC code_by_handler (uses_by_handler locals) legal_by_handler ys) e ve ge re b bare) (code_by_clause d.0) (uses_by_clause locals d.0) (legal_by_clause d.0) d.1
+  with_finally : (t : C-with) (ys : List H-with) (e : Stated) (ve : Uses) (ge : Legal) → RelClean e ve ge → (b : Bool) → (fs ys ≡ [] → b ≡ true → ve.bodies ≡ 0) → (d : C-with) → RelClean (finally (code_by_clause t.0).line (tried (code_by_clause t.0) (fs ys) e) (Some (code_by_clause d.0))) (in_turn (uses_by_clause locals t.0) (in_turn (us ys) (in_turn ve (uses_by_clause locals d.0)))) (four (legal_by_clause t.0) (all_legal (ls ys)) ge (legal_by_clause d.0) b)
+  with_finally t ys e ve ge re b bare d = finally_rel_clean (code_by_clause t.0).line (tried (code_by_clause t.0) (fs ys) e) (uses_by_clause locals t.0) (us ys) ve (legal_by_clause t.0) (all_legal (ls ys)) ge b (try_rel_clean (code_by_clause t.0) (uses_by_clause locals t.0) (legal_by_clause t.0) t.1 (related_of HandlerClean code_by_handler (uses_by_handler locals) legal_by_handler ys) e ve ge re b bare) (code_by_clause d.0) (uses_by_clause locals d.0) (legal_by_clause d.0) d.1
 
-  layer : (y : LayerWith locals RelC ArmC HandlerC) → IsLayer locals RelC ArmC HandlerC y
-  layer (open'.Do ln e) = still_c _ _ _ (still_rel locals texts cells keys params none _ _ _ (λ j z sl p s c h w. do_here locals texts cells keys params none j z sl p s c ln e h w)) (λ j z c a w. do_cl ok flags z (N j z) (I j z) refl refl refl to go holds (free j) ln e w)
-  layer (open'.Assign ln ts e) = still_c _ _ _ (still_rel locals texts cells keys params none _ _ _ (λ j z sl p s c h w. assign_here locals texts cells keys params none j z sl p s c ln ts e h w)) (λ j z c a w. assign_cl ok flags z (N j z) (I j z) refl refl refl to go holds (free j) ln ts e w)
-  layer (open'.Augment ln t o e) = still_c _ _ _ (still_rel locals texts cells keys params none _ _ _ (λ j z sl p s c h w. augment_here locals texts cells keys params none j z sl p s c ln t o e h w)) (λ j z c a w. augment_cl ok flags z (N j z) (I j z) refl refl refl to go holds (free j) ln t o e w)
-  layer (open'.Print ln es comma) = still_c _ _ _ (still_rel locals texts cells keys params none _ _ _ (λ j z sl p s c h w. print_here locals texts cells keys params none j z sl p s c ln es comma h w)) (λ j z c a w. print_cl ok flags z (N j z) (I j z) refl refl refl to go holds (free j) ln es comma w)
-  layer (open'.Pass ln) = still_c _ _ _ (still_rel locals texts cells keys params none _ _ _ (λ j z sl p s c h w. nothing_does (K j sl p) ln c)) (λ j z c a w. template_clean ok flags z ln 0 0 [] tt)
-  layer (open'.Break ln) = still_c _ _ _ (still_rel locals texts cells keys params none _ _ _ (λ j z sl p s c h w. leaves_does (K j sl p) c (break_code ln c) (break_does (K j sl p) ln c h))) (λ j z c a w. break_clean ok flags z ln c a)
-  layer (open'.Continue ln) = still_c _ _ _ (still_rel locals texts cells keys params none _ _ _ (λ j z sl p s c h w. leaves_does (K j sl p) c (continue_code ln c) (continue_does (K j sl p) ln c h))) (λ j z c a w. continue_clean ok flags z ln c a)
-  layer (open'.Return ln e) = still_c _ _ _ (still_rel locals texts cells keys params none _ _ _ (λ j z sl p s c h w. return_here locals texts cells keys params none j z sl p s c ln e h w)) (λ j z c a w. return_clean ok flags z ln (value_some (N j z) ln e) c (some_cl ok flags z (N j z) (I j z) refl refl refl to go holds (free j) ln e w) a)
-  layer (open'.Raise ln e v) = still_c _ _ _ (still_rel locals texts cells keys params none _ _ _ (λ j z sl p s c h w. raise_here locals texts cells keys params none j z sl p s c ln e v h w)) (λ j z c a w. raise_cl ok flags z (N j z) (I j z) refl refl refl to go holds (free j) ln c e v a w)
-  layer (open'.Del ln ts) = still_c _ _ _ (still_rel locals texts cells keys params none _ _ _ (λ j z sl p s c h w. del_here locals texts cells keys params none j z sl p s c ln ts h w)) (λ j z c a w. del_cl ok flags z (N j z) (I j z) refl refl refl to go holds (free j) ln ts w)
-  layer (open'.Global ln xs) = still_c _ _ _ (still_rel locals texts cells keys params none _ _ _ (λ j z sl p s c h w. nothing_does (K j sl p) ln c)) (λ j z c a w. template_clean ok flags z ln 0 0 [] tt)
-  layer (open'.Assert ln t m) = still_c _ _ _ (still_rel locals texts cells keys params none _ _ _ (λ j z sl p s c h w. assert_here locals texts cells keys params none j z sl p s c ln t m h w)) (λ j z c a w. assert_cl ok flags z (N j z) (I j z) refl refl refl to go holds (free j) ln t m w)
-  layer (open'.Import ln is) = still_c _ _ _ (still_rel locals texts cells keys params none _ _ _ (λ j z sl p s c h w. import_here locals texts cells keys params none j z sl p s c ln is w)) (λ j z c a w. import_all_cl ok flags z (N j z) (I j z) refl refl refl to go holds (free j) ln is)
-  layer (open'.From ln m is) = still_c _ _ _ (still_rel locals texts cells keys params none _ _ _ (λ j z sl p s c h w. from_here locals texts cells keys params none j z sl p s c ln is w)) (λ j z c a w. from_all_cl ok flags z (N j z) (I j z) refl refl refl to go holds (free j) ln is)
-  layer (open'.If ys None) = if_c (related_of ArmC code_by_arm (uses_by_arm locals) legal_by_arm ys) (block []) none_used (λ l c. true) none_c
-  layer (open'.If ys (Some e)) = if_c (related_of ArmC code_by_arm (uses_by_arm locals) legal_by_arm ys) (code_by_clause e.0).block (uses_by_clause locals e.0) (legal_by_clause e.0) e.1
-  layer (open'.While a None) = while_c (code_by_arm a.0) (uses_by_arm locals a.0) (legal_by_arm a.0) a.1 (block []) none_used (λ l c. true) none_c
-  layer (open'.While a (Some e)) = while_c (code_by_arm a.0) (uses_by_arm locals a.0) (legal_by_arm a.0) a.1 (code_by_clause e.0).block (uses_by_clause locals e.0) (legal_by_clause e.0) e.1
-  layer (open'.For ln t x ys None) = for_c ln t x (related_of RelC stated (stmt_uses locals) legal ys) (block []) none_used (λ l c. true) none_c
-  layer (open'.For ln t x ys (Some e)) = for_c ln t x (related_of RelC stated (stmt_uses locals) legal ys) (code_by_clause e.0).block (uses_by_clause locals e.0) (legal_by_clause e.0) e.1
-  layer (open'.Try t ys None None) = without t ys (block []) none_used (λ l c. true) none_c (has_clause (ls ys) None) (λ e h. refl)
+  layer : (y : LayerWith locals RelClean ArmClean HandlerClean) → IsLayer locals RelClean ArmClean HandlerClean y
+  layer (open'.Do ln e) = still_rel_clean _ _ _ (still_rel locals texts cells keys params none _ _ _ (λ j z sl p s c h w. do_here locals texts cells keys params none j z sl p s c ln e h w)) (λ j z c a w. clean_do ok flags z (N j z) (I j z) refl refl refl to go holds (free j) ln e w)
+  layer (open'.Assign ln ts e) = still_rel_clean _ _ _ (still_rel locals texts cells keys params none _ _ _ (λ j z sl p s c h w. assign_here locals texts cells keys params none j z sl p s c ln ts e h w)) (λ j z c a w. clean_assign ok flags z (N j z) (I j z) refl refl refl to go holds (free j) ln ts e w)
+  layer (open'.Augment ln t o e) = still_rel_clean _ _ _ (still_rel locals texts cells keys params none _ _ _ (λ j z sl p s c h w. augment_here locals texts cells keys params none j z sl p s c ln t o e h w)) (λ j z c a w. clean_augment ok flags z (N j z) (I j z) refl refl refl to go holds (free j) ln t o e w)
+  layer (open'.Print ln es comma) = still_rel_clean _ _ _ (still_rel locals texts cells keys params none _ _ _ (λ j z sl p s c h w. print_here locals texts cells keys params none j z sl p s c ln es comma h w)) (λ j z c a w. clean_print ok flags z (N j z) (I j z) refl refl refl to go holds (free j) ln es comma w)
+  layer (open'.Pass ln) = still_rel_clean _ _ _ (still_rel locals texts cells keys params none _ _ _ (λ j z sl p s c h w. nothing_does (K j sl p) ln c)) (λ j z c a w. template_clean ok flags z ln 0 0 [] tt)
+  layer (open'.Break ln) = still_rel_clean _ _ _ (still_rel locals texts cells keys params none _ _ _ (λ j z sl p s c h w. leaves_does (K j sl p) c (break_code ln c) (break_does (K j sl p) ln c h))) (λ j z c a w. break_clean ok flags z ln c a)
+  layer (open'.Continue ln) = still_rel_clean _ _ _ (still_rel locals texts cells keys params none _ _ _ (λ j z sl p s c h w. leaves_does (K j sl p) c (continue_code ln c) (continue_does (K j sl p) ln c h))) (λ j z c a w. continue_clean ok flags z ln c a)
+  layer (open'.Return ln e) = still_rel_clean _ _ _ (still_rel locals texts cells keys params none _ _ _ (λ j z sl p s c h w. return_here locals texts cells keys params none j z sl p s c ln e h w)) (λ j z c a w. return_clean ok flags z ln (value_some (N j z) ln e) c (clean_some ok flags z (N j z) (I j z) refl refl refl to go holds (free j) ln e w) a)
+  layer (open'.Raise ln e v) = still_rel_clean _ _ _ (still_rel locals texts cells keys params none _ _ _ (λ j z sl p s c h w. raise_here locals texts cells keys params none j z sl p s c ln e v h w)) (λ j z c a w. clean_raise ok flags z (N j z) (I j z) refl refl refl to go holds (free j) ln c e v a w)
+  layer (open'.Del ln ts) = still_rel_clean _ _ _ (still_rel locals texts cells keys params none _ _ _ (λ j z sl p s c h w. del_here locals texts cells keys params none j z sl p s c ln ts h w)) (λ j z c a w. clean_del ok flags z (N j z) (I j z) refl refl refl to go holds (free j) ln ts w)
+  layer (open'.Global ln xs) = still_rel_clean _ _ _ (still_rel locals texts cells keys params none _ _ _ (λ j z sl p s c h w. nothing_does (K j sl p) ln c)) (λ j z c a w. template_clean ok flags z ln 0 0 [] tt)
+  layer (open'.Assert ln t m) = still_rel_clean _ _ _ (still_rel locals texts cells keys params none _ _ _ (λ j z sl p s c h w. assert_here locals texts cells keys params none j z sl p s c ln t m h w)) (λ j z c a w. clean_assert ok flags z (N j z) (I j z) refl refl refl to go holds (free j) ln t m w)
+  layer (open'.Import ln is) = still_rel_clean _ _ _ (still_rel locals texts cells keys params none _ _ _ (λ j z sl p s c h w. import_here locals texts cells keys params none j z sl p s c ln is w)) (λ j z c a w. clean_import_all ok flags z (N j z) (I j z) refl refl refl to go holds (free j) ln is)
+  layer (open'.From ln m is) = still_rel_clean _ _ _ (still_rel locals texts cells keys params none _ _ _ (λ j z sl p s c h w. from_here locals texts cells keys params none j z sl p s c ln is w)) (λ j z c a w. clean_from_all ok flags z (N j z) (I j z) refl refl refl to go holds (free j) ln is)
+  layer (open'.If ys None) = if_rel_clean (related_of ArmClean code_by_arm (uses_by_arm locals) legal_by_arm ys) (block []) none_used (λ l c. true) none_rel_clean
+  layer (open'.If ys (Some e)) = if_rel_clean (related_of ArmClean code_by_arm (uses_by_arm locals) legal_by_arm ys) (code_by_clause e.0).block (uses_by_clause locals e.0) (legal_by_clause e.0) e.1
+  layer (open'.While a None) = while_rel_clean (code_by_arm a.0) (uses_by_arm locals a.0) (legal_by_arm a.0) a.1 (block []) none_used (λ l c. true) none_rel_clean
+  layer (open'.While a (Some e)) = while_rel_clean (code_by_arm a.0) (uses_by_arm locals a.0) (legal_by_arm a.0) a.1 (code_by_clause e.0).block (uses_by_clause locals e.0) (legal_by_clause e.0) e.1
+  layer (open'.For ln t x ys None) = for_rel_clean ln t x (related_of RelClean stated (stmt_uses locals) legal ys) (block []) none_used (λ l c. true) none_rel_clean
+  layer (open'.For ln t x ys (Some e)) = for_rel_clean ln t x (related_of RelClean stated (stmt_uses locals) legal ys) (code_by_clause e.0).block (uses_by_clause locals e.0) (legal_by_clause e.0) e.1
+  layer (open'.Try t ys None None) = without t ys (block []) none_used (λ l c. true) none_rel_clean (has_clause (ls ys) None) (λ e h. refl)
   layer (open'.Try t ys (Some e) None) = without t ys (code_by_clause e.0).block (uses_by_clause locals e.0) (legal_by_clause e.0) e.1 (has_clause (ls ys) (Some (legal_by_clause e.0))) (clause_stands code_by_handler legal_by_handler (map (λ y. y.0) ys) (legal_by_clause e.0) (uses_by_clause locals e.0).bodies)
-  layer (open'.Try t ys None (Some d)) = with_finally t ys (block []) none_used (λ l c. true) none_c (has_clause (ls ys) None) (λ e h. refl) d
+  layer (open'.Try t ys None (Some d)) = with_finally t ys (block []) none_used (λ l c. true) none_rel_clean (has_clause (ls ys) None) (λ e h. refl) d
   layer (open'.Try t ys (Some e) (Some d)) = with_finally t ys (code_by_clause e.0).block (uses_by_clause locals e.0) (legal_by_clause e.0) e.1 (has_clause (ls ys) (Some (legal_by_clause e.0))) (clause_stands code_by_handler legal_by_handler (map (λ y. y.0) ys) (legal_by_clause e.0) (uses_by_clause locals e.0).bodies) d
-  layer (open'.Def ln x ps ys) = def_c ln x ps (related_of RelC stated (stmt_uses locals) legal ys)
-  layer (open'.Class ln x e ys) = class_c ln x e (related_of RelC stated (stmt_uses locals) legal ys)
+  layer (open'.Def ln x ps ys) = def_rel_clean ln x ps (related_of RelClean stated (stmt_uses locals) legal ys)
+  layer (open'.Class ln x e ys) = class_rel_clean ln x e (related_of RelClean stated (stmt_uses locals) legal ys)
 
-  pub stmts_clean : (ss : List Stmt) → Related RelC (all_stated ss) (map (stmt_uses locals) ss) (map legal ss)
-  stmts_clean = every_stmts locals RelC ArmC HandlerC layer (λ ss vs gs rs. block_c rs) (λ ln t ss vs gs rs. arm_c ln t rs) (λ ln e t ss vs gs rs. handler_c ln e t rs)
+  pub stmts_clean : (ss : List Stmt) → Related RelClean (all_stated ss) (map (stmt_uses locals) ss) (map legal ss)
+  stmts_clean = every_stmts locals RelClean ArmClean HandlerClean layer (λ ss vs gs rs. block_rel_clean rs) (λ ln t ss vs gs rs. arm_rel_clean ln t rs) (λ ln e t ss vs gs rs. handler_rel_clean ln e t rs)
 
   -- a module's statements, and the bodies inside them
   pub module_clean : (ss : List Stmt) → all_legal (map legal ss) false false ≡ true → W ((all_in_turn (map (stmt_uses locals) ss)).uses (I 0 false) 1) → Flagged 1 (inners (all_stated ss) 1) → IsClean ok flags false ((block (all_stated ss)).code (N 0 false) [] 1) × BodiesClean 1 (inners (all_stated ss) 1)
-  module_clean ss h w x = let r = block_c (stmts_clean ss) in (r.good 0 false false false 1 [] h tt w x, r.inner false false 0 false 1 h w x)
+  module_clean ss h w x = let r = block_rel_clean (stmts_clean ss) in (r.good 0 false false false 1 [] h tt w x, r.inner false false 0 false 1 h w x)

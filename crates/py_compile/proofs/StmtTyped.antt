@@ -18,7 +18,8 @@ use Rattle.py_compile.proofs.Sane.{sane, sane_some}
 use Rattle.py_compile.proofs.Legal.{Legal, always, both, all_legal, legal_or, has_clause, is_target_of, sane_defaults, legal, legal_by_arm, legal_by_clause, legal_by_handler}
 use Rattle.py_compile.proofs.Legal as lg
 use Rattle.py_compile.proofs.Values.{Each, Value}
-use Rattle.py_compile.proofs.Blocks.{Does, block_does, in_loop, in_clause, leaves_does, nothing_does, break_does, continue_does, Arm, arm_is, all_arms_does, while_does, for_does, Clause, clause_bare_is, clause_test_is, clause_target_is, try_except_does, try_finally_does, def_does, class_does}
+use Rattle.py_compile.proofs.Blocks.{Does, block_does, in_loop, in_clause, leaves_does, nothing_does, break_does, continue_does, Clause}
+use Rattle.py_compile.proofs.Constructs.{Arm, arm_is, all_arms_does, while_does, for_does, clause_bare_is, clause_test_is, clause_target_is, try_except_does, try_finally_does, def_does, class_does}
 use Rattle.py_compile.proofs.World.{known, inside, lim, Covers, Wide, HasNone, Slotted, Standing, stand_front, stand_back, BodiesOk, bodies_join}
 use Rattle.py_compile.proofs.FoldInduct.{Related, Nil, Cons, related_of, clause_stands, code_by_arm, code_by_clause, code_by_handler, uses_by_arm, uses_by_clause, uses_by_handler, ClauseWith, HandlerWith, LayerWith, IsLayer, every_stmts}
 use Rattle.py_compile.proofs.StmtSimple.{homed_is, value_here, store_here, home_here, do_here, assign_here, augment_here, print_here, return_here, raise_here, del_here, assert_here, import_here, from_here, defaults_here, base_here}
@@ -54,14 +55,14 @@ module _ (locals : ℕ → List (List ℕ)) (texts cells : List (List ℕ)) (key
   join : (a c : List Use) → W a → W c → W (a ++ c)
   join a c w v = every_join (Covers locals texts cells keys params) a c w v
 
-  st_front : (f : ℕ) (a c : List Body) → St f (a ++ c) → St f a
-  st_front = stand_front locals texts cells keys params
+  stands_front : (f : ℕ) (a c : List Body) → St f (a ++ c) → St f a
+  stands_front = stand_front locals texts cells keys params
 
-  st_back : (f m : ℕ) (a c : List Body) → length a ≡ m → St f (a ++ c) → St (f + m) c
-  st_back = stand_back locals texts cells keys params
+  stands_back : (f m : ℕ) (a c : List Body) → length a ≡ m → St f (a ++ c) → St (f + m) c
+  stands_back = stand_back locals texts cells keys params
 
-  bo_join : (f m : ℕ) (a c : List Body) → length a ≡ m → Bo f a → Bo (f + m) c → Bo f (a ++ c)
-  bo_join = bodies_join locals texts cells keys params
+  ok_join : (f m : ℕ) (a c : List Body) → length a ≡ m → Bo f a → Bo (f + m) c → Bo f (a ++ c)
+  ok_join = bodies_join locals texts cells keys params
 
   -- a statement, with what it uses and whether it is legal
   pub record Rel (s : Stated) (v : Uses) (g : Legal) : Type 0 where
@@ -111,17 +112,17 @@ module _ (locals : ℕ → List (List ℕ)) (texts cells : List (List ℕ)) (key
       let l = in_loop (K j sl p) c in
       let d = in_clause (K j sl p) c in
       let q = and_parts (g l d) (all_legal gs l d) h in (
-        r.good j z sl p s f c q.0 (front (v.uses (I j z) f) ((all_in_turn vs).uses (I j z) (f + v.bodies)) w) (st_front f (x.inner f) (inners ss (f + x.bodies)) st),
-        rels_good rs j z sl p s (f + x.bodies) c q.1 (use_back (all_in_turn vs) (I j z) f x.bodies v.bodies (v.uses (I j z) f) (r.count l d q.0) w) (st_back f x.bodies (x.inner f) (inners ss (f + x.bodies)) (r.long f) st),
+        r.good j z sl p s f c q.0 (front (v.uses (I j z) f) ((all_in_turn vs).uses (I j z) (f + v.bodies)) w) (stands_front f (x.inner f) (inners ss (f + x.bodies)) st),
+        rels_good rs j z sl p s (f + x.bodies) c q.1 (use_back (all_in_turn vs) (I j z) f x.bodies v.bodies (v.uses (I j z) f) (r.count l d q.0) w) (stands_back f x.bodies (x.inner f) (inners ss (f + x.bodies)) (r.long f) st),
       )
 
   rels_inner : {ss : List Stated} {vs : List Uses} {gs : List Legal} → Related Rel ss vs gs → (l c : Bool) (j : ℕ) (z : Bool) (f : ℕ) → all_legal gs l c ≡ true → W ((all_in_turn vs).uses (I j z) f) → St f (inners ss f) → Bo f (inners ss f)
   rels_inner Nil l c j z f h w st = tt
   rels_inner (Cons {s = x} {v = v} {g = g} {ss = ss} {vs = vs} {gs = gs} r rs) l c j z f h w st =
       let q = and_parts (g l c) (all_legal gs l c) h in
-      bo_join f x.bodies (x.inner f) (inners ss (f + x.bodies)) (r.long f)
-      (r.inner l c j z f q.0 (front (v.uses (I j z) f) ((all_in_turn vs).uses (I j z) (f + v.bodies)) w) (st_front f (x.inner f) (inners ss (f + x.bodies)) st))
-      (rels_inner rs l c j z (f + x.bodies) q.1 (use_back (all_in_turn vs) (I j z) f x.bodies v.bodies (v.uses (I j z) f) (r.count l c q.0) w) (st_back f x.bodies (x.inner f) (inners ss (f + x.bodies)) (r.long f) st))
+      ok_join f x.bodies (x.inner f) (inners ss (f + x.bodies)) (r.long f)
+      (r.inner l c j z f q.0 (front (v.uses (I j z) f) ((all_in_turn vs).uses (I j z) (f + v.bodies)) w) (stands_front f (x.inner f) (inners ss (f + x.bodies)) st))
+      (rels_inner rs l c j z (f + x.bodies) q.1 (use_back (all_in_turn vs) (I j z) f x.bodies v.bodies (v.uses (I j z) f) (r.count l c q.0) w) (stands_back f x.bodies (x.inner f) (inners ss (f + x.bodies)) (r.long f) st))
 
   pub block_rel : {ss : List Stated} {vs : List Uses} {gs : List Legal} → Related Rel ss vs gs → Rel (block ss) (all_in_turn vs) (all_legal gs)
   block_rel {ss = ss} rs = record { count = rels_count rs; long = rels_long rs; good = λ j z sl p s f c h w st. block_does (K j sl p) c (pieces ss (N j z) c f) (rels_good rs j z sl p s f c h w st); inner = rels_inner rs }
@@ -144,18 +145,18 @@ module _ (locals : ℕ → List (List ℕ)) (texts cells : List (List ℕ)) (key
       let l = in_loop (K j sl p) c in
       let d = in_clause (K j sl p) c in
       let q = and_parts (g l d) (all_legal gs l d) h in
-      let t = r.good j z sl p s f c q.0 (front (v.uses (I j z) f) ((all_in_turn vs).uses (I j z) (f + v.bodies)) w) (st_front f (x.block.inner f) (armed_inner as' (f + x.block.bodies)) st) in (
+      let t = r.good j z sl p s f c q.0 (front (v.uses (I j z) f) ((all_in_turn vs).uses (I j z) (f + v.bodies)) w) (stands_front f (x.block.inner f) (armed_inner as' (f + x.block.bodies)) st) in (
         arm_line (K j sl p) x.line 0 c (arm x.line (value (N j z) x.line x.test) (x.block.code (N j z) c f)) (arm_is (K j sl p) x.line c (value (N j z) x.line x.test) (x.block.code (N j z) c f) t.0 t.1),
-        arms_good rs j z sl p s (f + x.block.bodies) c q.1 (use_back (all_in_turn vs) (I j z) f x.block.bodies v.bodies (v.uses (I j z) f) (r.count l d q.0) w) (st_back f x.block.bodies (x.block.inner f) (armed_inner as' (f + x.block.bodies)) (r.long f) st),
+        arms_good rs j z sl p s (f + x.block.bodies) c q.1 (use_back (all_in_turn vs) (I j z) f x.block.bodies v.bodies (v.uses (I j z) f) (r.count l d q.0) w) (stands_back f x.block.bodies (x.block.inner f) (armed_inner as' (f + x.block.bodies)) (r.long f) st),
       )
 
   arms_inner : {as' : List Armed} {vs : List Uses} {gs : List Legal} → Related ArmRel as' vs gs → (l c : Bool) (j : ℕ) (z : Bool) (f : ℕ) → all_legal gs l c ≡ true → W ((all_in_turn vs).uses (I j z) f) → St f (armed_inner as' f) → Bo f (armed_inner as' f)
   arms_inner Nil l c j z f h w st = tt
   arms_inner (Cons {s = x} {v = v} {g = g} {ss = as'} {vs = vs} {gs = gs} r rs) l c j z f h w st =
       let q = and_parts (g l c) (all_legal gs l c) h in
-      bo_join f x.block.bodies (x.block.inner f) (armed_inner as' (f + x.block.bodies)) (r.long f)
-      (r.inner l c j z f q.0 (front (v.uses (I j z) f) ((all_in_turn vs).uses (I j z) (f + v.bodies)) w) (st_front f (x.block.inner f) (armed_inner as' (f + x.block.bodies)) st))
-      (arms_inner rs l c j z (f + x.block.bodies) q.1 (use_back (all_in_turn vs) (I j z) f x.block.bodies v.bodies (v.uses (I j z) f) (r.count l c q.0) w) (st_back f x.block.bodies (x.block.inner f) (armed_inner as' (f + x.block.bodies)) (r.long f) st))
+      ok_join f x.block.bodies (x.block.inner f) (armed_inner as' (f + x.block.bodies)) (r.long f)
+      (r.inner l c j z f q.0 (front (v.uses (I j z) f) ((all_in_turn vs).uses (I j z) (f + v.bodies)) w) (stands_front f (x.block.inner f) (armed_inner as' (f + x.block.bodies)) st))
+      (arms_inner rs l c j z (f + x.block.bodies) q.1 (use_back (all_in_turn vs) (I j z) f x.block.bodies v.bodies (v.uses (I j z) f) (r.count l c q.0) w) (stands_back f x.block.bodies (x.block.inner f) (armed_inner as' (f + x.block.bodies)) (r.long f) st))
 
   -- except clauses
   pub handlers_count : {as' : List Handled} {vs : List Uses} {gs : List Legal} → Related HandlerRel as' vs gs → (l c : Bool) → all_legal gs l c ≡ true → handled_count as' ≡ (all_in_turn vs).bodies
@@ -171,17 +172,17 @@ module _ (locals : ℕ → List (List ℕ)) (texts cells : List (List ℕ)) (key
   handlers_good (Cons {s = x} {v = v} {g = g} {ss = as'} {vs = vs} {gs = gs} r rs) j z sl p s f c h w st =
       let l = in_loop (K j sl p) c in
       let q = and_parts (g l true) (all_legal gs l true) h in (
-        r.good j z sl p s f c q.0 (front (v.uses (I j z) f) ((all_in_turn vs).uses (I j z) (f + v.bodies)) w) (st_front f (x.block.inner f) (handled_inner as' (f + x.block.bodies)) st),
-        handlers_good rs j z sl p s (f + x.block.bodies) c q.1 (use_back (all_in_turn vs) (I j z) f x.block.bodies v.bodies (v.uses (I j z) f) (r.count l true q.0) w) (st_back f x.block.bodies (x.block.inner f) (handled_inner as' (f + x.block.bodies)) (r.long f) st),
+        r.good j z sl p s f c q.0 (front (v.uses (I j z) f) ((all_in_turn vs).uses (I j z) (f + v.bodies)) w) (stands_front f (x.block.inner f) (handled_inner as' (f + x.block.bodies)) st),
+        handlers_good rs j z sl p s (f + x.block.bodies) c q.1 (use_back (all_in_turn vs) (I j z) f x.block.bodies v.bodies (v.uses (I j z) f) (r.count l true q.0) w) (stands_back f x.block.bodies (x.block.inner f) (handled_inner as' (f + x.block.bodies)) (r.long f) st),
       )
 
   handlers_inner : {as' : List Handled} {vs : List Uses} {gs : List Legal} → Related HandlerRel as' vs gs → (l c : Bool) (j : ℕ) (z : Bool) (f : ℕ) → all_legal gs l c ≡ true → W ((all_in_turn vs).uses (I j z) f) → St f (handled_inner as' f) → Bo f (handled_inner as' f)
   handlers_inner Nil l c j z f h w st = tt
   handlers_inner (Cons {s = x} {v = v} {g = g} {ss = as'} {vs = vs} {gs = gs} r rs) l c j z f h w st =
       let q = and_parts (g l c) (all_legal gs l c) h in
-      bo_join f x.block.bodies (x.block.inner f) (handled_inner as' (f + x.block.bodies)) (r.long f)
-      (r.inner l c j z f q.0 (front (v.uses (I j z) f) ((all_in_turn vs).uses (I j z) (f + v.bodies)) w) (st_front f (x.block.inner f) (handled_inner as' (f + x.block.bodies)) st))
-      (handlers_inner rs l c j z (f + x.block.bodies) q.1 (use_back (all_in_turn vs) (I j z) f x.block.bodies v.bodies (v.uses (I j z) f) (r.count l c q.0) w) (st_back f x.block.bodies (x.block.inner f) (handled_inner as' (f + x.block.bodies)) (r.long f) st))
+      ok_join f x.block.bodies (x.block.inner f) (handled_inner as' (f + x.block.bodies)) (r.long f)
+      (r.inner l c j z f q.0 (front (v.uses (I j z) f) ((all_in_turn vs).uses (I j z) (f + v.bodies)) w) (stands_front f (x.block.inner f) (handled_inner as' (f + x.block.bodies)) st))
+      (handlers_inner rs l c j z (f + x.block.bodies) q.1 (use_back (all_in_turn vs) (I j z) f x.block.bodies v.bodies (v.uses (I j z) f) (r.count l c q.0) w) (stands_back f x.block.bodies (x.block.inner f) (handled_inner as' (f + x.block.bodies)) (r.long f) st))
 
   -- the parts of compound statements
   pub arm_rel : (ln : ℕ) (t : Expr) {ss : List Stated} {vs : List Uses} {gs : List Legal} → Related Rel ss vs gs → ArmRel (record { line = ln; test = t; block = block ss }) (in_turn (quiet (λ b. read b t)) (all_in_turn vs)) (both (always (sane t)) (all_legal gs))
@@ -223,15 +224,15 @@ module _ (locals : ℕ → List (List ℕ)) (texts cells : List (List ℕ)) (key
         let q = and_parts (all_legal gs (in_loop (K j sl p) c) (in_clause (K j sl p) c)) (ge (in_loop (K j sl p) c) (in_clause (K j sl p) c)) h in
         let m = arms_count rs (in_loop (K j sl p) c) (in_clause (K j sl p) c) q.0 in
         all_arms_does (K j sl p) 0 c (armed as' (N j z) c f) (e.code (N j z) c (f + armed_count as'))
-        (arms_good rs j z sl p s f c q.0 (front ((all_in_turn vs).uses k f) (ve.uses k (f + (all_in_turn vs).bodies)) w) (st_front f (armed_inner as' f) (e.inner (f + armed_count as')) st))
-        (re.good j z sl p s (f + armed_count as') c q.1 (use_back ve k f (armed_count as') (all_in_turn vs).bodies ((all_in_turn vs).uses k f) m w) (st_back f (armed_count as') (armed_inner as' f) (e.inner (f + armed_count as')) (arms_long rs f) st));
+        (arms_good rs j z sl p s f c q.0 (front ((all_in_turn vs).uses k f) (ve.uses k (f + (all_in_turn vs).bodies)) w) (stands_front f (armed_inner as' f) (e.inner (f + armed_count as')) st))
+        (re.good j z sl p s (f + armed_count as') c q.1 (use_back ve k f (armed_count as') (all_in_turn vs).bodies ((all_in_turn vs).uses k f) m w) (stands_back f (armed_count as') (armed_inner as' f) (e.inner (f + armed_count as')) (arms_long rs f) st));
     inner = λ l c j z f h w st.
         let k = I j z in
         let q = and_parts (all_legal gs l c) (ge l c) h in
         let m = arms_count rs l c q.0 in
-        bo_join f (armed_count as') (armed_inner as' f) (e.inner (f + armed_count as')) (arms_long rs f)
-        (arms_inner rs l c j z f q.0 (front ((all_in_turn vs).uses k f) (ve.uses k (f + (all_in_turn vs).bodies)) w) (st_front f (armed_inner as' f) (e.inner (f + armed_count as')) st))
-        (re.inner l c j z (f + armed_count as') q.1 (use_back ve k f (armed_count as') (all_in_turn vs).bodies ((all_in_turn vs).uses k f) m w) (st_back f (armed_count as') (armed_inner as' f) (e.inner (f + armed_count as')) (arms_long rs f) st));
+        ok_join f (armed_count as') (armed_inner as' f) (e.inner (f + armed_count as')) (arms_long rs f)
+        (arms_inner rs l c j z f q.0 (front ((all_in_turn vs).uses k f) (ve.uses k (f + (all_in_turn vs).bodies)) w) (stands_front f (armed_inner as' f) (e.inner (f + armed_count as')) st))
+        (re.inner l c j z (f + armed_count as') q.1 (use_back ve k f (armed_count as') (all_in_turn vs).bodies ((all_in_turn vs).uses k f) m w) (stands_back f (armed_count as') (armed_inner as' f) (e.inner (f + armed_count as')) (arms_long rs f) st));
   }
 
   -- while
@@ -243,16 +244,16 @@ module _ (locals : ℕ → List (List ℕ)) (texts cells : List (List ℕ)) (key
         let k = I j z in
         let q = and_parts (ga true (in_clause (K j sl p) c)) (ge (in_loop (K j sl p) c) (in_clause (K j sl p) c)) h in
         let m = ra.count true (in_clause (K j sl p) c) q.0 in
-        let t = ra.good j z sl p s f (InWhile ∷ c) q.0 (front (va.uses k f) (ve.uses k (f + va.bodies)) w) (st_front f (a.block.inner f) (e.inner (f + a.block.bodies)) st) in
+        let t = ra.good j z sl p s f (InWhile ∷ c) q.0 (front (va.uses k f) (ve.uses k (f + va.bodies)) w) (stands_front f (a.block.inner f) (e.inner (f + a.block.bodies)) st) in
         while_does (K j sl p) a.line c (value (N j z) a.line a.test) (a.block.code (N j z) (InWhile ∷ c) f) (e.code (N j z) c (f + a.block.bodies)) t.0 t.1
-        (re.good j z sl p s (f + a.block.bodies) c q.1 (use_back ve k f a.block.bodies va.bodies (va.uses k f) m w) (st_back f a.block.bodies (a.block.inner f) (e.inner (f + a.block.bodies)) (ra.long f) st));
+        (re.good j z sl p s (f + a.block.bodies) c q.1 (use_back ve k f a.block.bodies va.bodies (va.uses k f) m w) (stands_back f a.block.bodies (a.block.inner f) (e.inner (f + a.block.bodies)) (ra.long f) st));
     inner = λ l c j z f h w st.
         let k = I j z in
         let q = and_parts (ga true c) (ge l c) h in
         let m = ra.count true c q.0 in
-        bo_join f a.block.bodies (a.block.inner f) (e.inner (f + a.block.bodies)) (ra.long f)
-        (ra.inner true c j z f q.0 (front (va.uses k f) (ve.uses k (f + va.bodies)) w) (st_front f (a.block.inner f) (e.inner (f + a.block.bodies)) st))
-        (re.inner l c j z (f + a.block.bodies) q.1 (use_back ve k f a.block.bodies va.bodies (va.uses k f) m w) (st_back f a.block.bodies (a.block.inner f) (e.inner (f + a.block.bodies)) (ra.long f) st));
+        ok_join f a.block.bodies (a.block.inner f) (e.inner (f + a.block.bodies)) (ra.long f)
+        (ra.inner true c j z f q.0 (front (va.uses k f) (ve.uses k (f + va.bodies)) w) (stands_front f (a.block.inner f) (e.inner (f + a.block.bodies)) st))
+        (re.inner l c j z (f + a.block.bodies) q.1 (use_back ve k f a.block.bodies va.bodies (va.uses k f) m w) (stands_back f a.block.bodies (a.block.inner f) (e.inner (f + a.block.bodies)) (ra.long f) st));
   }
 
   -- for
@@ -269,16 +270,16 @@ module _ (locals : ℕ → List (List ℕ)) (texts cells : List (List ℕ)) (key
         for_does (K j sl p) ln c (stored (N j z) ln t) (value (N j z) ln x) ((block ss).code (N j z) (InFor ∷ c) f) (e.code (N j z) c (f + count ss))
         (store_here locals texts cells keys params none j z sl p s ln t q.0.0 (front (target k t) (read k x) hd))
         (value_here locals texts cells keys params none j z sl p s ln x q.0.1 (back (target k t) (read k x) hd))
-        (block_does (K j sl p) (InFor ∷ c) (pieces ss (N j z) (InFor ∷ c) f) (rels_good rs j z sl p s f (InFor ∷ c) q.1.0 (front ((all_in_turn vs).uses k f) (ve.uses k (f + (all_in_turn vs).bodies)) tl) (st_front f (inners ss f) (e.inner (f + count ss)) st)))
-        (re.good j z sl p s (f + count ss) c q.1.1 (use_back ve k f (count ss) (all_in_turn vs).bodies ((all_in_turn vs).uses k f) m tl) (st_back f (count ss) (inners ss f) (e.inner (f + count ss)) (rels_long rs f) st));
+        (block_does (K j sl p) (InFor ∷ c) (pieces ss (N j z) (InFor ∷ c) f) (rels_good rs j z sl p s f (InFor ∷ c) q.1.0 (front ((all_in_turn vs).uses k f) (ve.uses k (f + (all_in_turn vs).bodies)) tl) (stands_front f (inners ss f) (e.inner (f + count ss)) st)))
+        (re.good j z sl p s (f + count ss) c q.1.1 (use_back ve k f (count ss) (all_in_turn vs).bodies ((all_in_turn vs).uses k f) m tl) (stands_back f (count ss) (inners ss f) (e.inner (f + count ss)) (rels_long rs f) st));
     inner = λ l c j z f h w st.
         let k = I j z in
         let q = parts l c h in
         let m = rels_count rs true c q.1.0 in
         let tl = zero_back (in_turn (all_in_turn vs) ve) k f (target k t ++ read k x) w in
-        bo_join f (count ss) (inners ss f) (e.inner (f + count ss)) (rels_long rs f)
-        (rels_inner rs true c j z f q.1.0 (front ((all_in_turn vs).uses k f) (ve.uses k (f + (all_in_turn vs).bodies)) tl) (st_front f (inners ss f) (e.inner (f + count ss)) st))
-        (re.inner l c j z (f + count ss) q.1.1 (use_back ve k f (count ss) (all_in_turn vs).bodies ((all_in_turn vs).uses k f) m tl) (st_back f (count ss) (inners ss f) (e.inner (f + count ss)) (rels_long rs f) st));
+        ok_join f (count ss) (inners ss f) (e.inner (f + count ss)) (rels_long rs f)
+        (rels_inner rs true c j z f q.1.0 (front ((all_in_turn vs).uses k f) (ve.uses k (f + (all_in_turn vs).bodies)) tl) (stands_front f (inners ss f) (e.inner (f + count ss)) st))
+        (re.inner l c j z (f + count ss) q.1.1 (use_back ve k f (count ss) (all_in_turn vs).bodies ((all_in_turn vs).uses k f) m tl) (stands_back f (count ss) (inners ss f) (e.inner (f + count ss)) (rels_long rs f) st));
   }
     where
       parts : (l c : Bool) → both (always (is_target_of t && sane x)) (both (λ l c. all_legal gs true c) ge) l c ≡ true → ((is_target_of t ≡ true) × (sane x ≡ true)) × ((all_legal gs true c ≡ true) × (ge l c ≡ true))
@@ -346,10 +347,10 @@ module _ (locals : ℕ → List (List ℕ)) (texts cells : List (List ℕ)) (key
           let a = t.block.inner f in
           let b = handled_inner (x ∷ as') (f + t.block.bodies) in
           let c = e.inner (f + t.block.bodies + handled_count (x ∷ as')) in
-          let h = st_front f (a ++ b) c st in
+          let h = stands_front f (a ++ b) c st in
           let len : length (a ++ b) ≡ t.block.bodies + handled_count (x ∷ as') = let m = rt.long f in let n = handlers_long hs (f + t.block.bodies) in omega (arith, m, n, length-append a b) in
           let far : f + (t.block.bodies + handled_count (x ∷ as')) ≡ f + t.block.bodies + handled_count (x ∷ as') = omega arith in
-          (st_front f a b h, st_back f t.block.bodies a b (rt.long f) h, subst (λ i. St i c) far (st_back f (t.block.bodies + handled_count (x ∷ as')) (a ++ b) c len st))
+          (stands_front f a b h, stands_back f t.block.bodies a b (rt.long f) h, subst (λ i. St i c) far (stands_back f (t.block.bodies + handled_count (x ∷ as')) (a ++ b) c len st))
 
       three_join : (f : ℕ) → Bo f (t.block.inner f) → Bo (f + t.block.bodies) (handled_inner (x ∷ as') (f + t.block.bodies)) → Bo (f + t.block.bodies + handled_count (x ∷ as')) (e.inner (f + t.block.bodies + handled_count (x ∷ as'))) → Bo f ((tried t (x ∷ as') e).inner f)
       three_join f p q r' =
@@ -358,7 +359,7 @@ module _ (locals : ℕ → List (List ℕ)) (texts cells : List (List ℕ)) (key
           let c = e.inner (f + t.block.bodies + handled_count (x ∷ as')) in
           let len : length (a ++ b) ≡ t.block.bodies + handled_count (x ∷ as') = let m = rt.long f in let n = handlers_long hs (f + t.block.bodies) in omega (arith, m, n, length-append a b) in
           let far : f + t.block.bodies + handled_count (x ∷ as') ≡ f + (t.block.bodies + handled_count (x ∷ as')) = omega arith in
-          bo_join f (t.block.bodies + handled_count (x ∷ as')) (a ++ b) c len (bo_join f t.block.bodies a b (rt.long f) p q) (subst (λ i. Bo i c) far r')
+          ok_join f (t.block.bodies + handled_count (x ∷ as')) (a ++ b) c len (ok_join f t.block.bodies a b (rt.long f) p q) (subst (λ i. Bo i c) far r')
 
   -- its finally
   four_uses : (vt vh ve vd : Uses) (b : Inside) (f m : ℕ) → m ≡ vt.bodies + (vh.bodies + ve.bodies) → W ((in_turn vt (in_turn vh (in_turn ve vd))).uses b f) → W ((in_turn vt (in_turn vh ve)).uses b f) × W (vd.uses b (f + m))
@@ -394,14 +395,14 @@ module _ (locals : ℕ → List (List ℕ)) (texts cells : List (List ℕ)) (key
         let us = four_uses vt vh ve vd (I j z) f t.bodies (rt.count l m q.0) w in
         let fin = d.block.code (N j z) c (f + t.bodies) in
         try_finally_does (K j sl p) ln c (t.code (N j z) (InFinally fin ∷ c) f) fin
-        (rt.good j z sl p s f (InFinally fin ∷ c) q.0 us.0 (st_front f (t.inner f) (d.block.inner (f + t.bodies)) st))
-        (rd.good j z sl p s (f + t.bodies) c q.1 us.1 (st_back f t.bodies (t.inner f) (d.block.inner (f + t.bodies)) (rt.long f) st));
+        (rt.good j z sl p s f (InFinally fin ∷ c) q.0 us.0 (stands_front f (t.inner f) (d.block.inner (f + t.bodies)) st))
+        (rd.good j z sl p s (f + t.bodies) c q.1 us.1 (stands_back f t.bodies (t.inner f) (d.block.inner (f + t.bodies)) (rt.long f) st));
     inner = λ l c j z f h w st.
         let q = four_parts gt gh ge gd b l c h in
         let us = four_uses vt vh ve vd (I j z) f t.bodies (rt.count l c q.0) w in
-        bo_join f t.bodies (t.inner f) (d.block.inner (f + t.bodies)) (rt.long f)
-        (rt.inner l c j z f q.0 us.0 (st_front f (t.inner f) (d.block.inner (f + t.bodies)) st))
-        (rd.inner l c j z (f + t.bodies) q.1 us.1 (st_back f t.bodies (t.inner f) (d.block.inner (f + t.bodies)) (rt.long f) st));
+        ok_join f t.bodies (t.inner f) (d.block.inner (f + t.bodies)) (rt.long f)
+        (rt.inner l c j z f q.0 us.0 (stands_front f (t.inner f) (d.block.inner (f + t.bodies)) st))
+        (rd.inner l c j z (f + t.bodies) q.1 us.1 (stands_back f t.bodies (t.inner f) (d.block.inner (f + t.bodies)) (rt.long f) st));
   }
 
   pub no_finally_rel : (ln : ℕ) (t : Stated) (vt vh ve : Uses) (gt gh ge : Legal) (b : Bool) → Rel t (in_turn vt (in_turn vh ve)) (both gt (both (λ l c. gh l true) (both ge (always b)))) → Rel (finally ln t None) (in_turn vt (in_turn vh (in_turn ve none_used))) (four gt gh ge (λ l c. true) b)

@@ -96,7 +96,7 @@ abbrev pub all_stand : ℕ → List Part → Bool
 all_stand zero xs = true
 all_stand (suc n) xs = if has_label xs n then all_stand n xs else false
 
-if_both : (a b : Bool) → IsTrue (if a then b else false) → IsTrue a × IsTrue b
+pub if_both : (a b : Bool) → IsTrue (if a then b else false) → IsTrue a × IsTrue b
 if_both true b h = (refl, h)
 if_both false b h = cc
 

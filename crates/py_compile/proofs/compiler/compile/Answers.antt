@@ -30,4 +30,4 @@ returns-in-Ok-clause-done c =
 
 pub returns-in-Ok-clause-right : goal.returns-in-Ok-clause-right
 returns-in-Ok-clause-right c =
-    compiles_right c.args.m.now c.args.scopes.now (record { codes = c.in-Ok.codes; roots = c.in_ok-roots.roots }) c.requires (returns-in-Ok-clause-done c)
+    compiles_right c.args.m.now c.args.scopes.now (record { codes = c.in-Ok.codes; roots = c.in_ok-roots.roots }) c.requires.resolved (returns-in-Ok-clause-done c)

@@ -1,4 +1,4 @@
--- The codes of a program are right, where its tree is legal.
+-- Each code of a legal module is right by itself: its instructions lead from shape to shape.
 use Rattle.std.proofs.Common.{◌≡◌, ◌∙◌, ◌==◌, ℕ, zero, suc, ◌+◌, ◌<◌, ◌^◌, List, [], ◌∷◌, ◌++◌, Bool, true, false, refl, sym, ap, subst, arith, length, map, get_or, length-append, append_assoc}
 use Rattle.std.specs.Prelude.{if◌then◌else◌, replicate}
 use Rattle.std.specs.List.{list_any}

@@ -1,4 +1,4 @@
--- The program of a legal module that isn't too large is right.
+-- What holds of an instruction wherever it stands in its code follows from where it stands: the rows of `Belongs`.
 use Rattle.std.proofs.Common.{◌≡◌, ◌∙◌, ◌||◌, ℕ, zero, suc, ◌+◌, ◌<◌, List, [], ◌∷◌, Some, None, Bool, true, false, cond, not, nat_lt, refl, sym, ap, subst, arith, length, get_or, unwrap_or}
 use Rattle.std.specs.Prelude.{All, slice_get}
 use Rattle.std.specs.List.{list_any, position_or_len}

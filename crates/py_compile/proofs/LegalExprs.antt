@@ -1,4 +1,4 @@
--- The expressions of a text are sane.
+-- The expressions of a text are sane: they compare by operators that compare.
 use Rattle.std.proofs.Common.{◌≡◌, ◌∙◌, ◌&&◌, ℕ, Bool, true, List, [], Option, Some, None, refl, ap}
 use Rattle.py_tokens.specs.declared.token.Token.{Token}
 use Rattle.py_tree.specs.declared.expr.Expr.{Expr}
