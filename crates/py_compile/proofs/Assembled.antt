@@ -89,7 +89,7 @@ large_none : (b : Bool) (l : ℕ) → (if b then Some l else None) ≡ None → 
 large_none true l e = absurd (cc)
 large_none false l e = refl
 
-pub or_false : (b c : Bool) → b ≡ false → c ≡ false → (b || c) ≡ false
+or_false : (b c : Bool) → b ≡ false → c ≡ false → (b || c) ≡ false
 or_false b c e f = subst (λ x. (x || c) ≡ false) (sym e) f
 
 same_limits : (a c : Limits) → a.slots ≡ c.slots → a.keys ≡ c.keys → a.strings ≡ c.strings → a.cells ≡ c.cells → a.roots ≡ c.roots → a.params ≡ c.params → a.first ≡ c.first → a ≡ c

@@ -1,5 +1,5 @@
--- The expressions of a text whose names resolve compare by operators that compare, and bind no None.
-use Rattle.std.proofs.Common.{◌≡◌, ◌∙◌, ◌&&◌, ℕ, Bool, true, List, [], Option, Some, None, refl, sym, ap, subst}
+-- The expressions of a text are sane: they compare by operators that compare.
+use Rattle.std.proofs.Common.{◌≡◌, ◌∙◌, ◌&&◌, ℕ, Bool, true, List, [], Option, Some, None, refl, ap}
 use Rattle.py_tokens.specs.declared.token.Token.{Token}
 use Rattle.py_tree.specs.declared.expr.Expr.{Expr}
 use Rattle.py_tree.specs.declared.expr.Trailer.{Trailer}
@@ -13,9 +13,6 @@ use Rattle.py_tree.specs.declared.expr.Operator.TheVariants as op
 use Rattle.py_parser.specs.Words.{level_of}
 use Rattle.py_parser.specs.Grammar as G
 use Rattle.py_parser.specs.Grammar.{Marks, Is, Tests, Commas, Exprs, Pairs, Links, Trailers, Trails, Maybe, Args}
-use Rattle.py_names.specs.Outline.{with_name, said, said_trailer, read_links, read_pairs, read_trailers, read_keywords, read_all, target_all, read_some}
-use Rattle.py_names.proofs.Said.{said_name, said_int, said_str, said_group, said_tuple, said_list, said_dict, said_trail, said_power, said_unary, said_chain, said_not, said_choice, said_attribute, said_index, said_slice, said_call}
-use Rattle.py_compile.proofs.FreeEvents.{AllFree, used_free, free_nil, free_join, bound_free, label_free, repeated_free, SaidFree, plain_free}
 use Rattle.py_compile.specs.Expressions.{operator}
 use Rattle.py_compile.proofs.Sane.{fits_level, sane, sane_trailer, all_sane, sane_some, sane_links, sane_named, sane_pairs, sane_trailers}
 use Rattle.py_compile.proofs.SaneRows.{sane_name, sane_int, sane_str, sane_group, sane_tuple, sane_list, sane_dict, sane_trail, sane_power, sane_unary, sane_chain, sane_not, sane_choice, sane_attribute, sane_index, sane_slice, sane_call}
@@ -142,86 +139,3 @@ mutual
   arguments_sane (G.Args.more_named _ _ _ _ {a = a} {ns = ns} h1 h2) z = let r = arguments_sane h2 z in (refl, both_true (sane a) (sane_named ns) (expr_sane h1 z) r.1)
   arguments_sane (G.Args.starred _) z = absurd (cc)
   arguments_sane (G.Args.double_starred _) z = absurd (cc)
-
--- ---- what expressions say
-
-mutual
-  pub expr_free : {x : Marks} {n : ℕ} {a : Expr} {ts : List Token} → Is x n a ts → x ≡ None → (l : ℕ) → SaidFree (said l a)
-  expr_free (G.Is.up _ _ h) z l = expr_free h z l
-  expr_free (G.Is.name _ n _) z l = subst SaidFree (sym (said_name l n)) (record { read = used_free l n; target = bound_free l n })
-  expr_free (G.Is.int _ n _) z l = subst SaidFree (sym (said_int l n)) (plain_free free_nil)
-  expr_free (G.Is.strings {s = v} h) z l = subst SaidFree (sym (said_str l v)) (plain_free free_nil)
-  expr_free (G.Is.group _ _ {a = a} h) z l = subst SaidFree (sym (said_group l a)) (expr_free h z l)
-  expr_free (G.Is.unit _ _ _) z l = subst SaidFree (sym (said_tuple l [])) (plain_free free_nil)
-  expr_free (G.Is.round _ _ {es = es} h) z l = let r = commas_free h z l in subst SaidFree (sym (said_tuple l es)) (record { read = r.0; target = r.1 })
-  expr_free (G.Is.no_list _ _ _) z l = subst SaidFree (sym (said_list l [])) (plain_free free_nil)
-  expr_free (G.Is.list _ _ {es = es} h) z l = let r = tests_free h z l in subst SaidFree (sym (said_list l es)) (record { read = r.0; target = r.1 })
-  expr_free (G.Is.no_dict _ _ _) z l = subst SaidFree (sym (said_dict l [])) (plain_free free_nil)
-  expr_free (G.Is.dict _ _ {ps = ps} h) z l = subst SaidFree (sym (said_dict l ps)) (plain_free (pairs_free h z l))
-  expr_free (G.Is.trail {a = a} {rs = rs} h1 h2) z l = subst SaidFree (sym (said_trail l a rs)) (plain_free (free_join (expr_free h1 z l).read (trailers_free h2 z l)))
-  expr_free (G.Is.power _ {a = a} {b = b} h1 h2) z l = subst SaidFree (sym (said_power l a b)) (plain_free (free_join (expr_free h1 z l).read (expr_free h2 z l).read))
-  expr_free (G.Is.signed g _ {a = a} h) z l = subst SaidFree (sym (said_unary l g a)) (plain_free (expr_free h z l).read)
-  expr_free (G.Is.chain v {a = a} {ls = ls} h1 h2) z l = subst SaidFree (sym (said_chain l v a ls)) (plain_free (free_join (expr_free h1 z l).read (links_free h2 z l)))
-  expr_free (G.Is.negated _ {a = a} h) z l = subst SaidFree (sym (said_not l a)) (plain_free (expr_free h z l).read)
-  expr_free (G.Is.choice _ _ {a = a} {b = b} {d = d} h1 h2 h3) z l = subst SaidFree (sym (said_choice l a b d)) (plain_free (free_join (free_join (expr_free h1 z l).read (expr_free h2 z l).read) (expr_free h3 z l).read))
-  expr_free (G.Is.float _) z l = absurd (cc)
-  expr_free (G.Is.long _) z l = absurd (cc)
-  expr_free (G.Is.backquote _) z l = absurd (cc)
-  expr_free (G.Is.lambda _) z l = absurd (cc)
-  expr_free (G.Is.yielded _ _) z l = absurd (cc)
-  expr_free (G.Is.generator _ _ h1) z l = absurd (cc)
-  expr_free (G.Is.comprehension _ _ h1) z l = absurd (cc)
-  expr_free (G.Is.set_of _ _ h1) z l = absurd (cc)
-  expr_free (G.Is.dict_of _ _ _ h1 h2) z l = absurd (cc)
-  expr_free (G.Is.set _ _ h1) z l = absurd (cc)
-  expr_free (G.Is.set_one _ _ h1) z l = absurd (cc)
-
-  pub exprs_free : {x : Marks} {a : Expr} {ts : List Token} → Exprs x a ts → x ≡ None → (l : ℕ) → SaidFree (said l a)
-  exprs_free (G.Exprs.single h) z l = expr_free h z l
-  exprs_free (G.Exprs.tuple {es = es} h) z l = let r = commas_free h z l in subst SaidFree (sym (said_tuple l es)) (record { read = r.0; target = r.1 })
-
-  pub tests_free : {x : Marks} {as' : List Expr} {b : Bool} {ts : List Token} → Tests x as' b ts → x ≡ None → (l : ℕ) → AllFree (read_all l as') × AllFree (target_all l as')
-  tests_free (G.Tests.only h) z l = let r = expr_free h z l in (free_join r.read free_nil, free_join r.target free_nil)
-  tests_free (G.Tests.only_comma _ h) z l = let r = expr_free h z l in (free_join r.read free_nil, free_join r.target free_nil)
-  tests_free (G.Tests.more_tests _ h1 h2) z l = let r = expr_free h1 z l in let q = tests_free h2 z l in (free_join r.read q.0, free_join r.target q.1)
-
-  commas_free : {x : Marks} {as' : List Expr} {ts : List Token} → Commas x as' ts → x ≡ None → (l : ℕ) → AllFree (read_all l as') × AllFree (target_all l as')
-  commas_free (G.Commas.lone _ h) z l = let r = expr_free h z l in (free_join r.read free_nil, free_join r.target free_nil)
-  commas_free (G.Commas.several _ h1 h2) z l = let r = expr_free h1 z l in let q = tests_free h2 z l in (free_join r.read q.0, free_join r.target q.1)
-
-  pairs_free : {x : Marks} {ps : List Pair} {ts : List Token} → Pairs x ps ts → x ≡ None → (l : ℕ) → AllFree (read_pairs l ps)
-  pairs_free (G.Pairs.pair _ h1 h2) z l = free_join (free_join (expr_free h1 z l).read (expr_free h2 z l).read) free_nil
-  pairs_free (G.Pairs.pair_comma _ _ h1 h2) z l = free_join (free_join (expr_free h1 z l).read (expr_free h2 z l).read) free_nil
-  pairs_free (G.Pairs.more_pairs _ _ h1 h2 h3) z l = free_join (free_join (expr_free h1 z l).read (expr_free h2 z l).read) (pairs_free h3 z l)
-
-  links_free : {x : Marks} {v : Level} {ls : List Link} {ts : List Token} → Links x v ls ts → x ≡ None → (l : ℕ) → AllFree (read_links l ls)
-  links_free (G.Links.link _ _ _ _ q h) z l = free_join (expr_free h z l).read free_nil
-  links_free (G.Links.more_links _ _ _ _ q h1 h2) z l = free_join (expr_free h1 z l).read (links_free h2 z l)
-
-  trailers_free : {x : Marks} {rs : List Trailer} {ts : List Token} → Trailers x rs ts → x ≡ None → (l : ℕ) → AllFree (read_trailers l rs)
-  trailers_free (G.Trailers.last h) z l = free_join (trailer_free h z l) free_nil
-  trailers_free (G.Trailers.more_trailers h1 h2) z l = free_join (trailer_free h1 z l) (trailers_free h2 z l)
-
-  trailer_free : {x : Marks} {r : Trailer} {ts : List Token} → Trails x r ts → x ≡ None → (l : ℕ) → AllFree (said_trailer l r)
-  trailer_free (G.Trails.attribute _ n _ _) z l = subst AllFree (sym (said_attribute l n)) (label_free l n)
-  trailer_free (G.Trails.index _ _ {a = a} h) z l = subst AllFree (sym (said_index l a)) (exprs_free h z l).read
-  trailer_free (G.Trails.slice _ _ _ {a = a} {b = b} h1 h2) z l = subst AllFree (sym (said_slice l a b)) (free_join (maybe_free h1 z l) (maybe_free h2 z l))
-  trailer_free (G.Trails.no_call _ _ _) z l = subst AllFree (sym (said_call l [] [])) free_nil
-  trailer_free (G.Trails.call _ _ {es = es} {ns = ns} h) z l = let r = arguments_free h z l in subst AllFree (sym (said_call l es ns)) (free_join r.0 (r.1 []))
-  trailer_free (G.Trails.generator_call _ _ h1) z l = absurd (cc)
-  trailer_free (G.Trails.long_slice _ _ _ h1 h2) z l = absurd (cc)
-  trailer_free (G.Trails.slices _ _ _ h1 h2) z l = absurd (cc)
-
-  pub maybe_free : {x : Marks} {a : Option Expr} {ts : List Token} → Maybe x a ts → x ≡ None → (l : ℕ) → AllFree (read_some l a)
-  maybe_free (G.Maybe.nothing _) z l = free_nil
-  maybe_free (G.Maybe.just h) z l = (expr_free h z l).read
-
-  arguments_free : {x : Marks} {es : List Expr} {ns : List Named} {ts : List Token} → Args x es ns ts → x ≡ None → (l : ℕ) → AllFree (read_all l es) × ((before : List (List ℕ)) → AllFree (read_keywords l before ns))
-  arguments_free (G.Args.arg h) z l = (free_join (expr_free h z l).read free_nil, λ before. free_nil)
-  arguments_free (G.Args.arg_comma _ h) z l = (free_join (expr_free h z l).read free_nil, λ before. free_nil)
-  arguments_free (G.Args.more_args _ h1 h2) z l = let r = arguments_free h2 z l in (free_join (expr_free h1 z l).read r.0, r.1)
-  arguments_free (G.Args.named n _ _ h) z l = (free_nil, λ before. free_join (free_join (free_join (label_free l n) (repeated_free l before n)) (expr_free h z l).read) free_nil)
-  arguments_free (G.Args.named_comma n _ _ _ h) z l = (free_nil, λ before. free_join (free_join (free_join (label_free l n) (repeated_free l before n)) (expr_free h z l).read) free_nil)
-  arguments_free (G.Args.more_named n _ _ _ h1 h2) z l = let r = arguments_free h2 z l in (free_nil, λ before. free_join (free_join (free_join (label_free l n) (repeated_free l before n)) (expr_free h1 z l).read) (r.1 (with_name before n)))
-  arguments_free (G.Args.starred _) z l = absurd (cc)
-  arguments_free (G.Args.double_starred _) z l = absurd (cc)

@@ -47,9 +47,9 @@ pub mod BelongRows
 pub mod Assembled
 pub mod LegalRows
 pub mod Clear
-pub mod FreeEvents
-pub mod Beginnings
+pub mod OrdinaryEvents
 pub mod Begun
+pub mod OnceNames
 pub mod ParamNames
 pub mod ParamSlots
 pub mod NoneFree

@@ -6,6 +6,7 @@ use Rattle.std.specs.List.{list_any}
 use Rattle.std.specs.Str.{bytes_eq}
 use Rattle.std.proofs.lemmas.Bool.{or_right}
 use Rattle.std.proofs.lemmas.List.{get_or-map, length-map}
+use Rattle.std.proofs.lemmas.List.Folds.{list_any-append}
 use Rattle.std.proofs.lemmas.Option.{get_or_from_slice_get, slice_get_within}
 use Rattle.std.proofs.lemmas.Slice.Eq.{bytes_eq-Decides}
 use Rattle.py_data.specs.declared.refusal.Refusal.{Refusal}
@@ -18,7 +19,7 @@ use Rattle.py_names.specs.declared.event.BodyKind.{BodyKind}
 use Rattle.py_names.specs.declared.event.BodyKind.TheVariants as kind
 use Rattle.py_names.specs.declared.scope.Scope.{Scope}
 use Rattle.py_names.specs.Outline.{has, takes, parameters, outline}
-use Rattle.py_names.specs.Scopes.{Names, inside_after, bodies_after, placed, bodies as body_count, is_first, said_in, parameter, binding, declaration, kind_after, kind_of, is_module, scope_of, body, AreScopes, is_parameter, refused, first_fault}
+use Rattle.py_names.specs.Scopes.{Names, inside_after, bodies_after, placed, bodies as body_count, is_first, said_in, parameter, binding, declaration, kind_after, kind_of, is_module, scope_of, body, AreScopes, is_parameter, refused, first_fault, fault}
 use Rattle.py_names.specs.ScopeLaws.{names_it, binds, declares}
 use Rattle.py_names.specs.Resolves.{Resolves}
 use Rattle.py_names.proofs.ScopeLemmas.{local_law}
@@ -27,9 +28,10 @@ use Rattle.py_compile.specs.Whole.{bodies, slots_named}
 use Rattle.py_compile.specs.Compiles.{once_from, bound_in}
 use Rattle.py_compile.proofs.Legal.{legal_all}
 use Rattle.py_compile.proofs.Clear.{Clears, clear_front, first_parts, outline_clear}
-use Rattle.py_compile.proofs.Beginnings.{BeginsNone, BeginNone, takes_none, parameters_none}
+use Rattle.py_compile.proofs.OrdinaryEvents.{Ordinary, AllOrdinary, parameters_ordinary}
 use Rattle.py_compile.proofs.Begun.{Begin, NoMore, Beside, Bare, Taking, module_begun}
-use Rattle.py_compile.proofs.ParamNames.{any_before, any_behind, noted_gives, once_gives, param_names, params_differ, no_more}
+use Rattle.py_compile.proofs.OnceNames.{has-once, has-noted_all}
+use Rattle.py_compile.proofs.ParamNames.{param_names, params_differ, no_more}
 
 -- each body has at most as many parameters as its code has named slots
 abbrev pub ParamsFit : List (List (List ℕ)) → ℕ → List Body → Type 0
@@ -47,6 +49,7 @@ no_new : (v : Event) (q : BodyKind) (k n : ℕ) (inside : List ℕ) → k < n �
 no_new (Enter new) q k n inside lt e = let same : n ≡ k = eqb-true n k e in absurd (omega (arith, lt, same))
 no_new v q k n inside lt e = refl
 
+-- so the kind of a body is told by the event that begins it
 kind_kept : (q : BodyKind) (k : ℕ) (inside : List ℕ) (n : ℕ) (es : List Event) → k < n → kind_of q (said_in k (placed inside n es)) ≡ q
 kind_kept q k inside n [] lt = refl
 kind_kept q k inside n (v ∷ es) lt = by_test (is_first k (inside_after v n inside)) refl (kind_kept q k (inside_after v n inside) (bodies_after v n) es (later v k n lt))
@@ -103,7 +106,7 @@ module _ (b : ℕ → Names) (k : ℕ) (x : List ℕ) (h : has x (b k).parameter
       by_test true e f g = ap (λ z. z || declares more x) (not_declared v (inside_after v n inside) e f) ∙ g
       by_test false e f g = g
 
--- what events give, among which a body's parameters are
+-- What the events of a body give (the names that it binds, or those of its parameters) has its parameters.
 module _ (x : List ℕ) (f : Event → Option (List ℕ)) (given : (n : List ℕ) → f (Takes n) ≡ Some n) where
   takes_give : (ps : List Param) → list_any (λ v. names_it x (f v)) (takes ps) ≡ has x (param_names ps)
   takes_give [] = refl
@@ -112,7 +115,16 @@ module _ (x : List ℕ) (f : Event → Option (List ℕ)) (given : (n : List ℕ
   opened_gives : (ps : List Param) (front back : List Event) → has x (param_names ps) ≡ true → list_any (λ v. names_it x (f v)) (front ++ (Enter kind.Function ∷ (takes ps ++ back))) ≡ true
   opened_gives ps front back h =
       let test : Event → Bool = λ v. names_it x (f v) in
-      any_behind test front (Enter kind.Function ∷ (takes ps ++ back)) (or_right (test (Enter kind.Function)) (list_any test (takes ps ++ back)) (any_before test (takes ps) back (takes_give ps ∙ h)))
+      let taken : list_any test (takes ps ++ back) ≡ true = list_any-append test (takes ps) back ∙ ap (λ z. z || list_any test back) (takes_give ps ∙ h) in
+      list_any-append test front (Enter kind.Function ∷ (takes ps ++ back))
+      ∙ or_right (list_any test front) (list_any test (Enter kind.Function ∷ (takes ps ++ back))) (or_right (test (Enter kind.Function)) (list_any test (takes ps ++ back)) taken)
+
+-- the names that a body binds
+pub names_bound : (es : List Event) (scopes : List Scope) → AreScopes es scopes → (k : ℕ) → k < body_count 0 es → get_or (bound_in scopes) k [] ≡ once_from [] (scope_of (body es k)).locals
+names_bound es scopes are k within =
+    let scope = scope_of (body es k) in
+    let there = are.each k within in
+    get_or-map (λ s. once_from [] s.locals) scopes k scope [] (slice_get_within scopes k scope there) ∙ ap (λ s. once_from [] s.locals) (get_or_from_slice_get scopes k scope scope there)
 
 -- ---- a module none of whose places is refused
 
@@ -151,13 +163,17 @@ module _ (all : List Event) where
         ends = λ k. ends_next (said k) v (said_in k (placed inside (bodies_after v n) es)) (is_first k inside) (r.ends k);
       }
 
-  beside : (n : ℕ) (v : Event) (es : List Event) → BeginsNone v → Rest n (v ∷ es) → Rest n es
+  beside : (n : ℕ) (v : Event) (es : List Event) → Ordinary v → Rest n (v ∷ es) → Rest n es
   beside n (Enter new) es h r = absurd h
   beside n v es h r = step n v es r
 
-  past : (n : ℕ) (a es : List Event) → BeginNone a → Rest n (a ++ es) → Rest n es
+  past : (n : ℕ) (a es : List Event) → AllOrdinary a → Rest n (a ++ es) → Rest n es
   past n [] es h r = r
   past n (v ∷ a) es h r = past n a es (record { each = h.each.1 }) (beside n v (a ++ es) h.each.0 r)
+
+  past_takes : (n : ℕ) (ps : List Param) (es : List Event) → Rest n (takes ps ++ es) → Rest n es
+  past_takes n [] es r = r
+  past_takes n (p ∷ ps) es r = past_takes n ps es (step n (Takes p.name) (takes ps ++ es) r)
 
   -- a function's body, which these parameters open
   record Opened (k : ℕ) (ps : List Param) : Type 0 where
@@ -179,32 +195,26 @@ module _ (all : List Event) where
         kind = ap (kind_of kind.Function) (sym parts) ∙ kind_kept kind.Function n inside (n + 1) (takes ps ++ es) (omega arith);
       }
 
-  module _ (faultless : first_fault (body all) (placed [] 0 all) ≡ None) (scopes : List Scope) (are : AreScopes all scopes) where
+  module _ (faultless : fault all ≡ None) (scopes : List Scope) (are : AreScopes all scopes) where
     params_local : (k : ℕ) (ps : List Param) → Opened k ps → (x : List ℕ) → has x (param_names ps) ≡ true → has x (scope_of (body all k)).locals ≡ true
     params_local k ps o x h =
         let bound : binds (said k) x ≡ true = ap (λ z. binds z x) o.is ∙ opened_gives x binding (λ n. refl) ps o.front o.back h in
         let taken = ap (list_any (λ v. names_it x (parameter v))) o.is ∙ opened_gives x parameter (λ n. refl) ps o.front o.back h in
-        let free : declares (said k) x ≡ false = undeclared (body all) k x (noted_gives x parameter [] (said k) taken) [] 0 all faultless in
+        let free : declares (said k) x ≡ false = undeclared (body all) k x (has-noted_all x parameter [] (said k) ∙ taken) [] 0 all faultless in
         let function : kind_of kind.Module (said k) ≡ kind.Function = ap (kind_of kind.Module) o.is ∙ kind_behind kind.Module kind.Function o.front (takes ps ++ o.back) ∙ o.kind in
         local_law x (said k)
         ∙ ap (λ z. not (is_module z) && (binds (said k) x && not (declares (said k) x))) function
         ∙ ap (λ z. z && not (declares (said k) x)) bound
         ∙ ap not free
 
-    slots_are : (k : ℕ) → k < body_count 0 all → get_or (bound_in scopes) k [] ≡ once_from [] (scope_of (body all k)).locals
-    slots_are k lt =
-        let scope = scope_of (body all k) in
-        let there = are.each k lt in
-        get_or-map (λ s. once_from [] s.locals) scopes k scope [] (slice_get_within scopes k scope there) ∙ ap (λ s. once_from [] s.locals) (get_or_from_slice_get scopes k scope scope there)
-
     def_fits : (l n : ℕ) (ps : List Param) (es : List Event) → Rest n (parameters l [] ps ++ (Enter kind.Function ∷ (takes ps ++ es))) → length ps ≤ length (get_or (bound_in scopes) n [])
     def_fits l n ps es r =
         let behind = Enter kind.Function ∷ (takes ps ++ es) in
-        let at = past n (parameters l [] ps) behind (parameters_none l [] ps) r in
+        let at = past n (parameters l [] ps) behind (parameters_ordinary l [] ps) r in
         let within : n < body_count 0 all = omega (arith, at.count, bodies_rise (n + 1) (takes ps ++ es)) in
         let locals = (scope_of (body all n)).locals in
-        let few = no_more (param_names ps) (once_from [] locals) (params_differ l [] ps (clear_front (parameters l [] ps) behind r.clear)) (λ x h. once_gives x [] locals (params_local n ps (opened n ps es at) x h)) in
-        subst (λ m. m ≤ length (get_or (bound_in scopes) n [])) (length-map ps (λ p. p.name)) (subst (λ ns. length (param_names ps) ≤ length ns) (sym (slots_are n within)) few)
+        let few = no_more (param_names ps) (once_from [] locals) (params_differ l [] ps (clear_front (parameters l [] ps) behind r.clear)) (λ x h. has-once x [] locals ∙ params_local n ps (opened n ps es at) x h) in
+        subst (λ m. m ≤ length (get_or (bound_in scopes) n [])) (length-map ps (λ p. p.name)) (subst (λ ns. length (param_names ps) ≤ length ns) (sym (names_bound all scopes are n within)) few)
 
     fits : {ys : List Body} {es : List Event} → Begin ys es → (n : ℕ) → Rest n es → ParamsFit (bound_in scopes) n ys
     fits NoMore n r = tt
@@ -214,8 +224,8 @@ module _ (all : List Event) where
         let behind = Enter kind.Function ∷ (takes ps ++ es) in
         let slots : slots_named y.is_class (get_or (bound_in scopes) n []) ≡ get_or (bound_in scopes) n [] = ap (λ z. slots_named z (get_or (bound_in scopes) n [])) c in
         let few = subst (λ ns. length ps ≤ length ns) (sym slots) (def_fits l n ps es r) in
-        let inner = step n (Enter kind.Function) (takes ps ++ es) (past n (parameters l [] ps) behind (parameters_none l [] ps) r) in
-        (subst (λ m. m ≤ length (slots_named y.is_class (get_or (bound_in scopes) n []))) (sym p) few, fits b (n + 1) (past (n + 1) (takes ps) es (takes_none ps) inner))
+        let inner = step n (Enter kind.Function) (takes ps ++ es) (past n (parameters l [] ps) behind (parameters_ordinary l [] ps) r) in
+        (subst (λ m. m ≤ length (slots_named y.is_class (get_or (bound_in scopes) n []))) (sym p) few, fits b (n + 1) (past_takes (n + 1) ps es inner))
 
 pub params_fit : (m : Module) (scopes : List Scope) → legal_all m.body false false ≡ true → Resolves m (Ok scopes) → ParamsFit (bound_in scopes) 0 (bodies m.body)
 params_fit m scopes h r =
