@@ -30,7 +30,8 @@ use Rattle.py_compile.proofs.Legal.{legal_all}
 use Rattle.py_compile.proofs.Clear.{Clears, clear_front, first_parts, outline_clear}
 use Rattle.py_compile.proofs.OrdinaryEvents.{Ordinary, AllOrdinary, parameters_ordinary}
 use Rattle.py_compile.proofs.Begun.{Begin, NoMore, Beside, Bare, Taking, module_begun}
-use Rattle.py_compile.proofs.OnceNames.{has-once, has-noted_all}
+use Rattle.py_names.proofs.ScopeLemmas.{has-all}
+use Rattle.py_compile.proofs.OnceNames.{has-once}
 use Rattle.py_compile.proofs.ParamNames.{param_names, params_differ, no_more}
 
 -- each body has at most as many parameters as its code has named slots
@@ -200,7 +201,7 @@ module _ (all : List Event) where
     params_local k ps o x h =
         let bound : binds (said k) x ≡ true = ap (λ z. binds z x) o.is ∙ opened_gives x binding (λ n. refl) ps o.front o.back h in
         let taken = ap (list_any (λ v. names_it x (parameter v))) o.is ∙ opened_gives x parameter (λ n. refl) ps o.front o.back h in
-        let free : declares (said k) x ≡ false = undeclared (body all) k x (has-noted_all x parameter [] (said k) ∙ taken) [] 0 all faultless in
+        let free : declares (said k) x ≡ false = undeclared (body all) k x (has-all x parameter [] (said k) ∙ taken) [] 0 all faultless in
         let function : kind_of kind.Module (said k) ≡ kind.Function = ap (kind_of kind.Module) o.is ∙ kind_behind kind.Module kind.Function o.front (takes ps ++ o.back) ∙ o.kind in
         local_law x (said k)
         ∙ ap (λ z. not (is_module z) && (binds (said k) x && not (declares (said k) x))) function

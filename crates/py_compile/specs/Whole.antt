@@ -2,7 +2,6 @@
 -- code".
 use Rattle.std.specs.Prelude.{ℕ, zero, suc, ◌+◌, List, [], ◌∷◌, ◌++◌, Option, Some, None, Bool, true, false, if◌then◌else◌, length, map, min, nat_lt, get_or, replicate}
 use Rattle.std.specs.List.{list_any}
-use Rattle.py_data.specs.declared.value.Kind.TheVariants.{Str, Cell, Class}
 use Rattle.py_code.specs.declared.program.Root.{Root}
 use Rattle.py_code.specs.declared.program.Code.{Code}
 use Rattle.py_code.specs.declared.program.Program.{Program}

@@ -11,7 +11,7 @@ use Rattle.py_names.specs.Outline.{has, with_name}
 use Rattle.py_names.specs.Scopes.{noted, noted_all, mention, binding, declaration, kind_of, is_module, no_names, names_from, is_local, is_global, scope_of}
 use Rattle.py_names.specs.ScopeLaws.{names_it, mentions, binds, declares, is_own}
 
-or-false : (a : Bool) → (a || false) ≡ a
+pub or-false : (a : Bool) → (a || false) ≡ a
 or-false true = refl
 or-false false = refl
 
@@ -19,7 +19,7 @@ or-true : (a : Bool) → (a || true) ≡ true
 or-true true = refl
 or-true false = refl
 
-or-assoc : (a b d : Bool) → ((a || b) || d) ≡ (a || (b || d))
+pub or-assoc : (a b d : Bool) → ((a || b) || d) ≡ (a || (b || d))
 or-assoc true b d = refl
 or-assoc false b d = refl
 
@@ -36,7 +36,7 @@ turned false false = refl
 -- ---- lists of names
 
 module _ (n : List ℕ) where
-  has-with : (ns : List (List ℕ)) (m : List ℕ) → has n (with_name ns m) ≡ (has n ns || bytes_eq n m)
+  pub has-with : (ns : List (List ℕ)) (m : List ℕ) → has n (with_name ns m) ≡ (has n ns || bytes_eq n m)
   has-with ns m = go (has m ns) refl
     where
       same : (q : Bool) → bytes_eq n m ≡ q → has m ns ≡ true → has n ns ≡ (has n ns || q)
@@ -51,7 +51,7 @@ module _ (n : List ℕ) where
   has-noted ns None = sym (or-false (has n ns))
   has-noted ns (Some m) = has-with ns m
 
-  has-all : (f : Event → Option (List ℕ)) (ns : List (List ℕ)) (es : List Event) → has n (noted_all f ns es) ≡ (has n ns || list_any (λ e. names_it n (f e)) es)
+  pub has-all : (f : Event → Option (List ℕ)) (ns : List (List ℕ)) (es : List Event) → has n (noted_all f ns es) ≡ (has n ns || list_any (λ e. names_it n (f e)) es)
   has-all f ns [] = sym (or-false (has n ns))
   has-all f ns (e ∷ es) =
       has-all f (noted ns (f e)) es ∙ ap (λ z. z || list_any (λ x. names_it n (f x)) es) (has-noted ns (f e))
