@@ -4,8 +4,10 @@ pub mod State
 pub mod Names
 pub mod Expressions
 pub mod Statements
+pub mod Plans
 pub mod Rounds
 pub mod Weights
+pub mod PlanWeights
 pub mod Partly
 pub mod Heads
 pub mod Compounds

@@ -13,6 +13,8 @@ mod expression;
 mod home;
 mod names;
 mod parts;
+mod plan;
+mod planning;
 mod roots;
 mod simple;
 mod statement;
