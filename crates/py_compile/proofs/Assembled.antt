@@ -37,6 +37,7 @@ use Rattle.py_compile.proofs.Clean.{Fit, NoteOk, IsClean, template_clean, parts_
 use Rattle.py_compile.proofs.StmtClean.{Flagged, BodiesClean, module_clean}
 use Rattle.py_compile.proofs.Verifies.{no_setup, every_all, opens_none, belongs_from, body_at, body_past, number_is}
 use Rattle.py_compile.proofs.Whole as made
+use Rattle.py_compile.proofs.ParamSlots.{ParamsFit}
 
 -- the instructions of a whole code: those that fit, behind SETUP in the first one
 abbrev FitAll : (ℕ → Type 0) → (ℕ → Bool) → ℕ → Bool → List Instr → Type 0
@@ -92,7 +93,7 @@ large_none : (b : Bool) (l : ℕ) → (if b then Some l else None) ≡ None → 
 large_none true l e = absurd (cc)
 large_none false l e = refl
 
-or_false : (b c : Bool) → b ≡ false → c ≡ false → (b || c) ≡ false
+pub or_false : (b c : Bool) → b ≡ false → c ≡ false → (b || c) ≡ false
 or_false b c e f = subst (λ x. (x || c) ≡ false) (sym e) f
 
 same_limits : (a c : Limits) → a.slots ≡ c.slots → a.keys ≡ c.keys → a.strings ≡ c.strings → a.cells ≡ c.cells → a.roots ≡ c.roots → a.params ≡ c.params → a.first ≡ c.first → a ≡ c
@@ -211,11 +212,6 @@ module _ (locals : List (List (List ℕ))) (ss : List Stmt) where
   all_open : AllOpen N all 0 (whole.bodies ss)
   all_open = let s = codes_sit 0 (whole.bodies ss) (λ g o. o) in ((λ e. absurd (cc)), module_opens N all ss s.0 s.1)
 
-  -- parameters have slots
-  abbrev pub ParamsFit : ℕ → List Body → Type 0
-  ParamsFit f [] = Unit {0}
-  ParamsFit f (y ∷ ys) = (y.params ≤ length (whole.slots_named y.is_class (L f))) × ParamsFit (f + 1) ys
-
   module _ (free : (j : ℕ) (x : List ℕ) → is_none x ≡ true → has x (L j) ≡ false) where
     abbrev FlagsOf : (ℕ → Bool) → ℕ → List Body → Type 0
     FlagsOf fs f ys = Flagged L T C Ks P (made.none locals ss) ok fs to go holds free f ys
@@ -270,13 +266,13 @@ module _ (locals : List (List (List ℕ))) (ss : List Stmt) where
           typed = subst (λ k. IsRight k (code j y).instrs) (limits_same j y) (made.code_right locals ss j y d (omega (arith, few)));
         }
 
-    codes_right : Cleans 0 (whole.bodies ss) → (j : ℕ) (ys : List Body) → j + length ys ≡ length cs → BodiesOk L T C Ks P j ys → Cleans j ys → AllOpen N all j ys → whole.large_bodies nm j ys ≡ None → ParamsFit j ys → AreRight cs rs j (codes j ys)
+    codes_right : Cleans 0 (whole.bodies ss) → (j : ℕ) (ys : List Body) → j + length ys ≡ length cs → BodiesOk L T C Ks P j ys → Cleans j ys → AllOpen N all j ys → whole.large_bodies nm j ys ≡ None → ParamsFit locals j ys → AreRight cs rs j (codes j ys)
     codes_right h j [] n d c o e q = tt
     codes_right h j (y ∷ ys) n d c o e q =
         let p = least_none (whole.large_at j y (nm j y)) (whole.large_bodies nm (j + 1) ys) e in
         (code_ok h j y (omega (arith, n)) d.0 c.0 o.0 p.0 q.0, codes_right h (j + 1) ys (omega (arith, n)) d.1 c.1 o.1 p.1 q.1)
 
-    pub right_program : legal_all ss false false ≡ true → ParamsFit 0 (whole.bodies ss) → whole.too_large locals ss ≡ None → IsRightProgram (record { codes = cs; roots = rs })
+    pub right_program : legal_all ss false false ≡ true → ParamsFit locals 0 (whole.bodies ss) → whole.too_large locals ss ≡ None → IsRightProgram (record { codes = cs; roots = rs })
     right_program h q e =
         let p = parts locals ss e in
         let c = cleans h in
@@ -285,6 +281,6 @@ module _ (locals : List (List (List ℕ))) (ss : List Stmt) where
 
 -- What a module compiles to is right, where it is legal, `None` is no name that a body binds, parameters are among the names
 -- that their function binds, and nothing is too large.
-pub program_right : (locals : List (List (List ℕ))) (m : Module) → legal_all m.body false false ≡ true → ((j : ℕ) (x : List ℕ) → is_none x ≡ true → has x (whole.locals_of locals m.body j) ≡ false) → ParamsFit locals m.body 0 (whole.bodies m.body) → whole.too_large_in locals m ≡ None → IsRightProgram (whole.program_of locals m)
+pub program_right : (locals : List (List (List ℕ))) (m : Module) → legal_all m.body false false ≡ true → ((j : ℕ) (x : List ℕ) → is_none x ≡ true → has x (whole.locals_of locals m.body j) ≡ false) → ParamsFit locals 0 (whole.bodies m.body) → whole.too_large_in locals m ≡ None → IsRightProgram (whole.program_of locals m)
 unfolding whole.program_of whole.too_large_in
 program_right locals m h free q e = right_program locals m.body free h q e

@@ -1,5 +1,5 @@
 -- Induction over expressions: what holds of a kind of node, if it holds of its parts, holds of every expression.
-use Rattle.std.proofs.Common.{ℕ, ℤ, List, [], ◌∷◌, map, Option, Some, None, sym, subst}
+use Rattle.std.proofs.Common.{ℕ, ℤ, List, [], ◌∷◌, ◌++◌, map, Option, Some, None, sym, subst}
 use Rattle.py_tree.specs.declared.expr.Expr.{Expr, roll-Expr}
 use Rattle.py_tree.specs.declared.expr.Trailer.{Trailer, roll-Trailer}
 use Rattle.py_tree.specs.declared.expr.Link.{Link, roll-Link}
@@ -20,6 +20,29 @@ Every P (x ∷ xs) = P x × Every P xs
 abbrev pub IfThere : {A : Type 0} → (A → Type 0) → Option A → Type 0
 IfThere P None = Unit {0}
 IfThere P (Some x) = P x
+
+-- what holds of two lists in turn
+pub every_front : {A : Type 0} (Q : A → Type 0) (a c : List A) → Every Q (a ++ c) → Every Q a
+every_front Q [] c h = tt
+every_front Q (x ∷ a) c h = (h.0, every_front Q a c h.1)
+
+pub every_back : {A : Type 0} (Q : A → Type 0) (a c : List A) → Every Q (a ++ c) → Every Q c
+every_back Q [] c h = h
+every_back Q (x ∷ a) c h = every_back Q a c h.1
+
+pub every_join : {A : Type 0} (Q : A → Type 0) (a c : List A) → Every Q a → Every Q c → Every Q (a ++ c)
+every_join Q [] c h g = g
+every_join Q (x ∷ a) c h g = (h.0, every_join Q a c h.1 g)
+
+-- what holds of everything
+pub every_of : {A : Type 0} (Q : A → Type 0) → ((x : A) → Q x) → (xs : List A) → Every Q xs
+every_of Q f [] = tt
+every_of Q f (x ∷ xs) = (f x, every_of Q f xs)
+
+-- parts that come with what holds of each
+pub every : {A : Type 0} (Q : A → Type 0) (ys : List ((x : A) × Q x)) → Every Q (map (λ y. y.0) ys)
+every Q [] = tt
+every Q (y ∷ ys) = (y.1, every Q ys)
 
 module _ (P : Expr → Type 0) (T : Trailer → Type 0) where
   abbrev pub OfLink : Link → Type 0
@@ -50,10 +73,6 @@ module _ (P : Expr → Type 0) (T : Trailer → Type 0) where
     pub index : (a : Expr) → P a → T (t.Index a)
     pub slice : (a b : Option Expr) → IfThere P a → IfThere P b → T (t.Slice a b)
     pub call : (xs : List Expr) (ks : List Named) → Every P xs → Every OfNamed ks → T (t.Call xs ks)
-
-  every : {A : Type 0} (Q : A → Type 0) (ys : List ((x : A) × Q x)) → Every Q (map (λ y. y.0) ys)
-  every Q [] = tt
-  every Q (y ∷ ys) = (y.1, every Q ys)
 
   abbrev E-with : Type 0
   E-with = (x : Expr) × P x

@@ -39,24 +39,11 @@ use Rattle.py_compile.proofs.Ops.{keep_false, keep_true}
 use Rattle.py_compile.proofs.Values.{Each, Value, Store, Change, one_is, one_value_is, two_values_is, link_is, operators_is, IsKeep, Kept, kept_is, all_kept_is, Between, between_is, chained_is, conditional_is, trail_is, attribute_is, index_is, slice_is, built_is, call_is, method_call_is, to_attr_is, to_item_is, to_all_is, one_takes, Pair as IsPair, pair_is, dictionary_is}
 use Rattle.py_compile.proofs.Blocks.{Does, block_does, one_does, del_attr_does, del_item_does, add_name_does, add_attr_does, add_item_does}
 use Rattle.py_compile.proofs.Coded as rows
-use Rattle.py_compile.proofs.UsedRows.{read_links, read_pairs, read_named, read_trailers}
-use Rattle.py_compile.proofs.UsedRows as uses
+use Rattle.py_compile.specs.Tallies.{read_links, read_pairs, read_named, read_trailers}
+use Rattle.py_compile.proofs.Used as uses
 use Rattle.py_compile.proofs.SaneRows as sanes
-use Rattle.py_compile.proofs.ExprInduct.{Every, IfThere, Arms, OfLink, OfNamed, OfPair, expr_induct}
+use Rattle.py_compile.proofs.ExprInduct.{Every, IfThere, Arms, OfLink, OfNamed, OfPair, expr_induct, every_front, every_back}
 use Rattle.py_compile.proofs.Homes.{IsHomed, KeysFit, Covered, Fits, home_bound, read_bound}
-
--- what holds of two lists in turn
-pub every_front : {A : Type 0} (Q : A → Type 0) (a c : List A) → Every Q (a ++ c) → Every Q a
-every_front Q [] c h = tt
-every_front Q (x ∷ a) c h = (h.0, every_front Q a c h.1)
-
-pub every_back : {A : Type 0} (Q : A → Type 0) (a c : List A) → Every Q (a ++ c) → Every Q c
-every_back Q [] c h = h
-every_back Q (x ∷ a) c h = every_back Q a c h.1
-
-pub every_join : {A : Type 0} (Q : A → Type 0) (a c : List A) → Every Q a → Every Q c → Every Q (a ++ c)
-every_join Q [] c h g = g
-every_join Q (x ∷ a) c h g = (h.0, every_join Q a c h.1 g)
 
 -- operators have numbers below 12
 pub operator_small : (o : Operator) → operator o < 12

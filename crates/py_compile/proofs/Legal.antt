@@ -4,8 +4,11 @@ use Rattle.std.specs.Prelude.{◌&&◌, Bool, true, false, List, [], ◌∷◌, 
 use Rattle.py_tree.specs.declared.expr.Expr.{Expr}
 use Rattle.py_tree.specs.declared.stmt.Stmt.{Stmt}
 use Rattle.py_tree.specs.declared.stmt.Param.{Param}
+use Rattle.py_tree.specs.declared.stmt.Arm.{Arm}
+use Rattle.py_tree.specs.declared.stmt.Clause.{Clause}
+use Rattle.py_tree.specs.declared.stmt.Handler.{Handler}
 use Rattle.py_tree.specs.declared.stmt.Stmt.TheOpen as open'
-use Rattle.py_tree.specs.declared.stmt.Stmt.TheFolds.{fold-Stmt}
+use Rattle.py_tree.specs.declared.stmt.Stmt.TheFolds.{fold-Stmt, fold-Arm, fold-Clause, fold-Handler}
 use Rattle.py_tree.specs.Form.{form, is_target, is_single, all_targets}
 use Rattle.py_compile.proofs.Sane.{sane, all_sane, sane_some}
 
@@ -83,6 +86,15 @@ handler_step h = both (always (sane_some h.test && target_some h.target)) (all_l
 
 unfoldable pub legal : Stmt → Legal
 legal = fold-Stmt Legal Legal Legal Legal stmt_step arm_step clause_step handler_step
+
+unfoldable pub legal_by_arm : Arm → Legal
+legal_by_arm = fold-Arm Legal Legal Legal Legal stmt_step arm_step clause_step handler_step
+
+unfoldable pub legal_by_clause : Clause → Legal
+legal_by_clause = fold-Clause Legal Legal Legal Legal stmt_step arm_step clause_step handler_step
+
+unfoldable pub legal_by_handler : Handler → Legal
+legal_by_handler = fold-Handler Legal Legal Legal Legal stmt_step arm_step clause_step handler_step
 
 -- a module's statements, and those of a body
 abbrev pub legal_all : List Stmt → Legal

@@ -1,18 +1,17 @@
 -- No body of a text whose names resolve binds None.
-use Rattle.std.proofs.Common.{◌≡◌, ◌∙◌, ◌&&◌, ◌||◌, ℕ, Bool, true, false, not, List, [], ◌∷◌, Option, Some, None, refl, sym, ap, subst}
+use Rattle.std.proofs.Common.{◌≡◌, ◌∙◌, ◌&&◌, ◌||◌, ℕ, Bool, true, false, not, List, [], ◌∷◌, refl, sym, ap, subst}
 use Rattle.std.specs.Prelude.{if◌then◌else◌}
-use Rattle.std.specs.List.{list_any}
 use Rattle.std.specs.Str.{bytes_eq}
 use Rattle.std.proofs.lemmas.Slice.Eq.{bytes_eq-Decides}
 use Rattle.py_names.specs.declared.event.Event.{Event}
 use Rattle.py_names.specs.declared.event.Event.TheVariants.{Enter, Leave, Takes, Uses, Binds, Declares, Misplaced, Doubled}
 use Rattle.py_names.specs.declared.event.BodyKind.TheVariants.{Module}
 use Rattle.py_names.specs.Outline.{is_none, has}
-use Rattle.py_names.specs.Scopes.{Placed, placed, inside_after, bodies_after, is_first, said_in, binding, is_module, kind_of, no_names, names_from, scope_of, body}
-use Rattle.py_names.specs.ScopeLaws.{names_it, binds, declares, is_own}
+use Rattle.py_names.specs.Scopes.{placed, inside_after, bodies_after, is_first, said_in, binding, is_module, kind_of, scope_of, body}
+use Rattle.py_names.specs.ScopeLaws.{names_it, binds, declares}
 use Rattle.py_names.proofs.ScopeLemmas.{local_law}
 use Rattle.py_compile.proofs.ExprInduct.{Every}
-use Rattle.py_compile.proofs.LegalText.{Free}
+use Rattle.py_compile.proofs.FreeEvents.{Free}
 
 -- what is said in a body is said in the module
 said_free : (k : ℕ) (inside : List ℕ) (n : ℕ) (es : List Event) → Every Free es → Every Free (said_in k (placed inside n es))

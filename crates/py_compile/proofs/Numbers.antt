@@ -1,6 +1,8 @@
 -- What is used has its number: each string and each global name is in its list, and each keyword list in its body's.
 use Rattle.std.proofs.Common.{◌≡◌, ◌∙◌, ◌||◌, ◌==◌, ℕ, suc, ◌+◌, ◌<◌, List, [], ◌∷◌, ◌++◌, Some, None, Bool, true, false, cond, nat_lt, refl, sym, ap, subst, arith, length, map, get_or, unwrap_or}
 use Rattle.std.specs.Prelude.{if◌then◌else◌}
+use Rattle.std.specs.Bool.{Decides}
+use Rattle.std.specs.Cmp.Lexicographic.{pointwise_decides}
 use Rattle.std.specs.List.{list_any, position_or_len}
 use Rattle.std.specs.Str.{bytes_eq}
 use Rattle.std.proofs.lemmas.Bool.{ltb-true, or_left, or_right, eq-eqb}
@@ -26,22 +28,11 @@ number_small x ns h =
 bytes_same : (x : List ℕ) → bytes_eq x x ≡ true
 bytes_same x = (bytes_eq-Decides x x).1 refl
 
-bytes_is : (x y : List ℕ) → bytes_eq x y ≡ true → x ≡ y
-bytes_is x y h = (bytes_eq-Decides x y).0 h
+names_decide : (xs ys : List (List ℕ)) → Decides (same_names xs ys) (xs ≡ ys)
+names_decide = pointwise_decides bytes_eq-Decides
 
 names_same : (xs : List (List ℕ)) → same_names xs xs ≡ true
-names_same [] = refl
-names_same (x ∷ xs) = rw (bytes_same x) (names_same xs)
-
-names_is : (xs ys : List (List ℕ)) → same_names xs ys ≡ true → xs ≡ ys
-names_is [] [] h = refl
-names_is [] (y ∷ ys) h = absurd (cc)
-names_is (x ∷ xs) [] h = absurd (cc)
-names_is (x ∷ xs) (y ∷ ys) h = by_test (bytes_eq x y) refl h (names_is xs ys)
-  where
-    by_test : (b : Bool) → bytes_eq x y ≡ b → (if b then same_names xs ys else false) ≡ true → (same_names xs ys ≡ true → xs ≡ ys) → x ∷ xs ≡ y ∷ ys
-    by_test true e g more = ap (λ z. z ∷ xs) (bytes_is x y e) ∙ ap (λ z. y ∷ z) (more g)
-    by_test false e g more = absurd (cc)
+names_same xs = (names_decide xs xs).1 refl
 
 -- a list that grows keeps what it has, and has what was added
 module _ {A : Type 0} (same : A → A → Bool) (alike : (x : A) → same x x ≡ true) where
@@ -116,7 +107,7 @@ list_at i ks [] h = absurd (cc)
 list_at i ks (x ∷ xs) h = by_test (same_names ks x) refl h (list_at (i + 1) ks xs)
   where
     by_test : (b : Bool) → same_names ks x ≡ b → (b || list_any (same_names ks) xs) ≡ true → (list_any (same_names ks) xs ≡ true → ListAt (i + 1) ks xs) → ListAt i ks (x ∷ xs)
-    by_test true e g more = record { place = 0; number = ap (λ b. if b then i else list_number (i + 1) ks xs) e ∙ omega arith; within = omega arith; is = sym (names_is ks x e) }
+    by_test true e g more = record { place = 0; number = ap (λ b. if b then i else list_number (i + 1) ks xs) e ∙ omega arith; within = omega arith; is = sym ((names_decide ks x).0 e) }
     by_test false e g more = let r = more g in let n = r.number in let w = r.within in record { place = suc r.place; number = ap (λ b. if b then i else list_number (i + 1) ks xs) e ∙ omega (arith, n); within = omega (arith, w); is = r.is }
 
 -- so what is noted has its number

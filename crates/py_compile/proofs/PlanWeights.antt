@@ -43,6 +43,10 @@ pub weight_simple : (s : Simple) → plan_weight (plan.Simple s) ≡ 8
 unfolding plan_weight weight_arm weight_handler
 weight_simple s = ap plan_weight (sym (plan.rolls-Simple s)) ∙ fold-roll-Plan ℕ ℕ ℕ plan_weight_step plan_arm_step plan_handler_step (open'.Simple s)
 
+pub weight_delete : (ln : ℕ) (ts : List (Bor Expr)) → plan_weight (plan.Delete ln ts) ≡ 8
+unfolding plan_weight weight_arm weight_handler
+weight_delete ln ts = ap plan_weight (sym (plan.rolls-Delete ln ts)) ∙ fold-roll-Plan ℕ ℕ ℕ plan_weight_step plan_arm_step plan_handler_step (open'.Delete ln ts)
+
 pub weight_def : (ln : ℕ) (x : Bor (List ℕ)) (ps : Bor (List Param)) (f : ℕ) → plan_weight (plan.Def ln x ps f) ≡ 8
 unfolding plan_weight weight_arm weight_handler
 weight_def ln x ps f = ap plan_weight (sym (plan.rolls-Def ln x ps f)) ∙ fold-roll-Plan ℕ ℕ ℕ plan_weight_step plan_arm_step plan_handler_step (open'.Def ln x ps f)

@@ -1,6 +1,5 @@
 -- The code of plans, and what it means that they are those of statements.
 use Rattle.std.proofs.Common.{◌≡◌, ℕ, ◌+◌, Bor, Option, List, [], ◌∷◌, ◌++◌, map, refl, sym, ap, ◌∙◌, arith, append_assoc, append-nil}
-use Rattle.std.proofs.lemmas.List.{map-append}
 use Rattle.py_tree.specs.declared.expr.Expr.{Expr}
 use Rattle.py_tree.specs.declared.stmt.Arm.{Arm}
 use Rattle.py_tree.specs.declared.stmt.Handler.{Handler}
@@ -13,47 +12,17 @@ use Rattle.py_compile.specs.declared.plan.PlanArm.{PlanArm}
 use Rattle.py_compile.specs.declared.plan.PlanHandler.{PlanHandler}
 use Rattle.py_compile.specs.declared.plan.Simple.{Simple}
 use Rattle.py_compile.specs.declared.plan.Simple.TheVariants as simple
-use Rattle.py_compile.specs.Template.{Frame, Piece, Sub, size_of, slots_of, lines_of, code_of, row}
+use Rattle.py_compile.specs.Deletions.{SameDeletions}
+use Rattle.py_compile.specs.Template.{Piece, Alone, template, row}
 use Rattle.py_compile.specs.Table.{nothing, def, class, arm, all_arms, while, for, try_except, try_finally, Around, InWhile, InFor, InTry, InClause, InFinally}
 use Rattle.py_compile.specs.Names.{Known, home}
-use Rattle.py_compile.specs.Expressions.{value, values, stored}
-use Rattle.py_compile.specs.Statements.{Stated, all_stated, armed, base, block, clause, count, defaults, handled, pieces, stated, stated_arms, stated_block, stated_handlers, still}
+use Rattle.py_compile.specs.Expressions.{all_deleted, value, values, stored}
+use Rattle.py_compile.specs.Statements.{Stated, all_stated, armed, base, block, clause, count, defaults, deletion, handled, pieces, stated, stated_arms, stated_block, stated_handlers, still}
 use Rattle.py_compile.specs.Plans.{Coded, each, plan_step, arm_step, handler_step, simple_stmt, planned, planned_all, planned_arm, planned_arms, planned_handler, planned_handlers, ArePlans, AddPlans, if_plan, while_plan, for_plan, try_plan, finally_plan}
-use Rattle.py_compile.proofs.Rows.{size_both, slots_both, lines_both, code_both}
+use Rattle.py_compile.proofs.RowsEqual.{row_flat}
 use Rattle.py_compile.proofs.Stateds as k
 
--- a row within a row
-
-flat_size : (as' ps bs : List Piece) → size_of (map (Sub 1) (as' ++ row ps ∷ bs)) ≡ size_of (map (Sub 1) (as' ++ (ps ++ bs)))
-flat_size [] ps bs = sym (ap size_of (map-append (Sub 1) ps bs) ∙ size_both (map (Sub 1) ps) (map (Sub 1) bs))
-flat_size (a ∷ as') ps bs = ap (λ z. a.size + z) (flat_size as' ps bs)
-
-flat_slots : (as' ps bs : List Piece) → slots_of (map (Sub 1) (as' ++ row ps ∷ bs)) ≡ slots_of (map (Sub 1) (as' ++ (ps ++ bs)))
-flat_slots [] ps bs = let e = ap slots_of (map-append (Sub 1) ps bs) ∙ slots_both (map (Sub 1) ps) (map (Sub 1) bs) in omega (arith, e)
-flat_slots (a ∷ as') ps bs = ap (λ z. a.slots + z) (flat_slots as' ps bs)
-
-flat_lines : (as' ps bs : List Piece) → lines_of 0 (map (Sub 1) (as' ++ row ps ∷ bs)) ≡ lines_of 0 (map (Sub 1) (as' ++ (ps ++ bs)))
-flat_lines [] ps bs = sym (ap (lines_of 0) (map-append (Sub 1) ps bs) ∙ lines_both 0 (map (Sub 1) ps) (map (Sub 1) bs))
-flat_lines (a ∷ as') ps bs = ap (λ z. a.lines ++ z) (flat_lines as' ps bs)
-
-flat_code : (env : List Frame) (as' ps bs : List Piece) (p k : ℕ) → code_of (record { labels = []; slot = 0 } ∷ env) (map (Sub 1) (as' ++ row ps ∷ bs)) p k ≡ code_of (record { labels = []; slot = 0 } ∷ env) (map (Sub 1) (as' ++ (ps ++ bs))) p k
-flat_code env [] ps bs p k =
-    let within : List Frame = record { labels = []; slot = 0 } ∷ env in
-    let e : k + 0 ≡ k = omega arith in
-    let f : k + (0 + slots_of (map (Sub 1) ps)) ≡ k + slots_of (map (Sub 1) ps) = omega arith in
-    ap (λ z. code_of within (map (Sub 1) ps) p z ++ code_of within (map (Sub 1) bs) (p + size_of (map (Sub 1) ps)) (k + (0 + slots_of (map (Sub 1) ps)))) e
-    ∙ ap (λ z. code_of within (map (Sub 1) ps) p k ++ code_of within (map (Sub 1) bs) (p + size_of (map (Sub 1) ps)) z) f
-    ∙ sym (code_both within (map (Sub 1) ps) (map (Sub 1) bs) p k)
-    ∙ ap (λ z. code_of within z p k) (sym (map-append (Sub 1) ps bs))
-flat_code env (a ∷ as') ps bs p k = ap (λ z. a.code env p k ++ z) (flat_code env as' ps bs (p + a.size) (k + a.slots))
-
-pub row_flat : (as' ps bs : List Piece) → row (as' ++ row ps ∷ bs) ≡ row (as' ++ (ps ++ bs))
-row_flat as' ps bs = λ i. record {
-  size = flat_size as' ps bs i;
-  slots = 0 + flat_slots as' ps bs i;
-  lines = flat_lines as' ps bs i;
-  code = λ env p k. flat_code env as' ps bs p (k + 0) i;
-}
+-- a piece alone in its row
 
 plus_none : (n : ℕ) → n + 0 ≡ n
 plus_none n = omega arith
@@ -84,6 +53,9 @@ add_plan old new p g e h n c more =
 -- no code is no plan
 pub add_none : (old : List Plan) (ln : ℕ) → AddPlans old old (λ n c. nothing ln)
 add_none old ln n c more = sym (row_flat (planned_all old n c) [] more)
+
+pub no_delete : (old : List Plan) (ln : ℕ) (xs : List Expr) → SameDeletions [] xs → AddPlans old old (λ n c. deletion ln (all_deleted n ln xs))
+no_delete old ln xs h n c more = sym (row_flat (planned_all old n c) [] more) ∙ ap (λ z. row (planned_all old n c ++ template ln 0 0 (Alone z ∷ []) ∷ more)) (h.code n ln)
 
 -- what was added to nothing
 pub alone : (new : List Plan) (g : Coded) → AddPlans [] new g → ArePlans new g
@@ -144,6 +116,10 @@ pub planned_simple : (s : Simple) (n : Known) (c : List Around) → planned (pla
 unfolding planned folded_arm folded_handler
 planned_simple s n c = ap (λ z. planned z n c) (sym (plan.rolls-Simple s)) ∙ ap (λ g. g n c) (fold-roll-Plan Coded Coded Coded plan_step arm_step handler_step (open'.Simple s))
 
+pub planned_delete : (ln : ℕ) (ts : List (Bor Expr)) (n : Known) (c : List Around) → planned (plan.Delete ln ts) n c ≡ deletion ln (all_deleted n ln (map (λ x. x.now) ts))
+unfolding planned folded_arm folded_handler
+planned_delete ln ts n c = ap (λ z. planned z n c) (sym (plan.rolls-Delete ln ts)) ∙ ap (λ g. g n c) (fold-roll-Plan Coded Coded Coded plan_step arm_step handler_step (open'.Delete ln ts))
+
 pub planned_def : (ln : ℕ) (x : Bor (List ℕ)) (ps : Bor (List Param)) (f : ℕ) (n : Known) (c : List Around) → planned (plan.Def ln x ps f) n c ≡ def ln (values n ln (defaults ps.now)) f (home n x.now)
 unfolding planned folded_arm folded_handler
 planned_def ln x ps f n c = ap (λ z. planned z n c) (sym (plan.rolls-Def ln x ps f)) ∙ ap (λ g. g n c) (fold-roll-Plan Coded Coded Coded plan_step arm_step handler_step (open'.Def ln x ps f))
@@ -184,6 +160,9 @@ planned_finally ln ps d n c = ap (λ z. planned z n c) (sym (plan.rolls-Finally 
     ∙ ap (λ z. try_finally ln (row (planned_all ps n (InFinally (row z) ∷ c))) (row z)) (each_same d n c)
 
 -- the same over the code of the parts
+
+pub delete_plans : (ln : ℕ) (ts : List (Bor Expr)) (xs : List Expr) → SameDeletions (map (λ x. x.now) ts) xs → (n : Known) (c : List Around) → planned (plan.Delete ln ts) n c ≡ deletion ln (all_deleted n ln xs)
+delete_plans ln ts xs h n c = planned_delete ln ts n c ∙ ap (λ z. template ln 0 0 (Alone z ∷ [])) (h.code n ln)
 
 module _ (n : Known) (c : List Around) where
   pub if_plans : (as' : List PlanArm) (e : List Plan) (arms : List Piece) (other : Piece) → planned_arms as' n c ≡ arms → row (planned_all e n c) ≡ other → planned (plan.If as' e) n c ≡ all_arms 0 arms other
@@ -239,7 +218,6 @@ still_simple (simple.Break ln) = (_, k.stated_break ln)
 still_simple (simple.Continue ln) = (_, k.stated_continue ln)
 still_simple (simple.Return ln x) = (_, k.stated_return ln x.now)
 still_simple (simple.Raise ln x v) = (_, k.stated_raise ln x.now v.now)
-still_simple (simple.Del ln ts) = (_, k.stated_del ln ts.now)
 still_simple (simple.Assert ln x m) = (_, k.stated_assert ln x.now m.now)
 still_simple (simple.Import ln is) = (_, k.stated_import ln is.now)
 still_simple (simple.From ln m is) = (_, k.stated_from ln m.now is.now)

@@ -7,18 +7,17 @@ use Rattle.py_code.specs.declared.instr.Instr.{Instr}
 use Rattle.py_code.specs.declared.instr.Instr.TheVariants.{ClassBody, Iter, Next, Jump, JumpFalse, Try, PopTry, StoreLocal, LoadLocal, Raise, ExcMatch}
 use Rattle.py_code.specs.Right.{opens_body}
 use Rattle.py_tree.specs.declared.expr.Expr.{Expr}
-use Rattle.py_tree.specs.declared.stmt.Stmt.{Stmt, roll-Stmt}
-use Rattle.py_tree.specs.declared.stmt.Arm.{Arm as ArmTree, roll-Arm}
-use Rattle.py_tree.specs.declared.stmt.Clause.{Clause as ClauseTree, roll-Clause}
-use Rattle.py_tree.specs.declared.stmt.Handler.{Handler as HandlerTree, roll-Handler}
+use Rattle.py_tree.specs.declared.stmt.Stmt.{Stmt}
 use Rattle.py_tree.specs.declared.stmt.Stmt.TheOpen as open'
-use Rattle.py_tree.specs.declared.stmt.Stmt.TheFolds.{fold-Arm, fold-Clause, fold-Handler, fold-roll-Stmt, fold-roll-Arm, fold-roll-Clause, fold-roll-Handler, ind-Stmt, map-Stmt, map-Arm, map-Clause, map-Handler}
 use Rattle.py_compile.specs.Template.{Frame, Piece, Part, Op, Hidden, To, Here, Alone, Sub, part_size, part_slots, part_code, code_of, template, row, labels_from, own_slot}
 use Rattle.py_compile.specs.Table.{A, B, E, H, M, store, Around, InWhile, InFor, InTry, InClause, InFinally, arm, all_arms, while, for, try_except, try_finally, class, clause_bare, clause_test, clause_target}
 use Rattle.py_compile.specs.declared.home.Home.{Home}
 use Rattle.py_compile.specs.Expressions.{value, stored}
 use Rattle.py_compile.specs.Names.{Known, home}
-use Rattle.py_compile.specs.Statements.{Body, Stated, Armed, Claused, Handled, still, block, count, pieces, inners, armed, armed_count, armed_inner, handled, handled_count, handled_inner, clause, tried, finally, inner_body, base, stmt_step, arm_step, clause_step, handler_step, stated, all_stated}
+use Rattle.py_compile.specs.Statements.{Body, Stated, Armed, Claused, Handled, still, block, count, pieces, inners, armed, armed_count, armed_inner, handled, handled_count, handled_inner, clause, tried, finally, inner_body, base, stated, all_stated}
+use Rattle.py_compile.specs.Uses.{Uses, stmt_uses}
+use Rattle.py_compile.proofs.Legal.{Legal, legal, legal_by_arm, legal_by_handler}
+use Rattle.py_compile.proofs.FoldInduct.{related_every, related_of, code_by_arm, code_by_clause, code_by_handler, uses_by_arm, uses_by_handler, ClauseWith, LayerWith, IsLayer, every_stmts}
 use Rattle.py_compile.proofs.ExprInduct.{Every}
 
 -- a CLASS_BODY of that code is among these
@@ -239,51 +238,21 @@ module _ (N : ℕ → Bool → Known) (all : List Instr) where
     sits = λ j w c f s b. ((λ e. o e j w c f s), (block_sit ss rs).sits f z [] (f + 1) b.0 b.1);
   }
 
-  -- the fold at the other kinds of node
-  farm : ArmTree → Armed
-  farm = fold-Arm Stated Armed Claused Handled stmt_step arm_step clause_step handler_step
+  -- nothing is said of uses here, nor of what is legal
+  abbrev Rel : Stated → Uses → Legal → Type 0
+  Rel s v g = SitRel s
 
-  fclause : ClauseTree → Claused
-  fclause = fold-Clause Stated Armed Claused Handled stmt_step arm_step clause_step handler_step
+  abbrev ArmRel : Armed → Uses → Legal → Type 0
+  ArmRel a v g = ArmSit a
 
-  fhandler : HandlerTree → Handled
-  fhandler = fold-Handler Stated Armed Claused Handled stmt_step arm_step clause_step handler_step
+  abbrev HandlerRel : Handled → Uses → Legal → Type 0
+  HandlerRel h v g = HandlerSit h
 
-  abbrev PS : Stmt → Type 0
-  PS x = SitRel (stated x)
-
-  abbrev PA : ArmTree → Type 0
-  PA x = ArmSit (farm x)
-
-  abbrev PC : ClauseTree → Type 0
-  PC x = SitRel (fclause x).block
-
-  abbrev PH : HandlerTree → Type 0
-  PH x = HandlerSit (fhandler x)
-
-  abbrev S-with : Type 0
-  S-with = (x : Stmt) × PS x
-
-  abbrev A-with : Type 0
-  A-with = (x : ArmTree) × PA x
+  abbrev no_locals : ℕ → List (List ℕ)
+  no_locals b = []
 
   abbrev C-with : Type 0
-  C-with = (x : ClauseTree) × PC x
-
-  abbrev H-with : Type 0
-  H-with = (x : HandlerTree) × PH x
-
-  ss_of : (ys : List S-with) → Every SitRel (map stated (map (λ y. y.0) ys))
-  ss_of [] = tt
-  ss_of (y ∷ ys) = (y.1, ss_of ys)
-
-  as_of : (ys : List A-with) → Every ArmSit (map farm (map (λ y. y.0) ys))
-  as_of [] = tt
-  as_of (y ∷ ys) = (y.1, as_of ys)
-
-  hs_of : (ys : List H-with) → Every HandlerSit (map fhandler (map (λ y. y.0) ys))
-  hs_of [] = tt
-  hs_of (y ∷ ys) = (y.1, hs_of ys)
+  C-with = ClauseWith no_locals Rel ArmRel HandlerRel
 
   none_sit : SitRel (block [])
   none_sit = block_sit [] tt
@@ -291,16 +260,10 @@ module _ (N : ℕ → Bool → Known) (all : List Instr) where
   d_none : (x : Claused) → None ≡ Some x → SitRel x.block
   d_none x e = absurd (cc)
 
-  d_some : (d : C-with) (x : Claused) → Some (fclause d.0) ≡ Some x → SitRel x.block
-  d_some d x e = let k : fclause d.0 ≡ x = cc in subst (λ y. SitRel y.block) k d.1
+  d_some : (d : C-with) (x : Claused) → Some (code_by_clause d.0) ≡ Some x → SitRel x.block
+  d_some d x e = let k : code_by_clause d.0 ≡ x = cc in subst (λ y. SitRel y.block) k d.1
 
-  abbrev strip : open'.Stmt-F S-with A-with C-with H-with → open'.Stmt-F Stmt ArmTree ClauseTree HandlerTree
-  strip y = map-Stmt S-with A-with C-with H-with Stmt ArmTree ClauseTree HandlerTree (λ y. y.0) (λ y. y.0) (λ y. y.0) (λ y. y.0) y
-
-  abbrev Layer : open'.Stmt-F Stmt ArmTree ClauseTree HandlerTree → Type 0
-  Layer x = SitRel (stmt_step (map-Stmt Stmt ArmTree ClauseTree HandlerTree Stated Armed Claused Handled stated farm fclause fhandler x))
-
-  layer : (y : open'.Stmt-F S-with A-with C-with H-with) → Layer (strip y)
+  layer : (y : LayerWith no_locals Rel ArmRel HandlerRel) → IsLayer no_locals Rel ArmRel HandlerRel y
   layer (open'.Do ln e) = still_sit _
   layer (open'.Assign ln ts e) = still_sit _
   layer (open'.Augment ln t o e) = still_sit _
@@ -315,45 +278,21 @@ module _ (N : ℕ → Bool → Known) (all : List Instr) where
   layer (open'.Assert ln t m) = still_sit _
   layer (open'.Import ln is) = still_sit _
   layer (open'.From ln m is) = still_sit _
-  layer (open'.If ys None) = if_sit _ (block []) (as_of ys) none_sit
-  layer (open'.If ys (Some e)) = if_sit _ (fclause e.0).block (as_of ys) e.1
-  layer (open'.While a None) = while_sit (farm a.0) (block []) a.1 none_sit
-  layer (open'.While a (Some e)) = while_sit (farm a.0) (fclause e.0).block a.1 e.1
-  layer (open'.For ln t x ys None) = for_sit ln t x _ (block []) (ss_of ys) none_sit
-  layer (open'.For ln t x ys (Some e)) = for_sit ln t x _ (fclause e.0).block (ss_of ys) e.1
-  layer (open'.Try t ys None None) = finally_sit (fclause t.0).line _ None (try_sit (fclause t.0) _ (block []) t.1 (hs_of ys) none_sit) d_none
-  layer (open'.Try t ys (Some e) None) = finally_sit (fclause t.0).line _ None (try_sit (fclause t.0) _ (fclause e.0).block t.1 (hs_of ys) e.1) d_none
-  layer (open'.Try t ys None (Some d)) = finally_sit (fclause t.0).line _ (Some (fclause d.0)) (try_sit (fclause t.0) _ (block []) t.1 (hs_of ys) none_sit) (d_some d)
-  layer (open'.Try t ys (Some e) (Some d)) = finally_sit (fclause t.0).line _ (Some (fclause d.0)) (try_sit (fclause t.0) _ (fclause e.0).block t.1 (hs_of ys) e.1) (d_some d)
-  layer (open'.Def ln x ps ys) = body_sit ln x false (length ps) _ _ (ss_of ys) (λ e. absurd (cc))
-  layer (open'.Class ln x e ys) = body_sit ln x true 0 _ _ (ss_of ys) (λ q j w c f s. class_opens ln (base (N j w) ln e) f (home (N j w) x) s)
-
-  rolled : (x : open'.Stmt-F Stmt ArmTree ClauseTree HandlerTree) → Layer x → PS (roll-Stmt x)
-  unfolding stated farm fclause fhandler
-  rolled x r = subst SitRel (sym (fold-roll-Stmt Stated Armed Claused Handled stmt_step arm_step clause_step handler_step x)) r
-
-  rolled_arm : (x : open'.Arm-F Stmt ArmTree ClauseTree HandlerTree) → ArmSit (arm_step (map-Arm Stmt ArmTree ClauseTree HandlerTree Stated Armed Claused Handled stated farm fclause fhandler x)) → PA (roll-Arm x)
-  unfolding stated farm fclause fhandler
-  rolled_arm x r = subst ArmSit (sym (fold-roll-Arm Stated Armed Claused Handled stmt_step arm_step clause_step handler_step x)) r
-
-  rolled_clause : (x : open'.Clause-F Stmt ArmTree ClauseTree HandlerTree) → SitRel (clause_step (map-Clause Stmt ArmTree ClauseTree HandlerTree Stated Armed Claused Handled stated farm fclause fhandler x)).block → PC (roll-Clause x)
-  unfolding stated farm fclause fhandler
-  rolled_clause x r = subst (λ q. SitRel q.block) (sym (fold-roll-Clause Stated Armed Claused Handled stmt_step arm_step clause_step handler_step x)) r
-
-  rolled_handler : (x : open'.Handler-F Stmt ArmTree ClauseTree HandlerTree) → HandlerSit (handler_step (map-Handler Stmt ArmTree ClauseTree HandlerTree Stated Armed Claused Handled stated farm fclause fhandler x)) → PH (roll-Handler x)
-  unfolding stated farm fclause fhandler
-  rolled_handler x r = subst HandlerSit (sym (fold-roll-Handler Stated Armed Claused Handled stmt_step arm_step clause_step handler_step x)) r
-
-  pub stmt_sits : (x : Stmt) → PS x
-  stmt_sits = ind-Stmt PS PA PC PH
-      (λ x y is. rolled x (subst Layer is (layer y)))
-      (λ x y is. subst (λ q. PA (roll-Arm q)) is (rolled_arm (map-Arm S-with A-with C-with H-with Stmt ArmTree ClauseTree HandlerTree (λ y. y.0) (λ y. y.0) (λ y. y.0) (λ y. y.0) y) (record { block = block_sit _ (ss_of y.body) })))
-      (λ x y is. subst (λ q. PC (roll-Clause q)) is (rolled_clause (map-Clause S-with A-with C-with H-with Stmt ArmTree ClauseTree HandlerTree (λ y. y.0) (λ y. y.0) (λ y. y.0) (λ y. y.0) y) (block_sit _ (ss_of y.body))))
-      (λ x y is. subst (λ q. PH (roll-Handler q)) is (rolled_handler (map-Handler S-with A-with C-with H-with Stmt ArmTree ClauseTree HandlerTree (λ y. y.0) (λ y. y.0) (λ y. y.0) (λ y. y.0) y) (record { block = block_sit _ (ss_of y.body) })))
+  layer (open'.If ys None) = if_sit _ (block []) (related_every ArmSit (related_of ArmRel code_by_arm (uses_by_arm no_locals) legal_by_arm ys)) none_sit
+  layer (open'.If ys (Some e)) = if_sit _ (code_by_clause e.0).block (related_every ArmSit (related_of ArmRel code_by_arm (uses_by_arm no_locals) legal_by_arm ys)) e.1
+  layer (open'.While a None) = while_sit (code_by_arm a.0) (block []) a.1 none_sit
+  layer (open'.While a (Some e)) = while_sit (code_by_arm a.0) (code_by_clause e.0).block a.1 e.1
+  layer (open'.For ln t x ys None) = for_sit ln t x _ (block []) (related_every SitRel (related_of Rel stated (stmt_uses no_locals) legal ys)) none_sit
+  layer (open'.For ln t x ys (Some e)) = for_sit ln t x _ (code_by_clause e.0).block (related_every SitRel (related_of Rel stated (stmt_uses no_locals) legal ys)) e.1
+  layer (open'.Try t ys None None) = finally_sit (code_by_clause t.0).line _ None (try_sit (code_by_clause t.0) _ (block []) t.1 (related_every HandlerSit (related_of HandlerRel code_by_handler (uses_by_handler no_locals) legal_by_handler ys)) none_sit) d_none
+  layer (open'.Try t ys (Some e) None) = finally_sit (code_by_clause t.0).line _ None (try_sit (code_by_clause t.0) _ (code_by_clause e.0).block t.1 (related_every HandlerSit (related_of HandlerRel code_by_handler (uses_by_handler no_locals) legal_by_handler ys)) e.1) d_none
+  layer (open'.Try t ys None (Some d)) = finally_sit (code_by_clause t.0).line _ (Some (code_by_clause d.0)) (try_sit (code_by_clause t.0) _ (block []) t.1 (related_every HandlerSit (related_of HandlerRel code_by_handler (uses_by_handler no_locals) legal_by_handler ys)) none_sit) (d_some d)
+  layer (open'.Try t ys (Some e) (Some d)) = finally_sit (code_by_clause t.0).line _ (Some (code_by_clause d.0)) (try_sit (code_by_clause t.0) _ (code_by_clause e.0).block t.1 (related_every HandlerSit (related_of HandlerRel code_by_handler (uses_by_handler no_locals) legal_by_handler ys)) e.1) (d_some d)
+  layer (open'.Def ln x ps ys) = body_sit ln x false (length ps) _ _ (related_every SitRel (related_of Rel stated (stmt_uses no_locals) legal ys)) (λ e. absurd (cc))
+  layer (open'.Class ln x e ys) = body_sit ln x true 0 _ _ (related_every SitRel (related_of Rel stated (stmt_uses no_locals) legal ys)) (λ q j w c f s. class_opens ln (base (N j w) ln e) f (home (N j w) x) s)
 
   pub stmts_sit : (ss : List Stmt) → Every SitRel (all_stated ss)
-  stmts_sit [] = tt
-  stmts_sit (x ∷ ss) = (stmt_sits x, stmts_sit ss)
+  stmts_sit ss = related_every SitRel (every_stmts no_locals Rel ArmRel HandlerRel layer (λ ss vs gs rs. block_sit ss (related_every SitRel rs)) (λ ln t ss vs gs rs. record { block = block_sit ss (related_every SitRel rs) }) (λ ln e t ss vs gs rs. record { block = block_sit ss (related_every SitRel rs) }) ss)
 
   -- the bodies inside a module's statements
   pub module_opens : (ss : List Stmt) → Sits ((block (all_stated ss)).code (N 0 false) [] 1) → BodiesSit 1 (inners (all_stated ss) 1) → AllOpen 1 (inners (all_stated ss) 1)

@@ -7,31 +7,26 @@ use Rattle.py_code.specs.declared.instr.Instr.TheVariants.{Const, Pop, Dup, Not,
 use Rattle.py_code.specs.Effects.{Limits}
 use Rattle.py_tree.specs.declared.expr.Expr.{Expr}
 use Rattle.py_tree.specs.declared.expr.Operator.{Operator}
-use Rattle.py_tree.specs.declared.stmt.Stmt.{Stmt, roll-Stmt}
+use Rattle.py_tree.specs.declared.stmt.Stmt.{Stmt}
 use Rattle.py_tree.specs.declared.stmt.Param.{Param}
 use Rattle.py_tree.specs.declared.stmt.Imported.{Imported}
-use Rattle.py_tree.specs.declared.stmt.Arm.{Arm as ArmTree, roll-Arm}
-use Rattle.py_tree.specs.declared.stmt.Clause.{Clause as ClauseTree, roll-Clause}
-use Rattle.py_tree.specs.declared.stmt.Handler.{Handler as HandlerTree, roll-Handler}
 use Rattle.py_tree.specs.declared.stmt.Stmt.TheOpen as open'
-use Rattle.py_tree.specs.declared.stmt.Stmt.TheFolds.{fold-Arm, fold-Clause, fold-Handler, fold-roll-Stmt, fold-roll-Arm, fold-roll-Clause, fold-roll-Handler, ind-Stmt, map-Stmt, map-Arm, map-Clause, map-Handler}
 use Rattle.py_compile.specs.Template.{Piece, Op, Hidden, To, Here, Alone, Sub, template, row}
 use Rattle.py_compile.specs.Table.{A, B, E, H, M, Around, InWhile, InFor, InTry, InClause, InFinally, all_arms, while, for, def, class, print_one, import_one, break_code, continue_code, leaves, return, raise_again, store}
 use Rattle.py_compile.specs.Names.{Known, home, text, library, member}
 use Rattle.py_names.specs.Outline.{has, is_none}
 use Rattle.py_compile.specs.Expressions.{coded, add_at, operator, value, values, value_some, stored, all_stored, all_deleted}
-use Rattle.py_compile.specs.Uses.{Use, Inside, Uses, quiet, in_turn, none_used, all_in_turn, some_used, body_used, name_bound, read, target, read_all, target_all, read_some, target_some, read_defaults, stmt_uses}
-use Rattle.py_compile.specs.Uses as u
-use Rattle.py_compile.specs.Statements.{Body, Stated, Armed, Claused, Handled, still, block, count, pieces, inners, armed, armed_count, armed_inner, handled, handled_count, handled_inner, clause, tried, finally, inner_body, base, default_or, defaults, stores_before, last_target, assigned, printed, raised, asserted, imported, taken_from, deletion, bound_name, stmt_step, arm_step, clause_step, handler_step, stated, all_stated}
-use Rattle.py_compile.proofs.Legal.{Legal, always, both, all_legal, legal_or, has_clause, legal}
-use Rattle.py_compile.specs.Legal as lg
+use Rattle.py_compile.specs.Uses.{Use, Inside, Uses, quiet, in_turn, none_used, all_in_turn, body_used, name_bound, read, target, read_all, target_all, read_some, target_some, read_defaults, stmt_uses}
+use Rattle.py_compile.specs.Statements.{Body, Stated, Armed, Claused, Handled, still, block, count, pieces, inners, armed, armed_count, armed_inner, handled, handled_count, handled_inner, clause, tried, finally, inner_body, base, default_or, defaults, stores_before, last_target, assigned, printed, raised, asserted, imported, taken_from, deletion, bound_name, stated, all_stated}
+use Rattle.py_compile.proofs.Legal.{Legal, always, both, all_legal, legal_or, has_clause, legal, legal_by_arm, legal_by_clause, legal_by_handler}
+use Rattle.py_compile.proofs.Legal as lg
 use Rattle.py_compile.proofs.Sane.{sane, sane_some}
-use Rattle.py_compile.proofs.ExprInduct.{Every}
+use Rattle.py_compile.proofs.ExprInduct.{Every, every_front, every_back, every_join}
 use Rattle.py_compile.proofs.World.{known, inside, lim, HasNone}
 use Rattle.py_compile.proofs.Blocks.{leaves_does, nothing_does, break_does, continue_does}
 use Rattle.py_compile.proofs.StmtSimple.{do_here, assign_here, augment_here, print_here, return_here, raise_here, del_here, assert_here, import_here, from_here}
-use Rattle.py_compile.proofs.StmtTyped.{Rel, ArmRel, HandlerRel, Rels, Nil, Cons, ArmRels, ArmNil, ArmCons, HandlerRels, HandlerNil, HandlerCons, rels_count, rels_long, arms_count, arms_long, handlers_count, handlers_long, still_rel, none_rel, block_rel, arm_rel, handler_rel, if_rel, while_rel, for_rel, try_rel, finally_rel, no_finally_rel, def_rel, class_rel, three_parts, four_parts}
-use Rattle.py_compile.proofs.ExprTyped.{every_front, every_back, every_join}
+use Rattle.py_compile.proofs.FoldInduct.{Related, Nil, Cons, related_as, related_of, clause_stands, code_by_arm, code_by_clause, code_by_handler, uses_by_arm, uses_by_clause, uses_by_handler, ClauseWith, HandlerWith, LayerWith, IsLayer, every_stmts}
+use Rattle.py_compile.proofs.StmtTyped.{Rel, ArmRel, HandlerRel, rels_count, rels_long, arms_count, arms_long, handlers_count, handlers_long, still_rel, none_rel, block_rel, arm_rel, handler_rel, if_rel, while_rel, for_rel, try_rel, finally_rel, no_finally_rel, def_rel, class_rel, three_parts, four_parts}
 use Rattle.py_compile.proofs.Clean.{Fit, NoteOk, IsClean, template_clean, row_clean, one_clean, store_clean, expr_clean, exprs_clean, if_clean, values_clean, stores_clean, deletes_clean, some_clean}
 
 -- what loads a constant fits everywhere; the constructs round a statement have clean finally bodies
@@ -202,7 +197,13 @@ module _ (locals : ℕ → List (List ℕ)) (texts cells : List (List ℕ)) (key
   W us = Every (NoteOk to go) us
 
   abbrev Base : Stated → Uses → Legal → Type 0
-  Base s v g = Rel locals texts cells keys params none s v g
+  Base = Rel locals texts cells keys params none
+
+  abbrev ArmBase : Armed → Uses → Legal → Type 0
+  ArmBase = ArmRel locals texts cells keys params none
+
+  abbrev HandlerBase : Handled → Uses → Legal → Type 0
+  HandlerBase = HandlerRel locals texts cells keys params none
 
   wf : (a c : List Use) → W (a ++ c) → W a
   wf a c w = every_front (NoteOk to go) a c w
@@ -246,12 +247,12 @@ module _ (locals : ℕ → List (List ℕ)) (texts cells : List (List ℕ)) (key
     pub inner : (l d : Bool) (j : ℕ) (z : Bool) (f : ℕ) → g l d ≡ true → W (v.uses (I j z) f) → Flagged f (s.inner f) → BodiesClean f (s.inner f)
 
   pub record ArmC (a : Armed) (v : Uses) (g : Legal) : Type 0 where
-    pub base : ArmRel locals texts cells keys params none a v g
+    pub base : ArmBase a v g
     pub good : (j : ℕ) (z l d : Bool) (f : ℕ) (c : List Around) → g l d ≡ true → AroundClean ok flags z c → W (v.uses (I j z) f) → Flagged f (a.block.inner f) → IsClean ok flags z (value (N j z) a.line a.test) × IsClean ok flags z (a.block.code (N j z) c f)
     pub inner : (l d : Bool) (j : ℕ) (z : Bool) (f : ℕ) → g l d ≡ true → W (v.uses (I j z) f) → Flagged f (a.block.inner f) → BodiesClean f (a.block.inner f)
 
   pub record HandlerC (h : Handled) (v : Uses) (g : Legal) : Type 0 where
-    pub base : HandlerRel locals texts cells keys params none h v g
+    pub base : HandlerBase h v g
     pub good : (j : ℕ) (z l : Bool) (f : ℕ) (c : List Around) → g l true ≡ true → AroundClean ok flags z c → W (v.uses (I j z) f) → Flagged f (h.block.inner f) → IsClean ok flags z (clause (N j z) h.line h.test h.target (h.block.code (N j z) (InClause ∷ c) f))
     pub inner : (l d : Bool) (j : ℕ) (z : Bool) (f : ℕ) → g l d ≡ true → W (v.uses (I j z) f) → Flagged f (h.block.inner f) → BodiesClean f (h.block.inner f)
 
@@ -262,76 +263,61 @@ module _ (locals : ℕ → List (List ℕ)) (texts cells : List (List ℕ)) (key
   none_c = record { base = none_rel locals texts cells keys params none; good = λ j z l d f c e a w x. row_clean ok flags z [] tt; inner = λ l d j z f e w x. tt }
 
   -- lists
-  pub data ListC : List Stated → List Uses → List Legal → Type 0 where
-    LNil : ListC [] [] []
-    LCons : {s : Stated} {v : Uses} {g : Legal} {ss : List Stated} {vs : List Uses} {gs : List Legal} → RelC s v g → ListC ss vs gs → ListC (s ∷ ss) (v ∷ vs) (g ∷ gs)
+  lists : {ss : List Stated} {vs : List Uses} {gs : List Legal} → Related RelC ss vs gs → Related Base ss vs gs
+  lists rs = related_as RelC Base (λ s v g r. r.base) rs
 
-  lists : {ss : List Stated} {vs : List Uses} {gs : List Legal} → ListC ss vs gs → Rels locals texts cells keys params none ss vs gs
-  lists LNil = Nil
-  lists (LCons r rs) = Cons r.base (lists rs)
-
-  list_good : {ss : List Stated} {vs : List Uses} {gs : List Legal} → ListC ss vs gs → (j : ℕ) (z l d : Bool) (f : ℕ) (c : List Around) → all_legal gs l d ≡ true → AroundClean ok flags z c → W ((all_in_turn vs).uses (I j z) f) → Flagged f (inners ss f) → Every (IsClean ok flags z) (pieces ss (N j z) c f)
-  list_good LNil j z l d f c e a w x = tt
-  list_good (LCons {s = y} {v = v} {g = g} {ss = ss} {vs = vs} {gs = gs} r rs) j z l d f c e a w x =
+  list_good : {ss : List Stated} {vs : List Uses} {gs : List Legal} → Related RelC ss vs gs → (j : ℕ) (z l d : Bool) (f : ℕ) (c : List Around) → all_legal gs l d ≡ true → AroundClean ok flags z c → W ((all_in_turn vs).uses (I j z) f) → Flagged f (inners ss f) → Every (IsClean ok flags z) (pieces ss (N j z) c f)
+  list_good Nil j z l d f c e a w x = tt
+  list_good (Cons {s = y} {v = v} {g = g} {ss = ss} {vs = vs} {gs = gs} r rs) j z l d f c e a w x =
       let q = and_parts (g l d) (all_legal gs l d) e in
       let t = inners ss (f + y.bodies) in
       (r.good j z l d f c q.0 a (wf (v.uses (I j z) f) ((all_in_turn vs).uses (I j z) (f + v.bodies)) w) (ff f (y.inner f) t x), list_good rs j z l d (f + y.bodies) c q.1 a (ub (all_in_turn vs) (I j z) f y.bodies v.bodies (v.uses (I j z) f) (r.base.count l d q.0) w) (fb f y.bodies (y.inner f) t (r.base.long f) x))
 
-  list_inner : {ss : List Stated} {vs : List Uses} {gs : List Legal} → ListC ss vs gs → (l d : Bool) (j : ℕ) (z : Bool) (f : ℕ) → all_legal gs l d ≡ true → W ((all_in_turn vs).uses (I j z) f) → Flagged f (inners ss f) → BodiesClean f (inners ss f)
-  list_inner LNil l d j z f e w x = tt
-  list_inner (LCons {s = y} {v = v} {g = g} {ss = ss} {vs = vs} {gs = gs} r rs) l d j z f e w x =
+  list_inner : {ss : List Stated} {vs : List Uses} {gs : List Legal} → Related RelC ss vs gs → (l d : Bool) (j : ℕ) (z : Bool) (f : ℕ) → all_legal gs l d ≡ true → W ((all_in_turn vs).uses (I j z) f) → Flagged f (inners ss f) → BodiesClean f (inners ss f)
+  list_inner Nil l d j z f e w x = tt
+  list_inner (Cons {s = y} {v = v} {g = g} {ss = ss} {vs = vs} {gs = gs} r rs) l d j z f e w x =
       let q = and_parts (g l d) (all_legal gs l d) e in
       let t = inners ss (f + y.bodies) in
       bj f y.bodies (y.inner f) t (r.base.long f)
       (r.inner l d j z f q.0 (wf (v.uses (I j z) f) ((all_in_turn vs).uses (I j z) (f + v.bodies)) w) (ff f (y.inner f) t x))
       (list_inner rs l d j z (f + y.bodies) q.1 (ub (all_in_turn vs) (I j z) f y.bodies v.bodies (v.uses (I j z) f) (r.base.count l d q.0) w) (fb f y.bodies (y.inner f) t (r.base.long f) x))
 
-  block_c : {ss : List Stated} {vs : List Uses} {gs : List Legal} → ListC ss vs gs → RelC (block ss) (all_in_turn vs) (all_legal gs)
+  block_c : {ss : List Stated} {vs : List Uses} {gs : List Legal} → Related RelC ss vs gs → RelC (block ss) (all_in_turn vs) (all_legal gs)
   block_c {ss = ss} rs = record { base = block_rel locals texts cells keys params none (lists rs); good = λ j z l d f c e a w x. row_clean ok flags z (pieces ss (N j z) c f) (list_good rs j z l d f c e a w x); inner = list_inner rs }
 
-  data ArmsC : List Armed → List Uses → List Legal → Type 0 where
-    ANil : ArmsC [] [] []
-    ACons : {s : Armed} {v : Uses} {g : Legal} {ss : List Armed} {vs : List Uses} {gs : List Legal} → ArmC s v g → ArmsC ss vs gs → ArmsC (s ∷ ss) (v ∷ vs) (g ∷ gs)
+  arms : {ss : List Armed} {vs : List Uses} {gs : List Legal} → Related ArmC ss vs gs → Related ArmBase ss vs gs
+  arms rs = related_as ArmC ArmBase (λ s v g r. r.base) rs
 
-  arms : {ss : List Armed} {vs : List Uses} {gs : List Legal} → ArmsC ss vs gs → ArmRels locals texts cells keys params none ss vs gs
-  arms ANil = ArmNil
-  arms (ACons r rs) = ArmCons r.base (arms rs)
-
-  arms_good : {ss : List Armed} {vs : List Uses} {gs : List Legal} → ArmsC ss vs gs → (j : ℕ) (z l d : Bool) (f : ℕ) (c : List Around) → all_legal gs l d ≡ true → AroundClean ok flags z c → W ((all_in_turn vs).uses (I j z) f) → Flagged f (armed_inner ss f) → Every (IsClean ok flags z) (armed ss (N j z) c f)
-  arms_good ANil j z l d f c e a w x = tt
-  arms_good (ACons {s = y} {v = v} {g = g} {ss = ss} {vs = vs} {gs = gs} r rs) j z l d f c e a w x =
+  arms_good : {ss : List Armed} {vs : List Uses} {gs : List Legal} → Related ArmC ss vs gs → (j : ℕ) (z l d : Bool) (f : ℕ) (c : List Around) → all_legal gs l d ≡ true → AroundClean ok flags z c → W ((all_in_turn vs).uses (I j z) f) → Flagged f (armed_inner ss f) → Every (IsClean ok flags z) (armed ss (N j z) c f)
+  arms_good Nil j z l d f c e a w x = tt
+  arms_good (Cons {s = y} {v = v} {g = g} {ss = ss} {vs = vs} {gs = gs} r rs) j z l d f c e a w x =
       let q = and_parts (g l d) (all_legal gs l d) e in
       let t = armed_inner ss (f + y.block.bodies) in
       let p = r.good j z l d f c q.0 a (wf (v.uses (I j z) f) ((all_in_turn vs).uses (I j z) (f + v.bodies)) w) (ff f (y.block.inner f) t x) in
       (template_clean ok flags z y.line 0 1 (Alone (value (N j z) y.line y.test) ∷ To 0 JumpFalse M ∷ Sub 2 (y.block.code (N j z) c f) ∷ To 1 Jump E ∷ Here M ∷ []) (p.0, ((λ q. tt), (p.1, ((λ q. tt), (tt, tt))))), arms_good rs j z l d (f + y.block.bodies) c q.1 a (ub (all_in_turn vs) (I j z) f y.block.bodies v.bodies (v.uses (I j z) f) (r.base.count l d q.0) w) (fb f y.block.bodies (y.block.inner f) t (r.base.long f) x))
 
-  arms_inner : {ss : List Armed} {vs : List Uses} {gs : List Legal} → ArmsC ss vs gs → (l d : Bool) (j : ℕ) (z : Bool) (f : ℕ) → all_legal gs l d ≡ true → W ((all_in_turn vs).uses (I j z) f) → Flagged f (armed_inner ss f) → BodiesClean f (armed_inner ss f)
-  arms_inner ANil l d j z f e w x = tt
-  arms_inner (ACons {s = y} {v = v} {g = g} {ss = ss} {vs = vs} {gs = gs} r rs) l d j z f e w x =
+  arms_inner : {ss : List Armed} {vs : List Uses} {gs : List Legal} → Related ArmC ss vs gs → (l d : Bool) (j : ℕ) (z : Bool) (f : ℕ) → all_legal gs l d ≡ true → W ((all_in_turn vs).uses (I j z) f) → Flagged f (armed_inner ss f) → BodiesClean f (armed_inner ss f)
+  arms_inner Nil l d j z f e w x = tt
+  arms_inner (Cons {s = y} {v = v} {g = g} {ss = ss} {vs = vs} {gs = gs} r rs) l d j z f e w x =
       let q = and_parts (g l d) (all_legal gs l d) e in
       let t = armed_inner ss (f + y.block.bodies) in
       bj f y.block.bodies (y.block.inner f) t (r.base.long f)
       (r.inner l d j z f q.0 (wf (v.uses (I j z) f) ((all_in_turn vs).uses (I j z) (f + v.bodies)) w) (ff f (y.block.inner f) t x))
       (arms_inner rs l d j z (f + y.block.bodies) q.1 (ub (all_in_turn vs) (I j z) f y.block.bodies v.bodies (v.uses (I j z) f) (r.base.count l d q.0) w) (fb f y.block.bodies (y.block.inner f) t (r.base.long f) x))
 
-  data HandlersC : List Handled → List Uses → List Legal → Type 0 where
-    HNil : HandlersC [] [] []
-    HCons : {s : Handled} {v : Uses} {g : Legal} {ss : List Handled} {vs : List Uses} {gs : List Legal} → HandlerC s v g → HandlersC ss vs gs → HandlersC (s ∷ ss) (v ∷ vs) (g ∷ gs)
+  handlers : {ss : List Handled} {vs : List Uses} {gs : List Legal} → Related HandlerC ss vs gs → Related HandlerBase ss vs gs
+  handlers rs = related_as HandlerC HandlerBase (λ s v g r. r.base) rs
 
-  handlers : {ss : List Handled} {vs : List Uses} {gs : List Legal} → HandlersC ss vs gs → HandlerRels locals texts cells keys params none ss vs gs
-  handlers HNil = HandlerNil
-  handlers (HCons r rs) = HandlerCons r.base (handlers rs)
-
-  handlers_good : {ss : List Handled} {vs : List Uses} {gs : List Legal} → HandlersC ss vs gs → (j : ℕ) (z l : Bool) (f : ℕ) (c : List Around) → all_legal gs l true ≡ true → AroundClean ok flags z c → W ((all_in_turn vs).uses (I j z) f) → Flagged f (handled_inner ss f) → Every (IsClean ok flags z) (handled ss (N j z) c f)
-  handlers_good HNil j z l f c e a w x = tt
-  handlers_good (HCons {s = y} {v = v} {g = g} {ss = ss} {vs = vs} {gs = gs} r rs) j z l f c e a w x =
+  handlers_good : {ss : List Handled} {vs : List Uses} {gs : List Legal} → Related HandlerC ss vs gs → (j : ℕ) (z l : Bool) (f : ℕ) (c : List Around) → all_legal gs l true ≡ true → AroundClean ok flags z c → W ((all_in_turn vs).uses (I j z) f) → Flagged f (handled_inner ss f) → Every (IsClean ok flags z) (handled ss (N j z) c f)
+  handlers_good Nil j z l f c e a w x = tt
+  handlers_good (Cons {s = y} {v = v} {g = g} {ss = ss} {vs = vs} {gs = gs} r rs) j z l f c e a w x =
       let q = and_parts (g l true) (all_legal gs l true) e in
       let t = handled_inner ss (f + y.block.bodies) in
       (r.good j z l f c q.0 a (wf (v.uses (I j z) f) ((all_in_turn vs).uses (I j z) (f + v.bodies)) w) (ff f (y.block.inner f) t x), handlers_good rs j z l (f + y.block.bodies) c q.1 a (ub (all_in_turn vs) (I j z) f y.block.bodies v.bodies (v.uses (I j z) f) (r.base.count l true q.0) w) (fb f y.block.bodies (y.block.inner f) t (r.base.long f) x))
 
-  handlers_inner : {ss : List Handled} {vs : List Uses} {gs : List Legal} → HandlersC ss vs gs → (l d : Bool) (j : ℕ) (z : Bool) (f : ℕ) → all_legal gs l d ≡ true → W ((all_in_turn vs).uses (I j z) f) → Flagged f (handled_inner ss f) → BodiesClean f (handled_inner ss f)
-  handlers_inner HNil l d j z f e w x = tt
-  handlers_inner (HCons {s = y} {v = v} {g = g} {ss = ss} {vs = vs} {gs = gs} r rs) l d j z f e w x =
+  handlers_inner : {ss : List Handled} {vs : List Uses} {gs : List Legal} → Related HandlerC ss vs gs → (l d : Bool) (j : ℕ) (z : Bool) (f : ℕ) → all_legal gs l d ≡ true → W ((all_in_turn vs).uses (I j z) f) → Flagged f (handled_inner ss f) → BodiesClean f (handled_inner ss f)
+  handlers_inner Nil l d j z f e w x = tt
+  handlers_inner (Cons {s = y} {v = v} {g = g} {ss = ss} {vs = vs} {gs = gs} r rs) l d j z f e w x =
       let q = and_parts (g l d) (all_legal gs l d) e in
       let t = handled_inner ss (f + y.block.bodies) in
       bj f y.block.bodies (y.block.inner f) t (r.base.long f)
@@ -339,7 +325,7 @@ module _ (locals : ℕ → List (List ℕ)) (texts cells : List (List ℕ)) (key
       (handlers_inner rs l d j z (f + y.block.bodies) q.1 (ub (all_in_turn vs) (I j z) f y.block.bodies v.bodies (v.uses (I j z) f) (r.base.count l d q.0) w) (fb f y.block.bodies (y.block.inner f) t (r.base.long f) x))
 
   -- the parts
-  arm_c : (ln : ℕ) (t : Expr) {ss : List Stated} {vs : List Uses} {gs : List Legal} → ListC ss vs gs → ArmC (record { line = ln; test = t; block = block ss }) (in_turn (quiet (λ b. read b t)) (all_in_turn vs)) (both (always (sane t)) (all_legal gs))
+  arm_c : (ln : ℕ) (t : Expr) {ss : List Stated} {vs : List Uses} {gs : List Legal} → Related RelC ss vs gs → ArmC (record { line = ln; test = t; block = block ss }) (in_turn (quiet (λ b. read b t)) (all_in_turn vs)) (both (always (sane t)) (all_legal gs))
   arm_c ln t {ss = ss} {vs = vs} {gs = gs} rs = record {
     base = arm_rel locals texts cells keys params none ln t (lists rs);
     good = λ j z l d f c e a w x.
@@ -348,7 +334,7 @@ module _ (locals : ℕ → List (List ℕ)) (texts cells : List (List ℕ)) (key
     inner = λ l d j z f e w x. list_inner rs l d j z f (and_parts (sane t) (all_legal gs l d) e).1 (zb (all_in_turn vs) (I j z) f (read (I j z) t) w) x;
   }
 
-  handler_c : (ln : ℕ) (e t : Option Expr) {ss : List Stated} {vs : List Uses} {gs : List Legal} → ListC ss vs gs → HandlerC (record { line = ln; test = e; target = t; block = block ss }) (in_turn (quiet (λ b. read_some b e ++ target_some b t)) (all_in_turn vs)) (both (always (sane_some e && lg.target_some t)) (all_legal gs))
+  handler_c : (ln : ℕ) (e t : Option Expr) {ss : List Stated} {vs : List Uses} {gs : List Legal} → Related RelC ss vs gs → HandlerC (record { line = ln; test = e; target = t; block = block ss }) (in_turn (quiet (λ b. read_some b e ++ target_some b t)) (all_in_turn vs)) (both (always (sane_some e && lg.target_some t)) (all_legal gs))
   handler_c ln e t {ss = ss} {vs = vs} {gs = gs} rs = record {
     base = handler_rel locals texts cells keys params none ln e t (lists rs);
     good = λ j z l f c h a w x.
@@ -359,7 +345,7 @@ module _ (locals : ℕ → List (List ℕ)) (texts cells : List (List ℕ)) (key
     inner = λ l d j z f h w x. list_inner rs l d j z f (and_parts (sane_some e && lg.target_some t) (all_legal gs l d) h).1 (zb (all_in_turn vs) (I j z) f (read_some (I j z) e ++ target_some (I j z) t) w) x;
   }
 
-  if_c : {as' : List Armed} {vs : List Uses} {gs : List Legal} → ArmsC as' vs gs → (e : Stated) (ve : Uses) (ge : Legal) → RelC e ve ge → RelC (record { bodies = armed_count as' + e.bodies; code = λ n c f. all_arms 0 (armed as' n c f) (e.code n c (f + armed_count as')); inner = λ f. armed_inner as' f ++ e.inner (f + armed_count as') }) (in_turn (all_in_turn vs) ve) (both (all_legal gs) ge)
+  if_c : {as' : List Armed} {vs : List Uses} {gs : List Legal} → Related ArmC as' vs gs → (e : Stated) (ve : Uses) (ge : Legal) → RelC e ve ge → RelC (record { bodies = armed_count as' + e.bodies; code = λ n c f. all_arms 0 (armed as' n c f) (e.code n c (f + armed_count as')); inner = λ f. armed_inner as' f ++ e.inner (f + armed_count as') }) (in_turn (all_in_turn vs) ve) (both (all_legal gs) ge)
   if_c {as' = as'} {vs = vs} {gs = gs} rs e ve ge re = record {
     base = if_rel locals texts cells keys params none (arms rs) e ve ge re.base;
     good = λ j z l d f c h a w x.
@@ -403,7 +389,7 @@ module _ (locals : ℕ → List (List ℕ)) (texts cells : List (List ℕ)) (key
   for_parts : (t x : Expr) (gs : List Legal) (ge : Legal) (l d : Bool) → both (always (lg.is_target_of t && sane x)) (both (λ l c. all_legal gs true c) ge) l d ≡ true → (all_legal gs true d ≡ true) × (ge l d ≡ true)
   for_parts t x gs ge l d h = and_parts (all_legal gs true d) (ge l d) (and_parts (lg.is_target_of t && sane x) (all_legal gs true d && ge l d) h).1
 
-  for_c : (ln : ℕ) (t y : Expr) {ss : List Stated} {vs : List Uses} {gs : List Legal} → ListC ss vs gs → (e : Stated) (ve : Uses) (ge : Legal) → RelC e ve ge → RelC (record { bodies = count ss + e.bodies; code = λ n c f. for ln (stored n ln t) (value n ln y) ((block ss).code n (InFor ∷ c) f) (e.code n c (f + count ss)); inner = λ f. inners ss f ++ e.inner (f + count ss) }) (in_turn (quiet (λ b. target b t ++ read b y)) (in_turn (all_in_turn vs) ve)) (both (always (lg.is_target_of t && sane y)) (both (λ l c. all_legal gs true c) ge))
+  for_c : (ln : ℕ) (t y : Expr) {ss : List Stated} {vs : List Uses} {gs : List Legal} → Related RelC ss vs gs → (e : Stated) (ve : Uses) (ge : Legal) → RelC e ve ge → RelC (record { bodies = count ss + e.bodies; code = λ n c f. for ln (stored n ln t) (value n ln y) ((block ss).code n (InFor ∷ c) f) (e.code n c (f + count ss)); inner = λ f. inners ss f ++ e.inner (f + count ss) }) (in_turn (quiet (λ b. target b t ++ read b y)) (in_turn (all_in_turn vs) ve)) (both (always (lg.is_target_of t && sane y)) (both (λ l c. all_legal gs true c) ge))
   for_c ln t y {ss = ss} {vs = vs} {gs = gs} rs e ve ge re = record {
     base = for_rel locals texts cells keys params none ln t y (lists rs) e ve ge re.base;
     good = λ j z l d f c h a w x.
@@ -481,13 +467,13 @@ module _ (locals : ℕ → List (List ℕ)) (texts cells : List (List ℕ)) (key
       let far : f + t.block.bodies + handled_count hs ≡ f + (t.block.bodies + handled_count hs) = omega arith in
       bj f (t.block.bodies + handled_count hs) (a ++ b) c len (bj f t.block.bodies a b lt p q) (subst (λ i. BodiesClean i c) far r)
 
-  try_c : (t : Claused) (vt : Uses) (gt : Legal) → RelC t.block vt gt → {hs : List Handled} {vs : List Uses} {gs : List Legal} → HandlersC hs vs gs → (e : Stated) (ve : Uses) (ge : Legal) → RelC e ve ge → (b : Bool) → (hs ≡ [] → b ≡ true → ve.bodies ≡ 0) → RelC (tried t hs e) (in_turn vt (in_turn (all_in_turn vs) ve)) (both gt (both (λ l c. all_legal gs l true) (both ge (always b))))
-  try_c t vt gt rt HNil e ve ge re b bare = record {
-    base = try_rel locals texts cells keys params none t vt gt rt.base HandlerNil e ve ge re.base b bare;
+  try_c : (t : Claused) (vt : Uses) (gt : Legal) → RelC t.block vt gt → {hs : List Handled} {vs : List Uses} {gs : List Legal} → Related HandlerC hs vs gs → (e : Stated) (ve : Uses) (ge : Legal) → RelC e ve ge → (b : Bool) → (hs ≡ [] → b ≡ true → ve.bodies ≡ 0) → RelC (tried t hs e) (in_turn vt (in_turn (all_in_turn vs) ve)) (both gt (both (λ l c. all_legal gs l true) (both ge (always b))))
+  try_c t vt gt rt Nil e ve ge re b bare = record {
+    base = try_rel locals texts cells keys params none t vt gt rt.base Nil e ve ge re.base b bare;
     good = λ j z l d f c h a w x. rt.good j z l d f c (three_parts locals texts cells keys params none gt (λ l c. true) ge b l d h).0 a (wf (vt.uses (I j z) f) ((in_turn none_used ve).uses (I j z) (f + vt.bodies)) w) x;
     inner = λ l d j z f h w x. rt.inner l d j z f (three_parts locals texts cells keys params none gt (λ l c. true) ge b l d h).0 (wf (vt.uses (I j z) f) ((in_turn none_used ve).uses (I j z) (f + vt.bodies)) w) x;
   }
-  try_c t vt gt rt (HCons {s = y} {v = v} {g = g} {ss = ss} {vs = vs} {gs = gs} r rs) e ve ge re b bare = record {
+  try_c t vt gt rt (Cons {s = y} {v = v} {g = g} {ss = ss} {vs = vs} {gs = gs} r rs) e ve ge re b bare = record {
     base = try_rel locals texts cells keys params none t vt gt rt.base (handlers hs) e ve ge re.base b bare;
     good = λ j z l d f c h a w x.
         let k = I j z in
@@ -504,8 +490,8 @@ module _ (locals : ℕ → List (List ℕ)) (texts cells : List (List ℕ)) (key
         three_clean t (y ∷ ss) e f (rt.base.long f) (handlers_long locals texts cells keys params none (handlers hs) (f + t.block.bodies)) (rt.inner l d j z f q.0 ws.0 xs.0) (handlers_inner hs l true j z (f + t.block.bodies) q.1 ws.1 xs.1) (re.inner l d j z (f + t.block.bodies + handled_count (y ∷ ss)) q.2 ws.2 xs.2);
   }
     where
-      hs : HandlersC (y ∷ ss) (v ∷ vs) (g ∷ gs)
-      hs = HCons r rs
+      hs : Related HandlerC (y ∷ ss) (v ∷ vs) (g ∷ gs)
+      hs = Cons r rs
 
   abbrev four : Legal → Legal → Legal → Legal → Bool → Legal
   four gt gh ge gd b = both gt (both (λ l c. gh l true) (both ge (both gd (always b))))
@@ -534,7 +520,7 @@ module _ (locals : ℕ → List (List ℕ)) (texts cells : List (List ℕ)) (key
   }
 
   -- functions and classes
-  def_c : (ln : ℕ) (y : List ℕ) (ps : List Param) {ss : List Stated} {vs : List Uses} {gs : List Legal} → ListC ss vs gs → RelC (record { bodies = 1 + count ss; code = λ n c f. def ln (values n ln (defaults ps)) f (home n y); inner = inner_body ln y false (length ps) ss }) (body_used locals (λ b. name_bound b y ++ read_defaults b ps) false (all_in_turn vs)) (always (lg.sane_defaults ps && all_legal gs false false))
+  def_c : (ln : ℕ) (y : List ℕ) (ps : List Param) {ss : List Stated} {vs : List Uses} {gs : List Legal} → Related RelC ss vs gs → RelC (record { bodies = 1 + count ss; code = λ n c f. def ln (values n ln (defaults ps)) f (home n y); inner = inner_body ln y false (length ps) ss }) (body_used locals (λ b. name_bound b y ++ read_defaults b ps) false (all_in_turn vs)) (always (lg.sane_defaults ps && all_legal gs false false))
   def_c ln y ps {ss = ss} {vs = vs} {gs = gs} rs = record {
     base = def_rel locals texts cells keys params none ln y ps (lists rs);
     good = λ j z l d f c h a w x.
@@ -547,7 +533,7 @@ module _ (locals : ℕ → List (List ℕ)) (texts cells : List (List ℕ)) (key
         (row_clean ok flags false (pieces ss (N f false) [] (f + 1)) (list_good rs f false false false (f + 1) [] q tt us x.2), list_inner rs false false f false (f + 1) q us x.2);
   }
 
-  class_c : (ln : ℕ) (y : List ℕ) (e : Option Expr) {ss : List Stated} {vs : List Uses} {gs : List Legal} → ListC ss vs gs → RelC (record { bodies = 1 + count ss; code = λ n c f. class ln (base n ln e) f (home n y); inner = inner_body ln y true 0 ss }) (body_used locals (λ b. name_bound b y ++ read_some b e) true (all_in_turn vs)) (always (sane_some e && all_legal gs false false))
+  class_c : (ln : ℕ) (y : List ℕ) (e : Option Expr) {ss : List Stated} {vs : List Uses} {gs : List Legal} → Related RelC ss vs gs → RelC (record { bodies = 1 + count ss; code = λ n c f. class ln (base n ln e) f (home n y); inner = inner_body ln y true 0 ss }) (body_used locals (λ b. name_bound b y ++ read_some b e) true (all_in_turn vs)) (always (sane_some e && all_legal gs false false))
   class_c ln y e {ss = ss} {vs = vs} {gs = gs} rs = record {
     base = class_rel locals texts cells keys params none ln y e (lists rs);
     good = λ j z l d f c h a w x.
@@ -560,99 +546,29 @@ module _ (locals : ℕ → List (List ℕ)) (texts cells : List (List ℕ)) (key
         (row_clean ok flags true (pieces ss (N f true) [] (f + 1)) (list_good rs f true false false (f + 1) [] q tt us x.2), list_inner rs false false f true (f + 1) q us x.2);
   }
 
-  -- the three folds at the other kinds of node
-  farm : ArmTree → Armed
-  farm = fold-Arm Stated Armed Claused Handled stmt_step arm_step clause_step handler_step
-
-  fclause : ClauseTree → Claused
-  fclause = fold-Clause Stated Armed Claused Handled stmt_step arm_step clause_step handler_step
-
-  fhandler : HandlerTree → Handled
-  fhandler = fold-Handler Stated Armed Claused Handled stmt_step arm_step clause_step handler_step
-
-  uarm : ArmTree → Uses
-  uarm = fold-Arm Uses Uses Uses Uses (u.stmt_step locals) (u.arm_step locals) (u.clause_step locals) (u.handler_step locals)
-
-  uclause : ClauseTree → Uses
-  uclause = fold-Clause Uses Uses Uses Uses (u.stmt_step locals) (u.arm_step locals) (u.clause_step locals) (u.handler_step locals)
-
-  uhandler : HandlerTree → Uses
-  uhandler = fold-Handler Uses Uses Uses Uses (u.stmt_step locals) (u.arm_step locals) (u.clause_step locals) (u.handler_step locals)
-
-  larm : ArmTree → Legal
-  larm = fold-Arm Legal Legal Legal Legal lg.stmt_step lg.arm_step lg.clause_step lg.handler_step
-
-  lclause : ClauseTree → Legal
-  lclause = fold-Clause Legal Legal Legal Legal lg.stmt_step lg.arm_step lg.clause_step lg.handler_step
-
-  lhandler : HandlerTree → Legal
-  lhandler = fold-Handler Legal Legal Legal Legal lg.stmt_step lg.arm_step lg.clause_step lg.handler_step
-
-  abbrev pub PS : Stmt → Type 0
-  PS x = RelC (stated x) (stmt_uses locals x) (legal x)
-
-  abbrev PA : ArmTree → Type 0
-  PA x = ArmC (farm x) (uarm x) (larm x)
-
-  abbrev PC : ClauseTree → Type 0
-  PC x = RelC (fclause x).block (uclause x) (lclause x)
-
-  abbrev PH : HandlerTree → Type 0
-  PH x = HandlerC (fhandler x) (uhandler x) (lhandler x)
-
-  abbrev S-with : Type 0
-  S-with = (x : Stmt) × PS x
-
-  abbrev A-with : Type 0
-  A-with = (x : ArmTree) × PA x
-
+  -- one layer, whose parts are so
   abbrev C-with : Type 0
-  C-with = (x : ClauseTree) × PC x
+  C-with = ClauseWith locals RelC ArmC HandlerC
 
   abbrev H-with : Type 0
-  H-with = (x : HandlerTree) × PH x
-
-  rels_of : (ys : List S-with) → ListC (map stated (map (λ y. y.0) ys)) (map (stmt_uses locals) (map (λ y. y.0) ys)) (map legal (map (λ y. y.0) ys))
-  rels_of [] = LNil
-  rels_of (y ∷ ys) = LCons y.1 (rels_of ys)
-
-  arms_of : (ys : List A-with) → ArmsC (map farm (map (λ y. y.0) ys)) (map uarm (map (λ y. y.0) ys)) (map larm (map (λ y. y.0) ys))
-  arms_of [] = ANil
-  arms_of (y ∷ ys) = ACons y.1 (arms_of ys)
-
-  handlers_of : (ys : List H-with) → HandlersC (map fhandler (map (λ y. y.0) ys)) (map uhandler (map (λ y. y.0) ys)) (map lhandler (map (λ y. y.0) ys))
-  handlers_of [] = HNil
-  handlers_of (y ∷ ys) = HCons y.1 (handlers_of ys)
+  H-with = HandlerWith locals RelC ArmC HandlerC
 
   abbrev fs : List H-with → List Handled
-  fs ys = map fhandler (map (λ y. y.0) ys)
+  fs ys = map code_by_handler (map (λ y. y.0) ys)
 
   abbrev us : List H-with → Uses
-  us ys = all_in_turn (map uhandler (map (λ y. y.0) ys))
+  us ys = all_in_turn (map (uses_by_handler locals) (map (λ y. y.0) ys))
 
   abbrev ls : List H-with → List Legal
-  ls ys = map lhandler (map (λ y. y.0) ys)
+  ls ys = map legal_by_handler (map (λ y. y.0) ys)
 
-  bare_some : (ys : List H-with) (g : Legal) (m : ℕ) → fs ys ≡ [] → has_clause (ls ys) (Some g) ≡ true → m ≡ 0
-  bare_some [] g m e h = absurd (cc)
-  bare_some (y ∷ ys) g m e h = absurd (cc)
+  without : (t : C-with) (ys : List H-with) (e : Stated) (ve : Uses) (ge : Legal) → RelC e ve ge → (b : Bool) → (fs ys ≡ [] → b ≡ true → ve.bodies ≡ 0) → RelC (finally (code_by_clause t.0).line (tried (code_by_clause t.0) (fs ys) e) None) (in_turn (uses_by_clause locals t.0) (in_turn (us ys) (in_turn ve none_used))) (four (legal_by_clause t.0) (all_legal (ls ys)) ge (λ l c. true) b)
+  without t ys e ve ge re b bare = no_finally_c (code_by_clause t.0).line (tried (code_by_clause t.0) (fs ys) e) (uses_by_clause locals t.0) (us ys) ve (legal_by_clause t.0) (all_legal (ls ys)) ge b (try_c (code_by_clause t.0) (uses_by_clause locals t.0) (legal_by_clause t.0) t.1 (related_of HandlerC code_by_handler (uses_by_handler locals) legal_by_handler ys) e ve ge re b bare)
 
-  without : (t : C-with) (ys : List H-with) (e : Stated) (ve : Uses) (ge : Legal) → RelC e ve ge → (b : Bool) → (fs ys ≡ [] → b ≡ true → ve.bodies ≡ 0) → RelC (finally (fclause t.0).line (tried (fclause t.0) (fs ys) e) None) (in_turn (uclause t.0) (in_turn (us ys) (in_turn ve none_used))) (four (lclause t.0) (all_legal (ls ys)) ge (λ l c. true) b)
-  without t ys e ve ge re b bare = no_finally_c (fclause t.0).line (tried (fclause t.0) (fs ys) e) (uclause t.0) (us ys) ve (lclause t.0) (all_legal (ls ys)) ge b (try_c (fclause t.0) (uclause t.0) (lclause t.0) t.1 (handlers_of ys) e ve ge re b bare)
+  with_finally : (t : C-with) (ys : List H-with) (e : Stated) (ve : Uses) (ge : Legal) → RelC e ve ge → (b : Bool) → (fs ys ≡ [] → b ≡ true → ve.bodies ≡ 0) → (d : C-with) → RelC (finally (code_by_clause t.0).line (tried (code_by_clause t.0) (fs ys) e) (Some (code_by_clause d.0))) (in_turn (uses_by_clause locals t.0) (in_turn (us ys) (in_turn ve (uses_by_clause locals d.0)))) (four (legal_by_clause t.0) (all_legal (ls ys)) ge (legal_by_clause d.0) b)
+  with_finally t ys e ve ge re b bare d = finally_c (code_by_clause t.0).line (tried (code_by_clause t.0) (fs ys) e) (uses_by_clause locals t.0) (us ys) ve (legal_by_clause t.0) (all_legal (ls ys)) ge b (try_c (code_by_clause t.0) (uses_by_clause locals t.0) (legal_by_clause t.0) t.1 (related_of HandlerC code_by_handler (uses_by_handler locals) legal_by_handler ys) e ve ge re b bare) (code_by_clause d.0) (uses_by_clause locals d.0) (legal_by_clause d.0) d.1
 
-  with_finally : (t : C-with) (ys : List H-with) (e : Stated) (ve : Uses) (ge : Legal) → RelC e ve ge → (b : Bool) → (fs ys ≡ [] → b ≡ true → ve.bodies ≡ 0) → (d : C-with) → RelC (finally (fclause t.0).line (tried (fclause t.0) (fs ys) e) (Some (fclause d.0))) (in_turn (uclause t.0) (in_turn (us ys) (in_turn ve (uclause d.0)))) (four (lclause t.0) (all_legal (ls ys)) ge (lclause d.0) b)
-  with_finally t ys e ve ge re b bare d = finally_c (fclause t.0).line (tried (fclause t.0) (fs ys) e) (uclause t.0) (us ys) ve (lclause t.0) (all_legal (ls ys)) ge b (try_c (fclause t.0) (uclause t.0) (lclause t.0) t.1 (handlers_of ys) e ve ge re b bare) (fclause d.0) (uclause d.0) (lclause d.0) d.1
-
-  -- one layer, whose parts are so
-  abbrev Layer : open'.Stmt-F Stmt ArmTree ClauseTree HandlerTree → Type 0
-  Layer x = RelC (stmt_step (map-Stmt Stmt ArmTree ClauseTree HandlerTree Stated Armed Claused Handled stated farm fclause fhandler x))
-      (u.stmt_step locals (map-Stmt Stmt ArmTree ClauseTree HandlerTree Uses Uses Uses Uses (stmt_uses locals) uarm uclause uhandler x))
-      (lg.stmt_step (map-Stmt Stmt ArmTree ClauseTree HandlerTree Legal Legal Legal Legal legal larm lclause lhandler x))
-
-  abbrev strip : open'.Stmt-F S-with A-with C-with H-with → open'.Stmt-F Stmt ArmTree ClauseTree HandlerTree
-  strip y = map-Stmt S-with A-with C-with H-with Stmt ArmTree ClauseTree HandlerTree (λ y. y.0) (λ y. y.0) (λ y. y.0) (λ y. y.0) y
-
-  layer : (y : open'.Stmt-F S-with A-with C-with H-with) → Layer (strip y)
+  layer : (y : LayerWith locals RelC ArmC HandlerC) → IsLayer locals RelC ArmC HandlerC y
   layer (open'.Do ln e) = still_c _ _ _ (still_rel locals texts cells keys params none _ _ _ (λ j z sl p s c h w. do_here locals texts cells keys params none j z sl p s c ln e h w)) (λ j z c a w. do_cl ok flags z (N j z) (I j z) refl refl refl to go holds (free j) ln e w)
   layer (open'.Assign ln ts e) = still_c _ _ _ (still_rel locals texts cells keys params none _ _ _ (λ j z sl p s c h w. assign_here locals texts cells keys params none j z sl p s c ln ts e h w)) (λ j z c a w. assign_cl ok flags z (N j z) (I j z) refl refl refl to go holds (free j) ln ts e w)
   layer (open'.Augment ln t o e) = still_c _ _ _ (still_rel locals texts cells keys params none _ _ _ (λ j z sl p s c h w. augment_here locals texts cells keys params none j z sl p s c ln t o e h w)) (λ j z c a w. augment_cl ok flags z (N j z) (I j z) refl refl refl to go holds (free j) ln t o e w)
@@ -667,59 +583,21 @@ module _ (locals : ℕ → List (List ℕ)) (texts cells : List (List ℕ)) (key
   layer (open'.Assert ln t m) = still_c _ _ _ (still_rel locals texts cells keys params none _ _ _ (λ j z sl p s c h w. assert_here locals texts cells keys params none j z sl p s c ln t m h w)) (λ j z c a w. assert_cl ok flags z (N j z) (I j z) refl refl refl to go holds (free j) ln t m w)
   layer (open'.Import ln is) = still_c _ _ _ (still_rel locals texts cells keys params none _ _ _ (λ j z sl p s c h w. import_here locals texts cells keys params none j z sl p s c ln is w)) (λ j z c a w. import_all_cl ok flags z (N j z) (I j z) refl refl refl to go holds (free j) ln is)
   layer (open'.From ln m is) = still_c _ _ _ (still_rel locals texts cells keys params none _ _ _ (λ j z sl p s c h w. from_here locals texts cells keys params none j z sl p s c ln is w)) (λ j z c a w. from_all_cl ok flags z (N j z) (I j z) refl refl refl to go holds (free j) ln is)
-  layer (open'.If ys None) = if_c (arms_of ys) (block []) none_used (λ l c. true) none_c
-  layer (open'.If ys (Some e)) = if_c (arms_of ys) (fclause e.0).block (uclause e.0) (lclause e.0) e.1
-  layer (open'.While a None) = while_c (farm a.0) (uarm a.0) (larm a.0) a.1 (block []) none_used (λ l c. true) none_c
-  layer (open'.While a (Some e)) = while_c (farm a.0) (uarm a.0) (larm a.0) a.1 (fclause e.0).block (uclause e.0) (lclause e.0) e.1
-  layer (open'.For ln t x ys None) = for_c ln t x (rels_of ys) (block []) none_used (λ l c. true) none_c
-  layer (open'.For ln t x ys (Some e)) = for_c ln t x (rels_of ys) (fclause e.0).block (uclause e.0) (lclause e.0) e.1
+  layer (open'.If ys None) = if_c (related_of ArmC code_by_arm (uses_by_arm locals) legal_by_arm ys) (block []) none_used (λ l c. true) none_c
+  layer (open'.If ys (Some e)) = if_c (related_of ArmC code_by_arm (uses_by_arm locals) legal_by_arm ys) (code_by_clause e.0).block (uses_by_clause locals e.0) (legal_by_clause e.0) e.1
+  layer (open'.While a None) = while_c (code_by_arm a.0) (uses_by_arm locals a.0) (legal_by_arm a.0) a.1 (block []) none_used (λ l c. true) none_c
+  layer (open'.While a (Some e)) = while_c (code_by_arm a.0) (uses_by_arm locals a.0) (legal_by_arm a.0) a.1 (code_by_clause e.0).block (uses_by_clause locals e.0) (legal_by_clause e.0) e.1
+  layer (open'.For ln t x ys None) = for_c ln t x (related_of RelC stated (stmt_uses locals) legal ys) (block []) none_used (λ l c. true) none_c
+  layer (open'.For ln t x ys (Some e)) = for_c ln t x (related_of RelC stated (stmt_uses locals) legal ys) (code_by_clause e.0).block (uses_by_clause locals e.0) (legal_by_clause e.0) e.1
   layer (open'.Try t ys None None) = without t ys (block []) none_used (λ l c. true) none_c (has_clause (ls ys) None) (λ e h. refl)
-  layer (open'.Try t ys (Some e) None) = without t ys (fclause e.0).block (uclause e.0) (lclause e.0) e.1 (has_clause (ls ys) (Some (lclause e.0))) (bare_some ys (lclause e.0) (uclause e.0).bodies)
+  layer (open'.Try t ys (Some e) None) = without t ys (code_by_clause e.0).block (uses_by_clause locals e.0) (legal_by_clause e.0) e.1 (has_clause (ls ys) (Some (legal_by_clause e.0))) (clause_stands code_by_handler legal_by_handler (map (λ y. y.0) ys) (legal_by_clause e.0) (uses_by_clause locals e.0).bodies)
   layer (open'.Try t ys None (Some d)) = with_finally t ys (block []) none_used (λ l c. true) none_c (has_clause (ls ys) None) (λ e h. refl) d
-  layer (open'.Try t ys (Some e) (Some d)) = with_finally t ys (fclause e.0).block (uclause e.0) (lclause e.0) e.1 (has_clause (ls ys) (Some (lclause e.0))) (bare_some ys (lclause e.0) (uclause e.0).bodies) d
-  layer (open'.Def ln x ps ys) = def_c ln x ps (rels_of ys)
-  layer (open'.Class ln x e ys) = class_c ln x e (rels_of ys)
+  layer (open'.Try t ys (Some e) (Some d)) = with_finally t ys (code_by_clause e.0).block (uses_by_clause locals e.0) (legal_by_clause e.0) e.1 (has_clause (ls ys) (Some (legal_by_clause e.0))) (clause_stands code_by_handler legal_by_handler (map (λ y. y.0) ys) (legal_by_clause e.0) (uses_by_clause locals e.0).bodies) d
+  layer (open'.Def ln x ps ys) = def_c ln x ps (related_of RelC stated (stmt_uses locals) legal ys)
+  layer (open'.Class ln x e ys) = class_c ln x e (related_of RelC stated (stmt_uses locals) legal ys)
 
-  rolled : (x : open'.Stmt-F Stmt ArmTree ClauseTree HandlerTree) → Layer x → PS (roll-Stmt x)
-  unfolding stated stmt_uses legal farm fclause fhandler uarm uclause uhandler larm lclause lhandler
-  rolled x r =
-      subst (λ q. RelC q (stmt_uses locals (roll-Stmt x)) (legal (roll-Stmt x))) (sym (fold-roll-Stmt Stated Armed Claused Handled stmt_step arm_step clause_step handler_step x))
-      (subst (λ q. RelC (stmt_step (map-Stmt Stmt ArmTree ClauseTree HandlerTree Stated Armed Claused Handled stated farm fclause fhandler x)) q (legal (roll-Stmt x))) (sym (fold-roll-Stmt Uses Uses Uses Uses (u.stmt_step locals) (u.arm_step locals) (u.clause_step locals) (u.handler_step locals) x))
-      (subst (λ q. RelC (stmt_step (map-Stmt Stmt ArmTree ClauseTree HandlerTree Stated Armed Claused Handled stated farm fclause fhandler x)) (u.stmt_step locals (map-Stmt Stmt ArmTree ClauseTree HandlerTree Uses Uses Uses Uses (stmt_uses locals) uarm uclause uhandler x)) q) (sym (fold-roll-Stmt Legal Legal Legal Legal lg.stmt_step lg.arm_step lg.clause_step lg.handler_step x)) r))
-
-  rolled_arm : (x : open'.Arm-F Stmt ArmTree ClauseTree HandlerTree) → ArmC (arm_step (map-Arm Stmt ArmTree ClauseTree HandlerTree Stated Armed Claused Handled stated farm fclause fhandler x)) (u.arm_step locals (map-Arm Stmt ArmTree ClauseTree HandlerTree Uses Uses Uses Uses (stmt_uses locals) uarm uclause uhandler x)) (lg.arm_step (map-Arm Stmt ArmTree ClauseTree HandlerTree Legal Legal Legal Legal legal larm lclause lhandler x)) → PA (roll-Arm x)
-  unfolding stated stmt_uses legal farm fclause fhandler uarm uclause uhandler larm lclause lhandler
-  rolled_arm x r =
-      subst (λ q. ArmC q (uarm (roll-Arm x)) (larm (roll-Arm x))) (sym (fold-roll-Arm Stated Armed Claused Handled stmt_step arm_step clause_step handler_step x))
-      (subst (λ q. ArmC (arm_step (map-Arm Stmt ArmTree ClauseTree HandlerTree Stated Armed Claused Handled stated farm fclause fhandler x)) q (larm (roll-Arm x))) (sym (fold-roll-Arm Uses Uses Uses Uses (u.stmt_step locals) (u.arm_step locals) (u.clause_step locals) (u.handler_step locals) x))
-      (subst (λ q. ArmC (arm_step (map-Arm Stmt ArmTree ClauseTree HandlerTree Stated Armed Claused Handled stated farm fclause fhandler x)) (u.arm_step locals (map-Arm Stmt ArmTree ClauseTree HandlerTree Uses Uses Uses Uses (stmt_uses locals) uarm uclause uhandler x)) q) (sym (fold-roll-Arm Legal Legal Legal Legal lg.stmt_step lg.arm_step lg.clause_step lg.handler_step x)) r))
-
-  rolled_clause : (x : open'.Clause-F Stmt ArmTree ClauseTree HandlerTree) → RelC (clause_step (map-Clause Stmt ArmTree ClauseTree HandlerTree Stated Armed Claused Handled stated farm fclause fhandler x)).block (u.clause_step locals (map-Clause Stmt ArmTree ClauseTree HandlerTree Uses Uses Uses Uses (stmt_uses locals) uarm uclause uhandler x)) (lg.clause_step (map-Clause Stmt ArmTree ClauseTree HandlerTree Legal Legal Legal Legal legal larm lclause lhandler x)) → PC (roll-Clause x)
-  unfolding stated stmt_uses legal farm fclause fhandler uarm uclause uhandler larm lclause lhandler
-  rolled_clause x r =
-      subst (λ q. RelC q.block (uclause (roll-Clause x)) (lclause (roll-Clause x))) (sym (fold-roll-Clause Stated Armed Claused Handled stmt_step arm_step clause_step handler_step x))
-      (subst (λ q. RelC (clause_step (map-Clause Stmt ArmTree ClauseTree HandlerTree Stated Armed Claused Handled stated farm fclause fhandler x)).block q (lclause (roll-Clause x))) (sym (fold-roll-Clause Uses Uses Uses Uses (u.stmt_step locals) (u.arm_step locals) (u.clause_step locals) (u.handler_step locals) x))
-      (subst (λ q. RelC (clause_step (map-Clause Stmt ArmTree ClauseTree HandlerTree Stated Armed Claused Handled stated farm fclause fhandler x)).block (u.clause_step locals (map-Clause Stmt ArmTree ClauseTree HandlerTree Uses Uses Uses Uses (stmt_uses locals) uarm uclause uhandler x)) q) (sym (fold-roll-Clause Legal Legal Legal Legal lg.stmt_step lg.arm_step lg.clause_step lg.handler_step x)) r))
-
-  rolled_handler : (x : open'.Handler-F Stmt ArmTree ClauseTree HandlerTree) → HandlerC (handler_step (map-Handler Stmt ArmTree ClauseTree HandlerTree Stated Armed Claused Handled stated farm fclause fhandler x)) (u.handler_step locals (map-Handler Stmt ArmTree ClauseTree HandlerTree Uses Uses Uses Uses (stmt_uses locals) uarm uclause uhandler x)) (lg.handler_step (map-Handler Stmt ArmTree ClauseTree HandlerTree Legal Legal Legal Legal legal larm lclause lhandler x)) → PH (roll-Handler x)
-  unfolding stated stmt_uses legal farm fclause fhandler uarm uclause uhandler larm lclause lhandler
-  rolled_handler x r =
-      subst (λ q. HandlerC q (uhandler (roll-Handler x)) (lhandler (roll-Handler x))) (sym (fold-roll-Handler Stated Armed Claused Handled stmt_step arm_step clause_step handler_step x))
-      (subst (λ q. HandlerC (handler_step (map-Handler Stmt ArmTree ClauseTree HandlerTree Stated Armed Claused Handled stated farm fclause fhandler x)) q (lhandler (roll-Handler x))) (sym (fold-roll-Handler Uses Uses Uses Uses (u.stmt_step locals) (u.arm_step locals) (u.clause_step locals) (u.handler_step locals) x))
-      (subst (λ q. HandlerC (handler_step (map-Handler Stmt ArmTree ClauseTree HandlerTree Stated Armed Claused Handled stated farm fclause fhandler x)) (u.handler_step locals (map-Handler Stmt ArmTree ClauseTree HandlerTree Uses Uses Uses Uses (stmt_uses locals) uarm uclause uhandler x)) q) (sym (fold-roll-Handler Legal Legal Legal Legal lg.stmt_step lg.arm_step lg.clause_step lg.handler_step x)) r))
-
-  -- every statement
-  pub stmt_clean : (x : Stmt) → PS x
-  stmt_clean = ind-Stmt PS PA PC PH
-      (λ x y is. rolled x (subst Layer is (layer y)))
-      (λ x y is. subst (λ q. PA (roll-Arm q)) is (rolled_arm (map-Arm S-with A-with C-with H-with Stmt ArmTree ClauseTree HandlerTree (λ y. y.0) (λ y. y.0) (λ y. y.0) (λ y. y.0) y) (arm_c y.line y.test (rels_of y.body))))
-      (λ x y is. subst (λ q. PC (roll-Clause q)) is (rolled_clause (map-Clause S-with A-with C-with H-with Stmt ArmTree ClauseTree HandlerTree (λ y. y.0) (λ y. y.0) (λ y. y.0) (λ y. y.0) y) (block_c (rels_of y.body))))
-      (λ x y is. subst (λ q. PH (roll-Handler q)) is (rolled_handler (map-Handler S-with A-with C-with H-with Stmt ArmTree ClauseTree HandlerTree (λ y. y.0) (λ y. y.0) (λ y. y.0) (λ y. y.0) y) (handler_c y.line y.test y.target (rels_of y.body))))
-
-  -- a list of statements
-  pub stmts_clean : (ss : List Stmt) → ListC (all_stated ss) (map (stmt_uses locals) ss) (map legal ss)
-  stmts_clean [] = LNil
-  stmts_clean (x ∷ ss) = LCons (stmt_clean x) (stmts_clean ss)
+  pub stmts_clean : (ss : List Stmt) → Related RelC (all_stated ss) (map (stmt_uses locals) ss) (map legal ss)
+  stmts_clean = every_stmts locals RelC ArmC HandlerC layer (λ ss vs gs rs. block_c rs) (λ ln t ss vs gs rs. arm_c ln t rs) (λ ln e t ss vs gs rs. handler_c ln e t rs)
 
   -- a module's statements, and the bodies inside them
   pub module_clean : (ss : List Stmt) → all_legal (map legal ss) false false ≡ true → W ((all_in_turn (map (stmt_uses locals) ss)).uses (I 0 false) 1) → Flagged 1 (inners (all_stated ss) 1) → IsClean ok flags false ((block (all_stated ss)).code (N 0 false) [] 1) × BodiesClean 1 (inners (all_stated ss) 1)

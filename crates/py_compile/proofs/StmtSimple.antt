@@ -27,9 +27,9 @@ use Rattle.py_compile.proofs.Ops.{sh}
 use Rattle.py_compile.proofs.Typed.{template_typed}
 use Rattle.py_compile.proofs.Values.{Each, Value, Store, Change, one_is, also_is}
 use Rattle.py_compile.proofs.Blocks.{Does, low, leaves_does, block_does, in_loop, in_clause, nothing_does, return_does, raise_again_does, assign_does, IsHome, expression_does, print_one_does, print_line_does, import_does, raise_one_does, raise_two_does, assert_with_does, assert_alone_does}
-use Rattle.py_compile.proofs.ExprInduct.{Every}
+use Rattle.py_compile.proofs.ExprInduct.{Every, every_front, every_back, every_join}
 use Rattle.py_compile.proofs.Homes.{Covered, IsHomed, home_bound}
-use Rattle.py_compile.proofs.ExprTyped.{every_front, every_back, every_join, operator_small, expr_ok, all_ok, if_ok, values_ok, stores_ok, deletes_ok, some_ok}
+use Rattle.py_compile.proofs.ExprTyped.{operator_small, expr_ok, all_ok, if_ok, values_ok, stores_ok, deletes_ok, some_ok}
 use Rattle.py_compile.proofs.World.{known, inside, lim, Covers, Wide, wide_to, HasNone, Slotted, fits, first_list}
 
 -- what library modules and their members are is known

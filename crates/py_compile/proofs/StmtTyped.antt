@@ -4,27 +4,23 @@ use Rattle.std.proofs.Common.{◌≡◌, ◌&&◌, ℕ, suc, ◌+◌, ◌≤◌,
 use Rattle.std.proofs.lemmas.Bool.{and_parts}
 use Rattle.py_code.specs.Effects.{Limits}
 use Rattle.py_tree.specs.declared.expr.Expr.{Expr}
-use Rattle.py_tree.specs.declared.stmt.Stmt.{Stmt, roll-Stmt}
+use Rattle.py_tree.specs.declared.stmt.Stmt.{Stmt}
 use Rattle.py_tree.specs.declared.stmt.Param.{Param}
-use Rattle.py_tree.specs.declared.stmt.Arm.{Arm as ArmTree, roll-Arm}
-use Rattle.py_tree.specs.declared.stmt.Clause.{Clause as ClauseTree, roll-Clause}
-use Rattle.py_tree.specs.declared.stmt.Handler.{Handler as HandlerTree, roll-Handler}
 use Rattle.py_tree.specs.declared.stmt.Stmt.TheOpen as open'
-use Rattle.py_tree.specs.declared.stmt.Stmt.TheFolds.{fold-Arm, fold-Clause, fold-Handler, fold-roll-Stmt, fold-roll-Arm, fold-roll-Clause, fold-roll-Handler, ind-Stmt, map-Stmt, map-Arm, map-Clause, map-Handler}
 use Rattle.py_compile.specs.Template.{Piece, row}
 use Rattle.py_compile.specs.Table.{Around, InWhile, InFor, InTry, InClause, InFinally, arm, all_arms, while, for, def, class, break_code, continue_code}
 use Rattle.py_compile.specs.Names.{Known, home}
 use Rattle.py_compile.specs.Expressions.{value, values, stored}
-use Rattle.py_compile.specs.Uses.{Use, Inside, Uses, quiet, in_turn, none_used, all_in_turn, some_used, body_used, name_bound, read, target, read_some, target_some, read_defaults, stmt_uses}
-use Rattle.py_compile.specs.Uses as u
-use Rattle.py_compile.specs.Statements.{Body, Stated, Armed, Claused, Handled, still, block, count, pieces, inners, armed, armed_count, armed_inner, handled, handled_count, handled_inner, clause, tried, finally, inner_body, base, default_or, defaults, stmt_step, arm_step, clause_step, handler_step, stated, all_stated}
+use Rattle.py_compile.specs.Uses.{Use, Inside, Uses, quiet, in_turn, none_used, all_in_turn, body_used, name_bound, read, target, read_some, target_some, read_defaults, stmt_uses}
+use Rattle.py_compile.specs.Statements.{Body, Stated, Armed, Claused, Handled, still, block, count, pieces, inners, armed, armed_count, armed_inner, handled, handled_count, handled_inner, clause, tried, finally, inner_body, base, default_or, defaults, stated, all_stated}
+use Rattle.py_compile.proofs.ExprInduct.{every_front, every_back, every_join}
 use Rattle.py_compile.proofs.Sane.{sane, sane_some}
-use Rattle.py_compile.proofs.Legal.{Legal, always, both, all_legal, legal_or, has_clause, is_target_of, sane_defaults, legal}
-use Rattle.py_compile.specs.Legal as lg
+use Rattle.py_compile.proofs.Legal.{Legal, always, both, all_legal, legal_or, has_clause, is_target_of, sane_defaults, legal, legal_by_arm, legal_by_clause, legal_by_handler}
+use Rattle.py_compile.proofs.Legal as lg
 use Rattle.py_compile.proofs.Values.{Each, Value}
 use Rattle.py_compile.proofs.Blocks.{Does, block_does, in_loop, in_clause, leaves_does, nothing_does, break_does, continue_does, Arm, arm_is, all_arms_does, while_does, for_does, Clause, clause_bare_is, clause_test_is, clause_target_is, try_except_does, try_finally_does, def_does, class_does}
-use Rattle.py_compile.proofs.ExprTyped.{every_front, every_back, every_join}
 use Rattle.py_compile.proofs.World.{known, inside, lim, Covers, Wide, HasNone, Slotted, Standing, stand_front, stand_back, BodiesOk, bodies_join}
+use Rattle.py_compile.proofs.FoldInduct.{Related, Nil, Cons, related_of, clause_stands, code_by_arm, code_by_clause, code_by_handler, uses_by_arm, uses_by_clause, uses_by_handler, ClauseWith, HandlerWith, LayerWith, IsLayer, every_stmts}
 use Rattle.py_compile.proofs.StmtSimple.{homed_is, value_here, store_here, home_here, do_here, assign_here, augment_here, print_here, return_here, raise_here, del_here, assert_here, import_here, from_here, defaults_here, base_here}
 
 module _ (locals : ℕ → List (List ℕ)) (texts cells : List (List ℕ)) (keys : ℕ → List (List (List ℕ))) (params : List ℕ) (none : HasNone locals texts cells keys params) where
@@ -101,19 +97,15 @@ module _ (locals : ℕ → List (List ℕ)) (texts cells : List (List ℕ)) (key
   none_rel = record { count = λ l c h. refl; long = λ f. refl; good = λ j z sl p s f c h w st. block_does (K j sl p) c [] tt; inner = λ l c j z f h w st. tt }
 
   -- lists of statements, given with their relations
-  pub data Rels : List Stated → List Uses → List Legal → Type 0 where
-    Nil : Rels [] [] []
-    Cons : {s : Stated} {v : Uses} {g : Legal} {ss : List Stated} {vs : List Uses} {gs : List Legal} → Rel s v g → Rels ss vs gs → Rels (s ∷ ss) (v ∷ vs) (g ∷ gs)
-
-  pub rels_count : {ss : List Stated} {vs : List Uses} {gs : List Legal} → Rels ss vs gs → (l c : Bool) → all_legal gs l c ≡ true → count ss ≡ (all_in_turn vs).bodies
+  pub rels_count : {ss : List Stated} {vs : List Uses} {gs : List Legal} → Related Rel ss vs gs → (l c : Bool) → all_legal gs l c ≡ true → count ss ≡ (all_in_turn vs).bodies
   rels_count Nil l c h = refl
   rels_count (Cons {g = g} {gs = gs} r rs) l c h = let q = and_parts (g l c) (all_legal gs l c) h in let a = r.count l c q.0 in let b = rels_count rs l c q.1 in omega (arith, a, b)
 
-  pub rels_long : {ss : List Stated} {vs : List Uses} {gs : List Legal} → Rels ss vs gs → (f : ℕ) → length (inners ss f) ≡ count ss
+  pub rels_long : {ss : List Stated} {vs : List Uses} {gs : List Legal} → Related Rel ss vs gs → (f : ℕ) → length (inners ss f) ≡ count ss
   rels_long Nil f = refl
   rels_long (Cons {s = s} {ss = ss} r rs) f = let a = r.long f in let b = rels_long rs (f + s.bodies) in omega (arith, a, b, length-append (s.inner f) (inners ss (f + s.bodies)))
 
-  rels_good : {ss : List Stated} {vs : List Uses} {gs : List Legal} → Rels ss vs gs → (j : ℕ) (z : Bool) (sl p : ℕ) → Sl j z sl → (f : ℕ) (c : List Around) → all_legal gs (in_loop (K j sl p) c) (in_clause (K j sl p) c) ≡ true → W ((all_in_turn vs).uses (I j z) f) → St f (inners ss f) → Each (Does (K j sl p) c) (pieces ss (N j z) c f)
+  rels_good : {ss : List Stated} {vs : List Uses} {gs : List Legal} → Related Rel ss vs gs → (j : ℕ) (z : Bool) (sl p : ℕ) → Sl j z sl → (f : ℕ) (c : List Around) → all_legal gs (in_loop (K j sl p) c) (in_clause (K j sl p) c) ≡ true → W ((all_in_turn vs).uses (I j z) f) → St f (inners ss f) → Each (Does (K j sl p) c) (pieces ss (N j z) c f)
   rels_good Nil j z sl p s f c h w st = tt
   rels_good (Cons {s = x} {v = v} {g = g} {ss = ss} {vs = vs} {gs = gs} r rs) j z sl p s f c h w st =
       let l = in_loop (K j sl p) c in
@@ -123,7 +115,7 @@ module _ (locals : ℕ → List (List ℕ)) (texts cells : List (List ℕ)) (key
         rels_good rs j z sl p s (f + x.bodies) c q.1 (use_back (all_in_turn vs) (I j z) f x.bodies v.bodies (v.uses (I j z) f) (r.count l d q.0) w) (st_back f x.bodies (x.inner f) (inners ss (f + x.bodies)) (r.long f) st),
       )
 
-  rels_inner : {ss : List Stated} {vs : List Uses} {gs : List Legal} → Rels ss vs gs → (l c : Bool) (j : ℕ) (z : Bool) (f : ℕ) → all_legal gs l c ≡ true → W ((all_in_turn vs).uses (I j z) f) → St f (inners ss f) → Bo f (inners ss f)
+  rels_inner : {ss : List Stated} {vs : List Uses} {gs : List Legal} → Related Rel ss vs gs → (l c : Bool) (j : ℕ) (z : Bool) (f : ℕ) → all_legal gs l c ≡ true → W ((all_in_turn vs).uses (I j z) f) → St f (inners ss f) → Bo f (inners ss f)
   rels_inner Nil l c j z f h w st = tt
   rels_inner (Cons {s = x} {v = v} {g = g} {ss = ss} {vs = vs} {gs = gs} r rs) l c j z f h w st =
       let q = and_parts (g l c) (all_legal gs l c) h in
@@ -131,28 +123,24 @@ module _ (locals : ℕ → List (List ℕ)) (texts cells : List (List ℕ)) (key
       (r.inner l c j z f q.0 (front (v.uses (I j z) f) ((all_in_turn vs).uses (I j z) (f + v.bodies)) w) (st_front f (x.inner f) (inners ss (f + x.bodies)) st))
       (rels_inner rs l c j z (f + x.bodies) q.1 (use_back (all_in_turn vs) (I j z) f x.bodies v.bodies (v.uses (I j z) f) (r.count l c q.0) w) (st_back f x.bodies (x.inner f) (inners ss (f + x.bodies)) (r.long f) st))
 
-  pub block_rel : {ss : List Stated} {vs : List Uses} {gs : List Legal} → Rels ss vs gs → Rel (block ss) (all_in_turn vs) (all_legal gs)
+  pub block_rel : {ss : List Stated} {vs : List Uses} {gs : List Legal} → Related Rel ss vs gs → Rel (block ss) (all_in_turn vs) (all_legal gs)
   block_rel {ss = ss} rs = record { count = rels_count rs; long = rels_long rs; good = λ j z sl p s f c h w st. block_does (K j sl p) c (pieces ss (N j z) c f) (rels_good rs j z sl p s f c h w st); inner = rels_inner rs }
 
   -- arms
-  pub data ArmRels : List Armed → List Uses → List Legal → Type 0 where
-    ArmNil : ArmRels [] [] []
-    ArmCons : {a : Armed} {v : Uses} {g : Legal} {as' : List Armed} {vs : List Uses} {gs : List Legal} → ArmRel a v g → ArmRels as' vs gs → ArmRels (a ∷ as') (v ∷ vs) (g ∷ gs)
+  pub arms_count : {as' : List Armed} {vs : List Uses} {gs : List Legal} → Related ArmRel as' vs gs → (l c : Bool) → all_legal gs l c ≡ true → armed_count as' ≡ (all_in_turn vs).bodies
+  arms_count Nil l c h = refl
+  arms_count (Cons {g = g} {gs = gs} r rs) l c h = let q = and_parts (g l c) (all_legal gs l c) h in let a = r.count l c q.0 in let b = arms_count rs l c q.1 in omega (arith, a, b)
 
-  pub arms_count : {as' : List Armed} {vs : List Uses} {gs : List Legal} → ArmRels as' vs gs → (l c : Bool) → all_legal gs l c ≡ true → armed_count as' ≡ (all_in_turn vs).bodies
-  arms_count ArmNil l c h = refl
-  arms_count (ArmCons {g = g} {gs = gs} r rs) l c h = let q = and_parts (g l c) (all_legal gs l c) h in let a = r.count l c q.0 in let b = arms_count rs l c q.1 in omega (arith, a, b)
-
-  pub arms_long : {as' : List Armed} {vs : List Uses} {gs : List Legal} → ArmRels as' vs gs → (f : ℕ) → length (armed_inner as' f) ≡ armed_count as'
-  arms_long ArmNil f = refl
-  arms_long (ArmCons {a = x} {as' = as'} r rs) f = let a = r.long f in let b = arms_long rs (f + x.block.bodies) in omega (arith, a, b, length-append (x.block.inner f) (armed_inner as' (f + x.block.bodies)))
+  pub arms_long : {as' : List Armed} {vs : List Uses} {gs : List Legal} → Related ArmRel as' vs gs → (f : ℕ) → length (armed_inner as' f) ≡ armed_count as'
+  arms_long Nil f = refl
+  arms_long (Cons {s = x} {ss = as'} r rs) f = let a = r.long f in let b = arms_long rs (f + x.block.bodies) in omega (arith, a, b, length-append (x.block.inner f) (armed_inner as' (f + x.block.bodies)))
 
   arm_line : (k : Limits) (ln m : ℕ) (c : List Around) (b : Piece) → Arm k ln c b → Arm k m c b
   arm_line k ln m c b r = record { typed = r.typed }
 
-  arms_good : {as' : List Armed} {vs : List Uses} {gs : List Legal} → ArmRels as' vs gs → (j : ℕ) (z : Bool) (sl p : ℕ) → Sl j z sl → (f : ℕ) (c : List Around) → all_legal gs (in_loop (K j sl p) c) (in_clause (K j sl p) c) ≡ true → W ((all_in_turn vs).uses (I j z) f) → St f (armed_inner as' f) → Each (Arm (K j sl p) 0 c) (armed as' (N j z) c f)
-  arms_good ArmNil j z sl p s f c h w st = tt
-  arms_good (ArmCons {a = x} {v = v} {g = g} {as' = as'} {vs = vs} {gs = gs} r rs) j z sl p s f c h w st =
+  arms_good : {as' : List Armed} {vs : List Uses} {gs : List Legal} → Related ArmRel as' vs gs → (j : ℕ) (z : Bool) (sl p : ℕ) → Sl j z sl → (f : ℕ) (c : List Around) → all_legal gs (in_loop (K j sl p) c) (in_clause (K j sl p) c) ≡ true → W ((all_in_turn vs).uses (I j z) f) → St f (armed_inner as' f) → Each (Arm (K j sl p) 0 c) (armed as' (N j z) c f)
+  arms_good Nil j z sl p s f c h w st = tt
+  arms_good (Cons {s = x} {v = v} {g = g} {ss = as'} {vs = vs} {gs = gs} r rs) j z sl p s f c h w st =
       let l = in_loop (K j sl p) c in
       let d = in_clause (K j sl p) c in
       let q = and_parts (g l d) (all_legal gs l d) h in
@@ -161,46 +149,42 @@ module _ (locals : ℕ → List (List ℕ)) (texts cells : List (List ℕ)) (key
         arms_good rs j z sl p s (f + x.block.bodies) c q.1 (use_back (all_in_turn vs) (I j z) f x.block.bodies v.bodies (v.uses (I j z) f) (r.count l d q.0) w) (st_back f x.block.bodies (x.block.inner f) (armed_inner as' (f + x.block.bodies)) (r.long f) st),
       )
 
-  arms_inner : {as' : List Armed} {vs : List Uses} {gs : List Legal} → ArmRels as' vs gs → (l c : Bool) (j : ℕ) (z : Bool) (f : ℕ) → all_legal gs l c ≡ true → W ((all_in_turn vs).uses (I j z) f) → St f (armed_inner as' f) → Bo f (armed_inner as' f)
-  arms_inner ArmNil l c j z f h w st = tt
-  arms_inner (ArmCons {a = x} {v = v} {g = g} {as' = as'} {vs = vs} {gs = gs} r rs) l c j z f h w st =
+  arms_inner : {as' : List Armed} {vs : List Uses} {gs : List Legal} → Related ArmRel as' vs gs → (l c : Bool) (j : ℕ) (z : Bool) (f : ℕ) → all_legal gs l c ≡ true → W ((all_in_turn vs).uses (I j z) f) → St f (armed_inner as' f) → Bo f (armed_inner as' f)
+  arms_inner Nil l c j z f h w st = tt
+  arms_inner (Cons {s = x} {v = v} {g = g} {ss = as'} {vs = vs} {gs = gs} r rs) l c j z f h w st =
       let q = and_parts (g l c) (all_legal gs l c) h in
       bo_join f x.block.bodies (x.block.inner f) (armed_inner as' (f + x.block.bodies)) (r.long f)
       (r.inner l c j z f q.0 (front (v.uses (I j z) f) ((all_in_turn vs).uses (I j z) (f + v.bodies)) w) (st_front f (x.block.inner f) (armed_inner as' (f + x.block.bodies)) st))
       (arms_inner rs l c j z (f + x.block.bodies) q.1 (use_back (all_in_turn vs) (I j z) f x.block.bodies v.bodies (v.uses (I j z) f) (r.count l c q.0) w) (st_back f x.block.bodies (x.block.inner f) (armed_inner as' (f + x.block.bodies)) (r.long f) st))
 
   -- except clauses
-  pub data HandlerRels : List Handled → List Uses → List Legal → Type 0 where
-    HandlerNil : HandlerRels [] [] []
-    HandlerCons : {a : Handled} {v : Uses} {g : Legal} {as' : List Handled} {vs : List Uses} {gs : List Legal} → HandlerRel a v g → HandlerRels as' vs gs → HandlerRels (a ∷ as') (v ∷ vs) (g ∷ gs)
+  pub handlers_count : {as' : List Handled} {vs : List Uses} {gs : List Legal} → Related HandlerRel as' vs gs → (l c : Bool) → all_legal gs l c ≡ true → handled_count as' ≡ (all_in_turn vs).bodies
+  handlers_count Nil l c h = refl
+  handlers_count (Cons {g = g} {gs = gs} r rs) l c h = let q = and_parts (g l c) (all_legal gs l c) h in let a = r.count l c q.0 in let b = handlers_count rs l c q.1 in omega (arith, a, b)
 
-  pub handlers_count : {as' : List Handled} {vs : List Uses} {gs : List Legal} → HandlerRels as' vs gs → (l c : Bool) → all_legal gs l c ≡ true → handled_count as' ≡ (all_in_turn vs).bodies
-  handlers_count HandlerNil l c h = refl
-  handlers_count (HandlerCons {g = g} {gs = gs} r rs) l c h = let q = and_parts (g l c) (all_legal gs l c) h in let a = r.count l c q.0 in let b = handlers_count rs l c q.1 in omega (arith, a, b)
+  pub handlers_long : {as' : List Handled} {vs : List Uses} {gs : List Legal} → Related HandlerRel as' vs gs → (f : ℕ) → length (handled_inner as' f) ≡ handled_count as'
+  handlers_long Nil f = refl
+  handlers_long (Cons {s = x} {ss = as'} r rs) f = let a = r.long f in let b = handlers_long rs (f + x.block.bodies) in omega (arith, a, b, length-append (x.block.inner f) (handled_inner as' (f + x.block.bodies)))
 
-  pub handlers_long : {as' : List Handled} {vs : List Uses} {gs : List Legal} → HandlerRels as' vs gs → (f : ℕ) → length (handled_inner as' f) ≡ handled_count as'
-  handlers_long HandlerNil f = refl
-  handlers_long (HandlerCons {a = x} {as' = as'} r rs) f = let a = r.long f in let b = handlers_long rs (f + x.block.bodies) in omega (arith, a, b, length-append (x.block.inner f) (handled_inner as' (f + x.block.bodies)))
-
-  handlers_good : {as' : List Handled} {vs : List Uses} {gs : List Legal} → HandlerRels as' vs gs → (j : ℕ) (z : Bool) (sl p : ℕ) → Sl j z sl → (f : ℕ) (c : List Around) → all_legal gs (in_loop (K j sl p) c) true ≡ true → W ((all_in_turn vs).uses (I j z) f) → St f (handled_inner as' f) → Each (Clause (K j sl p) c) (handled as' (N j z) c f)
-  handlers_good HandlerNil j z sl p s f c h w st = tt
-  handlers_good (HandlerCons {a = x} {v = v} {g = g} {as' = as'} {vs = vs} {gs = gs} r rs) j z sl p s f c h w st =
+  handlers_good : {as' : List Handled} {vs : List Uses} {gs : List Legal} → Related HandlerRel as' vs gs → (j : ℕ) (z : Bool) (sl p : ℕ) → Sl j z sl → (f : ℕ) (c : List Around) → all_legal gs (in_loop (K j sl p) c) true ≡ true → W ((all_in_turn vs).uses (I j z) f) → St f (handled_inner as' f) → Each (Clause (K j sl p) c) (handled as' (N j z) c f)
+  handlers_good Nil j z sl p s f c h w st = tt
+  handlers_good (Cons {s = x} {v = v} {g = g} {ss = as'} {vs = vs} {gs = gs} r rs) j z sl p s f c h w st =
       let l = in_loop (K j sl p) c in
       let q = and_parts (g l true) (all_legal gs l true) h in (
         r.good j z sl p s f c q.0 (front (v.uses (I j z) f) ((all_in_turn vs).uses (I j z) (f + v.bodies)) w) (st_front f (x.block.inner f) (handled_inner as' (f + x.block.bodies)) st),
         handlers_good rs j z sl p s (f + x.block.bodies) c q.1 (use_back (all_in_turn vs) (I j z) f x.block.bodies v.bodies (v.uses (I j z) f) (r.count l true q.0) w) (st_back f x.block.bodies (x.block.inner f) (handled_inner as' (f + x.block.bodies)) (r.long f) st),
       )
 
-  handlers_inner : {as' : List Handled} {vs : List Uses} {gs : List Legal} → HandlerRels as' vs gs → (l c : Bool) (j : ℕ) (z : Bool) (f : ℕ) → all_legal gs l c ≡ true → W ((all_in_turn vs).uses (I j z) f) → St f (handled_inner as' f) → Bo f (handled_inner as' f)
-  handlers_inner HandlerNil l c j z f h w st = tt
-  handlers_inner (HandlerCons {a = x} {v = v} {g = g} {as' = as'} {vs = vs} {gs = gs} r rs) l c j z f h w st =
+  handlers_inner : {as' : List Handled} {vs : List Uses} {gs : List Legal} → Related HandlerRel as' vs gs → (l c : Bool) (j : ℕ) (z : Bool) (f : ℕ) → all_legal gs l c ≡ true → W ((all_in_turn vs).uses (I j z) f) → St f (handled_inner as' f) → Bo f (handled_inner as' f)
+  handlers_inner Nil l c j z f h w st = tt
+  handlers_inner (Cons {s = x} {v = v} {g = g} {ss = as'} {vs = vs} {gs = gs} r rs) l c j z f h w st =
       let q = and_parts (g l c) (all_legal gs l c) h in
       bo_join f x.block.bodies (x.block.inner f) (handled_inner as' (f + x.block.bodies)) (r.long f)
       (r.inner l c j z f q.0 (front (v.uses (I j z) f) ((all_in_turn vs).uses (I j z) (f + v.bodies)) w) (st_front f (x.block.inner f) (handled_inner as' (f + x.block.bodies)) st))
       (handlers_inner rs l c j z (f + x.block.bodies) q.1 (use_back (all_in_turn vs) (I j z) f x.block.bodies v.bodies (v.uses (I j z) f) (r.count l c q.0) w) (st_back f x.block.bodies (x.block.inner f) (handled_inner as' (f + x.block.bodies)) (r.long f) st))
 
   -- the parts of compound statements
-  pub arm_rel : (ln : ℕ) (t : Expr) {ss : List Stated} {vs : List Uses} {gs : List Legal} → Rels ss vs gs → ArmRel (record { line = ln; test = t; block = block ss }) (in_turn (quiet (λ b. read b t)) (all_in_turn vs)) (both (always (sane t)) (all_legal gs))
+  pub arm_rel : (ln : ℕ) (t : Expr) {ss : List Stated} {vs : List Uses} {gs : List Legal} → Related Rel ss vs gs → ArmRel (record { line = ln; test = t; block = block ss }) (in_turn (quiet (λ b. read b t)) (all_in_turn vs)) (both (always (sane t)) (all_legal gs))
   arm_rel ln t {ss = ss} {vs = vs} {gs = gs} rs = record {
     count = λ l c h. let a = rels_count rs l c (and_parts (sane t) (all_legal gs l c) h).1 in omega (arith, a);
     long = rels_long rs;
@@ -215,7 +199,7 @@ module _ (locals : ℕ → List (List ℕ)) (texts cells : List (List ℕ)) (key
   clause_ok j z sl p s c ln (Some e) None b he ht we wt d = clause_test_is (K j sl p) ln c (value (N j z) ln e) b (value_here locals texts cells keys params none j z sl p s ln e he we) d
   clause_ok j z sl p s c ln (Some e) (Some t) b he ht we wt d = clause_target_is (K j sl p) ln c (value (N j z) ln e) (stored (N j z) ln t) b (value_here locals texts cells keys params none j z sl p s ln e he we) (store_here locals texts cells keys params none j z sl p s ln t ht wt) d
 
-  pub handler_rel : (ln : ℕ) (e t : Option Expr) {ss : List Stated} {vs : List Uses} {gs : List Legal} → Rels ss vs gs → HandlerRel (record { line = ln; test = e; target = t; block = block ss }) (in_turn (quiet (λ b. read_some b e ++ target_some b t)) (all_in_turn vs)) (both (always (sane_some e && lg.target_some t)) (all_legal gs))
+  pub handler_rel : (ln : ℕ) (e t : Option Expr) {ss : List Stated} {vs : List Uses} {gs : List Legal} → Related Rel ss vs gs → HandlerRel (record { line = ln; test = e; target = t; block = block ss }) (in_turn (quiet (λ b. read_some b e ++ target_some b t)) (all_in_turn vs)) (both (always (sane_some e && lg.target_some t)) (all_legal gs))
   handler_rel ln e t {ss = ss} {vs = vs} {gs = gs} rs = record {
     count = λ l c h. let a = rels_count rs l c (and_parts (sane_some e && lg.target_some t) (all_legal gs l c) h).1 in omega (arith, a);
     long = rels_long rs;
@@ -230,7 +214,7 @@ module _ (locals : ℕ → List (List ℕ)) (texts cells : List (List ℕ)) (key
   }
 
   -- if
-  pub if_rel : {as' : List Armed} {vs : List Uses} {gs : List Legal} → ArmRels as' vs gs → (e : Stated) (ve : Uses) (ge : Legal) → Rel e ve ge → Rel (record { bodies = armed_count as' + e.bodies; code = λ n c f. all_arms 0 (armed as' n c f) (e.code n c (f + armed_count as')); inner = λ f. armed_inner as' f ++ e.inner (f + armed_count as') }) (in_turn (all_in_turn vs) ve) (both (all_legal gs) ge)
+  pub if_rel : {as' : List Armed} {vs : List Uses} {gs : List Legal} → Related ArmRel as' vs gs → (e : Stated) (ve : Uses) (ge : Legal) → Rel e ve ge → Rel (record { bodies = armed_count as' + e.bodies; code = λ n c f. all_arms 0 (armed as' n c f) (e.code n c (f + armed_count as')); inner = λ f. armed_inner as' f ++ e.inner (f + armed_count as') }) (in_turn (all_in_turn vs) ve) (both (all_legal gs) ge)
   if_rel {as' = as'} {vs = vs} {gs = gs} rs e ve ge re = record {
     count = λ l c h. let q = and_parts (all_legal gs l c) (ge l c) h in let a = arms_count rs l c q.0 in let b = re.count l c q.1 in omega (arith, a, b);
     long = λ f. let a = arms_long rs f in let b = re.long (f + armed_count as') in omega (arith, a, b, length-append (armed_inner as' f) (e.inner (f + armed_count as')));
@@ -272,7 +256,7 @@ module _ (locals : ℕ → List (List ℕ)) (texts cells : List (List ℕ)) (key
   }
 
   -- for
-  pub for_rel : (ln : ℕ) (t x : Expr) {ss : List Stated} {vs : List Uses} {gs : List Legal} → Rels ss vs gs → (e : Stated) (ve : Uses) (ge : Legal) → Rel e ve ge → Rel (record { bodies = count ss + e.bodies; code = λ n c f. for ln (stored n ln t) (value n ln x) ((block ss).code n (InFor ∷ c) f) (e.code n c (f + count ss)); inner = λ f. inners ss f ++ e.inner (f + count ss) }) (in_turn (quiet (λ b. target b t ++ read b x)) (in_turn (all_in_turn vs) ve)) (both (always (is_target_of t && sane x)) (both (λ l c. all_legal gs true c) ge))
+  pub for_rel : (ln : ℕ) (t x : Expr) {ss : List Stated} {vs : List Uses} {gs : List Legal} → Related Rel ss vs gs → (e : Stated) (ve : Uses) (ge : Legal) → Rel e ve ge → Rel (record { bodies = count ss + e.bodies; code = λ n c f. for ln (stored n ln t) (value n ln x) ((block ss).code n (InFor ∷ c) f) (e.code n c (f + count ss)); inner = λ f. inners ss f ++ e.inner (f + count ss) }) (in_turn (quiet (λ b. target b t ++ read b x)) (in_turn (all_in_turn vs) ve)) (both (always (is_target_of t && sane x)) (both (λ l c. all_legal gs true c) ge))
   for_rel ln t x {ss = ss} {vs = vs} {gs = gs} rs e ve ge re = record {
     count = λ l c h. let q = parts l c h in let a = rels_count rs true c q.1.0 in let b = re.count l c q.1.1 in omega (arith, a, b);
     long = λ f. let a = rels_long rs f in let b = re.long (f + count ss) in omega (arith, a, b, length-append (inners ss f) (e.inner (f + count ss)));
@@ -321,8 +305,8 @@ module _ (locals : ℕ → List (List ℕ)) (texts cells : List (List ℕ)) (key
       let y = back (vh.uses b (f + vt.bodies)) (ve.uses b (f + vt.bodies + vh.bodies)) r in
       (front (vt.uses b f) ((in_turn vh ve).uses b (f + vt.bodies)) w, subst (λ i. W (vh.uses b (f + i))) (sym em) x, rw (em, en) y)
 
-  pub try_rel : (t : Claused) (vt : Uses) (gt : Legal) → Rel t.block vt gt → {hs : List Handled} {vs : List Uses} {gs : List Legal} → HandlerRels hs vs gs → (e : Stated) (ve : Uses) (ge : Legal) → Rel e ve ge → (b : Bool) → (hs ≡ [] → b ≡ true → ve.bodies ≡ 0) → Rel (tried t hs e) (in_turn vt (in_turn (all_in_turn vs) ve)) (both gt (both (λ l c. all_legal gs l true) (both ge (always b))))
-  try_rel t vt gt rt HandlerNil e ve ge re b bare = record {
+  pub try_rel : (t : Claused) (vt : Uses) (gt : Legal) → Rel t.block vt gt → {hs : List Handled} {vs : List Uses} {gs : List Legal} → Related HandlerRel hs vs gs → (e : Stated) (ve : Uses) (ge : Legal) → Rel e ve ge → (b : Bool) → (hs ≡ [] → b ≡ true → ve.bodies ≡ 0) → Rel (tried t hs e) (in_turn vt (in_turn (all_in_turn vs) ve)) (both gt (both (λ l c. all_legal gs l true) (both ge (always b))))
+  try_rel t vt gt rt Nil e ve ge re b bare = record {
     count = λ l c h. let q = three_parts gt (λ l c. true) ge b l c h in let x = rt.count l c q.0 in let y = bare refl q.3 in omega (arith, x, y);
     long = rt.long;
     good = λ j z sl p s f c h w st.
@@ -332,7 +316,7 @@ module _ (locals : ℕ → List (List ℕ)) (texts cells : List (List ℕ)) (key
         let q = three_parts gt (λ l c. true) ge b l c h in
         rt.inner l c j z f q.0 (front (vt.uses (I j z) f) ((in_turn none_used ve).uses (I j z) (f + vt.bodies)) w) st;
   }
-  try_rel t vt gt rt (HandlerCons {a = x} {v = v} {g = g} {as' = as'} {vs = vs} {gs = gs} r rs) e ve ge re b bare = record {
+  try_rel t vt gt rt (Cons {s = x} {v = v} {g = g} {ss = as'} {vs = vs} {gs = gs} r rs) e ve ge re b bare = record {
     count = λ l c h. let q = three_parts gt (all_legal (g ∷ gs)) ge b l c h in let m = rt.count l c q.0 in let n = handlers_count hs l true q.1 in let y = re.count l c q.2 in omega (arith, m, n, y);
     long = λ f. let m = rt.long f in let n = handlers_long hs (f + t.block.bodies) in let y = re.long (f + t.block.bodies + handled_count (x ∷ as')) in omega (arith, m, n, y, length-append (t.block.inner f) (handled_inner (x ∷ as') (f + t.block.bodies) ++ e.inner (f + t.block.bodies + handled_count (x ∷ as'))), length-append (handled_inner (x ∷ as') (f + t.block.bodies)) (e.inner (f + t.block.bodies + handled_count (x ∷ as'))), length-append (t.block.inner f ++ handled_inner (x ∷ as') (f + t.block.bodies)) (e.inner (f + t.block.bodies + handled_count (x ∷ as'))), length-append (t.block.inner f) (handled_inner (x ∷ as') (f + t.block.bodies)));
     good = λ j z sl p s f c h w st.
@@ -354,8 +338,8 @@ module _ (locals : ℕ → List (List ℕ)) (texts cells : List (List ℕ)) (key
         three_join f (rt.inner l c j z f q.0 ws.0 ss.0) (handlers_inner hs l true j z (f + t.block.bodies) q.1 ws.1 ss.1) (re.inner l c j z (f + t.block.bodies + handled_count (x ∷ as')) q.2 ws.2 ss.2);
   }
     where
-      hs : HandlerRels (x ∷ as') (v ∷ vs) (g ∷ gs)
-      hs = HandlerCons r rs
+      hs : Related HandlerRel (x ∷ as') (v ∷ vs) (g ∷ gs)
+      hs = Cons r rs
 
       three_stand : (f : ℕ) → St f ((tried t (x ∷ as') e).inner f) → St f (t.block.inner f) × St (f + t.block.bodies) (handled_inner (x ∷ as') (f + t.block.bodies)) × St (f + t.block.bodies + handled_count (x ∷ as')) (e.inner (f + t.block.bodies + handled_count (x ∷ as')))
       three_stand f st =
@@ -441,7 +425,7 @@ module _ (locals : ℕ → List (List ℕ)) (texts cells : List (List ℕ)) (key
       by_default None h = omega (arith, h)
       by_default (Some x) h = omega (arith, h)
 
-  pub def_rel : (ln : ℕ) (x : List ℕ) (ps : List Param) {ss : List Stated} {vs : List Uses} {gs : List Legal} → Rels ss vs gs → Rel (record { bodies = 1 + count ss; code = λ n c f. def ln (values n ln (defaults ps)) f (home n x); inner = inner_body ln x false (length ps) ss }) (body_used locals (λ b. name_bound b x ++ read_defaults b ps) false (all_in_turn vs)) (always (sane_defaults ps && all_legal gs false false))
+  pub def_rel : (ln : ℕ) (x : List ℕ) (ps : List Param) {ss : List Stated} {vs : List Uses} {gs : List Legal} → Related Rel ss vs gs → Rel (record { bodies = 1 + count ss; code = λ n c f. def ln (values n ln (defaults ps)) f (home n x); inner = inner_body ln x false (length ps) ss }) (body_used locals (λ b. name_bound b x ++ read_defaults b ps) false (all_in_turn vs)) (always (sane_defaults ps && all_legal gs false false))
   def_rel ln x ps {ss = ss} {vs = vs} {gs = gs} rs = record {
     count = λ l c h. let a = rels_count rs false false (and_parts (sane_defaults ps) (all_legal gs false false) h).1 in omega (arith, a);
     long = λ f. let a = rels_long rs (f + 1) in omega (arith, a);
@@ -462,7 +446,7 @@ module _ (locals : ℕ → List (List ℕ)) (texts cells : List (List ℕ)) (key
         ((λ sl p s. block_does (K f sl p) [] (pieces ss (N f false) [] (f + 1)) (rels_good rs f false sl p s (f + 1) [] q.1 u st.2)), rels_inner rs false false f false (f + 1) q.1 u st.2);
   }
 
-  pub class_rel : (ln : ℕ) (x : List ℕ) (e : Option Expr) {ss : List Stated} {vs : List Uses} {gs : List Legal} → Rels ss vs gs → Rel (record { bodies = 1 + count ss; code = λ n c f. class ln (base n ln e) f (home n x); inner = inner_body ln x true 0 ss }) (body_used locals (λ b. name_bound b x ++ read_some b e) true (all_in_turn vs)) (always (sane_some e && all_legal gs false false))
+  pub class_rel : (ln : ℕ) (x : List ℕ) (e : Option Expr) {ss : List Stated} {vs : List Uses} {gs : List Legal} → Related Rel ss vs gs → Rel (record { bodies = 1 + count ss; code = λ n c f. class ln (base n ln e) f (home n x); inner = inner_body ln x true 0 ss }) (body_used locals (λ b. name_bound b x ++ read_some b e) true (all_in_turn vs)) (always (sane_some e && all_legal gs false false))
   class_rel ln x e {ss = ss} {vs = vs} {gs = gs} rs = record {
     count = λ l c h. let a = rels_count rs false false (and_parts (sane_some e) (all_legal gs false false) h).1 in omega (arith, a);
     long = λ f. let a = rels_long rs (f + 1) in omega (arith, a);
@@ -480,99 +464,29 @@ module _ (locals : ℕ → List (List ℕ)) (texts cells : List (List ℕ)) (key
         ((λ sl p s. block_does (K f sl p) [] (pieces ss (N f true) [] (f + 1)) (rels_good rs f true sl p s (f + 1) [] q.1 u st.2)), rels_inner rs false false f true (f + 1) q.1 u st.2);
   }
 
-  -- the three folds at the other kinds of node
-  farm : ArmTree → Armed
-  farm = fold-Arm Stated Armed Claused Handled stmt_step arm_step clause_step handler_step
-
-  fclause : ClauseTree → Claused
-  fclause = fold-Clause Stated Armed Claused Handled stmt_step arm_step clause_step handler_step
-
-  fhandler : HandlerTree → Handled
-  fhandler = fold-Handler Stated Armed Claused Handled stmt_step arm_step clause_step handler_step
-
-  uarm : ArmTree → Uses
-  uarm = fold-Arm Uses Uses Uses Uses (u.stmt_step locals) (u.arm_step locals) (u.clause_step locals) (u.handler_step locals)
-
-  uclause : ClauseTree → Uses
-  uclause = fold-Clause Uses Uses Uses Uses (u.stmt_step locals) (u.arm_step locals) (u.clause_step locals) (u.handler_step locals)
-
-  uhandler : HandlerTree → Uses
-  uhandler = fold-Handler Uses Uses Uses Uses (u.stmt_step locals) (u.arm_step locals) (u.clause_step locals) (u.handler_step locals)
-
-  larm : ArmTree → Legal
-  larm = fold-Arm Legal Legal Legal Legal lg.stmt_step lg.arm_step lg.clause_step lg.handler_step
-
-  lclause : ClauseTree → Legal
-  lclause = fold-Clause Legal Legal Legal Legal lg.stmt_step lg.arm_step lg.clause_step lg.handler_step
-
-  lhandler : HandlerTree → Legal
-  lhandler = fold-Handler Legal Legal Legal Legal lg.stmt_step lg.arm_step lg.clause_step lg.handler_step
-
-  abbrev pub PS : Stmt → Type 0
-  PS x = Rel (stated x) (stmt_uses locals x) (legal x)
-
-  abbrev PA : ArmTree → Type 0
-  PA x = ArmRel (farm x) (uarm x) (larm x)
-
-  abbrev PC : ClauseTree → Type 0
-  PC x = Rel (fclause x).block (uclause x) (lclause x)
-
-  abbrev PH : HandlerTree → Type 0
-  PH x = HandlerRel (fhandler x) (uhandler x) (lhandler x)
-
-  abbrev S-with : Type 0
-  S-with = (x : Stmt) × PS x
-
-  abbrev A-with : Type 0
-  A-with = (x : ArmTree) × PA x
-
+  -- one layer, whose parts are so
   abbrev C-with : Type 0
-  C-with = (x : ClauseTree) × PC x
+  C-with = ClauseWith locals Rel ArmRel HandlerRel
 
   abbrev H-with : Type 0
-  H-with = (x : HandlerTree) × PH x
-
-  rels_of : (ys : List S-with) → Rels (map stated (map (λ y. y.0) ys)) (map (stmt_uses locals) (map (λ y. y.0) ys)) (map legal (map (λ y. y.0) ys))
-  rels_of [] = Nil
-  rels_of (y ∷ ys) = Cons y.1 (rels_of ys)
-
-  arms_of : (ys : List A-with) → ArmRels (map farm (map (λ y. y.0) ys)) (map uarm (map (λ y. y.0) ys)) (map larm (map (λ y. y.0) ys))
-  arms_of [] = ArmNil
-  arms_of (y ∷ ys) = ArmCons y.1 (arms_of ys)
-
-  handlers_of : (ys : List H-with) → HandlerRels (map fhandler (map (λ y. y.0) ys)) (map uhandler (map (λ y. y.0) ys)) (map lhandler (map (λ y. y.0) ys))
-  handlers_of [] = HandlerNil
-  handlers_of (y ∷ ys) = HandlerCons y.1 (handlers_of ys)
-
-  bare_some : (ys : List H-with) (g : Legal) (m : ℕ) → map fhandler (map (λ y. y.0) ys) ≡ [] → has_clause (map lhandler (map (λ y. y.0) ys)) (Some g) ≡ true → m ≡ 0
-  bare_some [] g m e h = absurd (cc)
-  bare_some (y ∷ ys) g m e h = absurd (cc)
+  H-with = HandlerWith locals Rel ArmRel HandlerRel
 
   abbrev fs : List H-with → List Handled
-  fs ys = map fhandler (map (λ y. y.0) ys)
+  fs ys = map code_by_handler (map (λ y. y.0) ys)
 
   abbrev us : List H-with → Uses
-  us ys = all_in_turn (map uhandler (map (λ y. y.0) ys))
+  us ys = all_in_turn (map (uses_by_handler locals) (map (λ y. y.0) ys))
 
   abbrev ls : List H-with → List Legal
-  ls ys = map lhandler (map (λ y. y.0) ys)
+  ls ys = map legal_by_handler (map (λ y. y.0) ys)
 
-  without : (t : C-with) (ys : List H-with) (e : Stated) (ve : Uses) (ge : Legal) → Rel e ve ge → (b : Bool) → (fs ys ≡ [] → b ≡ true → ve.bodies ≡ 0) → Rel (finally (fclause t.0).line (tried (fclause t.0) (fs ys) e) None) (in_turn (uclause t.0) (in_turn (us ys) (in_turn ve none_used))) (four (lclause t.0) (all_legal (ls ys)) ge (λ l c. true) b)
-  without t ys e ve ge re b bare = no_finally_rel (fclause t.0).line (tried (fclause t.0) (fs ys) e) (uclause t.0) (us ys) ve (lclause t.0) (all_legal (ls ys)) ge b (try_rel (fclause t.0) (uclause t.0) (lclause t.0) t.1 (handlers_of ys) e ve ge re b bare)
+  without : (t : C-with) (ys : List H-with) (e : Stated) (ve : Uses) (ge : Legal) → Rel e ve ge → (b : Bool) → (fs ys ≡ [] → b ≡ true → ve.bodies ≡ 0) → Rel (finally (code_by_clause t.0).line (tried (code_by_clause t.0) (fs ys) e) None) (in_turn (uses_by_clause locals t.0) (in_turn (us ys) (in_turn ve none_used))) (four (legal_by_clause t.0) (all_legal (ls ys)) ge (λ l c. true) b)
+  without t ys e ve ge re b bare = no_finally_rel (code_by_clause t.0).line (tried (code_by_clause t.0) (fs ys) e) (uses_by_clause locals t.0) (us ys) ve (legal_by_clause t.0) (all_legal (ls ys)) ge b (try_rel (code_by_clause t.0) (uses_by_clause locals t.0) (legal_by_clause t.0) t.1 (related_of HandlerRel code_by_handler (uses_by_handler locals) legal_by_handler ys) e ve ge re b bare)
 
-  with_finally : (t : C-with) (ys : List H-with) (e : Stated) (ve : Uses) (ge : Legal) → Rel e ve ge → (b : Bool) → (fs ys ≡ [] → b ≡ true → ve.bodies ≡ 0) → (d : C-with) → Rel (finally (fclause t.0).line (tried (fclause t.0) (fs ys) e) (Some (fclause d.0))) (in_turn (uclause t.0) (in_turn (us ys) (in_turn ve (uclause d.0)))) (four (lclause t.0) (all_legal (ls ys)) ge (lclause d.0) b)
-  with_finally t ys e ve ge re b bare d = finally_rel (fclause t.0).line (tried (fclause t.0) (fs ys) e) (uclause t.0) (us ys) ve (lclause t.0) (all_legal (ls ys)) ge b (try_rel (fclause t.0) (uclause t.0) (lclause t.0) t.1 (handlers_of ys) e ve ge re b bare) (fclause d.0) (uclause d.0) (lclause d.0) d.1
+  with_finally : (t : C-with) (ys : List H-with) (e : Stated) (ve : Uses) (ge : Legal) → Rel e ve ge → (b : Bool) → (fs ys ≡ [] → b ≡ true → ve.bodies ≡ 0) → (d : C-with) → Rel (finally (code_by_clause t.0).line (tried (code_by_clause t.0) (fs ys) e) (Some (code_by_clause d.0))) (in_turn (uses_by_clause locals t.0) (in_turn (us ys) (in_turn ve (uses_by_clause locals d.0)))) (four (legal_by_clause t.0) (all_legal (ls ys)) ge (legal_by_clause d.0) b)
+  with_finally t ys e ve ge re b bare d = finally_rel (code_by_clause t.0).line (tried (code_by_clause t.0) (fs ys) e) (uses_by_clause locals t.0) (us ys) ve (legal_by_clause t.0) (all_legal (ls ys)) ge b (try_rel (code_by_clause t.0) (uses_by_clause locals t.0) (legal_by_clause t.0) t.1 (related_of HandlerRel code_by_handler (uses_by_handler locals) legal_by_handler ys) e ve ge re b bare) (code_by_clause d.0) (uses_by_clause locals d.0) (legal_by_clause d.0) d.1
 
-  -- one layer, whose parts are so
-  abbrev Layer : open'.Stmt-F Stmt ArmTree ClauseTree HandlerTree → Type 0
-  Layer x = Rel (stmt_step (map-Stmt Stmt ArmTree ClauseTree HandlerTree Stated Armed Claused Handled stated farm fclause fhandler x))
-      (u.stmt_step locals (map-Stmt Stmt ArmTree ClauseTree HandlerTree Uses Uses Uses Uses (stmt_uses locals) uarm uclause uhandler x))
-      (lg.stmt_step (map-Stmt Stmt ArmTree ClauseTree HandlerTree Legal Legal Legal Legal legal larm lclause lhandler x))
-
-  abbrev strip : open'.Stmt-F S-with A-with C-with H-with → open'.Stmt-F Stmt ArmTree ClauseTree HandlerTree
-  strip y = map-Stmt S-with A-with C-with H-with Stmt ArmTree ClauseTree HandlerTree (λ y. y.0) (λ y. y.0) (λ y. y.0) (λ y. y.0) y
-
-  layer : (y : open'.Stmt-F S-with A-with C-with H-with) → Layer (strip y)
+  layer : (y : LayerWith locals Rel ArmRel HandlerRel) → IsLayer locals Rel ArmRel HandlerRel y
   layer (open'.Do ln e) = still_rel _ _ _ (λ j z sl p s c h w. do_here locals texts cells keys params none j z sl p s c ln e h w)
   layer (open'.Assign ln ts e) = still_rel _ _ _ (λ j z sl p s c h w. assign_here locals texts cells keys params none j z sl p s c ln ts e h w)
   layer (open'.Augment ln t o e) = still_rel _ _ _ (λ j z sl p s c h w. augment_here locals texts cells keys params none j z sl p s c ln t o e h w)
@@ -587,56 +501,18 @@ module _ (locals : ℕ → List (List ℕ)) (texts cells : List (List ℕ)) (key
   layer (open'.Assert ln t m) = still_rel _ _ _ (λ j z sl p s c h w. assert_here locals texts cells keys params none j z sl p s c ln t m h w)
   layer (open'.Import ln is) = still_rel _ _ _ (λ j z sl p s c h w. import_here locals texts cells keys params none j z sl p s c ln is w)
   layer (open'.From ln m is) = still_rel _ _ _ (λ j z sl p s c h w. from_here locals texts cells keys params none j z sl p s c ln is w)
-  layer (open'.If ys None) = if_rel (arms_of ys) (block []) none_used (λ l c. true) none_rel
-  layer (open'.If ys (Some e)) = if_rel (arms_of ys) (fclause e.0).block (uclause e.0) (lclause e.0) e.1
-  layer (open'.While a None) = while_rel (farm a.0) (uarm a.0) (larm a.0) a.1 (block []) none_used (λ l c. true) none_rel
-  layer (open'.While a (Some e)) = while_rel (farm a.0) (uarm a.0) (larm a.0) a.1 (fclause e.0).block (uclause e.0) (lclause e.0) e.1
-  layer (open'.For ln t x ys None) = for_rel ln t x (rels_of ys) (block []) none_used (λ l c. true) none_rel
-  layer (open'.For ln t x ys (Some e)) = for_rel ln t x (rels_of ys) (fclause e.0).block (uclause e.0) (lclause e.0) e.1
+  layer (open'.If ys None) = if_rel (related_of ArmRel code_by_arm (uses_by_arm locals) legal_by_arm ys) (block []) none_used (λ l c. true) none_rel
+  layer (open'.If ys (Some e)) = if_rel (related_of ArmRel code_by_arm (uses_by_arm locals) legal_by_arm ys) (code_by_clause e.0).block (uses_by_clause locals e.0) (legal_by_clause e.0) e.1
+  layer (open'.While a None) = while_rel (code_by_arm a.0) (uses_by_arm locals a.0) (legal_by_arm a.0) a.1 (block []) none_used (λ l c. true) none_rel
+  layer (open'.While a (Some e)) = while_rel (code_by_arm a.0) (uses_by_arm locals a.0) (legal_by_arm a.0) a.1 (code_by_clause e.0).block (uses_by_clause locals e.0) (legal_by_clause e.0) e.1
+  layer (open'.For ln t x ys None) = for_rel ln t x (related_of Rel stated (stmt_uses locals) legal ys) (block []) none_used (λ l c. true) none_rel
+  layer (open'.For ln t x ys (Some e)) = for_rel ln t x (related_of Rel stated (stmt_uses locals) legal ys) (code_by_clause e.0).block (uses_by_clause locals e.0) (legal_by_clause e.0) e.1
   layer (open'.Try t ys None None) = without t ys (block []) none_used (λ l c. true) none_rel (has_clause (ls ys) None) (λ e h. refl)
-  layer (open'.Try t ys (Some e) None) = without t ys (fclause e.0).block (uclause e.0) (lclause e.0) e.1 (has_clause (ls ys) (Some (lclause e.0))) (bare_some ys (lclause e.0) (uclause e.0).bodies)
+  layer (open'.Try t ys (Some e) None) = without t ys (code_by_clause e.0).block (uses_by_clause locals e.0) (legal_by_clause e.0) e.1 (has_clause (ls ys) (Some (legal_by_clause e.0))) (clause_stands code_by_handler legal_by_handler (map (λ y. y.0) ys) (legal_by_clause e.0) (uses_by_clause locals e.0).bodies)
   layer (open'.Try t ys None (Some d)) = with_finally t ys (block []) none_used (λ l c. true) none_rel (has_clause (ls ys) None) (λ e h. refl) d
-  layer (open'.Try t ys (Some e) (Some d)) = with_finally t ys (fclause e.0).block (uclause e.0) (lclause e.0) e.1 (has_clause (ls ys) (Some (lclause e.0))) (bare_some ys (lclause e.0) (uclause e.0).bodies) d
-  layer (open'.Def ln x ps ys) = def_rel ln x ps (rels_of ys)
-  layer (open'.Class ln x e ys) = class_rel ln x e (rels_of ys)
+  layer (open'.Try t ys (Some e) (Some d)) = with_finally t ys (code_by_clause e.0).block (uses_by_clause locals e.0) (legal_by_clause e.0) e.1 (has_clause (ls ys) (Some (legal_by_clause e.0))) (clause_stands code_by_handler legal_by_handler (map (λ y. y.0) ys) (legal_by_clause e.0) (uses_by_clause locals e.0).bodies) d
+  layer (open'.Def ln x ps ys) = def_rel ln x ps (related_of Rel stated (stmt_uses locals) legal ys)
+  layer (open'.Class ln x e ys) = class_rel ln x e (related_of Rel stated (stmt_uses locals) legal ys)
 
-  rolled : (x : open'.Stmt-F Stmt ArmTree ClauseTree HandlerTree) → Layer x → PS (roll-Stmt x)
-  unfolding stated stmt_uses legal farm fclause fhandler uarm uclause uhandler larm lclause lhandler
-  rolled x r =
-      subst (λ q. Rel q (stmt_uses locals (roll-Stmt x)) (legal (roll-Stmt x))) (sym (fold-roll-Stmt Stated Armed Claused Handled stmt_step arm_step clause_step handler_step x))
-      (subst (λ q. Rel (stmt_step (map-Stmt Stmt ArmTree ClauseTree HandlerTree Stated Armed Claused Handled stated farm fclause fhandler x)) q (legal (roll-Stmt x))) (sym (fold-roll-Stmt Uses Uses Uses Uses (u.stmt_step locals) (u.arm_step locals) (u.clause_step locals) (u.handler_step locals) x))
-      (subst (λ q. Rel (stmt_step (map-Stmt Stmt ArmTree ClauseTree HandlerTree Stated Armed Claused Handled stated farm fclause fhandler x)) (u.stmt_step locals (map-Stmt Stmt ArmTree ClauseTree HandlerTree Uses Uses Uses Uses (stmt_uses locals) uarm uclause uhandler x)) q) (sym (fold-roll-Stmt Legal Legal Legal Legal lg.stmt_step lg.arm_step lg.clause_step lg.handler_step x)) r))
-
-  rolled_arm : (x : open'.Arm-F Stmt ArmTree ClauseTree HandlerTree) → ArmRel (arm_step (map-Arm Stmt ArmTree ClauseTree HandlerTree Stated Armed Claused Handled stated farm fclause fhandler x)) (u.arm_step locals (map-Arm Stmt ArmTree ClauseTree HandlerTree Uses Uses Uses Uses (stmt_uses locals) uarm uclause uhandler x)) (lg.arm_step (map-Arm Stmt ArmTree ClauseTree HandlerTree Legal Legal Legal Legal legal larm lclause lhandler x)) → PA (roll-Arm x)
-  unfolding stated stmt_uses legal farm fclause fhandler uarm uclause uhandler larm lclause lhandler
-  rolled_arm x r =
-      subst (λ q. ArmRel q (uarm (roll-Arm x)) (larm (roll-Arm x))) (sym (fold-roll-Arm Stated Armed Claused Handled stmt_step arm_step clause_step handler_step x))
-      (subst (λ q. ArmRel (arm_step (map-Arm Stmt ArmTree ClauseTree HandlerTree Stated Armed Claused Handled stated farm fclause fhandler x)) q (larm (roll-Arm x))) (sym (fold-roll-Arm Uses Uses Uses Uses (u.stmt_step locals) (u.arm_step locals) (u.clause_step locals) (u.handler_step locals) x))
-      (subst (λ q. ArmRel (arm_step (map-Arm Stmt ArmTree ClauseTree HandlerTree Stated Armed Claused Handled stated farm fclause fhandler x)) (u.arm_step locals (map-Arm Stmt ArmTree ClauseTree HandlerTree Uses Uses Uses Uses (stmt_uses locals) uarm uclause uhandler x)) q) (sym (fold-roll-Arm Legal Legal Legal Legal lg.stmt_step lg.arm_step lg.clause_step lg.handler_step x)) r))
-
-  rolled_clause : (x : open'.Clause-F Stmt ArmTree ClauseTree HandlerTree) → Rel (clause_step (map-Clause Stmt ArmTree ClauseTree HandlerTree Stated Armed Claused Handled stated farm fclause fhandler x)).block (u.clause_step locals (map-Clause Stmt ArmTree ClauseTree HandlerTree Uses Uses Uses Uses (stmt_uses locals) uarm uclause uhandler x)) (lg.clause_step (map-Clause Stmt ArmTree ClauseTree HandlerTree Legal Legal Legal Legal legal larm lclause lhandler x)) → PC (roll-Clause x)
-  unfolding stated stmt_uses legal farm fclause fhandler uarm uclause uhandler larm lclause lhandler
-  rolled_clause x r =
-      subst (λ q. Rel q.block (uclause (roll-Clause x)) (lclause (roll-Clause x))) (sym (fold-roll-Clause Stated Armed Claused Handled stmt_step arm_step clause_step handler_step x))
-      (subst (λ q. Rel (clause_step (map-Clause Stmt ArmTree ClauseTree HandlerTree Stated Armed Claused Handled stated farm fclause fhandler x)).block q (lclause (roll-Clause x))) (sym (fold-roll-Clause Uses Uses Uses Uses (u.stmt_step locals) (u.arm_step locals) (u.clause_step locals) (u.handler_step locals) x))
-      (subst (λ q. Rel (clause_step (map-Clause Stmt ArmTree ClauseTree HandlerTree Stated Armed Claused Handled stated farm fclause fhandler x)).block (u.clause_step locals (map-Clause Stmt ArmTree ClauseTree HandlerTree Uses Uses Uses Uses (stmt_uses locals) uarm uclause uhandler x)) q) (sym (fold-roll-Clause Legal Legal Legal Legal lg.stmt_step lg.arm_step lg.clause_step lg.handler_step x)) r))
-
-  rolled_handler : (x : open'.Handler-F Stmt ArmTree ClauseTree HandlerTree) → HandlerRel (handler_step (map-Handler Stmt ArmTree ClauseTree HandlerTree Stated Armed Claused Handled stated farm fclause fhandler x)) (u.handler_step locals (map-Handler Stmt ArmTree ClauseTree HandlerTree Uses Uses Uses Uses (stmt_uses locals) uarm uclause uhandler x)) (lg.handler_step (map-Handler Stmt ArmTree ClauseTree HandlerTree Legal Legal Legal Legal legal larm lclause lhandler x)) → PH (roll-Handler x)
-  unfolding stated stmt_uses legal farm fclause fhandler uarm uclause uhandler larm lclause lhandler
-  rolled_handler x r =
-      subst (λ q. HandlerRel q (uhandler (roll-Handler x)) (lhandler (roll-Handler x))) (sym (fold-roll-Handler Stated Armed Claused Handled stmt_step arm_step clause_step handler_step x))
-      (subst (λ q. HandlerRel (handler_step (map-Handler Stmt ArmTree ClauseTree HandlerTree Stated Armed Claused Handled stated farm fclause fhandler x)) q (lhandler (roll-Handler x))) (sym (fold-roll-Handler Uses Uses Uses Uses (u.stmt_step locals) (u.arm_step locals) (u.clause_step locals) (u.handler_step locals) x))
-      (subst (λ q. HandlerRel (handler_step (map-Handler Stmt ArmTree ClauseTree HandlerTree Stated Armed Claused Handled stated farm fclause fhandler x)) (u.handler_step locals (map-Handler Stmt ArmTree ClauseTree HandlerTree Uses Uses Uses Uses (stmt_uses locals) uarm uclause uhandler x)) q) (sym (fold-roll-Handler Legal Legal Legal Legal lg.stmt_step lg.arm_step lg.clause_step lg.handler_step x)) r))
-
-  -- every statement
-  pub stmt_rel : (x : Stmt) → PS x
-  stmt_rel = ind-Stmt PS PA PC PH
-      (λ x y is. rolled x (subst Layer is (layer y)))
-      (λ x y is. subst (λ q. PA (roll-Arm q)) is (rolled_arm (map-Arm S-with A-with C-with H-with Stmt ArmTree ClauseTree HandlerTree (λ y. y.0) (λ y. y.0) (λ y. y.0) (λ y. y.0) y) (arm_rel y.line y.test (rels_of y.body))))
-      (λ x y is. subst (λ q. PC (roll-Clause q)) is (rolled_clause (map-Clause S-with A-with C-with H-with Stmt ArmTree ClauseTree HandlerTree (λ y. y.0) (λ y. y.0) (λ y. y.0) (λ y. y.0) y) (block_rel (rels_of y.body))))
-      (λ x y is. subst (λ q. PH (roll-Handler q)) is (rolled_handler (map-Handler S-with A-with C-with H-with Stmt ArmTree ClauseTree HandlerTree (λ y. y.0) (λ y. y.0) (λ y. y.0) (λ y. y.0) y) (handler_rel y.line y.test y.target (rels_of y.body))))
-
-  -- a list of statements
-  pub stmts_rel : (ss : List Stmt) → Rels (all_stated ss) (map (stmt_uses locals) ss) (map legal ss)
-  stmts_rel [] = Nil
-  stmts_rel (x ∷ ss) = Cons (stmt_rel x) (stmts_rel ss)
+  pub stmts_rel : (ss : List Stmt) → Related Rel (all_stated ss) (map (stmt_uses locals) ss) (map legal ss)
+  stmts_rel = every_stmts locals Rel ArmRel HandlerRel layer (λ ss vs gs rs. block_rel rs) (λ ln t ss vs gs rs. arm_rel ln t rs) (λ ln e t ss vs gs rs. handler_rel ln e t rs)

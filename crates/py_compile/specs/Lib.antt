@@ -3,6 +3,7 @@ pub mod Table
 pub mod State
 pub mod Names
 pub mod Expressions
+pub mod Deletions
 pub mod Statements
 pub mod Plans
 pub mod Rounds
@@ -18,3 +19,4 @@ pub mod Tallies
 pub mod Compiles
 pub mod Tasks
 pub mod TaskWeights
+pub mod Resolved

@@ -1,5 +1,6 @@
 -- The numbers of a body's names: slots, roots and keyword lists. States `docs/LANGUAGE.md`, "Names in code".
-use Rattle.std.specs.Prelude.{ℕ, ◌+◌, Bool, true, false, if◌then◌else◌, codes, List, [], ◌∷◌, length, position, Option, Some, None, unwrap_or}
+use Rattle.std.specs.Prelude.{ℕ, ◌+◌, Bool, if◌then◌else◌, codes, List, [], ◌∷◌, length, position, Option, Some, None, unwrap_or}
+use Rattle.std.specs.Cmp.Lexicographic.{pointwise}
 use Rattle.std.specs.Str.{bytes_eq}
 use Rattle.py_code.specs.declared.builtin.TheConstants.{ALLOCATE_LOCK, LOCK, START_NEW_THREAD, THREAD, THREADING_MODULE, THREAD_MODULE}
 use Rattle.py_code.specs.declared.instr.Constant.{Constant}
@@ -50,9 +51,7 @@ home n x = home_at n x (find_name x n.locals)
 
 -- the same names in the same order
 abbrev pub same_names : List (List ℕ) → List (List ℕ) → Bool
-same_names [] [] = true
-same_names (x ∷ xs) (y ∷ ys) = if bytes_eq x y then same_names xs ys else false
-same_names _ _ = false
+same_names = pointwise bytes_eq
 
 -- the number of a keyword list, where these are numbered from i on; 0 where it isn't there
 abbrev pub list_number : ℕ → List (List ℕ) → List (List (List ℕ)) → ℕ

@@ -1,5 +1,5 @@
 -- The code of plans: each is one row of the table. It belongs to `Statements`.
-use Rattle.std.specs.Prelude.{◌≡◌, ℕ, List, [], ◌∷◌, ◌++◌}
+use Rattle.std.specs.Prelude.{◌≡◌, ℕ, List, [], ◌∷◌, ◌++◌, map}
 use Rattle.py_tree.specs.declared.expr.Expr.{Expr}
 use Rattle.py_tree.specs.declared.stmt.Arm.{Arm}
 use Rattle.py_tree.specs.declared.stmt.Stmt.{Stmt}
@@ -14,8 +14,8 @@ use Rattle.py_compile.specs.declared.plan.Plan.TheFolds.{fold-Plan}
 use Rattle.py_compile.specs.Template.{Piece, row}
 use Rattle.py_compile.specs.Table.{def, class, arm, all_arms, while, for, try_except, try_finally, Around, InWhile, InFor, InTry, InClause, InFinally}
 use Rattle.py_compile.specs.Names.{Known, home}
-use Rattle.py_compile.specs.Expressions.{value, values, stored}
-use Rattle.py_compile.specs.Statements.{base, clause, defaults, stated}
+use Rattle.py_compile.specs.Expressions.{all_deleted, value, values, stored}
+use Rattle.py_compile.specs.Statements.{base, clause, defaults, deletion, stated}
 
 -- the statement that it stands for
 abbrev pub simple_stmt : Simple → Stmt
@@ -27,7 +27,6 @@ simple_stmt (simple.Break ln) = s.Break ln
 simple_stmt (simple.Continue ln) = s.Continue ln
 simple_stmt (simple.Return ln x) = s.Return ln x.now
 simple_stmt (simple.Raise ln x v) = s.Raise ln x.now v.now
-simple_stmt (simple.Del ln ts) = s.Del ln ts.now
 simple_stmt (simple.Assert ln x m) = s.Assert ln x.now m.now
 simple_stmt (simple.Import ln is) = s.Import ln is.now
 simple_stmt (simple.From ln m is) = s.From ln m.now is.now
@@ -42,6 +41,7 @@ each (g ∷ gs) n c = g n c ∷ each gs n c
 
 abbrev pub plan_step : open'.Plan-F Coded Coded Coded → Coded
 plan_step (open'.Simple s) n c = (stated (simple_stmt s)).code n c 0
+plan_step (open'.Delete ln ts) n c = deletion ln (all_deleted n ln (map (λ x. x.now) ts))
 plan_step (open'.Def ln x ps f) n c = def ln (values n ln (defaults ps.now)) f (home n x.now)
 plan_step (open'.Class ln x b f) n c = class ln (base n ln b.now) f (home n x.now)
 plan_step (open'.If as' e) n c = all_arms 0 (each as' n c) (row (each e n c))

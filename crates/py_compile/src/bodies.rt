@@ -1,11 +1,11 @@
-//! The bodies of a module, in the order of the text. Blocks are gone through again for each construct that they stand in,
-//! of which there are at most 100.
+//! The bodies of a module, in the order of the text, and how many stand in a block.
 ghost use Rattle.std.specs.Prelude.{◌≡◌, ◌+◌, ◌++◌, IfOk, OnOk, length, [], ◌∷◌};
 ghost use Rattle.py_compile.specs.Compounds.{otherwise, tried_of};
 ghost use Rattle.py_compile.specs.Gathered.{numbered};
 ghost use Rattle.py_compile.specs.Statements.{all_stated, armed_count, armed_inner, count, handled_count, handled_inner, stated, stated_arms, stated_block, stated_handlers};
 ghost use Rattle.py_compile.specs.Weights.{weights, weights_some};
 
+use crate::count::to_u32;
 use crate::names::split;
 use py_data::NoMemory;
 use py_tree::{Arm, Clause, Handler, Stmt};
@@ -49,7 +49,7 @@ pub fn sum(a: u32, b: u32) -> Result<u32, NoMemory>
 /// How many bodies stand in a statement.
 #[cycle(counts)]
 #[tactic(auto, using(crate::proofs::Stateds::body_rules))]
-pub fn bodies_in(x: &Stmt) -> Result<u32, NoMemory>
+fn bodies_in(x: &Stmt) -> Result<u32, NoMemory>
     ensures { IfOk result (λ n. n ≡ (stated x.now).bodies) }
 {
     match x {
@@ -106,7 +106,7 @@ pub fn bodies_in(x: &Stmt) -> Result<u32, NoMemory>
 
 /// How many stand in a `try` without its finally. Without except clauses it has no else.
 #[cycle(counts)]
-pub fn bodies_in_try(
+fn bodies_in_try(
     block: &Clause,
     handlers: &[Handler],
     other: &Option<Clause>,
@@ -143,7 +143,7 @@ pub fn bodies_in_block(items: &[Stmt]) -> Result<u32, NoMemory>
 
 /// How many stand in the arms of an `if`.
 #[cycle(counts)]
-pub fn bodies_in_arms(items: &[Arm]) -> Result<u32, NoMemory>
+fn bodies_in_arms(items: &[Arm]) -> Result<u32, NoMemory>
     ensures { IfOk result (λ n. n ≡ armed_count (stated_arms items.now)) }
 {
     let mut n = 0;
@@ -158,7 +158,7 @@ pub fn bodies_in_arms(items: &[Arm]) -> Result<u32, NoMemory>
 
 /// How many stand in except clauses.
 #[cycle(counts)]
-pub fn bodies_in_handlers(items: &[Handler]) -> Result<u32, NoMemory>
+fn bodies_in_handlers(items: &[Handler]) -> Result<u32, NoMemory>
     ensures { IfOk result (λ n. n ≡ handled_count (stated_handlers items.now)) }
 {
     let mut n = 0;
@@ -214,7 +214,7 @@ fn gather_one<'a>(out: &mut Items<Body<'a>>, x: &'a Stmt) -> Result<(), NoMemory
             Ok(())
         }
         Stmt::Def(line, name, params, body) => {
-            let params = number(params.len())?;
+            let params = to_u32(params.len())?;
             let body = body.as_slice();
             add(out, *line, name.as_slice(), false, params, body)?;
             gather(out, body)?;
@@ -240,16 +240,6 @@ fn gather_one<'a>(out: &mut Items<Body<'a>>, x: &'a Stmt) -> Result<(), NoMemory
         | Stmt::Assert(_, _, _)
         | Stmt::Import(_, _)
         | Stmt::From(_, _, _) => Ok(()),
-    }
-}
-
-/// A count as a number of 32 bits. No list in memory is too long for it.
-fn number(n: usize) -> Result<u32, NoMemory>
-    ensures same { IfOk result (λ c. c ≡ n) }
-{
-    match u32::try_from(n) {
-        Ok(c) => Ok(c),
-        Err(_) => Err(AllocError),
     }
 }
 

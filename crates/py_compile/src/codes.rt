@@ -1,6 +1,7 @@
 //! The codes of a program.
-ghost use Rattle.std.specs.Prelude.{◌≡◌, ◌<◌, ◌≤◌, ◌+◌, ◌^◌, ◌++◌, ◌∷◌, [], get_or, length, map, replicate, Err, IfOk, OnOk, None, Some};
+ghost use Rattle.std.specs.Prelude.{◌≡◌, ◌<◌, ◌≤◌, ◌+◌, ◌^◌, ◌++◌, ◌∷◌, [], length, map, replicate, Err, IfOk, OnOk, None, Some};
 ghost use Rattle.py_compile.specs.Compiles.{CodesOf, known_by, known_in};
+ghost use Rattle.py_compile.specs.Expressions.{key_names};
 ghost use Rattle.py_compile.specs.Gathered.{body_of, numbered};
 ghost use Rattle.py_compile.specs.Names.{first_cell, text};
 ghost use Rattle.py_compile.specs.State.{Emitted, no_frames};
@@ -10,10 +11,11 @@ ghost use Rattle.py_compile.specs.Whole.{code_at, large_at, least, slots_named, 
 
 use crate::around::Around;
 use crate::bodies::Body;
+use crate::count::to_u32;
 use crate::draft::Draft;
 use crate::emitter::Emitter;
 use crate::error::{CompileError, Fault, too_large};
-use crate::expression::operand;
+use crate::key_set::KeySet;
 use crate::names::{Names, split};
 use crate::planning;
 use crate::statement::block;
@@ -21,6 +23,7 @@ use crate::tally::Tally;
 use py_code::{Code, Codes, Constant, Instr, KeyLists, Keys, Texts};
 use py_data::{Bytes, NoMemory, Refusal};
 use py_names::NameSet;
+use py_tree::Named;
 use sqlite_items::Items;
 use std::alloc::Global;
 
@@ -86,28 +89,26 @@ fn push_names(alloc: Global, out: &mut Texts, names: &NameSet) -> Result<(), NoM
 }
 
 /// The roots of the names of a keyword list.
-fn keys(alloc: Global, names: &Names, list: &[Bytes]) -> Result<Keys, NoMemory>
-    ensures { IfOk result (λ out. out ≡ map (text names.now) list.now) }
+fn keys(alloc: Global, names: &Names, named: &[Named]) -> Result<Keys, NoMemory>
+    ensures { IfOk result (λ out. out ≡ map (text names.now) (key_names named.now)) }
 {
     let mut out = Keys::new(alloc);
-    let mut rest = list;
-    'names: while let Some((name, more)) = split(rest) {
-        out.push(names.text(name.as_slice()))?;
+    let mut rest = named;
+    'names: while let Some((x, more)) = split(rest) {
+        out.push(names.text(x.name.as_slice()))?;
         rest = more;
     }
     Ok(out)
 }
 
 /// The keyword lists as roots.
-fn key_lists(alloc: Global, names: &Names, lists: &[Texts]) -> Result<KeyLists, NoMemory>
+fn key_lists(alloc: Global, names: &Names, lists: &KeySet) -> Result<KeyLists, NoMemory>
     ensures { IfOk result (λ out. out ≡ map (map (text names.now)) lists.now) }
 {
     let mut out = KeyLists::new(alloc);
-    let mut rest = lists;
-    'lists: while let Some((list, more)) = split(rest) {
-        let keys = keys(alloc, names, list.as_slice())?;
+    for list in lists.as_slice() {
+        let keys = keys(alloc, names, list.named())?;
         out.push(keys)?;
-        rest = more;
     }
     Ok(out)
 }
@@ -118,7 +119,7 @@ fn named_slots(is_class: bool, locals: &NameSet) -> Result<u32, Fault>
     ensures fits { IfOk result (λ _. length locals.now < 2 ^ 32) }
     ensures small { result ≡ Err Fault.TooLarge → ⊥ }
 {
-    let count = operand(locals.len())?;
+    let count = to_u32(locals.len())?;
     if is_class { Ok(0) } else { Ok(count) }
 }
 
@@ -139,20 +140,14 @@ fn code<'a>(
 {
     let lists = used.lists(number);
     let named = named_slots(body.is_class, locals)?;
-    let _ = operand(lists.len())?;
-    let names = Names::new(
-        body.is_class,
-        locals,
-        &used.texts,
-        &used.cells,
-        lists.as_slice(),
-    );
+    let _ = to_u32(lists.len())?;
+    let names = Names::new(body.is_class, locals, &used.texts, &used.cells, lists);
     let mut e = Emitter::new(alloc, named);
     emit(&mut e, &names, number, body)?;
     let hidden = e.slots() - named;
     let (instrs, lines) = e.finish()?;
     let slots = slots(alloc, body.is_class, locals, hidden)?;
-    let keys = key_lists(alloc, &names, lists.as_slice())?;
+    let keys = key_lists(alloc, &names, lists)?;
     let name = Bytes::from_slice(alloc, body.name)?;
     Ok(Code {
         name,

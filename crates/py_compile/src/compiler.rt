@@ -1,8 +1,10 @@
 //! The program of a module.
 ghost use Rattle.std.specs.Prelude.{◌≡◌, [], IfOk, OnOk};
 ghost use Rattle.std.specs.List.{list_any};
+ghost use Rattle.py_code.specs.Right.{IsRightProgram};
 ghost use Rattle.py_compile.specs.Compiles.{Compiles, Padded, bound_in, once_from};
 ghost use Rattle.py_compile.specs.Gathered.{numbered};
+ghost use Rattle.py_compile.specs.Resolved.{IsResolved};
 ghost use Rattle.py_compile.specs.Whole.{bodies, is_long};
 
 use crate::bodies::{Body, gather};
@@ -89,13 +91,19 @@ fn has_long(texts: &NameSet) -> bool
     false
 }
 
-/// The program of a module with these scopes, by the table of templates (`docs/LANGUAGE.md`, "Code of a tree").
+/// The program of a text's tree and its scopes, by the table of templates (`docs/LANGUAGE.md`, "Code of a tree"), ready for
+/// the machine: what is tested of a program before it runs holds of each program that this answers.
+///
+/// The condition says that the tree is one of some tokens by the grammar, and that the scopes are those that `resolve` answers
+/// for it. Of another tree the program need not be right: a target that is a number, say, has no code that stores it.
 ///
 /// Refused is `TooLarge`: with the line of its `def` or `class` (1 for the module) a body with more than 65,535
 /// instructions, and with line 1 more than 65,535 bodies or roots, or a string of more than 1,048,576 bytes; of several
 /// lines the least. `OutOfMemory` says that there was no memory for the program.
 pub fn compile(alloc: Global, m: &Module, scopes: &Scopes) -> Result<Program, CompileError>
-    ensures { Compiles m.now scopes.now result }
+    requires resolved { IsResolved m.now scopes.now }
+    ensures done { Compiles m.now scopes.now result }
+    ensures right { IfOk result IsRightProgram }
 {
     let bodies = all_bodies(alloc, m.body.as_slice())?;
     if bodies.len() > MOST {

@@ -3,7 +3,7 @@
 //! An expression's code is emitted with no recursion: a stack holds the tasks that are left, and each step does one of them
 //! or puts its parts in its place.
 
-ghost use Rattle.std.specs.Prelude.{◌≡◌, ◌<◌, ◌+◌, ◌∷◌, [], ℕ, Err, IfOk, length};
+ghost use Rattle.std.specs.Prelude.{◌≡◌, ◌<◌, ◌+◌, ◌∷◌, ℕ, Err, IfOk, length};
 ghost use Rattle.py_code.specs.declared.instr.Constant.TheVariants.{Int as IntValue};
 ghost use Rattle.py_code.specs.declared.instr.Instr.TheVariants.{BuildDict, BuildList, BuildTuple, Const, Pop, Rot2};
 ghost use Rattle.py_compile.specs.declared.draft.Far.TheVariants.{Always};
@@ -19,6 +19,7 @@ ghost use Rattle.py_tree.specs.declared.expr.Expr.TheVariants.{Chain, Choice};
 ghost use Rattle.py_tree.specs.declared.expr.Level.TheVariants.{Compare as CompareLevel};
 ghost use Rattle.py_tree.specs.declared.expr.Trailer.TheVariants.{Attribute, Call};
 
+use crate::count::to_u32;
 use crate::draft::{Draft, Far};
 use crate::emitter::Emitter;
 use crate::error::Fault;
@@ -76,17 +77,6 @@ pub fn is_none(name: &[u8]) -> bool
     ensures { result ≡ is_none name.now }
 {
     name == b"None".as_slice()
-}
-
-/// A count as an operand. No list in memory is too long for it.
-pub fn operand(n: usize) -> Result<u32, Fault>
-    ensures same { IfOk result (λ c. c ≡ n) }
-    ensures small { result ≡ Err Fault.TooLarge → ⊥ }
-{
-    match u32::try_from(n) {
-        Ok(c) => Ok(c),
-        Err(_) => Err(Fault::OutOfMemory),
-    }
 }
 
 /// The code of an expression that is read, in a statement with this line.
@@ -213,7 +203,7 @@ fn tuple<'a>(tasks: &mut Tasks<'a>, items: &'a [Expr]) -> Result<(), Fault>
     ensures done { IfOk result (λ _. tasks.new ≡ Values items.now ∷ Op (BuildTuple (length items.now)) ∷ tasks.old) }
     ensures small { result ≡ Err Fault.TooLarge → ⊥ }
 {
-    let n = operand(items.len())?;
+    let n = to_u32(items.len())?;
     tasks.push_two(Task::Values(items), Task::Op(Instr::BuildTuple(n)))
 }
 
@@ -222,7 +212,7 @@ fn list<'a>(tasks: &mut Tasks<'a>, items: &'a [Expr]) -> Result<(), Fault>
     ensures done { IfOk result (λ _. tasks.new ≡ Values items.now ∷ Op (BuildList (length items.now)) ∷ tasks.old) }
     ensures small { result ≡ Err Fault.TooLarge → ⊥ }
 {
-    let n = operand(items.len())?;
+    let n = to_u32(items.len())?;
     tasks.push_two(Task::Values(items), Task::Op(Instr::BuildList(n)))
 }
 
@@ -231,7 +221,7 @@ fn dictionary<'a>(tasks: &mut Tasks<'a>, items: &'a [Pair]) -> Result<(), Fault>
     ensures done { IfOk result (λ _. tasks.new ≡ Pairs items.now ∷ Op (BuildDict (length items.now)) ∷ tasks.old) }
     ensures small { result ≡ Err Fault.TooLarge → ⊥ }
 {
-    let n = operand(items.len())?;
+    let n = to_u32(items.len())?;
     tasks.push_two(Task::Pairs(items), Task::Op(Instr::BuildDict(n)))
 }
 
@@ -479,7 +469,7 @@ fn trailer<'a>(
             Task::Behind(more),
         ),
         Trailer::Call(items, named) => {
-            let n = operand(items.len())?;
+            let n = to_u32(items.len())?;
             let list = names.key_list(named.as_slice());
             tasks.push_four(
                 Task::Values(items.as_slice()),
@@ -534,7 +524,7 @@ fn method<'a>(
     ensures done { IfOk result (λ _. Splits names.now (Behind (Attribute name.now ∷ Call items.now named.now ∷ more.now) ∷ tasks.old) tasks.new) }
     ensures small { result ≡ Err Fault.TooLarge → ⊥ }
 {
-    let n = operand(items.len())?;
+    let n = to_u32(items.len())?;
     let list = names.key_list(named);
     tasks.push_two(Task::Op(Instr::CallMethod(n, list)), Task::Behind(more))?;
     tasks.push_three(

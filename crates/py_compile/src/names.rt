@@ -1,12 +1,10 @@
 //! What a body knows of names.
-ghost use Rattle.std.specs.Prelude.{◌≡◌, [], ◌∷◌, ◌≤◌, ◌<◌, ◌+◌, ◌^◌, IfSome, length, map, MatchOption, OnErr, OnOk};
+ghost use Rattle.std.specs.Prelude.{◌≡◌, [], ◌∷◌, ◌≤◌, ◌<◌, ◌+◌, ◌^◌, length, MatchOption};
 ghost use Rattle.py_compile.specs.Expressions.{key_names};
-ghost use Rattle.py_compile.specs.Names.{cell, find_name, first_cell, home, key_list, list_number, number_in, same_names, text};
-ghost use Rattle.py_names.specs.Outline.{has, with_name};
+ghost use Rattle.py_compile.specs.Names.{cell, first_cell, home, key_list, number_in, text};
 
 use crate::home::Home;
-use py_code::Texts;
-use py_data::Bytes;
+use crate::key_set::KeySet;
 use py_names::NameSet;
 use py_tree::Named;
 use std::marker::Model;
@@ -22,7 +20,7 @@ pub struct Names<'s, 'a> {
     locals: &'s NameSet<'a>,
     texts: &'s NameSet<'a>,
     cells: &'s NameSet<'a>,
-    keys: &'s [Texts],
+    keys: &'s KeySet<'a>,
 }
 
 impl<'s, 'a> Model for Names<'s, 'a> {
@@ -43,7 +41,7 @@ impl<'s, 'a> Names<'s, 'a> {
         locals: &'s NameSet<'a>,
         texts: &'s NameSet<'a>,
         cells: &'s NameSet<'a>,
-        keys: &'s [Texts],
+        keys: &'s KeySet<'a>,
     ) -> Names<'s, 'a>
         requires roots { first_cell texts.now cells.now + length cells.now < 2 ^ 32 }
         requires slots { length locals.now < 2 ^ 32 }
@@ -94,25 +92,8 @@ impl<'s, 'a> Names<'s, 'a> {
     pub fn key_list(&self, named: &[Named]) -> u32
         ensures { result ≡ key_list self.now (key_names named.now) }
     {
-        number_of(self.keys, named)
+        self.keys.number(named) as u32
     }
-}
-
-/// The number of the keyword list among these; 0 where it isn't there.
-fn number_of(lists: &[Texts], named: &[Named]) -> u32
-    requires { length lists.now < 2 ^ 32 }
-    ensures { result ≡ list_number 0 (key_names named.now) lists.now }
-{
-    let mut rest = lists;
-    let mut number = 0;
-    'lists: while let Some((list, more)) = split(rest) {
-        if same_names(named, list.as_slice()) {
-            return number;
-        }
-        rest = more;
-        number += 1;
-    }
-    0
 }
 
 /// The first of these and the others.
@@ -120,30 +101,6 @@ pub fn split<T>(items: &[T]) -> Option<(&T, &[T])>
     ensures { MatchOption result (items.now ≡ []) (λ p. items.now ≡ p.0.now ∷ p.1.now) }
 {
     items.split_first()
-}
-
-/// Whether these are the keywords of a call, in the same order.
-pub fn same_names(named: &[Named], names: &[Bytes]) -> bool
-    ensures { result ≡ same_names (key_names named.now) names.now }
-{
-    let mut left = named;
-    let mut right = names;
-    'names: while let Some((x, more)) = split(left) {
-        match split(right) {
-            None => return false,
-            Some((y, others)) => {
-                if x.name.as_slice() != y.as_slice() {
-                    return false;
-                }
-                left = more;
-                right = others;
-            }
-        }
-    }
-    match split(right) {
-        None => true,
-        Some(_) => false,
-    }
 }
 
 /// The place of a name, or 0 where it isn't there.

@@ -1,5 +1,5 @@
 //! The parts of compound statements between their blocks.
-ghost use Rattle.std.specs.Prelude.{◌≡◌, ◌<◌, ◌≤◌, ◌+◌, ◌^◌, ◌∷◌, [], ℕ, List, Err, IfOk, IfSome, length};
+ghost use Rattle.std.specs.Prelude.{◌≡◌, ◌<◌, ◌≤◌, ◌+◌, ◌^◌, ◌∷◌, [], ℕ, List, Err, IfOk, length};
 ghost use Rattle.py_code.specs.declared.instr.Instr.TheVariants.{ExcMatch, Iter, Jump, JumpFalse, LoadLocal, Next, PopTry, Raise, Return, StoreLocal, Try};
 ghost use Rattle.py_compile.specs.declared.draft.Draft.TheVariants.{Op as DraftOp, To as DraftTo};
 ghost use Rattle.py_compile.specs.declared.draft.Far.TheVariants.{Always, Trying};
@@ -35,7 +35,6 @@ pub fn arm_head(e: &mut Emitter, names: &Names, x: &Arm) -> Result<usize, Fault>
 
 /// The jump behind a block to the end of the whole, and the label of what follows.
 pub fn arm_tail(e: &mut Emitter, line: u32, next: usize, end: usize) -> Result<(), Fault>
-    requires { next < length e.old.labels }
     ensures done { IfOk result (λ _. e.new ≡ marked (put e.old line (DraftTo Always end)) next) }
     ensures longer { IfOk result (λ _. length e.new.code ≡ length e.old.code + 1) }
     ensures large { result ≡ Err Fault.TooLarge → 65535 < length e.old.code + 1 }
@@ -87,8 +86,7 @@ pub fn for_head(
 
 /// The end of a loop's block: the jump to its next turn, and the label of its `else`.
 pub fn loop_tail(e: &mut Emitter, line: u32, base: usize) -> Result<(), Fault>
-    requires labels { base + 2 < length e.old.labels }
-    requires fits { base + 3 < 2 ^ 64 }
+    requires { base + 3 < 2 ^ 64 }
     ensures done { IfOk result (λ _. e.new ≡ marked (put e.old line (DraftTo Always (base + 1))) (base + 2)) }
     ensures longer { IfOk result (λ _. length e.new.code ≡ length e.old.code + 1) }
     ensures large { result ≡ Err Fault.TooLarge → 65535 < length e.old.code + 1 }
@@ -125,8 +123,7 @@ pub fn pop_try(e: &mut Emitter, line: u32) -> Result<(), Fault>
 
 /// The jump to the end, and the place that an exception leads to.
 pub fn catch(e: &mut Emitter, line: u32, base: usize, slot: u32) -> Result<(), Fault>
-    requires labels { base + 1 < length e.old.labels }
-    requires fits { base + 3 < 2 ^ 64 }
+    requires { base + 3 < 2 ^ 64 }
     ensures done { IfOk result (λ _. e.new ≡ put (marked (put e.old line (DraftTo Always base)) (base + 1)) line (DraftOp (StoreLocal slot))) }
     ensures longer { IfOk result (λ _. length e.new.code ≡ length e.old.code + 2) }
     ensures large { result ≡ Err Fault.TooLarge → 65535 < length e.old.code + 2 }
@@ -234,7 +231,6 @@ pub fn handler_tail(
     next: Option<usize>,
     base: usize,
 ) -> Result<(), Fault>
-    requires { IfSome next (λ l. l < length e.old.labels) }
     ensures done { IfOk result (λ _. HandlerTail line next base e.old e.new) }
     ensures longer { IfOk result (λ _. length e.new.code ≡ length e.old.code + 1) }
     ensures large { result ≡ Err Fault.TooLarge → 65535 < length e.old.code + 1 }

@@ -10,8 +10,10 @@ use sqlite_items::Items;
 #[cycle(plans)]
 #[derive(Drop)]
 pub enum Plan<'a> {
-    /// A statement without blocks.
+    /// A statement without blocks, but for `del`.
     Simple(Simple<'a>),
+    /// `del`: its line, and the names, attributes and subscripts that it deletes.
+    Delete(u32, Items<&'a Expr>),
     /// `def`: its line, its name, its parameters from the first with a default on, and the number of its body.
     Def(u32, &'a Bytes, &'a [Param], u32),
     /// `class`: its line, its name, its base and the number of its body.
@@ -44,7 +46,7 @@ pub struct PlanHandler<'a> {
     pub body: Items<Plan<'a>>,
 }
 
-/// A statement without blocks that has code. Each has first its line.
+/// A statement without blocks that always has code. Each has first its line.
 #[derive(Clone, Copy)]
 pub enum Simple<'a> {
     Do(u32, &'a Expr),
@@ -55,7 +57,6 @@ pub enum Simple<'a> {
     Continue(u32),
     Return(u32, &'a Option<Expr>),
     Raise(u32, &'a Option<Expr>, &'a Option<Expr>),
-    Del(u32, &'a Items<Expr>),
     Assert(u32, &'a Expr, &'a Option<Expr>),
     Import(u32, &'a Items<Imported>),
     From(u32, &'a Bytes, &'a Items<Imported>),

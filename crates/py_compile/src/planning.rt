@@ -3,12 +3,13 @@
 ghost use Rattle.std.specs.Prelude.{◌≡◌, ◌+◌, List, IfOk, OnOk};
 ghost use Rattle.py_compile.specs.Compounds.{finally_code, for_code, if_code, otherwise, tried_of, while_code};
 ghost use Rattle.py_compile.specs.Names.{Known, home};
-ghost use Rattle.py_compile.specs.Expressions.{values};
+ghost use Rattle.py_compile.specs.Expressions.{all_deleted, values};
 ghost use Rattle.py_compile.specs.Plans.{AddPlans, ArePlans, planned_arms, planned_handlers, simple_stmt};
-ghost use Rattle.py_compile.specs.Statements.{all_stated, armed, armed_count, base, count, defaults, handled, handled_count, stated, stated_arms, stated_block, stated_handlers};
+ghost use Rattle.py_compile.specs.Statements.{all_stated, armed, armed_count, base, count, defaults, deletion, handled, handled_count, stated, stated_arms, stated_block, stated_handlers};
 ghost use Rattle.py_compile.specs.Table.{Around, class, def};
 
 use crate::bodies::{bodies_in_block, clause_body, sum};
+use crate::deletion::single_targets;
 use crate::names::split;
 use crate::plan::{Plan, PlanArm, PlanHandler, Simple};
 use py_data::{Bytes, NoMemory};
@@ -22,6 +23,25 @@ fn simple<'a>(out: &mut Items<Plan<'a>>, s: Simple<'a>, first: u32) -> Result<u3
     ensures number { IfOk result (λ k. k ≡ first + (stated (simple_stmt s.entry)).bodies) }
 {
     out.push(Plan::Simple(s))?;
+    Ok(first)
+}
+
+/// Adds a `del`, if there is something that it deletes.
+fn delete<'a>(
+    alloc: Global,
+    out: &mut Items<Plan<'a>>,
+    line: u32,
+    targets: &'a [Expr],
+    first: u32,
+) -> Result<u32, NoMemory>
+    ensures plans { OnOk result (AddPlans out.old out.new (λ n c. deletion line (all_deleted n line targets.now))) }
+    ensures number { IfOk result (λ k. k ≡ first) }
+{
+    let single = single_targets(alloc, targets)?;
+    if single.is_empty() {
+        return Ok(first);
+    }
+    out.push(Plan::Delete(line, single))?;
     Ok(first)
 }
 
@@ -286,7 +306,7 @@ fn statement<'a>(
         Stmt::Continue(line) => simple(out, Simple::Continue(*line), first),
         Stmt::Return(line, x) => simple(out, Simple::Return(*line, x), first),
         Stmt::Raise(line, x, v) => simple(out, Simple::Raise(*line, x, v), first),
-        Stmt::Del(line, targets) => simple(out, Simple::Del(*line, targets), first),
+        Stmt::Del(line, targets) => delete(alloc, out, *line, targets.as_slice(), first),
         Stmt::Global(_, _) => Ok(first),
         Stmt::Assert(line, x, message) => simple(out, Simple::Assert(*line, x, message), first),
         Stmt::Import(line, items) => simple(out, Simple::Import(*line, items), first),

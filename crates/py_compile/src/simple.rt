@@ -1,5 +1,5 @@
 //! The code of statements that hold no others.
-ghost use Rattle.std.specs.Prelude.{◌≡◌, ◌<◌, ◌+◌, ◌∷◌, [], ℕ, List, Err, IfOk, length, true};
+ghost use Rattle.std.specs.Prelude.{◌≡◌, ◌<◌, ◌+◌, ◌∷◌, [], ℕ, List, Err, IfOk, length, map, true};
 ghost use Rattle.py_code.specs.declared.instr.Constant.TheVariants.{Root};
 ghost use Rattle.py_code.specs.declared.instr.Instr.TheVariants.{Const, JumpFalse, MakeRaised, Not, Raise};
 ghost use Rattle.py_compile.specs.declared.draft.Draft.TheVariants.{Op as DraftOp};
@@ -11,12 +11,13 @@ ghost use Rattle.py_compile.specs.Expressions.{add_at, all_deleted, coded, opera
 ghost use Rattle.py_compile.specs.Table.{assert_alone, assert_with, class, def, expression};
 ghost use Rattle.py_compile.specs.Statements.{asserted, assigned, base, bound_name, defaults, deletion, imported, last_target, printed, raise_made, stores_before, taken_from};
 
+use crate::count::to_u32;
 use crate::draft::{Draft, Far};
 use crate::emitter::Emitter;
 use crate::error::Fault;
-use crate::expression::{expression, operand};
+use crate::expression::expression;
 use crate::names::{Names, split};
-use crate::target::{augment, delete_all, store};
+use crate::target::{augment, delete_one, store};
 use py_code::{Constant, Instr, builtin};
 use py_tree::{Expr, Imported, Operator, Param};
 
@@ -117,12 +118,17 @@ pub fn change(
     augment(e, names, line, x, o, y)
 }
 
-/// `del`.
-pub fn delete(e: &mut Emitter, names: &Names, line: u32, targets: &[Expr]) -> Result<(), Fault>
-    ensures done { IfOk result (λ _. (env : List ℕ → List Frame) → Emitted e.old e.new (deletion line (all_deleted names.now line targets.now)) env) }
-    ensures large { result ≡ Err Fault.TooLarge → 65535 < length e.old.code + (deletion line (all_deleted names.now line targets.now)).size }
+/// `del` of these targets, one by one.
+pub fn delete(e: &mut Emitter, names: &Names, line: u32, items: &[&Expr]) -> Result<(), Fault>
+    ensures done { IfOk result (λ _. (env : List ℕ → List Frame) → Emitted e.old e.new (deletion line (all_deleted names.now line (map (λ x. x.now) items.now))) env) }
+    ensures large { result ≡ Err Fault.TooLarge → 65535 < length e.old.code + (deletion line (all_deleted names.now line (map (λ x. x.now) items.now))).size }
 {
-    delete_all(e, names, line, targets)
+    let mut rest = items;
+    'items: while let Some((x, more)) = split(rest) {
+        delete_one(e, names, line, *x)?;
+        rest = more;
+    }
+    Ok(())
 }
 
 /// `print`.
@@ -238,7 +244,6 @@ fn assert_with(e: &mut Emitter, names: &Names, line: u32, x: &Expr, m: &Expr) ->
 /// The test of an `assert` and the class that it raises; the label of its end.
 fn assert_head(e: &mut Emitter, names: &Names, line: u32, x: &Expr) -> Result<usize, Fault>
     ensures base { IfOk result (λ base. base ≡ length e.old.labels) }
-    ensures labels { IfOk result (λ base. base < length e.new.labels) }
     ensures done { IfOk result (λ base. (env : List ℕ → List Frame) → Puts line base (λ ls. frame_there base 1 0 ls ∷ env ls) (Alone (value names.now line x.now) ∷ Op Not ∷ To 0 JumpFalse 0 ∷ Op (Const (Root 13)) ∷ []) (opened e.old 1 0) e.new) }
     ensures longer { IfOk result (λ _. length e.new.code ≡ length e.old.code + (value names.now line x.now).size + 3) }
     ensures large { result ≡ Err Fault.TooLarge → 65535 < length e.old.code + (value names.now line x.now).size + 3 }
@@ -355,7 +360,7 @@ pub fn def(
     ensures large { result ≡ Err Fault.TooLarge → 65535 < length e.old.code + (def line (values names.now line (defaults params.now)) number (home names.now name.now)).size }
 {
     let count = defaults(e, names, line, params)?;
-    let n = operand(count)?;
+    let n = to_u32(count)?;
     e.put(line, Draft::Op(Instr::MakeFunction(number, n)))?;
     e.put(line, Draft::Op(names.home(name).store()))?;
     Ok(())

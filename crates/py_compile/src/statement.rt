@@ -331,7 +331,7 @@ fn returned(
     Ok(())
 }
 
-/// A statement without blocks.
+/// A statement without blocks, but for `del`.
 #[cycle(statements)]
 fn simple(e: &mut Emitter, names: &Names, s: Simple, around: &Around) -> Result<(), Fault>
     ensures done { IfOk result (λ _. Emitted e.old e.new ((stated (simple_stmt s.entry)).code names.now (around_of names.now around.now) 0) (env_of around.now)) }
@@ -346,7 +346,6 @@ fn simple(e: &mut Emitter, names: &Names, s: Simple, around: &Around) -> Result<
         Simple::Continue(line) => leave(e, names, line, Way::Continue, around),
         Simple::Return(line, x) => returned(e, names, line, x, around),
         Simple::Raise(line, x, v) => raise(e, names, line, x, v, around),
-        Simple::Del(line, targets) => delete(e, names, line, targets.as_slice()),
         Simple::Assert(line, x, message) => assert(e, names, line, x, message),
         Simple::Import(line, items) => import(e, names, line, items.as_slice()),
         Simple::From(line, _, items) => take_from(e, names, line, items.as_slice()),
@@ -361,6 +360,7 @@ fn statement(e: &mut Emitter, names: &Names, p: &Plan, around: &Around) -> Resul
 {
     match p {
         Plan::Simple(s) => simple(e, names, *s, around),
+        Plan::Delete(line, items) => delete(e, names, *line, items.as_slice()),
         Plan::Def(line, name, params, number) => {
             def(e, names, *line, name.as_slice(), *params, *number)
         }

@@ -1,19 +1,15 @@
 //! What a module uses of strings, global names and keyword lists, as it is gathered.
 ghost use Rattle.std.specs.Prelude.{◌≡◌, ◌<◌, ◌∷◌, [], get_or, length, replicate, IfOk, OnOk};
-ghost use Rattle.std.specs.List.{list_any};
 ghost use Rattle.py_compile.specs.Expressions.{key_names};
-ghost use Rattle.py_compile.specs.Names.{same_names};
 ghost use Rattle.py_names.specs.Outline.{has};
 ghost use Rattle.py_compile.specs.Tallies.{bump, inside, tally};
-ghost use Rattle.py_compile.specs.Uses.{Keys, Text, name_bound, name_read, with_keys};
+ghost use Rattle.py_compile.specs.Uses.{Keys, Text, name_bound, name_read};
 
 use crate::expression::is_none;
-use crate::names::{same_names, split};
-use py_code::Texts;
+use crate::key_set::KeySet;
 use py_data::NoMemory;
 use py_names::NameSet;
 use py_tree::Named;
-use sqlite_items::Items;
 use std::alloc::{AllocError, Global};
 use std::marker::Model;
 
@@ -21,10 +17,9 @@ use std::marker::Model;
 /// of the next body.
 #[derive(Drop)]
 pub struct Tally<'a> {
-    alloc: Global,
     pub texts: NameSet<'a>,
     pub cells: NameSet<'a>,
-    keys: Vec<Items<Texts>>,
+    keys: Vec<KeySet<'a>>,
     next: usize,
 }
 
@@ -53,54 +48,14 @@ fn is_own(all: &[NameSet], b: Place, name: &[u8]) -> bool
     }
 }
 
-/// The names of keyword arguments.
-fn names_of(alloc: Global, named: &[Named]) -> Result<Texts, NoMemory>
-    ensures { IfOk result (λ names. names ≡ key_names named.now) }
-{
-    let mut names = Texts::new(alloc);
-    let mut rest = named;
-    'names: while let Some((x, more)) = split(rest) {
-        let name = x.name.copy(alloc)?;
-        names.push(name)?;
-        rest = more;
-    }
-    Ok(names)
-}
-
-/// Whether a list of names is among these.
-fn is_listed(lists: &[Texts], named: &[Named]) -> bool
-    ensures { result ≡ list_any (same_names (key_names named.now)) lists.now }
-{
-    let mut rest = lists;
-    'lists: while let Some((list, more)) = split(rest) {
-        if same_names(named, list.as_slice()) {
-            return true;
-        }
-        rest = more;
-    }
-    false
-}
-
-/// Adds the keywords of a call to these lists, if they aren't there.
-fn note_list(alloc: Global, lists: &mut Items<Texts>, named: &[Named]) -> Result<(), NoMemory>
-    ensures { OnOk result (lists.new ≡ with_keys lists.old (key_names named.now)) }
-{
-    if is_listed(lists.as_slice(), named) {
-        return Ok(());
-    }
-    let names = names_of(alloc, named)?;
-    lists.push(names)?;
-    Ok(())
-}
-
 /// As many bodies with the empty keyword list.
-fn empty_lists(alloc: Global, count: usize) -> Result<Vec<Items<Texts>>, NoMemory>
+fn empty_lists<'a>(alloc: Global, count: usize) -> Result<Vec<KeySet<'a>>, NoMemory>
     ensures { IfOk result (λ keys. keys.items ≡ replicate count ([] ∷ [])) }
 {
     let mut keys = Vec::new(alloc);
     for _ in 0..count {
-        let mut lists = Items::new(alloc);
-        lists.push(Texts::new(alloc))?;
+        let mut lists = KeySet::new(alloc);
+        lists.note(&[])?;
         keys.push(lists)?;
     }
     Ok(keys)
@@ -113,7 +68,6 @@ impl<'a> Tally<'a> {
     {
         let keys = empty_lists(alloc, count)?;
         Ok(Tally {
-            alloc,
             texts: NameSet::new(alloc),
             cells: NameSet::new(alloc),
             keys,
@@ -122,7 +76,7 @@ impl<'a> Tally<'a> {
     }
 
     /// The keyword lists of the body with that number.
-    pub fn lists(&self, number: usize) -> &Items<Texts>
+    pub fn lists(&self, number: usize) -> &KeySet<'a>
         requires { number < length self.now.keys }
         ensures { result.now ≡ get_or self.now.keys number [] }
     {
@@ -170,13 +124,13 @@ impl<'a> Tally<'a> {
     }
 
     /// The keyword list of a call.
-    pub fn note_keys(&mut self, b: Place, named: &[Named]) -> Result<(), NoMemory>
+    pub fn note_keys(&mut self, b: Place, named: &'a [Named]) -> Result<(), NoMemory>
         ensures { OnOk result (self.new ≡ tally self.old (Keys b.number (key_names named.now) ∷ [])) }
     {
         if b.number >= self.keys.len() {
             return Ok(());
         }
-        note_list(self.alloc, &mut self.keys[b.number], named)
+        self.keys[b.number].note(named)
     }
 
     /// A body begins: its place. Its number is the next one.

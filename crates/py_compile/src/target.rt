@@ -10,9 +10,10 @@ ghost use Rattle.py_compile.specs.TaskWeights.{Splits};
 ghost use Rattle.py_compile.specs.Template.{row};
 ghost use Rattle.py_tree.specs.declared.expr.Expr.TheVariants.{Trail};
 
+use crate::count::to_u32;
 use crate::emitter::Emitter;
 use crate::error::Fault;
-use crate::expression::{operand, operator_number, run};
+use crate::expression::{operator_number, run};
 use crate::names::{Names, split};
 use crate::task::{Task, Tasks};
 use py_code::Instr;
@@ -33,12 +34,12 @@ pub fn store(e: &mut Emitter, names: &Names, line: u32, x: &Expr) -> Result<(), 
     run(e, names, line, Task::Store(x))
 }
 
-/// The deletions of targets in turn.
-pub fn delete_all(e: &mut Emitter, names: &Names, line: u32, items: &[Expr]) -> Result<(), Fault>
-    ensures done { IfOk result (λ _. Emitted e.old e.new (row (all_deleted names.now line items.now)) no_frames) }
-    ensures large { result ≡ Err Fault.TooLarge → 65535 < length e.old.code + (row (all_deleted names.now line items.now)).size }
+/// The deletion of a target.
+pub fn delete_one(e: &mut Emitter, names: &Names, line: u32, x: &Expr) -> Result<(), Fault>
+    ensures done { IfOk result (λ _. Emitted e.old e.new (deleted names.now line x.now) no_frames) }
+    ensures large { result ≡ Err Fault.TooLarge → 65535 < length e.old.code + (deleted names.now line x.now).size }
 {
-    run(e, names, line, Task::Deletes(items))
+    run(e, names, line, Task::Delete(x))
 }
 
 /// `x += y` and the others.
@@ -83,7 +84,7 @@ fn unpack<'a>(tasks: &mut Tasks<'a>, items: &'a [Expr]) -> Result<(), Fault>
     ensures done { IfOk result (λ _. tasks.new ≡ Op (Unpack (length items.now)) ∷ Stores items.now ∷ tasks.old) }
     ensures small { result ≡ Err Fault.TooLarge → ⊥ }
 {
-    let n = operand(items.len())?;
+    let n = to_u32(items.len())?;
     tasks.push_two(Task::Op(Instr::Unpack(n)), Task::Stores(items))
 }
 

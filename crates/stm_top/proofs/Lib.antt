@@ -18,3 +18,4 @@ pub mod ObjectContainers
 pub mod ObjectPairs
 pub mod ObjectTexts
 pub mod ObjectTuples
+mod OneAnswer

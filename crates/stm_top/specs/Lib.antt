@@ -9,4 +9,5 @@ pub mod Script
 pub mod Answer
 pub mod Objects
 pub mod ObjectTuples
+pub mod TextCode
 pub mod TopCall

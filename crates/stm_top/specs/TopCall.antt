@@ -1,9 +1,7 @@
 -- What the top call does, and why it answers as it does. States `docs/LANGUAGE.md`, "The top call".
 use Rattle.std.specs.String.{string_bytes}
-use Rattle.std.specs.Prelude.{◌≡◌, ◌≢◌, ◌≤◌, ◌⊎◌, String, ℕ, map, List, [], ◌∷◌, ◌++◌, Option, Some, None, option_map, Result, Ok, Err, Bool, false, codes}
+use Rattle.std.specs.Prelude.{◌≡◌, ◌≢◌, ◌≤◌, ◌⊎◌, String, ℕ, map, List, [], ◌∷◌, ◌++◌, Option, Result, Ok, Err, Bool, false, codes}
 use Rattle.std.specs.Str.{bytes_eq}
-use Rattle.py_data.specs.declared.refusal.Refusal.{Refusal}
-use Rattle.py_data.specs.declared.refusal.Refusal.TheVariants.{TooLarge}
 use Rattle.py_data.specs.declared.stop.Out.TheVariants.{Output}
 use Rattle.py_data.specs.Row.{Row}
 use Rattle.py_data.specs.Sense.{Upto}
@@ -11,19 +9,6 @@ use Rattle.py_data.specs.Sight.{Sight, opened, pure}
 use Rattle.py_data.specs.World.{grown}
 use Rattle.stm_io.specs.declared.error.PutError.{PutError}
 use Rattle.stm_io.specs.Outside.{SourceState, SinkState, Rose, Puts, PutCause}
-use Rattle.py_tokens.specs.declared.token.Token.{Token}
-use Rattle.py_tokens.specs.Layout.{tokens_of_text}
-use Rattle.py_tree.specs.declared.stmt.Module.{Module}
-use Rattle.py_tree.specs.Tall.{tall_module}
-use Rattle.py_parser.specs.declared.fault.Fault.{Fault}
-use Rattle.py_parser.specs.Outcome.{refusal_of}
-use Rattle.py_parser.specs.Refused.{RefusedAt}
-use Rattle.py_parser.specs.Statements.{IsModule}
-use Rattle.py_names.specs.Outline.{outline}
-use Rattle.py_names.specs.declared.scope.Scope.{Scope}
-use Rattle.py_names.specs.Scopes.{AreScopes, fault}
-use Rattle.py_compile.specs.Compiles.{bound_in}
-use Rattle.py_compile.specs.Whole.{too_large_in}
 use Rattle.lock_run.specs.declared.client.Outcome.{Outcome}
 use Rattle.lock_run.specs.declared.client.Life.TheVariants.{Lives}
 use Rattle.lock_run.specs.declared.turn.Turn.{Turn}
@@ -39,6 +24,8 @@ use Rattle.stm_top.specs.Answer.{status_of, IsText}
 use Rattle.stm_top.specs.LineForm.{program_of}
 use Rattle.stm_top.specs.LineRun.{line_row, line_prog}
 use Rattle.stm_top.specs.LineLaws.{PrintsNext}
+use Rattle.py_code.specs.declared.program.Program.{Program}
+use Rattle.stm_top.specs.TextCode.{HasCode, IsRefused}
 use Rattle.stm_top.specs.Script.{ScriptTaken, TooMuchTaken, TakingFailed}
 
 -- the devices of a call, as far as they tell of themselves
@@ -111,57 +98,18 @@ ProgramEnded p a answer turns b =
     ⊎ ((r : Ran p (begin_with (line_prog p) (first_world a.input.told)) a.out.told a.err.told turns b.input.told b.out.told b.err.told) × TurnsEnd answer r a.out.faults b.out.faults)
 
 -- ---- the script's text
--- its tokens have this tree, of a height of at most 100
-pub record IsTree (script : List ℕ) (tree : Module) : Type 0 where
-  pub tokens : List Token
-  pub are : tokens_of_text script ≡ Ok tokens
-  pub is : IsModule tree tokens
-  pub low : tall_module tree ≤ 100
+-- it has a program
+abbrev pub IsCode : List ℕ → Type 0
+IsCode script = (code : Program) × HasCode script code
 
--- its tokens have no such tree, and are refused where that shows first
-pub record HasNoTree (script : List ℕ) (refusal : Refusal) : Type 0 where
-  pub tokens : List Token
-  pub are : tokens_of_text script ≡ Ok tokens
-  pub fault : Fault
-  pub line : ℕ
-  pub is : refusal ≡ refusal_of fault line
-  pub refused : RefusedAt tokens fault line
-
--- it has a tree whose bodies have these scopes, since no name and no statement is refused in it
-pub record HasScopes (script : List ℕ) (tree : Module) (scopes : List Scope) : Type 0 where
-  pub is : IsTree script tree
-  pub allowed : fault (outline tree) ≡ None
-  pub are : AreScopes (outline tree) scopes
-
--- it has a tree in which a name or a statement is refused, where that shows first
-pub record HasNoScopes (script : List ℕ) (refusal : Refusal) : Type 0 where
-  pub tree : Module
-  pub is : IsTree script tree
-  pub refused : fault (outline tree) ≡ Some refusal
-
--- it has scopes, and nothing in its program is too large
-pub record HasCode (script : List ℕ) : Type 0 where
-  pub tree : Module
-  pub scopes : List Scope
-  pub has : HasScopes script tree scopes
-  pub fits : too_large_in (bound_in scopes) tree ≡ None
-
--- it has scopes, and something in its program is too large, with the least line
-pub record HasNoCode (script : List ℕ) (refusal : Refusal) : Type 0 where
-  pub tree : Module
-  pub scopes : List Scope
-  pub has : HasScopes script tree scopes
-  pub refused : option_map TooLarge (too_large_in (bound_in scopes) tree) ≡ Some refusal
-
--- it has code and the line form
+-- it has a program and the line form
 abbrev pub IsProgram : List ℕ → LineProgram → Type 0
-IsProgram script program = HasCode script × (program_of script ≡ Ok program)
+IsProgram script program = IsCode script × (program_of script ≡ Ok program)
 
--- why it isn't a program: it has no tokens; or they have no tree; or that has no scopes, or no code; or it has code and not the
--- line form
+-- why it is not run: it is refused, or it has a program and not the line form
 abbrev pub NoProgram : List ℕ → Answer → Type 0
-NoProgram script (Refused refusal) = (tokens_of_text script ≡ Err refusal) ⊎ (HasNoTree script refusal ⊎ (HasNoScopes script refusal ⊎ HasNoCode script refusal))
-NoProgram script (NotBuilt line) = HasCode script × (program_of script ≡ Err line)
+NoProgram script (Refused refusal) = IsRefused script refusal
+NoProgram script (NotBuilt line) = IsCode script × (program_of script ≡ Err line)
 NoProgram script OutOfMemory = Unit {0}
 NoProgram script _ = ⊥
 

@@ -1,22 +1,21 @@
 //! Listings of scripts' programs, by hand from `docs/LANGUAGE.md`, "Code of a tree" and "Listing". A row is a listing without
 //! its roots, from the slots of the module on and with one space where it has several, `?` and a text; `$` is a line end.
-use crate::text_rows::{text_of, tree_of};
+use crate::compile_text;
+use crate::text_rows::text_of;
 use py_code::{Program, listing};
-use py_compile::compile;
 use py_data::NoMemory;
-use py_names::resolve;
+use py_verify::Verified;
 use std::alloc::Global;
 use std::test;
 
 type Tested = Result<(), test::Fail>;
 
-/// The program of a text, or None where it has none.
-fn program_of(alloc: Global, text: &[u8]) -> Option<Program> {
-    let tree = tree_of(alloc, text)?;
-    let Ok(scopes) = resolve(alloc, &tree) else {
+/// The verified program of a text, or None where it is too long or has none.
+fn program_of(alloc: Global, text: &[u8]) -> Option<Verified> {
+    if text.len() > 100_000 {
         return None;
-    };
-    match compile(alloc, &tree, &scopes) {
+    }
+    match compile_text(alloc, text) {
         Ok(program) => Some(program),
         Err(_) => None,
     }
@@ -60,7 +59,7 @@ fn gives(alloc: Global, text: &[u8], want: &[u8]) -> Result<bool, NoMemory> {
     let Some(program) = program_of(alloc, text) else {
         return Ok(false);
     };
-    let found = shown(alloc, &program)?;
+    let found = shown(alloc, program.program())?;
     Ok(found.as_slice() == want)
 }
 
@@ -231,7 +230,7 @@ fn listed(alloc: Global, row: &str) -> Result<Vec<u8>, NoMemory> {
     let text = text_of(alloc, row)?;
     let mut found = Vec::new(alloc);
     if let Some(program) = program_of(alloc, text.as_slice()) {
-        let all = listing(alloc, &program)?;
+        let all = listing(alloc, program.program())?;
         found.extend_from_slice(all.as_slice())?;
     }
     Ok(found)

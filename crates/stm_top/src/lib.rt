@@ -6,11 +6,13 @@ pub mod line_form;
 mod line_run;
 mod script;
 mod status;
+mod text_code;
 mod top;
 mod turns;
 
 pub use script::SCRIPT_LIMIT;
 pub use status::Status;
+pub use text_code::{TextFault, compile_text, text_law};
 pub use top::{Report, run_words};
 
 #[cfg(test)]
@@ -25,3 +27,5 @@ mod object_tests;
 mod tests;
 #[cfg(test)]
 mod text_rows;
+#[cfg(test)]
+mod text_tests;

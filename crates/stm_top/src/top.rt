@@ -1,23 +1,17 @@
 //! The top call: from the words to the end of the run.
-ghost use Rattle.std.specs.Prelude.{◌≡◌, ◌≢◌, ◌≤◌, [], length, Ok, IfOk, IfErr, OnOk};
-ghost use Rattle.py_tokens.specs.Layout.{tokens_of_text};
-ghost use Rattle.py_parser.specs.Refused.{EndsOnce};
+ghost use Rattle.std.specs.Prelude.{◌≡◌, ◌≢◌, ◌≤◌, [], length, IfOk, IfErr, OnOk};
 ghost use Rattle.stm_top.specs.declared.answer.Answer.TheVariants.{Usage};
-ghost use Rattle.stm_top.specs.TopCall.{devices_of, bytes_of, names_source, HasCode, HasScopes, IsTree, IsProgram, NoProgram, ProgramEnded, Caused, TextPut, Answered};
+ghost use Rattle.stm_top.specs.TopCall.{devices_of, bytes_of, names_source, IsCode, IsProgram, NoProgram, ProgramEnded, Caused, TextPut, Answered};
 
 use crate::answer::Answer;
 use crate::line_form::{LineError, LineProgram, read_program};
 use crate::line_run::LineClient;
 use crate::script::take_script;
 use crate::status::Status;
+use crate::text_code::{TextFault, compile_text};
 use crate::turns::run_turns;
 use lock_run::{History, LockRun};
-use py_compile::{CompileError, compile};
 use py_data::{Bytes, Conflicts};
-use py_names::{NameFault, Scopes, resolve};
-use py_parser::{ParseError, ends_law, parse};
-use py_tokens::{Token, TokenError, tokens};
-use py_tree::Module;
 use std::alloc::Global;
 use stm_io::{Gate, Loader, Sink, Source, TakeError};
 
@@ -83,59 +77,17 @@ fn run_program<I: Source, O: Sink, E: Sink>(
     }
 }
 
-/// The tokens of a script, or why it has none.
-fn tokens_of(alloc: Global, script: &[u8]) -> Result<Vec<Token>, Answer>
-    requires { length script.now ≤ 4194304 }
-    ensures tokens { IfOk result (λ found. (tokens_of_text script.now ≡ Ok found.items) × EndsOnce found.items) }
-    ensures none { IfErr result (λ answer. NoProgram script.now answer) }
-{
-    ends_law();
-    match tokens(alloc, script) {
-        Ok(found) => Ok(found),
-        Err(TokenError::Refused(refusal)) => Err(Answer::Refused { refusal }),
-        Err(TokenError::OutOfMemory) => Err(Answer::OutOfMemory),
-    }
-}
-
-/// The tree of a script, or why it has none.
-fn tree_of(alloc: Global, script: &[u8]) -> Result<Module, Answer>
-    requires { length script.now ≤ 4194304 }
-    ensures tree { IfOk result (IsTree script.now) }
-    ensures none { IfErr result (λ answer. NoProgram script.now answer) }
-{
-    let found = tokens_of(alloc, script)?;
-    match parse(alloc, found.as_slice()) {
-        Ok(tree) => Ok(tree),
-        Err(ParseError::Refused(refusal)) => Err(Answer::Refused { refusal }),
-        Err(ParseError::OutOfMemory) => Err(Answer::OutOfMemory),
-    }
-}
-
-/// The scopes of a script's tree, or why it has none.
-fn scopes_of(alloc: Global, script: &[u8], tree: &Module) -> Result<Scopes, Answer>
-    requires { IsTree script.now tree.now }
-    ensures scopes { IfOk result (HasScopes script.now tree.now) }
-    ensures none { IfErr result (λ answer. NoProgram script.now answer) }
-{
-    match resolve(alloc, tree) {
-        Ok(scopes) => Ok(scopes),
-        Err(NameFault::Refused(refusal)) => Err(Answer::Refused { refusal }),
-        Err(NameFault::OutOfMemory) => Err(Answer::OutOfMemory),
-    }
-}
-
-/// Asks whether a script has code, or why it has none. Its tree, scopes and code go.
+/// Asks whether a script has a program, or why it has none. The program goes: what a script of the line form means is said by
+/// its own definition.
 fn check_code(alloc: Global, script: &[u8]) -> Result<(), Answer>
     requires { length script.now ≤ 4194304 }
-    ensures code { OnOk result (HasCode script.now) }
+    ensures code { OnOk result (IsCode script.now) }
     ensures none { IfErr result (λ answer. NoProgram script.now answer) }
 {
-    let tree = tree_of(alloc, script)?;
-    let scopes = scopes_of(alloc, script, &tree)?;
-    match compile(alloc, &tree, &scopes) {
+    match compile_text(alloc, script) {
         Ok(_) => Ok(()),
-        Err(CompileError::Refused(refusal)) => Err(Answer::Refused { refusal }),
-        Err(CompileError::OutOfMemory) => Err(Answer::OutOfMemory),
+        Err(TextFault::Refused(refusal)) => Err(Answer::Refused { refusal }),
+        Err(TextFault::OutOfMemory) => Err(Answer::OutOfMemory),
     }
 }
 

@@ -4,6 +4,7 @@ use Rattle.py_compile.specs.Table.{InWhile, InFor, InTry, InClause, InFinally}
 use Rattle.py_compile.specs.Compounds.{finally_code, for_code, if_code, otherwise, tried_of, while_code}
 use Rattle.py_compile.specs.Statements.{all_stated, armed_count, count, handled, handled_count, stated_arms, stated_block, stated_handlers}
 use Rattle.py_compile.specs.Weights.{weight, weights, weights_arms, weights_handlers, weights_some}
+use Rattle.py_compile.proofs.Leaves.{ok_map}
 use Rattle.py_compile.proofs.Plans.{add_none, add_plan, added_end, alone, arms_step, finally_plans, for_plans, handlers_step, if_plans, other_code, try_plans, while_plans}
 use Rattle.py_compile.proofs.Stateds as k
 use Rattle.py_compile.proofs.planning.+planning.Goals as goal
@@ -65,8 +66,8 @@ tried_finally-returns-clause-plans t c =
 pub statement-if_else-requires : goal.statement-if_else-requires
 statement-if_else-requires t c =
     let w = ap weight c.in-If.is ∙ k.weight_if c.in-If.items c.in-If.other in
-    let f = ap weights_arms c.as_slice.ensures in
-    rw c.as_slice.ensures grind (arith, common_steps)
+    let f = ap weights_arms c.as_slice-in-If.ensures in
+    rw c.as_slice-in-If.ensures grind (arith, common_steps)
 
 pub statement-while_loop-requires : goal.statement-while_loop-requires
 statement-while_loop-requires t c =
@@ -94,11 +95,11 @@ statement-tried_finally-requires t c =
 
 pub statement-returns-in-If-clause-plans : goal.statement-returns-in-If-clause-plans
 statement-returns-in-If-clause-plans t c =
-    rw (c.in-If.is, k.stated_if c.in-If.items c.in-If.other, ← c.as_slice.ensures) c.if_else.ensures.plans
+    rw (c.in-If.is, k.stated_if c.in-If.items c.in-If.other, ← c.as_slice-in-If.ensures) c.if_else.ensures.plans
 
 pub statement-returns-in-If-clause-number : goal.statement-returns-in-If-clause-number
 statement-returns-in-If-clause-number t c =
-    rw (c.in-If.is, k.stated_if c.in-If.items c.in-If.other, ← c.as_slice.ensures) c.if_else.ensures.number
+    rw (c.in-If.is, k.stated_if c.in-If.items c.in-If.other, ← c.as_slice-in-If.ensures) c.if_else.ensures.number
 
 pub statement-returns-in-While-clause-plans : goal.statement-returns-in-While-clause-plans
 statement-returns-in-While-clause-plans t c =
@@ -163,3 +164,11 @@ statement-returns-in-Global-clause-plans t c =
 pub statement-returns-in-Global-clause-number : goal.statement-returns-in-Global-clause-number
 statement-returns-in-Global-clause-number t c =
     rw (c.in-Global.is, k.stated_global c.in-Global.field-0 c.in-Global.field-1) omega arith
+
+pub statement-returns-in-Del-clause-plans : goal.statement-returns-in-Del-clause-plans
+statement-returns-in-Del-clause-plans t c =
+    rw (c.in-Del.is, k.stated_del c.in-Del.line c.in-Del.targets, ← c.as_slice.ensures) c.delete.ensures.plans
+
+pub statement-returns-in-Del-clause-number : goal.statement-returns-in-Del-clause-number
+statement-returns-in-Del-clause-number t c =
+    rw (c.in-Del.is, k.stated_del c.in-Del.line c.in-Del.targets) (ok_map c.delete.result c.delete.ensures.number (λ u h. omega (arith, h)))

@@ -131,14 +131,6 @@ pub simple-returns-in-Raise-clause-large : goal.simple-returns-in-Raise-clause-l
 simple-returns-in-Raise-clause-large t c =
     rw (c.in-Raise.is, k.stated_raise c.in-Raise.line c.in-Raise.x.now c.in-Raise.v.now) c.raise.ensures.large
 
-pub simple-returns-in-Del-clause-done : goal.simple-returns-in-Del-clause-done
-simple-returns-in-Del-clause-done t c =
-    rw (c.in-Del.is, k.stated_del c.in-Del.line c.in-Del.targets.now, ← c.as_slice-in-Del.ensures) (ok_map c.delete.result c.delete.ensures.done (λ u h. h (env_of c.args.around.now)))
-
-pub simple-returns-in-Del-clause-large : goal.simple-returns-in-Del-clause-large
-simple-returns-in-Del-clause-large t c =
-    rw (c.in-Del.is, k.stated_del c.in-Del.line c.in-Del.targets.now, ← c.as_slice-in-Del.ensures) c.delete.ensures.large
-
 pub simple-returns-in-Assert-clause-done : goal.simple-returns-in-Assert-clause-done
 simple-returns-in-Assert-clause-done t c =
     rw (c.in-Assert.is, k.stated_assert c.in-Assert.line c.in-Assert.x.now c.in-Assert.message.now) (ok_map c.assert.result c.assert.ensures.done (λ u h. h (env_of c.args.around.now)))
@@ -176,9 +168,17 @@ pub statement-returns-in-Simple-clause-large : goal.statement-returns-in-Simple-
 statement-returns-in-Simple-clause-large t c =
     rw (c.in-Simple.is, p.planned_simple c.in-Simple.s c.args.names.now (around_of c.args.names.now c.args.around.now)) c.simple.ensures.large
 
+pub statement-returns-in-Delete-clause-done : goal.statement-returns-in-Delete-clause-done
+statement-returns-in-Delete-clause-done t c =
+    rw (c.in-Delete.is, p.planned_delete c.in-Delete.line c.in-Delete.items c.args.names.now (around_of c.args.names.now c.args.around.now), ← c.as_slice.ensures) (ok_map c.delete.result c.delete.ensures.done (λ u h. h (env_of c.args.around.now)))
+
+pub statement-returns-in-Delete-clause-large : goal.statement-returns-in-Delete-clause-large
+statement-returns-in-Delete-clause-large t c =
+    rw (c.in-Delete.is, p.planned_delete c.in-Delete.line c.in-Delete.items c.args.names.now (around_of c.args.names.now c.args.around.now), ← c.as_slice.ensures) c.delete.ensures.large
+
 pub statement-returns-in-Def-clause-done : goal.statement-returns-in-Def-clause-done
 statement-returns-in-Def-clause-done t c =
-    rw (c.in-Def.is, p.planned_def c.in-Def.line c.in-Def.name c.in-Def.params c.in-Def.number c.args.names.now (around_of c.args.names.now c.args.around.now), ← c.as_slice.ensures) (ok_map c.def.result c.def.ensures.done (λ u h. h (env_of c.args.around.now)))
+    rw (c.in-Def.is, p.planned_def c.in-Def.line c.in-Def.name c.in-Def.params c.in-Def.number c.args.names.now (around_of c.args.names.now c.args.around.now), ← c.as_slice-in-Def.ensures) (ok_map c.def.result c.def.ensures.done (λ u h. h (env_of c.args.around.now)))
 
 pub statement-returns-in-Def-clause-large : goal.statement-returns-in-Def-clause-large
 statement-returns-in-Def-clause-large t c =

@@ -1,0 +1,15 @@
+//! Counts as numbers of 32 bits.
+ghost use Rattle.std.specs.Prelude.{◌≡◌, IfOk};
+
+use py_data::NoMemory;
+use std::alloc::AllocError;
+
+/// A count as a number of 32 bits. No list in memory is too long for it.
+pub fn to_u32(n: usize) -> Result<u32, NoMemory>
+    ensures same { IfOk result (λ c. c ≡ n) }
+{
+    match u32::try_from(n) {
+        Ok(c) => Ok(c),
+        Err(_) => Err(AllocError),
+    }
+}
