@@ -123,10 +123,8 @@ pub fn delete(e: &mut Emitter, names: &Names, line: u32, items: &[&Expr]) -> Res
     ensures done { IfOk result (λ _. (env : List ℕ → List Frame) → Emitted e.old e.new (deletion line (all_deleted names.now line (map (λ x. x.now) items.now))) env) }
     ensures large { result ≡ Err Fault.TooLarge → 65535 < length e.old.code + (deletion line (all_deleted names.now line (map (λ x. x.now) items.now))).size }
 {
-    let mut rest = items;
-    'items: while let Some((x, more)) = split(rest) {
+    for x in items {
         delete_one(e, names, line, *x)?;
-        rest = more;
     }
     Ok(())
 }

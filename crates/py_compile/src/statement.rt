@@ -16,7 +16,7 @@ use crate::around::{Around, Way};
 use crate::draft::{Draft, Far};
 use crate::emitter::Emitter;
 use crate::error::Fault;
-use crate::names::{Names, split};
+use crate::names::Names;
 use crate::parts::{
     arm_head, arm_tail, catch, for_head, handler_head, handler_tail, loop_tail, pop_try,
     raise_slot, return_head, return_tail, try_head, while_head,
@@ -147,10 +147,8 @@ pub fn block(
     ensures done { IfOk result (λ _. Emitted e.old e.new (planned_block items.now names.now (around_of names.now around.now)) (env_of around.now)) }
     ensures large { result ≡ Err Fault.TooLarge → 65535 < length e.old.code + (planned_block items.now names.now (around_of names.now around.now)).size }
 {
-    let mut rest = items;
-    'items: while let Some((x, more)) = split(rest) {
+    for x in items {
         statement(e, names, x, around)?;
-        rest = more;
     }
     Ok(())
 }
@@ -186,12 +184,10 @@ fn arms(
     ensures done { IfOk result (λ _. Emitted e.old e.new (row (planned_arms items.now names.now (around_of names.now around.now))) (λ ls. frame_there end 1 0 ls ∷ env_of around.now ls)) }
     ensures large { result ≡ Err Fault.TooLarge → 65535 < length e.old.code + (row (planned_arms items.now names.now (around_of names.now around.now))).size }
 {
-    let mut rest = items;
-    'items: while let Some((x, more)) = split(rest) {
+    for x in items {
         let next = arm_head(e, names, x.arm)?;
         block(e, names, x.body.as_slice(), around)?;
         arm_tail(e, x.arm.line, next, end)?;
-        rest = more;
     }
     Ok(())
 }
@@ -253,13 +249,11 @@ fn handlers(
     ensures done { IfOk result (λ _. Emitted e.old e.new (row (planned_handlers items.now names.now (around_of names.now outer.now))) (λ ls. frame_there base 2 slot ls ∷ env_of outer.now ls)) }
     ensures large { result ≡ Err Fault.TooLarge → 65535 < length e.old.code + (row (planned_handlers items.now names.now (around_of names.now outer.now))).size }
 {
-    let mut rest = items;
-    'items: while let Some((x, more)) = split(rest) {
+    for x in items {
         let next = handler_head(e, names, x.handler, slot)?;
         let body = x.body.as_slice();
         block(e, names, body, &Around::Clause(base, slot, &*outer))?;
         handler_tail(e, x.handler.line, next, base)?;
-        rest = more;
     }
     Ok(())
 }

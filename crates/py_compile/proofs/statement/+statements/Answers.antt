@@ -1,4 +1,4 @@
-use Rattle.std.proofs.Common.{◌+◌, ◌∷◌, arith, ap, ◌∙◌}
+use Rattle.std.proofs.Common.{◌+◌, ◌∷◌, arith, ap, drop, ◌∙◌}
 use Rattle.std.proofs.lemmas.Grind.{common_steps}
 use Rattle.py_compile.specs.State.{frame_there}
 use Rattle.py_compile.specs.Expressions.{value, value_some, stored}
@@ -6,7 +6,7 @@ use Rattle.py_compile.specs.Table.{InWhile, InFor, InTry, InClause, InFinally}
 use Rattle.py_compile.specs.Plans.{planned, planned_all, planned_arm, planned_arms, planned_block, planned_handler, planned_handlers}
 use Rattle.py_compile.specs.Rounds.{around_of, env_of}
 use Rattle.py_compile.specs.PlanWeights.{plan_weight, plan_weights, plan_weights_arms, plan_weights_handlers}
-use Rattle.py_compile.proofs.Rests.{rest_step}
+use Rattle.py_compile.proofs.Rests.{drop_turn, rest_step}
 use Rattle.py_compile.proofs.StmtArms.{if_arm, arm_arm, while_arm, for_arm, try_arm, finally_arm, return_arm, handler_arm}
 use Rattle.py_compile.proofs.Leaves.{ok_map, leave_finally}
 use Rattle.py_compile.proofs.Plans as p
@@ -14,30 +14,30 @@ use Rattle.py_compile.proofs.PlanWeights as w
 use Rattle.py_compile.proofs.Stateds as k
 use Rattle.py_compile.proofs.statement.+statements.Goals as goal
 
-pub block-items-preserved : goal.block-items-preserved
-block-items-preserved t c =
-    let e = c.in-Some.ensures in
+pub block-loop-x-preserved : goal.block-loop-x-preserved
+block-loop-x-preserved t c =
+    let e = drop_turn c.args.items.now c.loop-x.x-index c.x-item.result c.loop-x-test.true c.x-item.is in
     let w = ap plan_weights e in
-    let l = c.items.invariant.1 in
-    (rest_step (env_of c.args.around.now) c.args.e.now (planned_all c.args.items.now c.args.names.now (around_of c.args.names.now c.args.around.now)) c.items.e c.statement.new.e (planned c.in-Some.x.now c.args.names.now (around_of c.args.names.now c.args.around.now)) (planned_all c.in-Some.more.now c.args.names.now (around_of c.args.names.now c.args.around.now)) (rw e at c.items.invariant.0) c.in_ok-statement.ensures.done, grind (arith, common_steps))
+    let l = c.loop-x.invariant.1 in
+    (rest_step (env_of c.args.around.now) c.args.e.now (planned_all c.args.items.now c.args.names.now (around_of c.args.names.now c.args.around.now)) c.loop-x.e c.statement.new.e (planned c.x-item.result c.args.names.now (around_of c.args.names.now c.args.around.now)) (planned_all (drop (c.loop-x.x-index + 1) c.args.items.now) c.args.names.now (around_of c.args.names.now c.args.around.now)) (rw e at c.loop-x.invariant.0) c.in_ok-statement.ensures.done, grind (arith, common_steps))
 
-pub arms-items-preserved : goal.arms-items-preserved
-arms-items-preserved t c =
-    let e = c.in-Some.ensures in
+pub arms-loop-x-preserved : goal.arms-loop-x-preserved
+arms-loop-x-preserved t c =
+    let e = drop_turn c.args.items.now c.loop-x.x-index c.x-item.result c.loop-x-test.true c.x-item.is in
     let w = ap plan_weights_arms e in
-    let l = c.items.invariant.1 in
-    let x = c.in-Some.x.now in
-    (rest_step (λ ls. frame_there c.args.end 1 0 ls ∷ env_of c.args.around.now ls) c.args.e.now (planned_arms c.args.items.now c.args.names.now (around_of c.args.names.now c.args.around.now)) c.items.e c.arm_tail.new.e (planned_arm x c.args.names.now (around_of c.args.names.now c.args.around.now)) (planned_arms c.in-Some.more.now c.args.names.now (around_of c.args.names.now c.args.around.now)) (rw e at c.items.invariant.0)
-        (arm_arm x.arm.now.line (env_of c.args.around.now) (value c.args.names.now x.arm.now.line x.arm.now.test) (planned_block x.body c.args.names.now (around_of c.args.names.now c.args.around.now)) c.args.end c.in_ok-next.next c.items.e _ _ _ c.in_ok-next.ensures.base (c.in_ok-next.ensures.done (λ ls. frame_there c.args.end 1 0 ls ∷ env_of c.args.around.now ls)) (rw c.as_slice.ensures at c.in_ok-block.ensures.done) c.in_ok-arm_tail.ensures.done), grind (arith, common_steps))
+    let l = c.loop-x.invariant.1 in
+    let x = c.x-item.result in
+    (rest_step (λ ls. frame_there c.args.end 1 0 ls ∷ env_of c.args.around.now ls) c.args.e.now (planned_arms c.args.items.now c.args.names.now (around_of c.args.names.now c.args.around.now)) c.loop-x.e c.arm_tail.new.e (planned_arm x c.args.names.now (around_of c.args.names.now c.args.around.now)) (planned_arms (drop (c.loop-x.x-index + 1) c.args.items.now) c.args.names.now (around_of c.args.names.now c.args.around.now)) (rw e at c.loop-x.invariant.0)
+        (arm_arm x.arm.now.line (env_of c.args.around.now) (value c.args.names.now x.arm.now.line x.arm.now.test) (planned_block x.body c.args.names.now (around_of c.args.names.now c.args.around.now)) c.args.end c.in_ok-next.next c.loop-x.e _ _ _ c.in_ok-next.ensures.base (c.in_ok-next.ensures.done (λ ls. frame_there c.args.end 1 0 ls ∷ env_of c.args.around.now ls)) (rw c.as_slice.ensures at c.in_ok-block.ensures.done) c.in_ok-arm_tail.ensures.done), grind (arith, common_steps))
 
-pub handlers-items-preserved : goal.handlers-items-preserved
-handlers-items-preserved t c =
-    let e = c.in-Some.ensures in
+pub handlers-loop-x-preserved : goal.handlers-loop-x-preserved
+handlers-loop-x-preserved t c =
+    let e = drop_turn c.args.items.now c.loop-x.x-index c.x-item.result c.loop-x-test.true c.x-item.is in
     let w = ap plan_weights_handlers e in
-    let l = c.items.invariant.1 in
-    let x = c.in-Some.x.now in
-    (rest_step (λ ls. frame_there c.args.base 2 c.args.slot ls ∷ env_of c.args.outer.now ls) c.args.e.now (planned_handlers c.args.items.now c.args.names.now (around_of c.args.names.now c.args.outer.now)) c.items.e c.handler_tail.new.e (planned_handler x c.args.names.now (around_of c.args.names.now c.args.outer.now)) (planned_handlers c.in-Some.more.now c.args.names.now (around_of c.args.names.now c.args.outer.now)) (rw e at c.items.invariant.0)
-        (handler_arm c.args.names.now x.handler.now.line (env_of c.args.outer.now) x.handler.now.test x.handler.now.target c.in_ok-next.next (planned_block x.body c.args.names.now (InClause ∷ (around_of c.args.names.now c.args.outer.now))) c.args.base c.args.slot c.items.e _ _ _ c.in_ok-next.ensures.done (rw c.as_slice-body.ensures at c.in_ok-block.ensures.done) c.in_ok-handler_tail.ensures.done), grind (arith, common_steps))
+    let l = c.loop-x.invariant.1 in
+    let x = c.x-item.result in
+    (rest_step (λ ls. frame_there c.args.base 2 c.args.slot ls ∷ env_of c.args.outer.now ls) c.args.e.now (planned_handlers c.args.items.now c.args.names.now (around_of c.args.names.now c.args.outer.now)) c.loop-x.e c.handler_tail.new.e (planned_handler x c.args.names.now (around_of c.args.names.now c.args.outer.now)) (planned_handlers (drop (c.loop-x.x-index + 1) c.args.items.now) c.args.names.now (around_of c.args.names.now c.args.outer.now)) (rw e at c.loop-x.invariant.0)
+        (handler_arm c.args.names.now x.handler.now.line (env_of c.args.outer.now) x.handler.now.test x.handler.now.target c.in_ok-next.next (planned_block x.body c.args.names.now (InClause ∷ (around_of c.args.names.now c.args.outer.now))) c.args.base c.args.slot c.loop-x.e _ _ _ c.in_ok-next.ensures.done (rw c.as_slice-body.ensures at c.in_ok-block.ensures.done) c.in_ok-handler_tail.ensures.done), grind (arith, common_steps))
 
 pub if_else-returns-clause-done : goal.if_else-returns-clause-done
 if_else-returns-clause-done t c =

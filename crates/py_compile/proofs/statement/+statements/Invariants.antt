@@ -1,4 +1,4 @@
-use Rattle.std.proofs.Common.{◌≡◌, ◌≤◌, ◌+◌, ◌∷◌, length}
+use Rattle.std.proofs.Common.{◌≤◌, ◌+◌, ◌∷◌, drop}
 use Rattle.py_compile.specs.State.{frame_there}
 use Rattle.py_compile.specs.Plans.{planned_all, planned_arms, planned_handlers}
 use Rattle.py_compile.specs.Rounds.{around_of, env_of}
@@ -42,20 +42,11 @@ decreases-tried l = 4 + (plan_weights l.body.now + (plan_weights_handlers l.item
 abbrev pub decreases-tried_finally : goal.decreases-tried_finally
 decreases-tried_finally l = 5 + (plan_weights l.inner.now + plan_weights l.last.now) + outside l.around.now
 
-abbrev pub invariant-block-items : goal.invariant-block-items
-invariant-block-items l = Rest (env_of l.around) l.initial.e (planned_all l.items l.names (around_of l.names l.around)) l.e (planned_all l.rest l.names (around_of l.names l.around)) × (plan_weights l.rest ≤ plan_weights l.items)
+abbrev pub invariant-block-loop-x : goal.invariant-block-loop-x
+invariant-block-loop-x l = Rest (env_of l.around) l.initial.e (planned_all l.items l.names (around_of l.names l.around)) l.e (planned_all (drop l.x-index l.items) l.names (around_of l.names l.around)) × (plan_weights (drop l.x-index l.items) ≤ plan_weights l.items)
 
-abbrev pub decreases-block-items : goal.decreases-block-items
-decreases-block-items l = length l.rest
+abbrev pub invariant-arms-loop-x : goal.invariant-arms-loop-x
+invariant-arms-loop-x l = Rest (λ ls. frame_there l.end 1 0 ls ∷ env_of l.around ls) l.initial.e (planned_arms l.items l.names (around_of l.names l.around)) l.e (planned_arms (drop l.x-index l.items) l.names (around_of l.names l.around)) × (plan_weights_arms (drop l.x-index l.items) ≤ plan_weights_arms l.items)
 
-abbrev pub invariant-arms-items : goal.invariant-arms-items
-invariant-arms-items l = Rest (λ ls. frame_there l.end 1 0 ls ∷ env_of l.around ls) l.initial.e (planned_arms l.items l.names (around_of l.names l.around)) l.e (planned_arms l.rest l.names (around_of l.names l.around)) × (plan_weights_arms l.rest ≤ plan_weights_arms l.items)
-
-abbrev pub decreases-arms-items : goal.decreases-arms-items
-decreases-arms-items l = length l.rest
-
-abbrev pub invariant-handlers-items : goal.invariant-handlers-items
-invariant-handlers-items l = Rest (λ ls. frame_there l.base 2 l.slot ls ∷ env_of l.outer ls) l.initial.e (planned_handlers l.items l.names (around_of l.names l.outer)) l.e (planned_handlers l.rest l.names (around_of l.names l.outer)) × (plan_weights_handlers l.rest ≤ plan_weights_handlers l.items)
-
-abbrev pub decreases-handlers-items : goal.decreases-handlers-items
-decreases-handlers-items l = length l.rest
+abbrev pub invariant-handlers-loop-x : goal.invariant-handlers-loop-x
+invariant-handlers-loop-x l = Rest (λ ls. frame_there l.base 2 l.slot ls ∷ env_of l.outer ls) l.initial.e (planned_handlers l.items l.names (around_of l.names l.outer)) l.e (planned_handlers (drop l.x-index l.items) l.names (around_of l.names l.outer)) × (plan_weights_handlers (drop l.x-index l.items) ≤ plan_weights_handlers l.items)
