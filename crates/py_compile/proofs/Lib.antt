@@ -20,6 +20,8 @@ pub mod Compiled
 pub mod Compiling
 pub mod Steps
 pub mod TaskWeights
+pub mod Plans
+pub mod PlanWeights
 pub mod Stateds
 pub mod StmtArms
 pub mod Leaves

@@ -12,15 +12,15 @@ pub size_both : (xs ys : List Part) → size_of (xs ++ ys) ≡ size_of xs + size
 size_both [] ys = omega arith
 size_both (x ∷ xs) ys = let r = size_both xs ys in omega (arith, r)
 
-slots_both : (xs ys : List Part) → slots_of (xs ++ ys) ≡ slots_of xs + slots_of ys
+pub slots_both : (xs ys : List Part) → slots_of (xs ++ ys) ≡ slots_of xs + slots_of ys
 slots_both [] ys = omega arith
 slots_both (x ∷ xs) ys = let r = slots_both xs ys in omega (arith, r)
 
-lines_both : (line : ℕ) (xs ys : List Part) → lines_of line (xs ++ ys) ≡ lines_of line xs ++ lines_of line ys
+pub lines_both : (line : ℕ) (xs ys : List Part) → lines_of line (xs ++ ys) ≡ lines_of line xs ++ lines_of line ys
 lines_both line [] ys = refl
 lines_both line (x ∷ xs) ys = ap (λ z. part_lines line x ++ z) (lines_both line xs ys) ∙ sym (append_assoc (part_lines line x) (lines_of line xs) (lines_of line ys))
 
-code_both : (env : List Frame) (xs ys : List Part) (p k : ℕ) → code_of env (xs ++ ys) p k ≡ code_of env xs p k ++ code_of env ys (p + size_of xs) (k + slots_of xs)
+pub code_both : (env : List Frame) (xs ys : List Part) (p k : ℕ) → code_of env (xs ++ ys) p k ≡ code_of env xs p k ++ code_of env ys (p + size_of xs) (k + slots_of xs)
 code_both env [] ys p k = let e : p ≡ p + 0 = omega arith in let f : k ≡ k + 0 = omega arith in ap (λ z. code_of env ys z k) e ∙ ap (λ z. code_of env ys (p + 0) z) f
 code_both env (x ∷ xs) ys p k =
     let e : p + part_size x + size_of xs ≡ p + (part_size x + size_of xs) = omega arith in

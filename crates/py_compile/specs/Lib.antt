@@ -5,8 +5,10 @@ pub mod Names
 pub mod Expressions
 pub mod Deletions
 pub mod Statements
+pub mod Plans
 pub mod Rounds
 pub mod Weights
+pub mod PlanWeights
 pub mod Partly
 pub mod Heads
 pub mod Compounds

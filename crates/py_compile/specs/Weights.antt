@@ -6,8 +6,6 @@ use Rattle.py_tree.specs.declared.stmt.Clause.{Clause}
 use Rattle.py_tree.specs.declared.stmt.Handler.{Handler}
 use Rattle.py_tree.specs.declared.stmt.Stmt.TheOpen as open'
 use Rattle.py_tree.specs.declared.stmt.Stmt.TheFolds.{fold-Stmt}
-use Rattle.py_compile.specs.declared.around.Around.{Around as Round}
-use Rattle.py_compile.specs.declared.around.Around.TheVariants.{Body, While', For', Try', Clause', Finally'}
 
 abbrev pub total : List ℕ → ℕ
 total [] = 0
@@ -53,12 +51,3 @@ weights_handlers (h ∷ hs) = weights h.body + weights_handlers hs
 abbrev pub weights_some : Option Clause → ℕ
 weights_some None = 0
 weights_some (Some c) = weights c.body
-
--- the finally bodies round a statement, and 1 for each construct
-abbrev pub outside : Round → ℕ
-outside Body = 0
-outside (While' b r o) = 1 + outside o
-outside (For' b r o) = 1 + outside o
-outside (Try' b s r o) = 1 + outside o
-outside (Clause' b s r o) = 1 + outside o
-outside (Finally' b s d f r o) = 2 + weights d.now + outside o

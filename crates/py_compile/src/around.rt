@@ -1,18 +1,18 @@
 //! The constructs round a statement.
 
-use py_tree::Stmt;
+use crate::plan::Plan;
 use sqlite_items::Items;
 
 /// The constructs round a statement, the innermost first: the first label and the hidden slot of each; of a part that a
-/// finally body follows, that body and the number of its first own body.
+/// finally body follows, the plan of that body.
 #[derive(Clone, Copy)]
-pub enum Around<'a> {
+pub enum Around<'s, 'a> {
     Body,
-    While(usize, &'a Around<'a>),
-    For(usize, &'a Around<'a>),
-    Try(usize, u32, &'a Around<'a>),
-    Clause(usize, u32, &'a Around<'a>),
-    Finally(usize, u32, &'a Items<Stmt>, u32, &'a Around<'a>),
+    While(usize, &'s Around<'s, 'a>),
+    For(usize, &'s Around<'s, 'a>),
+    Try(usize, u32, &'s Around<'s, 'a>),
+    Clause(usize, u32, &'s Around<'s, 'a>),
+    Finally(usize, u32, &'s Items<Plan<'a>>, &'s Around<'s, 'a>),
 }
 
 /// The ways out of constructs.

@@ -1,17 +1,16 @@
-//! The bodies of a module, in the order of the text. Blocks are gone through again for each construct that they stand in,
-//! of which there are at most 100.
-ghost use Rattle.std.specs.Prelude.{◌≡◌, ◌+◌, ◌++◌, Err, IfOk, OnOk, length, [], ◌∷◌};
+//! The bodies of a module, in the order of the text, and how many stand in a block.
+ghost use Rattle.std.specs.Prelude.{◌≡◌, ◌+◌, ◌++◌, IfOk, OnOk, length, [], ◌∷◌};
 ghost use Rattle.py_compile.specs.Compounds.{otherwise, tried_of};
 ghost use Rattle.py_compile.specs.Gathered.{numbered};
 ghost use Rattle.py_compile.specs.Statements.{all_stated, armed_count, armed_inner, count, handled_count, handled_inner, stated, stated_arms, stated_block, stated_handlers};
 ghost use Rattle.py_compile.specs.Weights.{weights, weights_some};
 
 use crate::count::to_u32;
-use crate::error::Fault;
 use crate::names::split;
 use py_data::NoMemory;
 use py_tree::{Arm, Clause, Handler, Stmt};
 use sqlite_items::Items;
+use std::alloc::AllocError;
 
 /// The body of a module, a function or a class.
 #[derive(Drop)]
@@ -38,22 +37,20 @@ pub fn clause_body(x: &Option<Clause>) -> &[Stmt]
 }
 
 /// The sum of two counts of bodies. No list in memory is so long that it would not fit.
-pub fn sum(a: u32, b: u32) -> Result<u32, Fault>
-    ensures same { IfOk result (λ n. n ≡ a + b) }
-    ensures small { result ≡ Err Fault.TooLarge → ⊥ }
+pub fn sum(a: u32, b: u32) -> Result<u32, NoMemory>
+    ensures { IfOk result (λ n. n ≡ a + b) }
 {
     match a.checked_add(b) {
         Some(n) => Ok(n),
-        None => Err(Fault::OutOfMemory),
+        None => Err(AllocError),
     }
 }
 
 /// How many bodies stand in a statement.
 #[cycle(counts)]
 #[tactic(auto, using(crate::proofs::Stateds::body_rules))]
-pub fn bodies_in(x: &Stmt) -> Result<u32, Fault>
-    ensures same { IfOk result (λ n. n ≡ (stated x.now).bodies) }
-    ensures small { result ≡ Err Fault.TooLarge → ⊥ }
+fn bodies_in(x: &Stmt) -> Result<u32, NoMemory>
+    ensures { IfOk result (λ n. n ≡ (stated x.now).bodies) }
 {
     match x {
         Stmt::If(arms, other) => {
@@ -109,13 +106,12 @@ pub fn bodies_in(x: &Stmt) -> Result<u32, Fault>
 
 /// How many stand in a `try` without its finally. Without except clauses it has no else.
 #[cycle(counts)]
-pub fn bodies_in_try(
+fn bodies_in_try(
     block: &Clause,
     handlers: &[Handler],
     other: &Option<Clause>,
-) -> Result<u32, Fault>
-    ensures same { IfOk result (λ n. n ≡ (tried_of block.now handlers.now other.now).bodies) }
-    ensures small { result ≡ Err Fault.TooLarge → ⊥ }
+) -> Result<u32, NoMemory>
+    ensures { IfOk result (λ n. n ≡ (tried_of block.now handlers.now other.now).bodies) }
 {
     let a = bodies_in_block(block.body.as_slice())?;
     match split(handlers) {
@@ -132,9 +128,8 @@ pub fn bodies_in_try(
 
 /// How many stand in a block.
 #[cycle(counts)]
-pub fn bodies_in_block(items: &[Stmt]) -> Result<u32, Fault>
-    ensures same { IfOk result (λ n. n ≡ count (all_stated items.now)) }
-    ensures small { result ≡ Err Fault.TooLarge → ⊥ }
+pub fn bodies_in_block(items: &[Stmt]) -> Result<u32, NoMemory>
+    ensures { IfOk result (λ n. n ≡ count (all_stated items.now)) }
 {
     let mut n = 0;
     let mut rest = items;
@@ -148,9 +143,8 @@ pub fn bodies_in_block(items: &[Stmt]) -> Result<u32, Fault>
 
 /// How many stand in the arms of an `if`.
 #[cycle(counts)]
-pub fn bodies_in_arms(items: &[Arm]) -> Result<u32, Fault>
-    ensures same { IfOk result (λ n. n ≡ armed_count (stated_arms items.now)) }
-    ensures small { result ≡ Err Fault.TooLarge → ⊥ }
+fn bodies_in_arms(items: &[Arm]) -> Result<u32, NoMemory>
+    ensures { IfOk result (λ n. n ≡ armed_count (stated_arms items.now)) }
 {
     let mut n = 0;
     let mut rest = items;
@@ -164,9 +158,8 @@ pub fn bodies_in_arms(items: &[Arm]) -> Result<u32, Fault>
 
 /// How many stand in except clauses.
 #[cycle(counts)]
-pub fn bodies_in_handlers(items: &[Handler]) -> Result<u32, Fault>
-    ensures same { IfOk result (λ n. n ≡ handled_count (stated_handlers items.now)) }
-    ensures small { result ≡ Err Fault.TooLarge → ⊥ }
+fn bodies_in_handlers(items: &[Handler]) -> Result<u32, NoMemory>
+    ensures { IfOk result (λ n. n ≡ handled_count (stated_handlers items.now)) }
 {
     let mut n = 0;
     let mut rest = items;

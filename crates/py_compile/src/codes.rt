@@ -17,6 +17,7 @@ use crate::emitter::Emitter;
 use crate::error::{CompileError, Fault, too_large};
 use crate::key_set::KeySet;
 use crate::names::{Names, split};
+use crate::planning;
 use crate::statement::block;
 use crate::tally::Tally;
 use py_code::{Code, Codes, Constant, Instr, KeyLists, Keys, Texts};
@@ -31,7 +32,8 @@ fn emit_inner(e: &mut Emitter, names: &Names, body: &Body, first: u32) -> Result
     ensures done { IfOk result (λ _. Emitted e.old e.new (body_code body.now.line ((stated_block body.now.block.now).code names.now [] first)) no_frames) }
     ensures large { result ≡ Err Fault.TooLarge → 65535 < length e.old.code + (body_code body.now.line ((stated_block body.now.block.now).code names.now [] first)).size }
 {
-    block(e, names, body.block, &Around::Body, first)?;
+    let (plans, _) = planning::block(e.alloc(), body.block, first)?;
+    block(e, names, plans.as_slice(), &Around::Body)?;
     e.put(body.line, Draft::Op(Instr::Const(Constant::None)))?;
     e.put(body.line, Draft::Op(Instr::Return))?;
     Ok(())
@@ -43,7 +45,8 @@ fn emit_module(e: &mut Emitter, names: &Names, body: &Body) -> Result<(), Fault>
     ensures large { result ≡ Err Fault.TooLarge → 65535 < length e.old.code + (module_code body.now.line ((stated_block body.now.block.now).code names.now [] 1)).size }
 {
     e.put(body.line, Draft::Op(Instr::Setup))?;
-    block(e, names, body.block, &Around::Body, 1)?;
+    let (plans, _) = planning::block(e.alloc(), body.block, 1)?;
+    block(e, names, plans.as_slice(), &Around::Body)?;
     e.put(body.line, Draft::Op(Instr::Const(Constant::None)))?;
     e.put(body.line, Draft::Op(Instr::Return))?;
     Ok(())

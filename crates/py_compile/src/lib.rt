@@ -16,6 +16,8 @@ mod home;
 mod key_set;
 mod names;
 mod parts;
+mod plan;
+mod planning;
 mod roots;
 mod simple;
 mod statement;

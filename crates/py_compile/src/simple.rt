@@ -1,5 +1,5 @@
 //! The code of statements that hold no others.
-ghost use Rattle.std.specs.Prelude.{◌≡◌, ◌<◌, ◌+◌, ◌∷◌, [], ℕ, List, Err, IfOk, length, true};
+ghost use Rattle.std.specs.Prelude.{◌≡◌, ◌<◌, ◌+◌, ◌∷◌, [], ℕ, List, Err, IfOk, length, map, true};
 ghost use Rattle.py_code.specs.declared.instr.Constant.TheVariants.{Root};
 ghost use Rattle.py_code.specs.declared.instr.Instr.TheVariants.{Const, JumpFalse, MakeRaised, Not, Raise};
 ghost use Rattle.py_compile.specs.declared.draft.Draft.TheVariants.{Op as DraftOp};
@@ -17,7 +17,7 @@ use crate::emitter::Emitter;
 use crate::error::Fault;
 use crate::expression::expression;
 use crate::names::{Names, split};
-use crate::target::{augment, delete_all, store};
+use crate::target::{augment, delete_one, store};
 use py_code::{Constant, Instr, builtin};
 use py_tree::{Expr, Imported, Operator, Param};
 
@@ -118,12 +118,15 @@ pub fn change(
     augment(e, names, line, x, o, y)
 }
 
-/// `del`.
-pub fn delete(e: &mut Emitter, names: &Names, line: u32, targets: &[Expr]) -> Result<(), Fault>
-    ensures done { IfOk result (λ _. (env : List ℕ → List Frame) → Emitted e.old e.new (deletion line (all_deleted names.now line targets.now)) env) }
-    ensures large { result ≡ Err Fault.TooLarge → 65535 < length e.old.code + (deletion line (all_deleted names.now line targets.now)).size }
+/// `del` of these targets, one by one.
+pub fn delete(e: &mut Emitter, names: &Names, line: u32, items: &[&Expr]) -> Result<(), Fault>
+    ensures done { IfOk result (λ _. (env : List ℕ → List Frame) → Emitted e.old e.new (deletion line (all_deleted names.now line (map (λ x. x.now) items.now))) env) }
+    ensures large { result ≡ Err Fault.TooLarge → 65535 < length e.old.code + (deletion line (all_deleted names.now line (map (λ x. x.now) items.now))).size }
 {
-    delete_all(e, names, line, targets)
+    for x in items {
+        delete_one(e, names, line, *x)?;
+    }
+    Ok(())
 }
 
 /// `print`.

@@ -1,35 +1,33 @@
-//! The code of statements.
+//! The code of statements, from their plans. It is linear in what it emits: each plan has an instruction of its own.
 ghost use Rattle.std.specs.Prelude.{◌≡◌, ◌<◌, ◌+◌, ◌^◌, ◌∷◌, Err, IfOk, length};
 ghost use Rattle.py_code.specs.declared.instr.Instr.TheVariants.{Pop};
 ghost use Rattle.py_compile.specs.declared.draft.Draft.TheVariants.{Op as DraftOp, To as DraftTo};
 ghost use Rattle.py_compile.specs.declared.draft.Far.TheVariants.{Always};
-ghost use Rattle.py_compile.specs.Compounds.{finally_code, for_code, if_code, tried_of, while_code};
 ghost use Rattle.py_compile.specs.Expressions.{value_some};
 ghost use Rattle.py_compile.specs.Names.{Known};
+ghost use Rattle.py_compile.specs.Plans.{for_plan, finally_plan, if_plan, planned, planned_all, planned_arms, planned_block, planned_handlers, simple_stmt, try_plan, while_plan};
 ghost use Rattle.py_compile.specs.Rounds.{around_of, env_of, leaving};
 ghost use Rattle.py_compile.specs.State.{Emitted, frame_there, put};
-ghost use Rattle.py_compile.specs.Statements.{all_stated, armed, armed_count, count, handled, handled_count, pieces, raised, stated, stated_arms, stated_handlers};
+ghost use Rattle.py_compile.specs.Statements.{raised, stated};
 ghost use Rattle.py_compile.specs.Table.{raise_again, return};
 ghost use Rattle.py_compile.specs.Template.{row};
-ghost use Rattle.py_compile.specs.Compounds.{otherwise};
 
 use crate::around::{Around, Way};
-use crate::bodies::{
-    bodies_in, bodies_in_arms, bodies_in_block, bodies_in_handlers, bodies_in_try, clause_body, sum,
-};
 use crate::draft::{Draft, Far};
 use crate::emitter::Emitter;
 use crate::error::Fault;
-use crate::names::{Names, split};
+use crate::names::Names;
 use crate::parts::{
     arm_head, arm_tail, catch, for_head, handler_head, handler_tail, loop_tail, pop_try,
     raise_slot, return_head, return_tail, try_head, while_head,
 };
+use crate::plan::{Plan, PlanArm, PlanHandler, Simple};
 use crate::simple::{
     alone, assert, assign, change, class, def, delete, import, print, raise_made, take_from,
 };
 use py_code::Instr;
-use py_tree::{Arm, Clause, Expr, Handler, Stmt};
+use py_tree::{Arm, Expr};
+use sqlite_items::Items;
 
 /// The exception of the innermost clause again. No resolved tree has a raise alone outside of one.
 fn raise_again(e: &mut Emitter, line: u32, around: &Around) -> Result<(), Fault>
@@ -42,7 +40,7 @@ fn raise_again(e: &mut Emitter, line: u32, around: &Around) -> Result<(), Fault>
         Around::While(_, outer) => raise_again(e, line, outer),
         Around::For(_, outer) => raise_again(e, line, outer),
         Around::Try(_, _, outer) => raise_again(e, line, outer),
-        Around::Finally(_, _, _, _, outer) => raise_again(e, line, outer),
+        Around::Finally(_, _, _, outer) => raise_again(e, line, outer),
     }
 }
 
@@ -130,33 +128,27 @@ fn leave(e: &mut Emitter, names: &Names, line: u32, way: Way, around: &Around) -
             leave(e, names, line, way, outer)
         }
         Around::Clause(_, _, outer) => leave(e, names, line, way, outer),
-        Around::Finally(_, _, last, first, outer) => {
+        Around::Finally(_, _, last, outer) => {
             pop_try(e, line)?;
-            block(e, names, last.as_slice(), outer, *first)?;
+            block(e, names, last.as_slice(), outer)?;
             leave(e, names, line, way, outer)
         }
     }
 }
 
-/// One statement after another, inside these constructs; their own bodies are numbered from that number on.
+/// One plan after another, inside these constructs.
 #[cycle(statements)]
 pub fn block(
     e: &mut Emitter,
     names: &Names,
-    items: &[Stmt],
+    items: &[Plan],
     around: &Around,
-    first: u32,
 ) -> Result<(), Fault>
-    ensures done { IfOk result (λ _. Emitted e.old e.new (row (pieces (all_stated items.now) names.now (around_of names.now around.now) first)) (env_of around.now)) }
-    ensures large { result ≡ Err Fault.TooLarge → 65535 < length e.old.code + (row (pieces (all_stated items.now) names.now (around_of names.now around.now) first)).size }
+    ensures done { IfOk result (λ _. Emitted e.old e.new (planned_block items.now names.now (around_of names.now around.now)) (env_of around.now)) }
+    ensures large { result ≡ Err Fault.TooLarge → 65535 < length e.old.code + (planned_block items.now names.now (around_of names.now around.now)).size }
 {
-    let mut number = first;
-    let mut rest = items;
-    'items: while let Some((x, more)) = split(rest) {
-        statement(e, names, x, around, number)?;
-        let inside = bodies_in(x)?;
-        number = sum(number, inside)?;
-        rest = more;
+    for x in items {
+        statement(e, names, x, around)?;
     }
     Ok(())
 }
@@ -166,19 +158,16 @@ pub fn block(
 fn if_else(
     e: &mut Emitter,
     names: &Names,
-    items: &[Arm],
-    other: &Option<Clause>,
+    items: &[PlanArm],
+    other: &[Plan],
     around: &Around,
-    first: u32,
 ) -> Result<(), Fault>
-    ensures done { IfOk result (λ _. Emitted e.old e.new (if_code names.now (around_of names.now around.now) first items.now other.now) (env_of around.now)) }
-    ensures large { result ≡ Err Fault.TooLarge → 65535 < length e.old.code + (if_code names.now (around_of names.now around.now) first items.now other.now).size }
+    ensures done { IfOk result (λ _. Emitted e.old e.new (if_plan names.now (around_of names.now around.now) items.now other.now) (env_of around.now)) }
+    ensures large { result ≡ Err Fault.TooLarge → 65535 < length e.old.code + (if_plan names.now (around_of names.now around.now) items.now other.now).size }
 {
     let (end, _) = e.begin(1, 0)?;
-    arms(e, names, items, end, around, first)?;
-    let inside = bodies_in_arms(items)?;
-    let number = sum(first, inside)?;
-    block(e, names, clause_body(other), around, number)?;
+    arms(e, names, items, end, around)?;
+    block(e, names, other, around)?;
     e.mark(end);
     Ok(())
 }
@@ -188,23 +177,17 @@ fn if_else(
 fn arms(
     e: &mut Emitter,
     names: &Names,
-    items: &[Arm],
+    items: &[PlanArm],
     end: usize,
     around: &Around,
-    first: u32,
 ) -> Result<(), Fault>
-    ensures done { IfOk result (λ _. Emitted e.old e.new (row (armed (stated_arms items.now) names.now (around_of names.now around.now) first)) (λ ls. frame_there end 1 0 ls ∷ env_of around.now ls)) }
-    ensures large { result ≡ Err Fault.TooLarge → 65535 < length e.old.code + (row (armed (stated_arms items.now) names.now (around_of names.now around.now) first)).size }
+    ensures done { IfOk result (λ _. Emitted e.old e.new (row (planned_arms items.now names.now (around_of names.now around.now))) (λ ls. frame_there end 1 0 ls ∷ env_of around.now ls)) }
+    ensures large { result ≡ Err Fault.TooLarge → 65535 < length e.old.code + (row (planned_arms items.now names.now (around_of names.now around.now))).size }
 {
-    let mut number = first;
-    let mut rest = items;
-    'items: while let Some((x, more)) = split(rest) {
-        let next = arm_head(e, names, x)?;
-        block(e, names, x.body.as_slice(), around, number)?;
-        arm_tail(e, x.line, next, end)?;
-        let inside = bodies_in_block(x.body.as_slice())?;
-        number = sum(number, inside)?;
-        rest = more;
+    for x in items {
+        let next = arm_head(e, names, x.arm)?;
+        block(e, names, x.body.as_slice(), around)?;
+        arm_tail(e, x.arm.line, next, end)?;
     }
     Ok(())
 }
@@ -215,20 +198,17 @@ fn while_loop(
     e: &mut Emitter,
     names: &Names,
     arm: &Arm,
-    other: &Option<Clause>,
+    body: &[Plan],
+    other: &[Plan],
     around: &Around,
-    first: u32,
 ) -> Result<(), Fault>
-    ensures done { IfOk result (λ _. Emitted e.old e.new (while_code names.now (around_of names.now around.now) first arm.now other.now) (env_of around.now)) }
-    ensures large { result ≡ Err Fault.TooLarge → 65535 < length e.old.code + (while_code names.now (around_of names.now around.now) first arm.now other.now).size }
+    ensures done { IfOk result (λ _. Emitted e.old e.new (while_plan names.now (around_of names.now around.now) arm.now body.now other.now) (env_of around.now)) }
+    ensures large { result ≡ Err Fault.TooLarge → 65535 < length e.old.code + (while_plan names.now (around_of names.now around.now) arm.now body.now other.now).size }
 {
     let base = while_head(e, names, arm)?;
-    let body = arm.body.as_slice();
-    block(e, names, body, &Around::While(base, &*around), first)?;
+    block(e, names, body, &Around::While(base, &*around))?;
     loop_tail(e, arm.line, base)?;
-    let inside = bodies_in_block(body)?;
-    let number = sum(first, inside)?;
-    block(e, names, clause_body(other), around, number)?;
+    block(e, names, other, around)?;
     e.mark(base);
     Ok(())
 }
@@ -241,20 +221,17 @@ fn for_loop(
     line: u32,
     target: &Expr,
     x: &Expr,
-    body: &[Stmt],
-    other: &Option<Clause>,
+    body: &[Plan],
+    other: &[Plan],
     around: &Around,
-    first: u32,
 ) -> Result<(), Fault>
-    ensures done { IfOk result (λ _. Emitted e.old e.new (for_code names.now (around_of names.now around.now) first line target.now x.now body.now other.now) (env_of around.now)) }
-    ensures large { result ≡ Err Fault.TooLarge → 65535 < length e.old.code + (for_code names.now (around_of names.now around.now) first line target.now x.now body.now other.now).size }
+    ensures done { IfOk result (λ _. Emitted e.old e.new (for_plan names.now (around_of names.now around.now) line target.now x.now body.now other.now) (env_of around.now)) }
+    ensures large { result ≡ Err Fault.TooLarge → 65535 < length e.old.code + (for_plan names.now (around_of names.now around.now) line target.now x.now body.now other.now).size }
 {
     let base = for_head(e, names, line, target, x)?;
-    block(e, names, body, &Around::For(base, &*around), first)?;
+    block(e, names, body, &Around::For(base, &*around))?;
     loop_tail(e, line, base)?;
-    let inside = bodies_in_block(body)?;
-    let number = sum(first, inside)?;
-    block(e, names, clause_body(other), around, number)?;
+    block(e, names, other, around)?;
     e.mark(base);
     Ok(())
 }
@@ -264,89 +241,68 @@ fn for_loop(
 fn handlers(
     e: &mut Emitter,
     names: &Names,
-    items: &[Handler],
+    items: &[PlanHandler],
     base: usize,
     slot: u32,
     outer: &Around,
-    first: u32,
 ) -> Result<(), Fault>
-    ensures done { IfOk result (λ _. Emitted e.old e.new (row (handled (stated_handlers items.now) names.now (around_of names.now outer.now) first)) (λ ls. frame_there base 2 slot ls ∷ env_of outer.now ls)) }
-    ensures large { result ≡ Err Fault.TooLarge → 65535 < length e.old.code + (row (handled (stated_handlers items.now) names.now (around_of names.now outer.now) first)).size }
+    ensures done { IfOk result (λ _. Emitted e.old e.new (row (planned_handlers items.now names.now (around_of names.now outer.now))) (λ ls. frame_there base 2 slot ls ∷ env_of outer.now ls)) }
+    ensures large { result ≡ Err Fault.TooLarge → 65535 < length e.old.code + (row (planned_handlers items.now names.now (around_of names.now outer.now))).size }
 {
-    let mut number = first;
-    let mut rest = items;
-    'items: while let Some((x, more)) = split(rest) {
-        let next = handler_head(e, names, x, slot)?;
+    for x in items {
+        let next = handler_head(e, names, x.handler, slot)?;
         let body = x.body.as_slice();
-        block(e, names, body, &Around::Clause(base, slot, &*outer), number)?;
-        handler_tail(e, x.line, next, base)?;
-        let inside = bodies_in_block(body)?;
-        number = sum(number, inside)?;
-        rest = more;
+        block(e, names, body, &Around::Clause(base, slot, &*outer))?;
+        handler_tail(e, x.handler.line, next, base)?;
     }
     Ok(())
 }
 
-/// A `try` without its finally. Without except clauses it is its block.
+/// A `try` with except clauses.
 #[cycle(statements)]
 fn tried(
     e: &mut Emitter,
     names: &Names,
-    x: &Clause,
-    items: &[Handler],
-    other: &Option<Clause>,
+    line: u32,
+    body: &[Plan],
+    items: &[PlanHandler],
+    other: &[Plan],
     around: &Around,
-    first: u32,
 ) -> Result<(), Fault>
-    ensures done { IfOk result (λ _. Emitted e.old e.new ((tried_of x.now items.now other.now).code names.now (around_of names.now around.now) first) (env_of around.now)) }
-    ensures large { result ≡ Err Fault.TooLarge → 65535 < length e.old.code + ((tried_of x.now items.now other.now).code names.now (around_of names.now around.now) first).size }
+    ensures done { IfOk result (λ _. Emitted e.old e.new (try_plan names.now (around_of names.now around.now) line body.now items.now other.now) (env_of around.now)) }
+    ensures large { result ≡ Err Fault.TooLarge → 65535 < length e.old.code + (try_plan names.now (around_of names.now around.now) line body.now items.now other.now).size }
 {
-    let body = x.body.as_slice();
-    match split(items) {
-        None => block(e, names, body, around, first),
-        Some(_) => {
-            let (base, slot) = try_head(e, x.line)?;
-            block(e, names, body, &Around::Try(base, slot, &*around), first)?;
-            pop_try(e, x.line)?;
-            let inside = bodies_in_block(body)?;
-            let behind = sum(first, inside)?;
-            let handled = bodies_in_handlers(items)?;
-            let number = sum(behind, handled)?;
-            block(e, names, clause_body(other), around, number)?;
-            catch(e, x.line, base, slot)?;
-            handlers(e, names, items, base, slot, around, behind)?;
-            raise_slot(e, x.line, slot)?;
-            e.mark(base);
-            Ok(())
-        }
-    }
+    let (base, slot) = try_head(e, line)?;
+    block(e, names, body, &Around::Try(base, slot, &*around))?;
+    pop_try(e, line)?;
+    block(e, names, other, around)?;
+    catch(e, line, base, slot)?;
+    handlers(e, names, items, base, slot, around)?;
+    raise_slot(e, line, slot)?;
+    e.mark(base);
+    Ok(())
 }
 
-/// A `try` with its finally.
+/// What a finally body follows, and that body behind it.
 #[cycle(statements)]
 fn tried_finally(
     e: &mut Emitter,
     names: &Names,
-    x: &Clause,
-    items: &[Handler],
-    other: &Option<Clause>,
-    last: &Clause,
+    line: u32,
+    inner: &[Plan],
+    last: &Items<Plan>,
     around: &Around,
-    first: u32,
 ) -> Result<(), Fault>
-    ensures done { IfOk result (λ _. Emitted e.old e.new (finally_code names.now (around_of names.now around.now) first x.now items.now other.now last.now) (env_of around.now)) }
-    ensures large { result ≡ Err Fault.TooLarge → 65535 < length e.old.code + (finally_code names.now (around_of names.now around.now) first x.now items.now other.now last.now).size }
+    ensures done { IfOk result (λ _. Emitted e.old e.new (finally_plan names.now (around_of names.now around.now) line inner.now last.now) (env_of around.now)) }
+    ensures large { result ≡ Err Fault.TooLarge → 65535 < length e.old.code + (finally_plan names.now (around_of names.now around.now) line inner.now last.now).size }
 {
-    let inside = bodies_in_try(x, items, other)?;
-    let number = sum(first, inside)?;
-    let (base, slot) = try_head(e, x.line)?;
-    let inner = Around::Finally(base, slot, &last.body, number, &*around);
-    tried(e, names, x, items, other, &inner, first)?;
-    pop_try(e, x.line)?;
-    block(e, names, last.body.as_slice(), around, number)?;
-    catch(e, x.line, base, slot)?;
-    block(e, names, last.body.as_slice(), around, number)?;
-    raise_slot(e, x.line, slot)?;
+    let (base, slot) = try_head(e, line)?;
+    block(e, names, inner, &Around::Finally(base, slot, last, &*around))?;
+    pop_try(e, line)?;
+    block(e, names, last.as_slice(), around)?;
+    catch(e, line, base, slot)?;
+    block(e, names, last.as_slice(), around)?;
+    raise_slot(e, line, slot)?;
     e.mark(base);
     Ok(())
 }
@@ -369,46 +325,56 @@ fn returned(
     Ok(())
 }
 
-/// The code of a statement.
+/// A statement without blocks, but for `del`.
 #[cycle(statements)]
-fn statement(
-    e: &mut Emitter,
-    names: &Names,
-    s: &Stmt,
-    around: &Around,
-    first: u32,
-) -> Result<(), Fault>
-    ensures done { IfOk result (λ _. Emitted e.old e.new ((stated s.now).code names.now (around_of names.now around.now) first) (env_of around.now)) }
-    ensures large { result ≡ Err Fault.TooLarge → 65535 < length e.old.code + ((stated s.now).code names.now (around_of names.now around.now) first).size }
+fn simple(e: &mut Emitter, names: &Names, s: Simple, around: &Around) -> Result<(), Fault>
+    ensures done { IfOk result (λ _. Emitted e.old e.new ((stated (simple_stmt s.entry)).code names.now (around_of names.now around.now) 0) (env_of around.now)) }
+    ensures large { result ≡ Err Fault.TooLarge → 65535 < length e.old.code + ((stated (simple_stmt s.entry)).code names.now (around_of names.now around.now) 0).size }
 {
     match s {
-        Stmt::Do(line, x) => alone(e, names, *line, x),
-        Stmt::Assign(line, targets, x) => assign(e, names, *line, targets.as_slice(), x),
-        Stmt::Augment(line, x, o, y) => change(e, names, *line, x, *o, y),
-        Stmt::Print(line, items, comma) => print(e, names, *line, items.as_slice(), *comma),
-        Stmt::Pass(_) => Ok(()),
-        Stmt::Break(line) => leave(e, names, *line, Way::Break, around),
-        Stmt::Continue(line) => leave(e, names, *line, Way::Continue, around),
-        Stmt::Return(line, x) => returned(e, names, *line, x, around),
-        Stmt::Raise(line, x, v) => raise(e, names, *line, x, v, around),
-        Stmt::Del(line, targets) => delete(e, names, *line, targets.as_slice()),
-        Stmt::Global(_, _) => Ok(()),
-        Stmt::Assert(line, x, message) => assert(e, names, *line, x, message),
-        Stmt::Import(line, items) => import(e, names, *line, items.as_slice()),
-        Stmt::From(line, _, items) => take_from(e, names, *line, items.as_slice()),
-        Stmt::If(items, other) => if_else(e, names, items.as_slice(), other, around, first),
-        Stmt::While(arm, other) => while_loop(e, names, arm, other, around, first),
-        Stmt::For(line, target, x, body, other) => {
+        Simple::Do(line, x) => alone(e, names, line, x),
+        Simple::Assign(line, targets, x) => assign(e, names, line, targets.as_slice(), x),
+        Simple::Augment(line, x, o, y) => change(e, names, line, x, o, y),
+        Simple::Print(line, items, comma) => print(e, names, line, items.as_slice(), comma),
+        Simple::Break(line) => leave(e, names, line, Way::Break, around),
+        Simple::Continue(line) => leave(e, names, line, Way::Continue, around),
+        Simple::Return(line, x) => returned(e, names, line, x, around),
+        Simple::Raise(line, x, v) => raise(e, names, line, x, v, around),
+        Simple::Assert(line, x, message) => assert(e, names, line, x, message),
+        Simple::Import(line, items) => import(e, names, line, items.as_slice()),
+        Simple::From(line, _, items) => take_from(e, names, line, items.as_slice()),
+    }
+}
+
+/// The code of a plan.
+#[cycle(statements)]
+fn statement(e: &mut Emitter, names: &Names, p: &Plan, around: &Around) -> Result<(), Fault>
+    ensures done { IfOk result (λ _. Emitted e.old e.new (planned p.now names.now (around_of names.now around.now)) (env_of around.now)) }
+    ensures large { result ≡ Err Fault.TooLarge → 65535 < length e.old.code + (planned p.now names.now (around_of names.now around.now)).size }
+{
+    match p {
+        Plan::Simple(s) => simple(e, names, *s, around),
+        Plan::Delete(line, items) => delete(e, names, *line, items.as_slice()),
+        Plan::Def(line, name, params, number) => {
+            def(e, names, *line, name.as_slice(), *params, *number)
+        }
+        Plan::Class(line, name, x, number) => {
+            class(e, names, *line, name.as_slice(), *x, *number)
+        }
+        Plan::If(items, other) => if_else(e, names, items.as_slice(), other.as_slice(), around),
+        Plan::While(arm, body, other) => {
+            while_loop(e, names, *arm, body.as_slice(), other.as_slice(), around)
+        }
+        Plan::For(line, target, x, body, other) => {
             let body = body.as_slice();
-            for_loop(e, names, *line, target, x, body, other, around, first)
+            for_loop(e, names, *line, *target, *x, body, other.as_slice(), around)
         }
-        Stmt::Try(x, items, other, last) => match last {
-            None => tried(e, names, x, items.as_slice(), other, around, first),
-            Some(fin) => { tried_finally(e, names, x, items.as_slice(), other, fin, around, first) }
-        },
-        Stmt::Def(line, name, params, _) => {
-            def(e, names, *line, name.as_slice(), params.as_slice(), first)
+        Plan::Try(line, body, items, other) => {
+            let body = body.as_slice();
+            tried(e, names, *line, body, items.as_slice(), other.as_slice(), around)
         }
-        Stmt::Class(line, name, x, _) => class(e, names, *line, name.as_slice(), x, first),
+        Plan::Finally(line, inner, last) => {
+            tried_finally(e, names, *line, inner.as_slice(), last, around)
+        }
     }
 }

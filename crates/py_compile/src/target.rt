@@ -2,12 +2,11 @@
 
 ghost use Rattle.std.specs.Prelude.{◌≡◌, ◌<◌, ◌+◌, ◌∷◌, ◌++◌, [], Err, IfOk, MatchOption, length};
 ghost use Rattle.py_code.specs.declared.instr.Instr.TheVariants.{Dup, Dup2, InPlace, LoadAttr, LoadItem, Rot2, Rot3, StoreAttr, StoreItem, Unpack};
-ghost use Rattle.py_compile.specs.Expressions.{add_at, all_deleted, coded, operator, stored, value};
+ghost use Rattle.py_compile.specs.Expressions.{add_at, coded, deleted, operator, stored, value};
 ghost use Rattle.py_compile.specs.Names.{Known};
 ghost use Rattle.py_compile.specs.State.{Emitted, no_frames};
 ghost use Rattle.py_compile.specs.Tasks.{Augment, Behind, Delete, Deletes, Op, Store, Stores, Value};
 ghost use Rattle.py_compile.specs.TaskWeights.{Splits};
-ghost use Rattle.py_compile.specs.Template.{row};
 ghost use Rattle.py_tree.specs.declared.expr.Expr.TheVariants.{Trail};
 
 use crate::count::to_u32;
@@ -34,12 +33,12 @@ pub fn store(e: &mut Emitter, names: &Names, line: u32, x: &Expr) -> Result<(), 
     run(e, names, line, Task::Store(x))
 }
 
-/// The deletions of targets in turn.
-pub fn delete_all(e: &mut Emitter, names: &Names, line: u32, items: &[Expr]) -> Result<(), Fault>
-    ensures done { IfOk result (λ _. Emitted e.old e.new (row (all_deleted names.now line items.now)) no_frames) }
-    ensures large { result ≡ Err Fault.TooLarge → 65535 < length e.old.code + (row (all_deleted names.now line items.now)).size }
+/// The deletion of a target.
+pub fn delete_one(e: &mut Emitter, names: &Names, line: u32, x: &Expr) -> Result<(), Fault>
+    ensures done { IfOk result (λ _. Emitted e.old e.new (deleted names.now line x.now) no_frames) }
+    ensures large { result ≡ Err Fault.TooLarge → 65535 < length e.old.code + (deleted names.now line x.now).size }
 {
-    run(e, names, line, Task::Deletes(items))
+    run(e, names, line, Task::Delete(x))
 }
 
 /// `x += y` and the others.

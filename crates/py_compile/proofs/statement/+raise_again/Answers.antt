@@ -1,6 +1,6 @@
 use Rattle.py_compile.specs.Rounds.{around_of, env_of}
 use Rattle.py_compile.proofs.Leaves.{ok_map, raise_while, raise_for, raise_try, raise_finally}
-use Rattle.py_compile.specs.Statements.{stated_block}
+use Rattle.py_compile.specs.Plans.{planned_block}
 use Rattle.py_compile.proofs.statement.+raise_again.Goals as goal
 
 pub returns-in-While-clause-done : goal.returns-in-While-clause-done
@@ -13,4 +13,4 @@ pub returns-in-Try-clause-done : goal.returns-in-Try-clause-done
 returns-in-Try-clause-done t c = rw c.in-Try.is (ok_map c.raise_again-in-Try.result c.raise_again-in-Try.ensures.done (λ u h n. raise_try c.args.line (env_of c.in-Try.outer.now) (around_of n c.in-Try.outer.now) c.in-Try.field-0 c.in-Try.field-1 c.args.e.now _ (h n)))
 
 pub returns-in-Finally-clause-done : goal.returns-in-Finally-clause-done
-returns-in-Finally-clause-done t c = rw c.in-Finally.is (ok_map c.raise_again-in-Finally.result c.raise_again-in-Finally.ensures.done (λ u h n. raise_finally c.args.line (env_of c.in-Finally.outer.now) (around_of n c.in-Finally.outer.now) ((stated_block c.in-Finally.field-2.now).code n (around_of n c.in-Finally.outer.now) c.in-Finally.field-3) c.in-Finally.field-0 c.in-Finally.field-1 c.args.e.now _ (h n)))
+returns-in-Finally-clause-done t c = rw c.in-Finally.is (ok_map c.raise_again-in-Finally.result c.raise_again-in-Finally.ensures.done (λ u h n. raise_finally c.args.line (env_of c.in-Finally.outer.now) (around_of n c.in-Finally.outer.now) (planned_block c.in-Finally.field-2.now n (around_of n c.in-Finally.outer.now)) c.in-Finally.field-0 c.in-Finally.field-1 c.args.e.now _ (h n)))
