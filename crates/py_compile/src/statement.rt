@@ -138,11 +138,11 @@ fn leave(e: &mut Emitter, names: &Names, line: u32, way: Way, around: &Around) -
 
 /// One plan after another, inside these constructs.
 #[cycle(statements)]
-pub fn block(
+pub fn block<'a>(
     e: &mut Emitter,
     names: &Names,
-    items: &[Plan],
-    around: &Around,
+    items: &[Plan<'a>],
+    around: &Around<'_, 'a>,
 ) -> Result<(), Fault>
     ensures done { IfOk result (λ _. Emitted e.old e.new (planned_block items.now names.now (around_of names.now around.now)) (env_of around.now)) }
     ensures large { result ≡ Err Fault.TooLarge → 65535 < length e.old.code + (planned_block items.now names.now (around_of names.now around.now)).size }
@@ -155,12 +155,12 @@ pub fn block(
 
 /// An `if` with its other arms.
 #[cycle(statements)]
-fn if_else(
+fn if_else<'a>(
     e: &mut Emitter,
     names: &Names,
-    items: &[PlanArm],
-    other: &[Plan],
-    around: &Around,
+    items: &[PlanArm<'a>],
+    other: &[Plan<'a>],
+    around: &Around<'_, 'a>,
 ) -> Result<(), Fault>
     ensures done { IfOk result (λ _. Emitted e.old e.new (if_plan names.now (around_of names.now around.now) items.now other.now) (env_of around.now)) }
     ensures large { result ≡ Err Fault.TooLarge → 65535 < length e.old.code + (if_plan names.now (around_of names.now around.now) items.now other.now).size }
@@ -174,12 +174,12 @@ fn if_else(
 
 /// The arms of an `if`, whose end is that label.
 #[cycle(statements)]
-fn arms(
+fn arms<'a>(
     e: &mut Emitter,
     names: &Names,
-    items: &[PlanArm],
+    items: &[PlanArm<'a>],
     end: usize,
-    around: &Around,
+    around: &Around<'_, 'a>,
 ) -> Result<(), Fault>
     ensures done { IfOk result (λ _. Emitted e.old e.new (row (planned_arms items.now names.now (around_of names.now around.now))) (λ ls. frame_there end 1 0 ls ∷ env_of around.now ls)) }
     ensures large { result ≡ Err Fault.TooLarge → 65535 < length e.old.code + (row (planned_arms items.now names.now (around_of names.now around.now))).size }
@@ -194,13 +194,13 @@ fn arms(
 
 /// A `while`.
 #[cycle(statements)]
-fn while_loop(
+fn while_loop<'a>(
     e: &mut Emitter,
     names: &Names,
     arm: &Arm,
-    body: &[Plan],
-    other: &[Plan],
-    around: &Around,
+    body: &[Plan<'a>],
+    other: &[Plan<'a>],
+    around: &Around<'_, 'a>,
 ) -> Result<(), Fault>
     ensures done { IfOk result (λ _. Emitted e.old e.new (while_plan names.now (around_of names.now around.now) arm.now body.now other.now) (env_of around.now)) }
     ensures large { result ≡ Err Fault.TooLarge → 65535 < length e.old.code + (while_plan names.now (around_of names.now around.now) arm.now body.now other.now).size }
@@ -215,15 +215,15 @@ fn while_loop(
 
 /// A `for`.
 #[cycle(statements)]
-fn for_loop(
+fn for_loop<'a>(
     e: &mut Emitter,
     names: &Names,
     line: u32,
     target: &Expr,
     x: &Expr,
-    body: &[Plan],
-    other: &[Plan],
-    around: &Around,
+    body: &[Plan<'a>],
+    other: &[Plan<'a>],
+    around: &Around<'_, 'a>,
 ) -> Result<(), Fault>
     ensures done { IfOk result (λ _. Emitted e.old e.new (for_plan names.now (around_of names.now around.now) line target.now x.now body.now other.now) (env_of around.now)) }
     ensures large { result ≡ Err Fault.TooLarge → 65535 < length e.old.code + (for_plan names.now (around_of names.now around.now) line target.now x.now body.now other.now).size }
@@ -238,13 +238,13 @@ fn for_loop(
 
 /// The except clauses of a `try` with that first label and that hidden slot.
 #[cycle(statements)]
-fn handlers(
+fn handlers<'a>(
     e: &mut Emitter,
     names: &Names,
-    items: &[PlanHandler],
+    items: &[PlanHandler<'a>],
     base: usize,
     slot: u32,
-    outer: &Around,
+    outer: &Around<'_, 'a>,
 ) -> Result<(), Fault>
     ensures done { IfOk result (λ _. Emitted e.old e.new (row (planned_handlers items.now names.now (around_of names.now outer.now))) (λ ls. frame_there base 2 slot ls ∷ env_of outer.now ls)) }
     ensures large { result ≡ Err Fault.TooLarge → 65535 < length e.old.code + (row (planned_handlers items.now names.now (around_of names.now outer.now))).size }
@@ -260,14 +260,14 @@ fn handlers(
 
 /// A `try` with except clauses.
 #[cycle(statements)]
-fn tried(
+fn tried<'a>(
     e: &mut Emitter,
     names: &Names,
     line: u32,
-    body: &[Plan],
-    items: &[PlanHandler],
-    other: &[Plan],
-    around: &Around,
+    body: &[Plan<'a>],
+    items: &[PlanHandler<'a>],
+    other: &[Plan<'a>],
+    around: &Around<'_, 'a>,
 ) -> Result<(), Fault>
     ensures done { IfOk result (λ _. Emitted e.old e.new (try_plan names.now (around_of names.now around.now) line body.now items.now other.now) (env_of around.now)) }
     ensures large { result ≡ Err Fault.TooLarge → 65535 < length e.old.code + (try_plan names.now (around_of names.now around.now) line body.now items.now other.now).size }
@@ -285,13 +285,13 @@ fn tried(
 
 /// What a finally body follows, and that body behind it.
 #[cycle(statements)]
-fn tried_finally(
+fn tried_finally<'a>(
     e: &mut Emitter,
     names: &Names,
     line: u32,
-    inner: &[Plan],
-    last: &Items<Plan>,
-    around: &Around,
+    inner: &[Plan<'a>],
+    last: &Items<Plan<'a>>,
+    around: &Around<'_, 'a>,
 ) -> Result<(), Fault>
     ensures done { IfOk result (λ _. Emitted e.old e.new (finally_plan names.now (around_of names.now around.now) line inner.now last.now) (env_of around.now)) }
     ensures large { result ≡ Err Fault.TooLarge → 65535 < length e.old.code + (finally_plan names.now (around_of names.now around.now) line inner.now last.now).size }
@@ -348,7 +348,7 @@ fn simple(e: &mut Emitter, names: &Names, s: Simple, around: &Around) -> Result<
 
 /// The code of a plan.
 #[cycle(statements)]
-fn statement(e: &mut Emitter, names: &Names, p: &Plan, around: &Around) -> Result<(), Fault>
+fn statement<'a>(e: &mut Emitter, names: &Names, p: &Plan<'a>, around: &Around<'_, 'a>) -> Result<(), Fault>
     ensures done { IfOk result (λ _. Emitted e.old e.new (planned p.now names.now (around_of names.now around.now)) (env_of around.now)) }
     ensures large { result ≡ Err Fault.TooLarge → 65535 < length e.old.code + (planned p.now names.now (around_of names.now around.now)).size }
 {
