@@ -140,10 +140,10 @@ module _ (locals : ℕ → List (List ℕ)) (Rel : Stated → Uses → Legal →
 
   -- A relation of each statement's layer, of blocks, arms and except clauses holds of every statement.
   module _
-    (layer : (y : LayerWith) → IsLayer y)
-    (of_block : (ss : List Stated) (vs : List Uses) (gs : List Legal) → Related Rel ss vs gs → Rel (block ss) (all_in_turn vs) (all_legal gs))
-    (of_arm : (ln : ℕ) (t : Expr) (ss : List Stated) (vs : List Uses) (gs : List Legal) → Related Rel ss vs gs → ArmRel (record { line = ln; test = t; block = block ss }) (in_turn (quiet (λ b. read b t)) (all_in_turn vs)) (both (always (sane t)) (all_legal gs)))
-    (of_handler : (ln : ℕ) (e t : Option Expr) (ss : List Stated) (vs : List Uses) (gs : List Legal) → Related Rel ss vs gs → HandlerRel (record { line = ln; test = e; target = t; block = block ss }) (in_turn (quiet (λ b. read_some b e ++ target_some b t)) (all_in_turn vs)) (both (always (sane_some e && lg.target_some t)) (all_legal gs))) where
+      (layer : (y : LayerWith) → IsLayer y)
+      (of_block : (ss : List Stated) (vs : List Uses) (gs : List Legal) → Related Rel ss vs gs → Rel (block ss) (all_in_turn vs) (all_legal gs))
+      (of_arm : (ln : ℕ) (t : Expr) (ss : List Stated) (vs : List Uses) (gs : List Legal) → Related Rel ss vs gs → ArmRel (record { line = ln; test = t; block = block ss }) (in_turn (quiet (λ b. read b t)) (all_in_turn vs)) (both (always (sane t)) (all_legal gs)))
+      (of_handler : (ln : ℕ) (e t : Option Expr) (ss : List Stated) (vs : List Uses) (gs : List Legal) → Related Rel ss vs gs → HandlerRel (record { line = ln; test = e; target = t; block = block ss }) (in_turn (quiet (λ b. read_some b e ++ target_some b t)) (all_in_turn vs)) (both (always (sane_some e && lg.target_some t)) (all_legal gs))) where
     parts : (ys : List StmtWith) → Related Rel (map stated (map (λ y. y.0) ys)) (map (stmt_uses locals) (map (λ y. y.0) ys)) (map legal (map (λ y. y.0) ys))
     parts ys = related_of Rel stated (stmt_uses locals) legal ys
 
