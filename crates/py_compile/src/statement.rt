@@ -297,7 +297,12 @@ fn tried_finally<'a>(
     ensures large { result ≡ Err Fault.TooLarge → 65535 < length e.old.code + (finally_plan names.now (around_of names.now around.now) line inner.now last.now).size }
 {
     let (base, slot) = try_head(e, line)?;
-    block(e, names, inner, &Around::Finally(base, slot, last, &*around))?;
+    block(
+        e,
+        names,
+        inner,
+        &Around::Finally(base, slot, last, &*around),
+    )?;
     pop_try(e, line)?;
     block(e, names, last.as_slice(), around)?;
     catch(e, line, base, slot)?;
@@ -348,7 +353,12 @@ fn simple(e: &mut Emitter, names: &Names, s: Simple, around: &Around) -> Result<
 
 /// The code of a plan.
 #[cycle(statements)]
-fn statement<'a>(e: &mut Emitter, names: &Names, p: &Plan<'a>, around: &Around<'_, 'a>) -> Result<(), Fault>
+fn statement<'a>(
+    e: &mut Emitter,
+    names: &Names,
+    p: &Plan<'a>,
+    around: &Around<'_, 'a>,
+) -> Result<(), Fault>
     ensures done { IfOk result (λ _. Emitted e.old e.new (planned p.now names.now (around_of names.now around.now)) (env_of around.now)) }
     ensures large { result ≡ Err Fault.TooLarge → 65535 < length e.old.code + (planned p.now names.now (around_of names.now around.now)).size }
 {
@@ -371,7 +381,15 @@ fn statement<'a>(e: &mut Emitter, names: &Names, p: &Plan<'a>, around: &Around<'
         }
         Plan::Try(line, body, items, other) => {
             let body = body.as_slice();
-            tried(e, names, *line, body, items.as_slice(), other.as_slice(), around)
+            tried(
+                e,
+                names,
+                *line,
+                body,
+                items.as_slice(),
+                other.as_slice(),
+                around,
+            )
         }
         Plan::Finally(line, inner, last) => {
             tried_finally(e, names, *line, inner.as_slice(), last, around)

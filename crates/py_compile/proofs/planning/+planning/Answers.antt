@@ -52,11 +52,11 @@ for_loop-returns-clause-plans t c =
 pub tried-returns-in_ok-push-in-Some-clause-plans : goal.tried-returns-in_ok-push-in-Some-clause-plans
 tried-returns-in_ok-push-in-Some-clause-plans t c =
     add_plan c.args.out.now _ _ (λ n d. (tried_of c.args.x.now c.args.items.now c.args.other.now).code n d c.args.first) c.in_ok-push-in-Some.ensures.ok (λ n d.
-      try_plans n d c.args.x.now.line _ _ _ ((stated_block c.args.x.now.body).code n (InTry ∷ d) c.args.first) (handled (stated_handlers c.args.items.now) n d (c.args.first + count (all_stated c.args.x.now.body))) ((otherwise c.args.other.now).code n d (c.args.first + count (all_stated c.args.x.now.body) + handled_count (stated_handlers c.args.items.now)))
-        (rw c.as_slice-in-Some.ensures at (c.in_ok-body-in-Some.ensures.plans n (InTry ∷ d)))
-        (rw (c.in_ok-body-in-Some.ensures.number, c.as_slice-in-Some.ensures) at (c.in_ok-clauses-in-Some.ensures.plans n d))
-        (other_code n d (otherwise c.args.other.now) (stated_block c.clause_body.result.now) _ _ _ c.clause_body.ensures.same (rw (c.in_ok-body-in-Some.ensures.number, c.as_slice-in-Some.ensures) at c.in_ok-clauses-in-Some.ensures.number) (c.in_ok-otherwise-in-Some.ensures.plans n d))
-      ∙ sym (k.try_code c.args.x.now c.args.items.now c.in-Some.field-0.0.now c.in-Some.field-0.1.now c.args.other.now n d c.args.first c.in-Some.ensures))
+    try_plans n d c.args.x.now.line _ _ _ ((stated_block c.args.x.now.body).code n (InTry ∷ d) c.args.first) (handled (stated_handlers c.args.items.now) n d (c.args.first + count (all_stated c.args.x.now.body))) ((otherwise c.args.other.now).code n d (c.args.first + count (all_stated c.args.x.now.body) + handled_count (stated_handlers c.args.items.now)))
+    (rw c.as_slice-in-Some.ensures at (c.in_ok-body-in-Some.ensures.plans n (InTry ∷ d)))
+    (rw (c.in_ok-body-in-Some.ensures.number, c.as_slice-in-Some.ensures) at (c.in_ok-clauses-in-Some.ensures.plans n d))
+    (other_code n d (otherwise c.args.other.now) (stated_block c.clause_body.result.now) _ _ _ c.clause_body.ensures.same (rw (c.in_ok-body-in-Some.ensures.number, c.as_slice-in-Some.ensures) at c.in_ok-clauses-in-Some.ensures.number) (c.in_ok-otherwise-in-Some.ensures.plans n d))
+    ∙ sym (k.try_code c.args.x.now c.args.items.now c.in-Some.field-0.0.now c.in-Some.field-0.1.now c.args.other.now n d c.args.first c.in-Some.ensures))
 
 pub tried_finally-returns-clause-plans : goal.tried_finally-returns-clause-plans
 tried_finally-returns-clause-plans t c =

@@ -26,18 +26,22 @@ arms-loop-x-preserved t c =
     let e = drop_turn c.args.items.now c.loop-x.x-index c.x-item.result c.loop-x-test.true c.x-item.is in
     let w = ap plan_weights_arms e in
     let l = c.loop-x.invariant.1 in
-    let x = c.x-item.result in
-    (rest_step (λ ls. frame_there c.args.end 1 0 ls ∷ env_of c.args.around.now ls) c.args.e.now (planned_arms c.args.items.now c.args.names.now (around_of c.args.names.now c.args.around.now)) c.loop-x.e c.arm_tail.new.e (planned_arm x c.args.names.now (around_of c.args.names.now c.args.around.now)) (planned_arms (drop (c.loop-x.x-index + 1) c.args.items.now) c.args.names.now (around_of c.args.names.now c.args.around.now)) (rw e at c.loop-x.invariant.0)
-        (arm_arm x.arm.now.line (env_of c.args.around.now) (value c.args.names.now x.arm.now.line x.arm.now.test) (planned_block x.body c.args.names.now (around_of c.args.names.now c.args.around.now)) c.args.end c.in_ok-next.next c.loop-x.e _ _ _ c.in_ok-next.ensures.base (c.in_ok-next.ensures.done (λ ls. frame_there c.args.end 1 0 ls ∷ env_of c.args.around.now ls)) (rw c.as_slice.ensures at c.in_ok-block.ensures.done) c.in_ok-arm_tail.ensures.done), grind (arith, common_steps))
+    let x = c.x-item.result in (
+      rest_step (λ ls. frame_there c.args.end 1 0 ls ∷ env_of c.args.around.now ls) c.args.e.now (planned_arms c.args.items.now c.args.names.now (around_of c.args.names.now c.args.around.now)) c.loop-x.e c.arm_tail.new.e (planned_arm x c.args.names.now (around_of c.args.names.now c.args.around.now)) (planned_arms (drop (c.loop-x.x-index + 1) c.args.items.now) c.args.names.now (around_of c.args.names.now c.args.around.now)) (rw e at c.loop-x.invariant.0)
+          (arm_arm x.arm.now.line (env_of c.args.around.now) (value c.args.names.now x.arm.now.line x.arm.now.test) (planned_block x.body c.args.names.now (around_of c.args.names.now c.args.around.now)) c.args.end c.in_ok-next.next c.loop-x.e _ _ _ c.in_ok-next.ensures.base (c.in_ok-next.ensures.done (λ ls. frame_there c.args.end 1 0 ls ∷ env_of c.args.around.now ls)) (rw c.as_slice.ensures at c.in_ok-block.ensures.done) c.in_ok-arm_tail.ensures.done),
+      grind (arith, common_steps),
+    )
 
 pub handlers-loop-x-preserved : goal.handlers-loop-x-preserved
 handlers-loop-x-preserved t c =
     let e = drop_turn c.args.items.now c.loop-x.x-index c.x-item.result c.loop-x-test.true c.x-item.is in
     let w = ap plan_weights_handlers e in
     let l = c.loop-x.invariant.1 in
-    let x = c.x-item.result in
-    (rest_step (λ ls. frame_there c.args.base 2 c.args.slot ls ∷ env_of c.args.outer.now ls) c.args.e.now (planned_handlers c.args.items.now c.args.names.now (around_of c.args.names.now c.args.outer.now)) c.loop-x.e c.handler_tail.new.e (planned_handler x c.args.names.now (around_of c.args.names.now c.args.outer.now)) (planned_handlers (drop (c.loop-x.x-index + 1) c.args.items.now) c.args.names.now (around_of c.args.names.now c.args.outer.now)) (rw e at c.loop-x.invariant.0)
-        (handler_arm c.args.names.now x.handler.now.line (env_of c.args.outer.now) x.handler.now.test x.handler.now.target c.in_ok-next.next (planned_block x.body c.args.names.now (InClause ∷ (around_of c.args.names.now c.args.outer.now))) c.args.base c.args.slot c.loop-x.e _ _ _ c.in_ok-next.ensures.done (rw c.as_slice-body.ensures at c.in_ok-block.ensures.done) c.in_ok-handler_tail.ensures.done), grind (arith, common_steps))
+    let x = c.x-item.result in (
+      rest_step (λ ls. frame_there c.args.base 2 c.args.slot ls ∷ env_of c.args.outer.now ls) c.args.e.now (planned_handlers c.args.items.now c.args.names.now (around_of c.args.names.now c.args.outer.now)) c.loop-x.e c.handler_tail.new.e (planned_handler x c.args.names.now (around_of c.args.names.now c.args.outer.now)) (planned_handlers (drop (c.loop-x.x-index + 1) c.args.items.now) c.args.names.now (around_of c.args.names.now c.args.outer.now)) (rw e at c.loop-x.invariant.0)
+          (handler_arm c.args.names.now x.handler.now.line (env_of c.args.outer.now) x.handler.now.test x.handler.now.target c.in_ok-next.next (planned_block x.body c.args.names.now (InClause ∷ (around_of c.args.names.now c.args.outer.now))) c.args.base c.args.slot c.loop-x.e _ _ _ c.in_ok-next.ensures.done (rw c.as_slice-body.ensures at c.in_ok-block.ensures.done) c.in_ok-handler_tail.ensures.done),
+      grind (arith, common_steps),
+    )
 
 pub if_else-returns-clause-done : goal.if_else-returns-clause-done
 if_else-returns-clause-done t c =
