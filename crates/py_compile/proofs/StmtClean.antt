@@ -18,7 +18,7 @@ use Rattle.py_names.specs.Outline.{has, is_none}
 use Rattle.py_compile.specs.Expressions.{coded, add_at, operator, value, values, value_some, stored, all_stored, all_deleted}
 use Rattle.py_compile.specs.Uses.{Use, Inside, Uses, quiet, in_turn, none_used, all_in_turn, body_used, name_bound, read, target, read_all, target_all, read_some, target_some, read_defaults, stmt_uses}
 use Rattle.py_compile.specs.Statements.{Body, Stated, Armed, Claused, Handled, still, block, count, pieces, inners, armed, armed_count, armed_inner, handled, handled_count, handled_inner, clause, tried, finally, inner_body, base, default_or, defaults, stores_before, last_target, assigned, printed, raised, asserted, imported, taken_from, deletion, bound_name, stated, all_stated}
-use Rattle.py_compile.proofs.Legal.{Legal, always, both, all_legal, legal_or, has_clause, legal, legal_by_arm, legal_by_clause, legal_by_handler}
+use Rattle.py_compile.proofs.Legal.{Legal, always, both, all_legal, has_clause, legal, legal_by_arm, legal_by_clause, legal_by_handler}
 use Rattle.py_compile.proofs.Legal as lg
 use Rattle.py_compile.proofs.Sane.{sane, sane_some}
 use Rattle.py_compile.proofs.ExprInduct.{Every, every_front, every_back, every_join}

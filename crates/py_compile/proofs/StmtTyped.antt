@@ -15,7 +15,7 @@ use Rattle.py_compile.specs.Uses.{Use, Inside, Uses, quiet, in_turn, none_used, 
 use Rattle.py_compile.specs.Statements.{Body, Stated, Armed, Claused, Handled, still, block, count, pieces, inners, armed, armed_count, armed_inner, handled, handled_count, handled_inner, clause, tried, finally, inner_body, base, default_or, defaults, stated, all_stated}
 use Rattle.py_compile.proofs.ExprInduct.{every_front, every_back}
 use Rattle.py_compile.proofs.Sane.{sane, sane_some}
-use Rattle.py_compile.proofs.Legal.{Legal, always, both, all_legal, legal_or, has_clause, is_target_of, sane_defaults, legal, legal_by_arm, legal_by_clause, legal_by_handler}
+use Rattle.py_compile.proofs.Legal.{Legal, always, both, all_legal, has_clause, is_target_of, sane_defaults, legal, legal_by_arm, legal_by_clause, legal_by_handler}
 use Rattle.py_compile.proofs.Legal as lg
 use Rattle.py_compile.proofs.Values.{Each, Value}
 use Rattle.py_compile.proofs.Blocks.{Does, block_does, in_loop, in_clause, leaves_does, nothing_does, break_does, continue_does, Clause}

@@ -1,8 +1,7 @@
 -- A text has one program or one refusal.
-use Rattle.std.proofs.Common.{◌≡◌, ℕ, zero, suc, ◌+◌, ◌<◌, ◌≤◌, ◌⊎◌, inl, inr, List, [], ◌∷◌, ◌++◌, length, slice_get, Option, Some, None, option_map, Result, Ok, Err, refl, sym, ap, subst, ◌∙◌, arith}
+use Rattle.std.proofs.Common.{◌≡◌, ℕ, zero, suc, ◌+◌, ◌<◌, inl, inr, List, [], ◌∷◌, ◌++◌, length, slice_get, Option, Some, None, option_map, Result, Ok, Err, refl, sym, ap, subst, ◌∙◌, arith}
 use Rattle.std.proofs.lemmas.List.{append_assoc}
 use Rattle.py_data.specs.Refusal.{refusal_line, refusal_number}
-use Rattle.py_data.specs.declared.refusal.Construct.{Construct}
 use Rattle.py_data.specs.declared.refusal.Refusal.{Refusal}
 use Rattle.py_data.specs.declared.refusal.Refusal.TheVariants.{TooLarge}
 use Rattle.py_tokens.specs.declared.token.Token.{Token}
@@ -13,10 +12,9 @@ use Rattle.py_parser.specs.declared.fault.Fault.TheVariants.{Unexpected, LeftOut
 use Rattle.py_parser.specs.Outcome.{refusal_of}
 use Rattle.py_parser.specs.Refused.{Begins, Because, RefusedAt}
 use Rattle.py_parser.specs.Statements.{IsModule}
-use Rattle.py_names.specs.declared.event.Event.{Event}
 use Rattle.py_names.specs.declared.scope.Scope.{Scope}
 use Rattle.py_names.specs.Outline.{outline}
-use Rattle.py_names.specs.Scopes.{AreScopes, bodies, fault}
+use Rattle.py_names.specs.Scopes.{AreScopes, fault}
 use Rattle.py_code.specs.declared.program.Program.{Program}
 use Rattle.py_compile.specs.Compiles.{bound_in}
 use Rattle.py_compile.specs.Whole.{program_of, too_large_in}

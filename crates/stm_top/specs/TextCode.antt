@@ -1,5 +1,5 @@
 -- The program of a text, or why it has none. States `docs/LANGUAGE.md`, "From a text to its program".
-use Rattle.std.specs.Prelude.{◌≡◌, ℕ, ◌≤◌, ◌⊎◌, List, Option, Some, None, option_map, Ok, Err}
+use Rattle.std.specs.Prelude.{◌≡◌, ℕ, ◌≤◌, ◌⊎◌, List, Some, None, option_map, Ok, Err}
 use Rattle.py_data.specs.declared.refusal.Refusal.{Refusal}
 use Rattle.py_data.specs.declared.refusal.Refusal.TheVariants.{TooLarge}
 use Rattle.py_tokens.specs.declared.token.Token.{Token}

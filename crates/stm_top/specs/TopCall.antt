@@ -1,6 +1,6 @@
 -- What the top call does, and why it answers as it does. States `docs/LANGUAGE.md`, "The top call".
 use Rattle.std.specs.String.{string_bytes}
-use Rattle.std.specs.Prelude.{◌≡◌, ◌≢◌, ◌≤◌, ◌⊎◌, String, ℕ, map, List, [], ◌∷◌, ◌++◌, Option, Result, Ok, Err, Bool, false, codes}
+use Rattle.std.specs.Prelude.{◌≡◌, ◌≢◌, ◌⊎◌, String, ℕ, map, List, [], ◌∷◌, ◌++◌, Option, Result, Ok, Err, Bool, false, codes}
 use Rattle.std.specs.Str.{bytes_eq}
 use Rattle.py_data.specs.declared.stop.Out.TheVariants.{Output}
 use Rattle.py_data.specs.Row.{Row}
