@@ -45,28 +45,28 @@ if __name__ == '__main__':
 
 /// A text's answer: the count of its program's codes, or a refusal's number and line, or neither.
 #[derive(Clone, Copy, Debug, PartialEq, Eq)]
-enum Told {
+enum Outcome {
     Codes(usize),
     Refused(u8, u32),
     Neither,
 }
 
 /// The answer of a text of at most 5,000,000 bytes.
-fn told(alloc: Global, text: &[u8]) -> Told {
+fn outcome_of(alloc: Global, text: &[u8]) -> Outcome {
     if text.len() > 5_000_000 {
-        return Told::Neither;
+        return Outcome::Neither;
     }
     match compile_text(alloc, text) {
-        Ok(verified) => Told::Codes(verified.program().codes.len()),
-        Err(TextFault::Refused(refusal)) => Told::Refused(refusal.number(), refusal.line()),
-        Err(TextFault::OutOfMemory) => Told::Neither,
+        Ok(verified) => Outcome::Codes(verified.program().codes.len()),
+        Err(TextFault::Refused(refusal)) => Outcome::Refused(refusal.number(), refusal.line()),
+        Err(TextFault::OutOfMemory) => Outcome::Neither,
     }
 }
 
 /// The module's code, the class body's, those of its two methods, and the worker's.
 #[test]
 fn a_script_has_a_program(rt: HostRuntime) -> Tested {
-    assert_eq!(rt; told(rt.alloc(), COUNTER.as_bytes()), Told::Codes(5));
+    assert_eq!(rt; outcome_of(rt.alloc(), COUNTER.as_bytes()), Outcome::Codes(5));
     Ok(())
 }
 
@@ -83,10 +83,10 @@ fn lines(text: &[u8]) -> u32 {
 
 /// Whether a text has a program, or is refused on one of its lines.
 fn is_told_inside(alloc: Global, text: &[u8]) -> bool {
-    match told(alloc, text) {
-        Told::Codes(_) => true,
-        Told::Refused(_, line) => line >= 1 && line <= lines(text),
-        Told::Neither => false,
+    match outcome_of(alloc, text) {
+        Outcome::Codes(_) => true,
+        Outcome::Refused(_, line) => line >= 1 && line <= lines(text),
+        Outcome::Neither => false,
     }
 }
 
@@ -112,7 +112,7 @@ fn each_front_has_a_program_or_a_line(rt: HostRuntime) -> Tested {
 fn brackets_are_too_deep(rt: HostRuntime) -> Tested {
     let mut text = Vec::new(rt.alloc());
     text.resize(4_194_304, b'(')?;
-    assert_eq!(rt; told(rt.alloc(), text.as_slice()), Told::Refused(7, 1));
+    assert_eq!(rt; outcome_of(rt.alloc(), text.as_slice()), Outcome::Refused(7, 1));
     Ok(())
 }
 
@@ -143,8 +143,8 @@ fn row_holds(alloc: Global, row: &str) -> Result<bool, NoMemory> {
         return Ok(false);
     };
     let text = text_of(alloc, part)?;
-    match told(alloc, text.as_slice()) {
-        Told::Refused(number, line) => {
+    match outcome_of(alloc, text.as_slice()) {
+        Outcome::Refused(number, line) => {
             let shown = row_text(number, line, alloc)?;
             Ok(shown.as_str() == wanted)
         }
