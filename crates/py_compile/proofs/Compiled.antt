@@ -1,8 +1,8 @@
 -- What a program is put together from: what was used, the codes one after another, and roots.
-use Rattle.std.proofs.Common.{◌≡◌, ◌≢◌, ℕ, zero, suc, ◌+◌, ◌<◌, ◌≤◌, ◌==◌, List, [], ◌∷◌, ◌++◌, Option, Some, None, Bool, true, false, length, get_or, refl, sym, ap, ◌∙◌, arith, length-append, length-set, map, take, subst, ◌-◌}
+use Rattle.std.proofs.Common.{◌≡◌, ℕ, zero, suc, ◌+◌, ◌<◌, ◌≤◌, ◌==◌, List, [], ◌∷◌, ◌++◌, Option, Some, None, Bool, true, false, length, get_or, refl, sym, ap, ◌∙◌, arith, length-set, map, take, subst, ◌-◌}
 use Rattle.std.specs.Prelude.{if◌then◌else◌, slice_set, min, unwrap_or, replicate}
 use Rattle.std.proofs.lemmas.Bool.{eqb-true}
-use Rattle.std.proofs.lemmas.List.{get_or-set_same, get_or-set_other, take_more, length-map, length-replicate, get_or-replicate}
+use Rattle.std.proofs.lemmas.List.{get_or-set_same, get_or-set_other, take_more, length-replicate, get_or-replicate}
 use Rattle.py_code.specs.declared.instr.Instr.{Instr}
 use Rattle.py_code.specs.declared.program.Code.{Code}
 use Rattle.py_compile.specs.declared.bodies.Body.{Body as Gathered}
@@ -12,7 +12,7 @@ use Rattle.py_compile.specs.declared.draft.Draft.TheVariants.{Op as DraftOp}
 use Rattle.py_compile.specs.Template.{Frame, Piece, Op, Sub}
 use Rattle.py_compile.specs.Table.{body_code, module_code}
 use Rattle.py_compile.proofs.Emits.{plain_emitted}
-use Rattle.py_compile.specs.Names.{Known, first_cell, main_texts, text}
+use Rattle.py_compile.specs.Names.{Known, text}
 use Rattle.py_compile.specs.State.{St, fresh, put, done, places_of, no_frames, Agree, Emitted}
 use Rattle.py_compile.specs.Statements.{Body}
 use Rattle.py_compile.specs.Gathered.{body_of, numbered}
@@ -23,9 +23,9 @@ use Rattle.py_compile.specs.Tallies.{Listed, Tally, block_uses, bump, done as af
 use Rattle.py_compile.proofs.Tallying.{bump_is}
 use Rattle.py_compile.proofs.UsedStatements.{block}
 use Rattle.py_compile.specs.Compiles.{known_by, known_in}
-use Rattle.py_compile.specs.Whole.{whole, slots_named, code_at, large_at, least, codes_from, large_bodies, roots_with}
+use Rattle.py_compile.specs.Whole.{whole, slots_named, code_at, large_at, least, codes_from, large_bodies}
 use Rattle.py_compile.proofs.Gathers.{numbered_more}
-use Rattle.py_code.specs.Right.{text_root, cell_root, class_roots}
+use Rattle.py_code.specs.Right.{class_roots}
 
 -- ---- what was gathered
 
@@ -262,10 +262,6 @@ module _ (line : ℕ) (b : Piece) (env : List ℕ → List Frame) where
   pub module_arm : (e m0 m1 m2 m3 : St) → m0 ≡ put e line (DraftOp Setup) → Emitted m0 m1 b env → m2 ≡ put m1 line (DraftOp (Const NoValue)) → m3 ≡ put m2 line (DraftOp Return) → Emitted e m3 (module_code line b) env
   module_arm e m0 m1 m2 m3 h0 h1 h2 h3 = plain_emitted line env (Op Setup ∷ Sub 1 b ∷ Op (Const NoValue) ∷ Op Return ∷ []) e m3 refl refl (m0, h0, (m1, h1, (m2, h2, (m3, h3, refl))))
 
-pub whole_other : (k : ℕ) (y : Body) (n : Known) → k ≢ 0 → whole k y n ≡ body_code y.line (y.block n)
-whole_other zero y n ne = absurd (ne refl)
-whole_other (suc k) y n ne = refl
-
 -- ---- the roots
 
 pub classes_more : (c n : ℕ) → class_roots c (n + 1) ≡ class_roots c n ++ class_roots (c + n) 1
@@ -274,13 +270,3 @@ classes_more c (suc n) =
     let e : c + 1 + n ≡ c + suc n = omega arith in
     let f : suc n + 1 ≡ suc (n + 1) = omega arith in
     ap (class_roots c) f ∙ ap (λ z. class_roots c 1 ++ z) (classes_more (c + 1) n) ∙ ap (λ k. class_roots c (suc n) ++ class_roots k 1) e
-
-pub roots_count : (texts cells : List (List ℕ)) → length (roots_with texts cells) ≡ first_cell texts cells + length cells
-roots_count texts cells = omega (
-  arith,
-  length-append (class_roots 0 20 ++ map text_root (texts ++ main_texts cells)) (map cell_root cells),
-  length-append (class_roots 0 20) (map text_root (texts ++ main_texts cells)),
-  length-append texts (main_texts cells),
-  length-map (texts ++ main_texts cells) text_root,
-  length-map cells cell_root,
-)

@@ -6,7 +6,7 @@ use Rattle.std.proofs.lemmas.List.{get_or-set_same, get_or-set_other, get_or_pas
 use Rattle.py_compile.specs.declared.draft.Draft.{Draft}
 use Rattle.py_compile.specs.declared.draft.Draft.TheVariants.{Op as DraftOp, To as DraftTo}
 use Rattle.py_compile.specs.declared.draft.Far.{Far}
-use Rattle.py_compile.specs.Template.{Frame, Piece, Part, Op, Hidden, To, Here, Alone, Sub, part_size, part_slots, part_lines, size_of, slots_of, lines_of, stands, place_of, labels_from, label_at, slot_at, own_slot, part_code, code_of, template}
+use Rattle.py_compile.specs.Template.{row, Frame, Piece, Part, Op, Hidden, To, Here, Alone, Sub, part_size, part_slots, part_lines, size_of, slots_of, lines_of, stands, place_of, labels_from, label_at, slot_at, own_slot, part_code, code_of, template}
 use Rattle.py_compile.specs.State.{St, put, marked, opened, jump_of, done_one, done, number, labels_there, frame_there, no_frames, Agree, Emitted}
 use Rattle.py_compile.proofs.Typed.{has_label, all_stand, if_both, stands_below}
 
@@ -239,3 +239,7 @@ plain_emitted line env xs e e' on be em = template_emitted line 0 0 (length e.la
     opens : e ≡ opened e 0 0
     opens = let a : e.labels ≡ e.labels ++ [] = sym (append-nil e.labels) in let b : e.slots ≡ e.slots + 0 = omega arith in
         ap (λ l. record { code = e.code; lines = e.lines; labels = l; slots = e.slots }) a ∙ ap (λ s. record { code = e.code; lines = e.lines; labels = e.labels ++ []; slots = s }) b
+
+-- a row without pieces
+pub row_none : (env : List ℕ → List Frame) (e : St) → Emitted e e (row []) env
+row_none env e = plain_emitted 0 env [] e e refl refl refl

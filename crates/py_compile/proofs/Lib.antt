@@ -4,7 +4,6 @@ pub mod Values
 pub mod Blocks
 pub mod Constructs
 pub mod Emits
-pub mod Rows
 pub mod RowsEqual
 pub mod Deletions
 pub mod Program

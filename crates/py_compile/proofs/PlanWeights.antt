@@ -1,8 +1,7 @@
 -- The equations of the weights of plans.
-use Rattle.std.proofs.Common.{◌≡◌, ℕ, ◌+◌, Bor, Option, List, [], ◌∷◌, map, refl, sym, ap, ◌∙◌}
+use Rattle.std.proofs.Common.{◌≡◌, ℕ, ◌+◌, Bor, List, [], ◌∷◌, map, refl, sym, ap, ◌∙◌}
 use Rattle.py_tree.specs.declared.expr.Expr.{Expr}
 use Rattle.py_tree.specs.declared.stmt.Arm.{Arm}
-use Rattle.py_tree.specs.declared.stmt.Param.{Param}
 use Rattle.py_compile.specs.declared.plan.Plan.{Plan}
 use Rattle.py_compile.specs.declared.plan.Plan.TheVariants as plan
 use Rattle.py_compile.specs.declared.plan.Plan.TheOpen as open'
@@ -42,18 +41,6 @@ weight_handlers_same (h ∷ xs) = ap (λ z. z + total (map weight_handler xs)) (
 pub weight_simple : (s : Simple) → plan_weight (plan.Simple s) ≡ 8
 unfolding plan_weight weight_arm weight_handler
 weight_simple s = ap plan_weight (sym (plan.rolls-Simple s)) ∙ fold-roll-Plan ℕ ℕ ℕ plan_weight_step plan_arm_step plan_handler_step (open'.Simple s)
-
-pub weight_delete : (ln : ℕ) (ts : List (Bor Expr)) → plan_weight (plan.Delete ln ts) ≡ 8
-unfolding plan_weight weight_arm weight_handler
-weight_delete ln ts = ap plan_weight (sym (plan.rolls-Delete ln ts)) ∙ fold-roll-Plan ℕ ℕ ℕ plan_weight_step plan_arm_step plan_handler_step (open'.Delete ln ts)
-
-pub weight_def : (ln : ℕ) (x : Bor (List ℕ)) (ps : Bor (List Param)) (f : ℕ) → plan_weight (plan.Def ln x ps f) ≡ 8
-unfolding plan_weight weight_arm weight_handler
-weight_def ln x ps f = ap plan_weight (sym (plan.rolls-Def ln x ps f)) ∙ fold-roll-Plan ℕ ℕ ℕ plan_weight_step plan_arm_step plan_handler_step (open'.Def ln x ps f)
-
-pub weight_class : (ln : ℕ) (x : Bor (List ℕ)) (b : Bor (Option Expr)) (f : ℕ) → plan_weight (plan.Class ln x b f) ≡ 8
-unfolding plan_weight weight_arm weight_handler
-weight_class ln x b f = ap plan_weight (sym (plan.rolls-Class ln x b f)) ∙ fold-roll-Plan ℕ ℕ ℕ plan_weight_step plan_arm_step plan_handler_step (open'.Class ln x b f)
 
 pub weight_if : (as' : List PlanArm) (e : List Plan) → plan_weight (plan.If as' e) ≡ 8 + (plan_weights_arms as' + plan_weights e)
 unfolding plan_weight weight_arm weight_handler

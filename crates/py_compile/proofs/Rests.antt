@@ -1,10 +1,10 @@
 -- One piece after another, in a loop: what is still to be emitted.
-use Rattle.std.proofs.Common.{◌≡◌, ℕ, ◌+◌, ◌<◌, ◌≤◌, ◌⊎◌, inl, inr, List, [], ◌∷◌, ◌++◌, None, length, get_or, refl, ap, ◌∙◌, arith, append_assoc, map, drop, sym}
+use Rattle.std.proofs.Common.{◌≡◌, ℕ, ◌+◌, ◌<◌, ◌≤◌, ◌⊎◌, inl, inr, List, [], ◌∷◌, ◌++◌, None, length, get_or, ap, ◌∙◌, arith, append_assoc, map, drop, sym}
 use Rattle.std.proofs.lemmas.Bool.{cases_lt}
 use Rattle.std.proofs.lemmas.List.{at_drop_more, get_or_past}
 use Rattle.py_compile.specs.Template.{Frame, Piece, Sub, lines_of, code_of, row}
 use Rattle.py_compile.specs.State.{St, done, Emitted, Agree}
-use Rattle.py_compile.proofs.Rows.{row_none}
+use Rattle.py_compile.proofs.Emits.{row_none}
 
 -- a piece, and then a row
 pub row_cons : (env : List ℕ → List Frame) (p : Piece) (ps : List Piece) (e m e' : St) → Emitted e m p env → Emitted m e' (row ps) env → Emitted e e' (row (p ∷ ps)) env
@@ -43,9 +43,6 @@ pub record Rest (env : List ℕ → List Frame) (e0 : St) (all : List Piece) (e 
   pub whole : (e' : St) → Emitted e e' (row rest) env → Emitted e0 e' (row all) env
   pub size : length e0.code + (row all).size ≡ length e.code + (row rest).size
   pub labels : length e0.labels ≤ length e.labels
-
-pub rest_start : (env : List ℕ → List Frame) (e : St) (all : List Piece) → Rest env e all e all
-rest_start env e all = record { whole = λ e' h. h; size = refl; labels = omega arith }
 
 pub rest_step : (env : List ℕ → List Frame) (e0 : St) (all : List Piece) (e m : St) (p : Piece) (ps : List Piece) → Rest env e0 all e (p ∷ ps) → Emitted e m p env → Rest env e0 all m ps
 rest_step env e0 all e m p ps r h = record { whole = λ e' g. r.whole e' (row_cons env p ps e m e' h g); size = omega (arith, r.size, h.size); labels = omega (arith, r.labels, h.more) }

@@ -197,62 +197,6 @@ whandlers_same : (xs : List Handler) → total (map weight_handler xs) ≡ weigh
 whandlers_same [] = refl
 whandlers_same (a ∷ xs) = ap (λ z. z + total (map weight_handler xs)) (whandler_same a) ∙ ap (λ z. weights a.body + z) (whandlers_same xs)
 
-pub weight_do : (ln : ℕ) (x : Expr) → weight (s.Do ln x) ≡ 8
-unfolding weight weight_arm weight_clause weight_handler
-weight_do ln x = ap weight (sym (s.rolls-Do ln x)) ∙ fold-roll-Stmt ℕ ℕ ℕ ℕ weight_step w.arm_step w.clause_step w.handler_step (open'.Do ln x)
-
-pub weight_assign : (ln : ℕ) (ts : List Expr) (x : Expr) → weight (s.Assign ln ts x) ≡ 8
-unfolding weight weight_arm weight_clause weight_handler
-weight_assign ln ts x = ap weight (sym (s.rolls-Assign ln ts x)) ∙ fold-roll-Stmt ℕ ℕ ℕ ℕ weight_step w.arm_step w.clause_step w.handler_step (open'.Assign ln ts x)
-
-pub weight_augment : (ln : ℕ) (t : Expr) (o : Operator) (x : Expr) → weight (s.Augment ln t o x) ≡ 8
-unfolding weight weight_arm weight_clause weight_handler
-weight_augment ln t o x = ap weight (sym (s.rolls-Augment ln t o x)) ∙ fold-roll-Stmt ℕ ℕ ℕ ℕ weight_step w.arm_step w.clause_step w.handler_step (open'.Augment ln t o x)
-
-pub weight_print : (ln : ℕ) (xs : List Expr) (b : Bool) → weight (s.Print ln xs b) ≡ 8
-unfolding weight weight_arm weight_clause weight_handler
-weight_print ln xs b = ap weight (sym (s.rolls-Print ln xs b)) ∙ fold-roll-Stmt ℕ ℕ ℕ ℕ weight_step w.arm_step w.clause_step w.handler_step (open'.Print ln xs b)
-
-pub weight_pass : (ln : ℕ) → weight (s.Pass ln) ≡ 8
-unfolding weight weight_arm weight_clause weight_handler
-weight_pass ln = ap weight (sym (s.rolls-Pass ln)) ∙ fold-roll-Stmt ℕ ℕ ℕ ℕ weight_step w.arm_step w.clause_step w.handler_step (open'.Pass ln)
-
-pub weight_break : (ln : ℕ) → weight (s.Break ln) ≡ 8
-unfolding weight weight_arm weight_clause weight_handler
-weight_break ln = ap weight (sym (s.rolls-Break ln)) ∙ fold-roll-Stmt ℕ ℕ ℕ ℕ weight_step w.arm_step w.clause_step w.handler_step (open'.Break ln)
-
-pub weight_continue : (ln : ℕ) → weight (s.Continue ln) ≡ 8
-unfolding weight weight_arm weight_clause weight_handler
-weight_continue ln = ap weight (sym (s.rolls-Continue ln)) ∙ fold-roll-Stmt ℕ ℕ ℕ ℕ weight_step w.arm_step w.clause_step w.handler_step (open'.Continue ln)
-
-pub weight_return : (ln : ℕ) (x : Option Expr) → weight (s.Return ln x) ≡ 8
-unfolding weight weight_arm weight_clause weight_handler
-weight_return ln x = ap weight (sym (s.rolls-Return ln x)) ∙ fold-roll-Stmt ℕ ℕ ℕ ℕ weight_step w.arm_step w.clause_step w.handler_step (open'.Return ln x)
-
-pub weight_raise : (ln : ℕ) (x : Option Expr) (v : Option Expr) → weight (s.Raise ln x v) ≡ 8
-unfolding weight weight_arm weight_clause weight_handler
-weight_raise ln x v = ap weight (sym (s.rolls-Raise ln x v)) ∙ fold-roll-Stmt ℕ ℕ ℕ ℕ weight_step w.arm_step w.clause_step w.handler_step (open'.Raise ln x v)
-
-pub weight_del : (ln : ℕ) (ts : List Expr) → weight (s.Del ln ts) ≡ 8
-unfolding weight weight_arm weight_clause weight_handler
-weight_del ln ts = ap weight (sym (s.rolls-Del ln ts)) ∙ fold-roll-Stmt ℕ ℕ ℕ ℕ weight_step w.arm_step w.clause_step w.handler_step (open'.Del ln ts)
-
-pub weight_global : (ln : ℕ) (xs : List (List ℕ)) → weight (s.Global ln xs) ≡ 8
-unfolding weight weight_arm weight_clause weight_handler
-weight_global ln xs = ap weight (sym (s.rolls-Global ln xs)) ∙ fold-roll-Stmt ℕ ℕ ℕ ℕ weight_step w.arm_step w.clause_step w.handler_step (open'.Global ln xs)
-
-pub weight_assert : (ln : ℕ) (x : Expr) (m : Option Expr) → weight (s.Assert ln x m) ≡ 8
-unfolding weight weight_arm weight_clause weight_handler
-weight_assert ln x m = ap weight (sym (s.rolls-Assert ln x m)) ∙ fold-roll-Stmt ℕ ℕ ℕ ℕ weight_step w.arm_step w.clause_step w.handler_step (open'.Assert ln x m)
-
-pub weight_import : (ln : ℕ) (is : List Imported) → weight (s.Import ln is) ≡ 8
-unfolding weight weight_arm weight_clause weight_handler
-weight_import ln is = ap weight (sym (s.rolls-Import ln is)) ∙ fold-roll-Stmt ℕ ℕ ℕ ℕ weight_step w.arm_step w.clause_step w.handler_step (open'.Import ln is)
-
-pub weight_from : (ln : ℕ) (m : List ℕ) (is : List Imported) → weight (s.From ln m is) ≡ 8
-unfolding weight weight_arm weight_clause weight_handler
-weight_from ln m is = ap weight (sym (s.rolls-From ln m is)) ∙ fold-roll-Stmt ℕ ℕ ℕ ℕ weight_step w.arm_step w.clause_step w.handler_step (open'.From ln m is)
-
 pub weight_if : (as' : List Arm) (e : Option Clause) → weight (s.If as' e) ≡ 8 + (weights_arms as' + weights_some e)
 unfolding weight weight_arm weight_clause weight_handler
 weight_if as' None = ap weight (sym (s.rolls-If as' None)) ∙ fold-roll-Stmt ℕ ℕ ℕ ℕ weight_step w.arm_step w.clause_step w.handler_step (open'.If as' None)
@@ -305,10 +249,6 @@ pub weight_class : (ln : ℕ) (x : List ℕ) (b : Option Expr) (ss : List Stmt) 
 unfolding weight weight_arm weight_clause weight_handler
 weight_class ln x b ss = ap weight (sym (s.rolls-Class ln x b ss)) ∙ fold-roll-Stmt ℕ ℕ ℕ ℕ weight_step w.arm_step w.clause_step w.handler_step (open'.Class ln x b ss)
     ∙ ap (λ z. 8 + z) (weights_same ss)
-
-pub ruleset stated_rules = (stated_do, stated_assign, stated_augment, stated_print, stated_pass, stated_break, stated_continue, stated_return, stated_raise, stated_del, stated_global, stated_assert, stated_import, stated_from, stated_if, stated_while, stated_for, stated_try, stated_def, stated_class)
-
-pub ruleset weight_rules = (weight_do, weight_assign, weight_augment, weight_print, weight_pass, weight_break, weight_continue, weight_return, weight_raise, weight_del, weight_global, weight_assert, weight_import, weight_from, weight_if, weight_while, weight_for, weight_try, weight_def, weight_class)
 
 -- a `try` with or without its finally
 

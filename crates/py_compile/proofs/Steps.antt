@@ -26,8 +26,7 @@ use Rattle.py_compile.specs.Expressions.{operator, sign_number, Place, AtName, S
 use Rattle.py_compile.specs.Tasks.{Todo, Value, Values, Behind, Pairs, Keys, Links, Kept, Between, Store, Stores, Delete, Deletes, Augment, Op, To, Mark, Runs, RunsAll, size, sizes, deciding, deciding_last, linked_one, Leads, bound_task}
 use Rattle.py_compile.specs.TaskWeights.{weight, weights, weight_some, task_weight, all_weights, Advances, Splits}
 use Rattle.py_compile.proofs.TaskWeights.{weight_name, weight_int, weight_str, weight_group, weight_tuple, weight_list, weight_dict, weight_trail, weight_power, weight_unary, weight_chain, weight_not, weight_choice, weight_attribute, weight_index, weight_slice, weight_call, weight_pos, weights_last}
-use Rattle.py_compile.proofs.Emits.{plain_emitted}
-use Rattle.py_compile.proofs.Rows.{row_none}
+use Rattle.py_compile.proofs.Emits.{plain_emitted, row_none}
 use Rattle.py_compile.proofs.Rests.{row_cons}
 use Rattle.py_compile.proofs.Arms.{one_arm, one_value_arm, two_values_arm, built_arm, pair_arm, trail_arm, operators_arm, link_arm, attribute_arm, index_arm, slice_arm, call_arm, method_arm, conditional_arm, all_kept_arm, chained_arm, kept_arm, between_arm}
 use Rattle.py_compile.proofs.Coded.{coded_name, coded_int, coded_str, coded_group, coded_tuple, coded_list, coded_dict, coded_trail, coded_power, coded_unary, coded_chain, coded_not, coded_choice, coded_attribute, coded_index, coded_slice, coded_call}

@@ -7,9 +7,9 @@ use Rattle.py_compile.specs.declared.home.Home.{Home}
 use Rattle.py_compile.specs.declared.draft.Draft.TheVariants.{Op as DraftOp, To as DraftTo}
 use Rattle.py_compile.specs.declared.draft.Far.TheVariants.{Always, Trying}
 use Rattle.py_compile.specs.Template.{Frame, Piece, Part, Op, Hidden, To, Here, Alone, Sub, row}
-use Rattle.py_compile.specs.Table.{nothing, also, assign, expression, print_one, print_line, raise_one, raise_two, assert_alone, assert_with, import_one, store, def, class, arm, all_arms, while, for, try_except, try_finally, return, leaves, Around}
+use Rattle.py_compile.specs.Table.{also, assign, expression, print_one, print_line, raise_one, raise_two, assert_alone, assert_with, import_one, store, def, class, arm, all_arms, while, for, try_except, try_finally, return, leaves, Around}
 use Rattle.py_compile.specs.Names.{Known}
-use Rattle.py_compile.specs.Expressions.{Place, AtName, AtAttr, AtItem, Spread, NoPlace, add_at, value, stored}
+use Rattle.py_compile.specs.Expressions.{value, stored}
 use Rattle.py_compile.specs.Statements.{deletion, clause}
 use Rattle.py_compile.specs.State.{St, put, marked, opened, Emitted, no_frames, frame_there}
 use Rattle.py_compile.specs.Partly.{Puts}
@@ -23,9 +23,6 @@ puts_more line base env [] ys a b c h g = subst (λ z. Puts line base env ys z c
 puts_more line base env (x ∷ xs) ys a b c (m, i, h) g = (m, i, puts_more line base env xs ys m b c h g)
 
 module _ (line : ℕ) (env : List ℕ → List Frame) where
-  pub nothing_arm : (e : St) → Emitted e e (nothing line) env
-  nothing_arm e = plain_emitted line env [] e e refl refl refl
-
   pub alone_arm : (a : Piece) (e m1 m2 : St) → Emitted e m1 a no_frames → m2 ≡ put m1 line (DraftOp Pop) → Emitted e m2 (expression line a) env
   alone_arm a e m1 m2 h1 h2 = plain_emitted line env (Alone a ∷ Op Pop ∷ []) e m2 refl refl (m1, h1, (m2, h2, refl))
 
@@ -37,13 +34,6 @@ module _ (line : ℕ) (env : List ℕ → List Frame) where
 
   pub deletion_arm : (ts : List Piece) (e m1 : St) → Emitted e m1 (row ts) no_frames → Emitted e m1 (deletion line ts) env
   deletion_arm ts e m1 h1 = plain_emitted line env (Alone (row ts) ∷ []) e m1 refl refl (m1, h1, refl)
-
-  pub change_arm : (p : Place) (o : ℕ) (x : Piece) (e m : St) → Emitted e m (add_at line p o x) no_frames → Emitted e m (add_at line p o x) env
-  change_arm (AtName a) o x e m h = record { size = h.size; slots = h.slots; lines = h.lines; more = h.more; kept = h.kept; code = h.code }
-  change_arm (AtAttr a b) o x e m h = record { size = h.size; slots = h.slots; lines = h.lines; more = h.more; kept = h.kept; code = h.code }
-  change_arm (AtItem a b) o x e m h = record { size = h.size; slots = h.slots; lines = h.lines; more = h.more; kept = h.kept; code = h.code }
-  change_arm (Spread a b) o x e m h = record { size = h.size; slots = h.slots; lines = h.lines; more = h.more; kept = h.kept; code = h.code }
-  change_arm NoPlace o x e m h = record { size = h.size; slots = h.slots; lines = h.lines; more = h.more; kept = h.kept; code = h.code }
 
   pub print_arm : (x : Piece) (e m1 m2 : St) → Emitted e m1 x no_frames → m2 ≡ put m1 line (DraftOp PrintItem) → Emitted e m2 (print_one line x) env
   print_arm x e m1 m2 h1 h2 = plain_emitted line env (Alone x ∷ Op PrintItem ∷ []) e m2 refl refl (m1, h1, (m2, h2, refl))
