@@ -66,7 +66,10 @@ fn outcome_of(alloc: Global, text: &[u8]) -> Outcome {
 /// The module's code, the class body's, those of its two methods, and the worker's.
 #[test]
 fn a_script_has_a_program(rt: HostRuntime) -> Tested {
-    assert_eq!(rt; outcome_of(rt.alloc(), COUNTER.as_bytes()), Outcome::Codes(5));
+    assert_eq!(rt;
+        outcome_of(rt.alloc(), COUNTER.as_bytes()),
+        Outcome::Codes(5)
+    );
     Ok(())
 }
 
@@ -112,7 +115,10 @@ fn each_front_has_a_program_or_a_line(rt: HostRuntime) -> Tested {
 fn brackets_are_too_deep(rt: HostRuntime) -> Tested {
     let mut text = Vec::new(rt.alloc());
     text.resize(4_194_304, b'(')?;
-    assert_eq!(rt; outcome_of(rt.alloc(), text.as_slice()), Outcome::Refused(7, 1));
+    assert_eq!(rt;
+        outcome_of(rt.alloc(), text.as_slice()),
+        Outcome::Refused(7, 1)
+    );
     Ok(())
 }
 
