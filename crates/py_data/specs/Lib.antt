@@ -1,11 +1,15 @@
 pub mod Arithmetic
 pub mod Collection
 pub mod Heap
+pub mod Every
+pub mod Range
 pub mod Shape
 pub mod Made
 pub mod Changes
 pub mod Fault
 pub mod Closed
+pub mod Order
+pub mod Answers
 pub mod Comparing
 pub mod Truth
 pub mod Texts
