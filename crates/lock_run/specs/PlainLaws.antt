@@ -1,5 +1,5 @@
 -- A plain view keeps the laws of views: the proofs that `impl View for PlainView` cites. States `docs/HEAP.md`, "Views".
-use Rattle.std.specs.Prelude.{◌≡◌, ℕ, true}
+use Rattle.std.specs.Prelude.{◌≡◌, ℕ, true, false}
 use Rattle.std.proofs.Common.{ap, refl, ◌∙◌, sym, subst, IsSome}
 use Rattle.py_data.specs.declared.stop.Stop.{Stop}
 use Rattle.py_data.specs.declared.stop.Stop.TheVariants.{ReadFault, WriteFault, ErrFault, OutOfMemory}
@@ -18,15 +18,15 @@ changes_edits : {S : Type 0} (a : ℕ) (ok : Rec → Type 0) (f : Rec → Rec) (
 changes_edits a ok f d e h = (subst IsSome (sym h.1) refl, ap (λ d. d.heap) h.3 ∙ ap (λ q. put_at d.heap a (f q)) (sym (at-is d.heap a h.0 h.1)))
 
 -- each call does to the heap what such a call does over any view
-pub plain_effect : {S : Type 0} (c : Call S) (d : PlainState S) (r : Reply c) (e : PlainState S) → PlainDoes c d r e → Effect c d.heap r e.heap
+pub plain_effect : {S : Type 0} (c : Call S) (d : PlainState S) (r : Reply c) (e : PlainState S) → PlainDoes c d r e → Effect false c d.heap r e.heap
 plain_effect (Read a) d r e h = (h.0, ap (λ d. d.heap) h.1)
-plain_effect (Find a key) d r e h = (subst IsSome (sym h.1) refl, h.3 ∙ ap (λ q. find d.heap q.values key) (sym (at-is d.heap a h.0 h.1)), ap (λ d. d.heap) h.4)
+plain_effect (Find a key) d r e h = (subst IsSome (sym h.1) refl, h.3 ∙ ap (λ q. find d.heap q.values key) (sym (at-is d.heap a h.0 h.1)), ap (λ d. d.heap) h.4, tt)
 plain_effect (SetVal a i v) d r e h = changes_edits a _ (with_value i v) d e h
 plain_effect (Push a v) d r e h = changes_edits a _ (with_push v) d e h
 plain_effect (Truncate a n) d r e h = changes_edits a _ (cut_to n) d e h
 plain_effect (PushPair a key v) d r e h = changes_edits a _ (with_pair key v) d e h
 plain_effect (DropPair a n) d r e h = changes_edits a _ (without_pair n) d e h
-plain_effect (Make q) d n e h = (h.1, ap (λ d. d.heap) h.2)
+plain_effect (Make q) d n e h = (h.1, ap (λ d. d.heap) h.2, refl)
 plain_effect (Start s) d r e h = ap (λ d. d.heap) h
 plain_effect (Put Output b) d r e h = ap (λ d. d.heap) h.0
 plain_effect (Put ErrorOutput b) d r e h = ap (λ d. d.heap) h.0
