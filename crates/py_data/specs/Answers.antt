@@ -1,22 +1,19 @@
 -- What operations on objects answer: values that may be items, and exceptions. States `docs/HEAP.md`, "Rows that hold".
-use Rattle.std.specs.Prelude.{◌≢◌, ℕ, ◌<◌}
+use Rattle.std.specs.Prelude.{ℕ, ◌<◌}
 use Rattle.py_data.specs.declared.value.Value.{Value}
-use Rattle.py_data.specs.declared.value.Value.TheVariants.{Unset}
+use Rattle.py_data.specs.declared.value.Kind.{Kind}
+use Rattle.py_data.specs.declared.value.Kind.TheVariants.{List as ListKind, Tuple}
 use Rattle.py_data.specs.declared.record.Got.{Got}
 use Rattle.py_data.specs.declared.record.Got.TheVariants.{Is, Raise}
 use Rattle.py_data.specs.declared.record.With.{With}
-use Rattle.py_data.specs.declared.record.With.TheVariants.{Nothing, Text, Held}
+use Rattle.py_data.specs.declared.record.With.TheVariants.{Held}
 use Rattle.py_data.specs.declared.record.Fault.{Fault}
 use Rattle.py_data.specs.Heap.{Heap}
-use Rattle.py_data.specs.Closed.{Refers}
+use Rattle.py_data.specs.Closed.{IsItem}
 
 -- how many exception classes there are
 abbrev pub exception_count : ℕ
 exception_count = 20
-
--- a value that an item may be: it is set, and what it refers to is there
-abbrev pub IsItem : Heap → Value → Type 0
-IsItem h v = Refers h v × (v ≢ Unset)
 
 -- what an exception is told with is there
 abbrev pub IsTold : Heap → With → Type 0
@@ -39,3 +36,9 @@ IsAnswer = IsGot (λ v h. IsItem h v)
 -- nothing, or an exception
 abbrev pub IsDone : Got (Unit {0}) → Heap → Type 0
 IsDone = IsGot (λ u h. Unit {0})
+
+-- kinds of which any items may be the values
+abbrev pub IsSequenceKind : Kind → Type 0
+IsSequenceKind ListKind = Unit {0}
+IsSequenceKind Tuple = Unit {0}
+IsSequenceKind _ = ⊥

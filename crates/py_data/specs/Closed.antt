@@ -1,8 +1,8 @@
 -- When a heap is closed: what its records refer to stands in it, and each has its kind's shape. States `docs/HEAP.md`,
 -- "Closed heaps".
-use Rattle.std.specs.Prelude.{◌≡◌, ℕ, suc, ◌<◌, Option, Some, None}
+use Rattle.std.specs.Prelude.{◌≡◌, ◌≢◌, ℕ, suc, ◌<◌, Option, Some, None}
 use Rattle.py_data.specs.declared.value.Value.{Value}
-use Rattle.py_data.specs.declared.value.Value.TheVariants.{None as NoneValue, Ref, Builtin}
+use Rattle.py_data.specs.declared.value.Value.TheVariants.{Unset, None as NoneValue, Ref, Builtin}
 use Rattle.py_data.specs.declared.value.Kind.TheVariants.{Class}
 use Rattle.py_data.specs.Every.{Every}
 use Rattle.py_data.specs.Heap.{Rec, Heap, Has, value_at}
@@ -17,6 +17,10 @@ abbrev pub Refers : Heap → Value → Type 0
 Refers h (Ref a) = Has h a.0
 Refers h (Builtin b) = b < builtin_count
 Refers h v = Unit {0}
+
+-- a value that an item may be: it is set, and what it refers to is there
+abbrev pub IsItem : Heap → Value → Type 0
+IsItem h v = Refers h v × (v ≢ Unset)
 
 -- the base of the record at an address, which is a class's second value
 abbrev pub base_of : Option Rec → Value

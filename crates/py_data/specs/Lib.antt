@@ -16,9 +16,13 @@ pub mod Texts
 pub mod Worked
 pub mod Row
 pub mod Sense
+pub mod Holds
+pub mod Looking
+pub mod Steady
 pub mod Rest
 pub mod World
 pub mod Sight
 pub mod Frames
 pub mod Laws
+pub mod OrderLaws
 pub mod Refusal
