@@ -1,5 +1,5 @@
 -- What each call of a row leaves of a heap in order.
-use Rattle.std.proofs.Common.{◌≡◌, ℕ, true, false, eqb, Option, Some, None, MatchOption, refl, sym, ap, subst, ◌∙◌, inl, inr}
+use Rattle.std.proofs.Common.{◌≡◌, ℕ, true, false, eqb, Option, Some, None, refl, sym, ap, subst, ◌∙◌, inl, inr}
 use Rattle.std.specs.Prelude.{is_some}
 use Rattle.std.proofs.lemmas.Bool.{cases_Bool, cond-true, eqb-true}
 use Rattle.py_data.specs.declared.change.Change.{Change}

@@ -1,16 +1,15 @@
 -- What a row that holds does, and how what holds of rows is put together.
-use Rattle.std.proofs.Common.{arith, ◌≡◌, ℕ, zero, suc, ◌≤◌, Bool, true, false, List, [], ◌∷◌, ◌++◌, append_assoc, append-nil, length, Option, Some, None, MatchOption, refl, sym, ap, subst, ◌∙◌}
+use Rattle.std.proofs.Common.{arith, ◌≡◌, ℕ, zero, suc, ◌≤◌, true, false, List, [], ◌∷◌, ◌++◌, append_assoc, append-nil, length, Option, Some, None, refl, sym, ap, subst, ◌∙◌}
 use Rattle.std.specs.Prelude.{is_some, take, ◌==◌, if◌then◌else◌}
 use Rattle.std.specs.Io.BufRead.{take_through}
 use Rattle.std.proofs.lemmas.List.{length-take}
-use Rattle.py_data.specs.declared.change.Change.{Change}
 use Rattle.py_data.specs.Every.{Every}
 use Rattle.py_data.specs.Shape.{find}
 use Rattle.py_data.specs.Heap.{Rec, Heap, put_at}
 use Rattle.py_data.specs.Changes.{after}
 use Rattle.py_data.specs.Row.{Call, Reply, Row, Ret, Do, Read, Find, Edit, Make, Start, Put, Take, MidLine, SetMidLine, bind}
 use Rattle.py_data.specs.Sense.{Asks, Effect, Safe, Run}
-use Rattle.py_data.specs.Sight.{Sight, Act, Does}
+use Rattle.py_data.specs.Sight.{Sight, Act}
 use Rattle.py_data.specs.World.{IsLine}
 use Rattle.py_data.specs.Order.{Rules, IsOrdered, Extends, AreLasting, StatesLast}
 use Rattle.py_data.specs.Holds.{Tends, Holds}

@@ -1,5 +1,5 @@
 -- Rows that only look: how what holds of them is put together, and what follows from it.
-use Rattle.std.proofs.Common.{◌≡◌, ℕ, true, false, List, length, Option, Some, None, refl, sym, ap, subst, ◌∙◌}
+use Rattle.std.proofs.Common.{◌≡◌, ℕ, true, false, length, Option, Some, None, refl, sym, ap, subst, ◌∙◌}
 use Rattle.std.specs.Prelude.{is_some, MatchOption}
 use Rattle.py_data.specs.declared.value.Value.{Value}
 use Rattle.py_data.specs.Heap.{Rec, Heap, Has, value_at}

@@ -1,16 +1,16 @@
 -- A range's length is the least number of steps that come to the stop or past it.
-use Rattle.std.proofs.Common.{◌≡◌, ◌≢◌, ◌↔◌, ℕ, zero, suc, ◌+◌, ◌*◌, ◌/◌, ◌<◌, ◌≤◌, ℤ, pos, negsuc, neg_ℤ, ◌+ℤ◌, ◌-ℤ◌, ◌*ℤ◌, ◌≤ℤ◌, inl, inr, refl, sym, subst, arith}
+use Rattle.std.proofs.Common.{◌↔◌, ℕ, zero, suc, ◌*◌, ◌/◌, ◌<◌, ◌≤◌, ℤ, pos, negsuc, neg_ℤ, ◌+ℤ◌, ◌-ℤ◌, ◌≤ℤ◌, inl, inr, refl, sym, subst, arith}
 use Rattle.std.proofs.Math.Nat.{le-div_iff_mul-le}
 use Rattle.std.proofs.Math.IntN.{pos-*ℤ-pos, pos-*ℤ-negsuc}
 use Rattle.std.proofs.lemmas.Bool.{cases_lt}
 use Rattle.std.proofs.lemmas.Int.{ints}
-use Rattle.py_data.specs.Range.{steps, range_length, EndsWithin, RangeLaw}
+use Rattle.py_data.specs.Range.{steps, RangeLaw}
 
 past : (m way : ℕ) → (m ≤ way → ⊥) → pos (suc way) ≤ℤ pos m
-past m way f = elim (cases_lt way m) [ | inl l ↦ omega (arith, ints, l) | inr l ↦ absurd (f l) ]
+past m way f = elim (cases_lt way m) [ inl l ↦ omega (arith, ints, l) | inr l ↦ absurd (f l) ]
 
 steps_past : (k n : ℕ) → (n ≤ k → ⊥) → suc k ≤ n
-steps_past k n f = elim (cases_lt k n) [ | inl l ↦ omega (arith, l) | inr l ↦ absurd (f l) ]
+steps_past k n f = elim (cases_lt k n) [ inl l ↦ omega (arith, l) | inr l ↦ absurd (f l) ]
 
 -- so many steps go to the end of a way, or past it, exactly where they are no fewer than its steps
 within : (way : ℤ) (step n : ℕ) → 0 < step → (steps way step ≤ n) ↔ (way ≤ℤ pos (n * step))

@@ -1,5 +1,5 @@
 -- A change that may be made, and puts what may stand there, leaves a record that fits.
-use Rattle.std.proofs.Common.{arith, ◌≡◌, ◌≢◌, ℕ, zero, suc, ◌+◌, ◌*◌, ◌<◌, ◌≤◌, Bool, true, false, List, [], ◌∷◌, ◌++◌, length, remove, set, take, Option, Some, None, refl, sym, ap, subst, ◌∙◌, append_assoc}
+use Rattle.std.proofs.Common.{arith, ◌≡◌, ◌≢◌, ℕ, zero, suc, ◌*◌, ◌<◌, ◌≤◌, true, false, List, [], ◌∷◌, ◌++◌, length, remove, set, take, Option, Some, None, refl, sym, ap, subst, ◌∙◌, append_assoc}
 use Rattle.std.specs.Prelude.{is_some}
 use Rattle.py_data.specs.declared.value.Value.{Value}
 use Rattle.py_data.specs.declared.value.Value.TheVariants.{Unset, None as NoneValue, Bool as BoolValue, Int, Ref, Builtin}
@@ -9,10 +9,10 @@ use Rattle.py_data.specs.declared.record.TheConstants.{LENGTH_LIMIT}
 use Rattle.py_data.specs.declared.change.Change.{Change}
 use Rattle.py_data.specs.declared.change.Change.TheVariants.{Set, Push, Cut, Pair, Unpair}
 use Rattle.py_data.specs.Every.{Every}
-use Rattle.py_data.specs.Heap.{Rec, Heap, Has, is_tracked, value_at}
+use Rattle.py_data.specs.Heap.{Rec, Heap, is_tracked, value_at}
 use Rattle.py_data.specs.Shape.{KindIn, IsKey, find, RefTo, NoneOr, IsCount, IsBool, IsThreadNumber, IsIterable, ArePairs, KeysDiffer, HasShape, HoldsNoUnset}
-use Rattle.py_data.specs.Closed.{Refers, IsItem, IsClosedAt}
-use Rattle.py_data.specs.Changes.{after, Allows, Suits, IsValuePlace, IsShort}
+use Rattle.py_data.specs.Closed.{Refers, IsItem}
+use Rattle.py_data.specs.Changes.{after, Allows, Suits, IsValuePlace}
 use Rattle.py_data.specs.Order.{Rules, FitsAt, IterPlace, ThreadPlace, MayPut, Puts}
 use Rattle.py_data.proofs.EveryLemmas.{every_and, every_less, every_set, every_take}
 use Rattle.py_data.proofs.Grow.{for_tracked}

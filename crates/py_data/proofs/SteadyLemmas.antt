@@ -1,17 +1,17 @@
 -- In the course of a steady row no record is longer than it was before the row or is at its end.
-use Rattle.std.proofs.Common.{arith, ◌≡◌, ℕ, zero, suc, ◌*◌, ◌≤◌, ◌⊎◌, inl, inr, Bool, true, false, ◌||◌, ◌&&◌, eqb, List, [], ◌∷◌, ◌++◌, length, remove, Option, Some, None, refl, sym, ap, subst, ◌∙◌, length-append}
+use Rattle.std.proofs.Common.{arith, ◌≡◌, ℕ, zero, suc, ◌*◌, ◌≤◌, ◌⊎◌, inl, inr, Bool, true, false, eqb, List, [], ◌∷◌, ◌++◌, length, remove, Option, Some, None, refl, sym, ap, subst, ◌∙◌, length-append}
 use Rattle.std.specs.Prelude.{is_some}
-use Rattle.std.proofs.lemmas.Bool.{cases_Bool, cond-true, cond-false, eqb-true}
+use Rattle.std.proofs.lemmas.Bool.{cases_Bool, cond-true, eqb-true}
 use Rattle.std.proofs.lemmas.List.{length-take, length-set}
 use Rattle.py_data.specs.declared.value.Value.{Value}
 use Rattle.py_data.specs.declared.change.Change.{Change}
 use Rattle.py_data.specs.declared.change.Change.TheVariants.{Set, Push, Cut, Pair, Unpair}
-use Rattle.py_data.specs.Heap.{Rec, Heap, at, put_at}
+use Rattle.py_data.specs.Heap.{Rec, Heap, put_at}
 use Rattle.py_data.specs.Changes.{after}
 use Rattle.py_data.specs.Row.{Call, Reply, Row, Ret, Do, Read, Find, Edit, Make, Start, Put, Take, MidLine, SetMidLine}
-use Rattle.py_data.specs.Sense.{Sense, Lawful, Effect, Edits, Run, Upto}
+use Rattle.py_data.specs.Sense.{Sense, Lawful, Effect, Run, Upto}
 use Rattle.py_data.specs.Steady.{lengthens, shortens, grows, shrinks, Steady, NoLonger, SteadyLaw}
-use Rattle.py_data.proofs.Grow.{with_rec_here, with_rec_there}
+use Rattle.py_data.proofs.Grow.{with_rec_there}
 use Rattle.py_data.proofs.Same.{one_rec}
 use Rattle.py_data.proofs.Steps.{at-is}
 
@@ -113,7 +113,7 @@ module _ {S X : Type 0} (u : Sense S X) (L : Lawful u) where
   rest_steady : {A : Type 0} (row left : Row S A) (v m : X) → Steady true row → Upto u row v left m → Steady true left
   unfolding Steady Upto
   rest_steady (Ret a) left v m s t = subst (Steady true) (sym t.0) tt
-  rest_steady (Do c k) left v m s t = elim t [ | inl e ↦ subst (Steady true) (sym e.0) s | inr d ↦ rest_steady (k d.0) left d.1 m (s.1 d.0) d.3 ]
+  rest_steady (Do c k) left v m s t = elim t [ inl e ↦ subst (Steady true) (sym e.0) s | inr d ↦ rest_steady (k d.0) left d.1 m (s.1 d.0) d.3 ]
 
   -- up to some place nothing has grown, or from there on nothing shrinks
   phase : {A : Type 0} (row left : Row S A) (v m : X) → Steady false row → Upto u row v left m → NoLonger (u.heap m) (u.heap v) ⊎ Steady true left
@@ -131,4 +131,4 @@ module _ {S X : Type 0} (u : Sense S X) (L : Lawful u) where
   ]
 
   pub steady_law : (A : Type 0) → SteadyLaw u A
-  steady_law A row left v m w x s t r = elim (phase row left v m s t) [ | inl l ↦ inl l | inr g ↦ inr (run_longer left m w x g r) ]
+  steady_law A row left v m w x s t r = elim (phase row left v m s t) [ inl l ↦ inl l | inr g ↦ inr (run_longer left m w x g r) ]

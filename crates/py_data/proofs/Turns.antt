@@ -1,12 +1,12 @@
 -- The turns of code that does the rows of loops.
-use Rattle.std.proofs.Common.{◌≡◌, ℕ, zero, suc, ◌+◌, ◌-◌, ◌<◌, ◌≤◌, Bool, true, false, cond, Result, Ok, Err, refl, sym, ap, subst, ◌∙◌, arith}
+use Rattle.std.proofs.Common.{◌≡◌, ℕ, zero, suc, ◌+◌, ◌-◌, ◌<◌, ◌≤◌, Bool, true, false, cond, Result, Ok, Err, subst, arith}
 use Rattle.py_data.specs.declared.stop.Stop.{Stop}
 use Rattle.py_data.specs.declared.record.Got.{Got}
 use Rattle.py_data.specs.declared.record.Got.TheVariants.{Is, Raise}
 use Rattle.py_data.specs.Row.{Row, Ret, bind}
-use Rattle.py_data.specs.Sense.{Sense, Lawful, Safe, Meets, IsLive}
+use Rattle.py_data.specs.Sense.{Sense, Lawful, Safe, Meets}
 use Rattle.py_data.specs.Rest.{Leads}
-use Rattle.py_data.proofs.Steps.{leads-begin, leads-call, leads-call-stop, leads-ret, safe-first}
+use Rattle.py_data.proofs.Steps.{leads-call, leads-call-stop, leads-ret, safe-first}
 use Rattle.py_data.specs.Looking.{until_row, each_row, got_row, walk_row, walk_on}
 
 -- what follows a turn

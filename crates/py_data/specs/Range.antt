@@ -1,6 +1,6 @@
 -- Ranges of whole numbers: how many items one has, and which; and which records are ranges. States `docs/LANGUAGE.md`,
 -- "Iteration", and `docs/HEAP.md`, "Shapes".
-use Rattle.std.specs.Prelude.{◌≡◌, ◌≢◌, ◌↔◌, ℕ, ℤ, pos, negsuc, ◌+ℤ◌, ◌-ℤ◌, ◌*ℤ◌, ◌≤ℤ◌, ◌/◌, ◌≤◌, ◌<◌, true, List, [], ◌∷◌, zero, suc, refl, int_lt}
+use Rattle.std.specs.Prelude.{◌≡◌, ◌≢◌, ◌↔◌, ℕ, ℤ, pos, negsuc, ◌+ℤ◌, ◌-ℤ◌, ◌*ℤ◌, ◌≤ℤ◌, ◌/◌, ◌≤◌, List, [], ◌∷◌, zero, suc, refl}
 use Rattle.py_data.specs.declared.value.Value.{Value}
 use Rattle.py_data.specs.declared.value.Value.TheVariants.{Int}
 
@@ -59,3 +59,7 @@ ten = refl
 
 one : range_item (pos 5) (negsuc 1) 2 ≡ pos 1
 one = refl
+
+-- three numbers with a step of 0 are no range
+standing : IsRange (Int (pos 1) ∷ Int (pos 5) ∷ Int (pos 0) ∷ []) → ⊥
+standing r = r.0 refl

@@ -8,6 +8,7 @@ mod entry;
 pub mod exception;
 mod find;
 mod laws;
+mod order;
 mod record;
 mod refusal;
 mod stop;
@@ -19,7 +20,11 @@ mod view;
 pub use change::{Change, changed};
 pub use collection::{Bytes, Duplicate, Items, Log, Names, NoMemory, Values};
 pub use find::{Records, find_pair};
-pub use laws::{afresh_law, bind_law, frame_law, names_law, part_law, stop_law, world_law};
+pub use laws::{
+    afresh_law, bind_law, frame_law, holds_law, looks_law, names_law, order_law, part_law,
+    range_law, steady_law, stop_law, world_law,
+};
+pub use order::{Demands, Property};
 pub use record::{Entry, Fault, Got, LENGTH_LIMIT, Record, With};
 pub use refusal::{Construct, Refusal};
 pub use stop::{Conflict, Conflicts, Out, Side, Stop};
