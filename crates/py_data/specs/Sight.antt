@@ -2,7 +2,7 @@
 -- States `docs/HEAP.md`, "Rows".
 use Rattle.std.specs.Prelude.{◌≡◌, ℕ, ◌<◌, Bool, true, false, ◌||◌, ◌&&◌, eqb, List, [], ◌∷◌, ◌++◌, length, Some, None}
 use Rattle.py_data.specs.declared.value.Value.{Value}
-use Rattle.py_data.specs.declared.value.Kind.TheVariants.{Dict, List as ListKind}
+use Rattle.py_base.specs.declared.kind.Kind.TheVariants.{Dict, List as ListKind}
 use Rattle.py_data.specs.Heap.{Heap, Marks, Rec, put_at, is_tracked, with_value, with_push, cut_to, with_pair, without_pair}
 use Rattle.py_data.specs.Shape.{IsKey, ArePairs, find}
 use Rattle.py_data.specs.World.{World, wrote, IsLine, took}
