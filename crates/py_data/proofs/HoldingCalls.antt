@@ -4,7 +4,7 @@ use Rattle.std.specs.Prelude.{is_some}
 use Rattle.py_data.specs.declared.change.Change.{Change}
 use Rattle.py_data.specs.declared.value.Value.{Value}
 use Rattle.py_data.specs.declared.value.Value.TheVariants.{Unset, Ref}
-use Rattle.py_data.specs.declared.value.Kind.TheVariants.{Dict}
+use Rattle.py_base.specs.declared.kind.Kind.TheVariants.{Dict}
 use Rattle.py_data.specs.Heap.{Rec, Heap, put_at}
 use Rattle.py_data.specs.Shape.{IsKey, ArePairs, Fits, HasShape, find}
 use Rattle.py_data.specs.Changes.{after, Allows, Suits}

@@ -1,16 +1,13 @@
 -- When a heap is closed: what its records refer to stands in it, and each has its kind's shape. States `docs/HEAP.md`,
 -- "Closed heaps".
 use Rattle.std.specs.Prelude.{◌≡◌, ◌≢◌, ℕ, suc, ◌<◌, Option, Some, None}
+use Rattle.py_base.specs.Numbers.{builtin_count}
 use Rattle.py_data.specs.declared.value.Value.{Value}
 use Rattle.py_data.specs.declared.value.Value.TheVariants.{Unset, None as NoneValue, Ref, Builtin}
-use Rattle.py_data.specs.declared.value.Kind.TheVariants.{Class}
+use Rattle.py_base.specs.declared.kind.Kind.TheVariants.{Class}
 use Rattle.py_data.specs.Every.{Every}
 use Rattle.py_data.specs.Heap.{Rec, Heap, Has, value_at}
 use Rattle.py_data.specs.Shape.{IsShaped}
-
--- how many builtins there are
-abbrev pub builtin_count : ℕ
-builtin_count = 53
 
 -- a reference is to a record that stands there, and a builtin's number is below their count
 abbrev pub Refers : Heap → Value → Type 0

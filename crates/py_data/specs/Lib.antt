@@ -25,4 +25,3 @@ pub mod Sight
 pub mod Frames
 pub mod Laws
 pub mod OrderLaws
-pub mod Refusal

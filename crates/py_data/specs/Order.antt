@@ -4,8 +4,8 @@ use Rattle.std.specs.Prelude.{◌≡◌, ℕ, zero, suc, false, List, Some}
 use Rattle.py_data.specs.declared.change.Change.{Change}
 use Rattle.py_data.specs.declared.change.Change.TheVariants.{Set, Push, Pair}
 use Rattle.py_data.specs.declared.value.Value.{Value}
-use Rattle.py_data.specs.declared.value.Kind.{Kind}
-use Rattle.py_data.specs.declared.value.Kind.TheVariants.{Tuple, Cell, Function, Iter, Lock, Thread}
+use Rattle.py_base.specs.declared.kind.Kind.{Kind}
+use Rattle.py_base.specs.declared.kind.Kind.TheVariants.{Tuple, Cell, Function, Iter, Lock, Thread}
 use Rattle.py_data.specs.Heap.{Rec, Heap, is_tracked, value_at}
 use Rattle.py_data.specs.Shape.{RefTo, IsCount, IsBool, NoneOr, IsThreadNumber, IsIterable}
 use Rattle.py_data.specs.Changes.{IsShort}

@@ -2,7 +2,7 @@
 use Rattle.std.specs.Prelude.{◌≡◌, ◌⊎◌, ℕ, ◌≤◌, Bool, true, false, ◌||◌, ◌&&◌, [], ◌∷◌, length, Some, refl}
 use Rattle.py_data.specs.declared.change.Change.{Change}
 use Rattle.py_data.specs.declared.change.Change.TheVariants.{Push, Cut, Pair, Unpair}
-use Rattle.py_data.specs.declared.value.Kind.TheVariants.{List as ListKind}
+use Rattle.py_base.specs.declared.kind.Kind.TheVariants.{List as ListKind}
 use Rattle.py_data.specs.declared.value.Value.TheVariants.{None as NoneValue}
 use Rattle.py_data.specs.Heap.{Rec, Heap, new_rec}
 use Rattle.py_data.specs.Row.{Call, Reply, Row, Ret, Do, Edit, Make}

@@ -2,8 +2,8 @@
 -- segments".
 use Rattle.std.specs.Prelude.{◌≡◌, ◌≢◌, ℕ, ◌+◌, ◌*◌, ◌<◌, ◌≤◌, true, false, ◌||◌, List, [], ◌++◌, length, Option, Some, None, is_some, IfSome}
 use Rattle.py_data.specs.declared.record.TheConstants.{LENGTH_LIMIT}
-use Rattle.py_data.specs.declared.value.Kind.{Kind}
-use Rattle.py_data.specs.declared.value.Kind.TheVariants.{Str, List as ListKind, Dict}
+use Rattle.py_base.specs.declared.kind.Kind.{Kind}
+use Rattle.py_base.specs.declared.kind.Kind.TheVariants.{Str, List as ListKind, Dict}
 use Rattle.py_data.specs.declared.value.Value.{Value}
 use Rattle.py_data.specs.Heap.{Rec, Heap, Has, is_tracked}
 use Rattle.py_data.specs.Shape.{IsKey, ArePairs, find}

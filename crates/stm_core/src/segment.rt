@@ -5,7 +5,7 @@ ghost use Rattle.py_data.specs.Heap.{Has, at, value_at, is_tracked};
 ghost use Rattle.py_data.specs.Changes.{after};
 ghost use Rattle.py_data.specs.Shape.{IsShaped, IsKey, ArePairs, find};
 ghost use Rattle.py_data.specs.Sense.{IfThere};
-ghost use Rattle.py_data.specs.declared.value.Kind.TheVariants.{Dict};
+ghost use Rattle.py_base.specs.declared.kind.Kind.TheVariants.{Dict};
 ghost use Rattle.py_data.specs.Made.{rec_of};
 ghost use Rattle.seg_store.specs.Meaning.{Meaning, sees, holds};
 ghost use Rattle.seg_store.specs.Calls.{after_drop, after_lock, after_change, after_make};
