@@ -1,7 +1,7 @@
 -- What each instruction asks of the stack, what it leaves there, and where it goes on. States `docs/LANGUAGE.md`,
 -- "Instructions".
 use Rattle.std.specs.Prelude.{ℕ, ◌+◌, ◌-◌, ◌<◌, ◌≤◌, ◌^◌, List, [], ◌∷◌, Option, Some, None, Bool, true, false, All, get_or, length}
-use Rattle.py_code.specs.declared.builtin.TheConstants.{COUNT}
+use Rattle.py_base.specs.declared.builtin.TheConstants.{COUNT}
 use Rattle.py_code.specs.declared.instr.Constant.{Constant}
 use Rattle.py_code.specs.declared.instr.Constant.TheVariants.{Builtin, Root}
 use Rattle.py_code.specs.declared.instr.Instr.{Instr}

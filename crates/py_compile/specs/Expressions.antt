@@ -4,9 +4,9 @@ use Rattle.std.specs.Prelude.{ℕ, List, [], ◌∷◌, Option, Some, None, if�
 use Rattle.py_code.specs.declared.instr.Constant.TheVariants.{None as NoValue, Root, Int as IntValue}
 use Rattle.py_code.specs.declared.instr.Instr.{Instr}
 use Rattle.py_code.specs.declared.instr.Instr.TheVariants.{Unary, Not, Binary, Compare, KeepFalse, KeepTrue, BuildTuple, BuildList, BuildDict}
-use Rattle.py_code.specs.declared.operator.unary.TheConstants as unary
-use Rattle.py_code.specs.declared.operator.binary.TheConstants as binary
-use Rattle.py_code.specs.declared.operator.compare.TheConstants as compare
+use Rattle.py_base.specs.declared.operator.unary.TheConstants as unary
+use Rattle.py_base.specs.declared.operator.binary.TheConstants as binary
+use Rattle.py_base.specs.declared.operator.compare.TheConstants as compare
 use Rattle.py_tree.specs.declared.expr.Operator.{Operator}
 use Rattle.py_tree.specs.declared.expr.Operator.TheVariants as op
 use Rattle.py_tree.specs.declared.expr.Sign.{Sign}

@@ -2,7 +2,7 @@
 use Rattle.std.specs.Prelude.{ℕ, ◌+◌, Bool, if◌then◌else◌, codes, List, [], ◌∷◌, length, position, Option, Some, None, unwrap_or}
 use Rattle.std.specs.Cmp.Lexicographic.{pointwise}
 use Rattle.std.specs.Str.{bytes_eq}
-use Rattle.py_code.specs.declared.builtin.TheConstants.{ALLOCATE_LOCK, LOCK, START_NEW_THREAD, THREAD, THREADING_MODULE, THREAD_MODULE}
+use Rattle.py_base.specs.declared.builtin.TheConstants.{ALLOCATE_LOCK, LOCK, START_NEW_THREAD, THREAD, THREADING_MODULE, THREAD_MODULE}
 use Rattle.py_code.specs.declared.instr.Constant.{Constant}
 use Rattle.py_code.specs.declared.instr.Constant.TheVariants.{Root, Builtin}
 use Rattle.py_code.specs.Right.{first_text}

@@ -3,7 +3,7 @@ use Rattle.std.specs.Prelude.{ℕ, List, codes}
 use Rattle.py_data.specs.declared.value.Value.{Value}
 use Rattle.py_data.specs.declared.record.Fault.{Fault}
 use Rattle.py_data.specs.declared.record.With.TheVariants.{Nothing, Text, Held}
-use Rattle.py_data.specs.declared.exception.TheConstants.{TYPE_ERROR, RUNTIME_ERROR, MEMORY_ERROR, INDEX_ERROR, KEY_ERROR}
+use Rattle.py_base.specs.declared.exception.TheConstants.{TYPE_ERROR, RUNTIME_ERROR, MEMORY_ERROR, INDEX_ERROR, KEY_ERROR}
 
 -- an exception of a class with a text
 abbrev pub text_fault : ℕ → List ℕ → Fault

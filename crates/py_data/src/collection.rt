@@ -1,6 +1,6 @@
 //! Lists that contracts see as lists, without where they lie in memory.
 ghost use Rattle.std.specs.Prelude.{◌≡◌, ℕ, ◌+◌, ◌-◌, ◌<◌, ◌≤◌, List, [], ◌∷◌, ◌++◌, length, slice_get, slice_index_or, slice_set, option_copied, IfOk, IsOk, OnErr, OnOk, remove, take};
-ghost use Rattle.py_data.specs.Collection.{Logged};
+ghost use Rattle.py_base.specs.Collection.{Logged};
 
 use crate::value::{Addr, Value};
 use std::alloc::{AllocError, Global};
@@ -152,7 +152,7 @@ pub struct Log<T> {
 
 impl<T> Model for Log<T> {
     ghost use Rattle.std.specs.Prelude.{◌-◌, vec_len, vec_capacity};
-    ghost use Rattle.py_data.specs.Collection.{Logged};
+    ghost use Rattle.py_base.specs.Collection.{Logged};
 
     ghost Value = { Logged T };
 

@@ -8,8 +8,8 @@ use Rattle.py_data.specs.declared.stop.Side.{Side}
 use Rattle.py_data.specs.declared.stop.Stop.{Stop}
 use Rattle.py_data.specs.declared.stop.Stop.TheVariants.{Lost, Full, OutOfMemory, NeedSolo}
 use Rattle.py_data.specs.Heap.{Rec, Heap, Marks, Has, at, is_tracked, blank, put_at, length_by}
-use Rattle.py_data.specs.declared.value.Kind.TheVariants.{Str as StrKind}
-use Rattle.py_data.specs.declared.value.Kind.{Kind}
+use Rattle.py_base.specs.declared.kind.Kind.TheVariants.{Str as StrKind}
+use Rattle.py_base.specs.declared.kind.Kind.{Kind}
 use Rattle.py_data.specs.World.{World}
 use Rattle.py_data.specs.Collection.{places}
 use Rattle.py_data.specs.Shape.{Fits, find}

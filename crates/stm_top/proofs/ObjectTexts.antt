@@ -5,7 +5,7 @@ use Rattle.std.proofs.lemmas.Bool.{cond-true, cond-false, ne_eqb}
 use Rattle.py_data.specs.declared.value.Addr.{Addr}
 use Rattle.py_data.specs.declared.value.Value.{Value}
 use Rattle.py_data.specs.declared.value.Value.TheVariants.{Int, Ref}
-use Rattle.py_data.specs.declared.value.Kind.TheVariants.{Str, Iter, Range}
+use Rattle.py_base.specs.declared.kind.Kind.TheVariants.{Str, Iter, Range}
 use Rattle.py_data.specs.declared.stop.Stop.{Stop}
 use Rattle.py_data.specs.declared.record.Got.{Got}
 use Rattle.py_data.specs.declared.record.Got.TheVariants.{Is, Raise}

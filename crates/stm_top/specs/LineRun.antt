@@ -4,7 +4,7 @@ use Rattle.std.specs.Fmt.{signed_decimal}
 use Rattle.py_data.specs.declared.value.Addr.{Addr}
 use Rattle.py_data.specs.declared.value.Value.{Value}
 use Rattle.py_data.specs.declared.value.Value.TheVariants.{Unset, Int}
-use Rattle.py_data.specs.declared.value.Kind.TheVariants.{Cell}
+use Rattle.py_base.specs.declared.kind.Kind.TheVariants.{Cell}
 use Rattle.py_data.specs.declared.stop.Out.TheVariants.{Output}
 use Rattle.py_data.specs.Heap.{Rec, new_rec, value_at}
 use Rattle.py_data.specs.declared.change.Change.TheVariants as change
