@@ -114,21 +114,3 @@ kind_name IterKind = codes "Iter"
 kind_name Range = codes "Range"
 kind_name Lock = codes "Lock"
 kind_name Thread = codes "Thread"
-
--- the operators, in the order of their numbers
-abbrev pub unary_signs : List (List ℕ)
-unary_signs = codes "+" ∷ codes "-" ∷ codes "~" ∷ []
-
-abbrev pub binary_signs : List (List ℕ)
-binary_signs = codes "|" ∷ codes "^" ∷ codes "&" ∷ codes "<<" ∷ codes ">>" ∷ codes "+" ∷ codes "-" ∷ codes "*" ∷ codes "/" ∷ codes "//" ∷ codes "%" ∷ codes "**" ∷ []
-
-abbrev pub compare_signs : List (List ℕ)
-compare_signs = codes "<" ∷ codes ">" ∷ codes "==" ∷ codes ">=" ∷ codes "<=" ∷ codes "!=" ∷ codes "in" ∷ codes "not in" ∷ codes "is" ∷ codes "is not" ∷ []
-
--- the classes, in the order of their numbers
-abbrev pub class_names : List (List ℕ)
-class_names = codes "object" ∷ codes "BaseException" ∷ codes "Exception" ∷ codes "StandardError" ∷ codes "ArithmeticError" ∷ codes "LookupError" ∷ codes "NameError" ∷ codes "AttributeError" ∷ codes "TypeError" ∷ codes "ValueError" ∷ codes "RuntimeError" ∷ codes "EOFError" ∷ codes "AssertionError" ∷ codes "MemoryError" ∷ codes "ZeroDivisionError" ∷ codes "OverflowError" ∷ codes "IndexError" ∷ codes "KeyError" ∷ codes "UnboundLocalError" ∷ codes "thread.error" ∷ []
-
--- the builtins, in the order of their numbers
-abbrev pub builtin_names : List (List ℕ)
-builtin_names = codes "len" ∷ codes "range" ∷ codes "xrange" ∷ codes "str" ∷ codes "repr" ∷ codes "int" ∷ codes "bool" ∷ codes "list" ∷ codes "tuple" ∷ codes "dict" ∷ codes "isinstance" ∷ codes "ord" ∷ codes "chr" ∷ codes "abs" ∷ codes "min" ∷ codes "max" ∷ codes "sum" ∷ codes "sorted" ∷ codes "raw_input" ∷ codes "thread" ∷ codes "threading" ∷ codes "thread.start_new_thread" ∷ codes "thread.allocate_lock" ∷ codes "threading.Thread" ∷ codes "threading.Lock" ∷ codes "str.join" ∷ codes "str.split" ∷ codes "str.strip" ∷ codes "str.upper" ∷ codes "str.lower" ∷ codes "str.startswith" ∷ codes "str.endswith" ∷ codes "str.find" ∷ codes "str.replace" ∷ codes "list.append" ∷ codes "list.pop" ∷ codes "list.insert" ∷ codes "list.extend" ∷ codes "list.index" ∷ codes "list.remove" ∷ codes "list.reverse" ∷ codes "list.sort" ∷ codes "dict.get" ∷ codes "dict.keys" ∷ codes "dict.values" ∷ codes "dict.items" ∷ codes "dict.has_key" ∷ codes "dict.pop" ∷ codes "lock.acquire" ∷ codes "lock.release" ∷ codes "lock.locked" ∷ codes "thread.start" ∷ codes "thread.join" ∷ []

@@ -2,8 +2,8 @@
 ghost use Rattle.std.specs.Prelude.{◌≡◌};
 ghost use Rattle.py_data.specs.declared.stop.Stop.TheVariants.{OutOfMemory};
 
-use crate::collection::Log;
 use crate::value::Addr;
+use py_base::Log;
 use std::alloc::AllocError;
 
 /// One of the two outputs.
