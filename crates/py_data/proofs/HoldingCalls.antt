@@ -1,5 +1,5 @@
 -- One call of a row that holds, and what follows it.
-use Rattle.std.proofs.Common.{◌≡◌, ℕ, true, false, Option, Some, MatchOption, sym, ap, subst, ◌∙◌}
+use Rattle.std.proofs.Common.{◌≡◌, ℕ, false, Option, Some, sym, ap, subst, ◌∙◌}
 use Rattle.std.specs.Prelude.{is_some}
 use Rattle.py_data.specs.declared.change.Change.{Change}
 use Rattle.py_data.specs.declared.value.Value.{Value}
@@ -10,7 +10,7 @@ use Rattle.py_data.specs.Shape.{IsKey, ArePairs, Fits, HasShape, find}
 use Rattle.py_data.specs.Changes.{after, Allows, Suits}
 use Rattle.py_data.specs.Closed.{IsItem}
 use Rattle.py_data.specs.Row.{Row, Do, Read, Find, Edit, Make, bind}
-use Rattle.py_data.specs.Sense.{Asks, IfThere}
+use Rattle.py_data.specs.Sense.{Asks}
 use Rattle.py_data.specs.Order.{Rules, FitsAt, IsOrdered, Extends, Puts}
 use Rattle.py_data.specs.Holds.{Holds}
 use Rattle.py_data.specs.Looking.{Looks}
@@ -19,11 +19,7 @@ use Rattle.py_data.proofs.Holding.{holds_do, holds_bind}
 use Rattle.py_data.proofs.Looking.{look_asks, looks_held}
 use Rattle.py_data.proofs.Refits.{change_fits}
 use Rattle.py_data.proofs.Same.{one_rec}
-use Rattle.py_data.proofs.Steps.{at-is}
-
--- what is asked of a record that is there
-there : (h : Heap) (a : ℕ) (r : Rec) (P : Rec → Type 0) → h a ≡ Some r → P r → IfThere false (h a) P
-there h a r P e i = subst (λ o. MatchOption o (false ≡ true) P) (sym e) i
+use Rattle.py_data.proofs.Steps.{at-is, there-is, asks-edit}
 
 -- the record that was made is there, and its address is an item
 made_item : (h1 : Heap) (a : ℕ) (r : Rec) → h1 a ≡ Some r → IsItem h1 (Ref (record { 0 = a }))
@@ -45,7 +41,7 @@ module _ {S A : Type 0} (rules : Rules) (stands : Heap → S → Type 0) (p : A 
       → Holds rules stands p (Do (Find d key) k) h
   unfolding Asks
   holds_find d key k h r order e kind i n =
-      holds_do rules stands p (Find d key) k h (there h d r (λ r. Fits h r key) e (kind, i, pairs_of rules h d r order e kind)) tt
+      holds_do rules stands p (Find d key) k h (there-is h d r false (λ r. Fits h r key) e (kind, i, pairs_of rules h d r order e kind)) tt
       (λ o h1 f order1 x.
       let found : o ≡ find h r.values key = f.1 ∙ ap (λ z. find h z.values key) (at-is h d r e) in
       subst (λ g. Holds rules stands p (k o) g) (sym f.2) (subst (λ z. Holds rules stands p (k z) h) (sym found) n))
@@ -55,7 +51,7 @@ module _ {S A : Type 0} (rules : Rules) (stands : Heap → S → Type 0) (p : A 
       → ((h1 : Heap) → IsOrdered rules h1 → Extends h h1 → h1 ≡ put_at h a (after c r) → Holds rules stands p (k tt) h1) → Holds rules stands p (Do (Edit a c) k) h
   unfolding Asks
   holds_edit a c k h r order e allows suits puts n =
-      holds_do rules stands p (Edit a c) k h (there h a r (λ r. Allows c r × Suits false h c r) e (allows, suits))
+      holds_do rules stands p (Edit a c) k h (asks-edit S false h a r c e allows suits)
       (λ q f. subst (λ z. FitsAt rules h a (after c z)) (one_rec (h a) q r f e) (change_fits rules h a c r (order.each a r e) allows suits puts))
       (λ u h1 f order1 x. n h1 order1 x (f.1 ∙ ap (λ z. put_at h a (after c z)) (at-is h a r e)))
 
