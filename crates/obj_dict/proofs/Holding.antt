@@ -15,7 +15,7 @@ use Rattle.py_data.specs.Heap.{Rec, Heap, is_tracked, value_at, new_rec}
 use Rattle.py_data.specs.Shape.{IsKey, KindIn, find, is_key_kind}
 use Rattle.py_data.specs.Changes.{IsValuePlace}
 use Rattle.py_data.specs.Closed.{IsItem}
-use Rattle.py_data.specs.Row.{Row, Ret, Do, Read, Find, Edit, Make, bind}
+use Rattle.py_data.specs.Row.{Row, Ret, Do, Read, Find, Edit, bind}
 use Rattle.py_data.specs.Order.{Rules, IsOrdered, MayPut}
 use Rattle.py_data.specs.Holds.{Holds}
 use Rattle.py_data.specs.Looking.{Looks}

@@ -1,5 +1,5 @@
 -- In the course of an operation on a dictionary no record is longer than before it or at its end.
-use Rattle.std.proofs.Common.{◌≡◌, ℕ, ◌+◌, Bool, true, false, cond, ltb, List, [], ◌∷◌, ◌++◌, length, Option, Some, None, refl}
+use Rattle.std.proofs.Common.{ℕ, ◌+◌, Bool, true, false, cond, ltb, List, [], ◌∷◌, ◌++◌, length, Option, Some, None, refl}
 use Rattle.py_data.specs.declared.value.Value.{Value}
 use Rattle.py_data.specs.declared.value.Value.TheVariants.{Unset, None as NoneValue, Bool as BoolValue, Int, Ref, Builtin}
 use Rattle.py_data.specs.declared.change.Change.TheVariants as change
@@ -12,7 +12,7 @@ use Rattle.py_data.specs.Row.{Row, Ret, Do, Find, Edit, bind}
 use Rattle.py_data.specs.Steady.{Steady}
 use Rattle.obj_dict.specs.declared.listing.Part.{Part}
 use Rattle.obj_dict.specs.declared.listing.Part.TheVariants.{Keys, Values, Items}
-use Rattle.obj_dict.specs.Dict.{key_row, if_key, value_of_pair, get_row, push_at, set_pair, set_row, drop_found, del_row}
+use Rattle.obj_dict.specs.Dict.{key_row, if_key, value_of_pair, get_row, set_pair, set_row, drop_found, del_row}
 use Rattle.obj_dict.specs.Listing.{half, list_row, tuples_row, list_of_row}
 use Rattle.obj_dict.specs.HoldsLaws.{DictSteady}
 
