@@ -139,6 +139,13 @@ impl<'s, 'a> Context<'s, 'a> {
         )
     }
 
+    /// Whether no instruction of a code names a place before the first that a jump may name.
+    fn goes_forward(&self, n: usize, code: &'s Code) -> bool
+        ensures { IsTrue result ↔ AllForward (limits_of self.now.codes self.now.roots n code.now) code.now.instrs }
+    {
+        all_forward(&self.bounds(n, code), code.instrs.as_slice())
+    }
+
     /// Whether a code is right.
     fn is_right_code(&self, alloc: Global, n: usize, code: &'s Code) -> Result<bool, NoMemory>
         ensures { IfOk result (λ yes. IsTrue yes ↔ IsRightCode self.now.codes self.now.roots n code.now) }
@@ -156,11 +163,10 @@ impl<'s, 'a> Context<'s, 'a> {
         if !self.all_belong(n, instrs) {
             return Ok(false);
         }
-        let bounds = self.bounds(n, code);
-        if !all_forward(&bounds, instrs) {
+        if !self.goes_forward(n, code) {
             return Ok(false);
         }
-        let typed = is_right(alloc, &bounds, instrs)?;
+        let typed = is_right(alloc, &self.bounds(n, code), instrs)?;
         Ok(typed)
     }
 
