@@ -1,6 +1,7 @@
 //! Rooms, numbers and lines by hand, and each call of a list once.
 use crate::{
-    Bytes, Construct, Entry, Items, Kind, LENGTH_LIMIT, Log, Record, Refusal, Value, Values,
+    Addr, Bytes, Conflict, Conflicts, Construct, Entry, Items, Kind, LENGTH_LIMIT, Log, Record,
+    Refusal, Side, Value, Values,
 };
 use std::alloc::{AllocError, Global};
 use std::process::Abort;
@@ -46,6 +47,33 @@ fn logs(rt: HostRuntime) -> Tested {
     assert!(rt; matches!(log.get(0), Some(3)));
     assert!(rt; matches!(log.get(5), Some(8)));
     assert!(rt; matches!(log.get(6), None));
+    Ok(())
+}
+
+#[test]
+fn conflicts(rt: HostRuntime) -> Tested {
+    let writer = Side {
+        segment: 0,
+        thread: 1,
+        begun: 1,
+        solo: false,
+    };
+    let lost = Conflict {
+        at: Addr(7),
+        writer,
+        other: Side {
+            segment: 1,
+            ..writer
+        },
+        asks: true,
+        lost: 1,
+    };
+    let mut conflicts = Conflicts::new(rt.alloc());
+    conflicts.push(lost)?;
+    let copied = conflicts.copy(rt.alloc())?;
+    conflicts.push(Conflict { lost: 0, ..lost })?;
+    assert_eq!(rt; copied.len(), 1);
+    assert!(rt; matches!(copied.get(0), Some(conflict) if *conflict == lost));
     Ok(())
 }
 
