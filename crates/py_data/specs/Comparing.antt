@@ -131,8 +131,8 @@ unfoldable pub order_within : Heap → ℕ → Value → Value → Got Ordering
 order_within h zero x y = order_by h (λ xs ys. Raise depth_fault) x y
 order_within h (suc d) x y = order_by h (order_items (equal_within h d) (order_within h d)) x y
 
--- Which of two values comes first: of numbers, of strings by their bytes, of two lists or two tuples by their first unequal
--- items. Others have no order (TypeError), and RuntimeError comes where they are nested deeper than 100 levels up to what
--- decides.
+-- Which of two values comes first: of numbers, of strings by their bytes, of two lists or two tuples by their first
+-- unequal items. Others have no order (TypeError), and RuntimeError comes where they are nested deeper than 100 levels
+-- up to what decides.
 abbrev pub order : Heap → Value → Value → Got Ordering
 order h x y = order_within h DEPTH_LIMIT x y
