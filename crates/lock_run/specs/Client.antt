@@ -3,7 +3,7 @@ use Rattle.std.specs.Prelude.{◌≡◌, ℕ, Bool, List, ◌++◌, Some, slice_
 use Rattle.py_data.specs.declared.stop.Stop.{Stop}
 use Rattle.py_data.specs.Heap.{Heap}
 use Rattle.py_data.specs.Row.{Call, Reply, Row, Ret, Do, Put, MidLine}
-use Rattle.py_data.specs.Sense.{Sense, Bracket, Run, Stopped}
+use Rattle.py_data.specs.Sense.{Sense, Bracket, Run, Stopped, ShownOf}
 use Rattle.py_data.specs.Sight.{Sight, Does, opened}
 use Rattle.py_data.specs.World.{World}
 use Rattle.lock_run.specs.declared.client.Outcome.{Outcome}
@@ -14,6 +14,13 @@ use Rattle.lock_run.specs.Prog.{Prog}
 -- the state is one of a list that may stand over the heap
 abbrev pub Standing : {S : Type 0} → (List S → Type 0) → S → Type 0
 Standing sound s = (ss : List _) × (t : ℕ) × (slice_get ss t ≡ Some s) × sound ss
+
+-- A view shows g, and some heap of which it shows so much has the state standing over it: over a view of all of a heap it is
+-- g, over a view of a part any heap with the part's records.
+pub record StandsIn {S : Type 0} (sound : Heap → List S → Type 0) (partial : Bool) (g : Heap) (s : S) : Type 0 where
+  pub heap : Heap
+  pub shown : ShownOf partial g heap
+  pub standing : Standing (sound heap) s
 
 -- the step was opened and its row was done
 abbrev pub Stepped : {S X : Type 0} → Sense S X → Bracket S X → Row S (Outcome × S) → X → Outcome → S → X → Type 0

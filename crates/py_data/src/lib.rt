@@ -19,7 +19,7 @@ mod view;
 pub use change::{Change, changed};
 pub use collection::{Bytes, Duplicate, Items, Log, Names, NoMemory, Values};
 pub use find::{Records, find_pair};
-pub use laws::{afresh_law, bind_law, frame_law, names_law, stop_law, world_law};
+pub use laws::{afresh_law, bind_law, frame_law, names_law, part_law, stop_law, world_law};
 pub use record::{Entry, Fault, Got, LENGTH_LIMIT, Record, With};
 pub use refusal::{Construct, Refusal};
 pub use stop::{Conflict, Conflicts, Out, Side, Stop};

@@ -1,5 +1,5 @@
 -- A segment's view keeps the laws of views: the proofs that `impl View for SegView` cites. States `docs/HEAP.md`, "Views".
-use Rattle.std.specs.Prelude.{◌≡◌, ◌⊎◌, ℕ, true, eqb, ◌&&◌, Some, None}
+use Rattle.std.specs.Prelude.{◌≡◌, ◌⊎◌, ℕ, true, false, eqb, ◌&&◌, Some, None}
 use Rattle.std.proofs.Common.{ap, refl, ◌∙◌, sym, subst, inl, inr, IsSome}
 use Rattle.std.proofs.lemmas.Bool.{or_left, and_from, eq-eqb, cond-true}
 use Rattle.py_data.specs.declared.stop.Side.{Side}
@@ -38,19 +38,19 @@ inside k me (Start s) d r e h = inl h
 edits : {T : Type 0} (a : ℕ) (ok : Rec → Type 0) (f : Rec → Rec) (s t : Sight T) → Edited a ok f s t → Edits a f s.heap t.heap
 edits a ok f s t h = (subst IsSome (sym h.1) refl, ap (λ z. z.heap) h.3 ∙ ap (λ q. put_at s.heap a (f q)) (sym (at-is s.heap a h.0 h.1)))
 
-effect : {T : Type 0} (k : ℕ) (me : Side) (c : Call T) (d : Hold T) (r : Reply c) (e : Hold T) → SegDoes k me c d r e → Effect c (sees d.meaning k) r (sees e.meaning k)
+effect : {T : Type 0} (k : ℕ) (me : Side) (c : Call T) (d : Hold T) (r : Reply c) (e : Hold T) → SegDoes k me c d r e → Effect false c (sees d.meaning k) r (sees e.meaning k)
 effect k me (Put on bytes) d r e h = absurd h
 effect k me (Take most) d r e h = absurd h
 effect k me (SetMidLine b) d r e h = ap (λ z. sees z.meaning k) h.1
 effect k me MidLine d r e h = ap (λ z. sees z.meaning k) h.1
 effect k me (Read a) d r e h = (h.0.0, ap (λ z. z.heap) h.0.1)
-effect k me (Find a v) d r e h = (subst IsSome (sym h.0.1) refl, h.0.3 ∙ ap (λ q. find (sees d.meaning k) q.values v) (sym (at-is (sees d.meaning k) a h.0.0 h.0.1)), ap (λ z. z.heap) h.0.4)
+effect k me (Find a v) d r e h = (subst IsSome (sym h.0.1) refl, h.0.3 ∙ ap (λ q. find (sees d.meaning k) q.values v) (sym (at-is (sees d.meaning k) a h.0.0 h.0.1)), ap (λ z. z.heap) h.0.4, tt)
 effect k me (SetVal a i v) d r e h = edits a _ (with_value i v) (sight k d) (sight k e) h.0
 effect k me (Push a v) d r e h = edits a _ (with_push v) (sight k d) (sight k e) h.0
 effect k me (Truncate a n) d r e h = edits a _ (cut_to n) (sight k d) (sight k e) h.0
 effect k me (PushPair a x v) d r e h = edits a _ (with_pair x v) (sight k d) (sight k e) h.0
 effect k me (DropPair a n) d r e h = edits a _ (without_pair n) (sight k d) (sight k e) h.0
-effect k me (Make q) d r e h = (h.0.0, ap (λ z. z.heap) h.0.1)
+effect k me (Make q) d r e h = (h.0.0, ap (λ z. z.heap) h.0.1, refl)
 effect k me (Start s) d r e h = ap (λ z. z.heap) h.0
 
 -- what a call that was done can do at most
@@ -136,7 +136,7 @@ undo_shown k m = ap (λ p. overlay m.image p.changes) (cond-true (eqb k k) (undo
 module _ {T X : Type 0} (hold : X → Hold T) (segment : X → ℕ) (me : X → Side) (same : X → X → Type 0) where
   pub seg_lawful : Lawful (seg_sense hold segment me same)
   seg_lawful = record {
-    effect = λ c v r w d. subst (λ k. Effect c (sees (hold v).meaning (segment v)) r (sees (hold w).meaning k)) (sym d.1.segment_is) (effect (segment v) (me v) c (hold v) r (hold w) d.0);
+    effect = λ c v r w d. subst (λ k. Effect false c (sees (hold v).meaning (segment v)) r (sees (hold w).meaning k)) (sym d.1.segment_is) (effect (segment v) (me v) c (hold v) r (hold w) d.0);
     live = λ c v r w d. live (segment v) (me v) c (hold v) r (hold w) d.0;
     seen = λ c v r w a d t. subst (λ k. Seen a k (hold w)) (sym d.1.segment_is) (seen_by (segment v) (me v) c (hold v) r (hold w) a d.0 t);
     stays = λ c v r w a d s. subst (λ k. Seen a k (hold w)) (sym d.1.segment_is) (seen_stays (segment v) (me v) c (hold v) r (hold w) a d.0 s);
