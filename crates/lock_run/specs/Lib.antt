@@ -14,3 +14,4 @@ pub mod RunState
 pub mod Whys
 pub mod Script
 pub mod ScriptLaws
+pub mod ScriptSafe
