@@ -3,8 +3,9 @@
 use Rattle.std.specs.Prelude.{◌≡◌, ℕ, zero, suc, ◌+◌, ◌<◌, ◌≤◌, ◌^◌, ◌==◌, codes, List, [], ◌∷◌, ◌++◌, Option, Some, None, Bool, true, false, IsTrue, All, if◌then◌else◌, drop, length, map, get_or, slice_get}
 use Rattle.std.specs.List.{flat_map, last_or, list_any}
 use Rattle.std.specs.Str.{bytes_eq}
-use Rattle.py_data.specs.declared.value.Kind.{Kind}
-use Rattle.py_data.specs.declared.value.Kind.TheVariants.{Str, Cell, Class}
+use Rattle.py_base.specs.declared.kind.Kind.{Kind}
+use Rattle.py_base.specs.declared.kind.Kind.TheVariants.{Str, Cell, Class}
+use Rattle.py_base.specs.Numbers.{class_count}
 use Rattle.py_code.specs.declared.instr.Instr.{Instr}
 use Rattle.py_code.specs.declared.instr.Instr.TheVariants.{LoadName, StoreName, DelName, MakeFunction, ClassBody}
 use Rattle.py_code.specs.declared.program.Root.{Root}
@@ -29,17 +30,13 @@ abbrev pub class_roots : ℕ → ℕ → List Root
 class_roots c zero = []
 class_roots c (suc n) = class_root c ∷ class_roots (c + 1) n
 
--- how many classes there are
-abbrev pub classes : ℕ
-classes = 20
-
 -- the cell of the count of threads, the classes, the strings, the cells of the global names
 abbrev pub roots_of : List (List ℕ) → List (List ℕ) → List Root
-roots_of texts names = cell_root [] ∷ class_roots 0 classes ++ map text_root texts ++ map cell_root names
+roots_of texts names = cell_root [] ∷ class_roots 0 class_count ++ map text_root texts ++ map cell_root names
 
 -- the number of the first string
 abbrev pub first_text : ℕ
-first_text = 1 + classes
+first_text = 1 + class_count
 
 -- the strings among the roots
 abbrev pub texts_by : Kind → List ℕ → List (List ℕ) → List (List ℕ)

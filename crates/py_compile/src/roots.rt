@@ -3,8 +3,8 @@ ghost use Rattle.std.specs.Prelude.{◌≡◌, ◌++◌, ◌∷◌, [], map, IfO
 ghost use Rattle.py_compile.specs.Whole.{roots_with};
 ghost use Rattle.py_code.specs.Right.{cell_root, class_roots, classes};
 
+use py_base::{Bytes, Kind, NoMemory};
 use py_code::{Root, Roots};
-use py_data::{Bytes, Kind, NoMemory};
 use py_names::NameSet;
 use std::alloc::Global;
 

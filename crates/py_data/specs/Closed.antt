@@ -3,7 +3,7 @@
 use Rattle.std.specs.Prelude.{◌≡◌, ℕ, suc, ◌<◌, Option, Some, None, All}
 use Rattle.py_data.specs.declared.value.Value.{Value}
 use Rattle.py_data.specs.declared.value.Value.TheVariants.{None as NoneValue, Ref, Builtin}
-use Rattle.py_data.specs.declared.value.Kind.TheVariants.{Class}
+use Rattle.py_base.specs.declared.kind.Kind.TheVariants.{Class}
 use Rattle.py_data.specs.Heap.{Rec, Heap, Has, value_at}
 use Rattle.py_data.specs.Shape.{IsShaped}
 

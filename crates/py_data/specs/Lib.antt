@@ -17,4 +17,3 @@ pub mod World
 pub mod Sight
 pub mod Frames
 pub mod Laws
-pub mod Refusal

@@ -3,8 +3,8 @@ use Rattle.std.specs.Prelude.{ℕ, pos, negsuc, Bool, true, false, not, List, []
 use Rattle.std.specs.Ordering.{int_eq}
 use Rattle.py_data.specs.declared.value.Value.{Value}
 use Rattle.py_data.specs.declared.value.Value.TheVariants.{Unset, None as NoneValue, Bool as BoolValue, Int, Ref, Builtin}
-use Rattle.py_data.specs.declared.value.Kind.{Kind}
-use Rattle.py_data.specs.declared.value.Kind.TheVariants.{Str, Tuple, List as ListKind, Dict, Range}
+use Rattle.py_base.specs.declared.kind.Kind.{Kind}
+use Rattle.py_base.specs.declared.kind.Kind.TheVariants.{Str, Tuple, List as ListKind, Dict, Range}
 use Rattle.py_data.specs.Heap.{Heap, at}
 
 abbrev pub is_filled : {A : Type 0} → List A → Bool

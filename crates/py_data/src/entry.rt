@@ -3,9 +3,9 @@ ghost use Rattle.std.specs.Prelude.{◌≡◌, ℕ, ◌+◌, ◌*◌, ◌<◌, �
 ghost use Rattle.py_data.specs.Heap.{with_value, with_push, cut_to, with_pair, without_pair, room_of, power_above};
 ghost use Rattle.py_data.specs.Made.{rec_of};
 
-use crate::collection::NoMemory;
 use crate::record::{Entry, LENGTH_LIMIT, Record};
-use crate::value::{Kind, Value};
+use crate::value::Value;
+use py_base::{Kind, NoMemory};
 use std::alloc::Global;
 
 impl Entry {

@@ -3,9 +3,9 @@ ghost use Rattle.std.specs.Prelude.{◌≡◌, ◌+◌, ◌*◌, ◌<◌, length
 ghost use Rattle.py_data.specs.Heap.{Heap};
 ghost use Rattle.py_data.specs.Shape.{find, same_key, text_in};
 
-use crate::collection::Values;
 use crate::record::Entry;
-use crate::value::{Kind, Value};
+use crate::value::{Value, Values};
+use py_base::Kind;
 
 /// Records that can be looked up by their addresses.
 pub trait Records {

@@ -3,13 +3,11 @@
 
 pub mod arithmetic;
 mod change;
-mod collection;
 mod entry;
 pub mod exception;
 mod find;
 mod laws;
 mod record;
-mod refusal;
 mod stop;
 #[cfg(test)]
 mod tests;
@@ -17,11 +15,12 @@ mod value;
 mod view;
 
 pub use change::{Change, changed};
-pub use collection::{Bytes, Duplicate, Items, Log, Names, NoMemory, Values};
 pub use find::{Records, find_pair};
 pub use laws::{afresh_law, bind_law, frame_law, names_law, part_law, stop_law, world_law};
+pub use py_base::{
+    Bytes, Construct, Duplicate, Items, Kind, Log, NoMemory, Refusal, builtin, operator,
+};
 pub use record::{Entry, Fault, Got, LENGTH_LIMIT, Record, With};
-pub use refusal::{Construct, Refusal};
 pub use stop::{Conflict, Conflicts, Out, Side, Stop};
-pub use value::{Addr, Kind, Value};
+pub use value::{Addr, Names, Value, Values};
 pub use view::{Peek, View};

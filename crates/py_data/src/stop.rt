@@ -2,8 +2,8 @@
 ghost use Rattle.std.specs.Prelude.{◌≡◌, Ok};
 ghost use Rattle.py_data.specs.declared.stop.Stop.TheVariants.{OutOfMemory};
 
-use crate::collection::{Duplicate, Log, NoMemory};
 use crate::value::Addr;
+use py_base::{Duplicate, Log, NoMemory};
 use std::alloc::{AllocError, Global};
 
 /// One of the two outputs.

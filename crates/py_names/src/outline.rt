@@ -5,7 +5,7 @@ ghost use Rattle.py_names.specs.Outline.{is_none, used_name, bound_name, label, 
 
 use crate::event::Event;
 use crate::names::NameSet;
-use py_data::{Bytes, NoMemory};
+use py_base::{Bytes, NoMemory};
 use sqlite_items::Items;
 use std::alloc::Global;
 use std::marker::Model;

@@ -6,10 +6,10 @@ ghost use Rattle.py_names.specs.Outline.{bound_name, imported, imported_name, in
 ghost use Rattle.py_names.specs.Roles.{told_some};
 
 use crate::event::{BodyKind, Event};
-use crate::expression::{Role, expression, expressions, split};
+use crate::expression::{Role, expression, expressions};
 use crate::names::NameSet;
 use crate::outline::Outline;
-use py_data::{Bytes, NoMemory};
+use py_base::{Bytes, NoMemory, split};
 use py_tree::{Arm, Clause, Expr, Handler, Imported, Param, Stmt};
 
 /// Where a statement stands.

@@ -3,7 +3,8 @@ ghost use Rattle.std.specs.Prelude.{◌≡◌, ◌↔◌, ◌<◌, ◌≤◌, []
 ghost use Rattle.py_code.specs.Effects.{IsCell, IsConstant, IsKeys, IsKnown, IsText};
 ghost use Rattle.py_code.specs.Right.{first_text};
 
-use py_code::{Code, Constant, Instr, Keys, builtin};
+use py_base::builtin;
+use py_code::{Code, Constant, Instr, Keys};
 use std::marker::Model;
 
 /// The root that is the first string: the cell of the count of threads and the classes stand before it.

@@ -4,11 +4,11 @@ ghost use Rattle.py_code.specs.Right.{all_instrs, AreRight, Belongs, bodies, fir
 
 use crate::bounds::{Bounds, FIRST_TEXT};
 use crate::names::NameSet;
-use crate::roots::{count_texts, split};
+use crate::roots::count_texts;
 use crate::setup::{first_place, sets_up};
 use crate::typing::is_right;
+use py_base::{Items, Kind, NoMemory, split};
 use py_code::{Code, Instr, Root};
-use py_data::{Items, Kind, NoMemory};
 use std::alloc::Global;
 use std::marker::Model;
 

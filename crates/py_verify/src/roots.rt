@@ -5,8 +5,8 @@ ghost use Rattle.py_code.specs.Right.{cells_of, differ, has, HasRoots, main_name
 ghost use Rattle.py_verify.specs.Tests.{any_long, are_cells, are_classes, are_roots, are_texts, is_cell_by, is_class_by, is_empty, is_long_by, is_text_by, IsFormed};
 
 use crate::names::NameSet;
+use py_base::{Kind, NoMemory, split};
 use py_code::Root;
-use py_data::{Kind, NoMemory};
 use std::alloc::Global;
 
 /// How many classes there are among the roots.
@@ -14,13 +14,6 @@ const CLASSES: u8 = 20;
 
 /// The greatest length of a string, in bytes.
 const LONGEST: usize = 1_048_576;
-
-/// The first of these and the others.
-pub fn split<T>(items: &[T]) -> Option<(&T, &[T])>
-    ensures { MatchOption result (items.now ≡ []) (λ p. items.now ≡ p.0.now ∷ p.1.now) }
-{
-    items.split_first()
-}
 
 fn is_cell(r: &Root) -> bool
     ensures { result ≡ is_cell_by r.now.kind r.now.number }

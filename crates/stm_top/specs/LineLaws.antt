@@ -7,7 +7,8 @@ use Rattle.py_data.specs.declared.value.Value.{Value}
 use Rattle.py_data.specs.declared.value.Value.TheVariants.{Unset}
 use Rattle.py_data.specs.declared.stop.Out.TheVariants.{Output}
 use Rattle.py_data.specs.Heap.{Heap, Rec, Has, put_at, value_at, with_value, no_records}
-use Rattle.py_data.specs.Row.{Call, Reply, Row, Ret, Do, Read, SetVal, Make, Put, MidLine, bind}
+use Rattle.py_data.specs.Row.{Call, Reply, Row, Ret, Do, Read, Edit, Make, Put, MidLine, bind}
+use Rattle.py_data.specs.declared.change.Change.TheVariants as change
 use Rattle.py_data.specs.Sense.{Run}
 use Rattle.py_data.specs.Sight.{Sight, Does, opened, pure}
 use Rattle.py_data.proofs.Rows.{bind-run}
@@ -177,7 +178,8 @@ step_stood p s Over x y o s1 d h =
     let keeps : Keeps x y = subst (Keeps x) (sym d.1) (keeps_all x) in
     (keeps, subst (λ (q : Outcome × LineState). AreThere y.heap q.1.cells) (sym d.0) (there_later x.heap y.heap s.cells keeps.there h.there))
 
-only_one : (ss : List LineState) (l s s1 : LineState) (t : ℕ) (started : List LineState) → ss ≡ l ∷ [] → slice_get ss t ≡ Some s → started ≡ [] → (l ≡ s) × (slice_set (ss ++ started) t s1 ≡ s1 ∷ [])
+-- the states are one, and its step leaves one
+pub only_one : (ss : List LineState) (l s s1 : LineState) (t : ℕ) (started : List LineState) → ss ≡ l ∷ [] → slice_get ss t ≡ Some s → started ≡ [] → (l ≡ s) × (slice_set (ss ++ started) t s1 ≡ s1 ∷ [])
 only_one ss l s s1 zero started a e n =
     let q : slice_get (l ∷ []) 0 ≡ Some s = sym (ap (λ z. slice_get z 0) a) ∙ e in
     ((let r : l ≡ s = cc in r), ap (λ z. slice_set (z ++ started) 0 s1) a ∙ ap (λ z. slice_set ((l ∷ []) ++ z) 0 s1) n)
@@ -246,14 +248,14 @@ OnlyCalls f (Do c k) = f c × ((r : Reply c) → OnlyCalls f (k r))
 -- a call of an assignment, or of the step that makes the Cells
 abbrev pub IsQuiet : {S : Type 0} → Call S → Type 0
 IsQuiet (Read a) = Unit {0}
-IsQuiet (SetVal a i v) = Unit {0}
+IsQuiet (Edit a (change.Set i v)) = Unit {0}
 IsQuiet (Make r) = Unit {0}
 IsQuiet _ = ⊥
 
 -- or else a write to the output
 abbrev pub IsLineCall : {S : Type 0} → Call S → Type 0
 IsLineCall (Read a) = Unit {0}
-IsLineCall (SetVal a i v) = Unit {0}
+IsLineCall (Edit a (change.Set i v)) = Unit {0}
 IsLineCall (Make r) = Unit {0}
 IsLineCall (Put Output bytes) = Unit {0}
 IsLineCall _ = ⊥
@@ -269,7 +271,7 @@ only_wider v w (Do c k) h m = (h c m.0, λ r. only_wider v w (k r) h (m.1 r))
 
 quiet_line : {S : Type 0} (c : Call S) → IsQuiet c → IsLineCall c
 quiet_line (Read a) h = tt
-quiet_line (SetVal a i v) h = tt
+quiet_line (Edit a (change.Set i v)) h = tt
 quiet_line (Make r) h = tt
 quiet_line _ h = absurd h
 

@@ -11,7 +11,7 @@ use crate::assembly::names::{
 use crate::assembly::operand::{Operand, mnemonic, operand_of};
 use crate::instr::{Constant, Instr};
 use crate::program::{Code, Keys, Lines, Program, Root};
-use py_data::{Bytes, NoMemory};
+use py_base::{Bytes, NoMemory};
 use py_text::print_int;
 use std::alloc::Global;
 

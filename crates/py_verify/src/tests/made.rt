@@ -1,7 +1,7 @@
 //! Programs made of their parts, and whether they pass.
 use crate::verify;
+use py_base::{Bytes, Kind};
 use py_code::{Code, Codes, Instr, Instrs, KeyLists, Keys, Lines, Program, Root, Roots, Texts};
-use py_data::{Bytes, Kind};
 use std::alloc::{AllocError, Global};
 
 /// How many classes there are.

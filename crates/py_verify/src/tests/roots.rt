@@ -1,7 +1,7 @@
 //! The form and the order of the roots, and how many and how long they are.
 use super::made::{CLASSES, add_root, code, first_roots, passes};
+use py_base::{Bytes, Kind};
 use py_code::{Codes, Constant, Instr, Root, Roots};
-use py_data::{Bytes, Kind};
 use std::alloc::{AllocError, Global};
 use std::test;
 

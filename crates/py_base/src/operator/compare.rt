@@ -29,3 +29,6 @@ pub const IS: u8 = 8;
 
 /// `is not`.
 pub const IS_NOT: u8 = 9;
+
+/// How many of these operators there are.
+pub const COUNT: u8 = 10;

@@ -1,8 +1,7 @@
 //! Lists that contracts see as lists, without where they lie in memory.
 ghost use Rattle.std.specs.Prelude.{◌≡◌, ℕ, ◌+◌, ◌-◌, ◌<◌, ◌≤◌, List, [], ◌∷◌, ◌++◌, length, slice_get, slice_index_or, slice_set, option_copied, IfOk, IsOk, OnErr, OnOk, remove, take};
-ghost use Rattle.py_data.specs.Collection.{Logged};
+ghost use Rattle.py_base.specs.Collection.{Logged};
 
-use crate::value::{Addr, Value};
 use std::alloc::{AllocError, Global};
 use std::marker::Model;
 
@@ -11,12 +10,6 @@ pub type NoMemory = AllocError;
 
 /// The bytes of a text.
 pub type Bytes = Items<u8>;
-
-/// Values, as a record holds them.
-pub type Values = Items<Value>;
-
-/// The addresses that a turn's new records got, in order.
-pub type Names = Items<Addr>;
 
 /// A list of elements. Contracts see of it the elements in their order, and nothing of where they lie.
 #[derive(Debug, Drop)]
@@ -152,7 +145,7 @@ pub struct Log<T> {
 
 impl<T> Model for Log<T> {
     ghost use Rattle.std.specs.Prelude.{◌-◌, vec_len, vec_capacity};
-    ghost use Rattle.py_data.specs.Collection.{Logged};
+    ghost use Rattle.py_base.specs.Collection.{Logged};
 
     ghost Value = { Logged T };
 

@@ -1,11 +1,12 @@
--- A list of names, searched through what it was made from.
+-- A set of names that code keeps as other values: what it holds is a list of names, and the list is searched through these
+-- values.
 use Rattle.std.specs.Prelude.{position, nat_lt, not, ◌+◌, Some, None}
 use Rattle.std.specs.List.{position_or_len}
 use Rattle.std.proofs.Common.{Option, length, sym, ◌≡◌, ℕ, Bool, true, false, cond, List, [], ◌∷◌, ◌++◌, map, refl, subst, ap, ◌∙◌, ◌||◌}
 use Rattle.std.specs.List.{list_any}
 use Rattle.std.proofs.lemmas.List.{map-append, length-map}
 
-pub list_any-over : {A B : Type 0} (f : A → B) (p : B → Bool) (ks : List A) → list_any p (map f ks) ≡ list_any (λ k. p (f k)) ks
+list_any-over : {A B : Type 0} (f : A → B) (p : B → Bool) (ks : List A) → list_any p (map f ks) ≡ list_any (λ k. p (f k)) ks
 list_any-over f p [] = refl
 list_any-over f p (k ∷ ks) = ap (λ b. p (f k) || b) (list_any-over f p ks)
 
@@ -37,3 +38,9 @@ shown_place f p ks names i e n = subst (λ ns. i ≡ position p ns) n (e ∙ sym
 
 pub shown_len : {A B : Type 0} (f : A → B) (ks : List A) (names : List B) (n : ℕ) → n ≡ length ks → map f ks ≡ names → n ≡ length names
 shown_len f ks names n e m = subst (λ ns. n ≡ length ns) m (e ∙ sym (length-map ks f))
+
+-- a set of names after a new one was put in, as the list of names
+pub shown_more : {A B : Type 0} (f : A → B) (p : B → Bool) (ks ks' : List A) (k : A) (names : List B) → ks' ≡ cond (list_any (λ x. p (f x)) ks) ks (ks ++ k ∷ []) → map f ks ≡ names → list_any p names ≡ false → map f ks' ≡ names ++ f k ∷ []
+shown_more f p ks ks' k names e n new =
+    let a : list_any (λ x. p (f x)) ks ≡ false = sym (list_any-over f p ks) ∙ ap (list_any p) n ∙ new in
+    ap (map f) (e ∙ ap (λ b. cond b ks (ks ++ k ∷ [])) a) ∙ map-append f ks (k ∷ []) ∙ ap (λ ns. ns ++ f k ∷ []) n

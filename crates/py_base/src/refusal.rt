@@ -1,6 +1,6 @@
 //! Why a script's text is refused.
 ghost use Rattle.std.specs.Prelude.{◌≡◌};
-ghost use Rattle.py_data.specs.Refusal.{refusal_number, refusal_line};
+ghost use Rattle.py_base.specs.Refusal.{refusal_number, refusal_line};
 
 /// A form of Python 2.7 that this profile leaves out.
 #[derive(Clone, Copy, Debug, Drop, PartialEq, Eq)]

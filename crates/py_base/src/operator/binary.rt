@@ -35,3 +35,6 @@ pub const REMAINDER: u8 = 10;
 
 /// `**`.
 pub const POWER: u8 = 11;
+
+/// How many of these operators there are.
+pub const COUNT: u8 = 12;

@@ -1,7 +1,7 @@
 -- The number and the line of a refusal. States `docs/LANGUAGE.md`, "Refusals".
 use Rattle.std.specs.Prelude.{ℕ}
-use Rattle.py_data.specs.declared.refusal.Refusal.{Refusal}
-use Rattle.py_data.specs.declared.refusal.Refusal.TheVariants.{BadCharacter, BadDedent, OpenString, NumberWide, Unexpected, LeftOut, Deep, Misplaced, Doubled, Closure, TooLarge, BadEscape}
+use Rattle.py_base.specs.declared.refusal.Refusal.{Refusal}
+use Rattle.py_base.specs.declared.refusal.Refusal.TheVariants.{BadCharacter, BadDedent, OpenString, NumberWide, Unexpected, LeftOut, Deep, Misplaced, Doubled, Closure, TooLarge, BadEscape}
 
 -- the number of a refusal, from 1 to 12
 abbrev pub refusal_number : Refusal → ℕ
