@@ -6,23 +6,26 @@ use Rattle.py_data.specs.declared.value.Addr.{Addr}
 use Rattle.py_data.specs.declared.stop.Stop.{Stop}
 use Rattle.py_data.specs.Row.{Row, Ret}
 use Rattle.py_data.specs.Sense.{Sense, Bracket, IsBracket, Run, Stopped, Meets, Safe}
+use Rattle.py_data.proofs.Parts.{safe_shown}
 use Rattle.py_data.proofs.Rows.{run-bind, run-ret, stop-first}
 use Rattle.lock_run.specs.declared.client.Outcome.{Outcome}
 use Rattle.lock_run.specs.declared.client.Outcome.TheVariants.{Ended}
 use Rattle.lock_run.specs.declared.script.Act.{Act}
 use Rattle.lock_run.specs.declared.script.ScriptState.{ScriptState}
 use Rattle.lock_run.specs.declared.script.ScriptState.TheVariants.{Prelude, Acts, Over}
-use Rattle.lock_run.specs.Client.{Standing, Stepped, StepStopped}
+use Rattle.lock_run.specs.Client.{StandsIn, Stepped, StepStopped}
 use Rattle.lock_run.specs.Script.{prelude_row, act_row, act_at, now_done, at_act, script_row, IsStanding, ScriptSound}
 use Rattle.lock_run.specs.ScriptLaws.{one_of}
-use Rattle.lock_run.proofs.ScriptRecords.{act_safe}
+use Rattle.lock_run.specs.ScriptSafe.{act_safe}
 
 -- the acts of a thread have the records that they ask for
 pub perform_safe : {X : Type 0} (u : Sense ScriptState X) (b : Bracket ScriptState X) (p : Bool) (s : ScriptState) (number done : ℕ) (cells : List Addr) (list : Addr) (act : Act) (v v1 : X) → IsBracket u b → b.opens v v1
-    → Standing (ScriptSound (u.heap v)) s → s ≡ Acts number done cells list → Safe {S = ScriptState} p (act_row cells list act) (u.heap v1)
-perform_safe u b p s number done cells list act v v1 bracket opens stands e =
-    let l : IsStanding (u.heap v) s = one_of (u.heap v) stands.0 stands.1 s stands.2 stands.3.all in
-    subst (λ h. Safe {S = ScriptState} p (act_row cells list act) h) (sym (bracket.opened v v1 opens).0) (act_safe ScriptState p (u.heap v) cells list act (subst (IsStanding (u.heap v)) e l))
+    → StandsIn ScriptSound p (u.heap v) s → s ≡ Acts number done cells list → Safe {S = ScriptState} p (act_row cells list act) (u.heap v1)
+perform_safe u b p s number done cells list act v v1 bracket opens i e =
+    let stands = i.standing in
+    let l : IsStanding i.heap s = one_of i.heap stands.0 stands.1 s stands.2 stands.3.all in
+    let safe = safe_shown p (act_row {S = ScriptState} cells list act) (u.heap v) i.heap i.shown (act_safe ScriptState i.heap cells list act (subst (IsStanding i.heap) e l)) in
+    subst (λ h. Safe {S = ScriptState} p (act_row cells list act) h) (sym (bracket.opened v v1 opens).0) safe
 
 -- a thread that was ended
 pub has_ended : (out : Outcome) (s1 : ScriptState) → out ≡ Ended → s1 ≡ Over → ◌≡◌ {A = Outcome × ScriptState} (out, s1) (Ended, Over)

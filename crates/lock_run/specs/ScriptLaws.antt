@@ -10,7 +10,8 @@ use Rattle.py_base.specs.declared.kind.Kind.{Kind}
 use Rattle.py_base.specs.declared.kind.Kind.TheVariants.{Cell, List as ListKind}
 use Rattle.py_data.specs.declared.record.TheConstants.{LENGTH_LIMIT}
 use Rattle.py_data.specs.Heap.{Heap, Rec, put_at, no_records, with_value, with_push}
-use Rattle.py_data.specs.Row.{Call, Reply, Row, Ret, Do, Push, MidLine, bind}
+use Rattle.py_data.specs.Row.{Call, Reply, Row, Ret, Do, Edit, MidLine, bind}
+use Rattle.py_data.specs.declared.change.Change.TheVariants as change
 use Rattle.py_data.specs.Sense.{Run}
 use Rattle.py_data.specs.Sight.{Sight, Does, opened, pure}
 use Rattle.py_data.proofs.Rows.{bind-run}
@@ -21,8 +22,8 @@ use Rattle.lock_run.specs.declared.script.Act.{Act}
 use Rattle.lock_run.specs.declared.script.Act.TheVariants.{Look, Set, Push as PushAct, Put as PutAct}
 use Rattle.lock_run.specs.declared.script.ScriptState.{ScriptState}
 use Rattle.lock_run.specs.declared.script.ScriptState.TheVariants.{Prelude, Acts, Over}
-use Rattle.lock_run.specs.Client.{StaysSound, WaitsQuietly, WritesThen, AsksToPrint}
-use Rattle.lock_run.specs.Script.{zero_cell, empty_list, with_cell, make_cells, start_threads, list_and_threads, prelude_row, look_row, set_row, push_row, act_row, act_at, now_done, at_act, script_row, script_prog, IsCell, IsList, Is, HasCells, HasList, IsStanding, AreStanding, ScriptSound}
+use Rattle.lock_run.specs.Client.{StaysSound, LifeAfter, TellsLife, WaitsQuietly, WritesThen, AsksToPrint}
+use Rattle.lock_run.specs.Script.{zero_cell, empty_list, with_cell, make_cells, start_threads, list_and_threads, prelude_row, look_row, set_row, push_row, act_row, act_at, now_done, at_act, script_row, script_life, script_prog, IsCell, IsList, Is, HasCells, HasList, IsStanding, AreStanding, ScriptSound}
 
 -- ---- the first state over the empty heap
 pub script_sound_first : ScriptSound no_records (Prelude ∷ [])
@@ -131,7 +132,7 @@ was_set (Some a) v x y u d =
 no_cell : (k : Kind) → k ≡ ListKind → k ≡ Cell → ⊥
 no_cell k e f = let q : ◌≡◌ {A = Kind} ListKind Cell = sym e ∙ f in cc
 
-was_pushed : {S : Type 0} (b : Bool) (list : Addr) (v : Value) (x y : Sight S) (u : Unit {0}) → Does (cond b (Do (Push list.0 v) (λ _. Ret tt)) (Ret tt)) x u y → Keeps x y
+was_pushed : {S : Type 0} (b : Bool) (list : Addr) (v : Value) (x y : Sight S) (u : Unit {0}) → Does (cond b (Do (Edit list.0 (change.Push v)) (λ _. Ret tt)) (Ret tt)) x u y → Keeps x y
 unfolding Run
 was_pushed false list v x y u d = keeps_same x y (ap (λ z. z.heap) d.1) (ap (λ z. z.started) d.1)
 was_pushed true list v x y u d =
@@ -139,7 +140,7 @@ was_pushed true list v x y u d =
     let q = with_push v e.0 in
     subst (Keeps x) (sym (d.3.1 ∙ e.3)) (record {
       stays = record {
-        cells = is_edited IsCell x.heap list.0 e.0 q e.1 (λ p. absurd (no_cell e.0.kind e.2 p.0));
+        cells = is_edited IsCell x.heap list.0 e.0 q e.1 (λ p. absurd (no_cell e.0.kind e.2.0 p.0));
         lists = is_edited IsList x.heap list.0 e.0 q e.1 (λ p. p);
       };
       started = refl;
@@ -261,6 +262,27 @@ script_sound_step n lists ss t s h w o s1 y l e life d =
     let z = step_stood n lists s (opened ScriptState h w) y (o, s1) d (one_of h ss t s e l.all) refl in
     record { all = all_set y.heap (ss ++ y.started) t s1 (all_and y.heap ss y.started (all_stay h y.heap z.stays ss l.all) z.started) z.now }
 
+-- ---- a step after which the thread has ended was its last
+over_life : (o : Outcome) (s1 : ScriptState) → ◌≡◌ {A = Outcome × ScriptState} (o, s1) (Ended, Over) → LifeAfter o (script_life s1)
+over_life o s1 e = subst (λ (q : Outcome × ScriptState). LifeAfter q.0 (script_life q.1)) (sym e) (λ f. cc)
+
+done_life : (o : Outcome) (s1 : ScriptState) (next : Option Act) (number done : ℕ) (cells : List Addr) (list : Addr) → (o, s1) ≡ now_done next number done cells list → LifeAfter o (script_life s1)
+done_life o s1 (Some act) number done cells list e = subst (λ (q : Outcome × ScriptState). LifeAfter q.0 (script_life q.1)) (sym e) refl
+done_life o s1 None number done cells list e = over_life o s1 e
+
+act_life : (lists : List (List Act)) (number done : ℕ) (cells : List Addr) (list : Addr) (act : Option Act) (o : Outcome) (s1 : ScriptState) (x y : Sight ScriptState) → Does (at_act lists number done cells list act) x (o, s1) y → LifeAfter o (script_life s1)
+unfolding Run
+act_life lists number done cells list (Some act) o s1 x y d =
+    let b = bind-run pure (act_row cells list act) (after_act lists number done cells list) x (o, s1) y d in
+    done_life o s1 (act_at lists number (done + 1)) number (done + 1) cells list b.3.0
+act_life lists number done cells list None o s1 x y d = over_life o s1 d.0
+
+pub script_tells_life : (n : ℕ) (lists : List (List Act)) → TellsLife (script_prog n lists)
+unfolding script_row Run
+script_tells_life n lists Prelude s1 x y o lives d = let b = bind-run pure (prelude_row n (length lists)) then_over x (o, s1) y d in over_life o s1 b.3.0
+script_tells_life n lists (Acts number done cells list) s1 x y o lives d = act_life lists number done cells list (act_at lists number done) o s1 x y d
+script_tells_life n lists Over s1 x y o lives d = over_life o s1 d.0
+
 -- ---- no step waits
 over_goes : (s1 : ScriptState) → ◌≡◌ {A = Outcome × ScriptState} (Waits, s1) (Ended, Over) → ⊥
 over_goes s1 e = let q : ◌≡◌ {A = Outcome} Waits Ended = ap (λ z. z.0) e in cc
@@ -327,7 +349,7 @@ unfolding set_row
 set_never None v = tt
 set_never (Some a) v = (tt, λ u. tt)
 
-push_never : (b : Bool) (list : Addr) (v : Value) → NeverAsks {S = ScriptState} {A = Unit {0}} (cond b (Do (Push list.0 v) (λ _. Ret tt)) (Ret tt))
+push_never : (b : Bool) (list : Addr) (v : Value) → NeverAsks {S = ScriptState} {A = Unit {0}} (cond b (Do (Edit list.0 (change.Push v)) (λ _. Ret tt)) (Ret tt))
 push_never true list v = (tt, λ u. tt)
 push_never false list v = tt
 

@@ -1,7 +1,7 @@
 //! A client: what the threads of a machine do, over any view.
 ghost use Rattle.std.specs.Prelude.{◌≡◌, ◌↔◌, IsTrue, true, false, List, [], ◌∷◌, IfOk, IfErr, OnErr};
 ghost use Rattle.py_data.specs.Heap.{Heap, no_records};
-ghost use Rattle.lock_run.specs.Client.{Standing, Stepped, StepStopped, StaysSound, WaitsQuietly, AsksToPrint, Waiting, Going};
+ghost use Rattle.lock_run.specs.Client.{Standing, StandsIn, Stepped, StepStopped, StaysSound, IsSafe, TellsLife, WaitsQuietly, AsksToPrint, Waiting, Going};
 ghost use Rattle.lock_run.specs.Prog.{Prog};
 ghost use Rattle.lock_run.specs.declared.client.Life.TheVariants.{Lives};
 
@@ -46,14 +46,15 @@ pub trait Client {
     fn first(&self, alloc: Global) -> Result<Self::State, NoMemory>
         ensures { IfOk result (λ s. s ≡ (prog self.now).first) };
 
-    /// One step of a thread that lives. At a Stop the state is as before, and the view's step was taken back.
+    /// One step of a thread that lives. At a Stop the state is as before, and the view's step was taken back. Over a view of a
+    /// part of a heap the state stands over some heap with the part's records, and what the step does holds for each such heap.
     fn step<V: View<Self::State>>(
         &self,
         alloc: Global,
         s: &mut Self::State,
         v: &mut V,
     ) -> Result<Outcome, Stop>
-        requires stands { Standing (sound self.now (V.sense.heap v.old)) s.old }
+        requires stands { StandsIn (sound self.now) V.sense.partial (V.sense.heap v.old) s.old }
         requires lives { (prog self.now).life s.old ≡ Lives }
         ensures ok { IfOk result (λ o. Stepped V.sense V.bracket ((prog self.now).row s.old) v.old o s.new v.new) }
         ensures err { IfErr result (λ e. StepStopped V.sense V.bracket ((prog self.now).row s.old) v.old e v.new) }
@@ -83,6 +84,12 @@ pub trait Client {
 
     /// A step leaves states that may stand over the heap that it leaves.
     ghost sound_step: { (c : Self) → StaysSound (prog c) (sound c) };
+
+    /// The next step of a thread that lives has what its calls need.
+    ghost sound_safe: { (c : Self) → IsSafe (prog c) (sound c) };
+
+    /// After a step that was done the thread lives, and after its last step it doesn't.
+    ghost outcomes: { (c : Self) → TellsLife (prog c) };
 
     /// A step that waits leaves all as it was.
     ghost waits_quietly: { (c : Self) → WaitsQuietly (prog c) };

@@ -40,4 +40,4 @@ module _ {S X A : Type 0} {u : Sense S X} (L : Lawful u) {d : ℕ} {key : Value}
 -- what is asked once a value was found to be a possible key
 pub keyed-safe : {S X A : Type 0} (u : Sense S X) (L : Lawful u) (key : Value) (row : Row S (Got A)) (v m : X) (b : Bool) → Safe u.partial (bind (key_row key) (if_key row)) (u.heap v) → Meets u (key_row key) v m (Ok b) → b ≡ true → Safe u.partial row (u.heap m)
 unfolding if_key
-keyed-safe {S} u L key row v m b s h e = subst (λ b. Safe u.partial (if_key row b) (u.heap m)) e (safe-then u L u.partial (key_row key) (if_key row) v m b s h)
+keyed-safe {S} u L key row v m b s h e = subst (λ b. Safe u.partial (if_key row b) (u.heap m)) e (safe-then u L (key_row key) (if_key row) v m b s h)

@@ -136,4 +136,4 @@ pair-read {u = u} L {d = d} {n = n} {vs = vs} {i = i} {refs = refs} {v = v} key 
 pub safe-looked : {S X A : Type 0} {u : Sense S X} (L : Lawful u) (a : ℕ) (k : Rec → Row S A) (v m : X) → u.does (Read a) v (at (u.heap v) a) m → Safe u.partial (Do (Read a) k) (u.heap v) → Safe u.partial (k (at (u.heap m) a)) (u.heap m)
 safe-looked {u = u} L a k v m d s =
     let same : at (u.heap m) a ≡ at (u.heap v) a = ap (λ h. at h a) (read-heap L a v m (at (u.heap v) a) d) in
-    subst (λ r. Safe u.partial (k r) (u.heap m)) (sym same) (safe-next L u.partial (Read a) k v m (at (u.heap v) a) s d)
+    subst (λ r. Safe u.partial (k r) (u.heap m)) (sym same) (safe-next L (Read a) k v m (at (u.heap v) a) s d)

@@ -2,7 +2,7 @@
 use Rattle.std.proofs.Common.{◌≡◌, true, false, refl, ◌∙◌, ap}
 use Rattle.std.proofs.lemmas.Bool.{both_ways}
 use Rattle.py_data.specs.Heap.{Heap}
-use Rattle.py_data.specs.Row.{Call, Reply, Row, Ret, Do, Read, Find, SetVal, Push, Truncate, PushPair, DropPair, Make, Start, Put, Take, MidLine, SetMidLine}
+use Rattle.py_data.specs.Row.{Call, Reply, Row, Ret, Do, Read, Find, Edit, Make, Start, Put, Take, MidLine, SetMidLine}
 use Rattle.py_data.specs.Sense.{Run}
 use Rattle.py_data.specs.Sight.{Sight, Act, Does, opened}
 use Rattle.py_data.specs.World.{World}
@@ -18,11 +18,7 @@ used_by t z e y n = both_ways t.used n (ap (λ t. t.used) e ∙ y)
 act_any : {S : Type 0} (v : World) (c : Call S) (s : Sight S) (r : Reply c) (t : Sight S) → Act c s r t → t.used ≡ false → Act c (over v s) r (over v t)
 act_any v (Read a) s r t d n = (d.0, ap (over v) d.1)
 act_any v (Find a key) s r t d n = (d.0, d.1, d.2, d.3, ap (over v) d.4)
-act_any v (SetVal a i x) s r t d n = (d.0, d.1, d.2, ap (over v) d.3)
-act_any v (Push a x) s r t d n = (d.0, d.1, d.2, ap (over v) d.3)
-act_any v (Truncate a i) s r t d n = (d.0, d.1, d.2, ap (over v) d.3)
-act_any v (PushPair a key x) s r t d n = (d.0, d.1, d.2, ap (over v) d.3)
-act_any v (DropPair a i) s r t d n = (d.0, d.1, d.2, ap (over v) d.3)
+act_any v (Edit a x) s r t d n = (d.0, d.1, d.2, ap (over v) d.3)
 act_any v (Make q) s r t d n = (d.0, ap (over v) d.1)
 act_any v (Start p) s r t d n = ap (over v) d
 act_any v (Put on bytes) s r t d n = absurd (used_by t _ d refl n)

@@ -3,10 +3,14 @@ use Rattle.std.proofs.Common.{◌≡◌, ℕ, ◌*◌, ◌≤◌, ◌==◌, Bool
 use Rattle.std.proofs.lemmas.Bool.{cases_Bool, both_ways, or_cases, or_parts, or_right, or_left, eqb-true, eq-eqb, cond-true, cond-false}
 use Rattle.std.proofs.lemmas.Bool.Decides.{nat_tests}
 use Rattle.py_data.specs.declared.value.Value.{Value}
-use Rattle.py_data.specs.Heap.{Heap, Rec, put_at, is_tracked, with_value, with_push, cut_to, with_pair, without_pair}
-use Rattle.py_data.specs.Row.{Call, Reply, Row, Ret, Do, Read, Find, SetVal, Push, Truncate, PushPair, DropPair, Make, Start, Put, Take, MidLine, SetMidLine}
+use Rattle.py_data.specs.declared.change.Change.{Change}
+use Rattle.py_data.specs.declared.change.Change.TheVariants.{Set, Push, Cut, Pair, Unpair}
+use Rattle.py_base.specs.declared.kind.Kind.{Kind}
+use Rattle.py_data.specs.Changes.{after, IsFor}
+use Rattle.py_data.specs.Heap.{Heap, Rec, put_at, is_tracked, with_push}
+use Rattle.py_data.specs.Row.{Call, Reply, Row, Ret, Do, Read, Find, Edit, Make, Start, Put, Take, MidLine, SetMidLine}
 use Rattle.py_data.specs.Sense.{Run}
-use Rattle.py_data.specs.Sight.{Sight, Act, Does, Edited, looked_at, edited, made_new, started_one, in_world, mem}
+use Rattle.py_data.specs.Sight.{Sight, Act, Does, looked_at, edited, made_new, started_one, in_world, mem}
 use Rattle.py_data.specs.World.{World, wrote, took}
 use Rattle.py_data.specs.Frames.{KeptAs, Grows}
 
@@ -31,20 +35,24 @@ room_more true room = doubles room (room == 0) (λ e. grind (arith, nat_tests))
     doubles room true f = f refl
     doubles room false f = omega arith
 
-pub kept_value : (i : ℕ) (v : Value) (r : Rec) → KeptAs r (with_value i v r)
-kept_value i v r = record { kind = refl; first = refl; room = omega arith }
-
-pub kept_cut : (n : ℕ) (r : Rec) → KeptAs r (cut_to n r)
-kept_cut n r = record { kind = refl; first = refl; room = omega arith }
-
-pub kept_without : (n : ℕ) (r : Rec) → KeptAs r (without_pair n r)
-kept_without n r = record { kind = refl; first = refl; room = omega arith }
-
-pub kept_push : (v : Value) (r : Rec) → KeptAs r (with_push v r)
+kept_push : (v : Value) (r : Rec) → KeptAs r (with_push v r)
 kept_push v r = record { kind = refl; first = refl; room = room_more (length r.values == r.room) r.room }
 
-pub kept_pair : (key v : Value) (r : Rec) → KeptAs r (with_pair key v r)
-kept_pair key v r = kept_trans r (with_push key r) (with_pair key v r) (kept_push key r) (kept_push v (with_push key r))
+-- whatever the change
+pub kept_after : (x : Change) (r : Rec) → KeptAs r (after x r)
+kept_after (Push v) r = kept_push v r
+kept_after (Pair key v) r = kept_trans r (with_push key r) (after (Pair key v) r) (kept_push key r) (kept_push v (with_push key r))
+kept_after (Set i v) r = record { kind = refl; first = refl; room = omega arith }
+kept_after (Cut n) r = record { kind = refl; first = refl; room = omega arith }
+kept_after (Unpair n) r = record { kind = refl; first = refl; room = omega arith }
+
+-- a change is of a tracked record
+pub for_tracked : (x : Change) (k : Kind) → IsFor x k → is_tracked k ≡ true
+for_tracked (Set i v) k e = e
+for_tracked (Push v) k e = ap is_tracked e
+for_tracked (Cut n) k e = ap is_tracked e
+for_tracked (Pair key v) k e = ap is_tracked e
+for_tracked (Unpair n) k e = ap is_tracked e
 
 pub mem_append : (a : ℕ) (xs ys : List ℕ) → mem a (xs ++ ys) ≡ (mem a xs || mem a ys)
 mem_append a [] ys = refl
@@ -189,19 +197,12 @@ grows_make n r s is = record {
     taken : (n b : ℕ) (q : Rec) (h : Heap) → eqb b n ≡ true → h n ≡ None → h b ≡ Some q → ⊥
     taken n b q h y is e = let e1 : h b ≡ None = ap h (eqb-true b n y) ∙ is in cc
 
--- a change of a record
-grows_edited : {S : Type 0} (a : ℕ) (ok : Rec → Type 0) (f : Rec → Rec) (s t : Sight S) → ((r : Rec) → ok r → is_tracked r.kind ≡ true) → ((r : Rec) → KeptAs r (f r)) → Edited a ok f s t → Grows s t
-grows_edited a ok f s t m k d = subst (Grows s) (sym d.3) (grows_edit a d.0 (f d.0) s d.1 (m d.0 d.2) (k d.0))
-
 -- one call
 pub act_grows : {S : Type 0} (c : Call S) (s : Sight S) (r : Reply c) (t : Sight S) → Act c s r t → Grows s t
 act_grows (Read a) s r t d = subst (Grows s) (sym d.1) (grows_look a r s)
 act_grows (Find a key) s o t d = subst (Grows s) (sym d.4) (grows_look a d.0 s)
-act_grows (SetVal a i v) s r t d = grows_edited a _ (with_value i v) s t (λ r h. h.0) (kept_value i v) d
-act_grows (Push a v) s r t d = grows_edited a _ (with_push v) s t (λ r h. ap is_tracked h) (kept_push v) d
-act_grows (Truncate a n) s r t d = grows_edited a _ (cut_to n) s t (λ r h. ap is_tracked h) (kept_cut n) d
-act_grows (PushPair a key v) s r t d = grows_edited a _ (with_pair key v) s t (λ r h. ap is_tracked h) (kept_pair key v) d
-act_grows (DropPair a n) s r t d = grows_edited a _ (without_pair n) s t (λ r h. ap is_tracked h) (kept_without n) d
+act_grows (Edit a x) s r t d =
+    subst (Grows s) (sym d.3) (grows_edit a d.0 (after x d.0) s d.1 (for_tracked x d.0.kind d.2.0) (kept_after x d.0))
 act_grows (Make q) s n t d = subst (Grows s) (sym d.1) (grows_make n q s d.0)
 act_grows (Start p) s r t d = subst (Grows s) (sym d) (grows_start p s)
 act_grows (Put on bytes) s r t d = subst (Grows s) (sym d) (grows_world (wrote on bytes s.world) s)

@@ -5,11 +5,12 @@ use Rattle.py_data.specs.declared.value.Value.{Value}
 use Rattle.py_data.specs.declared.value.Value.TheVariants.{Unset, None as NoneValue, Bool as BoolValue, Int, Ref, Builtin}
 use Rattle.py_base.specs.declared.kind.Kind.{Kind}
 use Rattle.py_base.specs.declared.kind.Kind.TheVariants.{Str, Tuple, List as ListKind, Dict, Cell, Function, Class, Instance, Method, Iter, Range, Lock, Thread}
-use Rattle.py_data.specs.Heap.{Heap, Marks, Rec, put_at, is_tracked, with_value, with_push, cut_to, with_pair, without_pair}
+use Rattle.py_data.specs.Changes.{after}
+use Rattle.py_data.specs.Heap.{Heap, Marks, Rec, put_at, is_tracked}
 use Rattle.py_data.specs.Shape.{is_key_kind, KindIn, IsKey, ArePairs, text_in, same_text, same_key, find_from}
-use Rattle.py_data.specs.Row.{Call, Reply, Row, Ret, Do, Read, Find, SetVal, Push, Truncate, PushPair, DropPair, Make, Start, Put, Take, MidLine, SetMidLine}
+use Rattle.py_data.specs.Row.{Call, Reply, Row, Ret, Do, Read, Find, Edit, Make, Start, Put, Take, MidLine, SetMidLine}
 use Rattle.py_data.specs.Sense.{Run}
-use Rattle.py_data.specs.Sight.{Sight, Act, Does, Edited, with_mark, looked_at, edited, made_new, started_one, in_world, mem, no_marks, opened}
+use Rattle.py_data.specs.Sight.{Sight, Act, Does, with_mark, looked_at, edited, made_new, started_one, in_world, mem, no_marks, opened}
 use Rattle.py_data.specs.World.{World, IsLine, wrote, took}
 use Rattle.py_data.specs.Frames.{Grows, Frame, Mirrors, Agrees, plain, AgreesOn, SameStep, Afresh}
 use Rattle.py_data.proofs.Grow.{with_rec_there, back, grows_refl, act_grows, does_grows}
@@ -208,12 +209,6 @@ fixed_there fr s s' m mi g b q is e = mirror_found fr s s' m mi g b q is (λ t. 
 at_end : {S : Type 0} (fr : Frame S) (c : Call S) (s s' : Sight S) (r : Reply c) (m n : Sight S) → m ≡ n → (AgreesTo fr s n → MirrorsCall fr c s' r n) → AgreesTo fr s m → MirrorsCall fr c s' r m
 at_end {S} fr c s s' r m n e f = subst (λ (z : Sight S). AgreesTo fr s z → MirrorsCall fr c s' r z) (sym e) f
 
-mirror_edited : {S : Type 0} (fr : Frame S) (a : ℕ) (ok : Rec → Type 0) (f : Rec → Rec) (s s' m : Sight S) → Edited a ok f s m → Mirrors fr s s' → AgreesTo fr s m → (m' : Sight S) × Edited a ok f s' m' × Mirrors fr m m'
-mirror_edited {S} fr a ok f s s' m d mi g =
-    let P : Sight S → Type 0 = λ z. AgreesTo fr s z → (m' : Sight S) × Edited a ok f s' m' × Mirrors fr z m' in
-    let h : P (edited a (f d.0) s) = λ g. (edited a (f d.0) s', (d.0, edit_there fr s s' a d.0 (f d.0) d.1 mi g, d.2, refl), mirror_edit fr s s' a (f d.0) mi) in
-    subst P (sym d.3) h g
-
 pub act_mirror : {S : Type 0} (fr : Frame S) (c : Call S) (s s' : Sight S) (r : Reply c) (m : Sight S) → Act c s r m → Mirrors fr s s' → AgreesTo fr s m → MirrorsCall fr c s' r m
 act_mirror fr (Read a) s s' r m d mi g = at_end fr (Read a) s s' r m (looked_at a r s) d.1 (λ g. (looked_at a r s', (look_there fr s s' a r d.0 mi g, refl), mirror_look fr s s' a r mi)) g
 act_mirror fr (Find a key) s s' o m d mi g =
@@ -230,11 +225,9 @@ act_mirror fr (Find a key) s s' o m d mi g =
       ),
       mirror_look fr s s' a d.0 mi,
     )) g
-act_mirror fr (SetVal a i v) s s' r m d mi g = mirror_edited fr a _ (with_value i v) s s' m d mi g
-act_mirror fr (Push a v) s s' r m d mi g = mirror_edited fr a _ (with_push v) s s' m d mi g
-act_mirror fr (Truncate a n) s s' r m d mi g = mirror_edited fr a _ (cut_to n) s s' m d mi g
-act_mirror fr (PushPair a key v) s s' r m d mi g = mirror_edited fr a _ (with_pair key v) s s' m d mi g
-act_mirror fr (DropPair a n) s s' r m d mi g = mirror_edited fr a _ (without_pair n) s s' m d mi g
+act_mirror fr (Edit a x) s s' r m d mi g =
+    at_end fr (Edit a x) s s' r m (edited a (after x d.0) s) d.3 (λ g.
+    (edited a (after x d.0) s', (d.0, edit_there fr s s' a d.0 (after x d.0) d.1 mi g, d.2, refl), mirror_edit fr s s' a (after x d.0) mi)) g
 act_mirror fr (Make q) s s' n m d mi g =
     at_end fr (Make q) s s' n m (made_new n q s) d.1 (λ g. (
       made_new n q s',

@@ -85,9 +85,9 @@ module _ {S A : Type 0} where
   safe-asks p c k h s = s.0
 
 module _ {S X A : Type 0} {u : Sense S X} where
-  pub safe-next : (L : Lawful u) (p : Bool) (c : Call S) (k : Reply c → Row S A) (v m : X) (r : Reply c) → Safe p (Do c k) (u.heap v) → u.does c v r m → Safe p (k r) (u.heap m)
+  pub safe-next : (L : Lawful u) (c : Call S) (k : Reply c → Row S A) (v m : X) (r : Reply c) → Safe u.partial (Do c k) (u.heap v) → u.does c v r m → Safe u.partial (k r) (u.heap m)
   unfolding Safe
-  safe-next L p c k v m r s d = s.1 r (u.heap m) (L.effect c v r m d)
+  safe-next L c k v m r s d = s.1 r (u.heap m) (L.effect c v r m d)
 
 module _ {S X A : Type 0} (u : Sense S X) where
   pub meets-ret : (a : A) (v : X) → Meets u (Ret a) v v (Ok a)
@@ -113,9 +113,9 @@ module _ {S X A : Type 0} (u : Sense S X) where
   meets-answer a v (Err e) h = subst (λ y. Stopped u (Ret a) v y v) (sym h) (own-memory u (Ret a) v)
 
 -- what a safe row asks after a look at a record
-pub asks-after : {S X A : Type 0} {u : Sense S X} (L : Lawful u) (p : Bool) (a : ℕ) (k : Rec → Row S A) (v m : X) (r : Rec) (c : Call S) (k2 : Reply c → Row S A)
-    → Safe p (Do (Read a) k) (u.heap v) → u.does (Read a) v r m → k r ≡ Do c k2 → Asks p c (u.heap m)
-asks-after {u = u} L p a k v m r c k2 s d e = safe-asks p c k2 (u.heap m) (subst (λ q. Safe p q (u.heap m)) e (safe-next L p (Read a) k v m r s d))
+pub asks-after : {S X A : Type 0} {u : Sense S X} (L : Lawful u) (a : ℕ) (k : Rec → Row S A) (v m : X) (r : Rec) (c : Call S) (k2 : Reply c → Row S A)
+    → Safe u.partial (Do (Read a) k) (u.heap v) → u.does (Read a) v r m → k r ≡ Do c k2 → Asks u.partial c (u.heap m)
+asks-after {u = u} L a k v m r c k2 s d e = safe-asks u.partial c k2 (u.heap m) (subst (λ q. Safe u.partial q (u.heap m)) e (safe-next L (Read a) k v m r s d))
 
 pub ruleset row_steps = (meets-ret, meets-own, meets-refused, meets-do, meets-answer, read-heap, read-at, again, not-again, safe-asks, asks-after)
 

@@ -1,7 +1,9 @@
 -- The names decide what a row does, where the source tells its bytes.
 use Rattle.std.proofs.Common.{◌≡◌, inl, inr, ℕ, List, [], ◌∷◌, ◌++◌, length, drop, Option, Some, None, refl, sym, ◌∙◌, ap, subst, append_assoc, append-nil}
-use Rattle.py_data.specs.Heap.{Rec, with_value, with_push, cut_to, with_pair, without_pair}
-use Rattle.py_data.specs.Row.{Call, Reply, Row, Ret, Do, Read, Find, SetVal, Push, Truncate, PushPair, DropPair, Make, Start, Put, Take, MidLine, SetMidLine}
+use Rattle.py_data.specs.declared.change.Change.{Change}
+use Rattle.py_data.specs.Changes.{after}
+use Rattle.py_data.specs.Heap.{Rec}
+use Rattle.py_data.specs.Row.{Call, Reply, Row, Ret, Do, Read, Find, Edit, Make, Start, Put, Take, MidLine, SetMidLine}
 use Rattle.py_data.specs.Shape.{find}
 use Rattle.py_data.specs.Sense.{Run, Upto}
 use Rattle.py_data.specs.declared.stop.Out.TheVariants.{Output, ErrorOutput}
@@ -15,11 +17,7 @@ abbrev pub names_of : {S : Type 0} (c : Call S) → Reply c → List ℕ
 names_of (Make q) n = n ∷ []
 names_of (Read a) r = []
 names_of (Find d key) r = []
-names_of (SetVal a i v) r = []
-names_of (Push a v) r = []
-names_of (Truncate a n) r = []
-names_of (PushPair d key v) r = []
-names_of (DropPair d k) r = []
+names_of (Edit a x) r = []
 names_of (Start p) r = []
 names_of (Put on bytes) r = []
 names_of (Take most) r = []
@@ -32,11 +30,7 @@ none_new s t e = e ∙ sym (append-nil s.made)
 pub act_made : {S : Type 0} (c : Call S) (s : Sight S) (r : Reply c) (t : Sight S) → Act c s r t → t.made ≡ s.made ++ names_of c r
 act_made (Read a) s r t d = none_new s t (ap (λ t. t.made) d.1)
 act_made (Find a key) s r t d = none_new s t (ap (λ t. t.made) d.4)
-act_made (SetVal a i v) s r t d = none_new s t (ap (λ t. t.made) d.3)
-act_made (Push a v) s r t d = none_new s t (ap (λ t. t.made) d.3)
-act_made (Truncate a n) s r t d = none_new s t (ap (λ t. t.made) d.3)
-act_made (PushPair a key v) s r t d = none_new s t (ap (λ t. t.made) d.3)
-act_made (DropPair a n) s r t d = none_new s t (ap (λ t. t.made) d.3)
+act_made (Edit a x) s r t d = none_new s t (ap (λ t. t.made) d.3)
 act_made (Make q) s n t d = ap (λ t. t.made) d.1
 act_made (Start p) s r t d = none_new s t (ap (λ t. t.made) d)
 act_made (Put on bytes) s r t d = none_new s t (ap (λ t. t.made) d)
@@ -59,11 +53,7 @@ same_new : {S : Type 0} (c : Call S) (r q : Reply c) (xs ys zs : List ℕ) → x
 same_new (Make p) n m xs ys zs e = ap (λ a. a ∷ []) (sym (same_first xs ys zs n m e))
 same_new (Read a) r q xs ys zs e = refl
 same_new (Find d key) r q xs ys zs e = refl
-same_new (SetVal a i v) r q xs ys zs e = refl
-same_new (Push a v) r q xs ys zs e = refl
-same_new (Truncate a n) r q xs ys zs e = refl
-same_new (PushPair d key v) r q xs ys zs e = refl
-same_new (DropPair d k) r q xs ys zs e = refl
+same_new (Edit a x) r q xs ys zs e = refl
 same_new (Start p) r q xs ys zs e = refl
 same_new (Put on bytes) r q xs ys zs e = refl
 same_new (Take most) r q xs ys zs e = refl
@@ -79,8 +69,8 @@ names_then c s r m t more rest a e =
 one_rec : (o : Option Rec) (r q : Rec) → o ≡ Some r → o ≡ Some q → q ≡ r
 one_rec o r q e f = let g : Some q ≡ Some r = sym f ∙ e in cc
 
-same_edited : {S : Type 0} (a : ℕ) (ok : Rec → Type 0) (f : Rec → Rec) (s t t' : Sight S) → Edited a ok f s t → Edited a ok f s t' → t' ≡ t
-same_edited a ok f s t t' d e = e.3 ∙ ap (λ r. edited a (f r) s) (one_rec (s.heap a) d.0 e.0 d.1 e.1) ∙ sym d.3
+same_edited : {S : Type 0} (a : ℕ) (x : Change) (s t t' : Sight S) → Edited a x s t → Edited a x s t' → t' ≡ t
+same_edited a x s t t' d e = e.3 ∙ ap (λ r. edited a (after x r) s) (one_rec (s.heap a) d.0 e.0 d.1 e.1) ∙ sym d.3
 
 same_line : (i : Option (List ℕ)) (bytes l k : List ℕ) (most : ℕ) → i ≡ Some bytes → IsLine i most l → IsLine i most k → k ≡ l
 same_line (Some xs) bytes l k most e d f = f ∙ sym d
@@ -94,11 +84,7 @@ act_same (Read a) s r q t t' k d e n = let p = one_rec (s.heap a) r q d.0 e.0 in
 act_same (Find a key) s r q t t' k d e n =
     let p = one_rec (s.heap a) d.0 e.0 d.1 e.1 in
     (e.3 ∙ ap (λ r. find s.heap r.values key) p ∙ sym d.3, e.4 ∙ ap (λ r. looked_at a r s) p ∙ sym d.4)
-act_same (SetVal a i v) s r q t t' k d e n = (refl, same_edited a _ (with_value i v) s t t' d e)
-act_same (Push a v) s r q t t' k d e n = (refl, same_edited a _ (with_push v) s t t' d e)
-act_same (Truncate a i) s r q t t' k d e n = (refl, same_edited a _ (cut_to i) s t t' d e)
-act_same (PushPair a key v) s r q t t' k d e n = (refl, same_edited a _ (with_pair key v) s t t' d e)
-act_same (DropPair a i) s r q t t' k d e n = (refl, same_edited a _ (without_pair i) s t t' d e)
+act_same (Edit a x) s r q t t' k d e n = (refl, same_edited a x s t t' d e)
 act_same (Make p) s r q t t' k d e n = let x = first_name r q n in (x, e.1 ∙ ap (λ m. made_new m p s) x ∙ sym d.1)
 act_same (Start p) s r q t t' k d e n = (refl, e ∙ sym d)
 act_same (Put on bytes) s r q t t' k d e n = (refl, e ∙ sym d)
@@ -112,11 +98,7 @@ told_by s t e k = record { bytes = k.bytes; is = e ∙ k.is }
 pub act_told : {S : Type 0} (c : Call S) (s : Sight S) (r : Reply c) (t : Sight S) → Act c s r t → IsTold s → IsTold t
 act_told (Read a) s r t d k = told_by s t (ap (λ t. t.world.input) d.1) k
 act_told (Find a key) s r t d k = told_by s t (ap (λ t. t.world.input) d.4) k
-act_told (SetVal a i v) s r t d k = told_by s t (ap (λ t. t.world.input) d.3) k
-act_told (Push a v) s r t d k = told_by s t (ap (λ t. t.world.input) d.3) k
-act_told (Truncate a n) s r t d k = told_by s t (ap (λ t. t.world.input) d.3) k
-act_told (PushPair a key v) s r t d k = told_by s t (ap (λ t. t.world.input) d.3) k
-act_told (DropPair a n) s r t d k = told_by s t (ap (λ t. t.world.input) d.3) k
+act_told (Edit a x) s r t d k = told_by s t (ap (λ t. t.world.input) d.3) k
 act_told (Make q) s n t d k = told_by s t (ap (λ t. t.world.input) d.1) k
 act_told (Start p) s r t d k = told_by s t (ap (λ t. t.world.input) d) k
 act_told (Put Output bytes) s r t d k = told_by s t (ap (λ t. t.world.input) d) k

@@ -5,8 +5,10 @@ use Rattle.std.specs.Result.{IsErrAnd}
 use Rattle.py_data.specs.declared.stop.Stop.{Stop}
 use Rattle.py_data.specs.declared.stop.Stop.TheVariants.{OutOfMemory}
 use Rattle.py_data.specs.Heap.{Heap, Rec, at, blank, put_at}
-use Rattle.py_data.specs.Row.{Call, Reply, Row, Ret, Do, Read, bind}
-use Rattle.py_data.specs.Sense.{Sense, Lawful, Edits, Asks, Safe, Run, Meets, IsLive, touches}
+use Rattle.py_data.specs.declared.change.Change.{Change}
+use Rattle.py_data.specs.Changes.{after, Allows, Suits}
+use Rattle.py_data.specs.Row.{Call, Reply, Row, Ret, Do, Read, Edit, bind}
+use Rattle.py_data.specs.Sense.{Sense, Lawful, Asks, Safe, Run, Meets, IsLive}
 use Rattle.py_data.specs.Rest.{Leads, Stands}
 use Rattle.py_data.proofs.Rows.{run-bind, stop-first, stop-then, meets-ret, meets-own, meets-refused, meets-do, safe-asks, safe-next}
 
@@ -27,6 +29,17 @@ there-is h a r p P e x = subst (λ o. MatchOption o (p ≡ true) P) (sym e) x
 pub there-of : (h : Heap) (a : ℕ) (r : Rec) (p : Bool) (P : Rec → Type 0) → h a ≡ Some r → MatchOption (h a) (p ≡ true) P → P r
 there-of h a r p P e x = subst (λ o. MatchOption o (p ≡ true) P) e x
 
+-- a change of a record that is there may be made
+pub asks-edit : (S : Type 0) (p : Bool) (h : Heap) (a : ℕ) (r : Rec) (c : Change) → h a ≡ Some r → Allows c r → Suits p h c r → Asks {S = S} p (Edit a c) h
+unfolding Asks
+asks-edit S p h a r c e allows suits = there-is h a r p (λ r. Allows c r × Suits p h c r) e (allows, suits)
+
+-- a row is safe where its first part is, and what follows it is safe over every heap
+pub safe-bind : {S A B : Type 0} (q : Bool) (p : Row S A) (f : A → Row S B) (h : Heap) → Safe q p h → ((a : A) (h1 : Heap) → Safe q (f a) h1) → Safe q (bind p f) h
+unfolding Safe bind
+safe-bind q (Ret x) f h s more = more x h
+safe-bind q (Do c k) f h s more = (s.0, λ r h1 e. safe-bind q (k r) f h1 (s.1 r h1 e) more)
+
 module _ {S X A B : Type 0} (u : Sense S X) where
   pub meets-bind : (p : Row S A) (f : A → Row S B) (v m w : X) (a : A) (res : Result B Stop) → Meets u p v m (Ok a) → Meets u (f a) m w res → Meets u (bind p f) v w res
   unfolding Meets
@@ -43,10 +56,10 @@ module _ {S X A B : Type 0} (u : Sense S X) where
   safe-first q (Ret x) f h s = tt
   safe-first q (Do c k) f h s = (s.0, λ r h1 e. safe-first q (k r) f h1 (s.1 r h1 e))
 
-  pub safe-then : (L : Lawful u) (q : Bool) (p : Row S A) (f : A → Row S B) (v w : X) (a : A) → Safe q (bind p f) (u.heap v) → Meets u p v w (Ok a) → Safe q (f a) (u.heap w)
+  pub safe-then : (L : Lawful u) (p : Row S A) (f : A → Row S B) (v w : X) (a : A) → Safe u.partial (bind p f) (u.heap v) → Meets u p v w (Ok a) → Safe u.partial (f a) (u.heap w)
   unfolding Safe bind Meets Run
-  safe-then L q (Ret x) f v w a s m = subst (λ z. Safe q (f a) (u.heap z)) (sym m.1) (subst (λ z. Safe q (f z) (u.heap v)) (sym m.0) s)
-  safe-then L q (Do c k) f v w a s m = safe-then L q (k m.0) f m.1 w a (s.1 m.0 (u.heap m.1) (L.effect c v m.0 m.1 m.2)) m.3
+  safe-then L (Ret x) f v w a s m = subst (λ z. Safe u.partial (f a) (u.heap z)) (sym m.1) (subst (λ z. Safe u.partial (f z) (u.heap v)) (sym m.0) s)
+  safe-then L (Do c k) f v w a s m = safe-then L (k m.0) f m.1 w a (s.1 m.0 (u.heap m.1) (L.effect c v m.0 m.1 m.2)) m.3
 
 module _ {S X A : Type 0} (u : Sense S X) where
   -- a part that was done leaves a view that has not stopped
@@ -77,7 +90,7 @@ module _ {S X A : Type 0} {u : Sense S X} {row : Row S A} {v w : X} where
   pub leads-do : (L : Lawful u) {c : Call S} {k : Reply c → Row S A} {x : X} (r : Reply c) → Leads u row v (Do c k) w → u.does c w r x → Leads u row v (k r) x
   leads-do L {c = c} {k = k} {x = x} r l d = record {
     finish = λ y res m. l.finish y res (meets-do u c k w x y r res d m);
-    safe = safe-next L u.partial c k w x r l.safe d;
+    safe = safe-next L c k w x r l.safe d;
     live = L.live c w r x d;
   }
 
@@ -91,7 +104,7 @@ module _ {S X A B : Type 0} {u : Sense S X} {row : Row S B} {v w : X} where
   pub leads-call : (L : Lawful u) (p : Row S A) (f : A → Row S B) (x : X) (a : A) → Leads u row v (bind p f) w → Meets u p w x (Ok a) → Leads u row v (f a) x
   leads-call L p f x a l m = record {
     finish = λ y res n. l.finish y res (meets-bind u p f w x y a res m n);
-    safe = safe-then u L u.partial p f w x a l.safe m;
+    safe = safe-then u L p f w x a l.safe m;
     live = live-after u L p w x a m l.live;
   }
 
@@ -108,18 +121,19 @@ module _ {S X : Type 0} {u : Sense S X} where
       record { is = ap (λ h. h a) f.1 ∙ f.0; seen = L.seen (Read a) v r w a d refl }
 
   -- after a change of the record
-  pub stands-edit : (L : Lawful u) {a : ℕ} {v w : X} (c : Call S) (f : Rec → Rec) (r : Reply c) → u.does c v r w → touches c ≡ Some a → Edits a f (u.heap v) (u.heap w) → Stands u a (f (at (u.heap v) a)) w
-  stands-edit L {a = a} {v = v} {w = w} c f r d t e =
-      record { is = ap (λ h. h a) e.1 ∙ put-here (u.heap v) a (f (at (u.heap v) a)); seen = L.seen c v r w a d t }
+  pub stands-edit : (L : Lawful u) {a : ℕ} {v w : X} (c : Change) → u.does (Edit a c) v tt w → Stands u a (after c (at (u.heap v) a)) w
+  stands-edit L {a = a} {v = v} {w = w} c d =
+      let e = L.effect (Edit a c) v tt w d in
+      record { is = ap (λ h. h a) e.1 ∙ put-here (u.heap v) a (after c (at (u.heap v) a)); seen = L.seen (Edit a c) v tt w a d refl }
 
 -- what a safe row asks of a part, after a look at a record
-pub part-after : {S X A B : Type 0} {u : Sense S X} (L : Lawful u) (q : Bool) (a : ℕ) (k : Rec → Row S B) (v m : X) (r : Rec) (p : Row S A) (f : A → Row S B)
-    → Safe q (Do (Read a) k) (u.heap v) → u.does (Read a) v r m → k r ≡ bind p f → Safe q p (u.heap m)
-part-after {u = u} L q a k v m r p f s d e = safe-first u q p f (u.heap m) (subst (λ z. Safe q z (u.heap m)) e (safe-next L q (Read a) k v m r s d))
+pub part-after : {S X A B : Type 0} {u : Sense S X} (L : Lawful u) (a : ℕ) (k : Rec → Row S B) (v m : X) (r : Rec) (p : Row S A) (f : A → Row S B)
+    → Safe u.partial (Do (Read a) k) (u.heap v) → u.does (Read a) v r m → k r ≡ bind p f → Safe u.partial p (u.heap m)
+part-after {u = u} L a k v m r p f s d e = safe-first u u.partial p f (u.heap m) (subst (λ z. Safe u.partial z (u.heap m)) e (safe-next L (Read a) k v m r s d))
 
 -- what a safe row asks after a part
-pub asks-then : {S X A B : Type 0} (u : Sense S X) (L : Lawful u) (q : Bool) (p : Row S A) (f : A → Row S B) (v w : X) (a : A) (c : Call S) (k : Reply c → Row S B)
-    → Safe q (bind p f) (u.heap v) → Meets u p v w (Ok a) → f a ≡ Do c k → Asks q c (u.heap w)
-asks-then u L q p f v w a c k s m e = safe-asks q c k (u.heap w) (subst (λ z. Safe q z (u.heap w)) e (safe-then u L q p f v w a s m))
+pub asks-then : {S X A B : Type 0} (u : Sense S X) (L : Lawful u) (p : Row S A) (f : A → Row S B) (v w : X) (a : A) (c : Call S) (k : Reply c → Row S B)
+    → Safe u.partial (bind p f) (u.heap v) → Meets u p v w (Ok a) → f a ≡ Do c k → Asks u.partial c (u.heap w)
+asks-then u L p f v w a c k s m e = safe-asks u.partial c k (u.heap w) (subst (λ z. Safe u.partial z (u.heap w)) e (safe-then u L p f v w a s m))
 
 pub ruleset call_steps = (meets-bind, meets-bind-err, safe-first, safe-then, live-after, stop-as, part-after, asks-then)

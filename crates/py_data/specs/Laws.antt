@@ -1,11 +1,11 @@
 -- Laws of all rows, in the words in which `src/laws.rt` ensures them. States `docs/HEAP.md`, "Rows" and "Stops".
-use Rattle.std.specs.Prelude.{◌≡◌, ◌⊎◌, ◌↔◌, ℕ, List, ◌++◌, Some, false}
+use Rattle.std.specs.Prelude.{◌≡◌, ◌⊎◌, ◌↔◌, ℕ, List, ◌++◌, Some, Bool, false}
 use Rattle.py_data.specs.declared.stop.Stop.{Stop}
 use Rattle.py_data.specs.declared.stop.Stop.TheVariants.{OutOfMemory}
 use Rattle.py_data.specs.Heap.{Heap}
 use Rattle.py_data.specs.World.{World}
 use Rattle.py_data.specs.Row.{Call, Reply, Row, Do, bind}
-use Rattle.py_data.specs.Sense.{Sense, Run, Stopped, Upto}
+use Rattle.py_data.specs.Sense.{Sense, Run, Stopped, Upto, ShownOf, Safe}
 use Rattle.py_data.specs.Sight.{Sight, Does, opened}
 use Rattle.py_data.specs.Frames.{Afresh}
 
@@ -47,3 +47,7 @@ abbrev pub NamesLaw : Type 0 → Type 0 → Type 0
 NamesLaw S A =
     (w : Row S A) (s t t1 : Sight S) (y y1 : A) (rest rest1 : List ℕ) → IsTold s → Does w s y t → Does w s y1 t1 → t1.made ++ rest1 ≡ t.made ++ rest
     → (y1 ≡ y) × (t1 ≡ t)
+
+-- a row that is safe over a heap is safe over what a view shows of it
+abbrev pub PartLaw : Type 0 → Type 0 → Type 0
+PartLaw S A = (p : Bool) (row : Row S A) (g h : Heap) → ShownOf p g h → Safe false row h → Safe p row g

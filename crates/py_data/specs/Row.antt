@@ -3,17 +3,14 @@
 use Rattle.std.specs.Prelude.{ℕ, List, Bool, Option}
 use Rattle.py_data.specs.declared.value.Value.{Value}
 use Rattle.py_data.specs.declared.stop.Out.{Out}
+use Rattle.py_data.specs.declared.change.Change.{Change}
 use Rattle.py_data.specs.Heap.{Rec}
 
 -- one call of a view
 pub data Call (S : Type 0) : Type 0 where
   Read : ℕ → Call S  -- a look at a record: its kind, its values, its bytes
   Find : ℕ → Value → Call S  -- the pair of a dictionary with an equal key
-  SetVal : ℕ → ℕ → Value → Call S  -- another value in a place of a record
-  Push : ℕ → Value → Call S  -- a value at the end of a list
-  Truncate : ℕ → ℕ → Call S  -- the first so many values of a list stay
-  PushPair : ℕ → Value → Value → Call S  -- a pair at the end of a dictionary
-  DropPair : ℕ → ℕ → Call S  -- the pair of a number goes
+  Edit : ℕ → Change → Call S  -- a change of the record at an address
   Make : Rec → Call S  -- a new record
   Start : S → Call S  -- a thread of this state starts
   Put : Out → List ℕ → Call S  -- bytes to an output
@@ -28,11 +25,7 @@ Reply (Find d key) = Option ℕ
 Reply (Make r) = ℕ
 Reply (Take most) = List ℕ
 Reply MidLine = Bool
-Reply (SetVal a i v) = Unit {0}
-Reply (Push a v) = Unit {0}
-Reply (Truncate a n) = Unit {0}
-Reply (PushPair d key v) = Unit {0}
-Reply (DropPair d place) = Unit {0}
+Reply (Edit a c) = Unit {0}
 Reply (Start s) = Unit {0}
 Reply (Put on bytes) = Unit {0}
 Reply (SetMidLine mid) = Unit {0}

@@ -1,16 +1,15 @@
 -- What a view says of itself, which of its calls may be made and refused, and when code over a view has done what a row means.
 -- States `docs/HEAP.md`, "Views", "Rows" and "Stops".
-use Rattle.std.specs.Prelude.{◌≡◌, ◌⊎◌, ℕ, ◌+◌, ◌*◌, ◌<◌, ◌≤◌, Bool, true, false, List, length, Option, Some, None, Result, Ok, Err, MatchOption}
+use Rattle.std.specs.Prelude.{◌≡◌, ◌⊎◌, ℕ, ◌≤◌, Bool, true, false, List, length, Option, Some, None, Result, Ok, Err, MatchOption}
 use Rattle.py_data.specs.declared.value.Value.{Value}
-use Rattle.py_base.specs.declared.kind.Kind.{Kind}
-use Rattle.py_base.specs.declared.kind.Kind.TheVariants.{List as ListKind, Dict}
 use Rattle.py_data.specs.declared.stop.Out.TheVariants.{Output, ErrorOutput}
 use Rattle.py_data.specs.declared.stop.Stop.{Stop}
-use Rattle.py_data.specs.declared.stop.Stop.TheVariants.{Lost, NeedSolo, NeedHeap, ReadFault, WriteFault, ErrFault, OutOfMemory}
+use Rattle.py_data.specs.declared.stop.Stop.TheVariants.{Lost, NeedSolo, NeedHeap, Full, ReadFault, WriteFault, ErrFault, OutOfMemory}
 use Rattle.py_data.specs.declared.record.TheConstants.{LENGTH_LIMIT}
-use Rattle.py_data.specs.Heap.{Heap, Rec, Has, at, put_at, is_tracked, with_value, with_push, cut_to, with_pair, without_pair}
+use Rattle.py_data.specs.Heap.{Heap, Rec, Has, at, put_at}
 use Rattle.py_data.specs.Shape.{IsKey, ArePairs, find, IsShaped}
-use Rattle.py_data.specs.Row.{Call, Reply, Row, Ret, Do, Read, Find, SetVal, Push, Truncate, PushPair, DropPair, Make, Start, Put, Take, MidLine, SetMidLine}
+use Rattle.py_data.specs.Changes.{after, Allows, AsksKey, Suits, Outgrows}
+use Rattle.py_data.specs.Row.{Call, Reply, Row, Ret, Do, Read, Find, Edit, Make, Start, Put, Take, MidLine, SetMidLine}
 
 -- X is the type of the view.
 pub record Sense (S X : Type 0) : Type 1 where
@@ -26,45 +25,43 @@ pub record Sense (S X : Type 0) : Type 1 where
 abbrev pub Edits : ℕ → (Rec → Rec) → Heap → Heap → Type 0
 Edits a f h h1 = Has h a × (h1 ≡ put_at h a (f (at h a)))
 
--- what each call answers over a heap, and what it leaves of it
-abbrev pub Effect : {S : Type 0} (c : Call S) → Heap → Reply c → Heap → Type 0
-Effect (Read a) h r h1 = (h a ≡ Some r) × (h1 ≡ h)
-Effect (Find d key) h o h1 = Has h d × (o ≡ find h (at h d).values key) × (h1 ≡ h)
-Effect (SetVal a i v) h u h1 = Edits a (with_value i v) h h1
-Effect (Push a v) h u h1 = Edits a (with_push v) h h1
-Effect (Truncate a n) h u h1 = Edits a (cut_to n) h h1
-Effect (PushPair d key v) h u h1 = Edits d (with_pair key v) h h1
-Effect (DropPair d k) h u h1 = Edits d (without_pair k) h h1
-Effect (Make r) h a h1 = (h a ≡ None) × (h1 ≡ put_at h a r)
-Effect (Start s) h u h1 = h1 ≡ h
-Effect (Put on bytes) h u h1 = h1 ≡ h
-Effect (Take most) h l h1 = (length l ≤ most) × (h1 ≡ h)
-Effect MidLine h mid h1 = h1 ≡ h
-Effect (SetMidLine mid) h u h1 = h1 ≡ h
+-- each record of the one heap is in the other
+abbrev pub IsPart : Heap → Heap → Type 0
+IsPart g h = (a : ℕ) (r : Rec) → g a ≡ Some r → h a ≡ Some r
+
+-- a heap of which a view shows g: all of it, or, where the view is partial, a part of it
+abbrev pub ShownOf : Bool → Heap → Heap → Type 0
+ShownOf true g h = IsPart g h
+ShownOf false g h = g ≡ h
+
+-- What a partial view must know to answer a search: the key and the keys of the dictionary, so that the answer is the same in
+-- each heap of which it shows a part.
+abbrev pub Knows : Bool → Heap → Value → Rec → Type 0
+Knows true h key r = IsKey h key × ArePairs h r.values
+Knows false h key r = Unit {0}
+
+-- What each call answers over a heap, and what it leaves of it. A partial view makes no record, since it can't tell which
+-- addresses are free.
+abbrev pub Effect : {S : Type 0} → Bool → (c : Call S) → Heap → Reply c → Heap → Type 0
+Effect p (Read a) h r h1 = (h a ≡ Some r) × (h1 ≡ h)
+Effect p (Find d key) h o h1 = Has h d × (o ≡ find h (at h d).values key) × (h1 ≡ h) × Knows p h key (at h d)
+Effect p (Edit a c) h u h1 = Edits a (after c) h h1
+Effect p (Make r) h a h1 = (h a ≡ None) × (h1 ≡ put_at h a r) × (p ≡ false)
+Effect p (Start s) h u h1 = h1 ≡ h
+Effect p (Put on bytes) h u h1 = h1 ≡ h
+Effect p (Take most) h l h1 = (length l ≤ most) × (h1 ≡ h)
+Effect p MidLine h mid h1 = h1 ≡ h
+Effect p (SetMidLine mid) h u h1 = h1 ≡ h
 
 -- a condition on a record, as far as the heap reaches
 abbrev pub IfThere : Bool → Option Rec → (Rec → Type 0) → Type 0
 IfThere partial o p = MatchOption o (partial ≡ true) p
 
--- A key that is looked for in a dictionary. Over a part of a heap nothing is asked: the view tests what it lacks.
-abbrev pub AsksKey : Bool → Heap → Value → Rec → Type 0
-AsksKey true h key r = r.kind ≡ Dict
-AsksKey false h key r = (r.kind ≡ Dict) × IsKey h key × ArePairs h r.values
-
--- of a dictionary's values only those of its pairs may be set, not the keys
-abbrev pub IsValuePlace : Kind → ℕ → Type 0
-IsValuePlace Dict i = (k : ℕ) × (i ≡ 2 * k + 1)
-IsValuePlace _ i = Unit {0}
-
 -- the condition of each call
 unfoldable pub Asks : {S : Type 0} → Bool → Call S → Heap → Type 0
 Asks p (Read a) h = IfThere p (h a) (λ r. Unit {0})
 Asks p (Find d key) h = IfThere p (h d) (AsksKey p h key)
-Asks p (SetVal a i v) h = IfThere p (h a) (λ r. (is_tracked r.kind ≡ true) × (i < length r.values) × IsValuePlace r.kind i)
-Asks p (Push a v) h = IfThere p (h a) (λ r. (r.kind ≡ ListKind) × (length r.values < LENGTH_LIMIT))
-Asks p (Truncate a n) h = IfThere p (h a) (λ r. r.kind ≡ ListKind)
-Asks p (PushPair d key v) h = IfThere p (h d) (λ r. AsksKey p h key r × (find h r.values key ≡ None) × (length r.values + 1 < LENGTH_LIMIT))
-Asks p (DropPair d k) h = IfThere p (h d) (λ r. (r.kind ≡ Dict) × (2 * k + 1 < length r.values))
+Asks p (Edit a c) h = IfThere p (h a) (λ r. Allows c r × Suits p h c r)
 Asks true (Make r) h = (length r.values ≤ LENGTH_LIMIT) × (length r.bytes ≤ LENGTH_LIMIT)
 Asks false (Make r) h = IsShaped h r × (length r.values ≤ LENGTH_LIMIT) × (length r.bytes ≤ LENGTH_LIMIT)
 Asks p (Take most) h = 1 ≤ most
@@ -76,7 +73,7 @@ Asks p (SetMidLine mid) h = Unit {0}
 -- the conditions of a row's calls hold, whatever the calls before them answer
 unfoldable pub Safe : {S A : Type 0} → Bool → Row S A → Heap → Type 0
 Safe p (Ret a) h = Unit {0}
-Safe p (Do c k) h = Asks p c h × ((r : Reply c) (h1 : Heap) → Effect c h r h1 → Safe p (k r) h1)
+Safe p (Do c k) h = Asks p c h × ((r : Reply c) (h1 : Heap) → Effect p c h r h1 → Safe p (k r) h1)
 
 -- a change: any Stop but the faults of devices and the need to be solo
 abbrev pub can_refuse_change : Stop → Bool
@@ -110,11 +107,7 @@ can_refuse_put fault e = false
 abbrev pub can_refuse : {S : Type 0} → Call S → Stop → Bool
 can_refuse (Read a) e = can_refuse_look e
 can_refuse (Find d key) e = can_refuse_look e
-can_refuse (SetVal a i v) e = can_refuse_change e
-can_refuse (Push a v) e = can_refuse_change e
-can_refuse (Truncate a n) e = can_refuse_change e
-can_refuse (PushPair d key v) e = can_refuse_change e
-can_refuse (DropPair d k) e = can_refuse_change e
+can_refuse (Edit a c) e = can_refuse_change e
 can_refuse (Make r) e = can_refuse_make e
 can_refuse (Start s) e = can_refuse_look e
 can_refuse (Put Output bytes) e = can_refuse_put WriteFault e
@@ -164,23 +157,30 @@ module _ {S X : Type 0} (u : Sense S X) where
 abbrev pub touches : {S : Type 0} → Call S → Option ℕ
 touches (Read a) = Some a
 touches (Find d key) = Some d
-touches (SetVal a i v) = Some a
-touches (Push a v) = Some a
-touches (Truncate a n) = Some a
-touches (PushPair d key v) = Some d
-touches (DropPair d k) = Some d
+touches (Edit a c) = Some a
 touches _ = None
+
+-- a call for which there may be no room: it makes a record, or changes one that has no room for what the change adds
+abbrev pub WantsRoom : {S : Type 0} → Call S → Heap → Type 0
+WantsRoom (Make r) h = Unit {0}
+WantsRoom (Edit a c) h = IfThere false (h a) (Outgrows c)
+WantsRoom _ h = ⊥
+
+-- this holds if the Stop is that the heap has no room
+abbrev pub IfFull : Stop → Type 0 → Type 0
+IfFull (Full reserved need limit) P = P
+IfFull _ P = Unit {0}
 
 -- what holds of each view
 pub record Lawful {S X : Type 0} (u : Sense S X) : Type 0 where
-  pub effect : (c : Call S) (v : X) (r : Reply c) (w : X) → u.does c v r w → Effect c (u.heap v) r (u.heap w)
+  pub effect : (c : Call S) (v : X) (r : Reply c) (w : X) → u.does c v r w → Effect u.partial c (u.heap v) r (u.heap w)
   pub live : (c : Call S) (v : X) (r : Reply c) (w : X) → u.does c v r w → IsLive u w
   pub seen : (c : Call S) (v : X) (r : Reply c) (w : X) (a : ℕ) → u.does c v r w → touches c ≡ Some a → u.seen a w
   pub stays : (c : Call S) (v : X) (r : Reply c) (w : X) (a : ℕ) → u.does c v r w → u.seen a v → u.seen a w
   pub same : (a : ℕ) (v : X) (r : Rec) (w : X) → u.seen a v → u.does (Read a) v r w → w ≡ v
   pub sure : (a : ℕ) (v : X) (e : Stop) (w : X) → u.seen a v → u.refuses (Read a) v e w → ⊥
   pub halts : (c : Call S) (v : X) (e : Stop) (w : X) → u.refuses c v e w → u.stopped w ≡ Some e
-  pub cause : (c : Call S) (v : X) (e : Stop) (w : X) → u.refuses c v e w → (can_refuse c e ≡ true) × (u.can_stop e ≡ true)
+  pub cause : (c : Call S) (v : X) (e : Stop) (w : X) → u.refuses c v e w → (can_refuse c e ≡ true) × (u.can_stop e ≡ true) × IfFull e (WantsRoom c (u.heap v))
 
 -- How a view brackets a step.
 pub record Bracket (S X : Type 0) : Type 1 where

@@ -7,12 +7,11 @@ use Rattle.py_data.specs.declared.value.Value.{Value}
 use Rattle.py_data.specs.declared.value.Value.TheVariants.{Unset, None as NoneValue, Bool as BoolValue, Int, Ref, Builtin}
 use Rattle.py_base.specs.declared.kind.Kind.{Kind}
 use Rattle.py_base.specs.declared.kind.Kind.TheVariants.{Str, Tuple, List as ListKind, Dict, Cell, Function, Class, Instance, Method, Iter, Range, Lock, Thread}
-use Rattle.py_data.specs.Heap.{Rec, Heap}
+use Rattle.py_data.specs.Heap.{Rec, Heap, has_bytes}
 
--- the bytes of a string, and no bytes of another record
+-- the bytes of a record of a kind that has some
 abbrev pub text_by : Kind → List ℕ → Option (List ℕ)
-text_by Str bs = Some bs
-text_by _ bs = None
+text_by k bs = cond (has_bytes k) (Some bs) None
 
 -- the bytes of the string at an address, if a string is there
 abbrev pub text_in : Option Rec → Option (List ℕ)
@@ -81,6 +80,10 @@ abbrev pub ArePairs : Heap → List Value → Type 0
 ArePairs h [] = Unit {0}
 ArePairs h (k ∷ []) = ⊥
 ArePairs h (k ∷ v ∷ rest) = IsKey h k × ArePairs h rest
+
+-- a key can be looked for in a record: it is a dictionary, whose keys and the one looked for are possible keys
+abbrev pub Fits : Heap → Rec → Value → Type 0
+Fits h r key = (r.kind ≡ Dict) × IsKey h key × ArePairs h r.values
 
 -- no two keys are equal
 abbrev pub KeysDiffer : Heap → List Value → Type 0
@@ -159,10 +162,14 @@ HasShape h Lock (held ∷ []) = IsBool held
 HasShape h Thread (target ∷ args ∷ number ∷ ended ∷ []) = RefTo h Tuple args × NoneOr IsThreadNumber number × IsBool ended
 HasShape h _ _ = ⊥
 
--- no record but a string has bytes
+-- bytes where there may be some
+abbrev pub BytesIf : Bool → List ℕ → Type 0
+BytesIf true bs = Unit {0}
+BytesIf false bs = bs ≡ []
+
+-- a record of a kind that has no bytes has none
 abbrev pub OnlyStrings : Kind → List ℕ → Type 0
-OnlyStrings Str bs = Unit {0}
-OnlyStrings _ bs = bs ≡ []
+OnlyStrings k bs = BytesIf (has_bytes k) bs
 
 -- Unset stands in cells alone
 abbrev pub HoldsNoUnset : Kind → List Value → Type 0

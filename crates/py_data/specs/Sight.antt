@@ -1,12 +1,12 @@
 -- What a row means by itself: over a heap and a world, with the bookkeeping of what it looks at, changes, makes and starts.
 -- States `docs/HEAP.md`, "Rows".
-use Rattle.std.specs.Prelude.{◌≡◌, ℕ, ◌<◌, Bool, true, false, ◌||◌, ◌&&◌, eqb, List, [], ◌∷◌, ◌++◌, length, Some, None}
-use Rattle.py_data.specs.declared.value.Value.{Value}
-use Rattle.py_base.specs.declared.kind.Kind.TheVariants.{Dict, List as ListKind}
-use Rattle.py_data.specs.Heap.{Heap, Marks, Rec, put_at, is_tracked, with_value, with_push, cut_to, with_pair, without_pair}
-use Rattle.py_data.specs.Shape.{IsKey, ArePairs, find}
+use Rattle.std.specs.Prelude.{◌≡◌, ℕ, Bool, true, false, ◌||◌, ◌&&◌, eqb, List, [], ◌∷◌, ◌++◌, Some, None}
+use Rattle.py_data.specs.declared.change.Change.{Change}
+use Rattle.py_data.specs.Changes.{after, Allows}
+use Rattle.py_data.specs.Heap.{Heap, Marks, Rec, put_at, is_tracked}
+use Rattle.py_data.specs.Shape.{Fits, find}
 use Rattle.py_data.specs.World.{World, wrote, IsLine, took}
-use Rattle.py_data.specs.Row.{Call, Reply, Row, Read, Find, SetVal, Push, Truncate, PushPair, DropPair, Make, Start, Put, Take, MidLine, SetMidLine}
+use Rattle.py_data.specs.Row.{Call, Reply, Row, Read, Find, Edit, Make, Start, Put, Take, MidLine, SetMidLine}
 use Rattle.py_data.specs.Sense.{Sense, Run}
 
 -- what one thread sees, and what it has done
@@ -43,35 +43,15 @@ started_one p s = record s { started = s.started ++ p ∷ [] }
 abbrev pub in_world : {S : Type 0} → World → Sight S → Sight S
 in_world w s = record s { world = w; used = true }
 
--- another value in a place needs a tracked record that has the place
-abbrev pub CanSet : ℕ → Rec → Type 0
-CanSet i r = (is_tracked r.kind ≡ true) × (i < length r.values)
-
--- a push or a cut needs a List
-abbrev pub CanPush : Rec → Type 0
-CanPush r = r.kind ≡ ListKind
-
--- a pair needs a Dict
-abbrev pub CanPair : Rec → Type 0
-CanPair r = r.kind ≡ Dict
-
--- a change of a record
-abbrev pub Edited : {S : Type 0} → ℕ → (Rec → Type 0) → (Rec → Rec) → Sight S → Sight S → Type 0
-Edited a ok f s t = (r : Rec) × (s.heap a ≡ Some r) × ok r × (t ≡ edited a (f r) s)
-
--- a key that can be looked for among the pairs of a dictionary
-abbrev pub Fits : Heap → Rec → Value → Type 0
-Fits h r key = (r.kind ≡ Dict) × IsKey h key × ArePairs h r.values
+-- a change of a record that allows it
+abbrev pub Edited : {S : Type 0} → ℕ → Change → Sight S → Sight S → Type 0
+Edited a c s t = (r : Rec) × (s.heap a ≡ Some r) × Allows c r × (t ≡ edited a (after c r) s)
 
 -- what each call answers and leaves: the meaning of a row, call by call
 abbrev pub Act : {S : Type 0} (c : Call S) → Sight S → Reply c → Sight S → Type 0
 Act (Read a) s r t = (s.heap a ≡ Some r) × (t ≡ looked_at a r s)
 Act (Find d key) s o t = (r : Rec) × (s.heap d ≡ Some r) × Fits s.heap r key × (o ≡ find s.heap r.values key) × (t ≡ looked_at d r s)
-Act (SetVal a i v) s u t = Edited a (CanSet i) (with_value i v) s t
-Act (Push a v) s u t = Edited a CanPush (with_push v) s t
-Act (Truncate a n) s u t = Edited a CanPush (cut_to n) s t
-Act (PushPair d key v) s u t = Edited d CanPair (with_pair key v) s t
-Act (DropPair d k) s u t = Edited d CanPair (without_pair k) s t
+Act (Edit a c) s u t = Edited a c s t
 Act (Make r) s n t = (s.heap n ≡ None) × (t ≡ made_new n r s)
 Act (Start p) s u t = t ≡ started_one p s
 Act (Put on bytes) s u t = t ≡ in_world (wrote on bytes s.world) s

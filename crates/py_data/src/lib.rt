@@ -16,7 +16,7 @@ mod view;
 
 pub use change::{Change, changed};
 pub use find::{Records, find_pair};
-pub use laws::{afresh_law, bind_law, frame_law, names_law, stop_law, world_law};
+pub use laws::{afresh_law, bind_law, frame_law, names_law, part_law, stop_law, world_law};
 pub use py_base::{
     Bytes, Construct, Duplicate, Items, Kind, Log, NoMemory, Refusal, builtin, operator,
 };

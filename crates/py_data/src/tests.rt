@@ -1,10 +1,39 @@
-//! Rooms by hand.
-use crate::{Bytes, Entry, Kind, LENGTH_LIMIT, Record, Value, Values};
+//! Rooms by hand, and a list of conflicts copied.
+use crate::{
+    Addr, Bytes, Conflict, Conflicts, Entry, Kind, LENGTH_LIMIT, Record, Side, Value, Values,
+};
 use std::alloc::{AllocError, Global};
 use std::process::Abort;
 use std::test;
 
 type Tested = Result<(), test::Fail>;
+
+#[test]
+fn conflicts(rt: HostRuntime) -> Tested {
+    let writer = Side {
+        segment: 0,
+        thread: 1,
+        begun: 1,
+        solo: false,
+    };
+    let lost = Conflict {
+        at: Addr(7),
+        writer,
+        other: Side {
+            segment: 1,
+            ..writer
+        },
+        asks: true,
+        lost: 1,
+    };
+    let mut conflicts = Conflicts::new(rt.alloc());
+    conflicts.push(lost)?;
+    let copied = conflicts.copy(rt.alloc())?;
+    conflicts.push(Conflict { lost: 0, ..lost })?;
+    assert_eq!(rt; copied.len(), 1);
+    assert!(rt; matches!(copied.get(0), Some(conflict) if *conflict == lost));
+    Ok(())
+}
 
 /// So many values, the numbers from 0 on.
 fn numbers(alloc: Global, n: u32) -> Result<Values, AllocError> {

@@ -1,6 +1,7 @@
 //! A view: one thread's sight of the heap and of the outside.
 ghost use Rattle.std.specs.Prelude.{◌≡◌, ◌<◌, ◌≤◌, ◌+◌, ◌*◌, ◌++◌, length, take, drop, slice_index, true, false, IfOk, IfSome, [], ◌∷◌};
-ghost use Rattle.py_data.specs.Row.{Read, Find, SetVal, Push, Truncate, PushPair, DropPair, Make, Start, Put, Take, MidLine, SetMidLine};
+ghost use Rattle.py_data.specs.declared.change.Change.TheVariants.{Set, Push, Cut, Pair, Unpair};
+ghost use Rattle.py_data.specs.Row.{Read, Find, Edit, Make, Start, Put, Take, MidLine, SetMidLine};
 ghost use Rattle.py_data.specs.Sense.{Sense, Lawful, Bracket, IsBracket, IsLive, Asks, IfThere, Shows, Answers};
 ghost use Rattle.py_data.specs.Heap.{at, value_at, length_of, Has, Heap};
 ghost use Rattle.py_data.specs.Made.{rec_of};
@@ -86,29 +87,29 @@ pub trait View<S> {
 
     fn set_val(&mut self, a: Addr, i: usize, v: Value) -> Result<(), Stop>
         requires live { IsLive sense self.old }
-        requires there { Asks {S = S} sense.partial (SetVal a.0 i v) (sense.heap self.old) }
-        ensures { Answers sense (SetVal a.0 i v) (λ x. x) self.old self.new result };
+        requires there { Asks {S = S} sense.partial (Edit a.0 (Set i v)) (sense.heap self.old) }
+        ensures { Answers sense (Edit a.0 (Set i v)) (λ x. x) self.old self.new result };
 
     fn push_val(&mut self, a: Addr, v: Value) -> Result<(), Stop>
         requires live { IsLive sense self.old }
-        requires there { Asks {S = S} sense.partial (Push a.0 v) (sense.heap self.old) }
-        ensures { Answers sense (Push a.0 v) (λ x. x) self.old self.new result };
+        requires there { Asks {S = S} sense.partial (Edit a.0 (Push v)) (sense.heap self.old) }
+        ensures { Answers sense (Edit a.0 (Push v)) (λ x. x) self.old self.new result };
 
     fn truncate(&mut self, a: Addr, n: usize) -> Result<(), Stop>
         requires live { IsLive sense self.old }
-        requires there { Asks {S = S} sense.partial (Truncate a.0 n) (sense.heap self.old) }
-        ensures { Answers sense (Truncate a.0 n) (λ x. x) self.old self.new result };
+        requires there { Asks {S = S} sense.partial (Edit a.0 (Cut n)) (sense.heap self.old) }
+        ensures { Answers sense (Edit a.0 (Cut n)) (λ x. x) self.old self.new result };
 
     fn push_pair(&mut self, d: Addr, key: Value, v: Value) -> Result<(), Stop>
         requires live { IsLive sense self.old }
-        requires there { Asks {S = S} sense.partial (PushPair d.0 key v) (sense.heap self.old) }
-        ensures { Answers sense (PushPair d.0 key v) (λ x. x) self.old self.new result };
+        requires there { Asks {S = S} sense.partial (Edit d.0 (Pair key v)) (sense.heap self.old) }
+        ensures { Answers sense (Edit d.0 (Pair key v)) (λ x. x) self.old self.new result };
 
     /// Drops the pair of that number; those behind close the gap.
     fn drop_pair(&mut self, d: Addr, place: usize) -> Result<(), Stop>
         requires live { IsLive sense self.old }
-        requires there { Asks {S = S} sense.partial (DropPair d.0 place) (sense.heap self.old) }
-        ensures { Answers sense (DropPair d.0 place) (λ x. x) self.old self.new result };
+        requires there { Asks {S = S} sense.partial (Edit d.0 (Unpair place)) (sense.heap self.old) }
+        ensures { Answers sense (Edit d.0 (Unpair place)) (λ x. x) self.old self.new result };
 
     /// Makes a record, and answers its address.
     fn make(&mut self, r: &Record) -> Result<Addr, Stop>

@@ -11,7 +11,10 @@ use Rattle.py_data.specs.declared.stop.Stop.{Stop}
 use Rattle.py_data.specs.declared.record.TheConstants.{LENGTH_LIMIT}
 use Rattle.py_data.specs.Heap.{Heap, Rec, at, put_at, new_rec, with_value, with_push, cut_to, with_pair, without_pair}
 use Rattle.py_data.specs.Shape.{HoldsNoUnset, KindIn, ArePairs}
-use Rattle.py_data.specs.Row.{Call, Reply, Row, Read, Find, SetVal, Push, Truncate, PushPair, DropPair, Make, Start, Put, Take, MidLine, SetMidLine}
+use Rattle.py_data.specs.declared.change.Change.{Change}
+use Rattle.py_data.specs.Changes.{after}
+use Rattle.py_data.proofs.Grow.{kept_after}
+use Rattle.py_data.specs.Row.{Call, Reply, Row, Read, Find, Edit, Make, Start, Put, Take, MidLine, SetMidLine}
 use Rattle.py_data.specs.Sense.{Sense, Lawful, Asks, Answers, Effect, Edits, Run, Stopped, Meets, IfThere, IsLive}
 use Rattle.py_data.proofs.Steps.{at-is, put-here, live-after}
 use Rattle.py_data.proofs.Whole.{run_steps}
@@ -29,26 +32,22 @@ put-kinds h a r f b k e = by (eqb b a) (eqb-true b a) (h b) refl e
     by true g None s e = absurd e
     by true g (Some q) s e = f q (ap h (sym (g refl)) ∙ s) ∙ e
 
-edit-kinds : (a : ℕ) (f : Rec → Rec) (h h1 : Heap) → ((q : Rec) → (f q).kind ≡ q.kind) → Edits a f h h1 → KindsStay h h1
-edit-kinds a f h h1 g e = subst (KindsStay h) (sym e.1) (put-kinds h a (f (at h a)) (λ q s. g (at h a) ∙ ap (λ r. r.kind) (at-is h a q s)))
+edit-kinds : (a : ℕ) (c : Change) (h h1 : Heap) → Edits a (after c) h h1 → KindsStay h h1
+edit-kinds a c h h1 e = subst (KindsStay h) (sym e.1) (put-kinds h a (after c (at h a)) (λ q s. (kept_after c (at h a)).kind ∙ ap (λ r. r.kind) (at-is h a q s)))
 
 same-kinds : (h h1 : Heap) → h1 ≡ h → KindsStay h h1
 same-kinds h h1 e = subst (KindsStay h) (sym e) (λ a k q. q)
 
-call-kinds : {S : Type 0} (c : Call S) (h : Heap) (r : Reply c) (h1 : Heap) → Effect c h r h1 → KindsStay h h1
-call-kinds (Read a) h r h1 e = same-kinds h h1 e.1
-call-kinds (Find d key) h r h1 e = same-kinds h h1 e.2
-call-kinds (SetVal a i v) h r h1 e = edit-kinds a (with_value i v) h h1 (λ q. refl) e
-call-kinds (Push a v) h r h1 e = edit-kinds a (with_push v) h h1 (λ q. refl) e
-call-kinds (Truncate a n) h r h1 e = edit-kinds a (cut_to n) h h1 (λ q. refl) e
-call-kinds (PushPair d key v) h r h1 e = edit-kinds d (with_pair key v) h h1 (λ q. refl) e
-call-kinds (DropPair d k) h r h1 e = edit-kinds d (without_pair k) h h1 (λ q. refl) e
-call-kinds (Make q) h a h1 e = subst (KindsStay h) (sym e.1) (put-kinds h a q (λ p s. let f = e.0 in absurd (cc)))
-call-kinds (Start s) h r h1 e = same-kinds h h1 e
-call-kinds (Put on bytes) h r h1 e = same-kinds h h1 e
-call-kinds (Take most) h r h1 e = same-kinds h h1 e.1
-call-kinds MidLine h r h1 e = same-kinds h h1 e
-call-kinds (SetMidLine mid) h r h1 e = same-kinds h h1 e
+call-kinds : {S : Type 0} (p : Bool) (c : Call S) (h : Heap) (r : Reply c) (h1 : Heap) → Effect p c h r h1 → KindsStay h h1
+call-kinds p (Read a) h r h1 e = same-kinds h h1 e.1
+call-kinds p (Find d key) h r h1 e = same-kinds h h1 e.2
+call-kinds p (Edit a c) h r h1 e = edit-kinds a c h h1 e
+call-kinds p (Make q) h a h1 e = subst (KindsStay h) (sym e.1) (put-kinds h a q (λ p s. let f = e.0 in absurd (cc)))
+call-kinds p (Start s) h r h1 e = same-kinds h h1 e
+call-kinds p (Put on bytes) h r h1 e = same-kinds h h1 e
+call-kinds p (Take most) h r h1 e = same-kinds h h1 e.1
+call-kinds p MidLine h r h1 e = same-kinds h h1 e
+call-kinds p (SetMidLine mid) h r h1 e = same-kinds h h1 e
 
 pub kind-has : (o : Option Rec) (k : Kind) → KindIn o (λ q. q ≡ k) → IsSome o
 kind-has None k h = absurd h
@@ -138,7 +137,7 @@ module _ {S X : Type 0} {u : Sense S X} (L : Lawful u) where
 
   -- a call that was made leaves the kinds, and a view that has not stopped
   pub made-kinds : (v : X) (r : Rec) (w : X) (res : Result Addr Stop) → Answers u (Make r) (λ a. a.0) v w res → IfOk res (λ a. KindsStay (u.heap v) (u.heap w))
-  made-kinds v r w (Ok a) d = call-kinds {S = S} (Make r) (u.heap v) a.0 (u.heap w) (L.effect (Make r) v a.0 w d)
+  made-kinds v r w (Ok a) d = call-kinds {S = S} u.partial (Make r) (u.heap v) a.0 (u.heap w) (L.effect (Make r) v a.0 w d)
   made-kinds v r w (Err e) d = tt
 
   pub text-made : (v : X) (r : Rec) (w : X) (res : Result Addr Stop) → r.kind ≡ Str → Answers u (Make r) (λ a. a.0) v w res → IfOk res (λ a. HasKind (u.heap w) a.0 Str)
@@ -153,7 +152,7 @@ module _ {S X : Type 0} {u : Sense S X} (L : Lawful u) where
 
   pub run-kinds : {A : Type 0} (row : Row S A) (v w : X) (x : A) → Run u row v x w → KindsStay (u.heap v) (u.heap w)
   run-kinds row v w x d =
-      run_steps u (λ v w. KindsStay (u.heap v) (u.heap w)) (λ v a k h. h) (λ v m w p q a k h. q a k (p a k h)) (λ c v r w d. call-kinds c (u.heap v) r (u.heap w) (L.effect c v r w d)) row v x w d
+      run_steps u (λ v w. KindsStay (u.heap v) (u.heap w)) (λ v a k h. h) (λ v m w p q a k h. q a k (p a k h)) (λ c v r w d. call-kinds u.partial c (u.heap v) r (u.heap w) (L.effect c v r w d)) row v x w d
 
   pub list-after : {A : Type 0} (row : Row S A) {a : ℕ} {v : X} (w : X) (res : Result A Stop) → Meets u row v w res → HoldsList u a v → IfOk res (λ _. HoldsList u a w)
   unfolding Meets
