@@ -1,6 +1,6 @@
 -- The texts of values, as `repr` and `str` write them, by recursion on the values. An exception's `str` isn't among them.
 -- States `docs/HEAP.md`, "Texts".
-use Rattle.std.specs.Prelude.{ℕ, zero, suc, ℤ, Bool, true, false, List, [], ◌∷◌, ◌++◌, Option, Some, None, codes}
+use Rattle.std.specs.Prelude.{ℕ, zero, suc, ℤ, List, [], ◌∷◌, ◌++◌, Option, Some, None, codes}
 use Rattle.py_data.specs.declared.value.Value.{Value}
 use Rattle.py_data.specs.declared.value.Value.TheVariants.{Unset, None as NoneValue, Bool as BoolValue, Int, Ref, Builtin}
 use Rattle.py_base.specs.declared.kind.Kind.{Kind}

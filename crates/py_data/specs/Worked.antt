@@ -266,7 +266,7 @@ text_too_deep = refl
 -- ---- closed heaps
 
 -- the empty heap is closed
-nothing_open : IsClosed 0 no_records
+nothing_open : IsClosed no_records
 nothing_open a r e = absurd (none_some e)
   where
     none_some : ◌≡◌ {A = Option Rec} None (Some r) → ⊥
