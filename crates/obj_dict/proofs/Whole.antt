@@ -49,13 +49,12 @@ drop-paired (y ∷ z ∷ rest) zero l h = h
 drop-paired (y ∷ z ∷ rest) (suc k) l h = rw double (drop-paired rest k (omega arith) h)
 
 -- one change of a dictionary
-leaves : (d : ℕ) (f : Rec → Rec) (r : Rec) (keys values : List Value) (h h1 : Heap) → h d ≡ Some r → Edits d f h h1 → (f r).kind ≡ r.kind → (f r).bytes ≡ r.bytes
+leaves : (d : ℕ) (f : Rec → Rec) (r : Rec) (keys values : List Value) (h h1 : Heap) → h d ≡ Some r → Edits d f h h1 → f r ≡ record r { values = (f r).values; room = (f r).room }
     → (ArePaired r.values → ArePaired (f r).values) → half false (f r).values ≡ keys → half true (f r).values ≡ values → Leaves d r keys values h h1
-leaves d f r keys values h h1 e c k b p ks vs = record {
+leaves d f r keys values h h1 e c s p ks vs = record {
   now = f r;
   is = ap (λ g. g d) c.1 ∙ put-here h d (f (at h d)) ∙ ap (λ q. Some (f q)) (at-is h d r e);
-  kind = k;
-  bytes = b;
+  same = s;
   paired = p;
   first = ks;
   second = vs;
@@ -149,7 +148,7 @@ module _ {S X : Type 0} {u : Sense S X} (L : Lawful u) where
       let a = (within (u.heap v) r.values key 0 i p).1 in
       let less : 2 * i + 1 < length r.values = omega arith in
       let c1 = edited d (with_value (2 * i + 1) x) (u.heap v) (u.heap f.0) (u.heap c.1) f.1 (L.effect (Edit d (change.Set (2 * i + 1) x)) f.0 tt c.1 c.2) in
-      let l = leaves d (with_value (2 * i + 1) x) r (half false r.values) (slice_set (half true r.values) i x) (u.heap v) (u.heap c.1) e c1 refl refl (set-paired r.values (2 * i + 1) x) (pair-law.keys_stay r i x) (pair-law.value_set r i x less) in
+      let l = leaves d (with_value (2 * i + 1) x) r (half false r.values) (slice_set (half true r.values) i x) (u.heap v) (u.heap c.1) e c1 refl (set-paired r.values (2 * i + 1) x) (pair-law.keys_stay r i x) (pair-law.value_set r i x less) in
       (c.3.0, subst (λ z. Leaves d r (half false r.values) (slice_set (half true r.values) i x) (u.heap v) (u.heap z)) (sym c.3.1) l)
 
   -- what is done with a key that isn't there
@@ -168,7 +167,7 @@ module _ {S X : Type 0} {u : Sense S X} (L : Lawful u) where
       let c = subst (λ q. Run u q f.0 res w) (cond-true (ltb (length r.values + 1) LENGTH_LIMIT) (Do (Edit d (change.Pair key x)) (λ _. Ret (Is tt))) (Ret (Raise memory_fault)) (grind arith)) f.2 in
       let c1 = edited d (with_pair key x) (u.heap v) (u.heap f.0) (u.heap c.1) f.1 (L.effect (Edit d (change.Pair key x)) f.0 tt c.1 c.2) in
       let two = append_assoc r.values (key ∷ []) (x ∷ []) in
-      let l = leaves d (with_pair key x) r (half false r.values ++ key ∷ []) (half true r.values ++ x ∷ []) (u.heap v) (u.heap c.1) e c1 refl refl (λ a. subst ArePaired (sym two) (push-paired r.values key x a)) (pair-law.pair_last false r key x a) (pair-law.pair_last true r key x a) in
+      let l = leaves d (with_pair key x) r (half false r.values ++ key ∷ []) (half true r.values ++ x ∷ []) (u.heap v) (u.heap c.1) e c1 refl (λ a. subst ArePaired (sym two) (push-paired r.values key x a)) (pair-law.pair_last false r key x a) (pair-law.pair_last true r key x a) in
       (c.3.0, subst (λ z. Leaves d r (half false r.values ++ key ∷ []) (half true r.values ++ x ∷ []) (u.heap v) (u.heap z)) (sym c.3.1) l)
 
   pub full-law : FullLaw u
@@ -188,7 +187,7 @@ module _ {S X : Type 0} {u : Sense S X} (L : Lawful u) where
       let a = (within (u.heap v) r.values key 0 i p).1 in
       let less : 2 * i + 1 < length r.values = omega arith in
       let c1 = edited d (without_pair i) (u.heap v) (u.heap n.0) (u.heap c.1) n.1 (L.effect (Edit d (change.Unpair i)) n.0 tt c.1 c.2) in
-      let l = leaves d (without_pair i) r (remove (half false r.values) i) (remove (half true r.values) i) (u.heap v) (u.heap c.1) e c1 refl refl (drop-paired r.values i less) (pair-law.gap_closed false r i less) (pair-law.gap_closed true r i less) in
+      let l = leaves d (without_pair i) r (remove (half false r.values) i) (remove (half true r.values) i) (u.heap v) (u.heap c.1) e c1 refl (drop-paired r.values i less) (pair-law.gap_closed false r i less) (pair-law.gap_closed true r i less) in
       (value_at r.values (2 * i + 1), c.3.0, half-at r.values i less, subst (λ z. Leaves d r (remove (half false r.values) i) (remove (half true r.values) i) (u.heap v) (u.heap z)) (sym c.3.1) l)
 
   pub lack-law : LackLaw u

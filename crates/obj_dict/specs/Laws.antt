@@ -19,8 +19,7 @@ use Rattle.obj_dict.specs.PairLaws.{ArePaired}
 pub record Leaves (d : ℕ) (r : Rec) (keys values : List Value) (h h1 : Heap) : Type 0 where
   pub now : Rec
   pub is : h1 d ≡ Some now
-  pub kind : now.kind ≡ r.kind
-  pub bytes : now.bytes ≡ r.bytes
+  pub same : now ≡ record r { values = now.values; room = now.room }
   pub paired : ArePaired r.values → ArePaired now.values
   pub first : half false now.values ≡ keys
   pub second : half true now.values ≡ values

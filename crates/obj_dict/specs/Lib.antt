@@ -1,4 +1,5 @@
 pub mod Dict
+pub mod HoldsLaws
 pub mod Laws
 pub mod Listing
 pub mod PairLaws

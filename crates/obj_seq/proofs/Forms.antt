@@ -9,7 +9,7 @@ use Rattle.py_data.specs.Row.{Read}
 use Rattle.py_data.specs.Sense.{Sense, Lawful, IfThere}
 use Rattle.py_data.proofs.Rows.{again}
 use Rattle.py_data.proofs.Steps.{there-of}
-use Rattle.obj_seq.specs.Range.{IsRangeForm}
+use Rattle.py_data.specs.Range.{IsRange}
 use Rattle.obj_seq.specs.Iter.{IsIterForm}
 use Rattle.obj_seq.proofs.AfterLook.{looked-record}
 
@@ -18,12 +18,12 @@ pub asked : {S X : Type 0} {u : Sense S X} (L : Lawful u) (a : ℕ) (P : Rec →
 asked {u = u} L a P v m r d h = there-of (u.heap v) a r u.partial P (L.effect (Read a) v r m d).0 h
 
 -- the three values of a range
-pub range-values : (vs : List Value) → IsRangeForm vs → vs ≡ value_at vs 0 ∷ value_at vs 1 ∷ value_at vs 2 ∷ []
+pub range-values : (vs : List Value) → IsRange vs → vs ≡ value_at vs 0 ∷ value_at vs 1 ∷ value_at vs 2 ∷ []
 range-values (Int a ∷ Int b ∷ Int c ∷ []) h = refl
 range-values _ h = absurd h
 
 -- the three values of a range that was looked at three times
-pub range-read : {S X : Type 0} {u : Sense S X} (L : Lawful u) (a : ℕ) (v m1 m2 : X) (q : Rec) (start stop step : Value) → IfThere u.partial (u.heap v a) (λ r. IsRangeForm r.values)
+pub range-read : {S X : Type 0} {u : Sense S X} (L : Lawful u) (a : ℕ) (v m1 m2 : X) (q : Rec) (start stop step : Value) → IfThere u.partial (u.heap v a) (λ r. IsRange r.values)
     → u.does (Read a) v (at (u.heap v) a) m1 → start ≡ value_at (at (u.heap v) a).values 0 → u.does (Read a) m1 q m2 → stop ≡ value_at (at (u.heap m1) a).values 1 → step ≡ value_at (at (u.heap m2) a).values 2
     → (at (u.heap v) a).values ≡ start ∷ stop ∷ step ∷ []
 range-read {u = u} L a v m1 m2 q start stop step form d e g f l =
@@ -32,7 +32,7 @@ range-read {u = u} L a v m1 m2 q start stop step form d e g f l =
     let same2 = looked-record L d (again L a v m1 m2 r q d g) in
     let e1 = f ∙ ap (λ r. value_at r.values 1) same1 in
     let e2 = l ∙ ap (λ r. value_at r.values 2) same2 in
-    let three = range-values r.values (asked L a (λ r. IsRangeForm r.values) v m1 r d form) in
+    let three = range-values r.values (asked L a (λ r. IsRange r.values) v m1 r d form) in
     rw (e, e1, e2) three
 
 -- the three values of an iterator

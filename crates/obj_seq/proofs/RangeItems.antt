@@ -3,7 +3,7 @@ use Rattle.std.proofs.Common.{◌≡◌, ℕ, zero, suc, ◌*◌, ◌<◌, ◌�
 use Rattle.std.proofs.Math.Nat.{div-mul-le_self, mul-le-mul_left}
 use Rattle.std.proofs.Math.IntN.{pos-*ℤ-pos, pos-*ℤ-negsuc}
 use Rattle.std.proofs.lemmas.Int.{ints}
-use Rattle.obj_seq.specs.Range.{steps, range_length, range_item}
+use Rattle.py_data.specs.Range.{steps, range_length, range_item}
 
 -- k steps are no longer than the way
 pub record IsOnWay (d : ℤ) (m : ℕ) : Type 0 where

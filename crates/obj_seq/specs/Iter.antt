@@ -12,7 +12,7 @@ use Rattle.py_data.specs.declared.change.Change.TheVariants as change
 use Rattle.py_data.specs.Row.{Row, Ret, Do, Read, Edit, Make}
 use Rattle.py_data.specs.Sense.{IfThere}
 use Rattle.py_data.specs.Fault.{iterable_fault, size_fault}
-use Rattle.obj_seq.specs.Range.{range_length, range_item, IsRangeForm}
+use Rattle.py_data.specs.Range.{range_length, range_item, IsRange}
 
 -- ---- what can be gone through
 
@@ -32,7 +32,7 @@ count_of _ vs bs = None
 
 -- a record of a range has a range's values
 abbrev pub IfRange : Rec → Type 0
-IfRange r = r.kind ≡ Range → IsRangeForm r.values
+IfRange r = r.kind ≡ Range → IsRange r.values
 
 -- ---- make_iter
 

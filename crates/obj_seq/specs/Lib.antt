@@ -1,6 +1,5 @@
 pub mod Seq
 pub mod Worked
-pub mod Range
 pub mod Iter
 pub mod Laws
 pub mod Safety

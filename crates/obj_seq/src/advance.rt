@@ -5,7 +5,7 @@ ghost use Rattle.py_data.specs.Sense.{Meets, Safe, IsLive, IfThere, Asks, Shows}
 ghost use Rattle.py_data.specs.Made.{rec_of};
 ghost use Rattle.py_data.specs.Heap.{new_rec};
 ghost use Rattle.py_data.specs.Row.{Read, Do};
-ghost use Rattle.obj_seq.specs.Range.{IsRangeForm};
+ghost use Rattle.py_data.specs.Range.{IsRange};
 ghost use Rattle.obj_seq.specs.Iter.{CanNext, CanNextWith, IfRange, next_row, next_with, next_over, go_or_end, byte_or_end, number_in, pick, has_changed, is_str, parts_of, IsIterForm};
 
 use crate::range::{range_item, range_length};
@@ -87,7 +87,7 @@ fn byte_at<S, V: View<S>>(v: &mut V, a: Addr, at: u64) -> Result<Option<u8>, Sto
 
 /// The number at a place of the range of these values.
 fn number_in(start: Value, stop: Value, step: Value, at: u64) -> Option<Value>
-    requires { IsRangeForm (start ∷ stop ∷ step ∷ []) }
+    requires { IsRange (start ∷ stop ∷ step ∷ []) }
     ensures value { result ≡ number_in (start ∷ stop ∷ step ∷ []) at }
     ensures fits { IfSome result (λ _. at + 1 < 2 ^ 63) }
 {
@@ -107,7 +107,7 @@ fn number_in(start: Value, stop: Value, step: Value, at: u64) -> Option<Value>
 #[tactic(auto, using(py_data::proofs::Rows::row_steps))]
 fn number_at<S, V: View<S>>(v: &mut V, a: Addr, at: u64) -> Result<Option<Value>, Stop>
     requires live { IsLive V.sense v.old }
-    requires form { IfThere V.sense.partial (V.sense.heap v.old a.0) (λ r. IsRangeForm r.values) }
+    requires form { IfThere V.sense.partial (V.sense.heap v.old a.0) (λ r. IsRange r.values) }
     ensures shows { Shows V.sense a.0 (λ r. number_in r.values at) v.old v.new result }
     ensures fits { IfOk result (λ o. IfSome o (λ _. at + 1 < 2 ^ 63)) }
 {

@@ -5,7 +5,7 @@ ghost use Rattle.py_base.specs.declared.kind.Kind.TheVariants.{Range};
 ghost use Rattle.py_data.specs.Sense.{Meets, Safe, IsLive, IfThere, Asks, Shows};
 ghost use Rattle.py_data.specs.Heap.{at};
 ghost use Rattle.py_data.specs.Row.{Do, Read};
-ghost use Rattle.obj_seq.specs.Range.{IsRangeForm};
+ghost use Rattle.py_data.specs.Range.{IsRange};
 ghost use Rattle.obj_seq.specs.Iter.{iter_row, make_iter_row, iter_values, count_of, count_range, is_iter, CanIter, IfRange};
 
 use crate::range::range_length;
@@ -28,7 +28,7 @@ fn iter_values(alloc: Global, over: Addr, at: u64, count: u64) -> Result<Values,
 
 /// The length of the range of these values.
 fn length_in(start: Value, stop: Value, step: Value) -> Option<u64>
-    requires { IsRangeForm (start ∷ stop ∷ step ∷ []) }
+    requires { IsRange (start ∷ stop ∷ step ∷ []) }
     ensures value { result ≡ count_range (start ∷ stop ∷ step ∷ []) }
     ensures fits { IfSome result (λ n. n < 2 ^ 63) }
 {
@@ -44,7 +44,7 @@ fn length_in(start: Value, stop: Value, step: Value) -> Option<u64>
 #[tactic(auto, using(py_data::proofs::Rows::row_steps))]
 fn count_range<S, V: View<S>>(v: &mut V, a: Addr) -> Result<Option<u64>, Stop>
     requires live { IsLive V.sense v.old }
-    requires form { IfThere V.sense.partial (V.sense.heap v.old a.0) (λ r. IsRangeForm r.values) }
+    requires form { IfThere V.sense.partial (V.sense.heap v.old a.0) (λ r. IsRange r.values) }
     ensures fits { IfOk result (λ o. IfSome o (λ n. n < 2 ^ 63)) }
     ensures shows { Shows V.sense a.0 (λ r. count_range r.values) v.old v.new result }
 {

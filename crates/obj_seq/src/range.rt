@@ -1,6 +1,6 @@
 //! Ranges of whole numbers.
 ghost use Rattle.std.specs.Prelude.{◌≡◌, ◌≢◌, ◌<◌, ◌≤◌, ◌-ℤ◌, pos};
-ghost use Rattle.obj_seq.specs.Range.{steps, range_length, range_item};
+ghost use Rattle.py_data.specs.Range.{steps, range_length, range_item};
 
 /// How many numbers, `step` apart from one another and from `from` on, are below `to`.
 fn steps(from: i64, to: i64, step: u64) -> u64

@@ -8,12 +8,12 @@ use Rattle.py_data.specs.Shape.{find}
 use Rattle.py_data.specs.Heap.{Rec, Heap, put_at}
 use Rattle.py_data.specs.Changes.{after}
 use Rattle.py_data.specs.Row.{Call, Reply, Row, Ret, Do, Read, Find, Edit, Make, Start, Put, Take, MidLine, SetMidLine, bind}
-use Rattle.py_data.specs.Sense.{Asks, Effect, Safe, Run}
+use Rattle.py_data.specs.Sense.{Sense, Lawful, Asks, Effect, Safe, Run}
 use Rattle.py_data.specs.Sight.{Sight, Act}
 use Rattle.py_data.specs.World.{IsLine}
 use Rattle.py_data.specs.Order.{Rules, IsOrdered, Extends, AreLasting, StatesLast}
 use Rattle.py_data.specs.Holds.{Tends, Holds}
-use Rattle.py_data.specs.OrderLaws.{HoldsSafe, HoldsBind, HoldsDoes, Held}
+use Rattle.py_data.specs.OrderLaws.{HoldsSafe, HoldsRun, HoldsBind, HoldsDoes, Held}
 use Rattle.py_data.proofs.Calls.{call_ordered}
 use Rattle.py_data.proofs.EveryLemmas.{every_and}
 use Rattle.py_data.proofs.Keep.{extends_same, extends_then}
@@ -97,6 +97,17 @@ module _ {S : Type 0} (rules : Rules) (stands : Heap → S → Type 0) where
 
     pub holds_safe : {A : Type 0} (p : A → Heap → Type 0) → HoldsSafe rules stands p
     holds_safe p partial row g h shown order i = safe_shown partial row g h shown (whole_safe p row h order i)
+
+    -- what it has left, over each view of a whole heap
+    pub holds_run : {X A : Type 0} (u : Sense S X) → Lawful u → (p : A → Heap → Type 0) → HoldsRun rules stands p u
+    unfolding Holds Run
+    holds_run u L p whole (Ret a) v w y i order d =
+        subst (λ z. p y (u.heap z) × IsOrdered rules (u.heap z) × Extends (u.heap v) (u.heap z)) (sym d.1) (subst (λ z. p z (u.heap v)) (sym d.0) i, order, extends_same (u.heap v))
+    holds_run u L p whole (Do c k) v w y i order d =
+        let e = subst (λ b. Effect b c (u.heap v) d.0 (u.heap d.1)) whole (L.effect c v d.0 d.1 d.2) in
+        let o = call_ordered rules last stands c (u.heap v) (u.heap d.1) d.0 i.0 i.1 e order in
+        let n = holds_run u L p whole (k d.0) d.1 w y (i.2 d.0 (u.heap d.1) e o.0 o.1) o.0 d.3 in
+        (n.0, n.1, extends_then (u.heap v) (u.heap d.1) (u.heap w) o.1 n.2)
 
     module _ (stay : StatesLast rules stands) where
       started_stand : (c : Call S) (h h1 : Heap) → Tends rules stands c h → IsOrdered rules h → Extends h h1 → Every (stands h1) (started_by c)

@@ -34,8 +34,14 @@ module _ {S A : Type 0} (rules : Rules) (stands : Heap → S → Type 0) (p : A 
   abbrev pub HoldsSafe : Type 0
   HoldsSafe = (partial : Bool) (row : Row S A) (g h : Heap) → ShownOf partial g h → IsOrdered rules h → Holds rules stands p row h → Safe partial row g
 
-  -- what a row that holds has done: its answer has the property, the heap is in order and extends the one before, and each
-  -- state that it started may stand over it
+  -- over each view of a whole heap: what a row that holds has answered has the property, and the heap is in order and extends
+  -- the one before
+  abbrev pub HoldsRun : {X : Type 0} → Sense S X → Type 0
+  HoldsRun {X} u =
+      u.partial ≡ false → (row : Row S A) (v w : X) (y : A) → Holds rules stands p row (u.heap v) → IsOrdered rules (u.heap v) → Run u row v y w
+      → p y (u.heap w) × IsOrdered rules (u.heap w) × Extends (u.heap v) (u.heap w)
+
+  -- by its meaning: the same, and each state that it has started may stand over the heap
   pub record Held (s : Sight S) (y : A) (t : Sight S) : Type 0 where
     pub answer : p y t.heap
     pub order : IsOrdered rules t.heap

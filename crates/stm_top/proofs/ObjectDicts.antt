@@ -101,7 +101,7 @@ dict-same : (h h1 : Heap) (d : ℕ) → h1 ≡ h → IsDictAt h d → IsDictAt h
 dict-same h h1 d e t = subst (λ h. IsDictAt h d) (sym e) t
 
 dict-leaves : (h h1 : Heap) (d : ℕ) (r : Rec) (keys values : List Value) → Leaves d r keys values h h1 → r.kind ≡ Dict → ArePaired r.values → AllKeys h1 keys → IsDictAt h1 d
-dict-leaves h h1 d r keys values l k p a = record { r = l.now; is = l.is; kind = l.kind ∙ k; pairs = pairs-of h1 l.now.values (l.paired p) (subst (AllKeys h1) (sym l.first) a) }
+dict-leaves h h1 d r keys values l k p a = record { r = l.now; is = l.is; kind = ap (λ z. z.kind) l.same ∙ k; pairs = pairs-of h1 l.now.values (l.paired p) (subst (AllKeys h1) (sym l.first) a) }
 
 pub dict-old : (h h1 : Heap) (d : ℕ) → KindsStay h h1 → OldStay h h1 → IsDictAt h d → IsDictAt h1 d
 dict-old h h1 d s o t = record { r = t.r; is = o d t.r t.is; kind = t.kind; pairs = pairs-of h1 t.r.values (paired-of h t.r.values t.pairs) (keys-stay h h1 s (half false t.r.values) (keys-of h t.r.values t.pairs)) }
@@ -163,7 +163,7 @@ after-same h h1 d e t = record { dict = dict-same h h1 d e t; iters = λ it i. s
 after-leaves : (h h1 : Heap) (d : ℕ) (t : IsDictAt h d) (keys values : List Value) → Leaves d t.r keys values h h1 → AllKeys h1 keys → DictAfter d h h1
 after-leaves h h1 d t keys values l a = record {
   dict = dict-leaves h h1 d t.r keys values l t.kind (paired-of h t.r.values t.pairs) a;
-  iters = iters-others h h1 d t.r l.now t.is t.kind l.is l.kind l.others;
+  iters = iters-others h h1 d t.r l.now t.is t.kind l.is (ap (λ z. z.kind) l.same) l.others;
 }
 
 module _ {S X : Type 0} {u : Sense S X} where

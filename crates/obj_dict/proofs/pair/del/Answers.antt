@@ -6,7 +6,7 @@ use Rattle.obj_dict.proofs.pair.del.Goals as goal
 
 pub is_key-requires-clause-safe : goal.is_key-requires-clause-safe
 unfolding del_row
-is_key-requires-clause-safe g c = safe-first g.V.View.sense _ (key_row c.args.key) (if_key (Do (Find c.args.d.0 c.args.key) (drop_found c.args.d.0 c.args.key))) _ c.requires.safe
+is_key-requires-clause-safe g c = safe-first _ (key_row c.args.key) (if_key (Do (Find c.args.d.0 c.args.key) (drop_found c.args.d.0 c.args.key))) _ c.requires.safe
 
 pub drop_found-requires-clause-safe : goal.drop_found-requires-clause-safe
 unfolding del_row

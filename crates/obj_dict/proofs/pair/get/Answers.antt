@@ -6,7 +6,7 @@ use Rattle.obj_dict.proofs.pair.get.Goals as goal
 
 pub is_key-requires-clause-safe : goal.is_key-requires-clause-safe
 unfolding get_row
-is_key-requires-clause-safe g c = safe-first g.V.View.sense _ (key_row c.args.key) (if_key (Do (Find c.args.d.0 c.args.key) (value_of_pair c.args.d.0))) _ c.requires.safe
+is_key-requires-clause-safe g c = safe-first _ (key_row c.args.key) (if_key (Do (Find c.args.d.0 c.args.key) (value_of_pair c.args.d.0))) _ c.requires.safe
 
 pub found_value-requires-clause-safe : goal.found_value-requires-clause-safe
 unfolding get_row

@@ -6,7 +6,7 @@ use Rattle.obj_dict.proofs.pair.set.Goals as goal
 
 pub is_key-requires-clause-safe : goal.is_key-requires-clause-safe
 unfolding set_row
-is_key-requires-clause-safe g c = safe-first g.V.View.sense _ (key_row c.args.key) (if_key (Do (Find c.args.d.0 c.args.key) (set_pair c.args.d.0 c.args.key c.args.x))) _ c.requires.safe
+is_key-requires-clause-safe g c = safe-first _ (key_row c.args.key) (if_key (Do (Find c.args.d.0 c.args.key) (set_pair c.args.d.0 c.args.key c.args.x))) _ c.requires.safe
 
 pub set_found-requires-clause-safe : goal.set_found-requires-clause-safe
 unfolding set_row

@@ -2,7 +2,7 @@ use Rattle.std.proofs.Common.{◌<◌, ◌^◌, ◌*ℤ◌, pos, w64, FitsSigned
 use mir.Syntax.{w128}
 use Rattle.std.proofs.Math.Facts.{sfits_widen}
 use Rattle.std.proofs.lemmas.Int.{to_z-of_z, to_z_pos, fits_signed_mul, ints}
-use Rattle.obj_seq.specs.Range.{range_item}
+use Rattle.py_data.specs.Range.{range_item}
 use Rattle.obj_seq.proofs.RangeItems.{item-fits}
 use Rattle.obj_seq.proofs.range.range_item.Goals as goal
 
