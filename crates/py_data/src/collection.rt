@@ -1,5 +1,5 @@
 //! Lists that contracts see as lists, without where they lie in memory.
-ghost use Rattle.std.specs.Prelude.{◌≡◌, ℕ, ◌+◌, ◌-◌, ◌<◌, ◌≤◌, List, [], ◌∷◌, ◌++◌, length, slice_get, slice_index_or, slice_set, option_copied, IfOk, IsOk, OnErr, OnOk, remove, take};
+ghost use Rattle.std.specs.Prelude.{◌≡◌, ℕ, ◌+◌, ◌-◌, ◌<◌, ◌≤◌, List, [], ◌∷◌, ◌++◌, length, slice_get, slice_index_or, slice_set, option_copied, IfOk, IsOk, OnErr, OnOk, take};
 ghost use Rattle.py_data.specs.Collection.{Logged};
 
 use crate::value::{Addr, Value};
@@ -90,14 +90,6 @@ impl<T: Drop> Items<T> {
         ensures { self.new ≡ take n self.old }
     {
         self.items.truncate(n);
-    }
-
-    /// Takes an element out; those behind it close the gap.
-    pub fn remove(&mut self, i: usize)
-        requires { i < length self.old }
-        ensures { self.new ≡ remove self.old i }
-    {
-        let _ = self.items.remove(i);
     }
 }
 
