@@ -3,4 +3,4 @@ use Rattle.py_data.proofs.UndoLemmas.{set_undone}
 use Rattle.py_data.proofs.entry.Entry.set.Goals as goal
 
 pub returns : goal.returns
-returns c = set_undone _ _ c.args.i c.args.x c.index-old.result.now c.requires (search rules) (search rules)
+returns c = set_undone _ _ c.args.i c.args.x _ c.requires (search rules) (search rules)
