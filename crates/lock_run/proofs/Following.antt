@@ -2,14 +2,15 @@
 use Rattle.std.proofs.Common.{◌≡◌, inl, inr, ℕ, ◌≤◌, List, [], ◌∷◌, ◌++◌, Bool, true, false, Option, Some, None, length, refl, sym, ◌∙◌, ap, subst, arith, append_assoc}
 use Rattle.py_data.specs.declared.stop.Stop.{Stop}
 use Rattle.py_data.specs.declared.stop.Out.TheVariants.{Output, ErrorOutput}
-use Rattle.py_data.specs.Heap.{Heap, Rec, put_at, with_value, with_push, cut_to, with_pair, without_pair}
-use Rattle.py_data.specs.Shape.{find}
-use Rattle.py_data.specs.Row.{Call, Reply, Row, Ret, Do, Read, Find, SetVal, Push, Truncate, PushPair, DropPair, Make, Start, Put, Take, MidLine, SetMidLine}
+use Rattle.py_data.specs.Changes.{after}
+use Rattle.py_data.specs.Heap.{Heap, put_at}
+use Rattle.py_data.specs.Shape.{Fits, find}
+use Rattle.py_data.specs.Row.{Call, Reply, Row, Ret, Do, Read, Find, Edit, Make, Start, Put, Take, MidLine, SetMidLine}
 use Rattle.py_data.specs.Sense.{Sense, Bracket, Run, Upto}
-use Rattle.py_data.specs.Sight.{Sight, Act, Does, Edited, Fits, looked_at, edited, made_new, started_one, in_world, pure}
+use Rattle.py_data.specs.Sight.{Sight, Act, Does, looked_at, edited, made_new, started_one, in_world, pure}
 use Rattle.py_data.specs.World.{IsLine, wrote, took, shrunk, grown}
 use Rattle.py_data.proofs.Whole.{run_follows, upto_follows, run_steps, upto_steps}
-use Rattle.lock_run.specs.PlainState.{PlainState, PlainDoes, PlainRefuses, PlainOpens, PlainUndoes, Changes, Named}
+use Rattle.lock_run.specs.PlainState.{PlainState, PlainDoes, PlainRefuses, PlainOpens, PlainUndoes, Named}
 
 -- a view that is a plain view as far as its state tells
 pub record IsPlain {S X : Type 0} (u : Sense S X) (b : Bracket S X) (D : X → PlainState S) : Type 0 where
@@ -35,13 +36,6 @@ grown_then (Some zs) xs ys = ap Some (append_assoc zs xs ys)
 abbrev pub ShownBy : {S : Type 0} → Option (List ℕ) → Option (List ℕ) → List S → (c : Call S) → Sight S → Reply c → PlainState S → Type 0
 ShownBy {S} o e st c x r d1 = (y : Sight S) × Act c x r y × Shows o e st d1 y
 
-changed_shown : {S : Type 0} (o e : Option (List ℕ)) (st : List S) (a : ℕ) (ok : Rec → Type 0) (f : Rec → Rec) (d d1 : PlainState S) (x : Sight S) → Changes a ok f d d1 → Shows o e st d x → (y : Sight S) × Edited a ok f x y × Shows o e st d1 y
-changed_shown {S} o e st a ok f d d1 x h s = (
-  edited a (f h.0) x,
-  (h.0, ap (λ g. g a) s.heap ∙ h.1, h.2, refl),
-  subst (λ (z : PlainState S). Shows o e st z (edited a (f h.0) x)) (sym h.3) (record { heap = ap (λ g. put_at g a (f h.0)) s.heap; made = s.made; started = s.started; input = s.input; out = s.out; err = s.err; mid = s.mid }),
-)
-
 pub act_shown : {S : Type 0} (o e : Option (List ℕ)) (st : List S) (c : Call S) (d : PlainState S) (r : Reply c) (d1 : PlainState S) (x : Sight S) → PlainDoes c d r d1 → Shows o e st d x → ShownBy o e st c x r d1
 act_shown {S} o e st (Read a) d r d1 x h s = (
   looked_at a r x,
@@ -53,11 +47,11 @@ act_shown {S} o e st (Find a key) d r d1 x h s = (
   (h.0, ap (λ g. g a) s.heap ∙ h.1, subst (λ (g : Heap). Fits g h.0 key) (sym s.heap) h.2, subst (λ (g : Heap). r ≡ find g h.0.values key) (sym s.heap) h.3, refl),
   subst (λ (z : PlainState S). Shows o e st z (looked_at a h.0 x)) (sym h.4) (record { heap = s.heap; made = s.made; started = s.started; input = s.input; out = s.out; err = s.err; mid = s.mid }),
 )
-act_shown o e st (SetVal a i v) d r d1 x h s = changed_shown o e st a _ (with_value i v) d d1 x h s
-act_shown o e st (Push a v) d r d1 x h s = changed_shown o e st a _ (with_push v) d d1 x h s
-act_shown o e st (Truncate a n) d r d1 x h s = changed_shown o e st a _ (cut_to n) d d1 x h s
-act_shown o e st (PushPair a key v) d r d1 x h s = changed_shown o e st a _ (with_pair key v) d d1 x h s
-act_shown o e st (DropPair a n) d r d1 x h s = changed_shown o e st a _ (without_pair n) d d1 x h s
+act_shown {S} o e st (Edit a c) d r d1 x h s = (
+  edited a (after c h.0) x,
+  (h.0, ap (λ g. g a) s.heap ∙ h.1, h.2, refl),
+  subst (λ (z : PlainState S). Shows o e st z (edited a (after c h.0) x)) (sym h.3) (record { heap = ap (λ g. put_at g a (after c h.0)) s.heap; made = s.made; started = s.started; input = s.input; out = s.out; err = s.err; mid = s.mid }),
+)
 act_shown {S} o e st (Make q) d n d1 x h s = (
   made_new n q x,
   (ap (λ g. g n) s.heap ∙ h.1, refl),
@@ -127,9 +121,6 @@ keeps_trans d d1 d2 p q = record {
   errs = let x = p.errs in let y = q.errs in omega arith;
 }
 
-keeps_changed : {S : Type 0} (a : ℕ) (ok : Rec → Type 0) (f : Rec → Rec) (d d1 : PlainState S) → Changes a ok f d d1 → Keeps d d1
-keeps_changed {S} a ok f d d1 h = subst (λ (z : PlainState S). Keeps d z) (sym h.3) (record { base = refl; kept = refl; was_left = refl; was_mid = refl; free = refl; bad = refl; names = λ e. refl; reads = omega arith; writes = omega arith; errs = omega arith })
-
 named_rest : (free : Bool) (n : ℕ) (made left left1 : List ℕ) → Named free n left left1 → free ≡ false → (made ++ n ∷ []) ++ left1 ≡ made ++ left
 named_rest true n made left left1 h e = cc
 named_rest false n made left left1 h e = append_assoc made (n ∷ []) left1 ∙ ap (λ l. made ++ l) (sym h)
@@ -137,11 +128,7 @@ named_rest false n made left left1 h e = append_assoc made (n ∷ []) left1 ∙ 
 pub act_keeps : {S : Type 0} (c : Call S) (d : PlainState S) (r : Reply c) (d1 : PlainState S) → PlainDoes c d r d1 → Keeps d d1
 act_keeps (Read a) d r d1 h = keeps_same d d1 h.1
 act_keeps (Find a key) d r d1 h = keeps_same d d1 h.4
-act_keeps (SetVal a i v) d r d1 h = keeps_changed a _ (with_value i v) d d1 h
-act_keeps (Push a v) d r d1 h = keeps_changed a _ (with_push v) d d1 h
-act_keeps (Truncate a n) d r d1 h = keeps_changed a _ (cut_to n) d d1 h
-act_keeps (PushPair a key v) d r d1 h = keeps_changed a _ (with_pair key v) d d1 h
-act_keeps (DropPair a n) d r d1 h = keeps_changed a _ (without_pair n) d d1 h
+act_keeps {S} (Edit a c) d r d1 h = subst (λ (z : PlainState S). Keeps d z) (sym h.3) (record { base = refl; kept = refl; was_left = refl; was_mid = refl; free = refl; bad = refl; names = λ e. refl; reads = omega arith; writes = omega arith; errs = omega arith })
 act_keeps {S} (Make q) d n d1 h = record {
   base = ap (λ z. z.base) h.2;
   kept = ap (λ z. z.kept) h.2;

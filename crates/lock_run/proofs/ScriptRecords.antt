@@ -11,10 +11,12 @@ use Rattle.py_data.specs.declared.stop.Stop.{Stop}
 use Rattle.py_data.specs.declared.stop.Stop.TheVariants.{OutOfMemory}
 use Rattle.py_data.specs.declared.record.TheConstants.{LENGTH_LIMIT}
 use Rattle.py_data.specs.Heap.{Heap, Rec, is_tracked}
-use Rattle.py_data.specs.Row.{Ret, Do, Push, Make, Start}
-use Rattle.py_data.specs.Sense.{Sense, Lawful, Asks, Safe, IsValuePlace, Meets, IsLive}
+use Rattle.py_data.specs.declared.change.Change.TheVariants as change
+use Rattle.py_data.specs.Changes.{IsValuePlace}
+use Rattle.py_data.specs.Row.{Ret, Do, Edit, Make, Start}
+use Rattle.py_data.specs.Sense.{Sense, Lawful, Asks, Safe, Meets, IsLive}
 use Rattle.py_data.specs.Rest.{Leads}
-use Rattle.py_data.proofs.Steps.{there-is, leads-do, leads-ret, leads-refused, leads-own}
+use Rattle.py_data.proofs.Steps.{there-is, leads-do, leads-ret, leads-refused, leads-own, asks-edit}
 use Rattle.lock_run.specs.declared.script.Act.{Act}
 use Rattle.lock_run.specs.declared.script.Act.TheVariants.{Look, Set, Push as PushAct, Put as PutAct}
 use Rattle.lock_run.specs.declared.script.ScriptState.{ScriptState}
@@ -38,13 +40,13 @@ set_safe S p h cells k None v c e = tt
 set_safe S p h cells k (Some a) v c e =
     let i = c.each k a e in
     let one = i.so.1 in
-    (there-is h a.0 i.rec p (λ r. (is_tracked r.kind ≡ true) × (0 < length r.values) × IsValuePlace r.kind 0) i.here (ap is_tracked i.so.0, omega (arith, one), value_place i.rec.kind i.so.0), λ r h1 f. tt)
+    (asks-edit S p h a.0 i.rec (change.Set 0 v) i.here (ap is_tracked i.so.0, omega (arith, one)) (value_place i.rec.kind i.so.0), λ r h1 f. tt)
 
 push_safe_if : (S : Type 0) (p : Bool) (h : Heap) (list : Addr) (r : Rec) (v : Value) (b : Bool) → h list.0 ≡ Some r → r.kind ≡ ListKind → ltb (length r.values) LENGTH_LIMIT ≡ b
-    → Safe {S = S} {A = Unit {0}} p (cond b (Do (Push list.0 v) (λ _. Ret tt)) (Ret tt)) h
+    → Safe {S = S} {A = Unit {0}} p (cond b (Do (Edit list.0 (change.Push v)) (λ _. Ret tt)) (Ret tt)) h
 unfolding Safe Asks
 push_safe_if S p h list r v false here kind e = tt
-push_safe_if S p h list r v true here kind e = (there-is h list.0 r p (λ r. (r.kind ≡ ListKind) × (length r.values < LENGTH_LIMIT)) here (kind, ltb-true (length r.values) LENGTH_LIMIT e), λ x h1 f. tt)
+push_safe_if S p h list r v true here kind e = (asks-edit S p h list.0 r (change.Push v) here (kind, ltb-true (length r.values) LENGTH_LIMIT e) tt, λ x h1 f. tt)
 
 push_safe : (S : Type 0) (p : Bool) (h : Heap) (list : Addr) (v : Value) → HasList h list → Safe {S = S} p (push_row list v) h
 unfolding push_row Safe Asks

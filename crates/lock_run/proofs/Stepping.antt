@@ -4,7 +4,7 @@ use Rattle.py_data.specs.declared.stop.Stop.{Stop}
 use Rattle.py_data.specs.declared.stop.Stop.TheVariants.{ReadFault as ReadStop, WriteFault as WriteStop, ErrFault as ErrStop, OutOfMemory as MemoryStop}
 use Rattle.py_data.specs.declared.stop.Out.TheVariants.{Output, ErrorOutput}
 use Rattle.py_data.specs.Heap.{Heap}
-use Rattle.py_data.specs.Row.{Call, Reply, Row, Ret, Do, Read, Find, SetVal, Push, Truncate, PushPair, DropPair, Make, Start, Put, Take, MidLine, SetMidLine}
+use Rattle.py_data.specs.Row.{Call, Reply, Row, Ret, Do, Read, Find, Edit, Make, Start, Put, Take, MidLine, SetMidLine}
 use Rattle.py_data.specs.Sense.{Sense, Bracket, Upto}
 use Rattle.py_data.specs.Sight.{Sight, Does, opened, pure}
 use Rattle.py_data.specs.World.{World, shrunk, grown}
@@ -186,11 +186,7 @@ module _ {S : Type 0} (p : Prog S) (t k : ℕ) (names : List ℕ) (o e : Option 
           begins_part x w d1 rf.0.free kp un,
         )
       ]
-  refused_memory (SetVal a i v) f y x w d1 ls true eb up sh kp rf un = absurd (let q : true ≡ false = sym eb ∙ ap (λ z. z.bad) un ∙ rf.1.0 ∙ kp.bad in cc)
-  refused_memory (Push a v) f y x w d1 ls true eb up sh kp rf un = absurd (let q : true ≡ false = sym eb ∙ ap (λ z. z.bad) un ∙ rf.1.0 ∙ kp.bad in cc)
-  refused_memory (Truncate a n) f y x w d1 ls true eb up sh kp rf un = absurd (let q : true ≡ false = sym eb ∙ ap (λ z. z.bad) un ∙ rf.1.0 ∙ kp.bad in cc)
-  refused_memory (PushPair a key v) f y x w d1 ls true eb up sh kp rf un = absurd (let q : true ≡ false = sym eb ∙ ap (λ z. z.bad) un ∙ rf.1.0 ∙ kp.bad in cc)
-  refused_memory (DropPair a n) f y x w d1 ls true eb up sh kp rf un = absurd (let q : true ≡ false = sym eb ∙ ap (λ z. z.bad) un ∙ rf.1.0 ∙ kp.bad in cc)
+  refused_memory (Edit a c) f y x w d1 ls true eb up sh kp rf un = absurd (let q : true ≡ false = sym eb ∙ ap (λ z. z.bad) un ∙ rf.1.0 ∙ kp.bad in cc)
   refused_memory (Start s) f y x w d1 ls true eb up sh kp rf un = absurd (let q : true ≡ false = sym eb ∙ ap (λ z. z.bad) un ∙ rf.1.0 ∙ kp.bad in cc)
   refused_memory (Put on bytes) f y x w d1 ls true eb up sh kp rf un = absurd (let q : true ≡ false = sym eb ∙ ap (λ z. z.bad) un ∙ rf.1.0 ∙ kp.bad in cc)
   refused_memory (Take most) f y x w d1 ls true eb up sh kp rf un = absurd (let q : true ≡ false = sym eb ∙ ap (λ z. z.bad) un ∙ rf.1.0 ∙ kp.bad in cc)

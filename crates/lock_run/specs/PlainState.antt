@@ -3,10 +3,11 @@ use Rattle.std.specs.Prelude.{◌≡◌, ◌⊎◌, ℕ, ◌≤◌, List, [], �
 use Rattle.py_data.specs.declared.stop.Out.TheVariants.{Output, ErrorOutput}
 use Rattle.py_data.specs.declared.stop.Stop.{Stop}
 use Rattle.py_data.specs.declared.stop.Stop.TheVariants.{ReadFault, WriteFault, ErrFault, OutOfMemory}
-use Rattle.py_data.specs.Heap.{Heap, Rec, put_at, with_value, with_push, cut_to, with_pair, without_pair}
-use Rattle.py_data.specs.Shape.{find}
-use Rattle.py_data.specs.Row.{Call, Read, Find, SetVal, Push, Truncate, PushPair, DropPair, Make, Start, Put, Take, MidLine, SetMidLine, Reply}
-use Rattle.py_data.specs.Sight.{Fits, CanSet, CanPush, CanPair}
+use Rattle.py_data.specs.declared.change.Change.{Change}
+use Rattle.py_data.specs.Changes.{after, Allows}
+use Rattle.py_data.specs.Heap.{Heap, Rec, put_at}
+use Rattle.py_data.specs.Shape.{Fits, find}
+use Rattle.py_data.specs.Row.{Call, Read, Find, Edit, Make, Start, Put, Take, MidLine, SetMidLine, Reply}
 use Rattle.py_data.specs.World.{IsLine, shrunk, grown}
 use Rattle.stm_io.specs.Outside.{Rose}
 
@@ -31,9 +32,9 @@ pub record PlainState (S : Type 0) : Type 0 where
   pub writes : ℕ
   pub errs : ℕ
 
--- a record is there that may be changed, and it was
-abbrev pub Changes : {S : Type 0} → ℕ → (Rec → Type 0) → (Rec → Rec) → PlainState S → PlainState S → Type 0
-Changes a ok f d e = (q : Rec) × (d.heap a ≡ Some q) × ok q × (e ≡ record d { heap = put_at d.heap a (f q) })
+-- a record is there that allows the change, and was changed
+abbrev pub Changes : {S : Type 0} → ℕ → Change → PlainState S → PlainState S → Type 0
+Changes a c d e = (q : Rec) × (d.heap a ≡ Some q) × Allows c q × (e ≡ record d { heap = put_at d.heap a (after c q) })
 
 -- the names from which the next one is taken, where they are given
 abbrev pub Named : Bool → ℕ → List ℕ → List ℕ → Type 0
@@ -44,11 +45,7 @@ Named false n left left1 = left ≡ n ∷ left1
 abbrev pub PlainDoes : {S : Type 0} (c : Call S) → PlainState S → Reply c → PlainState S → Type 0
 PlainDoes (Read a) d r e = (d.heap a ≡ Some r) × (e ≡ d)
 PlainDoes (Find a key) d o e = (q : Rec) × (d.heap a ≡ Some q) × Fits d.heap q key × (o ≡ find d.heap q.values key) × (e ≡ d)
-PlainDoes (SetVal a i v) d r e = Changes a (CanSet i) (with_value i v) d e
-PlainDoes (Push a v) d r e = Changes a CanPush (with_push v) d e
-PlainDoes (Truncate a n) d r e = Changes a CanPush (cut_to n) d e
-PlainDoes (PushPair a key v) d r e = Changes a CanPair (with_pair key v) d e
-PlainDoes (DropPair a k) d r e = Changes a CanPair (without_pair k) d e
+PlainDoes (Edit a c) d r e = Changes a c d e
 PlainDoes (Make q) d n e = Named d.free n d.left e.left × (d.heap n ≡ None) × (e ≡ record d { heap = put_at d.heap n q; made = d.made ++ n ∷ []; left = e.left })
 PlainDoes (Start s) d r e = e ≡ record d { started = d.started ++ s ∷ [] }
 PlainDoes (Put Output b) d r e = (e ≡ record d { out = grown d.out b; writes = e.writes }) × (d.writes ≤ e.writes)

@@ -8,7 +8,8 @@ use Rattle.py_data.specs.declared.value.Kind.TheVariants.{Cell, List as ListKind
 use Rattle.py_data.specs.declared.stop.Out.TheVariants.{Output}
 use Rattle.py_data.specs.declared.record.TheConstants.{LENGTH_LIMIT}
 use Rattle.py_data.specs.Heap.{Heap, Rec, new_rec}
-use Rattle.py_data.specs.Row.{Row, Ret, Do, Read, SetVal, Push, Make, Start, Put, bind}
+use Rattle.py_data.specs.Row.{Row, Ret, Do, Read, Edit, Make, Start, Put, bind}
+use Rattle.py_data.specs.declared.change.Change.TheVariants as change
 use Rattle.lock_run.specs.declared.client.Outcome.{Outcome}
 use Rattle.lock_run.specs.declared.client.Outcome.TheVariants.{Done, Ended}
 use Rattle.lock_run.specs.declared.client.Life.{Life}
@@ -71,12 +72,12 @@ look_row (Some a) = Do (Read a.0) (λ r. Ret tt)
 look_row None = Ret tt
 
 unfoldable pub set_row : {S : Type 0} → Option Addr → Value → Row S (Unit {0})
-set_row (Some a) v = Do (SetVal a.0 0 v) (λ _. Ret tt)
+set_row (Some a) v = Do (Edit a.0 (change.Set 0 v)) (λ _. Ret tt)
 set_row None v = Ret tt
 
 -- a look at the List, and a push unless it is as long as a record may be
 unfoldable pub push_row : {S : Type 0} → Addr → Value → Row S (Unit {0})
-push_row list v = Do (Read list.0) (λ r. cond (ltb (length r.values) LENGTH_LIMIT) (Do (Push list.0 v) (λ _. Ret tt)) (Ret tt))
+push_row list v = Do (Read list.0) (λ r. cond (ltb (length r.values) LENGTH_LIMIT) (Do (Edit list.0 (change.Push v)) (λ _. Ret tt)) (Ret tt))
 
 abbrev pub act_row : {S : Type 0} → List Addr → Addr → Act → Row S (Unit {0})
 act_row cells list (Look k) = look_row (slice_get cells k)

@@ -10,7 +10,8 @@ use Rattle.py_data.specs.declared.value.Kind.{Kind}
 use Rattle.py_data.specs.declared.value.Kind.TheVariants.{Cell, List as ListKind}
 use Rattle.py_data.specs.declared.record.TheConstants.{LENGTH_LIMIT}
 use Rattle.py_data.specs.Heap.{Heap, Rec, put_at, no_records, with_value, with_push}
-use Rattle.py_data.specs.Row.{Call, Reply, Row, Ret, Do, Push, MidLine, bind}
+use Rattle.py_data.specs.Row.{Call, Reply, Row, Ret, Do, Edit, MidLine, bind}
+use Rattle.py_data.specs.declared.change.Change.TheVariants as change
 use Rattle.py_data.specs.Sense.{Run}
 use Rattle.py_data.specs.Sight.{Sight, Does, opened, pure}
 use Rattle.py_data.proofs.Rows.{bind-run}
@@ -131,7 +132,7 @@ was_set (Some a) v x y u d =
 no_cell : (k : Kind) → k ≡ ListKind → k ≡ Cell → ⊥
 no_cell k e f = let q : ◌≡◌ {A = Kind} ListKind Cell = sym e ∙ f in cc
 
-was_pushed : {S : Type 0} (b : Bool) (list : Addr) (v : Value) (x y : Sight S) (u : Unit {0}) → Does (cond b (Do (Push list.0 v) (λ _. Ret tt)) (Ret tt)) x u y → Keeps x y
+was_pushed : {S : Type 0} (b : Bool) (list : Addr) (v : Value) (x y : Sight S) (u : Unit {0}) → Does (cond b (Do (Edit list.0 (change.Push v)) (λ _. Ret tt)) (Ret tt)) x u y → Keeps x y
 unfolding Run
 was_pushed false list v x y u d = keeps_same x y (ap (λ z. z.heap) d.1) (ap (λ z. z.started) d.1)
 was_pushed true list v x y u d =
@@ -139,7 +140,7 @@ was_pushed true list v x y u d =
     let q = with_push v e.0 in
     subst (Keeps x) (sym (d.3.1 ∙ e.3)) (record {
       stays = record {
-        cells = is_edited IsCell x.heap list.0 e.0 q e.1 (λ p. absurd (no_cell e.0.kind e.2 p.0));
+        cells = is_edited IsCell x.heap list.0 e.0 q e.1 (λ p. absurd (no_cell e.0.kind e.2.0 p.0));
         lists = is_edited IsList x.heap list.0 e.0 q e.1 (λ p. p);
       };
       started = refl;
@@ -327,7 +328,7 @@ unfolding set_row
 set_never None v = tt
 set_never (Some a) v = (tt, λ u. tt)
 
-push_never : (b : Bool) (list : Addr) (v : Value) → NeverAsks {S = ScriptState} {A = Unit {0}} (cond b (Do (Push list.0 v) (λ _. Ret tt)) (Ret tt))
+push_never : (b : Bool) (list : Addr) (v : Value) → NeverAsks {S = ScriptState} {A = Unit {0}} (cond b (Do (Edit list.0 (change.Push v)) (λ _. Ret tt)) (Ret tt))
 push_never true list v = (tt, λ u. tt)
 push_never false list v = tt
 

@@ -9,10 +9,12 @@ use Rattle.py_data.specs.declared.record.Got.TheVariants.{Is, Raise}
 use Rattle.py_data.specs.declared.record.TheConstants.{LENGTH_LIMIT}
 use Rattle.py_data.specs.Heap.{Heap, Rec, is_tracked}
 use Rattle.py_data.specs.Shape.{IsKey, KindIn, find, is_key_kind}
-use Rattle.py_data.specs.Row.{Row, Ret, Do, Find, PushPair, bind}
-use Rattle.py_data.specs.Sense.{Safe, Asks, AsksKey, IfThere, IsValuePlace}
+use Rattle.py_data.specs.declared.change.Change.TheVariants as change
+use Rattle.py_data.specs.Row.{Row, Ret, Do, Find, Edit, bind}
+use Rattle.py_data.specs.Changes.{AsksKey, IsValuePlace}
+use Rattle.py_data.specs.Sense.{Safe, Asks, IfThere}
 use Rattle.py_data.specs.Fault.{memory_fault}
-use Rattle.py_data.proofs.Steps.{there-is, there-of, at-is}
+use Rattle.py_data.proofs.Steps.{there-of, at-is, asks-edit}
 use Rattle.obj_dict.specs.Dict.{key_row, if_key, value_of_pair, push_at, set_pair, drop_found, get_row, set_row, del_row}
 use Rattle.obj_dict.specs.Safety.{IsDict, IsThere, SafeLaw}
 use Rattle.obj_dict.proofs.FindSteps.{within}
@@ -77,9 +79,9 @@ module _ (S : Type 0) (p : Bool) where
   get-safe h d (Some i) t = (shown p (h d) (IsDict p h) (λ r. Unit {0}) (λ r c. tt) t, λ r h1 e. tt)
 
   push-safe : (h : Heap) (d : ℕ) (key x : Value) (r : Rec) (b : Bool) → h d ≡ Some r → IsDict p h r → KeyFor p h key → find h r.values key ≡ None → (b ≡ true → length r.values + 1 < LENGTH_LIMIT)
-      → Safe {S = S} {A = Got (Unit {0})} p (cond b (Do (PushPair d key x) (λ _. Ret (Is tt))) (Ret (Raise memory_fault))) h
+      → Safe {S = S} {A = Got (Unit {0})} p (cond b (Do (Edit d (change.Pair key x)) (λ _. Ret (Is tt))) (Ret (Raise memory_fault))) h
   unfolding Safe Asks
-  push-safe h d key x r true e c g f m = (there-is h d r p (λ r. AsksKey p h key r × (find h r.values key ≡ None) × (length r.values + 1 < LENGTH_LIMIT)) e (asks-key p h key r c g, f, m refl), λ u h1 s. tt)
+  push-safe h d key x r true e c g f m = (asks-edit S p h d r (change.Pair key x) e (dict-kind p h r c, m refl) (asks-key p h key r c g, f), λ u h1 s. tt)
   push-safe h d key x r false e c g f m = tt
 
   set-safe : (h : Heap) (d : ℕ) (key x : Value) (r : Rec) (o : Option ℕ) → IfThere p (h d) (IsDict p h) → h d ≡ Some r → IsDict p h r → KeyFor p h key → find h r.values key ≡ o → Safe {S = S} p (set_pair d key x o) h
@@ -93,7 +95,7 @@ module _ (S : Type 0) (p : Bool) where
   set-safe h d key x r (Some i) t e c g f =
       let w = within h r.values key 0 i f in
       let less : 2 * i + 1 < length r.values = let a = w.1 in omega arith in (
-        there-is h d r p (λ r. (is_tracked r.kind ≡ true) × (2 * i + 1 < length r.values) × IsValuePlace r.kind (2 * i + 1)) e (ap is_tracked (dict-kind p h r c), less, subst (λ q. IsValuePlace q (2 * i + 1)) (sym (dict-kind p h r c)) (i, refl)),
+        asks-edit S p h d r (change.Set (2 * i + 1) x) e (ap is_tracked (dict-kind p h r c), less) (subst (λ q. IsValuePlace q (2 * i + 1)) (sym (dict-kind p h r c)) (i, refl)),
         λ u h1 s. tt,
       )
 
@@ -104,7 +106,7 @@ module _ (S : Type 0) (p : Bool) where
       let w = within h r.values key 0 i f in
       let less : 2 * i + 1 < length r.values = let a = w.1 in omega arith in (
         shown p (h d) (IsDict p h) (λ r. Unit {0}) (λ r c. tt) t,
-        λ q h1 s. (subst (λ h. IfThere p (h d) (λ r. (r.kind ≡ Dict) × (2 * i + 1 < length r.values))) (sym s.1) (there-is h d r p (λ r. (r.kind ≡ Dict) × (2 * i + 1 < length r.values)) e (dict-kind p h r c, less)), λ u h2 s2. tt),
+        λ q h1 s. (asks-edit S p h1 d r (change.Unpair i) (ap (λ g. g d) s.1 ∙ e) (dict-kind p h r c, less) tt, λ u h2 s2. tt),
       )
 
 pub safe-law : (S : Type 0) → SafeLaw S

@@ -9,7 +9,8 @@ use Rattle.py_data.specs.declared.record.Got.TheVariants.{Is, Raise}
 use Rattle.py_data.specs.declared.record.TheConstants.{LENGTH_LIMIT}
 use Rattle.py_data.specs.Heap.{Heap, Rec, at, value_at, with_value, with_pair, without_pair}
 use Rattle.py_data.specs.Shape.{IsKey, KindIn, is_key_kind, find}
-use Rattle.py_data.specs.Row.{Row, Ret, Do, Read, Find, SetVal, PushPair, DropPair, bind}
+use Rattle.py_data.specs.declared.change.Change.TheVariants as change
+use Rattle.py_data.specs.Row.{Row, Ret, Do, Read, Find, Edit, bind}
 use Rattle.py_data.specs.Fault.{hash_fault, memory_fault}
 use Rattle.py_data.specs.Sense.{Sense, Lawful, Edits, Run}
 use Rattle.py_data.proofs.Steps.{at-is, put-here}
@@ -147,7 +148,7 @@ module _ {S X : Type 0} {u : Sense S X} (L : Lawful u) where
       let c = subst (λ o. Run u (set_pair d key x o) f.0 res w) p f.2 in
       let a = (within (u.heap v) r.values key 0 i p).1 in
       let less : 2 * i + 1 < length r.values = omega arith in
-      let c1 = edited d (with_value (2 * i + 1) x) (u.heap v) (u.heap f.0) (u.heap c.1) f.1 (L.effect (SetVal d (2 * i + 1) x) f.0 tt c.1 c.2) in
+      let c1 = edited d (with_value (2 * i + 1) x) (u.heap v) (u.heap f.0) (u.heap c.1) f.1 (L.effect (Edit d (change.Set (2 * i + 1) x)) f.0 tt c.1 c.2) in
       let l = leaves d (with_value (2 * i + 1) x) r (half false r.values) (slice_set (half true r.values) i x) (u.heap v) (u.heap c.1) e c1 refl refl (set-paired r.values (2 * i + 1) x) (pair-law.keys_stay r i x) (pair-law.value_set r i x less) in
       (c.3.0, subst (λ z. Leaves d r (half false r.values) (slice_set (half true r.values) i x) (u.heap v) (u.heap z)) (sym c.3.1) l)
 
@@ -164,8 +165,8 @@ module _ {S X : Type 0} {u : Sense S X} (L : Lawful u) where
   unfolding Run
   new-law d key x r v w res e k p a less g =
       let f = pushed d key x r v w res e k p g in
-      let c = subst (λ q. Run u q f.0 res w) (cond-true (ltb (length r.values + 1) LENGTH_LIMIT) (Do (PushPair d key x) (λ _. Ret (Is tt))) (Ret (Raise memory_fault)) (grind arith)) f.2 in
-      let c1 = edited d (with_pair key x) (u.heap v) (u.heap f.0) (u.heap c.1) f.1 (L.effect (PushPair d key x) f.0 tt c.1 c.2) in
+      let c = subst (λ q. Run u q f.0 res w) (cond-true (ltb (length r.values + 1) LENGTH_LIMIT) (Do (Edit d (change.Pair key x)) (λ _. Ret (Is tt))) (Ret (Raise memory_fault)) (grind arith)) f.2 in
+      let c1 = edited d (with_pair key x) (u.heap v) (u.heap f.0) (u.heap c.1) f.1 (L.effect (Edit d (change.Pair key x)) f.0 tt c.1 c.2) in
       let two = append_assoc r.values (key ∷ []) (x ∷ []) in
       let l = leaves d (with_pair key x) r (half false r.values ++ key ∷ []) (half true r.values ++ x ∷ []) (u.heap v) (u.heap c.1) e c1 refl refl (λ a. subst ArePaired (sym two) (push-paired r.values key x a)) (pair-law.pair_last false r key x a) (pair-law.pair_last true r key x a) in
       (c.3.0, subst (λ z. Leaves d r (half false r.values ++ key ∷ []) (half true r.values ++ x ∷ []) (u.heap v) (u.heap z)) (sym c.3.1) l)
@@ -174,7 +175,7 @@ module _ {S X : Type 0} {u : Sense S X} (L : Lawful u) where
   unfolding Run
   full-law d key x r v w res e k p more g =
       let f = pushed d key x r v w res e k p g in
-      let c = subst (λ q. Run u q f.0 res w) (cond-false (ltb (length r.values + 1) LENGTH_LIMIT) (Do (PushPair d key x) (λ _. Ret (Is tt))) (Ret (Raise memory_fault)) (grind arith)) f.2 in
+      let c = subst (λ q. Run u q f.0 res w) (cond-false (ltb (length r.values + 1) LENGTH_LIMIT) (Do (Edit d (change.Pair key x)) (λ _. Ret (Is tt))) (Ret (Raise memory_fault)) (grind arith)) f.2 in
       (c.0, ap u.heap c.1 ∙ f.1)
 
   pub del-law : DelLaw u
@@ -182,11 +183,11 @@ module _ {S X : Type 0} {u : Sense S X} (L : Lawful u) where
   del-law d key r i v w res e k p g =
       let f = found (drop_found d key) d key r v w res e k g in
       let c0 = subst (λ o. Run u (drop_found d key o) f.0 res w) p f.2 in
-      let n = looked (λ r. Do (DropPair d i) (λ _. Ret (Is (value_at r.values (2 * i + 1))))) d r v f.0 w res e f.1 c0 in
+      let n = looked (λ r. Do (Edit d (change.Unpair i)) (λ _. Ret (Is (value_at r.values (2 * i + 1))))) d r v f.0 w res e f.1 c0 in
       let c = n.2 in
       let a = (within (u.heap v) r.values key 0 i p).1 in
       let less : 2 * i + 1 < length r.values = omega arith in
-      let c1 = edited d (without_pair i) (u.heap v) (u.heap n.0) (u.heap c.1) n.1 (L.effect (DropPair d i) n.0 tt c.1 c.2) in
+      let c1 = edited d (without_pair i) (u.heap v) (u.heap n.0) (u.heap c.1) n.1 (L.effect (Edit d (change.Unpair i)) n.0 tt c.1 c.2) in
       let l = leaves d (without_pair i) r (remove (half false r.values) i) (remove (half true r.values) i) (u.heap v) (u.heap c.1) e c1 refl refl (drop-paired r.values i less) (pair-law.gap_closed false r i less) (pair-law.gap_closed true r i less) in
       (value_at r.values (2 * i + 1), c.3.0, half-at r.values i less, subst (λ z. Leaves d r (remove (half false r.values) i) (remove (half true r.values) i) (u.heap v) (u.heap z)) (sym c.3.1) l)
 

@@ -3,7 +3,9 @@ use Rattle.std.proofs.Common.{◌≡◌, ℕ, ◌+◌, ◌<◌, ◌≤◌, List,
 use Rattle.py_data.specs.declared.value.Value.{Value}
 use Rattle.py_data.specs.declared.stop.Stop.{Stop}
 use Rattle.py_data.specs.Heap.{Rec, at, value_at}
-use Rattle.py_data.specs.Row.{Row, Ret, Do, Read, SetVal, Push, Truncate}
+use Rattle.py_data.specs.declared.change.Change.{Change}
+use Rattle.py_data.specs.declared.change.Change.TheVariants as change
+use Rattle.py_data.specs.Row.{Row, Ret, Do, Read, Edit}
 use Rattle.py_data.specs.Sense.{Sense, Lawful, Meets, Answers}
 use Rattle.py_data.specs.Rest.{Leads}
 use Rattle.py_data.proofs.Steps.{leads-do, leads-ret, leads-refused}
@@ -33,14 +35,14 @@ module _ {S X : Type 0} {u : Sense S X} {a k n : ℕ} {xs : List Value} {j : ℕ
   closing-looked L {q = q} {x = x} {y = y} h d e = looked-same u (Closing u a k n xs j v) a (j + 1) w x y (tail-looked L h.tail d) h e
 
   pub closing-next : Closing u a k n xs j v w → (y : Value) → j + 1 < n → y ≡ value_at (at (u.heap w) a).values (j + 1)
-      → Leads u (gap_row {S = S} a k (drop (k + 1) xs)) v (Do (SetVal a j y) (λ _. gap_row a (j + 1) (drop (j + 1 + 1) xs))) w
+      → Leads u (gap_row {S = S} a k (drop (k + 1) xs)) v (Do (Edit a (change.Set j y)) (λ _. gap_row a (j + 1) (drop (j + 1 + 1) xs))) w
   unfolding gap_row
   closing-next h y less e = subst (λ vs. Leads u (gap_row {S = S} a k (drop (k + 1) xs)) v (gap_row a j vs) w) (tail-value h.tail y less e) h.leads
 
-  pub closing-more : (L : Lawful u) {x : X} (y : Value) → Closing u a k n xs j v w → j + 1 < n → y ≡ value_at (at (u.heap w) a).values (j + 1) → u.does (SetVal a j y) w tt x → Closing u a k n xs (j + 1) v x
+  pub closing-more : (L : Lawful u) {x : X} (y : Value) → Closing u a k n xs j v w → j + 1 < n → y ≡ value_at (at (u.heap w) a).values (j + 1) → u.does (Edit a (change.Set j y)) w tt x → Closing u a k n xs (j + 1) v x
   closing-more L {x = x} y h less e d = record { leads = leads-do L tt (closing-next h y less e) d; tail = tail-set L j y h.tail (omega arith) d }
 
-  pub closing-end : Closing u a k n xs j v w → n ≤ j + 1 → Leads u (gap_row {S = S} a k (drop (k + 1) xs)) v (Do (Truncate a j) (λ _. Ret tt)) w
+  pub closing-end : Closing u a k n xs j v w → n ≤ j + 1 → Leads u (gap_row {S = S} a k (drop (k + 1) xs)) v (Do (Edit a (change.Cut j)) (λ _. Ret tt)) w
   unfolding gap_row
   closing-end h less = subst (λ vs. Leads u (gap_row {S = S} a k (drop (k + 1) xs)) v (gap_row a j vs) w) (tail-end h.tail less) h.leads
 
@@ -49,24 +51,19 @@ module _ {S X : Type 0} {u : Sense S X} {a k n : ℕ} {xs : List Value} {j : ℕ
     opening-looked L {q = q} {z = z} {y = y} h d e = looked-same u (Opening u a k n x xs j held v) a j w z y (tail-looked L h.tail d) h e
 
     pub opening-next : Opening u a k n x xs j held v w → (y : Value) → j < n → y ≡ value_at (at (u.heap w) a).values j
-        → Leads u (shift_row {S = S} a k x (drop k xs)) v (Do (SetVal a j held) (λ _. shift_row a (j + 1) y (drop (j + 1) xs))) w
+        → Leads u (shift_row {S = S} a k x (drop k xs)) v (Do (Edit a (change.Set j held)) (λ _. shift_row a (j + 1) y (drop (j + 1) xs))) w
     unfolding shift_row
     opening-next h y less e = subst (λ vs. Leads u (shift_row {S = S} a k x (drop k xs)) v (shift_row a j held vs) w) (tail-value h.tail y less e) h.leads
 
-    pub opening-more : (L : Lawful u) {z : X} (y : Value) → Opening u a k n x xs j held v w → j < n → y ≡ value_at (at (u.heap w) a).values j → u.does (SetVal a j held) w tt z → Opening u a k n x xs (j + 1) y v z
+    pub opening-more : (L : Lawful u) {z : X} (y : Value) → Opening u a k n x xs j held v w → j < n → y ≡ value_at (at (u.heap w) a).values j → u.does (Edit a (change.Set j held)) w tt z → Opening u a k n x xs (j + 1) y v z
     opening-more L {z = z} y h less e d = record { leads = leads-do L tt (opening-next h y less e) d; tail = tail-set L j held h.tail (omega arith) d }
 
-    pub opening-end : Opening u a k n x xs j held v w → n ≤ j → Leads u (shift_row {S = S} a k x (drop k xs)) v (Do (Push a held) (λ _. Ret tt)) w
+    pub opening-end : Opening u a k n x xs j held v w → n ≤ j → Leads u (shift_row {S = S} a k x (drop k xs)) v (Do (Edit a (change.Push held)) (λ _. Ret tt)) w
     unfolding shift_row
     opening-end h less = subst (λ vs. Leads u (shift_row {S = S} a k x (drop k xs)) v (shift_row a j held vs) w) (tail-end h.tail less) h.leads
 
 -- a row whose last call's answer is the call's own
-pub last-cut : {S X : Type 0} {u : Sense S X} {row : Row S (Unit {0})} {a n : ℕ} {v w : X} (L : Lawful u) (x : X) (res : Result (Unit {0}) Stop)
-    → Leads u row v (Do (Truncate a n) (λ _. Ret tt)) w → Answers u (Truncate a n) (λ y. y) w x res → Meets u row v x res
-last-cut L x (Ok y) l d = leads-ret (leads-do L y l d)
-last-cut L x (Err e) l d = leads-refused l d
-
-pub last-push : {S X : Type 0} {u : Sense S X} {row : Row S (Unit {0})} {a : ℕ} {y : Value} {v w : X} (L : Lawful u) (x : X) (res : Result (Unit {0}) Stop)
-    → Leads u row v (Do (Push a y) (λ _. Ret tt)) w → Answers u (Push a y) (λ z. z) w x res → Meets u row v x res
-last-push L x (Ok z) l d = leads-ret (leads-do L z l d)
-last-push L x (Err e) l d = leads-refused l d
+pub last-edit : {S X : Type 0} {u : Sense S X} {row : Row S (Unit {0})} {a : ℕ} {c : Change} {v w : X} (L : Lawful u) (x : X) (res : Result (Unit {0}) Stop)
+    → Leads u row v (Do (Edit a c) (λ _. Ret tt)) w → Answers u (Edit a c) (λ y. y) w x res → Meets u row v x res
+last-edit L x (Ok y) l d = leads-ret (leads-do L y l d)
+last-edit L x (Err e) l d = leads-refused l d

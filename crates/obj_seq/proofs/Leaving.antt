@@ -9,7 +9,8 @@ use Rattle.py_data.specs.declared.record.Fault.{Fault}
 use Rattle.py_data.specs.declared.record.Got.{Got}
 use Rattle.py_data.specs.declared.record.Got.TheVariants.{Is, Raise}
 use Rattle.py_data.specs.Heap.{Heap, Rec, at, put_at, value_at, new_rec, with_value, with_push, cut_to}
-use Rattle.py_data.specs.Row.{Row, Ret, Read, SetVal, Push, Truncate, Make, bind}
+use Rattle.py_data.specs.declared.change.Change.TheVariants as change
+use Rattle.py_data.specs.Row.{Row, Ret, Read, Edit, Make, bind}
 use Rattle.py_data.specs.Sense.{Sense, Lawful, Edits, Run}
 use Rattle.py_data.proofs.Rows.{bind-run}
 use Rattle.py_data.proofs.Steps.{at-is, put-here}
@@ -56,11 +57,11 @@ module _ {S X : Type 0} {u : Sense S X} (L : Lawful u) (a : ℕ) where
   gap-leaves : (k : ℕ) (xs : List Value) (r : Rec) (v w : X) → u.heap v a ≡ Some r → drop (k + 1) r.values ≡ xs → k < length r.values → Run u (gap_row {S = S} a k xs) v tt w → Leaves a r (take k r.values ++ xs) (u.heap v) (u.heap w)
   unfolding gap_row Run
   gap-leaves k [] r v w e f h d =
-      let c = changed a (cut_to k) r (u.heap v) (u.heap d.1) e (L.effect (Truncate a k) v tt d.1 d.2) in
+      let c = changed a (cut_to k) r (u.heap v) (u.heap d.1) e (L.effect (Edit a (change.Cut k)) v tt d.1 d.2) in
       let l = leaves-now a r (cut_to k r) (take k r.values ++ []) (u.heap v) (u.heap d.1) c refl (sym (append-nil (take k r.values))) in
       subst (λ z. Leaves a r (take k r.values ++ []) (u.heap v) (u.heap z)) (sym d.3.1) l
   gap-leaves k (x ∷ xs) r v w e f h d =
-      let c = changed a (with_value k x) r (u.heap v) (u.heap d.1) e (L.effect (SetVal a k x) v tt d.1 d.2) in
+      let c = changed a (with_value k x) r (u.heap v) (u.heap d.1) e (L.effect (Edit a (change.Set k x)) v tt d.1 d.2) in
       let more : k + 1 < length (set r.values k x) = omega (arith, some-behind r.values xs (k + 1) x f, length-set r.values k x) in
       let l = gap-leaves (k + 1) xs (with_value k x r) d.1 w c.is (behind r.values xs k x x f) more d.3 in
       let l1 = leaves-after a r (with_value k x r) (take (k + 1) (set r.values k x) ++ xs) (u.heap v) (u.heap d.1) (u.heap w) c refl l in
@@ -69,12 +70,12 @@ module _ {S X : Type 0} {u : Sense S X} (L : Lawful u) (a : ℕ) where
   shift-leaves : (k : ℕ) (x : Value) (ys : List Value) (r : Rec) (v w : X) → u.heap v a ≡ Some r → drop k r.values ≡ ys → k ≤ length r.values → Run u (shift_row {S = S} a k x ys) v tt w → Leaves a r (take k r.values ++ x ∷ ys) (u.heap v) (u.heap w)
   unfolding shift_row Run
   shift-leaves k x [] r v w e f h d =
-      let c = changed a (with_push x) r (u.heap v) (u.heap d.1) e (L.effect (Push a x) v tt d.1 d.2) in
+      let c = changed a (with_push x) r (u.heap v) (u.heap d.1) e (L.effect (Edit a (change.Push x)) v tt d.1 d.2) in
       let all : take k r.values ≡ r.values = take_all k r.values (omega (arith, length-drop k r.values, ap length f)) in
       let l = leaves-now a r (with_push x r) (take k r.values ++ x ∷ []) (u.heap v) (u.heap d.1) c refl (ap (λ vs. vs ++ x ∷ []) (sym all)) in
       subst (λ z. Leaves a r (take k r.values ++ x ∷ []) (u.heap v) (u.heap z)) (sym d.3.1) l
   shift-leaves k x (y ∷ ys) r v w e f h d =
-      let c = changed a (with_value k x) r (u.heap v) (u.heap d.1) e (L.effect (SetVal a k x) v tt d.1 d.2) in
+      let c = changed a (with_value k x) r (u.heap v) (u.heap d.1) e (L.effect (Edit a (change.Set k x)) v tt d.1 d.2) in
       let less = some-behind r.values ys k y f in
       let rest : drop (k + 1) (set r.values k x) ≡ ys = drop-set-lt (k + 1) r.values k x (omega arith) ∙ sym (drop-drop 1 k r.values) ∙ ap (drop 1) f in
       let more : k + 1 ≤ length (set r.values k x) = omega (arith, less, length-set r.values k x) in
@@ -89,7 +90,7 @@ module _ {S X : Type 0} {u : Sense S X} (L : Lawful u) (a : ℕ) where
       let same : u.heap w ≡ u.heap v = ap u.heap d.1 in
       record { now = r; is = ap (λ h. h a) same ∙ e; kind = refl; values = all; others = λ b n. ap (λ h. h b) same }
   put-leaves k (x ∷ xs) r v w e f d =
-      let c = changed a (with_value k x) r (u.heap v) (u.heap d.1) e (L.effect (SetVal a k x) v tt d.1 d.2) in
+      let c = changed a (with_value k x) r (u.heap v) (u.heap d.1) e (L.effect (Edit a (change.Set k x)) v tt d.1 d.2) in
       let less : k < length r.values = omega arith in
       let more : k + 1 + length xs ≡ length (set r.values k x) = omega (arith, length-set r.values k x) in
       let l = put-leaves (k + 1) xs (with_value k x r) d.1 w c.is more d.3 in

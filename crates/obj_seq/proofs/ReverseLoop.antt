@@ -5,7 +5,8 @@ use Rattle.std.proofs.lemmas.List.{get_or-reverse, length-reverse, take_all}
 use Rattle.py_data.specs.declared.value.Value.{Value}
 use Rattle.py_data.specs.declared.value.Value.TheVariants.{Unset}
 use Rattle.py_data.specs.Heap.{at}
-use Rattle.py_data.specs.Row.{Ret, Do, Read, SetVal}
+use Rattle.py_data.specs.declared.change.Change.TheVariants as change
+use Rattle.py_data.specs.Row.{Ret, Do, Read, Edit}
 use Rattle.py_data.specs.Sense.{Sense, Lawful, Safe, Meets, IsLive}
 use Rattle.py_data.specs.Rest.{Leads}
 use Rattle.py_data.proofs.Steps.{leads-do, leads-ret}
@@ -20,7 +21,7 @@ pub record Turning {S X : Type 0} (u : Sense S X) (a : ℕ) (values : List Value
 
 module _ {S X : Type 0} {u : Sense S X} (L : Lawful u) {a : ℕ} {values : List Value} {v w : X} where
   pub turning-next : (n j : ℕ) (y : Value) → n ≡ length values → Turning u a values j v w → j < n → ((d : Value) → y ≡ get_or values (n - 1 - j) d)
-      → Leads u (put_row {S = S} a 0 (reverse values)) v (Do (SetVal a j y) (λ _. put_row a (j + 1) (drop (j + 1) (reverse values)))) w
+      → Leads u (put_row {S = S} a 0 (reverse values)) v (Do (Edit a (change.Set j y)) (λ _. put_row a (j + 1) (drop (j + 1) (reverse values)))) w
   unfolding put_row
   turning-next n j y count h less e =
       let inside : j < length values = omega arith in
@@ -28,7 +29,7 @@ module _ {S X : Type 0} {u : Sense S X} (L : Lawful u) {a : ℕ} {values : List 
       let same : get_or (reverse values) j Unset ≡ y = get_or-reverse values j Unset inside ∙ ap (λ n. get_or values (n - 1 - j) Unset) (sym count) ∙ sym (e Unset) in
       subst (λ vs. Leads u (put_row {S = S} a 0 (reverse values)) v (put_row a j vs) w) (drop-next (reverse values) j there ∙ ap (λ x. x ∷ drop (j + 1) (reverse values)) same) h.leads
 
-  pub turning-more : (n j : ℕ) (y : Value) (x : X) → n ≡ length values → Turning u a values j v w → j < n → ((d : Value) → y ≡ get_or values (n - 1 - j) d) → u.does (SetVal a j y) w tt x → Turning u a values (j + 1) v x
+  pub turning-more : (n j : ℕ) (y : Value) (x : X) → n ≡ length values → Turning u a values j v w → j < n → ((d : Value) → y ≡ get_or values (n - 1 - j) d) → u.does (Edit a (change.Set j y)) w tt x → Turning u a values (j + 1) v x
   turning-more n j y x count h less e d = record { leads = leads-do L tt (turning-next n j y count h less e) d }
 
 pub turning-last : {S X : Type 0} {u : Sense S X} {a : ℕ} {values : List Value} {v w : X} (j : ℕ) → Turning u a values j v w → length values ≤ j → Meets u (put_row {S = S} a 0 (reverse values)) v w (Ok tt)

@@ -1,5 +1,5 @@
 -- Where iterators may be made, and may go on.
-use Rattle.std.proofs.Common.{◌≡◌, ◌≢◌, ℕ, ◌<◌, Bool, true, false, cond, eqb, List, [], ◌∷◌, length, slice_get, Option, Some, None, refl, sym, ap, subst, ◌∙◌, arith, pos}
+use Rattle.std.proofs.Common.{◌≡◌, ◌≢◌, ℕ, ◌+◌, ◌<◌, Bool, true, false, cond, eqb, List, [], ◌∷◌, length, slice_get, Option, Some, None, refl, sym, ap, subst, ◌∙◌, arith, pos}
 use Rattle.std.proofs.lemmas.Bool.{cond-false, ne_eqb}
 use Rattle.py_data.specs.declared.value.Value.{Value}
 use Rattle.py_data.specs.declared.value.Value.TheVariants.{Unset, None as NoneValue, Bool as BoolValue, Int, Ref, Builtin}
@@ -9,9 +9,11 @@ use Rattle.py_data.specs.declared.record.Got.TheVariants.{Is, Raise}
 use Rattle.py_data.specs.Heap.{Heap, Rec, is_tracked, new_rec}
 use Rattle.py_data.specs.Shape.{KindIn, is_iterable}
 use Rattle.py_data.specs.Row.{Ret, Make}
-use Rattle.py_data.specs.Sense.{Safe, Asks, IsValuePlace}
+use Rattle.py_data.specs.declared.change.Change.TheVariants as change
+use Rattle.py_data.specs.Changes.{IsValuePlace}
+use Rattle.py_data.specs.Sense.{Safe, Asks}
 use Rattle.py_data.specs.Fault.{size_fault}
-use Rattle.py_data.proofs.Steps.{there-is}
+use Rattle.py_data.proofs.Steps.{asks-edit}
 use Rattle.obj_seq.specs.declared.advance.Parts.{Parts}
 use Rattle.obj_seq.specs.Iter.{iter_row, count_of, is_iter, iter_values, iter_of, make_iter_row, go_or_end, byte_or_end, pick, has_changed, is_str, next_over, next_with, parts_of, CanNextWith, IfRange}
 use Rattle.obj_seq.specs.Safety.{IsShown, IsThere, IsIter, SafeIterLaw}
@@ -59,7 +61,7 @@ module _ (S : Type 0) (p : Bool) where
   go-safe : (h : Heap) (it at : ℕ) (q : Rec) (o : Option Value) → h it ≡ Some q → q.kind ≡ Iter → 1 < length q.values → Safe {S = S} p (go_or_end it at o) h
   unfolding go_or_end Safe Asks
   go-safe h it at q (Some x) e k l =
-      (there-is h it q p (λ r. (is_tracked r.kind ≡ true) × (1 < length r.values) × IsValuePlace r.kind 1) e (ap is_tracked k, l, subst (λ k. IsValuePlace k 1) (sym k) tt), λ u h1 d. tt)
+      (asks-edit S p h it q (change.Set 1 (Int (pos (at + 1)))) e (ap is_tracked k, l) (subst (λ k. IsValuePlace k 1) (sym k) tt), λ u h1 d. tt)
   go-safe h it at q None e k l = tt
 
   byte-safe : (h : Heap) (it at : ℕ) (q : Rec) (o : Option ℕ) → h it ≡ Some q → q.kind ≡ Iter → 1 < length q.values → Safe {S = S} p (byte_or_end it at o) h

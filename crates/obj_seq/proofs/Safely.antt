@@ -10,10 +10,12 @@ use Rattle.py_data.specs.declared.record.Got.TheVariants.{Is, Raise}
 use Rattle.py_data.specs.declared.record.TheConstants.{LENGTH_LIMIT}
 use Rattle.py_data.specs.Heap.{Heap, Rec, is_tracked, value_at, with_value, new_rec}
 use Rattle.py_data.specs.Shape.{HoldsNoUnset}
-use Rattle.py_data.specs.Row.{Row, Ret, Do, Read, SetVal, Make, bind}
-use Rattle.py_data.specs.Sense.{Safe, Asks, IfThere, IsValuePlace}
+use Rattle.py_data.specs.declared.change.Change.TheVariants as change
+use Rattle.py_data.specs.Row.{Row, Ret, Do, Read, Edit, Make, bind}
+use Rattle.py_data.specs.Changes.{IsValuePlace}
+use Rattle.py_data.specs.Sense.{Safe, Asks, IfThere}
 use Rattle.py_data.specs.Fault.{index_fault, empty_fault, memory_fault}
-use Rattle.py_data.proofs.Steps.{there-is, there-of}
+use Rattle.py_data.proofs.Steps.{there-of, asks-edit}
 use Rattle.obj_seq.specs.Seq.{place, if_place, bound, part, put_row, gap_row, shift_row, item_at, set_item_at, del_item_at, pop_at, insert_at, slice_at}
 use Rattle.obj_seq.specs.Safety.{IsList, IsSequence, IsShown, SafeLaw}
 use Rattle.obj_seq.proofs.Leaving.{changed, place-within, bound-within}
@@ -47,31 +49,30 @@ module _ (S : Type 0) (p : Bool) where
 
   module _ (a : ℕ) where
     -- a value may be set in a place of a list
-    asks-set : (h : Heap) (r : Rec) (k : ℕ) → h a ≡ Some r → r.kind ≡ ListKind → k < length r.values
-        → IfThere p (h a) (λ r. (is_tracked r.kind ≡ true) × (k < length r.values) × IsValuePlace r.kind k)
-    asks-set h r k e l w = there-is h a r p (λ r. (is_tracked r.kind ≡ true) × (k < length r.values) × IsValuePlace r.kind k) e (ap is_tracked l, w, subst (λ q. IsValuePlace q k) (sym l) tt)
+    asks-set : (h : Heap) (r : Rec) (k : ℕ) (x : Value) → h a ≡ Some r → r.kind ≡ ListKind → k < length r.values → Asks {S = S} p (Edit a (change.Set k x)) h
+    asks-set h r k x e l w = asks-edit S p h a r (change.Set k x) e (ap is_tracked l, w) (subst (λ q. IsValuePlace q k) (sym l) tt)
 
     safe-put : (k : ℕ) (xs : List Value) (r : Rec) (h : Heap) → h a ≡ Some r → r.kind ≡ ListKind → k + length xs ≤ length r.values → Safe {S = S} p (put_row a k xs) h
     unfolding put_row Safe Asks
     safe-put k [] r h e l w = tt
     safe-put k (x ∷ xs) r h e l w =
-        (asks-set h r k e l (omega arith), λ u h1 d. let c = changed a (with_value k x) r h h1 e d in safe-put (k + 1) xs (with_value k x r) h1 c.is l (omega (arith, length-set r.values k x)))
+        (asks-set h r k x e l (omega arith), λ u h1 d. let c = changed a (with_value k x) r h h1 e d in safe-put (k + 1) xs (with_value k x r) h1 c.is l (omega (arith, length-set r.values k x)))
 
     safe-gap : (k : ℕ) (xs : List Value) (r : Rec) (h : Heap) → h a ≡ Some r → r.kind ≡ ListKind → k + length xs < length r.values → Safe {S = S} p (gap_row a k xs) h
     unfolding gap_row Safe Asks
-    safe-gap k [] r h e l w = (there-is h a r p (λ r. r.kind ≡ ListKind) e l, λ u h1 d. tt)
+    safe-gap k [] r h e l w = (asks-edit S p h a r (change.Cut k) e (l, tt) tt, λ u h1 d. tt)
     safe-gap k (x ∷ xs) r h e l w =
-        (asks-set h r k e l (omega arith), λ u h1 d. let c = changed a (with_value k x) r h h1 e d in safe-gap (k + 1) xs (with_value k x r) h1 c.is l (omega (arith, length-set r.values k x)))
+        (asks-set h r k x e l (omega arith), λ u h1 d. let c = changed a (with_value k x) r h h1 e d in safe-gap (k + 1) xs (with_value k x r) h1 c.is l (omega (arith, length-set r.values k x)))
 
     safe-shift : (k : ℕ) (x : Value) (ys : List Value) (r : Rec) (h : Heap) → h a ≡ Some r → r.kind ≡ ListKind → length r.values < LENGTH_LIMIT → k + length ys ≤ length r.values → Safe {S = S} p (shift_row a k x ys) h
     unfolding shift_row Safe Asks
-    safe-shift k x [] r h e l m w = (there-is h a r p (λ r. (r.kind ≡ ListKind) × (length r.values < LENGTH_LIMIT)) e (l, m), λ u h1 d. tt)
+    safe-shift k x [] r h e l m w = (asks-edit S p h a r (change.Push x) e (l, m) tt, λ u h1 d. tt)
     safe-shift k x (y ∷ ys) r h e l m w =
-        (asks-set h r k e l (omega arith), λ u h1 d. let c = changed a (with_value k x) r h h1 e d in safe-shift (k + 1) y ys (with_value k x r) h1 c.is l (omega (arith, m, length-set r.values k x)) (omega (arith, length-set r.values k x)))
+        (asks-set h r k x e l (omega arith), λ u h1 d. let c = changed a (with_value k x) r h h1 e d in safe-shift (k + 1) y ys (with_value k x r) h1 c.is l (omega (arith, m, length-set r.values k x)) (omega (arith, length-set r.values k x)))
 
-    safe-item-set : (k : ℕ) (x : Value) (r : Rec) (h : Heap) → h a ≡ Some r → r.kind ≡ ListKind → k < length r.values → Safe {S = S} {A = Got (Unit {0})} p (Do (SetVal a k x) (λ _. Ret (Is tt))) h
+    safe-item-set : (k : ℕ) (x : Value) (r : Rec) (h : Heap) → h a ≡ Some r → r.kind ≡ ListKind → k < length r.values → Safe {S = S} {A = Got (Unit {0})} p (Do (Edit a (change.Set k x)) (λ _. Ret (Is tt))) h
     unfolding Safe Asks
-    safe-item-set k x r h e l w = (asks-set h r k e l w, λ u h1 d. tt)
+    safe-item-set k x r h e l w = (asks-set h r k x e l w, λ u h1 d. tt)
 
 drop-list : (n : ℕ) (vs : List Value) → HoldsNoUnset ListKind vs → HoldsNoUnset ListKind (drop n vs)
 drop-list zero vs h = h

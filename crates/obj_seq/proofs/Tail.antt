@@ -1,12 +1,13 @@
 -- A loop that changes a list from the front on: what stands behind is as it was at first.
-use Rattle.std.proofs.Common.{◌≡◌, ℕ, ◌+◌, ◌<◌, ◌≤◌, List, [], ◌∷◌, length, drop, refl, sym, ap, ◌∙◌, arith, add-one}
+use Rattle.std.proofs.Common.{◌≡◌, ℕ, ◌+◌, ◌<◌, ◌≤◌, List, [], ◌∷◌, length, drop, sym, ap, ◌∙◌, arith, add-one}
 use Rattle.std.proofs.Math.Seq.{drop-cons}
 use Rattle.std.proofs.Math.ListN.{drop_of_length-le}
 use Rattle.std.proofs.lemmas.List.{length-set, drop-set-lt, drop-drop}
 use Rattle.py_data.specs.declared.value.Value.{Value}
 use Rattle.py_data.specs.declared.value.Value.TheVariants.{Unset}
 use Rattle.py_data.specs.Heap.{Rec, at, value_at, with_value}
-use Rattle.py_data.specs.Row.{Read, SetVal}
+use Rattle.py_data.specs.declared.change.Change.TheVariants as change
+use Rattle.py_data.specs.Row.{Read, Edit}
 use Rattle.py_data.specs.Sense.{Sense, Lawful}
 use Rattle.py_data.specs.Rest.{Stands}
 use Rattle.py_data.proofs.Steps.{stands-again, stands-edit, at-is}
@@ -42,10 +43,10 @@ module _ {S X : Type 0} {u : Sense S X} {a n : ℕ} {xs : List Value} {m : ℕ} 
   tail-end h less = sym h.items ∙ drop_of_length-le h.now.values (rw h.count less)
 
   -- after a change before the next place
-  pub tail-set : (L : Lawful u) {x : X} (j : ℕ) (y : Value) → Tail u a n xs m w → j ≤ m → u.does (SetVal a j y) w tt x → Tail u a n xs (m + 1) x
+  pub tail-set : (L : Lawful u) {x : X} (j : ℕ) (y : Value) → Tail u a n xs m w → j ≤ m → u.does (Edit a (change.Set j y)) w tt x → Tail u a n xs (m + 1) x
   tail-set L {x = x} j y h less d = record {
     now = with_value j y (at (u.heap w) a);
-    stands = stands-edit L (SetVal a j y) (with_value j y) tt d refl (L.effect (SetVal a j y) w tt x d);
+    stands = stands-edit L (change.Set j y) d;
     items = drop-set-lt (m + 1) (at (u.heap w) a).values j y (omega arith) ∙ (ap (λ r. drop (m + 1) r.values) (here h) ∙ same-tail h.now.values xs m h.items);
     count = length-set (at (u.heap w) a).values j y ∙ ap (λ r. length r.values) (here h) ∙ h.count;
   }

@@ -8,7 +8,8 @@ use Rattle.py_data.specs.declared.record.Got.{Got}
 use Rattle.py_data.specs.declared.record.Got.TheVariants.{Is, Raise}
 use Rattle.obj_seq.specs.declared.advance.Parts.{Parts}
 use Rattle.py_data.specs.Heap.{Rec, Heap, new_rec}
-use Rattle.py_data.specs.Row.{Row, Ret, Do, Read, SetVal, Make}
+use Rattle.py_data.specs.declared.change.Change.TheVariants as change
+use Rattle.py_data.specs.Row.{Row, Ret, Do, Read, Edit, Make}
 use Rattle.py_data.specs.Sense.{IfThere}
 use Rattle.py_data.specs.Fault.{iterable_fault, size_fault}
 use Rattle.obj_seq.specs.Range.{range_length, range_item, IsRangeForm}
@@ -82,7 +83,7 @@ has_changed _ vs count = false
 
 -- the answer x, and the iterator goes on to the next place
 abbrev pub go_on : {S : Type 0} → ℕ → ℕ → Value → Row S (Got (Option Value))
-go_on it at x = Do (SetVal it 1 (Int (pos (at + 1)))) (λ _. Ret (Is (Some x)))
+go_on it at x = Do (Edit it (change.Set 1 (Int (pos (at + 1))))) (λ _. Ret (Is (Some x)))
 
 unfoldable pub go_or_end : {S : Type 0} → ℕ → ℕ → Option Value → Row S (Got (Option Value))
 go_or_end it at (Some x) = go_on it at x

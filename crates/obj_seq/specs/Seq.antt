@@ -6,7 +6,8 @@ use Rattle.py_data.specs.declared.record.Got.{Got}
 use Rattle.py_data.specs.declared.record.Got.TheVariants.{Is, Raise}
 use Rattle.py_data.specs.declared.record.TheConstants.{LENGTH_LIMIT}
 use Rattle.py_data.specs.Heap.{Rec, value_at, new_rec}
-use Rattle.py_data.specs.Row.{Row, Ret, Do, Read, SetVal, Push, Truncate, Make, bind}
+use Rattle.py_data.specs.declared.change.Change.TheVariants as change
+use Rattle.py_data.specs.Row.{Row, Ret, Do, Read, Edit, Make, bind}
 use Rattle.py_data.specs.Fault.{index_fault, empty_fault, memory_fault}
 
 -- the place that an index names among n items: a negative one counts from the end
@@ -36,18 +37,18 @@ part xs i j = take (j - i) (drop i xs)
 -- values in places, from place k on
 unfoldable pub put_row : {S : Type 0} → ℕ → ℕ → List Value → Row S (Unit {0})
 put_row a k [] = Ret tt
-put_row a k (x ∷ xs) = Do (SetVal a k x) (λ _. put_row a (k + 1) xs)
+put_row a k (x ∷ xs) = Do (Edit a (change.Set k x)) (λ _. put_row a (k + 1) xs)
 
 -- the values xs, which stand behind place k, move one place down, and the list loses its last place
 unfoldable pub gap_row : {S : Type 0} → ℕ → ℕ → List Value → Row S (Unit {0})
-gap_row a k [] = Do (Truncate a k) (λ _. Ret tt)
-gap_row a k (x ∷ xs) = Do (SetVal a k x) (λ _. gap_row a (k + 1) xs)
+gap_row a k [] = Do (Edit a (change.Cut k)) (λ _. Ret tt)
+gap_row a k (x ∷ xs) = Do (Edit a (change.Set k x)) (λ _. gap_row a (k + 1) xs)
 
 -- x comes into place k, what stood there into the next place, and so on; the last of the values ys from place k on goes to
 -- the end
 unfoldable pub shift_row : {S : Type 0} → ℕ → ℕ → Value → List Value → Row S (Unit {0})
-shift_row a k x [] = Do (Push a x) (λ _. Ret tt)
-shift_row a k x (y ∷ ys) = Do (SetVal a k x) (λ _. shift_row a (k + 1) y ys)
+shift_row a k x [] = Do (Edit a (change.Push x)) (λ _. Ret tt)
+shift_row a k x (y ∷ ys) = Do (Edit a (change.Set k x)) (λ _. shift_row a (k + 1) y ys)
 
 -- ---- item
 
@@ -60,7 +61,7 @@ item_row a i = Do (Read a) (item_at i)
 -- ---- set_item
 
 abbrev pub set_item_at : {S : Type 0} → ℕ → ℤ → Value → Rec → Row S (Got (Unit {0}))
-set_item_at a i x r = if_place (place i (length r.values)) (λ k. Do (SetVal a k x) (λ _. Ret (Is tt))) (Ret (Raise index_fault))
+set_item_at a i x r = if_place (place i (length r.values)) (λ k. Do (Edit a (change.Set k x)) (λ _. Ret (Is tt))) (Ret (Raise index_fault))
 
 abbrev pub set_item_row : {S : Type 0} → ℕ → ℤ → Value → Row S (Got (Unit {0}))
 set_item_row a i x = Do (Read a) (set_item_at a i x)

@@ -5,8 +5,10 @@ use Rattle.std.specs.Result.{IsErrAnd}
 use Rattle.py_data.specs.declared.stop.Stop.{Stop}
 use Rattle.py_data.specs.declared.stop.Stop.TheVariants.{OutOfMemory}
 use Rattle.py_data.specs.Heap.{Heap, Rec, at, blank, put_at}
-use Rattle.py_data.specs.Row.{Call, Reply, Row, Ret, Do, Read, bind}
-use Rattle.py_data.specs.Sense.{Sense, Lawful, Edits, Asks, Safe, Run, Meets, IsLive, touches}
+use Rattle.py_data.specs.declared.change.Change.{Change}
+use Rattle.py_data.specs.Changes.{after, Allows, Suits}
+use Rattle.py_data.specs.Row.{Call, Reply, Row, Ret, Do, Read, Edit, bind}
+use Rattle.py_data.specs.Sense.{Sense, Lawful, Asks, Safe, Run, Meets, IsLive}
 use Rattle.py_data.specs.Rest.{Leads, Stands}
 use Rattle.py_data.proofs.Rows.{run-bind, stop-first, stop-then, meets-ret, meets-own, meets-refused, meets-do, safe-asks, safe-next}
 
@@ -26,6 +28,11 @@ there-is h a r p P e x = subst (λ o. MatchOption o (p ≡ true) P) (sym e) x
 
 pub there-of : (h : Heap) (a : ℕ) (r : Rec) (p : Bool) (P : Rec → Type 0) → h a ≡ Some r → MatchOption (h a) (p ≡ true) P → P r
 there-of h a r p P e x = subst (λ o. MatchOption o (p ≡ true) P) e x
+
+-- a change of a record that is there may be made
+pub asks-edit : (S : Type 0) (p : Bool) (h : Heap) (a : ℕ) (r : Rec) (c : Change) → h a ≡ Some r → Allows c r → Suits p h c r → Asks {S = S} p (Edit a c) h
+unfolding Asks
+asks-edit S p h a r c e allows suits = there-is h a r p (λ r. Allows c r × Suits p h c r) e (allows, suits)
 
 module _ {S X A B : Type 0} (u : Sense S X) where
   pub meets-bind : (p : Row S A) (f : A → Row S B) (v m w : X) (a : A) (res : Result B Stop) → Meets u p v m (Ok a) → Meets u (f a) m w res → Meets u (bind p f) v w res
@@ -108,9 +115,10 @@ module _ {S X : Type 0} {u : Sense S X} where
       record { is = ap (λ h. h a) f.1 ∙ f.0; seen = L.seen (Read a) v r w a d refl }
 
   -- after a change of the record
-  pub stands-edit : (L : Lawful u) {a : ℕ} {v w : X} (c : Call S) (f : Rec → Rec) (r : Reply c) → u.does c v r w → touches c ≡ Some a → Edits a f (u.heap v) (u.heap w) → Stands u a (f (at (u.heap v) a)) w
-  stands-edit L {a = a} {v = v} {w = w} c f r d t e =
-      record { is = ap (λ h. h a) e.1 ∙ put-here (u.heap v) a (f (at (u.heap v) a)); seen = L.seen c v r w a d t }
+  pub stands-edit : (L : Lawful u) {a : ℕ} {v w : X} (c : Change) → u.does (Edit a c) v tt w → Stands u a (after c (at (u.heap v) a)) w
+  stands-edit L {a = a} {v = v} {w = w} c d =
+      let e = L.effect (Edit a c) v tt w d in
+      record { is = ap (λ h. h a) e.1 ∙ put-here (u.heap v) a (after c (at (u.heap v) a)); seen = L.seen (Edit a c) v tt w a d refl }
 
 -- what a safe row asks of a part, after a look at a record
 pub part-after : {S X A B : Type 0} {u : Sense S X} (L : Lawful u) (a : ℕ) (k : Rec → Row S B) (v m : X) (r : Rec) (p : Row S A) (f : A → Row S B)

@@ -163,7 +163,7 @@ touches _ = None
 -- a call for which there may be no room: it makes a record, or changes one that has no room for what the change adds
 abbrev pub WantsRoom : {S : Type 0} → Call S → Heap → Type 0
 WantsRoom (Make r) h = Unit {0}
-WantsRoom (Edit a c) h = (r : Rec) × (h a ≡ Some r) × Outgrows c r
+WantsRoom (Edit a c) h = IfThere false (h a) (Outgrows c)
 WantsRoom _ h = ⊥
 
 -- this holds if the Stop is that the heap has no room

@@ -6,9 +6,10 @@ use Rattle.py_data.specs.declared.change.Change.TheVariants.{Set, Push, Cut, Pai
 use Rattle.py_data.specs.declared.value.Value.{Value}
 use Rattle.py_data.specs.declared.value.Kind.{Kind}
 use Rattle.py_data.specs.declared.value.Kind.TheVariants.{Str, Tuple, List as ListKind, Dict, Cell, Function, Class, Instance, Method, Iter, Range, Lock, Thread}
-use Rattle.py_data.specs.Changes.{after, Allows, IsShort}
+use Rattle.py_data.specs.Changes.{after, Allows, Suits, IsShort}
 use Rattle.py_data.specs.Sense.{IfThere}
-use Rattle.py_data.specs.Heap.{Rec, is_tracked}
+use Rattle.py_data.specs.Heap.{Rec, Heap, is_tracked}
+use Rattle.py_data.proofs.Grow.{for_tracked}
 use Rattle.seg_store.specs.declared.object.Object.{Object}
 use Rattle.seg_store.specs.Meaning.{over}
 use Rattle.seg_store.specs.Objects.{own, now_of}
@@ -27,14 +28,14 @@ good_seen t s n w a k o is r e = seen_by (now_of (own k o.held)) o.committed (λ
     seen_by (Some q) y f g e = f r e
 
 -- a record that was changed, as a segment may change it
-pub good_change : (x : Option Rec) (q : Rec) (c : Change) (r : Rec) → IfThere false x (λ r. (is_tracked r.kind ≡ true) × Allows c r) → x ≡ Some q → IsGood q → r ≡ after c q → (IsShort q → IsShort r) → IsGood r
-good_change x q c r h e g n s =
-    let k : (is_tracked q.kind ≡ true) × Allows c q = subst (λ o. IfThere false o (λ r. (is_tracked r.kind ≡ true) × Allows c r)) e h in
+pub good_change : (x : Option Rec) (h : Heap) (q : Rec) (c : Change) (r : Rec) → IfThere false x (λ r. Allows c r × Suits false h c r) → x ≡ Some q → IsGood q → r ≡ after c q → (IsShort q → IsShort r) → IsGood r
+good_change x h q c r t e g n s =
+    let k : Allows c q × Suits false h c q = subst (λ o. IfThere false o (λ r. Allows c r × Suits false h c r)) e t in
     let l = s (g.values, g.bytes) in
     record {
       values = l.0;
       bytes = l.1;
-      one = subst (λ (r : Rec). one_list r.kind r.values r.bytes ≡ true) (sym n) (one_change c q k.0 g.one);
+      one = subst (λ (r : Rec). one_list r.kind r.values r.bytes ≡ true) (sym n) (one_change c q (for_tracked c q.kind k.0.0) g.one);
     }
   where
     one_tracked : (k : Kind) (vs ws : List Value) (bs : List ℕ) → is_tracked k ≡ true → one_list k vs bs ≡ true → one_list k ws bs ≡ true

@@ -1,17 +1,15 @@
 -- What always holds of a store of maps is what a store tells.
-use Rattle.std.proofs.Common.{◌≡◌, ℕ, Bool, true, false, ◌||◌, ◌&&◌, not, List, [], ◌∷◌, ◌++◌, take, drop, Option, Some, None, is_some, refl, sym, ◌∙◌, ap, arith, take-append-drop}
+use Rattle.std.proofs.Common.{◌≡◌, ℕ, Bool, true, false, ◌||◌, ◌&&◌, not, cond, List, [], ◌∷◌, ◌++◌, take, drop, Option, Some, None, is_some, refl, sym, ◌∙◌, ap, arith, take-append-drop}
 use Rattle.std.proofs.lemmas.List.{map-append}
 use Rattle.py_data.specs.declared.value.Value.{Value}
-use Rattle.py_data.specs.declared.value.Kind.{Kind}
-use Rattle.py_data.specs.declared.value.Kind.TheVariants.{Str, Tuple, List as ListKind, Dict, Cell, Function, Class, Instance, Method, Iter, Range, Lock, Thread}
 use Rattle.py_data.specs.declared.value.Addr.{Addr}
 use Rattle.py_data.specs.Collection.{places}
-use Rattle.py_data.specs.Heap.{Rec}
+use Rattle.py_data.specs.Heap.{Rec, has_bytes}
 use Rattle.py_data.specs.Sight.{mem}
 use Rattle.seg_store.specs.declared.hand.Hand.{Hand}
-use Rattle.seg_store.specs.Store.{OneList, IsStored, IsStore}
+use Rattle.seg_store.specs.Store.{NoneOf, IsStored, IsStore}
 use Rattle.seg_store.specs.Objects.{before_of}
-use Rattle.seg_store.specs.Tables.{Objects, Hands, committed_in, held_in, made_in, kept_in, meaning_in, is_changed, is_empty, one_list, IsGood, IsSound}
+use Rattle.seg_store.specs.Tables.{Objects, Hands, committed_in, held_in, made_in, kept_in, meaning_in, is_changed, is_empty, IsGood, IsSound}
 use Rattle.seg_store.proofs.Owning.{held_one, some_now}
 use Rattle.seg_store.proofs.Calling.{holds_held}
 
@@ -19,23 +17,12 @@ empty_list : {T : Type 0} (xs : List T) → is_empty xs ≡ true → xs ≡ []
 empty_list [] e = refl
 empty_list (x ∷ xs) e = cc
 
-list_one : (k : Kind) (vs : List Value) (bs : List ℕ) → one_list k vs bs ≡ true → OneList k vs bs
-list_one Str vs bs e = empty_list vs e
-list_one Tuple vs bs e = empty_list bs e
-list_one ListKind vs bs e = empty_list bs e
-list_one Dict vs bs e = empty_list bs e
-list_one Cell vs bs e = empty_list bs e
-list_one Function vs bs e = empty_list bs e
-list_one Class vs bs e = empty_list bs e
-list_one Instance vs bs e = empty_list bs e
-list_one Method vs bs e = empty_list bs e
-list_one Iter vs bs e = empty_list bs e
-list_one Range vs bs e = empty_list bs e
-list_one Lock vs bs e = empty_list bs e
-list_one Thread vs bs e = empty_list bs e
+list_one : (b : Bool) (vs : List Value) (bs : List ℕ) → cond b (is_empty vs) (is_empty bs) ≡ true → NoneOf b vs bs
+list_one true vs bs e = empty_list vs e
+list_one false vs bs e = empty_list bs e
 
 stored : (r : Rec) → IsGood r → IsStored r
-stored r g = record { values = g.values; bytes = g.bytes; one = list_one r.kind r.values r.bytes g.one }
+stored r g = record { values = g.values; bytes = g.bytes; one = list_one (has_bytes r.kind) r.values r.bytes g.one }
 
 kept_or : (b h c : Bool) → (c ≡ true → b ≡ h) → b ≡ ((h && c) || (b && not c))
 kept_or b true true f = f refl

@@ -1,13 +1,14 @@
 -- What a store needs for its calls, why it refuses them, and what always holds of it. States `docs/HEAP.md`, "The store of
 -- segments".
-use Rattle.std.specs.Prelude.{◌≡◌, ◌≢◌, ℕ, ◌+◌, ◌*◌, ◌<◌, ◌≤◌, true, false, ◌||◌, List, [], ◌++◌, length, Option, Some, None, is_some, IfSome}
+use Rattle.std.specs.Prelude.{◌≡◌, ◌≢◌, ℕ, ◌+◌, ◌<◌, ◌≤◌, Bool, true, false, ◌||◌, List, [], ◌++◌, length, Option, Some, None, is_some, IfSome}
 use Rattle.py_data.specs.declared.record.TheConstants.{LENGTH_LIMIT}
 use Rattle.py_data.specs.declared.value.Kind.{Kind}
-use Rattle.py_data.specs.declared.value.Kind.TheVariants.{Str, List as ListKind, Dict}
 use Rattle.py_data.specs.declared.value.Value.{Value}
-use Rattle.py_data.specs.Heap.{Rec, Heap, Has, is_tracked}
-use Rattle.py_data.specs.Shape.{IsKey, ArePairs, find}
-use Rattle.py_data.specs.Sense.{IfThere, IsValuePlace}
+use Rattle.py_data.specs.declared.change.Change.{Change}
+use Rattle.py_data.specs.Changes.{Allows, Suits, Outgrows}
+use Rattle.py_data.specs.Heap.{Rec, Heap, Has, has_bytes}
+use Rattle.py_data.specs.Shape.{Fits}
+use Rattle.py_data.specs.Sense.{IfThere}
 use Rattle.py_data.specs.Sight.{mem}
 use Rattle.seg_store.specs.declared.store.StoreFault.{StoreFault}
 use Rattle.seg_store.specs.declared.store.StoreFault.TheVariants.{Full, OutOfMemory}
@@ -29,31 +30,15 @@ HasBytes h a from n = Where h a (λ r. from + n ≤ length r.bytes)
 
 -- it is a dictionary, and the value can be looked for among its keys
 abbrev pub CanFind : Heap → ℕ → Value → Type 0
-CanFind h d key = Where h d (λ r. (r.kind ≡ Dict) × IsKey h key × ArePairs h r.values)
+CanFind h d key = Where h d (λ r. Fits h r key)
 
--- another value may be put in this place of it
-abbrev pub CanSet : Heap → ℕ → ℕ → Type 0
-CanSet h a i = Where h a (λ r. (is_tracked r.kind ≡ true) × (i < length r.values) × IsValuePlace r.kind i)
+-- it allows a change that leaves a dictionary one
+abbrev pub CanChange : Heap → ℕ → Change → Type 0
+CanChange h a c = Where h a (λ r. Allows c r × Suits false h c r)
 
--- a value may be put at the end of it
-abbrev pub CanPush : Heap → ℕ → Type 0
-CanPush h a = Where h a (λ r. (r.kind ≡ ListKind) × (length r.values < LENGTH_LIMIT))
-
--- it may be cut
-abbrev pub CanCut : Heap → ℕ → Type 0
-CanCut h a = Where h a (λ r. r.kind ≡ ListKind)
-
--- a pair of this key may be put at the end of it
-abbrev pub CanPair : Heap → ℕ → Value → Type 0
-CanPair h d key = Where h d (λ r. ((r.kind ≡ Dict) × IsKey h key × ArePairs h r.values) × (find h r.values key ≡ None) × (length r.values + 1 < LENGTH_LIMIT))
-
--- its room is full
-abbrev pub IsFull : Heap → ℕ → Type 0
-IsFull h a = Where h a (λ r. length r.values ≡ r.room)
-
--- it has a pair of this number
-abbrev pub HasPair : Heap → ℕ → ℕ → Type 0
-HasPair h d k = Where h d (λ r. (r.kind ≡ Dict) × (2 * k + 1 < length r.values))
+-- it has no room for what a change adds
+abbrev pub IsFull : Heap → ℕ → Change → Type 0
+IsFull h a c = Where h a (Outgrows c)
 
 -- ---- locks and names
 
@@ -80,10 +65,14 @@ Refuses wants fills reserved limit (Full r n l) = wants × fills r n × (r ≡ r
 
 -- ---- what always holds
 
--- a Str has bytes alone, and a record of another kind values alone
+-- no values, or no bytes
+abbrev pub NoneOf : Bool → List Value → List ℕ → Type 0
+NoneOf true vs bs = vs ≡ []
+NoneOf false vs bs = bs ≡ []
+
+-- a record of a kind that has bytes has bytes alone, and one of another kind values alone
 abbrev pub OneList : Kind → List Value → List ℕ → Type 0
-OneList Str vs bs = vs ≡ []
-OneList _ vs bs = bs ≡ []
+OneList k vs bs = NoneOf (has_bytes k) vs bs
 
 -- a record of a store
 pub record IsStored (r : Rec) : Type 0 where

@@ -2,10 +2,9 @@
 use Rattle.std.specs.Prelude.{◌≡◌, ℕ, ◌<◌, ◌≤◌, Bool, true, false, cond, not, ◌&&◌, eqb, List, [], ◌∷◌, length, take, Option, Some, None, is_some, option_map}
 use Rattle.py_data.specs.declared.record.TheConstants.{LENGTH_LIMIT}
 use Rattle.py_data.specs.declared.value.Kind.{Kind}
-use Rattle.py_data.specs.declared.value.Kind.TheVariants.{Str}
 use Rattle.py_data.specs.declared.value.Value.{Value}
 use Rattle.py_data.specs.Collection.{places}
-use Rattle.py_data.specs.Heap.{Rec, Marks}
+use Rattle.py_data.specs.Heap.{Rec, Marks, has_bytes}
 use Rattle.py_data.specs.Sight.{mem}
 use Rattle.seg_store.specs.declared.object.Held.{Held}
 use Rattle.seg_store.specs.declared.object.Object.{Object}
@@ -79,10 +78,9 @@ abbrev pub is_empty : {T : Type 0} → List T → Bool
 is_empty [] = true
 is_empty (x ∷ xs) = false
 
--- a Str has bytes alone, and a record of another kind values alone
+-- a record of a kind that has bytes has bytes alone, and one of another kind values alone
 abbrev pub one_list : Kind → List Value → List ℕ → Bool
-one_list Str vs bs = is_empty vs
-one_list _ vs bs = is_empty bs
+one_list k vs bs = cond (has_bytes k) (is_empty vs) (is_empty bs)
 
 -- a record of the store: within the limit of length, with one list
 pub record IsGood (r : Rec) : Type 0 where

@@ -37,9 +37,9 @@ pub struct PlainStore {
 
 impl PlainStore {
     ghost use Rattle.std.specs.Prelude.{ℕ, Some, None, IfSome, IfOk, ◌∷◌, ◌++◌, OnOk, OnErr, option_copied, true, false};
-    ghost use Rattle.py_data.specs.Changes.{after, Allows};
-    ghost use Rattle.py_data.specs.Heap.{Has, is_tracked};
-    ghost use Rattle.py_data.specs.Sense.{IfThere};
+    ghost use Rattle.py_data.specs.Changes.{after};
+    ghost use Rattle.py_data.specs.Heap.{Has};
+    ghost use Rattle.seg_store.specs.Store.{CanChange};
     ghost use Rattle.seg_store.specs.Meaning.{sees, holds};
     ghost use Rattle.seg_store.specs.Calls.{after_mark, after_lock, after_change, after_make};
     ghost use Rattle.seg_store.specs.Tables.{IsGood, held_in, after_turn};
@@ -126,7 +126,7 @@ impl PlainStore {
     fn change(&mut self, k: u8, a: Addr, c: Change) -> Result<(), NoMemory>
         requires segment { k < (plain_meaning self.old).segments }
         requires held { holds ((plain_meaning self.old).part k) a.0 ≡ true }
-        requires there { IfThere false (sees (plain_meaning self.old) k a.0) (λ r. (is_tracked r.kind ≡ true) × Allows c r) }
+        requires there { CanChange (sees (plain_meaning self.old) k) a.0 c }
         ensures ok { OnOk result (plain_meaning self.new ≡ after_change k a.0 (after c) (plain_meaning self.old)) }
         ensures err { OnErr result (plain_meaning self.new ≡ plain_meaning self.old) }
     {

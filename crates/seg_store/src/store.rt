@@ -1,13 +1,15 @@
 //! What the transactional core asks of a store.
 ghost use Rattle.std.specs.Prelude.{◌≡◌, ℕ, ◌≤◌, Option, Some, [], length, take, drop, slice_get, IfOk, IfErr, IfSome, OnOk, OnErr, true, ◌<◌, ◌*◌, ◌+◌};
 ghost use Rattle.py_data.specs.declared.record.TheConstants.{LENGTH_LIMIT};
-ghost use Rattle.py_data.specs.Heap.{Has, at, value_at, length_of, with_value, with_push, cut_to, with_pair, without_pair};
+ghost use Rattle.py_data.specs.declared.change.Change.TheVariants.{Set, Push, Cut, Pair, Unpair};
+ghost use Rattle.py_data.specs.Changes.{after};
+ghost use Rattle.py_data.specs.Heap.{Has, at, value_at, length_of};
 ghost use Rattle.py_data.specs.Shape.{IsShaped, find};
 ghost use Rattle.py_data.specs.Made.{rec_of};
 ghost use Rattle.seg_store.specs.declared.store.StoreFault.TheVariants.{OutOfMemory};
 ghost use Rattle.seg_store.specs.Meaning.{Meaning, sees, holds};
 ghost use Rattle.seg_store.specs.Calls.{after_begin, after_mark, after_lock, after_change, after_make, after_open, after_undo, after_publish, after_drop};
-ghost use Rattle.seg_store.specs.Store.{HasPlace, HasBytes, CanFind, CanSet, CanPush, CanCut, CanPair, HasPair, IsFull, NoOther, IsHolder, IsFree, Refuses, IsStore};
+ghost use Rattle.seg_store.specs.Store.{HasPlace, HasBytes, CanFind, CanChange, IsFull, NoOther, IsHolder, IsFree, Refuses, IsStore};
 
 use py_data::{Addr, Kind, LENGTH_LIMIT, NoMemory, Peek, Record, Value};
 use std::alloc::AllocError;
@@ -136,8 +138,8 @@ pub trait SegStore: Peek {
     fn set_val(&mut self, k: u8, a: Addr, i: usize, v: Value) -> Result<(), StoreFault>
         requires segment { k < (meaning self.old).segments }
         requires held { holds ((meaning self.old).part k) a.0 ≡ true }
-        requires there { CanSet (sees (meaning self.old) k) a.0 i }
-        ensures ok { OnOk result (meaning self.new ≡ after_change k a.0 (with_value i v) (meaning self.old)) }
+        requires there { CanChange (sees (meaning self.old) k) a.0 (Set i v) }
+        ensures ok { OnOk result (meaning self.new ≡ after_change k a.0 (after (Set i v)) (meaning self.old)) }
         ensures err { OnErr result (meaning self.new ≡ meaning self.old) }
         ensures cause { IfErr result (λ e. e ≡ OutOfMemory) }
         ensures reserved { reserved self.new ≡ reserved self.old };
@@ -146,18 +148,18 @@ pub trait SegStore: Peek {
     fn push_val(&mut self, k: u8, a: Addr, v: Value) -> Result<(), StoreFault>
         requires segment { k < (meaning self.old).segments }
         requires held { holds ((meaning self.old).part k) a.0 ≡ true }
-        requires there { CanPush (sees (meaning self.old) k) a.0 }
-        ensures ok { OnOk result (meaning self.new ≡ after_change k a.0 (with_push v) (meaning self.old)) }
+        requires there { CanChange (sees (meaning self.old) k) a.0 (Push v) }
+        ensures ok { OnOk result (meaning self.new ≡ after_change k a.0 (after (Push v)) (meaning self.old)) }
         ensures err { OnErr result (meaning self.new ≡ meaning self.old) }
-        ensures cause { IfErr result (Refuses (IsFull (sees (meaning self.old) k) a.0) (fills self.old) (reserved self.new) (meaning self.old).limit) }
+        ensures cause { IfErr result (Refuses (IsFull (sees (meaning self.old) k) a.0 (Push v)) (fills self.old) (reserved self.new) (meaning self.old).limit) }
         ensures reserved { reserved self.old ≤ reserved self.new };
 
     /// Leaves the first `n` values of a List. It never meets a full heap.
     fn truncate(&mut self, k: u8, a: Addr, n: usize) -> Result<(), StoreFault>
         requires segment { k < (meaning self.old).segments }
         requires held { holds ((meaning self.old).part k) a.0 ≡ true }
-        requires there { CanCut (sees (meaning self.old) k) a.0 }
-        ensures ok { OnOk result (meaning self.new ≡ after_change k a.0 (cut_to n) (meaning self.old)) }
+        requires there { CanChange (sees (meaning self.old) k) a.0 (Cut n) }
+        ensures ok { OnOk result (meaning self.new ≡ after_change k a.0 (after (Cut n)) (meaning self.old)) }
         ensures err { OnErr result (meaning self.new ≡ meaning self.old) }
         ensures cause { IfErr result (λ e. e ≡ OutOfMemory) }
         ensures reserved { reserved self.new ≡ reserved self.old };
@@ -167,18 +169,18 @@ pub trait SegStore: Peek {
     fn push_pair(&mut self, k: u8, d: Addr, key: Value, v: Value) -> Result<(), StoreFault>
         requires segment { k < (meaning self.old).segments }
         requires held { holds ((meaning self.old).part k) d.0 ≡ true }
-        requires there { CanPair (sees (meaning self.old) k) d.0 key }
-        ensures ok { OnOk result (meaning self.new ≡ after_change k d.0 (with_pair key v) (meaning self.old)) }
+        requires there { CanChange (sees (meaning self.old) k) d.0 (Pair key v) }
+        ensures ok { OnOk result (meaning self.new ≡ after_change k d.0 (after (Pair key v)) (meaning self.old)) }
         ensures err { OnErr result (meaning self.new ≡ meaning self.old) }
-        ensures cause { IfErr result (Refuses (IsFull (sees (meaning self.old) k) d.0) (fills self.old) (reserved self.new) (meaning self.old).limit) }
+        ensures cause { IfErr result (Refuses (IsFull (sees (meaning self.old) k) d.0 (Pair key v)) (fills self.old) (reserved self.new) (meaning self.old).limit) }
         ensures reserved { reserved self.old ≤ reserved self.new };
 
     /// Drops the pair of that number; those behind close the gap. It never meets a full heap.
     fn drop_pair(&mut self, k: u8, d: Addr, place: usize) -> Result<(), StoreFault>
         requires segment { k < (meaning self.old).segments }
         requires held { holds ((meaning self.old).part k) d.0 ≡ true }
-        requires there { HasPair (sees (meaning self.old) k) d.0 place }
-        ensures ok { OnOk result (meaning self.new ≡ after_change k d.0 (without_pair place) (meaning self.old)) }
+        requires there { CanChange (sees (meaning self.old) k) d.0 (Unpair place) }
+        ensures ok { OnOk result (meaning self.new ≡ after_change k d.0 (after (Unpair place)) (meaning self.old)) }
         ensures err { OnErr result (meaning self.new ≡ meaning self.old) }
         ensures cause { IfErr result (λ e. e ≡ OutOfMemory) }
         ensures reserved { reserved self.new ≡ reserved self.old };

@@ -1,6 +1,6 @@
 use Rattle.std.proofs.Common.{arith, ◌≡◌, ◌-◌, sym}
 use Rattle.py_data.proofs.Steps.{leads-asks, leads-refused, stop-as}
-use Rattle.obj_seq.proofs.GapLoop.{closing-looked, closing-next, closing-more, closing-end, last-cut}
+use Rattle.obj_seq.proofs.GapLoop.{closing-looked, closing-next, closing-more, closing-end, last-edit}
 use Rattle.obj_seq.proofs.change.close_gap.Goals as goal
 
 pub set_val-requires-clause-there : goal.set_val-requires-clause-there
@@ -26,4 +26,4 @@ truncate-requires-clause-there g c =
 pub returns : goal.returns
 returns g c =
     let e : c.turns.j ≡ c.args.n - 1 = omega arith in
-    last-cut g.met.V.View.lawful _ _ (closing-end c.turns.invariant (omega arith)) (rw e c.truncate.ensures)
+    last-edit g.met.V.View.lawful _ _ (closing-end c.turns.invariant (omega arith)) (rw e c.truncate.ensures)

@@ -1,6 +1,6 @@
 use Rattle.std.proofs.Common.{arith}
 use Rattle.py_data.proofs.Steps.{leads-asks, leads-refused, stop-as}
-use Rattle.obj_seq.proofs.GapLoop.{opening-looked, opening-next, opening-more, opening-end, last-push}
+use Rattle.obj_seq.proofs.GapLoop.{opening-looked, opening-next, opening-more, opening-end, last-edit}
 use Rattle.obj_seq.proofs.change.open_gap.Goals as goal
 
 pub set_val-requires-clause-there : goal.set_val-requires-clause-there
@@ -22,4 +22,4 @@ pub push_val-requires-clause-there : goal.push_val-requires-clause-there
 push_val-requires-clause-there g c = leads-asks (opening-end c.turns.invariant (omega arith))
 
 pub returns : goal.returns
-returns g c = last-push g.met.V.View.lawful _ _ (opening-end c.turns.invariant (omega arith)) c.push_val.ensures
+returns g c = last-edit g.met.V.View.lawful _ _ (opening-end c.turns.invariant (omega arith)) c.push_val.ensures

@@ -9,7 +9,7 @@ invariant_of-self c = record {
   sound =
       (change_at _ _ _ c.args.self.now.sound c.requires.segment c.args.a.0 c.index_mut.result.now c.replace.new.self c.in_ok-next-in-Some.next c.in-Some.r.now (after c.args.c)
       (sym c.seen.ensures.entry ∙ ap option_copied c.in-Some.is) c.requires.held
-      (good_change _ _ c.args.c c.in_ok-next-in-Some.next c.requires.there (sym c.seen.ensures.entry ∙ ap option_copied c.in-Some.is) (search rules) (search rules) (search rules))
+      (good_change _ _ _ c.args.c c.in_ok-next-in-Some.next c.requires.there (sym c.seen.ensures.entry ∙ ap option_copied c.in-Some.is) (search rules) (search rules) (search rules))
       (search rules) c.index_mut.ensures.value c.replace.ensures).sound;
 }
 
@@ -17,5 +17,5 @@ pub returns-clause-ok : goal.returns-clause-ok
 returns-clause-ok c =
     (change_at _ _ _ c.args.self.now.sound c.requires.segment c.args.a.0 c.index_mut.result.now c.replace.new.self c.in_ok-next-in-Some.next c.in-Some.r.now (after c.args.c)
     (sym c.seen.ensures.entry ∙ ap option_copied c.in-Some.is) c.requires.held
-    (good_change _ _ c.args.c c.in_ok-next-in-Some.next c.requires.there (sym c.seen.ensures.entry ∙ ap option_copied c.in-Some.is) (search rules) (search rules) (search rules))
+    (good_change _ _ _ c.args.c c.in_ok-next-in-Some.next c.requires.there (sym c.seen.ensures.entry ∙ ap option_copied c.in-Some.is) (search rules) (search rules) (search rules))
     (search rules) c.index_mut.ensures.value c.replace.ensures).means
