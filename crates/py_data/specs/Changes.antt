@@ -5,7 +5,7 @@ use Rattle.py_data.specs.declared.value.Value.{Value}
 use Rattle.py_data.specs.declared.value.Kind.{Kind}
 use Rattle.py_data.specs.declared.value.Kind.TheVariants.{List as ListKind, Dict}
 use Rattle.py_data.specs.declared.record.TheConstants.{LENGTH_LIMIT}
-use Rattle.py_data.specs.Heap.{Heap, Rec, put_at, is_tracked, has_rooms, with_value, with_push, cut_to, with_pair, without_pair}
+use Rattle.py_data.specs.Heap.{Heap, Rec, put_at, is_tracked, with_value, with_push, cut_to, with_pair, without_pair}
 use Rattle.py_data.specs.Shape.{Fits, find}
 use Rattle.py_data.specs.declared.change.Change.{Change}
 use Rattle.py_data.specs.declared.change.Change.TheVariants.{Set, Push, Cut, Pair, Unpair}
@@ -68,17 +68,3 @@ Replaced a f h h1 = (q : Rec) × (h a ≡ Some q) × (h1 ≡ put_at h a (f q))
 -- no record has more values or bytes than the limit
 abbrev pub IsShort : Rec → Type 0
 IsShort r = (length r.values ≤ LENGTH_LIMIT) × (length r.bytes ≤ LENGTH_LIMIT)
-
--- a List or a Dict has no more values than its room
-abbrev pub HasRoom : Rec → Type 0
-HasRoom r = has_rooms r.kind ≡ true → length r.values ≤ r.room
-
--- what holds of each record that stands, where there is memory for so many values
-pub record IsStanding (r : Rec) (memory : ℕ) : Type 0 where
-  pub short : IsShort r
-  pub roomy : HasRoom r
-  pub held : r.room ≤ memory
-
--- all records of a heap are within the limit
-pub record AreShort (h : Heap) : Type 0 where
-  pub each : (a : ℕ) (r : Rec) → h a ≡ Some r → IsShort r

@@ -4,6 +4,7 @@ pub mod Heap
 pub mod Shape
 pub mod Made
 pub mod Changes
+pub mod Entry
 pub mod Undo
 pub mod Fault
 pub mod Closed

@@ -28,19 +28,19 @@ pub struct Entry {
 impl Model for Entry {
     ghost use Rattle.std.specs.Prelude.{vec_capacity};
     ghost use Rattle.py_data.specs.Heap.{Rec};
-    ghost use Rattle.py_data.specs.Changes.{IsStanding};
+    ghost use Rattle.py_data.specs.Entry.{IsEntry};
 
     ghost Value = { Rec };
 
     ghost view = { λ e. record { kind = e.kind; values = e.values.items; bytes = e.bytes; room = e.room; first = e.first } };
 
-    ghost invariant = { λ e. IsStanding (record { kind = e.kind; values = e.values.items; bytes = e.bytes; room = e.room; first = e.first }) (vec_capacity e.values) };
+    ghost invariant = { λ e. IsEntry (record { kind = e.kind; values = e.values.items; bytes = e.bytes; room = e.room; first = e.first }) (vec_capacity e.values) };
 }
 
 impl Entry {
     ghost use Rattle.py_data.specs.Changes.{Allows, IsShort};
     ghost use Rattle.py_data.specs.Made.{rec_of};
-    ghost use Rattle.py_data.specs.Undo.{before, CanTakeBack, IsUndo};
+    ghost use Rattle.py_data.specs.Undo.{before, CanTakeBack, HasPlaces, IsUndo};
     ghost use Rattle.py_data.specs.declared.change.Change.TheVariants as change;
     ghost use Rattle.py_data.specs.declared.value.Kind.TheVariants as kind;
 
@@ -188,8 +188,7 @@ impl Entry {
 
     /// Puts values at the end, for which there is room.
     fn extend(&mut self, tail: &[Value])
-        requires room { length self.old.values + length tail.now ≤ self.old.room }
-        requires within { length self.old.values + length tail.now ≤ LENGTH_LIMIT }
+        requires { HasPlaces (length tail.now) self.old }
         ensures { self.new ≡ record self.old { values = self.old.values ++ tail.now } }
     {
         match self.values.extend_from_slice(tail) {
@@ -201,8 +200,7 @@ impl Entry {
     /// Puts a key and its value in as the pair of a number, for which there is room.
     fn insert_pair(&mut self, k: usize, key: Value, x: Value)
         requires place { 2 * k ≤ length self.old.values }
-        requires room { length self.old.values + 2 ≤ self.old.room }
-        requires within { length self.old.values + 2 ≤ LENGTH_LIMIT }
+        requires room { HasPlaces 2 self.old }
         ensures { self.new ≡ with_pair_at k key x self.old }
     {
         match self.values.insert(2 * k, x) {
