@@ -6,7 +6,7 @@ use Rattle.std.proofs.lemmas.Bool.{cond-false, ne_eqb}
 use Rattle.std.specs.Result.{IsErrAnd}
 use Rattle.py_data.specs.declared.value.Value.{Value}
 use Rattle.py_data.specs.declared.value.Value.TheVariants.{Unset, Ref}
-use Rattle.py_data.specs.declared.value.Kind.TheVariants.{Tuple}
+use Rattle.py_base.specs.declared.kind.Kind.TheVariants.{Tuple}
 use Rattle.py_data.specs.declared.stop.Stop.{Stop}
 use Rattle.py_data.specs.declared.stop.Stop.TheVariants.{OutOfMemory}
 use Rattle.py_data.specs.Heap.{Rec, at, value_at, new_rec}

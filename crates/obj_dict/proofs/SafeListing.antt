@@ -3,7 +3,7 @@ use Rattle.std.proofs.Common.{ℕ, ◌+◌, ◌≤◌, Bool, true, false, List, 
 use Rattle.std.proofs.lemmas.List.{length-append}
 use Rattle.py_data.specs.declared.value.Value.{Value}
 use Rattle.py_data.specs.declared.value.Value.TheVariants.{Ref}
-use Rattle.py_data.specs.declared.value.Kind.TheVariants.{Tuple, List as ListKind}
+use Rattle.py_base.specs.declared.kind.Kind.TheVariants.{Tuple, List as ListKind}
 use Rattle.py_data.specs.declared.record.TheConstants.{LENGTH_LIMIT}
 use Rattle.py_data.specs.Heap.{Heap, Rec, new_rec}
 use Rattle.py_data.specs.Shape.{HoldsNoUnset}

@@ -2,7 +2,7 @@
 use Rattle.std.specs.Prelude.{ℕ, Bool, true, false, cond, List, [], ◌∷◌, ◌++◌}
 use Rattle.py_data.specs.declared.value.Value.{Value}
 use Rattle.py_data.specs.declared.value.Value.TheVariants.{Ref}
-use Rattle.py_data.specs.declared.value.Kind.TheVariants.{Tuple, List as ListKind}
+use Rattle.py_base.specs.declared.kind.Kind.TheVariants.{Tuple, List as ListKind}
 use Rattle.py_data.specs.declared.record.Got.{Got}
 use Rattle.py_data.specs.declared.record.Got.TheVariants.{Is}
 use Rattle.py_data.specs.Heap.{new_rec}

@@ -2,7 +2,7 @@
 use Rattle.std.specs.Prelude.{◌≡◌, ◌≤◌, length, Bool, true, false, ℕ}
 use Rattle.py_data.specs.declared.value.Value.{Value}
 use Rattle.py_data.specs.declared.value.Value.TheVariants.{Ref}
-use Rattle.py_data.specs.declared.value.Kind.TheVariants.{Dict, List as ListKind}
+use Rattle.py_base.specs.declared.kind.Kind.TheVariants.{Dict, List as ListKind}
 use Rattle.py_data.specs.declared.record.TheConstants.{LENGTH_LIMIT}
 use Rattle.py_data.specs.Heap.{Heap, Rec}
 use Rattle.py_data.specs.Shape.{ArePairs, HoldsNoUnset}

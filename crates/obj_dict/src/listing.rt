@@ -1,6 +1,6 @@
 //! Lists of what a dictionary has.
 ghost use Rattle.std.specs.Prelude.{◌≡◌, length, cond, IfOk, [], ◌∷◌};
-ghost use Rattle.py_data.specs.declared.value.Kind.TheVariants.{Tuple};
+ghost use Rattle.py_base.specs.declared.kind.Kind.TheVariants.{Tuple};
 ghost use Rattle.py_data.specs.Sense.{Meets, Safe, IsLive};
 ghost use Rattle.py_data.specs.Made.{rec_of};
 ghost use Rattle.py_data.specs.Heap.{at, new_rec};

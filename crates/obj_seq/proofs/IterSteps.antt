@@ -3,7 +3,7 @@ use Rattle.std.proofs.Common.{◌≡◌, ℕ, true, false, [], ◌∷◌, slice_
 use Rattle.std.proofs.lemmas.Bool.{cond-true, cond-false}
 use Rattle.py_data.specs.declared.value.Value.{Value}
 use Rattle.py_data.specs.declared.value.Value.TheVariants.{Ref}
-use Rattle.py_data.specs.declared.value.Kind.TheVariants.{Str}
+use Rattle.py_base.specs.declared.kind.Kind.TheVariants.{Str}
 use Rattle.py_data.specs.Heap.{Rec, at, new_rec}
 use Rattle.py_data.specs.Row.{Do, Read, Make}
 use Rattle.py_data.specs.Sense.{Sense, Lawful, Safe, IsLive}

@@ -2,7 +2,7 @@
 use Rattle.std.proofs.Common.{◌≡◌, ℕ, List, [], length, Option, Ok, Err, refl, sym, ap, subst, ◌∙◌, ℤ}
 use Rattle.py_data.specs.declared.value.Value.{Value}
 use Rattle.py_data.specs.declared.value.Value.TheVariants.{Ref}
-use Rattle.py_data.specs.declared.value.Kind.{Kind}
+use Rattle.py_base.specs.declared.kind.Kind.{Kind}
 use Rattle.py_data.specs.declared.stop.Stop.{Stop}
 use Rattle.py_data.specs.declared.stop.Stop.TheVariants.{OutOfMemory}
 use Rattle.py_data.specs.declared.record.Got.TheVariants.{Is}

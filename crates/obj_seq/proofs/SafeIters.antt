@@ -3,8 +3,8 @@ use Rattle.std.proofs.Common.{◌≡◌, ◌≢◌, ℕ, ◌+◌, ◌<◌, Bool,
 use Rattle.std.proofs.lemmas.Bool.{cond-false, ne_eqb}
 use Rattle.py_data.specs.declared.value.Value.{Value}
 use Rattle.py_data.specs.declared.value.Value.TheVariants.{Unset, None as NoneValue, Bool as BoolValue, Int, Ref, Builtin}
-use Rattle.py_data.specs.declared.value.Kind.{Kind}
-use Rattle.py_data.specs.declared.value.Kind.TheVariants.{Str, Tuple, List as ListKind, Dict, Cell, Function, Class, Instance, Method, Iter, Range, Lock, Thread}
+use Rattle.py_base.specs.declared.kind.Kind.{Kind}
+use Rattle.py_base.specs.declared.kind.Kind.TheVariants.{Str, Tuple, List as ListKind, Dict, Cell, Function, Class, Instance, Method, Iter, Range, Lock, Thread}
 use Rattle.py_data.specs.declared.record.Got.TheVariants.{Is, Raise}
 use Rattle.py_data.specs.Heap.{Heap, Rec, is_tracked, new_rec}
 use Rattle.py_data.specs.Shape.{KindIn, is_iterable}

@@ -2,7 +2,7 @@
 use Rattle.std.specs.Prelude.{◌≡◌, ◌⊎◌, ◌≤◌, ℕ, ℤ, Bool, Option, length}
 use Rattle.py_data.specs.declared.value.Value.{Value}
 use Rattle.py_data.specs.declared.value.Value.TheVariants.{Ref}
-use Rattle.py_data.specs.declared.value.Kind.TheVariants.{List as ListKind, Tuple, Iter}
+use Rattle.py_base.specs.declared.kind.Kind.TheVariants.{List as ListKind, Tuple, Iter}
 use Rattle.py_data.specs.declared.record.TheConstants.{LENGTH_LIMIT}
 use Rattle.py_data.specs.Heap.{Heap, Rec}
 use Rattle.py_data.specs.Shape.{HoldsNoUnset}

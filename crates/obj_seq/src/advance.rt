@@ -1,6 +1,6 @@
 //! The next item of an iterator.
 ghost use Rattle.std.specs.Prelude.{◌≡◌, ◌<◌, ◌+◌, ◌^◌, length, slice_get, [], ◌∷◌, IfOk, IfSome};
-ghost use Rattle.py_data.specs.declared.value.Kind.TheVariants.{Str};
+ghost use Rattle.py_base.specs.declared.kind.Kind.TheVariants.{Str};
 ghost use Rattle.py_data.specs.Sense.{Meets, Safe, IsLive, IfThere, Asks, Shows};
 ghost use Rattle.py_data.specs.Made.{rec_of};
 ghost use Rattle.py_data.specs.Heap.{new_rec};

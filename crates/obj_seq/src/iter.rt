@@ -1,7 +1,7 @@
 //! Going through lists, tuples, strings, dictionaries and ranges.
 ghost use Rattle.std.specs.Prelude.{◌≡◌, ◌<◌, ◌≤◌, ◌^◌, length, pos, IfOk, IfSome, [], ◌∷◌};
 ghost use Rattle.py_data.specs.declared.value.Value.TheVariants.{Int, Ref};
-ghost use Rattle.py_data.specs.declared.value.Kind.TheVariants.{Range};
+ghost use Rattle.py_base.specs.declared.kind.Kind.TheVariants.{Range};
 ghost use Rattle.py_data.specs.Sense.{Meets, Safe, IsLive, IfThere, Asks, Shows};
 ghost use Rattle.py_data.specs.Heap.{at};
 ghost use Rattle.py_data.specs.Row.{Do, Read};

@@ -1,7 +1,7 @@
 -- What each instruction asks of the stack, what it leaves there, and where it goes on. States `docs/LANGUAGE.md`,
 -- "Instructions".
-use Rattle.std.specs.Prelude.{ℕ, ◌+◌, ◌-◌, ◌<◌, ◌≤◌, ◌^◌, List, [], ◌∷◌, Option, Some, None, Bool, true, false, All, get_or, length}
-use Rattle.py_code.specs.declared.builtin.TheConstants.{COUNT}
+use Rattle.std.specs.Prelude.{◌≡◌, ℕ, ◌+◌, ◌-◌, ◌<◌, ◌≤◌, ◌^◌, List, [], ◌∷◌, Option, Some, None, Bool, true, false, All, get_or, length}
+use Rattle.py_base.specs.Numbers.{unary_signs, binary_signs, compare_signs, builtin_count}
 use Rattle.py_code.specs.declared.instr.Constant.{Constant}
 use Rattle.py_code.specs.declared.instr.Constant.TheVariants.{Builtin, Root}
 use Rattle.py_code.specs.declared.instr.Instr.{Instr}
@@ -104,7 +104,7 @@ IsCell k g = (k.cells ≤ g) × (g < k.roots)
 
 -- what CONST may push: of the roots the classes and the strings
 abbrev pub IsConstant : Limits → Constant → Type 0
-IsConstant k (Builtin b) = b < COUNT
+IsConstant k (Builtin b) = b < builtin_count
 IsConstant k (Root r) = (0 < r) × (r < k.cells)
 IsConstant k _ = Unit {0}
 
@@ -128,10 +128,10 @@ IsKnown k (LoadAttr n) = IsText k n
 IsKnown k (StoreAttr n) = IsText k n
 IsKnown k (DelAttr n) = IsText k n
 IsKnown k (LoadMethod n) = IsText k n
-IsKnown k (Unary o) = o < 3
-IsKnown k (Binary o) = o < 12
-IsKnown k (InPlace o) = o < 12
-IsKnown k (Compare o) = o < 10
+IsKnown k (Unary o) = o < length unary_signs
+IsKnown k (Binary o) = o < length binary_signs
+IsKnown k (InPlace o) = o < length binary_signs
+IsKnown k (Compare o) = o < length compare_signs
 IsKnown k (Call n l) = IsKeys k l
 IsKnown k (CallMethod n l) = IsKeys k l
 IsKnown k (MakeFunction f n) = (f < length k.params) × (n ≤ get_or k.params f 0)
@@ -180,6 +180,10 @@ target_of (Over t) = Some t
 target_of (Fork t n) = Some t
 target_of (Opens t) = Some t
 target_of _ = None
+
+-- the place that it names is none before the first that may be named
+abbrev pub Forward : ℕ → Flow → Type 0
+Forward first f = (q : ℕ) → target_of f ≡ Some q → first ≤ q
 
 -- whether the next place follows
 abbrev pub goes_on : Flow → Bool

@@ -2,9 +2,9 @@
 use Rattle.std.specs.Prelude.{ℕ, ◌+◌, ◌-◌, ◌==◌, Bool, true, false, if◌then◌else◌, codes, List, [], ◌∷◌, ◌++◌, Option, Some, None, length, drop, get_or, slice_get, unwrap_or, option_map}
 use Rattle.std.specs.List.{flat_map, list_any}
 use Rattle.std.specs.Fmt.{decimal, signed_decimal}
-use Rattle.py_data.specs.declared.value.Kind.{Kind}
-use Rattle.py_data.specs.declared.value.Kind.TheVariants.{Str, Class}
-use Rattle.py_data.specs.Texts.{truth_text}
+use Rattle.py_base.specs.declared.kind.Kind.{Kind}
+use Rattle.py_base.specs.declared.kind.Kind.TheVariants.{Str, Class}
+use Rattle.py_base.specs.Numbers.{unary_signs, binary_signs, compare_signs, class_names, builtin_names, truth_text}
 use Rattle.py_text.specs.Repr.{repr_of}
 use Rattle.py_code.specs.declared.instr.Constant.{Constant}
 use Rattle.py_code.specs.declared.instr.Constant.TheVariants.{None as NoValue, Truth, Int, Builtin, Root as RootOf}
@@ -14,7 +14,7 @@ use Rattle.py_code.specs.declared.program.Code.{Code}
 use Rattle.py_code.specs.declared.program.Program.{Program}
 use Rattle.py_code.specs.declared.assembly.operand.Operand.{Operand}
 use Rattle.py_code.specs.declared.assembly.operand.Operand.TheVariants.{Nothing, Pushed, Slot, Record, Body, UnarySign, BinarySign, CompareSign, Place, Count, Arguments, Defaults}
-use Rattle.py_code.specs.Operands.{mnemonic, operand_of, kind_name, unary_signs, binary_signs, compare_signs, class_names, builtin_names}
+use Rattle.py_code.specs.Operands.{mnemonic, operand_of, kind_name}
 
 -- ---- names
 

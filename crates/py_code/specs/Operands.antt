@@ -1,8 +1,8 @@
 -- The words of a listing: what each instruction is called, what its operands name, and the names of what has a number.
 -- States `docs/LANGUAGE.md`, "Listing".
-use Rattle.std.specs.Prelude.{ℕ, codes, List, [], ◌∷◌}
-use Rattle.py_data.specs.declared.value.Kind.{Kind}
-use Rattle.py_data.specs.declared.value.Kind.TheVariants.{Str, Tuple, List as ListKind, Dict, Cell, Function, Class, Instance, Method, Iter as IterKind, Range, Lock, Thread}
+use Rattle.std.specs.Prelude.{ℕ, codes, List}
+use Rattle.py_base.specs.declared.kind.Kind.{Kind}
+use Rattle.py_base.specs.declared.kind.Kind.TheVariants.{Str, Tuple, List as ListKind, Dict, Cell, Function, Class, Instance, Method, Iter as IterKind, Range, Lock, Thread}
 use Rattle.py_code.specs.declared.instr.Instr.{Instr}
 use Rattle.py_code.specs.declared.instr.Instr.TheVariants.{Setup, Const, Pop, Dup, Rot2, Dup2, Rot3, LoadLocal, StoreLocal, DelLocal, LoadGlobal, StoreGlobal, DelGlobal, LoadName, StoreName, DelName, LoadAttr, StoreAttr, DelAttr, LoadMethod, LoadItem, StoreItem, DelItem, Slice, Unary, Not, Binary, InPlace, Compare, Jump, JumpFalse, KeepFalse, KeepTrue, BuildTuple, BuildList, BuildDict, Unpack, Iter, Next, Call, CallMethod, Return, MakeFunction, ClassBody, Try, PopTry, ExcMatch, MakeRaised, Raise, PrintItem, PrintNewline}
 use Rattle.py_code.specs.declared.assembly.operand.Operand.{Operand}
@@ -114,21 +114,3 @@ kind_name IterKind = codes "Iter"
 kind_name Range = codes "Range"
 kind_name Lock = codes "Lock"
 kind_name Thread = codes "Thread"
-
--- the operators, in the order of their numbers
-abbrev pub unary_signs : List (List ℕ)
-unary_signs = codes "+" ∷ codes "-" ∷ codes "~" ∷ []
-
-abbrev pub binary_signs : List (List ℕ)
-binary_signs = codes "|" ∷ codes "^" ∷ codes "&" ∷ codes "<<" ∷ codes ">>" ∷ codes "+" ∷ codes "-" ∷ codes "*" ∷ codes "/" ∷ codes "//" ∷ codes "%" ∷ codes "**" ∷ []
-
-abbrev pub compare_signs : List (List ℕ)
-compare_signs = codes "<" ∷ codes ">" ∷ codes "==" ∷ codes ">=" ∷ codes "<=" ∷ codes "!=" ∷ codes "in" ∷ codes "not in" ∷ codes "is" ∷ codes "is not" ∷ []
-
--- the classes, in the order of their numbers
-abbrev pub class_names : List (List ℕ)
-class_names = codes "object" ∷ codes "BaseException" ∷ codes "Exception" ∷ codes "StandardError" ∷ codes "ArithmeticError" ∷ codes "LookupError" ∷ codes "NameError" ∷ codes "AttributeError" ∷ codes "TypeError" ∷ codes "ValueError" ∷ codes "RuntimeError" ∷ codes "EOFError" ∷ codes "AssertionError" ∷ codes "MemoryError" ∷ codes "ZeroDivisionError" ∷ codes "OverflowError" ∷ codes "IndexError" ∷ codes "KeyError" ∷ codes "UnboundLocalError" ∷ codes "thread.error" ∷ []
-
--- the builtins, in the order of their numbers
-abbrev pub builtin_names : List (List ℕ)
-builtin_names = codes "len" ∷ codes "range" ∷ codes "xrange" ∷ codes "str" ∷ codes "repr" ∷ codes "int" ∷ codes "bool" ∷ codes "list" ∷ codes "tuple" ∷ codes "dict" ∷ codes "isinstance" ∷ codes "ord" ∷ codes "chr" ∷ codes "abs" ∷ codes "min" ∷ codes "max" ∷ codes "sum" ∷ codes "sorted" ∷ codes "raw_input" ∷ codes "thread" ∷ codes "threading" ∷ codes "thread.start_new_thread" ∷ codes "thread.allocate_lock" ∷ codes "threading.Thread" ∷ codes "threading.Lock" ∷ codes "str.join" ∷ codes "str.split" ∷ codes "str.strip" ∷ codes "str.upper" ∷ codes "str.lower" ∷ codes "str.startswith" ∷ codes "str.endswith" ∷ codes "str.find" ∷ codes "str.replace" ∷ codes "list.append" ∷ codes "list.pop" ∷ codes "list.insert" ∷ codes "list.extend" ∷ codes "list.index" ∷ codes "list.remove" ∷ codes "list.reverse" ∷ codes "list.sort" ∷ codes "dict.get" ∷ codes "dict.keys" ∷ codes "dict.values" ∷ codes "dict.items" ∷ codes "dict.has_key" ∷ codes "dict.pop" ∷ codes "lock.acquire" ∷ codes "lock.release" ∷ codes "lock.locked" ∷ codes "thread.start" ∷ codes "thread.join" ∷ []

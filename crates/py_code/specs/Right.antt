@@ -3,15 +3,16 @@
 use Rattle.std.specs.Prelude.{◌≡◌, ℕ, zero, suc, ◌+◌, ◌<◌, ◌≤◌, ◌^◌, ◌==◌, codes, List, [], ◌∷◌, ◌++◌, Option, Some, None, Bool, true, false, IsTrue, All, if◌then◌else◌, drop, length, map, get_or, slice_get}
 use Rattle.std.specs.List.{flat_map, last_or, list_any}
 use Rattle.std.specs.Str.{bytes_eq}
-use Rattle.py_data.specs.declared.value.Kind.{Kind}
-use Rattle.py_data.specs.declared.value.Kind.TheVariants.{Str, Cell, Class}
+use Rattle.py_base.specs.declared.kind.Kind.{Kind}
+use Rattle.py_base.specs.declared.kind.Kind.TheVariants.{Str, Cell, Class}
+use Rattle.py_base.specs.Numbers.{class_count}
 use Rattle.py_code.specs.declared.instr.Instr.{Instr}
 use Rattle.py_code.specs.declared.instr.Instr.TheVariants.{LoadName, StoreName, DelName, MakeFunction, ClassBody}
 use Rattle.py_code.specs.declared.program.Root.{Root}
 use Rattle.py_code.specs.declared.program.Code.{Code}
 use Rattle.py_code.specs.declared.program.Program.{Program}
 use Rattle.py_code.specs.Effects.{Limits}
-use Rattle.py_code.specs.Typing.{IsRight, HasNoSetup, BeginsWithSetup}
+use Rattle.py_code.specs.Typing.{IsRight, AllForward, HasNoSetup, BeginsWithSetup}
 
 -- ---- the roots
 
@@ -29,17 +30,13 @@ abbrev pub class_roots : ℕ → ℕ → List Root
 class_roots c zero = []
 class_roots c (suc n) = class_root c ∷ class_roots (c + 1) n
 
--- how many classes there are
-abbrev pub classes : ℕ
-classes = 20
-
 -- the cell of the count of threads, the classes, the strings, the cells of the global names
 abbrev pub roots_of : List (List ℕ) → List (List ℕ) → List Root
-roots_of texts names = cell_root [] ∷ class_roots 0 classes ++ map text_root texts ++ map cell_root names
+roots_of texts names = cell_root [] ∷ class_roots 0 class_count ++ map text_root texts ++ map cell_root names
 
 -- the number of the first string
 abbrev pub first_text : ℕ
-first_text = 1 + classes
+first_text = 1 + class_count
 
 -- the strings among the roots
 abbrev pub texts_by : Kind → List ℕ → List (List ℕ) → List (List ℕ)
@@ -126,7 +123,7 @@ Belongs cs rs n _ = Unit {0}
 
 -- ---- the codes
 
--- no jump of the first code leads back to SETUP
+-- no instruction of the first code, reached or not, leads back to SETUP
 abbrev pub first_place : ℕ → ℕ
 first_place zero = 1
 first_place (suc n) = 0
@@ -153,6 +150,7 @@ pub record IsRightCode (cs : List Code) (rs : List Root) (n : ℕ) (c : Code) : 
   pub slotted : c.params ≤ length c.slots
   pub sets_up : SetsUp n c.instrs
   pub belongs : All (Belongs cs rs n) c.instrs
+  pub forward : AllForward (limits_of cs rs n c) c.instrs
   pub typed : IsRight (limits_of cs rs n c) c.instrs
 
 -- the codes from number n on

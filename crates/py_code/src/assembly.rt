@@ -11,7 +11,7 @@ mod step;
 use crate::program::{Code, Keys, Program, Root};
 use labels::{Labels, labels_of, split};
 use names::{code_name, digits, kind_name, name_or, root_name};
-use py_data::{Bytes, NoMemory};
+use py_base::{Bytes, NoMemory};
 use std::alloc::Global;
 use step::{push_instr, push_keys, push_number};
 

@@ -6,7 +6,7 @@ pub enum Constant {
     None,
     Truth(bool),
     Int(i64),
-    /// The builtin of that number (`crate::builtin`).
+    /// The builtin of that number (`py_base::builtin`).
     Builtin(u8),
     /// The root of that number: a string or a class.
     Root(u32),
@@ -59,7 +59,7 @@ pub enum Instr {
     DelItem,
     /// `o i j -> x`, where None stands for a missing bound.
     Slice,
-    /// `a -> x`, by an operator of `crate::operator`.
+    /// `a -> x`, by an operator of `py_base::operator`.
     Unary(u8),
     /// `a -> truth`.
     Not,

@@ -2,11 +2,9 @@
 #![tactic(auto)]
 
 mod assembly;
-pub mod builtin;
 mod instr;
 #[cfg(test)]
 mod listing_tests;
-pub mod operator;
 mod program;
 #[cfg(test)]
 mod tests;

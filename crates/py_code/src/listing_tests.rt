@@ -1,9 +1,9 @@
 //! Programs built by hand, and their listings written by hand.
 use crate::{
     Code, Codes, Constant, Instr, Instrs, KeyLists, Keys, Lines, Program, Root, Roots, Texts,
-    builtin, listing, operator,
+    listing,
 };
-use py_data::{Bytes, Kind};
+use py_base::{Bytes, Kind, builtin, operator};
 use std::alloc::{AllocError, Global};
 use std::test;
 

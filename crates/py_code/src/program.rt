@@ -1,7 +1,7 @@
 //! Codes and programs.
 
 use crate::instr::Instr;
-use py_data::{Bytes, Kind};
+use py_base::{Bytes, Kind};
 use sqlite_items::Items;
 
 /// Names, or other texts.
@@ -30,7 +30,7 @@ pub type Roots = Items<Root>;
 pub struct Root {
     /// `Cell`, `Class` or `Str`.
     pub kind: Kind,
-    /// The number of a class (`py_data::exception`); 0 for the other kinds.
+    /// The number of a class (`py_base::exception`); 0 for the other kinds.
     pub number: u8,
     /// A string's bytes, or the name of a global; none for the count of threads and for a class.
     pub bytes: Bytes,

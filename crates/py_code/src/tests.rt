@@ -1,9 +1,8 @@
 //! Each instruction and each type of a program, made and printed.
 use crate::{
     Code, Codes, Constant, Instr, Instrs, KeyLists, Keys, Lines, Program, Root, Roots, Texts,
-    builtin, operator,
 };
-use py_data::{Bytes, Kind, exception};
+use py_base::{Bytes, Kind, builtin, exception, operator};
 use std::alloc::{AllocError, Global};
 use std::process::Abort;
 use std::test;

@@ -1,7 +1,7 @@
 -- The events of a module whose names resolve: none of them is a misplaced or a doubled name.
 use Rattle.std.proofs.Common.{◌≡◌, ℕ, Bool, true, false, List, [], ◌∷◌, ◌++◌, Option, Some, None, refl}
 use Rattle.std.specs.Prelude.{if◌then◌else◌}
-use Rattle.py_data.specs.declared.refusal.Refusal.{Refusal}
+use Rattle.py_base.specs.declared.refusal.Refusal.{Refusal}
 use Rattle.py_tree.specs.declared.stmt.Module.{Module}
 use Rattle.py_names.specs.declared.event.Event.{Event}
 use Rattle.py_names.specs.declared.event.Event.TheVariants.{Enter, Leave, Takes, Uses, Binds, Declares, Misplaced, Doubled}

@@ -3,7 +3,7 @@ use Rattle.std.proofs.Common.{◌≡◌, ℕ, ℤ, List, [], ◌∷◌, map, len
 use Rattle.std.proofs.lemmas.List.{length-map}
 use Rattle.py_code.specs.declared.instr.Constant.TheVariants.{Root, Int as IntValue}
 use Rattle.py_code.specs.declared.instr.Instr.TheVariants.{Unary, Not, Binary, BuildTuple, BuildList, BuildDict}
-use Rattle.py_code.specs.declared.operator.binary.TheConstants.{POWER}
+use Rattle.py_base.specs.declared.operator.binary.TheConstants.{POWER}
 use Rattle.py_tree.specs.declared.expr.Expr.{Expr}
 use Rattle.py_tree.specs.declared.expr.Trailer.{Trailer}
 use Rattle.py_tree.specs.declared.expr.Link.{Link}

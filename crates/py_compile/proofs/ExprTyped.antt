@@ -8,7 +8,7 @@ use Rattle.std.proofs.lemmas.List.Elements.{All-nil, All-cons}
 use Rattle.py_code.specs.declared.instr.Constant.TheVariants.{None as NoValue, Root, Int as IntValue}
 use Rattle.py_code.specs.declared.instr.Instr.{Instr}
 use Rattle.py_code.specs.declared.instr.Instr.TheVariants.{Const, Unary, Not, Binary, Compare, KeepFalse, KeepTrue, BuildTuple, BuildList, BuildDict}
-use Rattle.py_code.specs.declared.operator.binary.TheConstants.{POWER}
+use Rattle.py_base.specs.declared.operator.binary.TheConstants.{POWER}
 use Rattle.py_code.specs.Effects.{IsKeys, Limits, IsText}
 use Rattle.py_tree.specs.declared.expr.Expr.{Expr}
 use Rattle.py_tree.specs.declared.expr.Trailer.{Trailer}

@@ -9,8 +9,8 @@ use Rattle.std.proofs.lemmas.List.{get_or-map, length-map}
 use Rattle.std.proofs.lemmas.List.Folds.{list_any-append}
 use Rattle.std.proofs.lemmas.Option.{get_or_from_slice_get, slice_get_within}
 use Rattle.std.proofs.lemmas.Slice.Eq.{bytes_eq-Decides}
-use Rattle.py_data.specs.declared.refusal.Refusal.{Refusal}
-use Rattle.py_data.specs.declared.refusal.Refusal.TheVariants.{Misplaced as misplaced}
+use Rattle.py_base.specs.declared.refusal.Refusal.{Refusal}
+use Rattle.py_base.specs.declared.refusal.Refusal.TheVariants.{Misplaced as misplaced}
 use Rattle.py_tree.specs.declared.stmt.Param.{Param}
 use Rattle.py_tree.specs.declared.stmt.Module.{Module}
 use Rattle.py_names.specs.declared.event.Event.{Event}

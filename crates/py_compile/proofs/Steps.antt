@@ -3,7 +3,7 @@ use Rattle.std.proofs.Common.{◌≡◌, ℕ, suc, ℤ, ◌+◌, ◌<◌, ◌≤
 use Rattle.py_code.specs.declared.instr.Constant.TheVariants.{None as NoValue, Root, Int as IntValue}
 use Rattle.py_code.specs.declared.instr.Instr.{Instr}
 use Rattle.py_code.specs.declared.instr.Instr.TheVariants.{Const, Unary, Not, Binary, BuildTuple, BuildList, BuildDict, Compare, Dup, Dup2, Rot2, Rot3, Pop, LoadAttr, StoreAttr, DelAttr, LoadItem, StoreItem, DelItem, Slice, LoadMethod, Call, CallMethod, InPlace, Unpack}
-use Rattle.py_code.specs.declared.operator.binary.TheConstants.{POWER}
+use Rattle.py_base.specs.declared.operator.binary.TheConstants.{POWER}
 use Rattle.py_tree.specs.declared.expr.Expr.{Expr}
 use Rattle.py_tree.specs.declared.expr.Trailer.{Trailer}
 use Rattle.py_tree.specs.declared.expr.Link.{Link}

@@ -1,6 +1,6 @@
 -- What `compile` answers. States `docs/LANGUAGE.md`, "Code of a tree".
 use Rattle.std.specs.Prelude.{◌≡◌, ℕ, Bool, List, [], ◌∷◌, map, option_map, Some, None, Result, Ok, Err, get_or, length, ◌≤◌}
-use Rattle.py_data.specs.declared.refusal.Refusal.TheVariants.{TooLarge}
+use Rattle.py_base.specs.declared.refusal.Refusal.TheVariants.{TooLarge}
 use Rattle.py_code.specs.declared.program.Program.{Program}
 use Rattle.py_tree.specs.declared.stmt.Module.{Module}
 use Rattle.py_names.specs.declared.scope.Scope.{Scope}

@@ -1,12 +1,10 @@
 -- The code of expressions, and what they are as targets: one layer for each kind of node, over the codes of its parts.
 -- States `docs/LANGUAGE.md`, "Code of a tree".
-use Rattle.std.specs.Prelude.{ℕ, List, [], ◌∷◌, Option, Some, None, if◌then◌else◌, length, map}
+use Rattle.std.specs.Prelude.{ℕ, List, [], ◌∷◌, Option, Some, None, if◌then◌else◌, length, map, codes}
 use Rattle.py_code.specs.declared.instr.Constant.TheVariants.{None as NoValue, Root, Int as IntValue}
 use Rattle.py_code.specs.declared.instr.Instr.{Instr}
 use Rattle.py_code.specs.declared.instr.Instr.TheVariants.{Unary, Not, Binary, Compare, KeepFalse, KeepTrue, BuildTuple, BuildList, BuildDict}
-use Rattle.py_code.specs.declared.operator.unary.TheConstants as unary
-use Rattle.py_code.specs.declared.operator.binary.TheConstants as binary
-use Rattle.py_code.specs.declared.operator.compare.TheConstants as compare
+use Rattle.py_base.specs.Numbers.{unary_number, binary_number, compare_number}
 use Rattle.py_tree.specs.declared.expr.Operator.{Operator}
 use Rattle.py_tree.specs.declared.expr.Operator.TheVariants as op
 use Rattle.py_tree.specs.declared.expr.Sign.{Sign}
@@ -26,37 +24,37 @@ use Rattle.py_compile.specs.Table.{store, del, nothing, one, constant, name, one
 use Rattle.py_compile.specs.Names.{Known, home, text, key_list}
 use Rattle.py_names.specs.Outline.{is_none}
 
--- the numbers of the operators
+-- the numbers of the operators, by their signs
 abbrev pub operator : Operator → ℕ
 operator op.Or = 0
 operator op.And = 0
-operator op.Less = compare.LESS
-operator op.Greater = compare.GREATER
-operator op.Equal = compare.EQUAL
-operator op.GreaterEqual = compare.GREATER_EQUAL
-operator op.LessEqual = compare.LESS_EQUAL
-operator op.NotEqual = compare.NOT_EQUAL
-operator op.In = compare.IN
-operator op.NotIn = compare.NOT_IN
-operator op.Is = compare.IS
-operator op.IsNot = compare.IS_NOT
-operator op.BitOr = binary.OR
-operator op.BitXor = binary.XOR
-operator op.BitAnd = binary.AND
-operator op.ShiftLeft = binary.SHIFT_LEFT
-operator op.ShiftRight = binary.SHIFT_RIGHT
-operator op.Plus = binary.ADD
-operator op.Minus = binary.SUBTRACT
-operator op.Times = binary.MULTIPLY
-operator op.Divide = binary.DIVIDE
-operator op.Floor = binary.FLOOR_DIVIDE
-operator op.Remainder = binary.REMAINDER
-operator op.Power = binary.POWER
+operator op.Less = compare_number (codes "<")
+operator op.Greater = compare_number (codes ">")
+operator op.Equal = compare_number (codes "==")
+operator op.GreaterEqual = compare_number (codes ">=")
+operator op.LessEqual = compare_number (codes "<=")
+operator op.NotEqual = compare_number (codes "!=")
+operator op.In = compare_number (codes "in")
+operator op.NotIn = compare_number (codes "not in")
+operator op.Is = compare_number (codes "is")
+operator op.IsNot = compare_number (codes "is not")
+operator op.BitOr = binary_number (codes "|")
+operator op.BitXor = binary_number (codes "^")
+operator op.BitAnd = binary_number (codes "&")
+operator op.ShiftLeft = binary_number (codes "<<")
+operator op.ShiftRight = binary_number (codes ">>")
+operator op.Plus = binary_number (codes "+")
+operator op.Minus = binary_number (codes "-")
+operator op.Times = binary_number (codes "*")
+operator op.Divide = binary_number (codes "/")
+operator op.Floor = binary_number (codes "//")
+operator op.Remainder = binary_number (codes "%")
+operator op.Power = binary_number (codes "**")
 
 abbrev pub sign_number : Sign → ℕ
-sign_number sign.Plus = unary.PLUS
-sign_number sign.Minus = unary.MINUS
-sign_number sign.Invert = unary.INVERT
+sign_number sign.Plus = unary_number (codes "+")
+sign_number sign.Minus = unary_number (codes "-")
+sign_number sign.Invert = unary_number (codes "~")
 
 -- What an expression is as a target. Of targets in a tuple, list or group these are the codes that store and that delete.
 pub data Place : Type 0 where
@@ -213,7 +211,7 @@ module _ (n : Known) (ln : ℕ) where
   expr_step (open'.List cs) = record { value = built ln (BuildList (length cs)) (coded_values cs); place = spread ln cs }
   expr_step (open'.Dict ps) = record { value = built ln (BuildDict (length ps)) ps; place = NoPlace }
   expr_step (open'.Trail o ts) = record { value = trailed o.value ts; place = place_of_trail o.value ts }
-  expr_step (open'.Power a b) = record { value = two_values ln (Binary binary.POWER) a.value b.value; place = NoPlace }
+  expr_step (open'.Power a b) = record { value = two_values ln (Binary (binary_number (codes "**"))) a.value b.value; place = NoPlace }
   expr_step (open'.Unary s a) = record { value = one_value ln (Unary (sign_number s)) a.value; place = NoPlace }
   expr_step (open'.Chain l a xs) = record { value = chain ln l a.value xs; place = NoPlace }
   expr_step (open'.Not a) = record { value = one_value ln Not a.value; place = NoPlace }

@@ -2,7 +2,7 @@
 use Rattle.std.specs.Prelude.{ℕ, ◌+◌, Bool, if◌then◌else◌, codes, List, [], ◌∷◌, length, position, Option, Some, None, unwrap_or}
 use Rattle.std.specs.Cmp.Lexicographic.{pointwise}
 use Rattle.std.specs.Str.{bytes_eq}
-use Rattle.py_code.specs.declared.builtin.TheConstants.{ALLOCATE_LOCK, LOCK, START_NEW_THREAD, THREAD, THREADING_MODULE, THREAD_MODULE}
+use Rattle.py_base.specs.Numbers.{builtin_number, class_number}
 use Rattle.py_code.specs.declared.instr.Constant.{Constant}
 use Rattle.py_code.specs.declared.instr.Constant.TheVariants.{Root, Builtin}
 use Rattle.py_code.specs.Right.{first_text}
@@ -61,13 +61,13 @@ list_number i ks (x ∷ xs) = if same_names ks x then i else list_number (i + 1)
 abbrev pub key_list : Known → List (List ℕ) → ℕ
 key_list n ks = list_number 0 ks n.keys
 
--- a module, and a name that it has; `error` is a class, root 20
+-- a module, and a name that it has; `error` is a class, whose root stands behind the cell of the count
 abbrev pub library : List ℕ → Constant
-library m = if bytes_eq m (codes "thread") then Builtin THREAD_MODULE else Builtin THREADING_MODULE
+library m = if bytes_eq m (codes "thread") then Builtin (builtin_number (codes "thread")) else Builtin (builtin_number (codes "threading"))
 
 abbrev pub member : List ℕ → Constant
 member n =
-    if bytes_eq n (codes "start_new_thread") then Builtin START_NEW_THREAD else (
-    if bytes_eq n (codes "allocate_lock") then Builtin ALLOCATE_LOCK else (
-    if bytes_eq n (codes "error") then Root 20 else (
-    if bytes_eq n (codes "Thread") then Builtin THREAD else Builtin LOCK)))
+    if bytes_eq n (codes "start_new_thread") then Builtin (builtin_number (codes "thread.start_new_thread")) else (
+    if bytes_eq n (codes "allocate_lock") then Builtin (builtin_number (codes "thread.allocate_lock")) else (
+    if bytes_eq n (codes "error") then Root (1 + class_number (codes "thread.error")) else (
+    if bytes_eq n (codes "Thread") then Builtin (builtin_number (codes "threading.Thread")) else Builtin (builtin_number (codes "threading.Lock")))))

@@ -6,8 +6,7 @@ ghost use Rattle.py_compile.specs.Statements.{all_stated, armed_count, armed_inn
 ghost use Rattle.py_compile.specs.Weights.{weights, weights_some};
 
 use crate::count::to_u32;
-use crate::names::split;
-use py_data::NoMemory;
+use py_base::{NoMemory, split};
 use py_tree::{Arm, Clause, Handler, Stmt};
 use sqlite_items::Items;
 use std::alloc::AllocError;

@@ -3,11 +3,10 @@ ghost use Rattle.std.specs.Prelude.{◌≡◌, [], IfOk, OnOk};
 ghost use Rattle.py_compile.specs.Tallies.{Listed, arm_uses, arms_uses, block_uses, clause_uses, done, handler_uses, handlers_uses, inside, locals_in, tally};
 ghost use Rattle.py_compile.specs.Uses.{cells_from, import_use, module_uses, read_defaults, stmt_uses, texts_from};
 
-use crate::names::split;
 use crate::simple::bound_name;
 use crate::tally::{Place, Tally};
 use crate::uses::{Role, expression, expressions, some};
-use py_data::NoMemory;
+use py_base::{NoMemory, split};
 use py_names::NameSet;
 use py_tree::{Arm, Clause, Handler, Imported, Param, Stmt};
 use std::alloc::Global;

@@ -1,7 +1,7 @@
 //! Counts as numbers of 32 bits.
 ghost use Rattle.std.specs.Prelude.{◌≡◌, IfOk};
 
-use py_data::NoMemory;
+use py_base::NoMemory;
 use std::alloc::AllocError;
 
 /// A count as a number of 32 bits. No list in memory is too long for it.

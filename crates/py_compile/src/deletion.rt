@@ -2,8 +2,7 @@
 ghost use Rattle.std.specs.Prelude.{◌≡◌, ◌++◌, ◌∷◌, [], map, IfOk, OnOk};
 ghost use Rattle.py_compile.specs.Deletions.{SameDeletions};
 
-use crate::names::split;
-use py_data::NoMemory;
+use py_base::{NoMemory, split};
 use py_tree::Expr;
 use sqlite_items::Items;
 use std::alloc::Global;

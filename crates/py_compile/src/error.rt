@@ -2,9 +2,9 @@
 ghost use Rattle.std.specs.Prelude.{◌≡◌};
 ghost use Rattle.py_compile.specs.declared.error.Fault.TheVariants.{OutOfMemory};
 ghost use Rattle.py_compile.specs.declared.error.CompileError.TheVariants.{Refused};
-ghost use Rattle.py_data.specs.declared.refusal.Refusal.TheVariants.{TooLarge};
+ghost use Rattle.py_base.specs.declared.refusal.Refusal.TheVariants.{TooLarge};
 
-use py_data::Refusal;
+use py_base::Refusal;
 use std::alloc::AllocError;
 use thiserror::Error;
 

@@ -23,14 +23,15 @@ use crate::count::to_u32;
 use crate::draft::{Draft, Far};
 use crate::emitter::Emitter;
 use crate::error::Fault;
-use crate::names::{Names, split};
+use crate::names::Names;
 use crate::target;
 use crate::task::{Task, Tasks};
-use py_code::{Constant, Instr, operator};
+use py_base::{operator, split};
+use py_code::{Constant, Instr};
 use py_tree::{Expr, Level, Link, Named, Operator, Pair, Sign, Trailer};
 use sqlite_items::Boxed;
 
-/// The number of an operator (`py_code::operator`).
+/// The number of an operator (`py_base::operator`).
 pub fn operator_number(o: Operator) -> u8
     ensures { result ≡ operator o }
 {

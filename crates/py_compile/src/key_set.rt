@@ -9,9 +9,8 @@ ghost use Rattle.py_compile.specs.Expressions.{key_names};
 ghost use Rattle.py_compile.specs.Names.{list_number, same_names};
 ghost use Rattle.py_compile.specs.Uses.{with_keys};
 
-use crate::names::split;
 use indexmap::IndexSet;
-use py_data::NoMemory;
+use py_base::{NoMemory, split};
 use py_tree::Named;
 use std::alloc::Global;
 use std::hash::{Hash, Hasher};

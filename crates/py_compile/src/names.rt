@@ -96,13 +96,6 @@ impl<'s, 'a> Names<'s, 'a> {
     }
 }
 
-/// The first of these and the others.
-pub fn split<T>(items: &[T]) -> Option<(&T, &[T])>
-    ensures { MatchOption result (items.now ≡ []) (λ p. items.now ≡ p.0.now ∷ p.1.now) }
-{
-    items.split_first()
-}
-
 /// The place of a name, or 0 where it isn't there.
 fn place(names: &NameSet, name: &[u8]) -> usize
     ensures place { result ≡ number_in name.now names.now }

@@ -10,9 +10,8 @@ ghost use Rattle.py_compile.specs.Table.{Around, class, def};
 
 use crate::bodies::{bodies_in_block, clause_body, sum};
 use crate::deletion::single_targets;
-use crate::names::split;
 use crate::plan::{Plan, PlanArm, PlanHandler, Simple};
-use py_data::{Bytes, NoMemory};
+use py_base::{Bytes, NoMemory, split};
 use py_tree::{Arm, Clause, Expr, Handler, Param, Stmt};
 use sqlite_items::Items;
 use std::alloc::Global;

@@ -16,9 +16,10 @@ use crate::draft::{Draft, Far};
 use crate::emitter::Emitter;
 use crate::error::Fault;
 use crate::expression::expression;
-use crate::names::{Names, split};
+use crate::names::Names;
 use crate::target::{augment, delete_one, store};
-use py_code::{Constant, Instr, builtin};
+use py_base::{builtin, exception, split};
+use py_code::{Constant, Instr};
 use py_tree::{Expr, Imported, Operator, Param};
 
 /// The root that is the class `object`.
@@ -28,7 +29,7 @@ const OBJECT: u32 = 1;
 const ASSERTION_ERROR: u32 = 13;
 
 /// The root that is the class `thread.error`.
-const THREAD_ERROR: u32 = 20;
+const THREAD_ERROR: u32 = 1 + exception::THREAD_ERROR as u32;
 
 /// A value, or None.
 pub fn value_or_none(

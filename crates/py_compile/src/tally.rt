@@ -7,7 +7,7 @@ ghost use Rattle.py_compile.specs.Uses.{Keys, Text, name_bound, name_read};
 
 use crate::expression::is_none;
 use crate::key_set::KeySet;
-use py_data::NoMemory;
+use py_base::NoMemory;
 use py_names::NameSet;
 use py_tree::Named;
 use std::alloc::{AllocError, Global};

@@ -13,8 +13,9 @@ use crate::count::to_u32;
 use crate::emitter::Emitter;
 use crate::error::Fault;
 use crate::expression::{operator_number, run};
-use crate::names::{Names, split};
+use crate::names::Names;
 use crate::task::{Task, Tasks};
+use py_base::split;
 use py_code::Instr;
 use py_tree::{Expr, Operator, Trailer};
 

@@ -3,9 +3,8 @@ ghost use Rattle.std.specs.Prelude.{◌≡◌, ◌++◌, OnOk};
 ghost use Rattle.py_compile.specs.Tallies.{inside, read_links, read_named, read_pairs, read_trailers, tally, told, told_all, told_some};
 ghost use Rattle.py_compile.specs.Uses.{read_some, used_trailer};
 
-use crate::names::split;
 use crate::tally::{Place, Tally};
-use py_data::NoMemory;
+use py_base::{NoMemory, split};
 use py_names::NameSet;
 use py_tree::{Expr, Link, Named, Pair, Trailer};
 use sqlite_items::Boxed;

@@ -5,7 +5,7 @@ use Rattle.std.proofs.lemmas.Bool.Decides.{nat_tests}
 use Rattle.py_data.specs.declared.value.Value.{Value}
 use Rattle.py_data.specs.declared.change.Change.{Change}
 use Rattle.py_data.specs.declared.change.Change.TheVariants.{Set, Push, Cut, Pair, Unpair}
-use Rattle.py_data.specs.declared.value.Kind.{Kind}
+use Rattle.py_base.specs.declared.kind.Kind.{Kind}
 use Rattle.py_data.specs.Changes.{after, IsFor}
 use Rattle.py_data.specs.Heap.{Heap, Rec, put_at, is_tracked, with_push}
 use Rattle.py_data.specs.Row.{Call, Reply, Row, Ret, Do, Read, Find, Edit, Make, Start, Put, Take, MidLine, SetMidLine}

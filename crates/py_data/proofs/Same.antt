@@ -66,7 +66,7 @@ names_then c s r m t more rest a e =
     ap (λ l. l ++ rest) (e ∙ ap (λ l. l ++ more) (act_made c s r m a) ∙ append_assoc s.made (names_of c r) more) ∙ append_assoc s.made (names_of c r ++ more) rest ∙ ap (λ l. s.made ++ l) (append_assoc (names_of c r) more rest)
 
 -- two equal records at an address
-one_rec : (o : Option Rec) (r q : Rec) → o ≡ Some r → o ≡ Some q → q ≡ r
+pub one_rec : (o : Option Rec) (r q : Rec) → o ≡ Some r → o ≡ Some q → q ≡ r
 one_rec o r q e f = let g : Some q ≡ Some r = sym f ∙ e in cc
 
 same_edited : {S : Type 0} (a : ℕ) (x : Change) (s t t' : Sight S) → Edited a x s t → Edited a x s t' → t' ≡ t

@@ -29,10 +29,22 @@ there-is h a r p P e x = subst (λ o. MatchOption o (p ≡ true) P) (sym e) x
 pub there-of : (h : Heap) (a : ℕ) (r : Rec) (p : Bool) (P : Rec → Type 0) → h a ≡ Some r → MatchOption (h a) (p ≡ true) P → P r
 there-of h a r p P e x = subst (λ o. MatchOption o (p ≡ true) P) e x
 
+-- the conditions of a part
+pub safe-first : {S A B : Type 0} (q : Bool) (p : Row S A) (f : A → Row S B) (h : Heap) → Safe q (bind p f) h → Safe q p h
+unfolding Safe bind
+safe-first q (Ret x) f h s = tt
+safe-first q (Do c k) f h s = (s.0, λ r h1 e. safe-first q (k r) f h1 (s.1 r h1 e))
+
 -- a change of a record that is there may be made
 pub asks-edit : (S : Type 0) (p : Bool) (h : Heap) (a : ℕ) (r : Rec) (c : Change) → h a ≡ Some r → Allows c r → Suits p h c r → Asks {S = S} p (Edit a c) h
 unfolding Asks
 asks-edit S p h a r c e allows suits = there-is h a r p (λ r. Allows c r × Suits p h c r) e (allows, suits)
+
+-- a row is safe where its first part is, and what follows it is safe over every heap
+pub safe-bind : {S A B : Type 0} (q : Bool) (p : Row S A) (f : A → Row S B) (h : Heap) → Safe q p h → ((a : A) (h1 : Heap) → Safe q (f a) h1) → Safe q (bind p f) h
+unfolding Safe bind
+safe-bind q (Ret x) f h s more = more x h
+safe-bind q (Do c k) f h s more = (s.0, λ r h1 e. safe-bind q (k r) f h1 (s.1 r h1 e) more)
 
 module _ {S X A B : Type 0} (u : Sense S X) where
   pub meets-bind : (p : Row S A) (f : A → Row S B) (v m w : X) (a : A) (res : Result B Stop) → Meets u p v m (Ok a) → Meets u (f a) m w res → Meets u (bind p f) v w res
@@ -44,12 +56,7 @@ module _ {S X A B : Type 0} (u : Sense S X) where
   unfolding Meets
   meets-bind-err p f v w e h = stop-first u p f v w e h
 
-  -- the conditions of a part, and of what follows it
-  pub safe-first : (q : Bool) (p : Row S A) (f : A → Row S B) (h : Heap) → Safe q (bind p f) h → Safe q p h
-  unfolding Safe bind
-  safe-first q (Ret x) f h s = tt
-  safe-first q (Do c k) f h s = (s.0, λ r h1 e. safe-first q (k r) f h1 (s.1 r h1 e))
-
+  -- the conditions of what follows a part
   pub safe-then : (L : Lawful u) (p : Row S A) (f : A → Row S B) (v w : X) (a : A) → Safe u.partial (bind p f) (u.heap v) → Meets u p v w (Ok a) → Safe u.partial (f a) (u.heap w)
   unfolding Safe bind Meets Run
   safe-then L (Ret x) f v w a s m = subst (λ z. Safe u.partial (f a) (u.heap z)) (sym m.1) (subst (λ z. Safe u.partial (f z) (u.heap v)) (sym m.0) s)
@@ -123,11 +130,15 @@ module _ {S X : Type 0} {u : Sense S X} where
 -- what a safe row asks of a part, after a look at a record
 pub part-after : {S X A B : Type 0} {u : Sense S X} (L : Lawful u) (a : ℕ) (k : Rec → Row S B) (v m : X) (r : Rec) (p : Row S A) (f : A → Row S B)
     → Safe u.partial (Do (Read a) k) (u.heap v) → u.does (Read a) v r m → k r ≡ bind p f → Safe u.partial p (u.heap m)
-part-after {u = u} L a k v m r p f s d e = safe-first u u.partial p f (u.heap m) (subst (λ z. Safe u.partial z (u.heap m)) e (safe-next L (Read a) k v m r s d))
+part-after {u = u} L a k v m r p f s d e = safe-first u.partial p f (u.heap m) (subst (λ z. Safe u.partial z (u.heap m)) e (safe-next L (Read a) k v m r s d))
 
 -- what a safe row asks after a part
 pub asks-then : {S X A B : Type 0} (u : Sense S X) (L : Lawful u) (p : Row S A) (f : A → Row S B) (v w : X) (a : A) (c : Call S) (k : Reply c → Row S B)
     → Safe u.partial (bind p f) (u.heap v) → Meets u p v w (Ok a) → f a ≡ Do c k → Asks u.partial c (u.heap w)
 asks-then u L p f v w a c k s m e = safe-asks u.partial c k (u.heap w) (subst (λ z. Safe u.partial z (u.heap w)) e (safe-then u L p f v w a s m))
 
-pub ruleset call_steps = (meets-bind, meets-bind-err, safe-first, safe-then, live-after, stop-as, part-after, asks-then)
+-- what a safe row asks behind a part, where what follows is known by another name
+pub safe-rest : {S X A B : Type 0} {u : Sense S X} (L : Lawful u) (p : Row S A) (f : A → Row S B) (rest : Row S B) (v w : X) (a : A) → Meets u p v w (Ok a) → Safe u.partial (bind p f) (u.heap v) → f a ≡ rest → Safe u.partial rest (u.heap w)
+safe-rest {u = u} L p f rest v w a m s e = subst (λ z. Safe u.partial z (u.heap w)) e (safe-then u L p f v w a s m)
+
+pub ruleset call_steps = (meets-bind, meets-bind-err, safe-first, safe-rest, live-after, stop-as, part-after, asks-then)

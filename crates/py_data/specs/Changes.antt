@@ -2,8 +2,8 @@
 -- "Records" and "Views".
 use Rattle.std.specs.Prelude.{◌≡◌, ℕ, ◌+◌, ◌*◌, ◌<◌, ◌≤◌, Bool, true, false, length, Some, None}
 use Rattle.py_data.specs.declared.value.Value.{Value}
-use Rattle.py_data.specs.declared.value.Kind.{Kind}
-use Rattle.py_data.specs.declared.value.Kind.TheVariants.{List as ListKind, Dict}
+use Rattle.py_base.specs.declared.kind.Kind.{Kind}
+use Rattle.py_base.specs.declared.kind.Kind.TheVariants.{List as ListKind, Dict}
 use Rattle.py_data.specs.declared.record.TheConstants.{LENGTH_LIMIT}
 use Rattle.py_data.specs.Heap.{Heap, Rec, put_at, is_tracked, with_value, with_push, cut_to, with_pair, without_pair}
 use Rattle.py_data.specs.Shape.{Fits, find}
@@ -68,3 +68,7 @@ Replaced a f h h1 = (q : Rec) × (h a ≡ Some q) × (h1 ≡ put_at h a (f q))
 -- no record has more values or bytes than the limit
 abbrev pub IsShort : Rec → Type 0
 IsShort r = (length r.values ≤ LENGTH_LIMIT) × (length r.bytes ≤ LENGTH_LIMIT)
+
+-- all records of a heap are within the limit
+pub record AreShort (h : Heap) : Type 0 where
+  pub each : (a : ℕ) (r : Rec) → h a ≡ Some r → IsShort r

@@ -1,13 +1,15 @@
 -- Which values can be keys, when two keys are equal, and the shape of the values of each kind of record. States
 -- `docs/HEAP.md`, "Keys" and "Shapes".
-use Rattle.std.specs.Prelude.{nat_eq, ◌≡◌, ◌≢◌, ℕ, ℤ, pos, negsuc, ◌+ℤ◌, ◌*ℤ◌, ◌≤ℤ◌, ◌+◌, ◌*◌, ◌≤◌, Bool, true, false, cond, List, [], ◌∷◌, Option, Some, None, eqb}
+use Rattle.std.specs.Prelude.{nat_eq, ◌≡◌, ◌≢◌, ℕ, ℤ, pos, ◌+◌, ◌≤◌, Bool, true, false, cond, List, [], ◌∷◌, Option, Some, None, eqb}
 use Rattle.std.specs.Ordering.{int_eq}
 use lib.Pointwise.{pointwise}
 use Rattle.py_data.specs.declared.value.Value.{Value}
 use Rattle.py_data.specs.declared.value.Value.TheVariants.{Unset, None as NoneValue, Bool as BoolValue, Int, Ref, Builtin}
-use Rattle.py_data.specs.declared.value.Kind.{Kind}
-use Rattle.py_data.specs.declared.value.Kind.TheVariants.{Str, Tuple, List as ListKind, Dict, Cell, Function, Class, Instance, Method, Iter, Range, Lock, Thread}
+use Rattle.py_base.specs.declared.kind.Kind.{Kind}
+use Rattle.py_base.specs.declared.kind.Kind.TheVariants.{Str, Tuple, List as ListKind, Dict, Cell, Function, Class, Instance, Method, Iter, Range, Lock, Thread}
+use Rattle.py_data.specs.Every.{Every}
 use Rattle.py_data.specs.Heap.{Rec, Heap, has_bytes}
+use Rattle.py_data.specs.Range.{IsRange}
 
 -- the bytes of a record of a kind that has some
 abbrev pub text_by : Kind → List ℕ → Option (List ℕ)
@@ -111,16 +113,6 @@ abbrev pub NoneOr : (Value → Type 0) → Value → Type 0
 NoneOr p NoneValue = Unit {0}
 NoneOr p v = p v
 
--- from start, so many steps come to stop or past it: a range has at most so many items
-abbrev pub EndsWithin : ℕ → ℤ → ℤ → ℤ → Type 0
-EndsWithin n start stop (pos k) = stop ≤ℤ (start +ℤ pos (n * k))
-EndsWithin n start stop (negsuc k) = (start +ℤ (pos n *ℤ negsuc k)) ≤ℤ stop
-
--- a range: three integers, of which the step isn't 0, and a length that has 63 bits
-abbrev pub IsRange : Value → Value → Value → Type 0
-IsRange (Int start) (Int stop) (Int step) = (step ≢ pos 0) × EndsWithin 9_223_372_036_854_775_807 start stop step
-IsRange _ _ _ = ⊥
-
 -- the number of a thread that a script can start
 abbrev pub IsThreadNumber : Value → Type 0
 IsThreadNumber (Int (pos n)) = (1 ≤ n) × (n ≤ 1_023)
@@ -157,7 +149,7 @@ HasShape h Class (name ∷ base ∷ attributes ∷ []) = RefTo h Str name × Non
 HasShape h Instance (of ∷ attributes ∷ []) = RefTo h Class of × RefTo h Dict attributes
 HasShape h Method (f ∷ own ∷ []) = IsCallable h f
 HasShape h Iter (over ∷ at ∷ count ∷ []) = IsIterable h over × IsCount at × IsCount count
-HasShape h Range (start ∷ stop ∷ step ∷ []) = IsRange start stop step
+HasShape h Range vs = IsRange vs
 HasShape h Lock (held ∷ []) = IsBool held
 HasShape h Thread (target ∷ args ∷ number ∷ ended ∷ []) = RefTo h Tuple args × NoneOr IsThreadNumber number × IsBool ended
 HasShape h _ _ = ⊥
@@ -174,8 +166,7 @@ OnlyStrings k bs = BytesIf (has_bytes k) bs
 -- Unset stands in cells alone
 abbrev pub HoldsNoUnset : Kind → List Value → Type 0
 HoldsNoUnset Cell vs = Unit {0}
-HoldsNoUnset k [] = Unit {0}
-HoldsNoUnset k (v ∷ vs) = (v ≢ Unset) × HoldsNoUnset k vs
+HoldsNoUnset _ vs = Every (λ v. v ≢ Unset) vs
 
 -- the record has its kind's shape
 abbrev pub IsShaped : Heap → Rec → Type 0

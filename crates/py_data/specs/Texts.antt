@@ -1,10 +1,11 @@
 -- The texts of values, as `repr` and `str` write them, by recursion on the values. An exception's `str` isn't among them.
 -- States `docs/HEAP.md`, "Texts".
-use Rattle.std.specs.Prelude.{ℕ, zero, suc, ℤ, Bool, true, false, List, [], ◌∷◌, ◌++◌, Option, Some, None, codes}
+use Rattle.std.specs.Prelude.{ℕ, zero, suc, ℤ, List, [], ◌∷◌, ◌++◌, Option, Some, None, codes}
 use Rattle.py_data.specs.declared.value.Value.{Value}
 use Rattle.py_data.specs.declared.value.Value.TheVariants.{Unset, None as NoneValue, Bool as BoolValue, Int, Ref, Builtin}
-use Rattle.py_data.specs.declared.value.Kind.{Kind}
-use Rattle.py_data.specs.declared.value.Kind.TheVariants.{Str, Tuple, List as ListKind, Dict, Cell, Function, Class, Instance, Method, Iter, Range, Lock, Thread}
+use Rattle.py_base.specs.declared.kind.Kind.{Kind}
+use Rattle.py_base.specs.declared.kind.Kind.TheVariants.{Str, Tuple, List as ListKind, Dict, Cell, Function, Class, Instance, Method, Iter, Range, Lock, Thread}
+use Rattle.py_base.specs.Numbers.{truth_text}
 use Rattle.py_data.specs.declared.record.Got.{Got}
 use Rattle.py_data.specs.declared.record.Got.TheVariants.{Is, Raise}
 use Rattle.py_data.specs.Fault.{depth_fault}
@@ -73,10 +74,6 @@ name_of h v = []
 abbrev pub method_name : Spelling → Heap → Value → List ℕ
 method_name s h (Builtin b) = s.builtin b
 method_name s h v = name_of h v
-
-abbrev pub truth_text : Bool → List ℕ
-truth_text true = codes "True"
-truth_text false = codes "False"
 
 -- a record of this kind, at this address
 abbrev pub record_text : Spelling → Heap → Parts → Value → Kind → Rec → Got (List ℕ)

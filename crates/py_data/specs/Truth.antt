@@ -1,20 +1,20 @@
 -- Which values are true. States `docs/HEAP.md`, "Truth".
-use Rattle.std.specs.Prelude.{ℕ, pos, negsuc, Bool, true, false, not, List, [], ◌∷◌, int_lt}
+use Rattle.std.specs.Prelude.{ℕ, pos, Bool, true, false, not, List, [], ◌∷◌, nat_lt}
 use Rattle.std.specs.Ordering.{int_eq}
 use Rattle.py_data.specs.declared.value.Value.{Value}
 use Rattle.py_data.specs.declared.value.Value.TheVariants.{Unset, None as NoneValue, Bool as BoolValue, Int, Ref, Builtin}
-use Rattle.py_data.specs.declared.value.Kind.{Kind}
-use Rattle.py_data.specs.declared.value.Kind.TheVariants.{Str, Tuple, List as ListKind, Dict, Range}
+use Rattle.py_base.specs.declared.kind.Kind.{Kind}
+use Rattle.py_base.specs.declared.kind.Kind.TheVariants.{Str, Tuple, List as ListKind, Dict, Range}
 use Rattle.py_data.specs.Heap.{Heap, at}
+use Rattle.py_data.specs.Range.{range_length}
 
 abbrev pub is_filled : {A : Type 0} → List A → Bool
 is_filled [] = false
 is_filled (x ∷ xs) = true
 
--- whether a range has an item: its stop isn't reached at the start
+-- whether a range has an item
 abbrev pub has_item : List Value → Bool
-has_item (Int start ∷ Int stop ∷ Int (pos step) ∷ []) = int_lt start stop
-has_item (Int start ∷ Int stop ∷ Int (negsuc step) ∷ []) = int_lt stop start
+has_item (Int start ∷ Int stop ∷ Int step ∷ []) = nat_lt 0 (range_length start stop step)
 has_item _ = false
 
 -- a record of this kind is true unless it is empty; of kinds that can't be empty each is

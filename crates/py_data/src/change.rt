@@ -2,9 +2,9 @@
 ghost use Rattle.std.specs.Prelude.{◌≡◌, IfOk};
 ghost use Rattle.py_data.specs.Changes.{after, Allows, IsShort};
 
-use crate::collection::NoMemory;
 use crate::entry::Entry;
 use crate::value::Value;
+use py_base::NoMemory;
 use std::alloc::Global;
 
 /// One change of a record, as the calls of a view ask for it.

@@ -3,10 +3,10 @@ ghost use Rattle.std.specs.Prelude.{◌≡◌, ℕ, ◌+◌, ◌*◌, ◌^◌, �
 ghost use Rattle.py_data.specs.Heap.{has_rooms, room_of, room_for, power_above, with_pair_at};
 
 use crate::change::Change;
-use crate::collection::{Bytes, NoMemory, Values};
 use crate::record::{LENGTH_LIMIT, Record};
 use crate::undo::Undo;
-use crate::value::{Kind, Value};
+use crate::value::{Value, Values};
+use py_base::{Bytes, Kind, NoMemory};
 use std::alloc::Global;
 use std::marker::Model;
 
@@ -42,7 +42,7 @@ impl Entry {
     ghost use Rattle.py_data.specs.Made.{rec_of};
     ghost use Rattle.py_data.specs.Undo.{before, CanTakeBack, HasPlaces, IsUndo};
     ghost use Rattle.py_data.specs.declared.change.Change.TheVariants as change;
-    ghost use Rattle.py_data.specs.declared.value.Kind.TheVariants as kind;
+    ghost use Rattle.py_base.specs.declared.kind.Kind.TheVariants as kind;
 
     /// The entry of a record that is made now, with the room of its kind and count of values. It copies both lists.
     pub fn of(alloc: Global, made: &Record) -> Result<Entry, NoMemory>

@@ -1,53 +1,19 @@
-//! The exception classes by their numbers, and how an operation raises one.
+//! The exception classes by their numbers, and how an operation raises an exception.
 ghost use Rattle.std.specs.Prelude.{◌≡◌, MatchResult};
 ghost use Rattle.py_data.specs.declared.record.Got.TheVariants.{Raise};
 ghost use Rattle.py_data.specs.declared.stop.Stop.TheVariants.{OutOfMemory};
 ghost use Rattle.py_data.specs.Fault.{text_fault};
 
-use crate::collection::Bytes;
 use crate::record::{Fault, Got, With};
 use crate::stop::Stop;
+use py_base::Bytes;
+pub use py_base::exception::{
+    ARITHMETIC_ERROR, ASSERTION_ERROR, ATTRIBUTE_ERROR, BASE_EXCEPTION, COUNT, EOF_ERROR,
+    EXCEPTION, INDEX_ERROR, KEY_ERROR, LOOKUP_ERROR, MEMORY_ERROR, NAME_ERROR, OBJECT,
+    OVERFLOW_ERROR, RUNTIME_ERROR, STANDARD_ERROR, THREAD_ERROR, TYPE_ERROR, UNBOUND_LOCAL_ERROR,
+    VALUE_ERROR, ZERO_DIVISION_ERROR,
+};
 use std::alloc::Global;
-
-pub const OBJECT: u8 = 0;
-
-pub const BASE_EXCEPTION: u8 = 1;
-
-pub const EXCEPTION: u8 = 2;
-
-pub const STANDARD_ERROR: u8 = 3;
-
-pub const ARITHMETIC_ERROR: u8 = 4;
-
-pub const LOOKUP_ERROR: u8 = 5;
-
-pub const NAME_ERROR: u8 = 6;
-
-pub const ATTRIBUTE_ERROR: u8 = 7;
-
-pub const TYPE_ERROR: u8 = 8;
-
-pub const VALUE_ERROR: u8 = 9;
-
-pub const RUNTIME_ERROR: u8 = 10;
-
-pub const EOF_ERROR: u8 = 11;
-
-pub const ASSERTION_ERROR: u8 = 12;
-
-pub const MEMORY_ERROR: u8 = 13;
-
-pub const ZERO_DIVISION_ERROR: u8 = 14;
-
-pub const OVERFLOW_ERROR: u8 = 15;
-
-pub const INDEX_ERROR: u8 = 16;
-
-pub const KEY_ERROR: u8 = 17;
-
-pub const UNBOUND_LOCAL_ERROR: u8 = 18;
-
-pub const THREAD_ERROR: u8 = 19;
 
 /// The answer that raises an exception of that class with a text.
 pub fn raise<T>(alloc: Global, exc: u8, text: &[u8]) -> Result<Got<T>, Stop>

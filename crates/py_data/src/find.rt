@@ -4,7 +4,8 @@ ghost use Rattle.py_data.specs.Heap.{Heap};
 ghost use Rattle.py_data.specs.Shape.{find, same_key, text_in};
 
 use crate::entry::Entry;
-use crate::value::{Kind, Value};
+use crate::value::Value;
+use py_base::Kind;
 
 /// Records that can be looked up by their addresses.
 pub trait Records {

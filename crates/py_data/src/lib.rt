@@ -3,13 +3,12 @@
 
 pub mod arithmetic;
 mod change;
-mod collection;
 mod entry;
 pub mod exception;
 mod find;
 mod laws;
+mod order;
 mod record;
-mod refusal;
 mod stop;
 #[cfg(test)]
 mod tests;
@@ -18,13 +17,18 @@ mod value;
 mod view;
 
 pub use change::{Change, changed};
-pub use collection::{Bytes, Duplicate, Items, Log, Names, NoMemory, Values};
 pub use entry::Entry;
 pub use find::{Records, find_pair};
-pub use laws::{afresh_law, bind_law, frame_law, names_law, part_law, stop_law, world_law};
+pub use laws::{
+    afresh_law, bind_law, frame_law, holds_law, looks_law, names_law, order_law, part_law,
+    range_law, steady_law, stop_law, world_law,
+};
+pub use order::{Demands, Property};
+pub use py_base::{
+    Bytes, Construct, Duplicate, Items, Kind, Log, NoMemory, Refusal, builtin, operator,
+};
 pub use record::{Fault, Got, LENGTH_LIMIT, Record, With};
-pub use refusal::{Construct, Refusal};
 pub use stop::{Conflict, Conflicts, Out, Side, Stop};
 pub use undo::Undo;
-pub use value::{Addr, Kind, Value};
+pub use value::{Addr, Names, Value, Values};
 pub use view::{Peek, View};

@@ -1,6 +1,6 @@
 //! Records of the heap, and the answers of object operations.
-use crate::collection::{Bytes, Values};
-use crate::value::{Kind, Value};
+use crate::value::{Value, Values};
+use py_base::{Bytes, Kind};
 
 /// The most values, or bytes, of one record.
 pub const LENGTH_LIMIT: usize = 1_048_576;

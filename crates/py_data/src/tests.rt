@@ -1,7 +1,7 @@
-//! Rooms, numbers and lines by hand, and each call of a list once.
+//! Rooms by hand, and a list of conflicts copied.
 use crate::{
-    Bytes, Change, Construct, Entry, Items, Kind, LENGTH_LIMIT, Log, Record, Refusal, Value,
-    Values, changed,
+    Addr, Bytes, Change, Conflict, Conflicts, Entry, Kind, LENGTH_LIMIT, Record, Side, Value, Values,
+    changed,
 };
 use std::alloc::{AllocError, Global};
 use std::process::Abort;
@@ -10,42 +10,29 @@ use std::test;
 type Tested = Result<(), test::Fail>;
 
 #[test]
-fn lists(rt: HostRuntime) -> Tested {
-    let alloc = rt.alloc();
-    let mut items: Items<u8> = Items::new(alloc);
-    assert_eq!(rt; items.len(), 0);
-    items.push(7)?;
-    items.extend_from_slice(&[8, 9, 10])?;
-    assert_eq!(rt; items.as_slice(), [7, 8, 9, 10].as_slice());
-    assert_eq!(rt; items.len(), 4);
-    items.set(1, 20);
-    assert_eq!(rt; items.as_slice(), [7, 20, 9, 10].as_slice());
-    let copied = items.copy(alloc)?;
-    items.truncate(2);
-    assert_eq!(rt; items.as_slice(), [7, 20].as_slice());
-    items.truncate(5);
-    assert_eq!(rt; items.len(), 2);
-    assert!(rt; copied.len() == 4);
-    assert_eq!(rt; copied.at(3), 10);
-    assert!(rt; matches!(copied.get(3), Some(10)));
-    assert!(rt; matches!(copied.get(4), None));
-    let again = Bytes::from_slice(alloc, copied.as_slice())?;
-    assert_eq!(rt; again.as_slice(), [7, 20, 9, 10].as_slice());
-    Ok(())
-}
-
-#[test]
-fn logs(rt: HostRuntime) -> Tested {
-    let mut log: Log<u8> = Log::new(rt.alloc());
-    log.push(3)?;
-    log.reserve(5)?;
-    for x in 4..9 {
-        log.push(x)?;
-    }
-    assert_eq!(rt; log.len(), 6);
-    assert!(rt; matches!(log.get(0), Some(3)));
-    assert!(rt; matches!(log.get(5), Some(8)));
-    assert!(rt; matches!(log.get(6), None));
+fn conflicts(rt: HostRuntime) -> Tested {
+    let writer = Side {
+        segment: 0,
+        thread: 1,
+        begun: 1,
+        solo: false,
+    };
+    let lost = Conflict {
+        at: Addr(7),
+        writer,
+        other: Side {
+            segment: 1,
+            ..writer
+        },
+        asks: true,
+        lost: 1,
+    };
+    let mut conflicts = Conflicts::new(rt.alloc());
+    conflicts.push(lost)?;
+    let copied = conflicts.copy(rt.alloc())?;
+    conflicts.push(Conflict { lost: 0, ..lost })?;
+    assert_eq!(rt; copied.len(), 1);
+    assert!(rt; matches!(copied.get(0), Some(conflict) if *conflict == lost));
     Ok(())
 }
 
@@ -190,27 +177,4 @@ fn a_changed_copy(rt: HostRuntime) -> Tested {
     assert_eq!(rt; cut.bytes().len(), 0);
     assert_eq!(rt; list.values().len(), 3);
     Ok(())
-}
-
-#[test]
-fn refusals(rt: HostRuntime) {
-    let construct = Construct::Lambda;
-    let rows = [
-        Refusal::BadCharacter { line: 1 },
-        Refusal::BadDedent { line: 2 },
-        Refusal::OpenString { line: 3 },
-        Refusal::NumberWide { line: 4 },
-        Refusal::Unexpected { line: 5 },
-        Refusal::LeftOut { construct, line: 6 },
-        Refusal::Deep { line: 7 },
-        Refusal::Misplaced { line: 8 },
-        Refusal::Doubled { line: 9 },
-        Refusal::Closure { line: 10 },
-        Refusal::TooLarge { line: 11 },
-        Refusal::BadEscape { line: 12 },
-    ];
-    for refusal in rows {
-        let number = refusal.number();
-        assert_eq!(rt; number as u32, refusal.line(), "{refusal:?}");
-    }
 }

@@ -1,6 +1,5 @@
 //! What takes a change of a record back.
-use crate::collection::Values;
-use crate::value::Value;
+use crate::value::{Value, Values};
 
 /// What takes one change of a record back. It has what the change took away, and no more.
 #[derive(Debug, Drop)]

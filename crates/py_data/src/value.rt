@@ -1,4 +1,5 @@
-//! Addresses, values and kinds of records.
+//! Addresses and values.
+use py_base::Items;
 
 /// The address of a record in the heap.
 #[derive(Clone, Copy, Debug, Drop, PartialEq, Eq)]
@@ -18,21 +19,8 @@ pub enum Value {
     Builtin(u8),
 }
 
-/// The kind of a record. Records of the kinds List, Dict, Cell, Iter, Lock and Thread are tracked: they change, and a
-/// look at one counts. The others are fixed: they never change once made.
-#[derive(Clone, Copy, Debug, Drop, PartialEq, Eq)]
-pub enum Kind {
-    Str,
-    Tuple,
-    List,
-    Dict,
-    Cell,
-    Function,
-    Class,
-    Instance,
-    Method,
-    Iter,
-    Range,
-    Lock,
-    Thread,
-}
+/// Values, as a record holds them.
+pub type Values = Items<Value>;
+
+/// The addresses that a turn's new records got, in order.
+pub type Names = Items<Addr>;

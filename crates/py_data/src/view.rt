@@ -8,7 +8,8 @@ ghost use Rattle.py_data.specs.Made.{rec_of};
 
 use crate::record::{LENGTH_LIMIT, Record};
 use crate::stop::{Out, Stop};
-use crate::value::{Addr, Kind, Value};
+use crate::value::{Addr, Value};
+use py_base::Kind;
 
 /// A committed heap, to be looked at. It takes no memory, and no look is noted.
 pub trait Peek {

@@ -1,6 +1,5 @@
 pub mod Said
 pub mod Says
-mod NameLists
 mod Added
 mod Tables
 mod Closures

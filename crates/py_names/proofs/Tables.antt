@@ -7,7 +7,7 @@ use Rattle.py_names.specs.declared.event.BodyKind.{BodyKind}
 use Rattle.py_names.specs.declared.event.Event.{Event}
 use Rattle.py_names.specs.declared.event.Event.TheVariants.{Enter, Leave, Takes, Uses, Binds, Declares, Misplaced, Doubled}
 use Rattle.py_names.specs.Scopes.{Names, names_from, names_after, no_names, Placed, placed, bodies, said_in, is_first, scope_of, body, first_fault, fault, AreScopes}
-use Rattle.py_data.specs.declared.refusal.Refusal.{Refusal}
+use Rattle.py_base.specs.declared.refusal.Refusal.{Refusal}
 use Rattle.py_names.specs.declared.scope.Scope.{Scope}
 use Rattle.py_names.specs.Tables.{at, told, tables_by}
 

@@ -1,8 +1,8 @@
 -- The scope of each body, and the places that are refused. States `docs/LANGUAGE.md`, "Names and their scopes".
 use Rattle.std.specs.Prelude.{◌≡◌, ℕ, ◌+◌, ◌<◌, ◌==◌, Bool, true, false, ◌&&◌, not, if◌then◌else◌, List, [], ◌∷◌, length, drop, filter, slice_get, Option, Some, None}
 use Rattle.std.specs.List.{list_any}
-use Rattle.py_data.specs.declared.refusal.Refusal.{Refusal}
-use Rattle.py_data.specs.declared.refusal.Refusal.TheVariants as refusal
+use Rattle.py_base.specs.declared.refusal.Refusal.{Refusal}
+use Rattle.py_base.specs.declared.refusal.Refusal.TheVariants as refusal
 use Rattle.py_names.specs.declared.event.BodyKind.{BodyKind}
 use Rattle.py_names.specs.declared.event.BodyKind.TheVariants.{Module, Function}
 use Rattle.py_names.specs.declared.event.Event.{Event}

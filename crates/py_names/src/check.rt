@@ -6,10 +6,9 @@ ghost use Rattle.py_names.specs.Scopes.{bodies_after, first_fault, inside_after,
 ghost use Rattle.py_names.specs.Tables.{at};
 
 use crate::event::Event;
-use crate::expression::split;
 use crate::nest::Nest;
 use crate::table::Table;
-use py_data::{NoMemory, Refusal};
+use py_base::{NoMemory, Refusal, split};
 use std::alloc::Global;
 
 /// Whether a name is local to a body.

@@ -2,7 +2,7 @@
 ghost use Rattle.std.specs.Prelude.{◌≡◌};
 ghost use Rattle.py_names.specs.declared.error.NameFault.TheVariants.{OutOfMemory};
 
-use py_data::Refusal;
+use py_base::Refusal;
 use std::alloc::AllocError;
 use thiserror::Error;
 

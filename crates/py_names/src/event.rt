@@ -1,6 +1,6 @@
 //! What the text of a module says about names, in the order of the text.
 
-use py_data::Bytes;
+use py_base::Bytes;
 
 /// Whose statements a body has.
 #[derive(Clone, Copy, Debug, Drop, PartialEq, Eq)]

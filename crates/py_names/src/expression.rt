@@ -5,7 +5,7 @@ ghost use Rattle.py_names.specs.Roles.{told, told_all};
 
 use crate::names::NameSet;
 use crate::outline::Outline;
-use py_data::NoMemory;
+use py_base::{NoMemory, split};
 use py_tree::{Expr, Link, Named, Pair, Trailer};
 use sqlite_items::Boxed;
 
@@ -14,13 +14,6 @@ use sqlite_items::Boxed;
 pub enum Role {
     Read,
     Target,
-}
-
-/// The first of these and the others.
-pub fn split<T>(items: &[T]) -> Option<(&T, &[T])>
-    ensures { MatchOption result (items.now ≡ []) (λ p. items.now ≡ p.0.now ∷ p.1.now) }
-{
-    items.split_first()
 }
 
 /// Adds what an expression says.

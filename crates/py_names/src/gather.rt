@@ -4,11 +4,10 @@ ghost use Rattle.py_names.specs.Scopes.{inside_after, names_after, no_names, sco
 ghost use Rattle.py_names.specs.Tables.{chooses, tables_after, tables_by, told};
 
 use crate::event::Event;
-use crate::expression::split;
 use crate::nest::Nest;
 use crate::scope::{Scope, Scopes, Texts};
 use crate::table::Table;
-use py_data::{Bytes, NoMemory};
+use py_base::{Bytes, NoMemory, split};
 use sqlite_items::Items;
 use std::alloc::Global;
 

@@ -4,7 +4,7 @@ ghost use Rattle.std.specs.Str.{bytes_eq};
 ghost use Rattle.py_names.specs.Outline.{has, with_name};
 
 use indexmap::IndexSet;
-use py_data::NoMemory;
+use py_base::NoMemory;
 use std::alloc::Global;
 use std::marker::Model;
 

@@ -1,7 +1,7 @@
 //! The bodies that stand round a place.
 ghost use Rattle.std.specs.Prelude.{◌≡◌, ◌∷◌, [], drop, reverse, MatchOption, OnOk};
 
-use py_data::NoMemory;
+use py_base::NoMemory;
 use sqlite_items::Items;
 use std::alloc::Global;
 use std::marker::Model;

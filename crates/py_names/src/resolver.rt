@@ -10,7 +10,7 @@ use crate::gather::{scopes, tables};
 use crate::outline::Outline;
 use crate::scope::Scopes;
 use crate::statement::{Where, block};
-use py_data::NoMemory;
+use py_base::NoMemory;
 use py_tree::Module;
 use sqlite_items::Items;
 use std::alloc::Global;

@@ -1,6 +1,6 @@
 //! Scopes.
 
-use py_data::Bytes;
+use py_base::Bytes;
 use sqlite_items::Items;
 
 /// Names, or other texts.

@@ -5,7 +5,7 @@ ghost use Rattle.py_names.specs.Scopes.{is_function, is_local, names_after, no_n
 
 use crate::event::{BodyKind, Event};
 use crate::names::NameSet;
-use py_data::NoMemory;
+use py_base::NoMemory;
 use std::alloc::Global;
 use std::marker::Model;
 

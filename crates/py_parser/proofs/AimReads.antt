@@ -17,7 +17,7 @@ use Rattle.py_tree.specs.Form.{is_target, form}
 use Rattle.py_tree.specs.Height.{height, tops}
 use Rattle.py_tree.proofs.Heights as hh
 use Rattle.py_tree.proofs.Forms as ff
-use Rattle.py_data.specs.declared.refusal.Construct.TheVariants as left
+use Rattle.py_base.specs.declared.refusal.Construct.TheVariants as left
 use Rattle.py_parser.specs.Codes as c
 use Rattle.py_parser.specs.Words.{below, sign_word}
 use Rattle.py_parser.specs.Grammar as G

@@ -8,7 +8,7 @@ use Rattle.py_tokens.specs.declared.token.Place.{Place}
 use Rattle.py_tokens.specs.Place.{token_at as at}
 use Rattle.py_tree.specs.declared.expr.Expr.{Expr}
 use Rattle.py_tree.specs.declared.expr.Level.{Level}
-use Rattle.py_data.specs.declared.refusal.Construct.{Construct}
+use Rattle.py_base.specs.declared.refusal.Construct.{Construct}
 use Rattle.py_parser.specs.declared.fault.Fault.TheVariants.{LeftOut}
 use Rattle.py_parser.specs.Words.{below}
 use Rattle.py_parser.specs.Grammar.{Marks}
@@ -26,7 +26,7 @@ use Rattle.py_parser.specs.Grammar as G
 use Rattle.py_parser.specs.Grammar.{Is, Strings, Tests, Commas, Exprs, Pairs, Links, Trailers, Trails, Maybe, Args}
 use Rattle.py_parser.specs.Reading.{round_at, round_close, list_at, list_close, dict_at, dict_value, tests_at, strings_at, op_at, keyword_at, trailers_at, string_of, is_unicode}
 use Rattle.py_parser.specs.Codes as c
-use Rattle.py_data.specs.declared.refusal.Construct.TheVariants as left
+use Rattle.py_base.specs.declared.refusal.Construct.TheVariants as left
 
 -- ---- the first token
 

@@ -40,7 +40,7 @@ use Rattle.py_parser.specs.Grammar.{Is, Strings, Tests, Commas, Exprs, Pairs, Li
 use Rattle.py_tree.specs.Height.{top_or, highest}
 use Rattle.py_parser.specs.Reading.{op_at, keyword_at, name_at}
 use Rattle.py_parser.specs.Codes as c
-use Rattle.py_data.specs.declared.refusal.Construct.TheVariants as left
+use Rattle.py_base.specs.declared.refusal.Construct.TheVariants as left
 
 -- what begins no further clause
 abbrev pub clear : TokenKind → Bool

@@ -11,7 +11,7 @@ use Rattle.py_tree.specs.declared.expr.Level.{Level}
 use Rattle.py_tree.specs.declared.expr.Operator.{Operator}
 use Rattle.py_tree.specs.Height.{height}
 use Rattle.py_tree.specs.Form.{form}
-use Rattle.py_data.specs.declared.refusal.Construct.{Construct}
+use Rattle.py_base.specs.declared.refusal.Construct.{Construct}
 use Rattle.py_parser.specs.declared.fault.Fault.TheVariants.{LeftOut}
 use Rattle.py_parser.specs.Words.{below, level_of}
 use Rattle.py_parser.specs.Grammar.{Marks}
@@ -40,7 +40,7 @@ use Rattle.py_parser.specs.Grammar.{Is, Strings, Tests, Commas, Exprs, Pairs, Li
 use Rattle.py_tree.specs.Height.{top_or}
 use Rattle.py_parser.specs.Reading.{is_bare, is_none, linked, operator_of, round_close, list_close, dict_close, dict_value, tests_at, pairs_at, op_at, keyword_at, name_at, trailers_at, trailer_at, subscript_at, index_close, slice_at, slice_close, call_at, args_at, arg_by, named_at, keyed}
 use Rattle.py_parser.specs.Codes as c
-use Rattle.py_data.specs.declared.refusal.Construct.TheVariants as left
+use Rattle.py_base.specs.declared.refusal.Construct.TheVariants as left
 
 pub tests_nil : (r : Tall (List Expr)) → plus_tests r [] ≡ r
 tests_nil r = same (append-nil r.tree) (omega arith) refl

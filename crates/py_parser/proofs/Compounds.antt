@@ -9,7 +9,7 @@ use Rattle.py_tree.specs.declared.expr.Expr.{Expr}
 use Rattle.py_tree.specs.declared.expr.Expr.TheVariants as ex
 use Rattle.py_tree.specs.Height.{height, tops, top_or}
 use Rattle.py_tree.proofs.Heights as hh
-use Rattle.py_data.specs.declared.refusal.Construct.TheVariants as left
+use Rattle.py_base.specs.declared.refusal.Construct.TheVariants as left
 use Rattle.py_parser.specs.declared.fault.Fault.TheVariants.{Unexpected, LeftOut}
 use Rattle.py_parser.specs.Codes as c
 use Rattle.py_parser.specs.Grammar as G

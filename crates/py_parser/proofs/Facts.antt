@@ -9,7 +9,7 @@ use Rattle.py_tree.specs.declared.expr.Level.{Level}
 use Rattle.py_tree.specs.declared.expr.Level.TheVariants as level
 use Rattle.py_tree.specs.declared.expr.Operator.{Operator}
 use Rattle.py_tree.specs.declared.expr.Operator.TheVariants as op
-use Rattle.py_data.specs.declared.refusal.Construct.{Construct}
+use Rattle.py_base.specs.declared.refusal.Construct.{Construct}
 use Rattle.py_parser.specs.Words.{below, level_of, first_word}
 use Rattle.py_parser.specs.declared.tall.Tall.{Tall}
 use Rattle.py_parser.specs.declared.rung.Rung.TheVariants.{Chained}

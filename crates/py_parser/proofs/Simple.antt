@@ -43,7 +43,7 @@ use Rattle.py_tree.proofs.Talls as ht
 use Rattle.py_parser.specs.Grammar.{Is, Strings, Tests, Commas, Exprs, Pairs, Links, Trailers, Trails, Maybe, Args}
 use Rattle.py_parser.specs.Reading.{tests_at, keyword_at, name_at}
 use Rattle.py_parser.specs.Codes as c
-use Rattle.py_data.specs.declared.refusal.Construct.TheVariants as left
+use Rattle.py_base.specs.declared.refusal.Construct.TheVariants as left
 
 -- what may follow a simple statement
 pub data Ends : TokenKind → Type 0 where

@@ -12,7 +12,7 @@ use Rattle.py_tree.specs.declared.expr.Operator.TheVariants as op
 use Rattle.py_tree.specs.Height.{height, tops}
 use Rattle.py_tree.specs.Form.{is_single, form}
 use Rattle.py_tree.proofs.Heights as hh
-use Rattle.py_data.specs.declared.refusal.Construct.TheVariants as left
+use Rattle.py_base.specs.declared.refusal.Construct.TheVariants as left
 use Rattle.py_parser.specs.declared.fault.Fault.TheVariants.{Unexpected, LeftOut}
 use Rattle.py_parser.specs.Codes as c
 use Rattle.py_parser.specs.Grammar.{Marks, Exprs}

@@ -16,7 +16,7 @@ use Rattle.py_tree.specs.declared.form.Form.TheVariants.{Bare, Part, Cut, Many, 
 use Rattle.py_tree.specs.declared.expr.Trailer.{Trailer}
 use Rattle.py_tree.specs.Height.{height}
 use Rattle.py_tree.specs.Form.{is_target, is_single, all_targets, form, form_trailer}
-use Rattle.py_data.specs.declared.refusal.Construct.TheVariants as left
+use Rattle.py_base.specs.declared.refusal.Construct.TheVariants as left
 use Rattle.py_parser.specs.declared.fault.Fault.{Fault}
 use Rattle.py_parser.specs.declared.fault.Fault.TheVariants.{Unexpected, LeftOut}
 use Rattle.py_parser.specs.Grammar as G

@@ -7,7 +7,7 @@ use Rattle.py_tokens.specs.declared.token.Place.{Place}
 use Rattle.py_tokens.specs.Place.{token_at as at}
 use Rattle.py_tree.specs.declared.stmt.Stmt.{Stmt}
 use Rattle.py_tree.specs.Tall.{talls}
-use Rattle.py_data.specs.declared.refusal.Construct.{Construct}
+use Rattle.py_base.specs.declared.refusal.Construct.{Construct}
 use Rattle.py_parser.specs.declared.fault.Fault.{Fault}
 use Rattle.py_parser.specs.declared.fault.Fault.TheVariants.{Unexpected, LeftOut, Deep}
 use Rattle.py_parser.specs.Grammar.{Marks}

@@ -18,7 +18,7 @@ use Rattle.py_tree.specs.declared.expr.Trailer.TheVariants as t
 use Rattle.py_tree.specs.Height.{height, tops, tops_named, tops_trailers, height_trailer, top_or}
 use Rattle.py_tree.specs.Form.{form, form_trailer}
 use Rattle.py_tree.proofs.Heights as hh
-use Rattle.py_data.specs.declared.refusal.Construct.TheVariants as left
+use Rattle.py_base.specs.declared.refusal.Construct.TheVariants as left
 use Rattle.py_parser.specs.Codes as c
 use Rattle.py_parser.specs.Grammar as G
 use Rattle.py_parser.specs.Grammar.{Marks, Is, Strings, Tests, Commas, Exprs, Pairs, Links, Trailers, Trails, Maybe, Args}

@@ -8,7 +8,7 @@ use Rattle.py_tokens.specs.declared.token.TokenKind.{TokenKind}
 use Rattle.py_tokens.specs.declared.token.TokenKind.TheVariants as k
 use Rattle.py_tree.specs.Form.{is_target}
 use Rattle.py_tree.specs.declared.expr.Expr.{Expr}
-use Rattle.py_data.specs.declared.refusal.Construct.TheVariants as left
+use Rattle.py_base.specs.declared.refusal.Construct.TheVariants as left
 use Rattle.py_parser.specs.declared.fault.Fault.TheVariants.{Unexpected, LeftOut, Deep}
 use Rattle.py_parser.specs.declared.rung.Rung.{Rung}
 use Rattle.py_parser.specs.declared.rung.Rung.TheVariants.{Powered, Chained, Chosen}

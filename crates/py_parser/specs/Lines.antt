@@ -18,7 +18,7 @@ use Rattle.py_tree.specs.declared.stmt.Param.{Param}
 use Rattle.py_tree.specs.declared.stmt.Arm.{Arm}
 use Rattle.py_tree.specs.declared.stmt.Clause.{Clause}
 use Rattle.py_tree.specs.declared.stmt.Handler.{Handler}
-use Rattle.py_data.specs.declared.refusal.Construct.TheVariants as left
+use Rattle.py_base.specs.declared.refusal.Construct.TheVariants as left
 use Rattle.py_parser.specs.declared.fault.Fault.TheVariants.{Unexpected, LeftOut, Deep}
 use Rattle.py_parser.specs.Words.{assigned, is_module, is_member}
 use Rattle.py_parser.specs.Reading.{Reads, Reader, ◌>>=◌, first, rest, is_op, is_keyword, is_some, op_at, keyword_at, name_at, comes, tests_at}

@@ -1,7 +1,7 @@
 -- What a function returned, against what reading gives.
 use Rattle.std.specs.Prelude.{◌≡◌, ℕ, List, Result, Ok, Err}
-use Rattle.py_data.specs.declared.refusal.Refusal.{Refusal}
-use Rattle.py_data.specs.declared.refusal.Refusal.TheVariants as refusal
+use Rattle.py_base.specs.declared.refusal.Refusal.{Refusal}
+use Rattle.py_base.specs.declared.refusal.Refusal.TheVariants as refusal
 use Rattle.py_tokens.specs.declared.token.Token.{Token}
 use Rattle.py_parser.specs.declared.error.ParseError.{ParseError}
 use Rattle.py_parser.specs.declared.error.ParseError.TheVariants.{Refused, OutOfMemory}

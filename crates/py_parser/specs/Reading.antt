@@ -23,8 +23,8 @@ use Rattle.py_tree.specs.declared.expr.Operator.TheVariants as op
 use Rattle.py_tree.specs.declared.expr.Sign.{Sign}
 use Rattle.py_tree.specs.declared.expr.Sign.TheVariants as sign
 use Rattle.py_parser.specs.Words.{below}
-use Rattle.py_data.specs.declared.refusal.Construct.{Construct}
-use Rattle.py_data.specs.declared.refusal.Construct.TheVariants as left
+use Rattle.py_base.specs.declared.refusal.Construct.{Construct}
+use Rattle.py_base.specs.declared.refusal.Construct.TheVariants as left
 use Rattle.py_parser.specs.declared.fault.Fault.{Fault}
 use Rattle.py_parser.specs.declared.fault.Fault.TheVariants.{Unexpected, LeftOut, Deep}
 

@@ -17,7 +17,7 @@ use Rattle.py_tree.specs.declared.stmt.Param.{Param}
 use Rattle.py_tree.specs.declared.stmt.Arm.{Arm}
 use Rattle.py_tree.specs.declared.stmt.Clause.{Clause}
 use Rattle.py_tree.specs.declared.stmt.Handler.{Handler}
-use Rattle.py_data.specs.declared.refusal.Construct.TheVariants as left
+use Rattle.py_base.specs.declared.refusal.Construct.TheVariants as left
 use Rattle.py_parser.specs.Words.{line_of, augment_word, is_module, is_member}
 use Rattle.py_parser.specs.Grammar.{Marks, Is, Exprs, Tests, Maybe}
 

@@ -7,7 +7,7 @@ ghost use Rattle.py_parser.specs.Reading.{reads, first};
 ghost use Rattle.py_parser.specs.Tall.{start};
 ghost use Rattle.py_tokens.specs.declared.token.TokenKind.TheVariants as k;
 
-use crate::cursor::{Read, comes, keyword_next, no_start, op_next, refused, rest, split, starts};
+use crate::cursor::{Read, comes, keyword_next, no_start, op_next, refused, rest, starts};
 use crate::error::ParseError;
 use crate::expression::expression;
 use crate::fault::Fault;
@@ -16,7 +16,7 @@ use crate::node;
 use crate::reader::{TARGET, TEST};
 use crate::request::Request;
 use crate::tall::{HEIGHT_LIMIT, Tall, is_target, no_tests, push, start};
-use py_data::Construct;
+use py_base::{Construct, split};
 use py_tokens::{Token, TokenKind, keyword, operator};
 use py_tree::Expr;
 use sqlite_items::Items;

@@ -12,7 +12,7 @@ use crate::reader::TESTS;
 use crate::request::Request;
 use crate::tall::{HEIGHT_LIMIT, Tall, is_single};
 use crate::target::{TargetPlace, check_target};
-use py_data::Construct;
+use py_base::Construct;
 use py_tokens::{Token, keyword, operator};
 use py_tree::{Expr, Operator, Stmt};
 use sqlite_items::Items;

@@ -6,14 +6,14 @@ ghost use Rattle.py_parser.specs.Reading.{reads, first, string_of, is_unicode, s
 ghost use Rattle.py_parser.specs.Tall.{plain, push_pair};
 ghost use Rattle.py_tokens.specs.declared.token.TokenKind.TheVariants as k;
 
-use crate::cursor::{Read, comes, keyword_next, no_start, op_next, refused, rest, split, take_op};
+use crate::cursor::{Read, comes, keyword_next, no_start, op_next, refused, rest, take_op};
 use crate::error::ParseError;
 use crate::fault::Fault;
 use crate::node;
 use crate::reader::{Reader, TEST};
 use crate::request::Request;
 use crate::tall::{HEIGHT_LIMIT, Tall, no_tests, plain, push_pair};
-use py_data::{Bytes, Construct};
+use py_base::{Bytes, Construct, split};
 use py_tokens::{Other, Token, TokenKind, keyword, operator};
 use py_tree::{Expr, Pair};
 use sqlite_items::Items;

@@ -9,7 +9,7 @@ ghost use Rattle.py_parser.specs.Tall.{tree_or};
 
 use crate::cursor::{
     Read, dedent_next, indent_next, keyword_next, line_of, newline_next, op_next, refused, rest,
-    split, take_keyword, take_name, take_op,
+    take_keyword, take_name, take_op,
 };
 use crate::error::ParseError;
 use crate::expression::expression;
@@ -20,7 +20,7 @@ use crate::request::Request;
 use crate::simple_line::line;
 use crate::statement::tree_or;
 use crate::tall::{HEIGHT_LIMIT, Tall};
-use py_data::Construct;
+use py_base::{Construct, split};
 use py_tokens::{Token, TokenKind, keyword, operator};
 use py_tree::{Arm, Clause, Expr, Handler, Stmt};
 use sqlite_items::Items;

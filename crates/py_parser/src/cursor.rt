@@ -9,19 +9,12 @@ ghost use Rattle.py_tokens.specs.declared.token.TokenKind.TheVariants as k;
 
 use crate::error::ParseError;
 use crate::fault::Fault;
-use py_data::{Bytes, Construct};
+use py_base::{Bytes, Construct, split};
 use py_tokens::{Other, Token, TokenKind, keyword, operator};
 use std::alloc::Global;
 
 /// What was read, and the tokens after it.
 pub type Read<'a, T> = Result<(T, &'a [Token]), ParseError>;
-
-/// The first token and the others.
-pub fn split(tokens: &[Token]) -> Option<(&Token, &[Token])>
-    ensures { MatchOption result (tokens.now ≡ []) (λ p. tokens.now ≡ p.0.now ∷ p.1.now) }
-{
-    tokens.split_first()
-}
 
 /// The tokens after the first.
 pub fn rest(tokens: &[Token]) -> &[Token]

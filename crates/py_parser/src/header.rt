@@ -16,7 +16,7 @@ use crate::statement::maybe;
 use crate::tall::{HEIGHT_LIMIT, Tall, push, start};
 use crate::target::{TargetPlace, target};
 use crate::trailer::star_next;
-use py_data::Construct;
+use py_base::Construct;
 use py_tokens::{Token, keyword, operator};
 use py_tree::{Expr, Param};
 use sqlite_items::Items;

@@ -8,7 +8,7 @@ ghost use Rattle.py_parser.specs.Words.{is_module, is_member};
 
 use crate::cursor::{Read, keyword_next, op_next, refused, rest, take_keyword, take_name};
 use crate::fault::Fault;
-use py_data::{Bytes, Construct};
+use py_base::{Bytes, Construct};
 use py_tokens::{Token, keyword, operator};
 use py_tree::{Imported, Stmt};
 use sqlite_items::Items;

@@ -17,7 +17,7 @@ use crate::reader::{Reader, TEST};
 use crate::request::Request;
 use crate::rung::{Rung, rung_of};
 use crate::tall::{HEIGHT_LIMIT, Tall, plain, push_link};
-use py_data::Construct;
+use py_base::Construct;
 use py_tokens::{Token, keyword, operator};
 use py_tree::{Expr, Level, Link, Sign};
 use sqlite_items::Items;

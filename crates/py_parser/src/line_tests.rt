@@ -3,7 +3,7 @@
 use super::*;
 use crate::cursor::end_next;
 use crate::simple_line::line;
-use py_data::{Construct, Refusal};
+use py_base::{Construct, Refusal};
 use py_tokens::tokens;
 use py_tree::{Expr, Operator, Stmt};
 use sqlite_items::Items;

@@ -7,7 +7,8 @@ ghost use Rattle.py_parser.specs.Words.{below, assigned};
 ghost use Rattle.py_tokens.specs.declared.token.TokenKind.TheVariants as k;
 ghost use Rattle.py_tree.specs.declared.expr.Level.TheVariants as level;
 
-use crate::cursor::{Read, keyword_next, rest, split, take_keyword};
+use crate::cursor::{Read, keyword_next, rest, take_keyword};
+use py_base::split;
 use py_tokens::{Token, TokenKind, keyword, operator};
 use py_tree::{Level, Operator, Sign};
 

@@ -7,7 +7,7 @@ ghost use Rattle.py_parser.specs.SimplePieces.{return_at, raise_or_none_at, del_
 ghost use Rattle.py_parser.specs.Tall.{tree_or};
 
 use crate::assignment::running;
-use crate::cursor::{Read, comes, line_of, op_next, refused, rest, split, take_name};
+use crate::cursor::{Read, comes, line_of, op_next, refused, rest, take_name};
 use crate::expression::{expression, tests};
 use crate::fault::Fault;
 use crate::imports::{from, import};
@@ -15,7 +15,7 @@ use crate::reader::{TEST, TESTS};
 use crate::request::Request;
 use crate::tall::{HEIGHT_LIMIT, Tall};
 use crate::target::{TargetPlace, target, targets};
-use py_data::{Bytes, Construct};
+use py_base::{Bytes, Construct, split};
 use py_tokens::{Token, TokenKind, keyword, operator};
 use py_tree::{Expr, Stmt};
 use sqlite_items::Items;

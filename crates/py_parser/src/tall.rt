@@ -5,7 +5,7 @@ ghost use Rattle.py_tree.specs.Form.{is_target, is_single};
 ghost use Rattle.py_parser.specs.Reading.{is_bare};
 ghost use Rattle.py_parser.specs.Tall.{joined, plain, none, start, push, push_link, push_pair, push_named, push_trailer};
 
-use py_data::{Bytes, NoMemory};
+use py_base::{Bytes, NoMemory};
 use py_tree::{Expr, Form, Link, Named, Operator, Pair, Trailer};
 use sqlite_items::Items;
 use std::alloc::Global;

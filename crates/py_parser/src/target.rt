@@ -12,7 +12,7 @@ use crate::cursor::{Read, keyword_next, newline_next, op_next, refused, rest};
 use crate::error::ParseError;
 use crate::fault::Fault;
 use crate::tall::{HEIGHT_LIMIT, Tall, is_target, push, start};
-use py_data::Construct;
+use py_base::Construct;
 use py_tokens::{Token, keyword, operator};
 use py_tree::Expr;
 use sqlite_items::Items;

@@ -1,6 +1,6 @@
 //! Texts with and without a module, by hand from the grammar. In a row `$` is a line end.
 use super::*;
-use py_data::{NoMemory, Refusal};
+use py_base::{NoMemory, Refusal};
 use py_tokens::tokens;
 use py_tree::{Module, Stmt};
 use std::alloc::Global;

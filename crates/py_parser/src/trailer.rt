@@ -8,14 +8,14 @@ ghost use Rattle.py_parser.specs.Reading.{reads, first, is_op, is_none, name_of,
 ghost use Rattle.py_parser.specs.Pieces.{keywords_at};
 ghost use Rattle.py_parser.specs.Tall.{none, plain, push_named, tall_or};
 
-use crate::cursor::{Read, comes, keyword_next, op_next, refused, rest, split, take_name, take_op};
+use crate::cursor::{Read, comes, keyword_next, op_next, refused, rest, take_name, take_op};
 use crate::error::ParseError;
 use crate::fault::Fault;
 use crate::node;
 use crate::reader::{Reader, TEST};
 use crate::request::Request;
 use crate::tall::{HEIGHT_LIMIT, Tall, is_bare, no_tests, plain, push, push_named, push_trailer};
-use py_data::{Bytes, Construct, NoMemory};
+use py_base::{Bytes, Construct, NoMemory, split};
 use py_tokens::{Token, TokenKind, keyword, operator};
 use py_tree::{Expr, Form, Named, Trailer};
 use sqlite_items::Items;

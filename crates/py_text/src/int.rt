@@ -6,7 +6,7 @@ ghost use Rattle.py_text.specs.Int.{ReadsInt, IsWrittenAs};
 
 use crate::digit::digit_value;
 use crate::error::TextError;
-use py_data::{Bytes, NoMemory};
+use py_base::{Bytes, NoMemory};
 use std::alloc::Global;
 
 const MOST: u128 = i64::MAX as u128;

@@ -6,7 +6,6 @@ mod error;
 mod int;
 mod literal;
 mod repr;
-mod scan;
 
 pub use error::TextError;
 pub use int::{print_int, read_int};

@@ -5,8 +5,7 @@ ghost use Rattle.py_text.specs.Escape.{line_ends, after_line_end, octal_digits, 
 
 use crate::digit::digit_value;
 use crate::error::TextError;
-use crate::scan::{first_bytes, skip_bytes, split_bytes};
-use py_data::{Bytes, NoMemory};
+use py_base::{Bytes, NoMemory, first, skip, split};
 use std::alloc::Global;
 
 /// What a backslash and what comes after it stand for.
@@ -22,7 +21,7 @@ pub struct Escape {
 fn after_line_end(b: u8, more: &[u8]) -> &[u8]
     ensures { result.now ≡ after_line_end b more.now }
 {
-    let Some((c, rest)) = split_bytes(more) else {
+    let Some((c, rest)) = split(more) else {
         return more;
     };
     if b == b'\r' && *c == b'\n' {
@@ -38,7 +37,7 @@ fn line_ends(alloc: Global, body: &[u8]) -> Result<Bytes, NoMemory>
 {
     let mut text = Bytes::new(alloc);
     let mut rest = body;
-    while let Some((b, more)) = split_bytes(rest) {
+    while let Some((b, more)) = split(rest) {
         let byte = if *b == b'\r' { b'\n' } else { *b };
         rest = after_line_end(*b, more);
         text.push(byte)?;
@@ -50,7 +49,7 @@ fn line_ends(alloc: Global, body: &[u8]) -> Result<Bytes, NoMemory>
 fn octal_digits(bytes: &[u8]) -> &[u8]
     ensures { result.now ≡ octal_digits bytes.now }
 {
-    let most = first_bytes(bytes, 3);
+    let most = first(bytes, 3);
     for (i, b) in most.iter().enumerate() {
         if digit_value(*b) >= 8 {
             return &most[..i];
@@ -84,8 +83,8 @@ fn octal(bytes: &[u8]) -> Escape
 fn hex(bytes: &[u8]) -> Option<Escape>
     ensures { result ≡ hex bytes.now }
 {
-    let (a, rest) = split_bytes(bytes)?;
-    let (b, _) = split_bytes(rest)?;
+    let (a, rest) = split(bytes)?;
+    let (b, _) = split(rest)?;
     let high = digit_value(*a);
     let low = digit_value(*b);
     if high < 16 && low < 16 {
@@ -132,7 +131,7 @@ fn signed(b: u8) -> Escape
 fn escape_at(bytes: &[u8]) -> Option<Escape>
     ensures { result ≡ escape_at bytes.now }
 {
-    let (b, rest) = split_bytes(bytes)?;
+    let (b, rest) = split(bytes)?;
     if *b == b'\n' {
         Some(Escape {
             byte: None,
@@ -162,13 +161,13 @@ fn spelled(alloc: Global, body: &[u8]) -> Result<Bytes, TextError>
 {
     let mut text = Bytes::new(alloc);
     let mut rest = body;
-    while let Some((b, more)) = split_bytes(rest) {
+    while let Some((b, more)) = split(rest) {
         if *b == b'\\' {
             let Some(found) = escape_at(more) else {
                 return Err(TextError::BadEscape);
             };
             push_written(&mut text, found.byte)?;
-            rest = skip_bytes(more, found.size);
+            rest = skip(more, found.size);
         } else {
             text.push(*b)?;
             rest = more;

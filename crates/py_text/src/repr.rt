@@ -5,7 +5,7 @@ ghost use Rattle.std.specs.List.{list_any};
 ghost use Rattle.py_text.specs.Escape.{unescaped};
 ghost use Rattle.py_text.specs.Repr.{quote_of, shown, repr_of, between_quotes};
 
-use py_data::{Bytes, NoMemory};
+use py_base::{Bytes, NoMemory};
 use std::alloc::Global;
 
 fn has_byte(bytes: &[u8], b: u8) -> bool

@@ -1,6 +1,6 @@
 -- What one more word adds to the tokens that are still to come.
 use Rattle.std.proofs.Common.{◌≡◌, ℕ, ◌+◌, ◌-◌, List, [], ◌∷◌, ◌++◌, Option, Some, Result, Ok, Err, refl, sym, ap, ◌∙◌, subst, append-nil}
-use Rattle.py_data.specs.declared.refusal.Refusal.{Refusal}
+use Rattle.py_base.specs.declared.refusal.Refusal.{Refusal}
 use Rattle.py_tokens.specs.declared.error.TokenError.{TokenError}
 use Rattle.py_tokens.specs.declared.error.TokenError.TheVariants.{Refused, OutOfMemory}
 use Rattle.py_tokens.specs.declared.layout.Mode.{Mode}

@@ -1,6 +1,6 @@
 -- The loop over a text's words: what was added so far, and what the words that are left add.
 use Rattle.std.proofs.Common.{◌≡◌, ℕ, zero, suc, ◌+◌, ◌-◌, ◌<◌, ◌≤◌, List, [], ◌∷◌, length, Some, None, Result, Ok, Err, refl, sym, ap, ◌∙◌, subst, arith}
-use Rattle.py_data.specs.declared.refusal.Refusal.{Refusal}
+use Rattle.py_base.specs.declared.refusal.Refusal.{Refusal}
 use Rattle.py_tokens.specs.declared.character.Character.{Character}
 use Rattle.py_tokens.specs.declared.error.TokenError.{TokenError}
 use Rattle.py_tokens.specs.declared.error.TokenError.TheVariants.{Refused, OutOfMemory}

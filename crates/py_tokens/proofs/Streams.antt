@@ -1,6 +1,6 @@
 -- The tokens of a text are a stream: slices in order, Indents and Dedents that match, and one End.
 use Rattle.std.proofs.Common.{refl, ◌≡◌, ◌<◌, ℕ, suc, ◌+◌, ◌-◌, ◌≤◌, Bool, true, false, ◌==◌, nat_lt, ◌&&◌, if◌then◌else◌, List, [], ◌∷◌, ◌++◌, length, Option, Some, None, Result, Ok, Err, IfOk, sym, subst, arith}
-use Rattle.py_data.specs.declared.refusal.Refusal.{Refusal}
+use Rattle.py_base.specs.declared.refusal.Refusal.{Refusal}
 use Rattle.py_tokens.specs.declared.character.Character.{Character}
 use Rattle.py_tokens.specs.declared.error.TokenError.{TokenError}
 use Rattle.py_tokens.specs.declared.layout.Mode.{Mode}

@@ -1,8 +1,8 @@
 -- From the words of a text to its tokens, by logical lines and the indentation stack. States `docs/LANGUAGE.md`, "Lines"
 -- and "Indentation".
 use Rattle.std.specs.Prelude.{ℕ, ◌+◌, ◌-◌, ◌*◌, ◌/◌, nat_lt, ◌==◌, if◌then◌else◌, List, [], ◌∷◌, ◌++◌, length, Option, Some, None, Result, Ok, Err}
-use Rattle.py_data.specs.declared.refusal.Refusal.{Refusal}
-use Rattle.py_data.specs.declared.refusal.Refusal.TheVariants.{BadDedent}
+use Rattle.py_base.specs.declared.refusal.Refusal.{Refusal}
+use Rattle.py_base.specs.declared.refusal.Refusal.TheVariants.{BadDedent}
 use Rattle.py_tokens.specs.declared.character.Character.{Character}
 use Rattle.py_tokens.specs.declared.token.Place.{Place}
 use Rattle.py_tokens.specs.declared.token.Token.{Token}

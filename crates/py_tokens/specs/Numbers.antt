@@ -1,8 +1,8 @@
 -- The longest number at the front of a text. States `docs/LANGUAGE.md`, "Numbers".
 use Rattle.std.specs.Prelude.{ℕ, pos, ◌^◌, nat_lt, ◌==◌, ◌&&◌, if◌then◌else◌, List, length, map, drop, Result, Ok, Err}
 use Rattle.std.specs.Str.Parse.{digits_value}
-use Rattle.py_data.specs.declared.refusal.Refusal.{Refusal}
-use Rattle.py_data.specs.declared.refusal.Refusal.TheVariants.{BadCharacter, NumberWide}
+use Rattle.py_base.specs.declared.refusal.Refusal.{Refusal}
+use Rattle.py_base.specs.declared.refusal.Refusal.TheVariants.{BadCharacter, NumberWide}
 use Rattle.py_tokens.specs.declared.character.Character.{Character}
 use Rattle.py_tokens.specs.declared.class.Base.{Base}
 use Rattle.py_tokens.specs.declared.class.Base.TheVariants.{Two, Eight, Ten, Sixteen}

@@ -1,6 +1,6 @@
 -- The string literal at the front of a text. States `docs/LANGUAGE.md`, "Strings".
 use Rattle.std.specs.Prelude.{ℕ, suc, Bool, true, false, ◌==◌, ◌&&◌, ◌||◌, not, if◌then◌else◌, List, [], ◌∷◌, map, take, drop, Option, Some, None, Ok, Err}
-use Rattle.py_data.specs.declared.refusal.Refusal.TheVariants.{OpenString, BadEscape}
+use Rattle.py_base.specs.declared.refusal.Refusal.TheVariants.{OpenString, BadEscape}
 use Rattle.py_text.specs.Escape.{unescaped}
 use Rattle.py_tokens.specs.declared.character.Character.{Character}
 use Rattle.py_tokens.specs.declared.class.Base.TheVariants.{Sixteen}

@@ -1,7 +1,7 @@
 -- From a text to its words: the longest piece at the front, again and again. States `docs/LANGUAGE.md`, "Tokens".
 use Rattle.std.specs.Prelude.{◌≡◌, ℕ, zero, suc, Bool, false, ◌==◌, ◌&&◌, ◌||◌, if◌then◌else◌, List, [], ◌∷◌, drop, Option, Some, None, Result, Ok, Err, ◌+◌, length}
-use Rattle.py_data.specs.declared.refusal.Refusal.{Refusal}
-use Rattle.py_data.specs.declared.refusal.Refusal.TheVariants.{BadCharacter}
+use Rattle.py_base.specs.declared.refusal.Refusal.{Refusal}
+use Rattle.py_base.specs.declared.refusal.Refusal.TheVariants.{BadCharacter}
 use Rattle.py_tokens.specs.declared.character.Character.{Character}
 use Rattle.py_tokens.specs.declared.class.Class.TheVariants.{Byte, NameStart, InLine, Quote}
 use Rattle.py_tokens.specs.declared.class.Class.TheVariants as class

@@ -2,7 +2,7 @@
 ghost use Rattle.std.specs.Prelude.{◌≡◌, ◌+◌, ◌<◌, ◌^◌, [], ◌∷◌, length, take, drop, map, MatchOption, IfOk};
 ghost use Rattle.py_tokens.specs.Characters.{line_end, line_end_size, line_after, has_mark, characters, text_characters, byte_of};
 
-use py_data::{Bytes, Items, NoMemory};
+use py_base::{Bytes, Items, NoMemory, skip, split};
 use std::alloc::Global;
 
 /// A byte of the text, or a line end.
@@ -16,39 +16,6 @@ pub struct Character {
     pub to: u32,
     /// Its line, from 1.
     pub line: u32,
-}
-
-pub fn split_bytes(bytes: &[u8]) -> Option<(&u8, &[u8])>
-    ensures { MatchOption result (bytes.now ≡ []) (λ p. bytes.now ≡ p.0.now ∷ p.1.now) }
-{
-    bytes.split_first()
-}
-
-fn skip_bytes(bytes: &[u8], n: usize) -> &[u8]
-    ensures { result.now ≡ drop n bytes.now }
-{
-    if n < bytes.len() { &bytes[n..] } else { &[] }
-}
-
-/// The first character and the others.
-pub fn split(chars: &[Character]) -> Option<(&Character, &[Character])>
-    ensures { MatchOption result (chars.now ≡ []) (λ p. chars.now ≡ p.0.now ∷ p.1.now) }
-{
-    chars.split_first()
-}
-
-/// What follows the first `n` characters; nothing, if there are no more.
-pub fn skip(chars: &[Character], n: usize) -> &[Character]
-    ensures { result.now ≡ drop n chars.now }
-{
-    if n < chars.len() { &chars[n..] } else { &[] }
-}
-
-/// The first `n` characters, or all if there are no more.
-pub fn first(chars: &[Character], n: usize) -> &[Character]
-    ensures { result.now ≡ take n chars.now }
-{
-    if n < chars.len() { &chars[..n] } else { chars }
 }
 
 /// The characters' bytes.
@@ -71,7 +38,7 @@ fn line_end(b: u8) -> u8
 fn line_end_size(b: u8, more: &[u8]) -> usize
     ensures { result ≡ line_end_size b more.now }
 {
-    let Some((c, _)) = split_bytes(more) else {
+    let Some((c, _)) = split(more) else {
         return 1;
     };
     if b == b'\r' && *c == b'\n' { 2 } else { 1 }
@@ -87,13 +54,13 @@ fn line_after(byte: u8, line: u64) -> u64
 fn has_mark(text: &[u8]) -> bool
     ensures { result ≡ has_mark text.now }
 {
-    let Some((a, after_a)) = split_bytes(text) else {
+    let Some((a, after_a)) = split(text) else {
         return false;
     };
-    let Some((b, after_b)) = split_bytes(after_a) else {
+    let Some((b, after_b)) = split(after_a) else {
         return false;
     };
-    let Some((c, _)) = split_bytes(after_b) else {
+    let Some((c, _)) = split(after_b) else {
         return false;
     };
     *a == 0xEF && *b == 0xBB && *c == 0xBF
@@ -108,7 +75,7 @@ fn characters(alloc: Global, bytes: &[u8], at: u32) -> Result<Items<Character>, 
     let mut rest = bytes;
     let mut from = at as u64;
     let mut line: u64 = 1;
-    while let Some((b, more)) = split_bytes(rest) {
+    while let Some((b, more)) = split(rest) {
         let byte = line_end(*b);
         let size = line_end_size(*b, more);
         let to = from + size as u64;
@@ -118,7 +85,7 @@ fn characters(alloc: Global, bytes: &[u8], at: u32) -> Result<Items<Character>, 
             to: to as u32,
             line: line as u32,
         })?;
-        rest = skip_bytes(rest, size);
+        rest = skip(rest, size);
         line = line_after(byte, line);
         from = to;
     }
@@ -132,7 +99,7 @@ pub fn text_characters(alloc: Global, text: &[u8]) -> Result<Items<Character>, N
     ensures { IfOk result (λ cs. cs ≡ text_characters text.now) }
 {
     if has_mark(text) {
-        characters(alloc, skip_bytes(text, 3), 3)
+        characters(alloc, skip(text, 3), 3)
     } else {
         characters(alloc, text, 0)
     }

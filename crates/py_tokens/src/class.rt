@@ -2,7 +2,8 @@
 ghost use Rattle.std.specs.Prelude.{◌≡◌, ◌≤◌, length};
 ghost use Rattle.py_tokens.specs.Classes.{base_of, holds, in_class, next_is, run_len};
 
-use crate::character::{Character, split};
+use crate::character::Character;
+use py_base::split;
 
 /// The base of an integer's digits.
 #[derive(Clone, Copy, Debug, Drop)]

@@ -2,7 +2,7 @@
 ghost use Rattle.std.specs.Prelude.{◌≡◌};
 ghost use Rattle.py_tokens.specs.declared.error.TokenError.TheVariants.{OutOfMemory};
 
-use py_data::Refusal;
+use py_base::Refusal;
 use std::alloc::AllocError;
 use thiserror::Error;
 

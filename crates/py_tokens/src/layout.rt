@@ -7,7 +7,7 @@ ghost use Rattle.py_tokens.specs.Tokens.{Moves, Lays, Closes, Finishes, Breaks, 
 use crate::error::TokenError;
 use crate::token::{Place, Token, TokenKind, token_at};
 use crate::word::Word;
-use py_data::{NoMemory, Refusal};
+use py_base::{NoMemory, Refusal};
 
 /// Where a text stands between two of its words.
 #[derive(Clone, Copy, Debug, Drop)]

@@ -6,11 +6,12 @@ ghost use Rattle.py_tokens.specs.Stream.{IsStream};
 ghost use Rattle.py_tokens.specs.Tokens.{Tokenizes};
 ghost use Rattle.py_tokens.specs.Words.{IsWhole};
 
-use crate::character::{Character, split, text_characters};
+use crate::character::{Character, text_characters};
 use crate::error::TokenError;
 use crate::layout::{Mode, finish, lay, push, stopped};
 use crate::token::{Place, Token, place_of};
 use crate::word::word_at;
+use py_base::split;
 use std::alloc::Global;
 
 /// The text's last line.

@@ -5,12 +5,12 @@ ghost use Rattle.py_tokens.specs.Characters.{byte_of};
 ghost use Rattle.py_tokens.specs.Strings.{prefix, prefix_letter, prefix_pair, prefix_of, quotes, quotes_len, quotes_at, ends, body_len, two_hex, bad_line, escape_fault, text_of, closed, literal, quoted, string_at};
 ghost use Rattle.py_tokens.specs.Words.{Reads};
 
-use crate::character::{Character, bytes_of, first, skip, split};
+use crate::character::{Character, bytes_of};
 use crate::class::{Base, Class, holds, next_is};
 use crate::error::TokenError;
 use crate::number::Found;
 use crate::token::{Other, TokenKind};
-use py_data::Refusal;
+use py_base::{Refusal, first, skip, split};
 use py_text::{TextError, unescape};
 use std::alloc::Global;
 

@@ -6,11 +6,11 @@ ghost use Rattle.py_tokens.specs.Classes.{base_of, after};
 ghost use Rattle.py_tokens.specs.Numbers.{int_of, suffixed, prefixed, after_point, exponent, after_exponent, float, whole, unprefixed, after_zero, number_at};
 ghost use Rattle.py_tokens.specs.Words.{Reads};
 
-use crate::character::{Character, bytes_of, first, skip};
+use crate::character::{Character, bytes_of};
 use crate::class::{Base, Class, next_is, run_len};
 use crate::error::TokenError;
 use crate::token::{Other, TokenKind};
-use py_data::Refusal;
+use py_base::{Refusal, first, skip};
 use py_text::read_int;
 use std::alloc::Global;
 

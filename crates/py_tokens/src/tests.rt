@@ -1,6 +1,6 @@
 //! Texts with their tokens, and texts that are refused, by hand from Python 2.7's rules and those of the profile.
 use super::*;
-use py_data::{Bytes, NoMemory, Refusal};
+use py_base::{Bytes, NoMemory, Refusal};
 use py_text::repr_bytes;
 use std::alloc::Global;
 

@@ -3,7 +3,7 @@ ghost use Rattle.std.specs.Prelude.{◌≡◌};
 ghost use Rattle.py_tokens.specs.Place.{place_of, token_at};
 
 use crate::character::Character;
-use py_data::Bytes;
+use py_base::Bytes;
 
 /// What the profile leaves out, and a token by itself shows.
 #[derive(Clone, Copy, Debug, Drop, PartialEq, Eq)]

@@ -7,7 +7,7 @@ ghost use Rattle.py_tokens.specs.Tables.{keywords, operators};
 ghost use Rattle.py_tokens.specs.Numbers.{Read};
 ghost use Rattle.py_tokens.specs.Words.{Reads, place_before, token_word, bracketed, operator_word, joint, token_front, word_at};
 
-use crate::character::{Character, bytes_of, first, skip, split, split_bytes};
+use crate::character::{Character, bytes_of};
 use crate::class::{Base, Class, holds, next_is, run_len};
 use crate::error::TokenError;
 use crate::keyword::KEYWORDS;
@@ -16,7 +16,7 @@ use crate::number::{Found, number_at};
 use crate::operator;
 use crate::operator::OPERATORS;
 use crate::token::{Place, Token, TokenKind, place_of, token_at};
-use py_data::{Bytes, Refusal};
+use py_base::{Bytes, Refusal, first, skip, split};
 use std::alloc::Global;
 
 /// A piece of a text.
@@ -98,7 +98,7 @@ fn begins(bytes: &[u8], chars: &[Character]) -> bool
 {
     let mut left = bytes;
     let mut rest = chars;
-    while let Some((b, more)) = split_bytes(left) {
+    while let Some((b, more)) = split(left) {
         if !next_is(Class::Byte(*b), rest) {
             return false;
         }

@@ -11,7 +11,7 @@ use crate::simple;
 use crate::spell::expression;
 use crate::stmt::{Arm, Clause, Handler, Module, Stmt};
 use crate::writer::Writer;
-use py_data::{Bytes, NoMemory};
+use py_base::{Bytes, NoMemory};
 use py_tokens::{keyword, operator};
 use std::alloc::Global;
 

@@ -13,7 +13,7 @@ use crate::expr::{Expr, Operator};
 use crate::spell::{expression, listed, separate};
 use crate::stmt::{Imported, Param};
 use crate::writer::Writer;
-use py_data::{Bytes, NoMemory};
+use py_base::{Bytes, NoMemory};
 use py_tokens::{keyword, operator};
 
 /// Targets, each with `=` after it.

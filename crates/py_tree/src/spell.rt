@@ -10,7 +10,7 @@ ghost use Rattle.py_tree.specs.Page.{spell, comma_if, listed};
 
 use crate::expr::{Expr, Link, Named, Operator, Pair, Sign, Trailer};
 use crate::writer::Writer;
-use py_data::NoMemory;
+use py_base::NoMemory;
 use py_tokens::{keyword, operator};
 use sqlite_items::Boxed;
 

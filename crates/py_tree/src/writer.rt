@@ -8,7 +8,7 @@ ghost use Rattle.py_tree.specs.Lexeme.{lexeme};
 ghost use Rattle.py_tree.specs.Writing.{word_of, joints, gap};
 ghost use Rattle.py_tree.specs.Page.{pen_of, with_word, put};
 
-use py_data::{Bytes, NoMemory};
+use py_base::{Bytes, NoMemory};
 use py_text::{print_int, repr_bytes};
 use py_tokens::keyword::KEYWORDS;
 use py_tokens::operator::OPERATORS;

@@ -4,8 +4,8 @@ ghost use Rattle.py_code.specs.declared.instr.Instr.{Instr};
 ghost use Rattle.py_code.specs.declared.program.Code.{Code};
 ghost use Rattle.py_code.specs.Right.{all_instrs, bodies};
 
+use py_base::{Items, NoMemory};
 use py_code::{Code, Instr};
-use py_data::{Items, NoMemory};
 use std::alloc::Global;
 
 /// Of so many codes, that none of them is a class body's.

@@ -3,7 +3,7 @@ ghost use Rattle.std.specs.Prelude.{◌≡◌, ◌++◌, [], ◌∷◌, false, O
 ghost use Rattle.py_code.specs.Right.{has};
 
 use indexmap::IndexSet;
-use py_data::NoMemory;
+use py_base::NoMemory;
 use std::alloc::Global;
 use std::marker::Model;
 

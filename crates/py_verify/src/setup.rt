@@ -4,7 +4,7 @@ ghost use Rattle.py_code.specs.Right.{first_place, SetsUp};
 ghost use Rattle.py_code.specs.Typing.{HasNoSetup};
 ghost use Rattle.py_verify.specs.Tests.{is_setup, no_setup};
 
-use crate::roots::split;
+use py_base::split;
 use py_code::Instr;
 
 /// The first place of a code that a jump may name.

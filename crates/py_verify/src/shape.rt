@@ -6,8 +6,8 @@ ghost use Rattle.py_verify.specs.Flows.{effect_of, flow_of};
 
 use crate::bounds::Bounds;
 use crate::effect::{Effect, Flow};
+use py_base::NoMemory;
 use py_code::Instr;
-use py_data::NoMemory;
 use std::alloc::Global;
 use std::marker::Model;
 

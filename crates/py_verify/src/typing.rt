@@ -6,8 +6,8 @@ ghost use Rattle.py_verify.specs.Work.{Flows, Visits};
 use crate::bounds::Bounds;
 use crate::effect::effect_in;
 use crate::shape::Shape;
+use py_base::NoMemory;
 use py_code::Instr;
-use py_data::NoMemory;
 use std::alloc::Global;
 
 /// The shapes of the places, as far as they are known to be reached.

@@ -5,8 +5,8 @@ ghost use Rattle.py_code.specs.Right.{IsRightProgram};
 use crate::bodies::bodies_of;
 use crate::context::Context;
 use crate::roots::right_roots;
+use py_base::NoMemory;
 use py_code::Program;
-use py_data::NoMemory;
 use std::alloc::Global;
 use std::marker::Model;
 

@@ -2,7 +2,7 @@
 -- segments".
 use Rattle.std.specs.Prelude.{◌≡◌, ◌≢◌, ℕ, ◌+◌, ◌<◌, ◌≤◌, Bool, true, false, ◌||◌, List, [], ◌++◌, length, Option, Some, None, is_some, IfSome}
 use Rattle.py_data.specs.declared.record.TheConstants.{LENGTH_LIMIT}
-use Rattle.py_data.specs.declared.value.Kind.{Kind}
+use Rattle.py_base.specs.declared.kind.Kind.{Kind}
 use Rattle.py_data.specs.declared.value.Value.{Value}
 use Rattle.py_data.specs.declared.change.Change.{Change}
 use Rattle.py_data.specs.Changes.{Allows, Suits, Outgrows}

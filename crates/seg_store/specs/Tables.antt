@@ -1,7 +1,7 @@
 -- A store of maps: what it keeps of each address, and the lists of each segment. States `docs/HEAP.md`, "The store of maps".
 use Rattle.std.specs.Prelude.{◌≡◌, ℕ, ◌<◌, ◌≤◌, Bool, true, false, cond, not, ◌&&◌, eqb, List, [], ◌∷◌, length, take, Option, Some, None, is_some, option_map}
 use Rattle.py_data.specs.declared.record.TheConstants.{LENGTH_LIMIT}
-use Rattle.py_data.specs.declared.value.Kind.{Kind}
+use Rattle.py_base.specs.declared.kind.Kind.{Kind}
 use Rattle.py_data.specs.declared.value.Value.{Value}
 use Rattle.py_data.specs.Collection.{places}
 use Rattle.py_data.specs.Heap.{Rec, Marks, has_bytes}

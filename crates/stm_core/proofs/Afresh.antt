@@ -1,10 +1,11 @@
 -- What a row does up to a place doesn't depend on the bookkeeping that it began with.
-use Rattle.std.proofs.Common.{◌≡◌, ℕ, refl, sym, ◌∙◌, ap, subst}
-use Rattle.py_data.specs.Heap.{Rec, Heap, put_at, with_value, with_push, cut_to, with_pair, without_pair}
-use Rattle.py_data.specs.Shape.{find}
+use Rattle.std.proofs.Common.{◌≡◌, refl, sym, ◌∙◌, ap, subst}
+use Rattle.py_data.specs.Changes.{after}
+use Rattle.py_data.specs.Heap.{Heap, put_at}
+use Rattle.py_data.specs.Shape.{Fits, find}
 use Rattle.py_data.specs.World.{World, wrote, took, IsLine}
-use Rattle.py_data.specs.Row.{Call, Reply, Row, Do, Read, Find, SetVal, Push, Truncate, PushPair, DropPair, Make, Start, Put, Take, MidLine, SetMidLine}
-use Rattle.py_data.specs.Sight.{Sight, Act, Edited, CanSet, CanPush, CanPair, Fits, Does, pure, opened, looked_at, edited, made_new, started_one, in_world}
+use Rattle.py_data.specs.Row.{Call, Reply, Row, Do, Read, Find, Edit, Make, Start, Put, Take, MidLine, SetMidLine}
+use Rattle.py_data.specs.Sight.{Sight, Act, Does, pure, opened, looked_at, edited, made_new, started_one, in_world}
 use Rattle.py_data.proofs.Mirror.{does_afresh}
 use Rattle.py_data.proofs.Whole.{upto_follows}
 use Rattle.lock_run.specs.declared.client.Outcome.{Outcome}
@@ -15,9 +16,6 @@ use Rattle.stm_core.specs.Whole.{MeetsOuter}
 abbrev Same : {S : Type 0} → Sight S → Sight S → Type 0
 Same s t = (t.heap ≡ s.heap) × (t.world ≡ s.world)
 
-edited_same : {S : Type 0} (a : ℕ) (ok : Rec → Type 0) (f : Rec → Rec) (v w s : Sight S) → Edited a ok f v w → Same v s → (t : Sight S) × Edited a ok f s t × Same w t
-edited_same {S} a ok f v w s h e = (edited a (f h.0) s, (h.0, ap (λ (z : Heap). z a) e.0 ∙ h.1, h.2, refl), (ap (λ z. put_at z a (f h.0)) e.0 ∙ sym (ap (λ (z : Sight S). z.heap) h.3), e.1 ∙ sym (ap (λ (z : Sight S). z.world) h.3)))
-
 -- each call is done there too
 act_same : {S : Type 0} (c : Call S) (v : Sight S) (r : Reply c) (w s : Sight S) → Act c v r w → Same v s → (t : Sight S) × Act c s r t × Same w t
 act_same {S} (Read a) v r w s h e = (looked_at a r s, (ap (λ (z : Heap). z a) e.0 ∙ h.0, refl), (e.0 ∙ sym (ap (λ (z : Sight S). z.heap) h.1), e.1 ∙ sym (ap (λ (z : Sight S). z.world) h.1)))
@@ -26,11 +24,11 @@ act_same {S} (Find d key) v r w s h e = (
   (h.0, ap (λ (z : Heap). z d) e.0 ∙ h.1, subst (λ z. Fits z h.0 key) (sym e.0) h.2, h.3 ∙ ap (λ z. find z h.0.values key) (sym e.0), refl),
   (e.0 ∙ sym (ap (λ (z : Sight S). z.heap) h.4), e.1 ∙ sym (ap (λ (z : Sight S). z.world) h.4)),
 )
-act_same (SetVal a i x) v r w s h e = edited_same a (CanSet i) (with_value i x) v w s h e
-act_same (Push a x) v r w s h e = edited_same a CanPush (with_push x) v w s h e
-act_same (Truncate a n) v r w s h e = edited_same a CanPush (cut_to n) v w s h e
-act_same (PushPair d key x) v r w s h e = edited_same d CanPair (with_pair key x) v w s h e
-act_same (DropPair d n) v r w s h e = edited_same d CanPair (without_pair n) v w s h e
+act_same {S} (Edit a x) v r w s h e = (
+  edited a (after x h.0) s,
+  (h.0, ap (λ (z : Heap). z a) e.0 ∙ h.1, h.2, refl),
+  (ap (λ z. put_at z a (after x h.0)) e.0 ∙ sym (ap (λ (z : Sight S). z.heap) h.3), e.1 ∙ sym (ap (λ (z : Sight S). z.world) h.3)),
+)
 act_same {S} (Make q) v r w s h e = (made_new r q s, (ap (λ (z : Heap). z r) e.0 ∙ h.0, refl), (ap (λ z. put_at z r q) e.0 ∙ sym (ap (λ (z : Sight S). z.heap) h.1), e.1 ∙ sym (ap (λ (z : Sight S). z.world) h.1)))
 act_same {S} (Start q) v r w s h e = (started_one q s, refl, (e.0 ∙ sym (ap (λ (z : Sight S). z.heap) h), e.1 ∙ sym (ap (λ (z : Sight S). z.world) h)))
 act_same {S} (Put on bytes) v r w s h e = (in_world (wrote on bytes s.world) s, refl, (e.0 ∙ sym (ap (λ (z : Sight S). z.heap) h), ap (wrote on bytes) e.1 ∙ sym (ap (λ (z : Sight S). z.world) h)))

@@ -3,25 +3,27 @@ use Rattle.std.proofs.Common.{◌≡◌, ◌⊎◌, ◌≤◌, ℕ, true, false,
 use Rattle.std.proofs.lemmas.Bool.{both_ways, or_cases, or_left, eqb-true, eq-eqb}
 use Rattle.py_data.specs.declared.stop.Side.{Side}
 use Rattle.py_data.specs.declared.stop.Stop.{Stop}
-use Rattle.py_data.specs.declared.stop.Stop.TheVariants.{Lost, Full, OutOfMemory}
+use Rattle.py_data.specs.declared.stop.Stop.TheVariants.{Lost, OutOfMemory}
 use Rattle.py_data.specs.declared.change.Change.{Change}
-use Rattle.py_data.specs.declared.change.Change.TheVariants.{Set, Push, Cut, Pair, Unpair}
-use Rattle.py_data.specs.Changes.{after}
+use Rattle.py_data.specs.Changes.{after, Allows}
 use Rattle.py_data.specs.Heap.{Rec, Heap, Has, at, is_tracked, put_at, blank}
 use Rattle.py_data.specs.Sight.{edited, mem, with_mark}
-use Rattle.py_data.specs.Row.{Call}
-use Rattle.py_data.specs.Sense.{touches, IfThere}
+use Rattle.py_data.specs.Row.{Edit}
+use Rattle.py_data.specs.Sense.{IfThere}
+use Rattle.py_data.proofs.Grow.{for_tracked}
 use Rattle.seg_store.specs.declared.store.StoreFault.{StoreFault}
 use Rattle.seg_store.specs.declared.store.StoreFault.TheVariants.{Full as FullStore, OutOfMemory as NoMemoryLeft}
 use Rattle.seg_store.specs.Meaning.{Part, Meaning, sees, holds, with_part}
 use Rattle.seg_store.specs.Calls.{changed, after_change}
+use Rattle.seg_store.specs.Store.{CanChange, IsFull}
 use Rattle.seg_store.proofs.Sees.{own_part, change_shows}
 use Rattle.stm_core.specs.declared.books.Progress.{Progress}
 use Rattle.stm_core.specs.declared.books.Books.{Books}
 use Rattle.stm_core.specs.declared.books.Hand.{Hand}
 use Rattle.stm_core.specs.Books.{runs_at, Fit}
-use Rattle.stm_core.specs.Hold.{Hold, sight, Beside, Holds, Fails, FailWhy, SegRefuses, SegWhy, IsChange, IsGrowth, IsHeld, Can, Fits, FaultWhy, Changed, holding, stop_of}
-use Rattle.stm_core.proofs.Holding.{beside_then, beside_own, fails_alone}
+use Rattle.stm_core.specs.Hold.{Hold, sight, Beside, Holds, Fails, FailWhy, SegDoes, SegRefuses, SegWhy, FaultWhy, holding, stop_of}
+use Rattle.stm_core.proofs.Holding.{beside_then, beside_own}
+use Rattle.stm_core.proofs.Seeing.{refused_alone}
 use Rattle.stm_core.proofs.Fits.{fit_own}
 
 -- a change keeps store and books fitting
@@ -41,29 +43,22 @@ pub record Ready (c : Change) (h : Heap) (a : ℕ) : Type 0 where
   pub there : Has h a
   pub at_is : at h a ≡ entry
   pub tracked : is_tracked (at h a).kind ≡ true
-  pub fits : Fits c entry
+  pub allows : Allows c entry
 
 -- what a condition says of the record that is there
-of_there : (h : Heap) (a : ℕ) (P Q : Rec → Type 0) → IfThere false (h a) P → ((r : Rec) → P r → Q r) → (r : Rec) × (h a ≡ Some r) × Q r
-of_there h a P Q t f = go (h a) refl t
+of_there : (h : Heap) (a : ℕ) (P : Rec → Type 0) → IfThere false (h a) P → (r : Rec) × (h a ≡ Some r) × P r
+of_there h a P t = go (h a) refl t
   where
-    go : (o : Option Rec) → h a ≡ o → IfThere false o P → (r : Rec) × (h a ≡ Some r) × Q r
+    go : (o : Option Rec) → h a ≡ o → IfThere false o P → (r : Rec) × (h a ≡ Some r) × P r
     go None e x = absurd (both_ways false refl x)
-    go (Some r) e x = (r, e, f r x)
+    go (Some r) e x = (r, e, x)
 
-can_fits : (c : Change) (h : Heap) (a : ℕ) → Can c h a → (r : Rec) × (h a ≡ Some r) × ((is_tracked r.kind ≡ true) × Fits c r)
-can_fits (Set i v) h a t = of_there h a _ _ t (λ r x. (x.0, (x.0, x.1)))
-can_fits (Push v) h a t = of_there h a _ _ t (λ r x. (ap is_tracked x.0, x.0))
-can_fits (Cut n) h a t = of_there h a _ _ t (λ r x. (ap is_tracked x, x))
-can_fits (Pair k v) h a t = of_there h a _ _ t (λ r x. (ap is_tracked x.0.0, x.0.0))
-can_fits (Unpair n) h a t = of_there h a _ _ t (λ r x. (ap is_tracked x.0, x.0))
-
-pub can_ready : (c : Change) (h : Heap) (a : ℕ) → Can c h a → Ready c h a
+pub can_ready : (c : Change) (h : Heap) (a : ℕ) → CanChange h a c → Ready c h a
 unfolding at
 can_ready c h a t =
-    let r = can_fits c h a t in
+    let r = of_there h a _ t in
     let e : at h a ≡ r.0 = ap (λ o. unwrap_or o blank) r.1 in
-    record { entry = r.0; is = r.1; there = subst IsSome (sym r.1) refl; at_is = e; tracked = ap (λ (q : Rec). is_tracked q.kind) e ∙ r.2.0; fits = r.2.1 }
+    record { entry = r.0; is = r.1; there = subst IsSome (sym r.1) refl; at_is = e; tracked = ap (λ (q : Rec). is_tracked q.kind) e ∙ for_tracked c r.0.kind r.2.0.0; allows = r.2.0 }
 
 -- ---- a change that was done
 
@@ -77,8 +72,8 @@ beside_change {S} k me a f d e e2 out g em er eb ep =
     (subst (λ z. Beside k me e (holding (after_change k a f e.meaning) e2.reserved e.books z e2.stopped)) (sym ep) own)))
 
 -- the sight once the record was held and changed
-pub change_done : {S : Type 0} (k : ℕ) (me : Side) (a : ℕ) (c : Change) (d e e2 : Hold S) → Can c (sees d.meaning k) a → d.stopped ≡ None → runs_at e.books.hands.items k ≡ false → Holds k me a d e
-    → e2.meaning ≡ after_change k a (after c) e.meaning → e.reserved ≤ e2.reserved → e2.books ≡ e.books → e2.progress ≡ e.progress → e2.stopped ≡ e.stopped → Changed k me a c d e2
+pub change_done : {S : Type 0} (k : ℕ) (me : Side) (a : ℕ) (c : Change) (d e e2 : Hold S) → CanChange (sees d.meaning k) a c → d.stopped ≡ None → runs_at e.books.hands.items k ≡ false → Holds k me a d e
+    → e2.meaning ≡ after_change k a (after c) e.meaning → e.reserved ≤ e2.reserved → e2.books ≡ e.books → e2.progress ≡ e.progress → e2.stopped ≡ e.stopped → SegDoes k me (Edit a c) d tt e2
 change_done {S} k me a c d e e2 can live out h em er eb ep es =
     let r = can_ready c (sees d.meaning k) a can in
     let s = change_shows k a (after c) e.meaning in
@@ -91,53 +86,59 @@ change_done {S} k me a c d e e2 can live out h em er eb ep es =
     let made : (e2.meaning.part k).made ≡ (d.meaning.part k).made = ap (λ (z : Part). z.made) part ∙ h.made in
     let started : e2.progress.started ≡ d.progress.started = ap (λ (z : Progress S). z.started) (ep ∙ h.progress) in
     let sights : sight k e2 ≡ edited a (after c r.entry) (sight k d) = λ i. record (sight k e2) { heap = heap i; looked = looked i; touched = touched i; made = made i; started = started i } in
-    ((r.entry, r.is, r.fits, sights), beside_change k me a (after c) d e e2 out h.beside em er eb ep, es ∙ h.stopped ∙ live)
+    ((r.entry, r.is, r.allows, sights), beside_change k me a (after c) d e e2 out h.beside em er eb ep, es ∙ h.stopped ∙ live)
 
 -- ---- a change that was refused
 
 -- the Stop of a store's fault has its cause
-fault_why : {S : Type 0} (k : ℕ) (me : Side) (a : ℕ) (grows : Type 0) (m : Meaning) (r : ℕ) (b : Books S) (p : Progress S) (o : Option Stop) (x : StoreFault) → FaultWhy grows r m.limit x → FailWhy k me a grows (stop_of x) (holding m r b p o)
-fault_why k me a grows m r b p o (FullStore u n l) w = w
-fault_why k me a grows m r b p o NoMemoryLeft w = tt
+fault_why : {S : Type 0} (k : ℕ) (me : Side) (a : ℕ) (c : Change) (m : Meaning) (h : Heap) (r : ℕ) (b : Books S) (p : Progress S) (o : Option Stop) (x : StoreFault) → FaultWhy (IsFull h a c) r m.limit x → SegWhy k me (stop_of x) (Edit a c) h (holding m r b p o)
+fault_why k me a c m h r b p o (FullStore u n l) w = w
+fault_why k me a c m h r b p o NoMemoryLeft w = tt
 
 -- the store refused the change of a record that was held
-pub change_refused : {S : Type 0} (k : ℕ) (me : Side) (a : ℕ) (grows : Type 0) (d e e2 : Hold S) (x : StoreFault) (s : Stop) → Holds k me a d e → e2.meaning ≡ e.meaning → e.reserved ≤ e2.reserved → e2.books ≡ e.books → e2.progress ≡ e.progress
-    → s ≡ stop_of x → e2.stopped ≡ Some s → FaultWhy grows e2.reserved e.meaning.limit x → Fails k me a grows d s e2
-change_refused {S} k me a grows d e e2 x s h em er eb ep es eo why =
-    let w : FailWhy k me a grows s (holding e.meaning e2.reserved e.books e.progress (Some s)) =
-    subst (λ z. FailWhy k me a grows z (holding e.meaning e2.reserved e.books e.progress (Some s))) (sym es) (fault_why k me a grows e.meaning e2.reserved e.books e.progress (Some s) x why) in
-    let last = fails_alone k me a grows e.meaning e2.meaning e.reserved e2.reserved e.books e2.books e.progress e2.progress e.stopped e2.stopped s em er eb ep eo w in
+pub change_refused : {S : Type 0} (k : ℕ) (me : Side) (a : ℕ) (c : Change) (d e e2 : Hold S) (x : StoreFault) (s : Stop) → Holds k me a d e → e2.meaning ≡ e.meaning → e.reserved ≤ e2.reserved → e2.books ≡ e.books → e2.progress ≡ e.progress
+    → s ≡ stop_of x → e2.stopped ≡ Some s → FaultWhy (IsFull (sees e.meaning k) a c) e2.reserved e.meaning.limit x → SegRefuses k me (Edit a c) d s e2
+change_refused {S} k me a c d e e2 x s h em er eb ep es eo why =
+    let w : SegWhy k me s (Edit a c) (sees e.meaning k) (holding e.meaning e2.reserved e.books e.progress (Some s)) =
+    subst (λ z. SegWhy k me z (Edit a c) (sees e.meaning k) (holding e.meaning e2.reserved e.books e.progress (Some s))) (sym es) (fault_why k me a c e.meaning (sees e.meaning k) e2.reserved e.books e.progress (Some s) x why) in
+    let last = refused_alone k me (Edit a c) e.meaning e2.meaning e.reserved e2.reserved e.books e2.books e.progress e2.progress e.stopped e2.stopped s em er eb ep eo w in
     record {
       stopped = eo;
       beside = beside_then k me d e e2 h.beside last.beside;
-      why = last.why;
+      why = subst (λ z. SegWhy k me s (Edit a c) z e2) h.shown last.why;
       looked = λ b l. marks b (ap (λ (z : Meaning). (z.part k).looked b) (sym em) ∙ l);
-      locks = λ b l. h.locks b (ap (λ (z : Meaning). mem b (z.part k).changed) (sym em) ∙ l);
+      locks = λ b l. asked b (h.locks b (ap (λ (z : Meaning). mem b (z.part k).changed) (sym em) ∙ l));
     }
   where
-    marks : (b : ℕ) → (e.meaning.part k).looked b ≡ true → ((d.meaning.part k).looked b ≡ true) ⊎ (b ≡ a)
-    marks b l = elim (or_cases (eqb b a) ((d.meaning.part k).looked b) (sym (ap (λ f. f b) h.looked) ∙ l)) [ inl y ↦ inr (eqb-true b a y) | inr y ↦ inl y ]
+    asked : {P : Type 0} (b : ℕ) → P ⊎ (b ≡ a) → P ⊎ (Some a ≡ Some b)
+    asked b (inl x) = inl x
+    asked b (inr x) = inr (ap Some (sym x))
 
--- a failed call of a record is a call of a view that was refused
-pub refused_change : {S : Type 0} (k : ℕ) (me : Side) (a : ℕ) (grows : Type 0) (c : Call S) (d : Hold S) (s : Stop) (e : Hold S) → IsChange c → IsHeld c → touches c ≡ Some a → (grows → IsGrowth c) → Fails k me a grows d s e → SegRefuses k me c d s e
-refused_change {S} k me a grows c d s e change held at grow f = record {
+    marks : (b : ℕ) → (e.meaning.part k).looked b ≡ true → ((d.meaning.part k).looked b ≡ true) ⊎ (Some a ≡ Some b)
+    marks b l = elim (or_cases (eqb b a) ((d.meaning.part k).looked b) (sym (ap (λ f. f b) h.looked) ∙ l)) [ inl y ↦ inr (ap Some (sym (eqb-true b a y))) | inr y ↦ inl y ]
+
+-- a record that can't be held can't be changed
+pub hold_refused : {S : Type 0} (k : ℕ) (me : Side) (a : ℕ) (c : Change) (d : Hold S) (s : Stop) (e : Hold S) → Fails k me a d s e → SegRefuses k me (Edit a c) d s e
+hold_refused {S} k me a c d s e f = record {
   stopped = f.stopped;
   beside = f.beside;
   why = reason s f.why;
-  looked = λ b l. elim (f.looked b l) [ inl x ↦ inl x | inr x ↦ inr (at ∙ ap Some (sym x)) ];
-  locks = λ b l. elim (f.locks b l) [ inl x ↦ inl x | inr x ↦ inr (at ∙ ap Some (sym x)) ];
+  looked = λ b l. elim (f.looked b l) [ inl x ↦ inl x | inr x ↦ inr (ap Some (sym x)) ];
+  locks = λ b l. elim (f.locks b l) [ inl x ↦ inl x | inr x ↦ inr (ap Some (sym x)) ];
 }
   where
-    reason : (z : Stop) → FailWhy k me a grows z e → SegWhy k me z c e
-    reason (Lost q) w = (change, at ∙ ap Some (sym w.0), w.1)
-    reason (Full r n l) w = (grow w.0, w.1, w.2, w.3)
-    reason OutOfMemory w = held
+    reason : (z : Stop) → FailWhy k me a z e → SegWhy k me z (Edit a c) (sees d.meaning k) e
+    reason (Lost q) w = (tt, ap Some (sym w.0), w.1)
+    reason OutOfMemory w = tt
     reason _ w = absurd w
 
 -- ---- the same segment, by another name
 
 pub change_held_at : (k k1 a : ℕ) (m m1 : Meaning) → k1 ≡ k → holds (m1.part k) ≡ with_mark a (holds (m.part k)) → holds (m1.part k1) a ≡ true
 change_held_at k k1 a m m1 e h = ap (λ z. holds (m1.part z) a) e ∙ ap (λ f. f a) h ∙ or_left (eqb a a) (holds (m.part k) a) (eq-eqb a a refl)
+
+pub can_moved : (k k1 a : ℕ) (c : Change) (m m1 : Meaning) → k1 ≡ k → sees m1 k ≡ sees m k → CanChange (sees m k) a c → CanChange (sees m1 k1) a c
+can_moved k k1 a c m m1 e h t = subst (λ z. CanChange (sees m1 z) a c) (sym e) (subst (λ z. CanChange z a c) (sym h) t)
 
 pub runs_moved : {S : Type 0} (hs : List (Hand S)) (k1 k : ℕ) → k1 ≡ k → runs_at hs k1 ≡ false → runs_at hs k ≡ false
 runs_moved hs k1 k e h = subst (λ z. runs_at hs z ≡ false) e h

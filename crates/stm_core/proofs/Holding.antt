@@ -345,30 +345,30 @@ beside_stop k me m r r1 b p o o1 le = record {
 }
 
 -- the call was refused and the store, the books and the progress are as before
-pub fails_alone : {S : Type 0} (k : ℕ) (me : Side) (a : ℕ) (grows : Type 0) (m m1 : Meaning) (r r1 : ℕ) (b b1 : Books S) (p p1 : Progress S) (o o1 : Option Stop) (s : Stop) → m1 ≡ m → r ≤ r1 → b1 ≡ b → p1 ≡ p → o1 ≡ Some s
-    → FailWhy k me a grows s (holding m r1 b p (Some s)) → Fails k me a grows (holding m r b p o) s (holding m1 r1 b1 p1 o1)
-fails_alone {S} k me a grows m m1 r r1 b b1 p p1 o o1 s em le eb ep eo why =
-    let base : Fails k me a grows (holding m r b p o) s (holding m r1 b p (Some s)) = record {
+pub fails_alone : {S : Type 0} (k : ℕ) (me : Side) (a : ℕ) (m m1 : Meaning) (r r1 : ℕ) (b b1 : Books S) (p p1 : Progress S) (o o1 : Option Stop) (s : Stop) → m1 ≡ m → r ≤ r1 → b1 ≡ b → p1 ≡ p → o1 ≡ Some s
+    → FailWhy k me a s (holding m r1 b p (Some s)) → Fails k me a (holding m r b p o) s (holding m1 r1 b1 p1 o1)
+fails_alone {S} k me a m m1 r r1 b b1 p p1 o o1 s em le eb ep eo why =
+    let base : Fails k me a (holding m r b p o) s (holding m r1 b p (Some s)) = record {
       stopped = refl;
       beside = beside_stop k me m r r1 b p o (Some s) le;
       why = why;
       looked = λ c h. inl h;
       locks = λ c h. inl h;
     } in
-    subst (λ z. Fails k me a grows (holding m r b p o) s (holding z r1 b1 p1 o1)) (sym em) (subst (λ z. Fails k me a grows (holding m r b p o) s (holding m r1 z p1 o1)) (sym eb)
-    (subst (λ z. Fails k me a grows (holding m r b p o) s (holding m r1 b z o1)) (sym ep) (subst (λ z. Fails k me a grows (holding m r b p o) s (holding m r1 b p z)) (sym eo) base)))
+    subst (λ z. Fails k me a (holding m r b p o) s (holding z r1 b1 p1 o1)) (sym em) (subst (λ z. Fails k me a (holding m r b p o) s (holding m r1 z p1 o1)) (sym eb)
+    (subst (λ z. Fails k me a (holding m r b p o) s (holding m r1 b z o1)) (sym ep) (subst (λ z. Fails k me a (holding m r b p o) s (holding m r1 b p z)) (sym eo) base)))
 
 -- it found no memory
-pub fails_memory : {S : Type 0} (k : ℕ) (me : Side) (a : ℕ) (grows : Type 0) (m m1 : Meaning) (r r1 : ℕ) (b b1 : Books S) (p p1 : Progress S) (o o1 : Option Stop) (e : Stop) → e ≡ OutOfMemory → o1 ≡ Some OutOfMemory → m1 ≡ m → r1 ≡ r → b1 ≡ b → p1 ≡ p
-    → Fails k me a grows (holding m r b p o) e (holding m1 r1 b1 p1 o1)
-fails_memory {S} k me a grows m m1 r r1 b b1 p p1 o o1 e ee eo em er eb ep =
-    subst (λ z. Fails k me a grows (holding m r b p o) z (holding m1 r1 b1 p1 o1)) (sym ee)
-    (fails_alone k me a grows m m1 r r1 b b1 p p1 o o1 OutOfMemory em (omega (arith, er)) eb ep eo tt)
+pub fails_memory : {S : Type 0} (k : ℕ) (me : Side) (a : ℕ) (m m1 : Meaning) (r r1 : ℕ) (b b1 : Books S) (p p1 : Progress S) (o o1 : Option Stop) (e : Stop) → e ≡ OutOfMemory → o1 ≡ Some OutOfMemory → m1 ≡ m → r1 ≡ r → b1 ≡ b → p1 ≡ p
+    → Fails k me a (holding m r b p o) e (holding m1 r1 b1 p1 o1)
+fails_memory {S} k me a m m1 r r1 b b1 p p1 o o1 e ee eo em er eb ep =
+    subst (λ z. Fails k me a (holding m r b p o) z (holding m1 r1 b1 p1 o1)) (sym ee)
+    (fails_alone k me a m m1 r r1 b b1 p p1 o o1 OutOfMemory em (omega (arith, er)) eb ep eo tt)
 
 -- the segment loses to another one
 pub fails_lost : {S : Type 0} (k : ℕ) (me : Side) (a j : ℕ) (f : Conflict) (m m1 : Meaning) (r r1 : ℕ) (b b1 : Books S) (p p1 : Progress S) (o o1 : Option Stop) (s : Stop) → s ≡ Lost f → j ≢ k → runs_at b.hands.items j ≡ true → f.at.0 ≡ a
     → f.writer ≡ side_of j f.writer (slice_get b.hands.items j) → f.other ≡ me → f.asks ≡ true → f.lost ≡ 1 → wins me f.writer ≡ false → mem a (m.part j).changed ≡ true
-    → m1 ≡ m → r1 ≡ r → b1 ≡ b → p1 ≡ p → o1 ≡ Some s → Fails k me a (⊥) (holding m r b p o) s (holding m1 r1 b1 p1 o1)
+    → m1 ≡ m → r1 ≡ r → b1 ≡ b → p1 ≡ p → o1 ≡ Some s → Fails k me a (holding m r b p o) s (holding m1 r1 b1 p1 o1)
 fails_lost {S} k me a j f m m1 r r1 b b1 p p1 o o1 s es n run at wr ot as' lo wi held em er eb ep eo =
     let x = work_at b.hands.items j run in
     let why : (w : World) → LosesTo k me f (core_of w m b) = λ w.
@@ -385,12 +385,12 @@ fails_lost {S} k me a j f m m1 r r1 b b1 p p1 o o1 s es n run at wr ot as' lo wi
       lost = lo;
       loses = wi;
     } in
-    subst (λ z. Fails k me a (⊥) (holding m r b p o) z (holding m1 r1 b1 p1 o1)) (sym es)
-    (fails_alone k me a (⊥) m m1 r r1 b b1 p p1 o o1 (Lost f) em (omega (arith, er)) eb ep (eo ∙ ap Some es) (at, why))
+    subst (λ z. Fails k me a (holding m r b p o) z (holding m1 r1 b1 p1 o1)) (sym es)
+    (fails_alone k me a m m1 r r1 b b1 p p1 o o1 (Lost f) em (omega (arith, er)) eb ep (eo ∙ ap Some es) (at, why))
 
 -- first a doom of another segment, and then the call failed
 pub fails_after : {S : Type 0} (k : ℕ) (me : Side) (a j : ℕ) (f : Conflict) (m : Meaning) (r : ℕ) (b b1 : Books S) (p : Progress S) (o : Option Stop) (s : Stop) (e : Hold S) → j ≢ k → ((w : World) → Dooms k me (f ∷ []) (core_of w m b) (core_of w (after_drop j m) b1))
-    → Fails k me a (⊥) (holding (after_drop j m) r b1 p o) s e → Fails k me a (⊥) (holding m r b p o) s e
+    → Fails k me a (holding (after_drop j m) r b1 p o) s e → Fails k me a (holding m r b p o) s e
 fails_after k me a j f m r b b1 p o s e n ds h =
     let q = other_part j (ended (m.part j)) m k (λ x. n (sym x)) in
     record {
@@ -425,5 +425,5 @@ module _ {S : Type 0} (k : ℕ) (me : Side) (j : ℕ) (f : Conflict) (m : Meanin
   pub holds_then : Holds k1 me1 a (holding m1 r1 b1 p1 o1) e → Holds k me a (holding m r b p o) e
   holds_then h = holds_after k me a j f m r b b1 p o e d.other d.dooms (moved (λ i s z. Holds i s a z e) h)
 
-  pub fails_then : (s : Stop) → Fails k1 me1 a (⊥) (holding m1 r1 b1 p1 o1) s e → Fails k me a (⊥) (holding m r b p o) s e
-  fails_then s h = fails_after k me a j f m r b b1 p o s e d.other d.dooms (moved (λ i z x. Fails i z a (⊥) x s e) h)
+  pub fails_then : (s : Stop) → Fails k1 me1 a (holding m1 r1 b1 p1 o1) s e → Fails k me a (holding m r b p o) s e
+  fails_then s h = fails_after k me a j f m r b b1 p o s e d.other d.dooms (moved (λ i z x. Fails i z a x s e) h)

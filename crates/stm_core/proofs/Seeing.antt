@@ -8,11 +8,11 @@ use Rattle.py_data.specs.declared.stop.Side.{Side}
 use Rattle.py_data.specs.declared.stop.Stop.{Stop}
 use Rattle.py_data.specs.declared.stop.Stop.TheVariants.{Lost, Full, OutOfMemory, NeedSolo}
 use Rattle.py_data.specs.Heap.{Rec, Heap, Marks, Has, at, is_tracked, blank, put_at, length_by}
-use Rattle.py_data.specs.declared.value.Kind.TheVariants.{Str as StrKind, Dict as DictKind}
-use Rattle.py_data.specs.declared.value.Kind.{Kind}
+use Rattle.py_base.specs.declared.kind.Kind.TheVariants.{Str as StrKind}
+use Rattle.py_base.specs.declared.kind.Kind.{Kind}
 use Rattle.py_data.specs.World.{World}
 use Rattle.py_data.specs.Collection.{places}
-use Rattle.py_data.specs.Shape.{find, IsKey, ArePairs}
+use Rattle.py_data.specs.Shape.{Fits, find}
 use Rattle.py_data.specs.Sight.{looked_at, with_mark}
 use Rattle.py_data.specs.Row.{Call, Read, Find, Make, Start}
 use Rattle.py_data.specs.Sense.{IfThere}
@@ -20,7 +20,7 @@ use Rattle.seg_store.specs.declared.store.StoreFault.{StoreFault}
 use Rattle.seg_store.specs.declared.store.StoreFault.TheVariants.{Full as FullStore, OutOfMemory as NoMemoryLeft}
 use Rattle.seg_store.specs.Meaning.{Part, Meaning, sees, holds, over}
 use Rattle.seg_store.specs.Calls.{after_mark, made, after_make}
-use Rattle.seg_store.specs.Store.{IsFree, IsStore, IsStored, OneList}
+use Rattle.seg_store.specs.Store.{CanFind, IsFree, IsStore, IsStored, OneList}
 use Rattle.seg_store.proofs.Sees.{same_marks, own_part, make_shows}
 use Rattle.stm_core.specs.declared.books.Progress.{Progress}
 use Rattle.stm_core.specs.declared.books.Books.{Books}
@@ -73,7 +73,7 @@ see_done {S} me a k m m1 r r1 b b1 p p1 o o1 out there h er eb ep eo live =
 
 -- a call that stopped and changed nothing
 pub refused_alone : {S : Type 0} (k : ℕ) (me : Side) (c : Call S) (m m1 : Meaning) (r r1 : ℕ) (b b1 : Books S) (p p1 : Progress S) (o o1 : Option Stop) (s : Stop) → m1 ≡ m → r ≤ r1 → b1 ≡ b → p1 ≡ p → o1 ≡ Some s
-    → SegWhy k me s c (holding m r1 b p (Some s)) → SegRefuses k me c (holding m r b p o) s (holding m1 r1 b1 p1 o1)
+    → SegWhy k me s c (sees m k) (holding m r1 b p (Some s)) → SegRefuses k me c (holding m r b p o) s (holding m1 r1 b1 p1 o1)
 refused_alone {S} k me c m m1 r r1 b b1 p p1 o o1 s em le eb ep eo why =
     let base : SegRefuses k me c (holding m r b p o) s (holding m r1 b p (Some s)) = record { stopped = refl; beside = beside_stop k me m r r1 b p o (Some s) le; why = why; looked = λ x h. inl h; locks = λ x h. inl h } in
     subst (λ z. SegRefuses k me c (holding m r b p o) s (holding z r1 b1 p1 o1)) (sym em) (subst (λ z. SegRefuses k me c (holding m r b p o) s (holding m r1 z p1 o1)) (sym eb)
@@ -99,20 +99,17 @@ see_refused {S} me a k m m1 r r1 b b1 p p1 o o1 e ee eo em er eb ep =
 
 -- ---- the search of a dictionary
 
-pub find_done : {S : Type 0} (k : ℕ) (me : Side) (a : ℕ) (key : Value) (d e : Hold S) (o : Option ℕ) → IfThere false (sees d.meaning k a) (λ r. (r.kind ≡ DictKind) × IsKey (sees d.meaning k) key × ArePairs (sees d.meaning k) r.values)
+pub find_done : {S : Type 0} (k : ℕ) (me : Side) (a : ℕ) (key : Value) (d e : Hold S) (o : Option ℕ) → CanFind (sees d.meaning k) a key
     → SegDoes k me (Read a) d (at (sees d.meaning k) a) e → o ≡ find (sees d.meaning k) (at (sees d.meaning k) a).values key → SegDoes k me (Find a key) d o e
 find_done {S} k me a key d e o there h f = ((at (sees d.meaning k) a, h.0.0, fits, f, h.0.1), h.1, h.2)
   where
-    Needs : Rec → Type 0
-    Needs r = (r.kind ≡ DictKind) × IsKey (sees d.meaning k) key × ArePairs (sees d.meaning k) r.values
-
-    fits : Needs (at (sees d.meaning k) a)
-    fits = subst (λ q. IfThere false q Needs) h.0.0 there
+    fits : Fits (sees d.meaning k) (at (sees d.meaning k) a) key
+    fits = subst (λ q. IfThere false q (λ r. Fits (sees d.meaning k) r key)) h.0.0 there
 
 pub find_refused : {S : Type 0} (k : ℕ) (me : Side) (a : ℕ) (key : Value) (d : Hold S) (s : Stop) (e : Hold S) → SegRefuses k me (Read a) d s e → SegRefuses k me (Find a key) d s e
 find_refused k me a key d s e h = record { stopped = h.stopped; beside = h.beside; why = reason s h.why; looked = h.looked; locks = h.locks }
   where
-    reason : (z : Stop) → SegWhy k me z (Read a) e → SegWhy k me z (Find a key) e
+    reason : (z : Stop) → SegWhy k me z (Read a) (sees d.meaning k) e → SegWhy k me z (Find a key) (sees d.meaning k) e
     reason (Lost q) w = absurd w.0
     reason NeedSolo w = w
     reason (Full r n l) w = absurd w.0
@@ -230,7 +227,7 @@ make_refused {S} k me m m1 r r1 b b1 p p1 o o1 q x s em er eb ep es eo why =
     subst (λ z. SegRefuses k me (Make q) (holding m r b p o) z (holding m1 r1 b1 p1 o1)) (sym es)
     (refused_alone k me (Make q) m m1 r r1 b b1 p p1 o o1 (stop_of x) em er eb ep (eo ∙ ap Some es) (reason x why))
   where
-    reason : (y : StoreFault) → FaultWhy (Unit {0}) r1 m.limit y → SegWhy k me (stop_of y) (Make q) (holding m r1 b p (Some (stop_of x)))
+    reason : (y : StoreFault) → FaultWhy (Unit {0}) r1 m.limit y → SegWhy k me (stop_of y) (Make q) (sees m k) (holding m r1 b p (Some (stop_of x)))
     reason (FullStore u n l) w = w
     reason NoMemoryLeft w = tt
 

@@ -6,7 +6,7 @@ use Rattle.py_data.specs.declared.stop.Conflict.{Conflict}
 use Rattle.py_data.specs.Heap.{Rec, Heap, is_tracked}
 use Rattle.py_data.specs.World.{World}
 use Rattle.py_data.specs.Collection.{places}
-use Rattle.py_data.specs.Row.{Call, Reply, Row, Ret, Do, Read, Find, SetVal, Push, Truncate, PushPair, DropPair, Make, Start, Put, Take, MidLine, SetMidLine}
+use Rattle.py_data.specs.Row.{Call, Reply, Row, Ret, Do, Read, Find, Edit, Make, Start, Put, Take, MidLine, SetMidLine}
 use Rattle.py_data.specs.Sense.{Run}
 use Rattle.py_data.specs.Sight.{Sight, Act, Does, mem}
 use Rattle.lock_run.specs.declared.client.Outcome.{Outcome}
@@ -40,11 +40,7 @@ act_world w k me (SetMidLine b) d r e mortal h n = absurd (both_ways me.solo mor
 act_world w k me MidLine d r e mortal h n = absurd (n refl)
 act_world w k me (Read a) d r e mortal h n = (h.0.0, ap (at_world w) h.0.1)
 act_world w k me (Find a v) d r e mortal h n = (h.0.0, h.0.1, h.0.2, h.0.3, ap (at_world w) h.0.4)
-act_world w k me (SetVal a i v) d r e mortal h n = (h.0.0, h.0.1, h.0.2, ap (at_world w) h.0.3)
-act_world w k me (Push a v) d r e mortal h n = (h.0.0, h.0.1, h.0.2, ap (at_world w) h.0.3)
-act_world w k me (Truncate a i) d r e mortal h n = (h.0.0, h.0.1, h.0.2, ap (at_world w) h.0.3)
-act_world w k me (PushPair a x v) d r e mortal h n = (h.0.0, h.0.1, h.0.2, ap (at_world w) h.0.3)
-act_world w k me (DropPair a i) d r e mortal h n = (h.0.0, h.0.1, h.0.2, ap (at_world w) h.0.3)
+act_world w k me (Edit a x) d r e mortal h n = (h.0.0, h.0.1, h.0.2, ap (at_world w) h.0.3)
 act_world w k me (Make q) d r e mortal h n = (h.0.0, ap (at_world w) h.0.1)
 act_world w k me (Start s) d r e mortal h n = ap (at_world w) h.0
 
@@ -56,11 +52,7 @@ call_beside k me (SetMidLine b) d r e h = subst (Beside k me d) (sym h.1) (besid
 call_beside k me MidLine d r e h = subst (Beside k me d) (sym h.1) (beside_refl k me d)
 call_beside k me (Read a) d r e h = h.1
 call_beside k me (Find a v) d r e h = h.1
-call_beside k me (SetVal a i v) d r e h = h.1
-call_beside k me (Push a v) d r e h = h.1
-call_beside k me (Truncate a i) d r e h = h.1
-call_beside k me (PushPair a x v) d r e h = h.1
-call_beside k me (DropPair a i) d r e h = h.1
+call_beside k me (Edit a x) d r e h = h.1
 call_beside k me (Make q) d r e h = h.1
 call_beside k me (Start s) d r e h = h.1
 
@@ -75,11 +67,7 @@ module _ {S X : Type 0} (hold : X → Hold S) (segment : X → ℕ) (me : X → 
   no_write (Do (SetMidLine b) k) v y u h d = h
   no_write (Do (Read a) k) v y u h d = h
   no_write (Do (Find a x) k) v y u h d = h
-  no_write (Do (SetVal a i x) k) v y u h d = h
-  no_write (Do (Push a x) k) v y u h d = h
-  no_write (Do (Truncate a i) k) v y u h d = h
-  no_write (Do (PushPair a z x) k) v y u h d = h
-  no_write (Do (DropPair a i) k) v y u h d = h
+  no_write (Do (Edit a x) k) v y u h d = h
   no_write (Do (Make q) k) v y u h d = h
   no_write (Do (Start s) k) v y u h d = h
 
@@ -91,11 +79,7 @@ module _ {S X : Type 0} (hold : X → Hold S) (segment : X → ℕ) (me : X → 
   no_question (SetMidLine b) k r m y u e h d = cc
   no_question (Read a) k r m y u e h d = cc
   no_question (Find a v) k r m y u e h d = cc
-  no_question (SetVal a i v) k r m y u e h d = cc
-  no_question (Push a v) k r m y u e h d = cc
-  no_question (Truncate a i) k r m y u e h d = cc
-  no_question (PushPair a x v) k r m y u e h d = cc
-  no_question (DropPair a i) k r m y u e h d = cc
+  no_question (Edit a x) k r m y u e h d = cc
   no_question (Make q) k r m y u e h d = cc
   no_question (Start s) k r m y u e h d = cc
 

@@ -6,7 +6,7 @@ use Rattle.py_data.specs.declared.stop.Stop.{Stop}
 use Rattle.py_data.specs.Heap.{Heap}
 use Rattle.py_data.specs.World.{World}
 use Rattle.py_data.specs.Collection.{places}
-use Rattle.py_data.specs.Row.{Call, Reply, Row, Ret, Do, Read, Find, SetVal, Push, Truncate, PushPair, DropPair, Make, Start, Put, Take, MidLine, SetMidLine}
+use Rattle.py_data.specs.Row.{Call, Reply, Row, Ret, Do, Read, Find, Edit, Make, Start, Put, Take, MidLine, SetMidLine}
 use Rattle.py_data.specs.Sense.{Stopped, Upto}
 use Rattle.py_data.specs.Sight.{Sight, Act, mem, pure}
 use Rattle.seg_store.specs.Meaning.{Meaning, sees, over}
@@ -33,11 +33,7 @@ act_used w u k me (SetMidLine b) d r e mortal n h = absurd (both_ways me.solo mo
 act_used w u k me MidLine d r e mortal n h = (true, (h.0 ∙ sym n, ap (λ z. at_used w true (sight k z)) h.1))
 act_used w u k me (Read a) d r e mortal n h = (u, (h.0.0, ap (at_used w u) h.0.1))
 act_used w u k me (Find a v) d r e mortal n h = (u, (h.0.0, h.0.1, h.0.2, h.0.3, ap (at_used w u) h.0.4))
-act_used w u k me (SetVal a i v) d r e mortal n h = (u, (h.0.0, h.0.1, h.0.2, ap (at_used w u) h.0.3))
-act_used w u k me (Push a v) d r e mortal n h = (u, (h.0.0, h.0.1, h.0.2, ap (at_used w u) h.0.3))
-act_used w u k me (Truncate a i) d r e mortal n h = (u, (h.0.0, h.0.1, h.0.2, ap (at_used w u) h.0.3))
-act_used w u k me (PushPair a x v) d r e mortal n h = (u, (h.0.0, h.0.1, h.0.2, ap (at_used w u) h.0.3))
-act_used w u k me (DropPair a i) d r e mortal n h = (u, (h.0.0, h.0.1, h.0.2, ap (at_used w u) h.0.3))
+act_used w u k me (Edit a x) d r e mortal n h = (u, (h.0.0, h.0.1, h.0.2, ap (at_used w u) h.0.3))
 act_used w u k me (Make q) d r e mortal n h = (u, (h.0.0, ap (at_used w u) h.0.1))
 act_used w u k me (Start s) d r e mortal n h = (u, ap (at_used w u) h.0)
 

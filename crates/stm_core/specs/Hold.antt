@@ -6,13 +6,9 @@ use Rattle.py_data.specs.declared.stop.Stop.{Stop}
 use Rattle.py_data.specs.declared.stop.Stop.TheVariants.{Lost, NeedSolo, Full, OutOfMemory}
 use Rattle.py_data.specs.Heap.{Rec, Heap, is_tracked}
 use Rattle.py_data.specs.World.{World}
-use Rattle.py_data.specs.Sense.{touches}
-use Rattle.py_data.specs.Row.{Call, Reply, Read, Find, SetVal, Push, Truncate, PushPair, DropPair, Make, Start, Put, Take, MidLine, SetMidLine}
-use Rattle.py_data.specs.Sight.{Sight, Act, Edited, CanSet, CanPush, CanPair, mem, with_mark}
-use Rattle.py_data.specs.declared.change.Change.{Change}
-use Rattle.py_data.specs.declared.change.Change.TheVariants as change
-use Rattle.py_data.specs.Changes.{after}
-use Rattle.seg_store.specs.Store.{CanSet as MaySet, CanPush as MayPush, CanCut as MayCut, CanPair as MayPair, HasPair}
+use Rattle.py_data.specs.Sense.{touches, WantsRoom}
+use Rattle.py_data.specs.Row.{Call, Reply, Read, Find, Edit, Make, Start, Put, Take, MidLine, SetMidLine}
+use Rattle.py_data.specs.Sight.{Sight, Act, mem, with_mark}
 use Rattle.seg_store.specs.declared.store.StoreFault.{StoreFault}
 use Rattle.seg_store.specs.declared.store.StoreFault.TheVariants.{Full as FullStore, OutOfMemory as NoMemoryLeft}
 use Rattle.seg_store.specs.Meaning.{Meaning, sees, saw, holds}
@@ -100,11 +96,7 @@ SegDoes k me (SetMidLine b) d r e = (me.solo ≡ true) × (e ≡ d) × (e.stoppe
 SegDoes k me MidLine d r e = (r ≡ false) × (e ≡ d) × (e.stopped ≡ None)
 SegDoes k me (Read a) d r e = Inside k me (Read a) d r e
 SegDoes k me (Find a v) d r e = Inside k me (Find a v) d r e
-SegDoes k me (SetVal a i v) d r e = Inside k me (SetVal a i v) d r e
-SegDoes k me (Push a v) d r e = Inside k me (Push a v) d r e
-SegDoes k me (Truncate a n) d r e = Inside k me (Truncate a n) d r e
-SegDoes k me (PushPair a x v) d r e = Inside k me (PushPair a x v) d r e
-SegDoes k me (DropPair a n) d r e = Inside k me (DropPair a n) d r e
+SegDoes k me (Edit a x) d r e = Inside k me (Edit a x) d r e
 SegDoes k me (Make q) d r e = Inside k me (Make q) d r e
 SegDoes k me (Start s) d r e = Inside k me (Start s) d r e
 
@@ -118,19 +110,8 @@ IsOuter _ = ⊥
 
 -- a call that changes a record
 abbrev pub IsChange : {S : Type 0} → Call S → Type 0
-IsChange (SetVal a i v) = Unit {0}
-IsChange (Push a v) = Unit {0}
-IsChange (Truncate a n) = Unit {0}
-IsChange (PushPair a x v) = Unit {0}
-IsChange (DropPair a n) = Unit {0}
+IsChange (Edit a x) = Unit {0}
 IsChange _ = ⊥
-
--- a call that may want words
-abbrev pub IsGrowth : {S : Type 0} → Call S → Type 0
-IsGrowth (Push a v) = Unit {0}
-IsGrowth (PushPair a x v) = Unit {0}
-IsGrowth (Make q) = Unit {0}
-IsGrowth _ = ⊥
 
 -- a call that takes memory
 abbrev pub IsHeld : {S : Type 0} → Call S → Type 0
@@ -152,19 +133,19 @@ pub record LosesTo {S : Type 0} (k : ℕ) (me : Side) (f : Conflict) (c : CoreSt
   pub lost : f.lost ≡ 1
   pub loses : wins me f.writer ≡ false
 
--- why each Stop comes
-abbrev pub SegWhy : {S : Type 0} → ℕ → Side → Stop → Call S → Hold S → Type 0
-SegWhy k me (Lost f) c e = IsChange c × (touches c ≡ Some f.at.0) × ((w : World) → LosesTo k me f (core_of w e.meaning e.books))
-SegWhy k me NeedSolo c e = IsOuter c
-SegWhy k me (Full r n l) c e = IsGrowth c × (r ≡ e.reserved) × (l ≡ e.meaning.limit) × (l < r + n)
-SegWhy k me OutOfMemory c e = IsHeld c
-SegWhy k me _ c e = ⊥
+-- why each Stop comes, where the call was asked for over the heap h
+abbrev pub SegWhy : {S : Type 0} → ℕ → Side → Stop → Call S → Heap → Hold S → Type 0
+SegWhy k me (Lost f) c h e = IsChange c × (touches c ≡ Some f.at.0) × ((w : World) → LosesTo k me f (core_of w e.meaning e.books))
+SegWhy k me NeedSolo c h e = IsOuter c
+SegWhy k me (Full r n l) c h e = WantsRoom c h × (r ≡ e.reserved) × (l ≡ e.meaning.limit) × (l < r + n)
+SegWhy k me OutOfMemory c h e = IsHeld c
+SegWhy k me _ c h e = ⊥
 
 -- a call that was refused: at most one record more was looked at or locked, the one that the call asks for
 pub record SegRefuses {S : Type 0} (k : ℕ) (me : Side) (c : Call S) (d : Hold S) (s : Stop) (e : Hold S) : Type 0 where
   pub stopped : e.stopped ≡ Some s
   pub beside : Beside k me d e
-  pub why : SegWhy k me s c e
+  pub why : SegWhy k me s c (sees d.meaning k) e
   pub looked : (a : ℕ) → (e.meaning.part k).looked a ≡ true → ((d.meaning.part k).looked a ≡ true) ⊎ (touches c ≡ Some a)
   pub locks : (a : ℕ) → mem a (e.meaning.part k).changed ≡ true → (mem a (d.meaning.part k).changed ≡ true) ⊎ (touches c ≡ Some a)
 
@@ -216,50 +197,21 @@ pub record Holds {S : Type 0} (k : ℕ) (me : Side) (a : ℕ) (d e : Hold S) : T
   pub beside : Beside k me d e
   pub locks : (b : ℕ) → mem b (e.meaning.part k).changed ≡ true → (mem b (d.meaning.part k).changed ≡ true) ⊎ (b ≡ a)
 
--- why a call on the record a failed; where it may want words, the heap may be full
-abbrev pub FailWhy : {S : Type 0} → ℕ → Side → ℕ → Type 0 → Stop → Hold S → Type 0
-FailWhy k me a grows (Lost f) e = (f.at.0 ≡ a) × ((w : World) → LosesTo k me f (core_of w e.meaning e.books))
-FailWhy k me a grows (Full r n l) e = grows × (r ≡ e.reserved) × (l ≡ e.meaning.limit) × (l < r + n)
-FailWhy k me a grows OutOfMemory e = Unit {0}
-FailWhy k me a grows _ e = ⊥
+-- why the record a can't be held
+abbrev pub FailWhy : {S : Type 0} → ℕ → Side → ℕ → Stop → Hold S → Type 0
+FailWhy k me a (Lost f) e = (f.at.0 ≡ a) × ((w : World) → LosesTo k me f (core_of w e.meaning e.books))
+FailWhy k me a OutOfMemory e = Unit {0}
+FailWhy k me a _ e = ⊥
 
--- a call on the record a failed: at most that record more was looked at or locked
-pub record Fails {S : Type 0} (k : ℕ) (me : Side) (a : ℕ) (grows : Type 0) (d : Hold S) (s : Stop) (e : Hold S) : Type 0 where
+-- the record a can't be held: at most that record more was looked at or locked
+pub record Fails {S : Type 0} (k : ℕ) (me : Side) (a : ℕ) (d : Hold S) (s : Stop) (e : Hold S) : Type 0 where
   pub stopped : e.stopped ≡ Some s
   pub beside : Beside k me d e
-  pub why : FailWhy k me a grows s e
+  pub why : FailWhy k me a s e
   pub looked : (b : ℕ) → (e.meaning.part k).looked b ≡ true → ((d.meaning.part k).looked b ≡ true) ⊎ (b ≡ a)
   pub locks : (b : ℕ) → mem b (e.meaning.part k).changed ≡ true → (mem b (d.meaning.part k).changed ≡ true) ⊎ (b ≡ a)
 
--- ---- changes
-
--- what a change needs of the record at an address
-abbrev pub Can : Change → Heap → ℕ → Type 0
-Can (change.Set i v) h a = MaySet h a i
-Can (change.Push v) h a = MayPush h a
-Can (change.Cut n) h a = MayCut h a
-Can (change.Pair x v) h a = MayPair h a x
-Can (change.Unpair n) h a = HasPair h a n
-
--- of which records it may be made
-abbrev pub Fits : Change → Rec → Type 0
-Fits (change.Set i v) = CanSet i
-Fits (change.Push v) = CanPush
-Fits (change.Cut n) = CanPush
-Fits (change.Pair x v) = CanPair
-Fits (change.Unpair n) = CanPair
-
--- it may want words
-abbrev pub MayGrow : Change → Type 0
-MayGrow (change.Push v) = Unit {0}
-MayGrow (change.Pair x v) = Unit {0}
-MayGrow _ = ⊥
-
--- why a store refuses a change
+-- why a store refuses a call that may want words
 abbrev pub FaultWhy : Type 0 → ℕ → ℕ → StoreFault → Type 0
 FaultWhy grows reserved limit NoMemoryLeft = Unit {0}
 FaultWhy grows reserved limit (FullStore r n l) = grows × (r ≡ reserved) × (l ≡ limit) × (l < r + n)
-
--- a change that was done
-abbrev pub Changed : {S : Type 0} → ℕ → Side → ℕ → Change → Hold S → Hold S → Type 0
-Changed k me a c d e = Edited a (Fits c) (after c) (sight k d) (sight k e) × Beside k me d e × (e.stopped ≡ None)

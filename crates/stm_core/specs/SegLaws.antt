@@ -6,10 +6,12 @@ use Rattle.py_data.specs.declared.stop.Side.{Side}
 use Rattle.py_data.specs.declared.stop.Stop.{Stop}
 use Rattle.py_data.specs.declared.stop.Stop.TheVariants.{Lost, NeedSolo, Full, OutOfMemory}
 use Rattle.py_data.specs.declared.stop.Out.TheVariants.{Output, ErrorOutput}
-use Rattle.py_data.specs.Heap.{Rec, is_tracked, put_at, with_value, with_push, cut_to, with_pair, without_pair}
+use Rattle.py_data.specs.declared.change.Change.{Change}
+use Rattle.py_data.specs.Changes.{after}
+use Rattle.py_data.specs.Heap.{Rec, Heap, is_tracked, put_at}
 use Rattle.py_data.specs.Shape.{find}
-use Rattle.py_data.specs.Row.{Call, Read, Find, SetVal, Push, Truncate, PushPair, DropPair, Make, Start, Put, Take, MidLine, SetMidLine, Reply}
-use Rattle.py_data.specs.Sense.{Lawful, IsBracket, Effect, Edits, can_refuse, touches}
+use Rattle.py_data.specs.Row.{Call, Read, Find, Edit, Make, Start, Put, Take, MidLine, SetMidLine, Reply}
+use Rattle.py_data.specs.Sense.{Lawful, IsBracket, Effect, Edits, can_refuse, touches, WantsRoom, IfFull}
 use Rattle.py_data.specs.Sight.{Sight, Edited, looked_at}
 use Rattle.py_data.proofs.Steps.{at-is}
 use Rattle.py_data.proofs.Grow.{act_grows, grows_refl, with_rec_here}
@@ -27,16 +29,12 @@ inside k me (SetMidLine b) d r e h = inr (h.1, h.2)
 inside k me MidLine d r e h = inr (h.1, h.2)
 inside k me (Read a) d r e h = inl h
 inside k me (Find a v) d r e h = inl h
-inside k me (SetVal a i v) d r e h = inl h
-inside k me (Push a v) d r e h = inl h
-inside k me (Truncate a n) d r e h = inl h
-inside k me (PushPair a x v) d r e h = inl h
-inside k me (DropPair a n) d r e h = inl h
+inside k me (Edit a x) d r e h = inl h
 inside k me (Make q) d r e h = inl h
 inside k me (Start s) d r e h = inl h
 
-edits : {T : Type 0} (a : ℕ) (ok : Rec → Type 0) (f : Rec → Rec) (s t : Sight T) → Edited a ok f s t → Edits a f s.heap t.heap
-edits a ok f s t h = (subst IsSome (sym h.1) refl, ap (λ z. z.heap) h.3 ∙ ap (λ q. put_at s.heap a (f q)) (sym (at-is s.heap a h.0 h.1)))
+edits : {T : Type 0} (a : ℕ) (x : Change) (s t : Sight T) → Edited a x s t → Edits a (after x) s.heap t.heap
+edits a x s t h = (subst IsSome (sym h.1) refl, ap (λ z. z.heap) h.3 ∙ ap (λ q. put_at s.heap a (after x q)) (sym (at-is s.heap a h.0 h.1)))
 
 effect : {T : Type 0} (k : ℕ) (me : Side) (c : Call T) (d : Hold T) (r : Reply c) (e : Hold T) → SegDoes k me c d r e → Effect false c (sees d.meaning k) r (sees e.meaning k)
 effect k me (Put on bytes) d r e h = absurd h
@@ -45,11 +43,7 @@ effect k me (SetMidLine b) d r e h = ap (λ z. sees z.meaning k) h.1
 effect k me MidLine d r e h = ap (λ z. sees z.meaning k) h.1
 effect k me (Read a) d r e h = (h.0.0, ap (λ z. z.heap) h.0.1)
 effect k me (Find a v) d r e h = (subst IsSome (sym h.0.1) refl, h.0.3 ∙ ap (λ q. find (sees d.meaning k) q.values v) (sym (at-is (sees d.meaning k) a h.0.0 h.0.1)), ap (λ z. z.heap) h.0.4, tt)
-effect k me (SetVal a i v) d r e h = edits a _ (with_value i v) (sight k d) (sight k e) h.0
-effect k me (Push a v) d r e h = edits a _ (with_push v) (sight k d) (sight k e) h.0
-effect k me (Truncate a n) d r e h = edits a _ (cut_to n) (sight k d) (sight k e) h.0
-effect k me (PushPair a x v) d r e h = edits a _ (with_pair x v) (sight k d) (sight k e) h.0
-effect k me (DropPair a n) d r e h = edits a _ (without_pair n) (sight k d) (sight k e) h.0
+effect k me (Edit a x) d r e h = edits a x (sight k d) (sight k e) h.0
 effect k me (Make q) d r e h = (h.0.0, ap (λ z. z.heap) h.0.1, refl)
 effect k me (Start s) d r e h = ap (λ z. z.heap) h.0
 
@@ -57,14 +51,11 @@ effect k me (Start s) d r e h = ap (λ z. z.heap) h.0
 grown : {T : Type 0} (k : ℕ) (me : Side) (c : Call T) (d : Hold T) (r : Reply c) (e : Hold T) → SegDoes k me c d r e → Grows (sight k d) (sight k e)
 grown k me c d r e h = elim (inside k me c d r e h) [ inl i ↦ act_grows c (sight k d) r (sight k e) i.0 | inr q ↦ subst (λ z. Grows (sight k d) (sight k z)) (sym q.0) (grows_refl (sight k d)) ]
 
-same_kind : (f : Rec → Rec) (r : Rec) → (f r).kind ≡ r.kind → is_tracked (f r).kind ≡ true → is_tracked r.kind ≡ true
-same_kind f r e h = ap is_tracked (sym e) ∙ h
-
 -- a record that was looked at, or changed, is seen then
-seen_edit : {T : Type 0} (a k : ℕ) (ok : Rec → Type 0) (f : Rec → Rec) (d e : Hold T) → Edited a ok f (sight k d) (sight k e) → Seen a k e
-seen_edit a k ok f d e h = record {
-  entry = f h.0;
-  is = ap (λ (z : Sight _). z.heap a) h.3 ∙ with_rec_here a (f h.0) (sees d.meaning k);
+seen_edit : {T : Type 0} (a k : ℕ) (x : Change) (d e : Hold T) → Edited a x (sight k d) (sight k e) → Seen a k e
+seen_edit a k x d e h = record {
+  entry = after x h.0;
+  is = ap (λ (z : Sight _). z.heap a) h.3 ∙ with_rec_here a (after x h.0) (sees d.meaning k);
   noted = λ t. ap (λ (z : Sight _). z.looked a) h.3 ∙ or_left (eqb a a) ((d.meaning.part k).looked a) (eq-eqb a a refl);
 }
 
@@ -85,11 +76,7 @@ seen_by k me (Make q) d r e a h t = absurd cc
 seen_by k me (Start s) d r e a h t = absurd cc
 seen_by k me (Read b) d r e a h t = let q : b ≡ a = cc in subst (λ z. Seen z k e) q (seen_look b k r d e h.0.0 h.0.1)
 seen_by k me (Find b v) d r e a h t = let q : b ≡ a = cc in subst (λ z. Seen z k e) q (seen_look b k h.0.0 d e h.0.1 h.0.4)
-seen_by k me (SetVal b i v) d r e a h t = let q : b ≡ a = cc in subst (λ z. Seen z k e) q (seen_edit b k _ (with_value i v) d e h.0)
-seen_by k me (Push b v) d r e a h t = let q : b ≡ a = cc in subst (λ z. Seen z k e) q (seen_edit b k _ (with_push v) d e h.0)
-seen_by k me (Truncate b n) d r e a h t = let q : b ≡ a = cc in subst (λ z. Seen z k e) q (seen_edit b k _ (cut_to n) d e h.0)
-seen_by k me (PushPair b x v) d r e a h t = let q : b ≡ a = cc in subst (λ z. Seen z k e) q (seen_edit b k _ (with_pair x v) d e h.0)
-seen_by k me (DropPair b n) d r e a h t = let q : b ≡ a = cc in subst (λ z. Seen z k e) q (seen_edit b k _ (without_pair n) d e h.0)
+seen_by k me (Edit b x) d r e a h t = let q : b ≡ a = cc in subst (λ z. Seen z k e) q (seen_edit b k x d e h.0)
 
 -- what was seen stays seen
 seen_stays : {T : Type 0} (k : ℕ) (me : Side) (c : Call T) (d : Hold T) (r : Reply c) (e : Hold T) (a : ℕ) → SegDoes k me c d r e → Seen a k d → Seen a k e
@@ -105,27 +92,22 @@ kept_base : {T : Type 0} (k : ℕ) (me : Side) (c : Call T) (d : Hold T) (r : Re
 kept_base k me c d r e h = elim (inside k me c d r e h) [ inl i ↦ i.1.saw | inr q ↦ ap (λ z. saw z.meaning k) q.0 ]
 
 -- each Stop is one that such a call can meet, and one of those that a segment's view gives
-cause : {T : Type 0} (k : ℕ) (me : Side) (s : Stop) (c : Call T) (e : Hold T) → SegWhy k me s c e → (can_refuse c s ≡ true) × (seg_stops s ≡ true)
-cause k me (Lost f) (SetVal a i v) e w = (refl, refl)
-cause k me (Lost f) (Push a v) e w = (refl, refl)
-cause k me (Lost f) (Truncate a n) e w = (refl, refl)
-cause k me (Lost f) (PushPair a x v) e w = (refl, refl)
-cause k me (Lost f) (DropPair a n) e w = (refl, refl)
-cause k me (Lost f) _ e w = absurd w.0
-cause k me NeedSolo (Put Output b) e w = (refl, refl)
-cause k me NeedSolo (Put ErrorOutput b) e w = (refl, refl)
-cause k me NeedSolo (Take most) e w = (refl, refl)
-cause k me NeedSolo _ e w = absurd w
-cause k me (Full r n l) (Push a v) e w = (refl, refl)
-cause k me (Full r n l) (PushPair a x v) e w = (refl, refl)
-cause k me (Full r n l) (Make q) e w = (refl, refl)
-cause k me (Full r n l) _ e w = absurd w.0
-cause k me OutOfMemory (Put on b) e w = absurd w
-cause k me OutOfMemory (Take most) e w = absurd w
-cause k me OutOfMemory MidLine e w = absurd w
-cause k me OutOfMemory (SetMidLine b) e w = absurd w
-cause k me OutOfMemory _ e w = (refl, refl)
-cause k me _ c e w = absurd w
+cause : {T : Type 0} (k : ℕ) (me : Side) (s : Stop) (c : Call T) (h : Heap) (e : Hold T) → SegWhy k me s c h e → (can_refuse c s ≡ true) × (seg_stops s ≡ true) × IfFull s (WantsRoom c h)
+cause k me (Lost f) (Edit a x) h e w = (refl, refl, tt)
+cause k me (Lost f) _ h e w = absurd w.0
+cause k me NeedSolo (Put Output b) h e w = (refl, refl, tt)
+cause k me NeedSolo (Put ErrorOutput b) h e w = (refl, refl, tt)
+cause k me NeedSolo (Take most) h e w = (refl, refl, tt)
+cause k me NeedSolo _ h e w = absurd w
+cause k me (Full r n l) (Edit a x) h e w = (refl, refl, w.0)
+cause k me (Full r n l) (Make q) h e w = (refl, refl, w.0)
+cause k me (Full r n l) _ h e w = absurd w.0
+cause k me OutOfMemory (Put on b) h e w = absurd w
+cause k me OutOfMemory (Take most) h e w = absurd w
+cause k me OutOfMemory MidLine h e w = absurd w
+cause k me OutOfMemory (SetMidLine b) h e w = absurd w
+cause k me OutOfMemory _ h e w = (refl, refl, tt)
+cause k me _ c h e w = absurd w
 
 opens_shown : (k : ℕ) (m : Meaning) → (sees (after_open k m) k ≡ sees m k) × (saw (after_open k m) k ≡ sees m k)
 opens_shown k m = (ap (λ p. overlay m.image p.changes) (cond-true (eqb k k) (opened (m.part k)) (m.part k) (eq-eqb k k refl)), ap (λ p. overlay m.image p.kept) (cond-true (eqb k k) (opened (m.part k)) (m.part k) (eq-eqb k k refl)))
@@ -143,7 +125,7 @@ module _ {T X : Type 0} (hold : X → Hold T) (segment : X → ℕ) (me : X → 
     same = λ a v r w s d. d.2 s;
     sure = λ a v e w s h. h.2 s;
     halts = λ c v e w h. h.0.stopped;
-    cause = λ c v e w h. cause (segment v) (me v) e c (hold w) h.0.why;
+    cause = λ c v e w h. cause (segment v) (me v) e c (sees (hold v).meaning (segment v)) (hold w) h.0.why;
   }
 
   pub seg_bracketed : IsBracket (seg_sense hold segment me same) (seg_bracket hold segment me same)

@@ -59,7 +59,7 @@ pub record StepDone {S : Type 0} (p : Prog S) (w : World) (k : ℕ) (me : Side) 
 -- where a row was stopped: its calls were done up to a place, and there the code found no memory, or the next call was refused
 pub record StopsAt {S A : Type 0} (k : ℕ) (me : Side) (row : Row S A) (s : Sight S) (e : Stop) (d : Hold S) : Type 0 where
   pub asks : AsksOnly row s (d.meaning.part k).looked (d.meaning.part k).changed
-  pub why : (e ≡ OutOfMemory) ⊎ ((c : Call S) × (f : Reply c → Row S A) × (asks.left ≡ Do c f) × SegWhy k me e c d)
+  pub why : (e ≡ OutOfMemory) ⊎ ((c : Call S) × (f : Reply c → Row S A) × (asks.left ≡ Do c f) × SegWhy k me e c asks.place.heap d)
 
 -- why a step wasn't done, as the core is afterwards
 abbrev pub CutWhy : {S : Type 0} → ℕ → Side → Stop → CoreState S → ℕ → ℕ → Type 0

@@ -3,18 +3,17 @@ ghost use Rattle.std.specs.Prelude.{◌≡◌, ◌≢◌, ℕ, ◌<◌, ◌≤�
 ghost use Rattle.py_data.specs.declared.stop.Stop.TheVariants.{OutOfMemory};
 ghost use Rattle.py_data.specs.Heap.{Has, at, value_at, is_tracked};
 ghost use Rattle.py_data.specs.Changes.{after};
-ghost use Rattle.py_data.specs.Shape.{IsShaped, IsKey, ArePairs, find};
+ghost use Rattle.py_data.specs.Shape.{IsShaped, find};
 ghost use Rattle.py_data.specs.Sense.{IfThere};
-ghost use Rattle.py_data.specs.declared.value.Kind.TheVariants.{Dict};
 ghost use Rattle.py_data.specs.Made.{rec_of};
 ghost use Rattle.seg_store.specs.Meaning.{Meaning, sees, holds};
 ghost use Rattle.seg_store.specs.Calls.{after_drop, after_lock, after_change, after_make};
-ghost use Rattle.seg_store.specs.Store.{NoOther, IsFree};
+ghost use Rattle.seg_store.specs.Store.{CanFind, CanChange, IsFull, NoOther, IsFree};
 ghost use Rattle.stm_core.specs.CoreState.{wins};
 ghost use Rattle.stm_core.specs.Books.{Fit, runs_at};
-ghost use Rattle.py_data.specs.Row.{Read};
+ghost use Rattle.py_data.specs.Row.{Read, Edit};
 ghost use Rattle.stm_core.specs.SegSense.{Seen};
-ghost use Rattle.stm_core.specs.Hold.{holding, SegDoes, SegRefuses, Can, MayGrow, FaultWhy, Changed, Holds, Fails, is_noted, Looks, stop_of};
+ghost use Rattle.stm_core.specs.Hold.{holding, SegDoes, SegRefuses, FaultWhy, Holds, Fails, is_noted, Looks, stop_of};
 
 use crate::books::{Books, Hand, Progress};
 use py_data::{Addr, Change, Conflict, Kind, LENGTH_LIMIT, Out, Record, Side, Stop, Value, View};
@@ -173,7 +172,7 @@ impl<'a, T: Drop, S: SegStore> SegView<'a, T, S> {
         requires tracked { is_tracked (at (sees (S.meaning self.old.store.now) self.old.segment) a.0).kind ≡ true }
         requires held { holds ((S.meaning self.old.store.now).part self.old.segment) a.0 ≡ true }
         ensures ok { OnOk result (Holds self.old.segment self.old.side a.0 (holding (S.meaning self.old.store.now) (S.reserved self.old.store.now) self.old.books.now self.old.progress.now self.old.stopped) (holding (S.meaning self.new.store.now) (S.reserved self.new.store.now) self.new.books.now self.new.progress.now self.new.stopped)) }
-        ensures err { IfErr result (λ e. Fails self.old.segment self.old.side a.0 (⊥) (holding (S.meaning self.old.store.now) (S.reserved self.old.store.now) self.old.books.now self.old.progress.now self.old.stopped) e (holding (S.meaning self.new.store.now) (S.reserved self.new.store.now) self.new.books.now self.new.progress.now self.new.stopped)) }
+        ensures err { IfErr result (λ e. Fails self.old.segment self.old.side a.0 (holding (S.meaning self.old.store.now) (S.reserved self.old.store.now) self.old.books.now self.old.progress.now self.old.stopped) e (holding (S.meaning self.new.store.now) (S.reserved self.new.store.now) self.new.books.now self.new.progress.now self.new.stopped)) }
         ensures stays { (self.new.segment ≡ self.old.segment) × (self.new.side ≡ self.old.side) }
         ensures refs { (self.new.store.ghost_name ≡ self.old.store.ghost_name) × (self.new.books.ghost_name ≡ self.old.books.ghost_name) × (self.new.progress.ghost_name ≡ self.old.progress.ghost_name) }
     {
@@ -186,7 +185,7 @@ impl<'a, T: Drop, S: SegStore> SegView<'a, T, S> {
         requires tracked { is_tracked (at (sees (S.meaning self.old.store.now) self.old.segment) a.0).kind ≡ true }
         requires free { NoOther (S.meaning self.old.store.now) self.old.segment a.0 }
         ensures ok { OnOk result (Holds self.old.segment self.old.side a.0 (holding (S.meaning self.old.store.now) (S.reserved self.old.store.now) self.old.books.now self.old.progress.now self.old.stopped) (holding (S.meaning self.new.store.now) (S.reserved self.new.store.now) self.new.books.now self.new.progress.now self.new.stopped)) }
-        ensures err { IfErr result (λ e. Fails self.old.segment self.old.side a.0 (⊥) (holding (S.meaning self.old.store.now) (S.reserved self.old.store.now) self.old.books.now self.old.progress.now self.old.stopped) e (holding (S.meaning self.new.store.now) (S.reserved self.new.store.now) self.new.books.now self.new.progress.now self.new.stopped)) }
+        ensures err { IfErr result (λ e. Fails self.old.segment self.old.side a.0 (holding (S.meaning self.old.store.now) (S.reserved self.old.store.now) self.old.books.now self.old.progress.now self.old.stopped) e (holding (S.meaning self.new.store.now) (S.reserved self.new.store.now) self.new.books.now self.new.progress.now self.new.stopped)) }
         ensures stays { (self.new.segment ≡ self.old.segment) × (self.new.side ≡ self.old.side) }
         ensures refs { (self.new.store.ghost_name ≡ self.old.store.ghost_name) × (self.new.books.ghost_name ≡ self.old.books.ghost_name) × (self.new.progress.ghost_name ≡ self.old.progress.ghost_name) }
     {
@@ -205,7 +204,7 @@ impl<'a, T: Drop, S: SegStore> SegView<'a, T, S> {
         requires tracked { is_tracked (at (sees (S.meaning self.old.store.now) self.old.segment) a.0).kind ≡ true }
         requires held { holds ((S.meaning self.old.store.now).part j) a.0 ≡ true }
         ensures ok { OnOk result (Holds self.old.segment self.old.side a.0 (holding (S.meaning self.old.store.now) (S.reserved self.old.store.now) self.old.books.now self.old.progress.now self.old.stopped) (holding (S.meaning self.new.store.now) (S.reserved self.new.store.now) self.new.books.now self.new.progress.now self.new.stopped)) }
-        ensures err { IfErr result (λ e. Fails self.old.segment self.old.side a.0 (⊥) (holding (S.meaning self.old.store.now) (S.reserved self.old.store.now) self.old.books.now self.old.progress.now self.old.stopped) e (holding (S.meaning self.new.store.now) (S.reserved self.new.store.now) self.new.books.now self.new.progress.now self.new.stopped)) }
+        ensures err { IfErr result (λ e. Fails self.old.segment self.old.side a.0 (holding (S.meaning self.old.store.now) (S.reserved self.old.store.now) self.old.books.now self.old.progress.now self.old.stopped) e (holding (S.meaning self.new.store.now) (S.reserved self.new.store.now) self.new.books.now self.new.progress.now self.new.stopped)) }
         ensures stays { (self.new.segment ≡ self.old.segment) × (self.new.side ≡ self.old.side) }
         ensures refs { (self.new.store.ghost_name ≡ self.old.store.ghost_name) × (self.new.books.ghost_name ≡ self.old.books.ghost_name) × (self.new.progress.ghost_name ≡ self.old.progress.ghost_name) }
     {
@@ -237,7 +236,7 @@ impl<'a, T: Drop, S: SegStore> SegView<'a, T, S> {
         requires there { Has (sees (S.meaning self.old.store.now) self.old.segment) a.0 }
         requires tracked { is_tracked (at (sees (S.meaning self.old.store.now) self.old.segment) a.0).kind ≡ true }
         ensures ok { OnOk result (Holds self.old.segment self.old.side a.0 (holding (S.meaning self.old.store.now) (S.reserved self.old.store.now) self.old.books.now self.old.progress.now self.old.stopped) (holding (S.meaning self.new.store.now) (S.reserved self.new.store.now) self.new.books.now self.new.progress.now self.new.stopped)) }
-        ensures err { IfErr result (λ e. Fails self.old.segment self.old.side a.0 (⊥) (holding (S.meaning self.old.store.now) (S.reserved self.old.store.now) self.old.books.now self.old.progress.now self.old.stopped) e (holding (S.meaning self.new.store.now) (S.reserved self.new.store.now) self.new.books.now self.new.progress.now self.new.stopped)) }
+        ensures err { IfErr result (λ e. Fails self.old.segment self.old.side a.0 (holding (S.meaning self.old.store.now) (S.reserved self.old.store.now) self.old.books.now self.old.progress.now self.old.stopped) e (holding (S.meaning self.new.store.now) (S.reserved self.new.store.now) self.new.books.now self.new.progress.now self.new.stopped)) }
         ensures stays { (self.new.segment ≡ self.old.segment) × (self.new.side ≡ self.old.side) }
         ensures refs { (self.new.store.ghost_name ≡ self.old.store.ghost_name) × (self.new.books.ghost_name ≡ self.old.books.ghost_name) × (self.new.progress.ghost_name ≡ self.old.progress.ghost_name) }
     {
@@ -256,10 +255,10 @@ impl<'a, T: Drop, S: SegStore> SegView<'a, T, S> {
     /// Changes a record that the segment holds.
     fn change_held(&mut self, a: Addr, change: Change) -> Result<(), StoreFault>
         requires held { holds ((S.meaning self.old.store.now).part self.old.segment) a.0 ≡ true }
-        requires can { Can change (sees (S.meaning self.old.store.now) self.old.segment) a.0 }
+        requires can { CanChange (sees (S.meaning self.old.store.now) self.old.segment) a.0 change }
         ensures ok { OnOk result (S.meaning self.new.store.now ≡ after_change self.old.segment a.0 (after change) (S.meaning self.old.store.now)) }
         ensures err { OnErr result (S.meaning self.new.store.now ≡ S.meaning self.old.store.now) }
-        ensures cause { IfErr result (FaultWhy (MayGrow change) (S.reserved self.new.store.now) (S.meaning self.old.store.now).limit) }
+        ensures cause { IfErr result (FaultWhy (IsFull (sees (S.meaning self.old.store.now) self.old.segment) a.0 change) (S.reserved self.new.store.now) (S.meaning self.old.store.now).limit) }
         ensures reserved { S.reserved self.old.store.now ≤ S.reserved self.new.store.now }
         ensures books { self.new.books.now ≡ self.old.books.now }
         ensures progress { self.new.progress.now ≡ self.old.progress.now }
@@ -279,9 +278,9 @@ impl<'a, T: Drop, S: SegStore> SegView<'a, T, S> {
     /// Takes the write lock of a record, and changes it.
     fn change(&mut self, a: Addr, change: Change) -> Result<(), Stop>
         requires live { self.old.stopped ≡ None }
-        requires can { Can change (sees (S.meaning self.old.store.now) self.old.segment) a.0 }
-        ensures ok { OnOk result (Changed self.old.segment self.old.side a.0 change (holding (S.meaning self.old.store.now) (S.reserved self.old.store.now) self.old.books.now self.old.progress.now self.old.stopped) (holding (S.meaning self.new.store.now) (S.reserved self.new.store.now) self.new.books.now self.new.progress.now self.new.stopped)) }
-        ensures err { IfErr result (λ e. Fails self.old.segment self.old.side a.0 (MayGrow change) (holding (S.meaning self.old.store.now) (S.reserved self.old.store.now) self.old.books.now self.old.progress.now self.old.stopped) e (holding (S.meaning self.new.store.now) (S.reserved self.new.store.now) self.new.books.now self.new.progress.now self.new.stopped)) }
+        requires can { CanChange (sees (S.meaning self.old.store.now) self.old.segment) a.0 change }
+        ensures ok { OnOk result (SegDoes self.old.segment self.old.side (Edit a.0 change) (holding (S.meaning self.old.store.now) (S.reserved self.old.store.now) self.old.books.now self.old.progress.now self.old.stopped) tt (holding (S.meaning self.new.store.now) (S.reserved self.new.store.now) self.new.books.now self.new.progress.now self.new.stopped)) }
+        ensures err { IfErr result (λ e. SegRefuses self.old.segment self.old.side (Edit a.0 change) (holding (S.meaning self.old.store.now) (S.reserved self.old.store.now) self.old.books.now self.old.progress.now self.old.stopped) e (holding (S.meaning self.new.store.now) (S.reserved self.new.store.now) self.new.books.now self.new.progress.now self.new.stopped)) }
         ensures stays { (self.new.segment ≡ self.old.segment) × (self.new.side ≡ self.old.side) }
         ensures refs { (self.new.store.ghost_name ≡ self.old.store.ghost_name) × (self.new.books.ghost_name ≡ self.old.books.ghost_name) × (self.new.progress.ghost_name ≡ self.old.progress.ghost_name) }
     {
@@ -377,7 +376,7 @@ impl<'a, T: Drop, S: SegStore> SegView<'a, T, S> {
 
     /// The number of the pair of a dictionary with an equal key. No look is noted.
     fn place_of(&self, d: Addr, key: Value) -> Option<usize>
-        requires { IfThere false ((sees (S.meaning self.now.store.now) self.now.segment) d.0) (λ r. (r.kind ≡ Dict) × IsKey (sees (S.meaning self.now.store.now) self.now.segment) key × ArePairs (sees (S.meaning self.now.store.now) self.now.segment) r.values) }
+        requires { CanFind (sees (S.meaning self.now.store.now) self.now.segment) d.0 key }
         ensures found { result ≡ find (sees (S.meaning self.now.store.now) self.now.segment) (at (sees (S.meaning self.now.store.now) self.now.segment) d.0).values key }
         ensures fits { IfSome result (λ i. 2 * i + 1 < LENGTH_LIMIT) }
     {

@@ -1,6 +1,6 @@
 //! The states of threads: the committed ones, in the order of the threads' numbers, and those that a transaction started.
 ghost use Rattle.std.specs.Prelude.{◌≡◌, ◌<◌, ◌≤◌, ◌+◌, ◌++◌, [], ◌∷◌, length, take, slice_get, slice_set, Some, IfOk, OnOk, OnErr};
-ghost use Rattle.py_data.specs.Collection.{Logged};
+ghost use Rattle.py_base.specs.Collection.{Logged};
 
 use py_data::NoMemory;
 use std::alloc::{AllocError, Global};
@@ -63,7 +63,7 @@ pub struct Threads<T> {
 
 impl<T> Model for Threads<T> {
     ghost use Rattle.std.specs.Prelude.{◌-◌, ◌^◌, ◌<◌, min, length, vec_len, vec_capacity};
-    ghost use Rattle.py_data.specs.Collection.{Logged};
+    ghost use Rattle.py_base.specs.Collection.{Logged};
 
     ghost Value = { Logged T };
 

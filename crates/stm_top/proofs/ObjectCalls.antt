@@ -5,13 +5,16 @@ use Rattle.std.specs.Result.{result_err}
 use Rattle.std.proofs.lemmas.Bool.{eqb-true}
 use Rattle.py_data.specs.declared.value.Addr.{Addr}
 use Rattle.py_data.specs.declared.value.Value.{Value}
-use Rattle.py_data.specs.declared.value.Kind.{Kind}
-use Rattle.py_data.specs.declared.value.Kind.TheVariants.{Str, List as ListKind, Dict}
+use Rattle.py_base.specs.declared.kind.Kind.{Kind}
+use Rattle.py_base.specs.declared.kind.Kind.TheVariants.{Str, List as ListKind, Dict}
 use Rattle.py_data.specs.declared.stop.Stop.{Stop}
 use Rattle.py_data.specs.declared.record.TheConstants.{LENGTH_LIMIT}
 use Rattle.py_data.specs.Heap.{Heap, Rec, at, put_at, new_rec, with_value, with_push, cut_to, with_pair, without_pair}
 use Rattle.py_data.specs.Shape.{HoldsNoUnset, KindIn, ArePairs}
-use Rattle.py_data.specs.Row.{Call, Reply, Row, Read, Find, SetVal, Push, Truncate, PushPair, DropPair, Make, Start, Put, Take, MidLine, SetMidLine}
+use Rattle.py_data.specs.declared.change.Change.{Change}
+use Rattle.py_data.specs.Changes.{after}
+use Rattle.py_data.proofs.Grow.{kept_after}
+use Rattle.py_data.specs.Row.{Call, Reply, Row, Read, Find, Edit, Make, Start, Put, Take, MidLine, SetMidLine}
 use Rattle.py_data.specs.Sense.{Sense, Lawful, Asks, Answers, Effect, Edits, Run, Stopped, Meets, IfThere, IsLive}
 use Rattle.py_data.proofs.Steps.{at-is, put-here, live-after}
 use Rattle.py_data.proofs.Whole.{run_steps}
@@ -29,8 +32,8 @@ put-kinds h a r f b k e = by (eqb b a) (eqb-true b a) (h b) refl e
     by true g None s e = absurd e
     by true g (Some q) s e = f q (ap h (sym (g refl)) ∙ s) ∙ e
 
-edit-kinds : (a : ℕ) (f : Rec → Rec) (h h1 : Heap) → ((q : Rec) → (f q).kind ≡ q.kind) → Edits a f h h1 → KindsStay h h1
-edit-kinds a f h h1 g e = subst (KindsStay h) (sym e.1) (put-kinds h a (f (at h a)) (λ q s. g (at h a) ∙ ap (λ r. r.kind) (at-is h a q s)))
+edit-kinds : (a : ℕ) (c : Change) (h h1 : Heap) → Edits a (after c) h h1 → KindsStay h h1
+edit-kinds a c h h1 e = subst (KindsStay h) (sym e.1) (put-kinds h a (after c (at h a)) (λ q s. (kept_after c (at h a)).kind ∙ ap (λ r. r.kind) (at-is h a q s)))
 
 same-kinds : (h h1 : Heap) → h1 ≡ h → KindsStay h h1
 same-kinds h h1 e = subst (KindsStay h) (sym e) (λ a k q. q)
@@ -38,11 +41,7 @@ same-kinds h h1 e = subst (KindsStay h) (sym e) (λ a k q. q)
 call-kinds : {S : Type 0} (p : Bool) (c : Call S) (h : Heap) (r : Reply c) (h1 : Heap) → Effect p c h r h1 → KindsStay h h1
 call-kinds p (Read a) h r h1 e = same-kinds h h1 e.1
 call-kinds p (Find d key) h r h1 e = same-kinds h h1 e.2
-call-kinds p (SetVal a i v) h r h1 e = edit-kinds a (with_value i v) h h1 (λ q. refl) e
-call-kinds p (Push a v) h r h1 e = edit-kinds a (with_push v) h h1 (λ q. refl) e
-call-kinds p (Truncate a n) h r h1 e = edit-kinds a (cut_to n) h h1 (λ q. refl) e
-call-kinds p (PushPair d key v) h r h1 e = edit-kinds d (with_pair key v) h h1 (λ q. refl) e
-call-kinds p (DropPair d k) h r h1 e = edit-kinds d (without_pair k) h h1 (λ q. refl) e
+call-kinds p (Edit a c) h r h1 e = edit-kinds a c h h1 e
 call-kinds p (Make q) h a h1 e = subst (KindsStay h) (sym e.1) (put-kinds h a q (λ p s. let f = e.0 in absurd (cc)))
 call-kinds p (Start s) h r h1 e = same-kinds h h1 e
 call-kinds p (Put on bytes) h r h1 e = same-kinds h h1 e

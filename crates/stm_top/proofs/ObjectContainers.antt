@@ -1,7 +1,7 @@
 -- Records that can be gone through.
 use Rattle.std.proofs.Common.{◌≡◌, [], ◌∷◌, refl, sym, subst, arith, pos}
 use Rattle.py_data.specs.declared.value.Value.TheVariants.{Int}
-use Rattle.py_data.specs.declared.value.Kind.TheVariants.{Dict, Range}
+use Rattle.py_base.specs.declared.kind.Kind.TheVariants.{Dict, Range}
 use Rattle.py_data.specs.Heap.{Rec, new_rec}
 use Rattle.stm_top.specs.Objects.{IsContainer}
 

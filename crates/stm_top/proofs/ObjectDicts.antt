@@ -4,8 +4,8 @@ use Rattle.std.specs.Prelude.{IfOk, ◌⊎◌}
 use Rattle.std.proofs.lemmas.Bool.{eq-eqb, eqb-true, cases_lt}
 use Rattle.py_data.specs.declared.value.Value.{Value}
 use Rattle.py_data.specs.declared.value.Value.TheVariants.{Unset, None as NoneValue, Bool as BoolValue, Int, Ref, Builtin}
-use Rattle.py_data.specs.declared.value.Kind.{Kind}
-use Rattle.py_data.specs.declared.value.Kind.TheVariants.{Dict, Iter, Range}
+use Rattle.py_base.specs.declared.kind.Kind.{Kind}
+use Rattle.py_base.specs.declared.kind.Kind.TheVariants.{Dict, Iter, Range}
 use Rattle.py_data.specs.declared.stop.Stop.{Stop}
 use Rattle.py_data.specs.declared.record.TheConstants.{LENGTH_LIMIT}
 use Rattle.py_data.specs.declared.record.Got.{Got}

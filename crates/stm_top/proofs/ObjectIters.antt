@@ -5,14 +5,15 @@ use Rattle.std.proofs.lemmas.Bool.{cond-false, ne_eqb}
 use Rattle.py_data.specs.declared.value.Addr.{Addr}
 use Rattle.py_data.specs.declared.value.Value.{Value}
 use Rattle.py_data.specs.declared.value.Value.TheVariants.{Unset, None as NoneValue, Bool as BoolValue, Int, Ref, Builtin}
-use Rattle.py_data.specs.declared.value.Kind.{Kind}
-use Rattle.py_data.specs.declared.value.Kind.TheVariants.{Str, Tuple, List as ListKind, Dict, Cell, Function, Class, Instance, Method, Iter, Range, Lock, Thread}
+use Rattle.py_base.specs.declared.kind.Kind.{Kind}
+use Rattle.py_base.specs.declared.kind.Kind.TheVariants.{Str, Tuple, List as ListKind, Dict, Cell, Function, Class, Instance, Method, Iter, Range, Lock, Thread}
 use Rattle.py_data.specs.declared.stop.Stop.{Stop}
 use Rattle.py_data.specs.declared.record.Got.{Got}
 use Rattle.py_data.specs.declared.record.Got.TheVariants.{Is, Raise}
 use Rattle.py_data.specs.Heap.{Heap, Rec, put_at, new_rec, with_value}
 use Rattle.py_data.specs.Shape.{is_iterable}
-use Rattle.py_data.specs.Row.{Row, Ret, Read, SetVal, Make}
+use Rattle.py_data.specs.Row.{Row, Ret, Read, Edit, Make}
+use Rattle.py_data.specs.declared.change.Change.TheVariants as change
 use Rattle.py_data.specs.Sense.{Sense, Lawful, Asks, Answers, Run, Meets, IfThere, IsLive}
 use Rattle.py_data.specs.Fault.{size_fault}
 use Rattle.py_data.proofs.Steps.{at-is, put-here, there-is, live-after}
@@ -193,7 +194,7 @@ module _ {S X : Type 0} {u : Sense S X} (L : Lawful u) where
   go-run it place None m w res t d = subst (λ h. IsIterAt h it) (sym (ap u.heap d.1)) t
   go-run it place (Some x) m w res t d =
       let y = Int (pos (place + 1)) in
-      let f = L.effect (SetVal it 1 y) m d.0 d.1 d.2 in
+      let f = L.effect (Edit it (change.Set 1 y)) m d.0 d.1 d.2 in
       let q = with_value 1 y t.q in
       let last : u.heap w ≡ put_at (u.heap m) it q = ap u.heap d.3.1 ∙ f.1 ∙ ap (λ r. put_at (u.heap m) it (with_value 1 y r)) (at-is (u.heap m) it t.q t.is) in
       record {

@@ -8,7 +8,7 @@ use Rattle.std.proofs.lemmas.Bool.Decides.{Decides-int_eq}
 use Rattle.py_data.specs.declared.value.Addr.{Addr}
 use Rattle.py_data.specs.declared.value.Value.{Value}
 use Rattle.py_data.specs.declared.value.Value.TheVariants.{Int}
-use Rattle.py_data.specs.declared.value.Kind.TheVariants.{Dict}
+use Rattle.py_base.specs.declared.kind.Kind.TheVariants.{Dict}
 use Rattle.py_data.specs.declared.stop.Stop.{Stop}
 use Rattle.py_data.specs.Heap.{Heap, Rec, new_rec}
 use Rattle.py_data.specs.Shape.{HoldsNoUnset, ArePairs, KeysDiffer, find_from}

@@ -1,7 +1,7 @@
 -- Steps that the tests of objects open and take back.
 use Rattle.std.proofs.Common.{◌≡◌, ℕ, inl, inr, refl, sym, ap, subst, ◌∙◌}
 use Rattle.py_data.specs.declared.stop.Stop.{Stop}
-use Rattle.py_data.specs.declared.value.Kind.TheVariants.{List as ListKind}
+use Rattle.py_base.specs.declared.kind.Kind.TheVariants.{List as ListKind}
 use Rattle.py_data.specs.Row.{Row}
 use Rattle.py_data.specs.Sense.{Sense, Bracket, IsBracket, Stopped}
 use Rattle.py_data.proofs.Whole.{upto_steps, stopped_at}

@@ -5,13 +5,14 @@ use Rattle.std.proofs.lemmas.Bool.{cond-true, cond-false, ne_eqb}
 use Rattle.py_data.specs.declared.value.Addr.{Addr}
 use Rattle.py_data.specs.declared.value.Value.{Value}
 use Rattle.py_data.specs.declared.value.Value.TheVariants.{Int, Ref}
-use Rattle.py_data.specs.declared.value.Kind.TheVariants.{Str, Iter, Range}
+use Rattle.py_base.specs.declared.kind.Kind.TheVariants.{Str, Iter, Range}
 use Rattle.py_data.specs.declared.stop.Stop.{Stop}
 use Rattle.py_data.specs.declared.record.Got.{Got}
 use Rattle.py_data.specs.declared.record.Got.TheVariants.{Is, Raise}
 use Rattle.py_data.specs.Heap.{Heap, Rec, blank, at, put_at, new_rec, with_value, length_of}
 use Rattle.py_data.specs.Shape.{KindIn, is_iterable}
-use Rattle.py_data.specs.Row.{Ret, Read, SetVal, Make}
+use Rattle.py_data.specs.Row.{Ret, Read, Edit, Make}
+use Rattle.py_data.specs.declared.change.Change.TheVariants as change
 use Rattle.py_data.specs.Sense.{Sense, Lawful, Run, Meets, IsLive}
 use Rattle.py_data.specs.Fault.{size_fault}
 use Rattle.py_data.proofs.Steps.{at-is, put-here, live-after}
@@ -115,7 +116,7 @@ module _ {S X : Type 0} {u : Sense S X} (L : Lawful u) where
   unfolding go_or_end Run
   go-text it place b m w x t k d =
       let y = Int (pos (place + 1)) in
-      let f = L.effect (SetVal it 1 y) m d.0 d.1 d.2 in
+      let f = L.effect (Edit it (change.Set 1 y)) m d.0 d.1 d.2 in
       let q = with_value 1 y t.q in
       let last : u.heap w ≡ put_at (u.heap m) it q = ap u.heap d.3.1 ∙ f.1 ∙ ap (λ r. put_at (u.heap m) it (with_value 1 y r)) (at-is (u.heap m) it t.q t.is) in
       let kinds = run-kinds L (go_or_end it place (Some (Ref (record { 0 = b })))) m w x d in

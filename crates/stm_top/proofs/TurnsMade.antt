@@ -2,7 +2,8 @@
 use Rattle.std.proofs.Common.{◌≡◌, ◌≢◌, ◌⊎◌, inl, inr, ℕ, zero, suc, ◌+◌, ◌-◌, ◌≤◌, ◌<◌, List, [], ◌∷◌, ◌++◌, length, Option, Some, None, IfSome, slice_get, slice_set, refl, sym, ap, subst, ◌∙◌, arith, append-nil}
 use Rattle.std.proofs.lemmas.Option.{slice_get_within}
 use Rattle.py_data.specs.declared.stop.Out.TheVariants.{Output, ErrorOutput}
-use Rattle.py_data.specs.Row.{Call, Reply, Row, Ret, Do, Read, SetVal, Make, Put, Take}
+use Rattle.py_data.specs.Row.{Call, Reply, Row, Ret, Do, Read, Edit, Make, Put, Take}
+use Rattle.py_data.specs.declared.change.Change.TheVariants as change
 use Rattle.py_data.specs.Sense.{Run, Upto}
 use Rattle.py_data.specs.Sight.{Sight, Act, Does, opened, pure}
 use Rattle.py_data.specs.World.{World, grown, shrunk}
@@ -38,7 +39,7 @@ rest_by w w1 e = (ap (λ z. z.err) e, ap (λ z. z.input) e)
 
 act_rest : {S : Type 0} (c : Call S) (x y : Sight S) (r : Reply c) → IsLineCall c → Act c x r y → SameRest x.world y.world
 act_rest (Read a) x y r h d = rest_by x.world y.world (ap (λ z. z.world) d.1)
-act_rest (SetVal a i v) x y r h d = rest_by x.world y.world (ap (λ z. z.world) d.3)
+act_rest (Edit a (change.Set i v)) x y r h d = rest_by x.world y.world (ap (λ z. z.world) d.3)
 act_rest (Make q) x y r h d = rest_by x.world y.world (ap (λ z. z.world) d.1)
 act_rest (Put Output bytes) x y r h d = (ap (λ z. z.world.err) d, ap (λ z. z.world.input) d)
 act_rest _ x y r h d = absurd h

@@ -4,10 +4,11 @@ use Rattle.std.specs.Fmt.{signed_decimal}
 use Rattle.py_data.specs.declared.value.Addr.{Addr}
 use Rattle.py_data.specs.declared.value.Value.{Value}
 use Rattle.py_data.specs.declared.value.Value.TheVariants.{Unset, Int}
-use Rattle.py_data.specs.declared.value.Kind.TheVariants.{Cell}
+use Rattle.py_base.specs.declared.kind.Kind.TheVariants.{Cell}
 use Rattle.py_data.specs.declared.stop.Out.TheVariants.{Output}
 use Rattle.py_data.specs.Heap.{Rec, new_rec, value_at}
-use Rattle.py_data.specs.Row.{Row, Ret, Do, Read, SetVal, Make, Put, bind}
+use Rattle.py_data.specs.declared.change.Change.TheVariants as change
+use Rattle.py_data.specs.Row.{Row, Ret, Do, Read, Edit, Make, Put, bind}
 use Rattle.lock_run.specs.declared.client.Outcome.{Outcome}
 use Rattle.lock_run.specs.declared.client.Outcome.TheVariants.{Done, Ended}
 use Rattle.lock_run.specs.declared.client.Life.{Life}
@@ -46,7 +47,7 @@ item_row cells (Name k) = cell_value (slice_get cells k)
 item_row cells (Number n) = Ret (Int n)
 
 unfoldable pub set_cell : {S : Type 0} → Option Addr → Value → Row S (Unit {0})
-set_cell (Some a) v = Do (SetVal a.0 0 v) (λ _. Ret tt)
+set_cell (Some a) v = Do (Edit a.0 (change.Set 0 v)) (λ _. Ret tt)
 set_cell None v = Ret tt
 
 -- an integer in decimal; a Cell that is printed holds nothing else

@@ -1,7 +1,7 @@
 -- The program of a text, or why it has none. States `docs/LANGUAGE.md`, "From a text to its program".
 use Rattle.std.specs.Prelude.{◌≡◌, ℕ, ◌≤◌, ◌⊎◌, List, Some, None, option_map, Ok, Err}
-use Rattle.py_data.specs.declared.refusal.Refusal.{Refusal}
-use Rattle.py_data.specs.declared.refusal.Refusal.TheVariants.{TooLarge}
+use Rattle.py_base.specs.declared.refusal.Refusal.{Refusal}
+use Rattle.py_base.specs.declared.refusal.Refusal.TheVariants.{TooLarge}
 use Rattle.py_tokens.specs.declared.token.Token.{Token}
 use Rattle.py_tokens.specs.Layout.{tokens_of_text}
 use Rattle.py_tree.specs.declared.stmt.Module.{Module}

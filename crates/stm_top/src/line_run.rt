@@ -3,7 +3,7 @@ ghost use Rattle.std.specs.Prelude.{◌≡◌, [], IfOk, OnOk, false, slice_get}
 ghost use Rattle.py_data.specs.Sense.{Meets, IsLive};
 ghost use Rattle.py_data.specs.Made.{rec_of};
 ghost use Rattle.stm_top.specs.LineRun.{unset_cell, make_cells, item_row, print_row, statement_row, set_cell, text_of, after_space};
-ghost use Rattle.stm_top.specs.LineStand.{Holds};
+ghost use Rattle.stm_top.specs.LineStand.{HoldsIn};
 
 use crate::line_form::{Item, LineProgram, Statement};
 use lock_run::{Client, Life, Outcome};
@@ -71,7 +71,7 @@ fn cell_of(cells: &Names, cell: u32) -> Option<Addr>
 #[tactic(auto, using(py_data::proofs::Rows::row_steps), unfolding(crate::specs::LineRun::cell_value))]
 fn value_of<S, V: View<S>>(v: &mut V, cells: &Names, item: Item) -> Result<Value, Stop>
     requires live { IsLive V.sense v.old }
-    requires holds { Holds (V.sense.heap v.old) cells.now }
+    requires holds { HoldsIn V.sense.partial (V.sense.heap v.old) cells.now }
     ensures meets { Meets V.sense (item_row cells.now item) v.old v.new result }
     ensures live { OnOk result (IsLive V.sense v.new) }
     ensures heap { OnOk result (V.sense.heap v.new ≡ V.sense.heap v.old) }
@@ -89,7 +89,7 @@ fn value_of<S, V: View<S>>(v: &mut V, cells: &Names, item: Item) -> Result<Value
 #[tactic(auto, using(py_data::proofs::Rows::change_steps), unfolding(crate::specs::LineRun::set_cell))]
 fn assign<S, V: View<S>>(v: &mut V, cells: &Names, cell: u32, value: Value) -> Result<(), Stop>
     requires live { IsLive V.sense v.old }
-    requires holds { Holds (V.sense.heap v.old) cells.now }
+    requires holds { HoldsIn V.sense.partial (V.sense.heap v.old) cells.now }
     ensures { Meets V.sense (set_cell (slice_get cells.now cell) value) v.old v.new result }
 {
     match cell_of(cells, cell) {
@@ -120,7 +120,7 @@ fn print_items<S, V: View<S>>(
     items: &Items<Item>,
 ) -> Result<(), Stop>
     requires live { IsLive V.sense v.old }
-    requires holds { Holds (V.sense.heap v.old) cells.now }
+    requires holds { HoldsIn V.sense.partial (V.sense.heap v.old) cells.now }
     ensures { Meets V.sense (print_row cells.now false items.now) v.old v.new result }
 {
     let mut later = false;
@@ -142,7 +142,7 @@ fn perform<S, V: View<S>>(
     statement: &Statement,
 ) -> Result<(), Stop>
     requires live { IsLive V.sense v.old }
-    requires holds { Holds (V.sense.heap v.old) cells.now }
+    requires holds { HoldsIn V.sense.partial (V.sense.heap v.old) cells.now }
     ensures { Meets V.sense (statement_row cells.now statement.now) v.old v.new result }
 {
     match statement {
@@ -175,7 +175,8 @@ impl Client for LineClient {
     ghost use Rattle.stm_top.specs.LineRun.{line_prog};
     ghost use Rattle.stm_top.specs.LineClient.{program_in};
     ghost use Rattle.stm_top.specs.LineStand.{LineSound};
-    ghost use Rattle.stm_top.specs.LineLaws.{line_sound_first, line_sound_step, line_waits_quietly, line_asks_to_print};
+    ghost use Rattle.stm_top.specs.LineLaws.{line_sound_first, line_sound_step, line_tells_life, line_waits_quietly, line_asks_to_print};
+    ghost use Rattle.stm_top.specs.LineSafe.{line_sound_safe};
 
     type State = LineState;
 
@@ -186,6 +187,10 @@ impl Client for LineClient {
     ghost sound_first = { λ c. line_sound_first };
 
     ghost sound_step = { λ c. line_sound_step (program_in c) };
+
+    ghost sound_safe = { λ c. line_sound_safe (program_in c) };
+
+    ghost outcomes = { λ c. line_tells_life (program_in c) };
 
     ghost waits_quietly = { λ c. line_waits_quietly (program_in c) };
 

@@ -6,7 +6,7 @@
 ghost use Rattle.std.specs.Prelude.{◌≡◌, ◌≤◌, length, IfOk, IfSome, [], ◌∷◌, pos, Ok, None};
 ghost use Rattle.py_data.specs.declared.value.Value.TheVariants.{Int, Ref};
 ghost use Rattle.py_data.specs.declared.record.Got.TheVariants.{Is};
-ghost use Rattle.py_data.specs.declared.value.Kind.TheVariants.{Str, List as ListKind, Dict};
+ghost use Rattle.py_base.specs.declared.kind.Kind.TheVariants.{Str, List as ListKind, Dict};
 ghost use Rattle.py_data.specs.declared.record.TheConstants.{LENGTH_LIMIT};
 ghost use Rattle.py_data.specs.Shape.{HoldsNoUnset};
 ghost use Rattle.py_data.specs.Sense.{IsLive};

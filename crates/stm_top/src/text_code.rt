@@ -1,7 +1,7 @@
 //! From a text to its verified program.
 ghost use Rattle.std.specs.Prelude.{◌≡◌, ◌<◌, ◌^◌, List, ℕ, length, Ok, IfOk, IfErr};
-ghost use Rattle.py_data.specs.Refusal.{refusal_line, refusal_number};
-ghost use Rattle.py_data.specs.declared.refusal.Refusal.{Refusal as Reason};
+ghost use Rattle.py_base.specs.Refusal.{refusal_line, refusal_number};
+ghost use Rattle.py_base.specs.declared.refusal.Refusal.{Refusal as Reason};
 ghost use Rattle.py_tokens.specs.Layout.{tokens_of_text};
 ghost use Rattle.py_parser.specs.Refused.{EndsOnce};
 ghost use Rattle.py_code.specs.Right.{IsRightProgram};

@@ -5,7 +5,7 @@ ghost use Rattle.py_code.specs.Listing.{labelled, labels_of, marks};
 
 use crate::assembly::operand::{Operand, operand_of};
 use crate::instr::Instr;
-use py_data::{Items, NoMemory};
+use py_base::{Items, NoMemory};
 use std::alloc::Global;
 
 /// For each place its label's number, from 1, where an instruction names the place.

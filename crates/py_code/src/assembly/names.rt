@@ -1,144 +1,14 @@
-//! The names of what has a number.
-ghost use Rattle.std.specs.Prelude.{◌≡◌, IfOk, map, option_map, slice_get, unwrap_or};
+//! What a listing calls kinds, roots and codes.
+ghost use Rattle.std.specs.Prelude.{◌≡◌, IfOk, option_map, slice_get, unwrap_or};
 ghost use Rattle.std.specs.Fmt.{decimal};
 ghost use Rattle.py_code.specs.Listing.{code_name, code_text, name_or, named, root_name, root_text};
-ghost use Rattle.py_code.specs.Operands.{binary_signs, builtin_names, class_names, compare_signs, kind_name, unary_signs};
+ghost use Rattle.py_base.specs.Numbers.{class_names};
+ghost use Rattle.py_code.specs.Operands.{kind_name};
 
 use crate::program::{Code, Root};
-use py_data::{Bytes, Kind, NoMemory};
+use py_base::{Bytes, Kind, NoMemory, class_name};
 use py_text::repr_bytes;
 use std::alloc::Global;
-
-const UNARY_SIGNS: [&[u8]; 3] = [b"+", b"-", b"~"];
-
-const BINARY_SIGNS: [&[u8]; 12] = [
-    b"|", b"^", b"&", b"<<", b">>", b"+", b"-", b"*", b"/", b"//", b"%", b"**",
-];
-
-const COMPARE_SIGNS: [&[u8]; 10] = [
-    b"<", b">", b"==", b">=", b"<=", b"!=", b"in", b"not in", b"is", b"is not",
-];
-
-const CLASS_NAMES: [&[u8]; 20] = [
-    b"object",
-    b"BaseException",
-    b"Exception",
-    b"StandardError",
-    b"ArithmeticError",
-    b"LookupError",
-    b"NameError",
-    b"AttributeError",
-    b"TypeError",
-    b"ValueError",
-    b"RuntimeError",
-    b"EOFError",
-    b"AssertionError",
-    b"MemoryError",
-    b"ZeroDivisionError",
-    b"OverflowError",
-    b"IndexError",
-    b"KeyError",
-    b"UnboundLocalError",
-    b"thread.error",
-];
-
-const BUILTIN_NAMES: [&[u8]; 53] = [
-    b"len",
-    b"range",
-    b"xrange",
-    b"str",
-    b"repr",
-    b"int",
-    b"bool",
-    b"list",
-    b"tuple",
-    b"dict",
-    b"isinstance",
-    b"ord",
-    b"chr",
-    b"abs",
-    b"min",
-    b"max",
-    b"sum",
-    b"sorted",
-    b"raw_input",
-    b"thread",
-    b"threading",
-    b"thread.start_new_thread",
-    b"thread.allocate_lock",
-    b"threading.Thread",
-    b"threading.Lock",
-    b"str.join",
-    b"str.split",
-    b"str.strip",
-    b"str.upper",
-    b"str.lower",
-    b"str.startswith",
-    b"str.endswith",
-    b"str.find",
-    b"str.replace",
-    b"list.append",
-    b"list.pop",
-    b"list.insert",
-    b"list.extend",
-    b"list.index",
-    b"list.remove",
-    b"list.reverse",
-    b"list.sort",
-    b"dict.get",
-    b"dict.keys",
-    b"dict.values",
-    b"dict.items",
-    b"dict.has_key",
-    b"dict.pop",
-    b"lock.acquire",
-    b"lock.release",
-    b"lock.locked",
-    b"thread.start",
-    b"thread.join",
-];
-
-/// The text at that place of a table, if there is one.
-fn entry(table: &[&'static [u8]], n: u8) -> Option<&'static [u8]>
-    ensures { option_map (λ x. x.now) result ≡ slice_get (map (λ x. x.now) table.now) n }
-{
-    table.get(n as usize).copied()
-}
-
-/// The sign of an operator with one operand.
-pub fn unary_sign(n: u8) -> Option<&'static [u8]>
-    ensures { option_map (λ x. x.now) result ≡ slice_get unary_signs n }
-{
-    entry(&UNARY_SIGNS, n)
-}
-
-/// The sign of an operator of BINARY and INPLACE.
-pub fn binary_sign(n: u8) -> Option<&'static [u8]>
-    ensures { option_map (λ x. x.now) result ≡ slice_get binary_signs n }
-{
-    entry(&BINARY_SIGNS, n)
-}
-
-/// The sign of a comparison.
-pub fn compare_sign(n: u8) -> Option<&'static [u8]>
-    ensures { option_map (λ x. x.now) result ≡ slice_get compare_signs n }
-{
-    entry(&COMPARE_SIGNS, n)
-}
-
-/// The name of a class.
-fn class_name(n: u8) -> Option<&'static [u8]>
-    ensures { option_map (λ x. x.now) result ≡ slice_get class_names n }
-{
-    entry(&CLASS_NAMES, n)
-}
-
-/// The name of a builtin.
-pub fn builtin_name(n: u8) -> Option<&'static [u8]>
-    ensures { option_map (λ x. x.now) result ≡ slice_get builtin_names n }
-{
-    entry(&BUILTIN_NAMES, n)
-}
 
 /// The name of a kind of record.
 pub fn kind_name(kind: Kind) -> &'static [u8]

@@ -1,6 +1,7 @@
 //! What operands name: slots, roots of a kind, operators, builtins and keyword lists.
 use super::made::{CELL, TEXT, is_module};
-use py_code::{Constant, Instr, builtin};
+use py_base::builtin;
+use py_code::{Constant, Instr};
 use std::alloc::{AllocError, Global};
 use std::test;
 

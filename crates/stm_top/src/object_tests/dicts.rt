@@ -1,7 +1,7 @@
 //! Dictionaries over a plain view.
 ghost use Rattle.std.specs.Prelude.{◌≡◌, ◌≤◌, length, IfOk, IfSome};
 ghost use Rattle.py_data.specs.declared.record.TheConstants.{LENGTH_LIMIT};
-ghost use Rattle.py_data.specs.declared.value.Kind.TheVariants.{Tuple};
+ghost use Rattle.py_base.specs.declared.kind.Kind.TheVariants.{Tuple};
 ghost use Rattle.py_data.specs.declared.value.Value.TheVariants.{Ref};
 ghost use Rattle.py_data.specs.Sense.{IsLive};
 ghost use Rattle.obj_dict.specs.Safety.{IsThere};

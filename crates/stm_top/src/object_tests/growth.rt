@@ -1,7 +1,7 @@
 //! `insert` where no memory is left: a step that is taken back leaves the list as it was.
 ghost use Rattle.std.specs.Prelude.{◌≡◌, IfSome, pos, None};
 ghost use Rattle.py_data.specs.declared.value.Value.TheVariants.{Int};
-ghost use Rattle.py_data.specs.declared.value.Kind.TheVariants.{List as ListKind};
+ghost use Rattle.py_base.specs.declared.kind.Kind.TheVariants.{List as ListKind};
 ghost use Rattle.py_data.specs.Sense.{Meets, Stopped};
 ghost use Rattle.obj_seq.specs.Seq.{insert_row};
 ghost use Rattle.stm_top.specs.Objects.{HoldsList, HasKind};

@@ -2,7 +2,7 @@
 ghost use Rattle.std.specs.Prelude.{◌≡◌, IfOk, IfSome, [], ◌∷◌, pos, Some};
 ghost use Rattle.py_data.specs.declared.value.Value.TheVariants.{Int, Ref};
 ghost use Rattle.py_data.specs.declared.record.Got.TheVariants.{Is};
-ghost use Rattle.py_data.specs.declared.value.Kind.TheVariants.{Str, Range};
+ghost use Rattle.py_base.specs.declared.kind.Kind.TheVariants.{Str, Range};
 ghost use Rattle.py_data.specs.Heap.{new_rec};
 ghost use Rattle.py_data.specs.Made.{rec_of};
 ghost use Rattle.py_data.specs.Sense.{IsLive};

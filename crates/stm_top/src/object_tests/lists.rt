@@ -1,6 +1,6 @@
 //! Lists over a plain view.
 ghost use Rattle.std.specs.Prelude.{◌≡◌, ◌≤◌, length, IfOk};
-ghost use Rattle.py_data.specs.declared.value.Kind.TheVariants.{List as ListKind};
+ghost use Rattle.py_base.specs.declared.kind.Kind.TheVariants.{List as ListKind};
 ghost use Rattle.py_data.specs.declared.record.TheConstants.{LENGTH_LIMIT};
 ghost use Rattle.py_data.specs.Shape.{HoldsNoUnset};
 ghost use Rattle.py_data.specs.Sense.{IsLive};

@@ -1,7 +1,7 @@
 use Rattle.std.specs.List.{list_any}
 use Rattle.std.proofs.Common.{Err, Ok, ap, ◌∙◌, length, subst, sym}
 use Rattle.std.specs.Prelude.{option_map}
-use Rattle.py_data.specs.declared.refusal.Refusal.TheVariants.{TooLarge}
+use Rattle.py_base.specs.declared.refusal.Refusal.TheVariants.{TooLarge}
 use Rattle.py_compile.specs.Compiles.{Compiles, bound_in}
 use Rattle.py_compile.specs.Whole.{bodies, is_long, roots_with}
 use Rattle.py_compile.proofs.Compiling.{codes_said, compiles_err, compiles_ok, large_is, long_text, many_bodies, many_roots, not_past, padded_is, past, told_is}

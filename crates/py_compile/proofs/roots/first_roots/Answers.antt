@@ -1,5 +1,5 @@
 use Rattle.std.proofs.Common.{◌≡◌, ◌+◌, ◌∷◌, [], ◌++◌, ap, ◌∙◌, sym, arith}
-use Rattle.py_data.specs.declared.value.Kind.TheVariants.{Class}
+use Rattle.py_base.specs.declared.kind.Kind.TheVariants.{Class}
 use Rattle.py_code.specs.Right.{cell_root, class_roots}
 use Rattle.py_compile.proofs.Compiled.{classes_more}
 use Rattle.py_compile.proofs.roots.first_roots.Goals as goal

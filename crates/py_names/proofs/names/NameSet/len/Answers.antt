@@ -1,4 +1,4 @@
-use Rattle.py_names.proofs.NameLists.{shown_len}
+use Rattle.py_base.proofs.NameLists.{shown_len}
 use Rattle.py_names.proofs.names.NameSet.len.Goals as goal
 
 pub returns : goal.returns

@@ -1,5 +1,5 @@
 use Rattle.std.specs.Str.{bytes_eq}
-use Rattle.py_verify.proofs.NameLists.{shown_has}
+use Rattle.py_base.proofs.NameLists.{shown_has}
 use Rattle.py_verify.proofs.names.NameSet.has.Goals as goal
 
 pub returns : goal.returns

@@ -1,18 +1,19 @@
-use Rattle.py_data.specs.Heap.{with_value, with_push, cut_to, with_pair, without_pair}
+use Rattle.py_data.specs.Changes.{after}
+use Rattle.py_data.specs.declared.change.Change.TheVariants.{Set, Push, Cut, Pair, Unpair}
 use Rattle.stm_core.proofs.Changing.{fit_change_result}
 use Rattle.stm_core.proofs.segment.SegView.change_held.Goals as goal
 
 pub invariant_of-self : goal.invariant_of-self
-invariant_of-self g c = record { fits = fit_change_result c.set_val.result c.args.self.now.segment c.args.a.0 (with_value c.in-Set.i c.in-Set.v) (g.S.SegStore.meaning c.args.self.now.store.now) (g.S.SegStore.meaning c.set_val.new.self) c.args.self.now.books.now c.args.self.now.progress.now c.args.self.now.fits c.set_val.ensures.ok c.set_val.ensures.err }
+invariant_of-self g c = record { fits = fit_change_result c.set_val.result c.args.self.now.segment c.args.a.0 (after (Set c.in-Set.i c.in-Set.v)) (g.S.SegStore.meaning c.args.self.now.store.now) (g.S.SegStore.meaning c.set_val.new.self) c.args.self.now.books.now c.args.self.now.progress.now c.args.self.now.fits c.set_val.ensures.ok c.set_val.ensures.err }
 
 pub invariant_of-self-in-Push : goal.invariant_of-self-in-Push
-invariant_of-self-in-Push g c = record { fits = fit_change_result c.push_val.result c.args.self.now.segment c.args.a.0 (with_push c.in-Push.v) (g.S.SegStore.meaning c.args.self.now.store.now) (g.S.SegStore.meaning c.push_val.new.self) c.args.self.now.books.now c.args.self.now.progress.now c.args.self.now.fits c.push_val.ensures.ok c.push_val.ensures.err }
+invariant_of-self-in-Push g c = record { fits = fit_change_result c.push_val.result c.args.self.now.segment c.args.a.0 (after (Push c.in-Push.v)) (g.S.SegStore.meaning c.args.self.now.store.now) (g.S.SegStore.meaning c.push_val.new.self) c.args.self.now.books.now c.args.self.now.progress.now c.args.self.now.fits c.push_val.ensures.ok c.push_val.ensures.err }
 
 pub invariant_of-self-in-Cut : goal.invariant_of-self-in-Cut
-invariant_of-self-in-Cut g c = record { fits = fit_change_result c.truncate.result c.args.self.now.segment c.args.a.0 (cut_to c.in-Cut.n) (g.S.SegStore.meaning c.args.self.now.store.now) (g.S.SegStore.meaning c.truncate.new.self) c.args.self.now.books.now c.args.self.now.progress.now c.args.self.now.fits c.truncate.ensures.ok c.truncate.ensures.err }
+invariant_of-self-in-Cut g c = record { fits = fit_change_result c.truncate.result c.args.self.now.segment c.args.a.0 (after (Cut c.in-Cut.n)) (g.S.SegStore.meaning c.args.self.now.store.now) (g.S.SegStore.meaning c.truncate.new.self) c.args.self.now.books.now c.args.self.now.progress.now c.args.self.now.fits c.truncate.ensures.ok c.truncate.ensures.err }
 
 pub invariant_of-self-in-Pair : goal.invariant_of-self-in-Pair
-invariant_of-self-in-Pair g c = record { fits = fit_change_result c.push_pair.result c.args.self.now.segment c.args.a.0 (with_pair c.in-Pair.key c.in-Pair.v) (g.S.SegStore.meaning c.args.self.now.store.now) (g.S.SegStore.meaning c.push_pair.new.self) c.args.self.now.books.now c.args.self.now.progress.now c.args.self.now.fits c.push_pair.ensures.ok c.push_pair.ensures.err }
+invariant_of-self-in-Pair g c = record { fits = fit_change_result c.push_pair.result c.args.self.now.segment c.args.a.0 (after (Pair c.in-Pair.key c.in-Pair.v)) (g.S.SegStore.meaning c.args.self.now.store.now) (g.S.SegStore.meaning c.push_pair.new.self) c.args.self.now.books.now c.args.self.now.progress.now c.args.self.now.fits c.push_pair.ensures.ok c.push_pair.ensures.err }
 
 pub invariant_of-self-in-Unpair : goal.invariant_of-self-in-Unpair
-invariant_of-self-in-Unpair g c = record { fits = fit_change_result c.drop_pair.result c.args.self.now.segment c.args.a.0 (without_pair c.in-Unpair.n) (g.S.SegStore.meaning c.args.self.now.store.now) (g.S.SegStore.meaning c.drop_pair.new.self) c.args.self.now.books.now c.args.self.now.progress.now c.args.self.now.fits c.drop_pair.ensures.ok c.drop_pair.ensures.err }
+invariant_of-self-in-Unpair g c = record { fits = fit_change_result c.drop_pair.result c.args.self.now.segment c.args.a.0 (after (Unpair c.in-Unpair.n)) (g.S.SegStore.meaning c.args.self.now.store.now) (g.S.SegStore.meaning c.drop_pair.new.self) c.args.self.now.books.now c.args.self.now.progress.now c.args.self.now.fits c.drop_pair.ensures.ok c.drop_pair.ensures.err }

@@ -16,6 +16,6 @@ returns-in-Ok-clause-ok g c =
 
 pub returns-in-Err-clause-err : goal.returns-in-Err-clause-err
 returns-in-Err-clause-err g c =
-    fails_memory c.args.self.now.segment c.args.self.now.side c.args.a.0 (⊥) (g.S.SegStore.meaning c.args.self.now.store.now) (g.S.SegStore.meaning c.fail.new.self.store.now) (g.S.SegStore.reserved c.args.self.now.store.now) (g.S.SegStore.reserved c.fail.new.self.store.now)
+    fails_memory c.args.self.now.segment c.args.self.now.side c.args.a.0 (g.S.SegStore.meaning c.args.self.now.store.now) (g.S.SegStore.meaning c.fail.new.self.store.now) (g.S.SegStore.reserved c.args.self.now.store.now) (g.S.SegStore.reserved c.fail.new.self.store.now)
     c.args.self.now.books.now c.fail.new.self.books.now c.args.self.now.progress.now c.fail.new.self.progress.now c.args.self.now.stopped c.fail.new.self.stopped c.fail.result c.fail.ensures.same c.fail.ensures.stopped
     (ap g.S.SegStore.meaning c.fail.ensures.store ∙ c.in-Err.ensures.err) (ap g.S.SegStore.reserved c.fail.ensures.store ∙ c.lock.ensures.reserved) c.fail.ensures.books c.fail.ensures.progress

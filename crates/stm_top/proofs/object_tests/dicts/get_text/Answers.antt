@@ -1,4 +1,4 @@
-use Rattle.py_data.specs.declared.value.Kind.TheVariants.{Str}
+use Rattle.py_base.specs.declared.kind.Kind.TheVariants.{Str}
 use Rattle.stm_top.proofs.ObjectCalls.{key-there}
 use Rattle.stm_top.proofs.ObjectDicts.{dict-old}
 use Rattle.stm_top.proofs.object_tests.dicts.get_text.Goals as goal

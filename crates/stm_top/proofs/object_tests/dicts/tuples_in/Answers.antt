@@ -1,6 +1,6 @@
 use Rattle.std.proofs.Common.{arith, subst}
 use Rattle.std.specs.Prelude.{IfSome}
-use Rattle.py_data.specs.declared.value.Kind.TheVariants.{Tuple}
+use Rattle.py_base.specs.declared.kind.Kind.TheVariants.{Tuple}
 use Rattle.stm_top.specs.Objects.{HasKind}
 use Rattle.stm_top.proofs.ObjectTuples.{item-tuple, item-within, item-address}
 use Rattle.stm_top.proofs.object_tests.dicts.tuples_in.Goals as goal

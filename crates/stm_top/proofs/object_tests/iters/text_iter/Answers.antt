@@ -1,4 +1,4 @@
-use Rattle.py_data.specs.declared.value.Kind.TheVariants.{Str}
+use Rattle.py_base.specs.declared.kind.Kind.TheVariants.{Str}
 use Rattle.stm_top.proofs.ObjectTexts.{text-container-there, text-made}
 use Rattle.stm_top.proofs.object_tests.iters.text_iter.Goals as goal
 

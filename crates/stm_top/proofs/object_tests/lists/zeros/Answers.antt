@@ -1,6 +1,6 @@
 use Rattle.std.proofs.Common.{sym, subst, arith, ap, length, pos, ◌∷◌, []}
 use Rattle.std.proofs.lemmas.List.{length-append}
-use Rattle.py_data.specs.declared.value.Kind.TheVariants.{List as ListKind}
+use Rattle.py_base.specs.declared.kind.Kind.TheVariants.{List as ListKind}
 use Rattle.py_data.specs.declared.value.Value.TheVariants.{Int}
 use Rattle.py_data.specs.Shape.{HoldsNoUnset}
 use Rattle.stm_top.proofs.ObjectLists.{no-unset-more}

@@ -1,5 +1,5 @@
 use Rattle.std.proofs.Common.{◌≡◌, length}
-use Rattle.py_data.specs.declared.value.Kind.TheVariants.{List as ListKind}
+use Rattle.py_base.specs.declared.kind.Kind.TheVariants.{List as ListKind}
 use Rattle.py_data.specs.Shape.{HoldsNoUnset}
 use Rattle.stm_top.proofs.object_tests.lists.zeros.Given as goal
 

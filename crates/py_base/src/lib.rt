@@ -1,0 +1,23 @@
+//! What the front end and the heap share: lists and texts, refusals, kinds of records, and what has a number by a rule of the
+//! language, with its names: operators, builtins and exception classes.
+#![tactic(auto)]
+
+pub mod builtin;
+mod collection;
+pub mod exception;
+mod kind;
+mod names;
+pub mod operator;
+mod refusal;
+mod slices;
+#[cfg(test)]
+mod tests;
+
+pub use collection::{Bytes, Duplicate, Items, Log, NoMemory};
+pub use kind::Kind;
+pub use names::{
+    binary_number, binary_sign, builtin_name, builtin_number, class_name, class_number,
+    compare_number, compare_sign, unary_number, unary_sign,
+};
+pub use refusal::{Construct, Refusal};
+pub use slices::{first, skip, split};
