@@ -1,7 +1,7 @@
 //! Rooms by hand, and a list of conflicts copied.
 use crate::{
-    Addr, Bytes, Change, Conflict, Conflicts, Entry, Kind, LENGTH_LIMIT, Record, Side, Value, Values,
-    changed,
+    Addr, Bytes, Change, Conflict, Conflicts, Entry, Kind, LENGTH_LIMIT, Record, Side, Value,
+    Values, changed,
 };
 use std::alloc::{AllocError, Global};
 use std::process::Abort;
