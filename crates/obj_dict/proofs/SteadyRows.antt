@@ -13,7 +13,7 @@ use Rattle.py_data.specs.Steady.{Steady}
 use Rattle.obj_dict.specs.declared.listing.Part.{Part}
 use Rattle.obj_dict.specs.declared.listing.Part.TheVariants.{Keys, Values, Items}
 use Rattle.obj_dict.specs.Dict.{key_row, if_key, value_of_pair, get_row, push_at, set_pair, set_row, drop_found, del_row}
-use Rattle.obj_dict.specs.Listing.{list_row, tuples_row, list_of_row}
+use Rattle.obj_dict.specs.Listing.{half, list_row, tuples_row, list_of_row}
 use Rattle.obj_dict.specs.HoldsLaws.{DictSteady}
 
 module _ (S : Type 0) where
@@ -82,8 +82,8 @@ module _ (S : Type 0) where
 
   list_steady : (d : ℕ) (part : Part) → Steady {S = S} false (list_of_row d part)
   unfolding list_of_row bind Steady
-  list_steady d Keys = (refl, λ r. made_steady false _)
-  list_steady d Values = (refl, λ r. made_steady false _)
+  list_steady d Keys = (refl, λ r. made_steady false (half false r.values))
+  list_steady d Values = (refl, λ r. made_steady false (half true r.values))
   list_steady d Items = (refl, λ r. tuples_steady false [] r.values)
 
   pub dict_steady : DictSteady S
