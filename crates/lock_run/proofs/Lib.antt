@@ -1,5 +1,4 @@
 pub mod Back
-pub mod Short
 pub mod Naming
 pub mod Following
 pub mod Stepping

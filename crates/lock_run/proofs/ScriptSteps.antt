@@ -1,5 +1,5 @@
 -- The steps of a script, over any view.
-use Rattle.std.proofs.Common.{◌≡◌, ◌↔◌, ℕ, ◌+◌, Bool, true, false, List, length, Option, Some, None, Ok, Err, IsTrue, eqb, sym, ap, subst, ◌∙◌}
+use Rattle.std.proofs.Common.{◌≡◌, ◌↔◌, ℕ, ◌+◌, Bool, true, List, length, Option, Some, None, Ok, Err, IsTrue, eqb, sym, ap, subst, ◌∙◌}
 use Rattle.std.proofs.lemmas.Bool.{eqb-true, eq-eqb}
 use Rattle.std.specs.Bool.{Decides}
 use Rattle.py_data.specs.declared.value.Addr.{Addr}
@@ -16,7 +16,7 @@ use Rattle.lock_run.specs.declared.script.ScriptState.TheVariants.{Prelude, Acts
 use Rattle.lock_run.specs.Client.{StandsIn, Stepped, StepStopped}
 use Rattle.lock_run.specs.Script.{prelude_row, act_row, act_at, now_done, at_act, script_row, IsStanding, ScriptSound}
 use Rattle.lock_run.specs.ScriptLaws.{one_of}
-use Rattle.lock_run.proofs.ScriptRecords.{act_safe}
+use Rattle.lock_run.specs.ScriptSafe.{act_safe}
 
 -- the acts of a thread have the records that they ask for
 pub perform_safe : {X : Type 0} (u : Sense ScriptState X) (b : Bracket ScriptState X) (p : Bool) (s : ScriptState) (number done : ℕ) (cells : List Addr) (list : Addr) (act : Act) (v v1 : X) → IsBracket u b → b.opens v v1
@@ -24,7 +24,7 @@ pub perform_safe : {X : Type 0} (u : Sense ScriptState X) (b : Bracket ScriptSta
 perform_safe u b p s number done cells list act v v1 bracket opens i e =
     let stands = i.standing in
     let l : IsStanding i.heap s = one_of i.heap stands.0 stands.1 s stands.2 stands.3.all in
-    let safe = safe_shown p (act_row {S = ScriptState} cells list act) (u.heap v) i.heap i.shown (act_safe ScriptState false i.heap cells list act (subst (IsStanding i.heap) e l)) in
+    let safe = safe_shown p (act_row {S = ScriptState} cells list act) (u.heap v) i.heap i.shown (act_safe ScriptState i.heap cells list act (subst (IsStanding i.heap) e l)) in
     subst (λ h. Safe {S = ScriptState} p (act_row cells list act) h) (sym (bracket.opened v v1 opens).0) safe
 
 -- a thread that was ended

@@ -1,13 +1,14 @@
 -- What a client's step does over a view, and the laws that a client keeps. States `docs/HEAP.md`, "Clients".
-use Rattle.std.specs.Prelude.{◌≡◌, ℕ, Bool, List, ◌++◌, Some, slice_get, slice_set}
+use Rattle.std.specs.Prelude.{◌≡◌, ◌≢◌, ℕ, Bool, false, List, ◌++◌, Some, slice_get, slice_set}
 use Rattle.py_data.specs.declared.stop.Stop.{Stop}
 use Rattle.py_data.specs.Heap.{Heap}
 use Rattle.py_data.specs.Row.{Call, Reply, Row, Ret, Do, Put, MidLine}
-use Rattle.py_data.specs.Sense.{Sense, Bracket, Run, Stopped, ShownOf}
+use Rattle.py_data.specs.Sense.{Sense, Bracket, Safe, Run, Stopped, ShownOf}
 use Rattle.py_data.specs.Sight.{Sight, Does, opened}
 use Rattle.py_data.specs.World.{World}
 use Rattle.lock_run.specs.declared.client.Outcome.{Outcome}
-use Rattle.lock_run.specs.declared.client.Outcome.TheVariants.{Waits}
+use Rattle.lock_run.specs.declared.client.Outcome.TheVariants.{Done, Ended, Waits}
+use Rattle.lock_run.specs.declared.client.Life.{Life}
 use Rattle.lock_run.specs.declared.client.Life.TheVariants.{Lives}
 use Rattle.lock_run.specs.Prog.{Prog}
 
@@ -35,6 +36,20 @@ abbrev pub StaysSound : {S : Type 0} → Prog S → (Heap → List S → Type 0)
 StaysSound {S} p sound =
     (ss : List S) (t : ℕ) (s : S) (h : Heap) (w : World) (o : Outcome) (s1 : S) (y : Sight S) →
     sound h ss → slice_get ss t ≡ Some s → p.life s ≡ Lives → Does (p.row s) (opened S h w) (o, s1) y → sound y.heap (slice_set (ss ++ y.started) t s1)
+
+-- the next step of each living thread of a sound list has what its calls need
+abbrev pub IsSafe : {S : Type 0} → Prog S → (Heap → List S → Type 0) → Type 0
+IsSafe {S} p sound = (ss : List S) (t : ℕ) (s : S) (h : Heap) → sound h ss → slice_get ss t ≡ Some s → p.life s ≡ Lives → Safe false (p.row s) h
+
+-- whether a thread lives after a step that ended so
+abbrev pub LifeAfter : Outcome → Life → Type 0
+LifeAfter Done life = life ≡ Lives
+LifeAfter Ended life = life ≢ Lives
+LifeAfter Waits life = Unit {0}
+
+-- how a step of a living thread ended tells whether the thread lives on
+abbrev pub TellsLife : {S : Type 0} → Prog S → Type 0
+TellsLife {S} p = (s s1 : S) (x y : Sight S) (o : Outcome) → p.life s ≡ Lives → Does (p.row s) x (o, s1) y → LifeAfter o (p.life s1)
 
 -- heap, made names, started states and world are as they were; only looks may have been added
 pub record Unchanged {S : Type 0} (x y : Sight S) : Type 0 where

@@ -1,28 +1,58 @@
--- A journal of the records that a step replaced, by which its changes are taken back. States `docs/HEAP.md`, "The plain view".
-use Rattle.std.specs.Prelude.{ℕ, List, [], ◌∷◌, Option, Some, None, cond, eqb, Bool, true, ◌&&◌, ◌||◌, not, is_some, length, leb}
+-- A journal of the changes of a step, by which they are taken back. States `docs/HEAP.md`, "The plain view".
+use Rattle.std.specs.Prelude.{◌≡◌, ℕ, ◌*◌, ◌+◌, List, [], ◌∷◌, length, Option, Some, None, option_map, cond, eqb}
+use Rattle.std.specs.Coded.{×_prop, Unit-prop, le_prop}
+use Rattle.py_data.specs.declared.change.Change.{Change}
 use Rattle.py_data.specs.declared.record.TheConstants.{LENGTH_LIMIT}
-use Rattle.py_data.specs.Heap.{Rec, Heap}
+use Rattle.py_data.specs.declared.undo.Undo.{Undo}
+use Rattle.py_data.specs.declared.undo.Undo.TheVariants.{Put, Shorten, Extend, Insert}
+use Rattle.py_data.specs.Heap.{Rec, Heap, put_at}
+use Rattle.py_data.specs.Undo.{before, CanTakeBack, IsUndo}
 
--- the heap with what stood at an address put back
-abbrev pub restore_at : Heap → ℕ → Option Rec → Heap
-restore_at h a o = λ b. cond (eqb b a) o (h b)
+-- what stood at an address before: the record before its change, or none where it was made
+abbrev pub restored : Option Undo → Option Rec → Option Rec
+restored None o = None
+restored (Some u) o = option_map (before u) o
+
+-- the heap with an entry taken back
+abbrev pub restore_at : Heap → ℕ → Option Undo → Heap
+restore_at h a u = λ b. cond (eqb b a) (restored u (h b)) (h b)
 
 -- the heap once the entries are taken back, the last of them first
-abbrev pub taken_back : List (ℕ × Option Rec) → Heap → Heap
+abbrev pub taken_back : List (ℕ × Option Undo) → Heap → Heap
 taken_back [] h = h
 taken_back (e ∷ es) h = restore_at (taken_back es h) e.0 e.1
 
--- a record is put back only where one stands
-abbrev pub journal_ok : List (ℕ × Option Rec) → Heap → Bool
-journal_ok [] h = true
-journal_ok (e ∷ es) h = journal_ok es h && (not (is_some e.1) || is_some (taken_back es h e.0))
+-- an entry can be taken back without memory
+abbrev pub CanRestore : Option Undo → Option Rec → Type 0
+CanRestore None o = Unit {0}
+CanRestore (Some u) None = ⊥
+CanRestore (Some u) (Some r) = CanTakeBack u r
 
--- a record within the limit of values and bytes
-abbrev pub is_short : Option Rec → Bool
-is_short None = true
-is_short (Some r) = leb (length r.values) LENGTH_LIMIT && leb (length r.bytes) LENGTH_LIMIT
+-- so can all entries, the last of them first
+abbrev pub IsUndoable : List (ℕ × Option Undo) → Heap → Type 0
+IsUndoable [] h = Unit {0}
+IsUndoable (e ∷ es) h = IsUndoable es h × CanRestore e.1 (taken_back es h e.0)
 
--- what is put back is short
-abbrev pub all_short : List (ℕ × Option Rec) → Bool
-all_short [] = true
-all_short (e ∷ es) = is_short e.1 && all_short es
+take_back_prop : (u : Undo) (r : Rec) → IsProp (CanTakeBack u r)
+take_back_prop (Put i x) r = le_prop
+take_back_prop (Shorten n room) r = ×_prop le_prop le_prop
+take_back_prop (Extend vs) r = ×_prop le_prop le_prop
+take_back_prop (Insert k key x) r = ×_prop le_prop (×_prop le_prop le_prop)
+
+restore_prop : (u : Option Undo) (o : Option Rec) → IsProp (CanRestore u o)
+restore_prop None o = Unit-prop
+restore_prop (Some u) None = λ p q. absurd p
+restore_prop (Some u) (Some r) = take_back_prop u r
+
+-- there is at most one proof of that
+pub undoable_prop : (es : List (ℕ × Option Undo)) (h : Heap) → IsProp (IsUndoable es h)
+undoable_prop [] h = Unit-prop
+undoable_prop (e ∷ es) h = ×_prop (undoable_prop es h) (restore_prop e.1 (taken_back es h e.0))
+
+-- the record at an address was changed, and u takes the change back
+pub record IsChanged (a : ℕ) (c : Change) (u : Undo) (h h1 : Heap) : Type 0 where
+  pub old : Rec
+  pub new : Rec
+  pub is : h a ≡ Some old
+  pub undo : IsUndo c old u new
+  pub put : h1 ≡ put_at h a new

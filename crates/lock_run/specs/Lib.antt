@@ -10,6 +10,8 @@ pub mod Machine
 pub mod Turns
 pub mod TurnLaws
 pub mod LockState
+pub mod RunState
 pub mod Whys
 pub mod Script
 pub mod ScriptLaws
+pub mod ScriptSafe

@@ -22,8 +22,8 @@ use Rattle.lock_run.specs.declared.script.Act.{Act}
 use Rattle.lock_run.specs.declared.script.Act.TheVariants.{Look, Set, Push as PushAct, Put as PutAct}
 use Rattle.lock_run.specs.declared.script.ScriptState.{ScriptState}
 use Rattle.lock_run.specs.declared.script.ScriptState.TheVariants.{Prelude, Acts, Over}
-use Rattle.lock_run.specs.Client.{StaysSound, WaitsQuietly, WritesThen, AsksToPrint}
-use Rattle.lock_run.specs.Script.{zero_cell, empty_list, with_cell, make_cells, start_threads, list_and_threads, prelude_row, look_row, set_row, push_row, act_row, act_at, now_done, at_act, script_row, script_prog, IsCell, IsList, Is, HasCells, HasList, IsStanding, AreStanding, ScriptSound}
+use Rattle.lock_run.specs.Client.{StaysSound, LifeAfter, TellsLife, WaitsQuietly, WritesThen, AsksToPrint}
+use Rattle.lock_run.specs.Script.{zero_cell, empty_list, with_cell, make_cells, start_threads, list_and_threads, prelude_row, look_row, set_row, push_row, act_row, act_at, now_done, at_act, script_row, script_life, script_prog, IsCell, IsList, Is, HasCells, HasList, IsStanding, AreStanding, ScriptSound}
 
 -- ---- the first state over the empty heap
 pub script_sound_first : ScriptSound no_records (Prelude ∷ [])
@@ -261,6 +261,27 @@ pub script_sound_step : (n : ℕ) (lists : List (List Act)) → StaysSound (scri
 script_sound_step n lists ss t s h w o s1 y l e life d =
     let z = step_stood n lists s (opened ScriptState h w) y (o, s1) d (one_of h ss t s e l.all) refl in
     record { all = all_set y.heap (ss ++ y.started) t s1 (all_and y.heap ss y.started (all_stay h y.heap z.stays ss l.all) z.started) z.now }
+
+-- ---- a step after which the thread has ended was its last
+over_life : (o : Outcome) (s1 : ScriptState) → ◌≡◌ {A = Outcome × ScriptState} (o, s1) (Ended, Over) → LifeAfter o (script_life s1)
+over_life o s1 e = subst (λ (q : Outcome × ScriptState). LifeAfter q.0 (script_life q.1)) (sym e) (λ f. cc)
+
+done_life : (o : Outcome) (s1 : ScriptState) (next : Option Act) (number done : ℕ) (cells : List Addr) (list : Addr) → (o, s1) ≡ now_done next number done cells list → LifeAfter o (script_life s1)
+done_life o s1 (Some act) number done cells list e = subst (λ (q : Outcome × ScriptState). LifeAfter q.0 (script_life q.1)) (sym e) refl
+done_life o s1 None number done cells list e = over_life o s1 e
+
+act_life : (lists : List (List Act)) (number done : ℕ) (cells : List Addr) (list : Addr) (act : Option Act) (o : Outcome) (s1 : ScriptState) (x y : Sight ScriptState) → Does (at_act lists number done cells list act) x (o, s1) y → LifeAfter o (script_life s1)
+unfolding Run
+act_life lists number done cells list (Some act) o s1 x y d =
+    let b = bind-run pure (act_row cells list act) (after_act lists number done cells list) x (o, s1) y d in
+    done_life o s1 (act_at lists number (done + 1)) number (done + 1) cells list b.3.0
+act_life lists number done cells list None o s1 x y d = over_life o s1 d.0
+
+pub script_tells_life : (n : ℕ) (lists : List (List Act)) → TellsLife (script_prog n lists)
+unfolding script_row Run
+script_tells_life n lists Prelude s1 x y o lives d = let b = bind-run pure (prelude_row n (length lists)) then_over x (o, s1) y d in over_life o s1 b.3.0
+script_tells_life n lists (Acts number done cells list) s1 x y o lives d = act_life lists number done cells list (act_at lists number done) o s1 x y d
+script_tells_life n lists Over s1 x y o lives d = over_life o s1 d.0
 
 -- ---- no step waits
 over_goes : (s1 : ScriptState) → ◌≡◌ {A = Outcome × ScriptState} (Waits, s1) (Ended, Over) → ⊥

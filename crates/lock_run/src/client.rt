@@ -1,7 +1,7 @@
 //! A client: what the threads of a machine do, over any view.
 ghost use Rattle.std.specs.Prelude.{◌≡◌, ◌↔◌, IsTrue, true, false, List, [], ◌∷◌, IfOk, IfErr, OnErr};
 ghost use Rattle.py_data.specs.Heap.{Heap, no_records};
-ghost use Rattle.lock_run.specs.Client.{Standing, StandsIn, Stepped, StepStopped, StaysSound, WaitsQuietly, AsksToPrint, Waiting, Going};
+ghost use Rattle.lock_run.specs.Client.{Standing, StandsIn, Stepped, StepStopped, StaysSound, IsSafe, TellsLife, WaitsQuietly, AsksToPrint, Waiting, Going};
 ghost use Rattle.lock_run.specs.Prog.{Prog};
 ghost use Rattle.lock_run.specs.declared.client.Life.TheVariants.{Lives};
 
@@ -84,6 +84,12 @@ pub trait Client {
 
     /// A step leaves states that may stand over the heap that it leaves.
     ghost sound_step: { (c : Self) → StaysSound (prog c) (sound c) };
+
+    /// The next step of a thread that lives has what its calls need.
+    ghost sound_safe: { (c : Self) → IsSafe (prog c) (sound c) };
+
+    /// After a step that was done the thread lives, and after its last step it doesn't.
+    ghost outcomes: { (c : Self) → TellsLife (prog c) };
 
     /// A step that waits leaves all as it was.
     ghost waits_quietly: { (c : Self) → WaitsQuietly (prog c) };

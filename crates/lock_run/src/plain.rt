@@ -13,8 +13,8 @@ use stm_io::{PutError, Sink, Source, TakeError};
 /// step, it loses no conflict, and it has no limit of words. It gives the Stops ReadFault, WriteFault, ErrFault and
 /// OutOfMemory.
 ///
-/// A change of a record copies it twice, so that the step can be taken back, and `find_key` goes through the pairs. A new
-/// record gets the next planned name; or, where names are free, the first unused one from the last fresh one on.
+/// A change takes time of what it changes, beside the look for the record, and `find_key` goes through the pairs. A new record
+/// gets the next planned name; or, where names are free, the first unused one from the last fresh one on.
 #[derive(Drop)]
 pub struct PlainView<S, I, O, E> {
     alloc: Global,
@@ -262,7 +262,7 @@ impl<S: Drop, I: Source, O: Sink, E: Sink> View<S> for PlainView<S, I, O, E> {
     #[tactic(auto, unfolding(py_data::specs::Sense::Asks, py_data::specs::Heap::at))]
     fn kind(&mut self, a: Addr) -> Result<Kind, Stop> {
         match self.space.look(a.0) {
-            Some(r) => Ok(r.kind),
+            Some(r) => Ok(r.kind()),
             None => unreachable!(),
         }
     }
@@ -270,7 +270,7 @@ impl<S: Drop, I: Source, O: Sink, E: Sink> View<S> for PlainView<S, I, O, E> {
     #[tactic(auto, unfolding(py_data::specs::Sense::Asks, py_data::specs::Heap::at))]
     fn len(&mut self, a: Addr) -> Result<usize, Stop> {
         match self.space.look(a.0) {
-            Some(r) => Ok(r.values.len()),
+            Some(r) => Ok(r.values().len()),
             None => unreachable!(),
         }
     }
@@ -278,7 +278,7 @@ impl<S: Drop, I: Source, O: Sink, E: Sink> View<S> for PlainView<S, I, O, E> {
     #[tactic(auto, unfolding(py_data::specs::Sense::Asks, py_data::specs::Heap::at))]
     fn val(&mut self, a: Addr, i: usize) -> Result<Value, Stop> {
         match self.space.look(a.0) {
-            Some(r) => Ok(r.values.at(i)),
+            Some(r) => Ok(r.values()[i]),
             None => unreachable!(),
         }
     }
@@ -286,7 +286,7 @@ impl<S: Drop, I: Source, O: Sink, E: Sink> View<S> for PlainView<S, I, O, E> {
     #[tactic(auto, unfolding(py_data::specs::Sense::Asks, py_data::specs::Heap::at))]
     fn byte_len(&mut self, a: Addr) -> Result<usize, Stop> {
         match self.space.look(a.0) {
-            Some(r) => Ok(r.bytes.len()),
+            Some(r) => Ok(r.bytes().len()),
             None => unreachable!(),
         }
     }
@@ -295,7 +295,7 @@ impl<S: Drop, I: Source, O: Sink, E: Sink> View<S> for PlainView<S, I, O, E> {
     fn copy_bytes(&mut self, a: Addr, from: usize, out: &mut [u8]) -> Result<(), Stop> {
         match self.space.look(a.0) {
             Some(r) => {
-                let bytes = r.bytes.as_slice();
+                let bytes = r.bytes();
                 out.copy_from_slice(&bytes[from..from + out.len()]);
                 Ok(())
             }
@@ -306,7 +306,7 @@ impl<S: Drop, I: Source, O: Sink, E: Sink> View<S> for PlainView<S, I, O, E> {
     #[tactic(auto, unfolding(py_data::specs::Sense::Asks, py_data::specs::Heap::at))]
     fn find_key(&mut self, d: Addr, key: Value) -> Result<Option<usize>, Stop> {
         match self.space.look(d.0) {
-            Some(r) => Ok(find_pair(&self.space, &r.values, key)),
+            Some(r) => Ok(find_pair(&self.space, r.values(), key)),
             None => unreachable!(),
         }
     }
@@ -436,7 +436,7 @@ impl<S: Drop, I: Source, O: Sink, E: Sink> Peek for PlainView<S, I, O, E> {
     #[tactic(auto, unfolding(py_data::specs::Heap::at))]
     fn peek_kind(&self, a: Addr) -> Kind {
         match self.space.look(a.0) {
-            Some(r) => r.kind,
+            Some(r) => r.kind(),
             None => unreachable!(),
         }
     }
@@ -444,9 +444,9 @@ impl<S: Drop, I: Source, O: Sink, E: Sink> Peek for PlainView<S, I, O, E> {
     #[tactic(auto, unfolding(py_data::specs::Heap::at))]
     fn peek_len(&self, a: Addr) -> usize {
         match self.space.look(a.0) {
-            Some(r) => match r.kind {
-                Kind::Str => r.bytes.len(),
-                _ => r.values.len(),
+            Some(r) => match r.kind() {
+                Kind::Str => r.bytes().len(),
+                _ => r.values().len(),
             },
             None => unreachable!(),
         }
@@ -455,7 +455,7 @@ impl<S: Drop, I: Source, O: Sink, E: Sink> Peek for PlainView<S, I, O, E> {
     #[tactic(auto, unfolding(py_data::specs::Heap::at))]
     fn peek_val(&self, a: Addr, i: usize) -> Value {
         match self.space.look(a.0) {
-            Some(r) => r.values.at(i),
+            Some(r) => r.values()[i],
             None => unreachable!(),
         }
     }
@@ -463,7 +463,7 @@ impl<S: Drop, I: Source, O: Sink, E: Sink> Peek for PlainView<S, I, O, E> {
     #[tactic(auto, unfolding(py_data::specs::Heap::at))]
     fn peek_byte(&self, a: Addr, i: usize) -> u8 {
         match self.space.look(a.0) {
-            Some(r) => r.bytes.at(i),
+            Some(r) => r.bytes()[i],
             None => unreachable!(),
         }
     }

@@ -1,13 +1,14 @@
 //! The records, with a journal by which a step is taken back.
-ghost use Rattle.std.specs.Prelude.{◌≡◌, ◌<◌, Option, Some, None, IsSome, IfSome, IfOk, OnOk, OnErr, IsOk, is_some, ◌↔◌, IsTrue, [], length, option_copied};
-ghost use Rattle.std.specs.Prelude.{true, false};
+ghost use Rattle.std.specs.Prelude.{◌≡◌, ◌<◌, Option, Some, None, IfOk, OnOk, OnErr, is_some, [], ◌∷◌, ◌++◌, option_copied, vec_len, vec_capacity};
+ghost use Rattle.std.specs.Prelude.{false};
 ghost use Rattle.std.specs.Ordering.{nat_cmp};
 ghost use Rattle.std.specs.BTreeMap as tree;
+ghost use Rattle.py_data.specs.Changes.{Allows};
 ghost use Rattle.py_data.specs.Heap.{put_at};
-ghost use Rattle.lock_run.specs.Journal.{journal_ok, restore_at, all_short};
-ghost use Rattle.py_data.specs.Changes.{AreShort};
+ghost use Rattle.py_data.specs.Sense.{IfThere};
+ghost use Rattle.lock_run.specs.Journal.{CanRestore, IsChanged, IsUndoable, restore_at, undoable_prop};
 
-use py_data::{Change, Entry, NoMemory, Records, changed};
+use py_data::{Change, Entry, NoMemory, Records, Undo};
 use std::alloc::Global;
 use std::collections::BTreeMap;
 
@@ -20,15 +21,32 @@ fn place(records: &mut BTreeMap<u32, Entry>, a: u32, r: Entry) -> Result<(), NoM
     Ok(())
 }
 
-/// Puts back what stood at an address. Where a record stands there already, this takes no memory.
-fn restore(records: &mut BTreeMap<u32, Entry>, a: u32, old: Option<Entry>)
-    requires { is_some old ≡ true → is_some (tree.get nat_cmp records.old a) ≡ true }
-    ensures { tree.get nat_cmp records.new ≡ restore_at (tree.get nat_cmp records.old) a old }
+/// Changes the record at an address in place.
+fn change(
+    records: &mut BTreeMap<u32, Entry>,
+    alloc: Global,
+    a: u32,
+    c: Change,
+) -> Result<Undo, NoMemory>
+    requires { IfThere false (tree.get nat_cmp records.old a) (λ r. Allows c r) }
+    ensures ok { IfOk result (λ u. IsChanged a c u (tree.get nat_cmp records.old) (tree.get nat_cmp records.new)) }
+    ensures err { OnErr result (tree.get nat_cmp records.new ≡ tree.get nat_cmp records.old) }
 {
-    match old {
-        Some(r) => match records.insert(a, r) {
-            Ok(_) => (),
-            Err(_) => unreachable!(),
+    match records.get_mut(&a) {
+        Some(r) => r.apply(alloc, c),
+        None => unreachable!(),
+    }
+}
+
+/// Takes back what was done at an address: a change of a record, or its making. It takes no memory.
+fn restore(records: &mut BTreeMap<u32, Entry>, a: u32, undo: Option<Undo>)
+    requires { CanRestore undo (tree.get nat_cmp records.old a) }
+    ensures { tree.get nat_cmp records.new ≡ restore_at (tree.get nat_cmp records.old) a undo }
+{
+    match undo {
+        Some(u) => match records.get_mut(&a) {
+            Some(r) => r.take_back(u),
+            None => unreachable!(),
         },
         None => {
             let _ = records.remove(&a);
@@ -36,21 +54,30 @@ fn restore(records: &mut BTreeMap<u32, Entry>, a: u32, old: Option<Entry>)
     }
 }
 
-/// The records of a heap, and a journal of what stood before at each address that the open step changed, the last one
-/// last. A look takes time of the logarithm of how many records there are, and taking a step back goes through its journal.
+/// Adds an entry to a journal that has room for it.
+fn note(journal: &mut Vec<(u32, Option<Undo>)>, a: u32, undo: Option<Undo>)
+    requires { vec_len journal.old < vec_capacity journal.old }
+    ensures { journal.new.items ≡ journal.old.items ++ (a, undo) ∷ [] }
+{
+    match journal.push((a, undo)) {
+        Ok(()) => (),
+        Err(_) => unreachable!(),
+    }
+}
+
+/// The records of a heap, and a journal of what the open step did to them, the last one last: at each address what takes the
+/// change back, or nothing where the record was made. A look takes time of the logarithm of how many records there are, a
+/// change besides only that of what it changes, and taking a step back goes through its journal.
 #[derive(Drop)]
 pub struct Space {
     records: BTreeMap<u32, Entry>,
-    journal: Vec<(u32, Option<Entry>)>,
-    ghost undoable: { journal_ok journal.items (tree.get nat_cmp records) ≡ true },
-    ghost short: { AreShort (tree.get nat_cmp records) },
-    ghost old_short: { all_short journal.items ≡ true },
+    journal: Vec<(u32, Option<Undo>)>,
+    ghost undoable: { IsUndoable journal.items (tree.get nat_cmp records) } by { undoable_prop journal.items (tree.get nat_cmp records) },
 }
 
 impl Space {
     ghost use Rattle.lock_run.specs.Space.{space_heap, space_base};
-    ghost use Rattle.py_data.specs.Changes.{Allows, IsShort, after, Replaced};
-    ghost use Rattle.py_data.specs.Sense.{IfThere};
+    ghost use Rattle.py_data.specs.Changes.{after, Replaced};
 
     /// No records.
     pub fn new(alloc: Global) -> Self
@@ -65,8 +92,7 @@ impl Space {
 
     /// The record at an address, if one is there.
     pub fn look(&self, a: u32) -> Option<&Entry>
-        ensures entry { option_copied result ≡ space_heap self.now a }
-        ensures short { IfSome result (λ r. IsShort r.now) }
+        ensures { option_copied result ≡ space_heap self.now a }
     {
         self.records.get(&a)
     }
@@ -78,47 +104,30 @@ impl Space {
         self.records.contains_key(&a)
     }
 
-    /// Puts another record in the place of one that is there, and a copy of that one into the journal.
-    fn change(&mut self, alloc: Global, a: u32, r: Entry) -> Result<(), NoMemory>
-        requires there { IsSome (space_heap self.old a) }
-        requires short { IsShort r }
-        ensures heap { OnOk result (space_heap self.new ≡ put_at (space_heap self.old) a r) }
-        ensures base { space_base self.new ≡ space_base self.old }
-        ensures err { OnErr result (space_heap self.new ≡ space_heap self.old) }
-    {
-        let old = match self.records.get(&a) {
-            Some(old) => old.copy(alloc)?,
-            None => unreachable!(),
-        };
-        self.journal.push((a, Some(old)))?;
-        place(&mut self.records, a, r)
-    }
-
-    /// Puts a new record at an address that is free.
+    /// Puts a new record at an address that is free. At want of memory the records are as before.
     pub fn add(&mut self, a: u32, r: Entry) -> Result<(), NoMemory>
-        requires fresh { space_heap self.old a ≡ None }
-        requires short { IsShort r }
+        requires { space_heap self.old a ≡ None }
         ensures heap { OnOk result (space_heap self.new ≡ put_at (space_heap self.old) a r) }
         ensures base { space_base self.new ≡ space_base self.old }
         ensures err { OnErr result (space_heap self.new ≡ space_heap self.old) }
     {
-        self.journal.push((a, None))?;
-        place(&mut self.records, a, r)
+        self.journal.reserve(1)?;
+        place(&mut self.records, a, r)?;
+        note(&mut self.journal, a, None);
+        Ok(())
     }
 
-    /// Makes a change of the record at an address. It copies the record twice: once to change it, once for the journal. At want
-    /// of memory the records are as before.
+    /// Makes a change of the record at an address. At want of memory the records are as before.
     pub fn replace(&mut self, alloc: Global, a: u32, c: Change) -> Result<(), NoMemory>
         requires { IfThere false (space_heap self.old a) (λ r. Allows c r) }
         ensures heap { OnOk result (Replaced a (after c) (space_heap self.old) (space_heap self.new)) }
         ensures base { space_base self.new ≡ space_base self.old }
         ensures err { OnErr result (space_heap self.new ≡ space_heap self.old) }
     {
-        let r = match self.records.get(&a) {
-            Some(old) => changed(alloc, old, c)?,
-            None => unreachable!(),
-        };
-        self.change(alloc, a, r)
+        self.journal.reserve(1)?;
+        let undo = change(&mut self.records, alloc, a, c)?;
+        note(&mut self.journal, a, Some(undo));
+        Ok(())
     }
 
     /// Opens a step: what stands now is what `undo` gives back.
@@ -134,8 +143,8 @@ impl Space {
         ensures heap { space_heap self.new ≡ space_base self.old }
         ensures base { space_base self.new ≡ space_base self.old }
     {
-        while let Some((a, old)) = self.journal.pop() {
-            restore(&mut self.records, a, old);
+        while let Some((a, undo)) = self.journal.pop() {
+            restore(&mut self.records, a, undo);
         }
     }
 }

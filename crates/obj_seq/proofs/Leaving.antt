@@ -1,21 +1,23 @@
--- What the rows of changes leave of a list.
-use Rattle.std.proofs.Common.{◌≡◌, ◌≢◌, ℕ, ◌+◌, ◌<◌, ◌≤◌, eqb, Bool, true, false, cond, ℤ, List, [], ◌∷◌, ◌++◌, length, take, drop, reverse, set, Option, Some, None, pos, negsuc, inl, inr, refl, sym, ap, subst, ◌∙◌, arith, append_assoc, append-nil, add-one}
+-- What the operations on lists answer and leave, and what they raise.
+use Rattle.std.proofs.Common.{◌≡◌, ◌≢◌, ℕ, ◌+◌, ◌<◌, ◌≤◌, ◌==◌, eqb, ltb, false, ℤ, List, [], ◌∷◌, ◌++◌, length, take, drop, reverse, set, Option, Some, None, pos, negsuc, inl, inr, refl, sym, ap, subst, ◌∙◌, arith, append_assoc, append-nil, add-one}
 use Rattle.std.proofs.Math.Seq.{take-suc-set}
 use Rattle.std.proofs.lemmas.List.{length-set, length-drop, length-reverse, drop-set-lt, drop-drop, take_all}
-use Rattle.std.proofs.lemmas.Bool.{cond-false, ne_eqb, cases_lt}
+use Rattle.std.proofs.lemmas.Bool.{cond-true, cond-false, lt-ltb, le-ltb, ne_eqb, cases_lt}
 use Rattle.std.proofs.lemmas.Bool.Decides.{nat_tests}
 use Rattle.py_data.specs.declared.value.Value.{Value}
-use Rattle.py_data.specs.declared.record.Fault.{Fault}
 use Rattle.py_data.specs.declared.record.Got.{Got}
 use Rattle.py_data.specs.declared.record.Got.TheVariants.{Is, Raise}
+use Rattle.py_data.specs.declared.record.TheConstants.{LENGTH_LIMIT}
+use Rattle.py_data.specs.Fault.{index_fault, empty_fault, memory_fault}
 use Rattle.py_data.specs.Heap.{Heap, Rec, at, put_at, value_at, new_rec, with_value, with_push, cut_to}
 use Rattle.py_data.specs.declared.change.Change.TheVariants as change
-use Rattle.py_data.specs.Row.{Row, Ret, Read, Edit, Make, bind}
+use Rattle.py_data.specs.Row.{Row, Ret, Do, Read, Edit, Make, bind}
 use Rattle.py_data.specs.Sense.{Sense, Lawful, Edits, Run}
 use Rattle.py_data.proofs.Rows.{bind-run}
+use Rattle.py_data.proofs.Same.{one_rec}
 use Rattle.py_data.proofs.Steps.{at-is, put-here}
-use Rattle.obj_seq.specs.Seq.{place, if_place, bound, put_row, gap_row, shift_row, del_item_at, pop_at, insert_at, slice_at, bound_or, part}
-use Rattle.obj_seq.specs.Laws.{Leaves, PopLaw, DelLaw, InsertLaw, ReverseLaw, SliceLaw}
+use Rattle.obj_seq.specs.Seq.{place, if_place, bound, bound_or, part, put_row, gap_row, shift_row, item_row, item_at, set_item_row, set_item_at, del_item_row, del_item_at, pop_at, insert_at, slice_at}
+use Rattle.obj_seq.specs.Laws.{Leaves, Says, ItemLaw, SetLaw, PopLaw, DelLaw, InsertLaw, ReverseLaw, SliceLaw, IndexLaw, PopIndexLaw, EmptyLaw, FullLaw}
 
 -- one change of a record
 pub record Changed (a : ℕ) (r : Rec) (h h1 : Heap) : Type 0 where
@@ -28,11 +30,15 @@ changed a f r h h1 e d = record {
   others = λ b n. ap (λ g. g b) d.1 ∙ cond-false (eqb b a) (Some (f (at h a))) (h b) (ne_eqb b a n);
 }
 
-leaves-after : (a : ℕ) (r q : Rec) (values : List Value) (h h1 h2 : Heap) → Changed a q h h1 → q.kind ≡ r.kind → Leaves a q values h1 h2 → Leaves a r values h h2
-leaves-after a r q values h h1 h2 c k l = record { now = l.now; is = l.is; kind = l.kind ∙ k; values = l.values; others = λ b n. l.others b n ∙ c.others b n }
+-- a record but for its values and its room
+abbrev IsElse : Rec → Rec → Type 0
+IsElse r q = q ≡ record r { values = q.values; room = q.room }
 
-leaves-now : (a : ℕ) (r q : Rec) (values : List Value) (h h1 : Heap) → Changed a q h h1 → q.kind ≡ r.kind → q.values ≡ values → Leaves a r values h h1
-leaves-now a r q values h h1 c k e = record { now = q; is = c.is; kind = k; values = e; others = c.others }
+leaves-after : (a : ℕ) (r q : Rec) (values : List Value) (h h1 h2 : Heap) → Changed a q h h1 → IsElse r q → Leaves a q values h1 h2 → Leaves a r values h h2
+leaves-after a r q values h h1 h2 c k l = record { now = l.now; is = l.is; same = l.same ∙ ap {A = Rec} {B = Rec} (λ z. record z { values = values; room = l.now.room }) k; others = λ b n. l.others b n ∙ c.others b n }
+
+leaves-now : (a : ℕ) (r q : Rec) (values : List Value) (h h1 : Heap) → Changed a q h h1 → IsElse r q → q.values ≡ values → Leaves a r values h h1
+leaves-now a r q values h h1 c k e = record { now = q; is = c.is; same = k ∙ ap {B = Rec} (λ vs. record r { values = vs; room = q.room }) e; others = c.others }
 
 -- the values before the next place, once this one was set
 front : (xs ys : List Value) (k : ℕ) (x : Value) → k < length xs → take (k + 1) (set xs k x) ++ ys ≡ take k xs ++ x ∷ ys
@@ -88,7 +94,7 @@ module _ {S X : Type 0} {u : Sense S X} (L : Lawful u) (a : ℕ) where
   put-leaves k [] r v w e f d =
       let all : r.values ≡ take k r.values ++ [] = sym (append-nil (take k r.values) ∙ take_all k r.values (omega arith)) in
       let same : u.heap w ≡ u.heap v = ap u.heap d.1 in
-      record { now = r; is = ap (λ h. h a) same ∙ e; kind = refl; values = all; others = λ b n. ap (λ h. h b) same }
+      record { now = r; is = ap (λ h. h a) same ∙ e; same = ap {B = Rec} (λ vs. record r { values = vs }) all; others = λ b n. ap (λ h. h b) same }
   put-leaves k (x ∷ xs) r v w e f d =
       let c = changed a (with_value k x) r (u.heap v) (u.heap d.1) e (L.effect (Edit a (change.Set k x)) v tt d.1 d.2) in
       let less : k < length r.values = omega arith in
@@ -97,88 +103,128 @@ module _ {S X : Type 0} {u : Sense S X} (L : Lawful u) (a : ℕ) where
       let l1 = leaves-after a r (with_value k x r) (take (k + 1) (set r.values k x) ++ xs) (u.heap v) (u.heap d.1) (u.heap w) c refl l in
       subst (λ vs. Leaves a r vs (u.heap v) (u.heap w)) (front r.values xs k x less) l1
 
-  -- the record that a row looks at first is the one that is there
-  looked-is : (r q : Rec) (v m : X) → u.heap v a ≡ Some r → u.does (Read a) v q m → (q ≡ r) × (u.heap m ≡ u.heap v)
-  looked-is r q v m e d = let f = L.effect (Read a) v q m d in (let g = f.0 in cc, f.1)
-
-  -- an exception is no answer
-  not-raised : {A : Type 0} (z : Fault) (m w : X) (x : A) → Run u (Ret (Raise z)) m (Is x) w → ⊥
+  -- a row looks at the record that is there, and goes on
+  pub looked : {A : Type 0} (f : Rec → Row S A) (r : Rec) (v w : X) (res : A) → u.heap v a ≡ Some r → Run u (Do (Read a) f) v res w → (m : X) × (u.heap m ≡ u.heap v) × Run u (f r) m res w
   unfolding Run
-  not-raised z m w x d = let e = d.0 in cc
+  looked f r v w res e d =
+      let g = L.effect (Read a) v d.0 d.1 d.2 in
+      (d.1, g.1, subst (λ q. Run u (f q) d.1 res w) (one_rec (u.heap v a) r d.0 e g.0) d.3)
 
-  -- a gap that was closed, and an answer
-  gap-then : {A : Type 0} (k : ℕ) (r : Rec) (x y : A) (m w : X) → u.heap m a ≡ Some r → k < length r.values → Run u (bind (gap_row {S = S} a k (drop (k + 1) r.values)) (λ _. Ret (Is y))) m (Is x) w
-      → (x ≡ y) × Leaves a r (take k r.values ++ drop (k + 1) r.values) (u.heap m) (u.heap w)
+  -- where it then answers, all records are as they were
+  pub says : {A : Type 0} (f : Rec → Row S A) (r : Rec) (y res : A) (v w : X) → u.heap v a ≡ Some r → f r ≡ Ret y → Run u (Do (Read a) f) v res w → Says u y res v w
   unfolding Run
-  gap-then k r x y m w e h d =
-      let b = bind-run u (gap_row a k (drop (k + 1) r.values)) (λ _. Ret (Is y)) m (Is x) w d in
-      let l = gap-leaves k (drop (k + 1) r.values) r m b.1 e refl h b.2 in
-      (let f = b.3.0 in cc, subst (λ z. Leaves a r (take k r.values ++ drop (k + 1) r.values) (u.heap m) (u.heap z)) (sym b.3.1) l)
+  says f r y res v w e g d =
+      let l = looked f r v w res e d in
+      let s = subst (λ row. Run u row l.0 res w) g l.2 in
+      (s.0, ap u.heap s.1 ∙ l.1)
 
-  -- where there is a place, and what was done with it
-  placed : {A : Type 0} (o : Option ℕ) (f : ℕ → Row S (Got A)) (z : Fault) (m w : X) (x : A) → Run u (if_place o f (Ret (Raise z))) m (Is x) w → (k : ℕ) × (o ≡ Some k) × Run u (f k) m (Is x) w
-  unfolding if_place
-  placed (Some k) f z m w x d = (k, refl, d)
-  placed None f z m w x d = absurd (not-raised z m w x d)
+  -- where it goes on with changes, they are changes of that record
+  leads : {A : Type 0} (f : Rec → Row S A) (r : Rec) (row : Row S A) (y res : A) (items : List Value) (v w : X) → u.heap v a ≡ Some r → f r ≡ row
+      → ((m : X) → u.heap m a ≡ Some r → Run u row m res w → (res ≡ y) × Leaves a r items (u.heap m) (u.heap w)) → Run u (Do (Read a) f) v res w → (res ≡ y) × Leaves a r items (u.heap v) (u.heap w)
+  leads f r row y res items v w e g n d =
+      let l = looked f r v w res e d in
+      let x = n l.0 (ap (λ h. h a) l.1 ∙ e) (subst (λ z. Run u z l.0 res w) g l.2) in
+      (x.0, subst (λ h. Leaves a r items h (u.heap w)) l.1 x.1)
 
-  otherwise : {A : Type 0} (b : Bool) (p : Row S (Got A)) (z : Fault) (m w : X) (x : A) → Run u (cond b (Ret (Raise z)) p) m (Is x) w → Run u p m (Is x) w
-  otherwise true p z m w x d = absurd (not-raised z m w x d)
-  otherwise false p z m w x d = d
+  -- changes, and an answer
+  then-leaves : {A : Type 0} (row : Row S (Unit {0})) (r : Rec) (items : List Value) (y res : A) (m w : X) → ((z : X) → Run u row m tt z → Leaves a r items (u.heap m) (u.heap z)) → Run u (bind row (λ _. Ret y)) m res w
+      → (res ≡ y) × Leaves a r items (u.heap m) (u.heap w)
+  unfolding Run
+  then-leaves row r items y res m w n d =
+      let b = bind-run u row (λ _. Ret y) m res w d in
+      (b.3.0, subst (λ z. Leaves a r items (u.heap m) (u.heap z)) (sym b.3.1) (n b.1 b.2))
 
-  in-time : {A : Type 0} (b : Bool) (p : Row S (Got A)) (z : Fault) (m w : X) (x : A) → Run u (cond b p (Ret (Raise z))) m (Is x) w → Run u p m (Is x) w
-  in-time true p z m w x d = d
-  in-time false p z m w x d = absurd (not-raised z m w x d)
+  set-leaves : (k : ℕ) (x : Value) (r : Rec) (m w : X) (res : Got (Unit {0})) → u.heap m a ≡ Some r → Run u (Do (Edit a (change.Set k x)) (λ _. Ret (Is tt))) m res w
+      → (res ≡ Is tt) × Leaves a r (set r.values k x) (u.heap m) (u.heap w)
+  unfolding Run
+  set-leaves k x r m w res e d =
+      let c = changed a (with_value k x) r (u.heap m) (u.heap d.1) e (L.effect (Edit a (change.Set k x)) m tt d.1 d.2) in
+      let l = leaves-now a r (with_value k x r) (set r.values k x) (u.heap m) (u.heap d.1) c refl refl in
+      (d.3.0, subst (λ z. Leaves a r (set r.values k x) (u.heap m) (u.heap z)) (sym d.3.1) l)
+
+  -- the gap of an item that was taken out is closed
+  closed-leaves : {A : Type 0} (k : ℕ) (r : Rec) (y res : A) (m w : X) → k < length r.values → u.heap m a ≡ Some r → Run u (bind (gap_row {S = S} a k (drop (k + 1) r.values)) (λ _. Ret y)) m res w
+      → (res ≡ y) × Leaves a r (take k r.values ++ drop (k + 1) r.values) (u.heap m) (u.heap w)
+  closed-leaves k r y res m w l e d =
+      then-leaves (gap_row a k (drop (k + 1) r.values)) r (take k r.values ++ drop (k + 1) r.values) y res m w (λ z s. gap-leaves k (drop (k + 1) r.values) r m z e refl l s) d
+
+-- ---- which row it is
+some-place : {A : Type 0} (o : Option ℕ) (k : ℕ) (f : ℕ → A) (z : A) → o ≡ Some k → if_place o f z ≡ f k
+unfolding if_place
+some-place o k f z e = ap (λ o. if_place o f z) e
+
+no-place : {A : Type 0} (o : Option ℕ) (f : ℕ → A) (z : A) → o ≡ None → if_place o f z ≡ z
+unfolding if_place
+no-place o f z e = ap (λ o. if_place o f z) e
+
+-- a list that isn't empty
+not-empty : (n : ℕ) → 0 < n → (n == 0) ≡ false
+not-empty n l = ne_eqb n 0 (λ e. absurd (omega (arith, l, e)))
 
 module _ {S X : Type 0} {u : Sense S X} (L : Lawful u) where
+  pub item-law : ItemLaw u
+  item-law a i r k v w res e f d = says L a (item_at i) r (Is (value_at r.values k)) res v w e (some-place (place i (length r.values)) k _ _ f) d
+
+  pub set-law : SetLaw u
+  set-law a i x r k v w res e f d =
+      leads L a (set_item_at a i x) r (Do (Edit a (change.Set k x)) (λ _. Ret (Is tt))) (Is tt) res (set r.values k x) v w e (some-place (place i (length r.values)) k _ _ f) (λ m g s. set-leaves L a k x r m w res g s) d
+
   pub pop-law : PopLaw u
-  unfolding Run
-  pop-law a i r v w x e d =
-      let q = looked-is L a r d.0 v d.1 e d.2 in
-      let d1 = subst (λ q. Run u (pop_at a i q) d.1 (Is x) w) q.0 d.3 in
-      let p = placed L a (place i (length r.values)) _ _ d.1 w x (otherwise L a _ _ _ d.1 w x d1) in
-      let g = gap-then L a p.0 r x (value_at r.values p.0) d.1 w (ap (λ h. h a) q.1 ∙ e) (place-within i (length r.values) p.0 p.1) p.2 in
-      (p.0, p.1, g.0, subst (λ h. Leaves a r (take p.0 r.values ++ drop (p.0 + 1) r.values) h (u.heap w)) q.1 g.1)
+  pop-law a i r k v w res e f d =
+      let l = place-within i (length r.values) k f in
+      leads L a (pop_at a i) r (bind (gap_row a k (drop (k + 1) r.values)) (λ _. Ret (Is (value_at r.values k)))) (Is (value_at r.values k)) res (take k r.values ++ drop (k + 1) r.values) v w e
+      (cond-false (length r.values == 0) _ _ (not-empty (length r.values) (omega (arith, l))) ∙ some-place (place i (length r.values)) k _ _ f)
+      (λ m g s. closed-leaves L a k r (Is (value_at r.values k)) res m w l g s) d
 
   pub del-law : DelLaw u
-  unfolding Run
-  del-law a i r v w e d =
-      let q = looked-is L a r d.0 v d.1 e d.2 in
-      let d1 = subst (λ q. Run u (del_item_at a i q) d.1 (Is tt) w) q.0 d.3 in
-      let p = placed L a (place i (length r.values)) _ _ d.1 w tt d1 in
-      let g = gap-then L a p.0 r tt tt d.1 w (ap (λ h. h a) q.1 ∙ e) (place-within i (length r.values) p.0 p.1) p.2 in
-      (p.0, p.1, subst (λ h. Leaves a r (take p.0 r.values ++ drop (p.0 + 1) r.values) h (u.heap w)) q.1 g.1)
+  del-law a i r k v w res e f d =
+      leads L a (del_item_at a i) r (bind (gap_row a k (drop (k + 1) r.values)) (λ _. Ret (Is tt))) (Is tt) res (take k r.values ++ drop (k + 1) r.values) v w e
+      (some-place (place i (length r.values)) k _ _ f) (λ m g s. closed-leaves L a k r (Is tt) res m w (place-within i (length r.values) k f) g s) d
 
   pub insert-law : InsertLaw u
-  unfolding Run
-  insert-law a i x r v w e d =
-      let q = looked-is L a r d.0 v d.1 e d.2 in
+  insert-law a i x r v w res e f d =
       let k = bound i (length r.values) in
-      let d1 = subst (λ q. Run u (insert_at a i x q) d.1 (Is tt) w) q.0 d.3 in
-      let d2 = in-time L a _ _ _ d.1 w tt d1 in
-      let b = bind-run u (shift_row a k x (drop k r.values)) (λ _. Ret (Is tt)) d.1 (Is tt) w d2 in
-      let l = shift-leaves L a k x (drop k r.values) r d.1 b.1 (ap (λ h. h a) q.1 ∙ e) refl (bound-within i (length r.values)) b.2 in
-      let l1 = subst (λ z. Leaves a r (take k r.values ++ x ∷ drop k r.values) (u.heap d.1) (u.heap z)) (sym b.3.1) l in
-      subst (λ h. Leaves a r (take k r.values ++ x ∷ drop k r.values) h (u.heap w)) q.1 l1
+      let items = take k r.values ++ x ∷ drop k r.values in
+      leads L a (insert_at a i x) r (bind (shift_row a k x (drop k r.values)) (λ _. Ret (Is tt))) (Is tt) res items v w e
+      (cond-true (ltb (length r.values) LENGTH_LIMIT) _ _ (lt-ltb (length r.values) LENGTH_LIMIT f))
+      (λ m g s. then-leaves L a (shift_row a k x (drop k r.values)) r items (Is tt) res m w (λ z t. shift-leaves L a k x (drop k r.values) r m z g refl (bound-within i (length r.values)) t) s) d
 
   pub reverse-law : ReverseLaw u
-  unfolding Run
   reverse-law a r v w e d =
-      let q = looked-is L a r d.0 v d.1 e d.2 in
-      let d1 = subst (λ q. Run u (put_row a 0 (reverse q.values)) d.1 tt w) q.0 d.3 in
-      let l = put-leaves L a 0 (reverse r.values) r d.1 w (ap (λ h. h a) q.1 ∙ e) (omega (arith, length-reverse r.values)) d1 in
-      subst (λ h. Leaves a r (reverse r.values) h (u.heap w)) q.1 l
+      let l = looked L a (λ q. put_row a 0 (reverse q.values)) r v w tt e d in
+      subst (λ h. Leaves a r (reverse r.values) h (u.heap w)) l.1 (put-leaves L a 0 (reverse r.values) r l.0 w (ap (λ h. h a) l.1 ∙ e) (omega (arith, length-reverse r.values)) l.2)
 
   pub slice-law : SliceLaw u
   unfolding Run
-  slice-law a from to r v w x e d =
-      let q = looked-is L a r d.0 v d.1 e d.2 in
-      let d1 = subst (λ q. Run u (slice_at from to q) d.1 (Is x) w) q.0 d.3 in
+  slice-law a from to r v w res e d =
+      let l = looked L a (slice_at from to) r v w res e d in
+      let m = l.2 in
       let made = new_rec r.kind (part r.values (bound_or from 0 (length r.values)) (bound_or to (length r.values) (length r.values))) [] in
-      let f = L.effect (Make made) d.1 d1.0 d1.1 d1.2 in
-      let last : u.heap w ≡ put_at (u.heap v) d1.0 made = ap u.heap d1.3.1 ∙ f.1 ∙ ap (λ h. put_at h d1.0 made) q.1 in (
-        d1.0,
-        (let g = d1.3.0 in cc),
-        ap (λ h. h d1.0) (sym q.1) ∙ f.0,
-        ap (λ h. h d1.0) last ∙ put-here (u.heap v) d1.0 made,
-        λ c n. ap (λ h. h c) last ∙ cond-false (eqb c d1.0) (Some made) (u.heap v c) (ne_eqb c d1.0 n),
+      let f = L.effect (Make made) l.0 m.0 m.1 m.2 in
+      let last : u.heap w ≡ put_at (u.heap v) m.0 made = ap u.heap m.3.1 ∙ f.1 ∙ ap (λ h. put_at h m.0 made) l.1 in (
+        m.0,
+        m.3.0,
+        ap (λ h. h m.0) (sym l.1) ∙ f.0,
+        ap (λ h. h m.0) last ∙ put-here (u.heap v) m.0 made,
+        λ c n. ap (λ h. h c) last ∙ cond-false (eqb c m.0) (Some made) (u.heap v c) (ne_eqb c m.0 n),
       )
+
+  -- ---- what is raised
+  pub item-index : IndexLaw u item_row
+  item-index a i r v w res e f d = says L a (item_at i) r (Raise index_fault) res v w e (no-place (place i (length r.values)) _ _ f) d
+
+  pub set-index : (x : Value) → IndexLaw u (λ a i. set_item_row a i x)
+  set-index x a i r v w res e f d = says L a (set_item_at a i x) r (Raise index_fault) res v w e (no-place (place i (length r.values)) _ _ f) d
+
+  pub del-index : IndexLaw u del_item_row
+  del-index a i r v w res e f d = says L a (del_item_at a i) r (Raise index_fault) res v w e (no-place (place i (length r.values)) _ _ f) d
+
+  pub pop-index : PopIndexLaw u
+  pop-index a i r v w res e l f d =
+      says L a (pop_at a i) r (Raise index_fault) res v w e (cond-false (length r.values == 0) _ _ (not-empty (length r.values) l) ∙ no-place (place i (length r.values)) _ _ f) d
+
+  pub pop-empty : EmptyLaw u
+  pop-empty a i r v w res e f d = says L a (pop_at a i) r (Raise empty_fault) res v w e (cond-true (length r.values == 0) _ _ (ap (λ vs. length vs == 0) f)) d
+
+  pub insert-full : FullLaw u
+  insert-full a i x r v w res e f d = says L a (insert_at a i x) r (Raise memory_fault) res v w e (cond-false (ltb (length r.values) LENGTH_LIMIT) _ _ (le-ltb (length r.values) LENGTH_LIMIT f)) d

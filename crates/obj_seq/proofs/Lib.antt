@@ -9,5 +9,9 @@ pub mod Forms
 pub mod IterSteps
 pub mod RangeItems
 pub mod Leaving
+pub mod IterFaults
+pub mod Holding
+pub mod HoldingIters
+pub mod SteadyRows
 pub mod Safely
 pub mod SafeIters

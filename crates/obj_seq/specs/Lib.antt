@@ -2,4 +2,5 @@ pub mod Seq
 pub mod Worked
 pub mod Iter
 pub mod Laws
+pub mod HoldsLaws
 pub mod Safety

@@ -14,6 +14,9 @@ mod tests;
 pub use advance::next;
 pub use change::{del_item, insert, pop, reverse, set_item};
 pub use iter::make_iter;
-pub use laws::{insert_law, pop_law, reverse_law, safe_iter_law, safe_law, slice_law};
+pub use laws::{
+    fault_law, holds_law, insert_law, item_law, iter_fault_law, pop_law, reverse_law,
+    safe_iter_law, safe_law, slice_law,
+};
 pub use look::{item, slice};
 pub use range::{range_item, range_length};

@@ -1,6 +1,6 @@
 -- What each instruction asks of the stack, what it leaves there, and where it goes on. States `docs/LANGUAGE.md`,
 -- "Instructions".
-use Rattle.std.specs.Prelude.{ℕ, ◌+◌, ◌-◌, ◌<◌, ◌≤◌, ◌^◌, List, [], ◌∷◌, Option, Some, None, Bool, true, false, All, get_or, length}
+use Rattle.std.specs.Prelude.{◌≡◌, ℕ, ◌+◌, ◌-◌, ◌<◌, ◌≤◌, ◌^◌, List, [], ◌∷◌, Option, Some, None, Bool, true, false, All, get_or, length}
 use Rattle.py_base.specs.Numbers.{unary_signs, binary_signs, compare_signs, builtin_count}
 use Rattle.py_code.specs.declared.instr.Constant.{Constant}
 use Rattle.py_code.specs.declared.instr.Constant.TheVariants.{Builtin, Root}
@@ -180,6 +180,10 @@ target_of (Over t) = Some t
 target_of (Fork t n) = Some t
 target_of (Opens t) = Some t
 target_of _ = None
+
+-- the place that it names is none before the first that may be named
+abbrev pub Forward : ℕ → Flow → Type 0
+Forward first f = (q : ℕ) → target_of f ≡ Some q → first ≤ q
 
 -- whether the next place follows
 abbrev pub goes_on : Flow → Bool

@@ -1,6 +1,6 @@
 -- The words of a listing: what each instruction is called, what its operands name, and the names of what has a number.
 -- States `docs/LANGUAGE.md`, "Listing".
-use Rattle.std.specs.Prelude.{ℕ, codes, List, [], ◌∷◌}
+use Rattle.std.specs.Prelude.{ℕ, codes, List}
 use Rattle.py_base.specs.declared.kind.Kind.{Kind}
 use Rattle.py_base.specs.declared.kind.Kind.TheVariants.{Str, Tuple, List as ListKind, Dict, Cell, Function, Class, Instance, Method, Iter as IterKind, Range, Lock, Thread}
 use Rattle.py_code.specs.declared.instr.Instr.{Instr}

@@ -12,7 +12,7 @@ use Rattle.py_code.specs.declared.program.Root.{Root}
 use Rattle.py_code.specs.declared.program.Code.{Code}
 use Rattle.py_code.specs.declared.program.Program.{Program}
 use Rattle.py_code.specs.Effects.{Limits}
-use Rattle.py_code.specs.Typing.{IsRight, HasNoSetup, BeginsWithSetup}
+use Rattle.py_code.specs.Typing.{IsRight, AllForward, HasNoSetup, BeginsWithSetup}
 
 -- ---- the roots
 
@@ -123,7 +123,7 @@ Belongs cs rs n _ = Unit {0}
 
 -- ---- the codes
 
--- no jump of the first code leads back to SETUP
+-- no instruction of the first code, reached or not, leads back to SETUP
 abbrev pub first_place : ℕ → ℕ
 first_place zero = 1
 first_place (suc n) = 0
@@ -150,6 +150,7 @@ pub record IsRightCode (cs : List Code) (rs : List Root) (n : ℕ) (c : Code) : 
   pub slotted : c.params ≤ length c.slots
   pub sets_up : SetsUp n c.instrs
   pub belongs : All (Belongs cs rs n) c.instrs
+  pub forward : AllForward (limits_of cs rs n c) c.instrs
   pub typed : IsRight (limits_of cs rs n c) c.instrs
 
 -- the codes from number n on

@@ -1,9 +1,9 @@
 -- A code is right where its places have shapes that fit each other: a typing gives a shape to each place that is reached.
 -- States `docs/LANGUAGE.md`, "Right code".
-use Rattle.std.specs.Prelude.{◌≡◌, ◌≢◌, ℕ, ◌+◌, ◌<◌, ◌≤◌, ◌^◌, List, [], ◌∷◌, Option, Some, None, IsTrue, length, slice_get, get_or}
+use Rattle.std.specs.Prelude.{◌≡◌, ◌≢◌, ℕ, ◌+◌, ◌<◌, ◌≤◌, ◌^◌, List, [], ◌∷◌, Option, Some, None, IsTrue, All, length, slice_get, get_or}
 use Rattle.py_code.specs.declared.instr.Instr.{Instr}
 use Rattle.py_code.specs.declared.instr.Instr.TheVariants.{Setup}
-use Rattle.py_code.specs.Effects.{Limits, effect, Sh, Fine, after, there, target_of, goes_on}
+use Rattle.py_code.specs.Effects.{Limits, effect, Sh, Fine, Forward, after, there, target_of, goes_on}
 
 -- the shape that a typing gives to a place, or none where the place is not reached
 abbrev pub shape_at : List (Option Sh) → ℕ → Option Sh
@@ -33,6 +33,10 @@ pub record IsTyping (k : Limits) (code : List Instr) (t : List (Option Sh)) : Ty
 -- a code has a typing
 abbrev pub IsRight : Limits → List Instr → Type 0
 IsRight k code = (t : List (Option Sh)) × IsTyping k code t
+
+-- no instruction, reached or not, names a place before the first that a jump may name
+abbrev pub AllForward : Limits → List Instr → Type 0
+AllForward k code = All (λ i. Forward k.first (effect k i).flow) code
 
 -- SETUP is no instruction of this code
 abbrev pub HasNoSetup : List Instr → Type 0

@@ -15,8 +15,8 @@ use Rattle.py_code.specs.declared.instr.Instr.TheVariants.{Setup, Const, Return}
 use Rattle.py_code.specs.declared.program.Root.{Root}
 use Rattle.py_code.specs.declared.program.Code.{Code}
 use Rattle.py_code.specs.Effects.{Limits}
-use Rattle.py_code.specs.Typing.{IsRight}
-use Rattle.py_code.specs.Right.{opens_body, all_instrs, is_body, HasCellAt, Belongs, text_root, cell_root, class_roots, classes, names_of, texts_of, first_place, limits_of, SetsUp, IsRightCode, AreRight, IsRightProgram}
+use Rattle.py_base.specs.Numbers.{class_count}
+use Rattle.py_code.specs.Right.{opens_body, all_instrs, is_body, HasCellAt, Belongs, text_root, cell_root, class_roots, names_of, texts_of, first_place, limits_of, SetsUp, IsRightCode, AreRight, IsRightProgram}
 use Rattle.py_code.proofs.RightRows.{texts_told, names_told}
 use Rattle.py_tree.specs.declared.stmt.Stmt.{Stmt}
 use Rattle.py_tree.specs.declared.stmt.Module.{Module}
@@ -36,6 +36,7 @@ use Rattle.py_compile.proofs.Sits.{Opens, opens_front, opens_back, Sits, sub_par
 use Rattle.py_compile.proofs.Clean.{Fit, NoteOk, IsClean, template_clean, parts_clean}
 use Rattle.py_compile.proofs.StmtClean.{Flagged, BodiesClean, module_clean}
 use Rattle.py_compile.proofs.BelongRows.{no_setup, every_all, opens_none, belongs_from, body_at, body_past, number_is}
+use Rattle.py_compile.proofs.Program.{IsWhole}
 use Rattle.py_compile.proofs.CodesRight as made
 use Rattle.py_compile.proofs.Compiled.{least_apart}
 use Rattle.py_compile.proofs.ParamSlots.{ParamsFit}
@@ -163,7 +164,7 @@ module _ (locals : List (List (List ℕ))) (ss : List Stmt) where
       let same : x ≡ y = (bytes_eq-Decides x y).0 n.1 in
       let lt = length-append T (main_texts C) in
       let lm = length-map TT text_root in
-      let a : get_or rs (21 + k) (text_root []) ≡ get_or (map text_root TT ++ map cell_root C) k (text_root []) = get_or-append-add (cell_root [] ∷ class_roots 0 classes) (map text_root TT ++ map cell_root C) k (text_root []) in
+      let a : get_or rs (21 + k) (text_root []) ≡ get_or (map text_root TT ++ map cell_root C) k (text_root []) = get_or-append-add (cell_root [] ∷ class_roots 0 class_count) (map text_root TT ++ map cell_root C) k (text_root []) in
       let b = get_or_append_left (map text_root TT) (map cell_root C) (text_root []) k (omega (arith, w, lm, lt)) in
       let c = get_or-map text_root TT k [] (text_root []) (omega (arith, w, lt)) in
       let e = get_or_append_left T (main_texts C) [] k w in
@@ -254,12 +255,14 @@ module _ (locals : List (List (List ℕ))) (ss : List Stmt) where
         let fit = fits j y c in
         let long = made.slots_long locals ss j y in
         let slots = length (whole.slots_named y.is_class (L j)) in
+        let right = subst (λ k. IsWhole k (code j y).instrs) (limits_same j y) (made.code_right locals ss j y d (omega (arith, few))) in
         record {
           lined = whole_lined (lim L T C Ks P j (slots + 0) 0) j y (N j y.is_class) slots (d (slots + 0) 0 (made.named_slotted locals ss y.is_class j 0)) (omega (arith, few));
           slotted = omega (arith, q, long);
           sets_up = fit_setup ok flags j y.is_class (code j y).instrs fit;
           belongs = fit_belongs cs rs flags j y.is_class (λ z. own j lt (o z)) (other h) (code j y).instrs fit;
-          typed = subst (λ k. IsRight k (code j y).instrs) (limits_same j y) (made.code_right locals ss j y d (omega (arith, few)));
+          forward = right.1;
+          typed = right.0;
         }
 
     codes_right : Cleans 0 (whole.bodies ss) → (j : ℕ) (ys : List Body) → j + length ys ≡ length cs → BodiesOk L T C Ks P j ys → Cleans j ys → AllOpen N all j ys → whole.large_bodies nm j ys ≡ None → ParamsFit locals j ys → AreRight cs rs j (codes j ys)

@@ -5,7 +5,6 @@ use Rattle.std.specs.List.{list_any}
 use Rattle.std.proofs.Math.Seq.{get_or-append_seam}
 use Rattle.std.proofs.lemmas.List.{length-map, map-append, length-replicate}
 use Rattle.py_code.specs.declared.program.Code.{Code}
-use Rattle.py_code.specs.Typing.{IsRight}
 use Rattle.py_code.specs.Right.{first_place}
 use Rattle.py_tree.specs.declared.stmt.Stmt.{Stmt}
 use Rattle.py_compile.specs.Table.{body_code, module_code}
@@ -15,7 +14,7 @@ use Rattle.py_compile.specs.Statements.{Body, stated_block}
 use Rattle.py_compile.proofs.Legal.{legal_all}
 use Rattle.py_compile.specs.Whole as whole
 use Rattle.py_compile.proofs.Blocks.{Does}
-use Rattle.py_compile.proofs.Program.{body_right, module_right}
+use Rattle.py_compile.proofs.Program.{IsWhole, body_right, module_right}
 use Rattle.py_compile.proofs.World.{known, lim, Wide, HasNone, Slotted, Standing, BodiesOk}
 use Rattle.py_compile.proofs.StmtTyped.{block_rel, stmts_rel}
 use Rattle.py_compile.proofs.Numbers as numbers
@@ -96,7 +95,7 @@ module _ (locals : List (List (List ℕ))) (ss : List Stmt) where
   slots_long j y = let p = whole.whole j y (whole.names_of locals ss j y) in let e : List ℕ = [] in let n = length-replicate p.slots e in omega (arith, n, length-append (whole.slots_named y.is_class (L j)) (replicate p.slots []))
 
   -- a code that isn't too large is right
-  pub code_right : (j : ℕ) (y : Body) → ((sl p : ℕ) → Slotted L T C Ks P j y.is_class sl → Does (lim L T C Ks P j sl p) [] (y.block (known L T C Ks P j y.is_class))) → (whole.whole j y (whole.names_of locals ss j y)).size < 2 ^ 16 → IsRight (lim L T C Ks P j (length (code_at j y).slots) (first_place j)) (code_at j y).instrs
+  pub code_right : (j : ℕ) (y : Body) → ((sl p : ℕ) → Slotted L T C Ks P j y.is_class sl → Does (lim L T C Ks P j sl p) [] (y.block (known L T C Ks P j y.is_class))) → (whole.whole j y (whole.names_of locals ss j y)).size < 2 ^ 16 → IsWhole (lim L T C Ks P j (length (code_at j y).slots) (first_place j)) (code_at j y).instrs
   code_right zero y d few =
       let b = y.block (known L T C Ks P zero y.is_class) in
       let h = length (whole.slots_named y.is_class (L zero)) in

@@ -12,7 +12,7 @@ use Rattle.py_tree.specs.declared.stmt.Param.{Param}
 use Rattle.py_names.specs.declared.event.Event.{Event}
 use Rattle.py_names.specs.declared.event.Event.TheVariants.{Enter, Takes, Uses, Binds, Declares, Misplaced, Doubled}
 use Rattle.py_names.specs.declared.statement.Where.{Where}
-use Rattle.py_names.specs.Outline.{is_none, has, with_name, used_name, bound_name, label, repeated, Said, plain, said, said_trailer, read, target, read_all, target_all, read_some, target_some, read_links, read_pairs, read_trailers, read_keywords, only_where, imported_name, imported, parameters, raises}
+use Rattle.py_names.specs.Outline.{is_none, has, with_name, used_name, bound_name, declared_name, declared, label, repeated, Said, plain, said, said_trailer, read, target, read_all, target_all, read_some, target_some, read_links, read_pairs, read_trailers, read_keywords, only_where, imported_name, imported, parameters, raises}
 use Rattle.py_names.proofs.Said.{said_name, said_int, said_str, said_group, said_tuple, said_list, said_dict, said_trail, said_power, said_unary, said_chain, said_not, said_choice, said_attribute, said_index, said_slice, said_call}
 use Rattle.py_compile.proofs.ExprInduct.{Every, IfThere, Arms, OfLink, OfNamed, OfPair, expr_induct, every_join, every_of}
 
@@ -73,9 +73,16 @@ pub imported_ordinary : (l : ℕ) (is : List Imported) → AllOrdinary (imported
 imported_ordinary l [] = ordinary_nil
 imported_ordinary l (i ∷ is) = ordinary_join (bound_ordinary l (imported_name i)) (imported_ordinary l is)
 
-pub declares_ordinary : (l : ℕ) (ns : List (List ℕ)) → AllOrdinary (map (Declares l) ns)
+declared_ordinary : (l : ℕ) (n : List ℕ) → AllOrdinary (declared_name l n)
+declared_ordinary l n = by_test (is_none n)
+  where
+    by_test : (b : Bool) → AllOrdinary (if b then [] else Declares l n ∷ [])
+    by_test true = ordinary_nil
+    by_test false = ordinary_cons tt ordinary_nil
+
+pub declares_ordinary : (l : ℕ) (ns : List (List ℕ)) → AllOrdinary (declared l ns)
 declares_ordinary l [] = ordinary_nil
-declares_ordinary l (n ∷ ns) = ordinary_cons tt (declares_ordinary l ns)
+declares_ordinary l (n ∷ ns) = ordinary_join (declared_ordinary l n) (declares_ordinary l ns)
 
 -- ---- expressions
 

@@ -9,7 +9,7 @@ use Rattle.py_code.specs.declared.instr.Constant.TheVariants.{None as NoValue}
 use Rattle.py_code.specs.declared.instr.Instr.{Instr}
 use Rattle.py_code.specs.declared.instr.Instr.TheVariants.{Setup, Const, Return}
 use Rattle.py_code.specs.Effects.{Limits, Sh}
-use Rattle.py_code.specs.Typing.{shape_at, start, RightAt, IsRight}
+use Rattle.py_code.specs.Typing.{shape_at, start, RightAt, IsRight, AllForward}
 use Rattle.py_compile.specs.Template.{Piece, Op, Sub, template}
 use Rattle.py_compile.specs.Table.{body_code, module_code}
 use Rattle.py_compile.proofs.Typed.{HasCode, HasShapes, code_front, code_back, shapes_front, shapes_back, EnvFits, AllRight, Typed, op_right, none_right, template_typed}
@@ -41,9 +41,18 @@ pub record Front (k : Limits) (pre : List Instr) (ss : List Sh) : Type 0 where
   pub lo : k.first ≤ length pre
   pub right : (code : List Instr) (t : List (Option Sh)) → HasCode code 0 pre → HasShapes t 0 ss → shape_at t (length pre) ≡ Some start → AllRight k code t 0 (length pre) × (shape_at t 0 ≡ Some start)
 
+-- a code is right, and none of its instructions leads back too far
+abbrev pub IsWhole : Limits → List Instr → Type 0
+IsWhole k code = IsRight k code × AllForward k code
+
+some_at : (ss : List Sh) (p : ℕ) → p < length ss → (s : Sh) × (shape_at (map Some ss) p ≡ Some s)
+some_at [] p lt = absurd (omega (arith, lt))
+some_at (s ∷ ss) zero lt = (s, refl)
+some_at (s ∷ ss) (suc p) lt = some_at ss p (omega (arith, lt))
+
 -- these, a piece that leaves one value, and RETURN
-pub closed : (k : Limits) (pre : List Instr) (ss : List Sh) (b : Piece) (h : ℕ) → Front k pre ss → Typed k b [] start (sh 1 []) → h + b.slots ≤ k.slots → length pre + (b.size + 1) < 2 ^ 16 → IsRight k (pre ++ (b.code [] (length pre) h ++ Return ∷ []))
-closed k pre ss b h front t le few = (shapes, record { few = omega (arith, len_code, few); long = long; starts = front_right.1; each = each })
+pub closed : (k : Limits) (pre : List Instr) (ss : List Sh) (b : Piece) (h : ℕ) → Front k pre ss → Typed k b [] start (sh 1 []) → h + b.slots ≤ k.slots → length pre + (b.size + 1) < 2 ^ 16 → IsWhole k (pre ++ (b.code [] (length pre) h ++ Return ∷ []))
+closed k pre ss b h front t le few = ((shapes, record { few = omega (arith, len_code, few); long = long; starts = front_right.1; each = each }), forward)
   where
     n : ℕ
     n = length pre
@@ -116,6 +125,13 @@ closed k pre ss b h front t le few = (shapes, record { few = omega (arith, len_c
         (λ (y : length pre + b.size ≤ p). at_return i s p (omega (arith, y, w, len_code)) hi hs) (cases_lt p (length pre + b.size)))
         (cases_lt p (length pre))
 
+    -- each place has a shape, so what holds of the places that have one holds of each instruction
+    forward : AllForward k code
+    forward p d lt =
+        let s = some_at all_ss p (omega (arith, lt, len)) in
+        let r = each p (get_or code p d) s.0 (slice_get-get_or code p d lt) s.1 in
+        λ q e. (r.leads.jump q e).0
+
 no_front : (k : Limits) → k.first ≡ 0 → Front k [] []
 no_front k e = record { long = refl; lo = omega (arith, e); right = λ code t hc hs st. (none_right k code t 0, st) }
 
@@ -127,15 +143,15 @@ valued k ln b d few = template_typed k ln 0 0 (Sub 1 b ∷ Op (Const NoValue) �
     (start, d.typed [] 0 [] (omega arith) (omega (arith, few)), (sh 1 [], op k (Const NoValue) 0 1 [] refl tt (omega arith) (omega arith) refl, refl))
 
 -- the code of a function's or class's body
-pub body_right : (k : Limits) (ln h : ℕ) (b : Piece) → Does k [] b → k.first ≡ 0 → h + b.slots ≤ k.slots → (body_code ln b).size < 2 ^ 16 → IsRight k ((body_code ln b).code [] 0 h)
+pub body_right : (k : Limits) (ln h : ℕ) (b : Piece) → Does k [] b → k.first ≡ 0 → h + b.slots ≤ k.slots → (body_code ln b).size < 2 ^ 16 → IsWhole k ((body_code ln b).code [] 0 h)
 body_right k ln h b d e le few =
     let r = closed k [] [] (template ln 0 0 (Sub 1 b ∷ Op (Const NoValue) ∷ [])) h (no_front k e) (valued k ln b d (omega (arith, few))) (omega (arith, le)) (omega (arith, few)) in
     simp append_assoc at r
 
 -- the code of the module
-pub module_right : (k : Limits) (ln h : ℕ) (b : Piece) → Does k [] b → k.first ≤ 1 → h + b.slots ≤ k.slots → (module_code ln b).size < 2 ^ 16 → IsRight k ((module_code ln b).code [] 0 h)
+pub module_right : (k : Limits) (ln h : ℕ) (b : Piece) → Does k [] b → k.first ≤ 1 → h + b.slots ≤ k.slots → (module_code ln b).size < 2 ^ 16 → IsWhole k ((module_code ln b).code [] 0 h)
 module_right k ln h b d e le few =
     let r = closed k (Setup ∷ []) (start ∷ []) (template ln 0 0 (Sub 1 b ∷ Op (Const NoValue) ∷ [])) h (setup_front k e) (valued k ln b d (omega (arith, few))) (omega (arith, le)) (omega (arith, few)) in
-    let q : IsRight k (Setup ∷ (b.code [] 1 (h + 0) ++ Const NoValue ∷ Return ∷ [])) = simp append_assoc at r in
+    let q : IsWhole k (Setup ∷ (b.code [] 1 (h + 0) ++ Const NoValue ∷ Return ∷ [])) = simp append_assoc at r in
     let z : h + 0 ≡ h + 0 + 0 = omega arith in
-    subst (λ y. IsRight k (Setup ∷ (b.code [] 1 y ++ Const NoValue ∷ Return ∷ []))) z q
+    subst (λ y. IsWhole k (Setup ∷ (b.code [] 1 y ++ Const NoValue ∷ Return ∷ []))) z q

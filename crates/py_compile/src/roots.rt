@@ -1,15 +1,13 @@
 //! The roots of a program.
 ghost use Rattle.std.specs.Prelude.{◌≡◌, ◌++◌, ◌∷◌, [], map, IfOk, OnOk};
+ghost use Rattle.py_base.specs.Numbers.{class_count};
 ghost use Rattle.py_compile.specs.Whole.{roots_with};
-ghost use Rattle.py_code.specs.Right.{cell_root, class_roots, classes};
+ghost use Rattle.py_code.specs.Right.{cell_root, class_roots};
 
-use py_base::{Bytes, Kind, NoMemory};
+use py_base::{Bytes, Kind, NoMemory, exception};
 use py_code::{Root, Roots};
 use py_names::NameSet;
 use std::alloc::Global;
-
-/// How many classes there are among the roots.
-const CLASSES: u8 = 20;
 
 fn root(kind: Kind, number: u8, bytes: Bytes) -> Root
     ensures { result ≡ record { kind = kind; number = number; bytes = bytes } }
@@ -23,11 +21,11 @@ fn root(kind: Kind, number: u8, bytes: Bytes) -> Root
 
 /// The classes, behind the cell of the count of threads.
 fn first_roots(alloc: Global) -> Result<Roots, NoMemory>
-    ensures { IfOk result (λ out. out ≡ cell_root [] ∷ class_roots 0 classes) }
+    ensures { IfOk result (λ out. out ≡ cell_root [] ∷ class_roots 0 class_count) }
 {
     let mut out = Roots::new(alloc);
     out.push(root(Kind::Cell, 0, Bytes::new(alloc)))?;
-    for class in 0..CLASSES {
+    for class in 0..exception::COUNT {
         out.push(root(Kind::Class, class, Bytes::new(alloc)))?;
     }
     Ok(out)

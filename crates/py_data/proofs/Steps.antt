@@ -40,6 +40,12 @@ pub asks-edit : (S : Type 0) (p : Bool) (h : Heap) (a : ℕ) (r : Rec) (c : Chan
 unfolding Asks
 asks-edit S p h a r c e allows suits = there-is h a r p (λ r. Allows c r × Suits p h c r) e (allows, suits)
 
+-- a row is safe where its first part is, and what follows it is safe over every heap
+pub safe-bind : {S A B : Type 0} (q : Bool) (p : Row S A) (f : A → Row S B) (h : Heap) → Safe q p h → ((a : A) (h1 : Heap) → Safe q (f a) h1) → Safe q (bind p f) h
+unfolding Safe bind
+safe-bind q (Ret x) f h s more = more x h
+safe-bind q (Do c k) f h s more = (s.0, λ r h1 e. safe-bind q (k r) f h1 (s.1 r h1 e) more)
+
 module _ {S X A B : Type 0} (u : Sense S X) where
   pub meets-bind : (p : Row S A) (f : A → Row S B) (v m w : X) (a : A) (res : Result B Stop) → Meets u p v m (Ok a) → Meets u (f a) m w res → Meets u (bind p f) v w res
   unfolding Meets

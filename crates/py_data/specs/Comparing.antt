@@ -98,38 +98,41 @@ order_bytes [] (y ∷ ys) = Less
 order_bytes (x ∷ xs) [] = Greater
 order_bytes (x ∷ xs) (y ∷ ys) = ordering_then (nat_cmp x y) (order_bytes xs ys)
 
--- the first of two answers decides, where it isn't Equal
-abbrev pub order_then : Got Ordering → Got Ordering → Got Ordering
-order_then (Is Equal) next = next
-order_then first next = first
+-- of two items that are equal, what follows them decides; of others, their order
+abbrev pub order_then : Got Bool → Got Ordering → Got Ordering → Got Ordering
+order_then (Is true) here next = next
+order_then (Is false) here next = here
+order_then (Raise fault) here next = Raise fault
 
--- item by item; where one is the front of the other, the shorter comes first
-abbrev pub order_items : (Value → Value → Got Ordering) → List Value → List Value → Got Ordering
-order_items u [] [] = Is Equal
-order_items u [] (y ∷ ys) = Is Less
-order_items u (x ∷ xs) [] = Is Greater
-order_items u (x ∷ xs) (y ∷ ys) = order_then (u x y) (order_items u xs ys)
+-- the first items that are unequal decide by their order; where there are none, the shorter comes first
+abbrev pub order_items : (Value → Value → Got Bool) → (Value → Value → Got Ordering) → List Value → List Value → Got Ordering
+order_items same u [] [] = Is Equal
+order_items same u [] (y ∷ ys) = Is Less
+order_items same u (x ∷ xs) [] = Is Greater
+order_items same u (x ∷ xs) (y ∷ ys) = order_then (same x y) (u x y) (order_items same u xs ys)
 
 abbrev pub order_numbers : Option ℤ → Option ℤ → Got Ordering
 order_numbers (Some i) (Some j) = Is (int_cmp i j)
 order_numbers _ _ = Raise operand_fault
 
-abbrev pub order_records : Under Ordering → Kind → Kind → Rec → Rec → Got Ordering
-order_records under Str Str r s = Is (order_bytes r.bytes s.bytes)
-order_records under Tuple Tuple r s = one_level under (λ u. order_items u r.values s.values)
-order_records under ListKind ListKind r s = one_level under (λ u. order_items u r.values s.values)
-order_records under _ _ r s = Raise operand_fault
+-- by how two lists of items are ordered
+abbrev pub order_records : (List Value → List Value → Got Ordering) → Kind → Kind → Rec → Rec → Got Ordering
+order_records items Str Str r s = Is (order_bytes r.bytes s.bytes)
+order_records items Tuple Tuple r s = items r.values s.values
+order_records items ListKind ListKind r s = items r.values s.values
+order_records items _ _ r s = Raise operand_fault
 
-abbrev pub order_by : Heap → Under Ordering → Value → Value → Got Ordering
-order_by h under (Ref a) (Ref b) = order_records under (at h a.0).kind (at h b.0).kind (at h a.0) (at h b.0)
-order_by h under x y = order_numbers (number_of x) (number_of y)
+abbrev pub order_by : Heap → (List Value → List Value → Got Ordering) → Value → Value → Got Ordering
+order_by h items (Ref a) (Ref b) = order_records items (at h a.0).kind (at h b.0).kind (at h a.0) (at h b.0)
+order_by h items x y = order_numbers (number_of x) (number_of y)
 
 -- with so many levels left
 unfoldable pub order_within : Heap → ℕ → Value → Value → Got Ordering
-order_within h zero x y = order_by h None x y
-order_within h (suc d) x y = order_by h (Some (order_within h d)) x y
+order_within h zero x y = order_by h (λ xs ys. Raise depth_fault) x y
+order_within h (suc d) x y = order_by h (order_items (equal_within h d) (order_within h d)) x y
 
--- Which of two values comes first: of numbers, of strings by their bytes, of two lists or two tuples item by item. Others have
--- no order (TypeError), and RuntimeError comes where they are nested deeper than 100 levels up to what decides.
+-- Which of two values comes first: of numbers, of strings by their bytes, of two lists or two tuples by their first
+-- unequal items. Others have no order (TypeError), and RuntimeError comes where they are nested deeper than 100 levels
+-- up to what decides.
 abbrev pub order : Heap → Value → Value → Got Ordering
 order h x y = order_within h DEPTH_LIMIT x y

@@ -6,6 +6,8 @@ pub mod Range
 pub mod Shape
 pub mod Made
 pub mod Changes
+pub mod Entry
+pub mod Undo
 pub mod Fault
 pub mod Closed
 pub mod Order

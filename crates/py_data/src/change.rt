@@ -1,8 +1,8 @@
-//! Changes of records, each made on a copy.
+//! Changes of records.
 ghost use Rattle.std.specs.Prelude.{◌≡◌, IfOk};
 ghost use Rattle.py_data.specs.Changes.{after, Allows, IsShort};
 
-use crate::record::Entry;
+use crate::entry::Entry;
 use crate::value::Value;
 use py_base::NoMemory;
 use std::alloc::Global;
@@ -22,21 +22,14 @@ pub enum Change {
     Unpair(usize),
 }
 
-/// The record after a change, which is within the limit of length if the record was. It copies all values and bytes of the
-/// record, so a change takes time and memory of the record's length, and one that finds no memory leaves the record as it
-/// is.
+/// The record after a change, which is within the limit of length. It copies all values and bytes of the record, so it takes
+/// time and memory of the record's length; `Entry::apply` changes a record in place.
 pub fn changed(alloc: Global, e: &Entry, c: Change) -> Result<Entry, NoMemory>
     requires { Allows c e.now }
     ensures after { IfOk result (λ t. t ≡ after c e.now) }
-    ensures short { IsShort e.now → IfOk result IsShort }
+    ensures short { IfOk result IsShort }
 {
     let mut r = e.copy(alloc)?;
-    match c {
-        Change::Set(i, x) => r.set_val(i, x),
-        Change::Push(x) => r.push_val(x)?,
-        Change::Cut(n) => r.truncate(n),
-        Change::Pair(key, x) => r.push_pair(key, x)?,
-        Change::Unpair(k) => r.drop_pair(k),
-    }
+    r.apply(alloc, c)?;
     Ok(r)
 }

@@ -3,8 +3,8 @@ ghost use Rattle.std.specs.Prelude.{◌≡◌, ◌+◌, ◌*◌, ◌<◌, length
 ghost use Rattle.py_data.specs.Heap.{Heap};
 ghost use Rattle.py_data.specs.Shape.{find, same_key, text_in};
 
-use crate::record::Entry;
-use crate::value::{Value, Values};
+use crate::entry::Entry;
+use crate::value::Value;
 use py_base::Kind;
 
 /// Records that can be looked up by their addresses.
@@ -21,8 +21,8 @@ fn text<R: Records>(heap: &R, a: u32) -> Option<&[u8]>
     ensures { MatchOption result (text_in (R.records heap.now a) ≡ None) (λ b. text_in (R.records heap.now a) ≡ Some b.now) }
 {
     match heap.record(a) {
-        Some(r) => match r.kind {
-            Kind::Str => Some(r.bytes.as_slice()),
+        Some(r) => match r.kind() {
+            Kind::Str => Some(r.bytes()),
             _ => None,
         },
         None => None,
@@ -49,12 +49,12 @@ fn same<R: Records>(heap: &R, x: Value, y: Value) -> bool
 }
 
 /// The number, from 0, of the first pair whose key is equal. It goes through the pairs one after another.
-pub fn find_pair<R: Records>(heap: &R, values: &Values, key: Value) -> Option<usize>
+pub fn find_pair<R: Records>(heap: &R, values: &[Value], key: Value) -> Option<usize>
     ensures found { result ≡ find (R.records heap.now) values.now key }
     ensures within { IfSome result (λ i. 2 * i + 1 < length values.now) }
 {
     for n in 0..values.len() / 2 {
-        if same(heap, values.at(2 * n), key) {
+        if same(heap, values[2 * n], key) {
             return Some(n);
         }
     }

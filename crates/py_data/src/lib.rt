@@ -12,10 +12,12 @@ mod record;
 mod stop;
 #[cfg(test)]
 mod tests;
+mod undo;
 mod value;
 mod view;
 
 pub use change::{Change, changed};
+pub use entry::Entry;
 pub use find::{Records, find_pair};
 pub use laws::{
     afresh_law, bind_law, frame_law, holds_law, looks_law, names_law, order_law, part_law,
@@ -25,7 +27,8 @@ pub use order::{Demands, Property};
 pub use py_base::{
     Bytes, Construct, Duplicate, Items, Kind, Log, NoMemory, Refusal, builtin, operator,
 };
-pub use record::{Entry, Fault, Got, LENGTH_LIMIT, Record, With};
+pub use record::{Fault, Got, LENGTH_LIMIT, Record, With};
 pub use stop::{Conflict, Conflicts, Out, Side, Stop};
+pub use undo::Undo;
 pub use value::{Addr, Names, Value, Values};
 pub use view::{Peek, View};

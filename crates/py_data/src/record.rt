@@ -13,18 +13,6 @@ pub struct Record {
     pub bytes: Bytes,
 }
 
-/// A record that stands in a heap. A List or a Dict has a room and a first room, numbers of values that no script can
-/// tell: how many values there is room for, and for how many there was when the record was made. They are 0 for the
-/// other kinds.
-#[derive(Debug, Drop)]
-pub struct Entry {
-    pub kind: Kind,
-    pub values: Values,
-    pub bytes: Bytes,
-    pub room: usize,
-    pub first: usize,
-}
-
 /// What an exception says besides its class.
 #[derive(Debug, Drop)]
 pub enum With {

@@ -1,10 +1,10 @@
 //! Why a view refuses a call, and what two transactions ran into.
-ghost use Rattle.std.specs.Prelude.{◌≡◌};
+ghost use Rattle.std.specs.Prelude.{◌≡◌, Ok};
 ghost use Rattle.py_data.specs.declared.stop.Stop.TheVariants.{OutOfMemory};
 
 use crate::value::Addr;
-use py_base::Log;
-use std::alloc::AllocError;
+use py_base::{Duplicate, Log, NoMemory};
+use std::alloc::{AllocError, Global};
 
 /// One of the two outputs.
 #[derive(Clone, Copy, Debug, Drop, PartialEq, Eq)]
@@ -39,6 +39,15 @@ pub struct Conflict {
     pub asks: bool,
     /// Who lost: 0 the writer, 1 the other.
     pub lost: u8,
+}
+
+impl Duplicate for Conflict {
+    /// The conflict itself. It takes no memory.
+    fn duplicate(&self, _alloc: Global) -> Result<Conflict, NoMemory>
+        ensures { result ≡ Ok self.now }
+    {
+        Ok(*self)
+    }
 }
 
 /// Conflicts in the order in which they came.

@@ -13,9 +13,9 @@ use Rattle.py_tree.specs.declared.stmt.Stmt.TheOpen as open'
 use Rattle.py_tree.specs.declared.stmt.Stmt.TheFolds.{fold-Arm, fold-Clause, fold-Handler, fold-roll-Stmt, fold_out-Arm, fold_out-Clause, fold_out-Handler}
 use Rattle.py_tree.proofs.Talls.{tall_if, tall_while, tall_for, tall_try, tall_def, tall_class}
 use Rattle.py_names.specs.declared.event.BodyKind.TheVariants as kind
-use Rattle.py_names.specs.declared.event.Event.TheVariants.{Enter, Leave, Declares}
+use Rattle.py_names.specs.declared.event.Event.TheVariants.{Enter, Leave}
 use Rattle.py_names.specs.declared.statement.Where.{Where}
-use Rattle.py_names.specs.Outline.{bound_name, read, target, read_all, target_all, read_some, target_some, outside, inside_function, inside_loop, inside_finally, inside_clause, only_where, imported, Says, says_all, parameters, takes, raises, stmt_step, arm_step, clause_step, handler_step, says, says_block, says_arm, says_arms, says_clause, says_handler, says_handlers}
+use Rattle.py_names.specs.Outline.{bound_name, read, target, read_all, target_all, read_some, target_some, outside, inside_function, inside_loop, inside_finally, inside_clause, only_where, declared, imported, Says, says_all, parameters, takes, raises, stmt_step, arm_step, clause_step, handler_step, says, says_block, says_arm, says_arms, says_clause, says_handler, says_handlers}
 
 folded_arm : Arm → Says
 folded_arm = fold-Arm Says Says Says Says stmt_step arm_step clause_step handler_step
@@ -90,7 +90,7 @@ pub says_del : (l : ℕ) (ts : List Expr) (w : Where) → says (s.Del l ts) w �
 unfolding says folded_arm folded_clause folded_handler
 says_del l ts w = ap (λ z. says z w) (sym (s.rolls-Del l ts)) ∙ ap (λ f. f w) (fold-roll-Stmt Says Says Says Says stmt_step arm_step clause_step handler_step (open'.Del l ts))
 
-pub says_global : (l : ℕ) (ns : List (List ℕ)) (w : Where) → says (s.Global l ns) w ≡ map (Declares l) ns
+pub says_global : (l : ℕ) (ns : List (List ℕ)) (w : Where) → says (s.Global l ns) w ≡ declared l ns
 unfolding says folded_arm folded_clause folded_handler
 says_global l ns w = ap (λ z. says z w) (sym (s.rolls-Global l ns)) ∙ ap (λ f. f w) (fold-roll-Stmt Says Says Says Says stmt_step arm_step clause_step handler_step (open'.Global l ns))
 

@@ -47,6 +47,9 @@ used_name line n = if is_none n then [] else Uses line n ∷ []
 abbrev pub bound_name : ℕ → List ℕ → List Event
 bound_name line n = if is_none n then Misplaced line ∷ [] else Binds line n ∷ []
 
+abbrev pub declared_name : ℕ → List ℕ → List Event
+declared_name line n = if is_none n then [] else Declares line n ∷ []
+
 abbrev pub label : ℕ → List ℕ → List Event
 label line n = if is_none n then Misplaced line ∷ [] else []
 
@@ -185,6 +188,10 @@ imported_name i = as_bound i.name i.bound
     as_bound n (Some m) = m
 
 -- the names that an import binds
+abbrev pub declared : ℕ → List (List ℕ) → List Event
+declared line [] = []
+declared line (n ∷ ns) = declared_name line n ++ declared line ns
+
 abbrev pub imported : ℕ → List Imported → List Event
 imported line [] = []
 imported line (i ∷ is) = bound_name line (imported_name i) ++ imported line is
@@ -223,7 +230,7 @@ stmt_step (open2.Continue line) w = only_where (w.in_loop && not w.in_finally) l
 stmt_step (open2.Return line a) w = only_where w.function line ++ read_some line a
 stmt_step (open2.Raise line a v) w = raises line a v w
 stmt_step (open2.Del line ts) w = target_all line ts
-stmt_step (open2.Global line ns) w = map (Declares line) ns
+stmt_step (open2.Global line ns) w = declared line ns
 stmt_step (open2.Assert line a m) w = read line a ++ read_some line m
 stmt_step (open2.Import line is) w = imported line is
 stmt_step (open2.From line m is) w = imported line is

@@ -1,7 +1,7 @@
 //! The list of what a module says, as it grows.
 ghost use Rattle.std.specs.Prelude.{◌≡◌, ◌++◌, ◌∷◌, [], OnOk, IfOk};
 ghost use Rattle.std.specs.Str.{bytes_eq};
-ghost use Rattle.py_names.specs.Outline.{is_none, used_name, bound_name, label, repeated, only_where};
+ghost use Rattle.py_names.specs.Outline.{is_none, used_name, bound_name, declared_name, label, repeated, only_where};
 
 use crate::event::Event;
 use crate::names::NameSet;
@@ -88,6 +88,17 @@ impl Outline {
         }
         let name = self.copy(name)?;
         self.push(Event::Binds(line, name))
+    }
+
+    /// A variable is named in a `global`.
+    pub fn declared_name(&mut self, line: u32, name: &Bytes) -> Result<(), NoMemory>
+        ensures { OnOk result (self.new ≡ self.old ++ declared_name line name.now) }
+    {
+        if is_none(name) {
+            return Ok(());
+        }
+        let name = self.copy(name)?;
+        self.push(Event::Declares(line, name))
     }
 
     /// A name that is no variable: of an attribute, a keyword or a parameter.

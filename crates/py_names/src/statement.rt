@@ -1,8 +1,8 @@
 //! What statements say about names.
 ghost use Rattle.std.specs.Prelude.{◌≡◌, ◌++◌, ◌∷◌, [], map, OnOk};
 ghost use Rattle.py_names.specs.declared.event.BodyKind.TheVariants as kind;
-ghost use Rattle.py_names.specs.declared.event.Event.TheVariants.{Declares, Enter};
-ghost use Rattle.py_names.specs.Outline.{bound_name, imported, imported_name, inside_clause, inside_finally, inside_loop, parameters, raises, read_some, says, says_block, says_arm, says_arms, says_clause, says_handler, says_handlers, takes};
+ghost use Rattle.py_names.specs.declared.event.Event.TheVariants.{Enter};
+ghost use Rattle.py_names.specs.Outline.{bound_name, declared, imported, imported_name, inside_clause, inside_finally, inside_loop, parameters, raises, read_some, says, says_block, says_arm, says_arms, says_clause, says_handler, says_handlers, takes};
 ghost use Rattle.py_names.specs.Roles.{told_some};
 
 use crate::event::{BodyKind, Event};
@@ -103,12 +103,11 @@ fn raise(
 
 /// Adds the names of a `global`.
 fn declares(out: &mut Outline, line: u32, names: &[Bytes]) -> Result<(), NoMemory>
-    ensures { OnOk result (out.new ≡ out.old ++ map (Declares line) names.now) }
+    ensures { OnOk result (out.new ≡ out.old ++ declared line names.now) }
 {
     let mut rest = names;
     'names: while let Some((name, more)) = split(rest) {
-        let name = out.copy(name)?;
-        out.push(Event::Declares(line, name))?;
+        out.declared_name(line, name)?;
         rest = more;
     }
     Ok(())

@@ -12,10 +12,6 @@ Below t u = (p : ℕ) (s : Sh) → shape_at t p ≡ Some s → shape_at u p ≡ 
 abbrev pub Has : List (Option Sh) → Option ℕ → Sh → Type 0
 Has t to s = (q : ℕ) → to ≡ Some q → shape_at t q ≡ Some s
 
--- the place that it names is none before the first that may be named
-abbrev pub Forward : ℕ → Flow → Type 0
-Forward first f = (q : ℕ) → target_of f ≡ Some q → first ≤ q
-
 abbrev pub spare : Option Sh → ℕ
 spare None = 2
 spare (Some s) = 0

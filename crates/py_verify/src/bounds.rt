@@ -3,12 +3,12 @@ ghost use Rattle.std.specs.Prelude.{◌≡◌, ◌↔◌, ◌<◌, ◌≤◌, []
 ghost use Rattle.py_code.specs.Effects.{IsCell, IsConstant, IsKeys, IsKnown, IsText};
 ghost use Rattle.py_code.specs.Right.{first_text};
 
-use py_base::builtin;
+use py_base::{builtin, exception};
 use py_code::{Code, Constant, Instr, Keys};
 use std::marker::Model;
 
 /// The root that is the first string: the cell of the count of threads and the classes stand before it.
-pub const FIRST_TEXT: usize = 21;
+pub const FIRST_TEXT: usize = 1 + exception::COUNT as usize;
 
 /// What the instructions of a code may name: its slots and keyword lists, the codes, and the roots by their kinds.
 #[derive(Drop)]

@@ -1,8 +1,11 @@
 //! A program as the test of one of its codes sees it.
 ghost use Rattle.std.specs.Prelude.{◌≡◌, ◌↔◌, ◌<◌, All, IfOk, IsTrue, length, slice_get};
+ghost use Rattle.py_code.specs.Effects.{effect, Forward};
+ghost use Rattle.py_code.specs.Typing.{AllForward};
 ghost use Rattle.py_code.specs.Right.{all_instrs, AreRight, Belongs, bodies, first_place, HasCellAt, is_body, IsRightCode, limits_of, names_of};
 
 use crate::bounds::{Bounds, FIRST_TEXT};
+use crate::effect::effect_in;
 use crate::names::NameSet;
 use crate::roots::count_texts;
 use crate::setup::{first_place, sets_up};
@@ -33,6 +36,25 @@ impl<'s, 'a> Model for Context<'s, 'a> {
     ghost view = { λ w. record { codes = w.codes.now; roots = w.roots.now } };
 
     ghost invariant = { λ w. (w.names.now ≡ names_of w.roots.now) × (w.marks.now ≡ bodies (all_instrs w.codes.now) 0 w.codes.now) × (w.first_cell ≡ first_text + length (texts_of w.roots.now)) };
+}
+
+/// Whether an instruction names no place before the first that a jump may name.
+fn is_forward(bounds: &Bounds<'_>, i: Instr) -> bool
+    ensures { IsTrue result ↔ Forward bounds.now.first (effect bounds.now i).flow }
+{
+    effect_in(bounds, i).flow.is_forward(bounds.first())
+}
+
+/// Whether none of these instructions names a place before the first that a jump may name.
+fn all_forward(bounds: &Bounds<'_>, instrs: &[Instr]) -> bool
+    ensures { IsTrue result ↔ AllForward bounds.now instrs.now }
+{
+    for i in instrs {
+        if !is_forward(bounds, *i) {
+            return false;
+        }
+    }
+    true
 }
 
 impl<'s, 'a> Context<'s, 'a> {
@@ -117,6 +139,13 @@ impl<'s, 'a> Context<'s, 'a> {
         )
     }
 
+    /// Whether no instruction of a code names a place before the first that a jump may name.
+    fn goes_forward(&self, n: usize, code: &'s Code) -> bool
+        ensures { IsTrue result ↔ AllForward (limits_of self.now.codes self.now.roots n code.now) code.now.instrs }
+    {
+        all_forward(&self.bounds(n, code), code.instrs.as_slice())
+    }
+
     /// Whether a code is right.
     fn is_right_code(&self, alloc: Global, n: usize, code: &'s Code) -> Result<bool, NoMemory>
         ensures { IfOk result (λ yes. IsTrue yes ↔ IsRightCode self.now.codes self.now.roots n code.now) }
@@ -132,6 +161,9 @@ impl<'s, 'a> Context<'s, 'a> {
             return Ok(false);
         }
         if !self.all_belong(n, instrs) {
+            return Ok(false);
+        }
+        if !self.goes_forward(n, code) {
             return Ok(false);
         }
         let typed = is_right(alloc, &self.bounds(n, code), instrs)?;

@@ -5,12 +5,9 @@ ghost use Rattle.py_code.specs.Right.{cells_of, differ, has, HasRoots, main_name
 ghost use Rattle.py_verify.specs.Tests.{any_long, are_cells, are_classes, are_roots, are_texts, is_cell_by, is_class_by, is_empty, is_long_by, is_text_by, IsFormed};
 
 use crate::names::NameSet;
-use py_base::{Kind, NoMemory, split};
+use py_base::{Kind, NoMemory, exception, split};
 use py_code::Root;
 use std::alloc::Global;
-
-/// How many classes there are among the roots.
-const CLASSES: u8 = 20;
 
 /// The greatest length of a string, in bytes.
 const LONGEST: usize = 1_048_576;
@@ -85,7 +82,7 @@ fn are_classes(roots: &[Root]) -> bool
     ensures { result ≡ are_classes 20 0 roots.now }
 {
     let mut rest = roots;
-    for c in 0..CLASSES {
+    for c in 0..exception::COUNT {
         match split(rest) {
             None => return false,
             Some((r, more)) => {

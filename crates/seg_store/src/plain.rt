@@ -180,7 +180,7 @@ impl Peek for PlainStore {
     #[tactic(auto, unfolding(py_data::specs::Heap::at))]
     fn peek_kind(&self, a: Addr) -> Kind {
         match self.committed(a.0) {
-            Some(r) => r.kind,
+            Some(r) => r.kind(),
             None => unreachable!(),
         }
     }
@@ -188,9 +188,9 @@ impl Peek for PlainStore {
     #[tactic(auto, unfolding(py_data::specs::Heap::at))]
     fn peek_len(&self, a: Addr) -> usize {
         match self.committed(a.0) {
-            Some(r) => match r.kind {
-                Kind::Str => r.bytes.len(),
-                _ => r.values.len(),
+            Some(r) => match r.kind() {
+                Kind::Str => r.bytes().len(),
+                _ => r.values().len(),
             },
             None => unreachable!(),
         }
@@ -199,7 +199,7 @@ impl Peek for PlainStore {
     #[tactic(auto, unfolding(py_data::specs::Heap::at))]
     fn peek_val(&self, a: Addr, i: usize) -> Value {
         match self.committed(a.0) {
-            Some(r) => r.values.at(i),
+            Some(r) => r.values()[i],
             None => unreachable!(),
         }
     }
@@ -207,7 +207,7 @@ impl Peek for PlainStore {
     #[tactic(auto, unfolding(py_data::specs::Heap::at))]
     fn peek_byte(&self, a: Addr, i: usize) -> u8 {
         match self.committed(a.0) {
-            Some(r) => r.bytes.at(i),
+            Some(r) => r.bytes()[i],
             None => unreachable!(),
         }
     }
@@ -266,7 +266,7 @@ impl SegStore for PlainStore {
     #[tactic(auto, unfolding(py_data::specs::Heap::at))]
     fn kind(&self, k: u8, a: Addr) -> Kind {
         match self.seen(k, a.0) {
-            Some(r) => r.kind,
+            Some(r) => r.kind(),
             None => unreachable!(),
         }
     }
@@ -274,9 +274,9 @@ impl SegStore for PlainStore {
     #[tactic(auto, unfolding(py_data::specs::Heap::at))]
     fn len(&self, k: u8, a: Addr) -> usize {
         match self.seen(k, a.0) {
-            Some(r) => match r.kind {
-                Kind::Str => r.bytes.len(),
-                _ => r.values.len(),
+            Some(r) => match r.kind() {
+                Kind::Str => r.bytes().len(),
+                _ => r.values().len(),
             },
             None => unreachable!(),
         }
@@ -285,7 +285,7 @@ impl SegStore for PlainStore {
     #[tactic(auto, unfolding(py_data::specs::Heap::at))]
     fn val(&self, k: u8, a: Addr, i: usize) -> Value {
         match self.seen(k, a.0) {
-            Some(r) => r.values.at(i),
+            Some(r) => r.values()[i],
             None => unreachable!(),
         }
     }
@@ -294,7 +294,7 @@ impl SegStore for PlainStore {
     fn copy_bytes(&self, k: u8, a: Addr, from: usize, out: &mut [u8]) {
         match self.seen(k, a.0) {
             Some(r) => {
-                let bytes = r.bytes.as_slice();
+                let bytes = r.bytes();
                 out.copy_from_slice(&bytes[from..from + out.len()]);
             }
             None => unreachable!(),
@@ -308,7 +308,7 @@ impl SegStore for PlainStore {
             segment: k,
         };
         match self.seen(k, d.0) {
-            Some(r) => find_pair(&sight, &r.values, key),
+            Some(r) => find_pair(&sight, r.values(), key),
             None => unreachable!(),
         }
     }

@@ -3,17 +3,22 @@ use Rattle.std.proofs.Common.{◌≡◌, ◌⊎◌, ◌<◌, ◌≤◌, ◌+◌,
 use Rattle.std.specs.List.{sum_by}
 use Rattle.std.proofs.lemmas.Bool.{cases_Bool, and_parts, or_cases, cond-true, cond-false, ltb-true, ltb-false, lt-ltb, le-ltb}
 use Rattle.std.proofs.lemmas.List.Sums.{sum_by-cons}
+use Rattle.py_data.specs.World.{World}
 use Rattle.lock_run.specs.Client.{Waiting}
 use Rattle.lock_run.specs.Prog.{Prog}
+use Rattle.lock_run.specs.RunState.{SomeReady, AllWait}
+use Rattle.seg_store.specs.Meaning.{Meaning}
+use Rattle.stm_core.specs.declared.books.Books.{Books}
 use Rattle.stm_core.specs.declared.books.Work.{Work}
 use Rattle.stm_core.specs.declared.books.Hand.{Hand}
 use Rattle.stm_core.specs.declared.books.Hand.TheVariants.{Idle, Doomed, Runs}
-use Rattle.stm_core.specs.CoreState.{CoreState}
-use Rattle.stm_core.specs.Books.{one_running}
-use Rattle.stm_core.specs.Begun.{IsUnready, UnreadyAt}
-use Rattle.stm_core.specs.Standing.{sooner, IsNext, FirstReady, NoneRuns, AllWait}
+use Rattle.stm_core.specs.CoreState.{CoreState, committed}
+use Rattle.stm_core.specs.Books.{one_running, core_of}
+use Rattle.stm_core.specs.Begun.{IsReady, IsUnready, UnreadyAt}
+use Rattle.stm_core.specs.Standing.{sooner, IsNext, FirstReady, NoneRuns, IsAtRest}
 use Rattle.stm_core.proofs.Fits.{sum_set}
 use Rattle.stm_core.proofs.Beginning.{beyond}
+use Rattle.stm_core.proofs.Committing.{running_work}
 
 -- ---- which thread is next
 
@@ -78,13 +83,17 @@ module _ {S : Type 0} (p : Prog S) (c : CoreState S) where
 
   -- ---- how the run stands
 
-  pub all_wait : NoneRuns c → IsNext p c None → AllWait p c
+  pub all_wait : NoneRuns c → IsNext p c None → AllWait p (committed c)
   all_wait none next t q is lives = go (subst (UnreadyAt p c t) is (next t))
     where
       go : UnreadyAt p c t (Some q) → Waiting (p.row q) c.image
       go (inl n) = absurd (n lives)
       go (inr (inl r)) = absurd (none r.0 r.1 r.2)
       go (inr (inr w)) = w
+
+  -- a thread that may begin can go on
+  pub some_ready : (t : ℕ) → IsReady p c t → SomeReady p (committed c)
+  some_ready t r = (t, r.state, r.is, (r.lives, r.goes))
 
 -- a hand that runs counts
 pub some_running : {S : Type 0} (hs : List (Hand S)) → 0 < sum_by one_running hs → (j : ℕ) × (y : Work S) × (slice_get hs j ≡ Some (Runs y))
@@ -93,5 +102,14 @@ some_running {S} (Runs y ∷ hs) h = (0, y, refl)
 some_running {S} (Idle ∷ hs) h = let x : Hand S = Idle in let s = sum_by-cons one_running x hs in let r = some_running hs (omega (arith, s, h)) in (suc r.0, r.1, r.2)
 some_running {S} (Doomed f ∷ hs) h = let x : Hand S = Doomed f in let s = sum_by-cons one_running x hs in let r = some_running hs (omega (arith, s, h)) in (suc r.0, r.1, r.2)
 
-pub none_running : {S : Type 0} (hs : List (Hand S)) → sum_by one_running hs ≤ 0 → (j : ℕ) (y : Work S) → slice_get hs j ≡ Some (Runs y) → ⊥
+none_running : {S : Type 0} (hs : List (Hand S)) → sum_by one_running hs ≤ 0 → (j : ℕ) (y : Work S) → slice_get hs j ≡ Some (Runs y) → ⊥
 none_running hs h j y e = let s = sum_set one_running hs j (Runs y) Idle e in omega (arith, s, h)
+
+-- the core rests where no cause is kept and no hand runs
+pub at_rest : {S : Type 0} (w : World) (m : Meaning) (b : Books S) {n : ℕ} → b.cause ≡ None → n ≡ sum_by one_running b.hands.items → n ≤ 0 → IsAtRest (core_of w m b)
+at_rest w m b e count none = (
+  e,
+  λ j x runs.
+      let r = running_work w (m.part j) (slice_get b.hands.items j) x runs in
+      none_running b.hands.items (omega (arith, count, none)) j r.0 r.1,
+)

@@ -1,10 +1,10 @@
 -- When a transaction begins, and why it doesn't. States `docs/HEAP.md`, "Events".
 use Rattle.std.specs.Prelude.{◌≡◌, ◌≢◌, ◌⊎◌, ℕ, ◌-◌, ◌^◌, ◌<◌, ◌≤◌, min, List, [], Option, Some, None, slice_get, Result, Ok, Err}
-use Rattle.std.specs.List.{sum_by}
 use Rattle.lock_run.specs.Client.{Waiting, Going}
 use Rattle.lock_run.specs.declared.client.Life.TheVariants.{Lives}
 use Rattle.lock_run.specs.declared.turn.Turn.{Turn}
 use Rattle.lock_run.specs.Prog.{Prog}
+use Rattle.lock_run.specs.RunState.{steps_done}
 use Rattle.stm_core.specs.declared.cause.Cause.TheVariants.{OutOfMemory as NoMemoryLeft}
 use Rattle.stm_core.specs.declared.begin.BeginError.{BeginError}
 use Rattle.stm_core.specs.declared.begin.BeginError.TheVariants.{Over, Busy, NotReady, AtBudget, OutOfMemory}
@@ -37,17 +37,13 @@ IsUnready p c t = UnreadyAt p c t (slice_get c.threads t)
 
 -- ---- the budget
 
--- how many steps turns have, all together
-abbrev pub steps_done : List Turn → ℕ
-steps_done ts = sum_by (λ (t : Turn). t.steps) ts
-
--- their count in 64 bits, which stays at the last number
+-- the count of the steps of turns in 64 bits, which stays at the last number
 abbrev pub IsCount : ℕ → List Turn → Type 0
 IsCount n ts = n ≡ min (steps_done ts) (2 ^ 64 - 1)
 
 -- the history has the budget's steps, or as many transactions were begun as there are numbers
-abbrev pub IsSpent : {S : Type 0} → ℕ → CoreState S → Type 0
-IsSpent budget c = (budget ≤ steps_done c.history) ⊎ (c.begun ≡ 2 ^ 64 - 1)
+abbrev pub IsAtBudget : {S : Type 0} → ℕ → CoreState S → Type 0
+IsAtBudget budget c = (budget ≤ steps_done c.history) ⊎ (c.begun ≡ 2 ^ 64 - 1)
 
 -- ---- begin
 
@@ -65,7 +61,7 @@ Begun p k t budget (Ok u) c c1 = (a : CanBegin p k t budget c) × (c1 ≡ begun_
 Begun p k t budget (Err (Over e)) c c1 = (c.cause ≡ Some e) × (c1 ≡ c)
 Begun p k t budget (Err (Busy i)) c c1 = (i ≡ k) × (c.cause ≡ None) × (c.segments k ≢ Idle) × (c1 ≡ c)
 Begun p k t budget (Err (NotReady s)) c c1 = (s ≡ t) × (c.cause ≡ None) × (c.segments k ≡ Idle) × IsUnready p c t × (c1 ≡ c)
-Begun p k t budget (Err AtBudget) c c1 = (c.cause ≡ None) × (c.segments k ≡ Idle) × IsReady p c t × IsSpent budget c × (c1 ≡ c)
+Begun p k t budget (Err AtBudget) c c1 = (c.cause ≡ None) × (c.segments k ≡ Idle) × IsReady p c t × IsAtBudget budget c × (c1 ≡ c)
 Begun p k t budget (Err OutOfMemory) c c1 = CanBegin p k t budget c × (c1 ≡ record c { cause = Some NoMemoryLeft })
 
 -- the transaction of the thread t, of which no step was done yet

@@ -1,15 +1,14 @@
 -- How a core stands: what a segment has in hand, which thread is next, and how the run stands. States `docs/HEAP.md`, "How a
 -- core stands".
-use Rattle.std.specs.Prelude.{◌≡◌, ◌≢◌, ◌⊎◌, ℕ, ◌<◌, ◌≤◌, Bool, true, cond, ◌&&◌, ◌||◌, ltb, Option, Some, None, slice_get}
-use Rattle.lock_run.specs.Client.{Waiting}
-use Rattle.lock_run.specs.declared.client.Life.TheVariants.{Lives}
+use Rattle.std.specs.Prelude.{◌≡◌, ◌⊎◌, ℕ, ◌<◌, ◌≤◌, Bool, true, cond, ◌&&◌, ◌||◌, ltb, Option, Some, None}
 use Rattle.lock_run.specs.Prog.{Prog}
+use Rattle.lock_run.specs.RunState.{SomeLives, IsDone, IsStuck, IsSpent, IsRunning}
 use Rattle.stm_core.specs.declared.standing.Slot.{Slot}
 use Rattle.stm_core.specs.declared.standing.Slot.TheVariants as slot
 use Rattle.stm_core.specs.declared.standing.RunState.{RunState}
 use Rattle.stm_core.specs.declared.standing.RunState.TheVariants.{Running as GoesOn, Done, Stuck, Spent, Faulted}
-use Rattle.stm_core.specs.CoreState.{Transaction, Segment, Idle, Doomed, Running, CoreState}
-use Rattle.stm_core.specs.Begun.{IsReady, IsUnready, steps_done}
+use Rattle.stm_core.specs.CoreState.{Transaction, Segment, Idle, Doomed, Running, CoreState, committed}
+use Rattle.stm_core.specs.Begun.{IsReady, IsUnready}
 
 -- what a segment has in hand, as the caller is told
 abbrev pub slot_of : {S : Type 0} → Segment S → Slot
@@ -35,32 +34,20 @@ FirstReady p c from to (Some t) = (from ≤ t) × (t < to) × IsReady p c t × (
 
 -- ---- how the run stands
 
-abbrev pub SomeLives : {S : Type 0} → Prog S → CoreState S → Type 0
-SomeLives {S} p c = (t : ℕ) × (q : S) × (slice_get c.threads t ≡ Some q) × (p.life q ≡ Lives)
-
-abbrev pub AllEnded : {S : Type 0} → Prog S → CoreState S → Type 0
-AllEnded {S} p c = (t : ℕ) (q : S) → slice_get c.threads t ≡ Some q → p.life q ≢ Lives
-
-abbrev pub AllWait : {S : Type 0} → Prog S → CoreState S → Type 0
-AllWait {S} p c = (t : ℕ) (q : S) → slice_get c.threads t ≡ Some q → p.life q ≡ Lives → Waiting (p.row q) c.image
-
 abbrev pub SomeRuns : {S : Type 0} → CoreState S → Type 0
 SomeRuns {S} c = (j : ℕ) × (x : Transaction S) × (c.segments j ≡ Running x)
 
 abbrev pub NoneRuns : {S : Type 0} → CoreState S → Type 0
 NoneRuns {S} c = (j : ℕ) (x : Transaction S) → c.segments j ≡ Running x → ⊥
 
-abbrev pub SomeReady : {S : Type 0} → Prog S → CoreState S → Type 0
-SomeReady p c = (t : ℕ) × IsReady p c t
+-- no cause is kept, and no segment runs
+abbrev pub IsAtRest : {S : Type 0} → CoreState S → Type 0
+IsAtRest c = (c.cause ≡ None) × NoneRuns c
 
--- no cause is kept, a thread lives, and no segment runs
-abbrev pub Rests : {S : Type 0} → Prog S → CoreState S → Type 0
-Rests p c = (c.cause ≡ None) × SomeLives p c × NoneRuns c
-
--- the first that holds
+-- the first that holds: a cause is kept, or else, but for a segment that runs, how its committed state stands
 abbrev pub IsOutcome : {S : Type 0} → Prog S → ℕ → CoreState S → RunState → Type 0
 IsOutcome p budget c (Faulted e) = c.cause ≡ Some e
-IsOutcome p budget c Done = (c.cause ≡ None) × AllEnded p c
-IsOutcome p budget c Stuck = Rests p c × AllWait p c
-IsOutcome p budget c Spent = Rests p c × SomeReady p c × (budget ≤ steps_done c.history)
-IsOutcome p budget c GoesOn = ((c.cause ≡ None) × SomeLives p c × SomeRuns c) ⊎ (Rests p c × SomeReady p c × (steps_done c.history < budget))
+IsOutcome p budget c Done = (c.cause ≡ None) × IsDone p (committed c)
+IsOutcome p budget c Stuck = IsAtRest c × IsStuck p (committed c)
+IsOutcome p budget c Spent = IsAtRest c × IsSpent p budget c.history (committed c)
+IsOutcome p budget c GoesOn = ((c.cause ≡ None) × SomeLives p (committed c) × SomeRuns c) ⊎ (IsAtRest c × IsRunning p budget c.history (committed c))

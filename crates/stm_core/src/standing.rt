@@ -90,8 +90,10 @@ impl<'p, C: Client, S: SegStore> Engine<'p, C, S> {
     ghost use Rattle.stm_core.specs.Books.{core_of};
     ghost use Rattle.stm_core.specs.Whole.{Whole};
     ghost use Rattle.stm_core.specs.SaneCore.{SaneCore};
-    ghost use Rattle.stm_core.specs.Begun.{IsReady, IsUnready, IsCount, steps_done};
-    ghost use Rattle.stm_core.specs.Standing.{slot_of, SomeLives, AllEnded, FirstReady, IsNext, IsOutcome};
+    ghost use Rattle.lock_run.specs.RunState.{steps_done, SomeLives, IsDone};
+    ghost use Rattle.stm_core.specs.CoreState.{committed};
+    ghost use Rattle.stm_core.specs.Begun.{IsReady, IsUnready, IsCount};
+    ghost use Rattle.stm_core.specs.Standing.{slot_of, FirstReady, IsNext, IsOutcome};
 
     /// Whether the history has the budget's steps.
     pub fn is_spent(&self, budget: u64) -> bool
@@ -168,8 +170,8 @@ impl<'p, C: Client, S: SegStore> Engine<'p, C, S> {
 
     /// Whether a thread lives.
     fn some_lives(&self) -> bool
-        ensures yes { result ≡ true → (w : World) → SomeLives (C.prog self.now.client.now) (core_of w (S.meaning self.now.store) self.now.books) }
-        ensures not { result ≡ false → (w : World) → AllEnded (C.prog self.now.client.now) (core_of w (S.meaning self.now.store) self.now.books) }
+        ensures yes { result ≡ true → (w : World) → SomeLives (C.prog self.now.client.now) (committed (core_of w (S.meaning self.now.store) self.now.books)) }
+        ensures not { result ≡ false → (w : World) → IsDone (C.prog self.now.client.now) (committed (core_of w (S.meaning self.now.store) self.now.books)) }
     {
         for t in 0..self.books.threads.len() {
             if let Life::Lives = self.client.life(self.books.threads.at(t)) {

@@ -14,6 +14,7 @@ pub trait Loader {
     /// were asked for, whatever the answer; at want of memory perhaps not.
     fn load(&mut self, name: &str, most: usize) -> Result<Vec<u8>, LoadError>
         ensures text { IfOk result (λ v. IfSome ((state self.old).told name.now) (λ xs. v.items ≡ take most xs)) }
+        ensures short { IfOk result (λ v. length v.items ≤ most) }
         ensures asked { OnOk result ((state self.new).asked ≡ (state self.old).asked ++ name.now ∷ []) }
         ensures stops { IfErr result (λ e. LoadStops name.now e (state self.old) (state self.new)) }
         ensures same { (state self.new).told ≡ (state self.old).told }

@@ -56,6 +56,7 @@ impl Loader for MemLoader {
 
     fn load(&mut self, name: &str, most: usize) -> Result<Vec<u8>, LoadError>
         ensures text { IfOk result (λ v. v.items ≡ take most self.old.text) }
+        ensures short { IfOk result (λ v. length v.items ≤ most) }
         ensures asked { OnOk result (self.new.asked ≡ self.old.asked ++ name.now ∷ []) }
         ensures stops { IfErr result (λ e. LoadStops name.now e (mem_loader_state self.old) (mem_loader_state self.new)) }
         ensures same_name { self.new.name ≡ self.old.name }

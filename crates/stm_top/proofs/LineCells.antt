@@ -1,61 +1,33 @@
 -- A heap of Cells: what its Cells can be asked, and the loops that make and print them.
-use Rattle.std.proofs.Common.{◌≡◌, ℕ, zero, suc, ◌+◌, ◌-◌, ◌<◌, ◌≤◌, Bool, true, false, List, [], length, Option, Some, None, Ok, Err, slice_get, IsSome, refl, sym, ap, subst, arith}
+use Rattle.std.proofs.Common.{◌≡◌, ℕ, zero, suc, ◌+◌, ◌-◌, ◌<◌, ◌≤◌, Bool, true, false, List, [], length, Some, Ok, Err, slice_get, sym, ap, subst, arith}
 use Rattle.py_data.specs.declared.value.Addr.{Addr}
 use Rattle.py_data.specs.declared.value.Value.{Value}
-use Rattle.py_base.specs.declared.kind.Kind.{Kind}
-use Rattle.py_base.specs.declared.kind.Kind.TheVariants.{Cell}
 use Rattle.py_data.specs.declared.stop.Stop.{Stop}
 use Rattle.py_data.specs.declared.stop.Stop.TheVariants.{OutOfMemory}
-use Rattle.py_data.specs.Heap.{Heap, Rec, is_tracked}
+use Rattle.py_data.specs.Heap.{Heap, is_tracked}
 use Rattle.py_data.specs.declared.change.Change.TheVariants as change
-use Rattle.py_data.specs.Changes.{IsValuePlace}
 use Rattle.py_data.specs.Row.{Do, Edit, Make}
-use Rattle.py_data.specs.Sense.{Sense, Lawful, Asks, Safe, IfThere, Meets, IsLive}
+use Rattle.py_data.specs.Sense.{Sense, Lawful, Asks, IfThere, Meets, IsLive}
 use Rattle.py_data.specs.Rest.{Leads}
 use Rattle.py_data.proofs.Steps.{there-is, asks-edit, leads-do, leads-ret, leads-refused, leads-own}
 use Rattle.py_data.proofs.Parts.{there_shown, asks_shown}
 use Rattle.stm_top.specs.LineRun.{unset_cell, with_cell, make_cells}
-use Rattle.stm_top.specs.LineStand.{IsCell, Holds, HoldsIn}
+use Rattle.stm_top.specs.LineStand.{HoldsIn}
+use Rattle.stm_top.specs.LineSafe.{cell_here, one_value, value_place, make_safe}
 
-some_of : (o : Option Rec) → IsSome o → (r : Rec) × (o ≡ Some r)
-some_of None h = absurd (let q : false ≡ true = h in cc)
-some_of (Some r) h = (r, refl)
-
--- the record of a name's Cell
-cell_here : (h : Heap) (cells : List Addr) (k : ℕ) (a : Addr) → Holds h cells → slice_get cells k ≡ Some a → (r : Rec) × (h a.0 ≡ Some r) × IsCell r
-cell_here h cells k a s e =
-    let o = some_of (h a.0) (s.there.each k a e) in
-    (o.0, o.1, s.heap.each a.0 o.0 o.1)
-
-one_value : (r : Rec) → IsCell r → length r.values ≡ 1
-one_value r c = ap length c.values
-
--- it has a value to be read
+-- ---- what the Cells can be asked over a view
+-- a name's Cell has a value to be read
 pub read_there : (p : Bool) (g : Heap) (cells : List Addr) (k : ℕ) (a : Addr) → HoldsIn p g cells → slice_get cells k ≡ Some a → IfThere p (g a.0) (λ r. 0 < length r.values)
 read_there p g cells k a s e =
     let c = cell_here s.heap cells k a s.holds e in
     there_shown p g s.heap a.0 (λ r. 0 < length r.values) s.shown (there-is s.heap a.0 c.0 false (λ r. 0 < length r.values) c.1 (let n = one_value c.0 c.2 in omega arith))
-
-place_of : (k : Kind) → k ≡ Cell → IsValuePlace k 0
-place_of k e = subst (λ z. IsValuePlace z 0) (sym e) tt
 
 -- and can be set
 pub set_there : (S : Type 0) (p : Bool) (g : Heap) (cells : List Addr) (k : ℕ) (a : Addr) (v : Value) → HoldsIn p g cells → slice_get cells k ≡ Some a → Asks {S = S} p (Edit a.0 (change.Set 0 v)) g
 set_there S p g cells k a v s e =
     let c = cell_here s.heap cells k a s.holds e in
     let n = one_value c.0 c.2 in
-    asks_shown p (Edit a.0 (change.Set 0 v)) g s.heap s.shown (asks-edit S false s.heap a.0 c.0 (change.Set 0 v) c.1 (ap is_tracked c.2.kind, omega (arith, n)) (place_of c.0.kind c.2.kind))
-
--- a new Cell has its shape
-pub make_asks : (S : Type 0) (p : Bool) (h : Heap) → Asks {S = S} p (Make unset_cell) h
-unfolding Asks
-make_asks S true h = (omega arith, omega arith)
-make_asks S false h = ((tt, refl, tt), omega arith, omega arith)
-
-pub make_safe : (S : Type 0) (p : Bool) (n : ℕ) (cells : List Addr) (h : Heap) → Safe {S = S} p (make_cells n cells) h
-unfolding make_cells Safe
-make_safe S p zero cells h = tt
-make_safe S p (suc n) cells h = (make_asks S p h, λ a h1 e. make_safe S p n (with_cell cells a) h1)
+    asks_shown p (Edit a.0 (change.Set 0 v)) g s.heap s.shown (asks-edit S false s.heap a.0 c.0 (change.Set 0 v) c.1 (ap is_tracked c.2.kind, omega (arith, n)) (value_place c.0.kind c.2.kind))
 
 -- ---- the loop that makes the Cells, before its turn i
 pub record Making {S X : Type 0} (u : Sense S X) (n i : ℕ) (cells : List Addr) (v w : X) : Type 0 where

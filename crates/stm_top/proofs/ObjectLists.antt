@@ -55,8 +55,8 @@ module _ {S X : Type 0} {u : Sense S X} (L : Lawful u) where
   pub slice-ref : SliceLaw u → (a : ℕ) (from to : Option ℤ) {v : X} (w : X) (res : Result (Got Value) Stop) → Meets u (slice_row a from to) v w res → HoldsSequence u a v → IfOk res (λ x. HoldsRef u x w)
   unfolding Meets
   slice-ref law a from to {v = v} w (Ok (Is x)) m c =
-      let l = law a from to c.r v w x c.is m in
-      subst (λ x. HoldsRef u (Is x) w) (sym l.1) (record { live = live-after u L (slice_row a from to) v w (Is x) m c.live; there = subst IsSome (sym l.3) refl })
+      let l = law a from to c.r v w (Is x) c.is m in
+      subst (λ z. HoldsRef u z w) (sym l.1) (record { live = live-after u L (slice_row a from to) v w (Is x) m c.live; there = subst IsSome (sym l.3) refl })
   slice-ref law a from to w (Ok (Raise f)) m c = tt
   slice-ref law a from to w (Err e) m c = tt
 

@@ -5,6 +5,7 @@ pub mod LineRun
 pub mod LineStand
 pub mod LineClient
 pub mod LineLaws
+pub mod LineSafe
 pub mod Script
 pub mod Answer
 pub mod Objects

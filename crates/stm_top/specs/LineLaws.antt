@@ -14,7 +14,9 @@ use Rattle.py_data.specs.Sight.{Sight, Does, opened, pure}
 use Rattle.py_data.proofs.Rows.{bind-run}
 use Rattle.lock_run.specs.declared.client.Outcome.{Outcome}
 use Rattle.lock_run.specs.declared.client.Outcome.TheVariants.{Done, Ended, Waits}
-use Rattle.lock_run.specs.Client.{StaysSound, WaitsQuietly, WritesThen, AsksToPrint}
+use Rattle.lock_run.specs.declared.client.Life.{Life}
+use Rattle.lock_run.specs.declared.client.Life.TheVariants.{Lives, Ended as HasEnded}
+use Rattle.lock_run.specs.Client.{StaysSound, LifeAfter, TellsLife, WaitsQuietly, WritesThen, AsksToPrint}
 use Rattle.stm_top.specs.declared.line_form.Item.{Item}
 use Rattle.stm_top.specs.declared.line_form.Item.TheVariants.{Name, Number}
 use Rattle.stm_top.specs.declared.line_form.Statement.{Statement}
@@ -23,7 +25,7 @@ use Rattle.stm_top.specs.declared.line_form.LineProgram.{LineProgram}
 use Rattle.stm_top.specs.declared.line_run.Place.{Place}
 use Rattle.stm_top.specs.declared.line_run.Place.TheVariants.{Start, At, Over}
 use Rattle.stm_top.specs.declared.line_run.LineState.{LineState}
-use Rattle.stm_top.specs.LineRun.{state_at, unset_cell, with_cell, make_cells, cell_value, item_row, text_of, after_space, print_row, set_cell, statement_row, at_statement, at_place, line_row, line_prog}
+use Rattle.stm_top.specs.LineRun.{state_at, unset_cell, with_cell, make_cells, cell_value, item_row, text_of, after_space, print_row, set_cell, statement_row, at_statement, at_place, line_row, life_at, line_prog}
 use Rattle.stm_top.specs.LineStand.{IsSimple, IsCell, AreCells, AreThere, Holds, LineSound}
 
 -- ---- the first state over the empty heap
@@ -187,13 +189,34 @@ only_one ss l s s1 (suc t) started a e n = absurd (let q : slice_get (l ∷ []) 
     none_further zero s q = cc
     none_further (suc t) s q = cc
 
+-- the Cells of the thread are in the heap
+pub holds_of : (h : Heap) (ss : List LineState) (t : ℕ) (s : LineState) → LineSound h ss → slice_get ss t ≡ Some s → Holds h s.cells
+holds_of h ss t s l e = subst (λ (q : LineState). Holds h q.cells) (only_one ss l.state s s t [] l.alone e refl).0 l.holds
+
 pub line_sound_step : (p : LineProgram) → StaysSound (line_prog p) LineSound
 unfolding line_row
 line_sound_step p ss t s h w o s1 y l e life d =
-    let f = only_one ss l.state s s1 t [] l.alone e refl in
-    let holds : Holds h s.cells = subst (λ (q : LineState). Holds h q.cells) f.0 l.holds in
+    let holds = holds_of h ss t s l e in
     let z = step_stood p s s.place (opened LineState h w) y o s1 d holds in
     record { state = s1; alone = (only_one ss l.state s s1 t y.started l.alone e z.0.started).1; holds = record { heap = z.0.cells holds.heap; there = z.1 } }
+
+-- ---- a step after which the thread has ended was its last
+life_of : (s1 q : LineState) (o out : Outcome) → ◌≡◌ {A = Outcome × LineState} (o, s1) (out, q) → LifeAfter out (life_at q.place) → LifeAfter o (life_at s1.place)
+life_of s1 q o out e l = subst (λ (z : Outcome × LineState). LifeAfter z.0 (life_at z.1.place)) (sym e) l
+
+step_life : (p : LineProgram) (s : LineState) (place : Place) (x y : Sight LineState) (o : Outcome) (s1 : LineState) → s.place ≡ place → Does (at_place p s place) x (o, s1) y → LifeAfter o (life_at s1.place)
+unfolding Run
+step_life p s Start x y o s1 f d = let b = bind-run pure (make_cells p.cells []) (λ cells. Ret (Done, state_at (At 0) cells)) x (o, s1) y d in life_of s1 _ o Done b.3.0 refl
+step_life p s (At k) x y o s1 f d = at_life (slice_get p.statements k) d
+  where
+    at_life : (statement : Option Statement) → Does (at_statement s k statement) x (o, s1) y → LifeAfter o (life_at s1.place)
+    at_life (Some statement) d = let b = bind-run pure (statement_row s.cells statement) (λ _. Ret (Done, state_at (At (k + 1)) s.cells)) x (o, s1) y d in life_of s1 _ o Done b.3.0 refl
+    at_life None d = life_of s1 _ o Ended d.0 (λ q. cc)
+step_life p s Over x y o s1 f d = life_of s1 s o Ended d.0 (λ q. let g : ◌≡◌ {A = Life} HasEnded Lives = ap life_at (sym f) ∙ q in cc)
+
+pub line_tells_life : (p : LineProgram) → TellsLife (line_prog p)
+unfolding line_row
+line_tells_life p s s1 x y o lives d = step_life p s s.place x y o s1 refl d
 
 -- ---- no step waits
 not_waiting : (s1 q : LineState) (o : Outcome) → ◌≡◌ {A = Outcome × LineState} (Waits, s1) (o, q) → (o ≡ Waits → ⊥) → ⊥

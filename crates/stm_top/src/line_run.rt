@@ -175,7 +175,8 @@ impl Client for LineClient {
     ghost use Rattle.stm_top.specs.LineRun.{line_prog};
     ghost use Rattle.stm_top.specs.LineClient.{program_in};
     ghost use Rattle.stm_top.specs.LineStand.{LineSound};
-    ghost use Rattle.stm_top.specs.LineLaws.{line_sound_first, line_sound_step, line_waits_quietly, line_asks_to_print};
+    ghost use Rattle.stm_top.specs.LineLaws.{line_sound_first, line_sound_step, line_tells_life, line_waits_quietly, line_asks_to_print};
+    ghost use Rattle.stm_top.specs.LineSafe.{line_sound_safe};
 
     type State = LineState;
 
@@ -186,6 +187,10 @@ impl Client for LineClient {
     ghost sound_first = { λ c. line_sound_first };
 
     ghost sound_step = { λ c. line_sound_step (program_in c) };
+
+    ghost sound_safe = { λ c. line_sound_safe (program_in c) };
+
+    ghost outcomes = { λ c. line_tells_life (program_in c) };
 
     ghost waits_quietly = { λ c. line_waits_quietly (program_in c) };
 

@@ -4,14 +4,11 @@ ghost use Rattle.std.specs.Fmt.{decimal};
 ghost use Rattle.py_code.specs.Listing.{column, code_text, constant_text, instr_line, is_line, key_text, keys_text, label_at, label_by, label_text, line_mark, named, operand_text, slot_name, with_operands};
 
 use crate::assembly::labels::Labels;
-use crate::assembly::names::{
-    binary_sign, builtin_name, code_text, compare_sign, digits, name_or, named, root_name,
-    root_text, unary_sign,
-};
+use crate::assembly::names::{code_text, digits, name_or, named, root_name, root_text};
 use crate::assembly::operand::{Operand, mnemonic, operand_of};
 use crate::instr::{Constant, Instr};
 use crate::program::{Code, Keys, Lines, Program, Root};
-use py_base::{Bytes, NoMemory};
+use py_base::{Bytes, NoMemory, binary_sign, builtin_name, compare_sign, unary_sign};
 use py_text::print_int;
 use std::alloc::Global;
 

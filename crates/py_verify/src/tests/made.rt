@@ -1,11 +1,8 @@
 //! Programs made of their parts, and whether they pass.
 use crate::verify;
-use py_base::{Bytes, Kind};
+use py_base::{Bytes, Kind, exception};
 use py_code::{Code, Codes, Instr, Instrs, KeyLists, Keys, Lines, Program, Root, Roots, Texts};
 use std::alloc::{AllocError, Global};
-
-/// How many classes there are.
-pub const CLASSES: u8 = 20;
 
 /// The first string among the roots.
 pub const TEXT: u32 = 21;
@@ -70,7 +67,7 @@ pub fn first_roots(alloc: Global, classes: u8) -> Result<Roots, AllocError> {
 
 /// The roots of a program with these strings and global names.
 pub fn roots(alloc: Global, strings: &[u8], names: &[u8]) -> Result<Roots, AllocError> {
-    let mut roots = first_roots(alloc, CLASSES)?;
+    let mut roots = first_roots(alloc, exception::COUNT)?;
     add_roots(alloc, &mut roots, Kind::Str, strings)?;
     add_roots(alloc, &mut roots, Kind::Cell, names)?;
     Ok(roots)

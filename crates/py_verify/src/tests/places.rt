@@ -93,6 +93,8 @@ fn wrong_setup(rt: HostRuntime) -> Tested {
     assert!(rt; !is_module(alloc, &[Instr::Setup, NONE, Instr::Return, Instr::Setup])?);
     // a jump leads back to it
     assert!(rt; !is_module(alloc, &[Instr::Setup, Instr::Jump(0)])?);
+    // a jump back to SETUP that isn't reached
+    assert!(rt; !is_module(alloc, &[Instr::Setup, NONE, Instr::Return, Instr::Jump(0)])?);
     Ok(())
 }
 

@@ -1,6 +1,6 @@
 //! The form and the order of the roots, and how many and how long they are.
-use super::made::{CLASSES, add_root, code, first_roots, passes};
-use py_base::{Bytes, Kind};
+use super::made::{add_root, code, first_roots, passes};
+use py_base::{Bytes, Kind, exception};
 use py_code::{Codes, Constant, Instr, Root, Roots};
 use std::alloc::{AllocError, Global};
 use std::test;
@@ -17,7 +17,7 @@ fn rooted(alloc: Global, roots: Roots) -> Result<bool, AllocError> {
 
 /// The same with one more root behind the classes.
 fn with_root(alloc: Global, kind: Kind, number: u8, bytes: &[u8]) -> Result<bool, AllocError> {
-    let mut roots = first_roots(alloc, CLASSES)?;
+    let mut roots = first_roots(alloc, exception::COUNT)?;
     add_root(alloc, &mut roots, kind, number, bytes)?;
     rooted(alloc, roots)
 }
@@ -25,12 +25,12 @@ fn with_root(alloc: Global, kind: Kind, number: u8, bytes: &[u8]) -> Result<bool
 #[test]
 fn first_of_them(rt: HostRuntime) -> Tested {
     let alloc = rt.alloc();
-    assert!(rt; rooted(alloc, first_roots(alloc, CLASSES)?)?);
+    assert!(rt; rooted(alloc, first_roots(alloc, exception::COUNT)?)?);
     assert!(rt; !rooted(alloc, Roots::new(alloc))?);
     // a class is missing
-    assert!(rt; !rooted(alloc, first_roots(alloc, CLASSES - 1)?)?);
+    assert!(rt; !rooted(alloc, first_roots(alloc, exception::COUNT - 1)?)?);
     // one class too many
-    assert!(rt; !rooted(alloc, first_roots(alloc, CLASSES + 1)?)?);
+    assert!(rt; !rooted(alloc, first_roots(alloc, exception::COUNT + 1)?)?);
     Ok(())
 }
 
@@ -50,7 +50,7 @@ fn kinds(rt: HostRuntime) -> Tested {
 fn begun(alloc: Global, kind: Kind, bytes: &[u8]) -> Result<bool, AllocError> {
     let mut roots = Roots::new(alloc);
     add_root(alloc, &mut roots, kind, 0, bytes)?;
-    for c in 0..CLASSES {
+    for c in 0..exception::COUNT {
         add_root(alloc, &mut roots, Kind::Class, c, b"")?;
     }
     rooted(alloc, roots)
@@ -67,7 +67,7 @@ fn count_of_threads(rt: HostRuntime) -> Tested {
 
 /// Whether roots pass whose last class is this one.
 fn ended(alloc: Global, number: u8, bytes: &[u8]) -> Result<bool, AllocError> {
-    let mut roots = first_roots(alloc, CLASSES - 1)?;
+    let mut roots = first_roots(alloc, exception::COUNT - 1)?;
     add_root(alloc, &mut roots, Kind::Class, number, bytes)?;
     rooted(alloc, roots)
 }
@@ -84,7 +84,7 @@ fn last_class(rt: HostRuntime) -> Tested {
 #[test]
 fn string_behind_a_cell(rt: HostRuntime) -> Tested {
     let alloc = rt.alloc();
-    let mut roots = first_roots(alloc, CLASSES)?;
+    let mut roots = first_roots(alloc, exception::COUNT)?;
     add_root(alloc, &mut roots, Kind::Cell, 0, b"a")?;
     add_root(alloc, &mut roots, Kind::Str, 0, b"a")?;
     assert!(rt; !rooted(alloc, roots)?);
@@ -103,7 +103,7 @@ fn long_text(alloc: Global) -> Result<Bytes, AllocError> {
 
 /// Whether roots pass that end with this string.
 fn texted(alloc: Global, bytes: Bytes) -> Result<bool, AllocError> {
-    let mut roots = first_roots(alloc, CLASSES)?;
+    let mut roots = first_roots(alloc, exception::COUNT)?;
     roots.push(Root {
         kind: Kind::Str,
         number: 0,
@@ -124,7 +124,7 @@ fn long_strings(rt: HostRuntime) -> Tested {
 
 /// Whether so many empty strings pass.
 fn many(alloc: Global, count: usize) -> Result<bool, AllocError> {
-    let mut roots = first_roots(alloc, CLASSES)?;
+    let mut roots = first_roots(alloc, exception::COUNT)?;
     for _ in 0..count {
         roots.push(Root {
             kind: Kind::Str,

@@ -36,7 +36,7 @@ fn number(rt: &impl Abort, store: &PlainStore, k: u8, a: Addr) -> i64 {
     let Some(r) = store.seen(k, a.0) else {
         panic!(rt; "no record");
     };
-    assert!(rt; r.values.len() > 0);
+    assert!(rt; r.values().len() > 0);
     match store.val(k, a, 0) {
         Value::Int(n) => n,
         v => panic!(rt; "{v:?}"),
@@ -49,7 +49,7 @@ fn committed(rt: &impl Abort, store: &PlainStore, a: Addr) -> i64 {
     let Some(r) = store.committed(a.0) else {
         panic!(rt; "no record");
     };
-    assert!(rt; r.values.len() == 1);
+    assert!(rt; r.values().len() == 1);
     assert!(rt; store.peek_kind(a) == Kind::Cell);
     match store.peek_val(a, 0) {
         Value::Int(n) => n,
@@ -75,8 +75,8 @@ fn set(rt: &impl Abort, store: &mut PlainStore, k: u8, a: Addr, n: i64) {
     let Some(r) = store.seen(k, a.0) else {
         panic!(rt; "no record");
     };
-    assert!(rt; r.kind == Kind::Cell);
-    assert!(rt; r.values.len() > 0);
+    assert!(rt; r.kind() == Kind::Cell);
+    assert!(rt; r.values().len() > 0);
     assert!(rt; store.set_val(k, a, 0, Value::Int(n)).is_ok());
 }
 
@@ -214,8 +214,8 @@ fn push(rt: &impl Abort, store: &mut PlainStore, k: u8, a: Addr, n: i64) {
     let Some(r) = store.seen(k, a.0) else {
         panic!(rt; "no record");
     };
-    assert!(rt; r.kind == Kind::List);
-    assert!(rt; r.values.len() < LENGTH_LIMIT);
+    assert!(rt; r.kind() == Kind::List);
+    assert!(rt; r.values().len() < LENGTH_LIMIT);
     assert!(rt; store.push_val(k, a, Value::Int(n)).is_ok());
 }
 
@@ -229,7 +229,7 @@ fn cut(rt: &impl Abort, store: &mut PlainStore, k: u8, a: Addr, n: usize) {
     let Some(r) = store.seen(k, a.0) else {
         panic!(rt; "no record");
     };
-    assert!(rt; r.kind == Kind::List);
+    assert!(rt; r.kind() == Kind::List);
     assert!(rt; store.truncate(k, a, n).is_ok());
 }
 
@@ -239,7 +239,7 @@ fn size(rt: &impl Abort, store: &PlainStore, k: u8, a: Addr) -> (usize, usize) {
     let Some(r) = store.seen(k, a.0) else {
         panic!(rt; "no record");
     };
-    (store.len(k, a), r.room)
+    (store.len(k, a), r.rooms().0)
 }
 
 #[test]
@@ -267,8 +267,8 @@ fn put(rt: &impl Abort, store: &mut PlainStore, k: u8, d: Addr, key: i64, n: i64
     let Some(r) = store.seen(k, d.0) else {
         panic!(rt; "no record");
     };
-    assert!(rt; r.kind == Kind::Dict);
-    assert!(rt; r.values.len() == 0);
+    assert!(rt; r.kind() == Kind::Dict);
+    assert!(rt; r.values().len() == 0);
     let pushed = store.push_pair(k, d, Value::Int(key), Value::Int(n));
     assert!(rt; pushed.is_ok());
 }
@@ -279,8 +279,8 @@ fn find(rt: &impl Abort, store: &PlainStore, k: u8, d: Addr, key: i64) -> Option
     let Some(r) = store.seen(k, d.0) else {
         panic!(rt; "no record");
     };
-    assert!(rt; r.kind == Kind::Dict);
-    let [Value::Int(_), _] = r.values.as_slice() else {
+    assert!(rt; r.kind() == Kind::Dict);
+    let [Value::Int(_), _] = r.values() else {
         panic!(rt; "no pair");
     };
     store.find_key(k, d, Value::Int(key))
@@ -296,8 +296,8 @@ fn take(rt: &impl Abort, store: &mut PlainStore, k: u8, d: Addr) {
     let Some(r) = store.seen(k, d.0) else {
         panic!(rt; "no record");
     };
-    assert!(rt; r.kind == Kind::Dict);
-    assert!(rt; r.values.len() > 1);
+    assert!(rt; r.kind() == Kind::Dict);
+    assert!(rt; r.values().len() > 1);
     assert!(rt; store.drop_pair(k, d, 0).is_ok());
 }
 
@@ -341,7 +341,7 @@ fn two_bytes(rt: &impl Abort, store: &PlainStore, k: u8, a: Addr, from: usize) -
     let Some(r) = store.seen(k, a.0) else {
         panic!(rt; "no record");
     };
-    assert!(rt; from < 100 && from + 2 <= r.bytes.len());
+    assert!(rt; from < 100 && from + 2 <= r.bytes().len());
     let mut two = [0; 2];
     store.copy_bytes(k, a, from, &mut two);
     two

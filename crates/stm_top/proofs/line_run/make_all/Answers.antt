@@ -2,7 +2,8 @@ use Rattle.std.proofs.Common.{arith, subst, sym, ◌+◌}
 use Rattle.py_data.specs.Row.{Make}
 use Rattle.py_data.specs.Sense.{Asks}
 use Rattle.py_data.proofs.Steps.{stop-as}
-use Rattle.stm_top.proofs.LineCells.{Making, making_first, making_more, making_refused, making_starved, making_last, make_asks}
+use Rattle.stm_top.specs.LineSafe.{make_asks}
+use Rattle.stm_top.proofs.LineCells.{Making, making_first, making_more, making_refused, making_starved, making_last}
 use Rattle.stm_top.proofs.line_run.make_all.Goals as goal
 
 pub loop-i-init : goal.loop-i-init

@@ -1,30 +1,14 @@
-use Rattle.std.proofs.Common.{rules, ◌≡◌, None}
+use Rattle.std.proofs.Common.{rules}
 use Rattle.std.specs.Ordering.{nat_cmp}
 use Rattle.std.specs.BTreeMap as tree
-use Rattle.py_data.specs.Heap.{put_at}
-use Rattle.lock_run.proofs.Back.{either, base_of_either, ok_add}
-use Rattle.lock_run.proofs.Short.{short_either, all_short_none}
+use Rattle.lock_run.proofs.Back.{noted_made}
 use Rattle.lock_run.proofs.space.Space.add.Goals as goal
 
-pub invariant_of-self-2-clause-undoable : goal.invariant_of-self-2-clause-undoable
-invariant_of-self-2-clause-undoable c =
-    let h = tree.get nat_cmp c.args.self.now.records in
-    let h1 = tree.get nat_cmp c.place.new.records in
-    ok_add c.args.self.now.journal.items c.push.new.self.items h h1 c.args.a c.args.r (search rules) c.requires.fresh c.args.self.now.undoable
-    (either (h1 ≡ put_at h c.args.a c.args.r) (h1 ≡ h) c.place.result c.place.ensures.ok c.place.ensures.err)
-
-pub invariant_of-self-2-clause-short : goal.invariant_of-self-2-clause-short
-invariant_of-self-2-clause-short c =
-    let h = tree.get nat_cmp c.args.self.now.records in
-    let h1 = tree.get nat_cmp c.place.new.records in
-    short_either h h1 c.args.a c.args.r (either (h1 ≡ put_at h c.args.a c.args.r) (h1 ≡ h) c.place.result c.place.ensures.ok c.place.ensures.err) c.args.self.now.short c.requires.short
-
-pub invariant_of-self-2-clause-old_short : goal.invariant_of-self-2-clause-old_short
-invariant_of-self-2-clause-old_short c = all_short_none c.args.self.now.journal.items c.push.new.self.items c.args.a (search rules) c.args.self.now.old_short
+pub invariant_of-self-2 : goal.invariant_of-self-2
+invariant_of-self-2 c = record {
+  undoable = (noted_made c.args.self.now.journal.items c.note.new.journal.items c.args.a c.args.r (tree.get nat_cmp c.args.self.now.records) (tree.get nat_cmp c.place.new.records) (search rules) (search rules) c.requires c.args.self.now.undoable).undoable;
+}
 
 pub returns-clause-base : goal.returns-clause-base
 returns-clause-base c =
-    let h = tree.get nat_cmp c.args.self.now.records in
-    let h1 = tree.get nat_cmp c.place.new.records in
-    base_of_either c.args.self.now.journal.items c.push.new.self.items h h1 c.args.a None c.args.r (search rules) c.requires.fresh
-    (either (h1 ≡ put_at h c.args.a c.args.r) (h1 ≡ h) c.place.result c.place.ensures.ok c.place.ensures.err)
+    (noted_made c.args.self.now.journal.items c.note.new.journal.items c.args.a c.args.r (tree.get nat_cmp c.args.self.now.records) (tree.get nat_cmp c.place.new.records) (search rules) (search rules) c.requires c.args.self.now.undoable).base

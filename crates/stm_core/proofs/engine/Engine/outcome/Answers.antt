@@ -1,8 +1,7 @@
-use Rattle.std.proofs.Common.{ap, inl, inr, subst, ◌<◌, slice_get, arith}
+use Rattle.std.proofs.Common.{ap, inl, inr, subst, ◌<◌}
 use Rattle.stm_core.specs.Books.{transaction, segment_of, core_of}
-use Rattle.stm_core.specs.Standing.{Rests}
-use Rattle.stm_core.proofs.Committing.{running_work}
-use Rattle.stm_core.proofs.Standings.{some_running, none_running, all_wait}
+use Rattle.stm_core.specs.Standing.{IsAtRest}
+use Rattle.stm_core.proofs.Standings.{some_running, at_rest, all_wait, some_ready}
 use Rattle.stm_core.proofs.engine.Engine.outcome.Goals as goal
 
 pub returns-then-not-some_lives : goal.returns-then-not-some_lives
@@ -16,42 +15,24 @@ returns-then-running-gt0 g c = λ w.
 
 pub returns-in-None : goal.returns-in-None
 returns-in-None g c = λ w.
-    let hs = c.args.self.now.books.hands.items in
     let p = g.C.Client.prog c.args.self.now.client.now in
-    let u = core_of w (g.S.SegStore.meaning c.args.self.now.store) c.args.self.now.books in
-    let rests : Rests p u = (
-      c.in_default.is,
-      c.some_lives.ensures.yes c.if-not-some_lives.false w,
-      λ j x e.
-          let r = running_work w ((g.S.SegStore.meaning c.args.self.now.store).part j) (slice_get hs j) x e in
-          none_running hs (let n = c.running.ensures.count in let z = c.if-running-gt0.false in omega (arith, n, z)) j r.0 r.1,
-    ) in
-    (rests, all_wait p u rests.2 (c.in-None.ensures w))
+    let m = g.S.SegStore.meaning c.args.self.now.store in
+    let b = c.args.self.now.books in
+    let rests : IsAtRest (core_of w m b) = at_rest w m b c.in_default.is c.running.ensures.count c.if-running-gt0.false in
+    (rests, (c.some_lives.ensures.yes c.if-not-some_lives.false w, all_wait p (core_of w m b) rests.1 (c.in-None.ensures w)))
 
 pub returns-then-is_spent : goal.returns-then-is_spent
 returns-then-is_spent g c = λ w.
-    let hs = c.args.self.now.books.hands.items in
     let p = g.C.Client.prog c.args.self.now.client.now in
-    let u = core_of w (g.S.SegStore.meaning c.args.self.now.store) c.args.self.now.books in
-    let rests : Rests p u = (
-      c.in_default.is,
-      c.some_lives.ensures.yes c.if-not-some_lives.false w,
-      λ j x e.
-          let r = running_work w ((g.S.SegStore.meaning c.args.self.now.store).part j) (slice_get hs j) x e in
-          none_running hs (let n = c.running.ensures.count in let z = c.if-running-gt0.false in omega (arith, n, z)) j r.0 r.1,
-    ) in
-    (rests, (_, (c.in-Some-next_ready.ensures w).0), c.is_spent.ensures.yes c.if-is_spent.true)
+    let m = g.S.SegStore.meaning c.args.self.now.store in
+    let b = c.args.self.now.books in
+    let rests : IsAtRest (core_of w m b) = at_rest w m b c.in_default.is c.running.ensures.count c.if-running-gt0.false in
+    (rests, (some_ready p (core_of w m b) _ (c.in-Some-next_ready.ensures w).0, c.is_spent.ensures.yes c.if-is_spent.true))
 
 pub returns-else-is_spent : goal.returns-else-is_spent
 returns-else-is_spent g c = λ w.
-    let hs = c.args.self.now.books.hands.items in
     let p = g.C.Client.prog c.args.self.now.client.now in
-    let u = core_of w (g.S.SegStore.meaning c.args.self.now.store) c.args.self.now.books in
-    let rests : Rests p u = (
-      c.in_default.is,
-      c.some_lives.ensures.yes c.if-not-some_lives.false w,
-      λ j x e.
-          let r = running_work w ((g.S.SegStore.meaning c.args.self.now.store).part j) (slice_get hs j) x e in
-          none_running hs (let n = c.running.ensures.count in let z = c.if-running-gt0.false in omega (arith, n, z)) j r.0 r.1,
-    ) in
-    inr (rests, (_, (c.in-Some-next_ready.ensures w).0), c.is_spent.ensures.not c.if-is_spent.false)
+    let m = g.S.SegStore.meaning c.args.self.now.store in
+    let b = c.args.self.now.books in
+    let rests : IsAtRest (core_of w m b) = at_rest w m b c.in_default.is c.running.ensures.count c.if-running-gt0.false in
+    inr (rests, (some_ready p (core_of w m b) _ (c.in-Some-next_ready.ensures w).0, c.is_spent.ensures.not c.if-is_spent.false))
