@@ -255,14 +255,14 @@ module _ (locals : List (List (List ℕ))) (ss : List Stmt) where
         let fit = fits j y c in
         let long = made.slots_long locals ss j y in
         let slots = length (whole.slots_named y.is_class (L j)) in
-        let right = subst (λ k. IsWhole k (code j y).instrs) (limits_same j y) (made.code_right locals ss j y d (omega (arith, few))) in
+        let whole_code = subst (λ k. IsWhole k (code j y).instrs) (limits_same j y) (made.code_right locals ss j y d (omega (arith, few))) in
         record {
           lined = whole_lined (lim L T C Ks P j (slots + 0) 0) j y (N j y.is_class) slots (d (slots + 0) 0 (made.named_slotted locals ss y.is_class j 0)) (omega (arith, few));
           slotted = omega (arith, q, long);
           sets_up = fit_setup ok flags j y.is_class (code j y).instrs fit;
           belongs = fit_belongs cs rs flags j y.is_class (λ z. own j lt (o z)) (other h) (code j y).instrs fit;
-          forward = right.1;
-          typed = right.0;
+          forward = whole_code.forward;
+          typed = whole_code.right;
         }
 
     codes_right : Cleans 0 (whole.bodies ss) → (j : ℕ) (ys : List Body) → j + length ys ≡ length cs → BodiesOk L T C Ks P j ys → Cleans j ys → AllOpen N all j ys → whole.large_bodies nm j ys ≡ None → ParamsFit locals j ys → AreRight cs rs j (codes j ys)

@@ -1,5 +1,5 @@
 -- A whole body is right.
-use Rattle.std.proofs.Common.{◌≡◌, ℕ, ◌+◌, ◌<◌, ◌≤◌, ◌^◌, ⊎_elim, List, [], ◌∷◌, ◌++◌, Option, Some, None, length, refl, sym, ap, ◌∙◌, subst, arith, length-append, append_assoc, map}
+use Rattle.std.proofs.Common.{◌≡◌, ℕ, zero, suc, ◌+◌, ◌<◌, ◌≤◌, ◌^◌, ⊎_elim, get_or, List, [], ◌∷◌, ◌++◌, Option, Some, None, length, refl, sym, ap, ◌∙◌, subst, arith, length-append, append_assoc, map}
 use Rattle.std.specs.Prelude.{slice_get}
 use Rattle.std.proofs.Math.Seq.{get_or-append_seam}
 use Rattle.std.proofs.lemmas.List.{length-map}
@@ -42,8 +42,9 @@ pub record Front (k : Limits) (pre : List Instr) (ss : List Sh) : Type 0 where
   pub right : (code : List Instr) (t : List (Option Sh)) → HasCode code 0 pre → HasShapes t 0 ss → shape_at t (length pre) ≡ Some start → AllRight k code t 0 (length pre) × (shape_at t 0 ≡ Some start)
 
 -- a code is right, and none of its instructions leads back too far
-abbrev pub IsWhole : Limits → List Instr → Type 0
-IsWhole k code = IsRight k code × AllForward k code
+pub record IsWhole (k : Limits) (code : List Instr) : Type 0 where
+  pub right : IsRight k code
+  pub forward : AllForward k code
 
 some_at : (ss : List Sh) (p : ℕ) → p < length ss → (s : Sh) × (shape_at (map Some ss) p ≡ Some s)
 some_at [] p lt = absurd (omega (arith, lt))
@@ -52,7 +53,7 @@ some_at (s ∷ ss) (suc p) lt = some_at ss p (omega (arith, lt))
 
 -- these, a piece that leaves one value, and RETURN
 pub closed : (k : Limits) (pre : List Instr) (ss : List Sh) (b : Piece) (h : ℕ) → Front k pre ss → Typed k b [] start (sh 1 []) → h + b.slots ≤ k.slots → length pre + (b.size + 1) < 2 ^ 16 → IsWhole k (pre ++ (b.code [] (length pre) h ++ Return ∷ []))
-closed k pre ss b h front t le few = ((shapes, record { few = omega (arith, len_code, few); long = long; starts = front_right.1; each = each }), forward)
+closed k pre ss b h front t le few = record { right = (shapes, record { few = omega (arith, len_code, few); long = long; starts = front_right.1; each = each }); forward = forward }
   where
     n : ℕ
     n = length pre
