@@ -9,13 +9,4 @@ pub mod LineStepping
 pub mod Taking
 pub mod TurnsMade
 pub mod TopSteps
-pub mod ObjectCalls
-pub mod ObjectDicts
-pub mod ObjectIters
-pub mod ObjectSteps
-pub mod ObjectLists
-pub mod ObjectContainers
-pub mod ObjectPairs
-pub mod ObjectTexts
-pub mod ObjectTuples
 mod OneAnswer

@@ -8,7 +8,5 @@ pub mod LineLaws
 pub mod LineSafe
 pub mod Script
 pub mod Answer
-pub mod Objects
-pub mod ObjectTuples
 pub mod TextCode
 pub mod TopCall

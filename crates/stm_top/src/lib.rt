@@ -22,8 +22,6 @@ mod code_tests;
 #[cfg(test)]
 mod names_tests;
 #[cfg(test)]
-mod object_tests;
-#[cfg(test)]
 mod tests;
 #[cfg(test)]
 mod text_rows;

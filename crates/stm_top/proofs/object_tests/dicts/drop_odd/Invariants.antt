@@ -1,5 +1,0 @@
-use Rattle.stm_top.specs.Objects.{HoldsDict}
-use Rattle.stm_top.proofs.object_tests.dicts.drop_odd.Given as goal
-
-abbrev pub invariant-turns : goal.invariant-turns
-invariant-turns g l = HoldsDict g.V.View.sense l.d.0 l.v

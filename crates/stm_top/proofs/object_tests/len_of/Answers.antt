@@ -1,5 +1,0 @@
-use Rattle.stm_top.proofs.ObjectCalls.{any-asks}
-use Rattle.stm_top.proofs.object_tests.len_of.Goals as goal
-
-pub len-requires-clause-there : goal.len-requires-clause-there
-len-requires-clause-there g c = any-asks c.requires
