@@ -1,16 +1,12 @@
 -- Whether a thread can go on.
-use Rattle.std.proofs.Common.{◌≡◌, Bool, true, false, not, Option, Some, IfSome, refl, sym, subst}
+use Rattle.std.proofs.Common.{◌≡◌, Bool, true, false, not, refl}
 use Rattle.py_data.specs.Heap.{Heap}
 use Rattle.lock_run.specs.declared.client.Life.TheVariants.{Lives}
 use Rattle.lock_run.specs.Prog.{Prog}
 use Rattle.lock_run.specs.Client.{Going, Waiting}
 use Rattle.lock_run.specs.LockState.{IsReady}
 
-ready_of : {S : Type 0} (p : Prog S) (s : S) (h : Heap) (blocked : Bool) → p.life s ≡ Lives → (blocked ≡ true → Waiting (p.row s) h) → (blocked ≡ false → Going (p.row s) h) → IsReady p s h (not blocked)
+-- a living thread can go on where it isn't blocked
+pub ready_of : {S : Type 0} (p : Prog S) (s : S) (h : Heap) (blocked : Bool) → p.life s ≡ Lives → (blocked ≡ true → Waiting (p.row s) h) → (blocked ≡ false → Going (p.row s) h) → IsReady p s h (not blocked)
 ready_of p s h true l waits goes = λ e. waits refl
 ready_of p s h false l waits goes = (l, goes refl)
-
--- a living thread can go on where it isn't blocked
-pub ready_by : {S : Type 0} (o : Option S) (p : Prog S) (s : S) (h : Heap) (blocked : Bool) → o ≡ Some s → p.life s ≡ Lives → (blocked ≡ true → Waiting (p.row s) h) → (blocked ≡ false → Going (p.row s) h)
-    → IfSome o (λ q. IsReady p q h (not blocked))
-ready_by o p s h blocked e l waits goes = subst (λ z. IfSome z (λ q. IsReady p q h (not blocked))) (sym e) (ready_of p s h blocked l waits goes)

@@ -1,5 +1,6 @@
 -- One step of a turn.
-use Rattle.std.proofs.Common.{◌≡◌, ◌≢◌, ◌⊎◌, inl, inr, ℕ, zero, suc, ◌≤◌, List, [], ◌∷◌, ◌++◌, Bool, true, false, Option, Some, None, take, slice_get, slice_set, refl, sym, ◌∙◌, ap, subst, arith, append-nil, append_assoc}
+use Rattle.std.proofs.Common.{◌≡◌, ◌≢◌, ◌⊎◌, inl, inr, ℕ, zero, suc, ◌≤◌, List, [], ◌∷◌, ◌++◌, Bool, true, false, Option, Some, None, take, slice_get, slice_set, refl, sym, ◌∙◌, ap, subst, arith, append-nil, append_assoc, length, ◌+◌, IfSome, Result, Ok, Err, OnOk}
+use Rattle.std.specs.Prelude.{IfErr}
 use Rattle.py_data.specs.declared.stop.Stop.{Stop}
 use Rattle.py_data.specs.declared.stop.Stop.TheVariants.{ReadFault as ReadStop, WriteFault as WriteStop, ErrFault as ErrStop, OutOfMemory as MemoryStop}
 use Rattle.py_data.specs.declared.stop.Out.TheVariants.{Output, ErrorOutput}
@@ -7,7 +8,7 @@ use Rattle.py_data.specs.Heap.{Heap}
 use Rattle.py_data.specs.Row.{Call, Reply, Row, Ret, Do, Read, Find, Edit, Make, Start, Put, Take, MidLine, SetMidLine}
 use Rattle.py_data.specs.Sense.{Sense, Bracket, Upto}
 use Rattle.py_data.specs.Sight.{Sight, Does, opened, pure}
-use Rattle.py_data.specs.World.{World, shrunk, grown}
+use Rattle.py_data.specs.World.{shrunk, grown}
 use Rattle.py_data.proofs.Mirror.{does_afresh}
 use Rattle.py_data.proofs.Whole.{stopped_at}
 use Rattle.stm_io.specs.Outside.{Rose}
@@ -15,13 +16,13 @@ use Rattle.lock_run.specs.declared.client.Outcome.{Outcome}
 use Rattle.lock_run.specs.declared.client.Outcome.TheVariants.{Waits as WaitsNow}
 use Rattle.lock_run.specs.declared.client.Life.TheVariants.{Lives}
 use Rattle.lock_run.specs.declared.turn.TurnWhy.{TurnWhy}
-use Rattle.lock_run.specs.declared.turn.TurnWhy.TheVariants.{Waits, OutOfMemory}
+use Rattle.lock_run.specs.declared.turn.TurnWhy.TheVariants.{Ended, Waits, OutOfMemory}
 use Rattle.lock_run.specs.Whys.{why_of_stop, memory_why}
 use Rattle.lock_run.specs.Prog.{Prog}
 use Rattle.lock_run.specs.Client.{Stepped, StepStopped, StaysSound, WaitsQuietly}
 use Rattle.lock_run.specs.PlainState.{PlainState, PlainRefuses, PlainOpens, PlainUndoes, NoName}
 use Rattle.lock_run.specs.Machine.{Machine, Step}
-use Rattle.lock_run.specs.Turns.{NoneFall, Calls, Front, CutIn, LeavesNothing, Begins, CutTold, Going}
+use Rattle.lock_run.specs.Turns.{NoneFall, Calls, Front, CutIn, LeavesNothing, Begins, CutTold, Going, LockState, StepGoes, StepCut}
 use Rattle.lock_run.proofs.Following.{IsPlain, Shows, grown_then, Keeps, run_shown, upto_shown, run_keeps, upto_keeps, run_upto, upto_none}
 
 -- lists of threads
@@ -34,6 +35,47 @@ pub set_set : {A : Type 0} (xs ys : List A) (t : ℕ) (x y z : A) → slice_get 
 set_set [] ys t x y z e = cc
 set_set (w ∷ ws) ys zero x y z e = refl
 set_set (w ∷ ws) ys (suc t) x y z e = ap (λ l. w ∷ l) (set_set ws ys t x y z e)
+
+-- a list whose front is set
+pub set_front : {A : Type 0} (xs ys : List A) (t : ℕ) (x y : A) → slice_get xs t ≡ Some x → slice_set (xs ++ ys) t y ≡ slice_set xs t y ++ ys
+set_front [] ys t x y e = cc
+set_front (z ∷ zs) ys zero x y e = refl
+set_front (z ∷ zs) ys (suc t) x y e = ap (λ l. z ∷ l) (set_front zs ys t x y e)
+
+-- what stands in a place is set there
+pub set_same : {A : Type 0} (xs : List A) (t : ℕ) (x : A) → slice_get xs t ≡ Some x → slice_set xs t x ≡ xs
+set_same [] t x e = cc
+set_same (y ∷ xs) zero x e = let q : x ≡ y = cc in ap (λ z. z ∷ xs) q
+set_same (y ∷ xs) (suc t) x e = ap (λ l. y ∷ l) (set_same xs t x e)
+
+-- what stands in a place stands there again, and nothing comes behind
+pub set_kept : {A : Type 0} (xs ys : List A) (t : ℕ) (x y : A) → slice_get xs t ≡ Some x → y ≡ x → ys ≡ [] → slice_set xs t y ++ ys ≡ xs
+set_kept xs ys t x y e same none = ap (λ l. slice_set xs t y ++ l) none ∙ append-nil (slice_set xs t y) ∙ ap (slice_set xs t) same ∙ set_same xs t x e
+
+-- a place of the front, and one behind it
+pub get_front : {A : Type 0} (xs ys : List A) (t : ℕ) (x : A) → slice_get xs t ≡ Some x → slice_get (xs ++ ys) t ≡ Some x
+get_front [] ys t x e = cc
+get_front (z ∷ zs) ys zero x e = e
+get_front (z ∷ zs) ys (suc t) x e = get_front zs ys t x e
+
+pub get_behind : {A : Type 0} (xs ys : List A) (t k : ℕ) (y : A) → t ≡ length xs + k → slice_get ys k ≡ Some y → slice_get (xs ++ ys) t ≡ Some y
+get_behind [] ys t k y e g = let f : t ≡ k = omega arith in ap (slice_get ys) f ∙ g
+get_behind (z ∷ zs) ys zero k y e g = absurd (omega arith)
+get_behind (z ∷ zs) ys (suc t) k y e g = get_behind zs ys t k y (omega arith) g
+
+pub if_some : {A : Type 0} (o : Option A) (x : A) (P : A → Type 0) → o ≡ Some x → IfSome o P → P x
+if_some o x P e h = subst (λ z. IfSome z P) e h
+
+pub some_is : {A : Type 0} (o : Option A) (x : A) (P : A → Type 0) → o ≡ Some x → P x → IfSome o P
+some_is o x P e h = subst (λ z. IfSome z P) (sym e) h
+
+pub ok_map : {T E : Type 0} (r : Result T E) (P Q : Type 0) → (P → Q) → OnOk r P → OnOk r Q
+ok_map (Ok x) P Q f h = f h
+ok_map (Err e) P Q f h = tt
+
+pub err_map : {T E : Type 0} (r : Result T E) (P Q : E → Type 0) → ((e : E) → P e → Q e) → IfErr r P → IfErr r Q
+err_map (Ok x) P Q f h = tt
+err_map (Err e) P Q f h = f e h
 
 pub shrunk_none : (i : Option (List ℕ)) → shrunk i 0 ≡ i
 shrunk_none None = refl
@@ -59,10 +101,10 @@ module _ {S : Type 0} (p : Prog S) (t k : ℕ) (names : List ℕ) (o e : Option 
       (record { heap = g.heap; made = g.made; started = sym (append-nil g.sight.started); input = g.input; out = g.out; err = g.err; mid = g.mid })
 
   -- the step was done
-  pub step_goes : {X : Type 0} (u : Sense S X) (b : Bracket S X) (D : X → PlainState S) (i : IsPlain u b D) (s s1 : S) (c : Outcome) (v w : X) (d1 : PlainState S)
-      → slice_get ts t ≡ Some s → p.life s ≡ Lives → D v ≡ d → Stepped u b (p.row s) v c s1 w → c ≢ WaitsNow → d1 ≡ record (D w) { started = d1.started }
-      → Going p t (suc k) names o e m d0 d1 (slice_set (ts ++ (D w).started) t s1)
-  step_goes u b D i s s1 c v w d1 gs ls dv st nw ed =
+  pub step_goes : {X : Type 0} (u : Sense S X) (b : Bracket S X) (D : X → PlainState S) (i : IsPlain u b D) (s s1 : S) (c : Outcome) (v w : X)
+      → slice_get ts t ≡ Some s → p.life s ≡ Lives → D v ≡ d → Stepped u b (p.row s) v c s1 w → c ≢ WaitsNow
+      → Going p t (suc k) names o e m d0 (D w) (slice_set ts t s1 ++ (D w).started)
+  step_goes u b D i s s1 c v w gs ls dv st nw =
       let es = state_is s gs in
       let v1 = st.0 in
       let op : D v1 ≡ state_opened d = i.opens v v1 st.1 ∙ ap state_opened dv in
@@ -81,20 +123,21 @@ module _ {S : Type 0} (p : Prog S) (t k : ℕ) (names : List ℕ) (o e : Option 
         sight = y;
         is = g.is;
         steps = (g.after, g.sight, g.steps, one);
-        heap = sh.heap ∙ sym (ap (λ z. z.heap) ed);
-        made = sh.made ∙ sym (ap (λ z. z.made) ed);
-        input = sh.input ∙ sym (ap (λ z. z.input) ed);
-        out = ap (λ z. z.out) ed ∙ sh.out;
-        err = ap (λ z. z.err) ed ∙ sh.err;
-        mid = sh.mid ∙ sym (ap (λ z. z.mid) ed);
-        threads = ap (λ l. slice_set (l ++ (D w).started) t s1) g.threads
+        heap = sh.heap;
+        made = sh.made;
+        input = sh.input;
+        out = sh.out;
+        err = sh.err;
+        mid = sh.mid;
+        threads = sym (set_front ts (D w).started t s s1 gs)
+            ∙ ap (λ l. slice_set (l ++ (D w).started) t s1) g.threads
             ∙ ap (λ l. slice_set l t s1) (append_assoc (slice_set m.threads t g.after) g.sight.started (D w).started)
             ∙ set_set m.threads (g.sight.started ++ (D w).started) t g.before g.after s1 g.is
             ∙ ap (λ l. slice_set m.threads t s1 ++ l) (sym sh.started);
-        named = λ f. ap (λ z. z.made ++ z.left) ed ∙ kp.names (ap (λ z. z.free) op ∙ sym free ∙ sym (ap (λ z. z.free) ed) ∙ f) ∙ ap (λ z. z.made ++ z.left) op ∙ g.named (sym free ∙ sym (ap (λ z. z.free) ed) ∙ f);
-        reads = let x = g.reads in let q : d1.reads ≡ (D w).reads = ap (λ z. z.reads) ed in omega arith;
-        writes = let x = g.writes in let q : d1.writes ≡ (D w).writes = ap (λ z. z.writes) ed in omega arith;
-        errs = let x = g.errs in let q : d1.errs ≡ (D w).errs = ap (λ z. z.errs) ed in omega arith;
+        named = λ f. kp.names (ap (λ z. z.free) op ∙ sym free ∙ f) ∙ ap (λ z. z.made ++ z.left) op ∙ g.named (sym free ∙ f);
+        reads = let x = g.reads in omega arith;
+        writes = let x = g.writes in omega arith;
+        errs = let x = g.errs in omega arith;
       }
 
   -- nothing of the next step was done
@@ -128,6 +171,13 @@ module _ {S : Type 0} (p : Prog S) (t k : ℕ) (names : List ℕ) (o e : Option 
   -- the names that were given are the first of those planned
   pub begins_here : d.free ≡ false → Begins g.sight.made names
   begins_here f = (d.left, ap (λ l. l ++ d.left) g.made ∙ g.named f)
+
+  -- the next step isn't done: for want of memory, or since the thread has ended
+  pub starved_here : CutTold p t k names o e m d0 d ts OutOfMemory
+  starved_here = (cut_here, sym g.made, tt, begins_here)
+
+  pub ended_here : (s : S) → slice_get ts t ≡ Some s → p.life s ≢ Lives → CutTold p t k names o e m d0 d ts Ended
+  ended_here s h dead = (cut_here, sym g.made, (λ l. dead (ap p.life (state_is s h) ∙ l), nothing_here), begins_here)
 
   -- a part of the next step was done and taken back: x is the state at that place, and w the state after the call that was cut
   abbrev pub cut_part : (left : Row S (Outcome × S)) (y : Sight S) (x w d1 : PlainState S) (more more_err : List ℕ) (taken : ℕ)
@@ -260,59 +310,97 @@ module _ {S : Type 0} (p : Prog S) (t k : ℕ) (names : List ℕ) (o e : Option 
             refused r.0 r.1 sh.0 (D at.place) (D w1) (D w) lv c (subst (λ (q : Row S (Outcome × S)). Upto pure (p.row g.after) g.sight q sh.0) r.2 up) sh.2 kp (i.refuses r.0 at.place c w1 r.3) un
       ]
 
-  -- the step ran whole and was taken back
-  pub step_whole : {X : Type 0} (u : Sense S X) (b : Bracket S X) (D : X → PlainState S) (i : IsPlain u b D) (s s1 : S) (c : Outcome) (v w : X) (d1 : PlainState S)
-      → slice_get ts t ≡ Some s → p.life s ≡ Lives → D v ≡ d → Stepped u b (p.row s) v c s1 w → (w1 : PlainState S) → w1 ≡ record (D w) { started = w1.started } → PlainUndoes w1 d1
-      → Told d1 OutOfMemory × ((WaitsQuietly p) → c ≡ WaitsNow → Told d1 Waits)
-  step_whole u b D i s s1 c v w d1 gs ls dv st w1 ew un =
+  -- the step waits, and was taken back
+  pub step_waits : {X : Type 0} (u : Sense S X) (b : Bracket S X) (D : X → PlainState S) (i : IsPlain u b D) (s s1 : S) (c : Outcome) (v w : X) (d1 : PlainState S)
+      → slice_get ts t ≡ Some s → p.life s ≡ Lives → D v ≡ d → Stepped u b (p.row s) v c s1 w → PlainUndoes (D w) d1 → WaitsQuietly p → c ≡ WaitsNow → Told d1 Waits
+  step_waits u b D i s s1 c v w d1 gs ls dv st un quiet ec =
       let es = state_is s gs in
       let v1 = st.0 in
       let op : D v1 ≡ state_opened d = i.opens v v1 st.1 ∙ ap state_opened dv in
       let r = run_shown u b D i o e g.sight.started (p.row s) v1 (c, s1) w g.sight st.2 (going_shows (D v1) op) in
       let kp : Keeps (state_opened d) (D w) = subst (λ (z : PlainState S). Keeps z (D w)) op (run_keeps u b D i (p.row s) v1 (c, s1) w st.2) in
       let dd : Does (p.row g.after) g.sight (c, s1) r.0 = subst (λ (q : S). Does (p.row q) g.sight (c, s1) r.0) es r.1 in
+      let dw : Does (p.row g.after) g.sight (WaitsNow, s1) r.0 = subst (λ (q : Outcome). Does (p.row g.after) g.sight (q, s1) r.0) ec dd in
       let lv : p.life g.after ≡ Lives = subst (λ (q : S). p.life q ≡ Lives) es ls in
-      let cut : CutIn p t k o e m d1 ts = cut_part (Ret (c, s1)) r.0 (D w) w1 d1 [] [] 0 (run_upto pure (p.row g.after) g.sight (c, s1) r.0 dd) r.2 kp (ap (λ z. z.base) ew) (ap (λ z. z.was_mid) ew)
-      (ap (λ z. z.out) ew ∙ sym (grown_none (D w).out)) (ap (λ z. z.err) ew ∙ sym (grown_none (D w).err)) (ap (λ z. z.input) ew ∙ sym (shrunk_none (D w).input)) un (inl refl) (inl refl) (inl refl) in
-      let made = made_part (D w) w1 d1 (ap (λ z. z.kept) ew) kp un in
-      let along = begins_part (D w) w1 d1 (ap (λ z. z.free) ew) kp un in (
-        (cut, made, tt, along),
-        λ quiet ec.
-            let dw : Does (p.row g.after) g.sight (WaitsNow, s1) r.0 = subst (λ (q : Outcome). Does (p.row g.after) g.sight (q, s1) r.0) ec dd in (
-              cut_part (Ret (c, s1)) r.0 (D w) w1 d1 [] [] 0 (run_upto pure (p.row g.after) g.sight (c, s1) r.0 dd) r.2 kp (ap (λ z. z.base) ew) (ap (λ z. z.was_mid) ew)
-                  (ap (λ z. z.out) ew ∙ sym (grown_none (D w).out)) (ap (λ z. z.err) ew ∙ sym (grown_none (D w).err)) (ap (λ z. z.input) ew ∙ sym (shrunk_none (D w).input)) un (inl refl) (inl refl) (inl refl),
-              made,
-              (lv, record { world = (quiet g.after s1 g.sight r.0 dw).1.world; more = refl; more_err = refl; taken = refl }, s1, dw, (quiet g.after s1 g.sight r.0 dw).1),
-              along,
-            ),
+      let still = (quiet g.after s1 g.sight r.0 dw).1 in (
+        cut_part (Ret (c, s1)) r.0 (D w) (D w) d1 [] [] 0 (run_upto pure (p.row g.after) g.sight (c, s1) r.0 dd) r.2 kp refl refl
+            (sym (grown_none (D w).out)) (sym (grown_none (D w).err)) (sym (shrunk_none (D w).input)) un (inl refl) (inl refl) (inl refl),
+        made_part (D w) (D w) d1 refl kp un,
+        (lv, record { world = still.world; more = refl; more_err = refl; taken = refl }, s1, dw, still),
+        begins_part (D w) (D w) d1 refl kp un,
       )
+
+-- started threads that have moved to the others
+pub going_moved : {S : Type 0} (p : Prog S) (t k : ℕ) (names : List ℕ) (o e : Option (List ℕ)) (m : Machine S) (d0 d d1 : PlainState S) (ts ts1 : List S)
+    → d1 ≡ record d { started = d1.started } → ts1 ≡ ts → Going p t k names o e m d0 d ts → Going p t k names o e m d0 d1 ts1
+going_moved p t k names o e m d0 d d1 ts ts1 ed el g = record {
+  before = g.before;
+  after = g.after;
+  sight = g.sight;
+  is = g.is;
+  steps = g.steps;
+  heap = g.heap ∙ sym (ap (λ z. z.heap) ed);
+  made = g.made ∙ sym (ap (λ z. z.made) ed);
+  input = g.input ∙ sym (ap (λ z. z.input) ed);
+  out = ap (λ z. z.out) ed ∙ g.out;
+  err = ap (λ z. z.err) ed ∙ g.err;
+  mid = g.mid ∙ sym (ap (λ z. z.mid) ed);
+  threads = el ∙ g.threads;
+  named = λ f. ap (λ z. z.made ++ z.left) ed ∙ g.named (sym (ap (λ z. z.free) ed) ∙ f);
+  reads = let x = g.reads in let q : d1.reads ≡ d.reads = ap (λ z. z.reads) ed in omega arith;
+  writes = let x = g.writes in let q : d1.writes ≡ d.writes = ap (λ z. z.writes) ed in omega arith;
+  errs = let x = g.errs in let q : d1.errs ≡ d.errs = ap (λ z. z.errs) ed in omega arith;
+}
+
+pub goes_moved : {S : Type 0} (p : Prog S) (t : ℕ) (a m b : LockState S) → m.view ≡ record a.view { started = m.view.started } → m.threads ≡ a.threads → StepGoes p t m b → StepGoes p t a b
+goes_moved p t a m b ev et f = λ k names o e q d0 go. f k names o e q d0 (going_moved p t k names o e q d0 a.view m.view a.threads m.threads ev et go)
+
+pub cut_moved : {S : Type 0} (p : Prog S) (t : ℕ) (why : TurnWhy) (a m b : LockState S) → m.view ≡ record a.view { started = m.view.started } → m.threads ≡ a.threads → StepCut p t why m b → StepCut p t why a b
+cut_moved p t why a m b ev et f = λ k names o e q d0 go. f k names o e q d0 (going_moved p t k names o e q d0 a.view m.view a.threads m.threads ev et go)
+
+-- the sight of a thread that begins over a view
+abbrev sight_of : {S : Type 0} → PlainState S → Sight S
+sight_of {S} d = record (opened S d.heap (record { input = d.input; out = []; err = []; mid = d.mid })) { made = d.made }
+
+-- a step over a plain view is one by its meaning
+step_does : {S X : Type 0} (p : Prog S) (u : Sense S X) (b : Bracket S X) (D : X → PlainState S) (i : IsPlain u b D) (s s1 : S) (c : Outcome) (v w : X)
+    → Stepped u b (p.row s) v c s1 w → (y : Sight S) × Does (p.row s) (sight_of (D v)) (c, s1) y × Shows (D v).out (D v).err [] (D w) y
+step_does {S} p u b D i s s1 c v w st =
+    let d = D v in
+    let v1 = st.0 in
+    let op : D v1 ≡ state_opened d = i.opens v v1 st.1 in
+    let sh : Shows d.out d.err [] (D v1) (sight_of d) = subst (λ (z : PlainState S). Shows d.out d.err [] z (sight_of d)) (sym op)
+    (record { heap = refl; made = refl; started = refl; input = refl; out = sym (grown_none d.out); err = sym (grown_none d.err); mid = refl }) in
+    run_shown u b D i d.out d.err [] (p.row s) v1 (c, s1) w (sight_of d) st.2 sh
+
+-- a step that waits leaves the state
+pub state_waits : {S X : Type 0} (p : Prog S) (quiet : WaitsQuietly p) (u : Sense S X) (b : Bracket S X) (D : X → PlainState S) (i : IsPlain u b D) (s s1 : S) (c : Outcome) (v w : X)
+    → Stepped u b (p.row s) v c s1 w → c ≡ WaitsNow → s1 ≡ s
+state_waits p quiet u b D i s s1 c v w st ec =
+    let r = step_does p u b D i s s1 c v w st in
+    (quiet s s1 (sight_of (D v)) r.0 (subst (λ (q : Outcome). Does (p.row s) (sight_of (D v)) (q, s1) r.0) ec r.1)).0
 
 -- a step leaves a sound list of threads
 pub sound_after : {S X : Type 0} (p : Prog S) (sound : Heap → List S → Type 0) (law : StaysSound p sound) (u : Sense S X) (b : Bracket S X) (D : X → PlainState S) (i : IsPlain u b D)
     (ts : List S) (t : ℕ) (s s1 : S) (c : Outcome) (v w : X) → sound (D v).heap ts → slice_get ts t ≡ Some s → p.life s ≡ Lives → Stepped u b (p.row s) v c s1 w
-    → sound (D w).heap (slice_set (ts ++ (D w).started) t s1)
+    → sound (D w).heap (slice_set ts t s1 ++ (D w).started)
 sound_after {S} p sound law u b D i ts t s s1 c v w so gs ls st =
     let d = D v in
-    let v1 = st.0 in
-    let op : D v1 ≡ state_opened d = i.opens v v1 st.1 in
-    let world : World = record { input = d.input; out = []; err = []; mid = d.mid } in
-    let x : Sight S = record (opened S d.heap world) { made = d.made } in
-    let sh : Shows d.out d.err [] (D v1) x = subst (λ (z : PlainState S). Shows d.out d.err [] z x) (sym op)
-    (record { heap = refl; made = refl; started = refl; input = refl; out = sym (grown_none d.out); err = sym (grown_none d.err); mid = refl }) in
-    let r = run_shown u b D i d.out d.err [] (p.row s) v1 (c, s1) w x st.2 sh in
-    let a = does_afresh (p.row s) x r.0 (c, s1) r.1 in
+    let r = step_does p u b D i s s1 c v w st in
+    let a = does_afresh (p.row s) (sight_of d) r.0 (c, s1) r.1 in
     let y = a.0 in
     let f = a.1 in
     let hy : y.heap ≡ (D w).heap = (λ i q. f.heap q i) ∙ r.2.heap in
     let sy : y.started ≡ (D w).started = sym f.started ∙ r.2.started in
-    subst (λ (h : Heap). sound h (slice_set (ts ++ (D w).started) t s1)) hy
-    (subst (λ (l : List S). sound y.heap (slice_set (ts ++ l) t s1)) sy (law ts t s d.heap world c s1 y so gs ls f.does))
+    subst (λ l. sound (D w).heap l) (set_front ts (D w).started t s s1 gs)
+    (subst (λ (h : Heap). sound h (slice_set (ts ++ (D w).started) t s1)) hy
+    (subst (λ (l : List S). sound y.heap (slice_set (ts ++ l) t s1)) sy (law ts t s d.heap (record { input = d.input; out = []; err = []; mid = d.mid }) c s1 y so gs ls f.does)))
 
 -- what is taken back is as before
-pub undone_run : {S X : Type 0} (p : Prog S) (u : Sense S X) (b : Bracket S X) (D : X → PlainState S) (i : IsPlain u b D) (s s1 : S) (c : Outcome) (v w : X) (w1 d1 : PlainState S)
-    → Stepped u b (p.row s) v c s1 w → w1 ≡ record (D w) { started = w1.started } → PlainUndoes w1 d1 → d1.heap ≡ (D v).heap
-undone_run p u b D i s s1 c v w w1 d1 st ew un =
-    ap (λ z. z.heap) un ∙ ap (λ z. z.base) ew ∙ (run_keeps u b D i (p.row s) st.0 (c, s1) w st.2).base ∙ ap (λ z. z.base) (i.opens v st.0 st.1)
+pub undone_run : {S X : Type 0} (p : Prog S) (u : Sense S X) (b : Bracket S X) (D : X → PlainState S) (i : IsPlain u b D) (s s1 : S) (c : Outcome) (v w : X) (d1 : PlainState S)
+    → Stepped u b (p.row s) v c s1 w → PlainUndoes (D w) d1 → d1.heap ≡ (D v).heap
+undone_run p u b D i s s1 c v w d1 st un =
+    ap (λ z. z.heap) un ∙ (run_keeps u b D i (p.row s) st.0 (c, s1) w st.2).base ∙ ap (λ z. z.base) (i.opens v st.0 st.1)
 
 pub undone_stop : {S X : Type 0} (p : Prog S) (u : Sense S X) (b : Bracket S X) (D : X → PlainState S) (i : IsPlain u b D) (s : S) (c : Stop) (v w : X)
     → StepStopped u b (p.row s) v c w → (D w).heap ≡ (D v).heap
@@ -321,6 +409,10 @@ undone_stop p u b D i s c v w st =
     let kp = upto_keeps u b D i (p.row s) at.left st.0 at.place at.upto in
     let base : (D st.1).base ≡ (D at.place).base = elim at.why [ inl own ↦ ap (λ z. (D z).base) own.1 | inr r ↦ (i.refuses r.0 at.place c st.1 r.3).0.base ] in
     ap (λ z. z.heap) (i.undoes st.1 w st.4) ∙ base ∙ kp.base ∙ ap (λ z. z.base) (i.opens v st.0 st.2)
+
+-- no thread was started by a step that was taken back
+pub started_undone : {S X : Type 0} (p : Prog S) (u : Sense S X) (b : Bracket S X) (D : X → PlainState S) (i : IsPlain u b D) (s : S) (c : Stop) (v w : X) → StepStopped u b (p.row s) v c w → (D w).started ≡ []
+started_undone p u b D i s c v w st = ap (λ z. z.started) (i.undoes st.1 w st.4)
 
 pub free_run : {S X : Type 0} (p : Prog S) (u : Sense S X) (b : Bracket S X) (D : X → PlainState S) (i : IsPlain u b D) (s s1 : S) (c : Outcome) (v w : X) → Stepped u b (p.row s) v c s1 w → (D w).free ≡ (D v).free
 free_run p u b D i s s1 c v w st = (run_keeps u b D i (p.row s) st.0 (c, s1) w st.2).free ∙ ap (λ z. z.free) (i.opens v st.0 st.1)

@@ -1,8 +1,7 @@
 -- A journal of the changes of a step, by which they are taken back. States `docs/HEAP.md`, "The plain view".
-use Rattle.std.specs.Prelude.{◌≡◌, ℕ, ◌*◌, ◌+◌, List, [], ◌∷◌, length, Option, Some, None, option_map, cond, eqb}
+use Rattle.std.specs.Prelude.{◌≡◌, ℕ, List, [], ◌∷◌, Option, Some, None, option_map, cond, eqb}
 use Rattle.std.specs.Coded.{×_prop, Unit-prop, le_prop}
 use Rattle.py_data.specs.declared.change.Change.{Change}
-use Rattle.py_data.specs.declared.record.TheConstants.{LENGTH_LIMIT}
 use Rattle.py_data.specs.declared.undo.Undo.{Undo}
 use Rattle.py_data.specs.declared.undo.Undo.TheVariants.{Put, Shorten, Extend, Insert}
 use Rattle.py_data.specs.Heap.{Rec, Heap, put_at}

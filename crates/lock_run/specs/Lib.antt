@@ -1,6 +1,7 @@
 pub mod Journal
 pub mod Space
 pub mod Given
+pub mod Threads
 pub mod PlainState
 pub mod PlainSense
 pub mod PlainLaws

@@ -1,5 +1,5 @@
 -- What a LockRun holds, as values. States `docs/HEAP.md`, "The one-lock machine".
-use Rattle.std.specs.Prelude.{◌≡◌, ℕ, List, [], Option, Bool, true, false}
+use Rattle.std.specs.Prelude.{◌≡◌, ℕ, List, [], ◌++◌, Option, Bool, true, false}
 use Rattle.py_data.specs.Heap.{Heap}
 use Rattle.py_data.specs.World.{World}
 use Rattle.stm_io.specs.Outside.{SourceState, SinkState}
@@ -10,9 +10,13 @@ use Rattle.lock_run.specs.Client.{Going, Waiting}
 use Rattle.lock_run.specs.PlainSense.{plain_state}
 use Rattle.lock_run.specs.Turns.{LockState}
 
--- the view and the threads of a LockRun
+-- the view of a LockRun, and its threads: those that its last step started come last, and the view has them still
 abbrev pub lock_state : {C S I O E : Type 0} → (I → SourceState) → (O → SinkState) → (E → SinkState) → LockRun C I O E S → LockState S
-lock_state input out err run = record { view = plain_state input out err run.view; threads = run.threads }
+lock_state input out err run = record { view = plain_state input out err run.view; threads = run.threads ++ run.view.started }
+
+-- what a LockRun holds where no thread was started that hasn't moved to the others
+abbrev pub moved_state : {C S I O E : Type 0} → (I → SourceState) → (O → SinkState) → (E → SinkState) → LockRun C I O E S → LockState S
+moved_state input out err run = record { view = plain_state input out err run.view; threads = run.threads }
 
 -- its client
 abbrev pub lock_client : {C S I O E : Type 0} → LockRun C I O E S → C

@@ -64,9 +64,10 @@ fn ends_turn(cut: Cut) -> bool
 
 /// Threads of a client that take turns over one heap: the interpreter under one global lock.
 ///
-/// Contracts see of it a `LockState`: what its view holds, and the states of its threads (`specs/Turns.antt`). Each step
-/// copies the thread's state first, so that a step that is cut leaves it as it was. After a turn that was cut the machine
-/// can be used on: it shows what the steps that stay left, but for what the step that was cut wrote and took.
+/// Contracts see of it a `LockState`: what its view holds, and the states of its threads (`specs/Turns.antt`). A step changes
+/// the thread's state in its place, and nothing can fail after it: the threads that it started stay with the view until the
+/// next step begins. After a turn that was cut the machine can be used on: it shows what the steps that stay left, but for
+/// what the step that was cut wrote and took.
 #[derive(Drop)]
 pub struct LockRun<'p, C: Client, I, O, E> {
     alloc: Global,
@@ -79,7 +80,8 @@ impl<'p, C: Client, I: Source, O: Sink, E: Sink> LockRun<'p, C, I, O, E> {
     ghost use Rattle.std.specs.Prelude.{◌≡◌, ◌<◌, ◌≤◌, ◌≢◌, OnOk, OnErr, IfOk, IfErr, IfSome, slice_get, length, drop, [], ◌∷◌, None, Some};
     ghost use Rattle.py_data.specs.Collection.{places};
     ghost use Rattle.lock_run.specs.declared.client.Life.TheVariants.{Lives};
-    ghost use Rattle.lock_run.specs.LockState.{lock_state, lock_client, IsSound, IsReady, first_world, HasDevices};
+    ghost use Rattle.lock_run.specs.LockState.{lock_state, moved_state, lock_client, IsSound, IsReady, first_world, HasDevices};
+    ghost use Rattle.lock_run.specs.Client.{Standing};
     ghost use Rattle.lock_run.specs.Machine.{begin_with};
     ghost use Rattle.lock_run.specs.Turns.{NoneFall, Stands, TurnDone, TurnCut, FreeDone, FreeCut, StepGoes, StepCut, Reach, ReachCut};
 
@@ -101,8 +103,9 @@ impl<'p, C: Client, I: Source, O: Sink, E: Sink> LockRun<'p, C, I, O, E> {
             Ok(first) => first,
             Err(failed) => return Err((failed, input, out, err)),
         };
-        match Threads::new(alloc, first) {
-            Ok(threads) => Ok(LockRun {
+        let mut threads = Threads::new(alloc);
+        match threads.push(first) {
+            Ok(()) => Ok(LockRun {
                 alloc,
                 client,
                 threads,
@@ -116,7 +119,7 @@ impl<'p, C: Client, I: Source, O: Sink, E: Sink> LockRun<'p, C, I, O, E> {
     pub fn threads(&self) -> u32
         ensures { result ≡ length (lock_state I.state O.state E.state self.now).threads }
     {
-        self.threads.len()
+        self.threads.len() + self.view.started().len()
     }
 
     /// Whether a thread lives, and how it ended.
@@ -124,7 +127,12 @@ impl<'p, C: Client, I: Source, O: Sink, E: Sink> LockRun<'p, C, I, O, E> {
         requires { t < length (lock_state I.state O.state E.state self.now).threads }
         ensures { IfSome (slice_get (lock_state I.state O.state E.state self.now).threads t) (λ s. result ≡ (C.prog (lock_client self.now)).life s) }
     {
-        self.client.life(self.threads.at(t))
+        let moved = self.threads.len();
+        if t < moved {
+            self.client.life(self.threads.at(t))
+        } else {
+            self.client.life(self.view.started().at(t - moved))
+        }
     }
 
     /// The thread lives, and its next step wouldn't wait. It asks the client over the heap, and takes no memory.
@@ -133,62 +141,69 @@ impl<'p, C: Client, I: Source, O: Sink, E: Sink> LockRun<'p, C, I, O, E> {
         requires sound { IsSound (C.sound (lock_client self.now)) (lock_state I.state O.state E.state self.now) }
         ensures { IfSome (slice_get (lock_state I.state O.state E.state self.now).threads t) (λ s. IsReady (C.prog (lock_client self.now)) s (lock_state I.state O.state E.state self.now).view.heap result) }
     {
-        let s = self.threads.at(t);
+        let moved = self.threads.len();
+        if t < moved {
+            self.can_go(self.threads.at(t))
+        } else {
+            self.can_go(self.view.started().at(t - moved))
+        }
+    }
+
+    /// A thread of this state lives, and its next step wouldn't wait.
+    fn can_go(&self, s: &C::State) -> bool
+        requires { Standing (C.sound self.now.client.now (lock_state I.state O.state E.state self.now).view.heap) s.now }
+        ensures { IsReady (C.prog self.now.client.now) s.now (lock_state I.state O.state E.state self.now).view.heap result }
+    {
         match self.client.life(s) {
             Life::Lives => !self.client.blocked(s, &self.view),
             _ => false,
         }
     }
 
-    /// A copy of the state of a thread that lives.
-    fn pick(&self, t: u32) -> Result<C::State, TurnWhy>
-        requires { t < length self.now.threads }
-        ensures ok { IfOk result (λ s. slice_get self.now.threads t ≡ Some s) }
-        ensures lives { IfOk result (λ s. (C.prog self.now.client.now).life s ≡ Lives) }
-        ensures why { IfErr result (λ w. StepCut (C.prog self.now.client.now) t w (lock_state I.state O.state E.state self.now) (lock_state I.state O.state E.state self.now)) }
-    {
-        let s = self.threads.at(t);
-        match self.client.life(s) {
-            Life::Lives => match self.client.copy(self.alloc, s) {
-                Ok(s) => Ok(s),
-                Err(_) => Err(TurnWhy::OutOfMemory),
-            },
-            _ => Err(TurnWhy::Ended),
-        }
-    }
-
     /// One step of a thread.
     fn step_one(&mut self, t: u32) -> Result<(), TurnWhy>
-        requires there { t < length self.old.threads }
+        requires there { t < length (lock_state I.state O.state E.state self.old).threads }
         requires sound { IsSound (C.sound self.old.client.now) (lock_state I.state O.state E.state self.old) }
         ensures sound { IsSound (C.sound self.new.client.now) (lock_state I.state O.state E.state self.new) }
         ensures client { self.new.client ≡ self.old.client }
         ensures free { self.new.view.free ≡ self.old.view.free }
-        ensures there { t < length self.new.threads }
+        ensures there { t < length (lock_state I.state O.state E.state self.new).threads }
         ensures counts { NoneFall (lock_state I.state O.state E.state self.old).view (lock_state I.state O.state E.state self.new).view }
         ensures done { OnOk result (StepGoes (C.prog self.old.client.now) t (lock_state I.state O.state E.state self.old) (lock_state I.state O.state E.state self.new)) }
         ensures cut { IfErr result (λ w. StepCut (C.prog self.old.client.now) t w (lock_state I.state O.state E.state self.old) (lock_state I.state O.state E.state self.new)) }
     {
-        let mut s = match self.pick(t) {
-            Ok(s) => s,
-            Err(why) => return Err(why),
-        };
-        match self.client.step(self.alloc, &mut s, &mut self.view) {
+        match self.view.move_started(&mut self.threads) {
+            Ok(()) => (),
+            Err(_) => return Err(TurnWhy::OutOfMemory),
+        }
+        match self.client.life(self.threads.at(t)) {
+            Life::Lives => self.step_living(t),
+            _ => Err(TurnWhy::Ended),
+        }
+    }
+
+    /// One step of a thread that lives, where all started threads have moved. At a Stop, and where it waits, its state is as
+    /// before.
+    fn step_living(&mut self, t: u32) -> Result<(), TurnWhy>
+        requires there { t < length self.old.threads }
+        requires lives { IfSome (slice_get self.old.threads t) (λ s. (C.prog self.old.client.now).life s ≡ Lives) }
+        requires sound { IsSound (C.sound self.old.client.now) (moved_state I.state O.state E.state self.old) }
+        ensures sound { IsSound (C.sound self.new.client.now) (lock_state I.state O.state E.state self.new) }
+        ensures client { self.new.client ≡ self.old.client }
+        ensures free { self.new.view.free ≡ self.old.view.free }
+        ensures there { t < length (lock_state I.state O.state E.state self.new).threads }
+        ensures counts { NoneFall (moved_state I.state O.state E.state self.old).view (lock_state I.state O.state E.state self.new).view }
+        ensures done { OnOk result (StepGoes (C.prog self.old.client.now) t (moved_state I.state O.state E.state self.old) (lock_state I.state O.state E.state self.new)) }
+        ensures cut { IfErr result (λ w. StepCut (C.prog self.old.client.now) t w (moved_state I.state O.state E.state self.old) (lock_state I.state O.state E.state self.new)) }
+    {
+        let s = self.threads.at_mut(t);
+        match self.client.step(self.alloc, s, &mut self.view) {
             Ok(outcome) => {
                 if is_wait(outcome) {
                     self.view.undo_step();
                     return Err(TurnWhy::Waits);
                 }
-                match self.view.move_started(&mut self.threads) {
-                    Ok(()) => {
-                        self.threads.set(t, s);
-                        Ok(())
-                    }
-                    Err(_) => {
-                        self.view.undo_step();
-                        Err(TurnWhy::OutOfMemory)
-                    }
-                }
+                Ok(())
             }
             Err(stop) => Err(why_of(stop, self.view.is_bad())),
         }
@@ -196,7 +211,7 @@ impl<'p, C: Client, I: Source, O: Sink, E: Sink> LockRun<'p, C, I, O, E> {
 
     /// So many steps of a thread.
     fn go(&mut self, t: u32, steps: u64) -> Result<(), Cut>
-        requires there { t < length self.old.threads }
+        requires there { t < length (lock_state I.state O.state E.state self.old).threads }
         requires sound { IsSound (C.sound self.old.client.now) (lock_state I.state O.state E.state self.old) }
         ensures sound { IsSound (C.sound self.new.client.now) (lock_state I.state O.state E.state self.new) }
         ensures client { self.new.client ≡ self.old.client }
@@ -229,7 +244,7 @@ impl<'p, C: Client, I: Source, O: Sink, E: Sink> LockRun<'p, C, I, O, E> {
             (lock_state I.state O.state E.state self.old) (lock_state I.state O.state E.state self.new)) }
         ensures names { IfErr result (λ f. f.names ≡ []) }
     {
-        if thread >= self.threads.len() {
+        if thread >= self.threads() {
             return Err(TurnFault {
                 done: 0,
                 names: Names::new(self.alloc),
@@ -280,7 +295,7 @@ impl<'p, C: Client, I: Source, O: Sink, E: Sink> LockRun<'p, C, I, O, E> {
         ensures cut { IfErr result (λ f. FreeCut (C.prog (lock_client self.old)) thread most f.done (places f.names) f.why
             (lock_state I.state O.state E.state self.old) (lock_state I.state O.state E.state self.new)) }
     {
-        if thread >= self.threads.len() {
+        if thread >= self.threads() {
             return Err(TurnFault {
                 done: 0,
                 names: Names::new(self.alloc),

@@ -26,7 +26,7 @@ pub struct PlainView<S, I, O, E> {
     free: bool,
     fresh: u32,
     bad: bool,
-    started: Vec<S>,
+    started: Threads<S>,
     stopped: Option<Stop>,
     mid: bool,
     was_mid: bool,
@@ -48,6 +48,7 @@ impl<S: Drop, I: Source, O: Sink, E: Sink> PlainView<S, I, O, E> {
     pub fn new(alloc: Global, input: I, output: O, errors: E) -> Self
         ensures heap { space_heap result.space ≡ (λ _. None) }
         ensures live { result.stopped ≡ None }
+        ensures started { result.started ≡ [] }
         ensures mid { result.mid ≡ false }
         ensures devices { (result.input ≡ input) × (result.output ≡ output) × (result.errors ≡ errors) }
     {
@@ -61,7 +62,7 @@ impl<S: Drop, I: Source, O: Sink, E: Sink> PlainView<S, I, O, E> {
             free: true,
             fresh: 0,
             bad: false,
-            started: Vec::new(alloc),
+            started: Threads::new(alloc),
             stopped: None,
             mid: false,
             was_mid: false,
@@ -80,10 +81,17 @@ impl<S: Drop, I: Source, O: Sink, E: Sink> PlainView<S, I, O, E> {
         stop
     }
 
-    /// Moves the states that the step started to the end of the threads.
+    /// The threads that the step started.
+    pub fn started(&self) -> &Threads<S>
+        ensures { result.now ≡ self.now.started }
+    {
+        &self.started
+    }
+
+    /// Moves the threads that the step started to the end of others. At want of memory all stay where they are.
     pub fn move_started(&mut self, to: &mut Threads<S>) -> Result<(), NoMemory>
-        ensures ok { OnOk result (to.new ≡ to.old ++ self.old.started.items) }
-        ensures err { OnErr result (to.new ≡ to.old) }
+        ensures ok { OnOk result ((to.new ≡ to.old ++ self.old.started) × (self.new.started ≡ [])) }
+        ensures err { OnErr result ((to.new ≡ to.old) × (self.new.started ≡ self.old.started)) }
         ensures rest { self.new ≡ record self.old { started = self.new.started } }
     {
         to.append(&mut self.started)

@@ -1,12 +1,16 @@
-//! The states of the threads, in the order of their numbers.
-ghost use Rattle.std.specs.Prelude.{◌≡◌, ◌<◌, ◌++◌, [], ◌∷◌, length, slice_get, slice_set, IfOk, OnErr, OnOk};
+//! The states of threads, in the order of their numbers.
+ghost use Rattle.std.specs.Prelude.{◌≡◌, ◌<◌, ◌^◌, ◌++◌, [], ◌∷◌, length, slice_get, OnErr, OnOk, Some};
+ghost use Rattle.std.specs.Borrow.{sem};
 
 use py_data::NoMemory;
 use std::alloc::{AllocError, Global};
 use std::marker::Model;
 
-/// The states of a machine's threads. Threads have numbers of 32 bits, so there is no place for 2^32 of them: starting one
-/// more is want of memory.
+/// The most threads of one list.
+const MOST: usize = 2_147_483_647;
+
+/// States of threads. A machine has two such lists, the second of those threads that its last step started, and its threads
+/// have numbers of 32 bits: so in one list there is no place for 2^31 of them, and starting one more is want of memory.
 #[derive(Drop)]
 pub struct Threads<S> {
     states: Vec<S>,
@@ -19,22 +23,25 @@ impl<S> Model for Threads<S> {
 
     ghost view = { λ a. a.states.items };
 
-    ghost invariant = { λ a. length a.states.items < 2 ^ 32 };
+    ghost invariant = { λ a. length a.states.items < 2 ^ 31 };
 }
 
 impl<S: Drop> Threads<S> {
-    /// The first thread alone.
-    pub fn new(alloc: Global, first: S) -> Result<Threads<S>, NoMemory>
-        ensures { IfOk result (λ a. a ≡ first ∷ []) }
+    ghost use Rattle.lock_run.specs.Threads.{LendsState};
+
+    /// No threads.
+    pub fn new(alloc: Global) -> Threads<S>
+        ensures { result ≡ [] }
     {
-        let mut states = Vec::new(alloc);
-        states.push(first)?;
-        Ok(Threads { states })
+        Threads {
+            states: Vec::new(alloc),
+        }
     }
 
     /// How many threads there are.
     pub fn len(&self) -> u32
-        ensures { result ≡ length self.now }
+        ensures len { result ≡ length self.now }
+        ensures few { result < 2 ^ 31 }
     {
         self.states.len() as u32
     }
@@ -47,22 +54,42 @@ impl<S: Drop> Threads<S> {
         &self.states[t as usize]
     }
 
-    /// Puts another state in the place of a thread's.
-    pub fn set(&mut self, t: u32, s: S)
+    /// The state of a thread, to be changed in its place.
+    pub fn at_mut(&mut self, t: u32) -> &mut S
         requires { t < length self.old }
-        ensures { self.new ≡ slice_set self.old t s }
+        ensures* writes_back { sem 𝓛 (LendsState S.row self.entry t result) }
+        ensures value { slice_get self.old t ≡ Some result.now }
     {
-        self.states[t as usize] = s;
+        &mut self.states[t as usize]
     }
 
-    /// Moves the states of new threads to the end. At want of memory no thread is added.
-    pub fn append(&mut self, more: &mut Vec<S>) -> Result<(), NoMemory>
-        ensures ok { OnOk result (self.new ≡ self.old ++ more.old.items) }
+    /// Adds a thread at the end. At want of memory none is added.
+    pub fn push(&mut self, s: S) -> Result<(), NoMemory>
+        ensures ok { OnOk result (self.new ≡ self.old ++ s ∷ []) }
         ensures err { OnErr result (self.new ≡ self.old) }
     {
-        if more.len() > u32::MAX as usize - self.states.len() {
+        if self.states.len() >= MOST {
             return Err(AllocError);
         }
-        self.states.append(more)
+        self.states.push(s)?;
+        Ok(())
+    }
+
+    /// Moves the threads of another list to the end. At want of memory both lists stay as they are.
+    pub fn append(&mut self, more: &mut Threads<S>) -> Result<(), NoMemory>
+        ensures ok { OnOk result ((self.new ≡ self.old ++ more.old) × (more.new ≡ [])) }
+        ensures err { OnErr result ((self.new ≡ self.old) × (more.new ≡ more.old)) }
+    {
+        if more.states.len() > MOST - self.states.len() {
+            return Err(AllocError);
+        }
+        self.states.append(&mut more.states)
+    }
+
+    /// Drops all threads.
+    pub fn clear(&mut self)
+        ensures { self.new ≡ [] }
+    {
+        self.states.clear();
     }
 }
