@@ -120,7 +120,7 @@ fn committed(rt: &impl Abort, core: &MemCore<'_>, place: usize) -> i64 {
     let Some(r) = core.store().committed(a.0) else {
         panic!(rt; "no record");
     };
-    match r.values.get(0) {
+    match r.values().first() {
         Some(Value::Int(n)) => *n,
         _ => panic!(rt; "no number"),
     }
@@ -132,7 +132,7 @@ fn seen(rt: &impl Abort, core: &MemCore<'_>, k: u8, place: usize) -> i64 {
     let Some(r) = core.store().seen(k, a.0) else {
         panic!(rt; "no record");
     };
-    match r.values.get(0) {
+    match r.values().first() {
         Some(Value::Int(n)) => *n,
         _ => panic!(rt; "no number"),
     }
