@@ -1,7 +1,7 @@
 -- One piece after another, in a loop: what is still to be emitted.
-use Rattle.std.proofs.Common.{◌≡◌, ℕ, ◌+◌, ◌<◌, ◌≤◌, ◌⊎◌, inl, inr, List, [], ◌∷◌, ◌++◌, None, length, get_or, ap, ◌∙◌, arith, append_assoc, map, drop, sym}
+use Rattle.std.proofs.Common.{◌≡◌, ℕ, ◌+◌, ◌<◌, ◌≤◌, ◌⊎◌, inl, inr, List, [], ◌∷◌, ◌++◌, None, length, get_or, ap, ◌∙◌, arith, append_assoc, map}
 use Rattle.std.proofs.lemmas.Bool.{cases_lt}
-use Rattle.std.proofs.lemmas.List.{at_drop_more, get_or_past}
+use Rattle.std.proofs.lemmas.List.{get_or_past}
 use Rattle.py_compile.specs.Template.{Frame, Piece, Sub, lines_of, code_of, row}
 use Rattle.py_compile.specs.State.{St, done, Emitted, Agree}
 use Rattle.py_compile.proofs.Emits.{row_none}
@@ -49,7 +49,3 @@ rest_step env e0 all e m p ps r h = record { whole = λ e' g. r.whole e' (row_co
 
 pub rest_end : (env : List ℕ → List Frame) (e0 : St) (all : List Piece) (e : St) → Rest env e0 all e [] → Emitted e0 e (row all) env
 rest_end env e0 all e r = r.whole e (row_none env e)
-
--- the item of a turn, and those behind it
-pub drop_turn : {X : Type 0} (xs : List X) (i : ℕ) (x : X) → i < length xs → x ≡ get_or xs i x → drop i xs ≡ x ∷ drop (i + 1) xs
-drop_turn xs i x lt h = at_drop_more (λ z. z) xs i x lt ∙ ap (λ z. z ∷ drop (i + 1) xs) (sym h)

@@ -1,5 +1,6 @@
 -- What the grammar has of the level of targets is read where a target stands, or refused as what is left out.
 use Rattle.std.proofs.Common.{◌≡◌, ℕ, zero, suc, ◌+◌, ◌-◌, ◌<◌, ◌≤◌, ◌==◌, nat_lt, nat_le, Bool, true, false, ◌||◌, List, [], ◌∷◌, ◌++◌, length, Ok, Err, Some, None, ◌⊎◌, inl, inr, refl, sym, ap, ◌∙◌, subst, append_assoc, arith, length-append, if◌then◌else◌, le-ltb}
+use Rattle.std.proofs.lemmas.Bool.{and_parts}
 use Rattle.py_tokens.specs.declared.token.Token.{Token}
 use Rattle.py_tokens.specs.declared.token.TokenKind.{TokenKind}
 use Rattle.py_tokens.specs.declared.token.TokenKind.TheVariants as k
@@ -28,7 +29,7 @@ use Rattle.py_parser.specs.Follow.{stops}
 use Rattle.py_parser.specs.Reading.{Reads, Test, ◌>>=◌, first, rest, is_op, is_some, starts, comes, keyword_at, rung_of, trail_at, power_at, chain_at, choice_at, reads}
 use Rattle.py_parser.specs.Aiming.{after_rung, grown_at, grows, risen_at, element_at, fine, next_at, elements_at, closed_at, round_rest, aim_round, list_rest, aim_list, aim_atom, aim_at}
 use Rattle.py_parser.proofs.Steps.{of, Reaches, then_reads, at_same, trail_quiet}
-use Rattle.py_parser.proofs.Facts.{no, and_left, and_right, not_op, not_keyword, stops_down, takes_not, rung_below}
+use Rattle.py_parser.proofs.Facts.{no, not_op, not_keyword, stops_down, takes_not, rung_below}
 use Rattle.py_parser.proofs.Values.{plus_tests, push_tests, plus_links, plus_trailers, all_joined, as_name, as_group, as_unit, as_no_list, as_tuple, as_list, as_power, as_chain, as_choice}
 use Rattle.py_parser.proofs.Begin.{headed, begin, long, as_value, s_trail, s_power, s_chain, s_choice, s_else, no_comma, no_test}
 use Rattle.py_parser.proofs.Complete.{complete, complete_links, complete_trailers, links_first, trailers_first, trail_value, tests_nil}
@@ -242,7 +243,7 @@ quiet_after zero κ s = refl
 quiet_after (suc n) κ s = or_not (grows n κ) _ (quiet_after n κ (stops_down (suc n) κ s)) (takes_not (suc n) κ s)
 
 joined_parts : (f h : Form) → is_target false (joined f h) ≡ true → (is_target false f ≡ true) × (is_target false h ≡ true)
-joined_parts (Many s w) h e = (and_left s _ e, and_right s _ e)
+joined_parts (Many s w) h e = and_parts s _ e
 joined_parts Bare h e = no (sym e)
 joined_parts Part h e = no (sym e)
 joined_parts Cut h e = no (sym e)

@@ -1,5 +1,6 @@
 -- What reading a target tells.
 use Rattle.std.proofs.Common.{◌≡◌, ℕ, ◌<◌, Bool, true, false, ◌&&◌, List, [], ◌∷◌, ◌++◌, Ok, Err, Some, inl, inr, refl, sym, ◌∙◌, append-nil, append_assoc, arith}
+use Rattle.std.proofs.lemmas.Bool.{and_parts}
 use Rattle.py_tokens.specs.declared.token.Token.{Token}
 use Rattle.py_tokens.specs.declared.token.TokenKind.TheVariants as k
 use Rattle.py_tokens.specs.declared.token.Place.{Place}
@@ -17,7 +18,7 @@ use Rattle.py_parser.specs.Reading.{first}
 use Rattle.py_parser.specs.Statements.{Target}
 use Rattle.py_parser.specs.Lines.{checked, Stop}
 use Rattle.py_parser.proofs.Steps.{of}
-use Rattle.py_parser.proofs.Facts.{no, and_left, and_right}
+use Rattle.py_parser.proofs.Facts.{no}
 use Rattle.py_parser.proofs.Told.{low, marked, Opens, near, more, Told, told_done, told_refused, told_left, told_same, told_bind, on, move}
 use Rattle.py_parser.proofs.Tells.{p0}
 use Rattle.py_parser.proofs.Targets.{good, by_marks, target_of}
@@ -53,7 +54,7 @@ tell_checked {y = y} {pre = pre} {ts = ts} {Q = Q} after a o m h = go (is_target
     go false e = bad (is_target true (form a) && after (first ts)) refl
       where
         bad : (b : Bool) → (is_target true (form a) && after (first ts)) ≡ b → Told y pre ts (λ us. checked after (of a, us)) Q (checked after (of a, ts))
-        bad true q = told_same {X' = λ us. Err (LeftOut left.SliceForm, us)} {q = Err (LeftOut left.SliceForm, ts)} (rw e (rw q refl)) (λ us s. rw e (rw s (rw q refl))) (told_left (first ts) refl o (m (and_left _ _ q) (and_right (is_target true (form a)) _ q)))
+        bad true q = told_same {X' = λ us. Err (LeftOut left.SliceForm, us)} {q = Err (LeftOut left.SliceForm, ts)} (rw e (rw q refl)) (λ us s. rw e (rw s (rw q refl))) (told_left (first ts) refl o (m (and_parts _ _ q).0 (and_parts (is_target true (form a)) _ q).1))
         bad false q = told_same {X' = λ us. Err (Unexpected, us)} {q = Err (Unexpected, ts)} (rw e (rw q refl)) (λ us s. rw e (rw s (rw q refl))) (told_refused o)
 
 pub aims : (w y g d : ℕ) → Targeting y g d (readers (more w g) (more y d)) (readers g d)

@@ -1,5 +1,6 @@
 -- Tokens that the canonical words of a clause's head spell.
 use Rattle.std.proofs.Common.{◌≡◌, ℕ, Bool, true, false, ◌&&◌, List, [], ◌∷◌, ◌++◌, map, Option, Some, None, refl, sym, ap, ◌∙◌, subst, append_assoc, arith}
+use Rattle.std.proofs.lemmas.Bool.{and_from}
 use Rattle.py_tokens.specs.declared.token.Token.{Token}
 use Rattle.py_tokens.specs.declared.token.TokenKind.{TokenKind}
 use Rattle.py_tokens.specs.declared.token.TokenKind.TheVariants as k
@@ -38,13 +39,9 @@ target_tests : {es : List Expr} {us : List Token} → Targets None es us → (ts
 target_tests (S.Targets.one h) ts r = G.Tests.only (from_one (as_is h.spells ts (bare _ r)))
 target_tests (S.Targets.more p {a = a} h i) ts r = more_tests_of (λ us x. from_one (as_is h.spells us x)) (λ us x. target_tests i us x) (parts _ _ _ (by (ap (λ z. words a ++ z) (target_led i)) r))
 
-both_true : (a b : Bool) → a ≡ true → b ≡ true → (a && b) ≡ true
-both_true true b e f = f
-both_true false b e f = e
-
 all_true : {es : List Expr} {us : List Token} → Targets None es us → all_targets false (map form es) ≡ true
-all_true (S.Targets.one {a = a} h) = both_true (is_target false (form a)) true h.is refl
-all_true (S.Targets.more p {a = a} {es = es} h i) = both_true (is_target false (form a)) (all_targets false (map form es)) h.is (all_true i)
+all_true (S.Targets.one {a = a} h) = and_from (is_target false (form a)) true h.is refl
+all_true (S.Targets.more p {a = a} {es = es} h i) = and_from (is_target false (form a)) (all_targets false (map form es)) h.is (all_true i)
 
 tuple_target : (a : Expr) (es : List Expr) → all_targets false (map form (a ∷ es)) ≡ true → is_target false (form (e.Tuple (a ∷ es))) ≡ true
 tuple_target a es h = ap (λ z. is_target false z) (form_tuple a es) ∙ h
@@ -53,11 +50,11 @@ loop_tuple : {es : List Expr} {ts : List Token} → is_target false (form (e.Tup
 loop_tuple {es = es} t f r = S.Loops.single (record { spells = G.Is.up 0 (omega arith) (round_of f (encloses _ _ _ (by (sp.words_tuple es) r))); is = t })
 
 several_loop : {a b : Expr} {es : List Expr} {us vs : List Token} → Target None a us → Targets None (b ∷ es) vs → (ts : List Token) → Spells (words (e.Tuple (a ∷ b ∷ es))) ts → Loops None (e.Tuple (a ∷ b ∷ es)) ts
-several_loop {a = a} {b = b} {es = es} h i ts r = loop_tuple (tuple_target a (b ∷ es) (both_true (is_target false (form a)) (all_targets false (map form (b ∷ es))) h.is (all_true i))) (λ us x. several_of (λ vs y. from_one (as_is h.spells vs y)) (λ vs y. target_tests i vs y) (parts _ _ _ x)) r
+several_loop {a = a} {b = b} {es = es} h i ts r = loop_tuple (tuple_target a (b ∷ es) (and_from (is_target false (form a)) (all_targets false (map form (b ∷ es))) h.is (all_true i))) (λ us x. several_of (λ vs y. from_one (as_is h.spells vs y)) (λ vs y. target_tests i vs y) (parts _ _ _ x)) r
 
 pub as_loops : {a : Expr} {us : List Token} → Loops None a us → (ts : List Token) → Spells (words a) ts → Loops None a ts
 as_loops (S.Loops.single h) ts r = S.Loops.single (as_target h ts r)
-as_loops (S.Loops.lone p {a = a} h) ts r = loop_tuple (tuple_target a [] (both_true (is_target false (form a)) true h.is refl)) (λ us x. lone_of (λ vs y. from_one (as_is h.spells vs y)) (closes _ _ x)) r
+as_loops (S.Loops.lone p {a = a} h) ts r = loop_tuple (tuple_target a [] (and_from (is_target false (form a)) true h.is refl)) (λ us x. lone_of (λ vs y. from_one (as_is h.spells vs y)) (closes _ _ x)) r
 as_loops (S.Loops.several p h i) ts r = several_loop h i ts r
 as_loops (S.Loops.several_comma p q h i) ts r = several_loop h i ts r
 

@@ -1,5 +1,6 @@
 -- What reading compound statements tells.
 use Rattle.std.proofs.Common.{◌≡◌, ℕ, zero, suc, ◌+◌, ◌<◌, ◌≤◌, max, Bool, true, false, ◌&&◌, ◌||◌, List, [], ◌∷◌, ◌++◌, length, Ok, Err, Option, Some, None, inl, inr, refl, sym, ap, ◌∙◌, subst, append_assoc, append-nil, arith, if◌then◌else◌}
+use Rattle.std.proofs.lemmas.Bool.{and_parts}
 use Rattle.py_tokens.specs.declared.token.Token.{Token}
 use Rattle.py_tokens.specs.declared.token.TokenKind.{TokenKind}
 use Rattle.py_tokens.specs.declared.token.TokenKind.TheVariants as k
@@ -19,7 +20,7 @@ use Rattle.py_parser.specs.Tall.{tree_or, push, start as start', of_tuple}
 use Rattle.py_parser.specs.Aiming.{Readers}
 use Rattle.py_parser.specs.Reading.{◌>>=◌, first, is_op, is_keyword, comes, is_some, op_at}
 use Rattle.py_parser.proofs.Steps.{of}
-use Rattle.py_parser.proofs.Facts.{no, and_left, and_right}
+use Rattle.py_parser.proofs.Facts.{no}
 use Rattle.py_parser.proofs.Complete.{tests_nil}
 use Rattle.py_parser.proofs.Values.{plus_tests, push_tests, of_or, as_tuple}
 use Rattle.py_parser.proofs.Told.{Mode, any, low, marked, Fits, Opens, near, with_none, more, Told, told_done, told_ends, told_refused, told_left, told_as, told_if, told_post, told_take, told_word, told_bind, told_map, told_when, told_room, on, here, move, there}
@@ -269,7 +270,7 @@ module _ (w y g d : ℕ) (under' under : Readers) (below : Lowers y g d under' u
       (λ v fs rest q2 r. subst (λ z. Told y ((pre ++ at c.open_round p ∷ []) ++ fs) rest (λ us. if is_some z && is_op 38 (first us) then Err (LeftOut left.MultipleBases, us) else (op_at 33 us >>= λ close. Ok (z, close.1))) (λ b us. (o : Option Expr) × (b ≡ of_or o) × ((x : Marks) → Base x o (at c.open_round p ∷ (fs ++ us))) × (top_or o ≤ d)) (if is_some z && is_op 38 (first rest) then Err (LeftOut left.MultipleBases, rest) else (op_at 33 rest >>= λ close. Ok (z, close.1)))) (sym r.1)
       (let o2 : Opens low ((pre ++ at c.open_round p ∷ []) ++ fs) = on (at c.close_round p0 ∷ []) (simp append_assoc) (hole low r.0 _ (S.Base.round p p0 (r.2 None)) (λ b. r.3)) in
       told_if (λ κ. is_some (of_or r.0) && is_op 38 κ)
-      (λ t. told_left c.comma (only_op 38 (first rest) (and_right (is_some (of_or r.0)) _ t)) o2 (λ i. here (simp append_assoc) (many pre p fs r.0 r.2 (and_left (is_some (of_or r.0)) _ t) i hole)))
+      (λ t. told_left c.comma (only_op 38 (first rest) (and_parts (is_some (of_or r.0)) _ t).1) o2 (λ i. here (simp append_assoc) (many pre p fs r.0 r.2 (and_parts (is_some (of_or r.0)) _ t).0 i hole)))
       (λ e. told_need 33 _ _ o2 (λ p2 us2 q3. told_done (r.0, refl, (λ x. S.Base.round p p2 (r.2 x)), r.3))))))))
       (λ e. told_done (None, refl, S.Base.none, omega arith))
     where

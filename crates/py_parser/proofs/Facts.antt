@@ -1,5 +1,6 @@
 -- What tokens begin, follow and are.
 use Rattle.std.proofs.Common.{◌≡◌, ℕ, zero, suc, ◌+◌, ◌-◌, ◌<◌, ◌≤◌, ◌==◌, nat_le, Bool, true, false, not, ◌&&◌, ◌||◌, List, ◌++◌, Ok, Option, Some, None, refl, sym, ap, ◌∙◌, subst, arith, if◌then◌else◌}
+use Rattle.std.proofs.lemmas.Bool.{and_parts}
 use Rattle.py_tokens.specs.declared.token.Token.{Token}
 use Rattle.py_tokens.specs.declared.token.TokenKind.{TokenKind}
 use Rattle.py_tokens.specs.declared.token.TokenKind.TheVariants as k
@@ -30,14 +31,6 @@ or_mono true b true b' f h e = refl
 or_mono true b false b' f h e = no (sym (f refl))
 or_mono false b true b' f h e = refl
 or_mono false b false b' f h e = h e
-
-pub and_left : (a b : Bool) → (a && b) ≡ true → a ≡ true
-and_left true b h = refl
-and_left false b h = h
-
-pub and_right : (a b : Bool) → (a && b) ≡ true → b ≡ true
-and_right true b h = h
-and_right false b h = no (sym h)
 
 pub and_mono : (a b a' : Bool) → (a ≡ true → a' ≡ true) → (a && b) ≡ true → (a' && b) ≡ true
 and_mono true b true f h = h
@@ -146,10 +139,10 @@ no_head (suc (suc (suc (suc (suc (suc (suc (suc (suc (suc (suc (suc (suc (suc (s
 -- ---- what follows
 
 pub stops_down : (n : ℕ) (kind : TokenKind) → stops (suc n) kind ≡ true → stops n kind ≡ true
-stops_down n kind h = and_left (stops n kind) _ h
+stops_down n kind h = (and_parts (stops n kind) _ h).0
 
 pub takes_not : (n : ℕ) (kind : TokenKind) → stops (suc n) kind ≡ true → takes (rung_of n) kind ≡ false
-takes_not n kind h = not_true _ (and_right (stops n kind) _ h)
+takes_not n kind h = not_true _ (and_parts (stops n kind) _ h).1
 
 pub rung_below : (l : Level) → rung_of (below l) ≡ Chained l
 rung_below level.Or = refl

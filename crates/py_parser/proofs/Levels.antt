@@ -1,5 +1,6 @@
 -- What reading a level of expressions tells, and reading with a budget.
 use Rattle.std.proofs.Common.{◌≡◌, ℕ, zero, suc, ◌+◌, ◌-◌, ◌<◌, ◌≤◌, ◌==◌, nat_lt, nat_le, Bool, true, false, ◌&&◌, ◌||◌, List, [], ◌∷◌, ◌++◌, length, Ok, Err, Option, Some, None, inl, inr, refl, sym, ap, ◌∙◌, subst, append_assoc, append-nil, arith, if◌then◌else◌}
+use Rattle.std.proofs.lemmas.Bool.{and_parts}
 use Rattle.py_tokens.specs.declared.token.Token.{Token}
 use Rattle.py_tokens.specs.declared.token.TokenKind.{TokenKind}
 use Rattle.py_tokens.specs.declared.token.TokenKind.TheVariants as k
@@ -30,7 +31,7 @@ use Rattle.py_parser.specs.declared.rung.Rung.{Rung}
 use Rattle.py_parser.specs.declared.rung.Rung.TheVariants.{Trailed, Powered, Signed, Chained, Negated, Chosen, Listed}
 use Rattle.py_parser.specs.Reading.{operator_of, too_deep, no_start, Test, ◌>>=◌, Below, first, is_op, is_keyword, starts, left_at, is_some, rung_of, rung_at, level_at, reads, atom_at, trail_at, power_at, chain_at, choice_at, after_at, signed, sign_of, links, links_at, atom_of}
 use Rattle.py_parser.proofs.Steps.{of, none_of}
-use Rattle.py_parser.proofs.Facts.{or_mono, and_mono, below_small, no, some_inj, and_left, and_right}
+use Rattle.py_parser.proofs.Facts.{or_mono, and_mono, below_small, no, some_inj}
 use Rattle.py_parser.proofs.Values.{plus_links, as_tuple, as_power, as_sign, as_chain, as_not, as_choice}
 use Rattle.py_parser.specs.Follow.{heads}
 use Rattle.py_parser.proofs.Told.{Stays, Beyond, Mode, any, low, marked, Fits, Opens, alone, same_first, more, Told, told_done, told_left, told_if, told_deep, told_post, told_take, told_word, told_map, told_kind, on, here, move, bare, there}
@@ -58,7 +59,7 @@ start_op n m l e = elim (either (m == 32) _ e) [
     | inl q ↦ rw (op_eq m 34 q) (λ p. (at c.close_square p0 ∷ [], ex.List [], lift n l (G.no_list None p p0)))
     | inr e3 ↦ elim (either (m == 36) _ e3) [
       | inl q ↦ rw (op_eq m 36 q) (λ p. (at c.close_brace p0 ∷ [], ex.Dict [], lift n l (G.no_dict None p p0)))
-      | inr e4 ↦ let h = and_left (nat_le 3 n) _ e4 in let three : 3 ≤ n = grind (arith, h) in elim (either (m == 21) _ (and_right (nat_le 3 n) _ e4)) [
+      | inr e4 ↦ let h = (and_parts (nat_le 3 n) _ e4).0 in let three : 3 ≤ n = grind (arith, h) in elim (either (m == 21) _ (and_parts (nat_le 3 n) _ e4).1) [
         | inl q ↦ rw (op_eq m 21 q) (λ p. (word, ex.Unary sign.Plus (ex.Name []), up_to 3 n three l (G.signed sign.Plus p (is_word 3 None (omega arith)))))
         | inr e5 ↦ elim (either (m == 22) _ e5) [
           | inl q ↦ rw (op_eq m 22 q) (λ p. (word, ex.Unary sign.Minus (ex.Name []), up_to 3 n three l (G.signed sign.Minus p (is_word 3 None (omega arith)))))
@@ -77,7 +78,7 @@ start n (k.Name s) l e = λ p. ([], ex.Name s, lift n l (G.name None s p))
 start n (k.Int s) l e = λ p. ([], ex.Int s, lift n l (G.int None s p))
 start n (k.Str s) l e = λ p. ([], ex.Str s, lift n l (G.strings (G.one None s p)))
 start n (k.Op m) l e = start_op n m l e
-start n (k.Keyword m) l e = let h = and_left (nat_le 11 n) _ e in let eleven : 11 ≤ n = grind (arith, h) in let q = and_right (nat_le 11 n) _ e in let i : m ≡ 21 = grind (arith, q) in
+start n (k.Keyword m) l e = let h = (and_parts (nat_le 11 n) _ e).0 in let eleven : 11 ≤ n = grind (arith, h) in let q = (and_parts (nat_le 11 n) _ e).1 in let i : m ≡ 21 = grind (arith, q) in
     rw i (λ p. (word, ex.Not (ex.Name []), up_to 11 n eleven l (G.negated p (is_word 11 None (omega arith)))))
 start n k.Newline l e = no (sym e)
 start n k.Indent l e = no (sym e)

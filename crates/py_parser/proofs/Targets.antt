@@ -1,5 +1,6 @@
 -- What reading several expressions and targets tells.
 use Rattle.std.proofs.Common.{◌≡◌, ℕ, zero, suc, ◌≤◌, Bool, true, false, ◌&&◌, List, [], ◌∷◌, ◌++◌, length, Err, Some, None, refl, sym, ap, ◌∙◌, subst, arith}
+use Rattle.std.proofs.lemmas.Bool.{and_parts}
 use Rattle.py_tokens.specs.declared.token.Token.{Token}
 use Rattle.py_tokens.specs.declared.token.TokenKind.{TokenKind}
 use Rattle.py_tokens.specs.declared.token.TokenKind.TheVariants as k
@@ -24,7 +25,7 @@ use Rattle.py_parser.specs.Grammar.{Marks, Is, Strings, Tests, Commas, Exprs, Pa
 use Rattle.py_parser.specs.declared.tall.Tall.{Tall}
 use Rattle.py_parser.specs.Reading.{too_deep, Reads, Test, ◌>>=◌, first, level_at, reads, after_at}
 use Rattle.py_parser.proofs.Steps.{of}
-use Rattle.py_parser.proofs.Facts.{no, and_left, and_right}
+use Rattle.py_parser.proofs.Facts.{no}
 use Rattle.py_parser.proofs.Told.{Mode, low, marked, Fits, Opens, near, more, Told, told_refused, told_left, told_same, told_post, told_bind, told_err}
 use Rattle.py_parser.proofs.Tells.{Read, told_read, word, is_word, length_after, then_exprs}
 use Rattle.py_tree.specs.Form.{is_target, is_single, all_targets}
@@ -219,5 +220,5 @@ told_checked {y = y} {pre = pre} {ts = ts} {Q = Q} after a K' K o m h = go (is_t
     go false e = bad (is_target true (form a) && after (first ts)) refl
       where
         bad : (b : Bool) → (is_target true (form a) && after (first ts)) ≡ b → Told y pre ts (λ us. checked after (of a, us) >>= K') Q (checked after (of a, ts) >>= K)
-        bad true q = told_same {X' = λ us. Err (LeftOut left.SliceForm, us)} {q = Err (LeftOut left.SliceForm, ts)} (rw e (rw q refl)) (λ us s. rw e (rw s (rw q refl))) (told_left (first ts) refl o (m (and_left _ _ q) (and_right (is_target true (form a)) _ q)))
+        bad true q = told_same {X' = λ us. Err (LeftOut left.SliceForm, us)} {q = Err (LeftOut left.SliceForm, ts)} (rw e (rw q refl)) (λ us s. rw e (rw s (rw q refl))) (told_left (first ts) refl o (m (and_parts _ _ q).0 (and_parts (is_target true (form a)) _ q).1))
         bad false q = told_same {X' = λ us. Err (Unexpected, us)} {q = Err (Unexpected, ts)} (rw e (rw q refl)) (λ us s. rw e (rw s (rw q refl))) (told_refused o)

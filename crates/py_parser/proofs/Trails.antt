@@ -1,5 +1,6 @@
 -- What reading arguments, slices and trailers tells.
 use Rattle.std.proofs.Common.{◌≡◌, ℕ, zero, suc, ◌+◌, ◌<◌, ◌≤◌, max, Bool, true, false, ◌&&◌, ◌||◌, List, [], ◌∷◌, ◌++◌, length, Ok, Option, Some, None, inl, inr, refl, sym, ap, ◌∙◌, subst, append_assoc, append-nil, arith, length-append, if◌then◌else◌}
+use Rattle.std.proofs.lemmas.Bool.{and_parts}
 use Rattle.py_tokens.specs.declared.token.Token.{Token}
 use Rattle.py_tokens.specs.declared.token.TokenKind.{TokenKind}
 use Rattle.py_tokens.specs.declared.token.TokenKind.TheVariants as k
@@ -26,7 +27,7 @@ use Rattle.py_parser.specs.declared.tall.Tall.{Tall}
 use Rattle.py_parser.specs.Tall.{plain, push, none, push_named, push_trailer, of_trail, of_index, of_call}
 use Rattle.py_parser.specs.Reading.{named_at, args_at, arg_by, keyed, is_bare, is_none, slice_close, slice_at, index_close, subscript_at, call_at, trailer_at, trailers_at, name_of, Test, ◌>>=◌, Below, first, is_op, is_keyword, comes, is_some, trail_at, trails}
 use Rattle.py_parser.proofs.Steps.{of}
-use Rattle.py_parser.proofs.Facts.{no, and_left, and_right}
+use Rattle.py_parser.proofs.Facts.{no}
 use Rattle.py_parser.proofs.Complete.{tests_nil, named_nil, trailers_nil, s_trailers_end, s_named_end, trail_long}
 use Rattle.py_parser.proofs.Begin.{long, headed}
 use Rattle.py_parser.proofs.Values.{plus_tests, push_tests, plus_named, push_nameds, plus_trailers, push_trailers, of_r, of_or, as_trail, as_attribute, as_index, as_slice, as_call}
@@ -169,7 +170,7 @@ module _ (w y g d : ℕ) (next' next : Test) (tell : Tell y g d 14 next' next) w
   tell_arg f again found pre a fs ts l i hole gen is h =
       let o : Opens low (pre ++ fs) = hole low (a ∷ []) [] _ (G.arg (is None)) (λ b. omega (arith, h)) in
       told_if (λ κ. is_none found.tree && is_keyword 13 κ)
-      (λ t. told_left c.for_ (only_keyword 13 (first ts) (and_right (is_none found.tree) _ t)) o (λ p. here (simp append_assoc) (gen (and_left (is_none found.tree) _ t) a fs p (is (Some left.Comprehension)))))
+      (λ t. told_left c.for_ (only_keyword 13 (first ts) (and_parts (is_none found.tree) _ t).1) o (λ p. here (simp append_assoc) (gen (and_parts (is_none found.tree) _ t).0 a fs p (is (Some left.Comprehension)))))
       (λ e1. told_word (is_op 38) c.comma (only_op 38) refl
       (λ p us q. rw q (told_take (told_if (is_op 33)
       (λ c'. told_done (a ∷ [], [], call_arg found a, (λ x. G.arg_comma p (is x)), omega (arith, h)))

@@ -4,7 +4,7 @@ use Rattle.std.specs.Char.{digit_value}
 use Rattle.std.specs.List.{All, list_all}
 use Rattle.std.specs.Str.{bytes_eq}
 use Rattle.std.specs.Str.Parse.{digits_value}
-use Rattle.std.proofs.lemmas.Bool.{ltb-true}
+use Rattle.std.proofs.lemmas.Bool.{ltb-true, and_from}
 use Rattle.std.proofs.lemmas.List.Elements.{All-nil, All-cons, All-head, All-tail, All-append}
 use Rattle.py_text.specs.Escape.{line_ends, sign, is_octal, is_hex, octal_digits, hex, signed, escape_at, written, then_spelled, spelled, unescaped}
 use Rattle.py_text.specs.declared.literal.Escape.{Escape}
@@ -307,10 +307,6 @@ take_none : (p : Bool) (n : ℕ) (c : Character) (cs : List Character) → p ≡
 take_none true n c cs e = absurd (cc)
 take_none false n c cs e = refl
 
-both_true : (p q : Bool) → p ≡ true → q ≡ true → (p && q) ≡ true
-both_true true q e f = f
-both_true false q e f = absurd (cc)
-
 -- the run of a name's bytes at the front has only such
 abbrev AreName : List Character → Type 0
 AreName cs = list_all (holds class.Name) (map byte_of cs) ≡ true
@@ -320,13 +316,13 @@ name_all [] = refl
 name_all (c ∷ cs) = go (holds class.Name c.byte) refl (name_all cs)
   where
     go : (p : Bool) → holds class.Name c.byte ≡ p → AreName (run class.Name cs) → AreName (run class.Name (c ∷ cs))
-    go true e more = subst (λ z. list_all (holds class.Name) (map byte_of z) ≡ true) (sym (take_if (holds class.Name c.byte) (run_len class.Name cs) c cs e)) (both_true (holds class.Name c.byte) _ e more)
+    go true e more = subst (λ z. list_all (holds class.Name) (map byte_of z) ≡ true) (sym (take_if (holds class.Name c.byte) (run_len class.Name cs) c cs e)) (and_from (holds class.Name c.byte) _ e more)
     go false e more = subst (λ z. list_all (holds class.Name) (map byte_of z) ≡ true) (sym (take_none (holds class.Name c.byte) (run_len class.Name cs) c cs e)) refl
 
 name_is : (c : Character) (cs : List Character) → holds class.NameStart c.byte ≡ true → is_name (map byte_of (run class.Name (c ∷ cs))) ≡ true
 name_is c cs e =
     let more : holds class.Name c.byte ≡ true = or_first (holds class.NameStart c.byte) _ e in
-    subst (λ z. is_name (map byte_of z) ≡ true) (sym (take_if (holds class.Name c.byte) (run_len class.Name cs) c cs more)) (both_true (holds class.NameStart c.byte) _ e (name_all cs))
+    subst (λ z. is_name (map byte_of z) ≡ true) (sym (take_if (holds class.Name c.byte) (run_len class.Name cs) c cs more)) (and_from (holds class.NameStart c.byte) _ e (name_all cs))
 
 name_in_line : (o : Option ℕ) (name : List ℕ) → IsInLine (name_kind o name)
 name_in_line (Some n) name = tt

@@ -1,7 +1,7 @@
 -- What a writer has after words and lexemes that follow one another.
-use Rattle.std.proofs.Common.{◌≡◌, ℕ, suc, ◌+◌, ◌-◌, ◌<◌, Bool, true, false, not, ◌==◌, List, [], ◌∷◌, ◌++◌, length, get_or, drop, map, refl, sym, ap, ◌∙◌, append_assoc, append-nil, add-one, arith}
-use Rattle.std.proofs.Math.Seq.{drop-cons}
+use Rattle.std.proofs.Common.{◌≡◌, ℕ, suc, ◌+◌, ◌-◌, ◌<◌, Bool, true, false, not, ◌==◌, List, [], ◌∷◌, ◌++◌, length, get_or, drop, map, refl, sym, ap, ◌∙◌, append_assoc, append-nil, arith}
 use Rattle.std.proofs.lemmas.Bool.{ne_eqb}
+use Rattle.py_base.proofs.Lists.{next_item}
 use Rattle.py_tokens.specs.declared.operator.TheConstants as operator
 use Rattle.py_tokens.specs.declared.token.TokenKind.{TokenKind}
 use Rattle.py_tokens.specs.declared.token.TokenKind.TheVariants as k
@@ -33,9 +33,6 @@ put_all-append w [] ms = refl
 put_all-append w (l ∷ ls) ms = put_all-append (put w l) ls ms
 
 -- ---- loops over items
-
-pub next_item : {X : Type 0} (xs : List X) (i : ℕ) (x : X) → i < length xs → x ≡ get_or xs i x → drop i xs ≡ x ∷ drop (i + 1) xs
-next_item xs i x l e = rw (add-one) (drop-cons xs i x l ∙ ap (λ z. z ∷ drop (suc i) xs) (sym e))
 
 -- with commas between them
 pub listed_more : {X : Type 0} (f : X → Words) (line : ℕ) (w v u total : Writer) (comma : Bool) (xs : List X) (i : ℕ) (x : X) → i < length xs → x ≡ get_or xs i x → v ≡ spell line w (comma_if comma) → u ≡ spell line v (f x) →

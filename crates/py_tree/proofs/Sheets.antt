@@ -1,5 +1,6 @@
 -- What a writer has after statements and their blocks.
 use Rattle.std.proofs.Common.{◌≡◌, ℕ, ◌+◌, ◌<◌, Bool, false, List, [], ◌∷◌, ◌++◌, length, get_or, drop, Option, Some, None, refl, sym, ap, ◌∙◌, append_assoc, append-nil}
+use Rattle.py_base.proofs.Lists.{next_item}
 use Rattle.py_tokens.specs.declared.keyword.TheConstants as keyword
 use Rattle.py_tokens.specs.declared.operator.TheConstants as operator
 use Rattle.py_tokens.specs.declared.token.TokenKind.TheVariants as k
@@ -17,7 +18,7 @@ use Rattle.py_tree.specs.Canonical.{Piece, Simple, Compound, on, ending, in_orde
 use Rattle.py_tree.specs.Clauses.{lexemes_arm, lexemes_arms, lexemes_if, lexemes_clause, lexemes_clause_or, lexemes_handler, lexemes_handlers, simple_line, piece_lexemes, joint, resumed}
 use Rattle.py_tree.specs.Page.{pen_of, put, put_all, spell}
 use Rattle.py_tree.specs.Writing.{Pen, mark, moved, written, first_pen}
-use Rattle.py_tree.proofs.Pages.{spell_append, put_all-append, next_item}
+use Rattle.py_tree.proofs.Pages.{spell_append, put_all-append}
 use Rattle.py_tree.proofs.Pieces.{piece_laws, piece_for, piece_try}
 
 pub on_spelled : (line : ℕ) (w : Writer) (ks : Words) → put_all w (on line ks) ≡ spell line w ks

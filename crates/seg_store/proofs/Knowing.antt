@@ -1,5 +1,6 @@
 -- What always holds of a store of maps is what a store tells.
 use Rattle.std.proofs.Common.{◌≡◌, ℕ, Bool, true, false, ◌||◌, ◌&&◌, not, cond, List, [], ◌∷◌, ◌++◌, take, drop, Option, Some, None, is_some, refl, sym, ◌∙◌, ap, arith, take-append-drop}
+use Rattle.std.proofs.lemmas.Bool.{and_parts}
 use Rattle.std.proofs.lemmas.List.{map-append}
 use Rattle.py_data.specs.declared.value.Value.{Value}
 use Rattle.py_data.specs.declared.value.Addr.{Addr}
@@ -33,10 +34,6 @@ kept_or true false false f = refl
 kept_or false true false f = refl
 kept_or false false false f = refl
 
-both_true : (x y : Bool) → (x && y) ≡ true → y ≡ true
-both_true true y e = e
-both_true false y e = cc
-
 none_from : (x : Bool) (o : Option Rec) → (x && not (is_some o)) ≡ true → o ≡ None
 none_from x None e = refl
 none_from true (Some r) e = cc
@@ -55,7 +52,7 @@ is_store t s n w = record {
   kept = λ j a. kept_or (is_some (before_of (held_in j (t a)))) (is_some (held_in j (t a))) (is_some (committed_in (t a))) (w.locked a j)
       ∙ sym (ap (λ b. b || mem a (kept_in (s j))) (w.changed j a) ∙ ap (λ b. is_changed j (t a) || b) (w.kept j a));
   front = λ j. front_of (s j);
-  locked = λ j a e. both_true (is_some (held_in j (t a))) (is_some (committed_in (t a))) (sym (w.changed j a) ∙ e);
+  locked = λ j a e. (and_parts (is_some (held_in j (t a))) (is_some (committed_in (t a))) (sym (w.changed j a) ∙ e)).1;
   unused = λ j a e. none_from (is_some (held_in j (t a))) (committed_in (t a)) (sym (w.made j a) ∙ e);
   apart = λ i j a d e. holds_held t s n w j a ∙ ap is_some (held_one i j (t a) d (sym (holds_held t s n w i a) ∙ e));
   stored = record { each = λ a r e. stored r (w.good a r e) };

@@ -1,7 +1,7 @@
 -- The loop that prints the items of a line.
-use Rattle.std.proofs.Common.{◌≡◌, ℕ, ◌+◌, ◌<◌, ◌≤◌, Bool, true, false, List, [], ◌∷◌, length, drop, Result, Ok, Err, refl, sym, ap, subst, ◌∙◌, get_or, add-one}
-use Rattle.std.proofs.Math.Seq.{drop-cons}
+use Rattle.std.proofs.Common.{◌≡◌, ℕ, ◌+◌, ◌<◌, ◌≤◌, Bool, true, false, List, [], ◌∷◌, length, drop, Result, Ok, Err, refl, sym, subst, ◌∙◌, get_or}
 use Rattle.std.proofs.Math.ListN.{drop_of_length-le}
+use Rattle.py_base.proofs.Lists.{next_at}
 use Rattle.py_data.specs.declared.value.Addr.{Addr}
 use Rattle.py_data.specs.declared.value.Value.{Value}
 use Rattle.py_data.specs.declared.stop.Stop.{Stop}
@@ -62,8 +62,5 @@ module _ {S X : Type 0} {u : Sense S X} {cells : List Addr} {items : List Item} 
       newline (Err e) a = meets-refused u (Put Output (10 ∷ [])) (λ _. Ret tt) w x e a
 
 -- the next of the items
-next_item : (items : List Item) (i : ℕ) (d : Item) → i < length items → drop i items ≡ get_or items i d ∷ drop (i + 1) items
-next_item items i d h = drop-cons items i d h ∙ ap (λ k. get_or items i d ∷ drop k items) (sym (add-one i))
-
 pub next_among : (slice items : List Item) (i : ℕ) (d : Item) → slice ≡ items → i < length slice → drop i items ≡ get_or slice i d ∷ drop (i + 1) items
-next_among slice items i d e h = subst (λ xs. drop i xs ≡ get_or slice i d ∷ drop (i + 1) xs) e (next_item slice i d h)
+next_among slice items i d e h = subst (λ xs. drop i xs ≡ get_or slice i d ∷ drop (i + 1) xs) e (next_at slice i d h)

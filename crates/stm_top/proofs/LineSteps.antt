@@ -39,10 +39,6 @@ if_some false x y h = absurd (cc)
 some_same : {A : Type 0} (x y : A) → Some x ≡ Some y → x ≡ y
 some_same x y h = cc
 
-and_right : (a b : Bool) → (a && b) ≡ true → b ≡ true
-and_right true b h = h
-and_right false b h = absurd (cc)
-
 position_below : {A : Type 0} (p : A → Bool) (xs : List A) (i : ℕ) → position p xs ≡ Some i → i < length xs
 position_below p xs i h =
     let e = if_some (ltb (position_or_len p xs) (length xs)) (position_or_len p xs) i h in

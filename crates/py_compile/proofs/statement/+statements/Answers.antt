@@ -6,7 +6,8 @@ use Rattle.py_compile.specs.Table.{InWhile, InFor, InTry, InClause, InFinally}
 use Rattle.py_compile.specs.Plans.{planned, planned_all, planned_arm, planned_arms, planned_block, planned_handler, planned_handlers}
 use Rattle.py_compile.specs.Rounds.{around_of, env_of}
 use Rattle.py_compile.specs.PlanWeights.{plan_weight, plan_weights, plan_weights_arms, plan_weights_handlers}
-use Rattle.py_compile.proofs.Rests.{drop_turn, rest_step}
+use Rattle.py_base.proofs.Lists.{next_item}
+use Rattle.py_compile.proofs.Rests.{rest_step}
 use Rattle.py_compile.proofs.StmtArms.{if_arm, arm_arm, while_arm, for_arm, try_arm, finally_arm, return_arm, handler_arm}
 use Rattle.py_compile.proofs.Leaves.{ok_map, leave_finally}
 use Rattle.py_compile.proofs.Plans as p
@@ -16,14 +17,14 @@ use Rattle.py_compile.proofs.statement.+statements.Goals as goal
 
 pub block-loop-x-preserved : goal.block-loop-x-preserved
 block-loop-x-preserved t c =
-    let e = drop_turn c.args.items.now c.loop-x.x-index c.x-item.result c.loop-x-test.true c.x-item.is in
+    let e = next_item c.args.items.now c.loop-x.x-index c.x-item.result c.loop-x-test.true c.x-item.is in
     let w = ap plan_weights e in
     let l = c.loop-x.invariant.1 in
     (rest_step (env_of c.args.around.now) c.args.e.now (planned_all c.args.items.now c.args.names.now (around_of c.args.names.now c.args.around.now)) c.loop-x.e c.statement.new.e (planned c.x-item.result c.args.names.now (around_of c.args.names.now c.args.around.now)) (planned_all (drop (c.loop-x.x-index + 1) c.args.items.now) c.args.names.now (around_of c.args.names.now c.args.around.now)) (rw e at c.loop-x.invariant.0) c.in_ok-statement.ensures.done, grind (arith, common_steps))
 
 pub arms-loop-x-preserved : goal.arms-loop-x-preserved
 arms-loop-x-preserved t c =
-    let e = drop_turn c.args.items.now c.loop-x.x-index c.x-item.result c.loop-x-test.true c.x-item.is in
+    let e = next_item c.args.items.now c.loop-x.x-index c.x-item.result c.loop-x-test.true c.x-item.is in
     let w = ap plan_weights_arms e in
     let l = c.loop-x.invariant.1 in
     let x = c.x-item.result in (
@@ -34,7 +35,7 @@ arms-loop-x-preserved t c =
 
 pub handlers-loop-x-preserved : goal.handlers-loop-x-preserved
 handlers-loop-x-preserved t c =
-    let e = drop_turn c.args.items.now c.loop-x.x-index c.x-item.result c.loop-x-test.true c.x-item.is in
+    let e = next_item c.args.items.now c.loop-x.x-index c.x-item.result c.loop-x-test.true c.x-item.is in
     let w = ap plan_weights_handlers e in
     let l = c.loop-x.invariant.1 in
     let x = c.x-item.result in (
