@@ -19,7 +19,7 @@ use Rattle.py_data.specs.Row.{Row, Ret, Do, Read, Find, Edit, bind}
 use Rattle.py_data.specs.Order.{Rules, IsOrdered, MayPut}
 use Rattle.py_data.specs.Holds.{Holds}
 use Rattle.py_data.specs.Looking.{Looks}
-use Rattle.py_data.specs.Answers.{IsGot, IsAnswer, IsDone}
+use Rattle.py_data.specs.Answers.{IsGot, IfItem, IsAnswer, IsDone}
 use Rattle.py_data.proofs.EveryLemmas.{every_and}
 use Rattle.py_data.proofs.Holding.{holds_ret, holds_bind}
 use Rattle.py_data.proofs.HoldingCalls.{pairs_of, holds_read, holds_find, holds_edit, holds_make, holds_looks}
@@ -30,7 +30,7 @@ use Rattle.obj_dict.specs.declared.listing.Part.{Part}
 use Rattle.obj_dict.specs.declared.listing.Part.TheVariants.{Keys, Values, Items}
 use Rattle.obj_dict.specs.Dict.{key_row, if_key, value_of_pair, get_row, push_at, set_pair, set_row, drop_found, del_row}
 use Rattle.obj_dict.specs.Listing.{half, list_row, tuples_row, half_row, pairs_row, list_of_row}
-use Rattle.obj_dict.specs.HoldsLaws.{IsDictAt, IsFound, DictHolds}
+use Rattle.obj_dict.specs.HoldsLaws.{IsDictAt, DictHolds}
 use Rattle.obj_dict.proofs.FindSteps.{within}
 
 -- the dictionary at an address of a heap in order
@@ -97,18 +97,18 @@ module _ {S : Type 0} (rules : Rules) (stands : Heap → S → Type 0) where
       keyed_holds p (Do (Find d key) k) key h order i (λ is. holds_find rules stands (IsGot p) d key k h a.rec order a.here a.kind is (n (find h a.rec.values key) refl is))
 
   -- ---- get
-  value_holds : (d : ℕ) (key : Value) (h : Heap) (a : At h d) (o : Option ℕ) → find h a.rec.values key ≡ o → Holds rules stands (IsGot IsFound) (value_of_pair {S = S} d o) h
+  value_holds : (d : ℕ) (key : Value) (h : Heap) (a : At h d) (o : Option ℕ) → find h a.rec.values key ≡ o → Holds rules stands (IsGot IfItem) (value_of_pair {S = S} d o) h
   unfolding value_of_pair
-  value_holds d key h a None f = holds_ret rules stands (IsGot IsFound) (Is None) h tt
+  value_holds d key h a None f = holds_ret rules stands (IsGot IfItem) (Is None) h tt
   value_holds d key h a (Some i) f =
       let w = within h a.rec.values key 0 i f in
       let less : 2 * i + 1 < length a.rec.values = let l = w.1 in omega arith in
-      holds_read rules stands (IsGot IsFound) d (λ r. Ret (Is (Some (value_at r.values (2 * i + 1))))) h a.rec a.here
-      (holds_ret rules stands (IsGot IsFound) (Is (Some (value_at a.rec.values (2 * i + 1)))) h (item_at h a.rec.values (2 * i + 1) less a.items))
+      holds_read rules stands (IsGot IfItem) d (λ r. Ret (Is (Some (value_at r.values (2 * i + 1))))) h a.rec a.here
+      (holds_ret rules stands (IsGot IfItem) (Is (Some (value_at a.rec.values (2 * i + 1)))) h (item_at h a.rec.values (2 * i + 1) less a.items))
 
-  get_holds : (h : Heap) (d : ℕ) (key : Value) → IsOrdered rules h → IsDictAt h d → IsItem h key → Holds rules stands (IsGot IsFound) (get_row d key) h
+  get_holds : (h : Heap) (d : ℕ) (key : Value) → IsOrdered rules h → IsDictAt h d → IsItem h key → Holds rules stands (IsGot IfItem) (get_row d key) h
   unfolding get_row
-  get_holds h d key order dict i = let a = at_of rules h d order dict in found_holds IsFound d key (value_of_pair d) h order i a (λ o f k. value_holds d key h a o f)
+  get_holds h d key order dict i = let a = at_of rules h d order dict in found_holds IfItem d key (value_of_pair d) h order i a (λ o f k. value_holds d key h a o f)
 
   -- ---- set
   pushed_holds : (d : ℕ) (key x : Value) (h : Heap) → IsOrdered rules h → (a : At h d) → IsKey h key → IsItem h key → IsItem h x → find h a.rec.values key ≡ None

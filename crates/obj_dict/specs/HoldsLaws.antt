@@ -1,6 +1,6 @@
 -- Over each heap in order each operation on a dictionary holds; and no record is longer in its course than before it or at its
 -- end. States `docs/LANGUAGE.md`, "Dictionaries", and `docs/HEAP.md`, "Rows that hold".
-use Rattle.std.specs.Prelude.{◌≡◌, ℕ, false, Option, IfSome}
+use Rattle.std.specs.Prelude.{◌≡◌, ℕ, false}
 use Rattle.py_base.specs.declared.kind.Kind.TheVariants.{Dict}
 use Rattle.py_data.specs.declared.value.Value.{Value}
 use Rattle.py_data.specs.Heap.{Heap}
@@ -8,7 +8,7 @@ use Rattle.py_data.specs.Shape.{KindIn}
 use Rattle.py_data.specs.Closed.{IsItem}
 use Rattle.py_data.specs.Order.{Rules, IsOrdered}
 use Rattle.py_data.specs.Holds.{Holds}
-use Rattle.py_data.specs.Answers.{IsGot, IsAnswer, IsDone}
+use Rattle.py_data.specs.Answers.{IsGot, IfItem, IsAnswer, IsDone}
 use Rattle.py_data.specs.Steady.{Steady}
 use Rattle.obj_dict.specs.declared.listing.Part.{Part}
 use Rattle.obj_dict.specs.Dict.{get_row, set_row, del_row}
@@ -18,14 +18,10 @@ use Rattle.obj_dict.specs.Listing.{list_of_row}
 abbrev pub IsDictAt : Heap → ℕ → Type 0
 IsDictAt h d = KindIn (h d) (λ k. k ≡ Dict)
 
--- an item, where something was found
-abbrev pub IsFound : Option Value → Heap → Type 0
-IsFound o h = IfSome o (λ x. IsItem h x)
-
 -- with values that stand in the heap each operation may be begun, leaves a heap in order, and answers what stands in it or an
 -- exception
 pub record DictHolds {S : Type 0} (rules : Rules) (stands : Heap → S → Type 0) : Type 0 where
-  pub get : (h : Heap) (d : ℕ) (key : Value) → IsOrdered rules h → IsDictAt h d → IsItem h key → Holds rules stands (IsGot IsFound) (get_row d key) h
+  pub get : (h : Heap) (d : ℕ) (key : Value) → IsOrdered rules h → IsDictAt h d → IsItem h key → Holds rules stands (IsGot IfItem) (get_row d key) h
   pub set : (h : Heap) (d : ℕ) (key x : Value) → IsOrdered rules h → IsDictAt h d → IsItem h key → IsItem h x → Holds rules stands IsDone (set_row d key x) h
   pub del : (h : Heap) (d : ℕ) (key : Value) → IsOrdered rules h → IsDictAt h d → IsItem h key → Holds rules stands IsAnswer (del_row d key) h
   pub list_of : (h : Heap) (d : ℕ) (part : Part) → IsOrdered rules h → IsDictAt h d → Holds rules stands IsAnswer (list_of_row d part) h

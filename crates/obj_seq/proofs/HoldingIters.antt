@@ -18,7 +18,7 @@ use Rattle.py_data.specs.Row.{Row, Ret, Do, Read}
 use Rattle.py_data.specs.Sense.{IfThere, ShownOf}
 use Rattle.py_data.specs.Order.{Rules, FitsAt, IsOrdered, MayPut}
 use Rattle.py_data.specs.Holds.{Holds}
-use Rattle.py_data.specs.Answers.{IsGot}
+use Rattle.py_data.specs.Answers.{IsGot, IfItem}
 use Rattle.py_data.proofs.Holding.{holds_ret}
 use Rattle.py_data.proofs.HoldingCalls.{holds_read, holds_edit, holds_make}
 use Rattle.py_data.proofs.ItemLemmas.{item_stays, fit_items}
@@ -28,7 +28,7 @@ use Rattle.py_data.proofs.Steps.{put-here}
 use Rattle.obj_seq.specs.declared.advance.Parts.{Parts}
 use Rattle.py_data.specs.Range.{range_length, range_item}
 use Rattle.obj_seq.specs.Iter.{iter_row, iter_of, count_of, is_iter, iter_values, make_iter_row, IfRange, CanIter, go_or_end, byte_or_end, number_in, pick, has_changed, is_str, next_over, next_with, next_row, parts_of, CanNextWith, CanNext}
-use Rattle.obj_seq.specs.HoldsLaws.{IsIterAt, IsIterator, IsNext, SeqHolds, SeqForms}
+use Rattle.obj_seq.specs.HoldsLaws.{IsIterAt, IsIterator, SeqHolds, SeqForms}
 use Rattle.obj_seq.proofs.IterFaults.{iter_kind}
 use Rattle.obj_seq.proofs.Holding.{at_of, cond_holds, item_holds, set_item_holds, del_item_holds, pop_holds, insert_holds, reverse_holds, slice_holds}
 
@@ -71,15 +71,15 @@ get_has P [] i e = tt
 get_has P (x ∷ xs) zero e = e.0
 get_has P (x ∷ xs) (suc i) e = get_has P xs i e.1
 
-number_item : (h : Heap) (vs : List Value) (at : ℕ) → IsNext (number_in vs at) h
+number_item : (h : Heap) (vs : List Value) (at : ℕ) → IfItem (number_in vs at) h
 number_item h (Int start ∷ Int stop ∷ Int step ∷ []) at = by (ltb at (range_length start stop step))
   where
-    by : (b : Bool) → IsNext (cond b (Some (Int (range_item start step at))) None) h
+    by : (b : Bool) → IfItem (cond b (Some (Int (range_item start step at))) None) h
     by true = (tt, λ e. let z : Int (range_item start step at) ≡ Unset = e in cc)
     by false = tt
 number_item h _ at = tt
 
-picked_item : (h : Heap) (k : Kind) (vs : List Value) (at : ℕ) → Every (IsItem h) vs → IsNext (pick k vs at) h
+picked_item : (h : Heap) (k : Kind) (vs : List Value) (at : ℕ) → Every (IsItem h) vs → IfItem (pick k vs at) h
 picked_item h ListKind vs at i = get_has (IsItem h) vs at i
 picked_item h Tuple vs at i = get_has (IsItem h) vs at i
 picked_item h Dict vs at i = get_has (IsItem h) vs (2 * at) i
@@ -125,44 +125,44 @@ module _ {S : Type 0} (rules : Rules) (stands : Heap → S → Type 0) where
   make_iter_holds h (Builtin b) order i = none_holds h
 
   -- ---- next
-  go_holds : (it at : ℕ) (o : Option Value) (h : Heap) → IsOrdered rules h → IsIterAt h it → IsNext o h → Holds rules stands (IsGot IsNext) (go_or_end it at o) h
+  go_holds : (it at : ℕ) (o : Option Value) (h : Heap) → IsOrdered rules h → IsIterAt h it → IfItem o h → Holds rules stands (IsGot IfItem) (go_or_end it at o) h
   unfolding go_or_end
-  go_holds it at None h order k i = holds_ret rules stands (IsGot IsNext) (Is None) h tt
+  go_holds it at None h order k i = holds_ret rules stands (IsGot IfItem) (Is None) h tt
   go_holds it at (Some x) h order k i =
       let t = at_of h it (λ k. k ≡ Iter) k in
       let q = t.rec in
       let p = parted_at rules h it q order t.here t.kind in
-      holds_edit rules stands (IsGot IsNext) it (change.Set 1 (Int (pos (at + 1)))) (λ _. Ret (Is (Some x))) h q order t.here (ap is_tracked t.kind, p.three) (subst (λ z. IsValuePlace z 1) (sym t.kind) tt)
+      holds_edit rules stands (IsGot IfItem) it (change.Set 1 (Int (pos (at + 1)))) (λ _. Ret (Is (Some x))) h q order t.here (ap is_tracked t.kind, p.three) (subst (λ z. IsValuePlace z 1) (sym t.kind) tt)
       (subst (λ z. MayPut rules h it z 1 (Int (pos (at + 1)))) (sym t.kind) tt)
-      (λ h1 order1 y f. holds_ret rules stands (IsGot IsNext) (Is (Some x)) h1 (item_stays h h1 y x i))
+      (λ h1 order1 y f. holds_ret rules stands (IsGot IfItem) (Is (Some x)) h1 (item_stays h h1 y x i))
 
-  byte_holds : (it at : ℕ) (o : Option ℕ) (h : Heap) → IsOrdered rules h → IsIterAt h it → Holds rules stands (IsGot IsNext) (byte_or_end it at o) h
+  byte_holds : (it at : ℕ) (o : Option ℕ) (h : Heap) → IsOrdered rules h → IsIterAt h it → Holds rules stands (IsGot IfItem) (byte_or_end it at o) h
   unfolding byte_or_end
-  byte_holds it at None h order k = holds_ret rules stands (IsGot IsNext) (Is None) h tt
+  byte_holds it at None h order k = holds_ret rules stands (IsGot IfItem) (Is None) h tt
   byte_holds it at (Some x) h order k =
-      holds_make rules stands (IsGot IsNext) (new_rec Str [] (x ∷ [])) (λ b. go_or_end it at (Some (Ref (record { 0 = b })))) h (λ b. text_fits rules h b (x ∷ []) (omega arith))
+      holds_make rules stands (IsGot IfItem) (new_rec Str [] (x ∷ [])) (λ b. go_or_end it at (Some (Ref (record { 0 = b })))) h (λ b. text_fits rules h b (x ∷ []) (omega arith))
       (λ b h1 order1 y e item. go_holds it at (Some (Ref (record { 0 = b }))) h1 order1 (kind_stays h h1 y it (λ k. k ≡ Iter) k) item)
 
-  over_holds : (it at count : ℕ) (r : Rec) (h : Heap) → IsOrdered rules h → IsIterAt h it → Every (IsItem h) r.values → Holds rules stands (IsGot IsNext) (next_over it at count r) h
+  over_holds : (it at count : ℕ) (r : Rec) (h : Heap) → IsOrdered rules h → IsIterAt h it → Every (IsItem h) r.values → Holds rules stands (IsGot IfItem) (next_over it at count r) h
   over_holds it at count r h order k i =
       let other : Row S (Got (Option Value)) = go_or_end it at (pick r.kind r.values at) in
-      cond_holds rules stands (IsGot IsNext) (is_str r.kind) (byte_or_end it at (slice_get r.bytes at)) (cond (has_changed r.kind r.values count) (Ret (Raise size_fault)) other) h
+      cond_holds rules stands (IsGot IfItem) (is_str r.kind) (byte_or_end it at (slice_get r.bytes at)) (cond (has_changed r.kind r.values count) (Ret (Raise size_fault)) other) h
       (λ y. byte_holds it at (slice_get r.bytes at) h order k)
-      (λ n. cond_holds rules stands (IsGot IsNext) (has_changed r.kind r.values count) (Ret (Raise size_fault)) other h (λ y. holds_ret rules stands (IsGot IsNext) (Raise size_fault) h (lit< tt, lit< tt, tt))
+      (λ n. cond_holds rules stands (IsGot IfItem) (has_changed r.kind r.values count) (Ret (Raise size_fault)) other h (λ y. holds_ret rules stands (IsGot IfItem) (Raise size_fault) h (lit< tt, lit< tt, tt))
       (λ n. go_holds it at (pick r.kind r.values at) h order k (picked_item h r.kind r.values at i)))
 
-  with_holds : (it : ℕ) (p : Parts) (h : Heap) → IsOrdered rules h → IsIterAt h it → KindIn (h p.over.0) (λ k. is_iterable k ≡ true) → Holds rules stands (IsGot IsNext) (next_with it (Some p)) h
+  with_holds : (it : ℕ) (p : Parts) (h : Heap) → IsOrdered rules h → IsIterAt h it → KindIn (h p.over.0) (λ k. is_iterable k ≡ true) → Holds rules stands (IsGot IfItem) (next_with it (Some p)) h
   unfolding next_with
   with_holds it p h order k i =
       let t = at_of h p.over.0 (λ k. is_iterable k ≡ true) i in
-      holds_read rules stands (IsGot IsNext) p.over.0 (next_over it p.at p.count) h t.rec t.here
+      holds_read rules stands (IsGot IfItem) p.over.0 (next_over it p.at p.count) h t.rec t.here
       (over_holds it p.at p.count t.rec h order k (fit_items rules h p.over.0 t.rec (order.each p.over.0 t.rec t.here) (iterable_set t.rec.kind t.kind)))
 
-  next_holds : (h : Heap) (it : ℕ) → IsOrdered rules h → IsIterAt h it → Holds rules stands (IsGot IsNext) (next_row it) h
+  next_holds : (h : Heap) (it : ℕ) → IsOrdered rules h → IsIterAt h it → Holds rules stands (IsGot IfItem) (next_row it) h
   next_holds h it order k =
       let t = at_of h it (λ k. k ≡ Iter) k in
       let p = parted_at rules h it t.rec order t.here t.kind in
-      holds_read rules stands (IsGot IsNext) it (λ q. next_with it (parts_of q.values)) h t.rec t.here (subst (λ o. Holds rules stands (IsGot IsNext) (next_with {S = S} it o) h) (sym p.is) (with_holds it p.parts h order k p.over))
+      holds_read rules stands (IsGot IfItem) it (λ q. next_with it (parts_of q.values)) h t.rec t.here (subst (λ o. Holds rules stands (IsGot IfItem) (next_with {S = S} it o) h) (sym p.is) (with_holds it p.parts h order k p.over))
 
   pub seq_holds : SeqHolds rules stands
   seq_holds = record {

@@ -1,6 +1,6 @@
 -- Over each heap in order each operation on a list, a tuple or an iterator holds; and no record is longer in its course than
 -- before it or at its end. States `docs/LANGUAGE.md`, "Lists and tuples" and "Iteration", and `docs/HEAP.md`, "Rows that hold".
-use Rattle.std.specs.Prelude.{◌≡◌, ℕ, ℤ, Bool, false, Option, IfSome}
+use Rattle.std.specs.Prelude.{◌≡◌, ℕ, ℤ, Bool, false, Option}
 use Rattle.py_base.specs.declared.kind.Kind.TheVariants.{List as ListKind, Iter}
 use Rattle.py_data.specs.declared.value.Value.{Value}
 use Rattle.py_data.specs.Heap.{Heap}
@@ -9,7 +9,7 @@ use Rattle.py_data.specs.Closed.{IsItem}
 use Rattle.py_data.specs.Order.{Rules, IsOrdered}
 use Rattle.py_data.specs.Sense.{ShownOf}
 use Rattle.py_data.specs.Holds.{Holds}
-use Rattle.py_data.specs.Answers.{IsGot, IsAnswer, IsDone, IsSequenceKind}
+use Rattle.py_data.specs.Answers.{IsGot, IfItem, IsAnswer, IsDone, IsSequenceKind}
 use Rattle.py_data.specs.Steady.{Steady}
 use Rattle.obj_seq.specs.Seq.{item_row, set_item_row, del_item_row, pop_row, insert_row, reverse_row, slice_row}
 use Rattle.obj_seq.specs.Iter.{iter_row, next_row, CanIter, CanNext}
@@ -30,10 +30,6 @@ IsIterAt h it = KindIn (h it) (λ k. k ≡ Iter)
 abbrev pub IsIterator : Value → Heap → Type 0
 IsIterator x h = IsItem h x × RefTo h Iter x
 
--- an item, or none where there are no more
-abbrev pub IsNext : Option Value → Heap → Type 0
-IsNext o h = IfSome o (IsItem h)
-
 -- with values that stand in the heap each operation may be begun, leaves a heap in order, and answers what stands in it or an
 -- exception
 pub record SeqHolds {S : Type 0} (rules : Rules) (stands : Heap → S → Type 0) : Type 0 where
@@ -45,7 +41,7 @@ pub record SeqHolds {S : Type 0} (rules : Rules) (stands : Heap → S → Type 0
   pub reverse : (h : Heap) (a : ℕ) → IsOrdered rules h → IsListAt h a → Holds rules stands (λ u h. Unit {0}) (reverse_row a) h
   pub slice : (h : Heap) (a : ℕ) (from to : Option ℤ) → IsOrdered rules h → IsSequenceAt h a → Holds rules stands IsAnswer (slice_row a from to) h
   pub make_iter : (h : Heap) (x : Value) → IsOrdered rules h → IsItem h x → Holds rules stands (IsGot IsIterator) (iter_row x) h
-  pub next : (h : Heap) (it : ℕ) → IsOrdered rules h → IsIterAt h it → Holds rules stands (IsGot IsNext) (next_row it) h
+  pub next : (h : Heap) (it : ℕ) → IsOrdered rules h → IsIterAt h it → Holds rules stands (IsGot IfItem) (next_row it) h
 
 -- a view that shows a heap in order, or a part of it, shows iterators and ranges as such
 pub record SeqForms (rules : Rules) : Type 0 where

@@ -1,5 +1,5 @@
 -- What operations on objects answer: values that may be items, and exceptions. States `docs/HEAP.md`, "Rows that hold".
-use Rattle.std.specs.Prelude.{◌<◌, codes}
+use Rattle.std.specs.Prelude.{◌<◌, Option, IfSome, codes}
 use Rattle.py_base.specs.Numbers.{class_number, class_count}
 use Rattle.py_data.specs.declared.value.Value.{Value}
 use Rattle.py_base.specs.declared.kind.Kind.{Kind}
@@ -30,6 +30,10 @@ IsGot p (Raise e) h = IsFault h e
 -- an item, or an exception
 abbrev pub IsAnswer : Got Value → Heap → Type 0
 IsAnswer = IsGot (λ v h. IsItem h v)
+
+-- an item, or none
+abbrev pub IfItem : Option Value → Heap → Type 0
+IfItem o h = IfSome o (IsItem h)
 
 -- nothing, or an exception
 abbrev pub IsDone : Got (Unit {0}) → Heap → Type 0

@@ -16,7 +16,7 @@ mod undo;
 mod value;
 mod view;
 
-pub use change::{Change, changed};
+pub use change::Change;
 pub use entry::Entry;
 pub use find::{Records, find_pair};
 pub use laws::{

@@ -1,7 +1,7 @@
 //! Rooms by hand, and a list of conflicts copied.
 use crate::{
     Addr, Bytes, Change, Conflict, Conflicts, Entry, Kind, LENGTH_LIMIT, Record, Side, Value,
-    Values, changed,
+    Values,
 };
 use std::alloc::{AllocError, Global};
 use std::process::Abort;
@@ -171,7 +171,8 @@ fn a_changed_copy(rt: HostRuntime) -> Tested {
     let alloc = rt.alloc();
     let list = made(&rt, alloc, Kind::List, 3)?;
     assert!(rt; matches!(list.kind(), Kind::List));
-    let cut = changed(alloc, &list, Change::Cut(1))?;
+    let mut cut = list.copy(alloc)?;
+    cut.apply(alloc, Change::Cut(1))?;
     assert_eq!(rt; cut.values(), [Value::Int(0)].as_slice());
     assert_eq!(rt; cut.rooms(), (4, 4));
     assert_eq!(rt; cut.bytes().len(), 0);

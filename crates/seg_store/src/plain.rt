@@ -6,8 +6,7 @@ use crate::hand::Hand;
 use crate::object::{Object, Since, Turn};
 use crate::store::{SegStore, StoreFault};
 use py_data::{
-    Addr, Change, Entry, Kind, LENGTH_LIMIT, NoMemory, Peek, Record, Records, Value, changed,
-    find_pair,
+    Addr, Change, Entry, Kind, LENGTH_LIMIT, NoMemory, Peek, Record, Records, Value, find_pair,
 };
 use std::alloc::Global;
 
@@ -130,10 +129,11 @@ impl PlainStore {
         ensures ok { OnOk result (plain_meaning self.new ≡ after_change k a.0 (after c) (plain_meaning self.old)) }
         ensures err { OnErr result (plain_meaning self.new ≡ plain_meaning self.old) }
     {
-        let next = match self.seen(k, a.0) {
-            Some(r) => changed(self.alloc, r, c)?,
+        let mut next = match self.seen(k, a.0) {
+            Some(r) => r.copy(self.alloc)?,
             None => unreachable!(),
         };
+        next.apply(self.alloc, c)?;
         self.objects[a.0 as usize].replace(next);
         Ok(())
     }
