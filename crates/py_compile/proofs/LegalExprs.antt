@@ -18,7 +18,6 @@ use Rattle.py_compile.specs.Expressions.{operator}
 use Rattle.py_compile.proofs.Sane.{fits_level, sane, sane_trailer, all_sane, sane_some, sane_links, sane_named, sane_pairs, sane_trailers}
 use Rattle.py_compile.proofs.SaneRows.{sane_name, sane_int, sane_str, sane_group, sane_tuple, sane_list, sane_dict, sane_trail, sane_power, sane_unary, sane_chain, sane_not, sane_choice, sane_attribute, sane_index, sane_slice, sane_call}
 
-
 -- operators that compare have numbers of comparisons
 compare_fits : (o : Operator) (b : Bool) → level_of o ≡ Some level.Compare → b ≡ true → fits_level level.Compare (operator o, b) ≡ true
 compare_fits op.Or b e f = absurd (cc)
