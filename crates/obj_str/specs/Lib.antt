@@ -1,1 +1,4 @@
 pub mod Strings
+pub mod Pieces
+pub mod PiecesWorked
+pub mod Cutting
