@@ -1,3 +1,4 @@
 pub mod Copied
 pub mod PiecesLemmas
 pub mod BlankLemmas
+pub mod Fitting

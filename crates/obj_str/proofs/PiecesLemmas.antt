@@ -142,3 +142,25 @@ piece_found (s ∷ ss) bs k l f = split_found s ss bs k (sym (found bs (s ∷ ss
 pub piece_last : (sep bs : List ℕ) → 0 < length sep → FindsNeedle bs sep 0 None → split sep bs ≡ bs ∷ []
 piece_last [] bs l f = absurd (omega (arith, l))
 piece_last (s ∷ ss) bs l f = split_whole s ss bs (sym (found bs (s ∷ ss) None f))
+
+-- ---- there is a piece
+pub record HasFirst (ps : List (List ℕ)) : Type 0 where
+  pub first : List ℕ
+  pub more : List (List ℕ)
+  pub is : ps ≡ first ∷ more
+
+first_onto : (b : ℕ) (ps : List (List ℕ)) → HasFirst (onto b ps)
+first_onto b [] = record { first = b ∷ []; more = []; is = refl }
+first_onto b (p ∷ ps) = record { first = b ∷ p; more = ps; is = refl }
+
+first_by : (t : Bool) (x y : List (List ℕ)) → HasFirst x → HasFirst y → HasFirst (cond t x y)
+first_by true x y i j = i
+first_by false x y i j = j
+
+first_cut : (n : ℕ) (sep bs : List ℕ) → HasFirst (cut n sep bs)
+first_cut n sep [] = record { first = []; more = []; is = refl }
+first_cut (suc n) sep (b ∷ bs) = first_cut n sep bs
+first_cut zero sep (b ∷ bs) = first_by (begins sep (b ∷ bs)) ([] ∷ cut (length sep - 1) sep bs) (onto b (cut zero sep bs)) (record { first = []; more = cut (length sep - 1) sep bs; is = refl }) (first_onto b (cut zero sep bs))
+
+pub first_split : (sep bs : List ℕ) → HasFirst (split sep bs)
+first_split sep bs = first_cut 0 sep bs

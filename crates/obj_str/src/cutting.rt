@@ -9,7 +9,7 @@ use py_base::{first, skip};
 
 /// The piece before the first separator, and what stands behind the separator.
 #[tactic(auto, using(crate::proofs::PiecesLemmas::piece_found, crate::proofs::PiecesLemmas::piece_last))]
-fn cut_at<'a>(separator: &Finder<'_>, bytes: &'a [u8]) -> Option<(&'a [u8], &'a [u8])>
+pub fn cut_at<'a>(separator: &Finder<'_>, bytes: &'a [u8]) -> Option<(&'a [u8], &'a [u8])>
     requires some { 0 < length separator.now }
     ensures pieces { MatchOption result (split separator.now bytes.now ≡ last_of (Some separator.now) bytes.now) (λ p. split separator.now bytes.now ≡ p.0.now ∷ split separator.now p.1.now) }
     ensures shorter { IfSome result (λ p. length p.1.now < length bytes.now) }

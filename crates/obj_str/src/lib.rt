@@ -3,6 +3,8 @@
 
 mod blanks;
 mod cutting;
+mod growing;
+mod replace;
 mod search;
 mod text;
 
