@@ -15,3 +15,4 @@ pub mod HoldingIters
 pub mod SteadyRows
 pub mod Safely
 pub mod SafeIters
+pub mod HoldingGather

@@ -4,3 +4,4 @@ pub mod Iter
 pub mod Laws
 pub mod HoldsLaws
 pub mod Safety
+pub mod Gather
