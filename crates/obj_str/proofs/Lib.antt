@@ -2,3 +2,4 @@ pub mod Copied
 pub mod PiecesLemmas
 pub mod BlankLemmas
 pub mod Fitting
+pub mod JoinLoop

@@ -2,3 +2,5 @@ pub mod Strings
 pub mod Pieces
 pub mod PiecesWorked
 pub mod Cutting
+pub mod Methods
+pub mod Adding

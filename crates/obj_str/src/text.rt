@@ -1,5 +1,6 @@
 //! The bytes of a string, and new strings.
 ghost use Rattle.std.specs.Prelude.{◌≡◌};
+ghost use Rattle.obj_str.specs.Cutting.{fitted_row};
 ghost use Rattle.obj_str.specs.Strings.{new_text};
 ghost use Rattle.py_data.specs.declared.record.Got.TheVariants.{Raise};
 ghost use Rattle.py_data.specs.Fault.{memory_fault};
@@ -51,5 +52,29 @@ pub fn make_str<S, V: View<S>>(alloc: Global, v: &mut V, b: &[u8]) -> Result<Got
         Ok(Got::Is(Value::Ref(v.make(&made)?)))
     } else {
         Ok(too_long())
+    }
+}
+
+/// A new string of a text. MemoryError where it has become longer than a string may be.
+#[tactic(auto, using(py_data::proofs::Rows::row_steps), unfolding(crate::specs::Cutting::fitted_row))]
+pub fn make_fitting<S, V: View<S>>(
+    alloc: Global,
+    v: &mut V,
+    text: Option<Bytes>,
+) -> Result<Got<Value>, Stop>
+    requires live { IsLive V.sense v.old }
+    requires safe { Safe V.sense.partial (fitted_row {S = S} text) (V.sense.heap v.old) }
+    ensures { Meets V.sense (fitted_row text) v.old v.new result }
+{
+    match text {
+        Some(bytes) => {
+            let made = Record {
+                kind: Kind::Str,
+                values: Values::new(alloc),
+                bytes,
+            };
+            Ok(Got::Is(Value::Ref(v.make(&made)?)))
+        }
+        None => Ok(too_long()),
     }
 }
