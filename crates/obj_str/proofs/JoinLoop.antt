@@ -1,21 +1,24 @@
 -- The loop that joins the texts of values, and the one that makes the strings of pieces.
-use Rattle.std.proofs.Common.{◌≡◌, ℕ, Bool, true, false, cond, List, [], ◌∷◌, ◌++◌, length, Option, Some, None, Result, Ok, Err, refl, sym, ap, subst, ◌∙◌, append_assoc}
+use Rattle.std.proofs.Common.{◌≡◌, ◌≢◌, ℕ, ◌==◌, MatchResult, Bool, true, false, cond, List, [], ◌∷◌, ◌++◌, length, Option, Some, None, Result, Ok, Err, refl, sym, ap, subst, ◌∙◌, append_assoc}
 use Rattle.std.specs.Prelude.{leb}
+use Rattle.std.proofs.lemmas.Bool.{eqb-true}
 use Rattle.py_data.specs.declared.stop.Stop.{Stop}
+use Rattle.py_data.specs.declared.stop.Stop.TheVariants.{OutOfMemory}
 use Rattle.py_data.specs.declared.value.Value.{Value}
 use Rattle.py_data.specs.declared.record.Fault.{Fault}
 use Rattle.py_data.specs.declared.record.Got.{Got}
 use Rattle.py_data.specs.declared.record.Got.TheVariants.{Is, Raise}
 use Rattle.py_data.specs.declared.record.TheConstants.{LENGTH_LIMIT}
-use Rattle.py_data.specs.Fault.{memory_fault}
+use Rattle.py_data.specs.Fault.{memory_fault, operand_fault}
 use Rattle.py_data.specs.Looking.{got_row}
 use Rattle.py_data.specs.Rest.{Leads}
 use Rattle.py_data.specs.Row.{Row, Ret, bind}
 use Rattle.py_data.specs.Sense.{Sense, Lawful, Safe, IsLive, Meets}
+use Rattle.py_data.proofs.Rows.{meets-answer}
 use Rattle.py_data.proofs.Steps.{leads-begin, leads-call, leads-call-stop, leads-ret, leads-own, safe-first}
 use Rattle.obj_str.specs.Adding.{Adds}
 use Rattle.obj_str.specs.Cutting.{fitting, fitted_row, more_of, has_none}
-use Rattle.obj_str.specs.Methods.{text_item, texts_then, texts_row, piece_row, strings_then}
+use Rattle.obj_str.specs.Methods.{text_item, texts_then, texts_row, piece_row, strings_then, method_row}
 use Rattle.obj_str.specs.Pieces.{joined}
 use Rattle.obj_str.specs.Strings.{made_text, new_text}
 use Rattle.obj_str.proofs.Fitting.{fitting_more}
@@ -137,3 +140,22 @@ module _ {S X : Type 0} {u : Sense S X} {row : Row S (Got Value)} {v w : X} (k :
 
   pub all_met : (y : X) (res : Result (Got Value) Stop) → Meets u (k all) w y res → Meets u row v y res
   all_met y res m = all_leads.finish y res m
+
+-- ---- a number of no method
+unlike : {A : Type 0} (m n : ℕ) (x y : A) → m ≢ n → cond (m == n) x y ≡ y
+unlike m n x y i = by (m == n) refl
+  where
+    by : (t : Bool) → (m == n) ≡ t → cond t x y ≡ y
+    by true e = absurd (i (eqb-true m n e))
+    by false e = refl
+
+pub other_met : {S X : Type 0} (u : Sense S X) (m a : ℕ) (args : List Value) (v : X) (res : Result (Got Value) Stop) → m ≢ 25 → m ≢ 26 → m ≢ 27 → m ≢ 28 → m ≢ 29 → m ≢ 30 → m ≢ 31 → m ≢ 32 → m ≢ 33
+    → MatchResult res (λ g. g ≡ Raise operand_fault) (λ e. e ≡ OutOfMemory) → Meets u (method_row m a args) v v res
+unfolding method_row
+other_met {S} u m a args v res join split strip upper lower begins ends find replace r =
+    let same : method_row {S = S} m a args ≡ Ret (Raise operand_fault) = rows in
+    subst (λ row. Meets u row v v res) (sym same) (meets-answer u (Raise operand_fault) v res r)
+  where
+    rows : method_row {S = S} m a args ≡ Ret (Raise operand_fault)
+    unfolding method_row
+    rows = unlike m 25 _ _ join ∙ (unlike m 26 _ _ split ∙ (unlike m 27 _ _ strip ∙ (unlike m 28 _ _ upper ∙ (unlike m 29 _ _ lower ∙ (unlike m 30 _ _ begins ∙ (unlike m 31 _ _ ends ∙ (unlike m 32 _ _ find ∙ unlike m 33 _ _ replace)))))))

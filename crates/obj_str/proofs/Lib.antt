@@ -3,3 +3,5 @@ pub mod PiecesLemmas
 pub mod BlankLemmas
 pub mod Fitting
 pub mod JoinLoop
+pub mod PiecesLaws
+pub mod StrHolds

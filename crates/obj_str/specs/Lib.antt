@@ -4,3 +4,5 @@ pub mod PiecesWorked
 pub mod Cutting
 pub mod Methods
 pub mod Adding
+pub mod Laws
+pub mod HoldsLaws

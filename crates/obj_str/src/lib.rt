@@ -6,12 +6,16 @@ mod blanks;
 mod cutting;
 mod growing;
 mod join;
+mod laws;
 mod method;
 mod replace;
 mod search;
 mod splitting;
 mod text;
 
+pub use laws::{
+    ends_law, find_law, holds_law, letters_law, replace_law, split_law, strip_law, words_law,
+};
 pub use method::str_method;
 pub use search::find;
 pub use text::{bytes_of, make_str};

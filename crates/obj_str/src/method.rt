@@ -1,5 +1,5 @@
 //! The methods of strings by their numbers.
-ghost use Rattle.std.specs.Prelude.{◌≡◌, ◌<◌, ◌^◌, IfSome};
+ghost use Rattle.std.specs.Prelude.{◌≡◌};
 ghost use Rattle.obj_str.specs.Methods as methods;
 ghost use Rattle.obj_str.specs.Methods.{bare_row, begins_value, ends_value, find_value, method_row, part_in, part_with, replace_with};
 ghost use Rattle.obj_str.specs.Pieces as pieces;
@@ -154,12 +154,12 @@ fn ends_with<S, V: View<S>>(
     }
 }
 
-/// A place as an integer, and -1 for none.
-fn place_value(place: Option<usize>) -> Value
-    requires { IfSome place (λ k. k < 2 ^ 63) }
-    ensures { result ≡ methods.place_value place }
+/// The least place where the part stands, as an integer; -1 for none.
+#[tactic(auto, using(crate::proofs::PiecesLaws::find_within))]
+fn place_in(bytes: &[u8], part: &[u8]) -> Value
+    ensures { result ≡ find_value bytes.now part.now }
 {
-    match place {
+    match search::find(bytes, part) {
         Some(k) => Value::Int(k as i64),
         None => Value::Int(-1),
     }
@@ -178,8 +178,7 @@ fn find_in<S, V: View<S>>(
     ensures { Meets V.sense (part_in find_value a.0 part.now) v.old v.new result }
 {
     let bytes = bytes_of(alloc, v, a)?;
-    let place = search::find(bytes.as_slice(), part);
-    Ok(Got::Is(place_value(place)))
+    Ok(Got::Is(place_in(bytes.as_slice(), part)))
 }
 
 /// The same of an argument.
