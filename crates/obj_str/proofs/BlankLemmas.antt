@@ -93,6 +93,7 @@ end_last (x ∷ xs) b = by (is_blank b) (end_last xs b)
     some : (ys : List ℕ) → kept x (ys ++ b ∷ []) ≡ x ∷ (ys ++ b ∷ [])
     some [] = refl
     some (y ∷ ys) = refl
+
     by : (t : Bool) → without_end (xs ++ b ∷ []) ≡ cond t (without_end xs) (xs ++ b ∷ []) → kept x (without_end (xs ++ b ∷ [])) ≡ cond t (kept x (without_end xs)) (x ∷ (xs ++ b ∷ []))
     by true next = ap (kept x) next
     by false next = ap (kept x) next ∙ some xs

@@ -15,7 +15,7 @@ use Rattle.py_data.specs.Rest.{Leads}
 use Rattle.py_data.specs.Row.{Row, Ret, bind}
 use Rattle.py_data.specs.Sense.{Sense, Lawful, Safe, IsLive, Meets}
 use Rattle.py_data.proofs.Rows.{meets-answer}
-use Rattle.py_data.proofs.Steps.{leads-begin, leads-call, leads-call-stop, leads-ret, leads-own, safe-first}
+use Rattle.py_data.proofs.Steps.{leads-begin, leads-call, leads-call-stop, leads-ret, safe-first}
 use Rattle.obj_str.specs.Adding.{Adds}
 use Rattle.obj_str.specs.Cutting.{fitting, fitted_row, more_of, has_none}
 use Rattle.obj_str.specs.Methods.{text_item, texts_then, texts_row, piece_row, strings_then, method_row}
@@ -149,13 +149,12 @@ unlike m n x y i = by (m == n) refl
     by true e = absurd (i (eqb-true m n e))
     by false e = refl
 
+other_row : (S : Type 0) (m a : ℕ) (args : List Value) → m ≢ 25 → m ≢ 26 → m ≢ 27 → m ≢ 28 → m ≢ 29 → m ≢ 30 → m ≢ 31 → m ≢ 32 → m ≢ 33 → method_row {S = S} m a args ≡ Ret (Raise operand_fault)
+unfolding method_row
+other_row S m a args join split strip upper lower begins ends find replace =
+    unlike m 25 _ _ join ∙ (unlike m 26 _ _ split ∙ (unlike m 27 _ _ strip ∙ (unlike m 28 _ _ upper ∙ (unlike m 29 _ _ lower ∙ (unlike m 30 _ _ begins ∙ (unlike m 31 _ _ ends ∙ (unlike m 32 _ _ find ∙ unlike m 33 _ _ replace)))))))
+
 pub other_met : {S X : Type 0} (u : Sense S X) (m a : ℕ) (args : List Value) (v : X) (res : Result (Got Value) Stop) → m ≢ 25 → m ≢ 26 → m ≢ 27 → m ≢ 28 → m ≢ 29 → m ≢ 30 → m ≢ 31 → m ≢ 32 → m ≢ 33
     → MatchResult res (λ g. g ≡ Raise operand_fault) (λ e. e ≡ OutOfMemory) → Meets u (method_row m a args) v v res
-unfolding method_row
-other_met {S} u m a args v res join split strip upper lower begins ends find replace r =
-    let same : method_row {S = S} m a args ≡ Ret (Raise operand_fault) = rows in
-    subst (λ row. Meets u row v v res) (sym same) (meets-answer u (Raise operand_fault) v res r)
-  where
-    rows : method_row {S = S} m a args ≡ Ret (Raise operand_fault)
-    unfolding method_row
-    rows = unlike m 25 _ _ join ∙ (unlike m 26 _ _ split ∙ (unlike m 27 _ _ strip ∙ (unlike m 28 _ _ upper ∙ (unlike m 29 _ _ lower ∙ (unlike m 30 _ _ begins ∙ (unlike m 31 _ _ ends ∙ (unlike m 32 _ _ find ∙ unlike m 33 _ _ replace)))))))
+other_met {S = S} u m a args v res join split strip upper lower begins ends find replace r =
+    subst (λ row. Meets u row v v res) (sym (other_row S m a args join split strip upper lower begins ends find replace)) (meets-answer u (Raise operand_fault) v res r)

@@ -1,16 +1,16 @@
 -- What the functions on bytes mean, in words of texts and their parts.
-use Rattle.std.proofs.Common.{arith, ◌≡◌, ◌≢◌, ℕ, zero, suc, ◌+◌, ◌-◌, ◌<◌, ◌≤◌, Bool, true, false, cond, ◌&&◌, List, [], ◌∷◌, ◌++◌, length, take, drop, filter, map, Option, Some, None, refl, sym, ap, subst, ◌∙◌, length-drop, length-append, take-append-drop, append_assoc}
+use Rattle.std.proofs.Common.{arith, ◌≡◌, ◌≢◌, ℕ, zero, suc, ◌+◌, ◌-◌, ◌<◌, ◌≤◌, Bool, true, false, cond, ◌&&◌, List, [], ◌∷◌, ◌++◌, length, take, drop, filter, map, Option, Some, None, refl, sym, ap, subst, ◌∙◌, length-append, take-append-drop, append_assoc}
 use Rattle.std.specs.Prelude.{◌==◌, option_map}
 use Rattle.std.specs.Char.{to_ascii_uppercase, to_ascii_lowercase}
-use Rattle.std.proofs.lemmas.Bool.{eqb-true, cond-true, cond-false, false≢true}
+use Rattle.std.proofs.lemmas.Bool.{eqb-true, cond-false, false≢true}
 use Rattle.std.proofs.lemmas.Bool.Decides.{nat_tests}
 use Rattle.std.proofs.lemmas.Slice.Eq.{bytes_eq-Decides}
 use Rattle.py_data.specs.Every.{Every}
-use Rattle.obj_str.specs.Pieces.{begins, ends, find, onto, cut, joined, split, is_blank, cut_blanks, has_bytes, upper, lower, between_all, replaced}
+use Rattle.obj_str.specs.Pieces.{begins, find, onto, cut, joined, split, is_blank, cut_blanks, has_bytes, upper, lower, between_all, replaced}
 use Rattle.obj_str.specs.Laws.{FindLaw, EndsLaw, SplitLaw, SharesNone, ReplaceLaw, IsWord, WordsLaw, StripLaw, LettersLaw}
 use Rattle.obj_str.proofs.BlankLemmas.{strip_twice}
 use Rattle.obj_str.proofs.Fitting.{joined_first}
-use Rattle.obj_str.proofs.PiecesLemmas.{and_both, behind, begins_front, HasFirst, first_split, cut_here, cut_later, cut_skip, split_whole}
+use Rattle.obj_str.proofs.PiecesLemmas.{and_both, behind, begins_front, first_split, cut_here, cut_later, cut_skip}
 
 -- ---- find
 -- what a search answers, by recursion
@@ -52,6 +52,7 @@ there (b ∷ bs) part k f = by (begins part (b ∷ bs)) (find bs part) refl refl
         at : (j : ℕ) → j < suc n → begins part (drop j (b ∷ bs)) ≡ false
         at zero l = e
         at (suc j) l = t.before j (omega (arith, l))
+
     by : (t : Bool) (o : Option ℕ) → begins part (b ∷ bs) ≡ t → find bs part ≡ o → cond {A = Option ℕ} t (Some 0) (option_map (λ k. k + 1) o) ≡ Some k → ((n : ℕ) → find bs part ≡ Some n → There bs part n) → There (b ∷ bs) part k
     by true o e s g rest = let z : 0 ≡ k = cc in subst (There (b ∷ bs) part) z (record { within = omega arith; here = e; before = λ j l. absurd (omega (arith, l)) })
     by false None e s g rest = absurd (let q : ◌≡◌ {A = Option ℕ} None (Some k) = g in cc)
@@ -157,6 +158,7 @@ split_law = record { joined = joins; none = nones }
     joins : (sep bs : List ℕ) → sep ≢ [] → joined sep (split sep bs) ≡ bs
     joins [] bs n = absurd (n refl)
     joins (c ∷ cs) bs n = split_joined c cs bs
+
     nones : (sep bs : List ℕ) → sep ≢ [] → Every (λ p. find p sep ≡ None) (split sep bs)
     nones [] bs n = absurd (n refl)
     nones (c ∷ cs) bs n = pieces_none c cs 0 bs
@@ -214,9 +216,11 @@ replace_law = record { none = nones; same = same }
     nones [] new bs i j s = absurd (i refl)
     nones (o ∷ os) [] bs i j s = absurd (j refl)
     nones (o ∷ os) (n ∷ ns) bs i j s = none_joined o os n ns (split (o ∷ os) bs) s (pieces_none o os 0 bs)
+
     nothing : (bs : List ℕ) → between_all [] bs ≡ bs
     nothing [] = refl
     nothing (b ∷ bs) = ap (λ l. b ∷ l) (nothing bs)
+
     same : (part bs : List ℕ) → replaced part part bs ≡ bs
     same [] bs = nothing bs
     same (c ∷ cs) bs = split_joined c cs bs
@@ -229,6 +233,7 @@ no_blanks (b ∷ bs) = by (is_blank b) refl (no_blanks bs)
     more : (ps : List (List ℕ)) → is_blank b ≡ false → Every (Every (λ b. is_blank b ≡ false)) ps → Every (Every (λ b. is_blank b ≡ false)) (onto b ps)
     more [] e i = ((e, tt), tt)
     more (p ∷ ps) e i = ((e, i.0), i.1)
+
     by : (t : Bool) → is_blank b ≡ t → Every (Every (λ b. is_blank b ≡ false)) (cut_blanks bs) → Every (Every (λ b. is_blank b ≡ false)) (cond t ([] ∷ cut_blanks bs) (onto b (cut_blanks bs)))
     by true e i = (tt, i)
     by false e i = more (cut_blanks bs) e i
@@ -257,9 +262,11 @@ letters_law = record { upper_lower = ups; lower_upper = lows; upper_long = λ bs
     ups : (bs : List ℕ) → upper (lower bs) ≡ upper bs
     ups [] = refl
     ups (b ∷ bs) = ap (λ x. x ∷ upper (lower bs)) (upper_byte b) ∙ ap (λ l. to_ascii_uppercase b ∷ l) (ups bs)
+
     lows : (bs : List ℕ) → lower (upper bs) ≡ lower bs
     lows [] = refl
     lows (b ∷ bs) = ap (λ x. x ∷ lower (upper bs)) (lower_byte b) ∙ ap (λ l. to_ascii_lowercase b ∷ l) (lows bs)
+
     long : (f : ℕ → ℕ) (bs : List ℕ) → length (map f bs) ≡ length bs
     long f [] = refl
     long f (b ∷ bs) = ap suc (long f bs)

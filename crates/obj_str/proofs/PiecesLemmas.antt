@@ -1,11 +1,11 @@
 -- Where a part stands in a text, and the pieces of a text that is cut there.
-use Rattle.std.proofs.Common.{arith, ◌≡◌, ◌≢◌, ℕ, zero, suc, ◌+◌, ◌-◌, ◌<◌, ◌≤◌, Bool, true, false, cond, ◌&&◌, List, [], ◌∷◌, ◌++◌, length, take, drop, Option, Some, None, refl, sym, ap, subst, ◌∙◌, length-drop, take-append-drop}
+use Rattle.std.proofs.Common.{arith, ◌≡◌, ℕ, zero, suc, ◌+◌, ◌-◌, ◌<◌, ◌≤◌, Bool, true, false, cond, ◌&&◌, List, [], ◌∷◌, ◌++◌, length, take, drop, Option, Some, None, refl, sym, ap, subst, ◌∙◌, length-drop, take-append-drop}
 use Rattle.std.specs.Prelude.{◌==◌, option_map, nat_eq}
 use Rattle.std.specs.Cmp.Lexicographic.{pointwise}
-use Rattle.std.proofs.lemmas.Bool.{eqb-true, eq-eqb, cases_Bool, cond-true, cond-false, false≢true}
+use Rattle.std.proofs.lemmas.Bool.{eqb-true, eq-eqb, cond-true, cond-false}
 use Rattle.memchr.specs.Find.{OccursAt, FindsNeedle}
 use Rattle.memchr.proofs.lemmas.MatchLemmas.{OccursAt-part, OccursAt-from_part}
-use Rattle.obj_str.specs.Pieces.{begins, find, joined, onto, cut, split, has_bytes}
+use Rattle.obj_str.specs.Pieces.{begins, find, onto, cut, split}
 
 pub and_both : (a b : Bool) → (a && b) ≡ true → (a ≡ true) × (b ≡ true)
 and_both true b e = (refl, e)
@@ -113,6 +113,7 @@ split_found s ss (b ∷ bs) k f = by (begins (s ∷ ss) (b ∷ bs)) refl (λ n g
       where
         dropped : (n : ℕ) → drop (n + length (s ∷ ss)) bs ≡ drop (suc n + length (s ∷ ss)) (b ∷ bs)
         dropped n = let e : suc n + length (s ∷ ss) ≡ suc (n + length (s ∷ ss)) = omega arith in ap (λ z. drop z (b ∷ bs)) (sym e)
+
     by : (t : Bool) → begins (s ∷ ss) (b ∷ bs) ≡ t → ((n : ℕ) → find bs (s ∷ ss) ≡ Some n → split (s ∷ ss) bs ≡ take n bs ∷ split (s ∷ ss) (drop (n + length (s ∷ ss)) bs)) → split (s ∷ ss) (b ∷ bs) ≡ take k (b ∷ bs) ∷ split (s ∷ ss) (drop (k + length (s ∷ ss)) (b ∷ bs))
     by true e next =
         let z : 0 ≡ k = let q : Some 0 ≡ Some k = sym (cond-true (begins (s ∷ ss) (b ∷ bs)) (Some 0) (option_map (λ k. k + 1) (find bs (s ∷ ss))) e) ∙ f in cc in
@@ -128,6 +129,7 @@ split_whole s ss (b ∷ bs) f = by (begins (s ∷ ss) (b ∷ bs)) refl (split_wh
     none : (o : Option ℕ) → option_map (λ k. k + 1) o ≡ None → o ≡ None
     none None e = refl
     none (Some n) e = absurd (let q : ◌≡◌ {A = Option ℕ} (Some (n + 1)) None = e in cc)
+
     by : (t : Bool) → begins (s ∷ ss) (b ∷ bs) ≡ t → (find bs (s ∷ ss) ≡ None → split (s ∷ ss) bs ≡ bs ∷ []) → split (s ∷ ss) (b ∷ bs) ≡ (b ∷ bs) ∷ []
     by true e next = absurd (let q : ◌≡◌ {A = Option ℕ} (Some 0) None = sym (cond-true (begins (s ∷ ss) (b ∷ bs)) (Some 0) (option_map (λ k. k + 1) (find bs (s ∷ ss))) e) ∙ f in cc)
     by false e next =

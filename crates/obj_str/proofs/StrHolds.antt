@@ -1,7 +1,7 @@
 -- Over each heap in order the methods of strings hold, and no record is longer in their course than before them or at their end.
-use Rattle.std.proofs.Common.{arith, ◌≡◌, ◌≢◌, ℕ, zero, suc, ◌≤◌, ◌==◌, Bool, true, false, cond, ◌||◌, ◌&&◌, List, [], ◌∷◌, ◌++◌, length, Option, Some, None, refl, sym, ap, subst, ◌∙◌, lit<, length-append}
+use Rattle.std.proofs.Common.{arith, ◌≡◌, ℕ, zero, suc, ◌≤◌, ◌==◌, Bool, true, false, cond, ◌||◌, ◌&&◌, List, [], ◌∷◌, ◌++◌, length, Option, Some, None, refl, sym, subst, lit<, length-append}
 use Rattle.std.specs.Prelude.{leb, pos, negsuc, is_some, IfSome, ◌+◌, ◌-◌, filter}
-use Rattle.std.proofs.lemmas.Bool.{leb-true, cases_Bool}
+use Rattle.std.proofs.lemmas.Bool.{leb-true}
 use Rattle.py_base.specs.declared.kind.Kind.TheVariants.{List as ListKind, Str}
 use Rattle.py_data.specs.declared.value.Value.{Value}
 use Rattle.py_data.specs.declared.value.Value.TheVariants.{Unset, None as NoneValue, Bool as BoolValue, Int, Ref, Builtin}
@@ -18,16 +18,15 @@ use Rattle.py_data.specs.Holds.{Holds}
 use Rattle.py_data.specs.Looking.{bytes_row, got_row}
 use Rattle.py_data.specs.Order.{Rules, IsOrdered, Extends}
 use Rattle.py_data.specs.Row.{Row, Ret, Do, Read, Make, bind}
-use Rattle.py_data.specs.Shape.{KindIn}
 use Rattle.py_data.specs.Steady.{Steady, grows}
 use Rattle.py_data.proofs.EveryLemmas.{every_and, every_weaken}
-use Rattle.py_data.proofs.Holding.{holds_ret, holds_bind, holds_weaken}
+use Rattle.py_data.proofs.Holding.{holds_ret, holds_bind}
 use Rattle.py_data.proofs.HoldingCalls.{holds_read, holds_make, holds_looks}
 use Rattle.py_data.proofs.ItemLemmas.{item_stays, items_stay}
 use Rattle.py_data.proofs.Keep.{kind_stays}
 use Rattle.py_data.proofs.Looking.{bytes_looks}
 use Rattle.py_data.proofs.Making.{sequence_fits, text_fits}
-use Rattle.obj_seq.proofs.Holding.{At, at_of, cond_holds}
+use Rattle.obj_seq.proofs.Holding.{at_of, cond_holds}
 use Rattle.obj_seq.proofs.HoldingGather.{gather_holds, gather_steady}
 use Rattle.obj_seq.specs.Gather.{gather_row}
 use Rattle.obj_seq.specs.Iter.{is_str}
@@ -249,19 +248,19 @@ module _ {S : Type 0} (rules : Rules) (stands : Heap → S → Type 0) where
   unfolding method_row
   method_holds h m a args order at i =
       let o = only_item h args i in
-      choose (m == 25) (join_with a (only args)) h (join_holds h a (only args) order at o)
-      (choose (m == 26) (split_row a args) h (split_holds h a args order at i)
-      (choose (m == 27) (bare_row strip a args) h (bare_holds strip h a args order at)
-      (choose (m == 28) (bare_row upper a args) h (bare_holds upper h a args order at)
-      (choose (m == 29) (bare_row lower a args) h (bare_holds lower h a args order at)
-      (choose (m == 30) (part_with begins_value a (only args)) h (part_holds begins_value (λ h bs part. bool_item h (begins part bs)) h a (only args) order at o)
-      (choose (m == 31) (part_with ends_value a (only args)) h (part_holds ends_value (λ h bs part. bool_item h (ends part bs)) h a (only args) order at o)
-      (choose (m == 32) (part_with find_value a (only args)) h (part_holds find_value (λ h bs part. place_item h (find bs part)) h a (only args) order at o)
-      (choose (m == 33) (replace_with a (both args)) h (replace_holds h a (both args) order at (both_items h args i)) (raise_holds (λ v h. IsItem h v) operand_fault h (lit< tt, lit< tt, tt))))))))))
+      choose (m == 25) (join_with a (only args)) _ h (join_holds h a (only args) order at o)
+      (choose (m == 26) (split_row a args) _ h (split_holds h a args order at i)
+      (choose (m == 27) (bare_row strip a args) _ h (bare_holds strip h a args order at)
+      (choose (m == 28) (bare_row upper a args) _ h (bare_holds upper h a args order at)
+      (choose (m == 29) (bare_row lower a args) _ h (bare_holds lower h a args order at)
+      (choose (m == 30) (part_with begins_value a (only args)) _ h (part_holds begins_value (λ h bs part. bool_item h (begins part bs)) h a (only args) order at o)
+      (choose (m == 31) (part_with ends_value a (only args)) _ h (part_holds ends_value (λ h bs part. bool_item h (ends part bs)) h a (only args) order at o)
+      (choose (m == 32) (part_with find_value a (only args)) _ h (part_holds find_value (λ h bs part. place_item h (find bs part)) h a (only args) order at o)
+      (choose (m == 33) (replace_with a (both args)) _ h (replace_holds h a (both args) order at (both_items h args i)) (raise_holds (λ v h. IsItem h v) operand_fault h (lit< tt, lit< tt, tt))))))))))
     where
-      choose : (b : Bool) (row : Row S (Got Value)) {other : Row S (Got Value)} (h : Heap) → Holds rules stands IsAnswer row h → Holds rules stands IsAnswer other h → Holds rules stands IsAnswer (cond b row other) h
-      choose true row h i j = i
-      choose false row h i j = j
+      choose : (b : Bool) (row other : Row S (Got Value)) (h : Heap) → Holds rules stands IsAnswer row h → Holds rules stands IsAnswer other h → Holds rules stands IsAnswer (cond b row other) h
+      choose true row other h i j = i
+      choose false row other h i j = j
 
   pub str_holds : StrHolds rules stands
   str_holds = record { new_text = new_text_holds; method = method_holds }
@@ -372,19 +371,19 @@ module _ (S : Type 0) where
   pub method_steady : (m a : ℕ) (args : List Value) → Steady {S = S} false (method_row m a args)
   unfolding method_row
   method_steady m a args =
-      choose (m == 25) (join_with a (only args)) (join_steady a (only args))
-      (choose (m == 26) (split_row a args) (cond_calm (length args == 0) (cut_row a None) (split_with a (only args)) (cut_calm a None) (split_one_calm a (only args)) false)
-      (choose (m == 27) (bare_row strip a args) (bare_calm strip a args false)
-      (choose (m == 28) (bare_row upper a args) (bare_calm upper a args false)
-      (choose (m == 29) (bare_row lower a args) (bare_calm lower a args false)
-      (choose (m == 30) (part_with begins_value a (only args)) (part_calm begins_value a (only args) false)
-      (choose (m == 31) (part_with ends_value a (only args)) (part_calm ends_value a (only args) false)
-      (choose (m == 32) (part_with find_value a (only args)) (part_calm find_value a (only args) false)
-      (choose (m == 33) (replace_with a (both args)) (replace_calm a (both args) false) (ret_calm _ false)))))))))
+      choose (m == 25) (join_with a (only args)) _ (join_steady a (only args))
+      (choose (m == 26) (split_row a args) _ (cond_calm (length args == 0) (cut_row a None) (split_with a (only args)) (cut_calm a None) (split_one_calm a (only args)) false)
+      (choose (m == 27) (bare_row strip a args) _ (bare_calm strip a args false)
+      (choose (m == 28) (bare_row upper a args) _ (bare_calm upper a args false)
+      (choose (m == 29) (bare_row lower a args) _ (bare_calm lower a args false)
+      (choose (m == 30) (part_with begins_value a (only args)) _ (part_calm begins_value a (only args) false)
+      (choose (m == 31) (part_with ends_value a (only args)) _ (part_calm ends_value a (only args) false)
+      (choose (m == 32) (part_with find_value a (only args)) _ (part_calm find_value a (only args) false)
+      (choose (m == 33) (replace_with a (both args)) _ (replace_calm a (both args) false) (ret_calm _ false)))))))))
     where
-      choose : (b : Bool) (row : Row S (Got Value)) {other : Row S (Got Value)} → Steady false row → Steady false other → Steady false (cond b row other)
-      choose true row i j = i
-      choose false row i j = j
+      choose : (b : Bool) (row other : Row S (Got Value)) → Steady false row → Steady false other → Steady false (cond b row other)
+      choose true row other i j = i
+      choose false row other i j = j
 
   pub new_text_steady : (bs : List ℕ) → Steady {S = S} false (new_text bs)
   new_text_steady bs = new_text_calm bs false

@@ -1,5 +1,5 @@
 -- What the functions on bytes mean, in words of texts and their parts. States `docs/LANGUAGE.md`, "Methods of strings".
-use Rattle.std.specs.Prelude.{◌≡◌, ◌≢◌, ◌<◌, ◌≤◌, ℕ, Bool, true, false, List, [], ◌-◌, ◌++◌, length, take, drop, Option, Some, None}
+use Rattle.std.specs.Prelude.{◌≡◌, ◌≢◌, ◌<◌, ◌≤◌, ℕ, true, false, List, [], ◌-◌, ◌++◌, length, take, drop, Some, None}
 use Rattle.py_data.specs.Every.{Every}
 use Rattle.obj_str.specs.Pieces.{begins, ends, find, joined, split, words, has_bytes, is_blank, strip, upper, lower, replaced}
 

@@ -1,5 +1,5 @@
 -- The rows of the methods of strings. States `docs/LANGUAGE.md`, "Methods of strings".
-use Rattle.std.specs.Prelude.{ℕ, ℤ, pos, negsuc, ◌==◌, Bool, true, false, cond, leb, List, [], ◌∷◌, ◌++◌, length, Option, Some, None, codes}
+use Rattle.std.specs.Prelude.{ℕ, pos, negsuc, ◌==◌, Bool, true, false, cond, leb, List, [], ◌∷◌, ◌++◌, length, Option, Some, None, codes}
 use Rattle.py_base.specs.Numbers.{builtin_number, class_number}
 use Rattle.py_base.specs.declared.kind.Kind.TheVariants.{List as ListKind, Str}
 use Rattle.py_data.specs.declared.value.Value.{Value}

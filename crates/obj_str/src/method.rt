@@ -7,15 +7,14 @@ ghost use Rattle.obj_str.specs.Strings.{new_text};
 ghost use Rattle.py_data.specs.Sense.{Meets, Safe, IsLive};
 
 use crate::argument::{both, only, text_item, wrong_arguments};
-use crate::blanks;
 use crate::join::join;
 use crate::replace::replaced;
-use crate::search;
 use crate::splitting::split;
 use crate::text::{bytes_of, make_fitting, make_str};
+use crate::{blanks, search};
 use py_base::builtin::{
-    STR_ENDSWITH, STR_FIND, STR_JOIN, STR_LOWER, STR_REPLACE, STR_SPLIT, STR_STARTSWITH,
-    STR_STRIP, STR_UPPER,
+    STR_ENDSWITH, STR_FIND, STR_JOIN, STR_LOWER, STR_REPLACE, STR_SPLIT, STR_STARTSWITH, STR_STRIP,
+    STR_UPPER,
 };
 use py_data::exception::{TYPE_ERROR, raise};
 use py_data::{Addr, Got, Stop, Value, View};

@@ -1,7 +1,7 @@
 use Rattle.std.proofs.Common.{sym, ap, ◌∙◌}
 use Rattle.py_data.proofs.Steps.{stop-as}
 use Rattle.obj_seq.specs.Iter.{is_str}
-use Rattle.obj_str.proofs.Copied.{text_met, text_stopped, text_stands}
+use Rattle.obj_str.proofs.Copied.{text_met, text_stopped}
 use Rattle.obj_str.proofs.argument.text_at.Goals as goal
 
 pub returns-in_err-copied-in-Str : goal.returns-in_err-copied-in-Str

@@ -1,5 +1,4 @@
-use Rattle.std.proofs.Common.{Ok, Err, sym, subst}
-use Rattle.py_data.specs.Sense.{Meets}
+use Rattle.std.proofs.Common.{sym, subst}
 use Rattle.py_data.proofs.Steps.{as-err}
 use Rattle.py_data.specs.declared.stop.Stop.TheVariants.{OutOfMemory}
 use Rattle.obj_str.specs.Adding.{Adds}

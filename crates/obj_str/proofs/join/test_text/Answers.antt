@@ -10,6 +10,8 @@ use Rattle.obj_str.proofs.join.test_text.Goals as goal
 pub returns-in-Str : goal.returns-in-Str
 unfolding methods.text_item
 returns-in-Str g c =
-    let bs = (at (g.V.View.sense.heap c.args.v.now) c.in-Ref.a.0).bytes in
-    (bs, subst (λ x. Meets g.V.View.sense (methods.text_item x) c.args.v.now c.kind.new.self (Ok (Is bs))) (sym c.in-Ref.is)
-    (text_told g.met.V.View.lawful c.in-Ref.a.0 _ _ c.in_ok-kind-in-Ref.ensures.0 (ap is_str (sym c.in_ok-kind-in-Ref.ensures.1 ∙ c.in-Str.is))))
+    let bs = (at (g.V.View.sense.heap c.args.v.now) c.in-Ref.a.0).bytes in (
+      bs,
+      subst (λ x. Meets g.V.View.sense (methods.text_item x) c.args.v.now c.kind.new.self (Ok (Is bs))) (sym c.in-Ref.is)
+          (text_told g.met.V.View.lawful c.in-Ref.a.0 _ _ c.in_ok-kind-in-Ref.ensures.0 (ap is_str (sym c.in_ok-kind-in-Ref.ensures.1 ∙ c.in-Str.is))),
+    )

@@ -48,4 +48,3 @@ pub returns-in-None : goal.returns-in-None
 returns-in-None g c =
     let l = leads-begin g.V.View.sense (strings_then new_list (last_of c.args.separator.now c.args.rest.now) c.args.values) c.args.v.now c.requires.safe c.requires.live in
     all_met new_list _ c.args.values c.args.values (ap (λ s. last_of s c.args.rest.now) c.in-None.is) refl l _ _ c.make_list-in-None.ensures
-
