@@ -3,16 +3,19 @@
 
 mod advance;
 mod change;
+mod gather;
 mod iter;
 mod laws;
 mod look;
 mod place;
 mod range;
+mod span;
 #[cfg(test)]
 mod tests;
 
 pub use advance::next;
 pub use change::{del_item, insert, pop, reverse, set_item};
+pub use gather::gather;
 pub use iter::make_iter;
 pub use laws::{
     fault_law, holds_law, insert_law, item_law, iter_fault_law, pop_law, reverse_law,
