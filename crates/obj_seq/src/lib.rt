@@ -3,7 +3,7 @@
 
 mod advance;
 mod change;
-mod gather;
+mod gathering;
 mod iter;
 mod laws;
 mod look;
@@ -15,7 +15,7 @@ mod tests;
 
 pub use advance::next;
 pub use change::{del_item, insert, pop, reverse, set_item};
-pub use gather::gather;
+pub use gathering::gather;
 pub use iter::make_iter;
 pub use laws::{
     fault_law, holds_law, insert_law, item_law, iter_fault_law, pop_law, reverse_law,
