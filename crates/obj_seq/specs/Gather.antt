@@ -1,5 +1,5 @@
 -- The rows that gather all items of an object at once. States `docs/LANGUAGE.md`, "Iteration".
-use Rattle.std.specs.Prelude.{ℕ, zero, suc, ℤ, ◌+◌, ltb, cond, List, [], ◌∷◌, ◌++◌, Option, Some, None, Result, Ok, Err}
+use Rattle.std.specs.Prelude.{◌≡◌, ℕ, zero, suc, ℤ, pos, negsuc, ◌+◌, ltb, cond, false, List, [], ◌∷◌, ◌++◌, Option, Some, None, Result, Ok, Err, refl}
 use Rattle.py_data.specs.declared.value.Value.{Value}
 use Rattle.py_data.specs.declared.value.Value.TheVariants.{Int, Ref}
 use Rattle.py_base.specs.declared.kind.Kind.{Kind}
@@ -9,7 +9,7 @@ use Rattle.py_data.specs.declared.record.Got.TheVariants.{Is, Raise}
 use Rattle.py_data.specs.declared.record.TheConstants.{LENGTH_LIMIT}
 use Rattle.py_data.specs.Heap.{Rec, new_rec}
 use Rattle.py_data.specs.Row.{Row, Ret, Do, Read, Make, bind}
-use Rattle.py_data.specs.Fault.{iterable_fault, memory_fault}
+use Rattle.py_data.specs.Fault.{iterable_fault, memory_fault, size_fault}
 use Rattle.py_data.specs.Looking.{walk_row}
 use Rattle.py_data.specs.Range.{range_length, range_item}
 use Rattle.obj_seq.specs.declared.span.Span.{Span}
@@ -70,3 +70,44 @@ gather_of a r = gather_as a r.kind r.values r.bytes
 unfoldable pub gather_row : {S : Type 0} → Value → Row S (Got (List Value))
 gather_row (Ref a) = Do (Read a.0) (gather_of a.0)
 gather_row _ = Ret (Raise iterable_fault)
+
+-- ---- worked rows
+
+-- the keys of {1: 2, 3: 4}, the numbers of range(5, 0, -2)
+one_and_three : keys_of (Int (pos 1) ∷ Int (pos 2) ∷ Int (pos 3) ∷ Int (pos 4) ∷ []) ≡ Int (pos 1) ∷ Int (pos 3) ∷ []
+one_and_three = refl
+
+five_three_one : numbers (pos 5) (negsuc 1) 3 ≡ Int (pos 5) ∷ Int (pos 3) ∷ Int (pos 1) ∷ []
+five_three_one = refl
+
+-- 'ab' is two new strings, in the order of its bytes
+two_letters : letters_row {S = Unit {0}} [] (97 ∷ 98 ∷ []) ≡ Do (Make (new_rec Str [] (97 ∷ []))) (λ a. Do (Make (new_rec Str [] (98 ∷ []))) (λ b. Ret (Is (Ref (record { 0 = a }) ∷ Ref (record { 0 = b }) ∷ []))))
+unfolding letters_row
+two_letters = refl
+
+-- a range of 1,048,576 numbers may be gathered, and one of 1,048,577 not
+most_numbers : ltb LENGTH_LIMIT (range_length (pos 0) (pos 1_048_576) (pos 1)) ≡ false
+most_numbers = refl
+
+too_many_numbers : numbers_row {S = Unit {0}} (span_of (Int (pos 0) ∷ Int (pos 1_048_577) ∷ Int (pos 1) ∷ [])) ≡ Ret (Raise memory_fault)
+unfolding numbers_row
+too_many_numbers = refl
+
+-- three numbers with a step of 0 are no range
+no_span : span_of (Int (pos 1) ∷ Int (pos 5) ∷ Int (pos 0) ∷ []) ≡ None
+no_span = refl
+
+-- a turn over an iterator after 1: another item, the end, an exception
+one_more : taken (Int (pos 1) ∷ []) (Is (Some (Int (pos 2)))) ≡ Ok (Int (pos 1) ∷ Int (pos 2) ∷ [])
+one_more = refl
+
+at_the_end : taken (Int (pos 1) ∷ []) (Is None) ≡ Err (Is (Int (pos 1) ∷ []))
+at_the_end = refl
+
+stopped_short : taken (Int (pos 1) ∷ []) (Raise size_fault) ≡ Err (Raise size_fault)
+stopped_short = refl
+
+-- a number can't be gone through
+no_items : gather_row {S = Unit {0}} (Int (pos 5)) ≡ Ret (Raise iterable_fault)
+unfolding gather_row
+no_items = refl

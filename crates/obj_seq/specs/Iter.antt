@@ -1,5 +1,5 @@
 -- The rows of going through an object. States `docs/LANGUAGE.md`, "Iteration".
-use Rattle.std.specs.Prelude.{ℕ, zero, ℤ, ◌×◌, pos, ◌+◌, ◌*◌, ◌/◌, ◌==◌, Bool, true, false, List, [], ◌∷◌, length, slice_get, not, ltb, leb, cond, Option, Some, None}
+use Rattle.std.specs.Prelude.{ℕ, zero, ℤ, pos, ◌+◌, ◌*◌, ◌/◌, ◌==◌, Bool, true, false, List, [], ◌∷◌, length, slice_get, not, ltb, leb, cond, Option, Some, None}
 use Rattle.py_data.specs.declared.value.Value.{Value}
 use Rattle.py_data.specs.declared.value.Value.TheVariants.{Int, Ref}
 use Rattle.py_base.specs.declared.kind.Kind.{Kind}

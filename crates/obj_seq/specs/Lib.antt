@@ -4,4 +4,3 @@ pub mod Iter
 pub mod Gather
 pub mod Laws
 pub mod HoldsLaws
-pub mod Safety

@@ -11,7 +11,7 @@ ghost use Rattle.obj_seq.specs.Gather.{gather_row, gather_of, keys_of, letters_r
 
 use crate::advance::{next, one_byte};
 use crate::look::collect;
-use crate::range::{range_item, range_length};
+use crate::range::range_item;
 use crate::span::{Span, read_span};
 use py_data::exception::{MEMORY_ERROR, TYPE_ERROR, raise};
 use py_data::{Addr, Fault, Got, Kind, LENGTH_LIMIT, NoMemory, Stop, Value, Values, View, With};
@@ -87,13 +87,17 @@ fn numbers(alloc: Global, span: Span, n: usize) -> Result<Values, NoMemory>
 
 /// The numbers of a range, unless there are more than a list may have.
 #[tactic(auto, using(py_data::proofs::Rows::row_steps), unfolding(crate::specs::Gather::numbers_row))]
-fn all_numbers<S, V: View<S>>(alloc: Global, v: &mut V, span: Option<Span>) -> Result<Got<Values>, Stop>
+fn all_numbers<S, V: View<S>>(
+    alloc: Global,
+    v: &mut V,
+    span: Option<Span>,
+) -> Result<Got<Values>, Stop>
     requires some { IfSome span (λ s. s.step ≢ pos 0) }
     ensures { Meets {S = S} V.sense (numbers_row span) v.old v.new result }
 {
     match span {
         Some(span) => {
-            let n = range_length(span.start, span.stop, span.step);
+            let n = span.count();
             if n > LENGTH_LIMIT as u64 {
                 return Ok(too_many());
             }
@@ -121,7 +125,12 @@ fn left<S, V: View<S>>(alloc: Global, v: &mut V, it: Addr) -> Result<Got<Values>
 }
 
 /// The items of a record by its kind.
-fn gather_from<S, V: View<S>>(alloc: Global, v: &mut V, a: Addr, kind: Kind) -> Result<Got<Values>, Stop>
+fn gather_from<S, V: View<S>>(
+    alloc: Global,
+    v: &mut V,
+    a: Addr,
+    kind: Kind,
+) -> Result<Got<Values>, Stop>
     requires live { IsLive V.sense v.old }
     requires stands { Stands V.sense a.0 (at (V.sense.heap v.old) a.0) v.old }
     requires kind { kind ≡ (at (V.sense.heap v.old) a.0).kind }

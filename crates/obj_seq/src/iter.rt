@@ -6,7 +6,6 @@ ghost use Rattle.py_data.specs.Row.{Read};
 ghost use Rattle.py_data.specs.Range.{range_length};
 ghost use Rattle.obj_seq.specs.Iter.{iter_row, make_iter_row, iter_values, count_of, count_span, is_iter, span_of};
 
-use crate::range::range_length;
 use crate::span::{Span, read_span};
 use py_data::exception::{TYPE_ERROR, raise};
 use py_data::{Addr, Bytes, Got, Kind, NoMemory, Record, Stop, Value, Values, View};
@@ -33,7 +32,7 @@ fn count_span(span: Option<Span>) -> Option<u64>
     ensures fits { IfSome result (λ n. n < 2 ^ 63) }
 {
     match span {
-        Some(Span { start, stop, step }) => Some(range_length(start, stop, step)),
+        Some(span) => Some(span.count()),
         None => None,
     }
 }

@@ -1,5 +1,5 @@
 //! What the three values of a range's record say.
-ghost use Rattle.std.specs.Prelude.{◌≡◌, ◌≢◌, ◌<◌, ◌≤◌, ◌^◌, length, pos, IfOk, IfSome};
+ghost use Rattle.std.specs.Prelude.{◌≡◌, ◌≢◌, ◌<◌, ◌^◌, pos, true, IfOk, IfSome};
 ghost use Rattle.py_data.specs.Sense.{IsLive, Asks, Shows};
 ghost use Rattle.py_data.specs.Range.{range_length};
 ghost use Rattle.py_data.specs.Row.{Read};
@@ -30,6 +30,19 @@ pub struct Span {
     pub start: i64,
     pub stop: i64,
     pub step: i64,
+}
+
+impl Span {
+    ghost use Rattle.std.specs.Prelude.{◌≡◌, ◌≢◌, pos};
+    ghost use Rattle.py_data.specs.Range.{range_length};
+
+    /// How many numbers it has.
+    pub fn count(self) -> u64
+        requires { self.step ≢ pos 0 }
+        ensures { result ≡ range_length self.start self.stop self.step }
+    {
+        range_length(self.start, self.stop, self.step)
+    }
 }
 
 /// Whether three numbers are those of a range.
