@@ -12,7 +12,6 @@ pub mod Leaving
 pub mod IterFaults
 pub mod Holding
 pub mod HoldingIters
-pub mod SteadyRows
-pub mod Safely
-pub mod SafeIters
 pub mod HoldingGather
+pub mod SteadyRows
+pub mod GatherSteps
