@@ -27,7 +27,8 @@ use Rattle.py_data.proofs.Keep.{kind_stays}
 use Rattle.py_data.proofs.Looking.{bytes_looks}
 use Rattle.py_data.proofs.Making.{sequence_fits, text_fits}
 use Rattle.obj_seq.proofs.Holding.{at_of, cond_holds}
-use Rattle.obj_seq.proofs.HoldingGather.{gather_holds, gather_steady}
+use Rattle.obj_seq.proofs.HoldingGather.{gather_holds}
+use Rattle.obj_seq.proofs.SteadyRows.{gather_steady}
 use Rattle.obj_seq.specs.Gather.{gather_row}
 use Rattle.obj_seq.specs.Iter.{is_str}
 use Rattle.obj_str.specs.Cutting.{pieces_of}

@@ -11,6 +11,8 @@ mod method;
 mod replace;
 mod search;
 mod splitting;
+#[cfg(test)]
+mod tests;
 mod text;
 
 pub use laws::{
