@@ -1,5 +1,5 @@
--- Over each heap in order iterators are made and go on; and a view of such a heap shows iterators and ranges as such.
-use Rattle.std.proofs.Common.{arith, ◌≡◌, ◌≢◌, ℕ, zero, suc, ◌+◌, ◌*◌, ◌<◌, Bool, true, false, cond, ltb, pos, List, [], ◌∷◌, length, slice_get, Option, Some, None, MatchOption, refl, sym, ap, subst, ◌∙◌, lit<}
+-- Over each heap in order iterators are made and go on.
+use Rattle.std.proofs.Common.{arith, ◌≡◌, ◌≢◌, ℕ, zero, suc, ◌+◌, ◌*◌, ◌<◌, Bool, true, false, cond, ltb, pos, List, [], ◌∷◌, length, slice_get, Option, Some, None, refl, sym, ap, subst, ◌∙◌, lit<}
 use Rattle.std.specs.Prelude.{is_some, IfSome}
 use Rattle.py_base.specs.declared.kind.Kind.{Kind}
 use Rattle.py_base.specs.declared.kind.Kind.TheVariants.{Str, Tuple, List as ListKind, Dict, Cell, Function, Class, Iter, Range}
@@ -15,7 +15,6 @@ use Rattle.py_data.specs.Shape.{KindIn, IsCount, is_iterable, IsIterable, HasSha
 use Rattle.py_data.specs.Changes.{IsValuePlace}
 use Rattle.py_data.specs.Closed.{IsItem}
 use Rattle.py_data.specs.Row.{Row, Ret, Do, Read}
-use Rattle.py_data.specs.Sense.{IfThere, ShownOf}
 use Rattle.py_data.specs.Order.{Rules, FitsAt, IsOrdered, MayPut}
 use Rattle.py_data.specs.Holds.{Holds}
 use Rattle.py_data.specs.Answers.{IsGot, IfItem}
@@ -26,11 +25,12 @@ use Rattle.py_data.proofs.Keep.{kind_stays}
 use Rattle.py_data.proofs.Making.{made_fits, text_fits}
 use Rattle.py_data.proofs.Steps.{put-here}
 use Rattle.obj_seq.specs.declared.advance.Parts.{Parts}
+use Rattle.obj_seq.specs.declared.span.Span.{Span}
 use Rattle.py_data.specs.Range.{range_length, range_item}
-use Rattle.obj_seq.specs.Iter.{iter_row, iter_of, count_of, is_iter, iter_values, make_iter_row, IfRange, CanIter, go_or_end, byte_or_end, number_in, pick, has_changed, is_str, next_over, next_with, next_row, parts_of, CanNextWith, CanNext}
-use Rattle.obj_seq.specs.HoldsLaws.{IsIterAt, IsIterator, SeqHolds, SeqForms}
+use Rattle.obj_seq.specs.Iter.{iter_row, iter_of, count_of, is_iter, iter_values, make_iter_row, go_or_end, byte_or_end, number_in, pick, has_changed, is_str, next_over, next_with, next_row, parts_of, span_of}
+use Rattle.obj_seq.specs.HoldsLaws.{IsIterAt, IsIterator}
 use Rattle.obj_seq.proofs.IterFaults.{iter_kind}
-use Rattle.obj_seq.proofs.Holding.{at_of, cond_holds, item_holds, set_item_holds, del_item_holds, pop_holds, insert_holds, reverse_holds, slice_holds}
+use Rattle.obj_seq.proofs.Holding.{at_of, cond_holds}
 
 -- ---- kinds
 -- what has a length can be gone through
@@ -71,19 +71,19 @@ get_has P [] i e = tt
 get_has P (x ∷ xs) zero e = e.0
 get_has P (x ∷ xs) (suc i) e = get_has P xs i e.1
 
-number_item : (h : Heap) (vs : List Value) (at : ℕ) → IfItem (number_in vs at) h
-number_item h (Int start ∷ Int stop ∷ Int step ∷ []) at = by (ltb at (range_length start stop step))
+number_item : (h : Heap) (o : Option Span) (at : ℕ) → IfItem (number_in o at) h
+number_item h (Some s) at = by (ltb at (range_length s.start s.stop s.step))
   where
-    by : (b : Bool) → IfItem (cond b (Some (Int (range_item start step at))) None) h
-    by true = (tt, λ e. let z : Int (range_item start step at) ≡ Unset = e in cc)
+    by : (b : Bool) → IfItem (cond b (Some (Int (range_item s.start s.step at))) None) h
+    by true = (tt, λ e. let z : Int (range_item s.start s.step at) ≡ Unset = e in cc)
     by false = tt
-number_item h _ at = tt
+number_item h None at = tt
 
 picked_item : (h : Heap) (k : Kind) (vs : List Value) (at : ℕ) → Every (IsItem h) vs → IfItem (pick k vs at) h
 picked_item h ListKind vs at i = get_has (IsItem h) vs at i
 picked_item h Tuple vs at i = get_has (IsItem h) vs at i
 picked_item h Dict vs at i = get_has (IsItem h) vs (2 * at) i
-picked_item h Range vs at i = number_item h vs at
+picked_item h Range vs at i = number_item h (span_of vs) at
 picked_item h _ vs at i = tt
 
 module _ {S : Type 0} (rules : Rules) (stands : Heap → S → Type 0) where
@@ -112,7 +112,7 @@ module _ {S : Type 0} (rules : Rules) (stands : Heap → S → Type 0) where
   none_holds : (h : Heap) → Holds rules stands (IsGot IsIterator) (Ret (Raise iterable_fault)) h
   none_holds h = holds_ret rules stands (IsGot IsIterator) (Raise iterable_fault) h (lit< tt, lit< tt, tt)
 
-  make_iter_holds : (h : Heap) (x : Value) → IsOrdered rules h → IsItem h x → Holds rules stands (IsGot IsIterator) (iter_row x) h
+  pub make_iter_holds : (h : Heap) (x : Value) → IsOrdered rules h → IsItem h x → Holds rules stands (IsGot IsIterator) (iter_row x) h
   make_iter_holds h (Ref a) order i = by (h a.0) refl i.0
     where
       by : (o : Option Rec) → h a.0 ≡ o → is_some o ≡ true → Holds rules stands (IsGot IsIterator) (Do (Read a.0) (iter_of a.0)) h
@@ -158,62 +158,8 @@ module _ {S : Type 0} (rules : Rules) (stands : Heap → S → Type 0) where
       holds_read rules stands (IsGot IfItem) p.over.0 (next_over it p.at p.count) h t.rec t.here
       (over_holds it p.at p.count t.rec h order k (fit_items rules h p.over.0 t.rec (order.each p.over.0 t.rec t.here) (iterable_set t.rec.kind t.kind)))
 
-  next_holds : (h : Heap) (it : ℕ) → IsOrdered rules h → IsIterAt h it → Holds rules stands (IsGot IfItem) (next_row it) h
+  pub next_holds : (h : Heap) (it : ℕ) → IsOrdered rules h → IsIterAt h it → Holds rules stands (IsGot IfItem) (next_row it) h
   next_holds h it order k =
       let t = at_of h it (λ k. k ≡ Iter) k in
       let p = parted_at rules h it t.rec order t.here t.kind in
       holds_read rules stands (IsGot IfItem) it (λ q. next_with it (parts_of q.values)) h t.rec t.here (subst (λ o. Holds rules stands (IsGot IfItem) (next_with {S = S} it o) h) (sym p.is) (with_holds it p.parts h order k p.over))
-
-  pub seq_holds : SeqHolds rules stands
-  seq_holds = record {
-    item = item_holds rules stands;
-    set_item = set_item_holds rules stands;
-    del_item = del_item_holds rules stands;
-    pop = pop_holds rules stands;
-    insert = insert_holds rules stands;
-    reverse = reverse_holds rules stands;
-    slice = slice_holds rules stands;
-    make_iter = make_iter_holds;
-    next = next_holds;
-  }
-
--- ---- what a view of a heap in order shows
-module _ (rules : Rules) where
-  -- a record that it shows is one of the heap; a view of the whole heap shows each
-  shows : (p : Bool) (g h : Heap) (a : ℕ) (P : Rec → Type 0) → ShownOf p g h → is_some (h a) ≡ true → ((r : Rec) → h a ≡ Some r → P r) → IfThere p (g a) P
-  shows true g h a P shown i f = by (g a) refl
-    where
-      by : (o : Option Rec) → g a ≡ o → MatchOption o (true ≡ true) P
-      by None e = refl
-      by (Some r) e = f r (shown a r e)
-  shows false g h a P shown i f = subst (λ o. MatchOption o (false ≡ true) P) (sym (ap (λ z. z a) shown)) (by (h a) refl i)
-    where
-      by : (o : Option Rec) → h a ≡ o → is_some o ≡ true → MatchOption o (false ≡ true) P
-      by None e j = j
-      by (Some r) e j = f r e
-
-  range_shown : (p : Bool) (g h : Heap) (a : ℕ) → ShownOf p g h → IsOrdered rules h → is_some (h a) ≡ true → IfThere p (g a) IfRange
-  range_shown p g h a shown order i = shows p g h a IfRange shown i (λ r e k. subst (λ k. HasShape h k r.values) k (order.each a r e).closed.shaped.0)
-
-  iter_shown : (p : Bool) (g h : Heap) (x : Value) → ShownOf p g h → IsOrdered rules h → IsItem h x → CanIter p g x
-  iter_shown p g h (Ref a) shown order i = range_shown p g h a.0 shown order i.0
-  iter_shown p g h Unset shown order i = tt
-  iter_shown p g h NoneValue shown order i = tt
-  iter_shown p g h (BoolValue b) shown order i = tt
-  iter_shown p g h (Int n) shown order i = tt
-  iter_shown p g h (Builtin b) shown order i = tt
-
-  there : (h : Heap) (a : ℕ) (P : Kind → Type 0) → KindIn (h a) P → is_some (h a) ≡ true
-  there h a P i = ap is_some (at_of h a P i).here
-
-  next_shown : (p : Bool) (g h : Heap) (it : ℕ) → ShownOf p g h → IsOrdered rules h → IsIterAt h it → CanNext p g it
-  next_shown p g h it shown order i =
-      let t = at_of h it (λ k. k ≡ Iter) i in
-      shows p g h it (λ q. CanNextWith p g (parts_of q.values)) shown (there h it (λ k. k ≡ Iter) i)
-      (λ q e.
-      let k : q.kind ≡ Iter = subst (λ o. KindIn o (λ k. k ≡ Iter)) e i in
-      let l = parted_at rules h it q order e k in
-      subst (CanNextWith p g) (sym l.is) (range_shown p g h l.parts.over.0 shown order (there h l.parts.over.0 (λ k. is_iterable k ≡ true) l.over)))
-
-  pub seq_forms : SeqForms rules
-  seq_forms = record { make_iter = iter_shown; next = next_shown }

@@ -12,6 +12,6 @@ pub mod Leaving
 pub mod IterFaults
 pub mod Holding
 pub mod HoldingIters
+pub mod HoldingGather
 pub mod SteadyRows
-pub mod Safely
-pub mod SafeIters
+pub mod GatherSteps

@@ -1,18 +1,20 @@
 -- Over each heap in order each operation on a list, a tuple or an iterator holds; and no record is longer in its course than
 -- before it or at its end. States `docs/LANGUAGE.md`, "Lists and tuples" and "Iteration", and `docs/HEAP.md`, "Rows that hold".
-use Rattle.std.specs.Prelude.{◌≡◌, ℕ, ℤ, Bool, false, Option}
+use Rattle.std.specs.Prelude.{◌≡◌, ◌≤◌, ℕ, ℤ, false, List, length, Option}
 use Rattle.py_base.specs.declared.kind.Kind.TheVariants.{List as ListKind, Iter}
 use Rattle.py_data.specs.declared.value.Value.{Value}
+use Rattle.py_data.specs.declared.record.TheConstants.{LENGTH_LIMIT}
+use Rattle.py_data.specs.Every.{Every}
 use Rattle.py_data.specs.Heap.{Heap}
 use Rattle.py_data.specs.Shape.{KindIn, RefTo}
 use Rattle.py_data.specs.Closed.{IsItem}
 use Rattle.py_data.specs.Order.{Rules, IsOrdered}
-use Rattle.py_data.specs.Sense.{ShownOf}
 use Rattle.py_data.specs.Holds.{Holds}
 use Rattle.py_data.specs.Answers.{IsGot, IfItem, IsAnswer, IsDone, IsSequenceKind}
 use Rattle.py_data.specs.Steady.{Steady}
 use Rattle.obj_seq.specs.Seq.{item_row, set_item_row, del_item_row, pop_row, insert_row, reverse_row, slice_row}
-use Rattle.obj_seq.specs.Iter.{iter_row, next_row, CanIter, CanNext}
+use Rattle.obj_seq.specs.Iter.{iter_row, next_row}
+use Rattle.obj_seq.specs.Gather.{gather_row}
 
 -- a list stands at the address
 abbrev pub IsListAt : Heap → ℕ → Type 0
@@ -30,6 +32,10 @@ IsIterAt h it = KindIn (h it) (λ k. k ≡ Iter)
 abbrev pub IsIterator : Value → Heap → Type 0
 IsIterator x h = IsItem h x × RefTo h Iter x
 
+-- items of the heap, and no more than a list may have
+abbrev pub AreItems : List Value → Heap → Type 0
+AreItems vs h = Every (IsItem h) vs × (length vs ≤ LENGTH_LIMIT)
+
 -- with values that stand in the heap each operation may be begun, leaves a heap in order, and answers what stands in it or an
 -- exception
 pub record SeqHolds {S : Type 0} (rules : Rules) (stands : Heap → S → Type 0) : Type 0 where
@@ -42,11 +48,7 @@ pub record SeqHolds {S : Type 0} (rules : Rules) (stands : Heap → S → Type 0
   pub slice : (h : Heap) (a : ℕ) (from to : Option ℤ) → IsOrdered rules h → IsSequenceAt h a → Holds rules stands IsAnswer (slice_row a from to) h
   pub make_iter : (h : Heap) (x : Value) → IsOrdered rules h → IsItem h x → Holds rules stands (IsGot IsIterator) (iter_row x) h
   pub next : (h : Heap) (it : ℕ) → IsOrdered rules h → IsIterAt h it → Holds rules stands (IsGot IfItem) (next_row it) h
-
--- a view that shows a heap in order, or a part of it, shows iterators and ranges as such
-pub record SeqForms (rules : Rules) : Type 0 where
-  pub make_iter : (p : Bool) (g h : Heap) (x : Value) → ShownOf p g h → IsOrdered rules h → IsItem h x → CanIter p g x
-  pub next : (p : Bool) (g h : Heap) (it : ℕ) → ShownOf p g h → IsOrdered rules h → IsIterAt h it → CanNext p g it
+  pub gather : (h : Heap) (x : Value) → IsOrdered rules h → IsItem h x → Holds rules stands (IsGot AreItems) (gather_row x) h
 
 pub record SeqSteady (S : Type 0) : Type 0 where
   pub item : (a : ℕ) (i : ℤ) → Steady {S = S} false (item_row a i)
@@ -58,3 +60,4 @@ pub record SeqSteady (S : Type 0) : Type 0 where
   pub slice : (a : ℕ) (from to : Option ℤ) → Steady {S = S} false (slice_row a from to)
   pub make_iter : (x : Value) → Steady {S = S} false (iter_row x)
   pub next : (it : ℕ) → Steady {S = S} false (next_row it)
+  pub gather : (x : Value) → Steady {S = S} false (gather_row x)

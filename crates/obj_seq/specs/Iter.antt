@@ -1,5 +1,5 @@
 -- The rows of going through an object. States `docs/LANGUAGE.md`, "Iteration".
-use Rattle.std.specs.Prelude.{◌≡◌, ℕ, pos, ◌+◌, ◌*◌, ◌/◌, ◌==◌, Bool, true, false, List, [], ◌∷◌, length, slice_get, not, ltb, cond, Option, Some, None}
+use Rattle.std.specs.Prelude.{ℕ, zero, ℤ, pos, ◌+◌, ◌*◌, ◌/◌, ◌==◌, Bool, true, false, List, [], ◌∷◌, length, slice_get, not, ltb, leb, cond, Option, Some, None}
 use Rattle.py_data.specs.declared.value.Value.{Value}
 use Rattle.py_data.specs.declared.value.Value.TheVariants.{Int, Ref}
 use Rattle.py_base.specs.declared.kind.Kind.{Kind}
@@ -7,19 +7,37 @@ use Rattle.py_base.specs.declared.kind.Kind.TheVariants.{Str, Tuple, List as Lis
 use Rattle.py_data.specs.declared.record.Got.{Got}
 use Rattle.py_data.specs.declared.record.Got.TheVariants.{Is, Raise}
 use Rattle.obj_seq.specs.declared.advance.Parts.{Parts}
-use Rattle.py_data.specs.Heap.{Rec, Heap, new_rec}
+use Rattle.obj_seq.specs.declared.span.Span.{Span}
+use Rattle.py_data.specs.Heap.{Rec, new_rec}
 use Rattle.py_data.specs.declared.change.Change.TheVariants as change
 use Rattle.py_data.specs.Row.{Row, Ret, Do, Read, Edit, Make}
-use Rattle.py_data.specs.Sense.{IfThere}
 use Rattle.py_data.specs.Fault.{iterable_fault, size_fault}
-use Rattle.py_data.specs.Range.{range_length, range_item, IsRange}
+use Rattle.py_data.specs.Range.{range_length, range_item}
 
 -- ---- what can be gone through
 
--- the length of a range's values
-abbrev pub count_range : List Value → Option ℕ
-count_range (Int start ∷ Int stop ∷ Int step ∷ []) = Some (range_length start stop step)
-count_range _ = None
+-- the values of a record that has three
+abbrev pub three : List Value → Option (Value × Value × Value)
+three (x ∷ y ∷ z ∷ []) = Some (x, y, z)
+three _ = None
+
+-- three whole numbers are those of a range
+abbrev pub is_range : ℤ → ℤ → ℤ → Bool
+is_range start stop (pos zero) = false
+is_range start stop step = leb (range_length start stop step) 9_223_372_036_854_775_807
+
+abbrev pub span_in : Option (Value × Value × Value) → Option Span
+span_in (Some (Int start, Int stop, Int step)) = cond (is_range start stop step) (Some (record { start = start; stop = stop; step = step })) None
+span_in _ = None
+
+-- what a range's values say
+abbrev pub span_of : List Value → Option Span
+span_of vs = span_in (three vs)
+
+-- how many numbers a range has
+abbrev pub count_span : Option Span → Option ℕ
+count_span (Some s) = Some (range_length s.start s.stop s.step)
+count_span None = None
 
 -- the length that an iterator over a record of a kind notes at its start: the number of its items, bytes or pairs
 abbrev pub count_of : Kind → List Value → List ℕ → Option ℕ
@@ -27,12 +45,8 @@ count_of ListKind vs bs = Some (length vs)
 count_of Tuple vs bs = Some (length vs)
 count_of Str vs bs = Some (length bs)
 count_of Dict vs bs = Some (length vs / 2)
-count_of Range vs bs = count_range vs
+count_of Range vs bs = count_span (span_of vs)
 count_of _ vs bs = None
-
--- a record of a range has a range's values
-abbrev pub IfRange : Rec → Type 0
-IfRange r = r.kind ≡ Range → IsRange r.values
 
 -- ---- make_iter
 
@@ -56,24 +70,19 @@ abbrev pub iter_row : {S : Type 0} → Value → Row S (Got Value)
 iter_row (Ref a) = Do (Read a.0) (iter_of a.0)
 iter_row _ = Ret (Raise iterable_fault)
 
--- the condition: a range has a range's values
-abbrev pub CanIter : Bool → Heap → Value → Type 0
-CanIter p h (Ref a) = IfThere p (h a.0) IfRange
-CanIter p h _ = Unit {0}
-
 -- ---- next
 
 -- the number of a range at a place
-abbrev pub number_in : List Value → ℕ → Option Value
-number_in (Int start ∷ Int stop ∷ Int step ∷ []) at = cond (ltb at (range_length start stop step)) (Some (Int (range_item start step at))) None
-number_in _ at = None
+abbrev pub number_in : Option Span → ℕ → Option Value
+number_in (Some s) at = cond (ltb at (range_length s.start s.stop s.step)) (Some (Int (range_item s.start s.step at))) None
+number_in None at = None
 
 -- what a record of a kind has at a place: its item, the key of its pair, its number
 abbrev pub pick : Kind → List Value → ℕ → Option Value
 pick ListKind vs at = slice_get vs at
 pick Tuple vs at = slice_get vs at
 pick Dict vs at = slice_get vs (2 * at)
-pick Range vs at = number_in vs at
+pick Range vs at = number_in (span_of vs) at
 pick _ vs at = None
 
 -- a dictionary that hasn't as many pairs as when it began to be gone through
@@ -105,15 +114,13 @@ next_over it at count r =
     (byte_or_end it at (slice_get r.bytes at))
     (cond (has_changed r.kind r.values count) (Ret (Raise size_fault)) (go_or_end it at (pick r.kind r.values at)))
 
--- the values of an iterator
-abbrev pub IsIterForm : List Value → Type 0
-IsIterForm (Ref a ∷ Int (pos at) ∷ Int (pos count) ∷ []) = Unit {0}
-IsIterForm _ = ⊥
+abbrev pub parts_in : Option (Value × Value × Value) → Option Parts
+parts_in (Some (Ref a, Int (pos at), Int (pos count))) = Some (record { over = a; at = at; count = count })
+parts_in _ = None
 
 -- what an iterator's values say
 abbrev pub parts_of : List Value → Option Parts
-parts_of (Ref a ∷ Int (pos at) ∷ Int (pos count) ∷ []) = Some (record { over = a; at = at; count = count })
-parts_of _ = None
+parts_of vs = parts_in (three vs)
 
 unfoldable pub next_with : {S : Type 0} → ℕ → Option Parts → Row S (Got (Option Value))
 next_with it (Some p) = Do (Read p.over.0) (next_over it p.at p.count)
@@ -121,11 +128,3 @@ next_with it None = Ret (Is None)
 
 abbrev pub next_row : {S : Type 0} → ℕ → Row S (Got (Option Value))
 next_row it = Do (Read it) (λ q. next_with it (parts_of q.values))
-
--- the condition: an iterator has an iterator's values, and a range that it goes over a range's
-abbrev pub CanNextWith : Bool → Heap → Option Parts → Type 0
-CanNextWith p h (Some parts) = IfThere p (h parts.over.0) IfRange
-CanNextWith p h None = ⊥
-
-abbrev pub CanNext : Bool → Heap → ℕ → Type 0
-CanNext p h it = IfThere p (h it) (λ q. CanNextWith p h (parts_of q.values))

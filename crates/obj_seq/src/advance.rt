@@ -1,14 +1,15 @@
 //! The next item of an iterator.
-ghost use Rattle.std.specs.Prelude.{◌≡◌, ◌<◌, ◌+◌, ◌^◌, length, slice_get, [], ◌∷◌, IfOk, IfSome};
+ghost use Rattle.std.specs.Prelude.{◌≡◌, ◌≢◌, ◌<◌, ◌+◌, ◌^◌, length, slice_get, pos, [], ◌∷◌, IfOk, IfSome};
 ghost use Rattle.py_base.specs.declared.kind.Kind.TheVariants.{Str};
-ghost use Rattle.py_data.specs.Sense.{Meets, Safe, IsLive, IfThere, Asks, Shows};
+ghost use Rattle.py_data.specs.Sense.{Meets, Safe, IsLive, Asks, Shows};
 ghost use Rattle.py_data.specs.Made.{rec_of};
 ghost use Rattle.py_data.specs.Heap.{new_rec};
 ghost use Rattle.py_data.specs.Row.{Read, Do};
-ghost use Rattle.py_data.specs.Range.{IsRange};
-ghost use Rattle.obj_seq.specs.Iter.{CanNext, CanNextWith, IfRange, next_row, next_with, next_over, go_or_end, byte_or_end, number_in, pick, has_changed, is_str, parts_of, IsIterForm};
+ghost use Rattle.py_data.specs.Range.{range_length};
+ghost use Rattle.obj_seq.specs.Iter.{next_row, next_with, next_over, go_or_end, byte_or_end, number_in, pick, has_changed, is_str, parts_in, parts_of, span_of};
 
 use crate::range::{range_item, range_length};
+use crate::span::{Span, read_span, three};
 use py_data::exception::{RUNTIME_ERROR, raise};
 use py_data::{Addr, Bytes, Got, Kind, LENGTH_LIMIT, NoMemory, Record, Stop, Value, Values, View};
 use std::alloc::Global;
@@ -21,18 +22,23 @@ pub struct Parts {
     pub count: u64,
 }
 
-/// What these values of an iterator say.
-fn parts_in(over: Value, at: Value, count: Value) -> Option<Parts>
-    requires { IsIterForm (over ∷ at ∷ count ∷ []) }
-    ensures value { result ≡ parts_of (over ∷ at ∷ count ∷ []) }
+/// What three values say of an iterator.
+fn parts_in(values: Option<(Value, Value, Value)>) -> Option<Parts>
+    ensures value { result ≡ parts_in values }
     ensures fits { IfSome result (λ p. p.at < 2 ^ 63) }
 {
-    match (over, at, count) {
-        (Value::Ref(over), Value::Int(at), Value::Int(count)) => Some(Parts {
-            over,
-            at: at as u64,
-            count: count as u64,
-        }),
+    match values {
+        Some((Value::Ref(over), Value::Int(at), Value::Int(count))) => {
+            if at >= 0 && count >= 0 {
+                Some(Parts {
+                    over,
+                    at: at as u64,
+                    count: count as u64,
+                })
+            } else {
+                None
+            }
+        }
         _ => None,
     }
 }
@@ -41,14 +47,12 @@ fn parts_in(over: Value, at: Value, count: Value) -> Option<Parts>
 #[tactic(auto, using(py_data::proofs::Rows::row_steps))]
 fn read_parts<S, V: View<S>>(v: &mut V, it: Addr) -> Result<Option<Parts>, Stop>
     requires live { IsLive V.sense v.old }
-    requires form { IfThere V.sense.partial (V.sense.heap v.old it.0) (λ q. IsIterForm q.values) }
+    requires there { Asks {S = S} V.sense.partial (Read it.0) (V.sense.heap v.old) }
     ensures fits { IfOk result (λ o. IfSome o (λ p. p.at < 2 ^ 63)) }
     ensures shows { Shows V.sense it.0 (λ q. parts_of q.values) v.old v.new result }
 {
-    let over = v.val(it, 0)?;
-    let at = v.val(it, 1)?;
-    let count = v.val(it, 2)?;
-    Ok(parts_in(over, at, count))
+    let values = three(v, it)?;
+    Ok(parts_in(values))
 }
 
 /// The value at a place of a record, if it has that place.
@@ -85,21 +89,22 @@ fn byte_at<S, V: View<S>>(v: &mut V, a: Addr, at: u64) -> Result<Option<u8>, Sto
     }
 }
 
-/// The number at a place of the range of these values.
-fn number_in(start: Value, stop: Value, step: Value, at: u64) -> Option<Value>
-    requires { IsRange (start ∷ stop ∷ step ∷ []) }
-    ensures value { result ≡ number_in (start ∷ stop ∷ step ∷ []) at }
+/// The number of a range at a place.
+fn number_in(span: Option<Span>, at: u64) -> Option<Value>
+    requires some { IfSome span (λ s. s.step ≢ pos 0) }
+    requires within { IfSome span (λ s. range_length s.start s.stop s.step < 2 ^ 63) }
+    ensures value { result ≡ number_in span at }
     ensures fits { IfSome result (λ _. at + 1 < 2 ^ 63) }
 {
-    match (start, stop, step) {
-        (Value::Int(start), Value::Int(stop), Value::Int(step)) => {
+    match span {
+        Some(Span { start, stop, step }) => {
             if at < range_length(start, stop, step) {
                 Some(Value::Int(range_item(start, stop, step, at)))
             } else {
                 None
             }
         }
-        _ => None,
+        None => None,
     }
 }
 
@@ -107,14 +112,12 @@ fn number_in(start: Value, stop: Value, step: Value, at: u64) -> Option<Value>
 #[tactic(auto, using(py_data::proofs::Rows::row_steps))]
 fn number_at<S, V: View<S>>(v: &mut V, a: Addr, at: u64) -> Result<Option<Value>, Stop>
     requires live { IsLive V.sense v.old }
-    requires form { IfThere V.sense.partial (V.sense.heap v.old a.0) (λ r. IsRange r.values) }
-    ensures shows { Shows V.sense a.0 (λ r. number_in r.values at) v.old v.new result }
+    requires there { Asks {S = S} V.sense.partial (Read a.0) (V.sense.heap v.old) }
+    ensures shows { Shows V.sense a.0 (λ r. number_in (span_of r.values) at) v.old v.new result }
     ensures fits { IfOk result (λ o. IfSome o (λ _. at + 1 < 2 ^ 63)) }
 {
-    let start = v.val(a, 0)?;
-    let stop = v.val(a, 1)?;
-    let step = v.val(a, 2)?;
-    Ok(number_in(start, stop, step, at))
+    let span = read_span(v, a)?;
+    Ok(number_in(span, at))
 }
 
 /// What a record has at a place: its item, the key of its pair, or its number.
@@ -122,7 +125,6 @@ fn number_at<S, V: View<S>>(v: &mut V, a: Addr, at: u64) -> Result<Option<Value>
 fn pick<S, V: View<S>>(v: &mut V, a: Addr, at: u64) -> Result<Option<Value>, Stop>
     requires live { IsLive V.sense v.old }
     requires there { Asks {S = S} V.sense.partial (Read a.0) (V.sense.heap v.old) }
-    requires form { IfThere V.sense.partial (V.sense.heap v.old a.0) IfRange }
     requires fits { at < 2 ^ 63 }
     ensures shows { Shows V.sense a.0 (λ r. pick r.kind r.values at) v.old v.new result }
     ensures fits { IfOk result (λ o. IfSome o (λ _. at + 1 < 2 ^ 63)) }
@@ -181,7 +183,7 @@ fn go_or_end<S, V: View<S>>(
 }
 
 /// A string of one byte that is to be made.
-fn one_byte(alloc: Global, byte: u8) -> Result<Record, NoMemory>
+pub fn one_byte(alloc: Global, byte: u8) -> Result<Record, NoMemory>
     ensures { IfOk result (λ r. rec_of r ≡ new_rec Str [] (byte ∷ [])) }
 {
     let mut bytes = Bytes::new(alloc);
@@ -226,7 +228,6 @@ fn next_over<S, V: View<S>>(
     parts: Parts,
 ) -> Result<Got<Option<Value>>, Stop>
     requires live { IsLive V.sense v.old }
-    requires form { IfThere V.sense.partial (V.sense.heap v.old parts.over.0) IfRange }
     requires fits { parts.at < 2 ^ 63 }
     requires safe { Safe V.sense.partial (Do (Read parts.over.0) (next_over {S = S} it.0 parts.at parts.count)) (V.sense.heap v.old) }
     ensures { Meets V.sense (Do (Read parts.over.0) (next_over it.0 parts.at parts.count)) v.old v.new result }
@@ -253,7 +254,6 @@ fn next_over<S, V: View<S>>(
 #[tactic(auto, using(py_data::proofs::Rows::row_steps))]
 pub fn next<S, V: View<S>>(alloc: Global, v: &mut V, it: Addr) -> Result<Got<Option<Value>>, Stop>
     requires live { IsLive V.sense v.old }
-    requires form { CanNext V.sense.partial (V.sense.heap v.old) it.0 }
     requires safe { Safe V.sense.partial (next_row {S = S} it.0) (V.sense.heap v.old) }
     ensures { Meets V.sense (next_row it.0) v.old v.new result }
 {

@@ -1,14 +1,12 @@
 //! Going through lists, tuples, strings, dictionaries and ranges.
-ghost use Rattle.std.specs.Prelude.{◌≡◌, ◌<◌, ◌≤◌, ◌^◌, length, pos, IfOk, IfSome, [], ◌∷◌};
-ghost use Rattle.py_data.specs.declared.value.Value.TheVariants.{Int, Ref};
-ghost use Rattle.py_base.specs.declared.kind.Kind.TheVariants.{Range};
-ghost use Rattle.py_data.specs.Sense.{Meets, Safe, IsLive, IfThere, Asks, Shows};
-ghost use Rattle.py_data.specs.Heap.{at};
-ghost use Rattle.py_data.specs.Row.{Do, Read};
-ghost use Rattle.py_data.specs.Range.{IsRange};
-ghost use Rattle.obj_seq.specs.Iter.{iter_row, make_iter_row, iter_values, count_of, count_range, is_iter, CanIter, IfRange};
+ghost use Rattle.std.specs.Prelude.{◌≡◌, ◌≢◌, ◌<◌, ◌^◌, pos, IfOk, IfSome};
+ghost use Rattle.py_data.specs.declared.value.Value.TheVariants.{Ref};
+ghost use Rattle.py_data.specs.Sense.{Meets, Safe, IsLive, Asks, Shows};
+ghost use Rattle.py_data.specs.Row.{Read};
+ghost use Rattle.py_data.specs.Range.{range_length};
+ghost use Rattle.obj_seq.specs.Iter.{iter_row, make_iter_row, iter_values, count_of, count_span, is_iter, span_of};
 
-use crate::range::range_length;
+use crate::span::{Span, read_span};
 use py_data::exception::{TYPE_ERROR, raise};
 use py_data::{Addr, Bytes, Got, Kind, NoMemory, Record, Stop, Value, Values, View};
 use std::alloc::Global;
@@ -26,17 +24,16 @@ fn iter_values(alloc: Global, over: Addr, at: u64, count: u64) -> Result<Values,
     Ok(values)
 }
 
-/// The length of the range of these values.
-fn length_in(start: Value, stop: Value, step: Value) -> Option<u64>
-    requires { IsRange (start ∷ stop ∷ step ∷ []) }
-    ensures value { result ≡ count_range (start ∷ stop ∷ step ∷ []) }
+/// How many numbers a range has.
+fn count_span(span: Option<Span>) -> Option<u64>
+    requires some { IfSome span (λ s. s.step ≢ pos 0) }
+    requires within { IfSome span (λ s. range_length s.start s.stop s.step < 2 ^ 63) }
+    ensures value { result ≡ count_span span }
     ensures fits { IfSome result (λ n. n < 2 ^ 63) }
 {
-    match (start, stop, step) {
-        (Value::Int(start), Value::Int(stop), Value::Int(step)) => {
-            Some(range_length(start, stop, step))
-        }
-        _ => None,
+    match span {
+        Some(span) => Some(span.count()),
+        None => None,
     }
 }
 
@@ -44,14 +41,12 @@ fn length_in(start: Value, stop: Value, step: Value) -> Option<u64>
 #[tactic(auto, using(py_data::proofs::Rows::row_steps))]
 fn count_range<S, V: View<S>>(v: &mut V, a: Addr) -> Result<Option<u64>, Stop>
     requires live { IsLive V.sense v.old }
-    requires form { IfThere V.sense.partial (V.sense.heap v.old a.0) (λ r. IsRange r.values) }
+    requires there { Asks {S = S} V.sense.partial (Read a.0) (V.sense.heap v.old) }
     ensures fits { IfOk result (λ o. IfSome o (λ n. n < 2 ^ 63)) }
-    ensures shows { Shows V.sense a.0 (λ r. count_range r.values) v.old v.new result }
+    ensures shows { Shows V.sense a.0 (λ r. count_span (span_of r.values)) v.old v.new result }
 {
-    let start = v.val(a, 0)?;
-    let stop = v.val(a, 1)?;
-    let step = v.val(a, 2)?;
-    Ok(length_in(start, stop, step))
+    let span = read_span(v, a)?;
+    Ok(count_span(span))
 }
 
 /// The length of a record that can be gone through: of its items, its bytes, its pairs or its numbers.
@@ -59,7 +54,6 @@ fn count_range<S, V: View<S>>(v: &mut V, a: Addr) -> Result<Option<u64>, Stop>
 fn count<S, V: View<S>>(v: &mut V, a: Addr) -> Result<Option<u64>, Stop>
     requires live { IsLive V.sense v.old }
     requires there { Asks {S = S} V.sense.partial (Read a.0) (V.sense.heap v.old) }
-    requires form { IfThere V.sense.partial (V.sense.heap v.old a.0) IfRange }
     ensures shows { Shows V.sense a.0 (λ r. count_of r.kind r.values r.bytes) v.old v.new result }
     ensures fits { IfOk result (λ o. IfSome o (λ n. n < 2 ^ 63)) }
 {
@@ -108,7 +102,6 @@ fn iter_of<S, V: View<S>>(
 #[tactic(auto, using(py_data::proofs::Rows::row_steps))]
 fn iter_over<S, V: View<S>>(alloc: Global, v: &mut V, a: Addr) -> Result<Got<Value>, Stop>
     requires live { IsLive V.sense v.old }
-    requires form { IfThere V.sense.partial (V.sense.heap v.old a.0) IfRange }
     requires safe { Safe V.sense.partial (iter_row {S = S} (Ref a)) (V.sense.heap v.old) }
     ensures { Meets V.sense (iter_row (Ref a)) v.old v.new result }
 {
@@ -125,7 +118,6 @@ fn iter_over<S, V: View<S>>(alloc: Global, v: &mut V, a: Addr) -> Result<Got<Val
 #[tactic(auto, using(py_data::proofs::Rows::row_steps))]
 pub fn make_iter<S, V: View<S>>(alloc: Global, v: &mut V, x: Value) -> Result<Got<Value>, Stop>
     requires live { IsLive V.sense v.old }
-    requires form { CanIter V.sense.partial (V.sense.heap v.old) x }
     requires safe { Safe V.sense.partial (iter_row {S = S} x) (V.sense.heap v.old) }
     ensures { Meets V.sense (iter_row x) v.old v.new result }
 {

@@ -1,8 +1,7 @@
 //! What the operations on lists and iterators answer, leave and raise, and that they keep a heap in order, as laws: a call of
 //! such a function does nothing, and gives its caller's proof the facts of its clauses.
-ghost use Rattle.obj_seq.specs.HoldsLaws.{SeqHolds, SeqForms, SeqSteady};
+ghost use Rattle.obj_seq.specs.HoldsLaws.{SeqHolds, SeqSteady};
 ghost use Rattle.obj_seq.specs.Laws.{ItemLaw, SetLaw, PopLaw, DelLaw, InsertLaw, ReverseLaw, SliceLaw, IndexLaw, PopIndexLaw, EmptyLaw, FullLaw, NoIterLaw, SizeLaw};
-ghost use Rattle.obj_seq.specs.Safety.{SafeLaw, SafeIterLaw};
 ghost use Rattle.obj_seq.specs.Seq.{item_row, set_item_row, del_item_row};
 ghost use Rattle.py_data.specs.declared.value.Value.{Value};
 
@@ -54,21 +53,9 @@ pub fn iter_fault_law<S, V: View<S>>()
     ensures next { SizeLaw V.sense }
 {}
 
-/// Each operation may be begun at a list that the view shows; a slice of a tuple may be taken too.
-pub fn safe_law<S>()
-    ensures { SafeLaw S }
-{}
-
-/// An iterator may be made over any value, and go on wherever it stands.
-pub fn safe_iter_law<S>()
-    ensures { SafeIterLaw S }
-{}
-
 /// Over each heap in order, and with items of it, each operation may be begun, answers an item or an exception, and leaves a
-/// heap in order; a view of such a heap shows what `make_iter` and `next` ask for; and in the course of an operation no
-/// record is longer than before it or at its end.
+/// heap in order; and in the course of an operation no record is longer than before it or at its end.
 pub fn holds_law<S, D: Demands<S>>()
     ensures holds { SeqHolds D.rules D.stands }
-    ensures forms { SeqForms D.rules }
     ensures steady { SeqSteady S }
 {}

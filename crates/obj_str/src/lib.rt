@@ -1,0 +1,23 @@
+//! Strings and their methods over any view.
+#![tactic(auto)]
+
+mod argument;
+mod blanks;
+mod cutting;
+mod growing;
+mod join;
+mod laws;
+mod method;
+mod replace;
+mod search;
+mod splitting;
+#[cfg(test)]
+mod tests;
+mod text;
+
+pub use laws::{
+    ends_law, find_law, holds_law, letters_law, replace_law, split_law, strip_law, words_law,
+};
+pub use method::str_method;
+pub use search::find;
+pub use text::{bytes_of, make_str};
