@@ -1,0 +1,5 @@
+pub mod Levels
+pub mod Equal
+pub mod Ordering
+pub mod Truth
+pub mod Text
