@@ -1,24 +1,22 @@
 //! Whether a value is true.
 ghost use Rattle.std.specs.Prelude.{◌≡◌, [], ◌∷◌, nat_lt};
-ghost use Rattle.py_data.specs.Heap.{no_records};
 ghost use Rattle.py_data.specs.Range.{range_length};
 ghost use Rattle.py_data.specs.Sense.{Meets, Safe, IsLive};
-ghost use Rattle.py_data.specs.Truth.{has_item, truth};
-ghost use Rattle.obj_nest.specs.Truth.{bytes_filled, filled_by, filled_row, range_filled, step_with, stop_with, truth_row, values_filled};
+ghost use Rattle.py_data.specs.Truth.{has_item};
+ghost use Rattle.obj_nest.specs.Truth.{bytes_filled, filled_by, filled_row, plain_truth, range_filled, step_with, stop_with, truth_row, values_filled};
 
 use crate::looking::{kind, look};
 use py_data::{Addr, Kind, Stop, Value, View};
 
 /// Whether a value that isn't a reference is true.
 fn is_true(x: Value) -> bool
-    ensures { result ≡ truth no_records x }
+    ensures { result ≡ plain_truth x }
 {
     match x {
-        Value::Unset | Value::None => false,
         Value::Bool(b) => b,
         Value::Int(i) => i != 0,
         Value::Builtin(_) => true,
-        Value::Ref(_) => false,
+        _ => false,
     }
 }
 
@@ -41,7 +39,7 @@ fn has_item(start: Value, stop: Value, step: Value) -> bool
 }
 
 /// Whether a string has a byte.
-#[tactic(auto, using(py_data::proofs::Rows::row_steps, py_data::proofs::Steps::call_steps, crate::proofs::Filled::filled), unfolding(crate::specs::Truth::bytes_filled))]
+#[tactic(auto, using(py_data::proofs::Rows::row_steps, py_data::proofs::Steps::call_steps), unfolding(crate::specs::Truth::bytes_filled))]
 fn bytes_filled<S, V: View<S>>(v: &mut V, a: Addr) -> Result<bool, Stop>
     requires live { IsLive V.sense v.old }
     requires safe { Safe V.sense.partial (bytes_filled {S = S} a.0) (V.sense.heap v.old) }
@@ -52,7 +50,7 @@ fn bytes_filled<S, V: View<S>>(v: &mut V, a: Addr) -> Result<bool, Stop>
 }
 
 /// Whether a container has a part.
-#[tactic(auto, using(py_data::proofs::Rows::row_steps, py_data::proofs::Steps::call_steps, crate::proofs::Filled::filled), unfolding(crate::specs::Truth::values_filled))]
+#[tactic(auto, using(py_data::proofs::Rows::row_steps, py_data::proofs::Steps::call_steps), unfolding(crate::specs::Truth::values_filled))]
 fn values_filled<S, V: View<S>>(v: &mut V, a: Addr) -> Result<bool, Stop>
     requires live { IsLive V.sense v.old }
     requires safe { Safe V.sense.partial (values_filled {S = S} a.0) (V.sense.heap v.old) }
