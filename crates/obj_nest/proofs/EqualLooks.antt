@@ -23,7 +23,7 @@ use Rattle.py_data.proofs.Looking.{looks_ret, looks_find, looks_then, looks_weak
 use Rattle.obj_nest.specs.declared.pairing.Pairing.{Pairing}
 use Rattle.obj_nest.specs.Levels.{below, level_row, pairing_of, kinds_row}
 use Rattle.obj_nest.specs.Equal.{Compares, is_equal, texts_row, texts_with, item_row, item_with, sized_row, items_row, items_from, found_row, sought_row, pair_row, pair_with, paired_row, pairs_row, pairs_from, methods_row, methods_with, owners_row, owner_with, by_pairing, records_row, equal_under, equal_levels}
-use Rattle.obj_nest.proofs.Dropped.{drop_here, there_at}
+use Rattle.obj_nest.proofs.Dropped.{drop_here, there_at, half_more}
 use Rattle.obj_nest.proofs.KindLooks.{some_of, kinds_looks}
 
 module _ (S : Type 0) (rules : Rules) (h : Heap) (order : IsOrdered rules h) where
@@ -111,9 +111,6 @@ module _ (S : Type 0) (rules : Rules) (h : Heap) (order : IsOrdered rules h) whe
           (λ j ej. looks_then (λ y. y ≡ value_at r.values (2 * i + 1)) p (look_row a (2 * i + 1)) (λ y. sought_row u b j y) h (look_looks S h a r ea (2 * i + 1))
           (λ y ey. subst (λ j. Looks p (sought_row u b j y) h) (sym (ej ∙ ek)) (subst (λ y. Looks p (sought_row u b k y) h) (sym (ey ∙ ex)) (sought_looks k x key t))))
 
-      half_more : (n : ℕ) → suc (suc n) / 2 ≡ suc (n / 2)
-      half_more n = omega arith
-
       pairs_loop : (i : ℕ) (xs : List Value) → drop (2 * i) r.values ≡ xs → ArePairs h xs → Every There xs → Looks (λ z. z ≡ equal_pairs h w xs s.values) (until_row (pair_row u a b) is_equal (Is true) i (length xs / 2)) h
       unfolding until_row
       pairs_loop i [] d p t = looks_ret S (λ z. z ≡ Is true) (Is true) h refl
@@ -199,7 +196,7 @@ module _ (S : Type 0) (rules : Rules) (h : Heap) (order : IsOrdered rules h) whe
               ∙ (ap (λ z. equal_kinds h pure (same_text (eqb a b) (text_by r.kind r.bytes) (text_by s.kind s.bytes)) z.kind (at h b).kind z.values (at h b).values) (at-is h a r ea)
               ∙ ap (λ z. equal_kinds h pure (same_text (eqb a b) (text_by r.kind r.bytes) (text_by s.kind s.bytes)) r.kind z.kind r.values z.values) (at-is h b s eb)))) in
           looks_then (λ k. k ≡ pairing_of r.kind s.kind) p (kinds_row a b) (by_pairing under a b) h (kinds_looks S h a b r s ea eb)
-          (λ k ek. subst (λ k. Looks p (by_pairing under a b k) h) (sym ek) (looks_weaken _ p (by_pairing under a b (pairing_of r.kind s.kind)) h (by_kinds r.kind s.kind refl refl) (λ z e. e ∙ q)))
+          (λ k ek. subst (λ k. Looks p (by_pairing under a b k) h) (sym ek) (looks_weaken (λ z. z ≡ equal_kinds h pure (same_text (eqb a b) (text_by r.kind r.bytes) (text_by s.kind s.bytes)) r.kind s.kind r.values s.values) p (λ z e. e ∙ q) (by_pairing under a b (pairing_of r.kind s.kind)) h (by_kinds r.kind s.kind refl refl)))
 
   -- ---- any two values
   by_looks : (under : Option (Compares S)) (pure : Under Bool) → Linked under pure → (x y : Value) → There x → There y → Looks (λ z. z ≡ equal_by h pure x y) (equal_under under x y) h

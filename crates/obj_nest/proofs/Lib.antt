@@ -5,3 +5,6 @@ pub mod Filled
 pub mod Dropped
 pub mod KindLooks
 pub mod EqualLooks
+pub mod OrderLooks
+pub mod TruthLooks
+pub mod TextLooks
