@@ -98,6 +98,7 @@ module _ (S : Type 0) (rules : Rules) (h : Heap) (order : IsOrdered rules h) whe
           let two : 2 * i + 1 ≡ i + (i + 1) = omega arith in
           looks_then (λ y. y ≡ value_at s.values (2 * i + 1)) (λ z. z ≡ w x (value_at s.values (i + (i + 1)))) (look_row b (2 * i + 1)) (λ y. u x y) h (look_looks S h b s eb (2 * i + 1))
           (λ y ey. subst (λ y. Looks (λ z. z ≡ w x (value_at s.values (i + (i + 1)))) (u x y) h) (sym (ey ∙ ap (value_at s.values) two)) (like x (value_at s.values (i + (i + 1))) t (there_at h s.values (i + (i + 1)) (all_there b s eb))))
+
       sought_looks : (k x : Value) → IsKey h k → There x → Looks (λ z. z ≡ equal_found w s.values x (find h s.values k)) (sought_row u b k x) h
       unfolding sought_row
       sought_looks k x key t =
@@ -191,10 +192,10 @@ module _ (S : Type 0) (rules : Rules) (h : Heap) (order : IsOrdered rules h) whe
       records_looks =
           let p = λ (z : Got Bool). z ≡ equal_by h pure (Ref (record { 0 = a })) (Ref (record { 0 = b })) in
           let q : equal_kinds h pure (same_text (eqb a b) (text_by r.kind r.bytes) (text_by s.kind s.bytes)) r.kind s.kind r.values s.values ≡ equal_by h pure (Ref (record { 0 = a })) (Ref (record { 0 = b })) =
-              sym (ap (λ o. equal_kinds h pure (same_text (eqb a b) (text_in o) (text_in (h b))) (at h a).kind (at h b).kind (at h a).values (at h b).values) ea
-              ∙ (ap (λ o. equal_kinds h pure (same_text (eqb a b) (text_by r.kind r.bytes) (text_in o)) (at h a).kind (at h b).kind (at h a).values (at h b).values) eb
-              ∙ (ap (λ z. equal_kinds h pure (same_text (eqb a b) (text_by r.kind r.bytes) (text_by s.kind s.bytes)) z.kind (at h b).kind z.values (at h b).values) (at-is h a r ea)
-              ∙ ap (λ z. equal_kinds h pure (same_text (eqb a b) (text_by r.kind r.bytes) (text_by s.kind s.bytes)) r.kind z.kind r.values z.values) (at-is h b s eb)))) in
+          sym (ap (λ o. equal_kinds h pure (same_text (eqb a b) (text_in o) (text_in (h b))) (at h a).kind (at h b).kind (at h a).values (at h b).values) ea
+          ∙ (ap (λ o. equal_kinds h pure (same_text (eqb a b) (text_by r.kind r.bytes) (text_in o)) (at h a).kind (at h b).kind (at h a).values (at h b).values) eb
+          ∙ (ap (λ z. equal_kinds h pure (same_text (eqb a b) (text_by r.kind r.bytes) (text_by s.kind s.bytes)) z.kind (at h b).kind z.values (at h b).values) (at-is h a r ea)
+          ∙ ap (λ z. equal_kinds h pure (same_text (eqb a b) (text_by r.kind r.bytes) (text_by s.kind s.bytes)) r.kind z.kind r.values z.values) (at-is h b s eb)))) in
           looks_then (λ k. k ≡ pairing_of r.kind s.kind) p (kinds_row a b) (by_pairing under a b) h (kinds_looks S h a b r s ea eb)
           (λ k ek. subst (λ k. Looks p (by_pairing under a b k) h) (sym ek) (looks_weaken (λ z. z ≡ equal_kinds h pure (same_text (eqb a b) (text_by r.kind r.bytes) (text_by s.kind s.bytes)) r.kind s.kind r.values s.values) p (λ z e. e ∙ q) (by_pairing under a b (pairing_of r.kind s.kind)) h (by_kinds r.kind s.kind refl refl)))
 

@@ -8,3 +8,5 @@ pub mod EqualLooks
 pub mod OrderLooks
 pub mod TruthLooks
 pub mod TextLooks
+pub mod NestLooks
+pub mod OrderTotal

@@ -1,15 +1,14 @@
 -- The row of order only looks, may be begun over a heap in order, and answers what the definition of order says.
-use Rattle.std.proofs.Common.{arith, ◌≡◌, ℕ, zero, suc, ◌+◌, ◌<◌, Bool, true, false, cond, eqb, List, [], ◌∷◌, length, drop, min, Option, Some, None, refl, sym, ap, subst, ◌∙◌}
+use Rattle.std.proofs.Common.{arith, ◌≡◌, ℕ, zero, suc, ◌+◌, ◌<◌, Bool, true, false, cond, List, [], ◌∷◌, length, drop, min, Option, Some, None, refl, sym, ap, subst, ◌∙◌, ◌⊎◌, inl, inr}
 use Rattle.std.specs.declared.cmp.Ordering.{Ordering}
 use Rattle.std.specs.declared.cmp.Ordering.TheVariants.{Less, Equal, Greater}
 use Rattle.std.specs.Ordering.{nat_cmp}
 use Rattle.std.specs.Cmp.{nat_cmp_is}
-use Rattle.std.proofs.Math.Dec.{ltb}
-use Rattle.std.proofs.lemmas.Bool.{eqb-true, eqb-false, ltb-true, ltb-false}
+use Rattle.std.proofs.lemmas.Bool.{cases_order}
 use Rattle.py_data.specs.declared.value.Value.{Value}
 use Rattle.py_data.specs.declared.value.Value.TheVariants.{Unset, None as NoneValue, Bool as BoolValue, Int, Ref, Builtin}
 use Rattle.py_base.specs.declared.kind.Kind.{Kind}
-use Rattle.py_base.specs.declared.kind.Kind.TheVariants.{Str, Tuple, List as ListKind}
+use Rattle.py_base.specs.declared.kind.Kind.TheVariants.{Str, Tuple, List as ListKind, Dict, Method}
 use Rattle.py_data.specs.declared.record.Got.{Got}
 use Rattle.py_data.specs.declared.record.Got.TheVariants.{Is, Raise}
 use Rattle.py_data.specs.Fault.{depth_fault, operand_fault}
@@ -51,19 +50,12 @@ decide_order (Raise e) o next = refl
 
 -- counted up by one on both sides, lengths are in the same order
 shifted : (n m : ℕ) → nat_cmp (suc n) (suc m) ≡ nat_cmp n m
-shifted n m = by (eqb n m) refl
+shifted n m = by (cases_order n m)
   where
-    by : (b : Bool) → eqb n m ≡ b → nat_cmp (suc n) (suc m) ≡ nat_cmp n m
-    by true e = let q = eqb-true n m e in sym (nat_cmp_is (suc n) (suc m) Equal (ap suc q)) ∙ nat_cmp_is n m Equal q
-    by false e = other (ltb n m) refl
-      where
-        other : (b : Bool) → ltb n m ≡ b → nat_cmp (suc n) (suc m) ≡ nat_cmp n m
-        other true l = let q = ltb-true n m l in sym (nat_cmp_is (suc n) (suc m) Less (omega (arith, q))) ∙ nat_cmp_is n m Less q
-        other false l =
-            let d = eqb-false n m e in
-            let q = ltb-false n m l in
-            let g : m < n = omega (arith, d, q) in
-            sym (nat_cmp_is (suc n) (suc m) Greater (omega (arith, g))) ∙ nat_cmp_is n m Greater g
+    by : (n ≡ m) ⊎ ((n < m) ⊎ (m < n)) → nat_cmp (suc n) (suc m) ≡ nat_cmp n m
+    by (inl e) = sym (nat_cmp_is (suc n) (suc m) Equal (ap suc e)) ∙ nat_cmp_is n m Equal e
+    by (inr (inl l)) = sym (nat_cmp_is (suc n) (suc m) Less (omega (arith, l))) ∙ nat_cmp_is n m Less l
+    by (inr (inr g)) = sym (nat_cmp_is (suc n) (suc m) Greater (omega (arith, g))) ∙ nat_cmp_is n m Greater g
 
 no_item : (k : ℕ) → nat_cmp 0 (suc k) ≡ Less
 no_item k = sym (nat_cmp_is 0 (suc k) Less (omega arith))
@@ -186,6 +178,8 @@ module _ (S : Type 0) (rules : Rules) (h : Heap) (order : IsOrdered rules h) whe
         by_kinds Str Str = strings_looks
         by_kinds Tuple Tuple = level_looks under link
         by_kinds ListKind ListKind = level_looks under link
+        by_kinds Dict Dict = looks_ret S (λ z. z ≡ Raise operand_fault) (Raise operand_fault) h refl
+        by_kinds Method Method = looks_ret S (λ z. z ≡ Raise operand_fault) (Raise operand_fault) h refl
         by_kinds k l = looks_ret S (λ z. z ≡ Raise operand_fault) (Raise operand_fault) h refl
 
         ranked_looks : Looks (λ z. z ≡ order_by h items (Ref (record { 0 = a })) (Ref (record { 0 = b }))) (ranked_row under a b) h
@@ -193,7 +187,7 @@ module _ (S : Type 0) (rules : Rules) (h : Heap) (order : IsOrdered rules h) whe
         ranked_looks =
             let p = λ (z : Got Ordering). z ≡ order_by h items (Ref (record { 0 = a })) (Ref (record { 0 = b })) in
             let q : order_records items r.kind s.kind r s ≡ order_by h items (Ref (record { 0 = a })) (Ref (record { 0 = b })) =
-                sym (ap (λ z. order_records items z.kind (at h b).kind z (at h b)) (at-is h a r ea) ∙ ap (λ z. order_records items r.kind z.kind r z) (at-is h b s eb)) in
+            sym (ap (λ z. order_records items z.kind (at h b).kind z (at h b)) (at-is h a r ea) ∙ ap (λ z. order_records items r.kind z.kind r z) (at-is h b s eb)) in
             looks_then (λ k. k ≡ pairing_of r.kind s.kind) p (kinds_row a b) (ordered_by under a b) h (kinds_looks S h a b r s ea eb)
             (λ k ek. subst (λ k. Looks p (ordered_by under a b k) h) (sym ek) (looks_weaken (λ z. z ≡ order_records items r.kind s.kind r s) p (λ z e. e ∙ q) (ordered_by under a b (pairing_of r.kind s.kind)) h (by_kinds r.kind s.kind)))
 

@@ -3,3 +3,4 @@ pub mod Equal
 pub mod Ordering
 pub mod Truth
 pub mod Text
+pub mod Laws

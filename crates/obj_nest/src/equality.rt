@@ -56,7 +56,14 @@ fn texts<S, V: View<S>>(alloc: Global, v: &mut V, a: Addr, b: Addr) -> Result<Go
 /// Whether a value is that of a record at a place.
 #[cycle(equality)]
 #[tactic(auto, using(py_data::proofs::Rows::row_steps, py_data::proofs::Steps::call_steps), unfolding(crate::specs::Equal::item_with))]
-fn item_with<S, V: View<S>>(alloc: Global, v: &mut V, levels: usize, b: Addr, i: usize, x: Value) -> Result<Got<bool>, Stop>
+fn item_with<S, V: View<S>>(
+    alloc: Global,
+    v: &mut V,
+    levels: usize,
+    b: Addr,
+    i: usize,
+    x: Value,
+) -> Result<Got<bool>, Stop>
     requires live { IsLive V.sense v.old }
     requires safe { Safe V.sense.partial (item_with {S = S} (equal_levels levels) b.0 i x) (V.sense.heap v.old) }
     ensures { Meets V.sense (item_with (equal_levels levels) b.0 i x) v.old v.new result }
@@ -68,7 +75,14 @@ fn item_with<S, V: View<S>>(alloc: Global, v: &mut V, levels: usize, b: Addr, i:
 /// Whether the values of two records at a place are equal.
 #[cycle(equality)]
 #[tactic(auto, using(py_data::proofs::Rows::row_steps, py_data::proofs::Steps::call_steps), unfolding(crate::specs::Equal::item_row))]
-fn item<S, V: View<S>>(alloc: Global, v: &mut V, levels: usize, a: Addr, b: Addr, i: usize) -> Result<Got<bool>, Stop>
+fn item<S, V: View<S>>(
+    alloc: Global,
+    v: &mut V,
+    levels: usize,
+    a: Addr,
+    b: Addr,
+    i: usize,
+) -> Result<Got<bool>, Stop>
     requires live { IsLive V.sense v.old }
     requires safe { Safe V.sense.partial (item_row {S = S} (equal_levels levels) a.0 b.0 i) (V.sense.heap v.old) }
     ensures { Meets V.sense (item_row (equal_levels levels) a.0 b.0 i) v.old v.new result }
@@ -86,7 +100,14 @@ fn goes_on(first: &Got<bool>) -> bool
 
 /// Whether the first values of two records are equal, one by one.
 #[cycle(equality)]
-fn every_item<S, V: View<S>>(alloc: Global, v: &mut V, levels: usize, a: Addr, b: Addr, n: usize) -> Result<Got<bool>, Stop>
+fn every_item<S, V: View<S>>(
+    alloc: Global,
+    v: &mut V,
+    levels: usize,
+    a: Addr,
+    b: Addr,
+    n: usize,
+) -> Result<Got<bool>, Stop>
     requires live { IsLive V.sense v.old }
     requires safe { Safe V.sense.partial (until_row {S = S} (item_row (equal_levels levels) a.0 b.0) is_equal (Is true) 0 n) (V.sense.heap v.old) }
     ensures { Meets V.sense (until_row (item_row (equal_levels levels) a.0 b.0) is_equal (Is true) 0 n) v.old v.new result }
@@ -103,7 +124,15 @@ fn every_item<S, V: View<S>>(alloc: Global, v: &mut V, levels: usize, a: Addr, b
 /// Whether two sequences of these lengths are equal.
 #[cycle(equality)]
 #[tactic(auto, using(py_data::proofs::Rows::row_steps, py_data::proofs::Steps::call_steps), unfolding(crate::specs::Equal::sized_row))]
-fn items_sized<S, V: View<S>>(alloc: Global, v: &mut V, levels: usize, a: Addr, b: Addr, n: usize, m: usize) -> Result<Got<bool>, Stop>
+fn items_sized<S, V: View<S>>(
+    alloc: Global,
+    v: &mut V,
+    levels: usize,
+    a: Addr,
+    b: Addr,
+    n: usize,
+    m: usize,
+) -> Result<Got<bool>, Stop>
     requires live { IsLive V.sense v.old }
     requires safe { Safe V.sense.partial (sized_row {S = S} (item_row (equal_levels levels) a.0 b.0) n m) (V.sense.heap v.old) }
     ensures { Meets V.sense (sized_row (item_row (equal_levels levels) a.0 b.0) n m) v.old v.new result }
@@ -118,7 +147,14 @@ fn items_sized<S, V: View<S>>(alloc: Global, v: &mut V, levels: usize, a: Addr, 
 /// Whether two sequences are equal, of which the first has this length.
 #[cycle(equality)]
 #[tactic(auto, using(py_data::proofs::Rows::row_steps, py_data::proofs::Steps::call_steps), unfolding(crate::specs::Equal::items_from))]
-fn items_from<S, V: View<S>>(alloc: Global, v: &mut V, levels: usize, a: Addr, b: Addr, n: usize) -> Result<Got<bool>, Stop>
+fn items_from<S, V: View<S>>(
+    alloc: Global,
+    v: &mut V,
+    levels: usize,
+    a: Addr,
+    b: Addr,
+    n: usize,
+) -> Result<Got<bool>, Stop>
     requires live { IsLive V.sense v.old }
     requires safe { Safe V.sense.partial (items_from {S = S} (equal_levels levels) a.0 b.0 n) (V.sense.heap v.old) }
     ensures { Meets V.sense (items_from (equal_levels levels) a.0 b.0 n) v.old v.new result }
@@ -130,7 +166,13 @@ fn items_from<S, V: View<S>>(alloc: Global, v: &mut V, levels: usize, a: Addr, b
 /// Whether two sequences are equal.
 #[cycle(equality)]
 #[tactic(auto, using(py_data::proofs::Rows::row_steps, py_data::proofs::Steps::call_steps), unfolding(crate::specs::Equal::items_row))]
-fn items<S, V: View<S>>(alloc: Global, v: &mut V, levels: usize, a: Addr, b: Addr) -> Result<Got<bool>, Stop>
+fn items<S, V: View<S>>(
+    alloc: Global,
+    v: &mut V,
+    levels: usize,
+    a: Addr,
+    b: Addr,
+) -> Result<Got<bool>, Stop>
     requires live { IsLive V.sense v.old }
     requires safe { Safe V.sense.partial (items_row {S = S} (equal_levels levels) a.0 b.0) (V.sense.heap v.old) }
     ensures { Meets V.sense (items_row (equal_levels levels) a.0 b.0) v.old v.new result }
@@ -142,7 +184,14 @@ fn items<S, V: View<S>>(alloc: Global, v: &mut V, levels: usize, a: Addr, b: Add
 /// Whether a value is that of the other dictionary's pair of this number.
 #[cycle(equality)]
 #[tactic(auto, using(py_data::proofs::Rows::row_steps, py_data::proofs::Steps::call_steps), unfolding(crate::specs::Equal::found_row))]
-fn found<S, V: View<S>>(alloc: Global, v: &mut V, levels: usize, b: Addr, x: Value, o: Option<usize>) -> Result<Got<bool>, Stop>
+fn found<S, V: View<S>>(
+    alloc: Global,
+    v: &mut V,
+    levels: usize,
+    b: Addr,
+    x: Value,
+    o: Option<usize>,
+) -> Result<Got<bool>, Stop>
     requires live { IsLive V.sense v.old }
     requires safe { Safe V.sense.partial (found_row {S = S} (equal_levels levels) b.0 x o) (V.sense.heap v.old) }
     requires within { IfSome o (λ j. 2 * j + 1 < LENGTH_LIMIT) }
@@ -160,7 +209,14 @@ fn found<S, V: View<S>>(alloc: Global, v: &mut V, levels: usize, b: Addr, x: Val
 /// Whether the other dictionary has this value for a key.
 #[cycle(equality)]
 #[tactic(auto, using(py_data::proofs::Rows::row_steps, py_data::proofs::Steps::call_steps), unfolding(crate::specs::Equal::sought_row))]
-fn sought<S, V: View<S>>(alloc: Global, v: &mut V, levels: usize, b: Addr, k: Value, x: Value) -> Result<Got<bool>, Stop>
+fn sought<S, V: View<S>>(
+    alloc: Global,
+    v: &mut V,
+    levels: usize,
+    b: Addr,
+    k: Value,
+    x: Value,
+) -> Result<Got<bool>, Stop>
     requires live { IsLive V.sense v.old }
     requires safe { Safe V.sense.partial (sought_row {S = S} (equal_levels levels) b.0 k x) (V.sense.heap v.old) }
     ensures { Meets V.sense (sought_row (equal_levels levels) b.0 k x) v.old v.new result }
@@ -172,7 +228,15 @@ fn sought<S, V: View<S>>(alloc: Global, v: &mut V, levels: usize, b: Addr, k: Va
 /// Whether the other dictionary has the value of a pair for this key.
 #[cycle(equality)]
 #[tactic(auto, using(py_data::proofs::Rows::row_steps, py_data::proofs::Steps::call_steps), unfolding(crate::specs::Equal::pair_with))]
-fn pair_with<S, V: View<S>>(alloc: Global, v: &mut V, levels: usize, a: Addr, b: Addr, i: usize, k: Value) -> Result<Got<bool>, Stop>
+fn pair_with<S, V: View<S>>(
+    alloc: Global,
+    v: &mut V,
+    levels: usize,
+    a: Addr,
+    b: Addr,
+    i: usize,
+    k: Value,
+) -> Result<Got<bool>, Stop>
     requires live { IsLive V.sense v.old }
     requires safe { Safe V.sense.partial (pair_with {S = S} (equal_levels levels) a.0 b.0 i k) (V.sense.heap v.old) }
     requires within { i ≤ LENGTH_LIMIT }
@@ -185,7 +249,14 @@ fn pair_with<S, V: View<S>>(alloc: Global, v: &mut V, levels: usize, a: Addr, b:
 /// Whether the other dictionary has the same value for the key of a pair.
 #[cycle(equality)]
 #[tactic(auto, using(py_data::proofs::Rows::row_steps, py_data::proofs::Steps::call_steps), unfolding(crate::specs::Equal::pair_row))]
-fn pair<S, V: View<S>>(alloc: Global, v: &mut V, levels: usize, a: Addr, b: Addr, i: usize) -> Result<Got<bool>, Stop>
+fn pair<S, V: View<S>>(
+    alloc: Global,
+    v: &mut V,
+    levels: usize,
+    a: Addr,
+    b: Addr,
+    i: usize,
+) -> Result<Got<bool>, Stop>
     requires live { IsLive V.sense v.old }
     requires safe { Safe V.sense.partial (pair_row {S = S} (equal_levels levels) a.0 b.0 i) (V.sense.heap v.old) }
     requires within { i ≤ LENGTH_LIMIT }
@@ -197,7 +268,14 @@ fn pair<S, V: View<S>>(alloc: Global, v: &mut V, levels: usize, a: Addr, b: Addr
 
 /// Whether the other dictionary has the same value for each of the first keys.
 #[cycle(equality)]
-fn every_pair<S, V: View<S>>(alloc: Global, v: &mut V, levels: usize, a: Addr, b: Addr, n: usize) -> Result<Got<bool>, Stop>
+fn every_pair<S, V: View<S>>(
+    alloc: Global,
+    v: &mut V,
+    levels: usize,
+    a: Addr,
+    b: Addr,
+    n: usize,
+) -> Result<Got<bool>, Stop>
     requires live { IsLive V.sense v.old }
     requires safe { Safe V.sense.partial (until_row {S = S} (pair_row (equal_levels levels) a.0 b.0) is_equal (Is true) 0 n) (V.sense.heap v.old) }
     requires within { n ≤ LENGTH_LIMIT }
@@ -215,7 +293,15 @@ fn every_pair<S, V: View<S>>(alloc: Global, v: &mut V, levels: usize, a: Addr, b
 /// Whether two dictionaries of these lengths are equal.
 #[cycle(equality)]
 #[tactic(auto, using(py_data::proofs::Rows::row_steps, py_data::proofs::Steps::call_steps), unfolding(crate::specs::Equal::paired_row))]
-fn pairs_sized<S, V: View<S>>(alloc: Global, v: &mut V, levels: usize, a: Addr, b: Addr, n: usize, m: usize) -> Result<Got<bool>, Stop>
+fn pairs_sized<S, V: View<S>>(
+    alloc: Global,
+    v: &mut V,
+    levels: usize,
+    a: Addr,
+    b: Addr,
+    n: usize,
+    m: usize,
+) -> Result<Got<bool>, Stop>
     requires live { IsLive V.sense v.old }
     requires safe { Safe V.sense.partial (paired_row {S = S} (pair_row (equal_levels levels) a.0 b.0) n m) (V.sense.heap v.old) }
     requires within { n ≤ LENGTH_LIMIT }
@@ -231,7 +317,14 @@ fn pairs_sized<S, V: View<S>>(alloc: Global, v: &mut V, levels: usize, a: Addr, 
 /// Whether two dictionaries are equal, of which the first has this length.
 #[cycle(equality)]
 #[tactic(auto, using(py_data::proofs::Rows::row_steps, py_data::proofs::Steps::call_steps), unfolding(crate::specs::Equal::pairs_from))]
-fn pairs_from<S, V: View<S>>(alloc: Global, v: &mut V, levels: usize, a: Addr, b: Addr, n: usize) -> Result<Got<bool>, Stop>
+fn pairs_from<S, V: View<S>>(
+    alloc: Global,
+    v: &mut V,
+    levels: usize,
+    a: Addr,
+    b: Addr,
+    n: usize,
+) -> Result<Got<bool>, Stop>
     requires live { IsLive V.sense v.old }
     requires safe { Safe V.sense.partial (pairs_from {S = S} (equal_levels levels) a.0 b.0 n) (V.sense.heap v.old) }
     requires within { n ≤ LENGTH_LIMIT }
@@ -244,7 +337,13 @@ fn pairs_from<S, V: View<S>>(alloc: Global, v: &mut V, levels: usize, a: Addr, b
 /// Whether two dictionaries are equal.
 #[cycle(equality)]
 #[tactic(auto, using(py_data::proofs::Rows::row_steps, py_data::proofs::Steps::call_steps), unfolding(crate::specs::Equal::pairs_row))]
-fn pairs<S, V: View<S>>(alloc: Global, v: &mut V, levels: usize, a: Addr, b: Addr) -> Result<Got<bool>, Stop>
+fn pairs<S, V: View<S>>(
+    alloc: Global,
+    v: &mut V,
+    levels: usize,
+    a: Addr,
+    b: Addr,
+) -> Result<Got<bool>, Stop>
     requires live { IsLive V.sense v.old }
     requires safe { Safe V.sense.partial (pairs_row {S = S} (equal_levels levels) a.0 b.0) (V.sense.heap v.old) }
     ensures { Meets V.sense (pairs_row (equal_levels levels) a.0 b.0) v.old v.new result }
@@ -314,7 +413,13 @@ fn is_identical(x: Value, y: Value) -> bool
 /// Whether two records are equal by their items, where a level is left.
 #[cycle(equality)]
 #[tactic(auto, using(crate::proofs::LevelSteps::level_done))]
-fn leveled_items<S, V: View<S>>(alloc: Global, v: &mut V, levels: usize, a: Addr, b: Addr) -> Result<Got<bool>, Stop>
+fn leveled_items<S, V: View<S>>(
+    alloc: Global,
+    v: &mut V,
+    levels: usize,
+    a: Addr,
+    b: Addr,
+) -> Result<Got<bool>, Stop>
     requires live { IsLive V.sense v.old }
     requires safe { Safe V.sense.partial (level_row {S = S} (below equal_under levels) (λ u. items_row u a.0 b.0)) (V.sense.heap v.old) }
     ensures { Meets V.sense (level_row (below equal_under levels) (λ u. items_row u a.0 b.0)) v.old v.new result }
@@ -329,7 +434,13 @@ fn leveled_items<S, V: View<S>>(alloc: Global, v: &mut V, levels: usize, a: Addr
 /// Whether two records are equal by their pairs, where a level is left.
 #[cycle(equality)]
 #[tactic(auto, using(crate::proofs::LevelSteps::level_done))]
-fn leveled_pairs<S, V: View<S>>(alloc: Global, v: &mut V, levels: usize, a: Addr, b: Addr) -> Result<Got<bool>, Stop>
+fn leveled_pairs<S, V: View<S>>(
+    alloc: Global,
+    v: &mut V,
+    levels: usize,
+    a: Addr,
+    b: Addr,
+) -> Result<Got<bool>, Stop>
     requires live { IsLive V.sense v.old }
     requires safe { Safe V.sense.partial (level_row {S = S} (below equal_under levels) (λ u. pairs_row u a.0 b.0)) (V.sense.heap v.old) }
     ensures { Meets V.sense (level_row (below equal_under levels) (λ u. pairs_row u a.0 b.0)) v.old v.new result }
@@ -344,7 +455,14 @@ fn leveled_pairs<S, V: View<S>>(alloc: Global, v: &mut V, levels: usize, a: Addr
 /// Whether two records are equal, compared so.
 #[cycle(equality)]
 #[tactic(auto, using(py_data::proofs::Rows::row_steps, py_data::proofs::Steps::call_steps), unfolding(crate::specs::Equal::by_pairing))]
-fn paired_by<S, V: View<S>>(alloc: Global, v: &mut V, levels: usize, a: Addr, b: Addr, how: Pairing) -> Result<Got<bool>, Stop>
+fn paired_by<S, V: View<S>>(
+    alloc: Global,
+    v: &mut V,
+    levels: usize,
+    a: Addr,
+    b: Addr,
+    how: Pairing,
+) -> Result<Got<bool>, Stop>
     requires live { IsLive V.sense v.old }
     requires safe { Safe V.sense.partial (by_pairing {S = S} (below equal_under levels) a.0 b.0 how) (V.sense.heap v.old) }
     ensures { Meets V.sense (by_pairing (below equal_under levels) a.0 b.0 how) v.old v.new result }
@@ -361,7 +479,13 @@ fn paired_by<S, V: View<S>>(alloc: Global, v: &mut V, levels: usize, a: Addr, b:
 /// Whether two records are equal.
 #[cycle(equality)]
 #[tactic(auto, using(py_data::proofs::Rows::row_steps, py_data::proofs::Steps::call_steps), unfolding(crate::specs::Equal::records_row))]
-fn records<S, V: View<S>>(alloc: Global, v: &mut V, levels: usize, a: Addr, b: Addr) -> Result<Got<bool>, Stop>
+fn records<S, V: View<S>>(
+    alloc: Global,
+    v: &mut V,
+    levels: usize,
+    a: Addr,
+    b: Addr,
+) -> Result<Got<bool>, Stop>
     requires live { IsLive V.sense v.old }
     requires safe { Safe V.sense.partial (records_row {S = S} (below equal_under levels) a.0 b.0) (V.sense.heap v.old) }
     ensures { Meets V.sense (records_row (below equal_under levels) a.0 b.0) v.old v.new result }
@@ -373,7 +497,13 @@ fn records<S, V: View<S>>(alloc: Global, v: &mut V, levels: usize, a: Addr, b: A
 /// Whether two values are equal, where so many levels are left.
 #[cycle(equality)]
 #[tactic(auto, using(py_data::proofs::Rows::row_steps, py_data::proofs::Steps::call_steps), unfolding(crate::specs::Equal::equal_under))]
-pub fn equal_at<S, V: View<S>>(alloc: Global, v: &mut V, levels: usize, x: Value, y: Value) -> Result<Got<bool>, Stop>
+pub fn equal_at<S, V: View<S>>(
+    alloc: Global,
+    v: &mut V,
+    levels: usize,
+    x: Value,
+    y: Value,
+) -> Result<Got<bool>, Stop>
     requires live { IsLive V.sense v.old }
     requires safe { Safe V.sense.partial (equal_levels {S = S} levels x y) (V.sense.heap v.old) }
     ensures { Meets V.sense (equal_levels levels x y) v.old v.new result }

@@ -2,6 +2,7 @@
 #![tactic(auto)]
 
 mod equality;
+mod laws;
 mod levels;
 mod looking;
 mod names;
@@ -12,6 +13,7 @@ mod texts;
 mod truths;
 
 pub use equality::equal;
+pub use laws::{looks_law, order_law};
 pub use levels::LEVELS;
 pub use looking::{kind, look, size};
 pub use ordering::order;

@@ -12,7 +12,12 @@ use std::alloc::Global;
 
 /// Writes a string in quotes.
 #[tactic(auto, using(py_data::proofs::Rows::row_steps, py_data::proofs::Steps::call_steps), unfolding(crate::specs::Text::quoted_row))]
-pub fn quoted<S, V: View<S>>(alloc: Global, v: &mut V, a: Addr, out: Bytes) -> Result<Got<Bytes>, Stop>
+pub fn quoted<S, V: View<S>>(
+    alloc: Global,
+    v: &mut V,
+    a: Addr,
+    out: Bytes,
+) -> Result<Got<Bytes>, Stop>
     requires live { IsLive V.sense v.old }
     requires safe { Safe V.sense.partial (quoted_row {S = S} a.0 out) (V.sense.heap v.old) }
     ensures { Meets V.sense (quoted_row a.0 out) v.old v.new result }
@@ -74,7 +79,14 @@ fn named<S, V: View<S>>(alloc: Global, v: &mut V, a: Addr) -> Result<Bytes, Stop
 
 /// Writes the name of a function or class between two texts.
 #[tactic(auto, using(py_data::proofs::Rows::row_steps, py_data::proofs::Steps::call_steps), unfolding(crate::specs::Text::between_row))]
-fn with_name<S, V: View<S>>(alloc: Global, v: &mut V, a: Addr, front: &[u8], close: &[u8], out: Bytes) -> Result<Got<Bytes>, Stop>
+fn with_name<S, V: View<S>>(
+    alloc: Global,
+    v: &mut V,
+    a: Addr,
+    front: &[u8],
+    close: &[u8],
+    out: Bytes,
+) -> Result<Got<Bytes>, Stop>
     requires live { IsLive V.sense v.old }
     requires safe { Safe V.sense.partial (between_row {S = S} front.now close.now (name_row a.0) out) (V.sense.heap v.old) }
     ensures { Meets V.sense (between_row front.now close.now (name_row a.0) out) v.old v.new result }
@@ -86,7 +98,14 @@ fn with_name<S, V: View<S>>(alloc: Global, v: &mut V, a: Addr, front: &[u8], clo
 
 /// Writes such a name between two texts.
 #[tactic(auto, using(py_data::proofs::Rows::row_steps, py_data::proofs::Steps::call_steps), unfolding(crate::specs::Text::between_row))]
-fn with_named<S, V: View<S>>(alloc: Global, v: &mut V, a: Addr, front: &[u8], close: &[u8], out: Bytes) -> Result<Got<Bytes>, Stop>
+fn with_named<S, V: View<S>>(
+    alloc: Global,
+    v: &mut V,
+    a: Addr,
+    front: &[u8],
+    close: &[u8],
+    out: Bytes,
+) -> Result<Got<Bytes>, Stop>
     requires live { IsLive V.sense v.old }
     requires safe { Safe V.sense.partial (between_row {S = S} front.now close.now (named_row a.0) out) (V.sense.heap v.old) }
     ensures { Meets V.sense (between_row front.now close.now (named_row a.0) out) v.old v.new result }
@@ -98,7 +117,13 @@ fn with_named<S, V: View<S>>(alloc: Global, v: &mut V, a: Addr, front: &[u8], cl
 
 /// Writes a record of a kind that has no parts to be written.
 #[tactic(auto, using(py_data::proofs::Rows::row_steps, py_data::proofs::Steps::call_steps), unfolding(crate::specs::Text::other_text))]
-pub fn other<S, V: View<S>>(alloc: Global, v: &mut V, a: Addr, out: Bytes, k: Kind) -> Result<Got<Bytes>, Stop>
+pub fn other<S, V: View<S>>(
+    alloc: Global,
+    v: &mut V,
+    a: Addr,
+    out: Bytes,
+    k: Kind,
+) -> Result<Got<Bytes>, Stop>
     requires live { IsLive V.sense v.old }
     requires safe { Safe V.sense.partial (other_text {S = S} a.0 out k) (V.sense.heap v.old) }
     ensures { Meets V.sense (other_text a.0 out k) v.old v.new result }

@@ -48,7 +48,12 @@ fn compare_bytes(x: &[u8], y: &[u8]) -> Ordering
 
 /// The order of a string with these bytes and another one.
 #[tactic(auto, using(py_data::proofs::Rows::row_steps, py_data::proofs::Steps::call_steps), unfolding(crate::specs::Ordering::bytes_with))]
-fn bytes_with<S, V: View<S>>(alloc: Global, v: &mut V, x: &[u8], b: Addr) -> Result<Got<Ordering>, Stop>
+fn bytes_with<S, V: View<S>>(
+    alloc: Global,
+    v: &mut V,
+    x: &[u8],
+    b: Addr,
+) -> Result<Got<Ordering>, Stop>
     requires live { IsLive V.sense v.old }
     requires safe { Safe V.sense.partial (bytes_with {S = S} x.now b.0) (V.sense.heap v.old) }
     ensures { Meets V.sense (bytes_with x.now b.0) v.old v.new result }
@@ -71,7 +76,14 @@ fn strings<S, V: View<S>>(alloc: Global, v: &mut V, a: Addr, b: Addr) -> Result<
 /// What two items decide, of which is known whether they are equal.
 #[cycle(ordering)]
 #[tactic(auto, using(py_data::proofs::Rows::row_steps, py_data::proofs::Steps::call_steps), unfolding(crate::specs::Ordering::unequal_row))]
-fn unequal<S, V: View<S>>(alloc: Global, v: &mut V, levels: usize, x: Value, y: Value, same: bool) -> Result<Got<Option<Ordering>>, Stop>
+fn unequal<S, V: View<S>>(
+    alloc: Global,
+    v: &mut V,
+    levels: usize,
+    x: Value,
+    y: Value,
+    same: bool,
+) -> Result<Got<Option<Ordering>>, Stop>
     requires live { IsLive V.sense v.old }
     requires safe { Safe V.sense.partial (unequal_row {S = S} (parts_at levels) x y same) (V.sense.heap v.old) }
     ensures { Meets V.sense (unequal_row (parts_at levels) x y same) v.old v.new result }
@@ -88,7 +100,13 @@ fn unequal<S, V: View<S>>(alloc: Global, v: &mut V, levels: usize, x: Value, y: 
 /// What two items decide.
 #[cycle(ordering)]
 #[tactic(auto, using(py_data::proofs::Rows::row_steps, py_data::proofs::Steps::call_steps), unfolding(crate::specs::Ordering::decided_row))]
-fn decided<S, V: View<S>>(alloc: Global, v: &mut V, levels: usize, x: Value, y: Value) -> Result<Got<Option<Ordering>>, Stop>
+fn decided<S, V: View<S>>(
+    alloc: Global,
+    v: &mut V,
+    levels: usize,
+    x: Value,
+    y: Value,
+) -> Result<Got<Option<Ordering>>, Stop>
     requires live { IsLive V.sense v.old }
     requires safe { Safe V.sense.partial (decided_row {S = S} (parts_at levels) x y) (V.sense.heap v.old) }
     ensures { Meets V.sense (decided_row (parts_at levels) x y) v.old v.new result }
@@ -102,7 +120,14 @@ fn decided<S, V: View<S>>(alloc: Global, v: &mut V, levels: usize, x: Value, y: 
 /// What an item decides against that of another list at a place.
 #[cycle(ordering)]
 #[tactic(auto, using(py_data::proofs::Rows::row_steps, py_data::proofs::Steps::call_steps), unfolding(crate::specs::Ordering::turn_with))]
-fn turn_with<S, V: View<S>>(alloc: Global, v: &mut V, levels: usize, b: Addr, i: usize, x: Value) -> Result<Got<Option<Ordering>>, Stop>
+fn turn_with<S, V: View<S>>(
+    alloc: Global,
+    v: &mut V,
+    levels: usize,
+    b: Addr,
+    i: usize,
+    x: Value,
+) -> Result<Got<Option<Ordering>>, Stop>
     requires live { IsLive V.sense v.old }
     requires safe { Safe V.sense.partial (turn_with {S = S} (parts_at levels) b.0 i x) (V.sense.heap v.old) }
     ensures { Meets V.sense (turn_with (parts_at levels) b.0 i x) v.old v.new result }
@@ -114,7 +139,14 @@ fn turn_with<S, V: View<S>>(alloc: Global, v: &mut V, levels: usize, b: Addr, i:
 /// What the items of two lists at a place decide.
 #[cycle(ordering)]
 #[tactic(auto, using(py_data::proofs::Rows::row_steps, py_data::proofs::Steps::call_steps), unfolding(crate::specs::Ordering::turn_row))]
-fn turn<S, V: View<S>>(alloc: Global, v: &mut V, levels: usize, a: Addr, b: Addr, i: usize) -> Result<Got<Option<Ordering>>, Stop>
+fn turn<S, V: View<S>>(
+    alloc: Global,
+    v: &mut V,
+    levels: usize,
+    a: Addr,
+    b: Addr,
+    i: usize,
+) -> Result<Got<Option<Ordering>>, Stop>
     requires live { IsLive V.sense v.old }
     requires safe { Safe V.sense.partial (turn_row {S = S} (parts_at levels) a.0 b.0 i) (V.sense.heap v.old) }
     ensures { Meets V.sense (turn_row (parts_at levels) a.0 b.0 i) v.old v.new result }
@@ -132,7 +164,14 @@ fn goes_on(first: &Got<Option<Ordering>>) -> bool
 
 /// What the first items of two lists decide, one by one.
 #[cycle(ordering)]
-fn every_turn<S, V: View<S>>(alloc: Global, v: &mut V, levels: usize, a: Addr, b: Addr, n: usize) -> Result<Got<Option<Ordering>>, Stop>
+fn every_turn<S, V: View<S>>(
+    alloc: Global,
+    v: &mut V,
+    levels: usize,
+    a: Addr,
+    b: Addr,
+    n: usize,
+) -> Result<Got<Option<Ordering>>, Stop>
     requires live { IsLive V.sense v.old }
     requires safe { Safe V.sense.partial (until_row {S = S} (turn_row (parts_at levels) a.0 b.0) is_open (Is None) 0 n) (V.sense.heap v.old) }
     ensures { Meets V.sense (until_row (turn_row (parts_at levels) a.0 b.0) is_open (Is None) 0 n) v.old v.new result }
@@ -160,7 +199,15 @@ fn by_lengths(n: usize, m: usize, first: Got<Option<Ordering>>) -> Got<Ordering>
 /// The order of two lists of these lengths.
 #[cycle(ordering)]
 #[tactic(auto, using(py_data::proofs::Rows::row_steps, py_data::proofs::Steps::call_steps), unfolding(crate::specs::Ordering::shared_row))]
-fn shared<S, V: View<S>>(alloc: Global, v: &mut V, levels: usize, a: Addr, b: Addr, n: usize, m: usize) -> Result<Got<Ordering>, Stop>
+fn shared<S, V: View<S>>(
+    alloc: Global,
+    v: &mut V,
+    levels: usize,
+    a: Addr,
+    b: Addr,
+    n: usize,
+    m: usize,
+) -> Result<Got<Ordering>, Stop>
     requires live { IsLive V.sense v.old }
     requires safe { Safe V.sense.partial (shared_row {S = S} (parts_at levels) a.0 b.0 n m) (V.sense.heap v.old) }
     ensures { Meets V.sense (shared_row (parts_at levels) a.0 b.0 n m) v.old v.new result }
@@ -172,7 +219,14 @@ fn shared<S, V: View<S>>(alloc: Global, v: &mut V, levels: usize, a: Addr, b: Ad
 /// The order of two lists, of which the first has this length.
 #[cycle(ordering)]
 #[tactic(auto, using(py_data::proofs::Rows::row_steps, py_data::proofs::Steps::call_steps), unfolding(crate::specs::Ordering::listed_from))]
-fn listed_from<S, V: View<S>>(alloc: Global, v: &mut V, levels: usize, a: Addr, b: Addr, n: usize) -> Result<Got<Ordering>, Stop>
+fn listed_from<S, V: View<S>>(
+    alloc: Global,
+    v: &mut V,
+    levels: usize,
+    a: Addr,
+    b: Addr,
+    n: usize,
+) -> Result<Got<Ordering>, Stop>
     requires live { IsLive V.sense v.old }
     requires safe { Safe V.sense.partial (listed_from {S = S} (parts_at levels) a.0 b.0 n) (V.sense.heap v.old) }
     ensures { Meets V.sense (listed_from (parts_at levels) a.0 b.0 n) v.old v.new result }
@@ -184,7 +238,13 @@ fn listed_from<S, V: View<S>>(alloc: Global, v: &mut V, levels: usize, a: Addr, 
 /// The order of two lists, or two tuples.
 #[cycle(ordering)]
 #[tactic(auto, using(py_data::proofs::Rows::row_steps, py_data::proofs::Steps::call_steps), unfolding(crate::specs::Ordering::listed_row))]
-fn listed<S, V: View<S>>(alloc: Global, v: &mut V, levels: usize, a: Addr, b: Addr) -> Result<Got<Ordering>, Stop>
+fn listed<S, V: View<S>>(
+    alloc: Global,
+    v: &mut V,
+    levels: usize,
+    a: Addr,
+    b: Addr,
+) -> Result<Got<Ordering>, Stop>
     requires live { IsLive V.sense v.old }
     requires safe { Safe V.sense.partial (listed_row {S = S} (parts_at levels) a.0 b.0) (V.sense.heap v.old) }
     ensures { Meets V.sense (listed_row (parts_at levels) a.0 b.0) v.old v.new result }
@@ -196,7 +256,13 @@ fn listed<S, V: View<S>>(alloc: Global, v: &mut V, levels: usize, a: Addr, b: Ad
 /// The order of two lists, or two tuples, where a level is left.
 #[cycle(ordering)]
 #[tactic(auto, using(crate::proofs::LevelSteps::order_done))]
-fn leveled<S, V: View<S>>(alloc: Global, v: &mut V, levels: usize, a: Addr, b: Addr) -> Result<Got<Ordering>, Stop>
+fn leveled<S, V: View<S>>(
+    alloc: Global,
+    v: &mut V,
+    levels: usize,
+    a: Addr,
+    b: Addr,
+) -> Result<Got<Ordering>, Stop>
     requires live { IsLive V.sense v.old }
     requires safe { Safe V.sense.partial (level_row {S = S} (parts_below levels) (λ u. listed_row u a.0 b.0)) (V.sense.heap v.old) }
     ensures { Meets V.sense (level_row (parts_below levels) (λ u. listed_row u a.0 b.0)) v.old v.new result }
@@ -211,7 +277,14 @@ fn leveled<S, V: View<S>>(alloc: Global, v: &mut V, levels: usize, a: Addr, b: A
 /// The order of two records that are compared so.
 #[cycle(ordering)]
 #[tactic(auto, using(py_data::proofs::Rows::row_steps, py_data::proofs::Steps::call_steps), unfolding(crate::specs::Ordering::ordered_by))]
-fn ordered_by<S, V: View<S>>(alloc: Global, v: &mut V, levels: usize, a: Addr, b: Addr, how: Pairing) -> Result<Got<Ordering>, Stop>
+fn ordered_by<S, V: View<S>>(
+    alloc: Global,
+    v: &mut V,
+    levels: usize,
+    a: Addr,
+    b: Addr,
+    how: Pairing,
+) -> Result<Got<Ordering>, Stop>
     requires live { IsLive V.sense v.old }
     requires safe { Safe V.sense.partial (ordered_by {S = S} (parts_below levels) a.0 b.0 how) (V.sense.heap v.old) }
     ensures { Meets V.sense (ordered_by (parts_below levels) a.0 b.0 how) v.old v.new result }
@@ -226,7 +299,13 @@ fn ordered_by<S, V: View<S>>(alloc: Global, v: &mut V, levels: usize, a: Addr, b
 /// The order of two records.
 #[cycle(ordering)]
 #[tactic(auto, using(py_data::proofs::Rows::row_steps, py_data::proofs::Steps::call_steps), unfolding(crate::specs::Ordering::ranked_row))]
-fn ranked<S, V: View<S>>(alloc: Global, v: &mut V, levels: usize, a: Addr, b: Addr) -> Result<Got<Ordering>, Stop>
+fn ranked<S, V: View<S>>(
+    alloc: Global,
+    v: &mut V,
+    levels: usize,
+    a: Addr,
+    b: Addr,
+) -> Result<Got<Ordering>, Stop>
     requires live { IsLive V.sense v.old }
     requires safe { Safe V.sense.partial (ranked_row {S = S} (parts_below levels) a.0 b.0) (V.sense.heap v.old) }
     ensures { Meets V.sense (ranked_row (parts_below levels) a.0 b.0) v.old v.new result }
@@ -238,7 +317,13 @@ fn ranked<S, V: View<S>>(alloc: Global, v: &mut V, levels: usize, a: Addr, b: Ad
 /// The order of two values, where so many levels are left.
 #[cycle(ordering)]
 #[tactic(auto, using(py_data::proofs::Rows::row_steps, py_data::proofs::Steps::call_steps), unfolding(crate::specs::Ordering::order_under))]
-fn order_at<S, V: View<S>>(alloc: Global, v: &mut V, levels: usize, x: Value, y: Value) -> Result<Got<Ordering>, Stop>
+fn order_at<S, V: View<S>>(
+    alloc: Global,
+    v: &mut V,
+    levels: usize,
+    x: Value,
+    y: Value,
+) -> Result<Got<Ordering>, Stop>
     requires live { IsLive V.sense v.old }
     requires safe { Safe V.sense.partial (order_levels {S = S} levels x y) (V.sense.heap v.old) }
     ensures { Meets V.sense (order_levels levels x y) v.old v.new result }
@@ -253,7 +338,12 @@ fn order_at<S, V: View<S>>(alloc: Global, v: &mut V, levels: usize, x: Value, y:
 /// their first unequal items, and where there are none by their lengths. TypeError for all others, where Python 2.7 has an order
 /// for any two values; RuntimeError, where they are nested deeper than 100 levels up to what decides.
 #[tactic(auto, unfolding(crate::specs::Ordering::order_row))]
-pub fn order<S, V: View<S>>(alloc: Global, v: &mut V, x: Value, y: Value) -> Result<Got<Ordering>, Stop>
+pub fn order<S, V: View<S>>(
+    alloc: Global,
+    v: &mut V,
+    x: Value,
+    y: Value,
+) -> Result<Got<Ordering>, Stop>
     requires live { IsLive V.sense v.old }
     requires safe { Safe V.sense.partial (order_row {S = S} x y) (V.sense.heap v.old) }
     ensures { Meets V.sense (order_row x y) v.old v.new result }

@@ -18,7 +18,14 @@ use std::alloc::Global;
 /// Writes the item at a place.
 #[cycle(writing)]
 #[tactic(auto, using(py_data::proofs::Rows::row_steps, py_data::proofs::Steps::call_steps), unfolding(crate::specs::Text::part_row))]
-fn part<S, V: View<S>>(alloc: Global, v: &mut V, levels: usize, a: Addr, i: usize, out: Bytes) -> Result<Got<Bytes>, Stop>
+fn part<S, V: View<S>>(
+    alloc: Global,
+    v: &mut V,
+    levels: usize,
+    a: Addr,
+    i: usize,
+    out: Bytes,
+) -> Result<Got<Bytes>, Stop>
     requires live { IsLive V.sense v.old }
     requires safe { Safe V.sense.partial (part_row {S = S} (write_levels levels) a.0 i out) (V.sense.heap v.old) }
     ensures { Meets V.sense (part_row (write_levels levels) a.0 i out) v.old v.new result }
@@ -31,7 +38,14 @@ fn part<S, V: View<S>>(alloc: Global, v: &mut V, levels: usize, a: Addr, i: usiz
 /// Writes the value of a pair, behind a colon and a space.
 #[cycle(writing)]
 #[tactic(auto, using(py_data::proofs::Rows::row_steps, py_data::proofs::Steps::call_steps), unfolding(crate::specs::Text::mapped_row))]
-fn mapped<S, V: View<S>>(alloc: Global, v: &mut V, levels: usize, a: Addr, i: usize, out: Bytes) -> Result<Got<Bytes>, Stop>
+fn mapped<S, V: View<S>>(
+    alloc: Global,
+    v: &mut V,
+    levels: usize,
+    a: Addr,
+    i: usize,
+    out: Bytes,
+) -> Result<Got<Bytes>, Stop>
     requires live { IsLive V.sense v.old }
     requires safe { Safe V.sense.partial (mapped_row {S = S} (write_levels levels) a.0 i out) (V.sense.heap v.old) }
     requires within { i ≤ LENGTH_LIMIT }
@@ -45,7 +59,15 @@ fn mapped<S, V: View<S>>(alloc: Global, v: &mut V, levels: usize, a: Addr, i: us
 /// Writes a pair with this key.
 #[cycle(writing)]
 #[tactic(auto, using(py_data::proofs::Rows::row_steps, py_data::proofs::Steps::call_steps), unfolding(crate::specs::Text::keyed_row))]
-fn keyed<S, V: View<S>>(alloc: Global, v: &mut V, levels: usize, a: Addr, i: usize, out: Bytes, k: Value) -> Result<Got<Bytes>, Stop>
+fn keyed<S, V: View<S>>(
+    alloc: Global,
+    v: &mut V,
+    levels: usize,
+    a: Addr,
+    i: usize,
+    out: Bytes,
+    k: Value,
+) -> Result<Got<Bytes>, Stop>
     requires live { IsLive V.sense v.old }
     requires safe { Safe V.sense.partial (keyed_row {S = S} (write_levels levels) a.0 i out k) (V.sense.heap v.old) }
     requires within { i ≤ LENGTH_LIMIT }
@@ -60,7 +82,14 @@ fn keyed<S, V: View<S>>(alloc: Global, v: &mut V, levels: usize, a: Addr, i: usi
 /// Writes the pair of this number.
 #[cycle(writing)]
 #[tactic(auto, using(py_data::proofs::Rows::row_steps, py_data::proofs::Steps::call_steps), unfolding(crate::specs::Text::couple_row))]
-fn couple<S, V: View<S>>(alloc: Global, v: &mut V, levels: usize, a: Addr, i: usize, out: Bytes) -> Result<Got<Bytes>, Stop>
+fn couple<S, V: View<S>>(
+    alloc: Global,
+    v: &mut V,
+    levels: usize,
+    a: Addr,
+    i: usize,
+    out: Bytes,
+) -> Result<Got<Bytes>, Stop>
     requires live { IsLive V.sense v.old }
     requires safe { Safe V.sense.partial (couple_row {S = S} (write_levels levels) a.0 i out) (V.sense.heap v.old) }
     requires within { i ≤ LENGTH_LIMIT }
@@ -73,7 +102,14 @@ fn couple<S, V: View<S>>(alloc: Global, v: &mut V, levels: usize, a: Addr, i: us
 
 /// Writes the first items.
 #[cycle(writing)]
-fn every_part<S, V: View<S>>(alloc: Global, v: &mut V, levels: usize, a: Addr, n: usize, out: Bytes) -> Result<Got<Bytes>, Stop>
+fn every_part<S, V: View<S>>(
+    alloc: Global,
+    v: &mut V,
+    levels: usize,
+    a: Addr,
+    n: usize,
+    out: Bytes,
+) -> Result<Got<Bytes>, Stop>
     requires live { IsLive V.sense v.old }
     requires safe { Safe V.sense.partial (each_row {S = S} (part_row (write_levels levels) a.0) 0 n out) (V.sense.heap v.old) }
     ensures { Meets V.sense (each_row (part_row (write_levels levels) a.0) 0 n out) v.old v.new result }
@@ -91,7 +127,14 @@ fn every_part<S, V: View<S>>(alloc: Global, v: &mut V, levels: usize, a: Addr, n
 
 /// Writes the first pairs.
 #[cycle(writing)]
-fn every_couple<S, V: View<S>>(alloc: Global, v: &mut V, levels: usize, a: Addr, n: usize, out: Bytes) -> Result<Got<Bytes>, Stop>
+fn every_couple<S, V: View<S>>(
+    alloc: Global,
+    v: &mut V,
+    levels: usize,
+    a: Addr,
+    n: usize,
+    out: Bytes,
+) -> Result<Got<Bytes>, Stop>
     requires live { IsLive V.sense v.old }
     requires safe { Safe V.sense.partial (each_row {S = S} (couple_row (write_levels levels) a.0) 0 n out) (V.sense.heap v.old) }
     requires within { n ≤ LENGTH_LIMIT }
@@ -111,7 +154,15 @@ fn every_couple<S, V: View<S>>(alloc: Global, v: &mut V, levels: usize, a: Addr,
 /// Writes the items of a list or tuple of this length, and what closes it.
 #[cycle(writing)]
 #[tactic(auto, using(py_data::proofs::Rows::row_steps, py_data::proofs::Steps::call_steps), unfolding(crate::specs::Text::parts_row, crate::specs::Text::closed_row))]
-fn items<S, V: View<S>>(alloc: Global, v: &mut V, levels: usize, a: Addr, n: usize, close: &[u8], out: Bytes) -> Result<Got<Bytes>, Stop>
+fn items<S, V: View<S>>(
+    alloc: Global,
+    v: &mut V,
+    levels: usize,
+    a: Addr,
+    n: usize,
+    close: &[u8],
+    out: Bytes,
+) -> Result<Got<Bytes>, Stop>
     requires live { IsLive V.sense v.old }
     requires safe { Safe V.sense.partial (parts_row {S = S} (part_row (write_levels levels) a.0) n close.now out) (V.sense.heap v.old) }
     ensures { Meets V.sense (parts_row (part_row (write_levels levels) a.0) n close.now out) v.old v.new result }
@@ -128,7 +179,15 @@ fn items<S, V: View<S>>(alloc: Global, v: &mut V, levels: usize, a: Addr, n: usi
 /// Writes so many pairs, and what closes them.
 #[cycle(writing)]
 #[tactic(auto, using(py_data::proofs::Rows::row_steps, py_data::proofs::Steps::call_steps), unfolding(crate::specs::Text::parts_row, crate::specs::Text::closed_row))]
-fn pairs<S, V: View<S>>(alloc: Global, v: &mut V, levels: usize, a: Addr, n: usize, close: &[u8], out: Bytes) -> Result<Got<Bytes>, Stop>
+fn pairs<S, V: View<S>>(
+    alloc: Global,
+    v: &mut V,
+    levels: usize,
+    a: Addr,
+    n: usize,
+    close: &[u8],
+    out: Bytes,
+) -> Result<Got<Bytes>, Stop>
     requires live { IsLive V.sense v.old }
     requires safe { Safe V.sense.partial (parts_row {S = S} (couple_row (write_levels levels) a.0) n close.now out) (V.sense.heap v.old) }
     requires within { n ≤ LENGTH_LIMIT }
@@ -146,7 +205,13 @@ fn pairs<S, V: View<S>>(alloc: Global, v: &mut V, levels: usize, a: Addr, n: usi
 /// Writes a list.
 #[cycle(writing)]
 #[tactic(auto, using(py_data::proofs::Rows::row_steps, py_data::proofs::Steps::call_steps), unfolding(crate::specs::Text::list_row))]
-fn list<S, V: View<S>>(alloc: Global, v: &mut V, levels: usize, a: Addr, out: Bytes) -> Result<Got<Bytes>, Stop>
+fn list<S, V: View<S>>(
+    alloc: Global,
+    v: &mut V,
+    levels: usize,
+    a: Addr,
+    out: Bytes,
+) -> Result<Got<Bytes>, Stop>
     requires live { IsLive V.sense v.old }
     requires safe { Safe V.sense.partial (list_row {S = S} (write_levels levels) a.0 out) (V.sense.heap v.old) }
     ensures { Meets V.sense (list_row (write_levels levels) a.0 out) v.old v.new result }
@@ -159,7 +224,13 @@ fn list<S, V: View<S>>(alloc: Global, v: &mut V, levels: usize, a: Addr, out: By
 /// Writes a tuple.
 #[cycle(writing)]
 #[tactic(auto, using(py_data::proofs::Rows::row_steps, py_data::proofs::Steps::call_steps), unfolding(crate::specs::Text::tuple_row))]
-fn tuple<S, V: View<S>>(alloc: Global, v: &mut V, levels: usize, a: Addr, out: Bytes) -> Result<Got<Bytes>, Stop>
+fn tuple<S, V: View<S>>(
+    alloc: Global,
+    v: &mut V,
+    levels: usize,
+    a: Addr,
+    out: Bytes,
+) -> Result<Got<Bytes>, Stop>
     requires live { IsLive V.sense v.old }
     requires safe { Safe V.sense.partial (tuple_row {S = S} (write_levels levels) a.0 out) (V.sense.heap v.old) }
     ensures { Meets V.sense (tuple_row (write_levels levels) a.0 out) v.old v.new result }
@@ -172,7 +243,13 @@ fn tuple<S, V: View<S>>(alloc: Global, v: &mut V, levels: usize, a: Addr, out: B
 /// Writes a dictionary.
 #[cycle(writing)]
 #[tactic(auto, using(py_data::proofs::Rows::row_steps, py_data::proofs::Steps::call_steps), unfolding(crate::specs::Text::dict_row))]
-fn dict<S, V: View<S>>(alloc: Global, v: &mut V, levels: usize, a: Addr, out: Bytes) -> Result<Got<Bytes>, Stop>
+fn dict<S, V: View<S>>(
+    alloc: Global,
+    v: &mut V,
+    levels: usize,
+    a: Addr,
+    out: Bytes,
+) -> Result<Got<Bytes>, Stop>
     requires live { IsLive V.sense v.old }
     requires safe { Safe V.sense.partial (dict_row {S = S} (write_levels levels) a.0 out) (V.sense.heap v.old) }
     ensures { Meets V.sense (dict_row (write_levels levels) a.0 out) v.old v.new result }
@@ -185,7 +262,13 @@ fn dict<S, V: View<S>>(alloc: Global, v: &mut V, levels: usize, a: Addr, out: By
 /// Writes a list, where a level is left.
 #[cycle(writing)]
 #[tactic(auto, using(crate::proofs::LevelSteps::level_done))]
-fn leveled_list<S, V: View<S>>(alloc: Global, v: &mut V, levels: usize, a: Addr, out: Bytes) -> Result<Got<Bytes>, Stop>
+fn leveled_list<S, V: View<S>>(
+    alloc: Global,
+    v: &mut V,
+    levels: usize,
+    a: Addr,
+    out: Bytes,
+) -> Result<Got<Bytes>, Stop>
     requires live { IsLive V.sense v.old }
     requires safe { Safe V.sense.partial (level_row {S = S} (below write_under levels) (λ u. list_row u a.0 out)) (V.sense.heap v.old) }
     ensures { Meets V.sense (level_row (below write_under levels) (λ u. list_row u a.0 out)) v.old v.new result }
@@ -200,7 +283,13 @@ fn leveled_list<S, V: View<S>>(alloc: Global, v: &mut V, levels: usize, a: Addr,
 /// Writes a tuple, where a level is left.
 #[cycle(writing)]
 #[tactic(auto, using(crate::proofs::LevelSteps::level_done))]
-fn leveled_tuple<S, V: View<S>>(alloc: Global, v: &mut V, levels: usize, a: Addr, out: Bytes) -> Result<Got<Bytes>, Stop>
+fn leveled_tuple<S, V: View<S>>(
+    alloc: Global,
+    v: &mut V,
+    levels: usize,
+    a: Addr,
+    out: Bytes,
+) -> Result<Got<Bytes>, Stop>
     requires live { IsLive V.sense v.old }
     requires safe { Safe V.sense.partial (level_row {S = S} (below write_under levels) (λ u. tuple_row u a.0 out)) (V.sense.heap v.old) }
     ensures { Meets V.sense (level_row (below write_under levels) (λ u. tuple_row u a.0 out)) v.old v.new result }
@@ -215,7 +304,13 @@ fn leveled_tuple<S, V: View<S>>(alloc: Global, v: &mut V, levels: usize, a: Addr
 /// Writes a dictionary, where a level is left.
 #[cycle(writing)]
 #[tactic(auto, using(crate::proofs::LevelSteps::level_done))]
-fn leveled_dict<S, V: View<S>>(alloc: Global, v: &mut V, levels: usize, a: Addr, out: Bytes) -> Result<Got<Bytes>, Stop>
+fn leveled_dict<S, V: View<S>>(
+    alloc: Global,
+    v: &mut V,
+    levels: usize,
+    a: Addr,
+    out: Bytes,
+) -> Result<Got<Bytes>, Stop>
     requires live { IsLive V.sense v.old }
     requires safe { Safe V.sense.partial (level_row {S = S} (below write_under levels) (λ u. dict_row u a.0 out)) (V.sense.heap v.old) }
     ensures { Meets V.sense (level_row (below write_under levels) (λ u. dict_row u a.0 out)) v.old v.new result }
@@ -230,7 +325,14 @@ fn leveled_dict<S, V: View<S>>(alloc: Global, v: &mut V, levels: usize, a: Addr,
 /// Writes a record of a kind.
 #[cycle(writing)]
 #[tactic(auto, using(py_data::proofs::Rows::row_steps, py_data::proofs::Steps::call_steps), unfolding(crate::specs::Text::kind_text))]
-fn by_kind<S, V: View<S>>(alloc: Global, v: &mut V, levels: usize, a: Addr, out: Bytes, k: Kind) -> Result<Got<Bytes>, Stop>
+fn by_kind<S, V: View<S>>(
+    alloc: Global,
+    v: &mut V,
+    levels: usize,
+    a: Addr,
+    out: Bytes,
+    k: Kind,
+) -> Result<Got<Bytes>, Stop>
     requires live { IsLive V.sense v.old }
     requires safe { Safe V.sense.partial (kind_text {S = S} (below write_under levels) a.0 out k) (V.sense.heap v.old) }
     ensures { Meets V.sense (kind_text (below write_under levels) a.0 out k) v.old v.new result }
@@ -247,7 +349,13 @@ fn by_kind<S, V: View<S>>(alloc: Global, v: &mut V, levels: usize, a: Addr, out:
 /// Writes a record.
 #[cycle(writing)]
 #[tactic(auto, using(py_data::proofs::Rows::row_steps, py_data::proofs::Steps::call_steps), unfolding(crate::specs::Text::record_row))]
-fn record<S, V: View<S>>(alloc: Global, v: &mut V, levels: usize, a: Addr, out: Bytes) -> Result<Got<Bytes>, Stop>
+fn record<S, V: View<S>>(
+    alloc: Global,
+    v: &mut V,
+    levels: usize,
+    a: Addr,
+    out: Bytes,
+) -> Result<Got<Bytes>, Stop>
     requires live { IsLive V.sense v.old }
     requires safe { Safe V.sense.partial (record_row {S = S} (below write_under levels) a.0 out) (V.sense.heap v.old) }
     ensures { Meets V.sense (record_row (below write_under levels) a.0 out) v.old v.new result }
@@ -259,7 +367,13 @@ fn record<S, V: View<S>>(alloc: Global, v: &mut V, levels: usize, a: Addr, out: 
 /// Writes a value, where so many levels are left.
 #[cycle(writing)]
 #[tactic(auto, using(py_data::proofs::Rows::row_steps, py_data::proofs::Steps::call_steps), unfolding(crate::specs::Text::write_under))]
-fn write_at<S, V: View<S>>(alloc: Global, v: &mut V, levels: usize, out: Bytes, x: Value) -> Result<Got<Bytes>, Stop>
+fn write_at<S, V: View<S>>(
+    alloc: Global,
+    v: &mut V,
+    levels: usize,
+    out: Bytes,
+    x: Value,
+) -> Result<Got<Bytes>, Stop>
     requires live { IsLive V.sense v.old }
     requires safe { Safe V.sense.partial (write_levels {S = S} levels out x) (V.sense.heap v.old) }
     ensures { Meets V.sense (write_levels levels out x) v.old v.new result }
@@ -327,7 +441,13 @@ fn alone<S, V: View<S>>(alloc: Global, v: &mut V, x: Value) -> Result<Got<Bytes>
 /// of the list of the classes that every program has; no text asks for it yet. RuntimeError, where values are nested deeper than 100
 /// levels; Python 2.7 writes `[...]` for a list within itself.
 #[tactic(auto, using(py_data::proofs::Rows::row_steps, py_data::proofs::Steps::call_steps), unfolding(crate::specs::Text::text_row))]
-pub fn text<S, V: View<S>>(alloc: Global, v: &mut V, roots: Addr, x: Value, quoted: bool) -> Result<Got<Bytes>, Stop>
+pub fn text<S, V: View<S>>(
+    alloc: Global,
+    v: &mut V,
+    roots: Addr,
+    x: Value,
+    quoted: bool,
+) -> Result<Got<Bytes>, Stop>
     requires live { IsLive V.sense v.old }
     requires safe { Safe V.sense.partial (text_row {S = S} roots.0 x quoted) (V.sense.heap v.old) }
     ensures { Meets V.sense (text_row roots.0 x quoted) v.old v.new result }
