@@ -10,3 +10,7 @@ pub mod TruthLooks
 pub mod TextLooks
 pub mod NestLooks
 pub mod OrderTotal
+pub mod KeyLemmas
+pub mod PairSearch
+pub mod PairMatches
+pub mod EqualSame
