@@ -1,6 +1,6 @@
 -- The row of equality only looks, may be begun over a heap in order, and answers what the definition of equality says.
 use Rattle.std.proofs.Common.{arith, ◌≡◌, ℕ, zero, suc, ◌+◌, ◌*◌, ◌/◌, Bool, true, false, cond, eqb, List, [], ◌∷◌, length, drop, Option, Some, None, refl, sym, ap, subst, ◌∙◌}
-use Rattle.std.specs.Prelude.{is_some, ◌&&◌}
+use Rattle.std.specs.Prelude.{◌&&◌}
 use Rattle.std.proofs.lemmas.Bool.{eqb-true}
 use Rattle.py_data.specs.declared.value.Value.{Value}
 use Rattle.py_data.specs.declared.value.Value.TheVariants.{Unset, None as NoneValue, Bool as BoolValue, Int, Ref, Builtin}
@@ -14,13 +14,12 @@ use Rattle.py_data.specs.Heap.{Rec, Heap, at, value_at}
 use Rattle.py_data.specs.Shape.{same_bytes, same_text, same_key, text_by, text_in, find, ArePairs, IsKey}
 use Rattle.py_data.specs.Closed.{Refers}
 use Rattle.py_data.specs.Comparing.{Under, is_same, and_then, equal_items, equal_found, equal_pairs, of_one_length, one_level, equal_kinds, equal_by, equal_within}
-use Rattle.py_data.specs.Row.{Row, Ret, bind}
+use Rattle.py_data.specs.Row.{Row, Ret}
 use Rattle.py_data.specs.Order.{Rules, IsOrdered}
 use Rattle.py_data.specs.Looking.{Looks, size_row, look_row, bytes_row, until_row}
 use Rattle.py_data.proofs.HoldingCalls.{pairs_of}
 use Rattle.py_data.proofs.Steps.{at-is}
 use Rattle.py_data.proofs.Looking.{looks_ret, looks_find, looks_then, looks_weaken, size_looks, look_looks, bytes_looks}
-use Rattle.obj_nest.specs.declared.pairing.Pairing.{Pairing}
 use Rattle.obj_nest.specs.Levels.{below, level_row, pairing_of, kinds_row}
 use Rattle.obj_nest.specs.Equal.{Compares, is_equal, texts_row, texts_with, item_row, item_with, sized_row, items_row, items_from, found_row, sought_row, pair_row, pair_with, paired_row, pairs_row, pairs_from, methods_row, methods_with, owners_row, owner_with, by_pairing, records_row, equal_under, equal_levels}
 use Rattle.obj_nest.proofs.Dropped.{drop_here, there_at, half_more}

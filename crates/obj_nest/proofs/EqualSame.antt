@@ -16,11 +16,10 @@ use Rattle.py_data.specs.Every.{Every}
 use Rattle.py_data.specs.Heap.{Rec, Heap, at, value_at, blank}
 use Rattle.py_data.specs.Shape.{bit, same_key, same_text, text_by, text_in, HasShape, ArePairs}
 use Rattle.py_data.specs.Closed.{IsItem}
-use Rattle.py_data.specs.Comparing.{Under, is_same, equal, equal_by, equal_items, equal_kinds, equal_pairs, equal_within, of_one_length, one_level}
+use Rattle.py_data.specs.Comparing.{Under, is_same, equal_by, equal_items, equal_kinds, equal_pairs, equal_within, of_one_length, one_level}
 use Rattle.py_data.specs.Order.{Rules, IsOrdered}
 use Rattle.py_data.proofs.EveryLemmas.{every_weaken}
 use Rattle.py_data.proofs.ItemLemmas.{fit_items, item_at}
-use Rattle.py_data.proofs.PairLists.{key_sym}
 use Rattle.py_data.proofs.Steps.{at-is}
 use Rattle.obj_nest.specs.Laws.{EqualLaw}
 use Rattle.obj_nest.proofs.KeyLemmas.{key_same, key_trans, key_turned}

@@ -1,5 +1,5 @@
 -- What is empty, by its length.
-use Rattle.std.proofs.Common.{arith, ◌≡◌, suc, List, [], ◌∷◌, length, refl}
+use Rattle.std.proofs.Common.{arith, ◌≡◌, List, [], ◌∷◌, length, refl}
 use Rattle.std.specs.Prelude.{nat_lt}
 use Rattle.std.proofs.lemmas.Bool.Decides.{nat_tests}
 use Rattle.py_data.specs.Truth.{is_filled}

@@ -1,7 +1,6 @@
 -- Looks at the kinds of one record and of two.
 use Rattle.std.proofs.Common.{◌≡◌, ℕ, true, false, Option, Some, None, refl, ap, ◌∙◌}
 use Rattle.std.specs.Prelude.{is_some}
-use Rattle.py_base.specs.declared.kind.Kind.{Kind}
 use Rattle.py_data.specs.Heap.{Rec, Heap}
 use Rattle.py_data.specs.Row.{Ret}
 use Rattle.py_data.specs.Looking.{Looks}

@@ -6,7 +6,7 @@ use Rattle.py_data.specs.declared.stop.Stop.{Stop}
 use Rattle.py_data.specs.declared.stop.Stop.TheVariants.{OutOfMemory}
 use Rattle.py_data.specs.Fault.{depth_fault}
 use Rattle.py_data.specs.Heap.{Heap}
-use Rattle.py_data.specs.Row.{Row, Ret}
+use Rattle.py_data.specs.Row.{Row}
 use Rattle.py_data.specs.Sense.{Sense, Safe, Meets}
 use Rattle.py_data.proofs.Rows.{meets-answer}
 use Rattle.obj_nest.specs.Levels.{below, level_row}

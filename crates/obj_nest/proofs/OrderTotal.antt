@@ -1,5 +1,5 @@
 -- Order is total on numbers and on strings, and agrees there with equality.
-use Rattle.std.proofs.Common.{◌≡◌, ℕ, ℤ, zero, suc, Bool, true, List, [], ◌∷◌, Option, Some, None, refl, sym, ap, subst, ◌∙◌}
+use Rattle.std.proofs.Common.{◌≡◌, ℕ, ℤ, zero, suc, Bool, true, List, [], ◌∷◌, Option, Some, None, refl, sym, ap, ◌∙◌}
 use Rattle.std.specs.Prelude.{eqb}
 use Rattle.std.specs.declared.cmp.Ordering.{Ordering}
 use Rattle.std.specs.declared.cmp.Ordering.TheVariants.{Less, Equal, Greater}
@@ -8,7 +8,6 @@ use Rattle.std.specs.Cmp.Lexicographic.{slice_cmp}
 use Rattle.std.specs.Ordering.{int_cmp, nat_cmp, int_eq, is_eq, ordering_then, ordering_reverse}
 use Rattle.std.proofs.lemmas.Cmp.{int_cmp_total, nat_list_cmp_total}
 use Rattle.std.proofs.lemmas.Map.Text.{is_eq-slice_cmp}
-use Rattle.py_base.specs.declared.kind.Kind.{Kind}
 use Rattle.py_base.specs.declared.kind.Kind.TheVariants.{Str}
 use Rattle.py_data.specs.declared.value.Addr.{Addr}
 use Rattle.py_data.specs.declared.value.Value.{Value}
@@ -16,7 +15,7 @@ use Rattle.py_data.specs.declared.value.Value.TheVariants.{Unset, None as NoneVa
 use Rattle.py_data.specs.declared.record.Got.{Got}
 use Rattle.py_data.specs.declared.record.Got.TheVariants.{Is}
 use Rattle.py_data.specs.Heap.{Rec, Heap, at}
-use Rattle.py_data.specs.Shape.{bit, same_key, same_text, same_bytes, text_by, text_in, KindIn, RefTo}
+use Rattle.py_data.specs.Shape.{bit, same_key, same_text, same_bytes, text_by, text_in, KindIn}
 use Rattle.py_data.specs.Comparing.{Under, equal, equal_by, equal_kinds, equal_within, order, order_by, order_bytes, order_numbers, order_records, order_within, number_of}
 use Rattle.py_data.proofs.Steps.{at-is}
 use Rattle.obj_nest.specs.Laws.{IsNumber, IsString, TotalLaw}

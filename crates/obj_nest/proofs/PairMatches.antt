@@ -1,6 +1,6 @@
 -- Equality of lists and of dictionaries, part by part: what it says where it is true, and that it is symmetric and transitive
 -- where that of the parts is.
-use Rattle.std.proofs.Common.{arith, ◌≡◌, suc, Bool, true, false, cond, List, [], ◌∷◌, length, Option, Some, None, refl, sym, ap, subst, ◌∙◌, ◌⊎◌, inl, inr}
+use Rattle.std.proofs.Common.{arith, ◌≡◌, Bool, true, false, cond, List, [], ◌∷◌, length, Option, Some, None, refl, sym, ap, subst, ◌∙◌, ◌⊎◌, inl, inr}
 use Rattle.std.specs.Prelude.{eqb}
 use Rattle.std.proofs.lemmas.Bool.{eqb-true}
 use Rattle.std.proofs.lemmas.Bool.Decides.{Decides-eqb}
@@ -75,12 +75,12 @@ module _ (h : Heap) (u : Value → Value → Got Bool) where
   matched_turned turn (k ∷ x ∷ rest) ys a b l m =
       let y = m.0.0 in
       let others : Matched h u rest (without h ys k) =
-          each_both (λ j v. same_key h k j ≡ false) (λ j v. (w : Value) × (has_for h ys j ≡ Some w) × (u v w ≡ Is true)) (λ j v. (w : Value) × (has_for h (without h ys k) j ≡ Some w) × (u v w ≡ Is true))
-          (λ j v e s. (s.0, has_without h k ys j e ∙ s.1, s.2)) rest a.0 m.1 in
+      each_both (λ j v. same_key h k j ≡ false) (λ j v. (w : Value) × (has_for h ys j ≡ Some w) × (u v w ≡ Is true)) (λ j v. (w : Value) × (has_for h (without h ys k) j ≡ Some w) × (u v w ≡ Is true))
+      (λ j v e s. (s.0, has_without h k ys j e ∙ s.1, s.2)) rest a.0 m.1 in
       let shorter : length rest ≡ length (without h ys k) = let f = fewer h k ys y m.0.1 in omega (arith, l, f) in
       let back = matched_turned turn rest (without h ys k) a.1 (apart_without h k ys b) shorter others in
       let all = each_both (λ j v. same_key h k j ≡ false) (λ j v. (w : Value) × (has_for h rest j ≡ Some w) × (u v w ≡ Is true)) (λ j v. (w : Value) × (has_for h (k ∷ x ∷ rest) j ≡ Some w) × (u v w ≡ Is true))
-          (λ j v e s. (s.0, has_unlike h k x rest j e ∙ s.1, s.2)) (without h ys k) (unlike_without h k ys b) back in
+      (λ j v e s. (s.0, has_unlike h k x rest j e ∙ s.1, s.2)) (without h ys k) (unlike_without h k ys b) back in
       put_back h k (λ j v. (w : Value) × (has_for h (k ∷ x ∷ rest) j ≡ Some w) × (u v w ≡ Is true)) ys y m.0.1 (λ j s. (x, has_first h k x rest j (key_turned h j k s), turn x y m.0.2)) all
 
   pub matched_joined : ((x y z : Value) → u x y ≡ Is true → u y z ≡ Is true → u x z ≡ Is true) → (xs ys zs : List Value) → Matched h u xs ys → Matched h u ys zs → Matched h u xs zs

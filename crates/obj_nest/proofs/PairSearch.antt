@@ -1,13 +1,13 @@
 -- Dictionaries as lists of pairs: what a key has, each pair by itself, and pairs without that of a key.
-use Rattle.std.proofs.Common.{arith, ◌≡◌, ℕ, zero, suc, ◌+◌, Bool, true, false, cond, List, [], ◌∷◌, length, Option, Some, None, refl, sym, ap, subst, ◌∙◌}
+use Rattle.std.proofs.Common.{arith, ◌≡◌, ℕ, suc, ◌+◌, Bool, true, false, cond, List, [], ◌∷◌, length, Option, Some, None, refl, sym, ap, subst, ◌∙◌}
 use Rattle.py_data.specs.declared.value.Value.{Value}
 use Rattle.py_data.specs.declared.record.Got.{Got}
-use Rattle.py_data.specs.declared.record.Got.TheVariants.{Is, Raise}
+use Rattle.py_data.specs.declared.record.Got.TheVariants.{Is}
 use Rattle.py_data.specs.Heap.{Heap, value_at}
 use Rattle.py_data.specs.Shape.{same_key, find, find_from, ArePairs, KeysDiffer}
-use Rattle.py_data.specs.Comparing.{and_then, equal_found, equal_pairs}
+use Rattle.py_data.specs.Comparing.{equal_found}
 use Rattle.py_data.proofs.PairLists.{key_sym}
-use Rattle.obj_nest.proofs.KeyLemmas.{key_congr, key_turned}
+use Rattle.obj_nest.proofs.KeyLemmas.{key_congr}
 
 -- what a key has, if it is there
 unfoldable pub has_for : Heap → List Value → Value → Option Value

@@ -1,5 +1,5 @@
 -- The rows of texts only look, may be begun over a heap in order, and answer what the definitions of `repr` and `str` say.
-use Rattle.std.proofs.Common.{arith, ◌≡◌, ℕ, zero, suc, ◌+◌, ◌*◌, ◌/◌, ◌≤◌, Bool, true, false, cond, List, [], ◌∷◌, ◌++◌, length, drop, append_assoc, Option, Some, None, refl, sym, ap, subst, ◌∙◌}
+use Rattle.std.proofs.Common.{arith, ◌≡◌, ℕ, zero, suc, ◌+◌, ◌*◌, ◌/◌, ◌≤◌, false, cond, List, [], ◌∷◌, ◌++◌, length, drop, append_assoc, Option, Some, None, refl, sym, ap, subst, ◌∙◌}
 use Rattle.std.specs.Prelude.{codes, is_some, eqb}
 use Rattle.std.proofs.Math.Dec.{eqb-suc-zero}
 use Rattle.std.proofs.lemmas.Bool.Decides.{nat_tests}
@@ -13,12 +13,12 @@ use Rattle.py_data.specs.declared.record.Got.{Got}
 use Rattle.py_data.specs.declared.record.Got.TheVariants.{Is, Raise}
 use Rattle.py_data.specs.Fault.{depth_fault}
 use Rattle.py_data.specs.Every.{Every}
-use Rattle.py_data.specs.Heap.{Rec, Heap, at, value_at}
+use Rattle.py_data.specs.Heap.{Rec, Heap, value_at}
 use Rattle.py_data.specs.Shape.{HasShape, RefTo, ArePairs}
 use Rattle.py_data.specs.Closed.{Refers}
 use Rattle.py_data.specs.Texts.{got_then, more_texts, item_texts, pair_text, more_pairs, pair_texts, between, tuple_end, in_level, bytes_of, name_of, method_name, record_text, repr_by, repr_within, repr, str_by, str}
 use Rattle.py_data.specs.Texts as texts
-use Rattle.py_data.specs.Row.{Row, Ret, bind}
+use Rattle.py_data.specs.Row.{Row, Ret}
 use Rattle.py_data.specs.Order.{Rules, IsOrdered}
 use Rattle.py_data.specs.Looking.{Looks, size_row, look_row, bytes_row, each_row, got_row}
 use Rattle.py_data.proofs.HoldingCalls.{pairs_of}

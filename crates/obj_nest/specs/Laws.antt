@@ -5,7 +5,6 @@ use Rattle.std.specs.declared.cmp.Ordering.TheVariants.{Less, Equal}
 use Rattle.std.specs.Ordering.{ordering_reverse}
 use Rattle.py_data.specs.declared.value.Value.{Value}
 use Rattle.py_base.specs.declared.kind.Kind.TheVariants.{Str}
-use Rattle.py_data.specs.declared.record.Got.{Got}
 use Rattle.py_data.specs.declared.record.Got.TheVariants.{Is, Raise}
 use Rattle.py_data.specs.Fault.{depth_fault}
 use Rattle.py_data.specs.Heap.{Heap}

@@ -11,7 +11,7 @@ use Rattle.py_data.specs.Comparing.{DEPTH_LIMIT, number_of, order_numbers, order
 use Rattle.py_data.specs.Row.{Row, Ret, bind}
 use Rattle.py_data.specs.Looking.{size_row, look_row, bytes_row, until_row, got_row}
 use Rattle.obj_nest.specs.declared.pairing.Pairing.{Pairing}
-use Rattle.obj_nest.specs.declared.pairing.Pairing.TheVariants.{Texts, Items, Pairs, Methods, Others}
+use Rattle.obj_nest.specs.declared.pairing.Pairing.TheVariants.{Texts, Items}
 use Rattle.obj_nest.specs.Levels.{level_row, kinds_row}
 use Rattle.obj_nest.specs.Equal.{Compares, equal_levels}
 

@@ -3,10 +3,10 @@
 use Rattle.std.specs.Prelude.{ℕ, ◌+◌, ◌*◌, ◌/◌, Bool, true, false, cond, List, [], ◌++◌, Option, codes, ◌==◌, unwrap_or, slice_get}
 use Rattle.std.specs.Fmt.{signed_decimal}
 use Rattle.py_base.specs.declared.kind.Kind.{Kind}
-use Rattle.py_base.specs.declared.kind.Kind.TheVariants.{Str, Tuple, List as ListKind, Dict, Cell, Function, Class, Instance, Method, Iter, Range, Lock, Thread}
+use Rattle.py_base.specs.declared.kind.Kind.TheVariants.{Str, Tuple, List as ListKind, Dict, Function, Class, Instance, Method, Iter, Range, Lock, Thread}
 use Rattle.py_text.specs.Repr.{repr_of}
 use Rattle.py_data.specs.declared.value.Value.{Value}
-use Rattle.py_data.specs.declared.value.Value.TheVariants.{Unset, None as NoneValue, Bool as BoolValue, Int, Ref, Builtin}
+use Rattle.py_data.specs.declared.value.Value.TheVariants.{None as NoneValue, Bool as BoolValue, Int, Ref, Builtin}
 use Rattle.py_base.specs.Numbers.{truth_text, builtin_names}
 use Rattle.py_data.specs.declared.record.Got.{Got}
 use Rattle.py_data.specs.declared.record.Got.TheVariants.{Is}
