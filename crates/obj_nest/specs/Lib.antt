@@ -4,3 +4,4 @@ pub mod Ordering
 pub mod Truth
 pub mod Text
 pub mod Laws
+pub mod Worked
