@@ -514,10 +514,10 @@ pub fn equal_at<S, V: View<S>>(
     }
 }
 
-/// Whether two values are equal: numbers by value, where True is 1 and False is 0; strings by their bytes; lists and tuples item by
-/// item; dictionaries by their pairs in any order; methods by function and object; all else by identity. The first parts that
-/// decide end it. RuntimeError, where values are nested deeper than 100 levels up to what decides; Python 2.7 compares deeper ones,
-/// and takes an item for equal to itself without a look.
+/// Whether two values are equal: numbers by value, where True is 1 and False is 0; strings by their bytes; lists and
+/// tuples item by item; dictionaries by their pairs in any order; methods by function and object; all else by
+/// identity. The first parts that decide end it. RuntimeError, where values are nested deeper than 100 levels up to
+/// what decides; Python 2.7 compares deeper ones, and takes an item for equal to itself without a look.
 #[tactic(auto, unfolding(crate::specs::Equal::equal_row))]
 pub fn equal<S, V: View<S>>(alloc: Global, v: &mut V, x: Value, y: Value) -> Result<Got<bool>, Stop>
     requires live { IsLive V.sense v.old }

@@ -334,9 +334,10 @@ fn order_at<S, V: View<S>>(
     }
 }
 
-/// Which of two values comes first: of two numbers by value, of two strings by their bytes, of two lists or two tuples by
-/// their first unequal items, and where there are none by their lengths. TypeError for all others, where Python 2.7 has an order
-/// for any two values; RuntimeError, where they are nested deeper than 100 levels up to what decides.
+/// Which of two values comes first: of two numbers by value, of two strings by their bytes, of two lists or two
+/// tuples by their first unequal items, and where there are none by their lengths. TypeError for all others, where
+/// Python 2.7 has an order for any two values; RuntimeError, where they are nested deeper than 100 levels up to what
+/// decides.
 #[tactic(auto, unfolding(crate::specs::Ordering::order_row))]
 pub fn order<S, V: View<S>>(
     alloc: Global,

@@ -1,5 +1,5 @@
-//! The texts of values, as `repr` and `str` write them. A text is written behind the one so far, so the time of it is that of
-//! what is written.
+//! The texts of values, as `repr` and `str` write them. A text is written behind the one so far, so the time of it is
+//! that of what is written.
 ghost use Rattle.std.specs.Prelude.{◌≡◌, ◌++◌, ◌+◌, ◌*◌, ◌≤◌, codes, IfOk};
 ghost use Rattle.py_data.specs.declared.record.TheConstants.{LENGTH_LIMIT};
 ghost use Rattle.py_data.specs.Looking.{each_row};
@@ -437,9 +437,9 @@ fn alone<S, V: View<S>>(alloc: Global, v: &mut V, x: Value) -> Result<Got<Bytes>
     }
 }
 
-/// The text of a value, as it stands within others (`quoted`), or by itself, which differs for a string alone. `roots` is the address
-/// of the list of the classes that every program has; no text asks for it yet. RuntimeError, where values are nested deeper than 100
-/// levels; Python 2.7 writes `[...]` for a list within itself.
+/// The text of a value, as it stands within others (`quoted`), or by itself, which differs for a string alone.
+/// `roots` is the address of the list of the classes that every program has; no text asks for it yet. RuntimeError,
+/// where values are nested deeper than 100 levels; Python 2.7 writes `[...]` for a list within itself.
 #[tactic(auto, using(py_data::proofs::Rows::row_steps, py_data::proofs::Steps::call_steps), unfolding(crate::specs::Text::text_row))]
 pub fn text<S, V: View<S>>(
     alloc: Global,

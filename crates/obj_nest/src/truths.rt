@@ -119,8 +119,8 @@ fn filled<S, V: View<S>>(v: &mut V, a: Addr) -> Result<bool, Stop>
     filled_by(v, a, k)
 }
 
-/// Whether a value is true. None, False, 0, and strings, tuples, lists, dictionaries and ranges that are empty are false; all
-/// else is true. Python 2.7 lets a class decide by `__nonzero__` and `__len__`.
+/// Whether a value is true. None, False, 0, and strings, tuples, lists, dictionaries and ranges that are empty are
+/// false; all else is true. Python 2.7 lets a class decide by `__nonzero__` and `__len__`.
 #[tactic(auto, using(py_data::proofs::Rows::row_steps, py_data::proofs::Steps::call_steps), unfolding(crate::specs::Truth::truth_row))]
 pub fn truth<S, V: View<S>>(v: &mut V, x: Value) -> Result<bool, Stop>
     requires live { IsLive V.sense v.old }
