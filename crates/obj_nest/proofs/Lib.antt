@@ -1,0 +1,16 @@
+pub mod Looked
+pub mod LevelSteps
+pub mod EqualSteps
+pub mod Filled
+pub mod Dropped
+pub mod KindLooks
+pub mod EqualLooks
+pub mod OrderLooks
+pub mod TruthLooks
+pub mod TextLooks
+pub mod NestLooks
+pub mod OrderTotal
+pub mod KeyLemmas
+pub mod PairSearch
+pub mod PairMatches
+pub mod EqualSame

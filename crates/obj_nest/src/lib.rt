@@ -1,0 +1,21 @@
+//! Equality, order, truth and texts of nested values over any view.
+#![tactic(auto)]
+
+mod equality;
+mod laws;
+mod levels;
+mod looking;
+mod names;
+mod ordering;
+mod pairing;
+mod pieces;
+mod texts;
+mod truths;
+
+pub use equality::equal;
+pub use laws::{equal_law, looks_law, order_law};
+pub use levels::LEVELS;
+pub use looking::{kind, look, size};
+pub use ordering::order;
+pub use texts::text;
+pub use truths::truth;
