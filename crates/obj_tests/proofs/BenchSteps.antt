@@ -1,0 +1,59 @@
+-- What an operation leaves over a view whose heap is in order.
+use Rattle.std.proofs.Common.{◌≡◌, ℕ, ◌<◌, Bool, false, List, length, Ok, refl, sym, ap, subst, ◌∙◌}
+use Rattle.std.specs.Prelude.{slice_index_or}
+use Rattle.py_data.specs.declared.value.Value.{Value}
+use Rattle.py_data.specs.declared.value.Value.TheVariants.{Unset, Ref}
+use Rattle.py_base.specs.declared.kind.Kind.{Kind}
+use Rattle.py_data.specs.Shape.{KindIn}
+use Rattle.py_data.specs.Every.{Every}
+use Rattle.py_data.specs.Heap.{Heap, Rec, at}
+use Rattle.py_data.specs.Closed.{IsItem}
+use Rattle.py_data.specs.Order.{AreLasting, IsOrdered}
+use Rattle.py_data.specs.Holds.{Holds}
+use Rattle.py_data.specs.Row.{Row, Read}
+use Rattle.py_data.specs.Sense.{Sense, Lawful, Asks, Safe, Meets, ShownOf}
+use Rattle.py_data.proofs.Holding.{holds_safe, holds_run}
+use Rattle.py_data.proofs.ItemLemmas.{item_at, items_stay}
+use Rattle.py_data.proofs.Looking.{look_asks}
+use Rattle.py_data.proofs.Steps.{live-after}
+use Rattle.obj_tests.specs.Bench.{free, any_state, Good, GoodWith}
+
+last : AreLasting free
+last = record { function = λ h h1 vs x f. tt }
+
+shown : (p : Bool) (h : Heap) → p ≡ false → ShownOf p h h
+shown p h e = subst (λ b. ShownOf b h h) (sym e) refl
+
+module _ {S X : Type 0} {u : Sense S X} {stack : List Value} {v : X} where
+  -- a value of the stack stands in the heap
+  pub good_item : (i : ℕ) (x : Value) → i < length stack → ((d : Value) → x ≡ slice_index_or stack i d) → Good u stack v → IsItem (u.heap v) x
+  good_item i x less e g = subst (IsItem (u.heap v)) (sym (e Unset)) (item_at (u.heap v) stack i less g.items)
+
+  module _ {A : Type 0} (p : A → Heap → Type 0) (row : Row S A) (good : Good u stack v) (holds : Holds free any_state p row (u.heap v)) where
+    pub good_safe : Safe u.partial row (u.heap v)
+    good_safe = holds_safe free any_state last p u.partial row (u.heap v) (u.heap v) (shown u.partial (u.heap v) good.whole) good.order holds
+
+    pub good_done : (L : Lawful u) (w : X) (y : A) → Meets u row v w (Ok y) → GoodWith u p stack y w
+    unfolding Meets
+    good_done L w y m =
+        let r = holds_run free any_state last u L p good.whole row v w y holds good.order m in
+        record {
+          good = record { whole = good.whole; live = live-after u L row v w y m good.live; order = r.1; items = items_stay (u.heap v) (u.heap w) r.2 stack good.items };
+          answer = r.0;
+        }
+
+module _ {S X : Type 0} {u : Sense S X} {stack : List Value} {v : X} (good : Good u stack v) (a : ℕ) where
+  -- a record that is there may be looked at
+  pub good_asks : IsItem (u.heap v) (Ref (record { 0 = a })) → Asks {S = S} u.partial (Read a) (u.heap v)
+  good_asks i = subst (λ p. Asks {S = S} p (Read a) (u.heap v)) (sym good.whole) (look_asks S (u.heap v) a i.0)
+
+  -- a look leaves all as it is
+  pub good_looked : (L : Lawful u) (w : X) (r : Rec) → u.does (Read a) v r w → Good u stack w
+  good_looked L w r d =
+      let e = (L.effect (Read a) v r w d).1 in
+      record { whole = good.whole; live = L.live (Read a) v r w d; order = subst (IsOrdered free) (sym e) good.order; items = subst (λ h. Every (IsItem h) stack) (sym e) good.items }
+
+  pub kind_seen : (L : Lawful u) (w : X) (k : Kind) → u.does (Read a) v (at (u.heap v) a) w → k ≡ (at (u.heap v) a).kind → KindIn (u.heap w a) (λ q. q ≡ k)
+  kind_seen L w k d e =
+      let f = L.effect (Read a) v (at (u.heap v) a) w d in
+      subst (λ o. KindIn o (λ q. q ≡ k)) (sym (ap (λ h. h a) f.1 ∙ f.0)) (sym e)
