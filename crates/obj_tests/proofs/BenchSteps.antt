@@ -1,5 +1,5 @@
 -- What an operation leaves over a view whose heap is in order.
-use Rattle.std.proofs.Common.{◌≡◌, ℕ, ◌<◌, Bool, false, List, length, Ok, refl, sym, ap, subst, ◌∙◌}
+use Rattle.std.proofs.Common.{◌≡◌, ℕ, ◌<◌, Bool, false, List, [], ◌∷◌, ◌++◌, length, take, Ok, refl, sym, ap, subst, ◌∙◌}
 use Rattle.std.specs.Prelude.{slice_index_or}
 use Rattle.py_data.specs.declared.value.Value.{Value}
 use Rattle.py_data.specs.declared.value.Value.TheVariants.{Unset, Ref}
@@ -10,11 +10,13 @@ use Rattle.py_data.specs.Heap.{Heap, Rec, at}
 use Rattle.py_data.specs.Closed.{IsItem}
 use Rattle.py_data.specs.Order.{AreLasting, IsOrdered}
 use Rattle.py_data.specs.Holds.{Holds}
+use Rattle.py_data.specs.Looking.{Looks}
 use Rattle.py_data.specs.Row.{Row, Read}
 use Rattle.py_data.specs.Sense.{Sense, Lawful, Asks, Safe, Meets, ShownOf}
+use Rattle.py_data.proofs.EveryLemmas.{every_and, every_take}
 use Rattle.py_data.proofs.Holding.{holds_safe, holds_run}
 use Rattle.py_data.proofs.ItemLemmas.{item_at, items_stay}
-use Rattle.py_data.proofs.Looking.{look_asks}
+use Rattle.py_data.proofs.Looking.{look_asks, looks_held}
 use Rattle.py_data.proofs.Steps.{live-after}
 use Rattle.obj_tests.specs.Bench.{free, any_state, Good, GoodWith}
 
@@ -41,6 +43,21 @@ module _ {S X : Type 0} {u : Sense S X} {stack : List Value} {v : X} where
           good = record { whole = good.whole; live = live-after u L row v w y m good.live; order = r.1; items = items_stay (u.heap v) (u.heap w) r.2 stack good.items };
           answer = r.0;
         }
+
+  -- a row that only looks
+  module _ {A : Type 0} (p : A → Type 0) (row : Row S A) (good : Good u stack v) (looks : Looks p row (u.heap v)) where
+    pub look_safe : Safe u.partial row (u.heap v)
+    look_safe = good_safe (λ a h1. (h1 ≡ u.heap v) × p a) row good (looks_held free any_state p (u.heap v) row looks)
+
+    pub look_done : (L : Lawful u) (w : X) (y : A) → Meets u row v w (Ok y) → Good u stack w
+    look_done L w y m = let d = good_done (λ a h1. (h1 ≡ u.heap v) × p a) row good (looks_held free any_state p (u.heap v) row looks) L w y m in d.good
+
+  -- a further value, and the first ones
+  pub good_push : (x : Value) → GoodWith u (λ x h. IsItem h x) stack x v → Good u (stack ++ x ∷ []) v
+  good_push x g = record { whole = g.good.whole; live = g.good.live; order = g.good.order; items = every_and (IsItem (u.heap v)) stack (x ∷ []) g.good.items (g.answer, tt) }
+
+  pub good_take : (n : ℕ) → Good u stack v → Good u (take n stack) v
+  good_take n g = record { whole = g.whole; live = g.live; order = g.order; items = every_take (IsItem (u.heap v)) stack n g.items }
 
 module _ {S X : Type 0} {u : Sense S X} {stack : List Value} {v : X} (good : Good u stack v) (a : ℕ) where
   -- a record that is there may be looked at

@@ -10,7 +10,8 @@ ghost use Rattle.obj_dict.specs.HoldsLaws.{IsDictAt};
 ghost use Rattle.obj_tests.specs.Bench.{Good, GoodWith};
 
 use obj_dict::Part;
-use py_data::{Addr, Bytes, Got, Kind, Record, Stop, Value, Values, View};
+use obj_str::bytes_of;
+use py_data::{Addr, Bytes, Got, Kind, Stop, Value, Values, View};
 use std::alloc::Global;
 
 /// The record that a value of the stack refers to, with its kind.
@@ -255,4 +256,51 @@ pub fn gather<S, V: View<S>>(
 {
     let got = obj_seq::gather(alloc, v, stack.at(place))?;
     Ok(got)
+}
+
+/// The length of a record of the stack: of its bytes, its pairs or its values.
+pub fn size_at<S, V: View<S>>(
+    v: &mut V,
+    stack: &Values,
+    place: usize,
+) -> Result<Option<usize>, Stop>
+    requires good { Good V.sense stack.now v.old }
+    requires within { place < length stack.now }
+    ensures { IfOk result (λ _. Good V.sense stack.now v.new) }
+{
+    match record_at(v, stack, place)? {
+        Some((a, Kind::Str)) => {
+            let n = v.byte_len(a)?;
+            Ok(Some(n))
+        }
+        Some((a, Kind::Dict)) => {
+            let n = v.len(a)?;
+            Ok(Some(n / 2))
+        }
+        Some((a, _)) => {
+            let n = v.len(a)?;
+            Ok(Some(n))
+        }
+        None => Ok(None),
+    }
+}
+
+/// The bytes of a string of the stack.
+pub fn bytes_at<S, V: View<S>>(
+    alloc: Global,
+    v: &mut V,
+    stack: &Values,
+    place: usize,
+) -> Result<Option<Bytes>, Stop>
+    requires good { Good V.sense stack.now v.old }
+    requires within { place < length stack.now }
+    ensures { IfOk result (λ _. Good V.sense stack.now v.new) }
+{
+    match record_at(v, stack, place)? {
+        Some((a, Kind::Str)) => {
+            let bytes = bytes_of(alloc, v, a)?;
+            Ok(Some(bytes))
+        }
+        _ => Ok(None),
+    }
 }
