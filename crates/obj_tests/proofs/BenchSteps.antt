@@ -1,20 +1,25 @@
 -- What an operation leaves over a view whose heap is in order.
-use Rattle.std.proofs.Common.{◌≡◌, ℕ, ◌<◌, Bool, false, List, [], ◌∷◌, ◌++◌, length, take, Ok, refl, sym, ap, subst, ◌∙◌}
+use Rattle.std.proofs.Common.{arith, ◌≡◌, ℕ, ℤ, ◌<◌, Bool, false, List, [], ◌∷◌, ◌++◌, length, take, Ok, refl, sym, ap, subst, ◌∙◌}
 use Rattle.std.specs.Prelude.{slice_index_or}
 use Rattle.py_data.specs.declared.value.Value.{Value}
-use Rattle.py_data.specs.declared.value.Value.TheVariants.{Unset, Ref}
+use Rattle.py_data.specs.declared.value.Value.TheVariants.{Unset, Int, Ref}
 use Rattle.py_base.specs.declared.kind.Kind.{Kind}
+use Rattle.py_base.specs.declared.kind.Kind.TheVariants.{Dict, Cell, Function, Class, Range}
+use Rattle.py_data.specs.Range.{IsRange}
 use Rattle.py_data.specs.Shape.{KindIn}
 use Rattle.py_data.specs.Every.{Every}
-use Rattle.py_data.specs.Heap.{Heap, Rec, at}
+use Rattle.py_data.specs.Heap.{Heap, Rec, at, new_rec}
 use Rattle.py_data.specs.Closed.{IsItem}
-use Rattle.py_data.specs.Order.{AreLasting, IsOrdered}
+use Rattle.py_data.specs.Order.{AreLasting, IsOrdered, FitsAt}
 use Rattle.py_data.specs.Holds.{Holds}
 use Rattle.py_data.specs.Looking.{Looks}
-use Rattle.py_data.specs.Row.{Row, Read}
+use Rattle.py_data.specs.Row.{Row, Ret, Do, Read, Make}
 use Rattle.py_data.specs.Sense.{Sense, Lawful, Asks, Safe, Meets, ShownOf}
 use Rattle.py_data.proofs.EveryLemmas.{every_and, every_take}
-use Rattle.py_data.proofs.Holding.{holds_safe, holds_run}
+use Rattle.py_data.proofs.Holding.{holds_ret, holds_safe, holds_run}
+use Rattle.py_data.proofs.HoldingCalls.{holds_make}
+use Rattle.py_data.proofs.Making.{made_fits}
+use Rattle.py_data.proofs.Rows.{meets-ret, meets-do}
 use Rattle.py_data.proofs.ItemLemmas.{item_at, items_stay}
 use Rattle.py_data.proofs.Looking.{look_asks, looks_held}
 use Rattle.py_data.proofs.Steps.{live-after}
@@ -74,3 +79,25 @@ module _ {S X : Type 0} {u : Sense S X} {stack : List Value} {v : X} (good : Goo
   kind_seen L w k d e =
       let f = L.effect (Read a) v (at (u.heap v) a) w d in
       subst (λ o. KindIn o (λ q. q ≡ k)) (sym (ap (λ h. h a) f.1 ∙ f.0)) (sym e)
+
+-- ---- records that are made
+module _ {S X : Type 0} {u : Sense S X} {stack : List Value} {v : X} (good : Good u stack v) (r : Rec) (fits : (a : ℕ) → FitsAt free (u.heap v) a r) where
+  pub good_makes : Asks {S = S} u.partial (Make r) (u.heap v)
+  unfolding Asks
+  good_makes = let one = fits 0 in subst (λ p. Asks {S = S} p (Make r) (u.heap v)) (sym good.whole) (one.closed.shaped, one.short.0, one.short.1)
+
+  pub good_made : (L : Lawful u) (w : X) (a : ℕ) → u.does (Make r) v a w → GoodWith u (λ x h. IsItem h x) stack (Ref (record { 0 = a })) w
+  good_made L w a d =
+      let row : Row S Value = Do (Make r) (λ a. Ret (Ref (record { 0 = a }))) in
+      good_done (λ x h. IsItem h x) row good (holds_make free any_state (λ x h. IsItem h x) r (λ a. Ret (Ref (record { 0 = a }))) (u.heap v) fits (λ a h1 order x e i. holds_ret free any_state (λ x h. IsItem h x) (Ref (record { 0 = a })) h1 i)) L w (Ref (record { 0 = a }))
+      (meets-do u (Make r) (λ a. Ret (Ref (record { 0 = a }))) v w w a (Ok (Ref (record { 0 = a }))) d (meets-ret u (Ref (record { 0 = a })) w))
+
+-- an empty dictionary, and a range
+pub dict_fits : (h : Heap) (a : ℕ) → FitsAt free h a (new_rec Dict [] [])
+dict_fits h a =
+    made_fits free h a Dict [] [] (λ e. let z : Dict ≡ Class = e in cc) (λ e. let z : Dict ≡ Function = e in cc) (λ e. let z : Dict ≡ Cell = e in cc) tt (tt, tt) refl (omega arith) (omega arith)
+
+pub range_fits : (h : Heap) (a : ℕ) (start stop step : ℤ) → IsRange (Int start ∷ Int stop ∷ Int step ∷ []) → FitsAt free h a (new_rec Range (Int start ∷ Int stop ∷ Int step ∷ []) [])
+range_fits h a start stop step i =
+    made_fits free h a Range (Int start ∷ Int stop ∷ Int step ∷ []) [] (λ e. let z : Range ≡ Class = e in cc) (λ e. let z : Range ≡ Function = e in cc) (λ e. let z : Range ≡ Cell = e in cc)
+    ((tt, λ e. let z : Int start ≡ Unset = e in cc), ((tt, λ e. let z : Int stop ≡ Unset = e in cc), ((tt, λ e. let z : Int step ≡ Unset = e in cc), tt))) i refl (omega arith) (omega arith)

@@ -3,6 +3,7 @@
 //!
 //! A row is a line, `PROGRAM => EXPECTED`. The words of a program are parted by blanks, and work on a stack of values.
 ghost use Rattle.std.specs.Prelude.{◌≡◌, [], None};
+ghost use Rattle.lock_run.specs.Space.{space_heap};
 ghost use Rattle.obj_tests.specs.Bench.{Good};
 
 mod calls;
@@ -19,7 +20,7 @@ mod words;
 use self::reading::outcome;
 use self::state::Bench;
 use lock_run::PlainView;
-use py_data::{Bytes, Stop, Values};
+use py_data::{Bytes, Stop, Values, View};
 use std::alloc::{AllocError, Global};
 use std::process::Abort;
 use std::test;
@@ -29,14 +30,24 @@ type Tested = Result<(), test::Fail>;
 
 type Plain = PlainView<u8, MemSource, MemSink, MemSink>;
 
-/// A bench over an empty heap, with devices that never fail.
-fn fresh(alloc: Global) -> Bench<Plain> {
-    let view = PlainView::new(
+/// An empty heap, with devices that never fail.
+fn plain(alloc: Global) -> Plain
+    ensures live { result.stopped ≡ None }
+    ensures heap { space_heap result.space ≡ (λ a. None) }
+{
+    PlainView::new(
         alloc,
         MemSource::new(alloc, Vec::new(alloc), Vec::new(alloc)),
         MemSink::new(alloc, Vec::new(alloc)),
         MemSink::new(alloc, Vec::new(alloc)),
-    );
+    )
+}
+
+/// A bench without values.
+fn fresh<V: View<u8> + Drop>(alloc: Global, view: V) -> Bench<V>
+    requires { Good V.sense [] view }
+    ensures { Good V.sense result.stack result.view }
+{
     Bench {
         alloc,
         view,
@@ -46,7 +57,7 @@ fn fresh(alloc: Global) -> Bench<Plain> {
 
 /// Does a program over an empty heap.
 fn tried(rt: &impl Abort, alloc: Global, program: &[u8]) -> Result<Bytes, AllocError> {
-    match outcome(alloc, fresh(alloc), program) {
+    match outcome(alloc, fresh(alloc, plain(alloc)), program) {
         Ok(text) => Ok(text),
         Err(Stop::OutOfMemory) => Err(AllocError),
         Err(e) => panic!(rt; "{e:?}"),

@@ -1,4 +1,7 @@
 //! The words of a program that look at values.
+ghost use Rattle.std.specs.Prelude.{IfOk};
+ghost use Rattle.obj_tests.specs.Bench.{Good};
+
 use super::stacking::{self, Leaf};
 use super::state::{Bench, Halt, told_fault};
 use super::{calls, nested};
@@ -7,7 +10,10 @@ use std::alloc::Global;
 use std::cmp::Ordering;
 
 /// `x len`.
-pub fn len<V: View<u8> + Drop>(bench: Bench<V>) -> Result<Bench<V>, Halt> {
+pub fn len<V: View<u8> + Drop>(bench: Bench<V>) -> Result<Bench<V>, Halt>
+    requires { Good V.sense bench.stack bench.view }
+    ensures { IfOk result (λ b. Good V.sense b.stack b.view) }
+{
     let Bench {
         alloc,
         mut view,
@@ -40,7 +46,10 @@ fn kind_name(kind: Kind) -> &'static [u8] {
 }
 
 /// `x kind`.
-pub fn kind<V: View<u8> + Drop>(bench: Bench<V>) -> Result<Bench<V>, Halt> {
+pub fn kind<V: View<u8> + Drop>(bench: Bench<V>) -> Result<Bench<V>, Halt>
+    requires { Good V.sense bench.stack bench.view }
+    ensures { IfOk result (λ b. Good V.sense b.stack b.view) }
+{
     let Bench {
         alloc,
         mut view,
@@ -61,7 +70,9 @@ pub fn kind<V: View<u8> + Drop>(bench: Bench<V>) -> Result<Bench<V>, Halt> {
 }
 
 /// The text of the top value.
-pub fn shown<V: View<u8> + Drop>(bench: Bench<V>) -> Result<Bytes, Halt> {
+pub fn shown<V: View<u8> + Drop>(bench: Bench<V>) -> Result<Bytes, Halt>
+    requires { Good V.sense bench.stack bench.view }
+{
     let Bench {
         alloc,
         mut view,
@@ -78,7 +89,10 @@ pub fn shown<V: View<u8> + Drop>(bench: Bench<V>) -> Result<Bytes, Halt> {
 }
 
 /// `x repr` and `x str`.
-pub fn text<V: View<u8> + Drop>(bench: Bench<V>, quoted: bool) -> Result<Bench<V>, Halt> {
+pub fn text<V: View<u8> + Drop>(bench: Bench<V>, quoted: bool) -> Result<Bench<V>, Halt>
+    requires { Good V.sense bench.stack bench.view }
+    ensures { IfOk result (λ b. Good V.sense b.stack b.view) }
+{
     let Bench {
         alloc,
         mut view,
@@ -98,7 +112,10 @@ pub fn text<V: View<u8> + Drop>(bench: Bench<V>, quoted: bool) -> Result<Bench<V
 }
 
 /// `x y equal`.
-pub fn equal<V: View<u8> + Drop>(bench: Bench<V>) -> Result<Bench<V>, Halt> {
+pub fn equal<V: View<u8> + Drop>(bench: Bench<V>) -> Result<Bench<V>, Halt>
+    requires { Good V.sense bench.stack bench.view }
+    ensures { IfOk result (λ b. Good V.sense b.stack b.view) }
+{
     let Bench {
         alloc,
         mut view,
@@ -127,7 +144,10 @@ fn order_name(order: Ordering) -> &'static [u8] {
 }
 
 /// `x y order`.
-pub fn order<V: View<u8> + Drop>(bench: Bench<V>) -> Result<Bench<V>, Halt> {
+pub fn order<V: View<u8> + Drop>(bench: Bench<V>) -> Result<Bench<V>, Halt>
+    requires { Good V.sense bench.stack bench.view }
+    ensures { IfOk result (λ b. Good V.sense b.stack b.view) }
+{
     let Bench {
         alloc,
         mut view,
@@ -148,7 +168,10 @@ pub fn order<V: View<u8> + Drop>(bench: Bench<V>) -> Result<Bench<V>, Halt> {
 }
 
 /// `x truth`.
-pub fn truth<V: View<u8> + Drop>(bench: Bench<V>) -> Result<Bench<V>, Halt> {
+pub fn truth<V: View<u8> + Drop>(bench: Bench<V>) -> Result<Bench<V>, Halt>
+    requires { Good V.sense bench.stack bench.view }
+    ensures { IfOk result (λ b. Good V.sense b.stack b.view) }
+{
     let Bench {
         alloc,
         mut view,
@@ -176,7 +199,10 @@ fn repeated(alloc: Global, bytes: &Bytes, n: usize) -> Result<Option<Bytes>, NoM
 }
 
 /// `sN`: a string of `n` times the bytes of the string at the top.
-pub fn long_text<V: View<u8> + Drop>(bench: Bench<V>, times: usize) -> Result<Bench<V>, Halt> {
+pub fn long_text<V: View<u8> + Drop>(bench: Bench<V>, times: usize) -> Result<Bench<V>, Halt>
+    requires { Good V.sense bench.stack bench.view }
+    ensures { IfOk result (λ b. Good V.sense b.stack b.view) }
+{
     let Bench {
         alloc,
         mut view,

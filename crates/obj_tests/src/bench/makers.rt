@@ -3,6 +3,7 @@ ghost use Rattle.std.specs.Prelude.{◌≡◌, ◌≢◌, ◌≤◌, ◌<◌, �
 ghost use Rattle.py_data.specs.declared.value.Value.TheVariants.{Int};
 ghost use Rattle.py_data.specs.Range.{range_length};
 ghost use Rattle.py_data.specs.declared.record.TheConstants.{LENGTH_LIMIT};
+ghost use Rattle.py_data.specs.Answers.{IsSequenceKind};
 ghost use Rattle.py_data.specs.Closed.{IsItem};
 ghost use Rattle.py_data.specs.Every.{Every};
 ghost use Rattle.py_data.specs.Made.{rec_of};
@@ -27,16 +28,17 @@ pub fn sequence<S, V: View<S>>(
     alloc: Global,
     v: &mut V,
     stack: &Values,
-    tuple: bool,
+    kind: Kind,
     values: Values,
 ) -> Result<Value, Stop>
     requires good { Good V.sense stack.now v.old }
+    requires kind { IsSequenceKind kind }
     requires items { Every (IsItem (V.sense.heap v.old)) values }
     requires limit { length values ≤ LENGTH_LIMIT }
     ensures { IfOk result (λ x. GoodWith V.sense (λ x h. IsItem h x) stack.now x v.new) }
 {
     let r = Record {
-        kind: if tuple { Kind::Tuple } else { Kind::List },
+        kind,
         values,
         bytes: Bytes::new(alloc),
     };

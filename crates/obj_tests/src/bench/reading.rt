@@ -1,10 +1,13 @@
 //! Programs of words, as rows write them.
+ghost use Rattle.std.specs.Prelude.{IfOk};
+ghost use Rattle.obj_tests.specs.Bench.{Good};
+
 use super::stacking::{self, Leaf};
 use super::state::{Bench, Halt};
 use super::{looking, words};
 use obj_dict::Part;
 use py_base::{builtin_number, skip};
-use py_data::{Bytes, Stop, View};
+use py_data::{Bytes, Kind, Stop, View};
 use py_text::unescape;
 use std::alloc::Global;
 use std::str;
@@ -55,13 +58,16 @@ fn leaf_of(word: &[u8]) -> Option<Leaf> {
 }
 
 /// A word of one byte and a count: `[n`, `(n`, `{n`, `rN`, `tN`, `xN` and `sN`.
-fn counted<V: View<u8> + Drop>(bench: Bench<V>, first: u8, n: usize) -> Result<Bench<V>, Halt> {
+fn counted<V: View<u8> + Drop>(bench: Bench<V>, first: u8, n: usize) -> Result<Bench<V>, Halt>
+    requires { Good V.sense bench.stack bench.view }
+    ensures { IfOk result (λ b. Good V.sense b.stack b.view) }
+{
     match first {
-        b'[' => stacking::build(bench, false, n),
-        b'(' => stacking::build(bench, true, n),
+        b'[' => stacking::build(bench, Kind::List, n),
+        b'(' => stacking::build(bench, Kind::Tuple, n),
         b'{' => stacking::build_dict(bench, n),
-        b'r' => stacking::nest(bench, false, n),
-        b't' => stacking::nest(bench, true, n),
+        b'r' => stacking::nest(bench, Kind::List, n),
+        b't' => stacking::nest(bench, Kind::Tuple, n),
         b'x' => stacking::times(bench, n),
         b's' => looking::long_text(bench, n),
         _ => Err(Halt::Bad),
@@ -69,7 +75,10 @@ fn counted<V: View<u8> + Drop>(bench: Bench<V>, first: u8, n: usize) -> Result<B
 }
 
 /// A word that moves values about the stack, makes one, or looks at values.
-fn general<V: View<u8> + Drop>(bench: Bench<V>, word: &[u8]) -> Result<Bench<V>, Halt> {
+fn general<V: View<u8> + Drop>(bench: Bench<V>, word: &[u8]) -> Result<Bench<V>, Halt>
+    requires { Good V.sense bench.stack bench.view }
+    ensures { IfOk result (λ b. Good V.sense b.stack b.view) }
+{
     match word {
         b"dup" => stacking::pick(bench, 0),
         b"swap" => stacking::swap(bench),
@@ -88,7 +97,10 @@ fn general<V: View<u8> + Drop>(bench: Bench<V>, word: &[u8]) -> Result<Bench<V>,
 }
 
 /// The name of an operation on a list, a tuple, a dictionary or an iterator.
-fn operation<V: View<u8> + Drop>(bench: Bench<V>, word: &[u8]) -> Result<Bench<V>, Halt> {
+fn operation<V: View<u8> + Drop>(bench: Bench<V>, word: &[u8]) -> Result<Bench<V>, Halt>
+    requires { Good V.sense bench.stack bench.view }
+    ensures { IfOk result (λ b. Good V.sense b.stack b.view) }
+{
     match word {
         b"item" => words::item(bench),
         b"setitem" => words::set_item(bench),
@@ -112,7 +124,10 @@ fn operation<V: View<u8> + Drop>(bench: Bench<V>, word: &[u8]) -> Result<Bench<V
 }
 
 /// A string in quotes.
-fn literal<V: View<u8> + Drop>(bench: Bench<V>, word: &[u8]) -> Result<Bench<V>, Halt> {
+fn literal<V: View<u8> + Drop>(bench: Bench<V>, word: &[u8]) -> Result<Bench<V>, Halt>
+    requires { Good V.sense bench.stack bench.view }
+    ensures { IfOk result (λ b. Good V.sense b.stack b.view) }
+{
     if word.len() < 2 {
         return Err(Halt::Bad);
     }
@@ -123,7 +138,10 @@ fn literal<V: View<u8> + Drop>(bench: Bench<V>, word: &[u8]) -> Result<Bench<V>,
 }
 
 /// A builtin by its name, or a copy of a value of the stack.
-fn named<V: View<u8> + Drop>(bench: Bench<V>, word: &[u8]) -> Result<Bench<V>, Halt> {
+fn named<V: View<u8> + Drop>(bench: Bench<V>, word: &[u8]) -> Result<Bench<V>, Halt>
+    requires { Good V.sense bench.stack bench.view }
+    ensures { IfOk result (λ b. Good V.sense b.stack b.view) }
+{
     if word[0] == b'@' {
         return match builtin_number(skip(word, 1)) {
             Some(b) => stacking::push_leaf(bench, Leaf::Builtin(b)),
@@ -140,7 +158,10 @@ fn named<V: View<u8> + Drop>(bench: Bench<V>, word: &[u8]) -> Result<Bench<V>, H
 }
 
 /// Does a word.
-fn done<V: View<u8> + Drop>(bench: Bench<V>, word: &[u8]) -> Result<Bench<V>, Halt> {
+fn done<V: View<u8> + Drop>(bench: Bench<V>, word: &[u8]) -> Result<Bench<V>, Halt>
+    requires { Good V.sense bench.stack bench.view }
+    ensures { IfOk result (λ b. Good V.sense b.stack b.view) }
+{
     if word.is_empty() {
         return Ok(bench);
     }
@@ -157,7 +178,9 @@ fn done<V: View<u8> + Drop>(bench: Bench<V>, word: &[u8]) -> Result<Bench<V>, Ha
 }
 
 /// Does the words of a program, one after another.
-fn through<V: View<u8> + Drop>(bench: Bench<V>, program: &[u8]) -> Result<Bytes, Halt> {
+fn through<V: View<u8> + Drop>(bench: Bench<V>, program: &[u8]) -> Result<Bytes, Halt>
+    requires { Good V.sense bench.stack bench.view }
+{
     let mut bench = bench;
     let mut from = 0;
     for _ in 0..program.len() {
@@ -176,7 +199,9 @@ pub fn outcome<V: View<u8> + Drop>(
     alloc: Global,
     bench: Bench<V>,
     program: &[u8],
-) -> Result<Bytes, Stop> {
+) -> Result<Bytes, Stop>
+    requires { Good V.sense bench.stack bench.view }
+{
     match through(bench, program) {
         Ok(text) => Ok(text),
         Err(Halt::Told(text)) => Ok(text),

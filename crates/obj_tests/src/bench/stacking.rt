@@ -1,5 +1,7 @@
 //! The words of a program that make values and move them about the stack.
+ghost use Rattle.obj_tests.specs.Bench.{Good};
 ghost use Rattle.std.specs.Prelude.{◌≡◌, length, IfOk};
+ghost use Rattle.py_data.specs.Answers.{IsSequenceKind};
 ghost use Rattle.py_data.specs.Closed.{IsItem};
 ghost use Rattle.py_data.specs.Every.{Every};
 ghost use Rattle.py_data.specs.Heap.{Heap};
@@ -8,7 +10,7 @@ use super::kinds::dict_at;
 use super::state::{Bench, Halt, done, push};
 use super::{calls, makers};
 use obj_seq::range_length;
-use py_data::{Bytes, LENGTH_LIMIT, NoMemory, Value, Values, View, builtin};
+use py_data::{Bytes, Kind, LENGTH_LIMIT, NoMemory, Value, Values, View, builtin};
 use std::alloc::Global;
 
 /// A value that refers to no record.
@@ -33,13 +35,19 @@ fn leaf_value(leaf: Leaf) -> Value
 }
 
 /// A value that refers to no record goes onto the stack.
-pub fn push_leaf<V: View<u8> + Drop>(bench: Bench<V>, leaf: Leaf) -> Result<Bench<V>, Halt> {
+pub fn push_leaf<V: View<u8> + Drop>(bench: Bench<V>, leaf: Leaf) -> Result<Bench<V>, Halt>
+    requires { Good V.sense bench.stack bench.view }
+    ensures { IfOk result (λ b. Good V.sense b.stack b.view) }
+{
     let Bench { alloc, view, stack } = bench;
     push(alloc, view, stack, leaf_value(leaf))
 }
 
 /// A new string.
-pub fn text<V: View<u8> + Drop>(bench: Bench<V>, bytes: Bytes) -> Result<Bench<V>, Halt> {
+pub fn text<V: View<u8> + Drop>(bench: Bench<V>, bytes: Bytes) -> Result<Bench<V>, Halt>
+    requires { Good V.sense bench.stack bench.view }
+    ensures { IfOk result (λ b. Good V.sense b.stack b.view) }
+{
     let Bench {
         alloc,
         mut view,
@@ -53,7 +61,10 @@ pub fn text<V: View<u8> + Drop>(bench: Bench<V>, bytes: Bytes) -> Result<Bench<V
 }
 
 /// `pickN`: a copy of the value `n` below the top.
-pub fn pick<V: View<u8> + Drop>(bench: Bench<V>, n: usize) -> Result<Bench<V>, Halt> {
+pub fn pick<V: View<u8> + Drop>(bench: Bench<V>, n: usize) -> Result<Bench<V>, Halt>
+    requires { Good V.sense bench.stack bench.view }
+    ensures { IfOk result (λ b. Good V.sense b.stack b.view) }
+{
     let Bench { alloc, view, stack } = bench;
     let count = stack.len();
     if n >= count {
@@ -64,7 +75,10 @@ pub fn pick<V: View<u8> + Drop>(bench: Bench<V>, n: usize) -> Result<Bench<V>, H
 }
 
 /// `swap`.
-pub fn swap<V: View<u8> + Drop>(bench: Bench<V>) -> Result<Bench<V>, Halt> {
+pub fn swap<V: View<u8> + Drop>(bench: Bench<V>) -> Result<Bench<V>, Halt>
+    requires { Good V.sense bench.stack bench.view }
+    ensures { IfOk result (λ b. Good V.sense b.stack b.view) }
+{
     let Bench {
         alloc,
         view,
@@ -82,7 +96,10 @@ pub fn swap<V: View<u8> + Drop>(bench: Bench<V>) -> Result<Bench<V>, Halt> {
 }
 
 /// The values above the first `n` go.
-pub fn cut<V: View<u8> + Drop>(bench: Bench<V>, n: usize) -> Result<Bench<V>, Halt> {
+pub fn cut<V: View<u8> + Drop>(bench: Bench<V>, n: usize) -> Result<Bench<V>, Halt>
+    requires { Good V.sense bench.stack bench.view }
+    ensures { IfOk result (λ b. Good V.sense b.stack b.view) }
+{
     let Bench {
         alloc,
         view,
@@ -93,7 +110,10 @@ pub fn cut<V: View<u8> + Drop>(bench: Bench<V>, n: usize) -> Result<Bench<V>, Ha
 }
 
 /// `drop`.
-pub fn drop_top<V: View<u8> + Drop>(bench: Bench<V>) -> Result<Bench<V>, Halt> {
+pub fn drop_top<V: View<u8> + Drop>(bench: Bench<V>) -> Result<Bench<V>, Halt>
+    requires { Good V.sense bench.stack bench.view }
+    ensures { IfOk result (λ b. Good V.sense b.stack b.view) }
+{
     let n = bench.stack.len();
     if n < 1 {
         return Err(Halt::Bad);
@@ -102,7 +122,10 @@ pub fn drop_top<V: View<u8> + Drop>(bench: Bench<V>) -> Result<Bench<V>, Halt> {
 }
 
 /// The top value takes the place of those from place `n` on.
-pub fn collapse<V: View<u8> + Drop>(bench: Bench<V>, n: usize) -> Result<Bench<V>, Halt> {
+pub fn collapse<V: View<u8> + Drop>(bench: Bench<V>, n: usize) -> Result<Bench<V>, Halt>
+    requires { Good V.sense bench.stack bench.view }
+    ensures { IfOk result (λ b. Good V.sense b.stack b.view) }
+{
     let Bench {
         alloc,
         view,
@@ -118,7 +141,11 @@ pub fn collapse<V: View<u8> + Drop>(bench: Bench<V>, n: usize) -> Result<Bench<V
 }
 
 /// `[n` and `(n`: a list or tuple of the `n` top values.
-pub fn build<V: View<u8> + Drop>(bench: Bench<V>, tuple: bool, n: usize) -> Result<Bench<V>, Halt> {
+pub fn build<V: View<u8> + Drop>(bench: Bench<V>, kind: Kind, n: usize) -> Result<Bench<V>, Halt>
+    requires kind { IsSequenceKind kind }
+    requires good { Good V.sense bench.stack bench.view }
+    ensures { IfOk result (λ b. Good V.sense b.stack b.view) }
+{
     let Bench {
         alloc,
         mut view,
@@ -129,16 +156,20 @@ pub fn build<V: View<u8> + Drop>(bench: Bench<V>, tuple: bool, n: usize) -> Resu
         return Err(Halt::Bad);
     }
     let values = Values::from_slice(alloc, &stack.as_slice()[count - n..])?;
-    let x = makers::sequence(alloc, &mut view, &stack, tuple, values)?;
+    let x = makers::sequence(alloc, &mut view, &stack, kind, values)?;
     stack.truncate(count - n);
     push(alloc, view, stack, x)
 }
 
 /// `rN` and `tN`: the top value in `n` lists or tuples round one another.
-pub fn nest<V: View<u8> + Drop>(bench: Bench<V>, tuple: bool, n: usize) -> Result<Bench<V>, Halt> {
+pub fn nest<V: View<u8> + Drop>(bench: Bench<V>, kind: Kind, n: usize) -> Result<Bench<V>, Halt>
+    requires kind { IsSequenceKind kind }
+    requires good { Good V.sense bench.stack bench.view }
+    ensures { IfOk result (λ b. Good V.sense b.stack b.view) }
+{
     let mut bench = bench;
     for _ in 0..n {
-        bench = build(bench, tuple, 1)?;
+        bench = build(bench, kind, 1)?;
     }
     Ok(bench)
 }
@@ -156,7 +187,10 @@ fn copies(alloc: Global, x: Value, n: usize) -> Result<Values, NoMemory>
 }
 
 /// `xN`: a list of `n` times the top value.
-pub fn times<V: View<u8> + Drop>(bench: Bench<V>, n: usize) -> Result<Bench<V>, Halt> {
+pub fn times<V: View<u8> + Drop>(bench: Bench<V>, n: usize) -> Result<Bench<V>, Halt>
+    requires { Good V.sense bench.stack bench.view }
+    ensures { IfOk result (λ b. Good V.sense b.stack b.view) }
+{
     let Bench {
         alloc,
         mut view,
@@ -167,13 +201,16 @@ pub fn times<V: View<u8> + Drop>(bench: Bench<V>, n: usize) -> Result<Bench<V>, 
         return Err(Halt::Bad);
     }
     let values = copies(alloc, stack.at(count - 1), n)?;
-    let x = makers::sequence(alloc, &mut view, &stack, false, values)?;
+    let x = makers::sequence(alloc, &mut view, &stack, Kind::List, values)?;
     stack.truncate(count - 1);
     push(alloc, view, stack, x)
 }
 
 /// Sets a pair of a value of the stack and the one above it in the dictionary at the top.
-fn pair_in<V: View<u8> + Drop>(bench: Bench<V>, place: usize) -> Result<Bench<V>, Halt> {
+fn pair_in<V: View<u8> + Drop>(bench: Bench<V>, place: usize) -> Result<Bench<V>, Halt>
+    requires { Good V.sense bench.stack bench.view }
+    ensures { IfOk result (λ b. Good V.sense b.stack b.view) }
+{
     let Bench {
         alloc,
         mut view,
@@ -193,7 +230,10 @@ fn pair_in<V: View<u8> + Drop>(bench: Bench<V>, place: usize) -> Result<Bench<V>
 }
 
 /// A new dictionary without pairs.
-fn new_dict<V: View<u8> + Drop>(bench: Bench<V>) -> Result<Bench<V>, Halt> {
+fn new_dict<V: View<u8> + Drop>(bench: Bench<V>) -> Result<Bench<V>, Halt>
+    requires { Good V.sense bench.stack bench.view }
+    ensures { IfOk result (λ b. Good V.sense b.stack b.view) }
+{
     let Bench {
         alloc,
         mut view,
@@ -204,7 +244,10 @@ fn new_dict<V: View<u8> + Drop>(bench: Bench<V>) -> Result<Bench<V>, Halt> {
 }
 
 /// `{n`: a dictionary of the `2 n` top values.
-pub fn build_dict<V: View<u8> + Drop>(bench: Bench<V>, n: usize) -> Result<Bench<V>, Halt> {
+pub fn build_dict<V: View<u8> + Drop>(bench: Bench<V>, n: usize) -> Result<Bench<V>, Halt>
+    requires { Good V.sense bench.stack bench.view }
+    ensures { IfOk result (λ b. Good V.sense b.stack b.view) }
+{
     let count = bench.stack.len();
     if n > count / 2 {
         return Err(Halt::Bad);
@@ -218,7 +261,10 @@ pub fn build_dict<V: View<u8> + Drop>(bench: Bench<V>, n: usize) -> Result<Bench
 }
 
 /// `start stop step range`.
-pub fn range<V: View<u8> + Drop>(bench: Bench<V>) -> Result<Bench<V>, Halt> {
+pub fn range<V: View<u8> + Drop>(bench: Bench<V>) -> Result<Bench<V>, Halt>
+    requires { Good V.sense bench.stack bench.view }
+    ensures { IfOk result (λ b. Good V.sense b.stack b.view) }
+{
     let Bench {
         alloc,
         mut view,
@@ -242,7 +288,10 @@ pub fn range<V: View<u8> + Drop>(bench: Bench<V>) -> Result<Bench<V>, Halt> {
 }
 
 /// `x y is`: the same value by type and value, and the same record.
-pub fn is<V: View<u8> + Drop>(bench: Bench<V>) -> Result<Bench<V>, Halt> {
+pub fn is<V: View<u8> + Drop>(bench: Bench<V>) -> Result<Bench<V>, Halt>
+    requires { Good V.sense bench.stack bench.view }
+    ensures { IfOk result (λ b. Good V.sense b.stack b.view) }
+{
     let n = bench.stack.len();
     if n < 2 {
         return Err(Halt::Bad);

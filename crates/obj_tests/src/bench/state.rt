@@ -1,5 +1,5 @@
 //! The bench: a view and a stack of values, and how an operation's answer goes onto the stack.
-ghost use Rattle.std.specs.Prelude.{◌≡◌, ℕ, []};
+ghost use Rattle.std.specs.Prelude.{IfOk, ◌≡◌, ℕ, []};
 ghost use Rattle.py_data.specs.Answers.{IsAnswer, IsDone, IsGot, IfItem, IsFault};
 ghost use Rattle.py_data.specs.Closed.{IsItem};
 ghost use Rattle.py_data.specs.Heap.{Heap};
@@ -16,7 +16,6 @@ pub struct Bench<V: View<u8> + Drop> {
     pub alloc: Global,
     pub view: V,
     pub stack: Values,
-    ghost good: { Good V.sense stack view },
 }
 
 /// Why a program goes on no more.
@@ -58,6 +57,7 @@ pub fn push<V: View<u8> + Drop>(
     x: Value,
 ) -> Result<Bench<V>, Halt>
     requires { GoodWith V.sense (λ x h. IsItem h x) stack x view }
+    ensures { IfOk result (λ b. Good V.sense b.stack b.view) }
 {
     stack.push(x)?;
     Ok(Bench { alloc, view, stack })
@@ -78,7 +78,9 @@ fn class_and(alloc: Global, exc: u8, text: &[u8]) -> Result<Bytes, NoMemory> {
 }
 
 /// The text of the value that an exception holds.
-fn held_text<V: View<u8> + Drop>(bench: Bench<V>) -> Result<Bytes, Halt> {
+fn held_text<V: View<u8> + Drop>(bench: Bench<V>) -> Result<Bytes, Halt>
+    requires { Good V.sense bench.stack bench.view }
+{
     let Bench {
         alloc,
         mut view,
@@ -148,6 +150,7 @@ pub fn answered<V: View<u8> + Drop>(
     got: Got<Value>,
 ) -> Result<Bench<V>, Halt>
     requires { GoodWith V.sense IsAnswer stack got view }
+    ensures { IfOk result (λ b. Good V.sense b.stack b.view) }
 {
     match got {
         Got::Is(x) => {
@@ -167,6 +170,7 @@ pub fn done<V: View<u8> + Drop>(
     got: Got<()>,
 ) -> Result<Bench<V>, Halt>
     requires { GoodWith V.sense IsDone stack got view }
+    ensures { IfOk result (λ b. Good V.sense b.stack b.view) }
 {
     match got {
         Got::Is(()) => {
@@ -187,6 +191,7 @@ pub fn found<V: View<u8> + Drop>(
     none: &[u8],
 ) -> Result<Bench<V>, Halt>
     requires { GoodWith V.sense (IsGot IfItem) stack got view }
+    ensures { IfOk result (λ b. Good V.sense b.stack b.view) }
 {
     match got {
         Got::Is(Some(x)) => {

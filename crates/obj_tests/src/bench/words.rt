@@ -1,9 +1,12 @@
 //! The words of a program that work on lists, tuples, dictionaries and iterators.
+ghost use Rattle.std.specs.Prelude.{IfOk};
+ghost use Rattle.obj_tests.specs.Bench.{Good};
+
 use super::kinds::{dict_at, iter_at, list_at, sequence_at};
 use super::state::{Bench, Halt, answered, done, found, push, raised};
 use super::{calls, makers};
 use obj_dict::Part;
-use py_data::{Got, Value, Values, View};
+use py_data::{Got, Kind, Value, Values, View};
 
 /// The number at a place of the stack.
 fn number(stack: &Values, place: usize) -> Option<i64> {
@@ -23,7 +26,10 @@ fn bound(stack: &Values, place: usize) -> Option<Option<i64>> {
 }
 
 /// `a i item`.
-pub fn item<V: View<u8> + Drop>(bench: Bench<V>) -> Result<Bench<V>, Halt> {
+pub fn item<V: View<u8> + Drop>(bench: Bench<V>) -> Result<Bench<V>, Halt>
+    requires { Good V.sense bench.stack bench.view }
+    ensures { IfOk result (λ b. Good V.sense b.stack b.view) }
+{
     let Bench {
         alloc,
         mut view,
@@ -44,7 +50,10 @@ pub fn item<V: View<u8> + Drop>(bench: Bench<V>) -> Result<Bench<V>, Halt> {
 }
 
 /// `a i x setitem`.
-pub fn set_item<V: View<u8> + Drop>(bench: Bench<V>) -> Result<Bench<V>, Halt> {
+pub fn set_item<V: View<u8> + Drop>(bench: Bench<V>) -> Result<Bench<V>, Halt>
+    requires { Good V.sense bench.stack bench.view }
+    ensures { IfOk result (λ b. Good V.sense b.stack b.view) }
+{
     let Bench {
         alloc,
         mut view,
@@ -65,7 +74,10 @@ pub fn set_item<V: View<u8> + Drop>(bench: Bench<V>) -> Result<Bench<V>, Halt> {
 }
 
 /// `a i delitem`.
-pub fn del_item<V: View<u8> + Drop>(bench: Bench<V>) -> Result<Bench<V>, Halt> {
+pub fn del_item<V: View<u8> + Drop>(bench: Bench<V>) -> Result<Bench<V>, Halt>
+    requires { Good V.sense bench.stack bench.view }
+    ensures { IfOk result (λ b. Good V.sense b.stack b.view) }
+{
     let Bench {
         alloc,
         mut view,
@@ -86,7 +98,10 @@ pub fn del_item<V: View<u8> + Drop>(bench: Bench<V>) -> Result<Bench<V>, Halt> {
 }
 
 /// `a i pop`.
-pub fn pop<V: View<u8> + Drop>(bench: Bench<V>) -> Result<Bench<V>, Halt> {
+pub fn pop<V: View<u8> + Drop>(bench: Bench<V>) -> Result<Bench<V>, Halt>
+    requires { Good V.sense bench.stack bench.view }
+    ensures { IfOk result (λ b. Good V.sense b.stack b.view) }
+{
     let Bench {
         alloc,
         mut view,
@@ -107,7 +122,10 @@ pub fn pop<V: View<u8> + Drop>(bench: Bench<V>) -> Result<Bench<V>, Halt> {
 }
 
 /// `a i x insert`.
-pub fn insert<V: View<u8> + Drop>(bench: Bench<V>) -> Result<Bench<V>, Halt> {
+pub fn insert<V: View<u8> + Drop>(bench: Bench<V>) -> Result<Bench<V>, Halt>
+    requires { Good V.sense bench.stack bench.view }
+    ensures { IfOk result (λ b. Good V.sense b.stack b.view) }
+{
     let Bench {
         alloc,
         mut view,
@@ -128,7 +146,10 @@ pub fn insert<V: View<u8> + Drop>(bench: Bench<V>) -> Result<Bench<V>, Halt> {
 }
 
 /// `a x append`.
-pub fn append<V: View<u8> + Drop>(bench: Bench<V>) -> Result<Bench<V>, Halt> {
+pub fn append<V: View<u8> + Drop>(bench: Bench<V>) -> Result<Bench<V>, Halt>
+    requires { Good V.sense bench.stack bench.view }
+    ensures { IfOk result (λ b. Good V.sense b.stack b.view) }
+{
     let Bench {
         alloc,
         mut view,
@@ -148,7 +169,10 @@ pub fn append<V: View<u8> + Drop>(bench: Bench<V>) -> Result<Bench<V>, Halt> {
 }
 
 /// `a reverse`.
-pub fn reverse<V: View<u8> + Drop>(bench: Bench<V>) -> Result<Bench<V>, Halt> {
+pub fn reverse<V: View<u8> + Drop>(bench: Bench<V>) -> Result<Bench<V>, Halt>
+    requires { Good V.sense bench.stack bench.view }
+    ensures { IfOk result (λ b. Good V.sense b.stack b.view) }
+{
     let Bench {
         alloc,
         mut view,
@@ -169,7 +193,10 @@ pub fn reverse<V: View<u8> + Drop>(bench: Bench<V>) -> Result<Bench<V>, Halt> {
 }
 
 /// `a from to slice`.
-pub fn slice<V: View<u8> + Drop>(bench: Bench<V>) -> Result<Bench<V>, Halt> {
+pub fn slice<V: View<u8> + Drop>(bench: Bench<V>) -> Result<Bench<V>, Halt>
+    requires { Good V.sense bench.stack bench.view }
+    ensures { IfOk result (λ b. Good V.sense b.stack b.view) }
+{
     let Bench {
         alloc,
         mut view,
@@ -190,7 +217,10 @@ pub fn slice<V: View<u8> + Drop>(bench: Bench<V>) -> Result<Bench<V>, Halt> {
 }
 
 /// `x iter`.
-pub fn make_iter<V: View<u8> + Drop>(bench: Bench<V>) -> Result<Bench<V>, Halt> {
+pub fn make_iter<V: View<u8> + Drop>(bench: Bench<V>) -> Result<Bench<V>, Halt>
+    requires { Good V.sense bench.stack bench.view }
+    ensures { IfOk result (λ b. Good V.sense b.stack b.view) }
+{
     let Bench {
         alloc,
         mut view,
@@ -205,7 +235,10 @@ pub fn make_iter<V: View<u8> + Drop>(bench: Bench<V>) -> Result<Bench<V>, Halt> 
 }
 
 /// `it next`.
-pub fn next<V: View<u8> + Drop>(bench: Bench<V>) -> Result<Bench<V>, Halt> {
+pub fn next<V: View<u8> + Drop>(bench: Bench<V>) -> Result<Bench<V>, Halt>
+    requires { Good V.sense bench.stack bench.view }
+    ensures { IfOk result (λ b. Good V.sense b.stack b.view) }
+{
     let Bench {
         alloc,
         mut view,
@@ -225,7 +258,10 @@ pub fn next<V: View<u8> + Drop>(bench: Bench<V>) -> Result<Bench<V>, Halt> {
 }
 
 /// `x gather`.
-pub fn gather<V: View<u8> + Drop>(bench: Bench<V>) -> Result<Bench<V>, Halt> {
+pub fn gather<V: View<u8> + Drop>(bench: Bench<V>) -> Result<Bench<V>, Halt>
+    requires { Good V.sense bench.stack bench.view }
+    ensures { IfOk result (λ b. Good V.sense b.stack b.view) }
+{
     let Bench {
         alloc,
         mut view,
@@ -237,7 +273,7 @@ pub fn gather<V: View<u8> + Drop>(bench: Bench<V>) -> Result<Bench<V>, Halt> {
     }
     match calls::gather(alloc, &mut view, &stack, n - 1)? {
         Got::Is(items) => {
-            let list = makers::sequence(alloc, &mut view, &stack, false, items)?;
+            let list = makers::sequence(alloc, &mut view, &stack, Kind::List, items)?;
             stack.truncate(n - 1);
             push(alloc, view, stack, list)
         }
@@ -246,7 +282,10 @@ pub fn gather<V: View<u8> + Drop>(bench: Bench<V>) -> Result<Bench<V>, Halt> {
 }
 
 /// `d k get`.
-pub fn get<V: View<u8> + Drop>(bench: Bench<V>) -> Result<Bench<V>, Halt> {
+pub fn get<V: View<u8> + Drop>(bench: Bench<V>) -> Result<Bench<V>, Halt>
+    requires { Good V.sense bench.stack bench.view }
+    ensures { IfOk result (λ b. Good V.sense b.stack b.view) }
+{
     let Bench {
         alloc,
         mut view,
@@ -266,7 +305,10 @@ pub fn get<V: View<u8> + Drop>(bench: Bench<V>) -> Result<Bench<V>, Halt> {
 }
 
 /// `d k x set`.
-pub fn set<V: View<u8> + Drop>(bench: Bench<V>) -> Result<Bench<V>, Halt> {
+pub fn set<V: View<u8> + Drop>(bench: Bench<V>) -> Result<Bench<V>, Halt>
+    requires { Good V.sense bench.stack bench.view }
+    ensures { IfOk result (λ b. Good V.sense b.stack b.view) }
+{
     let Bench {
         alloc,
         mut view,
@@ -286,7 +328,10 @@ pub fn set<V: View<u8> + Drop>(bench: Bench<V>) -> Result<Bench<V>, Halt> {
 }
 
 /// `d k del`.
-pub fn del<V: View<u8> + Drop>(bench: Bench<V>) -> Result<Bench<V>, Halt> {
+pub fn del<V: View<u8> + Drop>(bench: Bench<V>) -> Result<Bench<V>, Halt>
+    requires { Good V.sense bench.stack bench.view }
+    ensures { IfOk result (λ b. Good V.sense b.stack b.view) }
+{
     let Bench {
         alloc,
         mut view,
@@ -306,7 +351,10 @@ pub fn del<V: View<u8> + Drop>(bench: Bench<V>) -> Result<Bench<V>, Halt> {
 }
 
 /// `d keys`, `d values` and `d items`.
-pub fn list_of<V: View<u8> + Drop>(bench: Bench<V>, part: Part) -> Result<Bench<V>, Halt> {
+pub fn list_of<V: View<u8> + Drop>(bench: Bench<V>, part: Part) -> Result<Bench<V>, Halt>
+    requires { Good V.sense bench.stack bench.view }
+    ensures { IfOk result (λ b. Good V.sense b.stack b.view) }
+{
     let Bench {
         alloc,
         mut view,
