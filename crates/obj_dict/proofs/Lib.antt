@@ -2,7 +2,5 @@ pub mod FindSteps
 pub mod Halves
 pub mod Holding
 pub mod Pairing
-pub mod Safely
-pub mod SafeListing
 pub mod SteadyRows
 pub mod Whole

@@ -3,4 +3,3 @@ pub mod HoldsLaws
 pub mod Laws
 pub mod Listing
 pub mod PairLaws
-pub mod Safety

@@ -3,7 +3,6 @@
 ghost use Rattle.obj_dict.specs.HoldsLaws.{DictHolds, DictSteady};
 ghost use Rattle.obj_dict.specs.Laws.{HashLaw, GetLaw, SetLaw, NewLaw, FullLaw, DelLaw, LackLaw};
 ghost use Rattle.obj_dict.specs.PairLaws.{PairLaw};
-ghost use Rattle.obj_dict.specs.Safety.{SafeLaw, SafeListLaw};
 
 use py_data::{Demands, View};
 
@@ -22,16 +21,6 @@ pub fn dict_law<S, V: View<S>>()
     ensures set_full { FullLaw V.sense }
     ensures del { DelLaw V.sense }
     ensures del_missing { LackLaw V.sense }
-{}
-
-/// Each operation may be begun at a dictionary that the view shows, with any value for the key.
-pub fn safe_law<S>()
-    ensures { SafeLaw S }
-{}
-
-/// A dictionary that the view shows may be listed.
-pub fn safe_list_law<S>()
-    ensures { SafeListLaw S }
 {}
 
 /// Over each heap in order, and with items of it, each operation may be begun, answers an item or an exception, and leaves a

@@ -5,6 +5,6 @@ mod laws;
 mod listing;
 mod pair;
 
-pub use laws::{dict_law, holds_law, pair_law, safe_law, safe_list_law};
+pub use laws::{dict_law, holds_law, pair_law};
 pub use listing::{Part, list_of};
 pub use pair::{del, get, set};

@@ -1,9 +1,1 @@
-pub mod ObjectCalls
-pub mod ObjectDicts
-pub mod ObjectIters
-pub mod ObjectSteps
-pub mod ObjectLists
-pub mod ObjectContainers
-pub mod ObjectPairs
-pub mod ObjectTexts
-pub mod ObjectTuples
+pub mod BenchSteps

@@ -1,6 +1,0 @@
-use Rattle.std.proofs.Common.{arith}
-use Rattle.obj_tests.proofs.ObjectLists.{list-length}
-use Rattle.obj_tests.proofs.object_tests.growth.peeked.Goals as goal
-
-pub peek_val-requires-clause-within : goal.peek_val-requires-clause-within
-peek_val-requires-clause-within g c = omega (arith, list-length (g.P.Peek.image c.args.image.now) c.args.a.0 c.requires, c.peek_len-n.ensures, c.turns-test.true)

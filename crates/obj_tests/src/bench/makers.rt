@@ -1,0 +1,111 @@
+//! New records over a view whose heap is in order.
+ghost use Rattle.std.specs.Prelude.{◌≡◌, ◌≢◌, ◌≤◌, ◌<◌, ◌^◌, length, pos, ℕ, IfOk, [], ◌∷◌};
+ghost use Rattle.py_data.specs.declared.value.Value.TheVariants.{Int};
+ghost use Rattle.py_data.specs.Range.{range_length};
+ghost use Rattle.py_data.specs.declared.record.TheConstants.{LENGTH_LIMIT};
+ghost use Rattle.py_data.specs.Answers.{IsSequenceKind};
+ghost use Rattle.py_data.specs.Closed.{IsItem};
+ghost use Rattle.py_data.specs.Every.{Every};
+ghost use Rattle.py_data.specs.Made.{rec_of};
+ghost use Rattle.py_data.specs.Order.{FitsAt};
+ghost use Rattle.obj_tests.specs.Bench.{free, Good, GoodWith};
+
+use py_data::{Bytes, Kind, NoMemory, Record, Stop, Value, Values, View};
+use std::alloc::Global;
+
+/// Makes a record that fits.
+fn made<S, V: View<S>>(v: &mut V, stack: &Values, r: &Record) -> Result<Value, Stop>
+    requires good { Good V.sense stack.now v.old }
+    requires fits { (a : ℕ) → FitsAt free (V.sense.heap v.old) a (rec_of r.now) }
+    ensures { IfOk result (λ x. GoodWith V.sense (λ x h. IsItem h x) stack.now x v.new) }
+{
+    let a = v.make(r)?;
+    Ok(Value::Ref(a))
+}
+
+/// A new list, or a new tuple, of values.
+pub fn sequence<S, V: View<S>>(
+    alloc: Global,
+    v: &mut V,
+    stack: &Values,
+    kind: Kind,
+    values: Values,
+) -> Result<Value, Stop>
+    requires good { Good V.sense stack.now v.old }
+    requires kind { IsSequenceKind kind }
+    requires items { Every (IsItem (V.sense.heap v.old)) values }
+    requires limit { length values ≤ LENGTH_LIMIT }
+    ensures { IfOk result (λ x. GoodWith V.sense (λ x h. IsItem h x) stack.now x v.new) }
+{
+    let r = Record {
+        kind,
+        values,
+        bytes: Bytes::new(alloc),
+    };
+    made(v, stack, &r)
+}
+
+/// A new string.
+pub fn text<S, V: View<S>>(
+    alloc: Global,
+    v: &mut V,
+    stack: &Values,
+    bytes: Bytes,
+) -> Result<Value, Stop>
+    requires good { Good V.sense stack.now v.old }
+    requires limit { length bytes ≤ LENGTH_LIMIT }
+    ensures { IfOk result (λ x. GoodWith V.sense (λ x h. IsItem h x) stack.now x v.new) }
+{
+    let r = Record {
+        kind: Kind::Str,
+        values: Values::new(alloc),
+        bytes,
+    };
+    made(v, stack, &r)
+}
+
+/// A new dictionary without pairs.
+pub fn dict<S, V: View<S>>(alloc: Global, v: &mut V, stack: &Values) -> Result<Value, Stop>
+    requires good { Good V.sense stack.now v.old }
+    ensures { IfOk result (λ x. GoodWith V.sense (λ x h. IsItem h x) stack.now x v.new) }
+{
+    let r = Record {
+        kind: Kind::Dict,
+        values: Values::new(alloc),
+        bytes: Bytes::new(alloc),
+    };
+    made(v, stack, &r)
+}
+
+/// The values of a range.
+fn range_values(alloc: Global, start: i64, stop: i64, step: i64) -> Result<Values, NoMemory>
+    ensures { IfOk result (λ vs. vs ≡ Int start ∷ Int stop ∷ Int step ∷ []) }
+{
+    let mut values = Values::new(alloc);
+    values.push(Value::Int(start))?;
+    values.push(Value::Int(stop))?;
+    values.push(Value::Int(step))?;
+    Ok(values)
+}
+
+/// A new range.
+pub fn range<S, V: View<S>>(
+    alloc: Global,
+    v: &mut V,
+    stack: &Values,
+    start: i64,
+    stop: i64,
+    step: i64,
+) -> Result<Value, Stop>
+    requires good { Good V.sense stack.now v.old }
+    requires some { step ≢ pos 0 }
+    requires fits { range_length start stop step < 2 ^ 63 }
+    ensures { IfOk result (λ x. GoodWith V.sense (λ x h. IsItem h x) stack.now x v.new) }
+{
+    let r = Record {
+        kind: Kind::Range,
+        values: range_values(alloc, start, stop, step)?,
+        bytes: Bytes::new(alloc),
+    };
+    made(v, stack, &r)
+}
