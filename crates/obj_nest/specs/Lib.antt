@@ -1,0 +1,4 @@
+pub mod Equal
+pub mod Ordering
+pub mod Truth
+pub mod Text
