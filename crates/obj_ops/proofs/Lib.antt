@@ -1,1 +1,6 @@
 pub mod Lists
+pub mod Powers
+pub mod Loops
+pub mod Nested
+pub mod NumbersHold
+pub mod OperandsHold

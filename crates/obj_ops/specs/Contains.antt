@@ -1,5 +1,5 @@
 -- Whether a value is in another. States `docs/LANGUAGE.md`, "Operators on sequences".
-use Rattle.std.specs.Prelude.{ℕ, suc, ℤ, pos, negsuc, ◌-ℤ◌, ◌%◌, ◌==◌, Bool, true, false, ◌&&◌, List, [], ◌∷◌, Option, Some, None, is_some, int_lt}
+use Rattle.std.specs.Prelude.{ℕ, zero, suc, ℤ, pos, negsuc, ◌-ℤ◌, ◌%◌, ◌==◌, Bool, true, false, ◌&&◌, List, [], ◌∷◌, Option, Some, None, is_some, int_lt}
 use Rattle.py_base.specs.declared.kind.Kind.{Kind}
 use Rattle.py_base.specs.declared.kind.Kind.TheVariants.{Str, Tuple, List as ListKind, Dict, Range}
 use Rattle.py_data.specs.declared.value.Addr.{Addr}
@@ -67,9 +67,10 @@ abbrev pub reaches : ℤ → ℕ → Bool
 reaches (pos way) step = way % step == 0
 reaches (negsuc way) step = false
 
--- some whole steps lead from the start to the number, which is before the stop
+-- some whole steps lead from the start to the number, which is before the stop; a step of 0 leads nowhere
 abbrev pub is_between : ℤ → ℤ → ℤ → ℤ → Bool
-is_between start stop (pos step) i = int_lt i stop && reaches (i -ℤ start) step
+is_between start stop (pos zero) i = false
+is_between start stop (pos (suc step)) i = int_lt i stop && reaches (i -ℤ start) (suc step)
 is_between start stop (negsuc step) i = int_lt stop i && reaches (start -ℤ i) (suc step)
 
 abbrev pub is_among : List Value → Option ℤ → Bool

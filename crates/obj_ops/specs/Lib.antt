@@ -6,4 +6,5 @@ pub mod Binary
 pub mod InPlace
 pub mod Contains
 pub mod Compare
+pub mod HoldsLaws
 pub mod Worked

@@ -1,5 +1,6 @@
 //! Operators on numbers.
 ghost use Rattle.std.specs.Prelude.{◌≡◌, ◌≤◌, MatchResult, pos, unsigned_abs};
+ghost use Rattle.std.specs.Int.{int_pow};
 ghost use Rattle.py_data.specs.declared.stop.Stop.TheVariants.{OutOfMemory};
 ghost use Rattle.py_data.specs.Arithmetic.{floor_quotient, floor_remainder};
 ghost use Rattle.obj_ops.specs.Numbers.{narrowed, divided, raised, calculated, calculated_truths, signed};
@@ -59,7 +60,7 @@ fn remain(alloc: Global, i: i64, j: i64) -> Result<Got<Value>, Stop>
 
 /// A power of a base that is neither 0 nor 1 nor -1. OverflowError for each exponent above 63, before anything is
 /// worked out.
-#[tactic(auto, unfolding(crate::specs::Numbers::raised))]
+#[tactic(auto, using(crate::proofs::Powers::power_wide, crate::proofs::Powers::unfit_wide), unfolding(crate::specs::Numbers::raised))]
 fn power_of(alloc: Global, i: i64, n: u64) -> Result<Got<Value>, Stop>
     requires { 2 ≤ unsigned_abs i }
     ensures { MatchResult result (λ g. g ≡ raised i (pos n)) (λ e. e ≡ OutOfMemory) }
@@ -74,28 +75,29 @@ fn power_of(alloc: Global, i: i64, n: u64) -> Result<Got<Value>, Stop>
 }
 
 /// A power of 0, 1 or -1, whatever the exponent.
-#[tactic(auto, unfolding(crate::specs::Numbers::raised))]
-fn power_of_unit(i: i64, n: u64) -> Got<Value>
+#[tactic(auto, using(crate::proofs::Powers::power_none, crate::proofs::Powers::power_even, crate::proofs::Powers::power_odd))]
+fn power_of_unit(i: i64, n: u64) -> i64
     requires { unsigned_abs i ≤ 1 }
-    ensures { result ≡ raised i (pos n) }
+    ensures { result ≡ int_pow i n }
 {
     if n == 0 {
-        Got::Is(Value::Int(1))
+        1
     } else if n % 2 == 0 {
-        Got::Is(Value::Int(i * i))
+        i.abs()
     } else {
-        Got::Is(Value::Int(i))
+        i
     }
 }
 
 /// A power. ValueError for a negative exponent, OverflowError where 64 bits don't hold it. `0 ** 0` is 1.
+#[tactic(auto, unfolding(crate::specs::Numbers::raised))]
 fn power(alloc: Global, i: i64, n: i64) -> Result<Got<Value>, Stop>
     ensures { MatchResult result (λ g. g ≡ raised i n) (λ e. e ≡ OutOfMemory) }
 {
     if n < 0 {
         raise(alloc, VALUE_ERROR, b"negative exponent")
     } else if i.unsigned_abs() <= 1 {
-        Ok(power_of_unit(i, n as u64))
+        narrow(alloc, power_of_unit(i, n as u64) as i128)
     } else {
         power_of(alloc, i, n as u64)
     }

@@ -171,10 +171,12 @@ fn has_text<S, V: View<S>>(
 fn is_between(start: i64, stop: i64, step: i64, i: i64) -> bool
     ensures { result ≡ is_between start stop step i }
 {
-    if step >= 0 {
+    if step > 0 {
         i < stop && start <= i && i.abs_diff(start) % step.unsigned_abs() == 0
-    } else {
+    } else if step < 0 {
         stop < i && i <= start && start.abs_diff(i) % step.unsigned_abs() == 0
+    } else {
+        false
     }
 }
 

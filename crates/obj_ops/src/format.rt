@@ -1,5 +1,5 @@
 //! The operator `%` with a string on the left.
-ghost use Rattle.std.specs.Prelude.{◌≡◌, ◌+◌, ◌++◌, ◌∷◌, [], IfOk, MatchResult, length, slice_get, option_copied};
+ghost use Rattle.std.specs.Prelude.{◌≡◌, ◌+◌, ◌++◌, ◌∷◌, [], IfOk, MatchResult, false, length, slice_get};
 ghost use Rattle.py_data.specs.declared.stop.Stop.TheVariants.{OutOfMemory};
 ghost use Rattle.py_data.specs.Comparing.{number_of};
 ghost use Rattle.py_data.specs.Sense.{Meets, Safe, IsLive};
@@ -196,6 +196,23 @@ fn piece_at(ps: &Items<Piece>, i: usize) -> Piece
     }
 }
 
+/// Writes the piece at a place behind the text so far.
+fn write_at<S, V: View<S>>(
+    alloc: Global,
+    v: &mut V,
+    roots: Addr,
+    ps: &Items<Piece>,
+    args: &Values,
+    i: usize,
+    out: Bytes,
+) -> Result<Got<Bytes>, Stop>
+    requires live { IsLive V.sense v.old }
+    requires safe { Safe V.sense.partial (piece_row {S = S} roots.0 args.now (piece_at ps.now i) out) (V.sense.heap v.old) }
+    ensures { Meets V.sense (piece_row roots.0 args.now (piece_at ps.now i) out) v.old v.new result }
+{
+    write_piece(alloc, v, roots, args, piece_at(ps, i), out)
+}
+
 /// Writes the pieces from left to right.
 fn write_pieces<S, V: View<S>>(
     alloc: Global,
@@ -211,7 +228,7 @@ fn write_pieces<S, V: View<S>>(
     let mut out = Bytes::new(alloc);
     let n = ps.len();
     'turns: for i in 0..n {
-        let next = write_piece(alloc, v, roots, args, piece_at(ps, i), out)?;
+        let next = write_at(alloc, v, roots, ps, args, i, out)?;
         match next {
             Got::Is(text) => out = text,
             Got::Raise(e) => return Ok(Got::Raise(e)),

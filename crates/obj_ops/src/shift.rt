@@ -1,5 +1,5 @@
 //! Shifts of numbers.
-ghost use Rattle.std.specs.Prelude.{◌≡◌, ◌^◌, MatchResult, pos};
+ghost use Rattle.std.specs.Prelude.{◌≡◌, ◌<◌, ◌^◌, MatchResult, pos};
 ghost use Rattle.py_data.specs.declared.stop.Stop.TheVariants.{OutOfMemory};
 ghost use Rattle.obj_ops.specs.Numbers.{shifted_left, shifted_right};
 
@@ -8,8 +8,17 @@ use py_data::exception::{OVERFLOW_ERROR, VALUE_ERROR, raise};
 use py_data::{Got, Stop, Value};
 use std::alloc::Global;
 
+/// Two to the power of `n`.
+#[tactic(auto, using(crate::proofs::Powers::two_power))]
+fn power_of_two(n: u64) -> u64
+    requires { n < 64 }
+    ensures { result ≡ 2 ^ n }
+{
+    1 << n
+}
+
 /// A number doubled so often. OverflowError where 64 bits don't hold it; 0 stays 0, however often.
-#[tactic(auto, unfolding(crate::specs::Numbers::shifted_left))]
+#[tactic(auto, using(crate::proofs::Powers::shift_none, crate::proofs::Powers::shift_wide), unfolding(crate::specs::Numbers::shifted_left))]
 fn doubled(alloc: Global, i: i64, n: u64) -> Result<Got<Value>, Stop>
     ensures { MatchResult result (λ g. g ≡ shifted_left i (pos n)) (λ e. e ≡ OutOfMemory) }
 {
@@ -18,8 +27,7 @@ fn doubled(alloc: Global, i: i64, n: u64) -> Result<Got<Value>, Stop>
     } else if n >= 64 {
         raise(alloc, OVERFLOW_ERROR, b"integer overflow")
     } else {
-        let factor = 1_u64 << n;
-        narrow(alloc, i as i128 * factor as i128)
+        narrow(alloc, i as i128 * power_of_two(n) as i128)
     }
 }
 
@@ -36,7 +44,7 @@ pub fn shift_left(alloc: Global, i: i64, n: i64) -> Result<Got<Value>, Stop>
 }
 
 /// A number halved so often, and rounded down.
-#[tactic(auto, unfolding(crate::specs::Numbers::shifted_right))]
+#[tactic(auto, using(crate::proofs::Powers::shift_out, crate::proofs::Powers::shift_out_below), unfolding(crate::specs::Numbers::shifted_right))]
 fn halved(i: i64, n: u64) -> Got<Value>
     ensures { result ≡ shifted_right i (pos n) }
 {
