@@ -4,3 +4,4 @@ pub mod Loops
 pub mod Nested
 pub mod NumbersHold
 pub mod OperandsHold
+pub mod Holding

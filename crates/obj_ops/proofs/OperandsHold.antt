@@ -31,12 +31,12 @@ IsAt h k a = IsSequenceKind k × KindIn (h a.0) (λ q. q ≡ k)
 abbrev pub IsText : Heap → Addr → Type 0
 IsText h a = KindIn (h a.0) (λ q. q ≡ Str)
 
-pub IsOperand : Operand → Heap → Type 0
+unfoldable pub IsOperand : Operand → Heap → Type 0
 IsOperand (Sequence k a) h = IsAt h k a
 IsOperand (Text a) h = IsText h a
 IsOperand _ h = Unit {0}
 
-pub IsCase : Heap → Case → Type 0
+unfoldable pub IsCase : Heap → Case → Type 0
 IsCase h (Join k a b) = IsAt h k a × IsAt h k b
 IsCase h (JoinTexts a b) = IsText h a × IsText h b
 IsCase h (Repeat k a n) = IsAt h k a

@@ -61,7 +61,7 @@ fn append<S, V: View<S>>(v: &mut V, a: Addr, values: &Values) -> Result<Got<Valu
 }
 
 /// Puts the items of a value, which are all read before, at the end of a list.
-#[tactic(auto, using(py_data::proofs::Rows::row_steps, py_data::proofs::Steps::call_steps), unfolding(crate::specs::InPlace::extended_row, py_data::specs::Looking::got_row))]
+#[tactic(auto, using(py_data::proofs::Rows::row_steps, py_data::proofs::Steps::call_steps), unfolding(crate::specs::InPlace::extended_row))]
 fn extend<S, V: View<S>>(alloc: Global, v: &mut V, a: Addr, y: Value) -> Result<Got<Value>, Stop>
     requires live { IsLive V.sense v.old }
     requires safe { Safe V.sense.partial (extended_row {S = S} a.0 y) (V.sense.heap v.old) }

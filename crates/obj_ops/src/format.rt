@@ -258,7 +258,7 @@ fn finish<S, V: View<S>>(
 }
 
 /// A new string of the pieces with their arguments.
-#[tactic(auto, using(py_data::proofs::Rows::row_steps, py_data::proofs::Steps::call_steps), unfolding(crate::specs::Format::formatted_row, py_data::specs::Looking::got_row))]
+#[tactic(auto, using(py_data::proofs::Rows::row_steps, py_data::proofs::Steps::call_steps), unfolding(crate::specs::Format::formatted_row))]
 fn format_pieces<S, V: View<S>>(
     alloc: Global,
     v: &mut V,

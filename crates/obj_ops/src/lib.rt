@@ -6,6 +6,7 @@ mod comparing;
 mod contain;
 mod extending;
 mod format;
+mod laws;
 mod operand;
 mod operate;
 mod operator;
@@ -14,5 +15,6 @@ mod shift;
 
 pub use comparing::compare;
 pub use extending::in_place;
+pub use laws::holds_law;
 pub use obj_nest::{equal, order, text, truth};
 pub use operate::{binary, unary};
