@@ -148,12 +148,7 @@ fn has_part<S, V: View<S>>(
 
 /// Whether a string stands within a string. TypeError for what is no string.
 #[tactic(auto, using(py_data::proofs::Rows::row_steps, py_data::proofs::Steps::call_steps), unfolding(crate::specs::Contains::text_in_row))]
-fn has_text<S, V: View<S>>(
-    alloc: Global,
-    v: &mut V,
-    a: Addr,
-    p: Operand,
-) -> Result<Got<bool>, Stop>
+fn has_text<S, V: View<S>>(alloc: Global, v: &mut V, a: Addr, p: Operand) -> Result<Got<bool>, Stop>
     requires live { IsLive V.sense v.old }
     requires safe { Safe V.sense.partial (text_in_row {S = S} a.0 p) (V.sense.heap v.old) }
     ensures { Meets V.sense (text_in_row a.0 p) v.old v.new result }

@@ -13,8 +13,8 @@ ghost use Rattle.obj_ops.specs.Sequences.{values_row, made_row, new_items, joine
 use obj_str::{bytes_of, make_str};
 use py_data::exception::MEMORY_ERROR;
 use py_data::{
-    Addr, Bytes, Fault, Got, Items, Kind, LENGTH_LIMIT, NoMemory, Record, Stop, Value,
-    Values, View, With,
+    Addr, Bytes, Fault, Got, Items, Kind, LENGTH_LIMIT, NoMemory, Record, Stop, Value, Values,
+    View, With,
 };
 use std::alloc::Global;
 
@@ -194,11 +194,7 @@ fn is_short(n: u64, m: usize) -> bool
 }
 
 /// A list so often.
-fn repeat<T: Copy + Drop>(
-    alloc: Global,
-    xs: &[T],
-    n: u64,
-) -> Result<Items<T>, NoMemory>
+fn repeat<T: Copy + Drop>(alloc: Global, xs: &[T], n: u64) -> Result<Items<T>, NoMemory>
     ensures { IfOk result (λ zs. zs ≡ repeat n xs.now) }
 {
     let mut all = Items::new(alloc);
