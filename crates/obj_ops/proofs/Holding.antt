@@ -4,7 +4,7 @@ use Rattle.std.specs.Prelude.{is_some, IfSome}
 use Rattle.std.specs.List.{repeat}
 use Rattle.std.proofs.lemmas.Bool.{leb-true}
 use Rattle.py_base.specs.declared.kind.Kind.{Kind}
-use Rattle.py_base.specs.declared.kind.Kind.TheVariants.{Str, Tuple, List as ListKind, Dict, Range, Cell}
+use Rattle.py_base.specs.declared.kind.Kind.TheVariants.{Str, Tuple, List as ListKind, Dict, Range}
 use Rattle.py_data.specs.declared.value.Addr.{Addr}
 use Rattle.py_data.specs.declared.value.Value.{Value}
 use Rattle.py_data.specs.declared.value.Value.TheVariants.{Unset, None as NoneValue, Bool as BoolValue, Int, Ref, Builtin}
@@ -20,7 +20,7 @@ use Rattle.py_data.specs.Shape.{KindIn}
 use Rattle.py_data.specs.Closed.{IsItem}
 use Rattle.py_data.specs.Comparing.{number_of, is_same}
 use Rattle.py_data.specs.Texts.{got_then}
-use Rattle.py_data.specs.Row.{Row, Ret, Do, Edit, bind}
+use Rattle.py_data.specs.Row.{Row, Ret, bind}
 use Rattle.py_data.specs.Looking.{Looks, until_row, each_row, got_row, size_row, look_row, bytes_row}
 use Rattle.py_data.specs.Order.{Rules, IsOrdered, Extends}
 use Rattle.py_data.specs.Holds.{Holds}
@@ -30,7 +30,7 @@ use Rattle.py_data.proofs.Holding.{holds_ret, holds_bind, holds_weaken}
 use Rattle.py_data.proofs.HoldingCalls.{holds_read, holds_edit, holds_make, holds_looks}
 use Rattle.py_data.proofs.ItemLemmas.{item_at, item_stays, items_stay, fit_items}
 use Rattle.py_data.proofs.Keep.{kind_stays}
-use Rattle.py_data.proofs.Looking.{looks_ret, looks_read, looks_then, looks_held, size_looks, look_looks}
+use Rattle.py_data.proofs.Looking.{looks_ret, looks_then, looks_held, size_looks, look_looks}
 use Rattle.py_data.proofs.Making.{sequence_fits}
 use Rattle.py_data.proofs.Steps.{put-here}
 use Rattle.obj_seq.specs.Gather.{gather_row}
@@ -49,19 +49,19 @@ use Rattle.obj_ops.specs.declared.operator.Comparison.TheVariants.{Equal, NotEqu
 use Rattle.obj_ops.specs.declared.operand.Operand.{Operand}
 use Rattle.obj_ops.specs.declared.operand.Operand.TheVariants.{Text}
 use Rattle.obj_ops.specs.declared.operand.Case.{Case}
-use Rattle.obj_ops.specs.declared.operand.Case.TheVariants.{Numbers, Truths, Join, JoinTexts, Repeat, RepeatText, Format, Wrong}
+use Rattle.obj_ops.specs.declared.operand.Case.TheVariants.{Join, JoinTexts, Repeat, RepeatText, Format}
 use Rattle.obj_ops.specs.declared.format.Piece.{Piece}
 use Rattle.obj_ops.specs.declared.format.Piece.TheVariants.{Byte, Number, Text as TextPiece, Unknown}
 use Rattle.obj_ops.specs.declared.contain.Container.{Container}
 use Rattle.obj_ops.specs.declared.contain.Container.TheVariants.{Items, Pairs, Bytes, Numbers as NumbersOf, Nothing}
 use Rattle.obj_ops.specs.Numbers.{operator_of, sign_of}
-use Rattle.obj_ops.specs.Operands.{operand_row, case_of, list_of}
+use Rattle.obj_ops.specs.Operands.{operand_row, case_of}
 use Rattle.obj_ops.specs.Sequences.{values_row, made_row, new_items, joined_with, joined_items, joined_text_with, joined_texts, times, repeated_items, new_repeated, repeated_text}
 use Rattle.obj_ops.specs.Format.{argument_fault, format_fault, pieces, asked, grown, number_grown, number_in, text_grown, piece_row, piece_at, pieces_row, finished, formatted_row, arguments_row, template_row, format_row}
 use Rattle.obj_ops.specs.Binary.{unary_row, signed_value, calculated_case, case_row, operand_with, operated_row, binary_row}
 use Rattle.obj_ops.specs.InPlace.{push_row, pushed_row, appended_row, extended_row, kept_list, kept_row, changed_row, in_place_row}
 use Rattle.obj_ops.specs.Contains.{container_of, container_row, item_row, goes_on, items_row, part_row, text_in_row, is_among, is_key_there, contained_row, contains_row}
-use Rattle.obj_ops.specs.Compare.{suited, suits, ordered_row, test_row, is_negated, told, compared_row, compare_row, comparison_of}
+use Rattle.obj_ops.specs.Compare.{suited, ordered_row, test_row, is_negated, told, compared_row, compare_row, comparison_of}
 use Rattle.obj_ops.specs.HoldsLaws.{OpsHold}
 use Rattle.obj_ops.proofs.Nested.{IsAny, equal_looks, order_looks, text_looks, new_text_holds}
 use Rattle.obj_ops.proofs.NumbersHold.{case_answer, signed_good, bool_item}

@@ -1,5 +1,5 @@
 -- Lists, and the loop that collects the values of a record.
-use Rattle.std.proofs.Common.{◌≡◌, ℕ, zero, suc, ◌+◌, ◌*◌, ◌<◌, ◌≤◌, List, [], ◌∷◌, ◌++◌, length, take, sym, ap, subst, refl, ◌∙◌, arith, add-one, append_assoc, append-nil, Result, Err}
+use Rattle.std.proofs.Common.{◌≡◌, ℕ, zero, suc, ◌+◌, ◌≤◌, List, [], ◌∷◌, ◌++◌, length, take, sym, ap, subst, refl, ◌∙◌, arith, add-one, append_assoc, append-nil, Result, Err}
 use Rattle.std.specs.List.{repeat}
 use Rattle.std.specs.Result.{IsErrAnd}
 use Rattle.py_data.specs.declared.value.Value.{Value}

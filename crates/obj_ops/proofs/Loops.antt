@@ -1,12 +1,12 @@
 -- The turns of the loops over values, over items that are compared and over the pieces of a template.
-use Rattle.std.proofs.Common.{arith, ◌≡◌, ℕ, ◌+◌, ◌-◌, ◌<◌, ◌≤◌, ◌==◌, Bool, true, false, cond, List, [], ◌∷◌, ◌++◌, length, drop, get_or, Ok, refl, sym, ap, subst, ◌∙◌, append_assoc, append-nil}
+use Rattle.std.proofs.Common.{arith, ◌≡◌, ℕ, ◌+◌, ◌-◌, ◌<◌, ◌≤◌, ◌==◌, Bool, true, false, cond, List, [], ◌∷◌, ◌++◌, length, drop, get_or, Ok, sym, ap, subst, ◌∙◌, append_assoc, append-nil}
 use Rattle.std.proofs.Math.ListN.{drop_of_length-le}
 use Rattle.std.proofs.lemmas.List.{drop_more}
 use Rattle.py_data.specs.declared.value.Value.{Value}
 use Rattle.py_data.specs.declared.value.Value.TheVariants.{Unset}
 use Rattle.py_data.specs.declared.change.Change.TheVariants as change
 use Rattle.py_data.specs.declared.record.Got.TheVariants.{Is}
-use Rattle.py_data.specs.Row.{Row, Do, Edit}
+use Rattle.py_data.specs.Row.{Do, Edit}
 use Rattle.py_data.specs.Looking.{until_row, each_row}
 use Rattle.py_data.specs.Sense.{Sense, Safe, Meets, IsLive}
 use Rattle.py_data.specs.Rest.{Leads}

@@ -1,11 +1,8 @@
 -- Operators on numbers answer numbers, truth values or exceptions.
-use Rattle.std.proofs.Common.{◌≡◌, ℕ, ℤ, pos, negsuc, Bool, true, false, cond, lit<, Option, Some, None}
+use Rattle.std.proofs.Common.{◌≡◌, ℤ, pos, negsuc, Bool, true, false, cond, lit<, Option, Some, None}
 use Rattle.std.specs.Ordering.{int_eq}
-use Rattle.py_data.specs.declared.value.Value.{Value}
 use Rattle.py_data.specs.declared.value.Value.TheVariants.{Unset, Bool as BoolValue, Int}
-use Rattle.py_data.specs.declared.record.Got.{Got}
 use Rattle.py_data.specs.declared.record.Got.TheVariants.{Is, Raise}
-use Rattle.py_data.specs.Fault.{operand_fault}
 use Rattle.py_data.specs.Heap.{Heap}
 use Rattle.py_data.specs.Closed.{IsItem}
 use Rattle.py_data.specs.Shape.{bit}

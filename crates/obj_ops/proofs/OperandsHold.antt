@@ -1,5 +1,5 @@
 -- What operands and cases are over a heap.
-use Rattle.std.proofs.Common.{◌≡◌, ℕ, ℤ, Bool, true, false, Option, Some, None, refl, sym, subst}
+use Rattle.std.proofs.Common.{◌≡◌, ℤ, Bool, true, false, Option, Some, None, refl, sym, subst}
 use Rattle.std.specs.Prelude.{IfSome, is_some}
 use Rattle.py_data.specs.declared.value.Addr.{Addr}
 use Rattle.py_data.specs.declared.value.Value.{Value}
@@ -10,9 +10,9 @@ use Rattle.py_data.specs.Heap.{Rec, Heap}
 use Rattle.py_data.specs.Shape.{KindIn}
 use Rattle.py_data.specs.Closed.{IsItem}
 use Rattle.py_data.specs.Answers.{IsSequenceKind}
-use Rattle.py_data.specs.Order.{Rules, IsOrdered, Extends}
+use Rattle.py_data.specs.Order.{Rules, Extends}
 use Rattle.py_data.specs.Holds.{Holds}
-use Rattle.py_data.specs.Row.{Row, Ret}
+use Rattle.py_data.specs.Row.{Ret}
 use Rattle.py_data.proofs.Keep.{kind_stays}
 use Rattle.py_data.proofs.Holding.{holds_ret}
 use Rattle.py_data.proofs.HoldingCalls.{holds_read}
@@ -21,8 +21,8 @@ use Rattle.obj_ops.specs.declared.operator.Operator.TheVariants.{Add, Multiply, 
 use Rattle.obj_ops.specs.declared.operand.Operand.{Operand}
 use Rattle.obj_ops.specs.declared.operand.Operand.TheVariants.{Whole, Truth, Text, Sequence, Other}
 use Rattle.obj_ops.specs.declared.operand.Case.{Case}
-use Rattle.obj_ops.specs.declared.operand.Case.TheVariants.{Numbers, Truths, Join, JoinTexts, Repeat, RepeatText, Format, Wrong}
-use Rattle.obj_ops.specs.Operands.{operand_of, operand_row, number_of, truth_of, tuple_of, list_of, both_numbers, both_truths, numbers_case, repeat_case, repeat_text_case, join_case, join_with, join_text_with, add_case, times_case, multiply_case, remainder_case, case_of}
+use Rattle.obj_ops.specs.declared.operand.Case.TheVariants.{Join, JoinTexts, Repeat, RepeatText, Format}
+use Rattle.obj_ops.specs.Operands.{operand_of, operand_row, number_of, truth_of, tuple_of, list_of, both_numbers, both_truths, numbers_case, repeat_case, repeat_text_case, join_case, join_with, join_text_with, times_case, case_of}
 
 -- a sequence of that kind stands at an address; a string does
 abbrev pub IsAt : Heap → Kind → Addr → Type 0

@@ -11,7 +11,7 @@ use Rattle.obj_ops.specs.declared.operator.Operator.{Operator}
 use Rattle.obj_ops.specs.declared.operator.Sign.{Sign}
 use Rattle.obj_ops.specs.declared.operand.Operand.{Operand}
 use Rattle.obj_ops.specs.declared.operand.Case.{Case}
-use Rattle.obj_ops.specs.declared.operand.Case.TheVariants.{Numbers, Truths, Join, JoinTexts, Repeat, RepeatText, Format, Wrong}
+use Rattle.obj_ops.specs.declared.operand.Case.TheVariants.{Numbers, Truths, Join, JoinTexts, Repeat, RepeatText, Format}
 use Rattle.obj_ops.specs.Numbers.{operator_of, sign_of, calculated, calculated_truths, signed}
 use Rattle.obj_ops.specs.Operands.{operand_row, case_of}
 use Rattle.obj_ops.specs.Sequences.{joined_items, joined_texts, repeated_items, repeated_text, times}

@@ -1,13 +1,13 @@
 -- Operators worked by hand. Expected values are Python 2.7's, but where a rule is marked (own). States `docs/LANGUAGE.md`,
 -- "Arithmetic", "Operators on sequences" and "The % operator".
-use Rattle.std.specs.Prelude.{◌≡◌, ℤ, pos, negsuc, true, false, None, Some, [], ◌∷◌, refl, codes}
+use Rattle.std.specs.Prelude.{◌≡◌, pos, negsuc, true, false, None, Some, [], ◌∷◌, refl, codes}
 use Rattle.py_base.specs.Numbers.{binary_number, unary_number, compare_number}
 use Rattle.py_base.specs.declared.kind.Kind.TheVariants.{Tuple, List as ListKind}
 use Rattle.py_data.specs.declared.value.Value.TheVariants.{Int, Bool as BoolValue}
 use Rattle.py_data.specs.declared.record.Got.TheVariants.{Is, Raise}
 use Rattle.obj_ops.specs.declared.operator.Operator.TheVariants.{Or, Xor, And, ShiftLeft, ShiftRight, Add, Subtract, Multiply, Divide, Remainder, Power}
 use Rattle.obj_ops.specs.declared.operator.Sign.TheVariants.{Minus, Invert}
-use Rattle.obj_ops.specs.declared.operator.Comparison.TheVariants.{NotIn, IsNot, GreaterEqual}
+use Rattle.obj_ops.specs.declared.operator.Comparison.TheVariants.{NotIn, IsNot}
 use Rattle.obj_ops.specs.declared.operand.Operand.TheVariants.{Whole, Truth, Text, Sequence, Other}
 use Rattle.obj_ops.specs.declared.operand.Case.TheVariants.{Truths, Repeat, RepeatText, Format, Wrong}
 use Rattle.obj_ops.specs.declared.format.Piece.TheVariants.{Byte, Number, Text as TextPiece, Unknown}

@@ -1,4 +1,4 @@
-use Rattle.std.proofs.Common.{arith, ◌≡◌, ◌-◌, ◌<◌, sym, ◌∙◌, false, Ok, Err}
+use Rattle.std.proofs.Common.{arith, sym, ◌∙◌, false}
 use Rattle.py_data.specs.declared.record.Got.TheVariants.{Is}
 use Rattle.py_data.proofs.Steps.{stop-as}
 use Rattle.py_data.proofs.Turns.{until_safe, until_stop, until_more, until_found, until_end}

@@ -1,6 +1,6 @@
-use Rattle.std.proofs.Common.{arith, ◌≡◌, ◌++◌, ◌∷◌, [], ◌+◌, ◌==◌, Bool, true, false, drop, get_or, sym, ap, subst, ◌∙◌}
-use Rattle.obj_ops.specs.declared.format.Piece.TheVariants.{Byte, Unknown}
-use Rattle.obj_ops.specs.Format.{pieces, takes}
+use Rattle.std.proofs.Common.{arith, ◌++◌, ◌∷◌, [], ◌+◌, ◌==◌, true, false, drop, get_or, ap, ◌∙◌}
+use Rattle.obj_ops.specs.declared.format.Piece.TheVariants.{Byte}
+use Rattle.obj_ops.specs.Format.{takes}
 use Rattle.obj_ops.proofs.Loops.{piece_behind, piece_begun, piece_plain, pieces_as, pieces_end, pieces_end_behind, takes_most, flag_as}
 use Rattle.obj_ops.proofs.format.pieces.Goals as goal
 use Rattle.obj_ops.proofs.format.pieces.Goals.{then-behind+in_ok-push, else-behind+then-x-eq37, else-behind+else-x-eq37+in_ok-push-2, then-behind-2+in_ok-push-3, else-behind-2}

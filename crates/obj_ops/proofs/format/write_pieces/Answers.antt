@@ -1,4 +1,4 @@
-use Rattle.std.proofs.Common.{arith, ◌≡◌, ℕ, ◌-◌, ◌<◌, List, subst, Ok}
+use Rattle.std.proofs.Common.{arith, ℕ, List, subst, Ok}
 use Rattle.py_data.specs.declared.record.Got.{Got}
 use Rattle.py_data.specs.Row.{Row}
 use Rattle.py_data.specs.Sense.{Meets}

@@ -1,4 +1,4 @@
-use Rattle.std.proofs.Common.{arith, ◌≡◌, ◌<◌, ap, sym, ◌∙◌, ◌++◌, ◌∷◌, [], length, take}
+use Rattle.std.proofs.Common.{arith, ap, sym, ◌∙◌, ◌++◌, ◌∷◌, [], take}
 use Rattle.std.proofs.lemmas.List.{take_more}
 use Rattle.py_data.specs.declared.value.Value.TheVariants.{Unset}
 use Rattle.py_data.specs.Heap.{at}

@@ -1,5 +1,4 @@
 use Rattle.std.proofs.Common.{arith, ◌≡◌, ap, sym, ◌∙◌, ◌++◌, length}
-use Rattle.std.specs.List.{repeat}
 use Rattle.std.proofs.lemmas.Grind.{common_steps}
 use Rattle.obj_ops.proofs.Lists.{repeat_empty, repeat_next}
 use Rattle.obj_ops.proofs.sequence.repeat.Goals as goal
