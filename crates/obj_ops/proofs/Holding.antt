@@ -146,19 +146,19 @@ module _ {S : Type 0} (rules : Rules) (stands : Heap → S → Type 0) where
   join_texts_hold a b h order i j =
       holds_bind rules stands IsAny IsAnswer (bytes_row a.0) (λ xs. joined_text_with xs b.0) h order (bytes_hold a.0 h i)
       (λ xs h1 order1 x1 gx. holds_bind rules stands IsAny IsAnswer (bytes_row b.0) (λ ys. new_text (xs ++ ys)) h1 order1 (bytes_hold b.0 h1 (kind_stays h h1 x1 b.0 (λ z. z ≡ Str) j))
-      (λ ys h2 order2 x2 gy. new_text_holds rules stands h2 (xs ++ ys)))
+      (λ ys h2 order2 x2 gy. new_text_holds rules stands h2 (xs ++ ys) order2))
 
-  repeated_holds : (n : ℕ) (bs : List ℕ) (h : Heap) → Good (new_repeated n bs) h
+  repeated_holds : (n : ℕ) (bs : List ℕ) (h : Heap) → IsOrdered rules h → Good (new_repeated n bs) h
   unfolding new_repeated
-  repeated_holds n bs h = by (leb (n * length bs) LENGTH_LIMIT)
+  repeated_holds n bs h order = by (leb (n * length bs) LENGTH_LIMIT)
     where
       by : (b : Bool) → Good (cond b (new_text (repeat n bs)) (Ret (Raise memory_fault))) h
-      by true = new_text_holds rules stands h (repeat n bs)
+      by true = new_text_holds rules stands h (repeat n bs) order
       by false = holds_ret rules stands IsAnswer (Raise memory_fault) h (lit< tt, lit< tt, tt)
 
   repeat_text_holds : (a : Addr) (n : ℕ) (h : Heap) → IsOrdered rules h → IsText h a → Good (repeated_text a.0 n) h
   unfolding repeated_text
-  repeat_text_holds a n h order i = holds_bind rules stands IsAny IsAnswer (bytes_row a.0) (new_repeated n) h order (bytes_hold a.0 h i) (λ bs h1 order1 x1 g. repeated_holds n bs h1)
+  repeat_text_holds a n h order i = holds_bind rules stands IsAny IsAnswer (bytes_row a.0) (new_repeated n) h order (bytes_hold a.0 h i) (λ bs h1 order1 x1 g. repeated_holds n bs h1 order1)
 
   -- ---- templates
   grown_good : (text more : List ℕ) (h : Heap) → IsGot IsAny (grown text more) h
@@ -211,19 +211,19 @@ module _ {S : Type 0} (rules : Rules) (stands : Heap → S → Type 0) where
   unfolding pieces_row
   pieces_hold roots ps args h order i = each_holds roots ps args (length ps) 0 [] h order i
 
-  finished_holds : (ps : List Piece) (args : List Value) (text : List ℕ) (h : Heap) → Good (finished ps args text) h
+  finished_holds : (ps : List Piece) (args : List Value) (text : List ℕ) (h : Heap) → IsOrdered rules h → Good (finished ps args text) h
   unfolding finished
-  finished_holds ps args text h = by (asked ps == length args)
+  finished_holds ps args text h order = by (asked ps == length args)
     where
       by : (b : Bool) → Good (cond b (new_text text) (Ret (Raise argument_fault))) h
-      by true = new_text_holds rules stands h text
+      by true = new_text_holds rules stands h text order
       by false = holds_ret rules stands IsAnswer (Raise argument_fault) h (lit< tt, lit< tt, tt)
 
   formatted_holds : (roots : ℕ) (ps : List Piece) (args : List Value) (h : Heap) → IsOrdered rules h → Every (IsItem h) args → Good (formatted_row roots ps args) h
   unfolding formatted_row
   formatted_holds roots ps args h order i =
       holds_bind rules stands (IsGot IsAny) IsAnswer (pieces_row roots ps args) (got_row (finished ps args)) h order (pieces_hold roots ps args h order i)
-      (λ g h1 order1 x1 t. got_holds IsAny (λ v h. IsItem h v) (finished ps args) g h1 t (λ text u. finished_holds ps args text h1))
+      (λ g h1 order1 x1 t. got_holds IsAny (λ v h. IsItem h v) (finished ps args) g h1 t (λ text u. finished_holds ps args text h1 order1))
 
   arguments_hold : (b : Option Addr) (y : Value) (h : Heap) → IsOrdered rules h → IfSome b (IsAt h Tuple) → IsItem h y → Holds rules stands AreItems (arguments_row b y) h
   unfolding arguments_row

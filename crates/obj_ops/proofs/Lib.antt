@@ -1,7 +1,9 @@
 pub mod Lists
 pub mod Powers
 pub mod Loops
+pub mod Faults
 pub mod Nested
 pub mod NumbersHold
 pub mod OperandsHold
 pub mod Holding
+pub mod SteadyRows

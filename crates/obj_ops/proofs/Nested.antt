@@ -24,9 +24,8 @@ use Rattle.obj_nest.specs.Equal.{equal_row}
 use Rattle.obj_nest.specs.Ordering.{order_row}
 use Rattle.obj_nest.specs.Text.{text_row}
 
--- an answer of any kind, or an exception that can be made
-abbrev pub IsAny : {A : Type 0} → A → Heap → Type 0
-IsAny a h = Unit {0}
+
+pub use Rattle.obj_ops.proofs.Faults.{IsAny}
 
 module _ (S : Type 0) (rules : Rules) (h : Heap) (order : IsOrdered rules h) where
   pub equal_looks : (x y : Value) → IsItem h x → IsItem h y → Looks {S = S} (λ g. IsGot IsAny g h) (equal_row x y) h
@@ -42,33 +41,12 @@ module _ (S : Type 0) (rules : Rules) (h : Heap) (order : IsOrdered rules h) whe
   text_looks roots x quoted i = looks_ret S (λ g. IsGot IsAny g h) (Raise depth_fault) h (lit< tt, lit< tt, tt)
 
 -- a new string
-pub new_text_holds : {S : Type 0} (rules : Rules) (stands : Heap → S → Type 0) (h : Heap) (bs : List ℕ) → Holds rules stands IsAnswer (new_text bs) h
+pub new_text_holds : {S : Type 0} (rules : Rules) (stands : Heap → S → Type 0) (h : Heap) (bs : List ℕ) → IsOrdered rules h → Holds rules stands IsAnswer (new_text bs) h
 unfolding new_text
-new_text_holds rules stands h bs = by (leb (length bs) LENGTH_LIMIT) refl
+new_text_holds rules stands h bs order = by (leb (length bs) LENGTH_LIMIT) refl
   where
     by : (b : Bool) → leb (length bs) LENGTH_LIMIT ≡ b → Holds rules stands IsAnswer (cond b (made_text bs) (Ret (Raise memory_fault))) h
     by true e =
         holds_make rules stands IsAnswer (new_rec Str [] bs) (λ a. Ret (Is (Ref (record { 0 = a })))) h (λ a. text_fits rules h a bs (leb-true (length bs) LENGTH_LIMIT e))
         (λ a h1 order x f item. holds_ret rules stands IsAnswer (Is (Ref (record { 0 = a }))) h1 item)
     by false e = holds_ret rules stands IsAnswer (Raise memory_fault) h (lit< tt, lit< tt, tt)
-
-module _ (S : Type 0) where
-  pub equal_steady : (x y : Value) → Steady {S = S} false (equal_row x y)
-  unfolding equal_row Steady
-  equal_steady x y = tt
-
-  pub order_steady : (x y : Value) → Steady {S = S} false (order_row x y)
-  unfolding order_row Steady
-  order_steady x y = tt
-
-  pub text_steady : (roots : ℕ) (x : Value) (quoted : Bool) → Steady {S = S} false (text_row roots x quoted)
-  unfolding text_row Steady
-  text_steady roots x quoted = tt
-
-  pub new_text_steady : (bs : List ℕ) → Steady {S = S} false (new_text bs)
-  unfolding new_text Steady
-  new_text_steady bs = by (leb (length bs) LENGTH_LIMIT)
-    where
-      by : (b : Bool) → Steady {S = S} false (cond b (made_text bs) (Ret (Raise memory_fault)))
-      by true = (refl, λ a. tt)
-      by false = tt
