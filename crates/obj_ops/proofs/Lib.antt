@@ -7,3 +7,4 @@ pub mod NumbersHold
 pub mod OperandsHold
 pub mod Holding
 pub mod SteadyRows
+pub mod AnswerLaws

@@ -7,4 +7,5 @@ pub mod InPlace
 pub mod Contains
 pub mod Compare
 pub mod HoldsLaws
+pub mod Laws
 pub mod Worked

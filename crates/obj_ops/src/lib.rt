@@ -15,6 +15,6 @@ mod shift;
 
 pub use comparing::compare;
 pub use extending::in_place;
-pub use laws::{holds_law, steady_law};
+pub use laws::{division_law, holds_law, join_law, steady_law};
 pub use obj_nest::{equal, order, text, truth};
 pub use operate::{binary, unary};
