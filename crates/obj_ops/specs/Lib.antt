@@ -1,0 +1,11 @@
+pub mod Numbers
+pub mod Operands
+pub mod Sequences
+pub mod Format
+pub mod Binary
+pub mod InPlace
+pub mod Contains
+pub mod Compare
+pub mod HoldsLaws
+pub mod Laws
+pub mod Worked
