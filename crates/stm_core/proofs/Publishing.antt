@@ -29,7 +29,7 @@ use Rattle.stm_core.specs.Passes.{met, doom_met, doom_one, doom_readers}
 use Rattle.stm_core.specs.Whole.{Whole}
 use Rattle.stm_core.specs.Advance.{core_with}
 use Rattle.stm_core.specs.SaneCore.{SaneCore}
-use Rattle.stm_core.specs.Begun.{IsCount}
+use Rattle.stm_core.specs.Begun.{CountsSteps}
 use Rattle.stm_core.specs.Committed.{Beaten, CommitEnds, CommitOf, Committed}
 use Rattle.stm_core.proofs.Publish.{get_set_other}
 use Rattle.stm_core.proofs.Fits.{get_set_same, sum_set, seen_image}
@@ -140,7 +140,7 @@ dooms_keep {S} k x (j ∷ js) c =
     one (Running y) = met_keep y (met x.changed y.looked)
 
 -- the count of the history's steps, with one turn more
-pub count_more : (spent : ℕ) (ts : List Turn) (t : Turn) → IsCount spent ts → IsCount (min (spent + t.steps) (2 ^ 64 - 1)) (ts ++ t ∷ [])
+pub count_more : (spent : ℕ) (ts : List Turn) (t : Turn) → CountsSteps spent ts → CountsSteps (min (spent + t.steps) (2 ^ 64 - 1)) (ts ++ t ∷ [])
 count_more spent ts t e =
     let s = sum_by-append (λ (u : Turn). u.steps) ts (t ∷ []) in
     grind (arith, e, s)

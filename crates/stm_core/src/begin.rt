@@ -33,7 +33,7 @@ impl<'p, C: Client, S: SegStore> Engine<'p, C, S> {
     ghost use Rattle.stm_core.specs.Books.{one_running, core_of};
     ghost use Rattle.stm_core.specs.Whole.{Whole, SameShape};
     ghost use Rattle.stm_core.specs.SaneCore.{SaneCore};
-    ghost use Rattle.stm_core.specs.Begun.{IsCount, Begun, IsFresh};
+    ghost use Rattle.stm_core.specs.Begun.{CountsSteps, Begun, IsFresh};
 
     /// A transaction of the thread, as it begins, and room for its turn and a conflict.
     fn make_work(&mut self, t: u32) -> Result<Work<C::State>, NoMemory>
@@ -77,6 +77,7 @@ impl<'p, C: Client, S: SegStore> Engine<'p, C, S> {
         ensures whole { Whole (S.meaning self.new.store) self.new.books }
         ensures rest { self.new ≡ record self.old { store = self.new.store; books = self.new.books } }
         ensures shape { SameShape (S.meaning self.old.store) (S.meaning self.new.store) }
+        ensures reserved { S.reserved self.new.store ≡ S.reserved self.old.store }
         ensures core { (w : World) → core_of w (S.meaning self.new.store) self.new.books ≡ begun_at k work.thread work.state (core_of w (S.meaning self.old.store) self.old.books) }
     {
         self.store.known();
@@ -94,13 +95,14 @@ impl<'p, C: Client, S: SegStore> Engine<'p, C, S> {
     pub fn begin(&mut self, k: u8, t: u32, budget: u64) -> Result<(), BeginError>
         requires segment { k < (S.meaning self.old.store).segments }
         requires whole { Whole (S.meaning self.old.store) self.old.books }
-        requires count { IsCount self.old.spent self.old.books.history.entries }
+        requires count { CountsSteps self.old.spent self.old.books.history.entries }
         requires sane { (most : ℕ) × SaneCore (C.prog self.old.client.now) (C.sound self.old.client.now) most (S.meaning self.old.store) self.old.books }
         ensures whole { Whole (S.meaning self.new.store) self.new.books }
         ensures store { IsStore (S.reserved self.new.store) (S.meaning self.new.store) }
-        ensures count { IsCount self.new.spent self.new.books.history.entries }
+        ensures count { CountsSteps self.new.spent self.new.books.history.entries }
         ensures rest { self.new ≡ record self.old { store = self.new.store; books = self.new.books } }
         ensures shape { SameShape (S.meaning self.old.store) (S.meaning self.new.store) }
+        ensures reserved { S.reserved self.new.store ≡ S.reserved self.old.store }
         ensures begun { (w : World) → Begun (C.prog self.old.client.now) k t budget result (core_of w (S.meaning self.old.store) self.old.books) (core_of w (S.meaning self.new.store) self.new.books) }
         ensures sane { (most : ℕ) → SaneCore (C.prog self.old.client.now) (C.sound self.old.client.now) most (S.meaning self.old.store) self.old.books
             → SaneCore (C.prog self.old.client.now) (C.sound self.old.client.now) most (S.meaning self.new.store) self.new.books }
