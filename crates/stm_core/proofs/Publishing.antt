@@ -213,7 +213,7 @@ mem_range a (suc n) j le lt = elim (cases_Bool (eqb j a)) [
 ]
 
 module _ {S : Type 0} (p : Prog S) (start : Machine S) (most k n : ℕ) (c c1 : CoreState S) (g : Good p start most c) (within : (j : ℕ) (y : Transaction S) → c.segments j ≡ Running y → j < n) where
-  beaten_stands : (x : Transaction S) (f : Conflict) → c.segments k ≡ Running x → Beaten k x f c → IsStanding p c f × (with_conflict f (with_segment k Idle c) ≡ with_conflict f (with_segment f.writer.segment Idle c)) × (f.lost ≡ 0)
+  pub beaten_stands : (x : Transaction S) (f : Conflict) → c.segments k ≡ Running x → Beaten k x f c → IsStanding p c f × (with_conflict f (with_segment k Idle c) ≡ with_conflict f (with_segment f.writer.segment Idle c)) × (f.lost ≡ 0)
   beaten_stands x f is h =
       let r = met_some x.changed h.reader.looked f.at.0 h.seen in
       let ww : f.writer ≡ side k x = ap (λ (z : Conflict). z.writer) h.is in

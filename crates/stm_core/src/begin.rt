@@ -8,19 +8,25 @@ use crate::threads::Started;
 use lock_run::Client;
 use py_data::{Items, NoMemory};
 use seg_store::SegStore;
+use thiserror::Error;
 
 /// Why no transaction begins. The first of these that holds is told.
-#[derive(Clone, Copy, Debug, Drop, PartialEq, Eq)]
+#[derive(Clone, Copy, Debug, Drop, Error, PartialEq, Eq)]
 pub enum BeginError {
     /// The core goes on no more, for this cause.
+    #[error("the core goes on no more")]
     Over(Cause),
     /// That segment, from 0, has a transaction in hand, or is doomed.
+    #[error("segment {0} has something in hand")]
     Busy(u8),
     /// No thread has that number; or it has ended, a segment runs it, or it waits.
+    #[error("thread {0} is not ready")]
     NotReady(u32),
     /// The history has as many steps as the budget, or 2^64 - 1 transactions were begun.
+    #[error("the budget is used up")]
     AtBudget,
     /// There was no memory.
+    #[error("out of memory")]
     OutOfMemory,
 }
 
