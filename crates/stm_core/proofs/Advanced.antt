@@ -1,5 +1,5 @@
 -- A call of advance is a list of moves, and leaves all but its own segment alone.
-use Rattle.std.proofs.Common.{◌≡◌, ◌≢◌, ◌<◌, ℕ, false, true, Bool, cond, eqb, List, [], ◌∷◌, ◌++◌, map, Result, Ok, Err, All, refl, sym, ◌∙◌, ap, subst, inl, inr, append-nil, append_assoc, arith}
+use Rattle.std.proofs.Common.{◌≡◌, ◌≢◌, ℕ, suc, false, true, Bool, cond, eqb, List, [], ◌∷◌, ◌++◌, map, Result, Ok, Err, All, refl, sym, ◌∙◌, ap, subst, inl, inr, append-nil, append_assoc, arith}
 use Rattle.std.proofs.lemmas.Bool.{both_ways, ne_eqb, cond-false}
 use Rattle.std.proofs.lemmas.List.Elements.{All-append, All-cons, All-nil, All-head, All-tail, All-weaker, Contains-append_left, Contains-append_right, Contains-push}
 use Rattle.py_data.specs.declared.stop.Side.{Side}
@@ -21,7 +21,7 @@ use Rattle.stm_core.specs.declared.cause.Cause.TheVariants.{Full, ReadFault, Wri
 use Rattle.py_data.specs.Sight.{opened}
 use Rattle.lock_run.proofs.StepsMirror.{steps_grows}
 use Rattle.stm_core.proofs.Afresh.{reaches_afresh, room_of_heap}
-use Rattle.stm_core.specs.CoreState.{Transaction, Segment, Idle, Doomed, Running, CoreState, sight_of, set_segment, with_segment, with_conflict, committed, core_new}
+use Rattle.stm_core.specs.CoreState.{IsShort, Transaction, Segment, Idle, Doomed, Running, CoreState, sight_of, set_segment, with_segment, with_conflict, committed, core_new}
 use Rattle.stm_core.specs.Conflict.{loser, IsStanding}
 use Rattle.stm_core.specs.Good.{Stands, Good}
 use Rattle.stm_core.specs.Moves.{ComesToWant, IsMetBy, Move, Begins, Drops, Dooms, Loses, Goes, Rests, Commits, Keeps, Next, Follows}
@@ -34,7 +34,7 @@ use Rattle.stm_core.proofs.TwoPasses.{follows_append}
 use Rattle.stm_core.proofs.Kept.{set_cases, good_after}
 
 -- a transaction that stands, and whose next step comes to a call that wants words, comes to it from the committed state
-comes_to_want : {S : Type 0} (p : Prog S) (most : ℕ) (u : CoreState S) (x : Transaction S) (n : ℕ) → (st : Stands p u.image u.threads u.world x) → x.solo ≡ false → x.steps < most → p.life x.state ≡ Lives
+comes_to_want : {S : Type 0} (p : Prog S) (most : ℕ) (u : CoreState S) (x : Transaction S) (n : ℕ) → (st : Stands p u.image u.threads u.world x) → x.solo ≡ false → IsShort most (suc x.steps) → p.life x.state ≡ Lives
     → Reaches (p.row x.state) (sight_of u.image u.world x) (AsksRoom n) → ComesToWant p most u.image u.world st.before n
 comes_to_want {S} p most u x n st mortal short lives r =
     let grown = steps_grows p x.steps st.before (opened S u.image u.world) x.state st.sight st.steps in
@@ -45,7 +45,7 @@ comes_to_want {S} p most u x n st mortal short lives r =
       short = short;
       steps = st.steps;
       lives = lives;
-      wants = reaches_afresh (p.row x.state) (sight_of u.image u.world x) st.sight (AsksRoom n) (room_of_heap n) (λ i a. st.view a i) (grown.world (st.quiet mortal) ∙ sym (cond-false x.solo x.world u.world mortal)) r;
+      wants = reaches_afresh (p.row x.state) (sight_of u.image u.world x) st.sight (AsksRoom n) (room_of_heap n) (λ i a. st.shows.view a i) (grown.world (st.shows.quiet mortal) ∙ sym (cond-false x.solo x.world u.world mortal)) r;
     }
 
 module _ {S : Type 0} (p : Prog S) (most k : ℕ) where
@@ -178,7 +178,7 @@ module _ {S : Type 0} (p : Prog S) (most k : ℕ) where
   one_led mv c c1 o n = record { moves = mv ∷ []; follows = (c1, n, refl); own = All-cons (IsOwn k) mv [] o (All-nil (IsOwn k)) }
 
   -- what comes after the steps
-  ends_led : (start : Machine S) (reserved limit : ℕ) (u : CoreState S) (x : Transaction S) (r : Result Advance AdvanceError) (c1 : CoreState S) → Good p start most u → u.segments k ≡ Running x → x.solo ≡ false → ((e : AdvanceError) → r ≡ Err e → x.steps < most) → Ends p k reserved limit u x r c1 → Led p most k u c1
+  ends_led : (start : Machine S) (reserved limit : ℕ) (u : CoreState S) (x : Transaction S) (r : Result Advance AdvanceError) (c1 : CoreState S) → Good p start most u → u.segments k ≡ Running x → x.solo ≡ false → ((e : AdvanceError) → r ≡ Err e → IsShort most (suc x.steps)) → Ends p k reserved limit u x r c1 → Led p most k u c1
   ends_led start reserved limit u x (Ok (Ran n)) c1 g runs mortal room h = none_led u c1 h.1
   ends_led start reserved limit u x (Ok (Waits n)) c1 g runs mortal room h = none_led u c1 h.2
   ends_led start reserved limit u x (Ok (Ended n)) c1 g runs mortal room h = none_led u c1 h.1

@@ -35,16 +35,16 @@ advance_stands {S} c h ts w x x' sx v =
     let base : Frame S = plain S (overlay h x.changes) (world_after w x) in
     let fr : Frame S = record base { unseen = x.looked } in
     let m : Mirrors fr s sx.sight = record {
-      inside = λ a e. sx.view a;
-      outside = λ a e. sx.view a;
-      looked = sx.looked;
+      inside = λ a e. sx.shows.view a;
+      outside = λ a e. sx.shows.view a;
+      looked = sx.shows.looked;
       looked_back = λ a e. or_left (x.looked a) (sx.sight.looked a) e;
-      touched = sx.touched;
-      used = λ e. elim (cases_Bool x.solo) [ inl y ↦ y | inr n ↦ absurd (both_ways sx.sight.used (sx.quiet n) e) ];
-      world_used = λ e. sx.world_is e ∙ sym (cond-true x.solo x.world w e);
-      world_left = λ e. g.world (sx.quiet e) ∙ sym (cond-false x.solo x.world w e);
-      made = sym sx.made;
-      started = sym sx.started;
+      touched = sx.shows.touched;
+      used = λ e. elim (cases_Bool x.solo) [ inl y ↦ y | inr n ↦ absurd (both_ways sx.sight.used (sx.shows.quiet n) e) ];
+      world_used = λ e. sx.shows.world_is e ∙ sym (cond-true x.solo x.world w e);
+      world_left = λ e. g.world (sx.shows.quiet e) ∙ sym (cond-false x.solo x.world w e);
+      made = sym sx.shows.made;
+      started = sym sx.shows.started;
     } in
     let ag : Agrees (overlay h x.changes) (world_after w x) s u = record { looked = λ a r e is f. is; fresh = λ a e f is. is; world = λ e f. refl } in
     let z = does_mirror fr (c.row x.state) s sx.sight u (v.step.outcome, x'.state) v.step.does m ag in
@@ -57,19 +57,21 @@ advance_stands {S} c h ts w x x' sx v =
       lives = sx.lives;
       steps = subst (λ n. Steps c n sx.before (opened S h w) x'.state t) (sym v.steps)
           (x.state, sx.sight, sx.steps, record { lives = v.step.lives; outcome = v.step.outcome; goes_on = v.step.goes_on; does = z.1 });
-      view = λ a. elim (cases_Bool (u.touched a)) [
-        | inl y ↦ r.inside a y ∙ v.view a
-        | inr n ↦ r.outside a n ∙ (sym (gu.same a n) ∙ v.view a)
-      ];
-      made = sym r.made ∙ v.made;
-      started = sym r.started ∙ v.started;
-      looked = λ a e. v.looked a (r.looked a e);
-      touched = λ a e. v.touched a (r.touched a e);
-      within = v.within;
-      locked = v.locked;
-      unused = v.unused;
-      world_is = λ e. let e' : x.solo ≡ true = sym v.solo ∙ e in r.world_used (gu.used e') ∙ v.world_is e';
-      quiet = λ e. back t.used u.used r.used (v.quiet (sym v.solo ∙ e));
+      shows = record {
+        view = λ a. elim (cases_Bool (u.touched a)) [
+          | inl y ↦ r.inside a y ∙ v.shows.view a
+          | inr n ↦ r.outside a n ∙ (sym (gu.same a n) ∙ v.shows.view a)
+        ];
+        made = sym r.made ∙ v.shows.made;
+        started = sym r.started ∙ v.shows.started;
+        looked = λ a e. v.shows.looked a (r.looked a e);
+        touched = λ a e. v.shows.touched a (r.touched a e);
+        within = v.shows.within;
+        locked = v.shows.locked;
+        unused = v.shows.unused;
+        world_is = λ e. r.world_used (gu.used (sym v.solo ∙ e)) ∙ v.shows.world_is e;
+        quiet = λ e. back t.used u.used r.used (v.shows.quiet e);
+      };
     }
 
 pub begin_stands : {S : Type 0} (c : Prog S) (k : CoreState S) (t : ℕ) (p : S) → slice_get k.threads t ≡ Some p → c.life p ≡ Lives → Stands c k.image k.threads k.world (fresh k t p)
@@ -79,16 +81,18 @@ begin_stands {S} c k t p is lives = record {
   is = is;
   lives = lives;
   steps = (refl, refl);
-  view = λ a. refl;
-  made = refl;
-  started = refl;
-  looked = λ a e. e;
-  touched = λ a e. absurd (both_ways false refl e);
-  within = λ a e. refl;
-  locked = λ a e. absurd (both_ways false refl e);
-  unused = λ a e. absurd (both_ways false refl e);
-  world_is = λ e. refl;
-  quiet = λ e. refl;
+  shows = record {
+    view = λ a. refl;
+    made = refl;
+    started = refl;
+    looked = λ a e. e;
+    touched = λ a e. absurd (both_ways false refl e);
+    within = λ a e. refl;
+    locked = λ a e. absurd (both_ways false refl e);
+    unused = λ a e. absurd (both_ways false refl e);
+    world_is = λ e. refl;
+    quiet = λ e. refl;
+  };
 }
 
 pub apart_sym : {S : Type 0} (x y : Transaction S) → Apart x y → Apart y x
@@ -263,7 +267,7 @@ good_publish {S} c m0 most k i x g is some unread =
       at_most = λ j y e. g.at_most j y (other j y e).1;
       apart = λ j l y z n e f. g.apart j l y z n (other j y e).1 (other l z f).1;
       conflicts = All-weaker (IsConflict k.image k.begun) (IsConflict (overlay k.image x.changes) k.begun)
-          (λ f v. conflict_later k.image (overlay k.image x.changes) k.begun k.begun (omega arith) (λ a r e. let q = gx.kept a r e in (q.0, sym (sx.view a) ∙ q.1, q.2)) f v) k.conflicts g.conflicts;
+          (λ f v. conflict_later k.image (overlay k.image x.changes) k.begun k.begun (omega arith) (λ a r e. let q = gx.kept a r e in (q.0, sym (sx.shows.view a) ∙ q.1, q.2)) f v) k.conflicts g.conflicts;
       lost = λ j y e. g.lost j y (other j y e).1;
       differ = g.differ;
       doomed = λ j d e. elim (set_cases i j Idle (Doomed d) k.segments e) [
@@ -332,7 +336,7 @@ loser_runs {S} c m0 most k f g v =
 pub is_conflict : {S : Type 0} (c : Prog S) (m0 : Machine S) (most : ℕ) (k : CoreState S) (f : Conflict) → Good c m0 most k → IsStanding c k f → IsConflict k.image k.begun f
 is_conflict {S} c m0 most k f g v =
     let p = g.apart f.writer.segment f.other.segment v.x v.y v.differ v.writes v.reads in
-    let l = (g.stands f.writer.segment v.x v.writes).locked f.at.0 v.held in
+    let l = (g.stands f.writer.segment v.x v.writes).shows.locked f.at.0 v.held in
     let r = loser_runs c m0 most k f g v in
     record {
       entry = l.entry;
@@ -397,16 +401,18 @@ stays_stands {S} c h ts w x x' sx v = record {
   is = ap (slice_get ts) v.thread ∙ sx.is;
   lives = sx.lives;
   steps = subst (λ n. Steps c n sx.before (opened S h w) x'.state sx.sight) (sym v.steps) (subst (λ q. Steps c x.steps sx.before (opened S h w) q sx.sight) (sym v.state) sx.steps);
-  view = λ a. sx.view a ∙ sym (v.view a);
-  made = sx.made ∙ ap places (sym v.made);
-  started = sx.started ∙ sym v.started;
-  looked = λ a e. v.looked a (sx.looked a e);
-  touched = λ a e. v.more a (sx.touched a e);
-  within = v.within;
-  locked = v.locked;
-  unused = λ a e. sx.unused a (subst (λ ns. mem a (places ns) ≡ true) v.made e);
-  world_is = λ e. sx.world_is (sym v.solo ∙ e) ∙ sym v.world;
-  quiet = λ e. sx.quiet (sym v.solo ∙ e);
+  shows = record {
+    view = λ a. sx.shows.view a ∙ sym (v.view a);
+    made = sx.shows.made ∙ ap places (sym v.made);
+    started = sx.shows.started ∙ sym v.started;
+    looked = λ a e. v.looked a (sx.shows.looked a e);
+    touched = λ a e. v.more a (sx.shows.touched a e);
+    within = v.within;
+    locked = v.locked;
+    unused = λ a e. sx.shows.unused a (subst (λ ns. mem a (places ns) ≡ true) v.made e);
+    world_is = λ e. sx.shows.world_is (sym v.solo ∙ e) ∙ sym v.world;
+    quiet = λ e. sx.shows.quiet (sym v.solo ∙ e);
+  };
 }
 
 good_stays : {S : Type 0} (c : Prog S) (m0 : Machine S) (most : ℕ) (k : CoreState S) (i : ℕ) (x x' : Transaction S) → Good c m0 most k

@@ -163,20 +163,22 @@ advances {S} prog w k m m1 r1 b1 x x1 d e o lives goes does start em es im names
     record {
       sight = at_world w (sight k e);
       step = record { lives = lives; outcome = o; goes_on = goes; does = subst (λ s. Does (prog.row x.state) s (o, x1.state) (at_world w (sight k e))) start does };
-      quiet = λ h. refl;
       thread = th;
       begun = be;
       solo = refl;
       steps = sp;
-      view = λ a. ap (λ (z : Meaning). sees z k a) em ∙ ap (λ (h : Heap). over ((m1.part k).changes a) (h a)) im;
-      made = ap (λ (z : Meaning). (z.part k).made) em ∙ sym names;
-      started = es;
-      looked = λ a h. sym (ap (λ (z : Meaning). (z.part k).looked a) em) ∙ h;
-      touched = λ a h. ap (λ f. f a) own ∙ sym (ap (λ (z : Meaning). holds (z.part k) a) em) ∙ h;
-      within = λ a h. unchanged r1 m1 k a st (sym (ap (λ f. f a) own) ∙ h);
-      locked = λ a h. let l = locked_is m1.image (m1.part k) a (locks a h) in record { entry = l.entry; is = sym (ap (λ (z : Heap). z a) im) ∙ l.is; tracked = l.tracked; marked = l.marked };
-      unused = λ a h. sym (ap (λ (z : Heap). z a) im) ∙ st.unused k a (sym (ap (mem a) names) ∙ h);
-      world_is = λ h. absurd (both_ways false refl h);
+      shows = record {
+        view = λ a. ap (λ (z : Meaning). sees z k a) em ∙ ap (λ (h : Heap). over ((m1.part k).changes a) (h a)) im;
+        made = ap (λ (z : Meaning). (z.part k).made) em ∙ sym names;
+        started = es;
+        looked = λ a h. sym (ap (λ (z : Meaning). (z.part k).looked a) em) ∙ h;
+        touched = λ a h. ap (λ f. f a) own ∙ sym (ap (λ (z : Meaning). holds (z.part k) a) em) ∙ h;
+        within = λ a h. unchanged r1 m1 k a st (sym (ap (λ f. f a) own) ∙ h);
+        locked = λ a h. let l = locked_is m1.image (m1.part k) a (locks a h) in record { entry = l.entry; is = sym (ap (λ (z : Heap). z a) im) ∙ l.is; tracked = l.tracked; marked = l.marked };
+        unused = λ a h. sym (ap (λ (z : Heap). z a) im) ∙ st.unused k a (sym (ap (mem a) names) ∙ h);
+        world_is = λ h. absurd (both_ways false refl h);
+        quiet = λ h. refl;
+      };
     }
 
 -- its locks and names are no other's

@@ -1,5 +1,5 @@
 -- What a call of `advance` answers, and what it leaves. States `docs/HEAP.md`, "Advance".
-use Rattle.std.specs.Prelude.{◌≡◌, ◌≢◌, ℕ, ◌+◌, ◌<◌, ◌≤◌, false, List, ◌++◌, Result, Ok, Err, All, ◌⊎◌, Contains}
+use Rattle.std.specs.Prelude.{◌≡◌, ◌≢◌, ℕ, suc, ◌+◌, ◌<◌, ◌≤◌, false, List, ◌++◌, Result, Ok, Err, All, ◌⊎◌, Contains}
 use Rattle.py_data.specs.declared.stop.Conflict.{Conflict}
 use Rattle.py_data.specs.Row.{Call}
 use Rattle.py_data.specs.Sight.{Sight}
@@ -13,7 +13,7 @@ use Rattle.stm_core.specs.declared.answers.AdvanceError.{AdvanceError}
 use Rattle.stm_core.specs.declared.answers.AdvanceError.TheVariants.{Lost, Failed}
 use Rattle.stm_core.specs.declared.cause.Cause.{Cause}
 use Rattle.stm_core.specs.declared.cause.Cause.TheVariants.{Full, OutOfMemory}
-use Rattle.stm_core.specs.CoreState.{Transaction, Segment, Idle, Doomed, Running, CoreState, sight_of, with_segment, with_conflict}
+use Rattle.stm_core.specs.CoreState.{IsShort, Transaction, Segment, Idle, Doomed, Running, CoreState, sight_of, with_segment, with_conflict}
 use Rattle.stm_core.specs.Asking.{Reaches, AsksOutside, AsksRoom}
 use Rattle.stm_core.specs.Conflict.{loser, IsStanding, AsksFrom}
 use Rattle.stm_core.specs.Moves.{first_cause, Move, Drops, Dooms, Loses, Goes, Rests, Keeps, Follows}
@@ -61,7 +61,7 @@ pub record StepsTaken {S : Type 0} (p : Prog S) (length k most reserved limit : 
   pub gone : Gone p length k steps c before
   pub runs : before.segments k ≡ Running last
   pub mortal : last.solo ≡ false
-  pub room : steps < most → last.steps < length
+  pub room : steps < most → IsShort length (suc last.steps)
   pub count : CountsDone most steps result
   pub ends : Ends p k reserved limit before last result c1
 

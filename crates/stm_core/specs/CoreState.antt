@@ -1,6 +1,6 @@
 -- The state of the transactional core: the committed state, the history, the conflicts, and what each segment has in hand.
 -- States `docs/HEAP.md`, "The transactional core".
-use Rattle.std.specs.Prelude.{ℕ, Bool, false, cond, ◌||◌, eqb, List, [], ◌∷◌, ◌++◌, Option, None, slice_set}
+use Rattle.std.specs.Prelude.{ℕ, ◌≤◌, Bool, false, cond, ◌||◌, eqb, List, [], ◌∷◌, ◌++◌, Option, None, slice_set}
 use Rattle.py_data.specs.declared.stop.Conflict.{Conflict}
 use Rattle.py_data.specs.declared.value.Addr.{Addr}
 use Rattle.py_data.specs.Heap.{Heap, Marks}
@@ -47,6 +47,12 @@ pub record CoreState (S : Type 0) : Type 0 where
 -- the committed state, as one of the one-lock machine
 abbrev pub committed : {S : Type 0} → CoreState S → Machine S
 committed k = record { heap = k.image; threads = k.threads; world = k.world }
+
+-- ---- the bound on a turn
+
+-- so many steps are few enough for a turn, and for a transaction so far, where it may have this number
+abbrev pub IsShort : ℕ → ℕ → Type 0
+IsShort most steps = steps ≤ most
 
 -- ---- what a transaction sees
 

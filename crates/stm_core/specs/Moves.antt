@@ -12,28 +12,19 @@ use Rattle.stm_core.specs.declared.cause.Cause.{Cause}
 use Rattle.stm_core.specs.declared.cause.Cause.TheVariants.{Full, OutOfMemory}
 use Rattle.stm_core.specs.Asking.{Reaches, AsksRoom}
 use Rattle.seg_store.specs.Meaning.{over, overlay}
-use Rattle.stm_core.specs.CoreState.{Transaction, Idle, Doomed, Running, CoreState, owned, turn_of, world_after, threads_after, sight_of, set_segment, with_segment, with_conflict, fresh}
+use Rattle.stm_core.specs.CoreState.{IsShort, Transaction, Idle, Doomed, Running, CoreState, owned, turn_of, world_after, threads_after, sight_of, set_segment, with_segment, with_conflict, fresh}
 use Rattle.stm_core.specs.Conflict.{loser, IsStanding}
-use Rattle.stm_core.specs.Good.{IsLocked}
+use Rattle.stm_core.specs.Good.{IsLocked, Shows}
 
--- one step more of a transaction, over what it sees
+-- one step more of a transaction, over what it sees, which leaves what it has then
 pub record Advances {S : Type 0} (p : Prog S) (image : Heap) (w : World) (x x1 : Transaction S) : Type 0 where
   pub sight : Sight S
   pub step : Step p x.state (sight_of image w x) x1.state sight
-  pub quiet : x.solo ≡ false → sight.used ≡ false
   pub thread : x1.thread ≡ x.thread
   pub begun : x1.begun ≡ x.begun
   pub solo : x1.solo ≡ x.solo
   pub steps : x1.steps ≡ suc x.steps
-  pub view : (a : ℕ) → sight.heap a ≡ over (x1.changes a) (image a)
-  pub made : sight.made ≡ places x1.made
-  pub started : sight.started ≡ x1.started
-  pub looked : (a : ℕ) → sight.looked a ≡ true → x1.looked a ≡ true
-  pub touched : (a : ℕ) → sight.touched a ≡ true → owned x1 a ≡ true
-  pub within : (a : ℕ) → owned x1 a ≡ false → x1.changes a ≡ None
-  pub locked : (a : ℕ) → mem a x1.changed ≡ true → IsLocked image x1.looked a
-  pub unused : (a : ℕ) → mem a (places x1.made) ≡ true → image a ≡ None
-  pub world_is : x.solo ≡ true → sight.world ≡ x1.world
+  pub shows : Shows image x1 sight
 
 -- its locks and names are no other's
 pub record IsFree {S : Type 0} (k : CoreState S) (i : ℕ) (x : Transaction S) : Type 0 where
@@ -62,7 +53,7 @@ pub record ComesToWant {S : Type 0} (p : Prog S) (most : ℕ) (image : Heap) (w 
   pub done : ℕ
   pub after : S
   pub sight : Sight S
-  pub short : done < most
+  pub short : IsShort most (suc done)
   pub steps : Steps p done q (opened S image w) after sight
   pub lives : p.life after ≡ Lives
   pub wants : Reaches (p.row after) sight (AsksRoom n)
@@ -114,7 +105,7 @@ Next {S} p most k (Drops i) k1 = ((x : Transaction S) → k.segments i ≡ Runni
 Next p most k (Dooms f) k1 = IsStanding p k f × (k1 ≡ with_conflict f (with_segment (loser f).segment (Doomed f) k))
 Next p most k (Loses f) k1 = IsStanding p k f × (k1 ≡ with_conflict f (with_segment (loser f).segment Idle k))
 Next {S} p most k (Goes i x x1) k1 =
-    (k.segments i ≡ Running x) × (suc x.steps ≤ most) × Advances p k.image k.world x x1 × IsFree k i x1 × (k1 ≡ with_segment i (Running x1) k)
+    (k.segments i ≡ Running x) × IsShort most (suc x.steps) × Advances p k.image k.world x x1 × IsFree k i x1 × (k1 ≡ with_segment i (Running x1) k)
 Next {S} p most k (Rests i x x1) k1 =
     (k.segments i ≡ Running x) × Stays k.image x x1 × IsFree k i x1 × (k1 ≡ with_segment i (Running x1) k)
 Next {S} p most k (Commits i x) k1 =
