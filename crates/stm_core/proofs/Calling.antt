@@ -194,10 +194,10 @@ module _ {S : Type 0} (p : Prog S) (r r1 l l1 : ℕ) (le : r ≤ r1) (same : l1 
       here true s = refl
       here false s = one s
 
-  pub committed_kept : (k n : ℕ) (result : Result Commit Conflict) → Committed k n result c c1 → IsFullKept r1 l1 c1.cause
+  pub committed_kept : (k n : ℕ) (result : Result Commit Conflict) → Committed p k n result c c1 → IsFullKept r1 l1 c1.cause
   committed_kept k n result h = go (c.segments k) result h
     where
-      go : (s : Segment S) (z : Result Commit Conflict) → CommitOf k n s z c c1 → IsFullKept r1 l1 c1.cause
+      go : (s : Segment S) (z : Result Commit Conflict) → CommitOf p k n s z c c1 → IsFullKept r1 l1 c1.cause
       go Idle z q = absurd q
       go (Doomed f) z q = as_before (with_segment k Idle c) refl q.1
       go (Running x) (Ok Nothing) q = as_before (with_segment k Idle c) refl q.1

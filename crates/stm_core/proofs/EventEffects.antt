@@ -135,7 +135,7 @@ module _ {S : Type 0} (p : Prog S) (start : Machine S) (l : Limits) where
     others = λ j d. subst (IsLeft o.new (c.segments j)) (sym (cond-false (eqb j k) Idle (u.segments j) (ne_eqb j k d))) (o.others j d);
   }
 
-  ends_does : (k : ℕ) (x : Transaction S) (r : Result Commit Conflict) (c c1 : CoreState S) → Sound c → c.segments k ≡ Running x → CommitEnds k l.segments x r c c1 → EventDoes p l.length k (commit_reply r) c c1
+  ends_does : (k : ℕ) (x : Transaction S) (r : Result Commit Conflict) (c c1 : CoreState S) → Sound c → c.segments k ≡ Running x → CommitEnds p k l.segments x r c c1 → EventDoes p l.length k (commit_reply r) c c1
   ends_does k x (Ok commit.Nothing) c c1 s is h = does_own k Nothing Idle c (with_segment k Idle c) c1 (no_turn Nothing refl) refl refl refl refl refl refl h.1
   ends_does k x (Ok (commit.Committed i)) c c1 s is h =
       let js = range_with_len 0 l.segments in
@@ -152,7 +152,7 @@ module _ {S : Type 0} (p : Prog S) (start : Machine S) (l : Limits) where
         others = λ j d. inl (cond-false (eqb j k) Idle (c.segments j) (ne_eqb j k d));
       })
 
-  commit_of_does : (k : ℕ) (r : Result Commit Conflict) (s : Segment S) (c c1 : CoreState S) → Sound c → c.segments k ≡ s → CommitOf k l.segments s r c c1 → EventDoes p l.length k (commit_reply r) c c1
+  commit_of_does : (k : ℕ) (r : Result Commit Conflict) (s : Segment S) (c c1 : CoreState S) → Sound c → c.segments k ≡ s → CommitOf p k l.segments s r c c1 → EventDoes p l.length k (commit_reply r) c c1
   commit_of_does k r Idle c c1 s is h = absurd h
   commit_of_does k r (Doomed f) c c1 s is h = subst (λ z. EventDoes p l.length k (commit_reply z) c c1) (sym h.0) (does_own k (Lost f) Idle c (with_segment k Idle c) c1 (no_turn_lost f) refl refl refl refl refl refl h.1)
   commit_of_does k r (Running x) c c1 s is h = ends_does k x r c c1 s is h

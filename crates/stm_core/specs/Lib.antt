@@ -23,3 +23,4 @@ pub mod EventLaw
 pub mod CoreHeld
 pub mod Finishing
 pub mod ScriptCore
+pub mod Worked

@@ -247,7 +247,7 @@ impl<'p, C: Client, S: SegStore> Engine<'p, C, S> {
         ensures rest { self.new ≡ record self.old { store = self.new.store; books = self.new.books; spent = self.new.spent } }
         ensures shape { SameShape (S.meaning self.old.store) (S.meaning self.new.store) }
         ensures reserved { S.reserved self.new.store ≡ S.reserved self.old.store }
-        ensures ends { (w : World) → CommitEnds k (S.meaning self.old.store).segments (transaction w ((S.meaning self.old.store).part k) work) result
+        ensures ends { (w : World) → CommitEnds (C.prog self.old.client.now) k (S.meaning self.old.store).segments (transaction w ((S.meaning self.old.store).part k) work) result
             (core_with w k (S.meaning self.old.store) self.old.books work) (core_of w (S.meaning self.new.store) self.new.books) }
     {
         if work.steps == 0 {
@@ -286,7 +286,7 @@ impl<'p, C: Client, S: SegStore> Engine<'p, C, S> {
         ensures rest { self.new ≡ record self.old { store = self.new.store; books = self.new.books; spent = self.new.spent } }
         ensures shape { SameShape (S.meaning self.old.store) (S.meaning self.new.store) }
         ensures reserved { S.reserved self.new.store ≡ S.reserved self.old.store }
-        ensures committed { (w : World) → Committed k (S.meaning self.old.store).segments result (core_of w (S.meaning self.old.store) self.old.books) (core_of w (S.meaning self.new.store) self.new.books) }
+        ensures committed { (w : World) → Committed (C.prog self.old.client.now) k (S.meaning self.old.store).segments result (core_of w (S.meaning self.old.store) self.old.books) (core_of w (S.meaning self.new.store) self.new.books) }
         ensures sane { (most : ℕ) → SaneCore (C.prog self.old.client.now) (C.sound self.old.client.now) most (S.meaning self.old.store) self.old.books
             → SaneCore (C.prog self.old.client.now) (C.sound self.old.client.now) most (S.meaning self.new.store) self.new.books }
     {

@@ -142,7 +142,7 @@ impl<'p, C: Client, S: SegStore, I, O, E> Core<'p, C, S, I, O, E> {
         requires good { IsGoodCore C.prog C.sound S.reserved S.meaning self.old }
         ensures good { IsGoodCore C.prog C.sound S.reserved S.meaning self.new }
         ensures job { SameJob S.meaning self.old self.new }
-        ensures committed { (w : World) → w.mid ≡ false → Committed k (core_limits S.meaning self.old).segments result (core_at S.meaning w self.old) (core_at S.meaning w self.new) }
+        ensures committed { (w : World) → w.mid ≡ false → Committed (C.prog (core_client self.old)) k (core_limits S.meaning self.old).segments result (core_at S.meaning w self.old) (core_at S.meaning w self.new) }
     {
         self.engine.commit(k)
     }

@@ -35,7 +35,7 @@ returns-in-Some-clause-ends g c = λ w.
     let m = g.S.SegStore.meaning c.args.self.now.store in
     let n : c.args.work.steps ≢ 0 = c.if-work-eq0.false in (
       omega (arith, n),
-      beaten_is w c.args.k m c.args.self.now.books c.args.work m.segments c.in-Some.f (subst (λ s. FirstBeats c.args.self.now.books.hands.items m c.args.k s m.segments (Some c.in-Some.f)) c.side-me.ensures c.in-Some.ensures),
+      beaten_is w c.args.k m c.args.self.now.books c.args.work (g.C.Client.prog c.args.self.now.client.now) m.segments c.in-Some.f (subst (λ s. FirstBeats c.args.self.now.books.hands.items m c.args.k s m.segments (Some c.in-Some.f)) c.side-me.ensures c.in-Some.ensures),
       c.lose_out.ensures.core w ∙ ap (with_conflict c.in-Some.f) (left_idle w c.args.k m c.args.self.now.books c.args.work c.requires.idle),
     )
 
