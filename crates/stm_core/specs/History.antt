@@ -1,0 +1,127 @@
+-- What events leave of the committed state, the history, the conflicts and other segments, for every list of events.
+-- States `docs/HEAP.md`, "The law of events".
+use Rattle.std.specs.Prelude.{◌≡◌, ◌≢◌, ◌⊎◌, ℕ, ◌<◌, ◌≤◌, true, false, List, [], ◌∷◌, ◌++◌, length, All, Contains}
+use Rattle.std.specs.List.{sum_by, range_with_len}
+use Rattle.py_data.specs.declared.stop.Conflict.{Conflict}
+use Rattle.py_data.specs.Sight.{mem}
+use Rattle.lock_run.specs.declared.turn.Turn.{Turn}
+use Rattle.lock_run.specs.Prog.{Prog}
+use Rattle.seg_store.specs.Meaning.{overlay}
+use Rattle.stm_core.specs.declared.events.Event.{Event}
+use Rattle.stm_core.specs.declared.events.Event.TheVariants as event
+use Rattle.stm_core.specs.declared.events.Reply.{Reply}
+use Rattle.stm_core.specs.declared.events.Reply.TheVariants.{Committed as HasCommitted}
+use Rattle.stm_core.specs.CoreState.{Transaction, Segment, Idle, Doomed, Running, CoreState, turn_of, world_after, threads_after}
+use Rattle.stm_core.specs.Conflict.{side, loser, IsStanding}
+use Rattle.stm_core.specs.Moves.{Move, Follows}
+use Rattle.stm_core.specs.Advance.{steps_of}
+use Rattle.stm_core.specs.Advanced.{IsOwn}
+use Rattle.stm_core.specs.Events.{Limits}
+
+-- the segment whose call an event is
+abbrev pub event_segment : Event → ℕ
+event_segment (event.Begin k t) = k
+event_segment (event.Advance k m) = k
+event_segment (event.Commit k) = k
+
+-- ---- the committed state and the history
+
+-- both stay as they are
+pub record IsQuiet {S : Type 0} (c c1 : CoreState S) : Type 0 where
+  pub image : c1.image ≡ c.image
+  pub threads : c1.threads ≡ c.threads
+  pub world : c1.world ≡ c.world
+  pub history : c1.history ≡ c.history
+
+-- The event commits: its segment's transaction, of some steps, becomes the turn of this number, the last of the
+-- history, and the image what it saw. No transaction that goes on has looked at a record that it changed.
+pub record IsCommit {S : Type 0} (l : Limits) (e : Event) (n : ℕ) (c c1 : CoreState S) : Type 0 where
+  pub call : e ≡ event.Commit (event_segment e)
+  pub x : Transaction S
+  pub runs : c.segments (event_segment e) ≡ Running x
+  pub some : 1 ≤ x.steps
+  pub number : n ≡ length c.history
+  pub history : c1.history ≡ c.history ++ turn_of x ∷ []
+  pub image : c1.image ≡ overlay c.image x.changes
+  pub threads : c1.threads ≡ threads_after c.threads x
+  pub world : c1.world ≡ world_after c.world x
+  pub idle : c1.segments (event_segment e) ≡ Idle
+  pub unread : (j : ℕ) (y : Transaction S) → j < l.segments → c1.segments j ≡ Running y
+      → (a : ℕ) → mem a x.changed ≡ true → y.looked a ≡ false
+
+-- only an event that is replied the number of a turn changes them, by a commit
+abbrev pub Shows : {S : Type 0} → Limits → Event → Reply → CoreState S → CoreState S → Type 0
+Shows l e (HasCommitted n) c c1 = IsCommit l e n c c1
+Shows l e _ c c1 = IsQuiet c c1
+
+-- ---- conflicts, and other segments
+
+-- The conflicts that an event can make: a begin makes none; an advance those in which its segment asks to change what
+-- another one has locked; a commit those in which another one has looked at what its segment has locked.
+abbrev pub IsMadeBy : Event → Conflict → Type 0
+IsMadeBy (event.Begin k t) f = ⊥
+IsMadeBy (event.Advance k m) f = (f.other.segment ≡ k) × (f.asks ≡ true)
+IsMadeBy (event.Commit k) f = (f.writer.segment ≡ k) × (f.asks ≡ false)
+
+-- the most steps that an event's segment does in it
+abbrev pub steps_in : Event → ℕ
+steps_in (event.Begin k t) = 0
+steps_in (event.Advance k m) = m
+steps_in (event.Commit k) = 0
+
+-- The conflict stood in a state to which moves of segment k, of which so many at most are steps, and dooms of others
+-- lead from c.
+pub record Stood {S : Type 0} (p : Prog S) (most k n : ℕ) (c : CoreState S) (f : Conflict) : Type 0 where
+  pub state : CoreState S
+  pub moves : List (Move S)
+  pub follows : Follows p most c moves state
+  pub own : All (IsOwn k) moves
+  pub few : sum_by steps_of moves ≤ n
+  pub standing : IsStanding p state f
+
+-- the transaction that segment j ran lost one of these conflicts
+pub record IsDoomed {S : Type 0} (j : ℕ) (fs : List Conflict) (s s1 : Segment S) : Type 0 where
+  pub conflict : Conflict
+  pub new : Contains fs conflict
+  pub y : Transaction S
+  pub ran : s ≡ Running y
+  pub lost : loser conflict ≡ side j y
+  pub now : s1 ≡ Doomed conflict
+
+-- What an event of so many steps at most does beside: new conflicts stand at the end of the list, each of them stood,
+-- and another segment has in hand what it had, or is doomed by one of them.
+pub record LeavesOthers {S : Type 0} (p : Prog S) (most n : ℕ) (e : Event) (c c1 : CoreState S) : Type 0 where
+  pub new : List Conflict
+  pub conflicts : c1.conflicts ≡ c.conflicts ++ new
+  pub made : All (IsMadeBy e) new
+  pub stood : All (Stood p most (event_segment e) n c) new
+  pub others : (j : ℕ) → j ≢ event_segment e
+      → (c1.segments j ≡ c.segments j) ⊎ IsDoomed j new (c.segments j) (c1.segments j)
+
+-- ---- events
+
+pub record Leaves {S : Type 0} (p : Prog S) (l : Limits) (e : Event) (r : Reply) (c c1 : CoreState S) : Type 0 where
+  pub shows : Shows l e r c c1
+  pub beside : LeavesOthers p l.length (steps_in e) e c c1
+
+-- one after another
+abbrev pub AllLeave : {S : Type 0} → Prog S → Limits → List Event → List Reply → CoreState S → CoreState S → Type 0
+AllLeave p l [] [] c c1 = c1 ≡ c
+AllLeave {S} p l (e ∷ es) (r ∷ rs) c c1 = (u : CoreState S) × Leaves p l e r c u × AllLeave p l es rs u c1
+AllLeave p l _ _ c c1 = ⊥
+
+-- the numbers of turns among replies
+abbrev pub numbers_of : List Reply → List ℕ
+numbers_of [] = []
+numbers_of (HasCommitted n ∷ rs) = n ∷ numbers_of rs
+numbers_of (r ∷ rs) = numbers_of rs
+
+-- From the first event to the last: the history grows by as many turns as have these numbers, in their order, the
+-- conflicts grow, and where nothing was committed the committed state stays.
+pub record IsGrown {S : Type 0} (numbers : List ℕ) (c c1 : CoreState S) : Type 0 where
+  pub turns : List Turn
+  pub history : c1.history ≡ c.history ++ turns
+  pub are : numbers ≡ range_with_len (length c.history) (length turns)
+  pub new : List Conflict
+  pub conflicts : c1.conflicts ≡ c.conflicts ++ new
+  pub quiet : numbers ≡ [] → IsQuiet c c1
