@@ -1,5 +1,5 @@
 -- What events leave of the committed state, the history, the conflicts and other segments.
-use Rattle.std.proofs.Common.{◌≡◌, ◌≢◌, ◌⊎◌, ℕ, ◌+◌, ◌<◌, ◌≤◌, false, true, Bool, cond, eqb, List, [], ◌∷◌, ◌++◌, map, length, Option, Some, None, Result, Ok, Err, All, refl, sym, ◌∙◌, ap, subst, inl, inr, append-nil, append_assoc, length-append, arith}
+use Rattle.std.proofs.Common.{◌≡◌, ◌≢◌, ◌⊎◌, ℕ, ◌+◌, ◌<◌, ◌≤◌, false, true, Bool, cond, eqb, List, [], ◌∷◌, ◌++◌, map, length, Option, Some, None, Result, Ok, Err, All, Contains, refl, sym, ◌∙◌, ap, subst, inl, inr, append-nil, append_assoc, length-append, arith}
 use Rattle.std.specs.List.{sum_by, range_with_len}
 use Rattle.std.proofs.lemmas.Bool.{cases_Bool, eqb-true, eqb-false, eq-eqb, ne_eqb, cond-true, cond-false}
 use Rattle.std.proofs.lemmas.List.Elements.{All-append, All-cons, All-nil, All-head, All-tail, All-weaker, Contains-append_left, Contains-append_right, Contains-push}
@@ -34,7 +34,7 @@ use Rattle.stm_core.specs.Advanced.{IsCount, IsOwn, Ends, StepsTaken, AdvancedFr
 use Rattle.stm_core.specs.Begun.{Begun}
 use Rattle.stm_core.specs.Committed.{Beaten, CommitOf}
 use Rattle.stm_core.specs.Events.{Limits, begin_reply, advance_reply, commit_reply, may_make, Made, MadeIf, EventsMade}
-use Rattle.stm_core.specs.History.{event_segment, steps_in, IsQuiet, IsCommit, Shows, IsMadeBy, Stood, IsDoomed, LeavesOthers, Leaves, AllLeave, numbers_of, IsGrown}
+use Rattle.stm_core.specs.History.{event_segment, steps_in, IsQuiet, IsCommit, Shows, IsMadeBy, Stood, IsDoomed, IsTold, LeavesOthers, Leaves, AllLeave, numbers_of, IsGrown}
 use Rattle.stm_core.proofs.Publishing.{mem_range}
 use Rattle.stm_core.proofs.TwoPasses.{follows_append, met_some, met_none, Clears, clears}
 
@@ -95,7 +95,7 @@ module _ {S : Type 0} (p : Prog S) (most : ℕ) (e : Event) where
   still_none c = (way_none c, refl)
 
   -- nothing was done that counts, but in the event's own segment
-  came_own : (n : ℕ) (c c1 : CoreState S) → IsQuiet c c1 → c1.conflicts ≡ c.conflicts
+  abbrev came_own : (n : ℕ) (c c1 : CoreState S) → IsQuiet c c1 → c1.conflicts ≡ c.conflicts
       → ((j : ℕ) → j ≢ event_segment e → c1.segments j ≡ c.segments j) → Came n c c1
   came_own n c c1 q f g = record {
     quiet = q;
@@ -108,7 +108,7 @@ module _ {S : Type 0} (p : Prog S) (most : ℕ) (e : Event) where
     };
   }
 
-  came_none : (n : ℕ) (c : CoreState S) → Came n c c
+  abbrev came_none : (n : ℕ) (c : CoreState S) → Came n c c
   came_none n c = came_own n c c (quiet_none c) refl (λ j d. refl)
 
   came_same : (n : ℕ) (c c1 : CoreState S) → c1 ≡ c → Came n c c1
@@ -120,7 +120,7 @@ module _ {S : Type 0} (p : Prog S) (most : ℕ) (e : Event) where
       (came_own n c (with_segment (event_segment e) s c) (record { image = refl; threads = refl; world = refl; history = refl }) refl (λ j d. cond-false (eqb j (event_segment e)) s (c.segments j) (ne_eqb j (event_segment e) d)))
 
   -- a conflict that stands was added, and its loser doomed, or the segment of the event was set
-  came_conflict : (n : ℕ) (f : Conflict) (c c1 : CoreState S) → IsQuiet c c1 → IsStanding p c f → IsMadeBy e f
+  abbrev came_conflict : (n : ℕ) (f : Conflict) (c c1 : CoreState S) → IsQuiet c c1 → IsStanding p c f → IsMadeBy e f
       → c1.conflicts ≡ c.conflicts ++ f ∷ []
       → ((j : ℕ) → j ≢ event_segment e → (c1.segments j ≡ c.segments j) ⊎ IsDoomed j (f ∷ []) (c.segments j) (c1.segments j)) → Came n c c1
   came_conflict n f c c1 q st m g o = record {
@@ -148,7 +148,7 @@ module _ {S : Type 0} (p : Prog S) (most : ℕ) (e : Event) where
           let same : j ≡ (loser f).segment = eqb-true j (loser f).segment is in
           inr (record { conflict = f; new = Contains-push [] f; y = l.0; ran = ap c.segments same ∙ l.1; lost = l.2 ∙ ap (λ z. side z l.0) (sym same); now = refl })
 
-  came_then : (n1 n2 n : ℕ) (c u v : CoreState S) (w : Way c u) → n1 ≤ n → sum_by steps_of w.moves + n2 ≤ n
+  abbrev came_then : (n1 n2 n : ℕ) (c u v : CoreState S) (w : Way c u) → n1 ≤ n → sum_by steps_of w.moves + n2 ≤ n
       → Came n1 c u → Came n2 u v → Came n c v
   came_then n1 n2 n c u v w less sum a b = record {
     quiet = quiet_then c u v a.quiet b.quiet;
@@ -179,6 +179,27 @@ module _ {S : Type 0} (p : Prog S) (most : ℕ) (e : Event) where
             few = omega (arith, sum_by-append steps_of w.moves h.moves);
             standing = h.standing;
           }
+
+  -- the same, with what is told to the event's segment
+  abbrev Done : ℕ → Reply → CoreState S → CoreState S → Type 0
+  Done n r c c1 = (came : Came n c c1) × IsTold (event_segment e) r came.beside.new c c1
+
+  told_later : (r : Reply) (fs gs : List Conflict) (c u c1 : CoreState S) (x : Transaction S)
+      → u.segments (event_segment e) ≡ Running x → IsTold (event_segment e) r gs u c1
+      → IsTold (event_segment e) r (fs ++ gs) c c1
+  told_later (Lost f) fs gs c u c1 x runs h = (h.0, by_cause h.1)
+    where
+      by_cause : (u.segments (event_segment e) ≡ Doomed f) ⊎ (Contains gs f × ((loser f).segment ≡ event_segment e))
+          → (c.segments (event_segment e) ≡ Doomed f) ⊎ (Contains (fs ++ gs) f × ((loser f).segment ≡ event_segment e))
+      by_cause (inl d) = absurd (let clash : Running x ≡ Doomed f = sym runs ∙ d in cc)
+      by_cause (inr d) = inr (Contains-append_right fs gs f d.0, d.1)
+  told_later Skipped fs gs c u c1 x runs h = tt
+  told_later HasBegun fs gs c u c1 x runs h = tt
+  told_later (Refused y) fs gs c u c1 x runs h = tt
+  told_later (HasAdvanced a) fs gs c u c1 x runs h = tt
+  told_later (HasCommitted n) fs gs c u c1 x runs h = tt
+  told_later Nothing fs gs c u c1 x runs h = tt
+  told_later (Failed y) fs gs c u c1 x runs h = tt
 
   -- ---- moves of an event that commit nothing
 
@@ -235,6 +256,11 @@ begin_shows : {S : Type 0} (l : Limits) (e : Event) (result : Result (Unit {0}) 
 begin_shows l e (Ok u) c c1 q = q
 begin_shows l e (Err y) c c1 q = q
 
+begin_told : {S : Type 0} (k : ℕ) (result : Result (Unit {0}) BeginError) (new : List Conflict) (c c1 : CoreState S)
+    → IsTold k (begin_reply result) new c c1
+begin_told k (Ok u) new c c1 = tt
+begin_told k (Err y) new c c1 = tt
+
 -- ---- advance
 
 makes_dooms : {S : Type 0} (p : Prog S) (most k m : ℕ) (fs : List Conflict) → All (AsksFrom k 0) fs
@@ -281,45 +307,65 @@ at_most most n (Ok (NeedSolo i)) h = let e = h.1 in omega arith
 at_most most n (Err y) h = omega (arith, h)
 
 module _ {S : Type 0} (p : Prog S) (length k m reserved limit : ℕ) where
-  came_ends : (u : CoreState S) (x : Transaction S) (result : Result Advance AdvanceError) (c1 : CoreState S)
-      → Ends p k reserved limit u x result c1 → Came p length (event.Advance k m) 0 u c1
-  came_ends u x (Ok (Ran n)) c1 h = came_same p length (event.Advance k m) 0 u c1 h.1
-  came_ends u x (Ok (Waits n)) c1 h = came_same p length (event.Advance k m) 0 u c1 h.2
-  came_ends u x (Ok (Ended n)) c1 h = came_same p length (event.Advance k m) 0 u c1 h.1
-  came_ends u x (Ok (NeedSolo n)) c1 h = came_same p length (event.Advance k m) 0 u c1 h.2
-  came_ends u x (Err (advance.Lost f)) c1 h = subst (Came p length (event.Advance k m) 0 u) (sym h.3)
+  ends_done : (u : CoreState S) (x : Transaction S) (result : Result Advance AdvanceError) (c1 : CoreState S)
+      → Ends p k reserved limit u x result c1 → Done p length (event.Advance k m) 0 (advance_reply result) u c1
+  ends_done u x (Ok (Ran n)) c1 h = (came_same p length (event.Advance k m) 0 u c1 h.1, tt)
+  ends_done u x (Ok (Waits n)) c1 h = (came_same p length (event.Advance k m) 0 u c1 h.2, tt)
+  ends_done u x (Ok (Ended n)) c1 h = (came_same p length (event.Advance k m) 0 u c1 h.1, tt)
+  ends_done u x (Ok (NeedSolo n)) c1 h = (came_same p length (event.Advance k m) 0 u c1 h.2, tt)
+  ends_done u x (Err (advance.Lost f)) c1 h =
+      subst (Done p length (event.Advance k m) 0 (Lost f) u) (sym h.3)
       (came_conflict p length (event.Advance k m) 0 f u (with_conflict f (with_segment k Idle u)) (record { image = refl; threads = refl; world = refl; history = refl }) h.1 (h.2.segment, h.2.asks) refl
-      (λ j n. inl (cond-false (eqb j k) Idle (u.segments j) (ne_eqb j k n))))
-  came_ends u x (Err (advance.Failed y)) c1 h = subst (Came p length (event.Advance k m) 0 u) (sym h.2)
-      (came_own p length (event.Advance k m) 0 u (with_cause y (with_segment k Idle u)) (record { image = refl; threads = refl; world = refl; history = refl }) refl (λ j n. cond-false (eqb j k) Idle (u.segments j) (ne_eqb j k n)))
+      (λ j n. inl (cond-false (eqb j k) Idle (u.segments j) (ne_eqb j k n))),
+      (cond-true (eqb k k) Idle (u.segments k) (eq-eqb k k refl),
+      inr (Contains-push [] f, ap (λ z. (cond (eqb z 0) f.writer f.other).segment) h.2.lost_is ∙ h.2.segment)))
+  ends_done u x (Err (advance.Failed y)) c1 h =
+      (subst (Came p length (event.Advance k m) 0 u) (sym h.2)
+      (came_own p length (event.Advance k m) 0 u (with_cause y (with_segment k Idle u)) (record { image = refl; threads = refl; world = refl; history = refl }) refl (λ j n. cond-false (eqb j k) Idle (u.segments j) (ne_eqb j k n))), tt)
 
-  came_taken : (c : CoreState S) (result : Result Advance AdvanceError) (c1 : CoreState S)
-      → StepsTaken p length k m reserved limit c result c1 → Came p length (event.Advance k m) m c c1
-  came_taken c result c1 s =
+  steps_done : (c : CoreState S) (result : Result Advance AdvanceError) (c1 : CoreState S)
+      → StepsTaken p length k m reserved limit c result c1
+      → Done p length (event.Advance k m) m (advance_reply result) c c1
+  steps_done c result c1 s =
       let ms = moves_of s.gone.tries in
       let made = makes_tries p c.image c.world length k m s.gone.tries s.gone.kinds in
       let count = steps_tries s.gone.tries ∙ s.gone.count in
       let few = at_most m s.steps result s.count in
-      came_then p length (event.Advance k m) (sum_by steps_of ms) 0 m c s.before c1
-      (record { moves = ms; follows = s.gone.follows; own = All-weaker (Makes p length (event.Advance k m)) (IsOwn k) (makes_own p length (event.Advance k m)) ms made }) (omega arith) (omega arith)
-      (came_moves p length (event.Advance k m) ms c s.before made s.gone.follows) (came_ends s.before s.last result c1 s.ends)
+      let way : Way p length (event.Advance k m) c s.before = record {
+            moves = ms;
+            follows = s.gone.follows;
+            own = All-weaker (Makes p length (event.Advance k m)) (IsOwn k) (makes_own p length (event.Advance k m)) ms made;
+          } in
+      let first = came_moves p length (event.Advance k m) ms c s.before made s.gone.follows in
+      let last = ends_done s.before s.last result c1 s.ends in
+      (came_then p length (event.Advance k m) (sum_by steps_of ms) 0 m c s.before c1 way (omega arith) (omega arith) first last.0,
+      told_later p length (event.Advance k m) (advance_reply result) first.beside.new last.0.beside.new c s.before c1 s.last s.runs last.1)
 
-  came_running : (x : Transaction S) (c : CoreState S) (result : Result Advance AdvanceError) (c1 : CoreState S)
-      → AdvancedFrom (Running x) p length k m reserved limit c result c1 → Came p length (event.Advance k m) m c c1
-  came_running x c result c1 h = by_life (p.life x.state) refl
+  running_done : (x : Transaction S) (c : CoreState S) (result : Result Advance AdvanceError) (c1 : CoreState S)
+      → AdvancedFrom (Running x) p length k m reserved limit c result c1
+      → Done p length (event.Advance k m) m (advance_reply result) c c1
+  running_done x c result c1 h = by_life (p.life x.state) refl
     where
-      by_life : (y : Life) → p.life x.state ≡ y → Came p length (event.Advance k m) m c c1
-      by_life Lives is = came_taken c result c1 (h.1 is)
-      by_life EndedLife is =
-          came_same p length (event.Advance k m) m c c1 (h.0 (λ e. let clash : EndedLife ≡ Lives = sym is ∙ e in absurd cc)).1
-      by_life FailedLife is =
-          came_same p length (event.Advance k m) m c c1 (h.0 (λ e. let clash : FailedLife ≡ Lives = sym is ∙ e in absurd cc)).1
+      ended : (p.life x.state ≢ Lives) → Done p length (event.Advance k m) m (advance_reply result) c c1
+      ended n =
+          let e = h.0 n in
+          subst (λ (r : Result Advance AdvanceError). Done p length (event.Advance k m) m (advance_reply r) c c1) (sym e.0)
+          (came_same p length (event.Advance k m) m c c1 e.1, tt)
 
-  advance_came : (s : Segment S) (c : CoreState S) (result : Result Advance AdvanceError) (c1 : CoreState S)
-      → AdvancedFrom s p length k m reserved limit c result c1 → Came p length (event.Advance k m) m c c1
-  advance_came Idle c result c1 h = absurd h
-  advance_came (Doomed f) c result c1 h = came_set p length (event.Advance k m) m Idle c c1 h.1
-  advance_came (Running x) c result c1 h = came_running x c result c1 h
+      by_life : (y : Life) → p.life x.state ≡ y → Done p length (event.Advance k m) m (advance_reply result) c c1
+      by_life Lives is = steps_done c result c1 (h.1 is)
+      by_life EndedLife is = ended (λ e. let clash : EndedLife ≡ Lives = sym is ∙ e in absurd cc)
+      by_life FailedLife is = ended (λ e. let clash : FailedLife ≡ Lives = sym is ∙ e in absurd cc)
+
+  advance_done : (s : Segment S) (c : CoreState S) (result : Result Advance AdvanceError) (c1 : CoreState S)
+      → c.segments k ≡ s → AdvancedFrom s p length k m reserved limit c result c1
+      → Done p length (event.Advance k m) m (advance_reply result) c c1
+  advance_done Idle c result c1 is h = absurd h
+  advance_done (Doomed f) c result c1 is h =
+      subst (λ (r : Result Advance AdvanceError). Done p length (event.Advance k m) m (advance_reply r) c c1) (sym h.0)
+      (came_set p length (event.Advance k m) m Idle c c1 h.1,
+      (ap (λ (z : CoreState S). z.segments k) h.1 ∙ cond-true (eqb k k) Idle (c.segments k) (eq-eqb k k refl), inl is))
+  advance_done (Running x) c result c1 is h = running_done x c result c1 h
 
 advance_shows : {S : Type 0} (l : Limits) (e : Event) (result : Result Advance AdvanceError) (c c1 : CoreState S)
     → IsQuiet c c1 → Shows l e (advance_reply result) c c1
@@ -403,6 +449,7 @@ module _ {S : Type 0} (p : Prog S) (l : Limits) (i : ℕ) (x : Transaction S) wh
           others =
               λ j q. subst (λ (s : Segment S). (s ≡ c.segments j) ⊎ IsDoomed j came.beside.new (c.segments j) s) (sym (other j q)) (came.beside.others j q);
         };
+        told = tt;
       })
     where
       unread_by : (j : ℕ) (y : Transaction S) → j < l.segments → (eqb j i ≡ true) ⊎ (eqb j i ≡ false)
@@ -415,24 +462,31 @@ module _ {S : Type 0} (p : Prog S) (l : Limits) (i : ℕ) (x : Transaction S) wh
           let on : (doom_readers i x (range_with_len 0 l.segments) c).segments j ≡ Running y = sym (cond-false (eqb j i) Idle ((doom_readers i x (range_with_len 0 l.segments) c).segments j) other) ∙ runs in
           met_none x.changed y.looked a (r.unread j y (mem_range 0 l.segments j (omega arith) (omega arith)) (eqb-false j i other) on) locked
 
-  commit_beaten : (f : Conflict) (c c1 : CoreState S) → c.segments i ≡ Running x → Beaten i x f c
-      → c1 ≡ with_conflict f (with_segment i Idle c) → Came p l.length (event.Commit i) 0 c c1
-  commit_beaten f c c1 mine b is =
+  beaten_done : (f : Conflict) (c c1 : CoreState S) → c.segments i ≡ Running x → Beaten i x f c
+      → c1 ≡ with_conflict f (with_segment i Idle c) → Done p l.length (event.Commit i) 0 (Lost f) c c1
+  beaten_done f c c1 mine b is =
       let st = meets_reader c f.other.segment b.reader f.at.0 0 mine b.reads (λ q. b.differ (sym q)) b.seen (omega arith) (ap (λ (z : Conflict). wins z.other (side i x)) (sym b.is) ∙ b.beats) in
-      subst (Came p l.length (event.Commit i) 0 c) (sym is)
+      subst (Done p l.length (event.Commit i) 0 (Lost f) c) (sym is)
       (came_conflict p l.length (event.Commit i) 0 f c (with_conflict f (with_segment i Idle c)) (record { image = refl; threads = refl; world = refl; history = refl }) (subst (IsStanding p c) (sym b.is) st)
-      (ap (λ (z : Conflict). z.writer.segment) b.is, ap (λ (z : Conflict). z.asks) b.is) refl (λ j n. inl (cond-false (eqb j i) Idle (c.segments j) (ne_eqb j i n))))
+      (ap (λ (z : Conflict). z.writer.segment) b.is, ap (λ (z : Conflict). z.asks) b.is) refl (λ j n. inl (cond-false (eqb j i) Idle (c.segments j) (ne_eqb j i n))),
+      (cond-true (eqb i i) Idle (c.segments i) (eq-eqb i i refl), inr (Contains-push [] f, ap (λ (z : Conflict). (loser z).segment) b.is)))
 
-commit_leaves : {S : Type 0} (p : Prog S) (l : Limits) (k : ℕ) (s : Segment S) (result : Result Commit Conflict) (c c1 : CoreState S) → c.segments k ≡ s → CommitOf k l.segments s result c c1 → Leaves p l (event.Commit k) (commit_reply result) c c1
+commit_leaves : {S : Type 0} (p : Prog S) (l : Limits) (k : ℕ) (s : Segment S) (result : Result Commit Conflict)
+    (c c1 : CoreState S) → c.segments k ≡ s → CommitOf k l.segments s result c c1
+    → Leaves p l (event.Commit k) (commit_reply result) c c1
 commit_leaves p l k Idle result c c1 is h = absurd h
 commit_leaves {S} p l k (Doomed f) result c c1 is h =
     let came = came_set p l.length (event.Commit k) 0 Idle c c1 h.1 in
-    subst (λ (r : Result Commit Conflict). Leaves p l (event.Commit k) (commit_reply r) c c1) (sym h.0) (record { shows = came.quiet; beside = came.beside })
+    subst (λ (r : Result Commit Conflict). Leaves p l (event.Commit k) (commit_reply r) c c1) (sym h.0) (record {
+      shows = came.quiet;
+      beside = came.beside;
+      told = (ap (λ (z : CoreState S). z.segments k) h.1 ∙ cond-true (eqb k k) Idle (c.segments k) (eq-eqb k k refl), inl is);
+    })
 commit_leaves p l k (Running x) (Ok commit.Nothing) c c1 is h =
-    let came = came_set p l.length (event.Commit k) 0 Idle c c1 h.1 in record { shows = came.quiet; beside = came.beside }
+    let came = came_set p l.length (event.Commit k) 0 Idle c c1 h.1 in record { shows = came.quiet; beside = came.beside; told = tt }
 commit_leaves p l k (Running x) (Ok (commit.Committed n)) c c1 is h = commit_done p l k x n c is h.0 h.1 h.2 c1 h.3
 commit_leaves p l k (Running x) (Err f) c c1 is h =
-    let came = commit_beaten p l k x f c c1 is h.1 h.2 in record { shows = came.quiet; beside = came.beside }
+    let done = beaten_done p l k x f c c1 is h.1 h.2 in record { shows = done.0.quiet; beside = done.0.beside; told = done.1 }
 
 -- ---- events
 
@@ -440,10 +494,18 @@ made_leaves : {S : Type 0} (p : Prog S) (l : Limits) (e : Event) (r : Reply) (c 
     → Made p l e r c c1 → Leaves p l e r c c1
 made_leaves {S} p l (event.Begin k t) r c c1 h =
     let came = begin_came p l k t h.0 c c1 h.2 in
-    subst (λ (r : Reply). Leaves p l (event.Begin k t) r c c1) (sym h.1) (record { shows = begin_shows l (event.Begin k t) h.0 c c1 came.quiet; beside = came.beside })
+    subst (λ (r : Reply). Leaves p l (event.Begin k t) r c c1) (sym h.1) (record {
+      shows = begin_shows l (event.Begin k t) h.0 c c1 came.quiet;
+      beside = came.beside;
+      told = begin_told k h.0 came.beside.new c c1;
+    })
 made_leaves {S} p l (event.Advance k m) r c c1 h =
-    let came = advance_came p l.length k m h.1 l.words (c.segments k) c h.0 c1 h.3 in
-    subst (λ (r : Reply). Leaves p l (event.Advance k m) r c c1) (sym h.2) (record { shows = advance_shows l (event.Advance k m) h.0 c c1 came.quiet; beside = came.beside })
+    let done = advance_done p l.length k m h.1 l.words (c.segments k) c h.0 c1 refl h.3 in
+    subst (λ (r : Reply). Leaves p l (event.Advance k m) r c c1) (sym h.2) (record {
+      shows = advance_shows l (event.Advance k m) h.0 c c1 done.0.quiet;
+      beside = done.0.beside;
+      told = done.1;
+    })
 made_leaves {S} p l (event.Commit k) r c c1 h =
     subst (λ (r : Reply). Leaves p l (event.Commit k) r c c1) (sym h.1) (commit_leaves p l k (c.segments k) h.0 c c1 refl h.2)
 
@@ -452,7 +514,7 @@ event_leaves : {S : Type 0} (p : Prog S) (l : Limits) (e : Event) (b : Bool) (r 
 event_leaves p l e true r c c1 h = made_leaves p l e r c c1 h
 event_leaves {S} p l e false r c c1 h =
     let came = came_same p l.length e (steps_in e) c c1 h.1 in
-    subst (λ (r : Reply). Leaves p l e r c c1) (sym h.0) (record { shows = came.quiet; beside = came.beside })
+    subst (λ (r : Reply). Leaves p l e r c c1) (sym h.0) (record { shows = came.quiet; beside = came.beside; told = tt })
 
 pub all_leave : {S : Type 0} (p : Prog S) (l : Limits) (es : List Event) (rs : List Reply) (c c1 : CoreState S)
     → EventsMade p l es rs c c1 → AllLeave p l es rs c c1

@@ -10,7 +10,7 @@ use Rattle.seg_store.specs.Meaning.{overlay}
 use Rattle.stm_core.specs.declared.events.Event.{Event}
 use Rattle.stm_core.specs.declared.events.Event.TheVariants as event
 use Rattle.stm_core.specs.declared.events.Reply.{Reply}
-use Rattle.stm_core.specs.declared.events.Reply.TheVariants.{Committed as HasCommitted}
+use Rattle.stm_core.specs.declared.events.Reply.TheVariants.{Committed as HasCommitted, Lost}
 use Rattle.stm_core.specs.CoreState.{Transaction, Segment, Idle, Doomed, Running, CoreState, turn_of, world_after, threads_after}
 use Rattle.stm_core.specs.Conflict.{side, loser, IsStanding}
 use Rattle.stm_core.specs.Moves.{Move, Follows}
@@ -98,11 +98,18 @@ pub record LeavesOthers {S : Type 0} (p : Prog S) (most n : ℕ) (e : Event) (c 
   pub others : (j : ℕ) → j ≢ event_segment e
       → (c1.segments j ≡ c.segments j) ⊎ IsDoomed j new (c.segments j) (c1.segments j)
 
+-- Where an event is replied a conflict, its segment has nothing in hand any more. It was doomed by that conflict before,
+-- or lost it in this event.
+abbrev pub IsTold : {S : Type 0} → ℕ → Reply → List Conflict → CoreState S → CoreState S → Type 0
+IsTold k (Lost f) new c c1 = (c1.segments k ≡ Idle) × ((c.segments k ≡ Doomed f) ⊎ (Contains new f × ((loser f).segment ≡ k)))
+IsTold k _ new c c1 = Unit {0}
+
 -- ---- events
 
 pub record Leaves {S : Type 0} (p : Prog S) (l : Limits) (e : Event) (r : Reply) (c c1 : CoreState S) : Type 0 where
   pub shows : Shows l e r c c1
   pub beside : LeavesOthers p l.length (steps_in e) e c c1
+  pub told : IsTold (event_segment e) r beside.new c c1
 
 -- one after another
 abbrev pub AllLeave : {S : Type 0} → Prog S → Limits → List Event → List Reply → CoreState S → CoreState S → Type 0

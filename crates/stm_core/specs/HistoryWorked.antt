@@ -1,6 +1,6 @@
 -- What events leave, worked by hand on a core of one thread. States `docs/HEAP.md`, "The law of events".
 use Rattle.std.specs.Prelude.{◌≡◌, ℕ, true, false, cond, eqb, [], ◌∷◌, Some, None, refl}
-use Rattle.std.proofs.Common.{arith}
+use Rattle.std.proofs.Common.{arith, inl, inr}
 use Rattle.std.proofs.lemmas.List.Elements.{Contains-push}
 use Rattle.py_data.specs.declared.stop.Conflict.{Conflict}
 use Rattle.py_base.specs.declared.kind.Kind.TheVariants.{Cell}
@@ -13,7 +13,7 @@ use Rattle.stm_core.specs.CoreState.{Transaction, Idle, Doomed, Running, CoreSta
 use Rattle.stm_core.specs.Conflict.{conflict}
 use Rattle.stm_core.specs.Events.{Limits}
 use Rattle.stm_core.specs.Hold.{no_world}
-use Rattle.stm_core.specs.History.{event_segment, steps_in, Shows, IsMadeBy, IsDoomed, numbers_of, IsGrown}
+use Rattle.stm_core.specs.History.{event_segment, steps_in, Shows, IsMadeBy, IsDoomed, IsTold, numbers_of, IsGrown}
 
 abbrev limits : Limits
 limits = record { length = 10; budget = 100; segments = 2; words = 0 }
@@ -58,6 +58,9 @@ read_by = conflict 0 writer 1 reader 3 false 1
 
 abbrev asked_by : Conflict
 asked_by = conflict 0 writer 1 reader 3 true 1
+
+abbrev won_by : Conflict
+won_by = conflict 0 writer 1 reader 3 false 0
 
 commit_makes : IsMadeBy (Commit 0) read_by
 commit_makes = (refl, refl)
@@ -119,6 +122,13 @@ commit_shows = record {
 -- a commit that is told its conflict commits nothing
 lost_shows : Shows limits (Commit 0) (Lost read_by) before (with_segment 0 Idle before)
 lost_shows = record { image = refl; threads = refl; world = refl; history = refl }
+
+-- a commit that loses a conflict, and one that was doomed by it before
+lost_told : IsTold 0 (Lost won_by) (won_by ∷ []) before (with_segment 0 Idle before)
+lost_told = (refl, inr (Contains-push [] won_by, refl))
+
+doomed_told : IsTold 1 (Lost read_by) [] (with_segment 1 (Doomed read_by) before) (with_segment 1 Idle before)
+doomed_told = (refl, inl refl)
 
 -- ---- replies
 
