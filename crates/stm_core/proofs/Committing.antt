@@ -14,9 +14,10 @@ use Rattle.stm_core.specs.declared.books.Work.{Work}
 use Rattle.stm_core.specs.declared.books.Hand.{Hand}
 use Rattle.stm_core.specs.declared.books.Hand.TheVariants.{Idle as IdleHand, Doomed as DoomedHand, Runs}
 use Rattle.stm_core.specs.declared.books.Books.{Books}
-use Rattle.stm_core.specs.CoreState.{Transaction, Doomed, Running, CoreState, side, wins, with_segment, with_conflict}
+use Rattle.stm_core.specs.CoreState.{Transaction, Doomed, Running, CoreState, with_segment, with_conflict}
+use Rattle.stm_core.specs.Conflict.{conflict, side, wins}
 use Rattle.stm_core.specs.Books.{is_running, runs_at, side_of, transaction, segment_of, core_of}
-use Rattle.stm_core.specs.Passes.{met, read_conflict, doom_met, doom_one, doom_readers, NoneWins}
+use Rattle.stm_core.specs.Passes.{met, doom_met, doom_one, doom_readers, NoneWins}
 use Rattle.stm_core.specs.Advance.{core_with}
 use Rattle.stm_core.specs.Readers.{read_at, work_side, Beats, FirstBeats}
 use Rattle.stm_core.specs.Committed.{Beaten}
@@ -170,7 +171,7 @@ module _ {S : Type 0} (w : World) (k : ℕ) (m : Meaning) (b : Books S) (x : Wor
       let tx = transaction w (m.part k) x in
       let ty = transaction w (m.part j) z.0 in
       let c = core_with w k m b x in
-      let g = read_conflict k tx j ty a in
+      let g = conflict k tx j ty a false 1 in
       let fg : f ≡ g = is ∙ ap (λ o. record { at = record { 0 = a }; writer = work_side k x; other = o; asks = false; lost = 1 }) (other z.0 z.1) in
       let lt = runs_within b.hands.items j r.1 in
       let own_part : (after_drop j m).part k ≡ m.part k = cond-false (eqb k j) (ended (m.part j)) (m.part k) (ne_eqb k j (λ q. n (sym q))) in

@@ -20,9 +20,10 @@ use Rattle.stm_core.specs.declared.books.Hand.TheVariants.{Idle as IdleHand, Doo
 use Rattle.stm_core.specs.declared.books.Books.{Books}
 use Rattle.stm_core.specs.declared.commit.Commit.{Commit}
 use Rattle.stm_core.specs.declared.commit.Commit.TheVariants.{Committed as AtTurn, Nothing}
-use Rattle.stm_core.specs.CoreState.{Transaction, Segment, Idle, Doomed, Running, CoreState, side, wins, set_segment, with_segment, with_conflict}
+use Rattle.stm_core.specs.CoreState.{Transaction, Segment, Idle, Doomed, Running, CoreState, set_segment, with_segment, with_conflict}
+use Rattle.stm_core.specs.Conflict.{side, wins, IsMet, IsStanding}
 use Rattle.stm_core.specs.Good.{Good}
-use Rattle.stm_core.specs.Moves.{IsStanding, Drops, Loses, published}
+use Rattle.stm_core.specs.Moves.{Drops, Loses, published}
 use Rattle.stm_core.specs.Books.{WorkFits, is_running, runs_at, one_running, one_started, is_lock, transaction, segment_of, core_of, Fit}
 use Rattle.stm_core.specs.Passes.{met, doom_met, doom_one, doom_readers}
 use Rattle.stm_core.specs.Whole.{Whole}
@@ -212,22 +213,23 @@ mem_range a (suc n) j le lt = elim (cases_Bool (eqb j a)) [
 ]
 
 module _ {S : Type 0} (p : Prog S) (start : Machine S) (most k n : ℕ) (c c1 : CoreState S) (g : Good p start most c) (within : (j : ℕ) (y : Transaction S) → c.segments j ≡ Running y → j < n) where
-  beaten_stands : (x : Transaction S) (f : Conflict) → c.segments k ≡ Running x → Beaten k x f c → IsStanding c f × (with_conflict f (with_segment k Idle c) ≡ with_conflict f (with_segment f.writer.segment Idle c)) × (f.lost ≡ 0)
+  beaten_stands : (x : Transaction S) (f : Conflict) → c.segments k ≡ Running x → Beaten k x f c → IsStanding p c f × (with_conflict f (with_segment k Idle c) ≡ with_conflict f (with_segment f.writer.segment Idle c)) × (f.lost ≡ 0)
   beaten_stands x f is h =
       let r = met_some x.changed h.reader.looked f.at.0 h.seen in
       let ww : f.writer ≡ side k x = ap (λ (z : Conflict). z.writer) h.is in
       let ws : f.writer.segment ≡ k = ap (λ (z : Conflict). z.writer.segment) h.is in
+      let as' : false ≡ f.asks = sym (ap (λ (z : Conflict). z.asks) h.is) in
       let lo : f.lost ≡ 0 = ap (λ (z : Conflict). z.lost) h.is in (
         record {
           x = x;
           y = h.reader;
           writes = ap c.segments ws ∙ is;
           reads = h.reads;
-          writer = ww ∙ ap (λ i. side i x) (sym ws);
-          other = ap (λ (z : Conflict). z.other) h.is;
+          is = h.is ∙ (λ i. record { at = f.at; writer = side (sym ws i) x; other = side f.other.segment h.reader; asks = as' i; lost = sym lo i });
           differ = λ e. h.differ (sym e ∙ ws);
           held = r.0;
-          seen = inl r.1;
+          met = subst (IsMet p c.image c.world h.reader f.at.0) as' r.1;
+          lost = omega (arith, lo);
           loses = ap (λ l. wins (cond (eqb l 0) f.other f.writer) (cond (eqb l 0) f.writer f.other)) lo ∙ ap (wins f.other) ww ∙ h.beats;
         },
         ap (λ i. with_conflict f (with_segment i Idle c)) (sym ws),

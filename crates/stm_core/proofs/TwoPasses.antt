@@ -1,14 +1,15 @@
 -- The two passes of a commit are moves.
-use Rattle.std.proofs.Common.{◌≡◌, ◌≢◌, ◌≤◌, ℕ, true, false, cond, eqb, List, [], ◌∷◌, ◌++◌, Option, Some, None, refl, sym, ◌∙◌, ap, subst, inl, inr}
+use Rattle.std.proofs.Common.{◌≡◌, ◌≢◌, ◌≤◌, ℕ, true, false, cond, eqb, List, [], ◌∷◌, ◌++◌, Option, Some, None, refl, sym, ◌∙◌, ap, subst, inl, inr, arith}
 use Rattle.std.proofs.lemmas.Bool.{cases_Bool, both_ways, or_cases, or_right, or_left, eqb-true, eqb-false, eq-eqb, ne_eqb, cond-true, cond-false}
 use Rattle.py_data.specs.Heap.{Marks}
 use Rattle.py_data.specs.Sight.{mem}
 use Rattle.lock_run.specs.Prog.{Prog}
 use Rattle.lock_run.specs.Machine.{Machine}
-use Rattle.stm_core.specs.CoreState.{Transaction, Segment, Idle, Doomed, Running, CoreState, wins, with_segment, with_conflict}
+use Rattle.stm_core.specs.CoreState.{Transaction, Segment, Idle, Doomed, Running, CoreState, with_segment, with_conflict}
+use Rattle.stm_core.specs.Conflict.{conflict, wins, IsStanding}
 use Rattle.stm_core.specs.Good.{Good}
-use Rattle.stm_core.specs.Moves.{IsStanding, Move, Dooms, Commits, Next, Follows}
-use Rattle.stm_core.specs.Passes.{met, read_conflict, doom_met, doom_one, doom_readers, after_commit, NoneWins}
+use Rattle.stm_core.specs.Moves.{Move, Dooms, Commits, Next, Follows}
+use Rattle.stm_core.specs.Passes.{met, doom_met, doom_one, doom_readers, after_commit, NoneWins}
 use Rattle.stm_core.proofs.Kept.{set_cases, good_after}
 
 -- the dooms of the second pass
@@ -77,9 +78,9 @@ clears_one {S} c most i x j k mine wins ne (Running z) is = go (met x.changed z.
       ];
     }
     go (Some a) e =
-        let f = read_conflict i x j z a in
+        let f = conflict i x j z a false 1 in
         let r = met_some x.changed z.looked a e in
-        let stands : IsStanding k f = record { x = x; y = z; writes = mine; reads = is; writer = refl; other = refl; differ = λ q. ne (sym q); held = r.0; seen = inl r.1; loses = wins j z a ne is e } in
+        let stands : IsStanding c k f = record { x = x; y = z; writes = mine; reads = is; is = refl; differ = λ q. ne (sym q); held = r.0; met = r.1; lost = omega arith; loses = wins j z a ne is e } in
         record {
           moves = Dooms f ∷ [];
           follows = (with_conflict f (with_segment j (Doomed f) k), (stands, refl), refl);

@@ -4,12 +4,9 @@ use Rattle.std.specs.List.{range_with_len}
 use Rattle.py_data.specs.declared.stop.Conflict.{Conflict}
 use Rattle.stm_core.specs.declared.commit.Commit.{Commit}
 use Rattle.stm_core.specs.declared.commit.Commit.TheVariants.{Committed as AtTurn, Nothing}
-use Rattle.stm_core.specs.CoreState.{Transaction, Segment, Idle, Doomed, Running, CoreState, side, wins, with_segment, with_conflict}
+use Rattle.stm_core.specs.CoreState.{Transaction, Segment, Idle, Doomed, Running, CoreState, with_segment, with_conflict}
+use Rattle.stm_core.specs.Conflict.{side, conflict, wins}
 use Rattle.stm_core.specs.Passes.{met, after_commit, NoneWins}
-
--- the writer x on segment i meets the reader y on segment j, which wins
-abbrev pub lost_conflict : {S : Type 0} → ℕ → Transaction S → ℕ → Transaction S → ℕ → Conflict
-lost_conflict i x j y a = record { at = record { 0 = a }; writer = side i x; other = side j y; asks = false; lost = 0 }
 
 -- The first pass ends at a reader that wins: of the running transactions that have looked at a record that x changed, and
 -- that win, the one of the least segment, and the first such record.
@@ -18,7 +15,7 @@ pub record Beaten {S : Type 0} (i : ℕ) (x : Transaction S) (f : Conflict) (c :
   pub reads : c.segments f.other.segment ≡ Running reader
   pub differ : f.other.segment ≢ i
   pub seen : met x.changed reader.looked ≡ Some f.at.0
-  pub is : f ≡ lost_conflict i x f.other.segment reader f.at.0
+  pub is : f ≡ conflict i x f.other.segment reader f.at.0 false 0
   pub beats : wins f.other (side i x) ≡ true
   pub first : (j : ℕ) (y : Transaction S) (a : ℕ) → j < f.other.segment → j ≢ i → c.segments j ≡ Running y → met x.changed y.looked ≡ Some a → wins (side j y) (side i x) ≡ false
 

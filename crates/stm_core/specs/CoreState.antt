@@ -1,7 +1,6 @@
 -- The state of the transactional core: the committed state, the history, the conflicts, and what each segment has in hand.
 -- States `docs/HEAP.md`, "The transactional core".
-use Rattle.std.specs.Prelude.{ℕ, Bool, false, cond, not, ◌||◌, ◌&&◌, eqb, ltb, List, [], ◌∷◌, ◌++◌, Option, None, slice_set}
-use Rattle.py_data.specs.declared.stop.Side.{Side}
+use Rattle.std.specs.Prelude.{ℕ, Bool, false, cond, ◌||◌, eqb, List, [], ◌∷◌, ◌++◌, Option, None, slice_set}
 use Rattle.py_data.specs.declared.stop.Conflict.{Conflict}
 use Rattle.py_data.specs.declared.value.Addr.{Addr}
 use Rattle.py_data.specs.Heap.{Heap, Marks}
@@ -48,22 +47,6 @@ pub record CoreState (S : Type 0) : Type 0 where
 -- the committed state, as one of the one-lock machine
 abbrev pub committed : {S : Type 0} → CoreState S → Machine S
 committed k = record { heap = k.image; threads = k.threads; world = k.world }
-
--- ---- conflicts
-
-abbrev pub loser : Conflict → Side
-loser f = cond (eqb f.lost 0) f.writer f.other
-
-abbrev pub winner : Conflict → Side
-winner f = cond (eqb f.lost 0) f.other f.writer
-
--- the solo one wins, and otherwise the one that began earlier
-abbrev pub wins : Side → Side → Bool
-wins x y = x.solo || (not y.solo && ltb x.begun y.begun)
-
--- a transaction as a side of a conflict
-abbrev pub side : {S : Type 0} → ℕ → Transaction S → Side
-side i x = record { segment = i; thread = x.thread; begun = x.begun; solo = x.solo }
 
 -- ---- what a transaction sees
 

@@ -10,7 +10,8 @@ use Rattle.lock_run.specs.declared.turn.Turn.{Turn}
 use Rattle.lock_run.specs.Prog.{Prog}
 use Rattle.lock_run.specs.Machine.{Machine, Steps, Runs}
 use Rattle.seg_store.specs.Meaning.{over}
-use Rattle.stm_core.specs.CoreState.{Transaction, Doomed, Running, CoreState, committed, loser, winner, wins, owned}
+use Rattle.stm_core.specs.CoreState.{Transaction, Doomed, Running, CoreState, committed, owned}
+use Rattle.stm_core.specs.Conflict.{loser, IsConflict}
 
 -- a lock: on a tracked record of the image, which counts as looked at
 pub record IsLocked (image : Heap) (looked : Marks) (a : ℕ) : Type 0 where
@@ -46,17 +47,6 @@ pub record Apart {S : Type 0} (x y : Transaction S) : Type 0 where
   pub changed : (a : ℕ) → mem a x.changed ≡ true → mem a y.changed ≡ false
   pub solo : x.solo ≡ true → y.solo ≡ false
 
--- a conflict of the list: over a tracked record of the image, between two segments, and the loser is the side that doesn't win
-pub record IsConflict (image : Heap) (begun : ℕ) (f : Conflict) : Type 0 where
-  pub entry : Rec
-  pub is : image f.at.0 ≡ Some entry
-  pub tracked : is_tracked entry.kind ≡ true
-  pub segments : f.writer.segment ≢ f.other.segment
-  pub numbers : f.writer.begun ≢ f.other.begun
-  pub loses : wins (winner f) (loser f) ≡ true
-  pub mortal : (loser f).solo ≡ false
-  pub below : (loser f).begun < begun
-
 -- where a cause is kept, a thread lives that no segment runs
 pub record Unfinished {S : Type 0} (p : Prog S) (k : CoreState S) : Type 0 where
   pub thread : ℕ
@@ -66,7 +56,7 @@ pub record Unfinished {S : Type 0} (p : Prog S) (k : CoreState S) : Type 0 where
   pub rests : (i : ℕ) (x : Transaction S) → k.segments i ≡ Running x → x.thread ≢ thread
 
 -- A core is good, from the machine's state `start` on: its history is a run that gives the committed state, each transaction
--- that runs stands and is apart from the others, and each conflict was one.
+-- that runs stands and is apart from the others, each conflict was one, and a doomed segment lost the one that it holds.
 pub record Good {S : Type 0} (p : Prog S) (start : Machine S) (most : ℕ) (k : CoreState S) : Type 0 where
   pub run : Runs p start k.history (committed k)
   pub short : All (λ (t : Turn). t.steps ≤ most) k.history
@@ -76,5 +66,5 @@ pub record Good {S : Type 0} (p : Prog S) (start : Machine S) (most : ℕ) (k : 
   pub conflicts : All (IsConflict k.image k.begun) k.conflicts
   pub lost : (i : ℕ) (x : Transaction S) → k.segments i ≡ Running x → All (λ (f : Conflict). (loser f).begun ≢ x.begun) k.conflicts
   pub differ : AllPairs (λ (f g : Conflict). (loser f).begun ≢ (loser g).begun) k.conflicts
-  pub doomed : (i : ℕ) (f : Conflict) → k.segments i ≡ Doomed f → Contains k.conflicts f
+  pub doomed : (i : ℕ) (f : Conflict) → k.segments i ≡ Doomed f → Contains k.conflicts f × ((loser f).segment ≡ i)
   pub caused : k.cause ≢ None → Unfinished p k

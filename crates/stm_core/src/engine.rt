@@ -40,7 +40,8 @@ impl<'p, C: Client, S: SegStore> Engine<'p, C, S> {
     ghost use Rattle.lock_run.specs.Client.{Standing};
     ghost use Rattle.lock_run.specs.declared.client.Life.TheVariants.{Lives};
     ghost use Rattle.seg_store.specs.Meaning.{sees};
-    ghost use Rattle.stm_core.specs.CoreState.{side, with_conflict, with_segment, Running};
+    ghost use Rattle.stm_core.specs.CoreState.{with_conflict, with_segment, Running};
+    ghost use Rattle.stm_core.specs.Conflict.{side};
     ghost use Rattle.stm_core.specs.Books.{Fit, transaction, core_of};
     ghost use Rattle.stm_core.specs.Whole.{Whole, SameShape, stepped, StepDone, StepCut};
     ghost use Rattle.stm_core.specs.Advanced.{with_cause};

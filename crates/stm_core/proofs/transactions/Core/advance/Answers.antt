@@ -5,10 +5,10 @@ use Rattle.stm_core.specs.CoreHeld.{core_limits}
 use Rattle.stm_core.proofs.transactions.Core.advance.Goals as goal
 
 pub returns-clause-good : goal.returns-clause-good
-returns-clause-good g c = good_again g.C.Client.prog g.C.Client.sound g.S.SegStore.reserved g.S.SegStore.meaning c.args.self.now c.advance-result.new.self (record { client = ap (λ z. z.client.now) c.advance-result.ensures.rest; shape = c.advance-result.ensures.shape; store = c.known.ensures; whole = c.advance-result.ensures.whole; count = counted_on (g.C.Client.prog c.args.self.now.engine.client.now) (g.C.Client.sound c.args.self.now.engine.client.now) c.args.self.now.length c.args.k c.args.most _ _ (g.S.SegStore.meaning c.args.self.now.engine.store) (g.S.SegStore.meaning c.advance-result.new.self.store) c.args.self.now.engine.books c.advance-result.new.self.books c.args.self.now.engine.spent c.advance-result.new.self.spent c.advance-result.result c.requires.good.sane c.advance-result.ensures.advanced (ap (λ z. z.spent) c.advance-result.ensures.rest) c.requires.good.count; sane = c.advance-result.ensures.sane })
+returns-clause-good g c = good_again g.C.Client.prog g.C.Client.sound g.S.SegStore.reserved g.S.SegStore.meaning c.args.self.now c.advance-result.new.self (record { client = ap (λ z. z.client.now) c.advance-result.ensures.rest; shape = c.advance-result.ensures.shape; store = c.known.ensures.store; whole = c.advance-result.ensures.whole; count = counted_on (g.C.Client.prog c.args.self.now.engine.client.now) (g.C.Client.sound c.args.self.now.engine.client.now) c.args.self.now.length c.args.k c.args.most _ _ (g.S.SegStore.meaning c.args.self.now.engine.store) (g.S.SegStore.meaning c.advance-result.new.self.store) c.args.self.now.engine.books c.advance-result.new.self.books c.args.self.now.engine.spent c.advance-result.new.self.spent c.advance-result.result c.requires.good.sane c.advance-result.ensures.advanced (ap (λ z. z.spent) c.advance-result.ensures.rest) c.requires.good.count; sane = c.advance-result.ensures.sane })
 
 pub returns-clause-job : goal.returns-clause-job
-returns-clause-job g c = same_again g.C.Client.prog g.C.Client.sound g.S.SegStore.reserved g.S.SegStore.meaning c.args.self.now c.advance-result.new.self (record { client = ap (λ z. z.client.now) c.advance-result.ensures.rest; shape = c.advance-result.ensures.shape; store = c.known.ensures; whole = c.advance-result.ensures.whole; count = counted_on (g.C.Client.prog c.args.self.now.engine.client.now) (g.C.Client.sound c.args.self.now.engine.client.now) c.args.self.now.length c.args.k c.args.most _ _ (g.S.SegStore.meaning c.args.self.now.engine.store) (g.S.SegStore.meaning c.advance-result.new.self.store) c.args.self.now.engine.books c.advance-result.new.self.books c.args.self.now.engine.spent c.advance-result.new.self.spent c.advance-result.result c.requires.good.sane c.advance-result.ensures.advanced (ap (λ z. z.spent) c.advance-result.ensures.rest) c.requires.good.count; sane = c.advance-result.ensures.sane })
+returns-clause-job g c = same_again g.C.Client.prog g.C.Client.sound g.S.SegStore.reserved g.S.SegStore.meaning c.args.self.now c.advance-result.new.self (record { client = ap (λ z. z.client.now) c.advance-result.ensures.rest; shape = c.advance-result.ensures.shape; store = c.known.ensures.store; whole = c.advance-result.ensures.whole; count = counted_on (g.C.Client.prog c.args.self.now.engine.client.now) (g.C.Client.sound c.args.self.now.engine.client.now) c.args.self.now.length c.args.k c.args.most _ _ (g.S.SegStore.meaning c.args.self.now.engine.store) (g.S.SegStore.meaning c.advance-result.new.self.store) c.args.self.now.engine.books c.advance-result.new.self.books c.args.self.now.engine.spent c.advance-result.new.self.spent c.advance-result.result c.requires.good.sane c.advance-result.ensures.advanced (ap (λ z. z.spent) c.advance-result.ensures.rest) c.requires.good.count; sane = c.advance-result.ensures.sane })
 
 pub advance-result-requires-clause-segment : goal.advance-result-requires-clause-segment
 advance-result-requires-clause-segment g c = (going (g.S.SegStore.meaning c.args.self.now.engine.store) c.args.self.now.engine.books (core_limits g.S.SegStore.meaning c.args.self.now) c.args.k c.args.most refl (c.requires.may dry_world)).segment

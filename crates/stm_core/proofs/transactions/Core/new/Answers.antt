@@ -5,7 +5,7 @@ use Rattle.stm_core.proofs.transactions.Core.new.Goals as goal
 
 pub returns-in-Ok-clause-good : goal.returns-in-Ok-clause-good
 returns-in-Ok-clause-good g c = record {
-  store = subst (λ s. IsStore (g.S.SegStore.reserved s) (g.S.SegStore.meaning s)) (sym c.in-Ok.ensures.store) c.known.ensures;
+  store = subst (λ s. IsStore (g.S.SegStore.reserved s) (g.S.SegStore.meaning s)) (sym c.in-Ok.ensures.store) c.known.ensures.store;
   whole = c.in-Ok.ensures.whole;
   count = c.in-Ok.ensures.count;
   sane = subst (λ z. SaneCore (g.C.Client.prog z) (g.C.Client.sound z) c.args.length (g.S.SegStore.meaning c.in-Ok.engine.store) c.in-Ok.engine.books) (sym c.in-Ok.ensures.client) (c.in-Ok.ensures.sane c.args.length);
