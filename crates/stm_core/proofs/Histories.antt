@@ -157,8 +157,7 @@ module _ {S : Type 0} (p : Prog S) (most : ℕ) (e : Event) where
       conflicts =
           b.beside.conflicts ∙ ap (λ l. l ++ b.beside.new) a.beside.conflicts ∙ append_assoc c.conflicts a.beside.new b.beside.new;
       made = All-append (IsMadeBy e) a.beside.new b.beside.new a.beside.made b.beside.made;
-      stood =
-          All-append (Stood p most (event_segment e) n c) a.beside.new b.beside.new (All-weaker (Stood p most (event_segment e) n1 c) (Stood p most (event_segment e) n c) (λ f h. as_few f h) a.beside.new a.beside.stood) (All-weaker (Stood p most (event_segment e) n2 u) (Stood p most (event_segment e) n c) (λ f h. later f h) b.beside.new b.beside.stood);
+      stood = All-append (Stood p most (event_segment e) n c) a.beside.new b.beside.new earlier further;
       others =
           λ j d. left_then j a.beside.new b.beside.new (c.segments j) (u.segments j) (v.segments j) (a.beside.others j d) (b.beside.others j d);
     };
@@ -179,6 +178,14 @@ module _ {S : Type 0} (p : Prog S) (most : ℕ) (e : Event) where
             few = omega (arith, sum_by-append steps_of w.moves h.moves);
             standing = h.standing;
           }
+
+      earlier : All (Stood p most (event_segment e) n c) a.beside.new
+      earlier =
+          All-weaker (Stood p most (event_segment e) n1 c) (Stood p most (event_segment e) n c) (λ f h. as_few f h) a.beside.new a.beside.stood
+
+      further : All (Stood p most (event_segment e) n c) b.beside.new
+      further =
+          All-weaker (Stood p most (event_segment e) n2 u) (Stood p most (event_segment e) n c) (λ f h. later f h) b.beside.new b.beside.stood
 
   -- the same, with what is told to the event's segment
   abbrev Done : ℕ → Reply → CoreState S → CoreState S → Type 0
@@ -314,14 +321,19 @@ module _ {S : Type 0} (p : Prog S) (length k m reserved limit : ℕ) where
   ends_done u x (Ok (Ended n)) c1 h = (came_same p length (event.Advance k m) 0 u c1 h.1, tt)
   ends_done u x (Ok (NeedSolo n)) c1 h = (came_same p length (event.Advance k m) 0 u c1 h.2, tt)
   ends_done u x (Err (advance.Lost f)) c1 h =
-      subst (Done p length (event.Advance k m) 0 (Lost f) u) (sym h.3)
-      (came_conflict p length (event.Advance k m) 0 f u (with_conflict f (with_segment k Idle u)) (record { image = refl; threads = refl; world = refl; history = refl }) h.1 (h.2.segment, h.2.asks) refl
-      (λ j n. inl (cond-false (eqb j k) Idle (u.segments j) (ne_eqb j k n))),
-      (cond-true (eqb k k) Idle (u.segments k) (eq-eqb k k refl),
-      inr (Contains-push [] f, ap (λ z. (cond (eqb z 0) f.writer f.other).segment) h.2.lost_is ∙ h.2.segment)))
-  ends_done u x (Err (advance.Failed y)) c1 h =
-      (subst (Came p length (event.Advance k m) 0 u) (sym h.2)
-      (came_own p length (event.Advance k m) 0 u (with_cause y (with_segment k Idle u)) (record { image = refl; threads = refl; world = refl; history = refl }) refl (λ j n. cond-false (eqb j k) Idle (u.segments j) (ne_eqb j k n))), tt)
+      subst (Done p length (event.Advance k m) 0 (Lost f) u) (sym h.3) (
+        came_conflict p length (event.Advance k m) 0 f u (with_conflict f (with_segment k Idle u)) (record { image = refl; threads = refl; world = refl; history = refl }) h.1 (h.2.segment, h.2.asks) refl
+            (λ j n. inl (cond-false (eqb j k) Idle (u.segments j) (ne_eqb j k n))),
+        (
+          cond-true (eqb k k) Idle (u.segments k) (eq-eqb k k refl),
+          inr (Contains-push [] f, ap (λ z. (cond (eqb z 0) f.writer f.other).segment) h.2.lost_is ∙ h.2.segment),
+        ),
+      )
+  ends_done u x (Err (advance.Failed y)) c1 h = (
+    subst (Came p length (event.Advance k m) 0 u) (sym h.2)
+        (came_own p length (event.Advance k m) 0 u (with_cause y (with_segment k Idle u)) (record { image = refl; threads = refl; world = refl; history = refl }) refl (λ j n. cond-false (eqb j k) Idle (u.segments j) (ne_eqb j k n))),
+    tt,
+  )
 
   steps_done : (c : CoreState S) (result : Result Advance AdvanceError) (c1 : CoreState S)
       → StepsTaken p length k m reserved limit c result c1
@@ -332,14 +344,15 @@ module _ {S : Type 0} (p : Prog S) (length k m reserved limit : ℕ) where
       let count = steps_tries s.gone.tries ∙ s.gone.count in
       let few = at_most m s.steps result s.count in
       let way : Way p length (event.Advance k m) c s.before = record {
-            moves = ms;
-            follows = s.gone.follows;
-            own = All-weaker (Makes p length (event.Advance k m)) (IsOwn k) (makes_own p length (event.Advance k m)) ms made;
-          } in
+        moves = ms;
+        follows = s.gone.follows;
+        own = All-weaker (Makes p length (event.Advance k m)) (IsOwn k) (makes_own p length (event.Advance k m)) ms made;
+      } in
       let first = came_moves p length (event.Advance k m) ms c s.before made s.gone.follows in
-      let last = ends_done s.before s.last result c1 s.ends in
-      (came_then p length (event.Advance k m) (sum_by steps_of ms) 0 m c s.before c1 way (omega arith) (omega arith) first last.0,
-      told_later p length (event.Advance k m) (advance_reply result) first.beside.new last.0.beside.new c s.before c1 s.last s.runs last.1)
+      let last = ends_done s.before s.last result c1 s.ends in (
+        came_then p length (event.Advance k m) (sum_by steps_of ms) 0 m c s.before c1 way (omega arith) (omega arith) first last.0,
+        told_later p length (event.Advance k m) (advance_reply result) first.beside.new last.0.beside.new c s.before c1 s.last s.runs last.1,
+      )
 
   running_done : (x : Transaction S) (c : CoreState S) (result : Result Advance AdvanceError) (c1 : CoreState S)
       → AdvancedFrom (Running x) p length k m reserved limit c result c1
@@ -362,9 +375,10 @@ module _ {S : Type 0} (p : Prog S) (length k m reserved limit : ℕ) where
       → Done p length (event.Advance k m) m (advance_reply result) c c1
   advance_done Idle c result c1 is h = absurd h
   advance_done (Doomed f) c result c1 is h =
-      subst (λ (r : Result Advance AdvanceError). Done p length (event.Advance k m) m (advance_reply r) c c1) (sym h.0)
-      (came_set p length (event.Advance k m) m Idle c c1 h.1,
-      (ap (λ (z : CoreState S). z.segments k) h.1 ∙ cond-true (eqb k k) Idle (c.segments k) (eq-eqb k k refl), inl is))
+      subst (λ (r : Result Advance AdvanceError). Done p length (event.Advance k m) m (advance_reply r) c c1) (sym h.0) (
+        came_set p length (event.Advance k m) m Idle c c1 h.1,
+        (ap (λ (z : CoreState S). z.segments k) h.1 ∙ cond-true (eqb k k) Idle (c.segments k) (eq-eqb k k refl), inl is),
+      )
   advance_done (Running x) c result c1 is h = running_done x c result c1 h
 
 advance_shows : {S : Type 0} (l : Limits) (e : Event) (result : Result Advance AdvanceError) (c c1 : CoreState S)
@@ -466,10 +480,11 @@ module _ {S : Type 0} (p : Prog S) (l : Limits) (i : ℕ) (x : Transaction S) wh
       → c1 ≡ with_conflict f (with_segment i Idle c) → Done p l.length (event.Commit i) 0 (Lost f) c c1
   beaten_done f c c1 mine b is =
       let st = meets_reader c f.other.segment b.reader f.at.0 0 mine b.reads (λ q. b.differ (sym q)) b.seen (omega arith) (ap (λ (z : Conflict). wins z.other (side i x)) (sym b.is) ∙ b.beats) in
-      subst (Done p l.length (event.Commit i) 0 (Lost f) c) (sym is)
-      (came_conflict p l.length (event.Commit i) 0 f c (with_conflict f (with_segment i Idle c)) (record { image = refl; threads = refl; world = refl; history = refl }) (subst (IsStanding p c) (sym b.is) st)
-      (ap (λ (z : Conflict). z.writer.segment) b.is, ap (λ (z : Conflict). z.asks) b.is) refl (λ j n. inl (cond-false (eqb j i) Idle (c.segments j) (ne_eqb j i n))),
-      (cond-true (eqb i i) Idle (c.segments i) (eq-eqb i i refl), inr (Contains-push [] f, ap (λ (z : Conflict). (loser z).segment) b.is)))
+      subst (Done p l.length (event.Commit i) 0 (Lost f) c) (sym is) (
+        came_conflict p l.length (event.Commit i) 0 f c (with_conflict f (with_segment i Idle c)) (record { image = refl; threads = refl; world = refl; history = refl }) (subst (IsStanding p c) (sym b.is) st)
+            (ap (λ (z : Conflict). z.writer.segment) b.is, ap (λ (z : Conflict). z.asks) b.is) refl (λ j n. inl (cond-false (eqb j i) Idle (c.segments j) (ne_eqb j i n))),
+        (cond-true (eqb i i) Idle (c.segments i) (eq-eqb i i refl), inr (Contains-push [] f, ap (λ (z : Conflict). (loser z).segment) b.is)),
+      )
 
 commit_leaves : {S : Type 0} (p : Prog S) (l : Limits) (k : ℕ) (s : Segment S) (result : Result Commit Conflict)
     (c c1 : CoreState S) → c.segments k ≡ s → CommitOf k l.segments s result c c1
@@ -531,7 +546,7 @@ grown_quiet : {S : Type 0} (ns : List ℕ) (c u c1 : CoreState S) (new : List Co
 grown_quiet ns c u c1 new q f g = record {
   turns = g.turns;
   history = g.history ∙ ap (λ h. h ++ g.turns) q.history;
-  are = g.are ∙ ap (λ h. range_with_len (length h) (length g.turns)) q.history;
+  numbered = g.numbered ∙ ap (λ h. range_with_len (length h) (length g.turns)) q.history;
   new = new ++ g.new;
   conflicts = g.conflicts ∙ ap (λ h. h ++ g.new) f ∙ append_assoc c.conflicts new g.new;
   quiet = λ e. quiet_then c u c1 q (g.quiet e);
@@ -543,8 +558,8 @@ grown_commit l e n ns c u c1 new q f g =
     record {
       turns = turn_of q.x ∷ g.turns;
       history = g.history ∙ ap (λ h. h ++ g.turns) q.history ∙ append_assoc c.history (turn_of q.x ∷ []) g.turns;
-      are =
-          ap (λ z. n ∷ z) (g.are ∙ ap (λ i. range_with_len i (length g.turns)) more) ∙ ap (λ i. i ∷ range_with_len (length c.history + 1) (length g.turns)) q.number;
+      numbered =
+          ap (λ z. n ∷ z) (g.numbered ∙ ap (λ i. range_with_len i (length g.turns)) more) ∙ ap (λ i. i ∷ range_with_len (length c.history + 1) (length g.turns)) q.number;
       new = new ++ g.new;
       conflicts = g.conflicts ∙ ap (λ h. h ++ g.new) f ∙ append_assoc c.conflicts new g.new;
       quiet = λ d. absurd cc;
@@ -565,7 +580,7 @@ pub all_grown : {S : Type 0} (p : Prog S) (l : Limits) (es : List Event) (rs : L
 all_grown p l [] [] c c1 h = record {
   turns = [];
   history = ap (λ (z : CoreState _). z.history) h ∙ sym (append-nil c.history);
-  are = refl;
+  numbered = refl;
   new = [];
   conflicts = ap (λ (z : CoreState _). z.conflicts) h ∙ sym (append-nil c.conflicts);
   quiet = λ e. subst (IsQuiet c) (sym h) (quiet_none c);

@@ -98,10 +98,11 @@ pub record LeavesOthers {S : Type 0} (p : Prog S) (most n : ℕ) (e : Event) (c 
   pub others : (j : ℕ) → j ≢ event_segment e
       → (c1.segments j ≡ c.segments j) ⊎ IsDoomed j new (c.segments j) (c1.segments j)
 
--- Where an event is replied a conflict, its segment has nothing in hand any more. It was doomed by that conflict before,
--- or lost it in this event.
+-- Where an event is replied a conflict, its segment has nothing in hand any more. It was doomed by that conflict
+-- before, or lost it in this event.
 abbrev pub IsTold : {S : Type 0} → ℕ → Reply → List Conflict → CoreState S → CoreState S → Type 0
-IsTold k (Lost f) new c c1 = (c1.segments k ≡ Idle) × ((c.segments k ≡ Doomed f) ⊎ (Contains new f × ((loser f).segment ≡ k)))
+IsTold k (Lost f) new c c1 =
+    (c1.segments k ≡ Idle) × ((c.segments k ≡ Doomed f) ⊎ (Contains new f × ((loser f).segment ≡ k)))
 IsTold k _ new c c1 = Unit {0}
 
 -- ---- events
@@ -128,7 +129,7 @@ numbers_of (r ∷ rs) = numbers_of rs
 pub record IsGrown {S : Type 0} (numbers : List ℕ) (c c1 : CoreState S) : Type 0 where
   pub turns : List Turn
   pub history : c1.history ≡ c.history ++ turns
-  pub are : numbers ≡ range_with_len (length c.history) (length turns)
+  pub numbered : numbers ≡ range_with_len (length c.history) (length turns)
   pub new : List Conflict
   pub conflicts : c1.conflicts ≡ c.conflicts ++ new
   pub quiet : numbers ≡ [] → IsQuiet c c1

@@ -142,7 +142,7 @@ history_grown : IsGrown (numbers_of (Committed 0 ∷ [])) before after
 history_grown = record {
   turns = turn_of writer ∷ [];
   history = refl;
-  are = refl;
+  numbered = refl;
   new = [];
   conflicts = refl;
   quiet = λ e. absurd cc;
