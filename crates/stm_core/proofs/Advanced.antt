@@ -28,7 +28,7 @@ use Rattle.stm_core.specs.Moves.{ComesToWant, IsMetBy, Move, Begins, Drops, Doom
 use Rattle.stm_core.specs.Books.{core_of}
 use Rattle.stm_core.specs.Asking.{Reaches, AsksRoom}
 use Rattle.stm_core.specs.Advance.{Try, moves_of, IsStepOf, IsTry, Gone}
-use Rattle.stm_core.specs.Advanced.{IsLeft, OnlyOwn, IsOwn, IsCount, IsStepCause, Ends, StepsTaken, AdvancedFrom, Advanced, Led}
+use Rattle.stm_core.specs.Advanced.{IsLeft, OnlyOwn, IsOwn, CountsDone, IsStepCause, Ends, StepsTaken, AdvancedFrom, Advanced, Led}
 use Rattle.stm_core.specs.SaneCore.{SaneCore}
 use Rattle.stm_core.proofs.TwoPasses.{follows_append}
 use Rattle.stm_core.proofs.Kept.{set_cases, good_after}
@@ -211,7 +211,7 @@ module _ {S : Type 0} (p : Prog S) (most k : ℕ) where
 
   taken_led : (start : Machine S) (m reserved limit : ℕ) (c : CoreState S) (r : Result Advance AdvanceError) (c1 : CoreState S) → Good p start most c → StepsTaken p most k m reserved limit c r c1 → Led p most k c c1
   taken_led start m reserved limit c r c1 g t =
-      led_then c t.before c1 (gone_led t.steps c t.before t.gone) (ends_led start reserved limit t.before t.last r c1 (good_after p start most c t.before (moves_of t.gone.tries) g t.gone.follows) t.runs t.mortal (λ e q. t.room (subst (IsCount m t.steps) q t.count)) t.ends)
+      led_then c t.before c1 (gone_led t.steps c t.before t.gone) (ends_led start reserved limit t.before t.last r c1 (good_after p start most c t.before (moves_of t.gone.tries) g t.gone.follows) t.runs t.mortal (λ e q. t.room (subst (CountsDone m t.steps) q t.count)) t.ends)
 
   from_led : (start : Machine S) (m reserved limit : ℕ) (c : CoreState S) (r : Result Advance AdvanceError) (c1 : CoreState S) (s : Segment S) → c.segments k ≡ s → Good p start most c → AdvancedFrom s p most k m reserved limit c r c1 → Led p most k c c1
   from_led start m reserved limit c r c1 Idle is g a = absurd a

@@ -194,9 +194,6 @@ cut_idle p k e m m1 r1 b b1 x x1 d idle fit = let z = d dry_world refl in idle_a
 pub gone_same : {S : Type 0} (p : Prog S) (most k n : ℕ) (c c1 : CoreState S) → Gone p most k n c c1 → Gone p most k (n + 0) c c1
 gone_same p most k n c c1 z = let e = z.count in record { tries = z.tries; follows = z.follows; kinds = z.kinds; count = omega (arith, e); image = z.image; world = z.world; cause = z.cause }
 
-pub gone_more : {S : Type 0} (p : Prog S) (most k n d : ℕ) (c c1 : CoreState S) → d ≡ 1 → Gone p most k (n + 1) c c1 → Gone p most k (n + d) c c1
-gone_more p most k n d c c1 one z = let e = z.count in record { tries = z.tries; follows = z.follows; kinds = z.kinds; count = omega (arith, e, one); image = z.image; world = z.world; cause = z.cause }
-
 pub done_not_waits : Done ≢ WaitsNow
 done_not_waits e = cc
 

@@ -11,9 +11,9 @@ use Rattle.py_data.specs.Row.{Call}
 use Rattle.py_data.specs.Sight.{Sight}
 use Rattle.py_data.specs.World.{World}
 use Rattle.lock_run.specs.declared.client.Outcome.{Outcome}
-use Rattle.lock_run.specs.declared.client.Outcome.TheVariants.{Waits as WaitsNow}
+use Rattle.lock_run.specs.declared.client.Outcome.TheVariants.{Done as DoneNow, Ended as EndedNow, Waits as WaitsNow}
 use Rattle.lock_run.specs.declared.client.Life.TheVariants.{Lives}
-use Rattle.lock_run.specs.Client.{Waiting}
+use Rattle.lock_run.specs.Client.{Waiting, LifeAfter}
 use Rattle.lock_run.specs.Prog.{Prog}
 use Rattle.seg_store.specs.Meaning.{Meaning, sees, over}
 use Rattle.stm_core.specs.declared.books.Work.{Work}
@@ -28,7 +28,6 @@ use Rattle.stm_core.specs.Asking.{Reaches, AsksToChange, AsksOutside, AsksRoom}
 use Rattle.stm_core.specs.Hold.{LosesTo}
 use Rattle.stm_core.specs.Advance.{core_with, Sane}
 use Rattle.stm_core.specs.Whole.{SameShape, StepDone, StepCut}
-use Rattle.stm_core.specs.Pauses.{done_by}
 use Rattle.stm_core.specs.Pausing.{StopWhy, PauseWhy}
 use Rattle.stm_core.proofs.Advancing.{dry_world}
 use Rattle.stm_core.proofs.Afresh.{IsOfHeap, reaches_afresh, change_of_heap, outside_of_heap, room_of_heap}
@@ -47,15 +46,14 @@ why_waits {S} p k me o m m1 b b1 x x1 lives e d =
     let s = z.waits e in
     (ap p.life s.state ∙ lives, subst (λ h. Waiting (p.row x1.state) h) (sym (sees_stays dry_world k m m1 x x1 z.image s)) (subst (λ q. Waiting (p.row q) (sees m k)) (sym s.state) (z.waiting e)))
 
-zero_one : ◌≡◌ {A = ℕ} 0 1 → ⊥
-zero_one e = omega (arith, e)
+-- a step that was done tells whether the thread lives on
+pub life_done : {S : Type 0} (p : Prog S) (k : ℕ) (me : World → Side) (o : Outcome) (m m1 : Meaning) (b b1 : Books S) (x x1 : Work S) → o ≡ DoneNow → ((w : World) → w.mid ≡ false → StepDone p w k (me w) o m b x m1 b1 x1) → p.life x1.state ≡ Lives
+unfolding dry_world
+life_done p k me o m m1 b b1 x x1 e d = subst (λ z. LifeAfter z (p.life x1.state)) e (d dry_world refl).life
 
--- a step that was done
-pub why_counted : {S : Type 0} (p q : Prog S) (k : ℕ) (pause : Pause) (m1 : Meaning) (r1 : ℕ) (b1 : Books S) (x1 : Work S) → q ≡ p → done_by pause ≡ 1 → (pause ≡ Whole → q.life x1.state ≡ Lives) → (pause ≡ Ended → q.life x1.state ≢ Lives) → PauseWhy p k pause m1 r1 b1 x1
-why_counted p q k Whole m1 r1 b1 x1 same one lives ended = sym (ap (λ (z : Prog _). z.life x1.state) same) ∙ lives refl
-why_counted p q k Waits m1 r1 b1 x1 same one lives ended = absurd (zero_one one)
-why_counted p q k Ended m1 r1 b1 x1 same one lives ended = λ h. ended refl (ap (λ (z : Prog _). z.life x1.state) same ∙ h)
-why_counted p q k (Stopped e) m1 r1 b1 x1 same one lives ended = absurd (zero_one one)
+pub life_ended : {S : Type 0} (p : Prog S) (k : ℕ) (me : World → Side) (o : Outcome) (m m1 : Meaning) (b b1 : Books S) (x x1 : Work S) → o ≡ EndedNow → ((w : World) → w.mid ≡ false → StepDone p w k (me w) o m b x m1 b1 x1) → p.life x1.state ≢ Lives
+unfolding dry_world
+life_ended p k me o m m1 b b1 x x1 e d = subst (λ z. LifeAfter z (p.life x1.state)) e (d dry_world refl).life
 
 -- of the transactions that run none has the number of the one out of its hand
 pub numbers_apart : {S : Type 0} (p : Prog S) (sound : Heap → List S → Type 0) (most k : ℕ) (m : Meaning) (b : Books S) (x : Work S) → Sane p sound most k m b x → (w : World) (j : ℕ) (y : Transaction S) → j ≢ k → (core_of w m b).segments j ≡ Running y → y.begun ≢ x.begun

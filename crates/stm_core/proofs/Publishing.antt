@@ -29,7 +29,7 @@ use Rattle.stm_core.specs.Passes.{met, doom_met, doom_one, doom_readers}
 use Rattle.stm_core.specs.Whole.{Whole}
 use Rattle.stm_core.specs.Advance.{core_with}
 use Rattle.stm_core.specs.SaneCore.{SaneCore}
-use Rattle.stm_core.specs.Begun.{IsCount}
+use Rattle.stm_core.specs.Begun.{CountsSteps}
 use Rattle.stm_core.specs.Committed.{Beaten, CommitEnds, CommitOf, Committed}
 use Rattle.stm_core.proofs.Publish.{get_set_other}
 use Rattle.stm_core.proofs.Fits.{get_set_same, sum_set, seen_image}
@@ -140,7 +140,7 @@ dooms_keep {S} k x (j ∷ js) c =
     one (Running y) = met_keep y (met x.changed y.looked)
 
 -- the count of the history's steps, with one turn more
-pub count_more : (spent : ℕ) (ts : List Turn) (t : Turn) → IsCount spent ts → IsCount (min (spent + t.steps) (2 ^ 64 - 1)) (ts ++ t ∷ [])
+pub count_more : (spent : ℕ) (ts : List Turn) (t : Turn) → CountsSteps spent ts → CountsSteps (min (spent + t.steps) (2 ^ 64 - 1)) (ts ++ t ∷ [])
 count_more spent ts t e =
     let s = sum_by-append (λ (u : Turn). u.steps) ts (t ∷ []) in
     grind (arith, e, s)
@@ -213,7 +213,7 @@ mem_range a (suc n) j le lt = elim (cases_Bool (eqb j a)) [
 ]
 
 module _ {S : Type 0} (p : Prog S) (start : Machine S) (most k n : ℕ) (c c1 : CoreState S) (g : Good p start most c) (within : (j : ℕ) (y : Transaction S) → c.segments j ≡ Running y → j < n) where
-  beaten_stands : (x : Transaction S) (f : Conflict) → c.segments k ≡ Running x → Beaten k x f c → IsStanding p c f × (with_conflict f (with_segment k Idle c) ≡ with_conflict f (with_segment f.writer.segment Idle c)) × (f.lost ≡ 0)
+  pub beaten_stands : (x : Transaction S) (f : Conflict) → c.segments k ≡ Running x → Beaten k x f c → IsStanding p c f × (with_conflict f (with_segment k Idle c) ≡ with_conflict f (with_segment f.writer.segment Idle c)) × (f.lost ≡ 0)
   beaten_stands x f is h =
       let r = met_some x.changed h.reader.looked f.at.0 h.seen in
       let ww : f.writer ≡ side k x = ap (λ (z : Conflict). z.writer) h.is in

@@ -15,7 +15,7 @@ use Rattle.py_data.specs.Sight.{Sight, Does, mem, pure}
 use Rattle.lock_run.specs.declared.client.Outcome.{Outcome}
 use Rattle.lock_run.specs.declared.client.Life.TheVariants.{Lives}
 use Rattle.lock_run.specs.Prog.{Prog}
-use Rattle.lock_run.specs.Client.{AsksToPrint, Stepped, StepStopped, WaitsQuietly}
+use Rattle.lock_run.specs.Client.{AsksToPrint, Stepped, StepStopped, TellsLife, WaitsQuietly}
 use Rattle.seg_store.specs.Meaning.{Part, Meaning, sees, saw, holds}
 use Rattle.seg_store.specs.Calls.{opened, undone}
 use Rattle.seg_store.specs.Store.{IsStore}
@@ -139,8 +139,8 @@ module _ {S X : Type 0} (hold : X → Hold S) (segment : X → ℕ) (me : X → 
     core_begins v1 op = ap (λ (z : Hold S). core_of w z.meaning z.books) op ∙ core_own w k (opened (m.part k)) m b fit.out
 
     -- a step that was done
-    pub step_done : (o : Outcome) → WaitsQuietly prog → Stepped (seg_sense hold segment me same) (seg_bracket hold segment me same) (prog.row x.state) v o x1.state u → StepDone prog w k s o m b x m1 b1 x1
-    step_done o quiet h =
+    pub step_done : (o : Outcome) → TellsLife prog → WaitsQuietly prog → Stepped (seg_sense hold segment me same) (seg_bracket hold segment me same) (prog.row x.state) v o x1.state u → StepDone prog w k s o m b x m1 b1 x1
+    step_done o tells quiet h =
         let v1 = h.0 in
         let op : SegOpens k (hold v) (hold v1) = subst (λ i. SegOpens i (hold v) (hold v1)) ek h.1.0 in
         let r = row_done hold segment me same w k s mortal (prog.row x.state) v1 (o, x1.state) u (h.1.1.segment_is ∙ ek) (h.1.1.me_is ∙ es) asks h.2 in
@@ -160,6 +160,7 @@ module _ {S X : Type 0} (hold : X → Hold S) (segment : X → ℕ) (me : X → 
               (sym (ap (λ (z : Progress S). z.started) ep) ∙ q.1.started ∙ ap (λ (z : Hold S). z.progress.started) op ∙ ap (λ (z : Progress S). z.started) xp)
               (λ a l. ap (λ (z : Meaning). (z.part k).looked a) (sym em) ∙ r.1.looked a (ap (λ (z : Part). z.looked a) part ∙ l))
               (λ a l. ap (λ (z : Meaning). mem a (z.part k).changed) (sym em) ∙ r.1.locks a (ap (λ (z : Part). mem a z.changed) part ∙ l));
+          life = tells x.state x1.state (at_world w (sight k (hold v1))) (at_world w (sight k (hold u))) o lives r.0;
           waiting = λ e w1.
               let r1 = row_done hold segment me same w1 k s mortal (prog.row x.state) v1 (o, x1.state) u (h.1.1.segment_is ∙ ek) (h.1.1.me_is ∙ es) asks h.2 in
               waits_afresh (prog.row x.state) (at_world w1 (sight k (hold v1))) (at_world w1 (sight k (hold u))) (sees m k) w1 x1.state (ap (λ (z : Hold S). sees z.meaning k) op ∙ (step_shows k m).opened) refl

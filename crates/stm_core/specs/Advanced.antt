@@ -20,12 +20,12 @@ use Rattle.stm_core.specs.Moves.{first_cause, Move, Drops, Dooms, Loses, Goes, R
 use Rattle.stm_core.specs.Advance.{Gone}
 
 -- how many steps each answer says were done, where so many were asked for
-abbrev pub IsCount : ℕ → ℕ → Result Advance AdvanceError → Type 0
-IsCount most n (Ok (Ran i)) = (i ≡ n) × (n ≡ most)
-IsCount most n (Ok (Waits i)) = (i ≡ n) × (n < most)
-IsCount most n (Ok (Ended i)) = (i ≡ n) × (1 ≤ n) × (n ≤ most)
-IsCount most n (Ok (NeedSolo i)) = (i ≡ n) × (n < most)
-IsCount most n (Err e) = n < most
+abbrev pub CountsDone : ℕ → ℕ → Result Advance AdvanceError → Type 0
+CountsDone most n (Ok (Ran i)) = (i ≡ n) × (n ≡ most)
+CountsDone most n (Ok (Waits i)) = (i ≡ n) × (n < most)
+CountsDone most n (Ok (Ended i)) = (i ≡ n) × (1 ≤ n) × (n ≤ most)
+CountsDone most n (Ok (NeedSolo i)) = (i ≡ n) × (n < most)
+CountsDone most n (Err e) = n < most
 
 -- the next step of the transaction comes to a call of this kind
 abbrev pub StepReaches : {S : Type 0} → Prog S → CoreState S → Transaction S → (Call S → Sight S → Type 0) → Type 0
@@ -62,7 +62,7 @@ pub record StepsTaken {S : Type 0} (p : Prog S) (length k most reserved limit : 
   pub runs : before.segments k ≡ Running last
   pub mortal : last.solo ≡ false
   pub room : steps < most → last.steps < length
-  pub count : IsCount most steps result
+  pub count : CountsDone most steps result
   pub ends : Ends p k reserved limit before last result c1
 
 -- The answer, by what the segment has in hand: a doomed one is told its conflict and is idle then; where the thread of one that

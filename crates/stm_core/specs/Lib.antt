@@ -19,6 +19,7 @@ pub mod Standing
 pub mod Pausing
 pub mod Advanced
 pub mod Events
+pub mod EventLaw
 pub mod CoreHeld
 pub mod Finishing
 pub mod ScriptCore

@@ -12,7 +12,7 @@ use Rattle.py_data.specs.Sense.{Upto}
 use Rattle.py_data.specs.Sight.{Sight, mem, pure}
 use Rattle.lock_run.specs.declared.client.Outcome.{Outcome}
 use Rattle.lock_run.specs.declared.client.Outcome.TheVariants.{Waits as WaitsNow}
-use Rattle.lock_run.specs.Client.{Waiting}
+use Rattle.lock_run.specs.Client.{Waiting, LifeAfter}
 use Rattle.lock_run.specs.Prog.{Prog}
 use Rattle.seg_store.specs.Meaning.{Meaning, sees, holds}
 use Rattle.stm_core.specs.declared.books.Work.{Work}
@@ -51,6 +51,7 @@ pub record StepDone {S : Type 0} (p : Prog S) (w : World) (k : ℕ) (me : Side) 
   pub others : Dooms k me dooms (core_of w m b) (core_of w m1 b1)
   pub goes : o ≢ WaitsNow → Advances p m.image w (transaction w (m.part k) x) (transaction w (m1.part k) (stepped x1))
   pub waits : o ≡ WaitsNow → Stays m.image (transaction w (m.part k) x) (transaction w (m1.part k) x1)
+  pub life : LifeAfter o (p.life x1.state)
   pub waiting : o ≡ WaitsNow → Waiting (p.row x.state) (sees m k)
   pub last : Outcome × S
   pub went : Went (p.row x.state) (sight_of m.image w (transaction w (m.part k) x)) (Ret last) (m1.part k).looked (m1.part k).changed dooms

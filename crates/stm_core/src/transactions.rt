@@ -53,7 +53,7 @@ pub struct Core<'p, C: Client, S, I, O, E> {
     err: E,
 }
 
-impl<'p, C: Client, S: SegStore + Drop, I, O, E> Core<'p, C, S, I, O, E> {
+impl<'p, C: Client, S: SegStore, I, O, E> Core<'p, C, S, I, O, E> {
     ghost use Rattle.std.specs.Prelude.{◌≡◌, ◌≤◌, IfOk, IfErr};
     ghost use Rattle.py_data.specs.World.{World};
     ghost use Rattle.seg_store.specs.Store.{IsEmpty};
@@ -210,6 +210,7 @@ impl<'p, C: Client, S: SegStore, I, O, E> Core<'p, C, S, I, O, E> {
         ensures history { (w : World) → (core_at S.meaning w self.entry).history ≡ result.history.entries }
         ensures conflicts { (w : World) → (core_at S.meaning w self.entry).conflicts ≡ result.conflicts.entries }
         ensures image { (w : World) → (core_at S.meaning w self.entry).image ≡ (S.meaning result.store).image }
+        ensures shape { ((S.meaning result.store).segments ≡ (core_limits S.meaning self.entry).segments) × ((S.meaning result.store).limit ≡ (core_limits S.meaning self.entry).words) }
         ensures unused { (j : ℕ) → IsUnused ((S.meaning result.store).part j) }
         ensures devices { HasDevices result.input result.out result.err self.entry }
     {
