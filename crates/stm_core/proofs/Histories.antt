@@ -30,7 +30,7 @@ use Rattle.stm_core.specs.Conflict.{side, wins, conflict, loser, IsStanding, Ask
 use Rattle.stm_core.specs.Moves.{Move, Begins, Drops, Dooms, Loses, Goes, Rests, Commits, Keeps, Next, Follows, published, begun_at}
 use Rattle.stm_core.specs.Passes.{met, doom_met, doom_one, doom_readers, after_commit, NoneWins}
 use Rattle.stm_core.specs.Advance.{Try, moves_of, IsStepOf, IsTry, steps_of, steps_tried}
-use Rattle.stm_core.specs.Advanced.{IsCount, IsOwn, Ends, StepsTaken, AdvancedFrom, with_cause}
+use Rattle.stm_core.specs.Advanced.{CountsDone, IsOwn, Ends, StepsTaken, AdvancedFrom, with_cause}
 use Rattle.stm_core.specs.Begun.{Begun}
 use Rattle.stm_core.specs.Committed.{Beaten, CommitOf}
 use Rattle.stm_core.specs.Events.{Limits, begin_reply, advance_reply, commit_reply, may_make, Made, MadeIf, EventsMade}
@@ -306,7 +306,7 @@ steps_tries {S} (t ∷ ts) =
     omega (arith, sum_by-append (steps_of {S = S}) (map Dooms t.dooms) (t.move ∷ moves_of ts), steps_dooms S t.dooms, sum_by-cons (steps_of {S = S}) t.move (moves_of ts), sum_by-cons (steps_tried {S = S}) t ts, steps_tries ts)
 
 -- no answer says more steps than were asked for
-at_most : (most n : ℕ) (result : Result Advance AdvanceError) → IsCount most n result → n ≤ most
+at_most : (most n : ℕ) (result : Result Advance AdvanceError) → CountsDone most n result → n ≤ most
 at_most most n (Ok (Ran i)) h = let e = h.1 in omega arith
 at_most most n (Ok (Waits i)) h = let e = h.1 in omega arith
 at_most most n (Ok (Ended i)) h = h.2
