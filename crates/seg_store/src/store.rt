@@ -19,7 +19,8 @@ use thiserror::Error;
 /// Why a store refuses a change of a record.
 #[derive(Clone, Copy, Debug, Drop, Error, PartialEq, Eq)]
 pub enum StoreFault {
-    /// The heap has no room: `reserved + need > limit`, in words of 8 bytes.
+    /// The heap has no room: `reserved + need > limit`, in words of 8 bytes. What is needed is one extent, so `need` is a
+    /// power of two.
     #[error("the heap is full: {reserved} words reserved, {need} needed, limit {limit}")]
     Full {
         reserved: u64,
