@@ -28,7 +28,7 @@ use Rattle.stm_core.specs.Moves.{ComesToWant, IsMetBy, Move, Begins, Drops, Doom
 use Rattle.stm_core.specs.Books.{core_of}
 use Rattle.stm_core.specs.Asking.{Reaches, AsksRoom}
 use Rattle.stm_core.specs.Advance.{Try, moves_of, IsStepOf, IsTry, Gone}
-use Rattle.stm_core.specs.Advanced.{IsLeft, OnlyOwn, IsOwn, CountsDone, IsStepCause, Ends, StepsTaken, AdvancedFrom, Advanced, Led}
+use Rattle.stm_core.specs.Advanced.{IsLeft, StoodBetween, OnlyOwn, IsOwn, CountsDone, IsStepCause, Ends, StepsTaken, AdvancedFrom, Advanced, Led}
 use Rattle.stm_core.specs.SaneCore.{SaneCore}
 use Rattle.stm_core.proofs.TwoPasses.{follows_append}
 use Rattle.stm_core.proofs.Kept.{set_cases, good_after}
@@ -51,13 +51,21 @@ comes_to_want {S} p most u x n st mortal short lives r =
 module _ {S : Type 0} (p : Prog S) (most k : ℕ) where
   -- ---- what such moves leave alone
 
-  -- what a conflict is, seen from a state of the core: it stood in a state that moves lead to
-  abbrev Stood : CoreState S → Conflict → Type 0
-  Stood c f = (u : CoreState S) × (ms : List (Move S)) × Follows p most c ms u × IsStanding p u f
+  none_led : (c c1 : CoreState S) → c1 ≡ c → Led p most k c c1
+  none_led c c1 e = record { moves = []; follows = e; own = All-nil (IsOwn k) }
+
+  one_led : (mv : Move S) (c c1 : CoreState S) → IsOwn k mv → Next p most c mv c1 → Led p most k c c1
+  one_led mv c c1 o n = record { moves = mv ∷ []; follows = (c1, n, refl); own = All-cons (IsOwn k) mv [] o (All-nil (IsOwn k)) }
+
+  led_then : (c u v : CoreState S) → Led p most k c u → Led p most k u v → Led p most k c v
+  led_then c u v a b = record { moves = a.moves ++ b.moves; follows = follows_append p most c u v a.moves b.moves a.follows b.follows; own = All-append (IsOwn k) a.moves b.moves a.own b.own }
+
+  abbrev Stood : CoreState S → CoreState S → Conflict → Type 0
+  Stood c c1 f = StoodBetween p most k c c1 f
 
   -- nothing was done
   own_none : (c : CoreState S) → OnlyOwn p most k c c
-  own_none c = record { image = refl; threads = refl; world = refl; history = refl; begun = refl; last = refl; new = []; conflicts = sym (append-nil c.conflicts); stood = All-nil (Stood c); others = λ j n. inl refl }
+  own_none c = record { image = refl; threads = refl; world = refl; history = refl; begun = refl; last = refl; new = []; conflicts = sym (append-nil c.conflicts); stood = All-nil (Stood c c); others = λ j n. inl refl }
 
   -- the segment itself was set
   own_set : (s : Segment S) (c c1 : CoreState S) → c1 ≡ with_segment k s c → OnlyOwn p most k c c1
@@ -70,14 +78,14 @@ module _ {S : Type 0} (p : Prog S) (most k : ℕ) where
     last = ap (λ (z : CoreState S). z.last) e;
     new = [];
     conflicts = ap (λ (z : CoreState S). z.conflicts) e ∙ sym (append-nil c.conflicts);
-    stood = All-nil (Stood c);
+    stood = All-nil (Stood c c1);
     others = λ j n. inl (ap (λ (z : CoreState S). z.segments j) e ∙ cond-false (eqb j k) s (c.segments j) (ne_eqb j k n));
   }
 
   -- a conflict that stands was added, and its loser's segment set
-  own_conflict : (f : Conflict) (s : Segment S) (c c1 : CoreState S) → IsStanding p c f → c1 ≡ with_conflict f (with_segment (loser f).segment s c)
+  own_conflict : (f : Conflict) (s : Segment S) (c c1 : CoreState S) → IsStanding p c f → Led p most k c c1 → c1 ≡ with_conflict f (with_segment (loser f).segment s c)
       → ((j : ℕ) → j ≢ k → IsLeft (f ∷ []) (c.segments j) (cond (eqb j (loser f).segment) s (c.segments j))) → OnlyOwn p most k c c1
-  own_conflict f s c c1 st e left = record {
+  own_conflict f s c c1 st on e left = record {
     image = ap (λ (z : CoreState S). z.image) e;
     threads = ap (λ (z : CoreState S). z.threads) e;
     world = ap (λ (z : CoreState S). z.world) e;
@@ -86,7 +94,7 @@ module _ {S : Type 0} (p : Prog S) (most k : ℕ) where
     last = ap (λ (z : CoreState S). z.last) e;
     new = f ∷ [];
     conflicts = ap (λ (z : CoreState S). z.conflicts) e;
-    stood = All-cons (Stood c) f [] (c, [], refl, st) (All-nil (Stood c));
+    stood = All-cons (Stood c c1) f [] (record { state = c; before = none_led c c refl; after = on; stands = st }) (All-nil (Stood c c1));
     others = λ j n. subst (IsLeft (f ∷ []) (c.segments j)) (sym (ap (λ (z : CoreState S). z.segments j) e)) (left j n);
   }
 
@@ -97,12 +105,12 @@ module _ {S : Type 0} (p : Prog S) (most k : ℕ) where
   own_next (Drops i) c c1 o n = own_set Idle c c1 (n.1 ∙ ap (λ z. with_segment z Idle c) o)
   own_next (Goes i x x1) c c1 o n = own_set (Running x1) c c1 (n.4 ∙ ap (λ z. with_segment z (Running x1) c) o)
   own_next (Rests i x x1) c c1 o n = own_set (Running x1) c c1 (n.3 ∙ ap (λ z. with_segment z (Running x1) c) o)
-  own_next (Dooms f) c c1 o n = own_conflict f (Doomed f) c c1 n.0 n.1 (λ j d. go j (eqb j (loser f).segment))
+  own_next (Dooms f) c c1 o n = own_conflict f (Doomed f) c c1 n.0 (one_led (Dooms f) c c1 o n) n.1 (λ j d. go j (eqb j (loser f).segment))
     where
       go : (j : ℕ) (b : Bool) → IsLeft (f ∷ []) (c.segments j) (cond b (Doomed f) (c.segments j))
       go j true = inr (f, Contains-push [] f, refl)
       go j false = inl refl
-  own_next (Loses f) c c1 o n = own_conflict f Idle c c1 n.0 n.1 (λ j d. inl (cond-false (eqb j (loser f).segment) Idle (c.segments j) (ne_eqb j (loser f).segment (λ e. d (e ∙ o)))))
+  own_next (Loses f) c c1 o n = own_conflict f Idle c c1 n.0 (one_led (Loses f) c c1 o n) n.1 (λ j d. inl (cond-false (eqb j (loser f).segment) Idle (c.segments j) (ne_eqb j (loser f).segment (λ e. d (e ∙ o)))))
   own_next (Keeps y) c c1 o n =
       let e = n.6 in
       record {
@@ -114,13 +122,13 @@ module _ {S : Type 0} (p : Prog S) (most k : ℕ) where
         last = ap (λ (z : CoreState S). z.last) e;
         new = [];
         conflicts = ap (λ (z : CoreState S). z.conflicts) e ∙ sym (append-nil c.conflicts);
-        stood = All-nil (Stood c);
+        stood = All-nil (Stood c c1);
         others = λ j d. inl (ap (λ (z : CoreState S). z.segments j) e);
       }
 
   -- some moves, and then more
-  own_then : (c u v : CoreState S) (ms : List (Move S)) → Follows p most c ms u → OnlyOwn p most k c u → OnlyOwn p most k u v → OnlyOwn p most k c v
-  own_then c u v ms fl a b = record {
+  own_then : (c u v : CoreState S) → Led p most k c u → Led p most k u v → OnlyOwn p most k c u → OnlyOwn p most k u v → OnlyOwn p most k c v
+  own_then c u v lu lv a b = record {
     image = b.image ∙ a.image;
     threads = b.threads ∙ a.threads;
     world = b.world ∙ a.world;
@@ -129,7 +137,9 @@ module _ {S : Type 0} (p : Prog S) (most k : ℕ) where
     last = b.last ∙ a.last;
     new = a.new ++ b.new;
     conflicts = b.conflicts ∙ ap (λ l. l ++ b.new) a.conflicts ∙ append_assoc c.conflicts a.new b.new;
-    stood = All-append (Stood c) a.new b.new a.stood (All-weaker (Stood u) (Stood c) (λ f h. (h.0, ms ++ h.1, follows_append p most c u h.0 ms h.1 fl h.2, h.3)) b.new b.stood);
+    stood = All-append (Stood c v) a.new b.new
+        (All-weaker (Stood c u) (Stood c v) (λ f h. record { state = h.state; before = h.before; after = led_then h.state u v h.after lv; stands = h.stands }) a.new a.stood)
+        (All-weaker (Stood u v) (Stood c v) (λ f h. record { state = h.state; before = led_then c u h.state lu h.before; after = h.after; stands = h.stands }) b.new b.stood);
     others = λ j n. left (c.segments j) (u.segments j) (v.segments j) (a.others j n) (b.others j n);
   }
     where
@@ -142,12 +152,9 @@ module _ {S : Type 0} (p : Prog S) (most k : ℕ) where
   own_follows : (ms : List (Move S)) (c c1 : CoreState S) → All (IsOwn k) ms → Follows p most c ms c1 → OnlyOwn p most k c c1
   own_follows [] c c1 o f = subst (OnlyOwn p most k c) (sym f) (own_none c)
   own_follows (m ∷ ms) c c1 o f =
-      own_then c f.0 c1 (m ∷ []) (f.0, f.1, refl) (own_next m c f.0 (All-head (IsOwn k) m ms o) f.1) (own_follows ms f.0 c1 (All-tail (IsOwn k) m ms o) f.2)
+      own_then c f.0 c1 (one_led m c f.0 (All-head (IsOwn k) m ms o) f.1) (record { moves = ms; follows = f.2; own = All-tail (IsOwn k) m ms o }) (own_next m c f.0 (All-head (IsOwn k) m ms o) f.1) (own_follows ms f.0 c1 (All-tail (IsOwn k) m ms o) f.2)
 
   -- ---- a call is such moves
-
-  led_then : (c u v : CoreState S) → Led p most k c u → Led p most k u v → Led p most k c v
-  led_then c u v a b = record { moves = a.moves ++ b.moves; follows = follows_append p most c u v a.moves b.moves a.follows b.follows; own = All-append (IsOwn k) a.moves b.moves a.own b.own }
 
   step_own : (image : Heap) (w : World) (fs : List Conflict) (mv : Move S) → IsStepOf p image w k fs mv → IsOwn k mv
   step_own image w fs (Goes i x x1) h = h.0
@@ -170,12 +177,6 @@ module _ {S : Type 0} (p : Prog S) (most k : ℕ) where
 
   gone_led : (n : ℕ) (c c1 : CoreState S) → Gone p most k n c c1 → Led p most k c c1
   gone_led n c c1 g = record { moves = moves_of g.tries; follows = g.follows; own = tries_own c.image c.world g.tries g.kinds }
-
-  none_led : (c c1 : CoreState S) → c1 ≡ c → Led p most k c c1
-  none_led c c1 e = record { moves = []; follows = e; own = All-nil (IsOwn k) }
-
-  one_led : (mv : Move S) (c c1 : CoreState S) → IsOwn k mv → Next p most c mv c1 → Led p most k c c1
-  one_led mv c c1 o n = record { moves = mv ∷ []; follows = (c1, n, refl); own = All-cons (IsOwn k) mv [] o (All-nil (IsOwn k)) }
 
   -- what comes after the steps
   ends_led : (start : Machine S) (reserved limit : ℕ) (u : CoreState S) (x : Transaction S) (r : Result Advance AdvanceError) (c1 : CoreState S) → Good p start most u → u.segments k ≡ Running x → x.solo ≡ false → ((e : AdvanceError) → r ≡ Err e → IsShort most (suc x.steps)) → Ends p k reserved limit u x r c1 → Led p most k u c1

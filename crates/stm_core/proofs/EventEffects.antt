@@ -2,7 +2,7 @@
 use Rattle.std.proofs.Common.{◌≡◌, ◌≢◌, ◌<◌, ◌≤◌, ◌+◌, ℕ, Bool, true, false, eqb, nat_lt, List, [], ◌∷◌, ◌++◌, length, Result, Ok, Err, All, refl, sym, ◌∙◌, ap, subst, inl, inr, append-nil, append_assoc, length-append, arith}
 use Rattle.std.specs.List.{range_with_len}
 use Rattle.std.proofs.lemmas.Bool.{cases_Bool, eqb-true, eqb-false, ne_eqb, cond-true, cond-false}
-use Rattle.std.proofs.lemmas.List.Elements.{All-cons, All-nil}
+use Rattle.std.proofs.lemmas.List.Elements.{All-cons, All-nil, All-weaker}
 use Rattle.py_data.specs.declared.stop.Conflict.{Conflict}
 use Rattle.lock_run.specs.Prog.{Prog}
 use Rattle.lock_run.specs.Machine.{Machine}
@@ -19,11 +19,13 @@ use Rattle.stm_core.specs.declared.events.Reply.{Reply}
 use Rattle.stm_core.specs.declared.events.Reply.TheVariants.{Skipped, Begun as HasBegun, Refused, Advanced as HasAdvanced, Committed as HasCommitted, Nothing, Lost, Failed}
 use Rattle.stm_core.specs.CoreState.{Transaction, Segment, Idle, Doomed, Running, CoreState, turn_of, world_after, threads_after, set_segment, with_segment, with_conflict}
 use Rattle.seg_store.specs.Meaning.{overlay}
+use Rattle.py_data.specs.declared.stop.Side.{Side}
+use Rattle.stm_core.specs.Conflict.{loser}
 use Rattle.stm_core.specs.Good.{Good}
-use Rattle.stm_core.specs.Moves.{begun_at, published}
+use Rattle.stm_core.specs.Moves.{Loses, begun_at, published}
 use Rattle.stm_core.specs.Passes.{doom_readers, after_commit}
 use Rattle.stm_core.specs.Begun.{Begun}
-use Rattle.stm_core.specs.Advanced.{IsLeft, OnlyOwn, Led, Advanced}
+use Rattle.stm_core.specs.Advanced.{IsLeft, IsOwn, StoodBetween, OnlyOwn, Led, Advanced}
 use Rattle.stm_core.specs.Committed.{CommitEnds, CommitOf, Committed}
 use Rattle.stm_core.specs.Events.{Limits, begin_reply, advance_reply, commit_reply, may_make, Made, MadeIf, EventMade, EventsMade}
 use Rattle.stm_core.specs.EventLaw.{segment_of_event, IsPublished, IsAsBefore, Publishes, HasStood, EventDoes, EventsDo, commits_in, HistoryGrew, RunsWithin}
@@ -31,7 +33,7 @@ use Rattle.stm_core.proofs.Kept.{good_after}
 use Rattle.stm_core.proofs.Advanced.{advanced_led, led_own}
 use Rattle.stm_core.proofs.Beginning.{begun_good}
 use Rattle.stm_core.proofs.TwoPasses.{clears}
-use Rattle.stm_core.proofs.Publishing.{beaten_stands, committed_good}
+use Rattle.stm_core.proofs.Publishing.{committed_good}
 use Rattle.stm_core.proofs.Calling.{left, below}
 
 module _ {S : Type 0} (p : Prog S) (start : Machine S) (l : Limits) where
@@ -58,7 +60,7 @@ module _ {S : Type 0} (p : Prog S) (start : Machine S) (l : Limits) where
     commits = as_before k r c q n (record { image = im; threads = th; world = wo; history = hi });
     new = [];
     conflicts = co ∙ sym (append-nil c.conflicts);
-    stood = All-nil (HasStood p l.length c);
+    stood = All-nil (HasStood p l.length k c q);
     others = λ j d. inl (ap (λ f. f j) se ∙ cond-false (eqb j k) s (c.segments j) (ne_eqb j k d));
   })
 
@@ -67,7 +69,7 @@ module _ {S : Type 0} (p : Prog S) (start : Machine S) (l : Limits) where
     commits = as_before k r c c1 n h;
     new = [];
     conflicts = co ∙ sym (append-nil c.conflicts);
-    stood = All-nil (HasStood p l.length c);
+    stood = All-nil (HasStood p l.length k c c1);
     others = λ j d. inl (ap (λ f. f j) se);
   }
 
@@ -104,7 +106,7 @@ module _ {S : Type 0} (p : Prog S) (start : Machine S) (l : Limits) where
     commits = as_before k (advance_reply a) c c1 (advance_reply_commits a) (record { image = o.image; threads = o.threads; world = o.world; history = o.history });
     new = o.new;
     conflicts = o.conflicts;
-    stood = o.stood;
+    stood = All-weaker (StoodBetween p l.length k c c1) (HasStood p l.length k c c1) (λ f h. record { left = c1; stood = h; last = inl refl }) o.new o.stood;
     others = o.others;
   }
 
@@ -117,8 +119,8 @@ module _ {S : Type 0} (p : Prog S) (start : Machine S) (l : Limits) where
   no_turn_lost f n e = cc
 
   -- the readers that were doomed, and then the commit
-  commit_does : (k i : ℕ) (x : Transaction S) (c u : CoreState S) → c.segments k ≡ Running x → 1 ≤ x.steps → i ≡ length c.history → OnlyOwn p l.length k c u → EventDoes p l.length k (HasCommitted i) c (published k x u)
-  commit_does k i x c u is some num o = record {
+  commit_does : (k i : ℕ) (x : Transaction S) (c u : CoreState S) → c.segments k ≡ Running x → u.segments k ≡ Running x → 1 ≤ x.steps → i ≡ length c.history → OnlyOwn p l.length k c u → EventDoes p l.length k (HasCommitted i) c (published k x u)
+  commit_does k i x c u is runs some num o = record {
     commits = record {
       run = x;
       is = is;
@@ -131,7 +133,7 @@ module _ {S : Type 0} (p : Prog S) (start : Machine S) (l : Limits) where
     };
     new = o.new;
     conflicts = o.conflicts;
-    stood = o.stood;
+    stood = All-weaker (StoodBetween p l.length k c u) (HasStood p l.length k c (published k x u)) (λ f h. record { left = u; stood = h; last = inr (x, runs, refl) }) o.new o.stood;
     others = λ j d. subst (IsLeft o.new (c.segments j)) (sym (cond-false (eqb j k) Idle (u.segments j) (ne_eqb j k d))) (o.others j d);
   }
 
@@ -141,14 +143,17 @@ module _ {S : Type 0} (p : Prog S) (start : Machine S) (l : Limits) where
       let js = range_with_len 0 l.segments in
       let z = clears p l.length k x js c is h.1 in
       let o = led_own p l.length k c (doom_readers k x js c) (record { moves = z.moves; follows = z.follows; own = z.own }) in
-      subst (EventDoes p l.length k (HasCommitted i) c) (sym h.3) (commit_does k i x c (doom_readers k x js c) is h.0 h.2 o)
+      subst (EventDoes p l.length k (HasCommitted i) c) (sym h.3) (commit_does k i x c (doom_readers k x js c) is z.mine h.0 h.2 o)
   ends_does k x (Err f) c c1 s is h =
-      let b = beaten_stands p start l.length k l.segments c c1 s.good s.within x f is h.1 in
+      let u = with_conflict f (with_segment k Idle c) in
+      let lose : (loser f).segment ≡ k = ap (λ (z : Side). z.segment) (cond-true (eqb f.lost 0) f.writer f.other (ap (λ n. eqb n 0) h.1.lost)) ∙ h.1.writer in
+      let on : Led p l.length k c u = record { moves = Loses f ∷ []; follows = (u, (h.1.stands, ap (λ i. with_conflict f (with_segment i Idle c)) (sym lose)), refl); own = All-cons (IsOwn k) (Loses f) [] lose (All-nil (IsOwn k)) } in
+      let here : StoodBetween p l.length k c u f = record { state = c; before = record { moves = []; follows = refl; own = All-nil (IsOwn k) }; after = on; stands = h.1.stands } in
       subst (EventDoes p l.length k (Lost f) c) (sym h.2) (record {
         commits = record { image = refl; threads = refl; world = refl; history = refl };
         new = f ∷ [];
         conflicts = refl;
-        stood = All-cons (HasStood p l.length c) f [] (c, [], refl, b.0) (All-nil (HasStood p l.length c));
+        stood = All-cons (HasStood p l.length k c u) f [] (record { left = u; stood = here; last = inl refl }) (All-nil (HasStood p l.length k c u));
         others = λ j d. inl (cond-false (eqb j k) Idle (c.segments j) (ne_eqb j k d));
       })
 

@@ -213,7 +213,7 @@ mem_range a (suc n) j le lt = elim (cases_Bool (eqb j a)) [
 ]
 
 module _ {S : Type 0} (p : Prog S) (start : Machine S) (most k n : ℕ) (c c1 : CoreState S) (g : Good p start most c) (within : (j : ℕ) (y : Transaction S) → c.segments j ≡ Running y → j < n) where
-  pub beaten_stands : (x : Transaction S) (f : Conflict) → c.segments k ≡ Running x → Beaten p k x f c → IsStanding p c f × (with_conflict f (with_segment k Idle c) ≡ with_conflict f (with_segment f.writer.segment Idle c)) × (f.lost ≡ 0)
+  beaten_stands : (x : Transaction S) (f : Conflict) → c.segments k ≡ Running x → Beaten p k x f c → IsStanding p c f × (with_conflict f (with_segment k Idle c) ≡ with_conflict f (with_segment f.writer.segment Idle c)) × (f.lost ≡ 0)
   beaten_stands x f is h = (h.stands, ap (λ i. with_conflict f (with_segment i Idle c)) (sym h.writer), h.lost)
 
   ends_good : (x : Transaction S) (r : Result Commit Conflict) → c.segments k ≡ Running x → CommitEnds p k n x r c c1 → Good p start most c1

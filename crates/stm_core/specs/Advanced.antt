@@ -98,8 +98,15 @@ pub record Led {S : Type 0} (p : Prog S) (length k : ℕ) (c c1 : CoreState S) :
 abbrev pub IsLeft : {S : Type 0} → List Conflict → Segment S → Segment S → Type 0
 IsLeft fs s s1 = (s1 ≡ s) ⊎ ((f : Conflict) × Contains fs f × (s1 ≡ Doomed f))
 
--- Only segment k went on: the committed state stays, the new conflicts are at the list's end, each of them stood in a state that
--- the call came through, and another segment has what it had, or is doomed by a new conflict.
+-- a conflict stood on the way: in a state to which such moves lead, and from which they lead on
+pub record StoodBetween {S : Type 0} (p : Prog S) (length k : ℕ) (c c1 : CoreState S) (f : Conflict) : Type 0 where
+  pub state : CoreState S
+  pub before : Led p length k c state
+  pub after : Led p length k state c1
+  pub stands : IsStanding p state f
+
+-- Only segment k went on: the committed state stays, the new conflicts are at the list's end, each of them stood on the way, and
+-- another segment has what it had, or is doomed by a new conflict.
 pub record OnlyOwn {S : Type 0} (p : Prog S) (length k : ℕ) (c c1 : CoreState S) : Type 0 where
   pub image : c1.image ≡ c.image
   pub threads : c1.threads ≡ c.threads
@@ -109,5 +116,5 @@ pub record OnlyOwn {S : Type 0} (p : Prog S) (length k : ℕ) (c c1 : CoreState 
   pub last : c1.last ≡ c.last
   pub new : List Conflict
   pub conflicts : c1.conflicts ≡ c.conflicts ++ new
-  pub stood : All (λ (f : Conflict). (u : CoreState S) × (ms : List (Move S)) × Follows p length c ms u × IsStanding p u f) new
+  pub stood : All (StoodBetween p length k c c1) new
   pub others : (j : ℕ) → j ≢ k → IsLeft new (c.segments j) (c1.segments j)

@@ -1,5 +1,5 @@
 -- What events do to a core, in the words of transactions. States `docs/HEAP.md`, "Events".
-use Rattle.std.specs.Prelude.{◌≡◌, ◌≢◌, ℕ, ◌+◌, ◌<◌, ◌≤◌, List, [], ◌∷◌, ◌++◌, length, All}
+use Rattle.std.specs.Prelude.{◌≡◌, ◌≢◌, ◌⊎◌, ℕ, ◌+◌, ◌<◌, ◌≤◌, List, [], ◌∷◌, ◌++◌, length, All}
 use Rattle.py_data.specs.declared.stop.Conflict.{Conflict}
 use Rattle.lock_run.specs.declared.turn.Turn.{Turn}
 use Rattle.lock_run.specs.Prog.{Prog}
@@ -9,9 +9,8 @@ use Rattle.stm_core.specs.declared.events.Event.TheVariants.{Begin, Advance, Com
 use Rattle.stm_core.specs.declared.events.Reply.{Reply}
 use Rattle.stm_core.specs.declared.events.Reply.TheVariants.{Committed as HasCommitted}
 use Rattle.stm_core.specs.CoreState.{Transaction, Running, CoreState, turn_of, world_after, threads_after}
-use Rattle.stm_core.specs.Conflict.{IsStanding}
-use Rattle.stm_core.specs.Moves.{Move, Follows}
-use Rattle.stm_core.specs.Advanced.{IsLeft}
+use Rattle.stm_core.specs.Moves.{published}
+use Rattle.stm_core.specs.Advanced.{IsLeft, StoodBetween}
 use Rattle.stm_core.specs.Events.{Limits}
 
 -- the segment that an event is of
@@ -44,9 +43,12 @@ abbrev pub Publishes : {S : Type 0} → ℕ → Reply → CoreState S → CoreSt
 Publishes k (HasCommitted n) c c1 = IsPublished k n c c1
 Publishes k _ c c1 = IsAsBefore c c1
 
--- it stands in a state that these moves of the core lead to
-abbrev pub HasStood : {S : Type 0} → Prog S → ℕ → CoreState S → Conflict → Type 0
-HasStood {S} p length c f = (u : CoreState S) × (ms : List (Move S)) × Follows p length c ms u × IsStanding p u f
+-- A conflict stood in a state that an event of segment k came through: moves by which that segment went on lead from the first
+-- state to it, and from it to one that is the last, or of which the last is what the commit of the segment's transaction made.
+pub record HasStood {S : Type 0} (p : Prog S) (length k : ℕ) (c c1 : CoreState S) (f : Conflict) : Type 0 where
+  pub left : CoreState S
+  pub stood : StoodBetween p length k c left f
+  pub last : (c1 ≡ left) ⊎ ((x : Transaction S) × (left.segments k ≡ Running x) × (c1 ≡ published k x left))
 
 -- What an event of segment k does. Only a commit changes what is committed. Each new conflict stood in a state that the event came
 -- through. What another segment has in hand stays, or it is doomed by a new conflict.
@@ -54,7 +56,7 @@ pub record EventDoes {S : Type 0} (p : Prog S) (length k : ℕ) (r : Reply) (c c
   pub commits : Publishes k r c c1
   pub new : List Conflict
   pub conflicts : c1.conflicts ≡ c.conflicts ++ new
-  pub stood : All (HasStood p length c) new
+  pub stood : All (HasStood p length k c c1) new
   pub others : (j : ℕ) → j ≢ k → IsLeft new (c.segments j) (c1.segments j)
 
 -- each event of a list does so
