@@ -10,6 +10,7 @@ use Rattle.py_data.specs.Changes.{after, Allows, Suits, IsShort}
 use Rattle.py_data.specs.Sense.{IfThere}
 use Rattle.py_data.specs.Heap.{Rec, Heap, is_tracked}
 use Rattle.py_data.proofs.Grow.{for_tracked}
+use Rattle.py_data.proofs.Short.{short_after}
 use Rattle.seg_store.specs.declared.object.Object.{Object}
 use Rattle.seg_store.specs.Meaning.{over}
 use Rattle.seg_store.specs.Objects.{own, now_of}
@@ -28,10 +29,10 @@ good_seen t s n w a k o is r e = seen_by (now_of (own k o.held)) o.committed (λ
     seen_by (Some q) y f g e = f r e
 
 -- a record that was changed, as a segment may change it
-pub good_change : (x : Option Rec) (h : Heap) (q : Rec) (c : Change) (r : Rec) → IfThere false x (λ r. Allows c r × Suits false h c r) → x ≡ Some q → IsGood q → r ≡ after c q → (IsShort q → IsShort r) → IsGood r
-good_change x h q c r t e g n s =
+pub good_change : (x : Option Rec) (h : Heap) (q : Rec) (c : Change) (r : Rec) → IfThere false x (λ r. Allows c r × Suits false h c r) → x ≡ Some q → IsGood q → r ≡ after c q → IsGood r
+good_change x h q c r t e g n =
     let k : Allows c q × Suits false h c q = subst (λ o. IfThere false o (λ r. Allows c r × Suits false h c r)) e t in
-    let l = s (g.values, g.bytes) in
+    let l : IsShort r = subst IsShort (sym n) (short_after c q k.0 (g.values, g.bytes)) in
     record {
       values = l.0;
       bytes = l.1;

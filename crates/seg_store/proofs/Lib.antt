@@ -9,3 +9,4 @@ pub mod Knowing
 pub mod Halves
 pub mod Goodness
 pub mod Stores
+pub mod Wanting

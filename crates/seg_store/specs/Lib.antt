@@ -1,8 +1,11 @@
 pub mod Meaning
 pub mod Calls
+pub mod Extents
+pub mod Asking
 pub mod Store
 pub mod Laws
 pub mod Objects
 pub mod Hands
 pub mod Tables
 pub mod Plain
+pub mod Worked

@@ -7,6 +7,6 @@ mod object;
 mod plain;
 mod store;
 
-pub use laws::sees_law;
+pub use laws::{sees_law, wants_law};
 pub use plain::PlainStore;
 pub use store::{SegStore, StoreFault};

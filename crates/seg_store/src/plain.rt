@@ -291,6 +291,14 @@ impl SegStore for PlainStore {
     }
 
     #[tactic(auto, unfolding(py_data::specs::Heap::at))]
+    fn rooms(&self, k: u8, a: Addr) -> (usize, usize) {
+        match self.seen(k, a.0) {
+            Some(r) => r.rooms(),
+            None => unreachable!(),
+        }
+    }
+
+    #[tactic(auto, unfolding(py_data::specs::Heap::at))]
     fn copy_bytes(&self, k: u8, a: Addr, from: usize, out: &mut [u8]) {
         match self.seen(k, a.0) {
             Some(r) => {

@@ -1,5 +1,5 @@
 //! What the transactional core asks of a store.
-ghost use Rattle.std.specs.Prelude.{◌≡◌, ℕ, ◌≤◌, Option, Some, [], length, take, drop, slice_get, IfOk, IfErr, IfSome, OnOk, OnErr, true, ◌<◌, ◌*◌, ◌+◌};
+ghost use Rattle.std.specs.Prelude.{◌≡◌, ℕ, ◌≤◌, Option, Some, None, [], length, take, drop, slice_get, IfOk, IfErr, IfSome, OnOk, OnErr, true, ◌<◌, ◌*◌, ◌+◌};
 ghost use Rattle.py_data.specs.declared.record.TheConstants.{LENGTH_LIMIT};
 ghost use Rattle.py_data.specs.declared.change.Change.TheVariants.{Set, Push, Cut, Pair, Unpair};
 ghost use Rattle.py_data.specs.Changes.{after};
@@ -7,6 +7,7 @@ ghost use Rattle.py_data.specs.Heap.{Has, at, value_at, length_of};
 ghost use Rattle.py_data.specs.Shape.{IsShaped, find};
 ghost use Rattle.py_data.specs.Made.{rec_of};
 ghost use Rattle.seg_store.specs.declared.store.StoreFault.TheVariants.{OutOfMemory};
+ghost use Rattle.seg_store.specs.Asking.{AsksFor};
 ghost use Rattle.seg_store.specs.Meaning.{Meaning, sees, holds};
 ghost use Rattle.seg_store.specs.Calls.{after_begin, after_mark, after_lock, after_change, after_make, after_open, after_undo, after_publish, after_drop};
 ghost use Rattle.seg_store.specs.Store.{HasPlace, HasBytes, CanFind, CanChange, IsFull, NoOther, IsHolder, IsFree, Refuses, IsStore};
@@ -18,7 +19,8 @@ use thiserror::Error;
 /// Why a store refuses a change of a record.
 #[derive(Clone, Copy, Debug, Drop, Error, PartialEq, Eq)]
 pub enum StoreFault {
-    /// The heap has no room: `reserved + need > limit`, in words of 8 bytes.
+    /// The heap has no room: `reserved + need > limit`, in words of 8 bytes. What is needed is one extent, so `need` is a
+    /// power of two.
     #[error("the heap is full: {reserved} words reserved, {need} needed, limit {limit}")]
     Full {
         reserved: u64,
@@ -47,7 +49,7 @@ impl From<AllocError> for StoreFault {
 /// Contracts see a store as its meaning (`specs/Meaning.antt`). Each call that changes a store makes of the meaning what
 /// `specs/Calls.antt` says, which touches no other segment's part, and a call that is refused leaves the meaning as it was.
 /// Want of memory may come without a cause; the calls that answer no Result take no memory.
-pub trait SegStore: Peek {
+pub trait SegStore: Peek + Drop {
     /// The image, and what each segment has in hand.
     ghost meaning: { Self → Meaning };
 
@@ -75,7 +77,7 @@ pub trait SegStore: Peek {
 
     /// What always holds of a store, for a caller's proof. It does nothing.
     fn known(&self)
-        ensures { IsStore (reserved self.now) (meaning self.now) };
+        ensures store { IsStore (reserved self.now) (meaning self.now) };
 
     /// A transaction begins on a segment that holds nothing: it has looked at nothing yet.
     fn begin(&mut self, k: u8)
@@ -103,6 +105,14 @@ pub trait SegStore: Peek {
         requires segment { k < (meaning self.now).segments }
         requires there { HasPlace (sees (meaning self.now) k) a.0 i }
         ensures { result ≡ value_at (at (sees (meaning self.now) k) a.0).values i };
+
+    /// The room of a record that the segment sees, and the room that it had when it was made, in values: 0 and 0 for a record
+    /// that is no List and no Dict. No script can tell them. A copy of the record that is to run on as the record would
+    /// needs them.
+    fn rooms(&self, k: u8, a: Addr) -> (usize, usize)
+        requires segment { k < (meaning self.now).segments }
+        requires there { Has (sees (meaning self.now) k) a.0 }
+        ensures { result ≡ ((at (sees (meaning self.now) k) a.0).room, (at (sees (meaning self.now) k) a.0).first) };
 
     /// Copies as many bytes as `out` holds, from place `from` on.
     fn copy_bytes(&self, k: u8, a: Addr, from: usize, out: &mut [u8])
@@ -152,6 +162,7 @@ pub trait SegStore: Peek {
         ensures ok { OnOk result (meaning self.new ≡ after_change k a.0 (after (Push v)) (meaning self.old)) }
         ensures err { OnErr result (meaning self.new ≡ meaning self.old) }
         ensures cause { IfErr result (Refuses (IsFull (sees (meaning self.old) k) a.0 (Push v)) (fills self.old) (reserved self.new) (meaning self.old).limit) }
+        ensures asked { IfErr result (AsksFor (sees (meaning self.old) k a.0) (after (Push v) (at (sees (meaning self.old) k) a.0))) }
         ensures reserved { reserved self.old ≤ reserved self.new };
 
     /// Leaves the first `n` values of a List. It never meets a full heap.
@@ -173,6 +184,7 @@ pub trait SegStore: Peek {
         ensures ok { OnOk result (meaning self.new ≡ after_change k d.0 (after (Pair key v)) (meaning self.old)) }
         ensures err { OnErr result (meaning self.new ≡ meaning self.old) }
         ensures cause { IfErr result (Refuses (IsFull (sees (meaning self.old) k) d.0 (Pair key v)) (fills self.old) (reserved self.new) (meaning self.old).limit) }
+        ensures asked { IfErr result (AsksFor (sees (meaning self.old) k d.0) (after (Pair key v) (at (sees (meaning self.old) k) d.0))) }
         ensures reserved { reserved self.old ≤ reserved self.new };
 
     /// Drops the pair of that number; those behind close the gap. It never meets a full heap.
@@ -195,6 +207,7 @@ pub trait SegStore: Peek {
         ensures ok { IfOk result (λ n. meaning self.new ≡ after_make k n.0 (rec_of r.now) (meaning self.old)) }
         ensures err { OnErr result (meaning self.new ≡ meaning self.old) }
         ensures cause { IfErr result (Refuses (Unit {0}) (fills self.old) (reserved self.new) (meaning self.old).limit) }
+        ensures asked { IfErr result (AsksFor None (rec_of r.now)) }
         ensures reserved { reserved self.old ≤ reserved self.new };
 
     /// A step begins: what stands now is what `undo_step` gives back.

@@ -1,14 +1,16 @@
 -- Steps of a transaction, one after another, as moves of the core.
-use Rattle.std.proofs.Common.{◌≡◌, ◌≢◌, ◌<◌, ◌≤◌, ◌+◌, ℕ, zero, suc, true, false, cond, eqb, List, [], ◌∷◌, ◌++◌, length, slice_get, map, Option, Some, None, All, refl, sym, ◌∙◌, ap, subst, subst₂, arith}
+use Rattle.std.proofs.Common.{◌≡◌, ◌≢◌, ◌<◌, ◌≤◌, ◌+◌, ℕ, zero, suc, true, false, cond, eqb, List, [], ◌∷◌, ◌++◌, length, slice_get, map, Option, Some, None, All, refl, sym, ◌∙◌, ap, subst, subst₂, arith, append_assoc}
 use Rattle.std.specs.List.{sum_by}
 use Rattle.std.proofs.lemmas.List.Sums.{sum_by-append, sum_by-cons}
-use Rattle.std.proofs.lemmas.List.Elements.{All-append, All-cons, All-nil}
+use Rattle.std.proofs.lemmas.List.Elements.{All-cons, All-nil, All-push, All-weaker}
 use Rattle.std.proofs.lemmas.Bool.{eq-eqb, ne_eqb, cond-true, cond-false}
 use Rattle.py_data.specs.declared.stop.Side.{Side}
 use Rattle.py_data.specs.declared.stop.Conflict.{Conflict}
 use Rattle.py_data.specs.declared.stop.Stop.{Stop}
 use Rattle.py_data.specs.Heap.{Heap}
 use Rattle.py_data.specs.World.{World}
+use Rattle.py_data.specs.Row.{Row, Ret}
+use Rattle.py_data.specs.Sight.{Sight}
 use Rattle.lock_run.specs.declared.client.Outcome.{Outcome}
 use Rattle.lock_run.specs.declared.client.Outcome.TheVariants.{Done, Ended, Waits as WaitsNow}
 use Rattle.lock_run.specs.Prog.{Prog}
@@ -19,13 +21,14 @@ use Rattle.stm_core.specs.declared.books.Work.{Work}
 use Rattle.stm_core.specs.declared.books.Hand.{Hand}
 use Rattle.stm_core.specs.declared.books.Hand.TheVariants.{Idle as IdleHand, Doomed as DoomedHand, Runs}
 use Rattle.stm_core.specs.declared.books.Books.{Books}
-use Rattle.stm_core.specs.CoreState.{Transaction, Segment, Idle, Doomed, Running, CoreState, side, sight_of, set_segment, with_segment}
-use Rattle.stm_core.specs.Moves.{Advances, Stays, IsFree, Move, Dooms as DoomsMove, Goes, Rests, Next}
+use Rattle.stm_core.specs.CoreState.{Transaction, Segment, Idle, Doomed, Running, CoreState, sight_of, set_segment, with_segment}
+use Rattle.stm_core.specs.Conflict.{side, AsksFrom}
+use Rattle.stm_core.specs.Moves.{Advances, Stays, IsFree, Move, Dooms as DoomsMove, Goes, Rests, Next, Follows}
 use Rattle.stm_core.specs.Books.{transaction, segment_of, core_of, Fit}
 use Rattle.stm_core.specs.Hold.{Dooms}
-use Rattle.stm_core.specs.Asking.{AsksOnly}
+use Rattle.stm_core.specs.Asking.{Reaches, AsksToChange, AskedFor, Went}
 use Rattle.stm_core.specs.Whole.{stepped, StepDone, StepCut}
-use Rattle.stm_core.specs.Advance.{IsAdvance, steps_of, core_with, Gone, Sane}
+use Rattle.stm_core.specs.Advance.{Try, moves_of, IsStepOf, IsTry, steps_of, steps_tried, core_with, Gone, Sane}
 use Rattle.stm_core.proofs.TwoPasses.{follows_append}
 use Rattle.stm_core.proofs.Kept.{good_after}
 use Rattle.stm_core.proofs.Stepping.{dooms_moves, is_free}
@@ -35,7 +38,7 @@ use Rattle.stm_core.proofs.Soundness.{sound_transaction}
 pub dooms_own : {S : Type 0} (k : ℕ) (me : Side) (fs : List Conflict) (c c1 : CoreState S) → Dooms k me fs c c1 → c1.segments k ≡ c.segments k
 dooms_own k me [] c c1 h = ap (λ (z : CoreState _). z.segments k) h
 dooms_own {S} k me (f ∷ fs) c c1 h =
-    dooms_own k me fs h.0 c1 h.2 ∙ ap (λ (z : CoreState S). z.segments k) h.1.gives ∙ cond-false (eqb k f.writer.segment) (Doomed f) (c.segments k) (ne_eqb k f.writer.segment (λ e. h.1.differ (sym e)))
+    dooms_own k me fs h.0 c1 h.2 ∙ ap (λ (z : CoreState S). z.segments k) h.1.gives ∙ cond-false (eqb k f.writer.segment) (Doomed f) (c.segments k) (ne_eqb k f.writer.segment (λ e. h.1.meets.differ (sym e)))
 
 -- a hand that shows as idle is empty
 pub idle_hand : {S : Type 0} (w : World) (p : Part) (hs : List (Hand S)) (k : ℕ) → k < length hs → segment_of w p (slice_get hs k) ≡ Idle → slice_get hs k ≡ Some IdleHand
@@ -52,13 +55,24 @@ idle_hand {S} w p hs k lt e = go (slice_get hs k) refl e
     go (Some (DoomedHand f)) q h = absurd cc
     go (Some (Runs x)) q h = absurd cc
 
-kinds_dooms : {S : Type 0} (p : Prog S) (h : Heap) (w : World) (k : ℕ) (fs : List Conflict) → All (IsAdvance p h w k) (map DoomsMove fs)
-kinds_dooms p h w k [] = All-nil (IsAdvance p h w k)
-kinds_dooms p h w k (f ∷ fs) = All-cons (IsAdvance p h w k) (DoomsMove f) (map DoomsMove fs) tt (kinds_dooms p h w k fs)
+-- dooms of others keep no cause
+dooms_cause : {S : Type 0} (k : ℕ) (me : Side) (fs : List Conflict) (c c1 : CoreState S) → Dooms k me fs c c1 → c1.cause ≡ c.cause
+dooms_cause k me [] c c1 h = ap (λ (z : CoreState _). z.cause) h
+dooms_cause {S} k me (f ∷ fs) c c1 h = dooms_cause k me fs h.0 c1 h.2 ∙ ap (λ (z : CoreState S). z.cause) h.1.gives
 
-count_dooms : (S : Type 0) (fs : List Conflict) → sum_by (steps_of {S = S}) (map DoomsMove fs) ≡ 0
-count_dooms S [] = refl
-count_dooms S (f ∷ fs) = let a = sum_by-cons (steps_of {S = S}) (DoomsMove f) (map DoomsMove fs) in let b = count_dooms S fs in omega (arith, a, b)
+-- each of them is by a request of segment k, which won
+dooms_asked : {S : Type 0} (k : ℕ) (me : Side) (fs : List Conflict) (c c1 : CoreState S) → me.segment ≡ k → Dooms k me fs c c1 → All (AsksFrom k 0) fs
+dooms_asked k me [] c c1 e h = All-nil (AsksFrom k 0)
+dooms_asked {S} k me (f ∷ fs) c c1 e h =
+    let q = h.1.meets in
+    All-cons (AsksFrom k 0) f fs (record { segment = ap (λ (z : Side). z.segment) q.other ∙ e; asks = q.asks; lost_is = h.1.lost }) (dooms_asked k me fs h.0 c1 e h.2)
+
+-- tries, and one more
+moves_more : {S : Type 0} (ts : List (Try S)) (t : Try S) → moves_of (ts ++ t ∷ []) ≡ moves_of ts ++ (map DoomsMove t.dooms ++ t.move ∷ [])
+moves_more [] t = refl
+moves_more {S} (s ∷ ts) t =
+    let more = map DoomsMove t.dooms ++ t.move ∷ [] in
+    ap (λ z. map DoomsMove s.dooms ++ s.move ∷ z) (moves_more ts t) ∙ sym (append_assoc (map DoomsMove s.dooms) (s.move ∷ moves_of ts) more)
 
 -- a segment set twice
 pub set_again : {S : Type 0} (k : ℕ) (s r : Segment S) (f : ℕ → Segment S) → set_segment k s (set_segment k r f) ≡ set_segment k s f
@@ -67,30 +81,35 @@ set_again {S} k s r f q x = at x q
     at : (x : ℕ) → set_segment k s (set_segment k r f) x ≡ set_segment k s f x
     at x = elim (eqb x k) as (λ b. cond b s (cond b r (f x)) ≡ cond b s (f x)) [ true ↦ refl | false ↦ refl ]
 
--- dooms of others, and then one move of the segment itself
-then_move : {S : Type 0} (p : Prog S) (most k n d : ℕ) (w : World) (m m1 : Meaning) (b b1 : Books S) (x x1 : Work S) (c0 : CoreState S) (fs : List Conflict) (move : Move S) → Gone p most k n c0 (core_with w k m b x)
+-- one try more
+then_try : {S : Type 0} (p : Prog S) (most k n d : ℕ) (w : World) (m m1 : Meaning) (b b1 : Books S) (x x1 : Work S) (c0 : CoreState S) (fs : List Conflict) (move : Move S) → Gone p most k n c0 (core_with w k m b x)
     → Dooms k (side k (transaction w (m.part k) x)) fs (core_of w m b) (core_of w m1 b1)
-    → Next p most (with_segment k (Running (transaction w (m.part k) x)) (core_of w m1 b1)) move (core_with w k m1 b1 x1) → m1.image ≡ m.image → IsAdvance p m.image w k move → steps_of move ≡ d → Gone p most k (n + d) c0 (core_with w k m1 b1 x1)
-then_move {S} p most k n d w m m1 b b1 x x1 c0 fs move g ds next im kind count =
+    → All (λ (f : Conflict). Reaches (p.row x.state) (sight_of m.image w (transaction w (m.part k) x)) (AsksToChange f.at.0)) fs
+    → Next p most (with_segment k (Running (transaction w (m.part k) x)) (core_of w m1 b1)) move (core_with w k m1 b1 x1) → m1.image ≡ m.image → IsStepOf p m.image w k fs move → steps_of move ≡ d → Gone p most k (n + d) c0 (core_with w k m1 b1 x1)
+then_try {S} p most k n d w m m1 b b1 x x1 c0 fs move g ds asked next im kind count =
     let tx = transaction w (m.part k) x in
     let mid = with_segment k (Running tx) (core_of w m1 b1) in
     let end = core_with w k m1 b1 x1 in
+    let t : Try S = record { dooms = fs; move = move } in
     let more = map DoomsMove fs ++ move ∷ [] in
-    let K : Move S → Type 0 = IsAdvance p c0.image c0.world k in
-    let a = follows_append p most (core_with w k m b x) mid end (map DoomsMove fs) (move ∷ []) (dooms_moves p most k tx fs (core_of w m b) (core_of w m1 b1) ds) (end, next, refl) in
-    let s = sum_by-append (steps_of {S = S}) g.moves more in
-    let t = sum_by-append (steps_of {S = S}) (map DoomsMove fs) (move ∷ []) in
-    let u = sum_by-cons (steps_of {S = S}) move [] in
-    let z = count_dooms S fs in
+    let K : Try S → Type 0 = IsTry p c0.image c0.world k in
+    let a = follows_append p most (core_with w k m b x) mid end (map DoomsMove fs) (move ∷ []) (dooms_moves p most k tx fs (core_of w m b) (core_of w m1 b1) ds asked) (end, next, refl) in
+    let s = sum_by-append (steps_tried {S = S}) g.tries (t ∷ []) in
+    let u = sum_by-cons (steps_tried {S = S}) t [] in
     let c = g.count in
     record {
-      moves = g.moves ++ more;
-      follows = follows_append p most c0 (core_with w k m b x) end g.moves more g.follows a;
-      kinds = All-append K g.moves more g.kinds (All-append K (map DoomsMove fs) (move ∷ []) (kinds_dooms p c0.image c0.world k fs) (All-cons K move [] (subst₂ (λ h v. IsAdvance p h v k move) g.image g.world kind) (All-nil K)));
-      count = omega (arith, s, t, u, z, c, count);
+      tries = g.tries ++ t ∷ [];
+      follows = subst (λ z. Follows p most c0 z end) (sym (moves_more g.tries t)) (follows_append p most c0 (core_with w k m b x) end (moves_of g.tries) more g.follows a);
+      kinds = All-push K g.tries t g.kinds (record { wins = dooms_asked k (side k tx) fs (core_of w m b) (core_of w m1 b1) refl ds; step = subst₂ (λ h v. IsStepOf p h v k fs move) g.image g.world kind });
+      count = omega (arith, s, u, c, count);
       image = im ∙ g.image;
       world = g.world;
+      cause = dooms_cause k (side k tx) fs (core_of w m b) (core_of w m1 b1) ds ∙ g.cause;
     }
+
+-- what was asked for on the way is what the step comes to
+came_to : {S A : Type 0} (row left : Row S A) (s place : Sight S) (fs : List Conflict) → All (λ (f : Conflict). AskedFor row s left place f.at.0) fs → All (λ (f : Conflict). Reaches row s (AsksToChange f.at.0)) fs
+came_to row left s place fs h = All-weaker (λ (f : Conflict). AskedFor row s left place f.at.0) (λ (f : Conflict). Reaches row s (AsksToChange f.at.0)) (λ f q. record { call = q.call; next = q.next; place = q.at; upto = q.upto; is = q.changes }) fs h
 
 -- what is free of the others stays so with the transaction in its segment
 free_with : {S : Type 0} (k : ℕ) (s : Segment S) (c : CoreState S) (x : Transaction S) → IsFree c k x → IsFree (with_segment k s c) k x
@@ -113,28 +132,28 @@ module _ {S : Type 0} (p : Prog S) (most k n : ℕ) (w : World) (m m1 : Meaning)
       let tx1 = transaction w (m1.part k) (stepped x1) in
       let v : Advances p m1.image w tx tx1 = subst (λ h. Advances p h w tx tx1) (sym d.image) (d.goes goes) in
       let free = free_with k (Running tx) (core_of w m1 b1) tx1 (is_free w k r1 m1 b1 (stepped x1) st fit.own_names fit.works) in
-      then_move p most k n 1 w m m1 b b1 x (stepped x1) c0 d.dooms (Goes k tx tx1) g d.others (here (Running tx) (core_of w m1 b1), le, v, free, again (Running tx1) (Running tx) (core_of w m1 b1)) d.image (refl, d.asks) refl
+      then_try p most k n 1 w m m1 b b1 x (stepped x1) c0 d.dooms (Goes k tx tx1) g d.others (came_to (p.row x.state) (Ret d.last) (sight_of m.image w tx) d.went.place d.dooms d.went.asked) (here (Running tx) (core_of w m1 b1), le, v, free, again (Running tx1) (Running tx) (core_of w m1 b1)) d.image (refl, d.last, d.went) refl
 
   -- a step that left looks and locks alone
   gone_rest : (fs : List Conflict) → Dooms k (side k (transaction w (m.part k) x)) fs (core_of w m b) (core_of w m1 b1) → Stays m.image (transaction w (m.part k) x) (transaction w (m1.part k) x1) → m1.image ≡ m.image
-      → AsksOnly (p.row x.state) (sight_of m.image w (transaction w (m.part k) x)) (m1.part k).looked (m1.part k).changed → IsStore r1 m1 → Fit k m1 b1 x1.progress → Gone p most k (n + 0) c0 (core_with w k m1 b1 x1)
-  gone_rest fs ds stays im asks st fit =
+      → (left : Row S (Outcome × S)) → Went (p.row x.state) (sight_of m.image w (transaction w (m.part k) x)) left (m1.part k).looked (m1.part k).changed fs → IsStore r1 m1 → Fit k m1 b1 x1.progress → Gone p most k (n + 0) c0 (core_with w k m1 b1 x1)
+  gone_rest fs ds stays im left went st fit =
       let tx = transaction w (m.part k) x in
       let tx1 = transaction w (m1.part k) x1 in
       let v : Stays m1.image tx tx1 = subst (λ h. Stays h tx tx1) (sym im) stays in
       let free = free_with k (Running tx) (core_of w m1 b1) tx1 (is_free w k r1 m1 b1 x1 st fit.own_names fit.works) in
-      then_move p most k n 0 w m m1 b b1 x x1 c0 fs (Rests k tx tx1) g ds (here (Running tx) (core_of w m1 b1), v, free, again (Running tx1) (Running tx) (core_of w m1 b1)) im (refl, asks) refl
+      then_try p most k n 0 w m m1 b b1 x x1 c0 fs (Rests k tx tx1) g ds (came_to (p.row x.state) left (sight_of m.image w tx) went.place fs went.asked) (here (Running tx) (core_of w m1 b1), v, free, again (Running tx1) (Running tx) (core_of w m1 b1)) im (refl, left, went) refl
 
   same_count : Gone p most k (n + 0) c0 (core_with w k m1 b1 x1) → Gone p most k n c0 (core_with w k m1 b1 x1)
-  same_count z = let c = z.count in record { moves = z.moves; follows = z.follows; kinds = z.kinds; count = omega (arith, c); image = z.image; world = z.world }
+  same_count z = let c = z.count in record { tries = z.tries; follows = z.follows; kinds = z.kinds; count = omega (arith, c); image = z.image; world = z.world; cause = z.cause }
 
   -- a step that waits
   pub gone_wait : (o : Outcome) → o ≡ WaitsNow → StepDone p w k (side k (transaction w (m.part k) x)) o m b x m1 b1 x1 → IsStore r1 m1 → Fit k m1 b1 x1.progress → Gone p most k n c0 (core_with w k m1 b1 x1)
-  gone_wait o waits d st fit = same_count (gone_rest d.dooms d.others (d.waits waits) d.image d.asks st fit)
+  gone_wait o waits d st fit = same_count (gone_rest d.dooms d.others (d.waits waits) d.image (Ret d.last) d.went st fit)
 
   -- a step that was cut
   pub gone_cut : (e : Stop) → StepCut p w k (side k (transaction w (m.part k) x)) e m b x m1 r1 b1 x1 → IsStore r1 m1 → Fit k m1 b1 x1.progress → Gone p most k n c0 (core_with w k m1 b1 x1)
-  gone_cut e d st fit = same_count (gone_rest d.dooms d.others d.stays d.image d.asks st fit)
+  gone_cut e d st fit = same_count (gone_rest d.dooms d.others d.stays d.image d.left d.went st fit)
 
 -- ---- the good core on the way
 
@@ -144,11 +163,11 @@ sane_stands p sound most k m b x law s = sound_transaction p sound law s.start m
 
 -- steps keep it good
 pub sane_after : {S : Type 0} (p : Prog S) (sound : Heap → List S → Type 0) (most k n : ℕ) (m m1 : Meaning) (b b1 : Books S) (x x1 : Work S) → (s : Sane p sound most k m b x) → Gone p most k n (core_with s.world k m b x) (core_with s.world k m1 b1 x1) → Sane p sound most k m1 b1 x1
-sane_after p sound most k n m m1 b b1 x x1 s g = record { world = s.world; dry = s.dry; start = s.start; first = s.first; good = good_after p s.start most (core_with s.world k m b x) (core_with s.world k m1 b1 x1) g.moves s.good g.follows }
+sane_after p sound most k n m m1 b b1 x x1 s g = record { world = s.world; dry = s.dry; start = s.start; first = s.first; good = good_after p s.start most (core_with s.world k m b x) (core_with s.world k m1 b1 x1) (moves_of g.tries) s.good g.follows }
 
 -- no step yet
 pub gone_none : {S : Type 0} (p : Prog S) (most k : ℕ) (c : CoreState S) → Gone p most k 0 c c
-gone_none {S} p most k c = record { moves = []; follows = refl; kinds = All-nil (IsAdvance p c.image c.world k); count = refl; image = refl; world = refl }
+gone_none {S} p most k c = record { tries = []; follows = refl; kinds = All-nil (IsTry p c.image c.world k); count = refl; image = refl; world = refl; cause = refl }
 
 -- ---- a step, whichever way it ended
 
@@ -173,10 +192,7 @@ unfolding dry_world
 cut_idle p k e m m1 r1 b b1 x x1 d idle fit = let z = d dry_world refl in idle_after dry_world k (side k (transaction dry_world (m.part k) x)) z.dooms m m1 b b1 x1 z.others idle fit
 
 pub gone_same : {S : Type 0} (p : Prog S) (most k n : ℕ) (c c1 : CoreState S) → Gone p most k n c c1 → Gone p most k (n + 0) c c1
-gone_same p most k n c c1 z = let e = z.count in record { moves = z.moves; follows = z.follows; kinds = z.kinds; count = omega (arith, e); image = z.image; world = z.world }
-
-pub gone_more : {S : Type 0} (p : Prog S) (most k n d : ℕ) (c c1 : CoreState S) → d ≡ 1 → Gone p most k (n + 1) c c1 → Gone p most k (n + d) c c1
-gone_more p most k n d c c1 one z = let e = z.count in record { moves = z.moves; follows = z.follows; kinds = z.kinds; count = omega (arith, e, one); image = z.image; world = z.world }
+gone_same p most k n c c1 z = let e = z.count in record { tries = z.tries; follows = z.follows; kinds = z.kinds; count = omega (arith, e); image = z.image; world = z.world; cause = z.cause }
 
 pub done_not_waits : Done ≢ WaitsNow
 done_not_waits e = cc

@@ -1,5 +1,5 @@
 -- What a row does up to a place doesn't depend on the bookkeeping that it began with.
-use Rattle.std.proofs.Common.{◌≡◌, refl, sym, ◌∙◌, ap, subst}
+use Rattle.std.proofs.Common.{◌≡◌, ℕ, refl, sym, ◌∙◌, ap, subst}
 use Rattle.py_data.specs.Changes.{after}
 use Rattle.py_data.specs.Heap.{Heap, put_at}
 use Rattle.py_data.specs.Shape.{Fits, find}
@@ -10,7 +10,7 @@ use Rattle.py_data.proofs.Mirror.{does_afresh}
 use Rattle.py_data.proofs.Whole.{upto_follows}
 use Rattle.lock_run.specs.declared.client.Outcome.{Outcome}
 use Rattle.lock_run.specs.declared.client.Outcome.TheVariants.{Waits as WaitsNow}
-use Rattle.stm_core.specs.Whole.{MeetsOuter}
+use Rattle.stm_core.specs.Asking.{Reaches, CallWants, AsksToChange, AsksOutside, AsksRoom}
 
 -- another sight of the same heap and the same world
 abbrev Same : {S : Type 0} → Sight S → Sight S → Type 0
@@ -36,11 +36,24 @@ act_same {S} (Take most) v r w s h e = (in_world (took r s.world) s, (subst (λ 
 act_same {S} MidLine v r w s h e = (in_world s.world s, (h.0 ∙ ap (λ (z : World). z.mid) (sym e.1), refl), (e.0 ∙ sym (ap (λ (z : Sight S). z.heap) h.1), e.1 ∙ sym (ap (λ (z : Sight S). z.world) h.1)))
 act_same {S} (SetMidLine b) v r w s h e = (in_world (record s.world { mid = b }) s, refl, (e.0 ∙ sym (ap (λ (z : Sight S). z.heap) h), ap (λ (z : World). record z { mid = b }) e.1 ∙ sym (ap (λ (z : Sight S). z.world) h)))
 
--- a row that prints or reads does so whatever the bookkeeping
-pub outer_afresh : {S A : Type 0} (row : Row S A) (s : Sight S) (h : Heap) (w : World) → s.heap ≡ h → s.world ≡ w → MeetsOuter row s → MeetsOuter row (opened S h w)
-outer_afresh {S} row s h w eh ew m =
-    let u = upto_follows pure pure Same (record { call = act_same }) row s (Do m.call m.next) m.place (opened S h w) m.upto (sym eh, sym ew) in
-    record { call = m.call; next = m.next; place = u.0; upto = u.1; outer = m.outer }
+-- a kind of calls that the bookkeeping doesn't matter to
+abbrev pub IsOfHeap : {S : Type 0} → (Call S → Sight S → Type 0) → Type 0
+IsOfHeap {S} kind = (c : Call S) (v w : Sight S) → w.heap ≡ v.heap → kind c v → kind c w
+
+-- a row comes to a call of such a kind whatever the bookkeeping
+pub reaches_afresh : {S A : Type 0} (row : Row S A) (s t : Sight S) (kind : Call S → Sight S → Type 0) → IsOfHeap kind → t.heap ≡ s.heap → t.world ≡ s.world → Reaches row s kind → Reaches row t kind
+reaches_afresh {S} row s t kind law eh ew m =
+    let u = upto_follows pure pure Same (record { call = act_same }) row s (Do m.call m.next) m.place t m.upto (eh, ew) in
+    record { call = m.call; next = m.next; place = u.0; upto = u.1; is = law m.call m.place u.0 u.2.0 m.is }
+
+pub change_of_heap : {S : Type 0} (a : ℕ) → IsOfHeap {S = S} (AsksToChange a)
+change_of_heap a c v w e h = h
+
+pub outside_of_heap : {S : Type 0} → IsOfHeap {S = S} AsksOutside
+outside_of_heap c v w e h = h
+
+pub room_of_heap : {S : Type 0} (n : ℕ) → IsOfHeap {S = S} (AsksRoom n)
+room_of_heap n c v w e h = subst (λ z. CallWants c z n) (sym e) h
 
 -- and one that waits waits
 pub waits_afresh : {S : Type 0} (row : Row S (Outcome × S)) (s t : Sight S) (h : Heap) (w : World) (q : S) → s.heap ≡ h → s.world ≡ w → Does row s (WaitsNow, q) t → (p : S) × (z : Sight S) × Does row (opened S h w) (WaitsNow, p) z

@@ -306,7 +306,7 @@ begun_good p start most k t budget (Err (NotReady s)) c c1 g h = subst (Good p s
 begun_good p start most k t budget (Err AtBudget) c c1 g h = subst (Good p start most) (sym h.4) g
 begun_good p start most k t budget (Err OutOfMemory) c c1 g h =
     let a = h.0 in
-    good_next p start most c c1 (Keeps NoMemoryLeft) g (t, a.ready.state, a.ready.is, a.ready.lives, a.ready.rests, h.1 ∙ ap (λ o. record c { cause = o }) (sym (ap (λ o. first_cause o NoMemoryLeft) a.goes_on)))
+    good_next p start most c c1 (Keeps NoMemoryLeft) g (t, a.ready.state, a.ready.is, a.ready.lives, a.ready.rests, tt, h.1 ∙ ap (λ o. record c { cause = o }) (sym (ap (λ o. first_cause o NoMemoryLeft) a.goes_on)))
 
 pub begun_sane : {S : Type 0} (p : Prog S) (sound : Heap → List S → Type 0) (most k t budget : ℕ) (m m1 : Meaning) (b b1 : Books S) (r : Result (Unit {0}) BeginError)
     → ((w : World) → Begun p k t budget r (core_of w m b) (core_of w m1 b1)) → SaneCore p sound most m b → SaneCore p sound most m1 b1

@@ -1,11 +1,11 @@
 -- Changes of records that a segment holds.
-use Rattle.std.proofs.Common.{◌≡◌, ◌⊎◌, ◌≤◌, ℕ, true, false, eqb, List, Option, Some, None, Result, Ok, Err, OnOk, OnErr, refl, sym, ◌∙◌, ap, subst, inl, inr, IsSome, unwrap_or}
+use Rattle.std.proofs.Common.{◌≡◌, ◌⊎◌, ◌≤◌, ℕ, true, false, eqb, List, Option, Some, None, Result, Ok, Err, OnOk, OnErr, IfErr, refl, sym, ◌∙◌, ap, subst, inl, inr, IsSome, unwrap_or}
 use Rattle.std.proofs.lemmas.Bool.{both_ways, or_cases, or_left, eqb-true, eq-eqb}
 use Rattle.py_data.specs.declared.stop.Side.{Side}
 use Rattle.py_data.specs.declared.stop.Stop.{Stop}
 use Rattle.py_data.specs.declared.stop.Stop.TheVariants.{Lost, OutOfMemory}
 use Rattle.py_data.specs.declared.change.Change.{Change}
-use Rattle.py_data.specs.Changes.{after, Allows}
+use Rattle.py_data.specs.Changes.{after, Allows, Outgrows}
 use Rattle.py_data.specs.Heap.{Rec, Heap, Has, at, is_tracked, put_at, blank}
 use Rattle.py_data.specs.Sight.{edited, mem, with_mark}
 use Rattle.py_data.specs.Row.{Edit}
@@ -15,7 +15,10 @@ use Rattle.seg_store.specs.declared.store.StoreFault.{StoreFault}
 use Rattle.seg_store.specs.declared.store.StoreFault.TheVariants.{Full as FullStore, OutOfMemory as NoMemoryLeft}
 use Rattle.seg_store.specs.Meaning.{Part, Meaning, sees, holds, with_part}
 use Rattle.seg_store.specs.Calls.{changed, after_change}
-use Rattle.seg_store.specs.Store.{CanChange, IsFull}
+use Rattle.seg_store.specs.Store.{CanChange, IsFull, Refuses}
+use Rattle.seg_store.specs.Asking.{AsksFor}
+use Rattle.seg_store.specs.Extents.{Wants}
+use Rattle.stm_core.specs.Asking.{ChangeWants}
 use Rattle.seg_store.proofs.Sees.{own_part, change_shows}
 use Rattle.stm_core.specs.declared.books.Progress.{Progress}
 use Rattle.stm_core.specs.declared.books.Books.{Books}
@@ -63,13 +66,13 @@ can_ready c h a t =
 -- ---- a change that was done
 
 -- what a change of a held record leaves beside
-pub beside_change : {S : Type 0} (k : ℕ) (me : Side) (a : ℕ) (f : Rec → Rec) (d e e2 : Hold S) → runs_at e.books.hands.items k ≡ false → Beside k me d e
-    → e2.meaning ≡ after_change k a f e.meaning → e.reserved ≤ e2.reserved → e2.books ≡ e.books → e2.progress ≡ e.progress → Beside k me d e2
-beside_change {S} k me a f d e e2 out g em er eb ep =
+pub beside_change : {S : Type 0} {asks : ℕ → Type 0} (k : ℕ) (me : Side) (a : ℕ) (f : Rec → Rec) (d e e2 : Hold S) → runs_at e.books.hands.items k ≡ false → Beside k me asks d e
+    → e2.meaning ≡ after_change k a f e.meaning → e.reserved ≤ e2.reserved → e2.books ≡ e.books → e2.progress ≡ e.progress → Beside k me asks d e2
+beside_change {S} {asks} k me a f d e e2 out g em er eb ep =
     let q = changed a (f (at (sees e.meaning k) a)) (e.meaning.part k) in
-    let own : Beside k me e (holding (with_part k q e.meaning) e2.reserved e.books e.progress e2.stopped) = beside_own k me e.meaning q e.reserved e2.reserved e.books e.progress e.stopped e2.stopped out er refl refl (λ c h. h) (λ c h. h) in
-    beside_then k me d e e2 g (subst (λ z. Beside k me e (holding z e2.reserved e2.books e2.progress e2.stopped)) (sym em) (subst (λ z. Beside k me e (holding (after_change k a f e.meaning) e2.reserved z e2.progress e2.stopped)) (sym eb)
-    (subst (λ z. Beside k me e (holding (after_change k a f e.meaning) e2.reserved e.books z e2.stopped)) (sym ep) own)))
+    let own : Beside k me asks e (holding (with_part k q e.meaning) e2.reserved e.books e.progress e2.stopped) = beside_own k me e.meaning q e.reserved e2.reserved e.books e.progress e.stopped e2.stopped out er refl refl (λ c h. h) (λ c h. h) in
+    beside_then k me d e e2 g (subst (λ z. Beside k me asks e (holding z e2.reserved e2.books e2.progress e2.stopped)) (sym em) (subst (λ z. Beside k me asks e (holding (after_change k a f e.meaning) e2.reserved z e2.progress e2.stopped)) (sym eb)
+    (subst (λ z. Beside k me asks e (holding (after_change k a f e.meaning) e2.reserved e.books z e2.stopped)) (sym ep) own)))
 
 -- the sight once the record was held and changed
 pub change_done : {S : Type 0} (k : ℕ) (me : Side) (a : ℕ) (c : Change) (d e e2 : Hold S) → CanChange (sees d.meaning k) a c → d.stopped ≡ None → runs_at e.books.hands.items k ≡ false → Holds k me a d e
@@ -90,14 +93,29 @@ change_done {S} k me a c d e e2 can live out h em er eb ep es =
 
 -- ---- a change that was refused
 
+-- what two clauses say of an error
+pub err_both : {T E : Type 0} {P Q R : E → Type 0} (r : Result T E) → ((e : E) → P e → Q e → R e) → IfErr r P → IfErr r Q → IfErr r R
+err_both (Ok x) f p q = tt
+err_both (Err e) f p q = f e p q
+
+-- what a store says of its refusal of a change
+pub wants_more : (c : Change) (h : Heap) (a : ℕ) (fills : ℕ → ℕ → Type 0) (r l : ℕ) (x : StoreFault) → Refuses (IsFull h a c) fills r l x → AsksFor (h a) (after c (at h a)) x → FaultWhy (ChangeWants c h a) r l x
+unfolding at
+wants_more c h a fills r l NoMemoryLeft w s = tt
+wants_more c h a fills r l (FullStore u n k) w s = (go (h a) w.0 s, w.2, w.3, w.4)
+  where
+    go : (o : Option Rec) → IfThere false o (Outgrows c) → Wants o (after c (unwrap_or o blank)) n → IfThere false o (λ q. Outgrows c q × Wants (Some q) (after c q) n)
+    go None f g = f
+    go (Some q) f g = (f, g)
+
 -- the Stop of a store's fault has its cause
-fault_why : {S : Type 0} (k : ℕ) (me : Side) (a : ℕ) (c : Change) (m : Meaning) (h : Heap) (r : ℕ) (b : Books S) (p : Progress S) (o : Option Stop) (x : StoreFault) → FaultWhy (IsFull h a c) r m.limit x → SegWhy k me (stop_of x) (Edit a c) h (holding m r b p o)
+fault_why : {S : Type 0} (k : ℕ) (me : Side) (a : ℕ) (c : Change) (m : Meaning) (h : Heap) (r : ℕ) (b : Books S) (p : Progress S) (o : Option Stop) (x : StoreFault) → FaultWhy (ChangeWants c h a) r m.limit x → SegWhy k me (stop_of x) (Edit a c) h (holding m r b p o)
 fault_why k me a c m h r b p o (FullStore u n l) w = w
 fault_why k me a c m h r b p o NoMemoryLeft w = tt
 
 -- the store refused the change of a record that was held
 pub change_refused : {S : Type 0} (k : ℕ) (me : Side) (a : ℕ) (c : Change) (d e e2 : Hold S) (x : StoreFault) (s : Stop) → Holds k me a d e → e2.meaning ≡ e.meaning → e.reserved ≤ e2.reserved → e2.books ≡ e.books → e2.progress ≡ e.progress
-    → s ≡ stop_of x → e2.stopped ≡ Some s → FaultWhy (IsFull (sees e.meaning k) a c) e2.reserved e.meaning.limit x → SegRefuses k me (Edit a c) d s e2
+    → s ≡ stop_of x → e2.stopped ≡ Some s → FaultWhy (ChangeWants c (sees e.meaning k) a) e2.reserved e.meaning.limit x → SegRefuses k me (Edit a c) d s e2
 change_refused {S} k me a c d e e2 x s h em er eb ep es eo why =
     let w : SegWhy k me s (Edit a c) (sees e.meaning k) (holding e.meaning e2.reserved e.books e.progress (Some s)) =
     subst (λ z. SegWhy k me z (Edit a c) (sees e.meaning k) (holding e.meaning e2.reserved e.books e.progress (Some s))) (sym es) (fault_why k me a c e.meaning (sees e.meaning k) e2.reserved e.books e.progress (Some s) x why) in
@@ -107,13 +125,9 @@ change_refused {S} k me a c d e e2 x s h em er eb ep es eo why =
       beside = beside_then k me d e e2 h.beside last.beside;
       why = subst (λ z. SegWhy k me s (Edit a c) z e2) h.shown last.why;
       looked = λ b l. marks b (ap (λ (z : Meaning). (z.part k).looked b) (sym em) ∙ l);
-      locks = λ b l. asked b (h.locks b (ap (λ (z : Meaning). mem b (z.part k).changed) (sym em) ∙ l));
+      locks = λ b l. h.locks b (ap (λ (z : Meaning). mem b (z.part k).changed) (sym em) ∙ l);
     }
   where
-    asked : {P : Type 0} (b : ℕ) → P ⊎ (b ≡ a) → P ⊎ (Some a ≡ Some b)
-    asked b (inl x) = inl x
-    asked b (inr x) = inr (ap Some (sym x))
-
     marks : (b : ℕ) → (e.meaning.part k).looked b ≡ true → ((d.meaning.part k).looked b ≡ true) ⊎ (Some a ≡ Some b)
     marks b l = elim (or_cases (eqb b a) ((d.meaning.part k).looked b) (sym (ap (λ f. f b) h.looked) ∙ l)) [ inl y ↦ inr (ap Some (sym (eqb-true b a y))) | inr y ↦ inl y ]
 
@@ -124,11 +138,11 @@ hold_refused {S} k me a c d s e f = record {
   beside = f.beside;
   why = reason s f.why;
   looked = λ b l. elim (f.looked b l) [ inl x ↦ inl x | inr x ↦ inr (ap Some (sym x)) ];
-  locks = λ b l. elim (f.locks b l) [ inl x ↦ inl x | inr x ↦ inr (ap Some (sym x)) ];
+  locks = f.locks;
 }
   where
     reason : (z : Stop) → FailWhy k me a z e → SegWhy k me z (Edit a c) (sees d.meaning k) e
-    reason (Lost q) w = (tt, ap Some (sym w.0), w.1)
+    reason (Lost q) w = w
     reason OutOfMemory w = tt
     reason _ w = absurd w
 

@@ -14,12 +14,15 @@ use Rattle.stm_core.specs.declared.books.Work.{Work}
 use Rattle.stm_core.specs.declared.books.Hand.{Hand}
 use Rattle.stm_core.specs.declared.books.Hand.TheVariants.{Idle as IdleHand, Doomed as DoomedHand, Runs}
 use Rattle.stm_core.specs.declared.books.Books.{Books}
-use Rattle.stm_core.specs.CoreState.{Transaction, Doomed, Running, CoreState, side, wins, with_segment, with_conflict}
+use Rattle.stm_core.specs.CoreState.{Transaction, Doomed, Running, CoreState, with_segment, with_conflict}
+use Rattle.stm_core.specs.Conflict.{conflict, side, wins, IsStanding}
 use Rattle.stm_core.specs.Books.{is_running, runs_at, side_of, transaction, segment_of, core_of}
-use Rattle.stm_core.specs.Passes.{met, read_conflict, doom_met, doom_one, doom_readers, NoneWins}
+use Rattle.stm_core.specs.Passes.{met, doom_met, doom_one, doom_readers, NoneWins}
 use Rattle.stm_core.specs.Advance.{core_with}
 use Rattle.stm_core.specs.Readers.{read_at, work_side, Beats, FirstBeats}
+use Rattle.lock_run.specs.Prog.{Prog}
 use Rattle.stm_core.specs.Committed.{Beaten}
+use Rattle.stm_core.proofs.TwoPasses.{met_some}
 use Rattle.stm_core.proofs.Fits.{work_at, runs_within}
 use Rattle.stm_core.proofs.Stepping.{set_swap}
 use Rattle.stm_core.proofs.Holding.{core_doomed}
@@ -122,23 +125,37 @@ module _ {S : Type 0} (w : World) (k : ℕ) (m : Meaning) (b : Books S) (x : Wor
       let p = loses_to_me j y a (f j (subst (λ z. j < z) len lt)) ne e h in
       subst (λ (t : Transaction S). wins (side k (transaction w (m.part k) x)) (side j t) ≡ true) (sym p.2) (turn p.0.begun x.begun (numbers j p.0 p.1) p.3)
 
-  pub beaten_is : (n : ℕ) (f : Conflict) → FirstBeats b.hands.items m k (work_side k x) n (Some f) → Beaten k (transaction w (m.part k) x) f (core_with w k m b x)
-  beaten_is n f h =
+  pub beaten_is : (p : Prog S) (n : ℕ) (f : Conflict) → FirstBeats b.hands.items m k (work_side k x) n (Some f) → Beaten p k (transaction w (m.part k) x) f (core_with w k m b x)
+  beaten_is p n f h =
       let j = h.0 in
       let z = h.1.0 in
+      let c = core_with w k m b x in
+      let tx = transaction w (m.part k) x in
       let r = reader_is b.hands.items m k j f.at.0 h.1.2 in
+      let q = met_some (m.part k).changed (m.part j).looked f.at.0 r.2 in
       let f1 : Conflict = record { at = f.at; writer = work_side k x; other = work_side j z; asks = false; lost = 0 } in
-      let one : Beaten k (transaction w (m.part k) x) f1 (core_with w k m b x) = record {
-        reader = transaction w (m.part j) z;
+      let stands : IsStanding p c f1 = record {
+        x = tx;
+        y = transaction w (m.part j) z;
+        writes = cond-true (eqb k k) (Running tx) ((core_of w m b).segments k) (eq-eqb k k refl);
         reads = other_segment j r.0 ∙ ap (segment_of w (m.part j)) h.1.1;
-        differ = r.0;
-        seen = r.2;
         is = refl;
-        beats = h.1.4;
-        first = λ i y a lt ne e q. let p = loses_to_me i y a (h.2 i lt) ne e q in
-            subst (λ (t : Transaction S). wins (side i t) (work_side k x) ≡ false) (sym p.2) p.3;
+        differ = λ e. r.0 (sym e);
+        held = q.0;
+        met = q.1;
+        lost = omega arith;
+        loses = h.1.4;
       } in
-      subst (λ (g : Conflict). Beaten k (transaction w (m.part k) x) g (core_with w k m b x)) (sym h.1.3) one
+      let one : Beaten p k tx f1 c = record {
+        stands = stands;
+        writer = refl;
+        looked = refl;
+        lost = refl;
+        first_record = r.2;
+        first_reader = λ i y a lt ne e d. let s = loses_to_me i y a (h.2 i lt) ne e d in
+            subst (λ (t : Transaction S). wins (side i t) (work_side k x) ≡ false) (sym s.2) s.3;
+      } in
+      subst (λ (g : Conflict). Beaten p k tx g c) (sym h.1.3) one
 
   -- ---- the second pass
 
@@ -170,7 +187,7 @@ module _ {S : Type 0} (w : World) (k : ℕ) (m : Meaning) (b : Books S) (x : Wor
       let tx = transaction w (m.part k) x in
       let ty = transaction w (m.part j) z.0 in
       let c = core_with w k m b x in
-      let g = read_conflict k tx j ty a in
+      let g = conflict k tx j ty a false 1 in
       let fg : f ≡ g = is ∙ ap (λ o. record { at = record { 0 = a }; writer = work_side k x; other = o; asks = false; lost = 1 }) (other z.0 z.1) in
       let lt = runs_within b.hands.items j r.1 in
       let own_part : (after_drop j m).part k ≡ m.part k = cond-false (eqb k j) (ended (m.part j)) (m.part k) (ne_eqb k j (λ q. n (sym q))) in

@@ -1,5 +1,6 @@
 -- How a segment's view comes to hold a record, and what that leaves beside its own sight.
-use Rattle.std.proofs.Common.{◌≡◌, ◌≢◌, ◌⊎◌, ◌<◌, ◌≤◌, ℕ, Bool, true, false, cond, ◌||◌, eqb, List, [], ◌∷◌, ◌++◌, length, slice_get, slice_set, Option, Some, None, refl, sym, ◌∙◌, ap, subst, inl, inr, arith, IsSome, is_some, Result, Ok, Err, OnOk}
+use Rattle.std.proofs.Common.{◌≡◌, ◌≢◌, ◌⊎◌, ◌<◌, ◌≤◌, ℕ, Bool, true, false, cond, ◌||◌, eqb, List, [], ◌∷◌, ◌++◌, length, slice_get, slice_set, Option, Some, None, refl, sym, ◌∙◌, ap, subst, inl, inr, arith, IsSome, is_some, Result, Ok, Err, OnOk, All}
+use Rattle.std.proofs.lemmas.List.Elements.{All-append, All-cons, All-nil, All-weaker}
 use Rattle.std.proofs.lemmas.Bool.{cases_Bool, both_ways, or_cases, or_left, or_right, eqb-true, eqb-false, cond-true, cond-false}
 use Rattle.py_data.specs.declared.stop.Side.{Side}
 use Rattle.py_data.specs.declared.stop.Conflict.{Conflict}
@@ -18,7 +19,8 @@ use Rattle.stm_core.specs.declared.books.Work.{Work}
 use Rattle.stm_core.specs.declared.books.Hand.{Hand}
 use Rattle.stm_core.specs.declared.books.Hand.TheVariants.{Idle, Doomed, Runs}
 use Rattle.stm_core.specs.declared.books.Books.{Books}
-use Rattle.stm_core.specs.CoreState.{Transaction, Segment, Running, CoreState, side, wins, with_segment, with_conflict, set_segment}
+use Rattle.stm_core.specs.CoreState.{Transaction, Segment, Running, CoreState, with_segment, with_conflict, set_segment}
+use Rattle.stm_core.specs.Conflict.{side, wins}
 use Rattle.stm_core.specs.CoreState as model
 use Rattle.stm_core.specs.Books.{is_running, runs_at, side_of, transaction, segment_of, core_of}
 use Rattle.stm_core.specs.Hold.{Hold, Dooms, Beside, LosesTo, Holds, Fails, FailWhy, is_noted, Looks, holding}
@@ -32,8 +34,8 @@ dooms_then : {S : Type 0} (k : ℕ) (me : Side) (fs gs : List Conflict) (a b c :
 dooms_then k me [] gs a b c f g = subst (λ z. Dooms k me gs z c) f g
 dooms_then k me (f ∷ fs) gs a b c h g = (h.0, h.1, dooms_then k me fs gs h.0 b c h.2 g)
 
-pub beside_refl : {S : Type 0} (k : ℕ) (me : Side) (d : Hold S) → Beside k me d d
-beside_refl k me d = record {
+pub beside_refl : {S : Type 0} {asks : ℕ → Type 0} (k : ℕ) (me : Side) (d : Hold S) → Beside k me asks d d
+beside_refl {asks = asks} k me d = record {
   saw = refl;
   image = refl;
   segments = refl;
@@ -41,6 +43,7 @@ beside_refl k me d = record {
   reserved = omega arith;
   dooms = [];
   others = λ w. refl;
+  asked = All-nil (λ (f : Conflict). asks f.at.0);
   kept_names = refl;
   kept_started = refl;
   names = λ h. (h, refl);
@@ -50,8 +53,28 @@ beside_refl k me d = record {
   locks = λ a h. h;
 }
 
-pub beside_then : {S : Type 0} (k : ℕ) (me : Side) (d e f : Hold S) → Beside k me d e → Beside k me e f → Beside k me d f
-beside_then k me d e f g h = record {
+-- it asks for more records
+pub beside_weaker : {S : Type 0} (P Q : ℕ → Type 0) (k : ℕ) (me : Side) (d e : Hold S) → ((a : ℕ) → P a → Q a) → Beside k me P d e → Beside k me Q d e
+beside_weaker P Q k me d e w g = record {
+  saw = g.saw;
+  image = g.image;
+  segments = g.segments;
+  limit = g.limit;
+  reserved = g.reserved;
+  dooms = g.dooms;
+  others = g.others;
+  asked = All-weaker (λ (f : Conflict). P f.at.0) (λ (f : Conflict). Q f.at.0) (λ f h. w f.at.0 h) g.dooms g.asked;
+  kept_names = g.kept_names;
+  kept_started = g.kept_started;
+  names = g.names;
+  started = g.started;
+  made = g.made;
+  looked = g.looked;
+  locks = g.locks;
+}
+
+pub beside_then : {S : Type 0} {asks : ℕ → Type 0} (k : ℕ) (me : Side) (d e f : Hold S) → Beside k me asks d e → Beside k me asks e f → Beside k me asks d f
+beside_then {asks = asks} k me d e f g h = record {
   saw = h.saw ∙ g.saw;
   image = h.image ∙ g.image;
   segments = h.segments ∙ g.segments;
@@ -59,6 +82,7 @@ beside_then k me d e f g h = record {
   reserved = let a = g.reserved in let b = h.reserved in omega arith;
   dooms = g.dooms ++ h.dooms;
   others = λ w. dooms_then k me g.dooms h.dooms (core_of w d.meaning d.books) (core_of w e.meaning e.books) (core_of w f.meaning f.books) (g.others w) (h.others w);
+  asked = All-append (λ (c : Conflict). asks c.at.0) g.dooms h.dooms g.asked h.asked;
   kept_names = h.kept_names ∙ g.kept_names;
   kept_started = h.kept_started ∙ g.kept_started;
   names = λ n. let x = g.names n in let y = h.names x.0 in (y.0, y.1 ∙ x.1);
@@ -86,10 +110,10 @@ core_own {S} w k q m b out i = record (core_of w m b) { segments = λ j. same j 
     ]
 
 -- a call that changes the segment's own part alone
-pub beside_own : {S : Type 0} (k : ℕ) (me : Side) (m : Meaning) (q : Part) (r r1 : ℕ) (b : Books S) (p : Progress S) (o o1 : Option Stop) → runs_at b.hands.items k ≡ false → r ≤ r1
+pub beside_own : {S : Type 0} {asks : ℕ → Type 0} (k : ℕ) (me : Side) (m : Meaning) (q : Part) (r r1 : ℕ) (b : Books S) (p : Progress S) (o o1 : Option Stop) → runs_at b.hands.items k ≡ false → r ≤ r1
     → overlay m.image q.kept ≡ saw m k → q.kept_made ≡ (m.part k).kept_made → ((a : ℕ) → (m.part k).looked a ≡ true → q.looked a ≡ true) → ((a : ℕ) → mem a (m.part k).changed ≡ true → mem a q.changed ≡ true)
-    → Beside k me (holding m r b p o) (holding (with_part k q m) r1 b p o1)
-beside_own k me m q r r1 b p o o1 out le shown made looked locks = let e = own_part k q m in record {
+    → Beside k me asks (holding m r b p o) (holding (with_part k q m) r1 b p o1)
+beside_own {asks = asks} k me m q r r1 b p o o1 out le shown made looked locks = let e = own_part k q m in record {
   saw = ap (λ (z : Part). overlay m.image z.kept) e ∙ shown;
   image = refl;
   segments = refl;
@@ -97,6 +121,7 @@ beside_own k me m q r r1 b p o o1 out le shown made looked locks = let e = own_p
   reserved = le;
   dooms = [];
   others = λ w. core_own w k q m b out;
+  asked = All-nil (λ (f : Conflict). asks f.at.0);
   kept_names = refl;
   kept_started = refl;
   names = λ h. (h, refl);
@@ -149,13 +174,15 @@ dooms_one {S} k me j f m b b1 n r wr ot as' lo wi held rest hs cs w =
     let run : (core_of w m b).segments j ≡ Running (transaction w (m.part j) x.0) = ap (segment_of w (m.part j)) x.1 in (
       core_of w (after_drop j m) b1,
       record {
-        writer = transaction w (m.part j) x.0;
-        writes = ap (core_of w m b).segments sj ∙ run;
-        writer_is = s ∙ ap (λ i. side i (transaction w (m.part j) x.0)) (sym sj);
-        other = ot;
-        differ = λ e. n (sym sj ∙ e);
-        held = held;
-        asks = as';
+        meets = record {
+          writer = transaction w (m.part j) x.0;
+          writes = ap (core_of w m b).segments sj ∙ run;
+          writer_is = s ∙ ap (λ i. side i (transaction w (m.part j) x.0)) (sym sj);
+          other = ot;
+          differ = λ e. n (sym sj ∙ e);
+          held = held;
+          asks = as';
+        };
         lost = lo;
         winning = wi;
         gives = core_doomed w j f m b b1 (runs_within b.hands.items j r) rest hs cs ∙ ap (λ i. with_conflict f (with_segment i (model.Doomed f) (core_of w m b))) (sym sj);
@@ -163,9 +190,9 @@ dooms_one {S} k me j f m b b1 n r wr ot as' lo wi held rest hs cs w =
       refl,
     )
 
-pub beside_doom : {S : Type 0} (k : ℕ) (me : Side) (j : ℕ) (f : Conflict) (m : Meaning) (rs : ℕ) (b b1 : Books S) (p : Progress S) (o : Option Stop) → j ≢ k → ((w : World) → Dooms k me (f ∷ []) (core_of w m b) (core_of w (after_drop j m) b1))
-    → Beside k me (holding m rs b p o) (holding (after_drop j m) rs b1 p o)
-beside_doom k me j f m rs b b1 p o n ds = let e = other_part j (ended (m.part j)) m k (λ q. n (sym q)) in record {
+pub beside_doom : {S : Type 0} {asks : ℕ → Type 0} (k : ℕ) (me : Side) (j : ℕ) (f : Conflict) (m : Meaning) (rs : ℕ) (b b1 : Books S) (p : Progress S) (o : Option Stop) → j ≢ k → ((w : World) → Dooms k me (f ∷ []) (core_of w m b) (core_of w (after_drop j m) b1))
+    → asks f.at.0 → Beside k me asks (holding m rs b p o) (holding (after_drop j m) rs b1 p o)
+beside_doom {asks = asks} k me j f m rs b b1 p o n ds why = let e = other_part j (ended (m.part j)) m k (λ q. n (sym q)) in record {
   saw = ap (λ (z : Part). overlay m.image z.kept) e;
   image = refl;
   segments = refl;
@@ -173,6 +200,7 @@ beside_doom k me j f m rs b b1 p o n ds = let e = other_part j (ended (m.part j)
   reserved = omega arith;
   dooms = f ∷ [];
   others = ds;
+  asked = All-cons (λ (c : Conflict). asks c.at.0) f [] why (All-nil (λ (c : Conflict). asks c.at.0));
   kept_names = refl;
   kept_started = refl;
   names = λ h. (h, refl);
@@ -227,16 +255,16 @@ looks_mark a k m m1 there t h = elim (cases_Bool (is_noted (sees m k a) ((m.part
 ]
 
 -- a look leaves the rest
-pub looks_beside : {S : Type 0} (me : Side) (a k : ℕ) (m m1 : Meaning) (r : ℕ) (b : Books S) (p : Progress S) (o o1 : Option Stop) → runs_at b.hands.items k ≡ false → Looks a k m m1
-    → Beside k me (holding m r b p o) (holding m1 r b p o1)
-looks_beside {S} me a k m m1 r b p o o1 out h = elim (looks_part a k m m1 h) [
-  | inl e ↦ subst (λ z. Beside k me (holding m r b p o) (holding z r b p o1)) (sym e) (again (beside_refl k me (holding m r b p o)))
-  | inr e ↦ subst (λ z. Beside k me (holding m r b p o) (holding z r b p o1)) (sym e)
+pub looks_beside : {S : Type 0} {asks : ℕ → Type 0} (me : Side) (a k : ℕ) (m m1 : Meaning) (r : ℕ) (b : Books S) (p : Progress S) (o o1 : Option Stop) → runs_at b.hands.items k ≡ false → Looks a k m m1
+    → Beside k me asks (holding m r b p o) (holding m1 r b p o1)
+looks_beside {S} {asks} me a k m m1 r b p o o1 out h = elim (looks_part a k m m1 h) [
+  | inl e ↦ subst (λ z. Beside k me asks (holding m r b p o) (holding z r b p o1)) (sym e) (again (beside_refl k me (holding m r b p o)))
+  | inr e ↦ subst (λ z. Beside k me asks (holding m r b p o) (holding z r b p o1)) (sym e)
       (beside_own k me m (marked a (m.part k)) r r b p o o1 out (omega arith) refl refl (λ c l. or_right (eqb c a) ((m.part k).looked c) l) (λ c l. l))
 ]
   where
-    again : Beside k me (holding m r b p o) (holding m r b p o) → Beside k me (holding m r b p o) (holding m r b p o1)
-    again s = record { saw = s.saw; image = s.image; segments = s.segments; limit = s.limit; reserved = s.reserved; dooms = s.dooms; others = s.others; kept_names = s.kept_names; kept_started = s.kept_started; names = s.names; started = s.started; made = s.made; looked = s.looked; locks = s.locks }
+    again : Beside k me asks (holding m r b p o) (holding m r b p o) → Beside k me asks (holding m r b p o) (holding m r b p o1)
+    again s = record { saw = s.saw; image = s.image; segments = s.segments; limit = s.limit; reserved = s.reserved; dooms = s.dooms; others = s.others; asked = s.asked; kept_names = s.kept_names; kept_started = s.kept_started; names = s.names; started = s.started; made = s.made; looked = s.looked; locks = s.locks }
 
 pub looks_same : (a k : ℕ) (m m1 : Meaning) → Looks a k m m1 → (sees m1 k ≡ sees m k) × (holds (m1.part k) ≡ holds (m.part k)) × ((m1.part k).made ≡ (m.part k).made) × ((m1.part k).changed ≡ (m.part k).changed)
 looks_same a k m m1 h = elim (looks_part a k m m1 h) [
@@ -309,8 +337,8 @@ holds_locked {S} me a k m m1 r r1 b b1 p p1 o o1 out s there em er eb ep eo =
 
 -- first a doom of another segment, and then the record is held
 pub holds_after : {S : Type 0} (k : ℕ) (me : Side) (a j : ℕ) (f : Conflict) (m : Meaning) (r : ℕ) (b b1 : Books S) (p : Progress S) (o : Option Stop) (e : Hold S) → j ≢ k → ((w : World) → Dooms k me (f ∷ []) (core_of w m b) (core_of w (after_drop j m) b1))
-    → Holds k me a (holding (after_drop j m) r b1 p o) e → Holds k me a (holding m r b p o) e
-holds_after k me a j f m r b b1 p o e n ds h =
+    → f.at.0 ≡ a → Holds k me a (holding (after_drop j m) r b1 p o) e → Holds k me a (holding m r b p o) e
+holds_after k me a j f m r b b1 p o e n ds at h =
     let q = other_part j (ended (m.part j)) m k (λ x. n (sym x)) in
     record {
       shown = h.shown ∙ ap (λ (z : Part). overlay m.image z.changes) q;
@@ -319,15 +347,15 @@ holds_after k me a j f m r b b1 p o e n ds h =
       made = h.made ∙ ap (λ (z : Part). z.made) q;
       progress = h.progress;
       stopped = h.stopped;
-      beside = beside_then k me (holding m r b p o) (holding (after_drop j m) r b1 p o) e (beside_doom k me j f m r b b1 p o n ds) h.beside;
+      beside = beside_then k me (holding m r b p o) (holding (after_drop j m) r b1 p o) e (beside_doom k me j f m r b b1 p o n ds at) h.beside;
       locks = λ c x. elim (h.locks c x) [ inl y ↦ inl (sym (ap (λ (z : Part). mem c z.changed) q) ∙ y) | inr y ↦ inr y ];
     }
 
 -- ---- a call that failed
 
 -- nothing but the Stop changed
-pub beside_stop : {S : Type 0} (k : ℕ) (me : Side) (m : Meaning) (r r1 : ℕ) (b : Books S) (p : Progress S) (o o1 : Option Stop) → r ≤ r1 → Beside k me (holding m r b p o) (holding m r1 b p o1)
-beside_stop k me m r r1 b p o o1 le = record {
+pub beside_stop : {S : Type 0} {asks : ℕ → Type 0} (k : ℕ) (me : Side) (m : Meaning) (r r1 : ℕ) (b : Books S) (p : Progress S) (o o1 : Option Stop) → r ≤ r1 → Beside k me asks (holding m r b p o) (holding m r1 b p o1)
+beside_stop {asks = asks} k me m r r1 b p o o1 le = record {
   saw = refl;
   image = refl;
   segments = refl;
@@ -335,6 +363,7 @@ beside_stop k me m r r1 b p o o1 le = record {
   reserved = le;
   dooms = [];
   others = λ w. refl;
+  asked = All-nil (λ (f : Conflict). asks f.at.0);
   kept_names = refl;
   kept_started = refl;
   names = λ h. (h, refl);
@@ -375,13 +404,15 @@ fails_lost {S} k me a j f m m1 r r1 b b1 p p1 o o1 s es n run at wr ot as' lo wi
     let q : f.writer ≡ side j (transaction w (m.part j) x.0) = side_is w m b.hands.items j f.writer x.0 x.1 wr in
     let sj : f.writer.segment ≡ j = ap (λ z. z.segment) q in
     record {
-      writer = transaction w (m.part j) x.0;
-      writes = ap (core_of w m b).segments sj ∙ ap (segment_of w (m.part j)) x.1;
-      writer_is = q ∙ ap (λ i. side i (transaction w (m.part j) x.0)) (sym sj);
-      other = ot;
-      differ = λ e. n (sym sj ∙ e);
-      held = ap (λ z. mem z (m.part j).changed) at ∙ held;
-      asks = as';
+      meets = record {
+        writer = transaction w (m.part j) x.0;
+        writes = ap (core_of w m b).segments sj ∙ ap (segment_of w (m.part j)) x.1;
+        writer_is = q ∙ ap (λ i. side i (transaction w (m.part j) x.0)) (sym sj);
+        other = ot;
+        differ = λ e. n (sym sj ∙ e);
+        held = ap (λ z. mem z (m.part j).changed) at ∙ held;
+        asks = as';
+      };
       lost = lo;
       loses = wi;
     } in
@@ -390,12 +421,12 @@ fails_lost {S} k me a j f m m1 r r1 b b1 p p1 o o1 s es n run at wr ot as' lo wi
 
 -- first a doom of another segment, and then the call failed
 pub fails_after : {S : Type 0} (k : ℕ) (me : Side) (a j : ℕ) (f : Conflict) (m : Meaning) (r : ℕ) (b b1 : Books S) (p : Progress S) (o : Option Stop) (s : Stop) (e : Hold S) → j ≢ k → ((w : World) → Dooms k me (f ∷ []) (core_of w m b) (core_of w (after_drop j m) b1))
-    → Fails k me a (holding (after_drop j m) r b1 p o) s e → Fails k me a (holding m r b p o) s e
-fails_after k me a j f m r b b1 p o s e n ds h =
+    → f.at.0 ≡ a → Fails k me a (holding (after_drop j m) r b1 p o) s e → Fails k me a (holding m r b p o) s e
+fails_after k me a j f m r b b1 p o s e n ds at h =
     let q = other_part j (ended (m.part j)) m k (λ x. n (sym x)) in
     record {
       stopped = h.stopped;
-      beside = beside_then k me (holding m r b p o) (holding (after_drop j m) r b1 p o) e (beside_doom k me j f m r b b1 p o n ds) h.beside;
+      beside = beside_then k me (holding m r b p o) (holding (after_drop j m) r b1 p o) e (beside_doom k me j f m r b b1 p o n ds at) h.beside;
       why = h.why;
       looked = λ c x. elim (h.looked c x) [ inl y ↦ inl (sym (ap (λ (z : Part). z.looked c) q) ∙ y) | inr y ↦ inr y ];
       locks = λ c x. elim (h.locks c x) [ inl y ↦ inl (sym (ap (λ (z : Part). mem c z.changed) q) ∙ y) | inr y ↦ inr y ];
@@ -417,13 +448,13 @@ pub record AfterDoom {S : Type 0} (k : ℕ) (me : Side) (j : ℕ) (f : Conflict)
   pub stopped : o1 ≡ o
 
 module _ {S : Type 0} (k : ℕ) (me : Side) (j : ℕ) (f : Conflict) (m : Meaning) (r : ℕ) (b : Books S) (p : Progress S) (o : Option Stop) (k1 : ℕ) (me1 : Side) (m1 : Meaning) (r1 : ℕ) (b1 : Books S) (p1 : Progress S) (o1 : Option Stop)
-    (d : AfterDoom k me j f m r b p o k1 me1 m1 r1 b1 p1 o1) (a : ℕ) (e : Hold S) where
+    (d : AfterDoom k me j f m r b p o k1 me1 m1 r1 b1 p1 o1) (a : ℕ) (at : f.at.0 ≡ a) (e : Hold S) where
   moved : (P : ℕ → Side → Hold S → Type 0) → P k1 me1 (holding m1 r1 b1 p1 o1) → P k me (holding (after_drop j m) r b1 p o)
   moved P h = subst (λ z. P k me (holding (after_drop j m) r b1 p z)) d.stopped (subst (λ z. P k me (holding (after_drop j m) r b1 z o1)) d.progress (subst (λ z. P k me (holding (after_drop j m) z b1 p1 o1)) d.reserved
       (subst (λ z. P k me (holding z r1 b1 p1 o1)) d.meaning (subst (λ z. P k z (holding m1 r1 b1 p1 o1)) d.me_is (subst (λ z. P z me1 (holding m1 r1 b1 p1 o1)) d.segment h)))))
 
   pub holds_then : Holds k1 me1 a (holding m1 r1 b1 p1 o1) e → Holds k me a (holding m r b p o) e
-  holds_then h = holds_after k me a j f m r b b1 p o e d.other d.dooms (moved (λ i s z. Holds i s a z e) h)
+  holds_then h = holds_after k me a j f m r b b1 p o e d.other d.dooms at (moved (λ i s z. Holds i s a z e) h)
 
   pub fails_then : (s : Stop) → Fails k1 me1 a (holding m1 r1 b1 p1 o1) s e → Fails k me a (holding m r b p o) s e
-  fails_then s h = fails_after k me a j f m r b b1 p o s e d.other d.dooms (moved (λ i z x. Fails i z a x s e) h)
+  fails_then s h = fails_after k me a j f m r b b1 p o s e d.other d.dooms at (moved (λ i z x. Fails i z a x s e) h)

@@ -20,9 +20,10 @@ use Rattle.lock_run.proofs.StepsMirror.{steps_grows}
 use Rattle.lock_run.proofs.Along.{runs_snoc}
 use Rattle.stm_core.specs.declared.cause.Cause.{Cause}
 use Rattle.seg_store.specs.Meaning.{overlay}
-use Rattle.stm_core.specs.CoreState.{Transaction, Segment, Idle, Doomed, Running, CoreState, committed, loser, winner, wins, turn_of, world_after, sight_of, set_segment, with_segment, with_conflict, fresh}
-use Rattle.stm_core.specs.Good.{Stands, Apart, IsConflict, Unfinished, Good}
-use Rattle.stm_core.specs.Moves.{IsStanding, Advances, IsFree, Stays, first_cause, begun_at, published, Move, Begins, Drops, Dooms, Loses, Goes, Rests, Commits, Keeps, Next, Follows}
+use Rattle.stm_core.specs.CoreState.{Transaction, Segment, Idle, Doomed, Running, CoreState, committed, turn_of, world_after, sight_of, set_segment, with_segment, with_conflict, fresh}
+use Rattle.stm_core.specs.Conflict.{loser, winner, wins, IsStanding, IsConflict}
+use Rattle.stm_core.specs.Good.{Stands, Apart, Unfinished, Good}
+use Rattle.stm_core.specs.Moves.{IsMetBy, Advances, IsFree, Stays, first_cause, begun_at, published, Move, Begins, Drops, Dooms, Loses, Goes, Rests, Commits, Keeps, Next, Follows}
 use Rattle.stm_core.proofs.Publish.{publish_stands, publish_turn, get_set_other, get_append}
 
 pub advance_stands : {S : Type 0} (c : Prog S) (h : Heap) (ts : List S) (w : World) (x x' : Transaction S) → Stands c h ts w x → Advances c h w x x' → Stands c h ts w x'
@@ -34,16 +35,16 @@ advance_stands {S} c h ts w x x' sx v =
     let base : Frame S = plain S (overlay h x.changes) (world_after w x) in
     let fr : Frame S = record base { unseen = x.looked } in
     let m : Mirrors fr s sx.sight = record {
-      inside = λ a e. sx.view a;
-      outside = λ a e. sx.view a;
-      looked = sx.looked;
+      inside = λ a e. sx.shows.view a;
+      outside = λ a e. sx.shows.view a;
+      looked = sx.shows.looked;
       looked_back = λ a e. or_left (x.looked a) (sx.sight.looked a) e;
-      touched = sx.touched;
-      used = λ e. elim (cases_Bool x.solo) [ inl y ↦ y | inr n ↦ absurd (both_ways sx.sight.used (sx.quiet n) e) ];
-      world_used = λ e. sx.world_is e ∙ sym (cond-true x.solo x.world w e);
-      world_left = λ e. g.world (sx.quiet e) ∙ sym (cond-false x.solo x.world w e);
-      made = sym sx.made;
-      started = sym sx.started;
+      touched = sx.shows.touched;
+      used = λ e. elim (cases_Bool x.solo) [ inl y ↦ y | inr n ↦ absurd (both_ways sx.sight.used (sx.shows.quiet n) e) ];
+      world_used = λ e. sx.shows.world_is e ∙ sym (cond-true x.solo x.world w e);
+      world_left = λ e. g.world (sx.shows.quiet e) ∙ sym (cond-false x.solo x.world w e);
+      made = sym sx.shows.made;
+      started = sym sx.shows.started;
     } in
     let ag : Agrees (overlay h x.changes) (world_after w x) s u = record { looked = λ a r e is f. is; fresh = λ a e f is. is; world = λ e f. refl } in
     let z = does_mirror fr (c.row x.state) s sx.sight u (v.step.outcome, x'.state) v.step.does m ag in
@@ -56,19 +57,21 @@ advance_stands {S} c h ts w x x' sx v =
       lives = sx.lives;
       steps = subst (λ n. Steps c n sx.before (opened S h w) x'.state t) (sym v.steps)
           (x.state, sx.sight, sx.steps, record { lives = v.step.lives; outcome = v.step.outcome; goes_on = v.step.goes_on; does = z.1 });
-      view = λ a. elim (cases_Bool (u.touched a)) [
-        | inl y ↦ r.inside a y ∙ v.view a
-        | inr n ↦ r.outside a n ∙ (sym (gu.same a n) ∙ v.view a)
-      ];
-      made = sym r.made ∙ v.made;
-      started = sym r.started ∙ v.started;
-      looked = λ a e. v.looked a (r.looked a e);
-      touched = λ a e. v.touched a (r.touched a e);
-      within = v.within;
-      locked = v.locked;
-      unused = v.unused;
-      world_is = λ e. let e' : x.solo ≡ true = sym v.solo ∙ e in r.world_used (gu.used e') ∙ v.world_is e';
-      quiet = λ e. back t.used u.used r.used (v.quiet (sym v.solo ∙ e));
+      shows = record {
+        view = λ a. elim (cases_Bool (u.touched a)) [
+          | inl y ↦ r.inside a y ∙ v.shows.view a
+          | inr n ↦ r.outside a n ∙ (sym (gu.same a n) ∙ v.shows.view a)
+        ];
+        made = sym r.made ∙ v.shows.made;
+        started = sym r.started ∙ v.shows.started;
+        looked = λ a e. v.shows.looked a (r.looked a e);
+        touched = λ a e. v.shows.touched a (r.touched a e);
+        within = v.shows.within;
+        locked = v.shows.locked;
+        unused = v.shows.unused;
+        world_is = λ e. r.world_used (gu.used (sym v.solo ∙ e)) ∙ v.shows.world_is e;
+        quiet = λ e. back t.used u.used r.used (v.shows.quiet e);
+      };
     }
 
 pub begin_stands : {S : Type 0} (c : Prog S) (k : CoreState S) (t : ℕ) (p : S) → slice_get k.threads t ≡ Some p → c.life p ≡ Lives → Stands c k.image k.threads k.world (fresh k t p)
@@ -78,16 +81,18 @@ begin_stands {S} c k t p is lives = record {
   is = is;
   lives = lives;
   steps = (refl, refl);
-  view = λ a. refl;
-  made = refl;
-  started = refl;
-  looked = λ a e. e;
-  touched = λ a e. absurd (both_ways false refl e);
-  within = λ a e. refl;
-  locked = λ a e. absurd (both_ways false refl e);
-  unused = λ a e. absurd (both_ways false refl e);
-  world_is = λ e. refl;
-  quiet = λ e. refl;
+  shows = record {
+    view = λ a. refl;
+    made = refl;
+    started = refl;
+    looked = λ a e. e;
+    touched = λ a e. absurd (both_ways false refl e);
+    within = λ a e. refl;
+    locked = λ a e. absurd (both_ways false refl e);
+    unused = λ a e. absurd (both_ways false refl e);
+    world_is = λ e. refl;
+    quiet = λ e. refl;
+  };
 }
 
 pub apart_sym : {S : Type 0} (x y : Transaction S) → Apart x y → Apart y x
@@ -195,6 +200,7 @@ conflict_later h h' n m le kept f v = let k = kept f.at.0 v.entry v.is in record
   tracked = ap is_tracked k.2.kind ∙ v.tracked;
   segments = v.segments;
   numbers = v.numbers;
+  lost = v.lost;
   loses = v.loses;
   mortal = v.mortal;
   below = let b = v.below in omega arith;
@@ -261,7 +267,7 @@ good_publish {S} c m0 most k i x g is some unread =
       at_most = λ j y e. g.at_most j y (other j y e).1;
       apart = λ j l y z n e f. g.apart j l y z n (other j y e).1 (other l z f).1;
       conflicts = All-weaker (IsConflict k.image k.begun) (IsConflict (overlay k.image x.changes) k.begun)
-          (λ f v. conflict_later k.image (overlay k.image x.changes) k.begun k.begun (omega arith) (λ a r e. let q = gx.kept a r e in (q.0, sym (sx.view a) ∙ q.1, q.2)) f v) k.conflicts g.conflicts;
+          (λ f v. conflict_later k.image (overlay k.image x.changes) k.begun k.begun (omega arith) (λ a r e. let q = gx.kept a r e in (q.0, sym (sx.shows.view a) ∙ q.1, q.2)) f v) k.conflicts g.conflicts;
       lost = λ j y e. g.lost j y (other j y e).1;
       differ = g.differ;
       doomed = λ j d e. elim (set_cases i j Idle (Doomed d) k.segments e) [
@@ -276,6 +282,13 @@ good_publish {S} c m0 most k i x g is some unread =
         rests = λ j y e. u.rests j y (other j y e).1;
       };
     }
+
+-- the sides of a conflict that is one
+writer_side : {f g : Conflict} → f ≡ g → f.writer ≡ g.writer
+writer_side e = ap (λ (z : Conflict). z.writer) e
+
+other_side : {f g : Conflict} → f ≡ g → f.other ≡ g.other
+other_side e = ap (λ (z : Conflict). z.other) e
 
 -- the loser of a standing conflict runs, and is not solo
 pub record LoserRuns {S : Type 0} (k : CoreState S) (f : Conflict) : Type 0 where
@@ -298,39 +311,40 @@ loser_cases f = elim (eqb f.lost 0) as (λ b. ((cond b f.writer f.other ≡ f.wr
   | false ↦ inr (refl, refl)
 ]
 
-pub loser_runs : {S : Type 0} (c : Prog S) (m0 : Machine S) (most : ℕ) (k : CoreState S) (f : Conflict) → Good c m0 most k → IsStanding k f → LoserRuns k f
+pub loser_runs : {S : Type 0} (c : Prog S) (m0 : Machine S) (most : ℕ) (k : CoreState S) (f : Conflict) → Good c m0 most k → IsStanding c k f → LoserRuns k f
 loser_runs {S} c m0 most k f g v =
     let p = g.apart f.writer.segment f.other.segment v.x v.y v.differ v.writes v.reads in
     elim (loser_cases f) [
       | inl h ↦ record {
         run = v.x;
         is = ap (λ (l : Side). k.segments l.segment) h.0 ∙ v.writes;
-        side = ap (λ (l : Side). l.begun) (h.0 ∙ v.writer);
-        mortal = ap (λ (l : Side). l.solo) (sym v.writer) ∙ mortal_loser f.other f.writer
-            (λ e. ap (λ (l : Side). l.solo) v.writer ∙ (apart_sym v.x v.y p).solo (ap (λ (l : Side). l.solo) (sym v.other) ∙ e))
+        side = ap (λ (l : Side). l.begun) (h.0 ∙ (writer_side v.is));
+        mortal = ap (λ (l : Side). l.solo) (sym (writer_side v.is)) ∙ mortal_loser f.other f.writer
+            (λ e. ap (λ (l : Side). l.solo) (writer_side v.is) ∙ (apart_sym v.x v.y p).solo (ap (λ (l : Side). l.solo) (sym (other_side v.is)) ∙ e))
             (subst₂ (λ a b. wins a b ≡ true) h.1 h.0 v.loses);
       }
       | inr h ↦ record {
         run = v.y;
         is = ap (λ (l : Side). k.segments l.segment) h.0 ∙ v.reads;
-        side = ap (λ (l : Side). l.begun) (h.0 ∙ v.other);
-        mortal = ap (λ (l : Side). l.solo) (sym v.other) ∙ mortal_loser f.writer f.other
-            (λ e. ap (λ (l : Side). l.solo) v.other ∙ p.solo (ap (λ (l : Side). l.solo) (sym v.writer) ∙ e))
+        side = ap (λ (l : Side). l.begun) (h.0 ∙ (other_side v.is));
+        mortal = ap (λ (l : Side). l.solo) (sym (other_side v.is)) ∙ mortal_loser f.writer f.other
+            (λ e. ap (λ (l : Side). l.solo) (other_side v.is) ∙ p.solo (ap (λ (l : Side). l.solo) (sym (writer_side v.is)) ∙ e))
             (subst₂ (λ a b. wins a b ≡ true) h.1 h.0 v.loses);
       }
     ]
 
-pub is_conflict : {S : Type 0} (c : Prog S) (m0 : Machine S) (most : ℕ) (k : CoreState S) (f : Conflict) → Good c m0 most k → IsStanding k f → IsConflict k.image k.begun f
+pub is_conflict : {S : Type 0} (c : Prog S) (m0 : Machine S) (most : ℕ) (k : CoreState S) (f : Conflict) → Good c m0 most k → IsStanding c k f → IsConflict k.image k.begun f
 is_conflict {S} c m0 most k f g v =
     let p = g.apart f.writer.segment f.other.segment v.x v.y v.differ v.writes v.reads in
-    let l = (g.stands f.writer.segment v.x v.writes).locked f.at.0 v.held in
+    let l = (g.stands f.writer.segment v.x v.writes).shows.locked f.at.0 v.held in
     let r = loser_runs c m0 most k f g v in
     record {
       entry = l.entry;
       is = l.is;
       tracked = l.tracked;
       segments = v.differ;
-      numbers = λ e. p.begun (ap (λ (l : Side). l.begun) (sym v.writer) ∙ (e ∙ ap (λ (l : Side). l.begun) v.other));
+      lost = v.lost;
+      numbers = λ e. p.begun (ap (λ (l : Side). l.begun) (sym (writer_side v.is)) ∙ (e ∙ ap (λ (l : Side). l.begun) (other_side v.is)));
       loses = v.loses;
       mortal = loser_is_mortal;
       below = subst (λ n. n < k.begun) (sym r.side) (g.at_most (loser f).segment r.run r.is).1;
@@ -341,15 +355,15 @@ is_conflict {S} c m0 most k f g v =
         let p = g.apart f.writer.segment f.other.segment v.x v.y v.differ v.writes v.reads in
         elim (loser_cases f) [
           | inl h ↦ ap (λ (l : Side). l.solo) h.0 ∙ mortal_loser f.other f.writer
-              (λ e. ap (λ (l : Side). l.solo) v.writer ∙ (apart_sym v.x v.y p).solo (ap (λ (l : Side). l.solo) (sym v.other) ∙ e))
+              (λ e. ap (λ (l : Side). l.solo) (writer_side v.is) ∙ (apart_sym v.x v.y p).solo (ap (λ (l : Side). l.solo) (sym (other_side v.is)) ∙ e))
               (subst₂ (λ a b. wins a b ≡ true) h.1 h.0 v.loses)
           | inr h ↦ ap (λ (l : Side). l.solo) h.0 ∙ mortal_loser f.writer f.other
-              (λ e. ap (λ (l : Side). l.solo) v.other ∙ p.solo (ap (λ (l : Side). l.solo) (sym v.writer) ∙ e))
+              (λ e. ap (λ (l : Side). l.solo) (other_side v.is) ∙ p.solo (ap (λ (l : Side). l.solo) (sym (writer_side v.is)) ∙ e))
               (subst₂ (λ a b. wins a b ≡ true) h.1 h.0 v.loses)
         ]
 
 -- a side of a standing conflict loses: its slot is doomed with the conflict, or idle
-pub good_lost : {S : Type 0} (c : Prog S) (m0 : Machine S) (most : ℕ) (k : CoreState S) (f : Conflict) (s : Segment S) → Good c m0 most k → IsStanding k f
+pub good_lost : {S : Type 0} (c : Prog S) (m0 : Machine S) (most : ℕ) (k : CoreState S) (f : Conflict) (s : Segment S) → Good c m0 most k → IsStanding c k f
     → (s ≡ Idle) ⊎ (s ≡ Doomed f) → Good c m0 most (with_conflict f (with_segment (loser f).segment s k))
 good_lost {S} c m0 most k f s g v end =
     let i = (loser f).segment in
@@ -373,9 +387,9 @@ good_lost {S} c m0 most k f s g v end =
       doomed = λ j d e. elim (set_cases i j s (Doomed d) k.segments e) [
         | inl h ↦ elim end [
           | inl z ↦ (let w = h.1 in absurd cc)
-          | inr z ↦ subst (Contains (k.conflicts ++ f ∷ [])) (same_conflict S f d (sym z ∙ h.1)) (Contains-push k.conflicts f)
+          | inr z ↦ subst (λ (q : Conflict). Contains (k.conflicts ++ f ∷ []) q × ((loser q).segment ≡ j)) (same_conflict S f d (sym z ∙ h.1)) (Contains-push k.conflicts f, sym h.0)
         ]
-        | inr h ↦ Contains-append_left k.conflicts (f ∷ []) d (g.doomed j d h.1)
+        | inr h ↦ let q = g.doomed j d h.1 in (Contains-append_left k.conflicts (f ∷ []) d q.0, q.1)
       ];
       caused = λ n. unfinished_fewer c k (with_conflict f (with_segment i s k)) refl (λ j y e. (y, j, (other j y e).1, refl)) (g.caused n);
     }
@@ -387,16 +401,18 @@ stays_stands {S} c h ts w x x' sx v = record {
   is = ap (slice_get ts) v.thread ∙ sx.is;
   lives = sx.lives;
   steps = subst (λ n. Steps c n sx.before (opened S h w) x'.state sx.sight) (sym v.steps) (subst (λ q. Steps c x.steps sx.before (opened S h w) q sx.sight) (sym v.state) sx.steps);
-  view = λ a. sx.view a ∙ sym (v.view a);
-  made = sx.made ∙ ap places (sym v.made);
-  started = sx.started ∙ sym v.started;
-  looked = λ a e. v.looked a (sx.looked a e);
-  touched = λ a e. v.more a (sx.touched a e);
-  within = v.within;
-  locked = v.locked;
-  unused = λ a e. sx.unused a (subst (λ ns. mem a (places ns) ≡ true) v.made e);
-  world_is = λ e. sx.world_is (sym v.solo ∙ e) ∙ sym v.world;
-  quiet = λ e. sx.quiet (sym v.solo ∙ e);
+  shows = record {
+    view = λ a. sx.shows.view a ∙ sym (v.view a);
+    made = sx.shows.made ∙ ap places (sym v.made);
+    started = sx.shows.started ∙ sym v.started;
+    looked = λ a e. v.looked a (sx.shows.looked a e);
+    touched = λ a e. v.more a (sx.shows.touched a e);
+    within = v.within;
+    locked = v.locked;
+    unused = λ a e. sx.shows.unused a (subst (λ ns. mem a (places ns) ≡ true) v.made e);
+    world_is = λ e. sx.shows.world_is (sym v.solo ∙ e) ∙ sym v.world;
+    quiet = λ e. sx.shows.quiet (sym v.solo ∙ e);
+  };
 }
 
 good_stays : {S : Type 0} (c : Prog S) (m0 : Machine S) (most : ℕ) (k : CoreState S) (i : ℕ) (x x' : Transaction S) → Good c m0 most k
@@ -444,7 +460,7 @@ good_next c m0 most k k1 (Loses f) g n = subst (Good c m0 most) (sym n.1) (good_
 good_next c m0 most k k1 (Goes i x x1) g n = subst (Good c m0 most) (sym n.4) (good_advance c m0 most k i x x1 g n.0 n.1 n.2 n.3)
 good_next c m0 most k k1 (Rests i x x1) g n = subst (Good c m0 most) (sym n.3) (good_stays c m0 most k i x x1 g n.0 n.1 n.2)
 good_next c m0 most k k1 (Commits i x) g n = subst (Good c m0 most) (sym n.3) (good_publish c m0 most k i x g n.0 n.1 n.2)
-good_next c m0 most k k1 (Keeps e) g n = subst (Good c m0 most) (sym n.5) (good_keeps c m0 most k e n.0 n.1 g n.2 n.3 n.4)
+good_next c m0 most k k1 (Keeps e) g n = subst (Good c m0 most) (sym n.6) (good_keeps c m0 most k e n.0 n.1 g n.2 n.3 n.4)
 
 pub good_after : {S : Type 0} (c : Prog S) (m0 : Machine S) (most : ℕ) (k k1 : CoreState S) (ms : List (Move S)) → Good c m0 most k → Follows c most k ms k1 → Good c m0 most k1
 good_after c m0 most k k1 [] g f = subst (Good c m0 most) (sym f) g

@@ -29,20 +29,20 @@ get_append (y ∷ xs) ys (suc j) x h = get_append xs ys j x h
 -- what one segment owns, another that is apart from it has not touched
 pub apart_untouched : {S : Type 0} (c : Prog S) (h : Heap) (ts : List S) (w : World) (x y : Transaction S) → (sx : Stands c h ts w x) → Stands c h ts w y → Apart x y
     → (a : ℕ) → owned y a ≡ true → sx.sight.touched a ≡ false
-apart_untouched c h ts w x y sx sy p a o = false_from_ne_true (sx.sight.touched a) (λ e. elim (or_cases (mem a x.changed) (mem a (places x.made)) (sx.touched a e)) [
+apart_untouched c h ts w x y sx sy p a o = false_from_ne_true (sx.sight.touched a) (λ e. elim (or_cases (mem a x.changed) (mem a (places x.made)) (sx.shows.touched a e)) [
   | inl xc ↦ elim (or_cases (mem a y.changed) (mem a (places y.made)) o) [
     | inl yc ↦ both_ways (mem a y.changed) (p.changed a xc) yc
-    | inr ym ↦ let l = sx.locked a xc in let n = sy.unused a ym in let s = l.is in cc (n, s)
+    | inr ym ↦ let l = sx.shows.locked a xc in let n = sy.shows.unused a ym in let s = l.is in cc (n, s)
   ]
   | inr xm ↦ elim (or_cases (mem a y.changed) (mem a (places y.made)) o) [
-    | inl yc ↦ let l = sy.locked a yc in let n = sx.unused a xm in let s = l.is in cc (n, s)
+    | inl yc ↦ let l = sy.shows.locked a yc in let n = sx.shows.unused a xm in let s = l.is in cc (n, s)
     | inr ym ↦ both_ways (mem a (places y.made)) (p.made a xm) ym
   ]
 ])
 
 -- the new image at a place that the committed segment has not touched
 pub image_kept : {S : Type 0} (c : Prog S) (h : Heap) (ts : List S) (w : World) (x : Transaction S) → (sx : Stands c h ts w x) → (a : ℕ) → sx.sight.touched a ≡ false → overlay h x.changes a ≡ h a
-image_kept {S} c h ts w x sx a n = sym (sx.view a) ∙ (steps_grows c x.steps sx.before (opened S h w) x.state sx.sight sx.steps).same a n
+image_kept {S} c h ts w x sx a n = sym (sx.shows.view a) ∙ (steps_grows c x.steps sx.before (opened S h w) x.state sx.sight sx.steps).same a n
 
 pub opened_mirrors : {S : Type 0} (h h' : Heap) (w w' : World) → Mirrors (plain S h' w') (opened S h w) (opened S h' w')
 opened_mirrors h h' w w' = record {
@@ -69,18 +69,18 @@ publish_agrees {S} c h ts w x y sx sy p unread =
     let gy = steps_grows c y.steps sy.before (opened S h w) y.state sy.sight sy.steps in
     record {
       looked = λ a r e is f. elim (cases_Bool (is_tracked r.kind)) [
-        | inl y' ↦ image_kept c h ts w x sx a (false_from_ne_true (sx.sight.touched a) (λ t. elim (or_cases (mem a x.changed) (mem a (places x.made)) (sx.touched a t)) [
-          | inl xc ↦ both_ways (y.looked a) (unread a xc) (sy.looked a (f y'))
-          | inr xm ↦ let n = sx.unused a xm in cc (n, is)
+        | inl y' ↦ image_kept c h ts w x sx a (false_from_ne_true (sx.sight.touched a) (λ t. elim (or_cases (mem a x.changed) (mem a (places x.made)) (sx.shows.touched a t)) [
+          | inl xc ↦ both_ways (y.looked a) (unread a xc) (sy.shows.looked a (f y'))
+          | inr xm ↦ let n = sx.shows.unused a xm in cc (n, is)
         ])) ∙ is
-        | inr n ↦ sym (sx.view a) ∙ gx.fixed a r is n
+        | inr n ↦ sym (sx.shows.view a) ∙ gx.fixed a r is n
       ];
       fresh = λ a e t is.
-          let m : mem a (places y.made) ≡ true = subst (λ ns. mem a ns ≡ true) sy.made (gy.fresh a e t is) in
+          let m : mem a (places y.made) ≡ true = subst (λ ns. mem a ns ≡ true) sy.shows.made (gy.fresh a e t is) in
           image_kept c h ts w x sx a (apart_untouched c h ts w x y sx sy p a (or_right (mem a y.changed) (mem a (places y.made)) m)) ∙ is;
       world = λ e u. elim (cases_Bool y.solo) [
         | inl s ↦ world_same w x y p s
-        | inr n ↦ absurd (both_ways sy.sight.used (sy.quiet n) u)
+        | inr n ↦ absurd (both_ways sy.sight.used (sy.shows.quiet n) u)
       ];
     }
 
@@ -102,25 +102,27 @@ publish_stands {S} c h ts w x y sx sy p unread =
       is = get_append (slice_set ts x.thread x.state) x.started y.thread sy.before (get_set_other ts x.thread y.thread x.state p.threads ∙ sy.is);
       lives = sy.lives;
       steps = m.1;
-      view = λ a. elim (cases_Bool (owned y a)) [
-        | inl o ↦ elim (cases_Bool (sy.sight.touched a)) [
-          | inl yes' ↦ r.inside a yes' ∙ (sy.view a ∙ ap (over (y.changes a)) (sym (kept a o)))
-          | inr no' ↦ r.outside a no' ∙ (kept a o ∙ (sym (gy.same a no') ∙ (sy.view a ∙ ap (over (y.changes a)) (sym (kept a o)))))
-        ]
-        | inr o ↦ r.outside a (back (sy.sight.touched a) (owned y a) (sy.touched a) o) ∙ ap (λ e. over e (h' a)) (sym (sy.within a o))
-      ];
-      made = sym r.made ∙ sy.made;
-      started = sym r.started ∙ sy.started;
-      looked = λ a e. sy.looked a (r.looked a e);
-      touched = λ a e. sy.touched a (r.touched a e);
-      within = sy.within;
-      locked = λ a e. let l = sy.locked a e in record { entry = l.entry; is = kept a (or_left (mem a y.changed) (mem a (places y.made)) e) ∙ l.is; tracked = l.tracked; marked = l.marked };
-      unused = λ a e. kept a (or_right (mem a y.changed) (mem a (places y.made)) e) ∙ sy.unused a e;
-      world_is = λ s. elim (cases_Bool sy.sight.used) [
-        | inl u ↦ r.world_used u ∙ sy.world_is s
-        | inr u ↦ r.world_left u ∙ (world_same w x y p s ∙ (sym (gy.world u) ∙ sy.world_is s))
-      ];
-      quiet = λ s. back t.used sy.sight.used r.used (sy.quiet s);
+      shows = record {
+        view = λ a. elim (cases_Bool (owned y a)) [
+          | inl o ↦ elim (cases_Bool (sy.sight.touched a)) [
+            | inl yes' ↦ r.inside a yes' ∙ (sy.shows.view a ∙ ap (over (y.changes a)) (sym (kept a o)))
+            | inr no' ↦ r.outside a no' ∙ (kept a o ∙ (sym (gy.same a no') ∙ (sy.shows.view a ∙ ap (over (y.changes a)) (sym (kept a o)))))
+          ]
+          | inr o ↦ r.outside a (back (sy.sight.touched a) (owned y a) (sy.shows.touched a) o) ∙ ap (λ e. over e (h' a)) (sym (sy.shows.within a o))
+        ];
+        made = sym r.made ∙ sy.shows.made;
+        started = sym r.started ∙ sy.shows.started;
+        looked = λ a e. sy.shows.looked a (r.looked a e);
+        touched = λ a e. sy.shows.touched a (r.touched a e);
+        within = sy.shows.within;
+        locked = λ a e. let l = sy.shows.locked a e in record { entry = l.entry; is = kept a (or_left (mem a y.changed) (mem a (places y.made)) e) ∙ l.is; tracked = l.tracked; marked = l.marked };
+        unused = λ a e. kept a (or_right (mem a y.changed) (mem a (places y.made)) e) ∙ sy.shows.unused a e;
+        world_is = λ s. elim (cases_Bool sy.sight.used) [
+          | inl u ↦ r.world_used u ∙ sy.shows.world_is s
+          | inr u ↦ r.world_left u ∙ (world_same w x y p s ∙ (sym (gy.world u) ∙ sy.shows.world_is s))
+        ];
+        quiet = λ s. back t.used sy.sight.used r.used (sy.shows.quiet s);
+      };
     }
 
 -- the turn that the commit appends
@@ -133,16 +135,16 @@ publish_turn {S} c h ts w x sx some = record {
   is = sx.is;
   some = some;
   steps = sx.steps;
-  names = sx.made;
+  names = sx.shows.made;
   gives = λ i. record {
-    heap = λ a. sym (sx.view a) i;
-    threads = slice_set ts x.thread x.state ++ sym sx.started i;
+    heap = λ a. sym (sx.shows.view a) i;
+    threads = slice_set ts x.thread x.state ++ sym sx.shows.started i;
     world = sym new_world i;
   };
 }
   where
     new_world : sx.sight.world ≡ world_after w x
     new_world = elim (cases_Bool x.solo) [
-      | inl s ↦ sx.world_is s ∙ sym (cond-true x.solo x.world w s)
-      | inr n ↦ (steps_grows c x.steps sx.before (opened S h w) x.state sx.sight sx.steps).world (sx.quiet n) ∙ sym (cond-false x.solo x.world w n)
+      | inl s ↦ sx.shows.world_is s ∙ sym (cond-true x.solo x.world w s)
+      | inr n ↦ (steps_grows c x.steps sx.before (opened S h w) x.state sx.sight sx.steps).world (sx.shows.quiet n) ∙ sym (cond-false x.solo x.world w n)
     ]

@@ -20,15 +20,16 @@ use Rattle.stm_core.specs.declared.books.Hand.TheVariants.{Idle as IdleHand, Doo
 use Rattle.stm_core.specs.declared.books.Books.{Books}
 use Rattle.stm_core.specs.declared.commit.Commit.{Commit}
 use Rattle.stm_core.specs.declared.commit.Commit.TheVariants.{Committed as AtTurn, Nothing}
-use Rattle.stm_core.specs.CoreState.{Transaction, Segment, Idle, Doomed, Running, CoreState, side, wins, set_segment, with_segment, with_conflict}
+use Rattle.stm_core.specs.CoreState.{Transaction, Segment, Idle, Doomed, Running, CoreState, set_segment, with_segment, with_conflict}
+use Rattle.stm_core.specs.Conflict.{IsStanding}
 use Rattle.stm_core.specs.Good.{Good}
-use Rattle.stm_core.specs.Moves.{IsStanding, Drops, Loses, published}
+use Rattle.stm_core.specs.Moves.{Drops, Loses, published}
 use Rattle.stm_core.specs.Books.{WorkFits, is_running, runs_at, one_running, one_started, is_lock, transaction, segment_of, core_of, Fit}
 use Rattle.stm_core.specs.Passes.{met, doom_met, doom_one, doom_readers}
 use Rattle.stm_core.specs.Whole.{Whole}
 use Rattle.stm_core.specs.Advance.{core_with}
 use Rattle.stm_core.specs.SaneCore.{SaneCore}
-use Rattle.stm_core.specs.Begun.{IsCount}
+use Rattle.stm_core.specs.Begun.{CountsSteps}
 use Rattle.stm_core.specs.Committed.{Beaten, CommitEnds, CommitOf, Committed}
 use Rattle.stm_core.proofs.Publish.{get_set_other}
 use Rattle.stm_core.proofs.Fits.{get_set_same, sum_set, seen_image}
@@ -139,7 +140,7 @@ dooms_keep {S} k x (j ∷ js) c =
     one (Running y) = met_keep y (met x.changed y.looked)
 
 -- the count of the history's steps, with one turn more
-pub count_more : (spent : ℕ) (ts : List Turn) (t : Turn) → IsCount spent ts → IsCount (min (spent + t.steps) (2 ^ 64 - 1)) (ts ++ t ∷ [])
+pub count_more : (spent : ℕ) (ts : List Turn) (t : Turn) → CountsSteps spent ts → CountsSteps (min (spent + t.steps) (2 ^ 64 - 1)) (ts ++ t ∷ [])
 count_more spent ts t e =
     let s = sum_by-append (λ (u : Turn). u.steps) ts (t ∷ []) in
     grind (arith, e, s)
@@ -192,14 +193,14 @@ module _ {S : Type 0} (k : ℕ) (m : Meaning) (b b1 : Books S) where
         (g.apart k j (transaction w (m.part k) x) (transaction w (m.part j) y) n (ap (segment_of w (m.part k)) e) (ap (segment_of w (m.part j)) there)).begun (sym q)
 
     -- what the commit of the transaction makes of the core is what the commit of its segment makes of it
-    pub committed_taken : (w : World) (n : ℕ) (r : Result Commit Conflict) (c1 : CoreState S) → CommitEnds k n (transaction w (m.part k) x) r (core_with w k m b1 x) c1 → Committed k n r (core_of w m b) c1
-    committed_taken w n r c1 h =
-        subst (λ (z : Segment S). CommitOf k n z r (core_of w m b) c1) (sym (ap (segment_of w (m.part k)) e))
-        (subst (λ (c : CoreState S). CommitEnds k n (transaction w (m.part k) x) r c c1) (core_taken k m b b1 w x e s) h)
+    pub committed_taken : (p : Prog S) (w : World) (n : ℕ) (r : Result Commit Conflict) (c1 : CoreState S) → CommitEnds p k n (transaction w (m.part k) x) r (core_with w k m b1 x) c1 → Committed p k n r (core_of w m b) c1
+    committed_taken p w n r c1 h =
+        subst (λ (z : Segment S). CommitOf p k n z r (core_of w m b) c1) (sym (ap (segment_of w (m.part k)) e))
+        (subst (λ (c : CoreState S). CommitEnds p k n (transaction w (m.part k) x) r c c1) (core_taken k m b b1 w x e s) h)
 
-  pub committed_doomed : (f : Conflict) → slice_get b.hands.items k ≡ Some (DoomedHand f) → Set k IdleHand b b1 → (w : World) (n : ℕ) → Committed k n (Err f) (core_of w m b) (core_of w m b1)
-  committed_doomed f e s w n =
-      subst (λ (z : Segment S). CommitOf k n z (Err f) (core_of w m b) (core_of w m b1)) (sym (ap (segment_of w (m.part k)) e))
+  pub committed_doomed : (p : Prog S) (f : Conflict) → slice_get b.hands.items k ≡ Some (DoomedHand f) → Set k IdleHand b b1 → (w : World) (n : ℕ) → Committed p k n (Err f) (core_of w m b) (core_of w m b1)
+  committed_doomed p f e s w n =
+      subst (λ (z : Segment S). CommitOf p k n z (Err f) (core_of w m b) (core_of w m b1)) (sym (ap (segment_of w (m.part k)) e))
       (refl, core_set k m b b1 w IdleHand s (slice_get_within b.hands.items k (DoomedHand f) e))
 
 -- ---- a commit keeps the core good
@@ -212,39 +213,20 @@ mem_range a (suc n) j le lt = elim (cases_Bool (eqb j a)) [
 ]
 
 module _ {S : Type 0} (p : Prog S) (start : Machine S) (most k n : ℕ) (c c1 : CoreState S) (g : Good p start most c) (within : (j : ℕ) (y : Transaction S) → c.segments j ≡ Running y → j < n) where
-  beaten_stands : (x : Transaction S) (f : Conflict) → c.segments k ≡ Running x → Beaten k x f c → IsStanding c f × (with_conflict f (with_segment k Idle c) ≡ with_conflict f (with_segment f.writer.segment Idle c)) × (f.lost ≡ 0)
-  beaten_stands x f is h =
-      let r = met_some x.changed h.reader.looked f.at.0 h.seen in
-      let ww : f.writer ≡ side k x = ap (λ (z : Conflict). z.writer) h.is in
-      let ws : f.writer.segment ≡ k = ap (λ (z : Conflict). z.writer.segment) h.is in
-      let lo : f.lost ≡ 0 = ap (λ (z : Conflict). z.lost) h.is in (
-        record {
-          x = x;
-          y = h.reader;
-          writes = ap c.segments ws ∙ is;
-          reads = h.reads;
-          writer = ww ∙ ap (λ i. side i x) (sym ws);
-          other = ap (λ (z : Conflict). z.other) h.is;
-          differ = λ e. h.differ (sym e ∙ ws);
-          held = r.0;
-          seen = inl r.1;
-          loses = ap (λ l. wins (cond (eqb l 0) f.other f.writer) (cond (eqb l 0) f.writer f.other)) lo ∙ ap (wins f.other) ww ∙ h.beats;
-        },
-        ap (λ i. with_conflict f (with_segment i Idle c)) (sym ws),
-        lo,
-      )
+  beaten_stands : (x : Transaction S) (f : Conflict) → c.segments k ≡ Running x → Beaten p k x f c → IsStanding p c f × (with_conflict f (with_segment k Idle c) ≡ with_conflict f (with_segment f.writer.segment Idle c)) × (f.lost ≡ 0)
+  beaten_stands x f is h = (h.stands, ap (λ i. with_conflict f (with_segment i Idle c)) (sym h.writer), h.lost)
 
-  ends_good : (x : Transaction S) (r : Result Commit Conflict) → c.segments k ≡ Running x → CommitEnds k n x r c c1 → Good p start most c1
+  ends_good : (x : Transaction S) (r : Result Commit Conflict) → c.segments k ≡ Running x → CommitEnds p k n x r c c1 → Good p start most c1
   ends_good x (Ok Nothing) is h = good_next p start most c c1 (Drops k) g ((λ y e s. (let q : x ≡ y = (let u : Running x ≡ Running y = sym is ∙ e in cc) in ap (λ (z : Transaction S). z.steps) (sym q) ∙ h.0)), h.1)
   ends_good x (Ok (AtTurn i)) is h = subst (Good p start most) (sym h.3) (commit_good p start most k x (range_with_len 0 n) c g is h.0 h.1 (λ j y e. mem_range 0 n j (omega arith) (let lt = within j y e in omega (arith, lt))))
   ends_good x (Err f) is h =
       let b = beaten_stands x f is h.1 in
       good_next p start most c c1 (Loses f) g (b.0, h.2 ∙ b.1 ∙ ap (λ l. with_conflict f (with_segment (cond (eqb l 0) f.writer f.other).segment Idle c)) (sym b.2))
 
-  pub committed_good : (r : Result Commit Conflict) → Committed k n r c c1 → Good p start most c1
+  pub committed_good : (r : Result Commit Conflict) → Committed p k n r c c1 → Good p start most c1
   committed_good r h = go (c.segments k) refl h
     where
-      go : (s : Segment S) → c.segments k ≡ s → CommitOf k n s r c c1 → Good p start most c1
+      go : (s : Segment S) → c.segments k ≡ s → CommitOf p k n s r c c1 → Good p start most c1
       go Idle e q = absurd q
       go (Doomed f) e q = good_next p start most c c1 (Drops k) g ((λ y d s. absurd (let u : Doomed f ≡ Running y = sym e ∙ d in cc)), q.1)
       go (Running x) e q = ends_good x r e q
@@ -258,7 +240,7 @@ running_within {S} w m b j y len e = go (slice_get b.hands.items j) refl
     go (Some h) q = subst (λ n. j < n) len (slice_get_within b.hands.items j h q)
 
 pub committed_sane : {S : Type 0} (p : Prog S) (sound : Heap → List S → Type 0) (most k : ℕ) (m m1 : Meaning) (b b1 : Books S) (r : Result Commit Conflict) → length b.hands.items ≡ m.segments
-    → ((w : World) → Committed k m.segments r (core_of w m b) (core_of w m1 b1)) → SaneCore p sound most m b → SaneCore p sound most m1 b1
+    → ((w : World) → Committed p k m.segments r (core_of w m b) (core_of w m1 b1)) → SaneCore p sound most m b → SaneCore p sound most m1 b1
 committed_sane p sound most k m m1 b b1 r len h s = record {
   first = s.first;
   good = λ w d. committed_good p _ most k m.segments (core_of w m b) (core_of w m1 b1) (s.good w d) (λ j y e. running_within w m b j y len e) r (h w);

@@ -2,6 +2,8 @@
 use Rattle.py_data.proofs.Steps.{at-is}
 use Rattle.std.proofs.Common.{◌≡◌, ◌≢◌, ◌≤◌, ◌+◌, ℕ, Bool, true, false, not, ◌||◌, ◌&&◌, eqb, List, [], ◌∷◌, ◌++◌, length, take, slice_get, zero, suc, Option, Some, None, refl, sym, ◌∙◌, ap, subst, inl, inr, arith, IsSome, unwrap_or, slice_set, length-append}
 use Rattle.std.proofs.lemmas.Bool.{cases_Bool, both_ways, cond-true}
+use Rattle.std.proofs.lemmas.List.Elements.{All-nil}
+use Rattle.py_data.specs.declared.stop.Conflict.{Conflict}
 use Rattle.py_data.specs.declared.value.Addr.{Addr}
 use Rattle.py_data.specs.declared.value.Value.{Value}
 use Rattle.py_data.specs.declared.stop.Side.{Side}
@@ -25,7 +27,9 @@ use Rattle.seg_store.proofs.Sees.{same_marks, own_part, make_shows}
 use Rattle.stm_core.specs.declared.books.Progress.{Progress}
 use Rattle.stm_core.specs.declared.books.Books.{Books}
 use Rattle.stm_core.specs.Books.{runs_at, segment_of, core_of, Fit}
-use Rattle.stm_core.specs.Hold.{Hold, sight, Beside, SegDoes, SegRefuses, SegWhy, IsOuter, holding, is_noted, Looks, FaultWhy, stop_of}
+use Rattle.stm_core.specs.Hold.{Hold, sight, Beside, SegDoes, SegRefuses, SegWhy, holding, is_noted, Looks, FaultWhy, stop_of}
+use Rattle.seg_store.specs.Extents.{Wants}
+use Rattle.stm_core.specs.Asking.{IsOuter}
 use Rattle.stm_core.specs.SegSense.{Seen}
 use Rattle.stm_core.proofs.Looking.{noted_fixed}
 use Rattle.stm_core.proofs.Holding.{looks_beside, looks_same, looks_mark, beside_own, beside_stop}
@@ -160,6 +164,7 @@ start_done {S} k me m r b b1 p p1 o s out live eb et ep =
         reserved = omega arith;
         dooms = [];
         others = λ w. core_started w m b b1 eb et;
+        asked = All-nil (λ (f : Conflict). ⊥);
         kept_names = kept_names;
         kept_started = kept;
         names = λ h. (subst (λ z. z ≤ length p1.names) (sym kept_names) (subst (λ z. p.kept_names ≤ length z) (sym names) h), ap (λ z. take z p1.names) kept_names ∙ ap (take p.kept_names) names);
@@ -199,8 +204,8 @@ make_done {S} k me m m1 r r1 b b1 p p1 o o1 q a out live free em er eb ep eo =
     let started : p1.started ≡ p.started = ap (λ (z : Progress S). z.started) ep in
     let d = holding m r b p o in
     let e = holding m1 r1 b1 p1 o1 in
-    let own = beside_own k me m (made a.0 q (m.part k)) r r1 b p o o1 out er refl refl (λ c h. h) (λ c h. h) in
-    let moved : Beside k me d (holding m1 r1 b1 p o1) = subst (λ z. Beside k me d (holding z r1 b1 p o1)) (sym em) (subst (λ z. Beside k me d (holding (after_make k a.0 q m) r1 z p o1)) (sym eb) own) in (
+    let own : Beside k me (λ c. ⊥) d (holding (after_make k a.0 q m) r1 b p o1) = beside_own k me m (made a.0 q (m.part k)) r r1 b p o o1 out er refl refl (λ c h. h) (λ c h. h) in
+    let moved : Beside k me (λ c. ⊥) d (holding m1 r1 b1 p o1) = subst (λ z. Beside k me (λ c. ⊥) d (holding z r1 b1 p o1)) (sym em) (subst (λ z. Beside k me (λ c. ⊥) d (holding (after_make k a.0 q m) r1 z p o1)) (sym eb) own) in (
       (none, λ i. record (sight k e) { heap = heap i; looked = looked i; touched = touched i; made = makes i; started = started i }),
       record {
         saw = moved.saw;
@@ -210,6 +215,7 @@ make_done {S} k me m m1 r r1 b b1 p p1 o o1 q a out live free em er eb ep eo =
         reserved = moved.reserved;
         dooms = moved.dooms;
         others = moved.others;
+        asked = moved.asked;
         kept_names = ap (λ (z : Progress S). z.kept_names) ep;
         kept_started = ap (λ (z : Progress S). z.kept_started) ep;
         names = λ h. front_more p.kept_names p1.kept_names p.names p1.names a (ap (λ (z : Progress S). z.kept_names) ep) (ap (λ (z : Progress S). z.names) ep) h;
@@ -222,12 +228,12 @@ make_done {S} k me m m1 r r1 b b1 p p1 o o1 q a out live free em er eb ep eo =
     )
 
 pub make_refused : {S : Type 0} (k : ℕ) (me : Side) (m m1 : Meaning) (r r1 : ℕ) (b b1 : Books S) (p p1 : Progress S) (o o1 : Option Stop) (q : Rec) (x : StoreFault) (s : Stop) → m1 ≡ m → r ≤ r1 → b1 ≡ b → p1 ≡ p → s ≡ stop_of x → o1 ≡ Some s
-    → FaultWhy (Unit {0}) r1 m.limit x → SegRefuses k me (Make q) (holding m r b p o) s (holding m1 r1 b1 p1 o1)
+    → FaultWhy (Wants None q) r1 m.limit x → SegRefuses k me (Make q) (holding m r b p o) s (holding m1 r1 b1 p1 o1)
 make_refused {S} k me m m1 r r1 b b1 p p1 o o1 q x s em er eb ep es eo why =
     subst (λ z. SegRefuses k me (Make q) (holding m r b p o) z (holding m1 r1 b1 p1 o1)) (sym es)
     (refused_alone k me (Make q) m m1 r r1 b b1 p p1 o o1 (stop_of x) em er eb ep (eo ∙ ap Some es) (reason x why))
   where
-    reason : (y : StoreFault) → FaultWhy (Unit {0}) r1 m.limit y → SegWhy k me (stop_of y) (Make q) (sees m k) (holding m r1 b p (Some (stop_of x)))
+    reason : (y : StoreFault) → FaultWhy (Wants None q) r1 m.limit y → SegWhy k me (stop_of y) (Make q) (sees m k) (holding m r1 b p (Some (stop_of x)))
     reason (FullStore u n l) w = w
     reason NoMemoryLeft w = tt
 
@@ -253,6 +259,7 @@ start_refused {S} k me x m m1 r r1 b b1 b2 p p1 p2 o o1 s es eo em er eb et eb2 
         reserved = omega arith;
         dooms = [];
         others = λ w. core_started w m b b1 eb et;
+        asked = All-nil (λ (f : Conflict). ⊥);
         kept_names = refl;
         kept_started = refl;
         names = λ h. (h, refl);

@@ -23,11 +23,10 @@ use Rattle.stm_core.specs.declared.answers.Advance.TheVariants.{Ran, Waits as Wa
 use Rattle.stm_core.specs.declared.answers.AdvanceError.TheVariants.{Lost, Failed}
 use Rattle.stm_core.specs.declared.cause.Cause.{Cause}
 use Rattle.stm_core.specs.declared.cause.Cause.TheVariants.{Full, OutOfMemory}
-use Rattle.stm_core.specs.CoreState.{Transaction, Segment, Idle, Running, CoreState, side, committed, core_new, set_segment, with_segment, with_conflict}
+use Rattle.stm_core.specs.CoreState.{Transaction, Segment, Idle, Running, CoreState, committed, core_new, set_segment, with_segment, with_conflict}
 use Rattle.stm_core.specs.Good.{Good}
 use Rattle.stm_core.specs.Moves.{first_cause}
 use Rattle.stm_core.specs.Books.{is_running, runs_at, one_running, one_started, transaction, segment_of, core_of}
-use Rattle.stm_core.specs.Hold.{LosesTo}
 use Rattle.stm_core.specs.Whole.{Whole as WholeBooks}
 use Rattle.stm_core.specs.Advance.{core_with, Sane}
 use Rattle.stm_core.specs.Advanced.{with_cause, Ends, AdvancedFrom, Advanced}
@@ -61,20 +60,6 @@ module _ {S : Type 0} (w : World) (k : ℕ) (m : Meaning) (b : Books S) (x : Wor
       let c = core_of w m b in
       segments_only c c.segments (set_segment k Idle (set_segment k (Running (transaction w (m.part k) x)) c.segments))
       (sym (set_again k Idle (Running (transaction w (m.part k) x)) c.segments ∙ set_same k Idle c.segments (ap (segment_of w (m.part k)) e)))
-
-  -- the conflict that it loses stands with the transaction in its segment
-  pub loses_with : (me : Side) (f : Conflict) → LosesTo k me f (core_of w m b) → LosesTo k me f (core_with w k m b x)
-  loses_with me f l = record {
-    writer = l.writer;
-    writes = cond-false (eqb f.writer.segment k) (Running (transaction w (m.part k) x)) ((core_of w m b).segments f.writer.segment) (ne_eqb f.writer.segment k l.differ) ∙ l.writes;
-    writer_is = l.writer_is;
-    other = l.other;
-    differ = l.differ;
-    held = l.held;
-    asks = l.asks;
-    lost = l.lost;
-    loses = l.loses;
-  }
 
   -- after it lost
   pub lost_with : (f : Conflict) (c1 : CoreState S) → slice_get b.hands.items k ≡ Some IdleHand → c1 ≡ with_conflict f (core_of w m b) → c1 ≡ with_conflict f (with_segment k Idle (core_with w k m b x))
@@ -208,14 +193,14 @@ module _ {S : Type 0} (p : Prog S) (w : World) (dry : w.mid ≡ false) (k : ℕ)
   why_at stop at e y = (y.0, subst (λ z. StopWhy p w k z m r b x) e (y.1 w dry))
 
   pub solo_ends : (n : ℕ) (stop : Stop) → stop ≡ NeedSoloStop → PauseWhy p k (Stopped stop) m r b x → c1 ≡ with_it → Ends p k r1 l1 with_it tx (Ok (NeedSolo n)) c1
-  solo_ends n stop e y h = let q = why_at stop NeedSoloStop e y in (q.0, q.1.outer, h)
+  solo_ends n stop e y h = let q = why_at stop NeedSoloStop e y in (q.0, q.1, h)
 
   pub lost_ends : (f : Conflict) (stop : Stop) → stop ≡ LostStop f → PauseWhy p k (Stopped stop) m r b x → slice_get b.hands.items k ≡ Some IdleHand → c1 ≡ with_conflict f (core_of w m b) → Ends p k r1 l1 with_it tx (Err (Lost f)) c1
-  lost_ends f stop e y idle h = let q = why_at stop (LostStop f) e y in (q.0, loses_with w k m b x (side k tx) f q.1.cut, lost_with w k m b x f c1 idle h)
+  lost_ends f stop e y idle h = let q = why_at stop (LostStop f) e y in (q.0, q.1.0, q.1.1, lost_with w k m b x f c1 idle h)
 
   pub full_ends : (i n l : ℕ) (stop : Stop) → stop ≡ FullStop i n l → PauseWhy p k (Stopped stop) m r b x → slice_get b.hands.items k ≡ Some IdleHand → r1 ≡ r → l1 ≡ m.limit → c1 ≡ with_cause (Full i n l) (core_of w m b)
       → Ends p k r1 l1 with_it tx (Err (Failed (Full i n l))) c1
-  full_ends i n l stop e y idle er el h = let q = why_at stop (FullStop i n l) e y in let t = q.1.cut in (q.0, (t.0 ∙ sym er, t.1 ∙ sym el, t.2), failed_with w k m b x (Full i n l) c1 idle h)
+  full_ends i n l stop e y idle er el h = let q = why_at stop (FullStop i n l) e y in let t = q.1 in (q.0, (t.0, t.1 ∙ sym er, t.2 ∙ sym el, t.3), failed_with w k m b x (Full i n l) c1 idle h)
 
   pub memory_ends : (stop : Stop) → stop ≡ NoMemoryStop → PauseWhy p k (Stopped stop) m r b x → slice_get b.hands.items k ≡ Some IdleHand → c1 ≡ with_cause OutOfMemory (core_of w m b) → Ends p k r1 l1 with_it tx (Err (Failed OutOfMemory)) c1
   memory_ends stop e y idle h = let q = why_at stop NoMemoryStop e y in (q.0, tt, failed_with w k m b x OutOfMemory c1 idle h)
@@ -228,7 +213,7 @@ never_ends p k m r b x NeedSoloStop y a c d e = a refl
 never_ends p k m r b x (LostStop f) y a c d e = c f refl
 never_ends p k m r b x (FullStop i n l) y a c d e = d i n l refl
 never_ends p k m r b x NoMemoryStop y a c d e = e refl
-never_ends p k m r b x NeedHeap y a c d e = (y.1 dry_world refl).cut
-never_ends p k m r b x ReadFault y a c d e = (y.1 dry_world refl).cut
-never_ends p k m r b x WriteFault y a c d e = (y.1 dry_world refl).cut
-never_ends p k m r b x ErrFault y a c d e = (y.1 dry_world refl).cut
+never_ends p k m r b x NeedHeap y a c d e = y.1 dry_world refl
+never_ends p k m r b x ReadFault y a c d e = y.1 dry_world refl
+never_ends p k m r b x WriteFault y a c d e = y.1 dry_world refl
+never_ends p k m r b x ErrFault y a c d e = y.1 dry_world refl

@@ -49,4 +49,4 @@ module _ {S : Type 0} (p : Prog S) (sound : Heap → List S → Type 0) (law : S
       let st = g.stands i x is in
       let c = sound_run start (record { heap = k.image; threads = k.threads; world = k.world }) k.history s0 g.run in
       let h = sound_steps k.threads x.thread x.steps st.before st.before (opened S k.image k.world) x.state st.sight st.is (first_sound k.image k.threads x.thread st.before st.is c) st.steps in
-      (slice_set k.threads x.thread x.state ++ st.sight.started, x.thread, get_set k.threads st.sight.started x.thread st.before x.state st.is, subst (λ z. sound z (slice_set k.threads x.thread x.state ++ st.sight.started)) (λ j a. st.view a j) h)
+      (slice_set k.threads x.thread x.state ++ st.sight.started, x.thread, get_set k.threads st.sight.started x.thread st.before x.state st.is, subst (λ z. sound z (slice_set k.threads x.thread x.state ++ st.sight.started)) (λ j a. st.shows.view a j) h)

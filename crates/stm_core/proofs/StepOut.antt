@@ -1,20 +1,21 @@
 -- One step of a client over a segment's view, as the core sees it.
-use Rattle.std.proofs.Common.{◌≡◌, ℕ, suc, false, List, [], ◌∷◌, length, take, refl, sym, ◌∙◌, ap, subst, inl, inr, arith, Result, Ok, Err, IfOk, IfErr, OnErr}
+use Rattle.std.proofs.Common.{◌≡◌, ◌≤◌, ℕ, suc, false, List, [], ◌∷◌, length, take, refl, sym, ◌∙◌, ap, subst, inl, inr, arith, Result, Ok, Err, IfOk, IfErr, OnErr, All}
 use Rattle.std.proofs.lemmas.Bool.{or_left}
 use Rattle.std.proofs.lemmas.List.{take_all}
 use Rattle.py_data.specs.declared.value.Addr.{Addr}
 use Rattle.py_data.specs.declared.stop.Side.{Side}
+use Rattle.py_data.specs.declared.stop.Conflict.{Conflict}
 use Rattle.py_data.specs.declared.stop.Stop.{Stop}
 use Rattle.py_data.specs.declared.stop.Stop.TheVariants.{Lost, NeedSolo, NeedHeap, Full, ReadFault, WriteFault, ErrFault, OutOfMemory}
 use Rattle.py_data.specs.World.{World}
 use Rattle.py_data.specs.Collection.{places}
-use Rattle.py_data.specs.Row.{Row, Ret, Do}
+use Rattle.py_data.specs.Row.{Call, Reply, Row, Ret, Do}
 use Rattle.py_data.specs.Sense.{Run, Stopped, Upto}
 use Rattle.py_data.specs.Sight.{Sight, Does, mem, pure}
 use Rattle.lock_run.specs.declared.client.Outcome.{Outcome}
 use Rattle.lock_run.specs.declared.client.Life.TheVariants.{Lives}
 use Rattle.lock_run.specs.Prog.{Prog}
-use Rattle.lock_run.specs.Client.{AsksToPrint, Stepped, StepStopped, WaitsQuietly}
+use Rattle.lock_run.specs.Client.{AsksToPrint, Stepped, StepStopped, TellsLife, WaitsQuietly}
 use Rattle.seg_store.specs.Meaning.{Part, Meaning, sees, saw, holds}
 use Rattle.seg_store.specs.Calls.{opened, undone}
 use Rattle.seg_store.specs.Store.{IsStore}
@@ -26,10 +27,11 @@ use Rattle.stm_core.specs.CoreState.{sight_of}
 use Rattle.stm_core.specs.Books.{runs_at, transaction, core_of, Fit}
 use Rattle.stm_core.specs.Hold.{Hold, sight, Dooms, SegOpens, SegUndoes, LosesTo}
 use Rattle.stm_core.specs.SegSense.{seg_sense, seg_bracket, Stays}
-use Rattle.stm_core.specs.Whole.{stepped, StepDone, StepCut, StopsAt, CutWhy, MeetsOuter, IfSolo}
+use Rattle.stm_core.specs.Whole.{stepped, StepDone, StepCut, StopsAt, CutWhy}
+use Rattle.stm_core.specs.Asking.{Reaches, AsksToChange, AsksOutside, AsksRoom, AskedFor}
 use Rattle.lock_run.proofs.Following.{run_upto}
 use Rattle.stm_core.proofs.Holding.{core_own}
-use Rattle.stm_core.proofs.Stepping.{at_world, row_done, sight_is, advances}
+use Rattle.stm_core.proofs.Stepping.{at_world, call_beside, row_done, sight_is, advances}
 use Rattle.stm_core.proofs.Stopping.{row_stopped, stays}
 use Rattle.stm_core.proofs.Afresh.{waits_afresh}
 
@@ -80,6 +82,38 @@ module _ {S X : Type 0} (hold : X → Hold S) (segment : X → ℕ) (me : X → 
   result_stays row v (Ok o) s u ok err = stepped_stays row v o s u ok
   result_stays row v (Err e) s u ok err = cut_stays row v e u err
 
+  -- what the store has reserved never falls
+  run_reserved : {A : Type 0} (row : Row S A) (v : X) (y : A) (u : X) → Run (seg_sense hold segment me same) row v y u → (hold v).reserved ≤ (hold u).reserved
+  unfolding Run
+  run_reserved (Ret a) v y u d = subst (λ z. (hold v).reserved ≤ (hold z).reserved) (sym d.1) (omega arith)
+  run_reserved (Do c f) v y u d =
+      let a = (call_beside (segment v) (me v) c (hold v) d.0 (hold d.1) d.2.0).reserved in
+      let b = run_reserved (f d.0) d.1 y u d.3 in
+      omega (arith, a, b)
+
+  stop_reserved : {A : Type 0} (row : Row S A) (v : X) (e : Stop) (u : X) → Stopped (seg_sense hold segment me same) row v e u → (hold v).reserved ≤ (hold u).reserved
+  unfolding Stopped
+  stop_reserved (Ret a) v e u d = subst (λ z. (hold v).reserved ≤ (hold z).reserved) (sym d.1) (omega arith)
+  stop_reserved (Do c f) v e u d = elim d [
+    | inl x ↦ subst (λ z. (hold v).reserved ≤ (hold z).reserved) (sym x.1) (omega arith)
+    | inr y ↦ elim y [
+      | inl r ↦ r.0.beside.reserved
+      | inr z ↦ let a = (call_beside (segment v) (me v) c (hold v) z.0 (hold z.1) z.2.0).reserved in let b = stop_reserved (f z.0) z.1 e u z.3 in omega (arith, a, b)
+    ]
+  ]
+
+  pub result_reserved : (row : Row S (Outcome × S)) (v : X) (r : Result Outcome Stop) (s : S) (u : X) → IfOk r (λ o. Stepped (seg_sense hold segment me same) (seg_bracket hold segment me same) row v o s u)
+      → IfErr r (λ e. StepStopped (seg_sense hold segment me same) (seg_bracket hold segment me same) row v e u) → (hold v).reserved ≤ (hold u).reserved
+  result_reserved row v (Ok o) s u ok err =
+      let a : (hold ok.0).reserved ≡ (hold v).reserved = ap (λ (z : Hold S). z.reserved) ok.1.0 in
+      let b = run_reserved row ok.0 (o, s) u ok.2 in
+      omega (arith, a, b)
+  result_reserved row v (Err e) s u ok err =
+      let a : (hold err.0).reserved ≡ (hold v).reserved = ap (λ (z : Hold S). z.reserved) err.2.0 in
+      let b = stop_reserved row err.0 e err.1 err.3 in
+      let c : (hold u).reserved ≡ (hold err.1).reserved = ap (λ (z : Hold S). z.reserved) err.4.0 in
+      omega (arith, a, b, c)
+
   module _ (prog : Prog S) (w : World) (dry : w.mid ≡ false) (k : ℕ) (s : Side) (mortal : s.solo ≡ false) (v u : X) (ek : segment v ≡ k) (es : me v ≡ s) (x x1 : Work S) (m1 : Meaning) (r1 : ℕ) (b1 : Books S)
       (xp : (hold v).progress ≡ x.progress) (fit : Fit k (hold v).meaning (hold v).books (hold v).progress) (fit1 : Fit k m1 b1 x1.progress) (store : IsStore r1 m1)
       (lives : prog.life x.state ≡ Lives) (asks : AsksToPrint (prog.row x.state)) (th : x1.thread ≡ x.thread) (be : x1.begun ≡ x.begun) (sp : x1.steps ≡ x.steps)
@@ -105,8 +139,8 @@ module _ {S X : Type 0} (hold : X → Hold S) (segment : X → ℕ) (me : X → 
     core_begins v1 op = ap (λ (z : Hold S). core_of w z.meaning z.books) op ∙ core_own w k (opened (m.part k)) m b fit.out
 
     -- a step that was done
-    pub step_done : (o : Outcome) → WaitsQuietly prog → Stepped (seg_sense hold segment me same) (seg_bracket hold segment me same) (prog.row x.state) v o x1.state u → StepDone prog w k s o m b x m1 b1 x1
-    step_done o quiet h =
+    pub step_done : (o : Outcome) → TellsLife prog → WaitsQuietly prog → Stepped (seg_sense hold segment me same) (seg_bracket hold segment me same) (prog.row x.state) v o x1.state u → StepDone prog w k s o m b x m1 b1 x1
+    step_done o tells quiet h =
         let v1 = h.0 in
         let op : SegOpens k (hold v) (hold v1) = subst (λ i. SegOpens i (hold v) (hold v1)) ek h.1.0 in
         let r = row_done hold segment me same w k s mortal (prog.row x.state) v1 (o, x1.state) u (h.1.1.segment_is ∙ ek) (h.1.1.me_is ∙ es) asks h.2 in
@@ -126,16 +160,18 @@ module _ {S X : Type 0} (hold : X → Hold S) (segment : X → ℕ) (me : X → 
               (sym (ap (λ (z : Progress S). z.started) ep) ∙ q.1.started ∙ ap (λ (z : Hold S). z.progress.started) op ∙ ap (λ (z : Progress S). z.started) xp)
               (λ a l. ap (λ (z : Meaning). (z.part k).looked a) (sym em) ∙ r.1.looked a (ap (λ (z : Part). z.looked a) part ∙ l))
               (λ a l. ap (λ (z : Meaning). mem a (z.part k).changed) (sym em) ∙ r.1.locks a (ap (λ (z : Part). mem a z.changed) part ∙ l));
+          life = tells x.state x1.state (at_world w (sight k (hold v1))) (at_world w (sight k (hold u))) o lives r.0;
           waiting = λ e w1.
               let r1 = row_done hold segment me same w1 k s mortal (prog.row x.state) v1 (o, x1.state) u (h.1.1.segment_is ∙ ek) (h.1.1.me_is ∙ es) asks h.2 in
               waits_afresh (prog.row x.state) (at_world w1 (sight k (hold v1))) (at_world w1 (sight k (hold u))) (sees m k) w1 x1.state (ap (λ (z : Hold S). sees z.meaning k) op ∙ (step_shows k m).opened) refl
               (subst (λ z. Does (prog.row x.state) (at_world w1 (sight k (hold v1))) (z, x1.state) (at_world w1 (sight k (hold u)))) e r1.0);
-          asks = record {
-            left = Ret (o, x1.state);
+          last = (o, x1.state);
+          went = record {
             place = at_world w (sight k (hold u));
             upto = run_upto pure (prog.row x.state) (sight_of m.image w (transaction w (m.part k) x)) (o, x1.state) (at_world w (sight k (hold u))) (subst (λ z. Does (prog.row x.state) z (o, x1.state) (at_world w (sight k (hold u)))) start r.0);
             looks = λ a h. inl (ap (λ (z : Meaning). (z.part k).looked a) em ∙ h);
             locks = λ a h. inl (or_left (mem a ((hold u).meaning.part k).changed) (mem a ((hold u).meaning.part k).made) (ap (λ (z : Meaning). mem a (z.part k).changed) em ∙ h));
+            asked = subst (λ z. All (λ (f : Conflict). AskedFor (prog.row x.state) z (Ret (o, x1.state)) (at_world w (sight k (hold u))) f.at.0) r.1.dooms) start r.1.asked;
           };
           image = im;
           shape = (
@@ -158,49 +194,45 @@ module _ {S X : Type 0} (hold : X → Hold S) (segment : X → ℕ) (me : X → 
         let part : (hold v1).meaning.part k ≡ opened (m.part k) = ap (λ (z : Hold S). z.meaning.part k) op ∙ own_part k (opened (m.part k)) m in
         let core1 : core_of w m1 b1 ≡ core_of w (hold u1).meaning (hold u1).books =
         ap (λ z. core_of w z b1) (sym em) ∙ ap (core_of w (hold u).meaning) (sym eb) ∙ ap (λ (z : Hold S). core_of w z.meaning z.books) un ∙ core_own w k (undone ((hold u1).meaning.part k)) (hold u1).meaning (hold u1).books out1 in
-        let im : m1.image ≡ m.image = sym (ap (λ (z : Meaning). z.image) em) ∙ ap (λ (z : Hold S). z.meaning.image) un ∙ st.0.image ∙ ap (λ (z : Hold S). z.meaning.image) op in
-        let seen : sees m1 k ≡ sees m k = sym (ap (λ z. sees z k) em) ∙ ap (λ (z : Hold S). sees z.meaning k) un ∙ (step_shows k (hold u1).meaning).undone ∙ st.0.saw ∙ ap (λ (z : Hold S). saw z.meaning k) op ∙ (step_shows k m).kept in
+        let im : m1.image ≡ m.image = sym (ap (λ (z : Meaning). z.image) em) ∙ ap (λ (z : Hold S). z.meaning.image) un ∙ st.beside.image ∙ ap (λ (z : Hold S). z.meaning.image) op in
+        let seen : sees m1 k ≡ sees m k = sym (ap (λ z. sees z k) em) ∙ ap (λ (z : Hold S). sees z.meaning k) un ∙ (step_shows k (hold u1).meaning).undone ∙ st.beside.saw ∙ ap (λ (z : Hold S). saw z.meaning k) op ∙ (step_shows k m).kept in
         let kn : (hold v1).progress.kept_names ≡ length (hold v1).progress.names = ap (λ (z : Hold S). z.progress.kept_names) op ∙ sym (ap (λ (z : Hold S). length z.progress.names) op) in
         let ks : (hold v1).progress.kept_started ≡ length (hold v1).progress.started = ap (λ (z : Hold S). z.progress.kept_started) op ∙ sym (ap (λ (z : Hold S). length z.progress.started) op) in
-        let named : x1.progress.names ≡ x.progress.names = sym (ap (λ (z : Progress S). z.names) ep) ∙ ap (λ (z : Hold S). z.progress.names) un ∙ (st.0.names (omega (arith, kn))).1 ∙ take_whole (hold v1).progress.kept_names (hold v1).progress.names kn
+        let named : x1.progress.names ≡ x.progress.names = sym (ap (λ (z : Progress S). z.names) ep) ∙ ap (λ (z : Hold S). z.progress.names) un ∙ (st.beside.names (omega (arith, kn))).1 ∙ take_whole (hold v1).progress.kept_names (hold v1).progress.names kn
         ∙ ap (λ (z : Hold S). z.progress.names) op ∙ ap (λ (z : Progress S). z.names) xp in
-        let started : x1.progress.started ≡ x.progress.started = sym (ap (λ (z : Progress S). z.started) ep) ∙ ap (λ (z : Hold S). z.progress.started) un ∙ (st.0.started (omega (arith, ks))).1 ∙ take_whole (hold v1).progress.kept_started (hold v1).progress.started ks
+        let started : x1.progress.started ≡ x.progress.started = sym (ap (λ (z : Progress S). z.started) ep) ∙ ap (λ (z : Hold S). z.progress.started) un ∙ (st.beside.started (omega (arith, ks))).1 ∙ take_whole (hold v1).progress.kept_started (hold v1).progress.started ks
         ∙ ap (λ (z : Hold S). z.progress.started) op ∙ ap (λ (z : Progress S). z.started) xp in
         record {
-          dooms = st.0.dooms;
-          others = subst (λ c. Dooms k s st.0.dooms c (core_of w m1 b1)) (core_begins v1 op) (subst (Dooms k s st.0.dooms (core_of w (hold v1).meaning (hold v1).books)) (sym core1) (st.0.others w));
+          dooms = st.beside.dooms;
+          others = subst (λ c. Dooms k s st.beside.dooms c (core_of w m1 b1)) (core_begins v1 op) (subst (Dooms k s st.beside.dooms (core_of w (hold v1).meaning (hold v1).books)) (sym core1) (st.beside.others w));
           stays = stays w k m m1 r1 x x1 im seen names fit1.own_names store (fit1.locked k) th be sp state named started
-              (λ a l. ap (λ (z : Part). z.looked a) part1 ∙ st.0.looked a (ap (λ (z : Part). z.looked a) part ∙ l))
-              (λ a l. ap (λ (z : Part). mem a z.changed) part1 ∙ st.0.locks a (ap (λ (z : Part). mem a z.changed) part ∙ l));
-          asks = record {
-            left = st.1.asks.left;
-            place = st.1.asks.place;
-            upto = subst (λ z. Upto pure (prog.row x.state) z st.1.asks.left st.1.asks.place) (begins v1 op) st.1.asks.upto;
-            looks = λ a h. st.1.asks.looks a (ap (λ (z : Part). z.looked a) (sym part1) ∙ h);
-            locks = λ a h. st.1.asks.locks a (ap (λ (z : Part). mem a z.changed) (sym part1) ∙ h);
+              (λ a l. ap (λ (z : Part). z.looked a) part1 ∙ st.beside.looked a (ap (λ (z : Part). z.looked a) part ∙ l))
+              (λ a l. ap (λ (z : Part). mem a z.changed) part1 ∙ st.beside.locks a (ap (λ (z : Part). mem a z.changed) part ∙ l));
+          left = st.left;
+          went = record {
+            place = st.place;
+            upto = subst (λ z. Upto pure (prog.row x.state) z st.left st.place) (begins v1 op) st.upto;
+            looks = λ a h. st.looks a (ap (λ (z : Part). z.looked a) (sym part1) ∙ h);
+            locks = λ a h. st.locks a (ap (λ (z : Part). mem a z.changed) (sym part1) ∙ h);
+            asked = subst (λ z. All (λ (f : Conflict). AskedFor (prog.row x.state) z st.left st.place f.at.0) st.beside.dooms) (begins v1 op) st.beside.asked;
           };
           image = im;
           shape = (
-            sym (ap (λ (z : Meaning). z.segments) em) ∙ ap (λ (z : Hold S). z.meaning.segments) un ∙ st.0.segments ∙ ap (λ (z : Hold S). z.meaning.segments) op,
-            sym (ap (λ (z : Meaning). z.limit) em) ∙ ap (λ (z : Hold S). z.meaning.limit) un ∙ st.0.limit ∙ ap (λ (z : Hold S). z.meaning.limit) op,
+            sym (ap (λ (z : Meaning). z.segments) em) ∙ ap (λ (z : Hold S). z.meaning.segments) un ∙ st.beside.segments ∙ ap (λ (z : Hold S). z.meaning.segments) op,
+            sym (ap (λ (z : Meaning). z.limit) em) ∙ ap (λ (z : Hold S). z.meaning.limit) un ∙ st.beside.limit ∙ ap (λ (z : Hold S). z.meaning.limit) op,
           );
-          why = cut_why e (sym core1) (sym er ∙ ap (λ (z : Hold S). z.reserved) un) (sym (ap (λ (z : Meaning). z.limit) em) ∙ ap (λ (z : Hold S). z.meaning.limit) un) st.1;
-          solo = if_solo e (begins v1 op) st.1;
+          why = cut_why e (begins v1 op) (sym core1) (sym er ∙ ap (λ (z : Hold S). z.reserved) un) (sym (ap (λ (z : Meaning). z.limit) em) ∙ ap (λ (z : Hold S). z.meaning.limit) un) st;
         }
       where
-        cut_why : {A : Type 0} {row : Row S A} {z : Sight S} (y : Stop) {d : Hold S} → core_of w d.meaning d.books ≡ core_of w m1 b1 → r1 ≡ d.reserved → m1.limit ≡ d.meaning.limit → StopsAt k s row z y d → CutWhy k s y (core_of w m1 b1) r1 m1.limit
-        cut_why (Lost f) c r l a = elim a.why [ inl q ↦ (let p = q in absurd cc) | inr q ↦ subst (LosesTo k s f) c (q.3.2 w) ]
-        cut_why NeedSolo c r l a = tt
-        cut_why (Full i n j) c r l a = elim a.why [ inl q ↦ (let p = q in absurd cc) | inr q ↦ (q.3.1 ∙ sym r, q.3.2 ∙ sym l, q.3.3) ]
-        cut_why OutOfMemory c r l a = tt
-        cut_why NeedHeap c r l a = elim a.why [ inl q ↦ (let p = q in absurd cc) | inr q ↦ q.3 ]
-        cut_why ReadFault c r l a = elim a.why [ inl q ↦ (let p = q in absurd cc) | inr q ↦ q.3 ]
-        cut_why WriteFault c r l a = elim a.why [ inl q ↦ (let p = q in absurd cc) | inr q ↦ q.3 ]
-        cut_why ErrFault c r l a = elim a.why [ inl q ↦ (let p = q in absurd cc) | inr q ↦ q.3 ]
+        reaches : {A : Type 0} {row : Row S A} {z z1 : Sight S} {y : Stop} {d0 d : Hold S} (kind : Call S → Sight S → Type 0) → z ≡ z1 → (a : StopsAt k s row z y d0 d) → (c : Call S) (f : Reply c → Row S A) → a.left ≡ Do c f → kind c a.place → Reaches row z1 kind
+        reaches {row = row} {z = z} kind e a c f q h = subst (λ v. Reaches row v kind) e (record { call = c; next = f; place = a.place; upto = subst (λ l. Upto pure row z l a.place) q a.upto; is = h })
 
-        if_solo : {row : Row S (Outcome × S)} {z z1 : Sight S} (y : Stop) {d : Hold S} → z ≡ z1 → StopsAt k s row z y d → IfSolo y row z1
-        if_solo {row} {z} NeedSolo e a = elim a.why [
-          | inl q ↦ (let p = q in absurd cc)
-          | inr q ↦ subst (MeetsOuter row) e (record { call = q.0; next = q.1; place = a.asks.place; upto = subst (λ l. Upto pure row z l a.asks.place) q.2 a.asks.upto; outer = q.3 })
-        ]
-        if_solo _ e a = tt
+        cut_why : {A : Type 0} {row : Row S A} {z z1 : Sight S} (y : Stop) {d0 d : Hold S} → z ≡ z1 → core_of w d.meaning d.books ≡ core_of w m1 b1 → r1 ≡ d.reserved → m1.limit ≡ d.meaning.limit → StopsAt k s row z y d0 d → CutWhy k s y row z1 (core_of w m1 b1) r1 m1.limit
+        cut_why (Lost f) e c r l a = elim a.why [ inl q ↦ (let p = q in absurd cc) | inr q ↦ (subst (LosesTo k s f) c (q.3.1 w), reaches (AsksToChange f.at.0) e a q.0 q.1 q.2 q.3.0) ]
+        cut_why NeedSolo e c r l a = elim a.why [ inl q ↦ (let p = q in absurd cc) | inr q ↦ reaches AsksOutside e a q.0 q.1 q.2 q.3 ]
+        cut_why (Full i n j) e c r l a = elim a.why [ inl q ↦ (let p = q in absurd cc) | inr q ↦ (reaches (AsksRoom n) e a q.0 q.1 q.2 q.3.0, q.3.1 ∙ sym r, q.3.2 ∙ sym l, q.3.3) ]
+        cut_why OutOfMemory e c r l a = tt
+        cut_why NeedHeap e c r l a = elim a.why [ inl q ↦ (let p = q in absurd cc) | inr q ↦ q.3 ]
+        cut_why ReadFault e c r l a = elim a.why [ inl q ↦ (let p = q in absurd cc) | inr q ↦ q.3 ]
+        cut_why WriteFault e c r l a = elim a.why [ inl q ↦ (let p = q in absurd cc) | inr q ↦ q.3 ]
+        cut_why ErrFault e c r l a = elim a.why [ inl q ↦ (let p = q in absurd cc) | inr q ↦ q.3 ]

@@ -1,5 +1,6 @@
 -- A step over a segment's view is a step of its transaction, with dooms of others before it.
-use Rattle.std.proofs.Common.{◌≡◌, ◌≢◌, ℕ, suc, Bool, true, false, cond, ◌||◌, eqb, List, [], ◌∷◌, slice_get, map, Option, Some, None, refl, sym, ◌∙◌, ap, subst, inl, inr, is_some}
+use Rattle.std.proofs.Common.{◌≡◌, ◌≢◌, ℕ, suc, Bool, true, false, cond, ◌||◌, eqb, List, [], ◌∷◌, slice_get, map, Option, Some, None, refl, sym, ◌∙◌, ap, subst, inl, inr, is_some, arith, All}
+use Rattle.std.proofs.lemmas.List.Elements.{All-head, All-tail}
 use Rattle.std.proofs.lemmas.Bool.{cases_Bool, both_ways, or_left, or_right, eqb-true, eq-eqb, ne_eqb, cond-true, cond-false, and_parts}
 use Rattle.py_data.specs.declared.stop.Side.{Side}
 use Rattle.py_data.specs.declared.stop.Conflict.{Conflict}
@@ -7,8 +8,8 @@ use Rattle.py_data.specs.Heap.{Rec, Heap, is_tracked}
 use Rattle.py_data.specs.World.{World}
 use Rattle.py_data.specs.Collection.{places}
 use Rattle.py_data.specs.Row.{Call, Reply, Row, Ret, Do, Read, Find, Edit, Make, Start, Put, Take, MidLine, SetMidLine}
-use Rattle.py_data.specs.Sense.{Run}
-use Rattle.py_data.specs.Sight.{Sight, Act, Does, mem}
+use Rattle.py_data.specs.Sense.{Run, Upto}
+use Rattle.py_data.specs.Sight.{Sight, Act, Does, mem, pure}
 use Rattle.lock_run.specs.declared.client.Outcome.{Outcome}
 use Rattle.lock_run.specs.declared.client.Outcome.TheVariants.{Waits as WaitsNow}
 use Rattle.lock_run.specs.declared.client.Life.TheVariants.{Lives}
@@ -20,13 +21,16 @@ use Rattle.stm_core.specs.declared.books.Work.{Work}
 use Rattle.stm_core.specs.declared.books.Hand.{Hand}
 use Rattle.stm_core.specs.declared.books.Hand.TheVariants.{Idle as IdleHand, Doomed as DoomedHand, Runs}
 use Rattle.stm_core.specs.declared.books.Books.{Books}
-use Rattle.stm_core.specs.CoreState.{Transaction, Segment, Doomed, Running, CoreState, loser, winner, wins, side, owned, sight_of, set_segment, with_segment, with_conflict}
+use Rattle.stm_core.specs.CoreState.{Transaction, Segment, Doomed, Running, CoreState, owned, sight_of, set_segment, with_segment, with_conflict}
+use Rattle.stm_core.specs.Conflict.{loser, winner, wins, side, IsMet, IsStanding}
 use Rattle.stm_core.specs.Good.{IsLocked}
-use Rattle.stm_core.specs.Moves.{IsStanding, Advances, IsFree, Dooms as DoomsMove, Follows}
+use Rattle.stm_core.specs.Asking.{Changes, Reaches, AsksToChange, AskedFor}
+use Rattle.stm_core.specs.Moves.{Advances, IsFree, Dooms as DoomsMove, Follows}
 use Rattle.stm_core.specs.Books.{WorkFits, is_lock, transaction, segment_of, core_of}
 use Rattle.stm_core.specs.Hold.{Hold, sight, Dooms, Beside, SegDoes}
 use Rattle.stm_core.specs.SegSense.{seg_sense}
-use Rattle.stm_core.proofs.Holding.{beside_refl, beside_then}
+use Rattle.lock_run.proofs.Following.{run_upto}
+use Rattle.stm_core.proofs.Holding.{beside_refl, beside_then, beside_weaker}
 
 -- a sight with another world
 abbrev pub at_world : {S : Type 0} → World → Sight S → Sight S
@@ -45,16 +49,26 @@ act_world w k me (Make q) d r e mortal h n = (h.0.0, ap (at_world w) h.0.1)
 act_world w k me (Start s) d r e mortal h n = ap (at_world w) h.0
 
 -- what it leaves beside
-pub call_beside : {S : Type 0} (k : ℕ) (me : Side) (c : Call S) (d : Hold S) (r : Reply c) (e : Hold S) → SegDoes k me c d r e → Beside k me d e
+pub call_beside : {S : Type 0} (k : ℕ) (me : Side) (c : Call S) (d : Hold S) (r : Reply c) (e : Hold S) → SegDoes k me c d r e → Beside k me (λ a. Changes a c) d e
 call_beside k me (Put on bytes) d r e h = absurd h
 call_beside k me (Take most) d r e h = absurd h
-call_beside k me (SetMidLine b) d r e h = subst (Beside k me d) (sym h.1) (beside_refl k me d)
-call_beside k me MidLine d r e h = subst (Beside k me d) (sym h.1) (beside_refl k me d)
+call_beside k me (SetMidLine b) d r e h = subst (Beside k me (λ a. ⊥) d) (sym h.1) (beside_refl k me d)
+call_beside k me MidLine d r e h = subst (Beside k me (λ a. ⊥) d) (sym h.1) (beside_refl k me d)
 call_beside k me (Read a) d r e h = h.1
 call_beside k me (Find a v) d r e h = h.1
 call_beside k me (Edit a x) d r e h = h.1
 call_beside k me (Make q) d r e h = h.1
 call_beside k me (Start s) d r e h = h.1
+
+-- what the next call of a row changes was asked for on the way from there
+pub asked_now : {S A : Type 0} (c : Call S) (f : Reply c → Row S A) (s : Sight S) (left : Row S A) (t : Sight S) (a : ℕ) → Upto pure (Do c f) s left t → Changes a c → AskedFor (Do c f) s left t a
+unfolding Upto
+asked_now c f s left t a on h = record { call = c; next = f; at = s; upto = inl (refl, refl); on = on; changes = h }
+
+-- and so was what was asked for after it
+pub asked_later : {S A : Type 0} (c : Call S) (f : Reply c → Row S A) (s : Sight S) (r : Reply c) (m : Sight S) (left : Row S A) (t : Sight S) (a : ℕ) → Act c s r m → AskedFor (f r) m left t a → AskedFor (Do c f) s left t a
+unfolding Upto
+asked_later c f s r m left t a act h = record { call = h.call; next = h.next; at = h.at; upto = inr (r, m, act, h.upto); on = h.on; changes = h.changes }
 
 module _ {S X : Type 0} (hold : X → Hold S) (segment : X → ℕ) (me : X → Side) (same : X → X → Type 0) (w : World) where
   -- a row that writes next isn't done
@@ -83,16 +97,26 @@ module _ {S X : Type 0} (hold : X → Hold S) (segment : X → ℕ) (me : X → 
   no_question (Make q) k r m y u e h d = cc
   no_question (Start s) k r m y u e h d = cc
 
-  -- a row that was done over the view was done over what the segment sees
+  -- a row that was done over the view was done over what the segment sees, and others were doomed for what it asked to change
   pub row_done : {A : Type 0} (k : ℕ) (s : Side) (mortal : s.solo ≡ false) (row : Row S A) (v : X) (y : A) (u : X) → segment v ≡ k → me v ≡ s → AsksToPrint row → Run (seg_sense hold segment me same) row v y u
-      → Does row (at_world w (sight k (hold v))) y (at_world w (sight k (hold u))) × Beside k s (hold v) (hold u)
-  unfolding Run
-  row_done k s mortal (Ret a) v y u ek es q d = ((d.0, ap (λ z. at_world w (sight k (hold z))) d.1), subst (λ z. Beside k s (hold v) (hold z)) (sym d.1) (beside_refl k s (hold v)))
+      → Does row (at_world w (sight k (hold v))) y (at_world w (sight k (hold u))) × Beside k s (AskedFor row (at_world w (sight k (hold v))) (Ret y) (at_world w (sight k (hold u)))) (hold v) (hold u)
+  unfolding Run Upto
+  row_done k s mortal (Ret a) v y u ek es q d = (
+    (d.0, ap (λ z. at_world w (sight k (hold z))) d.1),
+    subst (λ z. Beside k s (AskedFor (Ret a) (at_world w (sight k (hold v))) (Ret y) (at_world w (sight k (hold u)))) (hold v) (hold z)) (sym d.1) (beside_refl k s (hold v)),
+  )
   row_done k s mortal (Do c f) v y u ek es q d =
+      let sv = at_world w (sight k (hold v)) in
+      let sm = at_world w (sight k (hold d.1)) in
+      let su = at_world w (sight k (hold u)) in
       let done : SegDoes k s c (hold v) d.0 (hold d.1) = subst (λ i. SegDoes i s c (hold v) d.0 (hold d.1)) ek (subst (λ z. SegDoes (segment v) z c (hold v) d.0 (hold d.1)) es d.2.0) in
       let n : c ≡ MidLine → ⊥ = λ e. no_question c f d.0 d.1 y u e q.0 d.3 in
+      let act : Act c sv d.0 sm = act_world w k s c (hold v) d.0 (hold d.1) mortal done n in
       let rest = row_done k s mortal (f d.0) d.1 y u (d.2.1.segment_is ∙ ek) (d.2.1.me_is ∙ es) (q.1 d.0) d.3 in
-      ((d.0, at_world w (sight k (hold d.1)), act_world w k s c (hold v) d.0 (hold d.1) mortal done n, rest.0), beside_then k s (hold v) (hold d.1) (hold u) (call_beside k s c (hold v) d.0 (hold d.1) done) rest.1)
+      let on : Upto pure (Do c f) sv (Ret y) su = inr (d.0, sm, act, run_upto pure (f d.0) sm y su rest.0) in
+      let head = beside_weaker (λ a. Changes a c) (AskedFor (Do c f) sv (Ret y) su) k s (hold v) (hold d.1) (λ a h. asked_now c f sv (Ret y) su a on h) (call_beside k s c (hold v) d.0 (hold d.1) done) in
+      let tail = beside_weaker (AskedFor (f d.0) sm (Ret y) su) (AskedFor (Do c f) sv (Ret y) su) k s (hold d.1) (hold u) (λ a h. asked_later c f sv d.0 sm (Ret y) su a act h) rest.1 in
+      ((d.0, sm, act, rest.0), beside_then k s (hold v) (hold d.1) (hold u) head tail)
 
 -- ---- the transaction of the segment
 
@@ -139,20 +163,22 @@ advances {S} prog w k m m1 r1 b1 x x1 d e o lives goes does start em es im names
     record {
       sight = at_world w (sight k e);
       step = record { lives = lives; outcome = o; goes_on = goes; does = subst (λ s. Does (prog.row x.state) s (o, x1.state) (at_world w (sight k e))) start does };
-      quiet = λ h. refl;
       thread = th;
       begun = be;
       solo = refl;
       steps = sp;
-      view = λ a. ap (λ (z : Meaning). sees z k a) em ∙ ap (λ (h : Heap). over ((m1.part k).changes a) (h a)) im;
-      made = ap (λ (z : Meaning). (z.part k).made) em ∙ sym names;
-      started = es;
-      looked = λ a h. sym (ap (λ (z : Meaning). (z.part k).looked a) em) ∙ h;
-      touched = λ a h. ap (λ f. f a) own ∙ sym (ap (λ (z : Meaning). holds (z.part k) a) em) ∙ h;
-      within = λ a h. unchanged r1 m1 k a st (sym (ap (λ f. f a) own) ∙ h);
-      locked = λ a h. let l = locked_is m1.image (m1.part k) a (locks a h) in record { entry = l.entry; is = sym (ap (λ (z : Heap). z a) im) ∙ l.is; tracked = l.tracked; marked = l.marked };
-      unused = λ a h. sym (ap (λ (z : Heap). z a) im) ∙ st.unused k a (sym (ap (mem a) names) ∙ h);
-      world_is = λ h. absurd (both_ways false refl h);
+      shows = record {
+        view = λ a. ap (λ (z : Meaning). sees z k a) em ∙ ap (λ (h : Heap). over ((m1.part k).changes a) (h a)) im;
+        made = ap (λ (z : Meaning). (z.part k).made) em ∙ sym names;
+        started = es;
+        looked = λ a h. sym (ap (λ (z : Meaning). (z.part k).looked a) em) ∙ h;
+        touched = λ a h. ap (λ f. f a) own ∙ sym (ap (λ (z : Meaning). holds (z.part k) a) em) ∙ h;
+        within = λ a h. unchanged r1 m1 k a st (sym (ap (λ f. f a) own) ∙ h);
+        locked = λ a h. let l = locked_is m1.image (m1.part k) a (locks a h) in record { entry = l.entry; is = sym (ap (λ (z : Heap). z a) im) ∙ l.is; tracked = l.tracked; marked = l.marked };
+        unused = λ a h. sym (ap (λ (z : Heap). z a) im) ∙ st.unused k a (sym (ap (mem a) names) ∙ h);
+        world_is = λ h. absurd (both_ways false refl h);
+        quiet = λ h. refl;
+      };
     }
 
 -- its locks and names are no other's
@@ -196,30 +222,34 @@ set_swap {S} i j s r f n q x = at x q
       | inr y ↦ cond-false (eqb x i) s (cond (eqb x j) r (f x)) y ∙ ap (cond (eqb x j) r) (sym (cond-false (eqb x i) s (f x) y))
     ]
 
--- the conflicts by which the transaction x of segment k doomed others are moves
+-- the conflicts by which the transaction x of segment k, whose next step asked for it, doomed others are moves
 pub dooms_moves : {S : Type 0} (prog : Prog S) (most k : ℕ) (x : Transaction S) (fs : List Conflict) (c c1 : CoreState S) → Dooms k (side k x) fs c c1
+    → All (λ (f : Conflict). Reaches (prog.row x.state) (sight_of c.image c.world x) (AsksToChange f.at.0)) fs
     → Follows prog most (with_segment k (Running x) c) (map DoomsMove fs) (with_segment k (Running x) c1)
-dooms_moves prog most k x [] c c1 h = ap (with_segment k (Running x)) h
-dooms_moves {S} prog most k x (f ∷ fs) c c1 h =
+dooms_moves prog most k x [] c c1 h asked = ap (with_segment k (Running x)) h
+dooms_moves {S} prog most k x (f ∷ fs) c c1 h asked =
     let o = h.1 in
+    let q = o.meets in
     let u = h.0 in
+    let P : CoreState S → Conflict → Type 0 = λ z g. Reaches (prog.row x.state) (sight_of z.image z.world x) (AsksToChange g.at.0) in
     let here : (with_segment k (Running x) c).segments k ≡ Running x = cond-true (eqb k k) (Running x) (c.segments k) (eq-eqb k k refl) in
     let lose : loser f ≡ f.writer = cond-true (eqb f.lost 0) f.writer f.other (eq-eqb f.lost 0 o.lost) in
     let win : winner f ≡ f.other = cond-true (eqb f.lost 0) f.other f.writer (eq-eqb f.lost 0 o.lost) in
-    let at_k : f.other.segment ≡ k = ap (λ (z : Side). z.segment) o.other in
-    let stands : IsStanding (with_segment k (Running x) c) f = record {
-      x = o.writer;
+    let at_k : f.other.segment ≡ k = ap (λ (z : Side). z.segment) q.other in
+    let other : f.other ≡ side f.other.segment x = q.other ∙ ap (λ i. side i x) (sym at_k) in
+    let stands : IsStanding prog (with_segment k (Running x) c) f = record {
+      x = q.writer;
       y = x;
-      writes = cond-false (eqb f.writer.segment k) (Running x) (c.segments f.writer.segment) (ne_eqb f.writer.segment k o.differ) ∙ o.writes;
+      writes = cond-false (eqb f.writer.segment k) (Running x) (c.segments f.writer.segment) (ne_eqb f.writer.segment k q.differ) ∙ q.writes;
       reads = ap (with_segment k (Running x) c).segments at_k ∙ here;
-      writer = o.writer_is;
-      other = o.other ∙ ap (λ i. side i x) (sym at_k);
-      differ = λ e. o.differ (e ∙ at_k);
-      held = o.held;
-      seen = inr o.asks;
-      loses = ap (λ z. wins z (loser f)) win ∙ ap (λ z. wins z (loser f)) o.other ∙ ap (wins (side k x)) lose ∙ o.winning;
+      is = λ i. record { at = f.at; writer = q.writer_is i; other = other i; asks = f.asks; lost = f.lost };
+      differ = λ e. q.differ (e ∙ at_k);
+      held = q.held;
+      met = subst (IsMet prog c.image c.world x f.at.0) (sym q.asks) (All-head (P c) f fs asked);
+      lost = let l = o.lost in omega (arith, l);
+      loses = ap (λ z. wins z (loser f)) win ∙ ap (λ z. wins z (loser f)) q.other ∙ ap (wins (side k x)) lose ∙ o.winning;
     } in
     let gives : with_segment k (Running x) u ≡ with_conflict f (with_segment (loser f).segment (Doomed f) (with_segment k (Running x) c)) =
-    ap (with_segment k (Running x)) o.gives ∙ (λ i. record (with_conflict f c) { segments = set_swap k f.writer.segment (Running x) (Doomed f) c.segments (λ e. o.differ (sym e)) i })
+    ap (with_segment k (Running x)) o.gives ∙ (λ i. record (with_conflict f c) { segments = set_swap k f.writer.segment (Running x) (Doomed f) c.segments (λ e. q.differ (sym e)) i })
     ∙ ap (λ (z : Side). with_conflict f (with_segment z.segment (Doomed f) (with_segment k (Running x) c))) (sym lose) in
-    (with_segment k (Running x) u, (stands, gives), dooms_moves prog most k x fs u c1 h.2)
+    (with_segment k (Running x) u, (stands, gives), dooms_moves prog most k x fs u c1 h.2 (subst (λ z. All (P z) fs) (sym o.gives) (All-tail (P c) f fs asked)))

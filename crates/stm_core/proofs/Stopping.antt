@@ -3,6 +3,7 @@ use Rattle.std.proofs.Common.{◌≡◌, ℕ, Bool, true, false, refl, sym, ◌�
 use Rattle.std.proofs.lemmas.Bool.{both_ways, or_cases, or_left, or_right}
 use Rattle.py_data.specs.declared.stop.Side.{Side}
 use Rattle.py_data.specs.declared.stop.Stop.{Stop}
+use Rattle.py_data.specs.declared.stop.Stop.TheVariants.{OutOfMemory}
 use Rattle.py_data.specs.Heap.{Heap}
 use Rattle.py_data.specs.World.{World}
 use Rattle.py_data.specs.Collection.{places}
@@ -16,10 +17,10 @@ use Rattle.stm_core.specs.declared.books.Work.{Work}
 use Rattle.stm_core.specs.Books.{transaction, is_lock}
 use Rattle.stm_core.specs.Hold.{Hold, sight, Beside, SegDoes, SegRefuses}
 use Rattle.stm_core.specs.SegSense.{seg_sense}
-use Rattle.stm_core.specs.Asking.{AsksOnly}
+use Rattle.stm_core.specs.Asking.{Changes, AskedFor}
 use Rattle.stm_core.specs.Whole.{StopsAt}
-use Rattle.stm_core.proofs.Holding.{beside_refl, beside_then}
-use Rattle.stm_core.proofs.Stepping.{call_beside, owned_is, unchanged, locked_is}
+use Rattle.stm_core.proofs.Holding.{beside_refl, beside_then, beside_weaker}
+use Rattle.stm_core.proofs.Stepping.{call_beside, asked_now, asked_later, owned_is, unchanged, locked_is}
 
 -- a sight with another world, that was used or not
 abbrev pub at_used : {S : Type 0} → World → Bool → Sight S → Sight S
@@ -39,49 +40,59 @@ act_used w u k me (Start s) d r e mortal n h = (u, ap (at_used w u) h.0)
 
 module _ {S X : Type 0} (hold : X → Hold S) (segment : X → ℕ) (me : X → Side) (same : X → X → Type 0) (w : World) where
   -- nothing was asked for since
-  asks_none : {A : Type 0} (k : ℕ) (used : Bool) (row left : Row S A) (v u : X) → u ≡ v → Upto pure row (at_used w used (sight k (hold v))) left (at_used w used (sight k (hold v)))
-      → AsksOnly row (at_used w used (sight k (hold v))) ((hold u).meaning.part k).looked ((hold u).meaning.part k).changed
-  asks_none k used row left v u e upto = record {
-    left = left;
+  stops_none : {A : Type 0} (k : ℕ) (s : Side) (used : Bool) (row : Row S A) (v : X) (e : Stop) (u : X) → e ≡ OutOfMemory → u ≡ v → Upto pure row (at_used w used (sight k (hold v))) row (at_used w used (sight k (hold v)))
+      → StopsAt k s row (at_used w used (sight k (hold v))) e (hold v) (hold u)
+  stops_none k s used row v e u why same upto = record {
+    left = row;
     place = at_used w used (sight k (hold v));
     upto = upto;
-    looks = λ a h. inl (ap (λ z. ((hold z).meaning.part k).looked a) (sym e) ∙ h);
-    locks = λ a h. inl (or_left (mem a ((hold v).meaning.part k).changed) (mem a ((hold v).meaning.part k).made) (ap (λ z. mem a ((hold z).meaning.part k).changed) (sym e) ∙ h));
+    looks = λ a h. inl (ap (λ z. ((hold z).meaning.part k).looked a) (sym same) ∙ h);
+    locks = λ a h. inl (or_left (mem a ((hold v).meaning.part k).changed) (mem a ((hold v).meaning.part k).made) (ap (λ z. mem a ((hold z).meaning.part k).changed) (sym same) ∙ h));
+    beside = subst (λ z. Beside k s (AskedFor row (at_used w used (sight k (hold v))) row (at_used w used (sight k (hold v)))) (hold v) (hold z)) (sym same) (beside_refl k s (hold v));
+    why = inl why;
   }
+
+  -- the next call was refused
+  stops_refused : {A : Type 0} (k : ℕ) (s : Side) (used : Bool) (c : Call S) (f : Reply c → Row S A) (v : X) (e : Stop) (u : X) → SegRefuses k s c (hold v) e (hold u) → StopsAt k s (Do c f) (at_used w used (sight k (hold v))) e (hold v) (hold u)
+  unfolding Upto
+  stops_refused k s used c f v e u h =
+      let sv = at_used w used (sight k (hold v)) in
+      record {
+        left = Do c f;
+        place = sv;
+        upto = inl (refl, refl);
+        looks = h.looked;
+        locks = λ a l. elim (h.locks a l) [ inl y ↦ inl (or_left (mem a ((hold v).meaning.part k).changed) (mem a ((hold v).meaning.part k).made) y) | inr y ↦ inr y ];
+        beside = beside_weaker (λ a. Changes a c) (AskedFor (Do c f) sv (Do c f) sv) k s (hold v) (hold u) (λ a q. asked_now c f sv (Do c f) sv a (inl (refl, refl)) q) h.beside;
+        why = inr (c, f, refl, h.why);
+      }
 
   -- a row that was stopped left the rest as it was, and stopped at some place for some cause
   pub row_stopped : {A : Type 0} (k : ℕ) (s : Side) (mortal : s.solo ≡ false) (used : Bool) (row : Row S A) (v : X) (e : Stop) (u : X) → w.mid ≡ false → segment v ≡ k → me v ≡ s → Stopped (seg_sense hold segment me same) row v e u
-      → Beside k s (hold v) (hold u) × StopsAt k s row (at_used w used (sight k (hold v))) e (hold u)
+      → StopsAt k s row (at_used w used (sight k (hold v))) e (hold v) (hold u)
   unfolding Stopped Upto
-  row_stopped k s mortal used (Ret a) v e u n ek es d = (
-    subst (λ z. Beside k s (hold v) (hold z)) (sym d.1) (beside_refl k s (hold v)),
-    record { asks = asks_none k used (Ret a) (Ret a) v u d.1 (refl, refl); why = inl d.0 },
-  )
+  row_stopped k s mortal used (Ret a) v e u n ek es d = stops_none k s used (Ret a) v e u d.0 d.1 (refl, refl)
   row_stopped k s mortal used (Do c f) v e u n ek es d = elim d [
-    | inl x ↦ (subst (λ z. Beside k s (hold v) (hold z)) (sym x.1) (beside_refl k s (hold v)), record { asks = asks_none k used (Do c f) (Do c f) v u x.1 (inl (refl, refl)); why = inl x.0 })
+    | inl x ↦ stops_none k s used (Do c f) v e u x.0 x.1 (inl (refl, refl))
     | inr y ↦ elim y [
-      | inl r ↦ let h : SegRefuses k s c (hold v) e (hold u) = subst (λ i. SegRefuses i s c (hold v) e (hold u)) ek (subst (λ z. SegRefuses (segment v) z c (hold v) e (hold u)) es r.0) in (
-        h.beside,
-        record {
-          asks = record {
-            left = Do c f;
-            place = at_used w used (sight k (hold v));
-            upto = inl (refl, refl);
-            looks = h.looked;
-            locks = λ a l. elim (h.locks a l) [ inl y ↦ inl (or_left (mem a ((hold v).meaning.part k).changed) (mem a ((hold v).meaning.part k).made) y) | inr y ↦ inr y ];
-          };
-          why = inr (c, f, refl, h.why);
-        },
-      )
+      | inl r ↦ stops_refused k s used c f v e u (subst (λ i. SegRefuses i s c (hold v) e (hold u)) ek (subst (λ z. SegRefuses (segment v) z c (hold v) e (hold u)) es r.0))
       | inr z ↦ let done : SegDoes k s c (hold v) z.0 (hold z.1) = subst (λ i. SegDoes i s c (hold v) z.0 (hold z.1)) ek (subst (λ q. SegDoes (segment v) q c (hold v) z.0 (hold z.1)) es z.2.0) in
           let act = act_used w used k s c (hold v) z.0 (hold z.1) mortal n done in
-          let rest = row_stopped k s mortal act.0 (f z.0) z.1 e u n (z.2.1.segment_is ∙ ek) (z.2.1.me_is ∙ es) z.3 in (
-            beside_then k s (hold v) (hold z.1) (hold u) (call_beside k s c (hold v) z.0 (hold z.1) done) rest.0,
-            record {
-              asks = record { left = rest.1.asks.left; place = rest.1.asks.place; upto = inr (z.0, at_used w act.0 (sight k (hold z.1)), act.1, rest.1.asks.upto); looks = rest.1.asks.looks; locks = rest.1.asks.locks };
-              why = rest.1.why;
-            },
-          )
+          let sv = at_used w used (sight k (hold v)) in
+          let sm = at_used w act.0 (sight k (hold z.1)) in
+          let rest = row_stopped k s mortal act.0 (f z.0) z.1 e u n (z.2.1.segment_is ∙ ek) (z.2.1.me_is ∙ es) z.3 in
+          let on : Upto pure (Do c f) sv rest.left rest.place = inr (z.0, sm, act.1, rest.upto) in
+          record {
+            left = rest.left;
+            place = rest.place;
+            upto = on;
+            looks = rest.looks;
+            locks = rest.locks;
+            beside = beside_then k s (hold v) (hold z.1) (hold u)
+                (beside_weaker (λ a. Changes a c) (AskedFor (Do c f) sv rest.left rest.place) k s (hold v) (hold z.1) (λ a q. asked_now c f sv rest.left rest.place a on q) (call_beside k s c (hold v) z.0 (hold z.1) done))
+                (beside_weaker (AskedFor (f z.0) sm rest.left rest.place) (AskedFor (Do c f) sv rest.left rest.place) k s (hold z.1) (hold u) (λ a q. asked_later c f sv z.0 sm rest.left rest.place a act.1 q) rest.beside);
+            why = rest.why;
+          }
     ]
   ]
 

@@ -1,20 +1,24 @@
 -- The two passes of a commit are moves.
-use Rattle.std.proofs.Common.{◌≡◌, ◌≢◌, ◌≤◌, ℕ, true, false, cond, eqb, List, [], ◌∷◌, ◌++◌, Option, Some, None, refl, sym, ◌∙◌, ap, subst, inl, inr}
+use Rattle.std.proofs.Common.{◌≡◌, ◌≢◌, ◌≤◌, ℕ, true, false, cond, eqb, List, [], ◌∷◌, ◌++◌, Option, Some, None, refl, sym, ◌∙◌, ap, subst, inl, inr, arith, All}
+use Rattle.std.proofs.lemmas.List.Elements.{All-append, All-cons, All-nil}
 use Rattle.std.proofs.lemmas.Bool.{cases_Bool, both_ways, or_cases, or_right, or_left, eqb-true, eqb-false, eq-eqb, ne_eqb, cond-true, cond-false}
 use Rattle.py_data.specs.Heap.{Marks}
 use Rattle.py_data.specs.Sight.{mem}
 use Rattle.lock_run.specs.Prog.{Prog}
 use Rattle.lock_run.specs.Machine.{Machine}
-use Rattle.stm_core.specs.CoreState.{Transaction, Segment, Idle, Doomed, Running, CoreState, wins, with_segment, with_conflict}
+use Rattle.stm_core.specs.CoreState.{Transaction, Segment, Idle, Doomed, Running, CoreState, with_segment, with_conflict}
+use Rattle.stm_core.specs.Conflict.{conflict, wins, IsStanding}
 use Rattle.stm_core.specs.Good.{Good}
-use Rattle.stm_core.specs.Moves.{IsStanding, Move, Dooms, Commits, Next, Follows}
-use Rattle.stm_core.specs.Passes.{met, read_conflict, doom_met, doom_one, doom_readers, after_commit, NoneWins}
+use Rattle.stm_core.specs.Moves.{Move, Dooms, Commits, Next, Follows}
+use Rattle.stm_core.specs.Advanced.{IsOwn}
+use Rattle.stm_core.specs.Passes.{met, doom_met, doom_one, doom_readers, after_commit, NoneWins}
 use Rattle.stm_core.proofs.Kept.{set_cases, good_after}
 
 -- the dooms of the second pass
 pub record Clears {S : Type 0} (c : Prog S) (most i : ℕ) (x : Transaction S) (js : List ℕ) (k k' : CoreState S) : Type 0 where
   pub moves : List (Move S)
   pub follows : Follows c most k moves k'
+  pub own : All (IsOwn i) moves
   pub mine : k'.segments i ≡ Running x
   pub fewer : (j : ℕ) (y : Transaction S) → k'.segments j ≡ Running y → k.segments j ≡ Running y
   pub unread : (j : ℕ) (y : Transaction S) → mem j js ≡ true → j ≢ i → k'.segments j ≡ Running y → met x.changed y.looked ≡ None
@@ -46,6 +50,7 @@ clears_one : {S : Type 0} (c : Prog S) (most i : ℕ) (x : Transaction S) (j : �
 clears_one {S} c most i x j k mine wins ne Idle is = record {
   moves = [];
   follows = refl;
+  own = All-nil (IsOwn i);
   mine = mine;
   fewer = λ l y e. e;
   unread = λ l y m d e. elim (or_cases (eqb l j) false m) [
@@ -56,6 +61,7 @@ clears_one {S} c most i x j k mine wins ne Idle is = record {
 clears_one {S} c most i x j k mine wins ne (Doomed f) is = record {
   moves = [];
   follows = refl;
+  own = All-nil (IsOwn i);
   mine = mine;
   fewer = λ l y e. e;
   unread = λ l y m d e. elim (or_cases (eqb l j) false m) [
@@ -69,6 +75,7 @@ clears_one {S} c most i x j k mine wins ne (Running z) is = go (met x.changed z.
     go None e = record {
       moves = [];
       follows = refl;
+      own = All-nil (IsOwn i);
       mine = mine;
       fewer = λ l y h. h;
       unread = λ l y m d h. elim (or_cases (eqb l j) false m) [
@@ -77,12 +84,13 @@ clears_one {S} c most i x j k mine wins ne (Running z) is = go (met x.changed z.
       ];
     }
     go (Some a) e =
-        let f = read_conflict i x j z a in
+        let f = conflict i x j z a false 1 in
         let r = met_some x.changed z.looked a e in
-        let stands : IsStanding k f = record { x = x; y = z; writes = mine; reads = is; writer = refl; other = refl; differ = λ q. ne (sym q); held = r.0; seen = inl r.1; loses = wins j z a ne is e } in
+        let stands : IsStanding c k f = record { x = x; y = z; writes = mine; reads = is; is = refl; differ = λ q. ne (sym q); held = r.0; met = r.1; lost = omega arith; loses = wins j z a ne is e } in
         record {
           moves = Dooms f ∷ [];
           follows = (with_conflict f (with_segment j (Doomed f) k), (stands, refl), refl);
+          own = All-cons (IsOwn i) (Dooms f) [] tt (All-nil (IsOwn i));
           mine = cond-false (eqb i j) (Doomed f) (k.segments i) (ne_eqb i j (λ q. ne (sym q))) ∙ mine;
           fewer = λ l y h. elim (set_cases j l (Doomed f) (Running y) k.segments h) [
             | inl q ↦ let w = q.1 in absurd cc
@@ -98,12 +106,12 @@ clears_one {S} c most i x j k mine wins ne (Running z) is = go (met x.changed z.
         }
 
 pub clears : {S : Type 0} (c : Prog S) (most i : ℕ) (x : Transaction S) (js : List ℕ) (k : CoreState S) → k.segments i ≡ Running x → NoneWins i x k → Clears c most i x js k (doom_readers i x js k)
-clears c most i x [] k mine wins = record { moves = []; follows = refl; mine = mine; fewer = λ j y e. e; unread = λ j y m d e. absurd (both_ways false refl m) }
+clears c most i x [] k mine wins = record { moves = []; follows = refl; own = All-nil (IsOwn i); mine = mine; fewer = λ j y e. e; unread = λ j y m d e. absurd (both_ways false refl m) }
 clears {S} c most i x (j ∷ js) k mine wins =
     let u = cond (eqb j i) k (doom_one i x j k (k.segments j)) in
     let one : Clears c most i x (cond (eqb j i) [] (j ∷ [])) k u = elim (cases_Bool (eqb j i)) [
       | inl y ↦ subst (λ b. Clears c most i x (cond b [] (j ∷ [])) k (cond b k (doom_one i x j k (k.segments j)))) (sym y)
-          (record { moves = []; follows = refl; mine = mine; fewer = λ l z e. e; unread = λ l z m d e. absurd (both_ways false refl m) })
+          (record { moves = []; follows = refl; own = All-nil (IsOwn i); mine = mine; fewer = λ l z e. e; unread = λ l z m d e. absurd (both_ways false refl m) })
       | inr n ↦ subst (λ b. Clears c most i x (cond b [] (j ∷ [])) k (cond b k (doom_one i x j k (k.segments j)))) (sym n)
           (clears_one c most i x j k mine wins (eqb-false j i n) (k.segments j) refl)
     ] in
@@ -111,6 +119,7 @@ clears {S} c most i x (j ∷ js) k mine wins =
     record {
       moves = one.moves ++ rest.moves;
       follows = follows_append c most k u (doom_readers i x js u) one.moves rest.moves one.follows rest.follows;
+      own = All-append (IsOwn i) one.moves rest.moves one.own rest.own;
       mine = rest.mine;
       fewer = λ l y e. one.fewer l y (rest.fewer l y e);
       unread = λ l y m d e. elim (or_cases (eqb l j) (mem l js) m) [

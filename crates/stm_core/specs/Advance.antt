@@ -1,43 +1,67 @@
 -- What so many steps of a transaction are, as moves of the core. States `docs/HEAP.md`, "Events".
-use Rattle.std.specs.Prelude.{◌≡◌, ℕ, false, List, All}
+use Rattle.std.specs.Prelude.{◌≡◌, ℕ, false, List, [], ◌∷◌, ◌++◌, map, All}
 use Rattle.std.specs.List.{sum_by}
+use Rattle.py_data.specs.declared.stop.Conflict.{Conflict}
 use Rattle.py_data.specs.Heap.{Heap}
+use Rattle.py_data.specs.Row.{Row, Ret}
 use Rattle.py_data.specs.World.{World}
+use Rattle.lock_run.specs.declared.client.Outcome.{Outcome}
 use Rattle.lock_run.specs.Prog.{Prog}
 use Rattle.lock_run.specs.Machine.{Machine}
 use Rattle.seg_store.specs.Meaning.{Meaning}
 use Rattle.stm_core.specs.declared.books.Work.{Work}
 use Rattle.stm_core.specs.declared.books.Books.{Books}
 use Rattle.stm_core.specs.CoreState.{Running, CoreState, sight_of, with_segment}
-use Rattle.stm_core.specs.Asking.{AsksOnly}
+use Rattle.stm_core.specs.Asking.{Went}
+use Rattle.stm_core.specs.Conflict.{AsksFrom}
 use Rattle.stm_core.specs.Good.{Good}
 use Rattle.stm_core.specs.Moves.{Move, Dooms, Goes, Rests, Follows}
 use Rattle.stm_core.specs.Books.{transaction, core_of}
 
--- a doom of another segment, or a step of segment k, which looks at and locks only what it asks for
-abbrev pub IsAdvance : {S : Type 0} → Prog S → Heap → World → ℕ → Move S → Type 0
-IsAdvance p image w k (Dooms f) = Unit {0}
-IsAdvance p image w k (Goes i x x1) = (i ≡ k) × AsksOnly (p.row x.state) (sight_of image w x) x1.looked x1.changed
-IsAdvance p image w k (Rests i x x1) = (i ≡ k) × AsksOnly (p.row x.state) (sight_of image w x) x1.looked x1.changed
-IsAdvance p image w k _ = ⊥
+-- A step of a transaction that was tried: the conflicts by which it doomed others on its way, and then the move that it was.
+pub record Try (S : Type 0) : Type 0 where
+  pub dooms : List Conflict
+  pub move : Move S
+
+-- the moves of tries, one after another
+abbrev pub moves_of : {S : Type 0} → List (Try S) → List (Move S)
+moves_of [] = []
+moves_of (t ∷ ts) = map Dooms t.dooms ++ t.move ∷ moves_of ts
+
+-- The move is a step of segment k that was done to its end, or that waits or was taken back. It looked at, locked and doomed only
+-- what its row asked for on its way.
+abbrev pub IsStepOf : {S : Type 0} → Prog S → Heap → World → ℕ → List Conflict → Move S → Type 0
+IsStepOf {S} p image w k fs (Goes i x x1) = (i ≡ k) × (y : Outcome × S) × Went (p.row x.state) (sight_of image w x) (Ret y) x1.looked x1.changed fs
+IsStepOf {S} p image w k fs (Rests i x x1) = (i ≡ k) × (left : Row S (Outcome × S)) × Went (p.row x.state) (sight_of image w x) left x1.looked x1.changed fs
+IsStepOf p image w k fs _ = ⊥
+
+-- a try of segment k: it doomed others by its own requests alone, which it won
+pub record IsTry {S : Type 0} (p : Prog S) (image : Heap) (w : World) (k : ℕ) (t : Try S) : Type 0 where
+  pub wins : All (AsksFrom k 0) t.dooms
+  pub step : IsStepOf p image w k t.dooms t.move
 
 -- how many steps a move does
 abbrev pub steps_of : {S : Type 0} → Move S → ℕ
 steps_of (Goes i x x1) = 1
 steps_of _ = 0
 
+abbrev pub steps_tried : {S : Type 0} → Try S → ℕ
+steps_tried t = steps_of t.move
+
 -- the core with the transaction that was taken out of segment k
 abbrev pub core_with : {S : Type 0} → World → ℕ → Meaning → Books S → Work S → CoreState S
 core_with w k m b x = with_segment k (Running (transaction w (m.part k) x)) (core_of w m b)
 
--- n steps of the transaction of segment k, with dooms of others between them, lead from one state of the core to another
+-- n steps of the transaction of segment k, and tries that were taken back between them, lead from one state of the core to
+-- another
 pub record Gone {S : Type 0} (p : Prog S) (most k n : ℕ) (c c1 : CoreState S) : Type 0 where
-  pub moves : List (Move S)
-  pub follows : Follows p most c moves c1
-  pub kinds : All (IsAdvance p c.image c.world k) moves
-  pub count : sum_by steps_of moves ≡ n
+  pub tries : List (Try S)
+  pub follows : Follows p most c (moves_of tries) c1
+  pub kinds : All (IsTry p c.image c.world k) tries
+  pub count : sum_by steps_tried tries ≡ n
   pub image : c1.image ≡ c.image
   pub world : c1.world ≡ c.world
+  pub cause : c1.cause ≡ c.cause
 
 -- a good core with the transaction that was taken out of segment k, from a first state that may stand
 pub record Sane {S : Type 0} (p : Prog S) (sound : Heap → List S → Type 0) (most k : ℕ) (m : Meaning) (b : Books S) (x : Work S) : Type 0 where

@@ -1,7 +1,8 @@
 -- What a call of `advance` answers, and what it leaves. States `docs/HEAP.md`, "Advance".
-use Rattle.std.specs.Prelude.{◌≡◌, ◌≢◌, ℕ, ◌+◌, ◌<◌, ◌≤◌, false, List, ◌++◌, Result, Ok, Err, All, ◌⊎◌, Contains}
+use Rattle.std.specs.Prelude.{◌≡◌, ◌≢◌, ℕ, suc, ◌+◌, ◌<◌, ◌≤◌, false, List, ◌++◌, Result, Ok, Err, All, ◌⊎◌, Contains}
 use Rattle.py_data.specs.declared.stop.Conflict.{Conflict}
-use Rattle.py_data.specs.Sight.{opened}
+use Rattle.py_data.specs.Row.{Call}
+use Rattle.py_data.specs.Sight.{Sight}
 use Rattle.lock_run.specs.declared.client.Life.TheVariants.{Lives}
 use Rattle.lock_run.specs.Client.{Waiting}
 use Rattle.lock_run.specs.Prog.{Prog}
@@ -12,40 +13,45 @@ use Rattle.stm_core.specs.declared.answers.AdvanceError.{AdvanceError}
 use Rattle.stm_core.specs.declared.answers.AdvanceError.TheVariants.{Lost, Failed}
 use Rattle.stm_core.specs.declared.cause.Cause.{Cause}
 use Rattle.stm_core.specs.declared.cause.Cause.TheVariants.{Full, OutOfMemory}
-use Rattle.stm_core.specs.CoreState.{Transaction, Segment, Idle, Doomed, Running, CoreState, loser, side, with_segment, with_conflict}
-use Rattle.stm_core.specs.Moves.{first_cause, IsStanding, Move, Drops, Dooms, Loses, Goes, Rests, Keeps, Follows}
-use Rattle.stm_core.specs.Hold.{LosesTo}
-use Rattle.stm_core.specs.Whole.{MeetsOuter}
+use Rattle.stm_core.specs.CoreState.{IsShort, Transaction, Segment, Idle, Doomed, Running, CoreState, sight_of, with_segment, with_conflict}
+use Rattle.stm_core.specs.Asking.{Reaches, AsksOutside, AsksRoom}
+use Rattle.stm_core.specs.Conflict.{loser, IsStanding, AsksFrom}
+use Rattle.stm_core.specs.Moves.{first_cause, Move, Drops, Dooms, Loses, Goes, Rests, Keeps, Follows}
 use Rattle.stm_core.specs.Advance.{Gone}
 
 -- how many steps each answer says were done, where so many were asked for
-abbrev pub IsCount : ℕ → ℕ → Result Advance AdvanceError → Type 0
-IsCount most n (Ok (Ran i)) = (i ≡ n) × (n ≡ most)
-IsCount most n (Ok (Waits i)) = (i ≡ n) × (n < most)
-IsCount most n (Ok (Ended i)) = (i ≡ n) × (1 ≤ n) × (n ≤ most)
-IsCount most n (Ok (NeedSolo i)) = (i ≡ n) × (n < most)
-IsCount most n (Err e) = n < most
+abbrev pub CountsDone : ℕ → ℕ → Result Advance AdvanceError → Type 0
+CountsDone most n (Ok (Ran i)) = (i ≡ n) × (n ≡ most)
+CountsDone most n (Ok (Waits i)) = (i ≡ n) × (n < most)
+CountsDone most n (Ok (Ended i)) = (i ≡ n) × (1 ≤ n) × (n ≤ most)
+CountsDone most n (Ok (NeedSolo i)) = (i ≡ n) × (n < most)
+CountsDone most n (Err e) = n < most
 
--- a cause that a step can meet: the heap is full, by the store's numbers, or there was no memory
-abbrev pub IsStepCause : ℕ → ℕ → Cause → Type 0
-IsStepCause reserved limit (Full r n l) = (r ≡ reserved) × (l ≡ limit) × (l < r + n)
-IsStepCause reserved limit OutOfMemory = Unit {0}
-IsStepCause reserved limit _ = ⊥
+-- the next step of the transaction comes to a call of this kind
+abbrev pub StepReaches : {S : Type 0} → Prog S → CoreState S → Transaction S → (Call S → Sight S → Type 0) → Type 0
+StepReaches p u x kind = Reaches (p.row x.state) (sight_of u.image u.world x) kind
+
+-- A cause that the next step of the transaction can meet: it comes to a call that wants so many words, which by the store's
+-- numbers aren't there; or there was no memory.
+abbrev pub IsStepCause : {S : Type 0} → Prog S → CoreState S → Transaction S → ℕ → ℕ → Cause → Type 0
+IsStepCause p u x reserved limit (Full r n l) = StepReaches p u x (AsksRoom n) × (r ≡ reserved) × (l ≡ limit) × (l < r + n)
+IsStepCause p u x reserved limit OutOfMemory = Unit {0}
+IsStepCause p u x reserved limit _ = ⊥
 
 -- the core with a cause kept
 abbrev pub with_cause : {S : Type 0} → Cause → CoreState S → CoreState S
 with_cause e c = record c { cause = first_cause c.cause e }
 
 -- What comes after the steps, which led to u, where the transaction x runs on segment k: nothing more, since all were done, or
--- the next one waits, or the thread ended, or the next one prints or reads; or the transaction loses a conflict that stands; or
--- it is dropped, and a cause kept.
+-- the next one waits, or the thread ended, or the next one comes to a call that prints or reads; or the transaction loses a
+-- conflict that stands, since its next step asks to change the record that it names; or it is dropped, and a cause kept.
 abbrev pub Ends : {S : Type 0} → Prog S → ℕ → ℕ → ℕ → CoreState S → Transaction S → Result Advance AdvanceError → CoreState S → Type 0
 Ends p k reserved limit u x (Ok (Ran n)) c1 = (p.life x.state ≡ Lives) × (c1 ≡ u)
 Ends p k reserved limit u x (Ok (Waits n)) c1 = (p.life x.state ≡ Lives) × Waiting (p.row x.state) (overlay u.image x.changes) × (c1 ≡ u)
 Ends p k reserved limit u x (Ok (Ended n)) c1 = (p.life x.state ≢ Lives) × (c1 ≡ u)
-Ends {S} p k reserved limit u x (Ok (NeedSolo n)) c1 = (p.life x.state ≡ Lives) × MeetsOuter (p.row x.state) (opened S (overlay u.image x.changes) u.world) × (c1 ≡ u)
-Ends p k reserved limit u x (Err (Lost f)) c1 = (p.life x.state ≡ Lives) × LosesTo k (side k x) f u × (c1 ≡ with_conflict f (with_segment k Idle u))
-Ends p k reserved limit u x (Err (Failed e)) c1 = (p.life x.state ≡ Lives) × IsStepCause reserved limit e × (c1 ≡ with_cause e (with_segment k Idle u))
+Ends p k reserved limit u x (Ok (NeedSolo n)) c1 = (p.life x.state ≡ Lives) × StepReaches p u x AsksOutside × (c1 ≡ u)
+Ends p k reserved limit u x (Err (Lost f)) c1 = (p.life x.state ≡ Lives) × IsStanding p u f × AsksFrom k 1 f × (c1 ≡ with_conflict f (with_segment k Idle u))
+Ends p k reserved limit u x (Err (Failed e)) c1 = (p.life x.state ≡ Lives) × IsStepCause p u x reserved limit e × (c1 ≡ with_cause e (with_segment k Idle u))
 
 -- steps of segment k, and what came after them
 pub record StepsTaken {S : Type 0} (p : Prog S) (length k most reserved limit : ℕ) (c : CoreState S) (result : Result Advance AdvanceError) (c1 : CoreState S) : Type 0 where
@@ -55,7 +61,8 @@ pub record StepsTaken {S : Type 0} (p : Prog S) (length k most reserved limit : 
   pub gone : Gone p length k steps c before
   pub runs : before.segments k ≡ Running last
   pub mortal : last.solo ≡ false
-  pub count : IsCount most steps result
+  pub room : steps < most → IsShort length (suc last.steps)
+  pub count : CountsDone most steps result
   pub ends : Ends p k reserved limit before last result c1
 
 -- The answer, by what the segment has in hand: a doomed one is told its conflict and is idle then; where the thread of one that
@@ -91,8 +98,15 @@ pub record Led {S : Type 0} (p : Prog S) (length k : ℕ) (c c1 : CoreState S) :
 abbrev pub IsLeft : {S : Type 0} → List Conflict → Segment S → Segment S → Type 0
 IsLeft fs s s1 = (s1 ≡ s) ⊎ ((f : Conflict) × Contains fs f × (s1 ≡ Doomed f))
 
--- Only segment k went on: the committed state stays, the new conflicts are at the list's end, each of them stood in a state that
--- the call came through, and another segment has what it had, or is doomed by a new conflict.
+-- a conflict stood on the way: in a state to which such moves lead, and from which they lead on
+pub record StoodBetween {S : Type 0} (p : Prog S) (length k : ℕ) (c c1 : CoreState S) (f : Conflict) : Type 0 where
+  pub state : CoreState S
+  pub before : Led p length k c state
+  pub after : Led p length k state c1
+  pub stands : IsStanding p state f
+
+-- Only segment k went on: the committed state stays, the new conflicts are at the list's end, each of them stood on the way, and
+-- another segment has what it had, or is doomed by a new conflict.
 pub record OnlyOwn {S : Type 0} (p : Prog S) (length k : ℕ) (c c1 : CoreState S) : Type 0 where
   pub image : c1.image ≡ c.image
   pub threads : c1.threads ≡ c.threads
@@ -102,5 +116,5 @@ pub record OnlyOwn {S : Type 0} (p : Prog S) (length k : ℕ) (c c1 : CoreState 
   pub last : c1.last ≡ c.last
   pub new : List Conflict
   pub conflicts : c1.conflicts ≡ c.conflicts ++ new
-  pub stood : All (λ (f : Conflict). (u : CoreState S) × (ms : List (Move S)) × Follows p length c ms u × IsStanding u f) new
+  pub stood : All (StoodBetween p length k c c1) new
   pub others : (j : ℕ) → j ≢ k → IsLeft new (c.segments j) (c1.segments j)

@@ -38,8 +38,8 @@ IsUnready p c t = UnreadyAt p c t (slice_get c.threads t)
 -- ---- the budget
 
 -- the count of the steps of turns in 64 bits, which stays at the last number
-abbrev pub IsCount : ℕ → List Turn → Type 0
-IsCount n ts = n ≡ min (steps_done ts) (2 ^ 64 - 1)
+abbrev pub CountsSteps : ℕ → List Turn → Type 0
+CountsSteps n ts = n ≡ min (steps_done ts) (2 ^ 64 - 1)
 
 -- the history has the budget's steps, or as many transactions were begun as there are numbers
 abbrev pub IsAtBudget : {S : Type 0} → ℕ → CoreState S → Type 0

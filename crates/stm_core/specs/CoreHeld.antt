@@ -1,17 +1,19 @@
 -- What a core is to its callers: its state in each world, what stays the same, and when it is good. States `docs/HEAP.md`, "The
 -- transactional core" and "A good core".
-use Rattle.std.specs.Prelude.{◌≡◌, ℕ, List}
+use Rattle.std.specs.Prelude.{◌≡◌, ℕ, ◌+◌, ◌<◌, ◌≤◌, List, Option, Some}
 use Rattle.py_data.specs.Heap.{Heap}
 use Rattle.py_data.specs.World.{World}
 use Rattle.lock_run.specs.Prog.{Prog}
 use Rattle.seg_store.specs.Meaning.{Meaning}
 use Rattle.seg_store.specs.Store.{IsStore}
+use Rattle.stm_core.specs.declared.cause.Cause.{Cause}
+use Rattle.stm_core.specs.declared.cause.Cause.TheVariants.{Full}
 use Rattle.stm_core.specs.declared.transactions.Core.{Core}
 use Rattle.stm_core.specs.CoreState.{CoreState}
 use Rattle.stm_core.specs.Books.{core_of}
 use Rattle.stm_core.specs.Whole.{Whole}
 use Rattle.stm_core.specs.SaneCore.{SaneCore}
-use Rattle.stm_core.specs.Begun.{IsCount}
+use Rattle.stm_core.specs.Begun.{CountsSteps}
 use Rattle.stm_core.specs.Events.{Limits}
 
 -- the core's state, in this world
@@ -28,11 +30,17 @@ core_client x = x.engine.client.now
 abbrev pub core_limits : {C S I O E T : Type 0} → (S → Meaning) → Core C S I O E T → Limits
 core_limits meaning x = record { length = x.length; budget = x.budget; segments = (meaning x.engine.store).segments; words = (meaning x.engine.store).limit }
 
--- Store and books fit together, and in each world that is not in the middle of a line the core's state is good.
+-- a kept Full: by the store's numbers its need wasn't there, of which what is reserved never falls
+abbrev pub IsFullKept : ℕ → ℕ → Option Cause → Type 0
+IsFullKept reserved limit (Some (Full r n l)) = (l ≡ limit) × (r ≤ reserved) × (l < r + n)
+IsFullKept reserved limit _ = Unit {0}
+
+-- Store and books fit together, a kept Full was one, and in each world that is not in the middle of a line the core's state is good.
 pub record IsGoodCore {C S I O E T : Type 0} (prog : C → Prog T) (sound : C → Heap → List T → Type 0) (reserved : S → ℕ) (meaning : S → Meaning) (x : Core C S I O E T) : Type 0 where
   pub store : IsStore (reserved x.engine.store) (meaning x.engine.store)
   pub whole : Whole (meaning x.engine.store) x.engine.books
-  pub count : IsCount x.engine.spent x.engine.books.history.entries
+  pub count : CountsSteps x.engine.spent x.engine.books.history.entries
+  pub kept : IsFullKept (reserved x.engine.store) (meaning x.engine.store).limit x.engine.books.cause
   pub sane : SaneCore (prog x.engine.client.now) (sound x.engine.client.now) x.length (meaning x.engine.store) x.engine.books
 
 -- the job stays: the same client, limits and devices

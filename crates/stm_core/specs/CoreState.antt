@@ -1,7 +1,6 @@
 -- The state of the transactional core: the committed state, the history, the conflicts, and what each segment has in hand.
 -- States `docs/HEAP.md`, "The transactional core".
-use Rattle.std.specs.Prelude.{ℕ, Bool, false, cond, not, ◌||◌, ◌&&◌, eqb, ltb, List, [], ◌∷◌, ◌++◌, Option, None, slice_set}
-use Rattle.py_data.specs.declared.stop.Side.{Side}
+use Rattle.std.specs.Prelude.{ℕ, ◌≤◌, Bool, false, cond, ◌||◌, eqb, List, [], ◌∷◌, ◌++◌, Option, None, slice_set}
 use Rattle.py_data.specs.declared.stop.Conflict.{Conflict}
 use Rattle.py_data.specs.declared.value.Addr.{Addr}
 use Rattle.py_data.specs.Heap.{Heap, Marks}
@@ -49,21 +48,11 @@ pub record CoreState (S : Type 0) : Type 0 where
 abbrev pub committed : {S : Type 0} → CoreState S → Machine S
 committed k = record { heap = k.image; threads = k.threads; world = k.world }
 
--- ---- conflicts
+-- ---- the bound on a turn
 
-abbrev pub loser : Conflict → Side
-loser f = cond (eqb f.lost 0) f.writer f.other
-
-abbrev pub winner : Conflict → Side
-winner f = cond (eqb f.lost 0) f.other f.writer
-
--- the solo one wins, and otherwise the one that began earlier
-abbrev pub wins : Side → Side → Bool
-wins x y = x.solo || (not y.solo && ltb x.begun y.begun)
-
--- a transaction as a side of a conflict
-abbrev pub side : {S : Type 0} → ℕ → Transaction S → Side
-side i x = record { segment = i; thread = x.thread; begun = x.begun; solo = x.solo }
+-- so many steps are few enough for a turn, and for a transaction so far, where it may have this number
+abbrev pub IsShort : ℕ → ℕ → Type 0
+IsShort most steps = steps ≤ most
 
 -- ---- what a transaction sees
 

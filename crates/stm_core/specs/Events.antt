@@ -68,7 +68,7 @@ may_make l c (event.Commit k) = nat_lt k l.segments && is_busy (slot_of (c.segme
 abbrev pub Made : {S : Type 0} → Prog S → Limits → Event → Reply → CoreState S → CoreState S → Type 0
 Made p l (event.Begin k t) r c c1 = (result : Result (Unit {0}) BeginError) × (r ≡ begin_reply result) × Begun p k t l.budget result c c1
 Made p l (event.Advance k m) r c c1 = (result : Result Advance AdvanceError) × (reserved : ℕ) × (r ≡ advance_reply result) × Advanced p l.length k m reserved l.words c result c1
-Made p l (event.Commit k) r c c1 = (result : Result Commit Conflict) × (r ≡ commit_reply result) × Committed k l.segments result c c1
+Made p l (event.Commit k) r c c1 = (result : Result Commit Conflict) × (r ≡ commit_reply result) × Committed p k l.segments result c c1
 
 -- it is made where its condition holds, and skipped otherwise
 abbrev pub MadeIf : {S : Type 0} → Prog S → Limits → Event → Bool → Reply → CoreState S → CoreState S → Type 0

@@ -10,7 +10,8 @@ use Rattle.lock_run.specs.declared.turn.Turn.{Turn}
 use Rattle.lock_run.specs.Prog.{Prog}
 use Rattle.lock_run.specs.Machine.{Machine, Steps, Runs}
 use Rattle.seg_store.specs.Meaning.{over}
-use Rattle.stm_core.specs.CoreState.{Transaction, Doomed, Running, CoreState, committed, loser, winner, wins, owned}
+use Rattle.stm_core.specs.CoreState.{IsShort, Transaction, Doomed, Running, CoreState, committed, owned}
+use Rattle.stm_core.specs.Conflict.{loser, IsConflict}
 
 -- a lock: on a tracked record of the image, which counts as looked at
 pub record IsLocked (image : Heap) (looked : Marks) (a : ℕ) : Type 0 where
@@ -19,14 +20,10 @@ pub record IsLocked (image : Heap) (looked : Marks) (a : ℕ) : Type 0 where
   pub tracked : is_tracked entry.kind ≡ true
   pub marked : looked a ≡ true
 
--- A transaction stands: the one-lock machine, from the committed state, can do its steps with its names. They give exactly
--- its state, the image with its changes laid over it and its started threads; what they looked at and changed is in its sets.
-pub record Stands {S : Type 0} (p : Prog S) (image : Heap) (threads : List S) (world : World) (x : Transaction S) : Type 0 where
-  pub before : S
-  pub sight : Sight S
-  pub is : slice_get threads x.thread ≡ Some before
-  pub lives : p.life before ≡ Lives
-  pub steps : Steps p x.steps before (opened S image world) x.state sight
+-- A sight shows what a transaction has: the image with its changes laid over it, its names and its started threads. What was looked
+-- at and changed is in its sets, and it changed only what it holds. Its locks are locks, and its names are free in the image. Where
+-- it is solo its world is the sight's, and otherwise the world wasn't used.
+pub record Shows {S : Type 0} (image : Heap) (x : Transaction S) (sight : Sight S) : Type 0 where
   pub view : (a : ℕ) → sight.heap a ≡ over (x.changes a) (image a)
   pub made : sight.made ≡ places x.made
   pub started : sight.started ≡ x.started
@@ -38,6 +35,15 @@ pub record Stands {S : Type 0} (p : Prog S) (image : Heap) (threads : List S) (w
   pub world_is : x.solo ≡ true → sight.world ≡ x.world
   pub quiet : x.solo ≡ false → sight.used ≡ false
 
+-- A transaction stands: the one-lock machine, from the committed state, can do its steps, and they leave what it has.
+pub record Stands {S : Type 0} (p : Prog S) (image : Heap) (threads : List S) (world : World) (x : Transaction S) : Type 0 where
+  pub before : S
+  pub sight : Sight S
+  pub is : slice_get threads x.thread ≡ Some before
+  pub lives : p.life before ≡ Lives
+  pub steps : Steps p x.steps before (opened S image world) x.state sight
+  pub shows : Shows image x sight
+
 -- two transactions that run at once share no thread, no number, no name and no lock, and one of them at most is solo
 pub record Apart {S : Type 0} (x y : Transaction S) : Type 0 where
   pub threads : x.thread ≢ y.thread
@@ -45,17 +51,6 @@ pub record Apart {S : Type 0} (x y : Transaction S) : Type 0 where
   pub made : (a : ℕ) → mem a (places x.made) ≡ true → mem a (places y.made) ≡ false
   pub changed : (a : ℕ) → mem a x.changed ≡ true → mem a y.changed ≡ false
   pub solo : x.solo ≡ true → y.solo ≡ false
-
--- a conflict of the list: over a tracked record of the image, between two segments, and the loser is the side that doesn't win
-pub record IsConflict (image : Heap) (begun : ℕ) (f : Conflict) : Type 0 where
-  pub entry : Rec
-  pub is : image f.at.0 ≡ Some entry
-  pub tracked : is_tracked entry.kind ≡ true
-  pub segments : f.writer.segment ≢ f.other.segment
-  pub numbers : f.writer.begun ≢ f.other.begun
-  pub loses : wins (winner f) (loser f) ≡ true
-  pub mortal : (loser f).solo ≡ false
-  pub below : (loser f).begun < begun
 
 -- where a cause is kept, a thread lives that no segment runs
 pub record Unfinished {S : Type 0} (p : Prog S) (k : CoreState S) : Type 0 where
@@ -66,15 +61,15 @@ pub record Unfinished {S : Type 0} (p : Prog S) (k : CoreState S) : Type 0 where
   pub rests : (i : ℕ) (x : Transaction S) → k.segments i ≡ Running x → x.thread ≢ thread
 
 -- A core is good, from the machine's state `start` on: its history is a run that gives the committed state, each transaction
--- that runs stands and is apart from the others, and each conflict was one.
+-- that runs stands and is apart from the others, each conflict was one, and a doomed segment lost the one that it holds.
 pub record Good {S : Type 0} (p : Prog S) (start : Machine S) (most : ℕ) (k : CoreState S) : Type 0 where
   pub run : Runs p start k.history (committed k)
-  pub short : All (λ (t : Turn). t.steps ≤ most) k.history
+  pub short : All (λ (t : Turn). IsShort most t.steps) k.history
   pub stands : (i : ℕ) (x : Transaction S) → k.segments i ≡ Running x → Stands p k.image k.threads k.world x
-  pub at_most : (i : ℕ) (x : Transaction S) → k.segments i ≡ Running x → (x.steps ≤ most) × (x.begun < k.begun)
+  pub at_most : (i : ℕ) (x : Transaction S) → k.segments i ≡ Running x → IsShort most x.steps × (x.begun < k.begun)
   pub apart : (i j : ℕ) (x y : Transaction S) → i ≢ j → k.segments i ≡ Running x → k.segments j ≡ Running y → Apart x y
   pub conflicts : All (IsConflict k.image k.begun) k.conflicts
   pub lost : (i : ℕ) (x : Transaction S) → k.segments i ≡ Running x → All (λ (f : Conflict). (loser f).begun ≢ x.begun) k.conflicts
   pub differ : AllPairs (λ (f g : Conflict). (loser f).begun ≢ (loser g).begun) k.conflicts
-  pub doomed : (i : ℕ) (f : Conflict) → k.segments i ≡ Doomed f → Contains k.conflicts f
+  pub doomed : (i : ℕ) (f : Conflict) → k.segments i ≡ Doomed f → Contains k.conflicts f × ((loser f).segment ≡ i)
   pub caused : k.cause ≢ None → Unfinished p k

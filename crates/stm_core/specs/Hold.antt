@@ -1,12 +1,12 @@
 -- What a segment's view holds, as values, and what each of its calls does. States `docs/HEAP.md`, "The view of a segment".
-use Rattle.std.specs.Prelude.{◌≡◌, ◌≢◌, ℕ, ◌+◌, ◌<◌, ◌≤◌, ◌⊎◌, Bool, true, false, cond, not, ◌||◌, List, [], ◌∷◌, Option, Some, None, length, take}
+use Rattle.std.specs.Prelude.{◌≡◌, ◌≢◌, ℕ, ◌+◌, ◌<◌, ◌≤◌, ◌⊎◌, Bool, true, false, cond, not, ◌||◌, List, [], ◌∷◌, Option, Some, None, length, take, All}
 use Rattle.py_data.specs.declared.stop.Side.{Side}
 use Rattle.py_data.specs.declared.stop.Conflict.{Conflict}
 use Rattle.py_data.specs.declared.stop.Stop.{Stop}
 use Rattle.py_data.specs.declared.stop.Stop.TheVariants.{Lost, NeedSolo, Full, OutOfMemory}
 use Rattle.py_data.specs.Heap.{Rec, Heap, is_tracked}
 use Rattle.py_data.specs.World.{World}
-use Rattle.py_data.specs.Sense.{touches, WantsRoom}
+use Rattle.py_data.specs.Sense.{touches}
 use Rattle.py_data.specs.Row.{Call, Reply, Read, Find, Edit, Make, Start, Put, Take, MidLine, SetMidLine}
 use Rattle.py_data.specs.Sight.{Sight, Act, mem, with_mark}
 use Rattle.seg_store.specs.declared.store.StoreFault.{StoreFault}
@@ -15,7 +15,9 @@ use Rattle.seg_store.specs.Meaning.{Meaning, sees, saw, holds}
 use Rattle.seg_store.specs.Calls.{after_open, after_undo, after_mark}
 use Rattle.stm_core.specs.declared.books.Progress.{Progress}
 use Rattle.stm_core.specs.declared.books.Books.{Books}
-use Rattle.stm_core.specs.CoreState.{Transaction, Doomed, Running, CoreState, side, wins, with_segment, with_conflict}
+use Rattle.stm_core.specs.Asking.{Changes, IsOuter, CallWants}
+use Rattle.stm_core.specs.CoreState.{Transaction, Doomed, Running, CoreState, with_segment, with_conflict}
+use Rattle.stm_core.specs.Conflict.{side, wins}
 use Rattle.stm_core.specs.Books.{core_of}
 
 -- the store, the books and the progress of the segment's transaction, and the Stop since its open step began
@@ -44,8 +46,9 @@ sight k d = record {
 
 -- ---- what a call may do to other segments
 
--- the side `me` meets the writer of a record that it asks to change, and wins: the writer's segment is doomed
-pub record DoomsOne {S : Type 0} (k : ℕ) (me : Side) (f : Conflict) (c c1 : CoreState S) : Type 0 where
+-- The conflict of the side `me` of segment k, whose transaction is out of its hand and asks to change the record, with the
+-- transaction of another segment that has locked it.
+pub record MeetsLock {S : Type 0} (k : ℕ) (me : Side) (f : Conflict) (c : CoreState S) : Type 0 where
   pub writer : Transaction S
   pub writes : c.segments f.writer.segment ≡ Running writer
   pub writer_is : f.writer ≡ side f.writer.segment writer
@@ -53,6 +56,10 @@ pub record DoomsOne {S : Type 0} (k : ℕ) (me : Side) (f : Conflict) (c c1 : Co
   pub differ : f.writer.segment ≢ k
   pub held : mem f.at.0 writer.changed ≡ true
   pub asks : f.asks ≡ true
+
+-- it wins: the writer's segment is doomed
+pub record DoomsOne {S : Type 0} (k : ℕ) (me : Side) (f : Conflict) (c c1 : CoreState S) : Type 0 where
+  pub meets : MeetsLock k me f c
   pub lost : f.lost ≡ 0
   pub winning : wins me f.writer ≡ true
   pub gives : c1 ≡ with_conflict f (with_segment f.writer.segment (Doomed f) c)
@@ -66,8 +73,9 @@ Dooms {S} k me (f ∷ fs) c c1 = (u : CoreState S) × DoomsOne k me f c u × Doo
 abbrev pub KeepsFront : {X : Type 0} → ℕ → List X → ℕ → List X → Type 0
 KeepsFront n xs n1 ys = n ≤ length xs → (n1 ≤ length ys) × (take n1 ys ≡ take n xs)
 
--- what a call of segment k, which acts for the side `me`, leaves beside its own sight: other segments are only doomed
-pub record Beside {S : Type 0} (k : ℕ) (me : Side) (d e : Hold S) : Type 0 where
+-- What calls of segment k, which acts for the side `me`, leave beside its own sight: other segments are only doomed, each for
+-- a record that the calls ask to change.
+pub record Beside {S : Type 0} (k : ℕ) (me : Side) (asks : ℕ → Type 0) (d e : Hold S) : Type 0 where
   pub saw : saw e.meaning k ≡ saw d.meaning k
   pub image : e.meaning.image ≡ d.meaning.image
   pub segments : e.meaning.segments ≡ d.meaning.segments
@@ -75,6 +83,7 @@ pub record Beside {S : Type 0} (k : ℕ) (me : Side) (d e : Hold S) : Type 0 whe
   pub reserved : d.reserved ≤ e.reserved
   pub dooms : List Conflict
   pub others : (w : World) → Dooms k me dooms (core_of w d.meaning d.books) (core_of w e.meaning e.books)
+  pub asked : All (λ (f : Conflict). asks f.at.0) dooms
   pub kept_names : e.progress.kept_names ≡ d.progress.kept_names
   pub kept_started : e.progress.kept_started ≡ d.progress.kept_started
   pub names : KeepsFront d.progress.kept_names d.progress.names e.progress.kept_names e.progress.names
@@ -86,7 +95,7 @@ pub record Beside {S : Type 0} (k : ℕ) (me : Side) (d e : Hold S) : Type 0 whe
 -- ---- calls that are done
 
 abbrev pub Inside : {S : Type 0} → ℕ → Side → (c : Call S) → Hold S → Reply c → Hold S → Type 0
-Inside k me c d r e = Act c (sight k d) r (sight k e) × Beside k me d e × (e.stopped ≡ None)
+Inside k me c d r e = Act c (sight k d) r (sight k e) × Beside k me (λ a. Changes a c) d e × (e.stopped ≡ None)
 
 -- A transaction writes nothing and takes no input, and asks for the flag in vain; only a solo one may set it, and none is yet.
 abbrev pub SegDoes : {S : Type 0} → ℕ → Side → (c : Call S) → Hold S → Reply c → Hold S → Type 0
@@ -102,17 +111,6 @@ SegDoes k me (Start s) d r e = Inside k me (Start s) d r e
 
 -- ---- calls that are refused
 
--- a call that prints or reads
-abbrev pub IsOuter : {S : Type 0} → Call S → Type 0
-IsOuter (Put on bytes) = Unit {0}
-IsOuter (Take most) = Unit {0}
-IsOuter _ = ⊥
-
--- a call that changes a record
-abbrev pub IsChange : {S : Type 0} → Call S → Type 0
-IsChange (Edit a x) = Unit {0}
-IsChange _ = ⊥
-
 -- a call that takes memory
 abbrev pub IsHeld : {S : Type 0} → Call S → Type 0
 IsHeld (Put on bytes) = ⊥
@@ -121,33 +119,28 @@ IsHeld MidLine = ⊥
 IsHeld (SetMidLine b) = ⊥
 IsHeld _ = Unit {0}
 
--- the side `me` asks to change a record that another segment has changed, and doesn't win
+-- it doesn't win
 pub record LosesTo {S : Type 0} (k : ℕ) (me : Side) (f : Conflict) (c : CoreState S) : Type 0 where
-  pub writer : Transaction S
-  pub writes : c.segments f.writer.segment ≡ Running writer
-  pub writer_is : f.writer ≡ side f.writer.segment writer
-  pub other : f.other ≡ me
-  pub differ : f.writer.segment ≢ k
-  pub held : mem f.at.0 writer.changed ≡ true
-  pub asks : f.asks ≡ true
+  pub meets : MeetsLock k me f c
   pub lost : f.lost ≡ 1
   pub loses : wins me f.writer ≡ false
 
 -- why each Stop comes, where the call was asked for over the heap h
 abbrev pub SegWhy : {S : Type 0} → ℕ → Side → Stop → Call S → Heap → Hold S → Type 0
-SegWhy k me (Lost f) c h e = IsChange c × (touches c ≡ Some f.at.0) × ((w : World) → LosesTo k me f (core_of w e.meaning e.books))
+SegWhy k me (Lost f) c h e = Changes f.at.0 c × ((w : World) → LosesTo k me f (core_of w e.meaning e.books))
 SegWhy k me NeedSolo c h e = IsOuter c
-SegWhy k me (Full r n l) c h e = WantsRoom c h × (r ≡ e.reserved) × (l ≡ e.meaning.limit) × (l < r + n)
+SegWhy k me (Full r n l) c h e = CallWants c h n × (r ≡ e.reserved) × (l ≡ e.meaning.limit) × (l < r + n)
 SegWhy k me OutOfMemory c h e = IsHeld c
 SegWhy k me _ c h e = ⊥
 
--- a call that was refused: at most one record more was looked at or locked, the one that the call asks for
+-- A call that was refused: at most one record more was looked at, the one that the call asks for, and at most one more locked,
+-- the one that it changes.
 pub record SegRefuses {S : Type 0} (k : ℕ) (me : Side) (c : Call S) (d : Hold S) (s : Stop) (e : Hold S) : Type 0 where
   pub stopped : e.stopped ≡ Some s
-  pub beside : Beside k me d e
+  pub beside : Beside k me (λ a. Changes a c) d e
   pub why : SegWhy k me s c (sees d.meaning k) e
   pub looked : (a : ℕ) → (e.meaning.part k).looked a ≡ true → ((d.meaning.part k).looked a ≡ true) ⊎ (touches c ≡ Some a)
-  pub locks : (a : ℕ) → mem a (e.meaning.part k).changed ≡ true → (mem a (d.meaning.part k).changed ≡ true) ⊎ (touches c ≡ Some a)
+  pub locks : (a : ℕ) → mem a (e.meaning.part k).changed ≡ true → (mem a (d.meaning.part k).changed ≡ true) ⊎ Changes a c
 
 -- ---- how a step is opened and taken back
 
@@ -194,7 +187,7 @@ pub record Holds {S : Type 0} (k : ℕ) (me : Side) (a : ℕ) (d e : Hold S) : T
   pub made : (e.meaning.part k).made ≡ (d.meaning.part k).made
   pub progress : e.progress ≡ d.progress
   pub stopped : e.stopped ≡ d.stopped
-  pub beside : Beside k me d e
+  pub beside : Beside k me (λ b. b ≡ a) d e
   pub locks : (b : ℕ) → mem b (e.meaning.part k).changed ≡ true → (mem b (d.meaning.part k).changed ≡ true) ⊎ (b ≡ a)
 
 -- why the record a can't be held
@@ -206,12 +199,12 @@ FailWhy k me a _ e = ⊥
 -- the record a can't be held: at most that record more was looked at or locked
 pub record Fails {S : Type 0} (k : ℕ) (me : Side) (a : ℕ) (d : Hold S) (s : Stop) (e : Hold S) : Type 0 where
   pub stopped : e.stopped ≡ Some s
-  pub beside : Beside k me d e
+  pub beside : Beside k me (λ b. b ≡ a) d e
   pub why : FailWhy k me a s e
   pub looked : (b : ℕ) → (e.meaning.part k).looked b ≡ true → ((d.meaning.part k).looked b ≡ true) ⊎ (b ≡ a)
   pub locks : (b : ℕ) → mem b (e.meaning.part k).changed ≡ true → (mem b (d.meaning.part k).changed ≡ true) ⊎ (b ≡ a)
 
--- why a store refuses a call that may want words
-abbrev pub FaultWhy : Type 0 → ℕ → ℕ → StoreFault → Type 0
+-- why a store refuses a call that may want so many words
+abbrev pub FaultWhy : (ℕ → Type 0) → ℕ → ℕ → StoreFault → Type 0
 FaultWhy grows reserved limit NoMemoryLeft = Unit {0}
-FaultWhy grows reserved limit (FullStore r n l) = grows × (r ≡ reserved) × (l ≡ limit) × (l < r + n)
+FaultWhy grows reserved limit (FullStore r n l) = grows n × (r ≡ reserved) × (l ≡ limit) × (l < r + n)

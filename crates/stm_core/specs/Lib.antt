@@ -1,4 +1,6 @@
 pub mod CoreState
+pub mod Asking
+pub mod Conflict
 pub mod Good
 pub mod Moves
 pub mod Passes
@@ -6,7 +8,6 @@ pub mod Books
 pub mod Hold
 pub mod SegSense
 pub mod SegLaws
-pub mod Asking
 pub mod Whole
 pub mod Advance
 pub mod Pauses
@@ -18,6 +19,8 @@ pub mod Standing
 pub mod Pausing
 pub mod Advanced
 pub mod Events
+pub mod EventLaw
 pub mod CoreHeld
 pub mod Finishing
 pub mod ScriptCore
+pub mod Worked

@@ -1,8 +1,8 @@
 -- A commit in its two passes: who has looked at what it changes, and whom it dooms. States `docs/HEAP.md`, "Commit".
 use Rattle.std.specs.Prelude.{◌≡◌, ◌≢◌, ℕ, true, false, cond, eqb, List, [], ◌∷◌, Option, Some, None}
-use Rattle.py_data.specs.declared.stop.Conflict.{Conflict}
 use Rattle.py_data.specs.Heap.{Marks}
-use Rattle.stm_core.specs.CoreState.{Transaction, Segment, Idle, Doomed, Running, CoreState, side, wins, with_segment, with_conflict}
+use Rattle.stm_core.specs.CoreState.{Transaction, Segment, Idle, Doomed, Running, CoreState, with_segment, with_conflict}
+use Rattle.stm_core.specs.Conflict.{side, conflict, wins}
 use Rattle.stm_core.specs.Moves.{published}
 
 -- the first of these records that was looked at
@@ -10,13 +10,10 @@ abbrev pub met : List ℕ → Marks → Option ℕ
 met [] m = None
 met (a ∷ rest) m = cond (m a) (Some a) (met rest m)
 
--- the writer x on segment i meets the reader y on segment j, which loses
-abbrev pub read_conflict : {S : Type 0} → ℕ → Transaction S → ℕ → Transaction S → ℕ → Conflict
-read_conflict i x j y a = record { at = record { 0 = a }; writer = side i x; other = side j y; asks = false; lost = 1 }
-
+-- the reader y on segment j loses to the writer x on segment i, over the first record that it has looked at
 abbrev pub doom_met : {S : Type 0} → ℕ → Transaction S → ℕ → Transaction S → CoreState S → Option ℕ → CoreState S
 doom_met i x j y k None = k
-doom_met i x j y k (Some a) = with_conflict (read_conflict i x j y a) (with_segment j (Doomed (read_conflict i x j y a)) k)
+doom_met i x j y k (Some a) = with_conflict (conflict i x j y a false 1) (with_segment j (Doomed (conflict i x j y a false 1)) k)
 
 abbrev pub doom_one : {S : Type 0} → ℕ → Transaction S → ℕ → CoreState S → Segment S → CoreState S
 doom_one i x j k Idle = k

@@ -7,7 +7,7 @@ use Rattle.seg_store.specs.Meaning.{Meaning}
 use Rattle.stm_core.specs.declared.books.Work.{Work}
 use Rattle.stm_core.specs.declared.books.Hand.{Hand}
 use Rattle.stm_core.specs.declared.books.Hand.TheVariants.{Runs}
-use Rattle.stm_core.specs.CoreState.{wins}
+use Rattle.stm_core.specs.Conflict.{wins}
 use Rattle.stm_core.specs.Books.{runs_at}
 use Rattle.stm_core.specs.Passes.{met}
 

@@ -1,5 +1,5 @@
 -- A segment's view keeps the laws of views: the proofs that `impl View for SegView` cites. States `docs/HEAP.md`, "Views".
-use Rattle.std.specs.Prelude.{◌≡◌, ◌⊎◌, ℕ, true, false, eqb, ◌&&◌, Some, None}
+use Rattle.std.specs.Prelude.{◌≡◌, ◌⊎◌, ℕ, true, false, eqb, ◌&&◌, Option, Some, None}
 use Rattle.std.proofs.Common.{ap, refl, ◌∙◌, sym, subst, inl, inr, IsSome}
 use Rattle.std.proofs.lemmas.Bool.{or_left, and_from, eq-eqb, cond-true}
 use Rattle.py_data.specs.declared.stop.Side.{Side}
@@ -7,11 +7,12 @@ use Rattle.py_data.specs.declared.stop.Stop.{Stop}
 use Rattle.py_data.specs.declared.stop.Stop.TheVariants.{Lost, NeedSolo, Full, OutOfMemory}
 use Rattle.py_data.specs.declared.stop.Out.TheVariants.{Output, ErrorOutput}
 use Rattle.py_data.specs.declared.change.Change.{Change}
-use Rattle.py_data.specs.Changes.{after}
+use Rattle.py_data.specs.Changes.{after, Outgrows}
+use Rattle.seg_store.specs.Extents.{Wants}
 use Rattle.py_data.specs.Heap.{Rec, Heap, is_tracked, put_at}
 use Rattle.py_data.specs.Shape.{find}
 use Rattle.py_data.specs.Row.{Call, Read, Find, Edit, Make, Start, Put, Take, MidLine, SetMidLine, Reply}
-use Rattle.py_data.specs.Sense.{Lawful, IsBracket, Effect, Edits, can_refuse, touches, WantsRoom, IfFull}
+use Rattle.py_data.specs.Sense.{Lawful, IsBracket, Effect, Edits, can_refuse, touches, WantsRoom, IfFull, IfThere}
 use Rattle.py_data.specs.Sight.{Sight, Edited, looked_at}
 use Rattle.py_data.proofs.Steps.{at-is}
 use Rattle.py_data.proofs.Grow.{act_grows, grows_refl, with_rec_here}
@@ -91,6 +92,11 @@ live k me c d r e h = elim (inside k me c d r e h) [ inl i ↦ i.2 | inr q ↦ q
 kept_base : {T : Type 0} (k : ℕ) (me : Side) (c : Call T) (d : Hold T) (r : Reply c) (e : Hold T) → SegDoes k me c d r e → saw e.meaning k ≡ saw d.meaning k
 kept_base k me c d r e h = elim (inside k me c d r e h) [ inl i ↦ i.1.saw | inr q ↦ ap (λ z. saw z.meaning k) q.0 ]
 
+-- a record that wants words for a change has no room for it
+outgrown : (c : Change) (o : Option Rec) (n : ℕ) → IfThere false o (λ r. Outgrows c r × Wants (Some r) (after c r) n) → IfThere false o (Outgrows c)
+outgrown c None n w = w
+outgrown c (Some r) n w = w.0
+
 -- each Stop is one that such a call can meet, and one of those that a segment's view gives
 cause : {T : Type 0} (k : ℕ) (me : Side) (s : Stop) (c : Call T) (h : Heap) (e : Hold T) → SegWhy k me s c h e → (can_refuse c s ≡ true) × (seg_stops s ≡ true) × IfFull s (WantsRoom c h)
 cause k me (Lost f) (Edit a x) h e w = (refl, refl, tt)
@@ -99,8 +105,8 @@ cause k me NeedSolo (Put Output b) h e w = (refl, refl, tt)
 cause k me NeedSolo (Put ErrorOutput b) h e w = (refl, refl, tt)
 cause k me NeedSolo (Take most) h e w = (refl, refl, tt)
 cause k me NeedSolo _ h e w = absurd w
-cause k me (Full r n l) (Edit a x) h e w = (refl, refl, w.0)
-cause k me (Full r n l) (Make q) h e w = (refl, refl, w.0)
+cause k me (Full r n l) (Edit a x) h e w = (refl, refl, outgrown x (h a) n w.0)
+cause k me (Full r n l) (Make q) h e w = (refl, refl, tt)
 cause k me (Full r n l) _ h e w = absurd w.0
 cause k me OutOfMemory (Put on b) h e w = absurd w
 cause k me OutOfMemory (Take most) h e w = absurd w

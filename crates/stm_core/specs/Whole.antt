@@ -7,12 +7,12 @@ use Rattle.py_data.specs.declared.stop.Conflict.{Conflict}
 use Rattle.py_data.specs.declared.stop.Stop.{Stop}
 use Rattle.py_data.specs.declared.stop.Stop.TheVariants.{Lost, NeedSolo, Full, OutOfMemory}
 use Rattle.py_data.specs.World.{World}
-use Rattle.py_data.specs.Row.{Call, Reply, Row, Do}
+use Rattle.py_data.specs.Row.{Call, Reply, Row, Ret, Do}
 use Rattle.py_data.specs.Sense.{Upto}
 use Rattle.py_data.specs.Sight.{Sight, mem, pure}
 use Rattle.lock_run.specs.declared.client.Outcome.{Outcome}
 use Rattle.lock_run.specs.declared.client.Outcome.TheVariants.{Waits as WaitsNow}
-use Rattle.lock_run.specs.Client.{Waiting}
+use Rattle.lock_run.specs.Client.{Waiting, LifeAfter}
 use Rattle.lock_run.specs.Prog.{Prog}
 use Rattle.seg_store.specs.Meaning.{Meaning, sees, holds}
 use Rattle.stm_core.specs.declared.books.Work.{Work}
@@ -21,8 +21,8 @@ use Rattle.stm_core.specs.declared.books.Books.{Books}
 use Rattle.stm_core.specs.CoreState.{CoreState, sight_of}
 use Rattle.stm_core.specs.Moves.{Advances, Stays}
 use Rattle.stm_core.specs.Books.{WorkFits, runs_at, one_running, one_started, is_lock, transaction, core_of}
-use Rattle.stm_core.specs.Asking.{AsksOnly}
-use Rattle.stm_core.specs.Hold.{Dooms, SegWhy, LosesTo, IsOuter, Hold}
+use Rattle.stm_core.specs.Asking.{Reaches, AsksToChange, AsksOutside, AsksRoom, AskedFor, LooksNext, ChangesNext, Went}
+use Rattle.stm_core.specs.Hold.{Dooms, SegWhy, LosesTo, Beside, Hold}
 
 -- all transactions are in their hands
 pub record Whole {S : Type 0} (m : Meaning) (b : Books S) : Type 0 where
@@ -51,43 +51,39 @@ pub record StepDone {S : Type 0} (p : Prog S) (w : World) (k : ℕ) (me : Side) 
   pub others : Dooms k me dooms (core_of w m b) (core_of w m1 b1)
   pub goes : o ≢ WaitsNow → Advances p m.image w (transaction w (m.part k) x) (transaction w (m1.part k) (stepped x1))
   pub waits : o ≡ WaitsNow → Stays m.image (transaction w (m.part k) x) (transaction w (m1.part k) x1)
+  pub life : LifeAfter o (p.life x1.state)
   pub waiting : o ≡ WaitsNow → Waiting (p.row x.state) (sees m k)
-  pub asks : AsksOnly (p.row x.state) (sight_of m.image w (transaction w (m.part k) x)) (m1.part k).looked (m1.part k).changed
+  pub last : Outcome × S
+  pub went : Went (p.row x.state) (sight_of m.image w (transaction w (m.part k) x)) (Ret last) (m1.part k).looked (m1.part k).changed dooms
   pub image : m1.image ≡ m.image
   pub shape : SameShape m m1
 
--- where a row was stopped: its calls were done up to a place, and there the code found no memory, or the next call was refused
-pub record StopsAt {S A : Type 0} (k : ℕ) (me : Side) (row : Row S A) (s : Sight S) (e : Stop) (d : Hold S) : Type 0 where
-  pub asks : AsksOnly row s (d.meaning.part k).looked (d.meaning.part k).changed
-  pub why : (e ≡ OutOfMemory) ⊎ ((c : Call S) × (f : Reply c → Row S A) × (asks.left ≡ Do c f) × SegWhy k me e c asks.place.heap d)
-
--- why a step wasn't done, as the core is afterwards
-abbrev pub CutWhy : {S : Type 0} → ℕ → Side → Stop → CoreState S → ℕ → ℕ → Type 0
-CutWhy k me (Lost f) c reserved limit = LosesTo k me f c
-CutWhy k me NeedSolo c reserved limit = Unit {0}
-CutWhy k me (Full r n l) c reserved limit = (r ≡ reserved) × (l ≡ limit) × (l < r + n)
-CutWhy k me OutOfMemory c reserved limit = Unit {0}
-CutWhy k me _ c reserved limit = ⊥
-
--- where a step prints or reads: its calls were done up to a place, and the next one prints or reads
-pub record MeetsOuter {S A : Type 0} (row : Row S A) (s : Sight S) : Type 0 where
-  pub call : Call S
-  pub next : Reply call → Row S A
+-- Where a row, from the sight s, was stopped: its calls were done up to a place, and there the code found no memory, or the next
+-- call was refused.
+pub record StopsAt {S A : Type 0} (k : ℕ) (me : Side) (row : Row S A) (s : Sight S) (e : Stop) (c d : Hold S) : Type 0 where
+  pub left : Row S A
   pub place : Sight S
-  pub upto : Upto pure row s (Do call next) place
-  pub outer : IsOuter call
+  pub upto : Upto pure row s left place
+  pub looks : (a : ℕ) → (d.meaning.part k).looked a ≡ true → (place.looked a ≡ true) ⊎ LooksNext left a
+  pub locks : (a : ℕ) → mem a (d.meaning.part k).changed ≡ true → (place.touched a ≡ true) ⊎ ChangesNext left a
+  pub beside : Beside k me (AskedFor row s left place) c d
+  pub why : (e ≡ OutOfMemory) ⊎ ((q : Call S) × (f : Reply q → Row S A) × (left ≡ Do q f) × SegWhy k me e q place.heap d)
 
-abbrev pub IfSolo : {S A : Type 0} → Stop → Row S A → Sight S → Type 0
-IfSolo NeedSolo row s = MeetsOuter row s
-IfSolo _ row s = Unit {0}
+-- Why a step wasn't done: from the sight s its row comes to a call that was refused, as the core is afterwards.
+abbrev pub CutWhy : {S A : Type 0} → ℕ → Side → Stop → Row S A → Sight S → CoreState S → ℕ → ℕ → Type 0
+CutWhy k me (Lost f) row s c reserved limit = LosesTo k me f c × Reaches row s (AsksToChange f.at.0)
+CutWhy k me NeedSolo row s c reserved limit = Reaches row s AsksOutside
+CutWhy k me (Full r n l) row s c reserved limit = Reaches row s (AsksRoom n) × (r ≡ reserved) × (l ≡ limit) × (l < r + n)
+CutWhy k me OutOfMemory row s c reserved limit = Unit {0}
+CutWhy k me _ row s c reserved limit = ⊥
 
 -- Other segments were doomed by these conflicts, and then the step was cut and taken back: looks and locks stay.
 pub record StepCut {S : Type 0} (p : Prog S) (w : World) (k : ℕ) (me : Side) (e : Stop) (m : Meaning) (b : Books S) (x : Work S) (m1 : Meaning) (r1 : ℕ) (b1 : Books S) (x1 : Work S) : Type 0 where
   pub dooms : List Conflict
   pub others : Dooms k me dooms (core_of w m b) (core_of w m1 b1)
   pub stays : Stays m.image (transaction w (m.part k) x) (transaction w (m1.part k) x1)
-  pub asks : AsksOnly (p.row x.state) (sight_of m.image w (transaction w (m.part k) x)) (m1.part k).looked (m1.part k).changed
+  pub left : Row S (Outcome × S)
+  pub went : Went (p.row x.state) (sight_of m.image w (transaction w (m.part k) x)) left (m1.part k).looked (m1.part k).changed dooms
   pub image : m1.image ≡ m.image
   pub shape : SameShape m m1
-  pub why : CutWhy k me e (core_of w m1 b1) r1 m1.limit
-  pub solo : IfSolo e (p.row x.state) (sight_of m.image w (transaction w (m.part k) x))
+  pub why : CutWhy k me e (p.row x.state) (sight_of m.image w (transaction w (m.part k) x)) (core_of w m1 b1) r1 m1.limit

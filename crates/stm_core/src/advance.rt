@@ -18,7 +18,7 @@ impl<'p, C: Client, S: SegStore> Engine<'p, C, S> {
     ghost use Rattle.stm_core.specs.SaneCore.{SaneCore};
     ghost use Rattle.stm_core.specs.Pauses.{PauseCount};
     ghost use Rattle.stm_core.specs.Pausing.{PauseWhy};
-    ghost use Rattle.stm_core.specs.Advanced.{IsCount, Ends, StepsTaken, AdvancedFrom, Advanced};
+    ghost use Rattle.stm_core.specs.Advanced.{CountsDone, Ends, StepsTaken, AdvancedFrom, Advanced};
 
     /// What comes of a transaction of segment k, which was taken out of its hand, once its next step was cut.
     fn settle_stop(
@@ -33,8 +33,9 @@ impl<'p, C: Client, S: SegStore> Engine<'p, C, S> {
         requires why { PauseWhy (C.prog self.old.client.now) k (Pause.Stopped stop) (S.meaning self.old.store) (S.reserved self.old.store) self.old.books work }
         ensures rest { self.new ≡ record self.old { store = self.new.store; books = self.new.books } }
         ensures shape { SameShape (S.meaning self.old.store) (S.meaning self.new.store) }
+        ensures reserved { S.reserved self.old.store ≤ S.reserved self.new.store }
         ensures whole { Whole (S.meaning self.new.store) self.new.books }
-        ensures count { (most : ℕ) → done < most → IsCount most done result }
+        ensures count { (most : ℕ) → done < most → CountsDone most done result }
         ensures ends { (w : World) → w.mid ≡ false → Ends (C.prog self.old.client.now) k (S.reserved self.new.store) (S.meaning self.new.store).limit (core_with w k (S.meaning self.old.store) self.old.books work) (transaction w ((S.meaning self.old.store).part k) work) result (core_of w (S.meaning self.new.store) self.new.books) }
     {
         match stop {
@@ -80,8 +81,9 @@ impl<'p, C: Client, S: SegStore> Engine<'p, C, S> {
         requires why { PauseWhy (C.prog self.old.client.now) k pause (S.meaning self.old.store) (S.reserved self.old.store) self.old.books work }
         ensures rest { self.new ≡ record self.old { store = self.new.store; books = self.new.books } }
         ensures shape { SameShape (S.meaning self.old.store) (S.meaning self.new.store) }
+        ensures reserved { S.reserved self.old.store ≤ S.reserved self.new.store }
         ensures whole { Whole (S.meaning self.new.store) self.new.books }
-        ensures count { (most : ℕ) → PauseCount most done pause → IsCount most done result }
+        ensures count { (most : ℕ) → PauseCount most done pause → CountsDone most done result }
         ensures ends { (w : World) → w.mid ≡ false → Ends (C.prog self.old.client.now) k (S.reserved self.new.store) (S.meaning self.new.store).limit (core_with w k (S.meaning self.old.store) self.old.books work) (transaction w ((S.meaning self.old.store).part k) work) result (core_of w (S.meaning self.new.store) self.new.books) }
     {
         match pause {
@@ -117,6 +119,7 @@ impl<'p, C: Client, S: SegStore> Engine<'p, C, S> {
         requires short { work.steps + most ≤ length }
         ensures rest { self.new ≡ record self.old { store = self.new.store; books = self.new.books } }
         ensures shape { SameShape (S.meaning self.old.store) (S.meaning self.new.store) }
+        ensures reserved { S.reserved self.old.store ≤ S.reserved self.new.store }
         ensures whole { Whole (S.meaning self.new.store) self.new.books }
         ensures taken { (w : World) → w.mid ≡ false → StepsTaken (C.prog self.old.client.now) length k most (S.reserved self.new.store) (S.meaning self.new.store).limit (core_with w k (S.meaning self.old.store) self.old.books work) result (core_of w (S.meaning self.new.store) self.new.books) }
     {
@@ -139,6 +142,7 @@ impl<'p, C: Client, S: SegStore> Engine<'p, C, S> {
         requires short { work.steps + most ≤ length }
         ensures rest { self.new ≡ record self.old { store = self.new.store; books = self.new.books } }
         ensures shape { SameShape (S.meaning self.old.store) (S.meaning self.new.store) }
+        ensures reserved { S.reserved self.old.store ≤ S.reserved self.new.store }
         ensures whole { Whole (S.meaning self.new.store) self.new.books }
         ensures advanced { (w : World) → w.mid ≡ false → AdvancedFrom (Running (transaction w ((S.meaning self.old.store).part k) work)) (C.prog self.old.client.now) length k most (S.reserved self.new.store) (S.meaning self.new.store).limit (core_with w k (S.meaning self.old.store) self.old.books work) result (core_of w (S.meaning self.new.store) self.new.books) }
     {
@@ -162,6 +166,7 @@ impl<'p, C: Client, S: SegStore> Engine<'p, C, S> {
         requires sane { SaneCore (C.prog self.old.client.now) (C.sound self.old.client.now) length (S.meaning self.old.store) self.old.books }
         ensures rest { self.new ≡ record self.old { store = self.new.store; books = self.new.books } }
         ensures shape { SameShape (S.meaning self.old.store) (S.meaning self.new.store) }
+        ensures reserved { S.reserved self.old.store ≤ S.reserved self.new.store }
         ensures whole { Whole (S.meaning self.new.store) self.new.books }
         ensures sane { SaneCore (C.prog self.old.client.now) (C.sound self.old.client.now) length (S.meaning self.new.store) self.new.books }
         ensures advanced { (w : World) → w.mid ≡ false → Advanced (C.prog self.old.client.now) length k most (S.reserved self.new.store) (S.meaning self.new.store).limit (core_of w (S.meaning self.old.store) self.old.books) result (core_of w (S.meaning self.new.store) self.new.books) }

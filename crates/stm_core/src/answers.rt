@@ -1,6 +1,7 @@
 //! What calls of a core answer.
 use crate::cause::Cause;
 use py_data::Conflict;
+use thiserror::Error;
 
 /// How steps of a transaction that goes on came to an end, and how many of them this call did.
 #[derive(Clone, Copy, Debug, Drop, PartialEq, Eq)]
@@ -16,11 +17,13 @@ pub enum Advance {
 }
 
 /// Why a transaction went no further. Its segment has nothing in hand then, and what it did is dropped.
-#[derive(Clone, Copy, Debug, Drop, PartialEq, Eq)]
+#[derive(Clone, Copy, Debug, Drop, Error, PartialEq, Eq)]
 pub enum AdvanceError {
     /// The transaction lost this conflict: before the call, or to another transaction that has changed the record which the next
     /// step asks to change.
+    #[error("the transaction lost a conflict")]
     Lost(Conflict),
     /// The heap is full, or there was no memory. The core keeps the first cause that it met.
+    #[error("the core goes on no more")]
     Failed(Cause),
 }

@@ -8,19 +8,25 @@ use crate::threads::Started;
 use lock_run::Client;
 use py_data::{Items, NoMemory};
 use seg_store::SegStore;
+use thiserror::Error;
 
 /// Why no transaction begins. The first of these that holds is told.
-#[derive(Clone, Copy, Debug, Drop, PartialEq, Eq)]
+#[derive(Clone, Copy, Debug, Drop, Error, PartialEq, Eq)]
 pub enum BeginError {
     /// The core goes on no more, for this cause.
+    #[error("the core goes on no more")]
     Over(Cause),
     /// That segment, from 0, has a transaction in hand, or is doomed.
+    #[error("segment {0} has something in hand")]
     Busy(u8),
     /// No thread has that number; or it has ended, a segment runs it, or it waits.
+    #[error("thread {0} is not ready")]
     NotReady(u32),
     /// The history has as many steps as the budget, or 2^64 - 1 transactions were begun.
+    #[error("the budget is used up")]
     AtBudget,
     /// There was no memory.
+    #[error("out of memory")]
     OutOfMemory,
 }
 
@@ -33,7 +39,7 @@ impl<'p, C: Client, S: SegStore> Engine<'p, C, S> {
     ghost use Rattle.stm_core.specs.Books.{one_running, core_of};
     ghost use Rattle.stm_core.specs.Whole.{Whole, SameShape};
     ghost use Rattle.stm_core.specs.SaneCore.{SaneCore};
-    ghost use Rattle.stm_core.specs.Begun.{IsCount, Begun, IsFresh};
+    ghost use Rattle.stm_core.specs.Begun.{CountsSteps, Begun, IsFresh};
 
     /// A transaction of the thread, as it begins, and room for its turn and a conflict.
     fn make_work(&mut self, t: u32) -> Result<Work<C::State>, NoMemory>
@@ -77,6 +83,7 @@ impl<'p, C: Client, S: SegStore> Engine<'p, C, S> {
         ensures whole { Whole (S.meaning self.new.store) self.new.books }
         ensures rest { self.new ≡ record self.old { store = self.new.store; books = self.new.books } }
         ensures shape { SameShape (S.meaning self.old.store) (S.meaning self.new.store) }
+        ensures reserved { S.reserved self.new.store ≡ S.reserved self.old.store }
         ensures core { (w : World) → core_of w (S.meaning self.new.store) self.new.books ≡ begun_at k work.thread work.state (core_of w (S.meaning self.old.store) self.old.books) }
     {
         self.store.known();
@@ -94,13 +101,14 @@ impl<'p, C: Client, S: SegStore> Engine<'p, C, S> {
     pub fn begin(&mut self, k: u8, t: u32, budget: u64) -> Result<(), BeginError>
         requires segment { k < (S.meaning self.old.store).segments }
         requires whole { Whole (S.meaning self.old.store) self.old.books }
-        requires count { IsCount self.old.spent self.old.books.history.entries }
+        requires count { CountsSteps self.old.spent self.old.books.history.entries }
         requires sane { (most : ℕ) × SaneCore (C.prog self.old.client.now) (C.sound self.old.client.now) most (S.meaning self.old.store) self.old.books }
         ensures whole { Whole (S.meaning self.new.store) self.new.books }
         ensures store { IsStore (S.reserved self.new.store) (S.meaning self.new.store) }
-        ensures count { IsCount self.new.spent self.new.books.history.entries }
+        ensures count { CountsSteps self.new.spent self.new.books.history.entries }
         ensures rest { self.new ≡ record self.old { store = self.new.store; books = self.new.books } }
         ensures shape { SameShape (S.meaning self.old.store) (S.meaning self.new.store) }
+        ensures reserved { S.reserved self.new.store ≡ S.reserved self.old.store }
         ensures begun { (w : World) → Begun (C.prog self.old.client.now) k t budget result (core_of w (S.meaning self.old.store) self.old.books) (core_of w (S.meaning self.new.store) self.new.books) }
         ensures sane { (most : ℕ) → SaneCore (C.prog self.old.client.now) (C.sound self.old.client.now) most (S.meaning self.old.store) self.old.books
             → SaneCore (C.prog self.old.client.now) (C.sound self.old.client.now) most (S.meaning self.new.store) self.new.books }

@@ -1,8 +1,9 @@
 //! What a core keeps beside its store: the committed states of the threads, what each segment has in hand, the history and
 //! the conflicts.
-ghost use Rattle.std.specs.Prelude.{◌≡◌, ◌<◌, ◌≤◌, ◌+◌, ◌++◌, [], ◌∷◌, length, true, false, slice_set, slice_get, Some, take, OnOk, OnErr};
+ghost use Rattle.std.specs.Prelude.{◌≡◌, ◌<◌, ◌≤◌, ◌+◌, ◌-◌, ◌^◌, ◌++◌, [], ◌∷◌, length, true, false, slice_set, slice_get, Some, take, OnOk, OnErr};
 ghost use Rattle.stm_core.specs.Books.{runs_at, started_at, side_of};
 ghost use Rattle.stm_core.specs.Moves.{first_cause};
+ghost use Rattle.stm_core.specs.Whole.{stepped};
 
 use crate::cause::Cause;
 use crate::threads::{Started, Threads};
@@ -82,6 +83,14 @@ impl<T: Drop> Progress<T> {
 }
 
 impl<T: Drop> Work<T> {
+    /// One step more was done.
+    pub fn count_step(&mut self)
+        requires { self.old.steps < 2 ^ 64 - 1 }
+        ensures { self.new ≡ stepped self.old }
+    {
+        self.steps += 1;
+    }
+
     /// The transaction of a segment, as a side of a conflict.
     pub fn side(&self, segment: u8) -> Side
         ensures { result ≡ record { segment = segment; thread = self.now.thread; begun = self.now.begun; solo = false } }

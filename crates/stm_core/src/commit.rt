@@ -101,7 +101,7 @@ impl<'p, C: Client, S: SegStore> Engine<'p, C, S> {
     ghost use Rattle.stm_core.specs.Whole.{Whole, SameShape};
     ghost use Rattle.stm_core.specs.Advance.{core_with};
     ghost use Rattle.stm_core.specs.SaneCore.{SaneCore};
-    ghost use Rattle.stm_core.specs.Begun.{IsCount};
+    ghost use Rattle.stm_core.specs.Begun.{CountsSteps};
     ghost use Rattle.stm_core.specs.Readers.{place_of, read_at, work_side, Beats, FirstBeats};
     ghost use Rattle.stm_core.specs.Committed.{CommitEnds, Committed};
 
@@ -172,6 +172,7 @@ impl<'p, C: Client, S: SegStore> Engine<'p, C, S> {
         ensures idle { slice_get self.new.books.hands.items k ≡ slice_get self.old.books.hands.items k }
         ensures part { (S.meaning self.new.store).part k ≡ (S.meaning self.old.store).part k }
         ensures shape { SameShape (S.meaning self.old.store) (S.meaning self.new.store) }
+        ensures reserved { S.reserved self.new.store ≡ S.reserved self.old.store }
         ensures core { (w : World) → core_with w k (S.meaning self.new.store) self.new.books work.now
             ≡ cond (eqb j k) (core_with w k (S.meaning self.old.store) self.old.books work.now)
             (doom_one k (transaction w ((S.meaning self.old.store).part k) work.now) j (core_with w k (S.meaning self.old.store) self.old.books work.now) ((core_with w k (S.meaning self.old.store) self.old.books work.now).segments j)) }
@@ -202,6 +203,7 @@ impl<'p, C: Client, S: SegStore> Engine<'p, C, S> {
         ensures idle { slice_get self.new.books.hands.items k ≡ slice_get self.old.books.hands.items k }
         ensures part { (S.meaning self.new.store).part k ≡ (S.meaning self.old.store).part k }
         ensures shape { SameShape (S.meaning self.old.store) (S.meaning self.new.store) }
+        ensures reserved { S.reserved self.new.store ≡ S.reserved self.old.store }
         ensures core { (w : World) → core_with w k (S.meaning self.new.store) self.new.books work.now
             ≡ doom_readers k (transaction w ((S.meaning self.old.store).part k) work.now) (range_with_len 0 (S.meaning self.old.store).segments) (core_with w k (S.meaning self.old.store) self.old.books work.now) }
     {
@@ -216,11 +218,12 @@ impl<'p, C: Client, S: SegStore> Engine<'p, C, S> {
         requires fit { Fit k (S.meaning self.old.store) self.old.books work.progress }
         requires idle { slice_get self.old.books.hands.items k ≡ Some Hand.Idle }
         requires thread { work.thread < length self.old.books.threads.entries }
-        requires count { IsCount self.old.spent self.old.books.history.entries }
+        requires count { CountsSteps self.old.spent self.old.books.history.entries }
         ensures whole { Whole (S.meaning self.new.store) self.new.books }
-        ensures count { IsCount self.new.spent self.new.books.history.entries }
+        ensures count { CountsSteps self.new.spent self.new.books.history.entries }
         ensures rest { self.new ≡ record self.old { store = self.new.store; books = self.new.books; spent = self.new.spent } }
         ensures shape { SameShape (S.meaning self.old.store) (S.meaning self.new.store) }
+        ensures reserved { S.reserved self.new.store ≡ S.reserved self.old.store }
         ensures place { result ≡ length self.old.books.history.entries }
         ensures core { (w : World) → core_of w (S.meaning self.new.store) self.new.books ≡ published k (transaction w ((S.meaning self.old.store).part k) work) (core_with w k (S.meaning self.old.store) self.old.books work) }
     {
@@ -238,12 +241,13 @@ impl<'p, C: Client, S: SegStore> Engine<'p, C, S> {
         requires idle { slice_get self.old.books.hands.items k ≡ Some Hand.Idle }
         requires thread { work.thread < length self.old.books.threads.entries }
         requires numbers { (j : ℕ) (y : Work C.State) → slice_get self.old.books.hands.items j ≡ Some (Hand.Runs y) → y.begun ≢ work.begun }
-        requires count { IsCount self.old.spent self.old.books.history.entries }
+        requires count { CountsSteps self.old.spent self.old.books.history.entries }
         ensures whole { Whole (S.meaning self.new.store) self.new.books }
-        ensures count { IsCount self.new.spent self.new.books.history.entries }
+        ensures count { CountsSteps self.new.spent self.new.books.history.entries }
         ensures rest { self.new ≡ record self.old { store = self.new.store; books = self.new.books; spent = self.new.spent } }
         ensures shape { SameShape (S.meaning self.old.store) (S.meaning self.new.store) }
-        ensures ends { (w : World) → CommitEnds k (S.meaning self.old.store).segments (transaction w ((S.meaning self.old.store).part k) work) result
+        ensures reserved { S.reserved self.new.store ≡ S.reserved self.old.store }
+        ensures ends { (w : World) → CommitEnds (C.prog self.old.client.now) k (S.meaning self.old.store).segments (transaction w ((S.meaning self.old.store).part k) work) result
             (core_with w k (S.meaning self.old.store) self.old.books work) (core_of w (S.meaning self.new.store) self.new.books) }
     {
         if work.steps == 0 {
@@ -274,14 +278,15 @@ impl<'p, C: Client, S: SegStore> Engine<'p, C, S> {
         requires segment { k < (S.meaning self.old.store).segments }
         requires busy { slice_get self.old.books.hands.items k ≢ Some Hand.Idle }
         requires whole { Whole (S.meaning self.old.store) self.old.books }
-        requires count { IsCount self.old.spent self.old.books.history.entries }
+        requires count { CountsSteps self.old.spent self.old.books.history.entries }
         requires sane { (most : ℕ) × SaneCore (C.prog self.old.client.now) (C.sound self.old.client.now) most (S.meaning self.old.store) self.old.books }
         ensures whole { Whole (S.meaning self.new.store) self.new.books }
         ensures store { IsStore (S.reserved self.new.store) (S.meaning self.new.store) }
-        ensures count { IsCount self.new.spent self.new.books.history.entries }
+        ensures count { CountsSteps self.new.spent self.new.books.history.entries }
         ensures rest { self.new ≡ record self.old { store = self.new.store; books = self.new.books; spent = self.new.spent } }
         ensures shape { SameShape (S.meaning self.old.store) (S.meaning self.new.store) }
-        ensures committed { (w : World) → Committed k (S.meaning self.old.store).segments result (core_of w (S.meaning self.old.store) self.old.books) (core_of w (S.meaning self.new.store) self.new.books) }
+        ensures reserved { S.reserved self.new.store ≡ S.reserved self.old.store }
+        ensures committed { (w : World) → Committed (C.prog self.old.client.now) k (S.meaning self.old.store).segments result (core_of w (S.meaning self.old.store) self.old.books) (core_of w (S.meaning self.new.store) self.new.books) }
         ensures sane { (most : ℕ) → SaneCore (C.prog self.old.client.now) (C.sound self.old.client.now) most (S.meaning self.old.store) self.old.books
             → SaneCore (C.prog self.old.client.now) (C.sound self.old.client.now) most (S.meaning self.new.store) self.new.books }
     {

@@ -4,7 +4,7 @@ ghost use Rattle.std.specs.Prelude.{◌≡◌, ◌<◌, IfOk, IfErr};
 use crate::books::{Books, Hand, Work};
 use crate::cause::Cause;
 use crate::segment::SegView;
-use lock_run::{Client, Life, Outcome};
+use lock_run::{Client, Outcome};
 use py_data::{Conflict, Stop};
 use seg_store::SegStore;
 use std::alloc::Global;
@@ -40,7 +40,8 @@ impl<'p, C: Client, S: SegStore> Engine<'p, C, S> {
     ghost use Rattle.lock_run.specs.Client.{Standing};
     ghost use Rattle.lock_run.specs.declared.client.Life.TheVariants.{Lives};
     ghost use Rattle.seg_store.specs.Meaning.{sees};
-    ghost use Rattle.stm_core.specs.CoreState.{side, with_conflict, with_segment, Running};
+    ghost use Rattle.stm_core.specs.CoreState.{with_conflict, with_segment, Running};
+    ghost use Rattle.stm_core.specs.Conflict.{side};
     ghost use Rattle.stm_core.specs.Books.{Fit, transaction, core_of};
     ghost use Rattle.stm_core.specs.Whole.{Whole, SameShape, stepped, StepDone, StepCut};
     ghost use Rattle.stm_core.specs.Advanced.{with_cause};
@@ -59,6 +60,7 @@ impl<'p, C: Client, S: SegStore> Engine<'p, C, S> {
         ensures fit { Fit k (S.meaning self.new.store) self.new.books work.new.progress }
         ensures store { IsStore (S.reserved self.new.store) (S.meaning self.new.store) }
         ensures rest { self.new ≡ record self.old { store = self.new.store; books = self.new.books } }
+        ensures reserved { S.reserved self.old.store ≤ S.reserved self.new.store }
         ensures same { (work.new.thread ≡ work.old.thread) × (work.new.begun ≡ work.old.begun) × (work.new.steps ≡ work.old.steps) }
         ensures done { IfOk result (λ o. (world : World) → world.mid ≡ false → StepDone (C.prog self.old.client.now) world k (side k (transaction world ((S.meaning self.old.store).part k) work.old)) o (S.meaning self.old.store) self.old.books work.old (S.meaning self.new.store) self.new.books work.new) }
         ensures cut { IfErr result (λ e. (world : World) → world.mid ≡ false → StepCut (C.prog self.old.client.now) world k (side k (transaction world ((S.meaning self.old.store).part k) work.old)) e (S.meaning self.old.store) self.old.books work.old (S.meaning self.new.store) (S.reserved self.new.store) self.new.books work.new) }
@@ -74,21 +76,6 @@ impl<'p, C: Client, S: SegStore> Engine<'p, C, S> {
         let result = self.client.step(self.alloc, &mut work.state, &mut view);
         self.store.known();
         result
-    }
-
-    /// Counts a step that was done, and looks whether the thread lives on.
-    fn count(&self, work: &mut Work<C::State>) -> Pause
-        requires { work.old.steps < 2 ^ 64 - 1 }
-        ensures work { work.new ≡ stepped work.old }
-        ensures one { done_by result ≡ 1 }
-        ensures lives { result ≡ Pause.Whole → (C.prog self.now.client.now).life work.new.state ≡ Lives }
-        ensures ended { result ≡ Pause.Ended → (C.prog self.now.client.now).life work.new.state ≢ Lives }
-    {
-        work.steps += 1;
-        match self.client.life(&work.state) {
-            Life::Lives => Pause::Whole,
-            _ => Pause::Ended,
-        }
     }
 
     /// One step more of the transaction of segment k, which was taken out of its hand and has done fewer steps than the
@@ -107,12 +94,19 @@ impl<'p, C: Client, S: SegStore> Engine<'p, C, S> {
             → Gone (C.prog self.old.client.now) length k (n + done_by result) c (core_with w k (S.meaning self.new.store) self.new.books work.new) }
         ensures steps { work.new.steps ≡ work.old.steps + done_by result }
         ensures shape { SameShape (S.meaning self.old.store) (S.meaning self.new.store) }
+        ensures reserved { S.reserved self.old.store ≤ S.reserved self.new.store }
         ensures why { PauseWhy (C.prog self.old.client.now) k result (S.meaning self.new.store) (S.reserved self.new.store) self.new.books work.new }
     {
         match self.step_out(k, work) {
             Ok(Outcome::Waits) => Pause::Waits,
-            Ok(Outcome::Done) => self.count(work),
-            Ok(Outcome::Ended) => self.count(work),
+            Ok(Outcome::Done) => {
+                work.count_step();
+                Pause::Whole
+            }
+            Ok(Outcome::Ended) => {
+                work.count_step();
+                Pause::Ended
+            }
             Err(stop) => Pause::Stopped(stop),
         }
     }
@@ -140,6 +134,7 @@ impl<'p, C: Client, S: SegStore> Engine<'p, C, S> {
         ensures steps { work.new.steps ≡ work.old.steps + result.0 }
         ensures count { PauseCount most result.0 result.1 }
         ensures shape { SameShape (S.meaning self.old.store) (S.meaning self.new.store) }
+        ensures reserved { S.reserved self.old.store ≤ S.reserved self.new.store }
         ensures why { PauseWhy (C.prog self.old.client.now) k result.1 (S.meaning self.new.store) (S.reserved self.new.store) self.new.books work.new }
     {
         'turns: for done in 0..most {

@@ -45,7 +45,7 @@ impl<'p, C: Client, S: SegStore> Engine<'p, C, S> {
     ghost use Rattle.stm_core.specs.Standing.{IsOutcome};
     ghost use Rattle.stm_core.specs.Finishing.{idle_core, IsUnused, HasFailed};
     ghost use Rattle.stm_core.specs.SaneCore.{SaneCore};
-    ghost use Rattle.stm_core.specs.Begun.{IsCount};
+    ghost use Rattle.stm_core.specs.Begun.{CountsSteps};
 
     /// An engine over an empty store, with the client's first thread. At want of memory the store comes back.
     pub fn new(alloc: Global, client: &'p C, store: S) -> Result<Engine<'p, C, S>, (NoMemory, S)>
@@ -53,7 +53,7 @@ impl<'p, C: Client, S: SegStore> Engine<'p, C, S> {
         ensures client { IfOk result (λ e. e.client.now ≡ client.now) }
         ensures store { IfOk result (λ e. e.store ≡ store) }
         ensures whole { IfOk result (λ e. Whole (S.meaning e.store) e.books) }
-        ensures count { IfOk result (λ e. IsCount e.spent e.books.history.entries) }
+        ensures count { IfOk result (λ e. CountsSteps e.spent e.books.history.entries) }
         ensures core { IfOk result (λ e. (w : World) → core_of w (S.meaning e.store) e.books ≡ core_new (C.prog client.now) w) }
         ensures sane { IfOk result (λ e. (most : ℕ) → SaneCore (C.prog client.now) (C.sound client.now) most (S.meaning e.store) e.books) }
         ensures back { IfErr result (λ e. e.1 ≡ store) }
@@ -141,7 +141,7 @@ impl<'p, C: Client, S: SegStore> Engine<'p, C, S> {
     /// The image of the store is the committed one, and no segment has anything in hand in it.
     pub fn finish(mut self, budget: u64) -> Remains<S>
         requires whole { Whole (S.meaning self.store) self.books }
-        requires count { IsCount self.spent self.books.history.entries }
+        requires count { CountsSteps self.spent self.books.history.entries }
         requires sane { (most : ℕ) × SaneCore (C.prog self.client.now) (C.sound self.client.now) most (S.meaning self.store) self.books }
         ensures state { (w : World) → IsOutcome (C.prog self.entry.client.now) budget (idle_core (core_of w (S.meaning self.entry.store) self.entry.books)) result.state }
         ensures failed { result.failed ≡ true → (w : World) → HasFailed (C.prog self.entry.client.now) (core_of w (S.meaning self.entry.store) self.entry.books) }

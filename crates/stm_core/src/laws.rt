@@ -13,6 +13,10 @@ ghost use Rattle.stm_core.specs.Moves.{Advances, Move, Follows};
 ghost use Rattle.stm_core.specs.Passes.{NoneWins, after_commit};
 ghost use Rattle.stm_core.specs.declared.answers.Advance.{Advance};
 ghost use Rattle.stm_core.specs.declared.answers.AdvanceError.{AdvanceError};
+ghost use Rattle.stm_core.specs.declared.events.Event.{Event};
+ghost use Rattle.stm_core.specs.declared.events.Reply.{Reply};
+ghost use Rattle.stm_core.specs.Events.{Limits, EventsMade};
+ghost use Rattle.stm_core.specs.EventLaw.{EventsDo, HistoryGrew, RunsWithin};
 ghost use Rattle.stm_core.specs.Advanced.{Advanced, Led, OnlyOwn};
 
 /// A core is good when it is made, and each list of moves keeps it good.
@@ -40,4 +44,12 @@ pub fn commit_law<S>()
 pub fn advance_law<S>()
     ensures moves { (p : Prog S) (start : Machine S) (length k most reserved limit : ℕ) (c c1 : CoreState S) (r : Result Advance AdvanceError) → Good p start length c → Advanced p length k most reserved limit c r c1 → Led p length k c c1 }
     ensures own { (p : Prog S) (length k : ℕ) (c c1 : CoreState S) → Led p length k c c1 → OnlyOwn p length k c c1 }
+{}
+
+/// Whatever the list of events: image, committed states and history change by commits alone, and the history grows by a turn for
+/// each; each new conflict stood in a state that its event came through; and what another segment has in hand stays, or is doomed
+/// by a new conflict.
+pub fn events_law<S>()
+    ensures each { (p : Prog S) (start : Machine S) (l : Limits) (es : List Event) (rs : List Reply) (c c1 : CoreState S) → Good p start l.length c → RunsWithin l c → EventsMade p l es rs c c1 → EventsDo p l.length es rs c c1 }
+    ensures history { (p : Prog S) (length : ℕ) (es : List Event) (rs : List Reply) (c c1 : CoreState S) → EventsDo p length es rs c c1 → HistoryGrew rs c c1 }
 {}

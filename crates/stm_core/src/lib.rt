@@ -23,6 +23,6 @@ pub use begin::BeginError;
 pub use cause::Cause;
 pub use commit::Commit;
 pub use events::{Event, Reply};
-pub use laws::{advance_law, commit_law, good_law, stands_law};
+pub use laws::{advance_law, commit_law, events_law, good_law, stands_law};
 pub use standing::{RunState, Slot};
 pub use transactions::{BUDGET_LIMIT, Core, Finished, LENGTH_LIMIT};

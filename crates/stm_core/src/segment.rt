@@ -8,8 +8,10 @@ ghost use Rattle.py_data.specs.Sense.{IfThere};
 ghost use Rattle.py_data.specs.Made.{rec_of};
 ghost use Rattle.seg_store.specs.Meaning.{Meaning, sees, holds};
 ghost use Rattle.seg_store.specs.Calls.{after_drop, after_lock, after_change, after_make};
-ghost use Rattle.seg_store.specs.Store.{CanFind, CanChange, IsFull, NoOther, IsFree};
-ghost use Rattle.stm_core.specs.CoreState.{wins};
+ghost use Rattle.seg_store.specs.Store.{CanFind, CanChange, NoOther, IsFree};
+ghost use Rattle.seg_store.specs.Extents.{Wants};
+ghost use Rattle.stm_core.specs.Asking.{ChangeWants};
+ghost use Rattle.stm_core.specs.Conflict.{wins};
 ghost use Rattle.stm_core.specs.Books.{Fit, runs_at};
 ghost use Rattle.py_data.specs.Row.{Read, Edit};
 ghost use Rattle.stm_core.specs.SegSense.{Seen};
@@ -258,7 +260,7 @@ impl<'a, T: Drop, S: SegStore> SegView<'a, T, S> {
         requires can { CanChange (sees (S.meaning self.old.store.now) self.old.segment) a.0 change }
         ensures ok { OnOk result (S.meaning self.new.store.now ≡ after_change self.old.segment a.0 (after change) (S.meaning self.old.store.now)) }
         ensures err { OnErr result (S.meaning self.new.store.now ≡ S.meaning self.old.store.now) }
-        ensures cause { IfErr result (FaultWhy (IsFull (sees (S.meaning self.old.store.now) self.old.segment) a.0 change) (S.reserved self.new.store.now) (S.meaning self.old.store.now).limit) }
+        ensures cause { IfErr result (FaultWhy (ChangeWants change (sees (S.meaning self.old.store.now) self.old.segment) a.0) (S.reserved self.new.store.now) (S.meaning self.old.store.now).limit) }
         ensures reserved { S.reserved self.old.store.now ≤ S.reserved self.new.store.now }
         ensures books { self.new.books.now ≡ self.old.books.now }
         ensures progress { self.new.progress.now ≡ self.old.progress.now }
@@ -303,7 +305,7 @@ impl<'a, T: Drop, S: SegStore> SegView<'a, T, S> {
         ensures names { IfOk result (λ n. self.new.progress.now ≡ record self.old.progress.now { names = self.old.progress.now.names ++ n ∷ [] }) }
         ensures err { OnErr result (S.meaning self.new.store.now ≡ S.meaning self.old.store.now) }
         ensures same { OnErr result (self.new.progress.now ≡ self.old.progress.now) }
-        ensures cause { IfErr result (FaultWhy (Unit {0}) (S.reserved self.new.store.now) (S.meaning self.old.store.now).limit) }
+        ensures cause { IfErr result (FaultWhy (Wants None (rec_of r.now)) (S.reserved self.new.store.now) (S.meaning self.old.store.now).limit) }
         ensures reserved { S.reserved self.old.store.now ≤ S.reserved self.new.store.now }
         ensures books { self.new.books.now ≡ self.old.books.now }
         ensures stopped { self.new.stopped ≡ self.old.stopped }

@@ -92,12 +92,12 @@ impl<'p, C: Client, S: SegStore> Engine<'p, C, S> {
     ghost use Rattle.stm_core.specs.SaneCore.{SaneCore};
     ghost use Rattle.lock_run.specs.RunState.{steps_done, SomeLives, IsDone};
     ghost use Rattle.stm_core.specs.CoreState.{committed};
-    ghost use Rattle.stm_core.specs.Begun.{IsReady, IsUnready, IsCount};
+    ghost use Rattle.stm_core.specs.Begun.{IsReady, IsUnready, CountsSteps};
     ghost use Rattle.stm_core.specs.Standing.{slot_of, FirstReady, IsNext, IsOutcome};
 
     /// Whether the history has the budget's steps.
     pub fn is_spent(&self, budget: u64) -> bool
-        requires { IsCount self.now.spent self.now.books.history.entries }
+        requires { CountsSteps self.now.spent self.now.books.history.entries }
         ensures yes { result ≡ true → budget ≤ steps_done self.now.books.history.entries }
         ensures not { result ≡ false → steps_done self.now.books.history.entries < budget }
     {
@@ -185,7 +185,7 @@ impl<'p, C: Client, S: SegStore> Engine<'p, C, S> {
     /// each thread that lives waits; the history has the budget's steps; it goes on. It takes no memory.
     pub fn outcome(&self, budget: u64) -> RunState
         requires whole { Whole (S.meaning self.now.store) self.now.books }
-        requires count { IsCount self.now.spent self.now.books.history.entries }
+        requires count { CountsSteps self.now.spent self.now.books.history.entries }
         requires sane { (most : ℕ) × SaneCore (C.prog self.now.client.now) (C.sound self.now.client.now) most (S.meaning self.now.store) self.now.books }
         ensures { (w : World) → IsOutcome (C.prog self.now.client.now) budget (core_of w (S.meaning self.now.store) self.now.books) result }
     {

@@ -53,7 +53,7 @@ pub struct Core<'p, C: Client, S, I, O, E> {
     err: E,
 }
 
-impl<'p, C: Client, S: SegStore + Drop, I, O, E> Core<'p, C, S, I, O, E> {
+impl<'p, C: Client, S: SegStore, I, O, E> Core<'p, C, S, I, O, E> {
     ghost use Rattle.std.specs.Prelude.{◌≡◌, ◌≤◌, IfOk, IfErr};
     ghost use Rattle.py_data.specs.World.{World};
     ghost use Rattle.seg_store.specs.Store.{IsEmpty};
@@ -109,6 +109,7 @@ impl<'p, C: Client, S: SegStore, I, O, E> Core<'p, C, S, I, O, E> {
     ghost use Rattle.stm_core.specs.Standing.{slot_of, IsNext, IsOutcome};
     ghost use Rattle.stm_core.specs.Finishing.{idle_core, IsUnused, HasFailed};
     ghost use Rattle.stm_core.specs.Events.{may_make, EventMade, EventsMade};
+    ghost use Rattle.stm_core.specs.EventLaw.{EventsDo};
 
     /// Begins a transaction of thread `t` on segment `k`. It copies the thread's state, and makes room for a turn and a
     /// conflict.
@@ -142,7 +143,7 @@ impl<'p, C: Client, S: SegStore, I, O, E> Core<'p, C, S, I, O, E> {
         requires good { IsGoodCore C.prog C.sound S.reserved S.meaning self.old }
         ensures good { IsGoodCore C.prog C.sound S.reserved S.meaning self.new }
         ensures job { SameJob S.meaning self.old self.new }
-        ensures committed { (w : World) → w.mid ≡ false → Committed k (core_limits S.meaning self.old).segments result (core_at S.meaning w self.old) (core_at S.meaning w self.new) }
+        ensures committed { (w : World) → w.mid ≡ false → Committed (C.prog (core_client self.old)) k (core_limits S.meaning self.old).segments result (core_at S.meaning w self.old) (core_at S.meaning w self.new) }
     {
         self.engine.commit(k)
     }
@@ -210,6 +211,7 @@ impl<'p, C: Client, S: SegStore, I, O, E> Core<'p, C, S, I, O, E> {
         ensures history { (w : World) → (core_at S.meaning w self.entry).history ≡ result.history.entries }
         ensures conflicts { (w : World) → (core_at S.meaning w self.entry).conflicts ≡ result.conflicts.entries }
         ensures image { (w : World) → (core_at S.meaning w self.entry).image ≡ (S.meaning result.store).image }
+        ensures shape { ((S.meaning result.store).segments ≡ (core_limits S.meaning self.entry).segments) × ((S.meaning result.store).limit ≡ (core_limits S.meaning self.entry).words) }
         ensures unused { (j : ℕ) → IsUnused ((S.meaning result.store).part j) }
         ensures devices { HasDevices result.input result.out result.err self.entry }
     {
@@ -279,6 +281,7 @@ impl<'p, C: Client, S: SegStore, I, O, E> Core<'p, C, S, I, O, E> {
         ensures good { IsGoodCore C.prog C.sound S.reserved S.meaning self.new }
         ensures job { SameJob S.meaning self.old self.new }
         ensures made { IfOk result (λ replies. (w : World) → w.mid ≡ false → EventsMade (C.prog (core_client self.old)) (core_limits S.meaning self.old) list.now replies.items (core_at S.meaning w self.old) (core_at S.meaning w self.new)) }
+        ensures does { IfOk result (λ replies. (w : World) → w.mid ≡ false → EventsDo (C.prog (core_client self.old)) (core_limits S.meaning self.old).length list.now replies.items (core_at S.meaning w self.old) (core_at S.meaning w self.new)) }
         ensures none { OnErr result (self.new ≡ self.old) }
     {
         let mut replies = Vec::new(self.engine.alloc);

@@ -233,26 +233,25 @@ fn cut(rt: &impl Abort, store: &mut PlainStore, k: u8, a: Addr, n: usize) {
     assert!(rt; store.truncate(k, a, n).is_ok());
 }
 
-/// The length and the room of a list or dictionary that a segment sees.
-fn size(rt: &impl Abort, store: &PlainStore, k: u8, a: Addr) -> (usize, usize) {
+/// The length, the room and the first room of a record that a segment sees.
+fn size(rt: &impl Abort, store: &PlainStore, k: u8, a: Addr) -> (usize, usize, usize) {
     assert!(rt; k < store.segments());
-    let Some(r) = store.seen(k, a.0) else {
-        panic!(rt; "no record");
-    };
-    (store.len(k, a), r.rooms().0)
+    assert!(rt; store.seen(k, a.0).is_some());
+    let (room, first) = store.rooms(k, a);
+    (store.len(k, a), room, first)
 }
 
 #[test]
 fn lists(rt: HostRuntime) -> Tested {
     let mut store = PlainStore::new(rt.alloc(), 1)?;
     let a = make_empty(&rt, rt.alloc(), &mut store, 0, false);
-    assert_eq!(rt; size(&rt, &store, 0, a), (0, 0));
+    assert_eq!(rt; size(&rt, &store, 0, a), (0, 0, 0));
     for n in 0..3 {
         push(&rt, &mut store, 0, a, n);
     }
-    assert_eq!(rt; size(&rt, &store, 0, a), (3, 4));
+    assert_eq!(rt; size(&rt, &store, 0, a), (3, 4, 0));
     cut(&rt, &mut store, 0, a, 1);
-    assert_eq!(rt; size(&rt, &store, 0, a), (1, 4));
+    assert_eq!(rt; size(&rt, &store, 0, a), (1, 4, 0));
     assert_eq!(rt; number(&rt, &store, 0, a), 0);
     Ok(())
 }
@@ -305,12 +304,12 @@ fn take(rt: &impl Abort, store: &mut PlainStore, k: u8, d: Addr) {
 fn dictionaries(rt: HostRuntime) -> Tested {
     let mut store = PlainStore::new(rt.alloc(), 1)?;
     let d = make_empty(&rt, rt.alloc(), &mut store, 0, true);
-    assert_eq!(rt; size(&rt, &store, 0, d), (0, 2));
+    assert_eq!(rt; size(&rt, &store, 0, d), (0, 2, 2));
     put(&rt, &mut store, 0, d, 4, 40);
     assert!(rt; matches!(find(&rt, &store, 0, d, 4), Some(0)));
     assert!(rt; find(&rt, &store, 0, d, 5).is_none());
     take(&rt, &mut store, 0, d);
-    assert_eq!(rt; size(&rt, &store, 0, d), (0, 2));
+    assert_eq!(rt; size(&rt, &store, 0, d), (0, 2, 2));
     Ok(())
 }
 
@@ -351,7 +350,7 @@ fn two_bytes(rt: &impl Abort, store: &PlainStore, k: u8, a: Addr, from: usize) -
 fn strings(rt: HostRuntime) -> Tested {
     let mut store = PlainStore::new(rt.alloc(), 1)?;
     let a = make_text(&rt, rt.alloc(), &mut store, 0, b"text")?;
-    assert_eq!(rt; size(&rt, &store, 0, a), (4, 0));
+    assert_eq!(rt; size(&rt, &store, 0, a), (4, 0, 0));
     assert_eq!(rt; two_bytes(&rt, &store, 0, a, 1), *b"ex");
     Ok(())
 }

@@ -7,7 +7,7 @@ use Rattle.stm_core.specs.Moves.{begun_at}
 use Rattle.stm_core.specs.Books.{segment_of, core_of}
 use Rattle.stm_core.specs.Hold.{no_world}
 use Rattle.stm_core.specs.Whole.{Whole}
-use Rattle.stm_core.specs.Begun.{IsCount}
+use Rattle.stm_core.specs.Begun.{CountsSteps}
 use Rattle.stm_core.proofs.Beginning.{roomy_whole, core_roomy, caused_whole, begun_state, begun_sane}
 use Rattle.stm_core.proofs.engine.Engine.begin.Goals as goal
 
@@ -27,7 +27,7 @@ start-requires-clause-whole g c =
 pub returns-in-Ok-clause-count : goal.returns-in-Ok-clause-count
 returns-in-Ok-clause-count g c =
     let h = ap (λ k. k.history) (c.start.ensures.core no_world) ∙ c.make_work.ensures.turns in
-    ap (λ s. s.spent) c.start.ensures.rest ∙ ap (λ s. s.spent) c.make_work.ensures.rest ∙ subst (λ l. IsCount c.args.self.now.spent l) (sym h) c.requires.count
+    ap (λ s. s.spent) c.start.ensures.rest ∙ ap (λ s. s.spent) c.make_work.ensures.rest ∙ subst (λ l. CountsSteps c.args.self.now.spent l) (sym h) c.requires.count
 
 pub returns-in-Ok-clause-begun : goal.returns-in-Ok-clause-begun
 returns-in-Ok-clause-begun g c = λ w.

@@ -28,13 +28,13 @@ commit_out-result-requires-clause-numbers g c =
 pub returns-in-Runs-clause-committed : goal.returns-in-Runs-clause-committed
 returns-in-Runs-clause-committed g c = λ w.
     committed_taken c.args.k (g.S.SegStore.meaning c.args.self.now.store) c.args.self.now.books c.take.new.self c.in-Runs.work c.in-Runs.ensures.hand (record { rest = c.take.ensures.rest; hands = c.take.ensures.hands })
-    w (g.S.SegStore.meaning c.args.self.now.store).segments c.commit_out-result.result _ (c.commit_out-result.ensures.ends w)
+    (g.C.Client.prog c.args.self.now.client.now) w (g.S.SegStore.meaning c.args.self.now.store).segments c.commit_out-result.result _ (c.commit_out-result.ensures.ends w)
 
 pub returns-in-Runs-clause-sane : goal.returns-in-Runs-clause-sane
 returns-in-Runs-clause-sane g c = λ most s.
     committed_sane (g.C.Client.prog c.args.self.now.client.now) (g.C.Client.sound c.args.self.now.client.now) most c.args.k (g.S.SegStore.meaning c.args.self.now.store) (g.S.SegStore.meaning c.commit_out-result.new.self.store) c.args.self.now.books c.commit_out-result.new.self.books c.commit_out-result.result c.requires.whole.hands
     (λ w. committed_taken c.args.k (g.S.SegStore.meaning c.args.self.now.store) c.args.self.now.books c.take.new.self c.in-Runs.work c.in-Runs.ensures.hand (record { rest = c.take.ensures.rest; hands = c.take.ensures.hands })
-    w (g.S.SegStore.meaning c.args.self.now.store).segments c.commit_out-result.result _ (c.commit_out-result.ensures.ends w)) s
+    (g.C.Client.prog c.args.self.now.client.now) w (g.S.SegStore.meaning c.args.self.now.store).segments c.commit_out-result.result _ (c.commit_out-result.ensures.ends w)) s
 
 pub returns-in-Doomed-clause-whole : goal.returns-in-Doomed-clause-whole
 returns-in-Doomed-clause-whole g c =
@@ -42,9 +42,9 @@ returns-in-Doomed-clause-whole g c =
 
 pub returns-in-Doomed-clause-committed : goal.returns-in-Doomed-clause-committed
 returns-in-Doomed-clause-committed g c = λ w.
-    committed_doomed c.args.k (g.S.SegStore.meaning c.args.self.now.store) c.args.self.now.books c.take.new.self c.in-Doomed.f c.in-Doomed.ensures.hand (record { rest = c.take.ensures.rest; hands = c.take.ensures.hands }) w (g.S.SegStore.meaning c.args.self.now.store).segments
+    committed_doomed c.args.k (g.S.SegStore.meaning c.args.self.now.store) c.args.self.now.books c.take.new.self (g.C.Client.prog c.args.self.now.client.now) c.in-Doomed.f c.in-Doomed.ensures.hand (record { rest = c.take.ensures.rest; hands = c.take.ensures.hands }) w (g.S.SegStore.meaning c.args.self.now.store).segments
 
 pub returns-in-Doomed-clause-sane : goal.returns-in-Doomed-clause-sane
 returns-in-Doomed-clause-sane g c = λ most s.
     committed_sane (g.C.Client.prog c.args.self.now.client.now) (g.C.Client.sound c.args.self.now.client.now) most c.args.k (g.S.SegStore.meaning c.args.self.now.store) (g.S.SegStore.meaning c.args.self.now.store) c.args.self.now.books c.take.new.self (Err c.in-Doomed.f) c.requires.whole.hands
-    (λ w. committed_doomed c.args.k (g.S.SegStore.meaning c.args.self.now.store) c.args.self.now.books c.take.new.self c.in-Doomed.f c.in-Doomed.ensures.hand (record { rest = c.take.ensures.rest; hands = c.take.ensures.hands }) w (g.S.SegStore.meaning c.args.self.now.store).segments) s
+    (λ w. committed_doomed c.args.k (g.S.SegStore.meaning c.args.self.now.store) c.args.self.now.books c.take.new.self (g.C.Client.prog c.args.self.now.client.now) c.in-Doomed.f c.in-Doomed.ensures.hand (record { rest = c.take.ensures.rest; hands = c.take.ensures.hands }) w (g.S.SegStore.meaning c.args.self.now.store).segments) s

@@ -5,7 +5,7 @@ use Rattle.stm_core.specs.Moves.{published}
 use Rattle.stm_core.specs.Books.{transaction}
 use Rattle.stm_core.specs.Hold.{no_world}
 use Rattle.stm_core.specs.Advance.{core_with}
-use Rattle.stm_core.specs.Begun.{IsCount}
+use Rattle.stm_core.specs.Begun.{CountsSteps}
 use Rattle.stm_core.specs.Readers.{FirstBeats}
 use Rattle.stm_core.proofs.Committing.{none_wins, beaten_is}
 use Rattle.stm_core.proofs.Publishing.{left_idle, dooms_keep}
@@ -24,18 +24,18 @@ pub publish-requires-clause-count : goal.publish-requires-clause-count
 publish-requires-clause-count g c =
     let m = g.S.SegStore.meaning c.args.self.now.store in
     let e = ap (λ k. k.history) (c.doom_readers.ensures.core no_world) ∙ (dooms_keep c.args.k (transaction no_world (m.part c.args.k) c.args.work) (range_with_len 0 m.segments) (core_with no_world c.args.k m c.args.self.now.books c.args.work)).1 in
-    ap (λ s. s.spent) c.doom_readers.ensures.rest ∙ subst (λ l. IsCount c.args.self.now.spent l) (sym e) c.requires.count
+    ap (λ s. s.spent) c.doom_readers.ensures.rest ∙ subst (λ l. CountsSteps c.args.self.now.spent l) (sym e) c.requires.count
 
 pub returns-in-Some-clause-count : goal.returns-in-Some-clause-count
 returns-in-Some-clause-count g c =
-    ap (λ s. s.spent) c.lose_out.ensures.rest ∙ subst (λ l. IsCount c.args.self.now.spent l) (sym (ap (λ k. k.history) (c.lose_out.ensures.core no_world))) c.requires.count
+    ap (λ s. s.spent) c.lose_out.ensures.rest ∙ subst (λ l. CountsSteps c.args.self.now.spent l) (sym (ap (λ k. k.history) (c.lose_out.ensures.core no_world))) c.requires.count
 
 pub returns-in-Some-clause-ends : goal.returns-in-Some-clause-ends
 returns-in-Some-clause-ends g c = λ w.
     let m = g.S.SegStore.meaning c.args.self.now.store in
     let n : c.args.work.steps ≢ 0 = c.if-work-eq0.false in (
       omega (arith, n),
-      beaten_is w c.args.k m c.args.self.now.books c.args.work m.segments c.in-Some.f (subst (λ s. FirstBeats c.args.self.now.books.hands.items m c.args.k s m.segments (Some c.in-Some.f)) c.side-me.ensures c.in-Some.ensures),
+      beaten_is w c.args.k m c.args.self.now.books c.args.work (g.C.Client.prog c.args.self.now.client.now) m.segments c.in-Some.f (subst (λ s. FirstBeats c.args.self.now.books.hands.items m c.args.k s m.segments (Some c.in-Some.f)) c.side-me.ensures c.in-Some.ensures),
       c.lose_out.ensures.core w ∙ ap (with_conflict c.in-Some.f) (left_idle w c.args.k m c.args.self.now.books c.args.work c.requires.idle),
     )
 

@@ -20,6 +20,7 @@ segments-preserved g c =
       idle = e.idle ∙ v.idle;
       part = e.part ∙ v.part;
       shape = (e.shape.0 ∙ v.shape.0, e.shape.1 ∙ v.shape.1);
+      reserved = e.reserved ∙ v.reserved;
       core = λ w.
           let tx = transaction w (m0.part c.args.k) c.args.work.now in
           let u = core_with w c.args.k m c.segments.self.books c.args.work.now in

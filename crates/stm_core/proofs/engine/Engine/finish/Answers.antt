@@ -2,7 +2,7 @@ use Rattle.std.proofs.Common.{sym, subst, ap, ◌∙◌}
 use Rattle.stm_core.specs.Books.{core_of}
 use Rattle.stm_core.specs.Hold.{no_world}
 use Rattle.stm_core.specs.SaneCore.{SaneCore}
-use Rattle.stm_core.specs.Begun.{IsCount}
+use Rattle.stm_core.specs.Begun.{CountsSteps}
 use Rattle.stm_core.specs.Standing.{IsOutcome}
 use Rattle.stm_core.specs.Finishing.{HasFailed}
 use Rattle.stm_core.proofs.engine.Engine.finish.Goals as goal
@@ -10,7 +10,7 @@ use Rattle.stm_core.proofs.engine.Engine.finish.Goals as goal
 pub outcome-state-requires-clause-count : goal.outcome-state-requires-clause-count
 outcome-state-requires-clause-count g c =
     let e = c.drop_all.ensures in
-    ap (λ s. s.spent) e.rest ∙ subst (λ l. IsCount c.args.self.spent l) (sym (ap (λ k. k.history) (e.core no_world))) c.requires.count
+    ap (λ s. s.spent) e.rest ∙ subst (λ l. CountsSteps c.args.self.spent l) (sym (ap (λ k. k.history) (e.core no_world))) c.requires.count
 
 pub outcome-state-requires-clause-sane : goal.outcome-state-requires-clause-sane
 outcome-state-requires-clause-sane g c =

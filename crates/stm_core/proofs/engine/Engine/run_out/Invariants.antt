@@ -1,4 +1,4 @@
-use Rattle.std.proofs.Common.{◌≡◌, ◌+◌, ℕ, false, slice_get, Some}
+use Rattle.std.proofs.Common.{◌≡◌, ◌≤◌, ◌+◌, ℕ, false, slice_get, Some}
 use Rattle.py_data.specs.World.{World}
 use Rattle.lock_run.specs.declared.client.Life.TheVariants.{Lives}
 use Rattle.stm_core.specs.declared.books.Hand.TheVariants.{Idle}
@@ -16,6 +16,7 @@ invariant-turns g l = record {
   alloc : l.self.alloc ≡ l.initial.self.alloc;
   spent : l.self.spent ≡ l.initial.self.spent;
   shape : SameShape (g.S.SegStore.meaning l.initial.self.store) (g.S.SegStore.meaning l.self.store);
+  reserved : g.S.SegStore.reserved l.initial.self.store ≤ g.S.SegStore.reserved l.self.store;
   sane : Sane (g.C.Client.prog l.initial.self.client.now) (g.C.Client.sound l.initial.self.client.now) l.length l.k (g.S.SegStore.meaning l.self.store) l.self.books l.work;
   lives : (g.C.Client.prog l.initial.self.client.now).life l.work.state ≡ Lives;
   steps : l.work.steps ≡ l.initial.work.steps + l.done;

@@ -18,10 +18,10 @@ put-requires g c = slice_get_within c.args.self.now.books.hands.items c.args.k I
 pub returns-clause-whole : goal.returns-clause-whole
 returns-clause-whole g c =
     subst (λ m. Whole m c.put.new.self) (sym c.begin.ensures.meaning)
-    (begun_whole c.args.k (g.S.SegStore.meaning c.args.self.now.store) c.args.self.now.books c.requires.whole c.requires.idle (g.S.SegStore.reserved c.args.self.now.store) c.put.new.self c.args.work c.known.ensures c.requires.fresh
+    (begun_whole c.args.k (g.S.SegStore.meaning c.args.self.now.store) c.args.self.now.books c.requires.whole c.requires.idle (g.S.SegStore.reserved c.args.self.now.store) c.put.new.self c.args.work c.known.ensures.store c.requires.fresh
     (record { rest = c.put.ensures.rest; hands = c.put.ensures.hands }) c.requires.turn c.requires.loss)
 
 pub returns-clause-core : goal.returns-clause-core
 returns-clause-core g c = λ w.
     ap (λ m. core_of w m c.put.new.self) c.begin.ensures.meaning
-    ∙ core_begun c.args.k (g.S.SegStore.meaning c.args.self.now.store) c.args.self.now.books c.requires.whole c.requires.idle (g.S.SegStore.reserved c.args.self.now.store) c.put.new.self c.args.work c.known.ensures c.requires.fresh (record { rest = c.put.ensures.rest; hands = c.put.ensures.hands }) w
+    ∙ core_begun c.args.k (g.S.SegStore.meaning c.args.self.now.store) c.args.self.now.books c.requires.whole c.requires.idle (g.S.SegStore.reserved c.args.self.now.store) c.put.new.self c.args.work c.known.ensures.store c.requires.fresh (record { rest = c.put.ensures.rest; hands = c.put.ensures.hands }) w

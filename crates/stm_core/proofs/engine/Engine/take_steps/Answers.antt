@@ -1,4 +1,4 @@
-use Rattle.std.proofs.Common.{refl, subst, zero-add}
+use Rattle.std.proofs.Common.{refl, subst, zero-add, arith}
 use Rattle.stm_core.specs.Books.{transaction, core_of}
 use Rattle.stm_core.specs.Advanced.{Ends}
 use Rattle.stm_core.specs.Advance.{Gone, core_with}
@@ -20,6 +20,7 @@ returns-clause-taken g c = λ w dry.
       gone = subst (λ n. Gone p c.args.length c.args.k n start before) (zero-add c.run_out-done.result.0) (c.run_out-done.ensures.gone w 0 start dry (gone_none p c.args.length c.args.k start));
       runs = runs_with w c.args.k m1 c.run_out-done.new.self.books c.run_out-done.new.work;
       mortal = refl;
+      room = λ lt. let n = c.run_out-done.ensures.steps in let h = c.requires.short in omega (arith, lt, n, h);
       count = c.settle.ensures.count c.args.most c.run_out-done.ensures.count;
       ends = subst (λ q. Ends q c.args.k (g.S.SegStore.reserved c.settle.new.self.store) (g.S.SegStore.meaning c.settle.new.self.store).limit before (transaction w (m1.part c.args.k) c.run_out-done.new.work) c.settle.result (core_of w (g.S.SegStore.meaning c.settle.new.self.store) c.settle.new.self.books))
           (λ i. g.C.Client.prog (c.run_out-done.ensures.rest i).client.now) (c.settle.ensures.ends w dry);

@@ -1,7 +1,7 @@
 use Rattle.std.proofs.Common.{◌≤◌, ap, subst, sym, ◌∙◌}
 use Rattle.py_data.specs.Changes.{after}
 use Rattle.seg_store.specs.Meaning.{sees}
-use Rattle.seg_store.specs.Store.{IsFull}
+use Rattle.stm_core.specs.Asking.{ChangeWants}
 use Rattle.stm_core.specs.Hold.{holding, FaultWhy}
 use Rattle.stm_core.proofs.Changing.{can_ready, can_moved, change_done, change_refused, change_held_at, runs_moved, after_moved}
 use Rattle.stm_core.proofs.segment.SegView.change.Goals as goal
@@ -36,5 +36,5 @@ returns-in-Err-change_held-clause-err g c =
     c.in-Err-change_held.fault c.refuse.result c.in-Ok.ensures.ok (ap g.S.SegStore.meaning c.refuse.ensures.store ∙ c.in-Err-change_held.ensures.err)
     (subst (λ n. g.S.SegStore.reserved c.hold.new.self.store.now ≤ n) same c.change_held.ensures.reserved)
     (c.refuse.ensures.books ∙ c.change_held.ensures.books) (c.refuse.ensures.progress ∙ c.change_held.ensures.progress) c.refuse.ensures.same c.refuse.ensures.stopped
-    (subst (λ k. FaultWhy (IsFull (sees m k) c.args.a.0 c.args.change) (g.S.SegStore.reserved c.refuse.new.self.store.now) m.limit c.in-Err-change_held.fault) c.in-Ok.ensures.stays.0
-    (subst (λ n. FaultWhy (IsFull (sees m c.hold.new.self.segment) c.args.a.0 c.args.change) n m.limit c.in-Err-change_held.fault) same c.in-Err-change_held.ensures.cause))
+    (subst (λ k. FaultWhy (ChangeWants c.args.change (sees m k) c.args.a.0) (g.S.SegStore.reserved c.refuse.new.self.store.now) m.limit c.in-Err-change_held.fault) c.in-Ok.ensures.stays.0
+    (subst (λ n. FaultWhy (ChangeWants c.args.change (sees m c.hold.new.self.segment) c.args.a.0) n m.limit c.in-Err-change_held.fault) same c.in-Err-change_held.ensures.cause))

@@ -1,5 +1,6 @@
-use Rattle.std.proofs.Common.{sym, ◌∙◌, ap, subst, ◌≤◌}
+use Rattle.std.proofs.Common.{None, sym, ◌∙◌, ap, subst, ◌≤◌}
 use Rattle.py_data.specs.Made.{rec_of}
+use Rattle.seg_store.specs.Extents.{Wants}
 use Rattle.stm_core.specs.Hold.{FaultWhy}
 use Rattle.stm_core.proofs.Seeing.{make_done, make_refused}
 use Rattle.stm_core.proofs.segment.SegViewView.make.Goals as goal
@@ -18,7 +19,7 @@ returns-in-Err g c = (
       (rec_of c.args.r.now) c.in-Err.fault c.refuse.result (ap g.S.SegStore.meaning c.refuse.ensures.store ∙ c.in-Err.ensures.err)
       (subst (λ n. g.S.SegStore.reserved c.args.self.now.store.now ≤ n) (sym (ap g.S.SegStore.reserved c.refuse.ensures.store)) c.name_made.ensures.reserved) (c.refuse.ensures.books ∙ c.name_made.ensures.books)
       (c.refuse.ensures.progress ∙ c.in-Err.ensures.same) c.refuse.ensures.same c.refuse.ensures.stopped
-      (subst (λ n. FaultWhy (Unit {0}) n (g.S.SegStore.meaning c.args.self.now.store.now).limit c.in-Err.fault) (sym (ap g.S.SegStore.reserved c.refuse.ensures.store)) c.in-Err.ensures.cause),
+      (subst (λ n. FaultWhy (Wants None (rec_of c.args.r.now)) n (g.S.SegStore.meaning c.args.self.now.store.now).limit c.in-Err.fault) (sym (ap g.S.SegStore.reserved c.refuse.ensures.store)) c.in-Err.ensures.cause),
   record {
     segment_is = c.refuse.ensures.stays.0 ∙ c.name_made.ensures.stays.0;
     me_is = c.refuse.ensures.stays.1 ∙ c.name_made.ensures.stays.1;
