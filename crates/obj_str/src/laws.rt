@@ -20,7 +20,7 @@ pub fn split_law()
     ensures { SplitLaw }
 {}
 
-/// `split` without a separator gives words, which are not empty and have no blanks.
+/// `split` without a separator gives words, which are not empty and have no blanks, and loses no byte but the blanks.
 pub fn words_law()
     ensures { WordsLaw }
 {}
@@ -31,7 +31,7 @@ pub fn replace_law()
     ensures { ReplaceLaw }
 {}
 
-/// `strip` twice is `strip`.
+/// `strip` takes nothing but blanks from the two ends, and leaves none there.
 pub fn strip_law()
     ensures { StripLaw }
 {}
