@@ -1,5 +1,5 @@
-//! What the functions on bytes mean, and that methods keep a heap in order, as laws: a call of such a function does nothing,
-//! and gives its caller's proof the facts of its clauses.
+//! What the functions on bytes mean, and that methods keep a heap in order, as laws: a call of such a function does
+//! nothing, and gives its caller's proof the facts of its clauses.
 ghost use Rattle.obj_str.specs.HoldsLaws.{StrHolds, StrSteady};
 ghost use Rattle.obj_str.specs.Laws.{EndsLaw, FindLaw, LettersLaw, ReplaceLaw, SplitLaw, StripLaw, WordsLaw};
 
