@@ -1,13 +1,13 @@
 -- What the functions on bytes mean, in words of texts and their parts.
 use Rattle.std.proofs.Common.{arith, ◌≡◌, ◌≢◌, ℕ, zero, suc, ◌+◌, ◌-◌, ◌<◌, ◌≤◌, Bool, true, false, cond, ◌&&◌, List, [], ◌∷◌, ◌++◌, length, take, drop, filter, map, Option, Some, None, refl, sym, ap, subst, ◌∙◌, length-append, take-append-drop, append_assoc}
-use Rattle.std.specs.Prelude.{◌==◌, option_map}
+use Rattle.std.specs.Prelude.{◌==◌, option_map, not}
 use Rattle.std.specs.Char.{to_ascii_uppercase, to_ascii_lowercase}
-use Rattle.std.proofs.lemmas.Bool.{eqb-true, cond-false, false≢true}
+use Rattle.std.proofs.lemmas.Bool.{eqb-true, cond-false, false≢true, cond-true}
 use Rattle.std.proofs.lemmas.Bool.Decides.{nat_tests}
 use Rattle.std.proofs.lemmas.Slice.Eq.{bytes_eq-Decides}
 use Rattle.py_data.specs.Every.{Every}
-use Rattle.obj_str.specs.Pieces.{begins, find, onto, cut, joined, split, is_blank, cut_blanks, has_bytes, upper, lower, between_all, replaced}
-use Rattle.obj_str.specs.Laws.{FindLaw, EndsLaw, SplitLaw, SharesNone, ReplaceLaw, IsWord, WordsLaw, StripLaw, LettersLaw}
+use Rattle.obj_str.specs.Pieces.{begins, find, onto, cut, joined, split, is_blank, cut_blanks, has_bytes, upper, lower, between_all, replaced, without_front, kept, without_end, strip}
+use Rattle.obj_str.specs.Laws.{FindLaw, EndsLaw, SplitLaw, SharesNone, ReplaceLaw, IsWord, is_other, flat, WordsLaw, IsBetween, StripLaw, LettersLaw}
 use Rattle.obj_str.proofs.BlankLemmas.{strip_twice}
 use Rattle.obj_str.proofs.Fitting.{joined_first}
 use Rattle.obj_str.proofs.PiecesLemmas.{and_both, behind, begins_front, first_split, cut_here, cut_later, cut_skip}
@@ -243,11 +243,76 @@ are_words [] i = tt
 are_words ([] ∷ ps) i = are_words ps i.1
 are_words ((b ∷ p) ∷ ps) i = ((refl, i.0), are_words ps i.1)
 
+-- ---- what strip takes away
+record Fronted (bs : List ℕ) : Type 0 where
+  left : List ℕ
+  is : bs ≡ left ++ without_front bs
+  blank : Every (λ b. is_blank b ≡ true) left
+
+fronted : (bs : List ℕ) → Fronted bs
+fronted [] = record { left = []; is = refl; blank = tt }
+fronted (b ∷ bs) = by (is_blank b) refl (fronted bs)
+  where
+    by : (t : Bool) → is_blank b ≡ t → Fronted bs → Fronted (b ∷ bs)
+    by true e f = record {
+      left = b ∷ f.left;
+      is = ap (λ l. b ∷ l) f.is ∙ ap (λ l. b ∷ (f.left ++ l)) (sym (cond-true (is_blank b) (without_front bs) (b ∷ bs) e));
+      blank = (e, f.blank);
+    }
+    by false e f = record { left = []; is = sym (cond-false (is_blank b) (without_front bs) (b ∷ bs) e); blank = tt }
+
+record Ended (bs : List ℕ) : Type 0 where
+  right : List ℕ
+  is : bs ≡ without_end bs ++ right
+  blank : Every (λ b. is_blank b ≡ true) right
+
+ended : (bs : List ℕ) → Ended bs
+ended [] = record { right = []; is = refl; blank = tt }
+ended (b ∷ bs) = by (without_end bs) refl (ended bs)
+  where
+    none : (t : Bool) → is_blank b ≡ t → (r : List ℕ) → bs ≡ r → Every (λ b. is_blank b ≡ true) r → without_end bs ≡ [] → Ended (b ∷ bs)
+    none true e r f i g =
+        let here : without_end (b ∷ bs) ≡ [] = ap (kept b) g ∙ cond-true (is_blank b) [] (b ∷ []) e in
+        record { right = b ∷ r; is = ap (λ l. b ∷ l) f ∙ ap (λ l. l ++ b ∷ r) (sym here); blank = (e, i) }
+    none false e r f i g =
+        let here : without_end (b ∷ bs) ≡ b ∷ [] = ap (kept b) g ∙ cond-false (is_blank b) [] (b ∷ []) e in
+        record { right = r; is = ap (λ l. b ∷ l) f ∙ ap (λ l. l ++ r) (sym here); blank = i }
+
+    by : (ys : List ℕ) → without_end bs ≡ ys → Ended bs → Ended (b ∷ bs)
+    by [] g f = none (is_blank b) refl f.right (f.is ∙ ap (λ l. l ++ f.right) g) f.blank g
+    by (y ∷ ys) g f =
+        let here : without_end (b ∷ bs) ≡ b ∷ without_end bs = ap (kept b) g ∙ ap (λ l. b ∷ l) (sym g) in
+        record { right = f.right; is = ap (λ l. b ∷ l) f.is ∙ ap (λ l. l ++ f.right) (sym here); blank = f.blank }
+
+stripped : (bs : List ℕ) → IsBetween bs (strip bs)
+stripped bs =
+    let f = fronted bs in
+    let e = ended (without_front bs) in
+    record { left = f.left; right = e.right; is = f.is ∙ ap (λ l. f.left ++ l) e.is; left_blank = f.blank; right_blank = e.blank }
+
+-- the bytes of pieces one behind another
+flat_onto : (b : ℕ) (ps : List (List ℕ)) → flat (onto b ps) ≡ b ∷ flat ps
+flat_onto b [] = refl
+flat_onto b (p ∷ ps) = refl
+
+flat_blanks : (bs : List ℕ) → flat (cut_blanks bs) ≡ filter is_other bs
+flat_blanks [] = refl
+flat_blanks (b ∷ bs) = by (is_blank b) (flat_blanks bs)
+  where
+    by : (t : Bool) → flat (cut_blanks bs) ≡ filter is_other bs → flat (cond t ([] ∷ cut_blanks bs) (onto b (cut_blanks bs))) ≡ cond (not t) (b ∷ filter is_other bs) (filter is_other bs)
+    by true e = e
+    by false e = flat_onto b (cut_blanks bs) ∙ ap (λ l. b ∷ l) e
+
+flat_words : (ps : List (List ℕ)) → flat (filter has_bytes ps) ≡ flat ps
+flat_words [] = refl
+flat_words ([] ∷ ps) = flat_words ps
+flat_words ((b ∷ p) ∷ ps) = ap (λ l. (b ∷ p) ++ l) (flat_words ps)
+
 pub words_law : WordsLaw
-words_law = record { words = λ bs. are_words (cut_blanks bs) (no_blanks bs) }
+words_law = record { are = λ bs. are_words (cut_blanks bs) (no_blanks bs); kept = λ bs. flat_words (cut_blanks bs) ∙ flat_blanks bs }
 
 pub strip_law : StripLaw
-strip_law = record { twice = strip_twice }
+strip_law = record { between = stripped; twice = strip_twice }
 
 -- ---- letters
 upper_byte : (b : ℕ) → to_ascii_uppercase (to_ascii_lowercase b) ≡ to_ascii_uppercase b

@@ -1,5 +1,5 @@
 -- What the functions on bytes mean, in words of texts and their parts. States `docs/LANGUAGE.md`, "Methods of strings".
-use Rattle.std.specs.Prelude.{◌≡◌, ◌≢◌, ◌<◌, ◌≤◌, ℕ, true, false, List, [], ◌-◌, ◌++◌, length, take, drop, Some, None}
+use Rattle.std.specs.Prelude.{◌≡◌, ◌≢◌, ◌<◌, ◌≤◌, ℕ, true, false, List, [], ◌-◌, ◌++◌, length, take, drop, Some, None, ◌∷◌, Bool, filter, not}
 use Rattle.py_data.specs.Every.{Every}
 use Rattle.obj_str.specs.Pieces.{begins, ends, find, joined, split, words, has_bytes, is_blank, strip, upper, lower, replaced}
 
@@ -35,12 +35,31 @@ pub record ReplaceLaw : Type 0 where
 abbrev pub IsWord : List ℕ → Type 0
 IsWord p = (has_bytes p ≡ true) × Every (λ b. is_blank b ≡ false) p
 
--- `split` by blanks gives words
-pub record WordsLaw : Type 0 where
-  pub words : (bs : List ℕ) → Every IsWord (words bs)
+-- a byte that is no blank
+abbrev pub is_other : ℕ → Bool
+is_other b = not (is_blank b)
 
--- `strip` twice is `strip`
+-- pieces one behind another
+abbrev pub flat : List (List ℕ) → List ℕ
+flat [] = []
+flat (p ∷ ps) = p ++ flat ps
+
+-- `split` by blanks gives words, and loses no byte but the blanks
+pub record WordsLaw : Type 0 where
+  pub are : (bs : List ℕ) → Every IsWord (words bs)
+  pub kept : (bs : List ℕ) → flat (words bs) ≡ filter is_other bs
+
+-- a text is blanks, then this one, then blanks
+pub record IsBetween (bs text : List ℕ) : Type 0 where
+  pub left : List ℕ
+  pub right : List ℕ
+  pub is : bs ≡ left ++ (text ++ right)
+  pub left_blank : Every (λ b. is_blank b ≡ true) left
+  pub right_blank : Every (λ b. is_blank b ≡ true) right
+
+-- `strip` takes nothing but blanks from the ends, and leaves none there: twice is once
 pub record StripLaw : Type 0 where
+  pub between : (bs : List ℕ) → IsBetween bs (strip bs)
   pub twice : (bs : List ℕ) → strip (strip bs) ≡ strip bs
 
 -- of a text in small letters `upper` is what it is of the text, and the other way round; both keep the length

@@ -33,8 +33,8 @@ fn cut_word(bytes: &[u8]) -> Option<(&[u8], &[u8])>
     Some((first(rest, n), skip(rest, n)))
 }
 
-/// The first piece, and what stands behind it. None where what is left is the piece behind the last separator, or has no
-/// word.
+/// The first piece, and what stands behind it. None where what is left is the piece behind the last separator, or has
+/// no word.
 pub fn cut_next<'a>(separator: &Option<Finder<'_>>, bytes: &'a [u8]) -> Option<(&'a [u8], &'a [u8])>
     requires some { IfSome separator.now (λ s. 0 < length s) }
     ensures pieces { MatchOption result (pieces_of separator.now bytes.now ≡ last_of separator.now bytes.now) (λ p. pieces_of separator.now bytes.now ≡ p.0.now ∷ pieces_of separator.now p.1.now) }

@@ -1,5 +1,5 @@
-//! What the functions on bytes mean, and that methods keep a heap in order, as laws: a call of such a function does nothing,
-//! and gives its caller's proof the facts of its clauses.
+//! What the functions on bytes mean, and that methods keep a heap in order, as laws: a call of such a function does
+//! nothing, and gives its caller's proof the facts of its clauses.
 ghost use Rattle.obj_str.specs.HoldsLaws.{StrHolds, StrSteady};
 ghost use Rattle.obj_str.specs.Laws.{EndsLaw, FindLaw, LettersLaw, ReplaceLaw, SplitLaw, StripLaw, WordsLaw};
 
@@ -20,7 +20,7 @@ pub fn split_law()
     ensures { SplitLaw }
 {}
 
-/// `split` without a separator gives words, which are not empty and have no blanks.
+/// `split` without a separator gives words, which are not empty and have no blanks, and loses no byte but the blanks.
 pub fn words_law()
     ensures { WordsLaw }
 {}
@@ -31,7 +31,7 @@ pub fn replace_law()
     ensures { ReplaceLaw }
 {}
 
-/// `strip` twice is `strip`.
+/// `strip` takes nothing but blanks from the two ends, and leaves none there.
 pub fn strip_law()
     ensures { StripLaw }
 {}
