@@ -109,8 +109,7 @@ fn operate<S, V: View<S>>(
     operate_with(alloc, v, roots, op, p, y)
 }
 
-/// An operator of two operands, by its number; `roots` is the address of the tuple of the program's constants, which the
-/// text of an exception may need.
+/// An operator of two operands, by its number. `roots` is for the text of a value, which `%` writes.
 ///
 /// TypeError for operands of types that the operator isn't for, before anything else; then ZeroDivisionError or
 /// ValueError for a divisor 0, a negative shift count or exponent; then OverflowError where 64 bits don't hold the number,
