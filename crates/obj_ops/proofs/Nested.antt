@@ -23,8 +23,6 @@ use Rattle.obj_str.specs.Strings.{made_text, new_text}
 use Rattle.obj_nest.specs.Equal.{equal_row}
 use Rattle.obj_nest.specs.Ordering.{order_row}
 use Rattle.obj_nest.specs.Text.{text_row}
-
-
 pub use Rattle.obj_ops.proofs.Faults.{IsAny}
 
 module _ (S : Type 0) (rules : Rules) (h : Heap) (order : IsOrdered rules h) where
