@@ -1,4 +1,0 @@
-pub mod Equal
-pub mod Ordering
-pub mod Truth
-pub mod Text
