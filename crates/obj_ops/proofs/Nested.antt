@@ -13,7 +13,6 @@ use Rattle.obj_nest.specs.Ordering.{order_row}
 use Rattle.obj_nest.specs.Text.{spelling, text_of, text_row}
 use Rattle.obj_nest.proofs.NestLooks as nest
 use Rattle.obj_ops.proofs.Faults.{equal_can, order_can, repr_can, str_can}
-
 pub use Rattle.obj_ops.proofs.Faults.{IsAny}
 pub use Rattle.obj_str.proofs.StrHolds.{new_text_holds}
 
