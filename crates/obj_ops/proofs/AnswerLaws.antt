@@ -1,15 +1,14 @@
 -- What operators answer, in words of numbers and of lists.
-use Rattle.std.proofs.Common.{arith, ◌≡◌, ◌≢◌, ℕ, ℤ, pos, ◌+◌, Bool, true, false, cond, leb, List, [], ◌++◌, length, Some, refl, sym, ap, subst, ◌∙◌, length-append}
+use Rattle.std.proofs.Common.{◌≡◌, ◌≢◌, ℕ, ℤ, pos, ◌+◌, Bool, true, false, cond, leb, List, [], ◌++◌, length, Some, refl, sym, ap, subst, ◌∙◌, length-append}
 use Rattle.std.specs.Ordering.{int_eq}
 use Rattle.py_base.specs.declared.kind.Kind.{Kind}
 use Rattle.py_data.specs.declared.value.Value.{Value}
 use Rattle.py_data.specs.declared.value.Value.TheVariants.{Int, Ref}
-use Rattle.py_data.specs.declared.record.Got.{Got}
 use Rattle.py_data.specs.declared.record.Got.TheVariants.{Is, Raise}
 use Rattle.py_data.specs.declared.record.TheConstants.{LENGTH_LIMIT}
 use Rattle.py_data.specs.Arithmetic.{floor_quotient, floor_remainder, IsFloorDivision}
 use Rattle.py_data.specs.Fault.{memory_fault}
-use Rattle.py_data.specs.Heap.{Rec, new_rec}
+use Rattle.py_data.specs.Heap.{new_rec}
 use Rattle.py_data.specs.Row.{Ret, Read, Make, bind}
 use Rattle.py_data.specs.Sense.{Sense, Lawful, Run}
 use Rattle.py_data.proofs.FloorDivision.{divides}
@@ -17,7 +16,7 @@ use Rattle.py_data.proofs.Same.{one_rec}
 use Rattle.py_data.proofs.Steps.{put-here}
 use Rattle.obj_ops.specs.Numbers.{is_narrow, narrowed, divided, calculated, zero_fault, overflow_fault}
 use Rattle.obj_ops.specs.Sequences.{values_row, made_row, new_items, joined_with, joined_items}
-use Rattle.obj_ops.specs.Laws.{DivisionLaw, IsJoined, JoinLaw}
+use Rattle.obj_ops.specs.Laws.{DivisionLaw, JoinLaw}
 
 -- ---- numbers
 narrow_is : (z q : ℤ) → narrowed z ≡ Is (Int q) → z ≡ q

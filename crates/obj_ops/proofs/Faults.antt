@@ -1,5 +1,5 @@
 -- Equality, order and texts of values answer, or raise an exception that can be made.
-use Rattle.std.proofs.Common.{◌≡◌, ℕ, zero, suc, ◌+◌, Bool, true, false, cond, eqb, ℤ, List, [], ◌∷◌, ◌++◌, length, Option, Some, None, lit<, codes}
+use Rattle.std.proofs.Common.{ℕ, zero, suc, ◌+◌, Bool, true, false, cond, eqb, ℤ, List, [], ◌∷◌, length, Option, Some, None, lit<}
 use Rattle.std.specs.declared.cmp.Ordering.{Ordering}
 use Rattle.py_base.specs.declared.kind.Kind.{Kind}
 use Rattle.py_base.specs.declared.kind.Kind.TheVariants.{Str, Tuple, List as ListKind, Dict, Cell, Function, Class, Instance, Method, Iter, Range, Lock, Thread}
@@ -10,7 +10,7 @@ use Rattle.py_data.specs.declared.record.Got.TheVariants.{Is, Raise}
 use Rattle.py_data.specs.Heap.{Rec, Heap, at, value_at}
 use Rattle.py_data.specs.Shape.{find}
 use Rattle.py_data.specs.Comparing.{Under, equal_items, equal_found, equal_pairs, equal_kinds, equal_by, equal_within, equal, and_then, of_one_length, number_of, order_then, order_items, order_numbers, order_records, order_by, order_within, order}
-use Rattle.py_data.specs.Texts.{Spelling, Parts, got_then, more_texts, item_texts, pair_text, more_pairs, pair_texts, between, in_level, record_text, repr_by, repr_within, repr, str_by, str}
+use Rattle.py_data.specs.Texts.{Spelling, Parts, got_then, more_texts, item_texts, pair_text, more_pairs, pair_texts, record_text, repr_by, repr_within, repr, str_by, str}
 use Rattle.py_data.specs.Answers.{IsGot}
 
 -- an answer of any kind

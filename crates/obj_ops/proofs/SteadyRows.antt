@@ -10,10 +10,10 @@ use Rattle.py_data.specs.declared.change.Change.TheVariants as change
 use Rattle.py_data.specs.declared.record.Got.{Got}
 use Rattle.py_data.specs.declared.record.Got.TheVariants.{Is, Raise}
 use Rattle.py_data.specs.declared.record.TheConstants.{LENGTH_LIMIT}
-use Rattle.py_data.specs.Fault.{memory_fault, operand_fault, hash_fault}
+use Rattle.py_data.specs.Fault.{memory_fault, hash_fault}
 use Rattle.py_data.specs.Heap.{Rec, new_rec, value_at}
 use Rattle.py_data.specs.Shape.{is_key_kind}
-use Rattle.py_data.specs.Comparing.{number_of, is_same}
+use Rattle.py_data.specs.Comparing.{number_of}
 use Rattle.py_data.specs.Texts.{got_then}
 use Rattle.py_data.specs.Row.{Row, Ret, Do, Read, Find, Edit, Make, bind}
 use Rattle.py_data.specs.Looking.{until_row, each_row, got_row, size_row, look_row, bytes_row}

@@ -1,5 +1,5 @@
 -- What operators answer, in words of numbers and of lists. States `docs/LANGUAGE.md`, "Arithmetic" and "Operators on sequences".
-use Rattle.std.specs.Prelude.{◌≡◌, ℕ, ℤ, ◌+◌, List, [], ◌++◌, length, Some}
+use Rattle.std.specs.Prelude.{◌≡◌, ℕ, ℤ, ◌+◌, [], ◌++◌, length, Some}
 use Rattle.py_base.specs.declared.kind.Kind.{Kind}
 use Rattle.py_data.specs.declared.value.Value.{Value}
 use Rattle.py_data.specs.declared.value.Value.TheVariants.{Int, Ref}

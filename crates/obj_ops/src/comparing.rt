@@ -130,8 +130,8 @@ fn compare_by<S, V: View<S>>(
 }
 
 /// A comparing operator, by its number; it answers a truth value. `<`, `>`, `<=` and `>=` of values that have no order
-/// raise TypeError, and so do `in` and `not in` where the right value can't be looked into. RuntimeError where values are
-/// nested deeper than 100 levels up to what decides.
+/// raise TypeError, and so do `in` and `not in` where the right value can't be looked into. RuntimeError where values
+/// are nested deeper than 100 levels up to what decides.
 #[tactic(auto, using(py_data::proofs::Rows::row_steps), unfolding(crate::specs::Compare::compare_row))]
 pub fn compare<S, V: View<S>>(
     alloc: Global,

@@ -226,8 +226,8 @@ fn has<S, V: View<S>>(alloc: Global, v: &mut V, x: Value, c: Container) -> Resul
     }
 }
 
-/// Whether a value is in another: an equal item of a list or tuple, a key of a dictionary, bytes within a string, a number
-/// of a range. TypeError for all else, and for what is no string before `in` a string.
+/// Whether a value is in another: an equal item of a list or tuple, a key of a dictionary, bytes within a string, a
+/// number of a range. TypeError for all else, and for what is no string before `in` a string.
 #[tactic(auto, using(py_data::proofs::Rows::row_steps, py_data::proofs::Steps::call_steps), unfolding(crate::specs::Contains::contains_row))]
 pub fn contains<S, V: View<S>>(
     alloc: Global,

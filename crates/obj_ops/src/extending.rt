@@ -27,8 +27,8 @@ fn push_all<S, V: View<S>>(v: &mut V, a: Addr, values: &Values) -> Result<(), St
     Ok(())
 }
 
-/// Puts values at the end of a list of `n` items, and answers the list. MemoryError, before the first one, where there would
-/// be too many.
+/// Puts values at the end of a list of `n` items, and answers the list. MemoryError, before the first one, where there
+/// would be too many.
 #[tactic(auto, using(py_data::proofs::Rows::row_steps, py_data::proofs::Steps::call_steps), unfolding(crate::specs::InPlace::pushed_row))]
 fn push_short<S, V: View<S>>(
     v: &mut V,
@@ -122,9 +122,9 @@ fn change<S, V: View<S>>(
     extend_kept(alloc, v, roots, op, p, y, kept_list(op, p))
 }
 
-/// An operator in place, by its number. `+=` appends the items of anything that can be gone through to the list on the left,
-/// and answers that list: TypeError, `not iterable`, for what can't be gone through; MemoryError, before the first item,
-/// where the list would have more than `LENGTH_LIMIT`. In all else it does what `binary` does.
+/// An operator in place, by its number. `+=` appends the items of anything that can be gone through to the list on the
+/// left, and answers that list: TypeError, `not iterable`, for what can't be gone through; MemoryError, before the
+/// first item, where the list would have more than `LENGTH_LIMIT`. In all else it does what `binary` does.
 #[tactic(auto, using(py_data::proofs::Rows::row_steps), unfolding(crate::specs::InPlace::in_place_row))]
 pub fn in_place<S, V: View<S>>(
     alloc: Global,

@@ -109,13 +109,12 @@ fn operate<S, V: View<S>>(
     operate_with(alloc, v, roots, op, p, y)
 }
 
-/// An operator of two operands, by its number; `roots` is the address of the tuple of the program's constants, which the
-/// text of an exception may need.
+/// An operator of two operands, by its number. `roots` is for the text of a value, which `%` writes.
 ///
 /// TypeError for operands of types that the operator isn't for, before anything else; then ZeroDivisionError or
-/// ValueError for a divisor 0, a negative shift count or exponent; then OverflowError where 64 bits don't hold the number,
-/// MemoryError where a sequence or string would have more than `LENGTH_LIMIT` items or bytes. `%` with a string on the
-/// left is `format_with`.
+/// ValueError for a divisor 0, a negative shift count or exponent; then OverflowError where 64 bits don't hold the
+/// number, MemoryError where a sequence or string would have more than `LENGTH_LIMIT` items or bytes. `%` with a string
+/// on the left is `format_with`.
 #[tactic(auto, using(py_data::proofs::Rows::row_steps), unfolding(crate::specs::Binary::binary_row))]
 pub fn binary<S, V: View<S>>(
     alloc: Global,
