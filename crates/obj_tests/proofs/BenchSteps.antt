@@ -1,5 +1,5 @@
 -- What an operation leaves over a view whose heap is in order.
-use Rattle.std.proofs.Common.{arith, ◌≡◌, ℕ, ℤ, ◌<◌, Bool, false, List, [], ◌∷◌, ◌++◌, length, take, Ok, refl, sym, ap, subst, ◌∙◌}
+use Rattle.std.proofs.Common.{arith, ◌≡◌, ℕ, ℤ, ◌<◌, Bool, false, List, [], ◌∷◌, ◌++◌, length, remove, take, Ok, refl, sym, ap, subst, ◌∙◌}
 use Rattle.std.specs.Prelude.{slice_index_or}
 use Rattle.py_data.specs.declared.value.Value.{Value}
 use Rattle.py_data.specs.declared.value.Value.TheVariants.{Unset, Int, Ref}
@@ -15,7 +15,7 @@ use Rattle.py_data.specs.Holds.{Holds}
 use Rattle.py_data.specs.Looking.{Looks}
 use Rattle.py_data.specs.Row.{Row, Ret, Do, Read, Make}
 use Rattle.py_data.specs.Sense.{Sense, Lawful, Asks, Safe, Meets, ShownOf}
-use Rattle.py_data.proofs.EveryLemmas.{every_and, every_take}
+use Rattle.py_data.proofs.EveryLemmas.{every_and, every_less, every_take}
 use Rattle.py_data.proofs.Holding.{holds_ret, holds_safe, holds_run}
 use Rattle.py_data.proofs.HoldingCalls.{holds_make}
 use Rattle.py_data.proofs.Making.{made_fits}
@@ -60,6 +60,9 @@ module _ {S X : Type 0} {u : Sense S X} {stack : List Value} {v : X} where
   -- a further value, and the first ones
   pub good_push : (x : Value) → GoodWith u (λ x h. IsItem h x) stack x v → Good u (stack ++ x ∷ []) v
   good_push x g = record { whole = g.good.whole; live = g.good.live; order = g.good.order; items = every_and (IsItem (u.heap v)) stack (x ∷ []) g.good.items (g.answer, tt) }
+
+  pub good_less : (n : ℕ) → Good u stack v → Good u (remove stack n) v
+  good_less n g = record { whole = g.whole; live = g.live; order = g.order; items = every_less (IsItem (u.heap v)) stack n g.items }
 
   pub good_take : (n : ℕ) → Good u stack v → Good u (take n stack) v
   good_take n g = record { whole = g.whole; live = g.live; order = g.order; items = every_take (IsItem (u.heap v)) stack n g.items }

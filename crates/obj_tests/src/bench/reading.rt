@@ -41,7 +41,7 @@ fn number(digits: &[u8]) -> Option<i64> {
 
 /// A count in decimal, behind the first byte of a word.
 fn count(word: &[u8]) -> Option<usize> {
-    match number(&word[1..]) {
+    match number(skip(word, 1)) {
         Some(n) if n >= 0 && n <= 1_048_577 => Some(n as usize),
         _ => None,
     }

@@ -88,11 +88,9 @@ pub fn swap<V: View<u8> + Drop>(bench: Bench<V>) -> Result<Bench<V>, Halt>
     if n < 2 {
         return Err(Halt::Bad);
     }
-    let x = stack.at(n - 1);
-    let y = stack.at(n - 2);
-    stack.set(n - 2, x);
-    stack.set(n - 1, y);
-    Ok(Bench { alloc, view, stack })
+    let x = stack.at(n - 2);
+    stack.remove(n - 2);
+    push(alloc, view, stack, x)
 }
 
 /// The values above the first `n` go.
