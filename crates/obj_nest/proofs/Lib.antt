@@ -14,3 +14,4 @@ pub mod KeyLemmas
 pub mod PairSearch
 pub mod PairMatches
 pub mod EqualSame
+pub mod CalmRows

@@ -1,6 +1,6 @@
 //! What the operations on nested values answer, as laws: a call of such a function does nothing, and gives its
 //! caller's proof the facts of its clauses.
-ghost use Rattle.obj_nest.specs.Laws.{EqualLaw, IsNumber, IsString, NestLooks, TotalLaw};
+ghost use Rattle.obj_nest.specs.Laws.{EqualLaw, IsNumber, IsString, NestCalm, NestLooks, TotalLaw};
 
 use py_data::Demands;
 
@@ -8,6 +8,11 @@ use py_data::Demands;
 /// their definitions say.
 pub fn looks_law<S, D: Demands<S>>()
     ensures { NestLooks S D.rules }
+{}
+
+/// None of them makes a record shorter, so they may stand anywhere in the course of a step that makes one longer.
+pub fn calm_law<S>()
+    ensures { NestCalm S }
 {}
 
 /// Equality of the items of a heap in order is an equivalence.

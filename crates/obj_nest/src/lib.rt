@@ -13,7 +13,7 @@ mod texts;
 mod truths;
 
 pub use equality::equal;
-pub use laws::{equal_law, looks_law, order_law};
+pub use laws::{calm_law, equal_law, looks_law, order_law};
 pub use levels::LEVELS;
 pub use looking::{kind, look, size};
 pub use ordering::order;

@@ -13,7 +13,7 @@ use Rattle.py_data.specs.declared.record.Got.{Got}
 use Rattle.py_data.specs.declared.record.Got.TheVariants.{Is, Raise}
 use Rattle.py_data.specs.declared.record.TheConstants.{LENGTH_LIMIT}
 use Rattle.py_data.specs.Every.{Every}
-use Rattle.py_data.specs.Fault.{memory_fault, operand_fault}
+use Rattle.py_data.specs.Fault.{memory_fault, operand_fault, argument_fault}
 use Rattle.py_data.specs.Heap.{Rec, Heap, new_rec, value_at}
 use Rattle.py_data.specs.Changes.{after}
 use Rattle.py_data.specs.Shape.{KindIn}
@@ -57,7 +57,7 @@ use Rattle.obj_ops.specs.declared.contain.Container.TheVariants.{Items, Pairs, B
 use Rattle.obj_ops.specs.Numbers.{operator_of, sign_of}
 use Rattle.obj_ops.specs.Operands.{operand_row, case_of}
 use Rattle.obj_ops.specs.Sequences.{values_row, made_row, new_items, joined_with, joined_items, joined_text_with, joined_texts, times, repeated_items, new_repeated, repeated_text}
-use Rattle.obj_ops.specs.Format.{argument_fault, format_fault, pieces, asked, grown, number_grown, number_in, text_grown, piece_row, piece_at, pieces_row, finished, formatted_row, arguments_row, template_row, format_row}
+use Rattle.obj_ops.specs.Format.{format_fault, pieces, asked, grown, number_grown, number_in, text_grown, piece_row, piece_at, pieces_row, finished, formatted_row, arguments_row, template_row, format_row}
 use Rattle.obj_ops.specs.Binary.{unary_row, signed_value, calculated_case, case_row, operand_with, operated_row, binary_row}
 use Rattle.obj_ops.specs.InPlace.{push_row, pushed_row, appended_row, extended_row, kept_list, kept_row, changed_row, in_place_row}
 use Rattle.obj_ops.specs.Contains.{container_of, container_row, item_row, goes_on, items_row, part_row, text_in_row, is_among, is_key_there, contained_row, contains_row}

@@ -8,7 +8,7 @@ use Rattle.py_data.specs.declared.record.Got.{Got}
 use Rattle.py_data.specs.declared.record.Got.TheVariants.{Is, Raise}
 use Rattle.py_data.specs.declared.record.Fault.{Fault}
 use Rattle.py_data.specs.declared.record.TheConstants.{LENGTH_LIMIT}
-use Rattle.py_data.specs.Fault.{text_fault, memory_fault}
+use Rattle.py_data.specs.Fault.{text_fault, memory_fault, argument_fault}
 use Rattle.py_data.specs.Comparing.{number_of}
 use Rattle.py_data.specs.Texts.{got_then}
 use Rattle.py_data.specs.Row.{Row, Ret, bind}
@@ -18,10 +18,6 @@ use Rattle.obj_nest.specs.Text.{text_row}
 use Rattle.obj_ops.specs.declared.format.Piece.{Piece}
 use Rattle.obj_ops.specs.declared.format.Piece.TheVariants.{Byte, Number, Text, Unknown}
 use Rattle.obj_ops.specs.Sequences.{values_row}
-
--- arguments are missing or left, or one is of another type
-abbrev pub argument_fault : Fault
-argument_fault = text_fault (class_number (codes "TypeError")) (codes "wrong arguments")
 
 -- a percent sign stands before another byte than `d`, `s` and `%`, or last
 abbrev pub format_fault : Fault

@@ -26,17 +26,6 @@ pub record OpsHold {S : Type 0} (rules : Rules) (stands : Heap → S → Type 0)
 
 -- ---- steady rows
 
--- a row that makes nothing shorter, whatever grew before it
-abbrev pub Calm : {S A : Type 0} → Row S A → Type 0
-Calm row = (grown : Bool) → Steady grown row
-
--- what is asked of the rows of nested values and of new strings
-pub record NestedCalm (S : Type 0) : Type 0 where
-  pub equal : (x y : Value) → Calm {S = S} (equal_row x y)
-  pub order : (x y : Value) → Calm {S = S} (order_row x y)
-  pub text : (roots : ℕ) (x : Value) (quoted : Bool) → Calm {S = S} (text_row roots x quoted)
-  pub new_text : (bs : List ℕ) → Calm {S = S} (new_text bs)
-
 pub record OpsSteady (S : Type 0) : Type 0 where
   pub unary : (op : ℕ) (x : Value) → Steady {S = S} false (unary_row op x)
   pub binary : (roots op : ℕ) (x y : Value) → Steady {S = S} false (binary_row roots op x y)

@@ -1,7 +1,7 @@
 //! What operators answer, that they keep a heap in order and that they are steady, as laws: a call of such a function
 //! does nothing, and gives its caller's proof the facts of its clauses.
 ghost use Rattle.obj_ops.specs.Laws.{DivisionLaw, JoinLaw};
-ghost use Rattle.obj_ops.specs.HoldsLaws.{NestedCalm, OpsHold, OpsSteady};
+ghost use Rattle.obj_ops.specs.HoldsLaws.{OpsHold, OpsSteady};
 
 use py_data::{Demands, View};
 
@@ -21,8 +21,7 @@ pub fn holds_law<S, D: Demands<S>>()
     ensures { OpsHold D.rules D.stands }
 {}
 
-/// In the course of an operator no record is longer than before it or at its end, where that holds of what is done with
-/// nested values, and of new strings.
+/// In the course of an operator no record is longer than before it or at its end.
 pub fn steady_law<S>()
-    ensures { NestedCalm S → OpsSteady S }
+    ensures { OpsSteady S }
 {}

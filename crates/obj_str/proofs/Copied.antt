@@ -12,9 +12,10 @@ use Rattle.py_data.specs.Sense.{Sense, Lawful, Asks, Meets, Safe, IsLive, Run, S
 use Rattle.py_data.specs.Looking.{bytes_row}
 use Rattle.py_data.proofs.Rows.{read-heap, again, meets-do, meets-ret}
 use Rattle.py_data.proofs.Steps.{stands-again, stands-read, there-is}
+use Rattle.py_data.specs.Fault.{argument_fault}
 use Rattle.obj_seq.proofs.AfterLook.{looked-record, leads-looked}
 use Rattle.obj_seq.specs.Iter.{is_str}
-use Rattle.obj_str.specs.Methods.{text_in, text_at, argument_fault}
+use Rattle.obj_str.specs.Methods.{text_in, text_at}
 
 -- a look that shows the length, and another one that copies so many bytes
 pub bytes_met : {S X : Type 0} {u : Sense S X} (L : Lawful u) (a n : ℕ) (v m w : X) (got out : List ℕ) → u.does (Read a) v (at (u.heap v) a) m → n ≡ length (at (u.heap v) a).bytes → u.does (Read a) m (at (u.heap m) a) w

@@ -12,13 +12,14 @@ use Rattle.py_data.specs.declared.record.TheConstants.{LENGTH_LIMIT}
 use Rattle.py_data.specs.Answers.{IsFault, IsGot, IsAnswer, IfItem}
 use Rattle.py_data.specs.Closed.{IsItem}
 use Rattle.py_data.specs.Every.{Every}
-use Rattle.py_data.specs.Fault.{memory_fault, operand_fault}
+use Rattle.py_data.specs.Fault.{memory_fault, operand_fault, argument_fault}
 use Rattle.py_data.specs.Heap.{Heap, Rec, new_rec}
 use Rattle.py_data.specs.Holds.{Holds}
 use Rattle.py_data.specs.Looking.{bytes_row, got_row}
 use Rattle.py_data.specs.Order.{Rules, IsOrdered, Extends}
 use Rattle.py_data.specs.Row.{Row, Ret, Do, Read, Make, bind}
-use Rattle.py_data.specs.Steady.{Steady, grows}
+use Rattle.py_data.specs.Steady.{Steady, Calm}
+use Rattle.py_data.proofs.CalmRows.{ret_calm, read_calm, make_calm, cond_calm, bind_steady, bind_calm, got_calm, bytes_calm}
 use Rattle.py_data.proofs.EveryLemmas.{every_and, every_weaken}
 use Rattle.py_data.proofs.Holding.{holds_ret, holds_bind}
 use Rattle.py_data.proofs.HoldingCalls.{holds_read, holds_make, holds_looks}
@@ -33,7 +34,7 @@ use Rattle.obj_seq.specs.Gather.{gather_row}
 use Rattle.obj_seq.specs.Iter.{is_str}
 use Rattle.obj_str.specs.Cutting.{pieces_of}
 use Rattle.obj_str.specs.HoldsLaws.{IsStrAt, StrHolds, StrSteady}
-use Rattle.obj_str.specs.Methods.{argument_fault, separator_fault, only, both, text_in, text_at, text_item, texts_then, texts_row, items_row, join_with, piece_row, strings_then, new_list, list_row, cut_row, cut_at, is_none, split_at, split_with, split_row, bare_row, part_in, part_with, begins_value, ends_value, place_value, find_value, replace_in, replace_by, replace_with, method_row}
+use Rattle.obj_str.specs.Methods.{separator_fault, only, both, text_in, text_at, text_item, texts_then, texts_row, items_row, join_with, piece_row, strings_then, new_list, list_row, cut_row, cut_at, is_none, split_at, split_with, split_row, bare_row, part_in, part_with, begins_value, ends_value, place_value, find_value, replace_in, replace_by, replace_with, method_row}
 use Rattle.obj_str.specs.Pieces.{begins, ends, find, is_blank, onto, cut, split, cut_blanks, joined, has_bytes, strip, upper, lower, replaced}
 use Rattle.obj_str.specs.Strings.{made_text, new_text}
 
@@ -268,58 +269,25 @@ module _ {S : Type 0} (rules : Rules) (stands : Heap → S → Type 0) where
 
 -- ---- steady
 module _ (S : Type 0) where
-  -- a row that nothing makes shorter
-  abbrev Calm : {A : Type 0} → Row S A → Type 0
-  Calm row = (g : Bool) → Steady g row
-
-  ret_calm : {A : Type 0} (x : A) → Calm (Ret x)
-  unfolding Steady
-  ret_calm x g = tt
-
-  never : (g : Bool) → (g && false) ≡ false
-  never true = refl
-  never false = refl
-
-  read_calm : {A : Type 0} (a : ℕ) (k : Rec → Row S A) → ((r : Rec) → Calm (k r)) → Calm (Do (Read a) k)
-  unfolding Steady
-  read_calm a k n g = (never g, λ r. n r (g || false))
-
-  make_calm : {A : Type 0} (r : Rec) (k : ℕ → Row S A) → ((a : ℕ) → Calm (k a)) → Calm (Do (Make r) k)
-  unfolding Steady
-  make_calm r k n g = (never g, λ a. n a (g || true))
-
-  cond_calm : {A : Type 0} (b : Bool) (p q : Row S A) → Calm p → Calm q → Calm (cond b p q)
-  cond_calm true p q s t = s
-  cond_calm false p q s t = t
-
-  bind_steady : {A B : Type 0} (g : Bool) (row : Row S A) (f : A → Row S B) → Steady g row → ((a : A) → Calm (f a)) → Steady g (bind row f)
-  unfolding Steady bind
-  bind_steady g (Ret a) f s n = n a g
-  bind_steady g (Do c k) f s n = (s.0, λ r. bind_steady (g || grows c) (k r) f (s.1 r) n)
-
-  got_calm : {A B : Type 0} (f : A → Row S (Got B)) → ((a : A) → Calm (f a)) → (x : Got A) → Calm (got_row f x)
-  got_calm f n (Is a) = n a
-  got_calm f n (Raise e) = ret_calm (Raise e)
-
-  bytes_calm : {A : Type 0} (a : ℕ) (k : List ℕ → Row S A) → ((bs : List ℕ) → Calm (k bs)) → Calm (bind (bytes_row a) k)
-  unfolding bytes_row bind
-  bytes_calm a k n = read_calm a (λ r. k r.bytes) (λ r. n r.bytes)
+  -- the bytes of a string, and what follows
+  then_calm : {A : Type 0} (a : ℕ) (k : List ℕ → Row S A) → ((bs : List ℕ) → Calm (k bs)) → Calm (bind (bytes_row a) k)
+  then_calm a k n = bind_calm S (bytes_row a) k (bytes_calm S a) n
 
   text_calm : (x : Value) → Calm (text_item x)
   unfolding text_item text_at
-  text_calm (Ref a) = read_calm a.0 text_in (λ r. cond_calm (is_str r.kind) (Ret (Is r.bytes)) (Ret (Raise argument_fault)) (ret_calm _) (ret_calm _))
-  text_calm Unset = ret_calm _
-  text_calm NoneValue = ret_calm _
-  text_calm (BoolValue b) = ret_calm _
-  text_calm (Int i) = ret_calm _
-  text_calm (Builtin b) = ret_calm _
+  text_calm (Ref a) = read_calm S a.0 text_in (λ r. cond_calm S (is_str r.kind) (Ret (Is r.bytes)) (Ret (Raise argument_fault)) (ret_calm S _) (ret_calm S _))
+  text_calm Unset = ret_calm S _
+  text_calm NoneValue = ret_calm S _
+  text_calm (BoolValue b) = ret_calm S _
+  text_calm (Int i) = ret_calm S _
+  text_calm (Builtin b) = ret_calm S _
 
   with_calm : {B : Type 0} (x : Value) (f : List ℕ → Row S (Got B)) → ((p : List ℕ) → Calm (f p)) → Calm (bind (text_item x) (got_row f))
-  with_calm x f n g = bind_steady g (text_item x) (got_row f) (text_calm x g) (got_calm f n)
+  with_calm x f n g = bind_steady S g (text_item x) (got_row f) (text_calm x g) (got_calm S f n)
 
-  new_text_calm : (bs : List ℕ) → Calm (new_text bs)
+  pub new_text_calm : (bs : List ℕ) → Calm (new_text bs)
   unfolding new_text
-  new_text_calm bs = cond_calm (leb (length bs) LENGTH_LIMIT) (made_text bs) (Ret (Raise memory_fault)) (make_calm (new_rec Str [] bs) (λ a. Ret (Is (Ref (record { 0 = a })))) (λ a. ret_calm _)) (ret_calm _)
+  new_text_calm bs = cond_calm S (leb (length bs) LENGTH_LIMIT) (made_text bs) (Ret (Raise memory_fault)) (make_calm S (new_rec Str [] bs) (λ a. Ret (Is (Ref (record { 0 = a })))) (λ a. ret_calm S _)) (ret_calm S _)
 
   texts_calm : (k : List (List ℕ) → Row S (Got Value)) → ((ps : List (List ℕ)) → Calm (k ps)) → (vs : List Value) (ps : List (List ℕ)) → Calm (texts_then k vs ps)
   unfolding texts_then
@@ -328,59 +296,59 @@ module _ (S : Type 0) where
 
   items_calm : (a : ℕ) (vs : List Value) → Calm (items_row a vs)
   unfolding items_row
-  items_calm a vs = bytes_calm a (λ sep. texts_row sep vs) (λ sep. texts_calm (λ ps. new_text (joined sep ps)) (λ ps. new_text_calm (joined sep ps)) vs [])
+  items_calm a vs = then_calm a (λ sep. texts_row sep vs) (λ sep. texts_calm (λ ps. new_text (joined sep ps)) (λ ps. new_text_calm (joined sep ps)) vs [])
 
   join_steady : (a : ℕ) (o : Option Value) → Steady {S = S} false (join_with a o)
   unfolding join_with
-  join_steady a (Some x) = bind_steady false (gather_row x) (got_row (items_row a)) (gather_steady S x) (got_calm (items_row a) (items_calm a))
-  join_steady a None = ret_calm _ false
+  join_steady a (Some x) = bind_steady S false (gather_row x) (got_row (items_row a)) (gather_steady S x) (got_calm S (items_row a) (items_calm a))
+  join_steady a None = ret_calm S _ false
 
   strings_calm : (ps : List (List ℕ)) (vs : List Value) → Calm (strings_then new_list ps vs)
   unfolding strings_then piece_row bind new_list
-  strings_calm [] vs = make_calm (new_rec ListKind vs []) (λ a. Ret (Is (Ref (record { 0 = a })))) (λ a. ret_calm _)
-  strings_calm (p ∷ ps) vs = make_calm (new_rec Str [] p) (λ a. strings_then new_list ps (vs ++ Ref (record { 0 = a }) ∷ [])) (λ a. strings_calm ps (vs ++ Ref (record { 0 = a }) ∷ []))
+  strings_calm [] vs = make_calm S (new_rec ListKind vs []) (λ a. Ret (Is (Ref (record { 0 = a })))) (λ a. ret_calm S _)
+  strings_calm (p ∷ ps) vs = make_calm S (new_rec Str [] p) (λ a. strings_then new_list ps (vs ++ Ref (record { 0 = a }) ∷ [])) (λ a. strings_calm ps (vs ++ Ref (record { 0 = a }) ∷ []))
 
   cut_calm : (a : ℕ) (sep : Option (List ℕ)) → Calm (cut_row a sep)
   unfolding cut_row list_row
   cut_calm a sep =
-      bytes_calm a (λ bs. list_row (pieces_of sep bs))
-      (λ bs. cond_calm (leb (length (pieces_of sep bs)) LENGTH_LIMIT) (strings_then new_list (pieces_of sep bs) []) (Ret (Raise memory_fault)) (strings_calm (pieces_of sep bs) []) (ret_calm _))
+      then_calm a (λ bs. list_row (pieces_of sep bs))
+      (λ bs. cond_calm S (leb (length (pieces_of sep bs)) LENGTH_LIMIT) (strings_then new_list (pieces_of sep bs) []) (Ret (Raise memory_fault)) (strings_calm (pieces_of sep bs) []) (ret_calm S _))
 
   cut_at_calm : (a : ℕ) (sep : List ℕ) → Calm (cut_at a sep)
   unfolding cut_at
-  cut_at_calm a sep = cond_calm (has_bytes sep) (cut_row a (Some sep)) (Ret (Raise separator_fault)) (cut_calm a (Some sep)) (ret_calm _)
+  cut_at_calm a sep = cond_calm S (has_bytes sep) (cut_row a (Some sep)) (Ret (Raise separator_fault)) (cut_calm a (Some sep)) (ret_calm S _)
 
   split_one_calm : (a : ℕ) (o : Option Value) → Calm (split_with a o)
   unfolding split_with split_at
-  split_one_calm a (Some x) = cond_calm (is_none x) (cut_row a None) (bind (text_item x) (got_row (cut_at a))) (cut_calm a None) (with_calm x (cut_at a) (cut_at_calm a))
-  split_one_calm a None = ret_calm _
+  split_one_calm a (Some x) = cond_calm S (is_none x) (cut_row a None) (bind (text_item x) (got_row (cut_at a))) (cut_calm a None) (with_calm x (cut_at a) (cut_at_calm a))
+  split_one_calm a None = ret_calm S _
 
   bare_calm : (f : List ℕ → List ℕ) (a : ℕ) (args : List Value) → Calm (bare_row f a args)
   unfolding bare_row
-  bare_calm f a args = cond_calm (length args == 0) (bind (bytes_row a) (λ bs. new_text (f bs))) (Ret (Raise argument_fault)) (bytes_calm a (λ bs. new_text (f bs)) (λ bs. new_text_calm (f bs))) (ret_calm _)
+  bare_calm f a args = cond_calm S (length args == 0) (bind (bytes_row a) (λ bs. new_text (f bs))) (Ret (Raise argument_fault)) (then_calm a (λ bs. new_text (f bs)) (λ bs. new_text_calm (f bs))) (ret_calm S _)
 
   part_calm : (f : List ℕ → List ℕ → Value) (a : ℕ) (o : Option Value) → Calm (part_with f a o)
   unfolding part_with part_in
-  part_calm f a (Some x) = with_calm x (part_in f a) (λ p. bytes_calm a (λ bs. Ret (Is (f bs p))) (λ bs. ret_calm _))
-  part_calm f a None = ret_calm _
+  part_calm f a (Some x) = with_calm x (part_in f a) (λ p. then_calm a (λ bs. Ret (Is (f bs p))) (λ bs. ret_calm S _))
+  part_calm f a None = ret_calm S _
 
   replace_calm : (a : ℕ) (o : Option (Value × Value)) → Calm (replace_with a o)
   unfolding replace_with replace_by replace_in
-  replace_calm a (Some p) = with_calm p.0 (replace_by a p.1) (λ old. with_calm p.1 (replace_in a old) (λ new. bytes_calm a (λ bs. new_text (replaced old new bs)) (λ bs. new_text_calm (replaced old new bs))))
-  replace_calm a None = ret_calm _
+  replace_calm a (Some p) = with_calm p.0 (replace_by a p.1) (λ old. with_calm p.1 (replace_in a old) (λ new. then_calm a (λ bs. new_text (replaced old new bs)) (λ bs. new_text_calm (replaced old new bs))))
+  replace_calm a None = ret_calm S _
 
   pub method_steady : (m a : ℕ) (args : List Value) → Steady {S = S} false (method_row m a args)
   unfolding method_row
   method_steady m a args =
       choose (m == 25) (join_with a (only args)) _ (join_steady a (only args))
-      (choose (m == 26) (split_row a args) _ (cond_calm (length args == 0) (cut_row a None) (split_with a (only args)) (cut_calm a None) (split_one_calm a (only args)) false)
+      (choose (m == 26) (split_row a args) _ (cond_calm S (length args == 0) (cut_row a None) (split_with a (only args)) (cut_calm a None) (split_one_calm a (only args)) false)
       (choose (m == 27) (bare_row strip a args) _ (bare_calm strip a args false)
       (choose (m == 28) (bare_row upper a args) _ (bare_calm upper a args false)
       (choose (m == 29) (bare_row lower a args) _ (bare_calm lower a args false)
       (choose (m == 30) (part_with begins_value a (only args)) _ (part_calm begins_value a (only args) false)
       (choose (m == 31) (part_with ends_value a (only args)) _ (part_calm ends_value a (only args) false)
       (choose (m == 32) (part_with find_value a (only args)) _ (part_calm find_value a (only args) false)
-      (choose (m == 33) (replace_with a (both args)) _ (replace_calm a (both args) false) (ret_calm _ false)))))))))
+      (choose (m == 33) (replace_with a (both args)) _ (replace_calm a (both args) false) (ret_calm S _ false)))))))))
     where
       choose : (b : Bool) (row other : Row S (Got Value)) → Steady false row → Steady false other → Steady false (cond b row other)
       choose true row other i j = i

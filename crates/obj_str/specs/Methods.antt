@@ -8,7 +8,7 @@ use Rattle.py_data.specs.declared.record.Fault.{Fault}
 use Rattle.py_data.specs.declared.record.Got.{Got}
 use Rattle.py_data.specs.declared.record.Got.TheVariants.{Is, Raise}
 use Rattle.py_data.specs.declared.record.TheConstants.{LENGTH_LIMIT}
-use Rattle.py_data.specs.Fault.{text_fault, memory_fault, operand_fault}
+use Rattle.py_data.specs.Fault.{text_fault, memory_fault, operand_fault, argument_fault}
 use Rattle.py_data.specs.Heap.{Rec, new_rec}
 use Rattle.py_data.specs.Looking.{bytes_row, got_row}
 use Rattle.py_data.specs.Row.{Row, Ret, Do, Read, Make, bind}
@@ -19,10 +19,6 @@ use Rattle.obj_str.specs.Pieces.{begins, ends, find, joined, has_bytes, strip, u
 use Rattle.obj_str.specs.Strings.{new_text}
 
 -- ---- what is raised
-
--- the arguments are too many or too few, or one is of another type
-abbrev pub argument_fault : Fault
-argument_fault = text_fault (class_number (codes "TypeError")) (codes "wrong arguments")
 
 -- a text can't be cut at nothing
 abbrev pub separator_fault : Fault

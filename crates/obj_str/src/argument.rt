@@ -6,8 +6,8 @@ ghost use Rattle.py_data.specs.Heap.{at};
 ghost use Rattle.py_data.specs.Rest.{Stands};
 ghost use Rattle.py_data.specs.Row.{Ret};
 ghost use Rattle.py_data.specs.Sense.{Meets, Safe, IsLive};
+ghost use Rattle.py_data.specs.Fault.{argument_fault};
 ghost use Rattle.obj_str.specs.Methods as methods;
-ghost use Rattle.obj_str.specs.Methods.{argument_fault};
 
 use py_data::exception::{TYPE_ERROR, raise};
 use py_data::{Addr, Bytes, Got, Kind, Stop, Value, View};

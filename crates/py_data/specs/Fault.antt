@@ -44,3 +44,7 @@ depth_fault = text_fault (class_number (codes "RuntimeError")) (codes "maximum r
 -- an operation isn't for operands of these types
 abbrev pub operand_fault : Fault
 operand_fault = text_fault (class_number (codes "TypeError")) (codes "unsupported operand")
+
+-- arguments are too few or too many, or one is of another type
+abbrev pub argument_fault : Fault
+argument_fault = text_fault (class_number (codes "TypeError")) (codes "wrong arguments")

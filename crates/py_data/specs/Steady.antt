@@ -36,6 +36,10 @@ unfoldable pub Steady : {S A : Type 0} → Bool → Row S A → Type 0
 Steady grown (Ret a) = Unit {0}
 Steady grown (Do c k) = ((grown && shrinks c) ≡ false) × ((r : Reply c) → Steady (grown || grows c) (k r))
 
+-- a row that makes nothing shorter: it is steady, whatever grew before it
+abbrev pub Calm : {S A : Type 0} → Row S A → Type 0
+Calm row = (grown : Bool) → Steady grown row
+
 -- no record of the first heap has more values than it has in the second
 abbrev pub NoLonger : Heap → Heap → Type 0
 NoLonger h h1 = (a : ℕ) (r : Rec) → h a ≡ Some r → (q : Rec) × (h1 a ≡ Some q) × (length r.values ≤ length q.values)
