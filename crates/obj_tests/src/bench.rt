@@ -2,7 +2,7 @@
 //! expected is written by hand: it is what Python 2.7 does, with the texts of exceptions that this language has.
 //!
 //! A row is a line, `PROGRAM => EXPECTED`. The words of a program are parted by blanks, and work on a stack of values.
-ghost use Rattle.std.specs.Prelude.{◌≡◌, [], None};
+ghost use Rattle.std.specs.Prelude.{◌≡◌, ◌≤◌, length, [], None};
 ghost use Rattle.lock_run.specs.Space.{space_heap};
 ghost use Rattle.obj_tests.specs.Bench.{Good};
 
@@ -66,7 +66,9 @@ fn tried(rt: &impl Abort, alloc: Global, program: &[u8]) -> Result<Bytes, AllocE
 }
 
 /// The place of a mark in a line, and the line's length where it isn't there.
-fn mark_at(line: &[u8], mark: &[u8]) -> usize {
+fn mark_at(line: &[u8], mark: &[u8]) -> usize
+    ensures { result ≤ length line.now }
+{
     for i in 0..line.len() {
         if line[i..].starts_with(mark) {
             return i;
@@ -82,7 +84,7 @@ fn row(rt: &impl Abort, alloc: Global, line: &[u8]) -> Result<(), AllocError> {
         return Ok(());
     }
     let at = mark_at(line, b" => ");
-    if at + 4 > line.len() {
+    if line.len() < 4 || at > line.len() - 4 {
         let line = line.escape_ascii();
         panic!(rt; "{line}: no row");
     }

@@ -270,12 +270,7 @@ fn text_size<S, V: View<S>>(v: &mut V, stack: &Values, a: Addr) -> Result<usize,
 }
 
 /// How many values a record of a kind has, or pairs.
-fn record_size<S, V: View<S>>(
-    v: &mut V,
-    stack: &Values,
-    a: Addr,
-    kind: Kind,
-) -> Result<usize, Stop>
+fn record_size<S, V: View<S>>(v: &mut V, stack: &Values, a: Addr, kind: Kind) -> Result<usize, Stop>
     requires good { Good V.sense stack.now v.old }
     requires at { KindIn (V.sense.heap v.old a.0) (λ k. k ≡ kind) }
     ensures { IfOk result (λ _. Good V.sense stack.now v.new) }

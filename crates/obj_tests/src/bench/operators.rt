@@ -13,9 +13,8 @@ use py_base::builtin::{
     STR_ENDSWITH, STR_FIND, STR_JOIN, STR_LOWER, STR_REPLACE, STR_SPLIT, STR_STARTSWITH, STR_STRIP,
     STR_UPPER,
 };
-use py_base::operator;
 use py_base::operator::unary::{INVERT, MINUS, PLUS};
-use py_base::{binary_number, compare_number};
+use py_base::{binary_number, compare_number, operator};
 use py_data::{Addr, Got, Stop, Value, Values, View};
 use std::alloc::Global;
 

@@ -1,5 +1,5 @@
 //! Programs of words, as rows write them.
-ghost use Rattle.std.specs.Prelude.{IfOk};
+ghost use Rattle.std.specs.Prelude.{◌≤◌, length, IfOk};
 ghost use Rattle.obj_tests.specs.Bench.{Good};
 
 use super::stacking::{self, Leaf};
@@ -13,10 +13,13 @@ use std::alloc::Global;
 use std::str;
 
 /// The place behind the word that begins at a place: the next blank outside of quotes, or the end.
-fn word_end(program: &[u8], from: usize) -> usize {
+fn word_end(program: &[u8], from: usize) -> usize
+    requires { from ≤ length program.now }
+    ensures from { from ≤ result }
+    ensures within { result ≤ length program.now }
+{
     let mut quoted = false;
     let mut escaped = false;
-    let mut end = from;
     for i in from..program.len() {
         let b = program[i];
         if b == b' ' && !quoted {
@@ -26,9 +29,8 @@ fn word_end(program: &[u8], from: usize) -> usize {
             quoted = !quoted;
         }
         escaped = b == b'\\' && !escaped;
-        end = i + 1;
     }
-    end
+    program.len()
 }
 
 /// A number in decimal.

@@ -125,7 +125,8 @@ const REPLACE: &[u8] = b"# replace
 ";
 
 /// `join` at the limit of lengths.
-const LONG_JOIN: &[u8] = b"# join at the limit: 1,048,576 bytes are a string, one more isn't, and a wrong item comes first
+const LONG_JOIN: &[u8] =
+    b"# join at the limit: 1,048,576 bytes are a string, one more isn't, and a wrong item comes first
 '' 'a' s1048576 [1 .join1 len => 1048576
 '' 'a' s1048576 'b' [2 .join1 => MemoryError
 ',' 'a' s524288 'b' s524287 [2 .join1 len => 1048576
