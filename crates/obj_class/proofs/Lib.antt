@@ -1,0 +1,9 @@
+pub mod Below
+pub mod Nearest
+pub mod RootsKept
+pub mod Parts
+pub mod AttrLooks
+pub mod AttrHolds
+pub mod FaultHolds
+pub mod SteadyRows
+pub mod Held
