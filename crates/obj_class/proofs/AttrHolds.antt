@@ -1,5 +1,5 @@
 -- Over each heap in order the operations on attributes hold.
-use Rattle.std.proofs.Common.{arith, ◌≡◌, ℕ, ◌<◌, Bool, true, false, cond, List, [], ◌∷◌, codes, if◌then◌else◌, Option, Some, None, refl, sym, ap, subst, ◌∙◌, lit<, leb}
+use Rattle.std.proofs.Common.{arith, ◌≡◌, ℕ, ◌<◌, Bool, true, false, cond, List, [], ◌∷◌, codes, if◌then◌else◌, Option, Some, None, refl, sym, ap, subst, lit<}
 use Rattle.std.specs.Prelude.{IfSome, is_some, option_map, ltb}
 use Rattle.std.specs.Str.{bytes_eq}
 use Rattle.std.proofs.lemmas.Bool.{ltb-true}
@@ -16,9 +16,9 @@ use Rattle.py_data.specs.Closed.{Refers, IsItem}
 use Rattle.py_data.specs.Heap.{Heap, Rec, value_at, new_rec}
 use Rattle.py_data.specs.Holds.{Holds}
 use Rattle.py_data.specs.Looking.{Looks, look_row, bytes_row}
-use Rattle.py_data.specs.Order.{Rules, IsOrdered, Extends}
-use Rattle.py_data.specs.Row.{Row, Ret, bind}
-use Rattle.py_data.specs.Shape.{KindIn, RefTo, NoneOr, IsCallable}
+use Rattle.py_data.specs.Order.{Rules, IsOrdered}
+use Rattle.py_data.specs.Row.{Ret}
+use Rattle.py_data.specs.Shape.{KindIn, RefTo, IsCallable}
 use Rattle.py_data.proofs.Holding.{holds_ret, holds_bind}
 use Rattle.py_data.proofs.HoldingCalls.{holds_make, holds_looks}
 use Rattle.py_data.proofs.Keep.{ref_stays}
@@ -31,31 +31,33 @@ use Rattle.obj_nest.specs.Levels.{kind_row}
 use Rattle.obj_nest.proofs.KindLooks.{some_of, kind_looks}
 use Rattle.obj_class.specs.declared.lookup.Found.{Found}
 use Rattle.obj_class.specs.declared.lookup.Found.TheVariants.{Plain, Bound}
-use Rattle.obj_class.specs.Attributes.{attribute, attribute_fault, bound, bound_in, bound_of, bytes_in, inherited, kept, of_builtin, of_class, of_instance, of_kind, of_methods, of_record, own_first, values_in}
+use Rattle.obj_class.specs.Attributes.{attribute, attribute_fault, bound, bound_in, bound_of, bytes_in, inherited, kept, of_builtin, of_kind, of_methods, of_record, own_first, values_in}
 use Rattle.obj_class.specs.AttrRows.{address_in, attr_row, del_attr_row, del_in, dict_at, dict_by, dict_row, find_attr_row, given_row, gone_row, method_row, missing_row, set_attr_row, set_in, taken_row}
 use Rattle.obj_class.specs.Bases.{MOST_BASES, ref}
 use Rattle.obj_class.specs.Named.{is_error, is_thread, is_threading, member_of, method_of, methods_of, thread_members, threading_members}
 use Rattle.obj_class.specs.Roots.{IsRoots, class_place, root_class}
 use Rattle.obj_class.proofs.AttrLooks.{find_looks}
-use Rattle.obj_class.proofs.Parts.{Is, is_at, text_key, of_class_at, of_instance_at, kept_item, inherited_item, some_class}
+use Rattle.obj_class.proofs.Parts.{Is, is_at, of_class_at, of_instance_at, kept_item, inherited_item, some_class}
 
 -- ---- the numbers of builtins that are attributes are numbers of builtins
 
-all_below : List (ℕ × List ℕ) → Bool
+abbrev all_below : List (ℕ × List ℕ) → Bool
 all_below [] = true
 all_below (e ∷ es) = cond (ltb e.0 builtin_count) (all_below es) false
 
+found_below : (b : Bool) (n : ℕ) (o : Option ℕ) → n < builtin_count → IfSome o (λ b. b < builtin_count) → IfSome (if b then Some n else o) (λ b. b < builtin_count)
+found_below true n o l more = l
+found_below false n o l more = more
+
+both_below : (n : ℕ) (b c : Bool) → ltb n builtin_count ≡ b → cond b c false ≡ true → (n < builtin_count) × (c ≡ true)
+both_below n true c t e = (ltb-true n builtin_count t, e)
+both_below n false c t e = absurd (let z : false ≡ true = e in cc)
+
 beside_below : (es : List (ℕ × List ℕ)) (x : List ℕ) → all_below es ≡ true → IfSome (number_beside es x) (λ b. b < builtin_count)
 beside_below [] x e = tt
-beside_below (y ∷ ys) x e = by (ltb y.0 builtin_count) refl e
-  where
-    found : (b : Bool) → y.0 < builtin_count → IfSome (number_beside ys x) (λ b. b < builtin_count) → IfSome (if b then Some y.0 else number_beside ys x) (λ b. b < builtin_count)
-    found true l more = l
-    found false l more = more
-
-    by : (b : Bool) → ltb y.0 builtin_count ≡ b → cond b (all_below ys) false ≡ true → IfSome (number_beside (y ∷ ys) x) (λ b. b < builtin_count)
-    by true t e = found (bytes_eq y.1 x) (ltb-true y.0 builtin_count t) (beside_below ys x e)
-    by false t e = absurd (let z : false ≡ true = e in cc)
+beside_below (y ∷ ys) x e =
+    let both = both_below y.0 (ltb y.0 builtin_count) (all_below ys) refl e in
+    found_below (bytes_eq y.1 x) y.0 (number_beside ys x) both.0 (beside_below ys x both.1)
 
 methods_below : (k : Kind) → all_below (methods_of k) ≡ true
 methods_below Str = refl

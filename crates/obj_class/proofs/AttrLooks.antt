@@ -1,31 +1,31 @@
 -- The rows of `is_sub` and `find_attr` only look, may be begun over a heap in order, and answer what is meant.
-use Rattle.std.proofs.Common.{◌≡◌, ℕ, zero, suc, ◌+◌, ◌*◌, ◌<◌, Bool, true, false, cond, eqb, List, codes, Option, Some, None, Result, Ok, Err, refl, sym, ap, subst, ◌∙◌, lit<}
-use Rattle.std.specs.Prelude.{IfSome, option_map}
-use Rattle.py_base.specs.Numbers.{class_number, class_count}
+use Rattle.std.proofs.Common.{◌≡◌, ℕ, zero, suc, ◌+◌, ◌*◌, Bool, true, false, cond, eqb, List, codes, Option, Some, None, Result, Ok, Err, refl, sym, ap, subst, ◌∙◌}
+use Rattle.std.specs.Prelude.{option_map}
+use Rattle.py_base.specs.Numbers.{class_number}
 use Rattle.py_base.specs.declared.kind.Kind.{Kind}
 use Rattle.py_base.specs.declared.kind.Kind.TheVariants.{Str, Tuple, List as ListKind, Dict, Cell, Function, Class, Instance, Method, Iter, Range, Lock, Thread}
 use Rattle.py_data.specs.declared.value.Addr.{Addr}
 use Rattle.py_data.specs.declared.value.Value.{Value}
 use Rattle.py_data.specs.declared.value.Value.TheVariants.{Unset, None as NoneValue, Bool as BoolValue, Int, Ref, Builtin}
 use Rattle.py_data.specs.Answers.{IfItem}
-use Rattle.py_data.specs.Closed.{Refers, IsItem, base_of}
+use Rattle.py_data.specs.Closed.{Refers, base_of}
 use Rattle.py_data.specs.Heap.{Heap, Rec, value_at}
 use Rattle.py_data.specs.Looking.{Looks, look_row, bytes_row, walk_row, walk_on}
 use Rattle.py_data.specs.Order.{Rules, IsOrdered}
-use Rattle.py_data.specs.Row.{Row, Ret, Do, Find, bind}
+use Rattle.py_data.specs.Row.{Ret, Do, Find, bind}
 use Rattle.py_data.specs.Shape.{KindIn, RefTo, NoneOr, IsKey, find, is_key_kind}
 use Rattle.py_data.proofs.HoldingCalls.{pairs_of}
 use Rattle.py_data.proofs.Looking.{looks_ret, looks_read, looks_find, looks_then, look_looks, bytes_looks}
 use Rattle.obj_nest.specs.Levels.{kind_row}
 use Rattle.obj_nest.proofs.KindLooks.{some_of, kind_looks}
 use Rattle.obj_class.specs.declared.lookup.Found.{Found}
-use Rattle.obj_class.specs.declared.lookup.Found.TheVariants.{Plain, Bound}
-use Rattle.obj_class.specs.Attributes.{attribute, bound, bound_in, bound_of, bytes_in, inherited, kept, kept_by, nearer, of_builtin, of_class, of_instance, of_kind, of_methods, of_pair, of_record, own_first, values_in}
+use Rattle.obj_class.specs.declared.lookup.Found.TheVariants.{Plain}
+use Rattle.obj_class.specs.Attributes.{attribute, bound, bound_in, bound_of, bytes_in, inherited, kept, nearer, of_builtin, of_class, of_instance, of_kind, of_methods, of_pair, of_record, own_first, values_in}
 use Rattle.obj_class.specs.AttrRows.{bound_row, builtin_row, class_row, class_step, error_row, find_attr_row, found_by, from_class, heir_step, held_row, if_found, inherited_row, instance_row, kept_row, member_row, methods_row, next_class, own_or_class, own_row, pair_row}
 use Rattle.obj_class.specs.Bases.{MOST_BASES, ref, base_step, sub_step, is_below, is_sub_row}
 use Rattle.obj_class.specs.Named.{is_error, member_of}
 use Rattle.obj_class.specs.Roots.{IsRoots, class_place, root_class}
-use Rattle.obj_class.proofs.Parts.{Is, is_at, text_key, of_class_at, of_instance_at, inherited_item, some_class}
+use Rattle.obj_class.proofs.Parts.{Is, is_at, of_class_at, of_instance_at, inherited_item, some_class}
 
 module _ (S : Type 0) (rules : Rules) (h : Heap) (order : IsOrdered rules h) where
   -- ---- bases
@@ -66,7 +66,7 @@ module _ (S : Type 0) (rules : Rules) (h : Heap) (order : IsOrdered rules h) whe
   unfolding kept_row held_row
   kept_looks (Ref d) key i k =
       let t = is_at h Dict d.0 i in
-      subst (λ o. Looks (λ z. z ≡ of_pair (values_in o) (find h (values_in o) key)) (Do (Find d.0 key) (pair_row d.0)) h) (sym t.here)
+      subst (λ o. Looks {S = S} (λ z. z ≡ of_pair (values_in o) (find h (values_in o) key)) (Do (Find d.0 key) (pair_row d.0)) h) (sym t.here)
       (looks_find (λ z. z ≡ of_pair t.rec.values (find h t.rec.values key)) d.0 key (pair_row d.0) h t.rec t.here (t.kind, k, pairs_of rules h d.0 t.rec order t.here t.kind) (pair_looks d.0 t.rec t.here (find h t.rec.values key)))
   kept_looks Unset key i k = absurd i
   kept_looks NoneValue key i k = absurd i
@@ -117,7 +117,7 @@ module _ (S : Type 0) (rules : Rules) (h : Heap) (order : IsOrdered rules h) whe
         (λ z f. subst (λ z. Looks {S = S} p (walk_on (walk_row (heir_step key) None m) z) h) (sym f) (walked m base l o))
 
     heirs : (m : ℕ) (v : Value) → NoneOr (RefTo h Class) v → Looks {S = S} (λ z. z ≡ inherited h key m v) (walk_row (heir_step key) None m v) h
-    unfolding walk_row heir_step inherited
+    unfolding walk_row heir_step inherited bind
     heirs zero v i = looks_ret S (λ z. z ≡ None) None h refl
     heirs (suc m) (Ref c) i =
         let t = is_at h Class c.0 i in

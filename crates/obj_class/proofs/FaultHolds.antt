@@ -1,9 +1,8 @@
 -- Over each heap in order an exception can be made, and is what the definition says.
-use Rattle.std.proofs.Common.{arith, ◌≡◌, ◌≢◌, ℕ, ◌+◌, ◌<◌, ◌≤◌, Bool, true, false, cond, eqb, List, [], ◌∷◌, length, Option, Some, refl, sym, ap, subst, ◌∙◌, codes, lit<, inl, inr}
+use Rattle.std.proofs.Common.{arith, ◌≡◌, ◌≢◌, ℕ, ◌<◌, ◌≤◌, Bool, true, false, cond, eqb, List, [], ◌∷◌, length, Some, refl, sym, ap, subst, ◌∙◌, codes, lit<, inl, inr}
 use Rattle.std.specs.Prelude.{is_some}
-use Rattle.std.proofs.lemmas.Bool.{cases_Bool, cond-true, eqb-true, leb-true}
+use Rattle.std.proofs.lemmas.Bool.{cases_Bool, cond-true, leb-true}
 use Rattle.py_base.specs.Numbers.{class_number, class_count}
-use Rattle.py_base.specs.declared.kind.Kind.{Kind}
 use Rattle.py_base.specs.declared.kind.Kind.TheVariants.{Str, Tuple, Dict, Cell, Function, Class, Instance}
 use Rattle.py_data.specs.declared.value.Value.{Value}
 use Rattle.py_data.specs.declared.value.Value.TheVariants.{Unset}
@@ -29,7 +28,7 @@ use Rattle.py_data.proofs.Keep.{extends_then, ref_stays}
 use Rattle.py_data.proofs.Looking.{look_looks}
 use Rattle.py_data.proofs.Making.{made_fits, sequence_fits, text_fits}
 use Rattle.obj_class.specs.Bases.{ref}
-use Rattle.obj_class.specs.Exceptions.{args_row, dict_of_args, exception_row, fault_row, is_tellable, keyed_row, made_row, numbered_row, raised, told_row, IsException, IsRaised, IsToldIn}
+use Rattle.obj_class.specs.Exceptions.{args_row, dict_of_args, exception_row, fault_row, is_tellable, keyed_row, made_row, numbered_row, told_row, IsException, IsRaised, IsToldIn}
 use Rattle.obj_class.specs.Roots.{IsRoots, class_place}
 use Rattle.obj_class.proofs.RootsKept.{fixed_stays}
 
@@ -41,7 +40,7 @@ put_stays h h1 a n r q e x i d = elim (cases_Bool (eqb a n)) [
       let here : Some k.now ≡ Some q = sym k.here ∙ (ap (λ g. g a) e ∙ cond-true (eqb a n) (Some q) (h a) y) in
       let same : k.now ≡ q = cc in
       absurd (d (sym (ap (λ z. z.kind) same) ∙ k.kind))
-  | inr f ↦ ap (λ g. g a) e ∙ with_rec_there a n q h f ∙ i
+  | inr f ↦ ap (λ g. g a) e ∙ with_rec_there n a q h f ∙ i
 ]
 
 -- what was made is there
@@ -76,6 +75,30 @@ module _ {S : Type 0} (rules : Rules) (stands : Heap → S → Type 0) where
       made_fits rules h a Dict (ref k ∷ x ∷ []) [] (λ e. let q : Dict ≡ Class = e in cc) (λ e. let q : Dict ≡ Function = e in cc) (λ e. let q : Dict ≡ Cell = e in cc) (i, (j, tt)) ((key, tt), (refl, tt)) refl (omega arith) (omega arith)
 
   module _ (class : Value) (w : With) where
+    -- the instance, once its dictionary is there
+    instance_holds : (h : Heap) (d k t : ℕ) (args : List Value) → RefTo h Class class → IsItem h class → h k ≡ Some (new_rec Str [] (codes "args")) → h t ≡ Some (new_rec Tuple args []) → h d ≡ Some (new_rec Dict (ref k ∷ ref t ∷ []) []) → IsItem h (ref d) → IsToldIn h w args
+        → Holds rules stands (λ x h1. IsException h1 class w x) (made_row {S = S} (new_rec Instance (class ∷ ref d ∷ []) [])) h
+    unfolding made_row
+    instance_holds h d k t args c i ek et ed id told =
+        let p : Value → Heap → Type 0 = λ x h1. IsException h1 class w x in
+        let made = new_rec Instance (class ∷ ref d ∷ []) [] in
+        let dict = new_rec Dict (ref k ∷ ref t ∷ []) [] in
+        holds_make rules stands p made (λ a. Ret (ref a)) h (λ a. instance_fits h a class (ref d) c i (made_ref h d dict ed) id)
+        (λ n h1 order1 x1 e1 item1.
+        holds_ret rules stands p (ref n) h1 (record {
+          instance = n;
+          is = refl;
+          dict = d;
+          of = made_here h h1 n made e1;
+          key = k;
+          tuple = t;
+          has = put_stays h h1 d n dict made e1 x1 ed (λ q. let z : Instance ≡ Dict = q in cc);
+          named = fixed_stays h h1 k (new_rec Str [] (codes "args")) x1 ek refl;
+          args = args;
+          holds = fixed_stays h h1 t (new_rec Tuple args []) x1 et refl;
+          told = told_stays h h1 w args x1 told;
+        }))
+
     -- the dictionary and the instance, once the key and the tuple are there
     dict_holds : (h : Heap) (k t : ℕ) (args : List Value) → RefTo h Class class → IsItem h class → h k ≡ Some (new_rec Str [] (codes "args")) → IsItem h (ref k) → h t ≡ Some (new_rec Tuple args []) → IsItem h (ref t) → IsToldIn h w args
         → Holds rules stands (λ x h1. IsException h1 class w x) (dict_of_args {S = S} class (ref k) (ref t)) h
@@ -85,31 +108,7 @@ module _ {S : Type 0} (rules : Rules) (stands : Heap → S → Type 0) where
         let dict = new_rec Dict (ref k ∷ ref t ∷ []) [] in
         make_then p dict (λ dict. made_row (new_rec Instance (class ∷ dict ∷ []) [])) h (λ a. dict_fits h a k (new_rec Str [] (codes "args")) (ref t) ek refl ik it)
         (λ d h1 order1 x1 e1 here1 item1.
-        let made = new_rec Instance (class ∷ ref d ∷ []) [] in
         instance_holds h1 d k t args (ref_stays h h1 x1 Class class c) (item_stays h h1 x1 class i) (fixed_stays h h1 k (new_rec Str [] (codes "args")) x1 ek refl) (fixed_stays h h1 t (new_rec Tuple args []) x1 et refl) here1 item1 (told_stays h h1 w args x1 told))
-      where
-        instance_holds : (h : Heap) (d k t : ℕ) (args : List Value) → RefTo h Class class → IsItem h class → h k ≡ Some (new_rec Str [] (codes "args")) → h t ≡ Some (new_rec Tuple args []) → h d ≡ Some (new_rec Dict (ref k ∷ ref t ∷ []) []) → IsItem h (ref d) → IsToldIn h w args
-            → Holds rules stands (λ x h1. IsException h1 class w x) (made_row {S = S} (new_rec Instance (class ∷ ref d ∷ []) [])) h
-        unfolding made_row
-        instance_holds h d k t args c i ek et ed id told =
-            let p : Value → Heap → Type 0 = λ x h1. IsException h1 class w x in
-            let made = new_rec Instance (class ∷ ref d ∷ []) [] in
-            let dict = new_rec Dict (ref k ∷ ref t ∷ []) [] in
-            holds_make rules stands p made (λ a. Ret (ref a)) h (λ a. instance_fits h a class (ref d) c i (made_ref h d dict ed) id)
-            (λ n h1 order1 x1 e1 item1.
-            holds_ret rules stands p (ref n) h1 (record {
-              instance = n;
-              is = refl;
-              dict = d;
-              of = made_here h h1 n made e1;
-              key = k;
-              tuple = t;
-              has = put_stays h h1 d n dict made e1 x1 ed (λ q. let z : Instance ≡ Dict = q in cc);
-              named = fixed_stays h h1 k (new_rec Str [] (codes "args")) x1 ek refl;
-              args = args;
-              holds = fixed_stays h h1 t (new_rec Tuple args []) x1 et refl;
-              told = told_stays h h1 w args x1 told;
-            }))
 
     args_hold : (h : Heap) (k : ℕ) (args : List Value) → RefTo h Class class → IsItem h class → h k ≡ Some (new_rec Str [] (codes "args")) → IsItem h (ref k) → Every (IsItem h) args → length args ≤ LENGTH_LIMIT → IsToldIn h w args
         → Holds rules stands (λ x h1. IsException h1 class w x) (args_row {S = S} class (ref k) args) h

@@ -1,15 +1,13 @@
 -- Which attribute comes first.
-use Rattle.std.proofs.Common.{arith, ◌≡◌, ℕ, zero, suc, ◌+◌, ◌<◌, ◌≤◌, Option, Some, None, refl, sym, ap, ◌∙◌}
+use Rattle.std.proofs.Common.{arith, ◌≡◌, ℕ, zero, suc, ◌<◌, ◌≤◌, Option, Some, None, refl, sym, ap, ◌∙◌}
 use Rattle.std.specs.Prelude.{option_map}
-use Rattle.py_base.specs.declared.kind.Kind.TheVariants.{Class, Instance}
 use Rattle.py_data.specs.declared.value.Addr.{Addr}
 use Rattle.py_data.specs.declared.value.Value.{Value}
 use Rattle.py_data.specs.declared.value.Value.TheVariants.{Unset, None as NoneValue, Bool as BoolValue, Int, Ref, Builtin}
-use Rattle.py_data.specs.Heap.{Heap, Rec, value_at}
+use Rattle.py_data.specs.Heap.{Heap, value_at}
 use Rattle.py_data.specs.Closed.{base_of, BasesEnd}
-use Rattle.obj_class.specs.declared.lookup.Found.TheVariants.{Plain}
 use Rattle.obj_class.specs.Bases.{ref, MOST_BASES, up}
-use Rattle.obj_class.specs.Attributes.{attribute, bound, inherited, kept, kept_by, nearer, own_first, of_kind, of_record, IsNearest}
+use Rattle.obj_class.specs.Attributes.{bound, inherited, kept_by, nearer, own_first, of_kind, of_record, IsNearest}
 use Rattle.obj_class.specs.Laws.{AttributeLaw}
 use Rattle.obj_class.proofs.Below.{up_none}
 

@@ -8,7 +8,7 @@ use Rattle.py_data.specs.Answers.{IfItem}
 use Rattle.py_data.specs.Closed.{base_of}
 use Rattle.py_data.specs.Heap.{Heap, Rec, value_at}
 use Rattle.py_data.specs.Order.{Rules, IsOrdered}
-use Rattle.py_data.specs.Shape.{KindIn, RefTo, NoneOr, HasShape, IsKey, find, is_key_kind}
+use Rattle.py_data.specs.Shape.{KindIn, RefTo, NoneOr, HasShape, find, is_key_kind}
 use Rattle.py_data.proofs.ItemLemmas.{item_at, fit_items}
 use Rattle.obj_dict.proofs.FindSteps.{within}
 use Rattle.obj_class.specs.Attributes.{inherited, kept, nearer, of_pair, values_in}

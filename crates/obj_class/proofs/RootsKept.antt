@@ -5,7 +5,7 @@ use Rattle.py_data.specs.declared.value.Value.{Value}
 use Rattle.py_data.specs.Heap.{Heap, Rec, is_tracked, value_at, new_rec}
 use Rattle.py_data.specs.Order.{Extends}
 use Rattle.py_data.proofs.Keep.{ref_stays}
-use Rattle.obj_class.specs.Roots.{own_name, HasClass, IsRoots}
+use Rattle.obj_class.specs.Roots.{own_name, HasClass}
 use Rattle.obj_class.specs.Laws.{RootsStay}
 
 pub fixed_stays : (h h1 : Heap) (a : ℕ) (r : Rec) → Extends h h1 → h a ≡ Some r → is_tracked r.kind ≡ false → h1 a ≡ Some r

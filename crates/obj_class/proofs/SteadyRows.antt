@@ -67,7 +67,7 @@ module _ {S A B : Type 0} where
 only_walk : {S A B : Type 0} (f : A → Row S (Result A B)) (end : B) → ((a : A) → OnlyLooks (f a)) → (m : ℕ) (a : A) → OnlyLooks (walk_row f end m a)
 unfolding walk_row OnlyLooks
 only_walk f end i zero a = tt
-only_walk f end i (suc m) a = only_bind (f a) (walk_on (walk_row f end m)) (i a) (walked (only_walk f end i m))
+only_walk {S} {A} {B} f end i (suc m) a = only_bind (f a) (walk_on (walk_row f end m)) (i a) (walked (only_walk f end i m))
   where
     walked : ((a : A) → OnlyLooks (walk_row f end m a)) → (r : Result A B) → OnlyLooks (walk_on (walk_row f end m) r)
     walked more (Ok a) = more a
@@ -224,13 +224,13 @@ module _ (S : Type 0) where
   only_find roots name (BoolValue b) = only_ret None
   only_find roots name (Int n) = only_ret None
 
-  missing_steady : {A : Type 0} (name : ℕ) → Steady {S = S} {A = Got A} false (missing_row name)
+  missing_steady : (A : Type 0) (name : ℕ) → Steady {S = S} {A = Got A} false (missing_row name)
   unfolding missing_row
-  missing_steady name = only_steady (bind (bytes_row name) (λ t. Ret (Raise (attribute_fault t)))) (only_bind (bytes_row name) (λ t. Ret (Raise (attribute_fault t))) (only_bytes name) (λ t. only_ret (Raise (attribute_fault t))))
+  missing_steady A name = only_steady (bind (bytes_row name) (λ t. Ret (Raise (attribute_fault t)))) (only_bind (bytes_row name) (λ t. Ret (Raise (attribute_fault t))) (only_bytes name) (λ t. only_ret (Raise (attribute_fault t))))
 
   given_steady : (x : Value) (name : ℕ) (o : Option Found) → Steady {S = S} false (given_row x name o)
   unfolding given_row method_row Steady
-  given_steady x name None = missing_steady name
+  given_steady x name None = missing_steady Value name
   given_steady x name (Some (Plain y)) = tt
   given_steady x name (Some (Bound f)) = (refl, λ a. tt)
 
@@ -270,7 +270,7 @@ module _ (S : Type 0) where
 
   set_in_steady : (name : ℕ) (y : Value) (o : Option Addr) → Steady {S = S} false (set_in name y o)
   unfolding set_in
-  set_in_steady name y None = missing_steady name
+  set_in_steady name y None = missing_steady (Unit {0}) name
   set_in_steady name y (Some d) = let s = dict_steady S in s.set d.0 (ref name) y
 
   set_steady : (name : ℕ) (x y : Value) → Steady {S = S} false (set_attr_row x name y)
@@ -280,7 +280,7 @@ module _ (S : Type 0) where
   gone_steady : (name : ℕ) (g : Got Value) → Steady {S = S} false (gone_row name g)
   unfolding gone_row Steady
   gone_steady name (Is x) = tt
-  gone_steady name (Raise e) = missing_steady name
+  gone_steady name (Raise e) = missing_steady (Unit {0}) name
 
   -- a pair is taken out, and then nothing grows
   drop_steady : (name d : ℕ) (o : Option ℕ) → Steady {S = S} false (bind (drop_found d (ref name) o) (λ g. gone_row name g))
@@ -299,7 +299,7 @@ module _ (S : Type 0) where
 
   del_in_steady : (name : ℕ) (o : Option Addr) → Steady {S = S} false (del_in name o)
   unfolding del_in
-  del_in_steady name None = missing_steady name
+  del_in_steady name None = missing_steady (Unit {0}) name
   del_in_steady name (Some d) = taken_steady name d.0
 
   del_steady : (name : ℕ) (x : Value) → Steady {S = S} false (del_attr_row x name)

@@ -8,7 +8,7 @@ use Rattle.py_data.specs.declared.value.Value.{Value}
 use Rattle.py_data.specs.declared.value.Value.TheVariants.{Ref, Builtin}
 use Rattle.py_data.specs.declared.record.Got.{Got}
 use Rattle.py_data.specs.declared.record.Got.TheVariants.{Is, Raise}
-use Rattle.py_data.specs.Heap.{Rec, value_at, new_rec}
+use Rattle.py_data.specs.Heap.{value_at, new_rec}
 use Rattle.py_data.specs.Row.{Row, Ret, Do, Read, Find, Make, bind}
 use Rattle.py_data.specs.Looking.{look_row, bytes_row, walk_row}
 use Rattle.obj_dict.specs.Dict.{set_row, del_row}

@@ -1,5 +1,5 @@
 -- What the attribute of a value is: an instance's own first, then the nearest class's. States `docs/LANGUAGE.md`, "Attributes".
-use Rattle.std.specs.Prelude.{◌≡◌, ℕ, zero, suc, ◌+◌, ◌*◌, ◌<◌, cond, codes, List, [], ◌∷◌, ◌++◌, Option, Some, None, option_map}
+use Rattle.std.specs.Prelude.{◌≡◌, ℕ, zero, suc, ◌+◌, ◌*◌, ◌<◌, cond, codes, List, [], ◌++◌, Option, Some, None, option_map}
 use Rattle.py_base.specs.declared.kind.Kind.{Kind}
 use Rattle.py_base.specs.declared.kind.Kind.TheVariants.{Function, Class, Instance}
 use Rattle.py_base.specs.Numbers.{class_number}

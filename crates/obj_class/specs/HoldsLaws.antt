@@ -1,7 +1,7 @@
 -- Over each heap in order the operations on classes, attributes and exceptions hold; and no record is longer in their course
 -- than before or at the end. States `docs/LANGUAGE.md`, "Classes and instances", "Attributes" and "Exceptions", and
 -- `docs/HEAP.md`, "Rows that hold".
-use Rattle.std.specs.Prelude.{◌≡◌, ℕ, Bool, false, Option}
+use Rattle.std.specs.Prelude.{◌≡◌, ℕ, false}
 use Rattle.py_base.specs.declared.kind.Kind.TheVariants.{Str, Class}
 use Rattle.py_data.specs.declared.value.Value.{Value}
 use Rattle.py_data.specs.declared.record.Fault.{Fault}
@@ -13,7 +13,6 @@ use Rattle.py_data.specs.Looking.{Looks}
 use Rattle.py_data.specs.Order.{Rules, IsOrdered}
 use Rattle.py_data.specs.Shape.{RefTo}
 use Rattle.py_data.specs.Steady.{Steady}
-use Rattle.obj_class.specs.declared.lookup.Found.{Found}
 use Rattle.obj_class.specs.Attributes.{attribute}
 use Rattle.obj_class.specs.AttrRows.{find_attr_row, attr_row, set_attr_row, del_attr_row}
 use Rattle.obj_class.specs.Bases.{ref, MOST_BASES, is_below, is_sub_row}

@@ -1,6 +1,6 @@
 -- What is below what, and which attribute comes first, in the words in which `src/laws.rt` ensures them. States
 -- `docs/LANGUAGE.md`, "Classes and instances" and "Attributes".
-use Rattle.std.specs.Prelude.{◌≡◌, ℕ, suc, ◌≤◌, true, Option, Some, None, option_map}
+use Rattle.std.specs.Prelude.{◌≡◌, ℕ, suc, ◌≤◌, true, Some, None, option_map}
 use Rattle.py_base.specs.declared.kind.Kind.TheVariants.{Class, Instance}
 use Rattle.py_data.specs.declared.value.Value.{Value}
 use Rattle.py_data.specs.Closed.{BasesEnd}

@@ -1,4 +1,4 @@
-use Rattle.std.proofs.Common.{arith, ◌-◌, false, subst, Ok}
+use Rattle.std.proofs.Common.{arith, false, subst, Ok}
 use Rattle.py_data.specs.Sense.{Meets}
 use Rattle.py_data.proofs.Steps.{stop-as}
 use Rattle.py_data.proofs.Turns.{walk_safe, walk_stop, walk_more, walk_done, walk_end}
