@@ -82,7 +82,7 @@ members_below false false = refl
 -- ---- what is found
 module _ (rules : Rules) (h : Heap) (order : IsOrdered rules h) where
   -- an item; and what is bound can be called
-  abbrev IsGood : Found → Type 0
+  abbrev pub IsGood : Found → Type 0
   IsGood (Plain x) = IsItem h x
   IsGood (Bound f) = IsItem h f × IsCallable h f
 
@@ -169,7 +169,7 @@ module _ (rules : Rules) (h : Heap) (order : IsOrdered rules h) where
   kind_good a name r e Lock f = methods_good Lock (bytes_in (h name))
   kind_good a name r e Thread f = methods_good Thread (bytes_in (h name))
 
-  attribute_good : (roots name : ℕ) (x : Value) → IsRoots h roots → IfSome (attribute h roots x name) IsGood
+  pub attribute_good : (roots name : ℕ) (x : Value) → IsRoots h roots → IfSome (attribute h roots x name) IsGood
   attribute_good roots name (Ref a) i = by (h a.0) refl
     where
       by : (o : Option Rec) → h a.0 ≡ o → IfSome (of_record h (Ref a) name (h a.0)) IsGood

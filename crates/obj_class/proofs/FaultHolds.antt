@@ -44,7 +44,7 @@ put_stays h h1 a n r q e x i d = elim (cases_Bool (eqb a n)) [
 ]
 
 -- what was made is there
-made_here : (h h1 : Heap) (a : ℕ) (r : Rec) → h1 ≡ put_at h a r → h1 a ≡ Some r
+pub made_here : (h h1 : Heap) (a : ℕ) (r : Rec) → h1 ≡ put_at h a r → h1 a ≡ Some r
 made_here h h1 a r e = ap (λ g. g a) e ∙ with_rec_here a r h
 
 -- its address refers to it

@@ -5,5 +5,6 @@ pub mod Parts
 pub mod AttrLooks
 pub mod AttrHolds
 pub mod FaultHolds
+pub mod Given
 pub mod SteadyRows
 pub mod Held

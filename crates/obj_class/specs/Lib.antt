@@ -6,3 +6,4 @@ pub mod AttrRows
 pub mod Exceptions
 pub mod Laws
 pub mod HoldsLaws
+pub mod Worked
