@@ -15,28 +15,28 @@ use Rattle.py_data.specs.Answers.{IsGot, IfItem, IsAnswer, IsDone}
 use Rattle.py_data.specs.Closed.{Refers, IsItem}
 use Rattle.py_data.specs.Heap.{Heap, Rec, value_at, new_rec}
 use Rattle.py_data.specs.Holds.{Holds}
-use Rattle.py_data.specs.Looking.{Looks, look_row, bytes_row}
+use Rattle.py_data.specs.Looking.{bytes_row}
 use Rattle.py_data.specs.Order.{Rules, IsOrdered}
 use Rattle.py_data.specs.Row.{Ret}
 use Rattle.py_data.specs.Shape.{KindIn, RefTo, IsCallable}
 use Rattle.py_data.proofs.Holding.{holds_ret, holds_bind}
 use Rattle.py_data.proofs.HoldingCalls.{holds_make, holds_looks}
 use Rattle.py_data.proofs.Keep.{ref_stays}
-use Rattle.py_data.proofs.Looking.{looks_ret, looks_then, look_looks, bytes_looks}
+use Rattle.py_data.proofs.Looking.{bytes_looks}
 use Rattle.py_data.proofs.Making.{made_fits}
 use Rattle.obj_dict.specs.Dict.{del_row}
 use Rattle.obj_dict.specs.HoldsLaws.{IsDictAt}
 use Rattle.obj_dict.proofs.Holding.{dict_holds}
-use Rattle.obj_nest.specs.Levels.{kind_row}
-use Rattle.obj_nest.proofs.KindLooks.{some_of, kind_looks}
+use Rattle.obj_nest.proofs.KindLooks.{some_of}
 use Rattle.obj_class.specs.declared.lookup.Found.{Found}
 use Rattle.obj_class.specs.declared.lookup.Found.TheVariants.{Plain, Bound}
-use Rattle.obj_class.specs.Attributes.{attribute, attribute_fault, bound, bound_in, bound_of, bytes_in, inherited, kept, of_builtin, of_kind, of_methods, of_record, own_first, values_in}
-use Rattle.obj_class.specs.AttrRows.{address_in, attr_row, del_attr_row, del_in, dict_at, dict_by, dict_row, find_attr_row, given_row, gone_row, method_row, missing_row, set_attr_row, set_in, taken_row}
+use Rattle.obj_class.specs.Attributes.{address_in, attribute, attribute_fault, bound, bound_in, bound_of, bytes_in, dict_of_kind, dict_of_record, inherited, kept, of_builtin, of_kind, of_methods, of_record, own_dict, own_first, values_in}
+use Rattle.obj_class.specs.AttrRows.{attr_row, del_attr_row, del_in, dict_row, find_attr_row, given_row, gone_row, method_row, missing_row, set_attr_row, set_in, taken_row}
 use Rattle.obj_class.specs.Bases.{MOST_BASES, ref}
 use Rattle.obj_class.specs.Named.{is_error, is_thread, is_threading, member_of, method_of, methods_of, thread_members, threading_members}
 use Rattle.obj_class.specs.Roots.{IsRoots, class_place, root_class}
 use Rattle.obj_class.proofs.AttrLooks.{find_looks}
+use Rattle.obj_class.proofs.OwnDict.{dict_looks}
 use Rattle.obj_class.proofs.Parts.{Is, is_at, of_class_at, of_instance_at, kept_item, inherited_item, some_class}
 
 -- ---- the numbers of builtins that are attributes are numbers of builtins
@@ -223,38 +223,30 @@ module _ {S : Type 0} (rules : Rules) (stands : Heap → S → Type 0) where
   address_dict h (Int n) i = absurd i
   address_dict h (Builtin b) i = absurd i
 
-  at_looks : (h : Heap) (a i : ℕ) (r : Rec) → h a ≡ Some r → RefTo h Dict (value_at r.values i) → Looks {S = S} (IfDict h) (dict_at a i) h
-  unfolding dict_at
-  at_looks h a i r e d =
-      looks_then (λ x. x ≡ value_at r.values i) (IfDict h) (look_row a i) (λ d. Ret (address_in d)) h (look_looks S h a r e i)
-      (λ x f. looks_ret S (IfDict h) (address_in x) h (subst (λ x. IfDict h (address_in x)) (sym f) (address_dict h (value_at r.values i) d)))
+  kind_dict : (h : Heap) → IsOrdered rules h → (a : ℕ) (r : Rec) → h a ≡ Some r → (k : Kind) → r.kind ≡ k → IfDict h (dict_of_kind r.values k)
+  kind_dict h order a r e Instance f = address_dict h (value_at r.values 1) (of_instance_at rules h order a (record { rec = r; here = e; kind = f })).1
+  kind_dict h order a r e Class f = address_dict h (value_at r.values 2) (of_class_at rules h order a (record { rec = r; here = e; kind = f })).1
+  kind_dict h order a r e Str f = tt
+  kind_dict h order a r e Tuple f = tt
+  kind_dict h order a r e ListKind f = tt
+  kind_dict h order a r e Dict f = tt
+  kind_dict h order a r e Cell f = tt
+  kind_dict h order a r e Function f = tt
+  kind_dict h order a r e Method f = tt
+  kind_dict h order a r e Iter f = tt
+  kind_dict h order a r e Range f = tt
+  kind_dict h order a r e Lock f = tt
+  kind_dict h order a r e Thread f = tt
 
-  by_looks : (h : Heap) → IsOrdered rules h → (a : ℕ) (r : Rec) → h a ≡ Some r → (k : Kind) → r.kind ≡ k → Looks {S = S} (IfDict h) (dict_by a k) h
-  unfolding dict_by
-  by_looks h order a r e Instance f = at_looks h a 1 r e (of_instance_at rules h order a (record { rec = r; here = e; kind = f })).1
-  by_looks h order a r e Class f = at_looks h a 2 r e (of_class_at rules h order a (record { rec = r; here = e; kind = f })).1
-  by_looks h order a r e Str f = looks_ret S (IfDict h) None h tt
-  by_looks h order a r e Tuple f = looks_ret S (IfDict h) None h tt
-  by_looks h order a r e ListKind f = looks_ret S (IfDict h) None h tt
-  by_looks h order a r e Dict f = looks_ret S (IfDict h) None h tt
-  by_looks h order a r e Cell f = looks_ret S (IfDict h) None h tt
-  by_looks h order a r e Function f = looks_ret S (IfDict h) None h tt
-  by_looks h order a r e Method f = looks_ret S (IfDict h) None h tt
-  by_looks h order a r e Iter f = looks_ret S (IfDict h) None h tt
-  by_looks h order a r e Range f = looks_ret S (IfDict h) None h tt
-  by_looks h order a r e Lock f = looks_ret S (IfDict h) None h tt
-  by_looks h order a r e Thread f = looks_ret S (IfDict h) None h tt
-
-  dict_looks : (h : Heap) → IsOrdered rules h → (x : Value) → Refers h x → Looks {S = S} (IfDict h) (dict_row x) h
-  unfolding dict_row
-  dict_looks h order (Ref a) i =
+  own_is_dict : (h : Heap) → IsOrdered rules h → (x : Value) → Refers h x → IfDict h (own_dict h x)
+  own_is_dict h order (Ref a) i =
       let t = some_of (h a.0) i in
-      looks_then (λ k. k ≡ t.0.kind) (IfDict h) (kind_row a.0) (λ k. dict_by a.0 k) h (kind_looks S h a.0 t.0 t.1) (λ k e. by_looks h order a.0 t.0 t.1 k (sym e))
-  dict_looks h order Unset i = looks_ret S (IfDict h) None h tt
-  dict_looks h order NoneValue i = looks_ret S (IfDict h) None h tt
-  dict_looks h order (BoolValue b) i = looks_ret S (IfDict h) None h tt
-  dict_looks h order (Int n) i = looks_ret S (IfDict h) None h tt
-  dict_looks h order (Builtin b) i = looks_ret S (IfDict h) None h tt
+      subst (λ o. IfDict h (dict_of_record o)) (sym t.1) (kind_dict h order a.0 t.0 t.1 t.0.kind refl)
+  own_is_dict h order Unset i = tt
+  own_is_dict h order NoneValue i = tt
+  own_is_dict h order (BoolValue b) i = tt
+  own_is_dict h order (Int n) i = tt
+  own_is_dict h order (Builtin b) i = tt
 
   text_item : (h : Heap) (name : ℕ) → RefTo h Str (ref name) → IsItem h (ref name)
   text_item h name t = let i = is_at h Str name t in (ap is_some i.here, λ q. let z : ref name ≡ Unset = q in cc)
@@ -266,7 +258,7 @@ module _ {S : Type 0} (rules : Rules) (stands : Heap → S → Type 0) where
 
   pub set_holds : (h : Heap) (name : ℕ) (x y : Value) → IsOrdered rules h → IsItem h x → RefTo h Str (ref name) → IsItem h y → Holds rules stands IsDone (set_attr_row x name y) h
   unfolding set_attr_row
-  set_holds h name x y order i t j = holds_looks rules stands IsDone (IfDict h) (dict_row x) (λ o. set_in name y o) h order (dict_looks h order x i.0) (set_in_holds h name y order t j)
+  set_holds h name x y order i t j = holds_looks rules stands IsDone (λ z. z ≡ own_dict h x) (dict_row x) (λ o. set_in name y o) h order (dict_looks S h x i.0) (λ o e. set_in_holds h name y order t j o (subst (IfDict h) (sym e) (own_is_dict h order x i.0)))
 
   gone_holds : (h : Heap) (name : ℕ) → IsOrdered rules h → RefTo h Str (ref name) → (g : Got Value) → Holds rules stands IsDone (gone_row {S = S} name g) h
   unfolding gone_row
@@ -283,4 +275,4 @@ module _ {S : Type 0} (rules : Rules) (stands : Heap → S → Type 0) where
 
   pub del_holds : (h : Heap) (name : ℕ) (x : Value) → IsOrdered rules h → IsItem h x → RefTo h Str (ref name) → Holds rules stands IsDone (del_attr_row x name) h
   unfolding del_attr_row
-  del_holds h name x order i t = holds_looks rules stands IsDone (IfDict h) (dict_row x) (λ o. del_in name o) h order (dict_looks h order x i.0) (del_in_holds h name order t)
+  del_holds h name x order i t = holds_looks rules stands IsDone (λ z. z ≡ own_dict h x) (dict_row x) (λ o. del_in name o) h order (dict_looks S h x i.0) (λ o e. del_in_holds h name order t o (subst (IfDict h) (sym e) (own_is_dict h order x i.0)))

@@ -3,6 +3,7 @@ pub mod Nearest
 pub mod RootsKept
 pub mod Parts
 pub mod AttrLooks
+pub mod OwnDict
 pub mod AttrHolds
 pub mod FaultHolds
 pub mod Given

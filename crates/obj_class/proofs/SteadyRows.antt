@@ -23,8 +23,8 @@ use Rattle.obj_dict.proofs.SteadyRows.{dict_steady}
 use Rattle.obj_nest.specs.Levels.{kind_row}
 use Rattle.obj_class.specs.declared.lookup.Found.{Found}
 use Rattle.obj_class.specs.declared.lookup.Found.TheVariants.{Plain, Bound}
-use Rattle.obj_class.specs.Attributes.{attribute_fault, bound_of, of_methods}
-use Rattle.obj_class.specs.AttrRows.{address_in, attr_row, bound_row, builtin_row, class_row, class_step, del_attr_row, del_in, dict_at, dict_by, dict_row, error_row, find_attr_row, found_by, from_class, given_row, gone_row, heir_step, held_row, if_found, inherited_row, instance_row, kept_row, member_row, method_row, methods_row, missing_row, next_class, own_or_class, own_row, pair_row, set_attr_row, set_in, taken_row}
+use Rattle.obj_class.specs.Attributes.{address_in, attribute_fault, bound_of, of_methods}
+use Rattle.obj_class.specs.AttrRows.{attr_row, bound_row, builtin_row, class_row, class_step, del_attr_row, del_in, dict_at, dict_by, dict_row, error_row, find_attr_row, found_by, from_class, given_row, gone_row, heir_step, held_row, if_found, inherited_row, instance_row, kept_row, member_row, method_row, methods_row, missing_row, next_class, own_or_class, own_row, pair_row, set_attr_row, set_in, taken_row}
 use Rattle.obj_class.specs.Bases.{MOST_BASES, ref, base_step, sub_step, is_sub_row}
 use Rattle.obj_class.specs.Exceptions.{args_row, dict_of_args, exception_row, fault_row, is_tellable, keyed_row, made_row, numbered_row, told_row}
 use Rattle.obj_class.specs.HoldsLaws.{ClassSteady}

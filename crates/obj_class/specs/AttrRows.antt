@@ -18,7 +18,7 @@ use Rattle.obj_class.specs.declared.lookup.Found.TheVariants.{Plain, Bound}
 use Rattle.obj_class.specs.Bases.{ref, MOST_BASES}
 use Rattle.obj_class.specs.Roots.{class_place}
 use Rattle.obj_class.specs.Named.{member_of, is_error}
-use Rattle.obj_class.specs.Attributes.{attribute_fault, bound_of, of_methods}
+use Rattle.obj_class.specs.Attributes.{address_in, attribute_fault, bound_of, of_methods}
 
 -- ---- dictionaries
 
@@ -124,11 +124,6 @@ unfoldable pub attr_row : {S : Type 0} → ℕ → Value → ℕ → Row S (Got 
 attr_row roots x name = bind (find_attr_row roots x name) (λ o. given_row x name o)
 
 -- ---- set and del
-
--- the address in a value
-abbrev pub address_in : Value → Option Addr
-address_in (Ref d) = Some d
-address_in _ = None
 
 unfoldable pub dict_at : {S : Type 0} → ℕ → ℕ → Row S (Option Addr)
 dict_at a i = bind (look_row a i) (λ d. Ret (address_in d))

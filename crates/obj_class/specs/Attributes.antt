@@ -3,6 +3,7 @@ use Rattle.std.specs.Prelude.{◌≡◌, ℕ, zero, suc, ◌+◌, ◌*◌, ◌<�
 use Rattle.py_base.specs.declared.kind.Kind.{Kind}
 use Rattle.py_base.specs.declared.kind.Kind.TheVariants.{Function, Class, Instance}
 use Rattle.py_base.specs.Numbers.{class_number}
+use Rattle.py_data.specs.declared.value.Addr.{Addr}
 use Rattle.py_data.specs.declared.value.Value.{Value}
 use Rattle.py_data.specs.declared.value.Value.TheVariants.{Ref, Builtin}
 use Rattle.py_data.specs.declared.record.Fault.{Fault}
@@ -111,3 +112,24 @@ abbrev pub attribute : Heap → ℕ → Value → ℕ → Option Found
 attribute h roots (Ref a) name = of_record h (Ref a) name (h a.0)
 attribute h roots (Builtin b) name = of_builtin (values_in (h roots)) b (bytes_in (h name))
 attribute h roots _ name = None
+
+-- ---- what a value has itself
+
+-- the address in a value
+abbrev pub address_in : Value → Option Addr
+address_in (Ref d) = Some d
+address_in _ = None
+
+abbrev pub dict_of_kind : List Value → Kind → Option Addr
+dict_of_kind vs Instance = address_in (value_at vs 1)
+dict_of_kind vs Class = address_in (value_at vs 2)
+dict_of_kind vs _ = None
+
+abbrev pub dict_of_record : Option Rec → Option Addr
+dict_of_record None = None
+dict_of_record (Some r) = dict_of_kind r.values r.kind
+
+-- the dictionary of the attributes that a value has itself: an instance and a class have one
+abbrev pub own_dict : Heap → Value → Option Addr
+own_dict h (Ref a) = dict_of_record (h a.0)
+own_dict h _ = None

@@ -1,15 +1,21 @@
 -- What is below what, and which attribute comes first, in the words in which `src/laws.rt` ensures them. States
 -- `docs/LANGUAGE.md`, "Classes and instances" and "Attributes".
-use Rattle.std.specs.Prelude.{◌≡◌, ℕ, suc, ◌≤◌, true, Some, None, option_map}
+use Rattle.std.specs.Prelude.{List, ◌≡◌, ℕ, suc, ◌≤◌, true, Some, None, option_map}
 use Rattle.py_base.specs.declared.kind.Kind.TheVariants.{Class, Instance}
 use Rattle.py_data.specs.declared.value.Value.{Value}
-use Rattle.py_data.specs.Closed.{BasesEnd}
+use Rattle.py_data.specs.declared.value.Addr.{Addr}
+use Rattle.py_data.specs.declared.record.Got.{Got}
+use Rattle.py_data.specs.declared.record.Got.TheVariants.{Is, Raise}
+use Rattle.py_data.specs.Closed.{BasesEnd, IsItem}
 use Rattle.py_data.specs.Heap.{Heap, Rec, value_at}
 use Rattle.py_data.specs.Order.{Extends}
+use Rattle.py_data.specs.Sense.{Sense, Run}
+use Rattle.obj_dict.specs.Dict.{set_row, del_row}
 use Rattle.obj_class.specs.declared.lookup.Found.TheVariants.{Plain}
 use Rattle.obj_class.specs.Bases.{ref, MOST_BASES, IsBelow, is_below}
 use Rattle.obj_class.specs.Roots.{IsRoots}
-use Rattle.obj_class.specs.Attributes.{attribute, bound, inherited, kept, IsNearest}
+use Rattle.obj_class.specs.Attributes.{attribute, attribute_fault, bound, bytes_in, inherited, kept, own_dict, IsNearest}
+use Rattle.obj_class.specs.AttrRows.{set_attr_row, del_attr_row}
 
 pub record BelowLaw : Type 0 where
   -- a class is below itself
@@ -36,3 +42,20 @@ pub record AttributeLaw : Type 0 where
 -- a list of roots stays one
 abbrev pub RootsStay : Type 0
 RootsStay = (h h1 : Heap) (roots : ℕ) → Extends h h1 → IsRoots h roots → IsRoots h1 roots
+
+-- a name was taken out, or wasn't there
+abbrev pub done_or_missing : Got Value → List ℕ → Got (Unit {0})
+done_or_missing (Is x) name = Is tt
+done_or_missing (Raise e) name = Raise (attribute_fault name)
+
+-- How setting and deleting an attribute follow from the operations on dictionaries, over each view: by the
+-- laws of these operations a name that is set again keeps its place, a new one comes last, and a deleted one is gone.
+pub record OwnLaw {S X : Type 0} (u : Sense S X) : Type 0 where
+  -- of an instance and a class it is the dictionary's own operation, over the same records
+  pub set : (x y : Value) (name : ℕ) (d : Addr) (v w : X) (res : Got (Unit {0})) → IsItem (u.heap v) x → own_dict (u.heap v) x ≡ Some d → Run u (set_attr_row x name y) v res w
+      → (m : X) × (u.heap m ≡ u.heap v) × Run u (set_row d.0 (ref name) y) m res w
+  pub del : (x : Value) (name : ℕ) (d : Addr) (v w : X) (res : Got (Unit {0})) → IsItem (u.heap v) x → own_dict (u.heap v) x ≡ Some d → Run u (del_attr_row x name) v res w
+      → (m : X) × (n : X) × (g : Got Value) × (u.heap m ≡ u.heap v) × Run u (del_row d.0 (ref name)) m g n × (res ≡ done_or_missing g (bytes_in (u.heap n name))) × (u.heap w ≡ u.heap n)
+  -- of any other value it raises AttributeError, and leaves all records
+  pub set_none : (x y : Value) (name : ℕ) (v w : X) (res : Got (Unit {0})) → IsItem (u.heap v) x → own_dict (u.heap v) x ≡ None → Run u (set_attr_row x name y) v res w → (res ≡ Raise (attribute_fault (bytes_in (u.heap v name)))) × (u.heap w ≡ u.heap v)
+  pub del_none : (x : Value) (name : ℕ) (v w : X) (res : Got (Unit {0})) → IsItem (u.heap v) x → own_dict (u.heap v) x ≡ None → Run u (del_attr_row x name) v res w → (res ≡ Raise (attribute_fault (bytes_in (u.heap v name)))) × (u.heap w ≡ u.heap v)

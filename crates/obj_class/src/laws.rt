@@ -1,9 +1,9 @@
 //! What the operations on classes, attributes and exceptions do, as laws: a call of such a function does nothing, and gives its
 //! caller's proof the facts of its clauses.
 ghost use Rattle.obj_class.specs.HoldsLaws.{ClassHolds, ClassSteady};
-ghost use Rattle.obj_class.specs.Laws.{AttributeLaw, BelowLaw, RootsStay};
+ghost use Rattle.obj_class.specs.Laws.{AttributeLaw, BelowLaw, OwnLaw, RootsStay};
 
-use py_data::Demands;
+use py_data::{Demands, View};
 
 /// A class is below itself and below what its bases are below; the test finds just this, where the way along bases ends.
 pub fn below_law()
@@ -13,6 +13,11 @@ pub fn below_law()
 /// An instance's own attribute comes before its class's, and the nearest class that has one before its bases.
 pub fn attribute_law()
     ensures { AttributeLaw }
+{}
+
+/// To set or delete an attribute is an operation on the dictionary of the instance or the class itself.
+pub fn own_law<S, V: View<S>>()
+    ensures { OwnLaw V.sense }
 {}
 
 /// A list of roots stays one.

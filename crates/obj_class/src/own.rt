@@ -2,7 +2,8 @@
 ghost use Rattle.std.specs.Prelude.{◌≡◌};
 ghost use Rattle.py_data.specs.declared.value.Value.TheVariants.{Ref};
 ghost use Rattle.py_data.specs.Sense.{Meets, Safe, IsLive};
-ghost use Rattle.obj_class.specs.AttrRows.{address_in, del_attr_row, del_in, dict_at, dict_by, dict_row, gone_row, set_attr_row, set_in, taken_row};
+ghost use Rattle.obj_class.specs.Attributes.{address_in};
+ghost use Rattle.obj_class.specs.AttrRows.{del_attr_row, del_in, dict_at, dict_by, dict_row, gone_row, set_attr_row, set_in, taken_row};
 
 use crate::attributes::missing;
 use obj_nest::{kind, look};
