@@ -5,6 +5,9 @@ ghost use Rattle.obj_class.specs.Bases.{base_step, is_sub_row, sub_step};
 use obj_nest::look;
 use py_data::{Addr, Stop, Value, View};
 
+/// As many turns as there are addresses: no way along bases is longer.
+pub const MOST_BASES: u64 = 4_294_967_296;
+
 /// One turn at a class: its base, or the answer.
 #[tactic(auto, using(py_data::proofs::Rows::row_steps, py_data::proofs::Steps::call_steps), unfolding(crate::specs::Bases::base_step))]
 fn base_step<S, V: View<S>>(v: &mut V, base: Addr, c: Addr) -> Result<Result<Value, bool>, Stop>
@@ -41,7 +44,7 @@ pub fn is_sub<S, V: View<S>>(v: &mut V, c: Addr, base: Addr) -> Result<bool, Sto
     ensures { Meets V.sense (is_sub_row c.0 base.0) v.old v.new result }
 {
     let mut at = Value::Ref(c);
-    'turns: for _ in 0..4_294_967_296u64 {
+    'turns: for _ in 0..MOST_BASES {
         let turn = sub_step(v, base, at)?;
         match turn {
             Ok(b) => at = b,

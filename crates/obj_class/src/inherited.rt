@@ -2,6 +2,7 @@
 ghost use Rattle.py_data.specs.Sense.{Meets, Safe, IsLive};
 ghost use Rattle.obj_class.specs.AttrRows.{class_step, heir_step, held_row, inherited_row, kept_row, next_class, own_row};
 
+use crate::bases::MOST_BASES;
 use obj_nest::look;
 use py_data::{Addr, Stop, Value, View};
 
@@ -101,7 +102,7 @@ pub fn inherited<S, V: View<S>>(v: &mut V, key: Value, class: Value) -> Result<O
     ensures { Meets V.sense (inherited_row key class) v.old v.new result }
 {
     let mut at = class;
-    'turns: for _ in 0..4_294_967_296u64 {
+    'turns: for _ in 0..MOST_BASES {
         let turn = heir_step(v, key, at)?;
         match turn {
             Ok(base) => at = base,
