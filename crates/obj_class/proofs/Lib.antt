@@ -1,6 +1,7 @@
 pub mod Below
 pub mod Nearest
 pub mod RootsKept
+pub mod ExceptionClasses
 pub mod Parts
 pub mod AttrLooks
 pub mod OwnDict

@@ -1,7 +1,8 @@
 -- What is below what, and which attribute comes first, in the words in which `src/laws.rt` ensures them. States
 -- `docs/LANGUAGE.md`, "Classes and instances" and "Attributes".
-use Rattle.std.specs.Prelude.{List, ◌≡◌, ℕ, suc, ◌≤◌, true, Some, None, option_map}
+use Rattle.std.specs.Prelude.{◌≡◌, ℕ, suc, ◌<◌, ◌≤◌, true, codes, List, Some, None, option_map}
 use Rattle.py_base.specs.declared.kind.Kind.TheVariants.{Class, Instance}
+use Rattle.py_base.specs.Numbers.{class_count}
 use Rattle.py_data.specs.declared.value.Value.{Value}
 use Rattle.py_data.specs.declared.value.Addr.{Addr}
 use Rattle.py_data.specs.declared.record.Got.{Got}
@@ -13,7 +14,7 @@ use Rattle.py_data.specs.Sense.{Sense, Run}
 use Rattle.obj_dict.specs.Dict.{set_row, del_row}
 use Rattle.obj_class.specs.declared.lookup.Found.TheVariants.{Plain}
 use Rattle.obj_class.specs.Bases.{ref, MOST_BASES, IsBelow, is_below}
-use Rattle.obj_class.specs.Roots.{IsRoots}
+use Rattle.obj_class.specs.Roots.{IsExceptionClass, IsRoots, class_place, root_class}
 use Rattle.obj_class.specs.Attributes.{attribute, attribute_fault, bound, bytes_in, inherited, kept, own_dict, IsNearest}
 use Rattle.obj_class.specs.AttrRows.{set_attr_row, del_attr_row}
 
@@ -42,6 +43,11 @@ pub record AttributeLaw : Type 0 where
 -- a list of roots stays one
 abbrev pub RootsStay : Type 0
 RootsStay = (h h1 : Heap) (roots : ℕ) → Extends h h1 → IsRoots h roots → IsRoots h1 roots
+
+-- Of the classes that every program has, all but `object` are exception classes.
+pub record ExceptionsLaw : Type 0 where
+  pub are : (h : Heap) (roots n : ℕ) → (r : IsRoots h roots) → 0 < n → n < class_count → IsExceptionClass h r.list.values (value_at r.list.values (class_place n))
+  pub object : (h : Heap) (roots : ℕ) → (r : IsRoots h roots) → IsExceptionClass h r.list.values (root_class r.list.values (codes "object")) → ⊥
 
 -- a name was taken out, or wasn't there
 abbrev pub done_or_missing : Got Value → List ℕ → Got (Unit {0})

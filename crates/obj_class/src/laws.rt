@@ -1,7 +1,7 @@
 //! What the operations on classes, attributes and exceptions do, as laws: a call of such a function does nothing, and gives its
 //! caller's proof the facts of its clauses.
 ghost use Rattle.obj_class.specs.HoldsLaws.{ClassHolds, ClassSteady};
-ghost use Rattle.obj_class.specs.Laws.{AttributeLaw, BelowLaw, OwnLaw, RootsStay};
+ghost use Rattle.obj_class.specs.Laws.{AttributeLaw, BelowLaw, ExceptionsLaw, OwnLaw, RootsStay};
 
 use py_data::{Demands, View};
 
@@ -20,9 +20,10 @@ pub fn own_law<S, V: View<S>>()
     ensures { OwnLaw V.sense }
 {}
 
-/// A list of roots stays one.
+/// A list of roots stays one; and of its classes all but `object` are exception classes.
 pub fn roots_law()
-    ensures { RootsStay }
+    ensures stay { RootsStay }
+    ensures exceptions { ExceptionsLaw }
 {}
 
 /// Over each heap in order, with its list of roots and with items of it, each operation may be begun, answers what it should,
