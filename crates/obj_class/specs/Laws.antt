@@ -1,5 +1,6 @@
--- What is below what, and which attribute comes first, in the words in which `src/laws.rt` ensures them. States
--- `docs/LANGUAGE.md`, "Classes and instances" and "Attributes".
+-- What is below what, which attribute comes first, which classes are exception classes, and how attributes are set and deleted,
+-- in the words in which `src/laws.rt` ensures them. States `docs/LANGUAGE.md`, "Classes and instances", "Attributes" and
+-- "Exceptions".
 use Rattle.std.specs.Prelude.{◌≡◌, ℕ, suc, ◌<◌, ◌≤◌, true, codes, List, Some, None, option_map}
 use Rattle.py_base.specs.declared.kind.Kind.TheVariants.{Class, Instance}
 use Rattle.py_base.specs.Numbers.{class_count}
@@ -54,8 +55,8 @@ abbrev pub done_or_missing : Got Value → List ℕ → Got (Unit {0})
 done_or_missing (Is x) name = Is tt
 done_or_missing (Raise e) name = Raise (attribute_fault name)
 
--- How setting and deleting an attribute follow from the operations on dictionaries, over each view: by the
--- laws of these operations a name that is set again keeps its place, a new one comes last, and a deleted one is gone.
+-- How setting and deleting an attribute follow from the operations on dictionaries, over each view: by the laws of these a name
+-- that is set again keeps its place, a new one comes last, and a deleted one is gone.
 pub record OwnLaw {S X : Type 0} (u : Sense S X) : Type 0 where
   -- of an instance and a class it is the dictionary's own operation, over the same records
   pub set : (x y : Value) (name : ℕ) (d : Addr) (v w : X) (res : Got (Unit {0})) → IsItem (u.heap v) x → own_dict (u.heap v) x ≡ Some d → Run u (set_attr_row x name y) v res w
