@@ -1,5 +1,5 @@
--- What a program has in its heap from its first step on: the list of roots, with the classes that every program has. States
--- `docs/LANGUAGE.md`, "Exceptions" and "Instructions".
+-- What a program has in its heap from its first step on: the list of roots, with the classes that every program has.
+-- States `docs/LANGUAGE.md`, "Exceptions" and "Instructions".
 use Rattle.std.specs.Prelude.{◌≡◌, ℕ, ◌+◌, ◌<◌, ◌==◌, cond, codes, List, [], ◌∷◌, Some, get_or}
 use Rattle.py_base.specs.declared.kind.Kind.TheVariants.{Str, Tuple, Cell, Class}
 use Rattle.py_base.specs.Numbers.{class_names, class_number, class_count}

@@ -1,5 +1,5 @@
--- Worked rows of classes and attributes, over one small heap. They state the examples of `docs/LANGUAGE.md`, "Classes and
--- instances" and "Attributes".
+-- Classes and attributes worked by hand, over one small heap.
+-- States `docs/LANGUAGE.md`, "Classes and instances" and "Attributes".
 use Rattle.std.specs.Prelude.{◌≡◌, pos, codes, true, false, List, [], ◌∷◌, slice_get, Some, None, refl, get_or}
 use Rattle.py_base.specs.Numbers.{builtin_number, class_number}
 use Rattle.py_base.specs.declared.kind.Kind.TheVariants.{Str, Tuple, List as ListKind, Dict, Function, Class, Instance, Thread}
