@@ -220,7 +220,7 @@ module _ {S : Type 0} (p : Prog S) (r r1 l l1 : ℕ) (le : r ≤ r1) (same : l1 
       taken t = go result t.ends
         where
           before : (q : CoreState S) → q.cause ≡ t.before.cause → c1 ≡ q → IsFullKept r1 l1 c1.cause
-          before q e z = as_before q (e ∙ t.gone.cause) z
+          before q e z = as_before q (e ∙ t.gone.rest.cause ∙ t.gone.steps.cause) z
 
           go : (z : Result Advance AdvanceError) → Ends p k r1 l1 t.before t.last z c1 → IsFullKept r1 l1 c1.cause
           go (Ok (Ran n)) e = before t.before refl e.1
@@ -228,7 +228,7 @@ module _ {S : Type 0} (p : Prog S) (r r1 l l1 : ℕ) (le : r ≤ r1) (same : l1 
           go (Ok (Ended n)) e = before t.before refl e.1
           go (Ok (NeedSolo n)) e = before t.before refl e.2
           go (Err (Lost f)) e = before (with_conflict f (with_segment k Idle t.before)) refl e.3
-          go (Err (Failed y)) e = subst (IsFullKept r1 l1) (sym (ap (λ (z : CoreState S). z.cause) e.2)) (cause_first t.before.cause y t.before t.last (full_same r r1 l l1 c.cause t.before.cause le same t.gone.cause old) e.1)
+          go (Err (Failed y)) e = subst (IsFullKept r1 l1) (sym (ap (λ (z : CoreState S). z.cause) e.2)) (cause_first t.before.cause y t.before t.last (full_same r r1 l l1 c.cause t.before.cause le same (t.gone.rest.cause ∙ t.gone.steps.cause) old) e.1)
 
       from : (s : Segment S) → AdvancedFrom s p length k most r1 l1 c result c1 → IsFullKept r1 l1 c1.cause
       from Idle q = absurd q

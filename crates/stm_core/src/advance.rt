@@ -16,9 +16,9 @@ impl<'p, C: Client, S: SegStore> Engine<'p, C, S> {
     ghost use Rattle.stm_core.specs.Whole.{Whole, SameShape};
     ghost use Rattle.stm_core.specs.Advance.{Sane, core_with};
     ghost use Rattle.stm_core.specs.SaneCore.{SaneCore};
-    ghost use Rattle.stm_core.specs.Pauses.{PauseCount};
+    ghost use Rattle.stm_core.specs.Pauses.{tried_by, PauseCount};
     ghost use Rattle.stm_core.specs.Pausing.{PauseWhy};
-    ghost use Rattle.stm_core.specs.Advanced.{CountsDone, Ends, StepsTaken, AdvancedFrom, Advanced};
+    ghost use Rattle.stm_core.specs.Advanced.{CountsDone, tried_after, Ends, StepsTaken, AdvancedFrom, Advanced};
 
     /// What comes of a transaction of segment k, which was taken out of its hand, once its next step was cut.
     fn settle_stop(
@@ -36,6 +36,7 @@ impl<'p, C: Client, S: SegStore> Engine<'p, C, S> {
         ensures reserved { S.reserved self.old.store ≤ S.reserved self.new.store }
         ensures whole { Whole (S.meaning self.new.store) self.new.books }
         ensures count { (most : ℕ) → done < most → CountsDone most done result }
+        ensures tried { tried_after result ≡ 1 }
         ensures ends { (w : World) → w.mid ≡ false → Ends (C.prog self.old.client.now) k (S.reserved self.new.store) (S.meaning self.new.store).limit (core_with w k (S.meaning self.old.store) self.old.books work) (transaction w ((S.meaning self.old.store).part k) work) result (core_of w (S.meaning self.new.store) self.new.books) }
     {
         match stop {
@@ -84,6 +85,7 @@ impl<'p, C: Client, S: SegStore> Engine<'p, C, S> {
         ensures reserved { S.reserved self.old.store ≤ S.reserved self.new.store }
         ensures whole { Whole (S.meaning self.new.store) self.new.books }
         ensures count { (most : ℕ) → PauseCount most done pause → CountsDone most done result }
+        ensures tried { tried_after result ≡ tried_by pause }
         ensures ends { (w : World) → w.mid ≡ false → Ends (C.prog self.old.client.now) k (S.reserved self.new.store) (S.meaning self.new.store).limit (core_with w k (S.meaning self.old.store) self.old.books work) (transaction w ((S.meaning self.old.store).part k) work) result (core_of w (S.meaning self.new.store) self.new.books) }
     {
         match pause {
