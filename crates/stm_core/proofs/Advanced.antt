@@ -51,13 +51,13 @@ comes_to_want {S} p most u x n st mortal short lives r =
 module _ {S : Type 0} (p : Prog S) (most k : ℕ) where
   -- ---- what such moves leave alone
 
-  none_led : (c c1 : CoreState S) → c1 ≡ c → Led p most k c c1
+  abbrev pub none_led : (c c1 : CoreState S) → c1 ≡ c → Led p most k c c1
   none_led c c1 e = record { moves = []; follows = e; own = All-nil (IsOwn k) }
 
-  one_led : (mv : Move S) (c c1 : CoreState S) → IsOwn k mv → Next p most c mv c1 → Led p most k c c1
+  abbrev pub one_led : (mv : Move S) (c c1 : CoreState S) → IsOwn k mv → Next p most c mv c1 → Led p most k c c1
   one_led mv c c1 o n = record { moves = mv ∷ []; follows = (c1, n, refl); own = All-cons (IsOwn k) mv [] o (All-nil (IsOwn k)) }
 
-  led_then : (c u v : CoreState S) → Led p most k c u → Led p most k u v → Led p most k c v
+  abbrev pub led_then : (c u v : CoreState S) → Led p most k c u → Led p most k u v → Led p most k c v
   led_then c u v a b = record { moves = a.moves ++ b.moves; follows = follows_append p most c u v a.moves b.moves a.follows b.follows; own = All-append (IsOwn k) a.moves b.moves a.own b.own }
 
   abbrev Stood : CoreState S → CoreState S → Conflict → Type 0

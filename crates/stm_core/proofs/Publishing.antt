@@ -205,7 +205,7 @@ module _ {S : Type 0} (k : ℕ) (m : Meaning) (b b1 : Books S) where
 
 -- ---- a commit keeps the core good
 
-mem_range : (a n j : ℕ) → a ≤ j → j < a + n → mem j (range_with_len a n) ≡ true
+pub mem_range : (a n j : ℕ) → a ≤ j → j < a + n → mem j (range_with_len a n) ≡ true
 mem_range a zero j le lt = absurd (omega arith)
 mem_range a (suc n) j le lt = elim (cases_Bool (eqb j a)) [
   | inl y ↦ or_left (eqb j a) (mem j (range_with_len (a + 1) n)) y
