@@ -40,7 +40,7 @@ impl<'p, C: Client, S: SegStore> Engine<'p, C, S> {
     ghost use Rattle.lock_run.specs.Client.{Standing};
     ghost use Rattle.lock_run.specs.declared.client.Life.TheVariants.{Lives};
     ghost use Rattle.seg_store.specs.Meaning.{sees};
-    ghost use Rattle.stm_core.specs.CoreState.{with_conflict, with_segment, Running};
+    ghost use Rattle.stm_core.specs.CoreState.{IsShort, with_conflict, with_segment, Running};
     ghost use Rattle.stm_core.specs.Conflict.{side};
     ghost use Rattle.stm_core.specs.Books.{Fit, transaction, core_of};
     ghost use Rattle.stm_core.specs.Whole.{Whole, SameShape, stepped, StepDone, StepCut};
@@ -85,7 +85,7 @@ impl<'p, C: Client, S: SegStore> Engine<'p, C, S> {
         requires idle { slice_get self.old.books.hands.items k ≡ Some Hand.Idle }
         requires sane { Sane (C.prog self.old.client.now) (C.sound self.old.client.now) length k (S.meaning self.old.store) self.old.books work.old }
         requires lives { (C.prog self.old.client.now).life work.old.state ≡ Lives }
-        requires short { work.old.steps < length }
+        requires short { IsShort length (work.old.steps + 1) }
         ensures fit { Fit k (S.meaning self.new.store) self.new.books work.new.progress }
         ensures idle { slice_get self.new.books.hands.items k ≡ Some Hand.Idle }
         ensures rest { self.new ≡ record self.old { store = self.new.store; books = self.new.books } }
@@ -124,7 +124,7 @@ impl<'p, C: Client, S: SegStore> Engine<'p, C, S> {
         requires idle { slice_get self.old.books.hands.items k ≡ Some Hand.Idle }
         requires sane { Sane (C.prog self.old.client.now) (C.sound self.old.client.now) length k (S.meaning self.old.store) self.old.books work.old }
         requires lives { (C.prog self.old.client.now).life work.old.state ≡ Lives }
-        requires short { work.old.steps + most ≤ length }
+        requires short { IsShort length (work.old.steps + most) }
         ensures fit { Fit k (S.meaning self.new.store) self.new.books work.new.progress }
         ensures idle { slice_get self.new.books.hands.items k ≡ Some Hand.Idle }
         ensures rest { self.new ≡ record self.old { store = self.new.store; books = self.new.books } }
