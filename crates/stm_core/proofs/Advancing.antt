@@ -107,14 +107,7 @@ then_try {S} p most k n done w m m1 b b1 x x1 c0 fs move g ds asked next im kind
 pub tried_none : {S : Type 0} (p : Prog S) (most k : ℕ) (done : Bool) (c : CoreState S) → Tried p most k done 0 c c
 tried_none {S} p most k done c = record { tries = []; follows = refl; kinds = All-nil (IsTry p c.image c.world k done); count = refl; image = refl; world = refl; cause = refl }
 
--- where no more was tried, the steps that were done lead there
-pub gone_all : {S : Type 0} (p : Prog S) (most k n : ℕ) (c c1 : CoreState S) → Gone p most k n 0 c c1 → Tried p most k true n c c1
-gone_all {S} p most k n c c1 g = subst (Tried p most k true n c) (sym (none g.rest.tries g.rest.count g.rest.follows)) g.steps
-  where
-    none : (ts : List (Try S)) → length ts ≡ 0 → Follows p most g.reached (moves_of ts) c1 → c1 ≡ g.reached
-    none [] e f = f
-    none (t ∷ ts) e f = absurd cc
-
+-- where no more was tried
 pub all_gone : {S : Type 0} (p : Prog S) (most k n : ℕ) (c c1 : CoreState S) → Tried p most k true n c c1 → Gone p most k n 0 c c1
 all_gone p most k n c c1 t = record { reached = c1; steps = t; rest = tried_none p most k false c1 }
 

@@ -1,5 +1,5 @@
 -- What events leave, worked by hand on a core of one thread. States `docs/HEAP.md`, "Events".
-use Rattle.std.specs.Prelude.{◌≡◌, ℕ, true, false, cond, eqb, [], ◌∷◌, Some, None, refl}
+use Rattle.std.specs.Prelude.{◌≡◌, ℕ, true, false, cond, eqb, [], ◌∷◌, Some, None, Ok, Err, refl}
 use Rattle.std.proofs.Common.{arith, inl, inr}
 use Rattle.std.proofs.lemmas.List.Elements.{Contains-push}
 use Rattle.py_data.specs.declared.stop.Conflict.{Conflict}
@@ -7,13 +7,18 @@ use Rattle.py_base.specs.declared.kind.Kind.TheVariants.{Cell}
 use Rattle.py_data.specs.Heap.{Rec, new_rec, put_at, no_records}
 use Rattle.py_data.specs.Sight.{no_marks, with_mark}
 use Rattle.seg_store.specs.Meaning.{overlay}
+use Rattle.stm_core.specs.declared.answers.Advance.TheVariants.{Ran, Waits, Ended}
+use Rattle.stm_core.specs.declared.answers.AdvanceError.TheVariants as advance
+use Rattle.stm_core.specs.declared.cause.Cause.TheVariants.{OutOfMemory}
 use Rattle.stm_core.specs.declared.events.Event.TheVariants.{Begin, Advance, Commit}
 use Rattle.stm_core.specs.declared.events.Reply.TheVariants.{Skipped, Begun, Committed, Nothing, Lost}
 use Rattle.stm_core.specs.CoreState.{Transaction, Idle, Doomed, Running, CoreState, turn_of, with_segment}
 use Rattle.stm_core.specs.Conflict.{conflict}
+use Rattle.stm_core.specs.Moves.{published}
+use Rattle.stm_core.specs.Advanced.{with_cause, tried_after}
 use Rattle.stm_core.specs.Events.{Limits}
 use Rattle.stm_core.specs.Hold.{no_world}
-use Rattle.stm_core.specs.History.{event_segment, Publishes, IsMadeBy, IsEarly, IsDoomed, IsTold, numbers_of, IsGrown}
+use Rattle.stm_core.specs.History.{event_segment, Publishes, IsMadeBy, IsEarly, ComesToEnd, IsDoomed, IsTold, numbers_of, IsGrown}
 
 abbrev limits : Limits
 limits = record { length = 10; budget = 100; segments = 2; words = 0 }
@@ -133,6 +138,27 @@ lost_told = (refl, inr (Contains-push [] won_by, refl))
 
 doomed_told : IsTold 1 (Lost read_by) [] (with_segment 1 (Doomed read_by) before) (with_segment 1 Idle before)
 doomed_told = (refl, inl refl)
+
+-- the commit ends with its transaction committed, and an advance as it is, or with a cause
+commit_ends : ComesToEnd (Commit 0) before (published 0 writer before)
+commit_ends = inr (writer, refl, refl)
+
+advance_ends : ComesToEnd (Advance 0 5) before (with_cause OutOfMemory (with_segment 0 Idle before))
+advance_ends = inr (OutOfMemory, refl)
+
+-- ---- steps that were tried after those that were done
+
+ran_tried : tried_after (Ok (Ran 5)) ≡ 0
+ran_tried = refl
+
+ended_tried : tried_after (Ok (Ended 2)) ≡ 0
+ended_tried = refl
+
+waits_tried : tried_after (Ok (Waits 2)) ≡ 1
+waits_tried = refl
+
+lost_tried : tried_after (Err (advance.Lost asked_by)) ≡ 1
+lost_tried = refl
 
 -- ---- replies
 
