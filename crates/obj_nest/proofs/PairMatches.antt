@@ -23,10 +23,10 @@ fine_both : (g next : Got Bool) → Fine g → Fine next → Fine (and_then g ne
 fine_both g next (inl e) n = subst (λ g. Fine (and_then g next)) (sym e) n
 fine_both g next (inr e) n = inr (ap (λ g. and_then g next) e)
 
-both_true : (g next : Got Bool) → and_then g next ≡ Is true → (g ≡ Is true) × (next ≡ Is true)
-both_true (Is true) next e = (refl, e)
-both_true (Is false) next e = absurd (let q : ◌≡◌ {A = Got Bool} (Is false) (Is true) = e in cc)
-both_true (Raise f) next e = absurd (let q : ◌≡◌ {A = Got Bool} (Raise f) (Is true) = e in cc)
+both_are : (g next : Got Bool) → and_then g next ≡ Is true → (g ≡ Is true) × (next ≡ Is true)
+both_are (Is true) next e = (refl, e)
+both_are (Is false) next e = absurd (let q : ◌≡◌ {A = Got Bool} (Is false) (Is true) = e in cc)
+both_are (Raise f) next e = absurd (let q : ◌≡◌ {A = Got Bool} (Raise f) (Is true) = e in cc)
 
 true_both : (g next : Got Bool) → g ≡ Is true → next ≡ Is true → and_then g next ≡ Is true
 true_both g next e n = ap (λ g. and_then g next) e ∙ n
@@ -56,7 +56,7 @@ module _ (h : Heap) (u : Value → Value → Got Bool) where
   pairs_matched [] ys e = tt
   pairs_matched (k ∷ []) ys e = tt
   pairs_matched (k ∷ x ∷ rest) ys e =
-      let both = both_true (equal_found u ys x (find h ys k)) (equal_pairs h u rest ys) e in
+      let both = both_are (equal_found u ys x (find h ys k)) (equal_pairs h u rest ys) e in
       (met_true u x (has_for h ys k) (sym (met_found h u x k ys) ∙ both.0), pairs_matched rest ys both.1)
 
   pub matched_pairs : (xs ys : List Value) → Matched h u xs ys → equal_pairs h u xs ys ≡ Is true
@@ -116,13 +116,13 @@ module _ (u : Value → Value → Got Bool) where
   items_turned turn [] [] e = refl
   items_turned turn [] (y ∷ ys) e = refl
   items_turned turn (x ∷ xs) [] e = refl
-  items_turned turn (x ∷ xs) (y ∷ ys) e = let b = both_true (u x y) (equal_items u xs ys) e in true_both (u y x) (equal_items u ys xs) (turn x y b.0) (items_turned turn xs ys b.1)
+  items_turned turn (x ∷ xs) (y ∷ ys) e = let b = both_are (u x y) (equal_items u xs ys) e in true_both (u y x) (equal_items u ys xs) (turn x y b.0) (items_turned turn xs ys b.1)
 
   pub items_joined : ((x y z : Value) → u x y ≡ Is true → u y z ≡ Is true → u x z ≡ Is true) → (xs ys zs : List Value) → length xs ≡ length ys → equal_items u xs ys ≡ Is true → equal_items u ys zs ≡ Is true → equal_items u xs zs ≡ Is true
   items_joined join [] ys zs l e f = refl
   items_joined join (x ∷ xs) ys [] l e f = refl
   items_joined join (x ∷ xs) [] (z ∷ zs) l e f = absurd (omega (arith, l))
   items_joined join (x ∷ xs) (y ∷ ys) (z ∷ zs) l e f =
-      let b = both_true (u x y) (equal_items u xs ys) e in
-      let c = both_true (u y z) (equal_items u ys zs) f in
+      let b = both_are (u x y) (equal_items u xs ys) e in
+      let c = both_are (u y z) (equal_items u ys zs) f in
       true_both (u x z) (equal_items u xs zs) (join x y z b.0 c.0) (items_joined join xs ys zs (omega (arith, l)) b.1 c.1)

@@ -3,7 +3,6 @@ use Rattle.std.proofs.Common.{◌≡◌, ℕ, zero, suc, ◌+◌, ◌≤◌, Lis
 use Rattle.std.specs.List.{repeat}
 use Rattle.std.specs.Result.{IsErrAnd}
 use Rattle.py_data.specs.declared.value.Value.{Value}
-use Rattle.py_data.specs.declared.value.Value.TheVariants.{Unset}
 use Rattle.py_data.specs.declared.stop.Stop.{Stop}
 use Rattle.py_data.specs.declared.stop.Stop.TheVariants.{OutOfMemory}
 use Rattle.py_data.specs.Heap.{Rec, at, value_at}
@@ -12,12 +11,6 @@ use Rattle.py_data.specs.Sense.{Sense, Lawful, Meets}
 use Rattle.py_data.specs.Rest.{Stands}
 use Rattle.py_data.proofs.Rows.{meets-own}
 use Rattle.py_data.proofs.Steps.{stands-again, as-err}
-
--- a place behind the last value
-pub value_past : (xs : List Value) (i : ℕ) → length xs ≤ i → value_at xs i ≡ Unset
-value_past [] i l = refl
-value_past (x ∷ xs) zero l = absurd (omega (arith, l))
-value_past (x ∷ xs) (suc i) l = value_past xs i (omega (arith, l))
 
 module _ {T : Type 0} where
   repeat_none : (n : ℕ) → repeat {A = T} n [] ≡ []

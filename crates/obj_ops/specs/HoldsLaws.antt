@@ -1,5 +1,5 @@
--- Over each heap in order each operator holds; and no record is longer in its course than before it or at its end. States
--- `docs/LANGUAGE.md`, "Arithmetic", "Operators on sequences" and "The % operator", and `docs/HEAP.md`, "Rows that hold".
+-- Over each heap in order each operator holds; and no record is longer in its course than before it or at its end.
+-- States `docs/LANGUAGE.md`, "Arithmetic", "Operators on sequences" and "The % operator", and `docs/HEAP.md`, "Rows that hold".
 use Rattle.std.specs.Prelude.{ℕ, Bool, false, List}
 use Rattle.py_data.specs.declared.value.Value.{Value}
 use Rattle.py_data.specs.Heap.{Heap}

@@ -1,8 +1,6 @@
 //! Whether a value is in another.
-ghost use Rattle.std.specs.Prelude.{◌≡◌, ◌≤◌, ◌≢◌, IfOk, ℤ, pos, length, is_some};
-ghost use Rattle.py_data.specs.declared.record.TheConstants.{LENGTH_LIMIT};
+ghost use Rattle.std.specs.Prelude.{◌≡◌, is_some};
 ghost use Rattle.py_data.specs.declared.record.Got.TheVariants.{Is};
-ghost use Rattle.py_data.specs.Looking.{size_row, look_row, until_row};
 ghost use Rattle.py_data.specs.Sense.{Meets, Safe, IsLive};
 ghost use Rattle.obj_ops.specs.Contains.{container_of, container_row, item_row, goes_on, items_row, part_row, text_in_row, is_between, is_among, is_key_there, contained_row, contains_row};
 
@@ -10,7 +8,7 @@ use crate::format::number_of;
 use crate::operand::{Operand, operand_at};
 use crate::sequence::values_of;
 use obj_dict::get;
-use obj_nest::equal;
+use obj_nest::{equal, look, size};
 use obj_str::{bytes_of, find};
 use py_data::exception::{TYPE_ERROR, raise};
 use py_data::{Addr, Got, Kind, Stop, Value, View};
@@ -54,33 +52,6 @@ fn container_at<S, V: View<S>>(v: &mut V, y: Value) -> Result<Container, Stop>
     match y {
         Value::Ref(a) => Ok(container_of(v.kind(a)?, a)),
         _ => Ok(Container::Nothing),
-    }
-}
-
-/// How many values a record has.
-#[tactic(auto, using(py_data::proofs::Rows::row_steps), unfolding(py_data::specs::Looking::size_row))]
-pub fn size<S, V: View<S>>(v: &mut V, a: Addr) -> Result<usize, Stop>
-    requires live { IsLive V.sense v.old }
-    requires safe { Safe V.sense.partial (size_row {S = S} a.0) (V.sense.heap v.old) }
-    ensures met { Meets V.sense (size_row a.0) v.old v.new result }
-    ensures fits { IfOk result (λ n. n ≤ LENGTH_LIMIT) }
-{
-    v.len(a)
-}
-
-/// The value of a record at a place; Unset where it has none there.
-#[tactic(auto, using(py_data::proofs::Rows::row_steps, crate::proofs::Lists::value_past), unfolding(py_data::specs::Looking::look_row))]
-fn look<S, V: View<S>>(v: &mut V, a: Addr, i: usize) -> Result<Value, Stop>
-    requires live { IsLive V.sense v.old }
-    requires safe { Safe V.sense.partial (look_row {S = S} a.0 i) (V.sense.heap v.old) }
-    ensures { Meets V.sense (look_row a.0 i) v.old v.new result }
-{
-    let n = v.len(a)?;
-    if i < n {
-        let x = v.val(a, i)?;
-        Ok(x)
-    } else {
-        Ok(Value::Unset)
     }
 }
 

@@ -5,11 +5,11 @@ ghost use Rattle.py_data.specs.declared.record.TheConstants.{LENGTH_LIMIT};
 ghost use Rattle.py_data.specs.Sense.{Meets, Safe, IsLive};
 ghost use Rattle.obj_ops.specs.InPlace.{push_row, pushed_row, appended_row, extended_row, kept_list, kept_row, changed_row, in_place_row};
 
-use crate::contain::size;
 use crate::operand::{Operand, list_of, operand_at};
 use crate::operate::operate_with;
 use crate::operator::{Operator, operator_of};
 use crate::sequence::too_long;
+use obj_nest::size;
 use obj_seq::gather;
 use py_data::{Addr, Got, LENGTH_LIMIT, Stop, Value, Values, View};
 use std::alloc::Global;

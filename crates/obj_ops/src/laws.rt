@@ -1,6 +1,6 @@
 //! What operators answer, that they keep a heap in order and that they are steady, as laws: a call of such a function
 //! does nothing, and gives its caller's proof the facts of its clauses.
-ghost use Rattle.obj_ops.specs.Laws.{DivisionLaw, JoinLaw};
+ghost use Rattle.obj_ops.specs.Laws.{DivisionLaw, JoinLaw, JoinTextsLaw};
 ghost use Rattle.obj_ops.specs.HoldsLaws.{OpsHold, OpsSteady};
 
 use py_data::{Demands, View};
@@ -10,9 +10,11 @@ pub fn division_law()
     ensures { DivisionLaw }
 {}
 
-/// `+` of two lists or tuples makes a record of the items of both, which is as long as both.
+/// `+` of two lists or tuples makes a record of the items of both, and of two strings one of the bytes of both, which is
+/// as long as both.
 pub fn join_law<S, V: View<S>>()
-    ensures { JoinLaw V.sense }
+    ensures items { JoinLaw V.sense }
+    ensures texts { JoinTextsLaw V.sense }
 {}
 
 /// Over each heap in order, and with items of it, each operator may be begun, answers an item or an exception, and

@@ -1,5 +1,5 @@
 -- Over each heap in order the items of an item are gathered.
-use Rattle.std.proofs.Common.{arith, ◌≡◌, ℕ, zero, suc, ℤ, ◌+◌, ◌≤◌, Bool, true, false, cond, ltb, List, [], ◌∷◌, ◌++◌, length, Option, Some, None, Result, Ok, Err, refl, sym, ap, subst, ◌∙◌, length-append, lit<}
+use Rattle.std.proofs.Common.{arith, ◌≡◌, ℕ, zero, suc, ℤ, ◌+◌, ◌≤◌, true, false, ltb, List, [], ◌∷◌, ◌++◌, length, Option, Some, None, Result, Ok, Err, refl, sym, subst, ◌∙◌, length-append, lit<}
 use Rattle.std.proofs.lemmas.Bool.{ltb-false}
 use Rattle.std.specs.Prelude.{is_some}
 use Rattle.py_base.specs.declared.kind.Kind.{Kind}
@@ -15,7 +15,7 @@ use Rattle.py_data.specs.Fault.{iterable_fault, memory_fault}
 use Rattle.py_data.specs.Heap.{Rec, Heap, new_rec}
 use Rattle.py_data.specs.Shape.{KindIn}
 use Rattle.py_data.specs.Closed.{IsItem}
-use Rattle.py_data.specs.Row.{Row, Ret, Do, Read, Make, bind}
+use Rattle.py_data.specs.Row.{Row, Ret, Do, Read}
 use Rattle.py_data.specs.Looking.{walk_row, walk_on}
 use Rattle.py_data.specs.Order.{Rules, FitsAt, IsOrdered}
 use Rattle.py_data.specs.Holds.{Holds}
@@ -32,8 +32,7 @@ use Rattle.obj_seq.specs.Iter.{next_row, span_of}
 use Rattle.obj_seq.specs.Gather.{keys_of, letters_row, numbers, numbers_row, taken, take_row, left_row, gather_as, gather_of, gather_row}
 use Rattle.obj_seq.specs.HoldsLaws.{IsIterAt, AreItems, SeqHolds}
 use Rattle.obj_seq.proofs.HoldingIters.{make_iter_holds, next_holds}
-use Rattle.obj_seq.proofs.Holding.{at_of, cond_holds, item_holds, set_item_holds, del_item_holds, pop_holds, insert_holds, reverse_holds, slice_holds}
-
+use Rattle.obj_seq.proofs.Holding.{cond_holds, item_holds, set_item_holds, del_item_holds, pop_holds, insert_holds, reverse_holds, slice_holds}
 pub use Rattle.obj_seq.proofs.SteadyRows.{gather_steady}
 
 -- ---- lists of items

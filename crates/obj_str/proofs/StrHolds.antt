@@ -273,7 +273,7 @@ module _ (S : Type 0) where
   then_calm : {A : Type 0} (a : ℕ) (k : List ℕ → Row S A) → ((bs : List ℕ) → Calm (k bs)) → Calm (bind (bytes_row a) k)
   then_calm a k n = bind_calm S (bytes_row a) k (bytes_calm S a) n
 
-  text_calm : (x : Value) → Calm (text_item x)
+  text_calm : (x : Value) → Calm {S = S} (text_item x)
   unfolding text_item text_at
   text_calm (Ref a) = read_calm S a.0 text_in (λ r. cond_calm S (is_str r.kind) (Ret (Is r.bytes)) (Ret (Raise argument_fault)) (ret_calm S _) (ret_calm S _))
   text_calm Unset = ret_calm S _
@@ -282,19 +282,19 @@ module _ (S : Type 0) where
   text_calm (Int i) = ret_calm S _
   text_calm (Builtin b) = ret_calm S _
 
-  with_calm : {B : Type 0} (x : Value) (f : List ℕ → Row S (Got B)) → ((p : List ℕ) → Calm (f p)) → Calm (bind (text_item x) (got_row f))
+  with_calm : {B : Type 0} (x : Value) (f : List ℕ → Row S (Got B)) → ((p : List ℕ) → Calm {S = S} (f p)) → Calm {S = S} (bind (text_item x) (got_row f))
   with_calm x f n g = bind_steady S g (text_item x) (got_row f) (text_calm x g) (got_calm S f n)
 
-  pub new_text_calm : (bs : List ℕ) → Calm (new_text bs)
+  pub new_text_calm : (bs : List ℕ) → Calm {S = S} (new_text bs)
   unfolding new_text
   new_text_calm bs = cond_calm S (leb (length bs) LENGTH_LIMIT) (made_text bs) (Ret (Raise memory_fault)) (make_calm S (new_rec Str [] bs) (λ a. Ret (Is (Ref (record { 0 = a })))) (λ a. ret_calm S _)) (ret_calm S _)
 
-  texts_calm : (k : List (List ℕ) → Row S (Got Value)) → ((ps : List (List ℕ)) → Calm (k ps)) → (vs : List Value) (ps : List (List ℕ)) → Calm (texts_then k vs ps)
+  texts_calm : (k : List (List ℕ) → Row S (Got Value)) → ((ps : List (List ℕ)) → Calm {S = S} (k ps)) → (vs : List Value) (ps : List (List ℕ)) → Calm {S = S} (texts_then k vs ps)
   unfolding texts_then
   texts_calm k n [] ps = n ps
   texts_calm k n (x ∷ xs) ps = with_calm x (λ p. texts_then k xs (ps ++ p ∷ [])) (λ p. texts_calm k n xs (ps ++ p ∷ []))
 
-  items_calm : (a : ℕ) (vs : List Value) → Calm (items_row a vs)
+  items_calm : (a : ℕ) (vs : List Value) → Calm {S = S} (items_row a vs)
   unfolding items_row
   items_calm a vs = then_calm a (λ sep. texts_row sep vs) (λ sep. texts_calm (λ ps. new_text (joined sep ps)) (λ ps. new_text_calm (joined sep ps)) vs [])
 
@@ -303,36 +303,36 @@ module _ (S : Type 0) where
   join_steady a (Some x) = bind_steady S false (gather_row x) (got_row (items_row a)) (gather_steady S x) (got_calm S (items_row a) (items_calm a))
   join_steady a None = ret_calm S _ false
 
-  strings_calm : (ps : List (List ℕ)) (vs : List Value) → Calm (strings_then new_list ps vs)
+  strings_calm : (ps : List (List ℕ)) (vs : List Value) → Calm {S = S} (strings_then new_list ps vs)
   unfolding strings_then piece_row bind new_list
   strings_calm [] vs = make_calm S (new_rec ListKind vs []) (λ a. Ret (Is (Ref (record { 0 = a })))) (λ a. ret_calm S _)
   strings_calm (p ∷ ps) vs = make_calm S (new_rec Str [] p) (λ a. strings_then new_list ps (vs ++ Ref (record { 0 = a }) ∷ [])) (λ a. strings_calm ps (vs ++ Ref (record { 0 = a }) ∷ []))
 
-  cut_calm : (a : ℕ) (sep : Option (List ℕ)) → Calm (cut_row a sep)
+  cut_calm : (a : ℕ) (sep : Option (List ℕ)) → Calm {S = S} (cut_row a sep)
   unfolding cut_row list_row
   cut_calm a sep =
       then_calm a (λ bs. list_row (pieces_of sep bs))
       (λ bs. cond_calm S (leb (length (pieces_of sep bs)) LENGTH_LIMIT) (strings_then new_list (pieces_of sep bs) []) (Ret (Raise memory_fault)) (strings_calm (pieces_of sep bs) []) (ret_calm S _))
 
-  cut_at_calm : (a : ℕ) (sep : List ℕ) → Calm (cut_at a sep)
+  cut_at_calm : (a : ℕ) (sep : List ℕ) → Calm {S = S} (cut_at a sep)
   unfolding cut_at
   cut_at_calm a sep = cond_calm S (has_bytes sep) (cut_row a (Some sep)) (Ret (Raise separator_fault)) (cut_calm a (Some sep)) (ret_calm S _)
 
-  split_one_calm : (a : ℕ) (o : Option Value) → Calm (split_with a o)
+  split_one_calm : (a : ℕ) (o : Option Value) → Calm {S = S} (split_with a o)
   unfolding split_with split_at
   split_one_calm a (Some x) = cond_calm S (is_none x) (cut_row a None) (bind (text_item x) (got_row (cut_at a))) (cut_calm a None) (with_calm x (cut_at a) (cut_at_calm a))
   split_one_calm a None = ret_calm S _
 
-  bare_calm : (f : List ℕ → List ℕ) (a : ℕ) (args : List Value) → Calm (bare_row f a args)
+  bare_calm : (f : List ℕ → List ℕ) (a : ℕ) (args : List Value) → Calm {S = S} (bare_row f a args)
   unfolding bare_row
   bare_calm f a args = cond_calm S (length args == 0) (bind (bytes_row a) (λ bs. new_text (f bs))) (Ret (Raise argument_fault)) (then_calm a (λ bs. new_text (f bs)) (λ bs. new_text_calm (f bs))) (ret_calm S _)
 
-  part_calm : (f : List ℕ → List ℕ → Value) (a : ℕ) (o : Option Value) → Calm (part_with f a o)
+  part_calm : (f : List ℕ → List ℕ → Value) (a : ℕ) (o : Option Value) → Calm {S = S} (part_with f a o)
   unfolding part_with part_in
   part_calm f a (Some x) = with_calm x (part_in f a) (λ p. then_calm a (λ bs. Ret (Is (f bs p))) (λ bs. ret_calm S _))
   part_calm f a None = ret_calm S _
 
-  replace_calm : (a : ℕ) (o : Option (Value × Value)) → Calm (replace_with a o)
+  replace_calm : (a : ℕ) (o : Option (Value × Value)) → Calm {S = S} (replace_with a o)
   unfolding replace_with replace_by replace_in
   replace_calm a (Some p) = with_calm p.0 (replace_by a p.1) (λ old. with_calm p.1 (replace_in a old) (λ new. then_calm a (λ bs. new_text (replaced old new bs)) (λ bs. new_text_calm (replaced old new bs))))
   replace_calm a None = ret_calm S _

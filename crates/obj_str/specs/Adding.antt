@@ -1,4 +1,5 @@
--- What adding an item's text to a text does. Nothing public rests on it.
+-- What adding an item's text to a text does.
+-- Nothing here is to be believed: nothing public rests on it.
 use Rattle.std.specs.Prelude.{◌≡◌, ℕ, List, Option, Result, Ok, Err}
 use Rattle.py_data.specs.declared.stop.Stop.{Stop}
 use Rattle.py_data.specs.declared.value.Value.{Value}

@@ -1,4 +1,5 @@
--- How code cuts a text: a piece from the front at a time; and texts that may be longer than a string. Nothing public rests on it.
+-- How code cuts a text: a piece from the front at a time; and texts that may be longer than a string.
+-- Nothing here is to be believed: nothing public rests on it.
 use Rattle.std.specs.Prelude.{ℕ, ◌+◌, Bool, true, false, List, [], ◌∷◌, ◌++◌, length, leb, cond, Option, Some, None}
 use Rattle.py_data.specs.declared.value.Value.{Value}
 use Rattle.py_data.specs.declared.record.Got.{Got}

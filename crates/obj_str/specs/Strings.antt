@@ -1,4 +1,4 @@
--- The row that makes a string. States `docs/LANGUAGE.md`, "Strings" and "Sizes".
+-- The row that makes a string. States `docs/LANGUAGE.md`, "Values that are strings" and "Sizes".
 use Rattle.std.specs.Prelude.{ℕ, List, [], length, leb, cond}
 use Rattle.py_data.specs.declared.value.Value.{Value}
 use Rattle.py_data.specs.declared.value.Value.TheVariants.{Ref}

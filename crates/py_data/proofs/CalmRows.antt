@@ -1,5 +1,5 @@
 -- Rows that make nothing shorter: how they are put together. Such a row is steady behind whatever grew before it.
-use Rattle.std.proofs.Common.{◌≡◌, ℕ, zero, suc, ◌+◌, Bool, true, false, cond, ◌||◌, ◌&&◌, List, length, Option, refl}
+use Rattle.std.proofs.Common.{◌≡◌, ℕ, zero, suc, ◌+◌, Bool, true, false, cond, ◌||◌, ◌&&◌, length, Option, refl}
 use Rattle.py_data.specs.declared.value.Value.{Value}
 use Rattle.py_data.specs.declared.change.Change.TheVariants as change
 use Rattle.py_data.specs.declared.record.Got.{Got}

@@ -27,8 +27,8 @@ use Rattle.stm_core.specs.Good.{Stands, Good}
 use Rattle.stm_core.specs.Moves.{ComesToWant, IsMetBy, Move, Begins, Drops, Dooms, Loses, Goes, Rests, Commits, Keeps, Next, Follows}
 use Rattle.stm_core.specs.Books.{core_of}
 use Rattle.stm_core.specs.Asking.{Reaches, AsksRoom}
-use Rattle.stm_core.specs.Advance.{Try, moves_of, IsStepOf, IsTry, Gone}
-use Rattle.stm_core.specs.Advanced.{IsLeft, StoodBetween, OnlyOwn, IsOwn, CountsDone, IsStepCause, Ends, StepsTaken, AdvancedFrom, Advanced, Led}
+use Rattle.stm_core.specs.Advance.{Try, moves_of, IsStepOf, IsTry, Tried, Gone}
+use Rattle.stm_core.specs.Advanced.{IsLeft, StoodBetween, OnlyOwn, IsOwn, CountsDone, tried_after, IsStepCause, Ends, StepsTaken, AdvancedFrom, Advanced, Led}
 use Rattle.stm_core.specs.SaneCore.{SaneCore}
 use Rattle.stm_core.proofs.TwoPasses.{follows_append}
 use Rattle.stm_core.proofs.Kept.{set_cases, good_after}
@@ -51,13 +51,13 @@ comes_to_want {S} p most u x n st mortal short lives r =
 module _ {S : Type 0} (p : Prog S) (most k : ℕ) where
   -- ---- what such moves leave alone
 
-  none_led : (c c1 : CoreState S) → c1 ≡ c → Led p most k c c1
+  abbrev pub none_led : (c c1 : CoreState S) → c1 ≡ c → Led p most k c c1
   none_led c c1 e = record { moves = []; follows = e; own = All-nil (IsOwn k) }
 
-  one_led : (mv : Move S) (c c1 : CoreState S) → IsOwn k mv → Next p most c mv c1 → Led p most k c c1
+  abbrev pub one_led : (mv : Move S) (c c1 : CoreState S) → IsOwn k mv → Next p most c mv c1 → Led p most k c c1
   one_led mv c c1 o n = record { moves = mv ∷ []; follows = (c1, n, refl); own = All-cons (IsOwn k) mv [] o (All-nil (IsOwn k)) }
 
-  led_then : (c u v : CoreState S) → Led p most k c u → Led p most k u v → Led p most k c v
+  abbrev pub led_then : (c u v : CoreState S) → Led p most k c u → Led p most k u v → Led p most k c v
   led_then c u v a b = record { moves = a.moves ++ b.moves; follows = follows_append p most c u v a.moves b.moves a.follows b.follows; own = All-append (IsOwn k) a.moves b.moves a.own b.own }
 
   abbrev Stood : CoreState S → CoreState S → Conflict → Type 0
@@ -156,27 +156,32 @@ module _ {S : Type 0} (p : Prog S) (most k : ℕ) where
 
   -- ---- a call is such moves
 
-  step_own : (image : Heap) (w : World) (fs : List Conflict) (mv : Move S) → IsStepOf p image w k fs mv → IsOwn k mv
-  step_own image w fs (Goes i x x1) h = h.0
-  step_own image w fs (Rests i x x1) h = h.0
-  step_own image w fs (Dooms f) h = absurd h
-  step_own image w fs (Begins i t q) h = absurd h
-  step_own image w fs (Drops i) h = absurd h
-  step_own image w fs (Loses f) h = absurd h
-  step_own image w fs (Commits i x) h = absurd h
-  step_own image w fs (Keeps e) h = absurd h
+  step_own : (image : Heap) (w : World) (done : Bool) (fs : List Conflict) (mv : Move S) → IsStepOf p image w k fs mv done → IsOwn k mv
+  step_own image w true fs (Goes i x x1) h = h.0
+  step_own image w false fs (Goes i x x1) h = absurd h
+  step_own image w true fs (Rests i x x1) h = absurd h
+  step_own image w false fs (Rests i x x1) h = h.0
+  step_own image w done fs (Dooms f) h = absurd h
+  step_own image w done fs (Begins i t q) h = absurd h
+  step_own image w done fs (Drops i) h = absurd h
+  step_own image w done fs (Loses f) h = absurd h
+  step_own image w done fs (Commits i x) h = absurd h
+  step_own image w done fs (Keeps e) h = absurd h
 
   dooms_own : (fs : List Conflict) → All (IsOwn {S = S} k) (map Dooms fs)
   dooms_own [] = All-nil (IsOwn k)
   dooms_own (f ∷ fs) = All-cons (IsOwn {S = S} k) (Dooms f) (map Dooms fs) tt (dooms_own fs)
 
-  tries_own : (image : Heap) (w : World) (ts : List (Try S)) → All (IsTry p image w k) ts → All (IsOwn k) (moves_of ts)
-  tries_own image w [] h = All-nil (IsOwn k)
-  tries_own image w (t ∷ ts) h = All-append (IsOwn k) (map Dooms t.dooms) (t.move ∷ moves_of ts) (dooms_own t.dooms)
-      (All-cons (IsOwn k) t.move (moves_of ts) (step_own image w t.dooms t.move (All-head (IsTry p image w k) t ts h).step) (tries_own image w ts (All-tail (IsTry p image w k) t ts h)))
+  tries_own : (image : Heap) (w : World) (done : Bool) (ts : List (Try S)) → All (IsTry p image w k done) ts → All (IsOwn k) (moves_of ts)
+  tries_own image w done [] h = All-nil (IsOwn k)
+  tries_own image w done (t ∷ ts) h = All-append (IsOwn k) (map Dooms t.dooms) (t.move ∷ moves_of ts) (dooms_own t.dooms)
+      (All-cons (IsOwn k) t.move (moves_of ts) (step_own image w done t.dooms t.move (All-head (IsTry p image w k done) t ts h).step) (tries_own image w done ts (All-tail (IsTry p image w k done) t ts h)))
 
-  gone_led : (n : ℕ) (c c1 : CoreState S) → Gone p most k n c c1 → Led p most k c c1
-  gone_led n c c1 g = record { moves = moves_of g.tries; follows = g.follows; own = tries_own c.image c.world g.tries g.kinds }
+  tried_led : (done : Bool) (n : ℕ) (c c1 : CoreState S) → Tried p most k done n c c1 → Led p most k c c1
+  tried_led done n c c1 g = record { moves = moves_of g.tries; follows = g.follows; own = tries_own c.image c.world done g.tries g.kinds }
+
+  gone_led : (n more : ℕ) (c c1 : CoreState S) → Gone p most k n more c c1 → Led p most k c c1
+  gone_led n more c c1 g = led_then c g.reached c1 (tried_led true n c g.reached g.steps) (tried_led false more g.reached c1 g.rest)
 
   -- what comes after the steps
   ends_led : (start : Machine S) (reserved limit : ℕ) (u : CoreState S) (x : Transaction S) (r : Result Advance AdvanceError) (c1 : CoreState S) → Good p start most u → u.segments k ≡ Running x → x.solo ≡ false → ((e : AdvanceError) → r ≡ Err e → IsShort most (suc x.steps)) → Ends p k reserved limit u x r c1 → Led p most k u c1
@@ -212,7 +217,8 @@ module _ {S : Type 0} (p : Prog S) (most k : ℕ) where
 
   taken_led : (start : Machine S) (m reserved limit : ℕ) (c : CoreState S) (r : Result Advance AdvanceError) (c1 : CoreState S) → Good p start most c → StepsTaken p most k m reserved limit c r c1 → Led p most k c c1
   taken_led start m reserved limit c r c1 g t =
-      led_then c t.before c1 (gone_led t.steps c t.before t.gone) (ends_led start reserved limit t.before t.last r c1 (good_after p start most c t.before (moves_of t.gone.tries) g t.gone.follows) t.runs t.mortal (λ e q. t.room (subst (CountsDone m t.steps) q t.count)) t.ends)
+      let l = gone_led t.steps (tried_after r) c t.before t.gone in
+      led_then c t.before c1 l (ends_led start reserved limit t.before t.last r c1 (good_after p start most c t.before l.moves g l.follows) t.runs t.mortal (λ e q. t.room (subst (CountsDone m t.steps) q t.count)) t.ends)
 
   from_led : (start : Machine S) (m reserved limit : ℕ) (c : CoreState S) (r : Result Advance AdvanceError) (c1 : CoreState S) (s : Segment S) → c.segments k ≡ s → Good p start most c → AdvancedFrom s p most k m reserved limit c r c1 → Led p most k c c1
   from_led start m reserved limit c r c1 Idle is g a = absurd a

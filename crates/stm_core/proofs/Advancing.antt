@@ -1,7 +1,5 @@
 -- Steps of a transaction, one after another, as moves of the core.
-use Rattle.std.proofs.Common.{◌≡◌, ◌≢◌, ◌<◌, ◌≤◌, ◌+◌, ℕ, zero, suc, true, false, cond, eqb, List, [], ◌∷◌, ◌++◌, length, slice_get, map, Option, Some, None, All, refl, sym, ◌∙◌, ap, subst, subst₂, arith, append_assoc}
-use Rattle.std.specs.List.{sum_by}
-use Rattle.std.proofs.lemmas.List.Sums.{sum_by-append, sum_by-cons}
+use Rattle.std.proofs.Common.{◌≡◌, ◌≢◌, ◌<◌, ◌≤◌, ◌+◌, ℕ, zero, suc, Bool, true, false, cond, eqb, List, [], ◌∷◌, ◌++◌, length, slice_get, map, add-zero, Option, Some, None, All, refl, sym, ◌∙◌, ap, subst, subst₂, arith, append_assoc, length-append}
 use Rattle.std.proofs.lemmas.List.Elements.{All-cons, All-nil, All-push, All-weaker}
 use Rattle.std.proofs.lemmas.Bool.{eq-eqb, ne_eqb, cond-true, cond-false}
 use Rattle.py_data.specs.declared.stop.Side.{Side}
@@ -28,7 +26,7 @@ use Rattle.stm_core.specs.Books.{transaction, segment_of, core_of, Fit}
 use Rattle.stm_core.specs.Hold.{Dooms}
 use Rattle.stm_core.specs.Asking.{Reaches, AsksToChange, AskedFor, Went}
 use Rattle.stm_core.specs.Whole.{stepped, StepDone, StepCut}
-use Rattle.stm_core.specs.Advance.{Try, moves_of, IsStepOf, IsTry, steps_of, steps_tried, core_with, Gone, Sane}
+use Rattle.stm_core.specs.Advance.{Try, moves_of, IsStepOf, IsTry, core_with, Tried, Gone, Sane}
 use Rattle.stm_core.proofs.TwoPasses.{follows_append}
 use Rattle.stm_core.proofs.Kept.{good_after}
 use Rattle.stm_core.proofs.Stepping.{dooms_moves, is_free}
@@ -82,30 +80,50 @@ set_again {S} k s r f q x = at x q
     at x = elim (eqb x k) as (λ b. cond b s (cond b r (f x)) ≡ cond b s (f x)) [ true ↦ refl | false ↦ refl ]
 
 -- one try more
-then_try : {S : Type 0} (p : Prog S) (most k n d : ℕ) (w : World) (m m1 : Meaning) (b b1 : Books S) (x x1 : Work S) (c0 : CoreState S) (fs : List Conflict) (move : Move S) → Gone p most k n c0 (core_with w k m b x)
+then_try : {S : Type 0} (p : Prog S) (most k n : ℕ) (done : Bool) (w : World) (m m1 : Meaning) (b b1 : Books S) (x x1 : Work S) (c0 : CoreState S) (fs : List Conflict) (move : Move S) → Tried p most k done n c0 (core_with w k m b x)
     → Dooms k (side k (transaction w (m.part k) x)) fs (core_of w m b) (core_of w m1 b1)
     → All (λ (f : Conflict). Reaches (p.row x.state) (sight_of m.image w (transaction w (m.part k) x)) (AsksToChange f.at.0)) fs
-    → Next p most (with_segment k (Running (transaction w (m.part k) x)) (core_of w m1 b1)) move (core_with w k m1 b1 x1) → m1.image ≡ m.image → IsStepOf p m.image w k fs move → steps_of move ≡ d → Gone p most k (n + d) c0 (core_with w k m1 b1 x1)
-then_try {S} p most k n d w m m1 b b1 x x1 c0 fs move g ds asked next im kind count =
+    → Next p most (with_segment k (Running (transaction w (m.part k) x)) (core_of w m1 b1)) move (core_with w k m1 b1 x1) → m1.image ≡ m.image → IsStepOf p m.image w k fs move done → Tried p most k done (n + 1) c0 (core_with w k m1 b1 x1)
+then_try {S} p most k n done w m m1 b b1 x x1 c0 fs move g ds asked next im kind =
     let tx = transaction w (m.part k) x in
     let mid = with_segment k (Running tx) (core_of w m1 b1) in
     let end = core_with w k m1 b1 x1 in
     let t : Try S = record { dooms = fs; move = move } in
     let more = map DoomsMove fs ++ move ∷ [] in
-    let K : Try S → Type 0 = IsTry p c0.image c0.world k in
+    let K : Try S → Type 0 = IsTry p c0.image c0.world k done in
     let a = follows_append p most (core_with w k m b x) mid end (map DoomsMove fs) (move ∷ []) (dooms_moves p most k tx fs (core_of w m b) (core_of w m1 b1) ds asked) (end, next, refl) in
-    let s = sum_by-append (steps_tried {S = S}) g.tries (t ∷ []) in
-    let u = sum_by-cons (steps_tried {S = S}) t [] in
     let c = g.count in
     record {
       tries = g.tries ++ t ∷ [];
       follows = subst (λ z. Follows p most c0 z end) (sym (moves_more g.tries t)) (follows_append p most c0 (core_with w k m b x) end (moves_of g.tries) more g.follows a);
-      kinds = All-push K g.tries t g.kinds (record { wins = dooms_asked k (side k tx) fs (core_of w m b) (core_of w m1 b1) refl ds; step = subst₂ (λ h v. IsStepOf p h v k fs move) g.image g.world kind });
-      count = omega (arith, s, u, c, count);
+      kinds = All-push K g.tries t g.kinds (record { wins = dooms_asked k (side k tx) fs (core_of w m b) (core_of w m1 b1) refl ds; step = subst₂ (λ h v. IsStepOf p h v k fs move done) g.image g.world kind });
+      count = length-append g.tries (t ∷ []) ∙ ap (λ z. z + 1) c;
       image = im ∙ g.image;
       world = g.world;
       cause = dooms_cause k (side k tx) fs (core_of w m b) (core_of w m1 b1) ds ∙ g.cause;
     }
+
+-- no step yet
+pub tried_none : {S : Type 0} (p : Prog S) (most k : ℕ) (done : Bool) (c : CoreState S) → Tried p most k done 0 c c
+tried_none {S} p most k done c = record { tries = []; follows = refl; kinds = All-nil (IsTry p c.image c.world k done); count = refl; image = refl; world = refl; cause = refl }
+
+-- where no more was tried, the steps that were done lead there
+pub gone_all : {S : Type 0} (p : Prog S) (most k n : ℕ) (c c1 : CoreState S) → Gone p most k n 0 c c1 → Tried p most k true n c c1
+gone_all {S} p most k n c c1 g = subst (Tried p most k true n c) (sym (none g.rest.tries g.rest.count g.rest.follows)) g.steps
+  where
+    none : (ts : List (Try S)) → length ts ≡ 0 → Follows p most g.reached (moves_of ts) c1 → c1 ≡ g.reached
+    none [] e f = f
+    none (t ∷ ts) e f = absurd cc
+
+pub all_gone : {S : Type 0} (p : Prog S) (most k n : ℕ) (c c1 : CoreState S) → Tried p most k true n c c1 → Gone p most k n 0 c c1
+all_gone p most k n c c1 t = record { reached = c1; steps = t; rest = tried_none p most k false c1 }
+
+-- steps that were done, and then what was tried after them, by the same client
+pub gone_then : {S : Type 0} (p p1 : Prog S) (most k a d t more : ℕ) (s0 s1 s2 : CoreState S) → p1 ≡ p → a + d ≡ t → ((n : ℕ) (c : CoreState S) → Tried p most k true n c s0 → Tried p most k true (n + a) c s1)
+    → ((n : ℕ) (c : CoreState S) → Tried p1 most k true n c s1 → Gone p1 most k (n + d) more c s2) → (n : ℕ) (c : CoreState S) → Tried p most k true n c s0 → Gone p most k (n + t) more c s2
+gone_then p p1 most k a d t more s0 s1 s2 same sum first next n c h =
+    let sums : n + a + d ≡ n + t = omega (arith, sum) in
+    subst (λ z. Gone p most k z more c s2) sums (subst (λ q. Gone q most k (n + a + d) more c s2) same (next (n + a) c (subst (λ q. Tried q most k true (n + a) c s1) (sym same) (first n c h))))
 
 -- what was asked for on the way is what the step comes to
 came_to : {S A : Type 0} (row left : Row S A) (s place : Sight S) (fs : List Conflict) → All (λ (f : Conflict). AskedFor row s left place f.at.0) fs → All (λ (f : Conflict). Reaches row s (AsksToChange f.at.0)) fs
@@ -118,7 +136,7 @@ free_with k s c x f = record {
   made = λ j y n e a h. f.made j y n (sym (cond-false (eqb j k) s (c.segments j) (ne_eqb j k n)) ∙ e) a h;
 }
 
-module _ {S : Type 0} (p : Prog S) (most k n : ℕ) (w : World) (m m1 : Meaning) (r1 : ℕ) (b b1 : Books S) (x x1 : Work S) (c0 : CoreState S) (g : Gone p most k n c0 (core_with w k m b x)) where
+module _ {S : Type 0} (p : Prog S) (most k n : ℕ) (w : World) (m m1 : Meaning) (r1 : ℕ) (b b1 : Books S) (x x1 : Work S) (c0 : CoreState S) (g : Tried p most k true n c0 (core_with w k m b x)) where
   here : (s : Segment S) (c : CoreState S) → (with_segment k s c).segments k ≡ s
   here s c = cond-true (eqb k k) s (c.segments k) (eq-eqb k k refl)
 
@@ -126,34 +144,41 @@ module _ {S : Type 0} (p : Prog S) (most k n : ℕ) (w : World) (m m1 : Meaning)
   again s r c i = record c { segments = sym (set_again k s r c.segments) i }
 
   -- one step more
-  pub gone_step : (o : Outcome) → o ≢ WaitsNow → StepDone p w k (side k (transaction w (m.part k) x)) o m b x m1 b1 x1 → suc x.steps ≤ most → IsStore r1 m1 → Fit k m1 b1 x1.progress → Gone p most k (n + 1) c0 (core_with w k m1 b1 (stepped x1))
+  pub gone_step : (o : Outcome) → o ≢ WaitsNow → StepDone p w k (side k (transaction w (m.part k) x)) o m b x m1 b1 x1 → suc x.steps ≤ most → IsStore r1 m1 → Fit k m1 b1 x1.progress → Gone p most k (n + 1) 0 c0 (core_with w k m1 b1 (stepped x1))
   gone_step o goes d le st fit =
       let tx = transaction w (m.part k) x in
       let tx1 = transaction w (m1.part k) (stepped x1) in
       let v : Advances p m1.image w tx tx1 = subst (λ h. Advances p h w tx tx1) (sym d.image) (d.goes goes) in
       let free = free_with k (Running tx) (core_of w m1 b1) tx1 (is_free w k r1 m1 b1 (stepped x1) st fit.own_names fit.works) in
-      then_try p most k n 1 w m m1 b b1 x (stepped x1) c0 d.dooms (Goes k tx tx1) g d.others (came_to (p.row x.state) (Ret d.last) (sight_of m.image w tx) d.went.place d.dooms d.went.asked) (here (Running tx) (core_of w m1 b1), le, v, free, again (Running tx1) (Running tx) (core_of w m1 b1)) d.image (refl, d.last, d.went) refl
+      let end = core_with w k m1 b1 (stepped x1) in
+      record {
+        reached = end;
+        steps = then_try p most k n true w m m1 b b1 x (stepped x1) c0 d.dooms (Goes k tx tx1) g d.others (came_to (p.row x.state) (Ret d.last) (sight_of m.image w tx) d.went.place d.dooms d.went.asked) (here (Running tx) (core_of w m1 b1), le, v, free, again (Running tx1) (Running tx) (core_of w m1 b1)) d.image (refl, d.last, d.went);
+        rest = tried_none p most k false end;
+      }
 
   -- a step that left looks and locks alone
   gone_rest : (fs : List Conflict) → Dooms k (side k (transaction w (m.part k) x)) fs (core_of w m b) (core_of w m1 b1) → Stays m.image (transaction w (m.part k) x) (transaction w (m1.part k) x1) → m1.image ≡ m.image
-      → (left : Row S (Outcome × S)) → Went (p.row x.state) (sight_of m.image w (transaction w (m.part k) x)) left (m1.part k).looked (m1.part k).changed fs → IsStore r1 m1 → Fit k m1 b1 x1.progress → Gone p most k (n + 0) c0 (core_with w k m1 b1 x1)
+      → (left : Row S (Outcome × S)) → Went (p.row x.state) (sight_of m.image w (transaction w (m.part k) x)) left (m1.part k).looked (m1.part k).changed fs → IsStore r1 m1 → Fit k m1 b1 x1.progress → Gone p most k (n + 0) 1 c0 (core_with w k m1 b1 x1)
   gone_rest fs ds stays im left went st fit =
       let tx = transaction w (m.part k) x in
       let tx1 = transaction w (m1.part k) x1 in
+      let start = core_with w k m b x in
       let v : Stays m1.image tx tx1 = subst (λ h. Stays h tx tx1) (sym im) stays in
       let free = free_with k (Running tx) (core_of w m1 b1) tx1 (is_free w k r1 m1 b1 x1 st fit.own_names fit.works) in
-      then_try p most k n 0 w m m1 b b1 x x1 c0 fs (Rests k tx tx1) g ds (came_to (p.row x.state) left (sight_of m.image w tx) went.place fs went.asked) (here (Running tx) (core_of w m1 b1), v, free, again (Running tx1) (Running tx) (core_of w m1 b1)) im (refl, left, went) refl
-
-  same_count : Gone p most k (n + 0) c0 (core_with w k m1 b1 x1) → Gone p most k n c0 (core_with w k m1 b1 x1)
-  same_count z = let c = z.count in record { tries = z.tries; follows = z.follows; kinds = z.kinds; count = omega (arith, c); image = z.image; world = z.world; cause = z.cause }
+      record {
+        reached = start;
+        steps = subst (λ z. Tried p most k true z c0 start) (sym (add-zero n)) g;
+        rest = then_try p most k 0 false w m m1 b b1 x x1 start fs (Rests k tx tx1) (tried_none p most k false start) ds (came_to (p.row x.state) left (sight_of m.image w tx) went.place fs went.asked) (here (Running tx) (core_of w m1 b1), v, free, again (Running tx1) (Running tx) (core_of w m1 b1)) im (refl, left, went);
+      }
 
   -- a step that waits
-  pub gone_wait : (o : Outcome) → o ≡ WaitsNow → StepDone p w k (side k (transaction w (m.part k) x)) o m b x m1 b1 x1 → IsStore r1 m1 → Fit k m1 b1 x1.progress → Gone p most k n c0 (core_with w k m1 b1 x1)
-  gone_wait o waits d st fit = same_count (gone_rest d.dooms d.others (d.waits waits) d.image (Ret d.last) d.went st fit)
+  pub gone_wait : (o : Outcome) → o ≡ WaitsNow → StepDone p w k (side k (transaction w (m.part k) x)) o m b x m1 b1 x1 → IsStore r1 m1 → Fit k m1 b1 x1.progress → Gone p most k (n + 0) 1 c0 (core_with w k m1 b1 x1)
+  gone_wait o waits d st fit = gone_rest d.dooms d.others (d.waits waits) d.image (Ret d.last) d.went st fit
 
   -- a step that was cut
-  pub gone_cut : (e : Stop) → StepCut p w k (side k (transaction w (m.part k) x)) e m b x m1 r1 b1 x1 → IsStore r1 m1 → Fit k m1 b1 x1.progress → Gone p most k n c0 (core_with w k m1 b1 x1)
-  gone_cut e d st fit = same_count (gone_rest d.dooms d.others d.stays d.image d.left d.went st fit)
+  pub gone_cut : (e : Stop) → StepCut p w k (side k (transaction w (m.part k) x)) e m b x m1 r1 b1 x1 → IsStore r1 m1 → Fit k m1 b1 x1.progress → Gone p most k (n + 0) 1 c0 (core_with w k m1 b1 x1)
+  gone_cut e d st fit = gone_rest d.dooms d.others d.stays d.image d.left d.went st fit
 
 -- ---- the good core on the way
 
@@ -162,12 +187,17 @@ pub sane_stands : {S : Type 0} (p : Prog S) (sound : Heap → List S → Type 0)
 sane_stands p sound most k m b x law s = sound_transaction p sound law s.start most (core_with s.world k m b x) k (transaction s.world (m.part k) x) s.first s.good (cond-true (eqb k k) (Running (transaction s.world (m.part k) x)) ((core_of s.world m b).segments k) (eq-eqb k k refl))
 
 -- steps keep it good
-pub sane_after : {S : Type 0} (p : Prog S) (sound : Heap → List S → Type 0) (most k n : ℕ) (m m1 : Meaning) (b b1 : Books S) (x x1 : Work S) → (s : Sane p sound most k m b x) → Gone p most k n (core_with s.world k m b x) (core_with s.world k m1 b1 x1) → Sane p sound most k m1 b1 x1
-sane_after p sound most k n m m1 b b1 x x1 s g = record { world = s.world; dry = s.dry; start = s.start; first = s.first; good = good_after p s.start most (core_with s.world k m b x) (core_with s.world k m1 b1 x1) (moves_of g.tries) s.good g.follows }
-
--- no step yet
-pub gone_none : {S : Type 0} (p : Prog S) (most k : ℕ) (c : CoreState S) → Gone p most k 0 c c
-gone_none {S} p most k c = record { tries = []; follows = refl; kinds = All-nil (IsTry p c.image c.world k); count = refl; image = refl; world = refl; cause = refl }
+pub sane_after : {S : Type 0} (p : Prog S) (sound : Heap → List S → Type 0) (most k n more : ℕ) (m m1 : Meaning) (b b1 : Books S) (x x1 : Work S) → (s : Sane p sound most k m b x) → Gone p most k n more (core_with s.world k m b x) (core_with s.world k m1 b1 x1) → Sane p sound most k m1 b1 x1
+sane_after p sound most k n more m m1 b b1 x x1 s g =
+    let c = core_with s.world k m b x in
+    let c1 = core_with s.world k m1 b1 x1 in
+    record {
+      world = s.world;
+      dry = s.dry;
+      start = s.start;
+      first = s.first;
+      good = good_after p s.start most g.reached c1 (moves_of g.rest.tries) (good_after p s.start most c g.reached (moves_of g.steps.tries) s.good g.steps.follows) g.rest.follows;
+    }
 
 -- ---- a step, whichever way it ended
 
@@ -190,9 +220,6 @@ pub cut_idle : {S : Type 0} (p : Prog S) (k : ℕ) (e : Stop) (m m1 : Meaning) (
     → slice_get b.hands.items k ≡ Some IdleHand → Fit k m1 b1 x1.progress → slice_get b1.hands.items k ≡ Some IdleHand
 unfolding dry_world
 cut_idle p k e m m1 r1 b b1 x x1 d idle fit = let z = d dry_world refl in idle_after dry_world k (side k (transaction dry_world (m.part k) x)) z.dooms m m1 b b1 x1 z.others idle fit
-
-pub gone_same : {S : Type 0} (p : Prog S) (most k n : ℕ) (c c1 : CoreState S) → Gone p most k n c c1 → Gone p most k (n + 0) c c1
-gone_same p most k n c c1 z = let e = z.count in record { tries = z.tries; follows = z.follows; kinds = z.kinds; count = omega (arith, e); image = z.image; world = z.world; cause = z.cause }
 
 pub done_not_waits : Done ≢ WaitsNow
 done_not_waits e = cc

@@ -296,7 +296,7 @@ caused_whole m b e h = record {
 pub begun_state : {S : Type 0} (p : Prog S) (k t : ℕ) (c : CoreState S) (q : S) (a : IsReady p c t) → slice_get c.threads t ≡ Some q → begun_at k t q c ≡ begun_at k t a.state c
 begun_state p k t c q a e = let same : q ≡ a.state = (let u : Some q ≡ Some a.state = sym e ∙ a.is in cc) in ap (λ s. begun_at k t s c) same
 
-pub begun_good : {S : Type 0} (p : Prog S) (start : Machine S) (most k t budget : ℕ) (r : Result (Unit {0}) BeginError) (c c1 : CoreState S) → Good p start most c → Begun p k t budget r c c1 → Good p start most c1
+begun_good : {S : Type 0} (p : Prog S) (start : Machine S) (most k t budget : ℕ) (r : Result (Unit {0}) BeginError) (c c1 : CoreState S) → Good p start most c → Begun p k t budget r c c1 → Good p start most c1
 begun_good p start most k t budget (Ok u) c c1 g h =
     let a = h.0 in
     good_next p start most c c1 (Begins k t a.ready.state) g (a.goes_on, a.idle, a.ready.is, a.ready.lives, a.ready.rests, h.1)

@@ -34,7 +34,7 @@ use Rattle.stm_core.specs.declared.cause.Cause.{Cause}
 use Rattle.stm_core.specs.declared.cause.Cause.TheVariants.{Full, ReadFault, WriteFault, ErrFault, OutOfMemory}
 use Rattle.stm_core.specs.declared.commit.Commit.{Commit}
 use Rattle.stm_core.specs.declared.commit.Commit.TheVariants.{Committed as AtTurn, Nothing}
-use Rattle.stm_core.specs.CoreState.{Transaction, Segment, Idle, Doomed, Running, CoreState, with_segment, with_conflict}
+use Rattle.stm_core.specs.CoreState.{IsShort, Transaction, Segment, Idle, Doomed, Running, CoreState, with_segment, with_conflict}
 use Rattle.stm_core.specs.Begun.{Begun}
 use Rattle.stm_core.specs.Committed.{CommitOf, Committed}
 use Rattle.stm_core.specs.Moves.{first_cause, begun_at}
@@ -67,7 +67,7 @@ module _ {S : Type 0} (m : Meaning) (b : Books S) (k : ℕ) where
   busy h e = no (sym (ap (λ (o : Option (Hand S)). is_busy (slot_of (segment_of dry_world (m.part k) o))) e) ∙ h)
 
   -- the steps that are asked for are within the length
-  within : (most length : ℕ) → is_within length most (slot_of ((core_of dry_world m b).segments k)) ≡ true → (x : Work S) → slice_get b.hands.items k ≡ Some (hand.Runs x) → x.steps + most ≤ length
+  within : (most length : ℕ) → is_within length most (slot_of ((core_of dry_world m b).segments k)) ≡ true → (x : Work S) → slice_get b.hands.items k ≡ Some (hand.Runs x) → IsShort length (x.steps + most)
   unfolding dry_world
   within most length h x e = at_most (x.steps + most) length (sym (ap (λ (o : Option (Hand S)). is_within length most (slot_of (segment_of dry_world (m.part k) o))) e) ∙ h)
 
@@ -81,7 +81,7 @@ pub record Going {S : Type 0} (m : Meaning) (b : Books S) (k most length : ℕ) 
   pub segment : k < m.segments
   pub busy : slice_get b.hands.items k ≡ Some hand.Idle → ⊥
   pub some : 1 ≤ most
-  pub short : (x : Work S) → slice_get b.hands.items k ≡ Some (hand.Runs x) → x.steps + most ≤ length
+  pub short : (x : Work S) → slice_get b.hands.items k ≡ Some (hand.Runs x) → IsShort length (x.steps + most)
 
 module _ {S : Type 0} (m : Meaning) (b : Books S) (l : Limits) (k : ℕ) where
   pub ending : l.segments ≡ m.segments → may_make l (core_of dry_world m b) (event.Commit k) ≡ true → Ending m b k
@@ -220,7 +220,7 @@ module _ {S : Type 0} (p : Prog S) (r r1 l l1 : ℕ) (le : r ≤ r1) (same : l1 
       taken t = go result t.ends
         where
           before : (q : CoreState S) → q.cause ≡ t.before.cause → c1 ≡ q → IsFullKept r1 l1 c1.cause
-          before q e z = as_before q (e ∙ t.gone.cause) z
+          before q e z = as_before q (e ∙ t.gone.rest.cause ∙ t.gone.steps.cause) z
 
           go : (z : Result Advance AdvanceError) → Ends p k r1 l1 t.before t.last z c1 → IsFullKept r1 l1 c1.cause
           go (Ok (Ran n)) e = before t.before refl e.1
@@ -228,7 +228,7 @@ module _ {S : Type 0} (p : Prog S) (r r1 l l1 : ℕ) (le : r ≤ r1) (same : l1 
           go (Ok (Ended n)) e = before t.before refl e.1
           go (Ok (NeedSolo n)) e = before t.before refl e.2
           go (Err (Lost f)) e = before (with_conflict f (with_segment k Idle t.before)) refl e.3
-          go (Err (Failed y)) e = subst (IsFullKept r1 l1) (sym (ap (λ (z : CoreState S). z.cause) e.2)) (cause_first t.before.cause y t.before t.last (full_same r r1 l l1 c.cause t.before.cause le same t.gone.cause old) e.1)
+          go (Err (Failed y)) e = subst (IsFullKept r1 l1) (sym (ap (λ (z : CoreState S). z.cause) e.2)) (cause_first t.before.cause y t.before t.last (full_same r r1 l l1 c.cause t.before.cause le same (t.gone.rest.cause ∙ t.gone.steps.cause) old) e.1)
 
       from : (s : Segment S) → AdvancedFrom s p length k most r1 l1 c result c1 → IsFullKept r1 l1 c1.cause
       from Idle q = absurd q

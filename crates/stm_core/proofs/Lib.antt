@@ -24,5 +24,5 @@ pub mod Settling
 pub mod Advanced
 pub mod Calling
 pub mod EventSteps
-mod EventEffects
+mod Histories
 pub mod Ends

@@ -205,7 +205,7 @@ module _ {S : Type 0} (k : ℕ) (m : Meaning) (b b1 : Books S) where
 
 -- ---- a commit keeps the core good
 
-mem_range : (a n j : ℕ) → a ≤ j → j < a + n → mem j (range_with_len a n) ≡ true
+pub mem_range : (a n j : ℕ) → a ≤ j → j < a + n → mem j (range_with_len a n) ≡ true
 mem_range a zero j le lt = absurd (omega arith)
 mem_range a (suc n) j le lt = elim (cases_Bool (eqb j a)) [
   | inl y ↦ or_left (eqb j a) (mem j (range_with_len (a + 1) n)) y
@@ -223,7 +223,7 @@ module _ {S : Type 0} (p : Prog S) (start : Machine S) (most k n : ℕ) (c c1 : 
       let b = beaten_stands x f is h.1 in
       good_next p start most c c1 (Loses f) g (b.0, h.2 ∙ b.1 ∙ ap (λ l. with_conflict f (with_segment (cond (eqb l 0) f.writer f.other).segment Idle c)) (sym b.2))
 
-  pub committed_good : (r : Result Commit Conflict) → Committed p k n r c c1 → Good p start most c1
+  committed_good : (r : Result Commit Conflict) → Committed p k n r c c1 → Good p start most c1
   committed_good r h = go (c.segments k) refl h
     where
       go : (s : Segment S) → c.segments k ≡ s → CommitOf p k n s r c c1 → Good p start most c1
@@ -232,7 +232,7 @@ module _ {S : Type 0} (p : Prog S) (start : Machine S) (most k n : ℕ) (c c1 : 
       go (Running x) e q = ends_good x r e q
 
 -- a segment that runs has a hand
-pub running_within : {S : Type 0} (w : World) (m : Meaning) (b : Books S) (j : ℕ) (y : Transaction S) → length b.hands.items ≡ m.segments → (core_of w m b).segments j ≡ Running y → j < m.segments
+running_within : {S : Type 0} (w : World) (m : Meaning) (b : Books S) (j : ℕ) (y : Transaction S) → length b.hands.items ≡ m.segments → (core_of w m b).segments j ≡ Running y → j < m.segments
 running_within {S} w m b j y len e = go (slice_get b.hands.items j) refl
   where
     go : (o : Option (Hand S)) → slice_get b.hands.items j ≡ o → j < m.segments

@@ -27,6 +27,12 @@ CountsDone most n (Ok (Ended i)) = (i ≡ n) × (1 ≤ n) × (n ≤ most)
 CountsDone most n (Ok (NeedSolo i)) = (i ≡ n) × (n < most)
 CountsDone most n (Err e) = n < most
 
+-- how many steps were tried after those that were done: none where all were done, or the thread ended; otherwise the next one
+abbrev pub tried_after : Result Advance AdvanceError → ℕ
+tried_after (Ok (Ran i)) = 0
+tried_after (Ok (Ended i)) = 0
+tried_after _ = 1
+
 -- the next step of the transaction comes to a call of this kind
 abbrev pub StepReaches : {S : Type 0} → Prog S → CoreState S → Transaction S → (Call S → Sight S → Type 0) → Type 0
 StepReaches p u x kind = Reaches (p.row x.state) (sight_of u.image u.world x) kind
@@ -53,12 +59,12 @@ Ends p k reserved limit u x (Ok (NeedSolo n)) c1 = (p.life x.state ≡ Lives) ×
 Ends p k reserved limit u x (Err (Lost f)) c1 = (p.life x.state ≡ Lives) × IsStanding p u f × AsksFrom k 1 f × (c1 ≡ with_conflict f (with_segment k Idle u))
 Ends p k reserved limit u x (Err (Failed e)) c1 = (p.life x.state ≡ Lives) × IsStepCause p u x reserved limit e × (c1 ≡ with_cause e (with_segment k Idle u))
 
--- steps of segment k, and what came after them
+-- steps of segment k, each done before the next one was tried, and what came after them
 pub record StepsTaken {S : Type 0} (p : Prog S) (length k most reserved limit : ℕ) (c : CoreState S) (result : Result Advance AdvanceError) (c1 : CoreState S) : Type 0 where
   pub steps : ℕ
   pub before : CoreState S
   pub last : Transaction S
-  pub gone : Gone p length k steps c before
+  pub gone : Gone p length k steps (tried_after result) c before
   pub runs : before.segments k ≡ Running last
   pub mortal : last.solo ≡ false
   pub room : steps < most → IsShort length (suc last.steps)

@@ -1,6 +1,6 @@
 -- The state of the transactional core: the committed state, the history, the conflicts, and what each segment has in hand.
 -- States `docs/HEAP.md`, "The transactional core".
-use Rattle.std.specs.Prelude.{ℕ, ◌≤◌, Bool, false, cond, ◌||◌, eqb, List, [], ◌∷◌, ◌++◌, Option, None, slice_set}
+use Rattle.std.specs.Prelude.{ℕ, ◌≤◌, Bool, false, cond, ◌||◌, eqb, nat_le, List, [], ◌∷◌, ◌++◌, Option, None, slice_set}
 use Rattle.py_data.specs.declared.stop.Conflict.{Conflict}
 use Rattle.py_data.specs.declared.value.Addr.{Addr}
 use Rattle.py_data.specs.Heap.{Heap, Marks}
@@ -53,6 +53,10 @@ committed k = record { heap = k.image; threads = k.threads; world = k.world }
 -- so many steps are few enough for a turn, and for a transaction so far, where it may have this number
 abbrev pub IsShort : ℕ → ℕ → Type 0
 IsShort most steps = steps ≤ most
+
+-- whether they are
+abbrev pub is_short : ℕ → ℕ → Bool
+is_short most steps = nat_le steps most
 
 -- ---- what a transaction sees
 

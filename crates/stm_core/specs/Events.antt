@@ -1,5 +1,5 @@
 -- Events: calls of a core, one after another, and what each is replied. States `docs/HEAP.md`, "Events".
-use Rattle.std.specs.Prelude.{◌≡◌, ℕ, ◌+◌, Bool, true, false, ◌&&◌, nat_lt, nat_le, List, [], ◌∷◌, Result, Ok, Err}
+use Rattle.std.specs.Prelude.{◌≡◌, ℕ, ◌+◌, Bool, true, false, ◌&&◌, nat_lt, List, [], ◌∷◌, Result, Ok, Err}
 use Rattle.py_data.specs.declared.stop.Conflict.{Conflict}
 use Rattle.lock_run.specs.Prog.{Prog}
 use Rattle.stm_core.specs.declared.begin.BeginError.{BeginError}
@@ -14,7 +14,7 @@ use Rattle.stm_core.specs.declared.events.Reply.{Reply}
 use Rattle.stm_core.specs.declared.events.Reply.TheVariants.{Skipped, Begun as HasBegun, Refused, Advanced as HasAdvanced, Committed as HasCommitted, Nothing, Lost, Failed}
 use Rattle.stm_core.specs.declared.standing.Slot.{Slot}
 use Rattle.stm_core.specs.declared.standing.Slot.TheVariants as slot
-use Rattle.stm_core.specs.CoreState.{CoreState}
+use Rattle.stm_core.specs.CoreState.{is_short, CoreState}
 use Rattle.stm_core.specs.Standing.{slot_of}
 use Rattle.stm_core.specs.Begun.{Begun}
 use Rattle.stm_core.specs.Advanced.{Advanced}
@@ -45,7 +45,7 @@ is_busy _ = true
 
 -- so many steps more are within the length
 abbrev pub is_within : ℕ → ℕ → Slot → Bool
-is_within length m (slot.Running t n solo) = nat_le (n + m) length
+is_within length m (slot.Running t n solo) = is_short length (n + m)
 is_within length m _ = true
 
 -- what stays the same in all events: the most steps of a transaction, the steps of the history at which none begins any more,

@@ -19,7 +19,8 @@ pub mod Standing
 pub mod Pausing
 pub mod Advanced
 pub mod Events
-pub mod EventLaw
+pub mod History
+mod HistoryWorked
 pub mod CoreHeld
 pub mod Finishing
 pub mod ScriptCore

@@ -10,6 +10,13 @@ done_by Waits = 0
 done_by Ended = 1
 done_by (Stopped e) = 0
 
+-- the steps that were tried after those that were done
+abbrev pub tried_by : Pause → ℕ
+tried_by Whole = 0
+tried_by Ended = 0
+tried_by Waits = 1
+tried_by (Stopped e) = 1
+
 -- how many steps were done where so many were asked for
 abbrev pub PauseCount : ℕ → ℕ → Pause → Type 0
 PauseCount most n Whole = n ≡ most

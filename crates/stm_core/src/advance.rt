@@ -11,14 +11,14 @@ impl<'p, C: Client, S: SegStore> Engine<'p, C, S> {
     ghost use Rattle.std.specs.Prelude.{◌≡◌, ◌≢◌, ◌<◌, ◌≤◌, ◌+◌, ℕ, false, length, slice_get, Some};
     ghost use Rattle.py_data.specs.World.{World};
     ghost use Rattle.lock_run.specs.declared.client.Life.TheVariants.{Lives};
-    ghost use Rattle.stm_core.specs.CoreState.{Running};
+    ghost use Rattle.stm_core.specs.CoreState.{IsShort, Running};
     ghost use Rattle.stm_core.specs.Books.{Fit, transaction, core_of};
     ghost use Rattle.stm_core.specs.Whole.{Whole, SameShape};
     ghost use Rattle.stm_core.specs.Advance.{Sane, core_with};
     ghost use Rattle.stm_core.specs.SaneCore.{SaneCore};
-    ghost use Rattle.stm_core.specs.Pauses.{PauseCount};
+    ghost use Rattle.stm_core.specs.Pauses.{tried_by, PauseCount};
     ghost use Rattle.stm_core.specs.Pausing.{PauseWhy};
-    ghost use Rattle.stm_core.specs.Advanced.{CountsDone, Ends, StepsTaken, AdvancedFrom, Advanced};
+    ghost use Rattle.stm_core.specs.Advanced.{CountsDone, tried_after, Ends, StepsTaken, AdvancedFrom, Advanced};
 
     /// What comes of a transaction of segment k, which was taken out of its hand, once its next step was cut.
     fn settle_stop(
@@ -36,6 +36,7 @@ impl<'p, C: Client, S: SegStore> Engine<'p, C, S> {
         ensures reserved { S.reserved self.old.store ≤ S.reserved self.new.store }
         ensures whole { Whole (S.meaning self.new.store) self.new.books }
         ensures count { (most : ℕ) → done < most → CountsDone most done result }
+        ensures tried { tried_after result ≡ 1 }
         ensures ends { (w : World) → w.mid ≡ false → Ends (C.prog self.old.client.now) k (S.reserved self.new.store) (S.meaning self.new.store).limit (core_with w k (S.meaning self.old.store) self.old.books work) (transaction w ((S.meaning self.old.store).part k) work) result (core_of w (S.meaning self.new.store) self.new.books) }
     {
         match stop {
@@ -84,6 +85,7 @@ impl<'p, C: Client, S: SegStore> Engine<'p, C, S> {
         ensures reserved { S.reserved self.old.store ≤ S.reserved self.new.store }
         ensures whole { Whole (S.meaning self.new.store) self.new.books }
         ensures count { (most : ℕ) → PauseCount most done pause → CountsDone most done result }
+        ensures tried { tried_after result ≡ tried_by pause }
         ensures ends { (w : World) → w.mid ≡ false → Ends (C.prog self.old.client.now) k (S.reserved self.new.store) (S.meaning self.new.store).limit (core_with w k (S.meaning self.old.store) self.old.books work) (transaction w ((S.meaning self.old.store).part k) work) result (core_of w (S.meaning self.new.store) self.new.books) }
     {
         match pause {
@@ -116,7 +118,7 @@ impl<'p, C: Client, S: SegStore> Engine<'p, C, S> {
         requires idle { slice_get self.old.books.hands.items k ≡ Some Hand.Idle }
         requires sane { Sane (C.prog self.old.client.now) (C.sound self.old.client.now) length k (S.meaning self.old.store) self.old.books work }
         requires lives { (C.prog self.old.client.now).life work.state ≡ Lives }
-        requires short { work.steps + most ≤ length }
+        requires short { IsShort length (work.steps + most) }
         ensures rest { self.new ≡ record self.old { store = self.new.store; books = self.new.books } }
         ensures shape { SameShape (S.meaning self.old.store) (S.meaning self.new.store) }
         ensures reserved { S.reserved self.old.store ≤ S.reserved self.new.store }
@@ -139,7 +141,7 @@ impl<'p, C: Client, S: SegStore> Engine<'p, C, S> {
         requires fit { Fit k (S.meaning self.old.store) self.old.books work.progress }
         requires idle { slice_get self.old.books.hands.items k ≡ Some Hand.Idle }
         requires sane { Sane (C.prog self.old.client.now) (C.sound self.old.client.now) length k (S.meaning self.old.store) self.old.books work }
-        requires short { work.steps + most ≤ length }
+        requires short { IsShort length (work.steps + most) }
         ensures rest { self.new ≡ record self.old { store = self.new.store; books = self.new.books } }
         ensures shape { SameShape (S.meaning self.old.store) (S.meaning self.new.store) }
         ensures reserved { S.reserved self.old.store ≤ S.reserved self.new.store }
@@ -162,7 +164,7 @@ impl<'p, C: Client, S: SegStore> Engine<'p, C, S> {
         requires segment { k < (S.meaning self.old.store).segments }
         requires busy { slice_get self.old.books.hands.items k ≢ Some Hand.Idle }
         requires some { 1 ≤ most }
-        requires short { (x : Work C.State) → slice_get self.old.books.hands.items k ≡ Some (Hand.Runs x) → x.steps + most ≤ length }
+        requires short { (x : Work C.State) → slice_get self.old.books.hands.items k ≡ Some (Hand.Runs x) → IsShort length (x.steps + most) }
         requires sane { SaneCore (C.prog self.old.client.now) (C.sound self.old.client.now) length (S.meaning self.old.store) self.old.books }
         ensures rest { self.new ≡ record self.old { store = self.new.store; books = self.new.books } }
         ensures shape { SameShape (S.meaning self.old.store) (S.meaning self.new.store) }

@@ -35,12 +35,12 @@ pub struct Engine<'p, C: Client, S> {
 }
 
 impl<'p, C: Client, S: SegStore> Engine<'p, C, S> {
-    ghost use Rattle.std.specs.Prelude.{◌≡◌, ◌≢◌, ◌<◌, ◌≤◌, ◌+◌, ◌-◌, ◌^◌, ℕ, IfOk, IfErr, OnErr, false, slice_get, Some, []};
+    ghost use Rattle.std.specs.Prelude.{◌≡◌, ◌≢◌, ◌<◌, ◌≤◌, ◌+◌, ◌-◌, ◌^◌, ℕ, IfOk, IfErr, OnErr, true, false, slice_get, Some, []};
     ghost use Rattle.py_data.specs.World.{World};
     ghost use Rattle.lock_run.specs.Client.{Standing};
     ghost use Rattle.lock_run.specs.declared.client.Life.TheVariants.{Lives};
     ghost use Rattle.seg_store.specs.Meaning.{sees};
-    ghost use Rattle.stm_core.specs.CoreState.{with_conflict, with_segment, Running};
+    ghost use Rattle.stm_core.specs.CoreState.{IsShort, with_conflict, with_segment, Running};
     ghost use Rattle.stm_core.specs.Conflict.{side};
     ghost use Rattle.stm_core.specs.Books.{Fit, transaction, core_of};
     ghost use Rattle.stm_core.specs.Whole.{Whole, SameShape, stepped, StepDone, StepCut};
@@ -48,8 +48,8 @@ impl<'p, C: Client, S: SegStore> Engine<'p, C, S> {
     ghost use Rattle.seg_store.specs.Calls.{after_drop};
     ghost use Rattle.seg_store.specs.Store.{IsStore};
     ghost use Rattle.stm_core.specs.CoreState.{CoreState};
-    ghost use Rattle.stm_core.specs.Advance.{Gone, Sane, core_with};
-    ghost use Rattle.stm_core.specs.Pauses.{done_by, PauseCount};
+    ghost use Rattle.stm_core.specs.Advance.{Tried, Gone, Sane, core_with};
+    ghost use Rattle.stm_core.specs.Pauses.{done_by, tried_by, PauseCount};
     ghost use Rattle.stm_core.specs.Pausing.{PauseWhy};
 
     /// One step of the transaction of segment k, which was taken out of its hand.
@@ -85,13 +85,13 @@ impl<'p, C: Client, S: SegStore> Engine<'p, C, S> {
         requires idle { slice_get self.old.books.hands.items k ≡ Some Hand.Idle }
         requires sane { Sane (C.prog self.old.client.now) (C.sound self.old.client.now) length k (S.meaning self.old.store) self.old.books work.old }
         requires lives { (C.prog self.old.client.now).life work.old.state ≡ Lives }
-        requires short { work.old.steps < length }
+        requires short { IsShort length (work.old.steps + 1) }
         ensures fit { Fit k (S.meaning self.new.store) self.new.books work.new.progress }
         ensures idle { slice_get self.new.books.hands.items k ≡ Some Hand.Idle }
         ensures rest { self.new ≡ record self.old { store = self.new.store; books = self.new.books } }
         ensures sane { Sane (C.prog self.old.client.now) (C.sound self.old.client.now) length k (S.meaning self.new.store) self.new.books work.new }
-        ensures gone { (w : World) (n : ℕ) (c : CoreState C.State) → w.mid ≡ false → Gone (C.prog self.old.client.now) length k n c (core_with w k (S.meaning self.old.store) self.old.books work.old)
-            → Gone (C.prog self.old.client.now) length k (n + done_by result) c (core_with w k (S.meaning self.new.store) self.new.books work.new) }
+        ensures gone { (w : World) (n : ℕ) (c : CoreState C.State) → w.mid ≡ false → Tried (C.prog self.old.client.now) length k true n c (core_with w k (S.meaning self.old.store) self.old.books work.old)
+            → Gone (C.prog self.old.client.now) length k (n + done_by result) (tried_by result) c (core_with w k (S.meaning self.new.store) self.new.books work.new) }
         ensures steps { work.new.steps ≡ work.old.steps + done_by result }
         ensures shape { SameShape (S.meaning self.old.store) (S.meaning self.new.store) }
         ensures reserved { S.reserved self.old.store ≤ S.reserved self.new.store }
@@ -124,13 +124,13 @@ impl<'p, C: Client, S: SegStore> Engine<'p, C, S> {
         requires idle { slice_get self.old.books.hands.items k ≡ Some Hand.Idle }
         requires sane { Sane (C.prog self.old.client.now) (C.sound self.old.client.now) length k (S.meaning self.old.store) self.old.books work.old }
         requires lives { (C.prog self.old.client.now).life work.old.state ≡ Lives }
-        requires short { work.old.steps + most ≤ length }
+        requires short { IsShort length (work.old.steps + most) }
         ensures fit { Fit k (S.meaning self.new.store) self.new.books work.new.progress }
         ensures idle { slice_get self.new.books.hands.items k ≡ Some Hand.Idle }
         ensures rest { self.new ≡ record self.old { store = self.new.store; books = self.new.books } }
         ensures sane { Sane (C.prog self.old.client.now) (C.sound self.old.client.now) length k (S.meaning self.new.store) self.new.books work.new }
-        ensures gone { (w : World) (n : ℕ) (c : CoreState C.State) → w.mid ≡ false → Gone (C.prog self.old.client.now) length k n c (core_with w k (S.meaning self.old.store) self.old.books work.old)
-            → Gone (C.prog self.old.client.now) length k (n + result.0) c (core_with w k (S.meaning self.new.store) self.new.books work.new) }
+        ensures gone { (w : World) (n : ℕ) (c : CoreState C.State) → w.mid ≡ false → Tried (C.prog self.old.client.now) length k true n c (core_with w k (S.meaning self.old.store) self.old.books work.old)
+            → Gone (C.prog self.old.client.now) length k (n + result.0) (tried_by result.1) c (core_with w k (S.meaning self.new.store) self.new.books work.new) }
         ensures steps { work.new.steps ≡ work.old.steps + result.0 }
         ensures count { PauseCount most result.0 result.1 }
         ensures shape { SameShape (S.meaning self.old.store) (S.meaning self.new.store) }

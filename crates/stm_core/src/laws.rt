@@ -16,7 +16,7 @@ ghost use Rattle.stm_core.specs.declared.answers.AdvanceError.{AdvanceError};
 ghost use Rattle.stm_core.specs.declared.events.Event.{Event};
 ghost use Rattle.stm_core.specs.declared.events.Reply.{Reply};
 ghost use Rattle.stm_core.specs.Events.{Limits, EventsMade};
-ghost use Rattle.stm_core.specs.EventLaw.{EventsDo, HistoryGrew, RunsWithin};
+ghost use Rattle.stm_core.specs.History.{AllLeave, IsGrown, numbers_of};
 ghost use Rattle.stm_core.specs.Advanced.{Advanced, Led, OnlyOwn};
 
 /// A core is good when it is made, and each list of moves keeps it good.
@@ -46,10 +46,10 @@ pub fn advance_law<S>()
     ensures own { (p : Prog S) (length k : ℕ) (c c1 : CoreState S) → Led p length k c c1 → OnlyOwn p length k c c1 }
 {}
 
-/// Whatever the list of events: image, committed states and history change by commits alone, and the history grows by a turn for
-/// each; each new conflict stood in a state that its event came through; and what another segment has in hand stays, or is doomed
-/// by a new conflict.
+/// Of every list of events, over any core: image, committed states and history change by commits alone, each of which adds a
+/// turn; each new conflict stood in a state that its event came through, before more steps were done than were asked for; and an
+/// event of one segment leaves what another has in hand, or dooms it by a new conflict.
 pub fn events_law<S>()
-    ensures each { (p : Prog S) (start : Machine S) (l : Limits) (es : List Event) (rs : List Reply) (c c1 : CoreState S) → Good p start l.length c → RunsWithin l c → EventsMade p l es rs c c1 → EventsDo p l.length es rs c c1 }
-    ensures history { (p : Prog S) (length : ℕ) (es : List Event) (rs : List Reply) (c c1 : CoreState S) → EventsDo p length es rs c c1 → HistoryGrew rs c c1 }
+    ensures each { (p : Prog S) (l : Limits) (es : List Event) (rs : List Reply) (c c1 : CoreState S) → EventsMade p l es rs c c1 → AllLeave p l es rs c c1 }
+    ensures all { (p : Prog S) (l : Limits) (es : List Event) (rs : List Reply) (c c1 : CoreState S) → AllLeave p l es rs c c1 → IsGrown (numbers_of rs) c c1 }
 {}

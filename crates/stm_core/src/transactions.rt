@@ -109,7 +109,7 @@ impl<'p, C: Client, S: SegStore, I, O, E> Core<'p, C, S, I, O, E> {
     ghost use Rattle.stm_core.specs.Standing.{slot_of, IsNext, IsOutcome};
     ghost use Rattle.stm_core.specs.Finishing.{idle_core, IsUnused, HasFailed};
     ghost use Rattle.stm_core.specs.Events.{may_make, EventMade, EventsMade};
-    ghost use Rattle.stm_core.specs.EventLaw.{EventsDo};
+    ghost use Rattle.stm_core.specs.History.{AllLeave, IsGrown, numbers_of};
 
     /// Begins a transaction of thread `t` on segment `k`. It copies the thread's state, and makes room for a turn and a
     /// conflict.
@@ -281,7 +281,8 @@ impl<'p, C: Client, S: SegStore, I, O, E> Core<'p, C, S, I, O, E> {
         ensures good { IsGoodCore C.prog C.sound S.reserved S.meaning self.new }
         ensures job { SameJob S.meaning self.old self.new }
         ensures made { IfOk result (λ replies. (w : World) → w.mid ≡ false → EventsMade (C.prog (core_client self.old)) (core_limits S.meaning self.old) list.now replies.items (core_at S.meaning w self.old) (core_at S.meaning w self.new)) }
-        ensures does { IfOk result (λ replies. (w : World) → w.mid ≡ false → EventsDo (C.prog (core_client self.old)) (core_limits S.meaning self.old).length list.now replies.items (core_at S.meaning w self.old) (core_at S.meaning w self.new)) }
+        ensures leaves { IfOk result (λ replies. (w : World) → w.mid ≡ false → AllLeave (C.prog (core_client self.old)) (core_limits S.meaning self.old) list.now replies.items (core_at S.meaning w self.old) (core_at S.meaning w self.new)) }
+        ensures grows { IfOk result (λ replies. (w : World) → w.mid ≡ false → IsGrown (numbers_of replies.items) (core_at S.meaning w self.old) (core_at S.meaning w self.new)) }
         ensures none { OnErr result (self.new ≡ self.old) }
     {
         let mut replies = Vec::new(self.engine.alloc);

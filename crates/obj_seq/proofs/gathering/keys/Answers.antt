@@ -1,5 +1,5 @@
 use Rattle.std.proofs.Common.{◌<◌, ◌≤◌, ◌+◌, ◌*◌, ◌++◌, ◌∷◌, [], ◌∙◌, length, take, sym, ap, arith}
-use Rattle.py_data.specs.Heap.{at, value_at}
+use Rattle.py_data.specs.Heap.{at}
 use Rattle.py_data.specs.declared.record.Got.TheVariants.{Is}
 use Rattle.obj_seq.specs.Gather.{keys_of}
 use Rattle.obj_seq.proofs.CollectLoop.{looked-again, starved-again, value-before}

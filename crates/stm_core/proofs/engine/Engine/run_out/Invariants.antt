@@ -1,11 +1,11 @@
-use Rattle.std.proofs.Common.{◌≡◌, ◌≤◌, ◌+◌, ℕ, false, slice_get, Some}
+use Rattle.std.proofs.Common.{◌≡◌, ◌≤◌, ◌+◌, ℕ, true, false, slice_get, Some}
 use Rattle.py_data.specs.World.{World}
 use Rattle.lock_run.specs.declared.client.Life.TheVariants.{Lives}
 use Rattle.stm_core.specs.declared.books.Hand.TheVariants.{Idle}
 use Rattle.stm_core.specs.CoreState.{CoreState}
 use Rattle.stm_core.specs.Books.{Fit}
 use Rattle.stm_core.specs.Whole.{SameShape}
-use Rattle.stm_core.specs.Advance.{Gone, Sane, core_with}
+use Rattle.stm_core.specs.Advance.{Tried, Sane, core_with}
 use Rattle.stm_core.proofs.engine.Engine.run_out.Given as goal
 
 abbrev pub invariant-turns : goal.invariant-turns
@@ -21,6 +21,6 @@ invariant-turns g l = record {
   lives : (g.C.Client.prog l.initial.self.client.now).life l.work.state ≡ Lives;
   steps : l.work.steps ≡ l.initial.work.steps + l.done;
   gone : (w : World) (n : ℕ) (c : CoreState g.row.C-State.Denot) → w.mid ≡ false
-      → Gone (g.C.Client.prog l.initial.self.client.now) l.length l.k n c (core_with w l.k (g.S.SegStore.meaning l.initial.self.store) l.initial.self.books l.initial.work)
-      → Gone (g.C.Client.prog l.initial.self.client.now) l.length l.k (n + l.done) c (core_with w l.k (g.S.SegStore.meaning l.self.store) l.self.books l.work);
+      → Tried (g.C.Client.prog l.initial.self.client.now) l.length l.k true n c (core_with w l.k (g.S.SegStore.meaning l.initial.self.store) l.initial.self.books l.initial.work)
+      → Tried (g.C.Client.prog l.initial.self.client.now) l.length l.k true (n + l.done) c (core_with w l.k (g.S.SegStore.meaning l.self.store) l.self.books l.work);
 }

@@ -1,8 +1,8 @@
-use Rattle.std.proofs.Common.{refl, subst, zero-add, arith}
+use Rattle.std.proofs.Common.{refl, sym, subst, subst₂, zero-add, arith, true}
 use Rattle.stm_core.specs.Books.{transaction, core_of}
 use Rattle.stm_core.specs.Advanced.{Ends}
 use Rattle.stm_core.specs.Advance.{Gone, core_with}
-use Rattle.stm_core.proofs.Advancing.{gone_none}
+use Rattle.stm_core.proofs.Advancing.{tried_none}
 use Rattle.stm_core.proofs.Settling.{runs_with}
 use Rattle.stm_core.proofs.engine.Engine.take_steps.Goals as goal
 
@@ -17,7 +17,7 @@ returns-clause-taken g c = λ w dry.
       steps = c.run_out-done.result.0;
       before = before;
       last = transaction w (m1.part c.args.k) c.run_out-done.new.work;
-      gone = subst (λ n. Gone p c.args.length c.args.k n start before) (zero-add c.run_out-done.result.0) (c.run_out-done.ensures.gone w 0 start dry (gone_none p c.args.length c.args.k start));
+      gone = subst₂ (λ n d. Gone p c.args.length c.args.k n d start before) (zero-add c.run_out-done.result.0) (sym c.settle.ensures.tried) (c.run_out-done.ensures.gone w 0 start dry (tried_none p c.args.length c.args.k true start));
       runs = runs_with w c.args.k m1 c.run_out-done.new.self.books c.run_out-done.new.work;
       mortal = refl;
       room = λ lt. let n = c.run_out-done.ensures.steps in let h = c.requires.short in omega (arith, lt, n, h);

@@ -1,10 +1,8 @@
 use Rattle.std.proofs.Common.{rules, arith}
 use Rattle.stm_core.specs.CoreHeld.{core_at, core_client, core_limits}
 use Rattle.stm_core.proofs.Calling.{same_then}
-use Rattle.stm_core.specs.CoreState.{committed, core_new}
 use Rattle.stm_core.proofs.EventSteps.{turn, ended}
-use Rattle.stm_core.proofs.EventEffects.{events_law}
-use Rattle.stm_core.proofs.Publishing.{running_within}
+use Rattle.stm_core.proofs.Histories.{all_leave, all_grown}
 use Rattle.stm_core.proofs.transactions.Core.run_events.Goals as goal
 
 pub events-preserved : goal.events-preserved
@@ -20,11 +18,11 @@ events-preserved g c = record {
 pub returns-clause-made : goal.returns-clause-made
 returns-clause-made g c = λ w m. ended (g.C.Client.prog (core_client c.args.self.now)) (core_limits g.S.SegStore.meaning c.args.self.now) c.args.list.now c.events.replies.items c.events.rest.now (core_at g.S.SegStore.meaning w c.args.self.now) (core_at g.S.SegStore.meaning w c.events.self) (c.events.invariant.made w m) (search (rules))
 
-pub returns-clause-does : goal.returns-clause-does
-returns-clause-does g c = λ w m.
-    let x = c.args.self.now in
-    let p = g.C.Client.prog (core_client x) in
-    let meaning = g.S.SegStore.meaning x.engine.store in
-    events_law p (committed (core_new p w)) (core_limits g.S.SegStore.meaning x) c.args.list.now c.events.replies.items (core_at g.S.SegStore.meaning w x) (core_at g.S.SegStore.meaning w c.events.self)
-    (c.requires.good.sane.good w m) (λ j y e. running_within w meaning x.engine.books j y c.requires.good.whole.hands e)
+pub returns-clause-leaves : goal.returns-clause-leaves
+returns-clause-leaves g c = λ w m. all_leave (g.C.Client.prog (core_client c.args.self.now)) (core_limits g.S.SegStore.meaning c.args.self.now) c.args.list.now c.events.replies.items (core_at g.S.SegStore.meaning w c.args.self.now) (core_at g.S.SegStore.meaning w c.events.self)
     (ended (g.C.Client.prog (core_client c.args.self.now)) (core_limits g.S.SegStore.meaning c.args.self.now) c.args.list.now c.events.replies.items c.events.rest.now (core_at g.S.SegStore.meaning w c.args.self.now) (core_at g.S.SegStore.meaning w c.events.self) (c.events.invariant.made w m) (search (rules)))
+
+pub returns-clause-grows : goal.returns-clause-grows
+returns-clause-grows g c = λ w m. all_grown (g.C.Client.prog (core_client c.args.self.now)) (core_limits g.S.SegStore.meaning c.args.self.now) c.args.list.now c.events.replies.items (core_at g.S.SegStore.meaning w c.args.self.now) (core_at g.S.SegStore.meaning w c.events.self)
+    (all_leave (g.C.Client.prog (core_client c.args.self.now)) (core_limits g.S.SegStore.meaning c.args.self.now) c.args.list.now c.events.replies.items (core_at g.S.SegStore.meaning w c.args.self.now) (core_at g.S.SegStore.meaning w c.events.self)
+    (ended (g.C.Client.prog (core_client c.args.self.now)) (core_limits g.S.SegStore.meaning c.args.self.now) c.args.list.now c.events.replies.items c.events.rest.now (core_at g.S.SegStore.meaning w c.args.self.now) (core_at g.S.SegStore.meaning w c.events.self) (c.events.invariant.made w m) (search (rules))))

@@ -1,0 +1,12 @@
+pub mod Below
+pub mod Nearest
+pub mod RootsKept
+pub mod ExceptionClasses
+pub mod Parts
+pub mod AttrLooks
+pub mod OwnDict
+pub mod AttrHolds
+pub mod FaultHolds
+pub mod Given
+pub mod SteadyRows
+pub mod Held

@@ -1,0 +1,225 @@
+//! The instances that exceptions make.
+ghost use Rattle.std.specs.Prelude.{◌≡◌, IfOk, [], ◌∷◌};
+ghost use Rattle.py_base.specs.declared.kind.Kind.TheVariants.{Str, Tuple};
+ghost use Rattle.py_data.specs.declared.record.With.TheVariants.{Text};
+ghost use Rattle.py_data.specs.Heap.{new_rec};
+ghost use Rattle.py_data.specs.Made.{rec_of};
+ghost use Rattle.py_data.specs.Sense.{Meets, Safe, IsLive};
+ghost use Rattle.obj_class.specs.Exceptions.{args_row, dict_of_args, exception_row, fault_row, is_tellable, keyed_row, made_row, numbered_row, told_row};
+
+use obj_nest::look;
+use py_data::exception::MEMORY_ERROR;
+use py_data::{
+    Addr, Bytes, Fault, Kind, LENGTH_LIMIT, NoMemory, Record, Stop, Value, Values, View, With,
+};
+use std::alloc::Global;
+
+/// Whether a text is no longer than a record may be.
+fn is_tellable(with: &With) -> bool
+    ensures { result ≡ is_tellable with.now }
+{
+    match with {
+        With::Text(text) => text.len() <= LENGTH_LIMIT,
+        _ => true,
+    }
+}
+
+/// A record of two values that is to be made.
+fn pair(alloc: Global, kind: Kind, x: Value, y: Value) -> Result<Record, NoMemory>
+    ensures { IfOk result (λ r. rec_of r ≡ new_rec kind (x ∷ y ∷ []) []) }
+{
+    let mut values = Values::new(alloc);
+    values.push(x)?;
+    values.push(y)?;
+    Ok(Record {
+        kind,
+        values,
+        bytes: Bytes::new(alloc),
+    })
+}
+
+/// Makes a record of two values.
+#[tactic(auto, using(py_data::proofs::Rows::row_steps), unfolding(crate::specs::Exceptions::made_row))]
+fn make_pair<S, V: View<S>>(
+    alloc: Global,
+    v: &mut V,
+    kind: Kind,
+    x: Value,
+    y: Value,
+) -> Result<Value, Stop>
+    requires live { IsLive V.sense v.old }
+    requires safe { Safe V.sense.partial (made_row {S = S} (new_rec kind (x ∷ y ∷ []) [])) (V.sense.heap v.old) }
+    ensures { Meets V.sense (made_row (new_rec kind (x ∷ y ∷ []) [])) v.old v.new result }
+{
+    let made = pair(alloc, kind, x, y)?;
+    Ok(Value::Ref(v.make(&made)?))
+}
+
+/// Makes a string.
+#[tactic(auto, using(py_data::proofs::Rows::row_steps), unfolding(crate::specs::Exceptions::made_row))]
+fn make_text<S, V: View<S>>(alloc: Global, v: &mut V, text: &[u8]) -> Result<Value, Stop>
+    requires live { IsLive V.sense v.old }
+    requires safe { Safe V.sense.partial (made_row {S = S} (new_rec Str [] text.now)) (V.sense.heap v.old) }
+    ensures { Meets V.sense (made_row (new_rec Str [] text.now)) v.old v.new result }
+{
+    let made = Record {
+        kind: Kind::Str,
+        values: Values::new(alloc),
+        bytes: Bytes::from_slice(alloc, text)?,
+    };
+    Ok(Value::Ref(v.make(&made)?))
+}
+
+/// Makes a tuple.
+#[tactic(auto, using(py_data::proofs::Rows::row_steps), unfolding(crate::specs::Exceptions::made_row))]
+fn make_tuple<S, V: View<S>>(alloc: Global, v: &mut V, values: Values) -> Result<Value, Stop>
+    requires live { IsLive V.sense v.old }
+    requires safe { Safe V.sense.partial (made_row {S = S} (new_rec Tuple values [])) (V.sense.heap v.old) }
+    ensures { Meets V.sense (made_row (new_rec Tuple values [])) v.old v.new result }
+{
+    let made = Record {
+        kind: Kind::Tuple,
+        values,
+        bytes: Bytes::new(alloc),
+    };
+    Ok(Value::Ref(v.make(&made)?))
+}
+
+/// Makes the instance of a class whose one attribute is this pair.
+#[tactic(auto, using(py_data::proofs::Rows::row_steps, py_data::proofs::Steps::call_steps), unfolding(crate::specs::Exceptions::dict_of_args))]
+fn with_dict<S, V: View<S>>(
+    alloc: Global,
+    v: &mut V,
+    class: Value,
+    key: Value,
+    tuple: Value,
+) -> Result<Value, Stop>
+    requires live { IsLive V.sense v.old }
+    requires safe { Safe V.sense.partial (dict_of_args {S = S} class key tuple) (V.sense.heap v.old) }
+    ensures { Meets V.sense (dict_of_args class key tuple) v.old v.new result }
+{
+    let dict = make_pair(alloc, v, Kind::Dict, key, tuple)?;
+    make_pair(alloc, v, Kind::Instance, class, dict)
+}
+
+/// Makes the instance of a class with these arguments.
+#[tactic(auto, using(py_data::proofs::Rows::row_steps, py_data::proofs::Steps::call_steps), unfolding(crate::specs::Exceptions::args_row))]
+fn with_args<S, V: View<S>>(
+    alloc: Global,
+    v: &mut V,
+    class: Value,
+    key: Value,
+    args: Values,
+) -> Result<Value, Stop>
+    requires live { IsLive V.sense v.old }
+    requires safe { Safe V.sense.partial (args_row {S = S} class key args) (V.sense.heap v.old) }
+    ensures { Meets V.sense (args_row class key args) v.old v.new result }
+{
+    let tuple = make_tuple(alloc, v, args)?;
+    with_dict(alloc, v, class, key, tuple)
+}
+
+/// The one value as a list.
+fn alone(alloc: Global, x: Value) -> Result<Values, NoMemory>
+    ensures { IfOk result (λ vs. vs ≡ x ∷ []) }
+{
+    let mut values = Values::new(alloc);
+    values.push(x)?;
+    Ok(values)
+}
+
+/// The arguments that are a new string.
+#[tactic(auto, using(py_data::proofs::Rows::row_steps, py_data::proofs::Steps::call_steps), unfolding(crate::specs::Exceptions::told_row))]
+fn told_text<S, V: View<S>>(alloc: Global, v: &mut V, text: &[u8]) -> Result<Values, Stop>
+    requires live { IsLive V.sense v.old }
+    requires safe { Safe V.sense.partial (told_row {S = S} (Text text.now)) (V.sense.heap v.old) }
+    ensures { Meets V.sense (told_row (Text text.now)) v.old v.new result }
+{
+    let a = make_text(alloc, v, text)?;
+    Ok(alone(alloc, a)?)
+}
+
+/// The arguments of what an exception is told with.
+#[tactic(auto, using(py_data::proofs::Rows::row_steps), unfolding(crate::specs::Exceptions::told_row))]
+fn told<S, V: View<S>>(alloc: Global, v: &mut V, with: &With) -> Result<Values, Stop>
+    requires live { IsLive V.sense v.old }
+    requires safe { Safe V.sense.partial (told_row {S = S} with.now) (V.sense.heap v.old) }
+    ensures { Meets V.sense (told_row with.now) v.old v.new result }
+{
+    match with {
+        With::Nothing => Ok(Values::new(alloc)),
+        With::Text(text) => told_text(alloc, v, text.as_slice()),
+        With::Held(x) => Ok(alone(alloc, *x)?),
+    }
+}
+
+/// Makes the exception of a class, with the key of its arguments at hand.
+#[tactic(auto, using(py_data::proofs::Rows::row_steps, py_data::proofs::Steps::call_steps), unfolding(crate::specs::Exceptions::keyed_row))]
+fn with_key<S, V: View<S>>(
+    alloc: Global,
+    v: &mut V,
+    class: Value,
+    with: &With,
+    key: Value,
+) -> Result<Value, Stop>
+    requires live { IsLive V.sense v.old }
+    requires safe { Safe V.sense.partial (keyed_row {S = S} class with.now key) (V.sense.heap v.old) }
+    ensures { Meets V.sense (keyed_row class with.now key) v.old v.new result }
+{
+    let args = told(alloc, v, with)?;
+    with_args(alloc, v, class, key, args)
+}
+
+/// Makes the exception of a class.
+#[tactic(auto, using(py_data::proofs::Rows::row_steps, py_data::proofs::Steps::call_steps), unfolding(crate::specs::Exceptions::exception_row))]
+fn exception<S, V: View<S>>(
+    alloc: Global,
+    v: &mut V,
+    class: Value,
+    with: &With,
+) -> Result<Value, Stop>
+    requires live { IsLive V.sense v.old }
+    requires safe { Safe V.sense.partial (exception_row {S = S} class with.now) (V.sense.heap v.old) }
+    ensures { Meets V.sense (exception_row class with.now) v.old v.new result }
+{
+    let key = make_text(alloc, v, b"args")?;
+    with_key(alloc, v, class, with, key)
+}
+
+/// Makes the exception of the class of a number.
+#[tactic(auto, using(py_data::proofs::Rows::row_steps, py_data::proofs::Steps::call_steps), unfolding(crate::specs::Exceptions::numbered_row))]
+fn numbered<S, V: View<S>>(
+    alloc: Global,
+    v: &mut V,
+    roots: Addr,
+    n: u8,
+    with: &With,
+) -> Result<Value, Stop>
+    requires live { IsLive V.sense v.old }
+    requires safe { Safe V.sense.partial (numbered_row {S = S} roots.0 n with.now) (V.sense.heap v.old) }
+    ensures { Meets V.sense (numbered_row roots.0 n with.now) v.old v.new result }
+{
+    let class = look(v, roots, 1 + n as usize)?;
+    exception(alloc, v, class, with)
+}
+
+/// Makes an exception: an instance of its class, whose one attribute `args` is a tuple of what it is told with. `roots` is the
+/// address of the program's list of roots. A text of more than 1,048,576 bytes makes MemoryError in its place, before anything
+/// is made. Python 2.7's exceptions have `message` besides.
+#[tactic(auto, using(py_data::proofs::Rows::row_steps), unfolding(crate::specs::Exceptions::fault_row))]
+pub fn make_fault<S, V: View<S>>(
+    alloc: Global,
+    v: &mut V,
+    roots: Addr,
+    f: &Fault,
+) -> Result<Value, Stop>
+    requires live { IsLive V.sense v.old }
+    requires safe { Safe V.sense.partial (fault_row {S = S} roots.0 f.now) (V.sense.heap v.old) }
+    ensures { Meets V.sense (fault_row roots.0 f.now) v.old v.new result }
+{
+    if is_tellable(&f.with) {
+        numbered(alloc, v, roots, f.exc, &f.with)
+    } else {
+        numbered(alloc, v, roots, MEMORY_ERROR, &With::Nothing)
+    }
+}
