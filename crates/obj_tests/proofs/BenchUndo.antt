@@ -1,14 +1,38 @@
 -- Steps that are opened over a view whose heap is in order, and taken back.
-use Rattle.std.proofs.Common.{◌≡◌, ℕ, List, inl, inr, refl, sym, ap, subst, ◌∙◌}
+use Rattle.std.proofs.Common.{◌≡◌, ℕ, List, length, Option, Some, None, unwrap_or, Result, Ok, Err, inl, inr, refl, sym, ap, subst, ◌∙◌}
+use Rattle.std.specs.Prelude.{IfSome}
+use Rattle.std.specs.Result.{result_err}
 use Rattle.py_data.specs.declared.value.Value.{Value}
 use Rattle.py_data.specs.declared.stop.Stop.{Stop}
+use Rattle.py_base.specs.declared.kind.Kind.TheVariants.{List as ListKind}
+use Rattle.py_data.specs.Heap.{Heap, Rec, blank, at, length_of}
+use Rattle.py_data.specs.Shape.{KindIn}
 use Rattle.py_data.specs.Every.{Every}
 use Rattle.py_data.specs.Closed.{IsItem}
 use Rattle.py_data.specs.Order.{IsOrdered}
 use Rattle.py_data.specs.Row.{Row}
-use Rattle.py_data.specs.Sense.{Sense, Bracket, IsBracket, Stopped}
+use Rattle.py_data.specs.Sense.{Sense, Bracket, IsBracket, Stopped, Meets}
 use Rattle.py_data.proofs.Whole.{upto_steps, stopped_at}
+use Rattle.obj_seq.specs.HoldsLaws.{IsListAt}
 use Rattle.obj_tests.specs.Bench.{free, Good}
+
+-- the length of a list is the count of its values
+pub list_length : (h : Heap) (a : ℕ) → IsListAt h a → length_of (at h a) ≡ length (at h a).values
+unfolding at
+list_length h a k = by (h a) k
+  where
+    size : (r : Rec) → r.kind ≡ ListKind → length_of r ≡ length r.values
+    size r e = cc
+
+    by : (o : Option Rec) → KindIn o (λ q. q ≡ ListKind) → length_of (unwrap_or o blank) ≡ length (unwrap_or o blank).values
+    by None k = absurd k
+    by (Some r) k = size r k
+
+-- the Stop of a row that was stopped
+pub err_stopped : {S X A : Type 0} (u : Sense S X) (row : Row S A) (v w : X) (res : Result A Stop) → Meets u row v w res → IfSome (result_err res) (λ e. Stopped u row v e w)
+unfolding Meets
+err_stopped u row v w (Ok x) m = tt
+err_stopped u row v w (Err e) m = m
 
 module _ {S X : Type 0} {u : Sense S X} {b : Bracket S X} (B : IsBracket u b) where
   -- a step that is opened leaves the records as they are

@@ -1,7 +1,7 @@
 //! `insert` where no memory is left: a step that is taken back leaves the heap as it was.
 ghost use Rattle.std.specs.Prelude.{◌≡◌, IfOk, IfSome, pos};
 ghost use Rattle.py_data.specs.declared.value.Value.TheVariants.{Int};
-ghost use Rattle.py_data.specs.Sense.{Meets};
+ghost use Rattle.py_data.specs.Sense.{Meets, Stopped};
 ghost use Rattle.obj_seq.specs.HoldsLaws.{IsListAt};
 ghost use Rattle.obj_seq.specs.Seq.{insert_row};
 ghost use Rattle.obj_tests.specs.Bench.{Good};
@@ -35,6 +35,15 @@ fn insert_front<S, V: View<S>>(v: &mut V, stack: &Values, a: Addr) -> Result<Got
     insert(v, a, 0, Value::Int(9))
 }
 
+/// The Stop of `insert` at the front of a list, if there was one.
+fn insert_stop<S, V: View<S>>(v: &mut V, stack: &Values, a: Addr) -> Option<Stop>
+    requires good { Good V.sense stack.now v.old }
+    requires at { IsListAt (V.sense.heap v.old) a.0 }
+    ensures { IfSome result (λ e. Stopped V.sense (insert_row a.0 (pos 0) (Int (pos 9))) v.old e v.new) }
+{
+    insert_front(v, stack, a).err()
+}
+
 /// `insert` at the front of a list, in a step that is taken back where it was stopped. The Stop, if there was one.
 fn insert_or_back<S, V: View<S>>(v: &mut V, stack: &Values, a: Addr) -> Option<Stop>
     requires good { Good V.sense stack.now v.old }
@@ -42,12 +51,12 @@ fn insert_or_back<S, V: View<S>>(v: &mut V, stack: &Values, a: Addr) -> Option<S
     ensures { IfSome result (λ _. V.sense.heap v.new ≡ V.sense.heap v.old) }
 {
     v.open_step();
-    match insert_front(v, stack, a) {
-        Ok(_) => None,
-        Err(e) => {
+    match insert_stop(v, stack, a) {
+        Some(e) => {
             v.undo_step();
             Some(e)
         }
+        None => None,
     }
 }
 
