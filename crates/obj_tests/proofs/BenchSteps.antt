@@ -1,6 +1,6 @@
 -- What an operation leaves over a view whose heap is in order.
-use Rattle.std.proofs.Common.{arith, ◌≡◌, ℕ, ℤ, ◌<◌, Bool, false, List, [], ◌∷◌, ◌++◌, length, remove, take, Ok, refl, sym, ap, subst, ◌∙◌}
-use Rattle.std.specs.Prelude.{slice_index_or}
+use Rattle.std.proofs.Common.{arith, ◌≡◌, ℕ, ℤ, ◌<◌, Bool, true, false, Option, None, Some, List, [], ◌∷◌, ◌++◌, length, remove, take, Ok, refl, sym, ap, subst, ◌∙◌}
+use Rattle.std.specs.Prelude.{slice_index_or, is_some}
 use Rattle.py_data.specs.declared.value.Value.{Value}
 use Rattle.py_data.specs.declared.value.Value.TheVariants.{Unset, Int, Ref}
 use Rattle.py_base.specs.declared.kind.Kind.{Kind}
@@ -12,16 +12,16 @@ use Rattle.py_data.specs.Heap.{Heap, Rec, at, new_rec}
 use Rattle.py_data.specs.Closed.{IsItem}
 use Rattle.py_data.specs.Order.{AreLasting, IsOrdered, FitsAt}
 use Rattle.py_data.specs.Holds.{Holds}
-use Rattle.py_data.specs.Looking.{Looks}
+use Rattle.py_data.specs.Looking.{Looks, bytes_row}
 use Rattle.py_data.specs.Row.{Row, Ret, Do, Read, Make}
-use Rattle.py_data.specs.Sense.{Sense, Lawful, Asks, Safe, Meets, ShownOf}
+use Rattle.py_data.specs.Sense.{Sense, Lawful, Asks, IsLive, Safe, Meets, ShownOf}
 use Rattle.py_data.proofs.EveryLemmas.{every_and, every_less, every_take}
 use Rattle.py_data.proofs.Holding.{holds_ret, holds_safe, holds_run}
 use Rattle.py_data.proofs.HoldingCalls.{holds_make}
 use Rattle.py_data.proofs.Making.{made_fits}
 use Rattle.py_data.proofs.Rows.{meets-ret, meets-do}
 use Rattle.py_data.proofs.ItemLemmas.{item_at, items_stay}
-use Rattle.py_data.proofs.Looking.{look_asks, looks_held}
+use Rattle.py_data.proofs.Looking.{look_asks, looks_held, looks_weaken, bytes_looks}
 use Rattle.py_data.proofs.Steps.{live-after}
 use Rattle.obj_tests.specs.Bench.{free, any_state, Good, GoodWith}
 
@@ -67,10 +67,26 @@ module _ {S X : Type 0} {u : Sense S X} {stack : List Value} {v : X} where
   pub good_take : (n : ℕ) → Good u stack v → Good u (take n stack) v
   good_take n g = record { whole = g.whole; live = g.live; order = g.order; items = every_take (IsItem (u.heap v)) stack n g.items }
 
+kind_there : (o : Option Rec) (p : Kind → Type 0) → KindIn o p → is_some o ≡ true
+kind_there None p i = absurd i
+kind_there (Some r) p i = refl
+
 module _ {S X : Type 0} {u : Sense S X} {stack : List Value} {v : X} (good : Good u stack v) (a : ℕ) where
   -- a record that is there may be looked at
   pub good_asks : IsItem (u.heap v) (Ref (record { 0 = a })) → Asks {S = S} u.partial (Read a) (u.heap v)
   good_asks i = subst (λ p. Asks {S = S} p (Read a) (u.heap v)) (sym good.whole) (look_asks S (u.heap v) a i.0)
+
+  -- and so may one whose kind is known
+  pub kind_asks : (p : Kind → Type 0) → KindIn (u.heap v a) p → Asks {S = S} u.partial (Read a) (u.heap v)
+  kind_asks p i = subst (λ q. Asks {S = S} q (Read a) (u.heap v)) (sym good.whole) (look_asks S (u.heap v) a (kind_there (u.heap v a) p i))
+
+  -- its bytes are a look
+  pub bytes_look : (p : Kind → Type 0) → KindIn (u.heap v a) p → Looks {S = S} (λ bs. Unit {0}) (bytes_row a) (u.heap v)
+  bytes_look p i = by (u.heap v a) refl i
+    where
+      by : (o : Option Rec) → u.heap v a ≡ o → KindIn o p → Looks {S = S} (λ bs. Unit {0}) (bytes_row a) (u.heap v)
+      by None e i = absurd i
+      by (Some r) e i = looks_weaken (λ bs. bs ≡ r.bytes) (λ bs. Unit {0}) (λ bs f. tt) (bytes_row a) (u.heap v) (bytes_looks S (u.heap v) a r e)
 
   -- a look leaves all as it is
   pub good_looked : (L : Lawful u) (w : X) (r : Rec) → u.does (Read a) v r w → Good u stack w
@@ -104,3 +120,11 @@ pub range_fits : (h : Heap) (a : ℕ) (start stop step : ℤ) → IsRange (Int s
 range_fits h a start stop step i =
     made_fits free h a Range (Int start ∷ Int stop ∷ Int step ∷ []) [] (λ e. let z : Range ≡ Class = e in cc) (λ e. let z : Range ≡ Function = e in cc) (λ e. let z : Range ≡ Cell = e in cc)
     ((tt, λ e. let z : Int start ≡ Unset = e in cc), ((tt, λ e. let z : Int stop ≡ Unset = e in cc), ((tt, λ e. let z : Int step ≡ Unset = e in cc), tt))) i refl (omega arith) (omega arith)
+
+-- an empty heap is in order
+empty_order : (h : Heap) → ((a : ℕ) → h a ≡ None) → IsOrdered free h
+empty_order h e = record { each = λ a r f. let no : ◌≡◌ {A = Option Rec} None (Some r) = sym (e a) ∙ f in absurd cc }
+
+module _ {S X : Type 0} (u : Sense S X) (v : X) where
+  pub good_empty : u.partial ≡ false → IsLive u v → u.heap v ≡ (λ a. None) → Good u [] v
+  good_empty whole live e = record { whole = whole; live = live; order = empty_order (u.heap v) (λ a. ap (λ h. h a) e); items = tt }

@@ -13,6 +13,7 @@ mod limits;
 mod looking;
 mod makers;
 mod nested;
+mod operators;
 mod pairs;
 mod reading;
 mod rows;
@@ -87,11 +88,16 @@ fn mark_at(line: &[u8], mark: &[u8]) -> usize {
     line.len()
 }
 
-/// Does the program of a row, and fails with the row where it doesn't come to what is expected.
+/// Does the program of a row, and fails with the row where it doesn't come to what is expected. A line without words, and
+/// one that begins with `#`, is no row.
 fn row(rt: &impl Abort, alloc: Global, line: &[u8]) -> Result<(), AllocError> {
+    if line.is_empty() || line.starts_with(b"#") {
+        return Ok(());
+    }
     let at = mark_at(line, b" => ");
     if at + 4 > line.len() {
-        return Ok(());
+        let line = line.escape_ascii();
+        panic!(rt; "{line}: no row");
     }
     let text = tried(rt, alloc, &line[..at])?;
     if text.as_slice() != &line[at + 4..] {

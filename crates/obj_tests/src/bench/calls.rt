@@ -7,6 +7,7 @@ ghost use Rattle.py_data.specs.Answers.{IsAnswer, IsDone, IsGot, IfItem, IsSeque
 ghost use Rattle.py_data.specs.Shape.{KindIn};
 ghost use Rattle.obj_seq.specs.HoldsLaws.{AreItems, IsListAt, IsSequenceAt, IsIterAt, IsIterator};
 ghost use Rattle.obj_dict.specs.HoldsLaws.{IsDictAt};
+ghost use Rattle.obj_str.specs.HoldsLaws.{IsStrAt};
 ghost use Rattle.obj_tests.specs.Bench.{Good, GoodWith};
 
 use obj_dict::Part;
@@ -258,6 +259,34 @@ pub fn gather<S, V: View<S>>(
     Ok(got)
 }
 
+/// The length of a string.
+fn text_size<S, V: View<S>>(v: &mut V, stack: &Values, a: Addr) -> Result<usize, Stop>
+    requires good { Good V.sense stack.now v.old }
+    requires at { IsStrAt (V.sense.heap v.old) a.0 }
+    ensures { IfOk result (λ _. Good V.sense stack.now v.new) }
+{
+    let n = v.byte_len(a)?;
+    Ok(n)
+}
+
+/// How many values a record of a kind has, or pairs.
+fn record_size<S, V: View<S>>(
+    v: &mut V,
+    stack: &Values,
+    a: Addr,
+    kind: Kind,
+) -> Result<usize, Stop>
+    requires good { Good V.sense stack.now v.old }
+    requires at { KindIn (V.sense.heap v.old a.0) (λ k. k ≡ kind) }
+    ensures { IfOk result (λ _. Good V.sense stack.now v.new) }
+{
+    let n = v.len(a)?;
+    match kind {
+        Kind::Dict => Ok(n / 2),
+        _ => Ok(n),
+    }
+}
+
 /// The length of a record of the stack: of its bytes, its pairs or its values.
 pub fn size_at<S, V: View<S>>(
     v: &mut V,
@@ -270,37 +299,28 @@ pub fn size_at<S, V: View<S>>(
 {
     match record_at(v, stack, place)? {
         Some((a, Kind::Str)) => {
-            let n = v.byte_len(a)?;
+            let n = text_size(v, stack, a)?;
             Ok(Some(n))
         }
-        Some((a, Kind::Dict)) => {
-            let n = v.len(a)?;
-            Ok(Some(n / 2))
-        }
-        Some((a, _)) => {
-            let n = v.len(a)?;
+        Some((a, kind)) => {
+            let n = record_size(v, stack, a, kind)?;
             Ok(Some(n))
         }
         None => Ok(None),
     }
 }
 
-/// The bytes of a string of the stack.
-pub fn bytes_at<S, V: View<S>>(
+/// The bytes of a string.
+pub fn bytes_in<S, V: View<S>>(
     alloc: Global,
     v: &mut V,
     stack: &Values,
-    place: usize,
-) -> Result<Option<Bytes>, Stop>
+    a: Addr,
+) -> Result<Bytes, Stop>
     requires good { Good V.sense stack.now v.old }
-    requires within { place < length stack.now }
+    requires at { IsStrAt (V.sense.heap v.old) a.0 }
     ensures { IfOk result (λ _. Good V.sense stack.now v.new) }
 {
-    match record_at(v, stack, place)? {
-        Some((a, Kind::Str)) => {
-            let bytes = bytes_of(alloc, v, a)?;
-            Ok(Some(bytes))
-        }
-        _ => Ok(None),
-    }
+    let bytes = bytes_of(alloc, v, a)?;
+    Ok(bytes)
 }

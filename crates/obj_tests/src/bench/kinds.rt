@@ -2,6 +2,7 @@
 ghost use Rattle.std.specs.Prelude.{◌≡◌, ◌<◌, length, IfOk, IfSome};
 ghost use Rattle.obj_seq.specs.HoldsLaws.{IsListAt, IsSequenceAt, IsIterAt};
 ghost use Rattle.obj_dict.specs.HoldsLaws.{IsDictAt};
+ghost use Rattle.obj_str.specs.HoldsLaws.{IsStrAt};
 ghost use Rattle.obj_tests.specs.Bench.{Good};
 
 use super::calls::record_at;
@@ -60,6 +61,19 @@ pub fn iter_at<S, V: View<S>>(v: &mut V, stack: &Values, place: usize) -> Result
 {
     match record_at(v, stack, place)? {
         Some((a, Kind::Iter)) => Ok(Some(a)),
+        _ => Ok(None),
+    }
+}
+
+/// The string at a place of the stack.
+pub fn str_at<S, V: View<S>>(v: &mut V, stack: &Values, place: usize) -> Result<Option<Addr>, Stop>
+    requires good { Good V.sense stack.now v.old }
+    requires within { place < length stack.now }
+    ensures good { IfOk result (λ _. Good V.sense stack.now v.new) }
+    ensures at { IfOk result (λ o. IfSome o (λ a. IsStrAt (V.sense.heap v.new) a.0)) }
+{
+    match record_at(v, stack, place)? {
+        Some((a, Kind::Str)) => Ok(Some(a)),
         _ => Ok(None),
     }
 }

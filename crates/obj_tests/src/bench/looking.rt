@@ -2,6 +2,7 @@
 ghost use Rattle.std.specs.Prelude.{IfOk};
 ghost use Rattle.obj_tests.specs.Bench.{Good};
 
+use super::kinds::str_at;
 use super::stacking::{self, Leaf};
 use super::state::{Bench, Halt, told_fault};
 use super::{calls, nested};
@@ -167,8 +168,8 @@ pub fn order<V: View<u8> + Drop>(bench: Bench<V>) -> Result<Bench<V>, Halt>
     }
 }
 
-/// `x truth`.
-pub fn truth<V: View<u8> + Drop>(bench: Bench<V>) -> Result<Bench<V>, Halt>
+/// `x truth` and `x not`: whether the truth of the top value is this one.
+pub fn truth<V: View<u8> + Drop>(bench: Bench<V>, wanted: bool) -> Result<Bench<V>, Halt>
     requires { Good V.sense bench.stack bench.view }
     ensures { IfOk result (λ b. Good V.sense b.stack b.view) }
 {
@@ -183,7 +184,7 @@ pub fn truth<V: View<u8> + Drop>(bench: Bench<V>) -> Result<Bench<V>, Halt>
     }
     let yes = nested::truth(&mut view, &stack, n - 1)?;
     let bench = stacking::cut(Bench { alloc, view, stack }, n - 1)?;
-    stacking::push_leaf(bench, Leaf::Bool(yes))
+    stacking::push_leaf(bench, Leaf::Bool(yes == wanted))
 }
 
 /// So many times some bytes, or nothing where they are more than a string may have.
@@ -212,14 +213,15 @@ pub fn long_text<V: View<u8> + Drop>(bench: Bench<V>, times: usize) -> Result<Be
     if n < 1 {
         return Err(Halt::Bad);
     }
-    match calls::bytes_at(alloc, &mut view, &stack, n - 1)? {
-        Some(bytes) => match repeated(alloc, &bytes, times)? {
-            Some(all) => {
-                let bench = stacking::cut(Bench { alloc, view, stack }, n - 1)?;
-                stacking::text(bench, all)
+    match str_at(&mut view, &stack, n - 1)? {
+        Some(a) => {
+            let bytes = calls::bytes_in(alloc, &mut view, &stack, a)?;
+            let bench = stacking::cut(Bench { alloc, view, stack }, n - 1)?;
+            match repeated(alloc, &bytes, times)? {
+                Some(all) => stacking::text(bench, all),
+                None => Err(Halt::Bad),
             }
-            None => Err(Halt::Bad),
-        },
+        }
         None => Err(Halt::Bad),
     }
 }

@@ -4,7 +4,7 @@ ghost use Rattle.obj_tests.specs.Bench.{Good};
 
 use super::stacking::{self, Leaf};
 use super::state::{Bench, Halt};
-use super::{looking, pairs, words};
+use super::{looking, operators, pairs, words};
 use obj_dict::Part;
 use py_base::{builtin_number, skip};
 use py_data::{Bytes, Kind, Stop, View};
@@ -92,8 +92,9 @@ fn general<V: View<u8> + Drop>(bench: Bench<V>, word: &[u8]) -> Result<Bench<V>,
         b"str" => looking::text(bench, false),
         b"equal" => looking::equal(bench),
         b"order" => looking::order(bench),
-        b"truth" => looking::truth(bench),
-        _ => Err(Halt::Bad),
+        b"truth" => looking::truth(bench, true),
+        b"not" => looking::truth(bench, false),
+        _ => operators::operated(bench, word),
     }
 }
 
@@ -143,7 +144,7 @@ fn named<V: View<u8> + Drop>(bench: Bench<V>, word: &[u8]) -> Result<Bench<V>, H
     requires { Good V.sense bench.stack bench.view }
     ensures { IfOk result (λ b. Good V.sense b.stack b.view) }
 {
-    if word[0] == b'@' {
+    if word.starts_with(b"@") {
         return match builtin_number(skip(word, 1)) {
             Some(b) => stacking::push_leaf(bench, Leaf::Builtin(b)),
             None => Err(Halt::Bad),
@@ -153,6 +154,13 @@ fn named<V: View<u8> + Drop>(bench: Bench<V>, word: &[u8]) -> Result<Bench<V>, H
         return match count(&word[3..]) {
             Some(n) => stacking::pick(bench, n),
             None => Err(Halt::Bad),
+        };
+    }
+    if word.len() > 1 && word[0] == b'.' {
+        let last = word.len() - 1;
+        return match number(&word[last..]) {
+            Some(n) if n >= 0 => operators::method(bench, &word[1..last], n as usize),
+            _ => Err(Halt::Bad),
         };
     }
     operation(bench, word)

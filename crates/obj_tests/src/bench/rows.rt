@@ -1,4 +1,14 @@
 //! Rows of lists, tuples, dictionaries, iterators and nested values.
+mod comparing;
+mod equality;
+mod formats;
+mod methods;
+mod numbers;
+mod order;
+mod sequences;
+mod texts;
+mod unlike;
+
 use super::{Tested, table};
 
 const ITEMS: &[u8] = b"1 2 3 [3 0 item => 1

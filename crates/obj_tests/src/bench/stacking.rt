@@ -198,7 +198,8 @@ pub fn times<V: View<u8> + Drop>(bench: Bench<V>, n: usize) -> Result<Bench<V>, 
     if count < 1 || n > LENGTH_LIMIT {
         return Err(Halt::Bad);
     }
-    let values = copies(alloc, stack.at(count - 1), n)?;
+    let item = stack.at(count - 1);
+    let values = copies(alloc, item, n)?;
     let x = makers::sequence(alloc, &mut view, &stack, Kind::List, values)?;
     stack.truncate(count - 1);
     push(alloc, view, stack, x)
