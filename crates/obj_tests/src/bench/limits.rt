@@ -12,6 +12,8 @@ use super::{Tested, calls, finished, fresh, plain, table, words};
 use obj_dict::Part;
 use py_data::exception::MEMORY_ERROR;
 use py_data::{Fault, Got, Value, Values, View, With};
+use std::alloc::{AllocError, Global};
+use std::process::Abort;
 
 const PAIRS: &[u8] = b"d0 => {}
 d3 => {0: 0, 1: 0, 2: 0}
@@ -22,10 +24,10 @@ d524288 dup 524287 1 set 524287 get => 1
 ";
 
 /// What a change of an object answered, and how many values or pairs the object has then.
-type Changed = Result<(Got<()>, Option<usize>), Halt>;
+type Counted = (Got<()>, Option<usize>);
 
 /// Sets the second value of the stack, a key, to the third one in the dictionary that is the first.
-fn set_in_first<V: View<u8> + Drop>(bench: Bench<V>) -> Changed
+fn set_in_first<V: View<u8> + Drop>(bench: Bench<V>) -> Result<Counted, Halt>
     requires { Good V.sense bench.stack bench.view }
 {
     let Bench {
@@ -47,7 +49,7 @@ fn set_in_first<V: View<u8> + Drop>(bench: Bench<V>) -> Changed
 }
 
 /// Puts the second value of the stack at the end of the list that is the first.
-fn insert_in_first<V: View<u8> + Drop>(bench: Bench<V>) -> Changed
+fn insert_in_first<V: View<u8> + Drop>(bench: Bench<V>) -> Result<Counted, Halt>
     requires { Good V.sense bench.stack bench.view }
 {
     let Bench {
@@ -69,7 +71,7 @@ fn insert_in_first<V: View<u8> + Drop>(bench: Bench<V>) -> Changed
 }
 
 /// `set` of a key in a dictionary of the keys from 0 up to `n`.
-fn set_in_pairs<V: View<u8> + Drop>(bench: Bench<V>, n: usize, key: i64) -> Changed
+fn set_in_pairs<V: View<u8> + Drop>(bench: Bench<V>, n: usize, key: i64) -> Result<Counted, Halt>
     requires { Good V.sense bench.stack bench.view }
 {
     let bench = numbered(bench, n)?;
@@ -79,7 +81,7 @@ fn set_in_pairs<V: View<u8> + Drop>(bench: Bench<V>, n: usize, key: i64) -> Chan
 }
 
 /// `insert` at the end of a list of `n` zeros.
-fn insert_in_zeros<V: View<u8> + Drop>(bench: Bench<V>, n: usize) -> Changed
+fn insert_in_zeros<V: View<u8> + Drop>(bench: Bench<V>, n: usize) -> Result<Counted, Halt>
     requires { Good V.sense bench.stack bench.view }
 {
     let bench = push_leaf(bench, Leaf::Int(0))?;
@@ -220,6 +222,18 @@ fn are_multiples(values: &[Value], of: i64) -> bool {
     true
 }
 
+/// What `set` answers for a dictionary of the keys from 0 up to `n`, and how many pairs it has then.
+fn set_answer(rt: &impl Abort, alloc: Global, n: usize, key: i64) -> Result<Counted, AllocError> {
+    let bench = fresh(alloc, plain(alloc));
+    finished(rt, set_in_pairs(bench, n, key))
+}
+
+/// What `insert` at the end answers for a list of `n` zeros, and how many values it has then.
+fn insert_answer(rt: &impl Abort, alloc: Global, n: usize) -> Result<Counted, AllocError> {
+    let bench = fresh(alloc, plain(alloc));
+    finished(rt, insert_in_zeros(bench, n))
+}
+
 #[test]
 fn pairs(rt: HostRuntime) -> Tested {
     table(&rt, rt.alloc(), PAIRS)?;
@@ -228,9 +242,7 @@ fn pairs(rt: HostRuntime) -> Tested {
 
 #[test]
 fn sets_up_to_the_limit(rt: HostRuntime) -> Tested {
-    let alloc = rt.alloc();
-    let bench = fresh(alloc, plain(alloc));
-    let (got, count) = finished(&rt, set_in_pairs(bench, 524_287, -1))?;
+    let (got, count) = set_answer(&rt, rt.alloc(), 524_287, -1)?;
     assert!(rt; matches!(got, Got::Is(())));
     assert_eq!(rt; count, Some(524_288));
     Ok(())
@@ -238,9 +250,7 @@ fn sets_up_to_the_limit(rt: HostRuntime) -> Tested {
 
 #[test]
 fn sets_past_the_limit(rt: HostRuntime) -> Tested {
-    let alloc = rt.alloc();
-    let bench = fresh(alloc, plain(alloc));
-    let (got, count) = finished(&rt, set_in_pairs(bench, 524_288, -1))?;
+    let (got, count) = set_answer(&rt, rt.alloc(), 524_288, -1)?;
     assert!(rt; is_memory_error(&got));
     assert_eq!(rt; count, Some(524_288));
     Ok(())
@@ -248,9 +258,7 @@ fn sets_past_the_limit(rt: HostRuntime) -> Tested {
 
 #[test]
 fn sets_an_old_key_at_the_limit(rt: HostRuntime) -> Tested {
-    let alloc = rt.alloc();
-    let bench = fresh(alloc, plain(alloc));
-    let (got, count) = finished(&rt, set_in_pairs(bench, 524_288, 524_287))?;
+    let (got, count) = set_answer(&rt, rt.alloc(), 524_288, 524_287)?;
     assert!(rt; matches!(got, Got::Is(())));
     assert_eq!(rt; count, Some(524_288));
     Ok(())
@@ -258,9 +266,7 @@ fn sets_an_old_key_at_the_limit(rt: HostRuntime) -> Tested {
 
 #[test]
 fn inserts_up_to_the_limit(rt: HostRuntime) -> Tested {
-    let alloc = rt.alloc();
-    let bench = fresh(alloc, plain(alloc));
-    let (got, count) = finished(&rt, insert_in_zeros(bench, 1_048_575))?;
+    let (got, count) = insert_answer(&rt, rt.alloc(), 1_048_575)?;
     assert!(rt; matches!(got, Got::Is(())));
     assert_eq!(rt; count, Some(1_048_576));
     Ok(())
@@ -268,9 +274,7 @@ fn inserts_up_to_the_limit(rt: HostRuntime) -> Tested {
 
 #[test]
 fn inserts_past_the_limit(rt: HostRuntime) -> Tested {
-    let alloc = rt.alloc();
-    let bench = fresh(alloc, plain(alloc));
-    let (got, count) = finished(&rt, insert_in_zeros(bench, 1_048_576))?;
+    let (got, count) = insert_answer(&rt, rt.alloc(), 1_048_576)?;
     assert!(rt; is_memory_error(&got));
     assert_eq!(rt; count, Some(1_048_576));
     Ok(())
