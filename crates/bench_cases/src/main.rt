@@ -4,6 +4,7 @@
 
 mod heap;
 mod measure;
+mod objects;
 
 use crate::measure::measured;
 use anyhow::{Context, Result, bail};

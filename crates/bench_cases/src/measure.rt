@@ -1,7 +1,9 @@
 //! The measures, by their names.
 ghost use Rattle.std.specs.Prelude.{◌≡◌, ◌*◌, ◌≤◌, None};
+ghost use Rattle.lock_run.specs.Space.{space_heap};
 
 use crate::heap::{appends, changes};
+use crate::objects::{joins, list_sums, searches, text_sums, texts};
 use lock_run::PlainView;
 use py_data::{LENGTH_LIMIT, Stop};
 use std::alloc::Global;
@@ -9,7 +11,8 @@ use stm_io::{SureSink, SureSource};
 
 /// An empty heap, with devices that never fail. No thread is started over it.
 fn plain(alloc: Global) -> PlainView<(), SureSource, SureSink, SureSink>
-    ensures { result.stopped ≡ None }
+    ensures live { result.stopped ≡ None }
+    ensures heap { space_heap result.space ≡ (λ a. None) }
 {
     PlainView::new(
         alloc,
@@ -27,6 +30,11 @@ pub fn measured(alloc: Global, name: &str, count: u32) -> Option<Result<i64, Sto
     match name {
         "appends" => Some(appends(alloc, &mut view, count)),
         "changes" => Some(changes(alloc, &mut view, count)),
+        "list_sums" => Some(list_sums(alloc, &mut view, count)),
+        "text_sums" => Some(text_sums(alloc, &mut view, count)),
+        "joins" => Some(joins(alloc, &mut view, count)),
+        "texts" => Some(texts(alloc, &mut view, count)),
+        "searches" => Some(searches(alloc, &mut view, count)),
         _ => None,
     }
 }

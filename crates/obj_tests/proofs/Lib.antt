@@ -1,1 +1,3 @@
 pub mod BenchSteps
+pub mod BenchPairs
+pub mod BenchUndo

@@ -1,6 +1,7 @@
 -- What the bench of rows knows of its view and its stack. States `docs/HEAP.md`, "Order of a heap".
-use Rattle.std.specs.Prelude.{◌≡◌, ℕ, false, List}
+use Rattle.std.specs.Prelude.{◌≡◌, ℕ, zero, suc, pos, false, List, [], ◌∷◌}
 use Rattle.py_data.specs.declared.value.Value.{Value}
+use Rattle.py_data.specs.declared.value.Value.TheVariants.{Int}
 use Rattle.py_data.specs.Every.{Every}
 use Rattle.py_data.specs.Heap.{Heap}
 use Rattle.py_data.specs.Closed.{IsItem}
@@ -26,3 +27,8 @@ module _ {S X : Type 0} (u : Sense S X) where
   pub record GoodWith {A : Type 0} (p : A → Heap → Type 0) (stack : List Value) (x : A) (v : X) : Type 0 where
     pub good : Good stack v
     pub answer : p x (u.heap v)
+
+-- pairs of so many numbers from i on, each with 0
+abbrev pub pairs_from : ℕ → ℕ → List Value
+pairs_from i zero = []
+pairs_from i (suc n) = Int (pos i) ∷ Int (pos 0) ∷ pairs_from (suc i) n

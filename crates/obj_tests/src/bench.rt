@@ -7,19 +7,23 @@ ghost use Rattle.lock_run.specs.Space.{space_heap};
 ghost use Rattle.obj_tests.specs.Bench.{Good};
 
 mod calls;
+mod growth;
 mod kinds;
+mod limits;
 mod looking;
 mod makers;
 mod nested;
 mod operators;
+mod pairs;
 mod reading;
 mod rows;
 mod stacking;
 mod state;
+mod walks;
 mod words;
 
 use self::reading::outcome;
-use self::state::Bench;
+use self::state::{Bench, Halt};
 use lock_run::PlainView;
 use py_data::{Bytes, Stop, Values, View};
 use std::alloc::{AllocError, Global};
@@ -53,6 +57,15 @@ fn fresh<V: View<u8> + Drop>(alloc: Global, view: V) -> Bench<V>
         alloc,
         view,
         stack: Values::new(alloc),
+    }
+}
+
+/// What was done on a bench, which is to meet no Stop but want of memory.
+fn finished<T: Drop>(rt: &impl Abort, done: Result<T, Halt>) -> Result<T, AllocError> {
+    match done {
+        Ok(x) => Ok(x),
+        Err(Halt::Stopped(Stop::OutOfMemory)) => Err(AllocError),
+        Err(halt) => panic!(rt; "{halt:?}"),
     }
 }
 

@@ -14,7 +14,7 @@ use py_data::{Bytes, Kind, NoMemory, Record, Stop, Value, Values, View};
 use std::alloc::Global;
 
 /// Makes a record that fits.
-fn made<S, V: View<S>>(v: &mut V, stack: &Values, r: &Record) -> Result<Value, Stop>
+pub fn made<S, V: View<S>>(v: &mut V, stack: &Values, r: &Record) -> Result<Value, Stop>
     requires good { Good V.sense stack.now v.old }
     requires fits { (a : ℕ) → FitsAt free (V.sense.heap v.old) a (rec_of r.now) }
     ensures { IfOk result (λ x. GoodWith V.sense (λ x h. IsItem h x) stack.now x v.new) }

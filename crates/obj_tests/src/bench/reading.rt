@@ -4,7 +4,7 @@ ghost use Rattle.obj_tests.specs.Bench.{Good};
 
 use super::stacking::{self, Leaf};
 use super::state::{Bench, Halt};
-use super::{looking, operators, words};
+use super::{looking, operators, pairs, words};
 use obj_dict::Part;
 use py_base::{builtin_number, skip};
 use py_data::{Bytes, Kind, Stop, View};
@@ -59,7 +59,7 @@ fn leaf_of(word: &[u8]) -> Option<Leaf> {
     }
 }
 
-/// A word of one byte and a count: `[n`, `(n`, `{n`, `rN`, `tN`, `xN` and `sN`.
+/// A word of one byte and a count: `[n`, `(n`, `{n`, `rN`, `tN`, `xN`, `dN` and `sN`.
 fn counted<V: View<u8> + Drop>(bench: Bench<V>, first: u8, n: usize) -> Result<Bench<V>, Halt>
     requires { Good V.sense bench.stack bench.view }
     ensures { IfOk result (λ b. Good V.sense b.stack b.view) }
@@ -71,6 +71,7 @@ fn counted<V: View<u8> + Drop>(bench: Bench<V>, first: u8, n: usize) -> Result<B
         b'r' => stacking::nest(bench, Kind::List, n),
         b't' => stacking::nest(bench, Kind::Tuple, n),
         b'x' => stacking::times(bench, n),
+        b'd' => pairs::numbered(bench, n),
         b's' => looking::long_text(bench, n),
         _ => Err(Halt::Bad),
     }

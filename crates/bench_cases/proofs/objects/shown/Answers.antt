@@ -1,0 +1,11 @@
+use Rattle.obj_nest.proofs.NestLooks.{text_looks}
+use Rattle.obj_nest.specs.Text.{text_row}
+use Rattle.std.proofs.Common.{true}
+use Rattle.bench_cases.specs.Ordered.{free}
+use Rattle.bench_cases.proofs.Ordered.{look_safe, good_item}
+use Rattle.bench_cases.proofs.objects.shown.Goals as goal
+
+pub text-requires-clause-safe : goal.text-requires-clause-safe
+text-requires-clause-safe g c =
+    let i = good_item _ _ c.requires.some c.at.ensures c.requires.good in
+    look_safe _ (text_row 0 c.at.result true) c.requires.good (text_looks _ free (g.V.View.sense.heap c.args.v.now) 0 c.at.result true c.requires.good.order i)
