@@ -90,8 +90,8 @@ fn mark_at(line: &[u8], mark: &[u8]) -> usize
     line.len()
 }
 
-/// Does the program of a row, and fails with the row where it doesn't come to what is expected. A line without words, and
-/// one that begins with `#`, is no row.
+/// Does the program of a row, and fails with the row where it doesn't come to what is expected. A line without words is
+/// no row, nor is one that begins with `#`.
 fn row(rt: &impl Abort, alloc: Global, line: &[u8]) -> Result<(), AllocError> {
     if line.is_empty() || line.starts_with(b"#") {
         return Ok(());
