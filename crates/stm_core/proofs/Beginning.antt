@@ -309,5 +309,5 @@ begun_good p start most k t budget (Err OutOfMemory) c c1 g h =
     good_next p start most c c1 (Keeps NoMemoryLeft) g (t, a.ready.state, a.ready.is, a.ready.lives, a.ready.rests, tt, h.1 ∙ ap (λ o. record c { cause = o }) (sym (ap (λ o. first_cause o NoMemoryLeft) a.goes_on)))
 
 pub begun_sane : {S : Type 0} (p : Prog S) (sound : Heap → List S → Type 0) (most k t budget : ℕ) (m m1 : Meaning) (b b1 : Books S) (r : Result (Unit {0}) BeginError)
-    → ((w : World) → Begun p k t budget r (core_of w m b) (core_of w m1 b1)) → SaneCore p sound most m b → SaneCore p sound most m1 b1
-begun_sane p sound most k t budget m m1 b b1 r h s = record { first = s.first; good = λ w d. begun_good p _ most k t budget r (core_of w m b) (core_of w m1 b1) (s.good w d) (h w) }
+    → ((w : World) → w.mid ≡ false → Begun p k t budget r (core_of w m b) (core_of w m1 b1)) → SaneCore p sound most m b → SaneCore p sound most m1 b1
+begun_sane p sound most k t budget m m1 b b1 r h s = record { first = s.first; good = λ w d. begun_good p _ most k t budget r (core_of w m b) (core_of w m1 b1) (s.good w d) (h w d) }

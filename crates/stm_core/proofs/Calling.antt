@@ -1,4 +1,4 @@
--- What the condition of a call on the core's state says of the books, and how the job and a good core come back out of the engine.
+-- What the condition of a call on the core's state says of the books, and how the job and a good core come out of each way of return.
 use Rattle.std.proofs.Common.{◌≡◌, ◌<◌, ◌≤◌, ◌+◌, ℕ, Bool, true, false, ◌&&◌, nat_lt, nat_le, cond, eqb, List, [], ◌∷◌, Option, Some, None, Result, Ok, Err, slice_get, refl, sym, ◌∙◌, ap, subst, arith}
 use Rattle.std.proofs.lemmas.Bool.Decides.{nat_tests}
 use Rattle.py_data.specs.World.{World}
@@ -11,7 +11,6 @@ use Rattle.stm_core.specs.declared.books.Hand.{Hand}
 use Rattle.stm_core.specs.declared.books.Hand.TheVariants as hand
 use Rattle.stm_core.specs.declared.books.Books.{Books}
 use Rattle.stm_core.specs.declared.events.Event.TheVariants as event
-use Rattle.stm_core.specs.declared.engine.Engine.{Engine}
 use Rattle.stm_core.specs.declared.transactions.Core.{Core}
 use Rattle.stm_core.specs.Books.{segment_of, core_of}
 use Rattle.stm_core.specs.Standing.{slot_of}
@@ -101,35 +100,39 @@ module _ {S : Type 0} (m : Meaning) (b : Books S) (l : Limits) (k : ℕ) where
         short = within m b k most l.length (right (nat_lt 0 most) _ h2);
       }
 
--- ---- after a call of the engine, which keeps its client and the store's shape
+-- ---- after a call, which keeps the client and the store's shape
 module _ {C S I O E T : Type 0} (prog : C → Prog T) (sound : C → Heap → List T → Type 0) (reserved : S → ℕ) (meaning : S → Meaning) where
-  -- what a call of the engine leaves
-  pub record Kept (x : Core C S I O E T) (e : Engine C S T) : Type 0 where
-    pub client : e.client.now ≡ x.engine.client.now
-    pub shape : SameShape (meaning x.engine.store) (meaning e.store)
-    pub store : IsStore (reserved e.store) (meaning e.store)
-    pub whole : Whole (meaning e.store) e.books
-    pub count : CountsSteps e.spent e.books.history.entries
-    pub kept : IsFullKept (reserved e.store) (meaning e.store).limit e.books.cause
-    pub sane : SaneCore (prog x.engine.client.now) (sound x.engine.client.now) x.length (meaning e.store) e.books
+  -- what a way of return leaves
+  pub record Kept (x y : Core C S I O E T) : Type 0 where
+    pub rest : y ≡ record x { store = y.store; books = y.books; spent = y.spent }
+    pub shape : SameShape (meaning x.store) (meaning y.store)
+    pub store : IsStore (reserved y.store) (meaning y.store)
+    pub whole : Whole (meaning y.store) y.books
+    pub count : CountsSteps y.spent y.books.history.entries
+    pub kept : IsFullKept (reserved y.store) (meaning y.store).limit y.books.cause
+    pub sane : SaneCore (prog x.client.now) (sound x.client.now) x.length (meaning y.store) y.books
 
-  pub good_again : (x : Core C S I O E T) (e : Engine C S T) → Kept x e → IsGoodCore prog sound reserved meaning (record x { engine = e })
-  good_again x e k = record {
+  pub good_again : (x y : Core C S I O E T) → Kept x y → IsGoodCore prog sound reserved meaning y
+  good_again x y k = record {
     store = k.store;
     whole = k.whole;
     count = k.count;
     kept = k.kept;
-    sane = subst (λ c. SaneCore (prog c) (sound c) x.length (meaning e.store) e.books) (sym k.client) k.sane;
+    sane = subst (λ (z : Core C S I O E T). SaneCore (prog z.client.now) (sound z.client.now) z.length (meaning y.store) y.books) (sym k.rest) k.sane;
   }
 
-  pub same_again : (x : Core C S I O E T) (e : Engine C S T) → Kept x e → SameJob meaning x (record x { engine = e })
-  same_again x e k = record {
-    client = k.client;
-    limits = λ i. record { length = x.length; budget = x.budget; segments = k.shape.0 i; words = k.shape.1 i };
-    input = refl;
-    out = refl;
-    err = refl;
+  pub same_again : (x y : Core C S I O E T) → Kept x y → SameJob meaning x y
+  same_again x y k = record {
+    client = λ i. (k.rest i).client.now;
+    limits = λ i. record { length = (k.rest i).length; budget = (k.rest i).budget; segments = k.shape.0 i; words = k.shape.1 i };
+    input = λ i. (k.rest i).input;
+    out = λ i. (k.rest i).out;
+    err = λ i. (k.rest i).err;
   }
+
+-- where the count of the steps stays too
+pub with_spent : {C S I O E T : Type 0} (x y : Core C S I O E T) → y ≡ record x { store = y.store; books = y.books } → y ≡ record x { store = y.store; books = y.books; spent = y.spent }
+with_spent x y e = e ∙ (λ i. record x { store = y.store; books = y.books; spent = (sym e i).spent })
 
 -- an advance leaves the count of the history's steps
 pub counted_on : {S : Type 0} (p : Prog S) (sound : Heap → List S → Type 0) (length k most reserved limit : ℕ) (m m1 : Meaning) (b b1 : Books S) (spent spent1 : ℕ) (r : Result Advance AdvanceError) → SaneCore p sound length m b
@@ -160,7 +163,7 @@ pub le_same : (a b : ℕ) → b ≡ a → a ≤ b
 le_same a b e = omega (arith, e)
 
 -- where the cause is as before
-full_same : (r r1 l l1 : ℕ) (o o1 : Option Cause) → r ≤ r1 → l1 ≡ l → o1 ≡ o → IsFullKept r l o → IsFullKept r1 l1 o1
+pub full_same : (r r1 l l1 : ℕ) (o o1 : Option Cause) → r ≤ r1 → l1 ≡ l → o1 ≡ o → IsFullKept r l o → IsFullKept r1 l1 o1
 full_same r r1 l l1 o o1 le e same k = subst (IsFullKept r1 l1) (sym same) (full_later r r1 l l1 o le e k)
 
 module _ {S : Type 0} (p : Prog S) (r r1 l l1 : ℕ) (le : r ≤ r1) (same : l1 ≡ l) (c c1 : CoreState S) (old : IsFullKept r l c.cause) where

@@ -1,4 +1,4 @@
--- How an engine begins, and what it leaves at its end.
+-- How a core begins, and what it leaves at its end.
 use Rattle.std.proofs.Common.{◌≡◌, ◌⊎◌, ◌<◌, ◌+◌, ℕ, zero, suc, true, false, eqb, ltb, List, [], ◌∷◌, ◌++◌, length, slice_get, Option, Some, None, refl, sym, ◌∙◌, ap, subst, inl, inr, arith}
 use Rattle.std.specs.List.{sum_by}
 use Rattle.std.proofs.lemmas.Bool.{cases_Bool, both_ways, or_parts, eqb-false, cond-true, cond-false, ltb-true, ltb-false}
@@ -14,7 +14,7 @@ use Rattle.stm_core.specs.declared.books.Books.{Books}
 use Rattle.stm_core.specs.CoreState.{Transaction, Idle, Running, CoreState, committed, core_new, with_segment}
 use Rattle.stm_core.specs.Good.{Good}
 use Rattle.stm_core.specs.Moves.{Drops}
-use Rattle.stm_core.specs.Books.{is_running, runs_at, one_running, one_started, segment_of, core_of}
+use Rattle.stm_core.specs.Books.{AllIdle, IsFirst, is_running, runs_at, one_running, one_started, segment_of, core_of}
 use Rattle.stm_core.specs.Whole.{Whole}
 use Rattle.stm_core.specs.SaneCore.{SaneCore}
 use Rattle.stm_core.specs.Finishing.{idle_core, IsUnused}
@@ -31,9 +31,6 @@ get_push [] y (suc j) x e = absurd cc
 get_push (z ∷ xs) y zero x e = inl e
 get_push (z ∷ xs) y (suc j) x e = get_push xs y j x e
 
-abbrev pub AllIdle : {S : Type 0} → List (Hand S) → Type 0
-AllIdle {S} hs = (j : ℕ) (h : Hand S) → slice_get hs j ≡ Some h → h ≡ IdleHand
-
 pub push_idle : {S : Type 0} (hs : List (Hand S)) → AllIdle hs → AllIdle (hs ++ IdleHand ∷ [])
 push_idle hs all j h e = elim (get_push hs IdleHand j h e) [
   | inl x ↦ all j h x
@@ -48,23 +45,9 @@ sum_idle f z (h ∷ hs) all =
     let n : f h ≡ 0 = ap f (all 0 h refl) ∙ z in
     omega (arith, s, r, n)
 
--- ---- a new engine
+-- ---- a new core
 
-pub record IsNew {S : Type 0} (p : Prog S) (m : Meaning) (b : Books S) : Type 0 where
-  pub image : (a : ℕ) → m.image a ≡ None
-  pub changed : (j : ℕ) → (m.part j).changed ≡ []
-  pub made : (j : ℕ) → (m.part j).made ≡ []
-  pub hands : length b.hands.items ≡ m.segments
-  pub idle : AllIdle b.hands.items
-  pub threads : b.threads.entries ≡ p.first ∷ []
-  pub pending : b.pending ≡ 0
-  pub history : b.history.entries ≡ []
-  pub conflicts : b.conflicts.entries ≡ []
-  pub begun : b.begun ≡ 0
-  pub last : b.last ≡ None
-  pub cause : b.cause ≡ None
-
-module _ {S : Type 0} (p : Prog S) (m : Meaning) (b : Books S) (n : IsNew p m b) where
+module _ {S : Type 0} (p : Prog S) (m : Meaning) (b : Books S) (e : (a : ℕ) → m.image a ≡ None) (changed : (j : ℕ) → (m.part j).changed ≡ []) (made : (j : ℕ) → (m.part j).made ≡ []) (n : IsFirst p m.segments b) where
   pub new_whole : Whole m b
   new_whole =
       let r = sum_idle one_running refl b.hands.items n.idle in
@@ -72,9 +55,9 @@ module _ {S : Type 0} (p : Prog S) (m : Meaning) (b : Books S) (n : IsNew p m b)
       let q = n.pending in
       record {
         hands = n.hands;
-        holders = λ j a h. absurd (both_ways false refl (sym (ap (λ (z : List ℕ). holds (record (m.part j) { changed = z }) a) (n.changed j) ∙ ap (λ (z : List ℕ). mem a z) (n.made j)) ∙ h));
+        holders = λ j a h. absurd (both_ways false refl (sym (ap (λ (z : List ℕ). holds (record (m.part j) { changed = z }) a) (changed j) ∙ ap (λ (z : List ℕ). mem a z) (made j)) ∙ h));
         works = λ j x e. absurd (let u : Runs x ≡ IdleHand = n.idle j (Runs x) e in cc);
-        locked = λ j a h. absurd (both_ways false refl (sym (ap (mem a) (n.changed j)) ∙ h));
+        locked = λ j a h. absurd (both_ways false refl (sym (ap (mem a) (changed j)) ∙ h));
         turns = omega (arith, r);
         losses = omega (arith, r);
         pending = omega (arith, s, q);
@@ -83,7 +66,7 @@ module _ {S : Type 0} (p : Prog S) (m : Meaning) (b : Books S) (n : IsNew p m b)
 
   pub core_is_new : (w : World) → core_of w m b ≡ core_new p w
   core_is_new w i = record {
-    image = λ a. n.image a i;
+    image = λ a. e a i;
     threads = n.threads i;
     world = w;
     history = n.history i;

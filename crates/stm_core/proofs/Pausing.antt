@@ -18,8 +18,8 @@ use Rattle.lock_run.specs.Prog.{Prog}
 use Rattle.seg_store.specs.Meaning.{Meaning, sees, over}
 use Rattle.stm_core.specs.declared.books.Work.{Work}
 use Rattle.stm_core.specs.declared.books.Books.{Books}
-use Rattle.stm_core.specs.declared.engine.Pause.{Pause}
-use Rattle.stm_core.specs.declared.engine.Pause.TheVariants.{Whole, Waits, Ended, Stopped}
+use Rattle.stm_core.specs.declared.steps.Pause.{Pause}
+use Rattle.stm_core.specs.declared.steps.Pause.TheVariants.{Whole, Waits, Ended, Stopped}
 use Rattle.stm_core.specs.CoreState.{Transaction, Running, CoreState, sight_of}
 use Rattle.stm_core.specs.Conflict.{loser, winner, wins, side, IsMet, IsStanding, AsksFrom}
 use Rattle.stm_core.specs.Moves.{Stays}

@@ -240,8 +240,8 @@ running_within {S} w m b j y len e = go (slice_get b.hands.items j) refl
     go (Some h) q = subst (λ n. j < n) len (slice_get_within b.hands.items j h q)
 
 pub committed_sane : {S : Type 0} (p : Prog S) (sound : Heap → List S → Type 0) (most k : ℕ) (m m1 : Meaning) (b b1 : Books S) (r : Result Commit Conflict) → length b.hands.items ≡ m.segments
-    → ((w : World) → Committed p k m.segments r (core_of w m b) (core_of w m1 b1)) → SaneCore p sound most m b → SaneCore p sound most m1 b1
+    → ((w : World) → w.mid ≡ false → Committed p k m.segments r (core_of w m b) (core_of w m1 b1)) → SaneCore p sound most m b → SaneCore p sound most m1 b1
 committed_sane p sound most k m m1 b b1 r len h s = record {
   first = s.first;
-  good = λ w d. committed_good p _ most k m.segments (core_of w m b) (core_of w m1 b1) (s.good w d) (λ j y e. running_within w m b j y len e) r (h w);
+  good = λ w d. committed_good p _ most k m.segments (core_of w m b) (core_of w m1 b1) (s.good w d) (λ j y e. running_within w m b j y len e) r (h w d);
 }

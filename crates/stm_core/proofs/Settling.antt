@@ -15,8 +15,8 @@ use Rattle.seg_store.specs.Meaning.{Meaning}
 use Rattle.stm_core.specs.declared.books.Work.{Work}
 use Rattle.stm_core.specs.declared.books.Hand.TheVariants.{Idle as IdleHand, Doomed as DoomedHand, Runs}
 use Rattle.stm_core.specs.declared.books.Books.{Books}
-use Rattle.stm_core.specs.declared.engine.Pause.{Pause}
-use Rattle.stm_core.specs.declared.engine.Pause.TheVariants.{Whole, Waits, Ended, Stopped}
+use Rattle.stm_core.specs.declared.steps.Pause.{Pause}
+use Rattle.stm_core.specs.declared.steps.Pause.TheVariants.{Whole, Waits, Ended, Stopped}
 use Rattle.stm_core.specs.declared.answers.Advance.{Advance}
 use Rattle.stm_core.specs.declared.answers.AdvanceError.{AdvanceError}
 use Rattle.stm_core.specs.declared.answers.Advance.TheVariants.{Ran, Waits as WaitsAnswer, Ended as EndedAnswer, NeedSolo}

@@ -1,6 +1,6 @@
 -- The books of a core as values, and the core's state that they and a store stand for. States `docs/HEAP.md`, "The
 -- transactional core".
-use Rattle.std.specs.Prelude.{◌≡◌, ◌≢◌, ℕ, ◌+◌, ◌<◌, ◌≤◌, Bool, true, false, ◌&&◌, List, [], length, take, Option, Some, None, slice_get}
+use Rattle.std.specs.Prelude.{◌≡◌, ◌≢◌, ℕ, ◌+◌, ◌<◌, ◌≤◌, Bool, true, false, ◌&&◌, List, [], ◌∷◌, length, take, Option, Some, None, slice_get}
 use Rattle.std.specs.List.{sum_by}
 use Rattle.py_data.specs.declared.value.Addr.{Addr}
 use Rattle.py_data.specs.declared.stop.Side.{Side}
@@ -8,6 +8,7 @@ use Rattle.py_data.specs.Heap.{Rec, is_tracked}
 use Rattle.py_data.specs.World.{World}
 use Rattle.py_data.specs.Collection.{places}
 use Rattle.py_data.specs.Sight.{mem}
+use Rattle.lock_run.specs.Prog.{Prog}
 use Rattle.seg_store.specs.Meaning.{Part, Meaning, holds}
 use Rattle.stm_core.specs.declared.books.Progress.{Progress}
 use Rattle.stm_core.specs.declared.books.Work.{Work}
@@ -120,3 +121,21 @@ pub record Fit {S : Type 0} (k : ℕ) (m : Meaning) (b : Books S) (p : Progress 
   pub losses : sum_by one_running b.hands.items < b.conflicts.room
   pub pending : sum_by one_started b.hands.items + length p.started ≡ b.pending
   pub threads : b.pending ≤ b.threads.room
+
+-- ---- as they are made
+
+-- all hands are idle
+abbrev pub AllIdle : {S : Type 0} → List (Hand S) → Type 0
+AllIdle {S} hs = (j : ℕ) (h : Hand S) → slice_get hs j ≡ Some h → h ≡ hand.Idle
+
+-- the books of a core as it is made, for so many segments
+pub record IsFirst {S : Type 0} (p : Prog S) (count : ℕ) (b : Books S) : Type 0 where
+  pub hands : length b.hands.items ≡ count
+  pub idle : AllIdle b.hands.items
+  pub threads : b.threads.entries ≡ p.first ∷ []
+  pub pending : b.pending ≡ 0
+  pub history : b.history.entries ≡ []
+  pub conflicts : b.conflicts.entries ≡ []
+  pub begun : b.begun ≡ 0
+  pub last : b.last ≡ None
+  pub cause : b.cause ≡ None

@@ -18,17 +18,17 @@ use Rattle.stm_core.specs.Events.{Limits}
 
 -- the core's state, in this world
 abbrev pub core_at : {C S I O E T : Type 0} → (S → Meaning) → World → Core C S I O E T → CoreState T
-core_at meaning w x = core_of w (meaning x.engine.store) x.engine.books
+core_at meaning w x = core_of w (meaning x.store) x.books
 
 abbrev pub core_store : {C S I O E T : Type 0} → Core C S I O E T → S
-core_store x = x.engine.store
+core_store x = x.store
 
 -- the client whose threads it runs
 abbrev pub core_client : {C S I O E T : Type 0} → Core C S I O E T → C
-core_client x = x.engine.client.now
+core_client x = x.client.now
 
 abbrev pub core_limits : {C S I O E T : Type 0} → (S → Meaning) → Core C S I O E T → Limits
-core_limits meaning x = record { length = x.length; budget = x.budget; segments = (meaning x.engine.store).segments; words = (meaning x.engine.store).limit }
+core_limits meaning x = record { length = x.length; budget = x.budget; segments = (meaning x.store).segments; words = (meaning x.store).limit }
 
 -- a kept Full: by the store's numbers its need wasn't there, of which what is reserved never falls
 abbrev pub IsFullKept : ℕ → ℕ → Option Cause → Type 0
@@ -37,11 +37,11 @@ IsFullKept reserved limit _ = Unit {0}
 
 -- Store and books fit together, a kept Full was one, and in each world that is not in the middle of a line the core's state is good.
 pub record IsGoodCore {C S I O E T : Type 0} (prog : C → Prog T) (sound : C → Heap → List T → Type 0) (reserved : S → ℕ) (meaning : S → Meaning) (x : Core C S I O E T) : Type 0 where
-  pub store : IsStore (reserved x.engine.store) (meaning x.engine.store)
-  pub whole : Whole (meaning x.engine.store) x.engine.books
-  pub count : CountsSteps x.engine.spent x.engine.books.history.entries
-  pub kept : IsFullKept (reserved x.engine.store) (meaning x.engine.store).limit x.engine.books.cause
-  pub sane : SaneCore (prog x.engine.client.now) (sound x.engine.client.now) x.length (meaning x.engine.store) x.engine.books
+  pub store : IsStore (reserved x.store) (meaning x.store)
+  pub whole : Whole (meaning x.store) x.books
+  pub count : CountsSteps x.spent x.books.history.entries
+  pub kept : IsFullKept (reserved x.store) (meaning x.store).limit x.books.cause
+  pub sane : SaneCore (prog x.client.now) (sound x.client.now) x.length (meaning x.store) x.books
 
 -- the job stays: the same client, limits and devices
 pub record SameJob {C S I O E T : Type 0} (meaning : S → Meaning) (x y : Core C S I O E T) : Type 0 where

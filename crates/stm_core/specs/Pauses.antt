@@ -1,7 +1,7 @@
 -- How many steps an end of steps counts. States `docs/HEAP.md`, "Events".
 use Rattle.std.specs.Prelude.{◌≡◌, ℕ, ◌<◌, ◌≤◌}
-use Rattle.stm_core.specs.declared.engine.Pause.{Pause}
-use Rattle.stm_core.specs.declared.engine.Pause.TheVariants.{Whole, Waits, Ended, Stopped}
+use Rattle.stm_core.specs.declared.steps.Pause.{Pause}
+use Rattle.stm_core.specs.declared.steps.Pause.TheVariants.{Whole, Waits, Ended, Stopped}
 
 -- the steps that were done where one was asked for
 abbrev pub done_by : Pause → ℕ

@@ -1,21 +1,24 @@
-//! The engine goes on with a transaction: at most so many steps of it, and what comes of them.
+//! How a transaction goes on: at most so many steps of it, and what comes of them.
 use crate::answers::{Advance, AdvanceError};
 use crate::books::{Hand, Work};
 use crate::cause::Cause;
-use crate::engine::{Engine, Pause};
+use crate::steps::Pause;
+use crate::transactions::Core;
 use lock_run::{Client, Life};
 use py_data::Stop;
 use seg_store::SegStore;
 
-impl<'p, C: Client, S: SegStore> Engine<'p, C, S> {
-    ghost use Rattle.std.specs.Prelude.{◌≡◌, ◌≢◌, ◌<◌, ◌≤◌, ◌+◌, ℕ, false, length, slice_get, Some};
+impl<'p, C: Client, S: SegStore, I, O, E> Core<'p, C, S, I, O, E> {
+    ghost use Rattle.std.specs.Prelude.{◌≡◌, ◌<◌, ◌≤◌, ◌+◌, ℕ, true, false, length, slice_get, Some};
     ghost use Rattle.py_data.specs.World.{World};
     ghost use Rattle.lock_run.specs.declared.client.Life.TheVariants.{Lives};
     ghost use Rattle.stm_core.specs.CoreState.{IsShort, Running};
     ghost use Rattle.stm_core.specs.Books.{Fit, transaction, core_of};
     ghost use Rattle.stm_core.specs.Whole.{Whole, SameShape};
     ghost use Rattle.stm_core.specs.Advance.{Sane, core_with};
-    ghost use Rattle.stm_core.specs.SaneCore.{SaneCore};
+    ghost use Rattle.stm_core.specs.Events.{may_make};
+    ghost use Rattle.stm_core.specs.declared.events.Event.{Event};
+    ghost use Rattle.stm_core.specs.CoreHeld.{core_at, core_client, core_limits, IsGoodCore, SameJob};
     ghost use Rattle.stm_core.specs.Pauses.{tried_by, PauseCount};
     ghost use Rattle.stm_core.specs.Pausing.{PauseWhy};
     ghost use Rattle.stm_core.specs.Advanced.{CountsDone, tried_after, Ends, StepsTaken, AdvancedFrom, Advanced};
@@ -157,26 +160,26 @@ impl<'p, C: Client, S: SegStore> Engine<'p, C, S> {
         }
     }
 
-    /// At most `most` steps of the transaction that segment k has in hand, which is told if it is doomed. A transaction does
-    /// at most `length` steps.
-    pub fn advance(&mut self, k: u8, most: u64, length: u64) -> Result<Advance, AdvanceError>
-        requires whole { Whole (S.meaning self.old.store) self.old.books }
-        requires segment { k < (S.meaning self.old.store).segments }
-        requires busy { slice_get self.old.books.hands.items k ≢ Some Hand.Idle }
-        requires some { 1 ≤ most }
-        requires short { (x : Work C.State) → slice_get self.old.books.hands.items k ≡ Some (Hand.Runs x) → IsShort length (x.steps + most) }
-        requires sane { SaneCore (C.prog self.old.client.now) (C.sound self.old.client.now) length (S.meaning self.old.store) self.old.books }
-        ensures rest { self.new ≡ record self.old { store = self.new.store; books = self.new.books } }
-        ensures shape { SameShape (S.meaning self.old.store) (S.meaning self.new.store) }
-        ensures reserved { S.reserved self.old.store ≤ S.reserved self.new.store }
-        ensures whole { Whole (S.meaning self.new.store) self.new.books }
-        ensures sane { SaneCore (C.prog self.old.client.now) (C.sound self.old.client.now) length (S.meaning self.new.store) self.new.books }
-        ensures advanced { (w : World) → w.mid ≡ false → Advanced (C.prog self.old.client.now) length k most (S.reserved self.new.store) (S.meaning self.new.store).limit (core_of w (S.meaning self.old.store) self.old.books) result (core_of w (S.meaning self.new.store) self.new.books) }
+    /// At most `most` steps of the transaction that segment `k` has in hand, which is told if it is doomed. It copies no
+    /// state; its steps take memory as they need.
+    pub fn advance(&mut self, k: u8, most: u64) -> Result<Advance, AdvanceError>
+        requires may { (w : World) → may_make (core_limits S.meaning self.old) (core_at S.meaning w self.old) (Event.Advance k most) ≡ true }
+        requires good { IsGoodCore C.prog C.sound S.reserved S.meaning self.old }
+        ensures good { IsGoodCore C.prog C.sound S.reserved S.meaning self.new }
+        ensures job { SameJob S.meaning self.old self.new }
+        ensures advanced { (w : World) → w.mid ≡ false → Advanced (C.prog (core_client self.old)) (core_limits S.meaning self.old).length k most (S.reserved self.new.store) (core_limits S.meaning self.old).words (core_at S.meaning w self.old) result (core_at S.meaning w self.new) }
     {
         match self.books.take(k) {
             Hand::Idle => unreachable!(),
-            Hand::Doomed(f) => Err(AdvanceError::Lost(f)),
-            Hand::Runs(work) => self.advance_out(k, work, most, length),
+            Hand::Doomed(f) => {
+                self.store.known();
+                Err(AdvanceError::Lost(f))
+            }
+            Hand::Runs(work) => {
+                let result = self.advance_out(k, work, most, self.length);
+                self.store.known();
+                result
+            }
         }
     }
 }

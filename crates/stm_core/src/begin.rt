@@ -3,8 +3,8 @@ ghost use Rattle.std.specs.Prelude.{◌≡◌};
 
 use crate::books::{Hand, Progress, Work};
 use crate::cause::Cause;
-use crate::engine::Engine;
 use crate::threads::Started;
+use crate::transactions::Core;
 use lock_run::Client;
 use py_data::{Items, NoMemory};
 use seg_store::SegStore;
@@ -30,16 +30,15 @@ pub enum BeginError {
     OutOfMemory,
 }
 
-impl<'p, C: Client, S: SegStore> Engine<'p, C, S> {
-    ghost use Rattle.std.specs.Prelude.{◌≡◌, ℕ, ◌<◌, ◌≤◌, ◌-◌, ◌^◌, length, slice_get, Some, IfOk};
+impl<'p, C: Client, S: SegStore, I, O, E> Core<'p, C, S, I, O, E> {
+    ghost use Rattle.std.specs.Prelude.{◌≡◌, ◌<◌, ◌≤◌, ◌-◌, ◌^◌, false, length, slice_get, Some, IfOk};
     ghost use Rattle.std.specs.List.{sum_by};
     ghost use Rattle.py_data.specs.World.{World};
-    ghost use Rattle.seg_store.specs.Store.{IsStore};
     ghost use Rattle.stm_core.specs.Moves.{begun_at};
     ghost use Rattle.stm_core.specs.Books.{one_running, core_of};
     ghost use Rattle.stm_core.specs.Whole.{Whole, SameShape};
-    ghost use Rattle.stm_core.specs.SaneCore.{SaneCore};
-    ghost use Rattle.stm_core.specs.Begun.{CountsSteps, Begun, IsFresh};
+    ghost use Rattle.stm_core.specs.CoreHeld.{core_at, core_client, core_limits, IsGoodCore, SameJob};
+    ghost use Rattle.stm_core.specs.Begun.{Begun, IsFresh};
 
     /// A transaction of the thread, as it begins, and room for its turn and a conflict.
     fn make_work(&mut self, t: u32) -> Result<Work<C::State>, NoMemory>
@@ -93,25 +92,14 @@ impl<'p, C: Client, S: SegStore> Engine<'p, C, S> {
         self.books.put(k, work);
     }
 
-    /// Begins a transaction of thread t on segment k. The budget is the most steps that the history is to have before one
-    /// begins.
-    ///
-    /// It copies the thread's state, and makes room for a turn and a conflict. At want of memory the cause OutOfMemory is
-    /// kept. At any other error all stays as it was.
-    pub fn begin(&mut self, k: u8, t: u32, budget: u64) -> Result<(), BeginError>
-        requires segment { k < (S.meaning self.old.store).segments }
-        requires whole { Whole (S.meaning self.old.store) self.old.books }
-        requires count { CountsSteps self.old.spent self.old.books.history.entries }
-        requires sane { (most : ℕ) × SaneCore (C.prog self.old.client.now) (C.sound self.old.client.now) most (S.meaning self.old.store) self.old.books }
-        ensures whole { Whole (S.meaning self.new.store) self.new.books }
-        ensures store { IsStore (S.reserved self.new.store) (S.meaning self.new.store) }
-        ensures count { CountsSteps self.new.spent self.new.books.history.entries }
-        ensures rest { self.new ≡ record self.old { store = self.new.store; books = self.new.books } }
-        ensures shape { SameShape (S.meaning self.old.store) (S.meaning self.new.store) }
-        ensures reserved { S.reserved self.new.store ≡ S.reserved self.old.store }
-        ensures begun { (w : World) → Begun (C.prog self.old.client.now) k t budget result (core_of w (S.meaning self.old.store) self.old.books) (core_of w (S.meaning self.new.store) self.new.books) }
-        ensures sane { (most : ℕ) → SaneCore (C.prog self.old.client.now) (C.sound self.old.client.now) most (S.meaning self.old.store) self.old.books
-            → SaneCore (C.prog self.old.client.now) (C.sound self.old.client.now) most (S.meaning self.new.store) self.new.books }
+    /// Begins a transaction of thread `t` on segment `k`. It copies the thread's state, and makes room for a turn and a
+    /// conflict. At want of memory the cause `OutOfMemory` is kept. At any other error all stays as it was.
+    pub fn begin(&mut self, k: u8, t: u32) -> Result<(), BeginError>
+        requires segment { k < (core_limits S.meaning self.old).segments }
+        requires good { IsGoodCore C.prog C.sound S.reserved S.meaning self.old }
+        ensures good { IsGoodCore C.prog C.sound S.reserved S.meaning self.new }
+        ensures job { SameJob S.meaning self.old self.new }
+        ensures begun { (w : World) → w.mid ≡ false → Begun (C.prog (core_client self.old)) k t (core_limits S.meaning self.old).budget result (core_at S.meaning w self.old) (core_at S.meaning w self.new) }
     {
         self.store.known();
         if let Some(cause) = self.books.cause {
@@ -123,7 +111,7 @@ impl<'p, C: Client, S: SegStore> Engine<'p, C, S> {
         if !self.is_ready(t) {
             return Err(BeginError::NotReady(t));
         }
-        if self.is_spent(budget) || self.books.begun == u64::MAX {
+        if self.is_spent() || self.books.begun == u64::MAX {
             return Err(BeginError::AtBudget);
         }
         match self.make_work(t) {

@@ -6,8 +6,8 @@ ghost use Rattle.stm_core.specs.Passes.{met};
 ghost use Rattle.stm_core.specs.Readers.{place_of};
 
 use crate::books::{Books, Hand, Progress, Work};
-use crate::engine::Engine;
 use crate::segment::wins;
+use crate::transactions::Core;
 use lock_run::{Client, Turn};
 use py_data::{Addr, Conflict, Side};
 use seg_store::SegStore;
@@ -87,11 +87,10 @@ impl<T: Drop> Books<T> {
     }
 }
 
-impl<'p, C: Client, S: SegStore> Engine<'p, C, S> {
-    ghost use Rattle.std.specs.Prelude.{◌≡◌, ◌≢◌, ℕ, ◌<◌, ◌≤◌, [], length, slice_get, Some, cond, eqb};
+impl<'p, C: Client, S: SegStore, I, O, E> Core<'p, C, S, I, O, E> {
+    ghost use Rattle.std.specs.Prelude.{◌≡◌, ◌≢◌, ℕ, ◌<◌, ◌≤◌, true, false, [], length, slice_get, Some, cond, eqb};
     ghost use Rattle.std.specs.List.{range_with_len};
     ghost use Rattle.py_data.specs.World.{World};
-    ghost use Rattle.seg_store.specs.Store.{IsStore};
     ghost use Rattle.stm_core.specs.declared.books.Work.{Work};
     ghost use Rattle.stm_core.specs.declared.books.Hand.TheVariants.{Idle, Runs};
     ghost use Rattle.stm_core.specs.CoreState.{with_segment};
@@ -100,7 +99,9 @@ impl<'p, C: Client, S: SegStore> Engine<'p, C, S> {
     ghost use Rattle.stm_core.specs.Books.{Fit, transaction, core_of};
     ghost use Rattle.stm_core.specs.Whole.{Whole, SameShape};
     ghost use Rattle.stm_core.specs.Advance.{core_with};
-    ghost use Rattle.stm_core.specs.SaneCore.{SaneCore};
+    ghost use Rattle.stm_core.specs.Events.{may_make};
+    ghost use Rattle.stm_core.specs.declared.events.Event.{Event};
+    ghost use Rattle.stm_core.specs.CoreHeld.{core_at, core_client, core_limits, IsGoodCore, SameJob};
     ghost use Rattle.stm_core.specs.Begun.{CountsSteps};
     ghost use Rattle.stm_core.specs.Readers.{place_of, read_at, work_side, Beats, FirstBeats};
     ghost use Rattle.stm_core.specs.Committed.{CommitEnds, Committed};
@@ -267,7 +268,7 @@ impl<'p, C: Client, S: SegStore> Engine<'p, C, S> {
         }
     }
 
-    /// Ends what segment k has in hand. The slot is idle then. It takes no memory.
+    /// Ends what segment `k` has in hand, which becomes a turn, or loses. The slot is idle then.
     ///
     /// A doomed slot answers the conflict that it lost. A transaction that has run no step is dropped. Otherwise there are two
     /// passes. Where a running transaction that wins has looked at a record that this one changed, the answer is that
@@ -275,20 +276,11 @@ impl<'p, C: Client, S: SegStore> Engine<'p, C, S> {
     /// become the image's, the state of the thread and the threads that it started become committed, and the turn is added
     /// to the history.
     pub fn commit(&mut self, k: u8) -> Result<Commit, Conflict>
-        requires segment { k < (S.meaning self.old.store).segments }
-        requires busy { slice_get self.old.books.hands.items k ≢ Some Hand.Idle }
-        requires whole { Whole (S.meaning self.old.store) self.old.books }
-        requires count { CountsSteps self.old.spent self.old.books.history.entries }
-        requires sane { (most : ℕ) × SaneCore (C.prog self.old.client.now) (C.sound self.old.client.now) most (S.meaning self.old.store) self.old.books }
-        ensures whole { Whole (S.meaning self.new.store) self.new.books }
-        ensures store { IsStore (S.reserved self.new.store) (S.meaning self.new.store) }
-        ensures count { CountsSteps self.new.spent self.new.books.history.entries }
-        ensures rest { self.new ≡ record self.old { store = self.new.store; books = self.new.books; spent = self.new.spent } }
-        ensures shape { SameShape (S.meaning self.old.store) (S.meaning self.new.store) }
-        ensures reserved { S.reserved self.new.store ≡ S.reserved self.old.store }
-        ensures committed { (w : World) → Committed (C.prog self.old.client.now) k (S.meaning self.old.store).segments result (core_of w (S.meaning self.old.store) self.old.books) (core_of w (S.meaning self.new.store) self.new.books) }
-        ensures sane { (most : ℕ) → SaneCore (C.prog self.old.client.now) (C.sound self.old.client.now) most (S.meaning self.old.store) self.old.books
-            → SaneCore (C.prog self.old.client.now) (C.sound self.old.client.now) most (S.meaning self.new.store) self.new.books }
+        requires may { (w : World) → may_make (core_limits S.meaning self.old) (core_at S.meaning w self.old) (Event.Commit k) ≡ true }
+        requires good { IsGoodCore C.prog C.sound S.reserved S.meaning self.old }
+        ensures good { IsGoodCore C.prog C.sound S.reserved S.meaning self.new }
+        ensures job { SameJob S.meaning self.old self.new }
+        ensures committed { (w : World) → w.mid ≡ false → Committed (C.prog (core_client self.old)) k (core_limits S.meaning self.old).segments result (core_at S.meaning w self.old) (core_at S.meaning w self.new) }
     {
         match self.books.take(k) {
             Hand::Runs(work) => {

@@ -1,32 +1,37 @@
-//! How an engine begins, and what it hands out at its end.
-ghost use Rattle.std.specs.Prelude.{◌≡◌, ℕ, ◌≤◌, length, slice_get, Some, IfOk};
-ghost use Rattle.stm_core.specs.declared.books.Hand.TheVariants.{Idle};
+//! How a core begins, and what it hands out at its end.
+ghost use Rattle.std.specs.Prelude.{◌≡◌, length, IfOk};
+ghost use Rattle.stm_core.specs.Books.{AllIdle, IsFirst};
 
 use crate::books::{Books, Hand};
-use crate::engine::Engine;
 use crate::standing::RunState;
 use crate::threads::Threads;
+use crate::transactions::{BUDGET_LIMIT, Core, LENGTH_LIMIT};
 use lock_run::{Client, History, Life};
 use py_data::{Conflicts, Log, NoMemory};
 use seg_store::SegStore;
 use std::alloc::Global;
 
-/// What an engine hands out at its end.
+/// What a core hands out at its end.
 #[derive(Drop)]
-pub struct Remains<S> {
+pub struct Finished<S, I, O, E> {
     /// How the run stands.
     pub state: RunState,
     /// Thread 0 ended by an exception.
     pub failed: bool,
+    /// The committed turns, in the order of their commits.
     pub history: History,
+    /// The conflicts that transactions lost.
     pub conflicts: Conflicts,
     pub store: S,
+    pub input: I,
+    pub out: O,
+    pub err: E,
 }
 
 /// Empty hands for so many segments.
 fn empty_hands<T: Drop>(alloc: Global, count: u8) -> Result<Vec<Hand<T>>, NoMemory>
     ensures length { IfOk result (λ v. length v.items ≡ count) }
-    ensures idle { IfOk result (λ v. (j : ℕ) (h : _) → slice_get v.items j ≡ Some h → h ≡ Hand.Idle) }
+    ensures idle { IfOk result (λ v. AllIdle v.items) }
 {
     let mut hands = Vec::new(alloc);
     'hands: for _j in 0..count {
@@ -35,8 +40,27 @@ fn empty_hands<T: Drop>(alloc: Global, count: u8) -> Result<Vec<Hand<T>>, NoMemo
     Ok(hands)
 }
 
-impl<'p, C: Client, S: SegStore> Engine<'p, C, S> {
-    ghost use Rattle.std.specs.Prelude.{◌≡◌, ℕ, ◌<◌, true, false, IfOk, IfErr};
+/// The books of a core as it is made, for so many segments.
+fn first_books<C: Client>(alloc: Global, client: &C, count: u8) -> Result<Books<C::State>, NoMemory>
+    ensures { IfOk result (λ b. IsFirst (C.prog client.now) count b) }
+{
+    let first = client.first(alloc)?;
+    let threads = Threads::new(alloc, first)?;
+    let hands = empty_hands(alloc, count)?;
+    Ok(Books {
+        threads,
+        pending: 0,
+        hands,
+        history: Log::new(alloc),
+        conflicts: Log::new(alloc),
+        begun: 0,
+        last: None,
+        cause: None,
+    })
+}
+
+impl<'p, C: Client, S: SegStore, I, O, E> Core<'p, C, S, I, O, E> {
+    ghost use Rattle.std.specs.Prelude.{◌≡◌, ℕ, ◌<◌, ◌≤◌, true, false, IfOk, IfErr};
     ghost use Rattle.py_data.specs.World.{World};
     ghost use Rattle.seg_store.specs.Store.{IsEmpty};
     ghost use Rattle.stm_core.specs.CoreState.{Idle, core_new, with_segment};
@@ -45,45 +69,47 @@ impl<'p, C: Client, S: SegStore> Engine<'p, C, S> {
     ghost use Rattle.stm_core.specs.Standing.{IsOutcome};
     ghost use Rattle.stm_core.specs.Finishing.{idle_core, IsUnused, HasFailed};
     ghost use Rattle.stm_core.specs.SaneCore.{SaneCore};
-    ghost use Rattle.stm_core.specs.Begun.{CountsSteps};
+    ghost use Rattle.stm_core.specs.CoreHeld.{core_at, core_client, core_limits, HasDevices, IsGoodCore};
 
-    /// An engine over an empty store, with the client's first thread. At want of memory the store comes back.
-    pub fn new(alloc: Global, client: &'p C, store: S) -> Result<Engine<'p, C, S>, (NoMemory, S)>
-        requires { IsEmpty (S.meaning store) (S.peaks store) }
-        ensures client { IfOk result (λ e. e.client.now ≡ client.now) }
-        ensures store { IfOk result (λ e. e.store ≡ store) }
-        ensures whole { IfOk result (λ e. Whole (S.meaning e.store) e.books) }
-        ensures count { IfOk result (λ e. CountsSteps e.spent e.books.history.entries) }
-        ensures core { IfOk result (λ e. (w : World) → core_of w (S.meaning e.store) e.books ≡ core_new (C.prog client.now) w) }
-        ensures sane { IfOk result (λ e. (most : ℕ) → SaneCore (C.prog client.now) (C.sound client.now) most (S.meaning e.store) e.books) }
-        ensures back { IfErr result (λ e. e.1 ≡ store) }
+    /// A core over an empty store, whose only thread is the client's first. At want of memory the devices come back.
+    ///
+    /// `length` is the most steps of a transaction, from 1 to `LENGTH_LIMIT`; with `budget` steps in the history, from 1 to
+    /// `BUDGET_LIMIT`, no transaction begins.
+    pub fn new(
+        alloc: Global,
+        client: &'p C,
+        store: S,
+        length: u64,
+        budget: u64,
+        input: I,
+        out: O,
+        err: E,
+    ) -> Result<Core<'p, C, S, I, O, E>, (NoMemory, I, O, E)>
+        requires store { IsEmpty (S.meaning store) (S.peaks store) }
+        requires length { (1 ≤ length) × (length ≤ LENGTH_LIMIT) }
+        requires budget { (1 ≤ budget) × (budget ≤ BUDGET_LIMIT) }
+        ensures good { IfOk result (λ x. IsGoodCore C.prog C.sound S.reserved S.meaning x) }
+        ensures client { IfOk result (λ x. core_client x ≡ client.now) }
+        ensures limits { IfOk result (λ x. core_limits S.meaning x ≡ record { length = length; budget = budget; segments = (S.meaning store).segments; words = (S.meaning store).limit }) }
+        ensures devices { IfOk result (λ x. HasDevices input out err x) }
+        ensures state { IfOk result (λ x. (w : World) → core_at S.meaning w x ≡ core_new (C.prog client.now) w) }
+        ensures back { IfErr result (λ e. (e.1 ≡ input) × (e.2 ≡ out) × (e.3 ≡ err)) }
     {
-        let first = match client.first(alloc) {
-            Ok(first) => first,
-            Err(failed) => return Err((failed, store)),
-        };
-        let threads = match Threads::new(alloc, first) {
-            Ok(threads) => threads,
-            Err(failed) => return Err((failed, store)),
-        };
-        match empty_hands(alloc, store.segments()) {
-            Ok(hands) => Ok(Engine {
+        store.known();
+        match first_books(alloc, client, store.segments()) {
+            Ok(books) => Ok(Core {
                 alloc,
                 client,
                 store,
-                books: Books {
-                    threads,
-                    pending: 0,
-                    hands,
-                    history: Log::new(alloc),
-                    conflicts: Log::new(alloc),
-                    begun: 0,
-                    last: None,
-                    cause: None,
-                },
+                books,
                 spent: 0,
+                length,
+                budget,
+                input,
+                out,
+                err,
             }),
-            Err(failed) => Err((failed, store)),
+            Err(failed) => Err((failed, input, out, err)),
         }
     }
 
@@ -94,6 +120,7 @@ impl<'p, C: Client, S: SegStore> Engine<'p, C, S> {
         ensures whole { Whole (S.meaning self.new.store) self.new.books }
         ensures rest { self.new ≡ record self.old { store = self.new.store; books = self.new.books } }
         ensures shape { SameShape (S.meaning self.old.store) (S.meaning self.new.store) }
+        ensures reserved { S.reserved self.new.store ≡ S.reserved self.old.store }
         ensures core { (w : World) → core_of w (S.meaning self.new.store) self.new.books ≡ with_segment k Idle (core_of w (S.meaning self.old.store) self.old.books) }
         ensures sane { (most : ℕ) → SaneCore (C.prog self.old.client.now) (C.sound self.old.client.now) most (S.meaning self.old.store) self.old.books
             → SaneCore (C.prog self.old.client.now) (C.sound self.old.client.now) most (S.meaning self.new.store) self.new.books }
@@ -111,6 +138,7 @@ impl<'p, C: Client, S: SegStore> Engine<'p, C, S> {
         ensures whole { Whole (S.meaning self.new.store) self.new.books }
         ensures rest { self.new ≡ record self.old { store = self.new.store; books = self.new.books } }
         ensures shape { SameShape (S.meaning self.old.store) (S.meaning self.new.store) }
+        ensures reserved { S.reserved self.new.store ≡ S.reserved self.old.store }
         ensures unused { (j : ℕ) → IsUnused ((S.meaning self.new.store).part j) }
         ensures core { (w : World) → core_of w (S.meaning self.new.store) self.new.books ≡ idle_core (core_of w (S.meaning self.old.store) self.old.books) }
         ensures sane { (most : ℕ) → SaneCore (C.prog self.old.client.now) (C.sound self.old.client.now) most (S.meaning self.old.store) self.old.books
@@ -136,31 +164,34 @@ impl<'p, C: Client, S: SegStore> Engine<'p, C, S> {
         }
     }
 
-    /// Drops what runs, and hands out the rest. It takes no memory.
-    ///
-    /// The image of the store is the committed one, and no segment has anything in hand in it.
-    pub fn finish(mut self, budget: u64) -> Remains<S>
-        requires whole { Whole (S.meaning self.store) self.books }
-        requires count { CountsSteps self.spent self.books.history.entries }
-        requires sane { (most : ℕ) × SaneCore (C.prog self.client.now) (C.sound self.client.now) most (S.meaning self.store) self.books }
-        ensures state { (w : World) → IsOutcome (C.prog self.entry.client.now) budget (idle_core (core_of w (S.meaning self.entry.store) self.entry.books)) result.state }
-        ensures failed { result.failed ≡ true → (w : World) → HasFailed (C.prog self.entry.client.now) (core_of w (S.meaning self.entry.store) self.entry.books) }
-        ensures lasting { result.failed ≡ false → (w : World) → HasFailed (C.prog self.entry.client.now) (core_of w (S.meaning self.entry.store) self.entry.books) → ⊥ }
-        ensures history { result.history.entries ≡ self.entry.books.history.entries }
-        ensures conflicts { result.conflicts.entries ≡ self.entry.books.conflicts.entries }
-        ensures image { (S.meaning result.store).image ≡ (S.meaning self.entry.store).image }
-        ensures shape { SameShape (S.meaning self.entry.store) (S.meaning result.store) }
+    /// Drops what runs, and hands out the rest. The image of the store is the committed one, and no segment has changes in it.
+    pub fn finish(mut self) -> Finished<S, I, O, E>
+        requires good { IsGoodCore C.prog C.sound S.reserved S.meaning self }
+        ensures state { (w : World) → IsOutcome (C.prog (core_client self.entry)) (core_limits S.meaning self.entry).budget (idle_core (core_at S.meaning w self.entry)) result.state }
+        ensures failed { result.failed ≡ true → (w : World) → HasFailed (C.prog (core_client self.entry)) (core_at S.meaning w self.entry) }
+        ensures lasting { result.failed ≡ false → (w : World) → HasFailed (C.prog (core_client self.entry)) (core_at S.meaning w self.entry) → ⊥ }
+        ensures history { (w : World) → (core_at S.meaning w self.entry).history ≡ result.history.entries }
+        ensures conflicts { (w : World) → (core_at S.meaning w self.entry).conflicts ≡ result.conflicts.entries }
+        ensures image { (w : World) → (core_at S.meaning w self.entry).image ≡ (S.meaning result.store).image }
+        ensures shape { ((S.meaning result.store).segments ≡ (core_limits S.meaning self.entry).segments) × ((S.meaning result.store).limit ≡ (core_limits S.meaning self.entry).words) }
         ensures unused { (j : ℕ) → IsUnused ((S.meaning result.store).part j) }
+        ensures devices { HasDevices result.input result.out result.err self.entry }
     {
         self.drop_all();
-        let state = self.outcome(budget);
+        self.store.known();
+        let state = self.outcome();
         let failed = self.has_failed();
-        let Engine {
+        let Core {
             alloc: _,
             client: _,
             store,
             books,
             spent: _,
+            length: _,
+            budget: _,
+            input,
+            out,
+            err,
         } = self;
         let Books {
             threads: _,
@@ -172,12 +203,15 @@ impl<'p, C: Client, S: SegStore> Engine<'p, C, S> {
             last: _,
             cause: _,
         } = books;
-        Remains {
+        Finished {
             state,
             failed,
             history,
             conflicts,
             store,
+            input,
+            out,
+            err,
         }
     }
 }

@@ -7,7 +7,7 @@ ghost use Rattle.stm_core.specs.Books.{one_running};
 
 use crate::books::{Books, Hand};
 use crate::cause::Cause;
-use crate::engine::Engine;
+use crate::transactions::Core;
 use lock_run::{Client, Life};
 use seg_store::SegStore;
 
@@ -84,30 +84,31 @@ impl<T: Drop> Books<T> {
     }
 }
 
-impl<'p, C: Client, S: SegStore> Engine<'p, C, S> {
-    ghost use Rattle.std.specs.Prelude.{◌≡◌, ℕ, ◌<◌, ◌≤◌, true, false, length};
+impl<'p, C: Client, S: SegStore, I, O, E> Core<'p, C, S, I, O, E> {
+    ghost use Rattle.std.specs.Prelude.{◌≡◌, ℕ, ◌<◌, ◌≤◌, true, false};
     ghost use Rattle.py_data.specs.World.{World};
     ghost use Rattle.stm_core.specs.Books.{core_of};
-    ghost use Rattle.stm_core.specs.Whole.{Whole};
     ghost use Rattle.stm_core.specs.SaneCore.{SaneCore};
+    ghost use Rattle.stm_core.specs.CoreHeld.{core_at, core_client, core_limits, IsGoodCore};
     ghost use Rattle.lock_run.specs.RunState.{steps_done, SomeLives, IsDone};
     ghost use Rattle.stm_core.specs.CoreState.{committed};
     ghost use Rattle.stm_core.specs.Begun.{IsReady, IsUnready, CountsSteps};
     ghost use Rattle.stm_core.specs.Standing.{slot_of, FirstReady, IsNext, IsOutcome};
 
     /// Whether the history has the budget's steps.
-    pub fn is_spent(&self, budget: u64) -> bool
+    pub fn is_spent(&self) -> bool
         requires { CountsSteps self.now.spent self.now.books.history.entries }
-        ensures yes { result ≡ true → budget ≤ steps_done self.now.books.history.entries }
-        ensures not { result ≡ false → steps_done self.now.books.history.entries < budget }
+        ensures yes { result ≡ true → self.now.budget ≤ steps_done self.now.books.history.entries }
+        ensures not { result ≡ false → steps_done self.now.books.history.entries < self.now.budget }
     {
-        self.spent >= budget
+        self.spent >= self.budget
     }
 
-    /// What a segment has in hand. It takes no memory.
+    /// What segment `k` has in hand.
     pub fn slot(&self, k: u8) -> Slot
-        requires { k < length self.now.books.hands.items }
-        ensures { (w : World) → result ≡ slot_of ((core_of w (S.meaning self.now.store) self.now.books).segments k) }
+        requires segment { k < (core_limits S.meaning self.now).segments }
+        requires good { IsGoodCore C.prog C.sound S.reserved S.meaning self.now }
+        ensures { (w : World) → result ≡ slot_of ((core_at S.meaning w self.now).segments k) }
     {
         match &self.books.hands[k as usize] {
             Hand::Idle => Slot::Idle,
@@ -149,11 +150,11 @@ impl<'p, C: Client, S: SegStore> Engine<'p, C, S> {
         None
     }
 
-    /// The thread whose transaction is to begin next: the least ready thread above the one last begun, else the least ready
-    /// one. There is none exactly where each thread has ended, runs, or waits. It takes no memory.
+    /// The thread whose transaction is to begin next: the least ready one above the thread that began last, else the least
+    /// ready one. There is none exactly where no thread that lives, and that no segment runs, can go on.
     pub fn next_ready(&self) -> Option<u32>
-        requires { (most : ℕ) × SaneCore (C.prog self.now.client.now) (C.sound self.now.client.now) most (S.meaning self.now.store) self.now.books }
-        ensures { (w : World) → IsNext (C.prog self.now.client.now) (core_of w (S.meaning self.now.store) self.now.books) result }
+        requires good { IsGoodCore C.prog C.sound S.reserved S.meaning self.now }
+        ensures { (w : World) → IsNext (C.prog (core_client self.now)) (core_at S.meaning w self.now) result }
     {
         let count = self.books.threads.len();
         let Some(last) = self.books.last else {
@@ -182,12 +183,10 @@ impl<'p, C: Client, S: SegStore> Engine<'p, C, S> {
     }
 
     /// How the run stands, by the first of these that holds: the cause that is kept; all threads have ended; a segment runs;
-    /// each thread that lives waits; the history has the budget's steps; it goes on. It takes no memory.
-    pub fn outcome(&self, budget: u64) -> RunState
-        requires whole { Whole (S.meaning self.now.store) self.now.books }
-        requires count { CountsSteps self.now.spent self.now.books.history.entries }
-        requires sane { (most : ℕ) × SaneCore (C.prog self.now.client.now) (C.sound self.now.client.now) most (S.meaning self.now.store) self.now.books }
-        ensures { (w : World) → IsOutcome (C.prog self.now.client.now) budget (core_of w (S.meaning self.now.store) self.now.books) result }
+    /// each thread that lives waits; the history has the budget's steps; it goes on.
+    pub fn outcome(&self) -> RunState
+        requires good { IsGoodCore C.prog C.sound S.reserved S.meaning self.now }
+        ensures { (w : World) → IsOutcome (C.prog (core_client self.now)) (core_limits S.meaning self.now).budget (core_at S.meaning w self.now) result }
     {
         if let Some(cause) = self.books.cause {
             return RunState::Faulted(cause);
@@ -201,7 +200,7 @@ impl<'p, C: Client, S: SegStore> Engine<'p, C, S> {
         match self.next_ready() {
             None => RunState::Stuck,
             Some(_) => {
-                if self.is_spent(budget) {
+                if self.is_spent() {
                     RunState::Spent
                 } else {
                     RunState::Running

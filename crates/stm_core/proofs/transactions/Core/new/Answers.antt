@@ -1,15 +1,28 @@
-use Rattle.std.proofs.Common.{sym, subst, ap}
+use Rattle.std.proofs.Common.{sym, subst, ap, refl}
+use Rattle.stm_core.specs.Books.{IsFirst}
+use Rattle.stm_core.specs.Begun.{CountsSteps}
 use Rattle.stm_core.specs.CoreHeld.{IsFullKept}
-use Rattle.stm_core.proofs.Advancing.{dry_world}
-use Rattle.seg_store.specs.Store.{IsStore}
-use Rattle.stm_core.specs.SaneCore.{SaneCore}
+use Rattle.stm_core.proofs.Ends.{new_whole, core_is_new, new_sane}
 use Rattle.stm_core.proofs.transactions.Core.new.Goals as goal
 
-pub returns-in-Ok-clause-good : goal.returns-in-Ok-clause-good
-returns-in-Ok-clause-good g c = record {
-  store = subst (λ s. IsStore (g.S.SegStore.reserved s) (g.S.SegStore.meaning s)) (sym c.in-Ok.ensures.store) c.known.ensures.store;
-  whole = c.in-Ok.ensures.whole;
-  count = c.in-Ok.ensures.count;
-  kept = subst (IsFullKept _ _) (sym (ap (λ z. z.cause) (c.in-Ok.ensures.core dry_world))) tt;
-  sane = subst (λ z. SaneCore (g.C.Client.prog z) (g.C.Client.sound z) c.args.length (g.S.SegStore.meaning c.in-Ok.engine.store) c.in-Ok.engine.books) (sym c.in-Ok.ensures.client) (c.in-Ok.ensures.sane c.args.length);
-}
+pub returns-in-Ok : goal.returns-in-Ok
+returns-in-Ok g c =
+    let p = g.C.Client.prog c.args.client.now in
+    let m = g.S.SegStore.meaning c.args.store in
+    let b = c.in-Ok.books in
+    let n = subst (λ i. IsFirst p i b) c.segments.ensures c.in-Ok.ensures in
+    let e = c.requires.store in
+    record {
+      good = record {
+        store = c.known.ensures.store;
+        whole = new_whole p m b e.image e.changed e.made n;
+        count = subst (CountsSteps 0) (sym n.history) refl;
+        kept = subst (IsFullKept _ _) (sym n.cause) tt;
+        sane = new_sane p m b e.image e.changed e.made n (g.C.Client.sound c.args.client.now) c.args.length (g.met.C.Client.sound_first c.args.client.now);
+      };
+      client = refl;
+      limits = refl;
+      devices = record { input_is = refl; out_is = refl; err_is = refl };
+      state = core_is_new p m b e.image e.changed e.made n;
+      back = tt;
+    }
