@@ -1,7 +1,6 @@
 //! How a transaction is committed, in two passes over the others.
 ghost use Rattle.std.specs.Prelude.{◌≡◌, ◌<◌, ◌≤◌, ◌+◌, ◌++◌, [], ◌∷◌, length, slice_get, slice_set};
 ghost use Rattle.stm_core.specs.Books.{runs_at};
-ghost use Rattle.stm_core.specs.CoreState.{turn_of};
 ghost use Rattle.stm_core.specs.Passes.{met};
 ghost use Rattle.stm_core.specs.Readers.{place_of};
 
@@ -93,7 +92,6 @@ impl<'p, C: Client, S: SegStore, I, O, E> Core<'p, C, S, I, O, E> {
     ghost use Rattle.py_data.specs.World.{World};
     ghost use Rattle.stm_core.specs.declared.books.Work.{Work};
     ghost use Rattle.stm_core.specs.declared.books.Hand.TheVariants.{Idle, Runs};
-    ghost use Rattle.stm_core.specs.CoreState.{with_segment};
     ghost use Rattle.stm_core.specs.Moves.{published};
     ghost use Rattle.stm_core.specs.Passes.{doom_one, doom_readers};
     ghost use Rattle.stm_core.specs.Books.{Fit, transaction, core_of};
@@ -103,7 +101,7 @@ impl<'p, C: Client, S: SegStore, I, O, E> Core<'p, C, S, I, O, E> {
     ghost use Rattle.stm_core.specs.declared.events.Event.{Event};
     ghost use Rattle.stm_core.specs.CoreHeld.{core_at, core_client, core_limits, IsGoodCore, SameJob};
     ghost use Rattle.stm_core.specs.Begun.{CountsSteps};
-    ghost use Rattle.stm_core.specs.Readers.{place_of, read_at, work_side, Beats, FirstBeats};
+    ghost use Rattle.stm_core.specs.Readers.{place_of, read_at, Beats, FirstBeats};
     ghost use Rattle.stm_core.specs.Committed.{CommitEnds, Committed};
 
     /// The first record that segment k has locked and that the transaction of segment j, another one, has looked at.

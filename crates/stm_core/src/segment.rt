@@ -1,13 +1,13 @@
 //! A segment's view: the sight of a transaction that shares the heap with others.
-ghost use Rattle.std.specs.Prelude.{◌≡◌, ◌≢◌, ℕ, ◌<◌, ◌≤◌, ◌+◌, ◌*◌, ◌++◌, [], ◌∷◌, true, false, length, take, drop, slice_set, Some, None, OnOk, OnErr, IfOk, IfErr, IfSome};
+ghost use Rattle.std.specs.Prelude.{◌≡◌, ◌≢◌, ◌<◌, ◌≤◌, ◌+◌, ◌*◌, ◌++◌, [], ◌∷◌, true, false, length, take, drop, slice_set, Some, None, OnOk, OnErr, IfOk, IfErr, IfSome};
 ghost use Rattle.py_data.specs.declared.stop.Stop.TheVariants.{OutOfMemory};
 ghost use Rattle.py_data.specs.Heap.{Has, at, value_at, is_tracked};
 ghost use Rattle.py_data.specs.Changes.{after};
 ghost use Rattle.py_data.specs.Shape.{IsShaped, find};
 ghost use Rattle.py_data.specs.Sense.{IfThere};
 ghost use Rattle.py_data.specs.Made.{rec_of};
-ghost use Rattle.seg_store.specs.Meaning.{Meaning, sees, holds};
-ghost use Rattle.seg_store.specs.Calls.{after_drop, after_lock, after_change, after_make};
+ghost use Rattle.seg_store.specs.Meaning.{sees, holds};
+ghost use Rattle.seg_store.specs.Calls.{after_drop, after_change, after_make};
 ghost use Rattle.seg_store.specs.Store.{CanFind, CanChange, NoOther, IsFree};
 ghost use Rattle.seg_store.specs.Extents.{Wants};
 ghost use Rattle.stm_core.specs.Asking.{ChangeWants};

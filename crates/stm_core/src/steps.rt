@@ -23,7 +23,7 @@ pub enum Pause {
 }
 
 impl<'p, C: Client, S: SegStore, I, O, E> Core<'p, C, S, I, O, E> {
-    ghost use Rattle.std.specs.Prelude.{◌≡◌, ◌≢◌, ◌<◌, ◌≤◌, ◌+◌, ◌-◌, ◌^◌, ℕ, IfOk, IfErr, OnErr, true, false, slice_get, Some, []};
+    ghost use Rattle.std.specs.Prelude.{◌≡◌, ◌<◌, ◌≤◌, ◌+◌, ◌-◌, ℕ, IfOk, IfErr, true, false, slice_get, Some, []};
     ghost use Rattle.py_data.specs.World.{World};
     ghost use Rattle.lock_run.specs.Client.{Standing};
     ghost use Rattle.lock_run.specs.declared.client.Life.TheVariants.{Lives};
@@ -31,7 +31,7 @@ impl<'p, C: Client, S: SegStore, I, O, E> Core<'p, C, S, I, O, E> {
     ghost use Rattle.stm_core.specs.CoreState.{IsShort, with_conflict, with_segment, Running};
     ghost use Rattle.stm_core.specs.Conflict.{side};
     ghost use Rattle.stm_core.specs.Books.{Fit, transaction, core_of};
-    ghost use Rattle.stm_core.specs.Whole.{Whole, SameShape, stepped, StepDone, StepCut};
+    ghost use Rattle.stm_core.specs.Whole.{Whole, SameShape, StepDone, StepCut};
     ghost use Rattle.stm_core.specs.Advanced.{with_cause};
     ghost use Rattle.seg_store.specs.Calls.{after_drop};
     ghost use Rattle.seg_store.specs.Store.{IsStore};

@@ -1,4 +1,4 @@
-use Rattle.std.proofs.Common.{sym, subst, ap, refl}
+use Rattle.std.proofs.Common.{sym, subst, refl}
 use Rattle.stm_core.specs.Books.{IsFirst}
 use Rattle.stm_core.specs.Begun.{CountsSteps}
 use Rattle.stm_core.specs.CoreHeld.{IsFullKept}
