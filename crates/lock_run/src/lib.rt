@@ -8,8 +8,6 @@ mod machine;
 mod plain;
 mod script;
 mod space;
-#[cfg(test)]
-mod tests;
 mod threads;
 mod turn;
 

@@ -22,12 +22,11 @@ use Rattle.py_data.specs.Shape.{KindIn, RefTo, IsCallable}
 use Rattle.py_data.proofs.Holding.{holds_ret, holds_bind}
 use Rattle.py_data.proofs.HoldingCalls.{holds_make, holds_looks}
 use Rattle.py_data.proofs.Keep.{ref_stays}
-use Rattle.py_data.proofs.Looking.{bytes_looks}
+use Rattle.py_data.proofs.Looking.{bytes_looks, some_of}
 use Rattle.py_data.proofs.Making.{made_fits}
 use Rattle.obj_dict.specs.Dict.{del_row}
 use Rattle.obj_dict.specs.HoldsLaws.{IsDictAt}
 use Rattle.obj_dict.proofs.Holding.{dict_holds}
-use Rattle.obj_nest.proofs.KindLooks.{some_of}
 use Rattle.obj_class.specs.declared.lookup.Found.{Found}
 use Rattle.obj_class.specs.declared.lookup.Found.TheVariants.{Plain, Bound}
 use Rattle.obj_class.specs.Attributes.{address_in, attribute, attribute_fault, bound, bound_in, bound_of, bytes_in, dict_of_kind, dict_of_record, inherited, kept, of_builtin, of_kind, of_methods, of_record, own_dict, own_first, values_in}

@@ -10,14 +10,12 @@ use Rattle.py_data.specs.declared.value.Value.TheVariants.{Unset, None as NoneVa
 use Rattle.py_data.specs.Answers.{IfItem}
 use Rattle.py_data.specs.Closed.{Refers, base_of}
 use Rattle.py_data.specs.Heap.{Heap, Rec, value_at}
-use Rattle.py_data.specs.Looking.{Looks, look_row, bytes_row, walk_row, walk_on}
+use Rattle.py_data.specs.Looking.{Looks, look_row, bytes_row, walk_row, walk_on, kind_row}
 use Rattle.py_data.specs.Order.{Rules, IsOrdered}
 use Rattle.py_data.specs.Row.{Ret, Do, Find, bind}
 use Rattle.py_data.specs.Shape.{KindIn, RefTo, NoneOr, IsKey, find, is_key_kind}
 use Rattle.py_data.proofs.HoldingCalls.{pairs_of}
-use Rattle.py_data.proofs.Looking.{looks_ret, looks_read, looks_find, looks_then, look_looks, bytes_looks}
-use Rattle.obj_nest.specs.Levels.{kind_row}
-use Rattle.obj_nest.proofs.KindLooks.{some_of, kind_looks}
+use Rattle.py_data.proofs.Looking.{looks_ret, looks_read, looks_find, looks_then, look_looks, bytes_looks, some_of, kind_looks}
 use Rattle.obj_class.specs.declared.lookup.Found.{Found}
 use Rattle.obj_class.specs.declared.lookup.Found.TheVariants.{Plain}
 use Rattle.obj_class.specs.Attributes.{attribute, bound, bound_in, bound_of, bytes_in, inherited, kept, nearer, of_builtin, of_class, of_instance, of_kind, of_methods, of_pair, of_record, own_first, values_in}

@@ -10,7 +10,7 @@ use Rattle.obj_class.specs.Bases.{ref, up, IsBelow, is_below}
 use Rattle.obj_class.specs.Laws.{BelowLaw}
 
 -- more turns than there are classes on the way change nothing
-more_turns : (h : Heap) (base n m : ℕ) (v : Value) → BasesEnd h n v → n ≤ m → is_below h base m v ≡ is_below h base n v
+pub more_turns : (h : Heap) (base n m : ℕ) (v : Value) → BasesEnd h n v → n ≤ m → is_below h base m v ≡ is_below h base n v
 more_turns h base zero zero NoneValue e l = refl
 more_turns h base zero (suc m) NoneValue e l = refl
 more_turns h base (suc n) zero v e l = absurd (omega (arith, l))
@@ -23,7 +23,7 @@ one_below h base n c true s more e = (0, ap ref (eqb-true c.0 base s))
 one_below h base n c false s more e = let m = more e in (suc m.0, m.1)
 
 -- what the test finds is below
-below_is : (h : Heap) (base n : ℕ) (v : Value) → is_below h base n v ≡ true → IsBelow h base v
+pub below_is : (h : Heap) (base n : ℕ) (v : Value) → is_below h base n v ≡ true → IsBelow h base v
 below_is h base zero v e = absurd (let q : false ≡ true = e in cc)
 below_is h base (suc n) (Ref c) e = one_below h base n c (eqb c.0 base) refl (below_is h base n (base_of (h c.0))) e
 below_is h base (suc n) Unset e = absurd (let q : false ≡ true = e in cc)
@@ -47,7 +47,7 @@ one_found h base n zero c false s more e = absurd (let q : Ref c ≡ ref base = 
 one_found h base n (suc k) c false s more e = more k e
 
 -- where the way ends after so many classes, the test finds whatever is below
-is_found : (h : Heap) (base n k : ℕ) (v : Value) → BasesEnd h n v → up h k v ≡ ref base → is_below h base n v ≡ true
+pub is_found : (h : Heap) (base n k : ℕ) (v : Value) → BasesEnd h n v → up h k v ≡ ref base → is_below h base n v ≡ true
 is_found h base zero k NoneValue e b = absurd (none_up h k base b)
 is_found h base (suc n) k NoneValue e b = absurd (none_up h k base b)
 is_found h base (suc n) k (Ref c) e b = one_found h base n k c (eqb c.0 base) refl (λ j f. is_found h base n j (base_of (h c.0)) e f) b

@@ -15,7 +15,7 @@ use Rattle.obj_class.specs.Roots.{IsExceptionClass, IsRoots, base_names, class_p
 use Rattle.obj_class.proofs.Below.{up_none}
 
 -- ---- a base has a lower number
-abbrev base_number : ℕ → ℕ
+abbrev pub base_number : ℕ → ℕ
 base_number n = class_number (get_or base_names n [])
 
 -- of so many numbers from k on, the base has a lower number, which isn't that of `object`
@@ -31,7 +31,7 @@ first_lower k true true more s t e = ((ltb-true 0 (base_number k) s, ltb-true (b
 first_lower k true false more s t e = absurd (let z : false ≡ true = e in cc)
 first_lower k false b more s t e = absurd (let z : false ≡ true = e in cc)
 
-other_number : (n k : ℕ) → eqb n k ≡ false → n ≢ k
+pub other_number : (n k : ℕ) → eqb n k ≡ false → n ≢ k
 other_number n k f e = let z : true ≡ false = sym (eq-eqb n k e) ∙ f in cc
 
 lower_at : (n k m : ℕ) → are_lower k m ≡ true → k ≤ n → n < k + m → Lower n
@@ -46,14 +46,14 @@ lower_at n k (suc m) e l g =
     apart : (n k : ℕ) → eqb n k ≡ false → k ≤ n → k + 1 ≤ n
     apart n k f l = let d = other_number n k f in omega (arith, d, l)
 
-lower : (n : ℕ) → 1 < n → n < class_count → Lower n
+pub lower : (n : ℕ) → 1 < n → n < class_count → Lower n
 lower n l g = lower_at n 2 18 refl l g
 
 abbrev place_of : Value → ℕ
 place_of (Ref a) = a.0
 place_of v = 0
 
-same_address : (a b : ℕ) → ref a ≡ ref b → a ≡ b
+pub same_address : (a b : ℕ) → ref a ≡ ref b → a ≡ b
 same_address a b e = ap place_of e
 
 module _ (h : Heap) (roots : ℕ) (r : IsRoots h roots) where

@@ -48,7 +48,7 @@ pub made_here : (h h1 : Heap) (a : ℕ) (r : Rec) → h1 ≡ put_at h a r → h1
 made_here h h1 a r e = ap (λ g. g a) e ∙ with_rec_here a r h
 
 -- its address refers to it
-made_ref : (h : Heap) (a : ℕ) (r : Rec) → h a ≡ Some r → RefTo h r.kind (ref a)
+pub made_ref : (h : Heap) (a : ℕ) (r : Rec) → h a ≡ Some r → RefTo h r.kind (ref a)
 made_ref h a r e = subst (λ o. KindIn o (λ q. q ≡ r.kind)) (sym e) refl
 
 told_stays : (h h1 : Heap) (w : With) (args : List Value) → Extends h h1 → IsToldIn h w args → IsToldIn h1 w args
@@ -59,13 +59,13 @@ told_stays h h1 (Held v) args x t = t
 module _ {S : Type 0} (rules : Rules) (stands : Heap → S → Type 0) where
   module _ {A : Type 0} (p : A → Heap → Type 0) where
     -- a record is made, and a row goes on with its address
-    make_then : (r : Rec) (f : Value → Row S A) (h : Heap) → ((a : ℕ) → FitsAt rules h a r)
+    pub make_then : (r : Rec) (f : Value → Row S A) (h : Heap) → ((a : ℕ) → FitsAt rules h a r)
         → ((a : ℕ) (h1 : Heap) → IsOrdered rules h1 → Extends h h1 → h1 ≡ put_at h a r → h1 a ≡ Some r → IsItem h1 (ref a) → Holds rules stands p (f (ref a)) h1) → Holds rules stands p (bind (made_row r) f) h
     unfolding made_row bind
     make_then r f h fit n = holds_make rules stands p r (λ a. f (ref a)) h fit (λ a h1 order x e item. n a h1 order x e (made_here h h1 a r e) item)
 
   -- the record of an instance, and of a dictionary of one pair with a string as its key
-  instance_fits : (h : Heap) (a : ℕ) (class dict : Value) → RefTo h Class class → IsItem h class → RefTo h Dict dict → IsItem h dict → FitsAt rules h a (new_rec Instance (class ∷ dict ∷ []) [])
+  pub instance_fits : (h : Heap) (a : ℕ) (class dict : Value) → RefTo h Class class → IsItem h class → RefTo h Dict dict → IsItem h dict → FitsAt rules h a (new_rec Instance (class ∷ dict ∷ []) [])
   instance_fits h a class dict c i d j =
       made_fits rules h a Instance (class ∷ dict ∷ []) [] (λ e. let q : Instance ≡ Class = e in cc) (λ e. let q : Instance ≡ Function = e in cc) (λ e. let q : Instance ≡ Cell = e in cc) (i, (j, tt)) (c, d) refl (omega arith) (omega arith)
 

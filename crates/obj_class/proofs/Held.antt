@@ -8,6 +8,8 @@ use Rattle.obj_class.proofs.AttrLooks.{find_looks, sub_looks}
 use Rattle.obj_class.proofs.FaultHolds.{fault_holds}
 use Rattle.obj_class.proofs.Given.{attr_given, attr_looks}
 use Rattle.obj_class.proofs.Parts.{is_at}
+use Rattle.obj_class.proofs.RootsHold.{roots_hold}
+use Rattle.obj_class.proofs.TellingLooks.{told_looks}
 
 pub class_holds : {S : Type 0} (rules : Rules) (stands : Heap → S → Type 0) → ClassHolds rules stands
 class_holds {S} rules stands = record {
@@ -19,4 +21,6 @@ class_holds {S} rules stands = record {
   set_attr = set_holds rules stands;
   del_attr = del_holds rules stands;
   make_fault = fault_holds rules stands;
+  make_roots = roots_hold rules stands;
+  text = λ h roots x quoted order r i. told_looks S rules h order roots r x quoted i;
 }

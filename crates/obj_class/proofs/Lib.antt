@@ -10,3 +10,10 @@ pub mod FaultHolds
 pub mod Given
 pub mod SteadyRows
 pub mod Held
+pub mod LeftSteps
+pub mod TellingLooks
+pub mod TellingCalm
+pub mod Steadily
+pub mod RootsSteps
+pub mod RootsHold
+pub mod TellingWords

@@ -9,14 +9,12 @@ use Rattle.py_data.specs.declared.record.Got.{Got}
 use Rattle.py_data.specs.declared.record.Got.TheVariants.{Is, Raise}
 use Rattle.py_data.specs.Closed.{Refers, IsItem}
 use Rattle.py_data.specs.Heap.{Heap, Rec, value_at}
-use Rattle.py_data.specs.Looking.{Looks, look_row, bytes_row}
+use Rattle.py_data.specs.Looking.{Looks, look_row, bytes_row, kind_row}
 use Rattle.py_data.specs.Row.{Row, Ret, Read, bind}
 use Rattle.py_data.specs.Sense.{Sense, Lawful, Run}
-use Rattle.py_data.proofs.Looking.{looks_ret, looks_then, look_looks, looks_run}
+use Rattle.py_data.proofs.Looking.{looks_ret, looks_then, look_looks, looks_run, some_of, kind_looks}
 use Rattle.py_data.proofs.Rows.{bind-run}
 use Rattle.obj_dict.specs.Dict.{del_row}
-use Rattle.obj_nest.specs.Levels.{kind_row}
-use Rattle.obj_nest.proofs.KindLooks.{some_of, kind_looks}
 use Rattle.obj_class.specs.Attributes.{address_in, attribute_fault, bytes_in, dict_of_kind, dict_of_record, own_dict}
 use Rattle.obj_class.specs.AttrRows.{del_attr_row, del_in, dict_at, dict_by, dict_row, gone_row, missing_row, set_attr_row, set_in, taken_row}
 use Rattle.obj_class.specs.Bases.{ref}

@@ -1,5 +1,5 @@
 -- In the course of an operation on classes, attributes or exceptions no record is longer than before it or at its end.
-use Rattle.std.proofs.Common.{◌≡◌, ℕ, zero, suc, ◌+◌, ◌*◌, Bool, true, false, cond, eqb, List, [], ◌∷◌, codes, Option, Some, None, Result, Ok, Err, refl, sym, subst}
+use Rattle.std.proofs.Common.{ℕ, ◌+◌, ◌*◌, Bool, true, false, cond, eqb, List, [], ◌∷◌, codes, Option, Some, None, Result, Ok, Err, refl}
 use Rattle.std.specs.Prelude.{option_map}
 use Rattle.py_base.specs.declared.kind.Kind.{Kind}
 use Rattle.py_base.specs.declared.kind.Kind.TheVariants.{Str, Tuple, List as ListKind, Dict, Cell, Function, Class, Instance, Method, Iter, Range, Lock, Thread}
@@ -14,104 +14,36 @@ use Rattle.py_data.specs.declared.record.With.{With}
 use Rattle.py_data.specs.declared.record.With.TheVariants.{Nothing, Text, Held}
 use Rattle.py_data.specs.Fault.{hash_fault, key_fault}
 use Rattle.py_data.specs.Heap.{value_at}
-use Rattle.py_data.specs.Looking.{IsLook, look_row, bytes_row, walk_row, walk_on}
-use Rattle.py_data.specs.Row.{Call, Reply, Row, Ret, Do, Read, Find, Edit, Make, Start, Put, Take, MidLine, SetMidLine, bind}
+use Rattle.py_data.specs.Looking.{look_row, bytes_row, kind_row}
+use Rattle.py_data.specs.Row.{Ret, Do, Find, bind}
 use Rattle.py_data.specs.Shape.{is_key_kind}
-use Rattle.py_data.specs.Steady.{grows, shrinks, Steady}
+use Rattle.py_data.specs.Steady.{Steady}
+use Rattle.py_data.proofs.OnlyLooks.{OnlyLooks, only_bind, only_bytes, only_kind, only_look, only_ret, only_steady, only_walk, looks_steady}
 use Rattle.obj_dict.specs.Dict.{key_row, if_key, del_row, drop_found}
 use Rattle.obj_dict.proofs.SteadyRows.{dict_steady}
-use Rattle.obj_nest.specs.Levels.{kind_row}
 use Rattle.obj_class.specs.declared.lookup.Found.{Found}
 use Rattle.obj_class.specs.declared.lookup.Found.TheVariants.{Plain, Bound}
 use Rattle.obj_class.specs.Attributes.{address_in, attribute_fault, bound_of, of_methods}
 use Rattle.obj_class.specs.AttrRows.{attr_row, bound_row, builtin_row, class_row, class_step, del_attr_row, del_in, dict_at, dict_by, dict_row, error_row, find_attr_row, found_by, from_class, given_row, gone_row, heir_step, held_row, if_found, inherited_row, instance_row, kept_row, member_row, method_row, methods_row, missing_row, next_class, own_or_class, own_row, pair_row, set_attr_row, set_in, taken_row}
-use Rattle.obj_class.specs.Bases.{MOST_BASES, ref, base_step, sub_step, is_sub_row}
+use Rattle.obj_class.specs.Bases.{MOST_BASES, ref, base_step, sub_step}
 use Rattle.obj_class.specs.Exceptions.{args_row, dict_of_args, exception_row, fault_row, is_tellable, keyed_row, made_row, numbered_row, told_row}
-use Rattle.obj_class.specs.HoldsLaws.{ClassSteady}
 use Rattle.obj_class.specs.Named.{is_error, member_of}
 use Rattle.obj_class.specs.Roots.{class_place}
 
--- ---- rows that do nothing but look
-
--- each call of a row is a look
-unfoldable pub OnlyLooks : {S A : Type 0} → Row S A → Type 0
-OnlyLooks (Ret a) = Unit {0}
-OnlyLooks (Do c k) = IsLook c × ((r : Reply c) → OnlyLooks (k r))
-
--- a look lets nothing grow or shrink
-still : {S : Type 0} (c : Call S) → IsLook c → (grows c ≡ false) × (shrinks c ≡ false)
-still (Read a) i = (refl, refl)
-still (Find d key) i = (refl, refl)
-still (Edit a c) i = absurd i
-still (Make r) i = absurd i
-still (Start s) i = absurd i
-still (Put on bytes) i = absurd i
-still (Take most) i = absurd i
-still MidLine i = absurd i
-still (SetMidLine mid) i = absurd i
-
-module _ {S A B : Type 0} where
-  only_bind : (row : Row S A) (f : A → Row S B) → OnlyLooks row → ((a : A) → OnlyLooks (f a)) → OnlyLooks (bind row f)
-  unfolding OnlyLooks bind
-  only_bind (Ret a) f i n = n a
-  only_bind (Do c k) f i n = (i.0, λ r. only_bind (k r) f (i.1 r) n)
-
-  -- looks, and then a steady row
-  looks_steady : (row : Row S A) (f : A → Row S B) → OnlyLooks row → ((a : A) → Steady false (f a)) → Steady false (bind row f)
-  unfolding OnlyLooks Steady bind
-  looks_steady (Ret a) f i n = n a
-  looks_steady (Do c k) f i n =
-      let s = still c i.0 in
-      (refl, λ r. subst (λ b. Steady b (bind (k r) f)) (sym s.0) (looks_steady (k r) f (i.1 r) n))
-
-only_walk : {S A B : Type 0} (f : A → Row S (Result A B)) (end : B) → ((a : A) → OnlyLooks (f a)) → (m : ℕ) (a : A) → OnlyLooks (walk_row f end m a)
-unfolding walk_row OnlyLooks
-only_walk f end i zero a = tt
-only_walk {S} {A} {B} f end i (suc m) a = only_bind (f a) (walk_on (walk_row f end m)) (i a) (walked (only_walk f end i m))
-  where
-    walked : ((a : A) → OnlyLooks (walk_row f end m a)) → (r : Result A B) → OnlyLooks (walk_on (walk_row f end m) r)
-    walked more (Ok a) = more a
-    walked more (Err b) = tt
-
--- alone
-only_steady : {S A : Type 0} (row : Row S A) → OnlyLooks row → Steady false row
-unfolding OnlyLooks Steady
-only_steady (Ret a) i = tt
-only_steady (Do c k) i =
-    let s = still c i.0 in
-    (refl, λ r. subst (λ b. Steady b (k r)) (sym s.0) (only_steady (k r) (i.1 r)))
-
 module _ (S : Type 0) where
-  -- ---- looks at one record
-  only_look : (a i : ℕ) → OnlyLooks {S = S} (look_row a i)
-  unfolding look_row OnlyLooks
-  only_look a i = (tt, λ r. tt)
-
-  only_kind : (a : ℕ) → OnlyLooks {S = S} (kind_row a)
-  unfolding kind_row OnlyLooks
-  only_kind a = (tt, λ r. tt)
-
-  only_bytes : (a : ℕ) → OnlyLooks {S = S} (bytes_row a)
-  unfolding bytes_row OnlyLooks
-  only_bytes a = (tt, λ r. tt)
-
-  only_ret : {A : Type 0} (a : A) → OnlyLooks {S = S} (Ret a)
-  unfolding OnlyLooks
-  only_ret a = tt
-
   -- ---- bases
   only_base : (c : ℕ) (b : Bool) → OnlyLooks {S = S} {A = Result Value Bool} (cond b (Ret (Err true)) (bind (look_row c 1) (λ b. Ret (Ok b))))
-  only_base c true = only_ret (Err true)
-  only_base c false = only_bind (look_row c 1) (λ b. Ret (Ok b)) (only_look c 1) (λ b. only_ret (Ok b))
+  only_base c true = only_ret S (Err true)
+  only_base c false = only_bind (look_row c 1) (λ b. Ret (Ok b)) (only_look S c 1) (λ b. only_ret S (Ok b))
 
-  only_sub : (base : ℕ) (v : Value) → OnlyLooks {S = S} (sub_step base v)
+  pub only_sub : (base : ℕ) (v : Value) → OnlyLooks {S = S} (sub_step base v)
   unfolding sub_step base_step
   only_sub base (Ref c) = only_base c.0 (eqb c.0 base)
-  only_sub base Unset = only_ret (Err false)
-  only_sub base NoneValue = only_ret (Err false)
-  only_sub base (BoolValue b) = only_ret (Err false)
-  only_sub base (Int n) = only_ret (Err false)
-  only_sub base (Builtin b) = only_ret (Err false)
+  only_sub base Unset = only_ret S (Err false)
+  only_sub base NoneValue = only_ret S (Err false)
+  only_sub base (BoolValue b) = only_ret S (Err false)
+  only_sub base (Int n) = only_ret S (Err false)
+  only_sub base (Builtin b) = only_ret S (Err false)
 
   -- ---- attributes
   only_pair : (d : ℕ) (o : Option ℕ) → OnlyLooks {S = S} (pair_row d o)
@@ -130,21 +62,21 @@ module _ (S : Type 0) where
 
   only_own : (a i : ℕ) (key : Value) → OnlyLooks {S = S} (own_row a i key)
   unfolding own_row
-  only_own a i key = only_bind (look_row a i) (λ d. kept_row d key) (only_look a i) (λ d. only_kept d key)
+  only_own a i key = only_bind (look_row a i) (λ d. kept_row d key) (only_look S a i) (λ d. only_kept d key)
 
   only_next : (c : ℕ) (o : Option Value) → OnlyLooks {S = S} (next_class c o)
   unfolding next_class
-  only_next c (Some x) = only_ret (Err (Some x))
-  only_next c None = only_bind (look_row c 1) (λ b. Ret (Ok b)) (only_look c 1) (λ b. only_ret (Ok b))
+  only_next c (Some x) = only_ret S (Err (Some x))
+  only_next c None = only_bind (look_row c 1) (λ b. Ret (Ok b)) (only_look S c 1) (λ b. only_ret S (Ok b))
 
   only_heir : (key v : Value) → OnlyLooks {S = S} (heir_step key v)
   unfolding heir_step class_step
   only_heir key (Ref c) = only_bind (own_row c.0 2 key) (λ o. next_class c.0 o) (only_own c.0 2 key) (λ o. only_next c.0 o)
-  only_heir key Unset = only_ret (Err None)
-  only_heir key NoneValue = only_ret (Err None)
-  only_heir key (BoolValue b) = only_ret (Err None)
-  only_heir key (Int n) = only_ret (Err None)
-  only_heir key (Builtin b) = only_ret (Err None)
+  only_heir key Unset = only_ret S (Err None)
+  only_heir key NoneValue = only_ret S (Err None)
+  only_heir key (BoolValue b) = only_ret S (Err None)
+  only_heir key (Int n) = only_ret S (Err None)
+  only_heir key (Builtin b) = only_ret S (Err None)
 
   only_inherited : (key c : Value) → OnlyLooks {S = S} (inherited_row key c)
   unfolding inherited_row
@@ -152,16 +84,16 @@ module _ (S : Type 0) where
 
   only_bound : (x : Value) → OnlyLooks {S = S} (bound_row x)
   unfolding bound_row
-  only_bound (Ref f) = only_bind (kind_row f.0) (λ k. Ret (Some (bound_of (Ref f) k))) (only_kind f.0) (λ k. only_ret (Some (bound_of (Ref f) k)))
-  only_bound Unset = only_ret (Some (Plain Unset))
-  only_bound NoneValue = only_ret (Some (Plain NoneValue))
-  only_bound (BoolValue b) = only_ret (Some (Plain (BoolValue b)))
-  only_bound (Int n) = only_ret (Some (Plain (Int n)))
-  only_bound (Builtin b) = only_ret (Some (Plain (Builtin b)))
+  only_bound (Ref f) = only_bind (kind_row f.0) (λ k. Ret (Some (bound_of (Ref f) k))) (only_kind S f.0) (λ k. only_ret S (Some (bound_of (Ref f) k)))
+  only_bound Unset = only_ret S (Some (Plain Unset))
+  only_bound NoneValue = only_ret S (Some (Plain NoneValue))
+  only_bound (BoolValue b) = only_ret S (Some (Plain (BoolValue b)))
+  only_bound (Int n) = only_ret S (Some (Plain (Int n)))
+  only_bound (Builtin b) = only_ret S (Some (Plain (Builtin b)))
 
   only_if : (o : Option Value) → OnlyLooks {S = S} (if_found o)
   unfolding if_found
-  only_if None = only_ret None
+  only_if None = only_ret S None
   only_if (Some x) = only_bound x
 
   only_from : (key c : Value) → OnlyLooks {S = S} (from_class key c)
@@ -170,8 +102,8 @@ module _ (S : Type 0) where
 
   only_or_class : (a : ℕ) (key : Value) (o : Option Value) → OnlyLooks {S = S} (own_or_class a key o)
   unfolding own_or_class
-  only_or_class a key (Some x) = only_ret (Some (Plain x))
-  only_or_class a key None = only_bind (look_row a 0) (λ c. from_class key c) (only_look a 0) (λ c. only_from key c)
+  only_or_class a key (Some x) = only_ret S (Some (Plain x))
+  only_or_class a key None = only_bind (look_row a 0) (λ c. from_class key c) (only_look S a 0) (λ c. only_from key c)
 
   only_instance : (a : ℕ) (key : Value) → OnlyLooks {S = S} (instance_row a key)
   unfolding instance_row
@@ -179,25 +111,25 @@ module _ (S : Type 0) where
 
   only_class : (c key : Value) → OnlyLooks {S = S} (class_row c key)
   unfolding class_row
-  only_class c key = only_bind (inherited_row key c) (λ o. Ret (option_map Plain o)) (only_inherited key c) (λ o. only_ret (option_map Plain o))
+  only_class c key = only_bind (inherited_row key c) (λ o. Ret (option_map Plain o)) (only_inherited key c) (λ o. only_ret S (option_map Plain o))
 
   only_methods : (k : Kind) (name : ℕ) → OnlyLooks {S = S} (methods_row k name)
   unfolding methods_row
-  only_methods k name = only_bind (bytes_row name) (λ t. Ret (of_methods k t)) (only_bytes name) (λ t. only_ret (of_methods k t))
+  only_methods k name = only_bind (bytes_row name) (λ t. Ret (of_methods k t)) (only_bytes S name) (λ t. only_ret S (of_methods k t))
 
   only_error : (roots : ℕ) → OnlyLooks {S = S} (error_row roots)
   unfolding error_row
   only_error roots =
       let n = class_place (class_number (codes "thread.error")) in
-      only_bind (look_row roots n) (λ c. Ret (Some (Plain c))) (only_look roots n) (λ c. only_ret (Some (Plain c)))
+      only_bind (look_row roots n) (λ c. Ret (Some (Plain c))) (only_look S roots n) (λ c. only_ret S (Some (Plain c)))
 
   only_member : (roots b : ℕ) (t : List ℕ) (c : Bool) → OnlyLooks {S = S} (cond c (error_row roots) (Ret (option_map (λ n. Plain (Builtin n)) (member_of b t))))
   only_member roots b t true = only_error roots
-  only_member roots b t false = only_ret (option_map (λ n. Plain (Builtin n)) (member_of b t))
+  only_member roots b t false = only_ret S (option_map (λ n. Plain (Builtin n)) (member_of b t))
 
   only_builtin : (roots b name : ℕ) → OnlyLooks {S = S} (builtin_row roots b name)
   unfolding builtin_row member_row
-  only_builtin roots b name = only_bind (bytes_row name) (λ t. member_row roots b t) (only_bytes name) (λ t. only_member roots b t (is_error b t))
+  only_builtin roots b name = only_bind (bytes_row name) (λ t. member_row roots b t) (only_bytes S name) (λ t. only_member roots b t (is_error b t))
 
   only_by : (a : Addr) (name : ℕ) (k : Kind) → OnlyLooks {S = S} (found_by a name k)
   unfolding found_by
@@ -215,18 +147,18 @@ module _ (S : Type 0) where
   only_by a name Lock = only_methods Lock name
   only_by a name Thread = only_methods Thread name
 
-  only_find : (roots name : ℕ) (x : Value) → OnlyLooks {S = S} (find_attr_row roots x name)
+  pub only_find : (roots name : ℕ) (x : Value) → OnlyLooks {S = S} (find_attr_row roots x name)
   unfolding find_attr_row
-  only_find roots name (Ref a) = only_bind (kind_row a.0) (λ k. found_by a name k) (only_kind a.0) (λ k. only_by a name k)
+  only_find roots name (Ref a) = only_bind (kind_row a.0) (λ k. found_by a name k) (only_kind S a.0) (λ k. only_by a name k)
   only_find roots name (Builtin b) = only_builtin roots b name
-  only_find roots name Unset = only_ret None
-  only_find roots name NoneValue = only_ret None
-  only_find roots name (BoolValue b) = only_ret None
-  only_find roots name (Int n) = only_ret None
+  only_find roots name Unset = only_ret S None
+  only_find roots name NoneValue = only_ret S None
+  only_find roots name (BoolValue b) = only_ret S None
+  only_find roots name (Int n) = only_ret S None
 
   missing_steady : (A : Type 0) (name : ℕ) → Steady {S = S} {A = Got A} false (missing_row name)
   unfolding missing_row
-  missing_steady A name = only_steady (bind (bytes_row name) (λ t. Ret (Raise (attribute_fault t)))) (only_bind (bytes_row name) (λ t. Ret (Raise (attribute_fault t))) (only_bytes name) (λ t. only_ret (Raise (attribute_fault t))))
+  missing_steady A name = only_steady (bind (bytes_row name) (λ t. Ret (Raise (attribute_fault t)))) (only_bind (bytes_row name) (λ t. Ret (Raise (attribute_fault t))) (only_bytes S name) (λ t. only_ret S (Raise (attribute_fault t))))
 
   given_steady : (x : Value) (name : ℕ) (o : Option Found) → Steady {S = S} false (given_row x name o)
   unfolding given_row method_row Steady
@@ -234,46 +166,46 @@ module _ (S : Type 0) where
   given_steady x name (Some (Plain y)) = tt
   given_steady x name (Some (Bound f)) = (refl, λ a. tt)
 
-  attr_steady : (roots name : ℕ) (x : Value) → Steady {S = S} false (attr_row roots x name)
+  pub attr_steady : (roots name : ℕ) (x : Value) → Steady {S = S} false (attr_row roots x name)
   unfolding attr_row
   attr_steady roots name x = looks_steady (find_attr_row roots x name) (λ o. given_row x name o) (only_find roots name x) (λ o. given_steady x name o)
 
   -- ---- set and del
   only_at : (a i : ℕ) → OnlyLooks {S = S} (dict_at a i)
   unfolding dict_at
-  only_at a i = only_bind (look_row a i) (λ d. Ret (address_in d)) (only_look a i) (λ d. only_ret (address_in d))
+  only_at a i = only_bind (look_row a i) (λ d. Ret (address_in d)) (only_look S a i) (λ d. only_ret S (address_in d))
 
   only_dict_by : (a : ℕ) (k : Kind) → OnlyLooks {S = S} (dict_by a k)
   unfolding dict_by
   only_dict_by a Instance = only_at a 1
   only_dict_by a Class = only_at a 2
-  only_dict_by a Str = only_ret None
-  only_dict_by a Tuple = only_ret None
-  only_dict_by a ListKind = only_ret None
-  only_dict_by a Dict = only_ret None
-  only_dict_by a Cell = only_ret None
-  only_dict_by a Function = only_ret None
-  only_dict_by a Method = only_ret None
-  only_dict_by a Iter = only_ret None
-  only_dict_by a Range = only_ret None
-  only_dict_by a Lock = only_ret None
-  only_dict_by a Thread = only_ret None
+  only_dict_by a Str = only_ret S None
+  only_dict_by a Tuple = only_ret S None
+  only_dict_by a ListKind = only_ret S None
+  only_dict_by a Dict = only_ret S None
+  only_dict_by a Cell = only_ret S None
+  only_dict_by a Function = only_ret S None
+  only_dict_by a Method = only_ret S None
+  only_dict_by a Iter = only_ret S None
+  only_dict_by a Range = only_ret S None
+  only_dict_by a Lock = only_ret S None
+  only_dict_by a Thread = only_ret S None
 
   only_dict : (x : Value) → OnlyLooks {S = S} (dict_row x)
   unfolding dict_row
-  only_dict (Ref a) = only_bind (kind_row a.0) (λ k. dict_by a.0 k) (only_kind a.0) (λ k. only_dict_by a.0 k)
-  only_dict Unset = only_ret None
-  only_dict NoneValue = only_ret None
-  only_dict (BoolValue b) = only_ret None
-  only_dict (Int n) = only_ret None
-  only_dict (Builtin b) = only_ret None
+  only_dict (Ref a) = only_bind (kind_row a.0) (λ k. dict_by a.0 k) (only_kind S a.0) (λ k. only_dict_by a.0 k)
+  only_dict Unset = only_ret S None
+  only_dict NoneValue = only_ret S None
+  only_dict (BoolValue b) = only_ret S None
+  only_dict (Int n) = only_ret S None
+  only_dict (Builtin b) = only_ret S None
 
   set_in_steady : (name : ℕ) (y : Value) (o : Option Addr) → Steady {S = S} false (set_in name y o)
   unfolding set_in
   set_in_steady name y None = missing_steady (Unit {0}) name
   set_in_steady name y (Some d) = let s = dict_steady S in s.set d.0 (ref name) y
 
-  set_steady : (name : ℕ) (x y : Value) → Steady {S = S} false (set_attr_row x name y)
+  pub set_steady : (name : ℕ) (x y : Value) → Steady {S = S} false (set_attr_row x name y)
   unfolding set_attr_row
   set_steady name x y = looks_steady (dict_row x) (λ o. set_in name y o) (only_dict x) (λ o. set_in_steady name y o)
 
@@ -302,7 +234,7 @@ module _ (S : Type 0) where
   del_in_steady name None = missing_steady (Unit {0}) name
   del_in_steady name (Some d) = taken_steady name d.0
 
-  del_steady : (name : ℕ) (x : Value) → Steady {S = S} false (del_attr_row x name)
+  pub del_steady : (name : ℕ) (x : Value) → Steady {S = S} false (del_attr_row x name)
   unfolding del_attr_row
   del_steady name x = looks_steady (dict_row x) (λ o. del_in name o) (only_dict x) (λ o. del_in_steady name o)
 
@@ -323,22 +255,12 @@ module _ (S : Type 0) where
 
   numbered_steady : (roots n : ℕ) (w : With) → Steady {S = S} false (numbered_row roots n w)
   unfolding numbered_row
-  numbered_steady roots n w = looks_steady (look_row roots (class_place n)) (λ class. exception_row class w) (only_look roots (class_place n)) (λ class. exception_steady class w)
+  numbered_steady roots n w = looks_steady (look_row roots (class_place n)) (λ class. exception_row class w) (only_look S roots (class_place n)) (λ class. exception_steady class w)
 
   fault_by : (roots : ℕ) (e : Fault) (b : Bool) → Steady {S = S} false (cond b (numbered_row roots e.exc e.with) (numbered_row roots (class_number (codes "MemoryError")) Nothing))
   fault_by roots e true = numbered_steady roots e.exc e.with
   fault_by roots e false = numbered_steady roots (class_number (codes "MemoryError")) Nothing
 
-  fault_steady : (roots : ℕ) (e : Fault) → Steady {S = S} false (fault_row roots e)
+  pub fault_steady : (roots : ℕ) (e : Fault) → Steady {S = S} false (fault_row roots e)
   unfolding fault_row
   fault_steady roots e = fault_by roots e (is_tellable e.with)
-
-  pub class_steady : ClassSteady S
-  class_steady = record {
-    is_sub = λ c base. only_steady (is_sub_row c base) (only_walk (sub_step base) false (only_sub base) MOST_BASES (ref c));
-    find_attr = λ roots name x. only_steady (find_attr_row roots x name) (only_find roots name x);
-    attr = attr_steady;
-    set_attr = set_steady;
-    del_attr = del_steady;
-    make_fault = fault_steady;
-  }

@@ -10,9 +10,8 @@ use Rattle.py_data.specs.declared.record.Got.{Got}
 use Rattle.py_data.specs.declared.record.Got.TheVariants.{Is, Raise}
 use Rattle.py_data.specs.Heap.{value_at, new_rec}
 use Rattle.py_data.specs.Row.{Row, Ret, Do, Read, Find, Make, bind}
-use Rattle.py_data.specs.Looking.{look_row, bytes_row, walk_row}
+use Rattle.py_data.specs.Looking.{look_row, bytes_row, walk_row, kind_row}
 use Rattle.obj_dict.specs.Dict.{set_row, del_row}
-use Rattle.obj_nest.specs.Levels.{kind_row}
 use Rattle.obj_class.specs.declared.lookup.Found.{Found}
 use Rattle.obj_class.specs.declared.lookup.Found.TheVariants.{Plain, Bound}
 use Rattle.obj_class.specs.Bases.{ref, MOST_BASES}

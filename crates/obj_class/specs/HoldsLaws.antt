@@ -1,9 +1,10 @@
 -- Over each heap in order the operations on classes, attributes and exceptions hold; and no record is longer in their course
--- than before or at the end. States `docs/LANGUAGE.md`, "Classes and instances", "Attributes" and "Exceptions", and
--- `docs/HEAP.md`, "Rows that hold".
-use Rattle.std.specs.Prelude.{◌≡◌, ℕ, List, [], ◌∷◌, Option, Some, None, false}
+-- than before or at the end. States `docs/LANGUAGE.md`, "Classes and instances", "Attributes", "Exceptions" and "Texts of
+-- exceptions", and `docs/HEAP.md`, "Rows that hold".
+use Rattle.std.specs.Prelude.{◌≡◌, ℕ, pos, Bool, List, [], ◌∷◌, Option, Some, None, false}
 use Rattle.py_base.specs.declared.kind.Kind.TheVariants.{Str, Class, Method}
 use Rattle.py_data.specs.declared.value.Value.{Value}
+use Rattle.py_data.specs.declared.value.Value.TheVariants.{Int}
 use Rattle.py_data.specs.declared.record.Fault.{Fault}
 use Rattle.py_data.specs.declared.record.Got.{Got}
 use Rattle.py_data.specs.declared.record.Got.TheVariants.{Is, Raise}
@@ -14,14 +15,16 @@ use Rattle.py_data.specs.Holds.{Holds}
 use Rattle.py_data.specs.Looking.{Looks}
 use Rattle.py_data.specs.Order.{Rules, IsOrdered}
 use Rattle.py_data.specs.Shape.{RefTo}
-use Rattle.py_data.specs.Steady.{Steady}
+use Rattle.py_data.specs.Steady.{Steady, Calm}
 use Rattle.obj_class.specs.declared.lookup.Found.{Found}
 use Rattle.obj_class.specs.declared.lookup.Found.TheVariants.{Plain, Bound}
 use Rattle.obj_class.specs.Attributes.{attribute, attribute_fault, bytes_in}
 use Rattle.obj_class.specs.AttrRows.{find_attr_row, attr_row, set_attr_row, del_attr_row}
 use Rattle.obj_class.specs.Bases.{ref, MOST_BASES, is_below, is_sub_row}
 use Rattle.obj_class.specs.Exceptions.{IsRaised, fault_row}
+use Rattle.obj_class.specs.NewRoots.{roots_row}
 use Rattle.obj_class.specs.Roots.{IsRoots}
+use Rattle.obj_class.specs.Telling.{text_of, told_row}
 
 -- what `attr` answers of what was found: the value as it is, a new Method with the object, or AttributeError with the name
 abbrev pub IsGiven : Value → List ℕ → Option Found → Got Value → Heap → Type 0
@@ -47,6 +50,9 @@ pub record ClassHolds {S : Type 0} (rules : Rules) (stands : Heap → S → Type
   pub set_attr : (h : Heap) (name : ℕ) (x y : Value) → IsOrdered rules h → IsItem h x → RefTo h Str (ref name) → IsItem h y → Holds rules stands IsDone (set_attr_row x name y) h
   pub del_attr : (h : Heap) (name : ℕ) (x : Value) → IsOrdered rules h → IsItem h x → RefTo h Str (ref name) → Holds rules stands IsDone (del_attr_row x name) h
   pub make_fault : (h : Heap) (roots : ℕ) (e : Fault) → IsOrdered rules h → (r : IsRoots h roots) → IsFault h e → Holds rules stands (IsRaised r.list.values e) (fault_row roots e) h
+  -- where the client lets the count of threads be 1 in each Cell
+  pub make_roots : (h : Heap) → IsOrdered rules h → ((a : ℕ) → rules.cell a (Int (pos 1))) → Holds rules stands (λ a h1. IsRoots h1 a.0) (roots_row {S = S}) h
+  pub text : (h : Heap) (roots : ℕ) (x : Value) (quoted : Bool) → IsOrdered rules h → IsRoots h roots → IsItem h x → Looks {S = S} (λ z. z ≡ text_of h roots x quoted) (told_row roots x quoted) h
 
 pub record ClassSteady (S : Type 0) : Type 0 where
   pub is_sub : (c base : ℕ) → Steady {S = S} false (is_sub_row c base)
@@ -55,3 +61,6 @@ pub record ClassSteady (S : Type 0) : Type 0 where
   pub set_attr : (name : ℕ) (x y : Value) → Steady {S = S} false (set_attr_row x name y)
   pub del_attr : (name : ℕ) (x : Value) → Steady {S = S} false (del_attr_row x name)
   pub make_fault : (roots : ℕ) (e : Fault) → Steady {S = S} false (fault_row roots e)
+  -- these make nothing shorter
+  pub make_roots : Calm {S = S} roots_row
+  pub text : (roots : ℕ) (x : Value) (quoted : Bool) → Calm {S = S} (told_row roots x quoted)

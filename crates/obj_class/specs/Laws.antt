@@ -1,20 +1,26 @@
 -- What is below what, which attribute comes first, which classes are exception classes, and how attributes are set and deleted,
--- in the words in which `src/laws.rt` ensures them. States `docs/LANGUAGE.md`, "Classes and instances", "Attributes" and
+-- and how exceptions are written, in the words in which `src/laws.rt` ensures them. States `docs/LANGUAGE.md`, "Classes and instances", "Attributes" and
 -- "Exceptions".
-use Rattle.std.specs.Prelude.{◌≡◌, ℕ, suc, ◌<◌, ◌≤◌, true, codes, List, Some, None, option_map}
+use Rattle.std.specs.Prelude.{◌≡◌, ◌≢◌, ℕ, suc, ◌<◌, ◌≤◌, ◌==◌, true, false, codes, List, [], Some, None, option_map}
 use Rattle.py_base.specs.declared.kind.Kind.TheVariants.{Class, Instance}
-use Rattle.py_base.specs.Numbers.{class_count}
+use Rattle.py_base.specs.Numbers.{class_count, class_number}
 use Rattle.py_data.specs.declared.value.Value.{Value}
 use Rattle.py_data.specs.declared.value.Addr.{Addr}
 use Rattle.py_data.specs.declared.record.Got.{Got}
 use Rattle.py_data.specs.declared.record.Got.TheVariants.{Is, Raise}
+use Rattle.py_data.specs.declared.record.With.{With}
+use Rattle.py_data.specs.declared.record.With.TheVariants.{Nothing, Text, Held}
 use Rattle.py_data.specs.Closed.{BasesEnd, IsItem}
 use Rattle.py_data.specs.Heap.{Heap, Rec, value_at}
 use Rattle.py_data.specs.Order.{Extends}
 use Rattle.py_data.specs.Sense.{Sense, Run}
+use Rattle.py_data.specs.Texts.{repr, str}
+use Rattle.obj_nest.specs.Text.{spelling}
 use Rattle.obj_dict.specs.Dict.{set_row, del_row}
 use Rattle.obj_class.specs.declared.lookup.Found.TheVariants.{Plain}
 use Rattle.obj_class.specs.Bases.{ref, MOST_BASES, IsBelow, is_below}
+use Rattle.obj_class.specs.Exceptions.{IsException}
+use Rattle.obj_class.specs.Telling.{text_of, told_within}
 use Rattle.obj_class.specs.Roots.{IsExceptionClass, IsRoots, class_place, root_class}
 use Rattle.obj_class.specs.Attributes.{attribute, attribute_fault, bound, bytes_in, inherited, kept, own_dict, IsNearest}
 use Rattle.obj_class.specs.AttrRows.{set_attr_row, del_attr_row}
@@ -66,3 +72,26 @@ pub record OwnLaw {S X : Type 0} (u : Sense S X) : Type 0 where
   -- of any other value it raises AttributeError, and leaves all records
   pub set_none : (x y : Value) (name : ℕ) (v w : X) (res : Got (Unit {0})) → IsItem (u.heap v) x → own_dict (u.heap v) x ≡ None → Run u (set_attr_row x name y) v res w → (res ≡ Raise (attribute_fault (bytes_in (u.heap v name)))) × (u.heap w ≡ u.heap v)
   pub del_none : (x : Value) (name : ℕ) (v w : X) (res : Got (Unit {0})) → IsItem (u.heap v) x → own_dict (u.heap v) x ≡ None → Run u (del_attr_row x name) v res w → (res ≡ Raise (attribute_fault (bytes_in (u.heap v name)))) × (u.heap w ≡ u.heap v)
+
+-- ---- texts of exceptions
+
+-- what an operation has raised is told by: nothing, the bytes of its text, or the value in hand, which KeyError alone tells in
+-- quotes; the value has the levels that the exception leaves
+abbrev pub text_of_told : Heap → List Value → ℕ → With → Got (List ℕ)
+text_of_told h vs n Nothing = Is []
+text_of_told h vs n (Text t) = Is t
+text_of_told h vs n (Held x) = told_within h vs 99 (n == class_number (codes "KeyError")) x
+
+-- a text is for another class than KeyError
+abbrev pub IsTold : ℕ → With → Type 0
+IsTold n (Text t) = n ≢ class_number (codes "KeyError")
+IsTold n w = Unit {0}
+
+pub record TellingLaw : Type 0 where
+  -- within others each value is written as `repr` writes it
+  pub quoted : (h : Heap) (roots : ℕ) (x : Value) → text_of h roots x true ≡ repr spelling h x
+  -- by itself what is no instance of an exception class is written as `str` writes it
+  pub other : (h : Heap) (roots a : ℕ) (r : Rec) → (i : IsRoots h roots) → h a ≡ Some r → (r.kind ≡ Instance → IsExceptionClass h i.list.values (value_at r.values 0) → ⊥) → text_of h roots (ref a) false ≡ str spelling h (ref a)
+  pub plain : (h : Heap) (roots : ℕ) (x : Value) → ((a : ℕ) → x ≡ ref a → ⊥) → text_of h roots x false ≡ str spelling h x
+  -- and what an operation has raised is written as it was told
+  pub raised : (h : Heap) (roots n : ℕ) (w : With) (x : Value) → (i : IsRoots h roots) → 0 < n → n < class_count → IsTold n w → IsException h (value_at i.list.values (class_place n)) w x → text_of h roots x false ≡ text_of_told h i.list.values n w

@@ -4,6 +4,9 @@ pub mod Named
 pub mod Attributes
 pub mod AttrRows
 pub mod Exceptions
+pub mod NewRoots
+pub mod Telling
 pub mod Laws
 pub mod HoldsLaws
 pub mod Worked
+pub mod WorkedTexts

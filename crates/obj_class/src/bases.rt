@@ -2,8 +2,7 @@
 ghost use Rattle.py_data.specs.Sense.{Meets, Safe, IsLive};
 ghost use Rattle.obj_class.specs.Bases.{base_step, is_sub_row, sub_step};
 
-use obj_nest::look;
-use py_data::{Addr, Stop, Value, View};
+use py_data::{Addr, Stop, Value, View, look};
 
 /// As many turns as there are addresses: no way along bases is longer.
 pub const MOST_BASES: u64 = 4_294_967_296;

@@ -7,10 +7,9 @@ ghost use Rattle.py_data.specs.Made.{rec_of};
 ghost use Rattle.py_data.specs.Sense.{Meets, Safe, IsLive};
 ghost use Rattle.obj_class.specs.Exceptions.{args_row, dict_of_args, exception_row, fault_row, is_tellable, keyed_row, made_row, numbered_row, told_row};
 
-use obj_nest::look;
 use py_data::exception::MEMORY_ERROR;
 use py_data::{
-    Addr, Bytes, Fault, Kind, LENGTH_LIMIT, NoMemory, Record, Stop, Value, Values, View, With,
+    Addr, Bytes, Fault, Kind, LENGTH_LIMIT, NoMemory, Record, Stop, Value, Values, View, With, look,
 };
 use std::alloc::Global;
 
@@ -57,7 +56,7 @@ fn make_pair<S, V: View<S>>(
 
 /// Makes a string.
 #[tactic(auto, using(py_data::proofs::Rows::row_steps), unfolding(crate::specs::Exceptions::made_row))]
-fn make_text<S, V: View<S>>(alloc: Global, v: &mut V, text: &[u8]) -> Result<Value, Stop>
+pub fn make_text<S, V: View<S>>(alloc: Global, v: &mut V, text: &[u8]) -> Result<Value, Stop>
     requires live { IsLive V.sense v.old }
     requires safe { Safe V.sense.partial (made_row {S = S} (new_rec Str [] text.now)) (V.sense.heap v.old) }
     ensures { Meets V.sense (made_row (new_rec Str [] text.now)) v.old v.new result }
@@ -120,7 +119,7 @@ fn with_args<S, V: View<S>>(
 }
 
 /// The one value as a list.
-fn alone(alloc: Global, x: Value) -> Result<Values, NoMemory>
+pub fn alone(alloc: Global, x: Value) -> Result<Values, NoMemory>
     ensures { IfOk result (λ vs. vs ≡ x ∷ []) }
 {
     let mut values = Values::new(alloc);

@@ -3,8 +3,7 @@ ghost use Rattle.py_data.specs.Sense.{Meets, Safe, IsLive};
 ghost use Rattle.obj_class.specs.AttrRows.{class_step, heir_step, held_row, inherited_row, kept_row, next_class, own_row};
 
 use crate::bases::MOST_BASES;
-use obj_nest::look;
-use py_data::{Addr, Stop, Value, View};
+use py_data::{Addr, Stop, Value, View, look};
 
 /// What a dictionary has for a key that is a string.
 #[tactic(auto, using(py_data::proofs::Rows::row_steps), unfolding(crate::specs::AttrRows::held_row, crate::specs::AttrRows::pair_row))]

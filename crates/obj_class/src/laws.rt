@@ -1,7 +1,7 @@
 //! What the operations on classes, attributes and exceptions do, as laws: a call of such a function does nothing, and gives its
 //! caller's proof the facts of its clauses.
 ghost use Rattle.obj_class.specs.HoldsLaws.{ClassHolds, ClassSteady};
-ghost use Rattle.obj_class.specs.Laws.{AttributeLaw, BelowLaw, ExceptionsLaw, OwnLaw, RootsStay};
+ghost use Rattle.obj_class.specs.Laws.{AttributeLaw, BelowLaw, ExceptionsLaw, OwnLaw, RootsStay, TellingLaw};
 
 use py_data::{Demands, View};
 
@@ -18,6 +18,12 @@ pub fn attribute_law()
 /// To set or delete an attribute is an operation on the dictionary of the instance or the class itself.
 pub fn own_law<S, V: View<S>>()
     ensures { OwnLaw V.sense }
+{}
+
+/// Within others values are written as `repr` writes them, and by themselves as `str` does, but for exceptions: what an operation
+/// has raised is written as it was told.
+pub fn telling_law()
+    ensures { TellingLaw }
 {}
 
 /// A list of roots stays one; and of its classes all but `object` are exception classes.

@@ -9,10 +9,9 @@ ghost use Rattle.obj_class.specs.Named.{member_of};
 
 use crate::inherited::{inherited, own};
 use crate::named::{is_error, member_of, method_of};
-use obj_nest::{kind, look};
 use obj_str::bytes_of;
 use py_data::exception::THREAD_ERROR;
-use py_data::{Addr, Kind, Stop, Value, View};
+use py_data::{Addr, Kind, Stop, Value, View, kind, look};
 use std::alloc::Global;
 
 /// What an attribute is: a value as it is, or a function or builtin that is to be called with the object in front.

@@ -6,8 +6,7 @@ ghost use Rattle.obj_class.specs.Attributes.{address_in};
 ghost use Rattle.obj_class.specs.AttrRows.{del_attr_row, del_in, dict_at, dict_by, dict_row, gone_row, set_attr_row, set_in, taken_row};
 
 use crate::attributes::missing;
-use obj_nest::{kind, look};
-use py_data::{Addr, Got, Kind, Stop, Value, View};
+use py_data::{Addr, Got, Kind, Stop, Value, View, kind, look};
 use std::alloc::Global;
 
 /// The address in a value, if it is one.

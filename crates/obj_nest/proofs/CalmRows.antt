@@ -1,5 +1,5 @@
 -- The rows of nested values make nothing shorter.
-use Rattle.std.proofs.Common.{ℕ, zero, suc, ◌+◌, ◌*◌, ◌/◌, ◌==◌, Bool, true, false, cond, ◌&&◌, min, List, [], ◌++◌, Option, Some, None}
+use Rattle.std.proofs.Common.{ℕ, zero, suc, ◌+◌, ◌*◌, ◌/◌, ◌==◌, Bool, true, false, ◌&&◌, min, List, [], ◌++◌, Option, Some, None}
 use Rattle.std.specs.Prelude.{IfSome, codes}
 use Rattle.std.specs.declared.cmp.Ordering.{Ordering}
 use Rattle.py_base.specs.declared.kind.Kind.{Kind}
@@ -10,30 +10,26 @@ use Rattle.py_data.specs.declared.record.Got.{Got}
 use Rattle.py_data.specs.declared.record.Got.TheVariants.{Is, Raise}
 use Rattle.py_data.specs.Comparing.{DEPTH_LIMIT, is_same}
 use Rattle.py_data.specs.Shape.{same_bytes}
-use Rattle.py_data.specs.Row.{Row, Ret, bind}
-use Rattle.py_data.specs.Looking.{until_row, each_row, got_row, size_row, look_row, bytes_row}
+use Rattle.py_data.specs.Row.{Row, Ret}
+use Rattle.py_data.specs.Looking.{until_row, each_row, got_row, size_row, look_row, bytes_row, kind_row}
 use Rattle.py_data.specs.Steady.{Calm}
-use Rattle.py_data.proofs.CalmRows.{ret_calm, read_calm, find_calm, cond_calm, bind_calm, got_calm, until_calm, each_calm, size_calm, look_calm, bytes_calm}
+use Rattle.py_data.proofs.CalmRows.{ret_calm, read_calm, find_calm, cond_calm, bind_calm, got_calm, until_calm, each_calm, size_calm, look_calm, bytes_calm, kind_calm}
 use Rattle.obj_nest.specs.declared.pairing.Pairing.{Pairing}
 use Rattle.obj_nest.specs.declared.pairing.Pairing.TheVariants.{Texts, Items, Pairs, Methods, Others}
-use Rattle.obj_nest.specs.Levels.{kind_row, below, level_row, pairing_of, kinds_with, kinds_row}
+use Rattle.obj_nest.specs.Levels.{below, level_row, pairing_of, kinds_with, kinds_row}
 use Rattle.obj_nest.specs.Equal.{Compares, is_equal, texts_with, texts_row, item_with, item_row, sized_row, items_from, items_row, found_row, sought_row, pair_with, pair_row, paired_row, pairs_from, pairs_row, owner_with, owners_row, methods_with, methods_row, by_pairing, records_row, equal_under, equal_row}
-use Rattle.obj_nest.specs.Ordering.{Orders, bytes_with, strings_row, Parts, deciding, unequal_row, decided_row, turn_with, turn_row, is_open, by_lengths, shared_row, listed_from, listed_row, ordered_by, ranked_row, order_under, parts_below, order_row}
+use Rattle.obj_nest.specs.Ordering.{bytes_with, strings_row, Parts, deciding, unequal_row, decided_row, turn_with, turn_row, is_open, by_lengths, shared_row, listed_from, listed_row, ordered_by, ranked_row, order_under, parts_below, order_row}
 use Rattle.obj_nest.specs.Truth.{bytes_filled, values_filled, step_with, stop_with, range_filled, filled_by, filled_row, truth_row}
 use Rattle.obj_nest.specs.Text.{Writes, spaced, part_row, mapped_row, keyed_row, couple_row, closed_row, parts_row, list_row, tuple_close, tuple_row, dict_row, string_row, name_row, name_by, named_row, between_row, quoted_row, other_text, kind_text, record_row, write_under, repr_row, alone_by, alone_at, alone_row, text_row}
 use Rattle.obj_nest.specs.Laws.{NestCalm}
 
 module _ (S : Type 0) where
   -- ---- kinds and levels
-  kind_calm : (a : ℕ) → Calm {S = S} (kind_row a)
-  unfolding kind_row
-  kind_calm a = read_calm S a (λ r. Ret r.kind) (λ r. ret_calm S _)
-
   kinds_calm : (a b : ℕ) → Calm {S = S} (kinds_row a b)
   unfolding kinds_row kinds_with
   kinds_calm a b =
-      bind_calm S (kind_row a) (λ k. kinds_with b k) (kind_calm a)
-      (λ k. bind_calm S (kind_row b) (λ l. Ret (pairing_of k l)) (kind_calm b) (λ l. ret_calm S _))
+      bind_calm S (kind_row a) (λ k. kinds_with b k) (kind_calm S a)
+      (λ k. bind_calm S (kind_row b) (λ l. Ret (pairing_of k l)) (kind_calm S b) (λ l. ret_calm S _))
 
   level_calm : {A U : Type 0} (P : U → Type 0) (o : Option U) (f : U → Row S (Got A)) → IfSome o P → ((u : U) → P u → Calm (f u)) → Calm (level_row o f)
   unfolding level_row
@@ -215,7 +211,7 @@ module _ (S : Type 0) where
 
   pub truth_calm : (x : Value) → Calm {S = S} (truth_row x)
   unfolding truth_row filled_row
-  truth_calm (Ref a) = bind_calm S (kind_row a.0) (λ k. filled_by a.0 k) (kind_calm a.0) (filled_calm a.0)
+  truth_calm (Ref a) = bind_calm S (kind_row a.0) (λ k. filled_by a.0 k) (kind_calm S a.0) (filled_calm a.0)
   truth_calm Unset = ret_calm S _
   truth_calm NoneValue = ret_calm S _
   truth_calm (BoolValue b) = ret_calm S _
@@ -329,7 +325,7 @@ module _ (S : Type 0) where
 
   write_calm : (o : Option (Writes S)) → IfSome o WritesCalm → WritesCalm (write_under o)
   unfolding write_under record_row
-  write_calm o i out (Ref a) = bind_calm S (kind_row a.0) (λ k. kind_text o a.0 out k) (kind_calm a.0) (kind_text_calm o i a.0 out)
+  write_calm o i out (Ref a) = bind_calm S (kind_row a.0) (λ k. kind_text o a.0 out k) (kind_calm S a.0) (kind_text_calm o i a.0 out)
   write_calm o i out Unset = ret_calm S _
   write_calm o i out NoneValue = ret_calm S _
   write_calm o i out (BoolValue b) = ret_calm S _
@@ -341,39 +337,39 @@ module _ (S : Type 0) where
   writes_calm zero = tt
   writes_calm (suc d) = write_calm (below write_under d) (writes_calm d)
 
-  repr_calm : (x : Value) → Calm {S = S} (repr_row x)
+  repr_calm : (d : ℕ) (x : Value) → Calm {S = S} (repr_row d x)
   unfolding repr_row
-  repr_calm x = write_calm (below write_under DEPTH_LIMIT) (writes_calm DEPTH_LIMIT) [] x
+  repr_calm d x = write_calm (below write_under d) (writes_calm d) [] x
 
-  alone_by_calm : (a : ℕ) (k : Kind) → Calm {S = S} (alone_by a k)
+  alone_by_calm : (d a : ℕ) (k : Kind) → Calm {S = S} (alone_by d a k)
   unfolding alone_by
-  alone_by_calm a Str = bind_calm S (bytes_row a) (λ b. Ret (Is b)) (bytes_calm S a) (λ b. ret_calm S _)
-  alone_by_calm a Tuple = repr_calm _
-  alone_by_calm a ListKind = repr_calm _
-  alone_by_calm a Dict = repr_calm _
-  alone_by_calm a Cell = repr_calm _
-  alone_by_calm a Function = repr_calm _
-  alone_by_calm a Class = repr_calm _
-  alone_by_calm a Instance = repr_calm _
-  alone_by_calm a Method = repr_calm _
-  alone_by_calm a Iter = repr_calm _
-  alone_by_calm a Range = repr_calm _
-  alone_by_calm a Lock = repr_calm _
-  alone_by_calm a Thread = repr_calm _
+  alone_by_calm d a Str = bind_calm S (bytes_row a) (λ b. Ret (Is b)) (bytes_calm S a) (λ b. ret_calm S _)
+  alone_by_calm d a Tuple = repr_calm d _
+  alone_by_calm d a ListKind = repr_calm d _
+  alone_by_calm d a Dict = repr_calm d _
+  alone_by_calm d a Cell = repr_calm d _
+  alone_by_calm d a Function = repr_calm d _
+  alone_by_calm d a Class = repr_calm d _
+  alone_by_calm d a Instance = repr_calm d _
+  alone_by_calm d a Method = repr_calm d _
+  alone_by_calm d a Iter = repr_calm d _
+  alone_by_calm d a Range = repr_calm d _
+  alone_by_calm d a Lock = repr_calm d _
+  alone_by_calm d a Thread = repr_calm d _
 
-  alone_calm : (x : Value) → Calm {S = S} (alone_row x)
+  alone_calm : (d : ℕ) (x : Value) → Calm {S = S} (alone_row d x)
   unfolding alone_row alone_at
-  alone_calm (Ref a) = bind_calm S (kind_row a.0) (λ k. alone_by a.0 k) (kind_calm a.0) (alone_by_calm a.0)
-  alone_calm Unset = repr_calm _
-  alone_calm NoneValue = repr_calm _
-  alone_calm (BoolValue b) = repr_calm _
-  alone_calm (Int i) = repr_calm _
-  alone_calm (Builtin b) = repr_calm _
+  alone_calm d (Ref a) = bind_calm S (kind_row a.0) (λ k. alone_by d a.0 k) (kind_calm S a.0) (alone_by_calm d a.0)
+  alone_calm d Unset = repr_calm d _
+  alone_calm d NoneValue = repr_calm d _
+  alone_calm d (BoolValue b) = repr_calm d _
+  alone_calm d (Int i) = repr_calm d _
+  alone_calm d (Builtin b) = repr_calm d _
 
-  pub text_calm : (roots : ℕ) (x : Value) (quoted : Bool) → Calm {S = S} (text_row roots x quoted)
+  pub text_calm : (d : ℕ) (x : Value) (quoted : Bool) → Calm {S = S} (text_row d x quoted)
   unfolding text_row
-  text_calm roots x true = repr_calm x
-  text_calm roots x false = alone_calm x
+  text_calm d x true = repr_calm d x
+  text_calm d x false = alone_calm d x
 
   pub nest_calm : NestCalm S
   nest_calm = record { equal = equal_calm; order = order_calm; truth = truth_calm; text = text_calm }

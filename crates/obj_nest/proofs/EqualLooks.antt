@@ -19,11 +19,11 @@ use Rattle.py_data.specs.Order.{Rules, IsOrdered}
 use Rattle.py_data.specs.Looking.{Looks, size_row, look_row, bytes_row, until_row}
 use Rattle.py_data.proofs.HoldingCalls.{pairs_of}
 use Rattle.py_data.proofs.Steps.{at-is}
-use Rattle.py_data.proofs.Looking.{looks_ret, looks_find, looks_then, looks_weaken, size_looks, look_looks, bytes_looks}
+use Rattle.py_data.proofs.Looking.{looks_ret, looks_find, looks_then, looks_weaken, size_looks, look_looks, bytes_looks, some_of}
 use Rattle.obj_nest.specs.Levels.{below, level_row, pairing_of, kinds_row}
 use Rattle.obj_nest.specs.Equal.{Compares, is_equal, texts_row, texts_with, item_row, item_with, sized_row, items_row, items_from, found_row, sought_row, pair_row, pair_with, paired_row, pairs_row, pairs_from, methods_row, methods_with, owners_row, owner_with, by_pairing, records_row, equal_under, equal_levels}
 use Rattle.obj_nest.proofs.Dropped.{drop_here, there_at, half_more}
-use Rattle.obj_nest.proofs.KindLooks.{some_of, kinds_looks}
+use Rattle.obj_nest.proofs.KindLooks.{kinds_looks}
 
 module _ (S : Type 0) (rules : Rules) (h : Heap) (order : IsOrdered rules h) where
   abbrev There : Value → Type 0

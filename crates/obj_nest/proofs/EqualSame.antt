@@ -21,9 +21,9 @@ use Rattle.py_data.specs.Order.{Rules, IsOrdered}
 use Rattle.py_data.proofs.EveryLemmas.{every_weaken}
 use Rattle.py_data.proofs.ItemLemmas.{fit_items, item_at}
 use Rattle.py_data.proofs.Steps.{at-is}
+use Rattle.py_data.proofs.Looking.{some_of}
 use Rattle.obj_nest.specs.Laws.{EqualLaw}
 use Rattle.obj_nest.proofs.KeyLemmas.{key_same, key_trans, key_turned}
-use Rattle.obj_nest.proofs.KindLooks.{some_of}
 use Rattle.obj_nest.proofs.PairMatches.{Fine, same_lengths, one_length, pairs_matched, matched_pairs, matched_turned, matched_joined, pairs_fine, items_fine, items_turned, items_joined}
 use Rattle.obj_nest.proofs.PairSearch.{Apart, are_apart}
 

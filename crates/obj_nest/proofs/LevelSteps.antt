@@ -14,11 +14,11 @@ use Rattle.obj_nest.specs.Ordering.{Parts, parts_below, parts_at}
 
 -- where a level is left, and where none is
 module _ {S A U : Type 0} (g : U → Row S (Got A)) (o : Option U) where
-  some_level : (u : U) → o ≡ Some u → level_row o g ≡ g u
+  pub some_level : (u : U) → o ≡ Some u → level_row o g ≡ g u
   unfolding level_row
   some_level u e = ap (λ o. level_row o g) e
 
-  no_level : {X : Type 0} (s : Sense S X) → o ≡ None → (v : X) (res : Result (Got A) Stop) → MatchResult res (λ g. g ≡ Raise depth_fault) (λ e. e ≡ OutOfMemory) → Meets s (level_row o g) v v res
+  pub no_level : {X : Type 0} (s : Sense S X) → o ≡ None → (v : X) (res : Result (Got A) Stop) → MatchResult res (λ g. g ≡ Raise depth_fault) (λ e. e ≡ OutOfMemory) → Meets s (level_row o g) v v res
   unfolding level_row
   no_level s e v res m = subst (λ o. Meets s (level_row o g) v v res) (sym e) (meets-answer s (Raise depth_fault) v res m)
 

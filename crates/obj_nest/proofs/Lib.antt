@@ -1,4 +1,3 @@
-pub mod Looked
 pub mod LevelSteps
 pub mod EqualSteps
 pub mod Filled

@@ -11,7 +11,7 @@ use Rattle.py_data.specs.Looking.{Looks}
 use Rattle.obj_nest.specs.Equal.{equal_row}
 use Rattle.obj_nest.specs.Ordering.{order_row}
 use Rattle.obj_nest.specs.Truth.{truth_row}
-use Rattle.obj_nest.specs.Text.{text_of, text_row}
+use Rattle.obj_nest.specs.Text.{text_within, text_row}
 use Rattle.obj_nest.specs.Laws.{NestLooks}
 use Rattle.obj_nest.proofs.EqualLooks.{equal_at_looks}
 use Rattle.obj_nest.proofs.OrderLooks.{order_at_looks}
@@ -30,15 +30,15 @@ module _ (S : Type 0) (rules : Rules) (h : Heap) where
   pub truth_looks : (x : Value) → IsOrdered rules h → IsItem h x → Looks {S = S} (λ z. z ≡ truth h x) (truth_row x) h
   truth_looks x ordered i = truth_at_looks S rules h ordered x i.0
 
-  pub text_looks : (roots : ℕ) (x : Value) (quoted : Bool) → IsOrdered rules h → IsItem h x → Looks {S = S} (λ z. z ≡ text_of h x quoted) (text_row roots x quoted) h
+  pub text_looks : (d : ℕ) (x : Value) (quoted : Bool) → IsOrdered rules h → IsItem h x → Looks {S = S} (λ z. z ≡ text_within h d x quoted) (text_row d x quoted) h
   unfolding text_row
-  text_looks roots x true ordered i = repr_looks S rules h ordered x i.0
-  text_looks roots x false ordered i = alone_looks S rules h ordered x i.0
+  text_looks d x true ordered i = repr_looks S rules h ordered d x i.0
+  text_looks d x false ordered i = alone_looks S rules h ordered d x i.0
 
 pub nest_looks : (S : Type 0) (rules : Rules) → NestLooks S rules
 nest_looks S rules = record {
   equal = λ h x y. equal_looks S rules h x y;
   order = λ h x y. order_looks S rules h x y;
   truth = λ h x. truth_looks S rules h x;
-  text = λ h roots x quoted. text_looks S rules h roots x quoted;
+  text = λ h d x quoted. text_looks S rules h d x quoted;
 }

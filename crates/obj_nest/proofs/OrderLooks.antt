@@ -20,11 +20,11 @@ use Rattle.py_data.specs.Row.{Ret}
 use Rattle.py_data.specs.Order.{Rules, IsOrdered}
 use Rattle.py_data.specs.Looking.{Looks, size_row, look_row, bytes_row, until_row, got_row}
 use Rattle.py_data.proofs.Steps.{at-is}
-use Rattle.py_data.proofs.Looking.{looks_ret, looks_then, looks_weaken, size_looks, look_looks, bytes_looks}
+use Rattle.py_data.proofs.Looking.{looks_ret, looks_then, looks_weaken, size_looks, look_looks, bytes_looks, some_of}
 use Rattle.obj_nest.specs.Levels.{level_row, pairing_of, kinds_row}
 use Rattle.obj_nest.specs.Ordering.{Parts, strings_row, bytes_with, deciding, unequal_row, decided_row, turn_with, turn_row, is_open, by_lengths, shared_row, listed_from, listed_row, ordered_by, ranked_row, order_under, parts_below, parts_at, order_levels}
 use Rattle.obj_nest.proofs.Dropped.{drop_here}
-use Rattle.obj_nest.proofs.KindLooks.{some_of, kinds_looks}
+use Rattle.obj_nest.proofs.KindLooks.{kinds_looks}
 use Rattle.obj_nest.proofs.EqualLooks.{equal_at_looks}
 
 -- what two items decide

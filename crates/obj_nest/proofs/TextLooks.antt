@@ -16,18 +16,17 @@ use Rattle.py_data.specs.Every.{Every}
 use Rattle.py_data.specs.Heap.{Rec, Heap, value_at}
 use Rattle.py_data.specs.Shape.{HasShape, RefTo, ArePairs}
 use Rattle.py_data.specs.Closed.{Refers}
-use Rattle.py_data.specs.Texts.{got_then, more_texts, item_texts, pair_text, more_pairs, pair_texts, between, tuple_end, in_level, bytes_of, name_of, method_name, record_text, repr_by, repr_within, repr, str_by, str}
+use Rattle.py_data.specs.Texts.{got_then, more_texts, item_texts, pair_text, more_pairs, pair_texts, between, tuple_end, in_level, bytes_of, name_of, method_name, record_text, repr_by, repr_within}
 use Rattle.py_data.specs.Texts as texts
 use Rattle.py_data.specs.Row.{Row, Ret}
 use Rattle.py_data.specs.Order.{Rules, IsOrdered}
-use Rattle.py_data.specs.Looking.{Looks, size_row, look_row, bytes_row, each_row, got_row}
+use Rattle.py_data.specs.Looking.{Looks, size_row, look_row, bytes_row, each_row, got_row, kind_row}
 use Rattle.py_data.proofs.HoldingCalls.{pairs_of}
-use Rattle.py_data.proofs.Looking.{looks_ret, looks_then, looks_weaken, size_looks, look_looks, bytes_looks}
+use Rattle.py_data.proofs.Looking.{looks_ret, looks_then, looks_weaken, size_looks, look_looks, bytes_looks, some_of, kind_looks}
 use Rattle.py_data.proofs.Steps.{at-is}
-use Rattle.obj_nest.specs.Levels.{below, level_row, kind_row}
-use Rattle.obj_nest.specs.Text.{Writes, spelling, leaf_text, spaced, part_row, mapped_row, keyed_row, couple_row, closed_row, parts_row, list_row, tuple_close, tuple_row, dict_row, string_row, name_row, name_by, named_row, between_row, quoted_row, plain_text, other_text, kind_text, record_row, write_under, write_levels, repr_row, alone_by, alone_at, alone_row}
+use Rattle.obj_nest.specs.Levels.{below, level_row}
+use Rattle.obj_nest.specs.Text.{Writes, spelling, alone_by_kind, alone_within, leaf_text, spaced, part_row, mapped_row, keyed_row, couple_row, closed_row, parts_row, list_row, tuple_close, tuple_row, dict_row, string_row, name_row, name_by, named_row, between_row, quoted_row, plain_text, other_text, kind_text, record_row, write_under, write_levels, repr_row, alone_by, alone_at, alone_row}
 use Rattle.obj_nest.proofs.Dropped.{drop_here, there_at, half_more}
-use Rattle.obj_nest.proofs.KindLooks.{some_of, kind_looks}
 
 -- behind a text
 abbrev Behind : List ℕ → Got (List ℕ) → Got (List ℕ)
@@ -308,29 +307,32 @@ module _ (S : Type 0) (rules : Rules) (h : Heap) (order : IsOrdered rules h) whe
   behind_none (Is t) = refl
   behind_none (Raise e) = refl
 
-  pub repr_looks : (x : Value) → Refers h x → Looks {S = S} (λ z. z ≡ repr spelling h x) (repr_row x) h
-  unfolding repr_row
-  repr_looks x i = looks_weaken (λ z. z ≡ Behind [] (repr spelling h x)) (λ z. z ≡ repr spelling h x) (λ z e. e ∙ behind_none (repr spelling h x)) (write_levels 100 [] x) h (write_at_looks 100 [] x i)
+  module _ (d : ℕ) where
+    pub repr_looks : (x : Value) → Refers h x → Looks {S = S} (λ z. z ≡ repr_within spelling h d x) (repr_row d x) h
+    unfolding repr_row
+    repr_looks x i =
+        looks_weaken (λ z. z ≡ Behind [] (repr_within spelling h d x)) (λ z. z ≡ repr_within spelling h d x) (λ z e. e ∙ behind_none (repr_within spelling h d x)) (write_levels d [] x) h (write_at_looks d [] x i)
 
-  module _ (a : ℕ) (r : Rec) (e : h a ≡ Some r) where
-    alone_by_looks : (k : Kind) → Looks {S = S} (λ z. z ≡ str_by spelling h (Ref (record { 0 = a })) k r) (alone_by a k) h
-    unfolding alone_by
-    alone_by_looks Str = looks_then (λ b. b ≡ r.bytes) (λ z. z ≡ Is r.bytes) (bytes_row a) (λ b. Ret (Is b)) h (bytes_looks S h a r e) (λ b eb. looks_ret S (λ z. z ≡ Is r.bytes) (Is b) h (ap Is eb))
-    alone_by_looks k = repr_looks (Ref (record { 0 = a })) (ap is_some e)
+    module _ (a : ℕ) (r : Rec) (e : h a ≡ Some r) where
+      alone_by_looks : (k : Kind) → Looks {S = S} (λ z. z ≡ alone_by_kind h d (Ref (record { 0 = a })) k r) (alone_by d a k) h
+      unfolding alone_by
+      alone_by_looks Str = looks_then (λ b. b ≡ r.bytes) (λ z. z ≡ Is r.bytes) (bytes_row a) (λ b. Ret (Is b)) h (bytes_looks S h a r e) (λ b eb. looks_ret S (λ z. z ≡ Is r.bytes) (Is b) h (ap Is eb))
+      alone_by_looks k = repr_looks (Ref (record { 0 = a })) (ap is_some e)
 
-    alone_at_looks : Looks {S = S} (λ z. z ≡ str spelling h (Ref (record { 0 = a }))) (alone_at a) h
-    unfolding alone_at
-    alone_at_looks =
-        let p = λ (z : Got (List ℕ)). z ≡ str spelling h (Ref (record { 0 = a })) in
-        let q = sym (ap (λ z. str_by spelling h (Ref (record { 0 = a })) z.kind z) (at-is h a r e)) in
-        looks_then (λ k. k ≡ r.kind) p (kind_row a) (λ k. alone_by a k) h (kind_looks S h a r e)
-        (λ k ek. subst (λ k. Looks {S = S} p (alone_by a k) h) (sym ek) (looks_weaken (λ z. z ≡ str_by spelling h (Ref (record { 0 = a })) r.kind r) p (λ z e. e ∙ q) (alone_by a r.kind) h (alone_by_looks r.kind)))
+      alone_at_looks : Looks {S = S} (λ z. z ≡ alone_within h d (Ref (record { 0 = a }))) (alone_at d a) h
+      unfolding alone_at
+      alone_at_looks =
+          let p = λ (z : Got (List ℕ)). z ≡ alone_within h d (Ref (record { 0 = a })) in
+          let q = sym (ap (λ z. alone_by_kind h d (Ref (record { 0 = a })) z.kind z) (at-is h a r e)) in
+          looks_then (λ k. k ≡ r.kind) p (kind_row a) (λ k. alone_by d a k) h (kind_looks S h a r e)
+          (λ k ek. subst (λ k. Looks {S = S} p (alone_by d a k) h) (sym ek)
+          (looks_weaken (λ z. z ≡ alone_by_kind h d (Ref (record { 0 = a })) r.kind r) p (λ z e. e ∙ q) (alone_by d a r.kind) h (alone_by_looks r.kind)))
 
-  pub alone_looks : (x : Value) → Refers h x → Looks {S = S} (λ z. z ≡ str spelling h x) (alone_row x) h
-  unfolding alone_row
-  alone_looks (Ref a) i = let r = some_of (h a.0) i in alone_at_looks a.0 r.0 r.1
-  alone_looks Unset i = repr_looks Unset i
-  alone_looks NoneValue i = repr_looks NoneValue i
-  alone_looks (BoolValue b) i = repr_looks (BoolValue b) i
-  alone_looks (Int n) i = repr_looks (Int n) i
-  alone_looks (Builtin n) i = repr_looks (Builtin n) i
+    pub alone_looks : (x : Value) → Refers h x → Looks {S = S} (λ z. z ≡ alone_within h d x) (alone_row d x) h
+    unfolding alone_row
+    alone_looks (Ref a) i = let r = some_of (h a.0) i in alone_at_looks a.0 r.0 r.1
+    alone_looks Unset i = repr_looks Unset i
+    alone_looks NoneValue i = repr_looks NoneValue i
+    alone_looks (BoolValue b) i = repr_looks (BoolValue b) i
+    alone_looks (Int n) i = repr_looks (Int n) i
+    alone_looks (Builtin n) i = repr_looks (Builtin n) i

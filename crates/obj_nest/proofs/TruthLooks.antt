@@ -10,15 +10,13 @@ use Rattle.py_data.specs.Closed.{Refers}
 use Rattle.py_data.specs.Range.{IsRange}
 use Rattle.py_data.specs.Row.{Ret}
 use Rattle.py_data.specs.Order.{Rules, IsOrdered}
-use Rattle.py_data.specs.Looking.{Looks, look_row}
+use Rattle.py_data.specs.Looking.{Looks, look_row, kind_row}
 use Rattle.py_data.specs.Truth.{truth, truth_by, has_item}
 use Rattle.py_data.proofs.Steps.{at-is}
-use Rattle.py_data.proofs.Looking.{looks_ret, looks_read, looks_then, looks_weaken, look_looks}
+use Rattle.py_data.proofs.Looking.{looks_ret, looks_read, looks_then, looks_weaken, look_looks, some_of, kind_looks}
 use Rattle.std.specs.Prelude.{nat_lt, length}
-use Rattle.obj_nest.specs.Levels.{kind_row}
 use Rattle.obj_nest.specs.Truth.{bytes_filled, values_filled, range_filled, stop_with, step_with, filled_by, filled_row, plain_truth, truth_row}
 use Rattle.obj_nest.proofs.Filled.{filled}
-use Rattle.obj_nest.proofs.KindLooks.{some_of, kind_looks}
 
 -- a range has three values
 three : (vs : List Value) → IsRange vs → value_at vs 0 ∷ value_at vs 1 ∷ value_at vs 2 ∷ [] ≡ vs

@@ -18,21 +18,21 @@ use Rattle.py_data.specs.Steady.{Calm}
 use Rattle.obj_nest.specs.Equal.{equal_row}
 use Rattle.obj_nest.specs.Ordering.{order_row}
 use Rattle.obj_nest.specs.Truth.{truth_row}
-use Rattle.obj_nest.specs.Text.{text_of, text_row}
+use Rattle.obj_nest.specs.Text.{text_within, text_row}
 
 -- over each heap in order the rows may be begun with any items, only look, and answer what the definitions say
 pub record NestLooks (S : Type 0) (rules : Rules) : Type 0 where
   pub equal : (h : Heap) (x y : Value) → IsOrdered rules h → IsItem h x → IsItem h y → Looks {S = S} (λ z. z ≡ equal h x y) (equal_row x y) h
   pub order : (h : Heap) (x y : Value) → IsOrdered rules h → IsItem h x → IsItem h y → Looks {S = S} (λ z. z ≡ order h x y) (order_row x y) h
   pub truth : (h : Heap) (x : Value) → IsOrdered rules h → IsItem h x → Looks {S = S} (λ z. z ≡ truth h x) (truth_row x) h
-  pub text : (h : Heap) (roots : ℕ) (x : Value) (quoted : Bool) → IsOrdered rules h → IsItem h x → Looks {S = S} (λ z. z ≡ text_of h x quoted) (text_row roots x quoted) h
+  pub text : (h : Heap) (d : ℕ) (x : Value) (quoted : Bool) → IsOrdered rules h → IsItem h x → Looks {S = S} (λ z. z ≡ text_within h d x quoted) (text_row d x quoted) h
 
 -- the rows make nothing shorter
 pub record NestCalm (S : Type 0) : Type 0 where
   pub equal : (x y : Value) → Calm {S = S} (equal_row x y)
   pub order : (x y : Value) → Calm {S = S} (order_row x y)
   pub truth : (x : Value) → Calm {S = S} (truth_row x)
-  pub text : (roots : ℕ) (x : Value) (quoted : Bool) → Calm {S = S} (text_row roots x quoted)
+  pub text : (d : ℕ) (x : Value) (quoted : Bool) → Calm {S = S} (text_row d x quoted)
 
 -- ---- equality is an equivalence
 

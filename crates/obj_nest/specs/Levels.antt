@@ -1,4 +1,4 @@
--- What the rows of equality, order, truth and texts share: looks, levels, and how two records are compared.
+-- What the rows of equality, order, truth and texts share: levels, and how two records are compared.
 -- States `docs/HEAP.md`, "Equality and order".
 use Rattle.std.specs.Prelude.{ℕ, zero, suc, Option, Some, None}
 use Rattle.py_base.specs.declared.kind.Kind.{Kind}
@@ -6,13 +6,10 @@ use Rattle.py_base.specs.declared.kind.Kind.TheVariants.{Str, Tuple, List as Lis
 use Rattle.py_data.specs.declared.record.Got.{Got}
 use Rattle.py_data.specs.declared.record.Got.TheVariants.{Raise}
 use Rattle.py_data.specs.Fault.{depth_fault}
-use Rattle.py_data.specs.Row.{Row, Ret, Do, Read, bind}
+use Rattle.py_data.specs.Row.{Row, Ret, bind}
+use Rattle.py_data.specs.Looking.{kind_row}
 use Rattle.obj_nest.specs.declared.pairing.Pairing.{Pairing}
 use Rattle.obj_nest.specs.declared.pairing.Pairing.TheVariants.{Texts, Items, Pairs, Methods, Others}
-
--- the kind of a record
-unfoldable pub kind_row : {S : Type 0} → ℕ → Row S Kind
-kind_row a = Do (Read a) (λ r. Ret r.kind)
 
 -- ---- levels
 

@@ -10,12 +10,11 @@ use Rattle.py_data.specs.declared.value.Value.TheVariants.{None as NoneValue, Bo
 use Rattle.py_base.specs.Numbers.{truth_text, builtin_names}
 use Rattle.py_data.specs.declared.record.Got.{Got}
 use Rattle.py_data.specs.declared.record.Got.TheVariants.{Is}
-use Rattle.py_data.specs.Comparing.{DEPTH_LIMIT}
-use Rattle.py_data.specs.Heap.{Heap}
-use Rattle.py_data.specs.Texts.{Spelling, repr, str}
+use Rattle.py_data.specs.Heap.{Rec, Heap, at}
+use Rattle.py_data.specs.Texts.{Spelling, repr_within}
 use Rattle.py_data.specs.Row.{Row, Ret, bind}
-use Rattle.py_data.specs.Looking.{size_row, look_row, bytes_row, each_row, got_row}
-use Rattle.obj_nest.specs.Levels.{below, level_row, kind_row}
+use Rattle.py_data.specs.Looking.{size_row, look_row, bytes_row, each_row, got_row, kind_row}
+use Rattle.obj_nest.specs.Levels.{below, level_row}
 
 -- the name of the builtin of this number, in the list of all; no other number is a value's
 abbrev pub builtin_text : ℕ → List ℕ
@@ -25,10 +24,20 @@ builtin_text b = unwrap_or (slice_get builtin_names b) []
 abbrev pub spelling : Spelling
 spelling = record { number = signed_decimal; quoted = repr_of; builtin = builtin_text }
 
--- the text of a value: as it stands within others, or by itself
-abbrev pub text_of : Heap → Value → Bool → Got (List ℕ)
-text_of h x true = repr spelling h x
-text_of h x false = str spelling h x
+-- the text of a record of a kind by itself, with so many levels left: a string is written as it is
+abbrev pub alone_by_kind : Heap → ℕ → Value → Kind → Rec → Got (List ℕ)
+alone_by_kind h d x Str r = Is r.bytes
+alone_by_kind h d x _ r = repr_within spelling h d x
+
+abbrev pub alone_within : Heap → ℕ → Value → Got (List ℕ)
+alone_within h d (Ref a) = alone_by_kind h d (Ref a) (at h a.0).kind (at h a.0)
+alone_within h d x = repr_within spelling h d x
+
+-- The text of a value, with so many levels left: as it stands within others, or by itself. An exception is written as any other
+-- instance is.
+abbrev pub text_within : Heap → ℕ → Value → Bool → Got (List ℕ)
+text_within h d x true = repr_within spelling h d x
+text_within h d x false = alone_within h d x
 
 -- what writes a value behind a text
 abbrev pub Writes : Type 0 → Type 0
@@ -148,23 +157,23 @@ abbrev pub write_levels : {S : Type 0} → ℕ → Writes S
 write_levels d = write_under (below write_under d)
 
 -- as it stands within others, behind no text
-unfoldable pub repr_row : {S : Type 0} → Value → Row S (Got (List ℕ))
-repr_row x = write_levels DEPTH_LIMIT [] x
+unfoldable pub repr_row : {S : Type 0} → ℕ → Value → Row S (Got (List ℕ))
+repr_row d x = write_levels d [] x
 
 -- by itself: a string is written as it is
-unfoldable pub alone_by : {S : Type 0} → ℕ → Kind → Row S (Got (List ℕ))
-alone_by a Str = bind (bytes_row a) (λ b. Ret (Is b))
-alone_by a _ = repr_row (Ref (record { 0 = a }))
+unfoldable pub alone_by : {S : Type 0} → ℕ → ℕ → Kind → Row S (Got (List ℕ))
+alone_by d a Str = bind (bytes_row a) (λ b. Ret (Is b))
+alone_by d a _ = repr_row d (Ref (record { 0 = a }))
 
-unfoldable pub alone_at : {S : Type 0} → ℕ → Row S (Got (List ℕ))
-alone_at a = bind (kind_row a) (λ k. alone_by a k)
+unfoldable pub alone_at : {S : Type 0} → ℕ → ℕ → Row S (Got (List ℕ))
+alone_at d a = bind (kind_row a) (λ k. alone_by d a k)
 
-unfoldable pub alone_row : {S : Type 0} → Value → Row S (Got (List ℕ))
-alone_row (Ref a) = alone_at a.0
-alone_row x = repr_row x
+unfoldable pub alone_row : {S : Type 0} → ℕ → Value → Row S (Got (List ℕ))
+alone_row d (Ref a) = alone_at d a.0
+alone_row d x = repr_row d x
 
--- The text of a value: as it stands within others (`quoted`), or by itself. At `roots` stands the list of the classes that
--- every program has; the text of no value asks it yet.
+-- The text of a value, with so many levels left: as it stands within others (`quoted`), or by itself. An exception is written
+-- as any other instance is.
 unfoldable pub text_row : {S : Type 0} → ℕ → Value → Bool → Row S (Got (List ℕ))
-text_row roots x true = repr_row x
-text_row roots x false = alone_row x
+text_row d x true = repr_row d x
+text_row d x false = alone_row d x

@@ -5,10 +5,9 @@ use Rattle.py_base.specs.declared.kind.Kind.{Kind}
 use Rattle.py_base.specs.declared.kind.Kind.TheVariants.{Str, Tuple, List as ListKind, Dict, Range}
 use Rattle.py_data.specs.declared.value.Value.{Value}
 use Rattle.py_data.specs.declared.value.Value.TheVariants.{Bool as BoolValue, Int, Ref, Builtin}
-use Rattle.py_data.specs.Looking.{look_row}
+use Rattle.py_data.specs.Looking.{look_row, kind_row}
 use Rattle.py_data.specs.Row.{Row, Ret, Do, Read, bind}
 use Rattle.py_data.specs.Truth.{has_item}
-use Rattle.obj_nest.specs.Levels.{kind_row}
 
 -- a string, a tuple, a list or a dictionary
 unfoldable pub bytes_filled : {S : Type 0} → ℕ → Row S Bool

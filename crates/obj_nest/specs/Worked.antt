@@ -2,6 +2,7 @@
 use Rattle.std.specs.Prelude.{◌≡◌, ℕ, pos, Bool, true, false, List, [], ◌∷◌, codes, slice_get, None, refl}
 use Rattle.std.specs.declared.cmp.Ordering.TheVariants.{Less}
 use Rattle.py_base.specs.Numbers.{builtin_number}
+use Rattle.py_base.specs.declared.kind.Kind.{Kind}
 use Rattle.py_base.specs.declared.kind.Kind.TheVariants.{Str, Tuple, List as ListKind, Dict}
 use Rattle.py_data.specs.declared.value.Value.{Value}
 use Rattle.py_data.specs.declared.value.Value.TheVariants.{None as NoneValue, Bool as BoolValue, Int, Ref, Builtin}
@@ -9,14 +10,15 @@ use Rattle.py_data.specs.declared.record.Got.{Got}
 use Rattle.py_data.specs.declared.record.Got.TheVariants.{Is, Raise}
 use Rattle.py_data.specs.Fault.{depth_fault, operand_fault}
 use Rattle.py_data.specs.Heap.{Heap, Rec, new_rec, at}
-use Rattle.py_data.specs.Texts.{repr_within}
+use Rattle.py_data.specs.Comparing.{DEPTH_LIMIT}
+use Rattle.py_data.specs.Texts.{repr_within, repr, str_by, str}
 use Rattle.py_data.specs.Row.{Row, Ret}
 use Rattle.obj_nest.specs.declared.pairing.Pairing.TheVariants.{Others, Items}
 use Rattle.obj_nest.specs.Levels.{below, level_row, pairing_of}
 use Rattle.obj_nest.specs.Equal.{Compares, equal_under, equal_row}
-use Rattle.obj_nest.specs.Ordering.{order_under, parts_below, order_row, by_lengths}
+use Rattle.obj_nest.specs.Ordering.{order_under, order_row, by_lengths}
 use Rattle.obj_nest.specs.Truth.{truth_row}
-use Rattle.obj_nest.specs.Text.{write_under, repr_row, alone_row, text_row, text_of, builtin_text, spaced, tuple_close}
+use Rattle.obj_nest.specs.Text.{write_under, repr_row, alone_row, text_row, spelling, alone_by_kind, text_within, builtin_text, spaced, tuple_close}
 
 abbrev to : ℕ → Value
 to a = Ref (record { 0 = a })
@@ -47,11 +49,11 @@ zero_is_false : truth_row {S = Unit {0}} (Int (pos 0)) ≡ Ret false
 unfolding truth_row
 zero_is_false = refl
 
-text_of_len : text_row {S = Unit {0}} 0 (Builtin (builtin_number (codes "len"))) true ≡ Ret (Is (codes "<built-in len>"))
+text_of_len : text_row {S = Unit {0}} 100 (Builtin (builtin_number (codes "len"))) true ≡ Ret (Is (codes "<built-in len>"))
 unfolding text_row repr_row write_under
 text_of_len = refl
 
-text_of_none : text_row {S = Unit {0}} 0 NoneValue false ≡ Ret (Is (codes "None"))
+text_of_none : text_row {S = Unit {0}} 100 NoneValue false ≡ Ret (Is (codes "None"))
 unfolding text_row alone_row repr_row write_under
 text_of_none = refl
 
@@ -92,22 +94,35 @@ records =
 abbrev heap : Heap
 heap a = slice_get records a
 
-list_text : text_of heap (to 1) false ≡ Is (codes "[None, \"it'\"]")
+list_text : text_within heap 100 (to 1) false ≡ Is (codes "[None, \"it'\"]")
 unfolding repr_within at
 list_text = refl
 
-tuple_text : text_of heap (to 2) true ≡ Is (codes "(None,)")
+tuple_text : text_within heap 100 (to 2) true ≡ Is (codes "(None,)")
 unfolding repr_within at
 tuple_text = refl
 
-dict_text : text_of heap (to 3) true ≡ Is (codes "{True: [None, \"it'\"]}")
+dict_text : text_within heap 100 (to 3) true ≡ Is (codes "{True: [None, \"it'\"]}")
 unfolding repr_within at
 dict_text = refl
 
-string_by_itself : text_of heap (to 0) false ≡ Is (codes "it'")
+string_by_itself : text_within heap 100 (to 0) false ≡ Is (codes "it'")
 unfolding at
 string_by_itself = refl
 
-string_quoted : text_of heap (to 0) true ≡ Is (codes "\"it'\"")
+string_quoted : text_within heap 100 (to 0) true ≡ Is (codes "\"it'\"")
 unfolding repr_within at
 string_quoted = refl
+
+-- ---- at a hundred levels the texts are those that `repr` and `str` are defined as
+
+quoted_is_repr : (h : Heap) (x : Value) → text_within h DEPTH_LIMIT x true ≡ repr spelling h x
+quoted_is_repr h x = refl
+
+by_kind_is_str : (h : Heap) (x : Value) (k : Kind) (r : Rec) → alone_by_kind h DEPTH_LIMIT x k r ≡ str_by spelling h x k r
+by_kind_is_str h x Str r = refl
+by_kind_is_str h x k r = refl
+
+plain_is_str : (h : Heap) (x : Value) → text_within h DEPTH_LIMIT x false ≡ str spelling h x
+plain_is_str h (Ref a) = by_kind_is_str h (Ref a) (at h a.0).kind (at h a.0)
+plain_is_str h x = refl

@@ -9,10 +9,9 @@ ghost use Rattle.obj_nest.specs.Equal.{by_pairing, equal_levels, equal_row, equa
 ghost use Rattle.obj_nest.specs.Levels.{below, level_row};
 
 use crate::levels::{LEVELS, too_deep};
-use crate::looking::{look, size};
 use crate::pairing::{Pairing, pairing_at};
 use obj_str::bytes_of;
-use py_data::{Addr, Got, Stop, Value, View};
+use py_data::{Addr, Got, Stop, Value, View, look, size};
 use std::alloc::Global;
 
 /// Whether values that aren't both references are equal.

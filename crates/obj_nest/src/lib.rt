@@ -4,7 +4,6 @@
 mod equality;
 mod laws;
 mod levels;
-mod looking;
 mod names;
 mod ordering;
 mod pairing;
@@ -14,8 +13,7 @@ mod truths;
 
 pub use equality::equal;
 pub use laws::{calm_law, equal_law, looks_law, order_law};
-pub use levels::LEVELS;
-pub use looking::{kind, look, size};
+pub use levels::{LEVELS, too_deep};
 pub use ordering::order;
 pub use texts::text;
 pub use truths::truth;

@@ -3,10 +3,9 @@ ghost use Rattle.std.specs.Prelude.{◌≡◌, ◌++◌, codes};
 ghost use Rattle.py_data.specs.Sense.{Meets, Safe, IsLive};
 ghost use Rattle.obj_nest.specs.Text.{between_row, name_by, name_row, named_row, other_text, quoted_row, string_row};
 
-use crate::looking::look;
 use crate::pieces::{builtin_text, enclosed, extended, with_plain};
 use obj_str::bytes_of;
-use py_data::{Addr, Bytes, Got, Kind, Stop, Value, View};
+use py_data::{Addr, Bytes, Got, Kind, Stop, Value, View, look};
 use py_text::repr_bytes;
 use std::alloc::Global;
 

@@ -10,11 +10,10 @@ ghost use Rattle.obj_nest.specs.Ordering.{by_lengths, bytes_with, decided_row, i
 
 use crate::equality::equal_at;
 use crate::levels::{LEVELS, too_deep};
-use crate::looking::{look, size};
 use crate::pairing::{Pairing, pairing_at};
 use obj_str::bytes_of;
 use py_data::exception::{TYPE_ERROR, raise};
-use py_data::{Addr, Got, Stop, Value, View};
+use py_data::{Addr, Got, Stop, Value, View, look, size};
 use std::alloc::Global;
 use std::cmp::Ordering;
 

@@ -3,8 +3,7 @@ ghost use Rattle.std.specs.Prelude.{◌≡◌};
 ghost use Rattle.py_data.specs.Sense.{Meets, Safe, IsLive};
 ghost use Rattle.obj_nest.specs.Levels.{pairing_of, kinds_with, kinds_row};
 
-use crate::looking::kind;
-use py_data::{Addr, Kind, Stop, View};
+use py_data::{Addr, Kind, Stop, View, kind};
 
 /// How two records are compared.
 #[derive(Clone, Copy, Debug, Drop, PartialEq, Eq)]

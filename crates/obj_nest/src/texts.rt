@@ -7,12 +7,11 @@ ghost use Rattle.py_data.specs.Sense.{Meets, Safe, IsLive};
 ghost use Rattle.obj_nest.specs.Levels.{below, level_row};
 ghost use Rattle.obj_nest.specs.Text.{alone_at, alone_by, alone_row, couple_row, dict_row, keyed_row, kind_text, leaf_text, list_row, mapped_row, part_row, parts_row, record_row, repr_row, spaced, text_row, tuple_close, tuple_row, write_levels, write_under};
 
-use crate::levels::{LEVELS, too_deep};
-use crate::looking::{kind, look, size};
+use crate::levels::too_deep;
 use crate::names::{other, quoted};
 use crate::pieces::{extended, separated, tuple_close, with_leaf};
 use obj_str::bytes_of;
-use py_data::{Addr, Bytes, Got, Kind, Stop, Value, View};
+use py_data::{Addr, Bytes, Got, Kind, Stop, Value, View, kind, look, size};
 use std::alloc::Global;
 
 /// Writes the item at a place.
@@ -389,72 +388,93 @@ fn write_at<S, V: View<S>>(
 
 /// The text of a value as it stands within others.
 #[tactic(auto, using(py_data::proofs::Rows::row_steps, py_data::proofs::Steps::call_steps), unfolding(crate::specs::Text::repr_row))]
-fn repr<S, V: View<S>>(alloc: Global, v: &mut V, x: Value) -> Result<Got<Bytes>, Stop>
+fn repr<S, V: View<S>>(
+    alloc: Global,
+    v: &mut V,
+    levels: usize,
+    x: Value,
+) -> Result<Got<Bytes>, Stop>
     requires live { IsLive V.sense v.old }
-    requires safe { Safe V.sense.partial (repr_row {S = S} x) (V.sense.heap v.old) }
-    ensures { Meets V.sense (repr_row x) v.old v.new result }
+    requires safe { Safe V.sense.partial (repr_row {S = S} levels x) (V.sense.heap v.old) }
+    ensures { Meets V.sense (repr_row levels x) v.old v.new result }
 {
-    write_at(alloc, v, LEVELS, Bytes::new(alloc), x)
+    write_at(alloc, v, levels, Bytes::new(alloc), x)
 }
 
 /// The text of a record of this kind by itself.
 #[tactic(auto, using(py_data::proofs::Rows::row_steps, py_data::proofs::Steps::call_steps), unfolding(crate::specs::Text::alone_by))]
-fn alone_by<S, V: View<S>>(alloc: Global, v: &mut V, a: Addr, k: Kind) -> Result<Got<Bytes>, Stop>
+fn alone_by<S, V: View<S>>(
+    alloc: Global,
+    v: &mut V,
+    levels: usize,
+    a: Addr,
+    k: Kind,
+) -> Result<Got<Bytes>, Stop>
     requires live { IsLive V.sense v.old }
-    requires safe { Safe V.sense.partial (alone_by {S = S} a.0 k) (V.sense.heap v.old) }
-    ensures { Meets V.sense (alone_by a.0 k) v.old v.new result }
+    requires safe { Safe V.sense.partial (alone_by {S = S} levels a.0 k) (V.sense.heap v.old) }
+    ensures { Meets V.sense (alone_by levels a.0 k) v.old v.new result }
 {
     match k {
         Kind::Str => {
             let text = bytes_of(alloc, v, a)?;
             Ok(Got::Is(text))
         }
-        _ => repr(alloc, v, Value::Ref(a)),
+        _ => repr(alloc, v, levels, Value::Ref(a)),
     }
 }
 
 /// The text of a record by itself.
 #[tactic(auto, using(py_data::proofs::Rows::row_steps, py_data::proofs::Steps::call_steps), unfolding(crate::specs::Text::alone_at))]
-fn alone_at<S, V: View<S>>(alloc: Global, v: &mut V, a: Addr) -> Result<Got<Bytes>, Stop>
+fn alone_at<S, V: View<S>>(
+    alloc: Global,
+    v: &mut V,
+    levels: usize,
+    a: Addr,
+) -> Result<Got<Bytes>, Stop>
     requires live { IsLive V.sense v.old }
-    requires safe { Safe V.sense.partial (alone_at {S = S} a.0) (V.sense.heap v.old) }
-    ensures { Meets V.sense (alone_at a.0) v.old v.new result }
+    requires safe { Safe V.sense.partial (alone_at {S = S} levels a.0) (V.sense.heap v.old) }
+    ensures { Meets V.sense (alone_at levels a.0) v.old v.new result }
 {
     let k = kind(v, a)?;
-    alone_by(alloc, v, a, k)
+    alone_by(alloc, v, levels, a, k)
 }
 
 /// The text of a value by itself.
 #[tactic(auto, using(py_data::proofs::Rows::row_steps, py_data::proofs::Steps::call_steps), unfolding(crate::specs::Text::alone_row))]
-fn alone<S, V: View<S>>(alloc: Global, v: &mut V, x: Value) -> Result<Got<Bytes>, Stop>
+fn alone<S, V: View<S>>(
+    alloc: Global,
+    v: &mut V,
+    levels: usize,
+    x: Value,
+) -> Result<Got<Bytes>, Stop>
     requires live { IsLive V.sense v.old }
-    requires safe { Safe V.sense.partial (alone_row {S = S} x) (V.sense.heap v.old) }
-    ensures { Meets V.sense (alone_row x) v.old v.new result }
+    requires safe { Safe V.sense.partial (alone_row {S = S} levels x) (V.sense.heap v.old) }
+    ensures { Meets V.sense (alone_row levels x) v.old v.new result }
 {
     match x {
-        Value::Ref(a) => alone_at(alloc, v, a),
-        _ => repr(alloc, v, x),
+        Value::Ref(a) => alone_at(alloc, v, levels, a),
+        _ => repr(alloc, v, levels, x),
     }
 }
 
-/// The text of a value, as it stands within others (`quoted`), or by itself, which differs for a string alone.
-/// `roots` is the address of the list of the classes that every program has; no text asks for it yet. RuntimeError,
-/// where values are nested deeper than 100 levels; Python 2.7 writes `[...]` for a list within itself.
+/// The text of a value, as it stands within others (`quoted`), or by itself, which differs for a string alone: an exception is
+/// written as any other instance is. `levels` says how many levels of lists, tuples and dictionaries may stand in one another;
+/// RuntimeError, where values are nested deeper. Python 2.7 writes `[...]` for a list within itself.
 #[tactic(auto, using(py_data::proofs::Rows::row_steps, py_data::proofs::Steps::call_steps), unfolding(crate::specs::Text::text_row))]
 pub fn text<S, V: View<S>>(
     alloc: Global,
     v: &mut V,
-    roots: Addr,
+    levels: usize,
     x: Value,
     quoted: bool,
 ) -> Result<Got<Bytes>, Stop>
     requires live { IsLive V.sense v.old }
-    requires safe { Safe V.sense.partial (text_row {S = S} roots.0 x quoted) (V.sense.heap v.old) }
-    ensures { Meets V.sense (text_row roots.0 x quoted) v.old v.new result }
+    requires safe { Safe V.sense.partial (text_row {S = S} levels x quoted) (V.sense.heap v.old) }
+    ensures { Meets V.sense (text_row levels x quoted) v.old v.new result }
 {
     if quoted {
-        repr(alloc, v, x)
+        repr(alloc, v, levels, x)
     } else {
-        alone(alloc, v, x)
+        alone(alloc, v, levels, x)
     }
 }

@@ -5,8 +5,7 @@ ghost use Rattle.py_data.specs.Sense.{Meets, Safe, IsLive};
 ghost use Rattle.py_data.specs.Truth.{has_item};
 ghost use Rattle.obj_nest.specs.Truth.{bytes_filled, filled_by, filled_row, plain_truth, range_filled, step_with, stop_with, truth_row, values_filled};
 
-use crate::looking::{kind, look};
-use py_data::{Addr, Kind, Stop, Value, View};
+use py_data::{Addr, Kind, Stop, Value, View, kind, look};
 
 /// Whether a value that isn't a reference is true.
 fn is_true(x: Value) -> bool

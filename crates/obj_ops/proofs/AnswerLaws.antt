@@ -1,7 +1,6 @@
 -- What operators answer, in words of numbers and of lists.
-use Rattle.std.proofs.Common.{◌≡◌, ◌≢◌, ℕ, ℤ, pos, ◌+◌, Bool, true, false, cond, leb, List, [], ◌++◌, length, Some, refl, sym, ap, subst, ◌∙◌, length-append}
+use Rattle.std.proofs.Common.{◌≡◌, ◌≢◌, ℕ, ℤ, pos, ◌+◌, Bool, true, false, cond, leb, [], ◌++◌, length, Some, refl, sym, ap, subst, ◌∙◌, length-append}
 use Rattle.std.specs.Ordering.{int_eq}
-use Rattle.py_base.specs.declared.kind.Kind.{Kind}
 use Rattle.py_base.specs.declared.kind.Kind.TheVariants.{Str}
 use Rattle.py_data.specs.declared.value.Value.{Value}
 use Rattle.py_data.specs.declared.value.Value.TheVariants.{Int, Ref}

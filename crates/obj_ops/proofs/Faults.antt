@@ -1,5 +1,6 @@
 -- Equality, order and texts of values answer, or raise an exception that can be made.
-use Rattle.std.proofs.Common.{ℕ, zero, suc, ◌+◌, Bool, true, false, cond, eqb, ℤ, List, [], ◌∷◌, length, Option, Some, None, lit<}
+use Rattle.std.proofs.Common.{ℕ, zero, suc, ◌+◌, Bool, true, false, cond, eqb, ℤ, List, [], ◌∷◌, codes, length, Option, Some, None, lit<}
+use Rattle.std.specs.Prelude.{IfSome}
 use Rattle.std.specs.declared.cmp.Ordering.{Ordering}
 use Rattle.py_base.specs.declared.kind.Kind.{Kind}
 use Rattle.py_base.specs.declared.kind.Kind.TheVariants.{Str, Tuple, List as ListKind, Dict, Cell, Function, Class, Instance, Method, Iter, Range, Lock, Thread}
@@ -10,8 +11,12 @@ use Rattle.py_data.specs.declared.record.Got.TheVariants.{Is, Raise}
 use Rattle.py_data.specs.Heap.{Rec, Heap, at, value_at}
 use Rattle.py_data.specs.Shape.{find}
 use Rattle.py_data.specs.Comparing.{Under, equal_items, equal_found, equal_pairs, equal_kinds, equal_by, equal_within, equal, and_then, of_one_length, number_of, order_then, order_items, order_numbers, order_records, order_by, order_within, order}
-use Rattle.py_data.specs.Texts.{Spelling, Parts, got_then, more_texts, item_texts, pair_text, more_pairs, pair_texts, record_text, repr_by, repr_within, repr, str_by, str}
+use Rattle.py_data.specs.Texts.{Spelling, Parts, got_then, more_texts, item_texts, pair_text, more_pairs, pair_texts, record_text, repr_by, repr_within}
 use Rattle.py_data.specs.Answers.{IsGot}
+use Rattle.obj_nest.specs.Text.{spelling, alone_by_kind, text_within}
+use Rattle.obj_class.specs.declared.args.Part.{Part}
+use Rattle.obj_class.specs.Attributes.{values_in}
+use Rattle.obj_class.specs.Telling.{Tells, alone_at, alone_by, exception_text, is_of, part_text, text_of, told_part, told_under, told_within}
 
 -- an answer of any kind
 abbrev pub IsAny : {A : Type 0} → A → Heap → Type 0
@@ -173,18 +178,55 @@ module _ (h g : Heap) where
     repr_by_can parts (Builtin b) i = tt
     repr_by_can parts (Ref a) i = record_can parts (Ref a) (at h a.0).kind (at h a.0) i
 
-    repr_within_can : (d : ℕ) (v : Value) → Can (repr_within s h d v)
+    pub repr_within_can : (d : ℕ) (v : Value) → Can (repr_within s h d v)
     unfolding repr_within PartsCan
     repr_within_can zero v = repr_by_can None v tt
     repr_within_can (suc d) v = repr_by_can (Some (repr_within s h d)) v (repr_within_can d)
 
-    pub repr_can : (v : Value) → Can (repr s h v)
-    repr_can v = repr_within_can 100 v
+  -- ---- texts of exceptions
+  alone_can : (d : ℕ) (v : Value) (k : Kind) (r : Rec) → Can (alone_by_kind h d v k r)
+  alone_can d v Str r = tt
+  alone_can d v k r = repr_within_can spelling d v
 
-    str_by_can : (v : Value) (k : Kind) (r : Rec) → Can (str_by s h v k r)
-    str_by_can v Str r = tt
-    str_by_can v k r = repr_can v
+  plain_can : (d : ℕ) (v : Value) (quoted : Bool) → Can (text_within h d v quoted)
+  plain_can d v true = repr_within_can spelling d v
+  plain_can d (Ref a) false = alone_can d (Ref a) (at h a.0).kind (at h a.0)
+  plain_can d v false = repr_within_can spelling d v
 
-    pub str_can : (v : Value) → Can (str s h v)
-    str_can (Ref a) = str_by_can (Ref a) (at h a.0).kind (at h a.0)
-    str_can v = repr_can v
+  abbrev TellsCan : Tells → Type 0
+  TellsCan u = (quoted : Bool) (v : Value) → Can (u quoted v)
+
+  part_can : (u : Tells) (o : Option Part) → TellsCan u → Can (part_text u o)
+  part_can u None i = tt
+  part_can u (Some p) i = i p.quoted p.value
+
+  module _ (vs : List Value) where
+    exception_can : (under : Option Tells) (own : List Value) → IfSome under TellsCan → Can (exception_text h vs under own)
+    exception_can None own i = (lit< tt, lit< tt, tt)
+    exception_can (Some u) own i = part_can u (told_part h vs own) i
+
+    either_can : (b : Bool) (x y : Got (List ℕ)) → Can x → Can y → Can (cond b x y)
+    either_can true x y i j = i
+    either_can false x y i j = j
+
+    module _ (under : Option Tells) (i : IfSome under TellsCan) (d : ℕ) where
+      kind_can : (v : Value) (k : Kind) (own : List Value) → Can (alone_by h vs under d v k own)
+      kind_can v Instance own = either_can (is_of h vs (codes "BaseException") own) (exception_text h vs under own) (text_within h d v false) (exception_can under own i) (plain_can d v false)
+      kind_can v k own = plain_can d v false
+
+      record_alone_can : (v : Value) (o : Option Rec) → Can (alone_at h vs under d v o)
+      record_alone_can v None = plain_can d v false
+      record_alone_can v (Some r) = kind_can v r.kind r.values
+
+      told_under_can : TellsCan (told_under h vs under d)
+      told_under_can true v = plain_can d v true
+      told_under_can false (Ref a) = record_alone_can (Ref a) (h a.0)
+      told_under_can false v = plain_can d v false
+
+    told_within_can : (d : ℕ) → TellsCan (told_within h vs d)
+    unfolding told_within
+    told_within_can zero = told_under_can None tt 0
+    told_within_can (suc d) = told_under_can (Some (told_within h vs d)) (told_within_can d) (suc d)
+
+  pub text_can : (roots : ℕ) (v : Value) (quoted : Bool) → Can (text_of h roots v quoted)
+  text_can roots v quoted = told_within_can (values_in (h roots)) 100 quoted v

@@ -41,7 +41,9 @@ use Rattle.obj_str.specs.Strings.{new_text}
 use Rattle.obj_str.specs.Pieces.{find}
 use Rattle.obj_nest.specs.Equal.{equal_row}
 use Rattle.obj_nest.specs.Ordering.{order_row}
-use Rattle.obj_nest.specs.Text.{text_row}
+use Rattle.obj_class.specs.Roots.{IsRoots}
+use Rattle.obj_class.specs.Telling.{told_row}
+use Rattle.obj_class.proofs.RootsKept.{roots_stay}
 use Rattle.obj_ops.specs.declared.operator.Operator.{Operator}
 use Rattle.obj_ops.specs.declared.operator.Operator.TheVariants.{Add}
 use Rattle.obj_ops.specs.declared.operator.Comparison.{Comparison}
@@ -178,11 +180,11 @@ module _ {S : Type 0} (rules : Rules) (stands : Heap → S → Type 0) where
   then_good text (Is more) h i = grown_good text more h
   then_good text (Raise e) h i = i
 
-  text_hold : (roots : ℕ) (text : List ℕ) (o : Option Value) (h : Heap) → IsOrdered rules h → IfSome o (IsItem h) → Holds rules stands (IsGot IsAny) (text_grown roots text o) h
+  text_hold : (roots : ℕ) (text : List ℕ) (o : Option Value) (h : Heap) → IsOrdered rules h → IsRoots h roots → IfSome o (IsItem h) → Holds rules stands (IsGot IsAny) (text_grown roots text o) h
   unfolding text_grown
-  text_hold roots text None h order i = holds_ret rules stands (IsGot IsAny) (Raise argument_fault) h (lit< tt, lit< tt, tt)
-  text_hold roots text (Some x) h order i =
-      holds_bind rules stands (IsGot IsAny) (IsGot IsAny) (text_row roots x false) (λ more. Ret (got_then more (grown text))) h order (looked_holds (text_row roots x false) h (text_looks S rules h order roots x false i))
+  text_hold roots text None h order r i = holds_ret rules stands (IsGot IsAny) (Raise argument_fault) h (lit< tt, lit< tt, tt)
+  text_hold roots text (Some x) h order r i =
+      holds_bind rules stands (IsGot IsAny) (IsGot IsAny) (told_row roots x false) (λ more. Ret (got_then more (grown text))) h order (looked_holds (told_row roots x false) h (text_looks S rules h order roots r x false i))
       (λ g h1 order1 x1 t. holds_ret rules stands (IsGot IsAny) (got_then g (grown text)) h1 (then_good text g h1 t))
 
   argument_good : (args : List Value) (n : ℕ) (h : Heap) → Every (IsItem h) args → IfSome (slice_get args n) (IsItem h)
@@ -192,24 +194,24 @@ module _ {S : Type 0} (rules : Rules) (stands : Heap → S → Type 0) where
       by None e = tt
       by (Some x) e = get_item h args n x e i
 
-  piece_holds : (roots : ℕ) (args : List Value) (p : Piece) (text : List ℕ) (h : Heap) → IsOrdered rules h → Every (IsItem h) args → Holds rules stands (IsGot IsAny) (piece_row roots args p text) h
+  piece_holds : (roots : ℕ) (args : List Value) (p : Piece) (text : List ℕ) (h : Heap) → IsOrdered rules h → IsRoots h roots → Every (IsItem h) args → Holds rules stands (IsGot IsAny) (piece_row roots args p text) h
   unfolding piece_row
-  piece_holds roots args (Byte x) text h order i = holds_ret rules stands (IsGot IsAny) (grown text (x ∷ [])) h (grown_good text (x ∷ []) h)
-  piece_holds roots args (Number n) text h order i = holds_ret rules stands (IsGot IsAny) (number_grown text (number_in (slice_get args n))) h (number_good text (number_in (slice_get args n)) h)
-  piece_holds roots args (TextPiece n) text h order i = text_hold roots text (slice_get args n) h order (argument_good args n h i)
-  piece_holds roots args Unknown text h order i = holds_ret rules stands (IsGot IsAny) (Raise format_fault) h (lit< tt, lit< tt, tt)
+  piece_holds roots args (Byte x) text h order r i = holds_ret rules stands (IsGot IsAny) (grown text (x ∷ [])) h (grown_good text (x ∷ []) h)
+  piece_holds roots args (Number n) text h order r i = holds_ret rules stands (IsGot IsAny) (number_grown text (number_in (slice_get args n))) h (number_good text (number_in (slice_get args n)) h)
+  piece_holds roots args (TextPiece n) text h order r i = text_hold roots text (slice_get args n) h order r (argument_good args n h i)
+  piece_holds roots args Unknown text h order r i = holds_ret rules stands (IsGot IsAny) (Raise format_fault) h (lit< tt, lit< tt, tt)
 
-  each_holds : (roots : ℕ) (ps : List Piece) (args : List Value) (m i : ℕ) (text : List ℕ) (h : Heap) → IsOrdered rules h → Every (IsItem h) args → Holds rules stands (IsGot IsAny) (each_row (λ i. piece_row roots args (piece_at ps i)) i m text) h
+  each_holds : (roots : ℕ) (ps : List Piece) (args : List Value) (m i : ℕ) (text : List ℕ) (h : Heap) → IsOrdered rules h → IsRoots h roots → Every (IsItem h) args → Holds rules stands (IsGot IsAny) (each_row (λ i. piece_row roots args (piece_at ps i)) i m text) h
   unfolding each_row
-  each_holds roots ps args zero i text h order is = holds_ret rules stands (IsGot IsAny) (Is text) h tt
-  each_holds roots ps args (suc m) i text h order is =
+  each_holds roots ps args zero i text h order r is = holds_ret rules stands (IsGot IsAny) (Is text) h tt
+  each_holds roots ps args (suc m) i text h order r is =
       let f : ℕ → List ℕ → Row S (Got (List ℕ)) = λ i. piece_row roots args (piece_at ps i) in
-      holds_bind rules stands (IsGot IsAny) (IsGot IsAny) (f i text) (got_row (each_row f (i + 1) m)) h order (piece_holds roots args (piece_at ps i) text h order is)
-      (λ g h1 order1 x1 t. got_holds IsAny IsAny (each_row f (i + 1) m) g h1 t (λ more u. each_holds roots ps args m (i + 1) more h1 order1 (items_stay h h1 x1 args is)))
+      holds_bind rules stands (IsGot IsAny) (IsGot IsAny) (f i text) (got_row (each_row f (i + 1) m)) h order (piece_holds roots args (piece_at ps i) text h order r is)
+      (λ g h1 order1 x1 t. got_holds IsAny IsAny (each_row f (i + 1) m) g h1 t (λ more u. each_holds roots ps args m (i + 1) more h1 order1 (roots_stay h h1 roots x1 r) (items_stay h h1 x1 args is)))
 
-  pieces_hold : (roots : ℕ) (ps : List Piece) (args : List Value) (h : Heap) → IsOrdered rules h → Every (IsItem h) args → Holds rules stands (IsGot IsAny) (pieces_row roots ps args) h
+  pieces_hold : (roots : ℕ) (ps : List Piece) (args : List Value) (h : Heap) → IsOrdered rules h → IsRoots h roots → Every (IsItem h) args → Holds rules stands (IsGot IsAny) (pieces_row roots ps args) h
   unfolding pieces_row
-  pieces_hold roots ps args h order i = each_holds roots ps args (length ps) 0 [] h order i
+  pieces_hold roots ps args h order r i = each_holds roots ps args (length ps) 0 [] h order r i
 
   finished_holds : (ps : List Piece) (args : List Value) (text : List ℕ) (h : Heap) → IsOrdered rules h → Good (finished ps args text) h
   unfolding finished
@@ -219,10 +221,10 @@ module _ {S : Type 0} (rules : Rules) (stands : Heap → S → Type 0) where
       by true = new_text_holds rules stands h text order
       by false = holds_ret rules stands IsAnswer (Raise argument_fault) h (lit< tt, lit< tt, tt)
 
-  formatted_holds : (roots : ℕ) (ps : List Piece) (args : List Value) (h : Heap) → IsOrdered rules h → Every (IsItem h) args → Good (formatted_row roots ps args) h
+  formatted_holds : (roots : ℕ) (ps : List Piece) (args : List Value) (h : Heap) → IsOrdered rules h → IsRoots h roots → Every (IsItem h) args → Good (formatted_row roots ps args) h
   unfolding formatted_row
-  formatted_holds roots ps args h order i =
-      holds_bind rules stands (IsGot IsAny) IsAnswer (pieces_row roots ps args) (got_row (finished ps args)) h order (pieces_hold roots ps args h order i)
+  formatted_holds roots ps args h order r i =
+      holds_bind rules stands (IsGot IsAny) IsAnswer (pieces_row roots ps args) (got_row (finished ps args)) h order (pieces_hold roots ps args h order r i)
       (λ g h1 order1 x1 t. got_holds IsAny (λ v h. IsItem h v) (finished ps args) g h1 t (λ text u. finished_holds ps args text h1 order1))
 
   arguments_hold : (b : Option Addr) (y : Value) (h : Heap) → IsOrdered rules h → IfSome b (IsAt h Tuple) → IsItem h y → Holds rules stands AreItems (arguments_row b y) h
@@ -234,34 +236,34 @@ module _ {S : Type 0} (rules : Rules) (stands : Heap → S → Type 0) where
   tuple_stays (Some b) h h1 x i = (i.0, kind_stays h h1 x b.0 (λ z. z ≡ Tuple) i.1)
   tuple_stays None h h1 x i = tt
 
-  format_holds : (roots : ℕ) (a : Addr) (b : Option Addr) (y : Value) (h : Heap) → IsOrdered rules h → IsText h a → IfSome b (IsAt h Tuple) → IsItem h y → Good (format_row roots a.0 b y) h
+  format_holds : (roots : ℕ) (a : Addr) (b : Option Addr) (y : Value) (h : Heap) → IsOrdered rules h → IsRoots h roots → IsText h a → IfSome b (IsAt h Tuple) → IsItem h y → Good (format_row roots a.0 b y) h
   unfolding format_row template_row
-  format_holds roots a b y h order i j k =
+  format_holds roots a b y h order r i j k =
       holds_bind rules stands IsAny IsAnswer (bytes_row a.0) (λ template. template_row roots template b y) h order (bytes_hold a.0 h i)
       (λ template h1 order1 x1 g. holds_bind rules stands AreItems IsAnswer (arguments_row b y) (formatted_row roots (pieces false 0 template)) h1 order1 (arguments_hold b y h1 order1 (tuple_stays b h h1 x1 j) (item_stays h h1 x1 y k))
-      (λ args h2 order2 x2 is. formatted_holds roots (pieces false 0 template) args h2 order2 is))
+      (λ args h2 order2 x2 is. formatted_holds roots (pieces false 0 template) args h2 order2 (roots_stay h1 h2 roots x2 (roots_stay h h1 roots x1 r)) is))
 
   -- ---- two operands
-  case_holds : (roots : ℕ) (op : Operator) (y : Value) (c : Case) (h : Heap) → IsOrdered rules h → IsCase h c → IsItem h y → Good (case_row roots op y c) h
+  case_holds : (roots : ℕ) (op : Operator) (y : Value) (c : Case) (h : Heap) → IsOrdered rules h → IsRoots h roots → IsCase h c → IsItem h y → Good (case_row roots op y c) h
   unfolding case_row IsCase
-  case_holds roots op y (Join k a b) h order g i = join_holds k a b h order g.0 g.1
-  case_holds roots op y (JoinTexts a b) h order g i = join_texts_hold a b h order g.0 g.1
-  case_holds roots op y (Repeat k a n) h order g i = repeat_holds k a (times n) h order g
-  case_holds roots op y (RepeatText a n) h order g i = repeat_text_holds a (times n) h order g
-  case_holds roots op y (Format a b) h order g i = format_holds roots a b y h order g.0 g.1 i
-  case_holds roots op y c h order g i = holds_ret rules stands IsAnswer (calculated_case op c) h (case_answer h op c)
+  case_holds roots op y (Join k a b) h order r g i = join_holds k a b h order g.0 g.1
+  case_holds roots op y (JoinTexts a b) h order r g i = join_texts_hold a b h order g.0 g.1
+  case_holds roots op y (Repeat k a n) h order r g i = repeat_holds k a (times n) h order g
+  case_holds roots op y (RepeatText a n) h order r g i = repeat_text_holds a (times n) h order g
+  case_holds roots op y (Format a b) h order r g i = format_holds roots a b y h order r g.0 g.1 i
+  case_holds roots op y c h order r g i = holds_ret rules stands IsAnswer (calculated_case op c) h (case_answer h op c)
 
-  with_holds : (roots : ℕ) (op : Operator) (p : Operand) (y : Value) (h : Heap) → IsOrdered rules h → IsOperand p h → IsItem h y → Good (operand_with roots op p y) h
+  with_holds : (roots : ℕ) (op : Operator) (p : Operand) (y : Value) (h : Heap) → IsOrdered rules h → IsRoots h roots → IsOperand p h → IsItem h y → Good (operand_with roots op p y) h
   unfolding operand_with
-  with_holds roots op p y h order g i =
+  with_holds roots op p y h order r g i =
       holds_bind rules stands IsOperand IsAnswer (operand_row y) (λ q. case_row roots op y (case_of op p q)) h order (operand_holds rules stands y h i)
-      (λ q h1 order1 x1 gq. case_holds roots op y (case_of op p q) h1 order1 (case_good h1 op p q (operand_stays h h1 x1 p g) gq) (item_stays h h1 x1 y i))
+      (λ q h1 order1 x1 gq. case_holds roots op y (case_of op p q) h1 order1 (roots_stay h h1 roots x1 r) (case_good h1 op p q (operand_stays h h1 x1 p g) gq) (item_stays h h1 x1 y i))
 
-  binary_holds : (h : Heap) (roots op : ℕ) (x y : Value) → IsOrdered rules h → IsItem h x → IsItem h y → Good (binary_row roots op x y) h
+  binary_holds : (h : Heap) (roots op : ℕ) (x y : Value) → IsOrdered rules h → IsRoots h roots → IsItem h x → IsItem h y → Good (binary_row roots op x y) h
   unfolding binary_row operated_row
-  binary_holds h roots op x y order i j =
+  binary_holds h roots op x y order r i j =
       holds_bind rules stands IsOperand IsAnswer (operand_row x) (λ p. operand_with roots (operator_of op) p y) h order (operand_holds rules stands x h i)
-      (λ p h1 order1 x1 gp. with_holds roots (operator_of op) p y h1 order1 gp (item_stays h h1 x1 y j))
+      (λ p h1 order1 x1 gp. with_holds roots (operator_of op) p y h1 order1 (roots_stay h h1 roots x1 r) gp (item_stays h h1 x1 y j))
 
   unary_holds : (h : Heap) (op : ℕ) (x : Value) → IsOrdered rules h → IsItem h x → Good (unary_row op x) h
   unfolding unary_row
@@ -292,7 +294,7 @@ module _ {S : Type 0} (rules : Rules) (stands : Heap → S → Type 0) where
       let r = record_at (h a) (λ k. k ≡ ListKind) at in
       holds_looks rules stands IsAnswer (λ n. n ≡ length r.0.values) (size_row a) (pushed_row a vs) h order (size_looks S h a r.0 r.1) (λ n e. subst (λ z. Good (pushed_row a vs z) h) (sym e) (pushed_holds a vs r.0 h order r.1 r.2 i))
 
-  extended_holds : (a : Addr) (y : Value) (h : Heap) → IsOrdered rules h → IsAt h ListKind a → IsItem h y → Good (extended_row a.0 y) h
+  pub extended_holds : (a : Addr) (y : Value) (h : Heap) → IsOrdered rules h → IsAt h ListKind a → IsItem h y → Good (extended_row a.0 y) h
   unfolding extended_row
   extended_holds a y h order at i =
       holds_bind rules stands (IsGot (λ vs h. Every (IsItem h) vs × (length vs ≤ LENGTH_LIMIT))) IsAnswer (gather_row y) (got_row (appended_row a.0)) h order (gather_holds rules stands h y order i)
@@ -303,16 +305,16 @@ module _ {S : Type 0} (rules : Rules) (stands : Heap → S → Type 0) where
   kept_good h Add p g = list_good h p g
   kept_good h op p g = tt
 
-  kept_holds : (roots : ℕ) (op : Operator) (p : Operand) (y : Value) (o : Option Addr) (h : Heap) → IsOrdered rules h → IfSome o (IsAt h ListKind) → IsOperand p h → IsItem h y → Good (kept_row roots op p y o) h
+  kept_holds : (roots : ℕ) (op : Operator) (p : Operand) (y : Value) (o : Option Addr) (h : Heap) → IsOrdered rules h → IsRoots h roots → IfSome o (IsAt h ListKind) → IsOperand p h → IsItem h y → Good (kept_row roots op p y o) h
   unfolding kept_row
-  kept_holds roots op p y (Some a) h order k g i = extended_holds a y h order k i
-  kept_holds roots op p y None h order k g i = with_holds roots op p y h order g i
+  kept_holds roots op p y (Some a) h order r k g i = extended_holds a y h order k i
+  kept_holds roots op p y None h order r k g i = with_holds roots op p y h order r g i
 
-  in_place_holds : (h : Heap) (roots op : ℕ) (x y : Value) → IsOrdered rules h → IsItem h x → IsItem h y → Good (in_place_row roots op x y) h
+  in_place_holds : (h : Heap) (roots op : ℕ) (x y : Value) → IsOrdered rules h → IsRoots h roots → IsItem h x → IsItem h y → Good (in_place_row roots op x y) h
   unfolding in_place_row changed_row
-  in_place_holds h roots op x y order i j =
+  in_place_holds h roots op x y order r i j =
       holds_bind rules stands IsOperand IsAnswer (operand_row x) (λ p. kept_row roots (operator_of op) p y (kept_list (operator_of op) p)) h order (operand_holds rules stands x h i)
-      (λ p h1 order1 x1 gp. kept_holds roots (operator_of op) p y (kept_list (operator_of op) p) h1 order1 (kept_good h1 (operator_of op) p gp) gp (item_stays h h1 x1 y j))
+      (λ p h1 order1 x1 gp. kept_holds roots (operator_of op) p y (kept_list (operator_of op) p) h1 order1 (roots_stay h h1 roots x1 r) (kept_good h1 (operator_of op) p gp) gp (item_stays h h1 x1 y j))
 
   -- ---- what is in another value
   IsContainer : Container → Heap → Type 0

@@ -1,22 +1,21 @@
 -- In the course of an operator no record is longer than before it or at its end.
-use Rattle.std.proofs.Common.{◌≡◌, ℕ, zero, suc, ◌+◌, ◌*◌, ◌==◌, Bool, true, false, cond, leb, ◌||◌, ◌&&◌, List, [], ◌∷◌, ◌++◌, length, slice_get, Option, Some, None, refl}
+use Rattle.std.proofs.Common.{ℕ, ◌+◌, ◌*◌, ◌==◌, Bool, true, false, leb, List, [], ◌∷◌, ◌++◌, length, slice_get, Option, Some, None, refl}
 use Rattle.std.specs.Prelude.{is_some}
 use Rattle.std.specs.List.{repeat}
 use Rattle.py_base.specs.declared.kind.Kind.{Kind}
 use Rattle.py_data.specs.declared.value.Addr.{Addr}
 use Rattle.py_data.specs.declared.value.Value.{Value}
 use Rattle.py_data.specs.declared.value.Value.TheVariants.{Unset, None as NoneValue, Bool as BoolValue, Int, Ref, Builtin}
-use Rattle.py_data.specs.declared.change.Change.TheVariants as change
 use Rattle.py_data.specs.declared.record.Got.{Got}
 use Rattle.py_data.specs.declared.record.Got.TheVariants.{Is, Raise}
 use Rattle.py_data.specs.declared.record.TheConstants.{LENGTH_LIMIT}
 use Rattle.py_data.specs.Fault.{memory_fault, hash_fault, argument_fault}
-use Rattle.py_data.specs.Heap.{Rec, new_rec, value_at}
+use Rattle.py_data.specs.Heap.{new_rec}
 use Rattle.py_data.specs.Shape.{is_key_kind}
 use Rattle.py_data.specs.Comparing.{number_of}
 use Rattle.py_data.specs.Texts.{got_then}
-use Rattle.py_data.specs.Row.{Row, Ret, Do, Read, Find, Edit, Make, bind}
-use Rattle.py_data.specs.Looking.{until_row, each_row, got_row, size_row, look_row, bytes_row}
+use Rattle.py_data.specs.Row.{Row, Ret, Do, Find, bind}
+use Rattle.py_data.specs.Looking.{got_row, size_row, look_row, bytes_row}
 use Rattle.py_data.specs.Steady.{Steady, Calm}
 use Rattle.py_data.proofs.CalmRows.{ret_calm, read_calm, find_calm, push_calm, make_calm, cond_calm, bind_steady, bind_calm, got_calm, until_calm, each_calm, size_calm, look_calm, bytes_calm}
 use Rattle.obj_seq.specs.Gather.{gather_row}
@@ -25,10 +24,11 @@ use Rattle.obj_dict.specs.Dict.{key_row, if_key, value_of_pair, get_row}
 use Rattle.obj_str.specs.Strings.{new_text}
 use Rattle.obj_str.specs.Pieces.{find}
 use Rattle.obj_str.proofs.StrHolds.{new_text_calm}
-use Rattle.obj_nest.proofs.CalmRows.{equal_calm, order_calm, text_calm}
+use Rattle.obj_nest.proofs.CalmRows.{equal_calm, order_calm}
+use Rattle.obj_class.proofs.TellingCalm.{told_calm}
 use Rattle.obj_nest.specs.Equal.{equal_row}
 use Rattle.obj_nest.specs.Ordering.{order_row}
-use Rattle.obj_nest.specs.Text.{text_row}
+use Rattle.obj_class.specs.Telling.{told_row}
 use Rattle.obj_ops.specs.declared.operator.Operator.{Operator}
 use Rattle.obj_ops.specs.declared.operator.Comparison.{Comparison}
 use Rattle.obj_ops.specs.declared.operator.Comparison.TheVariants.{Equal, NotEqual, In, NotIn, Is as Identical, IsNot}
@@ -70,7 +70,7 @@ module _ (S : Type 0) where
   container_calm (Int i) = ret_calm S _
   container_calm (Builtin b) = ret_calm S _
 
-  values_calm : (a : ℕ) → Calm {S = S} (values_row a)
+  pub values_calm : (a : ℕ) → Calm {S = S} (values_row a)
   unfolding values_row
   values_calm a = read_calm S a (λ r. Ret r.values) (λ r. ret_calm S _)
 
@@ -122,7 +122,7 @@ module _ (S : Type 0) where
       bind_calm S (size_row a) (pushed_row a vs) (size_calm S a)
       (λ n. cond_calm S (leb (n + length vs) LENGTH_LIMIT) (bind (push_row a vs) (λ _. Ret (Is (Ref (record { 0 = a }))))) (Ret (Raise memory_fault)) (bind_calm S (push_row a vs) (λ _. Ret (Is (Ref (record { 0 = a })))) (push_all_calm a vs) (λ u. ret_calm S _)) (ret_calm S _))
 
-  extended_steady : (a : ℕ) (y : Value) → Steady {S = S} false (extended_row a y)
+  pub extended_steady : (a : ℕ) (y : Value) → Steady {S = S} false (extended_row a y)
   unfolding extended_row
   extended_steady a y = bind_steady S false (gather_row y) (got_row (appended_row a)) (gather_steady S y) (got_calm S (appended_row a) (appended_calm a))
 
@@ -137,7 +137,7 @@ module _ (S : Type 0) where
   grown_calm : (roots : ℕ) (text : List ℕ) (o : Option Value) → Calm {S = S} (text_grown roots text o)
   unfolding text_grown
   grown_calm roots text None = ret_calm S _
-  grown_calm roots text (Some x) = bind_calm S (text_row roots x false) (λ more. Ret (got_then more (grown text))) (text_calm S roots x false) (λ more. ret_calm S _)
+  grown_calm roots text (Some x) = bind_calm S (told_row roots x false) (λ more. Ret (got_then more (grown text))) (told_calm S roots x false) (λ more. ret_calm S _)
 
   piece_calm : (roots : ℕ) (args : List Value) (p : Piece) (text : List ℕ) → Calm {S = S} (piece_row roots args p text)
   unfolding piece_row

@@ -14,7 +14,7 @@ use Rattle.py_data.specs.Texts.{got_then}
 use Rattle.py_data.specs.Row.{Row, Ret, bind}
 use Rattle.py_data.specs.Looking.{each_row, got_row, bytes_row}
 use Rattle.obj_str.specs.Strings.{new_text}
-use Rattle.obj_nest.specs.Text.{text_row}
+use Rattle.obj_class.specs.Telling.{told_row}
 use Rattle.obj_ops.specs.declared.format.Piece.{Piece}
 use Rattle.obj_ops.specs.declared.format.Piece.TheVariants.{Byte, Number, Text, Unknown}
 use Rattle.obj_ops.specs.Sequences.{values_row}
@@ -65,7 +65,7 @@ number_in None = None
 
 -- the text of a value by itself; TypeError, where the argument is missing
 unfoldable pub text_grown : {S : Type 0} → ℕ → List ℕ → Option Value → Row S (Got (List ℕ))
-text_grown roots text (Some x) = bind (text_row roots x false) (λ more. Ret (got_then more (grown text)))
+text_grown roots text (Some x) = bind (told_row roots x false) (λ more. Ret (got_then more (grown text)))
 text_grown roots text None = Ret (Raise argument_fault)
 
 -- a piece is written behind the text so far

@@ -8,10 +8,10 @@ use crate::format::number_of;
 use crate::operand::{Operand, operand_at};
 use crate::sequence::values_of;
 use obj_dict::get;
-use obj_nest::{equal, look, size};
+use obj_nest::equal;
 use obj_str::{bytes_of, find};
 use py_data::exception::{TYPE_ERROR, raise};
-use py_data::{Addr, Got, Kind, Stop, Value, View};
+use py_data::{Addr, Got, Kind, Stop, Value, View, look, size};
 use std::alloc::Global;
 
 /// What can be looked into.

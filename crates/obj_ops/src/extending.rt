@@ -9,9 +9,8 @@ use crate::operand::{Operand, list_of, operand_at};
 use crate::operate::operate_with;
 use crate::operator::{Operator, operator_of};
 use crate::sequence::too_long;
-use obj_nest::size;
 use obj_seq::gather;
-use py_data::{Addr, Got, LENGTH_LIMIT, Stop, Value, Values, View};
+use py_data::{Addr, Got, LENGTH_LIMIT, Stop, Value, Values, View, size};
 use std::alloc::Global;
 
 /// Puts values at the end of a list.
@@ -60,9 +59,16 @@ fn append<S, V: View<S>>(v: &mut V, a: Addr, values: &Values) -> Result<Got<Valu
     push_short(v, a, values, n)
 }
 
-/// Puts the items of a value, which are all read before, at the end of a list.
+/// Puts the items of a value, which are all read before, at the end of a list, and answers the list. TypeError, `not
+/// iterable`, for what can't be gone through; MemoryError, before the first item, where the list would have more than
+/// `LENGTH_LIMIT`.
 #[tactic(auto, using(py_data::proofs::Rows::row_steps, py_data::proofs::Steps::call_steps), unfolding(crate::specs::InPlace::extended_row))]
-fn extend<S, V: View<S>>(alloc: Global, v: &mut V, a: Addr, y: Value) -> Result<Got<Value>, Stop>
+pub fn extend<S, V: View<S>>(
+    alloc: Global,
+    v: &mut V,
+    a: Addr,
+    y: Value,
+) -> Result<Got<Value>, Stop>
     requires live { IsLive V.sense v.old }
     requires safe { Safe V.sense.partial (extended_row {S = S} a.0 y) (V.sense.heap v.old) }
     ensures { Meets V.sense (extended_row a.0 y) v.old v.new result }

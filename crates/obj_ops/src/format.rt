@@ -6,7 +6,7 @@ ghost use Rattle.py_data.specs.Sense.{Meets, Safe, IsLive};
 ghost use Rattle.obj_ops.specs.Format.{conversion, takes, pieces, asked, grown, number_grown, number_in, text_grown, piece_row, piece_at, pieces_row, finished, formatted_row, arguments_row, template_row, format_row};
 
 use crate::sequence::{too_long, values_of};
-use obj_nest::text;
+use obj_class::text;
 use obj_str::{bytes_of, make_str};
 use py_data::exception::{TYPE_ERROR, VALUE_ERROR, raise};
 use py_data::{Addr, Bytes, Got, Items, LENGTH_LIMIT, NoMemory, Stop, Value, Values, View};

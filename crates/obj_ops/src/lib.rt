@@ -14,7 +14,9 @@ mod sequence;
 mod shift;
 
 pub use comparing::compare;
-pub use extending::in_place;
+pub use extending::{extend, in_place};
 pub use laws::{division_law, holds_law, join_law, steady_law};
-pub use obj_nest::{equal, order, text, truth};
+pub use obj_class::text;
+pub use obj_nest::{equal, order, truth};
 pub use operate::{binary, unary};
+pub use sequence::values_of;

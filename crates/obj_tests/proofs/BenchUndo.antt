@@ -14,6 +14,7 @@ use Rattle.py_data.specs.Row.{Row}
 use Rattle.py_data.specs.Sense.{Sense, Bracket, IsBracket, Stopped, Meets}
 use Rattle.py_data.proofs.Whole.{upto_steps, stopped_at}
 use Rattle.obj_seq.specs.HoldsLaws.{IsListAt}
+use Rattle.obj_class.specs.Roots.{IsRoots}
 use Rattle.obj_tests.specs.Bench.{free, Good}
 
 -- the length of a list is the count of its values
@@ -36,10 +37,10 @@ err_stopped u row v w (Err e) m = m
 
 module _ {S X : Type 0} {u : Sense S X} {b : Bracket S X} (B : IsBracket u b) where
   -- a step that is opened leaves the records as they are
-  pub good_opened : {stack : List Value} {v : X} (m : X) → b.opens v m → Good u stack v → Good u stack m
-  good_opened {stack = stack} m o g =
+  pub good_opened : {roots : ℕ} {stack : List Value} {v : X} (m : X) → b.opens v m → Good u roots stack v → Good u roots stack m
+  good_opened {roots = roots} {stack = stack} m o g =
       let f = B.opened _ m o in
-      record { whole = g.whole; live = f.2; order = subst (IsOrdered free) (sym f.0) g.order; items = subst (λ h. Every (IsItem h) stack) (sym f.0) g.items }
+      record { whole = g.whole; live = f.2; order = subst (IsOrdered free) (sym f.0) g.order; listed = subst (λ h. IsRoots h roots) (sym f.0) g.listed; items = subst (λ h. Every (IsItem h) stack) (sym f.0) g.items }
 
   -- a row that was stopped leaves the records as they were when the step was opened where it was
   stopped_base : {A : Type 0} (row : Row S A) (v w : X) (e : Stop) → Stopped u row v e w → b.base w ≡ b.base v

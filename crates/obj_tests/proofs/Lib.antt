@@ -1,3 +1,4 @@
 pub mod BenchSteps
+pub mod BenchClasses
 pub mod BenchPairs
 pub mod BenchUndo

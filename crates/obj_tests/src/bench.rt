@@ -2,12 +2,15 @@
 //! expected is written by hand: it is what Python 2.7 does, with the texts of exceptions that this language has.
 //!
 //! A row is a line, `PROGRAM => EXPECTED`. The words of a program are parted by blanks, and work on a stack of values.
-ghost use Rattle.std.specs.Prelude.{◌≡◌, ◌≤◌, length, [], None};
+ghost use Rattle.std.specs.Prelude.{◌≡◌, ◌≤◌, length, IfOk, [], None};
 ghost use Rattle.lock_run.specs.Space.{space_heap};
-ghost use Rattle.obj_tests.specs.Bench.{Good};
+ghost use Rattle.obj_tests.specs.Bench.{Good, Ready};
 
+mod calling;
 mod calls;
+mod classes;
 mod growth;
+mod input;
 mod kinds;
 mod limits;
 mod looking;
@@ -25,38 +28,75 @@ mod words;
 use self::reading::outcome;
 use self::state::{Bench, Halt};
 use lock_run::PlainView;
-use py_data::{Bytes, Stop, Values, View};
+use obj_class::make_roots;
+use py_data::{Addr, Bytes, Stop, Values, View};
 use std::alloc::{AllocError, Global};
 use std::process::Abort;
 use std::test;
-use stm_io::{MemSink, MemSource};
+use stm_io::{Fail, MemSink, MemSource};
 
 type Tested = Result<(), test::Fail>;
 
 type Plain = PlainView<u8, MemSource, MemSink, MemSink>;
 
-/// An empty heap, with devices that never fail.
-fn plain(alloc: Global) -> Plain
+/// An empty heap, with an input of these bytes, of which these calls fail, and with outputs that never fail.
+fn device(alloc: Global, text: Vec<u8>, fails: Vec<Fail>) -> Plain
     ensures live { result.stopped ≡ None }
     ensures heap { space_heap result.space ≡ (λ a. None) }
 {
     PlainView::new(
         alloc,
-        MemSource::new(alloc, Vec::new(alloc), Vec::new(alloc)),
+        MemSource::new(alloc, text, fails),
         MemSink::new(alloc, Vec::new(alloc)),
         MemSink::new(alloc, Vec::new(alloc)),
     )
 }
 
-/// A bench without values.
-fn fresh<V: View<u8> + Drop>(alloc: Global, view: V) -> Bench<V>
-    requires { Good V.sense [] view }
-    ensures { Good V.sense result.stack result.view }
+/// An empty heap, with devices that never fail and no input.
+fn plain(alloc: Global) -> Plain
+    ensures live { result.stopped ≡ None }
+    ensures heap { space_heap result.space ≡ (λ a. None) }
 {
-    Bench {
+    device(alloc, Vec::new(alloc), Vec::new(alloc))
+}
+
+/// Makes the list of roots.
+fn rooted<S, V: View<S>>(alloc: Global, v: &mut V) -> Result<Addr, Stop>
+    requires { Ready V.sense v.old }
+    ensures { IfOk result (λ a. Good V.sense a.0 [] v.new) }
+{
+    let roots = make_roots(alloc, v)?;
+    Ok(roots)
+}
+
+/// A bench without values, whose heap has the list of roots.
+fn fresh<V: View<u8> + Drop>(alloc: Global, view: V) -> Result<Bench<V>, Stop>
+    requires { Ready V.sense view }
+    ensures { IfOk result (λ b. Good V.sense b.roots.0 b.stack b.view) }
+{
+    let mut view = view;
+    let roots = rooted(alloc, &mut view)?;
+    Ok(Bench {
         alloc,
         view,
+        roots,
         stack: Values::new(alloc),
+    })
+}
+
+/// The same, which is to meet no Stop but want of memory.
+fn started<V: View<u8> + Drop>(
+    rt: &impl Abort,
+    alloc: Global,
+    view: V,
+) -> Result<Bench<V>, AllocError>
+    requires { Ready V.sense view }
+    ensures { IfOk result (λ b. Good V.sense b.roots.0 b.stack b.view) }
+{
+    match fresh(alloc, view) {
+        Ok(bench) => Ok(bench),
+        Err(Stop::OutOfMemory) => Err(AllocError),
+        Err(e) => panic!(rt; "{e:?}"),
     }
 }
 
@@ -69,9 +109,16 @@ fn finished<T: Drop>(rt: &impl Abort, done: Result<T, Halt>) -> Result<T, AllocE
     }
 }
 
-/// Does a program over an empty heap.
-fn tried(rt: &impl Abort, alloc: Global, program: &[u8]) -> Result<Bytes, AllocError> {
-    match outcome(alloc, fresh(alloc, plain(alloc)), program) {
+/// Does a program over a heap that has the list of roots, with an input of these bytes.
+fn tried(
+    rt: &impl Abort,
+    alloc: Global,
+    input: &[u8],
+    program: &[u8],
+) -> Result<Bytes, AllocError> {
+    let view = device(alloc, input.to_vec(alloc)?, Vec::new(alloc));
+    let bench = started(rt, alloc, view)?;
+    match outcome(alloc, bench, program) {
         Ok(text) => Ok(text),
         Err(Stop::OutOfMemory) => Err(AllocError),
         Err(e) => panic!(rt; "{e:?}"),
@@ -92,7 +139,7 @@ fn mark_at(line: &[u8], mark: &[u8]) -> usize
 
 /// Does the program of a row, and fails with the row where it doesn't come to what is expected. A line without words is
 /// no row, nor is one that begins with `#`.
-fn row(rt: &impl Abort, alloc: Global, line: &[u8]) -> Result<(), AllocError> {
+fn row(rt: &impl Abort, alloc: Global, input: &[u8], line: &[u8]) -> Result<(), AllocError> {
     if line.is_empty() || line.starts_with(b"#") {
         return Ok(());
     }
@@ -101,7 +148,7 @@ fn row(rt: &impl Abort, alloc: Global, line: &[u8]) -> Result<(), AllocError> {
         let line = line.escape_ascii();
         panic!(rt; "{line}: no row");
     }
-    let text = tried(rt, alloc, &line[..at])?;
+    let text = tried(rt, alloc, input, &line[..at])?;
     if text.as_slice() != &line[at + 4..] {
         let line = line.escape_ascii();
         let text = text.as_slice().escape_ascii();
@@ -110,16 +157,21 @@ fn row(rt: &impl Abort, alloc: Global, line: &[u8]) -> Result<(), AllocError> {
     Ok(())
 }
 
-/// Does the rows of a table, each over an empty heap of its own.
-fn table(rt: &impl Abort, alloc: Global, rows: &[u8]) -> Result<(), AllocError> {
+/// Does the rows of a table, each over a heap of its own and with an input of these bytes.
+fn table_over(rt: &impl Abort, alloc: Global, input: &[u8], rows: &[u8]) -> Result<(), AllocError> {
     let mut from = 0;
     for _ in 0..rows.len() {
         if from >= rows.len() {
             break;
         }
         let end = from + mark_at(&rows[from..], b"\n");
-        row(rt, alloc, &rows[from..end])?;
+        row(rt, alloc, input, &rows[from..end])?;
         from = end + 1;
     }
     Ok(())
+}
+
+/// Does the rows of a table, each over a heap of its own and without input.
+fn table(rt: &impl Abort, alloc: Global, rows: &[u8]) -> Result<(), AllocError> {
+    table_over(rt, alloc, b"", rows)
 }

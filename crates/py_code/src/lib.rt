@@ -3,11 +3,7 @@
 
 mod assembly;
 mod instr;
-#[cfg(test)]
-mod listing_tests;
 mod program;
-#[cfg(test)]
-mod tests;
 
 pub use assembly::listing;
 pub use instr::{Constant, Instr};

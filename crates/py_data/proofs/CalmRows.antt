@@ -6,7 +6,7 @@ use Rattle.py_data.specs.declared.record.Got.{Got}
 use Rattle.py_data.specs.declared.record.Got.TheVariants.{Is, Raise}
 use Rattle.py_data.specs.Heap.{Rec, value_at}
 use Rattle.py_data.specs.Row.{Row, Ret, Do, Read, Find, Edit, Make, bind}
-use Rattle.py_data.specs.Looking.{until_row, each_row, got_row, size_row, look_row, bytes_row}
+use Rattle.py_data.specs.Looking.{until_row, each_row, got_row, kind_row, size_row, look_row, bytes_row}
 use Rattle.py_data.specs.Steady.{grows, Steady, Calm}
 
 module _ (S : Type 0) where
@@ -67,6 +67,10 @@ module _ (S : Type 0) where
   each_calm f n i (suc m) a = bind_calm (f i a) (got_row (each_row f (i + 1) m)) (n i a) (got_calm (each_row f (i + 1) m) (each_calm f n (i + 1) m))
 
   -- ---- looks at one record
+  pub kind_calm : (a : ℕ) → Calm {S = S} (kind_row a)
+  unfolding kind_row
+  kind_calm a = read_calm a (λ r. Ret r.kind) (λ r. ret_calm _)
+
   pub size_calm : (a : ℕ) → Calm {S = S} (size_row a)
   unfolding size_row
   size_calm a = read_calm a (λ r. Ret (length r.values)) (λ r. ret_calm _)

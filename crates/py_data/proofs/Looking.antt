@@ -8,7 +8,7 @@ use Rattle.py_data.specs.Row.{Call, Reply, Row, Ret, Do, Read, Find, Edit, Make,
 use Rattle.py_data.specs.Sense.{Sense, Lawful, Asks, Effect, Run}
 use Rattle.py_data.specs.Order.{Rules}
 use Rattle.py_data.specs.Holds.{Tends, Holds}
-use Rattle.py_data.specs.Looking.{IsLook, Looks, size_row, look_row, bytes_row}
+use Rattle.py_data.specs.Looking.{IsLook, Looks, kind_row, size_row, look_row, bytes_row}
 use Rattle.py_data.specs.OrderLaws.{LooksHold, LooksRun, LooksBind}
 use Rattle.py_data.proofs.Same.{one_rec}
 use Rattle.py_data.proofs.Steps.{at-is}
@@ -116,8 +116,17 @@ module _ {S X : Type 0} (u : Sense S X) (L : Lawful u) {A : Type 0} where
   pub looks_run : (p : A → Heap → Type 0) → LooksRun u p
   looks_run p row v w y i r = ran_from (λ a. p a (u.heap v)) (u.heap v) row v w y refl i r
 
+-- a record that is there
+pub some_of : (o : Option Rec) → is_some o ≡ true → (r : Rec) × (o ≡ Some r)
+some_of None e = absurd (let q : false ≡ true = e in cc)
+some_of (Some r) e = (r, refl)
+
 -- ---- looks at one record
 module _ (S : Type 0) (h : Heap) (a : ℕ) (r : Rec) (e : h a ≡ Some r) where
+  pub kind_looks : Looks {S = S} (λ k. k ≡ r.kind) (kind_row a) h
+  unfolding kind_row
+  kind_looks = looks_read (λ k. k ≡ r.kind) a (λ r. Ret r.kind) h r e (looks_ret S (λ k. k ≡ r.kind) r.kind h refl)
+
   pub size_looks : Looks {S = S} (λ n. n ≡ length r.values) (size_row a) h
   unfolding size_row
   size_looks = looks_read (λ n. n ≡ length r.values) a (λ r. Ret (length r.values)) h r e (looks_ret S (λ n. n ≡ length r.values) (length r.values) h refl)

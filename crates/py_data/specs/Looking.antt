@@ -1,6 +1,7 @@
 -- Rows that only look, over one heap: each look has what it needs, and what the row answers has a property; and the rows that
 -- loops have. States `docs/HEAP.md`, "Rows that hold".
 use Rattle.std.specs.Prelude.{ℕ, zero, suc, ◌+◌, Bool, false, cond, List, length, Result, Ok, Err}
+use Rattle.py_base.specs.declared.kind.Kind.{Kind}
 use Rattle.py_data.specs.declared.value.Value.{Value}
 use Rattle.py_data.specs.declared.record.Got.{Got}
 use Rattle.py_data.specs.declared.record.Got.TheVariants.{Is, Raise}
@@ -20,6 +21,10 @@ Looks p (Ret a) h = p a
 Looks p (Do c k) h = IsLook c × Asks false c h × ((r : Reply c) → Effect false c h r h → Looks p (k r) h)
 
 -- ---- looks at one record
+
+-- its kind
+unfoldable pub kind_row : {S : Type 0} → ℕ → Row S Kind
+kind_row a = Do (Read a) (λ r. Ret r.kind)
 
 -- how many values it has
 unfoldable pub size_row : {S : Type 0} → ℕ → Row S ℕ

@@ -7,6 +7,7 @@ mod entry;
 pub mod exception;
 mod find;
 mod laws;
+mod looks;
 mod order;
 mod record;
 mod stop;
@@ -23,6 +24,7 @@ pub use laws::{
     afresh_law, bind_law, frame_law, holds_law, looks_law, names_law, order_law, part_law,
     range_law, steady_law, stop_law, world_law,
 };
+pub use looks::{kind, look, size};
 pub use order::{Demands, Property};
 pub use py_base::{
     Bytes, Construct, Duplicate, Items, Kind, Log, NoMemory, Refusal, builtin, operator,

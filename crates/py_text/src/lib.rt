@@ -11,6 +11,3 @@ pub use error::TextError;
 pub use int::{print_int, read_int};
 pub use literal::unescape;
 pub use repr::repr_bytes;
-
-#[cfg(test)]
-mod tests;

@@ -16,6 +16,3 @@ mod word;
 pub use error::TokenError;
 pub use lex::tokens;
 pub use token::{Other, Token, TokenKind};
-
-#[cfg(test)]
-mod tests;

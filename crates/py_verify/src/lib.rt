@@ -9,8 +9,6 @@ mod names;
 mod roots;
 mod setup;
 mod shape;
-#[cfg(test)]
-mod tests;
 mod typing;
 mod verified;
 

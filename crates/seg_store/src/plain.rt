@@ -10,9 +10,6 @@ use py_data::{
 };
 use std::alloc::Global;
 
-#[cfg(test)]
-mod tests;
-
 /// What happens to all records of a segment.
 fn turn_objects(objects: &mut Vec<Object>, k: u8, turn: Turn)
     ensures { slice_get objects.new.items ≡ turned_objects turn k (slice_get objects.old.items) }

@@ -23,5 +23,4 @@ pub mod History
 mod HistoryWorked
 pub mod CoreHeld
 pub mod Finishing
-pub mod ScriptCore
 pub mod Worked

@@ -13,8 +13,6 @@ mod laws;
 mod segment;
 mod standing;
 mod steps;
-#[cfg(test)]
-mod tests;
 mod threads;
 mod transactions;
 

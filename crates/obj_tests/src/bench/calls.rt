@@ -18,13 +18,15 @@ use std::alloc::Global;
 /// The record that a value of the stack refers to, with its kind.
 pub fn record_at<S, V: View<S>>(
     v: &mut V,
+    roots: Addr,
     stack: &Values,
     place: usize,
 ) -> Result<Option<(Addr, Kind)>, Stop>
-    requires good { Good V.sense stack.now v.old }
+    requires good { Good V.sense roots.0 stack.now v.old }
     requires within { place < length stack.now }
-    ensures good { IfOk result (λ _. Good V.sense stack.now v.new) }
+    ensures good { IfOk result (λ _. Good V.sense roots.0 stack.now v.new) }
     ensures kind { IfOk result (λ o. IfSome o (λ p. KindIn (V.sense.heap v.new p.0.0) (λ k. k ≡ p.1))) }
+    ensures same { IfOk result (λ _. V.sense.heap v.new ≡ V.sense.heap v.old) }
 {
     match stack.at(place) {
         Value::Ref(a) => {
@@ -39,13 +41,14 @@ pub fn record_at<S, V: View<S>>(
 pub fn item<S, V: View<S>>(
     alloc: Global,
     v: &mut V,
+    roots: Addr,
     stack: &Values,
     a: Addr,
     i: i64,
 ) -> Result<Got<Value>, Stop>
-    requires good { Good V.sense stack.now v.old }
+    requires good { Good V.sense roots.0 stack.now v.old }
     requires at { IsSequenceAt (V.sense.heap v.old) a.0 }
-    ensures { IfOk result (λ g. GoodWith V.sense IsAnswer stack.now g v.new) }
+    ensures { IfOk result (λ g. GoodWith V.sense roots.0 IsAnswer stack.now g v.new) }
 {
     let got = obj_seq::item(alloc, v, a, i)?;
     Ok(got)
@@ -55,15 +58,16 @@ pub fn item<S, V: View<S>>(
 pub fn set_item<S, V: View<S>>(
     alloc: Global,
     v: &mut V,
+    roots: Addr,
     stack: &Values,
     a: Addr,
     i: i64,
     place: usize,
 ) -> Result<Got<()>, Stop>
-    requires good { Good V.sense stack.now v.old }
+    requires good { Good V.sense roots.0 stack.now v.old }
     requires at { IsListAt (V.sense.heap v.old) a.0 }
     requires place { place < length stack.now }
-    ensures { IfOk result (λ g. GoodWith V.sense IsDone stack.now g v.new) }
+    ensures { IfOk result (λ g. GoodWith V.sense roots.0 IsDone stack.now g v.new) }
 {
     let got = obj_seq::set_item(alloc, v, a, i, stack.at(place))?;
     Ok(got)
@@ -73,13 +77,14 @@ pub fn set_item<S, V: View<S>>(
 pub fn del_item<S, V: View<S>>(
     alloc: Global,
     v: &mut V,
+    roots: Addr,
     stack: &Values,
     a: Addr,
     i: i64,
 ) -> Result<Got<()>, Stop>
-    requires good { Good V.sense stack.now v.old }
+    requires good { Good V.sense roots.0 stack.now v.old }
     requires at { IsListAt (V.sense.heap v.old) a.0 }
-    ensures { IfOk result (λ g. GoodWith V.sense IsDone stack.now g v.new) }
+    ensures { IfOk result (λ g. GoodWith V.sense roots.0 IsDone stack.now g v.new) }
 {
     let got = obj_seq::del_item(alloc, v, a, i)?;
     Ok(got)
@@ -89,13 +94,14 @@ pub fn del_item<S, V: View<S>>(
 pub fn pop<S, V: View<S>>(
     alloc: Global,
     v: &mut V,
+    roots: Addr,
     stack: &Values,
     a: Addr,
     i: i64,
 ) -> Result<Got<Value>, Stop>
-    requires good { Good V.sense stack.now v.old }
+    requires good { Good V.sense roots.0 stack.now v.old }
     requires at { IsListAt (V.sense.heap v.old) a.0 }
-    ensures { IfOk result (λ g. GoodWith V.sense IsAnswer stack.now g v.new) }
+    ensures { IfOk result (λ g. GoodWith V.sense roots.0 IsAnswer stack.now g v.new) }
 {
     let got = obj_seq::pop(alloc, v, a, i)?;
     Ok(got)
@@ -104,15 +110,16 @@ pub fn pop<S, V: View<S>>(
 /// Puts a value into a list.
 pub fn insert<S, V: View<S>>(
     v: &mut V,
+    roots: Addr,
     stack: &Values,
     a: Addr,
     i: i64,
     place: usize,
 ) -> Result<Got<()>, Stop>
-    requires good { Good V.sense stack.now v.old }
+    requires good { Good V.sense roots.0 stack.now v.old }
     requires at { IsListAt (V.sense.heap v.old) a.0 }
     requires place { place < length stack.now }
-    ensures { IfOk result (λ g. GoodWith V.sense IsDone stack.now g v.new) }
+    ensures { IfOk result (λ g. GoodWith V.sense roots.0 IsDone stack.now g v.new) }
 {
     let got = obj_seq::insert(v, a, i, stack.at(place))?;
     Ok(got)
@@ -122,14 +129,15 @@ pub fn insert<S, V: View<S>>(
 pub fn slice<S, V: View<S>>(
     alloc: Global,
     v: &mut V,
+    roots: Addr,
     stack: &Values,
     a: Addr,
     from: Option<i64>,
     to: Option<i64>,
 ) -> Result<Got<Value>, Stop>
-    requires good { Good V.sense stack.now v.old }
+    requires good { Good V.sense roots.0 stack.now v.old }
     requires at { IsSequenceAt (V.sense.heap v.old) a.0 }
-    ensures { IfOk result (λ g. GoodWith V.sense IsAnswer stack.now g v.new) }
+    ensures { IfOk result (λ g. GoodWith V.sense roots.0 IsAnswer stack.now g v.new) }
 {
     let got = obj_seq::slice(alloc, v, a, from, to)?;
     Ok(got)
@@ -139,12 +147,13 @@ pub fn slice<S, V: View<S>>(
 pub fn next<S, V: View<S>>(
     alloc: Global,
     v: &mut V,
+    roots: Addr,
     stack: &Values,
     a: Addr,
 ) -> Result<Got<Option<Value>>, Stop>
-    requires good { Good V.sense stack.now v.old }
+    requires good { Good V.sense roots.0 stack.now v.old }
     requires at { IsIterAt (V.sense.heap v.old) a.0 }
-    ensures { IfOk result (λ g. GoodWith V.sense (IsGot IfItem) stack.now g v.new) }
+    ensures { IfOk result (λ g. GoodWith V.sense roots.0 (IsGot IfItem) stack.now g v.new) }
 {
     let got = obj_seq::next(alloc, v, a)?;
     Ok(got)
@@ -154,14 +163,15 @@ pub fn next<S, V: View<S>>(
 pub fn get<S, V: View<S>>(
     alloc: Global,
     v: &mut V,
+    roots: Addr,
     stack: &Values,
     a: Addr,
     place: usize,
 ) -> Result<Got<Option<Value>>, Stop>
-    requires good { Good V.sense stack.now v.old }
+    requires good { Good V.sense roots.0 stack.now v.old }
     requires at { IsDictAt (V.sense.heap v.old) a.0 }
     requires place { place < length stack.now }
-    ensures { IfOk result (λ g. GoodWith V.sense (IsGot IfItem) stack.now g v.new) }
+    ensures { IfOk result (λ g. GoodWith V.sense roots.0 (IsGot IfItem) stack.now g v.new) }
 {
     let got = obj_dict::get(alloc, v, a, stack.at(place))?;
     Ok(got)
@@ -171,16 +181,17 @@ pub fn get<S, V: View<S>>(
 pub fn set<S, V: View<S>>(
     alloc: Global,
     v: &mut V,
+    roots: Addr,
     stack: &Values,
     a: Addr,
     place: usize,
     value: usize,
 ) -> Result<Got<()>, Stop>
-    requires good { Good V.sense stack.now v.old }
+    requires good { Good V.sense roots.0 stack.now v.old }
     requires at { IsDictAt (V.sense.heap v.old) a.0 }
     requires place { place < length stack.now }
     requires value { value < length stack.now }
-    ensures { IfOk result (λ g. GoodWith V.sense IsDone stack.now g v.new) }
+    ensures { IfOk result (λ g. GoodWith V.sense roots.0 IsDone stack.now g v.new) }
 {
     let got = obj_dict::set(alloc, v, a, stack.at(place), stack.at(value))?;
     Ok(got)
@@ -190,14 +201,15 @@ pub fn set<S, V: View<S>>(
 pub fn del<S, V: View<S>>(
     alloc: Global,
     v: &mut V,
+    roots: Addr,
     stack: &Values,
     a: Addr,
     place: usize,
 ) -> Result<Got<Value>, Stop>
-    requires good { Good V.sense stack.now v.old }
+    requires good { Good V.sense roots.0 stack.now v.old }
     requires at { IsDictAt (V.sense.heap v.old) a.0 }
     requires place { place < length stack.now }
-    ensures { IfOk result (λ g. GoodWith V.sense IsAnswer stack.now g v.new) }
+    ensures { IfOk result (λ g. GoodWith V.sense roots.0 IsAnswer stack.now g v.new) }
 {
     let got = obj_dict::del(alloc, v, a, stack.at(place))?;
     Ok(got)
@@ -207,23 +219,30 @@ pub fn del<S, V: View<S>>(
 pub fn list_of<S, V: View<S>>(
     alloc: Global,
     v: &mut V,
+    roots: Addr,
     stack: &Values,
     a: Addr,
     part: Part,
 ) -> Result<Got<Value>, Stop>
-    requires good { Good V.sense stack.now v.old }
+    requires good { Good V.sense roots.0 stack.now v.old }
     requires at { IsDictAt (V.sense.heap v.old) a.0 }
-    ensures { IfOk result (λ g. GoodWith V.sense IsAnswer stack.now g v.new) }
+    ensures { IfOk result (λ g. GoodWith V.sense roots.0 IsAnswer stack.now g v.new) }
 {
     let got = obj_dict::list_of(alloc, v, a, part)?;
     Ok(got)
 }
 
 /// Turns a list round.
-pub fn reverse<S, V: View<S>>(alloc: Global, v: &mut V, stack: &Values, a: Addr) -> Result<(), Stop>
-    requires good { Good V.sense stack.now v.old }
+pub fn reverse<S, V: View<S>>(
+    alloc: Global,
+    v: &mut V,
+    roots: Addr,
+    stack: &Values,
+    a: Addr,
+) -> Result<(), Stop>
+    requires good { Good V.sense roots.0 stack.now v.old }
     requires at { IsListAt (V.sense.heap v.old) a.0 }
-    ensures { IfOk result (λ _. Good V.sense stack.now v.new) }
+    ensures { IfOk result (λ _. Good V.sense roots.0 stack.now v.new) }
 {
     obj_seq::reverse(alloc, v, a)?;
     Ok(())
@@ -233,12 +252,13 @@ pub fn reverse<S, V: View<S>>(alloc: Global, v: &mut V, stack: &Values, a: Addr)
 pub fn make_iter<S, V: View<S>>(
     alloc: Global,
     v: &mut V,
+    roots: Addr,
     stack: &Values,
     place: usize,
 ) -> Result<Got<Value>, Stop>
-    requires good { Good V.sense stack.now v.old }
+    requires good { Good V.sense roots.0 stack.now v.old }
     requires place { place < length stack.now }
-    ensures { IfOk result (λ g. GoodWith V.sense (IsGot IsIterator) stack.now g v.new) }
+    ensures { IfOk result (λ g. GoodWith V.sense roots.0 (IsGot IsIterator) stack.now g v.new) }
 {
     let got = obj_seq::make_iter(alloc, v, stack.at(place))?;
     Ok(got)
@@ -248,32 +268,39 @@ pub fn make_iter<S, V: View<S>>(
 pub fn gather<S, V: View<S>>(
     alloc: Global,
     v: &mut V,
+    roots: Addr,
     stack: &Values,
     place: usize,
 ) -> Result<Got<Values>, Stop>
-    requires good { Good V.sense stack.now v.old }
+    requires good { Good V.sense roots.0 stack.now v.old }
     requires place { place < length stack.now }
-    ensures { IfOk result (λ g. GoodWith V.sense (IsGot AreItems) stack.now g v.new) }
+    ensures { IfOk result (λ g. GoodWith V.sense roots.0 (IsGot AreItems) stack.now g v.new) }
 {
     let got = obj_seq::gather(alloc, v, stack.at(place))?;
     Ok(got)
 }
 
 /// The length of a string.
-fn text_size<S, V: View<S>>(v: &mut V, stack: &Values, a: Addr) -> Result<usize, Stop>
-    requires good { Good V.sense stack.now v.old }
+fn text_size<S, V: View<S>>(v: &mut V, roots: Addr, stack: &Values, a: Addr) -> Result<usize, Stop>
+    requires good { Good V.sense roots.0 stack.now v.old }
     requires at { IsStrAt (V.sense.heap v.old) a.0 }
-    ensures { IfOk result (λ _. Good V.sense stack.now v.new) }
+    ensures { IfOk result (λ _. Good V.sense roots.0 stack.now v.new) }
 {
     let n = v.byte_len(a)?;
     Ok(n)
 }
 
 /// How many values a record of a kind has, or pairs.
-fn record_size<S, V: View<S>>(v: &mut V, stack: &Values, a: Addr, kind: Kind) -> Result<usize, Stop>
-    requires good { Good V.sense stack.now v.old }
+fn record_size<S, V: View<S>>(
+    v: &mut V,
+    roots: Addr,
+    stack: &Values,
+    a: Addr,
+    kind: Kind,
+) -> Result<usize, Stop>
+    requires good { Good V.sense roots.0 stack.now v.old }
     requires at { KindIn (V.sense.heap v.old a.0) (λ k. k ≡ kind) }
-    ensures { IfOk result (λ _. Good V.sense stack.now v.new) }
+    ensures { IfOk result (λ _. Good V.sense roots.0 stack.now v.new) }
 {
     let n = v.len(a)?;
     match kind {
@@ -285,20 +312,21 @@ fn record_size<S, V: View<S>>(v: &mut V, stack: &Values, a: Addr, kind: Kind) ->
 /// The length of a record of the stack: of its bytes, its pairs or its values.
 pub fn size_at<S, V: View<S>>(
     v: &mut V,
+    roots: Addr,
     stack: &Values,
     place: usize,
 ) -> Result<Option<usize>, Stop>
-    requires good { Good V.sense stack.now v.old }
+    requires good { Good V.sense roots.0 stack.now v.old }
     requires within { place < length stack.now }
-    ensures { IfOk result (λ _. Good V.sense stack.now v.new) }
+    ensures { IfOk result (λ _. Good V.sense roots.0 stack.now v.new) }
 {
-    match record_at(v, stack, place)? {
+    match record_at(v, roots, stack, place)? {
         Some((a, Kind::Str)) => {
-            let n = text_size(v, stack, a)?;
+            let n = text_size(v, roots, stack, a)?;
             Ok(Some(n))
         }
         Some((a, kind)) => {
-            let n = record_size(v, stack, a, kind)?;
+            let n = record_size(v, roots, stack, a, kind)?;
             Ok(Some(n))
         }
         None => Ok(None),
@@ -309,12 +337,13 @@ pub fn size_at<S, V: View<S>>(
 pub fn bytes_in<S, V: View<S>>(
     alloc: Global,
     v: &mut V,
+    roots: Addr,
     stack: &Values,
     a: Addr,
 ) -> Result<Bytes, Stop>
-    requires good { Good V.sense stack.now v.old }
+    requires good { Good V.sense roots.0 stack.now v.old }
     requires at { IsStrAt (V.sense.heap v.old) a.0 }
-    ensures { IfOk result (λ _. Good V.sense stack.now v.new) }
+    ensures { IfOk result (λ _. Good V.sense roots.0 stack.now v.new) }
 {
     let bytes = bytes_of(alloc, v, a)?;
     Ok(bytes)

@@ -9,7 +9,7 @@ ghost use Rattle.obj_tests.specs.Bench.{Good};
 use super::kinds::list_at;
 use super::stacking::{Leaf, build, push_leaf};
 use super::state::{Bench, Halt};
-use super::{Tested, finished, fresh, plain};
+use super::{Tested, finished, plain, started};
 use obj_seq::insert;
 use py_data::{Addr, Got, Kind, NoMemory, Peek, Stop, Value, Values, View};
 use std::alloc::Global;
@@ -27,8 +27,13 @@ fn peeked<P: Peek>(alloc: Global, image: &P, a: Addr) -> Result<Values, NoMemory
 }
 
 /// `insert` at the front of a list.
-fn insert_front<S, V: View<S>>(v: &mut V, stack: &Values, a: Addr) -> Result<Got<()>, Stop>
-    requires good { Good V.sense stack.now v.old }
+fn insert_front<S, V: View<S>>(
+    v: &mut V,
+    roots: Addr,
+    stack: &Values,
+    a: Addr,
+) -> Result<Got<()>, Stop>
+    requires good { Good V.sense roots.0 stack.now v.old }
     requires at { IsListAt (V.sense.heap v.old) a.0 }
     ensures { Meets V.sense (insert_row a.0 (pos 0) (Int (pos 9))) v.old v.new result }
 {
@@ -36,22 +41,22 @@ fn insert_front<S, V: View<S>>(v: &mut V, stack: &Values, a: Addr) -> Result<Got
 }
 
 /// The Stop of `insert` at the front of a list, if there was one.
-fn insert_stop<S, V: View<S>>(v: &mut V, stack: &Values, a: Addr) -> Option<Stop>
-    requires good { Good V.sense stack.now v.old }
+fn insert_stop<S, V: View<S>>(v: &mut V, roots: Addr, stack: &Values, a: Addr) -> Option<Stop>
+    requires good { Good V.sense roots.0 stack.now v.old }
     requires at { IsListAt (V.sense.heap v.old) a.0 }
     ensures { IfSome result (λ e. Stopped V.sense (insert_row a.0 (pos 0) (Int (pos 9))) v.old e v.new) }
 {
-    insert_front(v, stack, a).err()
+    insert_front(v, roots, stack, a).err()
 }
 
 /// `insert` at the front of a list, in a step that is taken back where it was stopped. The Stop, if there was one.
-fn insert_or_back<S, V: View<S>>(v: &mut V, stack: &Values, a: Addr) -> Option<Stop>
-    requires good { Good V.sense stack.now v.old }
+fn insert_or_back<S, V: View<S>>(v: &mut V, roots: Addr, stack: &Values, a: Addr) -> Option<Stop>
+    requires good { Good V.sense roots.0 stack.now v.old }
     requires at { IsListAt (V.sense.heap v.old) a.0 }
     ensures { IfSome result (λ _. V.sense.heap v.new ≡ V.sense.heap v.old) }
 {
     v.open_step();
-    match insert_stop(v, stack, a) {
+    match insert_stop(v, roots, stack, a) {
         Some(e) => {
             v.undo_step();
             Some(e)
@@ -64,15 +69,16 @@ fn insert_or_back<S, V: View<S>>(v: &mut V, stack: &Values, a: Addr) -> Option<S
 fn inserts_or_keeps<S, V: View<S> + Peek>(
     alloc: Global,
     v: &mut V,
+    roots: Addr,
     stack: &Values,
     a: Addr,
 ) -> Result<bool, NoMemory>
-    requires good { Good V.sense stack.now v.old }
+    requires good { Good V.sense roots.0 stack.now v.old }
     requires at { IsListAt (V.sense.heap v.old) a.0 }
     requires same { (x : V) → V.image x ≡ V.sense.heap x }
 {
     let before = peeked(alloc, v, a)?;
-    match insert_or_back(v, stack, a) {
+    match insert_or_back(v, roots, stack, a) {
         None => Ok(true),
         Some(Stop::OutOfMemory) => {
             let after = peeked(alloc, v, a)?;
@@ -84,8 +90,8 @@ fn inserts_or_keeps<S, V: View<S> + Peek>(
 
 /// The list 1, 2, 3.
 fn three<V: View<u8> + Drop>(bench: Bench<V>) -> Result<Bench<V>, Halt>
-    requires { Good V.sense bench.stack bench.view }
-    ensures { IfOk result (λ b. Good V.sense b.stack b.view) }
+    requires { Good V.sense bench.roots.0 bench.stack bench.view }
+    ensures { IfOk result (λ b. Good V.sense b.roots.0 b.stack b.view) }
 {
     let bench = push_leaf(bench, Leaf::Int(1))?;
     let bench = push_leaf(bench, Leaf::Int(2))?;
@@ -95,21 +101,22 @@ fn three<V: View<u8> + Drop>(bench: Bench<V>) -> Result<Bench<V>, Halt>
 
 /// `insert` at the front of the list 1, 2, 3.
 fn inserts_in_three<V: View<u8> + Peek + Drop>(bench: Bench<V>) -> Result<bool, Halt>
-    requires good { Good V.sense bench.stack bench.view }
+    requires good { Good V.sense bench.roots.0 bench.stack bench.view }
     requires same { (x : V) → V.image x ≡ V.sense.heap x }
 {
     let Bench {
         alloc,
         mut view,
+        roots,
         stack,
     } = three(bench)?;
     let n = stack.len();
     if n < 1 {
         return Err(Halt::Bad);
     }
-    match list_at(&mut view, &stack, n - 1)? {
+    match list_at(&mut view, roots, &stack, n - 1)? {
         Some(a) => {
-            let kept = inserts_or_keeps(alloc, &mut view, &stack, a)?;
+            let kept = inserts_or_keeps(alloc, &mut view, roots, &stack, a)?;
             Ok(kept)
         }
         None => Err(Halt::Bad),
@@ -121,6 +128,7 @@ fn inserts_in_three<V: View<u8> + Peek + Drop>(bench: Bench<V>) -> Result<bool, 
 #[test]
 fn inserts_or_undoes(rt: HostRuntime) -> Tested {
     let alloc = rt.alloc();
-    assert!(rt; finished(&rt, inserts_in_three(fresh(alloc, plain(alloc))))?);
+    let bench = started(&rt, alloc, plain(alloc))?;
+    assert!(rt; finished(&rt, inserts_in_three(bench))?);
     Ok(())
 }

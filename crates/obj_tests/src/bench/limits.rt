@@ -8,7 +8,7 @@ use super::kinds::{dict_at, list_at};
 use super::pairs::numbered;
 use super::stacking::{Leaf, drop_top, pick, push_leaf, times};
 use super::state::{Bench, Halt};
-use super::{Tested, calls, finished, fresh, plain, table, words};
+use super::{Tested, calls, finished, plain, started, table, words};
 use obj_dict::Part;
 use py_data::exception::MEMORY_ERROR;
 use py_data::{Fault, Got, Value, Values, View, With};
@@ -28,20 +28,21 @@ type Counted = (Got<()>, Option<usize>);
 
 /// Sets the second value of the stack, a key, to the third one in the dictionary that is the first.
 fn set_in_first<V: View<u8> + Drop>(bench: Bench<V>) -> Result<Counted, Halt>
-    requires { Good V.sense bench.stack bench.view }
+    requires { Good V.sense bench.roots.0 bench.stack bench.view }
 {
     let Bench {
         alloc,
         mut view,
+        roots,
         stack,
     } = bench;
     if stack.len() < 3 {
         return Err(Halt::Bad);
     }
-    match dict_at(&mut view, &stack, 0)? {
+    match dict_at(&mut view, roots, &stack, 0)? {
         Some(d) => {
-            let got = calls::set(alloc, &mut view, &stack, d, 1, 2)?;
-            let count = calls::size_at(&mut view, &stack, 0)?;
+            let got = calls::set(alloc, &mut view, roots, &stack, d, 1, 2)?;
+            let count = calls::size_at(&mut view, roots, &stack, 0)?;
             Ok((got, count))
         }
         None => Err(Halt::Bad),
@@ -50,20 +51,21 @@ fn set_in_first<V: View<u8> + Drop>(bench: Bench<V>) -> Result<Counted, Halt>
 
 /// Puts the second value of the stack at the end of the list that is the first.
 fn insert_in_first<V: View<u8> + Drop>(bench: Bench<V>) -> Result<Counted, Halt>
-    requires { Good V.sense bench.stack bench.view }
+    requires { Good V.sense bench.roots.0 bench.stack bench.view }
 {
     let Bench {
         mut view,
+        roots,
         stack,
         ..
     } = bench;
     if stack.len() < 2 {
         return Err(Halt::Bad);
     }
-    match list_at(&mut view, &stack, 0)? {
+    match list_at(&mut view, roots, &stack, 0)? {
         Some(a) => {
-            let got = calls::insert(&mut view, &stack, a, i64::MAX, 1)?;
-            let count = calls::size_at(&mut view, &stack, 0)?;
+            let got = calls::insert(&mut view, roots, &stack, a, i64::MAX, 1)?;
+            let count = calls::size_at(&mut view, roots, &stack, 0)?;
             Ok((got, count))
         }
         None => Err(Halt::Bad),
@@ -72,7 +74,7 @@ fn insert_in_first<V: View<u8> + Drop>(bench: Bench<V>) -> Result<Counted, Halt>
 
 /// `set` of a key in a dictionary of the keys from 0 up to `n`.
 fn set_in_pairs<V: View<u8> + Drop>(bench: Bench<V>, n: usize, key: i64) -> Result<Counted, Halt>
-    requires { Good V.sense bench.stack bench.view }
+    requires { Good V.sense bench.roots.0 bench.stack bench.view }
 {
     let bench = numbered(bench, n)?;
     let bench = push_leaf(bench, Leaf::Int(key))?;
@@ -82,7 +84,7 @@ fn set_in_pairs<V: View<u8> + Drop>(bench: Bench<V>, n: usize, key: i64) -> Resu
 
 /// `insert` at the end of a list of `n` zeros.
 fn insert_in_zeros<V: View<u8> + Drop>(bench: Bench<V>, n: usize) -> Result<Counted, Halt>
-    requires { Good V.sense bench.stack bench.view }
+    requires { Good V.sense bench.roots.0 bench.stack bench.view }
 {
     let bench = push_leaf(bench, Leaf::Int(0))?;
     let bench = times(bench, n)?;
@@ -103,8 +105,8 @@ fn is_memory_error<T>(got: &Got<T>) -> bool {
 
 /// Sets a key of the dictionary at the top to its negative, in a step of its own.
 fn set_top<V: View<u8> + Drop>(bench: Bench<V>, key: i64) -> Result<Bench<V>, Halt>
-    requires { Good V.sense bench.stack bench.view }
-    ensures { IfOk result (λ b. Good V.sense b.stack b.view) }
+    requires { Good V.sense bench.roots.0 bench.stack bench.view }
+    ensures { IfOk result (λ b. Good V.sense b.roots.0 b.stack b.view) }
 {
     let bench = stepped(bench);
     let bench = pick(bench, 0)?;
@@ -115,8 +117,8 @@ fn set_top<V: View<u8> + Drop>(bench: Bench<V>, key: i64) -> Result<Bench<V>, Ha
 
 /// Drops a key of the dictionary at the top, in a step of its own.
 fn del_top<V: View<u8> + Drop>(bench: Bench<V>, key: i64) -> Result<Bench<V>, Halt>
-    requires { Good V.sense bench.stack bench.view }
-    ensures { IfOk result (λ b. Good V.sense b.stack b.view) }
+    requires { Good V.sense bench.roots.0 bench.stack bench.view }
+    ensures { IfOk result (λ b. Good V.sense b.roots.0 b.stack b.view) }
 {
     let bench = stepped(bench);
     let bench = pick(bench, 0)?;
@@ -127,22 +129,28 @@ fn del_top<V: View<u8> + Drop>(bench: Bench<V>, key: i64) -> Result<Bench<V>, Ha
 
 /// A step is opened.
 fn stepped<V: View<u8> + Drop>(bench: Bench<V>) -> Bench<V>
-    requires { Good V.sense bench.stack bench.view }
-    ensures { Good V.sense result.stack result.view }
+    requires { Good V.sense bench.roots.0 bench.stack bench.view }
+    ensures { Good V.sense result.roots.0 result.stack result.view }
 {
     let Bench {
         alloc,
         mut view,
+        roots,
         stack,
     } = bench;
     view.open_step();
-    Bench { alloc, view, stack }
+    Bench {
+        alloc,
+        view,
+        roots,
+        stack,
+    }
 }
 
 /// Sets the keys from 0 up to 5,000 of the dictionary at the top.
 fn filled<V: View<u8> + Drop>(bench: Bench<V>) -> Result<Bench<V>, Halt>
-    requires { Good V.sense bench.stack bench.view }
-    ensures { IfOk result (λ b. Good V.sense b.stack b.view) }
+    requires { Good V.sense bench.roots.0 bench.stack bench.view }
+    ensures { IfOk result (λ b. Good V.sense b.roots.0 b.stack b.view) }
 {
     let mut bench = bench;
     for key in 0..5_000i64 {
@@ -153,8 +161,8 @@ fn filled<V: View<u8> + Drop>(bench: Bench<V>) -> Result<Bench<V>, Halt>
 
 /// Drops the odd keys up to 5,000 of the dictionary at the top.
 fn thinned<V: View<u8> + Drop>(bench: Bench<V>) -> Result<Bench<V>, Halt>
-    requires { Good V.sense bench.stack bench.view }
-    ensures { IfOk result (λ b. Good V.sense b.stack b.view) }
+    requires { Good V.sense bench.roots.0 bench.stack bench.view }
+    ensures { IfOk result (λ b. Good V.sense b.roots.0 b.stack b.view) }
 {
     let mut bench = bench;
     for k in 0..2_500u16 {
@@ -165,8 +173,8 @@ fn thinned<V: View<u8> + Drop>(bench: Bench<V>) -> Result<Bench<V>, Halt>
 
 /// A dictionary of 5,000 keys, of which every second one was dropped.
 fn evens<V: View<u8> + Drop>(bench: Bench<V>) -> Result<Bench<V>, Halt>
-    requires { Good V.sense bench.stack bench.view }
-    ensures { IfOk result (λ b. Good V.sense b.stack b.view) }
+    requires { Good V.sense bench.roots.0 bench.stack bench.view }
+    ensures { IfOk result (λ b. Good V.sense b.roots.0 b.stack b.view) }
 {
     let bench = numbered(bench, 0)?;
     let bench = filled(bench)?;
@@ -175,18 +183,19 @@ fn evens<V: View<u8> + Drop>(bench: Bench<V>) -> Result<Bench<V>, Halt>
 
 /// The items of the top value.
 fn items_of_top<V: View<u8> + Drop>(bench: Bench<V>) -> Result<Values, Halt>
-    requires { Good V.sense bench.stack bench.view }
+    requires { Good V.sense bench.roots.0 bench.stack bench.view }
 {
     let Bench {
         alloc,
         mut view,
+        roots,
         stack,
     } = bench;
     let n = stack.len();
     if n < 1 {
         return Err(Halt::Bad);
     }
-    match calls::gather(alloc, &mut view, &stack, n - 1)? {
+    match calls::gather(alloc, &mut view, roots, &stack, n - 1)? {
         Got::Is(values) => Ok(values),
         Got::Raise(_) => Err(Halt::Bad),
     }
@@ -194,7 +203,7 @@ fn items_of_top<V: View<u8> + Drop>(bench: Bench<V>) -> Result<Values, Halt>
 
 /// What an iterator over that dictionary gives.
 fn even_keys<V: View<u8> + Drop>(bench: Bench<V>) -> Result<Values, Halt>
-    requires { Good V.sense bench.stack bench.view }
+    requires { Good V.sense bench.roots.0 bench.stack bench.view }
 {
     let bench = evens(bench)?;
     let bench = words::make_iter(bench)?;
@@ -203,7 +212,7 @@ fn even_keys<V: View<u8> + Drop>(bench: Bench<V>) -> Result<Values, Halt>
 
 /// The values that dictionary has.
 fn even_values<V: View<u8> + Drop>(bench: Bench<V>) -> Result<Values, Halt>
-    requires { Good V.sense bench.stack bench.view }
+    requires { Good V.sense bench.roots.0 bench.stack bench.view }
 {
     let bench = evens(bench)?;
     let bench = words::list_of(bench, Part::Values)?;
@@ -224,13 +233,13 @@ fn are_multiples(values: &[Value], of: i64) -> bool {
 
 /// What `set` answers for a dictionary of the keys from 0 up to `n`, and how many pairs it has then.
 fn set_answer(rt: &impl Abort, alloc: Global, n: usize, key: i64) -> Result<Counted, AllocError> {
-    let bench = fresh(alloc, plain(alloc));
+    let bench = started(rt, alloc, plain(alloc))?;
     finished(rt, set_in_pairs(bench, n, key))
 }
 
 /// What `insert` at the end answers for a list of `n` zeros, and how many values it has then.
 fn insert_answer(rt: &impl Abort, alloc: Global, n: usize) -> Result<Counted, AllocError> {
-    let bench = fresh(alloc, plain(alloc));
+    let bench = started(rt, alloc, plain(alloc))?;
     finished(rt, insert_in_zeros(bench, n))
 }
 
@@ -283,10 +292,12 @@ fn inserts_past_the_limit(rt: HostRuntime) -> Tested {
 #[test]
 fn every_second_key_dropped(rt: HostRuntime) -> Tested {
     let alloc = rt.alloc();
-    let keys = finished(&rt, even_keys(fresh(alloc, plain(alloc))))?;
+    let bench = started(&rt, alloc, plain(alloc))?;
+    let keys = finished(&rt, even_keys(bench))?;
     assert_eq!(rt; keys.len(), 2_500);
     assert!(rt; are_multiples(keys.as_slice(), 2));
-    let values = finished(&rt, even_values(fresh(alloc, plain(alloc))))?;
+    let bench = started(&rt, alloc, plain(alloc))?;
+    let values = finished(&rt, even_values(bench))?;
     assert_eq!(rt; values.len(), 2_500);
     assert!(rt; are_multiples(values.as_slice(), -2));
     Ok(())

@@ -10,15 +10,16 @@ use std::cmp::Ordering;
 pub fn text<S, V: View<S>>(
     alloc: Global,
     v: &mut V,
+    roots: Addr,
     stack: &Values,
     place: usize,
     quoted: bool,
 ) -> Result<Got<Bytes>, Stop>
-    requires good { Good V.sense stack.now v.old }
+    requires good { Good V.sense roots.0 stack.now v.old }
     requires place { place < length stack.now }
-    ensures { IfOk result (λ _. Good V.sense stack.now v.new) }
+    ensures { IfOk result (λ _. Good V.sense roots.0 stack.now v.new) }
 {
-    let got = obj_nest::text(alloc, v, Addr(0), stack.at(place), quoted)?;
+    let got = obj_class::text(alloc, v, roots, stack.at(place), quoted)?;
     Ok(got)
 }
 
@@ -26,14 +27,15 @@ pub fn text<S, V: View<S>>(
 pub fn equal<S, V: View<S>>(
     alloc: Global,
     v: &mut V,
+    roots: Addr,
     stack: &Values,
     place: usize,
     other: usize,
 ) -> Result<Got<bool>, Stop>
-    requires good { Good V.sense stack.now v.old }
+    requires good { Good V.sense roots.0 stack.now v.old }
     requires place { place < length stack.now }
     requires other { other < length stack.now }
-    ensures { IfOk result (λ _. Good V.sense stack.now v.new) }
+    ensures { IfOk result (λ _. Good V.sense roots.0 stack.now v.new) }
 {
     let got = obj_nest::equal(alloc, v, stack.at(place), stack.at(other))?;
     Ok(got)
@@ -43,24 +45,30 @@ pub fn equal<S, V: View<S>>(
 pub fn order<S, V: View<S>>(
     alloc: Global,
     v: &mut V,
+    roots: Addr,
     stack: &Values,
     place: usize,
     other: usize,
 ) -> Result<Got<Ordering>, Stop>
-    requires good { Good V.sense stack.now v.old }
+    requires good { Good V.sense roots.0 stack.now v.old }
     requires place { place < length stack.now }
     requires other { other < length stack.now }
-    ensures { IfOk result (λ _. Good V.sense stack.now v.new) }
+    ensures { IfOk result (λ _. Good V.sense roots.0 stack.now v.new) }
 {
     let got = obj_nest::order(alloc, v, stack.at(place), stack.at(other))?;
     Ok(got)
 }
 
 /// Whether a value of the stack counts as true.
-pub fn truth<S, V: View<S>>(v: &mut V, stack: &Values, place: usize) -> Result<bool, Stop>
-    requires good { Good V.sense stack.now v.old }
+pub fn truth<S, V: View<S>>(
+    v: &mut V,
+    roots: Addr,
+    stack: &Values,
+    place: usize,
+) -> Result<bool, Stop>
+    requires good { Good V.sense roots.0 stack.now v.old }
     requires place { place < length stack.now }
-    ensures { IfOk result (λ _. Good V.sense stack.now v.new) }
+    ensures { IfOk result (λ _. Good V.sense roots.0 stack.now v.new) }
 {
     let yes = obj_nest::truth(v, stack.at(place))?;
     Ok(yes)

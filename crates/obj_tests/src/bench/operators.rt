@@ -1,18 +1,10 @@
-//! The operators, and the methods of strings, over a view whose heap is in order, and the words of a program for them.
+//! The operators over a view whose heap is in order, and the words of a program for them.
 ghost use Rattle.std.specs.Prelude.{◌<◌, length, IfOk};
 ghost use Rattle.py_base.specs.Numbers.{binary_signs, compare_signs, unary_signs};
 ghost use Rattle.py_data.specs.Answers.{IsAnswer};
-ghost use Rattle.py_data.specs.Closed.{IsItem};
-ghost use Rattle.py_data.specs.Every.{Every};
-ghost use Rattle.obj_str.specs.HoldsLaws.{IsStrAt};
 ghost use Rattle.obj_tests.specs.Bench.{Good, GoodWith};
 
-use super::kinds::str_at;
 use super::state::{Bench, Halt, answered};
-use py_base::builtin::{
-    STR_ENDSWITH, STR_FIND, STR_JOIN, STR_LOWER, STR_REPLACE, STR_SPLIT, STR_STARTSWITH, STR_STRIP,
-    STR_UPPER,
-};
 use py_base::operator::unary::{INVERT, MINUS, PLUS};
 use py_base::{binary_number, compare_number, operator};
 use py_data::{Addr, Got, Stop, Value, Values, View};
@@ -22,18 +14,19 @@ use std::alloc::Global;
 fn call_binary<S, V: View<S>>(
     alloc: Global,
     v: &mut V,
+    roots: Addr,
     stack: &Values,
     op: u8,
     place: usize,
     other: usize,
 ) -> Result<Got<Value>, Stop>
-    requires good { Good V.sense stack.now v.old }
+    requires good { Good V.sense roots.0 stack.now v.old }
     requires number { op < length binary_signs }
     requires place { place < length stack.now }
     requires other { other < length stack.now }
-    ensures { IfOk result (λ g. GoodWith V.sense IsAnswer stack.now g v.new) }
+    ensures { IfOk result (λ g. GoodWith V.sense roots.0 IsAnswer stack.now g v.new) }
 {
-    let got = obj_ops::binary(alloc, v, Addr(0), op, stack.at(place), stack.at(other))?;
+    let got = obj_ops::binary(alloc, v, roots, op, stack.at(place), stack.at(other))?;
     Ok(got)
 }
 
@@ -41,18 +34,19 @@ fn call_binary<S, V: View<S>>(
 fn call_in_place<S, V: View<S>>(
     alloc: Global,
     v: &mut V,
+    roots: Addr,
     stack: &Values,
     op: u8,
     place: usize,
     other: usize,
 ) -> Result<Got<Value>, Stop>
-    requires good { Good V.sense stack.now v.old }
+    requires good { Good V.sense roots.0 stack.now v.old }
     requires number { op < length binary_signs }
     requires place { place < length stack.now }
     requires other { other < length stack.now }
-    ensures { IfOk result (λ g. GoodWith V.sense IsAnswer stack.now g v.new) }
+    ensures { IfOk result (λ g. GoodWith V.sense roots.0 IsAnswer stack.now g v.new) }
 {
-    let got = obj_ops::in_place(alloc, v, Addr(0), op, stack.at(place), stack.at(other))?;
+    let got = obj_ops::in_place(alloc, v, roots, op, stack.at(place), stack.at(other))?;
     Ok(got)
 }
 
@@ -60,16 +54,17 @@ fn call_in_place<S, V: View<S>>(
 fn call_compare<S, V: View<S>>(
     alloc: Global,
     v: &mut V,
+    roots: Addr,
     stack: &Values,
     op: u8,
     place: usize,
     other: usize,
 ) -> Result<Got<Value>, Stop>
-    requires good { Good V.sense stack.now v.old }
+    requires good { Good V.sense roots.0 stack.now v.old }
     requires number { op < length compare_signs }
     requires place { place < length stack.now }
     requires other { other < length stack.now }
-    ensures { IfOk result (λ g. GoodWith V.sense IsAnswer stack.now g v.new) }
+    ensures { IfOk result (λ g. GoodWith V.sense roots.0 IsAnswer stack.now g v.new) }
 {
     let got = obj_ops::compare(alloc, v, op, stack.at(place), stack.at(other))?;
     Ok(got)
@@ -79,111 +74,98 @@ fn call_compare<S, V: View<S>>(
 fn call_unary<S, V: View<S>>(
     alloc: Global,
     v: &mut V,
+    roots: Addr,
     stack: &Values,
     op: u8,
     place: usize,
 ) -> Result<Got<Value>, Stop>
-    requires good { Good V.sense stack.now v.old }
+    requires good { Good V.sense roots.0 stack.now v.old }
     requires number { op < length unary_signs }
     requires place { place < length stack.now }
-    ensures { IfOk result (λ g. GoodWith V.sense IsAnswer stack.now g v.new) }
+    ensures { IfOk result (λ g. GoodWith V.sense roots.0 IsAnswer stack.now g v.new) }
 {
     let got = obj_ops::unary(alloc, v, op, stack.at(place))?;
     Ok(got)
 }
 
-/// A method of the string at an address.
-fn call_method<S, V: View<S>>(
-    alloc: Global,
-    v: &mut V,
-    stack: &Values,
-    m: u8,
-    a: Addr,
-    args: &[Value],
-) -> Result<Got<Value>, Stop>
-    requires good { Good V.sense stack.now v.old }
-    requires at { IsStrAt (V.sense.heap v.old) a.0 }
-    requires args { Every (IsItem (V.sense.heap v.old)) args.now }
-    ensures { IfOk result (λ g. GoodWith V.sense IsAnswer stack.now g v.new) }
-{
-    let got = obj_str::str_method(alloc, v, m, a, args)?;
-    Ok(got)
-}
-
 /// `x y +` and the like.
 fn binary<V: View<u8> + Drop>(bench: Bench<V>, op: u8) -> Result<Bench<V>, Halt>
-    requires good { Good V.sense bench.stack bench.view }
+    requires good { Good V.sense bench.roots.0 bench.stack bench.view }
     requires number { op < length binary_signs }
-    ensures { IfOk result (λ b. Good V.sense b.stack b.view) }
+    ensures { IfOk result (λ b. Good V.sense b.roots.0 b.stack b.view) }
 {
     let Bench {
         alloc,
         mut view,
+        roots,
         stack,
     } = bench;
     let n = stack.len();
     if n < 2 {
         return Err(Halt::Bad);
     }
-    let got = call_binary(alloc, &mut view, &stack, op, n - 2, n - 1)?;
-    answered(alloc, view, stack, n - 2, got)
+    let got = call_binary(alloc, &mut view, roots, &stack, op, n - 2, n - 1)?;
+    answered(alloc, view, roots, stack, n - 2, got)
 }
 
 /// `x y +=` and the like.
 fn in_place<V: View<u8> + Drop>(bench: Bench<V>, op: u8) -> Result<Bench<V>, Halt>
-    requires good { Good V.sense bench.stack bench.view }
+    requires good { Good V.sense bench.roots.0 bench.stack bench.view }
     requires number { op < length binary_signs }
-    ensures { IfOk result (λ b. Good V.sense b.stack b.view) }
+    ensures { IfOk result (λ b. Good V.sense b.roots.0 b.stack b.view) }
 {
     let Bench {
         alloc,
         mut view,
+        roots,
         stack,
     } = bench;
     let n = stack.len();
     if n < 2 {
         return Err(Halt::Bad);
     }
-    let got = call_in_place(alloc, &mut view, &stack, op, n - 2, n - 1)?;
-    answered(alloc, view, stack, n - 2, got)
+    let got = call_in_place(alloc, &mut view, roots, &stack, op, n - 2, n - 1)?;
+    answered(alloc, view, roots, stack, n - 2, got)
 }
 
 /// `x y <` and the like.
 fn compare<V: View<u8> + Drop>(bench: Bench<V>, op: u8) -> Result<Bench<V>, Halt>
-    requires good { Good V.sense bench.stack bench.view }
+    requires good { Good V.sense bench.roots.0 bench.stack bench.view }
     requires number { op < length compare_signs }
-    ensures { IfOk result (λ b. Good V.sense b.stack b.view) }
+    ensures { IfOk result (λ b. Good V.sense b.roots.0 b.stack b.view) }
 {
     let Bench {
         alloc,
         mut view,
+        roots,
         stack,
     } = bench;
     let n = stack.len();
     if n < 2 {
         return Err(Halt::Bad);
     }
-    let got = call_compare(alloc, &mut view, &stack, op, n - 2, n - 1)?;
-    answered(alloc, view, stack, n - 2, got)
+    let got = call_compare(alloc, &mut view, roots, &stack, op, n - 2, n - 1)?;
+    answered(alloc, view, roots, stack, n - 2, got)
 }
 
 /// `x neg` and the like.
 fn unary<V: View<u8> + Drop>(bench: Bench<V>, op: u8) -> Result<Bench<V>, Halt>
-    requires good { Good V.sense bench.stack bench.view }
+    requires good { Good V.sense bench.roots.0 bench.stack bench.view }
     requires number { op < length unary_signs }
-    ensures { IfOk result (λ b. Good V.sense b.stack b.view) }
+    ensures { IfOk result (λ b. Good V.sense b.roots.0 b.stack b.view) }
 {
     let Bench {
         alloc,
         mut view,
+        roots,
         stack,
     } = bench;
     let n = stack.len();
     if n < 1 {
         return Err(Halt::Bad);
     }
-    let got = call_unary(alloc, &mut view, &stack, op, n - 1)?;
-    answered(alloc, view, stack, n - 1, got)
+    let got = call_unary(alloc, &mut view, roots, &stack, op, n - 1)?;
+    answered(alloc, view, roots, stack, n - 1, got)
 }
 
 /// The number of a comparing operator, by its word.
@@ -206,8 +188,8 @@ fn in_place_word(word: &[u8]) -> Option<u8> {
 
 /// The word of an operator in place.
 fn changed<V: View<u8> + Drop>(bench: Bench<V>, word: &[u8]) -> Result<Bench<V>, Halt>
-    requires { Good V.sense bench.stack bench.view }
-    ensures { IfOk result (λ b. Good V.sense b.stack b.view) }
+    requires { Good V.sense bench.roots.0 bench.stack bench.view }
+    ensures { IfOk result (λ b. Good V.sense b.roots.0 b.stack b.view) }
 {
     match in_place_word(word) {
         Some(op) if op < operator::binary::COUNT => in_place(bench, op),
@@ -217,8 +199,8 @@ fn changed<V: View<u8> + Drop>(bench: Bench<V>, word: &[u8]) -> Result<Bench<V>,
 
 /// The word of an operator of two operands, or of one in place.
 fn calculated<V: View<u8> + Drop>(bench: Bench<V>, word: &[u8]) -> Result<Bench<V>, Halt>
-    requires { Good V.sense bench.stack bench.view }
-    ensures { IfOk result (λ b. Good V.sense b.stack b.view) }
+    requires { Good V.sense bench.roots.0 bench.stack bench.view }
+    ensures { IfOk result (λ b. Good V.sense b.roots.0 b.stack b.view) }
 {
     match binary_number(word) {
         Some(op) if op < operator::binary::COUNT => binary(bench, op),
@@ -228,8 +210,8 @@ fn calculated<V: View<u8> + Drop>(bench: Bench<V>, word: &[u8]) -> Result<Bench<
 
 /// The word of an operator of two operands.
 fn two_operands<V: View<u8> + Drop>(bench: Bench<V>, word: &[u8]) -> Result<Bench<V>, Halt>
-    requires { Good V.sense bench.stack bench.view }
-    ensures { IfOk result (λ b. Good V.sense b.stack b.view) }
+    requires { Good V.sense bench.roots.0 bench.stack bench.view }
+    ensures { IfOk result (λ b. Good V.sense b.roots.0 b.stack b.view) }
 {
     match compare_word(word) {
         Some(op) if op < operator::compare::COUNT => compare(bench, op),
@@ -239,58 +221,13 @@ fn two_operands<V: View<u8> + Drop>(bench: Bench<V>, word: &[u8]) -> Result<Benc
 
 /// The word of an operator.
 pub fn operated<V: View<u8> + Drop>(bench: Bench<V>, word: &[u8]) -> Result<Bench<V>, Halt>
-    requires { Good V.sense bench.stack bench.view }
-    ensures { IfOk result (λ b. Good V.sense b.stack b.view) }
+    requires { Good V.sense bench.roots.0 bench.stack bench.view }
+    ensures { IfOk result (λ b. Good V.sense b.roots.0 b.stack b.view) }
 {
     match word {
         b"pos" => unary(bench, PLUS),
         b"neg" => unary(bench, MINUS),
         b"~" => unary(bench, INVERT),
         _ => two_operands(bench, word),
-    }
-}
-
-/// The number of a method of strings, by its name.
-fn method_number(name: &[u8]) -> Option<u8> {
-    match name {
-        b"join" => Some(STR_JOIN),
-        b"split" => Some(STR_SPLIT),
-        b"strip" => Some(STR_STRIP),
-        b"upper" => Some(STR_UPPER),
-        b"lower" => Some(STR_LOWER),
-        b"startswith" => Some(STR_STARTSWITH),
-        b"endswith" => Some(STR_ENDSWITH),
-        b"find" => Some(STR_FIND),
-        b"replace" => Some(STR_REPLACE),
-        _ => None,
-    }
-}
-
-/// `s args.. .nameK`: a method of a string, with the `K` values above it as arguments.
-pub fn method<V: View<u8> + Drop>(
-    bench: Bench<V>,
-    name: &[u8],
-    args: usize,
-) -> Result<Bench<V>, Halt>
-    requires { Good V.sense bench.stack bench.view }
-    ensures { IfOk result (λ b. Good V.sense b.stack b.view) }
-{
-    let Bench {
-        alloc,
-        mut view,
-        stack,
-    } = bench;
-    let n = stack.len();
-    if n < 1 || args > n - 1 {
-        return Err(Halt::Bad);
-    }
-    let at = n - 1 - args;
-    match (method_number(name), str_at(&mut view, &stack, at)?) {
-        (Some(m), Some(a)) => {
-            let args = Values::from_slice(alloc, &stack.as_slice()[at + 1..])?;
-            let got = call_method(alloc, &mut view, &stack, m, a, args.as_slice())?;
-            answered(alloc, view, stack, at, got)
-        }
-        _ => Err(Halt::Bad),
     }
 }

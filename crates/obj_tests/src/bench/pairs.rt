@@ -5,7 +5,7 @@ ghost use Rattle.obj_tests.specs.Bench.{Good, GoodWith, pairs_from};
 
 use super::makers::made;
 use super::state::{Bench, Halt, push};
-use py_data::{Bytes, Kind, LENGTH_LIMIT, NoMemory, Record, Stop, Value, Values, View};
+use py_data::{Addr, Bytes, Kind, LENGTH_LIMIT, NoMemory, Record, Stop, Value, Values, View};
 use std::alloc::Global;
 
 /// Pairs of the numbers from 0 up to `n`, each with 0.
@@ -21,32 +21,39 @@ fn zero_pairs(alloc: Global, n: u32) -> Result<Values, NoMemory>
 }
 
 /// A new dictionary of the keys from 0 up to `n`, each with 0.
-fn dict_of<S, V: View<S>>(alloc: Global, v: &mut V, stack: &Values, n: u32) -> Result<Value, Stop>
-    requires good { Good V.sense stack.now v.old }
+fn dict_of<S, V: View<S>>(
+    alloc: Global,
+    v: &mut V,
+    roots: Addr,
+    stack: &Values,
+    n: u32,
+) -> Result<Value, Stop>
+    requires good { Good V.sense roots.0 stack.now v.old }
     requires limit { n ≤ 524_288 }
-    ensures { IfOk result (λ x. GoodWith V.sense (λ x h. IsItem h x) stack.now x v.new) }
+    ensures { IfOk result (λ x. GoodWith V.sense roots.0 (λ x h. IsItem h x) stack.now x v.new) }
 {
     let r = Record {
         kind: Kind::Dict,
         values: zero_pairs(alloc, n)?,
         bytes: Bytes::new(alloc),
     };
-    made(v, stack, &r)
+    made(v, roots, stack, &r)
 }
 
 /// `dN`: a dictionary of the keys from 0 up to `n`, each with 0.
 pub fn numbered<V: View<u8> + Drop>(bench: Bench<V>, n: usize) -> Result<Bench<V>, Halt>
-    requires { Good V.sense bench.stack bench.view }
-    ensures { IfOk result (λ b. Good V.sense b.stack b.view) }
+    requires { Good V.sense bench.roots.0 bench.stack bench.view }
+    ensures { IfOk result (λ b. Good V.sense b.roots.0 b.stack b.view) }
 {
     let Bench {
         alloc,
         mut view,
+        roots,
         stack,
     } = bench;
     if n > LENGTH_LIMIT / 2 {
         return Err(Halt::Bad);
     }
-    let x = dict_of(alloc, &mut view, &stack, n as u32)?;
-    push(alloc, view, stack, x)
+    let x = dict_of(alloc, &mut view, roots, &stack, n as u32)?;
+    push(alloc, view, roots, stack, x)
 }

@@ -1,10 +1,10 @@
 //! Programs of words, as rows write them.
-ghost use Rattle.std.specs.Prelude.{◌≤◌, length, IfOk};
+ghost use Rattle.std.specs.Prelude.{◌≤◌, ◌<◌, length, IfOk};
 ghost use Rattle.obj_tests.specs.Bench.{Good};
 
 use super::stacking::{self, Leaf};
 use super::state::{Bench, Halt};
-use super::{looking, operators, pairs, words};
+use super::{calling, classes, looking, operators, pairs, words};
 use obj_dict::Part;
 use py_base::{builtin_number, skip};
 use py_data::{Bytes, Kind, Stop, View};
@@ -61,8 +61,8 @@ fn leaf_of(word: &[u8]) -> Option<Leaf> {
 
 /// A word of one byte and a count: `[n`, `(n`, `{n`, `rN`, `tN`, `xN`, `dN` and `sN`.
 fn counted<V: View<u8> + Drop>(bench: Bench<V>, first: u8, n: usize) -> Result<Bench<V>, Halt>
-    requires { Good V.sense bench.stack bench.view }
-    ensures { IfOk result (λ b. Good V.sense b.stack b.view) }
+    requires { Good V.sense bench.roots.0 bench.stack bench.view }
+    ensures { IfOk result (λ b. Good V.sense b.roots.0 b.stack b.view) }
 {
     match first {
         b'[' => stacking::build(bench, Kind::List, n),
@@ -79,8 +79,8 @@ fn counted<V: View<u8> + Drop>(bench: Bench<V>, first: u8, n: usize) -> Result<B
 
 /// A word that moves values about the stack, makes one, or looks at values.
 fn general<V: View<u8> + Drop>(bench: Bench<V>, word: &[u8]) -> Result<Bench<V>, Halt>
-    requires { Good V.sense bench.stack bench.view }
-    ensures { IfOk result (λ b. Good V.sense b.stack b.view) }
+    requires { Good V.sense bench.roots.0 bench.stack bench.view }
+    ensures { IfOk result (λ b. Good V.sense b.roots.0 b.stack b.view) }
 {
     match word {
         b"dup" => stacking::pick(bench, 0),
@@ -100,10 +100,38 @@ fn general<V: View<u8> + Drop>(bench: Bench<V>, word: &[u8]) -> Result<Bench<V>,
     }
 }
 
+/// A word for classes and attributes.
+fn classed<V: View<u8> + Drop>(bench: Bench<V>, word: &[u8]) -> Result<Bench<V>, Halt>
+    requires { Good V.sense bench.roots.0 bench.stack bench.view }
+    ensures { IfOk result (λ b. Good V.sense b.roots.0 b.stack b.view) }
+{
+    match word {
+        b"class" => classes::class(bench),
+        b"instance" => classes::instance(bench),
+        b"def" => classes::function(bench),
+        b"attr" => classes::attr(bench),
+        b"setattr" => classes::set_attr(bench),
+        b"delattr" => classes::del_attr(bench),
+        b"issub" => classes::is_sub(bench),
+        _ => general(bench, word),
+    }
+}
+
+/// A word of a mark and the name of a class that every program has: `$NAME`, `!NAME`, `?NAME` and `^NAME`.
+fn of_root<V: View<u8> + Drop>(bench: Bench<V>, mark: u8, name: &[u8]) -> Result<Bench<V>, Halt>
+    requires { Good V.sense bench.roots.0 bench.stack bench.view }
+    ensures { IfOk result (λ b. Good V.sense b.roots.0 b.stack b.view) }
+{
+    match mark {
+        b'$' => classes::root(bench, name),
+        _ => classes::fault(bench, mark, name),
+    }
+}
+
 /// The name of an operation on a list, a tuple, a dictionary or an iterator.
 fn operation<V: View<u8> + Drop>(bench: Bench<V>, word: &[u8]) -> Result<Bench<V>, Halt>
-    requires { Good V.sense bench.stack bench.view }
-    ensures { IfOk result (λ b. Good V.sense b.stack b.view) }
+    requires { Good V.sense bench.roots.0 bench.stack bench.view }
+    ensures { IfOk result (λ b. Good V.sense b.roots.0 b.stack b.view) }
 {
     match word {
         b"item" => words::item(bench),
@@ -123,14 +151,14 @@ fn operation<V: View<u8> + Drop>(bench: Bench<V>, word: &[u8]) -> Result<Bench<V
         b"keys" => words::list_of(bench, Part::Keys),
         b"values" => words::list_of(bench, Part::Values),
         b"items" => words::list_of(bench, Part::Items),
-        _ => general(bench, word),
+        _ => classed(bench, word),
     }
 }
 
 /// A string in quotes.
 fn literal<V: View<u8> + Drop>(bench: Bench<V>, word: &[u8]) -> Result<Bench<V>, Halt>
-    requires { Good V.sense bench.stack bench.view }
-    ensures { IfOk result (λ b. Good V.sense b.stack b.view) }
+    requires { Good V.sense bench.roots.0 bench.stack bench.view }
+    ensures { IfOk result (λ b. Good V.sense b.roots.0 b.stack b.view) }
 {
     if word.len() < 2 {
         return Err(Halt::Bad);
@@ -141,15 +169,44 @@ fn literal<V: View<u8> + Drop>(bench: Bench<V>, word: &[u8]) -> Result<Bench<V>,
     }
 }
 
-/// A builtin by its name, or a copy of a value of the stack.
+/// A call of a builtin by its name, or of a method of a value.
+fn call_by<V: View<u8> + Drop>(
+    bench: Bench<V>,
+    mark: u8,
+    name: &[u8],
+    args: usize,
+) -> Result<Bench<V>, Halt>
+    requires { Good V.sense bench.roots.0 bench.stack bench.view }
+    ensures { IfOk result (λ b. Good V.sense b.roots.0 b.stack b.view) }
+{
+    match mark {
+        b':' => calling::builtin(bench, name, args),
+        _ => calling::method(bench, name, args),
+    }
+}
+
+/// `:NAMEn` and `.NAMEn`: a mark, a name, and the count of the arguments.
+fn call_word<V: View<u8> + Drop>(bench: Bench<V>, word: &[u8]) -> Result<Bench<V>, Halt>
+    requires good { Good V.sense bench.roots.0 bench.stack bench.view }
+    requires long { 1 < length word.now }
+    ensures { IfOk result (λ b. Good V.sense b.roots.0 b.stack b.view) }
+{
+    let last = word.len() - 1;
+    match number(&word[last..]) {
+        Some(n) if n >= 0 => call_by(bench, word[0], &word[1..last], n as usize),
+        _ => Err(Halt::Bad),
+    }
+}
+
+/// A builtin or a class by its name, a copy of a value of the stack, a call, or another word.
 fn named<V: View<u8> + Drop>(bench: Bench<V>, word: &[u8]) -> Result<Bench<V>, Halt>
-    requires { Good V.sense bench.stack bench.view }
-    ensures { IfOk result (λ b. Good V.sense b.stack b.view) }
+    requires { Good V.sense bench.roots.0 bench.stack bench.view }
+    ensures { IfOk result (λ b. Good V.sense b.roots.0 b.stack b.view) }
 {
     if word.starts_with(b"@") {
         return match builtin_number(skip(word, 1)) {
             Some(b) => stacking::push_leaf(bench, Leaf::Builtin(b)),
-            None => Err(Halt::Bad),
+            None => classes::root(bench, skip(word, 1)),
         };
     }
     if word.starts_with(b"pick") {
@@ -158,20 +215,19 @@ fn named<V: View<u8> + Drop>(bench: Bench<V>, word: &[u8]) -> Result<Bench<V>, H
             None => Err(Halt::Bad),
         };
     }
-    if word.len() > 1 && word[0] == b'.' {
-        let last = word.len() - 1;
-        return match number(&word[last..]) {
-            Some(n) if n >= 0 => operators::method(bench, &word[1..last], n as usize),
-            _ => Err(Halt::Bad),
-        };
+    if word.len() > 2 && matches!(word[0], b'$' | b'!' | b'?' | b'^') {
+        return of_root(bench, word[0], skip(word, 1));
+    }
+    if word.len() > 2 && matches!(word[0], b'.' | b':') {
+        return call_word(bench, word);
     }
     operation(bench, word)
 }
 
 /// Does a word.
 fn done<V: View<u8> + Drop>(bench: Bench<V>, word: &[u8]) -> Result<Bench<V>, Halt>
-    requires { Good V.sense bench.stack bench.view }
-    ensures { IfOk result (λ b. Good V.sense b.stack b.view) }
+    requires { Good V.sense bench.roots.0 bench.stack bench.view }
+    ensures { IfOk result (λ b. Good V.sense b.roots.0 b.stack b.view) }
 {
     if word.is_empty() {
         return Ok(bench);
@@ -190,7 +246,7 @@ fn done<V: View<u8> + Drop>(bench: Bench<V>, word: &[u8]) -> Result<Bench<V>, Ha
 
 /// Does the words of a program, one after another.
 fn through<V: View<u8> + Drop>(bench: Bench<V>, program: &[u8]) -> Result<Bytes, Halt>
-    requires { Good V.sense bench.stack bench.view }
+    requires { Good V.sense bench.roots.0 bench.stack bench.view }
 {
     let mut bench = bench;
     let mut from = 0;
@@ -211,7 +267,7 @@ pub fn outcome<V: View<u8> + Drop>(
     bench: Bench<V>,
     program: &[u8],
 ) -> Result<Bytes, Stop>
-    requires { Good V.sense bench.stack bench.view }
+    requires { Good V.sense bench.roots.0 bench.stack bench.view }
 {
     match through(bench, program) {
         Ok(text) => Ok(text),

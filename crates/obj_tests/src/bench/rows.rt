@@ -1,9 +1,13 @@
 //! Rows of lists, tuples, dictionaries, iterators and nested values.
+mod calls;
+mod classes;
 mod comparing;
 mod equality;
 mod formats;
+mod functions;
 mod methods;
 mod numbers;
+mod objects;
 mod order;
 mod sequences;
 mod texts;

@@ -36,52 +36,64 @@ fn leaf_value(leaf: Leaf) -> Value
 
 /// A value that refers to no record goes onto the stack.
 pub fn push_leaf<V: View<u8> + Drop>(bench: Bench<V>, leaf: Leaf) -> Result<Bench<V>, Halt>
-    requires { Good V.sense bench.stack bench.view }
-    ensures { IfOk result (λ b. Good V.sense b.stack b.view) }
+    requires { Good V.sense bench.roots.0 bench.stack bench.view }
+    ensures { IfOk result (λ b. Good V.sense b.roots.0 b.stack b.view) }
 {
-    let Bench { alloc, view, stack } = bench;
-    push(alloc, view, stack, leaf_value(leaf))
+    let Bench {
+        alloc,
+        view,
+        roots,
+        stack,
+    } = bench;
+    push(alloc, view, roots, stack, leaf_value(leaf))
 }
 
 /// A new string.
 pub fn text<V: View<u8> + Drop>(bench: Bench<V>, bytes: Bytes) -> Result<Bench<V>, Halt>
-    requires { Good V.sense bench.stack bench.view }
-    ensures { IfOk result (λ b. Good V.sense b.stack b.view) }
+    requires { Good V.sense bench.roots.0 bench.stack bench.view }
+    ensures { IfOk result (λ b. Good V.sense b.roots.0 b.stack b.view) }
 {
     let Bench {
         alloc,
         mut view,
+        roots,
         stack,
     } = bench;
     if bytes.len() > LENGTH_LIMIT {
         return Err(Halt::Bad);
     }
-    let x = makers::text(alloc, &mut view, &stack, bytes)?;
-    push(alloc, view, stack, x)
+    let x = makers::text(alloc, &mut view, roots, &stack, bytes)?;
+    push(alloc, view, roots, stack, x)
 }
 
 /// `pickN`: a copy of the value `n` below the top.
 pub fn pick<V: View<u8> + Drop>(bench: Bench<V>, n: usize) -> Result<Bench<V>, Halt>
-    requires { Good V.sense bench.stack bench.view }
-    ensures { IfOk result (λ b. Good V.sense b.stack b.view) }
+    requires { Good V.sense bench.roots.0 bench.stack bench.view }
+    ensures { IfOk result (λ b. Good V.sense b.roots.0 b.stack b.view) }
 {
-    let Bench { alloc, view, stack } = bench;
+    let Bench {
+        alloc,
+        view,
+        roots,
+        stack,
+    } = bench;
     let count = stack.len();
     if n >= count {
         return Err(Halt::Bad);
     }
     let x = stack.at(count - 1 - n);
-    push(alloc, view, stack, x)
+    push(alloc, view, roots, stack, x)
 }
 
 /// `swap`.
 pub fn swap<V: View<u8> + Drop>(bench: Bench<V>) -> Result<Bench<V>, Halt>
-    requires { Good V.sense bench.stack bench.view }
-    ensures { IfOk result (λ b. Good V.sense b.stack b.view) }
+    requires { Good V.sense bench.roots.0 bench.stack bench.view }
+    ensures { IfOk result (λ b. Good V.sense b.roots.0 b.stack b.view) }
 {
     let Bench {
         alloc,
         view,
+        roots,
         mut stack,
     } = bench;
     let n = stack.len();
@@ -90,27 +102,33 @@ pub fn swap<V: View<u8> + Drop>(bench: Bench<V>) -> Result<Bench<V>, Halt>
     }
     let x = stack.at(n - 2);
     stack.remove(n - 2);
-    push(alloc, view, stack, x)
+    push(alloc, view, roots, stack, x)
 }
 
 /// The values above the first `n` go.
 pub fn cut<V: View<u8> + Drop>(bench: Bench<V>, n: usize) -> Result<Bench<V>, Halt>
-    requires { Good V.sense bench.stack bench.view }
-    ensures { IfOk result (λ b. Good V.sense b.stack b.view) }
+    requires { Good V.sense bench.roots.0 bench.stack bench.view }
+    ensures { IfOk result (λ b. Good V.sense b.roots.0 b.stack b.view) }
 {
     let Bench {
         alloc,
         view,
+        roots,
         mut stack,
     } = bench;
     stack.truncate(n);
-    Ok(Bench { alloc, view, stack })
+    Ok(Bench {
+        alloc,
+        view,
+        roots,
+        stack,
+    })
 }
 
 /// `drop`.
 pub fn drop_top<V: View<u8> + Drop>(bench: Bench<V>) -> Result<Bench<V>, Halt>
-    requires { Good V.sense bench.stack bench.view }
-    ensures { IfOk result (λ b. Good V.sense b.stack b.view) }
+    requires { Good V.sense bench.roots.0 bench.stack bench.view }
+    ensures { IfOk result (λ b. Good V.sense b.roots.0 b.stack b.view) }
 {
     let n = bench.stack.len();
     if n < 1 {
@@ -121,12 +139,13 @@ pub fn drop_top<V: View<u8> + Drop>(bench: Bench<V>) -> Result<Bench<V>, Halt>
 
 /// The top value takes the place of those from place `n` on.
 pub fn collapse<V: View<u8> + Drop>(bench: Bench<V>, n: usize) -> Result<Bench<V>, Halt>
-    requires { Good V.sense bench.stack bench.view }
-    ensures { IfOk result (λ b. Good V.sense b.stack b.view) }
+    requires { Good V.sense bench.roots.0 bench.stack bench.view }
+    ensures { IfOk result (λ b. Good V.sense b.roots.0 b.stack b.view) }
 {
     let Bench {
         alloc,
         view,
+        roots,
         mut stack,
     } = bench;
     let count = stack.len();
@@ -135,18 +154,19 @@ pub fn collapse<V: View<u8> + Drop>(bench: Bench<V>, n: usize) -> Result<Bench<V
     }
     let x = stack.at(count - 1);
     stack.truncate(n);
-    push(alloc, view, stack, x)
+    push(alloc, view, roots, stack, x)
 }
 
 /// `[n` and `(n`: a list or tuple of the `n` top values.
 pub fn build<V: View<u8> + Drop>(bench: Bench<V>, kind: Kind, n: usize) -> Result<Bench<V>, Halt>
     requires kind { IsSequenceKind kind }
-    requires good { Good V.sense bench.stack bench.view }
-    ensures { IfOk result (λ b. Good V.sense b.stack b.view) }
+    requires good { Good V.sense bench.roots.0 bench.stack bench.view }
+    ensures { IfOk result (λ b. Good V.sense b.roots.0 b.stack b.view) }
 {
     let Bench {
         alloc,
         mut view,
+        roots,
         mut stack,
     } = bench;
     let count = stack.len();
@@ -154,16 +174,16 @@ pub fn build<V: View<u8> + Drop>(bench: Bench<V>, kind: Kind, n: usize) -> Resul
         return Err(Halt::Bad);
     }
     let values = Values::from_slice(alloc, &stack.as_slice()[count - n..])?;
-    let x = makers::sequence(alloc, &mut view, &stack, kind, values)?;
+    let x = makers::sequence(alloc, &mut view, roots, &stack, kind, values)?;
     stack.truncate(count - n);
-    push(alloc, view, stack, x)
+    push(alloc, view, roots, stack, x)
 }
 
 /// `rN` and `tN`: the top value in `n` lists or tuples round one another.
 pub fn nest<V: View<u8> + Drop>(bench: Bench<V>, kind: Kind, n: usize) -> Result<Bench<V>, Halt>
     requires kind { IsSequenceKind kind }
-    requires good { Good V.sense bench.stack bench.view }
-    ensures { IfOk result (λ b. Good V.sense b.stack b.view) }
+    requires good { Good V.sense bench.roots.0 bench.stack bench.view }
+    ensures { IfOk result (λ b. Good V.sense b.roots.0 b.stack b.view) }
 {
     let mut bench = bench;
     for _ in 0..n {
@@ -186,12 +206,13 @@ fn copies(alloc: Global, x: Value, n: usize) -> Result<Values, NoMemory>
 
 /// `xN`: a list of `n` times the top value.
 pub fn times<V: View<u8> + Drop>(bench: Bench<V>, n: usize) -> Result<Bench<V>, Halt>
-    requires { Good V.sense bench.stack bench.view }
-    ensures { IfOk result (λ b. Good V.sense b.stack b.view) }
+    requires { Good V.sense bench.roots.0 bench.stack bench.view }
+    ensures { IfOk result (λ b. Good V.sense b.roots.0 b.stack b.view) }
 {
     let Bench {
         alloc,
         mut view,
+        roots,
         mut stack,
     } = bench;
     let count = stack.len();
@@ -200,29 +221,30 @@ pub fn times<V: View<u8> + Drop>(bench: Bench<V>, n: usize) -> Result<Bench<V>, 
     }
     let item = stack.at(count - 1);
     let values = copies(alloc, item, n)?;
-    let x = makers::sequence(alloc, &mut view, &stack, Kind::List, values)?;
+    let x = makers::sequence(alloc, &mut view, roots, &stack, Kind::List, values)?;
     stack.truncate(count - 1);
-    push(alloc, view, stack, x)
+    push(alloc, view, roots, stack, x)
 }
 
 /// Sets a pair of a value of the stack and the one above it in the dictionary at the top.
 fn pair_in<V: View<u8> + Drop>(bench: Bench<V>, place: usize) -> Result<Bench<V>, Halt>
-    requires { Good V.sense bench.stack bench.view }
-    ensures { IfOk result (λ b. Good V.sense b.stack b.view) }
+    requires { Good V.sense bench.roots.0 bench.stack bench.view }
+    ensures { IfOk result (λ b. Good V.sense b.roots.0 b.stack b.view) }
 {
     let Bench {
         alloc,
         mut view,
+        roots,
         stack,
     } = bench;
     let n = stack.len();
     if n < 3 || place > n - 3 {
         return Err(Halt::Bad);
     }
-    match dict_at(&mut view, &stack, n - 1)? {
+    match dict_at(&mut view, roots, &stack, n - 1)? {
         Some(d) => {
-            let got = calls::set(alloc, &mut view, &stack, d, place, place + 1)?;
-            done(alloc, view, stack, n, got)
+            let got = calls::set(alloc, &mut view, roots, &stack, d, place, place + 1)?;
+            done(alloc, view, roots, stack, n, got)
         }
         None => Err(Halt::Bad),
     }
@@ -230,22 +252,23 @@ fn pair_in<V: View<u8> + Drop>(bench: Bench<V>, place: usize) -> Result<Bench<V>
 
 /// A new dictionary without pairs.
 fn new_dict<V: View<u8> + Drop>(bench: Bench<V>) -> Result<Bench<V>, Halt>
-    requires { Good V.sense bench.stack bench.view }
-    ensures { IfOk result (λ b. Good V.sense b.stack b.view) }
+    requires { Good V.sense bench.roots.0 bench.stack bench.view }
+    ensures { IfOk result (λ b. Good V.sense b.roots.0 b.stack b.view) }
 {
     let Bench {
         alloc,
         mut view,
+        roots,
         stack,
     } = bench;
-    let x = makers::dict(alloc, &mut view, &stack)?;
-    push(alloc, view, stack, x)
+    let x = makers::dict(alloc, &mut view, roots, &stack)?;
+    push(alloc, view, roots, stack, x)
 }
 
 /// `{n`: a dictionary of the `2 n` top values.
 pub fn build_dict<V: View<u8> + Drop>(bench: Bench<V>, n: usize) -> Result<Bench<V>, Halt>
-    requires { Good V.sense bench.stack bench.view }
-    ensures { IfOk result (λ b. Good V.sense b.stack b.view) }
+    requires { Good V.sense bench.roots.0 bench.stack bench.view }
+    ensures { IfOk result (λ b. Good V.sense b.roots.0 b.stack b.view) }
 {
     let count = bench.stack.len();
     if n > count / 2 {
@@ -261,12 +284,13 @@ pub fn build_dict<V: View<u8> + Drop>(bench: Bench<V>, n: usize) -> Result<Bench
 
 /// `start stop step range`.
 pub fn range<V: View<u8> + Drop>(bench: Bench<V>) -> Result<Bench<V>, Halt>
-    requires { Good V.sense bench.stack bench.view }
-    ensures { IfOk result (λ b. Good V.sense b.stack b.view) }
+    requires { Good V.sense bench.roots.0 bench.stack bench.view }
+    ensures { IfOk result (λ b. Good V.sense b.roots.0 b.stack b.view) }
 {
     let Bench {
         alloc,
         mut view,
+        roots,
         mut stack,
     } = bench;
     let n = stack.len();
@@ -278,9 +302,9 @@ pub fn range<V: View<u8> + Drop>(bench: Bench<V>) -> Result<Bench<V>, Halt>
             if step == 0 || range_length(start, stop, step) > i64::MAX as u64 {
                 return Err(Halt::Bad);
             }
-            let x = makers::range(alloc, &mut view, &stack, start, stop, step)?;
+            let x = makers::range(alloc, &mut view, roots, &stack, start, stop, step)?;
             stack.truncate(n - 3);
-            push(alloc, view, stack, x)
+            push(alloc, view, roots, stack, x)
         }
         _ => Err(Halt::Bad),
     }
@@ -288,8 +312,8 @@ pub fn range<V: View<u8> + Drop>(bench: Bench<V>) -> Result<Bench<V>, Halt>
 
 /// `x y is`: the same value by type and value, and the same record.
 pub fn is<V: View<u8> + Drop>(bench: Bench<V>) -> Result<Bench<V>, Halt>
-    requires { Good V.sense bench.stack bench.view }
-    ensures { IfOk result (λ b. Good V.sense b.stack b.view) }
+    requires { Good V.sense bench.roots.0 bench.stack bench.view }
+    ensures { IfOk result (λ b. Good V.sense b.roots.0 b.stack b.view) }
 {
     let n = bench.stack.len();
     if n < 2 {

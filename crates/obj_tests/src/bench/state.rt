@@ -7,14 +7,15 @@ ghost use Rattle.obj_tests.specs.Bench.{Good, GoodWith};
 
 use super::nested;
 use py_base::class_name;
-use py_data::{Bytes, Fault, Got, NoMemory, Stop, Value, Values, View, With};
+use py_data::{Addr, Bytes, Fault, Got, NoMemory, Stop, Value, Values, View, With};
 use std::alloc::Global;
 
-/// A view whose heap is in order, and a stack of values that stand in it.
+/// A view whose heap is in order, the address of its list of roots, and a stack of values that stand in it.
 #[derive(Drop)]
 pub struct Bench<V: View<u8> + Drop> {
     pub alloc: Global,
     pub view: V,
+    pub roots: Addr,
     pub stack: Values,
 }
 
@@ -53,14 +54,20 @@ pub fn told(alloc: Global, text: &[u8]) -> Halt {
 pub fn push<V: View<u8> + Drop>(
     alloc: Global,
     view: V,
+    roots: Addr,
     mut stack: Values,
     x: Value,
 ) -> Result<Bench<V>, Halt>
-    requires { GoodWith V.sense (λ x h. IsItem h x) stack x view }
-    ensures { IfOk result (λ b. Good V.sense b.stack b.view) }
+    requires { GoodWith V.sense roots.0 (λ x h. IsItem h x) stack x view }
+    ensures { IfOk result (λ b. Good V.sense b.roots.0 b.stack b.view) }
 {
     stack.push(x)?;
-    Ok(Bench { alloc, view, stack })
+    Ok(Bench {
+        alloc,
+        view,
+        roots,
+        stack,
+    })
 }
 
 /// The name of a class, a colon and a text.
@@ -79,18 +86,19 @@ fn class_and(alloc: Global, exc: u8, text: &[u8]) -> Result<Bytes, NoMemory> {
 
 /// The text of the value that an exception holds.
 fn held_text<V: View<u8> + Drop>(bench: Bench<V>) -> Result<Bytes, Halt>
-    requires { Good V.sense bench.stack bench.view }
+    requires { Good V.sense bench.roots.0 bench.stack bench.view }
 {
     let Bench {
         alloc,
         mut view,
+        roots,
         stack,
     } = bench;
     let n = stack.len();
     if n == 0 {
         return Err(Halt::Bad);
     }
-    match nested::text(alloc, &mut view, &stack, n - 1, true)? {
+    match nested::text(alloc, &mut view, roots, &stack, n - 1, true)? {
         Got::Is(text) => Ok(text),
         Got::Raise(_) => Err(Halt::Bad),
     }
@@ -100,17 +108,18 @@ fn held_text<V: View<u8> + Drop>(bench: Bench<V>) -> Result<Bytes, Halt>
 fn fault_text<V: View<u8> + Drop>(
     alloc: Global,
     view: V,
+    roots: Addr,
     stack: Values,
     e: Fault,
 ) -> Result<Bytes, Halt>
-    requires { GoodWith V.sense (λ e h. IsFault h e) stack e view }
+    requires { GoodWith V.sense roots.0 (λ e h. IsFault h e) stack e view }
 {
     let Fault { exc, with } = e;
     match with {
         With::Nothing => Ok(class_and(alloc, exc, b"")?),
         With::Text(text) => Ok(class_and(alloc, exc, text.as_slice())?),
         With::Held(x) => {
-            let bench = push(alloc, view, stack, x)?;
+            let bench = push(alloc, view, roots, stack, x)?;
             let text = held_text(bench)?;
             Ok(class_and(alloc, exc, text.as_slice())?)
         }
@@ -132,10 +141,16 @@ pub fn told_fault(alloc: Global, e: Fault) -> Halt {
 }
 
 /// The program comes to an exception.
-pub fn raised<V: View<u8> + Drop>(alloc: Global, view: V, stack: Values, e: Fault) -> Halt
-    requires { GoodWith V.sense (λ e h. IsFault h e) stack e view }
+pub fn raised<V: View<u8> + Drop>(
+    alloc: Global,
+    view: V,
+    roots: Addr,
+    stack: Values,
+    e: Fault,
+) -> Halt
+    requires { GoodWith V.sense roots.0 (λ e h. IsFault h e) stack e view }
 {
-    match fault_text(alloc, view, stack, e) {
+    match fault_text(alloc, view, roots, stack, e) {
         Ok(text) => Halt::Told(text),
         Err(halt) => halt,
     }
@@ -145,19 +160,20 @@ pub fn raised<V: View<u8> + Drop>(alloc: Global, view: V, stack: Values, e: Faul
 pub fn answered<V: View<u8> + Drop>(
     alloc: Global,
     view: V,
+    roots: Addr,
     mut stack: Values,
     n: usize,
     got: Got<Value>,
 ) -> Result<Bench<V>, Halt>
-    requires { GoodWith V.sense IsAnswer stack got view }
-    ensures { IfOk result (λ b. Good V.sense b.stack b.view) }
+    requires { GoodWith V.sense roots.0 IsAnswer stack got view }
+    ensures { IfOk result (λ b. Good V.sense b.roots.0 b.stack b.view) }
 {
     match got {
         Got::Is(x) => {
             stack.truncate(n);
-            push(alloc, view, stack, x)
+            push(alloc, view, roots, stack, x)
         }
-        Got::Raise(e) => Err(raised(alloc, view, stack, e)),
+        Got::Raise(e) => Err(raised(alloc, view, roots, stack, e)),
     }
 }
 
@@ -165,19 +181,25 @@ pub fn answered<V: View<u8> + Drop>(
 pub fn done<V: View<u8> + Drop>(
     alloc: Global,
     view: V,
+    roots: Addr,
     mut stack: Values,
     n: usize,
     got: Got<()>,
 ) -> Result<Bench<V>, Halt>
-    requires { GoodWith V.sense IsDone stack got view }
-    ensures { IfOk result (λ b. Good V.sense b.stack b.view) }
+    requires { GoodWith V.sense roots.0 IsDone stack got view }
+    ensures { IfOk result (λ b. Good V.sense b.roots.0 b.stack b.view) }
 {
     match got {
         Got::Is(()) => {
             stack.truncate(n);
-            Ok(Bench { alloc, view, stack })
+            Ok(Bench {
+                alloc,
+                view,
+                roots,
+                stack,
+            })
         }
-        Got::Raise(e) => Err(raised(alloc, view, stack, e)),
+        Got::Raise(e) => Err(raised(alloc, view, roots, stack, e)),
     }
 }
 
@@ -185,20 +207,21 @@ pub fn done<V: View<u8> + Drop>(
 pub fn found<V: View<u8> + Drop>(
     alloc: Global,
     view: V,
+    roots: Addr,
     mut stack: Values,
     n: usize,
     got: Got<Option<Value>>,
     none: &[u8],
 ) -> Result<Bench<V>, Halt>
-    requires { GoodWith V.sense (IsGot IfItem) stack got view }
-    ensures { IfOk result (λ b. Good V.sense b.stack b.view) }
+    requires { GoodWith V.sense roots.0 (IsGot IfItem) stack got view }
+    ensures { IfOk result (λ b. Good V.sense b.roots.0 b.stack b.view) }
 {
     match got {
         Got::Is(Some(x)) => {
             stack.truncate(n);
-            push(alloc, view, stack, x)
+            push(alloc, view, roots, stack, x)
         }
         Got::Is(None) => Err(told(alloc, none)),
-        Got::Raise(e) => Err(raised(alloc, view, stack, e)),
+        Got::Raise(e) => Err(raised(alloc, view, roots, stack, e)),
     }
 }

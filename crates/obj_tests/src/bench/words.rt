@@ -27,23 +27,24 @@ fn bound(stack: &Values, place: usize) -> Option<Option<i64>> {
 
 /// `a i item`.
 pub fn item<V: View<u8> + Drop>(bench: Bench<V>) -> Result<Bench<V>, Halt>
-    requires { Good V.sense bench.stack bench.view }
-    ensures { IfOk result (λ b. Good V.sense b.stack b.view) }
+    requires { Good V.sense bench.roots.0 bench.stack bench.view }
+    ensures { IfOk result (λ b. Good V.sense b.roots.0 b.stack b.view) }
 {
     let Bench {
         alloc,
         mut view,
+        roots,
         stack,
     } = bench;
     let n = stack.len();
     if n < 2 {
         return Err(Halt::Bad);
     }
-    let place = sequence_at(&mut view, &stack, n - 2)?;
+    let place = sequence_at(&mut view, roots, &stack, n - 2)?;
     match (place, number(&stack, n - 1)) {
         (Some(a), Some(i)) => {
-            let got = calls::item(alloc, &mut view, &stack, a, i)?;
-            answered(alloc, view, stack, n - 2, got)
+            let got = calls::item(alloc, &mut view, roots, &stack, a, i)?;
+            answered(alloc, view, roots, stack, n - 2, got)
         }
         _ => Err(Halt::Bad),
     }
@@ -51,23 +52,24 @@ pub fn item<V: View<u8> + Drop>(bench: Bench<V>) -> Result<Bench<V>, Halt>
 
 /// `a i x setitem`.
 pub fn set_item<V: View<u8> + Drop>(bench: Bench<V>) -> Result<Bench<V>, Halt>
-    requires { Good V.sense bench.stack bench.view }
-    ensures { IfOk result (λ b. Good V.sense b.stack b.view) }
+    requires { Good V.sense bench.roots.0 bench.stack bench.view }
+    ensures { IfOk result (λ b. Good V.sense b.roots.0 b.stack b.view) }
 {
     let Bench {
         alloc,
         mut view,
+        roots,
         stack,
     } = bench;
     let n = stack.len();
     if n < 3 {
         return Err(Halt::Bad);
     }
-    let place = list_at(&mut view, &stack, n - 3)?;
+    let place = list_at(&mut view, roots, &stack, n - 3)?;
     match (place, number(&stack, n - 2)) {
         (Some(a), Some(i)) => {
-            let got = calls::set_item(alloc, &mut view, &stack, a, i, n - 1)?;
-            done(alloc, view, stack, n - 3, got)
+            let got = calls::set_item(alloc, &mut view, roots, &stack, a, i, n - 1)?;
+            done(alloc, view, roots, stack, n - 3, got)
         }
         _ => Err(Halt::Bad),
     }
@@ -75,23 +77,24 @@ pub fn set_item<V: View<u8> + Drop>(bench: Bench<V>) -> Result<Bench<V>, Halt>
 
 /// `a i delitem`.
 pub fn del_item<V: View<u8> + Drop>(bench: Bench<V>) -> Result<Bench<V>, Halt>
-    requires { Good V.sense bench.stack bench.view }
-    ensures { IfOk result (λ b. Good V.sense b.stack b.view) }
+    requires { Good V.sense bench.roots.0 bench.stack bench.view }
+    ensures { IfOk result (λ b. Good V.sense b.roots.0 b.stack b.view) }
 {
     let Bench {
         alloc,
         mut view,
+        roots,
         stack,
     } = bench;
     let n = stack.len();
     if n < 2 {
         return Err(Halt::Bad);
     }
-    let place = list_at(&mut view, &stack, n - 2)?;
+    let place = list_at(&mut view, roots, &stack, n - 2)?;
     match (place, number(&stack, n - 1)) {
         (Some(a), Some(i)) => {
-            let got = calls::del_item(alloc, &mut view, &stack, a, i)?;
-            done(alloc, view, stack, n - 2, got)
+            let got = calls::del_item(alloc, &mut view, roots, &stack, a, i)?;
+            done(alloc, view, roots, stack, n - 2, got)
         }
         _ => Err(Halt::Bad),
     }
@@ -99,23 +102,24 @@ pub fn del_item<V: View<u8> + Drop>(bench: Bench<V>) -> Result<Bench<V>, Halt>
 
 /// `a i pop`.
 pub fn pop<V: View<u8> + Drop>(bench: Bench<V>) -> Result<Bench<V>, Halt>
-    requires { Good V.sense bench.stack bench.view }
-    ensures { IfOk result (λ b. Good V.sense b.stack b.view) }
+    requires { Good V.sense bench.roots.0 bench.stack bench.view }
+    ensures { IfOk result (λ b. Good V.sense b.roots.0 b.stack b.view) }
 {
     let Bench {
         alloc,
         mut view,
+        roots,
         stack,
     } = bench;
     let n = stack.len();
     if n < 2 {
         return Err(Halt::Bad);
     }
-    let place = list_at(&mut view, &stack, n - 2)?;
+    let place = list_at(&mut view, roots, &stack, n - 2)?;
     match (place, number(&stack, n - 1)) {
         (Some(a), Some(i)) => {
-            let got = calls::pop(alloc, &mut view, &stack, a, i)?;
-            answered(alloc, view, stack, n - 2, got)
+            let got = calls::pop(alloc, &mut view, roots, &stack, a, i)?;
+            answered(alloc, view, roots, stack, n - 2, got)
         }
         _ => Err(Halt::Bad),
     }
@@ -123,23 +127,24 @@ pub fn pop<V: View<u8> + Drop>(bench: Bench<V>) -> Result<Bench<V>, Halt>
 
 /// `a i x insert`.
 pub fn insert<V: View<u8> + Drop>(bench: Bench<V>) -> Result<Bench<V>, Halt>
-    requires { Good V.sense bench.stack bench.view }
-    ensures { IfOk result (λ b. Good V.sense b.stack b.view) }
+    requires { Good V.sense bench.roots.0 bench.stack bench.view }
+    ensures { IfOk result (λ b. Good V.sense b.roots.0 b.stack b.view) }
 {
     let Bench {
         alloc,
         mut view,
+        roots,
         stack,
     } = bench;
     let n = stack.len();
     if n < 3 {
         return Err(Halt::Bad);
     }
-    let place = list_at(&mut view, &stack, n - 3)?;
+    let place = list_at(&mut view, roots, &stack, n - 3)?;
     match (place, number(&stack, n - 2)) {
         (Some(a), Some(i)) => {
-            let got = calls::insert(&mut view, &stack, a, i, n - 1)?;
-            done(alloc, view, stack, n - 3, got)
+            let got = calls::insert(&mut view, roots, &stack, a, i, n - 1)?;
+            done(alloc, view, roots, stack, n - 3, got)
         }
         _ => Err(Halt::Bad),
     }
@@ -147,22 +152,23 @@ pub fn insert<V: View<u8> + Drop>(bench: Bench<V>) -> Result<Bench<V>, Halt>
 
 /// `a x append`.
 pub fn append<V: View<u8> + Drop>(bench: Bench<V>) -> Result<Bench<V>, Halt>
-    requires { Good V.sense bench.stack bench.view }
-    ensures { IfOk result (λ b. Good V.sense b.stack b.view) }
+    requires { Good V.sense bench.roots.0 bench.stack bench.view }
+    ensures { IfOk result (λ b. Good V.sense b.roots.0 b.stack b.view) }
 {
     let Bench {
         alloc,
         mut view,
+        roots,
         stack,
     } = bench;
     let n = stack.len();
     if n < 2 {
         return Err(Halt::Bad);
     }
-    match list_at(&mut view, &stack, n - 2)? {
+    match list_at(&mut view, roots, &stack, n - 2)? {
         Some(a) => {
-            let got = calls::insert(&mut view, &stack, a, i64::MAX, n - 1)?;
-            done(alloc, view, stack, n - 2, got)
+            let got = calls::insert(&mut view, roots, &stack, a, i64::MAX, n - 1)?;
+            done(alloc, view, roots, stack, n - 2, got)
         }
         None => Err(Halt::Bad),
     }
@@ -170,23 +176,29 @@ pub fn append<V: View<u8> + Drop>(bench: Bench<V>) -> Result<Bench<V>, Halt>
 
 /// `a reverse`.
 pub fn reverse<V: View<u8> + Drop>(bench: Bench<V>) -> Result<Bench<V>, Halt>
-    requires { Good V.sense bench.stack bench.view }
-    ensures { IfOk result (λ b. Good V.sense b.stack b.view) }
+    requires { Good V.sense bench.roots.0 bench.stack bench.view }
+    ensures { IfOk result (λ b. Good V.sense b.roots.0 b.stack b.view) }
 {
     let Bench {
         alloc,
         mut view,
+        roots,
         mut stack,
     } = bench;
     let n = stack.len();
     if n < 1 {
         return Err(Halt::Bad);
     }
-    match list_at(&mut view, &stack, n - 1)? {
+    match list_at(&mut view, roots, &stack, n - 1)? {
         Some(a) => {
-            calls::reverse(alloc, &mut view, &stack, a)?;
+            calls::reverse(alloc, &mut view, roots, &stack, a)?;
             stack.truncate(n - 1);
-            Ok(Bench { alloc, view, stack })
+            Ok(Bench {
+                alloc,
+                view,
+                roots,
+                stack,
+            })
         }
         None => Err(Halt::Bad),
     }
@@ -194,23 +206,24 @@ pub fn reverse<V: View<u8> + Drop>(bench: Bench<V>) -> Result<Bench<V>, Halt>
 
 /// `a from to slice`.
 pub fn slice<V: View<u8> + Drop>(bench: Bench<V>) -> Result<Bench<V>, Halt>
-    requires { Good V.sense bench.stack bench.view }
-    ensures { IfOk result (λ b. Good V.sense b.stack b.view) }
+    requires { Good V.sense bench.roots.0 bench.stack bench.view }
+    ensures { IfOk result (λ b. Good V.sense b.roots.0 b.stack b.view) }
 {
     let Bench {
         alloc,
         mut view,
+        roots,
         stack,
     } = bench;
     let n = stack.len();
     if n < 3 {
         return Err(Halt::Bad);
     }
-    let place = sequence_at(&mut view, &stack, n - 3)?;
+    let place = sequence_at(&mut view, roots, &stack, n - 3)?;
     match (place, bound(&stack, n - 2), bound(&stack, n - 1)) {
         (Some(a), Some(from), Some(to)) => {
-            let got = calls::slice(alloc, &mut view, &stack, a, from, to)?;
-            answered(alloc, view, stack, n - 3, got)
+            let got = calls::slice(alloc, &mut view, roots, &stack, a, from, to)?;
+            answered(alloc, view, roots, stack, n - 3, got)
         }
         _ => Err(Halt::Bad),
     }
@@ -218,40 +231,42 @@ pub fn slice<V: View<u8> + Drop>(bench: Bench<V>) -> Result<Bench<V>, Halt>
 
 /// `x iter`.
 pub fn make_iter<V: View<u8> + Drop>(bench: Bench<V>) -> Result<Bench<V>, Halt>
-    requires { Good V.sense bench.stack bench.view }
-    ensures { IfOk result (λ b. Good V.sense b.stack b.view) }
+    requires { Good V.sense bench.roots.0 bench.stack bench.view }
+    ensures { IfOk result (λ b. Good V.sense b.roots.0 b.stack b.view) }
 {
     let Bench {
         alloc,
         mut view,
+        roots,
         stack,
     } = bench;
     let n = stack.len();
     if n < 1 {
         return Err(Halt::Bad);
     }
-    let got = calls::make_iter(alloc, &mut view, &stack, n - 1)?;
-    answered(alloc, view, stack, n - 1, got)
+    let got = calls::make_iter(alloc, &mut view, roots, &stack, n - 1)?;
+    answered(alloc, view, roots, stack, n - 1, got)
 }
 
 /// `it next`.
 pub fn next<V: View<u8> + Drop>(bench: Bench<V>) -> Result<Bench<V>, Halt>
-    requires { Good V.sense bench.stack bench.view }
-    ensures { IfOk result (λ b. Good V.sense b.stack b.view) }
+    requires { Good V.sense bench.roots.0 bench.stack bench.view }
+    ensures { IfOk result (λ b. Good V.sense b.roots.0 b.stack b.view) }
 {
     let Bench {
         alloc,
         mut view,
+        roots,
         stack,
     } = bench;
     let n = stack.len();
     if n < 1 {
         return Err(Halt::Bad);
     }
-    match iter_at(&mut view, &stack, n - 1)? {
+    match iter_at(&mut view, roots, &stack, n - 1)? {
         Some(it) => {
-            let got = calls::next(alloc, &mut view, &stack, it)?;
-            found(alloc, view, stack, n - 1, got, b"end")
+            let got = calls::next(alloc, &mut view, roots, &stack, it)?;
+            found(alloc, view, roots, stack, n - 1, got, b"end")
         }
         None => Err(Halt::Bad),
     }
@@ -259,46 +274,48 @@ pub fn next<V: View<u8> + Drop>(bench: Bench<V>) -> Result<Bench<V>, Halt>
 
 /// `x gather`.
 pub fn gather<V: View<u8> + Drop>(bench: Bench<V>) -> Result<Bench<V>, Halt>
-    requires { Good V.sense bench.stack bench.view }
-    ensures { IfOk result (λ b. Good V.sense b.stack b.view) }
+    requires { Good V.sense bench.roots.0 bench.stack bench.view }
+    ensures { IfOk result (λ b. Good V.sense b.roots.0 b.stack b.view) }
 {
     let Bench {
         alloc,
         mut view,
+        roots,
         mut stack,
     } = bench;
     let n = stack.len();
     if n < 1 {
         return Err(Halt::Bad);
     }
-    match calls::gather(alloc, &mut view, &stack, n - 1)? {
+    match calls::gather(alloc, &mut view, roots, &stack, n - 1)? {
         Got::Is(items) => {
-            let list = makers::sequence(alloc, &mut view, &stack, Kind::List, items)?;
+            let list = makers::sequence(alloc, &mut view, roots, &stack, Kind::List, items)?;
             stack.truncate(n - 1);
-            push(alloc, view, stack, list)
+            push(alloc, view, roots, stack, list)
         }
-        Got::Raise(e) => Err(raised(alloc, view, stack, e)),
+        Got::Raise(e) => Err(raised(alloc, view, roots, stack, e)),
     }
 }
 
 /// `d k get`.
 pub fn get<V: View<u8> + Drop>(bench: Bench<V>) -> Result<Bench<V>, Halt>
-    requires { Good V.sense bench.stack bench.view }
-    ensures { IfOk result (λ b. Good V.sense b.stack b.view) }
+    requires { Good V.sense bench.roots.0 bench.stack bench.view }
+    ensures { IfOk result (λ b. Good V.sense b.roots.0 b.stack b.view) }
 {
     let Bench {
         alloc,
         mut view,
+        roots,
         stack,
     } = bench;
     let n = stack.len();
     if n < 2 {
         return Err(Halt::Bad);
     }
-    match dict_at(&mut view, &stack, n - 2)? {
+    match dict_at(&mut view, roots, &stack, n - 2)? {
         Some(d) => {
-            let got = calls::get(alloc, &mut view, &stack, d, n - 1)?;
-            found(alloc, view, stack, n - 2, got, b"none")
+            let got = calls::get(alloc, &mut view, roots, &stack, d, n - 1)?;
+            found(alloc, view, roots, stack, n - 2, got, b"none")
         }
         None => Err(Halt::Bad),
     }
@@ -306,22 +323,23 @@ pub fn get<V: View<u8> + Drop>(bench: Bench<V>) -> Result<Bench<V>, Halt>
 
 /// `d k x set`.
 pub fn set<V: View<u8> + Drop>(bench: Bench<V>) -> Result<Bench<V>, Halt>
-    requires { Good V.sense bench.stack bench.view }
-    ensures { IfOk result (λ b. Good V.sense b.stack b.view) }
+    requires { Good V.sense bench.roots.0 bench.stack bench.view }
+    ensures { IfOk result (λ b. Good V.sense b.roots.0 b.stack b.view) }
 {
     let Bench {
         alloc,
         mut view,
+        roots,
         stack,
     } = bench;
     let n = stack.len();
     if n < 3 {
         return Err(Halt::Bad);
     }
-    match dict_at(&mut view, &stack, n - 3)? {
+    match dict_at(&mut view, roots, &stack, n - 3)? {
         Some(d) => {
-            let got = calls::set(alloc, &mut view, &stack, d, n - 2, n - 1)?;
-            done(alloc, view, stack, n - 3, got)
+            let got = calls::set(alloc, &mut view, roots, &stack, d, n - 2, n - 1)?;
+            done(alloc, view, roots, stack, n - 3, got)
         }
         None => Err(Halt::Bad),
     }
@@ -329,22 +347,23 @@ pub fn set<V: View<u8> + Drop>(bench: Bench<V>) -> Result<Bench<V>, Halt>
 
 /// `d k del`.
 pub fn del<V: View<u8> + Drop>(bench: Bench<V>) -> Result<Bench<V>, Halt>
-    requires { Good V.sense bench.stack bench.view }
-    ensures { IfOk result (λ b. Good V.sense b.stack b.view) }
+    requires { Good V.sense bench.roots.0 bench.stack bench.view }
+    ensures { IfOk result (λ b. Good V.sense b.roots.0 b.stack b.view) }
 {
     let Bench {
         alloc,
         mut view,
+        roots,
         stack,
     } = bench;
     let n = stack.len();
     if n < 2 {
         return Err(Halt::Bad);
     }
-    match dict_at(&mut view, &stack, n - 2)? {
+    match dict_at(&mut view, roots, &stack, n - 2)? {
         Some(d) => {
-            let got = calls::del(alloc, &mut view, &stack, d, n - 1)?;
-            answered(alloc, view, stack, n - 2, got)
+            let got = calls::del(alloc, &mut view, roots, &stack, d, n - 1)?;
+            answered(alloc, view, roots, stack, n - 2, got)
         }
         None => Err(Halt::Bad),
     }
@@ -352,22 +371,23 @@ pub fn del<V: View<u8> + Drop>(bench: Bench<V>) -> Result<Bench<V>, Halt>
 
 /// `d keys`, `d values` and `d items`.
 pub fn list_of<V: View<u8> + Drop>(bench: Bench<V>, part: Part) -> Result<Bench<V>, Halt>
-    requires { Good V.sense bench.stack bench.view }
-    ensures { IfOk result (λ b. Good V.sense b.stack b.view) }
+    requires { Good V.sense bench.roots.0 bench.stack bench.view }
+    ensures { IfOk result (λ b. Good V.sense b.roots.0 b.stack b.view) }
 {
     let Bench {
         alloc,
         mut view,
+        roots,
         stack,
     } = bench;
     let n = stack.len();
     if n < 1 {
         return Err(Halt::Bad);
     }
-    match dict_at(&mut view, &stack, n - 1)? {
+    match dict_at(&mut view, roots, &stack, n - 1)? {
         Some(d) => {
-            let got = calls::list_of(alloc, &mut view, &stack, d, part)?;
-            answered(alloc, view, stack, n - 1, got)
+            let got = calls::list_of(alloc, &mut view, roots, &stack, d, part)?;
+            answered(alloc, view, roots, stack, n - 1, got)
         }
         None => Err(Halt::Bad),
     }

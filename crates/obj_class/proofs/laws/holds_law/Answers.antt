@@ -1,5 +1,5 @@
 use Rattle.obj_class.proofs.Held.{class_holds}
-use Rattle.obj_class.proofs.SteadyRows.{class_steady}
+use Rattle.obj_class.proofs.Steadily.{class_steady}
 use Rattle.obj_class.proofs.laws.holds_law.Goals as goal
 
 pub returns-clause-holds : goal.returns-clause-holds

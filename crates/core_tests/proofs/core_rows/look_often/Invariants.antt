@@ -1,0 +1,5 @@
+use Rattle.core_tests.specs.ScriptCore.{IsGoodScriptCore}
+use Rattle.core_tests.proofs.core_rows.look_often.Given as goal
+
+abbrev pub invariant-times : goal.invariant-times
+invariant-times g l = IsGoodScriptCore l.core

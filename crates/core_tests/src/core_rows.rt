@@ -1,0 +1,521 @@
+//! Scripts on a core over a store of maps: lists of events, each with its replies, and what they leave in the image.
+ghost use Rattle.std.specs.Prelude.{◌≤◌, IfOk};
+ghost use Rattle.lock_run.specs.LockState.{lock_state, IsSound};
+ghost use Rattle.lock_run.specs.Script.{ScriptSound};
+ghost use Rattle.stm_io.specs.Memory.{mem_sink_state, mem_source_state};
+ghost use Rattle.core_tests.specs.ScriptCore.{IsGoodScriptCore};
+
+use lock_run::{Act, Acts, History, LockRun, Script, Turn};
+use py_data::{Addr, Conflict, Side, Value};
+use seg_store::{PlainStore, SegStore};
+use std::alloc::Global;
+use std::process::Abort;
+use std::test;
+use stm_core::{Advance, BeginError, Core, Event, Reply, RunState, Slot};
+use stm_io::{MemSink, MemSource};
+
+type Tested = Result<(), test::Fail>;
+
+type MemCore<'p> = Core<'p, Script, PlainStore, MemSource, MemSink, MemSink>;
+
+type MemRun<'p> = LockRun<'p, Script, MemSource, MemSink, MemSink>;
+
+/// Threads with these lists of acts, over two Cells.
+fn script_of(rt: &impl Abort, lists: Vec<Acts>) -> Script {
+    assert!(rt; Script::fits(2, lists.as_slice()));
+    Script::new(2, lists)
+}
+
+/// Two threads with these acts, over two Cells.
+fn script(
+    rt: &impl Abort,
+    alloc: Global,
+    first: &[Act],
+    second: &[Act],
+) -> Result<Script, test::Fail> {
+    let mut lists = Vec::new(alloc);
+    lists.push(Acts::from_slice(alloc, first)?)?;
+    lists.push(Acts::from_slice(alloc, second)?)?;
+    Ok(script_of(rt, lists))
+}
+
+fn source(alloc: Global) -> MemSource {
+    MemSource::new(alloc, Vec::new(alloc), Vec::new(alloc))
+}
+
+fn sink(alloc: Global) -> MemSink {
+    MemSink::new(alloc, Vec::new(alloc))
+}
+
+/// A core of three segments, whose transactions have at most four steps.
+fn core<'p>(
+    rt: &impl Abort,
+    alloc: Global,
+    client: &'p Script,
+    budget: u64,
+) -> Result<MemCore<'p>, test::Fail>
+    ensures { IfOk result IsGoodScriptCore }
+{
+    assert!(rt; budget >= 1 && budget <= 1_000);
+    let store = PlainStore::new(alloc, 3)?;
+    match Core::new(
+        alloc,
+        client,
+        store,
+        4,
+        budget,
+        source(alloc),
+        sink(alloc),
+        sink(alloc),
+    ) {
+        Ok(core) => Ok(core),
+        Err(_) => Err("no memory".into()),
+    }
+}
+
+/// Makes events, and compares their replies.
+fn play(rt: &impl Abort, core: &mut MemCore<'_>, list: &[Event], wanted: &[Reply]) -> Tested
+    requires { IsGoodScriptCore core.old }
+    ensures { IsGoodScriptCore core.new }
+{
+    let replies = core.run_events(list)?;
+    assert_eq!(rt; replies.as_slice(), wanted);
+    Ok(())
+}
+
+/// A core after the step of thread 0, which is turn 0.
+fn begun<'p>(
+    rt: &impl Abort,
+    alloc: Global,
+    client: &'p Script,
+    budget: u64,
+) -> Result<MemCore<'p>, test::Fail>
+    ensures { IfOk result IsGoodScriptCore }
+{
+    let mut core = core(rt, alloc, client, budget)?;
+    let list = [Event::Begin(0, 0), Event::Advance(0, 1), Event::Commit(0)];
+    let wanted = [
+        Reply::Begun,
+        Reply::Advanced(Advance::Ended(1)),
+        Reply::Committed(0),
+    ];
+    play(rt, &mut core, &list, &wanted)?;
+    Ok(core)
+}
+
+/// The address of a Cell, which turn 0 made.
+fn cell(rt: &impl Abort, core: &MemCore<'_>, cell: usize) -> Addr {
+    let Some(turn) = core.history().get(0) else {
+        panic!(rt; "no turn");
+    };
+    let Some(a) = turn.names.get(cell) else {
+        panic!(rt; "no name");
+    };
+    *a
+}
+
+/// The number in a Cell of the image.
+fn committed(rt: &impl Abort, core: &MemCore<'_>, place: usize) -> i64 {
+    let a = cell(rt, core, place);
+    let Some(r) = core.store().committed(a.0) else {
+        panic!(rt; "no record");
+    };
+    match r.values().first() {
+        Some(Value::Int(n)) => *n,
+        _ => panic!(rt; "no number"),
+    }
+}
+
+/// The number in a Cell as a segment sees it.
+fn seen(rt: &impl Abort, core: &MemCore<'_>, k: u8, place: usize) -> i64 {
+    let a = cell(rt, core, place);
+    let Some(r) = core.store().seen(k, a.0) else {
+        panic!(rt; "no record");
+    };
+    match r.values().first() {
+        Some(Value::Int(n)) => *n,
+        _ => panic!(rt; "no number"),
+    }
+}
+
+/// What a segment has in hand.
+fn slot(rt: &impl Abort, core: &MemCore<'_>, k: u8) -> Slot
+    requires { IsGoodScriptCore core.now }
+{
+    assert!(rt; k < core.store().segments());
+    core.slot(k)
+}
+
+/// The side of a transaction that isn't solo.
+fn side(segment: u8, thread: u32, begun: u64) -> Side {
+    Side {
+        segment,
+        thread,
+        begun,
+        solo: false,
+    }
+}
+
+/// Two threads look at a Cell and set it: the second one asks for what the first has changed, and loses.
+#[test]
+fn updates_are_not_lost(rt: HostRuntime) -> Tested {
+    let client = script(
+        &rt,
+        rt.alloc(),
+        &[Act::Look(0), Act::Set(0, 1)],
+        &[Act::Look(0), Act::Set(0, 2)],
+    )?;
+    let mut core = begun(&rt, rt.alloc(), &client, 1_000)?;
+    let lost = Conflict {
+        at: cell(&rt, &core, 0),
+        writer: side(0, 1, 1),
+        other: side(1, 2, 2),
+        asks: true,
+        lost: 1,
+    };
+    let list = [
+        Event::Begin(0, 1),
+        Event::Begin(1, 2),
+        Event::Advance(0, 2),
+        Event::Advance(1, 2),
+        Event::Commit(0),
+    ];
+    let wanted = [
+        Reply::Begun,
+        Reply::Begun,
+        Reply::Advanced(Advance::Ended(2)),
+        Reply::Lost(lost),
+        Reply::Committed(1),
+    ];
+    play(&rt, &mut core, &list, &wanted)?;
+    assert_eq!(&rt; committed(&rt, &core, 0), 1);
+    assert_eq!(&rt; core.conflicts().len(), 1);
+    Ok(())
+}
+
+/// Each of two threads looks at what the other sets: the first commit dooms the other.
+#[test]
+fn writes_do_not_skew(rt: HostRuntime) -> Tested {
+    let client = script(
+        &rt,
+        rt.alloc(),
+        &[Act::Look(1), Act::Set(0, 1)],
+        &[Act::Look(0), Act::Set(1, 2)],
+    )?;
+    let mut core = begun(&rt, rt.alloc(), &client, 1_000)?;
+    let lost = Conflict {
+        at: cell(&rt, &core, 0),
+        writer: side(0, 1, 1),
+        other: side(1, 2, 2),
+        asks: false,
+        lost: 1,
+    };
+    let list = [
+        Event::Begin(0, 1),
+        Event::Begin(1, 2),
+        Event::Advance(0, 2),
+        Event::Advance(1, 2),
+        Event::Commit(0),
+        Event::Commit(1),
+    ];
+    let wanted = [
+        Reply::Begun,
+        Reply::Begun,
+        Reply::Advanced(Advance::Ended(2)),
+        Reply::Advanced(Advance::Ended(2)),
+        Reply::Committed(1),
+        Reply::Lost(lost),
+    ];
+    play(&rt, &mut core, &list, &wanted)?;
+    assert_eq!(&rt; committed(&rt, &core, 0), 1);
+    assert_eq!(&rt; committed(&rt, &core, 1), 0);
+    Ok(())
+}
+
+/// Threads that set different Cells both commit.
+#[test]
+fn disjoint_writes_commit(rt: HostRuntime) -> Tested {
+    let client = script(&rt, rt.alloc(), &[Act::Set(0, 1)], &[Act::Set(1, 2)])?;
+    let mut core = begun(&rt, rt.alloc(), &client, 1_000)?;
+    let list = [
+        Event::Begin(0, 1),
+        Event::Begin(1, 2),
+        Event::Advance(0, 1),
+        Event::Advance(1, 1),
+        Event::Commit(0),
+        Event::Commit(1),
+    ];
+    let wanted = [
+        Reply::Begun,
+        Reply::Begun,
+        Reply::Advanced(Advance::Ended(1)),
+        Reply::Advanced(Advance::Ended(1)),
+        Reply::Committed(1),
+        Reply::Committed(2),
+    ];
+    play(&rt, &mut core, &list, &wanted)?;
+    for k in 0..2 {
+        assert_eq!(&rt; (seen(&rt, &core, k, 0), seen(&rt, &core, k, 1)), (1, 2));
+    }
+    assert_eq!(&rt;
+        (committed(&rt, &core, 0), committed(&rt, &core, 1)),
+        (1, 2)
+    );
+    Ok(())
+}
+
+/// What is refused, and what is skipped.
+#[test]
+fn calls_are_refused(rt: HostRuntime) -> Tested {
+    let client = script(&rt, rt.alloc(), &[Act::Put(65)], &[Act::Look(0)])?;
+    let mut core = begun(&rt, rt.alloc(), &client, 1_000)?;
+    let list = [
+        Event::Begin(0, 1),
+        Event::Begin(0, 1),
+        Event::Begin(1, 1),
+        Event::Begin(1, 9),
+        Event::Begin(3, 2),
+        Event::Advance(1, 1),
+        Event::Commit(1),
+        Event::Advance(0, 5),
+        Event::Advance(0, 0),
+        Event::Advance(0, 1),
+        Event::Commit(0),
+    ];
+    let wanted = [
+        Reply::Begun,
+        Reply::Refused(BeginError::Busy(0)),
+        Reply::Refused(BeginError::NotReady(1)),
+        Reply::Refused(BeginError::NotReady(9)),
+        Reply::Skipped,
+        Reply::Skipped,
+        Reply::Skipped,
+        Reply::Skipped,
+        Reply::Skipped,
+        Reply::Advanced(Advance::NeedSolo(0)),
+        Reply::Nothing,
+    ];
+    play(&rt, &mut core, &list, &wanted)?;
+    assert_eq!(&rt;
+        (committed(&rt, &core, 0), committed(&rt, &core, 1)),
+        (0, 0)
+    );
+    assert_eq!(&rt; core.history().len(), 1);
+    Ok(())
+}
+
+/// With the budget's steps in the history no transaction begins.
+#[test]
+fn budget_is_kept(rt: HostRuntime) -> Tested {
+    let client = script(&rt, rt.alloc(), &[Act::Look(0)], &[Act::Look(1)])?;
+    let mut core = begun(&rt, rt.alloc(), &client, 1)?;
+    assert!(&rt; core.outcome() == RunState::Spent);
+    let wanted = [Reply::Refused(BeginError::AtBudget)];
+    play(&rt, &mut core, &[Event::Begin(0, 1)], &wanted)?;
+    assert_eq!(&rt;
+        (committed(&rt, &core, 0), committed(&rt, &core, 1)),
+        (0, 0)
+    );
+    Ok(())
+}
+
+/// How a core stands while a thread runs, and when all have ended.
+#[test]
+fn stands_and_ends(rt: HostRuntime) -> Tested {
+    let client = script(&rt, rt.alloc(), &[Act::Set(0, 3)], &[Act::Push(4)])?;
+    let mut core = begun(&rt, rt.alloc(), &client, 1_000)?;
+    assert_eq!(&rt; core.length(), 4);
+    assert!(&rt; core.next_ready() == Some(1));
+    let list = [Event::Begin(2, 1), Event::Advance(2, 1)];
+    let wanted = [Reply::Begun, Reply::Advanced(Advance::Ended(1))];
+    play(&rt, &mut core, &list, &wanted)?;
+    let running = Slot::Running {
+        thread: 1,
+        steps: 1,
+        solo: false,
+    };
+    assert!(&rt; slot(&rt, &core, 2) == running);
+    assert!(&rt; slot(&rt, &core, 0) == Slot::Idle);
+    assert!(&rt; core.next_ready() == Some(2));
+    assert!(&rt; core.outcome() == RunState::Running);
+    let list = [
+        Event::Commit(2),
+        Event::Begin(0, 2),
+        Event::Advance(0, 4),
+        Event::Commit(0),
+    ];
+    let wanted = [
+        Reply::Committed(1),
+        Reply::Begun,
+        Reply::Advanced(Advance::Ended(1)),
+        Reply::Committed(2),
+    ];
+    play(&rt, &mut core, &list, &wanted)?;
+    assert!(&rt; core.next_ready().is_none());
+    let finished = core.finish();
+    assert!(&rt; finished.state == RunState::Done);
+    assert!(&rt; !finished.failed);
+    assert_eq!(&rt; finished.history.len(), 3);
+    assert_eq!(&rt; finished.conflicts.len(), 0);
+    Ok(())
+}
+
+/// A transaction of one step of thread 1, so many times.
+fn look_often(rt: &impl Abort, core: &mut MemCore<'_>, times: u64) -> Tested
+    requires { IsGoodScriptCore core.old }
+    ensures { IsGoodScriptCore core.new }
+{
+    let list = [Event::Begin(0, 1), Event::Advance(0, 1), Event::Commit(0)];
+    'times: for n in 0..times {
+        let wanted = [
+            Reply::Begun,
+            Reply::Advanced(Advance::Ran(1)),
+            Reply::Committed(n.saturating_add(1)),
+        ];
+        play(rt, core, &list, &wanted)?;
+    }
+    Ok(())
+}
+
+/// A look at one Cell, and then so many at the other.
+fn looks(alloc: Global, count: usize) -> Result<Vec<Act>, test::Fail> {
+    let mut acts = Vec::new(alloc);
+    acts.push(Act::Look(0))?;
+    for _look in 0..count {
+        acts.push(Act::Look(1))?;
+    }
+    Ok(acts)
+}
+
+/// A thread that looked at a Cell 255 transactions ago isn't in the way of another that sets it.
+#[test]
+fn looks_end_with_their_transaction(rt: HostRuntime) -> Tested {
+    let acts = looks(rt.alloc(), 299)?;
+    let client = script(&rt, rt.alloc(), acts.as_slice(), &[Act::Set(0, 5)])?;
+    let mut core = begun(&rt, rt.alloc(), &client, 1_000)?;
+    look_often(&rt, &mut core, 255)?;
+    let list = [
+        Event::Begin(0, 1),
+        Event::Advance(0, 1),
+        Event::Begin(1, 2),
+        Event::Advance(1, 1),
+        Event::Commit(1),
+    ];
+    let wanted = [
+        Reply::Begun,
+        Reply::Advanced(Advance::Ran(1)),
+        Reply::Begun,
+        Reply::Advanced(Advance::Ended(1)),
+        Reply::Committed(256),
+    ];
+    play(&rt, &mut core, &list, &wanted)?;
+    play(
+        &rt,
+        &mut core,
+        &[Event::Commit(0)],
+        &[Reply::Committed(257)],
+    )?;
+    assert_eq!(&rt; committed(&rt, &core, 0), 5);
+    Ok(())
+}
+
+/// The next number of a row of numbers, from 0 to 65,535, that look like any.
+fn draw(seed: &mut u32) -> u32 {
+    *seed = seed.wrapping_mul(1_664_525).wrapping_add(1_013_904_223);
+    *seed >> 16
+}
+
+fn draw_event(seed: &mut u32) -> Event {
+    let k = (draw(seed) % 3) as u8;
+    match draw(seed) % 4 {
+        0 => Event::Begin(k, draw(seed) % 4),
+        1 => Event::Advance(k, 1),
+        2 => Event::Advance(k, 2),
+        _ => Event::Commit(k),
+    }
+}
+
+/// So many events of three segments and three threads.
+fn draw_events(alloc: Global, seed: u32, count: usize) -> Result<Vec<Event>, test::Fail> {
+    let mut seed = seed;
+    let mut list = Vec::new(alloc);
+    for _event in 0..count {
+        list.push(draw_event(&mut seed))?;
+    }
+    Ok(list)
+}
+
+/// Three threads that look at, set and push what the others do.
+fn three(rt: &impl Abort, alloc: Global) -> Result<Script, test::Fail> {
+    let mut lists = Vec::new(alloc);
+    let first = [Act::Look(0), Act::Set(1, 1), Act::Push(7)];
+    let second = [Act::Set(0, 2), Act::Look(1), Act::Push(8)];
+    let third = [Act::Look(1), Act::Set(0, 3), Act::Set(1, 4)];
+    lists.push(Acts::from_slice(alloc, &first)?)?;
+    lists.push(Acts::from_slice(alloc, &second)?)?;
+    lists.push(Acts::from_slice(alloc, &third)?)?;
+    Ok(script_of(rt, lists))
+}
+
+/// A machine at its first state.
+fn machine<'p>(alloc: Global, client: &'p Script) -> Result<MemRun<'p>, test::Fail>
+    ensures { IfOk result (λ run. IsSound ScriptSound (lock_state mem_source_state mem_sink_state mem_sink_state run)) }
+{
+    match LockRun::new(alloc, client, source(alloc), sink(alloc), sink(alloc)) {
+        Ok(run) => Ok(run),
+        Err(_) => Err("no memory".into()),
+    }
+}
+
+/// The machine does a turn, with the names that it gave.
+fn again(rt: &impl Abort, run: &mut MemRun<'_>, turn: &Turn)
+    requires { IsSound ScriptSound (lock_state mem_source_state mem_sink_state mem_sink_state run.old) }
+    ensures { IsSound ScriptSound (lock_state mem_source_state mem_sink_state mem_sink_state run.new) }
+{
+    assert!(rt; turn.steps >= 1);
+    assert!(rt; run.turn(turn.thread, turn.steps, &turn.names).is_ok());
+}
+
+/// The machine does the turns of a history, one after another.
+fn all_again(rt: &impl Abort, run: &mut MemRun<'_>, history: &History)
+    requires { IsSound ScriptSound (lock_state mem_source_state mem_sink_state mem_sink_state run.old) }
+{
+    'turns: for i in 0..history.len() {
+        match history.get(i) {
+            Some(turn) => again(rt, run, turn),
+            None => panic!(rt; "no turn"),
+        }
+    }
+}
+
+/// Makes the events of a list on a core, and does its history's turns again on a machine: how many turns and conflicts
+/// there were.
+fn on_both(
+    rt: &impl Abort,
+    alloc: Global,
+    client: &Script,
+    seed: u32,
+) -> Result<(usize, usize), test::Fail> {
+    let mut core = begun(rt, alloc, client, 1_000)?;
+    let list = draw_events(alloc, seed, 60)?;
+    core.run_events(list.as_slice())?;
+    let mut run = machine(alloc, client)?;
+    all_again(rt, &mut run, core.history());
+    Ok((core.history().len(), core.conflicts().len()))
+}
+
+/// The histories of 500 lists of events are runs of the one-lock machine.
+#[test]
+fn histories_run_again(rt: HostRuntime) -> Tested {
+    let client = three(&rt, rt.alloc())?;
+    let mut turns = 0usize;
+    let mut conflicts = 0usize;
+    for seed in 0..500 {
+        let (more, lost) = on_both(&rt, rt.alloc(), &client, seed)?;
+        turns = turns.saturating_add(more);
+        conflicts = conflicts.saturating_add(lost);
+    }
+    assert!(&rt; turns > 1_500, "{turns}");
+    assert!(&rt; conflicts > 300, "{conflicts}");
+    Ok(())
+}

@@ -1,0 +1,10 @@
+//! The one-lock machine, the store of maps and the transactional core, tried by scripts. It has tests alone, so the crates that
+//! it tries are proved once and wait for no test.
+#![tactic(auto)]
+
+#[cfg(test)]
+mod core_rows;
+#[cfg(test)]
+mod machine_rows;
+#[cfg(test)]
+mod store_rows;

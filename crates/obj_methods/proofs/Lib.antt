@@ -1,0 +1,11 @@
+pub mod InOrder
+pub mod SortedBy
+pub mod Loops
+pub mod OrderedValues
+pub mod SortLooks
+pub mod SearchLooks
+pub mod ListLeaves
+pub mod KeyLeaves
+pub mod MethodsHold
+pub mod OnlyEqual
+pub mod SteadyMethods

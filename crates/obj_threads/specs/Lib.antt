@@ -1,0 +1,9 @@
+pub mod Arguments
+pub mod Locks
+pub mod Starting
+pub mod Keywords
+pub mod Threads
+pub mod Quiet
+pub mod HoldsLaws
+pub mod Laws
+pub mod Worked

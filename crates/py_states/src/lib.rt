@@ -1,0 +1,14 @@
+//! The state of a thread in memory: three lists, whatever the depth of its calls.
+#![tactic(auto)]
+
+mod frames;
+mod head;
+mod moves;
+mod pile;
+mod same;
+#[cfg(test)]
+mod tests;
+mod thread;
+mod track;
+
+pub use thread::ThreadState;

@@ -1,0 +1,184 @@
+//! Attributes.
+ghost use Rattle.py_data.specs.Sense.{Meets, Safe, IsLive};
+ghost use Rattle.py_frames.specs.AttrInstrs.{del_attr_instr, dropped_attr, found_method, load_attr_row, load_method_row, loaded_attr, loaded_method, missing_method, store_attr_row, stored_attr};
+
+use crate::raising::{done, give, place_in, push_two};
+use obj_class::{Found, attr, del_attr, find_attr, missing, set_attr};
+use py_data::{Addr, Stop, Value, View, look};
+use py_frames::Next;
+use std::alloc::Global;
+
+/// Pushes an attribute of a value, by the address of its name.
+#[tactic(auto, using(py_data::proofs::Rows::row_steps, py_data::proofs::Steps::call_steps), unfolding(py_frames::specs::AttrInstrs::loaded_attr))]
+fn loaded_attr<S, V: View<S>>(
+    alloc: Global,
+    v: &mut V,
+    roots: Addr,
+    o: Value,
+    name: Addr,
+) -> Result<Next, Stop>
+    requires live { IsLive V.sense v.old }
+    requires safe { Safe V.sense.partial (loaded_attr {S = S} roots.0 o name.0) (V.sense.heap v.old) }
+    ensures { Meets V.sense (loaded_attr roots.0 o name.0) v.old v.new result }
+{
+    let got = attr(alloc, v, roots, o, name)?;
+    give(alloc, v, roots, got)
+}
+
+/// LOAD_ATTR, of the name that is the root of number `n`.
+#[tactic(auto, using(py_data::proofs::Rows::row_steps, py_data::proofs::Steps::call_steps), unfolding(py_frames::specs::AttrInstrs::load_attr_row))]
+pub fn load_attr_row<S, V: View<S>>(
+    alloc: Global,
+    v: &mut V,
+    roots: Addr,
+    n: u32,
+    o: Value,
+) -> Result<Next, Stop>
+    requires live { IsLive V.sense v.old }
+    requires safe { Safe V.sense.partial (load_attr_row {S = S} roots.0 n o) (V.sense.heap v.old) }
+    ensures { Meets V.sense (load_attr_row roots.0 n o) v.old v.new result }
+{
+    let name = look(v, roots, n as usize)?;
+    loaded_attr(alloc, v, roots, o, place_in(name))
+}
+
+/// Sets an attribute of a value, by the address of its name.
+#[tactic(auto, using(py_data::proofs::Rows::row_steps, py_data::proofs::Steps::call_steps), unfolding(py_frames::specs::AttrInstrs::stored_attr))]
+fn stored_attr<S, V: View<S>>(
+    alloc: Global,
+    v: &mut V,
+    roots: Addr,
+    x: Value,
+    o: Value,
+    name: Addr,
+) -> Result<Next, Stop>
+    requires live { IsLive V.sense v.old }
+    requires safe { Safe V.sense.partial (stored_attr {S = S} roots.0 x o name.0) (V.sense.heap v.old) }
+    ensures { Meets V.sense (stored_attr roots.0 x o name.0) v.old v.new result }
+{
+    let got = set_attr(alloc, v, o, name, x)?;
+    done(alloc, v, roots, got)
+}
+
+/// STORE_ATTR, of the name that is the root of number `n`.
+#[tactic(auto, using(py_data::proofs::Rows::row_steps, py_data::proofs::Steps::call_steps), unfolding(py_frames::specs::AttrInstrs::store_attr_row))]
+pub fn store_attr_row<S, V: View<S>>(
+    alloc: Global,
+    v: &mut V,
+    roots: Addr,
+    n: u32,
+    x: Value,
+    o: Value,
+) -> Result<Next, Stop>
+    requires live { IsLive V.sense v.old }
+    requires safe { Safe V.sense.partial (store_attr_row {S = S} roots.0 n x o) (V.sense.heap v.old) }
+    ensures { Meets V.sense (store_attr_row roots.0 n x o) v.old v.new result }
+{
+    let name = look(v, roots, n as usize)?;
+    stored_attr(alloc, v, roots, x, o, place_in(name))
+}
+
+/// Takes out an attribute of a value, by the address of its name.
+#[tactic(auto, using(py_data::proofs::Rows::row_steps, py_data::proofs::Steps::call_steps), unfolding(py_frames::specs::AttrInstrs::dropped_attr))]
+fn dropped_attr<S, V: View<S>>(
+    alloc: Global,
+    v: &mut V,
+    roots: Addr,
+    o: Value,
+    name: Addr,
+) -> Result<Next, Stop>
+    requires live { IsLive V.sense v.old }
+    requires safe { Safe V.sense.partial (dropped_attr {S = S} roots.0 o name.0) (V.sense.heap v.old) }
+    ensures { Meets V.sense (dropped_attr roots.0 o name.0) v.old v.new result }
+{
+    let got = del_attr(alloc, v, o, name)?;
+    done(alloc, v, roots, got)
+}
+
+/// DEL_ATTR, of the name that is the root of number `n`.
+#[tactic(auto, using(py_data::proofs::Rows::row_steps, py_data::proofs::Steps::call_steps), unfolding(py_frames::specs::AttrInstrs::del_attr_instr))]
+pub fn del_attr_instr<S, V: View<S>>(
+    alloc: Global,
+    v: &mut V,
+    roots: Addr,
+    n: u32,
+    o: Value,
+) -> Result<Next, Stop>
+    requires live { IsLive V.sense v.old }
+    requires safe { Safe V.sense.partial (del_attr_instr {S = S} roots.0 n o) (V.sense.heap v.old) }
+    ensures { Meets V.sense (del_attr_instr roots.0 n o) v.old v.new result }
+{
+    let name = look(v, roots, n as usize)?;
+    dropped_attr(alloc, v, roots, o, place_in(name))
+}
+
+/// Raises the exception of an attribute that is not there.
+#[tactic(auto, using(py_data::proofs::Rows::row_steps, py_data::proofs::Steps::call_steps), unfolding(py_frames::specs::AttrInstrs::missing_method))]
+fn missing_method<S, V: View<S>>(
+    alloc: Global,
+    v: &mut V,
+    roots: Addr,
+    name: Addr,
+) -> Result<Next, Stop>
+    requires live { IsLive V.sense v.old }
+    requires safe { Safe V.sense.partial (missing_method {S = S} roots.0 name.0) (V.sense.heap v.old) }
+    ensures { Meets V.sense (missing_method roots.0 name.0) v.old v.new result }
+{
+    let got = missing(alloc, v, name)?;
+    give(alloc, v, roots, got)
+}
+
+/// Pushes what was found: a function and the object that it is bound to, or any other attribute and nothing.
+#[tactic(auto, using(py_data::proofs::Rows::row_steps), unfolding(py_frames::specs::AttrInstrs::found_method))]
+fn found_method<S, V: View<S>>(
+    alloc: Global,
+    v: &mut V,
+    roots: Addr,
+    o: Value,
+    name: Addr,
+    found: Option<Found>,
+) -> Result<Next, Stop>
+    requires live { IsLive V.sense v.old }
+    requires safe { Safe V.sense.partial (found_method {S = S} roots.0 o name.0 found) (V.sense.heap v.old) }
+    ensures { Meets V.sense (found_method roots.0 o name.0 found) v.old v.new result }
+{
+    match found {
+        Some(Found::Plain(x)) => Ok(push_two(alloc, x, Value::Unset)?),
+        Some(Found::Bound(f)) => Ok(push_two(alloc, f, o)?),
+        None => missing_method(alloc, v, roots, name),
+    }
+}
+
+/// The same of a value, by the address of the name.
+#[tactic(auto, using(py_data::proofs::Rows::row_steps, py_data::proofs::Steps::call_steps), unfolding(py_frames::specs::AttrInstrs::loaded_method))]
+fn loaded_method<S, V: View<S>>(
+    alloc: Global,
+    v: &mut V,
+    roots: Addr,
+    o: Value,
+    name: Addr,
+) -> Result<Next, Stop>
+    requires live { IsLive V.sense v.old }
+    requires safe { Safe V.sense.partial (loaded_method {S = S} roots.0 o name.0) (V.sense.heap v.old) }
+    ensures { Meets V.sense (loaded_method roots.0 o name.0) v.old v.new result }
+{
+    let found = find_attr(alloc, v, roots, o, name)?;
+    found_method(alloc, v, roots, o, name, found)
+}
+
+/// LOAD_METHOD, of the name that is the root of number `n`.
+#[tactic(auto, using(py_data::proofs::Rows::row_steps, py_data::proofs::Steps::call_steps), unfolding(py_frames::specs::AttrInstrs::load_method_row))]
+pub fn load_method_row<S, V: View<S>>(
+    alloc: Global,
+    v: &mut V,
+    roots: Addr,
+    n: u32,
+    o: Value,
+) -> Result<Next, Stop>
+    requires live { IsLive V.sense v.old }
+    requires safe { Safe V.sense.partial (load_method_row {S = S} roots.0 n o) (V.sense.heap v.old) }
+    ensures { Meets V.sense (load_method_row roots.0 n o) v.old v.new result }
+{
+    let name = look(v, roots, n as usize)?;
+    loaded_method(alloc, v, roots, o, place_in(name))
+}

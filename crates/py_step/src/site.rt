@@ -1,0 +1,51 @@
+//! What a call gives, and where it happens.
+ghost use Rattle.std.specs.Prelude.{◌≡◌, ◌∷◌, IfOk};
+
+use py_code::Program;
+use py_data::{Addr, NoMemory, Value, Values};
+use std::alloc::Global;
+use std::marker::Model;
+
+/// What a call gives: the arguments without a keyword, and for each keyword the number of its name among the roots,
+/// and its value.
+#[derive(Drop)]
+pub struct Given<'a> {
+    pub args: &'a [Value],
+    pub names: &'a [u32],
+    pub values: &'a [Value],
+}
+
+impl<'a> Model for Given<'a> {
+    ghost use Rattle.py_frames.specs.Binding as binding;
+
+    ghost Value = { binding.Given };
+
+    ghost view = { λ g. record { args = g.args.now; names = g.names.now; values = g.values.now } };
+}
+
+/// Where a call happens: the program and its roots, the Thread record of the thread, and how many frames it has.
+#[derive(Drop)]
+pub struct Site<'a> {
+    pub program: &'a Program,
+    pub roots: Addr,
+    pub thread: Option<Addr>,
+    pub depth: usize,
+}
+
+impl<'a> Model for Site<'a> {
+    ghost use Rattle.py_frames.specs.ClassCalls as class_calls;
+
+    ghost Value = { class_calls.Site };
+
+    ghost view = { λ s. record { program = s.program.now; roots = s.roots.0; thread = s.thread; depth = s.depth } };
+}
+
+/// One value more, before all others.
+pub fn with_first(alloc: Global, x: Value, args: &[Value]) -> Result<Values, NoMemory>
+    ensures { IfOk result (λ a. a ≡ x ∷ args.now) }
+{
+    let mut all = Values::new(alloc);
+    all.push(x)?;
+    all.extend_from_slice(args)?;
+    Ok(all)
+}
