@@ -1,8 +1,8 @@
 -- What a client's step does over a view, and the laws that a client keeps. States `docs/HEAP.md`, "Clients".
-use Rattle.std.specs.Prelude.{◌≡◌, ◌≢◌, ℕ, Bool, false, List, ◌++◌, Some, slice_get, slice_set}
+use Rattle.std.specs.Prelude.{◌≡◌, ◌≢◌, ℕ, Bool, false, List, [], ◌∷◌, ◌++◌, Some, slice_get, slice_set}
 use Rattle.py_data.specs.declared.stop.Stop.{Stop}
-use Rattle.py_data.specs.Heap.{Heap}
-use Rattle.py_data.specs.Row.{Call, Reply, Row, Ret, Do, Put, MidLine}
+use Rattle.py_data.specs.Heap.{Heap, no_records}
+use Rattle.py_data.specs.Row.{Row}
 use Rattle.py_data.specs.Sense.{Sense, Bracket, Safe, Run, Stopped, ShownOf}
 use Rattle.py_data.specs.Sight.{Sight, Does, opened}
 use Rattle.py_data.specs.World.{World}
@@ -30,6 +30,10 @@ Stepped u b row old o s new = (v : _) × b.opens old v × Run u row v (o, s) new
 -- the step was opened, its row met a Stop, and the step was taken back
 abbrev pub StepStopped : {S X : Type 0} → Sense S X → Bracket S X → Row S (Outcome × S) → X → Stop → X → Type 0
 StepStopped u b row old e new = (v : _) × (w : _) × b.opens old v × Stopped u row v e w × b.undoes w new
+
+-- the first state alone may stand over no records
+abbrev pub IsSoundFirst : {S : Type 0} → Prog S → (Heap → List S → Type 0) → Type 0
+IsSoundFirst p sound = sound no_records (p.first ∷ [])
 
 -- each step of a living thread of a sound list leaves a sound one
 abbrev pub StaysSound : {S : Type 0} → Prog S → (Heap → List S → Type 0) → Type 0
@@ -69,18 +73,3 @@ Waiting {S} row h = (w : World) → (q : S) × (z : Sight S) × Does row (opened
 -- the row doesn't wait over this heap
 abbrev pub Going : {S : Type 0} → Row S (Outcome × S) → Heap → Type 0
 Going {S} row h = (w : World) (q : S) (z : Sight S) → Does row (opened S h w) (Waits, q) z → ⊥
-
--- the next call of a row writes
-abbrev pub Writes : {S A : Type 0} → Row S A → Type 0
-Writes (Do (Put on bytes) k) = Unit {0}
-Writes _ = ⊥
-
--- what comes behind a call that asks for the flag
-abbrev pub WritesThen : {S A : Type 0} (c : Call S) → (Reply c → Row S A) → Type 0
-WritesThen MidLine k = (mid : Bool) → Writes (k mid)
-WritesThen _ k = Unit {0}
-
--- a row that asks whether the output is in mid line writes next
-abbrev pub AsksToPrint : {S A : Type 0} → Row S A → Type 0
-AsksToPrint (Ret a) = Unit {0}
-AsksToPrint (Do c k) = WritesThen c k × ((r : Reply c) → AsksToPrint (k r))

@@ -22,7 +22,8 @@ use Rattle.lock_run.specs.declared.script.Act.{Act}
 use Rattle.lock_run.specs.declared.script.Act.TheVariants.{Look, Set, Push as PushAct, Put as PutAct}
 use Rattle.lock_run.specs.declared.script.ScriptState.{ScriptState}
 use Rattle.lock_run.specs.declared.script.ScriptState.TheVariants.{Prelude, Acts, Over}
-use Rattle.lock_run.specs.Client.{StaysSound, LifeAfter, TellsLife, WaitsQuietly, WritesThen, AsksToPrint}
+use Rattle.lock_run.specs.Client.{StaysSound, LifeAfter, TellsLife, WaitsQuietly}
+use Rattle.py_data.specs.Steady.{WritesThen, AsksToPrint}
 use Rattle.lock_run.specs.Script.{zero_cell, empty_list, with_cell, make_cells, start_threads, list_and_threads, prelude_row, look_row, set_row, push_row, act_row, act_at, now_done, at_act, script_row, script_life, script_prog, IsCell, IsList, Is, HasCells, HasList, IsStanding, AreStanding, ScriptSound}
 
 -- ---- the first state over the empty heap

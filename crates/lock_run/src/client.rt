@@ -1,7 +1,8 @@
 //! A client: what the threads of a machine do, over any view.
-ghost use Rattle.std.specs.Prelude.{◌≡◌, ◌↔◌, IsTrue, true, false, List, [], ◌∷◌, IfOk, IfErr, OnErr};
-ghost use Rattle.py_data.specs.Heap.{Heap, no_records};
-ghost use Rattle.lock_run.specs.Client.{Standing, StandsIn, Stepped, StepStopped, StaysSound, IsSafe, TellsLife, WaitsQuietly, AsksToPrint, Waiting, Going};
+ghost use Rattle.std.specs.Prelude.{◌≡◌, ◌↔◌, IsTrue, true, false, List, IfOk, IfErr, OnErr};
+ghost use Rattle.py_data.specs.Heap.{Heap};
+ghost use Rattle.py_data.specs.Steady.{AsksToPrint};
+ghost use Rattle.lock_run.specs.Client.{Standing, StandsIn, Stepped, StepStopped, StaysSound, IsSafe, TellsLife, WaitsQuietly, Waiting, Going};
 ghost use Rattle.lock_run.specs.Prog.{Prog};
 ghost use Rattle.lock_run.specs.declared.client.Life.TheVariants.{Lives};
 
@@ -32,7 +33,8 @@ pub enum Life {
 ///
 /// Contracts see a client as a program: the row of each state's next step, which states live, and the first state. Its
 /// threads share one heap, and which lists of states may stand over which heaps is the client's own to say: that is what
-/// it needs to run, and each step keeps it.
+/// it needs to run, and each step keeps it. That the first state alone may stand over no records is for those to show who
+/// make a machine (`IsSoundFirst`): of some values of a client's type, as of a program that isn't right, it doesn't hold.
 pub trait Client {
     type State: Drop;
 
@@ -78,9 +80,6 @@ pub trait Client {
     /// Two states are equal.
     fn same(&self, a: &Self::State, b: &Self::State) -> bool
         ensures { IsTrue result ↔ (a.now ≡ b.now) };
-
-    /// The first state alone may stand over the empty heap.
-    ghost sound_first: { (c : Self) → sound c no_records ((prog c).first ∷ []) };
 
     /// A step leaves states that may stand over the heap that it leaves.
     ghost sound_step: { (c : Self) → StaysSound (prog c) (sound c) };

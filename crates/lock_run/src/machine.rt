@@ -81,11 +81,12 @@ impl<'p, C: Client, I: Source, O: Sink, E: Sink> LockRun<'p, C, I, O, E> {
     ghost use Rattle.py_data.specs.Collection.{places};
     ghost use Rattle.lock_run.specs.declared.client.Life.TheVariants.{Lives};
     ghost use Rattle.lock_run.specs.LockState.{lock_state, moved_state, lock_client, IsSound, IsReady, first_world, HasDevices};
-    ghost use Rattle.lock_run.specs.Client.{Standing};
+    ghost use Rattle.lock_run.specs.Client.{IsSoundFirst, Standing};
     ghost use Rattle.lock_run.specs.Machine.{begin_with};
     ghost use Rattle.lock_run.specs.Turns.{NoneFall, Stands, TurnDone, TurnCut, FreeDone, FreeCut, StepGoes, StepCut, Reach, ReachCut};
 
-    /// A machine at its first state: an empty heap and the client's first thread. At want of memory the devices come back.
+    /// A machine at its first state: an empty heap and the client's first thread, which may stand over it. At want of memory
+    /// the devices come back.
     pub fn new(
         alloc: Global,
         client: &'p C,
@@ -93,6 +94,7 @@ impl<'p, C: Client, I: Source, O: Sink, E: Sink> LockRun<'p, C, I, O, E> {
         out: O,
         err: E,
     ) -> Result<LockRun<'p, C, I, O, E>, (NoMemory, I, O, E)>
+        requires first { IsSoundFirst (C.prog client.now) (C.sound client.now) }
         ensures client { IfOk result (λ run. lock_client run ≡ client.now) }
         ensures begins { IfOk result (λ run. (o e : _) → o ≡ (O.state out).told → e ≡ (E.state err).told → Stands o e (lock_state I.state O.state E.state run).view (lock_state I.state O.state E.state run).threads (begin_with (C.prog client.now) (first_world (I.state input).told))) }
         ensures sound { IfOk result (λ run. IsSound (C.sound client.now) (lock_state I.state O.state E.state run)) }

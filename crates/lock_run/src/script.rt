@@ -319,7 +319,7 @@ impl Script {
 
 impl Client for Script {
     ghost use Rattle.lock_run.specs.Script.{cells_in, lists_in, script_prog, ScriptSound};
-    ghost use Rattle.lock_run.specs.ScriptLaws.{script_sound_first, script_sound_step, script_tells_life, script_waits_quietly, script_asks_to_print};
+    ghost use Rattle.lock_run.specs.ScriptLaws.{script_sound_step, script_tells_life, script_waits_quietly, script_asks_to_print};
     ghost use Rattle.lock_run.specs.ScriptSafe.{script_sound_safe};
 
     type State = ScriptState;
@@ -327,8 +327,6 @@ impl Client for Script {
     ghost prog = { λ c. script_prog (cells_in c) (lists_in c) };
 
     ghost sound = { λ c. ScriptSound };
-
-    ghost sound_first = { λ c. script_sound_first };
 
     ghost sound_step = { λ c. script_sound_step (cells_in c) (lists_in c) };
 

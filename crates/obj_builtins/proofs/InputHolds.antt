@@ -63,13 +63,13 @@ module _ (S : Type 0) where
 
   take_calm : Calm {S = S} take_row
   unfolding take_row Steady
-  take_calm true = (refl, λ l. line_calm l true)
-  take_calm false = (refl, λ l. line_calm l false)
+  take_calm true = ((refl, tt), λ l. line_calm l true)
+  take_calm false = ((refl, tt), λ l. line_calm l false)
 
   prompt_calm : (text : List ℕ) → Calm {S = S} (prompt_row text)
   unfolding prompt_row Steady
-  prompt_calm text true = (refl, λ u. (refl, λ v. take_calm true))
-  prompt_calm text false = (refl, λ u. (refl, λ v. take_calm false))
+  prompt_calm text true = ((refl, tt), λ u. ((refl, tt), λ v. take_calm true))
+  prompt_calm text false = ((refl, tt), λ u. ((refl, tt), λ v. take_calm false))
 
   pub input_calm : (roots : ℕ) (args : List Value) → Calm {S = S} (input_row roots args)
   unfolding input_row ask_row

@@ -220,7 +220,7 @@ module _ (S : Type 0) where
   -- what follows at most one look
   after_form : (x : Value) (f : Form → Row S (Got Value)) → ((k : Form) → Steady {S = S} false (f k)) → Steady {S = S} false (bind (form_row x) f)
   unfolding form_row form_at kind_row bind Steady
-  after_form (Ref a) f n = (refl, λ r. n (form_of r.kind a))
+  after_form (Ref a) f n = ((refl, tt), λ r. n (form_of r.kind a))
   after_form Unset f n = n _
   after_form NoneValue f n = n _
   after_form (BoolValue b) f n = n _

@@ -164,7 +164,7 @@ module _ (S : Type 0) where
   unfolding given_row method_row Steady
   given_steady x name None = missing_steady Value name
   given_steady x name (Some (Plain y)) = tt
-  given_steady x name (Some (Bound f)) = (refl, λ a. tt)
+  given_steady x name (Some (Bound f)) = ((refl, tt), λ a. tt)
 
   pub attr_steady : (roots name : ℕ) (x : Value) → Steady {S = S} false (attr_row roots x name)
   unfolding attr_row
@@ -218,16 +218,16 @@ module _ (S : Type 0) where
   drop_steady : (name d : ℕ) (o : Option ℕ) → Steady {S = S} false (bind (drop_found d (ref name) o) (λ g. gone_row name g))
   unfolding drop_found bind Steady
   drop_steady name d None = gone_steady name (Raise (key_fault (ref name)))
-  drop_steady name d (Some i) = (refl, λ r. (refl, λ u. gone_steady name (Is (value_at r.values (2 * i + 1)))))
+  drop_steady name d (Some i) = ((refl, tt), λ r. ((refl, tt), λ u. gone_steady name (Is (value_at r.values (2 * i + 1)))))
 
   key_steady : (name d : ℕ) (b : Bool) → Steady {S = S} false (bind (if_key (Do (Find d (ref name)) (drop_found d (ref name))) b) (λ g. gone_row name g))
   unfolding if_key bind Steady
-  key_steady name d true = (refl, λ o. drop_steady name d o)
+  key_steady name d true = ((refl, tt), λ o. drop_steady name d o)
   key_steady name d false = gone_steady name (Raise hash_fault)
 
   taken_steady : (name d : ℕ) → Steady {S = S} false (taken_row name d)
   unfolding taken_row del_row key_row bind Steady
-  taken_steady name d = (refl, λ r. key_steady name d (is_key_kind r.kind))
+  taken_steady name d = ((refl, tt), λ r. key_steady name d (is_key_kind r.kind))
 
   del_in_steady : (name : ℕ) (o : Option Addr) → Steady {S = S} false (del_in name o)
   unfolding del_in
@@ -241,17 +241,17 @@ module _ (S : Type 0) where
   -- ---- exceptions
   args_steady : (class key : Value) (args : List Value) → Steady {S = S} true (args_row class key args)
   unfolding args_row dict_of_args made_row bind Steady
-  args_steady class key args = (refl, λ t. (refl, λ d. (refl, λ n. tt)))
+  args_steady class key args = ((refl, tt), λ t. ((refl, tt), λ d. ((refl, tt), λ n. tt)))
 
   told_steady : (class key : Value) (w : With) → Steady {S = S} true (keyed_row class w key)
   unfolding keyed_row told_row made_row bind Steady
   told_steady class key Nothing = args_steady class key []
-  told_steady class key (Text t) = (refl, λ a. args_steady class key (ref a ∷ []))
+  told_steady class key (Text t) = ((refl, tt), λ a. args_steady class key (ref a ∷ []))
   told_steady class key (Held x) = args_steady class key (x ∷ [])
 
   exception_steady : (class : Value) (w : With) → Steady {S = S} false (exception_row class w)
   unfolding exception_row made_row bind Steady
-  exception_steady class w = (refl, λ k. told_steady class (ref k) w)
+  exception_steady class w = ((refl, tt), λ k. told_steady class (ref k) w)
 
   numbered_steady : (roots n : ℕ) (w : With) → Steady {S = S} false (numbered_row roots n w)
   unfolding numbered_row

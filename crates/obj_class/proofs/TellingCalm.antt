@@ -10,11 +10,11 @@ use Rattle.py_data.specs.declared.value.Value.TheVariants.{Unset, None as NoneVa
 use Rattle.py_data.specs.declared.record.Got.TheVariants.{Is, Raise}
 use Rattle.py_data.specs.Comparing.{DEPTH_LIMIT}
 use Rattle.py_data.specs.Fault.{depth_fault}
-use Rattle.py_data.specs.Looking.{IsLook, kind_row, size_row, look_row, bytes_row}
-use Rattle.py_data.specs.Row.{Call, Row, Ret, Do, Read, Find, Edit, Make, Start, Put, Take, MidLine, SetMidLine}
-use Rattle.py_data.specs.Steady.{grows, shrinks, Steady, Calm}
+use Rattle.py_data.specs.Looking.{kind_row, size_row, look_row, bytes_row}
+use Rattle.py_data.specs.Row.{Row, Ret, Do, Read}
+use Rattle.py_data.specs.Steady.{Calm}
 use Rattle.py_data.proofs.CalmRows.{ret_calm, bind_calm, cond_calm, until_calm, kind_calm, size_calm, look_calm, bytes_calm}
-use Rattle.py_data.proofs.OnlyLooks.{OnlyLooks, only_walk}
+use Rattle.py_data.proofs.OnlyLooks.{only_calm, only_walk}
 use Rattle.obj_nest.specs.Levels.{level_row}
 use Rattle.obj_nest.proofs.CalmRows.{text_calm}
 use Rattle.obj_class.specs.declared.args.Part.{Part}
@@ -22,27 +22,6 @@ use Rattle.obj_class.specs.Bases.{MOST_BASES, ref, sub_step, is_sub_row}
 use Rattle.obj_class.specs.Roots.{class_place}
 use Rattle.obj_class.specs.Telling.{TellsBy, alone_at_row, alone_by_row, alone_row, args_at_row, args_by_row, args_in_row, args_pair_row, args_row, class_under_row, dict_args_row, exception_text_row, if_exception_row, instance_text_row, is_args_row, is_missing, is_of_row, left, part, part_at_row, part_by_row, part_of_row, part_one_row, part_sized_row, part_text_row, part_tuple_row, part_value_row, part_with_row, told_part_row, told_row, told_under_row, under_row, value_by_row, value_if_row, value_under_row}
 use Rattle.obj_class.proofs.SteadyRows.{only_sub}
-
-never : (g : Bool) → (g && false) ≡ false
-never true = refl
-never false = refl
-
--- a look lets nothing shrink
-still : {S : Type 0} (c : Call S) → IsLook c → (g : Bool) → (g && shrinks c) ≡ false
-still (Read a) i g = never g
-still (Find d key) i g = never g
-still (Edit a c) i g = absurd i
-still (Make r) i g = absurd i
-still (Start s) i g = absurd i
-still (Put on bytes) i g = absurd i
-still (Take most) i g = absurd i
-still MidLine i g = absurd i
-still (SetMidLine mid) i g = absurd i
-
-only_calm : {S A : Type 0} (row : Row S A) → OnlyLooks row → Calm row
-unfolding OnlyLooks Steady
-only_calm (Ret a) i g = tt
-only_calm (Do c k) i g = (still c i.0 g, λ r. only_calm (k r) (i.1 r) (g || grows c))
 
 module _ (S : Type 0) where
   -- ---- which class it is

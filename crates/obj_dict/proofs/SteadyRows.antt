@@ -24,7 +24,7 @@ module _ (S : Type 0) where
 
   keyed_steady : {A : Type 0} (rest : Row S (Got A)) → Steady false rest → (key : Value) → Steady false (bind (key_row key) (if_key rest))
   unfolding key_row bind Steady
-  keyed_steady rest s (Ref a) = (refl, λ r. if_steady rest s (is_key_kind r.kind))
+  keyed_steady rest s (Ref a) = ((refl, tt), λ r. if_steady rest s (is_key_kind r.kind))
   keyed_steady rest s Unset = if_steady rest s false
   keyed_steady rest s NoneValue = if_steady rest s true
   keyed_steady rest s (BoolValue b) = if_steady rest s true
@@ -33,27 +33,27 @@ module _ (S : Type 0) where
 
   find_steady : {A : Type 0} (d : ℕ) (key : Value) (k : Option ℕ → Row S A) → ((o : Option ℕ) → Steady false (k o)) → Steady false (Do (Find d key) k)
   unfolding Steady
-  find_steady d key k s = (refl, s)
+  find_steady d key k s = ((refl, tt), s)
 
   value_steady : (d : ℕ) (o : Option ℕ) → Steady {S = S} false (value_of_pair d o)
   unfolding value_of_pair Steady
   value_steady d None = tt
-  value_steady d (Some i) = (refl, λ r. tt)
+  value_steady d (Some i) = ((refl, tt), λ r. tt)
 
   push_steady : (d : ℕ) (key x : Value) (b : Bool) → Steady {S = S} {A = Got (Unit {0})} false (cond b (Do (Edit d (change.Pair key x)) (λ _. Ret (Is tt))) (Ret (Raise memory_fault)))
   unfolding Steady
-  push_steady d key x true = (refl, λ u. tt)
+  push_steady d key x true = ((refl, tt), λ u. tt)
   push_steady d key x false = tt
 
   pair_steady : (d : ℕ) (key x : Value) (o : Option ℕ) → Steady {S = S} false (set_pair d key x o)
   unfolding set_pair Steady
-  pair_steady d key x None = (refl, λ r. push_steady d key x (ltb (length r.values + 1) LENGTH_LIMIT))
-  pair_steady d key x (Some i) = (refl, λ u. tt)
+  pair_steady d key x None = ((refl, tt), λ r. push_steady d key x (ltb (length r.values + 1) LENGTH_LIMIT))
+  pair_steady d key x (Some i) = ((refl, tt), λ u. tt)
 
   drop_steady : (d : ℕ) (key : Value) (o : Option ℕ) → Steady {S = S} false (drop_found d key o)
   unfolding drop_found Steady
   drop_steady d key None = tt
-  drop_steady d key (Some i) = (refl, λ r. (refl, λ u. tt))
+  drop_steady d key (Some i) = ((refl, tt), λ r. ((refl, tt), λ u. tt))
 
   get_steady : (d : ℕ) (key : Value) → Steady {S = S} false (get_row d key)
   unfolding get_row
@@ -70,21 +70,21 @@ module _ (S : Type 0) where
   -- a row that makes may go on so
   made_steady : (grown : Bool) (items : List Value) → Steady {S = S} grown (list_row items)
   unfolding Steady
-  made_steady true items = (refl, λ a. tt)
-  made_steady false items = (refl, λ a. tt)
+  made_steady true items = ((refl, tt), λ a. tt)
+  made_steady false items = ((refl, tt), λ a. tt)
 
   tuples_steady : (grown : Bool) (made vs : List Value) → Steady {S = S} grown (bind (tuples_row made vs) list_row)
   unfolding tuples_row bind Steady
   tuples_steady grown made [] = made_steady grown made
   tuples_steady grown made (k ∷ []) = made_steady grown made
-  tuples_steady true made (k ∷ x ∷ rest) = (refl, λ b. tuples_steady true (made ++ Ref (record { 0 = b }) ∷ []) rest)
-  tuples_steady false made (k ∷ x ∷ rest) = (refl, λ b. tuples_steady true (made ++ Ref (record { 0 = b }) ∷ []) rest)
+  tuples_steady true made (k ∷ x ∷ rest) = ((refl, tt), λ b. tuples_steady true (made ++ Ref (record { 0 = b }) ∷ []) rest)
+  tuples_steady false made (k ∷ x ∷ rest) = ((refl, tt), λ b. tuples_steady true (made ++ Ref (record { 0 = b }) ∷ []) rest)
 
   list_steady : (d : ℕ) (part : Part) → Steady {S = S} false (list_of_row d part)
   unfolding list_of_row bind Steady
-  list_steady d Keys = (refl, λ r. made_steady false (half false r.values))
-  list_steady d Values = (refl, λ r. made_steady false (half true r.values))
-  list_steady d Items = (refl, λ r. tuples_steady false [] r.values)
+  list_steady d Keys = ((refl, tt), λ r. made_steady false (half false r.values))
+  list_steady d Values = ((refl, tt), λ r. made_steady false (half true r.values))
+  list_steady d Items = ((refl, tt), λ r. tuples_steady false [] r.values)
 
   pub dict_steady : DictSteady S
   dict_steady = record { get = get_steady; set = set_steady; del = del_steady; list_of = list_steady }

@@ -11,7 +11,7 @@ use Rattle.py_data.specs.Fault.{memory_fault, argument_fault}
 use Rattle.py_data.specs.Looking.{got_row, size_row, kind_row, bytes_row}
 use Rattle.py_data.specs.Row.{Row, Ret, Do, Edit, bind}
 use Rattle.py_data.specs.Steady.{Steady, Calm}
-use Rattle.py_data.proofs.CalmRows.{ret_calm, push_calm, cond_calm, bind_steady, bind_calm, got_calm, size_calm, kind_calm, bytes_calm}
+use Rattle.py_data.proofs.CalmRows.{ret_calm, do_calm, push_calm, cond_calm, bind_steady, bind_calm, got_calm, size_calm, kind_calm, bytes_calm}
 use Rattle.py_data.proofs.OnlyLooks.{only_steady, looks_steady}
 use Rattle.obj_seq.specs.Iter.{is_str}
 use Rattle.obj_seq.specs.Seq.{put_row, pop_row, insert_row, del_item_row, reverse_row}
@@ -129,14 +129,10 @@ module _ (S : Type 0) where
   unfolding reverse_by
   reverse_steady a args = either (length args == 0) (bind (reverse_row a) (λ _. Ret (Is NoneValue))) (Ret (Raise argument_fault)) (then_steady (reverse_row a) (λ u. Is NoneValue) ((seq_steady S).reverse a)) (wrong_steady _)
 
-  never : (g : Bool) → (g && false) ≡ false
-  never true = refl
-  never false = refl
-
   put_calm : (a k : ℕ) (xs : List Value) → Calm {S = S} (put_row a k xs)
-  unfolding put_row Steady
-  put_calm a k [] g = tt
-  put_calm a k (x ∷ xs) g = (never g, λ u. put_calm a (k + 1) xs (g || false))
+  unfolding put_row
+  put_calm a k [] = ret_calm S _
+  put_calm a k (x ∷ xs) = do_calm _ _ refl tt (λ u. put_calm a (k + 1) xs)
 
   put_all_calm : (a : ℕ) (vs : List Value) → Calm {S = S} (put_all a vs)
   unfolding put_all

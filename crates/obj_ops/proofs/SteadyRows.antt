@@ -186,7 +186,7 @@ module _ (S : Type 0) where
   -- what is left behind a row of at most one look
   after_operand : (x : Value) (f : Operand → Row S (Got Value)) → ((p : Operand) → Steady {S = S} false (f p)) → Steady {S = S} false (bind (operand_row x) f)
   unfolding operand_row bind Steady
-  after_operand (Ref a) f n = (refl, λ r. n (operand_of r.kind a))
+  after_operand (Ref a) f n = ((refl, tt), λ r. n (operand_of r.kind a))
   after_operand Unset f n = n _
   after_operand NoneValue f n = n _
   after_operand (BoolValue b) f n = n _

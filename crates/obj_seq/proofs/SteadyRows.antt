@@ -13,6 +13,7 @@ use Rattle.py_data.specs.Heap.{Rec, value_at}
 use Rattle.py_data.specs.Row.{Row, Ret, Do, Read, Edit, Make, bind}
 use Rattle.py_data.specs.Steady.{grows, Steady}
 use Rattle.py_data.specs.Looking.{walk_row, walk_on}
+use Rattle.py_data.proofs.CalmRows.{asks_bind}
 use Rattle.py_data.specs.Range.{range_length}
 use Rattle.obj_seq.specs.declared.advance.Parts.{Parts}
 use Rattle.obj_seq.specs.declared.span.Span.{Span}
@@ -37,36 +38,36 @@ module _ (S : Type 0) where
 
   read_steady : {A : Type 0} (a : ℕ) (k : Rec → Row S A) → ((r : Rec) → Steady false (k r)) → Steady false (Do (Read a) k)
   unfolding Steady
-  read_steady a k s = (refl, s)
+  read_steady a k s = ((refl, tt), s)
 
   then_steady : {A B : Type 0} (grown : Bool) (row : Row S A) (y : B) → Steady grown row → Steady grown (bind row (λ u. Ret y))
   unfolding Steady bind
   then_steady grown (Ret x) y s = tt
-  then_steady grown (Do c k) y s = (s.0, λ r. then_steady (grown || grows c) (k r) y (s.1 r))
+  then_steady grown (Do c k) y s = ((s.0.0, asks_bind c k (λ u. Ret y) s.0.1), λ r. then_steady (grown || grows c) (k r) y (s.1 r))
 
   set_steady : (a k : ℕ) (x : Value) → Steady {S = S} {A = Got (Unit {0})} false (Do (Edit a (change.Set k x)) (λ u. Ret (Is tt)))
   unfolding Steady
-  set_steady a k x = (refl, λ u. tt)
+  set_steady a k x = ((refl, tt), λ u. tt)
 
   make_steady : (r : Rec) → Steady {S = S} {A = Got Value} false (Do (Make r) (λ b. Ret (Is (Ref (record { 0 = b })))))
   unfolding Steady
-  make_steady r = (refl, λ b. tt)
+  make_steady r = ((refl, tt), λ b. tt)
 
   -- ---- lists
   put_steady : (a k : ℕ) (xs : List Value) → Steady {S = S} false (put_row a k xs)
   unfolding put_row Steady
   put_steady a k [] = tt
-  put_steady a k (x ∷ xs) = (refl, λ u. put_steady a (k + 1) xs)
+  put_steady a k (x ∷ xs) = ((refl, tt), λ u. put_steady a (k + 1) xs)
 
   gap_steady : (a k : ℕ) (xs : List Value) → Steady {S = S} false (gap_row a k xs)
   unfolding gap_row Steady
-  gap_steady a k [] = (refl, λ u. tt)
-  gap_steady a k (x ∷ xs) = (refl, λ u. gap_steady a (k + 1) xs)
+  gap_steady a k [] = ((refl, tt), λ u. tt)
+  gap_steady a k (x ∷ xs) = ((refl, tt), λ u. gap_steady a (k + 1) xs)
 
   shift_steady : (a k : ℕ) (x : Value) (ys : List Value) → Steady {S = S} false (shift_row a k x ys)
   unfolding shift_row Steady
-  shift_steady a k x [] = (refl, λ u. tt)
-  shift_steady a k x (y ∷ ys) = (refl, λ u. shift_steady a (k + 1) y ys)
+  shift_steady a k x [] = ((refl, tt), λ u. tt)
+  shift_steady a k x (y ∷ ys) = ((refl, tt), λ u. shift_steady a (k + 1) y ys)
 
   taken_steady : {A : Type 0} (a : ℕ) (i : ℤ) (r : Rec) (f : ℕ → Got A) → Steady {S = S} false (if_place (place i (length r.values)) (λ k. bind (gap_row a k (drop (k + 1) r.values)) (λ u. Ret (f k))) (Ret (Raise index_fault)))
   taken_steady a i r f =
@@ -76,7 +77,7 @@ module _ (S : Type 0) where
   -- ---- iterators
   made_steady : (a : ℕ) (o : Option ℕ) → Steady {S = S} false (make_iter_row a o)
   unfolding make_iter_row Steady
-  made_steady a (Some n) = (refl, λ b. tt)
+  made_steady a (Some n) = ((refl, tt), λ b. tt)
   made_steady a None = tt
 
   value_steady : (x : Value) → Steady {S = S} false (iter_row x)
@@ -91,28 +92,28 @@ module _ (S : Type 0) where
   -- ---- rows that make nothing shorter at all
   look_grown : {A : Type 0} (a : ℕ) (k : Rec → Row S A) → ((r : Rec) → Steady true (k r)) → Steady true (Do (Read a) k)
   unfolding Steady
-  look_grown a k s = (refl, s)
+  look_grown a k s = ((refl, tt), s)
 
   bind_grown : {A B : Type 0} (row : Row S A) (f : A → Row S B) → Steady true row → ((a : A) → Steady true (f a)) → Steady true (bind row f)
   unfolding Steady bind
   bind_grown (Ret a) f s t = t a
-  bind_grown (Do c k) f s t = (s.0, λ r. bind_grown (k r) f (s.1 r) t)
+  bind_grown (Do c k) f s t = ((s.0.0, asks_bind c k f s.0.1), λ r. bind_grown (k r) f (s.1 r) t)
 
   -- they are steady whatever was before
   anyhow : {A : Type 0} (grown : Bool) (row : Row S A) → Steady true row → Steady grown row
   unfolding Steady
   anyhow grown (Ret a) s = tt
   anyhow true (Do c k) s = s
-  anyhow false (Do c k) s = (refl, λ r. anyhow (grows c) (k r) (s.1 r))
+  anyhow false (Do c k) s = ((refl, s.0.1), λ r. anyhow (grows c) (k r) (s.1 r))
 
   go_grown : (it at : ℕ) (o : Option Value) → Steady {S = S} true (go_or_end it at o)
   unfolding go_or_end Steady
-  go_grown it at (Some x) = (refl, λ u. tt)
+  go_grown it at (Some x) = ((refl, tt), λ u. tt)
   go_grown it at None = tt
 
   byte_grown : (it at : ℕ) (o : Option ℕ) → Steady {S = S} true (byte_or_end it at o)
   unfolding byte_or_end Steady
-  byte_grown it at (Some x) = (refl, λ b. go_grown it at (Some (Ref (record { 0 = b }))))
+  byte_grown it at (Some x) = ((refl, tt), λ b. go_grown it at (Some (Ref (record { 0 = b }))))
   byte_grown it at None = tt
 
   over_grown : (it at count : ℕ) (r : Rec) → Steady {S = S} true (next_over it at count r)
@@ -132,7 +133,7 @@ module _ (S : Type 0) where
   letters_grown : (made : List Value) (bs : List ℕ) → Steady {S = S} true (letters_row made bs)
   unfolding letters_row Steady
   letters_grown made [] = tt
-  letters_grown made (x ∷ xs) = (refl, λ b. letters_grown (made ++ Ref (record { 0 = b }) ∷ []) xs)
+  letters_grown made (x ∷ xs) = ((refl, tt), λ b. letters_grown (made ++ Ref (record { 0 = b }) ∷ []) xs)
 
   numbers_grown : (o : Option Span) → Steady {S = S} true (numbers_row o)
   unfolding numbers_row

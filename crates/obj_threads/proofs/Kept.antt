@@ -10,7 +10,8 @@ use Rattle.py_data.specs.Looking.{IsLook, each_row, got_row}
 use Rattle.py_data.specs.Row.{Call, Reply, Row, Ret, Do, Read, Find, Edit, Make, Start, Put, Take, MidLine, SetMidLine, bind}
 use Rattle.py_data.specs.Sense.{Run}
 use Rattle.py_data.specs.Sight.{Sight, Act, Does}
-use Rattle.py_data.specs.Steady.{grows, shrinks, Steady, Calm}
+use Rattle.py_data.specs.Steady.{shrinks, WritesThen, Calm}
+use Rattle.py_data.proofs.CalmRows.{ret_calm, do_calm}
 use Rattle.py_data.proofs.OnlyLooks.{OnlyLooks, only_bind}
 use Rattle.obj_threads.specs.declared.answer.Answer.{Answer}
 use Rattle.obj_threads.specs.Arguments.{answered}
@@ -56,9 +57,9 @@ mild_shrinks (Edit a (Set j x)) i = refl
 mild_shrinks (Make r) i = refl
 mild_shrinks _ i = absurd i
 
-never_shrunk : (g b : Bool) → b ≡ false → (g && b) ≡ false
-never_shrunk true b e = e
-never_shrunk false b e = refl
+mild_asks : {S A : Type 0} (c : Call S) (k : Reply c → Row S A) → IsMild c → WritesThen c k
+mild_asks MidLine k i = absurd i
+mild_asks _ k i = tt
 
 pub mild_inside : {S A : Type 0} (row : Row S A) → OnlyCalls IsMild row → OnlyCalls IsHeapCall row
 unfolding OnlyCalls
@@ -66,9 +67,9 @@ mild_inside (Ret a) i = tt
 mild_inside (Do c k) i = (mild_heap c i.0, λ r. mild_inside (k r) (i.1 r))
 
 pub mild_calm : {S A : Type 0} (row : Row S A) → OnlyCalls IsMild row → Calm row
-unfolding OnlyCalls Steady
-mild_calm (Ret a) i g = tt
-mild_calm (Do c k) i g = (never_shrunk g (shrinks c) (mild_shrinks c i.0), λ r. mild_calm (k r) (i.1 r) (g || grows c))
+unfolding OnlyCalls
+mild_calm {S} (Ret a) i = ret_calm S a
+mild_calm (Do c k) i = do_calm c k (mild_shrinks c i.0) (mild_asks c k i.0) (λ r. mild_calm (k r) (i.1 r))
 
 -- ---- both at once
 

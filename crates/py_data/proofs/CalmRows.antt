@@ -1,39 +1,54 @@
 -- Rows that make nothing shorter: how they are put together. Such a row is steady behind whatever grew before it.
-use Rattle.std.proofs.Common.{◌≡◌, ℕ, zero, suc, ◌+◌, Bool, true, false, cond, ◌||◌, ◌&&◌, length, Option, refl}
+use Rattle.std.proofs.Common.{◌≡◌, ℕ, zero, suc, ◌+◌, Bool, true, false, cond, ◌||◌, ◌&&◌, length, Option, refl, ap, ◌∙◌}
 use Rattle.py_data.specs.declared.value.Value.{Value}
 use Rattle.py_data.specs.declared.change.Change.TheVariants as change
 use Rattle.py_data.specs.declared.record.Got.{Got}
 use Rattle.py_data.specs.declared.record.Got.TheVariants.{Is, Raise}
 use Rattle.py_data.specs.Heap.{Rec, value_at}
-use Rattle.py_data.specs.Row.{Row, Ret, Do, Read, Find, Edit, Make, bind}
+use Rattle.py_data.specs.Row.{Call, Reply, Row, Ret, Do, Read, Find, Edit, Make, Put, MidLine, bind}
 use Rattle.py_data.specs.Looking.{until_row, each_row, got_row, kind_row, size_row, look_row, bytes_row}
-use Rattle.py_data.specs.Steady.{grows, Steady, Calm}
+use Rattle.py_data.specs.Steady.{grows, shrinks, Writes, WritesThen, Steady, Calm}
+
+pub never : (g : Bool) → (g && false) ≡ false
+never true = refl
+never false = refl
+
+-- a call that makes nothing shorter, and what follows
+pub do_calm : {S A : Type 0} (c : Call S) (k : Reply c → Row S A) → shrinks c ≡ false → WritesThen c k → ((r : Reply c) → Calm (k r)) → Calm (Do c k)
+unfolding Steady
+do_calm c k e w n g = ((ap (λ b. g && b) e ∙ never g, w), λ r. n r (g || grows c))
+
+-- with more behind it a row writes still
+writes_bind : {S A B : Type 0} (row : Row S A) (f : A → Row S B) → Writes row → Writes (bind row f)
+unfolding bind
+writes_bind (Do (Put on bytes) k) f w = tt
+writes_bind _ f w = absurd w
+
+pub asks_bind : {S A B : Type 0} (c : Call S) (k : Reply c → Row S A) (f : A → Row S B) → WritesThen c k → WritesThen c (λ r. bind (k r) f)
+asks_bind MidLine k f w = λ mid. writes_bind (k mid) f (w mid)
+asks_bind _ k f w = tt
 
 module _ (S : Type 0) where
   pub ret_calm : {A : Type 0} (x : A) → Calm {S = S} (Ret x)
   unfolding Steady
   ret_calm x g = tt
 
-  never : (g : Bool) → (g && false) ≡ false
-  never true = refl
-  never false = refl
-
   -- ---- one call, and what follows
   pub read_calm : {A : Type 0} (a : ℕ) (k : Rec → Row S A) → ((r : Rec) → Calm (k r)) → Calm (Do (Read a) k)
   unfolding Steady
-  read_calm a k n g = (never g, λ r. n r (g || false))
+  read_calm a k n g = ((never g, tt), λ r. n r (g || false))
 
   pub find_calm : {A : Type 0} (a : ℕ) (x : Value) (k : Option ℕ → Row S A) → ((o : Option ℕ) → Calm (k o)) → Calm (Do (Find a x) k)
   unfolding Steady
-  find_calm a x k n g = (never g, λ o. n o (g || false))
+  find_calm a x k n g = ((never g, tt), λ o. n o (g || false))
 
   pub push_calm : {A : Type 0} (a : ℕ) (x : Value) (k : Unit {0} → Row S A) → Calm (k tt) → Calm (Do (Edit a (change.Push x)) k)
   unfolding Steady
-  push_calm a x k n g = (never g, λ u. n (g || true))
+  push_calm a x k n g = ((never g, tt), λ u. n (g || true))
 
   pub make_calm : {A : Type 0} (r : Rec) (k : ℕ → Row S A) → ((a : ℕ) → Calm (k a)) → Calm (Do (Make r) k)
   unfolding Steady
-  make_calm r k n g = (never g, λ a. n a (g || true))
+  make_calm r k n g = ((never g, tt), λ a. n a (g || true))
 
   -- ---- two rows
   pub cond_calm : {A : Type 0} (b : Bool) (p q : Row S A) → Calm p → Calm q → Calm (cond b p q)
@@ -44,7 +59,7 @@ module _ (S : Type 0) where
   pub bind_steady : {A B : Type 0} (g : Bool) (row : Row S A) (f : A → Row S B) → Steady g row → ((a : A) → Calm (f a)) → Steady g (bind row f)
   unfolding Steady bind
   bind_steady g (Ret a) f s n = n a g
-  bind_steady g (Do c k) f s n = (s.0, λ r. bind_steady (g || grows c) (k r) f (s.1 r) n)
+  bind_steady g (Do c k) f s n = ((s.0.0, asks_bind c k f s.0.1), λ r. bind_steady (g || grows c) (k r) f (s.1 r) n)
 
   pub bind_calm : {A B : Type 0} (row : Row S A) (f : A → Row S B) → Calm row → ((a : A) → Calm (f a)) → Calm (bind row f)
   bind_calm row f s n g = bind_steady g row f (s g) n

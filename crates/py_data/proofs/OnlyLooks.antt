@@ -2,7 +2,8 @@
 use Rattle.std.proofs.Common.{◌≡◌, ℕ, zero, suc, false, Result, Ok, Err, refl, sym, subst}
 use Rattle.py_data.specs.Looking.{IsLook, kind_row, look_row, bytes_row, walk_row, walk_on}
 use Rattle.py_data.specs.Row.{Call, Reply, Row, Ret, Do, Read, Find, Edit, Make, Start, Put, Take, MidLine, SetMidLine, bind}
-use Rattle.py_data.specs.Steady.{grows, shrinks, Steady}
+use Rattle.py_data.specs.Steady.{grows, shrinks, WritesThen, Steady, Calm}
+use Rattle.py_data.proofs.CalmRows.{ret_calm, do_calm}
 
 -- each call of a row is a look
 unfoldable pub OnlyLooks : {S A : Type 0} → Row S A → Type 0
@@ -21,6 +22,11 @@ still (Take most) i = absurd i
 still MidLine i = absurd i
 still (SetMidLine mid) i = absurd i
 
+-- and asks for nothing but a record
+look_asks : {S A : Type 0} (c : Call S) (k : Reply c → Row S A) → IsLook c → WritesThen c k
+look_asks MidLine k i = absurd i
+look_asks _ k i = tt
+
 module _ {S A B : Type 0} where
   pub only_bind : (row : Row S A) (f : A → Row S B) → OnlyLooks row → ((a : A) → OnlyLooks (f a)) → OnlyLooks (bind row f)
   unfolding OnlyLooks bind
@@ -33,7 +39,7 @@ module _ {S A B : Type 0} where
   looks_steady (Ret a) f i n = n a
   looks_steady (Do c k) f i n =
       let s = still c i.0 in
-      (refl, λ r. subst (λ b. Steady b (bind (k r) f)) (sym s.0) (looks_steady (k r) f (i.1 r) n))
+      ((refl, look_asks c (λ r. bind (k r) f) i.0), λ r. subst (λ b. Steady b (bind (k r) f)) (sym s.0) (looks_steady (k r) f (i.1 r) n))
 
 pub only_walk : {S A B : Type 0} (f : A → Row S (Result A B)) (end : B) → ((a : A) → OnlyLooks (f a)) → (m : ℕ) (a : A) → OnlyLooks (walk_row f end m a)
 unfolding walk_row OnlyLooks
@@ -50,7 +56,12 @@ unfolding OnlyLooks Steady
 only_steady (Ret a) i = tt
 only_steady (Do c k) i =
     let s = still c i.0 in
-    (refl, λ r. subst (λ b. Steady b (k r)) (sym s.0) (only_steady (k r) (i.1 r)))
+    ((refl, look_asks c k i.0), λ r. subst (λ b. Steady b (k r)) (sym s.0) (only_steady (k r) (i.1 r)))
+
+pub only_calm : {S A : Type 0} (row : Row S A) → OnlyLooks row → Calm row
+unfolding OnlyLooks
+only_calm {S} (Ret a) i = ret_calm S a
+only_calm (Do c k) i = do_calm c k (still c i.0).1 (look_asks c k i.0) (λ r. only_calm (k r) (i.1 r))
 
 module _ (S : Type 0) where
   -- ---- looks at one record

@@ -1,5 +1,5 @@
 -- In the course of a steady row no record is longer than it was before the row or is at its end.
-use Rattle.std.proofs.Common.{arith, ◌≡◌, ℕ, zero, suc, ◌*◌, ◌≤◌, ◌⊎◌, inl, inr, Bool, true, false, eqb, List, [], ◌∷◌, ◌++◌, length, remove, Option, Some, None, refl, sym, ap, subst, ◌∙◌, length-append}
+use Rattle.std.proofs.Common.{arith, ◌≡◌, ℕ, zero, suc, ◌*◌, ◌≤◌, ◌⊎◌, inl, inr, Bool, true, false, eqb, ◌||◌, List, [], ◌∷◌, ◌++◌, length, remove, Option, Some, None, refl, sym, ap, subst, ◌∙◌, length-append}
 use Rattle.std.specs.Prelude.{is_some}
 use Rattle.std.proofs.lemmas.Bool.{cases_Bool, cond-true, eqb-true}
 use Rattle.std.proofs.lemmas.List.{length-take, length-set}
@@ -10,7 +10,7 @@ use Rattle.py_data.specs.Heap.{Rec, Heap, put_at}
 use Rattle.py_data.specs.Changes.{after}
 use Rattle.py_data.specs.Row.{Call, Reply, Row, Ret, Do, Read, Find, Edit, Make, Start, Put, Take, MidLine, SetMidLine}
 use Rattle.py_data.specs.Sense.{Sense, Lawful, Effect, Run, Upto}
-use Rattle.py_data.specs.Steady.{lengthens, shortens, grows, shrinks, Steady, NoLonger, SteadyLaw}
+use Rattle.py_data.specs.Steady.{lengthens, shortens, grows, shrinks, Steady, NoLonger, SteadyLaw, AskingLaw}
 use Rattle.py_data.proofs.Grow.{with_rec_there}
 use Rattle.py_data.proofs.Same.{one_rec}
 use Rattle.py_data.proofs.Steps.{at-is}
@@ -108,7 +108,7 @@ module _ {S X : Type 0} (u : Sense S X) (L : Lawful u) where
   unfolding Steady Run
   run_longer (Ret a) v w x s r = same_long (u.heap v) (u.heap w) (ap u.heap r.1)
   run_longer (Do c k) v w x s r =
-      then_long (u.heap v) (u.heap r.1) (u.heap w) (call_longer c u.partial (u.heap v) (u.heap r.1) r.0 s.0 (L.effect c v r.0 r.1 r.2)) (run_longer (k r.0) r.1 w x (s.1 r.0) r.3)
+      then_long (u.heap v) (u.heap r.1) (u.heap w) (call_longer c u.partial (u.heap v) (u.heap r.1) r.0 s.0.0 (L.effect c v r.0 r.1 r.2)) (run_longer (k r.0) r.1 w x (s.1 r.0) r.3)
 
   rest_steady : {A : Type 0} (row left : Row S A) (v m : X) → Steady true row → Upto u row v left m → Steady true left
   unfolding Steady Upto
@@ -132,3 +132,8 @@ module _ {S X : Type 0} (u : Sense S X) (L : Lawful u) where
 
   pub steady_law : (A : Type 0) → SteadyLaw u A
   steady_law A row left v m w x s t r = elim (phase row left v m s t) [ inl l ↦ inl l | inr g ↦ inr (run_longer left m w x g r) ]
+
+pub asking_law : (S A : Type 0) → AskingLaw S A
+unfolding Steady
+asking_law S A g (Ret a) s = tt
+asking_law S A g (Do c k) s = (s.0.1, λ r. asking_law S A (g || grows c) (k r) (s.1 r))

@@ -1,11 +1,12 @@
--- Rows in whose course no record is longer than it was before them or is at their end. States `docs/HEAP.md`, "Rows that hold".
+-- Rows in whose course no record is longer than it was before them or is at their end, and which ask whether the output is in mid
+-- line only where they write next. States `docs/HEAP.md`, "Rows that hold".
 use Rattle.std.specs.Prelude.{◌≡◌, ◌⊎◌, ℕ, ◌≤◌, Bool, true, false, ◌||◌, ◌&&◌, [], ◌∷◌, length, Some, refl}
 use Rattle.py_data.specs.declared.change.Change.{Change}
 use Rattle.py_data.specs.declared.change.Change.TheVariants.{Push, Cut, Pair, Unpair}
 use Rattle.py_base.specs.declared.kind.Kind.TheVariants.{List as ListKind}
 use Rattle.py_data.specs.declared.value.Value.TheVariants.{None as NoneValue}
 use Rattle.py_data.specs.Heap.{Rec, Heap, new_rec}
-use Rattle.py_data.specs.Row.{Call, Reply, Row, Ret, Do, Edit, Make}
+use Rattle.py_data.specs.Row.{Call, Reply, Row, Ret, Do, Edit, Make, Put, MidLine}
 use Rattle.py_data.specs.Sense.{Sense, Run, Upto}
 
 -- a change that makes a record longer
@@ -31,10 +32,25 @@ abbrev pub shrinks : {S : Type 0} → Call S → Bool
 shrinks (Edit a c) = shortens c
 shrinks _ = false
 
--- once something has grown, nothing shrinks; the flag says whether something grew before
+-- the next call of a row writes
+abbrev pub Writes : {S A : Type 0} → Row S A → Type 0
+Writes (Do (Put on bytes) k) = Unit {0}
+Writes _ = ⊥
+
+-- what comes behind a call that asks whether the output is in mid line
+abbrev pub WritesThen : {S A : Type 0} (c : Call S) → (Reply c → Row S A) → Type 0
+WritesThen MidLine k = (mid : Bool) → Writes (k mid)
+WritesThen _ k = Unit {0}
+
+-- a row that asks for it writes next
+abbrev pub AsksToPrint : {S A : Type 0} → Row S A → Type 0
+AsksToPrint (Ret a) = Unit {0}
+AsksToPrint (Do c k) = WritesThen c k × ((r : Reply c) → AsksToPrint (k r))
+
+-- once something has grown, nothing shrinks, and a row asks to write; the flag says whether something grew before
 unfoldable pub Steady : {S A : Type 0} → Bool → Row S A → Type 0
 Steady grown (Ret a) = Unit {0}
-Steady grown (Do c k) = ((grown && shrinks c) ≡ false) × ((r : Reply c) → Steady (grown || grows c) (k r))
+Steady grown (Do c k) = (((grown && shrinks c) ≡ false) × WritesThen c k) × ((r : Reply c) → Steady (grown || grows c) (k r))
 
 -- a row that makes nothing shorter: it is steady, whatever grew before it
 abbrev pub Calm : {S A : Type 0} → Row S A → Type 0
@@ -50,6 +66,10 @@ SteadyLaw {S} {X} u A =
     (row left : Row S A) (v m w : X) (x : A) → Steady false row → Upto u row v left m → Run u left m x w
     → NoLonger (u.heap m) (u.heap v) ⊎ NoLonger (u.heap m) (u.heap w)
 
+-- a steady row asks to write
+abbrev pub AskingLaw : Type 0 → Type 0 → Type 0
+AskingLaw S A = (grown : Bool) (row : Row S A) → Steady grown row → AsksToPrint row
+
 -- ---- worked rows
 
 -- a cut and then a push is steady, a push and then a cut isn't, nor is a cut behind a make
@@ -64,12 +84,17 @@ push row = Do (Edit 0 (Push NoneValue)) (λ _. row)
 
 cut_and_pushed : Steady false (cut (push (Ret none)))
 unfolding Steady
-cut_and_pushed = (refl, λ u. (refl, λ u. tt))
+cut_and_pushed = ((refl, tt), λ u. ((refl, tt), λ u. tt))
 
 pushed_and_cut : Steady false (push (cut (Ret none))) → ⊥
 unfolding Steady
-pushed_and_cut s = let e = (s.1 tt).0 in cc
+pushed_and_cut s = let e = (s.1 tt).0.0 in cc
 
 made_and_cut : Steady false (Do (Make (new_rec ListKind (NoneValue ∷ NoneValue ∷ []) [])) (λ a. cut (Ret a))) → ⊥
 unfolding Steady
-made_and_cut s = let e = (s.1 0).0 in cc
+made_and_cut s = let e = (s.1 0).0.0 in cc
+
+-- who asks and doesn't write isn't steady
+asked_in_vain : Steady {S = Unit {0}} false (Do MidLine (λ mid. Ret none)) → ⊥
+unfolding Steady
+asked_in_vain s = s.0.1 false

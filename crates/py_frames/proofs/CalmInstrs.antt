@@ -8,8 +8,7 @@ use Rattle.py_data.specs.declared.record.Fault.{Fault}
 use Rattle.py_data.specs.declared.record.Got.{Got}
 use Rattle.py_data.specs.declared.record.Got.TheVariants.{Is, Raise}
 use Rattle.py_data.specs.Looking.{look_row, kind_row}
-use Rattle.py_data.specs.Row.{Call, Reply, Row, Ret, Do, Read, bind}
-use Rattle.py_data.proofs.OnlyLooks.{OnlyLooks}
+use Rattle.py_data.specs.Row.{Row, Ret, Read, Find, Edit, Make, bind}
 use Rattle.py_code.specs.declared.instr.Constant.{Constant}
 use Rattle.py_code.specs.declared.instr.Constant.TheVariants.{None as NoneConstant, Truth, Int as IntConstant, Builtin as BuiltinConstant, Root as RootConstant}
 use Rattle.py_code.specs.declared.program.Program.{Program}
@@ -24,11 +23,9 @@ use Rattle.py_frames.specs.Raising.{values_row, raise_row, fail_row, give, done}
 use Rattle.py_data.specs.declared.change.Change.TheVariants as change
 use Rattle.py_data.specs.Heap.{Rec}
 use Rattle.py_data.specs.Looking.{walk_row}
-use Rattle.py_data.specs.Row.{Find, Edit, Make, Start, Put, Take, MidLine, SetMidLine}
-use Rattle.py_data.specs.Steady.{grows, shrinks, Steady, Calm}
-use Rattle.py_data.proofs.CalmRows.{ret_calm, cond_calm, bind_calm, kind_calm, look_calm}
-use Rattle.py_data.proofs.OnlyLooks.{OnlyLooks}
-use Rattle.std.proofs.Common.{◌&&◌, ◌||◌}
+use Rattle.py_data.specs.Steady.{Calm}
+use Rattle.py_data.proofs.CalmRows.{ret_calm, do_calm, cond_calm, bind_calm, kind_calm, look_calm}
+use Rattle.py_data.proofs.OnlyLooks.{only_calm}
 use Rattle.std.specs.Prelude.{Result, Ok, Err}
 use Rattle.obj_class.specs.AttrRows.{held_row, pair_row, kept_row, own_row, next_class, class_step, heir_step, inherited_row}
 use Rattle.obj_class.specs.Bases.{ref, MOST_BASES, is_sub_row, sub_step}
@@ -38,34 +35,7 @@ use Rattle.py_data.specs.declared.record.With.TheVariants.{Nothing, Text, Held}
 use Rattle.obj_class.proofs.SteadyRows.{only_sub}
 use Rattle.py_frames.specs.Binding.{defaulted_row, numbered_row as numbered_bound, bound_row as bound_call}
 use Rattle.py_frames.specs.ClassCalls.{init_by, init_row, exception_class_row, plain_instance, args_instance, instance_of, new_instance}
-use Rattle.py_data.specs.Looking.{IsLook, walk_on}
-
--- ---- single calls, and what follows
-
-never : (g : Bool) → (g && false) ≡ false
-never true = refl
-never false = refl
-
--- a call that makes nothing shorter
-pub do_calm : {S A : Type 0} (c : Call S) (k : Reply c → Row S A) → shrinks c ≡ false → ((r : Reply c) → Calm (k r)) → Calm (Do c k)
-unfolding Steady
-do_calm c k e n g = (ap (λ b. g && b) e ∙ never g, λ r. n r (g || grows c))
-
-look_shrinks : {S : Type 0} (c : Call S) → IsLook c → shrinks c ≡ false
-look_shrinks (Read a) i = refl
-look_shrinks (Find d key) i = refl
-look_shrinks (Edit a c) i = absurd i
-look_shrinks (Make r) i = refl
-look_shrinks (Start s) i = refl
-look_shrinks (Put on bytes) i = refl
-look_shrinks (Take most) i = refl
-look_shrinks MidLine i = refl
-look_shrinks (SetMidLine mid) i = refl
-
-pub only_calm : {S A : Type 0} (row : Row S A) → OnlyLooks row → Calm row
-unfolding OnlyLooks
-only_calm {S} (Ret a) i = ret_calm S a
-only_calm (Do c k) i = do_calm c k (look_shrinks c i.0) (λ r. only_calm (k r) (i.1 r))
+use Rattle.py_data.specs.Looking.{walk_on}
 
 module _ (S : Type 0) where
   abbrev pub C : {A : Type 0} → Row S A → Type 0
@@ -88,11 +58,11 @@ module _ (S : Type 0) where
 
   pub values_calm : (a : ℕ) → C (values_row a)
   unfolding values_row
-  values_calm a = do_calm (Read a) _ refl (λ r. ret r.values)
+  values_calm a = do_calm (Read a) _ refl tt (λ r. ret r.values)
 
   pub made_calm : (r : Rec) → C (made_row r)
   unfolding made_row
-  made_calm r = do_calm (Make r) _ refl (λ a. ret (ref a))
+  made_calm r = do_calm (Make r) _ refl tt (λ a. ret (ref a))
 
   pub made_then : {B : Type 0} (r : Rec) (f : Value → Row S B) → ((x : Value) → C (f x)) → C (bind (made_row r) f)
   made_then r f n = both (made_row r) f (made_calm r) n
@@ -179,7 +149,7 @@ module _ (S : Type 0) where
 
   pub set_cell_calm : (a : ℕ) (x : Value) → C (set_cell_row a x)
   unfolding set_cell_row
-  set_cell_calm a x = do_calm (Edit a (change.Set 0 x)) _ refl (λ u. ret (Goes []))
+  set_cell_calm a x = do_calm (Edit a (change.Set 0 x)) _ refl tt (λ u. ret (Goes []))
 
   pub store_global_calm : (roots g : ℕ) (x : Value) → C (store_global_row roots g x)
   unfolding store_global_row
@@ -201,11 +171,11 @@ module _ (S : Type 0) where
   pub pair_calm : (d : ℕ) (o : Option ℕ) → C (pair_row d o)
   unfolding pair_row
   pair_calm d None = ret None
-  pair_calm d (Some i) = do_calm (Read d) _ refl (λ r. ret _)
+  pair_calm d (Some i) = do_calm (Read d) _ refl tt (λ r. ret _)
 
   pub held_calm : (d : ℕ) (key : Value) → C (held_row d key)
   unfolding held_row
-  held_calm d key = do_calm (Find d key) _ refl (λ o. pair_calm d o)
+  held_calm d key = do_calm (Find d key) _ refl tt (λ o. pair_calm d o)
 
   pub outer_calm : (roots : ℕ) (name : List ℕ) (o : Option Constant) (g : Option ℕ) → C (outer_row roots name o g)
   unfolding outer_row

@@ -22,7 +22,7 @@ use Rattle.std.specs.Prelude.{ℤ, ℕ}
 use Rattle.std.proofs.Common.{false, true}
 use Rattle.py_data.specs.Looking.{bytes_row, got_row}
 use Rattle.py_data.specs.Steady.{Steady, Calm}
-use Rattle.py_data.proofs.CalmRows.{ret_calm, make_calm, cond_calm, bind_steady, bind_calm, bytes_calm}
+use Rattle.py_data.proofs.CalmRows.{do_calm, ret_calm, make_calm, cond_calm, bind_steady, bind_calm, bytes_calm}
 use Rattle.py_data.proofs.OnlyLooks.{only_look, only_kind, looks_steady}
 use Rattle.obj_class.specs.AttrRows.{missing_row, attr_row, set_attr_row, del_attr_row, find_attr_row}
 use Rattle.obj_class.proofs.SteadyRows.{attr_steady, set_steady, del_steady, only_find}
@@ -40,7 +40,7 @@ use Rattle.obj_ops.specs.Compare.{compare_row}
 use Rattle.obj_ops.proofs.SteadyRows.{ops_steady}
 use Rattle.py_frames.specs.BuildRows.{pairs_set, all_keys_row}
 use Rattle.py_frames.specs.ItemRows.{byte_row, byte_item_row, text_item, list_item, dict_item, item_by, item_of, set_list_item, set_by, set_item, del_list_item, del_key, del_by, del_item, bounds_in, text_slice, slice_by, slice_at, slice_of}
-use Rattle.py_frames.proofs.CalmInstrs.{do_calm, ret, both, one_of, made_then, raise_calm, give_calm, done_calm}
+use Rattle.py_frames.proofs.CalmInstrs.{ret, both, one_of, made_then, raise_calm, give_calm, done_calm}
 
 module _ (S : Type 0) where
   abbrev T : {A : Type 0} → Row S A → Type 0
@@ -256,7 +256,7 @@ module _ (S : Type 0) where
 
   key_calm : (key : Value) → Calm (key_row {S = S} key)
   unfolding key_row
-  key_calm (Ref a) = do_calm _ _ refl (λ r. ret S _)
+  key_calm (Ref a) = do_calm _ _ refl tt (λ r. ret S _)
   key_calm Unset = ret S _
   key_calm NoneValue = ret S _
   key_calm (BoolValue b) = ret S _
@@ -265,8 +265,8 @@ module _ (S : Type 0) where
 
   set_pair_calm : (d : ℕ) (key x : Value) (o : Option ℕ) → Calm (set_pair {S = S} d key x o)
   unfolding set_pair
-  set_pair_calm d key x None = do_calm _ _ refl (λ r. one_of S _ _ _ (do_calm _ _ refl (λ u. ret S _)) (ret S _))
-  set_pair_calm d key x (Some i) = do_calm _ _ refl (λ u. ret S _)
+  set_pair_calm d key x None = do_calm _ _ refl tt (λ r. one_of S _ _ _ (do_calm _ _ refl tt (λ u. ret S _)) (ret S _))
+  set_pair_calm d key x (Some i) = do_calm _ _ refl tt (λ u. ret S _)
 
   if_key_calm : {A : Type 0} (row : Row S (Got A)) (b : Bool) → Calm row → Calm (if_key row b)
   unfolding if_key
@@ -275,7 +275,7 @@ module _ (S : Type 0) where
 
   set_row_calm : (d : ℕ) (key x : Value) → Calm (set_row {S = S} d key x)
   unfolding set_row
-  set_row_calm d key x = both S (key_row key) _ (key_calm key) (λ b. if_key_calm _ b (do_calm _ _ refl (λ o. set_pair_calm d key x o)))
+  set_row_calm d key x = both S (key_row key) _ (key_calm key) (λ b. if_key_calm _ b (do_calm _ _ refl tt (λ o. set_pair_calm d key x o)))
 
   pairs_calm : (d : ℕ) (xs : List Value) → Calm (pairs_set {S = S} d xs)
   unfolding pairs_set

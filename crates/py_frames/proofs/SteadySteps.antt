@@ -34,7 +34,7 @@ use Rattle.std.specs.Prelude.{ℕ, not}
 use Rattle.std.proofs.Common.{not, false, true}
 use Rattle.py_data.specs.Looking.{size_row}
 use Rattle.py_data.specs.Steady.{Steady, Calm}
-use Rattle.py_data.proofs.CalmRows.{bind_steady, size_calm, bytes_calm, until_calm}
+use Rattle.py_data.proofs.CalmRows.{do_calm, bind_steady, size_calm, bytes_calm, until_calm}
 use Rattle.py_data.proofs.OnlyLooks.{OnlyLooks, only_look, only_kind, looks_steady}
 use Rattle.obj_class.specs.Telling.{told_row}
 use Rattle.obj_class.proofs.TellingCalm.{told_calm}
@@ -52,7 +52,7 @@ use Rattle.py_frames.specs.PrintRows.{name_of_class, class_name_row, last_words,
 use Rattle.py_frames.specs.RaiseRows.{catches_if, class_catches, item_by as exception_item, item_catches, place_catches, some_catches, tuple_catches, record_catches, catches_row, below_row, instance_by, is_instance_row, items_by, raised_args}
 use Rattle.py_frames.specs.SetupRows.{named_class, class_dict, class_root, root_by, roots_row}
 use Rattle.py_code.specs.declared.program.Root.{Root}
-use Rattle.py_frames.proofs.CalmInstrs.{do_calm, ret, both, one_of, look_then, kind_then, values_calm, made_calm, made_then, raise_calm, fail_calm, const_calm, load_local_calm, del_local_calm, load_global_calm, store_global_calm, del_global_calm, load_name_calm, sub_calm, exception_calm, bound_to_calm, class_call_calm, function_call_calm}
+use Rattle.py_frames.proofs.CalmInstrs.{ret, both, one_of, look_then, kind_then, values_calm, made_calm, made_then, raise_calm, fail_calm, const_calm, load_local_calm, del_local_calm, load_global_calm, store_global_calm, del_global_calm, load_name_calm, sub_calm, exception_calm, bound_to_calm, class_call_calm, function_call_calm}
 use Rattle.py_frames.proofs.SteadyInstrs.{store_name_steady, del_name_steady, load_attr_steady, store_attr_steady, del_attr_steady, load_method_steady, load_item_steady, store_item_steady, del_item_steady, slice_steady, unary_instr_steady, binary_instr_steady, in_place_instr_steady, compare_instr_steady, not_steady, jump_false_steady, keep_false_steady, keep_true_steady, build_calm, build_dict_calm, unpack_steady, iter_steady, next_instr_steady}
 
 -- ---- what makes nothing shorter
@@ -78,7 +78,7 @@ module _ (S : Type 0) where
 
   ended_calm : (thread : Option Addr) → Calm (ended_row {S = S} thread)
   unfolding ended_row
-  ended_calm (Some t) = do_calm _ _ refl (λ u. ret S tt)
+  ended_calm (Some t) = do_calm _ _ refl tt (λ u. ret S tt)
   ended_calm None = ret S tt
 
   leave_calm : (thread : Option Addr) (n : ℕ) (x : Value) → Calm (leave_row {S = S} thread n x)
@@ -246,7 +246,7 @@ module _ (S : Type 0) where
   -- ---- what is written
   write_calm : (roots : ℕ) (g : Got (List ℕ)) → Calm (write_or_raise {S = S} roots g)
   unfolding write_or_raise written_row put_row
-  write_calm roots (Is t) = do_calm _ _ refl (λ mid. do_calm _ _ refl (λ u. do_calm _ _ refl (λ v. ret S _)))
+  write_calm roots (Is t) = do_calm _ _ refl (λ mid. tt) (λ mid. do_calm _ _ refl tt (λ u. do_calm _ _ refl tt (λ v. ret S _)))
   write_calm roots (Raise e) = raise_calm S roots e
 
   print_item_calm : (roots : ℕ) (x : Value) → Calm (print_item_row {S = S} roots x)
@@ -255,13 +255,13 @@ module _ (S : Type 0) where
 
   newline_calm : Calm (print_newline_row {S = S})
   unfolding print_newline_row
-  newline_calm = do_calm _ _ refl (λ u. do_calm _ _ refl (λ v. ret S _))
+  newline_calm = do_calm _ _ refl tt (λ u. do_calm _ _ refl tt (λ v. ret S _))
 
   dying_calm : (roots number : ℕ) (thread : Option Addr) (d : Dying) → Calm (dying_row {S = S} roots number thread d)
   unfolding dying_row class_name_row name_of_class named_words last_words
   dying_calm roots number thread d =
       both S _ _ (look_then S _ 0 _ (λ c. look_then S _ 0 _ (λ name. bytes_calm S _)))
-      (λ name. both S (told_row roots d.exc false) _ (told_calm S roots d.exc false) (λ text. do_calm _ _ refl (λ u. ended_calm thread)))
+      (λ name. both S (told_row roots d.exc false) _ (told_calm S roots d.exc false) (λ text. do_calm _ _ refl tt (λ u. ended_calm thread)))
 
   -- ---- SETUP
   class_root_calm : (n : ℕ) (vs : List Value) → Calm (class_root {S = S} n vs)
@@ -282,17 +282,17 @@ module _ (S : Type 0) where
 
   setup_calm : (p : Program) → Calm (setup_row {S = S} p)
   unfolding setup_row begun_row
-  setup_calm p = both S (roots_row p.roots []) _ (roots_calm p.roots []) (λ vs. do_calm _ _ refl (λ a. ret S _))
+  setup_calm p = both S (roots_row p.roots []) _ (roots_calm p.roots []) (λ vs. do_calm _ _ refl tt (λ a. ret S _))
 
 -- ---- calls
 
 counted_calm : (roots : ℕ) (thread : Option Addr) (f : Frame) (count n : ℕ) (x : Value) → Calm (counted_row roots thread f count n x)
 unfolding counted_row
-counted_calm roots thread f count n x = do_calm _ _ refl (λ u. do_calm _ _ refl (λ v. ret State _))
+counted_calm roots thread f count n x = do_calm _ _ refl tt (λ u. do_calm _ _ refl tt (λ v. ret State _))
 
 started_calm : (roots : ℕ) (thread : Option Addr) (f : Frame) (count n : ℕ) → Calm (started_row roots thread f count n)
 unfolding started_row
-started_calm roots (Some t) f count n = do_calm _ _ refl (λ u. counted_calm roots (Some t) f count n NoneValue)
+started_calm roots (Some t) f count n = do_calm _ _ refl tt (λ u. counted_calm roots (Some t) f count n NoneValue)
 started_calm roots None f count n = counted_calm roots None f count n _
 
 thread_calm : (roots : ℕ) (thread : Option Addr) (g : Got Frame) → Calm (thread_row roots thread g)
