@@ -5,9 +5,9 @@ ghost use Rattle.obj_class.specs.AttrRows.{held_row};
 ghost use Rattle.py_frames.specs.GlobalRows.{bound_row, clear_cell_row, cleared_row, del_global_row, del_name_row, drop_name_row, gone_row, load_cell_row, load_global_row, load_name_row, name_fault, named_row, outer_row, own_or_outer, put_name_row, set_cell_row, store_global_row, store_name_row, unbound_row};
 ghost use Rattle.py_frames.specs.Raising.{raise_row};
 
-use crate::inherited::held;
 use crate::locals::const_row;
 use crate::raising::{done, pass, place_in, push, raise_row};
+use obj_class::held;
 use py_code::Constant;
 use py_data::exception::NAME_ERROR;
 use py_data::{Addr, Bytes, Fault, Got, NoMemory, Stop, Value, View, With, look};
