@@ -34,3 +34,9 @@ number_later a n (y ∷ ys) x = number_step a n (bytes_eq y x) (number_from (n +
 
 pub text_numbered : (p : Program) (text : List ℕ) → number_from first_text (texts_of p.roots) text ≡ text_number p text
 text_numbered p text = number_later first_text 0 (texts_of p.roots) text
+
+pub name_none : (p : Program) (n : ℕ) → None ≡ slice_get p.codes n → ◌≡◌ {A = List ℕ} [] (code_at p n).name
+name_none p n e = let f : Code → List ℕ = λ c. c.name in ap f (none_at p.codes n no_code e)
+
+pub keys_none : (p : Program) (n : ℕ) → None ≡ slice_get p.codes n → ◌≡◌ {A = List (List ℕ)} [] (code_at p n).keys
+keys_none p n e = let f : Code → List (List ℕ) = λ c. c.keys in ap f (none_at p.codes n no_code e)

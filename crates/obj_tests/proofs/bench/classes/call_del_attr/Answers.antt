@@ -1,4 +1,4 @@
-use Rattle.obj_class.proofs.Held.{class_holds}
+use Rattle.obj_class.proofs.ClassHolds.{class_holds}
 use Rattle.obj_class.specs.AttrRows.{del_attr_row}
 use Rattle.py_data.specs.Answers.{IsDone}
 use Rattle.obj_tests.specs.Bench.{free, any_state}

@@ -1,4 +1,4 @@
-use Rattle.obj_class.proofs.Held.{class_holds}
+use Rattle.obj_class.proofs.ClassHolds.{class_holds}
 use Rattle.obj_class.specs.Bases.{is_sub_row}
 use Rattle.obj_tests.specs.Bench.{free, any_state}
 use Rattle.obj_tests.proofs.BenchSteps.{look_safe, look_done}
