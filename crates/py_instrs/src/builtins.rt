@@ -1,7 +1,8 @@
 //! What a name stands for where nothing is bound to it.
-ghost use Rattle.std.specs.Prelude.{◌≡◌, IfOk};
+ghost use Rattle.std.specs.Prelude.{◌≡◌, Some, IfOk};
 ghost use Rattle.std.specs.Str.{bytes_eq};
 ghost use Rattle.py_base.specs.Numbers.{number_in};
+ghost use Rattle.py_code.specs.declared.instr.Constant.TheVariants.{Root};
 ghost use Rattle.py_frames.specs.GlobalRows as globals;
 
 use crate::programs::first_cell;

@@ -1,5 +1,5 @@
 //! What a program has at a number.
-ghost use Rattle.std.specs.Prelude.{◌≡◌, drop, length, get_or, IfOk};
+ghost use Rattle.std.specs.Prelude.{◌≡◌, [], drop, length, get_or, IfOk};
 ghost use Rattle.py_base.specs.Numbers.{number_from};
 ghost use Rattle.py_code.specs.Right.{cells_of, texts_of};
 ghost use Rattle.py_frames.specs.Binding as binding;
