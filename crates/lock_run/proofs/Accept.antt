@@ -87,15 +87,15 @@ module _ {S : Type 0} (p : Prog S) (t : Turn) (o e : Option (List ℕ)) (m m1 : 
     outside_by a NotThere f w = w
     outside_by a Ended f w = w.0 (ap p.life (cut_on f).0 ∙ f.step.lives)
     outside_by a Waits f w =
-        let same = does_along (p.row c.after) c.sight f.after c.place (f.step.outcome, f.next) (WaitsNow, w.2) f.rest b.0 (cut_told f) (next_does f) w.3
+        let same = does_along (p.row c.after) c.sight f.after c.cut.place (f.step.outcome, f.next) (WaitsNow, w.2) f.rest b.0 (cut_told f) (next_does f) w.3
         (ap (λ l. l ++ b.0) w.4.made ∙ b.1 ∙ sym d.names ∙ f.made) in
         f.step.goes_on (sym (ap (λ y. y.0) same.0))
     outside_by a BadNames f w =
-        let left = upto_along (p.row c.after) c.left c.sight c.place f.after (f.step.outcome, f.next) f.rest w.3 (cut_told f) (next_does f) c.upto (w.5 ∙ sym d.names ∙ f.made) in
-        let made = make_first w.2 w.4.0 c.place f.after (f.step.outcome, f.next) (subst (λ (q : Row S (Outcome × S)). Does q c.place (f.step.outcome, f.next) f.after) w.4.1 left) in
-        let names : c.place.made ++ w.3 ≡ c.place.made ++ (made.0 ∷ (made.2 ++ f.rest)) =
-        w.5 ∙ sym d.names ∙ f.made ∙ ap (λ l. l ++ f.rest) made.3 ∙ append_assoc c.place.made (made.0 ∷ made.2) f.rest in
-        can_name c.place.heap made.0 w.3 (made.2 ++ f.rest) made.1 (same_rest c.place.made w.3 (made.0 ∷ (made.2 ++ f.rest)) names) w.6
+        let left = upto_along (p.row c.after) c.cut.left c.sight c.cut.place f.after (f.step.outcome, f.next) f.rest w.3 (cut_told f) (next_does f) c.cut.upto (w.5 ∙ sym d.names ∙ f.made) in
+        let made = make_first w.2 w.4.0 c.cut.place f.after (f.step.outcome, f.next) (subst (λ (q : Row S (Outcome × S)). Does q c.cut.place (f.step.outcome, f.next) f.after) w.4.1 left) in
+        let names : c.cut.place.made ++ w.3 ≡ c.cut.place.made ++ (made.0 ∷ (made.2 ++ f.rest)) =
+        w.5 ∙ sym d.names ∙ f.made ∙ ap (λ l. l ++ f.rest) made.3 ∙ append_assoc c.cut.place.made (made.0 ∷ made.2) f.rest in
+        can_name c.cut.place.heap made.0 w.3 (made.2 ++ f.rest) made.1 (same_rest c.cut.place.made w.3 (made.0 ∷ (made.2 ++ f.rest)) names) w.6
 
     pub outside_in : (a : PlainState S) (why : TurnWhy) → CutWhy p t.thread done (places t.names) o e m a d1 ts1 why c → IsOutside why
     outside_in a why w = outside_by a why first w

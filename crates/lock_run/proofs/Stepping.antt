@@ -1,5 +1,5 @@
 -- One step of a turn.
-use Rattle.std.proofs.Common.{◌≡◌, ◌≢◌, ◌⊎◌, inl, inr, ℕ, zero, suc, ◌≤◌, List, [], ◌∷◌, ◌++◌, Bool, true, false, Option, Some, None, take, slice_get, slice_set, refl, sym, ◌∙◌, ap, subst, arith, append-nil, append_assoc, length, ◌+◌, IfSome, Result, Ok, Err, OnOk}
+use Rattle.std.proofs.Common.{◌≡◌, ◌≢◌, inl, inr, ℕ, zero, suc, ◌≤◌, List, [], ◌∷◌, ◌++◌, Bool, true, false, Option, Some, None, take, slice_get, slice_set, refl, sym, ◌∙◌, ap, subst, arith, append-nil, append_assoc, length, ◌+◌, IfSome, Result, Ok, Err, OnOk}
 use Rattle.std.specs.Prelude.{IfErr}
 use Rattle.py_data.specs.declared.stop.Stop.{Stop}
 use Rattle.py_data.specs.declared.stop.Stop.TheVariants.{ReadFault as ReadStop, WriteFault as WriteStop, ErrFault as ErrStop, OutOfMemory as MemoryStop}
@@ -8,7 +8,7 @@ use Rattle.py_data.specs.Heap.{Heap}
 use Rattle.py_data.specs.Row.{Call, Reply, Row, Ret, Do, Read, Find, Edit, Make, Start, Put, Take, MidLine, SetMidLine}
 use Rattle.py_data.specs.Sense.{Sense, Bracket, Upto}
 use Rattle.py_data.specs.Sight.{Sight, Does, opened, pure}
-use Rattle.py_data.specs.World.{shrunk, grown}
+use Rattle.py_data.specs.World.{World, wrote, shrunk, grown}
 use Rattle.py_data.proofs.Mirror.{does_afresh}
 use Rattle.py_data.proofs.Whole.{stopped_at}
 use Rattle.stm_io.specs.Outside.{Rose}
@@ -22,7 +22,8 @@ use Rattle.lock_run.specs.Prog.{Prog}
 use Rattle.lock_run.specs.Client.{Stepped, StepStopped, StaysSound, WaitsQuietly}
 use Rattle.lock_run.specs.PlainState.{PlainState, PlainRefuses, PlainOpens, PlainUndoes, NoName}
 use Rattle.lock_run.specs.Machine.{Machine, Step}
-use Rattle.lock_run.specs.Turns.{NoneFall, Calls, Front, CutIn, LeavesNothing, Begins, CutTold, Going, LockState, StepGoes, StepCut}
+use Rattle.lock_run.specs.Cut.{PartOf}
+use Rattle.lock_run.specs.Turns.{NoneFall, CutIn, LeavesNothing, Begins, CutTold, Going, LockState, StepGoes, StepCut}
 use Rattle.lock_run.proofs.Following.{IsPlain, Shows, grown_then, Keeps, run_shown, upto_shown, run_keeps, upto_keeps, run_upto, upto_none}
 
 -- lists of threads
@@ -84,6 +85,13 @@ shrunk_none (Some xs) = refl
 pub grown_none : (o : Option (List ℕ)) → grown o [] ≡ o
 grown_none None = refl
 grown_none (Some xs) = ap Some (append-nil xs)
+
+-- a call that told the devices nothing
+pub part_still : {S A : Type 0} (row : Row S A) (w : World) → PartOf row w w
+part_still (Do (Put Output bytes) k) w = (0, ap (λ l. record w { out = l }) (sym (append-nil w.out)))
+part_still (Do (Put ErrorOutput bytes) k) w = (0, ap (λ l. record w { err = l }) (sym (append-nil w.err)))
+part_still (Do (Take most) k) w = (0, ap (λ i. record w { input = i }) (sym (shrunk_none w.input)))
+part_still _ w = refl
 
 -- the state when the step is opened
 abbrev pub state_opened : {S : Type 0} → PlainState S → PlainState S
@@ -151,22 +159,15 @@ module _ {S : Type 0} (p : Prog S) (t k : ℕ) (names : List ℕ) (o e : Option 
     heap = sym g.heap;
     mid = sym g.mid;
     threads = g.threads;
-    left = p.row g.after;
-    place = g.sight;
-    upto = upto_none pure (p.row g.after) g.sight;
-    more = [];
-    more_err = [];
-    taken = 0;
-    out = g.out ∙ ap (grown o) (sym (append-nil g.sight.world.out));
-    err = g.err ∙ ap (grown e) (sym (append-nil g.sight.world.err));
-    input = sym g.input ∙ sym (shrunk_none g.sight.world.input);
-    front = inl refl;
-    front_err = inl refl;
-    front_in = inl refl;
+    told = g.sight.world;
+    cut = record { left = p.row g.after; place = g.sight; upto = upto_none pure (p.row g.after) g.sight; part = part_still (p.row g.after) g.sight.world };
+    out = g.out;
+    err = g.err;
+    input = sym g.input;
   }
 
   pub nothing_here : LeavesNothing cut_here
-  nothing_here = record { world = refl; more = refl; more_err = refl; taken = refl }
+  nothing_here = refl
 
   -- the names that were given are the first of those planned
   pub begins_here : d.free ≡ false → Begins g.sight.made names
@@ -180,12 +181,11 @@ module _ {S : Type 0} (p : Prog S) (t k : ℕ) (names : List ℕ) (o e : Option 
   ended_here s h dead = (cut_here, sym g.made, (λ l. dead (ap p.life (state_is s h) ∙ l), nothing_here), begins_here)
 
   -- a part of the next step was done and taken back: x is the state at that place, and w the state after the call that was cut
-  abbrev pub cut_part : (left : Row S (Outcome × S)) (y : Sight S) (x w d1 : PlainState S) (more more_err : List ℕ) (taken : ℕ)
-      → Upto pure (p.row g.after) g.sight left y → Shows o e g.sight.started x y → Keeps (state_opened d) x
-      → w.base ≡ x.base → w.was_mid ≡ x.was_mid → w.out ≡ grown x.out more → w.err ≡ grown x.err more_err → w.input ≡ shrunk x.input taken
-      → PlainUndoes w d1 → Front left Output more → Front left ErrorOutput more_err → (taken ≡ 0) ⊎ ((most : ℕ) × Calls left (Take most))
+  abbrev pub cut_part : (left : Row S (Outcome × S)) (y : Sight S) (told : World) (x w d1 : PlainState S)
+      → Upto pure (p.row g.after) g.sight left y → Keeps (state_opened d) x → w.base ≡ x.base → w.was_mid ≡ x.was_mid
+      → w.out ≡ grown o told.out → w.err ≡ grown e told.err → w.input ≡ told.input → PlainUndoes w d1 → PartOf left y.world told
       → CutIn p t k o e m d1 ts
-  cut_part left y x w d1 more more_err taken up sh kp base mid out err input un f fe fi = record {
+  cut_part left y told x w d1 up kp base mid out err input un part = record {
     before = g.before;
     after = g.after;
     sight = g.sight;
@@ -194,19 +194,20 @@ module _ {S : Type 0} (p : Prog S) (t k : ℕ) (names : List ℕ) (o e : Option 
     heap = ap (λ z. z.heap) un ∙ base ∙ kp.base ∙ sym g.heap;
     mid = ap (λ z. z.mid) un ∙ mid ∙ kp.was_mid ∙ sym g.mid;
     threads = g.threads;
-    left = left;
-    place = y;
-    upto = up;
-    more = more;
-    more_err = more_err;
-    taken = taken;
-    out = ap (λ z. z.out) un ∙ out ∙ ap (λ l. grown l more) sh.out ∙ grown_then o y.world.out more;
-    err = ap (λ z. z.err) un ∙ err ∙ ap (λ l. grown l more_err) sh.err ∙ grown_then e y.world.err more_err;
-    input = ap (λ z. z.input) un ∙ input ∙ ap (λ i. shrunk i taken) (sym sh.input);
-    front = f;
-    front_err = fe;
-    front_in = fi;
+    told = told;
+    cut = record { left = left; place = y; upto = up; part = part };
+    out = ap (λ z. z.out) un ∙ out;
+    err = ap (λ z. z.err) un ∙ err;
+    input = ap (λ z. z.input) un ∙ input;
   }
+
+  -- the call that was cut told the devices nothing
+  abbrev pub cut_still : (left : Row S (Outcome × S)) (y : Sight S) (x w d1 : PlainState S)
+      → Upto pure (p.row g.after) g.sight left y → Shows o e g.sight.started x y → Keeps (state_opened d) x
+      → w.base ≡ x.base → w.was_mid ≡ x.was_mid → w.out ≡ x.out → w.err ≡ x.err → w.input ≡ x.input → PlainUndoes w d1
+      → CutIn p t k o e m d1 ts
+  cut_still left y x w d1 up sh kp base mid out err input un =
+      cut_part left y y.world x w d1 up kp base mid (out ∙ sh.out) (err ∙ sh.err) (input ∙ sym sh.input) un (part_still left y.world)
 
   -- the names that stay given are those of the steps before
   made_part : (x w d1 : PlainState S) → w.kept ≡ x.kept → Keeps (state_opened d) x → PlainUndoes w d1 → d1.made ≡ g.sight.made
@@ -224,13 +225,13 @@ module _ {S : Type 0} (p : Prog S) (t k : ℕ) (names : List ℕ) (o e : Option 
       → Upto pure (p.row g.after) g.sight (Do c f) y → Shows o e g.sight.started x y → Keeps (state_opened d) x → PlainRefuses c x MemoryStop w → PlainUndoes w d1
       → Told d1 (memory_why bad)
   refused_memory c f y x w d1 ls false eb up sh kp rf un =
-      (cut_part (Do c f) y x w d1 [] [] 0 up sh kp rf.0.base rf.0.was_mid (rf.1.2.same ∙ sym (grown_none x.out)) (rf.1.3.same ∙ sym (grown_none x.err)) (rf.1.1.same ∙ sym (shrunk_none x.input)) un (inl refl) (inl refl) (inl refl), made_part x w d1 rf.0.kept kp un, tt, begins_part x w d1 rf.0.free kp un)
+      (cut_still (Do c f) y x w d1 up sh kp rf.0.base rf.0.was_mid rf.1.2.same rf.1.3.same rf.1.1.same un, made_part x w d1 rf.0.kept kp un, tt, begins_part x w d1 rf.0.free kp un)
   refused_memory (Make q) f y x w d1 ls true eb up sh kp rf un =
       let bd : w.bad ≡ true = sym (ap (λ z. z.bad) un) ∙ eb in
       elim rf.1.0 [
         | inl h ↦ absurd (let q : true ≡ false = sym bd ∙ h ∙ kp.bad in cc)
         | inr h ↦ (
-          cut_part (Do (Make q) f) y x w d1 [] [] 0 up sh kp rf.0.base rf.0.was_mid (rf.1.2.same ∙ sym (grown_none x.out)) (rf.1.3.same ∙ sym (grown_none x.err)) (rf.1.1.same ∙ sym (shrunk_none x.input)) un (inl refl) (inl refl) (inl refl),
+          cut_still (Do (Make q) f) y x w d1 up sh kp rf.0.base rf.0.was_mid rf.1.2.same rf.1.3.same rf.1.1.same un,
           made_part x w d1 rf.0.kept kp un,
           (ls, ap (λ z. z.free) un ∙ rf.0.free ∙ h.1, q, x.left, (f, refl), ap (λ l. l ++ x.left) sh.made ∙ kp.names (sym kp.free ∙ h.1) ∙ g.named (sym kp.free ∙ h.1), subst (λ (a : Heap). NoName a x.left) (sym sh.heap) h.2),
           begins_part x w d1 rf.0.free kp un,
@@ -256,7 +257,8 @@ module _ {S : Type 0} (p : Prog S) (t k : ℕ) (names : List ℕ) (o e : Option 
   refused (Take most) f y x w d1 ls ReadStop up sh kp rf un =
       let h = rf.1.0 in
       let l : d0.reads ≤ x.reads = let a = g.reads in let b = kp.reads in omega arith in (
-        cut_part (Do (Take most) f) y x w d1 [] [] h.0.0 up sh kp rf.0.base rf.0.was_mid (rf.1.1.same ∙ sym (grown_none x.out)) (rf.1.2.same ∙ sym (grown_none x.err)) h.0.1 un (inl refl) (inl refl) (inr (most, (f, refl))),
+        cut_part (Do (Take most) f) y (record y.world { input = shrunk y.world.input h.0.0 }) x w d1 up kp rf.0.base rf.0.was_mid
+            (rf.1.1.same ∙ sh.out) (rf.1.2.same ∙ sh.err) (h.0.1 ∙ ap (λ i. shrunk i h.0.0) (sym sh.input)) un (h.0.0, refl),
         made_part x w d1 rf.0.kept kp un,
         (ls, most, (f, refl), rose_by d0.reads x.reads w.reads d1.reads l h.1 (ap (λ z. z.reads) un)),
         begins_part x w d1 rf.0.free kp un,
@@ -264,7 +266,8 @@ module _ {S : Type 0} (p : Prog S) (t k : ℕ) (names : List ℕ) (o e : Option 
   refused (Put Output bytes) f y x w d1 ls WriteStop up sh kp rf un =
       let h = rf.1.0 in
       let l : d0.writes ≤ x.writes = let a = g.writes in let b = kp.writes in omega arith in (
-        cut_part (Do (Put Output bytes) f) y x w d1 (take h.0.0 bytes) [] 0 up sh kp rf.0.base rf.0.was_mid h.0.1 (rf.1.2.same ∙ sym (grown_none x.err)) (rf.1.1.same ∙ sym (shrunk_none x.input)) un (inr (bytes, h.0.0, (f, refl), refl)) (inl refl) (inl refl),
+        cut_part (Do (Put Output bytes) f) y (wrote Output (take h.0.0 bytes) y.world) x w d1 up kp rf.0.base rf.0.was_mid
+            (h.0.1 ∙ ap (λ l. grown l (take h.0.0 bytes)) sh.out ∙ grown_then o y.world.out (take h.0.0 bytes)) (rf.1.2.same ∙ sh.err) (rf.1.1.same ∙ sym sh.input) un (h.0.0, refl),
         made_part x w d1 rf.0.kept kp un,
         (ls, bytes, (f, refl), rose_by d0.writes x.writes w.writes d1.writes l h.1 (ap (λ z. z.writes) un)),
         begins_part x w d1 rf.0.free kp un,
@@ -272,7 +275,8 @@ module _ {S : Type 0} (p : Prog S) (t k : ℕ) (names : List ℕ) (o e : Option 
   refused (Put ErrorOutput bytes) f y x w d1 ls ErrStop up sh kp rf un =
       let h = rf.1.0 in
       let l : d0.errs ≤ x.errs = let a = g.errs in let b = kp.errs in omega arith in (
-        cut_part (Do (Put ErrorOutput bytes) f) y x w d1 [] (take h.0.0 bytes) 0 up sh kp rf.0.base rf.0.was_mid (rf.1.2.same ∙ sym (grown_none x.out)) h.0.1 (rf.1.1.same ∙ sym (shrunk_none x.input)) un (inl refl) (inr (bytes, h.0.0, (f, refl), refl)) (inl refl),
+        cut_part (Do (Put ErrorOutput bytes) f) y (wrote ErrorOutput (take h.0.0 bytes) y.world) x w d1 up kp rf.0.base rf.0.was_mid
+            (rf.1.2.same ∙ sh.out) (h.0.1 ∙ ap (λ l. grown l (take h.0.0 bytes)) sh.err ∙ grown_then e y.world.err (take h.0.0 bytes)) (rf.1.1.same ∙ sym sh.input) un (h.0.0, refl),
         made_part x w d1 rf.0.kept kp un,
         (ls, bytes, (f, refl), rose_by d0.errs x.errs w.errs d1.errs l h.1 (ap (λ z. z.errs) un)),
         begins_part x w d1 rf.0.free kp un,
@@ -301,8 +305,8 @@ module _ {S : Type 0} (p : Prog S) (t k : ℕ) (names : List ℕ) (o e : Option 
         | inl own ↦
             let same : D w1 ≡ D at.place = ap D own.1 in
             let bad : (D w).bad ≡ false = ap (λ z. z.bad) un ∙ ap (λ z. z.bad) same ∙ kp.bad in
-            let cut : CutIn p t k o e m (D w) ts = cut_part at.left sh.0 (D at.place) (D w1) (D w) [] [] 0 up sh.2 kp (ap (λ z. z.base) same) (ap (λ z. z.was_mid) same)
-            (ap (λ z. z.out) same ∙ sym (grown_none (D at.place).out)) (ap (λ z. z.err) same ∙ sym (grown_none (D at.place).err)) (ap (λ z. z.input) same ∙ sym (shrunk_none (D at.place).input)) un (inl refl) (inl refl) (inl refl) in
+            let cut : CutIn p t k o e m (D w) ts = cut_still at.left sh.0 (D at.place) (D w1) (D w) up sh.2 kp (ap (λ z. z.base) same) (ap (λ z. z.was_mid) same)
+            (ap (λ z. z.out) same) (ap (λ z. z.err) same) (ap (λ z. z.input) same) un in
             let P : TurnWhy → Type 0 = λ y. Told (D w) y in
             let wy : why_of_stop c (D w).bad ≡ OutOfMemory = ap (λ z. why_of_stop z (D w).bad) own.0 ∙ ap (λ z. memory_why z) bad in
             subst P (sym wy) (cut, made_part (D at.place) (D w1) (D w) (ap (λ z. z.kept) same) kp un, tt, begins_part (D at.place) (D w1) (D w) (ap (λ z. z.free) same) kp un)
@@ -323,10 +327,9 @@ module _ {S : Type 0} (p : Prog S) (t k : ℕ) (names : List ℕ) (o e : Option 
       let dw : Does (p.row g.after) g.sight (WaitsNow, s1) r.0 = subst (λ (q : Outcome). Does (p.row g.after) g.sight (q, s1) r.0) ec dd in
       let lv : p.life g.after ≡ Lives = subst (λ (q : S). p.life q ≡ Lives) es ls in
       let still = (quiet g.after s1 g.sight r.0 dw).1 in (
-        cut_part (Ret (c, s1)) r.0 (D w) (D w) d1 [] [] 0 (run_upto pure (p.row g.after) g.sight (c, s1) r.0 dd) r.2 kp refl refl
-            (sym (grown_none (D w).out)) (sym (grown_none (D w).err)) (sym (shrunk_none (D w).input)) un (inl refl) (inl refl) (inl refl),
+        cut_still (Ret (c, s1)) r.0 (D w) (D w) d1 (run_upto pure (p.row g.after) g.sight (c, s1) r.0 dd) r.2 kp refl refl refl refl refl un,
         made_part (D w) (D w) d1 refl kp un,
-        (lv, record { world = still.world; more = refl; more_err = refl; taken = refl }, s1, dw, still),
+        (lv, still.world, s1, dw, still),
         begins_part (D w) (D w) d1 refl kp un,
       )
 

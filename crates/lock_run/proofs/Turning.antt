@@ -3,7 +3,7 @@ use Rattle.std.proofs.Common.{◌≡◌, ◌≢◌, ◌⊎◌, inl, inr, ℕ, ze
 use Rattle.py_data.specs.Collection.{places}
 use Rattle.py_data.specs.Sight.{Sight, Does, opened}
 use Rattle.stm_io.specs.Outside.{Rose}
-use Rattle.py_data.specs.World.{grown, shrunk}
+use Rattle.py_data.specs.World.{grown}
 use Rattle.py_data.proofs.Mirror.{does_afresh}
 use Rattle.lock_run.specs.declared.client.Outcome.TheVariants.{Waits as WaitsNow}
 use Rattle.lock_run.specs.declared.client.Life.TheVariants.{Lives}
@@ -14,7 +14,7 @@ use Rattle.lock_run.specs.Prog.{Prog}
 use Rattle.lock_run.specs.PlainState.{PlainState}
 use Rattle.lock_run.specs.Machine.{Machine, Steps, DoesTurn, machine_after}
 use Rattle.lock_run.specs.Turns.{LockState, Stands, CutIn, LeavesNothing, CutWhy, Begins, CutTold, Going, Reach, ReachCut, TurnDone, TurnCut, Rests, FreeDone, FreeCut}
-use Rattle.lock_run.proofs.Stepping.{cut_here, get_set, shrunk_none}
+use Rattle.lock_run.proofs.Stepping.{cut_here, get_set}
 
 slice_none : {A : Type 0} (xs : List A) (t : ℕ) → length xs ≤ t → slice_get xs t ≡ None
 slice_none [] t h = refl
@@ -171,9 +171,9 @@ module _ {S : Type 0} (p : Prog S) (thread most : ℕ) (a b : LockState S) (d1 d
         → (p.life c.after ≢ Lives) ⊎ ((q : S) × (z : Sight S) × Does (p.row c.after) (opened S c.sight.heap c.sight.world) (WaitsNow, q) z)
         → (m1 : Machine S) × Stands o e d2 b.threads m1 × DoesTurn p m t m1 × Rests p m1 thread
     stays c made n why =
-        let out : b.view.out ≡ grown o c.sight.world.out = c.out ∙ ap (λ l. grown o (c.place.world.out ++ l)) n.more ∙ ap (grown o) (append-nil c.place.world.out) ∙ ap (λ x. grown o x.out) n.world in
-        let err : b.view.err ≡ grown e c.sight.world.err = c.err ∙ ap (λ l. grown e (c.place.world.err ++ l)) n.more_err ∙ ap (grown e) (append-nil c.place.world.err) ∙ ap (λ x. grown e x.err) n.world in
-        let input : b.view.input ≡ c.sight.world.input = c.input ∙ ap (λ k. shrunk c.place.world.input k) n.taken ∙ shrunk_none c.place.world.input ∙ ap (λ x. x.input) n.world in (
+        let out : b.view.out ≡ grown o c.sight.world.out = c.out ∙ ap (λ x. grown o x.out) n in
+        let err : b.view.err ≡ grown e c.sight.world.err = c.err ∙ ap (λ x. grown e x.err) n in
+        let input : b.view.input ≡ c.sight.world.input = c.input ∙ ap (λ x. x.input) n in (
           machine_after m thread c.after c.sight,
           record { heap = sym c.heap ∙ sym (ap (λ z. z.heap) ed); threads = sym c.threads; input = sym input ∙ sym (ap (λ z. z.input) ed); out = ap (λ z. z.out) ed ∙ out; err = ap (λ z. z.err) ed ∙ err; mid = sym c.mid ∙ sym (ap (λ z. z.mid) ed) },
           record {
@@ -192,7 +192,7 @@ module _ {S : Type 0} (p : Prog S) (thread most : ℕ) (a b : LockState S) (d1 d
     stays_by : (why : TurnWhy) → (why ≡ Ended) ⊎ (why ≡ Waits) → CutTold p thread done [] o e m a.view b.view b.threads why
         → (m1 : Machine S) × Stands o e d2 b.threads m1 × DoesTurn p m t m1 × Rests p m1 thread
     stays_by Ended wy z = stays z.0 z.1 z.2.1 (inl z.2.0)
-    stays_by Waits wy z = let f = does_afresh (p.row z.0.after) z.0.sight z.0.place (WaitsNow, z.2.2) z.2.3 in stays z.0 z.1 z.2.1 (inr (z.2.2, f.0, f.1.does))
+    stays_by Waits wy z = let f = does_afresh (p.row z.0.after) z.0.sight z.0.cut.place (WaitsNow, z.2.2) z.2.3 in stays z.0 z.1 z.2.1 (inr (z.2.2, f.0, f.1.does))
     stays_by NotThere wy z = absurd z.2
     stays_by BadNames wy z = absurd (elim wy [ inl e ↦ cc | inr e ↦ cc ])
     stays_by ReadFault wy z = absurd (elim wy [ inl e ↦ cc | inr e ↦ cc ])
@@ -223,18 +223,11 @@ module _ {S : Type 0} (p : Prog S) (thread most : ℕ) (a b : LockState S) (d1 d
     heap = ap (λ z. z.heap) ed ∙ c.heap;
     mid = ap (λ z. z.mid) ed ∙ c.mid;
     threads = c.threads;
-    left = c.left;
-    place = c.place;
-    upto = c.upto;
-    more = c.more;
-    more_err = c.more_err;
-    taken = c.taken;
+    told = c.told;
+    cut = c.cut;
     out = ap (λ z. z.out) ed ∙ c.out;
     err = ap (λ z. z.err) ed ∙ c.err;
     input = ap (λ z. z.input) ed ∙ c.input;
-    front = c.front;
-    front_err = c.front_err;
-    front_in = c.front_in;
   }
 
   rose_after : (x y z : ℕ) → z ≡ y → Rose x y → Rose x z
@@ -243,8 +236,8 @@ module _ {S : Type 0} (p : Prog S) (thread most : ℕ) (a b : LockState S) (d1 d
   why_after : (done : ℕ) (names : List ℕ) (o e : Option (List ℕ)) (m : Machine S) (why : TurnWhy) (c : CutIn p thread done o e m b.view b.threads) → b.view.free ≡ true
       → CutWhy p thread done [] o e m a.view b.view b.threads why c → (why ≢ BadNames) × CutWhy p thread done names o e m a.view d2 b.threads why (told_after done o e m c)
   why_after done names o e m NotThere c fr w = absurd w
-  why_after done names o e m Ended c fr w = ((λ q. cc), (w.0, record { world = w.1.world; more = w.1.more; more_err = w.1.more_err; taken = w.1.taken }))
-  why_after done names o e m Waits c fr w = ((λ q. cc), (w.0, record { world = w.1.world; more = w.1.more; more_err = w.1.more_err; taken = w.1.taken }, w.2, w.3, w.4))
+  why_after done names o e m Ended c fr w = ((λ q. cc), w)
+  why_after done names o e m Waits c fr w = ((λ q. cc), w)
   why_after done names o e m BadNames c fr w = absurd (let q : true ≡ false = sym fr ∙ w.1 in cc)
   why_after done names o e m ReadFault c fr w = ((λ q. cc), (w.0, w.1, w.2, rose_after a.view.reads b.view.reads d2.reads (ap (λ z. z.reads) ed) w.3))
   why_after done names o e m WriteFault c fr w = ((λ q. cc), (w.0, w.1, w.2, rose_after a.view.writes b.view.writes d2.writes (ap (λ z. z.writes) ed) w.3))

@@ -8,6 +8,7 @@ pub mod PlainLaws
 pub mod Prog
 pub mod Client
 pub mod Machine
+pub mod Cut
 pub mod Turns
 pub mod TurnLaws
 pub mod LockState

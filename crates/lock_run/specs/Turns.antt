@@ -1,16 +1,13 @@
 -- What a turn of a LockRun does: a turn of the machine, or why it was cut and what stays. States `docs/HEAP.md`, "Turns and
 -- runs".
-use Rattle.std.specs.Prelude.{◌≡◌, ◌≢◌, ◌⊎◌, ℕ, ◌≤◌, ◌<◌, List, [], ◌∷◌, ◌++◌, Option, Some, None, take, slice_get, slice_set, false, suc}
-use Rattle.py_data.specs.declared.stop.Out.{Out}
+use Rattle.std.specs.Prelude.{◌≡◌, ◌≢◌, ◌⊎◌, ℕ, ◌≤◌, ◌<◌, List, [], ◌∷◌, ◌++◌, Option, Some, None, slice_get, slice_set, false, suc}
 use Rattle.py_data.specs.declared.stop.Out.TheVariants.{Output, ErrorOutput}
 use Rattle.py_data.specs.Row.{Row, Do, Call, Reply, Make, Put, Take}
-use Rattle.py_data.specs.Sense.{Upto}
-use Rattle.py_data.specs.Sight.{Sight, Does, opened, pure}
-use Rattle.py_data.specs.World.{shrunk, grown}
+use Rattle.py_data.specs.Sight.{Sight, Does, opened}
+use Rattle.py_data.specs.World.{World, grown}
 use Rattle.py_data.specs.Collection.{places}
 use Rattle.py_data.specs.Heap.{Rec}
 use Rattle.stm_io.specs.Outside.{Rose}
-use Rattle.lock_run.specs.declared.client.Outcome.{Outcome}
 use Rattle.lock_run.specs.declared.client.Outcome.TheVariants.{Waits as WaitsNow}
 use Rattle.lock_run.specs.declared.client.Life.TheVariants.{Lives}
 use Rattle.lock_run.specs.declared.turn.TurnWhy.{TurnWhy}
@@ -20,6 +17,7 @@ use Rattle.lock_run.specs.Prog.{Prog}
 use Rattle.lock_run.specs.Client.{Unchanged}
 use Rattle.lock_run.specs.PlainState.{PlainState, NoName}
 use Rattle.lock_run.specs.Machine.{Machine, Steps, DoesTurn}
+use Rattle.lock_run.specs.Cut.{RowCut}
 
 -- what a one-lock machine holds: its view, and the states of its threads in the order of their numbers
 pub record LockState (S : Type 0) : Type 0 where
@@ -50,12 +48,8 @@ TurnDone {S} p t a b = (o e : Option (List ℕ)) (m : Machine S) → Stands o e 
 abbrev pub Calls : {S A : Type 0} → Row S A → Call S → Type 0
 Calls {S = S} {A = A} q c = (k : Reply c → Row S A) × (q ≡ Do c k)
 
--- bytes that the cut call had written: a front of what the next call writes
-abbrev pub Front : {S A : Type 0} → Row S A → Out → List ℕ → Type 0
-Front q on more = (more ≡ []) ⊎ ((bytes : List ℕ) × (k : ℕ) × Calls q (Put on bytes) × (more ≡ take k bytes))
-
--- After `done` steps the thread had the state `after` and had left `sight`; so much stays. Of the next step the part up to
--- `place` was done, where `left` is left of its row. Its changes are taken back, and what it wrote and took stays.
+-- After `done` steps the thread had the state `after` and had left `sight`; so much stays. The next step was cut: its changes are
+-- taken back, and what it told the devices stays.
 pub record CutIn {S : Type 0} (p : Prog S) (t done : ℕ) (o e : Option (List ℕ)) (m : Machine S) (d1 : PlainState S) (ts1 : List S) : Type 0 where
   pub before : S
   pub after : S
@@ -65,37 +59,27 @@ pub record CutIn {S : Type 0} (p : Prog S) (t done : ℕ) (o e : Option (List �
   pub heap : d1.heap ≡ sight.heap
   pub mid : d1.mid ≡ sight.world.mid
   pub threads : ts1 ≡ slice_set m.threads t after ++ sight.started
-  pub left : Row S (Outcome × S)
-  pub place : Sight S
-  pub upto : Upto pure (p.row after) sight left place
-  pub more : List ℕ
-  pub more_err : List ℕ
-  pub taken : ℕ
-  pub out : d1.out ≡ grown o (place.world.out ++ more)
-  pub err : d1.err ≡ grown e (place.world.err ++ more_err)
-  pub input : d1.input ≡ shrunk place.world.input taken
-  pub front : Front left Output more
-  pub front_err : Front left ErrorOutput more_err
-  pub front_in : (taken ≡ 0) ⊎ ((most : ℕ) × Calls left (Take most))
+  pub told : World
+  pub cut : RowCut (p.row after) sight told
+  pub out : d1.out ≡ grown o told.out
+  pub err : d1.err ≡ grown e told.err
+  pub input : d1.input ≡ told.input
 
 -- nothing of the next step is left: what stands is what the steps before it left
-pub record LeavesNothing {S : Type 0} {p : Prog S} {t done : ℕ} {o e : Option (List ℕ)} {m : Machine S} {d1 : PlainState S} {ts1 : List S} (c : CutIn p t done o e m d1 ts1) : Type 0 where
-  pub world : c.place.world ≡ c.sight.world
-  pub more : c.more ≡ []
-  pub more_err : c.more_err ≡ []
-  pub taken : c.taken ≡ 0
+abbrev pub LeavesNothing : {S : Type 0} {p : Prog S} {t done : ℕ} {o e : Option (List ℕ)} {m : Machine S} {d1 : PlainState S} {ts1 : List S} → CutIn p t done o e m d1 ts1 → Type 0
+LeavesNothing c = c.told ≡ c.sight.world
 
 -- why the next step wasn't done
 abbrev pub CutWhy : {S : Type 0} (p : Prog S) (t done : ℕ) (names : List ℕ) (o e : Option (List ℕ)) (m : Machine S) (d d1 : PlainState S) (ts1 : List S) → TurnWhy → CutIn p t done o e m d1 ts1 → Type 0
 CutWhy p t done names o e m d d1 ts1 NotThere c = ⊥
 CutWhy p t done names o e m d d1 ts1 Ended c = (p.life c.after ≢ Lives) × LeavesNothing c
 CutWhy {S} p t done names o e m d d1 ts1 Waits c =
-    (p.life c.after ≡ Lives) × LeavesNothing c × (q : S) × Does (p.row c.after) c.sight (WaitsNow, q) c.place × Unchanged c.sight c.place
+    (p.life c.after ≡ Lives) × LeavesNothing c × (q : S) × Does (p.row c.after) c.sight (WaitsNow, q) c.cut.place × Unchanged c.sight c.cut.place
 CutWhy p t done names o e m d d1 ts1 BadNames c =
-    (p.life c.after ≡ Lives) × (d1.free ≡ false) × (r : Rec) × (rest : List ℕ) × Calls c.left (Make r) × (c.place.made ++ rest ≡ names) × NoName c.place.heap rest
-CutWhy p t done names o e m d d1 ts1 ReadFault c = (p.life c.after ≡ Lives) × (most : ℕ) × Calls c.left (Take most) × Rose d.reads d1.reads
-CutWhy p t done names o e m d d1 ts1 WriteFault c = (p.life c.after ≡ Lives) × (bytes : List ℕ) × Calls c.left (Put Output bytes) × Rose d.writes d1.writes
-CutWhy p t done names o e m d d1 ts1 ErrFault c = (p.life c.after ≡ Lives) × (bytes : List ℕ) × Calls c.left (Put ErrorOutput bytes) × Rose d.errs d1.errs
+    (p.life c.after ≡ Lives) × (d1.free ≡ false) × (r : Rec) × (rest : List ℕ) × Calls c.cut.left (Make r) × (c.cut.place.made ++ rest ≡ names) × NoName c.cut.place.heap rest
+CutWhy p t done names o e m d d1 ts1 ReadFault c = (p.life c.after ≡ Lives) × (most : ℕ) × Calls c.cut.left (Take most) × Rose d.reads d1.reads
+CutWhy p t done names o e m d d1 ts1 WriteFault c = (p.life c.after ≡ Lives) × (bytes : List ℕ) × Calls c.cut.left (Put Output bytes) × Rose d.writes d1.writes
+CutWhy p t done names o e m d d1 ts1 ErrFault c = (p.life c.after ≡ Lives) × (bytes : List ℕ) × Calls c.cut.left (Put ErrorOutput bytes) × Rose d.errs d1.errs
 CutWhy p t done names o e m d d1 ts1 OutOfMemory c = Unit {0}
 
 -- a list is the beginning of another

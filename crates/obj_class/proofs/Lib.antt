@@ -9,7 +9,7 @@ pub mod AttrHolds
 pub mod FaultHolds
 pub mod Given
 pub mod SteadyRows
-pub mod Held
+pub mod ClassHolds
 pub mod LeftSteps
 pub mod TellingLooks
 pub mod TellingCalm

@@ -1,16 +1,12 @@
 //! The instances that exceptions make.
-ghost use Rattle.std.specs.Prelude.{◌≡◌, IfOk, [], ◌∷◌};
-ghost use Rattle.py_base.specs.declared.kind.Kind.TheVariants.{Str, Tuple};
+ghost use Rattle.std.specs.Prelude.{◌≡◌};
 ghost use Rattle.py_data.specs.declared.record.With.TheVariants.{Text};
-ghost use Rattle.py_data.specs.Heap.{new_rec};
-ghost use Rattle.py_data.specs.Made.{rec_of};
 ghost use Rattle.py_data.specs.Sense.{Meets, Safe, IsLive};
-ghost use Rattle.obj_class.specs.Exceptions.{args_row, dict_of_args, exception_row, fault_row, is_tellable, keyed_row, made_row, numbered_row, told_row};
+ghost use Rattle.obj_class.specs.Exceptions.{args_row, dict_of_args, exception_row, fault_row, is_tellable, keyed_row, numbered_row, told_row};
 
+use crate::making::{make_record, make_text, one, two};
 use py_data::exception::MEMORY_ERROR;
-use py_data::{
-    Addr, Bytes, Fault, Kind, LENGTH_LIMIT, NoMemory, Record, Stop, Value, Values, View, With, look,
-};
+use py_data::{Addr, Fault, Kind, LENGTH_LIMIT, Stop, Value, Values, View, With, look};
 use std::alloc::Global;
 
 /// Whether a text is no longer than a record may be.
@@ -21,67 +17,6 @@ fn is_tellable(with: &With) -> bool
         With::Text(text) => text.len() <= LENGTH_LIMIT,
         _ => true,
     }
-}
-
-/// A record of two values that is to be made.
-fn pair(alloc: Global, kind: Kind, x: Value, y: Value) -> Result<Record, NoMemory>
-    ensures { IfOk result (λ r. rec_of r ≡ new_rec kind (x ∷ y ∷ []) []) }
-{
-    let mut values = Values::new(alloc);
-    values.push(x)?;
-    values.push(y)?;
-    Ok(Record {
-        kind,
-        values,
-        bytes: Bytes::new(alloc),
-    })
-}
-
-/// Makes a record of two values.
-#[tactic(auto, using(py_data::proofs::Rows::row_steps), unfolding(crate::specs::Exceptions::made_row))]
-fn make_pair<S, V: View<S>>(
-    alloc: Global,
-    v: &mut V,
-    kind: Kind,
-    x: Value,
-    y: Value,
-) -> Result<Value, Stop>
-    requires live { IsLive V.sense v.old }
-    requires safe { Safe V.sense.partial (made_row {S = S} (new_rec kind (x ∷ y ∷ []) [])) (V.sense.heap v.old) }
-    ensures { Meets V.sense (made_row (new_rec kind (x ∷ y ∷ []) [])) v.old v.new result }
-{
-    let made = pair(alloc, kind, x, y)?;
-    Ok(Value::Ref(v.make(&made)?))
-}
-
-/// Makes a string.
-#[tactic(auto, using(py_data::proofs::Rows::row_steps), unfolding(crate::specs::Exceptions::made_row))]
-pub fn make_text<S, V: View<S>>(alloc: Global, v: &mut V, text: &[u8]) -> Result<Value, Stop>
-    requires live { IsLive V.sense v.old }
-    requires safe { Safe V.sense.partial (made_row {S = S} (new_rec Str [] text.now)) (V.sense.heap v.old) }
-    ensures { Meets V.sense (made_row (new_rec Str [] text.now)) v.old v.new result }
-{
-    let made = Record {
-        kind: Kind::Str,
-        values: Values::new(alloc),
-        bytes: Bytes::from_slice(alloc, text)?,
-    };
-    Ok(Value::Ref(v.make(&made)?))
-}
-
-/// Makes a tuple.
-#[tactic(auto, using(py_data::proofs::Rows::row_steps), unfolding(crate::specs::Exceptions::made_row))]
-fn make_tuple<S, V: View<S>>(alloc: Global, v: &mut V, values: Values) -> Result<Value, Stop>
-    requires live { IsLive V.sense v.old }
-    requires safe { Safe V.sense.partial (made_row {S = S} (new_rec Tuple values [])) (V.sense.heap v.old) }
-    ensures { Meets V.sense (made_row (new_rec Tuple values [])) v.old v.new result }
-{
-    let made = Record {
-        kind: Kind::Tuple,
-        values,
-        bytes: Bytes::new(alloc),
-    };
-    Ok(Value::Ref(v.make(&made)?))
 }
 
 /// Makes the instance of a class whose one attribute is this pair.
@@ -97,13 +32,13 @@ fn with_dict<S, V: View<S>>(
     requires safe { Safe V.sense.partial (dict_of_args {S = S} class key tuple) (V.sense.heap v.old) }
     ensures { Meets V.sense (dict_of_args class key tuple) v.old v.new result }
 {
-    let dict = make_pair(alloc, v, Kind::Dict, key, tuple)?;
-    make_pair(alloc, v, Kind::Instance, class, dict)
+    let dict = make_record(alloc, v, Kind::Dict, two(alloc, key, tuple)?)?;
+    make_record(alloc, v, Kind::Instance, two(alloc, class, dict)?)
 }
 
 /// Makes the instance of a class with these arguments.
 #[tactic(auto, using(py_data::proofs::Rows::row_steps, py_data::proofs::Steps::call_steps), unfolding(crate::specs::Exceptions::args_row))]
-fn with_args<S, V: View<S>>(
+pub fn with_args<S, V: View<S>>(
     alloc: Global,
     v: &mut V,
     class: Value,
@@ -114,17 +49,8 @@ fn with_args<S, V: View<S>>(
     requires safe { Safe V.sense.partial (args_row {S = S} class key args) (V.sense.heap v.old) }
     ensures { Meets V.sense (args_row class key args) v.old v.new result }
 {
-    let tuple = make_tuple(alloc, v, args)?;
+    let tuple = make_record(alloc, v, Kind::Tuple, args)?;
     with_dict(alloc, v, class, key, tuple)
-}
-
-/// The one value as a list.
-pub fn alone(alloc: Global, x: Value) -> Result<Values, NoMemory>
-    ensures { IfOk result (λ vs. vs ≡ x ∷ []) }
-{
-    let mut values = Values::new(alloc);
-    values.push(x)?;
-    Ok(values)
 }
 
 /// The arguments that are a new string.
@@ -135,7 +61,7 @@ fn told_text<S, V: View<S>>(alloc: Global, v: &mut V, text: &[u8]) -> Result<Val
     ensures { Meets V.sense (told_row (Text text.now)) v.old v.new result }
 {
     let a = make_text(alloc, v, text)?;
-    Ok(alone(alloc, a)?)
+    Ok(one(alloc, a)?)
 }
 
 /// The arguments of what an exception is told with.
@@ -148,7 +74,7 @@ fn told<S, V: View<S>>(alloc: Global, v: &mut V, with: &With) -> Result<Values, 
     match with {
         With::Nothing => Ok(Values::new(alloc)),
         With::Text(text) => told_text(alloc, v, text.as_slice()),
-        With::Held(x) => Ok(alone(alloc, *x)?),
+        With::Held(x) => Ok(one(alloc, *x)?),
     }
 }
 

@@ -7,7 +7,7 @@ ghost use Rattle.obj_class.specs.Attributes.{bound_of, of_methods};
 ghost use Rattle.obj_class.specs.AttrRows.{bound_row, builtin_row, class_row, error_row, find_attr_row, found_by, from_class, if_found, instance_row, member_row, methods_row, own_or_class};
 ghost use Rattle.obj_class.specs.Named.{member_of};
 
-use crate::inherited::{inherited, own};
+use crate::inheritance::{inherited, own};
 use crate::named::{is_error, member_of, method_of};
 use obj_str::bytes_of;
 use py_data::exception::THREAD_ERROR;

@@ -1,16 +1,12 @@
 //! The list of roots: the classes that every program has.
-ghost use Rattle.std.specs.Prelude.{◌≡◌, ◌<◌, IfOk, [], ◌∷◌, ◌++◌, get_or, pos};
+ghost use Rattle.std.specs.Prelude.{◌≡◌, IfOk, [], ◌∷◌, ◌++◌, get_or};
 ghost use Rattle.py_base.specs.Numbers.{class_count, class_names, class_number};
-ghost use Rattle.py_base.specs.declared.kind.Kind.TheVariants.{Cell, Class, Dict, Str};
-ghost use Rattle.py_data.specs.declared.value.Value.TheVariants.{Int};
-ghost use Rattle.py_data.specs.Heap.{new_rec, value_at};
-ghost use Rattle.py_data.specs.Made.{rec_of};
+ghost use Rattle.py_data.specs.Heap.{value_at};
 ghost use Rattle.py_data.specs.Sense.{Meets, Safe, IsLive};
-ghost use Rattle.obj_class.specs.Exceptions.{made_row};
 ghost use Rattle.obj_class.specs.NewRoots.{class_of_row, new_class_row, next_root_row, roots_behind_row, roots_from, roots_listed_row, roots_row};
 ghost use Rattle.obj_class.specs.Roots.{base_names, own_name, root_base};
 
-use crate::exceptions::{alone, make_text};
+use crate::making::{make_record, make_text, one, three};
 use py_base::class_name;
 use py_data::exception::{
     ARITHMETIC_ERROR, BASE_EXCEPTION, COUNT, EXCEPTION, LOOKUP_ERROR, NAME_ERROR, OBJECT,
@@ -54,7 +50,7 @@ fn name_of(n: u8) -> &'static [u8]
 }
 
 /// The name that a class has itself.
-fn own_name(n: u8) -> &'static [u8]
+pub fn own_name(n: u8) -> &'static [u8]
     ensures { result.now ≡ own_name n }
 {
     if n == THREAD_ERROR {
@@ -64,12 +60,15 @@ fn own_name(n: u8) -> &'static [u8]
     }
 }
 
-/// The number of a class's base.
+/// The number of a class's base, and 0 for a number that no class has.
 fn base_number(n: u8) -> u8
-    requires { n < class_count }
     ensures { result ≡ class_number (get_or base_names n []) }
 {
-    BASES[n as usize]
+    if (n as usize) < BASES.len() {
+        BASES[n as usize]
+    } else {
+        OBJECT
+    }
 }
 
 /// The value at a place; Unset where there is none.
@@ -84,9 +83,8 @@ fn value_at(values: &Values, i: usize) -> Value
     }
 }
 
-/// The base of a class, among the classes that stand behind a first value.
-fn root_base(values: &Values, n: u8) -> Value
-    requires { n < class_count }
+/// The base of a class, among the roots before it.
+pub fn root_base(values: &Values, n: u8) -> Value
     ensures { result ≡ root_base values.now n }
 {
     if n == OBJECT {
@@ -94,60 +92,6 @@ fn root_base(values: &Values, n: u8) -> Value
     } else {
         value_at(values, 1 + base_number(n) as usize)
     }
-}
-
-/// An empty dictionary that is to be made.
-fn no_pairs(alloc: Global) -> Record
-    ensures { rec_of result ≡ new_rec Dict [] [] }
-{
-    Record {
-        kind: Kind::Dict,
-        values: Values::new(alloc),
-        bytes: Bytes::new(alloc),
-    }
-}
-
-/// Makes an empty dictionary.
-#[tactic(auto, using(py_data::proofs::Rows::row_steps), unfolding(crate::specs::Exceptions::made_row))]
-fn make_dict<S, V: View<S>>(alloc: Global, v: &mut V) -> Result<Value, Stop>
-    requires live { IsLive V.sense v.old }
-    requires safe { Safe V.sense.partial (made_row {S = S} (new_rec Dict [] [])) (V.sense.heap v.old) }
-    ensures { Meets V.sense (made_row (new_rec Dict [] [])) v.old v.new result }
-{
-    let made = no_pairs(alloc);
-    Ok(Value::Ref(v.make(&made)?))
-}
-
-/// A class that is to be made.
-fn class_record(alloc: Global, name: Value, base: Value, dict: Value) -> Result<Record, NoMemory>
-    ensures { IfOk result (λ r. rec_of r ≡ new_rec Class (name ∷ base ∷ dict ∷ []) []) }
-{
-    let mut values = Values::new(alloc);
-    values.push(name)?;
-    values.push(base)?;
-    values.push(dict)?;
-    Ok(Record {
-        kind: Kind::Class,
-        values,
-        bytes: Bytes::new(alloc),
-    })
-}
-
-/// Makes a class.
-#[tactic(auto, using(py_data::proofs::Rows::row_steps), unfolding(crate::specs::Exceptions::made_row))]
-fn make_class<S, V: View<S>>(
-    alloc: Global,
-    v: &mut V,
-    name: Value,
-    base: Value,
-    dict: Value,
-) -> Result<Value, Stop>
-    requires live { IsLive V.sense v.old }
-    requires safe { Safe V.sense.partial (made_row {S = S} (new_rec Class (name ∷ base ∷ dict ∷ []) [])) (V.sense.heap v.old) }
-    ensures { Meets V.sense (made_row (new_rec Class (name ∷ base ∷ dict ∷ []) [])) v.old v.new result }
-{
-    let made = class_record(alloc, name, base, dict)?;
-    Ok(Value::Ref(v.make(&made)?))
 }
 
 /// Makes a class without attributes, whose name is at hand.
@@ -162,8 +106,8 @@ fn class_of<S, V: View<S>>(
     requires safe { Safe V.sense.partial (class_of_row {S = S} base name) (V.sense.heap v.old) }
     ensures { Meets V.sense (class_of_row base name) v.old v.new result }
 {
-    let dict = make_dict(alloc, v)?;
-    make_class(alloc, v, name, base, dict)
+    let dict = make_record(alloc, v, Kind::Dict, Values::new(alloc))?;
+    make_record(alloc, v, Kind::Class, three(alloc, name, base, dict)?)
 }
 
 /// Makes a class without attributes.
@@ -196,7 +140,6 @@ fn with_one(values: Values, x: Value) -> Result<Values, NoMemory>
 fn next_root<S, V: View<S>>(alloc: Global, v: &mut V, n: u8, values: Values) -> Result<Values, Stop>
     requires live { IsLive V.sense v.old }
     requires safe { Safe V.sense.partial (next_root_row {S = S} n values) (V.sense.heap v.old) }
-    requires below { n < class_count }
     ensures { Meets V.sense (next_root_row n values) v.old v.new result }
 {
     let class = new_class(alloc, v, root_base(&values, n), own_name(n))?;
@@ -240,33 +183,9 @@ fn roots_behind<S, V: View<S>>(alloc: Global, v: &mut V, cell: Value) -> Result<
     requires safe { Safe V.sense.partial (roots_behind_row {S = S} cell) (V.sense.heap v.old) }
     ensures { Meets V.sense (roots_behind_row cell) v.old v.new result }
 {
-    let first = alone(alloc, cell)?;
+    let first = one(alloc, cell)?;
     let values = classes(alloc, v, first)?;
     listed(alloc, v, values)
-}
-
-/// The Cell of the count of threads, which is to be made.
-fn cell_record(alloc: Global) -> Result<Record, NoMemory>
-    ensures { IfOk result (λ r. rec_of r ≡ new_rec Cell (Int (pos 1) ∷ []) []) }
-{
-    let mut values = Values::new(alloc);
-    values.push(Value::Int(1))?;
-    Ok(Record {
-        kind: Kind::Cell,
-        values,
-        bytes: Bytes::new(alloc),
-    })
-}
-
-/// Makes the Cell of the count of threads, which is 1.
-#[tactic(auto, using(py_data::proofs::Rows::row_steps), unfolding(crate::specs::Exceptions::made_row))]
-fn make_cell<S, V: View<S>>(alloc: Global, v: &mut V) -> Result<Value, Stop>
-    requires live { IsLive V.sense v.old }
-    requires safe { Safe V.sense.partial (made_row {S = S} (new_rec Cell (Int (pos 1) ∷ []) [])) (V.sense.heap v.old) }
-    ensures { Meets V.sense (made_row (new_rec Cell (Int (pos 1) ∷ []) [])) v.old v.new result }
-{
-    let made = cell_record(alloc)?;
-    Ok(Value::Ref(v.make(&made)?))
 }
 
 /// Makes the list of the roots of a program, and answers its address: the Cell of the count of threads, which is 1, and the classes
@@ -277,6 +196,6 @@ pub fn make_roots<S, V: View<S>>(alloc: Global, v: &mut V) -> Result<Addr, Stop>
     requires safe { Safe V.sense.partial (roots_row {S = S}) (V.sense.heap v.old) }
     ensures { Meets V.sense roots_row v.old v.new result }
 {
-    let cell = make_cell(alloc, v)?;
+    let cell = make_record(alloc, v, Kind::Cell, one(alloc, Value::Int(1))?)?;
     roots_behind(alloc, v, cell)
 }

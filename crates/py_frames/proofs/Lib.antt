@@ -15,12 +15,12 @@ mod CallHolds
 mod PrintHolds
 mod StepHolds
 mod StepSound
-mod Outcomes
+pub mod Outcomes
 mod SetupHolds
 mod FirstStep
-mod SoundLaws
+pub mod SoundLaws
 mod WorkingRows
-mod QuietSteps
+pub mod QuietSteps
 mod CalmInstrs
 mod SteadyInstrs
-mod SteadySteps
+pub mod SteadySteps

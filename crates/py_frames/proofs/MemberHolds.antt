@@ -34,7 +34,7 @@ use Rattle.obj_class.specs.AttrRows.{attr_row, set_attr_row, del_attr_row, find_
 use Rattle.obj_class.specs.Attributes.{attribute, attribute_fault}
 use Rattle.obj_class.specs.Bases.{ref}
 use Rattle.obj_class.proofs.AttrHolds.{IsGood, attribute_good}
-use Rattle.obj_class.proofs.Held.{class_holds}
+use Rattle.obj_class.proofs.ClassHolds.{class_holds}
 use Rattle.obj_class.proofs.Parts.{is_at}
 use Rattle.obj_dict.specs.Dict.{get_row, del_row}
 use Rattle.obj_dict.proofs.Holding.{dict_holds}

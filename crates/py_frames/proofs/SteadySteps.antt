@@ -1,4 +1,5 @@
--- In the course of a step no record is longer than before it, or than at its end.
+-- In the course of a step no record is longer than before it, or than at its end, and a step that asks whether the output is in
+-- mid line goes on to write.
 use Rattle.std.proofs.Common.{ℕ, zero, suc, Bool, true, false, cond, List, [], ◌∷◌, Option, Some, None, refl}
 use Rattle.std.specs.Prelude.{option_map}
 use Rattle.py_base.specs.declared.kind.Kind.{Kind}
@@ -34,6 +35,8 @@ use Rattle.std.specs.Prelude.{ℕ, not}
 use Rattle.std.proofs.Common.{not, false, true}
 use Rattle.py_data.specs.Looking.{size_row}
 use Rattle.py_data.specs.Steady.{Steady, Calm}
+use Rattle.py_data.proofs.SteadyLemmas.{asking_law}
+use Rattle.lock_run.specs.declared.client.Outcome.{Outcome}
 use Rattle.py_data.proofs.CalmRows.{do_calm, bind_steady, size_calm, bytes_calm, until_calm}
 use Rattle.py_data.proofs.OnlyLooks.{OnlyLooks, only_look, only_kind, looks_steady}
 use Rattle.obj_class.specs.Telling.{told_row}
@@ -47,7 +50,7 @@ use Rattle.obj_builtins.proofs.SteadyRows.{functions_steady}
 use Rattle.py_frames.specs.Binding.{plainly, bound_row as bound_call}
 use Rattle.py_frames.specs.ClassCalls.{exception_class_row}
 use Rattle.py_frames.specs.FunctionRows.{ended_row}
-use Rattle.py_frames.specs.Laws.{SteadyStepLaw}
+use Rattle.py_frames.specs.Laws.{AskLaw, SteadyStepLaw}
 use Rattle.py_frames.specs.PrintRows.{name_of_class, class_name_row, last_words, named_words}
 use Rattle.py_frames.specs.RaiseRows.{catches_if, class_catches, item_by as exception_item, item_catches, place_catches, some_catches, tuple_catches, record_catches, catches_row, below_row, instance_by, is_instance_row, items_by, raised_args}
 use Rattle.py_frames.specs.SetupRows.{named_class, class_dict, class_root, root_by, roots_row}
@@ -439,3 +442,6 @@ by_steady p s None (f ∷ fs) = at_steady p s f fs (instr_at p f)
 pub steady_law : SteadyStepLaw
 unfolding step_row
 steady_law p s = by_steady p s s.dying s.frames
+
+pub ask_law : AskLaw
+ask_law p s = asking_law State (Outcome × State) false (step_row p s) (steady_law p s)

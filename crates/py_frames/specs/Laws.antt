@@ -1,7 +1,7 @@
 -- What holds of the threads of a right program, in the words of the laws of clients. States `docs/LANGUAGE.md`, "Sound states".
 use Rattle.std.specs.Prelude.{◌≡◌, ℕ, ◌<◌, List, [], ◌∷◌, length, slice_get, Some, None, false}
 use Rattle.py_data.specs.Heap.{Heap, no_records}
-use Rattle.py_data.specs.Steady.{Steady}
+use Rattle.py_data.specs.Steady.{AsksToPrint, Steady}
 use Rattle.py_code.specs.declared.instr.Instr.{Instr}
 use Rattle.py_code.specs.declared.program.Program.{Program}
 use Rattle.py_code.specs.Effects.{Fine}
@@ -36,6 +36,10 @@ OutcomeLaw = (p : Program) → TellsLife (prog_of p)
 -- in the course of a step no record is longer than before it, or than at its end
 abbrev pub SteadyStepLaw : Type 0
 SteadyStepLaw = (p : Program) (s : State) → Steady false (step_row p s)
+
+-- a step that asks whether the output is in mid line goes on to write
+abbrev pub AskLaw : Type 0
+AskLaw = (p : Program) (s : State) → AsksToPrint (step_row p s)
 
 -- a step that waits leaves all as it was
 abbrev pub WaitLaw : Type 0

@@ -1,6 +1,6 @@
 //! What holds of the threads of every right program, as laws: a call of such a function does nothing, and gives its
 //! caller's proof the facts of its clauses.
-ghost use Rattle.py_frames.specs.Laws.{FirstLaw, NeverLacksLaw, OutcomeLaw, SafeLaw, SteadyStepLaw, StepLaw, WaitLaw};
+ghost use Rattle.py_frames.specs.Laws.{AskLaw, FirstLaw, NeverLacksLaw, OutcomeLaw, SafeLaw, SteadyStepLaw, StepLaw, WaitLaw};
 
 /// The first state of a right program may stand over no records. Of threads that may stand over a heap the next step
 /// has what its calls need, and leaves threads that may stand over the heap that it leaves.
@@ -15,9 +15,11 @@ pub fn outcome_law()
     ensures { OutcomeLaw }
 {}
 
-/// In the course of a step no record is longer than before it, or than at its end.
+/// In the course of a step no record is longer than before it, or than at its end; and a step that asks whether the output
+/// is in mid line goes on to write.
 pub fn steady_law()
-    ensures { SteadyStepLaw }
+    ensures lengths { SteadyStepLaw }
+    ensures asks { AskLaw }
 {}
 
 /// A step that waits leaves its state, the heap, the names, the started threads and the world as they were.

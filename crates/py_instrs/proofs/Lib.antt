@@ -5,3 +5,4 @@ pub mod PastEnds
 pub mod Afters
 pub mod Loops
 pub mod RootsLoop
+pub mod Numbering

@@ -11,8 +11,8 @@ ghost use Rattle.obj_dict.specs.Dict.{key_row};
 ghost use Rattle.py_frames.specs.BuildRows as rows;
 ghost use Rattle.py_frames.specs.Raising as raising;
 
-use crate::making::make_record;
-use crate::raising::{give, memory_fault, one, place_in, raise_operand, raise_row, told};
+use crate::raising::{give, memory_fault, place_in, raise_operand, raise_row, told};
+use obj_class::{make_record, one};
 use obj_seq::{gather, make_iter, next as next_item};
 use py_data::exception::{MEMORY_ERROR, TYPE_ERROR, VALUE_ERROR};
 use py_data::{

@@ -7,12 +7,11 @@ ghost use Rattle.py_frames.specs.ClassCalls as class_calls;
 ghost use Rattle.py_frames.specs.Raising as raising;
 
 use crate::binding::bound_row;
-use crate::inherited::inherited;
 use crate::instances::new_instance;
 use crate::programs::text_number;
 use crate::raising::{give, place_in, raise_row, raise_text};
 use crate::site::{Given, Site, with_first};
-use obj_class::is_sub;
+use obj_class::{inherited, is_sub};
 use py_code::Program;
 use py_data::exception::{BASE_EXCEPTION, RUNTIME_ERROR, TYPE_ERROR};
 use py_data::{Addr, Got, Kind, Stop, Value, View, kind, look};

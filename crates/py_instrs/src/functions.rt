@@ -6,13 +6,13 @@ ghost use Rattle.py_frames.specs.FunctionRows.{body_by, body_frame, class_body_r
 ghost use Rattle.py_frames.specs.State.{code_at};
 ghost use Rattle.py_data.specs.declared.value.Value.TheVariants.{Ref};
 
-use crate::making::{make_record, make_text, three};
 use crate::named::push_unset;
 use crate::programs::slots_at;
 use crate::raising::{
-    base_fault, depth_fault, fail_row, memory_fault, one, operand_fault, place_in, raise_row,
+    base_fault, depth_fault, fail_row, memory_fault, operand_fault, place_in, raise_row,
 };
 use crate::site::Site;
+use obj_class::{make_record, make_text, one, three};
 use py_code::Program;
 use py_data::{Addr, Kind, LENGTH_LIMIT, NoMemory, Stop, Value, Values, View, kind};
 use py_frames::{Blocks, Frame, Next};

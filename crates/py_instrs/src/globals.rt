@@ -2,13 +2,15 @@
 ghost use Rattle.std.specs.Prelude.{◌≡◌, IfOk};
 ghost use Rattle.py_data.specs.Sense.{Meets, Safe, IsLive};
 ghost use Rattle.obj_class.specs.AttrRows.{held_row};
-ghost use Rattle.py_frames.specs.GlobalRows.{bound_row, clear_cell_row, cleared_row, del_global_row, del_name_row, drop_name_row, gone_row, load_cell_row, load_global_row, load_name_row, name_fault, named_row, outer_row, own_or_outer, put_name_row, set_cell_row, store_global_row, store_name_row, unbound_row};
+ghost use Rattle.py_frames.specs.GlobalRows.{bound_row, builtin_named, cell_number, clear_cell_row, cleared_row, del_global_row, del_name_row, drop_name_row, gone_row, load_cell_row, load_global_row, load_name_row, name_fault, named_row, outer_row, own_or_outer, put_name_row, set_cell_row, store_global_row, store_name_row, unbound_row};
 ghost use Rattle.py_frames.specs.Raising.{raise_row};
 
-use crate::inherited::held;
+use crate::builtins::builtin_named;
 use crate::locals::const_row;
+use crate::programs::cell_number;
 use crate::raising::{done, pass, place_in, push, raise_row};
-use py_code::Constant;
+use obj_class::held;
+use py_code::{Constant, Program};
 use py_data::exception::NAME_ERROR;
 use py_data::{Addr, Bytes, Fault, Got, NoMemory, Stop, Value, View, With, look};
 use py_frames::Next;
@@ -62,22 +64,39 @@ fn unbound_row<S, V: View<S>>(
     }
 }
 
-/// Pushes what the cell of a name holds, or else its builtin.
+/// Pushes the builtin that stands for a name, if there is one.
+#[tactic(auto, using(py_data::proofs::Rows::row_steps))]
+fn named_builtin<S, V: View<S>>(
+    alloc: Global,
+    v: &mut V,
+    roots: Addr,
+    p: &Program,
+    name: &[u8],
+) -> Result<Next, Stop>
+    requires live { IsLive V.sense v.old }
+    requires safe { Safe V.sense.partial (unbound_row {S = S} roots.0 name.now (builtin_named p.now name.now)) (V.sense.heap v.old) }
+    ensures { Meets V.sense (unbound_row roots.0 name.now (builtin_named p.now name.now)) v.old v.new result }
+{
+    let o = builtin_named(p, name)?;
+    unbound_row(alloc, v, roots, name, o)
+}
+
+/// Pushes what the cell of a name holds, or else the builtin of that name.
 #[tactic(auto, using(py_data::proofs::Rows::row_steps), unfolding(py_frames::specs::GlobalRows::bound_row))]
 fn bound_row<S, V: View<S>>(
     alloc: Global,
     v: &mut V,
     roots: Addr,
+    p: &Program,
     name: &[u8],
-    o: Option<Constant>,
     x: Value,
 ) -> Result<Next, Stop>
     requires live { IsLive V.sense v.old }
-    requires safe { Safe V.sense.partial (bound_row {S = S} roots.0 name.now o x) (V.sense.heap v.old) }
-    ensures { Meets V.sense (bound_row roots.0 name.now o x) v.old v.new result }
+    requires safe { Safe V.sense.partial (bound_row {S = S} roots.0 name.now (builtin_named p.now name.now) x) (V.sense.heap v.old) }
+    ensures { Meets V.sense (bound_row roots.0 name.now (builtin_named p.now name.now) x) v.old v.new result }
 {
     match x {
-        Value::Unset => unbound_row(alloc, v, roots, name, o),
+        Value::Unset => named_builtin(alloc, v, roots, p, name),
         _ => Ok(push(alloc, x)?),
     }
 }
@@ -88,34 +107,35 @@ fn load_cell_row<S, V: View<S>>(
     alloc: Global,
     v: &mut V,
     roots: Addr,
+    p: &Program,
     name: &[u8],
-    o: Option<Constant>,
     a: Addr,
 ) -> Result<Next, Stop>
     requires live { IsLive V.sense v.old }
-    requires safe { Safe V.sense.partial (load_cell_row {S = S} roots.0 name.now o a.0) (V.sense.heap v.old) }
-    ensures { Meets V.sense (load_cell_row roots.0 name.now o a.0) v.old v.new result }
+    requires safe { Safe V.sense.partial (load_cell_row {S = S} roots.0 name.now (builtin_named p.now name.now) a.0) (V.sense.heap v.old) }
+    ensures { Meets V.sense (load_cell_row roots.0 name.now (builtin_named p.now name.now) a.0) v.old v.new result }
 {
     let x = look(v, a, 0)?;
-    bound_row(alloc, v, roots, name, o, x)
+    bound_row(alloc, v, roots, p, name, x)
 }
 
-/// LOAD_GLOBAL, of the cell that is the root of number `g`, of that name, where `o` is the builtin of the name.
+/// LOAD_GLOBAL, of the cell that is the root of number `g`, of that name. Only where the cell holds nothing the program's
+/// builtins are looked through.
 #[tactic(auto, using(py_data::proofs::Rows::row_steps, py_data::proofs::Steps::call_steps), unfolding(py_frames::specs::GlobalRows::load_global_row))]
 pub fn load_global_row<S, V: View<S>>(
     alloc: Global,
     v: &mut V,
     roots: Addr,
+    p: &Program,
     g: u32,
     name: &[u8],
-    o: Option<Constant>,
 ) -> Result<Next, Stop>
     requires live { IsLive V.sense v.old }
-    requires safe { Safe V.sense.partial (load_global_row {S = S} roots.0 g name.now o) (V.sense.heap v.old) }
-    ensures { Meets V.sense (load_global_row roots.0 g name.now o) v.old v.new result }
+    requires safe { Safe V.sense.partial (load_global_row {S = S} roots.0 g name.now (builtin_named p.now name.now)) (V.sense.heap v.old) }
+    ensures { Meets V.sense (load_global_row roots.0 g name.now (builtin_named p.now name.now)) v.old v.new result }
 {
     let cell = look(v, roots, g as usize)?;
-    load_cell_row(alloc, v, roots, name, o, place_in(cell))
+    load_cell_row(alloc, v, roots, p, name, place_in(cell))
 }
 
 /// Puts a value into a cell.
@@ -200,24 +220,41 @@ pub fn del_global_row<S, V: View<S>>(
     clear_cell_row(alloc, v, roots, name, place_in(cell))
 }
 
-/// Pushes the global of a name, whose cell's number is `g`, if it has one.
+/// Pushes the global of a name, whose cell's number is `g`, if it has one, or else the builtin of that name.
 #[tactic(auto, using(py_data::proofs::Rows::row_steps), unfolding(py_frames::specs::GlobalRows::outer_row))]
 fn outer_row<S, V: View<S>>(
     alloc: Global,
     v: &mut V,
     roots: Addr,
+    p: &Program,
     name: &[u8],
-    o: Option<Constant>,
     g: Option<u32>,
 ) -> Result<Next, Stop>
     requires live { IsLive V.sense v.old }
-    requires safe { Safe V.sense.partial (outer_row {S = S} roots.0 name.now o g) (V.sense.heap v.old) }
-    ensures { Meets V.sense (outer_row roots.0 name.now o g) v.old v.new result }
+    requires safe { Safe V.sense.partial (outer_row {S = S} roots.0 name.now (builtin_named p.now name.now) g) (V.sense.heap v.old) }
+    ensures { Meets V.sense (outer_row roots.0 name.now (builtin_named p.now name.now) g) v.old v.new result }
 {
     match g {
-        Some(g) => load_global_row(alloc, v, roots, g, name, o),
-        None => unbound_row(alloc, v, roots, name, o),
+        Some(g) => load_global_row(alloc, v, roots, p, g, name),
+        None => named_builtin(alloc, v, roots, p, name),
     }
+}
+
+/// The same, where the cell is looked for.
+#[tactic(auto, using(py_data::proofs::Rows::row_steps))]
+fn global_row<S, V: View<S>>(
+    alloc: Global,
+    v: &mut V,
+    roots: Addr,
+    p: &Program,
+    name: &[u8],
+) -> Result<Next, Stop>
+    requires live { IsLive V.sense v.old }
+    requires safe { Safe V.sense.partial (outer_row {S = S} roots.0 name.now (builtin_named p.now name.now) (cell_number p.now name.now)) (V.sense.heap v.old) }
+    ensures { Meets V.sense (outer_row roots.0 name.now (builtin_named p.now name.now) (cell_number p.now name.now)) v.old v.new result }
+{
+    let g = cell_number(p, name)?;
+    outer_row(alloc, v, roots, p, name, g)
 }
 
 /// Pushes what a class body has for a name, or else the global.
@@ -226,18 +263,17 @@ fn named_row<S, V: View<S>>(
     alloc: Global,
     v: &mut V,
     roots: Addr,
+    p: &Program,
     name: &[u8],
-    o: Option<Constant>,
-    g: Option<u32>,
     x: Option<Value>,
 ) -> Result<Next, Stop>
     requires live { IsLive V.sense v.old }
-    requires safe { Safe V.sense.partial (named_row {S = S} roots.0 name.now o g x) (V.sense.heap v.old) }
-    ensures { Meets V.sense (named_row roots.0 name.now o g x) v.old v.new result }
+    requires safe { Safe V.sense.partial (named_row {S = S} roots.0 name.now (builtin_named p.now name.now) (cell_number p.now name.now) x) (V.sense.heap v.old) }
+    ensures { Meets V.sense (named_row roots.0 name.now (builtin_named p.now name.now) (cell_number p.now name.now) x) v.old v.new result }
 {
     match x {
         Some(x) => Ok(push(alloc, x)?),
-        None => outer_row(alloc, v, roots, name, o, g),
+        None => global_row(alloc, v, roots, p, name),
     }
 }
 
@@ -247,39 +283,37 @@ fn own_or_outer<S, V: View<S>>(
     alloc: Global,
     v: &mut V,
     roots: Addr,
+    p: &Program,
     d: Addr,
     name: &[u8],
-    o: Option<Constant>,
-    g: Option<u32>,
     key: Value,
 ) -> Result<Next, Stop>
     requires live { IsLive V.sense v.old }
-    requires safe { Safe V.sense.partial (own_or_outer {S = S} roots.0 d.0 name.now o g key) (V.sense.heap v.old) }
-    ensures { Meets V.sense (own_or_outer roots.0 d.0 name.now o g key) v.old v.new result }
+    requires safe { Safe V.sense.partial (own_or_outer {S = S} roots.0 d.0 name.now (builtin_named p.now name.now) (cell_number p.now name.now) key) (V.sense.heap v.old) }
+    ensures { Meets V.sense (own_or_outer roots.0 d.0 name.now (builtin_named p.now name.now) (cell_number p.now name.now) key) v.old v.new result }
 {
     let x = held(v, d, key)?;
-    named_row(alloc, v, roots, name, o, g, x)
+    named_row(alloc, v, roots, p, name, x)
 }
 
 /// LOAD_NAME, of the name that is the root of number `n`, in the dictionary `d` of a class body: where it hasn't the name,
-/// the global whose cell's number is `g`, or else the builtin `o`.
+/// the program's global of that name, or else the builtin.
 #[tactic(auto, using(py_data::proofs::Rows::row_steps, py_data::proofs::Steps::call_steps), unfolding(py_frames::specs::GlobalRows::load_name_row))]
 pub fn load_name_row<S, V: View<S>>(
     alloc: Global,
     v: &mut V,
     roots: Addr,
+    p: &Program,
     d: Addr,
     n: u32,
     name: &[u8],
-    o: Option<Constant>,
-    g: Option<u32>,
 ) -> Result<Next, Stop>
     requires live { IsLive V.sense v.old }
-    requires safe { Safe V.sense.partial (load_name_row {S = S} roots.0 d.0 n name.now o g) (V.sense.heap v.old) }
-    ensures { Meets V.sense (load_name_row roots.0 d.0 n name.now o g) v.old v.new result }
+    requires safe { Safe V.sense.partial (load_name_row {S = S} roots.0 d.0 n name.now (builtin_named p.now name.now) (cell_number p.now name.now)) (V.sense.heap v.old) }
+    ensures { Meets V.sense (load_name_row roots.0 d.0 n name.now (builtin_named p.now name.now) (cell_number p.now name.now)) v.old v.new result }
 {
     let key = look(v, roots, n as usize)?;
-    own_or_outer(alloc, v, roots, d, name, o, g, key)
+    own_or_outer(alloc, v, roots, p, d, name, key)
 }
 
 /// Puts a value under a key into the dictionary of a class body.

@@ -4,16 +4,15 @@
 mod attributes;
 mod binding;
 mod builds;
+mod builtins;
 mod calls;
 mod class_calls;
 mod functions;
 mod globals;
-mod inherited;
 mod instances;
 mod items;
 mod locals;
 mod made_raised;
-mod making;
 mod named;
 mod operators;
 mod prints;
@@ -34,11 +33,14 @@ pub use globals::{
 pub use items::{del_item_instr, load_item_row, slice_instr, store_item_row};
 pub use locals::{const_row, del_local_row, load_local_row};
 pub use made_raised::{made_alone, made_valued};
+pub use named::{push_unset, value_or_unset};
 pub use operators::{
     binary_instr, compare_instr, in_place_instr, jump_false_row, keep_false_row, keep_true_row,
     not_row, unary_instr,
 };
 pub use prints::{dying_row, print_item_row, print_newline_row};
+pub use programs::{code_name, keys_at, root_name, slot_name, slots_at};
 pub use raises::{exc_match_row, raise_value};
+pub use raising::{pass, push_two, raise_operand};
 pub use setup::setup_row;
 pub use site::{Given, Site};

@@ -5,7 +5,8 @@ ghost use Rattle.py_base.specs.Numbers.{binary_signs, compare_signs, unary_signs
 ghost use Rattle.py_data.specs.Sense.{Meets, Safe, IsLive};
 ghost use Rattle.py_frames.specs.OperatorRows as rows;
 
-use crate::raising::{give, one};
+use crate::raising::give;
+use obj_class::one;
 use obj_ops::{binary, compare, in_place, truth, unary};
 use py_data::{Addr, Stop, Value, Values, View};
 use py_frames::Next;

@@ -5,7 +5,7 @@ ghost use Rattle.py_data.specs.Sense.{Meets, Safe, IsLive};
 ghost use Rattle.py_frames.specs.declared.next.Next.TheVariants.{Goes};
 ghost use Rattle.py_frames.specs.Raising.{base_fault, done, fail_row, give, place_in, raise_row, raised_fault, values_row};
 
-use obj_class::make_fault;
+use obj_class::{make_fault, one};
 use obj_ops::values_of;
 use py_data::exception::{MEMORY_ERROR, RUNTIME_ERROR, TYPE_ERROR};
 use py_data::{Addr, Bytes, Fault, Got, NoMemory, Stop, Value, Values, View, With};
@@ -20,15 +20,6 @@ pub fn place_in(x: Value) -> Addr
         Value::Ref(a) => a,
         _ => Addr(0),
     }
-}
-
-/// The one value as a list.
-pub fn one(alloc: Global, x: Value) -> Result<Values, NoMemory>
-    ensures { IfOk result (λ vs. vs ≡ x ∷ []) }
-{
-    let mut values = Values::new(alloc);
-    values.push(x)?;
-    Ok(values)
 }
 
 /// A value is pushed.

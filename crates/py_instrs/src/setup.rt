@@ -1,101 +1,14 @@
 //! SETUP, which makes the roots of a program.
-ghost use Rattle.std.specs.Prelude.{◌≡◌, ◌++◌, ◌∷◌, [], IfOk, get_or};
-ghost use Rattle.py_base.specs.Numbers.{class_names, class_number};
-ghost use Rattle.py_data.specs.Heap.{value_at};
+ghost use Rattle.std.specs.Prelude.{◌≡◌, []};
 ghost use Rattle.py_data.specs.Sense.{Meets, Safe, IsLive};
-ghost use Rattle.obj_class.specs.Roots.{base_names, own_name, root_base};
 ghost use Rattle.py_frames.specs.SetupRows.{begun_row, cell_start, class_dict, class_root, named_class, root_by, roots_row, setup_row};
 
-use crate::making::{make_record, make_text, three};
-use crate::raising::one;
-use py_base::{class_name, split};
+use obj_class::{make_record, make_text, one, own_name, root_base, three};
+use py_base::split;
 use py_code::{Program, Root};
-use py_data::exception::{
-    ARITHMETIC_ERROR, BASE_EXCEPTION, EXCEPTION, LOOKUP_ERROR, NAME_ERROR, OBJECT, STANDARD_ERROR,
-    THREAD_ERROR,
-};
-use py_data::{Bytes, Kind, NoMemory, Record, Stop, Value, Values, View};
+use py_data::{Bytes, Kind, Record, Stop, Value, Values, View};
 use py_frames::Next;
 use std::alloc::Global;
-
-/// The number of the base of each class, in the order of the classes' numbers; `object` has none.
-const BASES: [u8; 20] = [
-    OBJECT,
-    OBJECT,
-    BASE_EXCEPTION,
-    EXCEPTION,
-    STANDARD_ERROR,
-    STANDARD_ERROR,
-    STANDARD_ERROR,
-    STANDARD_ERROR,
-    STANDARD_ERROR,
-    STANDARD_ERROR,
-    STANDARD_ERROR,
-    STANDARD_ERROR,
-    STANDARD_ERROR,
-    STANDARD_ERROR,
-    ARITHMETIC_ERROR,
-    ARITHMETIC_ERROR,
-    LOOKUP_ERROR,
-    LOOKUP_ERROR,
-    NAME_ERROR,
-    EXCEPTION,
-];
-
-/// The name of a class.
-fn name_of(n: u8) -> &'static [u8]
-    ensures { result.now ≡ get_or class_names n [] }
-{
-    match class_name(n) {
-        Some(name) => name,
-        None => b"",
-    }
-}
-
-/// The name that a class has itself.
-fn own_name(n: u8) -> &'static [u8]
-    ensures { result.now ≡ own_name n }
-{
-    if n == THREAD_ERROR {
-        b"error"
-    } else {
-        name_of(n)
-    }
-}
-
-/// The number of a class's base, and 0 for a number that no class has.
-fn base_number(n: u8) -> u8
-    ensures { result ≡ class_number (get_or base_names n []) }
-{
-    if (n as usize) < BASES.len() {
-        BASES[n as usize]
-    } else {
-        OBJECT
-    }
-}
-
-/// The value at a place; Unset where there is none.
-#[tactic(auto, using(py_data::proofs::Looked::value_past))]
-fn value_at(values: &Values, i: usize) -> Value
-    ensures { result ≡ value_at values.now i }
-{
-    if i < values.len() {
-        values.at(i)
-    } else {
-        Value::Unset
-    }
-}
-
-/// The base of a class, among the roots before it.
-fn root_base(values: &Values, n: u8) -> Value
-    ensures { result ≡ root_base values.now n }
-{
-    if n == OBJECT {
-        Value::None
-    } else {
-        value_at(values, 1 + base_number(n) as usize)
-    }
-}
 
 /// Makes a class without attributes, whose name and Dict are at hand.
 #[tactic(auto, using(py_data::proofs::Rows::row_steps, py_data::proofs::Steps::call_steps), unfolding(py_frames::specs::SetupRows::named_class))]

@@ -5,8 +5,9 @@ ghost use Rattle.py_frames.specs.Binding as binding;
 ghost use Rattle.py_frames.specs.CallRows as call_rows;
 
 use crate::binding::{bound_row, count_in};
-use crate::raising::{one, place_in, raise_row, values_row};
+use crate::raising::{place_in, raise_row, values_row};
 use crate::site::{Given, Site, with_first};
+use obj_class::one;
 use py_data::{Addr, Got, Kind, NoMemory, Stop, Value, View, kind, look};
 use py_frames::{Frame, Next};
 use py_states::ThreadState;

@@ -1,4 +1,4 @@
-use Rattle.obj_class.proofs.Held.{class_holds}
+use Rattle.obj_class.proofs.ClassHolds.{class_holds}
 use Rattle.obj_class.proofs.Steadily.{class_steady}
 use Rattle.obj_class.proofs.laws.holds_law.Goals as goal
 

@@ -4,7 +4,7 @@ use Rattle.py_data.proofs.Steps.{stop-as, leads-begin}
 use Rattle.py_data.proofs.Turns.{walk_safe, walk_stop, walk_more, walk_done, walk_end}
 use Rattle.obj_class.specs.Bases.{MOST_BASES}
 use Rattle.obj_class.specs.AttrRows.{heir_step, inherited_row}
-use Rattle.py_instrs.proofs.inherited.inherited.Goals as goal
+use Rattle.obj_class.proofs.inheritance.inherited.Goals as goal
 
 pub turns-init : goal.turns-init
 unfolding inherited_row

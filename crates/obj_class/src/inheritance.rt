@@ -7,7 +7,7 @@ use py_data::{Addr, Stop, Value, View, look};
 
 /// What a dictionary has for a key that is a string.
 #[tactic(auto, using(py_data::proofs::Rows::row_steps), unfolding(crate::specs::AttrRows::held_row, crate::specs::AttrRows::pair_row))]
-fn held<S, V: View<S>>(v: &mut V, d: Addr, key: Value) -> Result<Option<Value>, Stop>
+pub fn held<S, V: View<S>>(v: &mut V, d: Addr, key: Value) -> Result<Option<Value>, Stop>
     requires live { IsLive V.sense v.old }
     requires safe { Safe V.sense.partial (held_row {S = S} d.0 key) (V.sense.heap v.old) }
     ensures { Meets V.sense (held_row d.0 key) v.old v.new result }
