@@ -1,0 +1,108 @@
+-- Steps of a thread, by the instruction at hand.
+use Rattle.std.proofs.Common.{arith, ◌≡◌, ℕ, ◌<◌, List, [], ◌∷◌, length, drop, Option, Some, None, Ok, Err, refl, sym, ap, subst, ◌∙◌}
+use Rattle.py_data.specs.declared.stop.Stop.{Stop}
+use Rattle.py_data.specs.declared.stop.Stop.TheVariants.{OutOfMemory}
+use Rattle.py_data.specs.Heap.{Heap}
+use Rattle.py_data.specs.Row.{Row, Ret, bind}
+use Rattle.py_data.specs.Sense.{Sense, Safe, Run, Stopped, Meets}
+use Rattle.py_data.proofs.Rows.{run-ret, run-bind, own-memory, stop-first, stop-then}
+use Rattle.py_data.proofs.Steps.{safe-first}
+use Rattle.py_code.specs.declared.instr.Instr.{Instr}
+use Rattle.py_code.specs.declared.program.Program.{Program}
+use Rattle.lock_run.specs.declared.client.Outcome.{Outcome}
+use Rattle.lock_run.specs.declared.client.Outcome.TheVariants.{Ended}
+use Rattle.lock_run.specs.declared.client.Life.TheVariants.{Lives, Failed, Ended as HasEnded}
+use Rattle.py_frames.specs.declared.state.Dying.{Dying}
+use Rattle.py_frames.specs.declared.state.Frame.{Frame}
+use Rattle.py_frames.specs.declared.next.Next.{Next}
+use Rattle.py_frames.specs.PrintRows.{dying_row}
+use Rattle.py_frames.specs.Raising.{place_of}
+use Rattle.py_frames.specs.State.{State, instr_at, life_by, life_of, pops, operands, settled, with_frames}
+use Rattle.py_frames.specs.Steps.{guarded_row, site_of, step_at, step_by, step_row}
+use Rattle.py_states.specs.Innermost.{innermost, settled_in, Settles}
+use Rattle.py_states.proofs.Running.{there_is, settled_there}
+use Rattle.py_step.specs.Moves.{Moves, dying_step}
+use Rattle.py_step.specs.Operators.{HasOperator, IsOperable}
+
+-- ---- a thread that lives has a frame
+
+has_frame : (d : Option Dying) (fs : List Frame) → life_by d fs ≡ Lives → 0 < length fs
+has_frame d (f ∷ fs) e = omega arith
+has_frame (Some x) [] e = absurd (let q : Failed ≡ Lives = e in cc)
+has_frame None [] e = absurd (let q : HasEnded ≡ Lives = e in cc)
+
+pub lives_in_frame : (s : State) → life_of s ≡ Lives → 0 < length s.frames
+lives_in_frame s l = has_frame s.dying s.frames l
+
+pub frames_are : (s : State) → life_of s ≡ Lives → s.frames ≡ innermost s.frames ∷ drop 1 s.frames
+frames_are s l = there_is s.frames (lives_in_frame s l)
+
+-- ---- which row its step has
+
+pub dying_is : (p : Program) (s : State) (d : Dying) → life_of s ≡ Lives → s.dying ≡ Some d → step_row p s ≡ dying_step s d
+unfolding step_row step_by
+dying_is p s d l e = ap (λ o. step_by p s o s.frames) e ∙ ap (step_by p s (Some d)) (frames_are s l)
+
+pub at_is : (p : Program) (s : State) (o : Option Instr) → life_of s ≡ Lives → s.dying ≡ None → instr_at p (innermost s.frames) ≡ o → step_row p s ≡ step_at p s (innermost s.frames) (drop 1 s.frames) o
+unfolding step_row step_by
+at_is p s o l e at =
+    ap (λ d. step_by p s d s.frames) e
+    ∙ ap (step_by p s None) (frames_are s l)
+    ∙ ap (step_at p s (innermost s.frames) (drop 1 s.frames)) at
+
+pub operator_here : (p : Program) (s : State) (i : Instr) → IsOperable p s → life_of s ≡ Lives → s.dying ≡ None → instr_at p (innermost s.frames) ≡ Some i → HasOperator i
+operator_here p s i o l e at = o.each (innermost s.frames) (drop 1 s.frames) i e (frames_are s l) at
+
+module _ {X : Type 0} (u : Sense State X) (p : Program) (s : State) where
+  pub over : (f : Frame) (fs : List Frame) (v : X) → Run u (step_at p s f fs None) v (Ended, with_frames s []) v
+  unfolding step_at
+  over f fs v = run-ret u (Ended, with_frames s []) v
+
+  -- ---- an instruction that takes n operands
+  module _ (f : Frame) (fs : List Frame) (i : Instr) (n : ℕ) (e : n ≡ pops p f i) where
+    abbrev part : Row State Next
+    part = guarded_row (site_of p s fs) f (operands n f) i
+
+    abbrev rest : Next → Row State (Outcome × State)
+    rest next = Ret (settled p s n f fs next)
+
+    whole : step_at p s f fs (Some i) ≡ bind part rest
+    unfolding step_at
+    whole = ap (λ m. bind (guarded_row (site_of p s fs) f (operands m f) i) (λ next. Ret (settled p s m f fs next))) (sym e)
+
+    pub part_safe : (h : Heap) → Safe u.partial (step_at p s f fs (Some i)) h → Safe u.partial part h
+    part_safe h z = safe-first u.partial part rest h (subst (λ r. Safe u.partial r h) whole z)
+
+    pub stopped_within : (v w : X) (x : Stop) → Meets u part v w (Err x) → Stopped u (step_at p s f fs (Some i)) v x w
+    unfolding Meets
+    stopped_within v w x m = subst (λ r. Stopped u r v x w) (sym whole) (stop-first u part rest v w x m)
+
+    pub stopped_behind : (v w : X) (next : Next) → Meets u part v w (Ok next) → Stopped u (step_at p s f fs (Some i)) v OutOfMemory w
+    unfolding Meets
+    stopped_behind v w next m = subst (λ r. Stopped u r v OutOfMemory w) (sym whole) (stop-then u part rest v w w next OutOfMemory m (own-memory u (rest next) w))
+
+    pub settled_so : (v w : X) (next : Next) (z : Outcome × State) → Meets u part v w (Ok next) → z ≡ settled p s n f fs next → Run u (step_at p s f fs (Some i)) v z w
+    unfolding Meets
+    settled_so v w next z m q =
+        subst (λ r. Run u r v z w) (sym whole)
+        (run-bind u part rest v w w next z m (subst (λ y. Run u (rest next) w y w) (sym q) (run-ret u (settled p s n f fs next) w)))
+
+  -- the state's own frames
+  pub settled_is : (n : ℕ) (next : Next) (o : Outcome) (t : State) → 0 < length s.frames → Settles (settled_in p s n next s.frames) o t
+      → ◌≡◌ {A = Outcome × State} (o, t) (settled p s n (innermost s.frames) (drop 1 s.frames) next)
+  settled_is n next o t l q = q ∙ settled_there p s n next (innermost s.frames) (drop 1 s.frames) (there_is s.frames l)
+
+  -- ---- a thread that dies
+  abbrev last : Unit {0} → Row State (Outcome × State)
+  last u = Ret (Ended, with_frames s [])
+
+  pub words_safe : (d : Dying) (h : Heap) → Safe u.partial (dying_step s d) h → Safe u.partial (dying_row (place_of s.roots) s.number s.thread d) h
+  words_safe d h z = safe-first u.partial (dying_row (place_of s.roots) s.number s.thread d) last h z
+
+  pub words_stopped : (d : Dying) (v w : X) (x : Stop) → Meets u (dying_row (place_of s.roots) s.number s.thread d) v w (Err x) → Stopped u (dying_step s d) v x w
+  unfolding Meets
+  words_stopped d v w x m = stop-first u (dying_row (place_of s.roots) s.number s.thread d) last v w x m
+
+  pub words_said : (d : Dying) (v w : X) → Meets u (dying_row (place_of s.roots) s.number s.thread d) v w (Ok tt) → Run u (dying_step s d) v (Ended, with_frames s []) w
+  unfolding Meets
+  words_said d v w m = run-bind u (dying_row (place_of s.roots) s.number s.thread d) last v w w tt (Ended, with_frames s []) m (run-ret u (Ended, with_frames s []) w)

@@ -1,0 +1,14 @@
+//! One step of a thread of a program, over any view, and programs as clients of a machine.
+#![tactic(auto)]
+
+mod blocked;
+mod client;
+mod guard;
+mod instrs;
+mod operands;
+mod place;
+mod step;
+
+pub use blocked::would_wait;
+pub use client::PyClient;
+pub use step::step_row;
