@@ -1,12 +1,6 @@
-pub mod LineItems
-pub mod LineNames
-pub mod LineProducts
-pub mod LineSteps
-pub mod LineWords
-pub mod LineCells
-pub mod LinePrinting
-pub mod LineStepping
-pub mod Taking
-pub mod TurnsMade
-pub mod TopSteps
 mod OneAnswer
+pub mod RoundsMade
+pub mod Standings
+pub mod Taking
+pub mod TopSteps
+pub mod TurnTaken

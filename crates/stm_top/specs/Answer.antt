@@ -7,7 +7,7 @@ use Rattle.py_base.specs.Refusal.{refusal_number, refusal_line}
 use Rattle.stm_top.specs.declared.status.Status.{Status}
 use Rattle.stm_top.specs.declared.status.Status.TheVariants.{Done, Failed, Usage, Refused, LoaderFailed, InputFailed, OutputFailed, ErrorOutputFailed, HeapFull, Stuck, BudgetSpent, OutOfMemory, ScriptTooLong}
 use Rattle.stm_top.specs.declared.answer.Answer.{Answer}
-use Rattle.stm_top.specs.declared.answer.Answer.TheVariants.{Done as IsDone, Usage as IsUsage, Refused as IsRefused, NotBuilt, InputFailed as IsInputFailed, OutputFailed as IsOutputFailed, OutOfMemory as IsOutOfMemory, ScriptTooLong as IsScriptTooLong}
+use Rattle.stm_top.specs.declared.answer.Answer.TheVariants.{Done as IsDone, Failed as HasFailed, Usage as IsUsage, Refused as IsRefused, InputFailed as IsInputFailed, OutputFailed as IsOutputFailed, ErrorOutputFailed as IsErrorOutputFailed, Stuck as IsStuck, BudgetSpent as IsBudgetSpent, OutOfMemory as IsOutOfMemory, ScriptTooLong as IsScriptTooLong}
 
 -- the exit status
 abbrev pub number_of : Status → ℕ
@@ -27,11 +27,14 @@ number_of ScriptTooLong = 12
 
 abbrev pub status_of : Answer → Status
 status_of IsDone = Done
+status_of HasFailed = Failed
 status_of IsUsage = Usage
 status_of (IsRefused refusal) = Refused
-status_of (NotBuilt line) = Refused
 status_of IsInputFailed = InputFailed
 status_of IsOutputFailed = OutputFailed
+status_of IsErrorOutputFailed = ErrorOutputFailed
+status_of IsStuck = Stuck
+status_of (IsBudgetSpent steps) = BudgetSpent
 status_of IsOutOfMemory = OutOfMemory
 status_of IsScriptTooLong = ScriptTooLong
 
@@ -49,17 +52,24 @@ refusal_name (Closure line) = codes "closure"
 refusal_name (TooLarge line) = codes "too large"
 refusal_name (BadEscape line) = codes "bad escape"
 
-abbrev pub refusal_text : (line number : ℕ) → List ℕ → List ℕ
-refusal_text line number name = codes "pystm: line " ++ signed_decimal (pos line) ++ codes ": refusal " ++ signed_decimal (pos number) ++ codes ": " ++ name ++ codes "\n"
+abbrev pub refusal_text : Refusal → List ℕ
+refusal_text refusal =
+    codes "pystm: line " ++ signed_decimal (pos (refusal_line refusal)) ++ codes ": refusal " ++ signed_decimal (pos (refusal_number refusal)) ++ codes ": " ++ refusal_name refusal ++ codes "\n"
+
+abbrev pub spent_text : ℕ → List ℕ
+spent_text steps = codes "pystm: budget spent: " ++ signed_decimal (pos steps) ++ codes " steps\n"
 
 -- what it writes to the error output: a line, or nothing
 abbrev pub text_of : Answer → List ℕ
 text_of IsDone = []
+text_of HasFailed = []
 text_of IsUsage = codes "pystm: usage: pystm [--segments N] [--length N] [--pages N] [--budget N] FILE, - or --demo N\n"
-text_of (IsRefused refusal) = refusal_text (refusal_line refusal) (refusal_number refusal) (refusal_name refusal)
-text_of (NotBuilt line) = refusal_text line 13 (codes "not built")
+text_of (IsRefused refusal) = refusal_text refusal
 text_of IsInputFailed = codes "pystm: cannot read the input\n"
 text_of IsOutputFailed = codes "pystm: cannot write the output\n"
+text_of IsErrorOutputFailed = []
+text_of IsStuck = codes "pystm: stuck\n"
+text_of (IsBudgetSpent steps) = spent_text steps
 text_of IsOutOfMemory = codes "pystm: out of memory\n"
 text_of IsScriptTooLong = codes "pystm: script longer than 4194304 bytes\n"
 

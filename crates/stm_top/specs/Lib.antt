@@ -1,12 +1,7 @@
-pub mod LineForm
-pub mod LineSound
-pub mod LineText
-pub mod LineRun
-pub mod LineStand
-pub mod LineClient
-pub mod LineLaws
-pub mod LineSafe
-pub mod Script
 pub mod Answer
+pub mod Ending
+pub mod Rounds
+pub mod Script
+pub mod Serial
 pub mod TextCode
 pub mod TopCall

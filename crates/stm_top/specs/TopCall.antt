@@ -1,32 +1,21 @@
 -- What the top call does, and why it answers as it does. States `docs/LANGUAGE.md`, "The top call".
 use Rattle.std.specs.String.{string_bytes}
-use Rattle.std.specs.Prelude.{◌≡◌, ◌≢◌, ◌⊎◌, String, ℕ, map, List, [], ◌∷◌, ◌++◌, Option, Result, Ok, Err, Bool, false, codes}
+use Rattle.std.specs.Prelude.{◌≡◌, ◌⊎◌, String, ℕ, map, List, [], ◌∷◌, Option, Result, Bool, true, false, codes}
 use Rattle.std.specs.Str.{bytes_eq}
-use Rattle.py_data.specs.declared.stop.Out.TheVariants.{Output}
-use Rattle.py_data.specs.Row.{Row}
-use Rattle.py_data.specs.Sense.{Upto}
-use Rattle.py_data.specs.Sight.{Sight, opened, pure}
-use Rattle.py_data.specs.World.{grown}
+use Rattle.py_data.specs.declared.stop.Conflict.{Conflict}
+use Rattle.py_base.specs.declared.refusal.Refusal.{Refusal}
 use Rattle.stm_io.specs.declared.error.PutError.{PutError}
 use Rattle.stm_io.specs.Outside.{SourceState, SinkState, Rose, Puts, PutCause}
-use Rattle.lock_run.specs.declared.client.Outcome.{Outcome}
-use Rattle.lock_run.specs.declared.client.Life.TheVariants.{Lives}
 use Rattle.lock_run.specs.declared.turn.Turn.{Turn}
-use Rattle.lock_run.specs.LockState.{first_world}
-use Rattle.lock_run.specs.Machine.{Machine, Runs, begin_with}
-use Rattle.lock_run.specs.Turns.{Front}
-use Rattle.stm_top.specs.declared.answer.Answer.{Answer}
-use Rattle.stm_top.specs.declared.answer.Answer.TheVariants.{Done, Usage, Refused, NotBuilt, InputFailed, OutputFailed, OutOfMemory, ScriptTooLong}
+use Rattle.lock_run.specs.declared.turn.TurnWhy.TheVariants.{ReadFault, WriteFault, ErrFault}
+use Rattle.lock_run.specs.Prog.{Prog}
+use Rattle.lock_run.specs.RunState.{steps_done, SomeLives, IsDone, IsStuck, IsSpent}
 use Rattle.stm_top.specs.declared.status.Status.{Status}
-use Rattle.stm_top.specs.declared.line_form.LineProgram.{LineProgram}
-use Rattle.stm_top.specs.declared.line_run.LineState.{LineState}
+use Rattle.stm_top.specs.declared.answer.Answer.{Answer}
+use Rattle.stm_top.specs.declared.answer.Answer.TheVariants.{Done, Failed, Usage, Refused, InputFailed, OutputFailed, ErrorOutputFailed, Stuck, BudgetSpent, OutOfMemory, ScriptTooLong}
 use Rattle.stm_top.specs.Answer.{status_of, IsText}
-use Rattle.stm_top.specs.LineForm.{program_of}
-use Rattle.stm_top.specs.LineRun.{line_row, line_prog}
-use Rattle.stm_top.specs.LineLaws.{PrintsNext}
-use Rattle.py_code.specs.declared.program.Program.{Program}
-use Rattle.stm_top.specs.TextCode.{HasCode, IsRefused}
 use Rattle.stm_top.specs.Script.{ScriptTaken, TooMuchTaken, TakingFailed}
+use Rattle.stm_top.specs.Serial.{Serial, IsWhole, IsCutBy, FirstFailed}
 
 -- the devices of a call, as far as they tell of themselves
 pub record Devices : Type 0 where
@@ -37,11 +26,20 @@ pub record Devices : Type 0 where
 abbrev pub devices_of : {I O E : Type 0} → (I → SourceState) → (O → SinkState) → (E → SinkState) → I → O → E → Devices
 devices_of source sink error_sink input out err = record { input = source input; out = sink out; err = error_sink err }
 
--- the words by which a script comes from the source
-abbrev pub source_words : List (List ℕ)
-source_words = codes "-" ∷ []
+-- what a call reports beside its status and its text
+pub record Told : Type 0 where
+  pub history : List Turn
+  pub conflicts : List Conflict
 
--- whether they are these words
+-- the most steps of a turn
+abbrev pub turn_length : ℕ
+turn_length = 1
+
+-- how many steps a run has
+abbrev pub step_budget : ℕ
+step_budget = 1000000
+
+-- whether the words are the one word by which a script comes from the source
 abbrev pub names_source : List (List ℕ) → Bool
 names_source [] = false
 names_source (word ∷ []) = bytes_eq word (codes "-")
@@ -51,96 +49,38 @@ names_source (word ∷ next ∷ words) = false
 abbrev pub bytes_of : {Z : Type 0} → List (String Z) → List (List ℕ)
 bytes_of words = map string_bytes words
 
--- ---- a run
--- The turns are a run of the one-lock machine, from m to `machine`. The output is that before, then the run's, and then a
--- front of what the next step writes: of that step's row `left` is left at `place`. The other devices are as they were.
-pub record Ran (p : LineProgram) (m : Machine LineState) (o e : Option (List ℕ)) (turns : List Turn) (input1 out1 err1 : Option (List ℕ)) : Type 0 where
-  pub machine : Machine LineState
-  pub runs : Runs (line_prog p) m turns machine
-  pub state : LineState
-  pub only : machine.threads ≡ state ∷ []
-  pub left : Row LineState (Outcome × LineState)
-  pub place : Sight LineState
-  pub upto : Upto pure (line_row p state) (opened LineState machine.heap machine.world) left place
-  pub more : List ℕ
-  pub front : Front left Output more
-  pub out : out1 ≡ grown o (place.world.out ++ more)
-  pub err : err1 ≡ e
-  pub input : input1 ≡ m.world.input
+-- ---- how a run came to its end
 
--- its thread has ended, and the output is that before and then the run's
-pub record RanWhole {p : LineProgram} {m : Machine LineState} {o e : Option (List ℕ)} {turns : List Turn} {input1 out1 err1 : Option (List ℕ)} (r : Ran p m o e turns input1 out1 err1) : Type 0 where
-  pub ended : (line_prog p).life r.state ≢ Lives
-  pub whole : out1 ≡ grown o r.machine.world.out
+-- how many failures each device has counted
+pub record Faults : Type 0 where
+  pub input : ℕ
+  pub out : ℕ
+  pub err : ℕ
 
--- the next step prints, and the output's count of faults rose
-pub record PrintFailed {p : LineProgram} {m : Machine LineState} {o e : Option (List ℕ)} {turns : List Turn} {input1 out1 err1 : Option (List ℕ)} (r : Ran p m o e turns input1 out1 err1) (faults faults1 : ℕ) : Type 0 where
-  pub prints : PrintsNext p r.state
-  pub rose : Rose faults faults1
+abbrev pub faults_of : Devices → Faults
+faults_of d = record { input = d.input.faults; out = d.out.faults; err = d.err.faults }
 
--- why turns of a machine came to an end
-abbrev pub TurnsEnd : Answer → {p : LineProgram} {m : Machine LineState} {o e : Option (List ℕ)} {turns : List Turn} {input1 out1 err1 : Option (List ℕ)} → Ran p m o e turns input1 out1 err1 → (faults faults1 : ℕ) → Type 0
-TurnsEnd Done r faults faults1 = RanWhole r
-TurnsEnd OutputFailed r faults faults1 = PrintFailed r faults faults1
-TurnsEnd OutOfMemory r faults faults1 = Unit {0}
-TurnsEnd _ r faults faults1 = ⊥
-
--- nothing ran, and nothing was written
-pub record NothingRan (a : Devices) (turns : List Turn) (b : Devices) : Type 0 where
-  pub turns_none : turns ≡ []
-  pub out : b.out ≡ a.out
-  pub err : b.err ≡ a.err
-
--- how a program came to its end: there was no memory for the machine, or it ran
-abbrev pub ProgramEnded : LineProgram → Devices → Answer → List Turn → Devices → Type 0
-ProgramEnded p a answer turns b =
-    (NothingRan a turns b × (answer ≡ OutOfMemory))
-    ⊎ ((r : Ran p (begin_with (line_prog p) (first_world a.input.told)) a.out.told a.err.told turns b.input.told b.out.told b.err.told) × TurnsEnd answer r a.out.faults b.out.faults)
-
--- ---- the script's text
--- it has a program
-abbrev pub IsCode : List ℕ → Type 0
-IsCode script = (code : Program) × HasCode script code
-
--- it has a program and the line form
-abbrev pub IsProgram : List ℕ → LineProgram → Type 0
-IsProgram script program = IsCode script × (program_of script ≡ Ok program)
-
--- why it is not run: it is refused, or it has a program and not the line form
-abbrev pub NoProgram : List ℕ → Answer → Type 0
-NoProgram script (Refused refusal) = IsRefused script refusal
-NoProgram script (NotBuilt line) = IsCode script × (program_of script ≡ Err line)
-NoProgram script OutOfMemory = Unit {0}
-NoProgram script _ = ⊥
+-- why it came to its end, with the counts of failures before it and after it
+abbrev pub RunEnded : {S : Type 0} {p : Prog S} {length : ℕ} {input out err : Option (List ℕ)} {history : List Turn} {conflicts : List Conflict} {input1 out1 err1 : Option (List ℕ)} → (budget : ℕ) → Answer → Faults → Faults
+    → Serial p length input out err history conflicts input1 out1 err1 → Type 0
+RunEnded {p = p} budget Done a b r = IsWhole r.ended × IsDone p r.machine × (FirstFailed p r.machine → ⊥)
+RunEnded {p = p} budget Failed a b r = IsWhole r.ended × IsDone p r.machine × FirstFailed p r.machine
+RunEnded budget InputFailed a b r = IsCutBy ReadFault r.ended × Rose a.input b.input
+RunEnded budget OutputFailed a b r = IsCutBy WriteFault r.ended × Rose a.out b.out
+RunEnded budget ErrorOutputFailed a b r = IsCutBy ErrFault r.ended × Rose a.err b.err
+RunEnded {p = p} budget Stuck a b r = IsWhole r.ended × IsStuck p r.machine
+RunEnded {p = p} {history = history} budget (BudgetSpent steps) a b r = IsWhole r.ended × IsSpent p budget history r.machine × (steps ≡ steps_done history)
+RunEnded {p = p} budget OutOfMemory a b r = SomeLives p r.machine
+RunEnded budget _ a b r = ⊥
 
 -- ---- the whole call
--- a script was taken that is a program
-pub record HasProgram (a : Devices) : Type 0 where
-  pub script : List ℕ
-  pub source : SourceState
-  pub taken : ScriptTaken script a.input source
-  pub program : LineProgram
-  pub is : IsProgram script program
 
--- it ran so far, from the machine's first state
-abbrev pub ProgramRan : (a : Devices) → HasProgram a → List Turn → Devices → Type 0
-ProgramRan a h turns b = Ran h.program (begin_with (line_prog h.program) (first_world h.source.told)) a.out.told a.err.told turns b.input.told b.out.told b.err.told
-
--- The cause of each answer, with what stands before its text is written.
-abbrev pub Caused : Answer → Devices → List Turn → Devices → Type 0
-Caused Usage a turns b = NothingRan a turns b × (b.input ≡ a.input)
-Caused InputFailed a turns b = NothingRan a turns b × TakingFailed a.input b.input
-Caused ScriptTooLong a turns b = NothingRan a turns b × TooMuchTaken a.input b.input
-Caused (Refused refusal) a turns b = NothingRan a turns b × (script : List ℕ) × ScriptTaken script a.input b.input × NoProgram script (Refused refusal)
-Caused (NotBuilt line) a turns b = NothingRan a turns b × (script : List ℕ) × ScriptTaken script a.input b.input × NoProgram script (NotBuilt line)
-Caused Done a turns b = (h : HasProgram a) × (r : ProgramRan a h turns b) × TurnsEnd Done r a.out.faults b.out.faults
-Caused OutputFailed a turns b = (h : HasProgram a) × (r : ProgramRan a h turns b) × TurnsEnd OutputFailed r a.out.faults b.out.faults
-Caused OutOfMemory a turns b = NothingRan a turns b ⊎ ((h : HasProgram a) × ProgramRan a h turns b)
-
--- the words are refused exactly where they don't name the source
-abbrev pub WordsAnswered : List (List ℕ) → Answer → Type 0
-WordsAnswered words Usage = words ≢ source_words
-WordsAnswered words _ = words ≡ source_words
+-- no thread ran, and nothing was written
+pub record NothingRan (a : Devices) (t : Told) (b : Devices) : Type 0 where
+  pub history : t.history ≡ []
+  pub conflicts : t.conflicts ≡ []
+  pub out : b.out ≡ a.out
+  pub err : b.err ≡ a.err
 
 -- a text was put to an output, whole, or as far as a counted failure or want of memory let it
 pub record TextPut (text : List ℕ) (before now : SinkState) : Type 0 where
@@ -148,12 +88,39 @@ pub record TextPut (text : List ℕ) (before now : SinkState) : Type 0 where
   pub puts : Puts before.told text result now.told
   pub cause : PutCause before.faults now.faults result
 
--- What a call answers: its status, its cause, and its text, which was put to the error output last.
-pub record Answered (words : List (List ℕ)) (a : Devices) (status : Status) (text : List ℕ) (turns : List Turn) (b : Devices) : Type 0 where
-  pub answer : Answer
-  pub is : status ≡ status_of answer
-  pub by_words : WordsAnswered words answer
-  pub err_before : SinkState
-  pub cause : Caused answer a turns (record b { err = err_before })
-  pub says : IsText answer text
-  pub put : TextPut text err_before b.err
+-- P: programs; `is_code` says which program a text has, `refused` why it has none, and `rows` what a program's threads do
+module _ {P S : Type 0} (is_code : List ℕ → P → Type 0) (refused : List ℕ → Refusal → Type 0) (rows : P → Prog S) where
+  -- a script was taken that has a program, and its threads ran
+  pub record Ran (a : Devices) (t : Told) (b : Devices) : Type 0 where
+    pub text : List ℕ
+    pub source : SourceState
+    pub taken : ScriptTaken text a.input source
+    pub program : P
+    pub is : is_code text program
+    pub serial : Serial (rows program) turn_length source.told a.out.told a.err.told t.history t.conflicts b.input.told b.out.told b.err.told
+
+  -- and the run came to its end so
+  abbrev pub RanTo : Answer → Devices → Told → Devices → Type 0
+  RanTo answer a t b = (r : Ran a t b) × RunEnded step_budget answer (faults_of a) (faults_of b) r.serial
+
+  -- the cause of each answer, for words that name the source
+  abbrev pub CausedBy : Answer → Devices → Told → Devices → Type 0
+  CausedBy Usage a t b = ⊥
+  CausedBy (Refused refusal) a t b = NothingRan a t b × (text : List ℕ) × ScriptTaken text a.input b.input × refused text refusal
+  CausedBy ScriptTooLong a t b = NothingRan a t b × TooMuchTaken a.input b.input
+  CausedBy InputFailed a t b = (NothingRan a t b × TakingFailed a.input b.input) ⊎ RanTo InputFailed a t b
+  CausedBy OutOfMemory a t b = NothingRan a t b ⊎ RanTo OutOfMemory a t b
+  CausedBy answer a t b = RanTo answer a t b
+
+  abbrev pub Caused : Answer → List (List ℕ) → Devices → Told → Devices → Type 0
+  Caused Usage words a t b = (names_source words ≡ false) × NothingRan a t b × (b.input ≡ a.input)
+  Caused answer words a t b = (names_source words ≡ true) × CausedBy answer a t b
+
+  -- What a call answers: its status, its cause, and its text, which was put to the error output last.
+  pub record Answered (words : List (List ℕ)) (a : Devices) (status : Status) (text : List ℕ) (t : Told) (b : Devices) : Type 0 where
+    pub answer : Answer
+    pub is : status ≡ status_of answer
+    pub err_before : SinkState
+    pub cause : Caused answer words a t (record b { err = err_before })
+    pub says : IsText answer text
+    pub put : TextPut text err_before b.err

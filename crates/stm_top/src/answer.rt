@@ -1,6 +1,6 @@
 //! What a call has to say: its status, and the text that it writes to the error output.
 ghost use Rattle.std.specs.Prelude.{◌≡◌, IfOk};
-ghost use Rattle.stm_top.specs.Answer.{status_of, text_of, refusal_name, refusal_text, IsText};
+ghost use Rattle.stm_top.specs.Answer.{status_of, text_of, refusal_name, refusal_text, spent_text, IsText};
 
 use crate::status::Status;
 use py_data::{Bytes, NoMemory, Refusal};
@@ -11,13 +11,14 @@ use std::alloc::Global;
 #[derive(Clone, Copy, Debug, PartialEq, Eq)]
 pub(crate) enum Answer {
     Done,
+    Failed,
     Usage,
-    /// The script has no tokens.
     Refused { refusal: Refusal },
-    /// The line, from 1, is the first that hasn't the line form.
-    NotBuilt { line: u32 },
     InputFailed,
     OutputFailed,
+    ErrorOutputFailed,
+    Stuck,
+    BudgetSpent { steps: u64 },
     OutOfMemory,
     ScriptTooLong,
 }
@@ -31,10 +32,14 @@ impl Answer {
     {
         match self {
             Answer::Done => Status::Done,
+            Answer::Failed => Status::Failed,
             Answer::Usage => Status::Usage,
-            Answer::Refused { .. } | Answer::NotBuilt { .. } => Status::Refused,
+            Answer::Refused { .. } => Status::Refused,
             Answer::InputFailed => Status::InputFailed,
             Answer::OutputFailed => Status::OutputFailed,
+            Answer::ErrorOutputFailed => Status::ErrorOutputFailed,
+            Answer::Stuck => Status::Stuck,
+            Answer::BudgetSpent { .. } => Status::BudgetSpent,
             Answer::OutOfMemory => Status::OutOfMemory,
             Answer::ScriptTooLong => Status::ScriptTooLong,
         }
@@ -54,19 +59,13 @@ impl Answer {
         ensures { IfOk result (λ text. text ≡ text_of self) }
     {
         match self {
-            Answer::Done => Ok(Bytes::new(alloc)),
+            Answer::Done | Answer::Failed | Answer::ErrorOutputFailed => Ok(Bytes::new(alloc)),
             Answer::Usage => Bytes::from_slice(alloc, USAGE),
-            Answer::Refused { refusal } => {
-                refused(
-                    alloc,
-                    refusal.line(),
-                    refusal.number(),
-                    refusal_name(refusal),
-                )
-            }
-            Answer::NotBuilt { line } => refused(alloc, line, 13, b"not built"),
+            Answer::Refused { refusal } => refused(alloc, refusal),
             Answer::InputFailed => Bytes::from_slice(alloc, b"pystm: cannot read the input\n"),
             Answer::OutputFailed => Bytes::from_slice(alloc, b"pystm: cannot write the output\n"),
+            Answer::Stuck => Bytes::from_slice(alloc, b"pystm: stuck\n"),
+            Answer::BudgetSpent { steps } => spent(alloc, steps),
             Answer::OutOfMemory => Bytes::from_slice(alloc, b"pystm: out of memory\n"),
             Answer::ScriptTooLong => {
                 Bytes::from_slice(alloc, b"pystm: script longer than 4194304 bytes\n")
@@ -95,15 +94,24 @@ fn refusal_name(refusal: Refusal) -> &'static [u8]
     }
 }
 
-fn refused(alloc: Global, line: u32, number: u8, name: &[u8]) -> Result<Bytes, NoMemory>
-    ensures { IfOk result (λ text. text ≡ refusal_text line number name.now) }
+/// The text of a script that is refused.
+fn refused(alloc: Global, refusal: Refusal) -> Result<Bytes, NoMemory>
+    ensures { IfOk result (λ text. text ≡ refusal_text refusal) }
 {
     let mut text = Bytes::from_slice(alloc, b"pystm: line ")?;
-    text.extend_from_slice(print_int(alloc, i64::from(line))?.as_slice())?;
+    text.extend_from_slice(print_int(alloc, i64::from(refusal.line()))?.as_slice())?;
     text.extend_from_slice(b": refusal ")?;
-    text.extend_from_slice(print_int(alloc, i64::from(number))?.as_slice())?;
+    text.extend_from_slice(print_int(alloc, i64::from(refusal.number()))?.as_slice())?;
     text.extend_from_slice(b": ")?;
-    text.extend_from_slice(name)?;
+    text.extend_from_slice(refusal_name(refusal))?;
     text.extend_from_slice(b"\n")?;
     Ok(text)
+}
+
+/// The text of a run whose steps are spent.
+fn spent(alloc: Global, steps: u64) -> Result<Bytes, NoMemory>
+    ensures { IfOk result (λ text. text ≡ spent_text steps) }
+{
+    let text = format!(in alloc; "pystm: budget spent: {steps} steps\n")?;
+    Bytes::from_slice(alloc, text.as_bytes())
 }

@@ -1,19 +1,24 @@
 //! The top call: from the words to the end of the run.
-ghost use Rattle.std.specs.Prelude.{◌≡◌, ◌≢◌, ◌≤◌, [], length, IfOk, IfErr, OnOk};
-ghost use Rattle.stm_top.specs.declared.answer.Answer.TheVariants.{Usage};
-ghost use Rattle.stm_top.specs.TopCall.{devices_of, bytes_of, names_source, IsCode, IsProgram, NoProgram, ProgramEnded, Caused, TextPut, Answered};
+ghost use Rattle.std.specs.Prelude.{◌≡◌, ◌≤◌, [], length};
+ghost use Rattle.lock_run.specs.Client.{IsSoundFirst};
+ghost use Rattle.py_frames.specs.Laws.{prog_of};
+ghost use Rattle.stm_top.specs.TextCode.{HasCode, IsRefused};
+ghost use Rattle.stm_top.specs.TopCall.{devices_of, bytes_of, names_source, Caused, CausedBy, TextPut, Answered};
+ghost use Rattle.stm_top.specs.Ending.{ThreadsEnded, TextEnded};
 
 use crate::answer::Answer;
-use crate::line_form::{LineError, LineProgram, read_program};
-use crate::line_run::LineClient;
 use crate::script::take_script;
 use crate::status::Status;
 use crate::text_code::{TextFault, compile_text};
 use crate::turns::run_turns;
-use lock_run::{History, LockRun};
+use lock_run::{Client, History, LockRun};
 use py_data::{Bytes, Conflicts};
+use py_step::PyClient;
 use std::alloc::Global;
 use stm_io::{Gate, Loader, Sink, Source, TakeError};
+
+/// How many steps a run has.
+pub const STEP_BUDGET: usize = 1_000_000;
 
 /// What a call leaves.
 #[derive(Drop)]
@@ -37,72 +42,89 @@ pub struct Report<L, I, O, E> {
 struct End<I, O, E> {
     answer: Answer,
     history: History,
+    conflicts: Conflicts,
     input: I,
     out: O,
     err: E,
 }
 
-/// Runs a program on the one-lock machine.
-fn run_program<I: Source, O: Sink, E: Sink>(
+/// Nothing ran, for this reason.
+fn nothing_ran<I: Source, O: Sink, E: Sink>(
     alloc: Global,
-    program: LineProgram,
+    answer: Answer,
     input: I,
     out: O,
     err: E,
 ) -> End<I, O, E>
-    ensures { ProgramEnded program (devices_of I.state O.state E.state input out err) result.answer result.history.entries (devices_of I.state O.state E.state result.input result.out result.err) }
+    ensures answer { result.answer ≡ answer }
+    ensures history { result.history.entries ≡ [] }
+    ensures conflicts { result.conflicts.entries ≡ [] }
+    ensures devices { (result.input ≡ input) × (result.out ≡ out) × (result.err ≡ err) }
 {
-    let client = LineClient::new(program);
-    let mut history = History::new(alloc);
-    let mut run = match LockRun::new(alloc, &client, input, out, err) {
-        Ok(run) => run,
-        Err((_, input, out, err)) => {
-            return End {
-                answer: Answer::OutOfMemory,
-                history,
-                input,
-                out,
-                err,
-            };
-        }
-    };
-    let answer = run_turns(&mut run, &mut history);
-    let (input, out, err) = run.finish();
     End {
         answer,
-        history,
+        history: History::new(alloc),
+        conflicts: Conflicts::new(alloc),
         input,
         out,
         err,
     }
 }
 
-/// Asks whether a script has a program, or why it has none. The program goes: what a script of the line form means is said by
-/// its own definition.
-fn check_code(alloc: Global, script: &[u8]) -> Result<(), Answer>
-    requires { length script.now ≤ 4194304 }
-    ensures code { OnOk result (IsCode script.now) }
-    ensures none { IfErr result (λ answer. NoProgram script.now answer) }
+/// Runs the threads of a client on the one-lock machine.
+fn run_threads<C: Client, I: Source, O: Sink, E: Sink>(
+    alloc: Global,
+    client: &C,
+    input: I,
+    out: O,
+    err: E,
+) -> End<I, O, E>
+    requires { IsSoundFirst (C.prog client.now) (C.sound client.now) }
+    ensures ended { ThreadsEnded (C.prog client.now) result.answer (devices_of I.state O.state E.state input out err) (record { history = result.history.entries; conflicts = result.conflicts.entries }) (devices_of I.state O.state E.state result.input result.out result.err) }
+    ensures conflicts { result.conflicts.entries ≡ [] }
 {
-    match compile_text(alloc, script) {
-        Ok(_) => Ok(()),
-        Err(TextFault::Refused(refusal)) => Err(Answer::Refused { refusal }),
-        Err(TextFault::OutOfMemory) => Err(Answer::OutOfMemory),
+    let mut history = History::new(alloc);
+    let mut run = match LockRun::new(alloc, client, input, out, err) {
+        Ok(run) => run,
+        Err((_, input, out, err)) => {
+            return nothing_ran(alloc, Answer::OutOfMemory, input, out, err);
+        }
+    };
+    let answer = run_turns(&mut run, &mut history, STEP_BUDGET);
+    let (input, out, err) = run.finish();
+    End {
+        answer,
+        history,
+        conflicts: Conflicts::new(alloc),
+        input,
+        out,
+        err,
     }
 }
 
-/// The program that a script is, or why it is none.
-fn read_script(alloc: Global, script: &[u8]) -> Result<LineProgram, Answer>
-    requires { length script.now ≤ 4194304 }
-    ensures program { IfOk result (λ program. IsProgram script.now program) }
-    ensures none { IfErr result (λ answer. NoProgram script.now answer) }
+/// Compiles a text, and runs its program.
+fn run_text<I: Source, O: Sink, E: Sink>(
+    alloc: Global,
+    text: &[u8],
+    input: I,
+    out: O,
+    err: E,
+) -> End<I, O, E>
+    requires { length text.now ≤ 4194304 }
+    ensures ended { TextEnded HasCode IsRefused prog_of text.now result.answer (devices_of I.state O.state E.state input out err) (record { history = result.history.entries; conflicts = result.conflicts.entries }) (devices_of I.state O.state E.state result.input result.out result.err) }
+    ensures conflicts { result.conflicts.entries ≡ [] }
 {
-    check_code(alloc, script)?;
-    match read_program(alloc, script) {
-        Ok(program) => Ok(program),
-        Err(LineError::Refused { line }) => Err(Answer::NotBuilt { line }),
-        Err(LineError::OutOfMemory) => Err(Answer::OutOfMemory),
-    }
+    let program = match compile_text(alloc, text) {
+        Ok(program) => program,
+        Err(TextFault::Refused(refusal)) => {
+            return nothing_ran(alloc, Answer::Refused { refusal }, input, out, err);
+        }
+        Err(TextFault::OutOfMemory) => {
+            return nothing_ran(alloc, Answer::OutOfMemory, input, out, err);
+        }
+    };
+    let client = PyClient::new(program);
+    run_threads(alloc, &client, input, out, err)
 }
 
 /// Takes the script and runs it.
@@ -112,25 +134,16 @@ fn run_script<I: Source, O: Sink, E: Sink>(
     out: O,
     err: E,
 ) -> End<I, O, E>
-    ensures cause { Caused result.answer (devices_of I.state O.state E.state input out err) result.history.entries (devices_of I.state O.state E.state result.input result.out result.err) }
-    ensures words { result.answer ≢ Usage }
+    ensures cause { CausedBy HasCode IsRefused prog_of result.answer (devices_of I.state O.state E.state input out err) (record { history = result.history.entries; conflicts = result.conflicts.entries }) (devices_of I.state O.state E.state result.input result.out result.err) }
+    ensures conflicts { result.conflicts.entries ≡ [] }
 {
     let answer = match take_script(alloc, &mut input) {
-        Ok(Some(script)) => match read_script(alloc, script.as_slice()) {
-            Ok(program) => return run_program(alloc, program, input, out, err),
-            Err(answer) => answer,
-        },
+        Ok(Some(script)) => return run_text(alloc, script.as_slice(), input, out, err),
         Ok(None) => Answer::ScriptTooLong,
         Err(TakeError::Failed) => Answer::InputFailed,
         Err(TakeError::OutOfMemory) => Answer::OutOfMemory,
     };
-    End {
-        answer,
-        history: History::new(alloc),
-        input,
-        out,
-        err,
-    }
+    nothing_ran(alloc, answer, input, out, err)
 }
 
 /// The words are the one word `-`.
@@ -141,6 +154,23 @@ fn name_source(words: &[String]) -> bool
         [word] => word.as_str() == "-",
         _ => false,
     }
+}
+
+/// Runs the script that the words name, up to its text.
+fn run_named<I: Source, O: Sink, E: Sink>(
+    alloc: Global,
+    words: &[String],
+    input: I,
+    out: O,
+    err: E,
+) -> End<I, O, E>
+    ensures cause { Caused HasCode IsRefused prog_of result.answer (bytes_of words.now) (devices_of I.state O.state E.state input out err) (record { history = result.history.entries; conflicts = result.conflicts.entries }) (devices_of I.state O.state E.state result.input result.out result.err) }
+    ensures conflicts { result.conflicts.entries ≡ [] }
+{
+    if !name_source(words) {
+        return nothing_ran(alloc, Answer::Usage, input, out, err);
+    }
+    run_script(alloc, input, out, err)
 }
 
 /// Puts a text to an output, if there is one. Its failure changes nothing.
@@ -155,11 +185,12 @@ fn put_text<E: Sink>(err: &mut E, text: &[u8])
 /// Runs the script that the words name.
 ///
 /// The words are those after the program's name. `-` takes the script from `input`, to its end; of a longer script than
-/// `SCRIPT_LIMIT` it takes one byte more. The script's output goes to `out`. What is wrong is told by the status and by the
-/// text, which is put to `err` last. `loader` and `gate` are for scripts in files and for runs on several segments, which
-/// are not built yet: nothing is asked of them, and no thread is started.
+/// `SCRIPT_LIMIT` it takes one byte more. What the script writes goes to `out` and `err`. What is wrong is told by the status and
+/// by the text, which is put to `err` last. `loader` and `gate` are for scripts in files and for runs on several segments,
+/// which are not built yet: nothing is asked of them. The script's threads take turns of one step each, and no thread of the
+/// machine below is started.
 ///
-/// `specs/TopCall.antt` says what each status means, by its cause, and what stands then.
+/// `specs/TopCall.antt` says what each status means, by its cause, and `specs/Serial.antt` what the run was.
 pub fn run_words<Rt, L: Loader, I: Source, O: Sink, E: Sink, G: Gate>(
     _rt: &Rt,
     alloc: Global,
@@ -170,21 +201,11 @@ pub fn run_words<Rt, L: Loader, I: Source, O: Sink, E: Sink, G: Gate>(
     err: E,
     _gate: &G,
 ) -> Report<L, I, O, E>
-    ensures answered { Answered (bytes_of words.now) (devices_of I.state O.state E.state input out err) result.status result.text result.history.entries (devices_of I.state O.state E.state result.input result.out result.err) }
+    ensures answered { Answered HasCode IsRefused prog_of (bytes_of words.now) (devices_of I.state O.state E.state input out err) result.status result.text (record { history = result.history.entries; conflicts = result.conflicts.entries }) (devices_of I.state O.state E.state result.input result.out result.err) }
     ensures loader { result.loader ≡ loader }
     ensures conflicts { result.conflicts.entries ≡ [] }
 {
-    let end = if name_source(words) {
-        run_script(alloc, input, out, err)
-    } else {
-        End {
-            answer: Answer::Usage,
-            history: History::new(alloc),
-            input,
-            out,
-            err,
-        }
-    };
+    let end = run_named(alloc, words, input, out, err);
     let text = end.answer.text(alloc);
     let mut err = end.err;
     put_text(&mut err, text.as_slice());
@@ -192,7 +213,7 @@ pub fn run_words<Rt, L: Loader, I: Source, O: Sink, E: Sink, G: Gate>(
         status: end.answer.status(),
         text,
         history: end.history,
-        conflicts: Conflicts::new(alloc),
+        conflicts: end.conflicts,
         loader,
         input: end.input,
         out: end.out,

@@ -1,49 +1,179 @@
-//! The turns of a program of the line form.
-ghost use Rattle.std.specs.Prelude.{◌≡◌, ◌≤◌, List, ℕ, Option, [], length};
-ghost use Rattle.lock_run.specs.LockState.{lock_state, lock_client, IsSound, first_world};
-ghost use Rattle.lock_run.specs.Machine.{Machine, begin_with};
-ghost use Rattle.lock_run.specs.Turns.{Stands, NoneFall};
-ghost use Rattle.stm_top.specs.LineClient.{program_in};
-ghost use Rattle.stm_top.specs.LineStand.{LineSound};
-ghost use Rattle.stm_top.specs.TopCall.{Ran, TurnsEnd};
-ghost use Rattle.stm_top.specs.declared.line_run.LineState.{LineState};
+//! The turns of a run: round the threads, one step a turn.
+ghost use Rattle.std.specs.Prelude.{◌≡◌, ◌⊎◌, ◌+◌, ◌<◌, ◌≤◌, ◌++◌, ◌∷◌, List, ℕ, Option, [], length, IfErr, OnOk, IfSome, slice_get};
+ghost use Rattle.lock_run.specs.LockState.{lock_state, lock_client, IsSound};
+ghost use Rattle.lock_run.specs.Turns.{NoneFall};
+ghost use Rattle.lock_run.specs.declared.client.Life.TheVariants.{Lives};
+ghost use Rattle.stm_top.specs.Rounds.{GoesOn, Still, RestsIn, AllRest, EndsWith, StandsAs};
 
 use crate::answer::Answer;
-use crate::line_run::{LineClient, LineState};
-use lock_run::{History, Life, LockRun, TurnWhy, run_law};
+use lock_run::{Client, History, Life, LockRun, TurnWhy, run_law};
 use stm_io::{Sink, Source};
 
-/// Runs the machine's only thread to its end, one step a turn. The turns that were done join the history. There is room for
-/// a turn in it before the turn begins.
-pub(crate) fn run_turns<I: Source, O: Sink, E: Sink>(
-    run: &mut LockRun<'_, LineClient, I, O, E>,
-    history: &mut History,
-) -> Answer
-    requires sound { IsSound LineSound (lock_state I.state O.state E.state run.old) }
-    requires empty { history.old.entries ≡ [] }
-    ensures counts { NoneFall (lock_state I.state O.state E.state run.old).view (lock_state I.state O.state E.state run.new).view }
-    ensures ran { (o e : Option (List ℕ)) (m : Machine LineState)
-        → Stands o e (lock_state I.state O.state E.state run.old).view (lock_state I.state O.state E.state run.old).threads m
-        → m.world.err ≡ []
-        → (r : Ran (program_in (lock_client run.old)) m o e history.new.entries (lock_state I.state O.state E.state run.new).view.input (lock_state I.state O.state E.state run.new).view.out (lock_state I.state O.state E.state run.new).view.err)
-        × TurnsEnd result r (lock_state I.state O.state E.state run.old).view.writes (lock_state I.state O.state E.state run.new).view.writes }
+/// How the threads of a machine stand.
+#[derive(Clone, Copy)]
+enum Standing {
+    /// One can go on.
+    Goes,
+    /// Some live, and each of these waits.
+    Waits,
+    /// All have ended.
+    Over,
+}
+
+/// Asks each thread how it stands.
+fn ask_threads<C: Client, I: Source, O: Sink, E: Sink>(run: &LockRun<'_, C, I, O, E>) -> Standing
+    requires { IsSound (C.sound (lock_client run.now)) (lock_state I.state O.state E.state run.now) }
+    ensures { StandsAs (C.prog (lock_client run.now)) (lock_state I.state O.state E.state run.now) result }
 {
-    run_law::<LineState>();
-    'turns: while run.life(0) == Life::Lives {
-        if history.reserve(1).is_err() {
-            return Answer::OutOfMemory;
+    let mut standing = Standing::Over;
+    for t in 0..run.threads() {
+        if run.ready(t) {
+            return Standing::Goes;
         }
-        match run.free_turn(0, 1) {
-            Ok(turn) => match history.push(turn) {
-                Ok(()) => (),
-                Err(_) => unreachable!(),
-            },
-            Err(fault) => match fault.why {
-                TurnWhy::WriteFault => return Answer::OutputFailed,
-                TurnWhy::OutOfMemory => return Answer::OutOfMemory,
-                _ => unreachable!(),
-            },
+        if let Life::Lives = run.life(t) {
+            standing = Standing::Waits;
         }
     }
-    Answer::Done
+    standing
+}
+
+/// One step of a thread that lives, as a turn, if it doesn't wait. There is room for the turn in the history before it begins.
+fn step_once<C: Client, I: Source, O: Sink, E: Sink>(
+    run: &mut LockRun<'_, C, I, O, E>,
+    history: &mut History,
+    t: u32,
+) -> Result<(), Answer>
+    requires there { t < length (lock_state I.state O.state E.state run.old).threads }
+    requires lives { IfSome (slice_get (lock_state I.state O.state E.state run.old).threads t) (λ s. (C.prog (lock_client run.old)).life s ≡ Lives) }
+    requires sound { IsSound (C.sound (lock_client run.old)) (lock_state I.state O.state E.state run.old) }
+    ensures sound { IsSound (C.sound (lock_client run.new)) (lock_state I.state O.state E.state run.new) }
+    ensures client { lock_client run.new ≡ lock_client run.old }
+    ensures counts { NoneFall (lock_state I.state O.state E.state run.old).view (lock_state I.state O.state E.state run.new).view }
+    ensures later { length history.old.entries ≤ length history.new.entries }
+    ensures more { OnOk result (length (lock_state I.state O.state E.state run.old).threads ≤ length (lock_state I.state O.state E.state run.new).threads) }
+    ensures goes { OnOk result (GoesOn (C.prog (lock_client run.old)) history.old.entries (lock_state I.state O.state E.state run.old) history.new.entries (lock_state I.state O.state E.state run.new)) }
+    ensures still { OnOk result (length history.new.entries ≤ length history.old.entries → Still (lock_state I.state O.state E.state run.old) (lock_state I.state O.state E.state run.new)) }
+    ensures rests { OnOk result (length history.new.entries ≤ length history.old.entries → RestsIn (C.prog (lock_client run.old)) (lock_state I.state O.state E.state run.old) t) }
+    ensures ended { IfErr result (λ answer. (budget : ℕ) → EndsWith (C.prog (lock_client run.old)) budget answer history.old.entries (lock_state I.state O.state E.state run.old) history.new.entries (lock_state I.state O.state E.state run.new)) }
+{
+    run_law::<C::State>();
+    if history.reserve(1).is_err() {
+        return Err(Answer::OutOfMemory);
+    }
+    match run.free_turn(t, 1) {
+        Ok(turn) => match history.push(turn) {
+            Ok(()) => Ok(()),
+            Err(_) => Err(Answer::OutOfMemory),
+        },
+        Err(fault) => match fault.why {
+            TurnWhy::Waits => Ok(()),
+            TurnWhy::ReadFault => Err(Answer::InputFailed),
+            TurnWhy::WriteFault => Err(Answer::OutputFailed),
+            TurnWhy::ErrFault => Err(Answer::ErrorOutputFailed),
+            _ => Err(Answer::OutOfMemory),
+        },
+    }
+}
+
+/// One turn of a thread, if it lives and doesn't wait.
+fn take_turn<C: Client, I: Source, O: Sink, E: Sink>(
+    run: &mut LockRun<'_, C, I, O, E>,
+    history: &mut History,
+    t: u32,
+) -> Result<(), Answer>
+    requires there { t < length (lock_state I.state O.state E.state run.old).threads }
+    requires sound { IsSound (C.sound (lock_client run.old)) (lock_state I.state O.state E.state run.old) }
+    ensures sound { IsSound (C.sound (lock_client run.new)) (lock_state I.state O.state E.state run.new) }
+    ensures client { lock_client run.new ≡ lock_client run.old }
+    ensures counts { NoneFall (lock_state I.state O.state E.state run.old).view (lock_state I.state O.state E.state run.new).view }
+    ensures later { length history.old.entries ≤ length history.new.entries }
+    ensures more { OnOk result (length (lock_state I.state O.state E.state run.old).threads ≤ length (lock_state I.state O.state E.state run.new).threads) }
+    ensures goes { OnOk result (GoesOn (C.prog (lock_client run.old)) history.old.entries (lock_state I.state O.state E.state run.old) history.new.entries (lock_state I.state O.state E.state run.new)) }
+    ensures still { OnOk result (length history.new.entries ≤ length history.old.entries → Still (lock_state I.state O.state E.state run.old) (lock_state I.state O.state E.state run.new)) }
+    ensures rests { OnOk result (length history.new.entries ≤ length history.old.entries → RestsIn (C.prog (lock_client run.old)) (lock_state I.state O.state E.state run.old) t) }
+    ensures ended { IfErr result (λ answer. (budget : ℕ) → EndsWith (C.prog (lock_client run.old)) budget answer history.old.entries (lock_state I.state O.state E.state run.old) history.new.entries (lock_state I.state O.state E.state run.new)) }
+{
+    match run.life(t) {
+        Life::Lives => step_once(run, history, t),
+        _ => Ok(()),
+    }
+}
+
+/// A turn of each thread that there is as the round begins, in the order of their numbers, while the history has fewer turns
+/// than the budget has steps.
+fn go_round<C: Client, I: Source, O: Sink, E: Sink>(
+    run: &mut LockRun<'_, C, I, O, E>,
+    history: &mut History,
+    budget: usize,
+) -> Result<(), Answer>
+    requires short { length history.old.entries < budget }
+    requires sound { IsSound (C.sound (lock_client run.old)) (lock_state I.state O.state E.state run.old) }
+    ensures sound { IsSound (C.sound (lock_client run.new)) (lock_state I.state O.state E.state run.new) }
+    ensures client { lock_client run.new ≡ lock_client run.old }
+    ensures counts { NoneFall (lock_state I.state O.state E.state run.old).view (lock_state I.state O.state E.state run.new).view }
+    ensures later { length history.old.entries ≤ length history.new.entries }
+    ensures more { OnOk result (length (lock_state I.state O.state E.state run.old).threads ≤ length (lock_state I.state O.state E.state run.new).threads) }
+    ensures goes { OnOk result (GoesOn (C.prog (lock_client run.old)) history.old.entries (lock_state I.state O.state E.state run.old) history.new.entries (lock_state I.state O.state E.state run.new)) }
+    ensures rests { OnOk result (length history.new.entries ≤ length history.old.entries → AllRest (C.prog (lock_client run.old)) (lock_state I.state O.state E.state run.new)) }
+    ensures ended { IfErr result (λ answer. (budget : ℕ) → EndsWith (C.prog (lock_client run.old)) budget answer history.old.entries (lock_state I.state O.state E.state run.old) history.new.entries (lock_state I.state O.state E.state run.new)) }
+{
+    for t in 0..run.threads() {
+        if history.len() >= budget {
+            return Ok(());
+        }
+        take_turn(run, history, t)?;
+    }
+    Ok(())
+}
+
+/// Rounds, until the budget's steps were done or a round did none.
+fn go_rounds<C: Client, I: Source, O: Sink, E: Sink>(
+    run: &mut LockRun<'_, C, I, O, E>,
+    history: &mut History,
+    budget: usize,
+) -> Result<(), Answer>
+    requires sound { IsSound (C.sound (lock_client run.old)) (lock_state I.state O.state E.state run.old) }
+    ensures sound { IsSound (C.sound (lock_client run.new)) (lock_state I.state O.state E.state run.new) }
+    ensures client { lock_client run.new ≡ lock_client run.old }
+    ensures counts { NoneFall (lock_state I.state O.state E.state run.old).view (lock_state I.state O.state E.state run.new).view }
+    ensures more { OnOk result (length (lock_state I.state O.state E.state run.old).threads ≤ length (lock_state I.state O.state E.state run.new).threads) }
+    ensures goes { OnOk result (GoesOn (C.prog (lock_client run.old)) history.old.entries (lock_state I.state O.state E.state run.old) history.new.entries (lock_state I.state O.state E.state run.new)) }
+    ensures rests { OnOk result ((budget ≤ length history.new.entries) ⊎ AllRest (C.prog (lock_client run.old)) (lock_state I.state O.state E.state run.new)) }
+    ensures ended { IfErr result (λ answer. (budget : ℕ) → EndsWith (C.prog (lock_client run.old)) budget answer history.old.entries (lock_state I.state O.state E.state run.old) history.new.entries (lock_state I.state O.state E.state run.new)) }
+{
+    'rounds: while history.len() < budget {
+        let done = history.len();
+        go_round(run, history, budget)?;
+        if history.len() == done {
+            return Ok(());
+        }
+    }
+    Ok(())
+}
+
+/// Runs the threads of a machine, one step a turn, round after round: until all have ended, none of those that live can go on,
+/// the budget's steps were done, a device failed, or there was no memory. The turns that were done join the history.
+pub(crate) fn run_turns<C: Client, I: Source, O: Sink, E: Sink>(
+    run: &mut LockRun<'_, C, I, O, E>,
+    history: &mut History,
+    budget: usize,
+) -> Answer
+    requires some { 0 < length (lock_state I.state O.state E.state run.old).threads }
+    requires sound { IsSound (C.sound (lock_client run.old)) (lock_state I.state O.state E.state run.old) }
+    ensures counts { NoneFall (lock_state I.state O.state E.state run.old).view (lock_state I.state O.state E.state run.new).view }
+    ensures ended { EndsWith (C.prog (lock_client run.old)) budget result history.old.entries (lock_state I.state O.state E.state run.old) history.new.entries (lock_state I.state O.state E.state run.new) }
+{
+    if let Err(answer) = go_rounds(run, history, budget) {
+        return answer;
+    }
+    match ask_threads(run) {
+        Standing::Goes => Answer::BudgetSpent {
+            steps: history.len() as u64,
+        },
+        Standing::Waits => Answer::Stuck,
+        Standing::Over => match run.life(0) {
+            Life::Failed => Answer::Failed,
+            _ => Answer::Done,
+        },
+    }
 }

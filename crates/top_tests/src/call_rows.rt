@@ -1,0 +1,266 @@
+//! The top call over devices in memory. Written by hand, the outputs as Python 2.7 prints them.
+use py_data::NoMemory;
+use std::alloc::Global;
+use std::process::Abort;
+use std::test;
+use stm_io::{Fail, MemLoader, MemSink, MemSource, OpenGate};
+use stm_top::{Report, SCRIPT_LIMIT, run_words};
+
+type Tested = Result<(), test::Fail>;
+
+pub type MemReport = Report<MemLoader, MemSource, MemSink, MemSink>;
+
+/// A schedule of one failure, or of none at call 0.
+fn once(alloc: Global, call: u64, bytes: usize) -> Result<Vec<Fail>, NoMemory> {
+    let mut fails = Vec::new(alloc);
+    fails.push(Fail { call, bytes })?;
+    Ok(fails)
+}
+
+/// Where one call is to fail: of the source, of the output, or of the error output.
+#[derive(Clone, Copy)]
+pub struct Plan {
+    pub takes: u64,
+    pub puts: u64,
+    pub errs: u64,
+    pub bytes: usize,
+}
+
+pub const NO_FAILURE: Plan = Plan {
+    takes: 0,
+    puts: 0,
+    errs: 0,
+    bytes: 0,
+};
+
+/// What a call leaves over a source that has these bytes.
+pub fn report(
+    rt: &impl Abort,
+    alloc: Global,
+    words: &[String],
+    script: &[u8],
+    plan: Plan,
+) -> Result<MemReport, NoMemory> {
+    let loader = MemLoader::new(
+        alloc,
+        Vec::from_slice(alloc, b"FILE")?,
+        Vec::from_slice(alloc, b"print 1\n")?,
+        Vec::new(alloc),
+    );
+    let script = Vec::from_slice(alloc, script)?;
+    let input = MemSource::new(alloc, script, once(alloc, plan.takes, plan.bytes)?);
+    let out = MemSink::new(alloc, once(alloc, plan.puts, plan.bytes)?);
+    let err = MemSink::new(alloc, once(alloc, plan.errs, plan.bytes)?);
+    Ok(run_words(rt, alloc, words, loader, input, out, err, &OpenGate))
+}
+
+/// Bytes as a text in which `;` stands for a newline.
+fn in_a_line(alloc: Global, bytes: &[u8]) -> Result<String, NoMemory> {
+    let mut text = String::new(alloc);
+    for byte in bytes {
+        text.push(if *byte == b'\n' {
+            ';'
+        } else {
+            char::from(*byte)
+        })?;
+    }
+    Ok(text)
+}
+
+/// The status, the output and the error output.
+fn told(alloc: Global, report: &MemReport) -> Result<String, NoMemory> {
+    let out = in_a_line(alloc, report.out.written())?;
+    let err = in_a_line(alloc, report.err.written())?;
+    format!(in alloc; "{}~{out}~{err}", report.status.number())
+}
+
+/// The one word `-`.
+pub fn source_word(alloc: Global) -> Result<Vec<String>, NoMemory> {
+    let mut words = Vec::new(alloc);
+    words.push(format!(in alloc; "-")?)?;
+    Ok(words)
+}
+
+/// What a script answers, in which `;` stands for a newline.
+fn answer(rt: &impl Abort, alloc: Global, script: &str, plan: Plan) -> Result<String, NoMemory> {
+    let mut bytes = Vec::new(alloc);
+    for byte in script.as_bytes() {
+        bytes.push(if *byte == b';' { b'\n' } else { *byte })?;
+    }
+    let words = source_word(alloc)?;
+    told(
+        alloc,
+        &report(rt, alloc, words.as_slice(), bytes.as_slice(), plan)?,
+    )
+}
+
+/// Scripts, each with its answer behind `|`: the status, the output and the error output.
+const SCRIPTS: &str = "print 7/2, -7/2;|0~3 -4;~
+|0~~
+print 1;x = 1 / 0;print 2;|1~1;~thread 0, line 2: ZeroDivisionError: integer division or modulo by zero;
+raise ValueError;|1~~thread 0, line 1: ValueError;
+import thread;def f(n):;    return n / 0;thread.start_new_thread(f, (1,));print 1;|0~1;~thread 1, line 3: ZeroDivisionError: integer division or modulo by zero;
+import threading;def f(n):;    print n;t = threading.Thread(target=f, args=(2,));t.start();t.join();print 1;|0~2;1;~
+import thread;a = thread.allocate_lock();a.acquire();print 1;a.acquire();|9~1;~pystm: stuck;
+print raw_input();|1~~thread 0, line 1: EOFError: EOF when reading a line;
+while True: pass;|10~~pystm: budget spent: 1000000 steps;
+print 1;;print 2 2;print 3 3;|3~~pystm: line 3: refusal 5: unexpected;
+x = 1;x = 1.5|3~~pystm: line 2: refusal 6: left out;
+return 1;|3~~pystm: line 1: refusal 8: misplaced;
+def f(a, a): pass;|3~~pystm: line 1: refusal 9: doubled;
+def f(x):;  def g():;    return x;|3~~pystm: line 3: refusal 10: closure;
+print 1;$;|3~~pystm: line 2: refusal 1: bad character;
+if 1:;  a = 1; b = 2;|3~~pystm: line 3: refusal 2: bad dedent;
+x = 1;s = '''a;b;|3~~pystm: line 2: refusal 3: open string;
+print 9223372036854775808;|3~~pystm: line 1: refusal 4: number wide;
+print \"\\x4\";|3~~pystm: line 1: refusal 12: bad escape;";
+
+fn check_scripts(rt: &impl Abort, alloc: Global, rows: &str) -> Result<usize, test::Fail> {
+    let mut count = 0usize;
+    for row in rows.split('\n') {
+        let (script, wanted) = row.split_once('|').ok_or("a row without an answer")?;
+        let shown = answer(rt, alloc, script, NO_FAILURE)?;
+        assert_eq!(rt; shown.as_str(), wanted, "{script}");
+        count = count.saturating_add(1);
+    }
+    Ok(count)
+}
+
+#[test]
+fn runs_scripts(rt: HostRuntime) -> Tested {
+    assert_eq!(rt; check_scripts(&rt, rt.alloc(), SCRIPTS)?, 19);
+    Ok(())
+}
+
+/// A script of three lines whose calls of the source are four up to its end.
+const LINES: &str = "x = 1;print x;print 2, x;";
+
+#[test]
+fn input_fails(rt: HostRuntime) -> Tested {
+    for takes in 1..=4 {
+        for bytes in 0..=1 {
+            let plan = Plan {
+                takes,
+                bytes,
+                ..NO_FAILURE
+            };
+            let shown = answer(&rt, rt.alloc(), LINES, plan)?;
+            assert_eq!(rt; shown.as_str(), "5~~pystm: cannot read the input;");
+        }
+    }
+    let plan = Plan {
+        takes: 5,
+        ..NO_FAILURE
+    };
+    let shown = answer(&rt, rt.alloc(), LINES, plan)?;
+    assert_eq!(rt; shown.as_str(), "0~1;2 1;~");
+    Ok(())
+}
+
+/// The call of the source behind the script is that of a step.
+#[test]
+fn input_fails_in_a_step(rt: HostRuntime) -> Tested {
+    let plan = Plan {
+        takes: 4,
+        ..NO_FAILURE
+    };
+    let shown = answer(&rt, rt.alloc(), "print 1;raw_input();", plan)?;
+    assert_eq!(rt; shown.as_str(), "5~1;~pystm: cannot read the input;");
+    Ok(())
+}
+
+/// The first put fails, before its only byte and behind it; and then what the whole output is.
+#[test]
+fn output_fails(rt: HostRuntime) -> Tested {
+    let plan = Plan {
+        puts: 1,
+        ..NO_FAILURE
+    };
+    let shown = answer(&rt, rt.alloc(), LINES, plan)?;
+    assert_eq!(rt; shown.as_str(), "6~~pystm: cannot write the output;");
+    let plan = Plan { bytes: 1, ..plan };
+    let shown = answer(&rt, rt.alloc(), LINES, plan)?;
+    assert_eq!(rt; shown.as_str(), "6~1~pystm: cannot write the output;");
+    let plan = Plan {
+        puts: 100,
+        ..NO_FAILURE
+    };
+    let shown = answer(&rt, rt.alloc(), LINES, plan)?;
+    assert_eq!(rt; shown.as_str(), "0~1;2 1;~");
+    Ok(())
+}
+
+/// The error output fails in the last step of a thread that dies, and in the put of the call's own text.
+#[test]
+fn error_output_fails(rt: HostRuntime) -> Tested {
+    let plan = Plan {
+        errs: 1,
+        bytes: 6,
+        ..NO_FAILURE
+    };
+    let shown = answer(&rt, rt.alloc(), "print 1;print y;", plan)?;
+    assert_eq!(rt; shown.as_str(), "7~1;~thread");
+    let shown = answer(&rt, rt.alloc(), "print 1 1;", plan)?;
+    assert_eq!(rt; shown.as_str(), "3~~pystm:");
+    Ok(())
+}
+
+/// What words answer that are separated by spaces, with what was asked of the loader and of the source.
+fn word_answer(rt: &impl Abort, alloc: Global, text: &str) -> Result<String, NoMemory> {
+    let mut words = Vec::new(alloc);
+    for word in text.split(' ') {
+        words.push(format!(in alloc; "{word}")?)?;
+    }
+    let left = report(rt, alloc, words.as_slice(), b"print 1\n", NO_FAILURE)?;
+    let told = told(alloc, &left)?;
+    let asked = left.loader.asked().len();
+    format!(in alloc; "{told}~{asked}~{}", left.input.ends())
+}
+
+#[test]
+fn words_are_refused(rt: HostRuntime) -> Tested {
+    let usage =
+        "2~~pystm: usage: pystm [--segments N] [--length N] [--pages N] [--budget N] FILE, - or --demo N;~0~0";
+    for text in ["", "FILE", "- -", "-- -", "--demo", "--segments 4 -"] {
+        let shown = word_answer(&rt, rt.alloc(), text)?;
+        assert_eq!(rt; shown.as_str(), usage, "{text:?}");
+    }
+    let shown = word_answer(&rt, rt.alloc(), "-")?;
+    assert_eq!(rt; shown.as_str(), "0~1;~~0~1");
+    Ok(())
+}
+
+/// What a script of so many times this piece answers.
+fn pieces(rt: &impl Abort, alloc: Global, piece: &[u8], count: usize) -> Result<String, NoMemory> {
+    let mut script = Vec::new(alloc);
+    for _ in 0..count {
+        script.extend_from_slice(piece)?;
+    }
+    let words = source_word(alloc)?;
+    told(
+        alloc,
+        &report(rt, alloc, words.as_slice(), script.as_slice(), NO_FAILURE)?,
+    )
+}
+
+/// With SETUP and the last two, as many instructions as a code may have, and then two more.
+#[test]
+fn code_has_a_limit(rt: HostRuntime) -> Tested {
+    let most = pieces(&rt, rt.alloc(), b"a = 1\n", 32_766)?;
+    assert_eq!(rt; most.as_str(), "0~~");
+    let over = pieces(&rt, rt.alloc(), b"a = 1\n", 32_767)?;
+    assert_eq!(rt; over.as_str(), "3~~pystm: line 1: refusal 11: too large;");
+    Ok(())
+}
+
+#[test]
+fn script_has_a_limit(rt: HostRuntime) -> Tested {
+    let most = pieces(&rt, rt.alloc(), b" ", SCRIPT_LIMIT)?;
+    assert_eq!(rt; most.as_str(), "0~~");
+    let over = pieces(&rt, rt.alloc(), b" ", SCRIPT_LIMIT + 1)?;
+    assert_eq!(rt;
+        over.as_str(),
+        "12~~pystm: script longer than 4194304 bytes;"
+    );
+    Ok(())
+}
