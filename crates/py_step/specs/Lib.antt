@@ -1,3 +1,4 @@
 pub mod Operators
 pub mod Moves
 pub mod Client
+pub mod Peeked
