@@ -12,10 +12,11 @@ use Rattle.py_data.specs.Collection.{places}
 use Rattle.py_data.specs.Row.{Call, Reply, Row, Ret, Do}
 use Rattle.py_data.specs.Sense.{Run, Stopped, Upto}
 use Rattle.py_data.specs.Sight.{Sight, Does, mem, pure}
+use Rattle.py_data.specs.Steady.{AsksToPrint}
 use Rattle.lock_run.specs.declared.client.Outcome.{Outcome}
 use Rattle.lock_run.specs.declared.client.Life.TheVariants.{Lives}
 use Rattle.lock_run.specs.Prog.{Prog}
-use Rattle.lock_run.specs.Client.{AsksToPrint, Stepped, StepStopped, TellsLife, WaitsQuietly}
+use Rattle.lock_run.specs.Client.{Stepped, StepStopped, TellsLife, WaitsQuietly}
 use Rattle.seg_store.specs.Meaning.{Part, Meaning, sees, saw, holds}
 use Rattle.seg_store.specs.Calls.{opened, undone}
 use Rattle.seg_store.specs.Store.{IsStore}

@@ -10,11 +10,11 @@ use Rattle.py_data.specs.Collection.{places}
 use Rattle.py_data.specs.Row.{Call, Reply, Row, Ret, Do, Read, Find, Edit, Make, Start, Put, Take, MidLine, SetMidLine}
 use Rattle.py_data.specs.Sense.{Run, Upto}
 use Rattle.py_data.specs.Sight.{Sight, Act, Does, mem, pure}
+use Rattle.py_data.specs.Steady.{AsksToPrint, Writes, WritesThen}
 use Rattle.lock_run.specs.declared.client.Outcome.{Outcome}
 use Rattle.lock_run.specs.declared.client.Outcome.TheVariants.{Waits as WaitsNow}
 use Rattle.lock_run.specs.declared.client.Life.TheVariants.{Lives}
 use Rattle.lock_run.specs.Prog.{Prog}
-use Rattle.lock_run.specs.Client.{AsksToPrint, Writes, WritesThen}
 use Rattle.seg_store.specs.Meaning.{Part, Meaning, sees, holds, over}
 use Rattle.seg_store.specs.Store.{IsStore}
 use Rattle.stm_core.specs.declared.books.Work.{Work}

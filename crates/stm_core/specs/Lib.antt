@@ -2,6 +2,7 @@ pub mod CoreState
 pub mod Asking
 pub mod Conflict
 pub mod Good
+pub mod Stood
 pub mod Moves
 pub mod Passes
 pub mod Books

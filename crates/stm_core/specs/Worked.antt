@@ -1,16 +1,22 @@
--- Conflicts worked by hand: who wins, and when one stands. States `docs/HEAP.md`, "Conflicts".
-use Rattle.std.specs.Prelude.{◌≡◌, ℕ, Bool, true, false, cond, eqb, List, [], ◌∷◌, None, refl}
+-- Conflicts worked by hand: who wins, when one stands, and that one stood. States `docs/HEAP.md`, "Conflicts".
+use Rattle.std.specs.Prelude.{◌≡◌, ℕ, Bool, true, false, cond, eqb, ◌||◌, List, [], ◌∷◌, Some, None, refl}
 use Rattle.std.proofs.Common.{arith, ap, sym, ◌∙◌}
 use Rattle.py_data.specs.declared.value.Value.TheVariants.{None as NoneValue}
 use Rattle.py_data.specs.declared.change.Change.TheVariants.{Push}
 use Rattle.py_data.specs.declared.stop.Side.{Side}
 use Rattle.py_data.specs.declared.stop.Conflict.{Conflict}
+use Rattle.py_data.specs.Heap.{Rec, Heap, is_tracked}
 use Rattle.py_data.specs.Row.{Call, Read, Edit}
-use Rattle.py_data.specs.Sight.{mem}
+use Rattle.py_data.specs.Sight.{opened, mem}
+use Rattle.lock_run.specs.declared.client.Life.TheVariants.{Lives}
+use Rattle.lock_run.specs.declared.turn.Turn.{Turn}
 use Rattle.lock_run.specs.Prog.{Prog}
+use Rattle.lock_run.specs.Machine.{Machine}
 use Rattle.stm_core.specs.CoreState.{Transaction, Running, CoreState, fresh, core_new, with_segment}
 use Rattle.stm_core.specs.Asking.{Changes}
 use Rattle.stm_core.specs.Conflict.{conflict, loser, winner, wins, IsStanding}
+use Rattle.stm_core.specs.Good.{IsLocked, Stands}
+use Rattle.stm_core.specs.Stood.{Stood}
 use Rattle.stm_core.specs.Hold.{no_world}
 
 -- ---- who wins
@@ -76,3 +82,90 @@ module _ {S : Type 0} (p : Prog S) where
   -- none that the looker wins
   winner_loses_not : IsStanding p two (conflict 0 locker 1 looker 3 false 0) → ⊥
   winner_loses_not h = let q : false ≡ true = h.loses in cc
+
+  -- ---- that a conflict stood: two threads over a heap whose only record is the tracked record 3
+
+  module _ (r : Rec) (tracked : is_tracked r.kind ≡ true) (lives : p.life p.first ≡ Lives) where
+    abbrev heap : Heap
+    heap = λ a. cond (eqb a 3) (Some r) None
+
+    abbrev machine : Machine S
+    machine = record { heap = heap; threads = p.first ∷ p.first ∷ []; world = no_world }
+
+    abbrev writer : Transaction S
+    writer = record locker { looked = λ a. eqb a 3 }
+
+    is_three : (b : Bool) → (b || false) ≡ true → b ≡ true
+    is_three true e = refl
+    is_three false e = e
+
+    locked_three : (a : ℕ) → eqb a 3 ≡ true → IsLocked heap (λ b. eqb b 3) a
+    locked_three a e = record { entry = r; is = rw e refl; tracked = tracked; marked = e }
+
+    writer_stands : Stands p heap machine.threads no_world writer
+    writer_stands = record {
+      before = p.first;
+      sight = opened S heap no_world;
+      is = refl;
+      lives = lives;
+      steps = (refl, refl);
+      shows = record {
+        view = λ a. refl;
+        made = refl;
+        started = refl;
+        looked = λ a h. absurd (let q : false ≡ true = h in cc);
+        touched = λ a h. absurd (let q : false ≡ true = h in cc);
+        within = λ a h. refl;
+        locked = λ a h. locked_three a (is_three (eqb a 3) h);
+        unused = λ a h. absurd (let q : false ≡ true = h in cc);
+        world_is = λ h. absurd (let q : false ≡ true = h in cc);
+        quiet = λ h. refl;
+      };
+    }
+
+    looker_stands : Stands p heap machine.threads no_world looker
+    looker_stands = record {
+      before = p.first;
+      sight = opened S heap no_world;
+      is = refl;
+      lives = lives;
+      steps = (refl, refl);
+      shows = record {
+        view = λ a. refl;
+        made = refl;
+        started = refl;
+        looked = λ a h. absurd (let q : false ≡ true = h in cc);
+        touched = λ a h. absurd (let q : false ≡ true = h in cc);
+        within = λ a h. refl;
+        locked = λ a h. absurd (let q : false ≡ true = h in cc);
+        unused = λ a h. absurd (let q : false ≡ true = h in cc);
+        world_is = λ h. absurd (let q : false ≡ true = h in cc);
+        quiet = λ h. refl;
+      };
+    }
+
+    -- before any turn
+    look_stood : Stood p machine [] by_look
+    look_stood = record {
+      front = [];
+      rest = [];
+      history_is = refl;
+      machine = machine;
+      run = refl;
+      x = writer;
+      y = looker;
+      writes = writer_stands;
+      reads = looker_stands;
+      apart = record { threads = λ e. cc; begun = λ e. cc; made = λ a h. refl; changed = λ a h. refl; solo = λ h. refl };
+      is = refl;
+      differ = λ e. cc;
+      held = refl;
+      met = refl;
+      lost = omega arith;
+      loses = refl;
+      mortal = refl;
+    }
+
+  -- none that the looker won stood, whatever the history
+  won_stood_not : (first : Machine S) (history : List Turn) → Stood p first history (conflict 0 locker 1 looker 3 false 0) → ⊥
+  won_stood_not first history h = let q : false ≡ true = h.loses in cc

@@ -62,6 +62,7 @@ fn first_books<C: Client>(alloc: Global, client: &C, count: u8) -> Result<Books<
 impl<'p, C: Client, S: SegStore, I, O, E> Core<'p, C, S, I, O, E> {
     ghost use Rattle.std.specs.Prelude.{◌≡◌, ℕ, ◌<◌, ◌≤◌, true, false, IfOk, IfErr};
     ghost use Rattle.py_data.specs.World.{World};
+    ghost use Rattle.lock_run.specs.Client.{IsSoundFirst};
     ghost use Rattle.seg_store.specs.Store.{IsEmpty};
     ghost use Rattle.stm_core.specs.CoreState.{Idle, core_new, with_segment};
     ghost use Rattle.stm_core.specs.Books.{core_of};
@@ -71,7 +72,8 @@ impl<'p, C: Client, S: SegStore, I, O, E> Core<'p, C, S, I, O, E> {
     ghost use Rattle.stm_core.specs.SaneCore.{SaneCore};
     ghost use Rattle.stm_core.specs.CoreHeld.{core_at, core_client, core_limits, HasDevices, IsGoodCore};
 
-    /// A core over an empty store, whose only thread is the client's first. At want of memory the devices come back.
+    /// A core over an empty store, whose only thread is the client's first, which may stand over no records. At want of memory
+    /// the devices come back.
     ///
     /// `length` is the most steps of a transaction, from 1 to `LENGTH_LIMIT`; with `budget` steps in the history, from 1 to
     /// `BUDGET_LIMIT`, no transaction begins.
@@ -85,6 +87,7 @@ impl<'p, C: Client, S: SegStore, I, O, E> Core<'p, C, S, I, O, E> {
         out: O,
         err: E,
     ) -> Result<Core<'p, C, S, I, O, E>, (NoMemory, I, O, E)>
+        requires first { IsSoundFirst (C.prog client.now) (C.sound client.now) }
         requires store { IsEmpty (S.meaning store) (S.peaks store) }
         requires length { (1 ≤ length) × (length ≤ LENGTH_LIMIT) }
         requires budget { (1 ≤ budget) × (budget ≤ BUDGET_LIMIT) }

@@ -1,4 +1,5 @@
 use Rattle.std.proofs.Common.{◌≡◌, ℕ, None, ap}
+use Rattle.lock_run.specs.ScriptLaws.{script_sound_first}
 use Rattle.seg_store.specs.Meaning.{Meaning}
 use Rattle.seg_store.specs.Store.{IsEmpty}
 use Rattle.seg_store.specs.Plain.{plain_meaning, empty_meaning}
@@ -11,6 +12,9 @@ is_empty m n e = record {
   made = λ j. ap (λ (x : Meaning). (x.part j).made) e;
   none = tt;
 }
+
+pub new-requires-2-clause-first : goal.new-requires-2-clause-first
+new-requires-2-clause-first g c = script_sound_first
 
 pub new-requires-2-clause-store : goal.new-requires-2-clause-store
 new-requires-2-clause-store g c = is_empty (plain_meaning c.in_ok-store.store) 3 c.in_ok-store.ensures

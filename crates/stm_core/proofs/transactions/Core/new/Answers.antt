@@ -18,7 +18,7 @@ returns-in-Ok g c =
         whole = new_whole p m b e.image e.changed e.made n;
         count = subst (CountsSteps 0) (sym n.history) refl;
         kept = subst (IsFullKept _ _) (sym n.cause) tt;
-        sane = new_sane p m b e.image e.changed e.made n (g.C.Client.sound c.args.client.now) c.args.length (g.met.C.Client.sound_first c.args.client.now);
+        sane = new_sane p m b e.image e.changed e.made n (g.C.Client.sound c.args.client.now) c.args.length c.requires.first;
       };
       client = refl;
       limits = refl;
