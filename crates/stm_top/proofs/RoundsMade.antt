@@ -19,7 +19,7 @@ use Rattle.stm_top.specs.declared.answer.Answer.TheVariants.{Done, Failed, Usage
 use Rattle.stm_top.specs.declared.turns.Standing.TheVariants.{Goes, Waits, Over}
 use Rattle.stm_top.specs.Serial.{Serial, FirstFailed}
 use Rattle.stm_top.specs.TopCall.{turn_length, RunEnded}
-use Rattle.stm_top.specs.Rounds.{machine_in, faults_in, SoFar, GoesOn, Still, RestsIn, Quiet, AllRest, EndsWith, StandsAs}
+use Rattle.stm_top.specs.Rounds.{machine_in, faults_in, GoesOn, Still, RestsIn, Quiet, AllRest, EndsWith, StandsAs}
 use Rattle.stm_top.proofs.TurnTaken.{stands_in, state_at, whole_serial}
 
 -- ---- counts of faults

@@ -1,5 +1,5 @@
 -- How the threads stand, as they are asked one after another.
-use Rattle.std.proofs.Common.{◌≡◌, ◌≢◌, ◌⊎◌, inl, inr, ℕ, ◌+◌, ◌≤◌, ◌<◌, List, length, Option, Some, IfSome, true, false, slice_get, sym, ap, subst, ◌∙◌, arith}
+use Rattle.std.proofs.Common.{◌≡◌, ◌≢◌, inl, inr, ℕ, ◌+◌, ◌≤◌, ◌<◌, length, Some, IfSome, false, slice_get, sym, ap, subst, ◌∙◌, arith}
 use Rattle.std.proofs.lemmas.Option.{slice_get_within}
 use Rattle.lock_run.specs.declared.client.Life.{Life}
 use Rattle.lock_run.specs.declared.client.Life.TheVariants.{Lives}

@@ -6,25 +6,23 @@ use Rattle.py_data.specs.Row.{Row, Do, Put, Take}
 use Rattle.py_data.specs.Sense.{Upto}
 use Rattle.py_data.specs.Sight.{Sight, Does, opened, pure}
 use Rattle.py_data.specs.World.{World, grown}
-use Rattle.stm_io.specs.Outside.{Rose}
 use Rattle.lock_run.specs.declared.client.Outcome.TheVariants.{Waits as WaitsNow}
 use Rattle.lock_run.specs.declared.client.Life.TheVariants.{Lives}
 use Rattle.lock_run.specs.declared.turn.TurnWhy.{TurnWhy}
-use Rattle.lock_run.specs.declared.turn.TurnWhy.TheVariants.{NotThere, Waits, ReadFault, WriteFault, ErrFault}
+use Rattle.lock_run.specs.declared.turn.TurnWhy.TheVariants.{Waits, ReadFault, WriteFault, ErrFault}
 use Rattle.lock_run.specs.declared.turn.Turn.{Turn}
 use Rattle.lock_run.specs.LockState.{first_world}
 use Rattle.lock_run.specs.Prog.{Prog}
 use Rattle.lock_run.specs.Machine.{Machine, Steps, Runs, begin_with}
 use Rattle.lock_run.specs.PlainState.{PlainState}
-use Rattle.lock_run.specs.RunState.{SomeLives}
-use Rattle.lock_run.specs.Turns.{LockState, Stands, Rests, CutIn, CutWhy, FreeDone, FreeCut}
+use Rattle.lock_run.specs.Turns.{LockState, Stands, CutIn, CutWhy, FreeDone, FreeCut}
 use Rattle.lock_run.specs.TurnLaws.{SnocLaw}
 use Rattle.stm_core.specs.Stood.{Stood}
 use Rattle.stm_top.specs.declared.answer.Answer.TheVariants.{InputFailed, OutputFailed, ErrorOutputFailed, OutOfMemory}
 use Rattle.lock_run.specs.Cut.{RowCut, Broke}
 use Rattle.stm_top.specs.Serial.{Whole, Cut, Serial, FaultOf}
-use Rattle.stm_top.specs.TopCall.{turn_length, RunEnded}
-use Rattle.stm_top.specs.Rounds.{machine_in, faults_in, SoFar, GoesOn, Still, RestsIn, EndsWith}
+use Rattle.stm_top.specs.TopCall.{turn_length}
+use Rattle.stm_top.specs.Rounds.{machine_in, SoFar, GoesOn, Still, RestsIn, EndsWith}
 
 -- ---- the machine that a LockRun shows
 grown_nothing : (o : Option (List ℕ)) → grown o [] ≡ o

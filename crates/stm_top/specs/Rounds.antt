@@ -1,5 +1,5 @@
 -- What turns of one step that go round the threads leave, as code and proofs say it to each other. Nothing public rests on it.
-use Rattle.std.specs.Prelude.{◌≡◌, ◌≢◌, ℕ, ◌<◌, List, [], Option, Some, length, slice_get, All}
+use Rattle.std.specs.Prelude.{◌≡◌, ℕ, ◌<◌, List, [], Option, length, All}
 use Rattle.lock_run.specs.declared.turn.Turn.{Turn}
 use Rattle.lock_run.specs.LockState.{first_world}
 use Rattle.lock_run.specs.Prog.{Prog}

@@ -1,8 +1,7 @@
-use Rattle.std.proofs.Common.{◌≡◌, ◌<◌, inl, length, refl, arith, sym, ap, subst, ◌∙◌}
+use Rattle.std.proofs.Common.{length, refl, arith, ap, subst}
 use Rattle.lock_run.specs.declared.machine.LockRun.{LockRun}
-use Rattle.lock_run.specs.LockState.{lock_state, lock_client, first_world}
-use Rattle.lock_run.specs.Machine.{begin_with}
-use Rattle.lock_run.specs.Turns.{LockState, Stands}
+use Rattle.lock_run.specs.LockState.{lock_state}
+use Rattle.lock_run.specs.Turns.{LockState}
 use Rattle.stm_top.specs.Rounds.{EndsWith}
 use Rattle.stm_top.specs.TopCall.{devices_of, step_budget}
 use Rattle.stm_top.proofs.TopSteps.{threads_ran}

@@ -1,6 +1,5 @@
-use Rattle.std.proofs.Common.{rules, ◌≡◌, ◌≢◌, ◌+◌, ◌<◌, length, IfSome, slice_get, false, arith, sym, ap, subst, ◌∙◌}
+use Rattle.std.proofs.Common.{◌+◌, ◌<◌, length, IfSome, slice_get, false, arith, sym, subst}
 use Rattle.lock_run.specs.declared.machine.LockRun.{LockRun}
-use Rattle.lock_run.specs.declared.client.Life.TheVariants.{Lives}
 use Rattle.lock_run.specs.LockState.{lock_state, lock_client, IsReady}
 use Rattle.lock_run.specs.Turns.{LockState}
 use Rattle.stm_top.proofs.Standings.{AskedBelow, asked_waits, asked_over, all_asked}

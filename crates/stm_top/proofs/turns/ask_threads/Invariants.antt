@@ -1,5 +1,3 @@
-use Rattle.std.proofs.Common.{◌≡◌, ◌≢◌, ◌<◌, ℕ, slice_get, Some}
-use Rattle.lock_run.specs.declared.client.Life.TheVariants.{Lives}
 use Rattle.lock_run.specs.LockState.{lock_state, lock_client}
 use Rattle.stm_top.proofs.Standings.{AskedBelow}
 use Rattle.stm_top.proofs.turns.ask_threads.Given as goal

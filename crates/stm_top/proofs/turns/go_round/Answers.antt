@@ -1,11 +1,9 @@
-use Rattle.std.proofs.Common.{◌≡◌, ◌≤◌, ◌<◌, length, List, ℕ, IfErr, Err, arith, refl, sym, ap, subst, ◌∙◌}
+use Rattle.std.proofs.Common.{◌≤◌, length, ℕ, arith, refl, subst, ◌∙◌}
 use Rattle.lock_run.specs.declared.machine.LockRun.{LockRun}
-use Rattle.lock_run.specs.declared.turn.Turn.{Turn}
 use Rattle.lock_run.specs.LockState.{lock_state, lock_client}
-use Rattle.lock_run.specs.Prog.{Prog}
 use Rattle.lock_run.specs.Turns.{LockState}
-use Rattle.stm_top.specs.Rounds.{GoesOn, Still, RestsIn, Quiet, EndsWith}
-use Rattle.stm_top.proofs.RoundsMade.{none_fell, falls_since, nothing_yet, goes_then, quiet_first, quiet_next, quiet_all, ends_since, err_of}
+use Rattle.stm_top.specs.Rounds.{GoesOn, RestsIn, EndsWith}
+use Rattle.stm_top.proofs.RoundsMade.{none_fell, falls_since, nothing_yet, goes_then, quiet_first, quiet_next, ends_since, err_of}
 use Rattle.stm_top.proofs.turns.go_round.Given as given
 use Rattle.stm_top.proofs.turns.go_round.Goals as goal
 

@@ -1,9 +1,9 @@
-use Rattle.std.proofs.Common.{◌≡◌, ◌≤◌, ◌<◌, length, List, ℕ, IfSome, slice_get, arith, refl, sym, ap, subst, ◌∙◌}
+use Rattle.std.proofs.Common.{◌≡◌, ◌<◌, length, IfSome, slice_get, arith, subst}
 use Rattle.lock_run.specs.declared.machine.LockRun.{LockRun}
 use Rattle.lock_run.specs.LockState.{lock_state, lock_client}
 use Rattle.lock_run.specs.Turns.{LockState}
 use Rattle.stm_top.specs.declared.turns.Standing.TheVariants.{Goes, Waits, Over}
-use Rattle.stm_top.specs.Rounds.{GoesOn, AllRest, EndsWith, StandsAs}
+use Rattle.stm_top.specs.Rounds.{StandsAs}
 use Rattle.stm_top.proofs.RoundsMade.{ends_going, ends_stuck, ends_failed, ends_done}
 use Rattle.stm_top.proofs.turns.run_turns.Given as given
 use Rattle.stm_top.proofs.turns.run_turns.Goals as goal

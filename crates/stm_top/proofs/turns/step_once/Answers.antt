@@ -1,4 +1,4 @@
-use Rattle.std.proofs.Common.{◌≡◌, ◌++◌, ◌∷◌, [], length, arith, sym, ap, subst, ◌∙◌}
+use Rattle.std.proofs.Common.{◌++◌, ◌∷◌, [], length, arith, sym, ap, subst, ◌∙◌}
 use Rattle.lock_run.specs.declared.machine.LockRun.{LockRun}
 use Rattle.lock_run.specs.LockState.{lock_state, lock_client}
 use Rattle.lock_run.specs.Turns.{LockState}
