@@ -1,6 +1,6 @@
 -- When the call of a builtin waits: `acquire` of a held lock, `join` of a thread that has not ended, and no other.
-use Rattle.std.proofs.Common.{arith, ◌≡◌, ℕ, zero, suc, ◌==◌, ◌||◌, Bool, true, false, cond, List, [], ◌∷◌, length, Option, Some, None, inl, inr, refl, sym, ap, subst, ◌∙◌}
-use Rattle.std.specs.Prelude.{◌⊎◌, ◌&&◌, not, codes, nat_lt}
+use Rattle.std.proofs.Common.{arith, ◌≡◌, ℕ, ◌==◌, ◌<◌, ◌≤◌, ◌||◌, Bool, true, false, cond, List, [], ◌∷◌, length, Option, Some, None, inl, inr, refl, sym, ap, subst, ◌∙◌}
+use Rattle.std.specs.Prelude.{◌⊎◌, ◌&&◌, not, codes}
 use Rattle.std.proofs.lemmas.Bool.Decides.{nat_tests}
 use Rattle.py_base.specs.Numbers.{builtin_number}
 use Rattle.py_base.specs.declared.kind.Kind.{Kind}
@@ -11,29 +11,28 @@ use Rattle.py_data.specs.declared.value.Addr.{Addr}
 use Rattle.py_data.specs.declared.value.Value.{Value}
 use Rattle.py_data.specs.declared.value.Value.TheVariants.{Unset, None as NoneValue, Bool as BoolValue, Int, Ref, Builtin}
 use Rattle.py_data.specs.Closed.{Refers}
-use Rattle.py_data.specs.Heap.{Rec, Heap, Has, at, value_at}
+use Rattle.py_data.specs.Every.{Every}
+use Rattle.py_data.specs.Heap.{Heap, Has, at, value_at}
 use Rattle.py_data.specs.Looking.{kind_row, look_row, got_row}
 use Rattle.py_data.specs.Range.{IsRange}
 use Rattle.py_data.specs.Fault.{argument_fault}
-use Rattle.py_data.specs.Row.{Row, Ret, Do, bind}
+use Rattle.py_data.specs.Row.{Row, Ret, bind}
 use Rattle.py_data.specs.Shape.{HasShape}
 use Rattle.py_data.specs.Truth.{truth, truth_by, has_item}
-use Rattle.py_data.proofs.Steps.{at-is}
-use Rattle.obj_nest.specs.Truth.{bytes_filled, values_filled, step_with, stop_with, range_filled, filled_by, filled_row, plain_truth, truth_row}
+use Rattle.obj_nest.specs.Truth.{bytes_filled, values_filled, step_with, stop_with, range_filled, filled_by, filled_row, truth_row}
 use Rattle.obj_nest.proofs.Filled.{filled}
-use Rattle.obj_str.specs.Methods.{method_row as str_method_row}
 use Rattle.obj_threads.specs.declared.answer.Answer.{Answer}
-use Rattle.obj_threads.specs.declared.answer.Answer.TheVariants.{Value as ValueAnswer, Waits, Start}
+use Rattle.obj_threads.specs.declared.answer.Answer.TheVariants.{Waits, Start}
 use Rattle.obj_threads.specs.declared.keywords.Keywords.{Keywords}
 use Rattle.obj_threads.specs.Arguments.{answered, is_bare, is_set, is_none, is_method_of}
 use Rattle.obj_threads.specs.Keywords.{keywords_row}
 use Rattle.obj_threads.specs.Locks.{made_lock, new_lock_row, held_answer, held_row, hold_row, acquire_by, acquire_row, acquire_with, free_row, release_by, release_row, locked_row, bare_lock_row, unasked_lock_row, lock_by, lock_keyed, lock_of, lock_at, lock_row}
 use Rattle.obj_threads.specs.Quiet.{Never}
-use Rattle.obj_threads.specs.Starting.{count_row, tuple_row, target_row, start_answer, answer_row, room_row, start_by, start_called as start_tested, start_with, begin_row, start_new_with, start_new_row}
-use Rattle.obj_threads.specs.Threads.{made_thread, empty_row, thread_by, thread_with, thread_of_target, thread_given, thread_keyed, new_thread_row, start_called, start_fresh, start_by_number, start_row, is_me, current_fault, joined, join_other, join_started, join_by_number, join_row, bare_thread_row, thread_bare, thread_of, thread_at, thread_row, makes_lock, member_row, thread_call_row}
-use Rattle.obj_builtins.specs.Calls.{valued, str_call, list_call, dict_call, method_by, method_keyed, method_of, method_at, object_row, function_call, function_keyed, input_call, input_keyed, is_function, is_object_method, other_row, call_row}
+use Rattle.obj_threads.specs.Starting.{count_row, tuple_row, target_row, answer_row, room_row, start_by, start_called as start_tested, start_with, begin_row, start_new_with, start_new_row}
+use Rattle.obj_threads.specs.Threads.{made_thread, empty_row, thread_by, thread_with, thread_of_target, thread_given, thread_keyed, new_thread_row, start_called, start_fresh, start_by_number, start_row, is_me, current_fault, joined, join_other, join_started, join_by_number, join_row, bare_thread_row, thread_bare, thread_of, thread_at, thread_row, member_row, thread_call_row}
+use Rattle.obj_builtins.specs.Calls.{valued, str_call, list_call, dict_call, method_by, method_keyed, method_of, method_at, object_row, function_call, function_keyed, input_call, input_keyed, other_row, call_row}
 use Rattle.py_step.specs.Peeked.{Comes, Avoids, Tells, AnswersWait, AreClosed, IsOf}
-use Rattle.py_step.proofs.PeekedRows.{there_at, never_avoids, tells_then, comes_kind, comes_look}
+use Rattle.py_step.proofs.PeekedRows.{there_at, tells_then, comes_kind, comes_look}
 use Rattle.py_frames.proofs.WorkingRows.{never_ret, never_do, never_bind}
 
 -- ---- the numbers
@@ -46,6 +45,12 @@ join = builtin_number (codes "thread.join")
 
 abbrev pub start : ℕ
 start = builtin_number (codes "thread.start")
+
+-- a record that is there has its kind's shape
+shaped : (h : Heap) (closed : AreClosed h) (a : ℕ) (k : Kind) → Has h a → (at h a).kind ≡ k → HasShape h k (at h a).values
+shaped h closed a k there e =
+    let c = closed.each a (at h a) (there_at h a there) in
+    subst (λ k. HasShape h k (at h a).values) e c.shaped.0
 
 -- ---- truth
 
@@ -81,15 +86,9 @@ module _ (S : Type 0) (h : Heap) where
     by_comes Thread i = refl
 
   module _ (closed : AreClosed h) where
-    -- a record that is there has its kind's shape
-    pub shaped : (a : ℕ) (k : Kind) → Has h a → (at h a).kind ≡ k → HasShape h k (at h a).values
-    shaped a k there e =
-        let c = closed.each a (at h a) (there_at h a there) in
-        subst (λ k. HasShape h k (at h a).values) e c.shaped.0
-
     pub truth_comes : (x : Value) → Refers h x → Comes {S = S} h (truth_row x) (truth h x)
     unfolding Comes truth_row filled_row kind_row bind
-    truth_comes (Ref a) i = (i, by_comes a.0 i (at h a.0).kind (λ e. shaped a.0 Range i e))
+    truth_comes (Ref a) i = (i, by_comes a.0 i (at h a.0).kind (λ e. shaped h closed a.0 Range i e))
     truth_comes Unset i = refl
     truth_comes NoneValue i = refl
     truth_comes (BoolValue b) i = refl
@@ -97,28 +96,55 @@ module _ (S : Type 0) (h : Heap) where
     truth_comes (Builtin n) i = refl
 
 -- how many values a record of these kinds has
-pub one_value : (h : Heap) (vs : List Value) → HasShape h Lock vs → length vs ≡ 1
+one_value : (h : Heap) (vs : List Value) → HasShape h Lock vs → length vs ≡ 1
 one_value h (x ∷ []) i = refl
 one_value h [] i = absurd i
 one_value h (x ∷ y ∷ vs) i = absurd i
 
-pub two_values : (h : Heap) (vs : List Value) → HasShape h Method vs → length vs ≡ 2
+two_values : (h : Heap) (vs : List Value) → HasShape h Method vs → length vs ≡ 2
 two_values h (x ∷ y ∷ []) i = refl
 two_values h [] i = absurd i
 two_values h (x ∷ []) i = absurd i
 two_values h (x ∷ y ∷ z ∷ vs) i = absurd i
 
-pub three_values : (h : Heap) (vs : List Value) → HasShape h Range vs → length vs ≡ 3
+three_values : (h : Heap) (vs : List Value) → HasShape h Range vs → length vs ≡ 3
 three_values h (Int i ∷ Int j ∷ Int k ∷ []) s = refl
 three_values h _ s = absurd s
 
-pub four_values : (h : Heap) (vs : List Value) → HasShape h Thread vs → length vs ≡ 4
+four_values : (h : Heap) (vs : List Value) → HasShape h Thread vs → length vs ≡ 4
 four_values h (x ∷ y ∷ z ∷ w ∷ []) i = refl
 four_values h [] i = absurd i
 four_values h (x ∷ []) i = absurd i
 four_values h (x ∷ y ∷ []) i = absurd i
 four_values h (x ∷ y ∷ z ∷ []) i = absurd i
 four_values h (x ∷ y ∷ z ∷ w ∷ v ∷ vs) i = absurd i
+
+module _ (h : Heap) (closed : AreClosed h) (a : ℕ) (there : Has h a) where
+  pub one_in_lock : (at h a).kind ≡ Lock → length (at h a).values ≡ 1
+  one_in_lock e = one_value h (at h a).values (shaped h closed a Lock there e)
+
+  pub two_in_method : (at h a).kind ≡ Method → length (at h a).values ≡ 2
+  two_in_method e = two_values h (at h a).values (shaped h closed a Method there e)
+
+  pub three_in_range : (at h a).kind ≡ Range → length (at h a).values ≡ 3
+  three_in_range e = three_values h (at h a).values (shaped h closed a Range there e)
+
+  pub four_in_thread : (at h a).kind ≡ Thread → length (at h a).values ≡ 4
+  four_in_thread e = four_values h (at h a).values (shaped h closed a Thread there e)
+
+  pub values_refer : Every (Refers h) (at h a).values
+  values_refer = (closed.each a (at h a) (there_at h a there)).refers
+
+-- ---- arguments, by how many there are
+
+pub none_of : {A : Type 0} (xs : List A) → length xs < 1 → xs ≡ []
+none_of [] i = refl
+none_of (x ∷ xs) i = absurd (let e : ⊥ = omega (arith, i) in e)
+
+pub one_of : (xs : List Value) → 1 ≤ length xs → length xs < 2 → xs ≡ value_at xs 0 ∷ []
+one_of [] i j = absurd (let e : ⊥ = omega (arith, i) in e)
+one_of (x ∷ []) i j = refl
+one_of (x ∷ y ∷ xs) i j = absurd (let e : ⊥ = omega (arith, j) in e)
 
 -- ---- what waits
 
@@ -185,11 +211,11 @@ module _ (S : Type 0) (h : Heap) where
     unfolding acquire_with
     held_asked b args x n e c = subst (λ args. Told b (acquire_with a args)) (sym n) (held_waits b (Some x) e (held_tells b x c))
 
-    pub many_tells : (args : List Value) → nat_lt 1 (length args) ≡ true → Told false (acquire_with a args)
+    pub many_goes : (args : List Value) → 2 ≤ length args → Told false (acquire_with a args)
     unfolding acquire_with Avoids
-    many_tells [] e = absurd (let q : false ≡ true = e in cc)
-    many_tells (x ∷ []) e = absurd (let q : false ≡ true = e in cc)
-    many_tells (x ∷ y ∷ zs) e = raise_not _
+    many_goes [] i = absurd (let e : ⊥ = omega (arith, i) in e)
+    many_goes (x ∷ []) i = absurd (let e : ⊥ = omega (arith, i) in e)
+    many_goes (x ∷ y ∷ zs) i = raise_not _
 
     -- ---- join
 
@@ -213,14 +239,15 @@ module _ (S : Type 0) (h : Heap) where
       unfolding Avoids
       me_goes n e = mine false true e n (raise_not _)
 
-      joined_tells : (b ended : Bool) → ended ≡ not b → Told b (Ret (joined ended))
-      joined_tells true ended e = waits _ (ap joined e)
-      joined_tells false ended e = goes _ (subst (λ b. AnswersWait (joined b) → ⊥) (sym e) (value_not _))
+      joined_tells : (ended : Bool) → Told (not ended) (Ret (joined ended))
+      joined_tells false = waits _ refl
+      joined_tells true = goes _ (value_not _)
 
-      pub other_tells : (b : Bool) → is_none (value_at (at h a).values 2) ≡ false → is_me me a ≡ false → is_set (value_at (at h a).values 3) ≡ not b → Told b (join_row me a)
+      pub other_tells : (ended : Bool) → is_none (value_at (at h a).values 2) ≡ false → is_me me a ≡ false → is_set (value_at (at h a).values 3) ≡ ended → Told (not ended) (join_row me a)
       unfolding join_other
-      other_tells b n e i =
-          mine b false e n (tells_then h b AnswersWait (look_row a 3) (λ ended. Ret (joined (is_set ended))) (value_at (at h a).values 3) (comes_look S h a there 3) (joined_tells b _ i))
+      other_tells ended n e i =
+          let last : Told (not ended) (Ret (joined (is_set (value_at (at h a).values 3)))) = subst (λ b. Told (not ended) (Ret (joined b))) (sym i) (joined_tells ended) in
+          mine (not ended) false e n (tells_then h (not ended) AnswersWait (look_row a 3) (λ ended. Ret (joined (is_set ended))) (value_at (at h a).values 3) (comes_look S h a there 3) last)
 
   -- ---- methods of locks and threads
 
@@ -264,19 +291,21 @@ module _ (S : Type 0) (h : Heap) where
     asked_of a x xs _ = raise_not _
 
     -- with an argument
-    pub asked_goes : (own : Value) (args : List Value) (x : Value) (xs : List Value) → args ≡ x ∷ xs → Refers h own → Told false (thread_row roots me join own args [])
+    pub asked_goes : (own : Value) (args : List Value) → 1 ≤ length args → Refers h own → Told false (thread_row roots me join own args [])
     unfolding thread_row thread_at Avoids
-    asked_goes own args x xs e i = subst (λ args. Told false (thread_row roots me join own args [])) (sym e) (by own i)
-      where
-        by : (own : Value) → Refers h own → Told false (thread_row roots me join own (x ∷ xs) [])
-        by (Ref a) i = tells_then h false AnswersWait (kind_row a.0) (λ k. thread_of roots me join a (x ∷ xs) [] k) (at h a.0).kind (comes_kind S h a.0 i) (asked_of a x xs (at h a.0).kind)
-        by _ i = raise_not _
+    asked_goes own [] n i = absurd (let e : ⊥ = omega (arith, n) in e)
+    asked_goes (Ref a) (x ∷ xs) n i = tells_then h false AnswersWait (kind_row a.0) (λ k. thread_of roots me join a (x ∷ xs) [] k) (at h a.0).kind (comes_kind S h a.0 i) (asked_of a x xs (at h a.0).kind)
+    asked_goes _ (x ∷ xs) n i = raise_not _
 
 -- ---- every other builtin
 
 -- neither of the two, or a keyword is given
 abbrev pub IsOther : ℕ → List Value → Type 0
 IsOther b keys = (((b == acquire) ≡ false) × ((b == join) ≡ false)) ⊎ ((length keys == 0) ≡ false)
+
+-- a number that is neither of the two
+pub neither : (b : ℕ) (keys : List Value) → (b ≡ acquire → ⊥) → (b ≡ join → ⊥) → IsOther b keys
+neither b keys n m = inl (grind (arith, nat_tests, n), grind (arith, nat_tests, m))
 
 -- the other method of threads
 one_left : (b : ℕ) → (b == join) ≡ false → is_method_of Thread b ≡ true → (b == start) ≡ true

@@ -1,5 +1,5 @@
 -- When the call of a value waits: it is a builtin, or a Method of one, whose call waits.
-use Rattle.std.proofs.Common.{arith, ◌≡◌, ℕ, Bool, true, false, List, [], ◌∷◌, length, drop, Option, Some, None, inl, inr, refl, sym, ap, subst, ◌∙◌}
+use Rattle.std.proofs.Common.{arith, ◌≡◌, ℕ, Bool, false, List, [], ◌∷◌, length, drop, Option, inr, refl, sym, ap, subst, ◌∙◌}
 use Rattle.std.specs.Prelude.{◌==◌, option_map}
 use Rattle.std.proofs.lemmas.Bool.Decides.{nat_tests}
 use Rattle.py_base.specs.declared.kind.Kind.{Kind}
@@ -9,6 +9,7 @@ use Rattle.py_data.specs.declared.record.Got.TheVariants.{Is, Raise}
 use Rattle.py_data.specs.declared.value.Addr.{Addr}
 use Rattle.py_data.specs.declared.value.Value.{Value}
 use Rattle.py_data.specs.declared.value.Value.TheVariants.{Unset, None as NoneValue, Bool as BoolValue, Int, Ref, Builtin}
+use Rattle.py_data.specs.Closed.{Refers}
 use Rattle.py_data.specs.Heap.{Heap, Has, at, value_at}
 use Rattle.py_data.specs.Looking.{kind_row, look_row}
 use Rattle.py_data.specs.Row.{Row, Ret, Do, bind}
@@ -18,16 +19,16 @@ use Rattle.obj_threads.specs.Quiet.{Never}
 use Rattle.obj_builtins.specs.Calls.{call_row}
 use Rattle.py_frames.specs.declared.next.Next.{Next}
 use Rattle.py_frames.specs.declared.next.Next.TheVariants.{Waits}
-use Rattle.py_frames.specs.Binding.{Given, with_first, with_own}
+use Rattle.py_frames.specs.Binding.{Given, with_own}
 use Rattle.py_frames.specs.CallRows.{answered, keyed_call, key_pairs, keys_row, builtin_call, owned_call, method_of, method_call, record_call, value_call}
 use Rattle.py_frames.specs.ClassCalls.{Site}
-use Rattle.py_frames.specs.Raising.{values_row, place_in}
+use Rattle.py_frames.specs.Raising.{values_row}
 use Rattle.py_frames.specs.State.{State}
-use Rattle.py_step.specs.Peeked.{Comes, Avoids, Tells, AnswersWait, LeadsToWait}
-use Rattle.py_step.proofs.BuiltinWaits.{IsOther, other_goes}
+use Rattle.py_step.specs.Peeked.{Comes, Tells, AnswersWait, LeadsToWait, IsOf}
+use Rattle.py_step.proofs.BuiltinWaits.{other_goes}
 use Rattle.py_frames.proofs.QuietSteps.{start_works}
 use Rattle.py_step.proofs.PeekedRows.{never_avoids, tells_then, tells_after, comes_kind, comes_look}
-use Rattle.py_frames.proofs.WorkingRows.{Works, then_works, never_bind, goes, raises, class_call_works, function_call_works}
+use Rattle.py_frames.proofs.WorkingRows.{Works, then_works, goes, raises, class_call_works, function_call_works}
 
 -- the Thread record of the thread, as a call gets it
 abbrev pub me_of : Option Addr → Option ℕ
@@ -73,9 +74,17 @@ module _ (h : Heap) where
       subst (λ ns. Works (row ns)) (sym e) works
 
   -- ---- a Method
-  own_names : (own : Value) (g : Given) → (with_own own g).names ≡ g.names
+  pub own_names : (own : Value) (g : Given) → (with_own own g).names ≡ g.names
   own_names Unset g = refl
   own_names _ g = refl
+
+  pub own_args : (own : Value) (g k : Given) → g.args ≡ k.args → (with_own own g).args ≡ (with_own own k).args
+  own_args Unset g k e = e
+  own_args NoneValue g k e = ap (λ xs. NoneValue ∷ xs) e
+  own_args (BoolValue b) g k e = ap (λ xs. BoolValue b ∷ xs) e
+  own_args (Int n) g k e = ap (λ xs. Int n ∷ xs) e
+  own_args (Ref a) g k e = ap (λ xs. Ref a ∷ xs) e
+  own_args (Builtin n) g k e = ap (λ xs. Builtin n ∷ xs) e
 
   owned_works : (s : Site) (f : Value) (g : Given) (own : Value) → ((b : ℕ) → f ≡ Builtin b → ⊥) → Works (owned_call s f g own)
   unfolding owned_call
@@ -110,6 +119,14 @@ module _ (h : Heap) where
     pub method_goes : (s : Site) (g : Given) → ((b : ℕ) → value_at (at h a).values 0 ≡ Builtin b → ⊥) → Told false (method_call s g a)
     method_goes s g n = looked false s g (never_avoids LeadsToWait h _ (owned_works s _ g _ n))
 
+  -- ---- the call of a builtin by a site, for the thread and the arguments that are known to be its own
+  pub known_tells : (b : Bool) (s : Site) (g : Given) (me : Option Addr) (args : List Value) (own x : Value) (n : ℕ) → s.thread ≡ me → g.args ≡ args → own ≡ x
+      → Tells {S = State} b AnswersWait h (call_row s.roots (me_of me) n x args []) → Tells {S = State} b AnswersWait h (call_row s.roots (me_of s.thread) n own g.args [])
+  known_tells b s g me args own x n e f i t =
+      subst (λ x. Tells {S = State} b AnswersWait h (call_row s.roots (me_of s.thread) n x g.args [])) (sym i)
+      (subst (λ me. Tells {S = State} b AnswersWait h (call_row s.roots (me_of me) n x g.args [])) (sym e)
+      (subst (λ args. Tells {S = State} b AnswersWait h (call_row s.roots (me_of me) n x args [])) (sym f) t))
+
   -- ---- the call of a value
   pub plain_call : (b : Bool) (s : Site) (own f : Value) (g : Given) (n : ℕ) → f ≡ Builtin n → g.names ≡ [] → Tells {S = State} b AnswersWait h (call_row s.roots (me_of s.thread) n own g.args []) → Told b (value_call s own g f)
   unfolding value_call
@@ -129,11 +146,13 @@ module _ (h : Heap) where
   record_works s g a _ n = raises State s.roots _
 
   -- another record
-  pub record_goes : (s : Site) (own f : Value) (g : Given) (a : Addr) → f ≡ Ref a → Has h a.0 → ((at h a.0).kind ≡ Method → ⊥) → Told false (value_call s own g f)
+  pub record_goes : (s : Site) (own f : Value) (g : Given) (a : Addr) → f ≡ Ref a → Refers h f → (IsOf h Method f → ⊥) → Told false (value_call s own g f)
   unfolding value_call
-  record_goes s own f g a e there n =
+  record_goes s own f g a e i n =
+      let there : Has h a.0 = subst (Refers h) e i in
+      let other : (at h a.0).kind ≡ Method → ⊥ = subst (λ f. IsOf h Method f → ⊥) e n in
       subst (λ f. Told false (value_call s own g f)) (sym e)
-      (tells_then h false LeadsToWait (kind_row a.0) (λ k. record_call s (with_own own g) a.0 k) (at h a.0).kind (comes_kind State h a.0 there) (never_avoids LeadsToWait h _ (record_works s _ a.0 _ n)))
+      (tells_then h false LeadsToWait (kind_row a.0) (λ k. record_call s (with_own own g) a.0 k) (at h a.0).kind (comes_kind State h a.0 there) (never_avoids LeadsToWait h _ (record_works s _ a.0 _ other)))
 
   -- a value that is neither a builtin nor a record
   pub value_goes : (s : Site) (own f : Value) (g : Given) → ((b : ℕ) → f ≡ Builtin b → ⊥) → ((a : Addr) → f ≡ Ref a → ⊥) → Told false (value_call s own g f)

@@ -2,7 +2,7 @@
 use Rattle.std.proofs.Common.{◌≡◌, ℕ, Bool, true, false, Some, refl, sym, ap, subst, ◌∙◌}
 use Rattle.py_data.specs.Heap.{Heap, Has, at, value_at}
 use Rattle.py_data.specs.Looking.{kind_row, look_row}
-use Rattle.py_data.specs.Row.{Call, Reply, Row, Ret, Do, Read, Find, Edit, Make, Start, Put, Take, MidLine, SetMidLine, bind}
+use Rattle.py_data.specs.Row.{Row, Ret, Do, Read, bind}
 use Rattle.py_data.specs.Sense.{Run}
 use Rattle.py_data.specs.Sight.{Sight, Does, opened, looked_at}
 use Rattle.py_data.proofs.Steps.{at-is}

@@ -1,14 +1,14 @@
 -- What a call looks at is there: what stands on the stack of a thread that may stand over a heap.
-use Rattle.std.proofs.Common.{◌≡◌, ℕ, zero, suc, List, [], ◌∷◌, drop, take, Option, Some, None, inl, inr, refl, sym, ap, subst, ◌∙◌}
+use Rattle.std.proofs.Common.{◌≡◌, ℕ, zero, suc, List, [], ◌∷◌, drop, Option, Some, None, inl, inr, sym, ap, subst, ◌∙◌}
 use Rattle.std.specs.Prelude.{slice_get}
 use Rattle.py_data.specs.declared.value.Value.{Value}
 use Rattle.py_data.specs.Closed.{Refers}
 use Rattle.py_data.specs.Every.{Every}
-use Rattle.py_data.specs.Heap.{Rec, Heap, value_at, no_records}
+use Rattle.py_data.specs.Heap.{Rec, Heap, value_at}
 use Rattle.py_code.specs.declared.program.Program.{Program}
 use Rattle.lock_run.specs.Client.{Standing}
 use Rattle.py_frames.specs.declared.state.Frame.{Frame}
-use Rattle.py_frames.specs.Sound.{CanGoOn, AreFrames, IsState, AreStates, IsBegin, first_state, Sound}
+use Rattle.py_frames.specs.Sound.{CanGoOn, AreFrames, IsState, first_state, Sound}
 use Rattle.py_frames.specs.State.{State}
 use Rattle.py_states.specs.Innermost.{innermost}
 use Rattle.py_step.specs.Peeked.{AreClosed}

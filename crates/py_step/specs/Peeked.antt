@@ -1,15 +1,14 @@
 -- What a row comes to over one heap by looks alone: what the code that tells whether a step would wait, and its proofs, say to
 -- each other. Nothing public rests on it.
-use Rattle.std.specs.Prelude.{◌≡◌, Bool, true, false, List, length}
+use Rattle.std.specs.Prelude.{◌≡◌, Bool, true, false}
 use Rattle.py_base.specs.declared.kind.Kind.{Kind}
 use Rattle.py_data.specs.declared.value.Value.{Value}
 use Rattle.py_data.specs.declared.value.Value.TheVariants.{Ref}
 use Rattle.py_data.specs.declared.record.Got.{Got}
 use Rattle.py_data.specs.declared.record.Got.TheVariants.{Is}
-use Rattle.py_data.specs.Closed.{Refers, IsClosed}
-use Rattle.py_data.specs.Every.{Every}
+use Rattle.py_data.specs.Closed.{IsClosed}
 use Rattle.py_data.specs.Heap.{Heap, Has, at}
-use Rattle.py_data.specs.Row.{Call, Reply, Row, Ret, Do, Read}
+use Rattle.py_data.specs.Row.{Reply, Row, Ret, Do, Read}
 use Rattle.lock_run.specs.declared.client.Outcome.{Outcome}
 use Rattle.lock_run.specs.declared.client.Outcome.TheVariants.{Waits as WaitsNow}
 use Rattle.obj_threads.specs.declared.answer.Answer.{Answer}

@@ -25,7 +25,7 @@ fn is_unset(x: Value) -> bool
 }
 
 /// One of the values is Unset.
-pub fn has_unset(values: &[Value]) -> bool
+fn has_unset(values: &[Value]) -> bool
     ensures { result ≡ steps.has_unset values.now }
 {
     values.iter().any(|x| is_unset(*x))
@@ -33,7 +33,7 @@ pub fn has_unset(values: &[Value]) -> bool
 
 /// One of an instruction's operands that may not be Unset is. A few instructions only move theirs.
 #[tactic(auto, using(std::proofs::lemmas::List::Folds::list_any_append))]
-fn lacks_operand(i: Instr, xs: &[Value]) -> bool
+pub fn lacks_operand(i: Instr, xs: &[Value]) -> bool
     ensures { result ≡ steps.has_unset (steps.wanted i xs.now) }
 {
     match i {

@@ -47,7 +47,8 @@ fn is_me(me: Option<Addr>, a: Addr) -> bool
 /// The address of a record of this kind, where the value is that of one.
 pub fn record_of<P: Peek>(heap: &P, x: Value, kind: Kind) -> Option<Addr>
     requires refers { Refers (P.image heap.now) x }
-    ensures { MatchOption result (IsOf (P.image heap.now) kind x → ⊥) (λ a. (x ≡ Ref a) × Has (P.image heap.now) a.0 × (at (P.image heap.now) a.0).kind ≡ kind) }
+    ensures { MatchOption result (IsOf (P.image heap.now) kind x → ⊥)
+        (λ a. (x ≡ Ref a) × Has (P.image heap.now) a.0 × (at (P.image heap.now) a.0).kind ≡ kind) }
 {
     match x {
         Value::Ref(a) => {
@@ -111,7 +112,9 @@ fn lock_waits<P: Peek>(heap: &P, own: Value, args: &[Value]) -> bool
 fn thread_waits<P: Peek>(heap: &P, me: Option<Addr>, own: Value, args: &[Value]) -> bool
     requires closed { AreClosed (P.image heap.now) }
     requires own { Refers (P.image heap.now) own }
-    ensures { (roots : ℕ) → Tells {S = State} result AnswersWait (P.image heap.now) (thread_row roots (option_map (λ m. m.0) me) (builtin_number (codes "thread.join")) own args.now []) }
+    ensures { (roots : ℕ)
+        → Tells {S = State} result AnswersWait (P.image heap.now)
+        (thread_row roots (option_map (λ m. m.0) me) (builtin_number (codes "thread.join")) own args.now []) }
 {
     match args {
         [] => match record_of(heap, own, Kind::Thread) {

@@ -17,11 +17,12 @@ fn method_waits<P: Peek>(heap: &P, me: Option<Addr>, a: Addr, args: &[Value]) ->
     requires there { Has (P.image heap.now) a.0 }
     requires method { length (at (P.image heap.now) a.0).values ≡ 2 }
     requires refer { Every (Refers (P.image heap.now)) args.now }
-    ensures { (s : Site) (g : Given) → s.thread ≡ me → g.args ≡ args.now → g.names ≡ [] → Tells result LeadsToWait (P.image heap.now) (method_call s g a.0) }
+    ensures { (s : Site) (g : Given) → s.thread ≡ me → g.args ≡ args.now → g.names ≡ []
+        → Tells result LeadsToWait (P.image heap.now) (method_call s g a.0) }
 {
     match heap.peek_val(a, 0) {
         Value::Builtin(b) => builtin_waits(heap, me, b, heap.peek_val(a, 1), args),
-        Value::Unset | Value::None | Value::Bool(_) | Value::Int(_) | Value::Ref(_) => false,
+        _ => false,
     }
 }
 
@@ -39,7 +40,8 @@ pub fn value_waits<P: Peek>(
     requires called { Refers (P.image heap.now) called }
     requires some { Every (Refers (P.image heap.now)) args.now }
     requires every { Every (Refers (P.image heap.now)) all.now }
-    ensures { (s : Site) (g : Given) → s.thread ≡ me → g.args ≡ args.now → (with_own own g).args ≡ all.now → g.names ≡ [] → Tells result LeadsToWait (P.image heap.now) (value_call s own g called) }
+    ensures { (s : Site) (g : Given) → s.thread ≡ me → g.args ≡ args.now → (with_own own g).args ≡ all.now → g.names ≡ []
+        → Tells result LeadsToWait (P.image heap.now) (value_call s own g called) }
 {
     match called {
         Value::Builtin(b) => builtin_waits(heap, me, b, own, args),
@@ -47,6 +49,6 @@ pub fn value_waits<P: Peek>(
             Some(a) => method_waits(heap, me, a, all),
             None => false,
         },
-        Value::Unset | Value::None | Value::Bool(_) | Value::Int(_) => false,
+        _ => false,
     }
 }
