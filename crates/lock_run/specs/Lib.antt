@@ -9,6 +9,7 @@ pub mod Prog
 pub mod Client
 pub mod Machine
 pub mod Cut
+mod CutWorked
 pub mod Turns
 pub mod TurnLaws
 pub mod LockState

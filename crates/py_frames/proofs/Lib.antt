@@ -19,7 +19,7 @@ pub mod Outcomes
 mod SetupHolds
 mod FirstStep
 pub mod SoundLaws
-mod WorkingRows
+pub mod WorkingRows
 pub mod QuietSteps
 mod CalmInstrs
 mod SteadyInstrs

@@ -104,7 +104,7 @@ unfolding target_start owned_start
 target_works s thread args a Method = then_works State _ _ (λ f. then_works State _ _ (λ own. function_start_works s thread _ _))
 target_works s thread args a _ = function_start_works s thread args a
 
-start_works : (s : Site) (thread : Option Addr) (target : Value) (args : ℕ) → Works (start_row s thread target args)
+pub start_works : (s : Site) (thread : Option Addr) (target : Value) (args : ℕ) → Works (start_row s thread target args)
 unfolding start_row kind_start
 start_works s thread target args = then_works State _ _ (λ vs. then_works State _ _ (λ k. target_works s thread vs _ k))
 
@@ -166,59 +166,71 @@ value_quiet s own g _ = works_quiet _ (raises State s.roots _)
 
 -- ---- every instruction
 
+-- the instruction calls a value
+abbrev pub is_call : Instr → Bool
+is_call (CallInstr m l) = true
+is_call (CallMethod m l) = true
+is_call _ = false
+
+pub instr_works : (s : Site) (f : Frame) (xs : List Value) (i : Instr) → is_call i ≡ false → Works (instr_row s f xs i)
+unfolding instr_row
+instr_works s f xs Setup e = setup_works State s.program
+instr_works s f xs (Const c) e = const_works State s.roots c
+instr_works s f xs Pop e = goes State []
+instr_works s f xs Dup e = goes State _
+instr_works s f xs Rot2 e = goes State _
+instr_works s f xs Dup2 e = goes State _
+instr_works s f xs Rot3 e = goes State _
+instr_works s f xs (LoadLocal i) e = load_local_works State s.roots _ _
+instr_works s f xs (StoreLocal i) e = stores State i _
+instr_works s f xs (DelLocal i) e = del_local_works State s.roots _ i _
+instr_works s f xs (LoadGlobal g) e = load_global_works State s.roots g _ _
+instr_works s f xs (StoreGlobal g) e = store_global_works State s.roots g _
+instr_works s f xs (DelGlobal g) e = del_global_works State s.roots g _
+instr_works s f xs (LoadName n) e = load_name_works State s.roots _ n _ _ _
+instr_works s f xs (StoreName n) e = store_name_works State s.roots _ n _
+instr_works s f xs (DelName n) e = del_name_works State s.roots _ n _
+instr_works s f xs (LoadAttr n) e = load_attr_works State s.roots n _
+instr_works s f xs (StoreAttr n) e = store_attr_works State s.roots n _ _
+instr_works s f xs (DelAttr n) e = del_attr_works State s.roots n _
+instr_works s f xs (LoadMethod n) e = load_method_works State s.roots n _
+instr_works s f xs LoadItem e = load_item_works State s.roots _ _
+instr_works s f xs StoreItem e = store_item_works State s.roots _ _ _
+instr_works s f xs DelItem e = del_item_works State s.roots _ _
+instr_works s f xs Slice e = slice_works State s.roots _ _ _
+instr_works s f xs (Unary o) e = unary_works State s.roots o _
+instr_works s f xs Not e = not_works State _
+instr_works s f xs (Binary o) e = binary_works State s.roots o _ _
+instr_works s f xs (InPlace o) e = in_place_works State s.roots o _ _
+instr_works s f xs (Compare o) e = compare_works State s.roots o _ _
+instr_works s f xs (Jump t) e = jumps State t []
+instr_works s f xs (JumpFalse t) e = jump_false_works State t _
+instr_works s f xs (KeepFalse t) e = keep_false_works State t _
+instr_works s f xs (KeepTrue t) e = keep_true_works State t _
+instr_works s f xs (BuildTuple n) e = build_works State s.roots _ xs
+instr_works s f xs (BuildList n) e = build_works State s.roots _ xs
+instr_works s f xs (BuildDict n) e = build_dict_works State s.roots xs
+instr_works s f xs (Unpack n) e = unpack_works State s.roots n _
+instr_works s f xs IterInstr e = iter_works State s.roots _
+instr_works s f xs (NextInstr t) e = next_works State s.roots t _
+instr_works s f xs (CallInstr m l) e = absurd (let q : true ≡ false = e in cc)
+instr_works s f xs (CallMethod m l) e = absurd (let q : true ≡ false = e in cc)
+instr_works s f xs Return e = return_works State s.roots s.thread _ _ _ f.made f.names
+instr_works s f xs (MakeFunction c n) e = make_function_works State s.roots _ c xs
+instr_works s f xs (ClassBody c) e = class_body_works State s c _
+instr_works s f xs (Try t) e = works State (Opens t) (λ q. let z : Opens t ≡ Waits = q in cc)
+instr_works s f xs PopTry e = works State Closes (λ q. let z : Closes ≡ Waits = q in cc)
+instr_works s f xs ExcMatch e = exc_match_works State s.roots _ _
+instr_works s f xs (MakeRaised n) e = made_raised_works State s xs n
+instr_works s f xs RaiseInstr e = raise_works State s.roots _
+instr_works s f xs PrintItem e = print_item_works State s.roots _
+instr_works s f xs PrintNewline e = newline_works State
+
 instr_quiet : (s : Site) (f : Frame) (xs : List Value) (i : Instr) → Quiet (instr_row s f xs i)
 unfolding instr_row
-instr_quiet s f xs Setup = works_quiet _ (setup_works State s.program)
-instr_quiet s f xs (Const c) = works_quiet _ (const_works State s.roots c)
-instr_quiet s f xs Pop = works_quiet _ (goes State [])
-instr_quiet s f xs Dup = works_quiet _ (goes State _)
-instr_quiet s f xs Rot2 = works_quiet _ (goes State _)
-instr_quiet s f xs Dup2 = works_quiet _ (goes State _)
-instr_quiet s f xs Rot3 = works_quiet _ (goes State _)
-instr_quiet s f xs (LoadLocal i) = works_quiet _ (load_local_works State s.roots _ _)
-instr_quiet s f xs (StoreLocal i) = works_quiet _ (stores State i _)
-instr_quiet s f xs (DelLocal i) = works_quiet _ (del_local_works State s.roots _ i _)
-instr_quiet s f xs (LoadGlobal g) = works_quiet _ (load_global_works State s.roots g _ _)
-instr_quiet s f xs (StoreGlobal g) = works_quiet _ (store_global_works State s.roots g _)
-instr_quiet s f xs (DelGlobal g) = works_quiet _ (del_global_works State s.roots g _)
-instr_quiet s f xs (LoadName n) = works_quiet _ (load_name_works State s.roots _ n _ _ _)
-instr_quiet s f xs (StoreName n) = works_quiet _ (store_name_works State s.roots _ n _)
-instr_quiet s f xs (DelName n) = works_quiet _ (del_name_works State s.roots _ n _)
-instr_quiet s f xs (LoadAttr n) = works_quiet _ (load_attr_works State s.roots n _)
-instr_quiet s f xs (StoreAttr n) = works_quiet _ (store_attr_works State s.roots n _ _)
-instr_quiet s f xs (DelAttr n) = works_quiet _ (del_attr_works State s.roots n _)
-instr_quiet s f xs (LoadMethod n) = works_quiet _ (load_method_works State s.roots n _)
-instr_quiet s f xs LoadItem = works_quiet _ (load_item_works State s.roots _ _)
-instr_quiet s f xs StoreItem = works_quiet _ (store_item_works State s.roots _ _ _)
-instr_quiet s f xs DelItem = works_quiet _ (del_item_works State s.roots _ _)
-instr_quiet s f xs Slice = works_quiet _ (slice_works State s.roots _ _ _)
-instr_quiet s f xs (Unary o) = works_quiet _ (unary_works State s.roots o _)
-instr_quiet s f xs Not = works_quiet _ (not_works State _)
-instr_quiet s f xs (Binary o) = works_quiet _ (binary_works State s.roots o _ _)
-instr_quiet s f xs (InPlace o) = works_quiet _ (in_place_works State s.roots o _ _)
-instr_quiet s f xs (Compare o) = works_quiet _ (compare_works State s.roots o _ _)
-instr_quiet s f xs (Jump t) = works_quiet _ (jumps State t [])
-instr_quiet s f xs (JumpFalse t) = works_quiet _ (jump_false_works State t _)
-instr_quiet s f xs (KeepFalse t) = works_quiet _ (keep_false_works State t _)
-instr_quiet s f xs (KeepTrue t) = works_quiet _ (keep_true_works State t _)
-instr_quiet s f xs (BuildTuple n) = works_quiet _ (build_works State s.roots _ xs)
-instr_quiet s f xs (BuildList n) = works_quiet _ (build_works State s.roots _ xs)
-instr_quiet s f xs (BuildDict n) = works_quiet _ (build_dict_works State s.roots xs)
-instr_quiet s f xs (Unpack n) = works_quiet _ (unpack_works State s.roots n _)
-instr_quiet s f xs IterInstr = works_quiet _ (iter_works State s.roots _)
-instr_quiet s f xs (NextInstr t) = works_quiet _ (next_works State s.roots t _)
 instr_quiet s f xs (CallInstr m l) = value_quiet s _ _ _
 instr_quiet s f xs (CallMethod m l) = value_quiet s _ _ _
-instr_quiet s f xs Return = works_quiet _ (return_works State s.roots s.thread _ _ _ f.made f.names)
-instr_quiet s f xs (MakeFunction c n) = works_quiet _ (make_function_works State s.roots _ c xs)
-instr_quiet s f xs (ClassBody c) = works_quiet _ (class_body_works State s c _)
-instr_quiet s f xs (Try t) = works_quiet _ (works State (Opens t) (λ q. let z : Opens t ≡ Waits = q in cc))
-instr_quiet s f xs PopTry = works_quiet _ (works State Closes (λ q. let z : Closes ≡ Waits = q in cc))
-instr_quiet s f xs ExcMatch = works_quiet _ (exc_match_works State s.roots _ _)
-instr_quiet s f xs (MakeRaised n) = works_quiet _ (made_raised_works State s xs n)
-instr_quiet s f xs RaiseInstr = works_quiet _ (raise_works State s.roots _)
-instr_quiet s f xs PrintItem = works_quiet _ (print_item_works State s.roots _)
-instr_quiet s f xs PrintNewline = works_quiet _ (newline_works State)
+instr_quiet s f xs i = works_quiet (instr_row s f xs i) (instr_works s f xs i refl)
 
 guarded_quiet : (s : Site) (f : Frame) (xs : List Value) (i : Instr) → Quiet (guarded_row s f xs i)
 unfolding guarded_row
@@ -227,7 +239,7 @@ guarded_quiet s f xs i = behind_cond Waiting (has_unset (wanted i xs)) (raise_ro
 -- ---- a step
 
 -- the step waits
-abbrev Stays : Outcome × State → Type 0
+abbrev pub Stays : Outcome × State → Type 0
 Stays z = z.0 ≡ WaitsNow
 
 -- a step that waits leaves the state
@@ -244,7 +256,7 @@ returned_not : (s : State) (x : Value) (fs : List Frame) → Stays (returned s x
 returned_not s x [] e = ended_not e
 returned_not s x (g ∷ fs) e = done_not e
 
-settled_waits : (p : Program) (s : State) (n : ℕ) (f : Frame) (fs : List Frame) (next : Next) → Stays (settled p s n f fs next) → next ≡ Waits
+pub settled_waits : (p : Program) (s : State) (n : ℕ) (f : Frame) (fs : List Frame) (next : Next) → Stays (settled p s n f fs next) → next ≡ Waits
 unfolding settled
 settled_waits p s n f fs (Goes ys) e = absurd (done_not e)
 settled_waits p s n f fs (Jumps t ys) e = absurd (done_not e)

@@ -24,13 +24,7 @@ fn exception_named(name: &[u8]) -> Option<u8>
     ensures { result ≡ number_in globals.exception_names name.now }
 {
     match class_number(name) {
-        Some(n) => {
-            if n < THREAD_ERROR {
-                Some(n)
-            } else {
-                None
-            }
-        }
+        Some(n) => { if n < THREAD_ERROR { Some(n) } else { None } }
         None => None,
     }
 }
@@ -40,13 +34,7 @@ fn function_number(name: &[u8]) -> Option<u8>
     ensures { result ≡ number_in globals.function_names name.now }
 {
     match builtin_number(name) {
-        Some(n) => {
-            if n < THREAD_MODULE {
-                Some(n)
-            } else {
-                None
-            }
-        }
+        Some(n) => { if n < THREAD_MODULE { Some(n) } else { None } }
         None => None,
     }
 }

@@ -1,2 +1,4 @@
+pub mod Guarding
 pub mod Moving
+pub mod Places
 pub mod Standing

@@ -15,13 +15,11 @@ use Rattle.lock_run.specs.declared.client.Life.TheVariants.{Lives, Failed, Ended
 use Rattle.py_frames.specs.declared.state.Dying.{Dying}
 use Rattle.py_frames.specs.declared.state.Frame.{Frame}
 use Rattle.py_frames.specs.declared.next.Next.{Next}
-use Rattle.py_frames.specs.PrintRows.{dying_row}
-use Rattle.py_frames.specs.Raising.{place_of}
 use Rattle.py_frames.specs.State.{State, instr_at, life_by, life_of, pops, operands, settled, with_frames}
 use Rattle.py_frames.specs.Steps.{guarded_row, site_of, step_at, step_by, step_row}
 use Rattle.py_states.specs.Innermost.{innermost, settled_in, Settles}
 use Rattle.py_states.proofs.Running.{there_is, settled_there}
-use Rattle.py_step.specs.Moves.{Moves, dying_step}
+use Rattle.py_step.specs.Moves.{dying_step, dying_words}
 use Rattle.py_step.specs.Operators.{HasOperator, IsOperable}
 
 -- ---- a thread that lives has a frame
@@ -92,17 +90,19 @@ module _ {X : Type 0} (u : Sense State X) (p : Program) (s : State) where
       → ◌≡◌ {A = Outcome × State} (o, t) (settled p s n (innermost s.frames) (drop 1 s.frames) next)
   settled_is n next o t l q = q ∙ settled_there p s n next (innermost s.frames) (drop 1 s.frames) (there_is s.frames l)
 
-  -- ---- a thread that dies
+-- ---- a thread that dies
+module _ {X : Type 0} (u : Sense State X) (s : State) (d : Dying) where
   abbrev last : Unit {0} → Row State (Outcome × State)
-  last u = Ret (Ended, with_frames s [])
+  last x = Ret (Ended, with_frames s [])
 
-  pub words_safe : (d : Dying) (h : Heap) → Safe u.partial (dying_step s d) h → Safe u.partial (dying_row (place_of s.roots) s.number s.thread d) h
-  words_safe d h z = safe-first u.partial (dying_row (place_of s.roots) s.number s.thread d) last h z
+  pub words_safe : (h : Heap) → Safe u.partial (dying_step s d) h → Safe u.partial (dying_words s d) h
+  words_safe h z = safe-first u.partial (dying_words s d) last h z
 
-  pub words_stopped : (d : Dying) (v w : X) (x : Stop) → Meets u (dying_row (place_of s.roots) s.number s.thread d) v w (Err x) → Stopped u (dying_step s d) v x w
+  pub words_stopped : (v w : X) (x : Stop) → Meets u (dying_words s d) v w (Err x) → Stopped u (dying_step s d) v x w
   unfolding Meets
-  words_stopped d v w x m = stop-first u (dying_row (place_of s.roots) s.number s.thread d) last v w x m
+  words_stopped v w x m = stop-first u (dying_words s d) last v w x m
 
-  pub words_said : (d : Dying) (v w : X) → Meets u (dying_row (place_of s.roots) s.number s.thread d) v w (Ok tt) → Run u (dying_step s d) v (Ended, with_frames s []) w
+  pub words_said : (v w : X) (z : Outcome × State) → Meets u (dying_words s d) v w (Ok tt) → z ≡ (Ended, with_frames s []) → Run u (dying_step s d) v z w
   unfolding Meets
-  words_said d v w m = run-bind u (dying_row (place_of s.roots) s.number s.thread d) last v w w tt (Ended, with_frames s []) m (run-ret u (Ended, with_frames s []) w)
+  words_said v w z m e =
+      run-bind u (dying_words s d) last v w w tt z m (subst (λ y. Run u (last tt) w y w) (sym e) (run-ret u (Ended, with_frames s []) w))
