@@ -1,4 +1,4 @@
 pub mod Guarding
 pub mod Moving
+pub mod Opened
 pub mod Places
-pub mod Standing
