@@ -1,5 +1,7 @@
+pub mod Guarding
 pub mod Moving
-pub mod Standing
+pub mod Opened
+pub mod Places
 mod StackRefers
 mod PeekedRows
 mod BuiltinWaits

@@ -1,12 +1,13 @@
 -- Steps of a thread, by the instruction at hand.
-use Rattle.std.proofs.Common.{arith, ◌≡◌, ℕ, ◌<◌, List, [], ◌∷◌, length, drop, Option, Some, None, Ok, Err, refl, sym, ap, subst, ◌∙◌}
+use Rattle.std.proofs.Common.{arith, ◌≡◌, ℕ, ◌<◌, List, [], ◌∷◌, length, drop, Option, Some, None, Result, Ok, Err, refl, sym, ap, subst, ◌∙◌}
 use Rattle.py_data.specs.declared.stop.Stop.{Stop}
 use Rattle.py_data.specs.declared.stop.Stop.TheVariants.{OutOfMemory}
 use Rattle.py_data.specs.Heap.{Heap}
 use Rattle.py_data.specs.Row.{Row, Ret, bind}
 use Rattle.py_data.specs.Sense.{Sense, Safe, Run, Stopped, Meets}
 use Rattle.py_data.proofs.Rows.{run-ret, run-bind, own-memory, stop-first, stop-then}
-use Rattle.py_data.proofs.Steps.{safe-first}
+use Rattle.std.specs.Result.{IsErrAnd}
+use Rattle.py_data.proofs.Steps.{as-err, safe-first}
 use Rattle.py_code.specs.declared.instr.Instr.{Instr}
 use Rattle.py_code.specs.declared.program.Program.{Program}
 use Rattle.lock_run.specs.declared.client.Outcome.{Outcome}
@@ -15,13 +16,11 @@ use Rattle.lock_run.specs.declared.client.Life.TheVariants.{Lives, Failed, Ended
 use Rattle.py_frames.specs.declared.state.Dying.{Dying}
 use Rattle.py_frames.specs.declared.state.Frame.{Frame}
 use Rattle.py_frames.specs.declared.next.Next.{Next}
-use Rattle.py_frames.specs.PrintRows.{dying_row}
-use Rattle.py_frames.specs.Raising.{place_of}
 use Rattle.py_frames.specs.State.{State, instr_at, life_by, life_of, pops, operands, settled, with_frames}
 use Rattle.py_frames.specs.Steps.{guarded_row, site_of, step_at, step_by, step_row}
 use Rattle.py_states.specs.Innermost.{innermost, settled_in, Settles}
 use Rattle.py_states.proofs.Running.{there_is, settled_there}
-use Rattle.py_step.specs.Moves.{Moves, dying_step}
+use Rattle.py_step.specs.Moves.{Moves, dying_step, dying_words}
 use Rattle.py_step.specs.Operators.{HasOperator, IsOperable}
 
 -- ---- a thread that lives has a frame
@@ -81,6 +80,12 @@ module _ {X : Type 0} (u : Sense State X) (p : Program) (s : State) where
     unfolding Meets
     stopped_behind v w next m = subst (λ r. Stopped u r v OutOfMemory w) (sym whole) (stop-then u part rest v w w next OutOfMemory m (own-memory u (rest next) w))
 
+    pub part_moved : (v w : X) (x : Stop) (r : Result Outcome Stop) → Meets u part v w (Err x) → IsErrAnd r (λ y. y ≡ x) → Moves u (step_at p s f fs (Some i)) v s w s r
+    part_moved v w x r m q = subst (λ z. Moves u (step_at p s f fs (Some i)) v s w s z) (sym (as-err r x q)) (stopped_within v w x m, refl)
+
+    pub settle_moved : (v w : X) (next : Next) (t : State) (r : Result Outcome Stop) → Meets u part v w (Ok next) → t ≡ s → IsErrAnd r (λ y. y ≡ OutOfMemory) → Moves u (step_at p s f fs (Some i)) v s w t r
+    settle_moved v w next t r m e q = subst (λ z. Moves u (step_at p s f fs (Some i)) v s w t z) (sym (as-err r OutOfMemory q)) (stopped_behind v w next m, e)
+
     pub settled_so : (v w : X) (next : Next) (z : Outcome × State) → Meets u part v w (Ok next) → z ≡ settled p s n f fs next → Run u (step_at p s f fs (Some i)) v z w
     unfolding Meets
     settled_so v w next z m q =
@@ -92,17 +97,36 @@ module _ {X : Type 0} (u : Sense State X) (p : Program) (s : State) where
       → ◌≡◌ {A = Outcome × State} (o, t) (settled p s n (innermost s.frames) (drop 1 s.frames) next)
   settled_is n next o t l q = q ∙ settled_there p s n next (innermost s.frames) (drop 1 s.frames) (there_is s.frames l)
 
-  -- ---- a thread that dies
+-- ---- a thread that dies
+module _ {X : Type 0} (u : Sense State X) (s : State) (d : Dying) where
   abbrev last : Unit {0} → Row State (Outcome × State)
-  last u = Ret (Ended, with_frames s [])
+  last x = Ret (Ended, with_frames s [])
 
-  pub words_safe : (d : Dying) (h : Heap) → Safe u.partial (dying_step s d) h → Safe u.partial (dying_row (place_of s.roots) s.number s.thread d) h
-  words_safe d h z = safe-first u.partial (dying_row (place_of s.roots) s.number s.thread d) last h z
+  pub words_safe : (h : Heap) → Safe u.partial (dying_step s d) h → Safe u.partial (dying_words {S = State} s d) h
+  words_safe h z = safe-first u.partial (dying_words {S = State} s d) last h z
 
-  pub words_stopped : (d : Dying) (v w : X) (x : Stop) → Meets u (dying_row (place_of s.roots) s.number s.thread d) v w (Err x) → Stopped u (dying_step s d) v x w
+  pub words_stopped : (v w : X) (x : Stop) → Meets u (dying_words s d) v w (Err x) → Stopped u (dying_step s d) v x w
   unfolding Meets
-  words_stopped d v w x m = stop-first u (dying_row (place_of s.roots) s.number s.thread d) last v w x m
+  words_stopped v w x m = stop-first u (dying_words s d) last v w x m
 
-  pub words_said : (d : Dying) (v w : X) → Meets u (dying_row (place_of s.roots) s.number s.thread d) v w (Ok tt) → Run u (dying_step s d) v (Ended, with_frames s []) w
+  pub words_said : (v w : X) (z : Outcome × State) → Meets u (dying_words s d) v w (Ok tt) → z ≡ (Ended, with_frames s []) → Run u (dying_step s d) v z w
   unfolding Meets
-  words_said d v w m = run-bind u (dying_row (place_of s.roots) s.number s.thread d) last v w w tt (Ended, with_frames s []) m (run-ret u (Ended, with_frames s []) w)
+  words_said v w z m e =
+      run-bind u (dying_words s d) last v w w tt z m (subst (λ y. Run u (last tt) w y w) (sym e) (run-ret u (Ended, with_frames s []) w))
+
+  pub words_moved : (v w : X) (x : Stop) (r : Result Outcome Stop) → Meets u (dying_words s d) v w (Err x) → IsErrAnd r (λ y. y ≡ x) → Moves u (dying_step s d) v s w s r
+  words_moved v w x r m q = subst (λ z. Moves u (dying_step s d) v s w s z) (sym (as-err r x q)) (words_stopped v w x m, refl)
+
+-- two parts that are the same
+pub both : (o q : Outcome) (s t : State) → o ≡ q → s ≡ t → ◌≡◌ {A = Outcome × State} (o, s) (q, t)
+both o q s t e f = λ i. (e i, f i)
+
+module _ {X : Type 0} (u : Sense State X) (row other : Row State (Outcome × State)) where
+  pub safe_as : (h : Heap) → row ≡ other → Safe u.partial row h → Safe u.partial other h
+  safe_as h e z = subst (λ r. Safe u.partial r h) e z
+
+  pub moves_as : (v w : X) (s t : State) (r : Result Outcome Stop) → row ≡ other → Moves u other v s w t r → Moves u row v s w t r
+  moves_as v w s t r e z = subst (λ q. Moves u q v s w t r) (sym e) z
+
+  pub run_as : (v : X) (y z : Outcome × State) (w : X) → row ≡ other → y ≡ z → Run u other v z w → Run u row v y w
+  run_as v y z w e q m = subst (λ a. Run u row v a w) (sym q) (subst (λ r. Run u r v z w) (sym e) m)

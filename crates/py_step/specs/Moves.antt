@@ -16,6 +16,9 @@ abbrev pub Moves : {X : Type 0} → Sense State X → Row State (Outcome × Stat
 Moves u row v s w t (Ok o) = Run u row v (o, t) w
 Moves u row v s w t (Err e) = Stopped u row v e w × (t ≡ s)
 
--- the step of a thread that dies
+-- the last words of a thread that dies, and its step
+abbrev pub dying_words : {S : Type 0} → State → Dying → Row S (Unit {0})
+dying_words s d = dying_row (place_of s.roots) s.number s.thread d
+
 abbrev pub dying_step : State → Dying → Row State (Outcome × State)
-dying_step s d = bind (dying_row (place_of s.roots) s.number s.thread d) (λ _. Ret (Ended, with_frames s []))
+dying_step s d = bind (dying_words s d) (λ _. Ret (Ended, with_frames s []))

@@ -1,5 +1,5 @@
 //! Operands that hold nothing.
-ghost use Rattle.std.specs.Prelude.{◌≡◌};
+ghost use Rattle.std.specs.Prelude.{◌≡◌, ◌++◌, drop, take};
 ghost use Rattle.py_data.specs.Sense.{Meets, Safe, IsLive};
 ghost use Rattle.py_frames.specs.Steps as steps;
 ghost use Rattle.py_states.specs.Innermost.{innermost};
@@ -31,14 +31,23 @@ fn has_unset(values: &[Value]) -> bool
     values.iter().any(|x| is_unset(*x))
 }
 
+/// One of the values but the second is Unset.
+fn has_unset_but_second(xs: &[Value]) -> bool
+    ensures { result ≡ steps.has_unset (take 1 xs.now ++ drop 2 xs.now) }
+{
+    if has_unset(first(xs, 1)) {
+        return true;
+    }
+    has_unset(skip(xs, 2))
+}
+
 /// One of an instruction's operands that may not be Unset is. A few instructions only move theirs.
-#[tactic(auto, using(std::proofs::lemmas::List::Folds::list_any_append))]
 pub fn lacks_operand(i: Instr, xs: &[Value]) -> bool
     ensures { result ≡ steps.has_unset (steps.wanted i xs.now) }
 {
     match i {
         Instr::Pop | Instr::Dup | Instr::Dup2 | Instr::Rot2 | Instr::Rot3 => false,
-        Instr::CallMethod(_, _) => has_unset(first(xs, 1)) || has_unset(skip(xs, 2)),
+        Instr::CallMethod(_, _) => has_unset_but_second(xs),
         _ => has_unset(xs),
     }
 }

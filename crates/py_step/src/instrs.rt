@@ -1,5 +1,5 @@
 //! The row of every instruction.
-ghost use Rattle.std.specs.Prelude.{◌≡◌, ◌-◌, [], ◌∷◌, drop, get_or, IfOk};
+ghost use Rattle.std.specs.Prelude.{◌≡◌, ◌-◌, drop, IfOk};
 ghost use Rattle.py_base.specs.declared.kind.Kind.{Kind};
 ghost use Rattle.py_data.specs.Heap.{value_at};
 ghost use Rattle.py_data.specs.Sense.{Meets, Safe, IsLive};
@@ -40,34 +40,6 @@ fn push_all(alloc: Global, xs: &[Value]) -> Result<Next, NoMemory>
     Ok(Next::Goes(Values::from_slice(alloc, xs)?))
 }
 
-/// DUP.
-fn dup(alloc: Global, xs: &[Value]) -> Result<Next, NoMemory>
-    ensures { IfOk result (λ n. n ≡ Goes (value_at xs.now 0 ∷ value_at xs.now 0 ∷ [])) }
-{
-    push_all(alloc, &[value_or_unset(xs, 0), value_or_unset(xs, 0)])
-}
-
-/// ROT2.
-fn rot2(alloc: Global, xs: &[Value]) -> Result<Next, NoMemory>
-    ensures { IfOk result (λ n. n ≡ Goes (value_at xs.now 1 ∷ value_at xs.now 0 ∷ [])) }
-{
-    push_all(alloc, &[value_or_unset(xs, 1), value_or_unset(xs, 0)])
-}
-
-/// DUP2.
-fn dup2(alloc: Global, xs: &[Value]) -> Result<Next, NoMemory>
-    ensures { IfOk result (λ n. n ≡ Goes (value_at xs.now 0 ∷ value_at xs.now 1 ∷ value_at xs.now 0 ∷ value_at xs.now 1 ∷ [])) }
-{
-    push_all(alloc, &[value_or_unset(xs, 0), value_or_unset(xs, 1), value_or_unset(xs, 0), value_or_unset(xs, 1)])
-}
-
-/// ROT3.
-fn rot3(alloc: Global, xs: &[Value]) -> Result<Next, NoMemory>
-    ensures { IfOk result (λ n. n ≡ Goes (value_at xs.now 2 ∷ value_at xs.now 0 ∷ value_at xs.now 1 ∷ [])) }
-{
-    push_all(alloc, &[value_or_unset(xs, 2), value_or_unset(xs, 0), value_or_unset(xs, 1)])
-}
-
 /// LOAD_LOCAL.
 #[tactic(auto, using(py_data::proofs::Rows::row_steps))]
 fn load_local<S, V: View<S>>(
@@ -104,12 +76,7 @@ fn del_local<S, V: View<S>>(
 
 /// LOAD_GLOBAL.
 #[tactic(auto, using(py_data::proofs::Rows::row_steps))]
-fn load_global<S, V: View<S>>(
-    alloc: Global,
-    v: &mut V,
-    s: &Site<'_>,
-    g: u32,
-) -> Result<Next, Stop>
+fn load_global<S, V: View<S>>(alloc: Global, v: &mut V, s: &Site<'_>, g: u32) -> Result<Next, Stop>
     requires live { IsLive V.sense v.old }
     requires safe { Safe V.sense.partial (let name = state.root_name s.now.program g in globals.load_global_row {S = S} s.now.roots g name (globals.builtin_named s.now.program name)) (V.sense.heap v.old) }
     ensures { Meets V.sense (let name = state.root_name s.now.program g in globals.load_global_row s.now.roots g name (globals.builtin_named s.now.program name)) v.old v.new result }
@@ -226,7 +193,17 @@ fn call<V: View<ThreadState>>(
     requires safe { let f = innermost t.now.frames in Safe V.sense.partial (calls.value_call s.now Unset (steps.given_in s.now f m l (drop 1 xs.now)) (value_at xs.now 0)) (V.sense.heap v.old) }
     ensures { let f = innermost t.now.frames in Meets V.sense (calls.value_call s.now Unset (steps.given_in s.now f m l (drop 1 xs.now)) (value_at xs.now 0)) v.old v.new result }
 {
-    call_given(alloc, v, s, t, Value::Unset, m, l, skip(xs, 1), value_or_unset(xs, 0))
+    call_given(
+        alloc,
+        v,
+        s,
+        t,
+        Value::Unset,
+        m,
+        l,
+        skip(xs, 1),
+        value_or_unset(xs, 0),
+    )
 }
 
 /// CALL_METHOD.
@@ -245,7 +222,17 @@ fn call_method<V: View<ThreadState>>(
     ensures { let f = innermost t.now.frames in Meets V.sense (calls.value_call s.now (value_at xs.now 1) (steps.given_in s.now f m l (drop 2 xs.now)) (value_at xs.now 0)) v.old v.new result }
 {
     let own = value_or_unset(xs, 1);
-    call_given(alloc, v, s, t, own, m, l, skip(xs, 2), value_or_unset(xs, 0))
+    call_given(
+        alloc,
+        v,
+        s,
+        t,
+        own,
+        m,
+        l,
+        skip(xs, 2),
+        value_or_unset(xs, 0),
+    )
 }
 
 /// RETURN.
@@ -263,7 +250,17 @@ fn leave<S, V: View<S>>(
 {
     let name = code_name(s.program, t.code());
     let below = s.depth.saturating_sub(1);
-    py_instrs::return_by(alloc, v, s.roots, s.thread, name, below, x, t.made(), t.names())
+    py_instrs::return_by(
+        alloc,
+        v,
+        s.roots,
+        s.thread,
+        name,
+        below,
+        x,
+        t.made(),
+        t.names(),
+    )
 }
 
 /// MAKE_FUNCTION.
@@ -318,57 +315,60 @@ pub fn instr_row<V: View<ThreadState>>(
     requires safe { Safe V.sense.partial (steps.instr_row s.now (innermost t.now.frames) xs.now i) (V.sense.heap v.old) }
     ensures { Meets V.sense (steps.instr_row s.now (innermost t.now.frames) xs.now i) v.old v.new result }
 {
+    let x = value_or_unset(xs, 0);
+    let y = value_or_unset(xs, 1);
+    let z = value_or_unset(xs, 2);
     match i {
         Instr::Setup => setup_row(alloc, v, s.program),
         Instr::Const(c) => const_row(alloc, v, s.roots, c),
         Instr::Pop => Ok(pass(alloc)),
-        Instr::Dup => Ok(dup(alloc, xs)?),
-        Instr::Rot2 => Ok(rot2(alloc, xs)?),
-        Instr::Dup2 => Ok(dup2(alloc, xs)?),
-        Instr::Rot3 => Ok(rot3(alloc, xs)?),
+        Instr::Dup => Ok(push_all(alloc, &[x, x])?),
+        Instr::Rot2 => Ok(push_all(alloc, &[y, x])?),
+        Instr::Dup2 => Ok(push_all(alloc, &[x, y, x, y])?),
+        Instr::Rot3 => Ok(push_all(alloc, &[z, x, y])?),
         Instr::LoadLocal(j) => load_local(alloc, v, s, t, j),
-        Instr::StoreLocal(j) => Ok(Next::Stores(j, value_or_unset(xs, 0))),
+        Instr::StoreLocal(j) => Ok(Next::Stores(j, x)),
         Instr::DelLocal(j) => del_local(alloc, v, s, t, j),
         Instr::LoadGlobal(g) => load_global(alloc, v, s, g),
-        Instr::StoreGlobal(g) => store_global_row(alloc, v, s.roots, g, value_or_unset(xs, 0)),
+        Instr::StoreGlobal(g) => store_global_row(alloc, v, s.roots, g, x),
         Instr::DelGlobal(g) => del_global_row(alloc, v, s.roots, g, root_name(s.program, g)),
         Instr::LoadName(n) => load_name(alloc, v, s, t, n),
-        Instr::StoreName(n) => store_name(alloc, v, s, t, n, value_or_unset(xs, 0)),
+        Instr::StoreName(n) => store_name(alloc, v, s, t, n, x),
         Instr::DelName(n) => del_name(alloc, v, s, t, n),
-        Instr::LoadAttr(n) => load_attr_row(alloc, v, s.roots, n, value_or_unset(xs, 0)),
-        Instr::StoreAttr(n) => store_attr_row(alloc, v, s.roots, n, value_or_unset(xs, 0), value_or_unset(xs, 1)),
-        Instr::DelAttr(n) => del_attr_instr(alloc, v, s.roots, n, value_or_unset(xs, 0)),
-        Instr::LoadMethod(n) => load_method_row(alloc, v, s.roots, n, value_or_unset(xs, 0)),
-        Instr::LoadItem => load_item_row(alloc, v, s.roots, value_or_unset(xs, 0), value_or_unset(xs, 1)),
-        Instr::StoreItem => store_item_row(alloc, v, s.roots, value_or_unset(xs, 0), value_or_unset(xs, 1), value_or_unset(xs, 2)),
-        Instr::DelItem => del_item_instr(alloc, v, s.roots, value_or_unset(xs, 0), value_or_unset(xs, 1)),
-        Instr::Slice => slice_instr(alloc, v, s.roots, value_or_unset(xs, 0), value_or_unset(xs, 1), value_or_unset(xs, 2)),
-        Instr::Unary(o) => unary_instr(alloc, v, s.roots, o, value_or_unset(xs, 0)),
-        Instr::Not => not_row(alloc, v, value_or_unset(xs, 0)),
-        Instr::Binary(o) => binary_instr(alloc, v, s.roots, o, value_or_unset(xs, 0), value_or_unset(xs, 1)),
-        Instr::InPlace(o) => in_place_instr(alloc, v, s.roots, o, value_or_unset(xs, 0), value_or_unset(xs, 1)),
-        Instr::Compare(o) => compare_instr(alloc, v, s.roots, o, value_or_unset(xs, 0), value_or_unset(xs, 1)),
+        Instr::LoadAttr(n) => load_attr_row(alloc, v, s.roots, n, x),
+        Instr::StoreAttr(n) => store_attr_row(alloc, v, s.roots, n, x, y),
+        Instr::DelAttr(n) => del_attr_instr(alloc, v, s.roots, n, x),
+        Instr::LoadMethod(n) => load_method_row(alloc, v, s.roots, n, x),
+        Instr::LoadItem => load_item_row(alloc, v, s.roots, x, y),
+        Instr::StoreItem => store_item_row(alloc, v, s.roots, x, y, z),
+        Instr::DelItem => del_item_instr(alloc, v, s.roots, x, y),
+        Instr::Slice => slice_instr(alloc, v, s.roots, x, y, z),
+        Instr::Unary(o) => unary_instr(alloc, v, s.roots, o, x),
+        Instr::Not => not_row(alloc, v, x),
+        Instr::Binary(o) => binary_instr(alloc, v, s.roots, o, x, y),
+        Instr::InPlace(o) => in_place_instr(alloc, v, s.roots, o, x, y),
+        Instr::Compare(o) => compare_instr(alloc, v, s.roots, o, x, y),
         Instr::Jump(place) => Ok(Next::Jumps(place, Values::new(alloc))),
-        Instr::JumpFalse(place) => jump_false_row(alloc, v, place, value_or_unset(xs, 0)),
-        Instr::KeepFalse(place) => keep_false_row(alloc, v, place, value_or_unset(xs, 0)),
-        Instr::KeepTrue(place) => keep_true_row(alloc, v, place, value_or_unset(xs, 0)),
+        Instr::JumpFalse(place) => jump_false_row(alloc, v, place, x),
+        Instr::KeepFalse(place) => keep_false_row(alloc, v, place, x),
+        Instr::KeepTrue(place) => keep_true_row(alloc, v, place, x),
         Instr::BuildTuple(_) => build(alloc, v, s, Kind::Tuple, xs),
         Instr::BuildList(_) => build(alloc, v, s, Kind::List, xs),
         Instr::BuildDict(_) => build_dict_row(alloc, v, s.roots, xs),
-        Instr::Unpack(n) => unpack_row(alloc, v, s.roots, n, value_or_unset(xs, 0)),
-        Instr::Iter => iter_instr(alloc, v, s.roots, value_or_unset(xs, 0)),
-        Instr::Next(place) => next_instr(alloc, v, s.roots, place, value_or_unset(xs, 0)),
+        Instr::Unpack(n) => unpack_row(alloc, v, s.roots, n, x),
+        Instr::Iter => iter_instr(alloc, v, s.roots, x),
+        Instr::Next(place) => next_instr(alloc, v, s.roots, place, x),
         Instr::Call(m, l) => call(alloc, v, s, t, m, l, xs),
         Instr::CallMethod(m, l) => call_method(alloc, v, s, t, m, l, xs),
-        Instr::Return => leave(alloc, v, s, t, value_or_unset(xs, 0)),
+        Instr::Return => leave(alloc, v, s, t, x),
         Instr::MakeFunction(n, _) => make_function(alloc, v, s, n, xs),
-        Instr::ClassBody(n) => class_body_row(alloc, v, s, n, value_or_unset(xs, 0)),
+        Instr::ClassBody(n) => class_body_row(alloc, v, s, n, x),
         Instr::Try(place) => Ok(Next::Opens(place)),
         Instr::PopTry => Ok(Next::Closes),
-        Instr::ExcMatch => exc_match_row(alloc, v, s.roots, value_or_unset(xs, 0), value_or_unset(xs, 1)),
+        Instr::ExcMatch => exc_match_row(alloc, v, s.roots, x, y),
         Instr::MakeRaised(n) => made_raised(alloc, v, s, xs, n),
-        Instr::Raise => raise_value(alloc, v, s.roots, value_or_unset(xs, 0)),
-        Instr::PrintItem => print_item_row(alloc, v, s.roots, value_or_unset(xs, 0)),
+        Instr::Raise => raise_value(alloc, v, s.roots, x),
+        Instr::PrintItem => print_item_row(alloc, v, s.roots, x),
         Instr::PrintNewline => print_newline_row(alloc, v),
     }
 }

@@ -1,5 +1,5 @@
 //! Where a thread stands.
-ghost use Rattle.std.specs.Prelude.{◌≡◌, ◌<◌, drop, length, option_copied};
+ghost use Rattle.std.specs.Prelude.{◌≡◌, ◌<◌, drop, length, slice_get};
 ghost use Rattle.py_frames.specs.Raising as raising;
 ghost use Rattle.py_frames.specs.State as state;
 ghost use Rattle.py_frames.specs.Steps.{site_of};

@@ -1,11 +1,12 @@
 //! A step of a thread.
-ghost use Rattle.std.specs.Prelude.{◌≡◌, ◌<◌, Some, drop, length};
+ghost use Rattle.std.specs.Prelude.{◌≡◌, ◌<◌, [], Some, drop, length};
 ghost use Rattle.lock_run.specs.declared.client.Life.TheVariants.{Lives};
+ghost use Rattle.lock_run.specs.declared.client.Outcome.TheVariants.{Ended};
 ghost use Rattle.py_data.specs.Sense.{Meets, Safe, IsLive};
 ghost use Rattle.py_frames.specs.State as state;
 ghost use Rattle.py_frames.specs.Steps as steps;
 ghost use Rattle.py_states.specs.Innermost.{innermost};
-ghost use Rattle.py_step.specs.Moves.{Moves, dying_step};
+ghost use Rattle.py_step.specs.Moves.{Moves, dying_step, dying_words};
 ghost use Rattle.py_step.specs.Operators.{HasOperator, IsOperable};
 
 use crate::guard::guarded_row;
@@ -61,6 +62,30 @@ fn go_on<V: View<ThreadState>>(
     Ok(outcome)
 }
 
+/// The last words of a thread that dies.
+#[tactic(auto, using(py_data::proofs::Rows::row_steps))]
+fn last_words<S, V: View<S>>(
+    alloc: Global,
+    v: &mut V,
+    s: &ThreadState,
+    d: Dying,
+) -> Result<(), Stop>
+    requires live { IsLive V.sense v.old }
+    requires safe { Safe V.sense.partial (dying_words {S = S} s.now d) (V.sense.heap v.old) }
+    ensures { Meets V.sense (dying_words s.now d) v.old v.new result }
+{
+    dying_row(alloc, v, place_of(s.roots()), s.number(), s.thread(), d)
+}
+
+/// The thread has no frame any more, and has ended.
+fn end(s: &mut ThreadState) -> Outcome
+    ensures outcome { result ≡ Ended }
+    ensures state { s.new ≡ state.with_frames s.old [] }
+{
+    s.end();
+    Outcome::Ended
+}
+
 /// The step of a thread that dies: it writes its last line, and has ended.
 fn die<V: View<ThreadState>>(
     alloc: Global,
@@ -72,9 +97,8 @@ fn die<V: View<ThreadState>>(
     requires safe { Safe V.sense.partial (dying_step s.old d) (V.sense.heap v.old) }
     ensures { Moves V.sense (dying_step s.old d) v.old s.old v.new s.new result }
 {
-    dying_row(alloc, v, place_of(s.roots()), s.number(), s.thread(), d)?;
-    s.end();
-    Ok(Outcome::Ended)
+    last_words(alloc, v, s, d)?;
+    Ok(end(s))
 }
 
 /// A step of a thread that lives. At a Stop its state is as before.
@@ -95,9 +119,6 @@ pub fn step_row<V: View<ThreadState>>(
     }
     match instr_at(p, s) {
         Some(i) => go_on(alloc, v, p, s, i),
-        None => {
-            s.end();
-            Ok(Outcome::Ended)
-        }
+        None => Ok(end(s)),
     }
 }

@@ -34,9 +34,9 @@ one_instr o i j e f = let q : Some i ≡ Some j = sym e ∙ f in cc
 pub operable : (p : Program) (partial : _) (g : Heap) (s : State) → StandsIn (Sound p) partial g s → IsOperable p s
 operable p partial g s st = record {
   each = λ f fs i dying frames at.
-    let z = st.standing in
-    let q = never_lacks_law p st.heap z.0 z.1 s f fs z.3 z.2 dying frames in
-    operator_of (limits p f) i (subst (IsKnown (limits p f)) (one_instr (instr_at p f) q.instr i q.at at) q.fine.known);
+      let z = st.standing in
+      let q = never_lacks_law p st.heap z.0 z.1 s f fs z.3 z.2 dying frames in
+      operator_of (limits p f) i (subst (IsKnown (limits p f)) (one_instr (instr_at p f) q.instr i q.at at) q.fine.known);
 }
 
 module _ {X : Type 0} (u : Sense State X) (b : Bracket State X) (is : IsBracket u b) (p : Program) (s : State) (v v1 : X) (opens : b.opens v v1) where
