@@ -91,7 +91,7 @@ fn turns_again(
     let turn = history.get(0).ok_or("no turn")?;
     let done = turn_again(rt, run, turn, names)?;
     if done.is_none() {
-        for i in 1..history.len() {
+        'turns: for i in 1..history.len() {
             next_turn(rt, run, history, i)?;
         }
     }

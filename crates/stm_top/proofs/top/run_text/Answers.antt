@@ -15,4 +15,4 @@ returns-clause-ended g c =
     let a = devices_of g.I.Source.state g.O.Sink.state g.E.Sink.state c.args.input c.args.out c.args.err in
     let b = devices_of g.I.Source.state g.O.Sink.state g.E.Sink.state r.input r.out r.err in
     let t : Told = record { history = r.history.entries; conflicts = r.conflicts.entries } in
-    inr (c.in-Ok.program', c.in-Ok.ensures.program, subst (λ p. ThreadsEnded (prog_of p) r.answer a t b) c.new-client.ensures.program c.run_threads.ensures.ended)
+    inr (c.in-Ok.program, c.in-Ok.ensures.program, subst (λ p. ThreadsEnded (prog_of p) r.answer a t b) c.new-client.ensures.program c.run_threads.ensures.ended)
