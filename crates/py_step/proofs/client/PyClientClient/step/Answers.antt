@@ -1,9 +1,7 @@
 use Rattle.std.proofs.Common.{subst, sym}
-use Rattle.py_data.specs.Sense.{Safe}
-use Rattle.py_frames.specs.Steps.{step_row}
-use Rattle.py_step.specs.Operators.{IsOperable}
 use Rattle.py_step.specs.Client.{program_in}
-use Rattle.py_step.proofs.Opened.{operable, opened_safe}
+use Rattle.py_step.specs.Operators.{IsOperable}
+use Rattle.py_step.proofs.Opened.{operable, opened_safe_as}
 use Rattle.py_step.proofs.client.PyClientClient.step.Goals as goal
 
 pub step_row-requires-clause-operable : goal.step_row-requires-clause-operable
@@ -11,5 +9,4 @@ step_row-requires-clause-operable g c = subst (λ p. IsOperable p c.args.s.now) 
 
 pub step_row-requires-clause-safe : goal.step_row-requires-clause-safe
 step_row-requires-clause-safe g c =
-    subst (λ p. Safe g.V.View.sense.partial (step_row p c.args.s.now) _) (sym c.program.ensures.same)
-    (opened_safe g.V.View.sense g.V.View.bracket g.met.V.View.bracketed (program_in c.args.self.now) c.args.s.now _ _ c.open_step.ensures c.requires.stands c.requires.lives)
+    opened_safe_as g.V.View.sense g.V.View.bracket g.met.V.View.bracketed (program_in c.args.self.now) c.args.s.now _ _ c.open_step.ensures _ c.program.ensures.same c.requires.stands c.requires.lives
