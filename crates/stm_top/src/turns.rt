@@ -1,5 +1,5 @@
 //! The turns of a run: round the threads, one step a turn.
-ghost use Rattle.std.specs.Prelude.{◌≡◌, ◌⊎◌, ◌+◌, ◌<◌, ◌≤◌, ◌++◌, ◌∷◌, List, ℕ, Option, [], length, IfErr, OnOk, IfSome, slice_get};
+ghost use Rattle.std.specs.Prelude.{◌≡◌, ◌⊎◌, ◌<◌, ◌≤◌, ℕ, length, IfErr, OnOk, IfSome, slice_get};
 ghost use Rattle.lock_run.specs.LockState.{lock_state, lock_client, IsSound};
 ghost use Rattle.lock_run.specs.Turns.{NoneFall};
 ghost use Rattle.lock_run.specs.declared.client.Life.TheVariants.{Lives};
