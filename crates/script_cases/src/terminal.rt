@@ -22,26 +22,26 @@ impl Terminal {
             ends: 0,
         }
     }
-
-    /// The text of which the next line is.
-    fn text(&mut self) -> &mut SureSource {
-        if self.ends == 0 {
-            &mut self.script
-        } else {
-            &mut self.input
-        }
-    }
 }
 
 impl Source for Terminal {
     ghost state = { λ s. record { told = None; faults = 0; ends = s.ends } };
 
     fn take_line(&mut self, most: usize) -> Result<Vec<u8>, TakeError> {
-        let line = self.text().take_line(most)?;
-        if line.is_empty() {
-            self.ends = self.ends.saturating_add(1);
+        let taken = if self.ends == 0 {
+            self.script.take_line(most)
+        } else {
+            self.input.take_line(most)
+        };
+        match taken {
+            Ok(line) => {
+                if line.is_empty() {
+                    self.ends = self.ends.saturating_add(1);
+                }
+                Ok(line)
+            }
+            Err(_) => Err(TakeError::OutOfMemory),
         }
-        Ok(line)
     }
 
     fn faults(&self) -> u64 {
