@@ -1,5 +1,7 @@
 //! Histories of scripts that are run again turn by turn, on a machine of their own.
+ghost use Rattle.lock_run.specs.Client.{IsSoundFirst};
 ghost use Rattle.lock_run.specs.LockState.{lock_state, lock_client, IsSound};
+ghost use Rattle.py_frames.specs.Laws.{prog_of};
 ghost use Rattle.py_frames.specs.Sound.{Sound};
 ghost use Rattle.py_step.specs.Client.{program_in};
 ghost use Rattle.stm_io.specs.Memory.{mem_sink_state, mem_source_state};
@@ -105,7 +107,9 @@ fn replayed(
     client: &PyClient,
     history: &History,
     names: &Names,
-) -> Result<(Option<u64>, MemSink), test::Fail> {
+) -> Result<(Option<u64>, MemSink), test::Fail>
+    requires { IsSoundFirst (prog_of (program_in client.now)) (Sound (program_in client.now)) }
+{
     let input = MemSource::new(alloc, Vec::new(alloc), Vec::new(alloc));
     let out = MemSink::new(alloc, Vec::new(alloc));
     let err = MemSink::new(alloc, Vec::new(alloc));
