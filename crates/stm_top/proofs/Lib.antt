@@ -1,4 +1,5 @@
 mod OneAnswer
+pub mod ListedThreads
 pub mod RoundsMade
 pub mod Standings
 pub mod Taking

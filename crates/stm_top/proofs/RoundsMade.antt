@@ -13,14 +13,14 @@ use Rattle.lock_run.specs.LockState.{first_world}
 use Rattle.lock_run.specs.Prog.{Prog}
 use Rattle.lock_run.specs.Machine.{Machine, begin_with}
 use Rattle.lock_run.specs.RunState.{steps_done, SomeReady, IsDone, IsStuck}
-use Rattle.lock_run.specs.Turns.{LockState, NoneFall, Stands, Rests}
+use Rattle.lock_run.specs.Turns.{LockState, NoneFall, Stands}
 use Rattle.stm_top.specs.declared.answer.Answer.{Answer}
 use Rattle.stm_top.specs.declared.answer.Answer.TheVariants.{Done, Failed, Usage, Refused, InputFailed, OutputFailed, ErrorOutputFailed, Stuck, BudgetSpent, OutOfMemory, ScriptTooLong}
 use Rattle.stm_top.specs.declared.turns.Standing.TheVariants.{Goes, Waits, Over}
 use Rattle.stm_top.specs.Serial.{Serial, FirstFailed}
 use Rattle.stm_top.specs.TopCall.{turn_length, RunEnded}
-use Rattle.stm_top.specs.Rounds.{machine_in, faults_in, GoesOn, Still, RestsIn, Quiet, AllRest, EndsWith, StandsAs}
-use Rattle.stm_top.proofs.TurnTaken.{stands_in, state_at, whole_serial}
+use Rattle.stm_top.specs.Rounds.{machine_in, faults_in, GoesOn, AllRest, EndsWith, StandsAs}
+use Rattle.stm_top.proofs.TurnTaken.{state_at, whole_serial}
 
 -- ---- counts of faults
 pub none_fell : {S : Type 0} (l : LockState S) → NoneFall l.view l.view
@@ -49,31 +49,6 @@ module _ {S : Type 0} (p : Prog S) where
 
   pub goes_then : (t0 t1 t2 : List Turn) (a b c : LockState S) → GoesOn p t0 a t1 b → GoesOn p t1 b t2 c → GoesOn p t0 a t2 c
   goes_then t0 t1 t2 a b c f g = λ first o e s. g first o e (f first o e s)
-
-  -- ---- rounds in which nothing was done
-  pub quiet_first : (l : LockState S) → Quiet p l.threads l 0
-  quiet_first l = record { out = l.view.out; err = l.view.err; machine = machine_in l; stands = stands_in l; threads = refl; rests = λ t h. absurd (omega arith) }
-
-  pub quiet_next : (ts : List S) (a b : LockState S) (t : ℕ) → Quiet p ts a t → Still a b → RestsIn p a t → Quiet p ts b (t + 1)
-  quiet_next ts a b t q still rests =
-      let after = still q.out q.err q.machine q.stands in
-      record {
-        out = q.out;
-        err = q.err;
-        machine = q.machine;
-        stands = after;
-        threads = sym after.threads ∙ q.stands.threads ∙ q.threads;
-        rests = below;
-      }
-    where
-      last : (k : ℕ) → k ≡ t → Rests p q.machine k
-      last k e = subst (Rests p q.machine) (sym e) (rests q.out q.err q.machine q.stands)
-
-      below : (k : ℕ) → k < t + 1 → Rests p q.machine k
-      below k h = elim (lt_or_eq k t h) [ inl l ↦ q.rests k l | inr e ↦ last k e ]
-
-  pub quiet_all : (ts : List S) (l : LockState S) → Quiet p ts l (length ts) → AllRest p l
-  quiet_all ts l q = subst (λ us. Quiet p us l (length us)) (sym q.threads) q
 
   -- ---- ends of turns, seen from an earlier place
   ended_since : {input o e : Option (List ℕ)} {turns : List Turn} {input1 out1 err1 : Option (List ℕ)} (budget : ℕ) (answer : Answer) (a b c : LockState S) (r : Serial p turn_length input o e turns [] input1 out1 err1) → NoneFall a.view b.view

@@ -1,5 +1,6 @@
 -- What turns of one step that go round the threads leave, as code and proofs say it to each other. Nothing public rests on it.
-use Rattle.std.specs.Prelude.{◌≡◌, ℕ, ◌<◌, List, [], Option, length, All}
+use Rattle.std.specs.Prelude.{◌≡◌, ◌≢◌, ◌⊎◌, ℕ, ◌<◌, List, [], Option, Some, length, All, slice_get}
+use Rattle.lock_run.specs.declared.client.Life.TheVariants.{Lives}
 use Rattle.lock_run.specs.declared.turn.Turn.{Turn}
 use Rattle.lock_run.specs.LockState.{first_world}
 use Rattle.lock_run.specs.Prog.{Prog}
@@ -40,18 +41,37 @@ Still {S} a b = (o e : Option (List ℕ)) (m : Machine S) → Stands o e a.view 
 abbrev pub RestsIn : {S : Type 0} → Prog S → LockState S → ℕ → Type 0
 RestsIn {S} p l t = (o e : Option (List ℕ)) (m : Machine S) → Stands o e l.view l.threads m → Rests p m t
 
--- No step was done since the threads were these, and the threads below this number rest, over a machine that stands there.
-pub record Quiet {S : Type 0} (p : Prog S) (ts : List S) (l : LockState S) (count : ℕ) : Type 0 where
+-- the thread has ended
+pub record HasEnded {S : Type 0} (p : Prog S) (l : LockState S) (t : ℕ) : Type 0 where
+  pub state : S
+  pub is : slice_get l.threads t ≡ Some state
+  pub ended : p.life state ≢ Lives
+
+-- threads that had ended have ended still
+abbrev pub StayEnded : {S : Type 0} → Prog S → LockState S → LockState S → Type 0
+StayEnded p a b = (t : ℕ) → HasEnded p a t → HasEnded p b t
+
+-- These are numbers of threads, and of the threads below `count` all others have ended.
+pub record Listed {S : Type 0} (p : Prog S) (l : LockState S) (count : ℕ) (numbers : List ℕ) : Type 0 where
+  pub threads : All (λ t. t < length l.threads) numbers
+  pub all : (t : ℕ) → t < count → HasEnded p l t ⊎ ((k : ℕ) × (slice_get numbers k ≡ Some t))
+
+-- No step was done since the threads were these, and the threads of these numbers rest, over a machine that stands there.
+pub record Quiet {S : Type 0} (p : Prog S) (ts : List S) (l : LockState S) (Numbers : ℕ → Type 0) : Type 0 where
   pub out : Option (List ℕ)
   pub err : Option (List ℕ)
   pub machine : Machine S
   pub stands : Stands out err l.view l.threads machine
   pub threads : l.threads ≡ ts
-  pub rests : (t : ℕ) → t < count → Rests p machine t
+  pub rests : (t : ℕ) → Numbers t → Rests p machine t
+
+-- it is one of the first of these numbers
+abbrev pub AmongFirst : List ℕ → ℕ → ℕ → Type 0
+AmongFirst numbers count t = (k : ℕ) × (k < count) × (slice_get numbers k ≡ Some t)
 
 -- all threads rest
 abbrev pub AllRest : {S : Type 0} → Prog S → LockState S → Type 0
-AllRest p l = Quiet p l.threads l (length l.threads)
+AllRest p l = Quiet p l.threads l (λ t. t < length l.threads)
 
 -- turns from the first state came to their end with this answer
 abbrev pub EndsWith : {S : Type 0} → Prog S → ℕ → Answer → List Turn → LockState S → List Turn → LockState S → Type 0

@@ -90,7 +90,7 @@ fn run_threads<C: Client, I: Source, O: Sink, E: Sink>(
             return nothing_ran(alloc, Answer::OutOfMemory, input, out, err);
         }
     };
-    let answer = run_turns(&mut run, &mut history, STEP_BUDGET);
+    let answer = run_turns(alloc, &mut run, &mut history, STEP_BUDGET);
     let (input, out, err) = run.finish();
     End {
         answer,

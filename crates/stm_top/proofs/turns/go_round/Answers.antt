@@ -1,9 +1,12 @@
-use Rattle.std.proofs.Common.{◌≤◌, length, ℕ, arith, refl, subst, ◌∙◌}
+use Rattle.std.proofs.Common.{◌≡◌, ◌≤◌, ◌<◌, length, slice_index_or, ℕ, arith, refl, subst, ◌∙◌}
+use Rattle.std.proofs.lemmas.List.Elements.{All-get_or}
+use Rattle.std.proofs.lemmas.Option.{slice_get-get_or}
 use Rattle.lock_run.specs.declared.machine.LockRun.{LockRun}
 use Rattle.lock_run.specs.LockState.{lock_state, lock_client}
 use Rattle.lock_run.specs.Turns.{LockState}
-use Rattle.stm_top.specs.Rounds.{GoesOn, RestsIn, EndsWith}
-use Rattle.stm_top.proofs.RoundsMade.{none_fell, falls_since, nothing_yet, goes_then, quiet_first, quiet_next, ends_since, err_of}
+use Rattle.stm_top.specs.Rounds.{GoesOn, StayEnded, RestsIn, Quiet, AmongFirst, EndsWith}
+use Rattle.stm_top.proofs.RoundsMade.{none_fell, falls_since, nothing_yet, goes_then, ends_since, err_of}
+use Rattle.stm_top.proofs.ListedThreads.{stay_here, stay_then, quiet_first, quiet_next, quiet_all}
 use Rattle.stm_top.proofs.turns.go_round.Given as given
 use Rattle.stm_top.proofs.turns.go_round.Goals as goal
 
@@ -20,7 +23,8 @@ loop-t-init g c =
       later = omega arith;
       more = omega arith;
       goes = nothing_yet p c.args.history.now.entries (lock g c.args.run.now);
-      quiet = λ _. quiet_first p (lock g c.args.run.now);
+      stay = stay_here p (lock g c.args.run.now);
+      quiet = λ _. quiet_first p (lock g c.args.run.now) c.args.live.now;
     }
 
 pub returns-in_err-take_turn-clause-ended : goal.returns-in_err-take_turn-clause-ended
@@ -35,6 +39,12 @@ returns-in_err-take_turn-clause-ended g c =
     let ended : (budget : ℕ) → EndsWith p budget answer t1 b t2 d = subst (λ cl. (budget : ℕ) → EndsWith (g.C.Client.prog cl) budget answer t1 b t2 d) v.client c.in_err-take_turn.ensures.ended in
     err_of _ answer _ c.from_residual.ensures.1 (λ budget. ends_since p budget answer c.args.history.now.entries t1 t2 (lock g c.args.run.now) b d v.goes v.counts (ended budget))
 
+pub take_turn-requires-clause-there : goal.take_turn-requires-clause-there
+take_turn-requires-clause-there g c =
+    let h = All-get_or (λ t. t < length (lock g c.args.run.now).threads) c.args.live.now c.loop-t.t-index 0 c.loop-t-test.true c.requires.listed.threads in
+    let m = c.loop-t.invariant.more in
+    omega (arith, h, m)
+
 pub loop-t-preserved : goal.loop-t-preserved
 loop-t-preserved g c =
     let p = g.C.Client.prog (lock_client c.args.run.now) in
@@ -45,8 +55,11 @@ loop-t-preserved g c =
     let new = c.take_turn.new.history.entries in
     let e = c.in_ok-take_turn.ensures in
     let goes : GoesOn p old a new b = subst (λ cl. GoesOn (g.C.Client.prog cl) old a new b) v.client e.goes in
+    let stay : StayEnded p a b = subst (λ cl. StayEnded (g.C.Client.prog cl) a b) v.client e.stay in
     let later : length old ≤ length new = e.later in
-    let rests : length new ≤ length old → RestsIn p a c.loop-t.t = subst (λ cl. length new ≤ length old → RestsIn (g.C.Client.prog cl) a c.loop-t.t) v.client e.rests in
+    let live = c.args.live.now in
+    let t = slice_index_or live c.loop-t.t-index 0 in
+    let rests : length new ≤ length old → RestsIn p a t = subst (λ cl. length new ≤ length old → RestsIn (g.C.Client.prog cl) a t) v.client e.rests in
     record {
       sound = e.sound;
       client = e.client ∙ v.client;
@@ -54,8 +67,18 @@ loop-t-preserved g c =
       later = let u = v.later in omega (arith, u, later);
       more = let u = v.more in let w = e.more in omega (arith, u, w);
       goes = goes_then p c.args.history.now.entries old new (lock g c.args.run.now) a b v.goes goes;
+      stay = stay_then p (lock g c.args.run.now) a b v.stay stay;
       quiet = λ q.
           let was : length old ≤ length c.args.history.now.entries = omega (arith, q, later) in
           let now : length new ≤ length old = (let u = v.later in omega (arith, q, u)) in
-          quiet_next p (lock g c.args.run.now).threads a b c.loop-t.t (v.quiet was) (e.still now) (rests now);
+          quiet_next p (lock g c.args.run.now).threads a b live c.loop-t.t-index t (slice_get-get_or live c.loop-t.t-index 0 c.loop-t-test.true) (v.quiet was) (e.still now) (rests now);
     }
+
+pub returns-clause-rests : goal.returns-clause-rests
+returns-clause-rests g c = λ q.
+    let p = g.C.Client.prog (lock_client c.args.run.now) in
+    let a = lock g c.args.run.now in
+    let b = lock g c.loop-t.run in
+    let live = c.args.live.now in
+    let end : c.loop-t.t-index ≡ length live = (let n = c.loop-t.auto.t-index-end in let f = c.loop-t-test.false in omega (arith, n, f)) in
+    quiet_all p a b live c.requires.listed (subst (λ n. Quiet p a.threads b (AmongFirst live n)) end (c.loop-t.invariant.quiet q))

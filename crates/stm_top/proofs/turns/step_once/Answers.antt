@@ -4,6 +4,7 @@ use Rattle.lock_run.specs.LockState.{lock_state, lock_client}
 use Rattle.lock_run.specs.Turns.{LockState}
 use Rattle.stm_top.specs.Rounds.{GoesOn}
 use Rattle.stm_top.proofs.TurnTaken.{lives_at, went_on, more_threads, ends_without_room, ends_reading, ends_writing, ends_erring, ends_starved, waits_still, waits_resting, same_threads, stays}
+use Rattle.stm_top.proofs.ListedThreads.{stay_step, stay_still}
 use Rattle.stm_top.proofs.turns.step_once.Given as given
 use Rattle.stm_top.proofs.turns.step_once.Goals as goal
 
@@ -59,3 +60,12 @@ returns-in-Waits-clause-more g c = same_threads (lock g c.args.run.now) (lock g 
 
 pub returns-in-Waits-clause-goes : goal.returns-in-Waits-clause-goes
 returns-in-Waits-clause-goes g c = stays (g.C.Client.prog (lock_client c.args.run.now)) _ _ (lock g c.args.run.now) (lock g c.free_turn.new.self) c.reserve.ensures.same (returns-in-Waits-clause-still g c (let e = ap length c.reserve.ensures.same in omega (arith, e)))
+
+pub returns-in-Ok-push-clause-stay : goal.returns-in-Ok-push-clause-stay
+returns-in-Ok-push-clause-stay g c =
+    let p = g.C.Client.prog (lock_client c.args.run.now) in
+    stay_step p c.args.t c.in-Ok.turn (lock g c.args.run.now) (lock g c.free_turn.new.self) (lives_at p _ c.args.t c.requires.there c.requires.lives) c.in-Ok.ensures.done
+
+pub returns-in-Waits-clause-stay : goal.returns-in-Waits-clause-stay
+returns-in-Waits-clause-stay g c =
+    stay_still (g.C.Client.prog (lock_client c.args.run.now)) (lock g c.args.run.now) (lock g c.free_turn.new.self) (returns-in-Waits-clause-still g c (let e = ap length c.reserve.ensures.same in omega (arith, e)))
