@@ -1,4 +1,4 @@
-n = 25000
+n = 250000
 # Numbers alone: a generator of numbers that look random.
 def work(n):
     x = 1

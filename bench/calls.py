@@ -1,4 +1,4 @@
-n = 30000
+n = 300000
 # A call of a function for each number.
 def add(a, b):
     return a + b

@@ -1,4 +1,4 @@
-n = 25000
+n = 250000
 # The calls of calls.py, within 1 frame.
 def add(a, b):
     return a + b

@@ -1,4 +1,4 @@
-n = 22000
+n = 220000
 # A dictionary of eight keys.
 def work(n):
     names = ['a', 'b', 'c', 'd', 'e', 'f', 'g', 'h']

@@ -1,4 +1,4 @@
-n = 25000
+n = 250000
 # The numbers of arithmetic.py, when 1 thread has ended.
 import threading
 def quiet():

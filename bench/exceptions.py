@@ -1,4 +1,4 @@
-n = 16000
+n = 160000
 # An exception in each turn, by raise or by a key that isn't there.
 def work(n):
     caught = 0

@@ -1,4 +1,4 @@
-n = 15000
+n = 150000
 # Lists and attributes, beside 100 strings that stay.
 kept = list('a' * 100)
 class Box(object):

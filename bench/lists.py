@@ -1,4 +1,4 @@
-n = 15000
+n = 150000
 # A list that grows, is gone through, and is written to by index.
 def work(n):
     a = []

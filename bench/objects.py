@@ -1,4 +1,4 @@
-n = 13500
+n = 135000
 # A method that makes an instance.
 class Point(object):
     def __init__(self, x, y):

@@ -1,4 +1,4 @@
-n = 12000
+n = 120000
 # Short strings: glued, made of numbers, changed and searched.
 def work(n):
     words = ['the', 'quick', 'brown', 'fox']

@@ -1,4 +1,4 @@
-n = 5500
+n = 55000
 # Four threads, each on a list of its own.
 import threading
 sums = [0, 0, 0, 0]

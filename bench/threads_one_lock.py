@@ -1,4 +1,4 @@
-n = 4000
+n = 40000
 # Four threads that add to one number under one lock.
 import threading
 lock = threading.Lock()

@@ -14,20 +14,20 @@ use std::test;
 use stm_core::{Advance, BeginError, Core, Event, Reply, RunState, Slot};
 use stm_io::{MemSink, MemSource};
 
-type Tested = Result<(), test::Fail>;
+pub(crate) type Tested = Result<(), test::Fail>;
 
-type MemCore<'p> = Core<'p, Script, PlainStore, MemSource, MemSink, MemSink>;
+pub(crate) type MemCore<'p> = Core<'p, Script, PlainStore, MemSource, MemSink, MemSink>;
 
 type MemRun<'p> = LockRun<'p, Script, MemSource, MemSink, MemSink>;
 
 /// Threads with these lists of acts, over two Cells.
-fn script_of(rt: &impl Abort, lists: Vec<Acts>) -> Script {
+pub(crate) fn script_of(rt: &impl Abort, lists: Vec<Acts>) -> Script {
     assert!(rt; Script::fits(2, lists.as_slice()));
     Script::new(2, lists)
 }
 
 /// Two threads with these acts, over two Cells.
-fn script(
+pub(crate) fn script(
     rt: &impl Abort,
     alloc: Global,
     first: &[Act],
@@ -39,20 +39,21 @@ fn script(
     Ok(script_of(rt, lists))
 }
 
-fn source(alloc: Global) -> MemSource {
+pub(crate) fn source(alloc: Global) -> MemSource {
     MemSource::new(alloc, Vec::new(alloc), Vec::new(alloc))
 }
 
-fn sink(alloc: Global) -> MemSink {
+pub(crate) fn sink(alloc: Global) -> MemSink {
     MemSink::new(alloc, Vec::new(alloc))
 }
 
-/// A core of three segments, whose transactions have at most four steps.
+/// A core of three segments, whose transactions have at most four steps, with this output.
 fn core<'p>(
     rt: &impl Abort,
     alloc: Global,
     client: &'p Script,
     budget: u64,
+    out: MemSink,
 ) -> Result<MemCore<'p>, test::Fail>
     ensures { IfOk result IsGoodScriptCore }
 {
@@ -65,7 +66,7 @@ fn core<'p>(
         4,
         budget,
         source(alloc),
-        sink(alloc),
+        out,
         sink(alloc),
     ) {
         Ok(core) => Ok(core),
@@ -74,7 +75,12 @@ fn core<'p>(
 }
 
 /// Makes events, and compares their replies.
-fn play(rt: &impl Abort, core: &mut MemCore<'_>, list: &[Event], wanted: &[Reply]) -> Tested
+pub(crate) fn play(
+    rt: &impl Abort,
+    core: &mut MemCore<'_>,
+    list: &[Event],
+    wanted: &[Reply],
+) -> Tested
     requires { IsGoodScriptCore core.old }
     ensures { IsGoodScriptCore core.new }
 {
@@ -84,7 +90,7 @@ fn play(rt: &impl Abort, core: &mut MemCore<'_>, list: &[Event], wanted: &[Reply
 }
 
 /// A core after the step of thread 0, which is turn 0.
-fn begun<'p>(
+pub(crate) fn begun<'p>(
     rt: &impl Abort,
     alloc: Global,
     client: &'p Script,
@@ -92,7 +98,20 @@ fn begun<'p>(
 ) -> Result<MemCore<'p>, test::Fail>
     ensures { IfOk result IsGoodScriptCore }
 {
-    let mut core = core(rt, alloc, client, budget)?;
+    begun_over(rt, alloc, client, budget, sink(alloc))
+}
+
+/// With this output.
+pub(crate) fn begun_over<'p>(
+    rt: &impl Abort,
+    alloc: Global,
+    client: &'p Script,
+    budget: u64,
+    out: MemSink,
+) -> Result<MemCore<'p>, test::Fail>
+    ensures { IfOk result IsGoodScriptCore }
+{
+    let mut core = core(rt, alloc, client, budget, out)?;
     let list = [Event::Begin(0, 0), Event::Advance(0, 1), Event::Commit(0)];
     let wanted = [
         Reply::Begun,
@@ -104,7 +123,7 @@ fn begun<'p>(
 }
 
 /// The address of a Cell, which turn 0 made.
-fn cell(rt: &impl Abort, core: &MemCore<'_>, cell: usize) -> Addr {
+pub(crate) fn cell(rt: &impl Abort, core: &MemCore<'_>, cell: usize) -> Addr {
     let Some(turn) = core.history().get(0) else {
         panic!(rt; "no turn");
     };
@@ -115,7 +134,7 @@ fn cell(rt: &impl Abort, core: &MemCore<'_>, cell: usize) -> Addr {
 }
 
 /// The number in a Cell of the image.
-fn committed(rt: &impl Abort, core: &MemCore<'_>, place: usize) -> i64 {
+pub(crate) fn committed(rt: &impl Abort, core: &MemCore<'_>, place: usize) -> i64 {
     let a = cell(rt, core, place);
     let Some(r) = core.store().committed(a.0) else {
         panic!(rt; "no record");
@@ -139,7 +158,7 @@ fn seen(rt: &impl Abort, core: &MemCore<'_>, k: u8, place: usize) -> i64 {
 }
 
 /// What a segment has in hand.
-fn slot(rt: &impl Abort, core: &MemCore<'_>, k: u8) -> Slot
+pub(crate) fn slot(rt: &impl Abort, core: &MemCore<'_>, k: u8) -> Slot
     requires { IsGoodScriptCore core.now }
 {
     assert!(rt; k < core.store().segments());
@@ -147,7 +166,7 @@ fn slot(rt: &impl Abort, core: &MemCore<'_>, k: u8) -> Slot
 }
 
 /// The side of a transaction that isn't solo.
-fn side(segment: u8, thread: u32, begun: u64) -> Side {
+pub(crate) fn side(segment: u8, thread: u32, begun: u64) -> Side {
     Side {
         segment,
         thread,
@@ -427,10 +446,11 @@ fn draw(seed: &mut u32) -> u32 {
 
 fn draw_event(seed: &mut u32) -> Event {
     let k = (draw(seed) % 3) as u8;
-    match draw(seed) % 4 {
+    match draw(seed) % 5 {
         0 => Event::Begin(k, draw(seed) % 4),
         1 => Event::Advance(k, 1),
         2 => Event::Advance(k, 2),
+        3 => Event::Solo(k),
         _ => Event::Commit(k),
     }
 }
@@ -445,12 +465,12 @@ fn draw_events(alloc: Global, seed: u32, count: usize) -> Result<Vec<Event>, tes
     Ok(list)
 }
 
-/// Three threads that look at, set and push what the others do.
+/// Three threads that look at, set and push what the others do, and print.
 fn three(rt: &impl Abort, alloc: Global) -> Result<Script, test::Fail> {
     let mut lists = Vec::new(alloc);
-    let first = [Act::Look(0), Act::Set(1, 1), Act::Push(7)];
-    let second = [Act::Set(0, 2), Act::Look(1), Act::Push(8)];
-    let third = [Act::Look(1), Act::Set(0, 3), Act::Set(1, 4)];
+    let first = [Act::Look(0), Act::Set(1, 1), Act::Put(65), Act::Push(7)];
+    let second = [Act::Set(0, 2), Act::Look(1), Act::Put(66), Act::Push(8)];
+    let third = [Act::Look(1), Act::Put(67), Act::Set(0, 3), Act::Set(1, 4)];
     lists.push(Acts::from_slice(alloc, &first)?)?;
     lists.push(Acts::from_slice(alloc, &second)?)?;
     lists.push(Acts::from_slice(alloc, &third)?)?;
@@ -480,6 +500,7 @@ fn again(rt: &impl Abort, run: &mut MemRun<'_>, turn: &Turn)
 /// The machine does the turns of a history, one after another.
 fn all_again(rt: &impl Abort, run: &mut MemRun<'_>, history: &History)
     requires { IsSound ScriptSound (lock_state mem_source_state mem_sink_state mem_sink_state run.old) }
+    ensures { IsSound ScriptSound (lock_state mem_source_state mem_sink_state mem_sink_state run.new) }
 {
     'turns: for i in 0..history.len() {
         match history.get(i) {
@@ -489,34 +510,47 @@ fn all_again(rt: &impl Abort, run: &mut MemRun<'_>, history: &History)
     }
 }
 
-/// Makes the events of a list on a core, and does its history's turns again on a machine: how many turns and conflicts
-/// there were.
-fn on_both(
-    rt: &impl Abort,
-    alloc: Global,
-    client: &Script,
-    seed: u32,
-) -> Result<(usize, usize), test::Fail> {
+/// What a list of events left.
+#[derive(Drop)]
+struct Left {
+    turns: usize,
+    conflicts: usize,
+    /// How many bytes were written.
+    bytes: usize,
+}
+
+/// Makes the events of a list on a core, and does its history's turns again on a machine, which writes the same.
+fn on_both(rt: &impl Abort, alloc: Global, client: &Script, seed: u32) -> Result<Left, test::Fail> {
     let mut core = begun(rt, alloc, client, 1_000)?;
     let list = draw_events(alloc, seed, 60)?;
     core.run_events(list.as_slice())?;
+    let finished = core.finish();
     let mut run = machine(alloc, client)?;
-    all_again(rt, &mut run, core.history());
-    Ok((core.history().len(), core.conflicts().len()))
+    all_again(rt, &mut run, &finished.history);
+    let (_, out, _) = run.finish();
+    assert_eq!(rt; finished.out.written(), out.written());
+    Ok(Left {
+        turns: finished.history.len(),
+        conflicts: finished.conflicts.len(),
+        bytes: out.written().len(),
+    })
 }
 
-/// The histories of 500 lists of events are runs of the one-lock machine.
+/// The histories of 500 lists of events are runs of the one-lock machine, with the same output.
 #[test]
 fn histories_run_again(rt: HostRuntime) -> Tested {
     let client = three(&rt, rt.alloc())?;
     let mut turns = 0usize;
     let mut conflicts = 0usize;
+    let mut bytes = 0usize;
     for seed in 0..500 {
-        let (more, lost) = on_both(&rt, rt.alloc(), &client, seed)?;
-        turns = turns.saturating_add(more);
-        conflicts = conflicts.saturating_add(lost);
+        let left = on_both(&rt, rt.alloc(), &client, seed)?;
+        turns = turns.saturating_add(left.turns);
+        conflicts = conflicts.saturating_add(left.conflicts);
+        bytes = bytes.saturating_add(left.bytes);
     }
     assert!(&rt; turns > 1_500, "{turns}");
-    assert!(&rt; conflicts > 300, "{conflicts}");
+    assert!(&rt; conflicts > 150, "{conflicts}");
+    assert!(&rt; bytes > 300, "{bytes}");
     Ok(())
 }

@@ -1,5 +1,5 @@
 // A lock and its calls.
-ghost use Rattle.std.specs.Prelude.{◌≡◌, ◌+◌, ◌<◌, ◌≤◌, true, false, All, length, IfOk, IfErr, IfSome, IfNone};
+ghost use Rattle.std.specs.Prelude.{◌≡◌, ◌++◌, ◌∷◌, [], None, Some, ◌+◌, ◌<◌, ◌≤◌, true, false, All, length, IfOk, IfErr, IfSome, IfNone};
 ghost use Rattle.heap_lock.specs.Views.{LockView};
 ghost use Rattle.heap_lock.specs.Parts.{all_parts, HasAllParts, highest_part, lower_parts, merged};
 
@@ -17,11 +17,12 @@ use std::sync::Wait;
 pub type NoMemory = AllocError;
 
 /// A lock round one value of type `T`, which threads share by reference. Whenever no seat holds the
-/// value, the lock has a good value of the job that it was made with.
+/// value, the lock has a good value of the job that it was made with, which has grown from each that
+/// a seat has seen.
 ///
 /// A lock can't be dropped. `close` ends it.
 pub struct HeapLock<T: Job> {
-    table: Table<Option<T>, View<T::Description>, Key<T>, LockRule<T>, Global>,
+    table: Table<Option<T>, View<T, T::Description>, Key<T>, LockRule<T>, Global>,
 }
 
 impl<T: Job> Model for HeapLock<T> {
@@ -33,7 +34,8 @@ impl<T: Job> Model for HeapLock<T> {
 }
 
 impl<T: Job> HeapLock<T> {
-    /// Makes a lock round the value, with its first seat, which has all the parts and holds nothing.
+    /// Makes a lock round the value, with its first seat, which has all the parts, holds nothing and
+    /// has seen the value.
     ///
     /// `parts` is a count, from 1 to 255: at most so many seats can there be at once. The parts
     /// themselves are the numbers 0 to `parts - 1`.
@@ -48,6 +50,8 @@ impl<T: Job> HeapLock<T> {
           parts = all_parts parts;
           holds = false;
           job = Some (T.job value);
+          seen = value ∷ [];
+          taken = None;
         }) }
         ensures count { IfOk result (λ r. length r.1.parts ≡ parts) }
         ensures all { IfOk result (λ r. HasAllParts r.0.parts r.1.parts) }
@@ -83,9 +87,10 @@ impl<T: Job> HeapLock<T> {
     fn try_take(&self, seat: &mut Seat<T>) -> Option<T>
         requires lock { seat.old.lock ≡ self.now.id }
         requires free { seat.old.holds ≡ false }
-        ensures seat { IfSome result (λ x. seat.new ≡ record seat.old { holds = true }) }
+        ensures seat { IfSome result (λ x. seat.new ≡ record seat.old { holds = true; taken = Some x }) }
         ensures good { IfSome result (λ x. T.good x) }
         ensures job { IfSome result (λ x. seat.old.job ≡ Some (T.job x)) }
+        ensures later { IfSome result (λ x. All (λ y. T.grows y x) seat.old.seen) }
         ensures none { IfNone result (seat.new ≡ seat.old) }
     {
         let shared = &self.table.shared;
@@ -99,14 +104,17 @@ impl<T: Job> HeapLock<T> {
     /// Takes the value out of the lock, for the seat to hold until it gives a value back.
     ///
     /// It tries until it finds the lock free, and lets other threads run in between. In any schedule
-    /// the value is good and of the seat's job. That the call returns is not claimed, and neither is
-    /// any order among threads that wait. It takes no memory.
+    /// the value is good and of the seat's job, and has grown from each that the seat has seen: from
+    /// the one that it gave last or, before it gave one, from the one that the lock was made with.
+    /// What others gave since isn't told. That the call returns is not claimed, and neither is any
+    /// order among threads that wait. It takes no memory.
     pub fn take<Rt: Wait>(&self, rt: &Rt, seat: &mut Seat<T>) -> T
         requires lock { seat.old.lock ≡ self.now.id }
         requires free { seat.old.holds ≡ false }
-        ensures seat { seat.new ≡ record seat.old { holds = true } }
+        ensures seat { seat.new ≡ record seat.old { holds = true; taken = Some result } }
         ensures good { T.good result }
         ensures job { seat.old.job ≡ Some (T.job result) }
+        ensures later { All (λ y. T.grows y result) seat.old.seen }
     {
         for _ in rt.forever() {
             if let Some(value) = self.try_take(seat) {
@@ -117,14 +125,16 @@ impl<T: Job> HeapLock<T> {
         unreachable!()
     }
 
-    /// Puts a value back, which need not be the one that was taken, and frees the lock. It neither
-    /// waits nor takes memory.
+    /// Puts a value back, which need not be the one that was taken but has grown from it, and frees
+    /// the lock. Of all values the seat has then seen this one alone, from which each that it takes
+    /// later has grown. It neither waits nor takes memory.
     pub fn give(&self, seat: &mut Seat<T>, value: T)
         requires lock { seat.old.lock ≡ self.now.id }
         requires holds { seat.old.holds ≡ true }
         requires good { T.good value }
         requires job { seat.old.job ≡ Some (T.job value) }
-        ensures seat { seat.new ≡ record seat.old { holds = false } }
+        requires grown { IfSome seat.old.taken (λ x. T.grows x value) }
+        ensures seat { seat.new ≡ record seat.old { holds = false; seen = value ∷ []; taken = None } }
     {
         let shared = &self.table.shared;
         let before = shared.exchange(&mut seat.inner, 0, Some(value));
@@ -133,7 +143,8 @@ impl<T: Job> HeapLock<T> {
     }
 
     /// Makes a new seat, for another thread. It takes over the highest part of the seat, has the same
-    /// job and holds nothing. Each seat keeps at least one part. It neither waits nor takes memory.
+    /// job, has seen the same values and holds nothing. Each seat keeps at least one part. It neither
+    /// waits nor takes memory.
     pub fn split(&self, seat: &mut Seat<T>) -> Seat<T>
         requires lock { seat.old.lock ≡ self.now.id }
         requires free { seat.old.holds ≡ false }
@@ -150,12 +161,12 @@ impl<T: Job> HeapLock<T> {
         Seat { inner }
     }
 
-    /// Ends the other seat. The seat then has the parts of both, with the highest first. It neither
-    /// waits nor takes memory.
+    /// Ends the other seat. The seat then has the parts of both, with the highest first, and has seen
+    /// what either has. It neither waits nor takes memory.
     pub fn join(&self, seat: &mut Seat<T>, other: Seat<T>)
         requires lock { (seat.old.lock ≡ self.now.id) × (other.lock ≡ self.now.id) }
         requires free { (seat.old.holds ≡ false) × (other.holds ≡ false) }
-        ensures seat { seat.new ≡ record seat.old { parts = merged other.parts seat.old.parts } }
+        ensures seat { seat.new ≡ record seat.old { parts = merged other.parts seat.old.parts; seen = seat.old.seen ++ other.seen } }
         ensures count { length seat.new.parts ≡ length seat.old.parts + length other.parts }
     {
         self.table
@@ -168,7 +179,7 @@ impl<T: Job> HeapLock<T> {
         requires lock { seat.lock ≡ self.id }
         requires free { seat.holds ≡ false }
         requires all { HasAllParts self.parts seat.parts }
-        ensures { (x : T) × (result ≡ Some x) × T.good x × (seat.job ≡ Some (T.job x)) }
+        ensures { (x : T) × (result ≡ Some x) × T.good x × (seat.job ≡ Some (T.job x)) × All (λ y. T.grows y x) seat.seen }
     {
         let HeapLock { table } = self;
         let mut closed = table.close_with(seat.into_inner());
@@ -179,13 +190,15 @@ impl<T: Job> HeapLock<T> {
 
     /// Ends the lock and the seat, and gives the value for good. It neither waits nor takes memory.
     ///
-    /// A seat with all the parts is the only one, so where it holds nothing the lock is free.
+    /// A seat with all the parts is the only one, so where it holds nothing the lock is free. As for
+    /// `take`, the value has grown from each that the seat has seen.
     pub fn close(self, seat: Seat<T>) -> T
         requires lock { seat.lock ≡ self.id }
         requires free { seat.holds ≡ false }
         requires all { HasAllParts self.parts seat.parts }
         ensures good { T.good result }
         ensures job { seat.job ≡ Some (T.job result) }
+        ensures later { All (λ y. T.grows y result) seat.seen }
     {
         self.into_slot(seat).unwrap()
     }

@@ -1,5 +1,6 @@
 // Threads that count under a lock.
-ghost use Rattle.std.specs.Prelude.{◌≡◌, ◌<◌, ◌≤◌, false, length};
+ghost use Rattle.std.specs.Prelude.{◌≡◌, ◌<◌, ◌≤◌, false, length, All};
+ghost use Rattle.std.proofs.Math.Nat.{le_refl, le_trans};
 ghost use Rattle.std.specs.Thread.{IsSync};
 
 use crate::{HeapLock, Job, Seat};
@@ -13,7 +14,8 @@ trait Adding: Job {
     fn add(&mut self, amount: u64)
         requires good { Self.good self.old }
         ensures good { Self.good self.new }
-        ensures job { Self.job self.new ≡ Self.job self.old };
+        ensures job { Self.job self.new ≡ Self.job self.old }
+        ensures grown { Self.grows self.old self.new };
 }
 
 #[derive(Drop)]
@@ -28,6 +30,12 @@ impl Job for Count {
     ghost job = { λ c. c.limit };
 
     ghost good = { λ c. c.count ≤ c.limit };
+
+    ghost grows = { λ c d. c.count ≤ d.count };
+
+    ghost grows_same = { λ c. le_refl c.count };
+
+    ghost grows_then = { λ c d e more again. le_trans more again };
 }
 
 impl Adding for Count {
@@ -38,6 +46,7 @@ impl Adding for Count {
     }
 }
 
+// Adds as often. What has grown from all that the seat has seen then has grown from all that it had.
 fn add_often<T: Adding, Rt: Wait>(
     rt: &Rt,
     lock: &HeapLock<T>,
@@ -47,7 +56,8 @@ fn add_often<T: Adding, Rt: Wait>(
 ) -> Seat<T>
     requires lock { seat.lock ≡ lock.now.id }
     requires free { seat.holds ≡ false }
-    ensures { result ≡ seat }
+    ensures same { result ≡ record seat { seen = result.seen; taken = result.taken } }
+    ensures seen { (x : T) → All (λ y. T.grows y x) result.seen → All (λ y. T.grows y x) seat.seen }
 {
     for _ in 0..times {
         let mut value = lock.take(rt, &mut seat);
@@ -68,7 +78,8 @@ fn add_in_threads<T: Adding + Send, Rt: Threads + Wait + Sync>(
     requires lock { seat.lock ≡ lock.now.id }
     requires free { seat.holds ≡ false }
     requires threads { (0 < threads) × (length seat.parts ≡ threads) }
-    ensures { result ≡ seat }
+    ensures same { result ≡ record seat { seen = result.seen; taken = result.taken } }
+    ensures seen { (x : T) → All (λ y. T.grows y x) result.seen → All (λ y. T.grows y x) seat.seen }
 {
     if threads == 1 {
         return add_often(rt, lock, seat, 1, times);
@@ -79,11 +90,13 @@ fn add_in_threads<T: Adding + Send, Rt: Threads + Wait + Sync>(
         rt,
         move || -> Seat<T>
             requires { IsSync Rt.row × (seat.lock ≡ lock.now.id) × (seat.holds ≡ false) × (0 < rest) × (length seat.parts ≡ rest) }
-            ensures { result ≡ seat }
+            ensures same { result ≡ record seat { seen = result.seen; taken = result.taken } }
+            ensures seen { (x : T) → All (λ y. T.grows y x) result.seen → All (λ y. T.grows y x) seat.seen }
         { add_in_threads(rt, lock, seat, rest, times) },
         move || -> Seat<T>
             requires { (other.lock ≡ lock.now.id) × (other.holds ≡ false) }
-            ensures { result ≡ other }
+            ensures same { result ≡ record other { seen = result.seen; taken = result.taken } }
+            ensures seen { (x : T) → All (λ y. T.grows y x) result.seen → All (λ y. T.grows y x) other.seen }
         { add_often(rt, lock, other, threads, times) },
     );
     lock.join(&mut seat, other);
@@ -100,6 +113,7 @@ fn two_threads_count(rt: HostRuntime) -> Result<(), Fail> {
     let seat = add_in_threads(&rt, &lock, seat, 2, 10_000);
     let end = lock.close(seat);
     prove!(end.limit == 100_000);
+    prove!(5 <= end.count);
     assert_eq!(rt; end.count, 5 + 10_000 + 20_000);
     Ok(())
 }

@@ -17,7 +17,6 @@ use crate::loader::FileLoader;
 use crate::sink::{StderrSink, StdoutSink};
 use crate::source::StdinSource;
 use crate::words::read_words;
-use std::alloc::AllocError;
 use std::process::ExitCode;
 use stm_io::{OpenGate, Sink};
 use stm_top::run_words;
@@ -25,24 +24,27 @@ use stm_top::run_words;
 /// The status where the words find no memory.
 const OUT_OF_MEMORY: u8 = 11;
 
+/// Runs what the process's words say over the real outside, and ends with its status.
 fn main(rt: HostRuntime) -> ExitCode {
-    let status = match read_words(&rt, rt.alloc()) {
-        Ok(words) => run(&rt, &words),
-        Err(AllocError) => stop_for_memory(&rt),
-    };
-    ExitCode::from(status)
-}
-
-/// Runs what the words say over the real outside, and answers the status that the process ends with.
-fn run(rt: &HostRuntime, words: &[String]) -> u8 {
     let alloc = rt.alloc();
-    let loader = FileLoader::new(rt, alloc);
+    let Ok(words) = read_words(&rt, alloc) else {
+        return ExitCode::from(stop_for_memory(&rt));
+    };
+    let loader = FileLoader::new(&rt, alloc);
     let input = StdinSource::new(alloc, rt.stdin());
     let out = StdoutSink::new(rt.stdout());
     let err = StderrSink::new(rt.stderr());
-    let gate = OpenGate;
-    let report = run_words(rt, alloc, words, loader, input, out, err, &gate);
-    report.status.number()
+    let report = run_words(
+        &rt,
+        alloc,
+        words.as_slice(),
+        loader,
+        input,
+        out,
+        err,
+        &OpenGate,
+    );
+    ExitCode::from(report.status.number())
 }
 
 /// Says that there was no memory for the words. A failure of that write changes nothing.

@@ -1,6 +1,5 @@
 -- What always holds of a store of maps is what a store tells.
-use Rattle.std.proofs.Common.{◌≡◌, ℕ, Bool, true, false, ◌||◌, ◌&&◌, not, cond, List, [], ◌∷◌, ◌++◌, take, drop, Option, Some, None, is_some, refl, sym, ◌∙◌, ap, arith, take-append-drop}
-use Rattle.std.proofs.lemmas.Bool.{and_parts}
+use Rattle.std.proofs.Common.{◌≡◌, ℕ, Bool, true, false, ◌||◌, cond, List, [], ◌∷◌, ◌++◌, take, drop, Option, Some, None, is_some, slice_get, length, refl, sym, ◌∙◌, ap, arith, take-append-drop}
 use Rattle.std.proofs.lemmas.List.{map-append}
 use Rattle.py_data.specs.declared.value.Value.{Value}
 use Rattle.py_data.specs.declared.value.Addr.{Addr}
@@ -8,11 +7,11 @@ use Rattle.py_data.specs.Collection.{places}
 use Rattle.py_data.specs.Heap.{Rec, has_bytes}
 use Rattle.py_data.specs.Sight.{mem}
 use Rattle.seg_store.specs.declared.hand.Hand.{Hand}
-use Rattle.seg_store.specs.Store.{NoneOf, IsStored, IsStore}
-use Rattle.seg_store.specs.Objects.{before_of}
-use Rattle.seg_store.specs.Tables.{Objects, Hands, committed_in, held_in, made_in, kept_in, meaning_in, is_changed, is_empty, IsGood, IsSound}
-use Rattle.seg_store.proofs.Owning.{held_one, some_now}
-use Rattle.seg_store.proofs.Calling.{holds_held}
+use Rattle.seg_store.specs.Meaning.{Part, holds}
+use Rattle.seg_store.specs.Store.{NoneOf, IsStored, AreStored, IsStore}
+use Rattle.seg_store.specs.Holding.{is_empty, IsGood}
+use Rattle.seg_store.specs.Tables.{part_in, IsSound}
+use Rattle.seg_store.proofs.Stores.{meant}
 
 empty_list : {T : Type 0} (xs : List T) → is_empty xs ≡ true → xs ≡ []
 empty_list [] e = refl
@@ -25,37 +24,49 @@ list_one false vs bs e = empty_list bs e
 stored : (r : Rec) → IsGood r → IsStored r
 stored r g = record { values = g.values; bytes = g.bytes; one = list_one (has_bytes r.kind) r.values r.bytes g.one }
 
-kept_or : (b h c : Bool) → (c ≡ true → b ≡ h) → b ≡ ((h && c) || (b && not c))
-kept_or b true true f = f refl
-kept_or true false true f = f refl
-kept_or false false true f = refl
-kept_or true true false f = refl
-kept_or true false false f = refl
-kept_or false true false f = refl
-kept_or false false false f = refl
+-- what always holds of one segment's part
+record IsPart (p : Part) : Type 0 where
+  changes : (a : ℕ) → is_some (p.changes a) ≡ holds p a
+  kept : (a : ℕ) → is_some (p.kept a) ≡ (mem a p.changed || mem a p.kept_made)
+  front : (more : List ℕ) × (p.made ≡ p.kept_made ++ more)
+  stored_changes : AreStored p.changes
+  stored_kept : AreStored p.kept
 
-none_from : (x : Bool) (o : Option Rec) → (x && not (is_some o)) ≡ true → o ≡ None
-none_from x None e = refl
-none_from true (Some r) e = cc
-none_from false (Some r) e = cc
+front_of : (n : ℕ) (xs : List Addr) → (more : List ℕ) × (places xs ≡ places (take n xs) ++ more)
+front_of n xs = (places (drop n xs), sym (sym (map-append (λ (a : Addr). a.0) (take n xs) (drop n xs)) ∙ ap places (take-append-drop n xs)))
 
-front_of : (h : Option Hand) → (more : List ℕ) × (made_in h ≡ kept_in h ++ more)
-front_of None = ([], refl)
-front_of (Some h) = (places (drop h.kept h.made), sym (sym (map-append (λ (a : Addr). a.0) (take h.kept h.made) (drop h.kept h.made)) ∙ ap places (take-append-drop h.kept h.made)))
+part_is : (x : Option Hand) → IsPart (part_in x)
+part_is None = record {
+  changes = λ a. refl;
+  kept = λ a. refl;
+  front = ([], refl);
+  stored_changes = record { each = λ a r e. cc };
+  stored_kept = record { each = λ a r e. cc };
+}
+part_is (Some h) = record {
+  changes = λ a. h.sound.now a;
+  kept = λ a. h.sound.before a;
+  front = front_of h.kept h.made;
+  stored_changes = record { each = λ a r e. stored r (h.sound.good a r e) };
+  stored_kept = record { each = λ a r e. stored r (h.sound.good_before a r e) };
+}
 
-pub is_store : (t : Objects) (s : Hands) (n : ℕ) → IsSound t s n → IsStore 0 (meaning_in t s n)
-is_store t s n w = record {
+none_some : (o : Option Rec) → is_some o ≡ false → o ≡ None
+none_some None e = refl
+none_some (Some r) e = cc
+
+pub is_store : (os : List (Option Rec)) (hs : List Hand) → IsSound (meant os hs) (length os) → IsStore 0 (meant os hs)
+is_store os hs w = record {
   some = w.some;
   few = w.few;
   room = omega arith;
-  changes = λ j a. some_now (held_in j (t a)) ∙ sym (holds_held t s n w j a);
-  kept = λ j a. kept_or (is_some (before_of (held_in j (t a)))) (is_some (held_in j (t a))) (is_some (committed_in (t a))) (w.locked a j)
-      ∙ sym (ap (λ b. b || mem a (kept_in (s j))) (w.changed j a) ∙ ap (λ b. is_changed j (t a) || b) (w.kept j a));
-  front = λ j. front_of (s j);
-  locked = λ j a e. (and_parts (is_some (held_in j (t a))) (is_some (committed_in (t a))) (sym (w.changed j a) ∙ e)).1;
-  unused = λ j a e. none_from (is_some (held_in j (t a))) (committed_in (t a)) (sym (w.made j a) ∙ e);
-  apart = λ i j a d e. holds_held t s n w j a ∙ ap is_some (held_one i j (t a) d (sym (holds_held t s n w i a) ∙ e));
+  changes = λ j. (part_is (slice_get hs j)).changes;
+  kept = λ j. (part_is (slice_get hs j)).kept;
+  front = λ j. (part_is (slice_get hs j)).front;
+  locked = w.locked;
+  unused = λ j a e. none_some ((meant os hs).image a) (w.unused j a e);
+  apart = w.apart;
   stored = record { each = λ a r e. stored r (w.good a r e) };
-  stored_changes = λ j. record { each = λ a r e. stored r (w.good_now a j r e) };
-  stored_kept = λ j. record { each = λ a r e. stored r (w.good_before a j r e) };
+  stored_changes = λ j. (part_is (slice_get hs j)).stored_changes;
+  stored_kept = λ j. (part_is (slice_get hs j)).stored_kept;
 }

@@ -1,19 +1,17 @@
--- The lists of one segment of a store of maps. States `docs/HEAP.md`, "The store of maps".
-use Rattle.std.specs.Prelude.{[], length, take}
+-- What one segment of a store of maps has in hand. States `docs/HEAP.md`, "The store of maps".
+use Rattle.std.specs.Prelude.{take}
 use Rattle.py_data.specs.Collection.{places}
-use Rattle.py_data.specs.Heap.{Marks}
-use Rattle.py_data.specs.Sight.{mem}
 use Rattle.seg_store.specs.declared.hand.Hand.{Hand}
-use Rattle.seg_store.specs.declared.object.Turn.{Turn}
-use Rattle.seg_store.specs.declared.object.Turn.TheVariants.{Open, Undo, Publish, Drop}
+use Rattle.seg_store.specs.Meaning.{Part}
+use Rattle.seg_store.specs.Looks.{marks_of}
+use Rattle.seg_store.specs.Space.{space_heap, space_base}
 
--- what the segment has looked at
-abbrev pub marks_of : Hand → Marks
-marks_of h = λ a. mem a (places h.looked)
-
--- a segment's lists after a turn
-abbrev pub turned_hand : Turn → Hand → Hand
-turned_hand Open h = record h { kept = length h.made }
-turned_hand Undo h = record h { made = take h.kept h.made }
-turned_hand Publish h = record h { changed = []; made = []; kept = 0 }
-turned_hand Drop h = record h { changed = []; made = []; kept = 0 }
+abbrev pub part_of : Hand → Part
+part_of h = record {
+  changes = space_heap h.held;
+  changed = places h.changed;
+  made = places h.made;
+  looked = marks_of h.looked;
+  kept = space_base h.held;
+  kept_made = places (take h.kept h.made);
+}

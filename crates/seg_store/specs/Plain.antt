@@ -6,7 +6,7 @@ use Rattle.seg_store.specs.Meaning.{Meaning, no_part}
 use Rattle.seg_store.specs.Tables.{meaning_in}
 
 abbrev pub plain_meaning : PlainStore → Meaning
-plain_meaning s = meaning_in (slice_get s.objects.items) (slice_get s.hands.items) (length s.hands.items)
+plain_meaning s = meaning_in (slice_get s.image.items) (slice_get s.hands.items) (length s.hands.items)
 
 -- a new store of maps: no record, and nothing in any segment's hand
 abbrev pub empty_meaning : ℕ → Meaning

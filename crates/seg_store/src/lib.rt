@@ -3,9 +3,11 @@
 
 mod hand;
 mod laws;
-mod object;
+mod looks;
 mod plain;
+mod space;
 mod store;
+mod table;
 
 pub use laws::{sees_law, wants_law};
 pub use plain::PlainStore;

@@ -1,51 +1,49 @@
 //! A store of maps.
-ghost use Rattle.std.specs.Prelude.{◌≡◌, ◌≤◌, ◌<◌, [], length, slice_get, replicate, IfOk};
-ghost use Rattle.seg_store.specs.Tables.{IsSound, turned_objects};
+ghost use Rattle.std.specs.Prelude.{◌≡◌, ◌≤◌, ◌<◌, ◌+◌, ℕ, length, slice_get, IfOk};
+ghost use Rattle.seg_store.specs.Meaning.{no_part};
+ghost use Rattle.seg_store.specs.Tables.{IsSound, meaning_in, part_in};
 
 use crate::hand::Hand;
-use crate::object::{Object, Since, Turn};
 use crate::store::{SegStore, StoreFault};
 use py_data::{
     Addr, Change, Entry, Kind, LENGTH_LIMIT, NoMemory, Peek, Record, Records, Value, find_pair,
 };
 use std::alloc::Global;
 
-/// What happens to all records of a segment.
-fn turn_objects(objects: &mut Vec<Object>, k: u8, turn: Turn)
-    ensures { slice_get objects.new.items ≡ turned_objects turn k (slice_get objects.old.items) }
-{
-    'objects: for o in objects.iter_mut() {
-        o.turn(k, turn);
-    }
-}
-
-/// A store that keeps a map from addresses to records, and for each segment lists of addresses. It is for tests, and where
-/// speed doesn't matter: what happens to all records of a segment takes time of the number of all records, a look that of
-/// the number of the segment's looks, and a change copies the whole record. It has no limit of words, and is never full. A
-/// name that was given isn't given again.
+/// A store that keeps the image as a list of records by address, and for each segment a table of the records that it
+/// holds, a journal of its step, and flags of the addresses that it has looked at. It has no limit of words, and is
+/// never full. A name that was given isn't given again.
+///
+/// A look at a record takes a few indexes, and the holder of a record those of each segment. Whether a segment has
+/// looked at a record, and a mark, take one. A change is made in place, and takes besides what it changes. A lock of a
+/// record that isn't held yet copies the record, so once in a transaction. Opening a step takes the time of letting
+/// the last step's journal go, and taking it back that of its journal; publishing and dropping take that of what the
+/// segment holds, and publishing moves the records; a transaction's begin takes that of what the last one looked at.
+/// These calls take no memory. A segment has a place for each address up to the highest that it held, and a flag up to
+/// the highest that it marked.
 #[derive(Drop)]
 pub struct PlainStore {
     alloc: Global,
-    objects: Vec<Object>,
+    image: Vec<Option<Entry>>,
     hands: Vec<Hand>,
-    ghost sound: { IsSound (slice_get objects.items) (slice_get hands.items) (length hands.items) },
+    ghost sound: { IsSound (meaning_in (slice_get image.items) (slice_get hands.items) (length hands.items)) (length image.items) },
 }
 
 impl PlainStore {
-    ghost use Rattle.std.specs.Prelude.{ℕ, Some, None, IfSome, IfOk, ◌∷◌, ◌++◌, OnOk, OnErr, option_copied, true, false};
+    ghost use Rattle.std.specs.Prelude.{ℕ, Some, None, IfSome, ◌∷◌, ◌++◌, OnOk, OnErr, option_copied, true, false};
     ghost use Rattle.py_data.specs.Changes.{after};
     ghost use Rattle.py_data.specs.Heap.{Has};
     ghost use Rattle.seg_store.specs.Store.{CanChange};
     ghost use Rattle.seg_store.specs.Meaning.{sees, holds};
     ghost use Rattle.seg_store.specs.Calls.{after_mark, after_lock, after_change, after_make};
-    ghost use Rattle.seg_store.specs.Tables.{IsGood, held_in, after_turn};
+    ghost use Rattle.seg_store.specs.Holding.{IsGood};
     ghost use Rattle.seg_store.specs.Plain.{plain_meaning, empty_meaning};
 
-    /// What is kept of an address.
-    fn object(&self, a: u32) -> Option<&Object>
-        ensures { option_copied result ≡ slice_get self.now.objects.items a }
+    /// What the image has at an address, if it has the address.
+    fn slot(&self, a: u32) -> Option<&Option<Entry>>
+        ensures { option_copied result ≡ slice_get self.now.image.items a }
     {
-        self.objects.get(a as usize)
+        self.image.get(a as usize)
     }
 
     /// The record of the image at an address, if one stands there.
@@ -53,8 +51,19 @@ impl PlainStore {
         ensures entry { option_copied result ≡ (plain_meaning self.now).image a }
         ensures good { IfSome result (λ r. IsGood r.now) }
     {
-        match self.object(a) {
-            Some(o) => o.committed.as_ref(),
+        match self.slot(a) {
+            Some(o) => o.as_ref(),
+            None => None,
+        }
+    }
+
+    /// The record at an address as a segment holds it, if it does.
+    fn changed(&self, k: u8, a: u32) -> Option<&Entry>
+        ensures entry { option_copied result ≡ ((plain_meaning self.now).part k).changes a }
+        ensures good { IfSome result (λ r. IsGood r.now) }
+    {
+        match self.hands.get(k as usize) {
+            Some(h) => h.look(a),
             None => None,
         }
     }
@@ -64,19 +73,10 @@ impl PlainStore {
         ensures entry { option_copied result ≡ sees (plain_meaning self.now) k a }
         ensures good { IfSome result (λ r. IsGood r.now) }
     {
-        match self.object(a) {
-            Some(o) => o.seen(k),
-            None => None,
+        match self.changed(k, a) {
+            Some(r) => Some(r),
+            None => self.committed(a),
         }
-    }
-
-    /// What happens to all records of a segment, and to its lists.
-    fn turn(&mut self, k: u8, turn: Turn)
-        requires { k < (plain_meaning self.old).segments }
-        ensures { plain_meaning self.new ≡ after_turn turn k (plain_meaning self.old) }
-    {
-        turn_objects(&mut self.objects, k, turn);
-        self.hands[k as usize].turn(turn);
     }
 
     /// A new store of so many segments, with no record.
@@ -87,7 +87,7 @@ impl PlainStore {
     {
         Ok(PlainStore {
             alloc,
-            objects: Vec::new(alloc),
+            image: Vec::new(alloc),
             hands: new_hands(alloc, segments)?,
         })
     }
@@ -98,14 +98,15 @@ impl PlainStore {
         ensures ok { OnOk result (plain_meaning self.new ≡ after_mark k a.0 (plain_meaning self.old)) }
         ensures err { OnErr result (plain_meaning self.new ≡ plain_meaning self.old) }
     {
-        self.hands[k as usize].mark(a)
+        self.hands[k as usize].mark(a)?;
+        Ok(())
     }
 
-    /// A segment locks a record of the image that none holds.
+    /// A segment locks a record of the image that none holds. It copies the record.
     fn lock_first(&mut self, k: u8, a: Addr) -> Result<(), NoMemory>
         requires segment { k < (plain_meaning self.old).segments }
         requires there { Has (plain_meaning self.old).image a.0 }
-        requires free { (j : ℕ) → held_in j (slice_get self.old.objects.items a.0) ≡ None }
+        requires free { (j : ℕ) → holds ((plain_meaning self.old).part j) a.0 ≡ false }
         ensures ok { OnOk result (plain_meaning self.new ≡ after_lock k a.0 (plain_meaning self.old)) }
         ensures err { OnErr result (plain_meaning self.new ≡ plain_meaning self.old) }
     {
@@ -113,12 +114,11 @@ impl PlainStore {
             Some(r) => r.copy(self.alloc)?,
             None => unreachable!(),
         };
-        self.hands[k as usize].lock(a)?;
-        self.objects[a.0 as usize].hold(k, now, Since::Same);
+        self.hands[k as usize].lock(a, now)?;
         Ok(())
     }
 
-    /// A segment changes a record that it holds. It copies the record.
+    /// A segment changes a record that it holds, in place.
     fn change(&mut self, k: u8, a: Addr, c: Change) -> Result<(), NoMemory>
         requires segment { k < (plain_meaning self.old).segments }
         requires held { holds ((plain_meaning self.old).part k) a.0 ≡ true }
@@ -126,21 +126,16 @@ impl PlainStore {
         ensures ok { OnOk result (plain_meaning self.new ≡ after_change k a.0 (after c) (plain_meaning self.old)) }
         ensures err { OnErr result (plain_meaning self.new ≡ plain_meaning self.old) }
     {
-        let mut next = match self.seen(k, a.0) {
-            Some(r) => r.copy(self.alloc)?,
-            None => unreachable!(),
-        };
-        next.apply(self.alloc, c)?;
-        self.objects[a.0 as usize].replace(next);
+        self.hands[k as usize].change(self.alloc, a, c)?;
         Ok(())
     }
 
     /// One address more, at which no record stands.
     fn add_blank(&mut self) -> Result<(), NoMemory>
         ensures same { plain_meaning self.new ≡ plain_meaning self.old }
-        ensures ok { OnOk result (self.new.objects.items ≡ self.old.objects.items ++ (record { committed = None; held = None }) ∷ []) }
+        ensures ok { OnOk result (length self.new.image.items ≡ length self.old.image.items + 1) }
     {
-        self.objects.push(Object::blank())?;
+        self.image.push(None)?;
         Ok(())
     }
 
@@ -148,19 +143,21 @@ impl PlainStore {
     fn place(&mut self, k: u8, n: Addr, r: Entry) -> Result<(), NoMemory>
         requires segment { k < (plain_meaning self.old).segments }
         requires good { IsGood r }
-        requires blank { slice_get self.old.objects.items n.0 ≡ Some (record { committed = None; held = None }) }
+        requires within { n.0 < length self.old.image.items }
+        requires blank { (plain_meaning self.old).image n.0 ≡ None }
+        requires free { (j : ℕ) → holds ((plain_meaning self.old).part j) n.0 ≡ false }
         ensures ok { OnOk result (plain_meaning self.new ≡ after_make k n.0 r (plain_meaning self.old)) }
         ensures err { OnErr result (plain_meaning self.new ≡ plain_meaning self.old) }
     {
-        self.hands[k as usize].make(n)?;
-        self.objects[n.0 as usize].hold(k, r, Since::Made);
+        self.hands[k as usize].make(n, r)?;
         Ok(())
     }
 }
 
-/// The lists of so many segments, all empty.
+/// The hands of so many segments, with nothing in them.
 fn new_hands(alloc: Global, segments: u8) -> Result<Vec<Hand>, NoMemory>
-    ensures { IfOk result (λ v. v.items ≡ replicate segments (record { changed = []; made = []; kept = 0; looked = [] })) }
+    ensures length { IfOk result (λ v. length v.items ≡ segments) }
+    ensures empty { IfOk result (λ v. (k : ℕ) → part_in (slice_get v.items k) ≡ no_part) }
 {
     let mut hands = Vec::new(alloc);
     'segments: for _ in 0..segments {
@@ -356,7 +353,7 @@ impl SegStore for PlainStore {
     }
 
     fn make(&mut self, k: u8, r: &Record) -> Result<Addr, StoreFault> {
-        let Ok(n) = u32::try_from(self.objects.len()) else {
+        let Ok(n) = u32::try_from(self.image.len()) else {
             return Err(StoreFault::OutOfMemory);
         };
         let entry = Entry::of(self.alloc, r)?;
@@ -366,18 +363,20 @@ impl SegStore for PlainStore {
     }
 
     fn open_step(&mut self, k: u8) {
-        self.turn(k, Turn::Open);
+        self.hands[k as usize].open();
     }
 
     fn undo_step(&mut self, k: u8) {
-        self.turn(k, Turn::Undo);
+        self.hands[k as usize].undo();
     }
 
     fn holder(&self, a: Addr) -> Option<u8> {
-        match self.object(a.0) {
-            Some(o) => o.holder(),
-            None => None,
+        'segments: for k in 0..self.hands.len() {
+            if self.hands[k].holds(a) {
+                return Some(k as u8);
+            }
         }
+        None
     }
 
     fn has_looked(&self, k: u8, a: Addr) -> bool {
@@ -385,18 +384,18 @@ impl SegStore for PlainStore {
     }
 
     fn changed_len(&self, k: u8) -> usize {
-        self.hands[k as usize].changed.len()
+        self.hands[k as usize].changed_len()
     }
 
     fn changed_at(&self, k: u8, i: usize) -> Addr {
-        self.hands[k as usize].changed.at(i)
+        self.hands[k as usize].changed_at(i)
     }
 
     fn publish(&mut self, k: u8) {
-        self.turn(k, Turn::Publish);
+        self.hands[k as usize].publish(&mut self.image);
     }
 
     fn drop_changes(&mut self, k: u8) {
-        self.turn(k, Turn::Drop);
+        self.hands[k as usize].let_go();
     }
 }

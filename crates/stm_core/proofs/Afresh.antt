@@ -4,7 +4,8 @@ use Rattle.py_data.specs.Changes.{after}
 use Rattle.py_data.specs.Heap.{Heap, put_at}
 use Rattle.py_data.specs.Shape.{Fits, find}
 use Rattle.py_data.specs.World.{World, wrote, took, IsLine}
-use Rattle.py_data.specs.Row.{Call, Reply, Row, Do, Read, Find, Edit, Make, Start, Put, Take, MidLine, SetMidLine}
+use Rattle.py_data.specs.Sense.{Run, Upto}
+use Rattle.py_data.specs.Row.{Call, Reply, Row, Ret, Do, Read, Find, Edit, Make, Start, Put, Take, MidLine, SetMidLine}
 use Rattle.py_data.specs.Sight.{Sight, Act, Does, pure, opened, looked_at, edited, made_new, started_one, in_world}
 use Rattle.py_data.proofs.Mirror.{does_afresh}
 use Rattle.py_data.proofs.Whole.{upto_follows}
@@ -60,3 +61,18 @@ pub waits_afresh : {S : Type 0} (row : Row S (Outcome × S)) (s t : Sight S) (h 
 waits_afresh {S} row s t h w q eh ew d =
     let a = does_afresh row s t (WaitsNow, q) d in
     (q, a.0, subst (λ z. Does row (opened S h z) (WaitsNow, q) a.0) ew (subst (λ z. Does row (opened S z s.world) (WaitsNow, q) a.0) eh a.1.does))
+
+-- a row comes to the same rest of it in the same world, whatever the bookkeeping
+pub upto_afresh : {S A : Type 0} (row left : Row S A) (s t place : Sight S) → t.heap ≡ s.heap → t.world ≡ s.world → Upto pure row s left place → (z : Sight S) × Upto pure row t left z × (z.world ≡ place.world)
+upto_afresh row left s t place eh ew u =
+    let r = upto_follows pure pure Same (record { call = act_same }) row s left place t u (eh, ew) in
+    (r.0, r.1, r.2.1)
+
+-- a row does the same in the same heap and world, whatever the bookkeeping
+pub does_same : {S A : Type 0} (row : Row S A) (v s w : Sight S) (y : A) → Does row v y w → s.heap ≡ v.heap → s.world ≡ v.world → (t : Sight S) × Does row s y t
+unfolding Run
+does_same (Ret x) v s w y d eh ew = (s, (d.0, refl))
+does_same (Do c k) v s w y d eh ew =
+    let a = act_same c v d.0 d.1 s d.2 (eh, ew) in
+    let z = does_same (k d.0) d.1 a.0 w y d.3 a.2.0 a.2.1 in
+    (z.0, (d.0, a.0, a.1, z.1))

@@ -1,16 +1,16 @@
 -- How a transaction begins, as store and books show it, and the moves that it is.
-use Rattle.std.proofs.Common.{◌≡◌, ◌≢◌, ◌<◌, ◌≤◌, ◌+◌, ◌-◌, ◌^◌, min, ℕ, zero, suc, true, false, eqb, List, [], ◌∷◌, ◌++◌, length, take, slice_get, slice_set, Option, Some, None, Result, Ok, Err, is_some, refl, sym, ◌∙◌, ap, subst, inl, inr, arith, length-set}
+use Rattle.std.proofs.Common.{◌≡◌, ◌≢◌, ◌<◌, ◌≤◌, ◌+◌, ◌-◌, ◌^◌, min, ℕ, zero, suc, true, false, cond, eqb, List, [], ◌∷◌, ◌++◌, length, take, slice_get, slice_set, Option, Some, None, Result, Ok, Err, is_some, refl, sym, ◌∙◌, ap, subst, inl, inr, arith, length-set}
 use Rattle.std.specs.List.{sum_by}
 use Rattle.std.proofs.lemmas.Bool.{cases_Bool, both_ways, or_left, or_parts, eqb-true, eqb-false, eq-eqb, ne_eqb, cond-true, cond-false}
 use Rattle.std.proofs.lemmas.Option.{slice_get_within}
 use Rattle.py_data.specs.Heap.{Rec, Heap}
-use Rattle.py_data.specs.World.{World}
 use Rattle.py_data.specs.Collection.{places}
 use Rattle.py_data.specs.Sight.{mem, no_marks}
 use Rattle.lock_run.specs.Client.{StaysSound, Waiting, Going}
 use Rattle.lock_run.specs.declared.client.Life.TheVariants.{Lives}
 use Rattle.lock_run.specs.Prog.{Prog}
-use Rattle.lock_run.specs.Machine.{Machine}
+use Rattle.lock_run.specs.LockState.{first_world}
+use Rattle.lock_run.specs.Machine.{begin_with}
 use Rattle.seg_store.specs.Meaning.{Part, Meaning, holds}
 use Rattle.seg_store.specs.Calls.{begun, after_begin}
 use Rattle.seg_store.specs.Store.{IsStore}
@@ -21,17 +21,18 @@ use Rattle.stm_core.specs.declared.books.Hand.TheVariants.{Idle as IdleHand, Run
 use Rattle.stm_core.specs.declared.books.Books.{Books}
 use Rattle.stm_core.specs.declared.begin.BeginError.{BeginError}
 use Rattle.stm_core.specs.declared.begin.BeginError.TheVariants.{Over, Busy, NotReady, AtBudget, OutOfMemory}
-use Rattle.stm_core.specs.CoreState.{Transaction, Running, CoreState, committed, core_new, set_segment, fresh}
+use Rattle.stm_core.specs.CoreState.{no_world, Transaction, Running, CoreState, committed, set_segment, fresh}
 use Rattle.stm_core.specs.Good.{Good}
 use Rattle.stm_core.specs.Moves.{Begins, Keeps, first_cause, begun_at}
-use Rattle.stm_core.specs.Books.{WorkFits, is_running, runs_at, one_running, one_started, is_lock, transaction, segment_of, core_of}
-use Rattle.stm_core.specs.Hold.{no_world}
+use Rattle.stm_core.specs.Books.{Worlds, WorkFits, is_running, runs_at, one_running, one_started, is_lock, transaction, segment_of, core_of}
 use Rattle.stm_core.specs.Whole.{Whole}
-use Rattle.stm_core.specs.SaneCore.{SaneCore}
+use Rattle.stm_core.specs.Outside.{Outer, InCore, OuterMove, Inner, OuterFollows}
+use Rattle.stm_core.specs.Devices.{DeviceState}
+use Rattle.stm_core.specs.SaneCore.{StandsFor, SaneCore, LeadsBetween}
 use Rattle.stm_core.specs.Begun.{IsReady, IsUnready, UnreadyAt, Begun, IsFresh}
 use Rattle.stm_core.proofs.Publish.{get_set_other}
 use Rattle.stm_core.proofs.Fits.{get_set_same, sum_set}
-use Rattle.stm_core.proofs.Kept.{good_next}
+use Rattle.stm_core.proofs.StandsAgain.{stands_told}
 use Rattle.stm_core.proofs.Soundness.{sound_run}
 use Rattle.stm_core.proofs.Committing.{running_work}
 
@@ -43,12 +44,13 @@ beyond (x ∷ xs) zero h = absurd (omega arith)
 beyond (x ∷ xs) (suc i) h = beyond xs i (omega arith)
 
 -- the committed states may stand over the image
-pub sound_core : {S : Type 0} (p : Prog S) (sound : Heap → List S → Type 0) (law : StaysSound p sound) (most : ℕ) (m : Meaning) (b : Books S) → SaneCore p sound most m b → sound m.image b.threads.entries
-sound_core p sound law most m b s =
-    let g = s.good no_world refl in
-    sound_run p sound law (committed (core_new p no_world)) (committed (core_of no_world m b)) b.history.entries s.first g.run
+pub sound_core : {S : Type 0} (p : Prog S) (sound : Heap → List S → Type 0) (law : StaysSound p sound) (most : ℕ) (first d : DeviceState) (m : Meaning) (b : Books S) → SaneCore p sound most first d m b → sound m.image b.threads.entries
+sound_core p sound law most first d m b s =
+    let w = s.stands.worlds in
+    let g = subst (Good p (begin_with p (first_world first.input)) most) s.stands.core s.stands.kept.good in
+    sound_run p sound law (begin_with p (first_world first.input)) (committed (core_of w m b)) b.history.entries s.first_sound g.run
 
-module _ {S : Type 0} (p : Prog S) (w : World) (m : Meaning) (b : Books S) (t : ℕ) where
+module _ {S : Type 0} (p : Prog S) (w : Worlds) (m : Meaning) (b : Books S) (t : ℕ) where
   pub ready : (q : S) → slice_get b.threads.entries t ≡ Some q → p.life q ≡ Lives → ((j : ℕ) (y : Work S) → slice_get b.hands.items j ≡ Some (Runs y) → t ≢ y.thread) → Going (p.row q) m.image → IsReady p (core_of w m b) t
   ready q is lives rests goes = record {
     state = q;
@@ -66,7 +68,7 @@ module _ {S : Type 0} (p : Prog S) (w : World) (m : Meaning) (b : Books S) (t : 
     where
       go : (o : Option S) → UnreadyAt p (core_of w m b) t o
       go None = tt
-      go (Some q) = inr (inl (j, transaction w (m.part j) y, ap (segment_of w (m.part j)) e, h))
+      go (Some q) = inr (inl (j, transaction w.own (m.part j) y, ap (segment_of w.own (m.part j)) e, h))
 
   pub unready_ended : (q : S) → slice_get b.threads.entries t ≡ Some q → p.life q ≢ Lives → IsUnready p (core_of w m b) t
   unready_ended q is n = subst (UnreadyAt p (core_of w m b) t) (sym is) (inl n)
@@ -189,11 +191,11 @@ module _ {S : Type 0} (k : ℕ) (m : Meaning) (b : Books S) (h : Whole m b) (e :
           within = let q = f.kept_names in omega (arith, q);
         })
 
-    pub core_begun : (w : World) → core_of w (after_begin k m) b1 ≡ begun_at k x.thread x.state (core_of w m b)
+    pub core_begun : (w : Worlds) → core_of w (after_begin k m) b1 ≡ begun_at k x.thread x.state (core_of w m b)
     core_begun w i = record {
       image = m.image;
       threads = ap (λ (z : Books S). z.threads.entries) s.rest i;
-      world = w;
+      world = w.committed;
       history = ap (λ (z : Books S). z.history.entries) s.rest i;
       conflicts = ap (λ (z : Books S). z.conflicts.entries) s.rest i;
       begun = (ap (λ (z : Books S). z.begun) s.rest ∙ next) i;
@@ -208,7 +210,7 @@ module _ {S : Type 0} (k : ℕ) (m : Meaning) (b : Books S) (h : Whole m b) (e :
         new : Transaction S
         new = fresh (core_of w m b) x.thread x.state
 
-        own : transaction w (begun (m.part k)) x ≡ new
+        own : transaction w.own (begun (m.part k)) x ≡ new
         own i = record {
           thread = x.thread;
           steps = f.steps i;
@@ -219,17 +221,17 @@ module _ {S : Type 0} (k : ℕ) (m : Meaning) (b : Books S) (h : Whole m b) (e :
           made = f.names i;
           started = f.started i;
           begun = f.begun i;
-          solo = false;
-          world = w;
+          solo = f.solo i;
+          world = cond (f.solo i) w.own no_world;
         }
 
-        same : (j : ℕ) → segment_of w ((after_begin k m).part j) (slice_get b1.hands.items j) ≡ set_segment k (Running new) (λ y. segment_of w (m.part y) (slice_get b.hands.items y)) j
+        same : (j : ℕ) → segment_of w.own ((after_begin k m).part j) (slice_get b1.hands.items j) ≡ set_segment k (Running new) (λ y. segment_of w.own (m.part y) (slice_get b.hands.items y)) j
         same j = elim (cases_Bool (eqb j k)) [
           | inl y ↦ let d : j ≡ k = eqb-true j k y in
-              ap (λ z. segment_of w ((after_begin k m).part z) (slice_get b1.hands.items z)) d ∙ ap (segment_of w ((after_begin k m).part k)) here ∙ ap (λ p. Running (transaction w p x)) part_here ∙ ap Running own
-              ∙ sym (cond-true (eqb j k) (Running new) (segment_of w (m.part j) (slice_get b.hands.items j)) y)
+              ap (λ z. segment_of w.own ((after_begin k m).part z) (slice_get b1.hands.items z)) d ∙ ap (segment_of w.own ((after_begin k m).part k)) here ∙ ap (λ p. Running (transaction w.own p x)) part_here ∙ ap Running own
+              ∙ sym (cond-true (eqb j k) (Running new) (segment_of w.own (m.part j) (slice_get b.hands.items j)) y)
           | inr n ↦ let d = eqb-false j k n in
-              ap (λ p. segment_of w p (slice_get b1.hands.items j)) (part_there j d) ∙ ap (segment_of w (m.part j)) (there j d) ∙ sym (cond-false (eqb j k) (Running new) (segment_of w (m.part j) (slice_get b.hands.items j)) n)
+              ap (λ p. segment_of w.own p (slice_get b1.hands.items j)) (part_there j d) ∙ ap (segment_of w.own (m.part j)) (there j d) ∙ sym (cond-false (eqb j k) (Running new) (segment_of w.own (m.part j) (slice_get b.hands.items j)) n)
         ]
 
 -- ---- what `begin` answers
@@ -266,17 +268,17 @@ module _ {S : Type 0} (m : Meaning) (b b1 : Books S) (r : Rooms b b1) where
         threads = omega (arith, th, pe, q);
       }
 
-  pub core_roomy : (w : World) → core_of w m b1 ≡ core_of w m b
+  pub core_roomy : (w : Worlds) → core_of w m b1 ≡ core_of w m b
   core_roomy w i = record {
     image = m.image;
     threads = ap (λ (z : Books S). z.threads.entries) r.rest i;
-    world = w;
+    world = w.committed;
     history = r.turns i;
     conflicts = r.losses i;
     begun = ap (λ (z : Books S). z.begun) r.rest i;
     last = ap (λ (z : Books S). z.last) r.rest i;
     cause = ap (λ (z : Books S). z.cause) r.rest i;
-    segments = λ j. segment_of w (m.part j) (slice_get (ap (λ (z : Books S). z.hands.items) r.rest i) j);
+    segments = λ j. segment_of w.own (m.part j) (slice_get (ap (λ (z : Books S). z.hands.items) r.rest i) j);
   }
 
 -- a cause is kept
@@ -296,18 +298,23 @@ caused_whole m b e h = record {
 pub begun_state : {S : Type 0} (p : Prog S) (k t : ℕ) (c : CoreState S) (q : S) (a : IsReady p c t) → slice_get c.threads t ≡ Some q → begun_at k t q c ≡ begun_at k t a.state c
 begun_state p k t c q a e = let same : q ≡ a.state = (let u : Some q ≡ Some a.state = sym e ∙ a.is in cc) in ap (λ s. begun_at k t s c) same
 
-begun_good : {S : Type 0} (p : Prog S) (start : Machine S) (most k t budget : ℕ) (r : Result (Unit {0}) BeginError) (c c1 : CoreState S) → Good p start most c → Begun p k t budget r c c1 → Good p start most c1
-begun_good p start most k t budget (Ok u) c c1 g h =
-    let a = h.0 in
-    good_next p start most c c1 (Begins k t a.ready.state) g (a.goes_on, a.idle, a.ready.is, a.ready.lives, a.ready.rests, h.1)
-begun_good p start most k t budget (Err (Over e)) c c1 g h = subst (Good p start most) (sym h.1) g
-begun_good p start most k t budget (Err (Busy i)) c c1 g h = subst (Good p start most) (sym h.3) g
-begun_good p start most k t budget (Err (NotReady s)) c c1 g h = subst (Good p start most) (sym h.4) g
-begun_good p start most k t budget (Err AtBudget) c c1 g h = subst (Good p start most) (sym h.4) g
-begun_good p start most k t budget (Err OutOfMemory) c c1 g h =
-    let a = h.0 in
-    good_next p start most c c1 (Keeps NoMemoryLeft) g (t, a.ready.state, a.ready.is, a.ready.lives, a.ready.rests, tt, h.1 ∙ ap (λ o. record c { cause = o }) (sym (ap (λ o. first_cause o NoMemoryLeft) a.goes_on)))
+-- a call of begin is a list of moves, which tells the devices nothing
+begun_moves : {S : Type 0} (p : Prog S) (most k t budget : ℕ) (r : Result (Unit {0}) BeginError) (o o1 : Outer S) → InCore (Begun p k t budget r) o o1 → (ms : List (OuterMove S)) × OuterFollows p most o ms o1
+begun_moves p most k t budget (Ok u) o o1 h = let a = h.0.0 in (Inner (Begins k t a.ready.state) ∷ [], (o1, (o1.core, (a.goes_on, a.idle, a.ready.is, a.ready.lives, a.ready.rests, h.0.1), tt, h.1), refl))
+begun_moves p most k t budget (Err (Over e)) o o1 h = ([], h.1 ∙ ap (λ c. record o { core = c }) h.0.1)
+begun_moves p most k t budget (Err (Busy i)) o o1 h = ([], h.1 ∙ ap (λ c. record o { core = c }) h.0.3)
+begun_moves p most k t budget (Err (NotReady s)) o o1 h = ([], h.1 ∙ ap (λ c. record o { core = c }) h.0.4)
+begun_moves p most k t budget (Err AtBudget) o o1 h = ([], h.1 ∙ ap (λ c. record o { core = c }) h.0.4)
+begun_moves p most k t budget (Err OutOfMemory) o o1 h =
+    let a = h.0.0 in
+    let e = h.0.1 ∙ ap (λ z. record o.core { cause = z }) (sym (ap (λ z. first_cause z NoMemoryLeft) a.goes_on)) in
+    (Inner (Keeps NoMemoryLeft) ∷ [], (o1, (o1.core, (t, a.ready.state, a.ready.is, a.ready.lives, a.ready.rests, tt, e), refl, h.1), refl))
 
-pub begun_sane : {S : Type 0} (p : Prog S) (sound : Heap → List S → Type 0) (most k t budget : ℕ) (m m1 : Meaning) (b b1 : Books S) (r : Result (Unit {0}) BeginError)
-    → ((w : World) → w.mid ≡ false → Begun p k t budget r (core_of w m b) (core_of w m1 b1)) → SaneCore p sound most m b → SaneCore p sound most m1 b1
-begun_sane p sound most k t budget m m1 b b1 r h s = record { first = s.first; good = λ w d. begun_good p _ most k t budget r (core_of w m b) (core_of w m1 b1) (s.good w d) (h w d) }
+-- and keeps what a core keeps
+pub begun_stands : {S : Type 0} (p : Prog S) (most k t budget : ℕ) (first d : DeviceState) (m m1 : Meaning) (b b1 : Books S) (r : Result (Unit {0}) BeginError) → ((w : Worlds) → Begun p k t budget r (core_of w m b) (core_of w m1 b1)) → b1.broken ≡ b.broken
+    → LeadsBetween (StandsFor p most first d m b) (StandsFor p most first d m1 b1) (InCore (Begun p k t budget r))
+begun_stands p most k t budget first d m m1 b b1 r h same o s =
+    let o1 = record o { core = core_of s.worlds m1 b1 } in
+    let made : InCore (Begun p k t budget r) o o1 = (subst (λ c. Begun p k t budget r c (core_of s.worlds m1 b1)) (sym s.core) (h s.worlds), refl) in
+    let ms = begun_moves p most k t budget r o o1 made in
+    (o1, stands_told p most first d m m1 b b1 o s s.worlds same ms.0 ms.1, made)

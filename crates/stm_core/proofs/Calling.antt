@@ -1,7 +1,6 @@
 -- What the condition of a call on the core's state says of the books, and how the job and a good core come out of each way of return.
-use Rattle.std.proofs.Common.{◌≡◌, ◌<◌, ◌≤◌, ◌+◌, ℕ, Bool, true, false, ◌&&◌, nat_lt, nat_le, cond, eqb, List, [], ◌∷◌, Option, Some, None, Result, Ok, Err, slice_get, refl, sym, ◌∙◌, ap, subst, arith}
+use Rattle.std.proofs.Common.{◌≡◌, ◌<◌, ◌≤◌, ◌+◌, ℕ, Bool, true, false, ◌&&◌, nat_lt, nat_le, cond, List, Option, Some, None, Result, Ok, Err, slice_get, refl, sym, ◌∙◌, ap, subst, arith}
 use Rattle.std.proofs.lemmas.Bool.Decides.{nat_tests}
-use Rattle.py_data.specs.World.{World}
 use Rattle.py_data.specs.Heap.{Heap}
 use Rattle.lock_run.specs.Prog.{Prog}
 use Rattle.seg_store.specs.Meaning.{Meaning}
@@ -12,17 +11,18 @@ use Rattle.stm_core.specs.declared.books.Hand.TheVariants as hand
 use Rattle.stm_core.specs.declared.books.Books.{Books}
 use Rattle.stm_core.specs.declared.events.Event.TheVariants as event
 use Rattle.stm_core.specs.declared.transactions.Core.{Core}
-use Rattle.stm_core.specs.Books.{segment_of, core_of}
+use Rattle.stm_io.specs.Outside.{SourceState, SinkState}
+use Rattle.stm_core.specs.Outside.{Outer}
+use Rattle.stm_core.specs.Devices.{DeviceState, device_state, CountsGrow}
+use Rattle.stm_core.specs.Books.{Worlds, segment_of, core_of}
 use Rattle.stm_core.specs.Standing.{slot_of}
 use Rattle.stm_core.specs.Whole.{Whole, SameShape}
-use Rattle.stm_core.specs.SaneCore.{SaneCore}
+use Rattle.stm_core.specs.SaneCore.{StandsFor, SaneCore, CauseRose, LeadsBetween}
 use Rattle.stm_core.specs.Begun.{CountsSteps}
-use Rattle.stm_core.specs.CoreHeld.{IsFullKept, IsGoodCore, SameJob}
+use Rattle.stm_core.specs.CoreHeld.{core_devices, first_devices, CoreStands, Leads, IsFullKept, IsGoodCore, SameJob}
 use Rattle.stm_core.specs.Events.{Limits, is_busy, is_within, may_make}
 use Rattle.stm_core.specs.declared.answers.Advance.{Advance}
 use Rattle.stm_core.specs.declared.answers.AdvanceError.{AdvanceError}
-use Rattle.std.specs.List.{range_with_len}
-use Rattle.py_data.specs.declared.stop.Conflict.{Conflict}
 use Rattle.lock_run.specs.declared.client.Life.{Life}
 use Rattle.lock_run.specs.declared.client.Life.TheVariants.{Lives, Ended as EndedLife, Failed as FailedLife}
 use Rattle.stm_core.specs.declared.answers.Advance.TheVariants.{Ran, Waits, Ended, NeedSolo}
@@ -31,16 +31,14 @@ use Rattle.stm_core.specs.declared.begin.BeginError.{BeginError}
 use Rattle.stm_core.specs.declared.begin.BeginError.TheVariants.{Over, Busy, NotReady, AtBudget, OutOfMemory as NoMemoryError}
 use Rattle.stm_core.specs.declared.cause.Cause.{Cause}
 use Rattle.stm_core.specs.declared.cause.Cause.TheVariants.{Full, ReadFault, WriteFault, ErrFault, OutOfMemory}
-use Rattle.stm_core.specs.declared.commit.Commit.{Commit}
-use Rattle.stm_core.specs.declared.commit.Commit.TheVariants.{Committed as AtTurn, Nothing}
-use Rattle.stm_core.specs.CoreState.{IsShort, Transaction, Segment, Idle, Doomed, Running, CoreState, with_segment, with_conflict}
+use Rattle.stm_core.specs.CoreState.{no_world, IsShort, Transaction, Segment, Idle, Doomed, Running, CoreState, with_segment, with_conflict}
 use Rattle.stm_core.specs.Begun.{Begun}
-use Rattle.stm_core.specs.Committed.{CommitOf, Committed}
 use Rattle.stm_core.specs.Moves.{first_cause, begun_at}
-use Rattle.stm_core.specs.Passes.{met, doom_met, doom_one, doom_readers, after_commit}
-use Rattle.stm_core.specs.Advanced.{IsStepCause, Ends, StepsTaken, AdvancedFrom, Advanced}
-use Rattle.stm_core.proofs.Advanced.{advanced_led, led_own}
-use Rattle.stm_core.proofs.Advancing.{dry_world}
+use Rattle.stm_core.specs.Advanced.{IsStepCause, IsSoloCause, Fails, Ends, StepsTaken, AdvancedFrom, Advanced}
+
+-- any worlds will do to tell what doesn't depend on them
+pub blank : Worlds
+blank = record { committed = no_world; own = no_world }
 
 no : false ≡ true → ⊥
 no e = cc
@@ -49,7 +47,7 @@ pub left : (a b : Bool) → (a && b) ≡ true → a ≡ true
 left true b h = refl
 left false b h = h
 
-right : (a b : Bool) → (a && b) ≡ true → b ≡ true
+pub right : (a b : Bool) → (a && b) ≡ true → b ≡ true
 right true b h = h
 right false b h = absurd (no h)
 
@@ -59,18 +57,16 @@ below a b h = grind (arith, nat_tests, h)
 at_most : (a b : ℕ) → nat_le a b ≡ true → a ≤ b
 at_most a b h = grind (arith, nat_tests, h)
 
-module _ {S : Type 0} (m : Meaning) (b : Books S) (k : ℕ) where
+module _ {S : Type 0} (w : Worlds) (m : Meaning) (b : Books S) (k : ℕ) where
   -- something is in hand
-  busy : is_busy (slot_of ((core_of dry_world m b).segments k)) ≡ true → slice_get b.hands.items k ≡ Some hand.Idle → ⊥
-  unfolding dry_world
-  busy h e = no (sym (ap (λ (o : Option (Hand S)). is_busy (slot_of (segment_of dry_world (m.part k) o))) e) ∙ h)
+  busy : is_busy (slot_of ((core_of w m b).segments k)) ≡ true → slice_get b.hands.items k ≡ Some hand.Idle → ⊥
+  busy h e = no (sym (ap (λ (o : Option (Hand S)). is_busy (slot_of (segment_of w.own (m.part k) o))) e) ∙ h)
 
   -- the steps that are asked for are within the length
-  within : (most length : ℕ) → is_within length most (slot_of ((core_of dry_world m b).segments k)) ≡ true → (x : Work S) → slice_get b.hands.items k ≡ Some (hand.Runs x) → IsShort length (x.steps + most)
-  unfolding dry_world
-  within most length h x e = at_most (x.steps + most) length (sym (ap (λ (o : Option (Hand S)). is_within length most (slot_of (segment_of dry_world (m.part k) o))) e) ∙ h)
+  within : (most length : ℕ) → is_within length most (slot_of ((core_of w m b).segments k)) ≡ true → (x : Work S) → slice_get b.hands.items k ≡ Some (hand.Runs x) → IsShort length (x.steps + most)
+  within most length h x e = at_most (x.steps + most) length (sym (ap (λ (o : Option (Hand S)). is_within length most (slot_of (segment_of w.own (m.part k) o))) e) ∙ h)
 
--- a commit that may be made
+-- a commit, or a call of `solo`, that may be made
 pub record Ending {S : Type 0} (m : Meaning) (b : Books S) (k : ℕ) : Type 0 where
   pub segment : k < m.segments
   pub busy : slice_get b.hands.items k ≡ Some hand.Idle → ⊥
@@ -82,71 +78,126 @@ pub record Going {S : Type 0} (m : Meaning) (b : Books S) (k most length : ℕ) 
   pub some : 1 ≤ most
   pub short : (x : Work S) → slice_get b.hands.items k ≡ Some (hand.Runs x) → IsShort length (x.steps + most)
 
-module _ {S : Type 0} (m : Meaning) (b : Books S) (l : Limits) (k : ℕ) where
-  pub ending : l.segments ≡ m.segments → may_make l (core_of dry_world m b) (event.Commit k) ≡ true → Ending m b k
+module _ {S : Type 0} (p : Prog S) (most : ℕ) (first d : DeviceState) (m : Meaning) (b : Books S) (o : Outer S) (s : StandsFor p most first d m b o) (l : Limits) (k : ℕ) where
+  pub ending : l.segments ≡ m.segments → nat_lt k l.segments && is_busy (slot_of (o.core.segments k)) ≡ true → Ending m b k
   ending e h = record {
     segment = omega (arith, below k l.segments (left _ _ h), e);
-    busy = busy m b k (right (nat_lt k l.segments) _ h);
+    busy = busy s.worlds m b k (subst (λ (c : CoreState S). is_busy (slot_of (c.segments k)) ≡ true) s.core (right (nat_lt k l.segments) _ h));
   }
 
-  pub going : (most : ℕ) → l.segments ≡ m.segments → may_make l (core_of dry_world m b) (event.Advance k most) ≡ true → Going m b k most l.length
-  going most e h =
+  pub going : (steps : ℕ) → l.segments ≡ m.segments → may_make l o.core (event.Advance k steps) ≡ true → Going m b k steps l.length
+  going steps e h =
       let h1 = right (nat_lt k l.segments) _ h in
-      let h2 = right (is_busy (slot_of ((core_of dry_world m b).segments k))) _ h1 in
+      let h2 = right (is_busy (slot_of (o.core.segments k))) _ h1 in
       record {
         segment = omega (arith, below k l.segments (left _ _ h), e);
-        busy = busy m b k (left _ _ h1);
-        some = omega (arith, below 0 most (left _ _ h2));
-        short = within m b k most l.length (right (nat_lt 0 most) _ h2);
+        busy = busy s.worlds m b k (subst (λ (c : CoreState S). is_busy (slot_of (c.segments k)) ≡ true) s.core (left _ _ h1));
+        some = omega (arith, below 0 steps (left _ _ h2));
+        short = within s.worlds m b k steps l.length (subst (λ (c : CoreState S). is_within l.length steps (slot_of (c.segments k)) ≡ true) s.core (right (nat_lt 0 steps) _ h2));
       }
 
+-- what a call's condition says of a core that is good
+module _ {S : Type 0} {p : Prog S} {sound : Heap → List S → Type 0} {most : ℕ} {first d : DeviceState} {m : Meaning} {b : Books S} (s : SaneCore p sound most first d m b) (l : Limits) (k : ℕ) (same : l.segments ≡ m.segments) where
+  pub ending_now : ((o : Outer S) → StandsFor p most first d m b o → (nat_lt k l.segments && is_busy (slot_of (o.core.segments k))) ≡ true) → Ending m b k
+  ending_now may = ending p most first d m b s.state s.stands l k same (may s.state s.stands)
+
+  pub going_now : (steps : ℕ) → ((o : Outer S) → StandsFor p most first d m b o → may_make l o.core (event.Advance k steps) ≡ true) → Going m b k steps l.length
+  going_now steps may = going p most first d m b s.state s.stands l k steps same (may s.state s.stands)
+
 -- ---- after a call, which keeps the client and the store's shape
-module _ {C S I O E T : Type 0} (prog : C → Prog T) (sound : C → Heap → List T → Type 0) (reserved : S → ℕ) (meaning : S → Meaning) where
+
+-- the core stands for a state again to which one leads for which it stood
+pub sane_led : {S : Type 0} (p : Prog S) (sound : Heap → List S → Type 0) (most : ℕ) (first d d1 : DeviceState) (m m1 : Meaning) (b b1 : Books S) (leads : Outer S → Outer S → Type 0) → SaneCore p sound most first d m b
+    → LeadsBetween (StandsFor p most first d m b) (StandsFor p most first d1 m1 b1) leads → CountsGrow first d1 → CauseRose b1.cause first d1 → SaneCore p sound most first d1 m1 b1
+sane_led p sound most first d d1 m m1 b b1 leads s f counts rose = let z = f s.state s.stands in record { first_sound = s.first_sound; state = z.0; stands = z.1; counts = counts; rose = rose }
+
+module _ {C S I O E T : Type 0} (input : I → SourceState) (out : O → SinkState) (err : E → SinkState) (prog : C → Prog T) (sound : C → Heap → List T → Type 0) (reserved : S → ℕ) (meaning : S → Meaning) where
   -- what a way of return leaves
   pub record Kept (x y : Core C S I O E T) : Type 0 where
-    pub rest : y ≡ record x { store = y.store; books = y.books; spent = y.spent }
+    pub rest : y ≡ record x { store = y.store; books = y.books; devices = y.devices; spent = y.spent }
     pub shape : SameShape (meaning x.store) (meaning y.store)
     pub store : IsStore (reserved y.store) (meaning y.store)
     pub whole : Whole (meaning y.store) y.books
     pub count : CountsSteps y.spent y.books.history.entries
     pub kept : IsFullKept (reserved y.store) (meaning y.store).limit y.books.cause
-    pub sane : SaneCore (prog x.client.now) (sound x.client.now) x.length (meaning y.store) y.books
+    pub sane : SaneCore (prog x.client.now) (sound x.client.now) x.length (first_devices input out err x) (core_devices input out err y) (meaning y.store) y.books
 
-  pub good_again : (x y : Core C S I O E T) → Kept x y → IsGoodCore prog sound reserved meaning y
+  pub good_again : (x y : Core C S I O E T) → Kept x y → IsGoodCore input out err prog sound reserved meaning y
   good_again x y k = record {
     store = k.store;
     whole = k.whole;
     count = k.count;
     kept = k.kept;
-    sane = subst (λ (z : Core C S I O E T). SaneCore (prog z.client.now) (sound z.client.now) z.length (meaning y.store) y.books) (sym k.rest) k.sane;
+    sane = subst (λ (z : Core C S I O E T). SaneCore (prog z.client.now) (sound z.client.now) z.length (first_devices input out err z) (core_devices input out err y) (meaning y.store) y.books) (sym k.rest) k.sane;
   }
 
   pub same_again : (x y : Core C S I O E T) → Kept x y → SameJob meaning x y
   same_again x y k = record {
     client = λ i. (k.rest i).client.now;
     limits = λ i. record { length = (k.rest i).length; budget = (k.rest i).budget; segments = k.shape.0 i; words = k.shape.1 i };
-    input = λ i. (k.rest i).input;
-    out = λ i. (k.rest i).out;
-    err = λ i. (k.rest i).err;
+    made_with = λ i. (k.rest i).made_with;
   }
+
+  -- what leads from the one core to the other leads there for the other's own job
+  pub leads_again : (x y : Core C S I O E T) (leads : Outer T → Outer T → Type 0) → Kept x y
+      → LeadsBetween (CoreStands input out err prog meaning x) (StandsFor (prog x.client.now) x.length (first_devices input out err x) (core_devices input out err y) (meaning y.store) y.books) leads → Leads input out err prog meaning x y leads
+  leads_again x y leads k f o s =
+      let z = f o s in
+      (z.0, subst (λ (q : Core C S I O E T). StandsFor (prog q.client.now) q.length (first_devices input out err q) (core_devices input out err y) (meaning y.store) y.books z.0) (sym k.rest) z.1, z.2)
+
+-- where the cause is as before
+pub rose_same : (o o1 : Option Cause) (d d1 : DeviceState) → o1 ≡ o → CauseRose o d d1 → CauseRose o1 d d1
+rose_same o o1 d d1 e r = subst (λ z. CauseRose z d d1) (sym e) r
+
+-- ---- after a call that leaves the devices alone
+
+module _ {C S I O E T : Type 0} (input : I → SourceState) (out : O → SinkState) (err : E → SinkState) (prog : C → Prog T) (sound : C → Heap → List T → Type 0) (reserved : S → ℕ) (meaning : S → Meaning) where
+  -- what a way of return leaves
+  pub record Quiet (x y : Core C S I O E T) (leads : Outer T → Outer T → Type 0) : Type 0 where
+    pub rest : y ≡ record x { store = y.store; books = y.books; spent = y.spent }
+    pub shape : SameShape (meaning x.store) (meaning y.store)
+    pub store : IsStore (reserved y.store) (meaning y.store)
+    pub whole : Whole (meaning y.store) y.books
+    pub count : CountsSteps y.spent y.books.history.entries
+    pub kept : IsFullKept (reserved y.store) (meaning y.store).limit y.books.cause
+    pub rose : CauseRose y.books.cause (first_devices input out err x) (core_devices input out err x)
+    pub led : LeadsBetween (CoreStands input out err prog meaning x) (StandsFor (prog x.client.now) x.length (first_devices input out err x) (core_devices input out err x) (meaning y.store) y.books) leads
+
+  module _ (x y : Core C S I O E T) (leads : Outer T → Outer T → Type 0) (q : Quiet x y leads) (good : IsGoodCore input out err prog sound reserved meaning x) where
+    same_devices : core_devices input out err y ≡ core_devices input out err x
+    same_devices i = device_state input out err (q.rest i).devices
+
+    led_on : LeadsBetween (CoreStands input out err prog meaning x) (StandsFor (prog x.client.now) x.length (first_devices input out err x) (core_devices input out err y) (meaning y.store) y.books) leads
+    led_on o s = let z = q.led o s in (z.0, subst (λ d. StandsFor (prog x.client.now) x.length (first_devices input out err x) d (meaning y.store) y.books z.0) (sym same_devices) z.1, z.2)
+
+    kept_on : Kept input out err prog sound reserved meaning x y
+    kept_on = record {
+      rest = q.rest ∙ (λ i. record x { store = y.store; books = y.books; devices = (sym q.rest i).devices; spent = y.spent });
+      shape = q.shape;
+      store = q.store;
+      whole = q.whole;
+      count = q.count;
+      kept = q.kept;
+      sane = subst (λ d. SaneCore (prog x.client.now) (sound x.client.now) x.length (first_devices input out err x) d (meaning y.store) y.books) (sym same_devices)
+          (sane_led (prog x.client.now) (sound x.client.now) x.length (first_devices input out err x) (core_devices input out err x) (core_devices input out err x) (meaning x.store) (meaning y.store) x.books y.books leads good.sane q.led good.sane.counts q.rose);
+    }
+
+    pub quiet_good : IsGoodCore input out err prog sound reserved meaning y
+    quiet_good = good_again input out err prog sound reserved meaning x y kept_on
+
+    pub quiet_job : SameJob meaning x y
+    quiet_job = same_again input out err prog sound reserved meaning x y kept_on
+
+    pub quiet_leads : Leads input out err prog meaning x y leads
+    quiet_leads = leads_again input out err prog sound reserved meaning x y leads kept_on led_on
 
 -- where the count of the steps stays too
 pub with_spent : {C S I O E T : Type 0} (x y : Core C S I O E T) → y ≡ record x { store = y.store; books = y.books } → y ≡ record x { store = y.store; books = y.books; spent = y.spent }
 with_spent x y e = e ∙ (λ i. record x { store = y.store; books = y.books; spent = (sym e i).spent })
 
--- an advance leaves the count of the history's steps
-pub counted_on : {S : Type 0} (p : Prog S) (sound : Heap → List S → Type 0) (length k most reserved limit : ℕ) (m m1 : Meaning) (b b1 : Books S) (spent spent1 : ℕ) (r : Result Advance AdvanceError) → SaneCore p sound length m b
-    → ((w : World) → w.mid ≡ false → Advanced p length k most reserved limit (core_of w m b) r (core_of w m1 b1)) → spent1 ≡ spent → CountsSteps spent b.history.entries → CountsSteps spent1 b1.history.entries
-unfolding dry_world
-counted_on p sound length k most reserved limit m m1 b b1 spent spent1 r sane a e n =
-    let c = core_of dry_world m b in
-    let c1 = core_of dry_world m1 b1 in
-    let same = (led_own p length k c c1 (advanced_led p length k _ most reserved limit c r c1 (sane.good dry_world refl) (a dry_world refl))).history in
-    subst (λ z. CountsSteps z b1.history.entries) (sym e) (subst (CountsSteps spent) (sym same) n)
-
 -- the same job, and again the same job
 pub same_then : {C S I O E T : Type 0} (meaning : S → Meaning) (x y z : Core C S I O E T) → SameJob meaning x y → SameJob meaning y z → SameJob meaning x z
-same_then meaning x y z a b = record { client = b.client ∙ a.client; limits = b.limits ∙ a.limits; input = b.input ∙ a.input; out = b.out ∙ a.out; err = b.err ∙ a.err }
+same_then meaning x y z a b = record { client = b.client ∙ a.client; limits = b.limits ∙ a.limits; made_with = b.made_with ∙ a.made_with }
 
 -- ---- a kept Full
 
@@ -179,66 +230,64 @@ module _ {S : Type 0} (p : Prog S) (r r1 l l1 : ℕ) (le : r ≤ r1) (same : l1 
   begun_kept k t budget (Err AtBudget) b = as_before c refl b.4
   begun_kept k t budget (Err NoMemoryError) b = subst (IsFullKept r1 l1) (sym (ap (λ (z : CoreState S). z.cause) b.1)) tt
 
-  -- a commit
-  dooms_same : (i : ℕ) (x : Transaction S) (js : List ℕ) (q : CoreState S) → (doom_readers i x js q).cause ≡ q.cause
-  dooms_same i x [] q = refl
-  dooms_same i x (j ∷ js) q = dooms_same i x js (cond (eqb j i) q (doom_one i x j q (q.segments j))) ∙ here (eqb j i) (q.segments j)
+-- ---- after an advance
+
+module _ {S : Type 0} (p : Prog S) (r r1 l l1 : ℕ) (le : r ≤ r1) (same : l1 ≡ l) (o o1 : Outer S) (old : IsFullKept r l o.core.cause) where
+  from_cause : (q : Option Cause) → q ≡ o.core.cause → o1.core.cause ≡ q → IsFullKept r1 l1 o1.core.cause
+  from_cause q e h = full_same r r1 l l1 o.core.cause o1.core.cause le same (h ∙ e) old
+
+  -- what an advance kept of a full heap, which has these numbers
+  kept_first : (z : Option Cause) (e : Cause) (u : CoreState S) (x : Transaction S) → IsFullKept r1 l1 z → IsSoloCause p u x r1 l1 e → IsFullKept r1 l1 (first_cause z e)
+  kept_first (Some d) e u x h w = h
+  kept_first None (Full i n j) u x h w = let a = w.1 in (w.2, omega (arith, a), w.3)
+  kept_first None OutOfMemory u x h w = tt
+  kept_first None ReadFault u x h w = tt
+  kept_first None WriteFault u x h w = tt
+  kept_first None ErrFault u x h w = tt
+
+  solo_cause : (e : Cause) (u : CoreState S) (x : Transaction S) → IsStepCause p u x r1 l1 e → IsSoloCause p u x r1 l1 e
+  solo_cause (Full i n j) u x w = w
+  solo_cause OutOfMemory u x w = tt
+  solo_cause ReadFault u x w = tt
+  solo_cause WriteFault u x w = tt
+  solo_cause ErrFault u x w = tt
+
+  pub advanced_kept : (length k n most : ℕ) (result : Result Advance AdvanceError) → Advanced p length k n most r1 l1 o result o1 → IsFullKept r1 l1 o1.core.cause
+  advanced_kept length k n most result h = from (o.core.segments k) h
     where
-      met_same : (y : Transaction S) (o : Option ℕ) → (doom_met i x j y q o).cause ≡ q.cause
-      met_same y None = refl
-      met_same y (Some a) = refl
-
-      one : (s : Segment S) → (doom_one i x j q s).cause ≡ q.cause
-      one Idle = refl
-      one (Doomed f) = refl
-      one (Running y) = met_same y (met x.changed y.looked)
-
-      here : (b : Bool) (s : Segment S) → (cond b q (doom_one i x j q s)).cause ≡ q.cause
-      here true s = refl
-      here false s = one s
-
-  pub committed_kept : (k n : ℕ) (result : Result Commit Conflict) → Committed p k n result c c1 → IsFullKept r1 l1 c1.cause
-  committed_kept k n result h = go (c.segments k) result h
-    where
-      go : (s : Segment S) (z : Result Commit Conflict) → CommitOf p k n s z c c1 → IsFullKept r1 l1 c1.cause
-      go Idle z q = absurd q
-      go (Doomed f) z q = as_before (with_segment k Idle c) refl q.1
-      go (Running x) (Ok Nothing) q = as_before (with_segment k Idle c) refl q.1
-      go (Running x) (Ok (AtTurn i)) q = as_before (after_commit k x (range_with_len 0 n) c) (dooms_same k x (range_with_len 0 n) c) q.3
-      go (Running x) (Err f) q = as_before (with_conflict f (with_segment k Idle c)) refl q.2
-
-  -- an advance, after which so much is reserved
-  cause_first : (o : Option Cause) (e : Cause) (u : CoreState S) (x : Transaction S) → IsFullKept r1 l1 o → IsStepCause p u x r1 l1 e → IsFullKept r1 l1 (first_cause o e)
-  cause_first (Some d) e u x h w = h
-  cause_first None (Full i n j) u x h w = let a = w.1 in (w.2, omega (arith, a), w.3)
-  cause_first None OutOfMemory u x h w = tt
-  cause_first None ReadFault u x h w = tt
-  cause_first None WriteFault u x h w = tt
-  cause_first None ErrFault u x h w = tt
-
-  pub advanced_kept : (length k most : ℕ) (result : Result Advance AdvanceError) → Advanced p length k most r1 l1 c result c1 → IsFullKept r1 l1 c1.cause
-  advanced_kept length k most result h = from (c.segments k) h
-    where
-      taken : StepsTaken p length k most r1 l1 c result c1 → IsFullKept r1 l1 c1.cause
+      taken : StepsTaken p length k n most r1 l1 o result o1 → IsFullKept r1 l1 o1.core.cause
       taken t = go result t.ends
         where
-          before : (q : CoreState S) → q.cause ≡ t.before.cause → c1 ≡ q → IsFullKept r1 l1 c1.cause
-          before q e z = as_before q (e ∙ t.gone.rest.cause ∙ t.gone.steps.cause) z
+          u : Outer S
+          u = record o { core = t.before; told = cond t.last.solo t.last.world o.told }
 
-          go : (z : Result Advance AdvanceError) → Ends p k r1 l1 t.before t.last z c1 → IsFullKept r1 l1 c1.cause
-          go (Ok (Ran n)) e = before t.before refl e.1
-          go (Ok (Waits n)) e = before t.before refl e.2
-          go (Ok (Ended n)) e = before t.before refl e.1
-          go (Ok (NeedSolo n)) e = before t.before refl e.2
-          go (Err (Lost f)) e = before (with_conflict f (with_segment k Idle t.before)) refl e.3
-          go (Err (Failed y)) e = subst (IsFullKept r1 l1) (sym (ap (λ (z : CoreState S). z.cause) e.2)) (cause_first t.before.cause y t.before t.last (full_same r r1 l l1 c.cause t.before.cause le same (t.gone.rest.cause ∙ t.gone.steps.cause) old) e.1)
+          stays : t.before.cause ≡ o.core.cause
+          stays = t.gone.rest.cause ∙ t.gone.steps.cause
 
-      from : (s : Segment S) → AdvancedFrom s p length k most r1 l1 c result c1 → IsFullKept r1 l1 c1.cause
+          before : (q : Outer S) → q.core.cause ≡ t.before.cause → o1 ≡ q → IsFullKept r1 l1 o1.core.cause
+          before q e z = from_cause t.before.cause stays (ap (λ (v : Outer S). v.core.cause) z ∙ e)
+
+          first : (e : Cause) → IsSoloCause p t.before t.last r1 l1 e → o1.core.cause ≡ first_cause t.before.cause e → IsFullKept r1 l1 o1.core.cause
+          first e w z = subst (IsFullKept r1 l1) (sym z) (kept_first t.before.cause e t.before t.last (full_same r r1 l l1 o.core.cause t.before.cause le same stays old) w)
+
+          fails : (b : Bool) (e : Cause) → Fails b p k n r1 l1 e u t.last o1 → IsFullKept r1 l1 o1.core.cause
+          fails false e f = first e (solo_cause e t.before t.last f.0) (ap (λ (v : Outer S). v.core.cause) f.1)
+          fails true e f = first e f.0 (ap (λ (v : Outer S). v.core.cause) f.1.gives)
+
+          go : (z : Result Advance AdvanceError) → Ends p k n r1 l1 u t.last z o1 → IsFullKept r1 l1 o1.core.cause
+          go (Ok (Ran i)) e = before u refl e.1
+          go (Ok (Waits i)) e = before u refl e.2
+          go (Ok (Ended i)) e = before u refl e.1
+          go (Ok (NeedSolo i)) e = before u refl e.3
+          go (Err (Lost f)) e = before (record u { core = with_conflict f (with_segment k Idle t.before) }) refl e.4
+          go (Err (Failed y)) e = fails t.last.solo y e.1
+
+      from : (s : Segment S) → AdvancedFrom s p length k n most r1 l1 o result o1 → IsFullKept r1 l1 o1.core.cause
       from Idle q = absurd q
-      from (Doomed f) q = as_before (with_segment k Idle c) refl q.1
+      from (Doomed f) q = from_cause o.core.cause refl (ap (λ (v : Outer S). v.core.cause) q.1)
       from (Running x) q = life (p.life x.state) refl
         where
-          life : (z : Life) → p.life x.state ≡ z → IsFullKept r1 l1 c1.cause
+          life : (z : Life) → p.life x.state ≡ z → IsFullKept r1 l1 o1.core.cause
           life Lives e = taken (q.1 e)
-          life EndedLife e = as_before c refl (q.0 (λ h. let a : EndedLife ≡ Lives = sym e ∙ h in cc)).1
-          life FailedLife e = as_before c refl (q.0 (λ h. let a : FailedLife ≡ Lives = sym e ∙ h in cc)).1
+          life EndedLife e = from_cause o.core.cause refl (ap (λ (v : Outer S). v.core.cause) (q.0 (λ h. let a : EndedLife ≡ Lives = sym e ∙ h in cc)).1)
+          life FailedLife e = from_cause o.core.cause refl (ap (λ (v : Outer S). v.core.cause) (q.0 (λ h. let a : FailedLife ≡ Lives = sym e ∙ h in cc)).1)

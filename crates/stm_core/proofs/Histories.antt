@@ -1,16 +1,16 @@
 -- What events leave of the committed state, the history, the conflicts and other segments.
-use Rattle.std.proofs.Common.{◌≡◌, ◌≢◌, ◌⊎◌, ℕ, suc, ◌+◌, ◌<◌, ◌≤◌, false, true, Bool, cond, eqb, List, [], ◌∷◌, ◌++◌, map, length, Option, Some, None, Result, Ok, Err, All, Contains, refl, sym, ◌∙◌, ap, subst, inl, inr, append-nil, append_assoc, length-append, zero-add, arith}
-use Rattle.std.specs.List.{sum_by, range_with_len}
-use Rattle.std.proofs.lemmas.Bool.{cases_Bool, eqb-true, eqb-false, eq-eqb, ne_eqb, cond-true, cond-false}
-use Rattle.std.proofs.lemmas.List.Elements.{All-append, All-cons, All-nil, All-head, All-tail, All-weaker, Contains-append_left, Contains-append_right, Contains-push}
-use Rattle.std.proofs.lemmas.List.Sums.{sum_by-append}
+use Rattle.std.proofs.Common.{◌≡◌, ◌≢◌, ◌⊎◌, ℕ, zero, suc, ◌+◌, ◌<◌, ◌≤◌, false, true, Bool, cond, eqb, List, [], ◌∷◌, ◌++◌, length, Option, Some, Result, Ok, Err, All, AllPairs, refl, sym, ◌∙◌, ap, subst, inl, inr, append-nil, append_assoc, length-append, arith}
+use Rattle.std.specs.List.{sum_by, count_by, range_with_len}
+use Rattle.std.proofs.lemmas.Bool.{cases_Bool, both_ways, eqb-false, eq-eqb, ne_eqb, cond-true, cond-false}
+use Rattle.std.proofs.lemmas.List.Elements.{All-cons, All-nil, All-weaker, Contains-push}
+use Rattle.std.proofs.lemmas.List.Kept.{AllPairs-cons}
+use Rattle.std.proofs.lemmas.List.Sums.{sum_by-cons}
 use Rattle.py_data.specs.declared.stop.Side.{Side}
 use Rattle.py_data.specs.declared.stop.Conflict.{Conflict}
-use Rattle.py_data.specs.Heap.{Heap}
-use Rattle.py_data.specs.World.{World}
 use Rattle.py_data.specs.Sight.{mem}
 use Rattle.lock_run.specs.declared.client.Life.{Life}
 use Rattle.lock_run.specs.declared.client.Life.TheVariants.{Lives, Ended as EndedLife, Failed as FailedLife}
+use Rattle.lock_run.specs.declared.turn.Turn.{Turn}
 use Rattle.lock_run.specs.Prog.{Prog}
 use Rattle.stm_core.specs.declared.answers.Advance.{Advance}
 use Rattle.stm_core.specs.declared.answers.Advance.TheVariants.{Ran, Waits, Ended, NeedSolo}
@@ -18,210 +18,76 @@ use Rattle.stm_core.specs.declared.answers.AdvanceError.{AdvanceError}
 use Rattle.stm_core.specs.declared.answers.AdvanceError.TheVariants as advance
 use Rattle.stm_core.specs.declared.begin.BeginError.{BeginError}
 use Rattle.stm_core.specs.declared.begin.BeginError.TheVariants as begin
+use Rattle.stm_core.specs.declared.cause.Cause.{Cause}
 use Rattle.stm_core.specs.declared.cause.Cause.TheVariants.{OutOfMemory as NoMemoryLeft}
 use Rattle.stm_core.specs.declared.commit.Commit.{Commit}
 use Rattle.stm_core.specs.declared.commit.Commit.TheVariants as commit
 use Rattle.stm_core.specs.declared.events.Event.{Event}
 use Rattle.stm_core.specs.declared.events.Event.TheVariants as event
 use Rattle.stm_core.specs.declared.events.Reply.{Reply}
-use Rattle.stm_core.specs.declared.events.Reply.TheVariants.{Skipped, Begun as HasBegun, Refused, Advanced as HasAdvanced, Committed as HasCommitted, Nothing, Lost, Failed}
+use Rattle.stm_core.specs.declared.events.Reply.TheVariants.{Skipped, Begun as HasBegun, Refused, Advanced as HasAdvanced, Solo as IsSolo, Unsolo, Committed as HasCommitted, Nothing, Lost, Failed}
+use Rattle.stm_core.specs.declared.solo.SoloError.{SoloError}
+use Rattle.stm_core.specs.declared.solo.SoloError.TheVariants as solo
 use Rattle.seg_store.specs.Meaning.{overlay}
-use Rattle.stm_core.specs.CoreState.{Transaction, Segment, Idle, Doomed, Running, CoreState, fresh, turn_of, world_after, threads_after, with_segment, with_conflict}
-use Rattle.stm_core.specs.Conflict.{side, conflict, loser, IsStanding, AsksFrom}
-use Rattle.stm_core.specs.Moves.{Move, Begins, Drops, Dooms, Loses, Goes, Rests, Commits, Keeps, Next, Follows, published, begun_at}
-use Rattle.stm_core.specs.Passes.{met, doom_met, doom_one, doom_readers, after_commit, NoneWins}
-use Rattle.stm_core.specs.Advance.{Try, moves_of, IsStepOf, IsTry, Tried}
-use Rattle.stm_core.specs.Advanced.{CountsDone, tried_after, IsOwn, Led, StoodBetween, Ends, StepsTaken, AdvancedFrom, with_cause}
+use Rattle.stm_core.specs.CoreState.{Transaction, Segment, Idle, Doomed, Running, CoreState, fresh, soloed, turn_of, world_after, threads_after, with_segment, with_conflict}
+use Rattle.stm_core.specs.Conflict.{loser, IsStanding}
+use Rattle.stm_core.specs.Moves.{first_cause, published, begun_at}
+use Rattle.stm_core.specs.Passes.{doom_readers, after_commit, NoneWins}
+use Rattle.stm_core.specs.Outside.{Outer}
+use Rattle.stm_core.specs.Advanced.{CountsDone, tried_after, with_cause, Fails, Ends, StepsTaken, AdvancedFrom}
 use Rattle.stm_core.specs.Begun.{Begun}
 use Rattle.stm_core.specs.Committed.{Beaten, CommitEnds, CommitOf}
-use Rattle.stm_core.specs.Events.{Limits, begin_reply, advance_reply, commit_reply, may_make, Made, MadeIf, EventsMade}
-use Rattle.stm_core.specs.History.{event_segment, IsQuiet, IsCommit, Publishes, IsMadeBy, steps_of, IsEarly, ComesToEnd, HasStood, IsDoomed, IsTold, LeavesOthers, Leaves, AllLeave, numbers_of, IsGrown}
-use Rattle.stm_core.proofs.Advanced.{none_led, one_led, led_then}
+use Rattle.stm_core.specs.Solo.{SoloedFrom, up_to_whole}
+use Rattle.stm_core.specs.Events.{Limits, begin_reply, advance_reply, solo_reply, commit_reply, may_make, Made, MadeIf, EventsMade}
+use Rattle.stm_core.specs.History.{event_segment, IsQuiet, AddsTurn, steps_of, Publishes, IsAsked, IsLookedAt, IsMadeBy, IsEarly, ComesToEnd, HasStood, IsDoomed, LeavesOthers, IsToldLost, Leaves, AllLeave, numbers_of, has_failed, IsGrown}
 use Rattle.stm_core.proofs.Publishing.{mem_range}
-use Rattle.stm_core.proofs.TwoPasses.{met_some, met_none, Clears, clears}
-
--- ---- one after another
-
-quiet_none : {S : Type 0} (c : CoreState S) → IsQuiet c c
-quiet_none c = record { image = refl; threads = refl; world = refl; history = refl }
-
-quiet_then : {S : Type 0} (c u v : CoreState S) → IsQuiet c u → IsQuiet u v → IsQuiet c v
-quiet_then c u v a b =
-    record { image = b.image ∙ a.image; threads = b.threads ∙ a.threads; world = b.world ∙ a.world; history = b.history ∙ a.history }
-
--- another segment, through two lists of conflicts
-left_then : {S : Type 0} (j : ℕ) (fs gs : List Conflict) (s r t : Segment S) → (r ≡ s) ⊎ IsDoomed j fs s r
-    → (t ≡ r) ⊎ IsDoomed j gs r t → (t ≡ s) ⊎ IsDoomed j (fs ++ gs) s t
-left_then j fs gs s r t (inl d) (inl e) = inl (e ∙ d)
-left_then j fs gs s r t (inr d) (inl e) =
-    inr (record { conflict = d.conflict; new = Contains-append_left fs gs d.conflict d.new; y = d.y; ran = d.ran; lost = d.lost; now = e ∙ d.now })
-left_then j fs gs s r t (inl d) (inr e) =
-    inr (record { conflict = e.conflict; new = Contains-append_right fs gs e.conflict e.new; y = e.y; ran = sym d ∙ e.ran; lost = e.lost; now = e.now })
-left_then j fs gs s r t (inr d) (inr e) =
-    absurd (let clash : Doomed d.conflict ≡ Running e.y = sym d.now ∙ e.ran in cc)
-
--- the transaction that loses a conflict that stands
-loses_it : {S : Type 0} (p : Prog S) (c : CoreState S) (f : Conflict) → IsStanding p c f
-    → (y : Transaction S) × (c.segments (loser f).segment ≡ Running y) × (loser f ≡ side (loser f).segment y)
-loses_it {S} p c f st = by_side (eqb f.lost 0)
-  where
-    by_side : (b : Bool)
-        → (y : Transaction S) × (c.segments (cond b f.writer f.other).segment ≡ Running y) × (cond b f.writer f.other ≡ side (cond b f.writer f.other).segment y)
-    by_side true = (st.x, st.writes, ap (λ (z : Conflict). z.writer) st.is)
-    by_side false = (st.y, st.reads, ap (λ (z : Conflict). z.other) st.is)
+use Rattle.stm_core.proofs.TwoPasses.{met_none, Clears, clears}
+use Rattle.stm_core.proofs.SoloMoves.{solo_beats}
+use Rattle.stm_core.proofs.Advanced.{cut_kept, asker_loses, may_drop}
+use Rattle.stm_core.proofs.Came.{quiet_none, quiet_then, Came, StoodWithin, came_drop, came_loses, came_then, came_more, came_dooms, came_tried}
 
 module _ {S : Type 0} (p : Prog S) (most : ℕ) (e : Event) where
-  -- a conflict stood between two states, before which the event's segment did fewer steps than so many
-  record StoodWithin (bound : ℕ) (c u : CoreState S) (f : Conflict) : Type 0 where
-    stood : StoodBetween p most (event_segment e) c u f
-    few : sum_by steps_of stood.before.moves < bound
-
-  -- What moves of the event's segment, of which so many are steps, and dooms of others lead to: nothing is committed, and each new
-  -- conflict stood after fewer steps than the bound says.
-  record Came (steps bound : ℕ) (c u : CoreState S) : Type 0 where
-    way : Led p most (event_segment e) c u
-    count : sum_by steps_of way.moves ≡ steps
-    quiet : IsQuiet c u
-    new : List Conflict
-    conflicts : u.conflicts ≡ c.conflicts ++ new
-    made : All (IsMadeBy e) new
-    stood : All (StoodWithin bound c u) new
-    others : (j : ℕ) → j ≢ event_segment e → (u.segments j ≡ c.segments j) ⊎ IsDoomed j new (c.segments j) (u.segments j)
-
-  came_none : (c : CoreState S) → Came 0 0 c c
-  came_none c = record {
-    way = none_led p most (event_segment e) c c refl;
-    count = refl;
-    quiet = quiet_none c;
-    new = [];
-    conflicts = sym (append-nil c.conflicts);
-    made = All-nil (IsMadeBy e);
-    stood = All-nil (StoodWithin 0 c c);
-    others = λ j d. inl refl;
-  }
-
-  came_same : (c u : CoreState S) → u ≡ c → Came 0 0 c u
-  came_same c u is = subst (Came 0 0 c) (sym is) (came_none c)
-
-  -- a move that sets the event's own segment
-  came_set : (n : ℕ) (m : Move S) (s : Segment S) (c u : CoreState S) → IsOwn (event_segment e) m → Next p most c m u → sum_by steps_of (m ∷ []) ≡ n
-      → u ≡ with_segment (event_segment e) s c → Came n 0 c u
-  came_set n m s c u o next count is = record {
-    way = one_led p most (event_segment e) m c u o next;
-    count = count;
-    quiet = record {
-      image = ap (λ (z : CoreState S). z.image) is;
-      threads = ap (λ (z : CoreState S). z.threads) is;
-      world = ap (λ (z : CoreState S). z.world) is;
-      history = ap (λ (z : CoreState S). z.history) is;
-    };
-    new = [];
-    conflicts = ap (λ (z : CoreState S). z.conflicts) is ∙ sym (append-nil c.conflicts);
-    made = All-nil (IsMadeBy e);
-    stood = All-nil (StoodWithin 0 c u);
-    others = λ j d. inl (ap (λ (z : CoreState S). z.segments j) is ∙ cond-false (eqb j (event_segment e)) s (c.segments j) (ne_eqb j (event_segment e) d));
-  }
-
-  -- a move that adds a conflict that stands, and sets the loser's segment
-  abbrev came_conflict : (m : Move S) (f : Conflict) (i : ℕ) (s : Segment S) (c : CoreState S) → IsOwn (event_segment e) m → Next p most c m (with_conflict f (with_segment i s c)) → sum_by steps_of (m ∷ []) ≡ 0 → IsStanding p c f → IsMadeBy e f
-      → ((j : ℕ) → j ≢ event_segment e → (cond (eqb j i) s (c.segments j) ≡ c.segments j) ⊎ IsDoomed j (f ∷ []) (c.segments j) (cond (eqb j i) s (c.segments j))) → Came 0 1 c (with_conflict f (with_segment i s c))
-  came_conflict m f i s c o next count st made others =
-      let u = with_conflict f (with_segment i s c) in
-      let way = one_led p most (event_segment e) m c u o next in
-      record {
-        way = way;
-        count = count;
-        quiet = record { image = refl; threads = refl; world = refl; history = refl };
-        new = f ∷ [];
-        conflicts = refl;
-        made = All-cons (IsMadeBy e) f [] made (All-nil (IsMadeBy e));
-        stood = All-cons (StoodWithin 1 c u) f []
-            (record { stood = record { state = c; before = none_led p most (event_segment e) c c refl; after = way; stands = st }; few = omega arith }) (All-nil (StoodWithin 1 c u));
-        others = others;
-      }
-
-  came_doom : (f : Conflict) (c u : CoreState S) → Next p most c (Dooms f) u → IsMadeBy e f → Came 0 1 c u
-  came_doom f c u next made =
-      subst (Came 0 1 c) (sym next.1) (came_conflict (Dooms f) f (loser f).segment (Doomed f) c tt (next.0, refl) refl next.0 made (λ j d. by_place j (eqb j (loser f).segment) refl))
-    where
-      by_place : (j : ℕ) (b : Bool) → eqb j (loser f).segment ≡ b
-          → (cond b (Doomed f) (c.segments j) ≡ c.segments j) ⊎ IsDoomed j (f ∷ []) (c.segments j) (cond b (Doomed f) (c.segments j))
-      by_place j false is = inl refl
-      by_place j true is =
-          let l = loses_it p c f next.0 in
-          let same : j ≡ (loser f).segment = eqb-true j (loser f).segment is in
-          inr (record { conflict = f; new = Contains-push [] f; y = l.0; ran = ap c.segments same ∙ l.1; lost = l.2 ∙ ap (λ z. side z l.0) (sym same); now = refl })
-
-  -- the event's own transaction loses
-  abbrev came_loses : (f : Conflict) (c : CoreState S) → IsStanding p c f → IsMadeBy e f → (loser f).segment ≡ event_segment e → Came 0 1 c (with_conflict f (with_segment (event_segment e) Idle c))
-  came_loses f c st made own = came_conflict (Loses f) f (event_segment e) Idle c own (st, ap (λ i. with_conflict f (with_segment i Idle c)) (sym own)) refl st made
-      (λ j d. inl (cond-false (eqb j (event_segment e)) Idle (c.segments j) (ne_eqb j (event_segment e) d)))
-
-  abbrev came_then : (a1 b1 a2 b2 b : ℕ) (c u v : CoreState S) → b1 ≤ b → a1 + b2 ≤ b → Came a1 b1 c u → Came a2 b2 u v → Came (a1 + a2) b c v
-  came_then a1 b1 a2 b2 b c u v less sum x y = record {
-    way = led_then p most (event_segment e) c u v x.way y.way;
-    count = let q = x.count in let r = y.count in omega (arith, sum_by-append steps_of x.way.moves y.way.moves, q, r);
-    quiet = quiet_then c u v x.quiet y.quiet;
-    new = x.new ++ y.new;
-    conflicts = y.conflicts ∙ ap (λ l. l ++ y.new) x.conflicts ∙ append_assoc c.conflicts x.new y.new;
-    made = All-append (IsMadeBy e) x.new y.new x.made y.made;
-    stood = All-append (StoodWithin b c v) x.new y.new
-        (All-weaker (StoodWithin b1 c u) (StoodWithin b c v) (λ f h. earlier f h) x.new x.stood)
-        (All-weaker (StoodWithin b2 u v) (StoodWithin b c v) (λ f h. further f h) y.new y.stood);
-    others = λ j d. left_then j x.new y.new (c.segments j) (u.segments j) (v.segments j) (x.others j d) (y.others j d);
-  }
-    where
-      earlier : (f : Conflict) → StoodWithin b1 c u f → StoodWithin b c v f
-      earlier f h =
-          let s = h.stood in
-          let q = h.few in
-          record { stood = record { state = s.state; before = s.before; after = led_then p most (event_segment e) s.state u v s.after y.way; stands = s.stands }; few = omega (arith, q, less) }
-
-      further : (f : Conflict) → StoodWithin b2 u v f → StoodWithin b c v f
-      further f h =
-          let s = h.stood in
-          let q = h.few in
-          let r = x.count in
-          record {
-            stood = record { state = s.state; before = led_then p most (event_segment e) c u s.state x.way s.before; after = s.after; stands = s.stands };
-            few = omega (arith, sum_by-append steps_of x.way.moves s.before.moves, q, r, sum);
-          }
-
   -- ---- what an event leaves that commits nothing
 
   record Calm (r : Reply) (c c1 : CoreState S) : Type 0 where
     quiet : IsQuiet c c1
     beside : LeavesOthers p most e c c1
-    told : IsTold (event_segment e) r beside.new c c1
+    told : IsToldLost (event_segment e) r beside.new c c1
 
   -- it made no conflict
-  calm_plain : (r : Reply) (c c1 : CoreState S) → IsQuiet c c1 → c1.conflicts ≡ c.conflicts → ((j : ℕ) → j ≢ event_segment e → c1.segments j ≡ c.segments j) → IsTold (event_segment e) r [] c c1 → Calm r c c1
+  calm_plain : (r : Reply) (c c1 : CoreState S) → IsQuiet c c1 → c1.conflicts ≡ c.conflicts → ((j : ℕ) → j ≢ event_segment e → c1.segments j ≡ c.segments j) → IsToldLost (event_segment e) r [] c c1 → Calm r c c1
   calm_plain r c c1 q f g t = record {
     quiet = q;
-    beside = record { new = []; conflicts = f ∙ sym (append-nil c.conflicts); made = All-nil (IsMadeBy e); stood = All-nil (HasStood p most e c c1); others = λ j d. inl (g j d) };
+    beside = record { new = []; conflicts = f ∙ sym (append-nil c.conflicts); made = All-nil (IsMadeBy e c c1); stood = All-nil (HasStood p most e c c1); others = λ j d. inl (g j d) };
     told = t;
   }
 
-  calm_same : (r : Reply) (c c1 : CoreState S) → IsTold (event_segment e) r [] c c → c1 ≡ c → Calm r c c1
+  calm_same : (r : Reply) (c c1 : CoreState S) → IsToldLost (event_segment e) r [] c c → c1 ≡ c → Calm r c c1
   calm_same r c c1 t is = subst (Calm r c) (sym is) (calm_plain r c c (quiet_none c) refl (λ j d. refl) t)
 
   -- its own segment is empty now
-  calm_idle : (r : Reply) (c c1 : CoreState S) → IsTold (event_segment e) r [] c (with_segment (event_segment e) Idle c) → c1 ≡ with_segment (event_segment e) Idle c → Calm r c c1
+  calm_idle : (r : Reply) (c c1 : CoreState S) → IsToldLost (event_segment e) r [] c (with_segment (event_segment e) Idle c) → c1 ≡ with_segment (event_segment e) Idle c → Calm r c c1
   calm_idle r c c1 t is = subst (Calm r c) (sym is)
       (calm_plain r c (with_segment (event_segment e) Idle c) (record { image = refl; threads = refl; world = refl; history = refl }) refl (λ j d. cond-false (eqb j (event_segment e)) Idle (c.segments j) (ne_eqb j (event_segment e) d)) t)
 
   -- what it came through, with its end
-  abbrev beside_end : (a b : ℕ) (c u c1 : CoreState S) → (x : Came a b c u) → ((n : ℕ) → n < b → IsEarly e n) → ComesToEnd e u c1 → c1.conflicts ≡ u.conflicts → ((j : ℕ) → j ≢ event_segment e → c1.segments j ≡ u.segments j) → LeavesOthers p most e c c1
-  beside_end a b c u c1 x early end co se = record {
+  abbrev beside_end : (M : Conflict → Type 0) (a b : ℕ) (c u c1 : CoreState S) → (x : Came p most (event_segment e) M a b c u) → ((f : Conflict) → M f → IsMadeBy e c c1 f) → ((n : ℕ) → n < b → IsEarly e n) → ComesToEnd e u c1
+      → c1.conflicts ≡ u.conflicts → ((j : ℕ) → j ≢ event_segment e → c1.segments j ≡ u.segments j) → LeavesOthers p most e c c1
+  beside_end M a b c u c1 x made early end co se = record {
     new = x.new;
     conflicts = co ∙ x.conflicts;
-    made = x.made;
-    stood = All-weaker (StoodWithin b c u) (HasStood p most e c c1) (λ f h. record { left = u; stood = h.stood; early = early (sum_by steps_of h.stood.before.moves) h.few; end = end }) x.new x.stood;
+    made = All-weaker M (IsMadeBy e c c1) made x.new x.made;
+    stood = All-weaker (StoodWithin p most (event_segment e) M b c u) (HasStood p most e c c1) (λ f h. record { left = u; stood = h.stood; early = early (sum_by steps_of h.stood.before.moves) h.few; end = end }) x.new x.stood;
     others = λ j d. subst (λ (s : Segment S). (s ≡ c.segments j) ⊎ IsDoomed j x.new (c.segments j) s) (sym (se j d)) (x.others j d);
   }
 
-  calm_end : (r : Reply) (a b : ℕ) (c u : CoreState S) → (x : Came a b c u) → ((n : ℕ) → n < b → IsEarly e n) → ComesToEnd e u u → IsTold (event_segment e) r x.new c u → Calm r c u
-  calm_end r a b c u x early end t = record { quiet = x.quiet; beside = beside_end a b c u u x early end refl (λ j d. refl); told = t }
+  calm_end : (r : Reply) (M : Conflict → Type 0) (a b : ℕ) (c u : CoreState S) → (x : Came p most (event_segment e) M a b c u) → ((f : Conflict) → M f → IsMadeBy e c u f) → ((n : ℕ) → n < b → IsEarly e n) → ComesToEnd e u u
+      → IsToldLost (event_segment e) r x.new c u → Calm r c u
+  calm_end r M a b c u x made early end t = record { quiet = x.quiet; beside = beside_end M a b c u u x made early end refl (λ j d. refl); told = t }
+
+-- with its reply, where that says of none that it commits
+calm_leaves : {S : Type 0} (p : Prog S) (l : Limits) (e : Event) (r : Reply) (c c1 : CoreState S) → (IsQuiet c c1 → Publishes p l e r c c1) → Calm p l.length e r c c1 → Leaves p l e r c c1
+calm_leaves p l e r c c1 publishes z = record { publishes = publishes z.quiet; beside = z.beside; told = z.told }
 
 -- ---- begin
 
@@ -238,68 +104,64 @@ begin_calm p l k t (Err begin.OutOfMemory) c c1 h =
     subst (Calm p l.length (event.Begin k t) (Refused begin.OutOfMemory) c) (sym h.1)
     (calm_plain p l.length (event.Begin k t) (Refused begin.OutOfMemory) c (record c { cause = Some NoMemoryLeft }) (record { image = refl; threads = refl; world = refl; history = refl }) refl (λ j n. refl) tt)
 
-begin_publishes : {S : Type 0} (l : Limits) (e : Event) (result : Result (Unit {0}) BeginError) (c c1 : CoreState S)
-    → IsQuiet c c1 → Publishes l e (begin_reply result) c c1
-begin_publishes l e (Ok u) c c1 q = q
-begin_publishes l e (Err y) c c1 q = q
+begin_publishes : {S : Type 0} (p : Prog S) (l : Limits) (e : Event) (result : Result (Unit {0}) BeginError) (c c1 : CoreState S) → IsQuiet c c1 → Publishes p l e (begin_reply result) c c1
+begin_publishes p l e (Ok u) c c1 q = q
+begin_publishes p l e (Err y) c c1 q = q
+
+-- ---- solo
+
+solo_calm : {S : Type 0} (p : Prog S) (most k : ℕ) (s : Segment S) (result : Result (Unit {0}) SoloError) (o o1 : Outer S) → o.core.segments k ≡ s → SoloedFrom s k result o o1 → Calm p most (event.Solo k) (solo_reply result) o.core o1.core
+solo_calm {S} p most k (Doomed f) (Err (solo.Over y)) o o1 is h = calm_same p most (event.Solo k) (Unsolo (solo.Over y)) o.core o1.core tt (ap (λ (z : Outer S). z.core) h.1)
+solo_calm {S} p most k (Running x) (Err (solo.Over y)) o o1 is h = calm_same p most (event.Solo k) (Unsolo (solo.Over y)) o.core o1.core tt (ap (λ (z : Outer S). z.core) h.1)
+solo_calm {S} p most k (Running x) (Err (solo.Taken j)) o o1 is h = calm_same p most (event.Solo k) (Unsolo (solo.Taken j)) o.core o1.core tt (ap (λ (z : Outer S). z.core) h.2)
+solo_calm {S} p most k (Doomed f) (Err (solo.Lost g)) o o1 is h =
+    calm_idle p most (event.Solo k) (Unsolo (solo.Lost g)) o.core o1.core (cond-true (eqb k k) Idle (o.core.segments k) (eq-eqb k k refl), is ∙ ap Doomed (sym h.1)) (ap (λ (z : Outer S). z.core) h.2)
+solo_calm {S} p most k (Running x) (Ok u) o o1 is h =
+    let s = Running (soloed o.core.world x) in
+    let c1 = with_segment k s o.core in
+    subst (Calm p most (event.Solo k) IsSolo o.core) (sym (ap (λ (z : Outer S). z.core) h.2))
+    (calm_plain p most (event.Solo k) IsSolo o.core c1 (record { image = refl; threads = refl; world = refl; history = refl }) refl (λ j n. cond-false (eqb j k) s (o.core.segments j) (ne_eqb j k n)) tt)
+solo_calm p most k Idle result o o1 is h = absurd h
+solo_calm p most k (Doomed f) (Err (solo.Taken j)) o o1 is h = absurd h
+solo_calm p most k (Doomed f) (Ok u) o o1 is h = absurd h
+solo_calm p most k (Running x) (Err (solo.Lost g)) o o1 is h = absurd h
+
+solo_publishes : {S : Type 0} (p : Prog S) (l : Limits) (e : Event) (result : Result (Unit {0}) SoloError) (c c1 : CoreState S) → IsQuiet c c1 → Publishes p l e (solo_reply result) c c1
+solo_publishes p l e (Ok u) c c1 q = q
+solo_publishes p l e (Err y) c c1 q = q
+
+-- ---- a turn
+
+-- both passes of the transaction x of segment i, from a state to which moves led that committed nothing, and a cause is set
+turn_added : {S : Type 0} (p : Prog S) (l : Limits) (i : ℕ) (x : Transaction S) (c0 c : CoreState S) (q : Option Cause) → c.segments i ≡ Running x → 1 ≤ x.steps → NoneWins i x c → IsQuiet c0 (doom_readers i x (range_with_len 0 l.segments) c)
+    → AddsTurn l i x c0 (record (published i x (doom_readers i x (range_with_len 0 l.segments) c)) { cause = q })
+turn_added {S} p l i x c0 c q mine some none quiet =
+    let js = range_with_len 0 l.segments in
+    let d = doom_readers i x js c in
+    let cleared : Clears p l.length i x js c d = clears p l.length i x js c mine none in
+    record {
+      some = some;
+      history = ap (λ h. h ++ turn_of x ∷ []) quiet.history;
+      image = ap (λ h. overlay h x.changes) quiet.image;
+      threads = ap (λ ts. threads_after ts x) quiet.threads;
+      world = ap (λ w. world_after w x) quiet.world;
+      idle = cond-true (eqb i i) Idle (d.segments i) (eq-eqb i i refl);
+      unread = λ j y below runs a locked. unread_by j y below (cases_Bool (eqb j i)) runs a locked cleared;
+    }
+  where
+    unread_by : (j : ℕ) (y : Transaction S) → j < l.segments → (eqb j i ≡ true) ⊎ (eqb j i ≡ false) → (published i x (doom_readers i x (range_with_len 0 l.segments) c)).segments j ≡ Running y → (a : ℕ) → mem a x.changed ≡ true
+        → Clears p l.length i x (range_with_len 0 l.segments) c (doom_readers i x (range_with_len 0 l.segments) c) → y.looked a ≡ false
+    unread_by j y below (inl same) runs a locked r =
+        absurd (let clash : Idle ≡ Running y = sym (cond-true (eqb j i) Idle ((doom_readers i x (range_with_len 0 l.segments) c).segments j) same) ∙ runs in cc)
+    unread_by j y below (inr other) runs a locked r =
+        let on : (doom_readers i x (range_with_len 0 l.segments) c).segments j ≡ Running y = sym (cond-false (eqb j i) Idle ((doom_readers i x (range_with_len 0 l.segments) c).segments j) other) ∙ runs in
+        met_none x.changed y.looked a (r.unread j y (mem_range 0 l.segments j (omega arith) (omega arith)) (eqb-false j i other) on) locked
+
+-- it makes the history longer
+turn_longer : {S : Type 0} (l : Limits) (i : ℕ) (x : Transaction S) (c c1 : CoreState S) → AddsTurn l i x c c1 → length c1.history ≡ length c.history + 1
+turn_longer l i x c c1 t = ap length t.history ∙ length-append c.history (turn_of x ∷ [])
 
 -- ---- advance
-
--- of so many tries, so many were done
-abbrev did : Bool → ℕ → ℕ
-did true n = n
-did false n = 0
-
-did_more : (done : Bool) (n : ℕ) → did done 1 + did done n ≡ did done (suc n)
-did_more true n = omega arith
-did_more false n = refl
-
-did_few : (done : Bool) (n : ℕ) → did done 1 + n ≤ suc n
-did_few true n = omega arith
-did_few false n = omega arith
-
-follows_split : {S : Type 0} (p : Prog S) (most : ℕ) (ms ns : List (Move S)) (c v : CoreState S) → Follows p most c (ms ++ ns) v → (u : CoreState S) × Follows p most c ms u × Follows p most u ns v
-follows_split p most [] ns c v f = (c, refl, f)
-follows_split p most (m ∷ ms) ns c v f = let r = follows_split p most ms ns f.0 v f.2 in (r.0, (f.0, f.1, r.1), r.2)
-
-module _ {S : Type 0} (p : Prog S) (length_limit k m : ℕ) where
-  -- the dooms of a try
-  came_won : (fs : List Conflict) (c u : CoreState S) → All (AsksFrom k 0) fs → Follows p length_limit c (map Dooms fs) u → Came p length_limit (event.Advance k m) 0 1 c u
-  came_won [] c u h f = came_then p length_limit (event.Advance k m) 0 0 0 0 1 c u u (omega arith) (omega arith) (came_same p length_limit (event.Advance k m) c u f) (came_none p length_limit (event.Advance k m) u)
-  came_won (g ∷ fs) c u h f =
-      let a = All-head (AsksFrom k 0) g fs h in
-      came_then p length_limit (event.Advance k m) 0 1 0 1 1 c f.0 u (omega arith) (omega arith) (came_doom p length_limit (event.Advance k m) g c f.0 f.1 (a.segment, a.asks)) (came_won fs f.0 u (All-tail (AsksFrom k 0) g fs h) f.2)
-
-  -- its move
-  came_step : (image : Heap) (w : World) (done : Bool) (fs : List Conflict) (move : Move S) (c u : CoreState S) → IsStepOf p image w k fs move done → Next p length_limit c move u → Came p length_limit (event.Advance k m) (did done 1) 0 c u
-  came_step image w true fs (Goes i x x1) c u h n = came_set p length_limit (event.Advance k m) 1 (Goes i x x1) (Running x1) c u h.0 n refl (n.4 ∙ ap (λ z. with_segment z (Running x1) c) h.0)
-  came_step image w false fs (Rests i x x1) c u h n = came_set p length_limit (event.Advance k m) 0 (Rests i x x1) (Running x1) c u h.0 n refl (n.3 ∙ ap (λ z. with_segment z (Running x1) c) h.0)
-  came_step image w false fs (Goes i x x1) c u h n = absurd h
-  came_step image w true fs (Rests i x x1) c u h n = absurd h
-  came_step image w done fs (Dooms f) c u h n = absurd h
-  came_step image w done fs (Begins i t q) c u h n = absurd h
-  came_step image w done fs (Drops i) c u h n = absurd h
-  came_step image w done fs (Loses f) c u h n = absurd h
-  came_step image w done fs (Commits i x) c u h n = absurd h
-  came_step image w done fs (Keeps y) c u h n = absurd h
-
-  came_tries : (image : Heap) (w : World) (done : Bool) (ts : List (Try S)) (c u : CoreState S) → All (IsTry p image w k done) ts → Follows p length_limit c (moves_of ts) u
-      → Came p length_limit (event.Advance k m) (did done (length ts)) (length ts) c u
-  came_tries image w true [] c u h f = came_same p length_limit (event.Advance k m) c u f
-  came_tries image w false [] c u h f = came_same p length_limit (event.Advance k m) c u f
-  came_tries image w done (t ∷ ts) c u h f =
-      let e = event.Advance k m in
-      let a = All-head (IsTry p image w k done) t ts h in
-      let r = follows_split p length_limit (map Dooms t.dooms) (t.move ∷ moves_of ts) c u f in
-      let n = length ts in
-      let won = came_won t.dooms c r.0 a.wins r.1 in
-      let step = came_step image w done t.dooms t.move r.0 r.2.0 a.step r.2.1 in
-      let first = subst (λ z. Came p length_limit e z 1 c r.2.0) (zero-add (did done 1)) (came_then p length_limit e 0 1 (did done 1) 0 1 c r.0 r.2.0 (omega arith) (omega arith) won step) in
-      let rest = came_tries image w done ts r.2.0 u (All-tail (IsTry p image w k done) t ts h) r.2.2 in
-      subst (λ z. Came p length_limit e z (suc n) c u) (did_more done n) (came_then p length_limit e (did done 1) 1 (did done n) n (suc n) c r.2.0 u (omega arith) (did_few done n) first rest)
-
-  came_tried : (done : Bool) (n : ℕ) (c u : CoreState S) → Tried p length_limit k done n c u → Came p length_limit (event.Advance k m) (did done n) n c u
-  came_tried done n c u t = subst (λ z. Came p length_limit (event.Advance k m) (did done z) z c u) t.count (came_tries c.image c.world done t.tries c u t.kinds t.follows)
 
 -- no more steps are tried than were asked for
 at_most : (most n : ℕ) (result : Result Advance AdvanceError) → CountsDone most n result → n + tried_after result ≤ most
@@ -309,242 +171,299 @@ at_most most n (Ok (Ended i)) h = let e = h.2 in omega arith
 at_most most n (Ok (NeedSolo i)) h = let e = h.1 in omega arith
 at_most most n (Err y) h = omega (arith, h)
 
-module _ {S : Type 0} (p : Prog S) (length_limit k m reserved limit : ℕ) where
-  -- what comes after the steps
-  ends_calm : (n b : ℕ) (c u : CoreState S) (x : Transaction S) (result : Result Advance AdvanceError) (c1 : CoreState S) → Came p length_limit (event.Advance k m) n b c u → n + tried_after result ≤ b → b ≤ m
-      → Ends p k reserved limit u x result c1 → Calm p length_limit (event.Advance k m) (advance_reply result) c c1
-  ends_calm n b c u x result c1 came some few h = by_result result some h
-    where
-      early : (i : ℕ) → i < b → i < m
-      early i lt = omega (arith, lt, few)
+module _ {S : Type 0} (p : Prog S) (l : Limits) (k m reserved : ℕ) where
+  abbrev event_is : Event
+  event_is = event.Advance k m
 
-      stays : (a : Advance) → c1 ≡ u → Calm p length_limit (event.Advance k m) (HasAdvanced a) c c1
-      stays a is = subst (Calm p length_limit (event.Advance k m) (HasAdvanced a) c) (sym is) (calm_end p length_limit (event.Advance k m) (HasAdvanced a) n b c u came early (inl refl) tt)
+  -- what it makes where it fails with a solo transaction
+  abbrev Solos : Conflict → Type 0
+  Solos f = IsAsked k f ⊎ (IsLookedAt k f × (f.writer.solo ≡ true))
 
-      by_result : (r : Result Advance AdvanceError) → n + tried_after r ≤ b → Ends p k reserved limit u x r c1 → Calm p length_limit (event.Advance k m) (advance_reply r) c c1
-      by_result (Ok (Ran i)) le h = stays (Ran i) h.1
-      by_result (Ok (Waits i)) le h = stays (Waits i) h.2
-      by_result (Ok (Ended i)) le h = stays (Ended i) h.1
-      by_result (Ok (NeedSolo i)) le h = stays (NeedSolo i) h.2
-      by_result (Err (advance.Lost f)) le h =
-          let own : (loser f).segment ≡ k = ap (λ z. (cond (eqb z 0) f.writer f.other).segment) h.2.lost_is ∙ h.2.segment in
-          let v = with_conflict f (with_segment k Idle u) in
-          let last = came_loses p length_limit (event.Advance k m) f u h.1 (h.2.segment, h.2.asks) own in
-          let all = came_then p length_limit (event.Advance k m) n b 0 1 b c u v (omega arith) le came last in
-          subst (Calm p length_limit (event.Advance k m) (Lost f) c) (sym h.3)
-          (calm_end p length_limit (event.Advance k m) (Lost f) (n + 0) b c v all early (inl refl) (cond-true (eqb k k) Idle (u.segments k) (eq-eqb k k refl), inr (Contains-push came.new f, own)))
-      by_result (Err (advance.Failed y)) le h =
-          let v = with_cause y (with_segment k Idle u) in
-          subst (Calm p length_limit (event.Advance k m) (Failed y) c) (sym h.2) (record {
-            quiet = quiet_then c u v came.quiet (record { image = refl; threads = refl; world = refl; history = refl });
-            beside = beside_end p length_limit (event.Advance k m) n b c u v came early (inr (y, refl)) refl (λ j d. cond-false (eqb j k) Idle (u.segments j) (ne_eqb j k d));
-            told = tt;
-          })
+  abbrev Asks : ℕ → ℕ → CoreState S → CoreState S → Type 0
+  Asks n b c u = Came p l.length k (IsAsked k) n b c u
 
-  steps_calm : (c : CoreState S) (result : Result Advance AdvanceError) (c1 : CoreState S) → StepsTaken p length_limit k m reserved limit c result c1 → Calm p length_limit (event.Advance k m) (advance_reply result) c c1
-  steps_calm c result c1 s =
+  -- nothing is committed
+  quiet_leaves : (result : Result Advance AdvanceError) (c c1 : CoreState S) → Calm p l.length event_is (advance_reply result) c c1 → Leaves p l event_is (advance_reply result) c c1
+  quiet_leaves (Ok a) c c1 z = calm_leaves p l event_is (HasAdvanced a) c c1 (λ q. q) z
+  quiet_leaves (Err (advance.Lost f)) c c1 z = calm_leaves p l event_is (Lost f) c c1 (λ q. q) z
+  quiet_leaves (Err (advance.Failed y)) c c1 z = calm_leaves p l event_is (Failed y) c c1 (λ q. inl q) z
+
+  module _ (n b : ℕ) (c u : CoreState S) (came : Asks n b c u) (few : b ≤ m) where
+    early : (i : ℕ) → i < b → i < m
+    early i lt = omega (arith, lt, few)
+
+    stays : (a : Advance) (c1 : CoreState S) → c1 ≡ u → Leaves p l event_is (HasAdvanced a) c c1
+    stays a c1 is = subst (Leaves p l event_is (HasAdvanced a) c) (sym is) (quiet_leaves (Ok a) c u (calm_end p l.length event_is (HasAdvanced a) (IsAsked k) n b c u came (λ f h. inl h) early (inl refl) tt))
+
+    -- the transaction is dropped, and a cause kept
+    drop_leaves : (y : Cause) (x : Transaction S) (c1 : CoreState S) → n ≤ b → u.segments k ≡ Running x → (x.solo ≡ true → x.steps ≡ 0) → c1 ≡ with_cause y (with_segment k Idle u) → Leaves p l event_is (Failed y) c c1
+    drop_leaves y x c1 le runs none is =
+        let v = with_segment k Idle u in
+        let all : Asks (n + 0) b c v = came_then p l.length k (IsAsked k) n b 0 0 b c u v (omega arith) (omega (arith, le)) came (came_drop p l.length k (IsAsked k) u (may_drop p l.length k u x runs none)) in
+        subst (Leaves p l event_is (Failed y) c) (sym is) (record {
+          publishes = inl (quiet_then c v (with_cause y v) all.quiet (record { image = refl; threads = refl; world = refl; history = refl }));
+          beside = beside_end p l.length event_is (IsAsked k) (n + 0) b c v (with_cause y v) all (λ f h. inl h) early (inr (y, inl refl)) refl (λ j d. refl);
+          told = tt;
+        })
+
+    -- the solo transaction is committed, and a cause kept
+    cut_leaves : (y : Cause) (x : Transaction S) (c1 : CoreState S) → n + 1 ≤ b → u.segments k ≡ Running x → x.solo ≡ true → 1 ≤ x.steps → c1 ≡ record (after_commit k x (range_with_len 0 l.segments) u) { cause = first_cause u.cause y } → Leaves p l event_is (Failed y) c c1
+    cut_leaves y x c1 le runs solo some is =
+        let js = range_with_len 0 l.segments in
+        let d = doom_readers k x js u in
+        let none = solo_beats k x u solo in
+        let mine = (clears p l.length k x js u runs none).mine in
+        let dooms = came_dooms p l.length k Solos x (λ j z a. inr ((refl, refl), solo)) js u runs none in
+        let all : Came p l.length k Solos (n + 0) b c d = came_then p l.length k Solos n b 0 1 b c u d (omega arith) le (came_more p l.length k (IsAsked k) Solos n b c u (λ f h. inl h) came) dooms in
+        let end = record (published k x d) { cause = first_cause u.cause y } in
+        let turn : AddsTurn l k x c end = turn_added p l k x c u (first_cause u.cause y) runs some none all.quiet in
+        let was = all.goes.on x mine in
+        let longer : length c.history < length end.history = let q = turn_longer l k x c end turn in omega (arith, q) in
+        subst (Leaves p l event_is (Failed y) c) (sym is) (record {
+          publishes = inr (record {
+            most = m;
+            call = refl;
+            y = was.0;
+            runs = was.1;
+            left = d;
+            way = all.way;
+            early = let q = all.count in omega (arith, q, le, few);
+            x = x;
+            ran = mine;
+            same = was.2.same;
+            steps = was.2.steps ∙ ap (λ i. (was.0).steps + i) (sym all.count);
+            solo = solo;
+            turn = turn;
+          });
+          beside = beside_end p l.length event_is Solos (n + 0) b c d end all (λ f h. made f longer h) early (inr (y, inr (x, mine, solo, some, cut_kept k x js u y))) refl (λ j e. cond-false (eqb j k) Idle (d.segments j) (ne_eqb j k e));
+          told = tt;
+        })
+      where
+        made : (f : Conflict) → length c.history < length (after_commit k x (range_with_len 0 l.segments) u).history → Solos f → IsMadeBy event_is c (record (after_commit k x (range_with_len 0 l.segments) u) { cause = first_cause u.cause y }) f
+        made f longer (inl h) = inl h
+        made f longer (inr h) = inr (h.0, h.1, longer)
+
+    -- what comes after the steps
+    ends_leave : (o : Outer S) (x : Transaction S) (result : Result Advance AdvanceError) (o1 : Outer S) → o.core ≡ u → u.segments k ≡ Running x → n + tried_after result ≤ b → Ends p k l.segments reserved l.words o x result o1 → Leaves p l event_is (advance_reply result) c o1.core
+    ends_leave o x (Ok (Ran i)) o1 at runs le h = stays (Ran i) o1.core (ap (λ (z : Outer S). z.core) h.1 ∙ at)
+    ends_leave o x (Ok (Waits i)) o1 at runs le h = stays (Waits i) o1.core (ap (λ (z : Outer S). z.core) h.2 ∙ at)
+    ends_leave o x (Ok (Ended i)) o1 at runs le h = stays (Ended i) o1.core (ap (λ (z : Outer S). z.core) h.1 ∙ at)
+    ends_leave o x (Ok (NeedSolo i)) o1 at runs le h = stays (NeedSolo i) o1.core (ap (λ (z : Outer S). z.core) h.3 ∙ at)
+    ends_leave o x (Err (advance.Lost f)) o1 at runs le h =
+        let own = asker_loses p l.length k f h.3 in
+        let v = with_conflict f (with_segment k Idle u) in
+        let last = came_loses p l.length k (IsAsked k) f u (subst (λ z. IsStanding p z f) at h.2) (h.3.segment, h.3.asks) own in
+        let all = came_then p l.length k (IsAsked k) n b 0 1 b c u v (omega arith) le came last in
+        let is : o1.core ≡ v = ap (λ (z : Outer S). z.core) h.4 ∙ ap (λ z. with_conflict f (with_segment k Idle z)) at in
+        subst (Leaves p l event_is (Lost f) c) (sym is)
+        (quiet_leaves (Err (advance.Lost f)) c v (calm_end p l.length event_is (Lost f) (IsAsked k) (n + 0) b c v all (λ f h. inl h) early (inl refl) (cond-true (eqb k k) Idle (u.segments k) (eq-eqb k k refl), inr (Contains-push came.new f, own))))
+    ends_leave o x (Err (advance.Failed y)) o1 at runs le h = fails x.solo refl h.1
+      where
+        whole : x.solo ≡ true → (i : ℕ) → x.steps ≡ i → o1.core ≡ record (up_to_whole k l.segments x i o.core) { cause = first_cause o.core.cause y } → Leaves p l event_is (Failed y) c o1.core
+        whole s zero e is = drop_leaves y x o1.core (omega (arith, le)) runs (λ q. e) (is ∙ ap (λ z. with_cause y (with_segment k Idle z)) at)
+        whole s (suc i) e is = cut_leaves y x o1.core le runs s (omega (arith, e)) (is ∙ ap (λ (z : CoreState S). record (after_commit k x (range_with_len 0 l.segments) z) { cause = first_cause z.cause y }) at)
+
+        fails : (s : Bool) → x.solo ≡ s → Fails s p k l.segments reserved l.words y o x o1 → Leaves p l event_is (Failed y) c o1.core
+        fails false e f = drop_leaves y x o1.core (omega (arith, le)) runs (λ s. absurd (both_ways x.solo e s)) (ap (λ (z : Outer S). z.core) f.1 ∙ ap (λ z. with_cause y (with_segment k Idle z)) at)
+        fails true e f = whole e x.steps refl (ap (λ (z : Outer S). z.core) f.1.gives)
+
+  steps_leave : (o : Outer S) (result : Result Advance AdvanceError) (o1 : Outer S) → StepsTaken p l.length k l.segments m reserved l.words o result o1 → Leaves p l event_is (advance_reply result) o.core o1.core
+  steps_leave o result o1 s =
       let n = s.steps in
       let more = tried_after result in
-      let done = came_tried p length_limit k m true n c s.gone.reached s.gone.steps in
-      let rest = came_tried p length_limit k m false more s.gone.reached s.before s.gone.rest in
-      let all = came_then p length_limit (event.Advance k m) n n 0 more (n + more) c s.gone.reached s.before (omega arith) (omega arith) done rest in
-      ends_calm (n + 0) (n + more) c s.before s.last result c1 all (omega arith) (at_most m n result s.count) s.ends
+      let c = o.core in
+      let done = came_tried p l.length k true n c s.gone.reached s.gone.steps in
+      let rest = came_tried p l.length k false more s.gone.reached s.before s.gone.rest in
+      let all = came_then p l.length k (IsAsked k) n n 0 more (n + more) c s.gone.reached s.before (omega arith) (omega arith) done rest in
+      ends_leave (n + 0) (n + more) c s.before all (at_most m n result s.count) (record o { core = s.before; told = cond s.last.solo s.last.world o.told }) s.last result o1 refl s.runs (omega arith) s.ends
 
-  advance_calm : (s : Segment S) (c : CoreState S) (result : Result Advance AdvanceError) (c1 : CoreState S)
-      → c.segments k ≡ s → AdvancedFrom s p length_limit k m reserved limit c result c1 → Calm p length_limit (event.Advance k m) (advance_reply result) c c1
-  advance_calm Idle c result c1 is h = absurd h
-  advance_calm (Doomed f) c result c1 is h =
-      subst (λ (r : Result Advance AdvanceError). Calm p length_limit (event.Advance k m) (advance_reply r) c c1) (sym h.0)
-      (calm_idle p length_limit (event.Advance k m) (Lost f) c c1 (cond-true (eqb k k) Idle (c.segments k) (eq-eqb k k refl), inl is) h.1)
-  advance_calm (Running x) c result c1 is h = by_life (p.life x.state) refl
+  advance_leaves : (s : Segment S) (o : Outer S) (result : Result Advance AdvanceError) (o1 : Outer S) → o.core.segments k ≡ s → AdvancedFrom s p l.length k l.segments m reserved l.words o result o1 → Leaves p l event_is (advance_reply result) o.core o1.core
+  advance_leaves Idle o result o1 is h = absurd h
+  advance_leaves (Doomed f) o result o1 is h =
+      subst (λ (r : Result Advance AdvanceError). Leaves p l event_is (advance_reply r) o.core o1.core) (sym h.0)
+      (quiet_leaves (Err (advance.Lost f)) o.core o1.core (calm_idle p l.length event_is (Lost f) o.core o1.core (cond-true (eqb k k) Idle (o.core.segments k) (eq-eqb k k refl), inl is) (ap (λ (z : Outer S). z.core) h.1)))
+  advance_leaves (Running x) o result o1 is h = by_life (p.life x.state) refl
     where
-      ended : (p.life x.state ≢ Lives) → Calm p length_limit (event.Advance k m) (advance_reply result) c c1
+      ended : (p.life x.state ≢ Lives) → Leaves p l event_is (advance_reply result) o.core o1.core
       ended n = let e = h.0 n in
-          subst (λ (r : Result Advance AdvanceError). Calm p length_limit (event.Advance k m) (advance_reply r) c c1) (sym e.0) (calm_same p length_limit (event.Advance k m) (HasAdvanced (Ended 0)) c c1 tt e.1)
+          subst (λ (r : Result Advance AdvanceError). Leaves p l event_is (advance_reply r) o.core o1.core) (sym e.0)
+          (quiet_leaves (Ok (Ended 0)) o.core o1.core (calm_same p l.length event_is (HasAdvanced (Ended 0)) o.core o1.core tt (ap (λ (z : Outer S). z.core) e.1)))
 
-      by_life : (y : Life) → p.life x.state ≡ y → Calm p length_limit (event.Advance k m) (advance_reply result) c c1
-      by_life Lives is = steps_calm c result c1 (h.1 is)
+      by_life : (y : Life) → p.life x.state ≡ y → Leaves p l event_is (advance_reply result) o.core o1.core
+      by_life Lives is = steps_leave o result o1 (h.1 is)
       by_life EndedLife is = ended (λ e. let clash : EndedLife ≡ Lives = sym is ∙ e in absurd cc)
       by_life FailedLife is = ended (λ e. let clash : FailedLife ≡ Lives = sym is ∙ e in absurd cc)
-
-advance_publishes : {S : Type 0} (l : Limits) (e : Event) (result : Result Advance AdvanceError) (c c1 : CoreState S)
-    → IsQuiet c c1 → Publishes l e (advance_reply result) c c1
-advance_publishes l e (Ok a) c c1 q = q
-advance_publishes l e (Err (advance.Lost f)) c c1 q = q
-advance_publishes l e (Err (advance.Failed y)) c c1 q = q
 
 -- ---- commit
 
 module _ {S : Type 0} (p : Prog S) (l : Limits) (i : ℕ) (x : Transaction S) where
-  -- one reader
-  came_one : (c : CoreState S) → c.segments i ≡ Running x → NoneWins i x c → (j : ℕ) → j ≢ i → (s : Segment S)
-      → c.segments j ≡ s → Came p l.length (event.Commit i) 0 1 c (doom_one i x j c s)
-  came_one c mine none j ne s is = go s is
-    where
-      nothing : Came p l.length (event.Commit i) 0 1 c c
-      nothing = came_then p l.length (event.Commit i) 0 0 0 0 1 c c c (omega arith) (omega arith) (came_none p l.length (event.Commit i) c) (came_none p l.length (event.Commit i) c)
-
-      by_met : (y : Transaction S) → c.segments j ≡ Running y → (o : Option ℕ) → met x.changed y.looked ≡ o → Came p l.length (event.Commit i) 0 1 c (doom_met i x j y c o)
-      by_met y on None e = nothing
-      by_met y on (Some a) e =
-          let f = conflict i x j y a false 1 in
-          let r = met_some x.changed y.looked a e in
-          let st : IsStanding p c f = record { x = x; y = y; writes = mine; reads = on; is = refl; differ = λ q. ne (sym q); held = r.0; met = r.1; lost = omega arith; loses = none j y a ne on e } in
-          came_doom p l.length (event.Commit i) f c (with_conflict f (with_segment j (Doomed f) c)) (st, refl) (refl, refl)
-
-      go : (s : Segment S) → c.segments j ≡ s → Came p l.length (event.Commit i) 0 1 c (doom_one i x j c s)
-      go Idle on = nothing
-      go (Doomed f) on = nothing
-      go (Running y) on = by_met y on (met x.changed y.looked) refl
-
-  came_dooms : (js : List ℕ) (c : CoreState S) → c.segments i ≡ Running x → NoneWins i x c → Came p l.length (event.Commit i) 0 1 c (doom_readers i x js c)
-  came_dooms [] c mine none = came_then p l.length (event.Commit i) 0 0 0 0 1 c c c (omega arith) (omega arith) (came_none p l.length (event.Commit i) c) (came_none p l.length (event.Commit i) c)
-  came_dooms (j ∷ js) c mine none =
-      let u = cond (eqb j i) c (doom_one i x j c (c.segments j)) in
-      let one : Clears p l.length i x (j ∷ []) c u = clears p l.length i x (j ∷ []) c mine none in
-      came_then p l.length (event.Commit i) 0 1 0 1 1 c u (doom_readers i x js u) (omega arith) (omega arith) (by_place (eqb j i) refl) (came_dooms js u one.mine (λ n y a d e. none n y a d (one.fewer n y e)))
-    where
-      by_place : (b : Bool) → eqb j i ≡ b → Came p l.length (event.Commit i) 0 1 c (cond b c (doom_one i x j c (c.segments j)))
-      by_place true is = came_then p l.length (event.Commit i) 0 0 0 0 1 c c c (omega arith) (omega arith) (came_none p l.length (event.Commit i) c) (came_none p l.length (event.Commit i) c)
-      by_place false is = came_one c mine none j (eqb-false j i is) (c.segments j) refl
-
   none_yet : (n : ℕ) → n < 1 → n ≡ 0
   none_yet n h = omega (arith, h)
 
   -- both passes, and the turn
-  commit_done : (n : ℕ) (c : CoreState S) → c.segments i ≡ Running x → 1 ≤ x.steps → NoneWins i x c
-      → n ≡ length c.history → (c1 : CoreState S) → c1 ≡ after_commit i x (range_with_len 0 l.segments) c
-      → Leaves p l (event.Commit i) (HasCommitted n) c c1
+  commit_done : (n : ℕ) (c : CoreState S) → c.segments i ≡ Running x → 1 ≤ x.steps → NoneWins i x c → n ≡ length c.history → (c1 : CoreState S) → c1 ≡ after_commit i x (range_with_len 0 l.segments) c → Leaves p l (event.Commit i) (HasCommitted n) c c1
   commit_done n c mine some none number c1 is =
       let js = range_with_len 0 l.segments in
       let d = doom_readers i x js c in
-      let came = came_dooms js c mine none in
+      let came = came_dooms p l.length i (IsLookedAt i) x (λ j y a. (refl, refl)) js c mine none in
       let cleared : Clears p l.length i x js c d = clears p l.length i x js c mine none in
-      let other : (j : ℕ) → j ≢ i → (published i x d).segments j ≡ d.segments j = λ j q. cond-false (eqb j i) Idle (d.segments j) (ne_eqb j i q) in
       subst (Leaves p l (event.Commit i) (HasCommitted n) c) (sym is) (record {
-        publishes = record {
-          call = refl;
-          x = x;
-          runs = mine;
-          some = some;
-          number = number;
-          history = ap (λ h. h ++ turn_of x ∷ []) came.quiet.history;
-          image = ap (λ h. overlay h x.changes) came.quiet.image;
-          threads = ap (λ ts. threads_after ts x) came.quiet.threads;
-          world = ap (λ w. world_after w x) came.quiet.world;
-          idle = cond-true (eqb i i) Idle (d.segments i) (eq-eqb i i refl);
-          unread = λ j y below runs a locked. unread_by j y below (cases_Bool (eqb j i)) runs a locked cleared;
-        };
-        beside = beside_end p l.length (event.Commit i) 0 1 c d (published i x d) came none_yet (inr (x, cleared.mine, refl)) refl other;
+        publishes = record { call = refl; x = x; runs = mine; number = number; turn = turn_added p l i x c c d.cause mine some none came.quiet };
+        beside = beside_end p l.length (event.Commit i) (IsLookedAt i) 0 1 c d (published i x d) came (λ f h. h) none_yet (inr (x, cleared.mine, refl)) refl (λ j q. cond-false (eqb j i) Idle (d.segments j) (ne_eqb j i q));
         told = tt;
       })
-    where
-      unread_by : (j : ℕ) (y : Transaction S) → j < l.segments → (eqb j i ≡ true) ⊎ (eqb j i ≡ false)
-          → (published i x (doom_readers i x (range_with_len 0 l.segments) c)).segments j ≡ Running y → (a : ℕ)
-          → mem a x.changed ≡ true
-          → Clears p l.length i x (range_with_len 0 l.segments) c (doom_readers i x (range_with_len 0 l.segments) c) → y.looked a ≡ false
-      unread_by j y below (inl same) runs a locked r =
-          absurd (let clash : Idle ≡ Running y = sym (cond-true (eqb j i) Idle ((doom_readers i x (range_with_len 0 l.segments) c).segments j) same) ∙ runs in cc)
-      unread_by j y below (inr other) runs a locked r =
-          let on : (doom_readers i x (range_with_len 0 l.segments) c).segments j ≡ Running y = sym (cond-false (eqb j i) Idle ((doom_readers i x (range_with_len 0 l.segments) c).segments j) other) ∙ runs in
-          met_none x.changed y.looked a (r.unread j y (mem_range 0 l.segments j (omega arith) (omega arith)) (eqb-false j i other) on) locked
 
   beaten_calm : (f : Conflict) (c c1 : CoreState S) → Beaten p i x f c → c1 ≡ with_conflict f (with_segment i Idle c) → Calm p l.length (event.Commit i) (Lost f) c c1
   beaten_calm f c c1 b is =
       let own : (loser f).segment ≡ i = ap (λ (z : Side). z.segment) (cond-true (eqb f.lost 0) f.writer f.other (ap (λ n. eqb n 0) b.lost)) ∙ b.writer in
       let v = with_conflict f (with_segment i Idle c) in
       subst (Calm p l.length (event.Commit i) (Lost f) c) (sym is)
-      (calm_end p l.length (event.Commit i) (Lost f) 0 1 c v (came_loses p l.length (event.Commit i) f c b.stands (b.writer, b.looked) own) none_yet (inl refl) (cond-true (eqb i i) Idle (c.segments i) (eq-eqb i i refl), inr (Contains-push [] f, own)))
+      (calm_end p l.length (event.Commit i) (Lost f) (IsLookedAt i) 0 1 c v (came_loses p l.length i (IsLookedAt i) f c b.stands (b.writer, b.looked) own) (λ g h. h) none_yet (inl refl) (cond-true (eqb i i) Idle (c.segments i) (eq-eqb i i refl), inr (Contains-push [] f, own)))
 
-  ends_leave : (result : Result Commit Conflict) (c c1 : CoreState S) → c.segments i ≡ Running x → CommitEnds p i l.segments x result c c1 → Leaves p l (event.Commit i) (commit_reply result) c c1
-  ends_leave (Ok commit.Nothing) c c1 is h = let z = calm_idle p l.length (event.Commit i) Nothing c c1 tt h.1 in record { publishes = z.quiet; beside = z.beside; told = z.told }
-  ends_leave (Ok (commit.Committed n)) c c1 is h = commit_done n c is h.0 h.1 h.2 c1 h.3
-  ends_leave (Err f) c c1 is h = let z = beaten_calm f c c1 h.1 h.2 in record { publishes = z.quiet; beside = z.beside; told = z.told }
+  commit_ends : (result : Result Commit Conflict) (c c1 : CoreState S) → c.segments i ≡ Running x → CommitEnds p i l.segments x result c c1 → Leaves p l (event.Commit i) (commit_reply result) c c1
+  commit_ends (Ok commit.Nothing) c c1 is h = calm_leaves p l (event.Commit i) Nothing c c1 (λ q. q) (calm_idle p l.length (event.Commit i) Nothing c c1 tt h.1)
+  commit_ends (Ok (commit.Committed n)) c c1 is h = commit_done n c is h.0 h.1 h.2 c1 h.3
+  commit_ends (Err f) c c1 is h = calm_leaves p l (event.Commit i) (Lost f) c c1 (λ q. q) (beaten_calm f c c1 h.1 h.2)
 
 commit_leaves : {S : Type 0} (p : Prog S) (l : Limits) (k : ℕ) (s : Segment S) (result : Result Commit Conflict)
     (c c1 : CoreState S) → c.segments k ≡ s → CommitOf p k l.segments s result c c1
     → Leaves p l (event.Commit k) (commit_reply result) c c1
 commit_leaves p l k Idle result c c1 is h = absurd h
 commit_leaves {S} p l k (Doomed f) result c c1 is h =
-    let z = calm_idle p l.length (event.Commit k) (Lost f) c c1 (cond-true (eqb k k) Idle (c.segments k) (eq-eqb k k refl), inl is) h.1 in
-    subst (λ (r : Result Commit Conflict). Leaves p l (event.Commit k) (commit_reply r) c c1) (sym h.0) (record { publishes = z.quiet; beside = z.beside; told = z.told })
-commit_leaves p l k (Running x) result c c1 is h = ends_leave p l k x result c c1 is h
+    subst (λ (r : Result Commit Conflict). Leaves p l (event.Commit k) (commit_reply r) c c1) (sym h.0)
+    (calm_leaves p l (event.Commit k) (Lost f) c c1 (λ q. q) (calm_idle p l.length (event.Commit k) (Lost f) c c1 (cond-true (eqb k k) Idle (c.segments k) (eq-eqb k k refl), inl is) h.1))
+commit_leaves p l k (Running x) result c c1 is h = commit_ends p l k x result c c1 is h
 
 -- ---- events
 
-made_leaves : {S : Type 0} (p : Prog S) (l : Limits) (e : Event) (r : Reply) (c c1 : CoreState S)
-    → Made p l e r c c1 → Leaves p l e r c c1
-made_leaves {S} p l (event.Begin k t) r c c1 h =
-    let z = begin_calm p l k t h.0 c c1 h.2 in
-    subst (λ (r : Reply). Leaves p l (event.Begin k t) r c c1) (sym h.1) (record { publishes = begin_publishes l (event.Begin k t) h.0 c c1 z.quiet; beside = z.beside; told = z.told })
-made_leaves {S} p l (event.Advance k m) r c c1 h =
-    let z = advance_calm p l.length k m h.1 l.words (c.segments k) c h.0 c1 refl h.3 in
-    subst (λ (r : Reply). Leaves p l (event.Advance k m) r c c1) (sym h.2) (record { publishes = advance_publishes l (event.Advance k m) h.0 c c1 z.quiet; beside = z.beside; told = z.told })
-made_leaves {S} p l (event.Commit k) r c c1 h =
-    subst (λ (r : Reply). Leaves p l (event.Commit k) r c c1) (sym h.1) (commit_leaves p l k (c.segments k) h.0 c c1 refl h.2)
+made_leaves : {S : Type 0} (p : Prog S) (l : Limits) (e : Event) (r : Reply) (o o1 : Outer S) → Made p l e r o o1 → Leaves p l e r o.core o1.core
+made_leaves p l (event.Begin k t) r o o1 h =
+    subst (λ r. Leaves p l (event.Begin k t) r o.core o1.core) (sym h.1)
+    (calm_leaves p l (event.Begin k t) (begin_reply h.0) o.core o1.core (begin_publishes p l (event.Begin k t) h.0 o.core o1.core) (begin_calm p l k t h.0 o.core o1.core h.2.0))
+made_leaves p l (event.Advance k m) r o o1 h =
+    subst (λ r. Leaves p l (event.Advance k m) r o.core o1.core) (sym h.2) (advance_leaves p l k m h.1 (o.core.segments k) o h.0 o1 refl h.3)
+made_leaves p l (event.Solo k) r o o1 h =
+    subst (λ r. Leaves p l (event.Solo k) r o.core o1.core) (sym h.1)
+    (calm_leaves p l (event.Solo k) (solo_reply h.0) o.core o1.core (solo_publishes p l (event.Solo k) h.0 o.core o1.core) (solo_calm p l.length k (o.core.segments k) h.0 o o1 refl h.2))
+made_leaves p l (event.Commit k) r o o1 h =
+    subst (λ r. Leaves p l (event.Commit k) r o.core o1.core) (sym h.1) (commit_leaves p l k (o.core.segments k) h.0 o.core o1.core refl h.2.0)
 
-event_leaves : {S : Type 0} (p : Prog S) (l : Limits) (e : Event) (b : Bool) (r : Reply) (c c1 : CoreState S)
-    → MadeIf p l e b r c c1 → Leaves p l e r c c1
-event_leaves p l e true r c c1 h = made_leaves p l e r c c1 h
-event_leaves {S} p l e false r c c1 h =
-    let z = calm_same p l.length e Skipped c c1 tt h.1 in
-    subst (λ (r : Reply). Leaves p l e r c c1) (sym h.0) (record { publishes = z.quiet; beside = z.beside; told = z.told })
+event_leaves : {S : Type 0} (p : Prog S) (l : Limits) (e : Event) (b : Bool) (r : Reply) (o o1 : Outer S) → MadeIf p l e b r o o1 → Leaves p l e r o.core o1.core
+event_leaves p l e true r o o1 h = made_leaves p l e r o o1 h
+event_leaves {S} p l e false r o o1 h =
+    subst (λ r. Leaves p l e r o.core o1.core) (sym h.0)
+    (calm_leaves p l e Skipped o.core o1.core (λ q. q) (calm_same p l.length e Skipped o.core o1.core tt (ap (λ (z : Outer S). z.core) h.1)))
 
-pub all_leave : {S : Type 0} (p : Prog S) (l : Limits) (es : List Event) (rs : List Reply) (c c1 : CoreState S)
-    → EventsMade p l es rs c c1 → AllLeave p l es rs c c1
-all_leave p l [] [] c c1 h = h
-all_leave p l [] (r ∷ rs) c c1 h = absurd h
-all_leave p l (e ∷ es) [] c c1 h = absurd h
-all_leave p l (e ∷ es) (r ∷ rs) c c1 h =
-    (h.0, event_leaves p l e (may_make l c e) r c h.0 h.1, all_leave p l es rs h.0 c1 h.2)
+pub all_leave : {S : Type 0} (p : Prog S) (l : Limits) (es : List Event) (rs : List Reply) (o o1 : Outer S) → EventsMade p l es rs o o1 → AllLeave p l es rs o.core o1.core
+all_leave {S} p l [] [] o o1 h = ap (λ (z : Outer S). z.core) h
+all_leave p l [] (r ∷ rs) o o1 h = absurd h
+all_leave p l (e ∷ es) [] o o1 h = absurd h
+all_leave {S} p l (e ∷ es) (r ∷ rs) o o1 h =
+    let u : Outer S = h.0 in
+    (u.core, event_leaves p l e (may_make l o.core e) r o u h.1, all_leave p l es rs u o1 h.2)
 
 -- ---- from the first to the last
 
-grown_quiet : {S : Type 0} (ns : List ℕ) (c u c1 : CoreState S) (new : List Conflict) → IsQuiet c u
-    → u.conflicts ≡ c.conflicts ++ new → IsGrown ns u c1 → IsGrown ns c c1
-grown_quiet ns c u c1 new q f g = record {
-  turns = g.turns;
-  history = g.history ∙ ap (λ h. h ++ g.turns) q.history;
-  numbered = g.numbered ∙ ap (λ h. range_with_len (length h) (length g.turns)) q.history;
-  new = new ++ g.new;
-  conflicts = g.conflicts ∙ ap (λ h. h ++ g.new) f ∙ append_assoc c.conflicts new g.new;
-  quiet = λ e. quiet_then c u c1 q (g.quiet e);
-}
+-- the numbers of turns that were replied, and how many events failed
+record Grown {S : Type 0} (numbers : List ℕ) (failed : ℕ) (c c1 : CoreState S) : Type 0 where
+  turns : List Turn
+  history : c1.history ≡ c.history ++ turns
+  ascend : AllPairs (λ (m n : ℕ). m < n) numbers
+  places : All (λ (n : ℕ). (length c.history ≤ n) × (n < length c1.history)) numbers
+  others : length turns ≤ length numbers + failed
+  new : List Conflict
+  conflicts : c1.conflicts ≡ c.conflicts ++ new
+  quiet : turns ≡ [] → IsQuiet c c1
 
-grown_commit : {S : Type 0} (l : Limits) (e : Event) (n : ℕ) (ns : List ℕ) (c u c1 : CoreState S) (new : List Conflict) → IsCommit l e n c u → u.conflicts ≡ c.conflicts ++ new → IsGrown ns u c1 → IsGrown (n ∷ ns) c c1
-grown_commit l e n ns c u c1 new q f g =
-    let more : length u.history ≡ length c.history + 1 = ap length q.history ∙ length-append c.history (turn_of q.x ∷ []) in
-    record {
-      turns = turn_of q.x ∷ g.turns;
-      history = g.history ∙ ap (λ h. h ++ g.turns) q.history ∙ append_assoc c.history (turn_of q.x ∷ []) g.turns;
-      numbered =
-          ap (λ z. n ∷ z) (g.numbered ∙ ap (λ i. range_with_len i (length g.turns)) more) ∙ ap (λ i. i ∷ range_with_len (length c.history + 1) (length g.turns)) q.number;
+module _ {S : Type 0} (ns : List ℕ) (failed : ℕ) (c u c1 : CoreState S) (new : List Conflict) (more : u.conflicts ≡ c.conflicts ++ new) (g : Grown ns failed u c1) where
+  grown_conflicts : c1.conflicts ≡ c.conflicts ++ (new ++ g.new)
+  grown_conflicts = g.conflicts ∙ ap (λ h. h ++ g.new) more ∙ append_assoc c.conflicts new g.new
+
+  -- places in what comes after are places
+  grown_places : length c.history ≤ length u.history → All (λ (n : ℕ). (length c.history ≤ n) × (n < length c1.history)) ns
+  grown_places le = All-weaker (λ (n : ℕ). (length u.history ≤ n) × (n < length c1.history)) (λ (n : ℕ). (length c.history ≤ n) × (n < length c1.history)) (λ n h. (let a = h.0 in omega (arith, le, a), h.1)) ns g.places
+
+  -- nothing was committed
+  grown_quiet : (i : ℕ) → failed ≤ i → IsQuiet c u → Grown ns i c c1
+  grown_quiet i le q = record {
+    turns = g.turns;
+    history = g.history ∙ ap (λ h. h ++ g.turns) q.history;
+    ascend = g.ascend;
+    places = grown_places (let e = ap length q.history in omega (arith, e));
+    others = let o = g.others in omega (arith, o, le);
+    new = new ++ g.new;
+    conflicts = grown_conflicts;
+    quiet = λ e. quiet_then c u c1 q (g.quiet e);
+  }
+
+  -- a turn was added
+  module _ (t : Turn) (is : u.history ≡ c.history ++ t ∷ []) where
+    one_more : length u.history ≡ length c.history + 1
+    one_more = ap length is ∙ length-append c.history (t ∷ [])
+
+    with_turn : c1.history ≡ c.history ++ t ∷ g.turns
+    with_turn = g.history ∙ ap (λ h. h ++ g.turns) is ∙ append_assoc c.history (t ∷ []) g.turns
+
+    -- with its number
+    grown_commit : (n i : ℕ) → failed ≤ i → n ≡ length c.history → Grown (n ∷ ns) i c c1
+    grown_commit n i le number = record {
+      turns = t ∷ g.turns;
+      history = with_turn;
+      ascend = AllPairs-cons (λ (m n : ℕ). m < n) n ns (All-weaker (λ (j : ℕ). (length u.history ≤ j) × (j < length c1.history)) (λ j. n < j) (λ j h. let a = h.0 in omega (arith, a, one_more, number)) ns g.places) g.ascend;
+      places = All-cons (λ (j : ℕ). (length c.history ≤ j) × (j < length c1.history)) n ns
+          (omega (arith, number), let e = ap length with_turn ∙ length-append c.history (t ∷ g.turns) in omega (arith, e, number)) (grown_places (omega (arith, one_more)));
+      others = let o = g.others in omega (arith, o, le);
       new = new ++ g.new;
-      conflicts = g.conflicts ∙ ap (λ h. h ++ g.new) f ∙ append_assoc c.conflicts new g.new;
-      quiet = λ d. absurd cc;
+      conflicts = grown_conflicts;
+      quiet = λ e. absurd cc;
     }
 
-grown_one : {S : Type 0} (l : Limits) (e : Event) (r : Reply) (rs : List Reply) (c u c1 : CoreState S) (new : List Conflict) → Publishes l e r c u → u.conflicts ≡ c.conflicts ++ new → IsGrown (numbers_of rs) u c1 → IsGrown (numbers_of (r ∷ rs)) c c1
-grown_one l e (HasCommitted n) rs c u c1 new q f g = grown_commit l e n (numbers_of rs) c u c1 new q f g
-grown_one l e Skipped rs c u c1 new q f g = grown_quiet (numbers_of rs) c u c1 new q f g
-grown_one l e HasBegun rs c u c1 new q f g = grown_quiet (numbers_of rs) c u c1 new q f g
-grown_one l e (Refused y) rs c u c1 new q f g = grown_quiet (numbers_of rs) c u c1 new q f g
-grown_one l e (HasAdvanced a) rs c u c1 new q f g = grown_quiet (numbers_of rs) c u c1 new q f g
-grown_one l e Nothing rs c u c1 new q f g = grown_quiet (numbers_of rs) c u c1 new q f g
-grown_one l e (Lost y) rs c u c1 new q f g = grown_quiet (numbers_of rs) c u c1 new q f g
-grown_one l e (Failed y) rs c u c1 new q f g = grown_quiet (numbers_of rs) c u c1 new q f g
+    -- without one
+    grown_cut : (i : ℕ) → suc failed ≤ i → Grown ns i c c1
+    grown_cut i le = record {
+      turns = t ∷ g.turns;
+      history = with_turn;
+      ascend = g.ascend;
+      places = grown_places (omega (arith, one_more));
+      others = let o = g.others in omega (arith, o, le);
+      new = new ++ g.new;
+      conflicts = grown_conflicts;
+      quiet = λ e. absurd cc;
+    }
 
-pub all_grown : {S : Type 0} (p : Prog S) (l : Limits) (es : List Event) (rs : List Reply) (c c1 : CoreState S)
-    → AllLeave p l es rs c c1 → IsGrown (numbers_of rs) c c1
-all_grown p l [] [] c c1 h = record {
+grown_one : {S : Type 0} (p : Prog S) (l : Limits) (e : Event) (r : Reply) (rs : List Reply) (c u c1 : CoreState S) (new : List Conflict) → Publishes p l e r c u → u.conflicts ≡ c.conflicts ++ new → Grown (numbers_of rs) (count_by has_failed rs) u c1
+    → Grown (numbers_of (r ∷ rs)) (count_by has_failed (r ∷ rs)) c c1
+grown_one {S} p l e r rs c u c1 new q f g = by_reply r q (sum_by-cons (λ (z : Reply). cond (has_failed z) 1 0) r rs)
+  where
+    by_reply : (r : Reply) → Publishes p l e r c u → count_by has_failed (r ∷ rs) ≡ cond (has_failed r) 1 0 + count_by has_failed rs → Grown (numbers_of (r ∷ rs)) (count_by has_failed (r ∷ rs)) c c1
+    by_reply (HasCommitted n) q is = grown_commit (numbers_of rs) (count_by has_failed rs) c u c1 new f g (turn_of q.x) q.turn.history n (count_by has_failed (HasCommitted n ∷ rs)) (omega (arith, is)) q.number
+    by_reply (Failed y) (inl q) is = grown_quiet (numbers_of rs) (count_by has_failed rs) c u c1 new f g (count_by has_failed (Failed y ∷ rs)) (omega (arith, is)) q
+    by_reply (Failed y) (inr q) is = grown_cut (numbers_of rs) (count_by has_failed rs) c u c1 new f g (turn_of q.x) q.turn.history (count_by has_failed (Failed y ∷ rs)) (omega (arith, is))
+    by_reply Skipped q is = grown_quiet (numbers_of rs) (count_by has_failed rs) c u c1 new f g (count_by has_failed (Skipped ∷ rs)) (omega (arith, is)) q
+    by_reply HasBegun q is = grown_quiet (numbers_of rs) (count_by has_failed rs) c u c1 new f g (count_by has_failed (HasBegun ∷ rs)) (omega (arith, is)) q
+    by_reply (Refused y) q is = grown_quiet (numbers_of rs) (count_by has_failed rs) c u c1 new f g (count_by has_failed (Refused y ∷ rs)) (omega (arith, is)) q
+    by_reply (HasAdvanced a) q is = grown_quiet (numbers_of rs) (count_by has_failed rs) c u c1 new f g (count_by has_failed (HasAdvanced a ∷ rs)) (omega (arith, is)) q
+    by_reply IsSolo q is = grown_quiet (numbers_of rs) (count_by has_failed rs) c u c1 new f g (count_by has_failed (IsSolo ∷ rs)) (omega (arith, is)) q
+    by_reply (Unsolo y) q is = grown_quiet (numbers_of rs) (count_by has_failed rs) c u c1 new f g (count_by has_failed (Unsolo y ∷ rs)) (omega (arith, is)) q
+    by_reply Nothing q is = grown_quiet (numbers_of rs) (count_by has_failed rs) c u c1 new f g (count_by has_failed (Nothing ∷ rs)) (omega (arith, is)) q
+    by_reply (Lost y) q is = grown_quiet (numbers_of rs) (count_by has_failed rs) c u c1 new f g (count_by has_failed (Lost y ∷ rs)) (omega (arith, is)) q
+
+grown : {S : Type 0} (p : Prog S) (l : Limits) (es : List Event) (rs : List Reply) (c c1 : CoreState S) → AllLeave p l es rs c c1 → Grown (numbers_of rs) (count_by has_failed rs) c c1
+grown {S} p l [] [] c c1 h = record {
   turns = [];
-  history = ap (λ (z : CoreState _). z.history) h ∙ sym (append-nil c.history);
-  numbered = refl;
+  history = ap (λ (z : CoreState S). z.history) h ∙ sym (append-nil c.history);
+  ascend = λ i j d lt below. absurd (omega (arith, below));
+  places = All-nil (λ (n : ℕ). (length c.history ≤ n) × (n < length c1.history));
+  others = omega arith;
   new = [];
-  conflicts = ap (λ (z : CoreState _). z.conflicts) h ∙ sym (append-nil c.conflicts);
+  conflicts = ap (λ (z : CoreState S). z.conflicts) h ∙ sym (append-nil c.conflicts);
   quiet = λ e. subst (IsQuiet c) (sym h) (quiet_none c);
 }
-all_grown p l [] (r ∷ rs) c c1 h = absurd h
-all_grown p l (e ∷ es) [] c c1 h = absurd h
-all_grown p l (e ∷ es) (r ∷ rs) c c1 h =
-    grown_one l e r rs c h.0 c1 h.1.beside.new h.1.publishes h.1.beside.conflicts (all_grown p l es rs h.0 c1 h.2)
+grown p l [] (r ∷ rs) c c1 h = absurd h
+grown p l (e ∷ es) [] c c1 h = absurd h
+grown p l (e ∷ es) (r ∷ rs) c c1 h = grown_one p l e r rs c h.0 c1 h.1.beside.new h.1.publishes h.1.beside.conflicts (grown p l es rs h.0 c1 h.2)
+
+pub all_grown : {S : Type 0} (p : Prog S) (l : Limits) (es : List Event) (rs : List Reply) (c c1 : CoreState S) → AllLeave p l es rs c c1 → IsGrown rs c c1
+all_grown p l es rs c c1 h =
+    let g = grown p l es rs c c1 h in
+    record { turns = g.turns; history = g.history; ascend = g.ascend; places = g.places; others = g.others; new = g.new; conflicts = g.conflicts; quiet = g.quiet }

@@ -1,5 +1,5 @@
 -- How a segment's view comes to hold a record, and what that leaves beside its own sight.
-use Rattle.std.proofs.Common.{◌≡◌, ◌≢◌, ◌⊎◌, ◌<◌, ◌≤◌, ℕ, Bool, true, false, cond, ◌||◌, eqb, List, [], ◌∷◌, ◌++◌, length, slice_get, slice_set, Option, Some, None, refl, sym, ◌∙◌, ap, subst, inl, inr, arith, IsSome, is_some, Result, Ok, Err, OnOk, All}
+use Rattle.std.proofs.Common.{◌≡◌, ◌≢◌, ◌⊎◌, ◌<◌, ◌≤◌, ℕ, Bool, true, false, cond, ◌||◌, eqb, List, [], ◌∷◌, ◌++◌, length, slice_get, slice_set, Option, Some, None, refl, sym, ◌∙◌, ap, subst, inl, inr, arith, IsSome, is_some, Result, Ok, Err, OnOk}
 use Rattle.std.proofs.lemmas.List.Elements.{All-append, All-cons, All-nil, All-weaker}
 use Rattle.std.proofs.lemmas.Bool.{cases_Bool, both_ways, or_cases, or_left, or_right, eqb-true, eqb-false, cond-true, cond-false}
 use Rattle.py_data.specs.declared.stop.Side.{Side}
@@ -7,7 +7,6 @@ use Rattle.py_data.specs.declared.stop.Conflict.{Conflict}
 use Rattle.py_data.specs.declared.stop.Stop.{Stop}
 use Rattle.py_data.specs.declared.stop.Stop.TheVariants.{Lost, OutOfMemory}
 use Rattle.py_data.specs.Heap.{Rec, Marks, Has, at, is_tracked}
-use Rattle.py_data.specs.World.{World}
 use Rattle.py_data.specs.Sight.{mem, with_mark}
 use Rattle.py_data.proofs.Grow.{mem_append}
 use Rattle.seg_store.specs.Meaning.{Part, Meaning, sees, saw, holds, overlay, with_part}
@@ -22,7 +21,7 @@ use Rattle.stm_core.specs.declared.books.Books.{Books}
 use Rattle.stm_core.specs.CoreState.{Transaction, Segment, Running, CoreState, with_segment, with_conflict, set_segment}
 use Rattle.stm_core.specs.Conflict.{side, wins}
 use Rattle.stm_core.specs.CoreState as model
-use Rattle.stm_core.specs.Books.{is_running, runs_at, side_of, transaction, segment_of, core_of}
+use Rattle.stm_core.specs.Books.{is_running, runs_at, side_of, Worlds, transaction, segment_of, core_of}
 use Rattle.stm_core.specs.Hold.{Hold, Dooms, Beside, LosesTo, Holds, Fails, FailWhy, is_noted, Looks, holding}
 use Rattle.stm_core.proofs.Publish.{get_set_other}
 use Rattle.stm_core.proofs.Looking.{noted_tracked}
@@ -41,6 +40,8 @@ beside_refl {asks = asks} k me d = record {
   segments = refl;
   limit = refl;
   reserved = omega arith;
+  hand = refl;
+  broken = refl;
   dooms = [];
   others = λ w. refl;
   asked = All-nil (λ (f : Conflict). asks f.at.0);
@@ -61,6 +62,8 @@ beside_weaker P Q k me d e w g = record {
   segments = g.segments;
   limit = g.limit;
   reserved = g.reserved;
+  hand = g.hand;
+  broken = g.broken;
   dooms = g.dooms;
   others = g.others;
   asked = All-weaker (λ (f : Conflict). P f.at.0) (λ (f : Conflict). Q f.at.0) (λ f h. w f.at.0 h) g.dooms g.asked;
@@ -80,6 +83,8 @@ beside_then {asks = asks} k me d e f g h = record {
   segments = h.segments ∙ g.segments;
   limit = h.limit ∙ g.limit;
   reserved = let a = g.reserved in let b = h.reserved in omega arith;
+  hand = h.hand ∙ g.hand;
+  broken = h.broken ∙ g.broken;
   dooms = g.dooms ++ h.dooms;
   others = λ w. dooms_then k me g.dooms h.dooms (core_of w d.meaning d.books) (core_of w e.meaning e.books) (core_of w f.meaning f.books) (g.others w) (h.others w);
   asked = All-append (λ (c : Conflict). asks c.at.0) g.dooms h.dooms g.asked h.asked;
@@ -93,20 +98,20 @@ beside_then {asks = asks} k me d e f g h = record {
 }
 
 -- the core's state doesn't show the part of a segment whose hand is empty
-pub core_own : {S : Type 0} (w : World) (k : ℕ) (q : Part) (m : Meaning) (b : Books S) → runs_at b.hands.items k ≡ false → core_of w (with_part k q m) b ≡ core_of w m b
+pub core_own : {S : Type 0} (w : Worlds) (k : ℕ) (q : Part) (m : Meaning) (b : Books S) → runs_at b.hands.items k ≡ false → core_of w (with_part k q m) b ≡ core_of w m b
 core_own {S} w k q m b out i = record (core_of w m b) { segments = λ j. same j i }
   where
-    idle : (o : Option (Hand S)) (p : Part) → is_running o ≡ false → segment_of w p o ≡ segment_of w (m.part k) o
+    idle : (o : Option (Hand S)) (p : Part) → is_running o ≡ false → segment_of w.own p o ≡ segment_of w.own (m.part k) o
     idle None p e = refl
     idle (Some Idle) p e = refl
     idle (Some (Doomed f)) p e = refl
     idle (Some (Runs x)) p e = absurd (both_ways true e refl)
 
-    same : (j : ℕ) → segment_of w ((with_part k q m).part j) (slice_get b.hands.items j) ≡ segment_of w (m.part j) (slice_get b.hands.items j)
+    same : (j : ℕ) → segment_of w.own ((with_part k q m).part j) (slice_get b.hands.items j) ≡ segment_of w.own (m.part j) (slice_get b.hands.items j)
     same j = elim (cases_Bool (eqb j k)) [
       | inl y ↦ let e : j ≡ k = eqb-true j k y in
-          subst (λ z. segment_of w ((with_part k q m).part z) (slice_get b.hands.items z) ≡ segment_of w (m.part z) (slice_get b.hands.items z)) (sym e) (idle (slice_get b.hands.items k) ((with_part k q m).part k) out)
-      | inr n ↦ ap (λ p. segment_of w p (slice_get b.hands.items j)) (other_part k q m j (eqb-false j k n))
+          subst (λ z. segment_of w.own ((with_part k q m).part z) (slice_get b.hands.items z) ≡ segment_of w.own (m.part z) (slice_get b.hands.items z)) (sym e) (idle (slice_get b.hands.items k) ((with_part k q m).part k) out)
+      | inr n ↦ ap (λ p. segment_of w.own p (slice_get b.hands.items j)) (other_part k q m j (eqb-false j k n))
     ]
 
 -- a call that changes the segment's own part alone
@@ -119,6 +124,8 @@ beside_own {asks = asks} k me m q r r1 b p o o1 out le shown made looked locks =
   segments = refl;
   limit = refl;
   reserved = le;
+  hand = refl;
+  broken = refl;
   dooms = [];
   others = λ w. core_own w k q m b out;
   asked = All-nil (λ (f : Conflict). asks f.at.0);
@@ -133,13 +140,13 @@ beside_own {asks = asks} k me m q r r1 b p o o1 out le shown made looked locks =
 
 -- ---- a doom
 
-pub core_doomed : {S : Type 0} (w : World) (j : ℕ) (f : Conflict) (m : Meaning) (b b1 : Books S) → j < length b.hands.items → b1 ≡ record b { hands = b1.hands; pending = b1.pending; conflicts = b1.conflicts }
+pub core_doomed : {S : Type 0} (w : Worlds) (j : ℕ) (f : Conflict) (m : Meaning) (b b1 : Books S) → j < length b.hands.items → b1 ≡ record b { hands = b1.hands; pending = b1.pending; conflicts = b1.conflicts }
     → b1.hands.items ≡ slice_set b.hands.items j (Doomed f) → b1.conflicts.entries ≡ b.conflicts.entries ++ f ∷ []
     → core_of w (after_drop j m) b1 ≡ with_conflict f (with_segment j (model.Doomed f) (core_of w m b))
 core_doomed {S} w j f m b b1 lt rest hs cs i = record {
   image = m.image;
   threads = ap (λ (z : Books S). z.threads.entries) rest i;
-  world = w;
+  world = w.committed;
   history = ap (λ (z : Books S). z.history.entries) rest i;
   conflicts = cs i;
   begun = ap (λ (z : Books S). z.begun) rest i;
@@ -148,36 +155,36 @@ core_doomed {S} w j f m b b1 lt rest hs cs i = record {
   segments = λ x. same x i;
 }
   where
-    same : (x : ℕ) → segment_of w ((after_drop j m).part x) (slice_get b1.hands.items x) ≡ set_segment j (model.Doomed f) (λ y. segment_of w (m.part y) (slice_get b.hands.items y)) x
+    same : (x : ℕ) → segment_of w.own ((after_drop j m).part x) (slice_get b1.hands.items x) ≡ set_segment j (model.Doomed f) (λ y. segment_of w.own (m.part y) (slice_get b.hands.items y)) x
     same x = elim (cases_Bool (eqb x j)) [
       | inl y ↦ let e : x ≡ j = eqb-true x j y in
-          ap (segment_of w ((after_drop j m).part x)) (ap (λ l. slice_get l x) hs ∙ ap (slice_get (slice_set b.hands.items j (Doomed f))) e ∙ get_set_same b.hands.items j (Doomed f) lt)
-          ∙ sym (cond-true (eqb x j) (model.Doomed f) (segment_of w (m.part x) (slice_get b.hands.items x)) y)
+          ap (segment_of w.own ((after_drop j m).part x)) (ap (λ l. slice_get l x) hs ∙ ap (slice_get (slice_set b.hands.items j (Doomed f))) e ∙ get_set_same b.hands.items j (Doomed f) lt)
+          ∙ sym (cond-true (eqb x j) (model.Doomed f) (segment_of w.own (m.part x) (slice_get b.hands.items x)) y)
       | inr n ↦ let e : x ≢ j = eqb-false x j n in
-          ap (segment_of w ((after_drop j m).part x)) (ap (λ l. slice_get l x) hs ∙ get_set_other b.hands.items j x (Doomed f) (λ q. e (sym q)))
-          ∙ ap (λ p. segment_of w p (slice_get b.hands.items x)) (other_part j (ended (m.part j)) m x e)
-          ∙ sym (cond-false (eqb x j) (model.Doomed f) (segment_of w (m.part x) (slice_get b.hands.items x)) n)
+          ap (segment_of w.own ((after_drop j m).part x)) (ap (λ l. slice_get l x) hs ∙ get_set_other b.hands.items j x (Doomed f) (λ q. e (sym q)))
+          ∙ ap (λ p. segment_of w.own p (slice_get b.hands.items x)) (other_part j (ended (m.part j)) m x e)
+          ∙ sym (cond-false (eqb x j) (model.Doomed f) (segment_of w.own (m.part x) (slice_get b.hands.items x)) n)
     ]
 
 -- the side of a segment that runs
-pub side_is : {S : Type 0} (w : World) (m : Meaning) (hs : List (Hand S)) (j : ℕ) (r : Side) (x : Work S) → slice_get hs j ≡ Some (Runs x) → r ≡ side_of j r (slice_get hs j) → r ≡ side j (transaction w (m.part j) x)
+pub side_is : {S : Type 0} (w : Worlds) (m : Meaning) (hs : List (Hand S)) (j : ℕ) (r : Side) (x : Work S) → slice_get hs j ≡ Some (Runs x) → r ≡ side_of j r (slice_get hs j) → r ≡ side j (transaction w.own (m.part j) x)
 side_is w m hs j r x e h = h ∙ ap (side_of j r) e
 
 pub dooms_one : {S : Type 0} (k : ℕ) (me : Side) (j : ℕ) (f : Conflict) (m : Meaning) (b b1 : Books S) → j ≢ k → runs_at b.hands.items j ≡ true → f.writer ≡ side_of j f.writer (slice_get b.hands.items j)
     → f.other ≡ me → f.asks ≡ true → f.lost ≡ 0 → wins me f.writer ≡ true → mem f.at.0 (m.part j).changed ≡ true
     → b1 ≡ record b { hands = b1.hands; pending = b1.pending; conflicts = b1.conflicts } → b1.hands.items ≡ slice_set b.hands.items j (Doomed f) → b1.conflicts.entries ≡ b.conflicts.entries ++ f ∷ []
-    → (w : World) → Dooms k me (f ∷ []) (core_of w m b) (core_of w (after_drop j m) b1)
+    → (w : Worlds) → Dooms k me (f ∷ []) (core_of w m b) (core_of w (after_drop j m) b1)
 dooms_one {S} k me j f m b b1 n r wr ot as' lo wi held rest hs cs w =
     let x = work_at b.hands.items j r in
-    let s : f.writer ≡ side j (transaction w (m.part j) x.0) = side_is w m b.hands.items j f.writer x.0 x.1 wr in
+    let s : f.writer ≡ side j (transaction w.own (m.part j) x.0) = side_is w m b.hands.items j f.writer x.0 x.1 wr in
     let sj : f.writer.segment ≡ j = ap (λ z. z.segment) s in
-    let run : (core_of w m b).segments j ≡ Running (transaction w (m.part j) x.0) = ap (segment_of w (m.part j)) x.1 in (
+    let run : (core_of w m b).segments j ≡ Running (transaction w.own (m.part j) x.0) = ap (segment_of w.own (m.part j)) x.1 in (
       core_of w (after_drop j m) b1,
       record {
         meets = record {
-          writer = transaction w (m.part j) x.0;
+          writer = transaction w.own (m.part j) x.0;
           writes = ap (core_of w m b).segments sj ∙ run;
-          writer_is = s ∙ ap (λ i. side i (transaction w (m.part j) x.0)) (sym sj);
+          writer_is = s ∙ ap (λ i. side i (transaction w.own (m.part j) x.0)) (sym sj);
           other = ot;
           differ = λ e. n (sym sj ∙ e);
           held = held;
@@ -190,16 +197,34 @@ dooms_one {S} k me j f m b b1 n r wr ot as' lo wi held rest hs cs w =
       refl,
     )
 
-pub beside_doom : {S : Type 0} {asks : ℕ → Type 0} (k : ℕ) (me : Side) (j : ℕ) (f : Conflict) (m : Meaning) (rs : ℕ) (b b1 : Books S) (p : Progress S) (o : Option Stop) → j ≢ k → ((w : World) → Dooms k me (f ∷ []) (core_of w m b) (core_of w (after_drop j m) b1))
-    → asks f.at.0 → Beside k me asks (holding m rs b p o) (holding (after_drop j m) rs b1 p o)
-beside_doom {asks = asks} k me j f m rs b b1 p o n ds why = let e = other_part j (ended (m.part j)) m k (λ q. n (sym q)) in record {
+-- what a doom of segment j, which isn't k, leaves of the books
+pub record DoomsHand {S : Type 0} (k : ℕ) (me : Side) (j : ℕ) (f : Conflict) (m : Meaning) (b b1 : Books S) : Type 0 where
+  pub other : j ≢ k
+  pub hand : slice_get b1.hands.items k ≡ slice_get b.hands.items k
+  pub broken : b1.broken ≡ b.broken
+  pub dooms : (w : Worlds) → Dooms k me (f ∷ []) (core_of w m b) (core_of w (after_drop j m) b1)
+
+pub dooms_hand : {S : Type 0} (k : ℕ) (me : Side) (j : ℕ) (f : Conflict) (m : Meaning) (b b1 : Books S) → j ≢ k → ((w : Worlds) → Dooms k me (f ∷ []) (core_of w m b) (core_of w (after_drop j m) b1))
+    → b1 ≡ record b { hands = b1.hands; pending = b1.pending; conflicts = b1.conflicts } → b1.hands.items ≡ slice_set b.hands.items j (Doomed f) → DoomsHand k me j f m b b1
+dooms_hand {S} k me j f m b b1 n ds rest hs = record {
+  other = n;
+  hand = ap (λ l. slice_get l k) hs ∙ get_set_other b.hands.items j k (Doomed f) n;
+  broken = ap (λ (z : Books S). z.broken) rest;
+  dooms = ds;
+}
+
+beside_doom : {S : Type 0} {asks : ℕ → Type 0} (k : ℕ) (me : Side) (j : ℕ) (f : Conflict) (m : Meaning) (rs : ℕ) (b b1 : Books S) (p : Progress S) (o : Option Stop) → DoomsHand k me j f m b b1 → asks f.at.0
+    → Beside k me asks (holding m rs b p o) (holding (after_drop j m) rs b1 p o)
+beside_doom {asks = asks} k me j f m rs b b1 p o ds why = let e = other_part j (ended (m.part j)) m k (λ q. ds.other (sym q)) in record {
   saw = ap (λ (z : Part). overlay m.image z.kept) e;
   image = refl;
   segments = refl;
   limit = refl;
   reserved = omega arith;
+  hand = ds.hand;
+  broken = ds.broken;
   dooms = f ∷ [];
-  others = ds;
+  others = ds.dooms;
   asked = All-cons (λ (c : Conflict). asks c.at.0) f [] why (All-nil (λ (c : Conflict). asks c.at.0));
   kept_names = refl;
   kept_started = refl;
@@ -264,7 +289,7 @@ looks_beside {S} {asks} me a k m m1 r b p o o1 out h = elim (looks_part a k m m1
 ]
   where
     again : Beside k me asks (holding m r b p o) (holding m r b p o) → Beside k me asks (holding m r b p o) (holding m r b p o1)
-    again s = record { saw = s.saw; image = s.image; segments = s.segments; limit = s.limit; reserved = s.reserved; dooms = s.dooms; others = s.others; asked = s.asked; kept_names = s.kept_names; kept_started = s.kept_started; names = s.names; started = s.started; made = s.made; looked = s.looked; locks = s.locks }
+    again s = record { saw = s.saw; image = s.image; segments = s.segments; limit = s.limit; reserved = s.reserved; hand = s.hand; broken = s.broken; dooms = s.dooms; others = s.others; asked = s.asked; kept_names = s.kept_names; kept_started = s.kept_started; names = s.names; started = s.started; made = s.made; looked = s.looked; locks = s.locks }
 
 pub looks_same : (a k : ℕ) (m m1 : Meaning) → Looks a k m m1 → (sees m1 k ≡ sees m k) × (holds (m1.part k) ≡ holds (m.part k)) × ((m1.part k).made ≡ (m.part k).made) × ((m1.part k).changed ≡ (m.part k).changed)
 looks_same a k m m1 h = elim (looks_part a k m m1 h) [
@@ -336,10 +361,9 @@ holds_locked {S} me a k m m1 r r1 b b1 p p1 o o1 out s there em er eb ep eo =
     ]
 
 -- first a doom of another segment, and then the record is held
-pub holds_after : {S : Type 0} (k : ℕ) (me : Side) (a j : ℕ) (f : Conflict) (m : Meaning) (r : ℕ) (b b1 : Books S) (p : Progress S) (o : Option Stop) (e : Hold S) → j ≢ k → ((w : World) → Dooms k me (f ∷ []) (core_of w m b) (core_of w (after_drop j m) b1))
-    → f.at.0 ≡ a → Holds k me a (holding (after_drop j m) r b1 p o) e → Holds k me a (holding m r b p o) e
-holds_after k me a j f m r b b1 p o e n ds at h =
-    let q = other_part j (ended (m.part j)) m k (λ x. n (sym x)) in
+pub holds_after : {S : Type 0} (k : ℕ) (me : Side) (a j : ℕ) (f : Conflict) (m : Meaning) (r : ℕ) (b b1 : Books S) (p : Progress S) (o : Option Stop) (e : Hold S) → DoomsHand k me j f m b b1 → f.at.0 ≡ a → Holds k me a (holding (after_drop j m) r b1 p o) e → Holds k me a (holding m r b p o) e
+holds_after k me a j f m r b b1 p o e ds at h =
+    let q = other_part j (ended (m.part j)) m k (λ x. ds.other (sym x)) in
     record {
       shown = h.shown ∙ ap (λ (z : Part). overlay m.image z.changes) q;
       touched = h.touched ∙ ap (λ (z : Part). with_mark a (holds z)) q;
@@ -347,7 +371,7 @@ holds_after k me a j f m r b b1 p o e n ds at h =
       made = h.made ∙ ap (λ (z : Part). z.made) q;
       progress = h.progress;
       stopped = h.stopped;
-      beside = beside_then k me (holding m r b p o) (holding (after_drop j m) r b1 p o) e (beside_doom k me j f m r b b1 p o n ds at) h.beside;
+      beside = beside_then k me (holding m r b p o) (holding (after_drop j m) r b1 p o) e (beside_doom k me j f m r b b1 p o ds at) h.beside;
       locks = λ c x. elim (h.locks c x) [ inl y ↦ inl (sym (ap (λ (z : Part). mem c z.changed) q) ∙ y) | inr y ↦ inr y ];
     }
 
@@ -361,6 +385,8 @@ beside_stop {asks = asks} k me m r r1 b p o o1 le = record {
   segments = refl;
   limit = refl;
   reserved = le;
+  hand = refl;
+  broken = refl;
   dooms = [];
   others = λ w. refl;
   asked = All-nil (λ (f : Conflict). asks f.at.0);
@@ -400,14 +426,14 @@ pub fails_lost : {S : Type 0} (k : ℕ) (me : Side) (a j : ℕ) (f : Conflict) (
     → m1 ≡ m → r1 ≡ r → b1 ≡ b → p1 ≡ p → o1 ≡ Some s → Fails k me a (holding m r b p o) s (holding m1 r1 b1 p1 o1)
 fails_lost {S} k me a j f m m1 r r1 b b1 p p1 o o1 s es n run at wr ot as' lo wi held em er eb ep eo =
     let x = work_at b.hands.items j run in
-    let why : (w : World) → LosesTo k me f (core_of w m b) = λ w.
-    let q : f.writer ≡ side j (transaction w (m.part j) x.0) = side_is w m b.hands.items j f.writer x.0 x.1 wr in
+    let why : (w : Worlds) → LosesTo k me f (core_of w m b) = λ w.
+    let q : f.writer ≡ side j (transaction w.own (m.part j) x.0) = side_is w m b.hands.items j f.writer x.0 x.1 wr in
     let sj : f.writer.segment ≡ j = ap (λ z. z.segment) q in
     record {
       meets = record {
-        writer = transaction w (m.part j) x.0;
-        writes = ap (core_of w m b).segments sj ∙ ap (segment_of w (m.part j)) x.1;
-        writer_is = q ∙ ap (λ i. side i (transaction w (m.part j) x.0)) (sym sj);
+        writer = transaction w.own (m.part j) x.0;
+        writes = ap (core_of w m b).segments sj ∙ ap (segment_of w.own (m.part j)) x.1;
+        writer_is = q ∙ ap (λ i. side i (transaction w.own (m.part j) x.0)) (sym sj);
         other = ot;
         differ = λ e. n (sym sj ∙ e);
         held = ap (λ z. mem z (m.part j).changed) at ∙ held;
@@ -420,13 +446,12 @@ fails_lost {S} k me a j f m m1 r r1 b b1 p p1 o o1 s es n run at wr ot as' lo wi
     (fails_alone k me a m m1 r r1 b b1 p p1 o o1 (Lost f) em (omega (arith, er)) eb ep (eo ∙ ap Some es) (at, why))
 
 -- first a doom of another segment, and then the call failed
-pub fails_after : {S : Type 0} (k : ℕ) (me : Side) (a j : ℕ) (f : Conflict) (m : Meaning) (r : ℕ) (b b1 : Books S) (p : Progress S) (o : Option Stop) (s : Stop) (e : Hold S) → j ≢ k → ((w : World) → Dooms k me (f ∷ []) (core_of w m b) (core_of w (after_drop j m) b1))
-    → f.at.0 ≡ a → Fails k me a (holding (after_drop j m) r b1 p o) s e → Fails k me a (holding m r b p o) s e
-fails_after k me a j f m r b b1 p o s e n ds at h =
-    let q = other_part j (ended (m.part j)) m k (λ x. n (sym x)) in
+pub fails_after : {S : Type 0} (k : ℕ) (me : Side) (a j : ℕ) (f : Conflict) (m : Meaning) (r : ℕ) (b b1 : Books S) (p : Progress S) (o : Option Stop) (s : Stop) (e : Hold S) → DoomsHand k me j f m b b1 → f.at.0 ≡ a → Fails k me a (holding (after_drop j m) r b1 p o) s e → Fails k me a (holding m r b p o) s e
+fails_after k me a j f m r b b1 p o s e ds at h =
+    let q = other_part j (ended (m.part j)) m k (λ x. ds.other (sym x)) in
     record {
       stopped = h.stopped;
-      beside = beside_then k me (holding m r b p o) (holding (after_drop j m) r b1 p o) e (beside_doom k me j f m r b b1 p o n ds at) h.beside;
+      beside = beside_then k me (holding m r b p o) (holding (after_drop j m) r b1 p o) e (beside_doom k me j f m r b b1 p o ds at) h.beside;
       why = h.why;
       looked = λ c x. elim (h.looked c x) [ inl y ↦ inl (sym (ap (λ (z : Part). z.looked c) q) ∙ y) | inr y ↦ inr y ];
       locks = λ c x. elim (h.locks c x) [ inl y ↦ inl (sym (ap (λ (z : Part). mem c z.changed) q) ∙ y) | inr y ↦ inr y ];
@@ -438,8 +463,7 @@ on_ok_two (Err x) f p q = tt
 
 -- the view once another segment was doomed
 pub record AfterDoom {S : Type 0} (k : ℕ) (me : Side) (j : ℕ) (f : Conflict) (m : Meaning) (r : ℕ) (b : Books S) (p : Progress S) (o : Option Stop) (k1 : ℕ) (me1 : Side) (m1 : Meaning) (r1 : ℕ) (b1 : Books S) (p1 : Progress S) (o1 : Option Stop) : Type 0 where
-  pub other : j ≢ k
-  pub dooms : (w : World) → Dooms k me (f ∷ []) (core_of w m b) (core_of w (after_drop j m) b1)
+  pub dooms : DoomsHand k me j f m b b1
   pub segment : k1 ≡ k
   pub me_is : me1 ≡ me
   pub meaning : m1 ≡ after_drop j m
@@ -454,7 +478,7 @@ module _ {S : Type 0} (k : ℕ) (me : Side) (j : ℕ) (f : Conflict) (m : Meanin
       (subst (λ z. P k me (holding z r1 b1 p1 o1)) d.meaning (subst (λ z. P k z (holding m1 r1 b1 p1 o1)) d.me_is (subst (λ z. P z me1 (holding m1 r1 b1 p1 o1)) d.segment h)))))
 
   pub holds_then : Holds k1 me1 a (holding m1 r1 b1 p1 o1) e → Holds k me a (holding m r b p o) e
-  holds_then h = holds_after k me a j f m r b b1 p o e d.other d.dooms at (moved (λ i s z. Holds i s a z e) h)
+  holds_then h = holds_after k me a j f m r b b1 p o e d.dooms at (moved (λ i s z. Holds i s a z e) h)
 
   pub fails_then : (s : Stop) → Fails k1 me1 a (holding m1 r1 b1 p1 o1) s e → Fails k me a (holding m r b p o) s e
-  fails_then s h = fails_after k me a j f m r b b1 p o s e d.other d.dooms at (moved (λ i z x. Fails i z a x s e) h)
+  fails_then s h = fails_after k me a j f m r b b1 p o s e d.dooms at (moved (λ i z x. Fails i z a x s e) h)

@@ -23,7 +23,7 @@ use Rattle.seg_store.specs.Meaning.{overlay}
 use Rattle.stm_core.specs.CoreState.{Transaction, Segment, Idle, Doomed, Running, CoreState, committed, turn_of, world_after, sight_of, set_segment, with_segment, with_conflict, fresh}
 use Rattle.stm_core.specs.Conflict.{loser, winner, wins, IsStanding, IsConflict}
 use Rattle.stm_core.specs.Good.{Stands, Apart, Unfinished, Good}
-use Rattle.stm_core.specs.Moves.{IsMetBy, Advances, IsFree, Stays, first_cause, begun_at, published, Move, Begins, Drops, Dooms, Loses, Goes, Rests, Commits, Keeps, Next, Follows}
+use Rattle.stm_core.specs.Moves.{Advances, IsFree, Stays, first_cause, begun_at, published, Move, Begins, Drops, Dooms, Loses, Goes, Rests, Commits, Keeps, Next, Follows}
 use Rattle.stm_core.proofs.Publish.{publish_stands, publish_turn, get_set_other, get_append}
 
 pub advance_stands : {S : Type 0} (c : Prog S) (h : Heap) (ts : List S) (w : World) (x x' : Transaction S) → Stands c h ts w x → Advances c h w x x' → Stands c h ts w x'
@@ -90,7 +90,7 @@ begin_stands {S} c k t p is lives = record {
     within = λ a e. refl;
     locked = λ a e. absurd (both_ways false refl e);
     unused = λ a e. absurd (both_ways false refl e);
-    world_is = λ e. refl;
+    world_is = λ e. absurd (both_ways false refl e);
     quiet = λ e. refl;
   };
 }

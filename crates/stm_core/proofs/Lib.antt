@@ -7,6 +7,10 @@ pub mod Fits
 pub mod Holding
 pub mod Changing
 pub mod Seeing
+pub mod Telling
+pub mod Counting
+pub mod Way
+pub mod Keeping
 pub mod Stepping
 pub mod Stopping
 pub mod Wholes
@@ -19,10 +23,20 @@ pub mod Committing
 pub mod Publishing
 pub mod Beginning
 pub mod Hands
-pub mod Standings
+pub mod StandsAgain
+pub mod Soloing
+pub mod FinishingLemmas
+mod Standings
 pub mod Settling
+pub mod Breaking
+pub mod Endings
 pub mod Advanced
 pub mod Calling
+pub mod TakenSteps
 pub mod EventSteps
+pub mod OutsideLemmas
+pub mod InnerMoves
+pub mod SoloMoves
+pub mod Came
 mod Histories
 pub mod Ends

@@ -4,7 +4,6 @@ use Rattle.std.specs.List.{sum_by, range_with_len}
 use Rattle.std.proofs.lemmas.Bool.{cases_Bool, both_ways, or_left, or_right, eqb-true, eqb-false, ne_eqb, cond-true, cond-false}
 use Rattle.std.proofs.lemmas.Option.{slice_get_within}
 use Rattle.std.proofs.lemmas.List.Sums.{sum_by-append}
-use Rattle.py_data.specs.Heap.{Heap}
 use Rattle.py_data.specs.World.{World}
 use Rattle.py_data.specs.Sight.{mem}
 use Rattle.py_data.specs.declared.stop.Conflict.{Conflict}
@@ -20,21 +19,22 @@ use Rattle.stm_core.specs.declared.books.Hand.TheVariants.{Idle as IdleHand, Doo
 use Rattle.stm_core.specs.declared.books.Books.{Books}
 use Rattle.stm_core.specs.declared.commit.Commit.{Commit}
 use Rattle.stm_core.specs.declared.commit.Commit.TheVariants.{Committed as AtTurn, Nothing}
-use Rattle.stm_core.specs.CoreState.{Transaction, Segment, Idle, Doomed, Running, CoreState, set_segment, with_segment, with_conflict}
-use Rattle.stm_core.specs.Conflict.{IsStanding}
+use Rattle.stm_core.specs.CoreState.{no_world, Transaction, Segment, Idle, Doomed, Running, CoreState, set_segment, with_segment, with_conflict}
 use Rattle.stm_core.specs.Good.{Good}
-use Rattle.stm_core.specs.Moves.{Drops, Loses, published}
-use Rattle.stm_core.specs.Books.{WorkFits, is_running, runs_at, one_running, one_started, is_lock, transaction, segment_of, core_of, Fit}
+use Rattle.stm_core.specs.Moves.{Move, Drops, Loses, Next, published}
+use Rattle.stm_core.specs.Books.{Worlds, worlds_after, WorkFits, is_running, runs_at, one_running, one_started, is_lock, transaction, segment_of, core_of, Fit}
 use Rattle.stm_core.specs.Passes.{met, doom_met, doom_one, doom_readers}
 use Rattle.stm_core.specs.Whole.{Whole}
 use Rattle.stm_core.specs.Advance.{core_with}
-use Rattle.stm_core.specs.SaneCore.{SaneCore}
+use Rattle.stm_core.specs.Outside.{Outer, InCore, Inner, IsInner, OuterLed, told_after}
+use Rattle.stm_core.specs.Devices.{DeviceState}
+use Rattle.stm_core.specs.SaneCore.{StandsFor, LeadsBetween}
 use Rattle.stm_core.specs.Begun.{CountsSteps}
 use Rattle.stm_core.specs.Committed.{Beaten, CommitEnds, CommitOf, Committed}
 use Rattle.stm_core.proofs.Publish.{get_set_other}
 use Rattle.stm_core.proofs.Fits.{get_set_same, sum_set, seen_image}
-use Rattle.stm_core.proofs.Kept.{good_next}
-use Rattle.stm_core.proofs.TwoPasses.{met_some, commit_good}
+use Rattle.stm_core.proofs.InnerMoves.{commit_led}
+use Rattle.stm_core.proofs.StandsAgain.{stands_told}
 use Rattle.stm_core.proofs.Wholes.{Set, core_set}
 use Rattle.stm_core.proofs.Settling.{core_taken}
 
@@ -87,11 +87,11 @@ module _ {S : Type 0} (k : ℕ) (m : Meaning) (b b1 : Books S) (x : Work S) wher
         threads = omega (arith, tr, pe, h);
       }
 
-  pub core_published : (w : World) → slice_get b.hands.items k ≡ Some IdleHand → Adds x b b1 → core_of w (after_publish k m) b1 ≡ published k (transaction w (m.part k) x) (core_with w k m b x)
+  pub core_published : (w : Worlds) → slice_get b.hands.items k ≡ Some IdleHand → Adds x b b1 → core_of (worlds_after w x) (after_publish k m) b1 ≡ published k (transaction w.own (m.part k) x) (core_with w k m b x)
   core_published w e a i = record {
     image = sees m k;
     threads = a.threads i;
-    world = w;
+    world = world_is i;
     history = a.history i;
     conflicts = ap (λ (z : Books S). z.conflicts.entries) a.rest i;
     begun = ap (λ (z : Books S). z.begun) a.rest i;
@@ -100,25 +100,28 @@ module _ {S : Type 0} (k : ℕ) (m : Meaning) (b b1 : Books S) (x : Work S) wher
     segments = λ j. same j i;
   }
     where
-      same : (j : ℕ) → segment_of w ((after_publish k m).part j) (slice_get b1.hands.items j)
-          ≡ set_segment k Idle (set_segment k (Running (transaction w (m.part k) x)) (λ y. segment_of w (m.part y) (slice_get b.hands.items y))) j
+      world_is : cond x.solo w.own w.committed ≡ cond x.solo (cond x.solo w.own no_world) w.committed
+      world_is = elim x.solo as (λ z. cond z w.own w.committed ≡ cond z (cond z w.own no_world) w.committed) [ true ↦ refl | false ↦ refl ]
+
+      same : (j : ℕ) → segment_of w.own ((after_publish k m).part j) (slice_get b1.hands.items j)
+          ≡ set_segment k Idle (set_segment k (Running (transaction w.own (m.part k) x)) (λ y. segment_of w.own (m.part y) (slice_get b.hands.items y))) j
       same j = elim (cases_Bool (eqb j k)) [
-        | inl y ↦ ap (segment_of w ((after_publish k m).part j)) (ap (λ l. slice_get l j) (hands_same a) ∙ ap (slice_get b.hands.items) (eqb-true j k y) ∙ e)
-            ∙ sym (cond-true (eqb j k) Idle (cond (eqb j k) (Running (transaction w (m.part k) x)) (segment_of w (m.part j) (slice_get b.hands.items j))) y)
-        | inr n ↦ ap (λ p. segment_of w p (slice_get b1.hands.items j)) (part_there j (eqb-false j k n)) ∙ ap (λ l. segment_of w (m.part j) (slice_get l j)) (hands_same a)
-            ∙ sym (cond-false (eqb j k) Idle (cond (eqb j k) (Running (transaction w (m.part k) x)) (segment_of w (m.part j) (slice_get b.hands.items j))) n
-            ∙ cond-false (eqb j k) (Running (transaction w (m.part k) x)) (segment_of w (m.part j) (slice_get b.hands.items j)) n)
+        | inl y ↦ ap (segment_of w.own ((after_publish k m).part j)) (ap (λ l. slice_get l j) (hands_same a) ∙ ap (slice_get b.hands.items) (eqb-true j k y) ∙ e)
+            ∙ sym (cond-true (eqb j k) Idle (cond (eqb j k) (Running (transaction w.own (m.part k) x)) (segment_of w.own (m.part j) (slice_get b.hands.items j))) y)
+        | inr n ↦ ap (λ p. segment_of w.own p (slice_get b1.hands.items j)) (part_there j (eqb-false j k n)) ∙ ap (λ l. segment_of w.own (m.part j) (slice_get l j)) (hands_same a)
+            ∙ sym (cond-false (eqb j k) Idle (cond (eqb j k) (Running (transaction w.own (m.part k) x)) (segment_of w.own (m.part j) (slice_get b.hands.items j))) n
+            ∙ cond-false (eqb j k) (Running (transaction w.own (m.part k) x)) (segment_of w.own (m.part j) (slice_get b.hands.items j)) n)
       ]
 
 -- while a transaction is out of its hand, the hand shows as idle
-pub left_idle : {S : Type 0} (w : World) (k : ℕ) (m : Meaning) (b : Books S) (x : Work S) → slice_get b.hands.items k ≡ Some IdleHand → core_of w m b ≡ with_segment k Idle (core_with w k m b x)
+pub left_idle : {S : Type 0} (w : Worlds) (k : ℕ) (m : Meaning) (b : Books S) (x : Work S) → slice_get b.hands.items k ≡ Some IdleHand → core_of w m b ≡ with_segment k Idle (core_with w k m b x)
 left_idle {S} w k m b x e i = record (core_of w m b) { segments = λ j. same j i }
   where
-    same : (j : ℕ) → segment_of w (m.part j) (slice_get b.hands.items j) ≡ set_segment k Idle (set_segment k (Running (transaction w (m.part k) x)) (λ y. segment_of w (m.part y) (slice_get b.hands.items y))) j
+    same : (j : ℕ) → segment_of w.own (m.part j) (slice_get b.hands.items j) ≡ set_segment k Idle (set_segment k (Running (transaction w.own (m.part k) x)) (λ y. segment_of w.own (m.part y) (slice_get b.hands.items y))) j
     same j = elim (cases_Bool (eqb j k)) [
-      | inl y ↦ ap (segment_of w (m.part j)) (ap (slice_get b.hands.items) (eqb-true j k y) ∙ e) ∙ sym (cond-true (eqb j k) Idle (cond (eqb j k) (Running (transaction w (m.part k) x)) (segment_of w (m.part j) (slice_get b.hands.items j))) y)
-      | inr n ↦ sym (cond-false (eqb j k) Idle (cond (eqb j k) (Running (transaction w (m.part k) x)) (segment_of w (m.part j) (slice_get b.hands.items j))) n
-          ∙ cond-false (eqb j k) (Running (transaction w (m.part k) x)) (segment_of w (m.part j) (slice_get b.hands.items j)) n)
+      | inl y ↦ ap (segment_of w.own (m.part j)) (ap (slice_get b.hands.items) (eqb-true j k y) ∙ e) ∙ sym (cond-true (eqb j k) Idle (cond (eqb j k) (Running (transaction w.own (m.part k) x)) (segment_of w.own (m.part j) (slice_get b.hands.items j))) y)
+      | inr n ↦ sym (cond-false (eqb j k) Idle (cond (eqb j k) (Running (transaction w.own (m.part k) x)) (segment_of w.own (m.part j) (slice_get b.hands.items j))) n
+          ∙ cond-false (eqb j k) (Running (transaction w.own (m.part k) x)) (segment_of w.own (m.part j) (slice_get b.hands.items j)) n)
     ]
 
 -- the second pass leaves the committed states and the history
@@ -178,29 +181,29 @@ module _ {S : Type 0} (k : ℕ) (m : Meaning) (b b1 : Books S) where
 
   module _ (x : Work S) (e : slice_get b.hands.items k ≡ Some (Runs x)) (s : Set k IdleHand b b1) where
     -- its thread is there
-    pub thread_there : (p : Prog S) (start : Machine S) (most : ℕ) (w : World) → Good p start most (core_of w m b) → x.thread < length b1.threads.entries
+    pub thread_there : (p : Prog S) (start : Machine S) (most : ℕ) (w : Worlds) → Good p start most (core_of w m b) → x.thread < length b1.threads.entries
     thread_there p start most w g =
-        let st = g.stands k (transaction w (m.part k) x) (ap (segment_of w (m.part k)) e) in
+        let st = g.stands k (transaction w.own (m.part k) x) (ap (segment_of w.own (m.part k)) e) in
         let lt = slice_get_within b.threads.entries x.thread st.before st.is in
         subst (λ (l : List S). x.thread < length l) (sym (ap (λ (z : Books S). z.threads.entries) s.rest)) lt
 
     -- its number is no other's
-    pub number_alone : (p : Prog S) (start : Machine S) (most : ℕ) (w : World) → Good p start most (core_of w m b) → (j : ℕ) (y : Work S) → slice_get b1.hands.items j ≡ Some (Runs y) → y.begun ≢ x.begun
+    pub number_alone : (p : Prog S) (start : Machine S) (most : ℕ) (w : Worlds) → Good p start most (core_of w m b) → (j : ℕ) (y : Work S) → slice_get b1.hands.items j ≡ Some (Runs y) → y.begun ≢ x.begun
     number_alone p start most w g j y h q =
         let here : slice_get b1.hands.items k ≡ Some IdleHand = ap (λ l. slice_get l k) s.hands ∙ get_set_same b.hands.items k IdleHand (slice_get_within b.hands.items k (Runs x) e) in
         let n : k ≢ j = λ d. (let u : Some IdleHand ≡ Some (Runs y) = sym here ∙ ap (slice_get b1.hands.items) d ∙ h in cc) in
         let there : slice_get b.hands.items j ≡ Some (Runs y) = sym (ap (λ l. slice_get l j) s.hands ∙ get_set_other b.hands.items k j IdleHand n) ∙ h in
-        (g.apart k j (transaction w (m.part k) x) (transaction w (m.part j) y) n (ap (segment_of w (m.part k)) e) (ap (segment_of w (m.part j)) there)).begun (sym q)
+        (g.apart k j (transaction w.own (m.part k) x) (transaction w.own (m.part j) y) n (ap (segment_of w.own (m.part k)) e) (ap (segment_of w.own (m.part j)) there)).begun (sym q)
 
     -- what the commit of the transaction makes of the core is what the commit of its segment makes of it
-    pub committed_taken : (p : Prog S) (w : World) (n : ℕ) (r : Result Commit Conflict) (c1 : CoreState S) → CommitEnds p k n (transaction w (m.part k) x) r (core_with w k m b1 x) c1 → Committed p k n r (core_of w m b) c1
+    pub committed_taken : (p : Prog S) (w : Worlds) (n : ℕ) (r : Result Commit Conflict) (c1 : CoreState S) → CommitEnds p k n (transaction w.own (m.part k) x) r (core_with w k m b1 x) c1 → Committed p k n r (core_of w m b) c1
     committed_taken p w n r c1 h =
-        subst (λ (z : Segment S). CommitOf p k n z r (core_of w m b) c1) (sym (ap (segment_of w (m.part k)) e))
-        (subst (λ (c : CoreState S). CommitEnds p k n (transaction w (m.part k) x) r c c1) (core_taken k m b b1 w x e s) h)
+        subst (λ (z : Segment S). CommitOf p k n z r (core_of w m b) c1) (sym (ap (segment_of w.own (m.part k)) e))
+        (subst (λ (c : CoreState S). CommitEnds p k n (transaction w.own (m.part k) x) r c c1) (core_taken k m b b1 w x e s) h)
 
-  pub committed_doomed : (p : Prog S) (f : Conflict) → slice_get b.hands.items k ≡ Some (DoomedHand f) → Set k IdleHand b b1 → (w : World) (n : ℕ) → Committed p k n (Err f) (core_of w m b) (core_of w m b1)
+  pub committed_doomed : (p : Prog S) (f : Conflict) → slice_get b.hands.items k ≡ Some (DoomedHand f) → Set k IdleHand b b1 → (w : Worlds) (n : ℕ) → Committed p k n (Err f) (core_of w m b) (core_of w m b1)
   committed_doomed p f e s w n =
-      subst (λ (z : Segment S). CommitOf p k n z (Err f) (core_of w m b) (core_of w m b1)) (sym (ap (segment_of w (m.part k)) e))
+      subst (λ (z : Segment S). CommitOf p k n z (Err f) (core_of w m b) (core_of w m b1)) (sym (ap (segment_of w.own (m.part k)) e))
       (refl, core_set k m b b1 w IdleHand s (slice_get_within b.hands.items k (DoomedHand f) e))
 
 -- ---- a commit keeps the core good
@@ -212,36 +215,43 @@ mem_range a (suc n) j le lt = elim (cases_Bool (eqb j a)) [
   | inr q ↦ let d = eqb-false j a q in or_right (eqb j a) (mem j (range_with_len (a + 1) n)) (mem_range (a + 1) n j (omega arith) (omega arith))
 ]
 
-module _ {S : Type 0} (p : Prog S) (start : Machine S) (most k n : ℕ) (c c1 : CoreState S) (g : Good p start most c) (within : (j : ℕ) (y : Transaction S) → c.segments j ≡ Running y → j < n) where
-  beaten_stands : (x : Transaction S) (f : Conflict) → c.segments k ≡ Running x → Beaten p k x f c → IsStanding p c f × (with_conflict f (with_segment k Idle c) ≡ with_conflict f (with_segment f.writer.segment Idle c)) × (f.lost ≡ 0)
-  beaten_stands x f is h = (h.stands, ap (λ i. with_conflict f (with_segment i Idle c)) (sym h.writer), h.lost)
+-- a call of commit is a list of moves, which tells the devices nothing
+module _ {S : Type 0} (p : Prog S) (most k n : ℕ) (o : Outer S) (within : (j : ℕ) (y : Transaction S) → o.core.segments j ≡ Running y → j < n) where
+  one_move : (m : Move S) (c1 : CoreState S) → Next p most o.core m c1 → IsInner m → ((w : World) → told_after m w ≡ w) → OuterLed p most o (record o { core = c1 })
+  one_move m c1 h i t = (Inner m ∷ [], (record o { core = c1 }, (c1, h, i, (λ z. record o { core = c1; told = sym (t o.told) z })), refl))
 
-  ends_good : (x : Transaction S) (r : Result Commit Conflict) → c.segments k ≡ Running x → CommitEnds p k n x r c c1 → Good p start most c1
-  ends_good x (Ok Nothing) is h = good_next p start most c c1 (Drops k) g ((λ y e s. (let q : x ≡ y = (let u : Running x ≡ Running y = sym is ∙ e in cc) in ap (λ (z : Transaction S). z.steps) (sym q) ∙ h.0)), h.1)
-  ends_good x (Ok (AtTurn i)) is h = subst (Good p start most) (sym h.3) (commit_good p start most k x (range_with_len 0 n) c g is h.0 h.1 (λ j y e. mem_range 0 n j (omega arith) (let lt = within j y e in omega (arith, lt))))
-  ends_good x (Err f) is h =
-      let b = beaten_stands x f is h.1 in
-      good_next p start most c c1 (Loses f) g (b.0, h.2 ∙ b.1 ∙ ap (λ l. with_conflict f (with_segment (cond (eqb l 0) f.writer f.other).segment Idle c)) (sym b.2))
+  lost_led : (x : Transaction S) (f : Conflict) → Beaten p k x f o.core → OuterLed p most o (record o { core = with_conflict f (with_segment k Idle o.core) })
+  lost_led x f h = one_move (Loses f) (with_conflict f (with_segment k Idle o.core)) (h.stands, ap (λ i. with_conflict f (with_segment i Idle o.core)) (sym h.writer) ∙ ap (λ l. with_conflict f (with_segment (cond (eqb l 0) f.writer f.other).segment Idle o.core)) (sym h.lost)) tt (λ w. refl)
 
-  committed_good : (r : Result Commit Conflict) → Committed p k n r c c1 → Good p start most c1
-  committed_good r h = go (c.segments k) refl h
+  ends_led : (x : Transaction S) (r : Result Commit Conflict) (c1 : CoreState S) → o.core.segments k ≡ Running x → CommitEnds p k n x r o.core c1 → OuterLed p most o (record o { core = c1 })
+  ends_led x (Ok Nothing) c1 is h = one_move (Drops k) c1 ((λ y e s. (let q : x ≡ y = (let u : Running x ≡ Running y = sym is ∙ e in cc) in ap (λ (z : Transaction S). z.steps) (sym q) ∙ h.0)), h.1) tt (λ w. refl)
+  ends_led x (Ok (AtTurn i)) c1 is h = subst (λ c. OuterLed p most o (record o { core = c })) (sym h.3) (commit_led p most k x (range_with_len 0 n) o is h.0 h.1 (λ j y e. mem_range 0 n j (omega arith) (let lt = within j y e in omega (arith, lt))))
+  ends_led x (Err f) c1 is h = subst (λ c. OuterLed p most o (record o { core = c })) (sym h.2) (lost_led x f h.1)
+
+  pub committed_led : (r : Result Commit Conflict) (c1 : CoreState S) → Committed p k n r o.core c1 → OuterLed p most o (record o { core = c1 })
+  committed_led r c1 h = go (o.core.segments k) refl h
     where
-      go : (s : Segment S) → c.segments k ≡ s → CommitOf p k n s r c c1 → Good p start most c1
+      go : (s : Segment S) → o.core.segments k ≡ s → CommitOf p k n s r o.core c1 → OuterLed p most o (record o { core = c1 })
       go Idle e q = absurd q
-      go (Doomed f) e q = good_next p start most c c1 (Drops k) g ((λ y d s. absurd (let u : Doomed f ≡ Running y = sym e ∙ d in cc)), q.1)
-      go (Running x) e q = ends_good x r e q
+      go (Doomed f) e q = one_move (Drops k) c1 ((λ y d s. absurd (let u : Doomed f ≡ Running y = sym e ∙ d in cc)), q.1) tt (λ w. refl)
+      go (Running x) e q = ends_led x r c1 e q
 
 -- a segment that runs has a hand
-running_within : {S : Type 0} (w : World) (m : Meaning) (b : Books S) (j : ℕ) (y : Transaction S) → length b.hands.items ≡ m.segments → (core_of w m b).segments j ≡ Running y → j < m.segments
+pub running_within : {S : Type 0} (w : Worlds) (m : Meaning) (b : Books S) (j : ℕ) (y : Transaction S) → length b.hands.items ≡ m.segments → (core_of w m b).segments j ≡ Running y → j < m.segments
 running_within {S} w m b j y len e = go (slice_get b.hands.items j) refl
   where
     go : (o : Option (Hand S)) → slice_get b.hands.items j ≡ o → j < m.segments
-    go None q = absurd (let u : Idle ≡ Running y = sym (ap (segment_of w (m.part j)) q) ∙ e in cc)
+    go None q = absurd (let u : Idle ≡ Running y = sym (ap (segment_of w.own (m.part j)) q) ∙ e in cc)
     go (Some h) q = subst (λ n. j < n) len (slice_get_within b.hands.items j h q)
 
-pub committed_sane : {S : Type 0} (p : Prog S) (sound : Heap → List S → Type 0) (most k : ℕ) (m m1 : Meaning) (b b1 : Books S) (r : Result Commit Conflict) → length b.hands.items ≡ m.segments
-    → ((w : World) → w.mid ≡ false → Committed p k m.segments r (core_of w m b) (core_of w m1 b1)) → SaneCore p sound most m b → SaneCore p sound most m1 b1
-committed_sane p sound most k m m1 b b1 r len h s = record {
-  first = s.first;
-  good = λ w d. committed_good p _ most k m.segments (core_of w m b) (core_of w m1 b1) (s.good w d) (λ j y e. running_within w m b j y len e) r (h w d);
-}
+pub stands_within : {S : Type 0} (p : Prog S) (most : ℕ) (first d : DeviceState) (m : Meaning) (b : Books S) (o : Outer S) → length b.hands.items ≡ m.segments → StandsFor p most first d m b o → (j : ℕ) (y : Transaction S) → o.core.segments j ≡ Running y → j < m.segments
+stands_within p most first d m b o len s j y e = running_within s.worlds m b j y len (subst (λ (c : CoreState _). c.segments j ≡ Running y) s.core e)
+
+pub committed_stands : {S : Type 0} (p : Prog S) (most k : ℕ) (first d : DeviceState) (m m1 : Meaning) (b b1 : Books S) (r : Result Commit Conflict) → length b.hands.items ≡ m.segments
+    → ((w : Worlds) → (w1 : Worlds) × Committed p k m.segments r (core_of w m b) (core_of w1 m1 b1)) → b1.broken ≡ b.broken → LeadsBetween (StandsFor p most first d m b) (StandsFor p most first d m1 b1) (InCore (Committed p k m.segments r))
+committed_stands p most k first d m m1 b b1 r len h same o s =
+    let z = h s.worlds in
+    let o1 = record o { core = core_of z.0 m1 b1 } in
+    let made : Committed p k m.segments r o.core (core_of z.0 m1 b1) = subst (λ c. Committed p k m.segments r c (core_of z.0 m1 b1)) (sym s.core) z.1 in
+    let ms = committed_led p most k m.segments o (stands_within p most first d m b o len s) r (core_of z.0 m1 b1) made in
+    (o1, stands_told p most first d m m1 b b1 o s z.0 same ms.0 ms.1, (made, refl))

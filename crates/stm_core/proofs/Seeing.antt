@@ -8,11 +8,10 @@ use Rattle.py_data.specs.declared.value.Addr.{Addr}
 use Rattle.py_data.specs.declared.value.Value.{Value}
 use Rattle.py_data.specs.declared.stop.Side.{Side}
 use Rattle.py_data.specs.declared.stop.Stop.{Stop}
-use Rattle.py_data.specs.declared.stop.Stop.TheVariants.{Lost, Full, OutOfMemory, NeedSolo}
+use Rattle.py_data.specs.declared.stop.Stop.TheVariants.{Lost, NeedSolo, NeedHeap, Full, ReadFault, WriteFault, ErrFault, OutOfMemory}
 use Rattle.py_data.specs.Heap.{Rec, Heap, Marks, Has, at, is_tracked, blank, put_at, length_by}
 use Rattle.py_base.specs.declared.kind.Kind.TheVariants.{Str as StrKind}
 use Rattle.py_base.specs.declared.kind.Kind.{Kind}
-use Rattle.py_data.specs.World.{World}
 use Rattle.py_data.specs.Collection.{places}
 use Rattle.py_data.specs.Shape.{Fits, find}
 use Rattle.py_data.specs.Sight.{looked_at, with_mark}
@@ -26,10 +25,9 @@ use Rattle.seg_store.specs.Store.{CanFind, IsFree, IsStore, IsStored, OneList}
 use Rattle.seg_store.proofs.Sees.{same_marks, own_part, make_shows}
 use Rattle.stm_core.specs.declared.books.Progress.{Progress}
 use Rattle.stm_core.specs.declared.books.Books.{Books}
-use Rattle.stm_core.specs.Books.{runs_at, segment_of, core_of, Fit}
+use Rattle.stm_core.specs.Books.{runs_at, Worlds, segment_of, core_of, Fit}
 use Rattle.stm_core.specs.Hold.{Hold, sight, Beside, SegDoes, SegRefuses, SegWhy, holding, is_noted, Looks, FaultWhy, stop_of}
 use Rattle.seg_store.specs.Extents.{Wants}
-use Rattle.stm_core.specs.Asking.{IsOuter}
 use Rattle.stm_core.specs.SegSense.{Seen}
 use Rattle.stm_core.proofs.Looking.{noted_fixed}
 use Rattle.stm_core.proofs.Holding.{looks_beside, looks_same, looks_mark, beside_own, beside_stop}
@@ -118,7 +116,10 @@ find_refused k me a key d s e h = record { stopped = h.stopped; beside = h.besid
     reason NeedSolo w = w
     reason (Full r n l) w = absurd w.0
     reason OutOfMemory w = w
-    reason _ w = absurd w
+    reason NeedHeap w = w
+    reason ReadFault w = w
+    reason WriteFault w = w
+    reason ErrFault w = w
 
 -- ---- a thread that starts
 
@@ -134,17 +135,17 @@ front_more n n1 xs ys x e f h =
     (omega (arith, e, l), ap (λ z. take z ys) e ∙ ap (take n) f ∙ take_front n xs (x ∷ []) h)
 
 -- room for more threads shows nothing
-core_started : {S : Type 0} (w : World) (m : Meaning) (b b1 : Books S) → b1 ≡ record b { threads = b1.threads; pending = b1.pending } → b1.threads.entries ≡ b.threads.entries → core_of w m b1 ≡ core_of w m b
+core_started : {S : Type 0} (w : Worlds) (m : Meaning) (b b1 : Books S) → b1 ≡ record b { threads = b1.threads; pending = b1.pending } → b1.threads.entries ≡ b.threads.entries → core_of w m b1 ≡ core_of w m b
 core_started {S} w m b b1 eb et i = record {
   image = m.image;
   threads = et i;
-  world = w;
+  world = w.committed;
   history = ap (λ (z : Books S). z.history.entries) eb i;
   conflicts = ap (λ (z : Books S). z.conflicts.entries) eb i;
   begun = ap (λ (z : Books S). z.begun) eb i;
   last = ap (λ (z : Books S). z.last) eb i;
   cause = ap (λ (z : Books S). z.cause) eb i;
-  segments = λ j. segment_of w (m.part j) (slice_get (ap (λ (z : Books S). z.hands.items) eb i) j);
+  segments = λ j. segment_of w.own (m.part j) (slice_get (ap (λ (z : Books S). z.hands.items) eb i) j);
 }
 
 pub start_done : {S : Type 0} (k : ℕ) (me : Side) (m : Meaning) (r : ℕ) (b b1 : Books S) (p p1 : Progress S) (o : Option Stop) (s : S) → runs_at b.hands.items k ≡ false → o ≡ None
@@ -162,6 +163,8 @@ start_done {S} k me m r b b1 p p1 o s out live eb et ep =
         segments = refl;
         limit = refl;
         reserved = omega arith;
+        hand = ap (λ (z : Books S). slice_get z.hands.items k) eb;
+        broken = ap (λ (z : Books S). z.broken) eb;
         dooms = [];
         others = λ w. core_started w m b b1 eb et;
         asked = All-nil (λ (f : Conflict). ⊥);
@@ -213,6 +216,8 @@ make_done {S} k me m m1 r r1 b b1 p p1 o o1 q a out live free em er eb ep eo =
         segments = moved.segments;
         limit = moved.limit;
         reserved = moved.reserved;
+        hand = moved.hand;
+        broken = moved.broken;
         dooms = moved.dooms;
         others = moved.others;
         asked = moved.asked;
@@ -237,12 +242,6 @@ make_refused {S} k me m m1 r r1 b b1 p p1 o o1 q x s em er eb ep es eo why =
     reason (FullStore u n l) w = w
     reason NoMemoryLeft w = tt
 
--- a call that prints or reads
-pub solo_refused : {S : Type 0} (k : ℕ) (me : Side) (c : Call S) (m m1 : Meaning) (r r1 : ℕ) (b b1 : Books S) (p p1 : Progress S) (o o1 : Option Stop) (s : Stop) → IsOuter c → s ≡ NeedSolo → o1 ≡ Some NeedSolo → m1 ≡ m → r1 ≡ r → b1 ≡ b → p1 ≡ p
-    → SegRefuses k me c (holding m r b p o) s (holding m1 r1 b1 p1 o1)
-solo_refused {S} k me c m m1 r r1 b b1 p p1 o o1 s outer es eo em er eb ep =
-    subst (λ z. SegRefuses k me c (holding m r b p o) z (holding m1 r1 b1 p1 o1)) (sym es) (refused_alone k me c m m1 r r1 b b1 p p1 o o1 NeedSolo em (omega (arith, er)) eb ep eo outer)
-
 -- a thread that can't be started
 pub start_refused : {S : Type 0} (k : ℕ) (me : Side) (x : S) (m m1 : Meaning) (r r1 : ℕ) (b b1 b2 : Books S) (p p1 p2 : Progress S) (o o1 : Option Stop) (s : Stop) → s ≡ OutOfMemory → o1 ≡ Some OutOfMemory → m1 ≡ m → r1 ≡ r
     → b1 ≡ record b { threads = b1.threads; pending = b1.pending } → b1.threads.entries ≡ b.threads.entries → b2 ≡ b1 → p1 ≡ p → p2 ≡ p1 → SegRefuses k me (Start x) (holding m r b p o) s (holding m1 r1 b2 p2 o1)
@@ -257,6 +256,8 @@ start_refused {S} k me x m m1 r r1 b b1 b2 p p1 p2 o o1 s es eo em er eb et eb2 
         segments = refl;
         limit = refl;
         reserved = omega arith;
+        hand = ap (λ (z : Books S). slice_get z.hands.items k) eb;
+        broken = ap (λ (z : Books S). z.broken) eb;
         dooms = [];
         others = λ w. core_started w m b b1 eb et;
         asked = All-nil (λ (f : Conflict). ⊥);

@@ -3,7 +3,6 @@ use Rattle.std.proofs.Common.{◌≡◌, ◌⊎◌, ◌<◌, ◌≤◌, ◌+◌,
 use Rattle.std.specs.List.{sum_by}
 use Rattle.std.proofs.lemmas.Bool.{cases_Bool, and_parts, or_cases, cond-true, cond-false, ltb-true, ltb-false, lt-ltb, le-ltb}
 use Rattle.std.proofs.lemmas.List.Sums.{sum_by-cons}
-use Rattle.py_data.specs.World.{World}
 use Rattle.lock_run.specs.Client.{Waiting}
 use Rattle.lock_run.specs.Prog.{Prog}
 use Rattle.lock_run.specs.RunState.{SomeReady, AllWait}
@@ -13,7 +12,7 @@ use Rattle.stm_core.specs.declared.books.Work.{Work}
 use Rattle.stm_core.specs.declared.books.Hand.{Hand}
 use Rattle.stm_core.specs.declared.books.Hand.TheVariants.{Idle, Doomed, Runs}
 use Rattle.stm_core.specs.CoreState.{CoreState, committed}
-use Rattle.stm_core.specs.Books.{one_running, core_of}
+use Rattle.stm_core.specs.Books.{Worlds, one_running, core_of}
 use Rattle.stm_core.specs.Begun.{IsReady, IsUnready, UnreadyAt}
 use Rattle.stm_core.specs.Standing.{sooner, IsNext, FirstReady, NoneRuns, IsAtRest}
 use Rattle.stm_core.proofs.Fits.{sum_set}
@@ -106,7 +105,7 @@ none_running : {S : Type 0} (hs : List (Hand S)) → sum_by one_running hs ≤ 0
 none_running hs h j y e = let s = sum_set one_running hs j (Runs y) Idle e in omega (arith, s, h)
 
 -- the core rests where no cause is kept and no hand runs
-pub at_rest : {S : Type 0} (w : World) (m : Meaning) (b : Books S) {n : ℕ} → b.cause ≡ None → n ≡ sum_by one_running b.hands.items → n ≤ 0 → IsAtRest (core_of w m b)
+pub at_rest : {S : Type 0} (w : Worlds) (m : Meaning) (b : Books S) {n : ℕ} → b.cause ≡ None → n ≡ sum_by one_running b.hands.items → n ≤ 0 → IsAtRest (core_of w m b)
 at_rest w m b e count none = (
   e,
   λ j x runs.

@@ -1,6 +1,6 @@
 -- One step of a client over a segment's view, as the core sees it.
-use Rattle.std.proofs.Common.{◌≡◌, ◌≤◌, ℕ, suc, false, List, [], ◌∷◌, length, take, refl, sym, ◌∙◌, ap, subst, inl, inr, arith, Result, Ok, Err, IfOk, IfErr, OnErr, All}
-use Rattle.std.proofs.lemmas.Bool.{or_left}
+use Rattle.std.proofs.Common.{◌≡◌, ℕ, true, false, cond, List, [], ◌∷◌, length, take, Option, None, refl, sym, ◌∙◌, ap, subst, inl, inr, arith, Result, Ok, Err, IfErr, OnErr, All}
+use Rattle.std.proofs.lemmas.Bool.{cases_Bool, both_ways, or_left, cond-true, cond-false}
 use Rattle.std.proofs.lemmas.List.{take_all}
 use Rattle.py_data.specs.declared.value.Addr.{Addr}
 use Rattle.py_data.specs.declared.stop.Side.{Side}
@@ -14,26 +14,32 @@ use Rattle.py_data.specs.Sense.{Run, Stopped, Upto}
 use Rattle.py_data.specs.Sight.{Sight, Does, mem, pure}
 use Rattle.py_data.specs.Steady.{AsksToPrint}
 use Rattle.lock_run.specs.declared.client.Outcome.{Outcome}
+use Rattle.lock_run.specs.declared.client.Outcome.TheVariants.{Waits as WaitsNow}
 use Rattle.lock_run.specs.declared.client.Life.TheVariants.{Lives}
 use Rattle.lock_run.specs.Prog.{Prog}
-use Rattle.lock_run.specs.Client.{Stepped, StepStopped, TellsLife, WaitsQuietly}
+use Rattle.lock_run.specs.Client.{Stepped, LifeAfter, TellsLife, Unchanged, WaitsQuietly, Waiting}
+use Rattle.lock_run.proofs.Following.{run_upto}
 use Rattle.seg_store.specs.Meaning.{Part, Meaning, sees, saw, holds}
 use Rattle.seg_store.specs.Calls.{opened, undone}
 use Rattle.seg_store.specs.Store.{IsStore}
 use Rattle.seg_store.proofs.Sees.{own_part, step_shows}
-use Rattle.stm_core.specs.declared.books.Progress.{Progress}
 use Rattle.stm_core.specs.declared.books.Work.{Work}
 use Rattle.stm_core.specs.declared.books.Books.{Books}
 use Rattle.stm_core.specs.CoreState.{sight_of}
-use Rattle.stm_core.specs.Books.{runs_at, transaction, core_of, Fit}
-use Rattle.stm_core.specs.Hold.{Hold, sight, Dooms, SegOpens, SegUndoes, LosesTo}
-use Rattle.stm_core.specs.SegSense.{seg_sense, seg_bracket, Stays}
-use Rattle.stm_core.specs.Whole.{stepped, StepDone, StepCut, StopsAt, CutWhy}
+use Rattle.stm_core.specs.Conflict.{side}
+use Rattle.stm_core.specs.Moves.{Stays}
 use Rattle.stm_core.specs.Asking.{Reaches, AsksToChange, AsksOutside, AsksRoom, AskedFor}
-use Rattle.lock_run.proofs.Following.{run_upto}
+use Rattle.stm_core.specs.Books.{runs_at, Worlds, transaction, core_of, Fit}
+use Rattle.stm_core.specs.Devices.{DeviceState, ShowsWorld, Shown}
+use Rattle.stm_core.specs.Hold.{Hold, holding, sight, Dooms, SegOpens, SegUndoes, LosesTo}
+use Rattle.stm_core.specs.SegSense.{seg_sense, seg_bracket}
+use Rattle.stm_core.specs.Whole.{stepped, StepDone, StepCut, StepBroke, StopsAt, CutWhy}
 use Rattle.stm_core.proofs.Holding.{core_own}
-use Rattle.stm_core.proofs.Stepping.{at_world, call_beside, row_done, sight_is, advances}
-use Rattle.stm_core.proofs.Stopping.{row_stopped, stays}
+use Rattle.stm_core.proofs.Telling.{world_now, shown_now, tells_same}
+use Rattle.stm_core.proofs.Way.{at_used, RowDone, row_done}
+use Rattle.stm_core.proofs.Keeping.{stop_keeps}
+use Rattle.stm_core.proofs.Stepping.{world_of, sight_is, advances}
+use Rattle.stm_core.proofs.Stopping.{Stops, row_stopped, stays}
 use Rattle.stm_core.proofs.Afresh.{waits_afresh}
 
 places_same : (xs ys : List Addr) → places xs ≡ places ys → xs ≡ ys
@@ -53,187 +59,207 @@ pub if_err_on : {T E : Type 0} {P Q : E → Type 0} {R : Type 0} (r : Result T E
 if_err_on (Ok x) f p q = tt
 if_err_on (Err e) f p q = f e p q
 
-module _ {S X : Type 0} (hold : X → Hold S) (segment : X → ℕ) (me : X → Side) (same : X → X → Type 0) (same_refl : (v : X) → same v v) (same_then : (u v w : X) → same u v → same v w → same u w) where
-  stays_then : (u v w : X) → Stays hold segment me same u v → Stays hold segment me same v w → Stays hold segment me same u w
-  stays_then u v w a b = record { segment_is = b.segment_is ∙ a.segment_is; me_is = b.me_is ∙ a.me_is; same_is = same_then u v w a.same_is b.same_is }
+-- ---- why a step was cut
 
-  run_stays : {A : Type 0} (row : Row S A) (v : X) (y : A) (u : X) → Run (seg_sense hold segment me same) row v y u → Stays hold segment me same v u
-  unfolding Run
-  run_stays (Ret a) v y u d = subst (Stays hold segment me same v) (sym d.1) (record { segment_is = refl; me_is = refl; same_is = same_refl v })
-  run_stays (Do c f) v y u d = stays_then v d.1 u d.2.1 (run_stays (f d.0) d.1 y u d.3)
+-- the row comes to the call that was refused
+reaches_call : {S A : Type 0} {k : ℕ} {s : Side} {row : Row S A} {z z1 : Sight S} {y : Stop} {d0 d : Hold S} (kind : Call S → Sight S → Type 0) → z ≡ z1 → (a : StopsAt k s row z y d0 d) → (c : Call S) (f : Reply c → Row S A) → a.left ≡ Do c f → kind c a.place → Reaches row z1 kind
+reaches_call {row = row} {z = z} kind e a c f q h = subst (λ v. Reaches row v kind) e (record { call = c; next = f; place = a.place; upto = subst (λ l. Upto pure row z l a.place) q a.upto; is = h })
 
-  stop_stays : {A : Type 0} (row : Row S A) (v : X) (e : Stop) (u : X) → Stopped (seg_sense hold segment me same) row v e u → Stays hold segment me same v u
-  unfolding Stopped
-  stop_stays (Ret a) v e u d = subst (Stays hold segment me same v) (sym d.1) (record { segment_is = refl; me_is = refl; same_is = same_refl v })
-  stop_stays (Do c f) v e u d = elim d [
-    | inl x ↦ subst (Stays hold segment me same v) (sym x.1) (record { segment_is = refl; me_is = refl; same_is = same_refl v })
-    | inr y ↦ elim y [ inl r ↦ r.1 | inr z ↦ stays_then v z.1 u z.2.1 (stop_stays (f z.0) z.1 e u z.3) ]
-  ]
+cut_why : {S A : Type 0} (w : Worlds) (k : ℕ) (s : Side) (m1 : Meaning) (r1 : ℕ) (b1 : Books S) {row : Row S A} {z z1 : Sight S} (y : Stop) {d0 d : Hold S} → z ≡ z1 → core_of w d.meaning d.books ≡ core_of w m1 b1 → r1 ≡ d.reserved → m1.limit ≡ d.meaning.limit → StopsAt k s row z y d0 d
+    → CutWhy k s y row z1 (core_of w m1 b1) r1 m1.limit
+cut_why w k s m1 r1 b1 (Lost f) e c r l a = elim a.why [ inl q ↦ (let p = q in absurd cc) | inr q ↦ (subst (LosesTo k s f) c (q.3.1 w), reaches_call (AsksToChange f.at.0) e a q.0 q.1 q.2 q.3.0) ]
+cut_why w k s m1 r1 b1 NeedSolo e c r l a = elim a.why [ inl q ↦ (let p = q in absurd cc) | inr q ↦ (q.3.0, reaches_call AsksOutside e a q.0 q.1 q.2 q.3.1) ]
+cut_why w k s m1 r1 b1 (Full i n j) e c r l a = elim a.why [ inl q ↦ (let p = q in absurd cc) | inr q ↦ (reaches_call (AsksRoom n) e a q.0 q.1 q.2 q.3.0, q.3.1 ∙ sym r, q.3.2 ∙ sym l, q.3.3) ]
+cut_why w k s m1 r1 b1 OutOfMemory e c r l a = tt
+cut_why w k s m1 r1 b1 NeedHeap e c r l a = elim a.why [ inl q ↦ (let p = q in absurd cc) | inr q ↦ absurd q.3.1 ]
+cut_why w k s m1 r1 b1 ReadFault e c r l a = elim a.why [ inl q ↦ (let p = q in absurd cc) | inr q ↦ q.3.0 ]
+cut_why w k s m1 r1 b1 WriteFault e c r l a = elim a.why [ inl q ↦ (let p = q in absurd cc) | inr q ↦ q.3.0 ]
+cut_why w k s m1 r1 b1 ErrFault e c r l a = elim a.why [ inl q ↦ (let p = q in absurd cc) | inr q ↦ q.3.0 ]
 
-  -- the view borrows the same things after a step
-  pub stepped_stays : (row : Row S (Outcome × S)) (v : X) (o : Outcome) (s : S) (u : X) → Stepped (seg_sense hold segment me same) (seg_bracket hold segment me same) row v o s u → Stays hold segment me same v u
-  stepped_stays row v o s u h = stays_then v h.0 u h.1.1 (run_stays row h.0 (o, s) u h.2)
+-- ---- steps
 
-  pub cut_stays : (row : Row S (Outcome × S)) (v : X) (e : Stop) (u : X) → StepStopped (seg_sense hold segment me same) (seg_bracket hold segment me same) row v e u → Stays hold segment me same v u
-  cut_stays row v e u h = stays_then v h.0 u h.2.1 (stays_then h.0 h.1 u (stop_stays row h.0 e h.1 h.3) h.4.1)
+module _ {S X : Type 0} (hold : X → Hold S) (devices : X → DeviceState) (segment : X → ℕ) (me : X → Side) (same : X → X → Type 0) (same_refl : (v : X) → same v v) (same_then : (u v w : X) → same u v → same v w → same u w) where
+  -- how a step ended tells whether the thread lives on: the devices always show a world
+  pub step_lives : (prog : Prog S) (k : ℕ) (s : Side) (q q1 : S) (v : X) (o : Outcome) (u : X) → segment v ≡ k → me v ≡ s → prog.life q ≡ Lives → AsksToPrint (prog.row q) → TellsLife prog
+      → Stepped (seg_sense hold devices segment me same) (seg_bracket hold devices segment me same) (prog.row q) v o q1 u → LifeAfter o (prog.life q1)
+  step_lives prog k s q q1 v o u ek es lives asks tells h =
+      let v1 = h.0 in
+      let p = devices v1 in
+      let r = row_done hold devices segment me same p.out p.err k s (prog.row q) v1 (o, q1) u (world_now p) false (h.1.2.segment_is ∙ ek) (h.1.2.me_is ∙ es) (λ solo. shown_now p) asks h.2 in
+      tells q q1 (at_used (world_now p) false (sight k (hold v1))) (at_used r.world r.used (sight k (hold u))) o lives r.does
 
-  -- whichever way a step ends, the view borrows the same things
-  pub result_stays : (row : Row S (Outcome × S)) (v : X) (r : Result Outcome Stop) (s : S) (u : X) → IfOk r (λ o. Stepped (seg_sense hold segment me same) (seg_bracket hold segment me same) row v o s u)
-      → IfErr r (λ e. StepStopped (seg_sense hold segment me same) (seg_bracket hold segment me same) row v e u) → Stays hold segment me same v u
-  result_stays row v (Ok o) s u ok err = stepped_stays row v o s u ok
-  result_stays row v (Err e) s u ok err = cut_stays row v e u err
+  -- A step of the transaction x of segment k, which was taken out of its hand: the view v was made of the store's
+  -- meaning m, the books b and the devices p, and opened as v1. The step leaves the view u and the state q.
+  module _ (t e : Option (List ℕ)) (prog : Prog S) (w : Worlds) (k : ℕ) (m : Meaning) (r : ℕ) (b : Books S) (x : Work S) (p : DeviceState) (v v1 u : X) (q : S)
+      (ev : hold v ≡ holding m r b x.progress None) (pv : devices v ≡ p) (ek : segment v ≡ k) (es : me v ≡ side k (transaction w.own (m.part k) x)) (opens : (seg_bracket hold devices segment me same).opens v v1)
+      (fit : Fit k m b x.progress) (fit1 : Fit k (hold u).meaning (hold u).books (hold u).progress) (store : IsStore (hold u).reserved (hold u).meaning)
+      (lives : prog.life x.state ≡ Lives) (asks : AsksToPrint (prog.row x.state)) (shown : Shown x.solo t e p w.own) where
+    abbrev pub s : Side
+    s = side k (transaction w.own (m.part k) x)
 
-  -- what the store has reserved never falls
-  run_reserved : {A : Type 0} (row : Row S A) (v : X) (y : A) (u : X) → Run (seg_sense hold segment me same) row v y u → (hold v).reserved ≤ (hold u).reserved
-  unfolding Run
-  run_reserved (Ret a) v y u d = subst (λ z. (hold v).reserved ≤ (hold z).reserved) (sym d.1) (omega arith)
-  run_reserved (Do c f) v y u d =
-      let a = (call_beside (segment v) (me v) c (hold v) d.0 (hold d.1) d.2.0).reserved in
-      let b = run_reserved (f d.0) d.1 y u d.3 in
-      omega (arith, a, b)
+    -- what is left then
+    abbrev pub m1 : Meaning
+    m1 = (hold u).meaning
 
-  stop_reserved : {A : Type 0} (row : Row S A) (v : X) (e : Stop) (u : X) → Stopped (seg_sense hold segment me same) row v e u → (hold v).reserved ≤ (hold u).reserved
-  unfolding Stopped
-  stop_reserved (Ret a) v e u d = subst (λ z. (hold v).reserved ≤ (hold z).reserved) (sym d.1) (omega arith)
-  stop_reserved (Do c f) v e u d = elim d [
-    | inl x ↦ subst (λ z. (hold v).reserved ≤ (hold z).reserved) (sym x.1) (omega arith)
-    | inr y ↦ elim y [
-      | inl r ↦ r.0.beside.reserved
-      | inr z ↦ let a = (call_beside (segment v) (me v) c (hold v) z.0 (hold z.1) z.2.0).reserved in let b = stop_reserved (f z.0) z.1 e u z.3 in omega (arith, a, b)
-    ]
-  ]
+    abbrev pub b1 : Books S
+    b1 = (hold u).books
 
-  pub result_reserved : (row : Row S (Outcome × S)) (v : X) (r : Result Outcome Stop) (s : S) (u : X) → IfOk r (λ o. Stepped (seg_sense hold segment me same) (seg_bracket hold segment me same) row v o s u)
-      → IfErr r (λ e. StepStopped (seg_sense hold segment me same) (seg_bracket hold segment me same) row v e u) → (hold v).reserved ≤ (hold u).reserved
-  result_reserved row v (Ok o) s u ok err =
-      let a : (hold ok.0).reserved ≡ (hold v).reserved = ap (λ (z : Hold S). z.reserved) ok.1.0 in
-      let b = run_reserved row ok.0 (o, s) u ok.2 in
-      omega (arith, a, b)
-  result_reserved row v (Err e) s u ok err =
-      let a : (hold err.0).reserved ≡ (hold v).reserved = ap (λ (z : Hold S). z.reserved) err.2.0 in
-      let b = stop_reserved row err.0 e err.1 err.3 in
-      let c : (hold u).reserved ≡ (hold err.1).reserved = ap (λ (z : Hold S). z.reserved) err.4.0 in
-      omega (arith, a, b, c)
+    abbrev pub x1 : Work S
+    x1 = record x { state = q; progress = (hold u).progress }
 
-  module _ (prog : Prog S) (w : World) (dry : w.mid ≡ false) (k : ℕ) (s : Side) (mortal : s.solo ≡ false) (v u : X) (ek : segment v ≡ k) (es : me v ≡ s) (x x1 : Work S) (m1 : Meaning) (r1 : ℕ) (b1 : Books S)
-      (xp : (hold v).progress ≡ x.progress) (fit : Fit k (hold v).meaning (hold v).books (hold v).progress) (fit1 : Fit k m1 b1 x1.progress) (store : IsStore r1 m1)
-      (lives : prog.life x.state ≡ Lives) (asks : AsksToPrint (prog.row x.state)) (th : x1.thread ≡ x.thread) (be : x1.begun ≡ x.begun) (sp : x1.steps ≡ x.steps)
-      (em : (hold u).meaning ≡ m1) (er : (hold u).reserved ≡ r1) (eb : (hold u).books ≡ b1) (ep : (hold u).progress ≡ x1.progress) where
-    abbrev pub m : Meaning
-    m = (hold v).meaning
+    op : SegOpens k (holding m r b x.progress None) (hold v1)
+    op = subst (λ d. SegOpens k d (hold v1)) ev (subst (λ i. SegOpens i (hold v) (hold v1)) ek opens.0)
 
-    abbrev pub b : Books S
-    b = (hold v).books
-
-    names : places x.progress.names ≡ (m.part k).made
-    names = ap (λ (z : Progress S). places z.names) (sym xp) ∙ fit.own_names
+    part_begins : (hold v1).meaning.part k ≡ opened (m.part k)
+    part_begins = ap (λ (z : Hold S). z.meaning.part k) op ∙ own_part k (opened (m.part k)) m
 
     -- what the opened step begins with
-    pub begins : (v1 : X) → SegOpens k (hold v) (hold v1) → at_world w (sight k (hold v1)) ≡ sight_of m.image w (transaction w (m.part k) x)
-    begins v1 op =
-        let part : (hold v1).meaning.part k ≡ opened (m.part k) = ap (λ (z : Hold S). z.meaning.part k) op ∙ own_part k (opened (m.part k)) m in
-        sight_is w k m x (hold v1) names (ap (λ (z : Hold S). sees z.meaning k) op ∙ (step_shows k m).opened) (ap (λ (z : Part). z.looked) part) (ap (λ (z : Part). holds z) part) (ap (λ (z : Part). z.made) part)
-        (ap (λ (z : Hold S). z.progress.started) op ∙ ap (λ (z : Progress S). z.started) xp)
+    abbrev first : Sight S
+    first = at_used (world_of w x.solo) x.solo (sight k (hold v1))
+
+    begins : first ≡ sight_of m.image w.committed (transaction w.own (m.part k) x)
+    begins = sight_is w k m x (hold v1) fit.own_names (ap (λ (z : Hold S). sees z.meaning k) op ∙ (step_shows k m).opened) (ap (λ (z : Part). z.looked) part_begins) (ap (λ (z : Part). holds z) part_begins) (ap (λ (z : Part). z.made) part_begins)
+        (ap (λ (z : Hold S). z.progress.started) op)
+
+    -- and the devices show its world
+    shown_begins : Shown x.solo t e (devices v1) (world_of w x.solo)
+    shown_begins solo =
+        let y = shown solo in
+        let z : ShowsWorld t e (devices v1) w.own = subst (λ (d : DeviceState). ShowsWorld t e d w.own) (sym (opens.1 ∙ ap (λ (d : DeviceState). record d { was_mid = d.mid }) pv)) (record { tells = record { input = y.tells.input; out = y.tells.out; err = y.tells.err }; mid = y.mid }) in
+        subst (ShowsWorld t e (devices v1)) (sym (cond-true x.solo w.own w.committed solo)) z
 
     -- the core's state once the step was opened
-    core_begins : (v1 : X) → SegOpens k (hold v) (hold v1) → core_of w (hold v1).meaning (hold v1).books ≡ core_of w m b
-    core_begins v1 op = ap (λ (z : Hold S). core_of w z.meaning z.books) op ∙ core_own w k (opened (m.part k)) m b fit.out
+    core_begins : core_of w (hold v1).meaning (hold v1).books ≡ core_of w m b
+    core_begins = ap (λ (z : Hold S). core_of w z.meaning z.books) op ∙ core_own w k (opened (m.part k)) m b fit.out
 
-    -- a step that was done
-    pub step_done : (o : Outcome) → TellsLife prog → WaitsQuietly prog → Stepped (seg_sense hold segment me same) (seg_bracket hold segment me same) (prog.row x.state) v o x1.state u → StepDone prog w k s o m b x m1 b1 x1
-    step_done o tells quiet h =
-        let v1 = h.0 in
-        let op : SegOpens k (hold v) (hold v1) = subst (λ i. SegOpens i (hold v) (hold v1)) ek h.1.0 in
-        let r = row_done hold segment me same w k s mortal (prog.row x.state) v1 (o, x1.state) u (h.1.1.segment_is ∙ ek) (h.1.1.me_is ∙ es) asks h.2 in
-        let start = begins v1 op in
-        let im : m1.image ≡ m.image = sym (ap (λ (z : Meaning). z.image) em) ∙ r.1.image ∙ ap (λ (z : Hold S). z.meaning.image) op in
-        record {
-          dooms = r.1.dooms;
-          others = subst (λ c. Dooms k s r.1.dooms c (core_of w m1 b1)) (core_begins v1 op) (subst (λ z. Dooms k s r.1.dooms (core_of w (hold v1).meaning (hold v1).books) (core_of w z b1)) em
-              (subst (λ z. Dooms k s r.1.dooms (core_of w (hold v1).meaning (hold v1).books) (core_of w (hold u).meaning z)) eb (r.1.others w)));
-          goes = λ n. advances prog w k m m1 r1 b1 x (stepped x1) (hold v1) (hold u) o lives n r.0 start em (ap (λ (z : Progress S). z.started) ep) im fit1.own_names store (fit1.locked k) th be (ap suc sp);
-          waits = λ e.
-              let q = quiet x.state x1.state (at_world w (sight k (hold v1))) (at_world w (sight k (hold u))) (subst (λ z. Does (prog.row x.state) (at_world w (sight k (hold v1))) (z, x1.state) (at_world w (sight k (hold u)))) e r.0) in
-              let part : (hold v1).meaning.part k ≡ opened (m.part k) = ap (λ (z : Hold S). z.meaning.part k) op ∙ own_part k (opened (m.part k)) m in
-              let made : (m1.part k).made ≡ (m.part k).made = sym (ap (λ (z : Meaning). (z.part k).made) em) ∙ q.1.made ∙ ap (λ (z : Part). z.made) part in
-              stays w k m m1 r1 x x1 im (sym (ap (λ z. sees z k) em) ∙ q.1.heap ∙ ap (λ (z : Hold S). sees z.meaning k) op ∙ (step_shows k m).opened) names fit1.own_names store (fit1.locked k) th be sp q.0
-              (places_same x1.progress.names x.progress.names (fit1.own_names ∙ made ∙ sym names))
-              (sym (ap (λ (z : Progress S). z.started) ep) ∙ q.1.started ∙ ap (λ (z : Hold S). z.progress.started) op ∙ ap (λ (z : Progress S). z.started) xp)
-              (λ a l. ap (λ (z : Meaning). (z.part k).looked a) (sym em) ∙ r.1.looked a (ap (λ (z : Part). z.looked a) part ∙ l))
-              (λ a l. ap (λ (z : Meaning). mem a (z.part k).changed) (sym em) ∙ r.1.locks a (ap (λ (z : Part). mem a z.changed) part ∙ l));
-          life = tells x.state x1.state (at_world w (sight k (hold v1))) (at_world w (sight k (hold u))) o lives r.0;
-          waiting = λ e w1.
-              let r1 = row_done hold segment me same w1 k s mortal (prog.row x.state) v1 (o, x1.state) u (h.1.1.segment_is ∙ ek) (h.1.1.me_is ∙ es) asks h.2 in
-              waits_afresh (prog.row x.state) (at_world w1 (sight k (hold v1))) (at_world w1 (sight k (hold u))) (sees m k) w1 x1.state (ap (λ (z : Hold S). sees z.meaning k) op ∙ (step_shows k m).opened) refl
-              (subst (λ z. Does (prog.row x.state) (at_world w1 (sight k (hold v1))) (z, x1.state) (at_world w1 (sight k (hold u)))) e r1.0);
-          last = (o, x1.state);
-          went = record {
-            place = at_world w (sight k (hold u));
-            upto = run_upto pure (prog.row x.state) (sight_of m.image w (transaction w (m.part k) x)) (o, x1.state) (at_world w (sight k (hold u))) (subst (λ z. Does (prog.row x.state) z (o, x1.state) (at_world w (sight k (hold u)))) start r.0);
-            looks = λ a h. inl (ap (λ (z : Meaning). (z.part k).looked a) em ∙ h);
-            locks = λ a h. inl (or_left (mem a ((hold u).meaning.part k).changed) (mem a ((hold u).meaning.part k).made) (ap (λ (z : Meaning). mem a (z.part k).changed) em ∙ h));
-            asked = subst (λ z. All (λ (f : Conflict). AskedFor (prog.row x.state) z (Ret (o, x1.state)) (at_world w (sight k (hold u))) f.at.0) r.1.dooms) start r.1.asked;
-          };
-          image = im;
-          shape = (
-            sym (ap (λ (z : Meaning). z.segments) em) ∙ r.1.segments ∙ ap (λ (z : Hold S). z.meaning.segments) op,
-            sym (ap (λ (z : Meaning). z.limit) em) ∙ r.1.limit ∙ ap (λ (z : Hold S). z.meaning.limit) op,
-          );
-        }
+    -- ---- a step that was done
 
-    -- a step that was cut, and taken back
-    pub step_cut : (e : Stop) → x1.state ≡ x.state → StepStopped (seg_sense hold segment me same) (seg_bracket hold segment me same) (prog.row x.state) v e u → StepCut prog w k s e m b x m1 r1 b1 x1
-    step_cut e state h =
-        let v1 = h.0 in
-        let u1 = h.1 in
-        let op : SegOpens k (hold v) (hold v1) = subst (λ i. SegOpens i (hold v) (hold v1)) ek h.2.0 in
-        let st = row_stopped hold segment me same w k s mortal false (prog.row x.state) v1 e u1 dry (h.2.1.segment_is ∙ ek) (h.2.1.me_is ∙ es) h.3 in
-        let sk : segment u1 ≡ k = (stop_stays (prog.row x.state) v1 e u1 h.3).segment_is ∙ h.2.1.segment_is ∙ ek in
-        let un : SegUndoes k (hold u1) (hold u) = subst (λ i. SegUndoes i (hold u1) (hold u)) sk h.4.0 in
-        let out1 : runs_at (hold u1).books.hands.items k ≡ false = ap (λ (z : Hold S). runs_at z.books.hands.items k) (sym un) ∙ ap (λ (z : Books S). runs_at z.hands.items k) eb ∙ fit1.out in
-        let part1 : m1.part k ≡ undone ((hold u1).meaning.part k) = sym (ap (λ (z : Meaning). z.part k) em) ∙ ap (λ (z : Hold S). z.meaning.part k) un ∙ own_part k (undone ((hold u1).meaning.part k)) (hold u1).meaning in
-        let part : (hold v1).meaning.part k ≡ opened (m.part k) = ap (λ (z : Hold S). z.meaning.part k) op ∙ own_part k (opened (m.part k)) m in
-        let core1 : core_of w m1 b1 ≡ core_of w (hold u1).meaning (hold u1).books =
-        ap (λ z. core_of w z b1) (sym em) ∙ ap (core_of w (hold u).meaning) (sym eb) ∙ ap (λ (z : Hold S). core_of w z.meaning z.books) un ∙ core_own w k (undone ((hold u1).meaning.part k)) (hold u1).meaning (hold u1).books out1 in
-        let im : m1.image ≡ m.image = sym (ap (λ (z : Meaning). z.image) em) ∙ ap (λ (z : Hold S). z.meaning.image) un ∙ st.beside.image ∙ ap (λ (z : Hold S). z.meaning.image) op in
-        let seen : sees m1 k ≡ sees m k = sym (ap (λ z. sees z k) em) ∙ ap (λ (z : Hold S). sees z.meaning k) un ∙ (step_shows k (hold u1).meaning).undone ∙ st.beside.saw ∙ ap (λ (z : Hold S). saw z.meaning k) op ∙ (step_shows k m).kept in
-        let kn : (hold v1).progress.kept_names ≡ length (hold v1).progress.names = ap (λ (z : Hold S). z.progress.kept_names) op ∙ sym (ap (λ (z : Hold S). length z.progress.names) op) in
-        let ks : (hold v1).progress.kept_started ≡ length (hold v1).progress.started = ap (λ (z : Hold S). z.progress.kept_started) op ∙ sym (ap (λ (z : Hold S). length z.progress.started) op) in
-        let named : x1.progress.names ≡ x.progress.names = sym (ap (λ (z : Progress S). z.names) ep) ∙ ap (λ (z : Hold S). z.progress.names) un ∙ (st.beside.names (omega (arith, kn))).1 ∙ take_whole (hold v1).progress.kept_names (hold v1).progress.names kn
-        ∙ ap (λ (z : Hold S). z.progress.names) op ∙ ap (λ (z : Progress S). z.names) xp in
-        let started : x1.progress.started ≡ x.progress.started = sym (ap (λ (z : Progress S). z.started) ep) ∙ ap (λ (z : Hold S). z.progress.started) un ∙ (st.beside.started (omega (arith, ks))).1 ∙ take_whole (hold v1).progress.kept_started (hold v1).progress.started ks
-        ∙ ap (λ (z : Hold S). z.progress.started) op ∙ ap (λ (z : Progress S). z.started) xp in
-        record {
-          dooms = st.beside.dooms;
-          others = subst (λ c. Dooms k s st.beside.dooms c (core_of w m1 b1)) (core_begins v1 op) (subst (Dooms k s st.beside.dooms (core_of w (hold v1).meaning (hold v1).books)) (sym core1) (st.beside.others w));
-          stays = stays w k m m1 r1 x x1 im seen names fit1.own_names store (fit1.locked k) th be sp state named started
-              (λ a l. ap (λ (z : Part). z.looked a) part1 ∙ st.beside.looked a (ap (λ (z : Part). z.looked a) part ∙ l))
-              (λ a l. ap (λ (z : Part). mem a z.changed) part1 ∙ st.beside.locks a (ap (λ (z : Part). mem a z.changed) part ∙ l));
-          left = st.left;
-          went = record {
-            place = st.place;
-            upto = subst (λ z. Upto pure (prog.row x.state) z st.left st.place) (begins v1 op) st.upto;
-            looks = λ a h. st.looks a (ap (λ (z : Part). z.looked a) (sym part1) ∙ h);
-            locks = λ a h. st.locks a (ap (λ (z : Part). mem a z.changed) (sym part1) ∙ h);
-            asked = subst (λ z. All (λ (f : Conflict). AskedFor (prog.row x.state) z st.left st.place f.at.0) st.beside.dooms) (begins v1 op) st.beside.asked;
-          };
-          image = im;
-          shape = (
-            sym (ap (λ (z : Meaning). z.segments) em) ∙ ap (λ (z : Hold S). z.meaning.segments) un ∙ st.beside.segments ∙ ap (λ (z : Hold S). z.meaning.segments) op,
-            sym (ap (λ (z : Meaning). z.limit) em) ∙ ap (λ (z : Hold S). z.meaning.limit) un ∙ st.beside.limit ∙ ap (λ (z : Hold S). z.meaning.limit) op,
-          );
-          why = cut_why e (begins v1 op) (sym core1) (sym er ∙ ap (λ (z : Hold S). z.reserved) un) (sym (ap (λ (z : Meaning). z.limit) em) ∙ ap (λ (z : Hold S). z.meaning.limit) un) st;
-        }
-      where
-        reaches : {A : Type 0} {row : Row S A} {z z1 : Sight S} {y : Stop} {d0 d : Hold S} (kind : Call S → Sight S → Type 0) → z ≡ z1 → (a : StopsAt k s row z y d0 d) → (c : Call S) (f : Reply c → Row S A) → a.left ≡ Do c f → kind c a.place → Reaches row z1 kind
-        reaches {row = row} {z = z} kind e a c f q h = subst (λ v. Reaches row v kind) e (record { call = c; next = f; place = a.place; upto = subst (λ l. Upto pure row z l a.place) q a.upto; is = h })
+    module _ (o : Outcome) (quiet : WaitsQuietly prog) (run : Run (seg_sense hold devices segment me same) (prog.row x.state) v1 (o, q) u) where
+      done : RowDone hold devices segment me same t e k s (prog.row x.state) (world_of w x.solo) x.solo (hold v1) (o, q) (hold u) (devices u)
+      done = row_done hold devices segment me same t e k s (prog.row x.state) v1 (o, q) u (world_of w x.solo) x.solo (opens.2.segment_is ∙ ek) (opens.2.me_is ∙ es) shown_begins asks run
 
-        cut_why : {A : Type 0} {row : Row S A} {z z1 : Sight S} (y : Stop) {d0 d : Hold S} → z ≡ z1 → core_of w d.meaning d.books ≡ core_of w m1 b1 → r1 ≡ d.reserved → m1.limit ≡ d.meaning.limit → StopsAt k s row z y d0 d → CutWhy k s y row z1 (core_of w m1 b1) r1 m1.limit
-        cut_why (Lost f) e c r l a = elim a.why [ inl q ↦ (let p = q in absurd cc) | inr q ↦ (subst (LosesTo k s f) c (q.3.1 w), reaches (AsksToChange f.at.0) e a q.0 q.1 q.2 q.3.0) ]
-        cut_why NeedSolo e c r l a = elim a.why [ inl q ↦ (let p = q in absurd cc) | inr q ↦ reaches AsksOutside e a q.0 q.1 q.2 q.3 ]
-        cut_why (Full i n j) e c r l a = elim a.why [ inl q ↦ (let p = q in absurd cc) | inr q ↦ (reaches (AsksRoom n) e a q.0 q.1 q.2 q.3.0, q.3.1 ∙ sym r, q.3.2 ∙ sym l, q.3.3) ]
-        cut_why OutOfMemory e c r l a = tt
-        cut_why NeedHeap e c r l a = elim a.why [ inl q ↦ (let p = q in absurd cc) | inr q ↦ q.3 ]
-        cut_why ReadFault e c r l a = elim a.why [ inl q ↦ (let p = q in absurd cc) | inr q ↦ q.3 ]
-        cut_why WriteFault e c r l a = elim a.why [ inl q ↦ (let p = q in absurd cc) | inr q ↦ q.3 ]
-        cut_why ErrFault e c r l a = elim a.why [ inl q ↦ (let p = q in absurd cc) | inr q ↦ q.3 ]
+      abbrev last : Sight S
+      last = at_used done.world done.used (sight k (hold u))
+
+      -- the world of the transaction then
+      abbrev own : World
+      own = cond x.solo done.world w.own
+
+      shown_done : Shown x.solo t e (devices u) own
+      shown_done solo = subst (ShowsWorld t e (devices u)) (sym (cond-true x.solo done.world w.own solo)) (done.shown solo)
+
+      im : m1.image ≡ m.image
+      im = done.beside.image ∙ ap (λ (z : Hold S). z.meaning.image) op
+
+      waits_there : (o ≡ WaitsNow) → (q ≡ x.state) × Unchanged first last
+      waits_there n = quiet x.state q first last (subst (λ z. Does (prog.row x.state) first (z, q) last) n done.does)
+
+      waits_own : (o ≡ WaitsNow) → own ≡ w.own
+      waits_own n = elim (cases_Bool x.solo) [
+        | inl y ↦ cond-true x.solo done.world w.own y ∙ (waits_there n).1.world ∙ cond-true x.solo w.own w.committed y
+        | inr y ↦ cond-false x.solo done.world w.own y
+      ]
+
+      waits_stays : (o ≡ WaitsNow) → Stays m.image (transaction w.own (m.part k) x) (transaction w.own (m1.part k) x1)
+      waits_stays n =
+          let z = waits_there n in
+          let made : (m1.part k).made ≡ (m.part k).made = z.1.made ∙ ap (λ (z : Part). z.made) part_begins in
+          stays w.own k m m1 (hold u).reserved x x1 im (z.1.heap ∙ ap (λ (z : Hold S). sees z.meaning k) op ∙ (step_shows k m).opened) fit.own_names fit1.own_names store (fit1.locked k) refl refl refl refl z.0
+          (places_same x1.progress.names x.progress.names (fit1.own_names ∙ made ∙ sym fit.own_names)) (z.1.started ∙ ap (λ (z : Hold S). z.progress.started) op)
+          (λ a l. done.beside.looked a (ap (λ (z : Part). z.looked a) part_begins ∙ l)) (λ a l. done.beside.locks a (ap (λ (z : Part). mem a z.changed) part_begins ∙ l))
+
+      -- it waits in any world, unless it is solo
+      waits_any : (o ≡ WaitsNow) → x.solo ≡ false → Waiting (prog.row x.state) (sees m k)
+      waits_any n mortal w1 =
+          let y = row_done hold devices segment me same t e k s (prog.row x.state) v1 (o, q) u w1 false (opens.2.segment_is ∙ ek) (opens.2.me_is ∙ es) (λ solo. absurd (both_ways x.solo mortal solo)) asks run in
+          let from = at_used w1 false (sight k (hold v1)) in
+          let to = at_used y.world y.used (sight k (hold u)) in
+          waits_afresh (prog.row x.state) from to (sees m k) w1 q (ap (λ (z : Hold S). sees z.meaning k) op ∙ (step_shows k m).opened) refl (subst (λ z. Does (prog.row x.state) from (z, q) to) n y.does)
+
+      done_there : StepDone prog w own k s o m b x m1 b1 x1
+      done_there = record {
+        dooms = done.beside.dooms;
+        others = subst (λ c. Dooms k s done.beside.dooms c (core_of w m1 b1)) core_begins (done.beside.others w);
+        goes = λ n. advances prog w own k m m1 (hold u).reserved x (stepped x1) (hold v1) (hold u) o done.world done.used lives n done.does begins refl refl im fit1.own_names store (fit1.locked k) refl refl refl refl
+            (λ y. cond-true x.solo done.world w.own y) (λ y. (done.mortal y).1 ∙ y);
+        waits = λ n. (waits_own n, waits_stays n);
+        mortal = λ y. cond-false x.solo done.world w.own y;
+        waiting = λ n. record {
+          mortal = waits_any n;
+          solo = λ y. (q, last, subst (λ z. Does (prog.row x.state) z (WaitsNow, q) last) begins (subst (λ z. Does (prog.row x.state) first (z, q) last) n done.does));
+        };
+        last = (o, q);
+        went = record {
+          place = last;
+          upto = run_upto pure (prog.row x.state) (sight_of m.image w.committed (transaction w.own (m.part k) x)) (o, q) last (subst (λ z. Does (prog.row x.state) z (o, q) last) begins done.does);
+          looks = λ a l. inl l;
+          locks = λ a l. inl (or_left (mem a ((hold u).meaning.part k).changed) (mem a ((hold u).meaning.part k).made) l);
+          asked = subst (λ z. All (λ (f : Conflict). AskedFor (prog.row x.state) z (Ret (o, q)) last f.at.0) done.beside.dooms) begins done.beside.asked;
+        };
+      }
+
+      pub step_done : (z : World) × Shown x.solo t e (devices u) z × StepDone prog w z k s o m b x m1 b1 x1
+      step_done = (own, shown_done, done_there)
+
+    -- ---- a step that was cut, and taken back
+
+    module _ (stop : Stop) (state : q ≡ x.state) (u1 : X) (stopped : Stopped (seg_sense hold devices segment me same) (prog.row x.state) v1 stop u1) (undoes : (seg_bracket hold devices segment me same).undoes u1 u) where
+      cut : Stops t e k s (prog.row x.state) (world_of w x.solo) x.solo (hold v1) stop (hold u1) (devices u1)
+      cut = row_stopped hold devices segment me same same_refl same_then t e k s (prog.row x.state) v1 stop u1 (world_of w x.solo) x.solo (opens.2.segment_is ∙ ek) (opens.2.me_is ∙ es) shown_begins asks stopped
+
+      at_end : segment u1 ≡ k
+      at_end = (stop_keeps hold devices segment me same same_refl same_then k s (prog.row x.state) v1 stop u1 stopped (opens.2.segment_is ∙ ek) (opens.2.me_is ∙ es)).0.segment_is
+
+      un : SegUndoes k (hold u1) (hold u)
+      un = subst (λ i. SegUndoes i (hold u1) (hold u)) at_end undoes.0
+
+      part_ends : m1.part k ≡ undone ((hold u1).meaning.part k)
+      part_ends = ap (λ (z : Hold S). z.meaning.part k) un ∙ own_part k (undone ((hold u1).meaning.part k)) (hold u1).meaning
+
+      core_ends : core_of w m1 b1 ≡ core_of w (hold u1).meaning (hold u1).books
+      core_ends =
+          let out : runs_at (hold u1).books.hands.items k ≡ false = ap (λ (z : Hold S). runs_at z.books.hands.items k) (sym un) ∙ fit1.out in
+          ap (λ (z : Hold S). core_of w z.meaning z.books) un ∙ core_own w k (undone ((hold u1).meaning.part k)) (hold u1).meaning (hold u1).books out
+
+      stays_cut : Stays m.image (transaction w.own (m.part k) x) (transaction w.own (m1.part k) x1)
+      stays_cut =
+          let z = cut.at.beside in
+          let im : m1.image ≡ m.image = ap (λ (z : Hold S). z.meaning.image) un ∙ z.image ∙ ap (λ (z : Hold S). z.meaning.image) op in
+          let seen : sees m1 k ≡ sees m k = ap (λ (z : Hold S). sees z.meaning k) un ∙ (step_shows k (hold u1).meaning).undone ∙ z.saw ∙ ap (λ (z : Hold S). saw z.meaning k) op ∙ (step_shows k m).kept in
+          let kn : (hold v1).progress.kept_names ≡ length (hold v1).progress.names = ap (λ (z : Hold S). z.progress.kept_names) op ∙ sym (ap (λ (z : Hold S). length z.progress.names) op) in
+          let ks : (hold v1).progress.kept_started ≡ length (hold v1).progress.started = ap (λ (z : Hold S). z.progress.kept_started) op ∙ sym (ap (λ (z : Hold S). length z.progress.started) op) in
+          let named : x1.progress.names ≡ x.progress.names = ap (λ (z : Hold S). z.progress.names) un ∙ (z.names (omega (arith, kn))).1 ∙ take_whole (hold v1).progress.kept_names (hold v1).progress.names kn ∙ ap (λ (z : Hold S). z.progress.names) op in
+          let started : x1.progress.started ≡ x.progress.started = ap (λ (z : Hold S). z.progress.started) un ∙ (z.started (omega (arith, ks))).1 ∙ take_whole (hold v1).progress.kept_started (hold v1).progress.started ks ∙ ap (λ (z : Hold S). z.progress.started) op in
+          stays w.own k m m1 (hold u).reserved x x1 im seen fit.own_names fit1.own_names store (fit1.locked k) refl refl refl refl state named started
+          (λ a l. ap (λ (z : Part). z.looked a) part_ends ∙ z.looked a (ap (λ (z : Part). z.looked a) part_begins ∙ l))
+          (λ a l. ap (λ (z : Part). mem a z.changed) part_ends ∙ z.locks a (ap (λ (z : Part). mem a z.changed) part_begins ∙ l))
+
+      pub step_cut : StepCut prog w k s stop m b x m1 (hold u).reserved b1 x1
+      step_cut =
+          let z = cut.at in
+          record {
+            dooms = z.beside.dooms;
+            others = subst (λ c. Dooms k s z.beside.dooms c (core_of w m1 b1)) core_begins (subst (Dooms k s z.beside.dooms (core_of w (hold v1).meaning (hold v1).books)) (sym core_ends) (z.beside.others w));
+            stays = stays_cut;
+            left = z.left;
+            went = record {
+              place = z.place;
+              upto = subst (λ y. Upto pure (prog.row x.state) y z.left z.place) begins z.upto;
+              looks = λ a l. z.looks a (ap (λ (y : Part). y.looked a) (sym part_ends) ∙ l);
+              locks = λ a l. z.locks a (ap (λ (y : Part). mem a y.changed) (sym part_ends) ∙ l);
+              asked = subst (λ y. All (λ (f : Conflict). AskedFor (prog.row x.state) y z.left z.place f.at.0) z.beside.dooms) begins z.beside.asked;
+            };
+            why = cut_why w k s m1 (hold u).reserved b1 stop begins (sym core_ends) (ap (λ (y : Hold S). y.reserved) un) (ap (λ (y : Hold S). y.meaning.limit) un) z;
+          }
+
+      -- of a solo one, and what the devices were told
+      pub step_broke : x.solo ≡ true → StepBroke prog t e m.image w.committed (transaction w.own (m.part k) x) stop (devices u)
+      step_broke solo =
+          let y = cut.told solo in
+          let undo = undoes.1 in
+          record {
+            told = y.told;
+            tells = tells_same t e (devices u1) (devices u) y.told y.tells (ap (λ (d : DeviceState). d.input) undo) (ap (λ (d : DeviceState). d.out) undo) (ap (λ (d : DeviceState). d.err) undo);
+            cut = record { left = cut.at.left; place = cut.at.place; upto = subst (λ z. Upto pure (prog.row x.state) z cut.at.left cut.at.place) begins cut.at.upto; part = y.part };
+            fault = cut.fault;
+          }

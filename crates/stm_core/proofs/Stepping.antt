@@ -1,4 +1,4 @@
--- A step over a segment's view is a step of its transaction, with dooms of others before it.
+-- What a segment's view shows of its transaction, as the core sees it, and its dooms of others as moves.
 use Rattle.std.proofs.Common.{◌≡◌, ◌≢◌, ℕ, suc, Bool, true, false, cond, ◌||◌, eqb, List, [], ◌∷◌, slice_get, map, Option, Some, None, refl, sym, ◌∙◌, ap, subst, inl, inr, is_some, arith, All}
 use Rattle.std.proofs.lemmas.List.Elements.{All-head, All-tail}
 use Rattle.std.proofs.lemmas.Bool.{cases_Bool, both_ways, or_left, or_right, eqb-true, eq-eqb, ne_eqb, cond-true, cond-false, and_parts}
@@ -7,10 +7,7 @@ use Rattle.py_data.specs.declared.stop.Conflict.{Conflict}
 use Rattle.py_data.specs.Heap.{Rec, Heap, is_tracked}
 use Rattle.py_data.specs.World.{World}
 use Rattle.py_data.specs.Collection.{places}
-use Rattle.py_data.specs.Row.{Call, Reply, Row, Ret, Do, Read, Find, Edit, Make, Start, Put, Take, MidLine, SetMidLine}
-use Rattle.py_data.specs.Sense.{Run, Upto}
-use Rattle.py_data.specs.Sight.{Sight, Act, Does, mem, pure}
-use Rattle.py_data.specs.Steady.{AsksToPrint, Writes, WritesThen}
+use Rattle.py_data.specs.Sight.{Does, mem}
 use Rattle.lock_run.specs.declared.client.Outcome.{Outcome}
 use Rattle.lock_run.specs.declared.client.Outcome.TheVariants.{Waits as WaitsNow}
 use Rattle.lock_run.specs.declared.client.Life.TheVariants.{Lives}
@@ -21,102 +18,14 @@ use Rattle.stm_core.specs.declared.books.Work.{Work}
 use Rattle.stm_core.specs.declared.books.Hand.{Hand}
 use Rattle.stm_core.specs.declared.books.Hand.TheVariants.{Idle as IdleHand, Doomed as DoomedHand, Runs}
 use Rattle.stm_core.specs.declared.books.Books.{Books}
-use Rattle.stm_core.specs.CoreState.{Transaction, Segment, Doomed, Running, CoreState, owned, sight_of, set_segment, with_segment, with_conflict}
+use Rattle.stm_core.specs.CoreState.{Transaction, Segment, Doomed, Running, CoreState, no_world, owned, sight_of, set_segment, with_segment, with_conflict}
 use Rattle.stm_core.specs.Conflict.{loser, winner, wins, side, IsMet, IsStanding}
 use Rattle.stm_core.specs.Good.{IsLocked}
-use Rattle.stm_core.specs.Asking.{Changes, Reaches, AsksToChange, AskedFor}
+use Rattle.stm_core.specs.Asking.{Reaches, AsksToChange}
 use Rattle.stm_core.specs.Moves.{Advances, IsFree, Dooms as DoomsMove, Follows}
-use Rattle.stm_core.specs.Books.{WorkFits, is_lock, transaction, segment_of, core_of}
-use Rattle.stm_core.specs.Hold.{Hold, sight, Dooms, Beside, SegDoes}
-use Rattle.stm_core.specs.SegSense.{seg_sense}
-use Rattle.lock_run.proofs.Following.{run_upto}
-use Rattle.stm_core.proofs.Holding.{beside_refl, beside_then, beside_weaker}
-
--- a sight with another world
-abbrev pub at_world : {S : Type 0} → World → Sight S → Sight S
-at_world w s = record s { world = w }
-
--- a call that was done is done in any world
-act_world : {S : Type 0} (w : World) (k : ℕ) (me : Side) (c : Call S) (d : Hold S) (r : Reply c) (e : Hold S) → me.solo ≡ false → SegDoes k me c d r e → ((c ≡ MidLine) → ⊥) → Act c (at_world w (sight k d)) r (at_world w (sight k e))
-act_world w k me (Put on bytes) d r e mortal h n = absurd h
-act_world w k me (Take most) d r e mortal h n = absurd h
-act_world w k me (SetMidLine b) d r e mortal h n = absurd (both_ways me.solo mortal h.0)
-act_world w k me MidLine d r e mortal h n = absurd (n refl)
-act_world w k me (Read a) d r e mortal h n = (h.0.0, ap (at_world w) h.0.1)
-act_world w k me (Find a v) d r e mortal h n = (h.0.0, h.0.1, h.0.2, h.0.3, ap (at_world w) h.0.4)
-act_world w k me (Edit a x) d r e mortal h n = (h.0.0, h.0.1, h.0.2, ap (at_world w) h.0.3)
-act_world w k me (Make q) d r e mortal h n = (h.0.0, ap (at_world w) h.0.1)
-act_world w k me (Start s) d r e mortal h n = ap (at_world w) h.0
-
--- what it leaves beside
-pub call_beside : {S : Type 0} (k : ℕ) (me : Side) (c : Call S) (d : Hold S) (r : Reply c) (e : Hold S) → SegDoes k me c d r e → Beside k me (λ a. Changes a c) d e
-call_beside k me (Put on bytes) d r e h = absurd h
-call_beside k me (Take most) d r e h = absurd h
-call_beside k me (SetMidLine b) d r e h = subst (Beside k me (λ a. ⊥) d) (sym h.1) (beside_refl k me d)
-call_beside k me MidLine d r e h = subst (Beside k me (λ a. ⊥) d) (sym h.1) (beside_refl k me d)
-call_beside k me (Read a) d r e h = h.1
-call_beside k me (Find a v) d r e h = h.1
-call_beside k me (Edit a x) d r e h = h.1
-call_beside k me (Make q) d r e h = h.1
-call_beside k me (Start s) d r e h = h.1
-
--- what the next call of a row changes was asked for on the way from there
-pub asked_now : {S A : Type 0} (c : Call S) (f : Reply c → Row S A) (s : Sight S) (left : Row S A) (t : Sight S) (a : ℕ) → Upto pure (Do c f) s left t → Changes a c → AskedFor (Do c f) s left t a
-unfolding Upto
-asked_now c f s left t a on h = record { call = c; next = f; at = s; upto = inl (refl, refl); on = on; changes = h }
-
--- and so was what was asked for after it
-pub asked_later : {S A : Type 0} (c : Call S) (f : Reply c → Row S A) (s : Sight S) (r : Reply c) (m : Sight S) (left : Row S A) (t : Sight S) (a : ℕ) → Act c s r m → AskedFor (f r) m left t a → AskedFor (Do c f) s left t a
-unfolding Upto
-asked_later c f s r m left t a act h = record { call = h.call; next = h.next; at = h.at; upto = inr (r, m, act, h.upto); on = h.on; changes = h.changes }
-
-module _ {S X : Type 0} (hold : X → Hold S) (segment : X → ℕ) (me : X → Side) (same : X → X → Type 0) (w : World) where
-  -- a row that writes next isn't done
-  no_write : {A : Type 0} (row : Row S A) (v : X) (y : A) (u : X) → Writes row → Run (seg_sense hold segment me same) row v y u → ⊥
-  unfolding Run
-  no_write (Do (Put on bytes) k) v y u h d = d.2.0
-  no_write (Ret a) v y u h d = h
-  no_write (Do (Take most) k) v y u h d = h
-  no_write (Do MidLine k) v y u h d = h
-  no_write (Do (SetMidLine b) k) v y u h d = h
-  no_write (Do (Read a) k) v y u h d = h
-  no_write (Do (Find a x) k) v y u h d = h
-  no_write (Do (Edit a x) k) v y u h d = h
-  no_write (Do (Make q) k) v y u h d = h
-  no_write (Do (Start s) k) v y u h d = h
-
-  -- after the question for the flag nothing is done
-  no_question : {A : Type 0} (c : Call S) (k : Reply c → Row S A) (r : Reply c) (m : X) (y : A) (u : X) → c ≡ MidLine → WritesThen c k → Run (seg_sense hold segment me same) (k r) m y u → ⊥
-  no_question MidLine k r m y u e h d = no_write (k r) m y u (h r) d
-  no_question (Put on bytes) k r m y u e h d = cc
-  no_question (Take most) k r m y u e h d = cc
-  no_question (SetMidLine b) k r m y u e h d = cc
-  no_question (Read a) k r m y u e h d = cc
-  no_question (Find a v) k r m y u e h d = cc
-  no_question (Edit a x) k r m y u e h d = cc
-  no_question (Make q) k r m y u e h d = cc
-  no_question (Start s) k r m y u e h d = cc
-
-  -- a row that was done over the view was done over what the segment sees, and others were doomed for what it asked to change
-  pub row_done : {A : Type 0} (k : ℕ) (s : Side) (mortal : s.solo ≡ false) (row : Row S A) (v : X) (y : A) (u : X) → segment v ≡ k → me v ≡ s → AsksToPrint row → Run (seg_sense hold segment me same) row v y u
-      → Does row (at_world w (sight k (hold v))) y (at_world w (sight k (hold u))) × Beside k s (AskedFor row (at_world w (sight k (hold v))) (Ret y) (at_world w (sight k (hold u)))) (hold v) (hold u)
-  unfolding Run Upto
-  row_done k s mortal (Ret a) v y u ek es q d = (
-    (d.0, ap (λ z. at_world w (sight k (hold z))) d.1),
-    subst (λ z. Beside k s (AskedFor (Ret a) (at_world w (sight k (hold v))) (Ret y) (at_world w (sight k (hold u)))) (hold v) (hold z)) (sym d.1) (beside_refl k s (hold v)),
-  )
-  row_done k s mortal (Do c f) v y u ek es q d =
-      let sv = at_world w (sight k (hold v)) in
-      let sm = at_world w (sight k (hold d.1)) in
-      let su = at_world w (sight k (hold u)) in
-      let done : SegDoes k s c (hold v) d.0 (hold d.1) = subst (λ i. SegDoes i s c (hold v) d.0 (hold d.1)) ek (subst (λ z. SegDoes (segment v) z c (hold v) d.0 (hold d.1)) es d.2.0) in
-      let n : c ≡ MidLine → ⊥ = λ e. no_question c f d.0 d.1 y u e q.0 d.3 in
-      let act : Act c sv d.0 sm = act_world w k s c (hold v) d.0 (hold d.1) mortal done n in
-      let rest = row_done k s mortal (f d.0) d.1 y u (d.2.1.segment_is ∙ ek) (d.2.1.me_is ∙ es) (q.1 d.0) d.3 in
-      let on : Upto pure (Do c f) sv (Ret y) su = inr (d.0, sm, act, run_upto pure (f d.0) sm y su rest.0) in
-      let head = beside_weaker (λ a. Changes a c) (AskedFor (Do c f) sv (Ret y) su) k s (hold v) (hold d.1) (λ a h. asked_now c f sv (Ret y) su a on h) (call_beside k s c (hold v) d.0 (hold d.1) done) in
-      let tail = beside_weaker (AskedFor (f d.0) sm (Ret y) su) (AskedFor (Do c f) sv (Ret y) su) k s (hold d.1) (hold u) (λ a h. asked_later c f sv d.0 sm (Ret y) su a act h) rest.1 in
-      ((d.0, sm, act, rest.0), beside_then k s (hold v) (hold d.1) (hold u) head tail)
+use Rattle.stm_core.specs.Books.{WorkFits, is_lock, Worlds, transaction, segment_of, core_of}
+use Rattle.stm_core.specs.Hold.{Hold, sight, Dooms}
+use Rattle.stm_core.proofs.Way.{at_used}
 
 -- ---- the transaction of the segment
 
@@ -140,50 +49,59 @@ unchanged r m k a s h = go ((m.part k).changes a) (s.changes k a ∙ h)
     go None e = refl
     go (Some q) e = absurd (both_ways true e refl)
 
+-- the world in which a transaction makes its steps
+abbrev pub world_of : Worlds → Bool → World
+world_of w solo = cond solo w.own w.committed
+
+-- it is the one that it goes into its next step with
+world_there : (w : Worlds) (solo : Bool) → world_of w solo ≡ cond solo (cond solo w.own no_world) w.committed
+world_there w true = refl
+world_there w false = refl
+
 -- the sight of the transaction is the one that the view shows
-pub sight_is : {S : Type 0} (w : World) (k : ℕ) (m : Meaning) (x : Work S) (d : Hold S) → places x.progress.names ≡ (m.part k).made → sees d.meaning k ≡ sees m k → (d.meaning.part k).looked ≡ (m.part k).looked
-    → holds (d.meaning.part k) ≡ holds (m.part k) → (d.meaning.part k).made ≡ (m.part k).made → d.progress.started ≡ x.progress.started → at_world w (sight k d) ≡ sight_of m.image w (transaction w (m.part k) x)
+pub sight_is : {S : Type 0} (w : Worlds) (k : ℕ) (m : Meaning) (x : Work S) (d : Hold S) → places x.progress.names ≡ (m.part k).made → sees d.meaning k ≡ sees m k → (d.meaning.part k).looked ≡ (m.part k).looked
+    → holds (d.meaning.part k) ≡ holds (m.part k) → (d.meaning.part k).made ≡ (m.part k).made → d.progress.started ≡ x.progress.started → at_used (world_of w x.solo) x.solo (sight k d) ≡ sight_of m.image w.committed (transaction w.own (m.part k) x)
 sight_is {S} w k m x d names heap looked held made started i = record {
   heap = heap i;
   looked = looked i;
-  touched = (held ∙ sym (owned_is w (m.part k) x names)) i;
+  touched = (held ∙ sym (owned_is w.own (m.part k) x names)) i;
   made = (made ∙ sym names) i;
   started = started i;
-  world = w;
-  used = false;
+  world = world_there w x.solo i;
+  used = x.solo;
 }
 
--- one step more
-pub advances : {S : Type 0} (prog : Prog S) (w : World) (k : ℕ) (m m1 : Meaning) (r1 : ℕ) (b1 : Books S) (x x1 : Work S) (d e : Hold S) (o : Outcome) → prog.life x.state ≡ Lives → (o ≢ WaitsNow)
-    → Does (prog.row x.state) (at_world w (sight k d)) (o, x1.state) (at_world w (sight k e)) → at_world w (sight k d) ≡ sight_of m.image w (transaction w (m.part k) x)
+-- one step more, which leads a solo transaction to the world `own`
+pub advances : {S : Type 0} (prog : Prog S) (w : Worlds) (own : World) (k : ℕ) (m m1 : Meaning) (r1 : ℕ) (x x1 : Work S) (d e : Hold S) (o : Outcome) (w1 : World) (u1 : Bool) → prog.life x.state ≡ Lives → (o ≢ WaitsNow)
+    → Does (prog.row x.state) (at_used (world_of w x.solo) x.solo (sight k d)) (o, x1.state) (at_used w1 u1 (sight k e)) → at_used (world_of w x.solo) x.solo (sight k d) ≡ sight_of m.image w.committed (transaction w.own (m.part k) x)
     → e.meaning ≡ m1 → e.progress.started ≡ x1.progress.started → m1.image ≡ m.image → places x1.progress.names ≡ (m1.part k).made → IsStore r1 m1 → ((a : ℕ) → mem a (m1.part k).changed ≡ true → is_lock (m1.image a) ((m1.part k).looked a) ≡ true)
-    → x1.thread ≡ x.thread → x1.begun ≡ x.begun → x1.steps ≡ suc x.steps → Advances prog m.image w (transaction w (m.part k) x) (transaction w (m1.part k) x1)
-advances {S} prog w k m m1 r1 b1 x x1 d e o lives goes does start em es im names st locks th be sp =
-    let own = owned_is w (m1.part k) x1 names in
+    → x1.thread ≡ x.thread → x1.begun ≡ x.begun → x1.steps ≡ suc x.steps → x1.solo ≡ x.solo → (x.solo ≡ true → own ≡ w1) → (x.solo ≡ false → u1 ≡ false) → Advances prog m.image w.committed (transaction w.own (m.part k) x) (transaction own (m1.part k) x1)
+advances {S} prog w own k m m1 r1 x x1 d e o w1 u1 lives goes does start em es im names st locks th be sp so world quiet =
+    let held = owned_is own (m1.part k) x1 names in
     record {
-      sight = at_world w (sight k e);
-      step = record { lives = lives; outcome = o; goes_on = goes; does = subst (λ s. Does (prog.row x.state) s (o, x1.state) (at_world w (sight k e))) start does };
+      sight = at_used w1 u1 (sight k e);
+      step = record { lives = lives; outcome = o; goes_on = goes; does = subst (λ s. Does (prog.row x.state) s (o, x1.state) (at_used w1 u1 (sight k e))) start does };
       thread = th;
       begun = be;
-      solo = refl;
+      solo = so;
       steps = sp;
       shows = record {
         view = λ a. ap (λ (z : Meaning). sees z k a) em ∙ ap (λ (h : Heap). over ((m1.part k).changes a) (h a)) im;
         made = ap (λ (z : Meaning). (z.part k).made) em ∙ sym names;
         started = es;
         looked = λ a h. sym (ap (λ (z : Meaning). (z.part k).looked a) em) ∙ h;
-        touched = λ a h. ap (λ f. f a) own ∙ sym (ap (λ (z : Meaning). holds (z.part k) a) em) ∙ h;
-        within = λ a h. unchanged r1 m1 k a st (sym (ap (λ f. f a) own) ∙ h);
+        touched = λ a h. ap (λ f. f a) held ∙ sym (ap (λ (z : Meaning). holds (z.part k) a) em) ∙ h;
+        within = λ a h. unchanged r1 m1 k a st (sym (ap (λ f. f a) held) ∙ h);
         locked = λ a h. let l = locked_is m1.image (m1.part k) a (locks a h) in record { entry = l.entry; is = sym (ap (λ (z : Heap). z a) im) ∙ l.is; tracked = l.tracked; marked = l.marked };
         unused = λ a h. sym (ap (λ (z : Heap). z a) im) ∙ st.unused k a (sym (ap (mem a) names) ∙ h);
-        world_is = λ h. absurd (both_ways false refl h);
-        quiet = λ h. refl;
+        world_is = λ h. sym (world (sym so ∙ h)) ∙ sym (cond-true x1.solo own no_world h);
+        quiet = λ h. quiet (sym so ∙ h);
       };
     }
 
 -- its locks and names are no other's
-pub is_free : {S : Type 0} (w : World) (k r : ℕ) (m : Meaning) (b : Books S) (x : Work S) → IsStore r m → places x.progress.names ≡ (m.part k).made → ((j : ℕ) (z : Work S) → slice_get b.hands.items j ≡ Some (Runs z) → WorkFits (m.part j) z)
-    → IsFree (core_of w m b) k (transaction w (m.part k) x)
+pub is_free : {S : Type 0} (w : Worlds) (k r : ℕ) (m : Meaning) (b : Books S) (x : Work S) → IsStore r m → places x.progress.names ≡ (m.part k).made → ((j : ℕ) (z : Work S) → slice_get b.hands.items j ≡ Some (Runs z) → WorkFits (m.part j) z)
+    → IsFree (core_of w m b) k (transaction w.own (m.part k) x)
 is_free {S} w k r m b x s names others = record {
   changed = λ j y n e a h. let q = of_other j y e in
       ap (λ (z : Transaction S). mem a z.changed) (sym q.1) ∙ first_false (mem a (m.part j).changed) (mem a (m.part j).made) (s.apart k j a (λ z. n (sym z)) (or_left (mem a (m.part k).changed) (mem a (m.part k).made) h));
@@ -200,10 +118,10 @@ is_free {S} w k r m b x s names others = record {
     last_false false q e = e
     last_false true q e = absurd (both_ways true e refl)
 
-    of_other : (j : ℕ) (y : Transaction S) → segment_of w (m.part j) (slice_get b.hands.items j) ≡ Running y → (z : Work S) × (transaction w (m.part j) z ≡ y) × (slice_get b.hands.items j ≡ Some (Runs z))
+    of_other : (j : ℕ) (y : Transaction S) → segment_of w.own (m.part j) (slice_get b.hands.items j) ≡ Running y → (z : Work S) × (transaction w.own (m.part j) z ≡ y) × (slice_get b.hands.items j ≡ Some (Runs z))
     of_other j y e = go (slice_get b.hands.items j) refl e
       where
-        go : (o : Option (Hand S)) → slice_get b.hands.items j ≡ o → segment_of w (m.part j) o ≡ Running y → (z : Work S) × (transaction w (m.part j) z ≡ y) × (slice_get b.hands.items j ≡ Some (Runs z))
+        go : (o : Option (Hand S)) → slice_get b.hands.items j ≡ o → segment_of w.own (m.part j) o ≡ Running y → (z : Work S) × (transaction w.own (m.part j) z ≡ y) × (slice_get b.hands.items j ≡ Some (Runs z))
         go None f h = absurd cc
         go (Some IdleHand) f h = absurd cc
         go (Some (DoomedHand c)) f h = absurd cc

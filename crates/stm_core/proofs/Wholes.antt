@@ -3,7 +3,6 @@ use Rattle.std.proofs.Common.{◌≡◌, ◌≢◌, ◌<◌, ◌≤◌, ◌+◌,
 use Rattle.std.specs.List.{sum_by}
 use Rattle.std.proofs.lemmas.Bool.{cases_Bool, both_ways, eqb-true, eqb-false, cond-true, cond-false}
 use Rattle.std.proofs.lemmas.Option.{slice_get_within}
-use Rattle.py_data.specs.World.{World}
 use Rattle.py_data.specs.Sight.{mem}
 use Rattle.py_data.specs.declared.stop.Conflict.{Conflict}
 use Rattle.seg_store.specs.Meaning.{Part, Meaning, holds}
@@ -14,7 +13,7 @@ use Rattle.stm_core.specs.declared.books.Hand.{Hand}
 use Rattle.stm_core.specs.declared.books.Hand.TheVariants.{Idle, Runs}
 use Rattle.stm_core.specs.declared.books.Books.{Books}
 use Rattle.stm_core.specs.CoreState.{set_segment, with_segment, with_conflict}
-use Rattle.stm_core.specs.Books.{WorkFits, is_running, runs_at, one_running, one_started, is_lock, segment_of, core_of, Fit}
+use Rattle.stm_core.specs.Books.{Worlds, WorkFits, is_running, runs_at, one_running, one_started, is_lock, segment_of, core_of, Fit}
 use Rattle.stm_core.specs.Whole.{Whole}
 use Rattle.stm_core.proofs.Publish.{get_set_other}
 use Rattle.stm_core.proofs.Fits.{get_set_same, sum_set}
@@ -102,11 +101,11 @@ module _ {S : Type 0} (k : ℕ) (m : Meaning) (b b1 : Books S) where
       same_work y z e = cc
 
   -- the core's state with a hand set
-  pub core_set : (w : World) (h : Hand S) → Set k h b b1 → k < length b.hands.items → core_of w m b1 ≡ with_segment k (segment_of w (m.part k) (Some h)) (core_of w m b)
+  pub core_set : (w : Worlds) (h : Hand S) → Set k h b b1 → k < length b.hands.items → core_of w m b1 ≡ with_segment k (segment_of w.own (m.part k) (Some h)) (core_of w m b)
   core_set w h s lt i = record {
     image = m.image;
     threads = ap (λ (z : Books S). z.threads.entries) s.rest i;
-    world = w;
+    world = w.committed;
     history = ap (λ (z : Books S). z.history.entries) s.rest i;
     conflicts = ap (λ (z : Books S). z.conflicts.entries) s.rest i;
     begun = ap (λ (z : Books S). z.begun) s.rest i;
@@ -115,12 +114,12 @@ module _ {S : Type 0} (k : ℕ) (m : Meaning) (b b1 : Books S) where
     segments = λ x. same x i;
   }
     where
-      same : (x : ℕ) → segment_of w (m.part x) (slice_get b1.hands.items x) ≡ set_segment k (segment_of w (m.part k) (Some h)) (λ y. segment_of w (m.part y) (slice_get b.hands.items y)) x
+      same : (x : ℕ) → segment_of w.own (m.part x) (slice_get b1.hands.items x) ≡ set_segment k (segment_of w.own (m.part k) (Some h)) (λ y. segment_of w.own (m.part y) (slice_get b.hands.items y)) x
       same x = elim (cases_Bool (eqb x k)) [
         | inl y ↦ let e : x ≡ k = eqb-true x k y in
-            ap (λ z. segment_of w (m.part z) (slice_get b1.hands.items z)) e ∙ ap (segment_of w (m.part k)) (set_here h s lt)
-            ∙ sym (cond-true (eqb x k) (segment_of w (m.part k) (Some h)) (segment_of w (m.part x) (slice_get b.hands.items x)) y)
-        | inr n ↦ ap (segment_of w (m.part x)) (set_there h s x (eqb-false x k n)) ∙ sym (cond-false (eqb x k) (segment_of w (m.part k) (Some h)) (segment_of w (m.part x) (slice_get b.hands.items x)) n)
+            ap (λ z. segment_of w.own (m.part z) (slice_get b1.hands.items z)) e ∙ ap (segment_of w.own (m.part k)) (set_here h s lt)
+            ∙ sym (cond-true (eqb x k) (segment_of w.own (m.part k) (Some h)) (segment_of w.own (m.part x) (slice_get b.hands.items x)) y)
+        | inr n ↦ ap (segment_of w.own (m.part x)) (set_there h s x (eqb-false x k n)) ∙ sym (cond-false (eqb x k) (segment_of w.own (m.part k) (Some h)) (segment_of w.own (m.part x) (slice_get b.hands.items x)) n)
       ]
 
 -- a transaction that was taken out is dropped
@@ -175,17 +174,17 @@ noted {S} m b b1 f lt eb room =
       threads = omega (arith, th, pe, r);
     }
 
-pub core_noted : {S : Type 0} (w : World) (m : Meaning) (b b1 : Books S) (f : Conflict) → b1 ≡ record b { conflicts = b1.conflicts } → b1.conflicts.entries ≡ b.conflicts.entries ++ f ∷ [] → core_of w m b1 ≡ with_conflict f (core_of w m b)
+pub core_noted : {S : Type 0} (w : Worlds) (m : Meaning) (b b1 : Books S) (f : Conflict) → b1 ≡ record b { conflicts = b1.conflicts } → b1.conflicts.entries ≡ b.conflicts.entries ++ f ∷ [] → core_of w m b1 ≡ with_conflict f (core_of w m b)
 core_noted {S} w m b b1 f eb ec i = record {
   image = m.image;
   threads = ap (λ (z : Books S). z.threads.entries) eb i;
-  world = w;
+  world = w.committed;
   history = ap (λ (z : Books S). z.history.entries) eb i;
   conflicts = ec i;
   begun = ap (λ (z : Books S). z.begun) eb i;
   last = ap (λ (z : Books S). z.last) eb i;
   cause = ap (λ (z : Books S). z.cause) eb i;
-  segments = λ x. segment_of w (m.part x) (slice_get (ap (λ (z : Books S). z.hands.items) eb i) x);
+  segments = λ x. segment_of w.own (m.part x) (slice_get (ap (λ (z : Books S). z.hands.items) eb i) x);
 }
 
 -- while a transaction is out, there is room for its conflict

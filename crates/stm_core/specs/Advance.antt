@@ -1,5 +1,5 @@
 -- What so many steps of a transaction are, as moves of the core. States `docs/HEAP.md`, "Events".
-use Rattle.std.specs.Prelude.{◌≡◌, ℕ, Bool, true, false, List, [], ◌∷◌, ◌++◌, length, map, All}
+use Rattle.std.specs.Prelude.{◌≡◌, ℕ, Bool, true, false, Option, List, [], ◌∷◌, ◌++◌, length, map, All}
 use Rattle.py_data.specs.declared.stop.Conflict.{Conflict}
 use Rattle.py_data.specs.Heap.{Heap}
 use Rattle.py_data.specs.Row.{Row, Ret}
@@ -15,7 +15,8 @@ use Rattle.stm_core.specs.Asking.{Went}
 use Rattle.stm_core.specs.Conflict.{AsksFrom}
 use Rattle.stm_core.specs.Good.{Good}
 use Rattle.stm_core.specs.Moves.{Move, Dooms, Goes, Rests, Follows}
-use Rattle.stm_core.specs.Books.{transaction, core_of}
+use Rattle.stm_core.specs.Books.{Worlds, transaction, core_of}
+use Rattle.stm_core.specs.Devices.{DeviceState, Shown}
 
 -- A step of a transaction that was tried: the conflicts by which it doomed others on its way, and then the move that it was.
 pub record Try (S : Type 0) : Type 0 where
@@ -40,8 +41,8 @@ pub record IsTry {S : Type 0} (p : Prog S) (image : Heap) (w : World) (k : ℕ) 
   pub step : IsStepOf p image w k t.dooms t.move done
 
 -- the core with the transaction that was taken out of segment k
-abbrev pub core_with : {S : Type 0} → World → ℕ → Meaning → Books S → Work S → CoreState S
-core_with w k m b x = with_segment k (Running (transaction w (m.part k) x)) (core_of w m b)
+abbrev pub core_with : {S : Type 0} → Worlds → ℕ → Meaning → Books S → Work S → CoreState S
+core_with w k m b x = with_segment k (Running (transaction w.own (m.part k) x)) (core_of w m b)
 
 -- n steps of the transaction of segment k were tried, one after another, and each of them was done, or none. They lead from one
 -- state of the core to another.
@@ -60,10 +61,16 @@ pub record Gone {S : Type 0} (p : Prog S) (most k n more : ℕ) (c c1 : CoreStat
   pub steps : Tried p most k true n c reached
   pub rest : Tried p most k false more reached c1
 
--- a good core with the transaction that was taken out of segment k, from a first state that may stand
+-- a good core, in some worlds, with the transaction that was taken out of segment k, from a first state that may stand
 pub record Sane {S : Type 0} (p : Prog S) (sound : Heap → List S → Type 0) (most k : ℕ) (m : Meaning) (b : Books S) (x : Work S) : Type 0 where
-  pub world : World
-  pub dry : world.mid ≡ false
+  pub worlds : Worlds
   pub start : Machine S
   pub first : sound start.heap start.threads
-  pub good : Good p start most (core_with world k m b x)
+  pub good : Good p start most (core_with worlds k m b x)
+
+-- and the devices show the world of the transaction, where it is solo
+pub record SaneShown {S : Type 0} (p : Prog S) (sound : Heap → List S → Type 0) (most k : ℕ) (d : DeviceState) (m : Meaning) (b : Books S) (x : Work S) : Type 0 where
+  pub sane : Sane p sound most k m b x
+  pub out : Option (List ℕ)
+  pub err : Option (List ℕ)
+  pub shown : Shown x.solo out err d sane.worlds.own

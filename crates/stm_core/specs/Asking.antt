@@ -7,8 +7,14 @@ use Rattle.py_data.specs.declared.change.Change.{Change}
 use Rattle.py_data.specs.Changes.{after, Outgrows}
 use Rattle.py_data.specs.Row.{Call, Reply, Row, Ret, Do, Edit, Make, Put, Take}
 use Rattle.py_data.specs.Sense.{Upto, touches, IfThere}
-use Rattle.py_data.specs.Sight.{Sight, mem, pure}
+use Rattle.py_data.specs.Sight.{Sight, Does, mem, pure}
+use Rattle.py_data.specs.World.{World}
+use Rattle.lock_run.specs.declared.client.Outcome.TheVariants.{Waits as WaitsNow}
+use Rattle.lock_run.specs.Client.{Waiting}
+use Rattle.lock_run.specs.Prog.{Prog}
+use Rattle.seg_store.specs.Meaning.{overlay}
 use Rattle.seg_store.specs.Extents.{Wants}
+use Rattle.stm_core.specs.CoreState.{Transaction, sight_of}
 
 -- ---- kinds of calls
 
@@ -84,3 +90,10 @@ pub record Went {S A : Type 0} (row : Row S A) (s : Sight S) (left : Row S A) (l
   pub looks : (a : ℕ) → looked a ≡ true → (place.looked a ≡ true) ⊎ LooksNext left a
   pub locks : (a : ℕ) → mem a locked ≡ true → (place.touched a ≡ true) ⊎ ChangesNext left a
   pub asked : All (λ (f : Conflict). AskedFor row s left place f.at.0) dooms
+
+-- ---- a step that waits
+
+-- The next step of the transaction waits over what it sees: that of a solo one in its world, and that of another one in any world.
+pub record WaitsThere {S : Type 0} (p : Prog S) (image : Heap) (w : World) (x : Transaction S) : Type 0 where
+  pub mortal : x.solo ≡ false → Waiting (p.row x.state) (overlay image x.changes)
+  pub solo : x.solo ≡ true → (q : S) × (z : Sight S) × Does (p.row x.state) (sight_of image w x) (WaitsNow, q) z

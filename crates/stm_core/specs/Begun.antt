@@ -1,5 +1,5 @@
 -- When a transaction begins, and why it doesn't. States `docs/HEAP.md`, "Events".
-use Rattle.std.specs.Prelude.{◌≡◌, ◌≢◌, ◌⊎◌, ℕ, ◌-◌, ◌^◌, ◌<◌, ◌≤◌, min, List, [], Option, Some, None, slice_get, Result, Ok, Err}
+use Rattle.std.specs.Prelude.{◌≡◌, ◌≢◌, ◌⊎◌, ℕ, ◌-◌, ◌^◌, ◌<◌, ◌≤◌, min, false, List, [], Option, Some, None, slice_get, Result, Ok, Err}
 use Rattle.lock_run.specs.Client.{Waiting, Going}
 use Rattle.lock_run.specs.declared.client.Life.TheVariants.{Lives}
 use Rattle.lock_run.specs.declared.turn.Turn.{Turn}
@@ -70,6 +70,7 @@ pub record IsFresh {S : Type 0} (t : ℕ) (b : Books S) (x : Work S) : Type 0 wh
   pub thread : x.thread ≡ t
   pub begun : x.begun ≡ b.begun
   pub steps : x.steps ≡ 0
+  pub solo : x.solo ≡ false
   pub names : x.progress.names ≡ []
   pub kept_names : x.progress.kept_names ≡ 0
   pub started : x.progress.started ≡ []

@@ -1,6 +1,6 @@
 -- The books of a core as values, and the core's state that they and a store stand for. States `docs/HEAP.md`, "The
 -- transactional core".
-use Rattle.std.specs.Prelude.{◌≡◌, ◌≢◌, ℕ, ◌+◌, ◌<◌, ◌≤◌, Bool, true, false, ◌&&◌, List, [], ◌∷◌, length, take, Option, Some, None, slice_get}
+use Rattle.std.specs.Prelude.{◌≡◌, ◌≢◌, ℕ, ◌+◌, ◌<◌, ◌≤◌, Bool, true, false, cond, ◌&&◌, List, [], ◌∷◌, length, take, Option, Some, None, slice_get}
 use Rattle.std.specs.List.{sum_by}
 use Rattle.py_data.specs.declared.value.Addr.{Addr}
 use Rattle.py_data.specs.declared.stop.Side.{Side}
@@ -9,13 +9,15 @@ use Rattle.py_data.specs.World.{World}
 use Rattle.py_data.specs.Collection.{places}
 use Rattle.py_data.specs.Sight.{mem}
 use Rattle.lock_run.specs.Prog.{Prog}
+use Rattle.lock_run.specs.Cut.{Broken}
 use Rattle.seg_store.specs.Meaning.{Part, Meaning, holds}
 use Rattle.stm_core.specs.declared.books.Progress.{Progress}
 use Rattle.stm_core.specs.declared.books.Work.{Work}
 use Rattle.stm_core.specs.declared.books.Hand.{Hand}
 use Rattle.stm_core.specs.declared.books.Hand.TheVariants as hand
+use Rattle.stm_core.specs.declared.books.Cut.{Cut}
 use Rattle.stm_core.specs.declared.books.Books.{Books}
-use Rattle.stm_core.specs.CoreState.{Transaction, Segment, Idle, Doomed, Running, CoreState}
+use Rattle.stm_core.specs.CoreState.{no_world, Transaction, Segment, Idle, Doomed, Running, CoreState}
 
 -- ---- of one hand
 
@@ -44,7 +46,7 @@ names_at hs j = names_of (slice_get hs j)
 
 -- the transaction of a segment, as a side of a conflict
 abbrev pub side_of : {S : Type 0} → ℕ → Side → Option (Hand S) → Side
-side_of j none (Some (hand.Runs w)) = record { segment = j; thread = w.thread; begun = w.begun; solo = false }
+side_of j none (Some (hand.Runs w)) = record { segment = j; thread = w.thread; begun = w.begun; solo = w.solo }
 side_of j none _ = none
 
 abbrev pub one_running : {S : Type 0} → Hand S → ℕ
@@ -55,9 +57,27 @@ abbrev pub one_started : {S : Type 0} → Hand S → ℕ
 one_started (hand.Runs w) = length w.progress.started
 one_started _ = 0
 
+-- none of them runs a solo transaction
+abbrev pub NoneSolo : {S : Type 0} → List (Hand S) → Type 0
+NoneSolo {S} hs = (j : ℕ) (x : Work S) → slice_get hs j ≡ Some (hand.Runs x) → x.solo ≡ false
+
+-- the segment whose transaction is solo
+abbrev pub IsSoloAt : {S : Type 0} → List (Hand S) → Option ℕ → Type 0
+IsSoloAt hs None = NoneSolo hs
+IsSoloAt {S} hs (Some j) = (x : Work S) × (slice_get hs j ≡ Some (hand.Runs x)) × (x.solo ≡ true)
+
 -- ---- the core's state
 
--- the transaction that a part of a store and the work in hand are
+-- What the books don't keep of the core's state: the committed world, and that of the solo transaction, if there is one.
+pub record Worlds : Type 0 where
+  pub committed : World
+  pub own : World
+
+-- with another world for the solo transaction
+abbrev pub with_own : World → Worlds → Worlds
+with_own v w = record w { own = v }
+
+-- the transaction that a part of a store and the work in hand are, where the world of a solo one is w
 abbrev pub transaction : {S : Type 0} → World → Part → Work S → Transaction S
 transaction w p x = record {
   thread = x.thread;
@@ -69,8 +89,8 @@ transaction w p x = record {
   made = x.progress.names;
   started = x.progress.started;
   begun = x.begun;
-  solo = false;
-  world = w;
+  solo = x.solo;
+  world = cond x.solo w no_world;
 }
 
 abbrev pub segment_of : {S : Type 0} → World → Part → Option (Hand S) → Segment S
@@ -79,19 +99,28 @@ segment_of w p (Some hand.Idle) = Idle
 segment_of w p (Some (hand.Doomed f)) = Doomed f
 segment_of w p (Some (hand.Runs x)) = Running (transaction w p x)
 
--- the state of the core, in this world
-abbrev pub core_of : {S : Type 0} → World → Meaning → Books S → CoreState S
+-- the state of the core, in these worlds
+abbrev pub core_of : {S : Type 0} → Worlds → Meaning → Books S → CoreState S
 core_of w m b = record {
   image = m.image;
   threads = b.threads.entries;
-  world = w;
+  world = w.committed;
   history = b.history.entries;
   conflicts = b.conflicts.entries;
   begun = b.begun;
   last = b.last;
   cause = b.cause;
-  segments = λ j. segment_of w (m.part j) (slice_get b.hands.items j);
+  segments = λ j. segment_of w.own (m.part j) (slice_get b.hands.items j);
 }
+
+-- the worlds once a transaction was committed: that of a solo one is the committed one then
+abbrev pub worlds_after : {S : Type 0} → Worlds → Work S → Worlds
+worlds_after w x = record w { committed = cond x.solo w.own w.committed }
+
+-- the step that was cut for good, as runs are spoken of
+abbrev pub broken_of : Option Cut → Option Broken
+broken_of None = None
+broken_of (Some b) = Some (record { thread = b.thread; turns = b.turns })
 
 -- ---- what fits
 
@@ -139,3 +168,4 @@ pub record IsFirst {S : Type 0} (p : Prog S) (count : ℕ) (b : Books S) : Type 
   pub begun : b.begun ≡ 0
   pub last : b.last ≡ None
   pub cause : b.cause ≡ None
+  pub broken : b.broken ≡ None

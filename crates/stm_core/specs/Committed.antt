@@ -1,5 +1,5 @@
 -- What a commit answers, and what it makes of the core. States `docs/HEAP.md`, "Commit".
-use Rattle.std.specs.Prelude.{◌≡◌, ◌≢◌, ℕ, ◌<◌, ◌≤◌, true, false, length, Some, Result, Ok, Err}
+use Rattle.std.specs.Prelude.{◌≡◌, ◌≢◌, ℕ, ◌<◌, ◌≤◌, false, length, Some, Result, Ok, Err}
 use Rattle.std.specs.List.{range_with_len}
 use Rattle.py_data.specs.declared.stop.Conflict.{Conflict}
 use Rattle.lock_run.specs.Prog.{Prog}

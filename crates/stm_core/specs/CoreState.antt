@@ -1,6 +1,6 @@
 -- The state of the transactional core: the committed state, the history, the conflicts, and what each segment has in hand.
 -- States `docs/HEAP.md`, "The transactional core".
-use Rattle.std.specs.Prelude.{ℕ, ◌≤◌, Bool, false, cond, ◌||◌, eqb, nat_le, List, [], ◌∷◌, ◌++◌, Option, None, slice_set}
+use Rattle.std.specs.Prelude.{ℕ, ◌≤◌, Bool, true, false, cond, ◌||◌, eqb, nat_le, List, [], ◌∷◌, ◌++◌, Option, None, slice_set}
 use Rattle.py_data.specs.declared.stop.Conflict.{Conflict}
 use Rattle.py_data.specs.declared.value.Addr.{Addr}
 use Rattle.py_data.specs.Heap.{Heap, Marks}
@@ -12,6 +12,10 @@ use Rattle.lock_run.specs.Prog.{Prog}
 use Rattle.lock_run.specs.Machine.{Machine}
 use Rattle.seg_store.specs.Meaning.{overlay}
 use Rattle.stm_core.specs.declared.cause.Cause.{Cause}
+
+-- the world of a transaction that isn't solo, at which no step of it looks
+abbrev pub no_world : World
+no_world = record { input = None; out = []; err = []; mid = false }
 
 -- a transaction that runs: its thread, the steps done so far, and what they changed, locked, looked at, made and started
 pub record Transaction (S : Type 0) : Type 0 where
@@ -25,7 +29,7 @@ pub record Transaction (S : Type 0) : Type 0 where
   pub started : List S
   pub begun : ℕ  -- how many transactions were begun before it
   pub solo : Bool
-  pub world : World  -- where it is solo, the world after its steps
+  pub world : World  -- where it is solo, the world after its steps; otherwise `no_world`
 
 -- what a segment has in hand: nothing, a transaction that lost this conflict to another, or one that runs
 pub data Segment (S : Type 0) : Type 0 where
@@ -92,7 +96,11 @@ with_conflict f k = record k { conflicts = k.conflicts ++ f ∷ [] }
 
 -- a transaction of the thread t as it begins
 abbrev pub fresh : {S : Type 0} → CoreState S → ℕ → S → Transaction S
-fresh k t p = record { thread = t; steps = 0; state = p; changes = λ a. None; changed = []; looked = no_marks; made = []; started = []; begun = k.begun; solo = false; world = k.world }
+fresh k t p = record { thread = t; steps = 0; state = p; changes = λ a. None; changed = []; looked = no_marks; made = []; started = []; begun = k.begun; solo = false; world = no_world }
+
+-- a transaction as it becomes solo over the committed world w; one that is solo stays as it is
+abbrev pub soloed : {S : Type 0} → World → Transaction S → Transaction S
+soloed w x = record x { solo = true; world = world_after w x }
 
 -- a core as it is made: the machine's first state, and nothing in hand
 abbrev pub core_new : {S : Type 0} → Prog S → World → CoreState S

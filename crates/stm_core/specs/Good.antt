@@ -1,5 +1,5 @@
 -- When a transaction stands, and when a core is good. States `docs/HEAP.md`, "A transaction that stands" and "A good core".
-use Rattle.std.specs.Prelude.{◌≡◌, ◌≢◌, ℕ, ◌<◌, ◌≤◌, true, false, List, Some, None, slice_get, All, AllPairs, Contains}
+use Rattle.std.specs.Prelude.{◌≡◌, ◌≢◌, ℕ, ◌<◌, true, false, List, Some, None, slice_get, All, AllPairs, Contains}
 use Rattle.py_data.specs.declared.stop.Conflict.{Conflict}
 use Rattle.py_data.specs.Heap.{Rec, Heap, Marks, is_tracked}
 use Rattle.py_data.specs.World.{World}

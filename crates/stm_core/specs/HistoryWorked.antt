@@ -1,24 +1,27 @@
--- What events leave, worked by hand on a core of one thread. States `docs/HEAP.md`, "Events".
-use Rattle.std.specs.Prelude.{◌≡◌, ℕ, true, false, cond, eqb, [], ◌∷◌, Some, None, Ok, Err, refl}
+-- What events leave, worked by hand: a commit, a conflict, and a solo transaction that fails after a step.
+-- States `docs/HEAP.md`, "Events".
+use Rattle.std.specs.Prelude.{◌≡◌, ℕ, ◌≤◌, ◌<◌, true, false, cond, eqb, [], ◌∷◌, Some, None, Ok, Err, refl}
 use Rattle.std.proofs.Common.{arith, inl, inr}
-use Rattle.std.proofs.lemmas.List.Elements.{Contains-push}
+use Rattle.std.proofs.lemmas.List.Elements.{All-nil, All-cons, Contains-push}
 use Rattle.py_data.specs.declared.stop.Conflict.{Conflict}
 use Rattle.py_base.specs.declared.kind.Kind.TheVariants.{Cell}
 use Rattle.py_data.specs.Heap.{Rec, new_rec, put_at, no_records}
+use Rattle.py_data.specs.World.{World}
 use Rattle.py_data.specs.Sight.{no_marks, with_mark}
+use Rattle.lock_run.specs.Prog.{Prog}
 use Rattle.seg_store.specs.Meaning.{overlay}
 use Rattle.stm_core.specs.declared.answers.Advance.TheVariants.{Ran, Waits, Ended}
 use Rattle.stm_core.specs.declared.answers.AdvanceError.TheVariants as advance
-use Rattle.stm_core.specs.declared.cause.Cause.TheVariants.{OutOfMemory}
-use Rattle.stm_core.specs.declared.events.Event.TheVariants.{Begin, Advance, Commit}
-use Rattle.stm_core.specs.declared.events.Reply.TheVariants.{Skipped, Begun, Committed, Nothing, Lost}
-use Rattle.stm_core.specs.CoreState.{Transaction, Idle, Doomed, Running, CoreState, turn_of, with_segment}
+use Rattle.stm_core.specs.declared.cause.Cause.TheVariants.{WriteFault, OutOfMemory}
+use Rattle.stm_core.specs.declared.events.Event.TheVariants.{Begin, Advance, Solo, Commit}
+use Rattle.stm_core.specs.declared.events.Reply.TheVariants.{Skipped, Begun, Unsolo, Committed, Nothing, Lost, Failed}
+use Rattle.stm_core.specs.declared.solo.SoloError.TheVariants as solo
+use Rattle.stm_core.specs.CoreState.{Transaction, Idle, Doomed, Running, CoreState, no_world, turn_of, with_segment}
 use Rattle.stm_core.specs.Conflict.{conflict}
 use Rattle.stm_core.specs.Moves.{published}
-use Rattle.stm_core.specs.Advanced.{with_cause, tried_after}
+use Rattle.stm_core.specs.Advanced.{with_cause, tried_after, IsOwn}
 use Rattle.stm_core.specs.Events.{Limits}
-use Rattle.stm_core.specs.Hold.{no_world}
-use Rattle.stm_core.specs.History.{event_segment, Publishes, IsMadeBy, IsEarly, ComesToEnd, IsDoomed, IsTold, numbers_of, IsGrown}
+use Rattle.stm_core.specs.History.{event_segment, AddsTurn, Publishes, IsMadeBy, IsEarly, ComesToEnd, IsDoomed, IsToldLost, numbers_of, IsGrown}
 
 abbrev limits : Limits
 limits = record { length = 10; budget = 100; segments = 2; words = 0 }
@@ -27,6 +30,9 @@ limits = record { length = 10; budget = 100; segments = 2; words = 0 }
 
 segment_row : event_segment (Advance 1 5) ≡ 1
 segment_row = refl
+
+solo_segment_row : event_segment (Solo 1) ≡ 1
+solo_segment_row = refl
 
 -- of five steps that are asked for the last one can meet a conflict, after four
 early_row : IsEarly (Advance 1 5) 4
@@ -71,15 +77,6 @@ asked_by = conflict 0 writer 1 reader 3 true 1
 abbrev won_by : Conflict
 won_by = conflict 0 writer 1 reader 3 false 0
 
-commit_makes : IsMadeBy (Commit 0) read_by
-commit_makes = (refl, refl)
-
-advance_makes : IsMadeBy (Advance 1 5) asked_by
-advance_makes = (refl, refl)
-
-begin_makes_none : IsMadeBy (Begin 1 1) asked_by → ⊥
-begin_makes_none h = h
-
 reader_doomed : IsDoomed 1 (read_by ∷ []) (Running reader) (Doomed read_by)
 reader_doomed = record {
   conflict = read_by;
@@ -113,13 +110,9 @@ after = record before {
   segments = λ i. Idle;
 }
 
-commit_publishes : Publishes limits (Commit 0) (Committed 0) before after
-commit_publishes = record {
-  call = refl;
-  x = writer;
-  runs = refl;
+writer_turn : AddsTurn limits 0 writer before after
+writer_turn = record {
   some = omega arith;
-  number = refl;
   history = refl;
   image = refl;
   threads = refl;
@@ -128,23 +121,94 @@ commit_publishes = record {
   unread = λ j y below runs a locked. absurd cc;
 }
 
+commit_publishes : (p : Prog ℕ) → Publishes p limits (Commit 0) (Committed 0) before after
+commit_publishes p = record { call = refl; x = writer; runs = refl; number = refl; turn = writer_turn }
+
 -- a commit that is told its conflict commits nothing
-lost_publishes : Publishes limits (Commit 0) (Lost read_by) before (with_segment 0 Idle before)
-lost_publishes = record { image = refl; threads = refl; world = refl; history = refl }
+lost_publishes : (p : Prog ℕ) → Publishes p limits (Commit 0) (Lost read_by) before (with_segment 0 Idle before)
+lost_publishes p = record { image = refl; threads = refl; world = refl; history = refl }
+
+-- who makes which conflicts: an advance where it asks, and a commit where another one has looked
+commit_makes : IsMadeBy (Commit 0) before after read_by
+commit_makes = (refl, refl)
+
+advance_makes : IsMadeBy (Advance 1 5) before before asked_by
+advance_makes = inl (refl, refl)
+
+advance_makes_none : IsMadeBy (Advance 0 5) before after read_by → ⊥
+advance_makes_none (inl h) = let e = h.1 in absurd cc
+advance_makes_none (inr h) = let e = h.1 in absurd cc
+
+begin_makes_none : IsMadeBy (Begin 1 1) before before asked_by → ⊥
+begin_makes_none h = h
 
 -- a commit that loses a conflict, and one that was doomed by it before
-lost_told : IsTold 0 (Lost won_by) (won_by ∷ []) before (with_segment 0 Idle before)
+lost_told : IsToldLost 0 (Lost won_by) (won_by ∷ []) before (with_segment 0 Idle before)
 lost_told = (refl, inr (Contains-push [] won_by, refl))
 
-doomed_told : IsTold 1 (Lost read_by) [] (with_segment 1 (Doomed read_by) before) (with_segment 1 Idle before)
+doomed_told : IsToldLost 1 (Lost read_by) [] (with_segment 1 (Doomed read_by) before) (with_segment 1 Idle before)
 doomed_told = (refl, inl refl)
 
--- the commit ends with its transaction committed, and an advance as it is, or with a cause
+unsolo_told : IsToldLost 1 (Unsolo (solo.Lost read_by)) [] (with_segment 1 (Doomed read_by) before) (with_segment 1 Idle before)
+unsolo_told = (refl, refl)
+
+-- the commit ends with its transaction committed, and an advance that dropped its own with a cause
 commit_ends : ComesToEnd (Commit 0) before (published 0 writer before)
 commit_ends = inr (writer, refl, refl)
 
-advance_ends : ComesToEnd (Advance 0 5) before (with_cause OutOfMemory (with_segment 0 Idle before))
-advance_ends = inr (OutOfMemory, refl)
+advance_ends : ComesToEnd (Advance 0 5) (with_segment 0 Idle before) (with_cause OutOfMemory (with_segment 0 Idle before))
+advance_ends = inr (OutOfMemory, inl refl)
+
+-- ---- a solo transaction that has done a step and printed, and whose next step is cut in an advance by at most five
+
+abbrev printed : World
+printed = record no_world { out = 104 ∷ [] }
+
+abbrev soloist : Transaction ℕ
+soloist = record writer { solo = true; world = printed }
+
+abbrev solo_before : CoreState ℕ
+solo_before = record before { segments = λ i. cond (eqb i 0) (Running soloist) Idle }
+
+-- the step that it did is committed
+abbrev solo_after : CoreState ℕ
+solo_after = record after { world = printed; cause = Some WriteFault }
+
+failed_publishes : (p : Prog ℕ) → Publishes p limits (Advance 0 5) (Failed WriteFault) solo_before solo_after
+failed_publishes p = inr (record {
+  most = 5;
+  call = refl;
+  y = soloist;
+  runs = refl;
+  left = solo_before;
+  way = record { moves = []; follows = refl; own = All-nil (IsOwn 0) };
+  early = omega arith;
+  x = soloist;
+  ran = refl;
+  same = refl;
+  steps = refl;
+  solo = refl;
+  turn = record {
+    some = omega arith;
+    history = refl;
+    image = refl;
+    threads = refl;
+    world = refl;
+    idle = refl;
+    unread = λ j y below runs a locked. absurd cc;
+  };
+})
+
+failed_ends : ComesToEnd (Advance 0 5) solo_before (with_cause WriteFault (published 0 soloist solo_before))
+failed_ends = inr (WriteFault, inr (soloist, refl, refl, omega arith, refl))
+
+-- it dooms who has looked
+failed_makes : IsMadeBy (Advance 0 5) solo_before solo_after (conflict 0 soloist 1 reader 3 false 1)
+failed_makes = inr ((refl, refl), refl, omega arith)
+
+-- an advance that fails may commit nothing
+dropped_publishes : (p : Prog ℕ) → Publishes p limits (Advance 0 5) (Failed OutOfMemory) before (with_cause OutOfMemory (with_segment 0 Idle before))
+dropped_publishes p = inl (record { image = refl; threads = refl; world = refl; history = refl })
 
 -- ---- steps that were tried after those that were done
 
@@ -168,11 +232,26 @@ numbers_row = refl
 no_numbers_row : numbers_of (Begun ∷ Lost read_by ∷ []) ≡ []
 no_numbers_row = refl
 
-history_grown : IsGrown (numbers_of (Committed 0 ∷ [])) before after
+history_grown : IsGrown (Committed 0 ∷ []) before after
 history_grown = record {
   turns = turn_of writer ∷ [];
   history = refl;
-  numbered = refl;
+  ascend = λ i j d lt below. absurd (omega (arith, lt, below));
+  places = All-cons (λ (n : ℕ). (0 ≤ n) × (n < 1)) 0 [] (omega arith, omega arith) (All-nil (λ (n : ℕ). (0 ≤ n) × (n < 1)));
+  others = omega arith;
+  new = [];
+  conflicts = refl;
+  quiet = λ e. absurd cc;
+}
+
+-- the turn of an event that failed has no number
+failed_grown : IsGrown (Failed WriteFault ∷ []) solo_before solo_after
+failed_grown = record {
+  turns = turn_of soloist ∷ [];
+  history = refl;
+  ascend = λ i j d lt below. absurd (omega (arith, below));
+  places = All-nil (λ (n : ℕ). (0 ≤ n) × (n < 1));
+  others = omega arith;
   new = [];
   conflicts = refl;
   quiet = λ e. absurd cc;

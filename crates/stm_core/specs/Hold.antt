@@ -1,11 +1,11 @@
 -- What a segment's view holds, as values, and what each of its calls does. States `docs/HEAP.md`, "The view of a segment".
-use Rattle.std.specs.Prelude.{◌≡◌, ◌≢◌, ℕ, ◌+◌, ◌<◌, ◌≤◌, ◌⊎◌, Bool, true, false, cond, not, ◌||◌, List, [], ◌∷◌, Option, Some, None, length, take, All}
+use Rattle.std.specs.Prelude.{◌≡◌, ◌≢◌, ℕ, ◌+◌, ◌<◌, ◌≤◌, ◌⊎◌, Bool, true, false, cond, not, ◌||◌, List, [], ◌∷◌, Option, Some, None, length, take, slice_get, All}
 use Rattle.py_data.specs.declared.stop.Side.{Side}
 use Rattle.py_data.specs.declared.stop.Conflict.{Conflict}
 use Rattle.py_data.specs.declared.stop.Stop.{Stop}
-use Rattle.py_data.specs.declared.stop.Stop.TheVariants.{Lost, NeedSolo, Full, OutOfMemory}
+use Rattle.py_data.specs.declared.stop.Stop.TheVariants.{Lost, NeedSolo, Full, ReadFault, WriteFault, ErrFault, OutOfMemory}
+use Rattle.py_data.specs.declared.stop.Out.TheVariants.{Output, ErrorOutput}
 use Rattle.py_data.specs.Heap.{Rec, Heap, is_tracked}
-use Rattle.py_data.specs.World.{World}
 use Rattle.py_data.specs.Sense.{touches}
 use Rattle.py_data.specs.Row.{Call, Reply, Read, Find, Edit, Make, Start, Put, Take, MidLine, SetMidLine}
 use Rattle.py_data.specs.Sight.{Sight, Act, mem, with_mark}
@@ -16,9 +16,9 @@ use Rattle.seg_store.specs.Calls.{after_open, after_undo, after_mark}
 use Rattle.stm_core.specs.declared.books.Progress.{Progress}
 use Rattle.stm_core.specs.declared.books.Books.{Books}
 use Rattle.stm_core.specs.Asking.{Changes, IsOuter, CallWants}
-use Rattle.stm_core.specs.CoreState.{Transaction, Doomed, Running, CoreState, with_segment, with_conflict}
+use Rattle.stm_core.specs.CoreState.{Transaction, Doomed, Running, CoreState, no_world, with_segment, with_conflict}
 use Rattle.stm_core.specs.Conflict.{side, wins}
-use Rattle.stm_core.specs.Books.{core_of}
+use Rattle.stm_core.specs.Books.{Worlds, core_of}
 
 -- the store, the books and the progress of the segment's transaction, and the Stop since its open step began
 pub record Hold (S : Type 0) : Type 0 where
@@ -27,10 +27,6 @@ pub record Hold (S : Type 0) : Type 0 where
   pub books : Books S
   pub progress : Progress S
   pub stopped : Option Stop
-
--- a world that no step of a transaction that isn't solo looks at
-abbrev pub no_world : World
-no_world = record { input = None; out = []; err = []; mid = false }
 
 -- what the thread sees and has done
 abbrev pub sight : {S : Type 0} → ℕ → Hold S → Sight S
@@ -81,8 +77,10 @@ pub record Beside {S : Type 0} (k : ℕ) (me : Side) (asks : ℕ → Type 0) (d 
   pub segments : e.meaning.segments ≡ d.meaning.segments
   pub limit : e.meaning.limit ≡ d.meaning.limit
   pub reserved : d.reserved ≤ e.reserved
+  pub hand : slice_get e.books.hands.items k ≡ slice_get d.books.hands.items k
+  pub broken : e.books.broken ≡ d.books.broken
   pub dooms : List Conflict
-  pub others : (w : World) → Dooms k me dooms (core_of w d.meaning d.books) (core_of w e.meaning e.books)
+  pub others : (w : Worlds) → Dooms k me dooms (core_of w d.meaning d.books) (core_of w e.meaning e.books)
   pub asked : All (λ (f : Conflict). asks f.at.0) dooms
   pub kept_names : e.progress.kept_names ≡ d.progress.kept_names
   pub kept_started : e.progress.kept_started ≡ d.progress.kept_started
@@ -97,12 +95,16 @@ pub record Beside {S : Type 0} (k : ℕ) (me : Side) (asks : ℕ → Type 0) (d 
 abbrev pub Inside : {S : Type 0} → ℕ → Side → (c : Call S) → Hold S → Reply c → Hold S → Type 0
 Inside k me c d r e = Act c (sight k d) r (sight k e) × Beside k me (λ a. Changes a c) d e × (e.stopped ≡ None)
 
--- A transaction writes nothing and takes no input, and asks for the flag in vain; only a solo one may set it, and none is yet.
+-- a call to the outside leaves all that the view holds
+abbrev pub LeavesHold : {S : Type 0} → Hold S → Hold S → Type 0
+LeavesHold d e = (e ≡ d) × (e.stopped ≡ None)
+
+-- what each call does to what the view holds
 abbrev pub SegDoes : {S : Type 0} → ℕ → Side → (c : Call S) → Hold S → Reply c → Hold S → Type 0
-SegDoes k me (Put on bytes) d r e = ⊥
-SegDoes k me (Take most) d r e = ⊥
-SegDoes k me (SetMidLine b) d r e = (me.solo ≡ true) × (e ≡ d) × (e.stopped ≡ None)
-SegDoes k me MidLine d r e = (r ≡ false) × (e ≡ d) × (e.stopped ≡ None)
+SegDoes k me (Put on bytes) d r e = LeavesHold d e
+SegDoes k me (Take most) d r e = LeavesHold d e
+SegDoes k me MidLine d r e = LeavesHold d e
+SegDoes k me (SetMidLine b) d r e = LeavesHold d e
 SegDoes k me (Read a) d r e = Inside k me (Read a) d r e
 SegDoes k me (Find a v) d r e = Inside k me (Find a v) d r e
 SegDoes k me (Edit a x) d r e = Inside k me (Edit a x) d r e
@@ -113,11 +115,16 @@ SegDoes k me (Start s) d r e = Inside k me (Start s) d r e
 
 -- a call that takes memory
 abbrev pub IsHeld : {S : Type 0} → Call S → Type 0
-IsHeld (Put on bytes) = ⊥
-IsHeld (Take most) = ⊥
 IsHeld MidLine = ⊥
 IsHeld (SetMidLine b) = ⊥
 IsHeld _ = Unit {0}
+
+-- a call to the device whose fault the Stop is
+abbrev pub IsFaultOf : {S : Type 0} → Stop → Call S → Type 0
+IsFaultOf ReadFault (Take most) = Unit {0}
+IsFaultOf WriteFault (Put Output bytes) = Unit {0}
+IsFaultOf ErrFault (Put ErrorOutput bytes) = Unit {0}
+IsFaultOf _ _ = ⊥
 
 -- it doesn't win
 pub record LosesTo {S : Type 0} (k : ℕ) (me : Side) (f : Conflict) (c : CoreState S) : Type 0 where
@@ -125,13 +132,14 @@ pub record LosesTo {S : Type 0} (k : ℕ) (me : Side) (f : Conflict) (c : CoreSt
   pub lost : f.lost ≡ 1
   pub loses : wins me f.writer ≡ false
 
--- why each Stop comes, where the call was asked for over the heap h
+-- Why each Stop comes, where the call was asked for over the heap h: only one that isn't solo wants to be, and only a solo one
+-- meets a fault of a device.
 abbrev pub SegWhy : {S : Type 0} → ℕ → Side → Stop → Call S → Heap → Hold S → Type 0
-SegWhy k me (Lost f) c h e = Changes f.at.0 c × ((w : World) → LosesTo k me f (core_of w e.meaning e.books))
-SegWhy k me NeedSolo c h e = IsOuter c
+SegWhy k me (Lost f) c h e = Changes f.at.0 c × ((w : Worlds) → LosesTo k me f (core_of w e.meaning e.books))
+SegWhy k me NeedSolo c h e = (me.solo ≡ false) × IsOuter c
 SegWhy k me (Full r n l) c h e = CallWants c h n × (r ≡ e.reserved) × (l ≡ e.meaning.limit) × (l < r + n)
 SegWhy k me OutOfMemory c h e = IsHeld c
-SegWhy k me _ c h e = ⊥
+SegWhy k me s c h e = (me.solo ≡ true) × IsFaultOf s c
 
 -- A call that was refused: at most one record more was looked at, the one that the call asks for, and at most one more locked,
 -- the one that it changes.
@@ -192,7 +200,7 @@ pub record Holds {S : Type 0} (k : ℕ) (me : Side) (a : ℕ) (d e : Hold S) : T
 
 -- why the record a can't be held
 abbrev pub FailWhy : {S : Type 0} → ℕ → Side → ℕ → Stop → Hold S → Type 0
-FailWhy k me a (Lost f) e = (f.at.0 ≡ a) × ((w : World) → LosesTo k me f (core_of w e.meaning e.books))
+FailWhy k me a (Lost f) e = (f.at.0 ≡ a) × ((w : Worlds) → LosesTo k me f (core_of w e.meaning e.books))
 FailWhy k me a OutOfMemory e = Unit {0}
 FailWhy k me a _ e = ⊥
 

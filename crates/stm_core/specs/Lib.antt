@@ -5,20 +5,25 @@ pub mod Good
 pub mod Stood
 pub mod Moves
 pub mod Passes
+pub mod Outside
+pub mod Solo
+pub mod Devices
 pub mod Books
 pub mod Hold
+pub mod Outer
 pub mod SegSense
 pub mod SegLaws
 pub mod Whole
 pub mod Advance
 pub mod Pauses
-pub mod SaneCore
 pub mod Readers
 pub mod Committed
 pub mod Begun
 pub mod Standing
 pub mod Pausing
 pub mod Advanced
+pub mod SaneCore
+pub mod Settled
 pub mod Events
 pub mod History
 mod HistoryWorked

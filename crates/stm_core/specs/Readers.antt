@@ -22,7 +22,7 @@ read_at hs m k j = cond (not (eqb j k) && runs_at hs j) (met (m.part k).changed 
 
 -- the transaction x of segment j, as a side of a conflict
 abbrev pub work_side : {S : Type 0} → ℕ → Work S → Side
-work_side j x = record { segment = j; thread = x.thread; begun = x.begun; solo = false }
+work_side j x = record { segment = j; thread = x.thread; begun = x.begun; solo = x.solo }
 
 -- Segment j is no reader that wins over the writer `me` of segment k; or it is one, and this is the conflict.
 abbrev pub Beats : {S : Type 0} → List (Hand S) → Meaning → ℕ → Side → ℕ → Option Conflict → Type 0

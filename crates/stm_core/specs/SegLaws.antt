@@ -4,7 +4,7 @@ use Rattle.std.proofs.Common.{ap, refl, ◌∙◌, sym, subst, inl, inr, IsSome}
 use Rattle.std.proofs.lemmas.Bool.{or_left, and_from, eq-eqb, cond-true}
 use Rattle.py_data.specs.declared.stop.Side.{Side}
 use Rattle.py_data.specs.declared.stop.Stop.{Stop}
-use Rattle.py_data.specs.declared.stop.Stop.TheVariants.{Lost, NeedSolo, Full, OutOfMemory}
+use Rattle.py_data.specs.declared.stop.Stop.TheVariants.{Lost, NeedSolo, NeedHeap, Full, ReadFault, WriteFault, ErrFault, OutOfMemory}
 use Rattle.py_data.specs.declared.stop.Out.TheVariants.{Output, ErrorOutput}
 use Rattle.py_data.specs.declared.change.Change.{Change}
 use Rattle.py_data.specs.Changes.{after, Outgrows}
@@ -19,15 +19,17 @@ use Rattle.py_data.proofs.Grow.{act_grows, grows_refl, with_rec_here}
 use Rattle.py_data.specs.Frames.{Grows}
 use Rattle.seg_store.specs.Meaning.{Meaning, sees, saw, overlay}
 use Rattle.seg_store.specs.Calls.{after_open, after_undo, opened, undone}
-use Rattle.stm_core.specs.Hold.{Hold, sight, SegDoes, SegWhy, Inside}
+use Rattle.stm_core.specs.Devices.{DeviceState}
+use Rattle.stm_core.specs.Hold.{Hold, sight, SegDoes, SegWhy, Inside, LeavesHold}
+use Rattle.stm_core.specs.Outer.{OuterDoes}
 use Rattle.stm_core.specs.SegSense.{Seen, seg_stops, seg_sense, seg_bracket}
 
--- what a call that was done shows of itself: all but the question for the flag are done on sights
-inside : {T : Type 0} (k : ℕ) (me : Side) (c : Call T) (d : Hold T) (r : Reply c) (e : Hold T) → SegDoes k me c d r e → Inside k me c d r e ⊎ ((e ≡ d) × (e.stopped ≡ None))
-inside k me (Put on bytes) d r e h = absurd h
-inside k me (Take most) d r e h = absurd h
-inside k me (SetMidLine b) d r e h = inr (h.1, h.2)
-inside k me MidLine d r e h = inr (h.1, h.2)
+-- what a call that was done shows of itself: it is done on sights, or leaves what the view holds
+inside : {T : Type 0} (k : ℕ) (me : Side) (c : Call T) (d : Hold T) (r : Reply c) (e : Hold T) → SegDoes k me c d r e → Inside k me c d r e ⊎ LeavesHold d e
+inside k me (Put on bytes) d r e h = inr h
+inside k me (Take most) d r e h = inr h
+inside k me MidLine d r e h = inr h
+inside k me (SetMidLine b) d r e h = inr h
 inside k me (Read a) d r e h = inl h
 inside k me (Find a v) d r e h = inl h
 inside k me (Edit a x) d r e h = inl h
@@ -37,16 +39,16 @@ inside k me (Start s) d r e h = inl h
 edits : {T : Type 0} (a : ℕ) (x : Change) (s t : Sight T) → Edited a x s t → Edits a (after x) s.heap t.heap
 edits a x s t h = (subst IsSome (sym h.1) refl, ap (λ z. z.heap) h.3 ∙ ap (λ q. put_at s.heap a (after x q)) (sym (at-is s.heap a h.0 h.1)))
 
-effect : {T : Type 0} (k : ℕ) (me : Side) (c : Call T) (d : Hold T) (r : Reply c) (e : Hold T) → SegDoes k me c d r e → Effect false c (sees d.meaning k) r (sees e.meaning k)
-effect k me (Put on bytes) d r e h = absurd h
-effect k me (Take most) d r e h = absurd h
-effect k me (SetMidLine b) d r e h = ap (λ z. sees z.meaning k) h.1
-effect k me MidLine d r e h = ap (λ z. sees z.meaning k) h.1
-effect k me (Read a) d r e h = (h.0.0, ap (λ z. z.heap) h.0.1)
-effect k me (Find a v) d r e h = (subst IsSome (sym h.0.1) refl, h.0.3 ∙ ap (λ q. find (sees d.meaning k) q.values v) (sym (at-is (sees d.meaning k) a h.0.0 h.0.1)), ap (λ z. z.heap) h.0.4, tt)
-effect k me (Edit a x) d r e h = edits a x (sight k d) (sight k e) h.0
-effect k me (Make q) d r e h = (h.0.0, ap (λ z. z.heap) h.0.1, refl)
-effect k me (Start s) d r e h = ap (λ z. z.heap) h.0
+effect : {T : Type 0} (k : ℕ) (me : Side) (c : Call T) (d : Hold T) (r : Reply c) (e : Hold T) (p q : DeviceState) → SegDoes k me c d r e → OuterDoes me c p r q → Effect false c (sees d.meaning k) r (sees e.meaning k)
+effect k me (Put on bytes) d r e p q h o = ap (λ z. sees z.meaning k) h.0
+effect k me (Take most) d r e p q h o = (o.2, ap (λ z. sees z.meaning k) h.0)
+effect k me MidLine d r e p q h o = ap (λ z. sees z.meaning k) h.0
+effect k me (SetMidLine b) d r e p q h o = ap (λ z. sees z.meaning k) h.0
+effect k me (Read a) d r e p q h o = (h.0.0, ap (λ z. z.heap) h.0.1)
+effect k me (Find a v) d r e p q h o = (subst IsSome (sym h.0.1) refl, h.0.3 ∙ ap (λ q. find (sees d.meaning k) q.values v) (sym (at-is (sees d.meaning k) a h.0.0 h.0.1)), ap (λ z. z.heap) h.0.4, tt)
+effect k me (Edit a x) d r e p q h o = edits a x (sight k d) (sight k e) h.0
+effect k me (Make x) d r e p q h o = (h.0.0, ap (λ z. z.heap) h.0.1, refl)
+effect k me (Start s) d r e p q h o = ap (λ z. z.heap) h.0
 
 -- what a call that was done can do at most
 grown : {T : Type 0} (k : ℕ) (me : Side) (c : Call T) (d : Hold T) (r : Reply c) (e : Hold T) → SegDoes k me c d r e → Grows (sight k d) (sight k e)
@@ -69,8 +71,8 @@ seen_look a k q d e is h = record {
 
 -- the record that a call asks for is seen then
 seen_by : {T : Type 0} (k : ℕ) (me : Side) (c : Call T) (d : Hold T) (r : Reply c) (e : Hold T) (a : ℕ) → SegDoes k me c d r e → touches c ≡ Some a → Seen a k e
-seen_by k me (Put on bytes) d r e a h t = absurd h
-seen_by k me (Take most) d r e a h t = absurd h
+seen_by k me (Put on bytes) d r e a h t = absurd cc
+seen_by k me (Take most) d r e a h t = absurd cc
 seen_by k me (SetMidLine b) d r e a h t = absurd cc
 seen_by k me MidLine d r e a h t = absurd cc
 seen_by k me (Make q) d r e a h t = absurd cc
@@ -104,16 +106,22 @@ cause k me (Lost f) _ h e w = absurd w.0
 cause k me NeedSolo (Put Output b) h e w = (refl, refl, tt)
 cause k me NeedSolo (Put ErrorOutput b) h e w = (refl, refl, tt)
 cause k me NeedSolo (Take most) h e w = (refl, refl, tt)
-cause k me NeedSolo _ h e w = absurd w
+cause k me NeedSolo _ h e w = absurd w.1
 cause k me (Full r n l) (Edit a x) h e w = (refl, refl, outgrown x (h a) n w.0)
 cause k me (Full r n l) (Make q) h e w = (refl, refl, tt)
 cause k me (Full r n l) _ h e w = absurd w.0
-cause k me OutOfMemory (Put on b) h e w = absurd w
-cause k me OutOfMemory (Take most) h e w = absurd w
 cause k me OutOfMemory MidLine h e w = absurd w
 cause k me OutOfMemory (SetMidLine b) h e w = absurd w
+cause k me OutOfMemory (Put Output b) h e w = (refl, refl, tt)
+cause k me OutOfMemory (Put ErrorOutput b) h e w = (refl, refl, tt)
 cause k me OutOfMemory _ h e w = (refl, refl, tt)
-cause k me _ c h e w = absurd w
+cause k me ReadFault (Take most) h e w = (refl, refl, tt)
+cause k me ReadFault _ h e w = absurd w.1
+cause k me WriteFault (Put Output b) h e w = (refl, refl, tt)
+cause k me WriteFault _ h e w = absurd w.1
+cause k me ErrFault (Put ErrorOutput b) h e w = (refl, refl, tt)
+cause k me ErrFault _ h e w = absurd w.1
+cause k me NeedHeap c h e w = absurd w.1
 
 opens_shown : (k : ℕ) (m : Meaning) → (sees (after_open k m) k ≡ sees m k) × (saw (after_open k m) k ≡ sees m k)
 opens_shown k m = (ap (λ p. overlay m.image p.changes) (cond-true (eqb k k) (opened (m.part k)) (m.part k) (eq-eqb k k refl)), ap (λ p. overlay m.image p.kept) (cond-true (eqb k k) (opened (m.part k)) (m.part k) (eq-eqb k k refl)))
@@ -121,31 +129,31 @@ opens_shown k m = (ap (λ p. overlay m.image p.changes) (cond-true (eqb k k) (op
 undo_shown : (k : ℕ) (m : Meaning) → sees (after_undo k m) k ≡ saw m k
 undo_shown k m = ap (λ p. overlay m.image p.changes) (cond-true (eqb k k) (undone (m.part k)) (m.part k) (eq-eqb k k refl))
 
-module _ {T X : Type 0} (hold : X → Hold T) (segment : X → ℕ) (me : X → Side) (same : X → X → Type 0) where
-  pub seg_lawful : Lawful (seg_sense hold segment me same)
+module _ {T X : Type 0} (hold : X → Hold T) (devices : X → DeviceState) (segment : X → ℕ) (me : X → Side) (same : X → X → Type 0) where
+  pub seg_lawful : Lawful (seg_sense hold devices segment me same)
   seg_lawful = record {
-    effect = λ c v r w d. subst (λ k. Effect false c (sees (hold v).meaning (segment v)) r (sees (hold w).meaning k)) (sym d.1.segment_is) (effect (segment v) (me v) c (hold v) r (hold w) d.0);
+    effect = λ c v r w d. subst (λ k. Effect false c (sees (hold v).meaning (segment v)) r (sees (hold w).meaning k)) (sym d.2.segment_is) (effect (segment v) (me v) c (hold v) r (hold w) (devices v) (devices w) d.0 d.1);
     live = λ c v r w d. live (segment v) (me v) c (hold v) r (hold w) d.0;
-    seen = λ c v r w a d t. subst (λ k. Seen a k (hold w)) (sym d.1.segment_is) (seen_by (segment v) (me v) c (hold v) r (hold w) a d.0 t);
-    stays = λ c v r w a d s. subst (λ k. Seen a k (hold w)) (sym d.1.segment_is) (seen_stays (segment v) (me v) c (hold v) r (hold w) a d.0 s);
-    same = λ a v r w s d. d.2 s;
-    sure = λ a v e w s h. h.2 s;
+    seen = λ c v r w a d t. subst (λ k. Seen a k (hold w)) (sym d.2.segment_is) (seen_by (segment v) (me v) c (hold v) r (hold w) a d.0 t);
+    stays = λ c v r w a d s. subst (λ k. Seen a k (hold w)) (sym d.2.segment_is) (seen_stays (segment v) (me v) c (hold v) r (hold w) a d.0 s);
+    same = λ a v r w s d. d.3 s;
+    sure = λ a v e w s h. h.3 s;
     halts = λ c v e w h. h.0.stopped;
     cause = λ c v e w h. cause (segment v) (me v) e c (sees (hold v).meaning (segment v)) (hold w) h.0.why;
   }
 
-  pub seg_bracketed : IsBracket (seg_sense hold segment me same) (seg_bracket hold segment me same)
+  pub seg_bracketed : IsBracket (seg_sense hold devices segment me same) (seg_bracket hold devices segment me same)
   seg_bracketed = record {
-    keeps = λ c v r w d. (ap (saw (hold w).meaning) d.1.segment_is ∙ kept_base (segment v) (me v) c (hold v) r (hold w) d.0, ap (λ z. z.solo) d.1.me_is);
-    keeps_refused = λ c v e w h. (ap (saw (hold w).meaning) h.1.segment_is ∙ h.0.beside.saw, ap (λ z. z.solo) h.1.me_is);
+    keeps = λ c v r w d. (ap (saw (hold w).meaning) d.2.segment_is ∙ kept_base (segment v) (me v) c (hold v) r (hold w) d.0, ap (λ z. z.solo) d.2.me_is);
+    keeps_refused = λ c v e w h. (ap (saw (hold w).meaning) h.2.segment_is ∙ h.0.beside.saw, ap (λ z. z.solo) h.2.me_is);
     opened = λ v w h. (
-      ap (sees (hold w).meaning) h.1.segment_is ∙ ap (λ z. sees z.meaning (segment v)) h.0 ∙ (opens_shown (segment v) (hold v).meaning).0,
-      ap (saw (hold w).meaning) h.1.segment_is ∙ ap (λ z. saw z.meaning (segment v)) h.0 ∙ (opens_shown (segment v) (hold v).meaning).1,
+      ap (sees (hold w).meaning) h.2.segment_is ∙ ap (λ z. sees z.meaning (segment v)) h.0 ∙ (opens_shown (segment v) (hold v).meaning).0,
+      ap (saw (hold w).meaning) h.2.segment_is ∙ ap (λ z. saw z.meaning (segment v)) h.0 ∙ (opens_shown (segment v) (hold v).meaning).1,
       ap (λ z. z.stopped) h.0,
     );
     undone = λ v w h. (
-      ap (sees (hold w).meaning) h.1.segment_is ∙ ap (λ z. sees z.meaning (segment v)) h.0 ∙ undo_shown (segment v) (hold v).meaning,
+      ap (sees (hold w).meaning) h.2.segment_is ∙ ap (λ z. sees z.meaning (segment v)) h.0 ∙ undo_shown (segment v) (hold v).meaning,
       ap (λ z. z.stopped) h.0,
     );
-    put = λ v w bytes d. absurd d.0;
+    put = λ v w bytes d. d.1.0;
   }

@@ -1,5 +1,5 @@
 -- That a conflict stood, over machines and histories alone. States `docs/HEAP.md`, "Conflicts".
-use Rattle.std.specs.Prelude.{◌≡◌, ◌≢◌, ℕ, ◌≤◌, true, false, List, ◌++◌}
+use Rattle.std.specs.Prelude.{◌≡◌, ◌≢◌, ◌≤◌, true, false, List, ◌++◌}
 use Rattle.py_data.specs.declared.stop.Conflict.{Conflict}
 use Rattle.py_data.specs.Sight.{mem}
 use Rattle.lock_run.specs.declared.turn.Turn.{Turn}

@@ -6,18 +6,17 @@ use Rattle.py_data.specs.declared.change.Change.TheVariants.{Push}
 use Rattle.py_data.specs.declared.stop.Side.{Side}
 use Rattle.py_data.specs.declared.stop.Conflict.{Conflict}
 use Rattle.py_data.specs.Heap.{Rec, Heap, is_tracked}
-use Rattle.py_data.specs.Row.{Call, Read, Edit}
+use Rattle.py_data.specs.Row.{Read, Edit}
 use Rattle.py_data.specs.Sight.{opened, mem}
 use Rattle.lock_run.specs.declared.client.Life.TheVariants.{Lives}
 use Rattle.lock_run.specs.declared.turn.Turn.{Turn}
 use Rattle.lock_run.specs.Prog.{Prog}
 use Rattle.lock_run.specs.Machine.{Machine}
-use Rattle.stm_core.specs.CoreState.{Transaction, Running, CoreState, fresh, core_new, with_segment}
+use Rattle.stm_core.specs.CoreState.{no_world, Transaction, Running, CoreState, fresh, core_new, with_segment}
 use Rattle.stm_core.specs.Asking.{Changes}
 use Rattle.stm_core.specs.Conflict.{conflict, loser, winner, wins, IsStanding}
 use Rattle.stm_core.specs.Good.{IsLocked, Stands}
 use Rattle.stm_core.specs.Stood.{Stood}
-use Rattle.stm_core.specs.Hold.{no_world}
 
 -- ---- who wins
 

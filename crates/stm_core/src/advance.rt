@@ -7,21 +7,26 @@ use crate::transactions::Core;
 use lock_run::{Client, Life};
 use py_data::Stop;
 use seg_store::SegStore;
+use stm_io::{Sink, Source};
 
-impl<'p, C: Client, S: SegStore, I, O, E> Core<'p, C, S, I, O, E> {
-    ghost use Rattle.std.specs.Prelude.{◌≡◌, ◌<◌, ◌≤◌, ◌+◌, ℕ, true, false, length, slice_get, Some};
-    ghost use Rattle.py_data.specs.World.{World};
+impl<'p, C: Client, S: SegStore, I: Source, O: Sink, E: Sink> Core<'p, C, S, I, O, E> {
+    ghost use Rattle.std.specs.Prelude.{◌≡◌, ◌<◌, ◌≤◌, ◌+◌, ℕ, true, false, length, slice_get, Some, List, Option};
     ghost use Rattle.lock_run.specs.declared.client.Life.TheVariants.{Lives};
+    ghost use Rattle.seg_store.specs.Store.{IsStore};
     ghost use Rattle.stm_core.specs.CoreState.{IsShort, Running};
-    ghost use Rattle.stm_core.specs.Books.{Fit, transaction, core_of};
+    ghost use Rattle.stm_core.specs.Outside.{Outer};
+    ghost use Rattle.stm_core.specs.Devices.{DeviceState, device_state};
+    ghost use Rattle.stm_core.specs.Books.{Fit, Worlds, transaction};
     ghost use Rattle.stm_core.specs.Whole.{Whole, SameShape};
-    ghost use Rattle.stm_core.specs.Advance.{Sane, core_with};
+    ghost use Rattle.stm_core.specs.Advance.{SaneShown};
+    ghost use Rattle.stm_core.specs.Begun.{CountsSteps};
     ghost use Rattle.stm_core.specs.Events.{may_make};
     ghost use Rattle.stm_core.specs.declared.events.Event.{Event};
-    ghost use Rattle.stm_core.specs.CoreHeld.{core_at, core_client, core_limits, IsGoodCore, SameJob};
+    ghost use Rattle.stm_core.specs.CoreHeld.{core_client, core_limits, Says, Leads, IsGoodCore, SameJob};
     ghost use Rattle.stm_core.specs.Pauses.{tried_by, PauseCount};
-    ghost use Rattle.stm_core.specs.Pausing.{PauseWhy};
+    ghost use Rattle.stm_core.specs.Pausing.{PauseWhy, PauseRose};
     ghost use Rattle.stm_core.specs.Advanced.{CountsDone, tried_after, Ends, StepsTaken, AdvancedFrom, Advanced};
+    ghost use Rattle.stm_core.specs.Settled.{IsOut, IsTakenOut, SettledTo, KeepsOrRose, Rises};
 
     /// What comes of a transaction of segment k, which was taken out of its hand, once its next step was cut.
     fn settle_stop(
@@ -33,14 +38,20 @@ impl<'p, C: Client, S: SegStore, I, O, E> Core<'p, C, S, I, O, E> {
     ) -> Result<Advance, AdvanceError>
         requires fit { Fit k (S.meaning self.old.store) self.old.books work.progress }
         requires idle { slice_get self.old.books.hands.items k ≡ Some Hand.Idle }
-        requires why { PauseWhy (C.prog self.old.client.now) k (Pause.Stopped stop) (S.meaning self.old.store) (S.reserved self.old.store) self.old.books work }
-        ensures rest { self.new ≡ record self.old { store = self.new.store; books = self.new.books } }
+        requires thread { work.thread < length self.old.books.threads.entries }
+        requires count { CountsSteps self.old.spent self.old.books.history.entries }
+        requires why { (w : Worlds) × PauseWhy (C.prog self.old.client.now) w k (Pause.Stopped stop) (S.meaning self.old.store) (S.reserved self.old.store) self.old.books work }
+        ensures rest { self.new ≡ record self.old { store = self.new.store; books = self.new.books; spent = self.new.spent } }
         ensures shape { SameShape (S.meaning self.old.store) (S.meaning self.new.store) }
-        ensures reserved { S.reserved self.old.store ≤ S.reserved self.new.store }
+        ensures reserved { S.reserved self.new.store ≡ S.reserved self.old.store }
         ensures whole { Whole (S.meaning self.new.store) self.new.books }
-        ensures count { (most : ℕ) → done < most → CountsDone most done result }
+        ensures count { CountsSteps self.new.spent self.new.books.history.entries }
+        ensures counted { (most : ℕ) → done < most → CountsDone most done result }
         ensures tried { tried_after result ≡ 1 }
-        ensures ends { (w : World) → w.mid ≡ false → Ends (C.prog self.old.client.now) k (S.reserved self.new.store) (S.meaning self.new.store).limit (core_with w k (S.meaning self.old.store) self.old.books work) (transaction w ((S.meaning self.old.store).part k) work) result (core_of w (S.meaning self.new.store) self.new.books) }
+        ensures rose { (d d1 : DeviceState) → PauseRose (Pause.Stopped stop) d d1 → KeepsOrRose self.old.books.cause self.new.books.cause d d1 }
+        ensures settled { (t e : Option (List ℕ)) (w : Worlds) (o : Outer C.State) → IsOut (C.prog self.old.client.now) t e (device_state I.state O.state E.state self.old.devices) w k (Pause.Stopped stop) (S.meaning self.old.store) (S.reserved self.old.store) self.old.books work o
+            → SettledTo t e (device_state I.state O.state E.state self.new.devices) (S.meaning self.new.store) self.new.books
+            (Ends (C.prog self.old.client.now) k (S.meaning self.old.store).segments (S.reserved self.new.store) (S.meaning self.new.store).limit o (transaction w.own ((S.meaning self.old.store).part k) work) result) }
     {
         match stop {
             Stop::NeedSolo => {
@@ -55,20 +66,20 @@ impl<'p, C: Client, S: SegStore, I, O, E> Core<'p, C, S, I, O, E> {
                 reserved,
                 need,
                 limit,
-            } => {
-                let cause = Cause::Full {
+            } => Err(self.fail_out(
+                k,
+                work,
+                Cause::Full {
                     reserved,
                     need,
                     limit,
-                };
-                self.give_up(k, work, cause);
-                Err(AdvanceError::Failed(cause))
-            }
-            Stop::OutOfMemory => {
-                self.give_up(k, work, Cause::OutOfMemory);
-                Err(AdvanceError::Failed(Cause::OutOfMemory))
-            }
-            _ => unreachable!(),
+                },
+            )),
+            Stop::ReadFault => Err(self.fail_out(k, work, Cause::ReadFault)),
+            Stop::WriteFault => Err(self.fail_out(k, work, Cause::WriteFault)),
+            Stop::ErrFault => Err(self.fail_out(k, work, Cause::ErrFault)),
+            Stop::OutOfMemory => Err(self.fail_out(k, work, Cause::OutOfMemory)),
+            Stop::NeedHeap => unreachable!(),
         }
     }
 
@@ -82,14 +93,20 @@ impl<'p, C: Client, S: SegStore, I, O, E> Core<'p, C, S, I, O, E> {
     ) -> Result<Advance, AdvanceError>
         requires fit { Fit k (S.meaning self.old.store) self.old.books work.progress }
         requires idle { slice_get self.old.books.hands.items k ≡ Some Hand.Idle }
-        requires why { PauseWhy (C.prog self.old.client.now) k pause (S.meaning self.old.store) (S.reserved self.old.store) self.old.books work }
-        ensures rest { self.new ≡ record self.old { store = self.new.store; books = self.new.books } }
+        requires thread { work.thread < length self.old.books.threads.entries }
+        requires count { CountsSteps self.old.spent self.old.books.history.entries }
+        requires why { (w : Worlds) × PauseWhy (C.prog self.old.client.now) w k pause (S.meaning self.old.store) (S.reserved self.old.store) self.old.books work }
+        ensures rest { self.new ≡ record self.old { store = self.new.store; books = self.new.books; spent = self.new.spent } }
         ensures shape { SameShape (S.meaning self.old.store) (S.meaning self.new.store) }
-        ensures reserved { S.reserved self.old.store ≤ S.reserved self.new.store }
+        ensures reserved { S.reserved self.new.store ≡ S.reserved self.old.store }
         ensures whole { Whole (S.meaning self.new.store) self.new.books }
-        ensures count { (most : ℕ) → PauseCount most done pause → CountsDone most done result }
+        ensures count { CountsSteps self.new.spent self.new.books.history.entries }
+        ensures counted { (most : ℕ) → PauseCount most done pause → CountsDone most done result }
         ensures tried { tried_after result ≡ tried_by pause }
-        ensures ends { (w : World) → w.mid ≡ false → Ends (C.prog self.old.client.now) k (S.reserved self.new.store) (S.meaning self.new.store).limit (core_with w k (S.meaning self.old.store) self.old.books work) (transaction w ((S.meaning self.old.store).part k) work) result (core_of w (S.meaning self.new.store) self.new.books) }
+        ensures rose { (d d1 : DeviceState) → PauseRose pause d d1 → KeepsOrRose self.old.books.cause self.new.books.cause d d1 }
+        ensures settled { (t e : Option (List ℕ)) (w : Worlds) (o : Outer C.State) → IsOut (C.prog self.old.client.now) t e (device_state I.state O.state E.state self.old.devices) w k pause (S.meaning self.old.store) (S.reserved self.old.store) self.old.books work o
+            → SettledTo t e (device_state I.state O.state E.state self.new.devices) (S.meaning self.new.store) self.new.books
+            (Ends (C.prog self.old.client.now) k (S.meaning self.old.store).segments (S.reserved self.new.store) (S.meaning self.new.store).limit o (transaction w.own ((S.meaning self.old.store).part k) work) result) }
     {
         match pause {
             Pause::Whole => {
@@ -118,15 +135,21 @@ impl<'p, C: Client, S: SegStore, I, O, E> Core<'p, C, S, I, O, E> {
         length: u64,
     ) -> Result<Advance, AdvanceError>
         requires fit { Fit k (S.meaning self.old.store) self.old.books work.progress }
+        requires store { IsStore (S.reserved self.old.store) (S.meaning self.old.store) }
         requires idle { slice_get self.old.books.hands.items k ≡ Some Hand.Idle }
-        requires sane { Sane (C.prog self.old.client.now) (C.sound self.old.client.now) length k (S.meaning self.old.store) self.old.books work }
+        requires count { CountsSteps self.old.spent self.old.books.history.entries }
+        requires sane { SaneShown (C.prog self.old.client.now) (C.sound self.old.client.now) length k (device_state I.state O.state E.state self.old.devices) (S.meaning self.old.store) self.old.books work }
         requires lives { (C.prog self.old.client.now).life work.state ≡ Lives }
         requires short { IsShort length (work.steps + most) }
-        ensures rest { self.new ≡ record self.old { store = self.new.store; books = self.new.books } }
+        ensures rest { self.new ≡ record self.old { store = self.new.store; books = self.new.books; devices = self.new.devices; spent = self.new.spent } }
         ensures shape { SameShape (S.meaning self.old.store) (S.meaning self.new.store) }
         ensures reserved { S.reserved self.old.store ≤ S.reserved self.new.store }
         ensures whole { Whole (S.meaning self.new.store) self.new.books }
-        ensures taken { (w : World) → w.mid ≡ false → StepsTaken (C.prog self.old.client.now) length k most (S.reserved self.new.store) (S.meaning self.new.store).limit (core_with w k (S.meaning self.old.store) self.old.books work) result (core_of w (S.meaning self.new.store) self.new.books) }
+        ensures count { CountsSteps self.new.spent self.new.books.history.entries }
+        ensures rises { Rises self.old.books.cause self.new.books.cause (device_state I.state O.state E.state self.old.devices) (device_state I.state O.state E.state self.new.devices) }
+        ensures taken { (t e : Option (List ℕ)) (w : Worlds) (o : Outer C.State) → IsTakenOut t e (device_state I.state O.state E.state self.old.devices) w k (S.meaning self.old.store) self.old.books work o
+            → SettledTo t e (device_state I.state O.state E.state self.new.devices) (S.meaning self.new.store) self.new.books
+            (StepsTaken (C.prog self.old.client.now) length k (S.meaning self.old.store).segments most (S.reserved self.new.store) (S.meaning self.new.store).limit o result) }
     {
         let mut going = work;
         let (done, pause) = self.run_out(k, &mut going, length, most);
@@ -142,14 +165,20 @@ impl<'p, C: Client, S: SegStore, I, O, E> Core<'p, C, S, I, O, E> {
         length: u64,
     ) -> Result<Advance, AdvanceError>
         requires fit { Fit k (S.meaning self.old.store) self.old.books work.progress }
+        requires store { IsStore (S.reserved self.old.store) (S.meaning self.old.store) }
         requires idle { slice_get self.old.books.hands.items k ≡ Some Hand.Idle }
-        requires sane { Sane (C.prog self.old.client.now) (C.sound self.old.client.now) length k (S.meaning self.old.store) self.old.books work }
+        requires count { CountsSteps self.old.spent self.old.books.history.entries }
+        requires sane { SaneShown (C.prog self.old.client.now) (C.sound self.old.client.now) length k (device_state I.state O.state E.state self.old.devices) (S.meaning self.old.store) self.old.books work }
         requires short { IsShort length (work.steps + most) }
-        ensures rest { self.new ≡ record self.old { store = self.new.store; books = self.new.books } }
+        ensures rest { self.new ≡ record self.old { store = self.new.store; books = self.new.books; devices = self.new.devices; spent = self.new.spent } }
         ensures shape { SameShape (S.meaning self.old.store) (S.meaning self.new.store) }
         ensures reserved { S.reserved self.old.store ≤ S.reserved self.new.store }
         ensures whole { Whole (S.meaning self.new.store) self.new.books }
-        ensures advanced { (w : World) → w.mid ≡ false → AdvancedFrom (Running (transaction w ((S.meaning self.old.store).part k) work)) (C.prog self.old.client.now) length k most (S.reserved self.new.store) (S.meaning self.new.store).limit (core_with w k (S.meaning self.old.store) self.old.books work) result (core_of w (S.meaning self.new.store) self.new.books) }
+        ensures count { CountsSteps self.new.spent self.new.books.history.entries }
+        ensures rises { Rises self.old.books.cause self.new.books.cause (device_state I.state O.state E.state self.old.devices) (device_state I.state O.state E.state self.new.devices) }
+        ensures advanced { (t e : Option (List ℕ)) (w : Worlds) (o : Outer C.State) → IsTakenOut t e (device_state I.state O.state E.state self.old.devices) w k (S.meaning self.old.store) self.old.books work o
+            → SettledTo t e (device_state I.state O.state E.state self.new.devices) (S.meaning self.new.store) self.new.books
+            (AdvancedFrom (Running (transaction w.own ((S.meaning self.old.store).part k) work)) (C.prog self.old.client.now) length k (S.meaning self.old.store).segments most (S.reserved self.new.store) (S.meaning self.new.store).limit o result) }
     {
         match self.client.life(&work.state) {
             Life::Lives => self.take_steps(k, work, most, length),
@@ -161,20 +190,20 @@ impl<'p, C: Client, S: SegStore, I, O, E> Core<'p, C, S, I, O, E> {
     }
 
     /// At most `most` steps of the transaction that segment `k` has in hand, which is told if it is doomed. It copies no
-    /// state; its steps take memory as they need.
+    /// state; its steps take memory as they need. Where a step of a solo transaction is cut, by a fault of a device, a full heap or want
+    /// of memory, the transaction is committed up to its last whole step, and what the step has told the devices stays.
     pub fn advance(&mut self, k: u8, most: u64) -> Result<Advance, AdvanceError>
-        requires may { (w : World) → may_make (core_limits S.meaning self.old) (core_at S.meaning w self.old) (Event.Advance k most) ≡ true }
-        requires good { IsGoodCore C.prog C.sound S.reserved S.meaning self.old }
-        ensures good { IsGoodCore C.prog C.sound S.reserved S.meaning self.new }
+        requires may { Says I.state O.state E.state C.prog S.meaning self.old (λ o. may_make (core_limits S.meaning self.old) o.core (Event.Advance k most) ≡ true) }
+        requires good { IsGoodCore I.state O.state E.state C.prog C.sound S.reserved S.meaning self.old }
+        ensures good { IsGoodCore I.state O.state E.state C.prog C.sound S.reserved S.meaning self.new }
         ensures job { SameJob S.meaning self.old self.new }
-        ensures advanced { (w : World) → w.mid ≡ false → Advanced (C.prog (core_client self.old)) (core_limits S.meaning self.old).length k most (S.reserved self.new.store) (core_limits S.meaning self.old).words (core_at S.meaning w self.old) result (core_at S.meaning w self.new) }
+        ensures advanced { Leads I.state O.state E.state C.prog S.meaning self.old self.new
+            (λ o o1. Advanced (C.prog (core_client self.old)) (core_limits S.meaning self.old).length k (core_limits S.meaning self.old).segments most (S.reserved self.new.store) (core_limits S.meaning self.old).words o result o1) }
     {
+        self.store.known();
         match self.books.take(k) {
             Hand::Idle => unreachable!(),
-            Hand::Doomed(f) => {
-                self.store.known();
-                Err(AdvanceError::Lost(f))
-            }
+            Hand::Doomed(f) => Err(AdvanceError::Lost(f)),
             Hand::Runs(work) => {
                 let result = self.advance_out(k, work, most, self.length);
                 self.store.known();

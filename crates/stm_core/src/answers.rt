@@ -16,14 +16,16 @@ pub enum Advance {
     NeedSolo(u64),
 }
 
-/// Why a transaction went no further. Its segment has nothing in hand then, and what it did is dropped.
+/// Why a transaction went no further. Its segment has nothing in hand then, and what it did is dropped; of a solo
+/// transaction whose step was cut, the whole steps are committed.
 #[derive(Clone, Copy, Debug, Drop, Error, PartialEq, Eq)]
 pub enum AdvanceError {
     /// The transaction lost this conflict: before the call, or to another transaction that has changed the record which the next
     /// step asks to change.
     #[error("the transaction lost a conflict")]
     Lost(Conflict),
-    /// The heap is full, or there was no memory. The core keeps the first cause that it met.
+    /// The heap is full, there was no memory, or, in a step of a solo transaction, a device failed. The core keeps the
+    /// first cause that it met.
     #[error("the core goes on no more")]
     Failed(Cause),
 }

@@ -8,6 +8,7 @@ use crate::transactions::Core;
 use lock_run::Client;
 use py_data::{Items, NoMemory};
 use seg_store::SegStore;
+use stm_io::{Sink, Source};
 use thiserror::Error;
 
 /// Why no transaction begins. The first of these that holds is told.
@@ -30,14 +31,14 @@ pub enum BeginError {
     OutOfMemory,
 }
 
-impl<'p, C: Client, S: SegStore, I, O, E> Core<'p, C, S, I, O, E> {
+impl<'p, C: Client, S: SegStore, I: Source, O: Sink, E: Sink> Core<'p, C, S, I, O, E> {
     ghost use Rattle.std.specs.Prelude.{◌≡◌, ◌<◌, ◌≤◌, ◌-◌, ◌^◌, false, length, slice_get, Some, IfOk};
     ghost use Rattle.std.specs.List.{sum_by};
-    ghost use Rattle.py_data.specs.World.{World};
     ghost use Rattle.stm_core.specs.Moves.{begun_at};
-    ghost use Rattle.stm_core.specs.Books.{one_running, core_of};
+    ghost use Rattle.stm_core.specs.Outside.{InCore};
+    ghost use Rattle.stm_core.specs.Books.{one_running, Worlds, core_of};
     ghost use Rattle.stm_core.specs.Whole.{Whole, SameShape};
-    ghost use Rattle.stm_core.specs.CoreHeld.{core_at, core_client, core_limits, IsGoodCore, SameJob};
+    ghost use Rattle.stm_core.specs.CoreHeld.{core_client, core_limits, Leads, IsGoodCore, SameJob};
     ghost use Rattle.stm_core.specs.Begun.{Begun, IsFresh};
 
     /// A transaction of the thread, as it begins, and room for its turn and a conflict.
@@ -61,6 +62,7 @@ impl<'p, C: Client, S: SegStore, I, O, E> Core<'p, C, S, I, O, E> {
             thread: t,
             begun: self.books.begun,
             steps: 0,
+            solo: false,
             state,
             progress: Progress {
                 names: Items::new(self.alloc),
@@ -83,7 +85,8 @@ impl<'p, C: Client, S: SegStore, I, O, E> Core<'p, C, S, I, O, E> {
         ensures rest { self.new ≡ record self.old { store = self.new.store; books = self.new.books } }
         ensures shape { SameShape (S.meaning self.old.store) (S.meaning self.new.store) }
         ensures reserved { S.reserved self.new.store ≡ S.reserved self.old.store }
-        ensures core { (w : World) → core_of w (S.meaning self.new.store) self.new.books ≡ begun_at k work.thread work.state (core_of w (S.meaning self.old.store) self.old.books) }
+        ensures broken { self.new.books.broken ≡ self.old.books.broken }
+        ensures core { (w : Worlds) → core_of w (S.meaning self.new.store) self.new.books ≡ begun_at k work.thread work.state (core_of w (S.meaning self.old.store) self.old.books) }
     {
         self.store.known();
         self.store.begin(k);
@@ -96,10 +99,10 @@ impl<'p, C: Client, S: SegStore, I, O, E> Core<'p, C, S, I, O, E> {
     /// conflict. At want of memory the cause `OutOfMemory` is kept. At any other error all stays as it was.
     pub fn begin(&mut self, k: u8, t: u32) -> Result<(), BeginError>
         requires segment { k < (core_limits S.meaning self.old).segments }
-        requires good { IsGoodCore C.prog C.sound S.reserved S.meaning self.old }
-        ensures good { IsGoodCore C.prog C.sound S.reserved S.meaning self.new }
+        requires good { IsGoodCore I.state O.state E.state C.prog C.sound S.reserved S.meaning self.old }
+        ensures good { IsGoodCore I.state O.state E.state C.prog C.sound S.reserved S.meaning self.new }
         ensures job { SameJob S.meaning self.old self.new }
-        ensures begun { (w : World) → w.mid ≡ false → Begun (C.prog (core_client self.old)) k t (core_limits S.meaning self.old).budget result (core_at S.meaning w self.old) (core_at S.meaning w self.new) }
+        ensures begun { Leads I.state O.state E.state C.prog S.meaning self.old self.new (InCore (Begun (C.prog (core_client self.old)) k t (core_limits S.meaning self.old).budget result)) }
     {
         self.store.known();
         if let Some(cause) = self.books.cause {

@@ -28,6 +28,8 @@ pub struct Work<T> {
     pub thread: u32,
     pub begun: u64,
     pub steps: u64,
+    /// It prints and reads, and can't be aborted.
+    pub solo: bool,
     pub state: T,
     pub progress: Progress<T>,
 }
@@ -39,6 +41,13 @@ pub enum Hand<T> {
     /// Its transaction lost this conflict to another.
     Doomed(Conflict),
     Runs(Work<T>),
+}
+
+/// The step of a solo transaction that was cut: the next one of this thread, after so many turns.
+#[derive(Clone, Copy, Drop)]
+pub struct Cut {
+    pub thread: u32,
+    pub turns: u64,
 }
 
 /// The books of a core.
@@ -59,6 +68,8 @@ pub struct Books<T> {
     /// The thread whose transaction was begun last.
     pub last: Option<u32>,
     pub cause: Option<Cause>,
+    /// The step that was cut for good.
+    pub broken: Option<Cut>,
 }
 
 impl<T: Drop> Progress<T> {
@@ -93,13 +104,13 @@ impl<T: Drop> Work<T> {
 
     /// The transaction of a segment, as a side of a conflict.
     pub fn side(&self, segment: u8) -> Side
-        ensures { result ≡ record { segment = segment; thread = self.now.thread; begun = self.now.begun; solo = false } }
+        ensures { result ≡ record { segment = segment; thread = self.now.thread; begun = self.now.begun; solo = self.now.solo } }
     {
         Side {
             segment,
             thread: self.thread,
             begun: self.begun,
-            solo: false,
+            solo: self.solo,
         }
     }
 }

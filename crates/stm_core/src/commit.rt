@@ -10,6 +10,7 @@ use crate::transactions::Core;
 use lock_run::{Client, Turn};
 use py_data::{Addr, Conflict, Side};
 use seg_store::SegStore;
+use stm_io::{Sink, Source};
 
 /// What a commit answers where no conflict was lost.
 #[derive(Clone, Copy, Debug, Drop, PartialEq, Eq)]
@@ -62,6 +63,7 @@ impl<T: Drop> Books<T> {
             thread,
             begun: _,
             steps,
+            solo: _,
             state,
             progress,
         } = work;
@@ -86,20 +88,20 @@ impl<T: Drop> Books<T> {
     }
 }
 
-impl<'p, C: Client, S: SegStore, I, O, E> Core<'p, C, S, I, O, E> {
+impl<'p, C: Client, S: SegStore, I: Source, O: Sink, E: Sink> Core<'p, C, S, I, O, E> {
     ghost use Rattle.std.specs.Prelude.{◌≡◌, ◌≢◌, ℕ, ◌<◌, ◌≤◌, true, false, [], length, slice_get, Some, cond, eqb};
     ghost use Rattle.std.specs.List.{range_with_len};
-    ghost use Rattle.py_data.specs.World.{World};
     ghost use Rattle.stm_core.specs.declared.books.Work.{Work};
     ghost use Rattle.stm_core.specs.declared.books.Hand.TheVariants.{Idle, Runs};
     ghost use Rattle.stm_core.specs.Moves.{published};
     ghost use Rattle.stm_core.specs.Passes.{doom_one, doom_readers};
-    ghost use Rattle.stm_core.specs.Books.{Fit, transaction, core_of};
+    ghost use Rattle.stm_core.specs.Outside.{InCore};
+    ghost use Rattle.stm_core.specs.Books.{Fit, Worlds, worlds_after, transaction, core_of};
     ghost use Rattle.stm_core.specs.Whole.{Whole, SameShape};
     ghost use Rattle.stm_core.specs.Advance.{core_with};
     ghost use Rattle.stm_core.specs.Events.{may_make};
     ghost use Rattle.stm_core.specs.declared.events.Event.{Event};
-    ghost use Rattle.stm_core.specs.CoreHeld.{core_at, core_client, core_limits, IsGoodCore, SameJob};
+    ghost use Rattle.stm_core.specs.CoreHeld.{core_client, core_limits, Says, Leads, IsGoodCore, SameJob};
     ghost use Rattle.stm_core.specs.Begun.{CountsSteps};
     ghost use Rattle.stm_core.specs.Readers.{place_of, read_at, Beats, FirstBeats};
     ghost use Rattle.stm_core.specs.Committed.{CommitEnds, Committed};
@@ -172,9 +174,11 @@ impl<'p, C: Client, S: SegStore, I, O, E> Core<'p, C, S, I, O, E> {
         ensures part { (S.meaning self.new.store).part k ≡ (S.meaning self.old.store).part k }
         ensures shape { SameShape (S.meaning self.old.store) (S.meaning self.new.store) }
         ensures reserved { S.reserved self.new.store ≡ S.reserved self.old.store }
-        ensures core { (w : World) → core_with w k (S.meaning self.new.store) self.new.books work.now
+        ensures broken { self.new.books.broken ≡ self.old.books.broken }
+        ensures cause { self.new.books.cause ≡ self.old.books.cause }
+        ensures core { (w : Worlds) → core_with w k (S.meaning self.new.store) self.new.books work.now
             ≡ cond (eqb j k) (core_with w k (S.meaning self.old.store) self.old.books work.now)
-            (doom_one k (transaction w ((S.meaning self.old.store).part k) work.now) j (core_with w k (S.meaning self.old.store) self.old.books work.now) ((core_with w k (S.meaning self.old.store) self.old.books work.now).segments j)) }
+            (doom_one k (transaction w.own ((S.meaning self.old.store).part k) work.now) j (core_with w k (S.meaning self.old.store) self.old.books work.now) ((core_with w k (S.meaning self.old.store) self.old.books work.now).segments j)) }
     {
         match self.read_by(k, j) {
             None => (),
@@ -195,7 +199,7 @@ impl<'p, C: Client, S: SegStore, I, O, E> Core<'p, C, S, I, O, E> {
     }
 
     /// The second pass of a commit: all readers are doomed.
-    fn doom_readers(&mut self, k: u8, work: &Work<C::State>)
+    pub fn doom_readers(&mut self, k: u8, work: &Work<C::State>)
         requires fit { Fit k (S.meaning self.old.store) self.old.books work.now.progress }
         ensures fit { Fit k (S.meaning self.new.store) self.new.books work.now.progress }
         ensures rest { self.new ≡ record self.old { store = self.new.store; books = self.new.books } }
@@ -203,8 +207,10 @@ impl<'p, C: Client, S: SegStore, I, O, E> Core<'p, C, S, I, O, E> {
         ensures part { (S.meaning self.new.store).part k ≡ (S.meaning self.old.store).part k }
         ensures shape { SameShape (S.meaning self.old.store) (S.meaning self.new.store) }
         ensures reserved { S.reserved self.new.store ≡ S.reserved self.old.store }
-        ensures core { (w : World) → core_with w k (S.meaning self.new.store) self.new.books work.now
-            ≡ doom_readers k (transaction w ((S.meaning self.old.store).part k) work.now) (range_with_len 0 (S.meaning self.old.store).segments) (core_with w k (S.meaning self.old.store) self.old.books work.now) }
+        ensures broken { self.new.books.broken ≡ self.old.books.broken }
+        ensures cause { self.new.books.cause ≡ self.old.books.cause }
+        ensures core { (w : Worlds) → core_with w k (S.meaning self.new.store) self.new.books work.now
+            ≡ doom_readers k (transaction w.own ((S.meaning self.old.store).part k) work.now) (range_with_len 0 (S.meaning self.old.store).segments) (core_with w k (S.meaning self.old.store) self.old.books work.now) }
     {
         let count = self.store.segments();
         'segments: for j in 0..count {
@@ -213,7 +219,7 @@ impl<'p, C: Client, S: SegStore, I, O, E> Core<'p, C, S, I, O, E> {
     }
 
     /// Commits the transaction of segment k, which was taken out of its hand, and answers the number of its turn.
-    fn publish(&mut self, k: u8, work: Work<C::State>) -> u64
+    pub fn publish(&mut self, k: u8, work: Work<C::State>) -> u64
         requires fit { Fit k (S.meaning self.old.store) self.old.books work.progress }
         requires idle { slice_get self.old.books.hands.items k ≡ Some Hand.Idle }
         requires thread { work.thread < length self.old.books.threads.entries }
@@ -224,7 +230,9 @@ impl<'p, C: Client, S: SegStore, I, O, E> Core<'p, C, S, I, O, E> {
         ensures shape { SameShape (S.meaning self.old.store) (S.meaning self.new.store) }
         ensures reserved { S.reserved self.new.store ≡ S.reserved self.old.store }
         ensures place { result ≡ length self.old.books.history.entries }
-        ensures core { (w : World) → core_of w (S.meaning self.new.store) self.new.books ≡ published k (transaction w ((S.meaning self.old.store).part k) work) (core_with w k (S.meaning self.old.store) self.old.books work) }
+        ensures core { (w : Worlds) → core_of (worlds_after w work) (S.meaning self.new.store) self.new.books ≡ published k (transaction w.own ((S.meaning self.old.store).part k) work) (core_with w k (S.meaning self.old.store) self.old.books work) }
+        ensures broken { self.new.books.broken ≡ self.old.books.broken }
+        ensures cause { self.new.books.cause ≡ self.old.books.cause }
     {
         self.store.known();
         let place = self.books.history.len() as u64;
@@ -246,8 +254,10 @@ impl<'p, C: Client, S: SegStore, I, O, E> Core<'p, C, S, I, O, E> {
         ensures rest { self.new ≡ record self.old { store = self.new.store; books = self.new.books; spent = self.new.spent } }
         ensures shape { SameShape (S.meaning self.old.store) (S.meaning self.new.store) }
         ensures reserved { S.reserved self.new.store ≡ S.reserved self.old.store }
-        ensures ends { (w : World) → CommitEnds (C.prog self.old.client.now) k (S.meaning self.old.store).segments (transaction w ((S.meaning self.old.store).part k) work) result
-            (core_with w k (S.meaning self.old.store) self.old.books work) (core_of w (S.meaning self.new.store) self.new.books) }
+        ensures broken { self.new.books.broken ≡ self.old.books.broken }
+        ensures cause { self.new.books.cause ≡ self.old.books.cause }
+        ensures ends { (w : Worlds) → (w1 : Worlds) × CommitEnds (C.prog self.old.client.now) k (S.meaning self.old.store).segments (transaction w.own ((S.meaning self.old.store).part k) work) result
+            (core_with w k (S.meaning self.old.store) self.old.books work) (core_of w1 (S.meaning self.new.store) self.new.books) }
     {
         if work.steps == 0 {
             self.drop_out(k, work);
@@ -274,11 +284,11 @@ impl<'p, C: Client, S: SegStore, I, O, E> Core<'p, C, S, I, O, E> {
     /// become the image's, the state of the thread and the threads that it started become committed, and the turn is added
     /// to the history.
     pub fn commit(&mut self, k: u8) -> Result<Commit, Conflict>
-        requires may { (w : World) → may_make (core_limits S.meaning self.old) (core_at S.meaning w self.old) (Event.Commit k) ≡ true }
-        requires good { IsGoodCore C.prog C.sound S.reserved S.meaning self.old }
-        ensures good { IsGoodCore C.prog C.sound S.reserved S.meaning self.new }
+        requires may { Says I.state O.state E.state C.prog S.meaning self.old (λ o. may_make (core_limits S.meaning self.old) o.core (Event.Commit k) ≡ true) }
+        requires good { IsGoodCore I.state O.state E.state C.prog C.sound S.reserved S.meaning self.old }
+        ensures good { IsGoodCore I.state O.state E.state C.prog C.sound S.reserved S.meaning self.new }
         ensures job { SameJob S.meaning self.old self.new }
-        ensures committed { (w : World) → w.mid ≡ false → Committed (C.prog (core_client self.old)) k (core_limits S.meaning self.old).segments result (core_at S.meaning w self.old) (core_at S.meaning w self.new) }
+        ensures committed { Leads I.state O.state E.state C.prog S.meaning self.old self.new (InCore (Committed (C.prog (core_client self.old)) k (core_limits S.meaning self.old).segments result)) }
     {
         match self.books.take(k) {
             Hand::Runs(work) => {

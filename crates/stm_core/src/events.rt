@@ -1,11 +1,12 @@
 //! Events: calls of a core as values, for lists of them.
 ghost use Rattle.std.specs.Prelude.{◌≡◌, ◌&&◌, nat_lt, [], ◌∷◌, MatchOption};
-ghost use Rattle.stm_core.specs.Events.{begin_reply, advance_reply, commit_reply, is_busy, is_within};
+ghost use Rattle.stm_core.specs.Events.{begin_reply, advance_reply, solo_reply, commit_reply, is_busy, is_within};
 
 use crate::answers::{Advance, AdvanceError};
 use crate::begin::BeginError;
 use crate::cause::Cause;
 use crate::commit::Commit;
+use crate::solo::SoloError;
 use crate::standing::Slot;
 use py_data::Conflict;
 
@@ -16,6 +17,8 @@ pub enum Event {
     Begin(u8, u32),
     /// Its transaction does at most so many steps, at least 1.
     Advance(u8, u64),
+    /// Its transaction becomes solo.
+    Solo(u8),
     /// Its transaction is committed.
     Commit(u8),
 }
@@ -29,6 +32,10 @@ pub enum Reply {
     Begun,
     Refused(BeginError),
     Advanced(Advance),
+    /// The transaction is solo.
+    Solo,
+    /// It didn't become solo.
+    Unsolo(SoloError),
     /// The number of the turn in the history, from 0.
     Committed(u64),
     /// The transaction had done no step, and was dropped.
@@ -57,6 +64,16 @@ pub fn advance_reply(answer: Result<Advance, AdvanceError>) -> Reply
         Ok(advance) => Reply::Advanced(advance),
         Err(AdvanceError::Lost(f)) => Reply::Lost(f),
         Err(AdvanceError::Failed(cause)) => Reply::Failed(cause),
+    }
+}
+
+/// What a call of `solo` that answered this is replied as.
+pub fn solo_reply(answer: Result<(), SoloError>) -> Reply
+    ensures { result ≡ solo_reply answer }
+{
+    match answer {
+        Ok(()) => Reply::Solo,
+        Err(e) => Reply::Unsolo(e),
     }
 }
 

@@ -1,4 +1,5 @@
-//! A segment's view: the sight of a transaction that shares the heap with others.
+//! A segment's view: the sight of a transaction that shares the heap with others. Here is how it looks at records and
+//! comes to hold them; its calls stand in `view`.
 ghost use Rattle.std.specs.Prelude.{◌≡◌, ◌≢◌, ◌<◌, ◌≤◌, ◌+◌, ◌*◌, ◌++◌, [], ◌∷◌, true, false, length, take, drop, slice_set, Some, None, OnOk, OnErr, IfOk, IfErr, IfSome};
 ghost use Rattle.py_data.specs.declared.stop.Stop.TheVariants.{OutOfMemory};
 ghost use Rattle.py_data.specs.Heap.{Has, at, value_at, is_tracked};
@@ -13,12 +14,13 @@ ghost use Rattle.seg_store.specs.Extents.{Wants};
 ghost use Rattle.stm_core.specs.Asking.{ChangeWants};
 ghost use Rattle.stm_core.specs.Conflict.{wins};
 ghost use Rattle.stm_core.specs.Books.{Fit, runs_at};
-ghost use Rattle.py_data.specs.Row.{Read, Edit};
+ghost use Rattle.py_data.specs.Row.{Call, Read, Edit};
 ghost use Rattle.stm_core.specs.SegSense.{Seen};
-ghost use Rattle.stm_core.specs.Hold.{holding, SegDoes, SegRefuses, FaultWhy, Holds, Fails, is_noted, Looks, stop_of};
+ghost use Rattle.stm_core.specs.Hold.{holding, SegDoes, SegWhy, SegRefuses, FaultWhy, Holds, Fails, is_noted, Looks, stop_of};
 
 use crate::books::{Books, Hand, Progress};
-use py_data::{Addr, Change, Conflict, Kind, LENGTH_LIMIT, Out, Record, Side, Stop, Value, View};
+use crate::devices::Devices;
+use py_data::{Addr, Change, Conflict, Kind, LENGTH_LIMIT, Record, Side, Stop, Value};
 use seg_store::{SegStore, StoreFault};
 
 /// A record of this kind changes, and a look at it is noted.
@@ -39,63 +41,70 @@ pub fn wins(x: Side, y: Side) -> bool
     x.solo || (!y.solo && x.begun < y.begun)
 }
 
-/// The sight of a transaction on one segment of a store. No transaction is solo yet: a step that prints or reads is refused,
-/// so none comes to set the flag.
+/// The sight of a transaction on one segment of a store, and the devices of the core. A call of one that isn't solo
+/// is refused where it would print or read; and where it asks whether the output is in the middle of a line, it may
+/// be told what doesn't hold in its world: a client's step writes next then, and is refused.
 #[derive(Drop)]
-pub struct SegView<'a, T, S: SegStore> {
-    store: &'a mut S,
-    books: &'a mut Books<T>,
-    progress: &'a mut Progress<T>,
-    segment: u8,
-    side: Side,
-    stopped: Option<Stop>,
+pub struct SegView<'a, T, S: SegStore, I, O, E> {
+    pub(crate) store: &'a mut S,
+    pub(crate) books: &'a mut Books<T>,
+    pub(crate) progress: &'a mut Progress<T>,
+    pub(crate) devices: &'a mut Devices<I, O, E>,
+    pub(crate) segment: u8,
+    pub(crate) side: Side,
+    /// The Stop that was given since the step was opened.
+    pub(crate) stopped: Option<Stop>,
     ghost fits: { Fit segment (S.meaning store.now) books.now progress.now },
 }
 
-impl<'a, T: Drop, S: SegStore> SegView<'a, T, S> {
-    /// The view of a segment whose transaction was taken out of its hand.
+impl<'a, T: Drop, S: SegStore, I, O, E> SegView<'a, T, S, I, O, E> {
+    /// The view of a segment whose transaction was taken out of its hand, and acts for this side.
     pub fn new(
         store: &'a mut S,
         books: &'a mut Books<T>,
         progress: &'a mut Progress<T>,
+        devices: &'a mut Devices<I, O, E>,
         segment: u8,
         side: Side,
-    ) -> SegView<'a, T, S>
+    ) -> SegView<'a, T, S, I, O, E>
         requires { Fit segment (S.meaning store.old) books.old progress.old }
-        ensures same_store { (result.store.ghost_name ≡ store.entry.ghost_name) × (result.store.now ≡ store.old) }
-        ensures same_books { (result.books.ghost_name ≡ books.entry.ghost_name) × (result.books.now ≡ books.old) }
-        ensures same_progress { (result.progress.ghost_name ≡ progress.entry.ghost_name) × (result.progress.now ≡ progress.old) }
-        ensures rest { (result.segment ≡ segment) × (result.side ≡ side) × (result.stopped ≡ None) }
+        ensures holds { holding (S.meaning result.store.now) (S.reserved result.store.now) result.books.now result.progress.now result.stopped ≡ holding (S.meaning store.old) (S.reserved store.old) books.old progress.old None }
+        ensures tells { result.devices.now ≡ devices.old }
+        ensures stays { (result.segment ≡ segment) × (result.side ≡ side) }
+        ensures refs { (result.store.ghost_name ≡ store.entry.ghost_name) × (result.books.ghost_name ≡ books.entry.ghost_name) × (result.progress.ghost_name ≡ progress.entry.ghost_name) × (result.devices.ghost_name ≡ devices.entry.ghost_name) }
     {
         SegView {
             store,
             books,
             progress,
+            devices,
             segment,
             side,
             stopped: None,
         }
     }
 
-    /// Keeps a Stop, and hands it on.
-    fn fail(&mut self, stop: Stop) -> Stop
+    /// Keeps a Stop, and hands it on. A call for which it has a cause is refused so.
+    pub fn fail(&mut self, stop: Stop) -> Stop
         ensures same { result ≡ stop }
         ensures stopped { self.new.stopped ≡ Some stop }
-        ensures stays { (self.new.segment ≡ self.old.segment) × (self.new.side ≡ self.old.side) }
+        ensures stays { (self.new.segment ≡ self.old.segment) × (self.new.side ≡ self.old.side) × (self.new.devices ≡ self.old.devices) }
         ensures refs { (self.new.store.ghost_name ≡ self.old.store.ghost_name) × (self.new.books.ghost_name ≡ self.old.books.ghost_name) × (self.new.progress.ghost_name ≡ self.old.progress.ghost_name) }
         ensures store { self.new.store.now ≡ self.old.store.now }
         ensures books { self.new.books.now ≡ self.old.books.now }
         ensures progress { self.new.progress.now ≡ self.old.progress.now }
+        ensures refuses { (c : Call T) → SegWhy self.old.segment self.old.side stop c (sees (S.meaning self.old.store.now) self.old.segment) (holding (S.meaning self.new.store.now) (S.reserved self.new.store.now) self.new.books.now self.new.progress.now self.new.stopped)
+            → SegRefuses self.old.segment self.old.side c (holding (S.meaning self.old.store.now) (S.reserved self.old.store.now) self.old.books.now self.old.progress.now self.old.stopped) stop (holding (S.meaning self.new.store.now) (S.reserved self.new.store.now) self.new.books.now self.new.progress.now self.new.stopped) }
     {
         self.stopped = Some(stop);
         stop
     }
 
     /// Keeps why the store refused a change, as a Stop.
-    fn refuse(&mut self, fault: StoreFault) -> Stop
+    pub fn refuse(&mut self, fault: StoreFault) -> Stop
         ensures same { result ≡ stop_of fault }
         ensures stopped { self.new.stopped ≡ Some result }
-        ensures stays { (self.new.segment ≡ self.old.segment) × (self.new.side ≡ self.old.side) }
+        ensures stays { (self.new.segment ≡ self.old.segment) × (self.new.side ≡ self.old.side) × (self.new.devices ≡ self.old.devices) }
         ensures refs { (self.new.store.ghost_name ≡ self.old.store.ghost_name) × (self.new.books.ghost_name ≡ self.old.books.ghost_name) × (self.new.progress.ghost_name ≡ self.old.progress.ghost_name) }
         ensures store { self.new.store.now ≡ self.old.store.now }
         ensures books { self.new.books.now ≡ self.old.books.now }
@@ -135,7 +144,7 @@ impl<'a, T: Drop, S: SegStore> SegView<'a, T, S> {
         ensures quiet { is_noted (sees (S.meaning self.old.store.now) self.old.segment a.0) (((S.meaning self.old.store.now).part self.old.segment).looked a.0) ≡ true → self.new ≡ self.old }
         ensures err { IfErr result (λ e. (e ≡ OutOfMemory) × (self.new.stopped ≡ Some OutOfMemory) × (S.meaning self.new.store.now ≡ S.meaning self.old.store.now)) }
         ensures unsure { IfErr result (λ e. is_noted (sees (S.meaning self.old.store.now) self.old.segment a.0) (((S.meaning self.old.store.now).part self.old.segment).looked a.0) ≡ false) }
-        ensures stays { (self.new.segment ≡ self.old.segment) × (self.new.side ≡ self.old.side) }
+        ensures stays { (self.new.segment ≡ self.old.segment) × (self.new.side ≡ self.old.side) × (self.new.devices ≡ self.old.devices) }
         ensures refs { (self.new.store.ghost_name ≡ self.old.store.ghost_name) × (self.new.books.ghost_name ≡ self.old.books.ghost_name) × (self.new.progress.ghost_name ≡ self.old.progress.ghost_name) }
         ensures books { self.new.books.now ≡ self.old.books.now }
         ensures progress { self.new.progress.now ≡ self.old.progress.now }
@@ -161,7 +170,7 @@ impl<'a, T: Drop, S: SegStore> SegView<'a, T, S> {
         ensures conflicts { self.new.books.now.conflicts.entries ≡ self.old.books.now.conflicts.entries ++ f ∷ [] }
         ensures progress { self.new.progress.now ≡ self.old.progress.now }
         ensures stopped { self.new.stopped ≡ self.old.stopped }
-        ensures stays { (self.new.segment ≡ self.old.segment) × (self.new.side ≡ self.old.side) }
+        ensures stays { (self.new.segment ≡ self.old.segment) × (self.new.side ≡ self.old.side) × (self.new.devices ≡ self.old.devices) }
         ensures refs { (self.new.store.ghost_name ≡ self.old.store.ghost_name) × (self.new.books.ghost_name ≡ self.old.books.ghost_name) × (self.new.progress.ghost_name ≡ self.old.progress.ghost_name) }
     {
         self.books.doom(j, f);
@@ -175,7 +184,7 @@ impl<'a, T: Drop, S: SegStore> SegView<'a, T, S> {
         requires held { holds ((S.meaning self.old.store.now).part self.old.segment) a.0 ≡ true }
         ensures ok { OnOk result (Holds self.old.segment self.old.side a.0 (holding (S.meaning self.old.store.now) (S.reserved self.old.store.now) self.old.books.now self.old.progress.now self.old.stopped) (holding (S.meaning self.new.store.now) (S.reserved self.new.store.now) self.new.books.now self.new.progress.now self.new.stopped)) }
         ensures err { IfErr result (λ e. Fails self.old.segment self.old.side a.0 (holding (S.meaning self.old.store.now) (S.reserved self.old.store.now) self.old.books.now self.old.progress.now self.old.stopped) e (holding (S.meaning self.new.store.now) (S.reserved self.new.store.now) self.new.books.now self.new.progress.now self.new.stopped)) }
-        ensures stays { (self.new.segment ≡ self.old.segment) × (self.new.side ≡ self.old.side) }
+        ensures stays { (self.new.segment ≡ self.old.segment) × (self.new.side ≡ self.old.side) × (self.new.devices ≡ self.old.devices) }
         ensures refs { (self.new.store.ghost_name ≡ self.old.store.ghost_name) × (self.new.books.ghost_name ≡ self.old.books.ghost_name) × (self.new.progress.ghost_name ≡ self.old.progress.ghost_name) }
     {
         self.look(a)
@@ -188,7 +197,7 @@ impl<'a, T: Drop, S: SegStore> SegView<'a, T, S> {
         requires free { NoOther (S.meaning self.old.store.now) self.old.segment a.0 }
         ensures ok { OnOk result (Holds self.old.segment self.old.side a.0 (holding (S.meaning self.old.store.now) (S.reserved self.old.store.now) self.old.books.now self.old.progress.now self.old.stopped) (holding (S.meaning self.new.store.now) (S.reserved self.new.store.now) self.new.books.now self.new.progress.now self.new.stopped)) }
         ensures err { IfErr result (λ e. Fails self.old.segment self.old.side a.0 (holding (S.meaning self.old.store.now) (S.reserved self.old.store.now) self.old.books.now self.old.progress.now self.old.stopped) e (holding (S.meaning self.new.store.now) (S.reserved self.new.store.now) self.new.books.now self.new.progress.now self.new.stopped)) }
-        ensures stays { (self.new.segment ≡ self.old.segment) × (self.new.side ≡ self.old.side) }
+        ensures stays { (self.new.segment ≡ self.old.segment) × (self.new.side ≡ self.old.side) × (self.new.devices ≡ self.old.devices) }
         ensures refs { (self.new.store.ghost_name ≡ self.old.store.ghost_name) × (self.new.books.ghost_name ≡ self.old.books.ghost_name) × (self.new.progress.ghost_name ≡ self.old.progress.ghost_name) }
     {
         self.store.known();
@@ -207,7 +216,7 @@ impl<'a, T: Drop, S: SegStore> SegView<'a, T, S> {
         requires held { holds ((S.meaning self.old.store.now).part j) a.0 ≡ true }
         ensures ok { OnOk result (Holds self.old.segment self.old.side a.0 (holding (S.meaning self.old.store.now) (S.reserved self.old.store.now) self.old.books.now self.old.progress.now self.old.stopped) (holding (S.meaning self.new.store.now) (S.reserved self.new.store.now) self.new.books.now self.new.progress.now self.new.stopped)) }
         ensures err { IfErr result (λ e. Fails self.old.segment self.old.side a.0 (holding (S.meaning self.old.store.now) (S.reserved self.old.store.now) self.old.books.now self.old.progress.now self.old.stopped) e (holding (S.meaning self.new.store.now) (S.reserved self.new.store.now) self.new.books.now self.new.progress.now self.new.stopped)) }
-        ensures stays { (self.new.segment ≡ self.old.segment) × (self.new.side ≡ self.old.side) }
+        ensures stays { (self.new.segment ≡ self.old.segment) × (self.new.side ≡ self.old.side) × (self.new.devices ≡ self.old.devices) }
         ensures refs { (self.new.store.ghost_name ≡ self.old.store.ghost_name) × (self.new.books.ghost_name ≡ self.old.books.ghost_name) × (self.new.progress.ghost_name ≡ self.old.progress.ghost_name) }
     {
         self.store.known();
@@ -239,7 +248,7 @@ impl<'a, T: Drop, S: SegStore> SegView<'a, T, S> {
         requires tracked { is_tracked (at (sees (S.meaning self.old.store.now) self.old.segment) a.0).kind ≡ true }
         ensures ok { OnOk result (Holds self.old.segment self.old.side a.0 (holding (S.meaning self.old.store.now) (S.reserved self.old.store.now) self.old.books.now self.old.progress.now self.old.stopped) (holding (S.meaning self.new.store.now) (S.reserved self.new.store.now) self.new.books.now self.new.progress.now self.new.stopped)) }
         ensures err { IfErr result (λ e. Fails self.old.segment self.old.side a.0 (holding (S.meaning self.old.store.now) (S.reserved self.old.store.now) self.old.books.now self.old.progress.now self.old.stopped) e (holding (S.meaning self.new.store.now) (S.reserved self.new.store.now) self.new.books.now self.new.progress.now self.new.stopped)) }
-        ensures stays { (self.new.segment ≡ self.old.segment) × (self.new.side ≡ self.old.side) }
+        ensures stays { (self.new.segment ≡ self.old.segment) × (self.new.side ≡ self.old.side) × (self.new.devices ≡ self.old.devices) }
         ensures refs { (self.new.store.ghost_name ≡ self.old.store.ghost_name) × (self.new.books.ghost_name ≡ self.old.books.ghost_name) × (self.new.progress.ghost_name ≡ self.old.progress.ghost_name) }
     {
         match self.store.holder(a) {
@@ -265,7 +274,7 @@ impl<'a, T: Drop, S: SegStore> SegView<'a, T, S> {
         ensures books { self.new.books.now ≡ self.old.books.now }
         ensures progress { self.new.progress.now ≡ self.old.progress.now }
         ensures stopped { self.new.stopped ≡ self.old.stopped }
-        ensures stays { (self.new.segment ≡ self.old.segment) × (self.new.side ≡ self.old.side) }
+        ensures stays { (self.new.segment ≡ self.old.segment) × (self.new.side ≡ self.old.side) × (self.new.devices ≡ self.old.devices) }
         ensures refs { (self.new.store.ghost_name ≡ self.old.store.ghost_name) × (self.new.books.ghost_name ≡ self.old.books.ghost_name) × (self.new.progress.ghost_name ≡ self.old.progress.ghost_name) }
     {
         match change {
@@ -278,12 +287,12 @@ impl<'a, T: Drop, S: SegStore> SegView<'a, T, S> {
     }
 
     /// Takes the write lock of a record, and changes it.
-    fn change(&mut self, a: Addr, change: Change) -> Result<(), Stop>
+    pub fn change(&mut self, a: Addr, change: Change) -> Result<(), Stop>
         requires live { self.old.stopped ≡ None }
         requires can { CanChange (sees (S.meaning self.old.store.now) self.old.segment) a.0 change }
         ensures ok { OnOk result (SegDoes self.old.segment self.old.side (Edit a.0 change) (holding (S.meaning self.old.store.now) (S.reserved self.old.store.now) self.old.books.now self.old.progress.now self.old.stopped) tt (holding (S.meaning self.new.store.now) (S.reserved self.new.store.now) self.new.books.now self.new.progress.now self.new.stopped)) }
         ensures err { IfErr result (λ e. SegRefuses self.old.segment self.old.side (Edit a.0 change) (holding (S.meaning self.old.store.now) (S.reserved self.old.store.now) self.old.books.now self.old.progress.now self.old.stopped) e (holding (S.meaning self.new.store.now) (S.reserved self.new.store.now) self.new.books.now self.new.progress.now self.new.stopped)) }
-        ensures stays { (self.new.segment ≡ self.old.segment) × (self.new.side ≡ self.old.side) }
+        ensures stays { (self.new.segment ≡ self.old.segment) × (self.new.side ≡ self.old.side) × (self.new.devices ≡ self.old.devices) }
         ensures refs { (self.new.store.ghost_name ≡ self.old.store.ghost_name) × (self.new.books.ghost_name ≡ self.old.books.ghost_name) × (self.new.progress.ghost_name ≡ self.old.progress.ghost_name) }
     {
         match self.hold(a) {
@@ -296,7 +305,7 @@ impl<'a, T: Drop, S: SegStore> SegView<'a, T, S> {
     }
 
     /// Makes a record, for whose name a place was made.
-    fn name_made(&mut self, r: &Record) -> Result<Addr, StoreFault>
+    pub fn name_made(&mut self, r: &Record) -> Result<Addr, StoreFault>
         requires shape { IsShaped (sees (S.meaning self.old.store.now) self.old.segment) (rec_of r.now) }
         requires values { length r.now.values ≤ LENGTH_LIMIT }
         requires bytes { length r.now.bytes ≤ LENGTH_LIMIT }
@@ -309,7 +318,7 @@ impl<'a, T: Drop, S: SegStore> SegView<'a, T, S> {
         ensures reserved { S.reserved self.old.store.now ≤ S.reserved self.new.store.now }
         ensures books { self.new.books.now ≡ self.old.books.now }
         ensures stopped { self.new.stopped ≡ self.old.stopped }
-        ensures stays { (self.new.segment ≡ self.old.segment) × (self.new.side ≡ self.old.side) }
+        ensures stays { (self.new.segment ≡ self.old.segment) × (self.new.side ≡ self.old.side) × (self.new.devices ≡ self.old.devices) }
         ensures refs { (self.new.store.ghost_name ≡ self.old.store.ghost_name) × (self.new.books.ghost_name ≡ self.old.books.ghost_name) × (self.new.progress.ghost_name ≡ self.old.progress.ghost_name) }
     {
         let last = self.progress.names.len();
@@ -327,7 +336,7 @@ impl<'a, T: Drop, S: SegStore> SegView<'a, T, S> {
     }
 
     /// The kind of a record. No look is noted.
-    fn kind_of(&self, a: Addr) -> Kind
+    pub fn kind_of(&self, a: Addr) -> Kind
         requires { IfThere false ((sees (S.meaning self.now.store.now) self.now.segment) a.0) (λ r. Unit {0}) }
         ensures { result ≡ (at (sees (S.meaning self.now.store.now) self.now.segment) a.0).kind }
     {
@@ -335,7 +344,7 @@ impl<'a, T: Drop, S: SegStore> SegView<'a, T, S> {
     }
 
     /// The count of a record's values. No look is noted.
-    fn count_of(&self, a: Addr) -> usize
+    pub fn count_of(&self, a: Addr) -> usize
         requires { IfThere false ((sees (S.meaning self.now.store.now) self.now.segment) a.0) (λ r. Unit {0}) }
         ensures count { result ≡ length (at (sees (S.meaning self.now.store.now) self.now.segment) a.0).values }
         ensures fits { result ≤ LENGTH_LIMIT }
@@ -348,7 +357,7 @@ impl<'a, T: Drop, S: SegStore> SegView<'a, T, S> {
     }
 
     /// The count of a record's bytes. No look is noted.
-    fn byte_count_of(&self, a: Addr) -> usize
+    pub fn byte_count_of(&self, a: Addr) -> usize
         requires { IfThere false ((sees (S.meaning self.now.store.now) self.now.segment) a.0) (λ r. Unit {0}) }
         ensures count { result ≡ length (at (sees (S.meaning self.now.store.now) self.now.segment) a.0).bytes }
         ensures fits { result ≤ LENGTH_LIMIT }
@@ -361,7 +370,7 @@ impl<'a, T: Drop, S: SegStore> SegView<'a, T, S> {
     }
 
     /// A value of a record. No look is noted.
-    fn value_of(&self, a: Addr, i: usize) -> Value
+    pub fn value_of(&self, a: Addr, i: usize) -> Value
         requires { IfThere false ((sees (S.meaning self.now.store.now) self.now.segment) a.0) (λ r. i < length r.values) }
         ensures { result ≡ value_at (at (sees (S.meaning self.now.store.now) self.now.segment) a.0).values i }
     {
@@ -369,7 +378,7 @@ impl<'a, T: Drop, S: SegStore> SegView<'a, T, S> {
     }
 
     /// Copies bytes of a record. No look is noted.
-    fn bytes_of(&self, a: Addr, from: usize, out: &mut [u8])
+    pub fn bytes_of(&self, a: Addr, from: usize, out: &mut [u8])
         requires { IfThere false ((sees (S.meaning self.now.store.now) self.now.segment) a.0) (λ r. from + length out.old ≤ length r.bytes) }
         ensures { out.new ≡ take (length out.old) (drop from (at (sees (S.meaning self.now.store.now) self.now.segment) a.0).bytes) }
     {
@@ -377,7 +386,7 @@ impl<'a, T: Drop, S: SegStore> SegView<'a, T, S> {
     }
 
     /// The number of the pair of a dictionary with an equal key. No look is noted.
-    fn place_of(&self, d: Addr, key: Value) -> Option<usize>
+    pub fn place_of(&self, d: Addr, key: Value) -> Option<usize>
         requires { CanFind (sees (S.meaning self.now.store.now) self.now.segment) d.0 key }
         ensures found { result ≡ find (sees (S.meaning self.now.store.now) self.now.segment) (at (sees (S.meaning self.now.store.now) self.now.segment) d.0).values key }
         ensures fits { IfSome result (λ i. 2 * i + 1 < LENGTH_LIMIT) }
@@ -386,7 +395,7 @@ impl<'a, T: Drop, S: SegStore> SegView<'a, T, S> {
     }
 
     /// Looks at a record.
-    fn see(&mut self, a: Addr) -> Result<(), Stop>
+    pub fn see(&mut self, a: Addr) -> Result<(), Stop>
         requires live { self.old.stopped ≡ None }
         requires there { Has (sees (S.meaning self.old.store.now) self.old.segment) a.0 }
         ensures ok { OnOk result (SegDoes self.old.segment self.old.side (Read a.0) (holding (S.meaning self.old.store.now) (S.reserved self.old.store.now) self.old.books.now self.old.progress.now self.old.stopped) (at (sees (S.meaning self.old.store.now) self.old.segment) a.0) (holding (S.meaning self.new.store.now) (S.reserved self.new.store.now) self.new.books.now self.new.progress.now self.new.stopped)) }
@@ -394,149 +403,9 @@ impl<'a, T: Drop, S: SegStore> SegView<'a, T, S> {
         ensures quiet { Seen a.0 self.old.segment (holding (S.meaning self.old.store.now) (S.reserved self.old.store.now) self.old.books.now self.old.progress.now self.old.stopped) → self.new ≡ self.old }
         ensures err { IfErr result (λ e. SegRefuses self.old.segment self.old.side (Read a.0) (holding (S.meaning self.old.store.now) (S.reserved self.old.store.now) self.old.books.now self.old.progress.now self.old.stopped) e (holding (S.meaning self.new.store.now) (S.reserved self.new.store.now) self.new.books.now self.new.progress.now self.new.stopped)) }
         ensures unsure { IfErr result (λ e. Seen a.0 self.old.segment (holding (S.meaning self.old.store.now) (S.reserved self.old.store.now) self.old.books.now self.old.progress.now self.old.stopped) → ⊥) }
-        ensures stays { (self.new.segment ≡ self.old.segment) × (self.new.side ≡ self.old.side) }
+        ensures stays { (self.new.segment ≡ self.old.segment) × (self.new.side ≡ self.old.side) × (self.new.devices ≡ self.old.devices) }
         ensures refs { (self.new.store.ghost_name ≡ self.old.store.ghost_name) × (self.new.books.ghost_name ≡ self.old.books.ghost_name) × (self.new.progress.ghost_name ≡ self.old.progress.ghost_name) }
     {
         self.look(a)
-    }
-}
-
-impl<'a, T: Drop, S: SegStore> View<T> for SegView<'a, T, S> {
-    ghost use Rattle.std.specs.Prelude.{◌≡◌};
-    ghost use Rattle.stm_core.specs.Hold.{holding};
-    ghost use Rattle.stm_core.specs.SegSense.{seg_sense, seg_bracket};
-    ghost use Rattle.stm_core.specs.SegLaws.{seg_lawful, seg_bracketed};
-
-    ghost sense = { seg_sense (λ v. holding (S.meaning v.store.now) (S.reserved v.store.now) v.books.now v.progress.now v.stopped) (λ v. v.segment) (λ v. v.side)
-        (λ v w. (w.store.ghost_name ≡ v.store.ghost_name) × (w.books.ghost_name ≡ v.books.ghost_name) × (w.progress.ghost_name ≡ v.progress.ghost_name)) };
-
-    ghost bracket = { seg_bracket (λ v. holding (S.meaning v.store.now) (S.reserved v.store.now) v.books.now v.progress.now v.stopped) (λ v. v.segment) (λ v. v.side)
-        (λ v w. (w.store.ghost_name ≡ v.store.ghost_name) × (w.books.ghost_name ≡ v.books.ghost_name) × (w.progress.ghost_name ≡ v.progress.ghost_name)) };
-
-    ghost lawful = { seg_lawful (λ v. holding (S.meaning v.store.now) (S.reserved v.store.now) v.books.now v.progress.now v.stopped) (λ v. v.segment) (λ v. v.side)
-        (λ v w. (w.store.ghost_name ≡ v.store.ghost_name) × (w.books.ghost_name ≡ v.books.ghost_name) × (w.progress.ghost_name ≡ v.progress.ghost_name)) };
-
-    ghost bracketed = { seg_bracketed (λ v. holding (S.meaning v.store.now) (S.reserved v.store.now) v.books.now v.progress.now v.stopped) (λ v. v.segment) (λ v. v.side)
-        (λ v w. (w.store.ghost_name ≡ v.store.ghost_name) × (w.books.ghost_name ≡ v.books.ghost_name) × (w.progress.ghost_name ≡ v.progress.ghost_name)) };
-
-    fn open_step(&mut self) {
-        self.store.open_step(self.segment);
-        self.progress.open();
-        self.stopped = None;
-    }
-
-    fn undo_step(&mut self) {
-        self.store.undo_step(self.segment);
-        self.books.pending -= self.progress.undo();
-        self.stopped = None;
-    }
-
-    fn stopped(&self) -> Option<Stop> {
-        self.stopped
-    }
-
-    #[tactic(auto, unfolding(py_data::specs::Sense::Asks, py_data::specs::Heap::at))]
-    fn set_val(&mut self, a: Addr, i: usize, v: Value) -> Result<(), Stop> {
-        self.change(a, Change::Set(i, v))
-    }
-
-    #[tactic(auto, unfolding(py_data::specs::Sense::Asks, py_data::specs::Heap::at))]
-    fn push_val(&mut self, a: Addr, v: Value) -> Result<(), Stop> {
-        self.change(a, Change::Push(v))
-    }
-
-    #[tactic(auto, unfolding(py_data::specs::Sense::Asks, py_data::specs::Heap::at))]
-    fn truncate(&mut self, a: Addr, n: usize) -> Result<(), Stop> {
-        self.change(a, Change::Cut(n))
-    }
-
-    #[tactic(auto, unfolding(py_data::specs::Sense::Asks, py_data::specs::Heap::at))]
-    fn push_pair(&mut self, d: Addr, key: Value, v: Value) -> Result<(), Stop> {
-        self.change(d, Change::Pair(key, v))
-    }
-
-    #[tactic(auto, unfolding(py_data::specs::Sense::Asks, py_data::specs::Heap::at))]
-    fn drop_pair(&mut self, d: Addr, place: usize) -> Result<(), Stop> {
-        self.change(d, Change::Unpair(place))
-    }
-
-    #[tactic(auto, unfolding(py_data::specs::Sense::Asks))]
-    fn kind(&mut self, a: Addr) -> Result<Kind, Stop> {
-        let kind = self.kind_of(a);
-        match self.see(a) {
-            Ok(()) => Ok(kind),
-            Err(stop) => Err(stop),
-        }
-    }
-
-    #[tactic(auto, unfolding(py_data::specs::Sense::Asks))]
-    fn len(&mut self, a: Addr) -> Result<usize, Stop> {
-        let count = self.count_of(a);
-        match self.see(a) {
-            Ok(()) => Ok(count),
-            Err(stop) => Err(stop),
-        }
-    }
-
-    #[tactic(auto, unfolding(py_data::specs::Sense::Asks))]
-    fn val(&mut self, a: Addr, i: usize) -> Result<Value, Stop> {
-        let value = self.value_of(a, i);
-        match self.see(a) {
-            Ok(()) => Ok(value),
-            Err(stop) => Err(stop),
-        }
-    }
-
-    #[tactic(auto, unfolding(py_data::specs::Sense::Asks))]
-    fn byte_len(&mut self, a: Addr) -> Result<usize, Stop> {
-        let count = self.byte_count_of(a);
-        match self.see(a) {
-            Ok(()) => Ok(count),
-            Err(stop) => Err(stop),
-        }
-    }
-
-    #[tactic(auto, unfolding(py_data::specs::Sense::Asks))]
-    fn copy_bytes(&mut self, a: Addr, from: usize, out: &mut [u8]) -> Result<(), Stop> {
-        self.bytes_of(a, from, out);
-        self.see(a)
-    }
-
-    #[tactic(auto, unfolding(py_data::specs::Sense::Asks))]
-    fn find_key(&mut self, d: Addr, key: Value) -> Result<Option<usize>, Stop> {
-        let place = self.place_of(d, key);
-        match self.see(d) {
-            Ok(()) => Ok(place),
-            Err(stop) => Err(stop),
-        }
-    }
-
-    fn put(&mut self, _on: Out, _bytes: &[u8]) -> Result<(), Stop> {
-        Err(self.fail(Stop::NeedSolo))
-    }
-
-    fn take_line(&mut self, _most: usize) -> Result<Vec<u8>, Stop> {
-        Err(self.fail(Stop::NeedSolo))
-    }
-
-    fn mid_line(&self) -> bool {
-        false
-    }
-
-    fn set_mid_line(&mut self, _mid: bool) {}
-
-    #[tactic(auto, unfolding(py_data::specs::Sense::Asks, py_data::specs::Heap::at))]
-    fn make(&mut self, r: &Record) -> Result<Addr, Stop> {
-        match self.name_made(r) {
-            Ok(n) => Ok(n),
-            Err(fault) => Err(self.refuse(fault)),
-        }
-    }
-
-    fn start_thread(&mut self, s: T) -> Result<(), Stop> {
-        match self.books.start(self.progress, s) {
-            Ok(()) => Ok(()),
-            Err(_) => Err(self.fail(Stop::OutOfMemory)),
-        }
     }
 }

@@ -3,13 +3,14 @@ ghost use Rattle.std.specs.Prelude.{◌≡◌, ◌≢◌, ℕ, ◌<◌, ◌≤�
 ghost use Rattle.std.specs.List.{sum_by};
 ghost use Rattle.stm_core.specs.declared.books.Work.{Work};
 ghost use Rattle.stm_core.specs.declared.books.Hand.TheVariants.{Idle, Runs};
-ghost use Rattle.stm_core.specs.Books.{one_running};
+ghost use Rattle.stm_core.specs.Books.{one_running, IsSoloAt};
 
 use crate::books::{Books, Hand};
 use crate::cause::Cause;
 use crate::transactions::Core;
 use lock_run::{Client, Life};
 use seg_store::SegStore;
+use stm_io::{Sink, Source};
 
 /// What a segment has in hand.
 #[derive(Clone, Copy, Debug, Drop, PartialEq, Eq)]
@@ -68,6 +69,21 @@ impl<T: Drop> Books<T> {
         count
     }
 
+    /// The segment whose transaction is solo.
+    pub fn solo_segment(&self) -> Option<u8>
+        requires { length self.now.hands.items ≤ 8 }
+        ensures { IsSoloAt self.now.hands.items result }
+    {
+        for j in 0..self.hands.len() {
+            if let Hand::Runs(work) = &self.hands[j] {
+                if work.solo {
+                    return Some(j as u8);
+                }
+            }
+        }
+        None
+    }
+
     /// Whether a segment runs the thread.
     pub fn runs_thread(&self, t: u32) -> bool
         ensures yes { result ≡ true → (j : ℕ) × (y : Work T) × (slice_get self.now.hands.items j ≡ Some (Hand.Runs y)) × (y.thread ≡ t) }
@@ -84,12 +100,10 @@ impl<T: Drop> Books<T> {
     }
 }
 
-impl<'p, C: Client, S: SegStore, I, O, E> Core<'p, C, S, I, O, E> {
+impl<'p, C: Client, S: SegStore, I: Source, O: Sink, E: Sink> Core<'p, C, S, I, O, E> {
     ghost use Rattle.std.specs.Prelude.{◌≡◌, ℕ, ◌<◌, ◌≤◌, true, false};
-    ghost use Rattle.py_data.specs.World.{World};
-    ghost use Rattle.stm_core.specs.Books.{core_of};
-    ghost use Rattle.stm_core.specs.SaneCore.{SaneCore};
-    ghost use Rattle.stm_core.specs.CoreHeld.{core_at, core_client, core_limits, IsGoodCore};
+    ghost use Rattle.stm_core.specs.Books.{Worlds, core_of};
+    ghost use Rattle.stm_core.specs.CoreHeld.{core_client, core_limits, Says, IsGoodCore};
     ghost use Rattle.lock_run.specs.RunState.{steps_done, SomeLives, IsDone};
     ghost use Rattle.stm_core.specs.CoreState.{committed};
     ghost use Rattle.stm_core.specs.Begun.{IsReady, IsUnready, CountsSteps};
@@ -107,8 +121,8 @@ impl<'p, C: Client, S: SegStore, I, O, E> Core<'p, C, S, I, O, E> {
     /// What segment `k` has in hand.
     pub fn slot(&self, k: u8) -> Slot
         requires segment { k < (core_limits S.meaning self.now).segments }
-        requires good { IsGoodCore C.prog C.sound S.reserved S.meaning self.now }
-        ensures { (w : World) → result ≡ slot_of ((core_at S.meaning w self.now).segments k) }
+        requires good { IsGoodCore I.state O.state E.state C.prog C.sound S.reserved S.meaning self.now }
+        ensures { Says I.state O.state E.state C.prog S.meaning self.now (λ o. result ≡ slot_of (o.core.segments k)) }
     {
         match &self.books.hands[k as usize] {
             Hand::Idle => Slot::Idle,
@@ -116,16 +130,16 @@ impl<'p, C: Client, S: SegStore, I, O, E> Core<'p, C, S, I, O, E> {
             Hand::Runs(work) => Slot::Running {
                 thread: work.thread,
                 steps: work.steps,
-                solo: false,
+                solo: work.solo,
             },
         }
     }
 
     /// Whether a transaction of the thread may begin: the thread lives, no segment runs it, and over the image it doesn't wait.
     pub fn is_ready(&self, t: u32) -> bool
-        requires { (most : ℕ) × SaneCore (C.prog self.now.client.now) (C.sound self.now.client.now) most (S.meaning self.now.store) self.now.books }
-        ensures yes { result ≡ true → (w : World) → IsReady (C.prog self.now.client.now) (core_of w (S.meaning self.now.store) self.now.books) t }
-        ensures not { result ≡ false → (w : World) → IsUnready (C.prog self.now.client.now) (core_of w (S.meaning self.now.store) self.now.books) t }
+        requires { C.sound self.now.client.now (S.meaning self.now.store).image self.now.books.threads.entries }
+        ensures yes { result ≡ true → (w : Worlds) → IsReady (C.prog self.now.client.now) (core_of w (S.meaning self.now.store) self.now.books) t }
+        ensures not { result ≡ false → (w : Worlds) → IsUnready (C.prog self.now.client.now) (core_of w (S.meaning self.now.store) self.now.books) t }
     {
         if t >= self.books.threads.len() || self.books.runs_thread(t) {
             return false;
@@ -139,8 +153,8 @@ impl<'p, C: Client, S: SegStore, I, O, E> Core<'p, C, S, I, O, E> {
 
     /// The first ready thread of those from one number on and below another.
     fn first_ready(&self, from: u32, to: u32) -> Option<u32>
-        requires { (most : ℕ) × SaneCore (C.prog self.now.client.now) (C.sound self.now.client.now) most (S.meaning self.now.store) self.now.books }
-        ensures { (w : World) → FirstReady (C.prog self.now.client.now) (core_of w (S.meaning self.now.store) self.now.books) from to result }
+        requires { C.sound self.now.client.now (S.meaning self.now.store).image self.now.books.threads.entries }
+        ensures { (w : Worlds) → FirstReady (C.prog self.now.client.now) (core_of w (S.meaning self.now.store) self.now.books) from to result }
     {
         for t in from..to {
             if self.is_ready(t) {
@@ -153,8 +167,8 @@ impl<'p, C: Client, S: SegStore, I, O, E> Core<'p, C, S, I, O, E> {
     /// The thread whose transaction is to begin next: the least ready one above the thread that began last, else the least
     /// ready one. There is none exactly where no thread that lives, and that no segment runs, can go on.
     pub fn next_ready(&self) -> Option<u32>
-        requires good { IsGoodCore C.prog C.sound S.reserved S.meaning self.now }
-        ensures { (w : World) → IsNext (C.prog (core_client self.now)) (core_at S.meaning w self.now) result }
+        requires good { IsGoodCore I.state O.state E.state C.prog C.sound S.reserved S.meaning self.now }
+        ensures { Says I.state O.state E.state C.prog S.meaning self.now (λ o. IsNext (C.prog (core_client self.now)) o.core result) }
     {
         let count = self.books.threads.len();
         let Some(last) = self.books.last else {
@@ -171,8 +185,8 @@ impl<'p, C: Client, S: SegStore, I, O, E> Core<'p, C, S, I, O, E> {
 
     /// Whether a thread lives.
     fn some_lives(&self) -> bool
-        ensures yes { result ≡ true → (w : World) → SomeLives (C.prog self.now.client.now) (committed (core_of w (S.meaning self.now.store) self.now.books)) }
-        ensures not { result ≡ false → (w : World) → IsDone (C.prog self.now.client.now) (committed (core_of w (S.meaning self.now.store) self.now.books)) }
+        ensures yes { result ≡ true → (w : Worlds) → SomeLives (C.prog self.now.client.now) (committed (core_of w (S.meaning self.now.store) self.now.books)) }
+        ensures not { result ≡ false → (w : Worlds) → IsDone (C.prog self.now.client.now) (committed (core_of w (S.meaning self.now.store) self.now.books)) }
     {
         for t in 0..self.books.threads.len() {
             if let Life::Lives = self.client.life(self.books.threads.at(t)) {
@@ -185,8 +199,8 @@ impl<'p, C: Client, S: SegStore, I, O, E> Core<'p, C, S, I, O, E> {
     /// How the run stands, by the first of these that holds: the cause that is kept; all threads have ended; a segment runs;
     /// each thread that lives waits; the history has the budget's steps; it goes on.
     pub fn outcome(&self) -> RunState
-        requires good { IsGoodCore C.prog C.sound S.reserved S.meaning self.now }
-        ensures { (w : World) → IsOutcome (C.prog (core_client self.now)) (core_limits S.meaning self.now).budget (core_at S.meaning w self.now) result }
+        requires good { IsGoodCore I.state O.state E.state C.prog C.sound S.reserved S.meaning self.now }
+        ensures { Says I.state O.state E.state C.prog S.meaning self.now (λ o. IsOutcome (C.prog (core_client self.now)) (core_limits S.meaning self.now).budget o.core result) }
     {
         if let Some(cause) = self.books.cause {
             return RunState::Faulted(cause);

@@ -1,12 +1,15 @@
 //! The transactional core, as its callers have it.
 use crate::books::Books;
+use crate::devices::Devices;
 use crate::events::{
-    Event, Reply, advance_reply, begin_reply, commit_reply, is_busy, may_advance, split,
+    Event, Reply, advance_reply, begin_reply, commit_reply, is_busy, may_advance, solo_reply, split,
 };
 use lock_run::{Client, History};
 use py_data::{Conflicts, NoMemory};
 use seg_store::SegStore;
 use std::alloc::Global;
+use std::snapshot::Snapshot;
+use stm_io::{Sink, Source};
 
 /// The greatest length.
 pub const LENGTH_LIMIT: u64 = 1_000_000;
@@ -17,8 +20,8 @@ pub const BUDGET_LIMIT: u64 = 1_000_000_000_000_000;
 /// Several transactions of a client's threads on the segments of a store, each of which is aborted or becomes a turn of the
 /// history.
 ///
-/// A segment's number is below the store's count of segments. A call that doesn't say otherwise takes no memory. Contracts see
-/// of a core its state (`CoreState`), in any world: a transaction here neither prints nor reads.
+/// A segment's number is below the store's count of segments. A call that doesn't say otherwise takes no memory. Contracts speak
+/// of the states for which a core stands (`Outer`): its transactions and history, and what its devices were told.
 #[derive(Drop)]
 pub struct Core<'p, C: Client, S, I, O, E> {
     pub(crate) alloc: Global,
@@ -32,17 +35,16 @@ pub struct Core<'p, C: Client, S, I, O, E> {
     pub(crate) length: u64,
     /// With so many steps in the history no transaction begins.
     pub(crate) budget: u64,
-    pub(crate) input: I,
-    pub(crate) out: O,
-    pub(crate) err: E,
+    pub(crate) devices: Devices<I, O, E>,
+    /// The devices as they were when the core was made.
+    pub(crate) made_with: Snapshot<Devices<I, O, E>>,
 }
 
-impl<'p, C: Client, S: SegStore, I, O, E> Core<'p, C, S, I, O, E> {
-    ghost use Rattle.std.specs.Prelude.{◌≡◌, false, IfOk, OnErr};
-    ghost use Rattle.py_data.specs.World.{World};
-    ghost use Rattle.stm_core.specs.CoreHeld.{core_at, core_client, core_limits, core_store, IsGoodCore, SameJob};
+impl<'p, C: Client, S: SegStore, I: Source, O: Sink, E: Sink> Core<'p, C, S, I, O, E> {
+    ghost use Rattle.std.specs.Prelude.{◌≡◌, IfOk, OnErr};
+    ghost use Rattle.stm_core.specs.CoreHeld.{core_client, core_limits, core_store, Says, Leads, IsGoodCore, SameJob};
     ghost use Rattle.stm_core.specs.Events.{may_make, EventMade, EventsMade};
-    ghost use Rattle.stm_core.specs.History.{AllLeave, IsGrown, numbers_of};
+    ghost use Rattle.stm_core.specs.History.{AllLeave, IsGrown};
 
     /// The length that it was made with: the most steps of a transaction.
     pub fn length(&self) -> u64
@@ -60,38 +62,40 @@ impl<'p, C: Client, S: SegStore, I, O, E> Core<'p, C, S, I, O, E> {
 
     /// The committed turns, in the order of their commits.
     pub fn history(&self) -> &History
-        ensures { (w : World) → (core_at S.meaning w self.now).history ≡ result.now.entries }
+        ensures { Says I.state O.state E.state C.prog S.meaning self.now (λ o. o.core.history ≡ result.now.entries) }
     {
         &self.books.history
     }
 
     /// The conflicts that transactions lost, each once, in the order in which they did.
     pub fn conflicts(&self) -> &Conflicts
-        ensures { (w : World) → (core_at S.meaning w self.now).conflicts ≡ result.now.entries }
+        ensures { Says I.state O.state E.state C.prog S.meaning self.now (λ o. o.core.conflicts ≡ result.now.entries) }
     {
         &self.books.conflicts
     }
 
     /// The condition of an event holds.
     fn can_make(&self, event: Event) -> bool
-        requires good { IsGoodCore C.prog C.sound S.reserved S.meaning self.now }
-        ensures { (w : World) → result ≡ may_make (core_limits S.meaning self.now) (core_at S.meaning w self.now) event }
+        requires good { IsGoodCore I.state O.state E.state C.prog C.sound S.reserved S.meaning self.now }
+        ensures { Says I.state O.state E.state C.prog S.meaning self.now (λ o. result ≡ may_make (core_limits S.meaning self.now) o.core event) }
     {
         match event {
             Event::Begin(k, _) => k < self.store.segments(),
             Event::Advance(k, most) => {
                 k < self.store.segments() && may_advance(self.slot(k), most, self.length)
             }
-            Event::Commit(k) => { k < self.store.segments() && is_busy(self.slot(k)) }
+            Event::Solo(k) | Event::Commit(k) => {
+                k < self.store.segments() && is_busy(self.slot(k))
+            }
         }
     }
 
     /// Makes an event, if its condition holds.
     fn make(&mut self, event: Event) -> Reply
-        requires good { IsGoodCore C.prog C.sound S.reserved S.meaning self.old }
-        ensures good { IsGoodCore C.prog C.sound S.reserved S.meaning self.new }
+        requires good { IsGoodCore I.state O.state E.state C.prog C.sound S.reserved S.meaning self.old }
+        ensures good { IsGoodCore I.state O.state E.state C.prog C.sound S.reserved S.meaning self.new }
         ensures job { SameJob S.meaning self.old self.new }
-        ensures made { (w : World) → w.mid ≡ false → EventMade (C.prog (core_client self.old)) (core_limits S.meaning self.old) event result (core_at S.meaning w self.old) (core_at S.meaning w self.new) }
+        ensures made { Leads I.state O.state E.state C.prog S.meaning self.old self.new (EventMade (C.prog (core_client self.old)) (core_limits S.meaning self.old) event result) }
     {
         if !self.can_make(event) {
             return Reply::Skipped;
@@ -99,6 +103,7 @@ impl<'p, C: Client, S: SegStore, I, O, E> Core<'p, C, S, I, O, E> {
         match event {
             Event::Begin(k, t) => begin_reply(self.begin(k, t)),
             Event::Advance(k, most) => advance_reply(self.advance(k, most)),
+            Event::Solo(k) => solo_reply(self.solo(k)),
             Event::Commit(k) => commit_reply(self.commit(k)),
         }
     }
@@ -106,12 +111,13 @@ impl<'p, C: Client, S: SegStore, I, O, E> Core<'p, C, S, I, O, E> {
     /// Makes the events of a list, one after another, and gives the reply of each. An event whose condition doesn't hold is
     /// skipped. Room for all replies is made first; where there is no memory for it, no event is made.
     pub fn run_events(&mut self, list: &[Event]) -> Result<Vec<Reply>, NoMemory>
-        requires good { IsGoodCore C.prog C.sound S.reserved S.meaning self.old }
-        ensures good { IsGoodCore C.prog C.sound S.reserved S.meaning self.new }
+        requires good { IsGoodCore I.state O.state E.state C.prog C.sound S.reserved S.meaning self.old }
+        ensures good { IsGoodCore I.state O.state E.state C.prog C.sound S.reserved S.meaning self.new }
         ensures job { SameJob S.meaning self.old self.new }
-        ensures made { IfOk result (λ replies. (w : World) → w.mid ≡ false → EventsMade (C.prog (core_client self.old)) (core_limits S.meaning self.old) list.now replies.items (core_at S.meaning w self.old) (core_at S.meaning w self.new)) }
-        ensures leaves { IfOk result (λ replies. (w : World) → w.mid ≡ false → AllLeave (C.prog (core_client self.old)) (core_limits S.meaning self.old) list.now replies.items (core_at S.meaning w self.old) (core_at S.meaning w self.new)) }
-        ensures grows { IfOk result (λ replies. (w : World) → w.mid ≡ false → IsGrown (numbers_of replies.items) (core_at S.meaning w self.old) (core_at S.meaning w self.new)) }
+        ensures made { IfOk result (λ replies. Leads I.state O.state E.state C.prog S.meaning self.old self.new (λ o o1.
+            EventsMade (C.prog (core_client self.old)) (core_limits S.meaning self.old) list.now replies.items o o1
+            × AllLeave (C.prog (core_client self.old)) (core_limits S.meaning self.old) list.now replies.items o.core o1.core
+            × IsGrown replies.items o.core o1.core)) }
         ensures none { OnErr result (self.new ≡ self.old) }
     {
         let mut replies = Vec::new(self.alloc);

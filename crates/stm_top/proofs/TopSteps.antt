@@ -1,23 +1,25 @@
 -- The steps of the top call, put together.
-use Rattle.std.proofs.Common.{◌≡◌, ◌≤◌, inl, inr, ℕ, true, ◌==◌, List, [], ◌∷◌, Option, Some, None, Ok, refl, sym, ap, subst, ◌∙◌, arith, append-nil, length}
+use Rattle.std.proofs.Common.{◌≡◌, ◌≤◌, inl, inr, ℕ, ◌+◌, true, ◌==◌, List, [], ◌∷◌, ◌++◌, Option, Some, None, Ok, refl, sym, ap, subst, ◌∙◌, arith, append-nil, length, length-append, decimal}
 use Rattle.std.proofs.lemmas.Bool.Decides.{nat_tests}
-use Rattle.std.proofs.lemmas.List.Elements.{All-nil}
+use Rattle.std.proofs.lemmas.Fmt.{length-decimal-le}
 use Rattle.py_base.specs.declared.refusal.Refusal.{Refusal}
 use Rattle.py_data.specs.declared.stop.Conflict.{Conflict}
 use Rattle.py_data.specs.World.{grown}
-use Rattle.stm_io.specs.Outside.{SourceState, SinkState, Rose}
+use Rattle.stm_io.specs.Outside.{LoaderState, SourceState, SinkState, Rose}
 use Rattle.lock_run.specs.declared.turn.Turn.{Turn}
-use Rattle.lock_run.specs.LockState.{first_world, HasDevices}
 use Rattle.lock_run.specs.Prog.{Prog}
-use Rattle.lock_run.specs.Machine.{begin_with}
-use Rattle.lock_run.specs.Turns.{LockState, Stands}
+use Rattle.stm_core.specs.Events.{Limits}
+use Rattle.stm_words.specs.declared.call.Options.{Options}
+use Rattle.stm_words.specs.declared.call.Script.{Script}
+use Rattle.stm_words.specs.declared.call.Script.TheVariants.{Source, File, Demo}
+use Rattle.stm_words.specs.Demo.{lines, before, before_number, behind_number, numbered, behind, demo_of}
+use Rattle.stm_words.specs.Options.{IsScript}
 use Rattle.stm_top.specs.declared.answer.Answer.{Answer}
-use Rattle.stm_top.specs.declared.answer.Answer.TheVariants.{Done, Failed, Usage, Refused, InputFailed, OutputFailed, ErrorOutputFailed, Stuck, BudgetSpent, OutOfMemory, ScriptTooLong}
-use Rattle.stm_top.specs.Script.{ScriptTaken}
+use Rattle.stm_top.specs.declared.answer.Answer.TheVariants.{Done, Failed, Usage, Refused, LoaderFailed, InputFailed, OutputFailed, ErrorOutputFailed, HeapFull, Stuck, BudgetSpent, OutOfMemory, ScriptTooLong}
+use Rattle.stm_top.specs.Script.{Origin, Taken, AskedAtMost}
 use Rattle.stm_top.specs.Serial.{Serial}
-use Rattle.stm_top.specs.TopCall.{Devices, Told, turn_length, step_budget, Faults, faults_of, RunEnded, NothingRan, TextPut, Ran, CausedBy}
-use Rattle.stm_top.specs.Rounds.{faults_in, SoFar, EndsWith}
-use Rattle.stm_top.specs.Ending.{ThreadsEnded, NoProgram, TextEnded}
+use Rattle.stm_top.specs.TopCall.{Devices, Told, origin, limits_of, Faults, faults_of, RunEnded, NothingRan, TextPut, Ran, CausedBy}
+use Rattle.stm_top.specs.Ending.{NoScript, RunEnds, ThreadsEnded, NoProgram, TextEnded}
 
 -- no text is put where there is none
 pub nothing_put : (text : List ℕ) (s : SinkState) → text ≡ [] → TextPut text s s
@@ -31,86 +33,147 @@ pub no_bytes : (text : List ℕ) → (length text == 0) ≡ true → text ≡ []
 no_bytes [] e = refl
 no_bytes (b ∷ bs) e = absurd (grind (arith, nat_tests, e))
 
--- a machine's turns are those of the call, and its devices are the call's
-module _ {S : Type 0} (p : Prog S) (a b : Devices) (answer : Answer) (history : List Turn) where
-  abbrev RunsTo : (conflicts : List Conflict) (input out err input1 out1 err1 : Option (List ℕ)) (f f1 : Faults) → Type 0
-  RunsTo conflicts input out err input1 out1 err1 f f1 = (r : Serial p turn_length input out err history conflicts input1 out1 err1) × RunEnded step_budget answer f f1 r
+-- ---- a script that was taken
+taken_asks : (script : Script) (text : List ℕ) (x y : Origin) → Taken script text x y → AskedAtMost script x y
+taken_asks Source text x y h = h.1
+taken_asks (File name) text x y h = (inr h.0.asked, h.2)
+taken_asks (Demo n) text x y h = (h.1, h.2)
 
-  pub threads_ran : (conflicts : List Conflict) (l l1 : LockState S) → conflicts ≡ [] → HasDevices l a.input a.out a.err → HasDevices l1 b.input b.out b.err
-      → Stands a.out.told a.err.told l.view l.threads (begin_with p (first_world a.input.told)) → (none : List Turn) → none ≡ [] → EndsWith p step_budget answer none l history l1
-      → ThreadsEnded p answer a (record { history = history; conflicts = conflicts }) b
-  threads_ran conflicts l l1 none d d1 st first empty ends =
-      let z = ends a.input.told a.out.told a.err.told (subst (λ ts. SoFar p (begin_with p (first_world a.input.told)) a.out.told a.err.told ts l) (sym empty) (record {
-        machine = begin_with p (first_world a.input.told);
-        run = refl;
-        stands = st;
-        single = All-nil (λ (t : Turn). t.steps ≡ 1);
-      })) in
-      let z0 : RunsTo conflicts a.input.told a.out.told a.err.told l1.view.input l1.view.out l1.view.err (faults_in l.view) (faults_in l1.view)
-      = subst (λ cs. RunsTo cs a.input.told a.out.told a.err.told l1.view.input l1.view.out l1.view.err (faults_in l.view) (faults_in l1.view)) (sym none) z in
-      let z1 = subst (λ x. RunsTo conflicts a.input.told a.out.told a.err.told x l1.view.out l1.view.err (faults_in l.view) (faults_in l1.view)) d1.input z0 in
-      let z2 = subst (λ x. RunsTo conflicts a.input.told a.out.told a.err.told b.input.told x l1.view.err (faults_in l.view) (faults_in l1.view)) d1.out z1 in
-      let z3 = subst (λ x. RunsTo conflicts a.input.told a.out.told a.err.told b.input.told b.out.told x (faults_in l.view) (faults_in l1.view)) d1.err z2 in
-      let before : faults_in l.view ≡ faults_of a = λ i. record { input = d.reads i; out = d.writes i; err = d.errs i } in
-      let after : faults_in l1.view ≡ faults_of b = λ i. record { input = d1.reads i; out = d1.writes i; err = d1.errs i } in
-      let z4 = subst (λ x. RunsTo conflicts a.input.told a.out.told a.err.told b.input.told b.out.told b.err.told x (faults_in l1.view)) before z3 in
-      inr (subst (λ x. RunsTo conflicts a.input.told a.out.told a.err.told b.input.told b.out.told b.err.told (faults_of a) x) after z4)
+taken_later : (script : Script) (text : List ℕ) (x y : Origin) → Taken script text x y → x.input.faults ≤ y.input.faults
+taken_later Source text x y h = h.0.faults
+taken_later (File name) text x y h = let e = ap (λ (s : SourceState). s.faults) h.2 in omega (arith, e)
+taken_later (Demo n) text x y h = let e = ap (λ (s : SourceState). s.faults) h.2 in omega (arith, e)
 
--- ---- a program that was compiled from a script that was taken
+-- the text of a workload is short
+length_lines : (xs : List (List ℕ)) (x : List ℕ) (ys : List (List ℕ)) → length (lines (xs ++ x ∷ ys)) ≡ length (lines xs) + (length x + (1 + length (lines ys)))
+length_lines [] x ys = let one = length-append x (10 ∷ lines ys) in omega (arith, one)
+length_lines (l ∷ xs) x ys =
+    let one = length-append l (10 ∷ lines (xs ++ x ∷ ys)) in
+    let other = length-append l (10 ∷ lines xs) in
+    let more = length_lines xs x ys in
+    omega (arith, one, other, more)
+
+demo_short : (n : ℕ) → n ≤ 1000000 → length (demo_of n) ≤ 4194304
+demo_short n h =
+    let number : length (decimal n) ≤ 7 = length-decimal-le 7 n (omega arith) (omega (arith, h)) (omega (arith, h)) in
+    let whole = length_lines before (numbered (decimal n)) behind in
+    let line = length-append before_number (decimal n ++ behind_number) in
+    let end = length-append (decimal n) behind_number in
+    let first : length (lines before) ≡ 464 = refl in
+    let last : length (lines behind) ≡ 160 = refl in
+    let left : length before_number ≡ 44 = refl in
+    let right : length behind_number ≡ 12 = refl in
+    omega (arith, number, whole, line, end, first, last, left, right)
+
+pub taken_short : (script : Script) (text : List ℕ) (x y : Origin) → IsScript script → Taken script text x y → length text ≤ 4194304
+taken_short Source text x y w h = h.0.short
+taken_short (File name) text x y w h = h.1
+taken_short (Demo n) text x y w h = subst (λ z. length z ≤ 4194304) (sym h.0) (demo_short n w)
+
 rose_after : (a b c : ℕ) → a ≤ b → Rose b c → Rose a c
 rose_after a b c l r = omega (arith, l, r)
 
-module _ {P S : Type 0} (is_code : List ℕ → P → Type 0) (refused : List ℕ → Refusal → Type 0) (rows : P → Prog S) (a b : Devices) (t : Told) where
-  -- the source counted no fewer failures after the script was taken than before
-  earlier : (answer : Answer) (source : SourceState) {input out err : Option (List ℕ)} {history : List Turn} {conflicts : List Conflict} {input1 out1 err1 : Option (List ℕ)} {p : Prog S} (r : Serial p turn_length input out err history conflicts input1 out1 err1)
-      → a.input.faults ≤ source.faults → RunEnded step_budget answer (faults_of (record a { input = source })) (faults_of b) r → RunEnded step_budget answer (faults_of a) (faults_of b) r
-  earlier Done source r l h = h
-  earlier Failed source r l h = h
-  earlier InputFailed source r l h = (h.0, rose_after a.input.faults source.faults b.input.faults l h.1)
-  earlier OutputFailed source r l h = h
-  earlier ErrorOutputFailed source r l h = h
-  earlier Stuck source r l h = h
-  earlier (BudgetSpent steps) source r l h = h
-  earlier OutOfMemory source r l h = h
-  earlier Usage source r l h = h
-  earlier (Refused refusal) source r l h = h
-  earlier ScriptTooLong source r l h = h
+-- the source counted no fewer failures after the script was taken than before
+earlier : (answer : Answer) {input out err : Option (List ℕ)} {history : List Turn} {conflicts : List Conflict} {input1 out1 err1 : Option (List ℕ)} {S : Type 0} {p : Prog S} {n : ℕ} (l : Limits) (a a1 b : Faults) (r : Serial p n input out err history conflicts input1 out1 err1)
+    → a.input ≤ a1.input → a1.out ≡ a.out → a1.err ≡ a.err → RunEnded l answer a1 b r → RunEnded l answer a b r
+earlier Done l a a1 b r i o e h = h
+earlier Failed l a a1 b r i o e h = h
+earlier InputFailed l a a1 b r i o e h = (h.0, rose_after a.input a1.input b.input i h.1)
+earlier OutputFailed l a a1 b r i o e h = (h.0, subst (λ z. Rose z b.out) o h.1)
+earlier ErrorOutputFailed l a a1 b r i o e h = (h.0, subst (λ z. Rose z b.err) e h.1)
+earlier (HeapFull reserved need limit) l a a1 b r i o e h = h
+earlier Stuck l a a1 b r i o e h = h
+earlier (BudgetSpent steps) l a a1 b r i o e h = h
+earlier OutOfMemory l a a1 b r i o e h = h
+earlier Usage l a a1 b r i o e h = h
+earlier (Refused refusal) l a a1 b r i o e h = h
+earlier LoaderFailed l a a1 b r i o e h = h
+earlier ScriptTooLong l a a1 b r i o e h = h
 
-  script_ran : (answer : Answer) (text : List ℕ) (program : P) (source : SourceState) → ScriptTaken text a.input source → is_code text program → ThreadsEnded (rows program) answer (record a { input = source }) t b → CausedBy is_code refused rows answer a t b
-  script_ran answer text program source taken is (inl n) =
-      subst (λ x. CausedBy is_code refused rows x a t b) (sym n.1) (inl (record { history = n.0.history; conflicts = n.0.conflicts; out = n.0.out; err = n.0.err }))
-  script_ran answer text program source taken is (inr z) = caused answer (earlier answer source z.0 taken.faults z.1)
-    where
-      ran : Ran is_code refused rows a t b
-      ran = record { text = text; source = source; taken = taken; program = program; is = is; serial = z.0 }
+-- the devices once a script was taken
+abbrev pub with_origin : Devices → Origin → Devices
+with_origin a x = record a { loader = x.loader; input = x.input }
 
-      caused : (x : Answer) → RunEnded step_budget x (faults_of a) (faults_of b) ran.serial → CausedBy is_code refused rows x a t b
-      caused Done e = (ran, e)
-      caused Failed e = (ran, e)
-      caused InputFailed e = inr (ran, e)
-      caused OutputFailed e = (ran, e)
-      caused ErrorOutputFailed e = (ran, e)
-      caused Stuck e = (ran, e)
-      caused (BudgetSpent steps) e = (ran, e)
-      caused OutOfMemory e = inr (ran, e)
-      caused Usage e = absurd e
-      caused (Refused refusal) e = absurd e
-      caused ScriptTooLong e = absurd e
+module _ {P S : Type 0} (is_code : List ℕ → P → Type 0) (refused : List ℕ → Refusal → Type 0) (rows : P → Prog S) (o : Options) (a b : Devices) (t : Told) where
+  abbrev Caused : Answer → Type 0
+  Caused answer = CausedBy is_code refused rows answer o a t b
 
-  unmade : (answer : Answer) (text : List ℕ) → NothingRan a t b → ScriptTaken text a.input b.input → NoProgram is_code refused rows text answer → CausedBy is_code refused rows answer a t b
-  unmade (Refused refusal) text n taken h = (n, text, taken, h)
-  unmade OutOfMemory text n taken h = inl n
-  unmade Done text n taken h = absurd h
-  unmade Failed text n taken h = absurd h
-  unmade Usage text n taken h = absurd h
-  unmade InputFailed text n taken h = absurd h
-  unmade OutputFailed text n taken h = absurd h
-  unmade ErrorOutputFailed text n taken h = absurd h
-  unmade Stuck text n taken h = absurd h
-  unmade (BudgetSpent steps) text n taken h = absurd h
-  unmade ScriptTooLong text n taken h = absurd h
+  -- no script was taken
+  pub no_script : (answer : Answer) (x : Origin) → origin b ≡ x → NothingRan a t b → NoScript answer o.script (origin a) x → Caused answer
+  no_script LoaderFailed x e n h = (n, subst (NoScript LoaderFailed o.script (origin a)) (sym e) h)
+  no_script InputFailed x e n h = inl (n, subst (NoScript InputFailed o.script (origin a)) (sym e) h)
+  no_script ScriptTooLong x e n h = (n, subst (NoScript ScriptTooLong o.script (origin a)) (sym e) h)
+  no_script OutOfMemory x e n h = inl (n, subst (NoScript OutOfMemory o.script (origin a)) (sym e) h)
+  no_script Done x e n h = absurd h
+  no_script Failed x e n h = absurd h
+  no_script Usage x e n h = absurd h
+  no_script (Refused refusal) x e n h = absurd h
+  no_script OutputFailed x e n h = absurd h
+  no_script ErrorOutputFailed x e n h = absurd h
+  no_script (HeapFull reserved need limit) x e n h = absurd h
+  no_script Stuck x e n h = absurd h
+  no_script (BudgetSpent steps) x e n h = absurd h
 
-  pub text_ran : (answer : Answer) (text : List ℕ) (source : SourceState) → ScriptTaken text a.input source → TextEnded is_code refused rows text answer (record a { input = source }) t b → CausedBy is_code refused rows answer a t b
-  text_ran answer text source taken (inl z) =
-      unmade answer text (record { history = z.0.history; conflicts = z.0.conflicts; out = z.0.out; err = z.0.err }) (subst (ScriptTaken text a.input) (sym z.1) taken) z.2
-  text_ran answer text source taken (inr z) = script_ran answer text z.0 source taken z.1 z.2
+  module _ (text : List ℕ) (x : Origin) (taken : Taken o.script text (origin a) x) where
+    -- the same devices but for the loader and the source: nothing ran
+    as_before : NothingRan (with_origin a x) t b → NothingRan a t b
+    as_before n = record { history = n.history; conflicts = n.conflicts; store = n.store; out = n.out; err = n.err }
+
+    asks : origin b ≡ x → AskedAtMost o.script (origin a) (origin b)
+    asks e = subst (AskedAtMost o.script (origin a)) (sym e) (taken_asks o.script text (origin a) x taken)
+
+    unmade : (answer : Answer) → origin b ≡ x → NothingRan (with_origin a x) t b → NoProgram is_code refused rows text answer → Caused answer
+    unmade (Refused refusal) e n h = (as_before n, text, subst (Taken o.script text (origin a)) (sym e) taken, h)
+    unmade OutOfMemory e n h = inl (as_before n, asks e)
+    unmade Done e n h = absurd h
+    unmade Failed e n h = absurd h
+    unmade Usage e n h = absurd h
+    unmade LoaderFailed e n h = absurd h
+    unmade InputFailed e n h = absurd h
+    unmade OutputFailed e n h = absurd h
+    unmade ErrorOutputFailed e n h = absurd h
+    unmade (HeapFull reserved need limit) e n h = absurd h
+    unmade Stuck e n h = absurd h
+    unmade (BudgetSpent steps) e n h = absurd h
+    unmade ScriptTooLong e n h = absurd h
+
+    module _ (program : P) (is : is_code text program) where
+      ran : (answer : Answer) → b.loader ≡ x.loader → RunEnds (rows program) (limits_of o) answer (with_origin a x) t b → Ran is_code refused rows o a t b
+      ran answer e r = record {
+        text = text;
+        source = x.input;
+        taken = subst (λ z. Taken o.script text (origin a) (record { loader = z; input = x.input })) (sym e) taken;
+        program = program;
+        is = is;
+        serial = r.serial;
+        store = r.store;
+      }
+
+      ended : (answer : Answer) (e : b.loader ≡ x.loader) (r : RunEnds (rows program) (limits_of o) answer (with_origin a x) t b) → RunEnded (limits_of o) answer (faults_of a) (faults_of b) (ran answer e r).serial
+      unfolding ran
+      ended answer e r = earlier answer (limits_of o) (faults_of a) (faults_of (with_origin a x)) (faults_of b) r.serial (taken_later o.script text (origin a) x taken) refl refl r.ended
+
+      caused : (answer : Answer) → b.loader ≡ x.loader → RunEnds (rows program) (limits_of o) answer (with_origin a x) t b → Caused answer
+      caused Done e r = (ran Done e r, ended Done e r)
+      caused Failed e r = (ran Failed e r, ended Failed e r)
+      caused InputFailed e r = inr (ran InputFailed e r, ended InputFailed e r)
+      caused OutputFailed e r = (ran OutputFailed e r, ended OutputFailed e r)
+      caused ErrorOutputFailed e r = (ran ErrorOutputFailed e r, ended ErrorOutputFailed e r)
+      caused (HeapFull reserved need limit) e r = (ran (HeapFull reserved need limit) e r, ended (HeapFull reserved need limit) e r)
+      caused Stuck e r = (ran Stuck e r, ended Stuck e r)
+      caused (BudgetSpent steps) e r = (ran (BudgetSpent steps) e r, ended (BudgetSpent steps) e r)
+      caused OutOfMemory e r = inr (ran OutOfMemory e r, ended OutOfMemory e r)
+      caused Usage e r = absurd r.ended
+      caused (Refused refusal) e r = absurd r.ended
+      caused LoaderFailed e r = absurd r.ended
+      caused ScriptTooLong e r = absurd r.ended
+
+      threads_ran : (answer : Answer) → ThreadsEnded (rows program) o answer (with_origin a x) t b → Caused answer
+      threads_ran answer h = elim h.1 [
+        | inl n ↦ subst (λ z. CausedBy is_code refused rows z o a t b) (sym n.2) (inl (as_before n.0, asks (λ i. record { loader = h.0 i; input = n.1 i })))
+        | inr r ↦ caused answer h.0 r
+      ]
+
+    pub text_ran : (answer : Answer) → TextEnded is_code refused rows text o answer (with_origin a x) t b → Caused answer
+    text_ran answer (inl z) = unmade answer z.1 z.0 z.2
+    text_ran answer (inr z) = threads_ran z.0 z.1 answer z.2

@@ -7,7 +7,7 @@ use Rattle.py_base.specs.Refusal.{refusal_number, refusal_line}
 use Rattle.stm_top.specs.declared.status.Status.{Status}
 use Rattle.stm_top.specs.declared.status.Status.TheVariants.{Done, Failed, Usage, Refused, LoaderFailed, InputFailed, OutputFailed, ErrorOutputFailed, HeapFull, Stuck, BudgetSpent, OutOfMemory, ScriptTooLong}
 use Rattle.stm_top.specs.declared.answer.Answer.{Answer}
-use Rattle.stm_top.specs.declared.answer.Answer.TheVariants.{Done as IsDone, Failed as HasFailed, Usage as IsUsage, Refused as IsRefused, InputFailed as IsInputFailed, OutputFailed as IsOutputFailed, ErrorOutputFailed as IsErrorOutputFailed, Stuck as IsStuck, BudgetSpent as IsBudgetSpent, OutOfMemory as IsOutOfMemory, ScriptTooLong as IsScriptTooLong}
+use Rattle.stm_top.specs.declared.answer.Answer.TheVariants.{Done as IsDone, Failed as HasFailed, Usage as IsUsage, Refused as IsRefused, LoaderFailed as IsLoaderFailed, InputFailed as IsInputFailed, OutputFailed as IsOutputFailed, ErrorOutputFailed as IsErrorOutputFailed, HeapFull as IsHeapFull, Stuck as IsStuck, BudgetSpent as IsBudgetSpent, OutOfMemory as IsOutOfMemory, ScriptTooLong as IsScriptTooLong}
 
 -- the exit status
 abbrev pub number_of : Status → ℕ
@@ -30,9 +30,11 @@ status_of IsDone = Done
 status_of HasFailed = Failed
 status_of IsUsage = Usage
 status_of (IsRefused refusal) = Refused
+status_of IsLoaderFailed = LoaderFailed
 status_of IsInputFailed = InputFailed
 status_of IsOutputFailed = OutputFailed
 status_of IsErrorOutputFailed = ErrorOutputFailed
+status_of (IsHeapFull reserved need limit) = HeapFull
 status_of IsStuck = Stuck
 status_of (IsBudgetSpent steps) = BudgetSpent
 status_of IsOutOfMemory = OutOfMemory
@@ -59,15 +61,21 @@ refusal_text refusal =
 abbrev pub spent_text : ℕ → List ℕ
 spent_text steps = codes "pystm: budget spent: " ++ signed_decimal (pos steps) ++ codes " steps\n"
 
+abbrev pub full_text : (reserved need limit : ℕ) → List ℕ
+full_text reserved need limit =
+    codes "pystm: heap full: reserved " ++ signed_decimal (pos reserved) ++ codes ", needed " ++ signed_decimal (pos need) ++ codes ", limit " ++ signed_decimal (pos limit) ++ codes " words\n"
+
 -- what it writes to the error output: a line, or nothing
 abbrev pub text_of : Answer → List ℕ
 text_of IsDone = []
 text_of HasFailed = []
 text_of IsUsage = codes "pystm: usage: pystm [--segments N] [--length N] [--pages N] [--budget N] FILE, - or --demo N\n"
 text_of (IsRefused refusal) = refusal_text refusal
+text_of IsLoaderFailed = codes "pystm: cannot load the script\n"
 text_of IsInputFailed = codes "pystm: cannot read the input\n"
 text_of IsOutputFailed = codes "pystm: cannot write the output\n"
 text_of IsErrorOutputFailed = []
+text_of (IsHeapFull reserved need limit) = full_text reserved need limit
 text_of IsStuck = codes "pystm: stuck\n"
 text_of (IsBudgetSpent steps) = spent_text steps
 text_of IsOutOfMemory = codes "pystm: out of memory\n"

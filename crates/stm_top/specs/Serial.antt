@@ -2,18 +2,16 @@
 -- call".
 use Rattle.std.specs.Prelude.{◌≡◌, ◌≢◌, ℕ, ◌≤◌, List, Option, Some, slice_get, All, AllPairs}
 use Rattle.py_data.specs.declared.stop.Conflict.{Conflict}
-use Rattle.py_data.specs.Row.{Row, Do, Put, Take}
-use Rattle.py_data.specs.declared.stop.Out.TheVariants.{Output, ErrorOutput}
 use Rattle.py_data.specs.World.{World, grown}
 use Rattle.lock_run.specs.declared.client.Life.TheVariants.{Failed}
 use Rattle.lock_run.specs.declared.turn.Turn.{Turn}
-use Rattle.lock_run.specs.declared.turn.TurnWhy.{TurnWhy}
-use Rattle.lock_run.specs.declared.turn.TurnWhy.TheVariants.{ReadFault, WriteFault, ErrFault}
 use Rattle.lock_run.specs.LockState.{first_world}
 use Rattle.lock_run.specs.Prog.{Prog}
 use Rattle.lock_run.specs.Machine.{Machine, Runs, begin_with}
 use Rattle.lock_run.specs.Cut.{Broken, Broke}
+use Rattle.stm_core.specs.declared.cause.Cause.{Cause}
 use Rattle.stm_core.specs.Conflict.{loser}
+use Rattle.stm_core.specs.Outside.{FaultOf}
 use Rattle.stm_core.specs.Stood.{Stood}
 
 -- how the telling to the devices ended: with what the run left, or in the step that broke
@@ -21,9 +19,9 @@ pub data Ended {S : Type 0} (p : Prog S) (first : Machine S) (history : List Tur
   Whole : told ≡ w → Ended p first history w told
   Cut : (b : Broken) → Broke p first history w told b → Ended p first history w told
 
--- THE HEADLINE. The turns of the history, done one after another by one interpreter under one lock, from its first state over
--- this input, give `machine`. The outputs are those at entry, and then what that run wrote; where a step broke, and then what a
--- beginning of the next step of one thread writes, a thread that has no later turn. No turn is longer than `length`.
+-- THE HEADLINE. The transactions in the history, run as turns one after another by one interpreter under one lock, from its first
+-- state over this input, give `machine`. The outputs are those at entry, and then what that run wrote; where a step broke, and
+-- then what a beginning of the next step of one thread writes, a thread that has no later turn. No turn is longer than `length`.
 -- Each transaction that was aborted had lost a conflict that stood, once, and was not inevitable.
 pub record Serial {S : Type 0} (p : Prog S) (length : ℕ) (input out err : Option (List ℕ)) (history : List Turn) (conflicts : List Conflict) (input1 out1 err1 : Option (List ℕ)) : Type 0 where
   pub machine : Machine S
@@ -43,18 +41,8 @@ abbrev pub IsWhole : {S : Type 0} {p : Prog S} {first : Machine S} {history : Li
 IsWhole (Whole e) = Unit {0}
 IsWhole (Cut b h) = ⊥
 
--- a fault of a device is one of the call that was cut
-abbrev pub FaultOf : {S A : Type 0} → TurnWhy → Row S A → Type 0
-FaultOf ReadFault (Do (Take most) k) = Unit {0}
-FaultOf ReadFault _ = ⊥
-FaultOf WriteFault (Do (Put Output bytes) k) = Unit {0}
-FaultOf WriteFault _ = ⊥
-FaultOf ErrFault (Do (Put ErrorOutput bytes) k) = Unit {0}
-FaultOf ErrFault _ = ⊥
-FaultOf _ _ = Unit {0}
-
 -- the step that broke did so in a call of this device
-abbrev pub IsCutBy : {S : Type 0} {p : Prog S} {first : Machine S} {history : List Turn} {w told : World} → TurnWhy → Ended p first history w told → Type 0
+abbrev pub IsCutBy : {S : Type 0} {p : Prog S} {first : Machine S} {history : List Turn} {w told : World} → Cause → Ended p first history w told → Type 0
 IsCutBy e (Whole h) = ⊥
 IsCutBy e (Cut b h) = FaultOf e h.cut.left
 

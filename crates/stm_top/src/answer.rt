@@ -1,6 +1,7 @@
 //! What a call has to say: its status, and the text that it writes to the error output.
-ghost use Rattle.std.specs.Prelude.{◌≡◌, IfOk};
-ghost use Rattle.stm_top.specs.Answer.{status_of, text_of, refusal_name, refusal_text, spent_text, IsText};
+ghost use Rattle.std.specs.Prelude.{◌≡◌, IfOk, pos};
+ghost use Rattle.std.specs.Fmt.{signed_decimal};
+ghost use Rattle.stm_top.specs.Answer.{status_of, text_of, refusal_name, refusal_text, spent_text, full_text, IsText};
 
 use crate::status::Status;
 use py_data::{Bytes, NoMemory, Refusal};
@@ -13,12 +14,23 @@ pub(crate) enum Answer {
     Done,
     Failed,
     Usage,
-    Refused { refusal: Refusal },
+    Refused {
+        refusal: Refusal,
+    },
+    LoaderFailed,
     InputFailed,
     OutputFailed,
     ErrorOutputFailed,
+    /// In words of 8 bytes: those that were reserved, those that were needed, and the most that there can be.
+    HeapFull {
+        reserved: u64,
+        need: u64,
+        limit: u64,
+    },
     Stuck,
-    BudgetSpent { steps: u64 },
+    BudgetSpent {
+        steps: u64,
+    },
     OutOfMemory,
     ScriptTooLong,
 }
@@ -35,9 +47,11 @@ impl Answer {
             Answer::Failed => Status::Failed,
             Answer::Usage => Status::Usage,
             Answer::Refused { .. } => Status::Refused,
+            Answer::LoaderFailed => Status::LoaderFailed,
             Answer::InputFailed => Status::InputFailed,
             Answer::OutputFailed => Status::OutputFailed,
             Answer::ErrorOutputFailed => Status::ErrorOutputFailed,
+            Answer::HeapFull { .. } => Status::HeapFull,
             Answer::Stuck => Status::Stuck,
             Answer::BudgetSpent { .. } => Status::BudgetSpent,
             Answer::OutOfMemory => Status::OutOfMemory,
@@ -62,8 +76,14 @@ impl Answer {
             Answer::Done | Answer::Failed | Answer::ErrorOutputFailed => Ok(Bytes::new(alloc)),
             Answer::Usage => Bytes::from_slice(alloc, USAGE),
             Answer::Refused { refusal } => refused(alloc, refusal),
+            Answer::LoaderFailed => Bytes::from_slice(alloc, b"pystm: cannot load the script\n"),
             Answer::InputFailed => Bytes::from_slice(alloc, b"pystm: cannot read the input\n"),
             Answer::OutputFailed => Bytes::from_slice(alloc, b"pystm: cannot write the output\n"),
+            Answer::HeapFull {
+                reserved,
+                need,
+                limit,
+            } => full(alloc, reserved, need, limit),
             Answer::Stuck => Bytes::from_slice(alloc, b"pystm: stuck\n"),
             Answer::BudgetSpent { steps } => spent(alloc, steps),
             Answer::OutOfMemory => Bytes::from_slice(alloc, b"pystm: out of memory\n"),
@@ -114,4 +134,26 @@ fn spent(alloc: Global, steps: u64) -> Result<Bytes, NoMemory>
 {
     let text = format!(in alloc; "pystm: budget spent: {steps} steps\n")?;
     Bytes::from_slice(alloc, text.as_bytes())
+}
+
+/// A number in decimal digits.
+fn decimal(alloc: Global, n: u64) -> Result<Bytes, NoMemory>
+    ensures { IfOk result (λ text. text ≡ signed_decimal (pos n)) }
+{
+    let text = format!(in alloc; "{n}")?;
+    Bytes::from_slice(alloc, text.as_bytes())
+}
+
+/// The text of a heap that was full.
+fn full(alloc: Global, reserved: u64, need: u64, limit: u64) -> Result<Bytes, NoMemory>
+    ensures { IfOk result (λ text. text ≡ full_text reserved need limit) }
+{
+    let mut text = Bytes::from_slice(alloc, b"pystm: heap full: reserved ")?;
+    text.extend_from_slice(decimal(alloc, reserved)?.as_slice())?;
+    text.extend_from_slice(b", needed ")?;
+    text.extend_from_slice(decimal(alloc, need)?.as_slice())?;
+    text.extend_from_slice(b", limit ")?;
+    text.extend_from_slice(decimal(alloc, limit)?.as_slice())?;
+    text.extend_from_slice(b" words\n")?;
+    Ok(text)
 }

@@ -2,13 +2,13 @@
 #![tactic(auto)]
 
 mod answer;
+mod run;
 mod script;
 mod status;
 mod text_code;
 mod top;
-mod turns;
 
 pub use script::SCRIPT_LIMIT;
 pub use status::Status;
 pub use text_code::{TextFault, compile_text, text_law};
-pub use top::{Report, STEP_BUDGET, run_words};
+pub use top::{Report, run_words};

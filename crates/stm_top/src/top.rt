@@ -1,24 +1,26 @@
 //! The top call: from the words to the end of the run.
-ghost use Rattle.std.specs.Prelude.{◌≡◌, ◌≤◌, [], length};
-ghost use Rattle.lock_run.specs.Client.{IsSoundFirst};
+ghost use Rattle.std.specs.Prelude.{◌≡◌, ◌≤◌, length, option_map};
 ghost use Rattle.py_frames.specs.Laws.{prog_of};
+ghost use Rattle.seg_store.specs.Plain.{plain_meaning};
+ghost use Rattle.stm_words.specs.Options.{IsWithin};
 ghost use Rattle.stm_top.specs.TextCode.{HasCode, IsRefused};
-ghost use Rattle.stm_top.specs.TopCall.{devices_of, bytes_of, names_source, Caused, CausedBy, TextPut, Answered};
-ghost use Rattle.stm_top.specs.Ending.{ThreadsEnded, TextEnded};
+ghost use Rattle.stm_top.specs.TopCall.{devices_of, bytes_of, Caused, CausedBy, TextPut, Answered};
+ghost use Rattle.stm_top.specs.Ending.{TextEnded};
 
 use crate::answer::Answer;
+use crate::run::{End, Outside, nothing_ran, run_threads};
 use crate::script::take_script;
 use crate::status::Status;
 use crate::text_code::{TextFault, compile_text};
-use crate::turns::run_turns;
-use lock_run::{Client, History, LockRun};
+use lock_run::History;
 use py_data::{Bytes, Conflicts};
 use py_step::PyClient;
+use seg_store::PlainStore;
 use std::alloc::Global;
-use stm_io::{Gate, Loader, Sink, Source, TakeError};
-
-/// How many steps a run has.
-pub const STEP_BUDGET: usize = 1_000_000;
+use std::sync::Wait;
+use std::thread::Threads;
+use stm_io::{Gate, Loader, Sink, Source};
+use stm_words::{Options, WordsError, read_words};
 
 /// What a call leaves.
 #[derive(Drop)]
@@ -27,150 +29,105 @@ pub struct Report<L, I, O, E> {
     /// What was put to the error output at the end: a line with its newline, or nothing. Where there was no memory for it
     /// it is empty.
     pub text: Bytes,
-    /// The turns that were done, in order. It is empty where nothing ran.
+    /// The turns that were committed, in order. It is empty where nothing ran.
     pub history: History,
-    /// The conflicts of transactions that were aborted. On one machine under one lock there are none.
+    /// The conflicts that transactions lost, each once, in the order in which they did. It is empty where nothing ran.
     pub conflicts: Conflicts,
+    /// The heap that the run used. There is none where nothing ran.
+    pub store: Option<PlainStore>,
     pub loader: L,
     pub input: I,
     pub out: O,
     pub err: E,
 }
 
-/// How a run came to its end, before that is told.
-#[derive(Drop)]
-struct End<I, O, E> {
-    answer: Answer,
-    history: History,
-    conflicts: Conflicts,
-    input: I,
-    out: O,
-    err: E,
-}
-
-/// Nothing ran, for this reason.
-fn nothing_ran<I: Source, O: Sink, E: Sink>(
-    alloc: Global,
-    answer: Answer,
-    input: I,
-    out: O,
-    err: E,
-) -> End<I, O, E>
-    ensures answer { result.answer ≡ answer }
-    ensures history { result.history.entries ≡ [] }
-    ensures conflicts { result.conflicts.entries ≡ [] }
-    ensures devices { (result.input ≡ input) × (result.out ≡ out) × (result.err ≡ err) }
-{
-    End {
-        answer,
-        history: History::new(alloc),
-        conflicts: Conflicts::new(alloc),
-        input,
-        out,
-        err,
-    }
-}
-
-/// Runs the threads of a client on the one-lock machine.
-fn run_threads<C: Client, I: Source, O: Sink, E: Sink>(
-    alloc: Global,
-    client: &C,
-    input: I,
-    out: O,
-    err: E,
-) -> End<I, O, E>
-    requires { IsSoundFirst (C.prog client.now) (C.sound client.now) }
-    ensures ended { ThreadsEnded (C.prog client.now) result.answer (devices_of I.state O.state E.state input out err) (record { history = result.history.entries; conflicts = result.conflicts.entries }) (devices_of I.state O.state E.state result.input result.out result.err) }
-    ensures conflicts { result.conflicts.entries ≡ [] }
-{
-    let mut history = History::new(alloc);
-    let mut run = match LockRun::new(alloc, client, input, out, err) {
-        Ok(run) => run,
-        Err((_, input, out, err)) => {
-            return nothing_ran(alloc, Answer::OutOfMemory, input, out, err);
-        }
-    };
-    let answer = run_turns(alloc, &mut run, &mut history, STEP_BUDGET);
-    let (input, out, err) = run.finish();
-    End {
-        answer,
-        history,
-        conflicts: Conflicts::new(alloc),
-        input,
-        out,
-        err,
-    }
-}
-
 /// Compiles a text, and runs its program.
-fn run_text<I: Source, O: Sink, E: Sink>(
+fn run_text<
+    Rt: Threads + Wait + Sync,
+    L: Loader,
+    I: Source + Send,
+    O: Sink + Send,
+    E: Sink + Send,
+    G: Gate,
+>(
+    rt: &Rt,
     alloc: Global,
     text: &[u8],
-    input: I,
-    out: O,
-    err: E,
-) -> End<I, O, E>
-    requires { length text.now ≤ 4194304 }
-    ensures ended { TextEnded HasCode IsRefused prog_of text.now result.answer (devices_of I.state O.state E.state input out err) (record { history = result.history.entries; conflicts = result.conflicts.entries }) (devices_of I.state O.state E.state result.input result.out result.err) }
-    ensures conflicts { result.conflicts.entries ≡ [] }
+    options: &Options,
+    outside: Outside<L, I, O, E>,
+    gate: &G,
+) -> End<PlainStore, L, I, O, E>
+    requires short { length text.now ≤ 4194304 }
+    requires options { IsWithin options.now }
+    ensures ended { TextEnded HasCode IsRefused prog_of text.now options.now result.answer (devices_of L.state I.state O.state E.state outside.loader outside.input outside.out outside.err)
+        (record { history = result.history.entries; conflicts = result.conflicts.entries; store = option_map plain_meaning result.store }) (devices_of L.state I.state O.state E.state result.outside.loader result.outside.input result.outside.out result.outside.err) }
 {
     let program = match compile_text(alloc, text) {
         Ok(program) => program,
         Err(TextFault::Refused(refusal)) => {
-            return nothing_ran(alloc, Answer::Refused { refusal }, input, out, err);
+            return nothing_ran(alloc, Answer::Refused { refusal }, outside);
         }
         Err(TextFault::OutOfMemory) => {
-            return nothing_ran(alloc, Answer::OutOfMemory, input, out, err);
+            return nothing_ran(alloc, Answer::OutOfMemory, outside);
         }
     };
     let client = PyClient::new(program);
-    run_threads(alloc, &client, input, out, err)
+    run_threads(rt, alloc, &client, options, outside, gate)
 }
 
 /// Takes the script and runs it.
-fn run_script<I: Source, O: Sink, E: Sink>(
+fn run_script<
+    Rt: Threads + Wait + Sync,
+    L: Loader,
+    I: Source + Send,
+    O: Sink + Send,
+    E: Sink + Send,
+    G: Gate,
+>(
+    rt: &Rt,
     alloc: Global,
-    mut input: I,
-    out: O,
-    err: E,
-) -> End<I, O, E>
-    ensures cause { CausedBy HasCode IsRefused prog_of result.answer (devices_of I.state O.state E.state input out err) (record { history = result.history.entries; conflicts = result.conflicts.entries }) (devices_of I.state O.state E.state result.input result.out result.err) }
-    ensures conflicts { result.conflicts.entries ≡ [] }
+    options: &Options,
+    mut outside: Outside<L, I, O, E>,
+    gate: &G,
+) -> End<PlainStore, L, I, O, E>
+    requires options { IsWithin options.now }
+    ensures cause { CausedBy HasCode IsRefused prog_of result.answer options.now (devices_of L.state I.state O.state E.state outside.loader outside.input outside.out outside.err)
+        (record { history = result.history.entries; conflicts = result.conflicts.entries; store = option_map plain_meaning result.store }) (devices_of L.state I.state O.state E.state result.outside.loader result.outside.input result.outside.out result.outside.err) }
 {
-    let answer = match take_script(alloc, &mut input) {
-        Ok(Some(script)) => return run_text(alloc, script.as_slice(), input, out, err),
-        Ok(None) => Answer::ScriptTooLong,
-        Err(TakeError::Failed) => Answer::InputFailed,
-        Err(TakeError::OutOfMemory) => Answer::OutOfMemory,
-    };
-    nothing_ran(alloc, answer, input, out, err)
-}
-
-/// The words are the one word `-`.
-fn name_source(words: &[String]) -> bool
-    ensures { result ≡ names_source (bytes_of words.now) }
-{
-    match words {
-        [word] => word.as_str() == "-",
-        _ => false,
+    match take_script(
+        alloc,
+        &options.script,
+        &mut outside.loader,
+        &mut outside.input,
+    ) {
+        Ok(text) => run_text(rt, alloc, text.as_slice(), options, outside, gate),
+        Err(answer) => nothing_ran(alloc, answer, outside),
     }
 }
 
 /// Runs the script that the words name, up to its text.
-fn run_named<I: Source, O: Sink, E: Sink>(
+fn run_named<
+    Rt: Threads + Wait + Sync,
+    L: Loader,
+    I: Source + Send,
+    O: Sink + Send,
+    E: Sink + Send,
+    G: Gate,
+>(
+    rt: &Rt,
     alloc: Global,
     words: &[String],
-    input: I,
-    out: O,
-    err: E,
-) -> End<I, O, E>
-    ensures cause { Caused HasCode IsRefused prog_of result.answer (bytes_of words.now) (devices_of I.state O.state E.state input out err) (record { history = result.history.entries; conflicts = result.conflicts.entries }) (devices_of I.state O.state E.state result.input result.out result.err) }
-    ensures conflicts { result.conflicts.entries ≡ [] }
+    outside: Outside<L, I, O, E>,
+    gate: &G,
+) -> End<PlainStore, L, I, O, E>
+    ensures cause { Caused HasCode IsRefused prog_of result.answer (bytes_of words.now) (devices_of L.state I.state O.state E.state outside.loader outside.input outside.out outside.err)
+        (record { history = result.history.entries; conflicts = result.conflicts.entries; store = option_map plain_meaning result.store }) (devices_of L.state I.state O.state E.state result.outside.loader result.outside.input result.outside.out result.outside.err) }
 {
-    if !name_source(words) {
-        return nothing_ran(alloc, Answer::Usage, input, out, err);
+    match read_words(alloc, words) {
+        Ok(options) => run_script(rt, alloc, &options, outside, gate),
+        Err(WordsError::Usage) => nothing_ran(alloc, Answer::Usage, outside),
+        Err(WordsError::OutOfMemory) => nothing_ran(alloc, Answer::OutOfMemory, outside),
     }
-    run_script(alloc, input, out, err)
 }
 
 /// Puts a text to an output, if there is one. Its failure changes nothing.
@@ -184,39 +141,66 @@ fn put_text<E: Sink>(err: &mut E, text: &[u8])
 
 /// Runs the script that the words name.
 ///
-/// The words are those after the program's name. `-` takes the script from `input`, to its end; of a longer script than
-/// `SCRIPT_LIMIT` it takes one byte more. What the script writes goes to `out` and `err`. What is wrong is told by the status and
-/// by the text, which is put to `err` last. `loader` and `gate` are for scripts in files and for runs on several segments,
-/// which are not built yet: nothing is asked of them. The script's threads take turns of one step each, and no thread of the
-/// machine below is started.
+/// The words are those after the program's name: options, and where the script comes from. `-` takes it from `input`, to its end; a
+/// name has `loader` load the file of that name; `--demo N` is a workload. Of a longer script than `SCRIPT_LIMIT` one byte more is
+/// taken. Its threads run as transactions on the segments that the options ask for. What they write goes to `out` and `err`. What is
+/// wrong is told by the status and by the text, which is put to `err` last.
+///
+/// For each segment a worker runs, in a thread of the machine below, the caller's among them; they take the heap in turn. The gate is
+/// for what a worker runs while another has the heap, and is not entered yet. Nothing is claimed of when the call returns: a wait for
+/// the heap that never ends is the only way in which it doesn't.
 ///
 /// `specs/TopCall.antt` says what each status means, by its cause, and `specs/Serial.antt` what the run was.
-pub fn run_words<Rt, L: Loader, I: Source, O: Sink, E: Sink, G: Gate>(
-    _rt: &Rt,
+pub fn run_words<
+    Rt: Threads + Wait + Sync,
+    L: Loader,
+    I: Source + Send,
+    O: Sink + Send,
+    E: Sink + Send,
+    G: Gate,
+>(
+    rt: &Rt,
     alloc: Global,
     words: &[String],
     loader: L,
     input: I,
     out: O,
     err: E,
-    _gate: &G,
+    gate: &G,
 ) -> Report<L, I, O, E>
-    ensures answered { Answered HasCode IsRefused prog_of (bytes_of words.now) (devices_of I.state O.state E.state input out err) result.status result.text (record { history = result.history.entries; conflicts = result.conflicts.entries }) (devices_of I.state O.state E.state result.input result.out result.err) }
-    ensures loader { result.loader ≡ loader }
-    ensures conflicts { result.conflicts.entries ≡ [] }
+    ensures { Answered HasCode IsRefused prog_of (bytes_of words.now) (devices_of L.state I.state O.state E.state loader input out err) result.status result.text
+        (record { history = result.history.entries; conflicts = result.conflicts.entries; store = option_map plain_meaning result.store }) (devices_of L.state I.state O.state E.state result.loader result.input result.out result.err) }
 {
-    let end = run_named(alloc, words, input, out, err);
-    let text = end.answer.text(alloc);
-    let mut err = end.err;
+    let outside = Outside {
+        loader,
+        input,
+        out,
+        err,
+    };
+    let End {
+        answer,
+        history,
+        conflicts,
+        store,
+        outside,
+    } = run_named(rt, alloc, words, outside, gate);
+    let Outside {
+        loader,
+        input,
+        out,
+        mut err,
+    } = outside;
+    let text = answer.text(alloc);
     put_text(&mut err, text.as_slice());
     Report {
-        status: end.answer.status(),
+        status: answer.status(),
         text,
-        history: end.history,
-        conflicts: end.conflicts,
+        history,
+        conflicts,
+        store,
         loader,
-        input: end.input,
-        out: end.out,
+        input,
+        out,
         err,
     }
 }

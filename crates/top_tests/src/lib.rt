@@ -17,3 +17,5 @@ mod names_rows;
 mod program_rows;
 #[cfg(test)]
 mod text_rows;
+#[cfg(test)]
+mod worker_rows;

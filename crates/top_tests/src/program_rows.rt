@@ -8,7 +8,7 @@ use stm_top::{TextFault, compile_text};
 type Tested = Result<(), test::Fail>;
 
 /// A script with threads, as a user writes it.
-const COUNTER: &str = "import threading
+pub const COUNTER: &str = "import threading
 
 class Counter(object):
     \"\"\"Counts words.\"\"\"

@@ -1,7 +1,7 @@
 use Rattle.std.proofs.Common.{refl, sym, ◌∙◌, ap, Some}
 use Rattle.std.proofs.lemmas.Result.{on_ok_weaker, IfErr-weaker}
 use Rattle.stm_core.specs.Hold.{holding}
-use Rattle.stm_core.proofs.Holding.{meets_lock, dooms_one, holds_then, fails_then, fails_lost}
+use Rattle.stm_core.proofs.Holding.{meets_lock, dooms_one, dooms_hand, holds_then, fails_then, fails_lost}
 use Rattle.stm_core.proofs.segment.SegView.meet.Goals as goal
 
 pub returns-then-not-wins-clause-err : goal.returns-then-not-wins-clause-err
@@ -17,10 +17,11 @@ returns-clause-ok g c =
     on_ok_weaker c.lock.result (holds_then c.args.self.now.segment c.args.self.now.side c.args.j _ (g.S.SegStore.meaning c.args.self.now.store.now) (g.S.SegStore.reserved c.args.self.now.store.now) c.args.self.now.books.now c.args.self.now.progress.now c.args.self.now.stopped
     c.doom.new.self.segment c.doom.new.self.side (g.S.SegStore.meaning c.doom.new.self.store.now) (g.S.SegStore.reserved c.doom.new.self.store.now) c.doom.new.self.books.now c.doom.new.self.progress.now c.doom.new.self.stopped
     (record {
-      other = c.requires.other;
-      dooms = dooms_one c.args.self.now.segment c.args.self.now.side c.args.j _ (g.S.SegStore.meaning c.args.self.now.store.now) c.args.self.now.books.now c.doom.new.self.books.now c.requires.other c.requires.runs c.side-writer.ensures refl refl refl (cc)
+      dooms = dooms_hand c.args.self.now.segment c.args.self.now.side c.args.j _ (g.S.SegStore.meaning c.args.self.now.store.now) c.args.self.now.books.now c.doom.new.self.books.now c.requires.other
+          (dooms_one c.args.self.now.segment c.args.self.now.side c.args.j _ (g.S.SegStore.meaning c.args.self.now.store.now) c.args.self.now.books.now c.doom.new.self.books.now c.requires.other c.requires.runs c.side-writer.ensures refl refl refl (cc)
           (meets_lock (g.S.SegStore.reserved c.args.self.now.store.now) (g.S.SegStore.meaning c.args.self.now.store.now) c.args.j c.args.self.now.segment c.args.a.0 c.known.ensures.store c.requires.other c.requires.there c.requires.held)
-          c.doom.ensures.books c.doom.ensures.hands c.doom.ensures.conflicts;
+          c.doom.ensures.books c.doom.ensures.hands c.doom.ensures.conflicts)
+          c.doom.ensures.books c.doom.ensures.hands;
       segment = c.doom.ensures.stays.0;
       me_is = c.doom.ensures.stays.1;
       meaning = c.doom.ensures.store;
@@ -34,10 +35,11 @@ returns-clause-err g c =
     IfErr-weaker c.lock.result _ _ (fails_then c.args.self.now.segment c.args.self.now.side c.args.j _ (g.S.SegStore.meaning c.args.self.now.store.now) (g.S.SegStore.reserved c.args.self.now.store.now) c.args.self.now.books.now c.args.self.now.progress.now c.args.self.now.stopped
     c.doom.new.self.segment c.doom.new.self.side (g.S.SegStore.meaning c.doom.new.self.store.now) (g.S.SegStore.reserved c.doom.new.self.store.now) c.doom.new.self.books.now c.doom.new.self.progress.now c.doom.new.self.stopped
     (record {
-      other = c.requires.other;
-      dooms = dooms_one c.args.self.now.segment c.args.self.now.side c.args.j _ (g.S.SegStore.meaning c.args.self.now.store.now) c.args.self.now.books.now c.doom.new.self.books.now c.requires.other c.requires.runs c.side-writer.ensures refl refl refl (cc)
+      dooms = dooms_hand c.args.self.now.segment c.args.self.now.side c.args.j _ (g.S.SegStore.meaning c.args.self.now.store.now) c.args.self.now.books.now c.doom.new.self.books.now c.requires.other
+          (dooms_one c.args.self.now.segment c.args.self.now.side c.args.j _ (g.S.SegStore.meaning c.args.self.now.store.now) c.args.self.now.books.now c.doom.new.self.books.now c.requires.other c.requires.runs c.side-writer.ensures refl refl refl (cc)
           (meets_lock (g.S.SegStore.reserved c.args.self.now.store.now) (g.S.SegStore.meaning c.args.self.now.store.now) c.args.j c.args.self.now.segment c.args.a.0 c.known.ensures.store c.requires.other c.requires.there c.requires.held)
-          c.doom.ensures.books c.doom.ensures.hands c.doom.ensures.conflicts;
+          c.doom.ensures.books c.doom.ensures.hands c.doom.ensures.conflicts)
+          c.doom.ensures.books c.doom.ensures.hands;
       segment = c.doom.ensures.stays.0;
       me_is = c.doom.ensures.stays.1;
       meaning = c.doom.ensures.store;

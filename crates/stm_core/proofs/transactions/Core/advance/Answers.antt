@@ -1,92 +1,100 @@
-use Rattle.std.proofs.Common.{◌≡◌, ◌∙◌, refl, ap, subst, false, Some, Err, arith}
-use Rattle.py_data.specs.World.{World}
+use Rattle.std.proofs.Common.{◌≡◌, refl, sym, ap, subst, Err, arith}
 use Rattle.std.proofs.lemmas.Option.{slice_get_within}
 use Rattle.stm_core.specs.declared.answers.AdvanceError.TheVariants.{Lost}
-use Rattle.stm_core.specs.declared.books.Hand.TheVariants.{Idle, Runs}
-use Rattle.stm_core.proofs.Wholes.{set_here, taken}
-use Rattle.stm_core.proofs.Settling.{undoomed, sane_taken, doomed_advanced, running_advanced}
-use Rattle.stm_core.proofs.Advanced.{sane_advanced}
-use Rattle.stm_core.specs.Books.{core_of}
+use Rattle.stm_core.specs.declared.books.Hand.TheVariants.{Idle, Doomed, Runs}
+use Rattle.stm_core.specs.declared.books.Books.{Books}
+use Rattle.stm_core.specs.Begun.{CountsSteps}
 use Rattle.stm_core.specs.Advanced.{Advanced}
-use Rattle.stm_core.specs.CoreHeld.{core_limits}
-use Rattle.stm_core.proofs.Advancing.{dry_world}
-use Rattle.stm_core.proofs.Calling.{Kept, good_again, same_again, with_spent, advanced_kept, counted_on, le_same, going}
+use Rattle.stm_core.specs.SaneCore.{StandsFor, LeadsBetween}
+use Rattle.stm_core.specs.Settled.{Rises}
+use Rattle.stm_core.specs.CoreHeld.{core_limits, core_devices, first_devices, IsFullKept}
+use Rattle.stm_core.proofs.Wholes.{set_here, taken}
+use Rattle.stm_core.proofs.Publishing.{emptied}
+use Rattle.stm_core.proofs.Calling.{Kept, good_again, same_again, leads_again, sane_led, Quiet, quiet_good, quiet_job, quiet_leads, full_same, rose_same, le_same, going_now}
+use Rattle.stm_core.proofs.TakenSteps.{counts_on, rose_on, sane_out, running_led, doomed_led, full_led}
 use Rattle.stm_core.proofs.transactions.Core.advance.Goals as goal
 
 pub take-requires : goal.take-requires
 take-requires g c =
-    let lt = (going (g.S.SegStore.meaning c.args.self.now.store) c.args.self.now.books (core_limits g.S.SegStore.meaning c.args.self.now) c.args.k c.args.most refl (c.requires.may dry_world)).segment in
+    let lt = (going_now c.requires.good.sane (core_limits g.S.SegStore.meaning c.args.self.now) c.args.k refl c.args.most c.requires.may).segment in
     let n = c.requires.good.whole.hands in
     omega (arith, lt, n)
 
 pub unreachable-requires : goal.unreachable-requires
-unreachable-requires g c = ((going (g.S.SegStore.meaning c.args.self.now.store) c.args.self.now.books (core_limits g.S.SegStore.meaning c.args.self.now) c.args.k c.args.most refl (c.requires.may dry_world)).busy (c.take.ensures.hand ∙ ap Some c.in-Idle.is))
+unreachable-requires g c = ((going_now c.requires.good.sane (core_limits g.S.SegStore.meaning c.args.self.now) c.args.k refl c.args.most c.requires.may).busy c.in-Idle.ensures.hand)
 
 pub advance_out-result-requires-clause-short : goal.advance_out-result-requires-clause-short
-advance_out-result-requires-clause-short g c = (going (g.S.SegStore.meaning c.args.self.now.store) c.args.self.now.books (core_limits g.S.SegStore.meaning c.args.self.now) c.args.k c.args.most refl (c.requires.may dry_world)).short c.in-Runs.work (c.take.ensures.hand ∙ ap Some c.in-Runs.is)
+advance_out-result-requires-clause-short g c = (going_now c.requires.good.sane (core_limits g.S.SegStore.meaning c.args.self.now) c.args.k refl c.args.most c.requires.may).short c.in-Runs.work c.in-Runs.ensures.hand
 
 pub advance_out-result-requires-clause-fit : goal.advance_out-result-requires-clause-fit
-advance_out-result-requires-clause-fit g c = taken c.args.k (g.S.SegStore.meaning c.args.self.now.store) c.args.self.now.books c.take.new.self c.in-Runs.work c.requires.good.whole (c.take.ensures.hand ∙ ap Some c.in-Runs.is) (record { rest = c.take.ensures.rest; hands = c.take.ensures.hands })
+advance_out-result-requires-clause-fit g c =
+    taken c.args.k (g.S.SegStore.meaning c.args.self.now.store) c.args.self.now.books c.take.new.self c.in-Runs.work c.requires.good.whole c.in-Runs.ensures.hand (record { rest = c.take.ensures.rest; hands = c.take.ensures.hands })
 
 pub advance_out-result-requires-clause-idle : goal.advance_out-result-requires-clause-idle
 advance_out-result-requires-clause-idle g c =
-    set_here c.args.k (g.S.SegStore.meaning c.args.self.now.store) c.args.self.now.books c.take.new.self Idle (record { rest = c.take.ensures.rest; hands = c.take.ensures.hands }) (slice_get_within c.args.self.now.books.hands.items c.args.k (Runs c.in-Runs.work) (c.take.ensures.hand ∙ ap Some c.in-Runs.is))
+    set_here c.args.k (g.S.SegStore.meaning c.args.self.now.store) c.args.self.now.books c.take.new.self Idle (record { rest = c.take.ensures.rest; hands = c.take.ensures.hands }) (slice_get_within c.args.self.now.books.hands.items c.args.k (Runs c.in-Runs.work) c.in-Runs.ensures.hand)
+
+pub advance_out-result-requires-clause-count : goal.advance_out-result-requires-clause-count
+advance_out-result-requires-clause-count g c = subst (λ (z : Books g.row.C-State.Denot). CountsSteps c.args.self.now.spent z.history.entries) (sym c.take.ensures.rest) c.requires.good.count
 
 pub advance_out-result-requires-clause-sane : goal.advance_out-result-requires-clause-sane
 advance_out-result-requires-clause-sane g c =
-    sane_taken c.args.k (g.S.SegStore.meaning c.args.self.now.store) c.args.self.now.books c.take.new.self (g.C.Client.prog c.args.self.now.client.now) (g.C.Client.sound c.args.self.now.client.now) c.args.self.now.length c.in-Runs.work (c.take.ensures.hand ∙ ap Some c.in-Runs.is)
-    (record { rest = c.take.ensures.rest; hands = c.take.ensures.hands }) c.requires.good.sane
+    sane_out (g.C.Client.prog c.args.self.now.client.now) c.args.self.now.length c.args.k _ _ (g.S.SegStore.meaning c.args.self.now.store) c.args.self.now.books c.take.new.self c.in-Runs.work c.in-Runs.ensures.hand (record { rest = c.take.ensures.rest; hands = c.take.ensures.hands })
+    (g.C.Client.sound c.args.self.now.client.now) c.requires.good.sane
 
 pub returns-in-Doomed : goal.returns-in-Doomed
-unfolding dry_world
 returns-in-Doomed g c =
     let p = g.C.Client.prog c.args.self.now.client.now in
-    let s = g.C.Client.sound c.args.self.now.client.now in
     let x = c.args.self.now in
     let m = g.S.SegStore.meaning x.store in
     let y = record x { books = c.take.new.self } in
-    let m1 = g.S.SegStore.meaning y.store in
-    let r = g.S.SegStore.reserved y.store in
-    let ends : (w : World) → w.mid ≡ false → Advanced p x.length c.args.k c.args.most r m1.limit (core_of w m x.books) (Err (Lost c.in-Doomed.f)) (core_of w m1 y.books) = λ w dry.
-    doomed_advanced c.args.k m x.books c.take.new.self p x.length c.args.most _ _ w c.in-Doomed.f (c.take.ensures.hand ∙ ap Some c.in-Doomed.is) (record { rest = c.take.ensures.rest; hands = c.take.ensures.hands }) in
-    let kept : Kept g.C.Client.prog g.C.Client.sound g.S.SegStore.reserved g.S.SegStore.meaning c.args.self.now y = record {
+    let cause : y.books.cause ≡ x.books.cause = ap (λ (z : Books g.row.C-State.Denot). z.cause) c.take.ensures.rest in
+    let q : Quiet g.I.Source.state g.O.Sink.state g.E.Sink.state g.C.Client.prog g.C.Client.sound g.S.SegStore.reserved g.S.SegStore.meaning x y (λ o o1. Advanced p x.length c.args.k m.segments c.args.most (g.S.SegStore.reserved x.store) m.limit o (Err (Lost c.in-Doomed.f)) o1) = record {
       rest = refl;
       shape = (refl, refl);
       store = c.known.ensures.store;
-      whole = undoomed c.args.k m x.books c.take.new.self c.in-Doomed.f c.requires.good.whole (c.take.ensures.hand ∙ ap Some c.in-Doomed.is) (record { rest = c.take.ensures.rest; hands = c.take.ensures.hands });
-      count = counted_on p s x.length c.args.k c.args.most r m1.limit m m1 x.books y.books x.spent y.spent (Err (Lost c.in-Doomed.f)) c.requires.good.sane ends refl c.requires.good.count;
-      kept = advanced_kept p _ _ _ _ (le_same _ _ refl) refl (core_of dry_world m x.books) (core_of dry_world m1 y.books) c.requires.good.kept x.length c.args.k c.args.most (Err (Lost c.in-Doomed.f)) (ends dry_world refl);
-      sane = sane_advanced p x.length c.args.k s c.args.most r m1.limit (Err (Lost c.in-Doomed.f)) m m1 x.books y.books c.requires.good.sane ends;
+      whole = emptied c.args.k m x.books c.take.new.self (Doomed c.in-Doomed.f) refl refl refl c.requires.good.whole c.in-Doomed.ensures.hand (record { rest = c.take.ensures.rest; hands = c.take.ensures.hands });
+      count = subst (λ (z : Books g.row.C-State.Denot). CountsSteps x.spent z.history.entries) (sym c.take.ensures.rest) c.requires.good.count;
+      kept = full_same _ _ _ _ x.books.cause y.books.cause (le_same _ _ refl) refl cause c.requires.good.kept;
+      rose = rose_same x.books.cause y.books.cause _ _ cause c.requires.good.sane.rose;
+      led = doomed_led p x.length c.args.k _ _ m x.books c.take.new.self c.in-Doomed.f c.in-Doomed.ensures.hand (record { rest = c.take.ensures.rest; hands = c.take.ensures.hands }) c.args.most _ _ c.requires.good.whole.hands;
     } in
     record {
-      good = good_again g.C.Client.prog g.C.Client.sound g.S.SegStore.reserved g.S.SegStore.meaning c.args.self.now y kept;
-      job = same_again g.C.Client.prog g.C.Client.sound g.S.SegStore.reserved g.S.SegStore.meaning c.args.self.now y kept;
-      advanced = λ w dry. subst (λ l. Advanced p x.length c.args.k c.args.most r l (core_of w m x.books) (Err (Lost c.in-Doomed.f)) (core_of w m1 y.books)) refl (ends w dry);
+      good = quiet_good g.I.Source.state g.O.Sink.state g.E.Sink.state g.C.Client.prog g.C.Client.sound g.S.SegStore.reserved g.S.SegStore.meaning x y _ q c.requires.good;
+      job = quiet_job g.I.Source.state g.O.Sink.state g.E.Sink.state g.C.Client.prog g.C.Client.sound g.S.SegStore.reserved g.S.SegStore.meaning x y _ q c.requires.good;
+      advanced = quiet_leads g.I.Source.state g.O.Sink.state g.E.Sink.state g.C.Client.prog g.C.Client.sound g.S.SegStore.reserved g.S.SegStore.meaning x y _ q c.requires.good;
     }
 
 pub returns-in-Runs : goal.returns-in-Runs
-unfolding dry_world
 returns-in-Runs g c =
-    let p = g.C.Client.prog c.args.self.now.client.now in
-    let s = g.C.Client.sound c.args.self.now.client.now in
     let x = c.args.self.now in
-    let m = g.S.SegStore.meaning x.store in
     let y = c.advance_out-result.new.self in
+    let p = g.C.Client.prog x.client.now in
+    let s = g.C.Client.sound x.client.now in
+    let m = g.S.SegStore.meaning x.store in
     let m1 = g.S.SegStore.meaning y.store in
-    let r = g.S.SegStore.reserved y.store in
-    let ends : (w : World) → w.mid ≡ false → Advanced p x.length c.args.k c.args.most r m1.limit (core_of w m x.books) c.advance_out-result.result (core_of w m1 y.books) = λ w dry.
-    running_advanced c.args.k m x.books c.take.new.self p x.length c.args.most _ _ w c.in-Runs.work c.advance_out-result.result _ (c.take.ensures.hand ∙ ap Some c.in-Runs.is) (record { rest = c.take.ensures.rest; hands = c.take.ensures.hands }) (c.advance_out-result.ensures.advanced w dry) in
-    let kept : Kept g.C.Client.prog g.C.Client.sound g.S.SegStore.reserved g.S.SegStore.meaning c.args.self.now y = record {
-      rest = with_spent x y c.advance_out-result.ensures.rest;
-      shape = c.advance_out-result.ensures.shape;
+    let r1 = g.S.SegStore.reserved y.store in
+    let first = first_devices g.I.Source.state g.O.Sink.state g.E.Sink.state x in
+    let d = core_devices g.I.Source.state g.O.Sink.state g.E.Sink.state x in
+    let d1 = core_devices g.I.Source.state g.O.Sink.state g.E.Sink.state y in
+    let e = c.advance_out-result.ensures in
+    let result = c.advance_out-result.result in
+    let h = c.requires.good in
+    let led : LeadsBetween (StandsFor p x.length first d m x.books) (StandsFor p x.length first d1 m1 y.books) (λ o o1. Advanced p x.length c.args.k m.segments c.args.most r1 m.limit o result o1) =
+    subst (λ l. LeadsBetween (StandsFor p x.length first d m x.books) (StandsFor p x.length first d1 m1 y.books) (λ o o1. Advanced p x.length c.args.k m.segments c.args.most r1 l o result o1)) e.shape.1
+    (running_led p x.length c.args.k first d m x.books c.take.new.self c.in-Runs.work c.in-Runs.ensures.hand (record { rest = c.take.ensures.rest; hands = c.take.ensures.hands }) c.args.most r1 m1.limit d1 m1 y.books result h.whole.hands e.advanced) in
+    let rises : Rises x.books.cause y.books.cause d d1 = subst (λ (z : Books g.row.C-State.Denot). Rises z.cause y.books.cause d d1) c.take.ensures.rest e.rises in
+    let kept : Kept g.I.Source.state g.O.Sink.state g.E.Sink.state g.C.Client.prog g.C.Client.sound g.S.SegStore.reserved g.S.SegStore.meaning x y = record {
+      rest = e.rest;
+      shape = e.shape;
       store = c.known-in-Runs.ensures.store;
-      whole = c.advance_out-result.ensures.whole;
-      count = counted_on p s x.length c.args.k c.args.most r m1.limit m m1 x.books y.books x.spent y.spent c.advance_out-result.result c.requires.good.sane ends (ap (λ z. z.spent) c.advance_out-result.ensures.rest) c.requires.good.count;
-      kept = advanced_kept p _ _ _ _ c.advance_out-result.ensures.reserved c.advance_out-result.ensures.shape.1 (core_of dry_world m x.books) (core_of dry_world m1 y.books) c.requires.good.kept x.length c.args.k c.args.most c.advance_out-result.result (ends dry_world refl);
-      sane = sane_advanced p x.length c.args.k s c.args.most r m1.limit c.advance_out-result.result m m1 x.books y.books c.requires.good.sane ends;
+      whole = e.whole;
+      count = e.count;
+      kept = subst (λ l. IsFullKept r1 l y.books.cause) (sym e.shape.1) (full_led p s x.length c.args.k m.segments c.args.most _ r1 m.limit m.limit first d d1 m m1 x.books y.books result e.reserved refl h.sane h.kept led);
+      sane = sane_led p s x.length first d d1 m m1 x.books y.books _ h.sane led (counts_on first d d1 h.sane.counts rises.counts) (rose_on x.books.cause y.books.cause first d d1 h.sane.counts h.sane.rose rises);
     } in
     record {
-      good = good_again g.C.Client.prog g.C.Client.sound g.S.SegStore.reserved g.S.SegStore.meaning c.args.self.now y kept;
-      job = same_again g.C.Client.prog g.C.Client.sound g.S.SegStore.reserved g.S.SegStore.meaning c.args.self.now y kept;
-      advanced = λ w dry. subst (λ l. Advanced p x.length c.args.k c.args.most r l (core_of w m x.books) c.advance_out-result.result (core_of w m1 y.books)) c.advance_out-result.ensures.shape.1 (ends w dry);
+      good = good_again g.I.Source.state g.O.Sink.state g.E.Sink.state g.C.Client.prog g.C.Client.sound g.S.SegStore.reserved g.S.SegStore.meaning x y kept;
+      job = same_again g.I.Source.state g.O.Sink.state g.E.Sink.state g.C.Client.prog g.C.Client.sound g.S.SegStore.reserved g.S.SegStore.meaning x y kept;
+      advanced = leads_again g.I.Source.state g.O.Sink.state g.E.Sink.state g.C.Client.prog g.C.Client.sound g.S.SegStore.reserved g.S.SegStore.meaning x y _ kept led;
     }

@@ -19,19 +19,20 @@ segments-preserved g c =
       spent = ap (λ s. s.spent) e.rest ∙ v.spent;
       length = ap (λ s. s.length) e.rest ∙ v.length;
       budget = ap (λ s. s.budget) e.rest ∙ v.budget;
-      input = ap (λ s. s.input) e.rest ∙ v.input;
-      out = ap (λ s. s.out) e.rest ∙ v.out;
-      err = ap (λ s. s.err) e.rest ∙ v.err;
+      devices = ap (λ s. s.devices) e.rest ∙ v.devices;
+      made_with = ap (λ s. s.made_with) e.rest ∙ v.made_with;
+      broken = e.broken ∙ v.broken;
+      cause = e.cause ∙ v.cause;
       idle = e.idle ∙ v.idle;
       part = e.part ∙ v.part;
       shape = (e.shape.0 ∙ v.shape.0, e.shape.1 ∙ v.shape.1);
       reserved = e.reserved ∙ v.reserved;
       core = λ w.
-          let tx = transaction w (m0.part c.args.k) c.args.work.now in
+          let tx = transaction w.own (m0.part c.args.k) c.args.work.now in
           let u = core_with w c.args.k m c.segments.self.books c.args.work.now in
           let n = c.segments-count.ensures in
           let lt = c.segments-test.true in
           ap (doom_readers c.args.k tx (range_with_len (c.segments.j + 1) (m0.segments - (c.segments.j + 1))))
-          (e.core w ∙ ap (λ p. cond (eqb c.segments.j c.args.k) u (doom_one c.args.k (transaction w p c.args.work.now) c.segments.j u (u.segments c.segments.j))) v.part)
+          (e.core w ∙ ap (λ p. cond (eqb c.segments.j c.args.k) u (doom_one c.args.k (transaction w.own p c.args.work.now) c.segments.j u (u.segments c.segments.j))) v.part)
           ∙ dooms_on c.args.k tx c.segments.j m0.segments u (omega (arith, n, lt)) ∙ v.core w;
     }

@@ -1,7 +1,7 @@
 use Rattle.std.proofs.Common.{sym, subst, ◌∙◌, arith}
 use Rattle.lock_run.specs.Client.{Waiting, Going}
 use Rattle.stm_core.proofs.Hands.{not_true, not_false}
-use Rattle.stm_core.proofs.Beginning.{sound_core, ready, unready_none, unready_runs, unready_waits}
+use Rattle.stm_core.proofs.Beginning.{ready, unready_none, unready_runs, unready_waits}
 use Rattle.stm_core.proofs.transactions.Core.is_ready.Goals.{then-t-len-via-then-t-len, then-t-len-via-else-t-len+then-runs_thread}
 use Rattle.stm_core.proofs.transactions.Core.is_ready.Goals as goal
 
@@ -19,8 +19,7 @@ returns-then-t-len-clause-not g c = λ e w.
 pub blocked-requires-clause-stands : goal.blocked-requires-clause-stands
 blocked-requires-clause-stands g c =
     let b = c.args.self.now.books in
-    let h = sound_core (g.C.Client.prog c.args.self.now.client.now) (g.C.Client.sound c.args.self.now.client.now) (g.met.C.Client.sound_step c.args.self.now.client.now) c.requires.0 (g.S.SegStore.meaning c.args.self.now.store) b c.requires.1 in
-    (b.threads.entries, c.args.t, c.at-state.ensures, subst (λ i. g.C.Client.sound c.args.self.now.client.now i b.threads.entries) (sym (g.met.S.SegStore.same_image c.args.self.now.store)) h)
+    (b.threads.entries, c.args.t, c.at-state.ensures, subst (λ i. g.C.Client.sound c.args.self.now.client.now i b.threads.entries) (sym (g.met.S.SegStore.same_image c.args.self.now.store)) c.requires)
 
 pub returns-in-Lives-clause-yes : goal.returns-in-Lives-clause-yes
 returns-in-Lives-clause-yes g c = λ e w.

@@ -1,31 +1,35 @@
-use Rattle.std.proofs.Common.{◌≡◌, ◌≤◌, ◌+◌, ℕ, true, false, slice_get, Some}
-use Rattle.py_data.specs.World.{World}
+use Rattle.std.proofs.Common.{◌≡◌, ◌≤◌, ◌+◌, ℕ, false, slice_get, Some, List, Option}
 use Rattle.lock_run.specs.declared.client.Life.TheVariants.{Lives}
+use Rattle.seg_store.specs.Store.{IsStore}
 use Rattle.stm_core.specs.declared.books.Hand.TheVariants.{Idle}
-use Rattle.stm_core.specs.CoreState.{CoreState}
-use Rattle.stm_core.specs.Books.{Fit}
+use Rattle.stm_core.specs.declared.steps.Pause.TheVariants.{Whole}
+use Rattle.stm_core.specs.Books.{Worlds, Fit}
+use Rattle.stm_core.specs.Devices.{device_state, Shown, CountsGrow, IsLeftAlone}
 use Rattle.stm_core.specs.Whole.{SameShape}
-use Rattle.stm_core.specs.Advance.{Tried, Sane, core_with}
+use Rattle.stm_core.specs.Advance.{SaneShown, core_with}
+use Rattle.stm_core.specs.Pausing.{Paused}
 use Rattle.stm_core.proofs.transactions.Core.run_out.Given as goal
 
 abbrev pub invariant-turns : goal.invariant-turns
 invariant-turns g l = record {
   fit : Fit l.k (g.S.SegStore.meaning l.self.store) l.self.books l.work.progress;
+  store : IsStore (g.S.SegStore.reserved l.self.store) (g.S.SegStore.meaning l.self.store);
   idle : slice_get l.self.books.hands.items l.k ≡ Some Idle;
   client : l.self.client ≡ l.initial.self.client;
   alloc : l.self.alloc ≡ l.initial.self.alloc;
   spent : l.self.spent ≡ l.initial.self.spent;
   length : l.self.length ≡ l.initial.self.length;
   budget : l.self.budget ≡ l.initial.self.budget;
-  input : l.self.input ≡ l.initial.self.input;
-  out : l.self.out ≡ l.initial.self.out;
-  err : l.self.err ≡ l.initial.self.err;
+  made_with : l.self.made_with ≡ l.initial.self.made_with;
   shape : SameShape (g.S.SegStore.meaning l.initial.self.store) (g.S.SegStore.meaning l.self.store);
   reserved : g.S.SegStore.reserved l.initial.self.store ≤ g.S.SegStore.reserved l.self.store;
-  sane : Sane (g.C.Client.prog l.initial.self.client.now) (g.C.Client.sound l.initial.self.client.now) l.length l.k (g.S.SegStore.meaning l.self.store) l.self.books l.work;
+  broken : l.self.books.broken ≡ l.initial.self.books.broken;
+  counts : CountsGrow (device_state g.I.Source.state g.O.Sink.state g.E.Sink.state l.initial.self.devices) (device_state g.I.Source.state g.O.Sink.state g.E.Sink.state l.self.devices);
+  alone : l.initial.work.solo ≡ false → IsLeftAlone (device_state g.I.Source.state g.O.Sink.state g.E.Sink.state l.initial.self.devices) (device_state g.I.Source.state g.O.Sink.state g.E.Sink.state l.self.devices);
+  sane : SaneShown (g.C.Client.prog l.initial.self.client.now) (g.C.Client.sound l.initial.self.client.now) l.length l.k (device_state g.I.Source.state g.O.Sink.state g.E.Sink.state l.self.devices) (g.S.SegStore.meaning l.self.store) l.self.books l.work;
   lives : (g.C.Client.prog l.initial.self.client.now).life l.work.state ≡ Lives;
   steps : l.work.steps ≡ l.initial.work.steps + l.done;
-  gone : (w : World) (n : ℕ) (c : CoreState g.row.C-State.Denot) → w.mid ≡ false
-      → Tried (g.C.Client.prog l.initial.self.client.now) l.length l.k true n c (core_with w l.k (g.S.SegStore.meaning l.initial.self.store) l.initial.self.books l.initial.work)
-      → Tried (g.C.Client.prog l.initial.self.client.now) l.length l.k true (n + l.done) c (core_with w l.k (g.S.SegStore.meaning l.self.store) l.self.books l.work);
+  solo : l.work.solo ≡ l.initial.work.solo;
+  paused : (t e : Option (List ℕ)) (w : Worlds) → Shown l.initial.work.solo t e (device_state g.I.Source.state g.O.Sink.state g.E.Sink.state l.initial.self.devices) w.own
+      → Paused (g.C.Client.prog l.initial.self.client.now) l.length l.k t e w (core_with w l.k (g.S.SegStore.meaning l.initial.self.store) l.initial.self.books l.initial.work) l.done Whole (g.S.SegStore.meaning l.self.store) (g.S.SegStore.reserved l.self.store) l.self.books l.work (device_state g.I.Source.state g.O.Sink.state g.E.Sink.state l.self.devices);
 }

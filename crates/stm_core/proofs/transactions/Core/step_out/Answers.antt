@@ -1,68 +1,129 @@
-use Rattle.std.proofs.Common.{◌≡◌, ◌≤◌, sym, ◌∙◌, subst, refl}
-use Rattle.stm_core.specs.declared.segment.SegView.{SegView}
-use Rattle.stm_core.specs.Conflict.{side}
-use Rattle.stm_core.specs.Books.{Fit, transaction}
-use Rattle.stm_core.specs.Whole.{StepDone, StepCut}
-use Rattle.stm_core.specs.Hold.{Hold, holding}
+use Rattle.std.proofs.Common.{◌≡◌, ℕ, None, sym, ◌∙◌, ap, subst, refl}
 use Rattle.std.proofs.lemmas.Result.{IfOk-weaker}
-use Rattle.stm_core.proofs.StepOut.{result_stays, result_reserved, step_done, step_cut, if_err_on}
+use Rattle.py_data.specs.declared.stop.Side.{Side}
+use Rattle.stm_core.specs.declared.segment.SegView.{SegView}
+use Rattle.stm_core.specs.Books.{Fit}
+use Rattle.stm_core.specs.Devices.{DeviceState, device_state}
+use Rattle.stm_core.specs.Hold.{Hold, holding}
+use Rattle.stm_core.proofs.Keeping.{StepKept, step_keeps}
+use Rattle.stm_core.proofs.StepOut.{if_err_on, step_lives, step_done, step_cut, step_broke}
 use Rattle.stm_core.proofs.transactions.Core.step_out.Given as given
 use Rattle.stm_core.proofs.transactions.Core.step_out.Goals as goal
 
-abbrev View : given.Over → Type 0
-View g = SegView g.row.C-State.Denot g.row.S.Denot g.S.SegStore g.S.Peek
+-- ---- the view
 
-abbrev hold : (g : given.Over) → View g → Hold g.row.C-State.Denot
+abbrev State : given.Over → Type 0
+State g = g.row.C-State.Denot
+
+abbrev View : given.Over → Type 0
+View g = SegView (State g) g.row.S.Denot g.row.I.Denot g.row.O.Denot g.row.E.Denot g.S.SegStore g.S.Peek
+
+abbrev hold : (g : given.Over) → View g → Hold (State g)
 hold g v = holding (g.S.SegStore.meaning v.store.now) (g.S.SegStore.reserved v.store.now) v.books.now v.progress.now v.stopped
 
+abbrev devices : (g : given.Over) → View g → DeviceState
+devices g v = device_state g.I.Source.state g.O.Sink.state g.E.Sink.state v.devices.now
+
+abbrev segment : (g : given.Over) → View g → ℕ
+segment g v = v.segment
+
+abbrev me : (g : given.Over) → View g → Side
+me g v = v.side
+
 abbrev same : (g : given.Over) → View g → View g → Type 0
-same g v w = (w.store.ghost_name ≡ v.store.ghost_name) × (w.books.ghost_name ≡ v.books.ghost_name) × (w.progress.ghost_name ≡ v.progress.ghost_name)
+same g v w = (w.store.ghost_name ≡ v.store.ghost_name) × (w.books.ghost_name ≡ v.books.ghost_name) × (w.progress.ghost_name ≡ v.progress.ghost_name) × (w.devices.ghost_name ≡ v.devices.ghost_name)
+
+same_refl : (g : given.Over) (v : View g) → same g v v
+same_refl g v = (refl, refl, refl, refl)
+
+same_then : (g : given.Over) (u v w : View g) → same g u v → same g v w → same g u w
+same_then g u v w a b = (b.0 ∙ a.0, b.1 ∙ a.1, b.2 ∙ a.2, b.3 ∙ a.3)
+
+-- what it is made of
+abbrev made_of : (g : given.Over) → goal.After-known g → Hold (State g)
+made_of g c = holding (g.S.SegStore.meaning c.args.self.now.store) (g.S.SegStore.reserved c.args.self.now.store) c.args.self.now.books c.args.work.now.progress None
+
+abbrev told : (g : given.Over) → goal.After-known g → DeviceState
+told g c = device_state g.I.Source.state g.O.Sink.state g.E.Sink.state c.args.self.now.devices
+
+-- ---- what was lent comes back
+
+same_then_view : (g : given.Over) (c : goal.After-step-result g) → same g c.new-view.result c.step-result.new.v
+same_then_view g c =
+    (step_keeps (hold g) (devices g) (segment g) (me g) (same g) (same_refl g) (same_then g) _ _ _ c.new-view.result _ _ c.step-result.result c.step-result.new.s c.step-result.new.v refl refl refl refl c.step-result.ensures.ok c.step-result.ensures.err).same_is
 
 pub shape_of-self : goal.shape_of-self
-shape_of-self g c =
-    let s = result_stays (hold g) (λ v. v.segment) (λ v. v.side) (same g) (λ v. (refl, refl, refl)) (λ u v w a b. (b.0 ∙ a.0, b.1 ∙ a.1, b.2 ∙ a.2)) _ c.new-view.result c.step-result.result c.step-result.new.s c.step-result.new.v c.step-result.ensures.ok c.step-result.ensures.err in
-    sym (s.same_is.1 ∙ c.new-view.ensures.same_books.0)
+shape_of-self g c = sym ((same_then_view g c).3 ∙ c.new-view.ensures.refs.3)
 
 pub shape_of-self-2 : goal.shape_of-self-2
-shape_of-self-2 g c =
-    let s = result_stays (hold g) (λ v. v.segment) (λ v. v.side) (same g) (λ v. (refl, refl, refl)) (λ u v w a b. (b.0 ∙ a.0, b.1 ∙ a.1, b.2 ∙ a.2)) _ c.new-view.result c.step-result.result c.step-result.new.s c.step-result.new.v c.step-result.ensures.ok c.step-result.ensures.err in
-    sym (s.same_is.0 ∙ c.new-view.ensures.same_store.0)
+shape_of-self-2 g c = sym ((same_then_view g c).1 ∙ c.new-view.ensures.refs.1)
+
+pub shape_of-self-3 : goal.shape_of-self-3
+shape_of-self-3 g c = sym ((same_then_view g c).0 ∙ c.new-view.ensures.refs.0)
 
 pub shape_of-work : goal.shape_of-work
-shape_of-work g c =
-    let s = result_stays (hold g) (λ v. v.segment) (λ v. v.side) (same g) (λ v. (refl, refl, refl)) (λ u v w a b. (b.0 ∙ a.0, b.1 ∙ a.1, b.2 ∙ a.2)) _ c.new-view.result c.step-result.result c.step-result.new.s c.step-result.new.v c.step-result.ensures.ok c.step-result.ensures.err in
-    sym (s.same_is.2 ∙ c.new-view.ensures.same_progress.0)
+shape_of-work g c = sym ((same_then_view g c).2 ∙ c.new-view.ensures.refs.2)
+
+-- ---- what the step keeps
+
+kept : (g : given.Over) (c : goal.After-known g) → StepKept (hold g) (devices g) (segment g) (me g) (same g) (same_refl g) (same_then g) c.args.k c.side-side.result c.new-view.result (made_of g c) (told g c) c.step-result.new.v c.step-result.result
+kept g c =
+    step_keeps (hold g) (devices g) (segment g) (me g) (same g) (same_refl g) (same_then g) c.args.k c.side-side.result _ c.new-view.result (made_of g c) (told g c) c.step-result.result c.step-result.new.s c.step-result.new.v c.new-view.ensures.holds (ap (device_state g.I.Source.state g.O.Sink.state g.E.Sink.state) c.new-view.ensures.tells)
+    c.new-view.ensures.stays.0 c.new-view.ensures.stays.1 c.step-result.ensures.ok c.step-result.ensures.err
+
+fits : (g : given.Over) (c : goal.After-known g) → Fit c.args.k (hold g c.step-result.new.v).meaning (hold g c.step-result.new.v).books (hold g c.step-result.new.v).progress
+fits g c = subst (λ k. Fit k (hold g c.step-result.new.v).meaning (hold g c.step-result.new.v).books (hold g c.step-result.new.v).progress) (kept g c).segment_is c.step-result.new.v.fits
 
 pub returns-clause-fit : goal.returns-clause-fit
-returns-clause-fit g c =
-    let s = result_stays (hold g) (λ v. v.segment) (λ v. v.side) (same g) (λ v. (refl, refl, refl)) (λ u v w a b. (b.0 ∙ a.0, b.1 ∙ a.1, b.2 ∙ a.2)) _ c.new-view.result c.step-result.result c.step-result.new.s c.step-result.new.v c.step-result.ensures.ok c.step-result.ensures.err in
-    subst (λ k. Fit k (g.S.SegStore.meaning c.step-result.new.v.store.now) c.step-result.new.v.books.now c.step-result.new.v.progress.now) (s.segment_is ∙ c.new-view.ensures.rest.0) c.step-result.new.v.fits
+returns-clause-fit g c = fits g c
+
+pub returns-clause-reserved : goal.returns-clause-reserved
+returns-clause-reserved g c = (kept g c).holds.reserved
+
+pub returns-clause-image : goal.returns-clause-image
+returns-clause-image g c = (kept g c).holds.image
+
+pub returns-clause-shape : goal.returns-clause-shape
+returns-clause-shape g c = ((kept g c).holds.segments, (kept g c).holds.limit)
+
+pub returns-clause-hand : goal.returns-clause-hand
+returns-clause-hand g c = λ e. (kept g c).holds.hand ∙ e
+
+pub returns-clause-broken : goal.returns-clause-broken
+returns-clause-broken g c = (kept g c).holds.broken
+
+pub returns-clause-counts : goal.returns-clause-counts
+returns-clause-counts g c = (kept g c).leaves.counts
+
+pub returns-clause-alone : goal.returns-clause-alone
+returns-clause-alone g c = λ mortal. (kept g c).leaves.alone (ap (λ z. z.solo) c.side-side.ensures ∙ mortal)
+
+pub returns-clause-flag : goal.returns-clause-flag
+returns-clause-flag g c = (kept g c).flag
+
+pub returns-clause-rose : goal.returns-clause-rose
+returns-clause-rose g c = (kept g c).rose
+
+-- ---- how it ends
+
+pub returns-clause-life : goal.returns-clause-life
+returns-clause-life g c =
+    IfOk-weaker c.step-result.result _ _ (λ o h. step_lives (hold g) (devices g) (segment g) (me g) (same g) (same_refl g) (same_then g) (g.C.Client.prog c.args.self.now.client.now) c.args.k c.side-side.result c.args.work.now.state c.step-result.new.s c.new-view.result o c.step-result.new.v c.new-view.ensures.stays.0 c.new-view.ensures.stays.1 c.requires.lives (g.met.C.Client.asks_to_print c.args.self.now.client.now c.args.work.now.state) (g.met.C.Client.outcomes c.args.self.now.client.now) h) c.step-result.ensures.ok
 
 pub returns-clause-done : goal.returns-clause-done
 returns-clause-done g c =
-    let s = result_stays (hold g) (λ v. v.segment) (λ v. v.side) (same g) (λ v. (refl, refl, refl)) (λ u v w a b. (b.0 ∙ a.0, b.1 ∙ a.1, b.2 ∙ a.2)) _ c.new-view.result c.step-result.result c.step-result.new.s c.step-result.new.v c.step-result.ensures.ok c.step-result.ensures.err in
-    let fit1 : Fit c.args.k (g.S.SegStore.meaning c.step-result.new.v.store.now) c.step-result.new.v.books.now c.step-result.new.v.progress.now =
-    subst (λ k. Fit k (g.S.SegStore.meaning c.step-result.new.v.store.now) c.step-result.new.v.books.now c.step-result.new.v.progress.now) (s.segment_is ∙ c.new-view.ensures.rest.0) c.step-result.new.v.fits in
-    let fit0 : Fit c.args.k (g.S.SegStore.meaning c.new-view.result.store.now) c.new-view.result.books.now c.new-view.result.progress.now =
-    subst (λ k. Fit k (g.S.SegStore.meaning c.new-view.result.store.now) c.new-view.result.books.now c.new-view.result.progress.now) c.new-view.ensures.rest.0 c.new-view.result.fits in
-    IfOk-weaker c.step-result.result _ _ (λ o h w dry. subst (λ z. StepDone (g.C.Client.prog c.args.self.now.client.now) w c.args.k (side c.args.k (transaction w ((g.S.SegStore.meaning c.args.self.now.store).part c.args.k) c.args.work.now)) o (g.S.SegStore.meaning z) c.args.self.now.books c.args.work.now (g.S.SegStore.meaning c.step-result.new.v.store.now) c.step-result.new.v.books.now (record c.args.work.now { state = c.step-result.new.s; progress = c.step-result.new.v.progress.now })) c.new-view.ensures.same_store.1 (subst (λ z. StepDone (g.C.Client.prog c.args.self.now.client.now) w c.args.k (side c.args.k (transaction w ((g.S.SegStore.meaning c.args.self.now.store).part c.args.k) c.args.work.now)) o (g.S.SegStore.meaning c.new-view.result.store.now) z c.args.work.now (g.S.SegStore.meaning c.step-result.new.v.store.now) c.step-result.new.v.books.now (record c.args.work.now { state = c.step-result.new.s; progress = c.step-result.new.v.progress.now })) c.new-view.ensures.same_books.1 (step_done (hold g) (λ v. v.segment) (λ v. v.side) (same g) (λ v. (refl, refl, refl)) (λ u v w a b. (b.0 ∙ a.0, b.1 ∙ a.1, b.2 ∙ a.2))
-    (g.C.Client.prog c.args.self.now.client.now) w dry c.args.k (side c.args.k (transaction w ((g.S.SegStore.meaning c.args.self.now.store).part c.args.k) c.args.work.now)) refl c.new-view.result c.step-result.new.v c.new-view.ensures.rest.0 (c.new-view.ensures.rest.1 ∙ c.side-side.ensures)
-    c.args.work.now (record c.args.work.now { state = c.step-result.new.s; progress = c.step-result.new.v.progress.now }) (g.S.SegStore.meaning c.step-result.new.v.store.now) (g.S.SegStore.reserved c.step-result.new.v.store.now) c.step-result.new.v.books.now
-    c.new-view.ensures.same_progress.1 (fit0) fit1 c.known.ensures.store c.requires.lives (g.met.C.Client.asks_to_print c.args.self.now.client.now c.args.work.now.state) refl refl refl refl refl refl refl o (g.met.C.Client.outcomes c.args.self.now.client.now) (g.met.C.Client.waits_quietly c.args.self.now.client.now) h))) c.step-result.ensures.ok
+    IfOk-weaker c.step-result.result _ _ (λ o h t e w shown. step_done (hold g) (devices g) (segment g) (me g) (same g) (same_refl g) (same_then g) t e (g.C.Client.prog c.args.self.now.client.now) w c.args.k (g.S.SegStore.meaning c.args.self.now.store) (g.S.SegStore.reserved c.args.self.now.store) c.args.self.now.books c.args.work.now
+    (told g c) c.new-view.result h.0 c.step-result.new.v c.step-result.new.s c.new-view.ensures.holds (ap (device_state g.I.Source.state g.O.Sink.state g.E.Sink.state) c.new-view.ensures.tells) c.new-view.ensures.stays.0 (c.new-view.ensures.stays.1 ∙ c.side-side.ensures) h.1
+    c.requires.fit (fits g c) c.known.ensures.store c.requires.lives (g.met.C.Client.asks_to_print c.args.self.now.client.now c.args.work.now.state) shown o (g.met.C.Client.waits_quietly c.args.self.now.client.now) h.2) c.step-result.ensures.ok
 
 pub returns-clause-cut : goal.returns-clause-cut
 returns-clause-cut g c =
-    let s = result_stays (hold g) (λ v. v.segment) (λ v. v.side) (same g) (λ v. (refl, refl, refl)) (λ u v w a b. (b.0 ∙ a.0, b.1 ∙ a.1, b.2 ∙ a.2)) _ c.new-view.result c.step-result.result c.step-result.new.s c.step-result.new.v c.step-result.ensures.ok c.step-result.ensures.err in
-    let fit1 : Fit c.args.k (g.S.SegStore.meaning c.step-result.new.v.store.now) c.step-result.new.v.books.now c.step-result.new.v.progress.now =
-    subst (λ k. Fit k (g.S.SegStore.meaning c.step-result.new.v.store.now) c.step-result.new.v.books.now c.step-result.new.v.progress.now) (s.segment_is ∙ c.new-view.ensures.rest.0) c.step-result.new.v.fits in
-    let fit0 : Fit c.args.k (g.S.SegStore.meaning c.new-view.result.store.now) c.new-view.result.books.now c.new-view.result.progress.now =
-    subst (λ k. Fit k (g.S.SegStore.meaning c.new-view.result.store.now) c.new-view.result.books.now c.new-view.result.progress.now) c.new-view.ensures.rest.0 c.new-view.result.fits in
-    if_err_on c.step-result.result (λ e h q w dry. subst (λ z. StepCut (g.C.Client.prog c.args.self.now.client.now) w c.args.k (side c.args.k (transaction w ((g.S.SegStore.meaning c.args.self.now.store).part c.args.k) c.args.work.now)) e (g.S.SegStore.meaning z) c.args.self.now.books c.args.work.now (g.S.SegStore.meaning c.step-result.new.v.store.now) (g.S.SegStore.reserved c.step-result.new.v.store.now) c.step-result.new.v.books.now (record c.args.work.now { state = c.step-result.new.s; progress = c.step-result.new.v.progress.now })) c.new-view.ensures.same_store.1 (subst (λ z. StepCut (g.C.Client.prog c.args.self.now.client.now) w c.args.k (side c.args.k (transaction w ((g.S.SegStore.meaning c.args.self.now.store).part c.args.k) c.args.work.now)) e (g.S.SegStore.meaning c.new-view.result.store.now) z c.args.work.now (g.S.SegStore.meaning c.step-result.new.v.store.now) (g.S.SegStore.reserved c.step-result.new.v.store.now) c.step-result.new.v.books.now (record c.args.work.now { state = c.step-result.new.s; progress = c.step-result.new.v.progress.now })) c.new-view.ensures.same_books.1 (step_cut (hold g) (λ v. v.segment) (λ v. v.side) (same g) (λ v. (refl, refl, refl)) (λ u v w a b. (b.0 ∙ a.0, b.1 ∙ a.1, b.2 ∙ a.2))
-    (g.C.Client.prog c.args.self.now.client.now) w dry c.args.k (side c.args.k (transaction w ((g.S.SegStore.meaning c.args.self.now.store).part c.args.k) c.args.work.now)) refl c.new-view.result c.step-result.new.v c.new-view.ensures.rest.0 (c.new-view.ensures.rest.1 ∙ c.side-side.ensures)
-    c.args.work.now (record c.args.work.now { state = c.step-result.new.s; progress = c.step-result.new.v.progress.now }) (g.S.SegStore.meaning c.step-result.new.v.store.now) (g.S.SegStore.reserved c.step-result.new.v.store.now) c.step-result.new.v.books.now
-    c.new-view.ensures.same_progress.1 (fit0) fit1 c.known.ensures.store c.requires.lives (g.met.C.Client.asks_to_print c.args.self.now.client.now c.args.work.now.state) refl refl refl refl refl refl refl e q h))) c.step-result.ensures.err c.step-result.ensures.state
+    if_err_on c.step-result.result (λ stop h state t e w shown. step_cut (hold g) (devices g) (segment g) (me g) (same g) (same_refl g) (same_then g) t e (g.C.Client.prog c.args.self.now.client.now) w c.args.k (g.S.SegStore.meaning c.args.self.now.store) (g.S.SegStore.reserved c.args.self.now.store) c.args.self.now.books c.args.work.now
+    (told g c) c.new-view.result h.0 c.step-result.new.v c.step-result.new.s c.new-view.ensures.holds (ap (device_state g.I.Source.state g.O.Sink.state g.E.Sink.state) c.new-view.ensures.tells) c.new-view.ensures.stays.0 (c.new-view.ensures.stays.1 ∙ c.side-side.ensures) h.2
+    c.requires.fit (fits g c) c.known.ensures.store c.requires.lives (g.met.C.Client.asks_to_print c.args.self.now.client.now c.args.work.now.state) shown stop state h.1 h.3 h.4) c.step-result.ensures.err c.step-result.ensures.state
 
-pub returns-clause-reserved : goal.returns-clause-reserved
-returns-clause-reserved g c =
-    let r = result_reserved (hold g) (λ v. v.segment) (λ v. v.side) (same g) (λ v. (refl, refl, refl)) (λ u v w a b. (b.0 ∙ a.0, b.1 ∙ a.1, b.2 ∙ a.2)) _ c.new-view.result c.step-result.result c.step-result.new.s c.step-result.new.v c.step-result.ensures.ok c.step-result.ensures.err in
-    subst (λ z. g.S.SegStore.reserved z ≤ g.S.SegStore.reserved c.step-result.new.v.store.now) c.new-view.ensures.same_store.1 r
+pub returns-clause-broke : goal.returns-clause-broke
+returns-clause-broke g c =
+    if_err_on c.step-result.result (λ stop h state solo t e w shows. step_broke (hold g) (devices g) (segment g) (me g) (same g) (same_refl g) (same_then g) t e (g.C.Client.prog c.args.self.now.client.now) w c.args.k (g.S.SegStore.meaning c.args.self.now.store) (g.S.SegStore.reserved c.args.self.now.store) c.args.self.now.books c.args.work.now
+    (told g c) c.new-view.result h.0 c.step-result.new.v c.step-result.new.s c.new-view.ensures.holds (ap (device_state g.I.Source.state g.O.Sink.state g.E.Sink.state) c.new-view.ensures.tells) c.new-view.ensures.stays.0 (c.new-view.ensures.stays.1 ∙ c.side-side.ensures) h.2
+    c.requires.fit (fits g c) c.known.ensures.store c.requires.lives (g.met.C.Client.asks_to_print c.args.self.now.client.now c.args.work.now.state) (λ y. shows) stop state h.1 h.3 h.4 solo) c.step-result.ensures.err c.step-result.ensures.state

@@ -1,0 +1,13 @@
+use Rattle.std.proofs.Common.{rules, ap}
+use Rattle.heap_lock.specs.Views.{SeatView}
+use Rattle.heap_lock.proofs.SeenLemmas.{seen_before_give}
+use Rattle.heap_lock.proofs.tests.add_often.Goals as goal
+
+pub loop-preserved : goal.loop-preserved
+loop-preserved g c =
+    let gave = ap (λ (s : SeatView g.row.T.Denot g.row.T-Description.Denot). s.seen) c.give.ensures.seat in
+    let job = g.T.Job in (
+      search rules,
+      λ x all. c.loop.invariant.1 x (seen_before_give job.grows job.grows_then c.loop.seat.seen c.give.new.seat.seen c.take-value.result c.add.new.self x
+          c.take-value.ensures.later c.add.ensures.grown gave all),
+    )

@@ -1,0 +1,13 @@
+use Rattle.std.proofs.Common.{rules}
+use Rattle.seg_store.specs.Table.{table_heap}
+use Rattle.seg_store.proofs.Back.{noted_made}
+use Rattle.seg_store.proofs.space.Space.add.Goals as goal
+
+pub invariant_of-self-2 : goal.invariant_of-self-2
+invariant_of-self-2 c = record {
+  undoable = (noted_made c.args.self.now.journal.items c.note.new.journal.items c.args.a c.args.r (table_heap c.args.self.now.records) (table_heap c.put.new.self) (search rules) (search rules) c.requires c.args.self.now.undoable).undoable;
+}
+
+pub returns-clause-base : goal.returns-clause-base
+returns-clause-base c =
+    (noted_made c.args.self.now.journal.items c.note.new.journal.items c.args.a c.args.r (table_heap c.args.self.now.records) (table_heap c.put.new.self) (search rules) (search rules) c.requires c.args.self.now.undoable).base

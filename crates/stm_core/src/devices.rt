@@ -1,0 +1,13 @@
+//! What lies outside of a core.
+
+/// The devices of a core, and whether its output is in the middle of a line.
+#[derive(Drop)]
+pub struct Devices<I, O, E> {
+    pub input: I,
+    pub out: O,
+    pub err: E,
+    /// The output is in the middle of a line.
+    pub mid: bool,
+    /// It was, when the open step began.
+    pub was_mid: bool,
+}

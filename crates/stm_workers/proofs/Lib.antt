@@ -1,0 +1,4 @@
+pub mod Growing
+pub mod Jobs
+pub mod Joined
+pub mod Sent

@@ -1,0 +1,278 @@
+//! What a worker does at one visit to a core.
+ghost use Rattle.std.specs.Prelude.{◌≡◌, ◌<◌, ◌≤◌, true};
+ghost use Rattle.stm_core.specs.CoreHeld.{core_limits, Says, IsGoodCore, SameJob};
+ghost use Rattle.stm_core.specs.Events.{is_busy, is_within, may_make};
+ghost use Rattle.stm_core.specs.declared.events.Event.{Event};
+ghost use Rattle.stm_workers.specs.CoreJob.{core_job};
+ghost use Rattle.stm_workers.specs.Ended.{HasEnded};
+ghost use Rattle.stm_workers.specs.Growth.{Grows};
+
+use lock_run::Client;
+use seg_store::SegStore;
+use stm_core::{Advance, AdvanceError, Core, RunState, Slot, SoloError, events_law};
+use stm_io::{Sink, Source};
+
+/// The most steps of one visit.
+const VISIT_STEPS: u64 = 100;
+
+/// Something is in hand.
+fn is_busy(slot: Slot) -> bool
+    ensures { result ≡ is_busy slot }
+{
+    match slot {
+        Slot::Idle => false,
+        _ => true,
+    }
+}
+
+/// How many steps a segment does in one visit. There are none for a transaction that has as many as the length, and for a doomed one.
+fn steps_of(slot: Slot, length: u64) -> u64
+    ensures { 1 ≤ result → is_within length result slot ≡ true }
+{
+    match slot {
+        Slot::Running { steps, .. } => {
+            if steps < length {
+                (length - steps).min(VISIT_STEPS)
+            } else {
+                0
+            }
+        }
+        _ => 0,
+    }
+}
+
+/// Commits what a segment has in hand, if anything. A doomed one is told so, and is idle then, as is one without a step.
+fn commit<C: Client, S: SegStore, I: Source, O: Sink, E: Sink>(
+    core: &mut Core<'_, C, S, I, O, E>,
+    k: u8,
+)
+    requires good { IsGoodCore I.state O.state E.state C.prog C.sound S.reserved S.meaning core.old }
+    requires segment { k < (core_limits S.meaning core.old).segments }
+    ensures good { IsGoodCore I.state O.state E.state C.prog C.sound S.reserved S.meaning core.new }
+    ensures job { SameJob S.meaning core.old core.new }
+    ensures grows { Grows I.state O.state E.state C.prog S.meaning core.old core.new }
+{
+    let slot = core.slot(k);
+    if is_busy(slot) {
+        let _ = core.commit(k);
+        events_law::<C::State>();
+    }
+}
+
+/// Commits the transaction of a segment that has as many steps as the length.
+fn commit_whole<C: Client, S: SegStore, I: Source, O: Sink, E: Sink>(
+    core: &mut Core<'_, C, S, I, O, E>,
+    k: u8,
+)
+    requires good { IsGoodCore I.state O.state E.state C.prog C.sound S.reserved S.meaning core.old }
+    requires segment { k < (core_limits S.meaning core.old).segments }
+    ensures good { IsGoodCore I.state O.state E.state C.prog C.sound S.reserved S.meaning core.new }
+    ensures job { SameJob S.meaning core.old core.new }
+    ensures grows { Grows I.state O.state E.state C.prog S.meaning core.old core.new }
+{
+    match core.slot(k) {
+        Slot::Running { steps, .. } if steps < core.length() => (),
+        _ => commit(core, k),
+    }
+}
+
+/// Another transaction is solo.
+fn names_another(answer: Result<(), SoloError>) -> bool {
+    matches!(answer, Err(SoloError::Taken { .. }))
+}
+
+/// Makes what a segment has in hand solo, if anything and unless another one is: whether another one is.
+fn is_taken<C: Client, S: SegStore, I: Source, O: Sink, E: Sink>(
+    core: &mut Core<'_, C, S, I, O, E>,
+    k: u8,
+) -> bool
+    requires good { IsGoodCore I.state O.state E.state C.prog C.sound S.reserved S.meaning core.old }
+    requires segment { k < (core_limits S.meaning core.old).segments }
+    ensures good { IsGoodCore I.state O.state E.state C.prog C.sound S.reserved S.meaning core.new }
+    ensures job { SameJob S.meaning core.old core.new }
+    ensures grows { Grows I.state O.state E.state C.prog S.meaning core.old core.new }
+{
+    if is_busy(core.slot(k)) {
+        let answer = core.solo(k);
+        events_law::<C::State>();
+        return names_another(answer);
+    }
+    false
+}
+
+/// Makes what a segment has in hand solo. Where another one is, it is committed, so that no thread waits for that one with a
+/// transaction in hand.
+fn go_solo<C: Client, S: SegStore, I: Source, O: Sink, E: Sink>(
+    core: &mut Core<'_, C, S, I, O, E>,
+    k: u8,
+)
+    requires good { IsGoodCore I.state O.state E.state C.prog C.sound S.reserved S.meaning core.old }
+    requires segment { k < (core_limits S.meaning core.old).segments }
+    ensures good { IsGoodCore I.state O.state E.state C.prog C.sound S.reserved S.meaning core.new }
+    ensures job { SameJob S.meaning core.old core.new }
+    ensures grows { Grows I.state O.state E.state C.prog S.meaning core.old core.new }
+{
+    if is_taken(core, k) {
+        commit(core, k);
+    }
+}
+
+/// What follows steps of a segment that were answered so.
+fn follow<C: Client, S: SegStore, I: Source, O: Sink, E: Sink>(
+    core: &mut Core<'_, C, S, I, O, E>,
+    k: u8,
+    answer: Result<Advance, AdvanceError>,
+)
+    requires good { IsGoodCore I.state O.state E.state C.prog C.sound S.reserved S.meaning core.old }
+    requires segment { k < (core_limits S.meaning core.old).segments }
+    ensures good { IsGoodCore I.state O.state E.state C.prog C.sound S.reserved S.meaning core.new }
+    ensures job { SameJob S.meaning core.old core.new }
+    ensures grows { Grows I.state O.state E.state C.prog S.meaning core.old core.new }
+{
+    match answer {
+        Ok(Advance::NeedSolo(_)) => go_solo(core, k),
+        Ok(Advance::Ran(_)) => commit_whole(core, k),
+        Ok(_) => commit(core, k),
+        Err(_) => (),
+    }
+}
+
+/// So many steps of what a segment has in hand.
+fn step<C: Client, S: SegStore, I: Source, O: Sink, E: Sink>(
+    core: &mut Core<'_, C, S, I, O, E>,
+    k: u8,
+    steps: u64,
+) -> Result<Advance, AdvanceError>
+    requires good { IsGoodCore I.state O.state E.state C.prog C.sound S.reserved S.meaning core.old }
+    requires may { Says I.state O.state E.state C.prog S.meaning core.old (λ o. may_make (core_limits S.meaning core.old) o.core (Event.Advance k steps) ≡ true) }
+    ensures good { IsGoodCore I.state O.state E.state C.prog C.sound S.reserved S.meaning core.new }
+    ensures job { SameJob S.meaning core.old core.new }
+    ensures grows { Grows I.state O.state E.state C.prog S.meaning core.old core.new }
+{
+    let answer = core.advance(k, steps);
+    events_law::<C::State>();
+    answer
+}
+
+/// So many steps of what a segment has in hand, and what follows them.
+fn advance<C: Client, S: SegStore, I: Source, O: Sink, E: Sink>(
+    core: &mut Core<'_, C, S, I, O, E>,
+    k: u8,
+    steps: u64,
+)
+    requires good { IsGoodCore I.state O.state E.state C.prog C.sound S.reserved S.meaning core.old }
+    requires segment { k < (core_limits S.meaning core.old).segments }
+    requires may { Says I.state O.state E.state C.prog S.meaning core.old (λ o. may_make (core_limits S.meaning core.old) o.core (Event.Advance k steps) ≡ true) }
+    ensures good { IsGoodCore I.state O.state E.state C.prog C.sound S.reserved S.meaning core.new }
+    ensures job { SameJob S.meaning core.old core.new }
+    ensures grows { Grows I.state O.state E.state C.prog S.meaning core.old core.new }
+{
+    let answer = step(core, k, steps);
+    follow(core, k, answer);
+}
+
+/// Goes on with what a segment has in hand, which is committed at the length, and where its thread waits or has ended.
+fn go_on<C: Client, S: SegStore, I: Source, O: Sink, E: Sink>(
+    core: &mut Core<'_, C, S, I, O, E>,
+    k: u8,
+)
+    requires good { IsGoodCore I.state O.state E.state C.prog C.sound S.reserved S.meaning core.old }
+    requires segment { k < (core_limits S.meaning core.old).segments }
+    ensures good { IsGoodCore I.state O.state E.state C.prog C.sound S.reserved S.meaning core.new }
+    ensures job { SameJob S.meaning core.old core.new }
+    ensures grows { Grows I.state O.state E.state C.prog S.meaning core.old core.new }
+{
+    let slot = core.slot(k);
+    let steps = steps_of(slot, core.length());
+    if is_busy(slot) && 0 < steps {
+        advance(core, k, steps);
+    } else {
+        commit(core, k);
+    }
+}
+
+/// Begins a transaction of a thread on a segment.
+fn begin<C: Client, S: SegStore, I: Source, O: Sink, E: Sink>(
+    core: &mut Core<'_, C, S, I, O, E>,
+    k: u8,
+    t: u32,
+)
+    requires good { IsGoodCore I.state O.state E.state C.prog C.sound S.reserved S.meaning core.old }
+    requires segment { k < (core_limits S.meaning core.old).segments }
+    ensures good { IsGoodCore I.state O.state E.state C.prog C.sound S.reserved S.meaning core.new }
+    ensures job { SameJob S.meaning core.old core.new }
+    ensures grows { Grows I.state O.state E.state C.prog S.meaning core.old core.new }
+{
+    let _ = core.begin(k, t);
+    events_law::<C::State>();
+}
+
+/// Where a segment has nothing in hand, begins a transaction of the next ready thread there, if there is one and it may begin.
+fn begin_next<C: Client, S: SegStore, I: Source, O: Sink, E: Sink>(
+    core: &mut Core<'_, C, S, I, O, E>,
+    k: u8,
+)
+    requires good { IsGoodCore I.state O.state E.state C.prog C.sound S.reserved S.meaning core.old }
+    requires segment { k < (core_limits S.meaning core.old).segments }
+    ensures good { IsGoodCore I.state O.state E.state C.prog C.sound S.reserved S.meaning core.new }
+    ensures job { SameJob S.meaning core.old core.new }
+    ensures grows { Grows I.state O.state E.state C.prog S.meaning core.old core.new }
+{
+    if is_busy(core.slot(k)) {
+        return;
+    }
+    if let Some(t) = core.next_ready() {
+        begin(core, k, t);
+    }
+}
+
+/// The run doesn't go on.
+fn has_ended<C: Client, S: SegStore, I: Source, O: Sink, E: Sink>(
+    core: &Core<'_, C, S, I, O, E>,
+) -> bool
+    requires good { IsGoodCore I.state O.state E.state C.prog C.sound S.reserved S.meaning core.now }
+    ensures { result ≡ true → HasEnded I.state O.state E.state C.prog S.meaning core.now }
+{
+    match core.outcome() {
+        RunState::Running => false,
+        _ => true,
+    }
+}
+
+/// What a segment has in hand goes on, be it that a transaction begins there now.
+fn work<C: Client, S: SegStore, I: Source, O: Sink, E: Sink>(
+    core: &mut Core<'_, C, S, I, O, E>,
+    k: u8,
+)
+    requires good { IsGoodCore I.state O.state E.state C.prog C.sound S.reserved S.meaning core.old }
+    requires segment { k < (core_limits S.meaning core.old).segments }
+    ensures good { IsGoodCore I.state O.state E.state C.prog C.sound S.reserved S.meaning core.new }
+    ensures job { SameJob S.meaning core.old core.new }
+    ensures grows { Grows I.state O.state E.state C.prog S.meaning core.old core.new }
+{
+    begin_next(core, k);
+    go_on(core, k);
+}
+
+/// One visit of the worker of segment `k`: whether the run has ended, and then nothing is done.
+///
+/// Where nothing is in hand a transaction of the next ready thread begins. Then at most `VISIT_STEPS` steps are done, up to the
+/// length. What has as many steps as the length, or waits, or has ended, is committed; what is to print or read becomes solo, or is
+/// committed where another one is solo.
+pub fn visit<C: Client, S: SegStore, I: Source, O: Sink, E: Sink>(
+    core: &mut Core<'_, C, S, I, O, E>,
+    k: u8,
+) -> bool
+    requires good { IsGoodCore I.state O.state E.state C.prog C.sound S.reserved S.meaning core.old }
+    requires segment { k < (core_limits S.meaning core.old).segments }
+    ensures good { IsGoodCore I.state O.state E.state C.prog C.sound S.reserved S.meaning core.new }
+    ensures job { core_job S.meaning core.new ≡ core_job S.meaning core.old }
+    ensures grows { Grows I.state O.state E.state C.prog S.meaning core.old core.new }
+    ensures over { result ≡ true → HasEnded I.state O.state E.state C.prog S.meaning core.new }
+{
+    if has_ended(core) {
+        return true;
+    }
+    work(core, k);
+    false
+}
