@@ -169,79 +169,6 @@ fn runs_scripts(rt: HostRuntime) -> Tested {
     Ok(())
 }
 
-/// A script of three lines whose calls of the source are four up to its end.
-const LINES: &str = "x = 1;print x;print 2, x;";
-
-#[test]
-fn input_fails(rt: HostRuntime) -> Tested {
-    for takes in 1..=4 {
-        for bytes in 0..=1 {
-            let plan = Plan {
-                takes,
-                bytes,
-                ..NO_FAILURE
-            };
-            let shown = answer(&rt, rt.alloc(), LINES, plan)?;
-            assert_eq!(rt; shown.as_str(), "5~~pystm: cannot read the input;");
-        }
-    }
-    let plan = Plan {
-        takes: 5,
-        ..NO_FAILURE
-    };
-    let shown = answer(&rt, rt.alloc(), LINES, plan)?;
-    assert_eq!(rt; shown.as_str(), "0~1;2 1;~");
-    Ok(())
-}
-
-/// The call of the source behind the script is that of a step.
-#[test]
-fn input_fails_in_a_step(rt: HostRuntime) -> Tested {
-    let plan = Plan {
-        takes: 4,
-        ..NO_FAILURE
-    };
-    let shown = answer(&rt, rt.alloc(), "print 1;raw_input();", plan)?;
-    assert_eq!(rt; shown.as_str(), "5~1;~pystm: cannot read the input;");
-    Ok(())
-}
-
-/// The first put fails, before its only byte and behind it; and then what the whole output is.
-#[test]
-fn output_fails(rt: HostRuntime) -> Tested {
-    let plan = Plan {
-        puts: 1,
-        ..NO_FAILURE
-    };
-    let shown = answer(&rt, rt.alloc(), LINES, plan)?;
-    assert_eq!(rt; shown.as_str(), "6~~pystm: cannot write the output;");
-    let plan = Plan { bytes: 1, ..plan };
-    let shown = answer(&rt, rt.alloc(), LINES, plan)?;
-    assert_eq!(rt; shown.as_str(), "6~1~pystm: cannot write the output;");
-    let plan = Plan {
-        puts: 100,
-        ..NO_FAILURE
-    };
-    let shown = answer(&rt, rt.alloc(), LINES, plan)?;
-    assert_eq!(rt; shown.as_str(), "0~1;2 1;~");
-    Ok(())
-}
-
-/// The error output fails in the last step of a thread that dies, and in the put of the call's own text.
-#[test]
-fn error_output_fails(rt: HostRuntime) -> Tested {
-    let plan = Plan {
-        errs: 1,
-        bytes: 6,
-        ..NO_FAILURE
-    };
-    let shown = answer(&rt, rt.alloc(), "print 1;print y;", plan)?;
-    assert_eq!(rt; shown.as_str(), "7~1;~thread");
-    let shown = answer(&rt, rt.alloc(), "print 1 1;", plan)?;
-    assert_eq!(rt; shown.as_str(), "3~~pystm:");
-    Ok(())
-}
-
 /// What words answer that are separated by spaces, with what was asked of the loader and of the source.
 fn word_answer<Rt: Abort + Threads + Wait + Sync>(
     rt: &Rt,
@@ -299,15 +226,16 @@ fn words_name_scripts(rt: HostRuntime) -> Tested {
 }
 
 /// The steps of each turn, with spaces between them, and the status with the outputs.
-fn turns<Rt: Abort + Threads + Wait + Sync>(
+pub fn turns<Rt: Abort + Threads + Wait + Sync>(
     rt: &Rt,
     alloc: Global,
     words: &str,
     script: &str,
+    plan: Plan,
 ) -> Result<String, NoMemory> {
     let words = words_in(alloc, words)?;
     let bytes = lines_of(alloc, script)?;
-    let left = report(rt, alloc, words.as_slice(), bytes.as_slice(), NO_FAILURE)?;
+    let left = report(rt, alloc, words.as_slice(), bytes.as_slice(), plan)?;
     let mut steps = String::new(alloc);
     for i in 0..left.history.len() {
         if let Some(turn) = left.history.get(i) {
@@ -321,7 +249,13 @@ fn turns<Rt: Abort + Threads + Wait + Sync>(
 /// A turn has at most the length's steps, and with the budget's steps no turn begins any more.
 #[test]
 fn budget_is_spent(rt: HostRuntime) -> Tested {
-    let shown = turns(&rt, rt.alloc(), "--budget 5000 -", "while 1: pass;")?;
+    let shown = turns(
+        &rt,
+        rt.alloc(),
+        "--budget 5000 -",
+        "while 1: pass;",
+        NO_FAILURE,
+    )?;
     assert_eq!(rt;
         shown.as_str(),
         "10~~pystm: budget spent: 5000 steps;~0~ 1000 1000 1000 1000 1000"
@@ -331,12 +265,13 @@ fn budget_is_spent(rt: HostRuntime) -> Tested {
         rt.alloc(),
         "--budget 5 --length 2 --segments 1 -",
         "while 1: pass;",
+        NO_FAILURE,
     )?;
     assert_eq!(rt;
         shown.as_str(),
         "10~~pystm: budget spent: 6 steps;~0~ 2 2 2"
     );
-    let shown = turns(&rt, rt.alloc(), "-", "")?;
+    let shown = turns(&rt, rt.alloc(), "-", "", NO_FAILURE)?;
     assert_eq!(rt; shown.as_str(), "0~~~0~ 3");
     Ok(())
 }

@@ -10,6 +10,8 @@ mod canonical_rows;
 #[cfg(test)]
 mod code_rows;
 #[cfg(test)]
+mod device_rows;
+#[cfg(test)]
 mod history_rows;
 #[cfg(test)]
 mod names_rows;

@@ -1,0 +1,130 @@
+//! Devices that fail at each of their calls in turn, before their first byte and behind it: the status, what was written up to then, the
+//! conflicts, and the steps of each turn, which are those before the step that failed. Written by hand from the code of the scripts.
+use crate::call_rows::{NO_FAILURE, Plan, turns};
+use std::alloc::Global;
+use std::process::Abort;
+use std::sync::Wait;
+use std::test;
+use std::thread::Threads;
+
+type Tested = Result<(), test::Fail>;
+
+/// What a script of one thread leaves, alone and on four segments.
+fn check<Rt: Abort + Threads + Wait + Sync>(
+    rt: &Rt,
+    alloc: Global,
+    script: &str,
+    plan: Plan,
+    wanted: &str,
+) -> Tested {
+    for words in ["--segments 1 -", "--segments 4 -"] {
+        let left = turns(rt, alloc, words, script, plan)?;
+        assert_eq!(rt; left.as_str(), wanted, "{words}: {script}");
+    }
+    Ok(())
+}
+
+/// SETUP, two instructions for each item, one for each newline, and two at the end; a call for each item and for each newline.
+#[test]
+fn output_fails_at_each_call(rt: HostRuntime) -> Tested {
+    let rows = [
+        (1, 0, "6~~pystm: cannot write the output;~0~ 2"),
+        (1, 1, "6~a~pystm: cannot write the output;~0~ 2"),
+        (2, 0, "6~ab~pystm: cannot write the output;~0~ 4"),
+        (2, 1, "6~ab ~pystm: cannot write the output;~0~ 4"),
+        (3, 0, "6~ab 7~pystm: cannot write the output;~0~ 5"),
+        (3, 1, "6~ab 7;~pystm: cannot write the output;~0~ 5"),
+        (4, 0, "6~ab 7;~pystm: cannot write the output;~0~ 7"),
+        (4, 1, "6~ab 7;c~pystm: cannot write the output;~0~ 7"),
+        (5, 0, "6~ab 7;c~pystm: cannot write the output;~0~ 8"),
+        (5, 1, "6~ab 7;c;~pystm: cannot write the output;~0~ 8"),
+        (6, 0, "0~ab 7;c;~~0~ 11"),
+    ];
+    for (puts, bytes, wanted) in rows {
+        let plan = Plan {
+            puts,
+            bytes,
+            ..NO_FAILURE
+        };
+        check(&rt, rt.alloc(), "print 'ab', 7;print 'c';", plan, wanted)?;
+    }
+    Ok(())
+}
+
+/// The line of a thread that dies is one call, and the step that writes it the thread's last; an instruction that raises is done.
+#[test]
+fn error_output_fails_at_each_call(rt: HostRuntime) -> Tested {
+    let script = "import thread;def f(): y;thread.start_new_thread(f, ());print 1;y;";
+    let rows = [
+        (1, 0, "7~1;~~0~ 15"),
+        (1, 1, "7~1;~t~0~ 15"),
+        (
+            2,
+            0,
+            "7~1;~thread 0, line 5: NameError: name 'y' is not defined;~0~ 16 1",
+        ),
+        (
+            2,
+            1,
+            "7~1;~thread 0, line 5: NameError: name 'y' is not defined;t~0~ 16 1",
+        ),
+        (
+            3,
+            0,
+            "1~1;~thread 0, line 5: NameError: name 'y' is not defined;thread 1, line 2: NameError: name 'y' is not defined;~0~ 16 2",
+        ),
+    ];
+    for (errs, bytes, wanted) in rows {
+        let plan = Plan {
+            errs,
+            bytes,
+            ..NO_FAILURE
+        };
+        check(&rt, rt.alloc(), script, plan, wanted)?;
+    }
+    Ok(())
+}
+
+/// The text of an answer that can't be told leaves the answer as it is.
+#[test]
+fn the_last_text_fails(rt: HostRuntime) -> Tested {
+    for (bytes, wanted) in [(0, "3~~~0~"), (1, "3~~p~0~"), (6, "3~~pystm:~0~")] {
+        let plan = Plan {
+            errs: 1,
+            bytes,
+            ..NO_FAILURE
+        };
+        check(&rt, rt.alloc(), "print 1 1;", plan, wanted)?;
+    }
+    Ok(())
+}
+
+/// The script's two lines and its end are three calls of the source, and `raw_input` is the fourth, whose prompt is written.
+#[test]
+fn input_fails_at_each_call(rt: HostRuntime) -> Tested {
+    let script = "x = raw_input('?');print x;";
+    let rows = [
+        (1, 0, "5~~pystm: cannot read the input;~0~"),
+        (1, 1, "5~~pystm: cannot read the input;~0~"),
+        (2, 0, "5~~pystm: cannot read the input;~0~"),
+        (2, 1, "5~~pystm: cannot read the input;~0~"),
+        (3, 0, "5~~pystm: cannot read the input;~0~"),
+        (3, 1, "5~~pystm: cannot read the input;~0~"),
+        (4, 0, "5~?~pystm: cannot read the input;~0~ 3"),
+        (4, 1, "5~?~pystm: cannot read the input;~0~ 3"),
+        (
+            5,
+            0,
+            "1~?~thread 0, line 1: EOFError: EOF when reading a line;~0~ 5",
+        ),
+    ];
+    for (takes, bytes, wanted) in rows {
+        let plan = Plan {
+            takes,
+            bytes,
+            ..NO_FAILURE
+        };
+        check(&rt, rt.alloc(), script, plan, wanted)?;
+    }
+    Ok(())
+}

@@ -1,0 +1,3 @@
+pub mod ScriptCore
+pub mod Turns
+pub mod TurnsLaws
