@@ -1,4 +1,4 @@
--- A good core of a script over the store of maps, and its count of segments, for tests.
+-- A good core of a script over the store of maps, and its count of segments, for tests: nothing public rests on it.
 use Rattle.std.specs.Prelude.{ℕ}
 use Rattle.lock_run.specs.declared.script.Script.{Script}
 use Rattle.lock_run.specs.declared.script.ScriptState.{ScriptState}

@@ -1,4 +1,4 @@
--- How many turns a core's history has, for tests.
+-- How many turns a core's history has, for tests: nothing public rests on it.
 use Rattle.std.specs.Prelude.{ℕ, length}
 use Rattle.stm_core.specs.declared.transactions.Core.{Core}
 
