@@ -1,4 +1,5 @@
 pub mod HandedOver
 mod OneAnswer
+mod SomeAnswer
 pub mod Taking
 pub mod TopSteps

@@ -1,5 +1,5 @@
 //! From a text to its verified program.
-ghost use Rattle.std.specs.Prelude.{◌≡◌, ◌<◌, ◌^◌, List, ℕ, length, Ok, IfOk, IfErr};
+ghost use Rattle.std.specs.Prelude.{◌≡◌, ◌<◌, ◌^◌, ◌⊎◌, List, ℕ, length, Ok, IfOk, IfErr};
 ghost use Rattle.py_base.specs.Refusal.{refusal_line, refusal_number};
 ghost use Rattle.py_base.specs.declared.refusal.Refusal.{Refusal as Reason};
 ghost use Rattle.py_tokens.specs.Layout.{tokens_of_text};
@@ -109,12 +109,14 @@ pub fn compile_text(alloc: Global, text: &[u8]) -> Result<Verified, TextFault>
     }
 }
 
-/// A text has one program at most, and none where it is refused; and all its refusals have one number and one line. A call
-/// does nothing, and gives its caller's proof these facts.
+/// A text has a program or is refused, and not both. It has one program at most, and all its refusals have one number and one line. A
+/// call does nothing, and gives its caller's proof these facts.
 pub fn text_law()
+    ensures some { (text : List ℕ) → ((p : Code) × HasCode text p) ⊎ ((r : Reason) × IsRefused text r) }
     ensures program { (text : List ℕ) (p q : Code) → HasCode text p → HasCode text q → p ≡ q }
     ensures none { (text : List ℕ) (p : Code) (r : Reason) → HasCode text p → IsRefused text r → ⊥ }
     ensures refusal { (text : List ℕ) (r s : Reason) → IsRefused text r → IsRefused text s → (refusal_number r ≡ refusal_number s) × (refusal_line r ≡ refusal_line s) }
 {
     grammar_law();
+    ends_law();
 }

@@ -1,0 +1,84 @@
+-- A text has a program, or is refused.
+use Rattle.std.proofs.Common.{◌≡◌, ℕ, zero, suc, ◌+◌, ◌<◌, ◌≤◌, ◌⊎◌, inl, inr, List, [], ◌∷◌, length, slice_get, Option, Some, None, option_map, Result, Ok, Err, refl, sym, ap, subst, ◌∙◌, arith}
+use Rattle.py_base.specs.declared.refusal.Refusal.{Refusal}
+use Rattle.py_base.specs.declared.refusal.Refusal.TheVariants.{TooLarge}
+use Rattle.py_tokens.specs.declared.token.Token.{Token}
+use Rattle.py_tokens.specs.Layout.{Laid, tokens_of_text}
+use Rattle.py_tree.specs.declared.stmt.Module.{Module}
+use Rattle.py_tree.specs.Tall.{tall_module}
+use Rattle.py_parser.specs.declared.fault.Fault.{Fault}
+use Rattle.py_parser.specs.Lines.{module_at}
+use Rattle.py_parser.specs.Outcome.{refusal_of}
+use Rattle.py_parser.specs.Reading.{Reads}
+use Rattle.py_parser.specs.Refused.{RefusedAt, EndsOnce}
+use Rattle.py_parser.specs.Statements.{IsModule}
+use Rattle.py_parser.specs.Words.{line_of}
+use Rattle.py_names.specs.declared.event.Event.{Event}
+use Rattle.py_names.specs.declared.scope.Scope.{Scope}
+use Rattle.py_names.specs.Outline.{outline}
+use Rattle.py_names.specs.Scopes.{Names, bodies, body, scope_of, AreScopes, fault}
+use Rattle.py_code.specs.declared.program.Program.{Program}
+use Rattle.py_compile.specs.Compiles.{bound_in}
+use Rattle.py_compile.specs.Whole.{program_of, too_large_in}
+use Rattle.stm_top.specs.TextCode.{IsTree, HasNoTree, HasScopes, HasNoScopes, HasCode, HasNoCode, IsRefused}
+
+-- a program, or a refusal
+abbrev pub HasAnswer : List ℕ → Type 0
+HasAnswer text = ((p : Program) × HasCode text p) ⊎ ((r : Refusal) × IsRefused text r)
+
+-- ---- scopes
+
+-- the scopes of so many bodies, from this one on
+scopes_from : (ℕ → Names) → ℕ → ℕ → List Scope
+scopes_from b k zero = []
+scopes_from b k (suc n) = scope_of (b k) ∷ scopes_from b (suc k) n
+
+scopes_count : (b : ℕ → Names) (k n : ℕ) → length (scopes_from b k n) ≡ n
+unfolding scopes_from
+scopes_count b k zero = refl
+scopes_count b k (suc n) = ap suc (scopes_count b (suc k) n)
+
+scopes_each : (b : ℕ → Names) (k n i : ℕ) → i < n → slice_get (scopes_from b k n) i ≡ Some (scope_of (b (k + i)))
+unfolding scopes_from
+scopes_each b k zero i h = absurd (omega (arith, h))
+scopes_each b k (suc n) zero h = let e : k ≡ k + 0 = omega arith in ap (λ j. Some (scope_of (b j))) e
+scopes_each b k (suc n) (suc i) h = let e : suc k + i ≡ k + suc i = omega arith in scopes_each b (suc k) n i (omega (arith, h)) ∙ ap (λ j. Some (scope_of (b j))) e
+
+some_scopes : (es : List Event) → (scopes : List Scope) × AreScopes es scopes
+some_scopes es =
+    let n = bodies 0 es in (
+      scopes_from (body es) 0 n,
+      record {
+        count = scopes_count (body es) 0 n;
+        each = λ k h. let e : 0 + k ≡ k = omega arith in scopes_each (body es) 0 n k h ∙ ap (λ j. Some (scope_of (body es j))) e;
+      },
+    )
+
+-- ---- the stages
+
+with_scopes : (text : List ℕ) (tree : Module) (scopes : List Scope) (o : Option ℕ) → HasScopes text tree scopes → too_large_in (bound_in scopes) tree ≡ o → HasAnswer text
+with_scopes text tree scopes None has e = inl (program_of (bound_in scopes) tree, record { tree = tree; scopes = scopes; has = has; fits = e; is = refl })
+with_scopes text tree scopes (Some line) has e = inr (TooLarge line, inr (inr (inr (record { tree = tree; scopes = scopes; has = has; refused = ap (option_map TooLarge) e }))))
+
+with_tree : (text : List ℕ) (tree : Module) (o : Option Refusal) → IsTree text tree → fault (outline tree) ≡ o → HasAnswer text
+with_tree text tree None is e =
+    let s = some_scopes (outline tree) in
+    with_scopes text tree s.0 (too_large_in (bound_in s.0) tree) (record { is = is; allowed = e; are = s.1 }) refl
+with_tree text tree (Some r) is e = inr (r, inr (inr (inl (record { tree = tree; is = is; refused = e }))))
+
+module _ (found : (ts : List Token) (m : Module) (rest : List Token) → EndsOnce ts → module_at (length ts) ts ≡ Ok (m, rest) → IsModule m ts × (tall_module m ≤ 100))
+    (refused : (ts : List Token) (f : Fault) (rest : List Token) → EndsOnce ts → module_at (length ts) ts ≡ Err (f, rest) → RefusedAt ts f (line_of rest))
+    (ends : (text : List ℕ) (ts : List Token) → tokens_of_text text ≡ Ok ts → EndsOnce ts) where
+  with_tokens : (text : List ℕ) (ts : List Token) (r : Reads Module) → tokens_of_text text ≡ Ok ts → module_at (length ts) ts ≡ r → HasAnswer text
+  with_tokens text ts (Ok x) are e =
+      let is = found ts x.0 x.1 (ends text ts are) e in
+      with_tree text x.0 (fault (outline x.0)) (record { tokens = ts; are = are; is = is.0; low = is.1 }) refl
+  with_tokens text ts (Err x) are e =
+      inr (refusal_of x.0 (line_of x.1), inr (inl (record { tokens = ts; are = are; fault = x.0; line = line_of x.1; is = refl; refused = refused ts x.0 x.1 (ends text ts are) e })))
+
+  of_tokens : (text : List ℕ) (r : Laid) → tokens_of_text text ≡ r → HasAnswer text
+  of_tokens text (Ok ts) e = with_tokens text ts (module_at (length ts) ts) e refl
+  of_tokens text (Err x) e = inr (x, inl e)
+
+  pub some_answer : (text : List ℕ) → HasAnswer text
+  some_answer text = of_tokens text (tokens_of_text text) refl
