@@ -15,4 +15,5 @@ pub mod NumberCaused
 pub mod Refusals
 pub mod NoFront
 pub mod Spelling
+pub mod TargetForms
 pub mod Worked

@@ -1,3 +1,4 @@
-pub mod Spells
 pub mod Fronts
 pub mod Pieces
+pub mod Spells
+pub mod Targets

@@ -3,4 +3,4 @@
 
 mod laws;
 
-pub use laws::spelling_law;
+pub use laws::{spelling_law, target_law};
