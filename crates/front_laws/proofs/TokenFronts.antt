@@ -109,11 +109,11 @@ number_range c cs e = go (or_cases (holds ten c.byte) (c.byte == 46 && next_is t
     go (inl f) = let r = digit_range c.byte f in let low : 48 ≤ c.byte = r.0 in (omega (arith, low), r.1)
     go (inr f) = let h : c.byte ≡ 46 = eqb-true c.byte 46 (and_parts (c.byte == 46) (next_is ten cs) f).0 in (omega (arith, h), omega (arith, h))
 
-number_no_name : (cs : List Character) → starts_number cs ≡ true → next_is NameStart cs ≡ false
+pub number_no_name : (cs : List Character) → starts_number cs ≡ true → next_is NameStart cs ≡ false
 number_no_name [] e = refl
 number_no_name (c ∷ cs) e = low_no_name c.byte (number_range c cs e).1
 
-number_no_quote : (cs : List Character) → starts_number cs ≡ true → next_is Quote cs ≡ false
+pub number_no_quote : (cs : List Character) → starts_number cs ≡ true → next_is Quote cs ≡ false
 number_no_quote [] e = refl
 number_no_quote (c ∷ cs) e = high_no_quote c.byte (number_range c cs e).0
 
@@ -130,11 +130,11 @@ string_is cs e = as_string cs (quote_no_name cs e) e
 -- ---- operators
 
 -- no operator begins as a name, a string or a number, but that a point is one by itself
-abbrev is_operator_word : List ℕ → Bool
+abbrev pub is_operator_word : List ℕ → Bool
 is_operator_word [] = false
 is_operator_word (b ∷ bs) = not (is_name_start b) && (not (holds Quote b) && (not (holds ten b) && (not (b == 46) || length bs == 0)))
 
-operator_words : every is_operator_word operators ≡ true
+pub operator_words : every is_operator_word operators ≡ true
 operator_words = refl
 
 operators_fall : falling operators ≡ true
@@ -209,7 +209,7 @@ pub record OperatorStart (c : Character) (cs : List Character) : Type 0 where
   pub digit : holds ten c.byte ≡ false
   pub alone : c.byte ≡ 46 → length cs ≡ 0
 
-operator_start : (c : Character) (cs : List Character) → is_operator_word (map byte_of (c ∷ cs)) ≡ true → OperatorStart c cs
+pub operator_start : (c : Character) (cs : List Character) → is_operator_word (map byte_of (c ∷ cs)) ≡ true → OperatorStart c cs
 operator_start c cs e =
     let a = and_parts (not (is_name_start c.byte)) _ e in
     let b = and_parts (not (holds Quote c.byte)) _ a.1 in
@@ -258,19 +258,19 @@ reached_operator (c ∷ cs) rest n h =
 
 -- ---- names reach
 
-each_name : List ℕ → Bool
+pub each_name : List ℕ → Bool
 each_name [] = true
 each_name (b ∷ bs) = holds Name b && each_name bs
 
-abbrev is_name_word : List ℕ → Bool
+abbrev pub is_name_word : List ℕ → Bool
 is_name_word [] = false
 is_name_word (b ∷ bs) = is_name_start b && each_name bs
 
-keyword_words : every is_name_word keywords ≡ true
+pub keyword_words : every is_name_word keywords ≡ true
 unfolding each_name
 keyword_words = refl
 
-all_name : (cs : List Character) → each_name (map byte_of cs) ≡ true → Each Name cs
+pub all_name : (cs : List Character) → each_name (map byte_of cs) ≡ true → Each Name cs
 unfolding each_name
 all_name [] e = tt
 all_name (c ∷ cs) e = let both = and_parts (holds Name c.byte) (each_name (map byte_of cs)) e in (both.0, all_name cs both.1)

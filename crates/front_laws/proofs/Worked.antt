@@ -1,8 +1,8 @@
 -- Worked rows: what spells which token.
-use Rattle.std.specs.Prelude.{ℕ, pos, true, false, List, [], ◌∷◌, Some, codes}
+use Rattle.std.specs.Prelude.{ℕ, pos, true, false, List, [], codes}
 use Rattle.std.proofs.Common.{refl, inl, inr, arith}
 use Rattle.py_tokens.specs.declared.character.Character.{Character}
-use Rattle.py_tokens.specs.declared.class.Base.TheVariants.{Two, Eight, Sixteen}
+use Rattle.py_tokens.specs.declared.class.Base.TheVariants.{Two, Sixteen}
 use Rattle.py_tokens.specs.declared.keyword.TheConstants as keyword
 use Rattle.py_tokens.specs.declared.operator.TheConstants as operator
 use Rattle.py_tokens.specs.declared.token.Other.TheVariants as other

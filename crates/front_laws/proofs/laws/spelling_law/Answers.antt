@@ -1,4 +1,5 @@
 use Rattle.front_laws.proofs.NoFront.{pieces_bad}
+use Rattle.front_laws.proofs.OneKind.{one_kind}
 use Rattle.front_laws.proofs.Spelling.{text_pieces, text_refused}
 use Rattle.front_laws.proofs.laws.spelling_law.Goals as goal
 
@@ -10,3 +11,6 @@ returns-clause-refused c = text_refused
 
 pub returns-clause-bad : goal.returns-clause-bad
 returns-clause-bad c = pieces_bad
+
+pub returns-clause-one : goal.returns-clause-one
+returns-clause-one c = one_kind
