@@ -7,14 +7,16 @@ pub mod NumberFound
 pub mod NumberFronts
 pub mod NumberReading
 pub mod NumberSpelled
+pub mod NumberWide
 pub mod OneKind
 pub mod OneNumber
 pub mod OneString
 pub mod PieceLemmas
 pub mod Reading
-pub mod Refusals
+pub mod NumberRefusals
 pub mod Runs
 pub mod Spelling
+pub mod StringCauses
 pub mod StringFronts
 pub mod Tables
 pub mod TargetForms

@@ -37,12 +37,16 @@ wide_front cs w none = whole_front w.number w.front w.rest w.whole (subst HasNoF
 abbrev pub IsBad : ℕ → List Token → Option Refusal → Type 0
 IsBad line ts e = (ts ≡ []) × (e ≡ Some (BadCharacter line))
 
+bad_escape_begins : (first line : ℕ) (cs : List Character) → p.HasBadEscape first line cs → BeginsString cs
+bad_escape_begins first line cs (p.no_digits q x inner before slash y after opens raw unicode goes e f g h i) = (q, x, inner, opens)
+bad_escape_begins first line cs (p.no_meaning q x inner body closed rest opens plain e is f g) = (q, x, inner, opens)
+
 bad_cause : (c : Character) (cs : List Character) (e : Refusal) → HasNoFront (c ∷ cs) → (BeginsString (c ∷ cs) → ⊥) → Cause c cs e →
     IsBad c.line [] (Some e)
 bad_cause c cs (BadCharacter l) none string cause = (refl, ap (λ n. Some (BadCharacter n)) cause.0)
 bad_cause c cs (NumberWide l) none string cause = absurd (wide_front (c ∷ cs) cause.1 none)
-bad_cause c cs (OpenString l) none string cause = absurd (string cause.1)
-bad_cause c cs (BadEscape l) none string cause = absurd (string cause)
+bad_cause c cs (OpenString l) none string cause = absurd (string (cause.1.quoting, cause.1.prefix, cause.1.inner, cause.1.opens))
+bad_cause c cs (BadEscape l) none string cause = absurd (string (bad_escape_begins c.line l (c ∷ cs) cause))
 bad_cause c cs _ none string cause = absurd cause
 
 first_or : Character → List Character → Character

@@ -53,12 +53,12 @@ suffixed_spelled line base ds fr rest all w e =
     (λ h. read_cases (Spelled all) (nat_lt v 9223372036854775808) _ _ (λ f. (fr, e, s.int w (ltb-true v 9223372036854775808 f)))
     (λ f. record { front = fr; rest = rest; splits = e; number = v; whole = w; wide = ltb-false v 9223372036854775808 f }))
 
-some_run : (base : Base) (cs : List Character) → next_is (Digit base) cs ≡ true →
+pub some_run : (base : Base) (cs : List Character) → next_is (Digit base) cs ≡ true →
     (d : Character) × (ds : List Character) × (run (Digit base) cs ≡ d ∷ ds)
 some_run base [] h = absurd (contrary h refl)
 some_run base (d ∷ cs) h = (d, run (Digit base) cs, run_more (Digit base) d cs h)
 
-base_whole : (base : Base) (letter : ℕ) (c x : Character) (ds : List Character) → BaseLetter base letter → c.byte ≡ 48 → Is (Letter letter) x →
+pub base_whole : (base : Base) (letter : ℕ) (c x : Character) (ds : List Character) → BaseLetter base letter → c.byte ≡ 48 → Is (Letter letter) x →
     Each (Digit base) ds → (d : Character) (es : List Character) → ds ≡ d ∷ es → Whole (c ∷ x ∷ ds) (value base ds)
 base_whole base letter c x ds l e h each d es same =
     subst (λ xs. Whole (c ∷ x ∷ xs) (value base xs)) (sym same) (in_base base letter l c x d es e h (subst (Each (Digit base)) same each))
@@ -73,7 +73,7 @@ prefixed_spelled line base letter c (x ∷ cs) l e h =
     (base_whole base letter c x ds l e h (each_run (Digit base) cs) r.0 r.1 r.2) (ap (λ xs. c ∷ x ∷ xs) (sym (run_splits (Digit base) cs))))
     (λ f. tt)
 
-each_octal : (ds : List Character) → run_len (Digit Eight) ds ≡ length ds → Each (Digit Eight) ds
+pub each_octal : (ds : List Character) → run_len (Digit Eight) ds ≡ length ds → Each (Digit Eight) ds
 each_octal ds e = subst (Each (Digit Eight)) (ap (λ n. take n ds) e ∙ take_all (length ds) ds (omega arith)) (each_run (Digit Eight) ds)
 
 zero_first : (base : Base) (c : Character) (cs : List Character) → c.byte ≡ 48 → value base (c ∷ cs) ≡ value base cs
@@ -82,7 +82,7 @@ zero_first base c cs e =
     let at : 0 * base_of base + digit_value c.byte ≡ 0 = omega arith in
     ap (λ n. digits_value_after (base_of base) n (map byte_of cs)) at
 
-octal_whole : (d : Character) (ds : List Character) → d.byte ≡ 48 → 1 < length (d ∷ ds) → Each (Digit Eight) (d ∷ ds) →
+pub octal_whole : (d : Character) (ds : List Character) → d.byte ≡ 48 → 1 < length (d ∷ ds) → Each (Digit Eight) (d ∷ ds) →
     Whole (d ∷ ds) (value Eight (d ∷ ds))
 octal_whole d [] e more each = absurd (omega arith)
 octal_whole d (f ∷ ds) e more each = subst (Whole (d ∷ f ∷ ds)) (sym (zero_first Eight d (f ∷ ds) e)) (octal d f ds e each.1)
@@ -92,7 +92,7 @@ one_digit d [] e few = subst (Whole (d ∷ [])) (sym (zero_first Ten d [] e)) (z
 one_digit d (f ∷ ds) e few = absurd (omega arith)
 
 -- unless a zero begins more digits
-ten_whole : (d : Character) (ds : List Character) → Each ten (d ∷ ds) → (d.byte == 48 && nat_lt 1 (length (d ∷ ds))) ≡ false →
+pub ten_whole : (d : Character) (ds : List Character) → Each ten (d ∷ ds) → (d.byte == 48 && nat_lt 1 (length (d ∷ ds))) ≡ false →
     Whole (d ∷ ds) (value Ten (d ∷ ds))
 ten_whole d ds each h = ⊎_elim
     (λ e. one_digit d ds e (⊎_elim (λ f. absurd (eqb-false d.byte 48 f e)) (λ f. ltb-false 1 (length (d ∷ ds)) f) (and_cases _ _ h)))

@@ -14,10 +14,10 @@ use Rattle.front_laws.proofs.NumberBytes.{contrary, by_letter, digits_decimal, z
 -- ---- a base's letter
 
 -- the base that the letter of a prefix tells
-base_by : ℕ → Base
+pub base_by : ℕ → Base
 base_by b = if holds (Letter 98) b then Two else (if holds (Letter 111) b then Eight else Sixteen)
 
-base_known : (base : Base) (letter : ℕ) (x : Character) → BaseLetter base letter → Is (Letter letter) x → base_by x.byte ≡ base
+pub base_known : (base : Base) (letter : ℕ) (x : Character) → BaseLetter base letter → Is (Letter letter) x → base_by x.byte ≡ base
 unfolding base_by
 base_known base letter x two h = by_letter (λ b. base_by b ≡ Two) 66 x h refl refl
 base_known base letter x eight h = by_letter (λ b. base_by b ≡ Eight) 79 x h refl refl

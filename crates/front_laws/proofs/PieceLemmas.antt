@@ -1,6 +1,6 @@
 -- A text is cut into its longest pieces, or as far as there is one.
-use Rattle.std.proofs.Common.{◌≡◌, ℕ, zero, suc, ◌+◌, ◌≤◌, ◌==◌, Bool, true, false, ◌&&◌, ◌||◌, not, if◌then◌else◌, List, [], ◌∷◌, ◌++◌, length, map, drop, Option, Some, None, Ok, Err, ◌⊎◌, inl, inr, refl, sym, ap, ◌∙◌, subst, append_assoc, arith}
-use Rattle.std.proofs.lemmas.Bool.{and_parts, or_cases, not-true, eqb-true, eq-eqb}
+use Rattle.std.proofs.Common.{◌≡◌, ℕ, zero, suc, ◌+◌, ◌≤◌, ◌==◌, Bool, true, false, ◌&&◌, ◌||◌, not, if◌then◌else◌, List, [], ◌∷◌, ◌++◌, length, map, drop, Option, Some, None, Ok, Err, refl, sym, ap, ◌∙◌, subst, arith}
+use Rattle.std.proofs.lemmas.Bool.{and_parts, not-true, eqb-true, eq-eqb}
 use Rattle.std.proofs.lemmas.List.{length-append}
 use Rattle.std.proofs.lemmas.Option.{none-some}
 use Rattle.py_base.specs.declared.refusal.Refusal.{Refusal}
@@ -32,9 +32,10 @@ use Rattle.front_laws.specs.Pieces.{begin, IsNoSpace, Cause, Pieces, is_layout, 
 use Rattle.front_laws.proofs.Runs.{after_shorter, run_splits, each_run, after_stops}
 use Rattle.front_laws.proofs.Reading.{starts_number, Spelled, read_cases}
 use Rattle.front_laws.proofs.Tables.{never, every, of_every, IsFound, is_found}
-use Rattle.front_laws.proofs.Refusals.{NumberRefused, number_refused, StringRefused, string_refused}
+use Rattle.front_laws.proofs.NumberRefusals.{NumberRefused, number_refused}
+use Rattle.front_laws.proofs.StringCauses.{StringCause, string_cause}
+use Rattle.front_laws.proofs.NumberWide.{too_wide}
 use Rattle.front_laws.proofs.StringFronts.{prefix_spelled}
-use Rattle.front_laws.proofs.NumberFronts.{number_spelled}
 use Rattle.front_laws.proofs.TokenFronts.{operator_read, read_of, as_name, as_string, as_number, as_operator, Reached, front_reached, read_spelled}
 
 -- ---- a token has a character
@@ -131,46 +132,36 @@ fronts_bad cs l read front rest kind e h =
 abbrev Told : Character → List Character → Refusal → Type 0
 Told c cs (BadCharacter l) = l ≡ c.line
 Told c cs (NumberWide l) = (l ≡ c.line) × p.TooWide (c ∷ cs)
-Told c cs (OpenString l) = (l ≡ c.line) × p.BeginsString (c ∷ cs)
-Told c cs (BadEscape l) = p.BeginsString (c ∷ cs)
+Told c cs (OpenString l) = (l ≡ c.line) × p.IsOpen (c ∷ cs)
+Told c cs (BadEscape l) = p.HasBadEscape c.line l (c ∷ cs)
 Told c cs _ = ⊥
 
 abbrev ReadTold : Character → List Character → Read → Type 0
 ReadTold c cs (Ok r) = Unit {0}
 ReadTold c cs (Err e) = Told c cs e
 
-number_told : (c : Character) (cs : List Character) (r : Read) → NumberRefused c.line r → Spelled (c ∷ cs) r → ReadTold c cs r
-number_told c cs (Ok r) refused wide = tt
-number_told c cs (Err (BadCharacter l)) refused wide = refused
-number_told c cs (Err (NumberWide l)) refused wide = (refused, wide)
-number_told c cs (Err _) refused wide = absurd refused
+number_told : (c : Character) (cs : List Character) (r : Read) → starts_number (c ∷ cs) ≡ true → number_at c.line (c ∷ cs) ≡ r →
+    NumberRefused c.line r → ReadTold c cs r
+number_told c cs (Ok r) starts e refused = tt
+number_told c cs (Err (BadCharacter l)) starts e refused = refused
+number_told c cs (Err (NumberWide l)) starts e refused = (refused, too_wide c.line l (c ∷ cs) starts e)
+number_told c cs (Err _) starts e refused = absurd refused
 
-string_told : (c : Character) (cs : List Character) (r : Read) → StringRefused c.line r → p.BeginsString (c ∷ cs) → ReadTold c cs r
-string_told c cs (Ok r) refused begins = tt
-string_told c cs (Err (OpenString l)) refused begins = (refused, begins)
-string_told c cs (Err (BadEscape l)) refused begins = begins
-string_told c cs (Err _) refused begins = absurd refused
-
-mark_of : (b : ℕ) → holds Quote b ≡ true → s.IsMark b
-mark_of b e = go (or_cases (b == 39) (b == 34) e)
-  where
-    go : (x : (b == 39) ≡ true ⊎ (b == 34) ≡ true) → s.IsMark b
-    go (inl f) = inl (eqb-true b 39 f)
-    go (inr f) = inr (eqb-true b 34 f)
-
-begins_string : (ps cs : List Character) (x : Prefix) → s.Prefixes ps x → next_is Quote cs ≡ true → p.BeginsString (ps ++ cs)
-begins_string ps [] x is e = never false refl e
-begins_string ps (d ∷ ds) x is e =
-    subst p.BeginsString (append_assoc ps (d ∷ []) ds) (p.quoted (record { mark = d.byte; triple = false }) ds is (mark_of d.byte e)
-    (s.one d.byte d refl))
+string_told : (c : Character) (cs : List Character) (r : Read) → StringCause c.line (c ∷ cs) r → ReadTold c cs r
+string_told c cs (Ok r) cause = tt
+string_told c cs (Err (OpenString l)) cause = cause
+string_told c cs (Err (BadEscape l)) cause = cause
+string_told c cs (Err _) cause = absurd cause
 
 named_told : (c : Character) (cs : List Character) (o : Option Prefix) → prefix_of (run Name (c ∷ cs)) ≡ o →
     next_is Quote (after Name (c ∷ cs)) ≡ true → ReadTold c cs (named c.line (run Name (c ∷ cs)) (after Name (c ∷ cs)) o)
 named_told c cs None e quote = tt
 named_told c cs (Some x) e quote =
-    string_told c cs _ (string_refused c.line x (after Name (c ∷ cs)))
-    (subst p.BeginsString (run_splits Name (c ∷ cs)) (begins_string (run Name (c ∷ cs))
-    (after Name (c ∷ cs)) x (prefix_spelled (run Name (c ∷ cs)) x e) quote))
+    let ps = run Name (c ∷ cs) in
+    let rest = after Name (c ∷ cs) in
+    string_told c cs _
+    (subst (λ xs. StringCause c.line xs (string_at c.line x rest)) (run_splits Name (c ∷ cs))
+    (string_cause c.line ps rest x (prefix_spelled ps x e) quote))
 
 name_cases : (c : Character) (cs : List Character) (b : Bool) → next_is Quote (after Name (c ∷ cs)) ≡ b →
     ReadTold c cs (named c.line (run Name (c ∷ cs)) (after Name (c ∷ cs)) (if b then prefix_of (run Name (c ∷ cs)) else None))
@@ -188,10 +179,10 @@ operator_told c cs (Some o) = tt
 read_told : (c : Character) (cs : List Character) → ReadTold c cs (read_of (c ∷ cs))
 read_told c cs =
     let all = c ∷ cs in
-    read_cases (ReadTold c cs) (next_is NameStart all) _ _ (λ e. name_told c cs)
-    (λ e. read_cases (ReadTold c cs) (next_is Quote all) _ _ (λ f. string_told c cs _ (string_refused c.line (prefix false false) all)
-    (begins_string [] all (prefix false false) s.none f))
-    (λ f. read_cases (ReadTold c cs) (starts_number all) _ _ (λ g. number_told c cs _ (number_refused c.line all) (number_spelled c.line all g))
+    let P = ReadTold c cs in
+    read_cases P (next_is NameStart all) _ _ (λ e. name_told c cs)
+    (λ e. read_cases P (next_is Quote all) _ _ (λ f. string_told c cs _ (string_cause c.line [] all (prefix false false) s.none f))
+    (λ f. read_cases P (starts_number all) _ _ (λ g. number_told c cs (number_at c.line all) g refl (number_refused c.line all))
     (λ g. operator_told c cs (operator_at operators all))))
 
 cause_of : (c : Character) (cs : List Character) (e : Refusal) → read_of (c ∷ cs) ≡ Err e → Told c cs e → Cause c cs e

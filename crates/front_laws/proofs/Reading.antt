@@ -1,6 +1,6 @@
 -- What a reading at the front of a text is to be: spelled by the front that it takes, reaching as far as any front that is spelled, and
 -- refused as a bad character only where a number is none.
-use Rattle.std.proofs.Common.{◌≡◌, ℕ, ◌≤◌, Bool, true, false, ◌&&◌, ◌||◌, if◌then◌else◌, List, ◌++◌, length, drop, Ok, Err, refl}
+use Rattle.std.proofs.Common.{◌≡◌, ℕ, ◌^◌, ◌≤◌, Bool, true, false, ◌&&◌, ◌||◌, if◌then◌else◌, List, ◌++◌, length, drop, Ok, Err, refl}
 use Rattle.py_base.specs.declared.refusal.Refusal.{Refusal}
 use Rattle.py_base.specs.declared.refusal.Refusal.TheVariants.{BadCharacter, NumberWide}
 use Rattle.py_tokens.specs.declared.character.Character.{Character}
@@ -8,18 +8,26 @@ use Rattle.py_tokens.specs.declared.class.Base.TheVariants.{Ten}
 use Rattle.py_tokens.specs.declared.class.Class.TheVariants.{Byte, Digit}
 use Rattle.py_tokens.specs.Classes.{next_is}
 use Rattle.py_tokens.specs.Numbers.{Read}
-use Rattle.front_laws.specs.Spells.{Spells}
+use Rattle.front_laws.specs.Spells.{Whole, Spells}
 use Rattle.front_laws.specs.Fronts.{BadNumber}
-use Rattle.front_laws.specs.Pieces.{TooWide}
 
 -- a digit, or a point and a digit
 abbrev pub starts_number : List Character → Bool
 starts_number cs = next_is (Digit Ten) cs || (next_is (Byte 46) cs && next_is (Digit Ten) (drop 1 cs))
 
+-- a front of it is a whole number that is too wide
+pub record WideFront (cs : List Character) : Type 0 where
+  pub front : List Character
+  pub rest : List Character
+  pub splits : cs ≡ front ++ rest
+  pub number : ℕ
+  pub whole : Whole front number
+  pub wide : 2 ^ 63 ≤ number
+
 -- what was read is spelled by the front that was taken; of a number that is too wide such a front is there
 abbrev pub Spelled : List Character → Read → Type 0
 Spelled cs (Ok p) = (front : List Character) × (cs ≡ front ++ p.1) × Spells front p.0
-Spelled cs (Err (NumberWide l)) = TooWide cs
+Spelled cs (Err (NumberWide l)) = WideFront cs
 Spelled cs (Err _) = Unit {0}
 
 -- no more than so many characters are left

@@ -119,7 +119,7 @@ mark_quote : (m : ℕ) → IsMark m → holds Quote m ≡ true
 mark_quote m (inl e) = ap (holds Quote) e
 mark_quote m (inr e) = ap (holds Quote) e
 
-quote_mark : (m : ℕ) → holds Quote m ≡ true → IsMark m
+pub quote_mark : (m : ℕ) → holds Quote m ≡ true → IsMark m
 quote_mark m e = ⊎_elim (λ h. inl (eqb-true m 39 h)) (λ h. inr (eqb-true m 34 h)) (or_cases (m == 39) (m == 34) e)
 
 pub quotes_start : (q : Quoting) (qs rest : List Character) → IsMark q.mark → Quotes q qs → next_is Quote (qs ++ rest) ≡ true
@@ -131,7 +131,7 @@ quotes_size q qs (one m c e) = refl
 quotes_size q qs (three m c d f e g h) = refl
 
 -- quotes that are at the front are such quotes
-quotes_taken : (m : ℕ) (triple : Bool) (cs : List Character) → quotes (marked m triple) cs ≡ true →
+pub quotes_taken : (m : ℕ) (triple : Bool) (cs : List Character) → quotes (marked m triple) cs ≡ true →
     Quotes (marked m triple) (take (quotes_len (marked m triple)) cs)
 quotes_taken m triple [] e = absurd (true≢false (sym e))
 quotes_taken m false (c ∷ cs) e = one m c (eqb-true c.byte m (and_parts (c.byte == m) true e).0)
@@ -143,7 +143,7 @@ quotes_taken m true (c ∷ d ∷ f ∷ cs) e =
     three m c d f (eqb-true c.byte m h.0) (eqb-true d.byte m g.0) (eqb-true f.byte m g.1)
 
 -- whether quotes are at the front shows within their length
-quotes_same : (m : ℕ) (triple : Bool) (c : Character) (cs rest : List Character) → quotes_len (marked m triple) ≤ length cs →
+pub quotes_same : (m : ℕ) (triple : Bool) (c : Character) (cs rest : List Character) → quotes_len (marked m triple) ≤ length cs →
     quotes (marked m triple) (c ∷ (cs ++ rest)) ≡ quotes (marked m triple) (c ∷ cs)
 quotes_same m false c cs rest h = refl
 quotes_same m true c [] rest h = absurd (omega (arith, h))
@@ -155,26 +155,26 @@ self_or true = refl
 self_or false = refl
 
 -- the quotes that are found are at the front
-quotes_found : (c : Character) (cs : List Character) → quotes (quotes_at (c ∷ cs)) (c ∷ cs) ≡ true
+pub quotes_found : (c : Character) (cs : List Character) → quotes (quotes_at (c ∷ cs)) (c ∷ cs) ≡ true
 quotes_found c cs =
     and_from (c.byte == c.byte) _ (eq-eqb c.byte c.byte refl) (self_or (next_is (Byte c.byte) cs && next_is (Byte c.byte) (drop 1 cs)))
 
 -- ---- bodies
 
 -- a character that is neither kept nor a backslash, and ends nothing
-body_more : (q : Quoting) (c : Character) (cs : List Character) → ends q (c ∷ cs) ≡ false → (c.byte == 92) ≡ false →
+pub body_more : (q : Quoting) (c : Character) (cs : List Character) → ends q (c ∷ cs) ≡ false → (c.byte == 92) ≡ false →
     body_len q false (c ∷ cs) ≡ suc (body_len q false cs)
 body_more q c cs e h = ap (λ b. if b then 0 else suc (body_len q (c.byte == 92) cs)) e ∙ ap (λ b. suc (body_len q b cs)) h
 
 -- a backslash and the character that it keeps
-body_kept : (q : Quoting) (c d : Character) (cs : List Character) → ends q (c ∷ d ∷ cs) ≡ false → (c.byte == 92) ≡ true →
+pub body_kept : (q : Quoting) (c d : Character) (cs : List Character) → ends q (c ∷ d ∷ cs) ≡ false → (c.byte == 92) ≡ true →
     body_len q false (c ∷ d ∷ cs) ≡ suc (suc (body_len q false cs))
 body_kept q c d cs e h = ap (λ b. if b then 0 else suc (body_len q (c.byte == 92) (d ∷ cs))) e ∙ ap (λ b. suc (body_len q b (d ∷ cs))) h
 
-body_end : (q : Quoting) (c : Character) (cs : List Character) → ends q (c ∷ cs) ≡ true → body_len q false (c ∷ cs) ≡ 0
+pub body_end : (q : Quoting) (c : Character) (cs : List Character) → ends q (c ∷ cs) ≡ true → body_len q false (c ∷ cs) ≡ 0
 body_end q c cs e = ap (λ b. if b then 0 else suc (body_len q (c.byte == 92) cs)) e
 
-no_line_end : (triple : Bool) (b : ℕ) → (triple ≡ false → b ≢ 10) → (not triple && b == 10) ≡ false
+pub no_line_end : (triple : Bool) (b : ℕ) → (triple ≡ false → b ≢ 10) → (not triple && b == 10) ≡ false
 no_line_end true b h = refl
 no_line_end false b h = ne_eqb b 10 (h refl)
 
@@ -183,13 +183,13 @@ mark_slash : (m b : ℕ) → IsMark m → b ≡ 92 → b ≢ m
 mark_slash m b (inl k) e h = omega (arith, k, e, h)
 mark_slash m b (inr k) e h = omega (arith, k, e, h)
 
-slash_goes_on : (q : Quoting) (c : Character) (cs : List Character) → IsMark q.mark → c.byte ≡ 92 → ends q (c ∷ cs) ≡ false
+pub slash_goes_on : (q : Quoting) (c : Character) (cs : List Character) → IsMark q.mark → c.byte ≡ 92 → ends q (c ∷ cs) ≡ false
 slash_goes_on q c cs k e =
     or_from (quotes q (c ∷ cs)) _ (and_left (c.byte == q.mark) _ (ne_eqb c.byte q.mark (mark_slash q.mark c.byte k e)))
     (no_line_end q.triple c.byte (λ _ h. omega (arith, e, h)))
 
 -- a body that is closed ends with its quotes
-closed_long : (q : Quoting) (body cs : List Character) → Closed q body cs → quotes_len q ≤ length cs
+pub closed_long : (q : Quoting) (body cs : List Character) → Closed q body cs → quotes_len q ≤ length cs
 closed_long q body cs (end w) = let e : length cs ≡ quotes_len q = quotes_size q cs w in omega (arith, e)
 closed_long q body cs (more c {body = bs} {cs = ds} n e l h) = let g : quotes_len q ≤ length ds = closed_long q bs ds h in omega (arith, g)
 closed_long q body cs (kept c d {body = bs} {cs = ds} e h) = let g : quotes_len q ≤ length ds = closed_long q bs ds h in omega (arith, g)
@@ -320,7 +320,7 @@ no_quotes : (q : Quoting) → quotes q [] ≡ true → ⊥
 no_quotes q e = true≢false (sym e)
 
 -- what follows a body and its quotes
-behind_body : (k n : ℕ) (cs : List Character) → (take n cs ++ take k (drop n cs)) ++ drop k (drop n cs) ≡ cs
+pub behind_body : (k n : ℕ) (cs : List Character) → (take n cs ++ take k (drop n cs)) ++ drop k (drop n cs) ≡ cs
 behind_body k n cs =
     append_assoc (take n cs) (take k (drop n cs)) (drop k (drop n cs)) ∙ ap (λ ds. take n cs ++ ds) (take-append-drop k (drop n cs))
     ∙ take-append-drop n cs
@@ -329,7 +329,7 @@ body_at_end : (q : Quoting) (c : Character) (cs : List Character) → ends q (c 
 body_at_end q c cs e = subst (BodyAt q (c ∷ cs)) (sym (body_end q c cs e)) (λ h. end (quotes_taken q.mark q.triple (c ∷ cs) h))
 
 -- in single quotes a line end ends a body
-line_end_ends : (triple : Bool) (b : ℕ) → (not triple && b == 10) ≡ false → triple ≡ false → b ≢ 10
+pub line_end_ends : (triple : Bool) (b : ℕ) → (not triple && b == 10) ≡ false → triple ≡ false → b ≢ 10
 line_end_ends true b h e = absurd (true≢false e)
 line_end_ends false b h e = eqb-false b 10 h
 
@@ -373,7 +373,7 @@ two_body q c d cs false false e slash ih after = body_at_more q c (d ∷ cs) e s
 two_body q c d cs false true e slash ih after = body_at_kept q c d cs e slash after
 
 -- the body that is read is closed by the quotes behind it
-body_closed : (q : Quoting) (cs : List Character) → BodyAt q cs (body_len q false cs)
+pub body_closed : (q : Quoting) (cs : List Character) → BodyAt q cs (body_len q false cs)
 body_closed q [] = λ h. absurd (no_quotes q h)
 body_closed q (c ∷ []) = one_body q c (ends q (c ∷ [])) (c.byte == 92) refl refl (λ h. absurd (no_quotes q h))
 body_closed q (c ∷ d ∷ cs) = two_body q c d cs (ends q (c ∷ d ∷ cs)) (c.byte == 92) refl refl (body_closed q (d ∷ cs)) (body_closed q cs)

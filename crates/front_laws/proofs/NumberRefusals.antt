@@ -1,22 +1,16 @@
--- Which refusals the reading of a number has, and which that of a string.
-use Rattle.std.proofs.Common.{◌≡◌, ℕ, ◌==◌, nat_lt, false, ◌&&◌, List, length, map, take, drop, Option, Some, None, Ok, Err, refl}
+-- Which refusals the reading of a number has.
+use Rattle.std.proofs.Common.{◌≡◌, ℕ, ◌==◌, nat_lt, ◌&&◌, List, length, map, drop, Ok, Err, refl}
 use Rattle.std.specs.Str.Parse.{digits_value}
-use Rattle.py_text.specs.Escape.{unescaped}
-use Rattle.py_base.specs.declared.refusal.Refusal.TheVariants.{BadCharacter, NumberWide, OpenString, BadEscape}
+use Rattle.py_base.specs.declared.refusal.Refusal.TheVariants.{BadCharacter, NumberWide}
 use Rattle.py_tokens.specs.declared.character.Character.{Character}
 use Rattle.py_tokens.specs.declared.class.Base.{Base}
 use Rattle.py_tokens.specs.declared.class.Base.TheVariants.{Eight, Ten}
 use Rattle.py_tokens.specs.declared.class.Class.TheVariants.{Byte, Letter, Digit}
-use Rattle.py_tokens.specs.declared.literal.Prefix.{Prefix}
-use Rattle.py_tokens.specs.declared.literal.Quoting.{Quoting}
 use Rattle.py_tokens.specs.Characters.{byte_of}
 use Rattle.py_tokens.specs.Classes.{base_of, next_is, run_len, run, after}
 use Rattle.py_tokens.specs.Numbers.{Read, ten, suffixed, prefixed, after_point, after_exponent, whole, unprefixed, number_at}
-use Rattle.py_tokens.specs.Strings.{quotes, quotes_len, quotes_at, body_len, escape_fault, text_of, literal, string_at}
 use Rattle.front_laws.proofs.Reading.{read_cases}
 use Rattle.front_laws.proofs.NumberReading.{number_cases}
-
--- ---- numbers
 
 abbrev pub NumberRefused : ℕ → Read → Type 0
 NumberRefused line (Ok r) = Unit {0}
@@ -53,31 +47,3 @@ unprefixed_refused line cs =
 pub number_refused : (line : ℕ) (cs : List Character) → NumberRefused line (number_at line cs)
 number_refused line cs =
     number_cases (NumberRefused line) line cs (λ base letter is z e. prefixed_refused line base (drop 1 (drop 1 cs))) (unprefixed_refused line cs)
-
--- ---- strings
-
-abbrev pub StringRefused : ℕ → Read → Type 0
-StringRefused line (Ok r) = Unit {0}
-StringRefused line (Err (OpenString l)) = l ≡ line
-StringRefused line (Err (BadEscape l)) = Unit {0}
-StringRefused line (Err _) = ⊥
-
-text_refused : (line : ℕ) (o : Option (List ℕ)) (rest : List Character) → StringRefused line (text_of line o rest)
-text_refused line (Some bs) rest = tt
-text_refused line None rest = tt
-
-literal_refused : (line : ℕ) (p : Prefix) (q : Quoting) (body rest : List Character) (fault : Option ℕ) →
-    StringRefused line (literal line p q body rest fault)
-literal_refused line p q body rest (Some bad) = tt
-literal_refused line p q body rest None =
-    let inner = drop (quotes_len q) rest in
-    read_cases (StringRefused line) (quotes q rest) _ _
-    (λ e. read_cases (StringRefused line) p.unicode _ _ (λ f. tt) (λ f. text_refused line (unescaped p.raw (map byte_of body)) inner)) (λ e. refl)
-
-pub string_refused : (line : ℕ) (p : Prefix) (cs : List Character) → StringRefused line (string_at line p cs)
-unfolding string_at
-string_refused line p cs =
-    let q = quotes_at cs in
-    let inner = drop (quotes_len q) cs in
-    let n = body_len q false inner in
-    literal_refused line p q (take n inner) (drop n inner) (escape_fault p (take n inner))
