@@ -1,4 +1,4 @@
--- A good core of a script over the store of maps, for tests.
+-- A good core of a script over the store of maps, for tests: nothing public rests on it.
 use Rattle.lock_run.specs.declared.script.Script.{Script}
 use Rattle.lock_run.specs.declared.script.ScriptState.{ScriptState}
 use Rattle.lock_run.specs.Script.{cells_in, lists_in, script_prog, ScriptSound}

@@ -1,15 +1,24 @@
--- The rule of the lock, and its eight kinds of step (docs/HEAP.md, "The heap lock").
+-- The rule of the lock, and its eight kinds of step. States `docs/HEAP.md`, "The heap lock".
 --
--- A lock is a table of one word and one slot. Word 0 is 0 where the lock is free, and 1 where a seat holds the value. The slot is at home, or it is out with the seat that holds. The table keeps a view of each seat that there ever was.
+-- A lock is a table of one word and one slot. Word 0 is 0 where the lock is free, and 1 where a seat holds the value.
+-- The slot is at home, or it is out with the seat that holds. The table keeps a view of each seat that there ever
+-- was.
 --
--- The rule holds between any two steps, whichever threads make them. There are these kinds of step. Each keeps the rule, and nothing else changes a lock.
---   making         `first_view`: word 0 is 0, the slot is at home with the value, and the one view has the job and all the parts, has seen the value, and holds nothing
---   split          `split_left`, `split_right`: a seat that holds nothing gives its highest part to a new one, which has the same job and has seen the same
---   join           `joined`, `spent`: a seat gets the parts of another and what that one has seen, where neither holds, and the other is spent
---   take           `Takes`: word 0 goes from 0 to 1, the view holds, with the value as it was taken, and the slot is out; or the word was 1, and nothing changes
+-- The rule holds between any two steps, whichever threads make them. There are these kinds of step. Each keeps the
+-- rule, and nothing else changes a lock.
+--   making         `first_view`: word 0 is 0, the slot is at home with the value, and the one view has the job and
+--                  all the parts, has seen the value, and holds nothing
+--   split          `split_left`, `split_right`: a seat that holds nothing gives its highest part to a new one, which
+--                  has the same job and has seen the same
+--   join           `joined`, `spent`: a seat gets the parts of another and what that one has seen, where neither
+--                  holds, and the other is spent
+--   take           `Takes`: word 0 goes from 0 to 1, the view holds, with the value as it was taken, and the slot is
+--                  out; or the word was 1, and nothing changes
 --   exchange out   the holder swaps the value in the slot for None; the word and the views stay
---   exchange in    the holder swaps None in the slot for a good value of its job, which has grown from what it took; the word and the views stay
---   give           `Gives`: word 0 becomes 0, the view holds nothing and has seen the value in the slot alone, and the slot is at home again
+--   exchange in    the holder swaps None in the slot for a good value of its job, which has grown from what it took;
+--                  the word and the views stay
+--   give           `Gives`: word 0 becomes 0, the view holds nothing and has seen the value in the slot alone, and
+--                  the slot is at home again
 --   close          the table ends; a seat that has all the parts and holds nothing is given what the slot has
 use Rattle.std.specs.Prelude.{◌≡◌, ◌≢◌, ℕ, ◌≤◌, nat_lt, true, false, if◌then◌else◌, List, [], ◌∷◌, ◌++◌, All, Option, Some, None, slice_index, length, sum_by, count_by}
 use mathlib.Core.Option as maybe

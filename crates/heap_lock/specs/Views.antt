@@ -1,4 +1,4 @@
--- What contracts see of a lock and of a seat (docs/HEAP.md, "The heap lock").
+-- What contracts see of a lock and of a seat. States `docs/HEAP.md`, "The heap lock".
 use Rattle.std.specs.Prelude.{ℕ, Bool, List, Option}
 use Rattle.atomic_table.specs.Seated.{TableId}
 

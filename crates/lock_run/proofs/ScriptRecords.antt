@@ -5,12 +5,12 @@ use Rattle.py_data.specs.declared.stop.Stop.{Stop}
 use Rattle.py_data.specs.declared.stop.Stop.TheVariants.{OutOfMemory}
 use Rattle.py_data.specs.Row.{Do, Make, Start}
 use Rattle.py_data.specs.Sense.{Sense, Lawful, Meets, IsLive}
-use Rattle.py_data.specs.Rest.{Leads}
+use Rattle.py_data.specs.inner.Rest.{Leads}
 use Rattle.py_data.proofs.Steps.{leads-do, leads-ret, leads-refused, leads-own}
 use Rattle.lock_run.specs.declared.script.ScriptState.{ScriptState}
 use Rattle.lock_run.specs.declared.script.ScriptState.TheVariants.{Acts}
 use Rattle.lock_run.specs.Script.{zero_cell, with_cell, make_cells, start_threads}
-use Rattle.lock_run.specs.ScriptSafe.{cells_safe, threads_safe}
+use Rattle.lock_run.specs.inner.ScriptSafe.{cells_safe, threads_safe}
 
 -- ---- the loop that makes the Cells, before its turn i
 pub record Making {S X : Type 0} (u : Sense S X) (n i : ℕ) (cells : List Addr) (v w : X) : Type 0 where

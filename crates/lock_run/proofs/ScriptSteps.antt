@@ -15,8 +15,8 @@ use Rattle.lock_run.specs.declared.script.ScriptState.{ScriptState}
 use Rattle.lock_run.specs.declared.script.ScriptState.TheVariants.{Prelude, Acts, Over}
 use Rattle.lock_run.specs.Client.{StandsIn, Stepped, StepStopped}
 use Rattle.lock_run.specs.Script.{prelude_row, act_row, act_at, now_done, at_act, script_row, IsStanding, ScriptSound}
-use Rattle.lock_run.specs.ScriptLaws.{one_of}
-use Rattle.lock_run.specs.ScriptSafe.{act_safe}
+use Rattle.lock_run.specs.inner.ScriptLaws.{one_of}
+use Rattle.lock_run.specs.inner.ScriptSafe.{act_safe}
 
 -- the acts of a thread have the records that they ask for
 pub perform_safe : {X : Type 0} (u : Sense ScriptState X) (b : Bracket ScriptState X) (p : Bool) (s : ScriptState) (number done : ℕ) (cells : List Addr) (list : Addr) (act : Act) (v v1 : X) → IsBracket u b → b.opens v v1

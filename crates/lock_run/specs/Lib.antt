@@ -1,10 +1,8 @@
 pub mod Journal
 pub mod Space
 pub mod Given
-pub mod Threads
 pub mod PlainState
 pub mod PlainSense
-pub mod PlainLaws
 pub mod Prog
 pub mod Client
 pub mod Machine
@@ -16,5 +14,4 @@ pub mod LockState
 pub mod RunState
 pub mod Whys
 pub mod Script
-pub mod ScriptLaws
-pub mod ScriptSafe
+pub mod inner

@@ -1,5 +1,5 @@
--- What the threads of a script do, step by step, and over which heaps they may stand. States
--- `docs/HEAP.md`, "The one-lock machine".
+-- What the threads of a script do, step by step, and over which heaps they may stand.
+-- States `docs/HEAP.md`, "The one-lock machine".
 use Rattle.std.specs.Prelude.{◌≡◌, ◌≢◌, ℕ, ◌+◌, ◌<◌, zero, suc, List, [], ◌∷◌, ◌++◌, length, slice_get, Option, Some, None, pos, cond, ltb, option_and_then, All}
 use Rattle.py_data.specs.declared.value.Addr.{Addr}
 use Rattle.py_data.specs.declared.value.Value.{Value}

@@ -234,7 +234,7 @@ impl<S: Drop, I: Source, O: Sink, E: Sink> View<S> for PlainView<S, I, O, E> {
     ghost use Rattle.lock_run.specs.Space.{space_heap};
     ghost use Rattle.lock_run.specs.PlainState.{PlainDoes, PlainRefuses, PlainOpens, PlainUndoes, Still};
     ghost use Rattle.lock_run.specs.PlainSense.{plain_state, plain_sense, plain_bracket};
-    ghost use Rattle.lock_run.specs.PlainLaws.{plain_lawful, plain_bracketed};
+    ghost use Rattle.lock_run.specs.inner.PlainLaws.{plain_lawful, plain_bracketed};
 
     ghost sense = { plain_sense I.state O.state E.state };
 

@@ -319,8 +319,8 @@ impl Script {
 
 impl Client for Script {
     ghost use Rattle.lock_run.specs.Script.{cells_in, lists_in, script_prog, ScriptSound};
-    ghost use Rattle.lock_run.specs.ScriptLaws.{script_sound_step, script_tells_life, script_waits_quietly, script_asks_to_print};
-    ghost use Rattle.lock_run.specs.ScriptSafe.{script_sound_safe};
+    ghost use Rattle.lock_run.specs.inner.ScriptLaws.{script_sound_step, script_tells_life, script_waits_quietly, script_asks_to_print};
+    ghost use Rattle.lock_run.specs.inner.ScriptSafe.{script_sound_safe};
 
     type State = ScriptState;
 

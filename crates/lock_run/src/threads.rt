@@ -27,7 +27,7 @@ impl<S> Model for Threads<S> {
 }
 
 impl<S: Drop> Threads<S> {
-    ghost use Rattle.lock_run.specs.Threads.{LendsState};
+    ghost use Rattle.lock_run.specs.inner.Threads.{LendsState};
 
     /// No threads.
     pub fn new(alloc: Global) -> Threads<S>

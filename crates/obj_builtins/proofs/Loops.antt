@@ -4,7 +4,7 @@ use Rattle.py_data.specs.declared.value.Value.{Value}
 use Rattle.py_data.specs.Heap.{value_at}
 use Rattle.py_data.specs.Looking.{until_row, each_row}
 use Rattle.py_data.specs.Sense.{Sense, Safe, IsLive}
-use Rattle.py_data.specs.Rest.{Leads}
+use Rattle.py_data.specs.inner.Rest.{Leads}
 use Rattle.py_data.proofs.Steps.{leads-begin}
 use Rattle.obj_builtins.specs.declared.arguments.Form.{Form}
 use Rattle.obj_builtins.specs.declared.best.Side.{Side}

@@ -4,7 +4,7 @@ use Rattle.py_data.specs.declared.stop.Stop.{Stop}
 use Rattle.py_data.specs.declared.value.Value.{Value}
 use Rattle.py_data.specs.Row.{Row, bind}
 use Rattle.py_data.specs.Sense.{Sense, Lawful, Safe, Meets}
-use Rattle.py_data.specs.Rest.{Leads}
+use Rattle.py_data.specs.inner.Rest.{Leads}
 use Rattle.py_data.proofs.Steps.{leads-call, leads-call-stop, leads-ret, safe-first}
 use Rattle.obj_class.specs.NewRoots.{next_root_row, roots_from}
 

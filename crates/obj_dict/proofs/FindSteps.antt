@@ -6,7 +6,7 @@ use Rattle.py_data.specs.Heap.{Heap, Rec, at, blank}
 use Rattle.py_data.specs.Shape.{same_key, find_from}
 use Rattle.py_data.specs.Row.{Row, Do, Find, bind}
 use Rattle.py_data.specs.Sense.{Sense, Lawful, Safe, Meets, IfThere, IsLive}
-use Rattle.py_data.specs.Rest.{Leads}
+use Rattle.py_data.specs.inner.Rest.{Leads}
 use Rattle.py_data.proofs.Steps.{leads-begin, leads-do, safe-then}
 use Rattle.obj_dict.specs.Dict.{key_row, if_key}
 

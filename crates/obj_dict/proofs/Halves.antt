@@ -12,7 +12,7 @@ use Rattle.py_data.specs.declared.stop.Stop.TheVariants.{OutOfMemory}
 use Rattle.py_data.specs.Heap.{Rec, at, value_at, new_rec}
 use Rattle.py_data.specs.Row.{Row, Ret, Do, Read, Make}
 use Rattle.py_data.specs.Sense.{Sense, Lawful, Meets, Safe}
-use Rattle.py_data.specs.Rest.{Leads, Stands}
+use Rattle.py_data.specs.inner.Rest.{Leads, Stands}
 use Rattle.py_data.proofs.Rows.{meets-own, meets-do, read-heap, safe-next}
 use Rattle.py_data.proofs.Steps.{stands-again, as-err, at-is, leads-do, leads-ret}
 use Rattle.obj_dict.specs.Listing.{half, tuples_row}

@@ -5,7 +5,7 @@ ghost use Rattle.py_data.specs.Sense.{Meets, Safe, IsLive};
 ghost use Rattle.py_data.specs.Made.{rec_of};
 ghost use Rattle.py_data.specs.Heap.{at, new_rec};
 ghost use Rattle.py_data.specs.Row.{Ret, bind};
-ghost use Rattle.py_data.specs.Rest.{Stands};
+ghost use Rattle.py_data.specs.inner.Rest.{Stands};
 ghost use Rattle.obj_dict.specs.Listing.{half, half_row, pairs_row, list_row, tuples_row, list_of_row};
 
 use py_data::{Addr, Bytes, Got, Kind, NoMemory, Record, Stop, Value, Values, View};

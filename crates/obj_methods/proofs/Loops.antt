@@ -15,7 +15,7 @@ use Rattle.py_data.specs.Fault.{operand_fault}
 use Rattle.py_data.specs.Heap.{value_at}
 use Rattle.py_data.specs.Looking.{until_row, got_row}
 use Rattle.py_data.specs.Row.{Ret, Do, Edit, bind}
-use Rattle.py_data.specs.Rest.{Leads}
+use Rattle.py_data.specs.inner.Rest.{Leads}
 use Rattle.py_data.specs.Sense.{Sense, Lawful, Safe, Meets, IsLive}
 use Rattle.py_data.proofs.Rows.{meets-answer}
 use Rattle.py_data.proofs.Steps.{leads-begin, leads-call, leads-call-stop, leads-ret, safe-first, meets-bind}

@@ -8,7 +8,7 @@ use Rattle.py_data.specs.declared.stop.Stop.TheVariants.{OutOfMemory}
 use Rattle.py_data.specs.Heap.{Rec, at, value_at}
 use Rattle.py_data.specs.Row.{Row, Read}
 use Rattle.py_data.specs.Sense.{Sense, Lawful, Meets}
-use Rattle.py_data.specs.Rest.{Stands}
+use Rattle.py_data.specs.inner.Rest.{Stands}
 use Rattle.py_data.proofs.Rows.{meets-own}
 use Rattle.py_data.proofs.Steps.{stands-again, as-err}
 

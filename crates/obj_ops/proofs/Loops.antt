@@ -9,7 +9,7 @@ use Rattle.py_data.specs.declared.record.Got.TheVariants.{Is}
 use Rattle.py_data.specs.Row.{Do, Edit}
 use Rattle.py_data.specs.Looking.{until_row, each_row}
 use Rattle.py_data.specs.Sense.{Sense, Safe, Meets, IsLive}
-use Rattle.py_data.specs.Rest.{Leads}
+use Rattle.py_data.specs.inner.Rest.{Leads}
 use Rattle.py_data.proofs.Steps.{leads-begin, leads-ret}
 use Rattle.obj_ops.specs.declared.format.Piece.{Piece}
 use Rattle.obj_ops.specs.declared.format.Piece.TheVariants.{Byte, Number, Text, Unknown}

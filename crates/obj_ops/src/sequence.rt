@@ -6,7 +6,7 @@ ghost use Rattle.py_data.specs.declared.record.TheConstants.{LENGTH_LIMIT};
 ghost use Rattle.py_data.specs.Heap.{at};
 ghost use Rattle.py_data.specs.Fault.{memory_fault};
 ghost use Rattle.py_data.specs.Row.{Ret};
-ghost use Rattle.py_data.specs.Rest.{Stands};
+ghost use Rattle.py_data.specs.inner.Rest.{Stands};
 ghost use Rattle.py_data.specs.Sense.{Meets, Safe, IsLive};
 ghost use Rattle.obj_ops.specs.Sequences.{values_row, made_row, new_items, joined_with, joined_items, joined_text_with, joined_texts, times, repeated_items, new_repeated, repeated_text};
 

@@ -3,7 +3,7 @@ use Rattle.std.proofs.Common.{◌≡◌, ℕ, Ok, sym, ap, subst, ◌∙◌}
 use Rattle.py_data.specs.Heap.{Rec, at}
 use Rattle.py_data.specs.Row.{Row, Ret, Do, Read, bind}
 use Rattle.py_data.specs.Sense.{Sense, Lawful, Safe, Meets, IsLive}
-use Rattle.py_data.specs.Rest.{Leads}
+use Rattle.py_data.specs.inner.Rest.{Leads}
 use Rattle.py_data.proofs.Rows.{meets-ret, meets-do, read-heap}
 use Rattle.py_data.proofs.Steps.{meets-bind, leads-begin, leads-do}
 

@@ -7,7 +7,7 @@ use Rattle.py_data.specs.declared.change.Change.{Change}
 use Rattle.py_data.specs.declared.change.Change.TheVariants as change
 use Rattle.py_data.specs.Row.{Row, Ret, Do, Read, Edit}
 use Rattle.py_data.specs.Sense.{Sense, Lawful, Meets, Answers}
-use Rattle.py_data.specs.Rest.{Leads}
+use Rattle.py_data.specs.inner.Rest.{Leads}
 use Rattle.py_data.proofs.Steps.{leads-do, leads-ret, leads-refused}
 use Rattle.obj_seq.specs.Seq.{gap_row, shift_row}
 use Rattle.obj_seq.proofs.Tail.{Tail, tail-looked, tail-value, tail-end, tail-set}

@@ -19,7 +19,7 @@ use Rattle.py_data.specs.declared.stop.Stop.TheVariants.{OutOfMemory}
 use Rattle.py_data.specs.Heap.{Rec, at, value_at, new_rec}
 use Rattle.py_data.specs.Row.{Row, Ret, Do, Read, Make}
 use Rattle.py_data.specs.Sense.{Sense, Lawful, Asks, Safe, Meets, Run, Stopped, IsLive}
-use Rattle.py_data.specs.Rest.{Leads, Stands}
+use Rattle.py_data.specs.inner.Rest.{Leads, Stands}
 use Rattle.py_data.proofs.Rows.{meets-ret, meets-answer, meets-do, read-heap, safe-next}
 use Rattle.py_data.proofs.Steps.{stands-again, there-is, at-is, safe-first, meets-bind, meets-bind-err, leads-begin, leads-do, leads-ret}
 use Rattle.py_data.proofs.Turns.{walk_safe, walk_stop, walk_more, walk_done, walk_end}

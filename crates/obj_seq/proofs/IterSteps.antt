@@ -9,7 +9,7 @@ use Rattle.py_data.specs.Row.{Do, Read, Make}
 use Rattle.py_data.specs.Sense.{Sense, Lawful, Safe, IsLive}
 use Rattle.obj_seq.specs.declared.advance.Parts.{Parts}
 use Rattle.py_data.proofs.Steps.{leads-begin, leads-do}
-use Rattle.py_data.specs.Rest.{Leads}
+use Rattle.py_data.specs.inner.Rest.{Leads}
 use Rattle.py_data.proofs.Rows.{again}
 use Rattle.obj_seq.specs.Iter.{count_of, is_iter, iter_of, make_iter_row, next_over, next_with, parts_of, go_or_end, byte_or_end, pick, has_changed, is_str, next_row}
 use Rattle.obj_seq.proofs.AfterLook.{leads-looked, looked-record}

@@ -9,7 +9,7 @@ use Rattle.py_data.specs.declared.record.Got.TheVariants.{Is}
 use Rattle.py_data.specs.Heap.{Rec, at, new_rec}
 use Rattle.py_data.specs.Row.{Row, Ret, Do, Read, Make}
 use Rattle.py_data.specs.Sense.{Sense, Lawful, Safe, Meets, Run, Stopped, IsLive}
-use Rattle.py_data.specs.Rest.{Leads}
+use Rattle.py_data.specs.inner.Rest.{Leads}
 use Rattle.py_data.proofs.Rows.{again}
 use Rattle.py_data.proofs.Steps.{leads-own}
 use Rattle.obj_seq.specs.Seq.{part, bound_or, slice_at, slice_row}

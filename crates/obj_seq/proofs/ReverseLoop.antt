@@ -8,7 +8,7 @@ use Rattle.py_data.specs.Heap.{at}
 use Rattle.py_data.specs.declared.change.Change.TheVariants as change
 use Rattle.py_data.specs.Row.{Ret, Do, Read, Edit}
 use Rattle.py_data.specs.Sense.{Sense, Lawful, Safe, Meets, IsLive}
-use Rattle.py_data.specs.Rest.{Leads}
+use Rattle.py_data.specs.inner.Rest.{Leads}
 use Rattle.py_data.proofs.Steps.{leads-do, leads-ret}
 use Rattle.obj_seq.specs.Seq.{part, put_row, reverse_row}
 use Rattle.obj_seq.proofs.Tail.{drop-next}

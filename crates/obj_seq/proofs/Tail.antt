@@ -9,7 +9,7 @@ use Rattle.py_data.specs.Heap.{Rec, at, value_at, with_value}
 use Rattle.py_data.specs.declared.change.Change.TheVariants as change
 use Rattle.py_data.specs.Row.{Read, Edit}
 use Rattle.py_data.specs.Sense.{Sense, Lawful}
-use Rattle.py_data.specs.Rest.{Stands}
+use Rattle.py_data.specs.inner.Rest.{Stands}
 use Rattle.py_data.proofs.Steps.{stands-again, stands-edit, at-is}
 
 pub drop-next : (xs : List Value) (k : ℕ) → k < length xs → drop k xs ≡ value_at xs k ∷ drop (k + 1) xs

@@ -1,7 +1,7 @@
 //! Changes of lists.
 ghost use Rattle.std.specs.Prelude.{◌≡◌, ◌+◌, ◌<◌, ◌≤◌, length, drop, reverse};
 ghost use Rattle.py_data.specs.Sense.{Meets, Safe, IsLive};
-ghost use Rattle.py_data.specs.Rest.{Stands};
+ghost use Rattle.py_data.specs.inner.Rest.{Stands};
 ghost use Rattle.py_data.specs.Heap.{at};
 ghost use Rattle.obj_seq.specs.Seq.{set_item_row, del_item_row, pop_row, insert_row, reverse_row, put_row, gap_row, shift_row};
 

@@ -3,7 +3,7 @@ ghost use Rattle.std.specs.Prelude.{◌≡◌, ◌≢◌, ◌≤◌, pos, [], If
 ghost use Rattle.py_data.specs.Sense.{Meets, Safe, IsLive};
 ghost use Rattle.py_data.specs.Heap.{at};
 ghost use Rattle.py_data.specs.Row.{Do, Read, Ret};
-ghost use Rattle.py_data.specs.Rest.{Stands};
+ghost use Rattle.py_data.specs.inner.Rest.{Stands};
 ghost use Rattle.py_data.specs.declared.record.Got.TheVariants.{Is, Raise};
 ghost use Rattle.py_data.specs.Fault.{memory_fault};
 ghost use Rattle.py_data.specs.Range.{range_length};

@@ -2,7 +2,7 @@
 ghost use Rattle.std.specs.Prelude.{◌≡◌, ◌≤◌, length};
 ghost use Rattle.py_data.specs.Sense.{Meets, Safe, IsLive};
 ghost use Rattle.py_data.specs.Row.{Ret};
-ghost use Rattle.py_data.specs.Rest.{Stands};
+ghost use Rattle.py_data.specs.inner.Rest.{Stands};
 ghost use Rattle.py_data.specs.Heap.{at};
 ghost use Rattle.obj_seq.specs.Seq.{item_row, slice_row, part};
 

@@ -7,7 +7,7 @@ use Rattle.py_data.specs.declared.stop.Stop.TheVariants.{OutOfMemory}
 use Rattle.py_data.specs.declared.record.Got.TheVariants.{Is, Raise}
 use Rattle.py_data.specs.Heap.{Rec, at}
 use Rattle.py_data.specs.Row.{Row, Ret, Do, Read}
-use Rattle.py_data.specs.Rest.{Stands, Leads}
+use Rattle.py_data.specs.inner.Rest.{Stands, Leads}
 use Rattle.py_data.specs.Sense.{Sense, Lawful, Asks, Meets, Safe, IsLive, Run, Stopped}
 use Rattle.py_data.specs.Looking.{bytes_row}
 use Rattle.py_data.proofs.Rows.{read-heap, again, meets-do, meets-ret}

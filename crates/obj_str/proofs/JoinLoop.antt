@@ -11,7 +11,7 @@ use Rattle.py_data.specs.declared.record.Got.TheVariants.{Is, Raise}
 use Rattle.py_data.specs.declared.record.TheConstants.{LENGTH_LIMIT}
 use Rattle.py_data.specs.Fault.{memory_fault, operand_fault}
 use Rattle.py_data.specs.Looking.{got_row}
-use Rattle.py_data.specs.Rest.{Leads}
+use Rattle.py_data.specs.inner.Rest.{Leads}
 use Rattle.py_data.specs.Row.{Row, Ret, bind}
 use Rattle.py_data.specs.Sense.{Sense, Lawful, Safe, IsLive, Meets}
 use Rattle.py_data.proofs.Rows.{meets-answer}

@@ -3,7 +3,7 @@ ghost use Rattle.std.specs.Prelude.{◌≡◌, MatchResult};
 ghost use Rattle.py_data.specs.declared.record.Got.TheVariants.{Raise};
 ghost use Rattle.py_data.specs.declared.stop.Stop.TheVariants.{OutOfMemory};
 ghost use Rattle.py_data.specs.Heap.{at};
-ghost use Rattle.py_data.specs.Rest.{Stands};
+ghost use Rattle.py_data.specs.inner.Rest.{Stands};
 ghost use Rattle.py_data.specs.Row.{Ret};
 ghost use Rattle.py_data.specs.Sense.{Meets, Safe, IsLive};
 ghost use Rattle.py_data.specs.Fault.{argument_fault};

@@ -3,7 +3,7 @@ use Rattle.std.proofs.Common.{arith, ◌≡◌, ℕ, ◌-◌, List, length, sym,
 use Rattle.std.specs.Prelude.{◌/◌}
 use Rattle.py_data.specs.declared.value.Value.{Value}
 use Rattle.py_data.specs.Looking.{each_row}
-use Rattle.py_data.specs.Rest.{Leads}
+use Rattle.py_data.specs.inner.Rest.{Leads}
 use Rattle.py_data.specs.Sense.{Sense, Safe, IsLive}
 use Rattle.py_data.proofs.Steps.{leads-begin}
 use Rattle.obj_threads.specs.declared.keywords.Keywords.{Keywords}

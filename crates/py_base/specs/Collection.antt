@@ -1,4 +1,4 @@
--- What contracts see of a list that grows.
+-- What contracts see of a list that grows. States `docs/DECISIONS.md`, "`py_base`".
 use Rattle.std.specs.Prelude.{ℕ, List}
 
 -- A list to which elements are added, and for how many more there is memory already. This room is of no record.

@@ -1,5 +1,5 @@
--- When a program is right: its roots, what each code is by itself, and what the codes say of one another. States
--- `docs/LANGUAGE.md`, "Right programs".
+-- When a program is right: its roots, what each code is by itself, and what the codes say of one another.
+-- States `docs/LANGUAGE.md`, "Right programs".
 use Rattle.std.specs.Prelude.{◌≡◌, ℕ, zero, suc, ◌+◌, ◌<◌, ◌≤◌, ◌^◌, ◌==◌, codes, List, [], ◌∷◌, ◌++◌, Option, Some, None, Bool, true, false, IsTrue, All, if◌then◌else◌, drop, length, map, get_or, slice_get}
 use Rattle.std.specs.List.{flat_map, last_or, list_any}
 use Rattle.std.specs.Str.{bytes_eq}

@@ -7,7 +7,7 @@ use Rattle.py_compile.specs.declared.draft.Far.{Far}
 use Rattle.py_compile.specs.declared.draft.Far.TheVariants.{Always, IfFalse, KeepingFalse}
 use Rattle.py_compile.specs.Template.{Frame, Piece, Op, To, Here, Alone, Sub, row}
 use Rattle.py_compile.specs.Table.{E, F, N, one, one_value, two_values, link, operators, kept, all_kept, between, chained, conditional, attribute, index, slice, call, method_call, trail, built, pair}
-use Rattle.py_compile.specs.State.{St, put, marked, opened, jump_of, Emitted, no_frames, frame_there}
+use Rattle.py_compile.specs.inner.State.{St, put, marked, opened, jump_of, Emitted, no_frames, frame_there}
 use Rattle.py_compile.proofs.Emits.{template_emitted, plain_emitted}
 
 module _ (line : ℕ) (env : List ℕ → List Frame) where

@@ -17,7 +17,7 @@ use Rattle.py_names.specs.declared.statement.Where.{Where}
 use Rattle.py_names.specs.Outline.{bound_name, read, target, read_some, target_some, outside, inside_function, inside_loop, inside_finally, inside_clause, parameters, takes, says, says_block, says_arm, says_arms, says_clause, says_handler, says_handlers, outline}
 use Rattle.py_names.proofs.Says.{says_do, says_assign, says_augment, says_print, says_pass, says_break, says_continue, says_return, says_raise, says_del, says_global, says_assert, says_import, says_from, says_if, says_while, says_for, says_try, says_def, says_class}
 use Rattle.py_compile.specs.Statements.{Body, inners, armed_count, armed_inner, handled_inner, inner_body, stated, all_stated, stated_arms, stated_handlers, count}
-use Rattle.py_compile.specs.Compounds.{otherwise, tried_of}
+use Rattle.py_compile.specs.inner.Compounds.{otherwise, tried_of}
 use Rattle.py_compile.specs.Whole.{bodies}
 use Rattle.py_compile.proofs.Stateds.{stated_do, stated_assign, stated_augment, stated_print, stated_pass, stated_break, stated_continue, stated_return, stated_raise, stated_del, stated_global, stated_assert, stated_import, stated_from, stated_if, stated_while, stated_for, inner_try, stated_def, stated_class}
 use Rattle.py_compile.proofs.Sane.{sane, sane_some}

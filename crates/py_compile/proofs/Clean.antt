@@ -23,7 +23,7 @@ use Rattle.py_names.specs.Outline.{has, is_none}
 use Rattle.py_compile.specs.Expressions.{sign_number, Place, Spread, NoPlace, Trailed, Attr, Index, Cut, Called, store_at, del_at, add_at, front_of, last_link, key_names, firsts, last_operand, betweens, comparison, links, chain, behind, trailed, place_by, coded, coded_trailer, value, values, all_stored, all_deleted, linked, pairs, key_values, trailers, value_some}
 use Rattle.py_compile.specs.Uses.{Use, Text, Global, Keys, Inside, own_read, name_read, used_trailer, read, target, read_all, target_all, read_some}
 use Rattle.py_compile.proofs.Coded as rows
-use Rattle.py_compile.specs.Tallies.{read_links, read_pairs, read_named, read_trailers}
+use Rattle.py_compile.specs.inner.Tallies.{read_links, read_pairs, read_named, read_trailers}
 use Rattle.py_compile.proofs.Used as uses
 use Rattle.py_compile.proofs.ExprInduct.{Every, IfThere, OfLink, OfNamed, OfPair, expr_induct, every_front, every_back, every_join}
 use Rattle.py_compile.proofs.Homes.{find_some}

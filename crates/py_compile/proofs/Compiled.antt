@@ -13,16 +13,16 @@ use Rattle.py_compile.specs.Template.{Frame, Piece, Op, Sub}
 use Rattle.py_compile.specs.Table.{body_code, module_code}
 use Rattle.py_compile.proofs.Emits.{plain_emitted}
 use Rattle.py_compile.specs.Names.{Known, text}
-use Rattle.py_compile.specs.State.{St, fresh, put, done, places_of, no_frames, Agree, Emitted}
+use Rattle.py_compile.specs.inner.State.{St, fresh, put, done, places_of, no_frames, Agree, Emitted}
 use Rattle.py_compile.specs.Statements.{Body}
-use Rattle.py_compile.specs.Gathered.{body_of, numbered}
+use Rattle.py_compile.specs.inner.Gathered.{body_of, numbered}
 use Rattle.py_compile.specs.Uses.{Use, Text, Global, Keys, with_keys, texts_from, cells_from, keys_from, module_uses}
 use Rattle.py_tree.specs.declared.stmt.Stmt.{Stmt}
 use Rattle.py_compile.specs.declared.tally.Place.{Place}
-use Rattle.py_compile.specs.Tallies.{Listed, Tally, block_uses, bump, done as after, inside, locals_in, tally, tally_one}
+use Rattle.py_compile.specs.inner.Tallies.{Listed, Tally, block_uses, bump, done as after, inside, locals_in, tally, tally_one}
 use Rattle.py_compile.proofs.Tallying.{bump_is}
 use Rattle.py_compile.proofs.UsedStatements.{block}
-use Rattle.py_compile.specs.Compiles.{known_by, known_in}
+use Rattle.py_compile.specs.inner.Bodies.{known_by, known_in}
 use Rattle.py_compile.specs.Whole.{whole, slots_named, code_at, large_at, least, codes_from, large_bodies}
 use Rattle.py_compile.proofs.Gathers.{numbered_more}
 use Rattle.py_code.specs.Right.{class_roots}

@@ -12,10 +12,11 @@ use Rattle.py_tree.specs.declared.stmt.Module.{Module}
 use Rattle.py_compile.specs.declared.bodies.Body.{Body as Gathered}
 use Rattle.py_compile.specs.declared.error.CompileError.{CompileError}
 use Rattle.py_compile.specs.declared.error.CompileError.TheVariants.{Refused, OutOfMemory}
-use Rattle.py_compile.specs.Compiles.{Compiles, CodesOf, Padded, bound_in, known_in}
-use Rattle.py_compile.specs.Gathered.{numbered}
+use Rattle.py_compile.specs.Compiles.{Compiles, bound_in}
+use Rattle.py_compile.specs.inner.Bodies.{CodesOf, Padded, known_in}
+use Rattle.py_compile.specs.inner.Gathered.{numbered}
 use Rattle.py_compile.specs.Statements.{Body}
-use Rattle.py_compile.specs.Tallies.{Listed, Tally, locals_in}
+use Rattle.py_compile.specs.inner.Tallies.{Listed, Tally, locals_in}
 use Rattle.py_compile.specs.Uses.{cells_from, module_uses, texts_from}
 use Rattle.py_compile.specs.Whole.{bodies, codes_from, is_long, large_bodies, names_of, program_of, roots, roots_with, too_large_in, too_many}
 use Rattle.py_compile.proofs.Compiled.{Told, length_numbered, codes_same, large_same}

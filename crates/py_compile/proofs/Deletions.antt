@@ -10,7 +10,7 @@ use Rattle.py_tree.proofs.Heights.{height_group, height_tuple, height_list}
 use Rattle.py_compile.specs.Template.{row}
 use Rattle.py_compile.specs.Names.{Known}
 use Rattle.py_compile.specs.Expressions.{NoPlace, coded, deleted, del_at, all_deleted}
-use Rattle.py_compile.specs.Deletions.{SameDeletions}
+use Rattle.py_compile.specs.inner.Deletions.{SameDeletions}
 use Rattle.py_compile.proofs.Coded.{coded_group, coded_tuple, coded_list, coded_int, coded_str, coded_dict, coded_power, coded_unary, coded_chain, coded_not, coded_choice}
 use Rattle.py_compile.proofs.RowsEqual.{row_flat, row_front}
 

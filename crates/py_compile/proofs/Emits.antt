@@ -7,7 +7,7 @@ use Rattle.py_compile.specs.declared.draft.Draft.{Draft}
 use Rattle.py_compile.specs.declared.draft.Draft.TheVariants.{Op as DraftOp, To as DraftTo}
 use Rattle.py_compile.specs.declared.draft.Far.{Far}
 use Rattle.py_compile.specs.Template.{row, Frame, Piece, Part, Op, Hidden, To, Here, Alone, Sub, part_size, part_slots, part_lines, size_of, slots_of, lines_of, stands, place_of, labels_from, label_at, slot_at, own_slot, part_code, code_of, template}
-use Rattle.py_compile.specs.State.{St, put, marked, opened, jump_of, done_one, done, number, labels_there, frame_there, no_frames, Agree, Emitted}
+use Rattle.py_compile.specs.inner.State.{St, put, marked, opened, jump_of, done_one, done, number, labels_there, frame_there, no_frames, Agree, Emitted}
 use Rattle.py_compile.proofs.Typed.{has_label, all_stand, if_both, stands_below}
 
 -- each label stands once, and below a count

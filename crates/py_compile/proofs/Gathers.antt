@@ -2,7 +2,7 @@
 use Rattle.std.proofs.Common.{◌≡◌, ℕ, ◌+◌, List, [], ◌∷◌, ◌++◌, length, sym, ap, ◌∙◌, append_assoc, append-nil, arith}
 use Rattle.py_compile.specs.declared.bodies.Body.{Body as DeclaredBody}
 use Rattle.py_compile.specs.Statements.{Body, Stated}
-use Rattle.py_compile.specs.Gathered.{body_of, numbered}
+use Rattle.py_compile.specs.inner.Gathered.{body_of, numbered}
 
 pub two : (a b d xs : List Body) (g : ℕ → List Body) (k m n : ℕ) → b ≡ a ++ xs → m ≡ k + n → d ≡ b ++ g m → d ≡ a ++ (xs ++ g (k + n))
 two a b d xs g k m n h e h2 = h2 ∙ ap (λ z. z ++ g m) h ∙ append_assoc a xs (g m) ∙ ap (λ z. a ++ (xs ++ g z)) e

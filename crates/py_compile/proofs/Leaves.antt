@@ -8,8 +8,8 @@ use Rattle.py_compile.specs.declared.around.Way.{Way}
 use Rattle.py_compile.specs.declared.around.Way.TheVariants.{Break, Continue, Out}
 use Rattle.py_compile.specs.Template.{Frame, Piece, Op, Hidden, To, Sub}
 use Rattle.py_compile.specs.Table.{Around, InWhile, InFor, InTry, InClause, InFinally, break_code, continue_code, leaves, raise_again}
-use Rattle.py_compile.specs.Rounds.{leaving}
-use Rattle.py_compile.specs.State.{St, put, Emitted, frame_there}
+use Rattle.py_compile.specs.inner.Rounds.{leaving}
+use Rattle.py_compile.specs.inner.State.{St, put, Emitted, frame_there}
 use Rattle.py_compile.proofs.Emits.{plain_emitted}
 
 pub ok_map : {A E : Type 0} {P Q : A → Type 0} (r : Result A E) → IfOk r P → ((a : A) → P a → Q a) → IfOk r Q

@@ -1,3 +1,4 @@
+pub mod PlanBounds
 pub mod Typed
 pub mod Ops
 pub mod Values

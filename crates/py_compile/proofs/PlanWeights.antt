@@ -9,8 +9,8 @@ use Rattle.py_compile.specs.declared.plan.Plan.TheFolds.{fold-PlanArm, fold-Plan
 use Rattle.py_compile.specs.declared.plan.PlanArm.{PlanArm}
 use Rattle.py_compile.specs.declared.plan.PlanHandler.{PlanHandler}
 use Rattle.py_compile.specs.declared.plan.Simple.{Simple}
-use Rattle.py_compile.specs.Weights.{total}
-use Rattle.py_compile.specs.PlanWeights.{plan_weight_step, plan_arm_step, plan_handler_step, plan_weight, plan_weights, plan_weights_arms, plan_weights_handlers}
+use Rattle.py_compile.specs.inner.Weights.{total}
+use Rattle.py_compile.proofs.PlanBounds.{plan_weight_step, plan_arm_step, plan_handler_step, plan_weight, plan_weights, plan_weights_arms, plan_weights_handlers}
 
 weight_arm : PlanArm → ℕ
 weight_arm = fold-PlanArm ℕ ℕ ℕ plan_weight_step plan_arm_step plan_handler_step

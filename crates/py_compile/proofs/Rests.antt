@@ -3,7 +3,7 @@ use Rattle.std.proofs.Common.{◌≡◌, ℕ, ◌+◌, ◌<◌, ◌≤◌, ◌�
 use Rattle.std.proofs.lemmas.Bool.{cases_lt}
 use Rattle.std.proofs.lemmas.List.{get_or_past}
 use Rattle.py_compile.specs.Template.{Frame, Piece, Sub, lines_of, code_of, row}
-use Rattle.py_compile.specs.State.{St, done, Emitted, Agree}
+use Rattle.py_compile.specs.inner.State.{St, done, Emitted, Agree}
 use Rattle.py_compile.proofs.Emits.{row_none}
 
 -- a piece, and then a row

@@ -16,9 +16,9 @@ use Rattle.py_compile.specs.Table.{Around, InTry, try_except, nothing, expressio
 use Rattle.py_compile.specs.Names.{Known, home}
 use Rattle.py_compile.specs.Expressions.{coded, add_at, operator, value, values, value_some, all_deleted}
 use Rattle.py_compile.specs.Statements.{Stated, Armed, Claused, Handled, still, block, count, inners, armed_count, armed_inner, assigned, printed, raised, asserted, imported, taken_from, deletion, base, defaults, other, finally, inner_body, stmt_step, arm_step, clause_step, handler_step, stated, all_stated, stated_arm, stated_arms, stated_clause, stated_some, stated_block, stated_handler, stated_handlers, handled, handled_count}
-use Rattle.py_compile.specs.Compounds.{otherwise, if_code, while_code, for_code, tried_of}
-use Rattle.py_compile.specs.Weights as w
-use Rattle.py_compile.specs.Weights.{total, weight_step, weight, weights, weights_arms, weights_handlers, weights_some}
+use Rattle.py_compile.specs.inner.Compounds.{otherwise, if_code, while_code, for_code, tried_of}
+use Rattle.py_compile.specs.inner.Weights as w
+use Rattle.py_compile.specs.inner.Weights.{total, weight_step, weight, weights, weights_arms, weights_handlers, weights_some}
 
 folded_arm : Arm → Armed
 folded_arm = fold-Arm Stated Armed Claused Handled stmt_step arm_step clause_step handler_step

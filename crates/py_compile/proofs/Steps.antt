@@ -21,10 +21,10 @@ use Rattle.py_compile.specs.declared.draft.Far.TheVariants.{Always, IfFalse, Kee
 use Rattle.py_compile.specs.Template.{Piece, Op as PutOp, Alone, row}
 use Rattle.py_compile.specs.Table.{load, store, del, nothing, one, one_value, two_values, link, operators, kept, all_kept, between, chained, conditional, attribute, index, slice, call, method_call, built, pair, to_all, add_name, add_attr, add_item}
 use Rattle.py_compile.specs.Names.{Known, home, text, key_list}
-use Rattle.py_compile.specs.State.{St, put, marked, opened, jump_of, frame_there, no_frames, Emitted}
+use Rattle.py_compile.specs.inner.State.{St, put, marked, opened, jump_of, frame_there, no_frames, Emitted}
 use Rattle.py_compile.specs.Expressions.{operator, sign_number, Place, AtName, Spread, NoPlace, Coded, Trailed, Attr, Index, Cut, Called, front_of, store_at, del_at, add_at, name_value, trailed, last_place, place_by, place_of_trail, key_names, chain, coded, coded_trailer, value, stored, deleted, values, all_stored, all_deleted, linked, links, betweens, last_link, pairs, key_values, behind, trailers, value_some}
-use Rattle.py_compile.specs.Tasks.{Todo, Value, Values, Behind, Pairs, Keys, Links, Kept, Between, Store, Stores, Delete, Deletes, Augment, Op, To, Mark, Runs, RunsAll, size, sizes, deciding, deciding_last, linked_one, Leads, bound_task}
-use Rattle.py_compile.specs.TaskWeights.{weight, weights, weight_some, task_weight, all_weights, Advances, Splits}
+use Rattle.py_compile.specs.inner.Tasks.{Todo, Value, Values, Behind, Pairs, Keys, Links, Kept, Between, Store, Stores, Delete, Deletes, Augment, Op, To, Mark, Runs, RunsAll, size, sizes, deciding, deciding_last, linked_one, Leads, bound_task}
+use Rattle.py_compile.specs.inner.TaskWeights.{weight, weights, weight_some, task_weight, all_weights, Advances, Splits}
 use Rattle.py_compile.proofs.TaskWeights.{weight_name, weight_int, weight_str, weight_group, weight_tuple, weight_list, weight_dict, weight_trail, weight_power, weight_unary, weight_chain, weight_not, weight_choice, weight_attribute, weight_index, weight_slice, weight_call, weight_pos, weights_last}
 use Rattle.py_compile.proofs.Emits.{plain_emitted, row_none}
 use Rattle.py_compile.proofs.Rests.{row_cons}

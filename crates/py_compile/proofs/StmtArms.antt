@@ -11,9 +11,9 @@ use Rattle.py_compile.specs.Table.{also, assign, expression, print_one, print_li
 use Rattle.py_compile.specs.Names.{Known}
 use Rattle.py_compile.specs.Expressions.{value, stored}
 use Rattle.py_compile.specs.Statements.{deletion, clause}
-use Rattle.py_compile.specs.State.{St, put, marked, opened, Emitted, no_frames, frame_there}
-use Rattle.py_compile.specs.Partly.{Puts}
-use Rattle.py_compile.specs.Heads.{HandlerHead, HandlerTail}
+use Rattle.py_compile.specs.inner.State.{St, put, marked, opened, Emitted, no_frames, frame_there}
+use Rattle.py_compile.specs.inner.Partly.{Puts}
+use Rattle.py_compile.specs.inner.Heads.{HandlerHead, HandlerTail}
 use Rattle.py_tree.specs.declared.expr.Expr.{Expr}
 use Rattle.py_compile.proofs.Emits.{template_emitted, plain_emitted}
 

@@ -2,7 +2,7 @@
 use Rattle.std.proofs.Common.{◌≡◌, ℕ, zero, suc, ◌+◌, List, [], ◌∷◌, ◌++◌, refl, sym, ap, ◌∙◌, arith, Bool}
 use Rattle.py_compile.specs.declared.tally.Place.{Place}
 use Rattle.py_compile.specs.Uses.{Use, Text, Global, Keys, Inside, Uses, in_turn, body_used}
-use Rattle.py_compile.specs.Tallies.{Tally, tally, tally_one, bump, done, inside, locals_in}
+use Rattle.py_compile.specs.inner.Tallies.{Tally, tally, tally_one, bump, done, inside, locals_in}
 
 pub tally_append : (t : Tally) (us vs : List Use) → tally t (us ++ vs) ≡ tally (tally t us) vs
 tally_append t [] vs = refl

@@ -11,7 +11,7 @@ use Rattle.py_tree.specs.declared.expr.Expr.TheVariants as e
 use Rattle.py_tree.specs.declared.expr.Trailer.TheVariants as t
 use Rattle.py_tree.specs.declared.expr.Expr.TheOpen as open'
 use Rattle.py_tree.specs.declared.expr.Expr.TheFolds.{fold-roll-Expr, fold-roll-Trailer, fold_out-Expr, fold_out-Link, fold_out-Named, fold_out-Pair}
-use Rattle.py_compile.specs.TaskWeights.{row_weight, expr_step, link_step, pair_step, trailer_step, named_step, weight, weight_trailer, weight_link, weight_named, weight_pair, weights, weights_links, weights_named, weights_pairs, weights_trailers, weight_some}
+use Rattle.py_compile.specs.inner.TaskWeights.{row_weight, expr_step, link_step, pair_step, trailer_step, named_step, weight, weight_trailer, weight_link, weight_named, weight_pair, weights, weights_links, weights_named, weights_pairs, weights_trailers, weight_some}
 
 link : (l : Link) → weight_link l ≡ weight l.operand + 6
 unfolding weight_link weight

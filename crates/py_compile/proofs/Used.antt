@@ -15,7 +15,7 @@ use Rattle.py_tree.proofs.Heights.{height_group, height_tuple, height_list, heig
 use Rattle.py_compile.specs.declared.uses.Role.{Role}
 use Rattle.py_compile.specs.declared.uses.Role.TheVariants.{Read, Target}
 use Rattle.py_compile.specs.Expressions.{key_names}
-use Rattle.py_compile.specs.Tallies.{told, told_all, read_links, read_named, read_pairs, read_trailers}
+use Rattle.py_compile.specs.inner.Tallies.{told, told_all, read_links, read_named, read_pairs, read_trailers}
 use Rattle.py_compile.specs.Uses.{Use, Text, Keys, Inside, name_read, name_bound, joined, Used, only, reads, targets, expr_step, trailer_step, link_step, named_step, pair_step, used, used_trailer, read, target, read_all, target_all, read_some}
 
 link : Inside → Link → List Use

@@ -13,7 +13,7 @@ use Rattle.py_tree.specs.declared.stmt.Stmt.TheOpen as open'
 use Rattle.py_tree.specs.declared.stmt.Stmt.TheFolds.{fold-Arm, fold-Clause, fold-Handler, fold-roll-Stmt, fold_out-Arm, fold_out-Clause, fold_out-Handler}
 use Rattle.py_tree.proofs.Talls.{tall_if, tall_while, tall_for, tall_try, tall_def, tall_class}
 use Rattle.py_compile.specs.Uses.{Uses, name_bound, read, target, read_all, target_all, read_some, target_some, read_defaults, import_use, quiet, in_turn, none_used, all_in_turn, body_used, stmt_step, arm_step, clause_step, handler_step, stmt_uses}
-use Rattle.py_compile.specs.Tallies.{locals_in, block_uses, arm_uses, arms_uses, clause_uses, handler_uses, handlers_uses}
+use Rattle.py_compile.specs.inner.Tallies.{locals_in, block_uses, arm_uses, arms_uses, clause_uses, handler_uses, handlers_uses}
 
 module _ (all : List (List (List ℕ))) where
   abbrev L : ℕ → List (List ℕ)

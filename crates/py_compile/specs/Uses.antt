@@ -1,5 +1,5 @@
--- What a module uses of roots and keyword lists, in the order of the text, and the numbers that these get. States
--- `docs/LANGUAGE.md`, "Names in code".
+-- What a module uses of roots and keyword lists, in the order of the text, and the numbers that these get.
+-- States `docs/LANGUAGE.md`, "Names in code".
 use Rattle.std.specs.Prelude.{ℕ, ◌+◌, ◌==◌, List, [], ◌∷◌, ◌++◌, Option, Some, None, Bool, true, false, if◌then◌else◌, map}
 use Rattle.std.specs.List.{list_any}
 use Rattle.py_tree.specs.declared.expr.Expr.{Expr}

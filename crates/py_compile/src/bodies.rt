@@ -1,9 +1,9 @@
 //! The bodies of a module, in the order of the text, and how many stand in a block.
 ghost use Rattle.std.specs.Prelude.{◌≡◌, ◌+◌, ◌++◌, IfOk, OnOk, length, [], ◌∷◌};
-ghost use Rattle.py_compile.specs.Compounds.{otherwise, tried_of};
-ghost use Rattle.py_compile.specs.Gathered.{numbered};
+ghost use Rattle.py_compile.specs.inner.Compounds.{otherwise, tried_of};
+ghost use Rattle.py_compile.specs.inner.Gathered.{numbered};
 ghost use Rattle.py_compile.specs.Statements.{all_stated, armed_count, armed_inner, count, handled_count, handled_inner, stated, stated_arms, stated_block, stated_handlers};
-ghost use Rattle.py_compile.specs.Weights.{weights, weights_some};
+ghost use Rattle.py_compile.specs.inner.Weights.{weights, weights_some};
 
 use crate::count::to_u32;
 use py_base::{NoMemory, split};

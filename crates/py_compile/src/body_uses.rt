@@ -1,6 +1,6 @@
 //! What statements use of strings, global names and keyword lists, in the order of the text.
 ghost use Rattle.std.specs.Prelude.{◌≡◌, [], IfOk, OnOk};
-ghost use Rattle.py_compile.specs.Tallies.{Listed, arm_uses, arms_uses, block_uses, clause_uses, done, handler_uses, handlers_uses, inside, locals_in, tally};
+ghost use Rattle.py_compile.specs.inner.Tallies.{Listed, arm_uses, arms_uses, block_uses, clause_uses, done, handler_uses, handlers_uses, inside, locals_in, tally};
 ghost use Rattle.py_compile.specs.Uses.{cells_from, import_use, module_uses, read_defaults, stmt_uses, texts_from};
 
 use crate::simple::bound_name;

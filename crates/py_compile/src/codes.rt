@@ -1,10 +1,10 @@
 //! The codes of a program.
 ghost use Rattle.std.specs.Prelude.{◌≡◌, ◌<◌, ◌≤◌, ◌+◌, ◌^◌, ◌++◌, ◌∷◌, [], length, map, replicate, Err, IfOk, OnOk, None, Some};
-ghost use Rattle.py_compile.specs.Compiles.{CodesOf, known_by, known_in};
+ghost use Rattle.py_compile.specs.inner.Bodies.{CodesOf, known_by, known_in};
 ghost use Rattle.py_compile.specs.Expressions.{key_names};
-ghost use Rattle.py_compile.specs.Gathered.{body_of, numbered};
+ghost use Rattle.py_compile.specs.inner.Gathered.{body_of, numbered};
 ghost use Rattle.py_compile.specs.Names.{first_cell, text};
-ghost use Rattle.py_compile.specs.State.{Emitted, no_frames};
+ghost use Rattle.py_compile.specs.inner.State.{Emitted, no_frames};
 ghost use Rattle.py_compile.specs.Statements.{stated_block};
 ghost use Rattle.py_compile.specs.Table.{body_code, module_code};
 ghost use Rattle.py_compile.specs.Whole.{code_at, large_at, least, slots_named, whole};

@@ -2,8 +2,9 @@
 ghost use Rattle.std.specs.Prelude.{◌≡◌, [], IfOk, OnOk};
 ghost use Rattle.std.specs.List.{list_any};
 ghost use Rattle.py_code.specs.Right.{IsRightProgram};
-ghost use Rattle.py_compile.specs.Compiles.{Compiles, Padded, bound_in, once_from};
-ghost use Rattle.py_compile.specs.Gathered.{numbered};
+ghost use Rattle.py_compile.specs.Compiles.{Compiles, bound_in, once_from};
+ghost use Rattle.py_compile.specs.inner.Bodies.{Padded};
+ghost use Rattle.py_compile.specs.inner.Gathered.{numbered};
 ghost use Rattle.py_compile.specs.Resolved.{IsResolved};
 ghost use Rattle.py_compile.specs.Whole.{bodies, is_long};
 

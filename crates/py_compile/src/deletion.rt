@@ -1,6 +1,6 @@
 //! The targets of a `del`, one by one.
 ghost use Rattle.std.specs.Prelude.{◌≡◌, ◌++◌, ◌∷◌, [], map, IfOk, OnOk};
-ghost use Rattle.py_compile.specs.Deletions.{SameDeletions};
+ghost use Rattle.py_compile.specs.inner.Deletions.{SameDeletions};
 
 use py_base::{NoMemory, split};
 use py_tree::Expr;

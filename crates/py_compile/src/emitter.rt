@@ -1,7 +1,7 @@
 //! The list of drafts that grows.
 
 ghost use Rattle.std.specs.Prelude.{◌≡◌, ◌<◌, ◌≤◌, ◌+◌, ◌^◌, IfOk, length, Err, get_or};
-ghost use Rattle.py_compile.specs.State.{St, fresh, put, marked, opened, done, done_one, places_of, jump_of};
+ghost use Rattle.py_compile.specs.inner.State.{St, fresh, put, marked, opened, done, done_one, places_of, jump_of};
 
 use crate::draft::{Draft, Far};
 use crate::error::Fault;

@@ -4,10 +4,10 @@ ghost use Rattle.py_code.specs.declared.instr.Instr.TheVariants.{ExcMatch, Iter,
 ghost use Rattle.py_compile.specs.declared.draft.Draft.TheVariants.{Op as DraftOp, To as DraftTo};
 ghost use Rattle.py_compile.specs.declared.draft.Far.TheVariants.{Always, Trying};
 ghost use Rattle.py_compile.specs.Template.{Alone, Frame, Here, Hidden, Op, To};
-ghost use Rattle.py_compile.specs.State.{St, frame_there, marked, opened, put};
-ghost use Rattle.py_compile.specs.Partly.{Puts};
+ghost use Rattle.py_compile.specs.inner.State.{St, frame_there, marked, opened, put};
+ghost use Rattle.py_compile.specs.inner.Partly.{Puts};
 ghost use Rattle.py_compile.specs.Expressions.{stored, value, value_some};
-ghost use Rattle.py_compile.specs.Heads.{HandlerHead, handler_size, HandlerTail};
+ghost use Rattle.py_compile.specs.inner.Heads.{HandlerHead, handler_size, HandlerTail};
 
 use crate::draft::{Draft, Far};
 use crate::emitter::Emitter;

@@ -5,9 +5,9 @@ ghost use Rattle.py_compile.specs.declared.draft.Draft.TheVariants.{Op as DraftO
 ghost use Rattle.py_compile.specs.declared.draft.Far.TheVariants.{Always};
 ghost use Rattle.py_compile.specs.Expressions.{value_some};
 ghost use Rattle.py_compile.specs.Names.{Known};
-ghost use Rattle.py_compile.specs.Plans.{for_plan, finally_plan, if_plan, planned, planned_all, planned_arms, planned_block, planned_handlers, simple_stmt, try_plan, while_plan};
-ghost use Rattle.py_compile.specs.Rounds.{around_of, env_of, leaving};
-ghost use Rattle.py_compile.specs.State.{Emitted, frame_there, put};
+ghost use Rattle.py_compile.specs.inner.Plans.{for_plan, finally_plan, if_plan, planned, planned_all, planned_arms, planned_block, planned_handlers, simple_stmt, try_plan, while_plan};
+ghost use Rattle.py_compile.specs.inner.Rounds.{around_of, env_of, leaving};
+ghost use Rattle.py_compile.specs.inner.State.{Emitted, frame_there, put};
 ghost use Rattle.py_compile.specs.Statements.{raised, stated};
 ghost use Rattle.py_compile.specs.Table.{raise_again, return};
 ghost use Rattle.py_compile.specs.Template.{row};

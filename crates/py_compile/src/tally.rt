@@ -2,7 +2,7 @@
 ghost use Rattle.std.specs.Prelude.{◌≡◌, ◌<◌, ◌∷◌, [], get_or, length, replicate, IfOk, OnOk};
 ghost use Rattle.py_compile.specs.Expressions.{key_names};
 ghost use Rattle.py_names.specs.Outline.{has};
-ghost use Rattle.py_compile.specs.Tallies.{bump, inside, tally};
+ghost use Rattle.py_compile.specs.inner.Tallies.{bump, inside, tally};
 ghost use Rattle.py_compile.specs.Uses.{Keys, Text, name_bound, name_read};
 
 use crate::expression::is_none;
@@ -24,7 +24,7 @@ pub struct Tally<'a> {
 }
 
 impl<'a> Model for Tally<'a> {
-    ghost use Rattle.py_compile.specs.Tallies.{Tally};
+    ghost use Rattle.py_compile.specs.inner.Tallies.{Tally};
 
     ghost Value = { Tally };
 

@@ -4,9 +4,9 @@ ghost use Rattle.std.specs.Prelude.{◌≡◌, ◌<◌, ◌+◌, ◌∷◌, ◌+
 ghost use Rattle.py_code.specs.declared.instr.Instr.TheVariants.{Dup, Dup2, InPlace, LoadAttr, LoadItem, Rot2, Rot3, StoreAttr, StoreItem, Unpack};
 ghost use Rattle.py_compile.specs.Expressions.{add_at, coded, deleted, operator, stored, value};
 ghost use Rattle.py_compile.specs.Names.{Known};
-ghost use Rattle.py_compile.specs.State.{Emitted, no_frames};
-ghost use Rattle.py_compile.specs.Tasks.{Augment, Behind, Delete, Deletes, Op, Store, Stores, Value};
-ghost use Rattle.py_compile.specs.TaskWeights.{Splits};
+ghost use Rattle.py_compile.specs.inner.State.{Emitted, no_frames};
+ghost use Rattle.py_compile.specs.inner.Tasks.{Augment, Behind, Delete, Deletes, Op, Store, Stores, Value};
+ghost use Rattle.py_compile.specs.inner.TaskWeights.{Splits};
 ghost use Rattle.py_tree.specs.declared.expr.Expr.TheVariants.{Trail};
 
 use crate::count::to_u32;

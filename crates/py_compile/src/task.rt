@@ -1,7 +1,7 @@
 //! What is still to be emitted of an expression or a target: a stack of tasks.
 
 ghost use Rattle.std.specs.Prelude.{◌≡◌, ◌∷◌, [], Err, IfOk, MatchOption};
-ghost use Rattle.py_compile.specs.Tasks.{plain};
+ghost use Rattle.py_compile.specs.inner.Tasks.{plain};
 
 use crate::draft::Far;
 use crate::error::Fault;
@@ -62,7 +62,7 @@ impl<'a> Model for Tasks<'a> {
     ghost use Rattle.py_tree.specs.contracts.expr.Named as named;
     ghost use Rattle.py_tree.specs.contracts.expr.Pair as pair;
     ghost use Rattle.py_tree.specs.contracts.expr.Trailer as trailer;
-    ghost use Rattle.py_compile.specs.Tasks.{Todo, plain};
+    ghost use Rattle.py_compile.specs.inner.Tasks.{Todo, plain};
 
     ghost Value = { List Todo };
 

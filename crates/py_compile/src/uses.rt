@@ -1,6 +1,6 @@
 //! What expressions use of strings, global names and keyword lists, in the order of the text.
 ghost use Rattle.std.specs.Prelude.{◌≡◌, ◌++◌, OnOk};
-ghost use Rattle.py_compile.specs.Tallies.{inside, read_links, read_named, read_pairs, read_trailers, tally, told, told_all, told_some};
+ghost use Rattle.py_compile.specs.inner.Tallies.{inside, read_links, read_named, read_pairs, read_trailers, tally, told, told_all, told_some};
 ghost use Rattle.py_compile.specs.Uses.{read_some, used_trailer};
 
 use crate::tally::{Place, Tally};

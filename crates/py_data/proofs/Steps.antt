@@ -9,7 +9,7 @@ use Rattle.py_data.specs.declared.change.Change.{Change}
 use Rattle.py_data.specs.Changes.{after, Allows, Suits}
 use Rattle.py_data.specs.Row.{Call, Reply, Row, Ret, Do, Read, Edit, bind}
 use Rattle.py_data.specs.Sense.{Sense, Lawful, Asks, Safe, Run, Meets, IsLive}
-use Rattle.py_data.specs.Rest.{Leads, Stands}
+use Rattle.py_data.specs.inner.Rest.{Leads, Stands}
 use Rattle.py_data.proofs.Rows.{run-bind, stop-first, stop-then, meets-ret, meets-own, meets-refused, meets-do, safe-asks, safe-next}
 
 pub as-err : {A : Type 0} (res : Result A Stop) (e : Stop) → IsErrAnd res (λ x. x ≡ e) → res ≡ Err e

@@ -1,4 +1,4 @@
--- Addresses as the numbers that names are.
+-- Addresses as the numbers that names are. States `docs/HEAP.md`, "Records".
 use Rattle.std.specs.Prelude.{ℕ, List, map}
 use Rattle.py_data.specs.declared.value.Addr.{Addr}
 

@@ -1,5 +1,5 @@
--- What a row can do at most, and in what sense it does the same over another heap that agrees where it looks. States
--- `docs/HEAP.md`, "Rows" and "Tracked and fixed records".
+-- What a row can do at most, and in what sense it does the same over another heap that agrees where it looks.
+-- States `docs/HEAP.md`, "Rows" and "Tracked and fixed records".
 use Rattle.std.specs.Prelude.{◌≡◌, ℕ, ◌≤◌, Bool, true, false, ◌||◌, List, [], ◌++◌, Some, None}
 use Rattle.py_data.specs.Heap.{Heap, Marks, Rec, is_tracked}
 use Rattle.py_data.specs.Row.{Row}

@@ -6,7 +6,6 @@ pub mod Range
 pub mod Shape
 pub mod Made
 pub mod Changes
-pub mod Entry
 pub mod Undo
 pub mod Fault
 pub mod Closed
@@ -21,9 +20,9 @@ pub mod Sense
 pub mod Holds
 pub mod Looking
 pub mod Steady
-pub mod Rest
 pub mod World
 pub mod Sight
 pub mod Frames
 pub mod Laws
 pub mod OrderLaws
+pub mod inner

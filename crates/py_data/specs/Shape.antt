@@ -1,5 +1,5 @@
--- Which values can be keys, when two keys are equal, and the shape of the values of each kind of record. States
--- `docs/HEAP.md`, "Keys" and "Shapes".
+-- Which values can be keys, when two keys are equal, and the shape of the values of each kind of record.
+-- States `docs/HEAP.md`, "Keys" and "Shapes".
 use Rattle.std.specs.Prelude.{nat_eq, ◌≡◌, ◌≢◌, ℕ, ℤ, pos, ◌+◌, ◌≤◌, Bool, true, false, cond, List, [], ◌∷◌, Option, Some, None, eqb}
 use Rattle.std.specs.Ordering.{int_eq}
 use lib.Pointwise.{pointwise}

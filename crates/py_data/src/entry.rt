@@ -28,7 +28,7 @@ pub struct Entry {
 impl Model for Entry {
     ghost use Rattle.std.specs.Prelude.{vec_capacity};
     ghost use Rattle.py_data.specs.Heap.{Rec};
-    ghost use Rattle.py_data.specs.Entry.{IsEntry};
+    ghost use Rattle.py_data.specs.inner.Entry.{IsEntry};
 
     ghost Value = { Rec };
 

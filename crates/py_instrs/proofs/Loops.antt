@@ -2,7 +2,7 @@
 use Rattle.std.proofs.Common.{arith, ◌≡◌, ℕ, ◌-◌, false, not, sym, subst}
 use Rattle.py_data.specs.Looking.{until_row}
 use Rattle.py_data.specs.Sense.{Sense, Safe, IsLive}
-use Rattle.py_data.specs.Rest.{Leads}
+use Rattle.py_data.specs.inner.Rest.{Leads}
 use Rattle.py_data.proofs.Steps.{leads-begin}
 use Rattle.py_frames.specs.RaiseRows.{place_catches, some_catches}
 

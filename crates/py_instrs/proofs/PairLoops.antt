@@ -6,7 +6,7 @@ use Rattle.py_data.specs.declared.record.Fault.{Fault}
 use Rattle.py_data.specs.declared.record.Got.{Got}
 use Rattle.py_data.specs.declared.record.Got.TheVariants.{Is, Raise}
 use Rattle.py_data.specs.Looking.{got_row}
-use Rattle.py_data.specs.Rest.{Leads}
+use Rattle.py_data.specs.inner.Rest.{Leads}
 use Rattle.py_data.specs.Row.{Row, Ret, bind}
 use Rattle.py_data.specs.Sense.{Sense, Lawful, Safe, Meets}
 use Rattle.py_data.proofs.Steps.{leads-call, leads-call-stop, leads-ret, safe-first}

@@ -5,7 +5,7 @@ use Rattle.py_data.specs.declared.stop.Stop.TheVariants.{OutOfMemory}
 use Rattle.py_data.specs.declared.value.Value.{Value}
 use Rattle.py_data.specs.Row.{Row, bind}
 use Rattle.py_data.specs.Sense.{Sense, Lawful, Safe, Meets, IsLive}
-use Rattle.py_data.specs.Rest.{Leads}
+use Rattle.py_data.specs.inner.Rest.{Leads}
 use Rattle.py_data.proofs.Steps.{leads-begin, leads-call, leads-call-stop, leads-ret, leads-own, safe-first}
 use Rattle.py_code.specs.declared.program.Root.{Root}
 use Rattle.py_frames.specs.SetupRows.{root_by, roots_row}

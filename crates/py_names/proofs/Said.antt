@@ -14,7 +14,7 @@ use Rattle.py_tree.specs.declared.expr.Expr.TheFolds.{fold-roll-Expr, fold-roll-
 use Rattle.py_tree.proofs.Heights.{height_group, height_tuple, height_list, height_dict, height_trail, height_power, height_unary, height_chain, height_not, height_choice, height_index, height_slice, height_call}
 use Rattle.py_names.specs.declared.expression.Role.{Role}
 use Rattle.py_names.specs.declared.expression.Role.TheVariants.{Read, Target}
-use Rattle.py_names.specs.Roles.{told}
+use Rattle.py_names.specs.inner.Roles.{told}
 use Rattle.py_names.specs.declared.event.Event.{Event}
 use Rattle.py_names.specs.Outline.{joined, used_name, bound_name, with_name, label, repeated, Said, plain, reads, targets, keywords, expr_step, trailer_step, link_step, named_step, pair_step, said, said_trailer, read, target, read_all, target_all, read_some, read_links, read_pairs, read_trailers, read_keywords}
 

@@ -9,7 +9,7 @@ use Rattle.py_names.specs.declared.event.Event.TheVariants.{Enter, Leave, Takes,
 use Rattle.py_names.specs.Scopes.{Names, names_from, names_after, no_names, Placed, placed, bodies, said_in, is_first, scope_of, body, first_fault, fault, AreScopes}
 use Rattle.py_base.specs.declared.refusal.Refusal.{Refusal}
 use Rattle.py_names.specs.declared.scope.Scope.{Scope}
-use Rattle.py_names.specs.Tables.{at, told, tables_by}
+use Rattle.py_names.specs.inner.Tables.{at, told, tables_by}
 
 -- all bodies of the list are below n
 abbrev pub Below : ℕ → List ℕ → Type 0

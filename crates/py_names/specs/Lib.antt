@@ -1,6 +1,5 @@
 pub mod Outline
-pub mod Roles
 pub mod Scopes
-pub mod Tables
 pub mod ScopeLaws
 pub mod Resolves
+pub mod inner

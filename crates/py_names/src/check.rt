@@ -3,7 +3,7 @@ ghost use Rattle.std.specs.Prelude.{◌≡◌, ◌+◌, ◌<◌, ◌^◌, ◌&&�
 ghost use Rattle.std.specs.List.{list_any};
 ghost use Rattle.py_names.specs.Outline.{has};
 ghost use Rattle.py_names.specs.Scopes.{bodies_after, first_fault, inside_after, is_closure, is_function, is_local, is_parameter, placed, refused};
-ghost use Rattle.py_names.specs.Tables.{at};
+ghost use Rattle.py_names.specs.inner.Tables.{at};
 
 use crate::event::Event;
 use crate::nest::Nest;

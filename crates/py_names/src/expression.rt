@@ -1,7 +1,7 @@
 //! What expressions say about names.
 ghost use Rattle.std.specs.Prelude.{◌≡◌, ◌++◌, ◌∷◌, [], MatchOption, OnOk};
 ghost use Rattle.py_names.specs.Outline.{read_keywords, read_links, read_pairs, read_some, read_trailers, said_trailer};
-ghost use Rattle.py_names.specs.Roles.{told, told_all};
+ghost use Rattle.py_names.specs.inner.Roles.{told, told_all};
 
 use crate::names::NameSet;
 use crate::outline::Outline;

@@ -1,7 +1,7 @@
 //! The tables of all bodies, and the scopes that they give.
 ghost use Rattle.std.specs.Prelude.{◌≡◌, ◌++◌, ◌∷◌, [], length, filter, map, IfOk, OnOk};
 ghost use Rattle.py_names.specs.Scopes.{inside_after, names_after, no_names, scope_of};
-ghost use Rattle.py_names.specs.Tables.{chooses, tables_after, tables_by, told};
+ghost use Rattle.py_names.specs.inner.Tables.{chooses, tables_after, tables_by, told};
 
 use crate::event::Event;
 use crate::nest::Nest;

@@ -3,7 +3,7 @@ ghost use Rattle.std.specs.Prelude.{◌≡◌, ◌++◌, ◌∷◌, [], map, OnO
 ghost use Rattle.py_names.specs.declared.event.BodyKind.TheVariants as kind;
 ghost use Rattle.py_names.specs.declared.event.Event.TheVariants.{Enter};
 ghost use Rattle.py_names.specs.Outline.{bound_name, declared, imported, imported_name, inside_clause, inside_finally, inside_loop, parameters, raises, read_some, says, says_block, says_arm, says_arms, says_clause, says_handler, says_handlers, takes};
-ghost use Rattle.py_names.specs.Roles.{told_some};
+ghost use Rattle.py_names.specs.inner.Roles.{told_some};
 
 use crate::event::{BodyKind, Event};
 use crate::expression::{Role, expression, expressions};

@@ -24,10 +24,10 @@ use Rattle.py_parser.specs.Words.{below, sign_word}
 use Rattle.py_parser.specs.Grammar as G
 use Rattle.py_parser.specs.Grammar.{Marks, Is, Strings, Tests, Commas}
 use Rattle.py_parser.specs.declared.tall.Tall.{Tall}
-use Rattle.py_parser.specs.Tall.{plain, push, none, start, joined, of_group, of_tuple, of_list, of_trail, of_power, of_chain, of_choice}
-use Rattle.py_parser.specs.Follow.{stops}
-use Rattle.py_parser.specs.Reading.{Reads, Test, ◌>>=◌, first, rest, is_op, is_some, starts, comes, keyword_at, rung_of, trail_at, power_at, chain_at, choice_at, reads}
-use Rattle.py_parser.specs.Aiming.{after_rung, grown_at, grows, risen_at, element_at, fine, next_at, elements_at, closed_at, round_rest, aim_round, list_rest, aim_list, aim_atom, aim_at}
+use Rattle.py_parser.specs.inner.Tall.{plain, push, none, start, joined, of_group, of_tuple, of_list, of_trail, of_power, of_chain, of_choice}
+use Rattle.py_parser.specs.inner.Follow.{stops}
+use Rattle.py_parser.specs.inner.Reading.{Reads, Test, ◌>>=◌, first, rest, is_op, is_some, starts, comes, keyword_at, rung_of, trail_at, power_at, chain_at, choice_at, reads}
+use Rattle.py_parser.specs.inner.Aiming.{after_rung, grown_at, grows, risen_at, element_at, fine, next_at, elements_at, closed_at, round_rest, aim_round, list_rest, aim_list, aim_atom, aim_at}
 use Rattle.py_parser.proofs.Steps.{of, Reaches, then_reads, at_same, trail_quiet}
 use Rattle.py_parser.proofs.Facts.{no, not_op, not_keyword, stops_down, takes_not, rung_below}
 use Rattle.py_parser.proofs.Values.{plus_tests, push_tests, plus_links, plus_trailers, all_joined, as_name, as_group, as_unit, as_no_list, as_tuple, as_list, as_power, as_chain, as_choice}

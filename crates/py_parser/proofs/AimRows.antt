@@ -8,8 +8,8 @@ use Rattle.py_tokens.specs.Place.{token_at as at}
 use Rattle.py_base.specs.declared.refusal.Construct.TheVariants as left
 use Rattle.py_parser.specs.declared.fault.Fault.{Fault}
 use Rattle.py_parser.specs.declared.fault.Fault.TheVariants.{Unexpected, LeftOut, Deep}
-use Rattle.py_parser.specs.Reading.{op_at, keyword_at, name_at, strings_at, tests_at, round_at, list_at, pairs_at, dict_at, atom_at, named_at, args_at, slice_at, subscript_at, call_at, trailer_at, trailers_at, trail_at, power_at, links_at, chain_at, choice_at, after_at, level_at, reads, Reads}
-use Rattle.py_parser.specs.Aiming.{grown_at, risen_at, element_at, next_at, elements_at, closed_at, aim_round, aim_list, aim_at}
+use Rattle.py_parser.specs.inner.Reading.{op_at, keyword_at, name_at, strings_at, tests_at, round_at, list_at, pairs_at, dict_at, atom_at, named_at, args_at, slice_at, subscript_at, call_at, trailer_at, trailers_at, trail_at, power_at, links_at, chain_at, choice_at, after_at, level_at, reads, Reads}
+use Rattle.py_parser.specs.inner.Aiming.{grown_at, risen_at, element_at, next_at, elements_at, closed_at, aim_round, aim_list, aim_at}
 
 -- a token
 abbrev tk : TokenKind → Token

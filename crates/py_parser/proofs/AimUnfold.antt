@@ -7,10 +7,10 @@ use Rattle.py_parser.specs.declared.fault.Fault.TheVariants.{Deep}
 use Rattle.py_parser.specs.declared.rung.Rung.{Rung}
 use Rattle.py_parser.specs.declared.rung.Rung.TheVariants.{Trailed, Powered, Signed, Chained, Negated, Chosen, Listed}
 use Rattle.py_parser.specs.declared.tall.Tall.{Tall}
-use Rattle.py_parser.specs.AimPieces.{aimed_at}
-use Rattle.py_parser.specs.Aiming.{after_rung, grown_at, grows, risen_at, aim_at}
-use Rattle.py_parser.specs.Follow.{takes}
-use Rattle.py_parser.specs.Reading.{◌>>=◌, Below, first, too_deep, rung_of, power_at, chain_at, choice_at, reads}
+use Rattle.py_parser.specs.inner.AimPieces.{aimed_at}
+use Rattle.py_parser.specs.inner.Aiming.{after_rung, grown_at, grows, risen_at, aim_at}
+use Rattle.py_parser.specs.inner.Follow.{takes}
+use Rattle.py_parser.specs.inner.Reading.{◌>>=◌, Below, first, too_deep, rung_of, power_at, chain_at, choice_at, reads}
 use Rattle.py_parser.proofs.Facts.{no}
 use Rattle.py_parser.proofs.AimedInside.{after_none}
 

@@ -25,10 +25,10 @@ use Rattle.py_parser.specs.Words.{below}
 use Rattle.py_parser.specs.Grammar as G
 use Rattle.py_parser.specs.Grammar.{Marks, Is, Tests, Commas, Trailers, Trails}
 use Rattle.py_parser.specs.declared.tall.Tall.{Tall}
-use Rattle.py_parser.specs.Tall.{plain, of_trail}
-use Rattle.py_parser.specs.Follow.{takes}
-use Rattle.py_parser.specs.Reading.{Reads, Reader, Test, Below, first, is_some, links, operator_of, rung_of, trails, trail_at}
-use Rattle.py_parser.specs.Aiming.{after_rung, grown_at, grows}
+use Rattle.py_parser.specs.inner.Tall.{plain, of_trail}
+use Rattle.py_parser.specs.inner.Follow.{takes}
+use Rattle.py_parser.specs.inner.Reading.{Reads, Reader, Test, Below, first, is_some, links, operator_of, rung_of, trails, trail_at}
+use Rattle.py_parser.specs.inner.Aiming.{after_rung, grown_at, grows}
 use Rattle.py_parser.proofs.Steps.{of}
 use Rattle.py_parser.proofs.Facts.{no, below_small}
 use Rattle.py_parser.proofs.Values.{plus_trailers, as_trail}

@@ -20,9 +20,9 @@ use Rattle.py_parser.specs.Codes as c
 use Rattle.py_parser.specs.Grammar as G
 use Rattle.py_parser.specs.Grammar.{Marks, Is}
 use Rattle.py_parser.specs.declared.tall.Tall.{Tall}
-use Rattle.py_parser.specs.Tall.{none, start as start', joined, of_group, of_tuple, of_list}
-use Rattle.py_parser.specs.Reading.{Test, ◌>>=◌, first, rest, is_op, is_keyword, starts, left_at, no_start, trail_at, reads}
-use Rattle.py_parser.specs.Aiming.{closed_at, round_rest, aim_round, list_rest, aim_list, aim_atom, aim_at}
+use Rattle.py_parser.specs.inner.Tall.{none, start as start', joined, of_group, of_tuple, of_list}
+use Rattle.py_parser.specs.inner.Reading.{Test, ◌>>=◌, first, rest, is_op, is_keyword, starts, left_at, no_start, trail_at, reads}
+use Rattle.py_parser.specs.inner.Aiming.{closed_at, round_rest, aim_round, list_rest, aim_list, aim_atom, aim_at}
 use Rattle.py_parser.proofs.Steps.{of}
 use Rattle.py_parser.proofs.Facts.{no}
 use Rattle.py_parser.proofs.Complete.{tests_nil}

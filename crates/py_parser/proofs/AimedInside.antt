@@ -17,10 +17,10 @@ use Rattle.py_parser.specs.Codes as c
 use Rattle.py_parser.specs.Grammar as G
 use Rattle.py_parser.specs.Grammar.{Marks, Is}
 use Rattle.py_parser.specs.declared.tall.Tall.{Tall}
-use Rattle.py_parser.specs.Tall.{push, joined}
-use Rattle.py_parser.specs.Follow.{takes}
-use Rattle.py_parser.specs.Reading.{Test, ◌>>=◌, Below, first, rest, is_op, starts, comes, rung_of, power_at, chain_at, choice_at, reads}
-use Rattle.py_parser.specs.Aiming.{after_rung, grown_at, grows, risen_at, element_at, fine, next_at, elements_at, closing_at, closed_at}
+use Rattle.py_parser.specs.inner.Tall.{push, joined}
+use Rattle.py_parser.specs.inner.Follow.{takes}
+use Rattle.py_parser.specs.inner.Reading.{Test, ◌>>=◌, Below, first, rest, is_op, starts, comes, rung_of, power_at, chain_at, choice_at, reads}
+use Rattle.py_parser.specs.inner.Aiming.{after_rung, grown_at, grows, risen_at, element_at, fine, next_at, elements_at, closing_at, closed_at}
 use Rattle.py_parser.proofs.Steps.{of}
 use Rattle.py_parser.proofs.Facts.{no}
 use Rattle.py_parser.proofs.Complete.{tests_nil}

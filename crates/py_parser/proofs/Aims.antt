@@ -13,10 +13,10 @@ use Rattle.py_parser.specs.declared.fault.Fault.TheVariants.{Unexpected, LeftOut
 use Rattle.py_parser.specs.Codes as c
 use Rattle.py_parser.specs.Grammar.{Marks, Is}
 use Rattle.py_parser.specs.declared.tall.Tall.{Tall}
-use Rattle.py_parser.specs.Aiming.{readers}
-use Rattle.py_parser.specs.Reading.{first}
+use Rattle.py_parser.specs.inner.Aiming.{readers}
+use Rattle.py_parser.specs.inner.Reading.{first}
 use Rattle.py_parser.specs.Statements.{Target}
-use Rattle.py_parser.specs.Lines.{checked, Stop}
+use Rattle.py_parser.specs.inner.Lines.{checked, Stop}
 use Rattle.py_parser.proofs.Steps.{of}
 use Rattle.py_parser.proofs.Facts.{no}
 use Rattle.py_parser.proofs.Told.{low, marked, Opens, near, more, Told, told_done, told_refused, told_left, told_same, told_bind, on, move}

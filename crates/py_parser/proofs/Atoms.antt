@@ -18,8 +18,8 @@ use Rattle.py_parser.specs.Codes as c
 use Rattle.py_parser.specs.Grammar as G
 use Rattle.py_parser.specs.Grammar.{Marks, Is, Strings, Tests, Commas, Exprs, Pairs, Links, Trailers, Trails, Maybe, Args}
 use Rattle.py_parser.specs.declared.tall.Tall.{Tall}
-use Rattle.py_parser.specs.Tall.{plain, start, push_pair, of_string, of_tuple, of_list, of_dict}
-use Rattle.py_parser.specs.Reading.{no_start, Test, Below, first, rest, is_op, is_keyword, comes, left_at, is_some, atom_at, round_at, round_close, list_at, list_close, dict_at, dict_close, dict_value, atom_of, pairs_at}
+use Rattle.py_parser.specs.inner.Tall.{plain, start, push_pair, of_string, of_tuple, of_list, of_dict}
+use Rattle.py_parser.specs.inner.Reading.{no_start, Test, Below, first, rest, is_op, is_keyword, comes, left_at, is_some, atom_at, round_at, round_close, list_at, list_close, dict_at, dict_close, dict_value, atom_of, pairs_at}
 use Rattle.py_parser.proofs.Steps.{of}
 use Rattle.py_parser.proofs.Facts.{no, some_inj}
 use Rattle.py_parser.proofs.Complete.{pairs_nil, s_pairs_end}

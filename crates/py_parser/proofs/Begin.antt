@@ -13,18 +13,18 @@ use Rattle.py_parser.specs.declared.fault.Fault.TheVariants.{LeftOut}
 use Rattle.py_parser.specs.Words.{below}
 use Rattle.py_parser.specs.Grammar.{Marks}
 use Rattle.py_parser.specs.declared.tall.Tall.{Tall}
-use Rattle.py_parser.specs.Tall.{plain, push, none, start, of_name, of_int, of_string, unit, of_tuple, of_list, of_dict, of_trail, of_power, of_sign, of_chain, of_not, of_choice}
+use Rattle.py_parser.specs.inner.Tall.{plain, push, none, start, of_name, of_int, of_string, unit, of_tuple, of_list, of_dict, of_trail, of_power, of_sign, of_chain, of_not, of_choice}
 use Rattle.py_tree.specs.declared.expr.Sign.{Sign}
 use Rattle.py_tree.specs.declared.expr.Sign.TheVariants as sign
 use Rattle.py_parser.specs.declared.rung.Rung.TheVariants.{Negated}
-use Rattle.py_parser.specs.Reading.{Reads, Test, ◌>>=◌, Below, first, rest, is_op, comes, left_at, is_some, rung_at, atom_at, trail_at, power_at, chain_at, choice_at, after_at, signed, sign_of, trails, links, links_at}
+use Rattle.py_parser.specs.inner.Reading.{Reads, Test, ◌>>=◌, Below, first, rest, is_op, comes, left_at, is_some, rung_at, atom_at, trail_at, power_at, chain_at, choice_at, after_at, signed, sign_of, trails, links, links_at}
 use Rattle.py_parser.proofs.Steps.{Reaches, at_same, or_left}
 use Rattle.py_parser.proofs.Facts.{no, comes_at, not_op, not_keyword, takes_not, not_true}
-use Rattle.py_parser.specs.Follow.{stops}
+use Rattle.py_parser.specs.inner.Follow.{stops}
 use Rattle.py_parser.specs.Words.{sign_word}
 use Rattle.py_parser.specs.Grammar as G
 use Rattle.py_parser.specs.Grammar.{Is, Strings, Tests, Commas, Exprs, Pairs, Links, Trailers, Trails, Maybe, Args}
-use Rattle.py_parser.specs.Reading.{round_at, round_close, list_at, list_close, dict_at, dict_value, tests_at, strings_at, op_at, keyword_at, trailers_at, string_of, is_unicode}
+use Rattle.py_parser.specs.inner.Reading.{round_at, round_close, list_at, list_close, dict_at, dict_value, tests_at, strings_at, op_at, keyword_at, trailers_at, string_of, is_unicode}
 use Rattle.py_parser.specs.Codes as c
 use Rattle.py_base.specs.declared.refusal.Construct.TheVariants as left
 

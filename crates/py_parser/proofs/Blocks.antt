@@ -10,16 +10,16 @@ use Rattle.py_tree.specs.Height.{height}
 use Rattle.py_parser.specs.declared.fault.Fault.TheVariants.{LeftOut, Deep}
 use Rattle.py_parser.specs.Grammar.{Marks}
 use Rattle.py_parser.specs.declared.tall.Tall.{Tall}
-use Rattle.py_parser.specs.Tall.{push, start, of_tuple}
+use Rattle.py_parser.specs.inner.Tall.{push, start, of_tuple}
 use Rattle.py_tree.specs.Height.{tops}
 use Rattle.py_tree.proofs.Heights as hh
 use Rattle.std.proofs.Common.{map}
-use Rattle.py_parser.specs.Aiming.{Readers, readers}
-use Rattle.py_parser.specs.Reading.{Reads, ◌>>=◌, first, rest, is_op, is_keyword, comes, is_some}
+use Rattle.py_parser.specs.inner.Aiming.{Readers, readers}
+use Rattle.py_parser.specs.inner.Reading.{Reads, ◌>>=◌, first, rest, is_op, is_keyword, comes, is_some}
 use Rattle.py_parser.proofs.Steps.{of, Reaches, then_reads, at_same}
 use Rattle.py_parser.proofs.Facts.{no, apart, not_true}
 use Rattle.py_parser.proofs.Values.{plus_tests, push_tests, of_or, same, as_tuple}
-use Rattle.py_parser.specs.Follow.{stops}
+use Rattle.py_parser.specs.inner.Follow.{stops}
 use Rattle.py_parser.proofs.Begin.{Headed, headed, more_headed, begin, as_value, long}
 use Rattle.py_parser.proofs.Simple.{slack, exprs_headed, stray, line_first, stray_newline, complete_line, complete_target}
 use Rattle.py_tree.specs.declared.stmt.Param.{Param}
@@ -30,15 +30,15 @@ use Rattle.py_parser.proofs.Complete.{complete, complete_exprs, tests_nil}
 use Rattle.py_parser.specs.Grammar as G
 use Rattle.py_parser.specs.Statements as S
 use Rattle.py_parser.specs.Statements.{slices, Target, Targets, Simple, Line, Parameter, Later, Parameters, Params, Base, Caught, Loops, Statement, Suite as Suites, Block, Elifs, Else, Finally, Excepts, Compound, Body}
-use Rattle.py_parser.specs.Lines.{ends_loop, ends_caught, target_at, loops_at, loop_at, maybe_at, is_newline, is_dedent, plain_at, line_at, Suite, body_at, arm_at, elifs_at, clause_at, caught_at, handler_at, handlers_at, try_at, param_at, params_at, def_at, base_at, class_at, Parts, statement_by, statement_at, suite_at, block_at, line_of_at, statements_at}
+use Rattle.py_parser.specs.inner.Lines.{ends_loop, ends_caught, target_at, loops_at, loop_at, maybe_at, is_newline, is_dedent, plain_at, line_at, Suite, body_at, arm_at, elifs_at, clause_at, caught_at, handler_at, handlers_at, try_at, param_at, params_at, def_at, base_at, class_at, Parts, statement_by, statement_at, suite_at, block_at, line_of_at, statements_at}
 use Rattle.py_tree.specs.declared.stmt.Stmt.{Stmt}
 use Rattle.py_tree.specs.declared.stmt.Stmt.TheVariants as st
 use Rattle.py_tree.specs.Tall.{tall, talls, tall_arms, tall_clause, tall_handlers, defaults}
-use Rattle.py_parser.specs.Tall.{tree_or}
+use Rattle.py_parser.specs.inner.Tall.{tree_or}
 use Rattle.py_tree.proofs.Talls as ht
 use Rattle.py_parser.specs.Grammar.{Is, Strings, Tests, Commas, Exprs, Pairs, Links, Trailers, Trails, Maybe, Args}
 use Rattle.py_tree.specs.Height.{top_or, highest}
-use Rattle.py_parser.specs.Reading.{op_at, keyword_at, name_at}
+use Rattle.py_parser.specs.inner.Reading.{op_at, keyword_at, name_at}
 use Rattle.py_parser.specs.Codes as c
 use Rattle.py_base.specs.declared.refusal.Construct.TheVariants as left
 

@@ -8,20 +8,20 @@ use Rattle.py_tokens.specs.Place.{token_at as at}
 use Rattle.py_parser.specs.declared.fault.Fault.TheVariants.{Deep}
 use Rattle.py_parser.specs.Codes as c
 use Rattle.py_parser.specs.Grammar.{Marks}
-use Rattle.py_parser.specs.Aiming.{readers}
-use Rattle.py_parser.specs.Reading.{rest}
+use Rattle.py_parser.specs.inner.Aiming.{readers}
+use Rattle.py_parser.specs.inner.Reading.{rest}
 use Rattle.py_parser.proofs.Facts.{no}
 use Rattle.py_parser.proofs.Told.{Mode, low, Fits, Opens, cut, more, Told, told_done, told_if, told_post, told_take, told_bind, on, here}
 use Rattle.py_parser.proofs.Tells.{p0}
 use Rattle.py_parser.specs.Statements as S
 use Rattle.py_parser.specs.Statements.{slices, Target, Targets, Loops, Equals}
-use Rattle.py_parser.specs.Lines.{is_newline}
+use Rattle.py_parser.specs.inner.Lines.{is_newline}
 use Rattle.py_parser.specs.Statements.{Names, Renamed, Imports, Simple}
 use Rattle.py_tree.specs.declared.stmt.Stmt.{Stmt}
 use Rattle.py_tree.specs.Tall.{talls}
 use Rattle.py_parser.proofs.Simples.{Targeting}
 use Rattle.py_parser.specs.Statements.{Line, Parameter, Later, Parameters, Params, Base, Caught, Statement, Suite as Suites, Block, Elifs, Else, Finally, Excepts, Compound}
-use Rattle.py_parser.specs.Lines.{is_end, Suite, block_at, line_of_at, statements_at, body_more}
+use Rattle.py_parser.specs.inner.Lines.{is_end, Suite, block_at, line_of_at, statements_at, body_more}
 use Rattle.py_tree.specs.declared.stmt.Arm.{Arm}
 use Rattle.py_tree.specs.declared.stmt.Clause.{Clause}
 use Rattle.py_tree.specs.declared.stmt.Handler.{Handler}

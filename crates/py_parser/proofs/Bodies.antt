@@ -12,8 +12,8 @@ use Rattle.py_tree.proofs.Heights as hh
 use Rattle.py_base.specs.declared.refusal.Construct.TheVariants as left
 use Rattle.py_parser.specs.Codes as c
 use Rattle.py_parser.specs.Grammar.{Marks, Is}
-use Rattle.py_parser.specs.Aiming.{Readers}
-use Rattle.py_parser.specs.Reading.{Reads, ◌>>=◌, first, rest, is_op, is_keyword, comes, is_some}
+use Rattle.py_parser.specs.inner.Aiming.{Readers}
+use Rattle.py_parser.specs.inner.Reading.{Reads, ◌>>=◌, first, rest, is_op, is_keyword, comes, is_some}
 use Rattle.py_parser.proofs.Facts.{no}
 use Rattle.py_parser.proofs.Begin.{long}
 use Rattle.py_parser.proofs.Told.{Mode, low, marked, Fits, Opens, with_none, more, Told, told_done, told_ends, told_refused, told_if, told_post, told_take, told_word, told_bind, told_map, told_when, on, here, move, there}
@@ -21,11 +21,11 @@ use Rattle.py_parser.proofs.Tells.{only_op, only_keyword, told_read, told_need, 
 use Rattle.py_parser.proofs.Atoms.{either}
 use Rattle.py_parser.specs.Statements as S
 use Rattle.py_parser.specs.Statements.{slices, Target, Targets, Loops, Equals}
-use Rattle.py_parser.specs.Lines.{ends_caught, is_newline}
+use Rattle.py_parser.specs.inner.Lines.{ends_caught, is_newline}
 use Rattle.py_parser.proofs.Targets.{TellExprs, word_target}
 use Rattle.py_parser.proofs.Simple.{exprs_headed}
 use Rattle.py_parser.specs.Statements.{Names, Renamed, Imports, Simple}
-use Rattle.py_parser.specs.Lines.{simple_at}
+use Rattle.py_parser.specs.inner.Lines.{simple_at}
 use Rattle.py_tree.specs.declared.stmt.Stmt.{Stmt}
 use Rattle.py_tree.specs.declared.stmt.Stmt.TheVariants as st
 use Rattle.py_tree.specs.Tall.{tall, talls}
@@ -33,7 +33,7 @@ use Rattle.py_tree.proofs.Talls as ht
 use Rattle.py_parser.proofs.Simples.{Lowers, Targeting, told_target}
 use Rattle.py_parser.proofs.Worded.{tell_simple}
 use Rattle.py_parser.specs.Statements.{Line, Parameter, Later, Parameters, Params, Base, Caught, Statement, Suite as Suites, Block, Elifs, Else, Finally, Excepts, Compound}
-use Rattle.py_parser.specs.Lines.{is_indent, plain_at, line_more, line_at, Suite, body_at, arm_at, elifs_at, clause_at, caught_at, handler_at, handlers_at, try_at}
+use Rattle.py_parser.specs.inner.Lines.{is_indent, plain_at, line_more, line_at, Suite, body_at, arm_at, elifs_at, clause_at, caught_at, handler_at, handlers_at, try_at}
 use Rattle.py_tree.specs.declared.stmt.Arm.{Arm}
 use Rattle.py_tree.specs.declared.stmt.Clause.{Clause}
 use Rattle.py_tree.specs.declared.stmt.Handler.{Handler}

@@ -16,7 +16,7 @@ use Rattle.py_parser.specs.declared.fault.Fault.TheVariants.{LeftOut}
 use Rattle.py_parser.specs.Words.{below, level_of}
 use Rattle.py_parser.specs.Grammar.{Marks}
 use Rattle.py_parser.specs.declared.tall.Tall.{Tall}
-use Rattle.py_parser.specs.Tall.{plain, push, none, start, push_link, push_pair, push_named, push_trailer, of_name, of_string, of_tuple, of_list, of_dict, of_trail, of_power, of_sign, of_chain, of_not, of_choice, of_attribute, of_index, of_slice, of_call}
+use Rattle.py_parser.specs.inner.Tall.{plain, push, none, start, push_link, push_pair, push_named, push_trailer, of_name, of_string, of_tuple, of_list, of_dict, of_trail, of_power, of_sign, of_chain, of_not, of_choice, of_attribute, of_index, of_slice, of_call}
 use Rattle.py_tree.specs.Height.{tops, tops_links, tops_pairs, tops_named, tops_trailers, height_trailer}
 use Rattle.py_tree.proofs.Heights as hh
 use Rattle.py_tree.specs.declared.form.Form.{Form}
@@ -28,17 +28,17 @@ use Rattle.py_tree.specs.declared.expr.Named.{Named}
 use Rattle.py_tree.specs.declared.expr.Trailer.{Trailer}
 use Rattle.py_tree.specs.declared.expr.Trailer.TheVariants as t
 use Rattle.py_parser.specs.declared.rung.Rung.TheVariants.{Chosen}
-use Rattle.py_parser.specs.Reading.{Reads, Test, ◌>>=◌, Below, first, rest, is_op, is_keyword, comes, is_some, rung_of, rung_at, reads, atom_at, trail_at, power_at, chain_at, choice_at, after_at, trails, links, links_at}
+use Rattle.py_parser.specs.inner.Reading.{Reads, Test, ◌>>=◌, Below, first, rest, is_op, is_keyword, comes, is_some, rung_of, rung_at, reads, atom_at, trail_at, power_at, chain_at, choice_at, after_at, trails, links, links_at}
 use Rattle.py_parser.proofs.Steps.{of, Reaches, then_reads, at_same, reads_atom, reads_up, quiet, after_quiet, none_of}
 use Rattle.py_parser.proofs.Facts.{no, no_head, not_op, not_keyword, stops_down, takes_not, rung_below, word_stops, word_links, operator_step}
 use Rattle.py_parser.proofs.Values.{plus_tests, push_tests, plus_links, push_links, plus_pairs, push_pairs, plus_named, push_nameds, plus_trailers, push_trailers, of_r, of_or, same, as_name, as_int, as_string, as_group, as_unit, as_tuple, as_no_list, as_list, as_dict, as_trail, as_power, as_sign, as_chain, as_not, as_choice, as_attribute, as_index, as_slice, as_call}
-use Rattle.py_parser.specs.Follow.{stops, takes}
+use Rattle.py_parser.specs.inner.Follow.{stops, takes}
 use Rattle.py_parser.specs.Words.{spelled}
 use Rattle.py_parser.proofs.Begin.{Headed, tests_headed, begin_op, more_headed, commas_headed, headed, begin, long, as_value, s_name, s_int, s_string, s_other, s_backquote, s_unit, s_yield, s_no_list, s_no_dict, s_round, s_list, s_dict, s_op, s_else, s_trail, s_power, s_sign, s_not, s_chain, s_choice, s_after, s_tests, s_tests_end, s_tests_comma, no_comma, no_test, s_strings_end, complete_strings}
 use Rattle.py_parser.specs.Grammar as G
 use Rattle.py_parser.specs.Grammar.{Is, Strings, Tests, Commas, Exprs, Pairs, Links, Trailers, Trails, Maybe, Args}
 use Rattle.py_tree.specs.Height.{top_or}
-use Rattle.py_parser.specs.Reading.{is_bare, is_none, linked, operator_of, round_close, list_close, dict_close, dict_value, tests_at, pairs_at, op_at, keyword_at, name_at, trailers_at, trailer_at, subscript_at, index_close, slice_at, slice_close, call_at, args_at, arg_by, named_at, keyed}
+use Rattle.py_parser.specs.inner.Reading.{is_bare, is_none, linked, operator_of, round_close, list_close, dict_close, dict_value, tests_at, pairs_at, op_at, keyword_at, name_at, trailers_at, trailer_at, subscript_at, index_close, slice_at, slice_close, call_at, args_at, arg_by, named_at, keyed}
 use Rattle.py_parser.specs.Codes as c
 use Rattle.py_base.specs.declared.refusal.Construct.TheVariants as left
 

@@ -16,9 +16,9 @@ use Rattle.py_parser.specs.Codes as c
 use Rattle.py_parser.specs.Grammar as G
 use Rattle.py_parser.specs.Grammar.{Marks, Is, Strings, Tests, Commas, Exprs, Pairs, Links, Trailers, Trails, Maybe, Args}
 use Rattle.py_parser.specs.declared.tall.Tall.{Tall}
-use Rattle.py_parser.specs.Tall.{tree_or, push, start as start', of_tuple}
-use Rattle.py_parser.specs.Aiming.{Readers}
-use Rattle.py_parser.specs.Reading.{◌>>=◌, first, is_op, is_keyword, comes, is_some, op_at}
+use Rattle.py_parser.specs.inner.Tall.{tree_or, push, start as start', of_tuple}
+use Rattle.py_parser.specs.inner.Aiming.{Readers}
+use Rattle.py_parser.specs.inner.Reading.{◌>>=◌, first, is_op, is_keyword, comes, is_some, op_at}
 use Rattle.py_parser.proofs.Steps.{of}
 use Rattle.py_parser.proofs.Facts.{no}
 use Rattle.py_parser.proofs.Complete.{tests_nil}
@@ -28,7 +28,7 @@ use Rattle.py_parser.proofs.Tells.{only_op, only_keyword, told_need, told_need_n
 use Rattle.py_parser.proofs.Atoms.{either}
 use Rattle.py_parser.specs.Statements as S
 use Rattle.py_parser.specs.Statements.{slices, Target, Targets, Loops, Equals}
-use Rattle.py_parser.specs.Lines.{loops_at, loop_at, maybe_at, ends_loop}
+use Rattle.py_parser.specs.inner.Lines.{loops_at, loop_at, maybe_at, ends_loop}
 use Rattle.py_parser.specs.Statements.{Names, Renamed, Imports, Simple}
 use Rattle.py_tree.specs.declared.stmt.Stmt.{Stmt}
 use Rattle.py_tree.specs.declared.stmt.Stmt.TheVariants as st
@@ -36,7 +36,7 @@ use Rattle.py_tree.specs.Tall.{tall}
 use Rattle.py_tree.proofs.Talls as ht
 use Rattle.py_parser.proofs.Simples.{Lowers, Targeting, told_target, FollowTargets, no_target, another, then_targets}
 use Rattle.py_parser.specs.Statements.{Line, Parameter, Later, Parameters, Params, Base, Caught, Statement, Suite as Suites, Block, Elifs, Else, Finally, Excepts, Compound}
-use Rattle.py_parser.specs.Lines.{Suite, param_at, params_at, def_at, base_at, class_at}
+use Rattle.py_parser.specs.inner.Lines.{Suite, param_at, params_at, def_at, base_at, class_at}
 use Rattle.py_tree.specs.declared.stmt.Param.{Param}
 use Rattle.py_tree.specs.Tall.{tall_block, defaults}
 use Rattle.py_parser.proofs.Bodies.{TellBlock, body0, pass0, block0, tall0, told_body}

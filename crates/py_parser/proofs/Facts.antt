@@ -14,12 +14,12 @@ use Rattle.py_base.specs.declared.refusal.Construct.{Construct}
 use Rattle.py_parser.specs.Words.{below, level_of, first_word}
 use Rattle.py_parser.specs.declared.tall.Tall.{Tall}
 use Rattle.py_parser.specs.declared.rung.Rung.TheVariants.{Chained}
-use Rattle.py_parser.specs.Reading.{Reader, Test, ◌>>=◌, first, is_op, is_keyword, comes, starts, is_some, rung_of, sign_of, links}
-use Rattle.py_parser.specs.Tall.{push_link}
+use Rattle.py_parser.specs.inner.Reading.{Reader, Test, ◌>>=◌, first, is_op, is_keyword, comes, starts, is_some, rung_of, sign_of, links}
+use Rattle.py_parser.specs.inner.Tall.{push_link}
 use Rattle.py_parser.specs.Words.{spelled}
-use Rattle.py_parser.specs.Reading.{linked, operator_of, operator_rest, keyword_at}
+use Rattle.py_parser.specs.inner.Reading.{linked, operator_of, operator_rest, keyword_at}
 use Rattle.py_tree.specs.declared.expr.Link.{Link}
-use Rattle.py_parser.specs.Follow.{takes, heads, stops}
+use Rattle.py_parser.specs.inner.Follow.{takes, heads, stops}
 
 -- ---- truth values
 

@@ -26,14 +26,14 @@ use Rattle.py_parser.specs.Words.{more_words, below, sign_word}
 use Rattle.py_parser.specs.Grammar as G
 use Rattle.py_parser.specs.Grammar.{Marks, Is, Strings, Tests, Commas, Exprs, Pairs, Links, Trailers, Trails, Maybe, Args}
 use Rattle.py_parser.specs.declared.tall.Tall.{Tall}
-use Rattle.py_parser.specs.Tall.{plain, start as start', of_tuple, of_power, of_sign, of_chain, of_not, of_choice}
+use Rattle.py_parser.specs.inner.Tall.{plain, start as start', of_tuple, of_power, of_sign, of_chain, of_not, of_choice}
 use Rattle.py_parser.specs.declared.rung.Rung.{Rung}
 use Rattle.py_parser.specs.declared.rung.Rung.TheVariants.{Trailed, Powered, Signed, Chained, Negated, Chosen, Listed}
-use Rattle.py_parser.specs.Reading.{operator_of, too_deep, no_start, Test, ◌>>=◌, Below, first, is_op, is_keyword, starts, left_at, is_some, rung_of, rung_at, level_at, reads, atom_at, trail_at, power_at, chain_at, choice_at, after_at, signed, sign_of, links, links_at, atom_of}
+use Rattle.py_parser.specs.inner.Reading.{operator_of, too_deep, no_start, Test, ◌>>=◌, Below, first, is_op, is_keyword, starts, left_at, is_some, rung_of, rung_at, level_at, reads, atom_at, trail_at, power_at, chain_at, choice_at, after_at, signed, sign_of, links, links_at, atom_of}
 use Rattle.py_parser.proofs.Steps.{of, none_of}
 use Rattle.py_parser.proofs.Facts.{or_mono, and_mono, below_small, no, some_inj}
 use Rattle.py_parser.proofs.Values.{plus_links, as_tuple, as_power, as_sign, as_chain, as_not, as_choice}
-use Rattle.py_parser.specs.Follow.{heads}
+use Rattle.py_parser.specs.inner.Follow.{heads}
 use Rattle.py_parser.proofs.Told.{Stays, Beyond, Mode, any, low, marked, Fits, Opens, alone, same_first, more, Told, told_done, told_left, told_if, told_deep, told_post, told_take, told_word, told_map, told_kind, on, here, move, bare, there}
 use Rattle.py_parser.proofs.Tells.{only_op, only_keyword, Hole, Read, Tell, told_read, told_need_word, p0, word, is_word, free, length_after, trailing, AfterTest, itself, tupled, tell_commas}
 use Rattle.py_parser.proofs.Atoms.{tell_atom, Unders, lift, left_start, either}

@@ -15,8 +15,8 @@ use Rattle.py_tree.specs.declared.stmt.Arm.{Arm}
 use Rattle.py_tree.specs.declared.stmt.Clause.{Clause}
 use Rattle.py_tree.specs.declared.stmt.Handler.{Handler}
 use Rattle.py_tree.specs.Lexeme.{Lexeme, lexeme}
-use Rattle.py_tree.specs.Laid.{Stand, brackets, IsLaid, has_number}
-use Rattle.py_tree.specs.Laid.Stand.{Start, Indented, Dedented, Within}
+use Rattle.py_tree.specs.inner.Laid.{Stand, brackets, IsLaid, has_number}
+use Rattle.py_tree.specs.inner.Laid.Stand.{Start, Indented, Dedented, Within}
 use Rattle.py_tree.specs.Spelling.{Words, commas, round, words}
 use Rattle.py_tree.specs.Canonical as n
 use Rattle.py_tree.specs.Canonical.{Piece, piece, pieces, on, newline, ending, in_order, begins_on, block_lexemes, head, expr_or, led_or, param_words, base_words, lexemes}

@@ -7,8 +7,8 @@ use Rattle.py_tokens.specs.declared.token.TokenKind.{TokenKind}
 use Rattle.py_tokens.specs.declared.token.TokenKind.TheVariants as k
 use Rattle.py_tree.specs.declared.stmt.Stmt.{Stmt}
 use Rattle.py_tree.specs.Lexeme.{Lexeme}
-use Rattle.py_tree.specs.Laid.{IsWord, Stand, brackets, after_word, MayClose, Stands, IsLaid}
-use Rattle.py_tree.specs.Laid.Stand.{Start, Indented, Dedented, Within}
+use Rattle.py_tree.specs.inner.Laid.{IsWord, Stand, brackets, after_word, MayClose, Stands, IsLaid}
+use Rattle.py_tree.specs.inner.Laid.Stand.{Start, Indented, Dedented, Within}
 use Rattle.py_tree.specs.Spelling.{Words}
 use Rattle.py_tree.specs.Canonical as n
 use Rattle.py_tree.specs.Canonical.{Piece, piece, pieces, on, newline, ending, in_order, begins_on, block_lexemes, head}

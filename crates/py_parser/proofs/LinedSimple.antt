@@ -14,7 +14,7 @@ use Rattle.py_tree.specs.declared.expr.Sign.TheVariants as sign
 use Rattle.py_tree.specs.declared.stmt.Stmt.{Stmt}
 use Rattle.py_tree.specs.declared.stmt.Stmt.TheVariants as s
 use Rattle.py_tree.specs.declared.stmt.Imported.{Imported}
-use Rattle.py_tree.specs.Laid.{IsWord, after_word}
+use Rattle.py_tree.specs.inner.Laid.{IsWord, after_word}
 use Rattle.py_tree.specs.Spelling.{Words, words}
 use Rattle.py_tree.specs.Canonical as n
 use Rattle.py_tree.specs.Canonical.{Piece, piece, ended, expr_or, led_or, assigning, trailing, name_words, bound_words, imported_words}

@@ -8,15 +8,15 @@ use Rattle.py_tokens.specs.Place.{token_at as at}
 use Rattle.py_base.specs.declared.refusal.Construct.TheVariants as left
 use Rattle.py_parser.specs.Codes as c
 use Rattle.py_parser.specs.Grammar.{Marks}
-use Rattle.py_parser.specs.Aiming.{readers}
-use Rattle.py_parser.specs.Reading.{first}
+use Rattle.py_parser.specs.inner.Aiming.{readers}
+use Rattle.py_parser.specs.inner.Reading.{first}
 use Rattle.py_parser.proofs.Facts.{no}
 use Rattle.py_parser.proofs.Told.{Mode, any, low, marked, Fits, Opens, more, Told, told_done, told_left, told_deep, told_post, told_take, told_word, told_bind, told_map, told_case, told_when, told_kind, on, here}
 use Rattle.py_parser.proofs.Tells.{p0, word, is_word, free}
 use Rattle.py_parser.proofs.Atoms.{either}
 use Rattle.py_parser.specs.Statements as S
 use Rattle.py_parser.specs.Statements.{slices, Target, Targets, Loops, Equals}
-use Rattle.py_parser.specs.Lines.{is_newline}
+use Rattle.py_parser.specs.inner.Lines.{is_newline}
 use Rattle.py_parser.proofs.Targets.{exprs_word, word_target}
 use Rattle.py_parser.specs.Statements.{Names, Renamed, Imports, Simple}
 use Rattle.py_tree.specs.declared.stmt.Stmt.{Stmt}
@@ -24,7 +24,7 @@ use Rattle.py_tree.specs.declared.stmt.Stmt.TheVariants as st
 use Rattle.py_tree.specs.Tall.{tall, talls}
 use Rattle.py_parser.proofs.Simples.{Lowers, Targeting}
 use Rattle.py_parser.specs.Statements.{Line, Parameter, Later, Parameters, Params, Base, Caught, Statement, Suite as Suites, Block, Elifs, Else, Finally, Excepts, Compound}
-use Rattle.py_parser.specs.Lines.{is_indent, is_dedent, line_at, Suite, Parts, compound_at, is_compound, statement_by, statement_at, suite_at, block_at}
+use Rattle.py_parser.specs.inner.Lines.{is_indent, is_dedent, line_at, Suite, Parts, compound_at, is_compound, statement_by, statement_at, suite_at, block_at}
 use Rattle.py_parser.proofs.Blocks.{talls_append}
 use Rattle.py_parser.proofs.Bodies.{only_newline, only_indent, told_plain, TellBlock, body0, pass0, block0, tall0}
 use Rattle.py_parser.proofs.Bodies.{tell_line}

@@ -23,7 +23,7 @@ use Rattle.py_parser.specs.Statements.{Names, Renamed, Imports, Simple}
 use Rattle.py_tree.specs.declared.stmt.Stmt.{Stmt}
 use Rattle.py_tree.specs.declared.stmt.Imported.{Imported}
 use Rattle.py_parser.specs.Statements.{Line, Parameter, Later, Parameters, Params, Base, Caught, Statement, Suite as Suites, Block, Elifs, Else, Finally, Excepts, Compound}
-use Rattle.py_parser.specs.Lines.{is_end}
+use Rattle.py_parser.specs.inner.Lines.{is_end}
 use Rattle.py_tree.specs.declared.stmt.Param.{Param}
 use Rattle.py_tree.specs.declared.stmt.Arm.{Arm}
 use Rattle.py_tree.specs.declared.stmt.Clause.{Clause}

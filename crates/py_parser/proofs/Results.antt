@@ -14,8 +14,8 @@ use Rattle.py_parser.specs.Grammar.{Marks}
 use Rattle.py_parser.specs.Statements as S
 use Rattle.py_parser.specs.Statements.{Body, IsModule}
 use Rattle.py_parser.specs.Words.{line_of}
-use Rattle.py_parser.specs.Reading.{Reads, ◌>>=◌, is_some}
-use Rattle.py_parser.specs.Lines.{statements_at, body_more, module_at}
+use Rattle.py_parser.specs.inner.Reading.{Reads, ◌>>=◌, is_some}
+use Rattle.py_parser.specs.inner.Lines.{statements_at, body_more, module_at}
 use Rattle.py_parser.specs.Refused.{Begins, BeginsWith, Because, RefusedAt, EndsOnce}
 use Rattle.py_parser.proofs.Steps.{Reaches}
 use Rattle.py_parser.proofs.Facts.{no}
@@ -23,7 +23,7 @@ use Rattle.py_parser.proofs.Simple.{slack}
 use Rattle.py_parser.proofs.Blocks.{highest_talls}
 use Rattle.py_parser.proofs.Whole.{complete_body, only}
 use Rattle.py_parser.specs.Parses.{Parses}
-use Rattle.py_parser.specs.Outcome.{Fails}
+use Rattle.py_parser.specs.inner.Outcome.{Fails}
 use Rattle.py_parser.specs.declared.error.ParseError.{ParseError}
 use Rattle.py_parser.specs.declared.error.ParseError.TheVariants.{Refused, OutOfMemory}
 use Rattle.py_parser.proofs.Told.{Beyond, any, Opens, SameFirst, more, more_is, Stays, Told, Stopped}
@@ -31,7 +31,7 @@ use Rattle.py_parser.proofs.NoEnd.{NoEnd, nil, step, no2, no_Statement}
 use Rattle.py_parser.proofs.Steps.{or_left}
 use Rattle.py_parser.proofs.Begin.{or_right}
 use Rattle.py_parser.proofs.Aims.{aims}
-use Rattle.py_parser.specs.Lines.{is_end}
+use Rattle.py_parser.specs.inner.Lines.{is_end}
 use Rattle.py_parser.proofs.Bodied.{Targets', BodyHole, tell_body}
 
 targets : (w y g : ℕ) → Targets' w y g

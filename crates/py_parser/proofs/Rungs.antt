@@ -20,8 +20,8 @@ use Rattle.py_parser.specs.Words.{more_words, below, level_of, first_word, spell
 use Rattle.py_parser.specs.Grammar as G
 use Rattle.py_parser.specs.Grammar.{Marks, Is, Strings, Tests, Commas, Exprs, Pairs, Links, Trailers, Trails, Maybe, Args}
 use Rattle.py_parser.specs.declared.tall.Tall.{Tall}
-use Rattle.py_parser.specs.Tall.{push_link}
-use Rattle.py_parser.specs.Reading.{linked, operator_of, operator_rest, Test, first, is_keyword, is_some, links, links_at}
+use Rattle.py_parser.specs.inner.Tall.{push_link}
+use Rattle.py_parser.specs.inner.Reading.{linked, operator_of, operator_rest, Test, first, is_keyword, is_some, links, links_at}
 use Rattle.py_parser.proofs.Steps.{of}
 use Rattle.py_parser.proofs.Facts.{word_links, below_small, no, some_inj}
 use Rattle.py_parser.proofs.Complete.{links_nil, s_links_end}

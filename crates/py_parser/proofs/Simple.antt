@@ -13,24 +13,24 @@ use Rattle.py_tree.specs.Form.{form}
 use Rattle.py_parser.specs.declared.fault.Fault.TheVariants.{LeftOut}
 use Rattle.py_parser.specs.Grammar.{Marks}
 use Rattle.py_parser.specs.declared.tall.Tall.{Tall}
-use Rattle.py_parser.specs.Tall.{push, none, start}
+use Rattle.py_parser.specs.inner.Tall.{push, none, start}
 use Rattle.py_tree.specs.Height.{tops}
 use Rattle.py_tree.specs.Form.{is_target}
 use Rattle.py_tree.proofs.Heights as hh
 use Rattle.py_tree.specs.declared.form.Form.{Form}
-use Rattle.py_parser.specs.Aiming.{Readers, readers}
-use Rattle.py_parser.specs.Reading.{Reads, Reader, ◌>>=◌, first, rest, is_op, is_keyword, comes, is_some}
+use Rattle.py_parser.specs.inner.Aiming.{Readers, readers}
+use Rattle.py_parser.specs.inner.Reading.{Reads, Reader, ◌>>=◌, first, rest, is_op, is_keyword, comes, is_some}
 use Rattle.py_parser.proofs.Steps.{of, Reaches, then_reads, at_same}
 use Rattle.py_parser.proofs.Facts.{no, apart, comes_up, some_inj, not_op, not_keyword, stops_down}
 use Rattle.py_parser.proofs.Values.{plus_tests, push_tests}
-use Rattle.py_parser.specs.Follow.{stops}
+use Rattle.py_parser.specs.inner.Follow.{stops}
 use Rattle.py_parser.proofs.Begin.{Headed, headed, more_headed, begin, tests_headed, commas_headed, as_value, long, s_tests_end}
 use Rattle.py_parser.proofs.AimReads.{Meets, complete_aim}
 use Rattle.py_parser.proofs.Complete.{complete, complete_exprs, complete_tests, tests_nil, tests_trailing}
 use Rattle.py_parser.specs.Grammar as G
 use Rattle.py_parser.specs.Statements as S
 use Rattle.py_parser.specs.Statements.{slices, Target, Targets, Equals, Names, Renamed, Imports, Simple, Line}
-use Rattle.py_parser.specs.Lines.{plain_at, line_at, line_more, simple_at, simple_by, running_at, run_at, run_or_assign, equals_at, checked, Stop, ends_del, target_at, targets_at, names_at, import_name_at, renamed_at, imported_at, imports_at, print_at, raise_at, assert_at, from_at, maybe_at, assigned_of, is_newline, worded_at}
+use Rattle.py_parser.specs.inner.Lines.{plain_at, line_at, line_more, simple_at, simple_by, running_at, run_at, run_or_assign, equals_at, checked, Stop, ends_del, target_at, targets_at, names_at, import_name_at, renamed_at, imported_at, imports_at, print_at, raise_at, assert_at, from_at, maybe_at, assigned_of, is_newline, worded_at}
 use Rattle.py_parser.specs.Words.{augment_word, assigned, is_module, is_member}
 use Rattle.py_parser.specs.Words.{line_of}
 use Rattle.py_tree.specs.declared.stmt.Stmt.{Stmt}
@@ -38,10 +38,10 @@ use Rattle.py_tree.specs.declared.stmt.Imported.{Imported}
 use Rattle.py_tree.specs.declared.stmt.Stmt.TheVariants as st
 use Rattle.py_tree.specs.Tall.{tall, talls}
 use Rattle.py_tree.specs.Form.{is_single}
-use Rattle.py_parser.specs.Tall.{tree_or}
+use Rattle.py_parser.specs.inner.Tall.{tree_or}
 use Rattle.py_tree.proofs.Talls as ht
 use Rattle.py_parser.specs.Grammar.{Is, Strings, Tests, Commas, Exprs, Pairs, Links, Trailers, Trails, Maybe, Args}
-use Rattle.py_parser.specs.Reading.{tests_at, keyword_at, name_at}
+use Rattle.py_parser.specs.inner.Reading.{tests_at, keyword_at, name_at}
 use Rattle.py_parser.specs.Codes as c
 use Rattle.py_base.specs.declared.refusal.Construct.TheVariants as left
 

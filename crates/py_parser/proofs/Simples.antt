@@ -17,9 +17,9 @@ use Rattle.py_parser.specs.declared.fault.Fault.TheVariants.{Unexpected, LeftOut
 use Rattle.py_parser.specs.Codes as c
 use Rattle.py_parser.specs.Grammar.{Marks, Exprs}
 use Rattle.py_parser.specs.declared.tall.Tall.{Tall}
-use Rattle.py_parser.specs.Tall.{push}
-use Rattle.py_parser.specs.Aiming.{Readers}
-use Rattle.py_parser.specs.Reading.{is_none, name_of, Reads, Test, ◌>>=◌, first, rest, is_op, is_keyword, is_some, name_at}
+use Rattle.py_parser.specs.inner.Tall.{push}
+use Rattle.py_parser.specs.inner.Aiming.{Readers}
+use Rattle.py_parser.specs.inner.Reading.{is_none, name_of, Reads, Test, ◌>>=◌, first, rest, is_op, is_keyword, is_some, name_at}
 use Rattle.py_parser.proofs.Steps.{of}
 use Rattle.py_parser.proofs.Facts.{no, some_inj}
 use Rattle.py_parser.proofs.Begin.{long}
@@ -29,12 +29,12 @@ use Rattle.py_tree.specs.Form.{is_single}
 use Rattle.py_parser.specs.Words.{line_of}
 use Rattle.py_parser.specs.Statements as S
 use Rattle.py_parser.specs.Statements.{slices, Target, Targets, Loops, Equals}
-use Rattle.py_parser.specs.Lines.{Stop, target_at, targets_at, equals_at, ends_del, is_newline}
+use Rattle.py_parser.specs.inner.Lines.{Stop, target_at, targets_at, equals_at, ends_del, is_newline}
 use Rattle.py_parser.proofs.Targets.{TellExprs, told_exprs, exprs_word, told_checked, target_any, single_any, word_target}
 use Rattle.py_parser.proofs.Simple.{exprs_headed}
 use Rattle.py_parser.specs.Words.{assigned, augment_word}
 use Rattle.py_parser.specs.Statements.{Names, Renamed, Imports, Simple}
-use Rattle.py_parser.specs.Lines.{run_or_assign, assigned_of, run_at, names_at, import_name_at, renamed_at, imported_at, imports_at, running_at}
+use Rattle.py_parser.specs.inner.Lines.{run_or_assign, assigned_of, run_at, names_at, import_name_at, renamed_at, imported_at, imports_at, running_at}
 use Rattle.py_tree.specs.declared.stmt.Stmt.{Stmt}
 use Rattle.py_tree.specs.declared.stmt.Stmt.TheVariants as st
 use Rattle.py_tree.specs.declared.stmt.Imported.{Imported}

@@ -12,8 +12,8 @@ use Rattle.py_parser.specs.Grammar.{Marks}
 use Rattle.py_parser.specs.declared.tall.Tall.{Tall}
 use Rattle.py_parser.specs.declared.rung.Rung.{Rung}
 use Rattle.py_parser.specs.declared.rung.Rung.TheVariants.{Trailed, Powered, Signed, Chained, Negated, Chosen, Listed}
-use Rattle.py_parser.specs.Reading.{Reads, Test, ◌>>=◌, Below, first, is_op, is_keyword, is_some, rung_of, rung_at, level_at, reads, atom_at, trail_at, power_at, chain_at, choice_at, after_at, signed, sign_of, trails, links}
-use Rattle.py_parser.specs.Follow.{takes, heads}
+use Rattle.py_parser.specs.inner.Reading.{Reads, Test, ◌>>=◌, Below, first, is_op, is_keyword, is_some, rung_of, rung_at, level_at, reads, atom_at, trail_at, power_at, chain_at, choice_at, after_at, signed, sign_of, trails, links}
+use Rattle.py_parser.specs.inner.Follow.{takes, heads}
 
 -- a tree with its height and form
 abbrev pub of : Expr → Tall Expr

@@ -23,7 +23,7 @@ use Rattle.py_parser.specs.declared.fault.Fault.TheVariants.{Unexpected, LeftOut
 use Rattle.py_parser.specs.Grammar as G
 use Rattle.py_parser.specs.Grammar.{Marks, Is, Strings, Tests, Commas, Exprs, Pairs, Links, Trailers, Trails, Maybe, Args}
 use Rattle.py_parser.specs.declared.tall.Tall.{Tall}
-use Rattle.py_parser.specs.Reading.{too_deep, Reads, Test, ◌>>=◌, first, level_at, reads, after_at}
+use Rattle.py_parser.specs.inner.Reading.{too_deep, Reads, Test, ◌>>=◌, first, level_at, reads, after_at}
 use Rattle.py_parser.proofs.Steps.{of}
 use Rattle.py_parser.proofs.Facts.{no}
 use Rattle.py_parser.proofs.Told.{Mode, low, marked, Fits, Opens, near, more, Told, told_refused, told_left, told_same, told_post, told_bind, told_err}
@@ -31,7 +31,7 @@ use Rattle.py_parser.proofs.Tells.{Read, told_read, word, is_word, length_after,
 use Rattle.py_tree.specs.Form.{is_target, is_single, all_targets}
 use Rattle.py_parser.proofs.Levels.{unders, tell_after}
 use Rattle.py_parser.specs.Statements.{slices, Target}
-use Rattle.py_parser.specs.Lines.{checked, Stop}
+use Rattle.py_parser.specs.inner.Lines.{checked, Stop}
 
 -- ---- expressions
 

@@ -14,8 +14,8 @@ use Rattle.py_parser.specs.Codes as c
 use Rattle.py_parser.specs.Grammar as G
 use Rattle.py_parser.specs.Grammar.{Marks, Is, Strings, Tests, Commas, Exprs, Pairs, Links, Trailers, Trails, Maybe, Args}
 use Rattle.py_parser.specs.declared.tall.Tall.{Tall}
-use Rattle.py_parser.specs.Tall.{push}
-use Rattle.py_parser.specs.Reading.{joined as joined_strings, name_or, name_of, string_of, is_unicode, strings_at, Reads, Test, ◌>>=◌, first, rest, is_op, is_keyword, comes, is_some, tests_at, keyword_at, op_at, name_at}
+use Rattle.py_parser.specs.inner.Tall.{push}
+use Rattle.py_parser.specs.inner.Reading.{joined as joined_strings, name_or, name_of, string_of, is_unicode, strings_at, Reads, Test, ◌>>=◌, first, rest, is_op, is_keyword, comes, is_some, tests_at, keyword_at, op_at, name_at}
 use Rattle.py_parser.proofs.Steps.{of}
 use Rattle.py_parser.proofs.Facts.{no, some_inj}
 use Rattle.py_parser.proofs.Complete.{tests_nil}

@@ -15,9 +15,9 @@ use Rattle.py_tree.specs.declared.stmt.Stmt.TheVariants as s
 use Rattle.py_base.specs.declared.refusal.Construct.TheVariants as left
 use Rattle.py_parser.specs.declared.fault.Fault.{Fault}
 use Rattle.py_parser.specs.declared.fault.Fault.TheVariants.{Unexpected, LeftOut, Deep}
-use Rattle.py_parser.specs.Reading.{op_at, keyword_at, name_at, strings_at, tests_at, round_at, list_at, pairs_at, dict_at, atom_at, named_at, args_at, slice_at, subscript_at, call_at, trailer_at, trailers_at, trail_at, power_at, links_at, chain_at, choice_at, after_at, level_at, reads, Reads}
-use Rattle.py_parser.specs.Aiming.{grown_at, risen_at, element_at, next_at, elements_at, closed_at, aim_round, aim_list, aim_at}
-use Rattle.py_parser.specs.Lines.{plain_at, maybe_at, checked, targets_at, loops_at, loop_at, equals_at, run_at, names_at, import_name_at, renamed_at, imported_at, imports_at, print_at, raise_at, assert_at, from_at, running_at, simple_at, line_more, line_at, body_at, arm_at, elifs_at, clause_at, caught_at, handler_at, handlers_at, try_at, param_at, params_at, def_at, base_at, class_at, statement_at, suite_at, block_at, line_of_at, statements_at, body_more, module_at}
+use Rattle.py_parser.specs.inner.Reading.{op_at, keyword_at, name_at, strings_at, tests_at, round_at, list_at, pairs_at, dict_at, atom_at, named_at, args_at, slice_at, subscript_at, call_at, trailer_at, trailers_at, trail_at, power_at, links_at, chain_at, choice_at, after_at, level_at, reads, Reads}
+use Rattle.py_parser.specs.inner.Aiming.{grown_at, risen_at, element_at, next_at, elements_at, closed_at, aim_round, aim_list, aim_at}
+use Rattle.py_parser.specs.inner.Lines.{plain_at, maybe_at, checked, targets_at, loops_at, loop_at, equals_at, run_at, names_at, import_name_at, renamed_at, imported_at, imports_at, print_at, raise_at, assert_at, from_at, running_at, simple_at, line_more, line_at, body_at, arm_at, elifs_at, clause_at, caught_at, handler_at, handlers_at, try_at, param_at, params_at, def_at, base_at, class_at, statement_at, suite_at, block_at, line_of_at, statements_at, body_more, module_at}
 
 abbrev place : ℕ → Place
 place l = record { from = 0; to = 0; line = l }

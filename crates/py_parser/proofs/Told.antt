@@ -14,7 +14,7 @@ use Rattle.py_parser.specs.Grammar.{Marks}
 use Rattle.py_parser.specs.Statements.{Body}
 use Rattle.py_parser.specs.Words.{line_of}
 use Rattle.std.proofs.Common.{nat_le}
-use Rattle.py_parser.specs.Reading.{Reads, Reader, ◌>>=◌, first}
+use Rattle.py_parser.specs.inner.Reading.{Reads, Reader, ◌>>=◌, first}
 
 -- ---- what modules begin with
 

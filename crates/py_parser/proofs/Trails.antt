@@ -24,8 +24,8 @@ use Rattle.py_parser.specs.Codes as c
 use Rattle.py_parser.specs.Grammar as G
 use Rattle.py_parser.specs.Grammar.{Marks, Is, Strings, Tests, Commas, Exprs, Pairs, Links, Trailers, Trails, Maybe, Args}
 use Rattle.py_parser.specs.declared.tall.Tall.{Tall}
-use Rattle.py_parser.specs.Tall.{plain, push, none, push_named, push_trailer, of_trail, of_index, of_call}
-use Rattle.py_parser.specs.Reading.{named_at, args_at, arg_by, keyed, is_bare, is_none, slice_close, slice_at, index_close, subscript_at, call_at, trailer_at, trailers_at, name_of, Test, ◌>>=◌, Below, first, is_op, is_keyword, comes, is_some, trail_at, trails}
+use Rattle.py_parser.specs.inner.Tall.{plain, push, none, push_named, push_trailer, of_trail, of_index, of_call}
+use Rattle.py_parser.specs.inner.Reading.{named_at, args_at, arg_by, keyed, is_bare, is_none, slice_close, slice_at, index_close, subscript_at, call_at, trailer_at, trailers_at, name_of, Test, ◌>>=◌, Below, first, is_op, is_keyword, comes, is_some, trail_at, trails}
 use Rattle.py_parser.proofs.Steps.{of}
 use Rattle.py_parser.proofs.Facts.{no}
 use Rattle.py_parser.proofs.Complete.{tests_nil, named_nil, trailers_nil, s_trailers_end, s_named_end, trail_long}

@@ -5,9 +5,9 @@ use Rattle.py_tree.specs.declared.expr.Expr.{Expr}
 use Rattle.py_parser.specs.declared.tall.Tall.{Tall}
 use Rattle.py_parser.specs.declared.request.Request.{Request}
 use Rattle.py_parser.specs.declared.request.Request.TheVariants.{Level, After}
-use Rattle.py_parser.specs.Asking.{requested}
-use Rattle.py_parser.specs.Pieces.{too_high}
-use Rattle.py_parser.specs.Reading.{Below, reads, level_at, rung_at, rung_of, after_at, first}
+use Rattle.py_parser.specs.inner.Asking.{requested}
+use Rattle.py_parser.specs.inner.Pieces.{too_high}
+use Rattle.py_parser.specs.inner.Reading.{Below, reads, level_at, rung_at, rung_of, after_at, first}
 use Rattle.std.specs.Prelude.{Err}
 
 pub level_up : (under : Below) (g d n : ℕ) (ts : List Token) → 0 < n → level_at under g d n ts ≡ rung_at (rung_of (n - 1)) under g d (level_at under g d (n - 1)) ts

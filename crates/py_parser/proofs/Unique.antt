@@ -5,7 +5,7 @@ use Rattle.py_tree.specs.declared.expr.Expr.{Expr}
 use Rattle.py_tree.specs.Height.{height}
 use Rattle.py_parser.specs.declared.tall.Tall.{Tall}
 use Rattle.py_parser.specs.Grammar.{Exprs}
-use Rattle.py_parser.specs.Reading.{Reads, is_some}
+use Rattle.py_parser.specs.inner.Reading.{Reads, is_some}
 use Rattle.py_parser.proofs.Steps.{Reaches}
 use Rattle.py_parser.proofs.Facts.{no}
 use Rattle.py_parser.proofs.Complete.{complete_exprs}

@@ -5,7 +5,7 @@ use Rattle.py_tree.specs.declared.expr.Level.{Level}
 use Rattle.py_tree.specs.declared.expr.Operator.{Operator}
 use Rattle.py_tree.specs.Form.{form}
 use Rattle.py_parser.specs.declared.tall.Tall.{Tall}
-use Rattle.py_parser.specs.Tall.{plain, push, none, start, joined, push_link, push_pair, push_named, push_trailer, of_name, of_int, of_string, of_group, unit, of_tuple, of_list, of_dict, of_trail, of_power, of_sign, of_chain, of_not, of_choice, of_attribute, of_index, of_slice, of_call}
+use Rattle.py_parser.specs.inner.Tall.{plain, push, none, start, joined, push_link, push_pair, push_named, push_trailer, of_name, of_int, of_string, of_group, unit, of_tuple, of_list, of_dict, of_trail, of_power, of_sign, of_chain, of_not, of_choice, of_attribute, of_index, of_slice, of_call}
 use Rattle.py_tree.specs.Height.{tops, tops_links, tops_pairs, tops_named, tops_trailers, height_trailer}
 use Rattle.py_tree.specs.Form.{form_trailer, all_targets, is_target, last_form}
 use Rattle.py_tree.proofs.Heights as h

@@ -6,7 +6,7 @@ use Rattle.py_tokens.specs.declared.token.TokenKind.TheVariants as k
 use Rattle.py_tokens.specs.declared.token.Place.{Place}
 use Rattle.py_tokens.specs.Place.{token_at as at}
 use Rattle.py_parser.specs.Grammar.{Marks}
-use Rattle.py_parser.specs.Reading.{Reads, ◌>>=◌, first, is_some}
+use Rattle.py_parser.specs.inner.Reading.{Reads, ◌>>=◌, first, is_some}
 use Rattle.py_parser.proofs.Steps.{Reaches, then_reads, at_same}
 use Rattle.py_parser.proofs.Facts.{no}
 use Rattle.py_parser.proofs.Begin.{as_value}
@@ -17,7 +17,7 @@ use Rattle.py_tree.specs.declared.stmt.Module.{Module}
 use Rattle.py_tree.specs.Tall.{tall_module}
 use Rattle.py_parser.specs.Statements as S
 use Rattle.py_parser.specs.Statements.{slices, Target, Targets, Simple, Line, Parameter, Later, Parameters, Params, Base, Caught, Loops, Statement, Suite as Suites, Block, Elifs, Else, Finally, Excepts, Compound, Body}
-use Rattle.py_parser.specs.Lines.{is_end, Suite, statements_at, body_more, module_at}
+use Rattle.py_parser.specs.inner.Lines.{is_end, Suite, statements_at, body_more, module_at}
 use Rattle.py_tree.specs.declared.stmt.Stmt.{Stmt}
 use Rattle.py_tree.specs.Tall.{talls}
 

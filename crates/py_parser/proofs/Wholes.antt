@@ -11,15 +11,15 @@ use Rattle.py_tree.proofs.Heights as hh
 use Rattle.py_base.specs.declared.refusal.Construct.TheVariants as left
 use Rattle.py_parser.specs.Codes as c
 use Rattle.py_parser.specs.Grammar.{Marks, Is}
-use Rattle.py_parser.specs.Aiming.{Readers}
-use Rattle.py_parser.specs.Reading.{◌>>=◌, first, keyword_at}
+use Rattle.py_parser.specs.inner.Aiming.{Readers}
+use Rattle.py_parser.specs.inner.Reading.{◌>>=◌, first, keyword_at}
 use Rattle.py_parser.proofs.Facts.{no}
 use Rattle.py_parser.proofs.Told.{Mode, low, marked, Fits, Opens, more, Told, told_take, told_bind, told_map, told_case, on, here, move, there}
 use Rattle.py_parser.proofs.Tells.{told_need_word, p0, word, free, length_after}
 use Rattle.py_parser.proofs.Simples.{Lowers}
 use Rattle.py_parser.specs.Statements as S
 use Rattle.py_parser.specs.Statements.{slices, Target, Targets, Loops, Equals}
-use Rattle.py_parser.specs.Lines.{loop_at}
+use Rattle.py_parser.specs.inner.Lines.{loop_at}
 use Rattle.py_parser.proofs.Targets.{TellExprs, told_exprs, exprs_word, word_target}
 use Rattle.py_parser.specs.Statements.{Names, Renamed, Imports, Simple}
 use Rattle.py_tree.specs.declared.stmt.Stmt.{Stmt}
@@ -28,7 +28,7 @@ use Rattle.py_tree.specs.Tall.{tall}
 use Rattle.py_tree.proofs.Talls as ht
 use Rattle.py_parser.proofs.Simples.{Targeting}
 use Rattle.py_parser.specs.Statements.{Line, Parameter, Later, Parameters, Params, Base, Caught, Statement, Suite as Suites, Block, Elifs, Else, Finally, Excepts, Compound}
-use Rattle.py_parser.specs.Lines.{Suite, body_at, arm_at, elifs_at, clause_at, try_at, Parts, compound_at, is_compound}
+use Rattle.py_parser.specs.inner.Lines.{Suite, body_at, arm_at, elifs_at, clause_at, try_at, Parts, compound_at, is_compound}
 use Rattle.py_tree.specs.declared.stmt.Arm.{Arm}
 use Rattle.py_tree.specs.declared.stmt.Clause.{Clause}
 use Rattle.py_tree.specs.Tall.{tall_block, tall_clause}

@@ -13,9 +13,9 @@ use Rattle.py_base.specs.declared.refusal.Construct.TheVariants as left
 use Rattle.py_parser.specs.Codes as c
 use Rattle.py_parser.specs.Grammar as G
 use Rattle.py_parser.specs.Grammar.{Marks, Is, Strings, Tests, Commas, Exprs, Pairs, Links, Trailers, Trails, Maybe, Args}
-use Rattle.py_parser.specs.Tall.{tree_or, start as start'}
-use Rattle.py_parser.specs.Aiming.{Readers}
-use Rattle.py_parser.specs.Reading.{◌>>=◌, first, is_op, comes, name_at}
+use Rattle.py_parser.specs.inner.Tall.{tree_or, start as start'}
+use Rattle.py_parser.specs.inner.Aiming.{Readers}
+use Rattle.py_parser.specs.inner.Reading.{◌>>=◌, first, is_op, comes, name_at}
 use Rattle.py_parser.proofs.Steps.{of}
 use Rattle.py_parser.proofs.Facts.{no}
 use Rattle.py_parser.proofs.Values.{of_or}
@@ -24,11 +24,11 @@ use Rattle.py_parser.proofs.Tells.{only_op, told_read, told_need_word, told_need
 use Rattle.py_parser.proofs.Atoms.{either}
 use Rattle.py_parser.specs.Statements as S
 use Rattle.py_parser.specs.Statements.{slices, Target, Targets, Loops, Equals}
-use Rattle.py_parser.specs.Lines.{target_at, targets_at, maybe_at, ends_del}
+use Rattle.py_parser.specs.inner.Lines.{target_at, targets_at, maybe_at, ends_del}
 use Rattle.py_parser.proofs.Targets.{TellExprs, word_target}
 use Rattle.py_parser.specs.Words.{is_module, is_member}
 use Rattle.py_parser.specs.Statements.{Names, Renamed, Imports, Simple}
-use Rattle.py_parser.specs.Lines.{names_at, imported_at, imports_at, print_at, raise_at, assert_at, from_at, worded_at, running_at, simple_by, simple_at}
+use Rattle.py_parser.specs.inner.Lines.{names_at, imported_at, imports_at, print_at, raise_at, assert_at, from_at, worded_at, running_at, simple_by, simple_at}
 use Rattle.py_tree.specs.declared.stmt.Stmt.{Stmt}
 use Rattle.py_tree.specs.declared.stmt.Stmt.TheVariants as st
 use Rattle.py_tree.specs.declared.stmt.Imported.{Imported}

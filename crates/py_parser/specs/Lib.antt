@@ -3,16 +3,5 @@ pub mod Words
 pub mod Grammar
 pub mod Statements
 pub mod Refused
-pub mod Tall
-pub mod Reading
-pub mod Follow
-pub mod Aiming
-pub mod Lines
-pub mod Outcome
 pub mod Parses
-pub mod Asking
-pub mod Pieces
-pub mod Stops
-pub mod SimplePieces
-pub mod Suites
-pub mod AimPieces
+pub mod inner

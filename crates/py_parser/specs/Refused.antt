@@ -6,9 +6,17 @@ use Rattle.py_tree.specs.declared.stmt.Module.{Module}
 use Rattle.py_tree.specs.declared.stmt.Stmt.{Stmt}
 use Rattle.py_tree.specs.Tall.{tall_module}
 use Rattle.py_base.specs.declared.refusal.Construct.{Construct}
+use Rattle.py_base.specs.declared.refusal.Refusal.{Refusal}
+use Rattle.py_base.specs.declared.refusal.Refusal.TheVariants as refusal
 use Rattle.py_parser.specs.declared.fault.Fault.{Fault}
 use Rattle.py_parser.specs.declared.fault.Fault.TheVariants.{Unexpected, LeftOut, Deep}
 use Rattle.py_parser.specs.Statements.{IsModule, Body}
+
+-- the refusal of a token for a reason, with the token's line
+abbrev pub refusal_of : Fault → ℕ → Refusal
+refusal_of Unexpected line = refusal.Unexpected line
+refusal_of (LeftOut c) line = refusal.LeftOut c line
+refusal_of Deep line = refusal.Deep line
 
 -- some module, of a height of at most d, begins with these tokens
 abbrev pub Begins : ℕ → List Token → Type 0

@@ -1,10 +1,10 @@
 //! What is a target, or becomes one by a further trailer.
 ghost use Rattle.std.specs.Prelude.{◌≡◌, ◌+◌, ◌-◌, ◌<◌, ◌≤◌, IfOk};
-ghost use Rattle.py_parser.specs.AimPieces.{AnswersAim, aimed_at};
-ghost use Rattle.py_parser.specs.Aiming.{fine, closing_at, element_at, next_at, elements_at, round_rest, aim_round, list_rest, aim_list, aim_atom, aim_at};
-ghost use Rattle.py_parser.specs.Outcome.{Gives};
-ghost use Rattle.py_parser.specs.Reading.{reads, first};
-ghost use Rattle.py_parser.specs.Tall.{start};
+ghost use Rattle.py_parser.specs.inner.AimPieces.{AnswersAim, aimed_at};
+ghost use Rattle.py_parser.specs.inner.Aiming.{fine, closing_at, element_at, next_at, elements_at, round_rest, aim_round, list_rest, aim_list, aim_atom, aim_at};
+ghost use Rattle.py_parser.specs.inner.Outcome.{Gives};
+ghost use Rattle.py_parser.specs.inner.Reading.{reads, first};
+ghost use Rattle.py_parser.specs.inner.Tall.{start};
 ghost use Rattle.py_tokens.specs.declared.token.TokenKind.TheVariants as k;
 
 use crate::cursor::{Read, comes, keyword_next, no_start, op_next, refused, rest, starts};

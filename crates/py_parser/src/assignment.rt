@@ -1,8 +1,8 @@
 //! Assignments, and expressions as statements.
 ghost use Rattle.std.specs.Prelude.{◌≡◌, ◌≤◌, [], None, Some};
-ghost use Rattle.py_parser.specs.Lines.{equals_at, run_or_assign, run_at, running_at};
-ghost use Rattle.py_parser.specs.Outcome.{Gives};
-ghost use Rattle.py_parser.specs.Aiming.{readers};
+ghost use Rattle.py_parser.specs.inner.Lines.{equals_at, run_or_assign, run_at, running_at};
+ghost use Rattle.py_parser.specs.inner.Outcome.{Gives};
+ghost use Rattle.py_parser.specs.inner.Aiming.{readers};
 
 use crate::cursor::{Read, keyword_next, line_of, op_next, refused, rest};
 use crate::expression::expression;

@@ -1,9 +1,9 @@
 //! Atoms.
 ghost use Rattle.std.specs.Prelude.{◌≡◌, ◌+◌, ◌<◌, ◌≤◌, IfOk, MatchOption, [], None, Some};
-ghost use Rattle.py_parser.specs.Asking.{Answers};
-ghost use Rattle.py_parser.specs.Outcome.{Gives};
-ghost use Rattle.py_parser.specs.Reading.{reads, first, string_of, is_unicode, strings_at, pairs_at, round_at, round_close, list_at, list_close, dict_at, dict_value, dict_close, atom_of, atom_at};
-ghost use Rattle.py_parser.specs.Tall.{plain, push_pair};
+ghost use Rattle.py_parser.specs.inner.Asking.{Answers};
+ghost use Rattle.py_parser.specs.inner.Outcome.{Gives};
+ghost use Rattle.py_parser.specs.inner.Reading.{reads, first, string_of, is_unicode, strings_at, pairs_at, round_at, round_close, list_at, list_close, dict_at, dict_value, dict_close, atom_of, atom_at};
+ghost use Rattle.py_parser.specs.inner.Tall.{plain, push_pair};
 ghost use Rattle.py_tokens.specs.declared.token.TokenKind.TheVariants as k;
 
 use crate::cursor::{Read, comes, keyword_next, no_start, op_next, refused, rest, take_op};

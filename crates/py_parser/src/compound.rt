@@ -1,11 +1,11 @@
 //! Compound statements and blocks.
 ghost use Rattle.std.specs.Prelude.{◌≡◌, ◌+◌, ◌-◌, ◌<◌, ◌≤◌, [], ◌∷◌, IfOk};
 ghost use Rattle.py_tokens.specs.declared.token.TokenKind.TheVariants as k;
-ghost use Rattle.py_parser.specs.Lines.{line_at, body_at, arm_at, elifs_at, clause_at, handler_at, handlers_at, try_at, def_at, class_at, compound_at, is_compound, statement_by, statement_at, suite_at, line_of_at, statements_at};
-ghost use Rattle.py_parser.specs.Outcome.{Gives};
-ghost use Rattle.py_parser.specs.Aiming.{readers};
-ghost use Rattle.py_parser.specs.Suites.{AnswersStatements, inner_block, parts_of, if_at, while_at, for_at, tried_at, alone_at};
-ghost use Rattle.py_parser.specs.Tall.{tree_or};
+ghost use Rattle.py_parser.specs.inner.Lines.{line_at, body_at, arm_at, elifs_at, clause_at, handler_at, handlers_at, try_at, def_at, class_at, compound_at, is_compound, statement_by, statement_at, suite_at, line_of_at, statements_at};
+ghost use Rattle.py_parser.specs.inner.Outcome.{Gives};
+ghost use Rattle.py_parser.specs.inner.Aiming.{readers};
+ghost use Rattle.py_parser.specs.inner.Suites.{AnswersStatements, inner_block, parts_of, if_at, while_at, for_at, tried_at, alone_at};
+ghost use Rattle.py_parser.specs.inner.Tall.{tree_or};
 
 use crate::cursor::{
     Read, dedent_next, indent_next, keyword_next, line_of, newline_next, op_next, refused, rest,

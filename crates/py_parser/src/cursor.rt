@@ -1,9 +1,10 @@
 //! The tokens from a place on.
 ghost use Rattle.std.specs.Prelude.{◌≡◌, [], ◌∷◌, MatchOption, Err};
 ghost use Rattle.py_parser.specs.declared.error.ParseError.TheVariants as error;
-ghost use Rattle.py_parser.specs.Lines.{is_newline, is_indent, is_dedent, is_end};
-ghost use Rattle.py_parser.specs.Outcome.{Gives, refusal_of};
-ghost use Rattle.py_parser.specs.Reading.{first, rest, is_op, is_keyword, op_at, keyword_at, name_at, starts, left_at, no_start, comes};
+ghost use Rattle.py_parser.specs.inner.Lines.{is_newline, is_indent, is_dedent, is_end};
+ghost use Rattle.py_parser.specs.inner.Outcome.{Gives};
+ghost use Rattle.py_parser.specs.Refused.{refusal_of};
+ghost use Rattle.py_parser.specs.inner.Reading.{first, rest, is_op, is_keyword, op_at, keyword_at, name_at, starts, left_at, no_start, comes};
 ghost use Rattle.py_parser.specs.Words.{line_of};
 ghost use Rattle.py_tokens.specs.declared.token.TokenKind.TheVariants as k;
 

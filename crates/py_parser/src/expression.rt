@@ -1,10 +1,10 @@
 //! Expressions: each budget's reader reads the parts by the reader of a budget one less.
 ghost use Rattle.std.specs.Prelude.{◌≡◌, ◌+◌, ◌-◌, ◌<◌, ◌≤◌, max, IfOk};
-ghost use Rattle.py_parser.specs.Asking.{Answers, requested, held};
-ghost use Rattle.py_parser.specs.Outcome.{Gives};
-ghost use Rattle.py_parser.specs.Pieces.{too_high};
-ghost use Rattle.py_parser.specs.Reading.{reads, first, tests_at};
-ghost use Rattle.py_parser.specs.Tall.{start};
+ghost use Rattle.py_parser.specs.inner.Asking.{Answers, requested, held};
+ghost use Rattle.py_parser.specs.inner.Outcome.{Gives};
+ghost use Rattle.py_parser.specs.inner.Pieces.{too_high};
+ghost use Rattle.py_parser.specs.inner.Reading.{reads, first, tests_at};
+ghost use Rattle.py_parser.specs.inner.Tall.{start};
 
 use crate::cursor::{Read, no_start, refused, starts};
 use crate::error::ParseError;

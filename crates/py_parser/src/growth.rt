@@ -1,10 +1,10 @@
 //! What follows an expression of the level of targets.
 ghost use Rattle.std.specs.Prelude.{◌≡◌, ◌+◌, ◌-◌, ◌<◌, ◌≤◌, max, IfOk};
-ghost use Rattle.py_parser.specs.Aiming.{grown_at, grows, risen_at};
-ghost use Rattle.py_parser.specs.Asking.{Answers, requested, held};
-ghost use Rattle.py_parser.specs.Follow.{takes};
-ghost use Rattle.py_parser.specs.Outcome.{Gives};
-ghost use Rattle.py_parser.specs.Reading.{reads, first, trail_at};
+ghost use Rattle.py_parser.specs.inner.Aiming.{grown_at, grows, risen_at};
+ghost use Rattle.py_parser.specs.inner.Asking.{Answers, requested, held};
+ghost use Rattle.py_parser.specs.inner.Follow.{takes};
+ghost use Rattle.py_parser.specs.inner.Outcome.{Gives};
+ghost use Rattle.py_parser.specs.inner.Reading.{reads, first, trail_at};
 
 use crate::cursor::{Read, comes, keyword_next, op_next, refused};
 use crate::error::ParseError;

@@ -1,10 +1,10 @@
 //! What stands between the keyword of a compound statement and its block.
 ghost use Rattle.std.specs.Prelude.{◌≡◌, ◌-◌, ◌<◌, ◌≤◌, [], false, IfOk};
-ghost use Rattle.py_parser.specs.Lines.{loops_at, loop_at, caught_at, param_at, params_at, base_at};
-ghost use Rattle.py_parser.specs.Outcome.{Gives};
-ghost use Rattle.py_parser.specs.Aiming.{readers};
-ghost use Rattle.py_parser.specs.Suites.{parameters_at};
-ghost use Rattle.py_parser.specs.Tall.{start};
+ghost use Rattle.py_parser.specs.inner.Lines.{loops_at, loop_at, caught_at, param_at, params_at, base_at};
+ghost use Rattle.py_parser.specs.inner.Outcome.{Gives};
+ghost use Rattle.py_parser.specs.inner.Aiming.{readers};
+ghost use Rattle.py_parser.specs.inner.Suites.{parameters_at};
+ghost use Rattle.py_parser.specs.inner.Tall.{start};
 
 use crate::cursor::{Read, comes, keyword_next, op_next, refused, rest, take_name, take_op};
 use crate::expression::expression;

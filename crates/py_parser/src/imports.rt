@@ -1,9 +1,9 @@
 //! Imports: the modules that may be imported, their members, and the statements.
 ghost use Rattle.std.specs.Prelude.{◌≡◌, [], ◌∷◌, codes};
 ghost use Rattle.std.specs.Str.{bytes_eq};
-ghost use Rattle.py_parser.specs.Lines.{import_name_at, renamed_at, imported_at, imports_at, from_at};
-ghost use Rattle.py_parser.specs.Outcome.{Gives};
-ghost use Rattle.py_parser.specs.SimplePieces.{may_import, import_at};
+ghost use Rattle.py_parser.specs.inner.Lines.{import_name_at, renamed_at, imported_at, imports_at, from_at};
+ghost use Rattle.py_parser.specs.inner.Outcome.{Gives};
+ghost use Rattle.py_parser.specs.inner.SimplePieces.{may_import, import_at};
 ghost use Rattle.py_parser.specs.Words.{is_module, is_member};
 
 use crate::cursor::{Read, keyword_next, op_next, refused, rest, take_keyword, take_name};

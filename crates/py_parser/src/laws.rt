@@ -10,7 +10,7 @@ ghost use Rattle.py_tree.specs.Tall.{tall_module};
 ghost use Rattle.py_parser.specs.declared.fault.Fault.{Fault};
 ghost use Rattle.py_parser.specs.Statements.{IsModule};
 ghost use Rattle.py_parser.specs.Refused.{RefusedAt, EndsOnce};
-ghost use Rattle.py_parser.specs.Lines.{module_at};
+ghost use Rattle.py_parser.specs.inner.Lines.{module_at};
 ghost use Rattle.py_parser.specs.Words.{line_of};
 
 /// Reading a list of tokens, in which End stands once, as the last, answers its module, of a height of at most 100, wherever

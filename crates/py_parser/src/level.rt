@@ -1,11 +1,11 @@
 //! Levels of operators.
 ghost use Rattle.std.specs.Prelude.{◌≡◌, ◌+◌, ◌<◌, ◌≤◌, [], max, IfOk, nat_lt};
-ghost use Rattle.py_parser.specs.Aiming.{after_rung, grown_at};
-ghost use Rattle.py_parser.specs.Asking.{Answers};
-ghost use Rattle.py_parser.specs.Outcome.{Gives};
-ghost use Rattle.py_parser.specs.Pieces.{negated_at, signed_at};
-ghost use Rattle.py_parser.specs.Reading.{reads, power_at, links_at, chain_at, choice_at, after_at, level_at};
-ghost use Rattle.py_parser.specs.Tall.{plain};
+ghost use Rattle.py_parser.specs.inner.Aiming.{after_rung, grown_at};
+ghost use Rattle.py_parser.specs.inner.Asking.{Answers};
+ghost use Rattle.py_parser.specs.inner.Outcome.{Gives};
+ghost use Rattle.py_parser.specs.inner.Pieces.{negated_at, signed_at};
+ghost use Rattle.py_parser.specs.inner.Reading.{reads, power_at, links_at, chain_at, choice_at, after_at, level_at};
+ghost use Rattle.py_parser.specs.inner.Tall.{plain};
 ghost use Rattle.py_parser.specs.Words.{below};
 
 use crate::cursor::{Read, keyword_next, op_next, refused, rest, take_keyword};

@@ -1,9 +1,9 @@
 //! Reading the parts of an expression.
 ghost use Rattle.std.specs.Prelude.{◌≡◌, ◌+◌, ◌≤◌, IfOk, nat_lt};
-ghost use Rattle.py_parser.specs.Asking.{Answers};
-ghost use Rattle.py_parser.specs.Outcome.{Gives};
-ghost use Rattle.py_parser.specs.Reading.{reads, tests_at};
-ghost use Rattle.py_parser.specs.Tall.{start};
+ghost use Rattle.py_parser.specs.inner.Asking.{Answers};
+ghost use Rattle.py_parser.specs.inner.Outcome.{Gives};
+ghost use Rattle.py_parser.specs.inner.Reading.{reads, tests_at};
+ghost use Rattle.py_parser.specs.inner.Tall.{start};
 
 use crate::cursor::{Read, comes, op_next, rest};
 use crate::error::ParseError;

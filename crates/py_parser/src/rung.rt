@@ -1,6 +1,6 @@
 //! The levels of expressions.
 ghost use Rattle.std.specs.Prelude.{◌≡◌};
-ghost use Rattle.py_parser.specs.Reading.{rung_of};
+ghost use Rattle.py_parser.specs.inner.Reading.{rung_of};
 
 use py_tree::Level;
 

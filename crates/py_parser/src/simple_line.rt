@@ -1,8 +1,8 @@
 //! The simple statements of a line.
 ghost use Rattle.std.specs.Prelude.{◌-◌, ◌<◌, ◌≤◌, [], ◌∷◌};
-ghost use Rattle.py_parser.specs.Lines.{is_newline, plain_at, simple_at, line_more, line_at};
-ghost use Rattle.py_parser.specs.Outcome.{Gives};
-ghost use Rattle.py_parser.specs.Aiming.{readers};
+ghost use Rattle.py_parser.specs.inner.Lines.{is_newline, plain_at, simple_at, line_more, line_at};
+ghost use Rattle.py_parser.specs.inner.Outcome.{Gives};
+ghost use Rattle.py_parser.specs.inner.Aiming.{readers};
 
 use crate::cursor::{Read, newline_next, op_next, refused, rest};
 use crate::error::ParseError;

@@ -1,10 +1,10 @@
 //! Simple statements.
 ghost use Rattle.std.specs.Prelude.{◌≡◌, ◌-◌, ◌<◌, ◌≤◌, [], ◌∷◌};
-ghost use Rattle.py_parser.specs.Lines.{maybe_at, names_at, print_at, raise_at, assert_at, worded_at, running_at, simple_at};
-ghost use Rattle.py_parser.specs.Outcome.{Gives};
-ghost use Rattle.py_parser.specs.Aiming.{readers};
-ghost use Rattle.py_parser.specs.SimplePieces.{return_at, raise_or_none_at, del_at, global_at, assert_test_at};
-ghost use Rattle.py_parser.specs.Tall.{tree_or};
+ghost use Rattle.py_parser.specs.inner.Lines.{maybe_at, names_at, print_at, raise_at, assert_at, worded_at, running_at, simple_at};
+ghost use Rattle.py_parser.specs.inner.Outcome.{Gives};
+ghost use Rattle.py_parser.specs.inner.Aiming.{readers};
+ghost use Rattle.py_parser.specs.inner.SimplePieces.{return_at, raise_or_none_at, del_at, global_at, assert_test_at};
+ghost use Rattle.py_parser.specs.inner.Tall.{tree_or};
 
 use crate::assignment::running;
 use crate::cursor::{Read, comes, line_of, op_next, refused, rest, take_name};

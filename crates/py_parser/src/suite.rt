@@ -1,8 +1,8 @@
 //! Statements with their blocks, and modules: the statements of a block have a budget two less than the statement around it.
 ghost use Rattle.std.specs.Prelude.{◌≡◌, ◌+◌, ◌-◌, ◌<◌, ◌≤◌, [], length};
-ghost use Rattle.py_parser.specs.Lines.{statement_at, statements_at, body_more, module_at};
-ghost use Rattle.py_parser.specs.Outcome.{Gives};
-ghost use Rattle.py_parser.specs.Suites.{AnswersStatements, parts_of};
+ghost use Rattle.py_parser.specs.inner.Lines.{statement_at, statements_at, body_more, module_at};
+ghost use Rattle.py_parser.specs.inner.Outcome.{Gives};
+ghost use Rattle.py_parser.specs.inner.Suites.{AnswersStatements, parts_of};
 
 use crate::compound::Compound;
 use crate::cursor::{Read, end_next, newline_next, refused, rest};

@@ -2,8 +2,8 @@
 ghost use Rattle.std.specs.Prelude.{◌≡◌, IfOk, OnOk};
 ghost use Rattle.py_tree.specs.declared.form.Form.TheVariants.{Plain};
 ghost use Rattle.py_tree.specs.Form.{is_target, is_single};
-ghost use Rattle.py_parser.specs.Reading.{is_bare};
-ghost use Rattle.py_parser.specs.Tall.{joined, plain, none, start, push, push_link, push_pair, push_named, push_trailer};
+ghost use Rattle.py_parser.specs.inner.Reading.{is_bare};
+ghost use Rattle.py_parser.specs.inner.Tall.{joined, plain, none, start, push, push_link, push_pair, push_named, push_trailer};
 
 use py_base::{Bytes, NoMemory};
 use py_tree::{Expr, Form, Link, Named, Operator, Pair, Trailer};

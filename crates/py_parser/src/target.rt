@@ -1,11 +1,11 @@
 //! Targets.
 ghost use Rattle.std.specs.Prelude.{◌≡◌, ◌≤◌, IfOk};
-ghost use Rattle.py_parser.specs.Outcome.{Gives};
-ghost use Rattle.py_parser.specs.Aiming.{readers};
-ghost use Rattle.py_parser.specs.Reading.{first};
-ghost use Rattle.py_parser.specs.Lines.{checked, target_at, targets_at};
-ghost use Rattle.py_parser.specs.Stops.{stop_of};
-ghost use Rattle.py_parser.specs.Tall.{start};
+ghost use Rattle.py_parser.specs.inner.Outcome.{Gives};
+ghost use Rattle.py_parser.specs.inner.Aiming.{readers};
+ghost use Rattle.py_parser.specs.inner.Reading.{first};
+ghost use Rattle.py_parser.specs.inner.Lines.{checked, target_at, targets_at};
+ghost use Rattle.py_parser.specs.inner.Stops.{stop_of};
+ghost use Rattle.py_parser.specs.inner.Tall.{start};
 
 use crate::aiming::aim;
 use crate::cursor::{Read, keyword_next, newline_next, op_next, refused, rest};

@@ -2,11 +2,11 @@
 ghost use Rattle.std.specs.Prelude.{◌≡◌, ◌+◌, ◌<◌, ◌≤◌, [], ◌||◌, max, IfOk, MatchOption, None, Some};
 ghost use Rattle.py_tokens.specs.declared.operator.TheConstants as operator;
 ghost use Rattle.py_tree.specs.declared.form.Form.TheVariants.{Plain};
-ghost use Rattle.py_parser.specs.Asking.{Answers};
-ghost use Rattle.py_parser.specs.Outcome.{Gives};
-ghost use Rattle.py_parser.specs.Reading.{reads, first, is_op, is_none, name_of, keyed, named_at, args_at, slice_close, slice_at, index_close, subscript_at, call_at, trails, trailer_at, trailers_at, trail_at};
-ghost use Rattle.py_parser.specs.Pieces.{keywords_at};
-ghost use Rattle.py_parser.specs.Tall.{none, plain, push_named, tall_or};
+ghost use Rattle.py_parser.specs.inner.Asking.{Answers};
+ghost use Rattle.py_parser.specs.inner.Outcome.{Gives};
+ghost use Rattle.py_parser.specs.inner.Reading.{reads, first, is_op, is_none, name_of, keyed, named_at, args_at, slice_close, slice_at, index_close, subscript_at, call_at, trails, trailer_at, trailers_at, trail_at};
+ghost use Rattle.py_parser.specs.inner.Pieces.{keywords_at};
+ghost use Rattle.py_parser.specs.inner.Tall.{none, plain, push_named, tall_or};
 
 use crate::cursor::{Read, comes, keyword_next, op_next, refused, rest, take_name, take_op};
 use crate::error::ParseError;

@@ -7,8 +7,8 @@ use Rattle.py_data.specs.declared.value.Value.{Value}
 use Rattle.py_frames.specs.declared.state.Block.{Block}
 use Rattle.py_frames.specs.State.{stored}
 use Rattle.py_states.specs.declared.head.Head.{Head}
-use Rattle.py_states.specs.memory.Laid.{laid, IsLaid, opening}
-use Rattle.py_states.specs.memory.Changes.{on_top, restacked, catching, catching_by}
+use Rattle.py_states.specs.inner.Laid.{laid, IsLaid, opening}
+use Rattle.py_states.specs.inner.Changes.{on_top, restacked, catching, catching_by}
 
 -- there is a frame for each head
 pub length_laid : (hs : List Head) (vs : List Value) (bs : List Block) → length (laid hs vs bs) ≡ length hs

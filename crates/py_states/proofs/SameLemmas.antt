@@ -6,7 +6,7 @@ use Rattle.py_frames.specs.declared.state.Block.{Block}
 use Rattle.py_frames.specs.declared.state.Frame.{Frame}
 use Rattle.py_states.specs.declared.head.Head.{Head}
 use Rattle.py_states.specs.Innermost.{innermost}
-use Rattle.py_states.specs.memory.Laid.{frame_of, laid, IsLaid}
+use Rattle.py_states.specs.inner.Laid.{frame_of, laid, IsLaid}
 
 -- the three lists are the same
 pub record Alike (hs ks : List Head) (vs ws : List Value) (bs cs : List Block) : Type 0 where

@@ -10,7 +10,7 @@ use Rattle.py_frames.specs.declared.next.Next.{Next}
 use Rattle.py_frames.specs.declared.next.Next.TheVariants.{Goes, Jumps, Stores, Opens, Closes, Enters, Leaves, Fails, Begins, Throws, Waits}
 use Rattle.py_frames.specs.State.{State, advanced, closed, code_at, line_at, opened, passed, returned, settled, stored, thrown_to, unwound, with_frames}
 use Rattle.py_states.specs.Innermost.{innermost, settled_in, Settles}
-use Rattle.py_states.specs.memory.Changes.{on_top}
+use Rattle.py_states.specs.inner.Changes.{on_top}
 
 -- an end that is the same one
 pub ended : {E : Type 0} (a b : Outcome × State) (r : Result Outcome E) (t : State) → IfOk r (λ o. Settles a o t) → a ≡ b → IfOk r (λ o. Settles b o t)

@@ -6,7 +6,7 @@ use Rattle.py_frames.specs.declared.state.Block.{Block}
 use Rattle.py_frames.specs.declared.state.Frame.{Frame}
 use Rattle.py_frames.specs.State.{advanced, closed, handled, pushed, unwound, unwound_by}
 use Rattle.py_states.specs.Innermost.{innermost}
-use Rattle.py_states.specs.memory.Changes.{on_top, restacked, placed, caught, caught_by, catching, catching_by, IsThrown}
+use Rattle.py_states.specs.inner.Changes.{on_top, restacked, placed, caught, caught_by, catching, catching_by, IsThrown}
 
 -- other values in the place of the operands, at another place
 pub go_on_is : (n k place : ℕ) (ys : List Value) (fs : List Frame) → (let f = innermost fs in k ≡ length f.stack - n)

@@ -1,2 +1,2 @@
 pub mod Innermost
-pub mod memory
+pub mod inner

@@ -1,9 +1,9 @@
 //! The frames of a thread, one behind the other in three lists.
 ghost use Rattle.std.specs.Prelude.{◌≡◌, ◌+◌, ◌<◌, ◌≤◌, [], ◌∷◌, length, drop, slice_get, OnOk, IfOk, IsTrue, ◌↔◌};
 ghost use Rattle.py_states.specs.Innermost.{innermost};
-ghost use Rattle.py_states.specs.memory.Changes.{on_top, restacked, placed, catching};
-ghost use Rattle.py_states.specs.memory.Framed.{HasRoom};
-ghost use Rattle.py_states.specs.memory.Laid.{opening};
+ghost use Rattle.py_states.specs.inner.Changes.{on_top, restacked, placed, catching};
+ghost use Rattle.py_states.specs.inner.Framed.{HasRoom};
+ghost use Rattle.py_states.specs.inner.Laid.{opening};
 ghost use Rattle.py_frames.specs.State.{stored, opened, closed};
 
 use crate::head::Head;
@@ -26,11 +26,11 @@ pub struct Frames {
 }
 
 impl Model for Frames {
-    ghost use Rattle.py_states.specs.memory.Framed.{Framed};
+    ghost use Rattle.py_states.specs.inner.Framed.{Framed};
 
     ghost Value = { Framed };
 
-    ghost use Rattle.py_states.specs.memory.Laid.{laid, IsLaid};
+    ghost use Rattle.py_states.specs.inner.Laid.{laid, IsLaid};
 
     ghost view = { λ a. record {
       frames = laid a.heads.entries a.values.entries a.blocks.entries;

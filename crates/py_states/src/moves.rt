@@ -1,8 +1,8 @@
 //! What the frames of a thread do, of changes of the innermost one.
 ghost use Rattle.std.specs.Prelude.{◌≡◌, ◌+◌, ◌-◌, ◌≤◌, [], ◌∷◌, length, drop, OnOk, OnErr, IfOk};
 ghost use Rattle.py_states.specs.Innermost.{innermost};
-ghost use Rattle.py_states.specs.memory.Framed.{HasRoom};
-ghost use Rattle.py_states.specs.memory.Changes.{on_top, caught, IsThrown};
+ghost use Rattle.py_states.specs.inner.Framed.{HasRoom};
+ghost use Rattle.py_states.specs.inner.Changes.{on_top, caught, IsThrown};
 ghost use Rattle.py_frames.specs.State.{advanced, pushed, unwound};
 
 use crate::frames::Frames;

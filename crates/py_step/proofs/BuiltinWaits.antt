@@ -31,7 +31,7 @@ use Rattle.obj_threads.specs.Quiet.{Never}
 use Rattle.obj_threads.specs.Starting.{count_row, tuple_row, target_row, answer_row, room_row, start_by, start_called as start_tested, start_with, begin_row, start_new_with, start_new_row}
 use Rattle.obj_threads.specs.Threads.{made_thread, empty_row, thread_by, thread_with, thread_of_target, thread_given, thread_keyed, new_thread_row, start_called, start_fresh, start_by_number, start_row, is_me, current_fault, joined, join_other, join_started, join_by_number, join_row, bare_thread_row, thread_bare, thread_of, thread_at, thread_row, member_row, thread_call_row}
 use Rattle.obj_builtins.specs.Calls.{valued, str_call, list_call, dict_call, method_by, method_keyed, method_of, method_at, object_row, function_call, function_keyed, input_call, input_keyed, other_row, call_row}
-use Rattle.py_step.specs.Peeked.{Comes, Avoids, Tells, AnswersWait, AreClosed, IsOf}
+use Rattle.py_step.specs.inner.Peeked.{Comes, Avoids, Tells, AnswersWait, AreClosed, IsOf}
 use Rattle.py_step.proofs.PeekedRows.{there_at, tells_then, comes_kind, comes_look}
 use Rattle.py_frames.proofs.WorkingRows.{never_ret, never_do, never_bind}
 

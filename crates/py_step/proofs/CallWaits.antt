@@ -24,7 +24,7 @@ use Rattle.py_frames.specs.CallRows.{answered, keyed_call, key_pairs, keys_row, 
 use Rattle.py_frames.specs.ClassCalls.{Site}
 use Rattle.py_frames.specs.Raising.{values_row}
 use Rattle.py_frames.specs.State.{State}
-use Rattle.py_step.specs.Peeked.{Comes, Tells, AnswersWait, LeadsToWait, IsOf}
+use Rattle.py_step.specs.inner.Peeked.{Comes, Tells, AnswersWait, LeadsToWait, IsOf}
 use Rattle.py_step.proofs.BuiltinWaits.{other_goes}
 use Rattle.py_frames.proofs.QuietSteps.{start_works}
 use Rattle.py_step.proofs.PeekedRows.{never_avoids, tells_then, tells_after, comes_kind, comes_look}

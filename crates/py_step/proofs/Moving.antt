@@ -20,8 +20,8 @@ use Rattle.py_frames.specs.State.{State, instr_at, life_by, life_of, pops, opera
 use Rattle.py_frames.specs.Steps.{guarded_row, site_of, step_at, step_by, step_row}
 use Rattle.py_states.specs.Innermost.{innermost, settled_in, Settles}
 use Rattle.py_states.proofs.Running.{there_is, settled_there}
-use Rattle.py_step.specs.Moves.{Moves, dying_step, dying_words}
-use Rattle.py_step.specs.Operators.{HasOperator, IsOperable}
+use Rattle.py_step.specs.inner.Moves.{Moves, dying_step, dying_words}
+use Rattle.py_step.specs.inner.Operators.{HasOperator, IsOperable}
 
 -- ---- a thread that lives has a frame
 

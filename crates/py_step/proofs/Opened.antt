@@ -17,8 +17,8 @@ use Rattle.py_frames.specs.Sound.{Sound}
 use Rattle.py_frames.specs.State.{State, limits, instr_at, life_of}
 use Rattle.py_frames.specs.Steps.{step_row}
 use Rattle.py_frames.proofs.SoundLaws.{safe_law, never_lacks_law}
-use Rattle.py_step.specs.Moves.{Moves}
-use Rattle.py_step.specs.Operators.{HasOperator, IsOperable}
+use Rattle.py_step.specs.inner.Moves.{Moves}
+use Rattle.py_step.specs.inner.Operators.{HasOperator, IsOperable}
 
 -- what an instruction names is there, its operator too
 operator_of : (k : Limits) (i : Instr) → IsKnown k i → HasOperator i

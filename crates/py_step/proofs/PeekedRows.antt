@@ -11,7 +11,7 @@ use Rattle.lock_run.specs.declared.client.Outcome.{Outcome}
 use Rattle.lock_run.specs.Client.{Waiting, Going}
 use Rattle.obj_threads.specs.Quiet.{Never}
 use Rattle.py_frames.specs.State.{State}
-use Rattle.py_step.specs.Peeked.{Comes, Avoids, Tells, EndsInWait}
+use Rattle.py_step.specs.inner.Peeked.{Comes, Avoids, Tells, EndsInWait}
 
 -- the record that is there
 pub there_at : (h : Heap) (a : ℕ) → Has h a → h a ≡ Some (at h a)

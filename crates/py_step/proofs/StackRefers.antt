@@ -11,7 +11,7 @@ use Rattle.py_frames.specs.declared.state.Frame.{Frame}
 use Rattle.py_frames.specs.Sound.{CanGoOn, AreFrames, IsState, first_state, Sound}
 use Rattle.py_frames.specs.State.{State}
 use Rattle.py_states.specs.Innermost.{innermost}
-use Rattle.py_step.specs.Peeked.{AreClosed}
+use Rattle.py_step.specs.inner.Peeked.{AreClosed}
 
 pub every_skip : {A : Type 0} (P : A → Type 0) (n : ℕ) (xs : List A) → Every P xs → Every P (drop n xs)
 every_skip P zero xs e = e

@@ -21,7 +21,7 @@ use Rattle.py_frames.specs.Raising.{place_of, raise_row}
 use Rattle.py_frames.specs.State.{State, code_at, instr_at, pops, operands, settled, life_by, life_of}
 use Rattle.py_frames.specs.Steps.{given_in, wanted, has_unset, instr_row, guarded_row, site_of, step_at, step_by, step_row}
 use Rattle.py_states.specs.Innermost.{innermost}
-use Rattle.py_step.specs.Peeked.{Comes, Avoids, Tells, LeadsToWait, EndsInWait}
+use Rattle.py_step.specs.inner.Peeked.{Comes, Avoids, Tells, LeadsToWait, EndsInWait}
 use Rattle.py_step.proofs.CallWaits.{keyed_works}
 use Rattle.py_frames.proofs.QuietSteps.{is_call, instr_works, settled_waits}
 use Rattle.py_step.proofs.PeekedRows.{never_avoids, tells_after}

@@ -1,4 +1,4 @@
--- The program of a client.
+-- The program of a client. States `docs/HEAP.md`, "Clients".
 use Rattle.py_code.specs.declared.program.Program.{Program}
 use Rattle.py_step.specs.declared.client.PyClient.{PyClient}
 

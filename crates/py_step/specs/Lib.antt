@@ -1,4 +1,2 @@
-pub mod Operators
-pub mod Moves
 pub mod Client
-pub mod Peeked
+pub mod inner

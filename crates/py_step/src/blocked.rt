@@ -13,7 +13,7 @@ ghost use Rattle.py_frames.specs.Sound.{Sound};
 ghost use Rattle.py_frames.specs.State.{code_at, life_of, operands, pops as taken};
 ghost use Rattle.py_frames.specs.Steps as steps;
 ghost use Rattle.py_states.specs.Innermost.{innermost};
-ghost use Rattle.py_step.specs.Peeked.{AreClosed, LeadsToWait, Tells};
+ghost use Rattle.py_step.specs.inner.Peeked.{AreClosed, LeadsToWait, Tells};
 
 mod builtins;
 mod calls;

@@ -3,7 +3,7 @@ ghost use Rattle.std.specs.Prelude.{◌≡◌, ◌++◌, drop, take};
 ghost use Rattle.py_data.specs.Sense.{Meets, Safe, IsLive};
 ghost use Rattle.py_frames.specs.Steps as steps;
 ghost use Rattle.py_states.specs.Innermost.{innermost};
-ghost use Rattle.py_step.specs.Operators.{HasOperator};
+ghost use Rattle.py_step.specs.inner.Operators.{HasOperator};
 
 use crate::instrs::instr_row;
 use py_base::{first, skip};

@@ -14,7 +14,7 @@ ghost use Rattle.py_frames.specs.Raising as raising;
 ghost use Rattle.py_frames.specs.State as state;
 ghost use Rattle.py_frames.specs.Steps as steps;
 ghost use Rattle.py_states.specs.Innermost.{innermost};
-ghost use Rattle.py_step.specs.Operators.{HasOperator};
+ghost use Rattle.py_step.specs.inner.Operators.{HasOperator};
 
 use crate::place::place_of;
 use py_base::{first, skip};

@@ -6,8 +6,8 @@ ghost use Rattle.py_data.specs.Sense.{Meets, Safe, IsLive};
 ghost use Rattle.py_frames.specs.State as state;
 ghost use Rattle.py_frames.specs.Steps as steps;
 ghost use Rattle.py_states.specs.Innermost.{innermost};
-ghost use Rattle.py_step.specs.Moves.{Moves, dying_step, dying_words};
-ghost use Rattle.py_step.specs.Operators.{HasOperator, IsOperable};
+ghost use Rattle.py_step.specs.inner.Moves.{Moves, dying_step, dying_words};
+ghost use Rattle.py_step.specs.inner.Operators.{HasOperator, IsOperable};
 
 use crate::guard::guarded_row;
 use crate::operands::pops;

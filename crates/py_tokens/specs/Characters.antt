@@ -1,5 +1,5 @@
--- The characters of a text: its bytes, where CR LF and CR count as LF, each with its place and its line. States
--- `docs/LANGUAGE.md`, "Characters".
+-- The characters of a text: its bytes, where CR LF and CR count as LF, each with its place and its line.
+-- States `docs/LANGUAGE.md`, "Characters".
 use Rattle.std.specs.Prelude.{ℕ, ◌+◌, Bool, false, ◌==◌, ◌&&◌, if◌then◌else◌, List, [], ◌∷◌, drop}
 use Rattle.py_tokens.specs.declared.character.Character.{Character}
 

@@ -1,4 +1,4 @@
--- Classes of characters, and the longest run of one at the front of a text.
+-- Classes of characters, and the longest run of one at the front of a text. States `docs/LANGUAGE.md`, "Characters".
 use Rattle.std.specs.Prelude.{ℕ, ◌+◌, Bool, false, nat_lt, nat_le, ◌==◌, ◌&&◌, ◌||◌, not, List, [], ◌∷◌, take, drop}
 use Rattle.std.specs.Char.{digit_value}
 use Rattle.std.specs.List.{prefix_len}

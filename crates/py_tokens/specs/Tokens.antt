@@ -1,4 +1,4 @@
--- What the calls of this crate promise.
+-- What the calls of this crate promise. States `docs/LANGUAGE.md`, "Tokens".
 use Rattle.std.specs.Prelude.{◌≡◌, ℕ, List, [], ◌∷◌, ◌++◌, Option, Some, None, Result, Ok, Err}
 use Rattle.py_base.specs.declared.refusal.Refusal.{Refusal}
 use Rattle.py_tokens.specs.declared.error.TokenError.{TokenError}

@@ -3,7 +3,7 @@ use Rattle.std.proofs.Common.{ℕ, ◌+◌, ◌≤◌, List, [], ◌∷◌, ◌+
 use Rattle.py_tokens.specs.declared.token.Token.{Token}
 use Rattle.py_tokens.specs.declared.token.TokenKind.{TokenKind}
 use Rattle.py_tokens.specs.declared.token.TokenKind.TheVariants.{Name, Keyword, Int, Str, Op, Newline, Indent, Dedent, End, Other}
-use Rattle.py_tree.specs.Laid.{IsWord}
+use Rattle.py_tree.specs.inner.Laid.{IsWord}
 
 -- a token of this kind on this line, from a line on: what holds of the tokens that follow
 abbrev pub lined_kind : TokenKind → ℕ → ℕ → (ℕ → Type 0) → Type 0

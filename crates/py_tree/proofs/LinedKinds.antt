@@ -21,7 +21,7 @@ use Rattle.py_tokens.specs.Strings.{prefix_of, quotes, quotes_len, quotes_at, bo
 use Rattle.py_tokens.specs.Names.{word_number, name_kind, named, name_at, operator_at, begins}
 use Rattle.py_tokens.specs.Tables.{keywords}
 use Rattle.py_tokens.proofs.InOrder.{IsInLine}
-use Rattle.py_tree.specs.Laid.{is_name, has_number}
+use Rattle.py_tree.specs.inner.Laid.{is_name, has_number}
 use Rattle.py_tree.proofs.Lined.{IsKept}
 
 abbrev pub Bytes : List ℕ → Type 0

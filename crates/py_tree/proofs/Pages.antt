@@ -16,7 +16,7 @@ use Rattle.py_tree.specs.Canonical.{all, ended, trailing}
 use Rattle.py_tree.specs.Lexeme.{Lexeme, lexeme}
 use Rattle.py_tree.specs.Spelling.{Words, led, commas, all_words, round, tuple_words, words, words_trailer, words_named, words_pair, words_link, operator_words}
 use Rattle.py_tree.specs.Writing.{joints}
-use Rattle.py_tree.specs.Page.{put, put_all, spell, comma_if, listed}
+use Rattle.py_tree.specs.inner.Page.{put, put_all, spell, comma_if, listed}
 use Rattle.py_tree.proofs.Spellings.{words_name, words_int, words_str, words_group, words_tuple, words_list, words_dict, words_trail, words_power, words_unary, words_chain, words_not, words_choice, words_attribute, words_index, words_slice, words_call, words_pair_is, words_named_is, words_link_is}
 
 pub one_joint : (a b d whole : List ℕ) (n i : ℕ) → i < n → b ≡ a ++ 92 ∷ [] → d ≡ b ++ 10 ∷ [] → a ++ joints (n - i) ≡ whole → d ++ joints (n - (i + 1)) ≡ whole

@@ -18,7 +18,7 @@ use Rattle.py_tree.specs.declared.stmt.Stmt.TheFolds.{fold-Arm, fold-Clause, fol
 use Rattle.py_tree.specs.Lexeme.{Lexeme}
 use Rattle.py_tree.specs.Spelling.{commas, round, words}
 use Rattle.py_tree.specs.Canonical.{Piece, Simple, Compound, block_lexemes, all, ended, expr_or, led_or, assigning, trailing, name_words, imported_words, param_words, base_words, head, Headless, clauses, arms, all_lexemes, stmt_piece, arm_lexemes, clause_lexemes, handler_lexemes, piece, pieces}
-pub use Rattle.py_tree.specs.Clauses.{lexemes_arm, lexemes_arms, lexemes_if, lexemes_clause, lexemes_clause_or, lexemes_handler, lexemes_handlers}
+pub use Rattle.py_tree.specs.inner.Clauses.{lexemes_arm, lexemes_arms, lexemes_if, lexemes_clause, lexemes_clause_or, lexemes_handler, lexemes_handlers}
 
 -- ---- simple statements
 

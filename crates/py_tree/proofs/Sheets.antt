@@ -15,8 +15,8 @@ use Rattle.py_tree.specs.declared.writer.Writer.{Writer}
 use Rattle.py_tree.specs.Lexeme.{Lexeme, lexeme}
 use Rattle.py_tree.specs.Spelling.{Words, words}
 use Rattle.py_tree.specs.Canonical.{Piece, Simple, Compound, on, ending, in_order, block_lexemes, head, expr_or, led_or, piece, pieces, module_text}
-use Rattle.py_tree.specs.Clauses.{lexemes_arm, lexemes_arms, lexemes_if, lexemes_clause, lexemes_clause_or, lexemes_handler, lexemes_handlers, simple_line, piece_lexemes, joint, resumed}
-use Rattle.py_tree.specs.Page.{pen_of, put, put_all, spell}
+use Rattle.py_tree.specs.inner.Clauses.{lexemes_arm, lexemes_arms, lexemes_if, lexemes_clause, lexemes_clause_or, lexemes_handler, lexemes_handlers, simple_line, piece_lexemes, joint, resumed}
+use Rattle.py_tree.specs.inner.Page.{pen_of, put, put_all, spell}
 use Rattle.py_tree.specs.Writing.{Pen, mark, moved, written, first_pen}
 use Rattle.py_tree.proofs.Pages.{spell_append, put_all-append}
 use Rattle.py_tree.proofs.Pieces.{piece_laws, piece_for, piece_try}

@@ -10,8 +10,8 @@ use Rattle.py_tokens.specs.declared.token.TokenKind.TheVariants as k
 use Rattle.py_tokens.specs.Layout.{Laid, before, popped, closing}
 use Rattle.py_tokens.specs.Place.{token_at}
 use Rattle.py_tokens.proofs.Stacks.{before_append, before_nothing}
-use Rattle.py_tree.specs.Laid.{Stand, IsWord, brackets, after_word, MayClose, Stands, IsLaid}
-use Rattle.py_tree.specs.Laid.Stand.{Start, Indented, Dedented, Within}
+use Rattle.py_tree.specs.inner.Laid.{Stand, IsWord, brackets, after_word, MayClose, Stands, IsLaid}
+use Rattle.py_tree.specs.inner.Laid.Stand.{Start, Indented, Dedented, Within}
 use Rattle.py_tree.specs.Lexeme.{Lexeme, lexeme, lexeme_of, line_kept}
 use Rattle.py_tree.specs.Writing.{spelling, pen, joints, worded, written}
 use Rattle.py_tree.proofs.WrittenFronts.{skip}

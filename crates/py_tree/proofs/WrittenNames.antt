@@ -10,7 +10,7 @@ use Rattle.py_tokens.specs.Strings.{prefix_of}
 use Rattle.py_tokens.specs.Names.{word_number, name_kind, named, name_at}
 use Rattle.py_tokens.specs.Tables.{keywords}
 use Rattle.py_tokens.specs.Words.{token_word}
-use Rattle.py_tree.specs.Laid.{is_name}
+use Rattle.py_tree.specs.inner.Laid.{is_name}
 use Rattle.py_tree.proofs.WrittenRows.{row, Spelt, entry, both}
 use Rattle.py_tree.proofs.WrittenFronts.{front_name, quiet_by, bytes_row, run_row, after_row}
 

@@ -17,7 +17,7 @@ use Rattle.py_tokens.specs.Tokens.{to_come, took, depth_of}
 use Rattle.py_tokens.specs.Words.{word_at, is_opening, is_closing, with_word, cut_more, cut}
 use Rattle.py_tokens.proofs.Laying.{Follows, follows_opens, follows_closes, follows_plain}
 use Rattle.py_tokens.proofs.Stacks.{before_append, before_nothing}
-use Rattle.py_tree.specs.Laid.{after_word}
+use Rattle.py_tree.specs.inner.Laid.{after_word}
 use Rattle.py_tree.specs.Lexeme.{Lexeme, lexeme, lexeme_of, line_kept}
 use Rattle.py_tree.specs.Writing.{joints}
 use Rattle.py_tree.proofs.WrittenRows.{plain, row, ahead, word_for, Spelt, plain-row}

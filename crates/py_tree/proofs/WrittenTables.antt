@@ -8,7 +8,7 @@ use Rattle.py_tokens.specs.Names.{name_at}
 use Rattle.py_tokens.specs.Tables.{keywords, operators}
 use Rattle.py_tokens.specs.Words.{word_at}
 use Rattle.py_tree.specs.Writing.{word_of}
-use Rattle.py_tree.specs.Laid.{has_number}
+use Rattle.py_tree.specs.inner.Laid.{has_number}
 use Rattle.py_tree.proofs.WrittenRows.{Spelt, entry}
 
 -- each word of a table is read as a token of its number

@@ -10,8 +10,8 @@ use Rattle.py_tokens.specs.Characters.{character, characters, has_mark, line_aft
 use Rattle.py_tokens.specs.Layout.{laid, lexed, tokens_of_text}
 use Rattle.py_tokens.specs.Place.{place}
 use Rattle.py_tokens.specs.Tokens.{to_come}
-use Rattle.py_tree.specs.Laid.{Stand, IsWord, brackets, after_word, Stands, IsLaid}
-use Rattle.py_tree.specs.Laid.Stand.{Start, Within}
+use Rattle.py_tree.specs.inner.Laid.{Stand, IsWord, brackets, after_word, Stands, IsLaid}
+use Rattle.py_tree.specs.inner.Laid.Stand.{Start, Within}
 use Rattle.py_tree.specs.Lexeme.{Lexeme, lexeme, lexeme_of}
 use Rattle.py_tree.specs.Writing.{spelling, Pen, pen, joints, gap, worded, written, first_pen}
 use Rattle.py_tree.proofs.WrittenRows.{plain, is_quiet, quiet, both, quiet_byte}

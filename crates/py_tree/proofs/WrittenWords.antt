@@ -3,7 +3,7 @@ use Rattle.std.proofs.Common.{sym, subst}
 use Rattle.std.specs.Fmt.{signed_decimal}
 use Rattle.py_tokens.specs.declared.token.TokenKind.{TokenKind}
 use Rattle.py_tokens.specs.declared.token.TokenKind.TheVariants as k
-use Rattle.py_tree.specs.Laid.{IsWord}
+use Rattle.py_tree.specs.inner.Laid.{IsWord}
 use Rattle.py_tree.specs.Writing.{spelling}
 use Rattle.py_tree.proofs.WrittenRows.{Spelt}
 use Rattle.py_tree.proofs.WrittenNames.{spelt_name}

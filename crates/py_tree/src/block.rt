@@ -4,8 +4,8 @@
 ghost use Rattle.std.specs.Prelude.{◌≡◌, IfOk, OnOk};
 ghost use Rattle.py_tokens.specs.declared.token.TokenKind.TheVariants as k;
 ghost use Rattle.py_tree.specs.Canonical.{begins_on, in_order, block_lexemes, piece, pieces, module_text};
-ghost use Rattle.py_tree.specs.Clauses.{lexemes_arm, lexemes_if, lexemes_clause, lexemes_clause_or, lexemes_handlers, simple_line, piece_lexemes, joint};
-ghost use Rattle.py_tree.specs.Page.{put_all};
+ghost use Rattle.py_tree.specs.inner.Clauses.{lexemes_arm, lexemes_if, lexemes_clause, lexemes_clause_or, lexemes_handlers, simple_line, piece_lexemes, joint};
+ghost use Rattle.py_tree.specs.inner.Page.{put_all};
 
 use crate::simple;
 use crate::spell::expression;

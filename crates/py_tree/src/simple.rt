@@ -7,7 +7,7 @@ ghost use Rattle.py_tokens.specs.declared.operator.TheConstants as op;
 ghost use Rattle.py_tokens.specs.declared.token.TokenKind.TheVariants as k;
 ghost use Rattle.py_tree.specs.Spelling.{commas, round, words};
 ghost use Rattle.py_tree.specs.Canonical.{all, ended, expr_or, led_or, assigning, trailing, name_words, bound_words, imported_words, param_words, base_words};
-ghost use Rattle.py_tree.specs.Page.{spell};
+ghost use Rattle.py_tree.specs.inner.Page.{spell};
 
 use crate::expr::{Expr, Operator};
 use crate::spell::{expression, listed, separate};

@@ -6,7 +6,7 @@ ghost use Rattle.py_tokens.specs.declared.operator.TheConstants as op;
 ghost use Rattle.py_tokens.specs.declared.token.TokenKind.TheVariants as k;
 ghost use Rattle.py_tree.specs.Spelling.{operator_words, sign_words, commas, all_words, words, words_trailer, words_link, words_named, words_pair};
 ghost use Rattle.py_tree.specs.Canonical.{expr_or};
-ghost use Rattle.py_tree.specs.Page.{spell, comma_if, listed};
+ghost use Rattle.py_tree.specs.inner.Page.{spell, comma_if, listed};
 
 use crate::expr::{Expr, Link, Named, Operator, Pair, Sign, Trailer};
 use crate::writer::Writer;

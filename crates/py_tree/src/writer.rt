@@ -6,7 +6,7 @@ ghost use Rattle.py_tokens.specs.Tables.{keywords, operators};
 ghost use Rattle.py_tokens.specs.declared.token.TokenKind.TheVariants as k;
 ghost use Rattle.py_tree.specs.Lexeme.{lexeme};
 ghost use Rattle.py_tree.specs.Writing.{word_of, joints, gap};
-ghost use Rattle.py_tree.specs.Page.{pen_of, with_word, put};
+ghost use Rattle.py_tree.specs.inner.Page.{pen_of, with_word, put};
 
 use py_base::{Bytes, NoMemory};
 use py_text::{print_int, repr_bytes};

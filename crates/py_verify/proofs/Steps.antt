@@ -8,8 +8,8 @@ use Rattle.std.proofs.lemmas.Bool.{cases_eq}
 use Rattle.py_code.specs.declared.instr.Instr.{Instr}
 use Rattle.py_code.specs.Effects.{Forward, Effect, Limits, effect, Sh, Fine, there, after, target_of, goes_on}
 use Rattle.py_code.specs.Typing.{shape_at, start, Leads, RightAt, IsTyping, IsRight}
-use Rattle.py_verify.specs.Flows.{next_of}
-use Rattle.py_verify.specs.Work.{Below, Has, spare, left, Grew, Flowed, Flows, Visited, Visits, Going}
+use Rattle.py_verify.specs.inner.Flows.{next_of}
+use Rattle.py_verify.specs.inner.Work.{Below, Has, spare, left, Grew, Flowed, Flows, Visited, Visits, Going}
 
 below_same : (t : List (Option Sh)) → Below t t
 below_same t p s h = h

@@ -1,4 +1,1 @@
-pub mod Flows
-pub mod Tests
-pub mod Whole
-pub mod Work
+pub mod inner

@@ -29,7 +29,7 @@ pub struct Context<'s, 'a> {
 impl<'s, 'a> Model for Context<'s, 'a> {
     ghost use Rattle.std.specs.Prelude.{◌≡◌, ◌+◌, length};
     ghost use Rattle.py_code.specs.Right.{all_instrs, bodies, first_text, names_of, texts_of};
-    ghost use Rattle.py_verify.specs.Whole.{Around};
+    ghost use Rattle.py_verify.specs.inner.Whole.{Around};
 
     ghost Value = { Around };
 

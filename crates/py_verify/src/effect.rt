@@ -1,7 +1,7 @@
 //! What an instruction takes from the stack and leaves there, and where it goes on.
 ghost use Rattle.std.specs.Prelude.{◌≡◌, ◌↔◌, ◌<◌, ◌≤◌, ◌^◌, IsTrue};
 ghost use Rattle.py_code.specs.Effects.{effect, Forward, jumps, plain, pushed_there, target_of};
-ghost use Rattle.py_verify.specs.Flows.{effect_of, flow_of, next_of};
+ghost use Rattle.py_verify.specs.inner.Flows.{effect_of, flow_of, next_of};
 
 use crate::bounds::Bounds;
 use py_code::Instr;

@@ -2,7 +2,7 @@
 ghost use Rattle.std.specs.Prelude.{◌≡◌, ◌+◌, ◌≤◌, ◌∷◌, [], false, true, IfOk, length, MatchOption, option_map, None, Some, IsTrue, ◌↔◌};
 ghost use Rattle.std.specs.List.{last_or};
 ghost use Rattle.py_code.specs.Right.{cells_of, differ, has, HasRoots, main_name, names_of, own_name, texts_of};
-ghost use Rattle.py_verify.specs.Tests.{any_long, are_cells, are_classes, are_roots, are_texts, is_cell_by, is_class_by, is_empty, is_long_by, is_text_by, IsFormed};
+ghost use Rattle.py_verify.specs.inner.Tests.{any_long, are_cells, are_classes, are_roots, are_texts, is_cell_by, is_class_by, is_empty, is_long_by, is_text_by, IsFormed};
 
 use crate::names::NameSet;
 use py_base::{Kind, NoMemory, exception, split};

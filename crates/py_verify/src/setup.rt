@@ -2,7 +2,7 @@
 ghost use Rattle.std.specs.Prelude.{◌≡◌, ◌↔◌, IsTrue};
 ghost use Rattle.py_code.specs.Right.{first_place, SetsUp};
 ghost use Rattle.py_code.specs.Typing.{HasNoSetup};
-ghost use Rattle.py_verify.specs.Tests.{is_setup, no_setup};
+ghost use Rattle.py_verify.specs.inner.Tests.{is_setup, no_setup};
 
 use py_base::split;
 use py_code::Instr;

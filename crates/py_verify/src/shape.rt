@@ -2,7 +2,7 @@
 ghost use Rattle.std.specs.Prelude.{◌≡◌, ◌↔◌, ◌+◌, ◌<◌, ◌≤◌, ◌^◌, [], ◌∷◌, IfOk, IsTrue, length};
 ghost use Rattle.py_code.specs.Effects.{after, blocks_after, effect, Fine, floor_of, HasBlock, pushed_there, Sh, there};
 ghost use Rattle.py_code.specs.Typing.{start};
-ghost use Rattle.py_verify.specs.Flows.{effect_of, flow_of};
+ghost use Rattle.py_verify.specs.inner.Flows.{effect_of, flow_of};
 
 use crate::bounds::Bounds;
 use crate::effect::{Effect, Flow};

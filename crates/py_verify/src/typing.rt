@@ -1,7 +1,7 @@
 //! The search for a typing of a code: the shape of each place that can be reached.
 ghost use Rattle.std.specs.Prelude.{◌≡◌, ◌↔◌, ◌<◌, ◌^◌, IfOk, IsTrue, length, None, replicate};
 ghost use Rattle.py_code.specs.Typing.{IsRight};
-ghost use Rattle.py_verify.specs.Work.{Flows, Visits};
+ghost use Rattle.py_verify.specs.inner.Work.{Flows, Visits};
 
 use crate::bounds::Bounds;
 use crate::effect::effect_in;

@@ -6,7 +6,7 @@ use Rattle.py_data.specs.declared.change.Change.{Change}
 use Rattle.py_data.specs.declared.undo.Undo.{Undo}
 use Rattle.py_data.specs.Heap.{Rec, Heap, put_at}
 use Rattle.py_data.specs.Undo.{before}
-use Rattle.seg_store.specs.Journal.{restored, restore_at, taken_back, CanRestore, IsUndoable, IsChanged}
+use Rattle.seg_store.specs.inner.Journal.{restored, restore_at, taken_back, CanRestore, IsUndoable, IsChanged}
 use Rattle.seg_store.proofs.Sees.{same_heap, other_number}
 
 -- the journal with an entry more, where the heap is known without it

@@ -4,7 +4,7 @@ use Rattle.std.proofs.lemmas.Bool.{or_cases}
 use Rattle.std.proofs.lemmas.Bool.Decides.{eqb_tells}
 use Rattle.std.proofs.lemmas.List.{length-set, get_or-set_same, get_or-set_other}
 use Rattle.py_data.specs.Sight.{mem}
-use Rattle.seg_store.specs.Flags.{IsListed}
+use Rattle.seg_store.specs.inner.Flags.{IsListed}
 use Rattle.seg_store.proofs.Sees.{mem_last, same_number}
 
 mem_more : (b a : ℕ) (xs : List ℕ) → mem b xs ≡ true → mem b (xs ++ a ∷ []) ≡ true

@@ -10,7 +10,7 @@ use Rattle.py_data.specs.Changes.{after, Allows, IsShort}
 use Rattle.py_data.specs.Heap.{Rec, is_tracked}
 use Rattle.py_data.proofs.Grow.{for_tracked}
 use Rattle.py_data.proofs.Short.{short_after}
-use Rattle.seg_store.specs.Holding.{one_list, IsGood}
+use Rattle.seg_store.specs.inner.Holding.{one_list, IsGood}
 
 pub good_some : (x : Option Rec) (o : Option (Bor Rec)) → option_copied o ≡ x → ((r : Rec) → x ≡ Some r → IsGood r) → IfSome o (λ r. IsGood r.now)
 good_some x None e f = tt

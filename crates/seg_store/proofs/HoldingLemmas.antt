@@ -9,7 +9,7 @@ use Rattle.py_data.specs.Collection.{places}
 use Rattle.py_data.specs.Heap.{Rec, Heap, put_at, no_records}
 use Rattle.py_data.specs.Sense.{IfThere}
 use Rattle.py_data.specs.Sight.{mem}
-use Rattle.seg_store.specs.Holding.{IsGood, IsHeld}
+use Rattle.seg_store.specs.inner.Holding.{IsGood, IsHeld}
 use Rattle.seg_store.proofs.Sees.{mem_last}
 use Rattle.seg_store.proofs.Goodness.{good_change}
 

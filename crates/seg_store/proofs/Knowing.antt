@@ -9,8 +9,8 @@ use Rattle.py_data.specs.Sight.{mem}
 use Rattle.seg_store.specs.declared.hand.Hand.{Hand}
 use Rattle.seg_store.specs.Meaning.{Part, holds}
 use Rattle.seg_store.specs.Store.{NoneOf, IsStored, AreStored, IsStore}
-use Rattle.seg_store.specs.Holding.{is_empty, IsGood}
-use Rattle.seg_store.specs.Tables.{part_in, IsSound}
+use Rattle.seg_store.specs.inner.Holding.{is_empty, IsGood}
+use Rattle.seg_store.specs.inner.Tables.{part_in, IsSound}
 use Rattle.seg_store.proofs.Stores.{meant}
 
 empty_list : {T : Type 0} (xs : List T) → is_empty xs ≡ true → xs ≡ []

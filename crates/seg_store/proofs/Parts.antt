@@ -6,8 +6,8 @@ use Rattle.py_data.specs.Heap.{Rec}
 use Rattle.py_data.specs.Sight.{mem}
 use Rattle.seg_store.specs.Meaning.{Part, Meaning, over, sees, holds, with_part}
 use Rattle.seg_store.specs.Calls.{first_locked, made, ended, after_publish}
-use Rattle.seg_store.specs.Holding.{IsGood}
-use Rattle.seg_store.specs.Tables.{IsSound}
+use Rattle.seg_store.specs.inner.Holding.{IsGood}
+use Rattle.seg_store.specs.inner.Tables.{IsSound}
 use Rattle.seg_store.proofs.Sees.{mem_last}
 
 -- a property of each part: of the one that is set, and of the others

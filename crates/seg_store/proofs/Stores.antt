@@ -14,10 +14,10 @@ use Rattle.seg_store.specs.declared.hand.Hand.{Hand}
 use Rattle.seg_store.specs.Meaning.{Part, Meaning, no_part, over, overlay, sees, holds, with_part}
 use Rattle.seg_store.specs.Calls.{begun, marked, first_locked, locked, changed, made, opened, undone, ended, after_begin, after_mark, after_lock, after_change, after_make, after_open, after_undo, after_publish, after_drop}
 use Rattle.seg_store.specs.Store.{NoOther, IsHolder, IsFree}
-use Rattle.seg_store.specs.Hands.{part_of}
-use Rattle.seg_store.specs.Holding.{Changes, IsGood}
-use Rattle.seg_store.specs.Images.{stands, image_in, Reaches}
-use Rattle.seg_store.specs.Tables.{part_in, meaning_in, IsSound}
+use Rattle.seg_store.specs.inner.Hands.{part_of}
+use Rattle.seg_store.specs.inner.Holding.{Changes, IsGood}
+use Rattle.seg_store.specs.inner.Images.{stands, image_in, Reaches}
+use Rattle.seg_store.specs.inner.Tables.{part_in, meaning_in, IsSound}
 use Rattle.seg_store.proofs.Slices.{set_table, push_table}
 use Rattle.seg_store.proofs.Sees.{same_heap}
 use Rattle.seg_store.proofs.Parts.{Fits, part_sound, more_sound, fewer, lock_fits, make_fits, publish_sound, fresh_free}

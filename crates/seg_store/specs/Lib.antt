@@ -4,15 +4,6 @@ pub mod Extents
 pub mod Asking
 pub mod Store
 pub mod Laws
-pub mod Journal
-pub mod Images
-pub mod Placed
-pub mod Table
-pub mod Space
-pub mod Flags
-pub mod Looks
-pub mod Holding
-pub mod Hands
-pub mod Tables
 pub mod Plain
 pub mod Worked
+pub mod inner

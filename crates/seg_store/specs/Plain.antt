@@ -3,7 +3,7 @@ use Rattle.std.specs.Prelude.{ℕ, length, slice_get}
 use Rattle.py_data.specs.Heap.{no_records}
 use Rattle.seg_store.specs.declared.plain.PlainStore.{PlainStore}
 use Rattle.seg_store.specs.Meaning.{Meaning, no_part}
-use Rattle.seg_store.specs.Tables.{meaning_in}
+use Rattle.seg_store.specs.inner.Tables.{meaning_in}
 
 abbrev pub plain_meaning : PlainStore → Meaning
 plain_meaning s = meaning_in (slice_get s.image.items) (slice_get s.hands.items) (length s.hands.items)

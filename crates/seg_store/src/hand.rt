@@ -2,11 +2,11 @@
 ghost use Rattle.std.specs.Prelude.{◌≡◌, ◌<◌, false, length, slice_get, Some, IfSome, OnOk, OnErr, option_copied};
 ghost use Rattle.py_data.specs.Changes.{Allows};
 ghost use Rattle.py_data.specs.Sense.{IfThere};
-ghost use Rattle.seg_store.specs.Images.{image_in, Reaches};
+ghost use Rattle.seg_store.specs.inner.Images.{image_in, Reaches};
 ghost use Rattle.seg_store.specs.Meaning.{no_part, holds, overlay};
 ghost use Rattle.seg_store.specs.Calls.{begun, marked, first_locked, made, opened, undone, ended};
-ghost use Rattle.seg_store.specs.Holding.{IsGood, IsHeld, Changes};
-ghost use Rattle.seg_store.specs.Space.{space_heap, space_base};
+ghost use Rattle.seg_store.specs.inner.Holding.{IsGood, IsHeld, Changes};
+ghost use Rattle.seg_store.specs.inner.Space.{space_heap, space_base};
 
 use crate::looks::Looks;
 use crate::space::Space;
@@ -26,7 +26,7 @@ pub struct Hand {
 }
 
 impl Hand {
-    ghost use Rattle.seg_store.specs.Hands.{part_of};
+    ghost use Rattle.seg_store.specs.inner.Hands.{part_of};
 
     /// Nothing.
     pub fn new(alloc: Global) -> Hand

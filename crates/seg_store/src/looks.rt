@@ -1,7 +1,7 @@
 //! The records that one segment of a store of maps has looked at.
 ghost use Rattle.std.specs.Prelude.{◌≡◌, ◌<◌, [], length, true, OnOk, OnErr};
 ghost use Rattle.py_data.specs.Sight.{mem, no_marks, with_mark};
-ghost use Rattle.seg_store.specs.Flags.{IsListed, marks_in};
+ghost use Rattle.seg_store.specs.inner.Flags.{IsListed, marks_in};
 
 use py_data::NoMemory;
 use std::alloc::Global;
@@ -17,7 +17,7 @@ pub struct Looks {
 }
 
 impl Looks {
-    ghost use Rattle.seg_store.specs.Looks.{marks_of, IsReady};
+    ghost use Rattle.seg_store.specs.inner.Looks.{marks_of, IsReady};
 
     /// No flag.
     pub fn new(alloc: Global) -> Looks

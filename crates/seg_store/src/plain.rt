@@ -1,7 +1,7 @@
 //! A store of maps.
 ghost use Rattle.std.specs.Prelude.{◌≡◌, ◌≤◌, ◌<◌, ◌+◌, ℕ, length, slice_get, IfOk};
 ghost use Rattle.seg_store.specs.Meaning.{no_part};
-ghost use Rattle.seg_store.specs.Tables.{IsSound, meaning_in, part_in};
+ghost use Rattle.seg_store.specs.inner.Tables.{IsSound, meaning_in, part_in};
 
 use crate::hand::Hand;
 use crate::store::{SegStore, StoreFault};
@@ -36,7 +36,7 @@ impl PlainStore {
     ghost use Rattle.seg_store.specs.Store.{CanChange};
     ghost use Rattle.seg_store.specs.Meaning.{sees, holds};
     ghost use Rattle.seg_store.specs.Calls.{after_mark, after_lock, after_change, after_make};
-    ghost use Rattle.seg_store.specs.Holding.{IsGood};
+    ghost use Rattle.seg_store.specs.inner.Holding.{IsGood};
     ghost use Rattle.seg_store.specs.Plain.{plain_meaning, empty_meaning};
 
     /// What the image has at an address, if it has the address.

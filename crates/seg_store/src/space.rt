@@ -5,9 +5,9 @@ ghost use Rattle.py_data.specs.Changes.{Allows};
 ghost use Rattle.py_data.specs.Heap.{put_at, no_records};
 ghost use Rattle.py_data.specs.Sense.{IfThere};
 ghost use Rattle.seg_store.specs.Meaning.{overlay};
-ghost use Rattle.seg_store.specs.Journal.{IsUndoable, undoable_prop};
-ghost use Rattle.seg_store.specs.Table.{table_heap};
-ghost use Rattle.seg_store.specs.Images.{image_in, Reaches};
+ghost use Rattle.seg_store.specs.inner.Journal.{IsUndoable, undoable_prop};
+ghost use Rattle.seg_store.specs.inner.Table.{table_heap};
+ghost use Rattle.seg_store.specs.inner.Images.{image_in, Reaches};
 
 use crate::table::Table;
 use py_data::{Change, Entry, NoMemory, Undo};
@@ -35,7 +35,7 @@ pub struct Space {
 }
 
 impl Space {
-    ghost use Rattle.seg_store.specs.Space.{space_heap, space_base};
+    ghost use Rattle.seg_store.specs.inner.Space.{space_heap, space_base};
     ghost use Rattle.py_data.specs.Changes.{after, Replaced};
 
     /// No records.

@@ -4,9 +4,9 @@ ghost use Rattle.py_data.specs.Changes.{Allows};
 ghost use Rattle.py_data.specs.Heap.{put_at, no_records};
 ghost use Rattle.py_data.specs.Sense.{IfThere};
 ghost use Rattle.seg_store.specs.Meaning.{overlay};
-ghost use Rattle.seg_store.specs.Images.{image_in, Reaches};
-ghost use Rattle.seg_store.specs.Journal.{CanRestore, IsChanged, restore_at, restored};
-ghost use Rattle.seg_store.specs.Placed.{IsPlaced, IsSlotChanged};
+ghost use Rattle.seg_store.specs.inner.Images.{image_in, Reaches};
+ghost use Rattle.seg_store.specs.inner.Journal.{CanRestore, IsChanged, restore_at, restored};
+ghost use Rattle.seg_store.specs.inner.Placed.{IsPlaced, IsSlotChanged};
 
 use py_data::{Change, Entry, NoMemory, Undo};
 use std::alloc::Global;
@@ -52,7 +52,7 @@ pub struct Table {
 
 #[tactic(auto, unfolding(crate::specs::Table::table_heap))]
 impl Table {
-    ghost use Rattle.seg_store.specs.Table.{table_heap};
+    ghost use Rattle.seg_store.specs.inner.Table.{table_heap};
 
     /// No records.
     pub fn new(alloc: Global) -> Table

@@ -25,12 +25,12 @@ use Rattle.stm_core.specs.Moves.{Advances, Stays, IsFree, Move, Dooms as DoomsMo
 use Rattle.stm_core.specs.Books.{Worlds, with_own, transaction, segment_of, core_of, Fit}
 use Rattle.stm_core.specs.declared.steps.Pause.{Pause}
 use Rattle.stm_core.specs.declared.steps.Pause.TheVariants.{Whole, Waits, Ended as EndedPause, Stopped}
-use Rattle.stm_core.specs.Hold.{Dooms}
+use Rattle.stm_core.specs.inner.Hold.{Dooms}
 use Rattle.stm_core.specs.Asking.{Reaches, AsksToChange, AskedFor, Went}
-use Rattle.stm_core.specs.Whole.{stepped, StepDone, StepCut}
+use Rattle.stm_core.specs.inner.Whole.{stepped, StepDone, StepCut}
 use Rattle.stm_core.specs.Advance.{Try, moves_of, IsStepOf, IsTry, core_with, Tried, Gone, Sane, SaneShown}
-use Rattle.stm_core.specs.Pauses.{tried_by}
-use Rattle.stm_core.specs.Pausing.{HasTold, Paused, SaneAfter}
+use Rattle.stm_core.specs.inner.Pauses.{tried_by}
+use Rattle.stm_core.specs.inner.Pausing.{HasTold, Paused, SaneAfter}
 use Rattle.stm_core.specs.Devices.{DeviceState, Shown}
 use Rattle.stm_core.specs.Good.{Good}
 use Rattle.stm_core.proofs.TwoPasses.{follows_append}

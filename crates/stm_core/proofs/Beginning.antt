@@ -25,7 +25,7 @@ use Rattle.stm_core.specs.CoreState.{no_world, Transaction, Running, CoreState, 
 use Rattle.stm_core.specs.Good.{Good}
 use Rattle.stm_core.specs.Moves.{Begins, Keeps, first_cause, begun_at}
 use Rattle.stm_core.specs.Books.{Worlds, WorkFits, is_running, runs_at, one_running, one_started, is_lock, transaction, segment_of, core_of}
-use Rattle.stm_core.specs.Whole.{Whole}
+use Rattle.stm_core.specs.inner.Whole.{Whole}
 use Rattle.stm_core.specs.Outside.{Outer, InCore, OuterMove, Inner, OuterFollows}
 use Rattle.stm_core.specs.Devices.{DeviceState}
 use Rattle.stm_core.specs.SaneCore.{StandsFor, SaneCore, LeadsBetween}

@@ -7,7 +7,7 @@ use Rattle.stm_core.specs.declared.books.Books.{Books}
 use Rattle.stm_core.specs.CoreState.{Transaction, Idle, CoreState, with_segment}
 use Rattle.stm_core.specs.Passes.{after_commit}
 use Rattle.stm_core.specs.Solo.{up_to_whole}
-use Rattle.stm_core.specs.Whole.{Whole}
+use Rattle.stm_core.specs.inner.Whole.{Whole}
 use Rattle.stm_core.proofs.SoloMoves.{doom_leaves}
 
 module _ {S : Type 0} (k n : ℕ) (x : Transaction S) (c : CoreState S) where

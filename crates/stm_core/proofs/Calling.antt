@@ -16,7 +16,7 @@ use Rattle.stm_core.specs.Outside.{Outer}
 use Rattle.stm_core.specs.Devices.{DeviceState, device_state, CountsGrow}
 use Rattle.stm_core.specs.Books.{Worlds, segment_of, core_of}
 use Rattle.stm_core.specs.Standing.{slot_of}
-use Rattle.stm_core.specs.Whole.{Whole, SameShape}
+use Rattle.stm_core.specs.inner.Whole.{Whole, SameShape}
 use Rattle.stm_core.specs.SaneCore.{StandsFor, SaneCore, CauseRose, LeadsBetween}
 use Rattle.stm_core.specs.Begun.{CountsSteps}
 use Rattle.stm_core.specs.CoreHeld.{core_devices, first_devices, CoreStands, Leads, IsFullKept, IsGoodCore, SameJob}

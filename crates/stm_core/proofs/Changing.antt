@@ -24,7 +24,7 @@ use Rattle.stm_core.specs.declared.books.Progress.{Progress}
 use Rattle.stm_core.specs.declared.books.Books.{Books}
 use Rattle.stm_core.specs.declared.books.Hand.{Hand}
 use Rattle.stm_core.specs.Books.{runs_at, Fit}
-use Rattle.stm_core.specs.Hold.{Hold, sight, Beside, Holds, Fails, FailWhy, SegDoes, SegRefuses, SegWhy, FaultWhy, holding, stop_of}
+use Rattle.stm_core.specs.inner.Hold.{Hold, sight, Beside, Holds, Fails, FailWhy, SegDoes, SegRefuses, SegWhy, FaultWhy, holding, stop_of}
 use Rattle.stm_core.proofs.Holding.{beside_then, beside_own}
 use Rattle.stm_core.proofs.Seeing.{refused_alone}
 use Rattle.stm_core.proofs.Fits.{fit_own}

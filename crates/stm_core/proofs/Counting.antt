@@ -10,8 +10,8 @@ use Rattle.py_data.specs.Heap.{Heap}
 use Rattle.py_data.specs.Row.{Call, Reply, Read, Find, Edit, Make, Start, Put, Take, MidLine, SetMidLine}
 use Rattle.stm_io.specs.Outside.{Rose}
 use Rattle.stm_core.specs.Devices.{DeviceState, IsLeftAlone, CountsGrow, StopRose}
-use Rattle.stm_core.specs.Hold.{Hold, SegWhy}
-use Rattle.stm_core.specs.Outer.{OuterDoes, WriteRefused, ErrRefused, TakeRefused, OuterRefuses, OuterOpens, OuterUndoes}
+use Rattle.stm_core.specs.inner.Hold.{Hold, SegWhy}
+use Rattle.stm_core.specs.inner.Outer.{OuterDoes, WriteRefused, ErrRefused, TakeRefused, OuterRefuses, OuterOpens, OuterUndoes}
 
 -- ---- one call
 

@@ -14,7 +14,7 @@ use Rattle.stm_core.specs.declared.books.Hand.TheVariants.{Idle as IdleHand, Doo
 use Rattle.stm_core.specs.declared.books.Books.{Books}
 use Rattle.stm_core.specs.CoreState.{no_world, Idle, CoreState, core_new, with_segment}
 use Rattle.stm_core.specs.Books.{Worlds, broken_of, AllIdle, IsFirst, is_running, runs_at, one_running, one_started, segment_of, core_of}
-use Rattle.stm_core.specs.Whole.{Whole}
+use Rattle.stm_core.specs.inner.Whole.{Whole}
 use Rattle.stm_core.specs.Outside.{outer_new}
 use Rattle.stm_core.specs.Devices.{DeviceState, CountsGrow}
 use Rattle.stm_core.specs.SaneCore.{StandsFor, CauseRose, SaneCore}

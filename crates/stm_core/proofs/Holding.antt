@@ -22,7 +22,7 @@ use Rattle.stm_core.specs.CoreState.{Transaction, Segment, Running, CoreState, w
 use Rattle.stm_core.specs.Conflict.{side, wins}
 use Rattle.stm_core.specs.CoreState as model
 use Rattle.stm_core.specs.Books.{is_running, runs_at, side_of, Worlds, transaction, segment_of, core_of}
-use Rattle.stm_core.specs.Hold.{Hold, Dooms, Beside, LosesTo, Holds, Fails, FailWhy, is_noted, Looks, holding}
+use Rattle.stm_core.specs.inner.Hold.{Hold, Dooms, Beside, LosesTo, Holds, Fails, FailWhy, is_noted, Looks, holding}
 use Rattle.stm_core.proofs.Publish.{get_set_other}
 use Rattle.stm_core.proofs.Looking.{noted_tracked}
 use Rattle.stm_core.proofs.Fits.{get_set_same, work_at, runs_within, seen_image}

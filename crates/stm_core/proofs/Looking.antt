@@ -4,7 +4,7 @@ use Rattle.std.proofs.lemmas.Bool.{cond-true, cond-false}
 use Rattle.py_data.specs.Heap.{Rec, Heap, Has, at, is_tracked, blank}
 use Rattle.seg_store.specs.Meaning.{Meaning, sees}
 use Rattle.seg_store.specs.Calls.{after_mark}
-use Rattle.stm_core.specs.Hold.{is_noted, Looks}
+use Rattle.stm_core.specs.inner.Hold.{is_noted, Looks}
 
 pub noted_tracked : (h : Heap) (a : ℕ) (b : Bool) → Has h a → is_tracked (at h a).kind ≡ true → is_noted (h a) b ≡ b
 unfolding at

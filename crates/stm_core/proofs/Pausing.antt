@@ -28,11 +28,11 @@ use Rattle.stm_core.specs.Conflict.{loser, winner, wins, side, IsMet, IsStanding
 use Rattle.stm_core.specs.Moves.{Stays}
 use Rattle.stm_core.specs.Books.{Worlds, with_own, transaction, segment_of, core_of, Fit}
 use Rattle.stm_core.specs.Asking.{WaitsThere, Reaches, AsksToChange, AsksOutside, AsksRoom}
-use Rattle.stm_core.specs.Hold.{LosesTo}
+use Rattle.stm_core.specs.inner.Hold.{LosesTo}
 use Rattle.stm_core.specs.Advance.{core_with, Tried, Sane}
 use Rattle.stm_core.specs.Devices.{DeviceState, Shown, ShowsWorld, IsLeftAlone}
-use Rattle.stm_core.specs.Whole.{stepped, CutWhy, StepDone, StepCut, StepBroke}
-use Rattle.stm_core.specs.Pausing.{StopWhy, Paused}
+use Rattle.stm_core.specs.inner.Whole.{stepped, CutWhy, StepDone, StepCut, StepBroke}
+use Rattle.stm_core.specs.inner.Pausing.{StopWhy, Paused}
 use Rattle.stm_core.proofs.Advancing.{tried_none, none_tried, all_gone, gone_step, gone_wait, gone_cut}
 use Rattle.stm_core.proofs.Afresh.{IsOfHeap, does_same, reaches_afresh, change_of_heap, outside_of_heap, room_of_heap, upto_afresh}
 use Rattle.stm_core.proofs.Committing.{running_work, wins_back}

@@ -26,9 +26,9 @@ use Rattle.seg_store.proofs.Sees.{same_marks, own_part, make_shows}
 use Rattle.stm_core.specs.declared.books.Progress.{Progress}
 use Rattle.stm_core.specs.declared.books.Books.{Books}
 use Rattle.stm_core.specs.Books.{runs_at, Worlds, segment_of, core_of, Fit}
-use Rattle.stm_core.specs.Hold.{Hold, sight, Beside, SegDoes, SegRefuses, SegWhy, holding, is_noted, Looks, FaultWhy, stop_of}
+use Rattle.stm_core.specs.inner.Hold.{Hold, sight, Beside, SegDoes, SegRefuses, SegWhy, holding, is_noted, Looks, FaultWhy, stop_of}
 use Rattle.seg_store.specs.Extents.{Wants}
-use Rattle.stm_core.specs.SegSense.{Seen}
+use Rattle.stm_core.specs.inner.SegSense.{Seen}
 use Rattle.stm_core.proofs.Looking.{noted_fixed}
 use Rattle.stm_core.proofs.Holding.{looks_beside, looks_same, looks_mark, beside_own, beside_stop}
 use Rattle.stm_core.proofs.Fits.{fit_own}

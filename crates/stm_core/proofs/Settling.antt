@@ -12,7 +12,7 @@ use Rattle.stm_core.specs.declared.cause.Cause.{Cause}
 use Rattle.stm_core.specs.CoreState.{Segment, Idle, Running, CoreState, set_segment, with_segment, with_conflict}
 use Rattle.stm_core.specs.Moves.{first_cause}
 use Rattle.stm_core.specs.Books.{Worlds, is_running, runs_at, one_running, one_started, transaction, segment_of, core_of}
-use Rattle.stm_core.specs.Whole.{Whole as WholeBooks}
+use Rattle.stm_core.specs.inner.Whole.{Whole as WholeBooks}
 use Rattle.stm_core.specs.Advance.{core_with}
 use Rattle.stm_core.specs.Advanced.{with_cause}
 use Rattle.stm_core.proofs.Fits.{sum_set}

@@ -18,7 +18,7 @@ use Rattle.seg_store.specs.Meaning.{overlay}
 use Rattle.stm_core.specs.CoreState.{Transaction, Segment, Idle, Doomed, Running, CoreState, world_after, sight_of, with_segment}
 use Rattle.stm_core.specs.Conflict.{side, loser, wins, IsStanding}
 use Rattle.stm_core.specs.Good.{Good}
-use Rattle.stm_core.specs.Hold.{LosesTo}
+use Rattle.stm_core.specs.inner.Hold.{LosesTo}
 use Rattle.stm_core.specs.Moves.{Drops, first_cause}
 use Rattle.stm_core.specs.Passes.{met, doom_met, doom_one, doom_readers, after_commit, NoneWins}
 use Rattle.stm_core.specs.Outside.{Outer, Kept, Inner, Solos, Breaks, IsFreeThread, OuterNext, OuterLed}

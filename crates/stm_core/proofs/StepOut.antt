@@ -31,9 +31,9 @@ use Rattle.stm_core.specs.Moves.{Stays}
 use Rattle.stm_core.specs.Asking.{Reaches, AsksToChange, AsksOutside, AsksRoom, AskedFor}
 use Rattle.stm_core.specs.Books.{runs_at, Worlds, transaction, core_of, Fit}
 use Rattle.stm_core.specs.Devices.{DeviceState, ShowsWorld, Shown}
-use Rattle.stm_core.specs.Hold.{Hold, holding, sight, Dooms, SegOpens, SegUndoes, LosesTo}
-use Rattle.stm_core.specs.SegSense.{seg_sense, seg_bracket}
-use Rattle.stm_core.specs.Whole.{stepped, StepDone, StepCut, StepBroke, StopsAt, CutWhy}
+use Rattle.stm_core.specs.inner.Hold.{Hold, holding, sight, Dooms, SegOpens, SegUndoes, LosesTo}
+use Rattle.stm_core.specs.inner.SegSense.{seg_sense, seg_bracket}
+use Rattle.stm_core.specs.inner.Whole.{stepped, StepDone, StepCut, StepBroke, StopsAt, CutWhy}
 use Rattle.stm_core.proofs.Holding.{core_own}
 use Rattle.stm_core.proofs.Telling.{world_now, shown_now, tells_same}
 use Rattle.stm_core.proofs.Way.{at_used, RowDone, row_done}

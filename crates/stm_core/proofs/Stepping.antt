@@ -24,7 +24,7 @@ use Rattle.stm_core.specs.Good.{IsLocked}
 use Rattle.stm_core.specs.Asking.{Reaches, AsksToChange}
 use Rattle.stm_core.specs.Moves.{Advances, IsFree, Dooms as DoomsMove, Follows}
 use Rattle.stm_core.specs.Books.{WorkFits, is_lock, Worlds, transaction, segment_of, core_of}
-use Rattle.stm_core.specs.Hold.{Hold, sight, Dooms}
+use Rattle.stm_core.specs.inner.Hold.{Hold, sight, Dooms}
 use Rattle.stm_core.proofs.Way.{at_used}
 
 -- ---- the transaction of the segment

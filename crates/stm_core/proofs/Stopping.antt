@@ -23,10 +23,10 @@ use Rattle.stm_core.specs.Moves.{Stays}
 use Rattle.stm_core.specs.Asking.{IsOuter, Changes, AskedFor, LooksNext, ChangesNext}
 use Rattle.stm_core.specs.Books.{transaction, is_lock}
 use Rattle.stm_core.specs.Devices.{DeviceState, Shown}
-use Rattle.stm_core.specs.Hold.{Hold, sight, SegRefuses, SegWhy}
-use Rattle.stm_core.specs.Outer.{WriteRefused, ErrRefused, OuterRefuses}
-use Rattle.stm_core.specs.SegSense.{seg_sense}
-use Rattle.stm_core.specs.Whole.{StopsAt, StopOf}
+use Rattle.stm_core.specs.inner.Hold.{Hold, sight, SegRefuses, SegWhy}
+use Rattle.stm_core.specs.inner.Outer.{WriteRefused, ErrRefused, OuterRefuses}
+use Rattle.stm_core.specs.inner.SegSense.{seg_sense}
+use Rattle.stm_core.specs.inner.Whole.{StopsAt, StopOf}
 use Rattle.stm_core.proofs.Holding.{beside_then, beside_weaker}
 use Rattle.stm_core.proofs.Telling.{Told, told_none, call_told, fault_of}
 use Rattle.stm_core.proofs.Way.{at_used, Way, way}

@@ -28,12 +28,12 @@ use Rattle.stm_core.specs.Good.{Good}
 use Rattle.stm_core.specs.Outside.{Outer}
 use Rattle.stm_core.specs.Devices.{DeviceState, Tells, Shown, IsLeftAlone, CountsGrow}
 use Rattle.stm_core.specs.Books.{Worlds, with_own, broken_of, transaction, segment_of, core_of}
-use Rattle.stm_core.specs.Pauses.{tried_by}
-use Rattle.stm_core.specs.Pausing.{Paused, DevicesGrow, SaneAfter}
+use Rattle.stm_core.specs.inner.Pauses.{tried_by}
+use Rattle.stm_core.specs.inner.Pausing.{Paused, DevicesGrow, SaneAfter}
 use Rattle.stm_core.specs.Advance.{Gone, core_with, Sane, SaneShown}
 use Rattle.stm_core.specs.Advanced.{CountsDone, tried_after, Ends, StepsTaken, AdvancedFrom, Advanced}
 use Rattle.stm_core.specs.SaneCore.{StandsFor, SaneCore, CauseRose, LeadsBetween}
-use Rattle.stm_core.specs.Settled.{IsTakenOut, IsOut, SettledTo, Rises}
+use Rattle.stm_core.specs.inner.Settled.{IsTakenOut, IsOut, SettledTo, Rises}
 use Rattle.stm_core.specs.CoreHeld.{IsFullKept}
 use Rattle.stm_core.proofs.Wholes.{Set, core_set}
 use Rattle.stm_core.proofs.Settling.{runs_with, core_taken}

@@ -10,9 +10,9 @@ use Rattle.py_data.specs.Row.{Call, Reply, Row, Ret, Do, Read, Find, Edit, Make,
 use Rattle.lock_run.specs.Cut.{PartOf}
 use Rattle.lock_run.proofs.Following.{grown_then}
 use Rattle.stm_core.specs.Devices.{DeviceState, Tells, ShowsWorld}
-use Rattle.stm_core.specs.Hold.{Hold, SegWhy}
-use Rattle.stm_core.specs.Outer.{WriteRefused, ErrRefused, TakeRefused, OuterRefuses}
-use Rattle.stm_core.specs.Whole.{StopOf}
+use Rattle.stm_core.specs.inner.Hold.{Hold, SegWhy}
+use Rattle.stm_core.specs.inner.Outer.{WriteRefused, ErrRefused, TakeRefused, OuterRefuses}
+use Rattle.stm_core.specs.inner.Whole.{StopOf}
 
 -- ---- the world that the devices show
 

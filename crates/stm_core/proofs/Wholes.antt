@@ -14,7 +14,7 @@ use Rattle.stm_core.specs.declared.books.Hand.TheVariants.{Idle, Runs}
 use Rattle.stm_core.specs.declared.books.Books.{Books}
 use Rattle.stm_core.specs.CoreState.{set_segment, with_segment, with_conflict}
 use Rattle.stm_core.specs.Books.{Worlds, WorkFits, is_running, runs_at, one_running, one_started, is_lock, segment_of, core_of, Fit}
-use Rattle.stm_core.specs.Whole.{Whole}
+use Rattle.stm_core.specs.inner.Whole.{Whole}
 use Rattle.stm_core.proofs.Publish.{get_set_other}
 use Rattle.stm_core.proofs.Fits.{get_set_same, sum_set}
 

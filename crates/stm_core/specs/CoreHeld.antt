@@ -11,7 +11,7 @@ use Rattle.stm_core.specs.declared.cause.Cause.TheVariants.{Full}
 use Rattle.stm_core.specs.declared.transactions.Core.{Core}
 use Rattle.stm_core.specs.Outside.{Outer}
 use Rattle.stm_core.specs.Devices.{DeviceState, device_state}
-use Rattle.stm_core.specs.Whole.{Whole}
+use Rattle.stm_core.specs.inner.Whole.{Whole}
 use Rattle.stm_core.specs.SaneCore.{StandsFor, SaneCore, LeadsBetween}
 use Rattle.stm_core.specs.Begun.{CountsSteps}
 use Rattle.stm_core.specs.Events.{Limits}

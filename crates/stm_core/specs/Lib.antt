@@ -9,24 +9,16 @@ pub mod Outside
 pub mod Solo
 pub mod Devices
 pub mod Books
-pub mod Hold
-pub mod Outer
-pub mod SegSense
-pub mod SegLaws
-pub mod Whole
 pub mod Advance
-pub mod Pauses
-pub mod Readers
 pub mod Committed
 pub mod Begun
 pub mod Standing
-pub mod Pausing
 pub mod Advanced
 pub mod SaneCore
-pub mod Settled
 pub mod Events
 pub mod History
 mod HistoryWorked
 pub mod CoreHeld
 pub mod Finishing
 pub mod Worked
+pub mod inner

@@ -17,16 +17,16 @@ impl<'p, C: Client, S: SegStore, I: Source, O: Sink, E: Sink> Core<'p, C, S, I, 
     ghost use Rattle.stm_core.specs.Outside.{Outer};
     ghost use Rattle.stm_core.specs.Devices.{DeviceState, device_state};
     ghost use Rattle.stm_core.specs.Books.{Fit, Worlds, transaction};
-    ghost use Rattle.stm_core.specs.Whole.{Whole, SameShape};
+    ghost use Rattle.stm_core.specs.inner.Whole.{Whole, SameShape};
     ghost use Rattle.stm_core.specs.Advance.{SaneShown};
     ghost use Rattle.stm_core.specs.Begun.{CountsSteps};
     ghost use Rattle.stm_core.specs.Events.{may_make};
     ghost use Rattle.stm_core.specs.declared.events.Event.{Event};
     ghost use Rattle.stm_core.specs.CoreHeld.{core_client, core_limits, Says, Leads, IsGoodCore, SameJob};
-    ghost use Rattle.stm_core.specs.Pauses.{tried_by, PauseCount};
-    ghost use Rattle.stm_core.specs.Pausing.{PauseWhy, PauseRose};
+    ghost use Rattle.stm_core.specs.inner.Pauses.{tried_by, PauseCount};
+    ghost use Rattle.stm_core.specs.inner.Pausing.{PauseWhy, PauseRose};
     ghost use Rattle.stm_core.specs.Advanced.{CountsDone, tried_after, Ends, StepsTaken, AdvancedFrom, Advanced};
-    ghost use Rattle.stm_core.specs.Settled.{IsOut, IsTakenOut, SettledTo, KeepsOrRose, Rises};
+    ghost use Rattle.stm_core.specs.inner.Settled.{IsOut, IsTakenOut, SettledTo, KeepsOrRose, Rises};
 
     /// What comes of a transaction of segment k, which was taken out of its hand, once its next step was cut.
     fn settle_stop(

@@ -37,7 +37,7 @@ impl<'p, C: Client, S: SegStore, I: Source, O: Sink, E: Sink> Core<'p, C, S, I, 
     ghost use Rattle.stm_core.specs.Moves.{begun_at};
     ghost use Rattle.stm_core.specs.Outside.{InCore};
     ghost use Rattle.stm_core.specs.Books.{one_running, Worlds, core_of};
-    ghost use Rattle.stm_core.specs.Whole.{Whole, SameShape};
+    ghost use Rattle.stm_core.specs.inner.Whole.{Whole, SameShape};
     ghost use Rattle.stm_core.specs.CoreHeld.{core_client, core_limits, Leads, IsGoodCore, SameJob};
     ghost use Rattle.stm_core.specs.Begun.{Begun, IsFresh};
 

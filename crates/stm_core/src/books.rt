@@ -3,7 +3,7 @@
 ghost use Rattle.std.specs.Prelude.{◌≡◌, ◌<◌, ◌≤◌, ◌+◌, ◌-◌, ◌^◌, ◌++◌, [], ◌∷◌, length, true, false, slice_set, slice_get, Some, take, OnOk, OnErr};
 ghost use Rattle.stm_core.specs.Books.{runs_at, started_at, side_of};
 ghost use Rattle.stm_core.specs.Moves.{first_cause};
-ghost use Rattle.stm_core.specs.Whole.{stepped};
+ghost use Rattle.stm_core.specs.inner.Whole.{stepped};
 
 use crate::cause::Cause;
 use crate::threads::{Started, Threads};

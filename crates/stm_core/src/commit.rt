@@ -2,7 +2,7 @@
 ghost use Rattle.std.specs.Prelude.{◌≡◌, ◌<◌, ◌≤◌, ◌+◌, ◌++◌, [], ◌∷◌, length, slice_get, slice_set};
 ghost use Rattle.stm_core.specs.Books.{runs_at};
 ghost use Rattle.stm_core.specs.Passes.{met};
-ghost use Rattle.stm_core.specs.Readers.{place_of};
+ghost use Rattle.stm_core.specs.inner.Readers.{place_of};
 
 use crate::books::{Books, Hand, Progress, Work};
 use crate::segment::wins;
@@ -97,13 +97,13 @@ impl<'p, C: Client, S: SegStore, I: Source, O: Sink, E: Sink> Core<'p, C, S, I, 
     ghost use Rattle.stm_core.specs.Passes.{doom_one, doom_readers};
     ghost use Rattle.stm_core.specs.Outside.{InCore};
     ghost use Rattle.stm_core.specs.Books.{Fit, Worlds, worlds_after, transaction, core_of};
-    ghost use Rattle.stm_core.specs.Whole.{Whole, SameShape};
+    ghost use Rattle.stm_core.specs.inner.Whole.{Whole, SameShape};
     ghost use Rattle.stm_core.specs.Advance.{core_with};
     ghost use Rattle.stm_core.specs.Events.{may_make};
     ghost use Rattle.stm_core.specs.declared.events.Event.{Event};
     ghost use Rattle.stm_core.specs.CoreHeld.{core_client, core_limits, Says, Leads, IsGoodCore, SameJob};
     ghost use Rattle.stm_core.specs.Begun.{CountsSteps};
-    ghost use Rattle.stm_core.specs.Readers.{place_of, read_at, Beats, FirstBeats};
+    ghost use Rattle.stm_core.specs.inner.Readers.{place_of, read_at, Beats, FirstBeats};
     ghost use Rattle.stm_core.specs.Committed.{CommitEnds, Committed};
 
     /// The first record that segment k has locked and that the transaction of segment j, another one, has looked at.

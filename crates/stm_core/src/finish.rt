@@ -72,7 +72,7 @@ impl<'p, C: Client, S: SegStore, I: Source, O: Sink, E: Sink> Core<'p, C, S, I, 
     ghost use Rattle.stm_core.specs.Outside.{Outer, outer_new};
     ghost use Rattle.stm_core.specs.Devices.{device_state};
     ghost use Rattle.stm_core.specs.Books.{Worlds, NoneSolo, core_of};
-    ghost use Rattle.stm_core.specs.Whole.{Whole, SameShape};
+    ghost use Rattle.stm_core.specs.inner.Whole.{Whole, SameShape};
     ghost use Rattle.stm_core.specs.Finishing.{idle_core, IsUnused, HasFailed, SettlesSolo, HandedOut};
     ghost use Rattle.stm_core.specs.CoreHeld.{core_client, core_devices, core_limits, first_devices, CoreStands, HasDevices, IsFullKept, IsGoodCore, Leads, SameJob, Says};
 

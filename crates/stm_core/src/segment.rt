@@ -15,8 +15,8 @@ ghost use Rattle.stm_core.specs.Asking.{ChangeWants};
 ghost use Rattle.stm_core.specs.Conflict.{wins};
 ghost use Rattle.stm_core.specs.Books.{Fit, runs_at};
 ghost use Rattle.py_data.specs.Row.{Call, Read, Edit};
-ghost use Rattle.stm_core.specs.SegSense.{Seen};
-ghost use Rattle.stm_core.specs.Hold.{holding, SegDoes, SegWhy, SegRefuses, FaultWhy, Holds, Fails, is_noted, Looks, stop_of};
+ghost use Rattle.stm_core.specs.inner.SegSense.{Seen};
+ghost use Rattle.stm_core.specs.inner.Hold.{holding, SegDoes, SegWhy, SegRefuses, FaultWhy, Holds, Fails, is_noted, Looks, stop_of};
 
 use crate::books::{Books, Hand, Progress};
 use crate::devices::Devices;

@@ -26,7 +26,7 @@ impl<'p, C: Client, S: SegStore, I: Source, O: Sink, E: Sink> Core<'p, C, S, I, 
     ghost use Rattle.std.specs.Prelude.{◌≡◌, ◌≤◌, ℕ, true, length, slice_get, slice_set, Some, OnOk, OnErr, IfErr};
     ghost use Rattle.stm_core.specs.Solo.{Soloed};
     ghost use Rattle.stm_core.specs.Books.{Fit, NoneSolo, IsSoloAt};
-    ghost use Rattle.stm_core.specs.Whole.{Whole};
+    ghost use Rattle.stm_core.specs.inner.Whole.{Whole};
     ghost use Rattle.stm_core.specs.Events.{may_make};
     ghost use Rattle.stm_core.specs.declared.events.Event.{Event};
     ghost use Rattle.stm_core.specs.declared.solo.SoloError.TheVariants.{Taken};

@@ -11,7 +11,7 @@ ghost use Rattle.stm_core.specs.Advanced.{Led};
 ghost use Rattle.stm_core.specs.Conflict.{IsStanding, loser, side};
 ghost use Rattle.stm_core.specs.CoreState.{CoreState, Running, Transaction, committed, core_new};
 ghost use Rattle.stm_core.specs.Good.{Good};
-ghost use Rattle.stm_core.specs.Hold.{LosesTo};
+ghost use Rattle.stm_core.specs.inner.Hold.{LosesTo};
 ghost use Rattle.stm_core.specs.Moves.{Follows, Move};
 ghost use Rattle.stm_core.specs.Outside.{Inner, Kept, Outer, OuterFollows, OuterLed, OuterMove, outer_new, told_through};
 ghost use Rattle.stm_core.specs.Passes.{NoneWins, after_commit};

@@ -34,7 +34,7 @@ impl<'p, C: Client, S: SegStore, I: Source, O: Sink, E: Sink> Core<'p, C, S, I, 
     ghost use Rattle.stm_core.specs.Conflict.{side};
     ghost use Rattle.stm_core.specs.Books.{Fit, Worlds, with_own, transaction, core_of};
     ghost use Rattle.stm_core.specs.Devices.{device_state, ShowsWorld, Shown, IsLeftAlone, CountsGrow, StopRose};
-    ghost use Rattle.stm_core.specs.Whole.{Whole, SameShape, StepDone, StepCut, StepBroke};
+    ghost use Rattle.stm_core.specs.inner.Whole.{Whole, SameShape, StepDone, StepCut, StepBroke};
     ghost use Rattle.stm_core.specs.Advanced.{with_cause};
     ghost use Rattle.stm_core.specs.Moves.{first_cause};
     ghost use Rattle.stm_core.specs.Solo.{up_to_whole};
@@ -43,8 +43,8 @@ impl<'p, C: Client, S: SegStore, I: Source, O: Sink, E: Sink> Core<'p, C, S, I, 
     ghost use Rattle.seg_store.specs.Store.{IsStore};
     ghost use Rattle.stm_core.specs.CoreState.{CoreState};
     ghost use Rattle.stm_core.specs.Advance.{Tried, SaneShown, core_with};
-    ghost use Rattle.stm_core.specs.Pauses.{done_by, PauseCount};
-    ghost use Rattle.stm_core.specs.Pausing.{DevicesGrow, Paused, SaneAfter};
+    ghost use Rattle.stm_core.specs.inner.Pauses.{done_by, PauseCount};
+    ghost use Rattle.stm_core.specs.inner.Pausing.{DevicesGrow, Paused, SaneAfter};
 
     /// One step of the transaction of segment k, which was taken out of its hand. A solo one prints and reads; what a step of it told
     /// the devices stays told where the step is cut.

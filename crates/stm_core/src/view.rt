@@ -8,9 +8,9 @@ use stm_io::{PutError, Sink, Source, TakeError};
 impl<'a, T: Drop, S: SegStore, I: Source, O: Sink, E: Sink> View<T> for SegView<'a, T, S, I, O, E> {
     ghost use Rattle.std.specs.Prelude.{◌≡◌};
     ghost use Rattle.stm_core.specs.Devices.{device_state};
-    ghost use Rattle.stm_core.specs.Hold.{holding};
-    ghost use Rattle.stm_core.specs.SegSense.{seg_sense, seg_bracket};
-    ghost use Rattle.stm_core.specs.SegLaws.{seg_lawful, seg_bracketed};
+    ghost use Rattle.stm_core.specs.inner.Hold.{holding};
+    ghost use Rattle.stm_core.specs.inner.SegSense.{seg_sense, seg_bracket};
+    ghost use Rattle.stm_core.specs.inner.SegLaws.{seg_lawful, seg_bracketed};
 
     ghost sense = { seg_sense (λ v. holding (S.meaning v.store.now) (S.reserved v.store.now) v.books.now v.progress.now v.stopped)
         (λ v. device_state I.state O.state E.state v.devices.now) (λ v. v.segment) (λ v. v.side)

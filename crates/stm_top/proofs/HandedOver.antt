@@ -27,7 +27,7 @@ use Rattle.stm_top.specs.declared.answer.Answer.{Answer}
 use Rattle.stm_top.specs.declared.answer.Answer.TheVariants.{Done, Failed, InputFailed, OutputFailed, ErrorOutputFailed, HeapFull, Stuck, BudgetSpent, OutOfMemory}
 use Rattle.stm_top.specs.Serial.{Ended, Whole, Cut, Serial, IsWhole, IsCutBy}
 use Rattle.stm_top.specs.TopCall.{Devices, Told, IsLeft, Faults, faults_of, RunEnded}
-use Rattle.stm_top.specs.Ending.{answer_to, AnswerTo, RunEnds}
+use Rattle.stm_top.specs.inner.Ending.{answer_to, AnswerTo, RunEnds}
 
 -- ---- how the telling to the devices ended
 module _ {S : Type 0} (p : Prog S) (first : Machine S) (most : ℕ) (o : Outer S) (h : Kept p first most o) (idle : (i : ℕ) → o.core.segments i ≡ Idle) where

@@ -9,8 +9,7 @@ use Rattle.py_tokens.specs.Layout.{tokens_of_text}
 use Rattle.py_tree.specs.declared.stmt.Module.{Module}
 use Rattle.py_parser.specs.declared.fault.Fault.{Fault}
 use Rattle.py_parser.specs.declared.fault.Fault.TheVariants.{Unexpected, LeftOut, Deep}
-use Rattle.py_parser.specs.Outcome.{refusal_of}
-use Rattle.py_parser.specs.Refused.{Begins, Because, RefusedAt}
+use Rattle.py_parser.specs.Refused.{refusal_of, Begins, Because, RefusedAt}
 use Rattle.py_parser.specs.Statements.{IsModule}
 use Rattle.py_names.specs.declared.scope.Scope.{Scope}
 use Rattle.py_names.specs.Outline.{outline}

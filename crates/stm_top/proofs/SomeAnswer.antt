@@ -7,10 +7,9 @@ use Rattle.py_tokens.specs.Layout.{Laid, tokens_of_text}
 use Rattle.py_tree.specs.declared.stmt.Module.{Module}
 use Rattle.py_tree.specs.Tall.{tall_module}
 use Rattle.py_parser.specs.declared.fault.Fault.{Fault}
-use Rattle.py_parser.specs.Lines.{module_at}
-use Rattle.py_parser.specs.Outcome.{refusal_of}
-use Rattle.py_parser.specs.Reading.{Reads}
-use Rattle.py_parser.specs.Refused.{RefusedAt, EndsOnce}
+use Rattle.py_parser.specs.inner.Lines.{module_at}
+use Rattle.py_parser.specs.inner.Reading.{Reads}
+use Rattle.py_parser.specs.Refused.{refusal_of, RefusedAt, EndsOnce}
 use Rattle.py_parser.specs.Statements.{IsModule}
 use Rattle.py_parser.specs.Words.{line_of}
 use Rattle.py_names.specs.declared.event.Event.{Event}

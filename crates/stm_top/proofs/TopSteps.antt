@@ -19,7 +19,7 @@ use Rattle.stm_top.specs.declared.answer.Answer.TheVariants.{Done, Failed, Usage
 use Rattle.stm_top.specs.Script.{Origin, Taken, AskedAtMost}
 use Rattle.stm_top.specs.Serial.{Serial}
 use Rattle.stm_top.specs.TopCall.{Devices, Told, origin, limits_of, Faults, faults_of, RunEnded, NothingRan, TextPut, Ran, CausedBy}
-use Rattle.stm_top.specs.Ending.{NoScript, RunEnds, ThreadsEnded, NoProgram, TextEnded}
+use Rattle.stm_top.specs.inner.Ending.{NoScript, RunEnds, ThreadsEnded, NoProgram, TextEnded}
 
 -- no text is put where there is none
 pub nothing_put : (text : List ℕ) (s : SinkState) → text ≡ [] → TextPut text s s

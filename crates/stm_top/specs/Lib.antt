@@ -1,6 +1,6 @@
 pub mod Answer
-pub mod Ending
 pub mod Script
 pub mod Serial
 pub mod TextCode
 pub mod TopCall
+pub mod inner

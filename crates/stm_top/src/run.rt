@@ -6,7 +6,7 @@ ghost use Rattle.seg_store.specs.Plain.{plain_meaning};
 ghost use Rattle.stm_core.specs.CoreHeld.{core_client, core_limits, IsGoodCore, HasDevices};
 ghost use Rattle.stm_words.specs.Options.{IsWithin};
 ghost use Rattle.stm_top.specs.TopCall.{devices_of};
-ghost use Rattle.stm_top.specs.Ending.{answer_to, AnswerTo, RunEnds, ThreadsEnded};
+ghost use Rattle.stm_top.specs.inner.Ending.{answer_to, AnswerTo, RunEnds, ThreadsEnded};
 
 use crate::answer::Answer;
 use lock_run::{Client, History};

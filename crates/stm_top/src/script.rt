@@ -1,7 +1,7 @@
 //! The script of a call: from the source, from a file, or the text of a workload.
 ghost use Rattle.std.specs.Prelude.{◌≡◌, ◌≤◌, [], ◌++◌, length, IfOk, IfErr, OnOk, OnErr, IfSome, Ok, None};
 ghost use Rattle.stm_top.specs.Script.{TakenSoFar, ScriptTaken, TooMuchTaken, TakingStopped, Taken};
-ghost use Rattle.stm_top.specs.Ending.{NoScript};
+ghost use Rattle.stm_top.specs.inner.Ending.{NoScript};
 
 use crate::answer::Answer;
 use std::alloc::Global;

@@ -5,7 +5,7 @@ ghost use Rattle.seg_store.specs.Plain.{plain_meaning};
 ghost use Rattle.stm_words.specs.Options.{IsWithin};
 ghost use Rattle.stm_top.specs.TextCode.{HasCode, IsRefused};
 ghost use Rattle.stm_top.specs.TopCall.{devices_of, bytes_of, Caused, CausedBy, TextPut, Answered};
-ghost use Rattle.stm_top.specs.Ending.{TextEnded};
+ghost use Rattle.stm_top.specs.inner.Ending.{TextEnded};
 
 use crate::answer::Answer;
 use crate::run::{End, Outside, nothing_ran, run_threads};

@@ -5,7 +5,7 @@ use Rattle.clap.specs.Simple.{app_of_fields}
 use Rattle.clap.specs.declared.builder.command.Command.TheViews.{out-Command as fields_of}
 use Rattle.clap.specs.declared.builder.arg.Arg.{Arg}
 use Rattle.clap.specs.declared.builder.command.Command.{Command}
-use Rattle.stm_words.specs.Given.{bare_app}
+use Rattle.stm_words.specs.inner.Given.{bare_app}
 
 abbrev bared : App → App
 bared a = record a { top = record a.top { no_binary_name = true; disable_help_flag = true } }

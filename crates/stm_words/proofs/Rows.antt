@@ -14,7 +14,7 @@ use Rattle.clap.specs.declared.builder.value_parser.ValueParser.TheVariants as v
 use Rattle.clap.specs.declared.error.kind.ErrorKind.TheVariants as kind
 use Rattle.clap.specs.declared.parser.matches.ValueSource.TheVariants.{CommandLine}
 use Rattle.stm_words.specs.declared.call.Options.{Options}
-use Rattle.stm_words.specs.Given.{pystm_app}
+use Rattle.stm_words.specs.inner.Given.{pystm_app}
 use Rattle.stm_words.specs.Options.{Setting, Segments, Length, Pages, Budget, Workload, Use, Place, Value, Given, name_of, given_by, options_from, places, values}
 use Rattle.stm_words.proofs.Meaning.{Doomed, answer, places-append, twice_a_place, twice_a_value, values-append}
 

@@ -18,7 +18,7 @@ use Rattle.clap.specs.Simple.{App, HasMatchesOf, entered, matches_of}
 use Rattle.clap.specs.Walk.{Held, Row, Rule, Text, Walk, default_rows, finished, has_row, is_empty, nothing_held, reading_by, rows_of, settled, walk, walk_from, walked, with_default}
 use Rattle.clap.specs.declared.error.kind.ErrorKind.{ErrorKind}
 use Rattle.stm_words.specs.declared.call.Options.{Options}
-use Rattle.stm_words.specs.Given.{error_of, given_of, pystm_app}
+use Rattle.stm_words.specs.inner.Given.{error_of, given_of, pystm_app}
 use Rattle.stm_words.specs.Options.{options_from, options_of}
 use Rattle.stm_words.proofs.Forms.{same_ends}
 use Rattle.stm_words.proofs.Rows.{Single, finish, given_in, rules, shape}

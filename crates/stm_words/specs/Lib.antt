@@ -1,3 +1,3 @@
 pub mod Options
-pub mod Given
 pub mod Demo
+pub mod inner

@@ -4,7 +4,7 @@ ghost use Rattle.std.specs.Char.{is_ascii_digit};
 ghost use Rattle.std.specs.List.{list_all};
 ghost use Rattle.stm_words.specs.Options.{IsWithin, is_numeral, number, numeral, options_from, options_of, script_at, script_of, words_for};
 ghost use Rattle.stm_words.specs.declared.call.Options.{Options as Choice};
-ghost use Rattle.stm_words.specs.Given.{given_of, listed, number_within};
+ghost use Rattle.stm_words.specs.inner.Given.{given_of, listed, number_within};
 
 use crate::call::{Name, Options, Script};
 use crate::error::WordsError;

@@ -2,7 +2,7 @@
 ghost use Rattle.std.specs.Prelude.{◌≡◌, IfOk, Err, None, map, string_bytes, false};
 ghost use Rattle.clap.specs.Words.{app_of, kind_of, rule_of};
 ghost use Rattle.stm_words.specs.Options.{options_from, options_of};
-ghost use Rattle.stm_words.specs.Given.{error_of, given_of, option_rule, pystm_app};
+ghost use Rattle.stm_words.specs.inner.Given.{error_of, given_of, option_rule, pystm_app};
 
 use crate::error::WordsError;
 use clap::error::ErrorKind;

@@ -1,4 +1,4 @@
 pub mod CoreJob
 pub mod Ended
 pub mod Growth
-pub mod GrowthLaws
+pub mod inner

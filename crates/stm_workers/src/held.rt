@@ -3,7 +3,7 @@ ghost use Rattle.std.specs.Prelude.{◌≡◌, ◌<◌};
 ghost use Rattle.stm_core.specs.CoreHeld.{IsGoodCore};
 ghost use Rattle.stm_workers.specs.CoreJob.{core_job};
 ghost use Rattle.stm_workers.specs.Growth.{Grows};
-ghost use Rattle.stm_workers.specs.GrowthLaws.{grows_same, grows_then};
+ghost use Rattle.stm_workers.specs.inner.GrowthLaws.{grows_same, grows_then};
 
 use crate::crew::Crew;
 use crate::visits::visit;

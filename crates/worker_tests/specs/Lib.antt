@@ -1,3 +1,2 @@
 pub mod ScriptCore
 pub mod Turns
-pub mod TurnsLaws

@@ -3,7 +3,7 @@ ghost use Rattle.std.specs.Prelude.{◌≡◌, ◌+◌, ◌-◌, [], ◌∷◌, 
 ghost use Rattle.lock_run.specs.declared.client.Outcome.TheVariants.{Done};
 ghost use Rattle.py_frames.specs.State.{advanced, closed, code_at, opened, passed, returned, stored, thrown_to, unwound, with_frames};
 ghost use Rattle.py_states.specs.Innermost.{innermost, settled_in, Settles};
-ghost use Rattle.py_states.specs.memory.Changes.{on_top, with_top};
+ghost use Rattle.py_states.specs.inner.Changes.{on_top, with_top};
 
 use super::ThreadState;
 use lock_run::Outcome;

@@ -11,7 +11,7 @@ ghost use Rattle.obj_threads.specs.Threads.{join_row, thread_row};
 ghost use Rattle.obj_threads.specs.Threads as threads;
 ghost use Rattle.obj_builtins.specs.Calls.{call_row};
 ghost use Rattle.py_frames.specs.State.{State};
-ghost use Rattle.py_step.specs.Peeked.{AreClosed, AnswersWait, IsOf, Tells};
+ghost use Rattle.py_step.specs.inner.Peeked.{AreClosed, AnswersWait, IsOf, Tells};
 
 use super::truths::truth;
 use py_data::builtin::{LOCK_ACQUIRE, THREAD_JOIN};

@@ -6,7 +6,7 @@ ghost use Rattle.py_data.specs.Heap.{Has, at};
 ghost use Rattle.py_frames.specs.Binding.{Given, with_own};
 ghost use Rattle.py_frames.specs.CallRows.{method_call, value_call};
 ghost use Rattle.py_frames.specs.ClassCalls.{Site};
-ghost use Rattle.py_step.specs.Peeked.{AreClosed, LeadsToWait, Tells};
+ghost use Rattle.py_step.specs.inner.Peeked.{AreClosed, LeadsToWait, Tells};
 
 use super::builtins::{builtin_waits, record_of};
 use py_data::{Addr, Kind, Peek, Value};

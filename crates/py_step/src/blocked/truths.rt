@@ -5,7 +5,7 @@ ghost use Rattle.py_data.specs.Closed.{Refers};
 ghost use Rattle.py_data.specs.Heap.{Has, at, value_at};
 ghost use Rattle.py_data.specs.Range.{range_length};
 ghost use Rattle.py_data.specs.Truth as truths;
-ghost use Rattle.py_step.specs.Peeked.{AreClosed};
+ghost use Rattle.py_step.specs.inner.Peeked.{AreClosed};
 
 use py_data::{Addr, Kind, Peek, Value};
 

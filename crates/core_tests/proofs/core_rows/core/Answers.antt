@@ -1,5 +1,5 @@
 use Rattle.std.proofs.Common.{◌≡◌, ℕ, None, ap}
-use Rattle.lock_run.specs.ScriptLaws.{script_sound_first}
+use Rattle.lock_run.specs.inner.ScriptLaws.{script_sound_first}
 use Rattle.seg_store.specs.Meaning.{Meaning}
 use Rattle.seg_store.specs.Store.{IsEmpty}
 use Rattle.seg_store.specs.Plain.{plain_meaning, empty_meaning}

@@ -2,7 +2,7 @@ use Rattle.std.proofs.Common.{arith, subst, sym, ◌+◌}
 use Rattle.py_data.specs.Row.{Make}
 use Rattle.py_data.specs.Sense.{Asks}
 use Rattle.py_data.proofs.Steps.{stop-as}
-use Rattle.lock_run.specs.ScriptSafe.{cell_asks}
+use Rattle.lock_run.specs.inner.ScriptSafe.{cell_asks}
 use Rattle.lock_run.proofs.ScriptRecords.{Making, making_first, making_more, making_refused, making_starved, making_last}
 use Rattle.lock_run.proofs.script.make_all.Goals as goal
 

@@ -1,7 +1,7 @@
 use Rattle.std.proofs.Common.{◌-◌}
 use Rattle.py_data.specs.Heap.{value_at}
 use Rattle.py_data.specs.Looking.{each_row}
-use Rattle.py_data.specs.Rest.{Leads}
+use Rattle.py_data.specs.inner.Rest.{Leads}
 use Rattle.obj_builtins.specs.Best.{best_from, better_row}
 use Rattle.obj_builtins.proofs.best.best_from.Given as goal
 

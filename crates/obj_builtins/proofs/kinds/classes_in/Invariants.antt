@@ -1,6 +1,6 @@
 use Rattle.std.proofs.Common.{◌-◌}
 use Rattle.py_data.specs.Looking.{each_row}
-use Rattle.py_data.specs.Rest.{Leads}
+use Rattle.py_data.specs.inner.Rest.{Leads}
 use Rattle.obj_builtins.specs.Kinds.{classes_in, class_turn}
 use Rattle.obj_builtins.proofs.kinds.classes_in.Given as goal
 

@@ -1,6 +1,6 @@
 use Rattle.std.proofs.Common.{◌-◌, false, not}
 use Rattle.py_data.specs.Looking.{until_row}
-use Rattle.py_data.specs.Rest.{Leads}
+use Rattle.py_data.specs.inner.Rest.{Leads}
 use Rattle.obj_builtins.specs.Kinds.{any_row, class_row, class_at}
 use Rattle.obj_builtins.proofs.kinds.is_any.Given as goal
 

@@ -1,5 +1,5 @@
 use Rattle.std.proofs.Common.{◌-◌, None}
-use Rattle.py_data.specs.Rest.{Leads}
+use Rattle.py_data.specs.inner.Rest.{Leads}
 use Rattle.py_data.specs.Looking.{until_row}
 use Rattle.obj_class.specs.Telling.{args_among_row, args_pair_row, is_missing}
 use Rattle.obj_class.proofs.args.args_among.Given as goal

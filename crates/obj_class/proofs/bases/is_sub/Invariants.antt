@@ -1,5 +1,5 @@
 use Rattle.std.proofs.Common.{◌-◌, false}
-use Rattle.py_data.specs.Rest.{Leads}
+use Rattle.py_data.specs.inner.Rest.{Leads}
 use Rattle.py_data.specs.Looking.{walk_row}
 use Rattle.obj_class.specs.Bases.{MOST_BASES, sub_step, is_sub_row}
 use Rattle.obj_class.proofs.bases.is_sub.Given as goal

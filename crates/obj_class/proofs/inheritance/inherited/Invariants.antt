@@ -1,5 +1,5 @@
 use Rattle.std.proofs.Common.{◌-◌, None}
-use Rattle.py_data.specs.Rest.{Leads}
+use Rattle.py_data.specs.inner.Rest.{Leads}
 use Rattle.py_data.specs.Looking.{walk_row}
 use Rattle.obj_class.specs.Bases.{MOST_BASES}
 use Rattle.obj_class.specs.AttrRows.{heir_step, inherited_row}

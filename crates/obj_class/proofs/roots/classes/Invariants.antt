@@ -1,6 +1,6 @@
 use Rattle.std.proofs.Common.{◌-◌}
 use Rattle.py_base.specs.Numbers.{class_count}
-use Rattle.py_data.specs.Rest.{Leads}
+use Rattle.py_data.specs.inner.Rest.{Leads}
 use Rattle.obj_class.specs.NewRoots.{roots_from}
 use Rattle.obj_class.proofs.roots.classes.Given as goal
 

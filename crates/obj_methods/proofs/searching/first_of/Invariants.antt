@@ -1,7 +1,7 @@
 use Rattle.std.proofs.Common.{◌-◌, None}
 use Rattle.py_data.specs.declared.record.Got.TheVariants.{Is}
 use Rattle.py_data.specs.Looking.{until_row}
-use Rattle.py_data.specs.Rest.{Leads}
+use Rattle.py_data.specs.inner.Rest.{Leads}
 use Rattle.obj_methods.specs.Lists.{place_row, first_of, goes_on}
 use Rattle.obj_methods.proofs.searching.first_of.Given as goal
 

@@ -1,5 +1,5 @@
 use Rattle.std.proofs.Common.{drop, []}
-use Rattle.py_data.specs.Rest.{Leads}
+use Rattle.py_data.specs.inner.Rest.{Leads}
 use Rattle.obj_methods.specs.Sorting.{words_row}
 use Rattle.obj_methods.proofs.sorting.read_words.Given as goal
 

@@ -1,6 +1,6 @@
 use Rattle.std.proofs.Common.{◌+◌, ◌*◌, ◌-◌, true}
 use Rattle.py_data.specs.declared.record.Got.TheVariants.{Is}
-use Rattle.py_data.specs.Rest.{Leads}
+use Rattle.py_data.specs.inner.Rest.{Leads}
 use Rattle.py_data.specs.Looking.{until_row}
 use Rattle.obj_nest.specs.Equal.{equal_levels, item_row, pair_row, is_equal}
 use Rattle.obj_nest.proofs.equality.+equality.Given as goal

@@ -1,6 +1,6 @@
 use Rattle.std.proofs.Common.{◌+◌, ◌*◌, ◌-◌, None}
 use Rattle.py_data.specs.declared.record.Got.TheVariants.{Is}
-use Rattle.py_data.specs.Rest.{Leads}
+use Rattle.py_data.specs.inner.Rest.{Leads}
 use Rattle.py_data.specs.Looking.{until_row}
 use Rattle.obj_nest.specs.Ordering.{parts_at, turn_row, is_open}
 use Rattle.obj_nest.proofs.ordering.+ordering.Given as goal

@@ -1,5 +1,5 @@
 use Rattle.std.proofs.Common.{◌+◌, ◌*◌, ◌-◌}
-use Rattle.py_data.specs.Rest.{Leads}
+use Rattle.py_data.specs.inner.Rest.{Leads}
 use Rattle.py_data.specs.Looking.{each_row}
 use Rattle.obj_nest.specs.Text.{write_levels, part_row, couple_row}
 use Rattle.obj_nest.proofs.texts.+writing.Given as goal

@@ -1,7 +1,7 @@
 use Rattle.std.proofs.Common.{◌-◌, false}
 use Rattle.py_data.specs.declared.record.Got.TheVariants.{Is}
 use Rattle.py_data.specs.Looking.{until_row}
-use Rattle.py_data.specs.Rest.{Leads}
+use Rattle.py_data.specs.inner.Rest.{Leads}
 use Rattle.obj_ops.specs.Contains.{item_row, items_row, goes_on}
 use Rattle.obj_ops.proofs.contain.is_item.Given as goal
 

@@ -1,5 +1,5 @@
 use Rattle.std.proofs.Common.{drop}
-use Rattle.py_data.specs.Rest.{Leads}
+use Rattle.py_data.specs.inner.Rest.{Leads}
 use Rattle.obj_ops.specs.InPlace.{push_row}
 use Rattle.obj_ops.proofs.extending.push_all.Given as goal
 

@@ -1,6 +1,6 @@
 use Rattle.std.proofs.Common.{◌-◌}
 use Rattle.py_data.specs.Looking.{each_row}
-use Rattle.py_data.specs.Rest.{Leads}
+use Rattle.py_data.specs.inner.Rest.{Leads}
 use Rattle.obj_ops.specs.Format.{pieces_row, piece_row, piece_at}
 use Rattle.obj_ops.proofs.format.write_pieces.Given as goal
 

@@ -1,5 +1,5 @@
 use Rattle.std.proofs.Common.{subst}
-use Rattle.py_data.specs.Rest.{Leads}
+use Rattle.py_data.specs.inner.Rest.{Leads}
 use Rattle.py_data.proofs.Steps.{leads-ret}
 use Rattle.obj_seq.specs.Iter.{next_row, next_with}
 use Rattle.obj_seq.proofs.IterSteps.{parts-leads}

@@ -4,7 +4,7 @@ use Rattle.py_data.specs.declared.record.TheConstants.{LENGTH_LIMIT}
 use Rattle.py_data.specs.declared.stop.Stop.TheVariants.{OutOfMemory}
 use Rattle.py_data.specs.Fault.{memory_fault}
 use Rattle.py_data.specs.Looking.{walk_row}
-use Rattle.py_data.specs.Rest.{Leads}
+use Rattle.py_data.specs.inner.Rest.{Leads}
 use Rattle.py_data.proofs.Steps.{leads-own, stop-as}
 use Rattle.obj_seq.specs.Gather.{take_row, left_row}
 use Rattle.obj_seq.proofs.GatherSteps.{left-begin, left-safe, left-stop, left-more, left-end, left-raised, left-last}

@@ -3,7 +3,7 @@ use Rattle.py_data.specs.declared.record.Got.TheVariants.{Raise}
 use Rattle.py_data.specs.declared.record.TheConstants.{LENGTH_LIMIT}
 use Rattle.py_data.specs.Fault.{memory_fault}
 use Rattle.py_data.specs.Looking.{walk_row}
-use Rattle.py_data.specs.Rest.{Leads}
+use Rattle.py_data.specs.inner.Rest.{Leads}
 use Rattle.obj_seq.specs.Gather.{take_row, left_row}
 use Rattle.obj_seq.proofs.gathering.left.Given as goal
 

@@ -1,5 +1,5 @@
 use Rattle.std.proofs.Common.{[], length}
-use Rattle.py_data.specs.Rest.{Leads}
+use Rattle.py_data.specs.inner.Rest.{Leads}
 use Rattle.obj_str.specs.Cutting.{pieces_of}
 use Rattle.obj_str.specs.Methods.{new_list, strings_then}
 use Rattle.obj_str.proofs.splitting.make_pieces.Given as goal

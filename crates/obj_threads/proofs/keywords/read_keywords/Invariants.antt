@@ -1,6 +1,6 @@
 use Rattle.std.proofs.Common.{◌-◌}
 use Rattle.py_data.specs.Looking.{each_row}
-use Rattle.py_data.specs.Rest.{Leads}
+use Rattle.py_data.specs.inner.Rest.{Leads}
 use Rattle.obj_threads.specs.Keywords.{keywords_row, keyword_row}
 use Rattle.obj_threads.proofs.keywords.read_keywords.Given as goal
 

@@ -1,7 +1,7 @@
 use Rattle.std.proofs.Common.{arith, ap, ◌∙◌}
 use Rattle.std.proofs.lemmas.Grind.{common_steps}
 use Rattle.py_compile.specs.Statements.{stated}
-use Rattle.py_compile.specs.Weights.{weight, weights_handlers}
+use Rattle.py_compile.specs.inner.Weights.{weight, weights_handlers}
 use Rattle.py_compile.proofs.Stateds.{bodies_try, weight_try}
 use Rattle.py_compile.proofs.bodies.+counts.Goals as goal
 

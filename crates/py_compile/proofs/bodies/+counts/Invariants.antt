@@ -1,6 +1,6 @@
 use Rattle.std.proofs.Common.{◌≡◌, ◌≤◌, ◌+◌, length}
 use Rattle.py_compile.specs.Statements.{all_stated, armed_count, count, handled_count, stated_arms, stated_handlers}
-use Rattle.py_compile.specs.Weights.{weight, weights, weights_arms, weights_handlers, weights_some}
+use Rattle.py_compile.specs.inner.Weights.{weight, weights, weights_arms, weights_handlers, weights_some}
 use Rattle.py_compile.proofs.bodies.+counts.Given as goal
 
 abbrev pub decreases-bodies_in : goal.decreases-bodies_in

@@ -1,10 +1,10 @@
 use Rattle.std.proofs.Common.{◌+◌, ◌∷◌, ◌++◌, [], length, arith, ap, sym, ◌∙◌}
 use Rattle.std.proofs.lemmas.Grind.{common_steps}
 use Rattle.py_compile.proofs.bodies.+gatherings.Goals as goal
-use Rattle.py_compile.specs.Gathered.{numbered}
-use Rattle.py_compile.specs.Compounds.{tried_of}
+use Rattle.py_compile.specs.inner.Gathered.{numbered}
+use Rattle.py_compile.specs.inner.Compounds.{tried_of}
 use Rattle.py_compile.specs.Statements.{all_stated, armed_count, armed_inner, count, inners, stated, stated_arms}
-use Rattle.py_compile.specs.Weights.{weight, weights_handlers}
+use Rattle.py_compile.specs.inner.Weights.{weight, weights_handlers}
 use Rattle.py_compile.proofs.Gathers.{two}
 use Rattle.py_compile.proofs.Stateds.{stated_if, stated_while, stated_for, stated_def, stated_class, bodies_try, inner_try, weight_try}
 

@@ -1,7 +1,7 @@
 use Rattle.std.proofs.Common.{◌≡◌, ◌≤◌, ◌+◌, ◌++◌, length}
-use Rattle.py_compile.specs.Gathered.{numbered}
+use Rattle.py_compile.specs.inner.Gathered.{numbered}
 use Rattle.py_compile.specs.Statements.{all_stated, armed_count, armed_inner, count, handled_count, handled_inner, inners, stated_arms, stated_handlers}
-use Rattle.py_compile.specs.Weights.{weight, weights, weights_arms, weights_handlers, weights_some}
+use Rattle.py_compile.specs.inner.Weights.{weight, weights, weights_arms, weights_handlers, weights_some}
 use Rattle.py_compile.proofs.bodies.+gatherings.Given as goal
 
 abbrev pub decreases-gather_one : goal.decreases-gather_one

@@ -1,6 +1,6 @@
 use Rattle.std.proofs.Common.{ap, ◌∙◌}
 use Rattle.py_compile.proofs.bodies.add.Goals as goal
-use Rattle.py_compile.specs.Gathered.{numbered}
+use Rattle.py_compile.specs.inner.Gathered.{numbered}
 use Rattle.py_compile.proofs.Gathers.{numbered_end}
 
 pub returns-clause-bodies : goal.returns-clause-bodies

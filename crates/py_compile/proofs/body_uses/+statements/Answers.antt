@@ -2,7 +2,7 @@ use Rattle.std.proofs.Common.{ap, ◌∙◌, ◌++◌, arith, refl, sym, true, f
 use Rattle.std.proofs.lemmas.Grind.{common_steps}
 use Rattle.py_tree.specs.Tall.{tall, talls, tall_arms, tall_handlers}
 use Rattle.py_tree.proofs.Talls.{tall_for, tall_try}
-use Rattle.py_compile.specs.Tallies.{arm_uses, arms_uses, block_uses, clause_uses, done, handler_uses, handlers_uses, inside, locals_in}
+use Rattle.py_compile.specs.inner.Tallies.{arm_uses, arms_uses, block_uses, clause_uses, done, handler_uses, handlers_uses, inside, locals_in}
 use Rattle.py_compile.specs.Uses.{in_turn, name_bound, quiet, read, read_defaults, read_some, stmt_uses, target, target_some}
 use Rattle.py_compile.proofs.Tallying.{turn, two, within}
 use Rattle.py_compile.proofs.UsedStatements.{uses_if, uses_while, uses_for, uses_try, uses_def, uses_class}

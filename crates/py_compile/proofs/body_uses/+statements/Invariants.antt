@@ -1,6 +1,6 @@
 use Rattle.std.proofs.Common.{◌≡◌, ◌+◌, ◌*◌, ◌≤◌, length}
 use Rattle.py_tree.specs.Tall.{tall, talls, tall_arm, tall_arms, tall_clause, tall_handler, tall_handlers}
-use Rattle.py_compile.specs.Tallies.{arms_uses, block_uses, done, handlers_uses, inside}
+use Rattle.py_compile.specs.inner.Tallies.{arms_uses, block_uses, done, handlers_uses, inside}
 use Rattle.py_compile.proofs.body_uses.+statements.Given as goal
 
 abbrev pub invariant-block-items : goal.invariant-block-items

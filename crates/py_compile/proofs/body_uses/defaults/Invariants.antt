@@ -1,5 +1,5 @@
 use Rattle.std.proofs.Common.{◌≡◌, length}
-use Rattle.py_compile.specs.Tallies.{inside, tally}
+use Rattle.py_compile.specs.inner.Tallies.{inside, tally}
 use Rattle.py_compile.specs.Uses.{read_defaults}
 use Rattle.py_compile.proofs.body_uses.defaults.Given as goal
 

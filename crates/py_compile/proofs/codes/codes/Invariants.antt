@@ -1,6 +1,6 @@
 use Rattle.std.proofs.Common.{◌≡◌, None, take}
-use Rattle.py_compile.specs.Compiles.{known_in}
-use Rattle.py_compile.specs.Gathered.{numbered}
+use Rattle.py_compile.specs.inner.Bodies.{known_in}
+use Rattle.py_compile.specs.inner.Gathered.{numbered}
 use Rattle.py_compile.specs.Whole.{codes_from, large_bodies}
 use Rattle.py_compile.proofs.codes.codes.Given as goal
 

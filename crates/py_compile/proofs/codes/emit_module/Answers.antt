@@ -1,5 +1,5 @@
 use Rattle.std.proofs.Common.{[], subst}
-use Rattle.py_compile.specs.State.{Emitted, no_frames}
+use Rattle.py_compile.specs.inner.State.{Emitted, no_frames}
 use Rattle.py_compile.specs.Statements.{all_stated, pieces}
 use Rattle.py_compile.specs.Template.{row}
 use Rattle.py_compile.proofs.Compiled.{module_arm}

@@ -1,6 +1,6 @@
 use Rattle.std.proofs.Common.{◌≤◌, ◌+◌, ◌*◌, ◌++◌, length, map}
 use Rattle.py_tree.specs.Height.{height, tops}
-use Rattle.py_compile.specs.Deletions.{SameDeletions}
+use Rattle.py_compile.specs.inner.Deletions.{SameDeletions}
 use Rattle.py_compile.proofs.deletion.+deletions.Given as goal
 
 abbrev pub invariant-add_targets-items : goal.invariant-add_targets-items

@@ -1,5 +1,5 @@
 use Rattle.std.proofs.Common.{◌≡◌, take}
-use Rattle.py_compile.specs.State.{done, places_of}
+use Rattle.py_compile.specs.inner.State.{done, places_of}
 use Rattle.py_compile.proofs.emitter.resolve_all.Given as goal
 
 abbrev pub invariant-loop-draft : goal.invariant-loop-draft

@@ -1,5 +1,5 @@
 use Rattle.std.proofs.Common.{ap}
-use Rattle.py_compile.specs.Tasks.{Between}
+use Rattle.py_compile.specs.inner.Tasks.{Between}
 use Rattle.py_compile.proofs.Steps.{between_more, split_as, then_ok}
 use Rattle.py_compile.proofs.expression.between.Goals as goal
 

@@ -1,7 +1,7 @@
 use Rattle.std.proofs.Common.{refl, ap, length}
 use Rattle.py_tree.specs.declared.expr.Expr.TheVariants as tree
 use Rattle.py_tree.specs.declared.expr.Level.TheVariants as level
-use Rattle.py_compile.specs.Tasks.{Value}
+use Rattle.py_compile.specs.inner.Tasks.{Value}
 use Rattle.py_compile.proofs.Steps.{advances_as, then_ok, value_and, value_operated, value_or}
 use Rattle.py_compile.proofs.expression.chain.Goals as goal
 

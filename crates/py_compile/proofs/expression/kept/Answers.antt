@@ -1,5 +1,5 @@
 use Rattle.std.proofs.Common.{ap}
-use Rattle.py_compile.specs.Tasks.{Kept}
+use Rattle.py_compile.specs.inner.Tasks.{Kept}
 use Rattle.py_compile.proofs.Steps.{kept_more, split_as, then_ok}
 use Rattle.py_compile.proofs.expression.kept.Goals as goal
 

@@ -1,5 +1,5 @@
 use Rattle.std.proofs.Common.{ap}
-use Rattle.py_compile.specs.Tasks.{Keys}
+use Rattle.py_compile.specs.inner.Tasks.{Keys}
 use Rattle.py_compile.proofs.Steps.{keys_more, split_as, then_ok}
 use Rattle.py_compile.proofs.expression.keys.Goals as goal
 

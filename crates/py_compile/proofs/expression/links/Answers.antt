@@ -1,5 +1,5 @@
 use Rattle.std.proofs.Common.{ap}
-use Rattle.py_compile.specs.Tasks.{Links}
+use Rattle.py_compile.specs.inner.Tasks.{Links}
 use Rattle.py_compile.proofs.Steps.{links_more, split_as, then_ok}
 use Rattle.py_compile.proofs.expression.links.Goals as goal
 

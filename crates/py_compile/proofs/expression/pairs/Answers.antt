@@ -1,5 +1,5 @@
 use Rattle.std.proofs.Common.{ap}
-use Rattle.py_compile.specs.Tasks.{Pairs}
+use Rattle.py_compile.specs.inner.Tasks.{Pairs}
 use Rattle.py_compile.proofs.Steps.{pairs_more, split_as, then_ok}
 use Rattle.py_compile.proofs.expression.pairs.Goals as goal
 

@@ -1,5 +1,5 @@
 use Rattle.std.proofs.Common.{◌∷◌, [], sym, subst}
-use Rattle.py_compile.specs.Tasks.{Leads, plain}
+use Rattle.py_compile.specs.inner.Tasks.{Leads, plain}
 use Rattle.py_compile.proofs.Steps.{lead_then, lead_end}
 use Rattle.py_compile.proofs.expression.run.Goals as goal
 

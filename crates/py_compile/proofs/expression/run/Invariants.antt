@@ -1,6 +1,6 @@
 use Rattle.std.specs.Prelude.{[], ◌∷◌}
-use Rattle.py_compile.specs.Tasks.{Leads, plain}
-use Rattle.py_compile.specs.TaskWeights.{all_weights}
+use Rattle.py_compile.specs.inner.Tasks.{Leads, plain}
+use Rattle.py_compile.specs.inner.TaskWeights.{all_weights}
 use Rattle.py_compile.proofs.expression.run.Given as goal
 
 abbrev pub invariant-tasks : goal.invariant-tasks

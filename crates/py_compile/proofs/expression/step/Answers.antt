@@ -1,5 +1,5 @@
 use Rattle.std.proofs.Common.{ap}
-use Rattle.py_compile.specs.Tasks.{plain}
+use Rattle.py_compile.specs.inner.Tasks.{plain}
 use Rattle.py_compile.proofs.Steps.{split_at, then_ok}
 use Rattle.py_compile.proofs.expression.step.Goals as goal
 

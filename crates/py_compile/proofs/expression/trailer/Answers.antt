@@ -1,5 +1,5 @@
 use Rattle.std.proofs.Common.{ap, ◌∷◌}
-use Rattle.py_compile.specs.Tasks.{Behind}
+use Rattle.py_compile.specs.inner.Tasks.{Behind}
 use Rattle.py_compile.proofs.Steps.{behind_call, behind_index, behind_slice, split_as, then_ok}
 use Rattle.py_compile.proofs.expression.trailer.Goals as goal
 

@@ -1,5 +1,5 @@
 use Rattle.std.proofs.Common.{refl, ap, sym, ◌∙◌}
-use Rattle.py_compile.specs.Tasks.{Value}
+use Rattle.py_compile.specs.inner.Tasks.{Value}
 use Rattle.py_compile.specs.Expressions.{name_value}
 use Rattle.py_compile.proofs.Steps.{advances_as, then_ok, value_dict, value_group, value_int, value_list, value_name, value_not, value_power, value_str, value_trail, value_tuple, value_unary}
 use Rattle.py_compile.proofs.expression.value.Goals as goal

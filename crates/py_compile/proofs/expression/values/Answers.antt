@@ -1,5 +1,5 @@
 use Rattle.std.proofs.Common.{ap}
-use Rattle.py_compile.specs.Tasks.{Values}
+use Rattle.py_compile.specs.inner.Tasks.{Values}
 use Rattle.py_compile.proofs.Steps.{split_as, then_ok, values_more}
 use Rattle.py_compile.proofs.expression.values.Goals as goal
 

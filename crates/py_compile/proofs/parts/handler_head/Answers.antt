@@ -1,6 +1,6 @@
 use Rattle.std.proofs.Common.{◌∷◌, [], length, arith, refl, ap}
 use Rattle.std.proofs.lemmas.Grind.{common_steps}
-use Rattle.py_compile.specs.State.{opened, frame_there}
+use Rattle.py_compile.specs.inner.State.{opened, frame_there}
 use Rattle.py_compile.specs.Expressions.{value, stored}
 use Rattle.py_compile.proofs.StmtArms.{puts_more}
 use Rattle.py_compile.proofs.parts.handler_head.Goals as goal

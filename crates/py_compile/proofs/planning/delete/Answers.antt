@@ -1,5 +1,5 @@
 use Rattle.std.proofs.Common.{map, subst}
-use Rattle.py_compile.specs.Deletions.{SameDeletions}
+use Rattle.py_compile.specs.inner.Deletions.{SameDeletions}
 use Rattle.py_compile.specs.Expressions.{all_deleted}
 use Rattle.py_compile.specs.Statements.{deletion}
 use Rattle.py_compile.proofs.Plans.{add_plan, delete_plans, no_delete}

@@ -1,6 +1,6 @@
 use Rattle.std.proofs.Common.{arith}
 use Rattle.py_compile.specs.Statements.{stated}
-use Rattle.py_compile.specs.Plans.{simple_stmt}
+use Rattle.py_compile.specs.inner.Plans.{simple_stmt}
 use Rattle.py_compile.proofs.Plans.{add_plan, simple_bodies, simple_code}
 use Rattle.py_compile.proofs.planning.simple.Goals as goal
 

@@ -1,6 +1,6 @@
 use Rattle.std.proofs.Common.{◌≡◌, ◌∷◌, length, arith, ap, ◌∙◌}
 use Rattle.std.proofs.lemmas.Grind.{common_steps}
-use Rattle.py_compile.specs.State.{no_frames}
+use Rattle.py_compile.specs.inner.State.{no_frames}
 use Rattle.py_compile.specs.Expressions.{value, values}
 use Rattle.py_compile.proofs.Rests.{rest_step}
 use Rattle.py_compile.proofs.simple.defaults.Goals as goal

@@ -1,7 +1,7 @@
 use Rattle.std.proofs.Common.{◌≡◌, ◌≤◌, ◌+◌, length}
 use Rattle.py_compile.specs.Expressions.{values}
 use Rattle.py_compile.specs.Statements.{defaults}
-use Rattle.py_compile.specs.State.{no_frames}
+use Rattle.py_compile.specs.inner.State.{no_frames}
 use Rattle.py_compile.proofs.Rests.{Rest}
 use Rattle.py_compile.proofs.simple.defaults.Given as goal
 

@@ -1,6 +1,6 @@
 use Rattle.std.proofs.Common.{◌+◌, drop, map}
 use Rattle.std.proofs.lemmas.List.{drop_all}
-use Rattle.py_compile.specs.State.{no_frames}
+use Rattle.py_compile.specs.inner.State.{no_frames}
 use Rattle.py_compile.specs.Expressions.{all_deleted, deleted}
 use Rattle.py_base.proofs.Lists.{next_item}
 use Rattle.py_compile.proofs.Rests.{rest_step, rest_end}

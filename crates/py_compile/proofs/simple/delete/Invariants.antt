@@ -1,6 +1,6 @@
 use Rattle.std.proofs.Common.{drop, map}
 use Rattle.py_compile.specs.Expressions.{all_deleted}
-use Rattle.py_compile.specs.State.{no_frames}
+use Rattle.py_compile.specs.inner.State.{no_frames}
 use Rattle.py_compile.proofs.Rests.{Rest}
 use Rattle.py_compile.proofs.simple.delete.Given as goal
 

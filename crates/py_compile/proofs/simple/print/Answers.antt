@@ -1,5 +1,5 @@
 use Rattle.std.proofs.Common.{rules}
-use Rattle.py_compile.specs.State.{no_frames}
+use Rattle.py_compile.specs.inner.State.{no_frames}
 use Rattle.py_compile.specs.Expressions.{values}
 use Rattle.py_compile.proofs.StmtArms.{print_line_arm}
 use Rattle.py_compile.proofs.simple.print.Goals as goal

@@ -1,5 +1,5 @@
 use Rattle.std.proofs.Common.{rules, map}
-use Rattle.py_compile.specs.State.{no_frames}
+use Rattle.py_compile.specs.inner.State.{no_frames}
 use Rattle.py_compile.specs.Expressions.{value, values}
 use Rattle.py_compile.proofs.Rests.{rest_step, rest_end}
 use Rattle.py_compile.proofs.StmtArms.{print_arm}

@@ -1,4 +1,4 @@
-use Rattle.py_compile.specs.State.{no_frames}
+use Rattle.py_compile.specs.inner.State.{no_frames}
 use Rattle.py_compile.specs.Expressions.{stored}
 use Rattle.py_compile.proofs.Rests.{rest_step}
 use Rattle.py_compile.proofs.StmtArms.{also_arm}

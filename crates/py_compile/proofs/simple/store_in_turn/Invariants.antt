@@ -1,6 +1,6 @@
 use Rattle.std.proofs.Common.{◌≡◌, length}
 use Rattle.py_compile.specs.Statements.{last_target, stores_before}
-use Rattle.py_compile.specs.State.{no_frames}
+use Rattle.py_compile.specs.inner.State.{no_frames}
 use Rattle.py_compile.proofs.Rests.{Rest}
 use Rattle.py_compile.proofs.simple.store_in_turn.Given as goal
 

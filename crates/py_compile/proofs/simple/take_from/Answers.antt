@@ -1,5 +1,5 @@
 use Rattle.std.proofs.Common.{rules}
-use Rattle.py_compile.specs.State.{no_frames}
+use Rattle.py_compile.specs.inner.State.{no_frames}
 use Rattle.py_compile.proofs.Rests.{rest_step, rest_end}
 use Rattle.py_compile.proofs.StmtArms.{import_arm}
 use Rattle.py_compile.proofs.simple.take_from.Goals as goal

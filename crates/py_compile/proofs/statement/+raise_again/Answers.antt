@@ -1,6 +1,6 @@
-use Rattle.py_compile.specs.Rounds.{around_of, env_of}
+use Rattle.py_compile.specs.inner.Rounds.{around_of, env_of}
 use Rattle.py_compile.proofs.Leaves.{ok_map, raise_while, raise_for, raise_try, raise_finally}
-use Rattle.py_compile.specs.Plans.{planned_block}
+use Rattle.py_compile.specs.inner.Plans.{planned_block}
 use Rattle.py_compile.proofs.statement.+raise_again.Goals as goal
 
 pub returns-in-While-clause-done : goal.returns-in-While-clause-done

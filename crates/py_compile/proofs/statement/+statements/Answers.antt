@@ -1,11 +1,11 @@
 use Rattle.std.proofs.Common.{◌+◌, ◌∷◌, arith, ap, drop, ◌∙◌}
 use Rattle.std.proofs.lemmas.Grind.{common_steps}
-use Rattle.py_compile.specs.State.{frame_there}
+use Rattle.py_compile.specs.inner.State.{frame_there}
 use Rattle.py_compile.specs.Expressions.{value, value_some, stored}
 use Rattle.py_compile.specs.Table.{InWhile, InFor, InTry, InClause, InFinally}
-use Rattle.py_compile.specs.Plans.{planned, planned_all, planned_arm, planned_arms, planned_block, planned_handler, planned_handlers}
-use Rattle.py_compile.specs.Rounds.{around_of, env_of}
-use Rattle.py_compile.specs.PlanWeights.{plan_weight, plan_weights, plan_weights_arms, plan_weights_handlers}
+use Rattle.py_compile.specs.inner.Plans.{planned, planned_all, planned_arm, planned_arms, planned_block, planned_handler, planned_handlers}
+use Rattle.py_compile.specs.inner.Rounds.{around_of, env_of}
+use Rattle.py_compile.proofs.PlanBounds.{plan_weight, plan_weights, plan_weights_arms, plan_weights_handlers}
 use Rattle.py_base.proofs.Lists.{next_item}
 use Rattle.py_compile.proofs.Rests.{rest_step}
 use Rattle.py_compile.proofs.StmtArms.{if_arm, arm_arm, while_arm, for_arm, try_arm, finally_arm, return_arm, handler_arm}

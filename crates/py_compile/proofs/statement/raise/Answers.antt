@@ -1,4 +1,4 @@
-use Rattle.py_compile.specs.Rounds.{env_of}
+use Rattle.py_compile.specs.inner.Rounds.{env_of}
 use Rattle.py_compile.proofs.Leaves.{ok_map}
 use Rattle.py_compile.proofs.statement.raise.Goals as goal
 

@@ -1,7 +1,7 @@
 use Rattle.std.proofs.Common.{refl, ap, ◌∙◌, ◌++◌, [], ◌∷◌}
 use Rattle.py_tree.specs.declared.expr.Expr.TheVariants as tree
 use Rattle.py_tree.specs.declared.expr.Trailer.TheVariants as trailer
-use Rattle.py_compile.specs.Tasks.{Augment}
+use Rattle.py_compile.specs.inner.Tasks.{Augment}
 use Rattle.py_compile.specs.Expressions.{add_at, operator, value}
 use Rattle.py_compile.proofs.Coded.{coded_call, coded_slice, coded_trail}
 use Rattle.py_compile.proofs.Steps.{augment_attribute, augment_index, augment_nowhere, split_as, then_ok, trail_place}

@@ -1,5 +1,5 @@
 use Rattle.std.proofs.Common.{ap}
-use Rattle.py_compile.specs.Tasks.{Deletes}
+use Rattle.py_compile.specs.inner.Tasks.{Deletes}
 use Rattle.py_compile.proofs.Steps.{deletes_more, split_as, then_ok}
 use Rattle.py_compile.proofs.target.deletes.Goals as goal
 

@@ -1,5 +1,5 @@
 use Rattle.std.proofs.Common.{ap}
-use Rattle.py_compile.specs.Tasks.{Stores}
+use Rattle.py_compile.specs.inner.Tasks.{Stores}
 use Rattle.py_compile.proofs.Steps.{split_as, stores_more, then_ok}
 use Rattle.py_compile.proofs.target.stores.Goals as goal
 

@@ -1,6 +1,6 @@
 use Rattle.std.proofs.Common.{◌≡◌, ◌+◌, ◌*◌, ◌≤◌, length}
 use Rattle.py_tree.specs.Height.{height, height_trailer, tops, tops_links, tops_named, tops_pairs, tops_trailers, top_or}
-use Rattle.py_compile.specs.Tallies.{inside, read_links, read_named, read_pairs, read_trailers, tally, told_all}
+use Rattle.py_compile.specs.inner.Tallies.{inside, read_links, read_named, read_pairs, read_trailers, tally, told_all}
 use Rattle.py_compile.proofs.uses.+uses.Given as goal
 
 abbrev pub invariant-expressions-items : goal.invariant-expressions-items

@@ -1,5 +1,5 @@
 use Rattle.std.proofs.Common.{length}
-use Rattle.py_data.specs.Rest.{Leads}
+use Rattle.py_data.specs.inner.Rest.{Leads}
 use Rattle.py_frames.specs.BuildRows.{all_keys_row}
 use Rattle.py_instrs.proofs.builds.all_keys_row.Given as goal
 

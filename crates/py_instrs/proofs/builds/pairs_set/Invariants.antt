@@ -1,5 +1,5 @@
 use Rattle.std.proofs.Common.{length}
-use Rattle.py_data.specs.Rest.{Leads}
+use Rattle.py_data.specs.inner.Rest.{Leads}
 use Rattle.py_frames.specs.BuildRows.{pairs_set}
 use Rattle.py_instrs.proofs.builds.pairs_set.Given as goal
 

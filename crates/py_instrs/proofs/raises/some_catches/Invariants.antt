@@ -1,6 +1,6 @@
 use Rattle.std.proofs.Common.{◌-◌, false, not}
 use Rattle.py_data.specs.Looking.{until_row}
-use Rattle.py_data.specs.Rest.{Leads}
+use Rattle.py_data.specs.inner.Rest.{Leads}
 use Rattle.py_frames.specs.RaiseRows.{place_catches, some_catches}
 use Rattle.py_instrs.proofs.raises.some_catches.Given as goal
 

@@ -1,7 +1,7 @@
 use Rattle.std.proofs.Common.{◌≡◌, ◌&&◌, drop}
 use Rattle.std.specs.List.{list_any}
 use Rattle.py_names.specs.Scopes.{is_function, is_local}
-use Rattle.py_names.specs.Tables.{at}
+use Rattle.py_names.specs.inner.Tables.{at}
 use Rattle.py_names.proofs.check.any_function.Given as goal
 
 abbrev pub invariant-loop-body : goal.invariant-loop-body

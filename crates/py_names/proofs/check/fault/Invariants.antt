@@ -1,6 +1,6 @@
 use Rattle.std.proofs.Common.{◌≡◌, ◌+◌, ◌≤◌, [], length}
 use Rattle.py_names.specs.Scopes.{first_fault, placed}
-use Rattle.py_names.specs.Tables.{at}
+use Rattle.py_names.specs.inner.Tables.{at}
 use Rattle.py_names.proofs.check.fault.Given as goal
 
 abbrev pub invariant-events : goal.invariant-events

@@ -1,4 +1,4 @@
-use Rattle.py_names.specs.Tables.{at}
+use Rattle.py_names.specs.inner.Tables.{at}
 use Rattle.py_names.proofs.Closures.{closure_of}
 use Rattle.py_names.proofs.check.is_closure.Goals as goal
 

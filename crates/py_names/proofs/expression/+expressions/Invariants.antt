@@ -1,7 +1,7 @@
 use Rattle.std.proofs.Common.{◌≡◌, ◌++◌, [], ◌+◌, ◌*◌, ◌≤◌, length}
 use Rattle.py_tree.specs.Height.{height, height_trailer, tops, tops_links, tops_named, tops_pairs, tops_trailers, top_or}
 use Rattle.py_names.specs.Outline.{read_keywords, read_links, read_pairs, read_trailers}
-use Rattle.py_names.specs.Roles.{told_all}
+use Rattle.py_names.specs.inner.Roles.{told_all}
 use Rattle.py_names.proofs.expression.+expressions.Given as goal
 
 abbrev pub invariant-expressions-items : goal.invariant-expressions-items

@@ -1,5 +1,5 @@
 use Rattle.std.proofs.Common.{◌≡◌, filter, map, take}
-use Rattle.py_names.specs.Tables.{chooses}
+use Rattle.py_names.specs.inner.Tables.{chooses}
 use Rattle.py_names.proofs.gather.chosen.Given as goal
 
 abbrev pub invariant-loop-name : goal.invariant-loop-name

@@ -1,5 +1,5 @@
 use Rattle.std.proofs.Common.{◌≡◌, [], length}
-use Rattle.py_names.specs.Tables.{tables_by}
+use Rattle.py_names.specs.inner.Tables.{tables_by}
 use Rattle.py_names.proofs.gather.tables.Given as goal
 
 abbrev pub invariant-events : goal.invariant-events

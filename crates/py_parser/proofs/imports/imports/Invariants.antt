@@ -1,6 +1,6 @@
 use Rattle.std.proofs.Common.{◌≡◌, ◌-◌, [], ◌∷◌}
-use Rattle.py_parser.specs.Lines.{imports_at}
-use Rattle.py_parser.specs.SimplePieces.{may_import}
+use Rattle.py_parser.specs.inner.Lines.{imports_at}
+use Rattle.py_parser.specs.inner.SimplePieces.{may_import}
 use Rattle.py_parser.proofs.imports.imports.Given as goal
 
 abbrev pub invariant-turns : goal.invariant-turns

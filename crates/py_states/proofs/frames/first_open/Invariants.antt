@@ -1,5 +1,5 @@
 use Rattle.std.proofs.Common.{◌≡◌, drop}
-use Rattle.py_states.specs.memory.Laid.{opening}
+use Rattle.py_states.specs.inner.Laid.{opening}
 use Rattle.py_states.proofs.frames.first_open.Given as goal
 
 abbrev pub invariant-loop-i : goal.invariant-loop-i

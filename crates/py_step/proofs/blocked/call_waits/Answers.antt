@@ -3,7 +3,7 @@ use Rattle.py_data.specs.declared.value.Value.TheVariants.{Unset}
 use Rattle.py_frames.specs.CallRows.{value_call}
 use Rattle.py_frames.specs.State.{State}
 use Rattle.py_frames.specs.Steps.{given_in}
-use Rattle.py_step.specs.Peeked.{LeadsToWait, Tells}
+use Rattle.py_step.specs.inner.Peeked.{LeadsToWait, Tells}
 use Rattle.py_step.proofs.StepWaits.{call_tells}
 use Rattle.py_step.proofs.blocked.call_waits.Goals as goal
 

@@ -2,7 +2,7 @@ use Rattle.std.proofs.Common.{sym, ap, subst, ◌∙◌}
 use Rattle.py_frames.specs.State.{State, operands, pops}
 use Rattle.py_frames.specs.Steps.{wanted, has_unset, instr_row, site_of}
 use Rattle.py_states.specs.Innermost.{innermost}
-use Rattle.py_step.specs.Peeked.{LeadsToWait, Tells}
+use Rattle.py_step.specs.inner.Peeked.{LeadsToWait, Tells}
 use Rattle.py_step.proofs.StepWaits.{set_tells, unset_goes}
 use Rattle.py_step.proofs.blocked.guarded_waits.Goals as goal
 

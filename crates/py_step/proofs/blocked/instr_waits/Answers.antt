@@ -2,7 +2,7 @@ use Rattle.std.proofs.Common.{ℕ, ◌≤◌, List, false, length, sym, ap, subs
 use Rattle.py_frames.specs.State.{State}
 use Rattle.py_frames.specs.Steps.{instr_row, site_of}
 use Rattle.py_states.specs.Innermost.{innermost}
-use Rattle.py_step.specs.Peeked.{LeadsToWait, Tells}
+use Rattle.py_step.specs.inner.Peeked.{LeadsToWait, Tells}
 use Rattle.py_step.proofs.StepWaits.{keywords, keyed_call, keyed_method, no_call, other_goes}
 use Rattle.py_step.proofs.blocked.instr_waits.Goals as goal
 

@@ -4,7 +4,7 @@ use Rattle.py_frames.specs.Binding.{plainly}
 use Rattle.py_frames.specs.CallRows.{value_call}
 use Rattle.py_frames.specs.State.{State}
 use Rattle.py_frames.specs.Steps.{given_in}
-use Rattle.py_step.specs.Peeked.{LeadsToWait, Tells}
+use Rattle.py_step.specs.inner.Peeked.{LeadsToWait, Tells}
 use Rattle.py_step.proofs.CallWaits.{own_args}
 use Rattle.py_step.proofs.StepWaits.{method_tells}
 use Rattle.py_step.proofs.blocked.method_waits.Goals as goal

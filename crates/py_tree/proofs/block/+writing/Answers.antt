@@ -1,6 +1,6 @@
 use Rattle.std.proofs.Common.{ap}
 use Rattle.std.proofs.lemmas.Result.{on_ok_weaker}
-use Rattle.py_tree.specs.Page.{put_all}
+use Rattle.py_tree.specs.inner.Page.{put_all}
 use Rattle.py_tree.proofs.Sheets.{arms_if, arms_more, resumed_more, handlers_more, handler_written, for_written, try_written}
 use Rattle.py_tree.proofs.block.+writing.Goals as goal
 

@@ -1,7 +1,7 @@
 use Rattle.std.proofs.Common.{◌≡◌, drop}
 use Rattle.py_tree.specs.Canonical.{in_order, pieces}
-use Rattle.py_tree.specs.Clauses.{lexemes_if, lexemes_handlers, resumed}
-use Rattle.py_tree.specs.Page.{put_all}
+use Rattle.py_tree.specs.inner.Clauses.{lexemes_if, lexemes_handlers, resumed}
+use Rattle.py_tree.specs.inner.Page.{put_all}
 use Rattle.py_tree.proofs.Sheets.{arms_from}
 use Rattle.py_tree.proofs.block.+writing.Given as goal
 

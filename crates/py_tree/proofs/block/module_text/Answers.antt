@@ -1,7 +1,7 @@
 use Rattle.std.proofs.Common.{ap, ◌∙◌}
 use Rattle.py_tree.specs.declared.writer.Writer.{Writer}
 use Rattle.py_tree.specs.Canonical.{in_order, pieces}
-use Rattle.py_tree.specs.Page.{pen_of, put_all}
+use Rattle.py_tree.specs.inner.Page.{pen_of, put_all}
 use Rattle.std.specs.Prelude.{false}
 use Rattle.py_tree.proofs.Sheets.{text_written}
 use Rattle.py_tree.proofs.block.module_text.Goals as goal

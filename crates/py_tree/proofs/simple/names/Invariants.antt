@@ -1,7 +1,7 @@
 use Rattle.std.proofs.Common.{◌≡◌, drop, map}
 use Rattle.py_tree.specs.Canonical.{name_words}
 use Rattle.py_tree.specs.Spelling.{commas}
-use Rattle.py_tree.specs.Page.{spell, listed}
+use Rattle.py_tree.specs.inner.Page.{spell, listed}
 use Rattle.py_tree.proofs.simple.names.Given as goal
 
 abbrev pub invariant-loop-n : goal.invariant-loop-n

@@ -2,7 +2,7 @@ use Rattle.std.proofs.Common.{◌≡◌, drop}
 use Rattle.py_tokens.specs.declared.operator.TheConstants as operator
 use Rattle.py_tokens.specs.declared.token.TokenKind.TheVariants as k
 use Rattle.py_tree.specs.Canonical.{all, ended}
-use Rattle.py_tree.specs.Page.{spell}
+use Rattle.py_tree.specs.inner.Page.{spell}
 use Rattle.py_tree.proofs.simple.targets.Given as goal
 
 abbrev pub invariant-loop-e : goal.invariant-loop-e

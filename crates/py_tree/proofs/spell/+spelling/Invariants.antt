@@ -1,6 +1,6 @@
 use Rattle.std.proofs.Common.{◌≡◌, drop, map}
 use Rattle.py_tree.specs.Spelling.{all_words, commas, words, words_trailer, words_link, words_named, words_pair}
-use Rattle.py_tree.specs.Page.{spell, listed}
+use Rattle.py_tree.specs.inner.Page.{spell, listed}
 use Rattle.py_tree.proofs.spell.+spelling.Given as goal
 
 abbrev pub invariant-listed-loop-e : goal.invariant-listed-loop-e

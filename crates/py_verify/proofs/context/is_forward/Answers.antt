@@ -1,7 +1,7 @@
 use Rattle.std.proofs.Common.{subst, IsTrue}
 use Rattle.std.specs.Prelude.{◌↔◌}
 use Rattle.py_code.specs.Effects.{Forward}
-use Rattle.py_verify.specs.Flows.{flow_of}
+use Rattle.py_verify.specs.inner.Flows.{flow_of}
 use Rattle.py_verify.proofs.context.is_forward.Goals as goal
 
 pub returns : goal.returns

@@ -1,5 +1,5 @@
 use Rattle.std.proofs.Common.{◌≡◌, length}
-use Rattle.py_verify.specs.Tests.{any_long}
+use Rattle.py_verify.specs.inner.Tests.{any_long}
 use Rattle.py_verify.proofs.roots.any_long.Given as goal
 
 abbrev pub invariant-roots : goal.invariant-roots

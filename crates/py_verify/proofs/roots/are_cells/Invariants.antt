@@ -1,5 +1,5 @@
 use Rattle.std.proofs.Common.{◌≡◌, length}
-use Rattle.py_verify.specs.Tests.{are_cells}
+use Rattle.py_verify.specs.inner.Tests.{are_cells}
 use Rattle.py_verify.proofs.roots.are_cells.Given as goal
 
 abbrev pub invariant-roots : goal.invariant-roots

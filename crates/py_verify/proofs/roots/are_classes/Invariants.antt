@@ -1,5 +1,5 @@
 use Rattle.std.proofs.Common.{◌≡◌, ◌-◌}
-use Rattle.py_verify.specs.Tests.{are_classes}
+use Rattle.py_verify.specs.inner.Tests.{are_classes}
 use Rattle.py_verify.proofs.roots.are_classes.Given as goal
 
 abbrev pub invariant-loop-c : goal.invariant-loop-c

@@ -1,5 +1,5 @@
 use Rattle.std.proofs.Common.{◌≡◌, length}
-use Rattle.py_verify.specs.Tests.{no_setup}
+use Rattle.py_verify.specs.inner.Tests.{no_setup}
 use Rattle.py_verify.proofs.setup.no_setup.Given as goal
 
 abbrev pub invariant-instrs : goal.invariant-instrs

@@ -3,7 +3,7 @@ use Rattle.std.proofs.lemmas.Grind.{common_steps}
 use Rattle.std.specs.Prelude.{List, ℕ, Option}
 use Rattle.py_code.specs.Effects.{Limits, Sh}
 use Rattle.py_code.specs.declared.instr.Instr.{Instr}
-use Rattle.py_verify.specs.Work.{Visits, Visited}
+use Rattle.py_verify.specs.inner.Work.{Visits, Visited}
 use Rattle.py_verify.proofs.Steps.{going_on, going_end}
 use Rattle.py_verify.proofs.typing.is_right.Goals as goal
 

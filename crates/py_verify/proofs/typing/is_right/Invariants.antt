@@ -1,4 +1,4 @@
-use Rattle.py_verify.specs.Work.{left, Going}
+use Rattle.py_verify.specs.inner.Work.{left, Going}
 use Rattle.py_verify.proofs.typing.is_right.Given as goal
 
 abbrev pub invariant-loop-place : goal.invariant-loop-place

@@ -3,7 +3,7 @@ use Rattle.std.proofs.lemmas.Grind.{common_steps}
 use Rattle.std.proofs.lemmas.Option.{slice_get-get_or}
 use Rattle.std.specs.Prelude.{get_or}
 use Rattle.py_code.specs.declared.instr.Instr.TheVariants.{Setup}
-use Rattle.py_verify.specs.Flows.{effect_of}
+use Rattle.py_verify.specs.inner.Flows.{effect_of}
 use Rattle.py_verify.proofs.Steps.{visit_unfine, visit_back, visit_no_at, visit_yes_at}
 use Rattle.py_verify.proofs.typing.visit.Goals as goal
 

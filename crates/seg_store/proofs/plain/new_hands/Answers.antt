@@ -1,7 +1,7 @@
 use Rattle.std.proofs.Common.{rules, arith, ◌≡◌, ap, List, ◌∷◌, [], ◌++◌, length, length-append, sym, subst, ℕ, slice_get}
 use Rattle.seg_store.specs.declared.hand.Hand.{Hand}
 use Rattle.seg_store.specs.Meaning.{no_part}
-use Rattle.seg_store.specs.Tables.{part_in}
+use Rattle.seg_store.specs.inner.Tables.{part_in}
 use Rattle.seg_store.proofs.Stores.{hand_more}
 use Rattle.seg_store.proofs.plain.new_hands.Goals as goal
 

@@ -1,7 +1,7 @@
 use Rattle.std.proofs.Common.{◌≡◌, Some, refl, ◌∙◌, subst}
 use Rattle.stm_core.specs.CoreHeld.{core_client, core_limits}
 use Rattle.stm_top.specs.TopCall.{Devices, Told, devices_of}
-use Rattle.stm_top.specs.Ending.{RunEnds}
+use Rattle.stm_top.specs.inner.Ending.{RunEnds}
 use Rattle.stm_top.proofs.HandedOver.{handed_over}
 use Rattle.stm_top.proofs.run.run_core.Goals as goal
 

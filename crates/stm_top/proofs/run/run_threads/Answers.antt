@@ -5,7 +5,7 @@ use Rattle.seg_store.specs.Plain.{plain_meaning, empty_meaning}
 use Rattle.stm_core.specs.CoreHeld.{core_limits}
 use Rattle.stm_core.specs.Events.{Limits}
 use Rattle.stm_top.specs.TopCall.{Told, devices_of, limits_of}
-use Rattle.stm_top.specs.Ending.{RunEnds}
+use Rattle.stm_top.specs.inner.Ending.{RunEnds}
 use Rattle.stm_top.proofs.run.run_threads.Goals as goal
 
 is_empty : (m : Meaning) (n : ℕ) → m ≡ empty_meaning n → IsEmpty m None

@@ -4,7 +4,7 @@ use Rattle.py_frames.specs.Laws.{prog_of}
 use Rattle.stm_top.specs.Script.{Origin}
 use Rattle.stm_top.specs.TextCode.{HasCode, IsRefused}
 use Rattle.stm_top.specs.TopCall.{devices_of, Told}
-use Rattle.stm_top.specs.Ending.{TextEnded}
+use Rattle.stm_top.specs.inner.Ending.{TextEnded}
 use Rattle.stm_top.proofs.TopSteps.{taken_short, text_ran}
 use Rattle.stm_top.proofs.top.run_script.Goals as goal
 

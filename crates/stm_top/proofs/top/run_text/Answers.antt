@@ -3,7 +3,7 @@ use Rattle.seg_store.specs.Plain.{plain_meaning}
 use Rattle.lock_run.specs.Client.{IsSoundFirst}
 use Rattle.py_frames.specs.Laws.{prog_of}
 use Rattle.py_frames.specs.Sound.{Sound}
-use Rattle.stm_top.specs.Ending.{ThreadsEnded}
+use Rattle.stm_top.specs.inner.Ending.{ThreadsEnded}
 use Rattle.stm_top.specs.TopCall.{devices_of, Told}
 use Rattle.stm_top.proofs.top.run_text.Goals as goal
 

@@ -1,5 +1,5 @@
 use Rattle.std.proofs.Common.{rules}
-use Rattle.stm_words.specs.Given.{given_of}
+use Rattle.stm_words.specs.inner.Given.{given_of}
 use Rattle.stm_words.proofs.Within.{is_within}
 use Rattle.stm_words.proofs.reader.to_options.Goals as goal
 

@@ -1,7 +1,7 @@
 use Rattle.std.proofs.Common.{◌≡◌, ◌∙◌, map, string_bytes, sym}
 use Rattle.clap.specs.Matches.{found_of}
 use Rattle.clap.specs.Values.{kind_of}
-use Rattle.stm_words.specs.Given.{error_of}
+use Rattle.stm_words.specs.inner.Given.{error_of}
 use Rattle.stm_words.specs.declared.error.WordsError.TheVariants.{Usage}
 use Rattle.stm_words.proofs.Taken.{given_right, given_wrong, no_fault, same_rows, some_fault, strings_utf8}
 use Rattle.stm_words.proofs.words.read_given.Goals as goal

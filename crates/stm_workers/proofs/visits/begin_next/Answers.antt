@@ -1,4 +1,4 @@
-use Rattle.stm_workers.specs.GrowthLaws.{grows_same}
+use Rattle.stm_workers.specs.inner.GrowthLaws.{grows_same}
 use Rattle.stm_workers.proofs.visits.begin_next.Goals as goal
 
 pub returns-then-is_busy-clause-grows : goal.returns-then-is_busy-clause-grows

@@ -1,4 +1,4 @@
-use Rattle.stm_workers.specs.GrowthLaws.{grows_same}
+use Rattle.stm_workers.specs.inner.GrowthLaws.{grows_same}
 use Rattle.stm_workers.proofs.visits.follow.Goals as goal
 
 pub returns-in-Err-clause-grows : goal.returns-in-Err-clause-grows

@@ -1,4 +1,4 @@
-use Rattle.stm_workers.specs.GrowthLaws.{grows_then}
+use Rattle.stm_workers.specs.inner.GrowthLaws.{grows_then}
 use Rattle.stm_workers.proofs.visits.go_solo.Goals as goal
 
 pub returns-then-is_taken-clause-grows : goal.returns-then-is_taken-clause-grows

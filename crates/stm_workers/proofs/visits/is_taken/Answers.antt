@@ -1,5 +1,5 @@
 use Rattle.std.proofs.Common.{sym, ◌∙◌}
-use Rattle.stm_workers.specs.GrowthLaws.{grows_same}
+use Rattle.stm_workers.specs.inner.GrowthLaws.{grows_same}
 use Rattle.stm_workers.proofs.Growing.{solo_grows}
 use Rattle.stm_workers.proofs.visits.is_taken.Goals as goal
 

@@ -1,4 +1,4 @@
-use Rattle.stm_workers.specs.GrowthLaws.{grows_same}
+use Rattle.stm_workers.specs.inner.GrowthLaws.{grows_same}
 use Rattle.stm_workers.proofs.Jobs.{one_job}
 use Rattle.stm_workers.proofs.visits.visit.Goals as goal
 

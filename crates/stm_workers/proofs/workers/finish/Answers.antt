@@ -1,5 +1,5 @@
 use Rattle.std.proofs.Common.{refl, ◌∙◌}
-use Rattle.stm_workers.specs.GrowthLaws.{grows_same, grows_then}
+use Rattle.stm_workers.specs.inner.GrowthLaws.{grows_same, grows_then}
 use Rattle.stm_workers.proofs.workers.finish.Goals as goal
 
 pub loop-init : goal.loop-init

@@ -5,7 +5,7 @@ use Rattle.stm_core.specs.declared.transactions.Core.{Core}
 use Rattle.stm_workers.specs.declared.held.CoreJob.{CoreJob}
 use Rattle.stm_workers.specs.declared.held.Held.{Held}
 use Rattle.stm_workers.specs.Growth.{Grows}
-use Rattle.stm_workers.specs.GrowthLaws.{grows_same}
+use Rattle.stm_workers.specs.inner.GrowthLaws.{grows_same}
 use Rattle.stm_workers.proofs.workers.run_held.Goals as goal
 
 pub returns-in-Ok-clause-grows : goal.returns-in-Ok-clause-grows

@@ -1,4 +1,4 @@
-use Rattle.stm_workers.specs.GrowthLaws.{grows_then}
+use Rattle.stm_workers.specs.inner.GrowthLaws.{grows_then}
 use Rattle.stm_workers.proofs.workers.run_workers.Goals as goal
 
 pub returns-clause-grows : goal.returns-clause-grows

@@ -1,7 +1,7 @@
 use denote.Ref.{NamedLft}
 use denote.Param.Send.{sendable}
 use Rattle.stm_workers.proofs.Sent.{held_sent}
-use Rattle.worker_tests.specs.TurnsLaws.{turns_grow}
+use Rattle.worker_tests.proofs.TurnsLaws.{turns_grow}
 use Rattle.worker_tests.proofs.watch_rows.watch_core.Goals as goal
 
 pub watch_both-seat-requires-clause-more : goal.watch_both-seat-requires-clause-more

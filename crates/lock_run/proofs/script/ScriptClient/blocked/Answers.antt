@@ -1,4 +1,4 @@
-use Rattle.lock_run.specs.ScriptLaws.{script_goes}
+use Rattle.lock_run.specs.inner.ScriptLaws.{script_goes}
 use Rattle.lock_run.proofs.script.ScriptClient.blocked.Goals as goal
 
 pub returns-clause-not : goal.returns-clause-not

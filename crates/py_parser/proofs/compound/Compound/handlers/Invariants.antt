@@ -1,7 +1,7 @@
 use Rattle.std.proofs.Common.{◌≡◌, ◌-◌, []}
-use Rattle.py_parser.specs.Lines.{handlers_at}
-use Rattle.py_parser.specs.Aiming.{readers}
-use Rattle.py_parser.specs.Suites.{inner_block}
+use Rattle.py_parser.specs.inner.Lines.{handlers_at}
+use Rattle.py_parser.specs.inner.Aiming.{readers}
+use Rattle.py_parser.specs.inner.Suites.{inner_block}
 use Rattle.py_parser.proofs.compound.Compound.handlers.Given as goal
 
 abbrev pub invariant-turns : goal.invariant-turns

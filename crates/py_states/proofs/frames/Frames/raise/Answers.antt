@@ -1,5 +1,5 @@
 use Rattle.std.proofs.Common.{ap, drop, ◌∙◌}
-use Rattle.py_states.specs.memory.Changes.{on_top, caught}
+use Rattle.py_states.specs.inner.Changes.{on_top, caught}
 use Rattle.py_states.proofs.TopLemmas.{thrown_some}
 use Rattle.py_states.proofs.frames.Frames.raise.Goals as goal
 

@@ -1,6 +1,6 @@
 use Rattle.std.proofs.Common.{List, reverse, sym, ap, ◌∙◌}
 use Rattle.py_frames.specs.declared.state.Frame.{Frame}
-use Rattle.py_states.specs.memory.Framed.{Framed}
+use Rattle.py_states.specs.inner.Framed.{Framed}
 use Rattle.py_states.proofs.SameLemmas.{alike_frames, frames_alike, piles, differ}
 use Rattle.py_states.proofs.frames.Frames.same.Goals as goal
 

@@ -3,7 +3,7 @@ use Rattle.py_data.specs.Heap.{value_at}
 use Rattle.obj_nest.specs.Truth.{truth_row}
 use Rattle.obj_threads.specs.Arguments.{is_set}
 use Rattle.py_frames.specs.State.{State}
-use Rattle.py_step.specs.Peeked.{Comes}
+use Rattle.py_step.specs.inner.Peeked.{Comes}
 use Rattle.py_step.proofs.BuiltinWaits.{free_tells, held_alone, held_asked, many_goes, none_of, one_of, truth_comes}
 use Rattle.py_step.proofs.StackRefers.{value_refers}
 use Rattle.py_step.proofs.blocked.builtins.acquire_waits.Goals as goal

@@ -1,6 +1,6 @@
 use Rattle.std.proofs.Common.{[]}
 use Rattle.py_frames.specs.State.{State}
-use Rattle.py_step.specs.Peeked.{AnswersWait}
+use Rattle.py_step.specs.inner.Peeked.{AnswersWait}
 use Rattle.py_step.proofs.BuiltinWaits.{acquire_tells, join_tells, other_goes, neither}
 use Rattle.py_step.proofs.CallWaits.{me_of}
 use Rattle.py_step.proofs.PeekedRows.{never_avoids}

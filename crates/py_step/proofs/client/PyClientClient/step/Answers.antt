@@ -1,6 +1,6 @@
 use Rattle.std.proofs.Common.{subst, sym}
 use Rattle.py_step.specs.Client.{program_in}
-use Rattle.py_step.specs.Operators.{IsOperable}
+use Rattle.py_step.specs.inner.Operators.{IsOperable}
 use Rattle.py_step.proofs.Opened.{operable, opened_safe_as}
 use Rattle.py_step.proofs.client.PyClientClient.step.Goals as goal
 

@@ -1,4 +1,4 @@
-use Rattle.seg_store.specs.Space.{space_heap, space_base}
+use Rattle.seg_store.specs.inner.Space.{space_heap, space_base}
 use Rattle.seg_store.proofs.HoldingLemmas.{held_try}
 use Rattle.seg_store.proofs.hand.Hand.change.Goals as goal
 

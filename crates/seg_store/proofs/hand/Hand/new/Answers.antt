@@ -1,5 +1,5 @@
 use Rattle.std.proofs.Common.{refl}
-use Rattle.seg_store.specs.Space.{space_heap, space_base}
+use Rattle.seg_store.specs.inner.Space.{space_heap, space_base}
 use Rattle.seg_store.proofs.HoldingLemmas.{held_none}
 use Rattle.seg_store.proofs.hand.Hand.new.Goals as goal
 

@@ -1,5 +1,5 @@
 use Rattle.std.proofs.Common.{sym, ◌∙◌, ap, option_copied}
-use Rattle.seg_store.specs.Images.{stands}
+use Rattle.seg_store.specs.inner.Images.{stands}
 use Rattle.seg_store.proofs.Goodness.{good_some}
 use Rattle.seg_store.proofs.plain.PlainStore.committed.Goals as goal
 

@@ -1,6 +1,6 @@
 use Rattle.std.proofs.Common.{length, sym, subst}
 use Rattle.py_data.specs.Heap.{Heap}
-use Rattle.seg_store.specs.Images.{Reaches}
+use Rattle.seg_store.specs.inner.Images.{Reaches}
 use Rattle.seg_store.proofs.space.Space.give.Goals as goal
 
 pub give-requires : goal.give-requires

@@ -1,5 +1,5 @@
 use Rattle.std.proofs.Common.{rules}
-use Rattle.seg_store.specs.Table.{table_heap}
+use Rattle.seg_store.specs.inner.Table.{table_heap}
 use Rattle.seg_store.proofs.Back.{laid, laid_try, back_same}
 use Rattle.seg_store.proofs.space.Space.hold.Goals as goal
 

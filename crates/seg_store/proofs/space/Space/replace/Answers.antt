@@ -1,5 +1,5 @@
 use Rattle.std.proofs.Common.{rules}
-use Rattle.seg_store.specs.Table.{table_heap}
+use Rattle.seg_store.specs.inner.Table.{table_heap}
 use Rattle.seg_store.proofs.Back.{noted_change}
 use Rattle.seg_store.proofs.space.Space.replace.Goals as goal
 

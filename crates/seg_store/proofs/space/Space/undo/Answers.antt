@@ -1,6 +1,6 @@
 use Rattle.std.proofs.Common.{rules, sym, subst, ap, ◌∙◌}
-use Rattle.seg_store.specs.Table.{table_heap}
-use Rattle.seg_store.specs.Journal.{taken_back, IsUndoable}
+use Rattle.seg_store.specs.inner.Table.{table_heap}
+use Rattle.seg_store.specs.inner.Journal.{taken_back, IsUndoable}
 use Rattle.seg_store.proofs.Back.{last_entry}
 use Rattle.seg_store.proofs.space.Space.undo.Goals as goal
 

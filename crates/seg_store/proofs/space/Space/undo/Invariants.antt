@@ -1,5 +1,5 @@
 use Rattle.std.proofs.Common.{◌≡◌, length}
-use Rattle.seg_store.specs.Space.{space_base}
+use Rattle.seg_store.specs.inner.Space.{space_base}
 use Rattle.seg_store.proofs.space.Space.undo.Given as goal
 
 abbrev pub invariant-entries : goal.invariant-entries

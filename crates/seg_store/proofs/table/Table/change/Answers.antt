@@ -1,4 +1,4 @@
-use Rattle.seg_store.specs.Table.{table_heap}
+use Rattle.seg_store.specs.inner.Table.{table_heap}
 use Rattle.std.proofs.Common.{slice_get}
 use Rattle.seg_store.proofs.Placing.{slot_changed, slot_same}
 use Rattle.seg_store.proofs.table.Table.change.Goals as goal

@@ -1,5 +1,5 @@
 use Rattle.std.proofs.Common.{rules, slice_get}
-use Rattle.seg_store.specs.Table.{table_heap}
+use Rattle.seg_store.specs.inner.Table.{table_heap}
 use Rattle.seg_store.proofs.Placing.{gave_one, gave_none, gave_all}
 use Rattle.seg_store.proofs.table.Table.give.Goals as goal
 

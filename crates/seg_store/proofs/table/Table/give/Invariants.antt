@@ -1,5 +1,5 @@
 use Rattle.std.proofs.Common.{length}
-use Rattle.seg_store.specs.Table.{table_heap}
+use Rattle.seg_store.specs.inner.Table.{table_heap}
 use Rattle.seg_store.proofs.Moving.{IsMoved}
 use Rattle.seg_store.proofs.table.Table.give.Given as goal
 

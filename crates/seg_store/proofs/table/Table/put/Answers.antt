@@ -1,5 +1,5 @@
 use Rattle.std.proofs.Common.{rules}
-use Rattle.seg_store.specs.Table.{table_heap}
+use Rattle.seg_store.specs.inner.Table.{table_heap}
 use Rattle.seg_store.proofs.Placing.{put_by}
 use Rattle.seg_store.proofs.table.Table.put.Goals as goal
 

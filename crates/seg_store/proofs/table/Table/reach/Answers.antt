@@ -1,4 +1,4 @@
-use Rattle.seg_store.specs.Table.{table_heap}
+use Rattle.seg_store.specs.inner.Table.{table_heap}
 use Rattle.std.proofs.Common.{rules, arith, ◌≡◌, ◌≤◌, ◌+◌, ◌-◌, ◌++◌, length, take, replicate, slice_get, vec_len}
 use Rattle.seg_store.proofs.Placing.{reached_resize}
 use Rattle.seg_store.proofs.table.Table.reach.Goals as goal

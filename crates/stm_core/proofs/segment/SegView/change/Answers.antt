@@ -2,7 +2,7 @@ use Rattle.std.proofs.Common.{◌≤◌, ap, subst, sym, ◌∙◌}
 use Rattle.py_data.specs.Changes.{after}
 use Rattle.seg_store.specs.Meaning.{sees}
 use Rattle.stm_core.specs.Asking.{ChangeWants}
-use Rattle.stm_core.specs.Hold.{holding, FaultWhy}
+use Rattle.stm_core.specs.inner.Hold.{holding, FaultWhy}
 use Rattle.stm_core.proofs.Changing.{can_ready, can_moved, change_done, change_refused, change_held_at, runs_moved, after_moved}
 use Rattle.stm_core.proofs.segment.SegView.change.Goals as goal
 

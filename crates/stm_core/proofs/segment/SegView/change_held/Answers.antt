@@ -3,7 +3,7 @@ use Rattle.py_data.specs.declared.change.Change.TheVariants.{Set, Push, Cut, Pai
 use Rattle.std.proofs.Common.{IfErr, sym, subst}
 use Rattle.seg_store.specs.Meaning.{sees}
 use Rattle.stm_core.specs.Asking.{ChangeWants}
-use Rattle.stm_core.specs.Hold.{FaultWhy}
+use Rattle.stm_core.specs.inner.Hold.{FaultWhy}
 use Rattle.stm_core.proofs.Changing.{fit_change_result, err_both, wants_more}
 use Rattle.stm_core.proofs.segment.SegView.change_held.Goals as goal
 

@@ -1,6 +1,6 @@
 use Rattle.std.proofs.Common.{refl, sym, ◌∙◌, ap, Some}
 use Rattle.std.proofs.lemmas.Result.{on_ok_weaker, IfErr-weaker}
-use Rattle.stm_core.specs.Hold.{holding}
+use Rattle.stm_core.specs.inner.Hold.{holding}
 use Rattle.stm_core.proofs.Holding.{meets_lock, dooms_one, dooms_hand, holds_then, fails_then, fails_lost}
 use Rattle.stm_core.proofs.segment.SegView.meet.Goals as goal
 

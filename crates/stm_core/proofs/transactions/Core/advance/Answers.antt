@@ -6,7 +6,7 @@ use Rattle.stm_core.specs.declared.books.Books.{Books}
 use Rattle.stm_core.specs.Begun.{CountsSteps}
 use Rattle.stm_core.specs.Advanced.{Advanced}
 use Rattle.stm_core.specs.SaneCore.{StandsFor, LeadsBetween}
-use Rattle.stm_core.specs.Settled.{Rises}
+use Rattle.stm_core.specs.inner.Settled.{Rises}
 use Rattle.stm_core.specs.CoreHeld.{core_limits, core_devices, first_devices, IsFullKept}
 use Rattle.stm_core.proofs.Wholes.{set_here, taken}
 use Rattle.stm_core.proofs.Publishing.{emptied}

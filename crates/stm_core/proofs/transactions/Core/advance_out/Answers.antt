@@ -1,7 +1,7 @@
 use Rattle.std.proofs.Common.{◌≡◌, inl, sym, ◌∙◌, ap, subst, arith}
 use Rattle.stm_core.specs.Begun.{CountsSteps}
 use Rattle.stm_core.specs.Devices.{device_state}
-use Rattle.stm_core.specs.Settled.{Rises}
+use Rattle.stm_core.specs.inner.Settled.{Rises}
 use Rattle.stm_core.proofs.TakenSteps.{counts_same, settled_as, ended_out}
 use Rattle.stm_core.proofs.Calling.{blank}
 use Rattle.stm_core.proofs.transactions.Core.advance_out.Goals as goal

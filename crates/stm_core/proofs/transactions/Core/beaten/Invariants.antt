@@ -1,5 +1,5 @@
 use Rattle.std.proofs.Common.{◌<◌, ℕ, None}
-use Rattle.stm_core.specs.Readers.{Beats}
+use Rattle.stm_core.specs.inner.Readers.{Beats}
 use Rattle.stm_core.proofs.transactions.Core.beaten.Given as goal
 
 abbrev pub invariant-loop-j : goal.invariant-loop-j

@@ -5,7 +5,7 @@ use Rattle.stm_core.specs.declared.begin.BeginError.TheVariants.{OutOfMemory}
 use Rattle.stm_core.specs.CoreState.{CoreState}
 use Rattle.stm_core.specs.Moves.{begun_at}
 use Rattle.stm_core.specs.Books.{Worlds, segment_of, core_of}
-use Rattle.stm_core.specs.Whole.{Whole, SameShape}
+use Rattle.stm_core.specs.inner.Whole.{Whole, SameShape}
 use Rattle.stm_core.specs.Begun.{IsUnready, Begun, CountsSteps}
 use Rattle.seg_store.specs.Store.{IsStore}
 use Rattle.stm_core.specs.Outside.{InCore}

@@ -5,7 +5,7 @@ use Rattle.stm_core.specs.Moves.{published}
 use Rattle.stm_core.specs.Books.{worlds_after, transaction}
 use Rattle.stm_core.specs.Advance.{core_with}
 use Rattle.stm_core.specs.Begun.{CountsSteps}
-use Rattle.stm_core.specs.Readers.{FirstBeats}
+use Rattle.stm_core.specs.inner.Readers.{FirstBeats}
 use Rattle.stm_core.proofs.Committing.{none_wins, beaten_is}
 use Rattle.stm_core.proofs.Publishing.{left_idle, dooms_keep}
 use Rattle.stm_core.proofs.Calling.{blank}

@@ -1,7 +1,7 @@
 use Rattle.std.proofs.Common.{◌≡◌, ◌<◌, ℕ}
 use Rattle.stm_core.specs.CoreState.{Idle}
 use Rattle.stm_core.specs.Books.{Worlds, core_of}
-use Rattle.stm_core.specs.Whole.{Whole, SameShape}
+use Rattle.stm_core.specs.inner.Whole.{Whole, SameShape}
 use Rattle.stm_core.specs.Finishing.{idle_core}
 use Rattle.stm_core.proofs.transactions.Core.drop_all.Given as goal
 

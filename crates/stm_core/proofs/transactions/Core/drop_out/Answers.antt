@@ -1,5 +1,5 @@
 use Rattle.std.proofs.Common.{sym, subst, ap, ◌∙◌, ◌+◌}
-use Rattle.stm_core.specs.Whole.{Whole}
+use Rattle.stm_core.specs.inner.Whole.{Whole}
 use Rattle.stm_core.proofs.Wholes.{dropped}
 use Rattle.stm_core.proofs.transactions.Core.drop_out.Goals as goal
 

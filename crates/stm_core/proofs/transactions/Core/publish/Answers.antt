@@ -1,5 +1,5 @@
 use Rattle.std.proofs.Common.{sym, subst}
-use Rattle.stm_core.specs.Whole.{Whole}
+use Rattle.stm_core.specs.inner.Whole.{Whole}
 use Rattle.stm_core.proofs.Publishing.{published_whole}
 use Rattle.stm_core.proofs.transactions.Core.publish.Goals as goal
 

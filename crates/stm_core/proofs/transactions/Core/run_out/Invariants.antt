@@ -5,9 +5,9 @@ use Rattle.stm_core.specs.declared.books.Hand.TheVariants.{Idle}
 use Rattle.stm_core.specs.declared.steps.Pause.TheVariants.{Whole}
 use Rattle.stm_core.specs.Books.{Worlds, Fit}
 use Rattle.stm_core.specs.Devices.{device_state, Shown, CountsGrow, IsLeftAlone}
-use Rattle.stm_core.specs.Whole.{SameShape}
+use Rattle.stm_core.specs.inner.Whole.{SameShape}
 use Rattle.stm_core.specs.Advance.{SaneShown, core_with}
-use Rattle.stm_core.specs.Pausing.{Paused}
+use Rattle.stm_core.specs.inner.Pausing.{Paused}
 use Rattle.stm_core.proofs.transactions.Core.run_out.Given as goal
 
 abbrev pub invariant-turns : goal.invariant-turns

@@ -1,7 +1,7 @@
 use Rattle.std.proofs.Common.{sym, ap, subst, ◌∙◌, inl}
 use Rattle.stm_core.specs.Begun.{CountsSteps}
 use Rattle.stm_core.specs.Devices.{device_state}
-use Rattle.stm_core.specs.Pauses.{PauseCount}
+use Rattle.stm_core.specs.inner.Pauses.{PauseCount}
 use Rattle.stm_core.proofs.Endings.{ran_ends, waits_ends, ended_ends}
 use Rattle.stm_core.proofs.Calling.{blank}
 use Rattle.stm_core.proofs.transactions.Core.settle.Goals as goal

@@ -4,7 +4,7 @@ use Rattle.py_data.specs.declared.stop.Side.{Side}
 use Rattle.stm_core.specs.declared.segment.SegView.{SegView}
 use Rattle.stm_core.specs.Books.{Fit}
 use Rattle.stm_core.specs.Devices.{DeviceState, device_state}
-use Rattle.stm_core.specs.Hold.{Hold, holding}
+use Rattle.stm_core.specs.inner.Hold.{Hold, holding}
 use Rattle.stm_core.proofs.Keeping.{StepKept, step_keeps}
 use Rattle.stm_core.proofs.StepOut.{if_err_on, step_lives, step_done, step_cut, step_broke}
 use Rattle.stm_core.proofs.transactions.Core.step_out.Given as given

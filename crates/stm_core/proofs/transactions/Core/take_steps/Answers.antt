@@ -3,8 +3,8 @@ use Rattle.stm_core.specs.Books.{with_own}
 use Rattle.stm_core.specs.Begun.{CountsSteps}
 use Rattle.stm_core.specs.Devices.{device_state}
 use Rattle.stm_core.specs.Advance.{core_with}
-use Rattle.stm_core.specs.Pausing.{PauseWhy}
-use Rattle.stm_core.specs.Settled.{KeepsOrRose, Rises}
+use Rattle.stm_core.specs.inner.Pausing.{PauseWhy}
+use Rattle.stm_core.specs.inner.Settled.{KeepsOrRose, Rises}
 use Rattle.stm_core.proofs.TakenSteps.{sane_paused, thread_out, history_paused, cause_paused, settled_now}
 use Rattle.stm_core.proofs.transactions.Core.take_steps.Goals as goal
 

@@ -2,7 +2,7 @@ use Rattle.std.proofs.Common.{None, sym, ◌∙◌, ap, subst, ◌≤◌}
 use Rattle.py_data.specs.Made.{rec_of}
 use Rattle.seg_store.specs.Extents.{Wants}
 use Rattle.stm_core.specs.Devices.{device_state}
-use Rattle.stm_core.specs.Hold.{FaultWhy}
+use Rattle.stm_core.specs.inner.Hold.{FaultWhy}
 use Rattle.stm_core.proofs.Seeing.{make_done, make_refused}
 use Rattle.stm_core.proofs.view.SegViewView.make.Goals as goal
 

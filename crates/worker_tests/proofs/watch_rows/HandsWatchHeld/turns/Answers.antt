@@ -1,5 +1,5 @@
 use Rattle.std.proofs.Common.{◌∙◌}
-use Rattle.worker_tests.specs.TurnsLaws.{turns_told}
+use Rattle.worker_tests.proofs.TurnsLaws.{turns_told}
 use Rattle.worker_tests.proofs.watch_rows.HandsWatchHeld.turns.Goals as goal
 
 pub returns : goal.returns

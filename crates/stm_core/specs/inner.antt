@@ -1,0 +1,10 @@
+-- What code and proofs say to each other: nothing public rests on it.
+pub mod Hold
+pub mod Outer
+pub mod Pauses
+pub mod Pausing
+pub mod Readers
+pub mod SegLaws
+pub mod SegSense
+pub mod Settled
+pub mod Whole
