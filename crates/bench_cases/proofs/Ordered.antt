@@ -39,7 +39,12 @@ empty_order h e = record { each = λ a r f. let no : ◌≡◌ {A = Option Rec} 
 module _ {S X : Type 0} (u : Sense S X) (v : X) where
   -- an empty heap is in order
   pub ready_empty : u.partial ≡ false → IsLive u v → u.heap v ≡ (λ a. None) → Ready u v
-  ready_empty whole live e = record { whole = whole; live = live; order = empty_order (u.heap v) (λ a. ap (λ h. h a) e) }
+  ready_empty whole live e = record {
+    whole = whole;
+    live = live;
+    order =
+        empty_order (u.heap v) (λ a. ap (λ h. h a) e);
+  }
 
 -- the list of roots is made
 module _ {S X : Type 0} {u : Sense S X} {v : X} (ready : Ready u v) where
@@ -47,39 +52,66 @@ module _ {S X : Type 0} {u : Sense S X} {v : X} (ready : Ready u v) where
   AreRoots a h = IsRoots h a.0
 
   pub roots_safe : Safe u.partial (roots_row {S = S}) (u.heap v)
-  roots_safe = holds_safe free any_state last AreRoots u.partial roots_row (u.heap v) (u.heap v) (shown u.partial (u.heap v) ready.whole) ready.order (roots_hold free any_state (u.heap v) ready.order (λ a. tt))
+  roots_safe = holds_safe free any_state last AreRoots u.partial roots_row (u.heap v) (u.heap v)
+      (shown u.partial (u.heap v) ready.whole) ready.order (roots_hold free any_state (u.heap v) ready.order (λ a. tt))
 
   pub roots_done : (L : Lawful u) (w : X) (a : Addr) → Meets u roots_row v w (Ok a) → Good u a.0 [] w
   unfolding Meets
   roots_done L w a m =
-      let r = holds_run free any_state last u L AreRoots ready.whole roots_row v w a (roots_hold free any_state (u.heap v) ready.order (λ a. tt)) ready.order m in
-      record { whole = ready.whole; live = live-after u L roots_row v w a m ready.live; order = r.1; listed = r.0; items = tt }
+      let r = holds_run free any_state last u L AreRoots ready.whole roots_row v w a
+      (roots_hold free any_state (u.heap v) ready.order (λ a. tt)) ready.order m in
+      record {
+        whole = ready.whole;
+        live = live-after u L roots_row v w a m ready.live;
+        order = r.1;
+        listed = r.0;
+        items = tt;
+      }
 
 module _ {S X : Type 0} {u : Sense S X} {roots : ℕ} {stack : List Value} {v : X} where
   -- a value of the stack stands in the heap
-  pub good_item : (i : ℕ) (x : Value) → i < length stack → ((d : Value) → x ≡ slice_index_or stack i d) → Good u roots stack v → IsItem (u.heap v) x
+  pub good_item : (i : ℕ) (x : Value) → i < length stack → ((d : Value) → x ≡ slice_index_or stack i d) →
+      Good u roots stack v → IsItem (u.heap v) x
   good_item i x less e g = subst (IsItem (u.heap v)) (sym (e Unset)) (item_at (u.heap v) stack i less g.items)
 
-  module _ {A : Type 0} (p : A → Heap → Type 0) (row : Row S A) (good : Good u roots stack v) (holds : Holds free any_state p row (u.heap v)) where
+  module _ {A : Type 0} (p : A → Heap → Type 0) (row : Row S A) (good : Good u roots stack v)
+      (holds : Holds free any_state p row (u.heap v)) where
     pub good_safe : Safe u.partial row (u.heap v)
-    good_safe = holds_safe free any_state last p u.partial row (u.heap v) (u.heap v) (shown u.partial (u.heap v) good.whole) good.order holds
+    good_safe = holds_safe free any_state last p u.partial row (u.heap v) (u.heap v)
+        (shown u.partial (u.heap v) good.whole) good.order holds
 
     pub good_done : (L : Lawful u) (w : X) (y : A) → Meets u row v w (Ok y) → GoodWith u roots p stack y w
     unfolding Meets
     good_done L w y m =
         let r = holds_run free any_state last u L p good.whole row v w y holds good.order m in
         record {
-          good = record { whole = good.whole; live = live-after u L row v w y m good.live; order = r.1; listed = roots_stay (u.heap v) (u.heap w) roots r.2 good.listed; items = items_stay (u.heap v) (u.heap w) r.2 stack good.items };
+          good = record {
+            whole = good.whole;
+            live = live-after u L row v w y m good.live;
+            order = r.1;
+            listed =
+                roots_stay (u.heap v) (u.heap w) roots r.2 good.listed;
+            items =
+                items_stay (u.heap v) (u.heap w) r.2 stack good.items;
+          };
           answer = r.0;
         }
 
   -- a row that only looks
-  pub look_safe : {A : Type 0} (p : A → Type 0) (row : Row S A) → Good u roots stack v → Looks p row (u.heap v) → Safe u.partial row (u.heap v)
-  look_safe p row good looks = good_safe (λ a h1. (h1 ≡ u.heap v) × p a) row good (looks_held free any_state p (u.heap v) row looks)
+  pub look_safe : {A : Type 0} (p : A → Type 0) (row : Row S A) → Good u roots stack v → Looks p row (u.heap v) →
+      Safe u.partial row (u.heap v)
+  look_safe p row good looks = good_safe (λ a h1. (h1 ≡ u.heap v) × p a) row good
+      (looks_held free any_state p (u.heap v) row looks)
 
   -- a further value
   pub good_push : (x : Value) → GoodWith u roots (λ x h. IsItem h x) stack x v → Good u roots (stack ++ x ∷ []) v
-  good_push x g = record { whole = g.good.whole; live = g.good.live; order = g.good.order; listed = g.good.listed; items = every_and (IsItem (u.heap v)) stack (x ∷ []) g.good.items (g.answer, tt) }
+  good_push x g = record {
+    whole = g.good.whole;
+    live = g.good.live;
+    order = g.good.order;
+    listed = g.good.listed;
+    items = every_and (IsItem (u.heap v)) stack (x ∷ []) g.good.items (g.answer, tt);
+  }
 
 every_drop : {A : Type 0} (P : A → Type 0) (n : ℕ) (xs : List A) → Every P xs → Every P (drop n xs)
 every_drop P zero xs e = e
@@ -87,36 +119,55 @@ every_drop P (suc n) [] e = tt
 every_drop P (suc n) (x ∷ xs) e = every_drop P n xs e.1
 
 -- the values behind the first ones
-pub good_rest : {S X : Type 0} {u : Sense S X} {roots : ℕ} {stack vs : List Value} {v : X} → Good u roots stack v → (n : ℕ) → vs ≡ drop n stack → Every (IsItem (u.heap v)) vs
-good_rest {u = u} {stack = stack} {v = v} g n e = subst (Every (IsItem (u.heap v))) (sym e) (every_drop (IsItem (u.heap v)) n stack g.items)
+pub good_rest : {S X : Type 0} {u : Sense S X} {roots : ℕ} {stack vs : List Value} {v : X} → Good u roots stack v →
+    (n : ℕ) → vs ≡ drop n stack → Every (IsItem (u.heap v)) vs
+good_rest {u = u} {stack = stack} {v = v} g n e =
+    subst (Every (IsItem (u.heap v))) (sym e) (every_drop (IsItem (u.heap v)) n stack g.items)
 
-module _ {S X : Type 0} {u : Sense S X} {roots : ℕ} {stack : List Value} {v : X} (good : Good u roots stack v) (a : ℕ) where
-  -- a record that is there may be looked at
-  pub good_asks : IsItem (u.heap v) (Ref (record { 0 = a })) → Asks {S = S} u.partial (Read a) (u.heap v)
-  good_asks i = subst (λ p. Asks {S = S} p (Read a) (u.heap v)) (sym good.whole) (look_asks S (u.heap v) a i.0)
+module _ {S X : Type 0} {u : Sense S X} {roots : ℕ} {stack : List Value} {v : X} (good : Good u roots stack v) (a : ℕ)
+  where
+    -- a record that is there may be looked at
+    pub good_asks : IsItem (u.heap v) (Ref (record { 0 = a })) → Asks {S = S} u.partial (Read a) (u.heap v)
+    good_asks i = subst (λ p. Asks {S = S} p (Read a) (u.heap v)) (sym good.whole) (look_asks S (u.heap v) a i.0)
 
-  -- a look leaves all as it is
-  pub good_looked : (L : Lawful u) (w : X) (r : Rec) → u.does (Read a) v r w → Good u roots stack w
-  good_looked L w r d =
-      let e = (L.effect (Read a) v r w d).1 in
-      record { whole = good.whole; live = L.live (Read a) v r w d; order = subst (IsOrdered free) (sym e) good.order; listed = subst (λ h. IsRoots h roots) (sym e) good.listed; items = subst (λ h. Every (IsItem h) stack) (sym e) good.items }
+    -- a look leaves all as it is
+    pub good_looked : (L : Lawful u) (w : X) (r : Rec) → u.does (Read a) v r w → Good u roots stack w
+    good_looked L w r d =
+        let e = (L.effect (Read a) v r w d).1 in
+        record {
+          whole = good.whole;
+          live = L.live (Read a) v r w d;
+          order = subst (IsOrdered free) (sym e) good.order;
+          listed = subst (λ h. IsRoots h roots) (sym e) good.listed;
+          items =
+              subst (λ h. Every (IsItem h) stack) (sym e) good.items;
+        }
 
-  pub looked_item : (L : Lawful u) (w : X) (r : Rec) → u.does (Read a) v r w → {x : Value} → IsItem (u.heap v) x → IsItem (u.heap w) x
-  looked_item L w r d {x = x} i = subst (λ h. IsItem h x) (sym (L.effect (Read a) v r w d).1) i
+    pub looked_item : (L : Lawful u) (w : X) (r : Rec) → u.does (Read a) v r w → {x : Value} → IsItem (u.heap v) x →
+        IsItem (u.heap w) x
+    looked_item L w r d {x = x} i = subst (λ h. IsItem h x) (sym (L.effect (Read a) v r w d).1) i
 
-  pub kind_seen : (L : Lawful u) (w : X) (k : Kind) → u.does (Read a) v (at (u.heap v) a) w → k ≡ (at (u.heap v) a).kind → KindIn (u.heap w a) (λ q. q ≡ k)
-  kind_seen L w k d e =
-      let f = L.effect (Read a) v (at (u.heap v) a) w d in
-      subst (λ o. KindIn o (λ q. q ≡ k)) (sym (ap (λ h. h a) f.1 ∙ f.0)) (sym e)
+    pub kind_seen : (L : Lawful u) (w : X) (k : Kind) → u.does (Read a) v (at (u.heap v) a) w →
+        k ≡ (at (u.heap v) a).kind → KindIn (u.heap w a) (λ q. q ≡ k)
+    kind_seen L w k d e =
+        let f = L.effect (Read a) v (at (u.heap v) a) w d in
+        subst (λ o. KindIn o (λ q. q ≡ k)) (sym (ap (λ h. h a) f.1 ∙ f.0)) (sym e)
 
 -- ---- records that are made
-module _ {S X : Type 0} {u : Sense S X} {roots : ℕ} {stack : List Value} {v : X} (good : Good u roots stack v) (r : Rec) (fits : (a : ℕ) → FitsAt free (u.heap v) a r) where
+module _ {S X : Type 0} {u : Sense S X} {roots : ℕ} {stack : List Value} {v : X} (good : Good u roots stack v)
+    (r : Rec) (fits : (a : ℕ) → FitsAt free (u.heap v) a r) where
   pub good_makes : Asks {S = S} u.partial (Make r) (u.heap v)
   unfolding Asks
-  good_makes = let one = fits 0 in subst (λ p. Asks {S = S} p (Make r) (u.heap v)) (sym good.whole) (one.closed.shaped, one.short.0, one.short.1)
+  good_makes = let one = fits 0 in subst (λ p. Asks {S = S} p (Make r) (u.heap v)) (sym good.whole)
+      (one.closed.shaped, one.short.0, one.short.1)
 
-  pub good_made : (L : Lawful u) (w : X) (a : ℕ) → u.does (Make r) v a w → GoodWith u roots (λ x h. IsItem h x) stack (Ref (record { 0 = a })) w
+  pub good_made : (L : Lawful u) (w : X) (a : ℕ) → u.does (Make r) v a w →
+      GoodWith u roots (λ x h. IsItem h x) stack (Ref (record { 0 = a })) w
   good_made L w a d =
       let row : Row S Value = Do (Make r) (λ a. Ret (Ref (record { 0 = a }))) in
-      good_done (λ x h. IsItem h x) row good (holds_make free any_state (λ x h. IsItem h x) r (λ a. Ret (Ref (record { 0 = a }))) (u.heap v) fits (λ a h1 order x e i. holds_ret free any_state (λ x h. IsItem h x) (Ref (record { 0 = a })) h1 i)) L w (Ref (record { 0 = a }))
-      (meets-do u (Make r) (λ a. Ret (Ref (record { 0 = a }))) v w w a (Ok (Ref (record { 0 = a }))) d (meets-ret u (Ref (record { 0 = a })) w))
+      good_done (λ x h. IsItem h x) row good
+      (holds_make free any_state (λ x h. IsItem h x) r (λ a. Ret (Ref (record { 0 = a }))) (u.heap v) fits
+      (λ a h1 order x e i. holds_ret free any_state (λ x h. IsItem h x) (Ref (record { 0 = a })) h1 i)) L w
+      (Ref (record { 0 = a }))
+      (meets-do u (Make r) (λ a. Ret (Ref (record { 0 = a }))) v w w a (Ok (Ref (record { 0 = a }))) d
+      (meets-ret u (Ref (record { 0 = a })) w))

@@ -15,7 +15,9 @@ use Rattle.bench_cases.specs.Holds.{pairs_from}
 
 pairs_more : (i n : ℕ) → pairs_from i (suc n) ≡ pairs_from i n ++ Int (pos (i + n)) ∷ Int (pos 0) ∷ []
 pairs_more i zero = ap (λ j. Int (pos j) ∷ Int (pos 0) ∷ []) (omega arith)
-pairs_more i (suc n) = let e : suc i + n ≡ i + suc n = omega arith in ap (λ vs. Int (pos i) ∷ Int (pos 0) ∷ vs) (pairs_more (suc i) n ∙ ap (λ j. pairs_from (suc i) n ++ Int (pos j) ∷ Int (pos 0) ∷ []) e)
+pairs_more i (suc n) = let e : suc i + n ≡ i + suc n = omega arith in
+    ap (λ vs. Int (pos i) ∷ Int (pos 0) ∷ vs)
+    (pairs_more (suc i) n ∙ ap (λ j. pairs_from (suc i) n ++ Int (pos j) ∷ Int (pos 0) ∷ []) e)
 
 -- a number as code has it
 as_number : (n : ℕ) (i : ℤ) → n < 4_294_967_296 → i ≡ pos n → to_z w64 (of_z w64 i) ≡ pos n
@@ -24,13 +26,16 @@ as_number n i l e =
     ap (λ z. to_z w64 (of_z w64 z)) e ∙ to_z-of_z w64 (pos n) (fits_signed_from_abs w64 (pos n) less)
 
 -- one pair more
-pub pairs_step : (n : ℕ) (i : ℤ) (vs ws xs : List Value) → n < 4_294_967_296 → i ≡ pos n → vs ≡ pairs_from 0 n → ws ≡ vs ++ Int (to_z w64 (of_z w64 i)) ∷ [] → xs ≡ ws ++ Int (pos 0) ∷ [] → xs ≡ pairs_from 0 (n + 1)
+pub pairs_step : (n : ℕ) (i : ℤ) (vs ws xs : List Value) → n < 4_294_967_296 → i ≡ pos n → vs ≡ pairs_from 0 n →
+    ws ≡ vs ++ Int (to_z w64 (of_z w64 i)) ∷ [] → xs ≡ ws ++ Int (pos 0) ∷ [] → xs ≡ pairs_from 0 (n + 1)
 pairs_step n i vs ws xs l same e f g =
     let none : 0 + n ≡ n = omega arith in
     let next : suc n ≡ n + 1 = omega arith in
     let ends = Int (pos n) ∷ Int (pos 0) ∷ [] in
     let first : ws ≡ vs ++ Int (pos n) ∷ [] = f ∙ ap (λ z. vs ++ Int z ∷ []) (as_number n i l same) in
-    g ∙ ap (λ zs. zs ++ Int (pos 0) ∷ []) first ∙ append_assoc vs (Int (pos n) ∷ []) (Int (pos 0) ∷ []) ∙ ap (λ zs. zs ++ ends) e ∙ sym (pairs_more 0 n ∙ ap (λ m. pairs_from 0 n ++ Int (pos m) ∷ Int (pos 0) ∷ []) none) ∙ ap (pairs_from 0) next
+    g ∙ ap (λ zs. zs ++ Int (pos 0) ∷ []) first ∙ append_assoc vs (Int (pos n) ∷ []) (Int (pos 0) ∷ []) ∙
+    ap (λ zs. zs ++ ends) e ∙ sym (pairs_more 0 n ∙ ap (λ m. pairs_from 0 n ++ Int (pos m) ∷ Int (pos 0) ∷ [])
+    none) ∙ ap (pairs_from 0) next
 
 pub pairs_length : (i n : ℕ) → length (pairs_from i n) ≡ 2 * n
 pairs_length i zero = refl
@@ -51,24 +56,32 @@ skip false n x o = refl
 find_less : (h : Heap) (m i j n : ℕ) → j < i → find_from h m (pairs_from i n) (Int (pos j)) ≡ None
 find_less h m i j zero l = refl
 find_less h m i j (suc n) l =
-    let differ : int_eq (pos i) (pos j) ≡ true → ⊥ = λ e. let f = (Decides-int_eq (pos i) (pos j)).0 e in let g : i ≡ j = cc in omega (arith, g, l) in
-    skip (int_eq (pos i) (pos j)) differ (Some m) (find_from h (m + 1) (pairs_from (suc i) n) (Int (pos j))) ∙ find_less h (m + 1) (suc i) j n (omega (arith, l))
+    let differ : int_eq (pos i) (pos j) ≡ true → ⊥ = λ e. let f = (Decides-int_eq (pos i) (pos j)).0 e in
+    let g : i ≡ j = cc in omega (arith, g, l) in
+    skip (int_eq (pos i) (pos j)) differ (Some m) (find_from h (m + 1) (pairs_from (suc i) n) (Int (pos j))) ∙
+    find_less h (m + 1) (suc i) j n (omega (arith, l))
 
 pairs_differ : (h : Heap) (i n : ℕ) → KeysDiffer h (pairs_from i n)
 pairs_differ h i zero = tt
 pairs_differ h i (suc n) = (find_less h 0 (suc i) i n (omega arith), pairs_differ h (suc i) n)
 
 -- a dictionary of these pairs may be made over each view
-pub dict_asks : (S : Type 0) (p : Bool) (h : Heap) (n : ℕ) (vs : List Value) → vs ≡ pairs_from 0 n → 2 * n ≤ 1_048_576 → Asks {S = S} p (Make (new_rec Dict vs [])) h
+pub dict_asks : (S : Type 0) (p : Bool) (h : Heap) (n : ℕ) (vs : List Value) → vs ≡ pairs_from 0 n → 2 * n ≤ 1_048_576
+    → Asks {S = S} p (Make (new_rec Dict vs [])) h
 unfolding Asks
 dict_asks S p h n vs e l = subst (λ vs. Asks {S = S} p (Make (new_rec Dict vs [])) h) (sym e) (by p)
   where
     by : (p : Bool) → Asks {S = S} p (Make (new_rec Dict (pairs_from 0 n) [])) h
     by true = (omega (arith, pairs_length 0 n, l), omega arith)
-    by false = (((pairs_keys h 0 n, pairs_differ h 0 n), refl, pairs_held 0 n), omega (arith, pairs_length 0 n, l), omega arith)
+    by false = (
+      ((pairs_keys h 0 n, pairs_differ h 0 n), refl, pairs_held 0 n),
+      omega (arith, pairs_length 0 n, l),
+      omega arith,
+    )
 
 -- and so may an empty list
-pub list_asks : (S : Type 0) (p : Bool) (h : Heap) (vs : List Value) → vs ≡ [] → Asks {S = S} p (Make (new_rec ListKind vs [])) h
+pub list_asks : (S : Type 0) (p : Bool) (h : Heap) (vs : List Value) → vs ≡ [] →
+    Asks {S = S} p (Make (new_rec ListKind vs [])) h
 unfolding Asks
 list_asks S p h vs e = subst (λ vs. Asks {S = S} p (Make (new_rec ListKind vs [])) h) (sym e) (by p)
   where

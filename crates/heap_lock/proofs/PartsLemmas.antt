@@ -13,30 +13,40 @@ use Rattle.heap_lock.specs.Parts.{all_parts, HasAllParts, times, IsDescending, h
 times-cons : (part x : ℕ) (xs : List ℕ) → times part (x ∷ xs) ≡ (if x == part then 1 else 0) + times part xs
 times-cons part x xs = sum_by-cons (λ other. if other == part then 1 else 0) x xs
 
-pub times_split : (part : ℕ) (parts : List ℕ) → times part (lower_parts parts) + times part (highest_part parts) ≡ times part parts
+pub times_split : (part : ℕ) (parts : List ℕ) → times part (lower_parts parts) + times part (highest_part parts) ≡
+    times part parts
 times_split part [] = refl
 times_split part (x ∷ xs) = omega (arith, times-cons part x xs, times-cons part x [])
 
-times-with_part : (part x : ℕ) (ys : List ℕ) → times part (with_part x ys) ≡ (if x == part then 1 else 0) + times part ys
+times-with_part : (part x : ℕ) (ys : List ℕ) → times part (with_part x ys) ≡ (if x == part then 1 else 0) + times part
+    ys
 times-with_part part x [] = times-cons part x []
 times-with_part part x (y ∷ ys) =
-    elim (nat_le y x) as (λ b. times part (if b then x ∷ y ∷ ys else y ∷ with_part x ys) ≡ (if x == part then 1 else 0) + times part (y ∷ ys)) [
+    elim (nat_le y x) as (λ b. times part (if b then x ∷ y ∷ ys else y ∷ with_part x ys) ≡ (if x == part then 1 else 0)
+    + times part (y ∷ ys)) [
       | true ↦ times-cons part x (y ∷ ys)
       | false ↦ omega (arith, times-cons part y (with_part x ys), times-cons part y ys, times-with_part part x ys)
     ]
 
 pub times-merged : (part : ℕ) (xs ys : List ℕ) → times part (merged xs ys) ≡ times part xs + times part ys
 times-merged part [] ys = omega arith
-times-merged part (x ∷ xs) ys = omega (arith, times-with_part part x (merged xs ys), times-merged part xs ys, times-cons part x xs)
+times-merged part (x ∷ xs) ys = omega (
+  arith,
+  times-with_part part x (merged xs ys),
+  times-merged part xs ys,
+  times-cons part x xs,
+)
 
 -- each part below n stands once among all parts, and no other number does
 pub times-all_parts : (part n : ℕ) → times part (all_parts n) ≡ (if nat_lt part n then 1 else 0)
 times-all_parts part zero = grind (arith, nat_tests)
-times-all_parts part (suc n) = let here = times-cons part n (all_parts n) in let later = times-all_parts part n in grind (arith, nat_tests)
+times-all_parts part (suc n) = let here = times-cons part n (all_parts n) in let later = times-all_parts part n in
+    grind (arith, nat_tests)
 
 times_at : (part : ℕ) (xs : List ℕ) (k : ℕ) → k < length xs → HoldsAt (λ other. other ≡ part) xs k → 1 ≤ times part xs
 times_at part [] k within is = absurd (omega arith)
-times_at part (x ∷ xs) zero within is = let here = times-cons part x xs in let same : x ≡ part = is 0 in grind (arith, nat_tests)
+times_at part (x ∷ xs) zero within is = let here = times-cons part x xs in let same : x ≡ part = is 0 in
+    grind (arith, nat_tests)
 times_at part (x ∷ xs) (suc k) within is = omega (arith, times-cons part x xs, times_at part xs k (omega arith) is)
 
 pub times-Contains : (part : ℕ) (xs : List ℕ) → Contains xs part → 1 ≤ times part xs
@@ -68,7 +78,8 @@ has_all_parts n = record { each = contains-all_parts n }
 
 at_most-all_parts : (n : ℕ) (most : ℕ) → n ≤ most + 1 → All (λ other. other ≤ most) (all_parts n)
 at_most-all_parts zero most within = All-nil (λ other. other ≤ most)
-at_most-all_parts (suc n) most within = All-cons (λ other. other ≤ most) n (all_parts n) (omega arith) (at_most-all_parts n most (omega arith))
+at_most-all_parts (suc n) most within = All-cons (λ other. other ≤ most) n (all_parts n) (omega arith)
+    (at_most-all_parts n most (omega arith))
 
 pub descending-all_parts : (n : ℕ) → IsDescending (all_parts n)
 descending-all_parts zero = tt
@@ -77,13 +88,15 @@ descending-all_parts (suc n) = (at_most-all_parts n n (omega arith), descending-
 length-with_part : (x : ℕ) (ys : List ℕ) → length (with_part x ys) ≡ length ys + 1
 length-with_part x [] = refl
 length-with_part x (y ∷ ys) =
-    elim (nat_le y x) as (λ b. length (if b then x ∷ y ∷ ys else y ∷ with_part x ys) ≡ length (y ∷ ys) + 1) [ true ↦ omega arith | false ↦ omega (arith, length-with_part x ys) ]
+    elim (nat_le y x) as (λ b. length (if b then x ∷ y ∷ ys else y ∷ with_part x ys) ≡ length (y ∷ ys) + 1)
+    [ true ↦ omega arith | false ↦ omega (arith, length-with_part x ys) ]
 
 pub length-merged : (xs ys : List ℕ) → length (merged xs ys) ≡ length xs + length ys
 length-merged [] ys = omega arith
 length-merged (x ∷ xs) ys = omega (arith, length-with_part x (merged xs ys), length-merged xs ys)
 
-at_most-with_part : (most x : ℕ) (ys : List ℕ) → x ≤ most → All (λ other. other ≤ most) ys → All (λ other. other ≤ most) (with_part x ys)
+at_most-with_part : (most x : ℕ) (ys : List ℕ) → x ≤ most → All (λ other. other ≤ most) ys →
+    All (λ other. other ≤ most) (with_part x ys)
 at_most-with_part most x [] here all = All-cons (λ other. other ≤ most) x [] here all
 at_most-with_part most x (y ∷ ys) here all =
     let first : y ≤ most = all 0 0 (omega arith) in
@@ -94,7 +107,8 @@ at_most-with_part most x (y ∷ ys) here all =
     ]
 
 -- whichever way the test goes by which a part finds its place
-descending_by_test : (x y : ℕ) (ys : List ℕ) → IsDescending (y ∷ ys) → IsDescending (with_part x ys) → (b : Bool) → nat_le y x ≡ b
+descending_by_test : (x y : ℕ) (ys : List ℕ) → IsDescending (y ∷ ys) → IsDescending (with_part x ys) → (b : Bool) →
+    nat_le y x ≡ b
     → IsDescending (if b then x ∷ y ∷ ys else y ∷ with_part x ys)
 descending_by_test x y ys order behind true test =
     let first : y ≤ x = grind (arith, nat_tests) in
@@ -105,7 +119,8 @@ descending_by_test x y ys order behind false test =
 
 descending-with_part : (x : ℕ) (ys : List ℕ) → IsDescending ys → IsDescending (with_part x ys)
 descending-with_part x [] order = (All-nil (λ other. other ≤ x), tt)
-descending-with_part x (y ∷ ys) order = descending_by_test x y ys order (descending-with_part x ys order.1) (nat_le y x) refl
+descending-with_part x (y ∷ ys) order = descending_by_test x y ys order (descending-with_part x ys order.1)
+    (nat_le y x) refl
 
 pub descending-merged : (xs ys : List ℕ) → IsDescending ys → IsDescending (merged xs ys)
 descending-merged [] ys order = order
@@ -125,4 +140,5 @@ some_from_length [] some = absurd (omega arith)
 some_from_length (x ∷ xs) some = cons_some x xs
 
 pub merged_some : (xs ys : List ℕ) → ys ≢ [] → merged xs ys ≢ []
-merged_some xs ys some = some_from_length (merged xs ys) (let sum = length-merged xs ys in let least = length_from_some ys some in omega arith)
+merged_some xs ys some = some_from_length (merged xs ys) (let sum = length-merged xs ys in let least =
+    length_from_some ys some in omega arith)

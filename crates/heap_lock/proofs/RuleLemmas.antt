@@ -77,7 +77,12 @@ module _ {T J : Type 0} (job : T → J) (good : T → Type 0) (grows : T → T �
   makes_lock x y e fine is =
       let first : View T J = first_view n j y in
       let alone : AllFit (first ∷ []) = fits_alone first ((λ _. refl), λ _. refl) in
-      let sees : AllSee x (first ∷ []) = sees_alone x first (seen_alone x y (subst (λ z. grows z x) (sym e) (same x)), λ no. absurd (true≢false (sym no))) in record {
+      let sees : AllSee x (first ∷ []) =
+      sees_alone x first (
+        seen_alone x y (subst (λ z. grows z x) (sym e) (same x)),
+        λ no.
+            absurd (true≢false (sym no)),
+      ) in record {
         one_word = refl;
         free_or_held = omega arith;
         parts_once = λ part. omega (arith, times-all_parts part n);
@@ -93,7 +98,8 @@ module _ {T J : Type 0} (job : T → J) (good : T → Type 0) (grows : T → T �
       }
 
   -- A step of one seat on the word, which becomes m, while its view becomes w and keeps its parts
-  changes : (s : State (Option T) (View T J)) → Kept s → (id : ℕ) (v w : View T J) → get_elem? s.views id ≡ some v → (m : ℕ) (homes : List (maybe.Option (Option T)))
+  changes : (s : State (Option T) (View T J)) → Kept s → (id : ℕ) (v w : View T J) → get_elem? s.views id ≡ some v →
+      (m : ℕ) (homes : List (maybe.Option (Option T)))
       → m ≤ 1 → w.parts ≡ v.parts → FitsJob w → get_or s.words 0 0 + count w ≡ m + count v
       → (x : T) → good x → job x ≡ j → (m ≡ 0 → HasValue x homes) → AllSee x (set s.views id w)
       → Kept record { words = set s.words 0 m; homes = homes; views = set s.views id w }
@@ -123,21 +129,29 @@ module _ {T J : Type 0} (job : T → J) (good : T → Type 0) (grows : T → T �
       → Allows Kept 1 id (v, []) 0 (λ m. either (eqb m 0) 1 m) (Takes job good grows (v, []))
   takes_lock id v some_part free s k wide at lim =
       let found : ℕ = get_or s.words 0 0 in
-      let After : ℕ → Type 0 = λ m. (w : View T J) × (a : Act (Option T)) × Valid s.homes [] a × Kept (stepped s 0 m id [] w a) × Takes job good grows (v, []) found (w, carried_after [] a) in
+      let After : ℕ → Type 0 = λ m. (w : View T J) × (a : Act (Option T)) × Valid s.homes [] a × Kept
+      (stepped s 0 m id [] w a) × Takes job good grows (v, []) found (w, carried_after [] a) in
       let is : v.job ≡ Some j = k.one_job id v at some_part in
       let none_of_v = count_free v free in
       exchanged found 0 1 After
       (λ e. let x = k.value in
       let w : View T J = record v { holds = true; taken = Some x } in
-      let sees : AllSee x (set s.views id w) = see_after x s.views id w (λ i u _ q. all_see s k i u q) (k.value_is_later id v at, λ _. refl) in (
+      let sees : AllSee x (set s.views id w) = see_after x s.views id w (λ i u _ q. all_see s k i u q)
+      (k.value_is_later id v at, λ _. refl) in (
         w,
         takes 0 (Some x),
         k.free_has_value e,
-        changes s k id v w at 1 (set s.homes 0 none) (omega arith) refl ((λ no. absurd (some_part no)), λ _. is) (omega (arith, e))
+        changes s k id v w at 1 (set s.homes 0 none) (omega arith) refl ((λ no. absurd (some_part no)), λ _. is)
+            (omega (arith, e))
             x k.value_is_good k.value_for_job (λ z. absurd (omega arith)) sees,
-        ((λ _. (x, refl, k.value_is_good, is ∙ ap Some (sym k.value_for_job), k.value_is_later id v at)), λ ne. absurd (ne e)),
+        (
+          (λ _. (x, refl, k.value_is_good, is ∙ ap Some (sym k.value_for_job), k.value_is_later id v at)),
+          λ ne.
+              absurd (ne e),
+        ),
       ))
-      (λ ne. let sees : AllSee k.value (set s.views id v) = see_after k.value s.views id v (λ i u _ q. all_see s k i u q) (all_see s k id v at) in (
+      (λ ne. let sees : AllSee k.value (set s.views id v) =
+      see_after k.value s.views id v (λ i u _ q. all_see s k i u q) (all_see s k id v at) in (
         v,
         keeps,
         tt,
@@ -158,7 +172,8 @@ module _ {T J : Type 0} (job : T → J) (good : T → Type 0) (grows : T → T �
       absurd (omega arith)
 
   -- and so what was put in has grown from all that any seat has seen
-  gives_lock : (id : ℕ) (v : View T J) (x : T) → v.holds ≡ true → good x → v.job ≡ Some (job x) → ((y : T) → v.taken ≡ Some y → grows y x)
+  gives_lock : (id : ℕ) (v : View T J) (x : T) → v.holds ≡ true → good x → v.job ≡ Some (job x) →
+      ((y : T) → v.taken ≡ Some y → grows y x)
       → Allows Kept 1 id (v, (0, Some x) ∷ []) 0 (λ _. 0) (λ _. Gives (v, (0, Some x) ∷ []))
   gives_lock id v x holds fine fits grown s k wide at lim =
       let some_part : v.parts ≢ [] = λ no. true≢false (sym holds ∙ k.only_live_hold id v at no) in
@@ -184,17 +199,23 @@ module _ {T J : Type 0} (job : T → J) (good : T → Type 0) (grows : T → T �
       )
 
   -- split
-  pub splits_lock : (id : ℕ) (v : View T J) → v.holds ≡ false → 2 ≤ length v.parts → Splits Kept id v (split_left v) (split_right v)
+  pub splits_lock : (id : ℕ) (v : View T J) → v.holds ≡ false → 2 ≤ length v.parts →
+      Splits Kept id v (split_left v) (split_right v)
   splits_lock id v free two s k at =
       let left : View T J = split_left v in
       let right : View T J = split_right v in
       let is : v.job ≡ Some j = k.one_job id v at (some_from_length v.parts (omega arith)) in
       let vs : List (View T J) = set s.views id left in
       let fits : AllFit vs = fits_after s.views id left (all_fit s k) ((λ _. free), λ _. is) in
-      let after : AllFit (vs ++ right ∷ []) = λ i u e. ⊎_elim (fits i u) (λ (equal : right ≡ u). subst FitsJob equal ((λ _. refl), λ _. is)) (at_snoc vs right u i e) in
-      let sees : AllSee k.value vs = see_after k.value s.views id left (λ i u _ q. all_see s k i u q) (all_see s k id v at) in
+      let after : AllFit (vs ++ right ∷ []) = λ i u e.
+      ⊎_elim (fits i u) (λ (equal : right ≡ u). subst FitsJob equal ((λ _. refl), λ _. is))
+      (at_snoc vs right u i e) in
+      let sees : AllSee k.value vs = see_after k.value s.views id left (λ i u _ q. all_see s k i u q)
+      (all_see s k id v at) in
       let right_sees : Sees k.value right = (k.value_is_later id v at, λ no. absurd (true≢false (sym no))) in
-      let all_after : AllSee k.value (vs ++ right ∷ []) = λ i u e. ⊎_elim (sees i u) (λ (equal : right ≡ u). subst (Sees k.value) equal right_sees) (at_snoc vs right u i e) in record {
+      let all_after : AllSee k.value (vs ++ right ∷ []) = λ i u e.
+      ⊎_elim (sees i u) (λ (equal : right ≡ u). subst (Sees k.value) equal right_sees) (at_snoc vs right u i e) in
+      record {
         one_word = k.one_word;
         free_or_held = k.free_or_held;
         parts_once = λ part.
@@ -206,7 +227,8 @@ module _ {T J : Type 0} (job : T → J) (good : T → Type 0) (grows : T → T �
             omega arith;
         one_job = λ i u e. (after i u e).1;
         only_live_hold = λ i u e. (after i u e).0;
-        holders = let a = sum_by-change count s.views id v left at in let b = sum_by_push count vs right in let c = k.holders in omega arith;
+        holders = let a = sum_by-change count s.views id v left at in let b = sum_by_push count vs right in let c =
+            k.holders in omega arith;
         value = k.value;
         value_is_good = k.value_is_good;
         value_for_job = k.value_for_job;
@@ -216,16 +238,20 @@ module _ {T J : Type 0} (job : T → J) (good : T → Type 0) (grows : T → T �
       }
 
   -- join
-  pub joins_lock : (id : ℕ) (v : View T J) (other : ℕ) (w : View T J) → v.parts ≢ [] → v.holds ≡ false → w.holds ≡ false → Joins Kept id v other w (joined v w) spent
+  pub joins_lock : (id : ℕ) (v : View T J) (other : ℕ) (w : View T J) → v.parts ≢ [] → v.holds ≡ false →
+      w.holds ≡ false → Joins Kept id v other w (joined v w) spent
   joins_lock id v other w some_part free free' s k at apart at' =
       let both : View T J = joined v w in
       let is : v.job ≡ Some j = k.one_job id v at some_part in
       let vs : List (View T J) = set s.views id both in
       let fits : AllFit vs = fits_after s.views id both (all_fit s k) ((λ _. free), λ _. is) in
       let after : AllFit (set vs other spent) = fits_after vs other spent fits ((λ _. refl), λ no. absurd (no refl)) in
-      let w_at : get_elem? s.views other ≡ some w = ⊎_elim (λ t. absurd (apart t.0)) (λ t. t.1) (at_set s.views id other both w at') in
-      let seen = All-append (λ y. grows y k.value) v.seen w.seen (k.value_is_later id v at) (k.value_is_later other w w_at) in
-      let sees : AllSee k.value vs = see_after k.value s.views id both (λ i u _ q. all_see s k i u q) (seen, λ h. absurd (true≢false (sym h ∙ free))) in
+      let w_at : get_elem? s.views other ≡ some w =
+      ⊎_elim (λ t. absurd (apart t.0)) (λ t. t.1) (at_set s.views id other both w at') in
+      let seen = All-append (λ y. grows y k.value) v.seen w.seen (k.value_is_later id v at)
+      (k.value_is_later other w w_at) in
+      let sees : AllSee k.value vs = see_after k.value s.views id both (λ i u _ q. all_see s k i u q)
+      (seen, λ h. absurd (true≢false (sym h ∙ free))) in
       let all_after : AllSee k.value (set vs other spent) = see_after k.value vs other spent (λ i u _ q. sees i u q)
       (All-nil (λ y. grows y k.value), λ no. absurd (true≢false (sym no))) in record {
         one_word = k.one_word;
@@ -239,7 +265,8 @@ module _ {T J : Type 0} (job : T → J) (good : T → Type 0) (grows : T → T �
             omega arith;
         one_job = λ i u e. (after i u e).1;
         only_live_hold = λ i u e. (after i u e).0;
-        holders = let a = sum_by-change count s.views id v both at in let b = sum_by-change count vs other w spent at' in let c = k.holders in let d = count_free w free' in omega arith;
+        holders = let a = sum_by-change count s.views id v both at in let b =
+            sum_by-change count vs other w spent at' in let c = k.holders in let d = count_free w free' in omega arith;
         value = k.value;
         value_is_good = k.value_is_good;
         value_for_job = k.value_for_job;
@@ -256,13 +283,16 @@ module _ {T J : Type 0} (job : T → J) (good : T → Type 0) (grows : T → T �
       let most = two_le-sum_by f s.views id i v u apart at at' in
       let once = k.parts_once part in
       dite (dec_lt part n)
-      (λ within. let one : 1 ≤ times part v.parts = times-Contains part v.parts (all.each part within) in grind (arith, nat_tests))
+      (λ within. let one : 1 ≤ times part v.parts = times-Contains part v.parts (all.each part within) in
+      grind (arith, nat_tests))
       (λ beyond. grind (arith, nat_tests)))
 
   -- and so the lock is free
-  closes_free : (s : State (Option T) (View T J)) → Kept s → (id : ℕ) (v : View T J) → get_elem? s.views id ≡ some v → v.holds ≡ false → HasAllParts n v.parts → get_or s.words 0 0 ≡ 0
+  closes_free : (s : State (Option T) (View T J)) → Kept s → (id : ℕ) (v : View T J) → get_elem? s.views id ≡ some v →
+      v.holds ≡ false → HasAllParts n v.parts → get_or s.words 0 0 ≡ 0
   closes_free s k id v at free all = sym k.holders ∙ sum_by-zeros count s.views (λ i u e. dite (ℕ_discrete i id)
-      (λ same. let is : v ≡ u = some-injective v u (sym at ∙ (ap (get_elem? s.views) (sym same) ∙ e)) in ap count (sym is) ∙ count_free v free)
+      (λ same. let is : v ≡ u = some-injective v u (sym at ∙ (ap (get_elem? s.views) (sym same) ∙ e)) in
+      ap count (sym is) ∙ count_free v free)
       (λ apart. count_free u (k.only_live_hold i u e (none_beside s k id i v u at e apart all))))
 
   -- and its slot gives a good value of the seat's job, which has grown from all that the seat has seen
@@ -285,24 +315,39 @@ module _ {T J : Type 0} (job : T → J) (good : T → Type 0) (grows : T → T �
   -- take and give for a seat as a call has it
   pub takes_at : (slots id : ℕ) (seat : Me (Option T) (View T J)) → slots ≡ 1 → IsSeat seat → seat.0.holds ≡ false
       → Allows Kept slots id seat 0 (λ m. either (eqb m 0) 1 m) (Takes job good grows seat)
-  takes_at slots id seat one is free = subst (λ (out : List (ℕ × Option T)). Allows Kept slots id (seat.0, out) 0 (λ m. either (eqb m 0) 1 m) (Takes job good grows (seat.0, out))) (sym (is.nothing_out free))
-      (subst (λ k. Allows Kept k id (seat.0, []) 0 (λ m. either (eqb m 0) 1 m) (Takes job good grows (seat.0, []))) (sym one) (takes_lock id seat.0 is.live free))
+  takes_at slots id seat one is free = subst
+      (λ (out : List (ℕ × Option T)). Allows Kept slots id (seat.0, out) 0 (λ m. either (eqb m 0) 1 m)
+      (Takes job good grows (seat.0, out))) (sym (is.nothing_out free))
+      (subst (λ k. Allows Kept k id (seat.0, []) 0 (λ m. either (eqb m 0) 1 m) (Takes job good grows (seat.0, [])))
+      (sym one) (takes_lock id seat.0 is.live free))
 
   pub gives_at : (slots id : ℕ) (before seat : Me (Option T) (View T J)) (x : T)
-      → slots ≡ 1 → IsSeat before → before.0.holds ≡ true → good x → before.0.job ≡ Some (job x) → ((y : T) → before.0.taken ≡ Some y → grows y x)
+      → slots ≡ 1 → IsSeat before → before.0.holds ≡ true → good x → before.0.job ≡ Some (job x) →
+      ((y : T) → before.0.taken ≡ Some y → grows y x)
       → seat ≡ (before.0, (0, Some x) ∷ rest before.1) → Allows Kept slots id seat 0 (λ _. 0) (λ _. Gives seat)
   gives_at slots id before seat x one is holds fine fits grown exchanged =
       let v : View T J = before.0 in
-      let equal : seat ≡ (v, (0, Some x) ∷ []) = exchanged ∙ ap (λ (out : List (ℕ × Option T)). (v, (0, Some x) ∷ rest out)) (is.slot_out holds) in
+      let equal : seat ≡ (v, (0, Some x) ∷ []) = exchanged ∙
+      ap (λ (out : List (ℕ × Option T)). (v, (0, Some x) ∷ rest out)) (is.slot_out holds) in
       subst (λ (m : Me (Option T) (View T J)). Allows Kept slots id m 0 (λ _. 0) (λ _. Gives m)) (sym equal)
-      (subst (λ k. Allows Kept k id (v, (0, Some x) ∷ []) 0 (λ _. 0) (λ _. Gives (v, (0, Some x) ∷ []))) (sym one) (gives_lock id v x holds fine fits grown))
+      (subst (λ k. Allows Kept k id (v, (0, Some x) ∷ []) 0 (λ _. 0) (λ _. Gives (v, (0, Some x) ∷ []))) (sym one)
+      (gives_lock id v x holds fine fits grown))
 
 -- a seat that holds nothing
 pub free_seat : {T J : Type 0} (parts : List ℕ) (job : Option J) (seen : List T) → parts ≢ [] → IsDescending parts
     → IsSeat {T = T} (record { parts = parts; holds = false; job = job; seen = seen; taken = None }, [])
-free_seat parts job seen some_part order = record { live = some_part; descending = order; nothing_out = λ _. refl; slot_out = λ no. absurd (true≢false (sym no)) }
+free_seat parts job seen some_part order =
+    record {
+      live = some_part;
+      descending = order;
+      nothing_out = λ _. refl;
+      slot_out = λ no.
+          absurd (true≢false (sym no));
+    }
 
 -- a seat whose parts change, and what it has seen
-pub seat_with : {T J : Type 0} (seat : Me (Option T) (View T J)) (parts : List ℕ) (seen : List T) → IsSeat seat → parts ≢ [] → IsDescending parts
+pub seat_with : {T J : Type 0} (seat : Me (Option T) (View T J)) (parts : List ℕ) (seen : List T) → IsSeat seat →
+    parts ≢ [] → IsDescending parts
     → IsSeat (record seat.0 { parts = parts; seen = seen }, seat.1)
-seat_with seat parts seen is some_part order = record { live = some_part; descending = order; nothing_out = is.nothing_out; slot_out = is.slot_out }
+seat_with seat parts seen is some_part order =
+    record { live = some_part; descending = order; nothing_out = is.nothing_out; slot_out = is.slot_out }

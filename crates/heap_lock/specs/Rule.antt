@@ -39,14 +39,16 @@ module _ {T J : Type 0} (job : T → J) (good : T → Type 0) (grows : T → T �
     pub one_word : length s.words ≡ 1
     pub free_or_held : slice_index s.words 0 ≤ 1
     -- each part stands once in all views together, and no other number stands there
-    pub parts_once : (part : ℕ) → sum_by (λ (v : View T J). times part v.parts) s.views ≡ (if nat_lt part n then 1 else 0)
+    pub parts_once : (part : ℕ) → sum_by (λ (v : View T J). times part v.parts) s.views ≡
+        (if nat_lt part n then 1 else 0)
     -- all live views have the one job
     pub one_job : (id : ℕ) (v : View T J) → get_elem? s.views id ≡ some v → v.parts ≢ [] → v.job ≡ Some j
     -- a view without parts holds nothing
     pub only_live_hold : (id : ℕ) (v : View T J) → get_elem? s.views id ≡ some v → v.parts ≡ [] → v.holds ≡ false
     -- as many views hold as word 0 says: one where it is 1, and none where it is 0
     pub holders : count_by (λ (v : View T J). v.holds) s.views ≡ slice_index s.words 0
-    -- the value that the lock was made with or that was given last: it is good, of that job, and has grown from each that a seat has seen
+    -- the value that the lock was made with or that was given last: it is good, of that job, and has grown from each
+    -- that a seat has seen
     pub value : T
     pub value_is_good : good value
     pub value_for_job : job value ≡ j
@@ -54,7 +56,8 @@ module _ {T J : Type 0} (job : T → J) (good : T → Type 0) (grows : T → T �
     -- where the lock is free, its slot has that value
     pub free_has_value : slice_index s.words 0 ≡ 0 → HasValue value s.homes
     -- and else the seat that holds took it
-    pub holder_took_value : (id : ℕ) (v : View T J) → get_elem? s.views id ≡ some v → v.holds ≡ true → v.taken ≡ Some value
+    pub holder_took_value : (id : ℕ) (v : View T J) → get_elem? s.views id ≡ some v → v.holds ≡ true →
+        v.taken ≡ Some value
 
 -- What the kinds of step do to the view of a seat
 module _ {T J : Type 0} where
@@ -80,20 +83,25 @@ module _ {T J : Type 0} where
 
 -- What they do to a seat as a whole: its view, and the slots that are out with it, each with what is in it
 module _ {T J : Type 0} (job : T → J) (good : T → Type 0) (grows : T → T → Type 0) where
-  -- the view holds, and the slot is out, with a good value of the seat's job in it, which has grown from each that the seat has seen
+  -- the view holds, and the slot is out, with a good value of the seat's job in it, which has grown from each that the
+  -- seat has seen
   abbrev pub HasTaken : Me (Option T) (View T J) → Me (Option T) (View T J) → Type 0
-  HasTaken before after = (x : T) × (after ≡ (record before.0 { holds = true; taken = Some x }, (0, Some x) ∷ [])) × good x × (before.0.job ≡ Some (job x)) × All (λ y. grows y x) before.0.seen
+  HasTaken before after = (x : T) × (after ≡ (record before.0 { holds = true; taken = Some x }, (0, Some x) ∷ [])) ×
+      good x × (before.0.job ≡ Some (job x)) × All (λ y. grows y x) before.0.seen
 
-  -- Take, a compare-and-exchange of word 0 from 0 to 1: where it found 0 the seat has taken the value, and else nothing changes
+  -- Take, a compare-and-exchange of word 0 from 0 to 1: where it found 0 the seat has taken the value, and else nothing
+  -- changes
   abbrev pub Takes : Me (Option T) (View T J) → ℕ → Me (Option T) (View T J) → Type 0
   Takes before found after = (found ≡ 0 → HasTaken before after) × (found ≢ 0 → after ≡ before)
 
 module _ {T J : Type 0} where
   -- Give, a store of 0 in word 0: the view holds nothing and has seen the value in the slot alone, and no slot is out
   abbrev pub Gives : Me (Option T) (View T J) → Me (Option T) (View T J) → Type 0
-  Gives before after = (x : T) × (before.1 ≡ (0, Some x) ∷ []) × (after ≡ (record before.0 { holds = false; seen = x ∷ []; taken = None }, []))
+  Gives before after = (x : T) × (before.1 ≡ (0, Some x) ∷ []) ×
+      (after ≡ (record before.0 { holds = false; seen = x ∷ []; taken = None }, []))
 
-  -- A seat between two calls of the lock: it has a part, and where it holds the slot is out with it and has None, since the caller has the value
+  -- A seat between two calls of the lock: it has a part, and where it holds the slot is out with it and has None, since
+  -- the caller has the value
   pub record IsSeat (seat : Me (Option T) (View T J)) : Type 0 where
     pub live : seat.0.parts ≢ []
     pub descending : IsDescending seat.0.parts

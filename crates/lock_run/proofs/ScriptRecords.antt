@@ -27,17 +27,23 @@ all_left n = omega arith
 
 module _ {S X : Type 0} {u : Sense S X} {n : ℕ} {v : X} where
   pub making_first : IsLive u v → Making u n 0 [] v v
-  making_first l = record { leads = subst (λ k. Leads u (make_cells {S = S} n []) v (make_cells k []) v) (sym (all_left n)) (record { finish = λ x res m. m; safe = cells_safe S u.partial n [] (u.heap v); live = l }) }
+  making_first l = record {
+    leads = subst (λ k. Leads u (make_cells {S = S} n []) v (make_cells k []) v)
+        (sym (all_left n)) (record { finish = λ x res m. m; safe = cells_safe S u.partial n [] (u.heap v); live = l });
+  }
 
   module _ {i : ℕ} {cells : List Addr} {w : X} (m : Making u n i cells v w) where
-    making_next : i < n → Leads u (make_cells {S = S} n []) v (Do (Make zero_cell) (λ a. make_cells (n - (i + 1)) (with_cell cells a))) w
+    making_next : i < n → Leads u (make_cells {S = S} n []) v
+        (Do (Make zero_cell) (λ a. make_cells (n - (i + 1)) (with_cell cells a))) w
     unfolding make_cells
     making_next h = subst (λ k. Leads u (make_cells {S = S} n []) v (make_cells k cells) w) (left_over n i h) m.leads
 
-    pub making_more : (L : Lawful u) (a : ℕ) (x : X) → i < n → u.does (Make zero_cell) w a x → Making u n (i + 1) (with_cell cells a) v x
+    pub making_more : (L : Lawful u) (a : ℕ) (x : X) → i < n → u.does (Make zero_cell) w a x →
+        Making u n (i + 1) (with_cell cells a) v x
     making_more L a x h d = record { leads = leads-do L a (making_next h) d }
 
-    pub making_refused : (e : Stop) (x : X) → i < n → u.refuses (Make zero_cell) w e x → Meets u (make_cells {S = S} n []) v x (Err e)
+    pub making_refused : (e : Stop) (x : X) → i < n → u.refuses (Make zero_cell) w e x →
+        Meets u (make_cells {S = S} n []) v x (Err e)
     making_refused e x h d = leads-refused (making_next h) d
 
     pub making_starved : Meets u (make_cells {S = S} n []) v w (Err OutOfMemory)
@@ -45,25 +51,35 @@ module _ {S X : Type 0} {u : Sense S X} {n : ℕ} {v : X} where
 
     pub making_last : n ≤ i → Meets u (make_cells {S = S} n []) v w (Ok cells)
     unfolding make_cells
-    making_last h = leads-ret (subst (λ k. Leads u (make_cells {S = S} n []) v (make_cells k cells) w) (none_left n i h) m.leads)
+    making_last h = leads-ret (subst (λ k. Leads u (make_cells {S = S} n []) v (make_cells k cells) w)
+        (none_left n i h) m.leads)
 
 -- ---- the loop that starts the threads, before its turn i
-pub record Starting {X : Type 0} (u : Sense ScriptState X) (n i : ℕ) (cells : List Addr) (list : Addr) (v w : X) : Type 0 where
+pub record Starting {X : Type 0} (u : Sense ScriptState X) (n i : ℕ) (cells : List Addr) (list : Addr) (v w : X) : Type
+    0 where
   pub leads : Leads u (start_threads n 0 cells list) v (start_threads (n - i) i cells list) w
 
 module _ {X : Type 0} {u : Sense ScriptState X} {n : ℕ} {cells : List Addr} {list : Addr} {v : X} where
   pub starting_first : IsLive u v → Starting u n 0 cells list v v
-  starting_first l = record { leads = subst (λ k. Leads u (start_threads n 0 cells list) v (start_threads k 0 cells list) v) (sym (all_left n)) (record { finish = λ x res m. m; safe = threads_safe u.partial n 0 cells list (u.heap v); live = l }) }
+  starting_first l = record {
+    leads = subst
+        (λ k. Leads u (start_threads n 0 cells list) v (start_threads k 0 cells list) v) (sym (all_left n))
+        (record { finish = λ x res m. m; safe = threads_safe u.partial n 0 cells list (u.heap v); live = l });
+  }
 
   module _ {i : ℕ} {w : X} (m : Starting u n i cells list v w) where
-    starting_next : i < n → Leads u (start_threads n 0 cells list) v (Do (Start (Acts i 0 cells list)) (λ _. start_threads (n - (i + 1)) (i + 1) cells list)) w
+    starting_next : i < n → Leads u (start_threads n 0 cells list) v
+        (Do (Start (Acts i 0 cells list)) (λ _. start_threads (n - (i + 1)) (i + 1) cells list)) w
     unfolding start_threads
-    starting_next h = subst (λ k. Leads u (start_threads n 0 cells list) v (start_threads k i cells list) w) (left_over n i h) m.leads
+    starting_next h = subst (λ k. Leads u (start_threads n 0 cells list) v (start_threads k i cells list) w)
+        (left_over n i h) m.leads
 
-    pub starting_more : (L : Lawful u) (x : X) → i < n → u.does (Start (Acts i 0 cells list)) w tt x → Starting u n (i + 1) cells list v x
+    pub starting_more : (L : Lawful u) (x : X) → i < n → u.does (Start (Acts i 0 cells list)) w tt x →
+        Starting u n (i + 1) cells list v x
     starting_more L x h d = record { leads = leads-do L tt (starting_next h) d }
 
-    pub starting_refused : (e : Stop) (x : X) → i < n → u.refuses (Start (Acts i 0 cells list)) w e x → Meets u (start_threads n 0 cells list) v x (Err e)
+    pub starting_refused : (e : Stop) (x : X) → i < n → u.refuses (Start (Acts i 0 cells list)) w e x →
+        Meets u (start_threads n 0 cells list) v x (Err e)
     starting_refused e x h d = leads-refused (starting_next h) d
 
     pub starting_starved : Meets u (start_threads n 0 cells list) v w (Err OutOfMemory)
@@ -71,4 +87,5 @@ module _ {X : Type 0} {u : Sense ScriptState X} {n : ℕ} {cells : List Addr} {l
 
     pub starting_last : n ≤ i → Meets u (start_threads n 0 cells list) v w (Ok tt)
     unfolding start_threads
-    starting_last h = leads-ret (subst (λ k. Leads u (start_threads n 0 cells list) v (start_threads k i cells list) w) (none_left n i h) m.leads)
+    starting_last h = leads-ret (subst (λ k. Leads u (start_threads n 0 cells list) v (start_threads k i cells list) w)
+        (none_left n i h) m.leads)

@@ -16,7 +16,8 @@ use Rattle.lock_run.specs.Prog.{Prog}
 abbrev pub Standing : {S : Type 0} → (List S → Type 0) → S → Type 0
 Standing sound s = (ss : List _) × (t : ℕ) × (slice_get ss t ≡ Some s) × sound ss
 
--- A view shows g, and some heap of which it shows so much has the state standing over it: over a view of all of a heap it is
+-- A view shows g, and some heap of which it shows so much has the state standing over it: over a view of all of a heap
+-- it is
 -- g, over a view of a part any heap with the part's records.
 pub record StandsIn {S : Type 0} (sound : Heap → List S → Type 0) (partial : Bool) (g : Heap) (s : S) : Type 0 where
   pub heap : Heap
@@ -39,11 +40,13 @@ IsSoundFirst p sound = sound no_records (p.first ∷ [])
 abbrev pub StaysSound : {S : Type 0} → Prog S → (Heap → List S → Type 0) → Type 0
 StaysSound {S} p sound =
     (ss : List S) (t : ℕ) (s : S) (h : Heap) (w : World) (o : Outcome) (s1 : S) (y : Sight S) →
-    sound h ss → slice_get ss t ≡ Some s → p.life s ≡ Lives → Does (p.row s) (opened S h w) (o, s1) y → sound y.heap (slice_set (ss ++ y.started) t s1)
+    sound h ss → slice_get ss t ≡ Some s → p.life s ≡ Lives → Does (p.row s) (opened S h w) (o, s1) y →
+    sound y.heap (slice_set (ss ++ y.started) t s1)
 
 -- the next step of each living thread of a sound list has what its calls need
 abbrev pub IsSafe : {S : Type 0} → Prog S → (Heap → List S → Type 0) → Type 0
-IsSafe {S} p sound = (ss : List S) (t : ℕ) (s : S) (h : Heap) → sound h ss → slice_get ss t ≡ Some s → p.life s ≡ Lives → Safe false (p.row s) h
+IsSafe {S} p sound = (ss : List S) (t : ℕ) (s : S) (h : Heap) → sound h ss → slice_get ss t ≡ Some s →
+    p.life s ≡ Lives → Safe false (p.row s) h
 
 -- whether a thread lives after a step that ended so
 abbrev pub LifeAfter : Outcome → Life → Type 0
@@ -53,7 +56,8 @@ LifeAfter Waits life = Unit {0}
 
 -- how a step of a living thread ended tells whether the thread lives on
 abbrev pub TellsLife : {S : Type 0} → Prog S → Type 0
-TellsLife {S} p = (s s1 : S) (x y : Sight S) (o : Outcome) → p.life s ≡ Lives → Does (p.row s) x (o, s1) y → LifeAfter o (p.life s1)
+TellsLife {S} p = (s s1 : S) (x y : Sight S) (o : Outcome) → p.life s ≡ Lives → Does (p.row s) x (o, s1) y →
+    LifeAfter o (p.life s1)
 
 -- heap, made names, started states and world are as they were; only looks may have been added
 pub record Unchanged {S : Type 0} (x y : Sight S) : Type 0 where

@@ -1,4 +1,5 @@
--- What a step that was cut in its next call has done, and which step of a run it was. States `docs/HEAP.md`, "Turns and runs".
+-- What a step that was cut in its next call has done, and which step of a run it was. States `docs/HEAP.md`, "Turns and
+-- runs".
 use Rattle.std.specs.Prelude.{◌≡◌, ◌≢◌, ℕ, List, ◌++◌, Some, length, take, slice_get, All}
 use Rattle.py_data.specs.declared.stop.Out.TheVariants.{Output, ErrorOutput}
 use Rattle.py_data.specs.Row.{Row, Do, Put, Take}
@@ -10,14 +11,16 @@ use Rattle.lock_run.specs.declared.turn.Turn.{Turn}
 use Rattle.lock_run.specs.Prog.{Prog}
 use Rattle.lock_run.specs.Machine.{Machine, Runs}
 
--- what the devices were told once the next call of a row was cut: a front of what it writes, or some bytes of the input are gone
+-- what the devices were told once the next call of a row was cut: a front of what it writes, or some bytes of the input
+-- are gone
 abbrev pub PartOf : {S A : Type 0} → Row S A → World → World → Type 0
 PartOf (Do (Put Output bytes) k) w told = (n : ℕ) × (told ≡ wrote Output (take n bytes) w)
 PartOf (Do (Put ErrorOutput bytes) k) w told = (n : ℕ) × (told ≡ wrote ErrorOutput (take n bytes) w)
 PartOf (Do (Take most) k) w told = (n : ℕ) × (told ≡ record w { input = shrunk w.input n })
 PartOf _ w told = told ≡ w
 
--- A row was begun at a sight and cut in its next call: `left` is left of it at `place`, and this was told to the devices.
+-- A row was begun at a sight and cut in its next call: `left` is left of it at `place`, and this was told to the
+-- devices.
 pub record RowCut {S A : Type 0} (row : Row S A) (from : Sight S) (told : World) : Type 0 where
   pub left : Row S A
   pub place : Sight S
@@ -29,9 +32,11 @@ pub record Broken : Type 0 where
   pub thread : ℕ
   pub turns : ℕ
 
--- The step that was cut is the next one of its thread after a front of the history. The thread has no later turn, and the later
+-- The step that was cut is the next one of its thread after a front of the history. The thread has no later turn, and
+-- the later
 -- turns left the world. Of its row a beginning was done, and its next call was cut.
-pub record Broke {S : Type 0} (p : Prog S) (first : Machine S) (history : List Turn) (w told : World) (b : Broken) : Type 0 where
+pub record Broke {S : Type 0} (p : Prog S) (first : Machine S) (history : List Turn) (w told : World)
+    (b : Broken) : Type 0 where
   pub front : List Turn
   pub rest : List Turn
   pub history_is : history ≡ front ++ rest

@@ -11,11 +11,17 @@ use Rattle.lock_run.specs.PlainSense.{plain_state}
 use Rattle.lock_run.specs.Turns.{LockState}
 
 -- the view of a LockRun, and its threads: those that its last step started come last, and the view has them still
-abbrev pub lock_state : {C S I O E : Type 0} → (I → SourceState) → (O → SinkState) → (E → SinkState) → LockRun C I O E S → LockState S
-lock_state input out err run = record { view = plain_state input out err run.view; threads = run.threads ++ run.view.started }
+abbrev pub lock_state : {C S I O E : Type 0} → (I → SourceState) → (O → SinkState) → (E → SinkState) →
+    LockRun C I O E S → LockState S
+lock_state input out err run = record {
+  view = plain_state input out err run.view;
+  threads =
+      run.threads ++ run.view.started;
+}
 
 -- what a LockRun holds where no thread was started that hasn't moved to the others
-abbrev pub moved_state : {C S I O E : Type 0} → (I → SourceState) → (O → SinkState) → (E → SinkState) → LockRun C I O E S → LockState S
+abbrev pub moved_state : {C S I O E : Type 0} → (I → SourceState) → (O → SinkState) → (E → SinkState) →
+    LockRun C I O E S → LockState S
 moved_state input out err run = record { view = plain_state input out err run.view; threads = run.threads }
 
 -- its client

@@ -1,4 +1,5 @@
--- The state of a plain view, and what the view says of itself as a view. States `docs/HEAP.md`, "The plain view" and "Views".
+-- The state of a plain view, and what the view says of itself as a view. States `docs/HEAP.md`, "The plain view" and
+-- "Views".
 use Rattle.std.specs.Prelude.{◌≡◌, None, drop, Bool, true, false}
 use Rattle.py_data.specs.declared.stop.Stop.{Stop}
 use Rattle.py_data.specs.declared.stop.Stop.TheVariants.{ReadFault, WriteFault, ErrFault, OutOfMemory}
@@ -11,7 +12,8 @@ use Rattle.lock_run.specs.Given.{given_all, given_kept}
 use Rattle.lock_run.specs.Space.{space_heap, space_base}
 
 -- what a plain view holds, by what its devices tell of themselves
-abbrev pub plain_state : {S I O E : Type 0} → (I → SourceState) → (O → SinkState) → (E → SinkState) → PlainView S I O E → PlainState S
+abbrev pub plain_state : {S I O E : Type 0} → (I → SourceState) → (O → SinkState) → (E → SinkState) → PlainView S I O E
+    → PlainState S
 plain_state input out err v = record {
   heap = space_heap v.space;
   base = space_base v.space;
@@ -49,7 +51,8 @@ module _ {S I O E : Type 0} (input : I → SourceState) (out : O → SinkState) 
     partial = false;
     stopped = λ v. v.stopped;
     can_stop = plain_stops;
-    does = λ c v r w. PlainDoes c (plain_state input out err v) r (plain_state input out err w) × (w.stopped ≡ None) × Still c v w;
+    does = λ c v r w. PlainDoes c (plain_state input out err v) r (plain_state input out err w) × (w.stopped ≡ None) ×
+        Still c v w;
     refuses = λ c v e w. PlainRefuses c (plain_state input out err v) e (plain_state input out err w);
     seen = λ a v. Unit {0};
   }

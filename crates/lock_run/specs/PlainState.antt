@@ -44,14 +44,17 @@ Named false n left left1 = left ≡ n ∷ left1
 -- what each call answers and leaves
 abbrev pub PlainDoes : {S : Type 0} (c : Call S) → PlainState S → Reply c → PlainState S → Type 0
 PlainDoes (Read a) d r e = (d.heap a ≡ Some r) × (e ≡ d)
-PlainDoes (Find a key) d o e = (q : Rec) × (d.heap a ≡ Some q) × Fits d.heap q key × (o ≡ find d.heap q.values key) × (e ≡ d)
+PlainDoes (Find a key) d o e = (q : Rec) × (d.heap a ≡ Some q) × Fits d.heap q key × (o ≡ find d.heap q.values key) ×
+    (e ≡ d)
 PlainDoes (Edit a c) d r e = Changes a c d e
-PlainDoes (Make q) d n e = Named d.free n d.left e.left × (d.heap n ≡ None) × (e ≡ record d { heap = put_at d.heap n q; made = d.made ++ n ∷ []; left = e.left })
+PlainDoes (Make q) d n e = Named d.free n d.left e.left × (d.heap n ≡ None) ×
+    (e ≡ record d { heap = put_at d.heap n q; made = d.made ++ n ∷ []; left = e.left })
 PlainDoes (Start s) d r e = e ≡ record d { started = d.started ++ s ∷ [] }
 PlainDoes (Put Output b) d r e = (e ≡ record d { out = grown d.out b; writes = e.writes }) × (d.writes ≤ e.writes)
 PlainDoes (Put ErrorOutput b) d r e = (e ≡ record d { err = grown d.err b; errs = e.errs }) × (d.errs ≤ e.errs)
 PlainDoes (Take most) d l e =
-    IsLine d.input most l × (length l ≤ most) × (e ≡ record d { input = shrunk d.input (length l); reads = e.reads }) × (d.reads ≤ e.reads)
+    IsLine d.input most l × (length l ≤ most) × (e ≡ record d { input = shrunk d.input (length l); reads = e.reads }) ×
+    (d.reads ≤ e.reads)
 PlainDoes MidLine d b e = (b ≡ d.mid) × (e ≡ d)
 PlainDoes (SetMidLine b) d r e = e ≡ record d { mid = b }
 
@@ -126,11 +129,26 @@ PlainRefuses c d s e = Steady d e s × Why s c d e
 
 -- a step is opened: what stands now is its base
 abbrev pub PlainOpens : {S : Type 0} → PlainState S → PlainState S → Type 0
-PlainOpens d e = e ≡ record d { base = d.heap; kept = d.made; was_left = d.left; was_mid = d.mid; bad = false; started = []; stopped = None }
+PlainOpens d e = e ≡ record d {
+  base = d.heap;
+  kept = d.made;
+  was_left = d.left;
+  was_mid = d.mid;
+  bad = false;
+  started = [];
+  stopped = None;
+}
 
 -- a step is taken back: records, names, flag and started states as when it was opened
 abbrev pub PlainUndoes : {S : Type 0} → PlainState S → PlainState S → Type 0
-PlainUndoes d e = e ≡ record d { heap = d.base; made = d.kept; left = d.was_left; mid = d.was_mid; started = []; stopped = None }
+PlainUndoes d e = e ≡ record d {
+  heap = d.base;
+  made = d.kept;
+  left = d.was_left;
+  mid = d.was_mid;
+  started = [];
+  stopped = None;
+}
 
 -- a look changes nothing at all
 abbrev pub Still : {S X : Type 0} → Call S → X → X → Type 0

@@ -58,7 +58,8 @@ make_cells (suc n) cells = Do (Make zero_cell) (λ a. make_cells n (with_cell ce
 -- starts so many threads, whose lists of acts have the numbers from `number` on
 unfoldable pub start_threads : ℕ → ℕ → List Addr → Addr → Row ScriptState (Unit {0})
 start_threads zero number cells list = Ret tt
-start_threads (suc n) number cells list = Do (Start (Acts number 0 cells list)) (λ _. start_threads n (number + 1) cells list)
+start_threads (suc n) number cells list =
+    Do (Start (Acts number 0 cells list)) (λ _. start_threads n (number + 1) cells list)
 
 abbrev pub list_and_threads : ℕ → List Addr → Row ScriptState (Unit {0})
 list_and_threads count cells = Do (Make empty_list) (λ a. start_threads count 0 cells (record { 0 = a }))
@@ -77,7 +78,8 @@ set_row None v = Ret tt
 
 -- a look at the List, and a push unless it is as long as a record may be
 unfoldable pub push_row : {S : Type 0} → Addr → Value → Row S (Unit {0})
-push_row list v = Do (Read list.0) (λ r. cond (ltb (length r.values) LENGTH_LIMIT) (Do (Edit list.0 (change.Push v)) (λ _. Ret tt)) (Ret tt))
+push_row list v = Do (Read list.0) (λ r.
+    cond (ltb (length r.values) LENGTH_LIMIT) (Do (Edit list.0 (change.Push v)) (λ _. Ret tt)) (Ret tt))
 
 abbrev pub act_row : {S : Type 0} → List Addr → Addr → Act → Row S (Unit {0})
 act_row cells list (Look k) = look_row (slice_get cells k)
@@ -96,7 +98,8 @@ now_done (Some act) number done cells list = (Done, Acts number done cells list)
 now_done None number done cells list = (Ended, Over)
 
 abbrev pub at_act : List (List Act) → ℕ → ℕ → List Addr → Addr → Option Act → Row ScriptState (Outcome × ScriptState)
-at_act lists number done cells list (Some act) = bind (act_row cells list act) (λ _. Ret (now_done (act_at lists number (done + 1)) number (done + 1) cells list))
+at_act lists number done cells list (Some act) =
+    bind (act_row cells list act) (λ _. Ret (now_done (act_at lists number (done + 1)) number (done + 1) cells list))
 at_act lists number done cells list None = Ret (Ended, Over)
 
 unfoldable pub script_row : ℕ → List (List Act) → ScriptState → Row ScriptState (Outcome × ScriptState)

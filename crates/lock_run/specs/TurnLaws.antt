@@ -26,24 +26,29 @@ IsOutside BadNames = ⊥
 abbrev pub AcceptLaw : Type 0 → Type 0
 AcceptLaw S =
     (p : Prog S) (t : Turn) (done : ℕ) (why : TurnWhy) (a b : LockState S) (o e : Option (List ℕ)) (m m1 : Machine S)
-    → IsSome m.world.input → Stands o e a.view a.threads m → DoesTurn p m t m1 → TurnCut p t done why a b → IsOutside why
+    → IsSome m.world.input → Stands o e a.view a.threads m → DoesTurn p m t m1 → TurnCut p t done why a b →
+    IsOutside why
 
 -- a turn leads from a machine to one machine only, where the source tells its bytes
 abbrev pub OneTurnLaw : Type 0 → Type 0
-OneTurnLaw S = (p : Prog S) (t : Turn) (m m1 m2 : Machine S) → IsSome m.world.input → DoesTurn p m t m1 → DoesTurn p m t m2 → m2 ≡ m1
+OneTurnLaw S = (p : Prog S) (t : Turn) (m m1 m2 : Machine S) → IsSome m.world.input → DoesTurn p m t m1 →
+    DoesTurn p m t m2 → m2 ≡ m1
 
 -- a turn that was done leads to the machine that the turn leads to
 abbrev pub DoneLaw : Type 0 → Type 0
 DoneLaw S =
     (p : Prog S) (t : Turn) (a b : LockState S) (o e : Option (List ℕ)) (m m1 : Machine S)
-    → IsSome m.world.input → Stands o e a.view a.threads m → DoesTurn p m t m1 → TurnDone p t a b → Stands o e b.view b.threads m1
+    → IsSome m.world.input → Stands o e a.view a.threads m → DoesTurn p m t m1 → TurnDone p t a b →
+    Stands o e b.view b.threads m1
 
 -- after a turn the source tells its bytes still
 abbrev pub ToldLaw : Type 0 → Type 0
-ToldLaw S = (p : Prog S) (t : Turn) (m m1 : Machine S) → IsSome m.world.input → DoesTurn p m t m1 → IsSome m1.world.input
+ToldLaw S = (p : Prog S) (t : Turn) (m m1 : Machine S) → IsSome m.world.input → DoesTurn p m t m1 →
+    IsSome m1.world.input
 
 -- the same steps over another heap and world
-pub record SameSteps {S : Type 0} (p : Prog S) (n : ℕ) (q : S) (h1 : Heap) (v1 : World) (r : S) (t t1 : Sight S) : Type 0 where
+pub record SameSteps {S : Type 0} (p : Prog S) (n : ℕ) (q : S) (h1 : Heap) (v1 : World) (r : S) (t t1 : Sight S) : Type
+    0 where
   pub steps : Steps p n q (opened S h1 v1) r t1
   pub looked : (a : ℕ) → t1.looked a ≡ t.looked a
   pub made : t1.made ≡ t.made
@@ -53,21 +58,27 @@ pub record SameSteps {S : Type 0} (p : Prog S) (n : ℕ) (q : S) (h1 : Heap) (v1
   pub world : t.used ≡ false → t1.world ≡ v1
   pub world_used : t.used ≡ true → t1.world ≡ t.world
 
--- The frame law of steps: over another heap that has each fixed record of the first, agrees with it on what the steps looked
+-- The frame law of steps: over another heap that has each fixed record of the first, agrees with it on what the steps
+-- looked
 -- at and has none of their names, they are the same steps; and over another world, if they don't use the world.
 abbrev pub StepsLaw : Type 0 → Type 0
 StepsLaw S =
-    (p : Prog S) (n : ℕ) (q r : S) (h h1 : Heap) (v v1 : World) (t : Sight S) → Steps p n q (opened S h v) r t → AgreesOn t.looked h h1
-    → ((a : ℕ) → mem a t.made ≡ true → h1 a ≡ None) → (t.used ≡ true → v1 ≡ v) → (t1 : Sight S) × SameSteps p n q h1 v1 r t t1
+    (p : Prog S) (n : ℕ) (q r : S) (h h1 : Heap) (v v1 : World) (t : Sight S) → Steps p n q (opened S h v) r t →
+    AgreesOn t.looked h h1
+    → ((a : ℕ) → mem a t.made ≡ true → h1 a ≡ None) → (t.used ≡ true → v1 ≡ v) →
+    (t1 : Sight S) × SameSteps p n q h1 v1 r t t1
 
 -- a run and one turn more are a run
 abbrev pub SnocLaw : Type 0 → Type 0
-SnocLaw S = (p : Prog S) (ts : List Turn) (t : Turn) (m m1 m2 : Machine S) → Runs p m ts m1 → DoesTurn p m1 t m2 → Runs p m (ts ++ t ∷ []) m2
+SnocLaw S = (p : Prog S) (ts : List Turn) (t : Turn) (m m1 m2 : Machine S) → Runs p m ts m1 → DoesTurn p m1 t m2 →
+    Runs p m (ts ++ t ∷ []) m2
 
 -- a run of two lists is a run of the one and then a run of the other
 abbrev pub AppendLaw : Type 0 → Type 0
-AppendLaw S = (p : Prog S) (ts us : List Turn) (m m2 : Machine S) → Runs p m (ts ++ us) m2 ↔ ((m1 : Machine S) × Runs p m ts m1 × Runs p m1 us m2)
+AppendLaw S = (p : Prog S) (ts us : List Turn) (m m2 : Machine S) →
+    Runs p m (ts ++ us) m2 ↔ ((m1 : Machine S) × Runs p m ts m1 × Runs p m1 us m2)
 
 -- a run leads from a machine to one machine only, where the source tells its bytes
 abbrev pub OneRunLaw : Type 0 → Type 0
-OneRunLaw S = (p : Prog S) (ts : List Turn) (m m1 m2 : Machine S) → IsSome m.world.input → Runs p m ts m1 → Runs p m ts m2 → m2 ≡ m1
+OneRunLaw S = (p : Prog S) (ts : List Turn) (m m1 m2 : Machine S) → IsSome m.world.input → Runs p m ts m1 →
+    Runs p m ts m2 → m2 ≡ m1

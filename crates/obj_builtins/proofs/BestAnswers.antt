@@ -31,7 +31,8 @@ use Rattle.obj_builtins.specs.Functions.{later_row, function_row}
 use Rattle.obj_builtins.specs.Laws.{wanted, IsBetter, IsBest, GivesBest, BestLaw}
 
 -- ---- the order of numbers
-by_numbers : (h : Heap) (items : List Value → List Value → Got Ordering) (x y : Value) (i : ℤ) → number_of x ≡ Some i → order_by h items x y ≡ order_numbers (number_of x) (number_of y)
+by_numbers : (h : Heap) (items : List Value → List Value → Got Ordering) (x y : Value) (i : ℤ) → number_of x ≡ Some i →
+    order_by h items x y ≡ order_numbers (number_of x) (number_of y)
 by_numbers h items (Int n) y i e = refl
 by_numbers h items (BoolValue b) y i e = refl
 by_numbers h items Unset y i e = absurd (let q : ◌≡◌ {A = Option ℤ} None (Some i) = e in cc)
@@ -39,15 +40,19 @@ by_numbers h items NoneValue y i e = absurd (let q : ◌≡◌ {A = Option ℤ} 
 by_numbers h items (Ref a) y i e = absurd (let q : ◌≡◌ {A = Option ℤ} None (Some i) = e in cc)
 by_numbers h items (Builtin b) y i e = absurd (let q : ◌≡◌ {A = Option ℤ} None (Some i) = e in cc)
 
-two_numbers : (h : Heap) (items : List Value → List Value → Got Ordering) (x y : Value) (i j : ℤ) → number_of x ≡ Some i → number_of y ≡ Some j → order_by h items x y ≡ Is (int_cmp i j)
-two_numbers h items x y i j ex ey = by_numbers h items x y i ex ∙ (ap (λ o. order_numbers o (number_of y)) ex ∙ ap (order_numbers (Some i)) ey)
+two_numbers : (h : Heap) (items : List Value → List Value → Got Ordering) (x y : Value) (i j : ℤ) →
+    number_of x ≡ Some i → number_of y ≡ Some j → order_by h items x y ≡ Is (int_cmp i j)
+two_numbers h items x y i j ex ey = by_numbers h items x y i ex ∙
+    (ap (λ o. order_numbers o (number_of y)) ex ∙ ap (order_numbers (Some i)) ey)
 
-within_ordered : (h : Heap) (d : ℕ) (x y : Value) (i j : ℤ) → number_of x ≡ Some i → number_of y ≡ Some j → order_within h d x y ≡ Is (int_cmp i j)
+within_ordered : (h : Heap) (d : ℕ) (x y : Value) (i j : ℤ) → number_of x ≡ Some i → number_of y ≡ Some j →
+    order_within h d x y ≡ Is (int_cmp i j)
 unfolding order_within
 within_ordered h zero x y i j ex ey = two_numbers h _ x y i j ex ey
 within_ordered h (suc d) x y i j ex ey = two_numbers h _ x y i j ex ey
 
-ordered : (h : Heap) (x y : Value) (i j : ℤ) → number_of x ≡ Some i → number_of y ≡ Some j → order h x y ≡ Is (int_cmp i j)
+ordered : (h : Heap) (x y : Value) (i j : ℤ) → number_of x ≡ Some i → number_of y ≡ Some j →
+    order h x y ≡ Is (int_cmp i j)
 ordered h x y i j ex ey = within_ordered h 100 x y i j ex ey
 
 number_item : (h : Heap) (x : Value) (i : ℤ) → number_of x ≡ Some i → IsItem h x
@@ -102,7 +107,8 @@ beats_mixed Greatest i j k e f = above_mixed i j k e f
 beats_is : (side : Side) (i j : ℤ) → is_better side (int_cmp i j) ≡ true → Beats side i j
 beats_is side i j e = by side (int_lt i j) (int_lt j i) refl refl e
   where
-    by : (side : Side) (s t : Bool) → int_lt i j ≡ s → int_lt j i ≡ t → is_better side (cond s Less (cond t Above Equal)) ≡ true → Beats side i j
+    by : (side : Side) (s t : Bool) → int_lt i j ≡ s → int_lt j i ≡ t →
+        is_better side (cond s Less (cond t Above Equal)) ≡ true → Beats side i j
     by Least true t p q f = p
     by Least false true p q f = absurd (let z : false ≡ true = f in cc)
     by Least false false p q f = absurd (let z : false ≡ true = f in cc)
@@ -113,7 +119,8 @@ beats_is side i j e = by side (int_lt i j) (int_lt j i) refl refl e
 beats_not : (side : Side) (i j : ℤ) → is_better side (int_cmp i j) ≡ false → Beats side i j → ⊥
 beats_not side i j e b = by side (int_lt i j) (int_lt j i) refl refl e b
   where
-    by : (side : Side) (s t : Bool) → int_lt i j ≡ s → int_lt j i ≡ t → is_better side (cond s Less (cond t Above Equal)) ≡ false → Beats side i j → ⊥
+    by : (side : Side) (s t : Bool) → int_lt i j ≡ s → int_lt j i ≡ t →
+        is_better side (cond s Less (cond t Above Equal)) ≡ false → Beats side i j → ⊥
     by Least true t p q f b = let z : true ≡ false = f in cc
     by Least false t p q f b = let z : true ≡ false = sym b ∙ p in cc
     by Greatest true t p q f b = not_both i j p b
@@ -122,7 +129,8 @@ beats_not side i j e b = by side (int_lt i j) (int_lt j i) refl refl e b
 
 wins : (side : Side) (i j : ℤ) → Beats side i j → int_cmp i j ≡ wanted side
 wins Least i j e = cond-true (int_lt i j) Less (cond (int_lt j i) Above Equal) e
-wins Greatest i j e = cond-false (int_lt i j) Less (cond (int_lt j i) Above Equal) (no_less i j (λ f. not_both i j f e)) ∙ cond-true (int_lt j i) Above Equal e
+wins Greatest i j e = cond-false (int_lt i j) Less (cond (int_lt j i) Above Equal)
+    (no_less i j (λ f. not_both i j f e)) ∙ cond-true (int_lt j i) Above Equal e
 
 better_wanted : (side : Side) → is_better side (wanted side) ≡ true
 better_wanted Least = refl
@@ -143,7 +151,8 @@ record Found (side : Side) (vs : List Value) (y : Value) (j : ℤ) : Type 0 wher
   before : Every (Worse side j) front
   behind : Every (NoBetter side j) back
 
-next_found : (side : Side) (vs : List Value) (x y : Value) (i j : ℤ) → Found side vs y j → number_of x ≡ Some i → (b : Bool) → is_better side (int_cmp i j) ≡ b → Found side (vs ++ x ∷ []) (cond b x y) (cond b i j)
+next_found : (side : Side) (vs : List Value) (x y : Value) (i j : ℤ) → Found side vs y j → number_of x ≡ Some i →
+    (b : Bool) → is_better side (int_cmp i j) ≡ b → Found side (vs ++ x ∷ []) (cond b x y) (cond b i j)
 next_found side vs x y i j f e true t =
     let win = beats_is side i j t in
     record {
@@ -152,8 +161,13 @@ next_found side vs x y i j f e true t =
       is = ap (λ l. l ++ x ∷ []) f.is;
       number = e;
       before =
-          every_and (Worse side i) f.front (y ∷ f.back) (every_weaken (Worse side j) (Worse side i) (λ z w. (w.0, w.1, beats_then side i j w.0 win w.2)) f.front f.before)
-          ((j, f.number, win), every_weaken (NoBetter side j) (Worse side i) (λ z w. (w.0, w.1, beats_mixed side i j w.0 win w.2)) f.back f.behind);
+          every_and (Worse side i) f.front (y ∷ f.back)
+          (every_weaken (Worse side j) (Worse side i) (λ z w. (w.0, w.1, beats_then side i j w.0 win w.2)) f.front
+          f.before) (
+            (j, f.number, win),
+            every_weaken (NoBetter side j) (Worse side i)
+                (λ z w. (w.0, w.1, beats_mixed side i j w.0 win w.2)) f.back f.behind,
+          );
       behind = tt;
     }
 next_found side vs x y i j f e false t = record {
@@ -170,8 +184,11 @@ best_is h side vs y j f = record {
   front = f.front;
   back = f.back;
   is = f.is;
-  before = every_weaken (Worse side j) (λ z. IsBetter h side y z) (λ z w. ordered h y z j w.0 f.number w.1 ∙ ap Is (wins side j w.0 w.2)) f.front f.before;
-  behind = every_weaken (NoBetter side j) (λ z. IsBetter h side z y → ⊥) (λ z w b. w.2 (beats_is side w.0 j (of (int_cmp w.0 j) (sym (ordered h z y w.0 j w.1 f.number) ∙ b)))) f.back f.behind;
+  before = every_weaken (Worse side j) (λ z. IsBetter h side y z) (λ z w. ordered h y z j w.0 f.number w.1 ∙
+      ap Is (wins side j w.0 w.2)) f.front f.before;
+  behind = every_weaken (NoBetter side j) (λ z. IsBetter h side z y → ⊥)
+      (λ z w b. w.2 (beats_is side w.0 j (of (int_cmp w.0 j) (sym (ordered h z y w.0 j w.1 f.number) ∙ b)))) f.back
+      f.behind;
 }
   where
     of : (o : Ordering) → ◌≡◌ {A = Got Ordering} (Is o) (Is (wanted side)) → is_better side o ≡ true
@@ -183,34 +200,50 @@ module _ (S : Type 0) (rules : Rules) (h : Heap) (order1 : IsOrdered rules h) (s
   abbrev Chooses : List Value → Got Value → Type 0
   Chooses vs g = (y : Value) × (j : ℤ) × (g ≡ Is y) × Found side vs y j
 
-  turn_looks : (vs : List Value) (x y : Value) (i j : ℤ) → Found side vs y j → number_of x ≡ Some i → Looks {S = S} (Chooses (vs ++ x ∷ [])) (better_row side x y) h
+  turn_looks : (vs : List Value) (x y : Value) (i j : ℤ) → Found side vs y j → number_of x ≡ Some i →
+      Looks {S = S} (Chooses (vs ++ x ∷ [])) (better_row side x y) h
   unfolding better_row
   turn_looks vs x y i j f e =
       let c = int_cmp i j in
-      looks_then (λ g. g ≡ order h x y) (Chooses (vs ++ x ∷ [])) (order_row x y) (λ g. Ret (better side y x g)) h (nest.order_looks S rules h x y order1 (number_item h x i e) (number_item h y j f.number))
-      (λ g q. looks_ret S (Chooses (vs ++ x ∷ [])) (better side y x g) h
-      (cond (is_better side c) x y, cond (is_better side c) i j, ap (better side y x) (q ∙ ordered h x y i j e f.number), next_found side vs x y i j f e (is_better side c) refl))
+      looks_then (λ g. g ≡ order h x y) (Chooses (vs ++ x ∷ [])) (order_row x y) (λ g. Ret (better side y x g)) h
+      (nest.order_looks S rules h x y order1 (number_item h x i e) (number_item h y j f.number))
+      (λ g q. looks_ret S (Chooses (vs ++ x ∷ [])) (better side y x g) h (
+        cond (is_better side c) x y,
+        cond (is_better side c) i j,
+        ap (better side y x) (q ∙ ordered h x y i j e f.number),
+        next_found side vs x y i j f e (is_better side c) refl,
+      ))
 
-  turns_look : (first : Value) (vs xs ys : List Value) (i : ℕ) (y : Value) (j : ℤ) → vs ≡ xs ++ ys → length xs ≡ i → Found side (first ∷ xs) y j → Every (IsNumber h) ys
-      → Looks {S = S} (GivesBest h side (first ∷ vs)) (each_row (λ i best. better_row side (value_at vs i) best) i (length ys) y) h
+  turns_look : (first : Value) (vs xs ys : List Value) (i : ℕ) (y : Value) (j : ℤ) → vs ≡ xs ++ ys → length xs ≡ i →
+      Found side (first ∷ xs) y j → Every (IsNumber h) ys
+      → Looks {S = S} (GivesBest h side (first ∷ vs))
+      (each_row (λ i best. better_row side (value_at vs i) best) i (length ys) y) h
   unfolding each_row
   turns_look first vs xs [] i y j e l f ns =
       let same : first ∷ xs ≡ first ∷ vs = ap (λ zs. first ∷ zs) (sym (append-nil xs) ∙ sym e) in
-      looks_ret S (GivesBest h side (first ∷ vs)) (Is y) h (y, refl, best_is h side (first ∷ vs) y j (subst (λ zs. Found side zs y j) same f))
+      looks_ret S (GivesBest h side (first ∷ vs)) (Is y) h
+      (y, refl, best_is h side (first ∷ vs) y j (subst (λ zs. Found side zs y j) same f))
   turns_look first vs xs (x ∷ ys) i y j e l f ns =
       let turn : ℕ → Value → Row S (Got Value) = λ i best. better_row side (value_at vs i) best in
-      let here : value_at vs i ≡ x = ap (λ zs. value_at zs i) e ∙ (ap (value_at (xs ++ x ∷ ys)) (sym l) ∙ get_or-append_seam xs x ys Unset) in
+      let here : value_at vs i ≡ x = ap (λ zs. value_at zs i) e ∙
+      (ap (value_at (xs ++ x ∷ ys)) (sym l) ∙ get_or-append_seam xs x ys Unset) in
       let one : Looks {S = S} (Chooses (first ∷ xs ++ x ∷ [])) (turn i y) h =
-      subst (λ z. Looks {S = S} (Chooses (first ∷ xs ++ x ∷ [])) (better_row side z y) h) (sym here) (turn_looks (first ∷ xs) x y ns.0.0 j f ns.0.1)
+      subst (λ z. Looks {S = S} (Chooses (first ∷ xs ++ x ∷ [])) (better_row side z y) h) (sym here)
+      (turn_looks (first ∷ xs) x y ns.0.0 j f ns.0.1)
       in
-      looks_then (Chooses (first ∷ xs ++ x ∷ [])) (GivesBest h side (first ∷ vs)) (turn i y) (got_row (each_row turn (i + 1) (length ys))) h one
-      (λ g q. subst (λ z. Looks {S = S} (GivesBest h side (first ∷ vs)) (got_row (each_row turn (i + 1) (length ys)) z) h) (sym q.2)
-      (turns_look first vs (xs ++ x ∷ []) ys (i + 1) q.0 q.1 (e ∙ sym (append_assoc xs (x ∷ []) ys)) (length-append xs (x ∷ []) ∙ ap (λ n. n + 1) l) q.3 ns.1))
+      looks_then (Chooses (first ∷ xs ++ x ∷ [])) (GivesBest h side (first ∷ vs)) (turn i y)
+      (got_row (each_row turn (i + 1) (length ys))) h one
+      (λ g q. subst (λ z. Looks {S = S} (GivesBest h side (first ∷ vs)) (got_row (each_row turn (i + 1) (length ys)) z)
+      h) (sym q.2)
+      (turns_look first vs (xs ++ x ∷ []) ys (i + 1) q.0 q.1 (e ∙ sym (append_assoc xs (x ∷ []) ys))
+      (length-append xs (x ∷ []) ∙ ap (λ n. n + 1) l) q.3 ns.1))
 
-  best_looks : (x : Value) (xs : List Value) → Every (IsNumber h) (x ∷ xs) → Looks {S = S} (GivesBest h side (x ∷ xs)) (best_of side (x ∷ xs)) h
+  best_looks : (x : Value) (xs : List Value) → Every (IsNumber h) (x ∷ xs) →
+      Looks {S = S} (GivesBest h side (x ∷ xs)) (best_of side (x ∷ xs)) h
   unfolding best_of best_from
   best_looks x xs ns =
-      turns_look x xs [] xs 0 x ns.0.0 refl refl (record { front = []; back = []; is = refl; number = ns.0.1; before = tt; behind = tt }) ns.1
+      turns_look x xs [] xs 0 x ns.0.0 refl refl
+      (record { front = []; back = []; is = refl; number = ns.0.1; before = tt; behind = tt }) ns.1
 
 pub best_law : (S : Type 0) (rules : Rules) → BestLaw S rules
 unfolding function_row later_row best_row best_by

@@ -42,7 +42,8 @@ use Rattle.obj_builtins.specs.Input.{input_row}
 use Rattle.obj_builtins.proofs.InputHolds.{input_holds, input_calm}
 
 -- what the crates below show of their rows
-module _ {S : Type 0} (rules : Rules) (stands : Heap → S → Type 0) (functions : FunctionsHold rules stands) (methods : MethodsHold rules stands) (strings : StrHolds rules stands) (threads : ThreadsHold rules stands) where
+module _ {S : Type 0} (rules : Rules) (stands : Heap → S → Type 0) (functions : FunctionsHold rules stands)
+    (methods : MethodsHold rules stands) (strings : StrHolds rules stands) (threads : ThreadsHold rules stands) where
   module _ (roots : ℕ) where
     abbrev IsGood : Got Answer → Heap → Type 0
     IsGood = IsGot (IsCalled roots)
@@ -56,7 +57,8 @@ module _ {S : Type 0} (rules : Rules) (stands : Heap → S → Type 0) (function
     wrong_kind_holds : (h : Heap) → Holds rules stands IsGood (Ret (Raise operand_fault)) h
     wrong_kind_holds h = raise_holds operand_fault h (lit< tt, lit< tt, tt)
 
-    cond_holds : (b : Bool) (p q : Row S (Got Answer)) (h : Heap) → Holds rules stands IsGood p h → Holds rules stands IsGood q h → Holds rules stands IsGood (cond b p q) h
+    cond_holds : (b : Bool) (p q : Row S (Got Answer)) (h : Heap) → Holds rules stands IsGood p h →
+        Holds rules stands IsGood q h → Holds rules stands IsGood (cond b p q) h
     cond_holds true p q h i j = i
     cond_holds false p q h i j = j
 
@@ -65,51 +67,74 @@ module _ {S : Type 0} (rules : Rules) (stands : Heap → S → Type 0) (function
     got_holds (Is x) h i = holds_ret rules stands IsGood (answered x) h i
     got_holds (Raise e) h i = raise_holds e h i
 
-    valued_holds : (row : Row S (Got Value)) (h : Heap) → IsOrdered rules h → Holds rules stands IsAnswer row h → Holds rules stands IsGood (bind row (λ g. Ret (valued g))) h
-    valued_holds row h order i = holds_bind rules stands IsAnswer IsGood row (λ g. Ret (valued g)) h order i (λ g h1 order1 x j. got_holds g h1 j)
+    valued_holds : (row : Row S (Got Value)) (h : Heap) → IsOrdered rules h → Holds rules stands IsAnswer row h →
+        Holds rules stands IsGood (bind row (λ g. Ret (valued g))) h
+    valued_holds row h order i = holds_bind rules stands IsAnswer IsGood row (λ g. Ret (valued g)) h order i
+        (λ g h1 order1 x j. got_holds g h1 j)
 
-    module _ (h : Heap) (order : IsOrdered rules h) (is_roots : IsRoots h roots) (args keys : List Value) (items : Every (IsItem h) args) where
+    module _ (h : Heap) (order : IsOrdered rules h) (is_roots : IsRoots h roots) (args keys : List Value)
+        (items : Every (IsItem h) args) where
       -- ---- methods
-      by_holds : (m a : ℕ) (r : Rec) → h a ≡ Some r → (k : Kind) → k ≡ r.kind → Holds rules stands IsGood (method_by m a args k) h
+      by_holds : (m a : ℕ) (r : Rec) → h a ≡ Some r → (k : Kind) → k ≡ r.kind →
+          Holds rules stands IsGood (method_by m a args k) h
       unfolding method_by str_call list_call dict_call
-      by_holds m a r e Str f = valued_holds (method_row m a args) h order (strings.method h m a args order (subst (λ o. KindIn o (λ k. k ≡ Str)) (sym e) (sym f)) items)
-      by_holds m a r e ListKind f = valued_holds (list_method_row m a args) h order (methods.list_method h m a args order (subst (λ o. KindIn o (λ k. k ≡ ListKind)) (sym e) (sym f)) items)
-      by_holds m a r e Dict f = valued_holds (dict_method_row m a args) h order (methods.dict_method h m a args order (subst (λ o. KindIn o (λ k. k ≡ Dict)) (sym e) (sym f)) items)
+      by_holds m a r e Str f = valued_holds (method_row m a args) h order
+          (strings.method h m a args order (subst (λ o. KindIn o (λ k. k ≡ Str)) (sym e) (sym f)) items)
+      by_holds m a r e ListKind f = valued_holds (list_method_row m a args) h order
+          (methods.list_method h m a args order (subst (λ o. KindIn o (λ k. k ≡ ListKind)) (sym e) (sym f)) items)
+      by_holds m a r e Dict f = valued_holds (dict_method_row m a args) h order
+          (methods.dict_method h m a args order (subst (λ o. KindIn o (λ k. k ≡ Dict)) (sym e) (sym f)) items)
       by_holds m a r e _ f = wrong_kind_holds h
 
-      of_holds : (m a : ℕ) (r : Rec) → h a ≡ Some r → (k : Kind) → k ≡ r.kind → Holds rules stands IsGood (method_of m a args keys k) h
+      of_holds : (m a : ℕ) (r : Rec) → h a ≡ Some r → (k : Kind) → k ≡ r.kind →
+          Holds rules stands IsGood (method_of m a args keys k) h
       unfolding method_of method_keyed
       of_holds m a r e k f =
-          cond_holds (is_method_of k m) (method_keyed m a args keys k) (Ret (Raise operand_fault)) h (cond_holds (length keys == 0) (method_by m a args k) (Ret (Raise argument_fault)) h (by_holds m a r e k f) (wrong_holds h)) (wrong_kind_holds h)
+          cond_holds (is_method_of k m) (method_keyed m a args keys k) (Ret (Raise operand_fault)) h
+          (cond_holds (length keys == 0) (method_by m a args k) (Ret (Raise argument_fault)) h
+          (by_holds m a r e k f) (wrong_holds h)) (wrong_kind_holds h)
 
       object_holds : (m : ℕ) (own : Value) → Refers h own → Holds rules stands IsGood (object_row m own args keys) h
       unfolding object_row method_at
       object_holds m (Ref a) there =
           let r = some_of (h a.0) there in
-          holds_looks rules stands IsGood (λ k. k ≡ r.0.kind) (kind_row a.0) (λ k. method_of m a.0 args keys k) h order (kind_looks S h a.0 r.0 r.1) (of_holds m a.0 r.0 r.1)
+          holds_looks rules stands IsGood (λ k. k ≡ r.0.kind) (kind_row a.0) (λ k. method_of m a.0 args keys k) h order
+          (kind_looks S h a.0 r.0 r.1) (of_holds m a.0 r.0 r.1)
       object_holds m _ there = wrong_kind_holds h
 
       -- ---- functions
       function_holds : (b : ℕ) → Holds rules stands IsGood (function_keyed roots b args keys) h
       unfolding function_keyed function_call
-      function_holds b = cond_holds (length keys == 0) (function_call roots b args) (Ret (Raise argument_fault)) h (valued_holds (function_row roots b args) h order (functions.function h roots b args order is_roots items)) (wrong_holds h)
+      function_holds b = cond_holds (length keys == 0) (function_call roots b args) (Ret (Raise argument_fault)) h
+          (valued_holds (function_row roots b args) h order (functions.function h roots b args order is_roots items))
+          (wrong_holds h)
 
       keyed_input_holds : Holds rules stands IsGood (input_keyed roots args keys) h
       unfolding input_keyed input_call
-      keyed_input_holds = cond_holds (length keys == 0) (input_call roots args) (Ret (Raise argument_fault)) h (valued_holds (input_row roots args) h order (input_holds rules stands strings h roots args order is_roots items)) (wrong_holds h)
+      keyed_input_holds = cond_holds (length keys == 0) (input_call roots args) (Ret (Raise argument_fault)) h
+          (valued_holds (input_row roots args) h order
+          (input_holds rules stands strings h roots args order is_roots items)) (wrong_holds h)
 
       -- ---- all
-      any_holds : (me : Option ℕ) (b : ℕ) (own : Value) → Refers h own → Every (IsItem h) keys → Holds rules stands IsGood (call_row roots me b own args keys) h
+      any_holds : (me : Option ℕ) (b : ℕ) (own : Value) → Refers h own → Every (IsItem h) keys →
+          Holds rules stands IsGood (call_row roots me b own args keys) h
       unfolding call_row other_row
       any_holds me b own there named =
           cond_holds (is_object_method b) (object_row b own args keys) _ h (object_holds b own there)
-          (cond_holds (is_function b) (function_keyed roots b args keys) (other_row roots me b own args keys) h (function_holds b)
-          (cond_holds (b == builtin_number (codes "raw_input")) (input_keyed roots args keys) (thread_call_row roots me b own args keys) h keyed_input_holds (threads.call h roots me b own args keys order is_roots there items named)))
+          (cond_holds (is_function b) (function_keyed roots b args keys) (other_row roots me b own args keys) h
+          (function_holds b)
+          (cond_holds (b == builtin_number (codes "raw_input")) (input_keyed roots args keys)
+          (thread_call_row roots me b own args keys) h keyed_input_holds
+          (threads.call h roots me b own args keys order is_roots there items named)))
 
   pub call_holds : CallHolds rules stands
-  call_holds = record { call = λ h roots me b own args keys order is_roots there items named. any_holds roots h order is_roots args keys items me b own there named }
+  call_holds = record {
+    call = λ h roots me b own args keys order is_roots there items named.
+        any_holds roots h order is_roots args keys items me b own there named;
+  }
 
-module _ (S : Type 0) (functions : FunctionsSteady S) (methods : MethodsSteady S) (strings : StrSteady S) (threads : ThreadsSteady S) where
+module _ (S : Type 0) (functions : FunctionsSteady S) (methods : MethodsSteady S) (strings : StrSteady S)
+    (threads : ThreadsSteady S) where
   cond_steady : {A : Type 0} (b : Bool) (p q : Row S A) → Steady false p → Steady false q → Steady false (cond b p q)
   cond_steady true p q i j = i
   cond_steady false p q i j = j
@@ -130,20 +155,29 @@ module _ (S : Type 0) (functions : FunctionsSteady S) (methods : MethodsSteady S
   of_steady : (m a : ℕ) (args keys : List Value) (k : Kind) → Steady {S = S} false (method_of m a args keys k)
   unfolding method_of method_keyed
   of_steady m a args keys k =
-      cond_steady (is_method_of k m) (method_keyed m a args keys k) (Ret (Raise operand_fault)) (cond_steady (length keys == 0) (method_by m a args k) (Ret (Raise argument_fault)) (by_steady m a args k) (ret_steady _)) (ret_steady _)
+      cond_steady (is_method_of k m) (method_keyed m a args keys k) (Ret (Raise operand_fault))
+      (cond_steady (length keys == 0) (method_by m a args k) (Ret (Raise argument_fault)) (by_steady m a args k)
+      (ret_steady _)) (ret_steady _)
 
   object_steady : (m : ℕ) (own : Value) (args keys : List Value) → Steady {S = S} false (object_row m own args keys)
   unfolding object_row method_at
-  object_steady m (Ref a) args keys = looks_steady (kind_row a.0) (λ k. method_of m a.0 args keys k) (only_kind S a.0) (of_steady m a.0 args keys)
+  object_steady m (Ref a) args keys = looks_steady (kind_row a.0) (λ k. method_of m a.0 args keys k) (only_kind S a.0)
+      (of_steady m a.0 args keys)
   object_steady m _ args keys = ret_steady _
 
-  any_steady : (roots : ℕ) (me : Option ℕ) (b : ℕ) (own : Value) (args keys : List Value) → Steady {S = S} false (call_row roots me b own args keys)
+  any_steady : (roots : ℕ) (me : Option ℕ) (b : ℕ) (own : Value) (args keys : List Value) →
+      Steady {S = S} false (call_row roots me b own args keys)
   unfolding call_row other_row function_keyed function_call input_keyed input_call
   any_steady roots me b own args keys =
       cond_steady (is_object_method b) (object_row b own args keys) _ (object_steady b own args keys)
-      (cond_steady (is_function b) (function_keyed roots b args keys) (other_row roots me b own args keys) (cond_steady (length keys == 0) (function_call roots b args) (Ret (Raise argument_fault)) (valued_steady (function_row roots b args) (functions.function roots b args)) (ret_steady _))
-      (cond_steady (b == builtin_number (codes "raw_input")) (input_keyed roots args keys) (thread_call_row roots me b own args keys)
-      (cond_steady (length keys == 0) (input_call roots args) (Ret (Raise argument_fault)) (valued_steady (input_row roots args) (input_calm S roots args false)) (ret_steady _)) (threads.call roots me b own args keys)))
+      (cond_steady (is_function b) (function_keyed roots b args keys) (other_row roots me b own args keys)
+      (cond_steady (length keys == 0) (function_call roots b args) (Ret (Raise argument_fault))
+      (valued_steady (function_row roots b args) (functions.function roots b args)) (ret_steady _))
+      (cond_steady (b == builtin_number (codes "raw_input")) (input_keyed roots args keys)
+      (thread_call_row roots me b own args keys)
+      (cond_steady (length keys == 0) (input_call roots args) (Ret (Raise argument_fault))
+      (valued_steady (input_row roots args) (input_calm S roots args false)) (ret_steady _))
+      (threads.call roots me b own args keys)))
 
   pub call_steady : CallSteady S
   call_steady = record { call = any_steady }

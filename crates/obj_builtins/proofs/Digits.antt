@@ -14,7 +14,8 @@ wide_below (suc m) l f = omega (arith, l, f)
 wide_above : (n : ℕ) → 9_223_372_036_854_775_808 < n → mag (pos n) < 9_223_372_036_854_775_808 → ⊥
 wide_above n l f = omega (arith, l, f)
 
-pub wide_value : (negative : Bool) (n : ℕ) → 9_223_372_036_854_775_808 < n → narrowed (with_sign negative n) ≡ Raise overflow_fault
+pub wide_value : (negative : Bool) (n : ℕ) → 9_223_372_036_854_775_808 < n →
+    narrowed (with_sign negative n) ≡ Raise overflow_fault
 wide_value true n l = too_wide (neg_ℤ (pos n)) (wide_below n l)
 wide_value false n l = too_wide (pos n) (wide_above n l)
 

@@ -46,7 +46,8 @@ unfolding form_row form_at IsForm
 form_looks S h (Ref a) i =
     let r = some_of (h a.0) i in
     looks_then (λ k. k ≡ r.0.kind) (IsForm h) (kind_row a.0) (λ k. Ret (form_of k a)) h (kind_looks S h a.0 r.0 r.1)
-    (λ k e. looks_ret S (IsForm h) (form_of k a) h (form_good h k a (subst (λ z. KindIn (h a.0) (λ q. q ≡ z)) (sym e) (kind_here (h a.0) r.0 r.1))))
+    (λ k e. looks_ret S (IsForm h) (form_of k a) h
+    (form_good h k a (subst (λ z. KindIn (h a.0) (λ q. q ≡ z)) (sym e) (kind_here (h a.0) r.0 r.1))))
 form_looks S h Unset i = looks_ret S (IsForm h) Other h tt
 form_looks S h NoneValue i = looks_ret S (IsForm h) Other h tt
 form_looks S h (BoolValue b) i = looks_ret S (IsForm h) (Truth b) h tt
@@ -61,12 +62,16 @@ refers_at h (v ∷ vs) zero e = e.0
 refers_at h (v ∷ vs) (suc i) e = refers_at h vs i e.1
 
 -- what only looks and answers well holds
-pub answer_holds : {S : Type 0} (rules : Rules) (stands : Heap → S → Type 0) (row : Row S (Got Value)) (h : Heap) → Looks (λ g. IsAnswer g h) row h → Holds rules stands IsAnswer row h
-answer_holds rules stands row h i = holds_weaken rules stands (λ g h1. (h1 ≡ h) × IsAnswer g h) IsAnswer (λ g h1 t. subst (λ z. IsAnswer g z) (sym t.0) t.1) row h (looks_held rules stands (λ g. IsAnswer g h) h row i)
+pub answer_holds : {S : Type 0} (rules : Rules) (stands : Heap → S → Type 0) (row : Row S (Got Value)) (h : Heap) →
+    Looks (λ g. IsAnswer g h) row h → Holds rules stands IsAnswer row h
+answer_holds rules stands row h i = holds_weaken rules stands (λ g h1. (h1 ≡ h) × IsAnswer g h) IsAnswer
+    (λ g h1 t. subst (λ z. IsAnswer g z) (sym t.0) t.1) row h (looks_held rules stands (λ g. IsAnswer g h) h row i)
 
 -- what the record at an address is, by its kind
-pub form_is : (S : Type 0) (h : Heap) (a : ℕ) (r : Rec) → h a ≡ Some r → Looks {S = S} (λ f. f ≡ form_of r.kind (record { 0 = a })) (form_row (ref a)) h
+pub form_is : (S : Type 0) (h : Heap) (a : ℕ) (r : Rec) → h a ≡ Some r →
+    Looks {S = S} (λ f. f ≡ form_of r.kind (record { 0 = a })) (form_row (ref a)) h
 unfolding form_row form_at
 form_is S h a r e =
     let p : Form → Type 0 = λ f. f ≡ form_of r.kind (record { 0 = a }) in
-    looks_then (λ k. k ≡ r.kind) p (kind_row a) (λ k. Ret (form_of k (record { 0 = a }))) h (kind_looks S h a r e) (λ k q. looks_ret S p (form_of k (record { 0 = a })) h (ap (λ k. form_of k (record { 0 = a })) q))
+    looks_then (λ k. k ≡ r.kind) p (kind_row a) (λ k. Ret (form_of k (record { 0 = a }))) h (kind_looks S h a r e)
+    (λ k q. looks_ret S p (form_of k (record { 0 = a })) h (ap (λ k. form_of k (record { 0 = a })) q))

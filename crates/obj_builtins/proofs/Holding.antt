@@ -77,21 +77,25 @@ use Rattle.obj_builtins.proofs.Told.{IsAny, AreSoMany, told_looks, sorted_holds}
 -- ---- lists of items
 numbers_items : (h : Heap) (start step : ℤ) (n : ℕ) → Every (IsItem h) (numbers start step n)
 numbers_items h start step zero = tt
-numbers_items h start step (suc n) = every_and (IsItem h) (numbers start step n) (Int (range_item start step n) ∷ []) (numbers_items h start step n) (int_item h (range_item start step n), tt)
+numbers_items h start step (suc n) = every_and (IsItem h) (numbers start step n) (Int (range_item start step n) ∷ [])
+    (numbers_items h start step n) (int_item h (range_item start step n), tt)
 
 pub numbers_count : (start step : ℤ) (n : ℕ) → length (numbers start step n) ≡ n
 numbers_count start step zero = refl
-numbers_count start step (suc n) = omega (arith, length-append (numbers start step n) (Int (range_item start step n) ∷ []), numbers_count start step n)
+numbers_count start step (suc n) = omega
+    (arith, length-append (numbers start step n) (Int (range_item start step n) ∷ []), numbers_count start step n)
 
 pub not_zero : (z : ℤ) → int_eq z (pos 0) ≡ false → z ≢ pos 0
-not_zero z e q = let t : int_eq z (pos 0) ≡ true = ap (λ y. int_eq y (pos 0)) q in let f : true ≡ false = sym t ∙ e in cc
+not_zero z e q = let t : int_eq z (pos 0) ≡ true = ap (λ y. int_eq y (pos 0)) q in let f : true ≡ false = sym t ∙ e in
+    cc
 
 only_good : (h : Heap) (args : List Value) → Every (IsItem h) args → IfSome (only args) (IsItem h)
 only_good h [] i = tt
 only_good h (x ∷ []) i = i.0
 only_good h (x ∷ y ∷ zs) i = tt
 
-both_good : (h : Heap) (args : List Value) → Every (IsItem h) args → IfSome (both args) (λ p. IsItem h p.0 × IsItem h p.1)
+both_good : (h : Heap) (args : List Value) → Every (IsItem h) args →
+    IfSome (both args) (λ p. IsItem h p.0 × IsItem h p.1)
 both_good h [] i = tt
 both_good h (x ∷ []) i = tt
 both_good h (x ∷ y ∷ []) i = (i.0, i.1.0)
@@ -122,7 +126,8 @@ module _ (h : Heap) where
   unfolding signed_number
   signed_good text negative ds = by (is_numeral ds)
     where
-      by : (b : Bool) → IsAnswer (cond b (narrowed (with_sign negative (value_after 0 ds))) (Raise (literal_fault text))) h
+      by : (b : Bool) → IsAnswer (cond b (narrowed (with_sign negative (value_after 0 ds)))
+          (Raise (literal_fault text))) h
       by true = narrowed_good (with_sign negative (value_after 0 ds))
       by false = (lit< tt, lit< tt, tt)
 
@@ -134,8 +139,10 @@ module _ (h : Heap) where
   unfolding stripped_number
   stripped_good text [] = (lit< tt, lit< tt, tt)
   stripped_good text (b ∷ bs) =
-      cond_good (b == 45) (signed_number text true bs) (cond (b == 43) (signed_number text false bs) (signed_number text false (b ∷ bs))) (signed_good text true bs)
-      (cond_good (b == 43) (signed_number text false bs) (signed_number text false (b ∷ bs)) (signed_good text false bs) (signed_good text false (b ∷ bs)))
+      cond_good (b == 45) (signed_number text true bs)
+      (cond (b == 43) (signed_number text false bs) (signed_number text false (b ∷ bs))) (signed_good text true bs)
+      (cond_good (b == 43) (signed_number text false bs) (signed_number text false (b ∷ bs))
+      (signed_good text false bs) (signed_good text false (b ∷ bs)))
 
   absolute_good : (o : Option ℤ) → IsAnswer (absolute_in o) h
   unfolding absolute_in absolute
@@ -165,7 +172,8 @@ module _ (h : Heap) where
   summed_good n [] = tt
   summed_good n (x ∷ xs) = by (added n (number_of x)) (added_good n (number_of x)) (λ m. summed_good m xs)
     where
-      by : (g : Got ℤ) → IsGot IsAny g h → ((m : ℤ) → IsGot IsAny (summed m xs) h) → IsGot IsAny (got_then g (λ m. summed m xs)) h
+      by : (g : Got ℤ) → IsGot IsAny g h → ((m : ℤ) → IsGot IsAny (summed m xs) h) →
+          IsGot IsAny (got_then g (λ m. summed m xs)) h
       by (Is m) i more = more m
       by (Raise e) i more = i
 
@@ -173,7 +181,8 @@ module _ (h : Heap) where
   sum_good (Is n) i = int_item h n
   sum_good (Raise e) i = i
 
-  better_good : (side : Side) (best x : Value) (g : Got _) → IsItem h best → IsItem h x → IsGot IsAny g h → IsAnswer (better side best x g) h
+  better_good : (side : Side) (best x : Value) (g : Got _) → IsItem h best → IsItem h x → IsGot IsAny g h →
+      IsAnswer (better side best x g) h
   better_good side best x (Is o) i j k = by (is_better side o)
     where
       by : (b : Bool) → IsItem h (cond b x best)
@@ -195,7 +204,8 @@ module _ {S : Type 0} (rules : Rules) (stands : Heap → S → Type 0) where
   answers : (g : Got Value) (h : Heap) → IsAnswer g h → Good (Ret g) h
   answers g h i = holds_ret rules stands IsAnswer g h i
 
-  got_holds : {A : Type 0} (p : A → Heap → Type 0) (f : A → Row S (Got Value)) (g : Got A) (h : Heap) → IsGot p g h → ((a : A) → p a h → Good (f a) h) → Good (got_row f g) h
+  got_holds : {A : Type 0} (p : A → Heap → Type 0) (f : A → Row S (Got Value)) (g : Got A) (h : Heap) → IsGot p g h →
+      ((a : A) → p a h → Good (f a) h) → Good (got_row f g) h
   got_holds p f (Is a) h i n = n a i
   got_holds p f (Raise e) h i n = raises e h i
 
@@ -204,19 +214,27 @@ module _ {S : Type 0} (rules : Rules) (stands : Heap → S → Type 0) where
   cond_holds false p q h s t = t
 
   -- a form comes first, which takes looks alone
-  formed : (x : Value) (f : Form → Row S (Got Value)) (h : Heap) → IsOrdered rules h → IsItem h x → ((k : Form) → IsForm h k → Good (f k) h) → Good (bind (form_row x) f) h
+  formed : (x : Value) (f : Form → Row S (Got Value)) (h : Heap) → IsOrdered rules h → IsItem h x →
+      ((k : Form) → IsForm h k → Good (f k) h) → Good (bind (form_row x) f) h
   formed x f h order i n = holds_looks rules stands IsAnswer (IsForm h) (form_row x) f h order (form_looks S h x i.0) n
 
   -- all items of a value come first
-  gathers : (x : Value) (f : List Value → Row S (Got Value)) (h : Heap) → IsOrdered rules h → IsItem h x → ((vs : List Value) (h1 : Heap) → IsOrdered rules h1 → AreItems vs h1 → Good (f vs) h1) → Good (bind (gather_row x) (got_row f)) h
-  gathers x f h order i n = holds_bind rules stands (IsGot AreItems) IsAnswer (gather_row x) (got_row f) h order (gather_holds rules stands h x order i) (λ g h1 order1 y t. got_holds AreItems f g h1 t (λ vs is. n vs h1 order1 is))
+  gathers : (x : Value) (f : List Value → Row S (Got Value)) (h : Heap) → IsOrdered rules h → IsItem h x →
+      ((vs : List Value) (h1 : Heap) → IsOrdered rules h1 → AreItems vs h1 → Good (f vs) h1) →
+      Good (bind (gather_row x) (got_row f)) h
+  gathers x f h order i n = holds_bind rules stands (IsGot AreItems) IsAnswer (gather_row x) (got_row f) h order
+      (gather_holds rules stands h x order i)
+      (λ g h1 order1 y t. got_holds AreItems f g h1 t (λ vs is. n vs h1 order1 is))
 
   -- ---- new records
-  makes : (k : Kind) (vs : List Value) (h : Heap) → ((a : ℕ) → FitsAt rules h a (new_rec k vs [])) → Good (made_row k vs) h
+  makes : (k : Kind) (vs : List Value) (h : Heap) → ((a : ℕ) → FitsAt rules h a (new_rec k vs [])) →
+      Good (made_row k vs) h
   unfolding made_row
-  makes k vs h fit = holds_make rules stands IsAnswer (new_rec k vs []) (λ a. Ret (Is (Ref (record { 0 = a })))) h fit (λ a h1 order x f item. answers (Is (Ref (record { 0 = a }))) h1 item)
+  makes k vs h fit = holds_make rules stands IsAnswer (new_rec k vs []) (λ a. Ret (Is (Ref (record { 0 = a })))) h fit
+      (λ a h1 order x f item. answers (Is (Ref (record { 0 = a }))) h1 item)
 
-  news : (k : Kind) (n : ℕ) (vs : List Value) (h : Heap) → IsSequenceKind k → Every (IsItem h) vs → length vs ≡ n → Good (new_items k n vs) h
+  news : (k : Kind) (n : ℕ) (vs : List Value) (h : Heap) → IsSequenceKind k → Every (IsItem h) vs → length vs ≡ n →
+      Good (new_items k n vs) h
   unfolding new_items
   news k n vs h s i l = by (leb n LENGTH_LIMIT) refl
     where
@@ -226,7 +244,9 @@ module _ {S : Type 0} (rules : Rules) (stands : Heap → S → Type 0) where
 
   empty_dict : (h : Heap) → Good (made_row Dict []) h
   empty_dict h =
-      makes Dict [] h (λ a. made_fits rules h a Dict [] [] (λ e. let q : Dict ≡ Class = e in cc) (λ e. let q : Dict ≡ Function = e in cc) (λ e. let q : Dict ≡ Cell = e in cc) tt (tt, tt) refl (omega arith) (omega arith))
+      makes Dict [] h (λ a. made_fits rules h a Dict [] [] (λ e. let q : Dict ≡ Class = e in cc)
+      (λ e. let q : Dict ≡ Function = e in cc) (λ e. let q : Dict ≡ Cell = e in cc) tt (tt, tt) refl (omega arith)
+      (omega arith))
 
   -- ---- len
   len_holds : (o : Option Value) (h : Heap) → IfSome o (IsItem h) → Good (len_row o) h
@@ -238,18 +258,24 @@ module _ {S : Type 0} (rules : Rules) (stands : Heap → S → Type 0) where
   range_holds : (o : Option Bounds) (h : Heap) → Good (range_row o) h
   unfolding range_row numbers_within numbers_made
   range_holds (Some b) h =
-      cond_holds (int_eq b.step (pos 0)) (Ret (Raise step_fault)) (new_items ListKind (count_in b) (numbers b.start b.step (count_in b))) h (raises step_fault h (lit< tt, lit< tt, tt))
-      (news ListKind (count_in b) (numbers b.start b.step (count_in b)) h tt (numbers_items h b.start b.step (count_in b)) (numbers_count b.start b.step (count_in b)))
+      cond_holds (int_eq b.step (pos 0)) (Ret (Raise step_fault))
+      (new_items ListKind (count_in b) (numbers b.start b.step (count_in b))) h
+      (raises step_fault h (lit< tt, lit< tt, tt))
+      (news ListKind (count_in b) (numbers b.start b.step (count_in b)) h tt
+      (numbers_items h b.start b.step (count_in b)) (numbers_count b.start b.step (count_in b)))
   range_holds None h = wrong h
 
   new_range : (b : Bounds) (h : Heap) → b.step ≢ pos 0 → Good (range_made b) h
   unfolding range_made
   new_range b h s = by (is_counted (count_in b)) refl
     where
-      by : (t : Bool) → is_counted (count_in b) ≡ t → Good (cond t (made_row Range (range_values b)) (Ret (Raise overflow_fault))) h
+      by : (t : Bool) → is_counted (count_in b) ≡ t →
+          Good (cond t (made_row Range (range_values b)) (Ret (Raise overflow_fault))) h
       by true e =
           makes Range (range_values b) h
-          (λ a. made_fits rules h a Range (range_values b) [] (λ e. let q : Range ≡ Class = e in cc) (λ e. let q : Range ≡ Function = e in cc) (λ e. let q : Range ≡ Cell = e in cc) (int_item h b.start, (int_item h b.stop, (int_item h b.step, tt)))
+          (λ a. made_fits rules h a Range (range_values b) [] (λ e. let q : Range ≡ Class = e in cc)
+          (λ e. let q : Range ≡ Function = e in cc) (λ e. let q : Range ≡ Cell = e in cc)
+          (int_item h b.start, (int_item h b.stop, (int_item h b.step, tt)))
           (s, leb-true (count_in b) 9_223_372_036_854_775_807 e) refl (omega arith) (omega arith))
       by false e = raises overflow_fault h (lit< tt, lit< tt, tt)
 
@@ -268,7 +294,9 @@ module _ {S : Type 0} (rules : Rules) (stands : Heap → S → Type 0) where
   read_holds a h i =
       let t = is_at h Str a i in
       answer_holds rules stands (bind (bytes_row a) (λ bs. Ret (text_number bs))) h
-      (looks_then (λ bs. bs ≡ t.rec.bytes) (λ g. IsAnswer g h) (bytes_row a) (λ bs. Ret (text_number bs)) h (bytes_looks S h a t.rec t.here) (λ bs e. looks_ret S (λ g. IsAnswer g h) (text_number bs) h (stripped_good h bs (strip bs))))
+      (looks_then (λ bs. bs ≡ t.rec.bytes) (λ g. IsAnswer g h) (bytes_row a) (λ bs. Ret (text_number bs)) h
+      (bytes_looks S h a t.rec t.here)
+      (λ bs e. looks_ret S (λ g. IsAnswer g h) (text_number bs) h (stripped_good h bs (strip bs))))
 
   int_of_holds : (f : Form) (h : Heap) → IsForm h f → Good (int_of f) h
   unfolding int_of IsForm
@@ -287,7 +315,8 @@ module _ {S : Type 0} (rules : Rules) (stands : Heap → S → Type 0) where
   unfolding bool_row bool_alone IsFew
   bool_holds Nothing h order i = answers (Is (BoolValue false)) h (bool_item h false)
   bool_holds (One x) h order i =
-      holds_looks rules stands IsAnswer (λ z. z ≡ truth h x) (truth_row x) (λ b. Ret (Is (BoolValue b))) h order (truth_looks S rules h x order i) (λ b e. answers (Is (BoolValue b)) h (bool_item h b))
+      holds_looks rules stands IsAnswer (λ z. z ≡ truth h x) (truth_row x) (λ b. Ret (Is (BoolValue b))) h order
+      (truth_looks S rules h x order i) (λ b e. answers (Is (BoolValue b)) h (bool_item h b))
   bool_holds Many h order i = wrong h
 
   abs_holds : (o : Option Value) (h : Heap) → Good (abs_row o) h
@@ -309,24 +338,30 @@ module _ {S : Type 0} (rules : Rules) (stands : Heap → S → Type 0) where
   chr_holds o h order = letter_of_holds (number_in o) h order
 
   -- ---- str, repr, ord
-  written_holds : (roots : ℕ) (x : Value) (quoted : Bool) (h : Heap) → IsOrdered rules h → IsRoots h roots → IsItem h x → Good (written_row roots x quoted) h
+  written_holds : (roots : ℕ) (x : Value) (quoted : Bool) (h : Heap) → IsOrdered rules h → IsRoots h roots →
+      IsItem h x → Good (written_row roots x quoted) h
   unfolding written_row
   written_holds roots x quoted h order known i =
-      holds_looks rules stands IsAnswer (λ g. IsGot IsAny g h) (told_row roots x quoted) (got_row new_text) h order (told_looks S rules h order roots x quoted known i)
+      holds_looks rules stands IsAnswer (λ g. IsGot IsAny g h) (told_row roots x quoted) (got_row new_text) h order
+      (told_looks S rules h order roots x quoted known i)
       (λ g t. got_holds IsAny new_text g h t (λ bs u. new_text_holds rules stands h bs order))
 
-  str_of_holds : (roots : ℕ) (x : Value) (f : Form) (h : Heap) → IsOrdered rules h → IsRoots h roots → IsItem h x → Good (str_of roots x f) h
+  str_of_holds : (roots : ℕ) (x : Value) (f : Form) (h : Heap) → IsOrdered rules h → IsRoots h roots → IsItem h x →
+      Good (str_of roots x f) h
   unfolding str_of
   str_of_holds roots x (Text a) h order known i = answers (Is x) h i
   str_of_holds roots x f h order known i = written_holds roots x false h order known i
 
-  str_row_holds : (roots : ℕ) (args : Few) (h : Heap) → IsOrdered rules h → IsRoots h roots → IsFew h args → Good (str_row roots args) h
+  str_row_holds : (roots : ℕ) (args : Few) (h : Heap) → IsOrdered rules h → IsRoots h roots → IsFew h args →
+      Good (str_row roots args) h
   unfolding str_row str_alone IsFew
   str_row_holds roots Nothing h order known i = new_text_holds rules stands h [] order
-  str_row_holds roots (One x) h order known i = formed x (λ f. str_of roots x f) h order i (λ k t. str_of_holds roots x k h order known i)
+  str_row_holds roots (One x) h order known i =
+      formed x (λ f. str_of roots x f) h order i (λ k t. str_of_holds roots x k h order known i)
   str_row_holds roots Many h order known i = wrong h
 
-  repr_holds : (roots : ℕ) (o : Option Value) (h : Heap) → IsOrdered rules h → IsRoots h roots → IfSome o (IsItem h) → Good (repr_row roots o) h
+  repr_holds : (roots : ℕ) (o : Option Value) (h : Heap) → IsOrdered rules h → IsRoots h roots → IfSome o (IsItem h) →
+      Good (repr_row roots o) h
   unfolding repr_row
   repr_holds roots (Some x) h order known i = written_holds roots x true h order known i
   repr_holds roots None h order known i = wrong h
@@ -336,7 +371,8 @@ module _ {S : Type 0} (rules : Rules) (stands : Heap → S → Type 0) where
   byte_holds a h i =
       let t = is_at h Str a i in
       answer_holds rules stands (bind (bytes_row a) (λ bs. Ret (byte_value bs))) h
-      (looks_then (λ bs. bs ≡ t.rec.bytes) (λ g. IsAnswer g h) (bytes_row a) (λ bs. Ret (byte_value bs)) h (bytes_looks S h a t.rec t.here) (λ bs e. looks_ret S (λ g. IsAnswer g h) (byte_value bs) h (byte_good h bs)))
+      (looks_then (λ bs. bs ≡ t.rec.bytes) (λ g. IsAnswer g h) (bytes_row a) (λ bs. Ret (byte_value bs)) h
+      (bytes_looks S h a t.rec t.here) (λ bs e. looks_ret S (λ g. IsAnswer g h) (byte_value bs) h (byte_good h bs)))
 
   ord_of_holds : (f : Form) (h : Heap) → IsForm h f → Good (ord_of f) h
   unfolding ord_of IsForm
@@ -349,11 +385,13 @@ module _ {S : Type 0} (rules : Rules) (stands : Heap → S → Type 0) where
   ord_holds None h order i = wrong h
 
   -- ---- list, tuple, dict, sorted
-  items_hold : (k : Kind) (vs : List Value) (h : Heap) → IsSequenceKind k → Every (IsItem h) vs → Good (items_made k vs) h
+  items_hold : (k : Kind) (vs : List Value) (h : Heap) → IsSequenceKind k → Every (IsItem h) vs →
+      Good (items_made k vs) h
   unfolding items_made
   items_hold k vs h s i = news k (length vs) vs h s i refl
 
-  gathered_holds : (k : Kind) (x : Value) (h : Heap) → IsOrdered rules h → IsSequenceKind k → IsItem h x → Good (gathered_row k x) h
+  gathered_holds : (k : Kind) (x : Value) (h : Heap) → IsOrdered rules h → IsSequenceKind k → IsItem h x →
+      Good (gathered_row k x) h
   unfolding gathered_row
   gathered_holds k x h order s i = gathers x (items_made k) h order i (λ vs h1 order1 is. items_hold k vs h1 s is.0)
 
@@ -383,56 +421,73 @@ module _ {S : Type 0} (rules : Rules) (stands : Heap → S → Type 0) where
   sorted_items_hold : (vs : List Value) (h : Heap) → IsOrdered rules h → Every (IsItem h) vs → Good (sorted_items vs) h
   unfolding sorted_items
   sorted_items_hold vs h order i =
-      holds_bind rules stands (IsGot (AreSoMany (length vs))) IsAnswer (sorted_row vs) (got_row (items_made ListKind)) h order (sorted_holds rules stands h vs order i)
-      (λ g h1 order1 x t. got_holds (AreSoMany (length vs)) (items_made ListKind) g h1 t (λ ws is. items_hold ListKind ws h1 tt is.0))
+      holds_bind rules stands (IsGot (AreSoMany (length vs))) IsAnswer (sorted_row vs) (got_row (items_made ListKind))
+      h order (sorted_holds rules stands h vs order i)
+      (λ g h1 order1 x t. got_holds (AreSoMany (length vs)) (items_made ListKind) g h1 t
+      (λ ws is. items_hold ListKind ws h1 tt is.0))
 
   sorted_by_holds : (o : Option Value) (h : Heap) → IsOrdered rules h → IfSome o (IsItem h) → Good (sorted_by o) h
   unfolding sorted_by sorted_alone
-  sorted_by_holds (Some x) h order i = gathers x sorted_items h order i (λ vs h1 order1 is. sorted_items_hold vs h1 order1 is.0)
+  sorted_by_holds (Some x) h order i = gathers x sorted_items h order i
+      (λ vs h1 order1 is. sorted_items_hold vs h1 order1 is.0)
   sorted_by_holds None h order i = wrong h
 
   -- ---- isinstance
-  isinstance_holds : (roots : ℕ) (o : Option (Value × Value)) (h : Heap) → IsOrdered rules h → IsRoots h roots → IfSome o (λ p. IsItem h p.0 × IsItem h p.1) → Good (isinstance_row roots o) h
-  isinstance_holds roots o h order known i = answer_holds rules stands (isinstance_row roots o) h (isinstance_tells S rules h order roots known o i)
+  isinstance_holds : (roots : ℕ) (o : Option (Value × Value)) (h : Heap) → IsOrdered rules h → IsRoots h roots →
+      IfSome o (λ p. IsItem h p.0 × IsItem h p.1) → Good (isinstance_row roots o) h
+  isinstance_holds roots o h order known i =
+      answer_holds rules stands (isinstance_row roots o) h (isinstance_tells S rules h order roots known o i)
 
   -- ---- min, max
-  better_holds : (side : Side) (x best : Value) (h : Heap) → IsOrdered rules h → IsItem h x → IsItem h best → Good (better_row side x best) h
+  better_holds : (side : Side) (x best : Value) (h : Heap) → IsOrdered rules h → IsItem h x → IsItem h best →
+      Good (better_row side x best) h
   unfolding better_row
   better_holds side x best h order i j =
-      holds_looks rules stands IsAnswer (λ g. IsGot IsAny g h) (order_row x best) (λ g. Ret (better side best x g)) h order (order_looks S rules h order x best i j)
+      holds_looks rules stands IsAnswer (λ g. IsGot IsAny g h) (order_row x best) (λ g. Ret (better side best x g)) h
+      order (order_looks S rules h order x best i j)
       (λ g t. answers (better side best x g) h (better_good h side best x g j i t))
 
-  turns_hold : (side : Side) (vs : List Value) (m i : ℕ) (best : Value) (h : Heap) → IsOrdered rules h → Every (IsItem h) vs → i + m ≤ length vs → IsItem h best → Good (each_row (λ i best. better_row side (value_at vs i) best) i m best) h
+  turns_hold : (side : Side) (vs : List Value) (m i : ℕ) (best : Value) (h : Heap) → IsOrdered rules h →
+      Every (IsItem h) vs → i + m ≤ length vs → IsItem h best →
+      Good (each_row (λ i best. better_row side (value_at vs i) best) i m best) h
   unfolding each_row
   turns_hold side vs zero i best h order is l j = answers (Is best) h j
   turns_hold side vs (suc m) i best h order is l j =
       let f : ℕ → Value → Row S (Got Value) = λ i best. better_row side (value_at vs i) best in
-      holds_bind rules stands IsAnswer IsAnswer (f i best) (got_row (each_row f (i + 1) m)) h order (better_holds side (value_at vs i) best h order (item_at h vs i (omega (arith, l)) is) j)
-      (λ g h1 order1 x t. got_holds (λ v h. IsItem h v) (each_row f (i + 1) m) g h1 t (λ b k. turns_hold side vs m (i + 1) b h1 order1 (items_stay h h1 x vs is) (omega (arith, l)) k))
+      holds_bind rules stands IsAnswer IsAnswer (f i best) (got_row (each_row f (i + 1) m)) h order
+      (better_holds side (value_at vs i) best h order (item_at h vs i (omega (arith, l)) is) j)
+      (λ g h1 order1 x t. got_holds (λ v h. IsItem h v) (each_row f (i + 1) m) g h1 t
+      (λ b k. turns_hold side vs m (i + 1) b h1 order1 (items_stay h h1 x vs is) (omega (arith, l)) k))
 
-  best_holds : (side : Side) (vs : List Value) (h : Heap) → IsOrdered rules h → Every (IsItem h) vs → Good (best_of side vs) h
+  best_holds : (side : Side) (vs : List Value) (h : Heap) → IsOrdered rules h → Every (IsItem h) vs →
+      Good (best_of side vs) h
   unfolding best_of best_from
   best_holds side [] h order i = raises sequence_fault h (lit< tt, lit< tt, tt)
   best_holds side (x ∷ xs) h order i = turns_hold side xs (length xs) 0 x h order i.1 (omega arith) i.0
 
-  best_by_holds : (side : Side) (args : List Value) (n : Few) (h : Heap) → IsOrdered rules h → Every (IsItem h) args → IsFew h n → Good (best_by side args n) h
+  best_by_holds : (side : Side) (args : List Value) (n : Few) (h : Heap) → IsOrdered rules h → Every (IsItem h) args →
+      IsFew h n → Good (best_by side args n) h
   unfolding best_by best_in IsFew
   best_by_holds side args Nothing h order i j = wrong h
-  best_by_holds side args (One x) h order i j = gathers x (best_of side) h order j (λ vs h1 order1 is. best_holds side vs h1 order1 is.0)
+  best_by_holds side args (One x) h order i j =
+      gathers x (best_of side) h order j (λ vs h1 order1 is. best_holds side vs h1 order1 is.0)
   best_by_holds side args Many h order i j = best_holds side args h order i
 
-  best_row_holds : (side : Side) (args : List Value) (h : Heap) → IsOrdered rules h → Every (IsItem h) args → Good (best_row side args) h
+  best_row_holds : (side : Side) (args : List Value) (h : Heap) → IsOrdered rules h → Every (IsItem h) args →
+      Good (best_row side args) h
   unfolding best_row
   best_row_holds side args h order i = best_by_holds side args (few args) h order i (few_good h args i)
 
   -- ---- sum
   sum_holds : (o : Option Value) (h : Heap) → IsOrdered rules h → IfSome o (IsItem h) → Good (sum_row o) h
   unfolding sum_row sum_alone sum_items
-  sum_holds (Some x) h order i = gathers x (λ vs. Ret (sum_value vs)) h order i (λ vs h1 order1 is. answers (sum_value vs) h1 (sum_good h1 (summed (pos 0) vs) (summed_good h1 (pos 0) vs)))
+  sum_holds (Some x) h order i = gathers x (λ vs. Ret (sum_value vs)) h order i
+      (λ vs h1 order1 is. answers (sum_value vs) h1 (sum_good h1 (summed (pos 0) vs) (summed_good h1 (pos 0) vs)))
   sum_holds None h order i = wrong h
 
   -- ---- all
-  module _ (h : Heap) (order : IsOrdered rules h) (roots : ℕ) (known : IsRoots h roots) (b : ℕ) (args : List Value) (i : Every (IsItem h) args) where
+  module _ (h : Heap) (order : IsOrdered rules h) (roots : ℕ) (known : IsRoots h roots) (b : ℕ) (args : List Value)
+      (i : Every (IsItem h) args) where
     -- from the last one on
     abbrev from_sorted : Row S (Got Value)
     from_sorted = cond (b == builtin_number (codes "sorted")) (sorted_by (only args)) (Ret (Raise operand_fault))
@@ -460,22 +515,29 @@ module _ {S : Type 0} (rules : Rules) (stands : Heap → S → Type 0) where
 
     max_holds : Good from_max h
     max_holds =
-        cond_holds (b == builtin_number (codes "max")) (best_row Greatest args) from_sum h (best_row_holds Greatest args h order i)
-        (cond_holds (b == builtin_number (codes "sum")) (sum_row (only args)) from_sorted h (sum_holds (only args) h order (only_good h args i))
-        (cond_holds (b == builtin_number (codes "sorted")) (sorted_by (only args)) (Ret (Raise operand_fault)) h (sorted_by_holds (only args) h order (only_good h args i)) (raises operand_fault h (lit< tt, lit< tt, tt))))
+        cond_holds (b == builtin_number (codes "max")) (best_row Greatest args) from_sum h
+        (best_row_holds Greatest args h order i)
+        (cond_holds (b == builtin_number (codes "sum")) (sum_row (only args)) from_sorted h
+        (sum_holds (only args) h order (only_good h args i))
+        (cond_holds (b == builtin_number (codes "sorted")) (sorted_by (only args)) (Ret (Raise operand_fault)) h
+        (sorted_by_holds (only args) h order (only_good h args i)) (raises operand_fault h (lit< tt, lit< tt, tt))))
 
     ord_on_holds : Good from_ord h
     ord_on_holds =
-        cond_holds (b == builtin_number (codes "ord")) (ord_row (only args)) from_chr h (ord_holds (only args) h order (only_good h args i))
+        cond_holds (b == builtin_number (codes "ord")) (ord_row (only args)) from_chr h
+        (ord_holds (only args) h order (only_good h args i))
         (cond_holds (b == builtin_number (codes "chr")) (chr_row (only args)) from_abs h (chr_holds (only args) h order)
         (cond_holds (b == builtin_number (codes "abs")) (abs_row (only args)) from_min h (abs_holds (only args) h)
-        (cond_holds (b == builtin_number (codes "min")) (best_row Least args) from_max h (best_row_holds Least args h order i) max_holds)))
+        (cond_holds (b == builtin_number (codes "min")) (best_row Least args) from_max h
+        (best_row_holds Least args h order i) max_holds)))
 
     later_holds : Good (later_row roots b args) h
     unfolding later_row
     later_holds =
-        cond_holds (b == builtin_number (codes "dict")) (dict_row (few args)) from_isinstance h (dict_holds (few args) h)
-        (cond_holds (b == builtin_number (codes "isinstance")) (isinstance_row roots (both args)) from_ord h (isinstance_holds roots (both args) h order known (both_good h args i)) ord_on_holds)
+        cond_holds (b == builtin_number (codes "dict")) (dict_row (few args)) from_isinstance h
+        (dict_holds (few args) h)
+        (cond_holds (b == builtin_number (codes "isinstance")) (isinstance_row roots (both args)) from_ord h
+        (isinstance_holds roots (both args) h order known (both_good h args i)) ord_on_holds)
 
     abbrev from_tuple : Row S (Got Value)
     from_tuple = cond (b == builtin_number (codes "tuple")) (tuple_row (few args)) (later_row roots b args)
@@ -503,19 +565,28 @@ module _ {S : Type 0} (rules : Rules) (stands : Heap → S → Type 0) where
 
     int_on_holds : Good from_int h
     int_on_holds =
-        cond_holds (b == builtin_number (codes "int")) (int_row (few args)) from_bool h (int_holds (few args) h order (few_good h args i))
-        (cond_holds (b == builtin_number (codes "bool")) (bool_row (few args)) from_list h (bool_holds (few args) h order (few_good h args i))
-        (cond_holds (b == builtin_number (codes "list")) (list_row (few args)) from_tuple h (list_holds (few args) h order (few_good h args i))
-        (cond_holds (b == builtin_number (codes "tuple")) (tuple_row (few args)) (later_row roots b args) h (tuple_holds (few args) h order (few_good h args i)) later_holds)))
+        cond_holds (b == builtin_number (codes "int")) (int_row (few args)) from_bool h
+        (int_holds (few args) h order (few_good h args i))
+        (cond_holds (b == builtin_number (codes "bool")) (bool_row (few args)) from_list h
+        (bool_holds (few args) h order (few_good h args i))
+        (cond_holds (b == builtin_number (codes "list")) (list_row (few args)) from_tuple h
+        (list_holds (few args) h order (few_good h args i))
+        (cond_holds (b == builtin_number (codes "tuple")) (tuple_row (few args)) (later_row roots b args) h
+        (tuple_holds (few args) h order (few_good h args i)) later_holds)))
 
     all_hold : Good (function_row roots b args) h
     unfolding function_row
     all_hold =
-        cond_holds (b == builtin_number (codes "len")) (len_row (only args)) from_range h (len_holds (only args) h (only_good h args i))
-        (cond_holds (b == builtin_number (codes "range")) (range_row (bounds_of args)) from_xrange h (range_holds (bounds_of args) h)
-        (cond_holds (b == builtin_number (codes "xrange")) (xrange_row (bounds_of args)) from_str h (xrange_holds (bounds_of args) h)
-        (cond_holds (b == builtin_number (codes "str")) (str_row roots (few args)) from_repr h (str_row_holds roots (few args) h order known (few_good h args i))
-        (cond_holds (b == builtin_number (codes "repr")) (repr_row roots (only args)) from_int h (repr_holds roots (only args) h order known (only_good h args i)) int_on_holds))))
+        cond_holds (b == builtin_number (codes "len")) (len_row (only args)) from_range h
+        (len_holds (only args) h (only_good h args i))
+        (cond_holds (b == builtin_number (codes "range")) (range_row (bounds_of args)) from_xrange h
+        (range_holds (bounds_of args) h)
+        (cond_holds (b == builtin_number (codes "xrange")) (xrange_row (bounds_of args)) from_str h
+        (xrange_holds (bounds_of args) h)
+        (cond_holds (b == builtin_number (codes "str")) (str_row roots (few args)) from_repr h
+        (str_row_holds roots (few args) h order known (few_good h args i))
+        (cond_holds (b == builtin_number (codes "repr")) (repr_row roots (only args)) from_int h
+        (repr_holds roots (only args) h order known (only_good h args i)) int_on_holds))))
 
   pub functions_hold : FunctionsHold rules stands
   functions_hold = record { function = λ h roots b args order known i. all_hold h order roots known b args i }

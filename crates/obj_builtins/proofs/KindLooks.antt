@@ -43,7 +43,8 @@ AreClasses cs h = Every (IsClass h) cs
 
 -- ---- what is asked for
 module _ (h : Heap) where
-  some_or : (b : Bool) (c : Class) (o : Option Class) → IsClass h c → IfSome o (IsClass h) → IfSome (cond b (Some c) o) (IsClass h)
+  some_or : (b : Bool) (c : Class) (o : Option Class) → IsClass h c → IfSome o (IsClass h) →
+      IfSome (cond b (Some c) o) (IsClass h)
   some_or true c o i j = i
   some_or false c o i j = j
 
@@ -79,7 +80,8 @@ module _ (h : Heap) where
   class_good (Named b) i = builtin_good b
   class_good f i = tt
 
-  with_good : (cs : List Class) (o : Option Class) → Every (IsClass h) cs → IfSome o (IsClass h) → IsGot AreClasses (with_class cs o) h
+  with_good : (cs : List Class) (o : Option Class) → Every (IsClass h) cs → IfSome o (IsClass h) →
+      IsGot AreClasses (with_class cs o) h
   with_good cs (Some c) i j = every_and (IsClass h) cs (c ∷ []) i (j, tt)
   with_good cs None i j = (lit< tt, lit< tt, tt)
 
@@ -97,27 +99,34 @@ module _ (S : Type 0) (rules : Rules) (h : Heap) (order : IsOrdered rules h) whe
       looks_then (λ x. x ≡ value_at r.values i) (IsForm h) (look_row a i) (λ x. form_row x) h (look_looks S h a r e i)
       (λ x q. form_looks S h x (subst (Refers h) (sym q) (refers_at h r.values i (order.each a r e).closed.refers)))
 
-  turn_looks : (a : ℕ) (r : Rec) → h a ≡ Some r → (i : ℕ) (cs : List Class) → Every (IsClass h) cs → Looks {S = S} Classes (class_turn a i cs) h
+  turn_looks : (a : ℕ) (r : Rec) → h a ≡ Some r → (i : ℕ) (cs : List Class) → Every (IsClass h) cs →
+      Looks {S = S} Classes (class_turn a i cs) h
   unfolding class_turn
   turn_looks a r e i cs good =
       looks_then (IsForm h) Classes (item_form a i) (λ f. Ret (with_class cs (class_of f))) h (item_looks a r e i)
       (λ f g. looks_ret S Classes (with_class cs (class_of f)) h (with_good h cs (class_of f) good (class_good h f g)))
 
-  got_looks : {B : Type 0} (q : Got B → Type 0) (f : List Class → Row S (Got B)) (g : Got (List Class)) → IsGot AreClasses g h → ((cs : List Class) → Every (IsClass h) cs → Looks q (f cs) h) → ((e : Fault) → IsFault h e → q (Raise e))
+  got_looks : {B : Type 0} (q : Got B → Type 0) (f : List Class → Row S (Got B)) (g : Got (List Class)) →
+      IsGot AreClasses g h → ((cs : List Class) → Every (IsClass h) cs → Looks q (f cs) h) →
+      ((e : Fault) → IsFault h e → q (Raise e))
       → Looks q (got_row f g) h
   got_looks q f (Is cs) i n m = n cs i
   got_looks q f (Raise e) i n m = looks_ret S q (Raise e) h (m e i)
 
-  turns_look : (a : ℕ) (r : Rec) → h a ≡ Some r → (m i : ℕ) (cs : List Class) → Every (IsClass h) cs → Looks {S = S} Classes (each_row (class_turn a) i m cs) h
+  turns_look : (a : ℕ) (r : Rec) → h a ≡ Some r → (m i : ℕ) (cs : List Class) → Every (IsClass h) cs →
+      Looks {S = S} Classes (each_row (class_turn a) i m cs) h
   unfolding each_row
   turns_look a r e zero i cs good = looks_ret S Classes (Is cs) h good
   turns_look a r e (suc m) i cs good =
-      looks_then Classes Classes (class_turn a i cs) (got_row (each_row (class_turn a) (i + 1) m)) h (turn_looks a r e i cs good)
-      (λ g t. got_looks Classes (each_row (class_turn a) (i + 1) m) g t (λ ds u. turns_look a r e m (i + 1) ds u) (λ x u. u))
+      looks_then Classes Classes (class_turn a i cs) (got_row (each_row (class_turn a) (i + 1) m)) h
+      (turn_looks a r e i cs good)
+      (λ g t. got_looks Classes (each_row (class_turn a) (i + 1) m) g t (λ ds u. turns_look a r e m (i + 1) ds u)
+      (λ x u. u))
 
   tuple_looks : (a : ℕ) (t : IsRecord h Tuple a) → Looks {S = S} Classes (classes_at a) h
   unfolding classes_at classes_in
-  tuple_looks a t = looks_then (λ n. n ≡ length t.rec.values) Classes (size_row a) (λ n. classes_in a n) h (size_looks S h a t.rec t.here) (λ n q. turns_look a t.rec t.here n 0 [] tt)
+  tuple_looks a t = looks_then (λ n. n ≡ length t.rec.values) Classes (size_row a) (λ n. classes_in a n) h
+      (size_looks S h a t.rec t.here) (λ n q. turns_look a t.rec t.here n 0 [] tt)
 
   classes_look : (f : Form) → IsForm h f → Looks {S = S} Classes (classes_row f) h
   unfolding classes_row IsForm
@@ -127,13 +136,16 @@ module _ (S : Type 0) (rules : Rules) (h : Heap) (order : IsOrdered rules h) whe
   classes_look (Text a) i = looks_ret S Classes (with_class [] None) h (with_good h [] None tt tt)
   classes_look ListOf i = looks_ret S Classes (with_class [] None) h (with_good h [] None tt tt)
   classes_look Pairs i = looks_ret S Classes (with_class [] None) h (with_good h [] None tt tt)
-  classes_look (ClassForm c) i = looks_ret S Classes (with_class [] (Some (Own c))) h (with_good h [] (Some (Own c)) tt (class_good h (ClassForm c) i))
+  classes_look (ClassForm c) i = looks_ret S Classes (with_class [] (Some (Own c))) h
+      (with_good h [] (Some (Own c)) tt (class_good h (ClassForm c) i))
   classes_look (Object a) i = looks_ret S Classes (with_class [] None) h (with_good h [] None tt tt)
-  classes_look (Named b) i = looks_ret S Classes (with_class [] (builtin_class b)) h (with_good h [] (builtin_class b) tt (builtin_good h b))
+  classes_look (Named b) i = looks_ret S Classes (with_class [] (builtin_class b)) h
+      (with_good h [] (builtin_class b) tt (builtin_good h b))
   classes_look Other i = looks_ret S Classes (with_class [] None) h (with_good h [] None tt tt)
 
   -- ---- whether a value is one
-  below_looks : (k : Value) (c : Addr) → RefTo h ClassKind k → Looks {S = S} (λ z. z ≡ is_below h c.0 MOST_BASES k) (below_row k c) h
+  below_looks : (k : Value) (c : Addr) → RefTo h ClassKind k →
+      Looks {S = S} (λ z. z ≡ is_below h c.0 MOST_BASES k) (below_row k c) h
   unfolding below_row
   below_looks (Ref k) c i = sub_looks S rules h order k.0 c.0 i
   below_looks Unset c i = absurd i
@@ -142,19 +154,22 @@ module _ (S : Type 0) (rules : Rules) (h : Heap) (order : IsOrdered rules h) whe
   below_looks (Int n) c i = absurd i
   below_looks (Builtin b) c i = absurd i
 
-  pub object_looks : (a : ℕ) (t : IsRecord h Instance a) (c : Addr) → Looks {S = S} (λ z. z ≡ is_below h c.0 MOST_BASES (value_at t.rec.values 0)) (object_below a c) h
+  pub object_looks : (a : ℕ) (t : IsRecord h Instance a) (c : Addr) →
+      Looks {S = S} (λ z. z ≡ is_below h c.0 MOST_BASES (value_at t.rec.values 0)) (object_below a c) h
   unfolding object_below
   object_looks a t c =
       let k = value_at t.rec.values 0 in
       let q : Bool → Type 0 = λ z. z ≡ is_below h c.0 MOST_BASES k in
       looks_then (λ x. x ≡ k) q (look_row a 0) (λ k. below_row k c) h (look_looks S h a t.rec t.here 0)
-      (λ x e. subst (λ z. Looks {S = S} q (below_row z c) h) (sym e) (below_looks k c (of_instance_at rules h order a t).0))
+      (λ x e. subst (λ z. Looks {S = S} q (below_row z c) h) (sym e)
+      (below_looks k c (of_instance_at rules h order a t).0))
 
   form_told_below : (f : Form) (c : Addr) → IsForm h f → Looks {S = S} Anything (form_below f c) h
   unfolding form_below IsForm
   form_told_below (Object a) c i =
       let t = is_at h Instance a.0 i in
-      looks_weaken (λ z. z ≡ is_below h c.0 MOST_BASES (value_at t.rec.values 0)) Anything (λ z e. tt) (object_below a.0 c) h (object_looks a.0 t c)
+      looks_weaken (λ z. z ≡ is_below h c.0 MOST_BASES (value_at t.rec.values 0)) Anything (λ z e. tt)
+      (object_below a.0 c) h (object_looks a.0 t c)
   form_told_below f c i = looks_ret S Anything false h tt
 
   own_test_looks : (f : Form) (c : Addr) (b : Bool) → IsForm h f → Looks {S = S} Anything (own_test f c b) h
@@ -169,7 +184,8 @@ module _ (S : Type 0) (rules : Rules) (h : Heap) (order : IsOrdered rules h) whe
     own_looks : (f : Form) (c : Addr) → IsForm h f → Looks {S = S} Anything (own_row roots f c) h
     unfolding own_row
     own_looks f c i =
-        looks_then (λ x. x ≡ value_at known.list.values OBJECT) Anything (look_row roots OBJECT) (λ o. own_test f c (is_ref o c)) h (look_looks S h roots known.list known.here OBJECT)
+        looks_then (λ x. x ≡ value_at known.list.values OBJECT) Anything (look_row roots OBJECT)
+        (λ o. own_test f c (is_ref o c)) h (look_looks S h roots known.list known.here OBJECT)
         (λ x q. own_test_looks f c (is_ref x c) i)
 
     class_looks : (f : Form) (c : Class) → IsForm h f → Looks {S = S} Anything (class_row roots f c) h
@@ -186,13 +202,16 @@ module _ (S : Type 0) (rules : Rules) (h : Heap) (order : IsOrdered rules h) whe
     cond_looks true p q s t = s
     cond_looks false p q s t = t
 
-    each_looks : (f : Form) (cs : List Class) → IsForm h f → (m i : ℕ) → Looks {S = S} Anything (until_row (λ i. class_row roots f (class_at cs i)) not false i m) h
+    each_looks : (f : Form) (cs : List Class) → IsForm h f → (m i : ℕ) →
+        Looks {S = S} Anything (until_row (λ i. class_row roots f (class_at cs i)) not false i m) h
     unfolding until_row
     each_looks f cs k zero i = looks_ret S Anything false h tt
     each_looks f cs k (suc m) i =
         let turn : ℕ → Row S Bool = λ i. class_row roots f (class_at cs i) in
-        looks_then Anything Anything (turn i) (λ b. cond (not b) (until_row turn not false (i + 1) m) (Ret b)) h (class_looks f (class_at cs i) k)
-        (λ b t. cond_looks (not b) (until_row turn not false (i + 1) m) (Ret b) (each_looks f cs k m (i + 1)) (looks_ret S Anything b h tt))
+        looks_then Anything Anything (turn i) (λ b. cond (not b) (until_row turn not false (i + 1) m) (Ret b)) h
+        (class_looks f (class_at cs i) k)
+        (λ b t. cond_looks (not b) (until_row turn not false (i + 1) m) (Ret b) (each_looks f cs k m (i + 1))
+        (looks_ret S Anything b h tt))
 
     abbrev Tells : Row S (Got Value) → Type 0
     Tells row = Looks (λ g. IsAnswer g h) row h
@@ -200,12 +219,14 @@ module _ (S : Type 0) (rules : Rules) (h : Heap) (order : IsOrdered rules h) whe
     form_tells : (cs : List Class) (f : Form) → IsForm h f → Tells (form_told roots cs f)
     unfolding form_told any_row
     form_tells cs f i =
-        looks_then Anything (λ g. IsAnswer g h) (any_row roots f cs) (λ b. Ret (Is (BoolValue b))) h (each_looks f cs i (length cs) 0)
+        looks_then Anything (λ g. IsAnswer g h) (any_row roots f cs) (λ b. Ret (Is (BoolValue b))) h
+        (each_looks f cs i (length cs) 0)
         (λ b t. looks_ret S (λ g. IsAnswer g h) (Is (BoolValue b)) h (bool_item h b))
 
     value_tells : (x : Value) (cs : List Class) → IsItem h x → Tells (value_told roots x cs)
     unfolding value_told
-    value_tells x cs i = looks_then (IsForm h) (λ g. IsAnswer g h) (form_row x) (λ f. form_told roots cs f) h (form_looks S h x i.0) (λ f k. form_tells cs f k)
+    value_tells x cs i = looks_then (IsForm h) (λ g. IsAnswer g h) (form_row x) (λ f. form_told roots cs f) h
+        (form_looks S h x i.0) (λ f k. form_tells cs f k)
 
     of_tells : (x : Value) (f : Form) → IsItem h x → IsForm h f → Tells (told_of roots x f)
     unfolding told_of
@@ -215,9 +236,11 @@ module _ (S : Type 0) (rules : Rules) (h : Heap) (order : IsOrdered rules h) whe
 
     by_tells : (x c : Value) → IsItem h x → IsItem h c → Tells (told_by roots x c)
     unfolding told_by
-    by_tells x c i j = looks_then (IsForm h) (λ g. IsAnswer g h) (form_row c) (λ f. told_of roots x f) h (form_looks S h c j.0) (λ f k. of_tells x f i k)
+    by_tells x c i j = looks_then (IsForm h) (λ g. IsAnswer g h) (form_row c) (λ f. told_of roots x f) h
+        (form_looks S h c j.0) (λ f k. of_tells x f i k)
 
-    pub isinstance_tells : (o : Option (Value × Value)) → IfSome o (λ p. IsItem h p.0 × IsItem h p.1) → Tells (isinstance_row roots o)
+    pub isinstance_tells : (o : Option (Value × Value)) → IfSome o (λ p. IsItem h p.0 × IsItem h p.1) →
+        Tells (isinstance_row roots o)
     unfolding isinstance_row
     isinstance_tells (Some p) i = by_tells p.0 p.1 i.0 i.1
     isinstance_tells None i = looks_ret S (λ g. IsAnswer g h) (Raise argument_fault) h (lit< tt, lit< tt, tt)

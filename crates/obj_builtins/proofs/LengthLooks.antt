@@ -30,35 +30,43 @@ module _ (S : Type 0) (h : Heap) where
   module _ (a : ℕ) (r : Rec) (e : h a ≡ Some r) where
     byte_count_looks : Looks {S = S} (λ n. n ≡ length r.bytes) (byte_count a) h
     unfolding byte_count
-    byte_count_looks = looks_read (λ n. n ≡ length r.bytes) a (λ r. Ret (length r.bytes)) h r e (looks_ret S (λ n. n ≡ length r.bytes) (length r.bytes) h refl)
+    byte_count_looks = looks_read (λ n. n ≡ length r.bytes) a (λ r. Ret (length r.bytes)) h r e
+        (looks_ret S (λ n. n ≡ length r.bytes) (length r.bytes) h refl)
 
     bytes_told : Told (bytes_length a)
     unfolding bytes_length
-    bytes_told = looks_then (λ n. n ≡ length r.bytes) (λ g. IsAnswer g h) (byte_count a) (λ n. Ret (Is (Int (pos n)))) h byte_count_looks (λ n q. looks_ret S (λ g. IsAnswer g h) (Is (Int (pos n))) h (int_item h (pos n)))
+    bytes_told = looks_then (λ n. n ≡ length r.bytes) (λ g. IsAnswer g h) (byte_count a) (λ n. Ret (Is (Int (pos n))))
+        h byte_count_looks (λ n q. looks_ret S (λ g. IsAnswer g h) (Is (Int (pos n))) h (int_item h (pos n)))
 
     items_told : Told (items_length a)
     unfolding items_length
-    items_told = looks_then (λ n. n ≡ length r.values) (λ g. IsAnswer g h) (size_row a) (λ n. Ret (Is (Int (pos n)))) h (size_looks S h a r e) (λ n q. looks_ret S (λ g. IsAnswer g h) (Is (Int (pos n))) h (int_item h (pos n)))
+    items_told = looks_then (λ n. n ≡ length r.values) (λ g. IsAnswer g h) (size_row a) (λ n. Ret (Is (Int (pos n)))) h
+        (size_looks S h a r e) (λ n q. looks_ret S (λ g. IsAnswer g h) (Is (Int (pos n))) h (int_item h (pos n)))
 
     pairs_told : Told (pairs_length a)
     unfolding pairs_length
     pairs_told =
-        looks_then (λ n. n ≡ length r.values) (λ g. IsAnswer g h) (size_row a) (λ n. Ret (Is (Int (pos (n / 2))))) h (size_looks S h a r e)
+        looks_then (λ n. n ≡ length r.values) (λ g. IsAnswer g h) (size_row a) (λ n. Ret (Is (Int (pos (n / 2))))) h
+        (size_looks S h a r e)
         (λ n q. looks_ret S (λ g. IsAnswer g h) (Is (Int (pos (n / 2)))) h (int_item h (pos (n / 2))))
 
     step_told : (start stop : Value) → Told (step_count a start stop)
     unfolding step_count
     step_told start stop =
-        looks_then (λ x. x ≡ value_at r.values 2) (λ g. IsAnswer g h) (look_row a 2) (λ step. Ret (counted (range_count start stop step))) h (look_looks S h a r e 2)
-        (λ x q. looks_ret S (λ g. IsAnswer g h) (counted (range_count start stop x)) h (counted_good (range_count start stop x)))
+        looks_then (λ x. x ≡ value_at r.values 2) (λ g. IsAnswer g h) (look_row a 2)
+        (λ step. Ret (counted (range_count start stop step))) h (look_looks S h a r e 2)
+        (λ x q. looks_ret S (λ g. IsAnswer g h) (counted (range_count start stop x)) h
+        (counted_good (range_count start stop x)))
 
     stop_told : (start : Value) → Told (stop_count a start)
     unfolding stop_count
-    stop_told start = looks_then (λ x. x ≡ value_at r.values 1) (λ g. IsAnswer g h) (look_row a 1) (λ stop. step_count a start stop) h (look_looks S h a r e 1) (λ x q. step_told start x)
+    stop_told start = looks_then (λ x. x ≡ value_at r.values 1) (λ g. IsAnswer g h) (look_row a 1)
+        (λ stop. step_count a start stop) h (look_looks S h a r e 1) (λ x q. step_told start x)
 
     numbers_told : Told (numbers_length a)
     unfolding numbers_length
-    numbers_told = looks_then (λ x. x ≡ value_at r.values 0) (λ g. IsAnswer g h) (look_row a 0) (λ start. stop_count a start) h (look_looks S h a r e 0) (λ x q. stop_told x)
+    numbers_told = looks_then (λ x. x ≡ value_at r.values 0) (λ g. IsAnswer g h) (look_row a 0)
+        (λ start. stop_count a start) h (look_looks S h a r e 0) (λ x q. stop_told x)
 
     kind_told : (k : Kind) → Told (length_by a k)
     unfolding length_by
@@ -71,7 +79,8 @@ module _ (S : Type 0) (h : Heap) where
 
     at_told : Told (length_at a)
     unfolding length_at
-    at_told = looks_then (λ k. k ≡ r.kind) (λ g. IsAnswer g h) (kind_row a) (λ k. length_by a k) h (kind_looks S h a r e) (λ k q. kind_told k)
+    at_told = looks_then (λ k. k ≡ r.kind) (λ g. IsAnswer g h) (kind_row a) (λ k. length_by a k) h
+        (kind_looks S h a r e) (λ k q. kind_told k)
 
   pub length_told : (x : Value) → IsItem h x → Told (length_row x)
   unfolding length_row

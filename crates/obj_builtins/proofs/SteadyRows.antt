@@ -69,7 +69,8 @@ module _ (S : Type 0) where
   formed x f n = bind_calm S (form_row x) f (form_calm x) n
 
   -- all items of a value come first
-  gathers : (x : Value) (f : List Value → Row S (Got Value)) → ((vs : List Value) → Calm (f vs)) → Steady false (bind (gather_row x) (got_row f))
+  gathers : (x : Value) (f : List Value → Row S (Got Value)) → ((vs : List Value) → Calm (f vs)) →
+      Steady false (bind (gather_row x) (got_row f))
   gathers x f n = bind_steady S false (gather_row x) (got_row f) (gather_steady S x) (got_calm S f n)
 
   -- ---- new records
@@ -91,7 +92,8 @@ module _ (S : Type 0) where
   numbers_calm a =
       bind_calm S (look_row a 0) (λ start. stop_count a start) (look_calm S a 0)
       (λ start. bind_calm S (look_row a 1) (λ stop. step_count a start stop) (look_calm S a 1)
-      (λ stop. bind_calm S (look_row a 2) (λ step. Ret (counted (range_count start stop step))) (look_calm S a 2) (λ step. ret_calm S _)))
+      (λ stop. bind_calm S (look_row a 2) (λ step. Ret (counted (range_count start stop step))) (look_calm S a 2)
+      (λ step. ret_calm S _)))
 
   length_calm : (a : ℕ) (k : Kind) → Calm {S = S} (length_by a k)
   unfolding length_by bytes_length items_length pairs_length
@@ -119,13 +121,17 @@ module _ (S : Type 0) where
   -- ---- ranges
   range_calm : (o : Option Bounds) → Calm {S = S} (range_row o)
   unfolding range_row numbers_within numbers_made
-  range_calm (Some b) = cond_calm S (int_eq b.step (pos 0)) (Ret (Raise step_fault)) (new_items ListKind (count_in b) (numbers b.start b.step (count_in b))) (ret_calm S _) (news ListKind (count_in b) (numbers b.start b.step (count_in b)))
+  range_calm (Some b) = cond_calm S (int_eq b.step (pos 0)) (Ret (Raise step_fault))
+      (new_items ListKind (count_in b) (numbers b.start b.step (count_in b))) (ret_calm S _)
+      (news ListKind (count_in b) (numbers b.start b.step (count_in b)))
   range_calm None = ret_calm S _
 
   xrange_calm : (o : Option Bounds) → Calm {S = S} (xrange_row o)
   unfolding xrange_row range_within range_made
   xrange_calm (Some b) =
-      cond_calm S (int_eq b.step (pos 0)) (Ret (Raise step_fault)) (range_made b) (ret_calm S _) (cond_calm S (is_counted (count_in b)) (made_row Range (range_values b)) (Ret (Raise overflow_fault)) (makes Range (range_values b)) (ret_calm S _))
+      cond_calm S (int_eq b.step (pos 0)) (Ret (Raise step_fault)) (range_made b) (ret_calm S _)
+      (cond_calm S (is_counted (count_in b)) (made_row Range (range_values b)) (Ret (Raise overflow_fault))
+      (makes Range (range_values b)) (ret_calm S _))
   xrange_calm None = ret_calm S _
 
   -- ---- numbers
@@ -133,7 +139,8 @@ module _ (S : Type 0) where
   unfolding int_of read_row
   int_of_calm (Number n) = ret_calm S _
   int_of_calm (Truth b) = ret_calm S _
-  int_of_calm (Text a) = bind_calm S (bytes_row a.0) (λ bs. Ret (text_number bs)) (bytes_calm S a.0) (λ bs. ret_calm S _)
+  int_of_calm (Text a) = bind_calm S (bytes_row a.0) (λ bs. Ret (text_number bs)) (bytes_calm S a.0)
+      (λ bs. ret_calm S _)
   int_of_calm f = ret_calm S _
 
   int_calm : (args : Few) → Calm {S = S} (int_row args)
@@ -169,7 +176,8 @@ module _ (S : Type 0) where
   -- ---- texts
   written_calm : (roots : ℕ) (x : Value) (quoted : Bool) → Calm {S = S} (written_row roots x quoted)
   unfolding written_row
-  written_calm roots x quoted = bind_calm S (told_row roots x quoted) (got_row new_text) (told_calm S roots x quoted) (got_calm S new_text (λ bs. new_text_calm S bs))
+  written_calm roots x quoted = bind_calm S (told_row roots x quoted) (got_row new_text) (told_calm S roots x quoted)
+      (got_calm S new_text (λ bs. new_text_calm S bs))
 
   str_of_calm : (roots : ℕ) (x : Value) (f : Form) → Calm {S = S} (str_of roots x f)
   unfolding str_of
@@ -218,7 +226,8 @@ module _ (S : Type 0) where
   tuple_of_steady x f = gathered_steady Tuple x
 
   -- what follows at most one look
-  after_form : (x : Value) (f : Form → Row S (Got Value)) → ((k : Form) → Steady {S = S} false (f k)) → Steady {S = S} false (bind (form_row x) f)
+  after_form : (x : Value) (f : Form → Row S (Got Value)) → ((k : Form) → Steady {S = S} false (f k)) →
+      Steady {S = S} false (bind (form_row x) f)
   unfolding form_row form_at kind_row bind Steady
   after_form (Ref a) f n = ((refl, tt), λ r. n (form_of r.kind a))
   after_form Unset f n = n _
@@ -241,7 +250,8 @@ module _ (S : Type 0) where
 
   sorted_items_calm : (vs : List Value) → Calm {S = S} (sorted_items vs)
   unfolding sorted_items
-  sorted_items_calm vs = bind_calm S (sorted_row vs) (got_row (items_made ListKind)) (sorted_calm S vs) (got_calm S (items_made ListKind) (items_calm ListKind))
+  sorted_items_calm vs = bind_calm S (sorted_row vs) (got_row (items_made ListKind)) (sorted_calm S vs)
+      (got_calm S (items_made ListKind) (items_calm ListKind))
 
   sorted_steady : (o : Option Value) → Steady {S = S} false (sorted_by o)
   unfolding sorted_by sorted_alone
@@ -249,7 +259,8 @@ module _ (S : Type 0) where
   sorted_steady None = ret_calm S _ false
 
   -- ---- isinstance
-  walk_calm : {A B : Type 0} (f : A → Row S (Result A B)) (end : B) → ((a : A) → Calm (f a)) → (m : ℕ) (a : A) → Calm (walk_row f end m a)
+  walk_calm : {A B : Type 0} (f : A → Row S (Result A B)) (end : B) → ((a : A) → Calm (f a)) → (m : ℕ) (a : A) →
+      Calm (walk_row f end m a)
   unfolding walk_row
   walk_calm f end n zero a = ret_calm S end
   walk_calm {A} {B} f end n (suc m) a = bind_calm S (f a) (walk_on (walk_row f end m)) (n a) (on (walk_calm f end n m))
@@ -261,7 +272,8 @@ module _ (S : Type 0) where
   step_calm : (base : ℕ) (v : Value) → Calm {S = S} (sub_step base v)
   unfolding sub_step base_step
   step_calm base (Ref c) =
-      cond_calm S (eqb c.0 base) (Ret (Err true)) (bind (look_row c.0 1) (λ b. Ret (Ok b))) (ret_calm S _) (bind_calm S (look_row c.0 1) (λ b. Ret (Ok b)) (look_calm S c.0 1) (λ b. ret_calm S _))
+      cond_calm S (eqb c.0 base) (Ret (Err true)) (bind (look_row c.0 1) (λ b. Ret (Ok b))) (ret_calm S _)
+      (bind_calm S (look_row c.0 1) (λ b. Ret (Ok b)) (look_calm S c.0 1) (λ b. ret_calm S _))
   step_calm base Unset = ret_calm S _
   step_calm base NoneValue = ret_calm S _
   step_calm base (BoolValue b) = ret_calm S _
@@ -279,7 +291,8 @@ module _ (S : Type 0) where
 
   form_below_calm : (f : Form) (c : Addr) → Calm {S = S} (form_below f c)
   unfolding form_below object_below
-  form_below_calm (Object a) c = bind_calm S (look_row a.0 0) (λ k. below_row k c) (look_calm S a.0 0) (λ k. below_calm k c)
+  form_below_calm (Object a) c = bind_calm S (look_row a.0 0) (λ k. below_row k c) (look_calm S a.0 0)
+      (λ k. below_calm k c)
   form_below_calm f c = ret_calm S _
 
   own_test_calm : (f : Form) (c : Addr) (b : Bool) → Calm {S = S} (own_test f c b)
@@ -290,7 +303,8 @@ module _ (S : Type 0) where
   class_calm : (roots : ℕ) (f : Form) (c : Class) → Calm {S = S} (class_row roots f c)
   unfolding class_row own_row
   class_calm roots f (Own c) =
-      bind_calm S (look_row roots (class_place (class_number (codes "object")))) (λ o. own_test f c (is_ref o c)) (look_calm S roots (class_place (class_number (codes "object")))) (λ o. own_test_calm f c (is_ref o c))
+      bind_calm S (look_row roots (class_place (class_number (codes "object")))) (λ o. own_test f c (is_ref o c))
+      (look_calm S roots (class_place (class_number (codes "object")))) (λ o. own_test_calm f c (is_ref o c))
   class_calm roots f Numbers = ret_calm S _
   class_calm roots f Truths = ret_calm S _
   class_calm roots f Texts = ret_calm S _
@@ -301,23 +315,29 @@ module _ (S : Type 0) where
   turn_calm : (a i : ℕ) (cs : List Class) → Calm {S = S} (class_turn a i cs)
   unfolding class_turn item_form
   turn_calm a i cs =
-      bind_calm S (bind (look_row a i) (λ x. form_row x)) (λ f. Ret (with_class cs (class_of f))) (bind_calm S (look_row a i) (λ x. form_row x) (look_calm S a i) form_calm) (λ f. ret_calm S _)
+      bind_calm S (bind (look_row a i) (λ x. form_row x)) (λ f. Ret (with_class cs (class_of f)))
+      (bind_calm S (look_row a i) (λ x. form_row x) (look_calm S a i) form_calm) (λ f. ret_calm S _)
 
   classes_calm : (f : Form) → Calm {S = S} (classes_row f)
   unfolding classes_row classes_at classes_in
-  classes_calm (Items a) = bind_calm S (size_row a.0) (λ n. classes_in a.0 n) (size_calm S a.0) (λ n. each_calm S (class_turn a.0) (turn_calm a.0) 0 n [])
+  classes_calm (Items a) = bind_calm S (size_row a.0) (λ n. classes_in a.0 n) (size_calm S a.0)
+      (λ n. each_calm S (class_turn a.0) (turn_calm a.0) 0 n [])
   classes_calm f = ret_calm S _
 
   told_calmly : (roots : ℕ) (x : Value) (cs : List Class) → Calm {S = S} (value_told roots x cs)
   unfolding value_told form_told any_row
   told_calmly roots x cs =
       formed x (λ f. form_told roots cs f)
-      (λ f. bind_calm S (any_row roots f cs) (λ b. Ret (Is (BoolValue b))) (until_calm S (λ i. class_row roots f (class_at cs i)) not false (λ i. class_calm roots f (class_at cs i)) 0 (length cs)) (λ b. ret_calm S _))
+      (λ f. bind_calm S (any_row roots f cs) (λ b. Ret (Is (BoolValue b)))
+      (until_calm S (λ i. class_row roots f (class_at cs i)) not false (λ i. class_calm roots f (class_at cs i)) 0
+      (length cs)) (λ b. ret_calm S _))
 
   isinstance_calm : (roots : ℕ) (o : Option (Value × Value)) → Calm {S = S} (isinstance_row roots o)
   unfolding isinstance_row told_by told_of
   isinstance_calm roots (Some p) =
-      formed p.1 (λ f. told_of roots p.0 f) (λ f. bind_calm S (classes_row f) (got_row (value_told roots p.0)) (classes_calm f) (got_calm S (value_told roots p.0) (told_calmly roots p.0)))
+      formed p.1 (λ f. told_of roots p.0 f)
+      (λ f. bind_calm S (classes_row f) (got_row (value_told roots p.0)) (classes_calm f)
+      (got_calm S (value_told roots p.0) (told_calmly roots p.0)))
   isinstance_calm roots None = ret_calm S _
 
   -- ---- min, max, sum
@@ -325,7 +345,9 @@ module _ (S : Type 0) where
   unfolding best_of best_from better_row
   best_calm side [] = ret_calm S _
   best_calm side (x ∷ xs) =
-      each_calm S (λ i best. better_row side (value_at xs i) best) (λ i best. bind_calm S (order_row (value_at xs i) best) (λ g. Ret (better side best (value_at xs i) g)) (order_calm S (value_at xs i) best) (λ g. ret_calm S _)) 0 (length xs) x
+      each_calm S (λ i best. better_row side (value_at xs i) best)
+      (λ i best. bind_calm S (order_row (value_at xs i) best) (λ g. Ret (better side best (value_at xs i) g))
+      (order_calm S (value_at xs i) best) (λ g. ret_calm S _)) 0 (length xs) x
 
   best_by_steady : (side : Side) (args : List Value) (n : Few) → Steady {S = S} false (best_by side args n)
   unfolding best_by best_in
@@ -377,14 +399,16 @@ module _ (S : Type 0) where
     unfolding later_row
     later_steady =
         either (b == builtin_number (codes "dict")) (dict_row (few args)) from_isinstance (dict_calm (few args) false)
-        (either (b == builtin_number (codes "isinstance")) (isinstance_row roots (both args)) from_ord (isinstance_calm roots (both args) false)
+        (either (b == builtin_number (codes "isinstance")) (isinstance_row roots (both args)) from_ord
+        (isinstance_calm roots (both args) false)
         (either (b == builtin_number (codes "ord")) (ord_row (only args)) from_chr (ord_calm (only args) false)
         (either (b == builtin_number (codes "chr")) (chr_row (only args)) from_abs (chr_calm (only args) false)
         (either (b == builtin_number (codes "abs")) (abs_row (only args)) from_min (abs_calm (only args) false)
         (either (b == builtin_number (codes "min")) (best_row Least args) from_max (best_steady Least args)
         (either (b == builtin_number (codes "max")) (best_row Greatest args) from_sum (best_steady Greatest args)
         (either (b == builtin_number (codes "sum")) (sum_row (only args)) from_sorted (sum_steady (only args))
-        (either (b == builtin_number (codes "sorted")) (sorted_by (only args)) (Ret (Raise operand_fault)) (sorted_steady (only args)) (ret_calm S _ false)))))))))
+        (either (b == builtin_number (codes "sorted")) (sorted_by (only args)) (Ret (Raise operand_fault))
+        (sorted_steady (only args)) (ret_calm S _ false)))))))))
 
     abbrev from_tuple : Row S (Got Value)
     from_tuple = cond (b == builtin_number (codes "tuple")) (tuple_row (few args)) (later_row roots b args)
@@ -414,14 +438,19 @@ module _ (S : Type 0) where
     unfolding function_row
     all_steady =
         either (b == builtin_number (codes "len")) (len_row (only args)) from_range (len_calm (only args) false)
-        (either (b == builtin_number (codes "range")) (range_row (bounds_of args)) from_xrange (range_calm (bounds_of args) false)
-        (either (b == builtin_number (codes "xrange")) (xrange_row (bounds_of args)) from_str (xrange_calm (bounds_of args) false)
-        (either (b == builtin_number (codes "str")) (str_row roots (few args)) from_repr (str_calm roots (few args) false)
-        (either (b == builtin_number (codes "repr")) (repr_row roots (only args)) from_int (repr_calm roots (only args) false)
+        (either (b == builtin_number (codes "range")) (range_row (bounds_of args)) from_xrange
+        (range_calm (bounds_of args) false)
+        (either (b == builtin_number (codes "xrange")) (xrange_row (bounds_of args)) from_str
+        (xrange_calm (bounds_of args) false)
+        (either (b == builtin_number (codes "str")) (str_row roots (few args)) from_repr
+        (str_calm roots (few args) false)
+        (either (b == builtin_number (codes "repr")) (repr_row roots (only args)) from_int
+        (repr_calm roots (only args) false)
         (either (b == builtin_number (codes "int")) (int_row (few args)) from_bool (int_calm (few args) false)
         (either (b == builtin_number (codes "bool")) (bool_row (few args)) from_list (bool_calm (few args) false)
         (either (b == builtin_number (codes "list")) (list_row (few args)) from_tuple (list_steady (few args))
-        (either (b == builtin_number (codes "tuple")) (tuple_row (few args)) (later_row roots b args) (tuple_steady (few args)) later_steady))))))))
+        (either (b == builtin_number (codes "tuple")) (tuple_row (few args)) (later_row roots b args)
+        (tuple_steady (few args)) later_steady))))))))
 
   pub functions_steady : FunctionsSteady S
   functions_steady = record { function = all_steady }

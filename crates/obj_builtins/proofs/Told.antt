@@ -17,8 +17,10 @@ pub use Rattle.obj_class.proofs.TellingCalm.{told_calm}
 pub use Rattle.obj_methods.specs.HoldsLaws.{AreSoMany}
 pub use Rattle.obj_ops.proofs.Nested.{IsAny}
 
-pub told_looks : (S : Type 0) (rules : Rules) (h : Heap) → IsOrdered rules h → (roots : ℕ) (x : Value) (quoted : Bool) → IsRoots h roots → IsItem h x → Looks {S = S} (λ g. IsGot IsAny g h) (told_row roots x quoted) h
+pub told_looks : (S : Type 0) (rules : Rules) (h : Heap) → IsOrdered rules h → (roots : ℕ) (x : Value) (quoted : Bool)
+    → IsRoots h roots → IsItem h x → Looks {S = S} (λ g. IsGot IsAny g h) (told_row roots x quoted) h
 told_looks S rules h order roots x quoted known i = nested.text_looks S rules h order roots known x quoted i
 
-pub sorted_holds : {S : Type 0} (rules : Rules) (stands : Heap → S → Type 0) (h : Heap) (vs : List Value) → IsOrdered rules h → Every (IsItem h) vs → Holds rules stands (IsGot (AreSoMany (length vs))) (sorted_row vs) h
+pub sorted_holds : {S : Type 0} (rules : Rules) (stands : Heap → S → Type 0) (h : Heap) (vs : List Value) →
+    IsOrdered rules h → Every (IsItem h) vs → Holds rules stands (IsGot (AreSoMany (length vs))) (sorted_row vs) h
 sorted_holds rules stands h vs order i = (methods_hold rules stands).sorted h vs order i

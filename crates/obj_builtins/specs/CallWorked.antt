@@ -20,33 +20,41 @@ module _ (S : Type 0) where
   Answers = Row S (Got Answer)
 
   -- a number has no method, whatever the arguments are; and a list has none of strings
-  number_has_none : ◌≡◌ {A = Answers} (call_row 3 None (builtin_number (codes "list.append")) (Int (pos 5)) [] (ref 8 ∷ NoneValue ∷ [])) (Ret (Raise operand_fault))
+  number_has_none : ◌≡◌ {A = Answers} (call_row 3 None (builtin_number (codes "list.append")) (Int (pos 5)) []
+      (ref 8 ∷ NoneValue ∷ [])) (Ret (Raise operand_fault))
   unfolding call_row object_row
   number_has_none = refl
 
-  list_does_not_join : ◌≡◌ {A = Answers} (method_of (builtin_number (codes "str.join")) 7 [] [] ListKind) (Ret (Raise operand_fault))
+  list_does_not_join : ◌≡◌ {A = Answers} (method_of (builtin_number (codes "str.join")) 7 [] [] ListKind)
+      (Ret (Raise operand_fault))
   unfolding method_of
   list_does_not_join = refl
 
   -- keywords are for `Thread` alone
-  no_keyword_for_strings : ◌≡◌ {A = Answers} (method_keyed (builtin_number (codes "str.upper")) 7 [] (ref 8 ∷ NoneValue ∷ []) Str) (Ret (Raise argument_fault))
+  no_keyword_for_strings : ◌≡◌ {A = Answers}
+      (method_keyed (builtin_number (codes "str.upper")) 7 [] (ref 8 ∷ NoneValue ∷ []) Str) (Ret (Raise argument_fault))
   unfolding method_keyed
   no_keyword_for_strings = refl
 
-  no_keyword_for_len : ◌≡◌ {A = Answers} (call_row 3 None (builtin_number (codes "len")) Unset [] (ref 8 ∷ NoneValue ∷ [])) (Ret (Raise argument_fault))
+  no_keyword_for_len : ◌≡◌ {A = Answers}
+      (call_row 3 None (builtin_number (codes "len")) Unset [] (ref 8 ∷ NoneValue ∷ [])) (Ret (Raise argument_fault))
   unfolding call_row function_keyed
   no_keyword_for_len = refl
 
-  no_keyword_for_input : ◌≡◌ {A = Answers} (call_row 3 None (builtin_number (codes "raw_input")) Unset [] (ref 8 ∷ NoneValue ∷ [])) (Ret (Raise argument_fault))
+  no_keyword_for_input : ◌≡◌ {A = Answers}
+      (call_row 3 None (builtin_number (codes "raw_input")) Unset [] (ref 8 ∷ NoneValue ∷ []))
+      (Ret (Raise argument_fault))
   unfolding call_row other_row input_keyed
   no_keyword_for_input = refl
 
   -- a prompt alone
-  two_prompts : ◌≡◌ {A = Answers} (call_row 3 None (builtin_number (codes "raw_input")) Unset (ref 8 ∷ ref 9 ∷ []) []) (Ret (Raise argument_fault))
+  two_prompts : ◌≡◌ {A = Answers} (call_row 3 None (builtin_number (codes "raw_input")) Unset (ref 8 ∷ ref 9 ∷ []) [])
+      (Ret (Raise argument_fault))
   unfolding call_row other_row input_keyed input_call input_row bind
   two_prompts = refl
 
-  modules_are_not_called : ◌≡◌ {A = Answers} (call_row 3 None (builtin_number (codes "thread")) Unset [] []) (Ret (Raise callable_fault))
+  modules_are_not_called : ◌≡◌ {A = Answers} (call_row 3 None (builtin_number (codes "thread")) Unset [] [])
+      (Ret (Raise callable_fault))
   unfolding call_row other_row thread_call_row member_row
   modules_are_not_called = refl
 

@@ -1,4 +1,5 @@
--- The call of a builtin by its number: the methods of strings, lists and dictionaries, the functions, `raw_input`, and what
+-- The call of a builtin by its number: the methods of strings, lists and dictionaries, the functions, `raw_input`, and
+-- what
 -- `thread` and `threading` have. States `docs/LANGUAGE.md`, "Builtins", "Locks and threads" and "Numbers and names".
 use Rattle.std.specs.Prelude.{ℕ, ◌==◌, Bool, ◌||◌, cond, codes, List, length, nat_lt, Option}
 use Rattle.py_base.specs.declared.kind.Kind.{Kind}
@@ -82,10 +83,13 @@ is_object_method b = is_method_of Str b || (is_method_of ListKind b || is_method
 
 -- neither a function nor a method of these kinds
 unfoldable pub other_row : {S : Type 0} → ℕ → Option ℕ → ℕ → Value → List Value → List Value → Row S (Got Answer)
-other_row roots me b own args keys = cond (b == builtin_number (codes "raw_input")) (input_keyed roots args keys) (thread_call_row roots me b own args keys)
+other_row roots me b own args keys = cond (b == builtin_number (codes "raw_input")) (input_keyed roots args keys)
+    (thread_call_row roots me b own args keys)
 
--- The call of the builtin of number b, with arguments and with keywords as name, value, name, value; each name is the address of
--- a string. `own` is the object of a method. At `roots` stands the list of roots, at `me` the Thread record of the calling
+-- The call of the builtin of number b, with arguments and with keywords as name, value, name, value; each name is the
+-- address of
+-- a string. `own` is the object of a method. At `roots` stands the list of roots, at `me` the Thread record of the
+-- calling
 -- thread, if it has one.
 unfoldable pub call_row : {S : Type 0} → ℕ → Option ℕ → ℕ → Value → List Value → List Value → Row S (Got Answer)
 call_row roots me b own args keys =

@@ -32,7 +32,8 @@ line_row l = cond (is_end l) (Ret (Raise end_fault)) (new_text (strip_last 10 l)
 unfoldable pub take_row : {S : Type 0} → Row S (Got Value)
 take_row = Do (Take line_limit) (λ l. line_row l)
 
--- A prompt is written as it is and in one piece, also where it is empty. From then on the output isn't in the middle of a line.
+-- A prompt is written as it is and in one piece, also where it is empty. From then on the output isn't in the middle of
+-- a line.
 unfoldable pub prompt_row : {S : Type 0} → List ℕ → Row S (Got Value)
 prompt_row text = Do (Put Output text) (λ u. Do (SetMidLine false) (λ v. take_row))
 

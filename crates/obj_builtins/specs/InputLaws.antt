@@ -1,4 +1,5 @@
--- What `raw_input` writes, takes and answers, in the words in which `src/call_laws.rt` ensures it. States `docs/LANGUAGE.md`,
+-- What `raw_input` writes, takes and answers, in the words in which `src/call_laws.rt` ensures it. States
+-- `docs/LANGUAGE.md`,
 -- "Reading the input".
 use Rattle.std.specs.Prelude.{◌≡◌, ℕ, false, List, [], ◌∷◌, ◌++◌, Some}
 use Rattle.std.specs.Io.BufRead.{strip_last}
@@ -45,4 +46,5 @@ pub record InputLaw (S : Type 0) : Type 0 where
   -- without a prompt nothing is written, and the flag stays
   pub bare : (roots : ℕ) (s t : Sight S) (y : Got Value) → Does (input_row roots []) s y t → IsTaken s.world y t
   -- a prompt is written once and as it is; where its text raises, nothing is written or taken
-  pub prompt : (roots : ℕ) (x : Value) (s t : Sight S) (y : Got Value) → Does (input_row roots (x ∷ [])) s y t → IsPrompted roots x s y t
+  pub prompt : (roots : ℕ) (x : Value) (s t : Sight S) (y : Got Value) → Does (input_row roots (x ∷ [])) s y t →
+      IsPrompted roots x s y t

@@ -1,4 +1,5 @@
--- What the builtin functions answer, in words of numbers, of lists and of classes. States `docs/LANGUAGE.md`, "Builtins".
+-- What the builtin functions answer, in words of numbers, of lists and of classes. States `docs/LANGUAGE.md`,
+-- "Builtins".
 use Rattle.std.specs.Prelude.{◌≡◌, ◌≢◌, ◌≤◌, ◌<◌, ℕ, ℤ, pos, ◌+ℤ◌, true, List, [], ◌∷◌, ◌++◌, length, take, codes, Some}
 use Rattle.std.specs.Fmt.{signed_decimal}
 use Rattle.std.specs.declared.cmp.Ordering.{Ordering}
@@ -35,13 +36,16 @@ use Rattle.obj_builtins.specs.Functions.{function_row}
 pub record IsRangeList (b : Bounds) (made : Rec) : Type 0 where
   pub kind : made.kind ≡ ListKind
   pub count : length made.values ≡ range_length b.start b.stop b.step
-  pub item : (k : ℕ) → k < range_length b.start b.stop b.step → value_at made.values k ≡ Int (range_item b.start b.step k)
+  pub item : (k : ℕ) → k < range_length b.start b.stop b.step →
+      value_at made.values k ≡ Int (range_item b.start b.step k)
 
 -- where it answers, `range` has made a list of the numbers, and `xrange` a Range of the three numbers
 pub record RangesLaw {S X : Type 0} (u : Sense S X) : Type 0 where
-  pub range : (roots : ℕ) (args : List Value) (b : Bounds) (v w : X) (y : Value) → bounds_of args ≡ Some b → Run u (function_row roots (builtin_number (codes "range")) args) v (Is y) w
+  pub range : (roots : ℕ) (args : List Value) (b : Bounds) (v w : X) (y : Value) → bounds_of args ≡ Some b →
+      Run u (function_row roots (builtin_number (codes "range")) args) v (Is y) w
       → (c : ℕ) × (made : Rec) × (y ≡ ref c) × (u.heap w c ≡ Some made) × IsRangeList b made
-  pub xrange : (roots : ℕ) (args : List Value) (b : Bounds) (v w : X) (y : Value) → bounds_of args ≡ Some b → Run u (function_row roots (builtin_number (codes "xrange")) args) v (Is y) w
+  pub xrange : (roots : ℕ) (args : List Value) (b : Bounds) (v w : X) (y : Value) → bounds_of args ≡ Some b →
+      Run u (function_row roots (builtin_number (codes "xrange")) args) v (Is y) w
       → (c : ℕ) × (y ≡ ref c) × (u.heap w c ≡ Some (new_rec Range (range_values b) []))
 
 -- ---- int
@@ -52,7 +56,8 @@ IsBlank b = is_blank b ≡ true
 -- of a string that is the text of a number of 64 bits, with blanks round it, `int` is that number
 abbrev pub IntLaw : Type 0 → Type 0
 IntLaw S =
-    (h : Heap) (roots a : ℕ) (r : Rec) (i : ℤ) (front back : List ℕ) → h a ≡ Some r → r.kind ≡ Str → is_narrow i ≡ true → Every IsBlank front → Every IsBlank back → r.bytes ≡ front ++ (signed_decimal i ++ back)
+    (h : Heap) (roots a : ℕ) (r : Rec) (i : ℤ) (front back : List ℕ) → h a ≡ Some r → r.kind ≡ Str → is_narrow i ≡ true
+    → Every IsBlank front → Every IsBlank back → r.bytes ≡ front ++ (signed_decimal i ++ back)
     → Looks {S = S} (λ g. g ≡ Is (Int i)) (function_row roots (builtin_number (codes "int")) (ref a ∷ [])) h
 
 -- ---- min and max
@@ -79,9 +84,11 @@ GivesBest h side vs g = (y : Value) × (g ≡ Is y) × IsBest h side vs y
 -- of two numbers or more `min` is the first of the least, and `max` the first of the greatest
 pub record BestLaw (S : Type 0) (rules : Rules) : Type 0 where
   pub min : (h : Heap) (roots : ℕ) (x y : Value) (zs : List Value) → IsOrdered rules h → Every (IsNumber h) (x ∷ y ∷ zs)
-      → Looks {S = S} (GivesBest h Least (x ∷ y ∷ zs)) (function_row roots (builtin_number (codes "min")) (x ∷ y ∷ zs)) h
+      → Looks {S = S} (GivesBest h Least (x ∷ y ∷ zs)) (function_row roots (builtin_number (codes "min")) (x ∷ y ∷ zs))
+      h
   pub max : (h : Heap) (roots : ℕ) (x y : Value) (zs : List Value) → IsOrdered rules h → Every (IsNumber h) (x ∷ y ∷ zs)
-      → Looks {S = S} (GivesBest h Greatest (x ∷ y ∷ zs)) (function_row roots (builtin_number (codes "max")) (x ∷ y ∷ zs)) h
+      → Looks {S = S} (GivesBest h Greatest (x ∷ y ∷ zs))
+      (function_row roots (builtin_number (codes "max")) (x ∷ y ∷ zs)) h
 
 -- ---- sum
 
@@ -95,18 +102,24 @@ abbrev pub total : List ℤ → ℤ
 total [] = pos 0
 total (i ∷ is) = i +ℤ total is
 
--- of a list of numbers, of which so many from the front, whatever the count, have a sum that 64 bits hold, `sum` is their sum
+-- of a list of numbers, of which so many from the front, whatever the count, have a sum that 64 bits hold, `sum` is
+-- their sum
 abbrev pub SumLaw : Type 0 → Type 0
 SumLaw S =
-    (h : Heap) (roots a : ℕ) (r : Rec) (is : List ℤ) → h a ≡ Some r → r.kind ≡ ListKind → AreNumbers r.values is → ((k : ℕ) → k ≤ length is → is_narrow (total (take k is)) ≡ true)
+    (h : Heap) (roots a : ℕ) (r : Rec) (is : List ℤ) → h a ≡ Some r → r.kind ≡ ListKind → AreNumbers r.values is →
+    ((k : ℕ) → k ≤ length is → is_narrow (total (take k is)) ≡ true)
     → Looks {S = S} (λ g. g ≡ Is (Int (total is))) (function_row roots (builtin_number (codes "sum")) (ref a ∷ [])) h
 
 -- ---- isinstance
 
 pub record InstanceLaw (S : Type 0) (rules : Rules) : Type 0 where
   -- each value is an instance of the class `object`
-  pub object : (h : Heap) (roots c : ℕ) (x : Value) → IsOrdered rules h → (r : IsRoots h roots) → IsItem h x → RefTo h Class (ref c) → root_class r.list.values (codes "object") ≡ ref c
-      → Looks {S = S} (λ g. g ≡ Is (BoolValue true)) (function_row roots (builtin_number (codes "isinstance")) (x ∷ ref c ∷ [])) h
+  pub object : (h : Heap) (roots c : ℕ) (x : Value) → IsOrdered rules h → (r : IsRoots h roots) → IsItem h x →
+      RefTo h Class (ref c) → root_class r.list.values (codes "object") ≡ ref c
+      → Looks {S = S} (λ g. g ≡ Is (BoolValue true))
+      (function_row roots (builtin_number (codes "isinstance")) (x ∷ ref c ∷ [])) h
   -- and of another class an instance is one where its own class is that class or below it
-  pub own : (h : Heap) (roots a c : ℕ) (i : Rec) → IsOrdered rules h → (r : IsRoots h roots) → h a ≡ Some i → i.kind ≡ Instance → RefTo h Class (ref c) → root_class r.list.values (codes "object") ≢ ref c
-      → Looks {S = S} (λ g. g ≡ Is (BoolValue (is_below h c MOST_BASES (value_at i.values 0)))) (function_row roots (builtin_number (codes "isinstance")) (ref a ∷ ref c ∷ [])) h
+  pub own : (h : Heap) (roots a c : ℕ) (i : Rec) → IsOrdered rules h → (r : IsRoots h roots) → h a ≡ Some i →
+      i.kind ≡ Instance → RefTo h Class (ref c) → root_class r.list.values (codes "object") ≢ ref c
+      → Looks {S = S} (λ g. g ≡ Is (BoolValue (is_below h c MOST_BASES (value_at i.values 0))))
+      (function_row roots (builtin_number (codes "isinstance")) (ref a ∷ ref c ∷ [])) h

@@ -20,7 +20,8 @@ is_counted n = leb n 9_223_372_036_854_775_807
 
 -- how many numbers a range has; none, where its step is 0 or they are more than 63 bits count
 abbrev pub number_count : ℤ → ℤ → ℤ → Option ℤ
-number_count start stop step = cond (int_eq step (pos 0)) None (cond (is_counted (range_length start stop step)) (Some (pos (range_length start stop step))) None)
+number_count start stop step = cond (int_eq step (pos 0)) None
+    (cond (is_counted (range_length start stop step)) (Some (pos (range_length start stop step))) None)
 
 -- of the three values of a range
 abbrev pub range_count : Value → Value → Value → Option ℤ

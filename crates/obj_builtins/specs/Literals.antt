@@ -12,7 +12,8 @@ use Rattle.obj_str.specs.Pieces.{strip}
 
 -- a text that is no number, with its `repr`
 abbrev pub literal_fault : List ℕ → Fault
-literal_fault text = text_fault (class_number (codes "ValueError")) (codes "invalid literal for int() with base 10: " ++ repr_of text)
+literal_fault text = text_fault (class_number (codes "ValueError"))
+    (codes "invalid literal for int() with base 10: " ++ repr_of text)
 
 -- from `0` to `9`
 abbrev pub is_digit : ℕ → Bool
@@ -38,12 +39,14 @@ with_sign false n = pos n
 
 -- digits behind a sign: a number, if 64 bits hold it
 unfoldable pub signed_number : List ℕ → Bool → List ℕ → Got Value
-signed_number text negative digits = cond (is_numeral digits) (narrowed (with_sign negative (value_after 0 digits))) (Raise (literal_fault text))
+signed_number text negative digits = cond (is_numeral digits) (narrowed (with_sign negative (value_after 0 digits)))
+    (Raise (literal_fault text))
 
 -- a sign or none, and digits: nothing stands between them
 unfoldable pub stripped_number : List ℕ → List ℕ → Got Value
 stripped_number text [] = Raise (literal_fault text)
-stripped_number text (b ∷ bs) = cond (b == 45) (signed_number text true bs) (cond (b == 43) (signed_number text false bs) (signed_number text false (b ∷ bs)))
+stripped_number text (b ∷ bs) = cond (b == 45) (signed_number text true bs)
+    (cond (b == 43) (signed_number text false bs) (signed_number text false (b ∷ bs)))
 
 -- blanks may stand at both ends
 abbrev pub text_number : List ℕ → Got Value

@@ -39,23 +39,27 @@ three : counted (range_count (Int (pos 1)) (Int (pos 10)) (Int (pos 3))) ≡ Is 
 three = refl
 
 -- range(5, 0, -2) is [5, 3, 1]
-downwards : function_row {S = Unit {0}} 0 (builtin_number (codes "range")) (Int (pos 5) ∷ Int (pos 0) ∷ Int (negsuc 1) ∷ []) ≡ made_row ListKind (Int (pos 5) ∷ Int (pos 3) ∷ Int (pos 1) ∷ [])
+downwards : function_row {S = Unit {0}} 0 (builtin_number (codes "range"))
+    (Int (pos 5) ∷ Int (pos 0) ∷ Int (negsuc 1) ∷ []) ≡ made_row ListKind (Int (pos 5) ∷ Int (pos 3) ∷ Int (pos 1) ∷ [])
 unfolding function_row range_row numbers_within numbers_made new_items
 downwards = refl
 
 -- range(True) is [0]; range(1, 2, 0); range(None); xrange(-1, 9223372036854775807)
-one : function_row {S = Unit {0}} 0 (builtin_number (codes "range")) (BoolValue true ∷ []) ≡ made_row ListKind (Int (pos 0) ∷ [])
+one : function_row {S = Unit {0}} 0 (builtin_number (codes "range")) (BoolValue true ∷ []) ≡ made_row ListKind
+    (Int (pos 0) ∷ [])
 unfolding function_row range_row numbers_within numbers_made new_items
 one = refl
 
-standing : function_row {S = Unit {0}} 0 (builtin_number (codes "range")) (Int (pos 1) ∷ Int (pos 2) ∷ Int (pos 0) ∷ []) ≡ now (Raise step_fault)
+standing : function_row {S = Unit {0}} 0 (builtin_number (codes "range"))
+    (Int (pos 1) ∷ Int (pos 2) ∷ Int (pos 0) ∷ []) ≡ now (Raise step_fault)
 unfolding function_row range_row numbers_within
 standing = refl
 
 no_bounds : bounds_of (NoneValue ∷ []) ≡ None
 no_bounds = refl
 
-too_wide : function_row {S = Unit {0}} 0 (builtin_number (codes "xrange")) (Int (negsuc 0) ∷ Int (pos 9_223_372_036_854_775_807) ∷ []) ≡ now (Raise overflow_fault)
+too_wide : function_row {S = Unit {0}} 0 (builtin_number (codes "xrange"))
+    (Int (negsuc 0) ∷ Int (pos 9_223_372_036_854_775_807) ∷ []) ≡ now (Raise overflow_fault)
 unfolding function_row xrange_row range_within range_made
 too_wide = refl
 
@@ -69,11 +73,13 @@ plus : text_number (codes "+7") ≡ Is (Int (pos 7))
 unfolding stripped_number signed_number narrowed
 plus = refl
 
-blank_behind_the_sign : text_number (codes "- 1") ≡ Raise (text_fault (class_number (codes "ValueError")) (codes "invalid literal for int() with base 10: '- 1'"))
+blank_behind_the_sign : text_number (codes "- 1") ≡ Raise
+    (text_fault (class_number (codes "ValueError")) (codes "invalid literal for int() with base 10: '- 1'"))
 unfolding stripped_number signed_number
 blank_behind_the_sign = refl
 
-nothing : text_number [] ≡ Raise (text_fault (class_number (codes "ValueError")) (codes "invalid literal for int() with base 10: ''"))
+nothing : text_number [] ≡ Raise (text_fault (class_number (codes "ValueError"))
+    (codes "invalid literal for int() with base 10: ''"))
 unfolding stripped_number
 nothing = refl
 
@@ -102,11 +108,13 @@ past_the_bytes = refl
 before_the_bytes : byte_of (negsuc 0) ≡ None
 before_the_bytes = refl
 
-absolute_three : function_row {S = Unit {0}} 0 (builtin_number (codes "abs")) (Int (negsuc 2) ∷ []) ≡ now (Is (Int (pos 3)))
+absolute_three : function_row {S = Unit {0}} 0 (builtin_number (codes "abs")) (Int (negsuc 2) ∷ []) ≡ now
+    (Is (Int (pos 3)))
 unfolding function_row later_row abs_row absolute_in absolute narrowed
 absolute_three = refl
 
-absolute_truth : function_row {S = Unit {0}} 0 (builtin_number (codes "abs")) (BoolValue true ∷ []) ≡ now (Is (Int (pos 1)))
+absolute_truth : function_row {S = Unit {0}} 0 (builtin_number (codes "abs")) (BoolValue true ∷ []) ≡ now
+    (Is (Int (pos 1)))
 unfolding function_row later_row abs_row absolute_in absolute narrowed
 absolute_truth = refl
 

@@ -44,7 +44,8 @@ abbrev all_below : List (ℕ × List ℕ) → Bool
 all_below [] = true
 all_below (e ∷ es) = cond (ltb e.0 builtin_count) (all_below es) false
 
-found_below : (b : Bool) (n : ℕ) (o : Option ℕ) → n < builtin_count → IfSome o (λ b. b < builtin_count) → IfSome (if b then Some n else o) (λ b. b < builtin_count)
+found_below : (b : Bool) (n : ℕ) (o : Option ℕ) → n < builtin_count → IfSome o (λ b. b < builtin_count) →
+    IfSome (if b then Some n else o) (λ b. b < builtin_count)
 found_below true n o l more = l
 found_below false n o l more = more
 
@@ -52,7 +53,8 @@ both_below : (n : ℕ) (b c : Bool) → ltb n builtin_count ≡ b → cond b c f
 both_below n true c t e = (ltb-true n builtin_count t, e)
 both_below n false c t e = absurd (let z : false ≡ true = e in cc)
 
-beside_below : (es : List (ℕ × List ℕ)) (x : List ℕ) → all_below es ≡ true → IfSome (number_beside es x) (λ b. b < builtin_count)
+beside_below : (es : List (ℕ × List ℕ)) (x : List ℕ) → all_below es ≡ true →
+    IfSome (number_beside es x) (λ b. b < builtin_count)
 beside_below [] x e = tt
 beside_below (y ∷ ys) x e =
     let both = both_below y.0 (ltb y.0 builtin_count) (all_below ys) refl e in
@@ -73,7 +75,8 @@ methods_below Method = refl
 methods_below Iter = refl
 methods_below Range = refl
 
-members_below : (thread threading : Bool) → all_below (cond thread thread_members (cond threading threading_members [])) ≡ true
+members_below : (thread threading : Bool) →
+    all_below (cond thread thread_members (cond threading threading_members [])) ≡ true
 members_below true threading = refl
 members_below false true = refl
 members_below false false = refl
@@ -115,11 +118,13 @@ module _ (rules : Rules) (h : Heap) (order : IsOrdered rules h) where
   bound_good (Int n) i = i
   bound_good (Builtin b) i = i
 
-  map_good : (f : Value → Found) (o : Option Value) → ((x : Value) → IsItem h x → IsGood (f x)) → IfItem o h → IfSome (option_map f o) IsGood
+  map_good : (f : Value → Found) (o : Option Value) → ((x : Value) → IsItem h x → IsGood (f x)) → IfItem o h →
+      IfSome (option_map f o) IsGood
   map_good f None g i = tt
   map_good f (Some x) g i = g x i
 
-  own_good : (o : Option Value) (more : Option Found) → IfItem o h → IfSome more IsGood → IfSome (own_first o more) IsGood
+  own_good : (o : Option Value) (more : Option Found) → IfItem o h → IfSome more IsGood →
+      IfSome (own_first o more) IsGood
   own_good (Some x) more i j = i
   own_good None more i j = j
 
@@ -131,31 +136,42 @@ module _ (rules : Rules) (h : Heap) (order : IsOrdered rules h) where
       by (Some b) i = (builtin_item b i, tt)
 
   -- the class of a number is an item
-  class_item : (roots n : ℕ) → (i : IsRoots h roots) → n < class_count → IsItem h (value_at (values_in (h roots)) (class_place n))
+  class_item : (roots n : ℕ) → (i : IsRoots h roots) → n < class_count →
+      IsItem h (value_at (values_in (h roots)) (class_place n))
   class_item roots n i l =
       let c = i.classes n l in
-      subst (λ o. IsItem h (value_at (values_in o) (class_place n))) (sym i.here) (subst (IsItem h) (sym c.is) (ap is_some c.here, λ q. let z : ref c.address ≡ Unset = q in cc))
+      subst (λ o. IsItem h (value_at (values_in o) (class_place n))) (sym i.here)
+      (subst (IsItem h) (sym c.is) (ap is_some c.here, λ q. let z : ref c.address ≡ Unset = q in cc))
 
   builtin_good : (roots b : ℕ) (t : List ℕ) → IsRoots h roots → IfSome (of_builtin (values_in (h roots)) b t) IsGood
   builtin_good roots b t i = by (is_error b t)
     where
-      member : (o : Option ℕ) → IfSome o (λ b. b < builtin_count) → IfSome (option_map (λ n. Plain (Builtin n)) o) IsGood
+      member : (o : Option ℕ) → IfSome o (λ b. b < builtin_count) →
+          IfSome (option_map (λ n. Plain (Builtin n)) o) IsGood
       member None j = tt
       member (Some n) j = builtin_item n j
 
-      by : (c : Bool) → IfSome (cond c (Some (Plain (root_class (values_in (h roots)) (codes "thread.error")))) (option_map (λ n. Plain (Builtin n)) (member_of b t))) IsGood
+      by : (c : Bool) → IfSome (cond c (Some (Plain (root_class (values_in (h roots)) (codes "thread.error"))))
+          (option_map (λ n. Plain (Builtin n)) (member_of b t))) IsGood
       by true = class_item roots (class_number (codes "thread.error")) i (lit< tt)
-      by false = member (member_of b t) (beside_below (cond (is_thread b) thread_members (cond (is_threading b) threading_members [])) t (members_below (is_thread b) (is_threading b)))
+      by false = member (member_of b t) (beside_below
+          (cond (is_thread b) thread_members (cond (is_threading b) threading_members [])) t
+          (members_below (is_thread b) (is_threading b)))
 
-  kind_good : (a : Addr) (name : ℕ) (r : Rec) → h a.0 ≡ Some r → (k : Kind) → r.kind ≡ k → IfSome (of_kind h (Ref a) name r.values k) IsGood
+  kind_good : (a : Addr) (name : ℕ) (r : Rec) → h a.0 ≡ Some r → (k : Kind) → r.kind ≡ k →
+      IfSome (of_kind h (Ref a) name r.values k) IsGood
   kind_good a name r e Instance f =
       let i : Is h Instance a.0 = record { rec = r; here = e; kind = f } in
       let p = of_instance_at rules h order a.0 i in
       let c = value_at r.values 0 in
-      own_good (kept h (value_at r.values 1) (ref name)) (option_map (bound h) (inherited h (ref name) MOST_BASES c)) (kept_item rules h order (value_at r.values 1) (ref name) p.1)
-      (map_good (bound h) (inherited h (ref name) MOST_BASES c) bound_good (inherited_item rules h order (ref name) MOST_BASES c (some_class h c p.0)))
+      own_good (kept h (value_at r.values 1) (ref name)) (option_map (bound h) (inherited h (ref name) MOST_BASES c))
+      (kept_item rules h order (value_at r.values 1) (ref name) p.1)
+      (map_good (bound h) (inherited h (ref name) MOST_BASES c) bound_good
+      (inherited_item rules h order (ref name) MOST_BASES c (some_class h c p.0)))
   kind_good a name r e Class f =
-      map_good Plain (inherited h (ref name) MOST_BASES (Ref a)) (λ x i. i) (inherited_item rules h order (ref name) MOST_BASES (Ref a) (subst (λ o. KindIn o (λ q. q ≡ Class)) (sym e) f))
+      map_good Plain (inherited h (ref name) MOST_BASES (Ref a)) (λ x i. i)
+      (inherited_item rules h order (ref name) MOST_BASES (Ref a)
+      (subst (λ o. KindIn o (λ q. q ≡ Class)) (sym e) f))
   kind_good a name r e Str f = methods_good Str (bytes_in (h name))
   kind_good a name r e Tuple f = methods_good Tuple (bytes_in (h name))
   kind_good a name r e ListKind f = methods_good ListKind (bytes_in (h name))
@@ -181,33 +197,42 @@ module _ (rules : Rules) (h : Heap) (order : IsOrdered rules h) where
   attribute_good roots name (Int n) i = tt
 
 module _ {S : Type 0} (rules : Rules) (stands : Heap → S → Type 0) where
-  missing_holds : {A : Type 0} (p : A → Heap → Type 0) (name : ℕ) (h : Heap) → IsOrdered rules h → RefTo h Str (ref name) → Holds rules stands (IsGot p) (missing_row {S = S} name) h
+  missing_holds : {A : Type 0} (p : A → Heap → Type 0) (name : ℕ) (h : Heap) → IsOrdered rules h →
+      RefTo h Str (ref name) → Holds rules stands (IsGot p) (missing_row {S = S} name) h
   unfolding missing_row
   missing_holds p name h order i =
       let t = is_at h Str name i in
-      holds_looks rules stands (IsGot p) (λ bs. bs ≡ t.rec.bytes) (bytes_row name) (λ t. Ret (Raise (attribute_fault t))) h order (bytes_looks S h name t.rec t.here)
+      holds_looks rules stands (IsGot p) (λ bs. bs ≡ t.rec.bytes) (bytes_row name)
+      (λ t. Ret (Raise (attribute_fault t))) h order (bytes_looks S h name t.rec t.here)
       (λ bs e. holds_ret rules stands (IsGot p) (Raise (attribute_fault bs)) h (lit< tt, lit< tt, tt))
 
   -- ---- attr
-  method_holds : (f x : Value) (h : Heap) → IsItem h f → IsCallable h f → IsItem h x → Holds rules stands IsAnswer (method_row {S = S} f x) h
+  method_holds : (f x : Value) (h : Heap) → IsItem h f → IsCallable h f → IsItem h x →
+      Holds rules stands IsAnswer (method_row {S = S} f x) h
   unfolding method_row
   method_holds f x h i c j =
       holds_make rules stands IsAnswer (new_rec Method (f ∷ x ∷ []) []) (λ a. Ret (IsGotten (ref a))) h
-      (λ a. made_fits rules h a Method (f ∷ x ∷ []) [] (λ e. let q : Method ≡ Class = e in cc) (λ e. let q : Method ≡ Function = e in cc) (λ e. let q : Method ≡ Cell = e in cc) (i, (j, tt)) c refl (omega arith) (omega arith))
+      (λ a. made_fits rules h a Method (f ∷ x ∷ []) [] (λ e. let q : Method ≡ Class = e in cc)
+      (λ e. let q : Method ≡ Function = e in cc) (λ e. let q : Method ≡ Cell = e in cc) (i, (j, tt)) c refl
+      (omega arith) (omega arith))
       (λ a h1 order1 y e item. holds_ret rules stands IsAnswer (IsGotten (ref a)) h1 item)
 
-  given_holds : (x : Value) (name : ℕ) (h : Heap) (order : IsOrdered rules h) → IsItem h x → RefTo h Str (ref name) → (o : Option Found) → IfSome o (IsGood rules h order) → Holds rules stands IsAnswer (given_row {S = S} x name o) h
+  given_holds : (x : Value) (name : ℕ) (h : Heap) (order : IsOrdered rules h) → IsItem h x → RefTo h Str (ref name) →
+      (o : Option Found) → IfSome o (IsGood rules h order) → Holds rules stands IsAnswer (given_row {S = S} x name o) h
   unfolding given_row
   given_holds x name h order i t None g = missing_holds (λ v h. IsItem h v) name h order t
   given_holds x name h order i t (Some (Plain y)) g = holds_ret rules stands IsAnswer (IsGotten y) h g
   given_holds x name h order i t (Some (Bound f)) g = method_holds f x h g.0 g.1 i
 
-  pub attr_holds : (h : Heap) (roots name : ℕ) (x : Value) → IsOrdered rules h → IsRoots h roots → IsItem h x → RefTo h Str (ref name) → Holds rules stands IsAnswer (attr_row roots x name) h
+  pub attr_holds : (h : Heap) (roots name : ℕ) (x : Value) → IsOrdered rules h → IsRoots h roots → IsItem h x →
+      RefTo h Str (ref name) → Holds rules stands IsAnswer (attr_row roots x name) h
   unfolding attr_row
   attr_holds h roots name x order r i t =
       let o = attribute h roots x name in
-      holds_looks rules stands IsAnswer (λ z. z ≡ o) (find_attr_row roots x name) (λ o. given_row x name o) h order (find_looks S rules h order name (is_at h Str name t) roots x r i.0)
-      (λ z e. subst (λ z. Holds rules stands IsAnswer (given_row {S = S} x name z) h) (sym e) (given_holds x name h order i t o (attribute_good rules h order roots name x r)))
+      holds_looks rules stands IsAnswer (λ z. z ≡ o) (find_attr_row roots x name) (λ o. given_row x name o) h order
+      (find_looks S rules h order name (is_at h Str name t) roots x r i.0)
+      (λ z e. subst (λ z. Holds rules stands IsAnswer (given_row {S = S} x name z) h) (sym e)
+      (given_holds x name h order i t o (attribute_good rules h order roots name x r)))
 
   -- ---- set and del
   -- the dictionary of what a value has itself, if it has one
@@ -222,9 +247,12 @@ module _ {S : Type 0} (rules : Rules) (stands : Heap → S → Type 0) where
   address_dict h (Int n) i = absurd i
   address_dict h (Builtin b) i = absurd i
 
-  kind_dict : (h : Heap) → IsOrdered rules h → (a : ℕ) (r : Rec) → h a ≡ Some r → (k : Kind) → r.kind ≡ k → IfDict h (dict_of_kind r.values k)
-  kind_dict h order a r e Instance f = address_dict h (value_at r.values 1) (of_instance_at rules h order a (record { rec = r; here = e; kind = f })).1
-  kind_dict h order a r e Class f = address_dict h (value_at r.values 2) (of_class_at rules h order a (record { rec = r; here = e; kind = f })).1
+  kind_dict : (h : Heap) → IsOrdered rules h → (a : ℕ) (r : Rec) → h a ≡ Some r → (k : Kind) → r.kind ≡ k →
+      IfDict h (dict_of_kind r.values k)
+  kind_dict h order a r e Instance f = address_dict h (value_at r.values 1)
+      (of_instance_at rules h order a (record { rec = r; here = e; kind = f })).1
+  kind_dict h order a r e Class f = address_dict h (value_at r.values 2)
+      (of_class_at rules h order a (record { rec = r; here = e; kind = f })).1
   kind_dict h order a r e Str f = tt
   kind_dict h order a r e Tuple f = tt
   kind_dict h order a r e ListKind f = tt
@@ -250,28 +278,39 @@ module _ {S : Type 0} (rules : Rules) (stands : Heap → S → Type 0) where
   text_item : (h : Heap) (name : ℕ) → RefTo h Str (ref name) → IsItem h (ref name)
   text_item h name t = let i = is_at h Str name t in (ap is_some i.here, λ q. let z : ref name ≡ Unset = q in cc)
 
-  set_in_holds : (h : Heap) (name : ℕ) (y : Value) → IsOrdered rules h → RefTo h Str (ref name) → IsItem h y → (o : Option Addr) → IfDict h o → Holds rules stands IsDone (set_in {S = S} name y o) h
+  set_in_holds : (h : Heap) (name : ℕ) (y : Value) → IsOrdered rules h → RefTo h Str (ref name) → IsItem h y →
+      (o : Option Addr) → IfDict h o → Holds rules stands IsDone (set_in {S = S} name y o) h
   unfolding set_in
   set_in_holds h name y order t j None d = missing_holds (λ u h. Unit {0}) name h order t
-  set_in_holds h name y order t j (Some a) d = let l = dict_holds rules stands in l.set h a.0 (ref name) y order d (text_item h name t) j
+  set_in_holds h name y order t j (Some a) d = let l = dict_holds rules stands in
+      l.set h a.0 (ref name) y order d (text_item h name t) j
 
-  pub set_holds : (h : Heap) (name : ℕ) (x y : Value) → IsOrdered rules h → IsItem h x → RefTo h Str (ref name) → IsItem h y → Holds rules stands IsDone (set_attr_row x name y) h
+  pub set_holds : (h : Heap) (name : ℕ) (x y : Value) → IsOrdered rules h → IsItem h x → RefTo h Str (ref name) →
+      IsItem h y → Holds rules stands IsDone (set_attr_row x name y) h
   unfolding set_attr_row
-  set_holds h name x y order i t j = holds_looks rules stands IsDone (λ z. z ≡ own_dict h x) (dict_row x) (λ o. set_in name y o) h order (dict_looks S h x i.0) (λ o e. set_in_holds h name y order t j o (subst (IfDict h) (sym e) (own_is_dict h order x i.0)))
+  set_holds h name x y order i t j = holds_looks rules stands IsDone (λ z. z ≡ own_dict h x) (dict_row x)
+      (λ o. set_in name y o) h order (dict_looks S h x i.0)
+      (λ o e. set_in_holds h name y order t j o (subst (IfDict h) (sym e) (own_is_dict h order x i.0)))
 
-  gone_holds : (h : Heap) (name : ℕ) → IsOrdered rules h → RefTo h Str (ref name) → (g : Got Value) → Holds rules stands IsDone (gone_row {S = S} name g) h
+  gone_holds : (h : Heap) (name : ℕ) → IsOrdered rules h → RefTo h Str (ref name) → (g : Got Value) →
+      Holds rules stands IsDone (gone_row {S = S} name g) h
   unfolding gone_row
   gone_holds h name order t (IsGotten x) = holds_ret rules stands IsDone (IsGotten tt) h tt
   gone_holds h name order t (Raise e) = missing_holds (λ u h. Unit {0}) name h order t
 
-  del_in_holds : (h : Heap) (name : ℕ) → IsOrdered rules h → RefTo h Str (ref name) → (o : Option Addr) → IfDict h o → Holds rules stands IsDone (del_in {S = S} name o) h
+  del_in_holds : (h : Heap) (name : ℕ) → IsOrdered rules h → RefTo h Str (ref name) → (o : Option Addr) → IfDict h o →
+      Holds rules stands IsDone (del_in {S = S} name o) h
   unfolding del_in taken_row
   del_in_holds h name order t None d = missing_holds (λ u h. Unit {0}) name h order t
   del_in_holds h name order t (Some a) d =
       let l = dict_holds rules stands in
-      holds_bind rules stands IsAnswer IsDone (del_row a.0 (ref name)) (λ g. gone_row name g) h order (l.del h a.0 (ref name) order d (text_item h name t))
+      holds_bind rules stands IsAnswer IsDone (del_row a.0 (ref name)) (λ g. gone_row name g) h order
+      (l.del h a.0 (ref name) order d (text_item h name t))
       (λ g h1 order1 x1 i. gone_holds h1 name order1 (ref_stays h h1 x1 Str (ref name) t) g)
 
-  pub del_holds : (h : Heap) (name : ℕ) (x : Value) → IsOrdered rules h → IsItem h x → RefTo h Str (ref name) → Holds rules stands IsDone (del_attr_row x name) h
+  pub del_holds : (h : Heap) (name : ℕ) (x : Value) → IsOrdered rules h → IsItem h x → RefTo h Str (ref name) →
+      Holds rules stands IsDone (del_attr_row x name) h
   unfolding del_attr_row
-  del_holds h name x order i t = holds_looks rules stands IsDone (λ z. z ≡ own_dict h x) (dict_row x) (λ o. del_in name o) h order (dict_looks S h x i.0) (λ o e. del_in_holds h name order t o (subst (IfDict h) (sym e) (own_is_dict h order x i.0)))
+  del_holds h name x order i t = holds_looks rules stands IsDone (λ z. z ≡ own_dict h x) (dict_row x)
+      (λ o. del_in name o) h order (dict_looks S h x i.0)
+      (λ o e. del_in_holds h name order t o (subst (IfDict h) (sym e) (own_is_dict h order x i.0)))

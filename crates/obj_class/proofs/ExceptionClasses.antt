@@ -26,7 +26,8 @@ are_lower k (suc m) = cond (ltb 0 (base_number k)) (cond (ltb (base_number k) k)
 abbrev Lower : ℕ → Type 0
 Lower n = (0 < base_number n) × (base_number n < n)
 
-first_lower : (k : ℕ) (a b more : Bool) → ltb 0 (base_number k) ≡ a → ltb (base_number k) k ≡ b → cond a (cond b more false) false ≡ true → Lower k × (more ≡ true)
+first_lower : (k : ℕ) (a b more : Bool) → ltb 0 (base_number k) ≡ a → ltb (base_number k) k ≡ b →
+    cond a (cond b more false) false ≡ true → Lower k × (more ≡ true)
 first_lower k true true more s t e = ((ltb-true 0 (base_number k) s, ltb-true (base_number k) k t), e)
 first_lower k true false more s t e = absurd (let z : false ≡ true = e in cc)
 first_lower k false b more s t e = absurd (let z : false ≡ true = e in cc)
@@ -58,13 +59,18 @@ same_address a b e = ap place_of e
 
 module _ (h : Heap) (roots : ℕ) (r : IsRoots h roots) where
   -- what is above the base is above the class
-  base_above : (n k : ℕ) (x : Value) → 0 < n → n < class_count → up h k (value_at r.list.values (class_place (base_number n))) ≡ x → up h (suc k) (value_at r.list.values (class_place n)) ≡ x
+  base_above : (n k : ℕ) (x : Value) → 0 < n → n < class_count →
+      up h k (value_at r.list.values (class_place (base_number n))) ≡ x →
+      up h (suc k) (value_at r.list.values (class_place n)) ≡ x
   base_above n k x l g e =
       let c = r.classes n g in
       let other : n ≢ 0 = λ z. omega (arith, l, z) in
-      ap (up h (suc k)) c.is ∙ (ap (λ o. up h k (base_of o)) c.here ∙ (ap (up h k) (c.base ∙ cond-false (eqb n 0) NoneValue (root_class r.list.values (get_or base_names n [])) (ne_eqb n 0 other)) ∙ e))
+      ap (up h (suc k)) c.is ∙ (ap (λ o. up h k (base_of o)) c.here ∙
+      (ap (up h k) (c.base ∙ cond-false (eqb n 0) NoneValue (root_class r.list.values (get_or base_names n []))
+      (ne_eqb n 0 other)) ∙ e))
 
-  exception_by : (f n : ℕ) → n < f → 0 < n → n < class_count → IsExceptionClass h r.list.values (value_at r.list.values (class_place n))
+  exception_by : (f n : ℕ) → n < f → 0 < n → n < class_count →
+      IsExceptionClass h r.list.values (value_at r.list.values (class_place n))
   exception_by zero n m l g = absurd (omega (arith, m))
   exception_by (suc f) n m l g = elim (cases_Bool (eqb n 1)) [
     | inl y ↦ (0, ap (λ n. value_at r.list.values (class_place n)) (eqb-true n 1 y))
@@ -74,8 +80,11 @@ module _ (h : Heap) (roots : ℕ) (r : IsRoots h roots) where
       more_than : (n : ℕ) → eqb n 1 ≡ false → 0 < n → 1 < n
       more_than n q l = let d = other_number n 1 q in omega (arith, d, l)
 
-      above_base : (base_number n < f → 0 < base_number n → base_number n < class_count → IsExceptionClass h r.list.values (value_at r.list.values (class_place (base_number n)))) → Lower n → IsExceptionClass h r.list.values (value_at r.list.values (class_place n))
-      above_base more b = let i = more (omega (arith, b.1, m)) b.0 (omega (arith, b.1, g)) in (suc i.0, base_above n i.0 (root_class r.list.values (codes "BaseException")) l g i.1)
+      above_base : (base_number n < f → 0 < base_number n → base_number n < class_count →
+          IsExceptionClass h r.list.values (value_at r.list.values (class_place (base_number n)))) → Lower n →
+          IsExceptionClass h r.list.values (value_at r.list.values (class_place n))
+      above_base more b = let i = more (omega (arith, b.1, m)) b.0 (omega (arith, b.1, g)) in
+          (suc i.0, base_above n i.0 (root_class r.list.values (codes "BaseException")) l g i.1)
 
   -- `object` is another class than `BaseException`, since it has another name
   object_other : root_class r.list.values (codes "object") ≡ root_class r.list.values (codes "BaseException") → ⊥
@@ -86,17 +95,21 @@ module _ (h : Heap) (roots : ℕ) (r : IsRoots h roots) where
       let same = same_address c.address d.address at in
       let class : c.class ≡ d.class = one_rec (h d.address) d.class c.class d.here (sym (ap h same) ∙ c.here) in
       let named = same_address c.name d.name (sym c.named ∙ (ap (λ q. value_at q.values 0) class ∙ d.named)) in
-      let text : new_rec Str [] (codes "object") ≡ new_rec Str [] (codes "BaseException") = one_rec (h d.name) (new_rec Str [] (codes "BaseException")) (new_rec Str [] (codes "object")) d.text (sym (ap h named) ∙ c.text) in
+      let text : new_rec Str [] (codes "object") ≡ new_rec Str [] (codes "BaseException") =
+      one_rec (h d.name) (new_rec Str [] (codes "BaseException")) (new_rec Str [] (codes "object")) d.text
+      (sym (ap h named) ∙ c.text) in
       let long : 6 ≡ 13 = ap (λ q. length q.bytes) text in
       omega (arith, long)
 
-  object_is_none : (k : ℕ) → up h k (root_class r.list.values (codes "object")) ≡ root_class r.list.values (codes "BaseException") → ⊥
+  object_is_none : (k : ℕ) → up h k (root_class r.list.values (codes "object")) ≡ root_class r.list.values
+      (codes "BaseException") → ⊥
   object_is_none zero e = object_other e
   object_is_none (suc k) e =
       let c = r.classes 0 (lit< tt) in
       let d = r.classes 1 (lit< tt) in
       let none : NoneValue ≡ ref d.address =
-      sym (ap (up h (suc k)) c.is ∙ (ap (λ o. up h k (base_of o)) c.here ∙ (ap (up h k) c.base ∙ up_none h k))) ∙ (e ∙ d.is) in
+      sym (ap (up h (suc k)) c.is ∙ (ap (λ o. up h k (base_of o)) c.here ∙ (ap (up h k) c.base ∙ up_none h k))) ∙
+      (e ∙ d.is) in
       cc
 
 pub exceptions_law : ExceptionsLaw

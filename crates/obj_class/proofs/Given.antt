@@ -29,48 +29,65 @@ use Rattle.obj_class.proofs.FaultHolds.{made_here}
 use Rattle.obj_class.proofs.Parts.{Is, is_at}
 
 module _ (S : Type 0) (x : Value) (h : Heap) (name : ℕ) (t : Is h Str name) where
-  missing_looks : (A : Type 0) → Looks {S = S} (λ z. z ≡ Raise (attribute_fault (bytes_in (h name)))) (missing_row {A = A} name) h
+  missing_looks : (A : Type 0) → Looks {S = S} (λ z. z ≡ Raise (attribute_fault (bytes_in (h name))))
+      (missing_row {A = A} name) h
   unfolding missing_row
   missing_looks A =
       let p : Got A → Type 0 = λ z. z ≡ Raise (attribute_fault (bytes_in (h name))) in
-      looks_then (λ bs. bs ≡ t.rec.bytes) p (bytes_row name) (λ t. Ret (Raise (attribute_fault t))) h (bytes_looks S h name t.rec t.here)
-      (λ bs e. looks_ret S p (Raise (attribute_fault bs)) h (ap (λ bs. Raise (attribute_fault bs)) (e ∙ ap bytes_in (sym t.here))))
+      looks_then (λ bs. bs ≡ t.rec.bytes) p (bytes_row name) (λ t. Ret (Raise (attribute_fault t))) h
+      (bytes_looks S h name t.rec t.here)
+      (λ bs e. looks_ret S p (Raise (attribute_fault bs)) h
+      (ap (λ bs. Raise (attribute_fault bs)) (e ∙ ap bytes_in (sym t.here))))
 
-  given_looks : (o : Option Found) → IsUnbound o → Looks {S = S} (λ z. IsGiven x (bytes_in (h name)) o z h) (given_row x name o) h
+  given_looks : (o : Option Found) → IsUnbound o → Looks {S = S} (λ z. IsGiven x (bytes_in (h name)) o z h)
+      (given_row x name o) h
   unfolding given_row
   given_looks None u = missing_looks Value
   given_looks (Some (Plain y)) u = looks_ret S (λ z. z ≡ IsGotten y) (IsGotten y) h refl
   given_looks (Some (Bound f)) u = absurd u
 
 module _ {S : Type 0} (rules : Rules) (stands : Heap → S → Type 0) where
-  given_is : (x : Value) (h : Heap) (name : ℕ) (t : Is h Str name) (order : IsOrdered rules h) → IsItem h x → (o : Option Found) → IfSome o (IsGood rules h order) → Holds rules stands (IsGiven x (bytes_in (h name)) o) (given_row {S = S} x name o) h
+  given_is : (x : Value) (h : Heap) (name : ℕ) (t : Is h Str name) (order : IsOrdered rules h) → IsItem h x →
+      (o : Option Found) → IfSome o (IsGood rules h order) →
+      Holds rules stands (IsGiven x (bytes_in (h name)) o) (given_row {S = S} x name o) h
   unfolding given_row method_row
   given_is x h name t order i None g =
       let p : Got Value → Type 0 = λ z. z ≡ Raise (attribute_fault (bytes_in (h name))) in
-      holds_weaken rules stands (λ a h1. (h1 ≡ h) × p a) (IsGiven x (bytes_in (h name)) None) (λ a h1 j. j.1) (missing_row {S = S} name) h (looks_held rules stands p h (missing_row {S = S} name) (missing_looks S x h name t Value))
-  given_is x h name t order i (Some (Plain y)) g = holds_ret rules stands (IsGiven x (bytes_in (h name)) (Some (Plain y))) (IsGotten y) h refl
+      holds_weaken rules stands (λ a h1. (h1 ≡ h) × p a) (IsGiven x (bytes_in (h name)) None) (λ a h1 j. j.1)
+      (missing_row {S = S} name) h (looks_held rules stands p h (missing_row {S = S} name)
+      (missing_looks S x h name t Value))
+  given_is x h name t order i (Some (Plain y)) g =
+      holds_ret rules stands (IsGiven x (bytes_in (h name)) (Some (Plain y))) (IsGotten y) h refl
   given_is x h name t order i (Some (Bound f)) g =
       let made = new_rec Method (f ∷ x ∷ []) [] in
       let p = IsGiven x (bytes_in (h name)) (Some (Bound f)) in
       holds_make rules stands p made (λ a. Ret (IsGotten (ref a))) h
-      (λ a. made_fits rules h a Method (f ∷ x ∷ []) [] (λ e. let q : Method ≡ Class = e in cc) (λ e. let q : Method ≡ Function = e in cc) (λ e. let q : Method ≡ Cell = e in cc) (g.0, (i, tt)) g.1 refl (omega arith) (omega arith))
+      (λ a. made_fits rules h a Method (f ∷ x ∷ []) [] (λ e. let q : Method ≡ Class = e in cc)
+      (λ e. let q : Method ≡ Function = e in cc) (λ e. let q : Method ≡ Cell = e in cc) (g.0, (i, tt)) g.1 refl
+      (omega arith) (omega arith))
       (λ a h1 order1 y e item. holds_ret rules stands p (IsGotten (ref a)) h1 (a, refl, made_here h h1 a made e))
 
-  pub attr_given : (h : Heap) (roots name : ℕ) (x : Value) → IsOrdered rules h → IsRoots h roots → IsItem h x → RefTo h Str (ref name) → Holds rules stands (IsGiven x (bytes_in (h name)) (attribute h roots x name)) (attr_row roots x name) h
+  pub attr_given : (h : Heap) (roots name : ℕ) (x : Value) → IsOrdered rules h → IsRoots h roots → IsItem h x →
+      RefTo h Str (ref name) → Holds rules stands (IsGiven x (bytes_in (h name)) (attribute h roots x name))
+      (attr_row roots x name) h
   unfolding attr_row
   attr_given h roots name x order r i s =
       let t = is_at h Str name s in
       let o = attribute h roots x name in
       let p = IsGiven x (bytes_in (h name)) o in
-      holds_looks rules stands p (λ z. z ≡ o) (find_attr_row roots x name) (λ o. given_row x name o) h order (find_looks S rules h order name t roots x r i.0)
-      (λ z e. subst (λ z. Holds rules stands p (given_row {S = S} x name z) h) (sym e) (given_is x h name t order i o (attribute_good rules h order roots name x r)))
+      holds_looks rules stands p (λ z. z ≡ o) (find_attr_row roots x name) (λ o. given_row x name o) h order
+      (find_looks S rules h order name t roots x r i.0)
+      (λ z e. subst (λ z. Holds rules stands p (given_row {S = S} x name z) h) (sym e)
+      (given_is x h name t order i o (attribute_good rules h order roots name x r)))
 
-  pub attr_looks : (h : Heap) (roots name : ℕ) (x : Value) → IsOrdered rules h → IsRoots h roots → IsItem h x → RefTo h Str (ref name) → IsUnbound (attribute h roots x name)
+  pub attr_looks : (h : Heap) (roots name : ℕ) (x : Value) → IsOrdered rules h → IsRoots h roots → IsItem h x →
+      RefTo h Str (ref name) → IsUnbound (attribute h roots x name)
       → Looks {S = S} (λ z. IsGiven x (bytes_in (h name)) (attribute h roots x name) z h) (attr_row roots x name) h
   unfolding attr_row
   attr_looks h roots name x order r i s u =
       let t = is_at h Str name s in
       let o = attribute h roots x name in
       let p : Got Value → Type 0 = λ z. IsGiven x (bytes_in (h name)) o z h in
-      looks_then (λ z. z ≡ o) p (find_attr_row roots x name) (λ o. given_row x name o) h (find_looks S rules h order name t roots x r i.0)
+      looks_then (λ z. z ≡ o) p (find_attr_row roots x name) (λ o. given_row x name o) h
+      (find_looks S rules h order name t roots x r i.0)
       (λ z e. subst (λ z. Looks {S = S} p (given_row x name z) h) (sym e) (given_looks S x h name t o u))

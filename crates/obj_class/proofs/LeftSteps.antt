@@ -27,11 +27,14 @@ module _ {S A : Type 0} (roots : ℕ) (g : TellsBy S → Row S (Got A)) (n : ℕ
   one_left : 0 < n → level_row (left roots n) g ≡ g (told_levels roots (n - 1))
   one_left e = some_level g (left roots n) (told_levels roots (n - 1)) (left_some S roots n e)
 
-  pub left_safe : 0 < n → (p : Bool) (h : Heap) → Safe p (level_row (left roots n) g) h → Safe p (g (told_levels roots (n - 1))) h
+  pub left_safe : 0 < n → (p : Bool) (h : Heap) → Safe p (level_row (left roots n) g) h →
+      Safe p (g (told_levels roots (n - 1))) h
   left_safe e p h s = subst (λ row. Safe p row h) (one_left e) s
 
-  pub left_done : {X : Type 0} (u : Sense S X) (v w : X) (res : Result (Got A) Stop) → 0 < n → Meets u (g (told_levels roots (n - 1))) v w res → Meets u (level_row (left roots n) g) v w res
+  pub left_done : {X : Type 0} (u : Sense S X) (v w : X) (res : Result (Got A) Stop) → 0 < n →
+      Meets u (g (told_levels roots (n - 1))) v w res → Meets u (level_row (left roots n) g) v w res
   left_done u v w res e m = subst (λ row. Meets u row v w res) (sym (one_left e)) m
 
-  pub left_deep : {X : Type 0} (u : Sense S X) → n ≡ 0 → (v : X) (res : Result (Got A) Stop) → MatchResult res (λ g. g ≡ Raise depth_fault) (λ e. e ≡ OutOfMemory) → Meets u (level_row (left roots n) g) v v res
+  pub left_deep : {X : Type 0} (u : Sense S X) → n ≡ 0 → (v : X) (res : Result (Got A) Stop) →
+      MatchResult res (λ g. g ≡ Raise depth_fault) (λ e. e ≡ OutOfMemory) → Meets u (level_row (left roots n) g) v v res
   left_deep u e v res m = no_level g (left roots n) u (left_none S roots n e) v res m

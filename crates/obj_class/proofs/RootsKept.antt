@@ -8,7 +8,8 @@ use Rattle.py_data.proofs.Keep.{ref_stays}
 use Rattle.obj_class.specs.Roots.{own_name, HasClass}
 use Rattle.obj_class.specs.Laws.{RootsStay}
 
-pub fixed_stays : (h h1 : Heap) (a : ℕ) (r : Rec) → Extends h h1 → h a ≡ Some r → is_tracked r.kind ≡ false → h1 a ≡ Some r
+pub fixed_stays : (h h1 : Heap) (a : ℕ) (r : Rec) → Extends h h1 → h a ≡ Some r → is_tracked r.kind ≡ false →
+    h1 a ≡ Some r
 fixed_stays h h1 a r x e t = let k = x.kept a r e in k.here ∙ ap Some (k.fixed t)
 
 pub class_stays : (h h1 : Heap) (vs : List Value) (n : ℕ) → Extends h h1 → HasClass h vs n → HasClass h1 vs n

@@ -28,24 +28,29 @@ module _ (S : Type 0) where
   next_calm n vs =
       bind_calm S (new_class_row (root_base vs n) (own_name n)) (λ c. Ret (vs ++ c ∷ []))
       (bind_calm S (made_row (new_rec Str [] (own_name n))) (λ name. class_of_row (root_base vs n) name) (made_calm _)
-      (λ name. bind_calm S (made_row (new_rec Dict [] [])) (λ dict. made_row (new_rec Class (name ∷ root_base vs n ∷ dict ∷ []) [])) (made_calm _) (λ dict. made_calm _)))
+      (λ name. bind_calm S (made_row (new_rec Dict [] []))
+      (λ dict. made_row (new_rec Class (name ∷ root_base vs n ∷ dict ∷ []) [])) (made_calm _)
+      (λ dict. made_calm _)))
       (λ c. ret_calm S _)
 
   from_calm : (m n : ℕ) (vs : List Value) → Calm {S = S} (roots_from n m vs)
   unfolding roots_from
   from_calm zero n vs = ret_calm S vs
-  from_calm (suc m) n vs = bind_calm S (next_root_row n vs) (λ ws. roots_from (n + 1) m ws) (next_calm n vs) (λ ws. from_calm m (n + 1) ws)
+  from_calm (suc m) n vs = bind_calm S (next_root_row n vs) (λ ws. roots_from (n + 1) m ws) (next_calm n vs)
+      (λ ws. from_calm m (n + 1) ws)
 
   roots_calm : Calm {S = S} roots_row
   unfolding roots_row roots_behind_row roots_listed_row
   roots_calm =
       bind_calm S (made_row (new_rec Cell (Int (pos 1) ∷ []) [])) (λ cell. roots_behind_row cell) (made_calm _)
-      (λ cell. bind_calm S (roots_from 0 class_count (cell ∷ [])) (λ vs. roots_listed_row vs) (from_calm class_count 0 (cell ∷ []))
+      (λ cell. bind_calm S (roots_from 0 class_count (cell ∷ [])) (λ vs. roots_listed_row vs)
+      (from_calm class_count 0 (cell ∷ []))
       (λ vs. make_calm S (new_rec Tuple vs []) (λ a. Ret (record { 0 = a })) (λ a. ret_calm S _)))
 
 pub class_steady : (S : Type 0) → ClassSteady S
 class_steady S = record {
-  is_sub = λ c base. only_steady (is_sub_row c base) (only_walk (sub_step base) false (only_sub S base) MOST_BASES (ref c));
+  is_sub = λ c base. only_steady (is_sub_row c base)
+      (only_walk (sub_step base) false (only_sub S base) MOST_BASES (ref c));
   find_attr = λ roots name x. only_steady (find_attr_row roots x name) (only_find S roots name x);
   attr = attr_steady S;
   set_attr = set_steady S;

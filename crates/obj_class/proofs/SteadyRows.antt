@@ -32,7 +32,8 @@ use Rattle.obj_class.specs.Roots.{class_place}
 
 module _ (S : Type 0) where
   -- ---- bases
-  only_base : (c : ℕ) (b : Bool) → OnlyLooks {S = S} {A = Result Value Bool} (cond b (Ret (Err true)) (bind (look_row c 1) (λ b. Ret (Ok b))))
+  only_base : (c : ℕ) (b : Bool) → OnlyLooks {S = S} {A = Result Value Bool}
+      (cond b (Ret (Err true)) (bind (look_row c 1) (λ b. Ret (Ok b))))
   only_base c true = only_ret S (Err true)
   only_base c false = only_bind (look_row c 1) (λ b. Ret (Ok b)) (only_look S c 1) (λ b. only_ret S (Ok b))
 
@@ -71,7 +72,8 @@ module _ (S : Type 0) where
 
   only_heir : (key v : Value) → OnlyLooks {S = S} (heir_step key v)
   unfolding heir_step class_step
-  only_heir key (Ref c) = only_bind (own_row c.0 2 key) (λ o. next_class c.0 o) (only_own c.0 2 key) (λ o. only_next c.0 o)
+  only_heir key (Ref c) = only_bind (own_row c.0 2 key) (λ o. next_class c.0 o) (only_own c.0 2 key)
+      (λ o. only_next c.0 o)
   only_heir key Unset = only_ret S (Err None)
   only_heir key NoneValue = only_ret S (Err None)
   only_heir key (BoolValue b) = only_ret S (Err None)
@@ -84,7 +86,8 @@ module _ (S : Type 0) where
 
   only_bound : (x : Value) → OnlyLooks {S = S} (bound_row x)
   unfolding bound_row
-  only_bound (Ref f) = only_bind (kind_row f.0) (λ k. Ret (Some (bound_of (Ref f) k))) (only_kind S f.0) (λ k. only_ret S (Some (bound_of (Ref f) k)))
+  only_bound (Ref f) = only_bind (kind_row f.0) (λ k. Ret (Some (bound_of (Ref f) k))) (only_kind S f.0)
+      (λ k. only_ret S (Some (bound_of (Ref f) k)))
   only_bound Unset = only_ret S (Some (Plain Unset))
   only_bound NoneValue = only_ret S (Some (Plain NoneValue))
   only_bound (BoolValue b) = only_ret S (Some (Plain (BoolValue b)))
@@ -107,15 +110,18 @@ module _ (S : Type 0) where
 
   only_instance : (a : ℕ) (key : Value) → OnlyLooks {S = S} (instance_row a key)
   unfolding instance_row
-  only_instance a key = only_bind (own_row a 1 key) (λ o. own_or_class a key o) (only_own a 1 key) (λ o. only_or_class a key o)
+  only_instance a key = only_bind (own_row a 1 key) (λ o. own_or_class a key o) (only_own a 1 key)
+      (λ o. only_or_class a key o)
 
   only_class : (c key : Value) → OnlyLooks {S = S} (class_row c key)
   unfolding class_row
-  only_class c key = only_bind (inherited_row key c) (λ o. Ret (option_map Plain o)) (only_inherited key c) (λ o. only_ret S (option_map Plain o))
+  only_class c key = only_bind (inherited_row key c) (λ o. Ret (option_map Plain o)) (only_inherited key c)
+      (λ o. only_ret S (option_map Plain o))
 
   only_methods : (k : Kind) (name : ℕ) → OnlyLooks {S = S} (methods_row k name)
   unfolding methods_row
-  only_methods k name = only_bind (bytes_row name) (λ t. Ret (of_methods k t)) (only_bytes S name) (λ t. only_ret S (of_methods k t))
+  only_methods k name = only_bind (bytes_row name) (λ t. Ret (of_methods k t)) (only_bytes S name)
+      (λ t. only_ret S (of_methods k t))
 
   only_error : (roots : ℕ) → OnlyLooks {S = S} (error_row roots)
   unfolding error_row
@@ -123,13 +129,15 @@ module _ (S : Type 0) where
       let n = class_place (class_number (codes "thread.error")) in
       only_bind (look_row roots n) (λ c. Ret (Some (Plain c))) (only_look S roots n) (λ c. only_ret S (Some (Plain c)))
 
-  only_member : (roots b : ℕ) (t : List ℕ) (c : Bool) → OnlyLooks {S = S} (cond c (error_row roots) (Ret (option_map (λ n. Plain (Builtin n)) (member_of b t))))
+  only_member : (roots b : ℕ) (t : List ℕ) (c : Bool) →
+      OnlyLooks {S = S} (cond c (error_row roots) (Ret (option_map (λ n. Plain (Builtin n)) (member_of b t))))
   only_member roots b t true = only_error roots
   only_member roots b t false = only_ret S (option_map (λ n. Plain (Builtin n)) (member_of b t))
 
   only_builtin : (roots b name : ℕ) → OnlyLooks {S = S} (builtin_row roots b name)
   unfolding builtin_row member_row
-  only_builtin roots b name = only_bind (bytes_row name) (λ t. member_row roots b t) (only_bytes S name) (λ t. only_member roots b t (is_error b t))
+  only_builtin roots b name = only_bind (bytes_row name) (λ t. member_row roots b t) (only_bytes S name)
+      (λ t. only_member roots b t (is_error b t))
 
   only_by : (a : Addr) (name : ℕ) (k : Kind) → OnlyLooks {S = S} (found_by a name k)
   unfolding found_by
@@ -149,7 +157,8 @@ module _ (S : Type 0) where
 
   pub only_find : (roots name : ℕ) (x : Value) → OnlyLooks {S = S} (find_attr_row roots x name)
   unfolding find_attr_row
-  only_find roots name (Ref a) = only_bind (kind_row a.0) (λ k. found_by a name k) (only_kind S a.0) (λ k. only_by a name k)
+  only_find roots name (Ref a) = only_bind (kind_row a.0) (λ k. found_by a name k) (only_kind S a.0)
+      (λ k. only_by a name k)
   only_find roots name (Builtin b) = only_builtin roots b name
   only_find roots name Unset = only_ret S None
   only_find roots name NoneValue = only_ret S None
@@ -158,7 +167,9 @@ module _ (S : Type 0) where
 
   missing_steady : (A : Type 0) (name : ℕ) → Steady {S = S} {A = Got A} false (missing_row name)
   unfolding missing_row
-  missing_steady A name = only_steady (bind (bytes_row name) (λ t. Ret (Raise (attribute_fault t)))) (only_bind (bytes_row name) (λ t. Ret (Raise (attribute_fault t))) (only_bytes S name) (λ t. only_ret S (Raise (attribute_fault t))))
+  missing_steady A name = only_steady (bind (bytes_row name) (λ t. Ret (Raise (attribute_fault t))))
+      (only_bind (bytes_row name) (λ t. Ret (Raise (attribute_fault t))) (only_bytes S name)
+      (λ t. only_ret S (Raise (attribute_fault t))))
 
   given_steady : (x : Value) (name : ℕ) (o : Option Found) → Steady {S = S} false (given_row x name o)
   unfolding given_row method_row Steady
@@ -168,7 +179,8 @@ module _ (S : Type 0) where
 
   pub attr_steady : (roots name : ℕ) (x : Value) → Steady {S = S} false (attr_row roots x name)
   unfolding attr_row
-  attr_steady roots name x = looks_steady (find_attr_row roots x name) (λ o. given_row x name o) (only_find roots name x) (λ o. given_steady x name o)
+  attr_steady roots name x = looks_steady (find_attr_row roots x name) (λ o. given_row x name o)
+      (only_find roots name x) (λ o. given_steady x name o)
 
   -- ---- set and del
   only_at : (a i : ℕ) → OnlyLooks {S = S} (dict_at a i)
@@ -215,12 +227,18 @@ module _ (S : Type 0) where
   gone_steady name (Raise e) = missing_steady (Unit {0}) name
 
   -- a pair is taken out, and then nothing grows
-  drop_steady : (name d : ℕ) (o : Option ℕ) → Steady {S = S} false (bind (drop_found d (ref name) o) (λ g. gone_row name g))
+  drop_steady : (name d : ℕ) (o : Option ℕ) →
+      Steady {S = S} false (bind (drop_found d (ref name) o) (λ g. gone_row name g))
   unfolding drop_found bind Steady
   drop_steady name d None = gone_steady name (Raise (key_fault (ref name)))
-  drop_steady name d (Some i) = ((refl, tt), λ r. ((refl, tt), λ u. gone_steady name (Is (value_at r.values (2 * i + 1)))))
+  drop_steady name d (Some i) = (
+    (refl, tt),
+    λ r.
+        ((refl, tt), λ u. gone_steady name (Is (value_at r.values (2 * i + 1)))),
+  )
 
-  key_steady : (name d : ℕ) (b : Bool) → Steady {S = S} false (bind (if_key (Do (Find d (ref name)) (drop_found d (ref name))) b) (λ g. gone_row name g))
+  key_steady : (name d : ℕ) (b : Bool) →
+      Steady {S = S} false (bind (if_key (Do (Find d (ref name)) (drop_found d (ref name))) b) (λ g. gone_row name g))
   unfolding if_key bind Steady
   key_steady name d true = ((refl, tt), λ o. drop_steady name d o)
   key_steady name d false = gone_steady name (Raise hash_fault)
@@ -255,9 +273,12 @@ module _ (S : Type 0) where
 
   numbered_steady : (roots n : ℕ) (w : With) → Steady {S = S} false (numbered_row roots n w)
   unfolding numbered_row
-  numbered_steady roots n w = looks_steady (look_row roots (class_place n)) (λ class. exception_row class w) (only_look S roots (class_place n)) (λ class. exception_steady class w)
+  numbered_steady roots n w = looks_steady (look_row roots (class_place n)) (λ class. exception_row class w)
+      (only_look S roots (class_place n)) (λ class. exception_steady class w)
 
-  fault_by : (roots : ℕ) (e : Fault) (b : Bool) → Steady {S = S} false (cond b (numbered_row roots e.exc e.with) (numbered_row roots (class_number (codes "MemoryError")) Nothing))
+  fault_by : (roots : ℕ) (e : Fault) (b : Bool) →
+      Steady {S = S} false (cond b (numbered_row roots e.exc e.with)
+      (numbered_row roots (class_number (codes "MemoryError")) Nothing))
   fault_by roots e true = numbered_steady roots e.exc e.with
   fault_by roots e false = numbered_steady roots (class_number (codes "MemoryError")) Nothing
 

@@ -27,7 +27,8 @@ module _ (S : Type 0) where
   -- ---- which class it is
   under_calm : (c : ℕ) (x : Value) → Calm {S = S} (under_row c x)
   unfolding under_row
-  under_calm c (Ref b) = only_calm (is_sub_row c b.0) (only_walk (sub_step b.0) false (only_sub S b.0) MOST_BASES (ref c))
+  under_calm c (Ref b) = only_calm (is_sub_row c b.0)
+      (only_walk (sub_step b.0) false (only_sub S b.0) MOST_BASES (ref c))
   under_calm c Unset = ret_calm S false
   under_calm c NoneValue = ret_calm S false
   under_calm c (BoolValue b) = ret_calm S false
@@ -36,7 +37,8 @@ module _ (S : Type 0) where
 
   value_calm : (roots n : ℕ) (x : Value) → Calm {S = S} (value_under_row roots n x)
   unfolding value_under_row class_under_row
-  value_calm roots n (Ref c) = bind_calm S (look_row roots (class_place n)) (λ b. under_row c.0 b) (look_calm S roots (class_place n)) (λ b. under_calm c.0 b)
+  value_calm roots n (Ref c) = bind_calm S (look_row roots (class_place n)) (λ b. under_row c.0 b)
+      (look_calm S roots (class_place n)) (λ b. under_calm c.0 b)
   value_calm roots n Unset = ret_calm S false
   value_calm roots n NoneValue = ret_calm S false
   value_calm roots n (BoolValue b) = ret_calm S false
@@ -45,12 +47,14 @@ module _ (S : Type 0) where
 
   of_calm : (roots n a : ℕ) → Calm {S = S} (is_of_row roots n a)
   unfolding is_of_row
-  of_calm roots n a = bind_calm S (look_row a 0) (λ c. value_under_row roots n c) (look_calm S a 0) (λ c. value_calm roots n c)
+  of_calm roots n a = bind_calm S (look_row a 0) (λ c. value_under_row roots n c) (look_calm S a 0)
+      (λ c. value_calm roots n c)
 
   -- ---- its attribute `args`
   args_by_calm : (a : ℕ) (k : Kind) → Calm {S = S} (args_by_row a k)
   unfolding args_by_row
-  args_by_calm a Str = bind_calm S (bytes_row a) (λ t. Ret (bytes_eq (codes "args") t)) (bytes_calm S a) (λ t. ret_calm S _)
+  args_by_calm a Str = bind_calm S (bytes_row a) (λ t. Ret (bytes_eq (codes "args") t)) (bytes_calm S a)
+      (λ t. ret_calm S _)
   args_by_calm a Tuple = ret_calm S false
   args_by_calm a ListKind = ret_calm S false
   args_by_calm a Dict = ret_calm S false
@@ -75,16 +79,19 @@ module _ (S : Type 0) where
 
   value_if_calm : (d i : ℕ) (b : Bool) → Calm {S = S} (value_if_row d i b)
   unfolding value_if_row
-  value_if_calm d i true = bind_calm S (look_row d (2 * i + 1)) (λ x. Ret (Some x)) (look_calm S d (2 * i + 1)) (λ x. ret_calm S _)
+  value_if_calm d i true = bind_calm S (look_row d (2 * i + 1)) (λ x. Ret (Some x)) (look_calm S d (2 * i + 1))
+      (λ x. ret_calm S _)
   value_if_calm d i false = ret_calm S None
 
   pair_calm : (d i : ℕ) → Calm {S = S} (args_pair_row d i)
   unfolding args_pair_row value_by_row
-  pair_calm d i = bind_calm S (look_row d (2 * i)) (λ k. value_by_row d i k) (look_calm S d (2 * i)) (λ k. bind_calm S (is_args_row k) (λ b. value_if_row d i b) (is_args_calm k) (λ b. value_if_calm d i b))
+  pair_calm d i = bind_calm S (look_row d (2 * i)) (λ k. value_by_row d i k) (look_calm S d (2 * i))
+      (λ k. bind_calm S (is_args_row k) (λ b. value_if_row d i b) (is_args_calm k) (λ b. value_if_calm d i b))
 
   args_in_calm : (x : Value) → Calm {S = S} (args_in_row x)
   unfolding args_in_row dict_args_row
-  args_in_calm (Ref d) = bind_calm S (size_row d.0) _ (size_calm S d.0) (λ n. until_calm S (args_pair_row d.0) is_missing None (pair_calm d.0) 0 (n / 2))
+  args_in_calm (Ref d) = bind_calm S (size_row d.0) _ (size_calm S d.0)
+      (λ n. until_calm S (args_pair_row d.0) is_missing None (pair_calm d.0) 0 (n / 2))
   args_in_calm Unset = ret_calm S None
   args_in_calm NoneValue = ret_calm S None
   args_in_calm (BoolValue b) = ret_calm S None
@@ -98,19 +105,24 @@ module _ (S : Type 0) where
   -- ---- what of an exception is told
   with_calm : (roots a : ℕ) (x : Value) → Calm {S = S} (part_with_row roots a x)
   unfolding part_with_row
-  with_calm roots a x = bind_calm S (is_of_row roots (class_number (codes "KeyError")) a) (λ key. Ret (Some (part key x))) (of_calm roots (class_number (codes "KeyError")) a) (λ key. ret_calm S _)
+  with_calm roots a x = bind_calm S (is_of_row roots (class_number (codes "KeyError")) a)
+      (λ key. Ret (Some (part key x))) (of_calm roots (class_number (codes "KeyError")) a) (λ key. ret_calm S _)
 
   one_calm : (roots a t : ℕ) → Calm {S = S} (part_one_row roots a t)
   unfolding part_one_row
-  one_calm roots a t = bind_calm S (look_row t 0) (λ x. part_with_row roots a x) (look_calm S t 0) (λ x. with_calm roots a x)
+  one_calm roots a t = bind_calm S (look_row t 0) (λ x. part_with_row roots a x) (look_calm S t 0)
+      (λ x. with_calm roots a x)
 
   sized_calm : (roots a t n : ℕ) → Calm {S = S} (part_sized_row roots a t n)
   unfolding part_sized_row
-  sized_calm roots a t n = cond_calm S (n == 0) (Ret None) _ (ret_calm S None) (cond_calm S (n == 1) (part_one_row roots a t) (Ret (Some (part true (ref t)))) (one_calm roots a t) (ret_calm S _))
+  sized_calm roots a t n = cond_calm S (n == 0) (Ret None) _ (ret_calm S None)
+      (cond_calm S (n == 1) (part_one_row roots a t) (Ret (Some (part true (ref t)))) (one_calm roots a t)
+      (ret_calm S _))
 
   tuple_calm : (roots a t : ℕ) → Calm {S = S} (part_tuple_row roots a t)
   unfolding part_tuple_row
-  tuple_calm roots a t = bind_calm S (size_row t) (λ n. part_sized_row roots a t n) (size_calm S t) (λ n. sized_calm roots a t n)
+  tuple_calm roots a t = bind_calm S (size_row t) (λ n. part_sized_row roots a t n) (size_calm S t)
+      (λ n. sized_calm roots a t n)
 
   part_by_calm : (roots a t : ℕ) (k : Kind) → Calm {S = S} (part_by_row roots a t k)
   unfolding part_by_row
@@ -130,7 +142,8 @@ module _ (S : Type 0) where
 
   part_value_calm : (roots a : ℕ) (x : Value) → Calm {S = S} (part_value_row roots a x)
   unfolding part_value_row part_at_row
-  part_value_calm roots a (Ref t) = bind_calm S (kind_row t.0) (λ k. part_by_row roots a t.0 k) (kind_calm S t.0) (λ k. part_by_calm roots a t.0 k)
+  part_value_calm roots a (Ref t) = bind_calm S (kind_row t.0) (λ k. part_by_row roots a t.0 k) (kind_calm S t.0)
+      (λ k. part_by_calm roots a t.0 k)
   part_value_calm roots a Unset = ret_calm S None
   part_value_calm roots a NoneValue = ret_calm S None
   part_value_calm roots a (BoolValue b) = ret_calm S None
@@ -144,7 +157,8 @@ module _ (S : Type 0) where
 
   told_part_calm : (roots a : ℕ) → Calm {S = S} (told_part_row roots a)
   unfolding told_part_row
-  told_part_calm roots a = bind_calm S (args_row a) (λ o. part_of_row roots a o) (args_calm a) (λ o. part_of_calm roots a o)
+  told_part_calm roots a = bind_calm S (args_row a) (λ o. part_of_row roots a o) (args_calm a)
+      (λ o. part_of_calm roots a o)
 
   -- ---- texts
   abbrev TellsCalm : TellsBy S → Type 0
@@ -157,9 +171,11 @@ module _ (S : Type 0) where
 
   exception_calm : (roots : ℕ) (u : TellsBy S) → TellsCalm u → (a : ℕ) → Calm (exception_text_row roots u a)
   unfolding exception_text_row
-  exception_calm roots u i a = bind_calm S (told_part_row roots a) (λ o. part_text_row u o) (told_part_calm roots a) (λ o. part_text_calm u i o)
+  exception_calm roots u i a = bind_calm S (told_part_row roots a) (λ o. part_text_row u o) (told_part_calm roots a)
+      (λ o. part_text_calm u i o)
 
-  leveled_calm : (roots : ℕ) (o : Option (TellsBy S)) → IfSome o TellsCalm → (a : ℕ) → Calm (level_row o (λ u. exception_text_row roots u a))
+  leveled_calm : (roots : ℕ) (o : Option (TellsBy S)) → IfSome o TellsCalm → (a : ℕ) →
+      Calm (level_row o (λ u. exception_text_row roots u a))
   unfolding level_row
   leveled_calm roots None i a = ret_calm S (Raise depth_fault)
   leveled_calm roots (Some u) i a = exception_calm roots u i a
@@ -172,7 +188,9 @@ module _ (S : Type 0) where
 
     alone_by_calm : (a : ℕ) (k : Kind) → Calm (alone_by_row roots o d a k)
     unfolding alone_by_row instance_text_row
-    alone_by_calm a Instance = bind_calm S (is_of_row roots (class_number (codes "BaseException")) a) (λ b. if_exception_row roots o d a b) (of_calm roots (class_number (codes "BaseException")) a) (λ b. if_calm a b)
+    alone_by_calm a Instance = bind_calm S (is_of_row roots (class_number (codes "BaseException")) a)
+        (λ b. if_exception_row roots o d a b) (of_calm roots (class_number (codes "BaseException")) a)
+        (λ b. if_calm a b)
     alone_by_calm a Str = text_calm S d (ref a) false
     alone_by_calm a Tuple = text_calm S d (ref a) false
     alone_by_calm a ListKind = text_calm S d (ref a) false
@@ -188,7 +206,8 @@ module _ (S : Type 0) where
 
     alone_calm : (x : Value) → Calm (alone_row roots o d x)
     unfolding alone_row alone_at_row
-    alone_calm (Ref a) = bind_calm S (kind_row a.0) (λ k. alone_by_row roots o d a.0 k) (kind_calm S a.0) (λ k. alone_by_calm a.0 k)
+    alone_calm (Ref a) = bind_calm S (kind_row a.0) (λ k. alone_by_row roots o d a.0 k) (kind_calm S a.0)
+        (λ k. alone_by_calm a.0 k)
     alone_calm Unset = text_calm S d Unset false
     alone_calm NoneValue = text_calm S d NoneValue false
     alone_calm (BoolValue b) = text_calm S d (BoolValue b) false
@@ -207,4 +226,5 @@ module _ (S : Type 0) where
 
   pub told_calm : (roots : ℕ) (x : Value) (quoted : Bool) → Calm {S = S} (told_row roots x quoted)
   unfolding told_row
-  told_calm roots x quoted = under_told_calm roots (left roots DEPTH_LIMIT) (left_calm roots DEPTH_LIMIT) DEPTH_LIMIT quoted x
+  told_calm roots x quoted = under_told_calm roots (left roots DEPTH_LIMIT) (left_calm roots DEPTH_LIMIT) DEPTH_LIMIT
+      quoted x

@@ -1,4 +1,5 @@
--- What the attribute of a value is: an instance's own first, then the nearest class's. States `docs/LANGUAGE.md`, "Attributes".
+-- What the attribute of a value is: an instance's own first, then the nearest class's. States `docs/LANGUAGE.md`,
+-- "Attributes".
 use Rattle.std.specs.Prelude.{◌≡◌, ℕ, zero, suc, ◌+◌, ◌*◌, ◌<◌, cond, codes, List, [], ◌++◌, Option, Some, None, option_map}
 use Rattle.py_base.specs.declared.kind.Kind.{Kind}
 use Rattle.py_base.specs.declared.kind.Kind.TheVariants.{Function, Class, Instance}
@@ -61,7 +62,8 @@ inherited h key (suc n) _ = None
 
 -- in the subject's words: some steps along bases lead to a class that has it, and fewer steps to none that has anything
 abbrev pub IsNearest : Heap → Value → Value → Value → Type 0
-IsNearest h key v x = (k : ℕ) × (kept_by h key (up h k v) ≡ Some x) × ((j : ℕ) → j < k → kept_by h key (up h j v) ≡ None)
+IsNearest h key v x = (k : ℕ) × (kept_by h key (up h k v) ≡ Some x) ×
+    ((j : ℕ) → j < k → kept_by h key (up h j v) ≡ None)
 
 -- ---- what is found
 
@@ -84,7 +86,8 @@ own_first (Some x) o = Some (Plain x)
 own_first None o = o
 
 abbrev pub of_instance : Heap → List Value → Value → Option Found
-of_instance h vs key = own_first (kept h (value_at vs 1) key) (option_map (bound h) (inherited h key MOST_BASES (value_at vs 0)))
+of_instance h vs key = own_first (kept h (value_at vs 1) key)
+    (option_map (bound h) (inherited h key MOST_BASES (value_at vs 0)))
 
 -- a class gives what it finds as it is
 abbrev pub of_class : Heap → Value → Value → Option Found
@@ -96,7 +99,8 @@ of_methods k name = option_map (λ b. Bound (Builtin b)) (method_of k name)
 
 -- of a module
 abbrev pub of_builtin : List Value → ℕ → List ℕ → Option Found
-of_builtin vs b name = cond (is_error b name) (Some (Plain (root_class vs (codes "thread.error")))) (option_map (λ n. Plain (Builtin n)) (member_of b name))
+of_builtin vs b name = cond (is_error b name) (Some (Plain (root_class vs (codes "thread.error"))))
+    (option_map (λ n. Plain (Builtin n)) (member_of b name))
 
 abbrev pub of_kind : Heap → Value → ℕ → List Value → Kind → Option Found
 of_kind h x name vs Instance = of_instance h vs (ref name)

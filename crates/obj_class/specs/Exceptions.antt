@@ -56,7 +56,8 @@ made_row r = Do (Make r) (λ a. Ret (ref a))
 
 -- the Dict of one pair, and the instance
 unfoldable pub dict_of_args : {S : Type 0} → Value → Value → Value → Row S Value
-dict_of_args class key tuple = bind (made_row (new_rec Dict (key ∷ tuple ∷ []) [])) (λ dict. made_row (new_rec Instance (class ∷ dict ∷ []) []))
+dict_of_args class key tuple = bind (made_row (new_rec Dict (key ∷ tuple ∷ []) []))
+    (λ dict. made_row (new_rec Instance (class ∷ dict ∷ []) []))
 
 unfoldable pub args_row : {S : Type 0} → Value → Value → List Value → Row S Value
 args_row class key args = bind (made_row (new_rec Tuple args [])) (λ tuple. dict_of_args class key tuple)
@@ -79,4 +80,5 @@ numbered_row roots n w = bind (look_row roots (class_place n)) (λ class. except
 
 -- the length of the text is asked for before anything is made
 unfoldable pub fault_row : {S : Type 0} → ℕ → Fault → Row S Value
-fault_row roots e = cond (is_tellable e.with) (numbered_row roots e.exc e.with) (numbered_row roots (class_number (codes "MemoryError")) Nothing)
+fault_row roots e = cond (is_tellable e.with) (numbered_row roots e.exc e.with)
+    (numbered_row roots (class_number (codes "MemoryError")) Nothing)

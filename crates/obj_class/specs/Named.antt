@@ -1,4 +1,5 @@
--- What has attributes by a rule of the language: the methods of strings, lists, dictionaries, locks and threads, and what the
+-- What has attributes by a rule of the language: the methods of strings, lists, dictionaries, locks and threads, and
+-- what the
 -- modules have. States `docs/LANGUAGE.md`, "Attributes".
 use Rattle.std.specs.Prelude.{ℕ, Bool, cond, ◌==◌, ◌&&◌, codes, List, [], ◌∷◌, ◌++◌, map, Option}
 use Rattle.std.specs.Str.{bytes_eq}
@@ -12,9 +13,14 @@ builtin_of owner name = (builtin_number (owner ++ codes "." ++ name), name)
 
 -- the methods of a kind
 abbrev pub methods_of : Kind → List (ℕ × List ℕ)
-methods_of Str = map (builtin_of (codes "str")) (codes "join" ∷ codes "split" ∷ codes "strip" ∷ codes "upper" ∷ codes "lower" ∷ codes "startswith" ∷ codes "endswith" ∷ codes "find" ∷ codes "replace" ∷ [])
-methods_of ListKind = map (builtin_of (codes "list")) (codes "append" ∷ codes "pop" ∷ codes "insert" ∷ codes "extend" ∷ codes "index" ∷ codes "remove" ∷ codes "reverse" ∷ codes "sort" ∷ [])
-methods_of Dict = map (builtin_of (codes "dict")) (codes "get" ∷ codes "keys" ∷ codes "values" ∷ codes "items" ∷ codes "has_key" ∷ codes "pop" ∷ [])
+methods_of Str = map (builtin_of (codes "str"))
+    (codes "join" ∷ codes "split" ∷ codes "strip" ∷ codes "upper" ∷ codes "lower" ∷ codes "startswith" ∷ codes
+    "endswith" ∷ codes "find" ∷ codes "replace" ∷ [])
+methods_of ListKind = map (builtin_of (codes "list"))
+    (codes "append" ∷ codes "pop" ∷ codes "insert" ∷ codes "extend" ∷ codes "index" ∷ codes "remove" ∷ codes "reverse"
+    ∷ codes "sort" ∷ [])
+methods_of Dict = map (builtin_of (codes "dict"))
+    (codes "get" ∷ codes "keys" ∷ codes "values" ∷ codes "items" ∷ codes "has_key" ∷ codes "pop" ∷ [])
 methods_of Lock = map (builtin_of (codes "lock")) (codes "acquire" ∷ codes "release" ∷ codes "locked" ∷ [])
 methods_of Thread = map (builtin_of (codes "thread")) (codes "start" ∷ codes "join" ∷ [])
 methods_of _ = []

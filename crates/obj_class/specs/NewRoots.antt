@@ -14,7 +14,8 @@ use Rattle.obj_class.specs.Roots.{own_name, root_base}
 -- ---- one class: its name, its dictionary, and the class
 
 unfoldable pub class_of_row : {S : Type 0} → Value → Value → Row S Value
-class_of_row base name = bind (made_row (new_rec Dict [] [])) (λ dict. made_row (new_rec Class (name ∷ base ∷ dict ∷ []) []))
+class_of_row base name = bind (made_row (new_rec Dict [] []))
+    (λ dict. made_row (new_rec Class (name ∷ base ∷ dict ∷ []) []))
 
 unfoldable pub new_class_row : {S : Type 0} → Value → List ℕ → Row S Value
 new_class_row base text = bind (made_row (new_rec Str [] text)) (λ name. class_of_row base name)

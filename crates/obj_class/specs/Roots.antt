@@ -11,7 +11,11 @@ use Rattle.obj_class.specs.Bases.{ref, up}
 
 -- the base of each class, in the order of the classes; `object` has none
 abbrev pub base_names : List (List ℕ)
-base_names = codes "" ∷ codes "object" ∷ codes "BaseException" ∷ codes "Exception" ∷ codes "StandardError" ∷ codes "StandardError" ∷ codes "StandardError" ∷ codes "StandardError" ∷ codes "StandardError" ∷ codes "StandardError" ∷ codes "StandardError" ∷ codes "StandardError" ∷ codes "StandardError" ∷ codes "StandardError" ∷ codes "ArithmeticError" ∷ codes "ArithmeticError" ∷ codes "LookupError" ∷ codes "LookupError" ∷ codes "NameError" ∷ codes "Exception" ∷ []
+base_names = codes "" ∷ codes "object" ∷ codes "BaseException" ∷ codes "Exception" ∷ codes "StandardError" ∷ codes
+    "StandardError" ∷ codes "StandardError" ∷ codes "StandardError" ∷ codes "StandardError" ∷ codes "StandardError" ∷
+    codes "StandardError" ∷ codes "StandardError" ∷ codes "StandardError" ∷ codes "StandardError" ∷ codes
+    "ArithmeticError" ∷ codes "ArithmeticError" ∷ codes "LookupError" ∷ codes "LookupError" ∷ codes "NameError" ∷ codes
+    "Exception" ∷ []
 
 -- the name that a class has itself: `thread.error` is the class `error`
 abbrev pub own_name : ℕ → List ℕ
@@ -41,7 +45,8 @@ pub record HasClass (h : Heap) (vs : List Value) (n : ℕ) : Type 0 where
   pub text : h name ≡ Some (new_rec Str [] (own_name n))
   pub base : value_at class.values 1 ≡ root_base vs n
 
--- The record at an address is the list of roots of a program: the Cell of the count of threads, and then the classes. What
+-- The record at an address is the list of roots of a program: the Cell of the count of threads, and then the classes.
+-- What
 -- stands in the Cell is for a client to say, and so are the strings and the Cells behind the classes.
 pub record IsRoots (h : Heap) (roots : ℕ) : Type 0 where
   pub list : Rec

@@ -1,4 +1,5 @@
--- The texts of values, those of exceptions among them: what is meant, and the row, look by look. States `docs/LANGUAGE.md`,
+-- The texts of values, those of exceptions among them: what is meant, and the row, look by look. States
+-- `docs/LANGUAGE.md`,
 -- "Texts of exceptions", and `docs/HEAP.md`, "Texts".
 use Rattle.std.specs.Prelude.{ℕ, zero, suc, ◌+◌, ◌*◌, ◌/◌, ◌==◌, Bool, true, false, cond, codes, List, [], ◌∷◌, Option, Some, None}
 use Rattle.std.specs.Str.{bytes_eq}
@@ -102,7 +103,8 @@ exception_text h vs (Some u) own = part_text u (told_part h vs own)
 
 -- an instance of another class is told as any value is
 abbrev pub instance_text : Heap → List Value → Option Tells → ℕ → Value → List Value → Got (List ℕ)
-instance_text h vs under d x own = cond (is_of h vs (codes "BaseException") own) (exception_text h vs under own) (text_within h d x false)
+instance_text h vs under d x own = cond (is_of h vs (codes "BaseException") own) (exception_text h vs under own)
+    (text_within h d x false)
 
 abbrev pub alone_by : Heap → List Value → Option Tells → ℕ → Value → Kind → List Value → Got (List ℕ)
 alone_by h vs under d x Instance own = instance_text h vs under d x own
@@ -122,7 +124,8 @@ unfoldable pub told_within : Heap → List Value → ℕ → Tells
 told_within h vs zero = told_under h vs None 0
 told_within h vs (suc d) = told_under h vs (Some (told_within h vs d)) (suc d)
 
--- The text of a value, by the address of the list of roots: as it stands within others (`quoted`), or by itself. RuntimeError,
+-- The text of a value, by the address of the list of roots: as it stands within others (`quoted`), or by itself.
+-- RuntimeError,
 -- where values are nested deeper than 100 levels.
 abbrev pub text_of : Heap → ℕ → Value → Bool → Got (List ℕ)
 text_of h roots x quoted = told_within h (values_in (h roots)) DEPTH_LIMIT quoted x
@@ -197,7 +200,8 @@ unfoldable pub part_one_row : {S : Type 0} → ℕ → ℕ → ℕ → Row S (Op
 part_one_row roots a t = bind (look_row t 0) (λ x. part_with_row roots a x)
 
 unfoldable pub part_sized_row : {S : Type 0} → ℕ → ℕ → ℕ → ℕ → Row S (Option Part)
-part_sized_row roots a t n = cond (n == 0) (Ret None) (cond (n == 1) (part_one_row roots a t) (Ret (Some (part true (ref t)))))
+part_sized_row roots a t n = cond (n == 0) (Ret None)
+    (cond (n == 1) (part_one_row roots a t) (Ret (Some (part true (ref t)))))
 
 unfoldable pub part_tuple_row : {S : Type 0} → ℕ → ℕ → ℕ → Row S (Option Part)
 part_tuple_row roots a t = bind (size_row t) (λ n. part_sized_row roots a t n)
@@ -238,7 +242,8 @@ if_exception_row roots under d a true = level_row under (λ u. exception_text_ro
 if_exception_row roots under d a false = text_row d (ref a) false
 
 unfoldable pub instance_text_row : {S : Type 0} → ℕ → Option (TellsBy S) → ℕ → ℕ → Row S (Got (List ℕ))
-instance_text_row roots under d a = bind (is_of_row roots (class_number (codes "BaseException")) a) (λ b. if_exception_row roots under d a b)
+instance_text_row roots under d a = bind (is_of_row roots (class_number (codes "BaseException")) a)
+    (λ b. if_exception_row roots under d a b)
 
 unfoldable pub alone_by_row : {S : Type 0} → ℕ → Option (TellsBy S) → ℕ → ℕ → Kind → Row S (Got (List ℕ))
 alone_by_row roots under d a Instance = instance_text_row roots under d a

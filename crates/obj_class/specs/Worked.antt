@@ -10,10 +10,21 @@ use Rattle.obj_class.specs.Attributes.{attribute, inherited}
 use Rattle.obj_class.specs.Bases.{ref, is_below}
 use Rattle.obj_class.specs.Roots.{base_names, own_name}
 
--- Class A has the function m and x = 1; class B, whose base is A, has x = 2; the first instance of B has y = 3, the second
+-- Class A has the function m and x = 1; class B, whose base is A, has x = 2; the first instance of B has y = 3, the
+-- second
 -- m = 5. The roots have at the place of `thread.error` the class A.
 abbrev records : List Rec
-records = new_rec Str [] (codes "A") ∷ new_rec Dict (ref 10 ∷ ref 12 ∷ ref 11 ∷ Int (pos 1) ∷ []) [] ∷ new_rec Class (ref 0 ∷ NoneValue ∷ ref 1 ∷ []) [] ∷ new_rec Str [] (codes "B") ∷ new_rec Dict (ref 11 ∷ Int (pos 2) ∷ []) [] ∷ new_rec Class (ref 3 ∷ ref 2 ∷ ref 4 ∷ []) [] ∷ new_rec Dict (ref 13 ∷ Int (pos 3) ∷ []) [] ∷ new_rec Instance (ref 5 ∷ ref 6 ∷ []) [] ∷ new_rec Dict (ref 10 ∷ Int (pos 5) ∷ []) [] ∷ new_rec Instance (ref 5 ∷ ref 8 ∷ []) [] ∷ new_rec Str [] (codes "m") ∷ new_rec Str [] (codes "x") ∷ new_rec Function (ref 10 ∷ Int (pos 1) ∷ ref 14 ∷ []) [] ∷ new_rec Str [] (codes "y") ∷ new_rec Tuple [] [] ∷ new_rec Str [] (codes "append") ∷ new_rec ListKind [] [] ∷ new_rec Str [] (codes "start_new_thread") ∷ new_rec Thread (NoneValue ∷ ref 14 ∷ NoneValue ∷ BoolValue false ∷ []) [] ∷ new_rec Str [] (codes "error") ∷ new_rec Tuple (NoneValue ∷ NoneValue ∷ NoneValue ∷ NoneValue ∷ NoneValue ∷ NoneValue ∷ NoneValue ∷ NoneValue ∷ NoneValue ∷ NoneValue ∷ NoneValue ∷ NoneValue ∷ NoneValue ∷ NoneValue ∷ NoneValue ∷ NoneValue ∷ NoneValue ∷ NoneValue ∷ NoneValue ∷ NoneValue ∷ ref 2 ∷ []) [] ∷ []
+records = new_rec Str [] (codes "A") ∷ new_rec Dict (ref 10 ∷ ref 12 ∷ ref 11 ∷ Int (pos 1) ∷ []) [] ∷ new_rec Class
+    (ref 0 ∷ NoneValue ∷ ref 1 ∷ []) [] ∷ new_rec Str [] (codes "B") ∷ new_rec Dict (ref 11 ∷ Int (pos 2) ∷ []) [] ∷
+    new_rec Class (ref 3 ∷ ref 2 ∷ ref 4 ∷ []) [] ∷ new_rec Dict (ref 13 ∷ Int (pos 3) ∷ []) [] ∷ new_rec Instance
+    (ref 5 ∷ ref 6 ∷ []) [] ∷ new_rec Dict (ref 10 ∷ Int (pos 5) ∷ []) [] ∷ new_rec Instance (ref 5 ∷ ref 8 ∷ []) [] ∷
+    new_rec Str [] (codes "m") ∷ new_rec Str [] (codes "x") ∷ new_rec Function (ref 10 ∷ Int (pos 1) ∷ ref 14 ∷ []) []
+    ∷ new_rec Str [] (codes "y") ∷ new_rec Tuple [] [] ∷ new_rec Str [] (codes "append") ∷ new_rec ListKind [] [] ∷
+    new_rec Str [] (codes "start_new_thread") ∷ new_rec Thread (NoneValue ∷ ref 14 ∷ NoneValue ∷ BoolValue false ∷ [])
+    [] ∷ new_rec Str [] (codes "error") ∷ new_rec Tuple
+    (NoneValue ∷ NoneValue ∷ NoneValue ∷ NoneValue ∷ NoneValue ∷ NoneValue ∷ NoneValue ∷ NoneValue ∷ NoneValue ∷
+    NoneValue ∷ NoneValue ∷ NoneValue ∷ NoneValue ∷ NoneValue ∷ NoneValue ∷ NoneValue ∷ NoneValue ∷ NoneValue ∷
+    NoneValue ∷ NoneValue ∷ ref 2 ∷ []) [] ∷ []
 
 abbrev heap : Heap
 heap a = slice_get records a
@@ -52,7 +63,8 @@ number_has_none : attribute heap 20 (Int (pos 5)) 11 ≡ None
 number_has_none = refl
 
 -- what the module `thread` has, a thread hasn't
-module_starts : attribute heap 20 (Builtin (builtin_number (codes "thread"))) 17 ≡ Some (Plain (Builtin (builtin_number (codes "thread.start_new_thread"))))
+module_starts : attribute heap 20 (Builtin (builtin_number (codes "thread"))) 17 ≡ Some
+    (Plain (Builtin (builtin_number (codes "thread.start_new_thread"))))
 module_starts = refl
 
 thread_does_not : attribute heap 20 (ref 18) 17 ≡ None

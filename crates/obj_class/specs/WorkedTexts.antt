@@ -9,11 +9,14 @@ use Rattle.py_data.specs.Texts.{repr_within}
 use Rattle.obj_class.specs.Bases.{ref}
 use Rattle.obj_class.specs.Telling.{text_of, told_within}
 
--- The roots (0) have BaseException (1) and KeyError (2) at their places; I (3) is below BaseException, and C (4) below none. 6 is
+-- The roots (0) have BaseException (1) and KeyError (2) at their places; I (3) is below BaseException, and C (4) below
+-- none. 6 is
 -- the string `args`, 7 the string a. Behind them come tuples, dictionaries and instances.
 abbrev records : List Rec
 records =
-    new_rec Tuple (NoneValue ∷ NoneValue ∷ ref 1 ∷ NoneValue ∷ NoneValue ∷ NoneValue ∷ NoneValue ∷ NoneValue ∷ NoneValue ∷ NoneValue ∷ NoneValue ∷ NoneValue ∷ NoneValue ∷ NoneValue ∷ NoneValue ∷ NoneValue ∷ NoneValue ∷ NoneValue ∷ ref 2 ∷ []) [] ∷
+    new_rec Tuple (NoneValue ∷ NoneValue ∷ ref 1 ∷ NoneValue ∷ NoneValue ∷ NoneValue ∷ NoneValue ∷ NoneValue ∷
+    NoneValue ∷ NoneValue ∷ NoneValue ∷ NoneValue ∷ NoneValue ∷ NoneValue ∷ NoneValue ∷ NoneValue ∷ NoneValue ∷
+    NoneValue ∷ ref 2 ∷ []) [] ∷
     new_rec Class (ref 7 ∷ NoneValue ∷ ref 9 ∷ []) [] ∷
     new_rec Class (ref 7 ∷ ref 1 ∷ ref 9 ∷ []) [] ∷
     new_rec Class (ref 5 ∷ ref 1 ∷ ref 9 ∷ []) [] ∷

@@ -17,7 +17,8 @@ use Rattle.py_data.proofs.Rows.{meets-own, meets-do, read-heap, safe-next}
 use Rattle.py_data.proofs.Steps.{stands-again, as-err, at-is, leads-do, leads-ret}
 use Rattle.obj_dict.specs.Listing.{half, tuples_row}
 
-pub half-next : (second : Bool) (vs : List Value) (i : ℕ) → 2 * i + 1 < length vs → half second (take (2 * (i + 1)) vs) ≡ half second (take (2 * i) vs) ++ value_at vs (2 * i + cond second 1 0) ∷ []
+pub half-next : (second : Bool) (vs : List Value) (i : ℕ) → 2 * i + 1 < length vs →
+    half second (take (2 * (i + 1)) vs) ≡ half second (take (2 * i) vs) ++ value_at vs (2 * i + cond second 1 0) ∷ []
 half-next second [] i h = absurd (omega arith)
 half-next second (k ∷ []) i h = absurd (omega arith)
 half-next true (k ∷ x ∷ rest) zero h = refl
@@ -28,34 +29,42 @@ half-next second (k ∷ x ∷ rest) (suc i) h =
     let c : 2 * suc i + cond second 1 0 ≡ suc (suc (2 * i + cond second 1 0)) = omega arith in
     rw (a, c, b) (ap (λ t. cond second x k ∷ t) (half-next second rest i (omega arith)))
 
-pub half-end : (second : Bool) (vs : List Value) (i : ℕ) → length vs ≤ 2 * i + 1 → half second (take (2 * i) vs) ≡ half second vs
+pub half-end : (second : Bool) (vs : List Value) (i : ℕ) → length vs ≤ 2 * i + 1 →
+    half second (take (2 * i) vs) ≡ half second vs
 half-end second [] zero h = refl
 half-end second (k ∷ []) zero h = refl
 half-end second (k ∷ x ∷ rest) zero h = absurd (omega arith)
 half-end second [] (suc i) h = let b : 2 * suc i ≡ suc (suc (2 * i)) = omega arith in rw b refl
 half-end second (k ∷ []) (suc i) h = let b : 2 * suc i ≡ suc (suc (2 * i)) = omega arith in rw b refl
-half-end second (k ∷ x ∷ rest) (suc i) h = let b : 2 * suc i ≡ suc (suc (2 * i)) = omega arith in rw b (ap (λ t. cond second x k ∷ t) (half-end second rest i (omega arith)))
+half-end second (k ∷ x ∷ rest) (suc i) h = let b : 2 * suc i ≡ suc (suc (2 * i)) = omega arith in
+    rw b (ap (λ t. cond second x k ∷ t) (half-end second rest i (omega arith)))
 
 module _ {S X : Type 0} (u : Sense S X) where
   -- a further look, while the view is as it was
-  pub looked-again : (L : Lawful u) {a : ℕ} {r q : Rec} {v w x : X} → Stands u a r v → w ≡ v → u.does (Read a) w q x → x ≡ v
+  pub looked-again : (L : Lawful u) {a : ℕ} {r q : Rec} {v w x : X} → Stands u a r v → w ≡ v → u.does (Read a) w q x →
+      x ≡ v
   looked-again L {a = a} {r = r} {q = q} h e d = stands-again L q (subst (Stands u a r) (sym e) h) d ∙ e
 
   -- no memory of its own, while the view is as it was
-  pub starved-again : {A : Type 0} (row : Row S A) (v w : X) (res : Result A Stop) → w ≡ v → IsErrAnd res (λ e. e ≡ OutOfMemory) → Meets u row v w res
-  starved-again row v w res e h = subst (λ r. Meets u row v w r) (sym (as-err res OutOfMemory h)) (subst (λ z. Meets u row v z (Err OutOfMemory)) (sym e) (meets-own u row v))
+  pub starved-again : {A : Type 0} (row : Row S A) (v w : X) (res : Result A Stop) → w ≡ v →
+      IsErrAnd res (λ e. e ≡ OutOfMemory) → Meets u row v w res
+  starved-again row v w res e h = subst (λ r. Meets u row v w r) (sym (as-err res OutOfMemory h))
+      (subst (λ z. Meets u row v z (Err OutOfMemory)) (sym e) (meets-own u row v))
 
-  pub value-before : (a : ℕ) (v w : X) (x : Value) (i : ℕ) → w ≡ v → x ≡ value_at (at (u.heap w) a).values i → x ≡ value_at (at (u.heap v) a).values i
+  pub value-before : (a : ℕ) (v w : X) (x : Value) (i : ℕ) → w ≡ v → x ≡ value_at (at (u.heap w) a).values i →
+      x ≡ value_at (at (u.heap v) a).values i
   value-before a v w x i e h = subst (λ z. x ≡ value_at (at (u.heap z) a).values i) e h
 
   -- a row that looks first, and goes on with what it saw
-  pub look-then : {A : Type 0} (L : Lawful u) (a : ℕ) (k : Rec → Row S A) (v m w : X) (res : Result A Stop) → u.does (Read a) v (at (u.heap v) a) m → Meets u (k (at (u.heap m) a)) m w res → Meets u (Do (Read a) k) v w res
+  pub look-then : {A : Type 0} (L : Lawful u) (a : ℕ) (k : Rec → Row S A) (v m w : X) (res : Result A Stop) →
+      u.does (Read a) v (at (u.heap v) a) m → Meets u (k (at (u.heap m) a)) m w res → Meets u (Do (Read a) k) v w res
   look-then L a k v m w res d h =
       let same : at (u.heap m) a ≡ at (u.heap v) a = ap (λ h. at h a) (read-heap L a v m (at (u.heap v) a) d) in
       meets-do u (Read a) k v m w (at (u.heap v) a) res d (subst (λ r. Meets u (k r) m w res) same h)
 
 -- a record stands when another was made
-stands-made : {S X : Type 0} {u : Sense S X} (L : Lawful u) {a b : ℕ} {r made : Rec} {w x : X} → Stands u a r w → u.does (Make made) w b x → Stands u a r x
+stands-made : {S X : Type 0} {u : Sense S X} (L : Lawful u) {a b : ℕ} {r made : Rec} {w x : X} → Stands u a r w →
+    u.does (Make made) w b x → Stands u a r x
 stands-made {u = u} L {a = a} {b = b} {r = r} {made = made} {w = w} {x = x} h d =
     let e = L.effect (Make made) w b x d in
     let new : a ≢ b = λ same. let s = h.is in let n = e.0 in let s1 = ap (u.heap w) same in absurd (cc) in
@@ -65,14 +74,16 @@ stands-made {u = u} L {a = a} {b = b} {r = r} {made = made} {w = w} {x = x} h d 
     }
 
 -- before the turn for pair i
-pub record Tupling {S X : Type 0} (u : Sense S X) (d n : ℕ) (vs : List Value) (i : ℕ) (refs : List Value) (v w : X) : Type 0 where
+pub record Tupling {S X : Type 0} (u : Sense S X) (d n : ℕ) (vs : List Value) (i : ℕ) (refs : List Value)
+    (v w : X) : Type 0 where
   pub leads : Leads u (tuples_row {S = S} [] vs) v (tuples_row refs (drop (2 * i) vs)) w
   pub now : Rec
   pub stands : Stands u d now w
   pub items : now.values ≡ vs
   pub count : length vs ≡ n
 
-drop-pair : (vs : List Value) (i : ℕ) → 2 * i + 1 < length vs → drop (2 * i) vs ≡ value_at vs (2 * i) ∷ value_at vs (2 * i + 1) ∷ drop (2 * (i + 1)) vs
+drop-pair : (vs : List Value) (i : ℕ) → 2 * i + 1 < length vs →
+    drop (2 * i) vs ≡ value_at vs (2 * i) ∷ value_at vs (2 * i + 1) ∷ drop (2 * (i + 1)) vs
 drop-pair vs i h =
     let a = drop-cons vs (2 * i) Unset (omega arith) in
     let b = drop-cons vs (2 * i + 1) Unset h in
@@ -80,15 +91,19 @@ drop-pair vs i h =
     rw c (a ∙ ap (λ t. value_at vs (2 * i) ∷ t) (ap (λ j. drop j vs) (sym (add-one (2 * i))) ∙ b))
 
 module _ {S X : Type 0} {u : Sense S X} {d n : ℕ} {vs : List Value} {i : ℕ} {refs : List Value} {v w : X} where
-  pub tupling-next : Tupling u d n vs i refs v w → (key x : Value) (made : Rec) → 2 * i + 1 < n → key ≡ value_at vs (2 * i) → x ≡ value_at vs (2 * i + 1) → made ≡ new_rec Tuple (key ∷ x ∷ []) []
-      → Leads u (tuples_row {S = S} [] vs) v (Do (Make made) (λ b. tuples_row (refs ++ Ref (record { 0 = b }) ∷ []) (drop (2 * (i + 1)) vs))) w
+  pub tupling-next : Tupling u d n vs i refs v w → (key x : Value) (made : Rec) → 2 * i + 1 < n →
+      key ≡ value_at vs (2 * i) → x ≡ value_at vs (2 * i + 1) → made ≡ new_rec Tuple (key ∷ x ∷ []) []
+      → Leads u (tuples_row {S = S} [] vs) v
+      (Do (Make made) (λ b. tuples_row (refs ++ Ref (record { 0 = b }) ∷ []) (drop (2 * (i + 1)) vs))) w
   unfolding tuples_row
   tupling-next h key x made less e f g =
       let inside : 2 * i + 1 < length vs = omega (arith, h.count) in
       let here : drop (2 * i) vs ≡ key ∷ x ∷ drop (2 * (i + 1)) vs = rw (e, f) (drop-pair vs i inside) in
       rw g (subst (λ l. Leads u (tuples_row {S = S} [] vs) v (tuples_row refs l) w) here h.leads)
 
-  pub tupling-more : (L : Lawful u) → Tupling u d n vs i refs v w → (key x : Value) (made : Rec) (b : ℕ) (z : X) → 2 * i + 1 < n → key ≡ value_at vs (2 * i) → x ≡ value_at vs (2 * i + 1) → made ≡ new_rec Tuple (key ∷ x ∷ []) [] → u.does (Make made) w b z
+  pub tupling-more : (L : Lawful u) → Tupling u d n vs i refs v w → (key x : Value) (made : Rec) (b : ℕ) (z : X) →
+      2 * i + 1 < n → key ≡ value_at vs (2 * i) → x ≡ value_at vs (2 * i + 1) → made ≡ new_rec Tuple (key ∷ x ∷ []) []
+      → u.does (Make made) w b z
       → Tupling u d n vs (i + 1) (refs ++ Ref (record { 0 = b }) ∷ []) v z
   tupling-more L h key x made b z less e f g m = record {
     leads = leads-do L b (tupling-next h key x made less e f g) m;
@@ -110,17 +125,22 @@ tuples-end refs [] h = refl
 tuples-end refs (k ∷ []) h = refl
 tuples-end refs (k ∷ x ∷ rest) h = absurd (omega arith)
 
-pub tupling-last : {S X : Type 0} {u : Sense S X} {d n : ℕ} {vs : List Value} {i : ℕ} {refs : List Value} {v w : X} → Tupling u d n vs i refs v w → n ≤ 2 * i + 1 → Meets u (tuples_row {S = S} [] vs) v w (Ok refs)
+pub tupling-last : {S X : Type 0} {u : Sense S X} {d n : ℕ} {vs : List Value} {i : ℕ} {refs : List Value} {v w : X} →
+    Tupling u d n vs i refs v w → n ≤ 2 * i + 1 → Meets u (tuples_row {S = S} [] vs) v w (Ok refs)
 tupling-last {S = S} {u = u} {vs = vs} {i = i} {refs = refs} {v = v} {w = w} h less =
-    leads-ret (subst (λ row. Leads u (tuples_row {S = S} [] vs) v row w) (tuples-end refs (drop (2 * i) vs) (omega (arith, length-drop (2 * i) vs, h.count))) h.leads)
+    leads-ret (subst (λ row. Leads u (tuples_row {S = S} [] vs) v row w)
+    (tuples-end refs (drop (2 * i) vs) (omega (arith, length-drop (2 * i) vs, h.count))) h.leads)
 
 -- both values of a pair were read
-pub record PairRead {S X : Type 0} (u : Sense S X) (d n : ℕ) (vs : List Value) (i : ℕ) (refs : List Value) (v w : X) (k x : Value) : Type 0 where
+pub record PairRead {S X : Type 0} (u : Sense S X) (d n : ℕ) (vs : List Value) (i : ℕ) (refs : List Value) (v w : X)
+    (k x : Value) : Type 0 where
   pub still : Tupling u d n vs i refs v w
   pub key : k ≡ value_at vs (2 * i)
   pub value : x ≡ value_at vs (2 * i + 1)
 
-pub pair-read : {S X : Type 0} {u : Sense S X} (L : Lawful u) {d n : ℕ} {vs : List Value} {i : ℕ} {refs : List Value} {v w m1 m2 : X} {q p : Rec} (key x : Value) → Tupling u d n vs i refs v w → u.does (Read d) w q m1 → key ≡ value_at (at (u.heap w) d).values (2 * i)
+pub pair-read : {S X : Type 0} {u : Sense S X} (L : Lawful u) {d n : ℕ} {vs : List Value} {i : ℕ} {refs : List Value}
+    {v w m1 m2 : X} {q p : Rec} (key x : Value) → Tupling u d n vs i refs v w → u.does (Read d) w q m1 →
+    key ≡ value_at (at (u.heap w) d).values (2 * i)
     → u.does (Read d) m1 p m2 → x ≡ value_at (at (u.heap m1) d).values (2 * i + 1) → PairRead u d n vs i refs v m2 key x
 pair-read {u = u} L {d = d} {n = n} {vs = vs} {i = i} {refs = refs} {v = v} key x h r e s f =
     let same1 = tupling-looked L h r in
@@ -133,7 +153,9 @@ pair-read {u = u} L {d = d} {n = n} {vs = vs} {i = i} {refs = refs} {v = v} key 
     }
 
 -- what a row asks behind a look
-pub safe-looked : {S X A : Type 0} {u : Sense S X} (L : Lawful u) (a : ℕ) (k : Rec → Row S A) (v m : X) → u.does (Read a) v (at (u.heap v) a) m → Safe u.partial (Do (Read a) k) (u.heap v) → Safe u.partial (k (at (u.heap m) a)) (u.heap m)
+pub safe-looked : {S X A : Type 0} {u : Sense S X} (L : Lawful u) (a : ℕ) (k : Rec → Row S A) (v m : X) →
+    u.does (Read a) v (at (u.heap v) a) m → Safe u.partial (Do (Read a) k) (u.heap v) →
+    Safe u.partial (k (at (u.heap m) a)) (u.heap m)
 safe-looked {u = u} L a k v m d s =
     let same : at (u.heap m) a ≡ at (u.heap v) a = ap (λ h. at h a) (read-heap L a v m (at (u.heap v) a) d) in
     subst (λ r. Safe u.partial (k r) (u.heap m)) (sym same) (safe-next L (Read a) k v m (at (u.heap v) a) s d)

@@ -22,7 +22,8 @@ module _ (S : Type 0) where
   if_steady rest s true = s
   if_steady rest s false = tt
 
-  keyed_steady : {A : Type 0} (rest : Row S (Got A)) → Steady false rest → (key : Value) → Steady false (bind (key_row key) (if_key rest))
+  keyed_steady : {A : Type 0} (rest : Row S (Got A)) → Steady false rest → (key : Value) →
+      Steady false (bind (key_row key) (if_key rest))
   unfolding key_row bind Steady
   keyed_steady rest s (Ref a) = ((refl, tt), λ r. if_steady rest s (is_key_kind r.kind))
   keyed_steady rest s Unset = if_steady rest s false
@@ -31,7 +32,8 @@ module _ (S : Type 0) where
   keyed_steady rest s (Int n) = if_steady rest s true
   keyed_steady rest s (Builtin n) = if_steady rest s true
 
-  find_steady : {A : Type 0} (d : ℕ) (key : Value) (k : Option ℕ → Row S A) → ((o : Option ℕ) → Steady false (k o)) → Steady false (Do (Find d key) k)
+  find_steady : {A : Type 0} (d : ℕ) (key : Value) (k : Option ℕ → Row S A) → ((o : Option ℕ) → Steady false (k o)) →
+      Steady false (Do (Find d key) k)
   unfolding Steady
   find_steady d key k s = ((refl, tt), s)
 
@@ -40,7 +42,9 @@ module _ (S : Type 0) where
   value_steady d None = tt
   value_steady d (Some i) = ((refl, tt), λ r. tt)
 
-  push_steady : (d : ℕ) (key x : Value) (b : Bool) → Steady {S = S} {A = Got (Unit {0})} false (cond b (Do (Edit d (change.Pair key x)) (λ _. Ret (Is tt))) (Ret (Raise memory_fault)))
+  push_steady : (d : ℕ) (key x : Value) (b : Bool) →
+      Steady {S = S} {A = Got (Unit {0})} false
+      (cond b (Do (Edit d (change.Pair key x)) (λ _. Ret (Is tt))) (Ret (Raise memory_fault)))
   unfolding Steady
   push_steady d key x true = ((refl, tt), λ u. tt)
   push_steady d key x false = tt
@@ -57,15 +61,18 @@ module _ (S : Type 0) where
 
   get_steady : (d : ℕ) (key : Value) → Steady {S = S} false (get_row d key)
   unfolding get_row
-  get_steady d key = keyed_steady (Do (Find d key) (value_of_pair d)) (find_steady d key (value_of_pair d) (value_steady d)) key
+  get_steady d key = keyed_steady (Do (Find d key) (value_of_pair d))
+      (find_steady d key (value_of_pair d) (value_steady d)) key
 
   set_steady : (d : ℕ) (key x : Value) → Steady {S = S} false (set_row d key x)
   unfolding set_row
-  set_steady d key x = keyed_steady (Do (Find d key) (set_pair d key x)) (find_steady d key (set_pair d key x) (pair_steady d key x)) key
+  set_steady d key x = keyed_steady (Do (Find d key) (set_pair d key x))
+      (find_steady d key (set_pair d key x) (pair_steady d key x)) key
 
   del_steady : (d : ℕ) (key : Value) → Steady {S = S} false (del_row d key)
   unfolding del_row
-  del_steady d key = keyed_steady (Do (Find d key) (drop_found d key)) (find_steady d key (drop_found d key) (drop_steady d key)) key
+  del_steady d key = keyed_steady (Do (Find d key) (drop_found d key))
+      (find_steady d key (drop_found d key) (drop_steady d key)) key
 
   -- a row that makes may go on so
   made_steady : (grown : Bool) (items : List Value) → Steady {S = S} grown (list_row items)
@@ -77,8 +84,10 @@ module _ (S : Type 0) where
   unfolding tuples_row bind Steady
   tuples_steady grown made [] = made_steady grown made
   tuples_steady grown made (k ∷ []) = made_steady grown made
-  tuples_steady true made (k ∷ x ∷ rest) = ((refl, tt), λ b. tuples_steady true (made ++ Ref (record { 0 = b }) ∷ []) rest)
-  tuples_steady false made (k ∷ x ∷ rest) = ((refl, tt), λ b. tuples_steady true (made ++ Ref (record { 0 = b }) ∷ []) rest)
+  tuples_steady true made (k ∷ x ∷ rest) =
+      ((refl, tt), λ b. tuples_steady true (made ++ Ref (record { 0 = b }) ∷ []) rest)
+  tuples_steady false made (k ∷ x ∷ rest) =
+      ((refl, tt), λ b. tuples_steady true (made ++ Ref (record { 0 = b }) ∷ []) rest)
 
   list_steady : (d : ℕ) (part : Part) → Steady {S = S} false (list_of_row d part)
   unfolding list_of_row bind Steady

@@ -22,7 +22,8 @@ use Rattle.obj_dict.proofs.FindSteps.{within}
 use Rattle.obj_dict.proofs.Pairing.{pair-law, double, double-more}
 
 -- the value of a pair, among the values
-half-at : (vs : List Value) (i : ℕ) → 2 * i + 1 < length vs → slice_get (half true vs) i ≡ Some (value_at vs (2 * i + 1))
+half-at : (vs : List Value) (i : ℕ) → 2 * i + 1 < length vs →
+    slice_get (half true vs) i ≡ Some (value_at vs (2 * i + 1))
 half-at [] i h = absurd (omega arith)
 half-at (k ∷ []) i h = absurd (omega arith)
 half-at (k ∷ x ∷ rest) zero h = refl
@@ -42,15 +43,18 @@ push-paired [] key x h = tt
 push-paired (k ∷ []) key x h = absurd h
 push-paired (k ∷ y ∷ rest) key x h = push-paired rest key x h
 
-drop-paired : (vs : List Value) (k : ℕ) → 2 * k + 1 < length vs → ArePaired vs → ArePaired (remove (remove vs (2 * k)) (2 * k))
+drop-paired : (vs : List Value) (k : ℕ) → 2 * k + 1 < length vs → ArePaired vs →
+    ArePaired (remove (remove vs (2 * k)) (2 * k))
 drop-paired [] k l h = absurd (omega arith)
 drop-paired (y ∷ []) k l h = absurd h
 drop-paired (y ∷ z ∷ rest) zero l h = h
 drop-paired (y ∷ z ∷ rest) (suc k) l h = rw double (drop-paired rest k (omega arith) h)
 
 -- one change of a dictionary
-leaves : (d : ℕ) (f : Rec → Rec) (r : Rec) (keys values : List Value) (h h1 : Heap) → h d ≡ Some r → Edits d f h h1 → f r ≡ record r { values = (f r).values; room = (f r).room }
-    → (ArePaired r.values → ArePaired (f r).values) → half false (f r).values ≡ keys → half true (f r).values ≡ values → Leaves d r keys values h h1
+leaves : (d : ℕ) (f : Rec → Rec) (r : Rec) (keys values : List Value) (h h1 : Heap) → h d ≡ Some r → Edits d f h h1 →
+    f r ≡ record r { values = (f r).values; room = (f r).room }
+    → (ArePaired r.values → ArePaired (f r).values) → half false (f r).values ≡ keys → half true (f r).values ≡ values
+    → Leaves d r keys values h h1
 leaves d f r keys values h h1 e c s p ks vs = record {
   now = f r;
   is = ap (λ g. g d) c.1 ∙ put-here h d (f (at h d)) ∙ ap (λ q. Some (f q)) (at-is h d r e);
@@ -63,7 +67,8 @@ leaves d f r keys values h h1 e c s p ks vs = record {
 
 module _ {S X : Type 0} {u : Sense S X} (L : Lawful u) where
   -- a value that can be a key: what follows was done, over the same records
-  keyed : {A : Type 0} (rest : Row S (Got A)) (key : Value) (v w : X) (res : Got A) → IsKey (u.heap v) key → Run u (bind (key_row key) (if_key rest)) v res w
+  keyed : {A : Type 0} (rest : Row S (Got A)) (key : Value) (v w : X) (res : Got A) → IsKey (u.heap v) key →
+      Run u (bind (key_row key) (if_key rest)) v res w
       → (m : X) × (u.heap m ≡ u.heap v) × Run u rest m res w
   unfolding key_row if_key bind Run
   keyed rest (Ref a) v w res k d =
@@ -77,14 +82,16 @@ module _ {S X : Type 0} {u : Sense S X} (L : Lawful u) where
   keyed rest (Builtin b) v w res k d = (v, refl, d)
 
   -- a value that can't
-  unkeyed : {A : Type 0} (rest : Row S (Got A)) (key : Value) (v w : X) (res : Got A) → (IsKey (u.heap v) key → ⊥) → Run u (bind (key_row key) (if_key rest)) v res w
+  unkeyed : {A : Type 0} (rest : Row S (Got A)) (key : Value) (v w : X) (res : Got A) → (IsKey (u.heap v) key → ⊥) →
+      Run u (bind (key_row key) (if_key rest)) v res w
       → (res ≡ Raise hash_fault) × (u.heap w ≡ u.heap v)
   unfolding key_row if_key bind Run
   unkeyed rest (Ref a) v w res n d =
       let f = L.effect (Read a.0) v d.0 d.1 d.2 in
       by (is_key_kind d.0.kind) (λ k. n (subst (λ o. KindIn o (λ k. is_key_kind k ≡ true)) (sym f.0) k)) f.1 d.3
     where
-      by : (b : Bool) → (b ≡ true → ⊥) → u.heap d.1 ≡ u.heap v → Run u (if_key rest b) d.1 res w → (res ≡ Raise hash_fault) × (u.heap w ≡ u.heap v)
+      by : (b : Bool) → (b ≡ true → ⊥) → u.heap d.1 ≡ u.heap v → Run u (if_key rest b) d.1 res w →
+          (res ≡ Raise hash_fault) × (u.heap w ≡ u.heap v)
       by true n e g = absurd (n refl)
       by false n e g = (g.0, ap u.heap g.1 ∙ e)
   unkeyed rest Unset v w res n d = (d.0, ap u.heap d.1)
@@ -94,18 +101,22 @@ module _ {S X : Type 0} {u : Sense S X} (L : Lawful u) where
   unkeyed rest (Builtin b) v w res n d = absurd (n tt)
 
   -- a key was looked for: what follows was done with the place that it has, over the same records
-  found : {A : Type 0} (k : Option ℕ → Row S (Got A)) (d : ℕ) (key : Value) (r : Rec) (v w : X) (res : Got A) → u.heap v d ≡ Some r → IsKey (u.heap v) key
-      → Run u (bind (key_row key) (if_key (Do (Find d key) k))) v res w → (m : X) × (u.heap m ≡ u.heap v) × Run u (k (find (u.heap v) r.values key)) m res w
+  found : {A : Type 0} (k : Option ℕ → Row S (Got A)) (d : ℕ) (key : Value) (r : Rec) (v w : X) (res : Got A) →
+      u.heap v d ≡ Some r → IsKey (u.heap v) key
+      → Run u (bind (key_row key) (if_key (Do (Find d key) k))) v res w →
+      (m : X) × (u.heap m ≡ u.heap v) × Run u (k (find (u.heap v) r.values key)) m res w
   unfolding Run
   found k d key r v w res e i g =
       let b = keyed (Do (Find d key) k) key v w res i g in
       let c = b.2 in
       let f = L.effect (Find d key) b.0 c.0 c.1 c.2 in
-      let o : c.0 ≡ find (u.heap v) r.values key = f.1 ∙ ap (λ h. find h (at h d).values key) b.1 ∙ ap (λ q. find (u.heap v) q.values key) (at-is (u.heap v) d r e) in
+      let o : c.0 ≡ find (u.heap v) r.values key = f.1 ∙ ap (λ h. find h (at h d).values key) b.1 ∙
+      ap (λ q. find (u.heap v) q.values key) (at-is (u.heap v) d r e) in
       (c.1, f.2 ∙ b.1, subst (λ o. Run u (k o) c.1 res w) o c.3)
 
   -- a look at the dictionary over the same records
-  looked : {A : Type 0} (k : Rec → Row S A) (d : ℕ) (r : Rec) (v m w : X) (res : A) → u.heap v d ≡ Some r → u.heap m ≡ u.heap v → Run u (Do (Read d) k) m res w
+  looked : {A : Type 0} (k : Rec → Row S A) (d : ℕ) (r : Rec) (v m w : X) (res : A) → u.heap v d ≡ Some r →
+      u.heap m ≡ u.heap v → Run u (Do (Read d) k) m res w
       → (n : X) × (u.heap n ≡ u.heap v) × Run u (k r) n res w
   unfolding Run
   looked k d r v m w res e s g =
@@ -121,7 +132,8 @@ module _ {S X : Type 0} {u : Sense S X} (L : Lawful u) where
     λ d key v w res n g. unkeyed (Do (Find d key) (drop_found d key)) key v w res n g,
   )
 
-  got : (d : ℕ) (key : Value) (r : Rec) (o : Option ℕ) (v m w : X) (res : Got (Option Value)) → u.heap v d ≡ Some r → u.heap m ≡ u.heap v → find (u.heap v) r.values key ≡ o
+  got : (d : ℕ) (key : Value) (r : Rec) (o : Option ℕ) (v m w : X) (res : Got (Option Value)) → u.heap v d ≡ Some r →
+      u.heap m ≡ u.heap v → find (u.heap v) r.values key ≡ o
       → Run u (value_of_pair d o) m res w → (res ≡ Is (option_and_then (value_of r) o)) × (u.heap w ≡ u.heap v)
   unfolding value_of_pair Run
   got d key r None v m w res e s f g = (g.0, ap u.heap g.1 ∙ s)
@@ -147,12 +159,19 @@ module _ {S X : Type 0} {u : Sense S X} (L : Lawful u) where
       let c = subst (λ o. Run u (set_pair d key x o) f.0 res w) p f.2 in
       let a = (within (u.heap v) r.values key 0 i p).1 in
       let less : 2 * i + 1 < length r.values = omega arith in
-      let c1 = edited d (with_value (2 * i + 1) x) (u.heap v) (u.heap f.0) (u.heap c.1) f.1 (L.effect (Edit d (change.Set (2 * i + 1) x)) f.0 tt c.1 c.2) in
-      let l = leaves d (with_value (2 * i + 1) x) r (half false r.values) (slice_set (half true r.values) i x) (u.heap v) (u.heap c.1) e c1 refl (set-paired r.values (2 * i + 1) x) (pair-law.keys_stay r i x) (pair-law.value_set r i x less) in
-      (c.3.0, subst (λ z. Leaves d r (half false r.values) (slice_set (half true r.values) i x) (u.heap v) (u.heap z)) (sym c.3.1) l)
+      let c1 = edited d (with_value (2 * i + 1) x) (u.heap v) (u.heap f.0) (u.heap c.1) f.1
+      (L.effect (Edit d (change.Set (2 * i + 1) x)) f.0 tt c.1 c.2) in
+      let l = leaves d (with_value (2 * i + 1) x) r (half false r.values) (slice_set (half true r.values) i x)
+      (u.heap v) (u.heap c.1) e c1 refl (set-paired r.values (2 * i + 1) x) (pair-law.keys_stay r i x)
+      (pair-law.value_set r i x less) in (
+        c.3.0,
+        subst (λ z. Leaves d r (half false r.values) (slice_set (half true r.values) i x) (u.heap v) (u.heap z))
+            (sym c.3.1) l,
+      )
 
   -- what is done with a key that isn't there
-  pushed : (d : ℕ) (key x : Value) (r : Rec) (v w : X) (res : Got (Unit {0})) → u.heap v d ≡ Some r → IsKey (u.heap v) key → find (u.heap v) r.values key ≡ None → Run u (set_row d key x) v res w
+  pushed : (d : ℕ) (key x : Value) (r : Rec) (v w : X) (res : Got (Unit {0})) → u.heap v d ≡ Some r →
+      IsKey (u.heap v) key → find (u.heap v) r.values key ≡ None → Run u (set_row d key x) v res w
       → (n : X) × (u.heap n ≡ u.heap v) × Run u (push_at d key x r) n res w
   unfolding set_row set_pair
   pushed d key x r v w res e k p g =
@@ -164,17 +183,27 @@ module _ {S X : Type 0} {u : Sense S X} (L : Lawful u) where
   unfolding Run
   new-law d key x r v w res e k p a less g =
       let f = pushed d key x r v w res e k p g in
-      let c = subst (λ q. Run u q f.0 res w) (cond-true (ltb (length r.values + 1) LENGTH_LIMIT) (Do (Edit d (change.Pair key x)) (λ _. Ret (Is tt))) (Ret (Raise memory_fault)) (grind arith)) f.2 in
-      let c1 = edited d (with_pair key x) (u.heap v) (u.heap f.0) (u.heap c.1) f.1 (L.effect (Edit d (change.Pair key x)) f.0 tt c.1 c.2) in
+      let c = subst (λ q. Run u q f.0 res w)
+      (cond-true (ltb (length r.values + 1) LENGTH_LIMIT) (Do (Edit d (change.Pair key x)) (λ _. Ret (Is tt)))
+      (Ret (Raise memory_fault)) (grind arith)) f.2 in
+      let c1 = edited d (with_pair key x) (u.heap v) (u.heap f.0) (u.heap c.1) f.1
+      (L.effect (Edit d (change.Pair key x)) f.0 tt c.1 c.2) in
       let two = append_assoc r.values (key ∷ []) (x ∷ []) in
-      let l = leaves d (with_pair key x) r (half false r.values ++ key ∷ []) (half true r.values ++ x ∷ []) (u.heap v) (u.heap c.1) e c1 refl (λ a. subst ArePaired (sym two) (push-paired r.values key x a)) (pair-law.pair_last false r key x a) (pair-law.pair_last true r key x a) in
-      (c.3.0, subst (λ z. Leaves d r (half false r.values ++ key ∷ []) (half true r.values ++ x ∷ []) (u.heap v) (u.heap z)) (sym c.3.1) l)
+      let l = leaves d (with_pair key x) r (half false r.values ++ key ∷ []) (half true r.values ++ x ∷ []) (u.heap v)
+      (u.heap c.1) e c1 refl (λ a. subst ArePaired (sym two) (push-paired r.values key x a))
+      (pair-law.pair_last false r key x a) (pair-law.pair_last true r key x a) in (
+        c.3.0,
+        subst (λ z. Leaves d r (half false r.values ++ key ∷ []) (half true r.values ++ x ∷ []) (u.heap v)
+            (u.heap z)) (sym c.3.1) l,
+      )
 
   pub full-law : FullLaw u
   unfolding Run
   full-law d key x r v w res e k p more g =
       let f = pushed d key x r v w res e k p g in
-      let c = subst (λ q. Run u q f.0 res w) (cond-false (ltb (length r.values + 1) LENGTH_LIMIT) (Do (Edit d (change.Pair key x)) (λ _. Ret (Is tt))) (Ret (Raise memory_fault)) (grind arith)) f.2 in
+      let c = subst (λ q. Run u q f.0 res w)
+      (cond-false (ltb (length r.values + 1) LENGTH_LIMIT) (Do (Edit d (change.Pair key x)) (λ _. Ret (Is tt)))
+      (Ret (Raise memory_fault)) (grind arith)) f.2 in
       (c.0, ap u.heap c.1 ∙ f.1)
 
   pub del-law : DelLaw u
@@ -182,13 +211,22 @@ module _ {S X : Type 0} {u : Sense S X} (L : Lawful u) where
   del-law d key r i v w res e k p g =
       let f = found (drop_found d key) d key r v w res e k g in
       let c0 = subst (λ o. Run u (drop_found d key o) f.0 res w) p f.2 in
-      let n = looked (λ r. Do (Edit d (change.Unpair i)) (λ _. Ret (Is (value_at r.values (2 * i + 1))))) d r v f.0 w res e f.1 c0 in
+      let n = looked (λ r. Do (Edit d (change.Unpair i)) (λ _. Ret (Is (value_at r.values (2 * i + 1))))) d r v f.0 w
+      res e f.1 c0 in
       let c = n.2 in
       let a = (within (u.heap v) r.values key 0 i p).1 in
       let less : 2 * i + 1 < length r.values = omega arith in
-      let c1 = edited d (without_pair i) (u.heap v) (u.heap n.0) (u.heap c.1) n.1 (L.effect (Edit d (change.Unpair i)) n.0 tt c.1 c.2) in
-      let l = leaves d (without_pair i) r (remove (half false r.values) i) (remove (half true r.values) i) (u.heap v) (u.heap c.1) e c1 refl (drop-paired r.values i less) (pair-law.gap_closed false r i less) (pair-law.gap_closed true r i less) in
-      (value_at r.values (2 * i + 1), c.3.0, half-at r.values i less, subst (λ z. Leaves d r (remove (half false r.values) i) (remove (half true r.values) i) (u.heap v) (u.heap z)) (sym c.3.1) l)
+      let c1 = edited d (without_pair i) (u.heap v) (u.heap n.0) (u.heap c.1) n.1
+      (L.effect (Edit d (change.Unpair i)) n.0 tt c.1 c.2) in
+      let l = leaves d (without_pair i) r (remove (half false r.values) i) (remove (half true r.values) i) (u.heap v)
+      (u.heap c.1) e c1 refl (drop-paired r.values i less) (pair-law.gap_closed false r i less)
+      (pair-law.gap_closed true r i less) in (
+        value_at r.values (2 * i + 1),
+        c.3.0,
+        half-at r.values i less,
+        subst (λ z. Leaves d r (remove (half false r.values) i) (remove (half true r.values) i) (u.heap v)
+            (u.heap z)) (sym c.3.1) l,
+      )
 
   pub lack-law : LackLaw u
   unfolding del_row drop_found Run

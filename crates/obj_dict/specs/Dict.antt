@@ -38,7 +38,8 @@ get_row d key = bind (key_row key) (if_key (Do (Find d key) (value_of_pair d)))
 
 -- a new pair at the end, where there is room for one
 abbrev pub push_at : {S : Type 0} → ℕ → Value → Value → Rec → Row S (Got (Unit {0}))
-push_at d key x r = cond (ltb (length r.values + 1) LENGTH_LIMIT) (Do (Edit d (change.Pair key x)) (λ _. Ret (Is tt))) (Ret (Raise memory_fault))
+push_at d key x r = cond (ltb (length r.values + 1) LENGTH_LIMIT) (Do (Edit d (change.Pair key x)) (λ _. Ret (Is tt)))
+    (Ret (Raise memory_fault))
 
 -- another value in the place of a key that is there, whose pair keeps its place and its first key
 unfoldable pub set_pair : {S : Type 0} → ℕ → Value → Value → Option ℕ → Row S (Got (Unit {0}))
@@ -53,7 +54,8 @@ set_row d key x = bind (key_row key) (if_key (Do (Find d key) (set_pair d key x)
 -- the pair of a number goes, and its value is the answer
 unfoldable pub drop_found : {S : Type 0} → ℕ → Value → Option ℕ → Row S (Got Value)
 drop_found d key None = Ret (Raise (key_fault key))
-drop_found d key (Some i) = Do (Read d) (λ r. Do (Edit d (change.Unpair i)) (λ _. Ret (Is (value_at r.values (2 * i + 1)))))
+drop_found d key (Some i) = Do (Read d) (λ r.
+    Do (Edit d (change.Unpair i)) (λ _. Ret (Is (value_at r.values (2 * i + 1)))))
 
 unfoldable pub del_row : {S : Type 0} → ℕ → Value → Row S (Got Value)
 del_row d key = bind (key_row key) (if_key (Do (Find d key) (drop_found d key)))

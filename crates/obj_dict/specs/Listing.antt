@@ -24,7 +24,8 @@ list_row items = Do (Make (new_rec ListKind items [])) (λ b. Ret (Is (Ref (reco
 unfoldable pub tuples_row : {S : Type 0} → List Value → List Value → Row S (List Value)
 tuples_row made [] = Ret made
 tuples_row made (k ∷ []) = Ret made
-tuples_row made (k ∷ x ∷ rest) = Do (Make (new_rec Tuple (k ∷ x ∷ []) [])) (λ b. tuples_row (made ++ Ref (record { 0 = b }) ∷ []) rest)
+tuples_row made (k ∷ x ∷ rest) = Do (Make (new_rec Tuple (k ∷ x ∷ []) []))
+    (λ b. tuples_row (made ++ Ref (record { 0 = b }) ∷ []) rest)
 
 abbrev pub half_row : {S : Type 0} → ℕ → Bool → Row S (List Value)
 half_row d second = Do (Read d) (λ r. Ret (half second r.values))

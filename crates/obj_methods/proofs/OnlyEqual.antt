@@ -27,12 +27,14 @@ module _ (S : Type 0) where
   unfolding size_row OnlyLooks
   only_size a = (tt, λ r. tt)
 
-  only_until : {A : Type 0} (f : ℕ → Row S A) (goes : A → Bool) (end : A) → ((i : ℕ) → OnlyLooks (f i)) → (i m : ℕ) → OnlyLooks (until_row f goes end i m)
+  only_until : {A : Type 0} (f : ℕ → Row S A) (goes : A → Bool) (end : A) → ((i : ℕ) → OnlyLooks (f i)) → (i m : ℕ) →
+      OnlyLooks (until_row f goes end i m)
   unfolding until_row
   only_until f goes end n i zero = only_ret S end
   only_until f goes end n i (suc m) =
       only_bind (f i) (λ a. cond (goes a) (until_row f goes end (i + 1) m) (Ret a)) (n i)
-      (λ a. only_cond (goes a) (until_row f goes end (i + 1) m) (Ret a) (only_until f goes end n (i + 1) m) (only_ret S a))
+      (λ a. only_cond (goes a) (until_row f goes end (i + 1) m) (Ret a) (only_until f goes end n (i + 1) m)
+      (only_ret S a))
 
   -- ---- equality
   abbrev Only : Compares S → Type 0
@@ -40,27 +42,32 @@ module _ (S : Type 0) where
 
   only_kinds : (a b : ℕ) → OnlyLooks {S = S} (kinds_row a b)
   unfolding kinds_row kinds_with
-  only_kinds a b = only_bind (kind_row a) (λ k. kinds_with b k) (only_kind S a) (λ k. only_bind (kind_row b) (λ l. Ret (pairing_of k l)) (only_kind S b) (λ l. only_ret S _))
+  only_kinds a b = only_bind (kind_row a) (λ k. kinds_with b k) (only_kind S a)
+      (λ k. only_bind (kind_row b) (λ l. Ret (pairing_of k l)) (only_kind S b) (λ l. only_ret S _))
 
-  only_level : {A U : Type 0} (P : U → Type 0) (o : Option U) (f : U → Row S (Got A)) → IfSome o P → ((u : U) → P u → OnlyLooks (f u)) → OnlyLooks (level_row o f)
+  only_level : {A U : Type 0} (P : U → Type 0) (o : Option U) (f : U → Row S (Got A)) → IfSome o P →
+      ((u : U) → P u → OnlyLooks (f u)) → OnlyLooks (level_row o f)
   unfolding level_row
   only_level P None f i n = only_ret S _
   only_level P (Some u) f i n = n u i
 
   only_texts : (a b : ℕ) → OnlyLooks {S = S} (texts_row a b)
   unfolding texts_row texts_with
-  only_texts a b = only_bind (bytes_row a) (λ x. texts_with x b) (only_bytes S a) (λ x. only_bind (bytes_row b) (λ y. Ret (Is (same_bytes x y))) (only_bytes S b) (λ y. only_ret S _))
+  only_texts a b = only_bind (bytes_row a) (λ x. texts_with x b) (only_bytes S a)
+      (λ x. only_bind (bytes_row b) (λ y. Ret (Is (same_bytes x y))) (only_bytes S b) (λ y. only_ret S _))
 
   only_item : (u : Compares S) → Only u → (a b i : ℕ) → OnlyLooks (item_row u a b i)
   unfolding item_row item_with
-  only_item u n a b i = only_bind (look_row a i) (λ x. item_with u b i x) (only_look S a i) (λ x. only_bind (look_row b i) (λ y. u x y) (only_look S b i) (λ y. n x y))
+  only_item u n a b i = only_bind (look_row a i) (λ x. item_with u b i x) (only_look S a i)
+      (λ x. only_bind (look_row b i) (λ y. u x y) (only_look S b i) (λ y. n x y))
 
   only_items : (u : Compares S) → Only u → (a b : ℕ) → OnlyLooks (items_row u a b)
   unfolding items_row items_from sized_row
   only_items u n a b =
       only_bind (size_row a) (λ k. items_from u a b k) (only_size a)
       (λ k. only_bind (size_row b) (λ m. sized_row (item_row u a b) k m) (only_size b)
-      (λ m. only_cond (k == m) (until_row (item_row u a b) is_equal (Is true) 0 k) (Ret (Is false)) (only_until (item_row u a b) is_equal (Is true) (only_item u n a b) 0 k) (only_ret S _)))
+      (λ m. only_cond (k == m) (until_row (item_row u a b) is_equal (Is true) 0 k) (Ret (Is false))
+      (only_until (item_row u a b) is_equal (Is true) (only_item u n a b) 0 k) (only_ret S _)))
 
   only_found : (u : Compares S) → Only u → (b : ℕ) (x : Value) (o : Option ℕ) → OnlyLooks (found_row u b x o)
   unfolding found_row
@@ -74,14 +81,17 @@ module _ (S : Type 0) where
   only_pair : (u : Compares S) → Only u → (a b i : ℕ) → OnlyLooks (pair_row u a b i)
   unfolding pair_row pair_with
   only_pair u n a b i =
-      only_bind (look_row a (2 * i)) (λ k. pair_with u a b i k) (only_look S a (2 * i)) (λ k. only_bind (look_row a (2 * i + 1)) (λ x. sought_row u b k x) (only_look S a (2 * i + 1)) (λ x. only_sought u n b k x))
+      only_bind (look_row a (2 * i)) (λ k. pair_with u a b i k) (only_look S a (2 * i))
+      (λ k. only_bind (look_row a (2 * i + 1)) (λ x. sought_row u b k x) (only_look S a (2 * i + 1))
+      (λ x. only_sought u n b k x))
 
   only_pairs : (u : Compares S) → Only u → (a b : ℕ) → OnlyLooks (pairs_row u a b)
   unfolding pairs_row pairs_from paired_row
   only_pairs u n a b =
       only_bind (size_row a) (λ k. pairs_from u a b k) (only_size a)
       (λ k. only_bind (size_row b) (λ m. paired_row (pair_row u a b) k m) (only_size b)
-      (λ m. only_cond (k == m) (until_row (pair_row u a b) is_equal (Is true) 0 (k / 2)) (Ret (Is false)) (only_until (pair_row u a b) is_equal (Is true) (only_pair u n a b) 0 (k / 2)) (only_ret S _)))
+      (λ m. only_cond (k == m) (until_row (pair_row u a b) is_equal (Is true) 0 (k / 2)) (Ret (Is false))
+      (only_until (pair_row u a b) is_equal (Is true) (only_pair u n a b) 0 (k / 2)) (only_ret S _)))
 
   only_methods : (a b : ℕ) → OnlyLooks {S = S} (methods_row a b)
   unfolding methods_row methods_with owners_row owner_with
@@ -89,7 +99,8 @@ module _ (S : Type 0) where
       only_bind (look_row a 0) (λ f. methods_with a b f) (only_look S a 0)
       (λ f. only_bind (look_row b 0) (λ g. owners_row a b (is_same f g)) (only_look S b 0)
       (λ g. only_bind (look_row a 1) (λ x. owner_with b (is_same f g) x) (only_look S a 1)
-      (λ x. only_bind (look_row b 1) (λ y. Ret (Is (is_same f g && is_same x y))) (only_look S b 1) (λ y. only_ret S _))))
+      (λ x. only_bind (look_row b 1) (λ y. Ret (Is (is_same f g && is_same x y))) (only_look S b 1)
+      (λ y. only_ret S _))))
 
   only_by : (o : Option (Compares S)) → IfSome o Only → (a b : ℕ) (p : Pairing) → OnlyLooks (by_pairing o a b p)
   unfolding by_pairing
@@ -101,7 +112,8 @@ module _ (S : Type 0) where
 
   only_under : (o : Option (Compares S)) → IfSome o Only → Only (equal_under o)
   unfolding equal_under records_row
-  only_under o i (Ref a) (Ref b) = only_bind (kinds_row a.0 b.0) (by_pairing o a.0 b.0) (only_kinds a.0 b.0) (only_by o i a.0 b.0)
+  only_under o i (Ref a) (Ref b) = only_bind (kinds_row a.0 b.0) (by_pairing o a.0 b.0) (only_kinds a.0 b.0)
+      (only_by o i a.0 b.0)
   only_under o i (Ref a) Unset = only_ret S _
   only_under o i (Ref a) NoneValue = only_ret S _
   only_under o i (Ref a) (BoolValue b) = only_ret S _
@@ -126,8 +138,10 @@ module _ (S : Type 0) where
   only_place : (x : Value) (a i : ℕ) → OnlyLooks {S = S} (place_row x a i)
   unfolding place_row lists.item_row
   only_place x a i =
-      only_bind (lists.item_row x a i) (λ g. Ret (place_if i g)) (only_bind (look_row a i) (λ y. equal_row y x) (only_look S a i) (λ y. only_equal y x)) (λ g. only_ret S _)
+      only_bind (lists.item_row x a i) (λ g. Ret (place_if i g))
+      (only_bind (look_row a i) (λ y. equal_row y x) (only_look S a i) (λ y. only_equal y x)) (λ g. only_ret S _)
 
   pub only_search : (a : ℕ) (x : Value) → OnlyLooks {S = S} (search_row a x)
   unfolding search_row first_of
-  only_search a x = only_bind (size_row a) (first_of x a) (only_size a) (λ n. only_until (place_row x a) goes_on (Is None) (only_place x a) 0 n)
+  only_search a x = only_bind (size_row a) (first_of x a) (only_size a)
+      (λ n. only_until (place_row x a) goes_on (Is None) (only_place x a) 0 n)

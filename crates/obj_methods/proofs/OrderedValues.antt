@@ -30,7 +30,8 @@ use Rattle.obj_methods.proofs.SortedBy.{bytes_total}
 -- ---- lists
 filter_as : {A : Type 0} (p q : A → Bool) (xs : List A) → Every (λ x. p x ≡ q x) xs → filter p xs ≡ filter q xs
 filter_as p q [] e = refl
-filter_as p q (x ∷ xs) e = ap (λ b. cond b (x ∷ filter p xs) (filter p xs)) e.0 ∙ ap (λ l. cond (q x) (x ∷ l) l) (filter_as p q xs e.1)
+filter_as p q (x ∷ xs) e = ap (λ b. cond b (x ∷ filter p xs) (filter p xs)) e.0 ∙
+    ap (λ l. cond (q x) (x ∷ l) l) (filter_as p q xs e.1)
 
 -- ---- orders
 tie_as : (o : Ordering) → is_tie (Is o) ≡ (not (is_lt o) && not (is_lt (ordering_reverse o)))
@@ -42,7 +43,8 @@ is_before : Got Ordering → Bool
 is_before (Is o) = is_lt o
 is_before (Raise e) = false
 
-module _ (h : Heap) {K : Type 0} (R : K → K → Ordering) (total : IsTotalOrder R) (key : Value → K) (has : Value → Type 0) (ordered : (x y : Value) → has x → has y → order h x y ≡ Is (R (key x) (key y))) where
+module _ (h : Heap) {K : Type 0} (R : K → K → Ordering) (total : IsTotalOrder R) (key : Value → K)
+    (has : Value → Type 0) (ordered : (x y : Value) → has x → has y → order h x y ≡ Is (R (key x) (key y))) where
   abbrev less : Value → Value → Bool
   less x y = is_lt (R (key x) (key y))
 
@@ -50,14 +52,18 @@ module _ (h : Heap) {K : Type 0} (R : K → K → Ordering) (total : IsTotalOrde
   rank = ranks_by total key
 
   tied : (x y : Value) → has x → has y → is_tie (order h x y) ≡ ties less x y
-  tied x y i j = ap is_tie (ordered x y i j) ∙ (tie_as (R (key x) (key y)) ∙ ap (λ o. not (is_lt (R (key x) (key y))) && not (is_lt o)) (sym (total.antisymm (key y) (key x))))
+  tied x y i j = ap is_tie (ordered x y i j) ∙
+      (tie_as (R (key x) (key y)) ∙ ap (λ o. not (is_lt (R (key x) (key y))) && not (is_lt o))
+      (sym (total.antisymm (key y) (key x))))
 
   all_tied : (x : Value) (ys : List Value) → has x → Every has ys → tying h x ys ≡ filter (ties less x) ys
-  all_tied x ys i j = filter_as (λ y. is_tie (order h x y)) (ties less x) ys (every_weaken has (λ y. is_tie (order h x y) ≡ ties less x y) (λ y k. tied x y i k) ys j)
+  all_tied x ys i j = filter_as (λ y. is_tie (order h x y)) (ties less x) ys
+      (every_weaken has (λ y. is_tie (order h x y) ≡ ties less x y) (λ y k. tied x y i k) ys j)
 
   unbefore : (x y : Value) → has x → has y → less x y ≡ false → order h x y ≢ Is Less
   unfolding is_before
-  unbefore x y i j l e = let q : false ≡ true = sym l ∙ (sym (ap is_before (ordered x y i j)) ∙ ap is_before e) in absurd cc
+  unbefore x y i j l e = let q : false ≡ true = sym l ∙ (sym (ap is_before (ordered x y i j)) ∙ ap is_before e) in
+      absurd cc
 
   pub sorted_by : (xs : List Value) → Every has xs → IsSorted h xs (in_order less xs)
   sorted_by xs e =
@@ -65,7 +71,9 @@ module _ (h : Heap) {K : Type 0} (R : K → K → Ordering) (total : IsTotalOrde
       let all = in_order_all less rank has xs e in
       record {
         same = in_order_same less rank xs;
-        rises = λ i j l m. unbefore (value_at ys j) (value_at ys i) (every_at has ys j Unset m all) (every_at has ys i Unset (omega (arith, l, m)) all) (rising_at less rank ys i j Unset (in_order_rising less rank xs) l m);
+        rises = λ i j l m. unbefore (value_at ys j) (value_at ys i) (every_at has ys j Unset m all)
+            (every_at has ys i Unset (omega (arith, l, m)) all)
+            (rising_at less rank ys i j Unset (in_order_rising less rank xs) l m);
         stable = λ i l.
             let x = value_at xs i in
             let k = every_at has xs i Unset l e in
@@ -73,7 +81,8 @@ module _ (h : Heap) {K : Type 0} (R : K → K → Ordering) (total : IsTotalOrde
       }
 
 -- ---- numbers
-by_numbers : (h : Heap) (items : List Value → List Value → Got Ordering) (x y : Value) (i : ℤ) → number_of x ≡ Some i → order_by h items x y ≡ order_numbers (number_of x) (number_of y)
+by_numbers : (h : Heap) (items : List Value → List Value → Got Ordering) (x y : Value) (i : ℤ) → number_of x ≡ Some i →
+    order_by h items x y ≡ order_numbers (number_of x) (number_of y)
 by_numbers h items (Int n) y i e = refl
 by_numbers h items (BoolValue b) y i e = refl
 by_numbers h items Unset y i e = absurd (let q : ◌≡◌ {A = Option ℤ} None (Some i) = e in cc)
@@ -81,10 +90,13 @@ by_numbers h items NoneValue y i e = absurd (let q : ◌≡◌ {A = Option ℤ} 
 by_numbers h items (Ref a) y i e = absurd (let q : ◌≡◌ {A = Option ℤ} None (Some i) = e in cc)
 by_numbers h items (Builtin b) y i e = absurd (let q : ◌≡◌ {A = Option ℤ} None (Some i) = e in cc)
 
-two_numbers : (h : Heap) (items : List Value → List Value → Got Ordering) (x y : Value) (i j : ℤ) → number_of x ≡ Some i → number_of y ≡ Some j → order_by h items x y ≡ Is (int_cmp i j)
-two_numbers h items x y i j ex ey = by_numbers h items x y i ex ∙ (ap (λ o. order_numbers o (number_of y)) ex ∙ ap (order_numbers (Some i)) ey)
+two_numbers : (h : Heap) (items : List Value → List Value → Got Ordering) (x y : Value) (i j : ℤ) →
+    number_of x ≡ Some i → number_of y ≡ Some j → order_by h items x y ≡ Is (int_cmp i j)
+two_numbers h items x y i j ex ey = by_numbers h items x y i ex ∙
+    (ap (λ o. order_numbers o (number_of y)) ex ∙ ap (order_numbers (Some i)) ey)
 
-numbers_within : (h : Heap) (d : ℕ) (x y : Value) (i j : ℤ) → number_of x ≡ Some i → number_of y ≡ Some j → order_within h d x y ≡ Is (int_cmp i j)
+numbers_within : (h : Heap) (d : ℕ) (x y : Value) (i j : ℤ) → number_of x ≡ Some i → number_of y ≡ Some j →
+    order_within h d x y ≡ Is (int_cmp i j)
 unfolding order_within
 numbers_within h zero x y i j ex ey = two_numbers h _ x y i j ex ey
 numbers_within h (suc d) x y i j ex ey = two_numbers h _ x y i j ex ey
@@ -93,9 +105,12 @@ as_number : (o : Option ℤ) (i d : ℤ) → o ≡ Some i → i ≡ unwrap_or o 
 as_number None i d e = absurd (let q : ◌≡◌ {A = Option ℤ} None (Some i) = e in cc)
 as_number (Some j) i d e = let q : i ≡ j = cc in q
 
-numbers_ordered : (h : Heap) (x y : Value) → IsNumber h x → IsNumber h y → order h x y ≡ Is (int_cmp (number_in x) (number_in y))
+numbers_ordered : (h : Heap) (x y : Value) → IsNumber h x → IsNumber h y →
+    order h x y ≡ Is (int_cmp (number_in x) (number_in y))
 numbers_ordered h x y i j =
-    numbers_within h 100 x y i.0 j.0 i.1 j.1 ∙ (ap (λ n. Is (int_cmp n j.0)) (as_number (number_of x) i.0 _ i.1) ∙ ap (λ n. Is (int_cmp (number_in x) n)) (as_number (number_of y) j.0 _ j.1))
+    numbers_within h 100 x y i.0 j.0 i.1 j.1 ∙
+    (ap (λ n. Is (int_cmp n j.0)) (as_number (number_of x) i.0 _ i.1) ∙
+    ap (λ n. Is (int_cmp (number_in x) n)) (as_number (number_of y) j.0 _ j.1))
 
 pub sorted_numbers : (h : Heap) (xs : List Value) → Every (IsNumber h) xs → IsSorted h xs (in_order number_less xs)
 sorted_numbers h xs e = sorted_by h int_cmp int_cmp_total number_in (IsNumber h) (numbers_ordered h) xs e
@@ -117,16 +132,20 @@ kind_at h a i = by (h a) refl i
     by None e i = absurd i
     by (Some r) e i = ap (λ q. q.kind) (at-is h a r e) ∙ i
 
-two_texts : (h : Heap) (items : List Value → List Value → Got Ordering) (a b : Addr) → (at h a.0).kind ≡ Str → (at h b.0).kind ≡ Str → order_by h items (Ref a) (Ref b) ≡ Is (order_bytes (at h a.0).bytes (at h b.0).bytes)
+two_texts : (h : Heap) (items : List Value → List Value → Got Ordering) (a b : Addr) → (at h a.0).kind ≡ Str →
+    (at h b.0).kind ≡ Str → order_by h items (Ref a) (Ref b) ≡ Is (order_bytes (at h a.0).bytes (at h b.0).bytes)
 two_texts h items a b i j =
-    ap (λ k. order_records items k (at h b.0).kind (at h a.0) (at h b.0)) i ∙ ap (λ k. order_records items Str k (at h a.0) (at h b.0)) j
+    ap (λ k. order_records items k (at h b.0).kind (at h a.0) (at h b.0)) i ∙
+    ap (λ k. order_records items Str k (at h a.0) (at h b.0)) j
 
-texts_within : (h : Heap) (d : ℕ) (a b : Addr) → (at h a.0).kind ≡ Str → (at h b.0).kind ≡ Str → order_within h d (Ref a) (Ref b) ≡ Is (order_bytes (at h a.0).bytes (at h b.0).bytes)
+texts_within : (h : Heap) (d : ℕ) (a b : Addr) → (at h a.0).kind ≡ Str → (at h b.0).kind ≡ Str →
+    order_within h d (Ref a) (Ref b) ≡ Is (order_bytes (at h a.0).bytes (at h b.0).bytes)
 unfolding order_within
 texts_within h zero a b i j = two_texts h _ a b i j
 texts_within h (suc d) a b i j = two_texts h _ a b i j
 
-texts_ordered : (h : Heap) (x y : Value) → IsString h x → IsString h y → order h x y ≡ Is (order_bytes (bytes_in h x) (bytes_in h y))
+texts_ordered : (h : Heap) (x y : Value) → IsString h x → IsString h y →
+    order h x y ≡ Is (order_bytes (bytes_in h x) (bytes_in h y))
 unfolding bytes_in
 texts_ordered h (Ref a) (Ref b) i j = texts_within h 100 a b (kind_at h a.0 i) (kind_at h b.0 j)
 texts_ordered h (Ref a) Unset i j = absurd j

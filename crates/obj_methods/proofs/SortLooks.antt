@@ -32,7 +32,8 @@ numbers_of : (h : Heap) (vs : List Value) → are_numbers vs ≡ true → Every 
 numbers_of h [] e = tt
 numbers_of h (x ∷ xs) e = by (number_of x) refl e (λ t. numbers_of h xs t)
   where
-    by : (o : Option ℤ) → number_of x ≡ o → (is_some o && are_numbers xs) ≡ true → (are_numbers xs ≡ true → Every (IsNumber h) xs) → IsNumber h x × Every (IsNumber h) xs
+    by : (o : Option ℤ) → number_of x ≡ o → (is_some o && are_numbers xs) ≡ true →
+        (are_numbers xs ≡ true → Every (IsNumber h) xs) → IsNumber h x × Every (IsNumber h) xs
     by None q e rest = absurd (let z : false ≡ true = e in cc)
     by (Some i) q e rest = ((i, q), rest e)
 
@@ -69,21 +70,29 @@ module _ (S : Type 0) (h : Heap) where
   abbrev Told : Value → Got (List ℕ) → Type 0
   Told x g = (IsString h x × (g ≡ Is (bytes_in h x))) ⊎ ((IsString h x → ⊥) × (g ≡ Raise operand_fault))
 
-  by_looks : (a : Addr) (r : Rec) (b : Bool) → h a.0 ≡ Some r → is_str r.kind ≡ b → Looks {S = S} (Told (Ref a)) (text_by a.0 b) h
+  by_looks : (a : Addr) (r : Rec) (b : Bool) → h a.0 ≡ Some r → is_str r.kind ≡ b →
+      Looks {S = S} (Told (Ref a)) (text_by a.0 b) h
   unfolding text_by bytes_in
   by_looks a r true e k =
       looks_then (λ bs. bs ≡ r.bytes) (Told (Ref a)) (bytes_row a.0) (λ bs. Ret (Is bs)) h (bytes_looks S h a.0 r e)
-      (λ bs q. looks_ret S (Told (Ref a)) (Is bs) h (inl (subst (λ o. KindIn o (λ k. k ≡ Str)) (sym e) (str_is r.kind k), ap Is (q ∙ sym (ap (λ z. z.bytes) (at-is h a.0 r e))))))
+      (λ bs q. looks_ret S (Told (Ref a)) (Is bs) h
+      (inl (
+        subst (λ o. KindIn o (λ k. k ≡ Str)) (sym e) (str_is r.kind k),
+        ap Is (q ∙ sym (ap (λ z. z.bytes) (at-is h a.0 r e))),
+      )))
   by_looks a r false e k =
-      let none : IsString h (Ref a) → ⊥ = λ i. let s : r.kind ≡ Str = subst (λ o. KindIn o (λ k. k ≡ Str)) e i in let q : false ≡ true = sym k ∙ ap is_str s in absurd cc in
+      let none : IsString h (Ref a) → ⊥ = λ i. let s : r.kind ≡ Str = subst (λ o. KindIn o (λ k. k ≡ Str)) e i in
+      let q : false ≡ true = sym k ∙ ap is_str s in absurd cc in
       looks_ret S (Told (Ref a)) (Raise operand_fault) h (inr (none, refl))
 
   text_looks : (x : Value) → IsItem h x → Looks {S = S} (Told x) (text_row x) h
   unfolding text_row text_at
   text_looks (Ref a) i =
       let r = some_of (h a.0) i.0 in
-      looks_then (λ k. k ≡ r.0.kind) (Told (Ref a)) (kind_row a.0) (λ k. text_by a.0 (is_str k)) h (kind_looks S h a.0 r.0 r.1)
-      (λ k e. subst (λ z. Looks {S = S} (Told (Ref a)) (text_by a.0 (is_str z)) h) (sym e) (by_looks a r.0 (is_str r.0.kind) r.1 refl))
+      looks_then (λ k. k ≡ r.0.kind) (Told (Ref a)) (kind_row a.0) (λ k. text_by a.0 (is_str k)) h
+      (kind_looks S h a.0 r.0 r.1)
+      (λ k e. subst (λ z. Looks {S = S} (Told (Ref a)) (text_by a.0 (is_str z)) h) (sym e)
+      (by_looks a r.0 (is_str r.0.kind) r.1 refl))
   text_looks Unset i = looks_ret S (Told Unset) (Raise operand_fault) h (inr (λ z. z, refl))
   text_looks NoneValue i = looks_ret S (Told NoneValue) (Raise operand_fault) h (inr (λ z. z, refl))
   text_looks (BoolValue b) i = looks_ret S (Told (BoolValue b)) (Raise operand_fault) h (inr (λ z. z, refl))
@@ -93,37 +102,49 @@ module _ (S : Type 0) (h : Heap) where
   -- ---- all texts
   -- all items are strings and their texts were read behind others, or one is no string
   abbrev AllTold : List Value → List Word → Got (List Word) → Type 0
-  AllTold vs ws g = (Every (IsString h) vs × (g ≡ Is (ws ++ map (word_in h) vs))) ⊎ ((Every (IsString h) vs → ⊥) × (g ≡ Raise operand_fault))
+  AllTold vs ws g = (Every (IsString h) vs × (g ≡ Is (ws ++ map (word_in h) vs))) ⊎
+      ((Every (IsString h) vs → ⊥) × (g ≡ Raise operand_fault))
 
   word_looks : (x : Value) (ws : List Word) → IsItem h x → Looks {S = S} (AllTold (x ∷ []) ws) (word_row x ws) h
   unfolding word_row
   word_looks x ws i =
-      looks_then (Told x) (AllTold (x ∷ []) ws) (text_row x) (got_row (λ bs. Ret (Is (ws ++ record { text = bs; value = x } ∷ [])))) h (text_looks x i) next
+      looks_then (Told x) (AllTold (x ∷ []) ws) (text_row x)
+      (got_row (λ bs. Ret (Is (ws ++ record { text = bs; value = x } ∷ [])))) h (text_looks x i) next
     where
-      next : (g : Got (List ℕ)) → Told x g → Looks {S = S} (AllTold (x ∷ []) ws) (got_row (λ bs. Ret (Is (ws ++ record { text = bs; value = x } ∷ []))) g) h
+      next : (g : Got (List ℕ)) → Told x g →
+          Looks {S = S} (AllTold (x ∷ []) ws) (got_row (λ bs. Ret (Is (ws ++ record { text = bs; value = x } ∷ []))) g)
+          h
       next g (inl t) =
-          subst (λ z. Looks {S = S} (AllTold (x ∷ []) ws) (got_row (λ bs. Ret (Is (ws ++ record { text = bs; value = x } ∷ []))) z) h) (sym t.1)
+          subst (λ z. Looks {S = S} (AllTold (x ∷ []) ws)
+          (got_row (λ bs. Ret (Is (ws ++ record { text = bs; value = x } ∷ []))) z) h) (sym t.1)
           (looks_ret S (AllTold (x ∷ []) ws) (Is (ws ++ word_in h x ∷ [])) h (inl ((t.0, tt), refl)))
       next g (inr t) =
-          subst (λ z. Looks {S = S} (AllTold (x ∷ []) ws) (got_row (λ bs. Ret (Is (ws ++ record { text = bs; value = x } ∷ []))) z) h) (sym t.1)
+          subst (λ z. Looks {S = S} (AllTold (x ∷ []) ws)
+          (got_row (λ bs. Ret (Is (ws ++ record { text = bs; value = x } ∷ []))) z) h) (sym t.1)
           (looks_ret S (AllTold (x ∷ []) ws) (Raise operand_fault) h (inr (λ s. t.0 s.0, refl)))
 
-  words_looks : (vs : List Value) (ws : List Word) → Every (IsItem h) vs → Looks {S = S} (AllTold vs ws) (words_row vs ws) h
+  words_looks : (vs : List Value) (ws : List Word) → Every (IsItem h) vs →
+      Looks {S = S} (AllTold vs ws) (words_row vs ws) h
   unfolding words_row
   words_looks [] ws i = looks_ret S (AllTold [] ws) (Is ws) h (inl (tt, ap Is (sym (append-nil ws))))
   words_looks (x ∷ xs) ws i =
-      looks_then (AllTold (x ∷ []) ws) (AllTold (x ∷ xs) ws) (word_row x ws) (got_row (words_row xs)) h (word_looks x ws i.0) (next (words_looks xs (ws ++ word_in h x ∷ []) i.1))
+      looks_then (AllTold (x ∷ []) ws) (AllTold (x ∷ xs) ws) (word_row x ws) (got_row (words_row xs)) h
+      (word_looks x ws i.0) (next (words_looks xs (ws ++ word_in h x ∷ []) i.1))
     where
       more : (g : Got (List Word)) → IsString h x → AllTold xs (ws ++ word_in h x ∷ []) g → AllTold (x ∷ xs) ws g
       more g s (inl t) = inl ((s, t.0), t.1 ∙ ap Is (append_assoc ws (word_in h x ∷ []) (map (word_in h) xs)))
       more g s (inr t) = inr (λ z. t.0 z.1, t.1)
 
-      next : Looks {S = S} (AllTold xs (ws ++ word_in h x ∷ [])) (words_row xs (ws ++ word_in h x ∷ [])) h → (g : Got (List Word)) → AllTold (x ∷ []) ws g → Looks {S = S} (AllTold (x ∷ xs) ws) (got_row (words_row xs) g) h
+      next : Looks {S = S} (AllTold xs (ws ++ word_in h x ∷ [])) (words_row xs (ws ++ word_in h x ∷ [])) h →
+          (g : Got (List Word)) → AllTold (x ∷ []) ws g →
+          Looks {S = S} (AllTold (x ∷ xs) ws) (got_row (words_row xs) g) h
       next rest g (inl t) =
           subst (λ z. Looks {S = S} (AllTold (x ∷ xs) ws) (got_row (words_row xs) z) h) (sym t.1)
-          (looks_weaken (AllTold xs (ws ++ word_in h x ∷ [])) (AllTold (x ∷ xs) ws) (λ g. more g t.0.0) (words_row xs (ws ++ word_in h x ∷ [])) h rest)
+          (looks_weaken (AllTold xs (ws ++ word_in h x ∷ [])) (AllTold (x ∷ xs) ws) (λ g. more g t.0.0)
+          (words_row xs (ws ++ word_in h x ∷ [])) h rest)
       next rest g (inr t) =
-          subst (λ z. Looks {S = S} (AllTold (x ∷ xs) ws) (got_row (words_row xs) z) h) (sym t.1) (looks_ret S (AllTold (x ∷ xs) ws) (Raise operand_fault) h (inr (λ s. t.0 (s.0, tt), refl)))
+          subst (λ z. Looks {S = S} (AllTold (x ∷ xs) ws) (got_row (words_row xs) z) h) (sym t.1)
+          (looks_ret S (AllTold (x ∷ xs) ws) (Raise operand_fault) h (inr (λ s. t.0 (s.0, tt), refl)))
 
   -- ---- what is answered
   -- the values in order, which are items as the values are, or TypeError where they can't be sorted
@@ -138,7 +159,8 @@ module _ (S : Type 0) (h : Heap) where
   abbrev pub Answered : List Value → Got (List Value) → Type 0
   Answered vs z = Ordered vs z ⊎ ((CanSort h vs → ⊥) × (z ≡ Raise operand_fault))
 
-  numbers_answer : (vs : List Value) → Every (IsItem h) vs → Every (IsNumber h) vs → Answered vs (Is (in_order number_less vs))
+  numbers_answer : (vs : List Value) → Every (IsItem h) vs → Every (IsNumber h) vs →
+      Answered vs (Is (in_order number_less vs))
   numbers_answer vs i n = inl (record {
     can = inl n;
     values = in_order number_less vs;
@@ -148,7 +170,8 @@ module _ (S : Type 0) (h : Heap) where
     count = in_order_length number_less numbers_rank vs;
   })
 
-  strings_answer : (vs : List Value) → Every (IsItem h) vs → Every (IsString h) vs → Answered vs (Is (map value_of (in_order word_less (map (word_in h) vs))))
+  strings_answer : (vs : List Value) → Every (IsItem h) vs → Every (IsString h) vs →
+      Answered vs (Is (map value_of (in_order word_less (map (word_in h) vs))))
   strings_answer vs i n =
       let ys = in_order (text_less h) vs in
       inl (record {
@@ -160,9 +183,11 @@ module _ (S : Type 0) (h : Heap) where
         count = in_order_length (text_less h) (texts_rank (bytes_in h)) vs;
       })
 
-  worded_looks : (vs : List Value) → Every (IsItem h) vs → are_numbers vs ≡ false → Looks {S = S} (Answered vs) (worded_row vs) h
+  worded_looks : (vs : List Value) → Every (IsItem h) vs → are_numbers vs ≡ false →
+      Looks {S = S} (Answered vs) (worded_row vs) h
   unfolding worded_row
-  worded_looks vs i n = looks_then (AllTold vs []) (Answered vs) (words_row vs []) (got_row answer) h (words_looks vs [] i) next
+  worded_looks vs i n = looks_then (AllTold vs []) (Answered vs) (words_row vs []) (got_row answer) h
+      (words_looks vs [] i) next
     where
       answer : List Word → Row S (Got (List Value))
       answer ws = Ret (Is (map value_of (in_order word_less ws)))
@@ -171,32 +196,41 @@ module _ (S : Type 0) (h : Heap) where
       unable s (inl c) = let q : false ≡ true = sym n ∙ are_all h vs c in absurd cc
       unable s (inr c) = s c
 
-      next : (g : Got (List Word)) → AllTold vs [] g → Looks {S = S} (Answered vs) (got_row (λ ws. Ret (Is (map value_of (in_order word_less ws)))) g) h
+      next : (g : Got (List Word)) → AllTold vs [] g →
+          Looks {S = S} (Answered vs) (got_row (λ ws. Ret (Is (map value_of (in_order word_less ws)))) g) h
       next g (inl t) =
-          subst (λ z. Looks {S = S} (Answered vs) (got_row (λ ws. Ret (Is (map value_of (in_order word_less ws)))) z) h) (sym t.1)
-          (looks_ret S (Answered vs) (Is (map value_of (in_order word_less (map (word_in h) vs)))) h (strings_answer vs i t.0))
+          subst (λ z. Looks {S = S} (Answered vs) (got_row (λ ws. Ret (Is (map value_of (in_order word_less ws)))) z)
+          h) (sym t.1)
+          (looks_ret S (Answered vs) (Is (map value_of (in_order word_less (map (word_in h) vs)))) h
+          (strings_answer vs i t.0))
       next g (inr t) =
-          subst (λ z. Looks {S = S} (Answered vs) (got_row (λ ws. Ret (Is (map value_of (in_order word_less ws)))) z) h) (sym t.1) (looks_ret S (Answered vs) (Raise operand_fault) h (inr (unable t.0, refl)))
+          subst (λ z. Looks {S = S} (Answered vs) (got_row (λ ws. Ret (Is (map value_of (in_order word_less ws)))) z)
+          h) (sym t.1) (looks_ret S (Answered vs) (Raise operand_fault) h (inr (unable t.0, refl)))
 
   pub sorted_looks : (vs : List Value) → Every (IsItem h) vs → Looks {S = S} (Answered vs) (sorted_row vs) h
   unfolding sorted_row
   sorted_looks vs i = by (are_numbers vs) refl
     where
-      by : (b : Bool) → are_numbers vs ≡ b → Looks {S = S} (Answered vs) (cond b (Ret (Is (in_order number_less vs))) (worded_row vs)) h
+      by : (b : Bool) → are_numbers vs ≡ b →
+          Looks {S = S} (Answered vs) (cond b (Ret (Is (in_order number_less vs))) (worded_row vs)) h
       by true e = looks_ret S (Answered vs) (Is (in_order number_less vs)) h (numbers_answer vs i (numbers_of h vs e))
       by false e = worded_looks vs i e
 
   -- ---- by what the values are
-  pub when_sorted : (vs : List Value) (z : Got (List Value)) → CanSort h vs → Answered vs z → (ys : List Value) × (z ≡ Is ys) × IsSorted h vs ys
+  pub when_sorted : (vs : List Value) (z : Got (List Value)) → CanSort h vs → Answered vs z →
+      (ys : List Value) × (z ≡ Is ys) × IsSorted h vs ys
   when_sorted vs z c (inl a) = (a.values, a.is, a.sorted)
   when_sorted vs z c (inr a) = absurd (a.0 c)
 
-  pub when_refused : (vs : List Value) (z : Got (List Value)) → (CanSort h vs → ⊥) → Answered vs z → z ≡ Raise operand_fault
+  pub when_refused : (vs : List Value) (z : Got (List Value)) → (CanSort h vs → ⊥) → Answered vs z →
+      z ≡ Raise operand_fault
   when_refused vs z c (inl a) = absurd (c a.can)
   when_refused vs z c (inr a) = a.1
 
 pub sorted_law : (S : Type 0) (rules : _) → SortedLaw S rules
 sorted_law S rules = record {
-  sorted = λ h vs order i c. looks_weaken (Answered S h vs) (λ z. (ys : List Value) × (z ≡ Is ys) × IsSorted h vs ys) (λ z a. when_sorted S h vs z c a) (sorted_row vs) h (sorted_looks S h vs i);
-  refused = λ h vs order i c. looks_weaken (Answered S h vs) (λ z. z ≡ Raise operand_fault) (λ z a. when_refused S h vs z c a) (sorted_row vs) h (sorted_looks S h vs i);
+  sorted = λ h vs order i c. looks_weaken (Answered S h vs) (λ z. (ys : List Value) × (z ≡ Is ys) × IsSorted h vs ys)
+      (λ z a. when_sorted S h vs z c a) (sorted_row vs) h (sorted_looks S h vs i);
+  refused = λ h vs order i c. looks_weaken (Answered S h vs) (λ z. z ≡ Raise operand_fault)
+      (λ z a. when_refused S h vs z c a) (sorted_row vs) h (sorted_looks S h vs i);
 }

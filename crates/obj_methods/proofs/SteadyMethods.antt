@@ -1,4 +1,5 @@
--- In the course of a method of a list or a dictionary, and of sorting, no record is longer than before it or at its end.
+-- In the course of a method of a list or a dictionary, and of sorting, no record is longer than before it or at its
+-- end.
 use Rattle.std.proofs.Common.{ℕ, ◌+◌, ◌==◌, ltb, ℤ, negsuc, Bool, true, false, cond, ◌||◌, ◌&&◌, ◌≡◌, List, [], ◌∷◌, ◌++◌, length, map, Option, Some, None, refl}
 use Rattle.std.specs.Prelude.{unwrap_or}
 use Rattle.py_data.specs.declared.value.Value.{Value}
@@ -36,13 +37,15 @@ use Rattle.obj_methods.proofs.OnlyEqual.{only_search}
 
 module _ (S : Type 0) where
   -- an answer that is made of what a part answers
-  then_steady : {A B : Type 0} (row : Row S A) (f : A → B) → Steady false row → Steady {S = S} false (bind row (λ a. Ret (f a)))
+  then_steady : {A B : Type 0} (row : Row S A) (f : A → B) → Steady false row →
+      Steady {S = S} false (bind row (λ a. Ret (f a)))
   then_steady row f i = bind_steady S false row (λ a. Ret (f a)) i (λ a. ret_calm S (f a))
 
   wrong_steady : {A : Type 0} (g : Got A) → Steady {S = S} false (Ret g)
   wrong_steady g = ret_calm S g false
 
-  either : {A : Type 0} (b : Bool) (row other : Row S A) → Steady false row → Steady false other → Steady false (cond b row other)
+  either : {A : Type 0} (b : Bool) (row other : Row S A) → Steady false row → Steady false other →
+      Steady false (cond b row other)
   either true row other i j = i
   either false row other i j = j
 
@@ -54,7 +57,8 @@ module _ (S : Type 0) where
 
   text_calm : (x : Value) → Calm {S = S} (text_row x)
   unfolding text_row text_at
-  text_calm (Ref a) = bind_calm S (kind_row a.0) (λ k. text_by a.0 (is_str k)) (kind_calm S a.0) (λ k. by_calm a.0 (is_str k))
+  text_calm (Ref a) = bind_calm S (kind_row a.0) (λ k. text_by a.0 (is_str k)) (kind_calm S a.0)
+      (λ k. by_calm a.0 (is_str k))
   text_calm Unset = ret_calm S _
   text_calm NoneValue = ret_calm S _
   text_calm (BoolValue b) = ret_calm S _
@@ -70,7 +74,8 @@ module _ (S : Type 0) where
   words_calm : (vs : List Value) (ws : List Word) → Calm {S = S} (words_row vs ws)
   unfolding words_row
   words_calm [] ws = ret_calm S _
-  words_calm (x ∷ xs) ws = bind_calm S (word_row x ws) (got_row (words_row xs)) (word_calm x ws) (got_calm S (words_row xs) (words_calm xs))
+  words_calm (x ∷ xs) ws = bind_calm S (word_row x ws) (got_row (words_row xs)) (word_calm x ws)
+      (got_calm S (words_row xs) (words_calm xs))
 
   worded_calm : (vs : List Value) → Calm {S = S} (worded_row vs)
   unfolding worded_row
@@ -80,14 +85,16 @@ module _ (S : Type 0) where
 
   pub sorted_calm : (vs : List Value) → Calm {S = S} (sorted_row vs)
   unfolding sorted_row
-  sorted_calm vs = cond_calm S (are_numbers vs) (Ret (Is (in_order number_less vs))) (worded_row vs) (ret_calm S _) (worded_calm vs)
+  sorted_calm vs = cond_calm S (are_numbers vs) (Ret (Is (in_order number_less vs))) (worded_row vs) (ret_calm S _)
+      (worded_calm vs)
 
   -- ---- lists
   append_steady : (a : ℕ) (o : Option Value) → Steady {S = S} false (append_with a o)
   unfolding append_with append_row append_to
   append_steady a (Some x) =
       bind_calm S (size_row a) (append_to a x) (size_calm S a)
-      (λ n. cond_calm S (ltb n LENGTH_LIMIT) (Do (Edit a (change.Push x)) (λ _. Ret (Is NoneValue))) (Ret (Raise memory_fault)) (push_calm S a x (λ _. Ret (Is NoneValue)) (ret_calm S _)) (ret_calm S _)) false
+      (λ n. cond_calm S (ltb n LENGTH_LIMIT) (Do (Edit a (change.Push x)) (λ _. Ret (Is NoneValue)))
+      (Ret (Raise memory_fault)) (push_calm S a x (λ _. Ret (Is NoneValue)) (ret_calm S _)) (ret_calm S _)) false
   append_steady a None = wrong_steady _
 
   index_pop_steady : (a : ℕ) (o : Option ℤ) → Steady {S = S} false (lists.pop_with a o)
@@ -97,7 +104,8 @@ module _ (S : Type 0) where
 
   pop_steady : (a : ℕ) (args : List Value) → Steady {S = S} false (pop_by a args)
   unfolding pop_by
-  pop_steady a args = either (length args == 0) (pop_row a (negsuc 0)) (lists.pop_with a (only_number args)) ((seq_steady S).pop a (negsuc 0)) (index_pop_steady a (only_number args))
+  pop_steady a args = either (length args == 0) (pop_row a (negsuc 0)) (lists.pop_with a (only_number args))
+      ((seq_steady S).pop a (negsuc 0)) (index_pop_steady a (only_number args))
 
   insert_steady : (a : ℕ) (o : Option (ℤ × Value)) → Steady {S = S} false (insert_with a o)
   unfolding insert_with
@@ -122,12 +130,15 @@ module _ (S : Type 0) where
 
   remove_steady : (a : ℕ) (o : Option Value) → Steady {S = S} false (remove_with a o)
   unfolding remove_with remove_row
-  remove_steady a (Some x) = looks_steady (search_row a x) (got_row (remove_at a)) (only_search S a x) (remove_at_steady a)
+  remove_steady a (Some x) = looks_steady (search_row a x) (got_row (remove_at a)) (only_search S a x)
+      (remove_at_steady a)
   remove_steady a None = wrong_steady _
 
   reverse_steady : (a : ℕ) (args : List Value) → Steady {S = S} false (reverse_by a args)
   unfolding reverse_by
-  reverse_steady a args = either (length args == 0) (bind (reverse_row a) (λ _. Ret (Is NoneValue))) (Ret (Raise argument_fault)) (then_steady (reverse_row a) (λ u. Is NoneValue) ((seq_steady S).reverse a)) (wrong_steady _)
+  reverse_steady a args = either (length args == 0) (bind (reverse_row a) (λ _. Ret (Is NoneValue)))
+      (Ret (Raise argument_fault)) (then_steady (reverse_row a) (λ u. Is NoneValue) ((seq_steady S).reverse a))
+      (wrong_steady _)
 
   put_calm : (a k : ℕ) (xs : List Value) → Calm {S = S} (put_row a k xs)
   unfolding put_row
@@ -140,11 +151,14 @@ module _ (S : Type 0) where
 
   sort_calm : (a : ℕ) → Calm {S = S} (sort_row a)
   unfolding sort_row sort_items
-  sort_calm a = bind_calm S (values_row a) (sort_items a) (values_calm S a) (λ vs. bind_calm S (sorted_row vs) (got_row (put_all a)) (sorted_calm vs) (got_calm S (put_all a) (put_all_calm a)))
+  sort_calm a = bind_calm S (values_row a) (sort_items a) (values_calm S a)
+      (λ vs. bind_calm S (sorted_row vs) (got_row (put_all a)) (sorted_calm vs)
+      (got_calm S (put_all a) (put_all_calm a)))
 
   sort_steady : (a : ℕ) (args : List Value) → Steady {S = S} false (sort_by a args)
   unfolding sort_by
-  sort_steady a args = either (length args == 0) (sort_row a) (Ret (Raise argument_fault)) (sort_calm a false) (wrong_steady _)
+  sort_steady a args = either (length args == 0) (sort_row a) (Ret (Raise argument_fault)) (sort_calm a false)
+      (wrong_steady _)
 
   list_steady : (m a : ℕ) (args : List Value) → Steady {S = S} false (list_method_row m a args)
   unfolding list_method_row
@@ -155,7 +169,8 @@ module _ (S : Type 0) where
       (either (m == 37) (extend_with a (only args)) _ (extend_steady a (only args))
       (either (m == 38) (index_with a (only args)) _ (index_steady a (only args))
       (either (m == 39) (remove_with a (only args)) _ (remove_steady a (only args))
-      (either (m == 40) (reverse_by a args) _ (reverse_steady a args) (either (m == 41) (sort_by a args) _ (sort_steady a args) (wrong_steady _))))))))
+      (either (m == 40) (reverse_by a args) _ (reverse_steady a args)
+      (either (m == 41) (sort_by a args) _ (sort_steady a args) (wrong_steady _))))))))
 
   -- ---- dictionaries
   get_steady : (d : ℕ) (o : Option (Value × Option Value)) → Steady {S = S} false (get_with d o)
@@ -165,7 +180,8 @@ module _ (S : Type 0) where
 
   list_by_steady : (part : Part) (d : ℕ) (args : List Value) → Steady {S = S} false (list_by part d args)
   unfolding list_by
-  list_by_steady part d args = either (length args == 0) (list_of_row d part) (Ret (Raise argument_fault)) ((dict_steady S).list_of d part) (wrong_steady _)
+  list_by_steady part d args = either (length args == 0) (list_of_row d part) (Ret (Raise argument_fault))
+      ((dict_steady S).list_of d part) (wrong_steady _)
 
   has_steady : (d : ℕ) (o : Option Value) → Steady {S = S} false (has_with d o)
   unfolding has_with
@@ -184,7 +200,9 @@ module _ (S : Type 0) where
       (either (m == 43) (list_by Keys d args) _ (list_by_steady Keys d args)
       (either (m == 44) (list_by Values d args) _ (list_by_steady Values d args)
       (either (m == 45) (list_by Items d args) _ (list_by_steady Items d args)
-      (either (m == 46) (has_with d (only args)) _ (has_steady d (only args)) (either (m == 47) (pop_with d (key_and_value args)) _ (key_pop_steady d (key_and_value args)) (wrong_steady _))))))
+      (either (m == 46) (has_with d (only args)) _ (has_steady d (only args))
+      (either (m == 47) (pop_with d (key_and_value args)) _ (key_pop_steady d (key_and_value args))
+      (wrong_steady _))))))
 
   pub methods_steady : MethodsSteady S
   methods_steady = record { list_method = list_steady; dict_method = dict_method_steady; sorted = sorted_calm }

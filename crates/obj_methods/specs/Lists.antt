@@ -33,7 +33,8 @@ done (Raise e) = Raise e
 -- ---- append
 
 unfoldable pub append_to : {S : Type 0} → ℕ → Value → ℕ → Row S (Got Value)
-append_to a x n = cond (ltb n LENGTH_LIMIT) (Do (Edit a (change.Push x)) (λ _. Ret (Is NoneValue))) (Ret (Raise memory_fault))
+append_to a x n = cond (ltb n LENGTH_LIMIT) (Do (Edit a (change.Push x)) (λ _. Ret (Is NoneValue)))
+    (Ret (Raise memory_fault))
 
 unfoldable pub append_row : {S : Type 0} → ℕ → Value → Row S (Got Value)
 append_row a x = bind (size_row a) (append_to a x)
@@ -113,7 +114,8 @@ remove_with a None = Ret (Raise argument_fault)
 -- ---- reverse, sort
 
 unfoldable pub reverse_by : {S : Type 0} → ℕ → List Value → Row S (Got Value)
-reverse_by a args = cond (length args == 0) (bind (reverse_row a) (λ _. Ret (Is NoneValue))) (Ret (Raise argument_fault))
+reverse_by a args = cond (length args == 0) (bind (reverse_row a) (λ _. Ret (Is NoneValue)))
+    (Ret (Raise argument_fault))
 
 -- values in the places of the items
 unfoldable pub put_all : {S : Type 0} → ℕ → List Value → Row S (Got Value)

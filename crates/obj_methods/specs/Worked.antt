@@ -17,7 +17,8 @@ use Rattle.obj_methods.specs.Sorting.{in_order, number_less, sorted_row, text_ro
 
 -- ---- sorting
 -- sorted([3, True, -2, 1]) is [-2, True, 1, 3]: True and 1 stay as they stood
-numbers : in_order number_less (Int (pos 3) ∷ BoolValue true ∷ Int (negsuc 1) ∷ Int (pos 1) ∷ []) ≡ Int (negsuc 1) ∷ BoolValue true ∷ Int (pos 1) ∷ Int (pos 3) ∷ []
+numbers : in_order number_less (Int (pos 3) ∷ BoolValue true ∷ Int (negsuc 1) ∷ Int (pos 1) ∷ []) ≡ Int (negsuc 1) ∷
+    BoolValue true ∷ Int (pos 1) ∷ Int (pos 3) ∷ []
 numbers = refl
 
 -- and [1, True] stays so too
@@ -29,7 +30,8 @@ abbrev word : List ℕ → ℕ → Word
 word bs n = record { text = bs; value = Builtin n }
 
 -- 'b', 'ab', '', 'a' and another 'ab': a text comes before those that go on from it
-words : in_order word_less (word (codes "b") 0 ∷ word (codes "ab") 1 ∷ word [] 2 ∷ word (codes "a") 3 ∷ word (codes "ab") 4 ∷ [])
+words : in_order word_less (word (codes "b") 0 ∷ word (codes "ab") 1 ∷ word [] 2 ∷ word (codes "a") 3 ∷ word
+    (codes "ab") 4 ∷ [])
     ≡ word [] 2 ∷ word (codes "a") 3 ∷ word (codes "ab") 1 ∷ word (codes "ab") 4 ∷ word (codes "b") 0 ∷ []
 words = refl
 
@@ -77,7 +79,8 @@ insert_none : number_and_value (NoneValue ∷ Int (pos 1) ∷ []) ≡ None
 insert_none = refl
 
 -- the last item that a list takes, and one more
-append_last : (a : ℕ) → append_to {S = Unit {0}} a NoneValue 1_048_575 ≡ Do (Edit a (change.Push NoneValue)) (λ _. Ret (Is NoneValue))
+append_last : (a : ℕ) → append_to {S = Unit {0}} a NoneValue 1_048_575 ≡ Do (Edit a (change.Push NoneValue))
+    (λ _. Ret (Is NoneValue))
 unfolding append_to
 append_last a = refl
 
@@ -93,11 +96,13 @@ no_place : found (Is None) ≡ Raise lack_fault
 no_place = refl
 
 -- a method's number decides: a.append() and a.sort(1) are wrong, and a dictionary's method is none of a list
-append_none : (a : ℕ) → list_method_row {S = Unit {0}} (builtin_number (codes "list.append")) a [] ≡ Ret (Raise argument_fault)
+append_none : (a : ℕ) → list_method_row {S = Unit {0}} (builtin_number (codes "list.append")) a [] ≡ Ret
+    (Raise argument_fault)
 unfolding list_method_row append_with
 append_none a = refl
 
-not_of_lists : (a : ℕ) → list_method_row {S = Unit {0}} (builtin_number (codes "dict.get")) a [] ≡ Ret (Raise operand_fault)
+not_of_lists : (a : ℕ) → list_method_row {S = Unit {0}} (builtin_number (codes "dict.get")) a [] ≡ Ret
+    (Raise operand_fault)
 unfolding list_method_row
 not_of_lists a = refl
 
@@ -129,6 +134,7 @@ not_given = refl
 unhashable : or_given (Some (Int (pos 2))) (Raise hash_fault) ≡ Raise hash_fault
 unhashable = refl
 
-not_of_dicts : (d : ℕ) → dict_method_row {S = Unit {0}} (builtin_number (codes "list.sort")) d [] ≡ Ret (Raise operand_fault)
+not_of_dicts : (d : ℕ) → dict_method_row {S = Unit {0}} (builtin_number (codes "list.sort")) d [] ≡ Ret
+    (Raise operand_fault)
 unfolding dict_method_row
 not_of_dicts d = refl

@@ -31,7 +31,8 @@ module _ (S : Type 0) where
       bind_calm S (kind_row a) (λ k. kinds_with b k) (kind_calm S a)
       (λ k. bind_calm S (kind_row b) (λ l. Ret (pairing_of k l)) (kind_calm S b) (λ l. ret_calm S _))
 
-  level_calm : {A U : Type 0} (P : U → Type 0) (o : Option U) (f : U → Row S (Got A)) → IfSome o P → ((u : U) → P u → Calm (f u)) → Calm (level_row o f)
+  level_calm : {A U : Type 0} (P : U → Type 0) (o : Option U) (f : U → Row S (Got A)) → IfSome o P →
+      ((u : U) → P u → Calm (f u)) → Calm (level_row o f)
   unfolding level_row
   level_calm P None f i n = ret_calm S _
   level_calm P (Some u) f i n = n u i
@@ -57,12 +58,14 @@ module _ (S : Type 0) where
   items_calm u n a b =
       bind_calm S (size_row a) (λ k. items_from u a b k) (size_calm S a)
       (λ k. bind_calm S (size_row b) (λ m. sized_row (item_row u a b) k m) (size_calm S b)
-      (λ m. cond_calm S (k == m) (until_row (item_row u a b) is_equal (Is true) 0 k) (Ret (Is false)) (until_calm S (item_row u a b) is_equal (Is true) (item_calm u n a b) 0 k) (ret_calm S _)))
+      (λ m. cond_calm S (k == m) (until_row (item_row u a b) is_equal (Is true) 0 k) (Ret (Is false))
+      (until_calm S (item_row u a b) is_equal (Is true) (item_calm u n a b) 0 k) (ret_calm S _)))
 
   found_calm : (u : Compares S) → ComparesCalm u → (b : ℕ) (x : Value) (o : Option ℕ) → Calm (found_row u b x o)
   unfolding found_row
   found_calm u n b x None = ret_calm S _
-  found_calm u n b x (Some j) = bind_calm S (look_row b (2 * j + 1)) (λ y. u x y) (look_calm S b (2 * j + 1)) (λ y. n x y)
+  found_calm u n b x (Some j) = bind_calm S (look_row b (2 * j + 1)) (λ y. u x y) (look_calm S b (2 * j + 1))
+      (λ y. n x y)
 
   pair_calm : (u : Compares S) → ComparesCalm u → (a b i : ℕ) → Calm (pair_row u a b i)
   unfolding pair_row pair_with sought_row
@@ -76,7 +79,8 @@ module _ (S : Type 0) where
   pairs_calm u n a b =
       bind_calm S (size_row a) (λ k. pairs_from u a b k) (size_calm S a)
       (λ k. bind_calm S (size_row b) (λ m. paired_row (pair_row u a b) k m) (size_calm S b)
-      (λ m. cond_calm S (k == m) (until_row (pair_row u a b) is_equal (Is true) 0 (k / 2)) (Ret (Is false)) (until_calm S (pair_row u a b) is_equal (Is true) (pair_calm u n a b) 0 (k / 2)) (ret_calm S _)))
+      (λ m. cond_calm S (k == m) (until_row (pair_row u a b) is_equal (Is true) 0 (k / 2)) (Ret (Is false))
+      (until_calm S (pair_row u a b) is_equal (Is true) (pair_calm u n a b) 0 (k / 2)) (ret_calm S _)))
 
   methods_calm : (a b : ℕ) → Calm {S = S} (methods_row a b)
   unfolding methods_row methods_with owners_row owner_with
@@ -84,7 +88,8 @@ module _ (S : Type 0) where
       bind_calm S (look_row a 0) (λ f. methods_with a b f) (look_calm S a 0)
       (λ f. bind_calm S (look_row b 0) (λ g. owners_row a b (is_same f g)) (look_calm S b 0)
       (λ g. bind_calm S (look_row a 1) (λ x. owner_with b (is_same f g) x) (look_calm S a 1)
-      (λ x. bind_calm S (look_row b 1) (λ y. Ret (Is (is_same f g && is_same x y))) (look_calm S b 1) (λ y. ret_calm S _))))
+      (λ x. bind_calm S (look_row b 1) (λ y. Ret (Is (is_same f g && is_same x y))) (look_calm S b 1)
+      (λ y. ret_calm S _))))
 
   by_calm : (o : Option (Compares S)) → IfSome o ComparesCalm → (a b : ℕ) (p : Pairing) → Calm (by_pairing o a b p)
   unfolding by_pairing
@@ -96,7 +101,8 @@ module _ (S : Type 0) where
 
   under_calm : (o : Option (Compares S)) → IfSome o ComparesCalm → ComparesCalm (equal_under o)
   unfolding equal_under records_row
-  under_calm o i (Ref a) (Ref b) = bind_calm S (kinds_row a.0 b.0) (by_pairing o a.0 b.0) (kinds_calm a.0 b.0) (by_calm o i a.0 b.0)
+  under_calm o i (Ref a) (Ref b) = bind_calm S (kinds_row a.0 b.0) (by_pairing o a.0 b.0) (kinds_calm a.0 b.0)
+      (by_calm o i a.0 b.0)
   under_calm o i (Ref a) Unset = ret_calm S _
   under_calm o i (Ref a) NoneValue = ret_calm S _
   under_calm o i (Ref a) (BoolValue b) = ret_calm S _
@@ -141,14 +147,16 @@ module _ (S : Type 0) where
   turn_calm u n a b i =
       bind_calm S (look_row a i) (λ x. turn_with u b i x) (look_calm S a i)
       (λ x. bind_calm S (look_row b i) (λ y. decided_row u x y) (look_calm S b i)
-      (λ y. bind_calm S (u.same x y) (got_row (unequal_row u x y)) (n.0 x y) (got_calm S (unequal_row u x y) (unequal_calm u n x y))))
+      (λ y. bind_calm S (u.same x y) (got_row (unequal_row u x y)) (n.0 x y)
+      (got_calm S (unequal_row u x y) (unequal_calm u n x y))))
 
   listed_calm : (u : Parts S) → PartsCalm u → (a b : ℕ) → Calm (listed_row u a b)
   unfolding listed_row listed_from shared_row
   listed_calm u n a b =
       bind_calm S (size_row a) (λ k. listed_from u a b k) (size_calm S a)
       (λ k. bind_calm S (size_row b) (λ m. shared_row u a b k m) (size_calm S b)
-      (λ m. bind_calm S (until_row (turn_row u a b) is_open (Is None) 0 (min k m)) (λ g. Ret (by_lengths k m g)) (until_calm S (turn_row u a b) is_open (Is None) (turn_calm u n a b) 0 (min k m)) (λ g. ret_calm S _)))
+      (λ m. bind_calm S (until_row (turn_row u a b) is_open (Is None) 0 (min k m)) (λ g. Ret (by_lengths k m g))
+      (until_calm S (turn_row u a b) is_open (Is None) (turn_calm u n a b) 0 (min k m)) (λ g. ret_calm S _)))
 
   ordered_calm : (o : Option (Parts S)) → IfSome o PartsCalm → (a b : ℕ) (p : Pairing) → Calm (ordered_by o a b p)
   unfolding ordered_by
@@ -160,7 +168,8 @@ module _ (S : Type 0) where
 
   order_under_calm : (o : Option (Parts S)) → IfSome o PartsCalm → (x y : Value) → Calm (order_under o x y)
   unfolding order_under ranked_row
-  order_under_calm o i (Ref a) (Ref b) = bind_calm S (kinds_row a.0 b.0) (ordered_by o a.0 b.0) (kinds_calm a.0 b.0) (ordered_calm o i a.0 b.0)
+  order_under_calm o i (Ref a) (Ref b) = bind_calm S (kinds_row a.0 b.0) (ordered_by o a.0 b.0) (kinds_calm a.0 b.0)
+      (ordered_calm o i a.0 b.0)
   order_under_calm o i (Ref a) Unset = ret_calm S _
   order_under_calm o i (Ref a) NoneValue = ret_calm S _
   order_under_calm o i (Ref a) (BoolValue b) = ret_calm S _
@@ -175,7 +184,10 @@ module _ (S : Type 0) where
   parts_calm : (d : ℕ) → IfSome (parts_below d) PartsCalm
   unfolding parts_below
   parts_calm zero = tt
-  parts_calm (suc d) = (under_calm (below equal_under d) (below_calm d), order_under_calm (parts_below d) (parts_calm d))
+  parts_calm (suc d) = (
+    under_calm (below equal_under d) (below_calm d),
+    order_under_calm (parts_below d) (parts_calm d),
+  )
 
   pub order_calm : (x y : Value) → Calm {S = S} (order_row x y)
   unfolding order_row
@@ -224,7 +236,8 @@ module _ (S : Type 0) where
 
   part_calm : (u : Writes S) → WritesCalm u → (a i : ℕ) (out : List ℕ) → Calm (part_row u a i out)
   unfolding part_row
-  part_calm u n a i out = bind_calm S (look_row a i) (λ x. u (spaced i out) x) (look_calm S a i) (λ x. n (spaced i out) x)
+  part_calm u n a i out = bind_calm S (look_row a i) (λ x. u (spaced i out) x) (look_calm S a i)
+      (λ x. n (spaced i out) x)
 
   couple_calm : (u : Writes S) → WritesCalm u → (a i : ℕ) (out : List ℕ) → Calm (couple_row u a i out)
   unfolding couple_row keyed_row mapped_row
@@ -232,12 +245,15 @@ module _ (S : Type 0) where
       bind_calm S (look_row a (2 * i)) (λ k. keyed_row u a i (spaced i out) k) (look_calm S a (2 * i))
       (λ k. bind_calm S (u (spaced i out) k) (got_row (mapped_row u a i)) (n (spaced i out) k)
       (got_calm S (mapped_row u a i)
-      (λ t. bind_calm S (look_row a (2 * i + 1)) (λ x. u (t ++ codes ": ") x) (look_calm S a (2 * i + 1)) (λ x. n (t ++ codes ": ") x))))
+      (λ t. bind_calm S (look_row a (2 * i + 1)) (λ x. u (t ++ codes ": ") x) (look_calm S a (2 * i + 1))
+      (λ x. n (t ++ codes ": ") x))))
 
-  written_calm : (f : ℕ → List ℕ → Row S (Got (List ℕ))) → ((i : ℕ) (out : List ℕ) → Calm (f i out)) → (k : ℕ) (close out : List ℕ) → Calm (parts_row f k close out)
+  written_calm : (f : ℕ → List ℕ → Row S (Got (List ℕ))) → ((i : ℕ) (out : List ℕ) → Calm (f i out)) →
+      (k : ℕ) (close out : List ℕ) → Calm (parts_row f k close out)
   unfolding parts_row closed_row
   written_calm f n k close out =
-      bind_calm S (each_row f 0 k out) (got_row (closed_row close)) (each_calm S f n 0 k out) (got_calm S (closed_row close) (λ t. ret_calm S _))
+      bind_calm S (each_row f 0 k out) (got_row (closed_row close)) (each_calm S f n 0 k out)
+      (got_calm S (closed_row close) (λ t. ret_calm S _))
 
   list_calm : (u : Writes S) → WritesCalm u → (a : ℕ) (out : List ℕ) → Calm (list_row u a out)
   unfolding list_row
@@ -283,9 +299,11 @@ module _ (S : Type 0) where
   unfolding named_row
   named_calm a = bind_calm S (look_row a 0) (λ x. name_by x) (look_calm S a 0) name_by_calm
 
-  between_calm : (front close : List ℕ) (name : Row S (List ℕ)) → Calm name → (out : List ℕ) → Calm (between_row front close name out)
+  between_calm : (front close : List ℕ) (name : Row S (List ℕ)) → Calm name → (out : List ℕ) →
+      Calm (between_row front close name out)
   unfolding between_row
-  between_calm front close name n out = bind_calm S name (λ t. Ret (Is (out ++ front ++ t ++ close))) n (λ t. ret_calm S _)
+  between_calm front close name n out = bind_calm S name (λ t. Ret (Is (out ++ front ++ t ++ close))) n
+      (λ t. ret_calm S _)
 
   quoted_calm : (a : ℕ) (out : List ℕ) → Calm {S = S} (quoted_row a out)
   unfolding quoted_row
@@ -307,7 +325,8 @@ module _ (S : Type 0) where
   other_calm a out Lock = ret_calm S _
   other_calm a out Thread = ret_calm S _
 
-  kind_text_calm : (o : Option (Writes S)) → IfSome o WritesCalm → (a : ℕ) (out : List ℕ) (k : Kind) → Calm (kind_text o a out k)
+  kind_text_calm : (o : Option (Writes S)) → IfSome o WritesCalm → (a : ℕ) (out : List ℕ) (k : Kind) →
+      Calm (kind_text o a out k)
   unfolding kind_text
   kind_text_calm o i a out Str = quoted_calm a out
   kind_text_calm o i a out Tuple = level_calm WritesCalm o (λ u. tuple_row u a out) i (λ u n. tuple_calm u n a out)
@@ -325,7 +344,8 @@ module _ (S : Type 0) where
 
   write_calm : (o : Option (Writes S)) → IfSome o WritesCalm → WritesCalm (write_under o)
   unfolding write_under record_row
-  write_calm o i out (Ref a) = bind_calm S (kind_row a.0) (λ k. kind_text o a.0 out k) (kind_calm S a.0) (kind_text_calm o i a.0 out)
+  write_calm o i out (Ref a) = bind_calm S (kind_row a.0) (λ k. kind_text o a.0 out k) (kind_calm S a.0)
+      (kind_text_calm o i a.0 out)
   write_calm o i out Unset = ret_calm S _
   write_calm o i out NoneValue = ret_calm S _
   write_calm o i out (BoolValue b) = ret_calm S _

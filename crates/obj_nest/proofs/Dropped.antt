@@ -6,7 +6,8 @@ use Rattle.py_data.specs.Heap.{Heap, value_at}
 use Rattle.py_data.specs.Closed.{Refers}
 
 -- the value at a place, and what stands behind it
-pub drop_here : (vs : List Value) (i : ℕ) (x : Value) (xs : List Value) → drop i vs ≡ x ∷ xs → (value_at vs i ≡ x) × (drop (i + 1) vs ≡ xs)
+pub drop_here : (vs : List Value) (i : ℕ) (x : Value) (xs : List Value) → drop i vs ≡ x ∷ xs →
+    (value_at vs i ≡ x) × (drop (i + 1) vs ≡ xs)
 drop_here [] zero x xs e = absurd (let q : ◌≡◌ {A = List Value} [] (x ∷ xs) = e in cc)
 drop_here [] (suc i) x xs e = absurd (let q : ◌≡◌ {A = List Value} [] (x ∷ xs) = e in cc)
 drop_here (y ∷ vs) zero x xs e = (let q : y ≡ x = cc in q, let q : vs ≡ xs = cc in q)

@@ -152,13 +152,15 @@ str_at h a cs e = by (h a) refl e
     by None q e = absurd (let q : ◌≡◌ {A = Option (List ℕ)} None (Some cs) = e in cc)
     by (Some r) q e = ap (λ z. z.kind) (at-is h a r q) ∙ str_kind r.kind r.bytes cs e
 
-kind_congr : (h : Heap) (a b : ℕ) (x y : Option (List ℕ)) → text_in (h a) ≡ x → text_in (h b) ≡ y → same_text (eqb a b) x y ≡ true → (at h a).kind ≡ (at h b).kind
+kind_congr : (h : Heap) (a b : ℕ) (x y : Option (List ℕ)) → text_in (h a) ≡ x → text_in (h b) ≡ y →
+    same_text (eqb a b) x y ≡ true → (at h a).kind ≡ (at h b).kind
 kind_congr h a b (Some xs) (Some ys) ex ey e = str_at h a xs ex ∙ sym (str_at h b ys ey)
 kind_congr h a b None y ex ey e = ap (λ k. (at h k).kind) (eqb-true a b e)
 kind_congr h a b (Some xs) None ex ey e = ap (λ k. (at h k).kind) (eqb-true a b e)
 
 -- records that are equal are of one kind
-one_kind : (h : Heap) (under : Under Bool) (key : Bool) (k l : Kind) (xs ys : List Value) → (key ≡ true → k ≡ l) → equal_kinds h under key k l xs ys ≡ Is true → k ≡ l
+one_kind : (h : Heap) (under : Under Bool) (key : Bool) (k l : Kind) (xs ys : List Value) → (key ≡ true → k ≡ l) →
+    equal_kinds h under key k l xs ys ≡ Is true → k ≡ l
 one_kind h under key Tuple Tuple xs ys f e = refl
 one_kind h under key ListKind ListKind xs ys f e = refl
 one_kind h under key Dict Dict xs ys f e = refl
@@ -175,61 +177,79 @@ module _ (rules : Rules) (h : Heap) (order : IsOrdered rules h) where
       by (Some r) q =
           let k : r.kind ≡ Dict = sym (ap (λ z. z.kind) (at-is h a r q)) ∙ e in
           let shape = subst (λ k. HasShape h k r.values) k (order.each a r q).closed.shaped.0 in
-          subst (λ z. ArePairs h z.values × Apart h z.values) (sym (at-is h a r q)) (shape.0, are_apart h r.values shape.0 shape.1)
+          subst (λ z. ArePairs h z.values × Apart h z.values) (sym (at-is h a r q))
+          (shape.0, are_apart h r.values shape.0 shape.1)
 
   -- ---- symmetric
   Turns : Under Bool → Type 0
   Turns None = Unit {0}
   Turns (Some u) = (x y : Value) → u x y ≡ Is true → u y x ≡ Is true
 
-  items_level : (under : Under Bool) → Turns under → (xs ys : List Value) → one_level under (λ u. of_one_length xs ys (equal_items u xs ys)) ≡ Is true → one_level under (λ u. of_one_length ys xs (equal_items u ys xs)) ≡ Is true
+  items_level : (under : Under Bool) → Turns under → (xs ys : List Value) →
+      one_level under (λ u. of_one_length xs ys (equal_items u xs ys)) ≡ Is true →
+      one_level under (λ u. of_one_length ys xs (equal_items u ys xs)) ≡ Is true
   unfolding Turns
   items_level None t xs ys e = raised e
-  items_level (Some u) t xs ys e = let s = same_lengths xs ys (equal_items u xs ys) e in one_length ys xs (equal_items u ys xs) (sym s.0) ∙ items_turned u t xs ys s.1
+  items_level (Some u) t xs ys e = let s = same_lengths xs ys (equal_items u xs ys) e in
+      one_length ys xs (equal_items u ys xs) (sym s.0) ∙ items_turned u t xs ys s.1
 
-  pairs_level : (under : Under Bool) → Turns under → (xs ys : List Value) → Apart h xs → Apart h ys → one_level under (λ u. of_one_length xs ys (equal_pairs h u xs ys)) ≡ Is true
+  pairs_level : (under : Under Bool) → Turns under → (xs ys : List Value) → Apart h xs → Apart h ys →
+      one_level under (λ u. of_one_length xs ys (equal_pairs h u xs ys)) ≡ Is true
       → one_level under (λ u. of_one_length ys xs (equal_pairs h u ys xs)) ≡ Is true
   unfolding Turns
   pairs_level None t xs ys p q e = raised e
   pairs_level (Some u) t xs ys p q e =
       let s = same_lengths xs ys (equal_pairs h u xs ys) e in
-      one_length ys xs (equal_pairs h u ys xs) (sym s.0) ∙ matched_pairs h u ys xs (matched_turned h u t xs ys p q s.0 (pairs_matched h u xs ys s.1))
+      one_length ys xs (equal_pairs h u ys xs) (sym s.0) ∙
+      matched_pairs h u ys xs (matched_turned h u t xs ys p q s.0 (pairs_matched h u xs ys s.1))
 
-  methods_turned : (xs ys : List Value) → Is (is_same (value_at xs 0) (value_at ys 0) && is_same (value_at xs 1) (value_at ys 1)) ≡ Is true → Is (is_same (value_at ys 0) (value_at xs 0) && is_same (value_at ys 1) (value_at xs 1)) ≡ Is true
+  methods_turned : (xs ys : List Value) →
+      Is (is_same (value_at xs 0) (value_at ys 0) && is_same (value_at xs 1) (value_at ys 1)) ≡ Is true →
+      Is (is_same (value_at ys 0) (value_at xs 0) && is_same (value_at ys 1) (value_at xs 1)) ≡ Is true
   methods_turned xs ys e =
       let t = not_true (is_same (value_at xs 0) (value_at ys 0) && is_same (value_at xs 1) (value_at ys 1)) e in
       let s = both (is_same (value_at xs 0) (value_at ys 0)) (is_same (value_at xs 1) (value_at ys 1)) t in
       let f = same_is (value_at xs 0) (value_at ys 0) s.0 in
       let o = same_is (value_at xs 1) (value_at ys 1) s.1 in
-      let one : is_same (value_at ys 0) (value_at xs 0) ≡ true = ap (λ z. is_same z (value_at xs 0)) (sym f) ∙ (ap (is_same (value_at xs 0)) f ∙ s.0) in
-      let two : is_same (value_at ys 1) (value_at xs 1) ≡ true = ap (λ z. is_same z (value_at xs 1)) (sym o) ∙ (ap (is_same (value_at xs 1)) o ∙ s.1) in
+      let one : is_same (value_at ys 0) (value_at xs 0) ≡ true = ap (λ z. is_same z (value_at xs 0)) (sym f) ∙
+      (ap (is_same (value_at xs 0)) f ∙ s.0) in
+      let two : is_same (value_at ys 1) (value_at xs 1) ≡ true = ap (λ z. is_same z (value_at xs 1)) (sym o) ∙
+      (ap (is_same (value_at xs 1)) o ∙ s.1) in
       ap Is (ap (λ b. b && is_same (value_at ys 1) (value_at xs 1)) one ∙ two)
 
   module _ (under : Under Bool) (turns : Turns under) where
-    kind_turned : (a b : ℕ) (p q : Bool) → (p ≡ true → q ≡ true) → (k : Kind) → (at h a).kind ≡ k → (at h b).kind ≡ k → equal_kinds h under p k k (at h a).values (at h b).values ≡ Is true → equal_kinds h under q k k (at h b).values (at h a).values ≡ Is true
+    kind_turned : (a b : ℕ) (p q : Bool) → (p ≡ true → q ≡ true) → (k : Kind) → (at h a).kind ≡ k → (at h b).kind ≡ k →
+        equal_kinds h under p k k (at h a).values (at h b).values ≡ Is true →
+        equal_kinds h under q k k (at h b).values (at h a).values ≡ Is true
     kind_turned a b p q f Tuple ea eb e = items_level under turns (at h a).values (at h b).values e
     kind_turned a b p q f ListKind ea eb e = items_level under turns (at h a).values (at h b).values e
-    kind_turned a b p q f Dict ea eb e = pairs_level under turns (at h a).values (at h b).values (dict_at a ea).1 (dict_at b eb).1 e
+    kind_turned a b p q f Dict ea eb e = pairs_level under turns (at h a).values (at h b).values (dict_at a ea).1
+        (dict_at b eb).1 e
     kind_turned a b p q f Method ea eb e = methods_turned (at h a).values (at h b).values e
     kind_turned a b p q f k ea eb e = ap Is (f (not_true p e))
 
-    records_turned : (a b : Addr) → equal_by h under (Ref a) (Ref b) ≡ Is true → equal_by h under (Ref b) (Ref a) ≡ Is true
+    records_turned : (a b : Addr) → equal_by h under (Ref a) (Ref b) ≡ Is true →
+        equal_by h under (Ref b) (Ref a) ≡ Is true
     records_turned a b e =
         let p = same_key h (Ref a) (Ref b) in
         let q = same_key h (Ref b) (Ref a) in
         let xs = (at h a.0).values in
         let ys = (at h b.0).values in
-        let k = one_kind h under p (at h a.0).kind (at h b.0).kind xs ys (kind_congr h a.0 b.0 (text_in (h a.0)) (text_in (h b.0)) refl refl) e in
+        let k = one_kind h under p (at h a.0).kind (at h b.0).kind xs ys
+        (kind_congr h a.0 b.0 (text_in (h a.0)) (text_in (h b.0)) refl refl) e in
         let one = subst (λ z. equal_kinds h under p (at h a.0).kind z xs ys ≡ Is true) (sym k) e in
-        subst (λ z. equal_kinds h under q z (at h a.0).kind ys xs ≡ Is true) k (kind_turned a.0 b.0 p q (key_turned h (Ref a) (Ref b)) (at h a.0).kind refl (sym k) one)
+        subst (λ z. equal_kinds h under q z (at h a.0).kind ys xs ≡ Is true) k
+        (kind_turned a.0 b.0 p q (key_turned h (Ref a) (Ref b)) (at h a.0).kind refl (sym k) one)
 
     turned_by : (x y : Value) → equal_by h under x y ≡ Is true → equal_by h under y x ≡ Is true
     turned_by x y e = by (which x) (which y)
       where
-        plain : equal_by h under x y ≡ Is (same_key h x y) → equal_by h under y x ≡ Is (same_key h y x) → equal_by h under y x ≡ Is true
+        plain : equal_by h under x y ≡ Is (same_key h x y) → equal_by h under y x ≡ Is (same_key h y x) →
+            equal_by h under y x ≡ Is true
         plain s t = t ∙ ap Is (key_turned h x y (not_true (same_key h x y) (sym s ∙ e)))
 
-        by : (((a : Addr) × (x ≡ Ref a)) ⊎ NotRef x) → (((b : Addr) × (y ≡ Ref b)) ⊎ NotRef y) → equal_by h under y x ≡ Is true
+        by : (((a : Addr) × (x ≡ Ref a)) ⊎ NotRef x) → (((b : Addr) × (y ≡ Ref b)) ⊎ NotRef y) →
+            equal_by h under y x ≡ Is true
         by (inr n) j = plain (plain_left h under x y n) (plain_right h under y x n)
         by i (inr n) = plain (plain_right h under x y n) (plain_left h under y x n)
         by (inl i) (inl j) =
@@ -247,7 +267,9 @@ module _ (rules : Rules) (h : Heap) (order : IsOrdered rules h) where
   Joins None = Unit {0}
   Joins (Some u) = (x y z : Value) → u x y ≡ Is true → u y z ≡ Is true → u x z ≡ Is true
 
-  items_join : (under : Under Bool) → Joins under → (xs ys zs : List Value) → one_level under (λ u. of_one_length xs ys (equal_items u xs ys)) ≡ Is true → one_level under (λ u. of_one_length ys zs (equal_items u ys zs)) ≡ Is true
+  items_join : (under : Under Bool) → Joins under → (xs ys zs : List Value) →
+      one_level under (λ u. of_one_length xs ys (equal_items u xs ys)) ≡ Is true →
+      one_level under (λ u. of_one_length ys zs (equal_items u ys zs)) ≡ Is true
       → one_level under (λ u. of_one_length xs zs (equal_items u xs zs)) ≡ Is true
   unfolding Joins
   items_join None t xs ys zs e f = raised e
@@ -256,32 +278,43 @@ module _ (rules : Rules) (h : Heap) (order : IsOrdered rules h) where
       let r = same_lengths ys zs (equal_items u ys zs) f in
       one_length xs zs (equal_items u xs zs) (s.0 ∙ r.0) ∙ items_joined u t xs ys zs s.0 s.1 r.1
 
-  pairs_join : (under : Under Bool) → Joins under → (xs ys zs : List Value) → one_level under (λ u. of_one_length xs ys (equal_pairs h u xs ys)) ≡ Is true → one_level under (λ u. of_one_length ys zs (equal_pairs h u ys zs)) ≡ Is true
+  pairs_join : (under : Under Bool) → Joins under → (xs ys zs : List Value) →
+      one_level under (λ u. of_one_length xs ys (equal_pairs h u xs ys)) ≡ Is true →
+      one_level under (λ u. of_one_length ys zs (equal_pairs h u ys zs)) ≡ Is true
       → one_level under (λ u. of_one_length xs zs (equal_pairs h u xs zs)) ≡ Is true
   unfolding Joins
   pairs_join None t xs ys zs e f = raised e
   pairs_join (Some u) t xs ys zs e f =
       let s = same_lengths xs ys (equal_pairs h u xs ys) e in
       let r = same_lengths ys zs (equal_pairs h u ys zs) f in
-      one_length xs zs (equal_pairs h u xs zs) (s.0 ∙ r.0) ∙ matched_pairs h u xs zs (matched_joined h u t xs ys zs (pairs_matched h u xs ys s.1) (pairs_matched h u ys zs r.1))
+      one_length xs zs (equal_pairs h u xs zs) (s.0 ∙ r.0) ∙
+      matched_pairs h u xs zs (matched_joined h u t xs ys zs (pairs_matched h u xs ys s.1)
+      (pairs_matched h u ys zs r.1))
 
-  methods_joined : (xs ys zs : List Value) → Is (is_same (value_at xs 0) (value_at ys 0) && is_same (value_at xs 1) (value_at ys 1)) ≡ Is true → Is (is_same (value_at ys 0) (value_at zs 0) && is_same (value_at ys 1) (value_at zs 1)) ≡ Is true
+  methods_joined : (xs ys zs : List Value) →
+      Is (is_same (value_at xs 0) (value_at ys 0) && is_same (value_at xs 1) (value_at ys 1)) ≡ Is true →
+      Is (is_same (value_at ys 0) (value_at zs 0) && is_same (value_at ys 1) (value_at zs 1)) ≡ Is true
       → Is (is_same (value_at xs 0) (value_at zs 0) && is_same (value_at xs 1) (value_at zs 1)) ≡ Is true
   methods_joined xs ys zs e f =
       let t = not_true (is_same (value_at xs 0) (value_at ys 0) && is_same (value_at xs 1) (value_at ys 1)) e in
       let s = both (is_same (value_at xs 0) (value_at ys 0)) (is_same (value_at xs 1) (value_at ys 1)) t in
-      ap (λ v. Is (is_same v (value_at zs 0) && is_same (value_at xs 1) (value_at zs 1))) (same_is (value_at xs 0) (value_at ys 0) s.0)
-      ∙ (ap (λ v. Is (is_same (value_at ys 0) (value_at zs 0) && is_same v (value_at zs 1))) (same_is (value_at xs 1) (value_at ys 1) s.1) ∙ f)
+      ap (λ v. Is (is_same v (value_at zs 0) && is_same (value_at xs 1) (value_at zs 1)))
+      (same_is (value_at xs 0) (value_at ys 0) s.0)
+      ∙ (ap (λ v. Is (is_same (value_at ys 0) (value_at zs 0) && is_same v (value_at zs 1)))
+      (same_is (value_at xs 1) (value_at ys 1) s.1) ∙ f)
 
   module _ (under : Under Bool) (joins : Joins under) where
-    kind_joined : (p q r : Bool) → (p ≡ true → q ≡ true → r ≡ true) → (k : Kind) (xs ys zs : List Value) → equal_kinds h under p k k xs ys ≡ Is true → equal_kinds h under q k k ys zs ≡ Is true → equal_kinds h under r k k xs zs ≡ Is true
+    kind_joined : (p q r : Bool) → (p ≡ true → q ≡ true → r ≡ true) → (k : Kind) (xs ys zs : List Value) →
+        equal_kinds h under p k k xs ys ≡ Is true → equal_kinds h under q k k ys zs ≡ Is true →
+        equal_kinds h under r k k xs zs ≡ Is true
     kind_joined p q r f Tuple xs ys zs d e = items_join under joins xs ys zs d e
     kind_joined p q r f ListKind xs ys zs d e = items_join under joins xs ys zs d e
     kind_joined p q r f Dict xs ys zs d e = pairs_join under joins xs ys zs d e
     kind_joined p q r f Method xs ys zs d e = methods_joined xs ys zs d e
     kind_joined p q r f k xs ys zs d e = ap Is (f (not_true p d) (not_true q e))
 
-    records_joined : (a b c : Addr) → equal_by h under (Ref a) (Ref b) ≡ Is true → equal_by h under (Ref b) (Ref c) ≡ Is true → equal_by h under (Ref a) (Ref c) ≡ Is true
+    records_joined : (a b c : Addr) → equal_by h under (Ref a) (Ref b) ≡ Is true →
+        equal_by h under (Ref b) (Ref c) ≡ Is true → equal_by h under (Ref a) (Ref c) ≡ Is true
     records_joined a b c e f =
         let p = same_key h (Ref a) (Ref b) in
         let q = same_key h (Ref b) (Ref c) in
@@ -289,16 +322,22 @@ module _ (rules : Rules) (h : Heap) (order : IsOrdered rules h) where
         let xs = (at h a.0).values in
         let ys = (at h b.0).values in
         let zs = (at h c.0).values in
-        let k = one_kind h under p (at h a.0).kind (at h b.0).kind xs ys (kind_congr h a.0 b.0 (text_in (h a.0)) (text_in (h b.0)) refl refl) e in
-        let l = one_kind h under q (at h b.0).kind (at h c.0).kind ys zs (kind_congr h b.0 c.0 (text_in (h b.0)) (text_in (h c.0)) refl refl) f in
+        let k = one_kind h under p (at h a.0).kind (at h b.0).kind xs ys
+        (kind_congr h a.0 b.0 (text_in (h a.0)) (text_in (h b.0)) refl refl) e in
+        let l = one_kind h under q (at h b.0).kind (at h c.0).kind ys zs
+        (kind_congr h b.0 c.0 (text_in (h b.0)) (text_in (h c.0)) refl refl) f in
         let one = subst (λ z. equal_kinds h under p (at h a.0).kind z xs ys ≡ Is true) (sym k) e in
-        let two = subst (λ z. equal_kinds h under q z z ys zs ≡ Is true) (sym k) (subst (λ z. equal_kinds h under q (at h b.0).kind z ys zs ≡ Is true) (sym l) f) in
-        subst (λ z. equal_kinds h under r (at h a.0).kind z xs zs ≡ Is true) (k ∙ l) (kind_joined p q r (key_trans h (Ref a) (Ref b) (Ref c)) (at h a.0).kind xs ys zs one two)
+        let two = subst (λ z. equal_kinds h under q z z ys zs ≡ Is true) (sym k)
+        (subst (λ z. equal_kinds h under q (at h b.0).kind z ys zs ≡ Is true) (sym l) f) in
+        subst (λ z. equal_kinds h under r (at h a.0).kind z xs zs ≡ Is true) (k ∙ l)
+        (kind_joined p q r (key_trans h (Ref a) (Ref b) (Ref c)) (at h a.0).kind xs ys zs one two)
 
-    joined_by : (x y z : Value) → equal_by h under x y ≡ Is true → equal_by h under y z ≡ Is true → equal_by h under x z ≡ Is true
+    joined_by : (x y z : Value) → equal_by h under x y ≡ Is true → equal_by h under y z ≡ Is true →
+        equal_by h under x z ≡ Is true
     joined_by x y z e f = by (which x) (which y) (which z)
       where
-        by : (((a : Addr) × (x ≡ Ref a)) ⊎ NotRef x) → (((b : Addr) × (y ≡ Ref b)) ⊎ NotRef y) → (((c : Addr) × (z ≡ Ref c)) ⊎ NotRef z) → equal_by h under x z ≡ Is true
+        by : (((a : Addr) × (x ≡ Ref a)) ⊎ NotRef x) → (((b : Addr) × (y ≡ Ref b)) ⊎ NotRef y) →
+            (((c : Addr) × (z ≡ Ref c)) ⊎ NotRef z) → equal_by h under x z ≡ Is true
         by (inl i) (inl j) (inl k) =
             let s = ap (λ x. equal_by h under x y) i.1 ∙ ap (equal_by h under (Ref i.0)) j.1 in
             let t = ap (λ y. equal_by h under y z) j.1 ∙ ap (equal_by h under (Ref j.0)) k.1 in
@@ -308,11 +347,17 @@ module _ (rules : Rules) (h : Heap) (order : IsOrdered rules h) where
             let p = not_true (same_key h x y) (sym (plain_left h under x y n) ∙ e) in
             let q = not_true (same_key h y z) (sym (plain_left h under y z m) ∙ f) in
             plain_left h under x z n ∙ ap Is (key_trans h x y z p q)
-        by (inr n) (inl j) k = absurd (ref_apart h x j.0 n (ap (same_key h x) (sym j.1) ∙ not_true (same_key h x y) (sym (plain_left h under x y n) ∙ e)))
-        by (inl i) (inr m) k = absurd (ref_apart h y i.0 m (ap (same_key h y) (sym i.1) ∙ key_turned h x y (not_true (same_key h x y) (sym (plain_right h under x y m) ∙ e))))
-        by (inl i) (inl j) (inr o) = absurd (ref_apart h z j.0 o (ap (same_key h z) (sym j.1) ∙ key_turned h y z (not_true (same_key h y z) (sym (plain_right h under y z o) ∙ f))))
+        by (inr n) (inl j) k = absurd (ref_apart h x j.0 n
+            (ap (same_key h x) (sym j.1) ∙ not_true (same_key h x y) (sym (plain_left h under x y n) ∙ e)))
+        by (inl i) (inr m) k = absurd (ref_apart h y i.0 m
+            (ap (same_key h y) (sym i.1) ∙
+            key_turned h x y (not_true (same_key h x y) (sym (plain_right h under x y m) ∙ e))))
+        by (inl i) (inl j) (inr o) = absurd
+            (ref_apart h z j.0 o (ap (same_key h z) (sym j.1) ∙
+            key_turned h y z (not_true (same_key h y z) (sym (plain_right h under y z o) ∙ f))))
 
-  joined_within : (d : ℕ) (x y z : Value) → equal_within h d x y ≡ Is true → equal_within h d y z ≡ Is true → equal_within h d x z ≡ Is true
+  joined_within : (d : ℕ) (x y z : Value) → equal_within h d x y ≡ Is true → equal_within h d y z ≡ Is true →
+      equal_within h d x z ≡ Is true
   unfolding equal_within Joins
   joined_within zero x y z e f = joined_by None tt x y z e f
   joined_within (suc d) x y z e f = joined_by (Some (equal_within h d)) (joined_within d) x y z e f
@@ -322,10 +367,13 @@ module _ (rules : Rules) (h : Heap) (order : IsOrdered rules h) where
   Same None = Unit {0}
   Same (Some u) = (x : Value) → IsItem h x → Fine (u x x)
 
-  level_fine : (under : Under Bool) → Same under → (xs : List Value) (f : (Value → Value → Got Bool) → Got Bool) → Every (IsItem h) xs → ((u : Value → Value → Got Bool) → Every (λ x. Fine (u x x)) xs → Fine (f u)) → Fine (one_level under (λ u. of_one_length xs xs (f u)))
+  level_fine : (under : Under Bool) → Same under → (xs : List Value) (f : (Value → Value → Got Bool) → Got Bool) →
+      Every (IsItem h) xs → ((u : Value → Value → Got Bool) → Every (λ x. Fine (u x x)) xs → Fine (f u)) →
+      Fine (one_level under (λ u. of_one_length xs xs (f u)))
   unfolding Same
   level_fine None s xs f i g = inr refl
-  level_fine (Some u) s xs f i g = subst Fine (sym (one_length xs xs (f u) refl)) (g u (every_weaken (IsItem h) (λ x. Fine (u x x)) s xs i))
+  level_fine (Some u) s xs f i g = subst Fine (sym (one_length xs xs (f u) refl))
+      (g u (every_weaken (IsItem h) (λ x. Fine (u x x)) s xs i))
 
   two_values : (vs : List Value) → HasShape h Method vs → 1 < length vs
   two_values (f ∷ o ∷ []) i = omega arith
@@ -334,12 +382,19 @@ module _ (rules : Rules) (h : Heap) (order : IsOrdered rules h) where
   two_values (f ∷ o ∷ x ∷ more) i = absurd i
 
   module _ (under : Under Bool) (same : Same under) where
-    kind_fine : (a : Addr) (r : Rec) → h a.0 ≡ Some r → Ref a ≢ Unset → (k : Kind) → r.kind ≡ k → Fine (equal_kinds h under (same_key h (Ref a) (Ref a)) k k r.values r.values)
-    kind_fine a r e n Tuple q = level_fine under same r.values (λ u. equal_items u r.values r.values) (fit_items rules h a.0 r (order.each a.0 r e) (λ c. let w : Tuple ≡ Cell = sym q ∙ c in cc)) (λ u f. items_fine u r.values f)
-    kind_fine a r e n ListKind q = level_fine under same r.values (λ u. equal_items u r.values r.values) (fit_items rules h a.0 r (order.each a.0 r e) (λ c. let w : ListKind ≡ Cell = sym q ∙ c in cc)) (λ u f. items_fine u r.values f)
+    kind_fine : (a : Addr) (r : Rec) → h a.0 ≡ Some r → Ref a ≢ Unset → (k : Kind) → r.kind ≡ k →
+        Fine (equal_kinds h under (same_key h (Ref a) (Ref a)) k k r.values r.values)
+    kind_fine a r e n Tuple q = level_fine under same r.values (λ u. equal_items u r.values r.values)
+        (fit_items rules h a.0 r (order.each a.0 r e) (λ c. let w : Tuple ≡ Cell = sym q ∙ c in cc))
+        (λ u f. items_fine u r.values f)
+    kind_fine a r e n ListKind q = level_fine under same r.values (λ u. equal_items u r.values r.values)
+        (fit_items rules h a.0 r (order.each a.0 r e) (λ c. let w : ListKind ≡ Cell = sym q ∙ c in cc))
+        (λ u f. items_fine u r.values f)
     kind_fine a r e n Dict q =
         let shape = subst (λ k. HasShape h k r.values) q (order.each a.0 r e).closed.shaped.0 in
-        level_fine under same r.values (λ u. equal_pairs h u r.values r.values) (fit_items rules h a.0 r (order.each a.0 r e) (λ c. let w : Dict ≡ Cell = sym q ∙ c in cc)) (λ u f. pairs_fine h u r.values (are_apart h r.values shape.0 shape.1) shape.0 f)
+        level_fine under same r.values (λ u. equal_pairs h u r.values r.values)
+        (fit_items rules h a.0 r (order.each a.0 r e) (λ c. let w : Dict ≡ Cell = sym q ∙ c in cc))
+        (λ u f. pairs_fine h u r.values (are_apart h r.values shape.0 shape.1) shape.0 f)
     kind_fine a r e n Method q =
         let shape = subst (λ k. HasShape h k r.values) q (order.each a.0 r e).closed.shaped.0 in
         let two = two_values r.values shape in
@@ -352,7 +407,8 @@ module _ (rules : Rules) (h : Heap) (order : IsOrdered rules h) where
     fine_by : (x : Value) → IsItem h x → Fine (equal_by h under x x)
     fine_by (Ref a) i =
         let r = some_of (h a.0) i.0 in
-        subst (λ q. Fine (equal_kinds h under (same_key h (Ref a) (Ref a)) q.kind q.kind q.values q.values)) (sym (at-is h a.0 r.0 r.1)) (kind_fine a r.0 r.1 i.1 r.0.kind refl)
+        subst (λ q. Fine (equal_kinds h under (same_key h (Ref a) (Ref a)) q.kind q.kind q.values q.values))
+        (sym (at-is h a.0 r.0 r.1)) (kind_fine a r.0 r.1 i.1 r.0.kind refl)
     fine_by Unset i = inl (ap Is (key_same h Unset i.1))
     fine_by NoneValue i = inl (ap Is (key_same h NoneValue i.1))
     fine_by (BoolValue b) i = inl (ap Is (key_same h (BoolValue b) i.1))

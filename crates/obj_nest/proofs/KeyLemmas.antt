@@ -21,7 +21,8 @@ key_same h (Int i) s = (Decides-int_eq i i).1 refl
 key_same h (BoolValue b) s = (Decides-int_eq (bit b) (bit b)).1 refl
 key_same h NoneValue s = refl
 key_same h (Builtin n) s = (Decides-eqb n n).1 refl
-key_same h (Ref a) s = ap (λ b. same_text b (text_in (h a.0)) (text_in (h a.0))) ((Decides-eqb a.0 a.0).1 refl) ∙ text_same (text_in (h a.0))
+key_same h (Ref a) s = ap (λ b. same_text b (text_in (h a.0)) (text_in (h a.0))) ((Decides-eqb a.0 a.0).1 refl) ∙
+    text_same (text_in (h a.0))
 key_same h Unset s = absurd (s refl)
 
 -- ---- what is equal is equal to the same keys
@@ -43,17 +44,23 @@ apart h a c bs ea ec = by (eqb a c) refl
   where
     by : (b : Bool) → eqb a c ≡ b → b ≡ false
     by false e = refl
-    by true e = absurd (let q : ◌≡◌ {A = Option (List ℕ)} (Some bs) None = sym ea ∙ (ap (λ k. text_in (h k)) (eqb-true a c e) ∙ ec) in cc)
+    by true e = absurd (let q : ◌≡◌ {A = Option (List ℕ)} (Some bs) None = sym ea ∙
+        (ap (λ k. text_in (h k)) (eqb-true a c e) ∙ ec) in cc)
 
 -- the same test of a third address: by the bytes of two strings, else by the address
 module _ (h : Heap) (a b c : ℕ) where
-  by_texts : (x y z : Option (List ℕ)) → text_in (h a) ≡ x → text_in (h b) ≡ y → text_in (h c) ≡ z → same_text (eqb a b) x y ≡ true → same_text (eqb a c) x z ≡ same_text (eqb b c) y z
+  by_texts : (x y z : Option (List ℕ)) → text_in (h a) ≡ x → text_in (h b) ≡ y → text_in (h c) ≡ z →
+      same_text (eqb a b) x y ≡ true → same_text (eqb a c) x z ≡ same_text (eqb b c) y z
   by_texts (Some xs) (Some ys) (Some zs) ex ey ez e = ap (λ l. same_bytes l zs) ((bytes_eq-Decides xs ys).0 e)
   by_texts (Some xs) (Some ys) None ex ey ez e = apart h a c xs ex ez ∙ sym (apart h b c ys ey ez)
   by_texts None None None ex ey ez e = ap (λ k. eqb k c) (eqb-true a b e)
   by_texts None None (Some zs) ex ey ez e = ap (λ k. eqb k c) (eqb-true a b e)
-  by_texts (Some xs) None z ex ey ez e = absurd (let q : ◌≡◌ {A = Option (List ℕ)} (Some xs) None = sym ex ∙ (ap (λ k. text_in (h k)) (eqb-true a b e) ∙ ey) in cc)
-  by_texts None (Some ys) z ex ey ez e = absurd (let q : ◌≡◌ {A = Option (List ℕ)} None (Some ys) = sym ex ∙ (ap (λ k. text_in (h k)) (eqb-true a b e) ∙ ey) in cc)
+  by_texts (Some xs) None z ex ey ez e =
+      absurd (let q : ◌≡◌ {A = Option (List ℕ)} (Some xs) None = sym ex ∙
+      (ap (λ k. text_in (h k)) (eqb-true a b e) ∙ ey) in cc)
+  by_texts None (Some ys) z ex ey ez e =
+      absurd (let q : ◌≡◌ {A = Option (List ℕ)} None (Some ys) = sym ex ∙
+      (ap (λ k. text_in (h k)) (eqb-true a b e) ∙ ey) in cc)
 
 pub key_congr : (h : Heap) (x y z : Value) → same_key h x y ≡ true → same_key h x z ≡ same_key h y z
 key_congr h (Int i) (Int j) z e = same_number h i j z e

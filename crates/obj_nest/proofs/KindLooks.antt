@@ -7,7 +7,8 @@ use Rattle.py_data.proofs.Looking.{looks_ret, looks_then, kind_looks}
 use Rattle.obj_nest.specs.declared.pairing.Pairing.{Pairing}
 use Rattle.obj_nest.specs.Levels.{pairing_of, kinds_with, kinds_row}
 
-pub kinds_looks : (S : Type 0) (h : Heap) (a b : ℕ) (r s : Rec) → h a ≡ Some r → h b ≡ Some s → Looks {S = S} (λ k. k ≡ pairing_of r.kind s.kind) (kinds_row a b) h
+pub kinds_looks : (S : Type 0) (h : Heap) (a b : ℕ) (r s : Rec) → h a ≡ Some r → h b ≡ Some s →
+    Looks {S = S} (λ k. k ≡ pairing_of r.kind s.kind) (kinds_row a b) h
 unfolding kinds_row kinds_with
 kinds_looks S h a b r s ea eb =
     let p = λ (k : Pairing). k ≡ pairing_of r.kind s.kind in

@@ -18,9 +18,11 @@ module _ {S A U : Type 0} (g : U → Row S (Got A)) (o : Option U) where
   unfolding level_row
   some_level u e = ap (λ o. level_row o g) e
 
-  pub no_level : {X : Type 0} (s : Sense S X) → o ≡ None → (v : X) (res : Result (Got A) Stop) → MatchResult res (λ g. g ≡ Raise depth_fault) (λ e. e ≡ OutOfMemory) → Meets s (level_row o g) v v res
+  pub no_level : {X : Type 0} (s : Sense S X) → o ≡ None → (v : X) (res : Result (Got A) Stop) →
+      MatchResult res (λ g. g ≡ Raise depth_fault) (λ e. e ≡ OutOfMemory) → Meets s (level_row o g) v v res
   unfolding level_row
-  no_level s e v res m = subst (λ o. Meets s (level_row o g) v v res) (sym e) (meets-answer s (Raise depth_fault) v res m)
+  no_level s e v res m = subst (λ o. Meets s (level_row o g) v v res) (sym e)
+      (meets-answer s (Raise depth_fault) v res m)
 
 module _ {U : Type 0} (f : Option U → U) where
   below_none : (n : ℕ) → n ≡ 0 → below f n ≡ None
@@ -37,13 +39,16 @@ module _ {S A U : Type 0} (f : Option U → U) (g : U → Row S (Got A)) (n : �
   left : 0 < n → level_row (below f n) g ≡ g (f (below f (n - 1)))
   left e = some_level g (below f n) (f (below f (n - 1))) (below_some f n e)
 
-  pub level_safe : 0 < n → (p : Bool) (h : Heap) → Safe p (level_row (below f n) g) h → Safe p (g (f (below f (n - 1)))) h
+  pub level_safe : 0 < n → (p : Bool) (h : Heap) → Safe p (level_row (below f n) g) h →
+      Safe p (g (f (below f (n - 1)))) h
   level_safe e p h s = subst (λ row. Safe p row h) (left e) s
 
-  pub level_done : {X : Type 0} (u : Sense S X) (v w : X) (res : Result (Got A) Stop) → 0 < n → Meets u (g (f (below f (n - 1)))) v w res → Meets u (level_row (below f n) g) v w res
+  pub level_done : {X : Type 0} (u : Sense S X) (v w : X) (res : Result (Got A) Stop) → 0 < n →
+      Meets u (g (f (below f (n - 1)))) v w res → Meets u (level_row (below f n) g) v w res
   level_done u v w res e m = subst (λ row. Meets u row v w res) (sym (left e)) m
 
-  pub level_deep : {X : Type 0} (u : Sense S X) → n ≡ 0 → (v : X) (res : Result (Got A) Stop) → MatchResult res (λ g. g ≡ Raise depth_fault) (λ e. e ≡ OutOfMemory) → Meets u (level_row (below f n) g) v v res
+  pub level_deep : {X : Type 0} (u : Sense S X) → n ≡ 0 → (v : X) (res : Result (Got A) Stop) →
+      MatchResult res (λ g. g ≡ Raise depth_fault) (λ e. e ≡ OutOfMemory) → Meets u (level_row (below f n) g) v v res
   level_deep u e v res m = no_level g (below f n) u (below_none f n e) v res m
 
 -- the same of order, whose parts are compared by two rows
@@ -62,11 +67,15 @@ module _ {S A : Type 0} (g : Parts S → Row S (Got A)) (n : ℕ) where
   order_left : 0 < n → level_row (parts_below n) g ≡ g (parts_at (n - 1))
   order_left e = some_level g (parts_below n) (parts_at (n - 1)) (parts_some S n e)
 
-  pub order_safe : 0 < n → (p : Bool) (h : Heap) → Safe p (level_row (parts_below n) g) h → Safe p (g (parts_at (n - 1))) h
+  pub order_safe : 0 < n → (p : Bool) (h : Heap) → Safe p (level_row (parts_below n) g) h →
+      Safe p (g (parts_at (n - 1))) h
   order_safe e p h s = subst (λ row. Safe p row h) (order_left e) s
 
-  pub order_done : {X : Type 0} (u : Sense S X) (v w : X) (res : Result (Got A) Stop) → 0 < n → Meets u (g (parts_at (n - 1))) v w res → Meets u (level_row (parts_below n) g) v w res
+  pub order_done : {X : Type 0} (u : Sense S X) (v w : X) (res : Result (Got A) Stop) → 0 < n →
+      Meets u (g (parts_at (n - 1))) v w res → Meets u (level_row (parts_below n) g) v w res
   order_done u v w res e m = subst (λ row. Meets u row v w res) (sym (order_left e)) m
 
-  pub order_deep : {X : Type 0} (u : Sense S X) → n ≡ 0 → (v : X) (res : Result (Got A) Stop) → MatchResult res (λ g. g ≡ Raise depth_fault) (λ e. e ≡ OutOfMemory) → Meets u (level_row (parts_below n) g) v v res
+  pub order_deep : {X : Type 0} (u : Sense S X) → n ≡ 0 → (v : X) (res : Result (Got A) Stop) →
+      MatchResult res (λ g. g ≡ Raise depth_fault) (λ e. e ≡ OutOfMemory) →
+      Meets u (level_row (parts_below n) g) v v res
   order_deep u e v res m = no_level g (parts_below n) u (parts_none S n e) v res m

@@ -71,66 +71,88 @@ module _ (S : Type 0) (rules : Rules) (h : Heap) (order : IsOrdered rules h) whe
     pub ranks : (x y : Value) → Refers h x → Refers h y → Looks (λ z. z ≡ first x y) (u.first x y) h
 
   module _ (u : Parts S) (w : Value → Value → Got Bool) (o : Value → Value → Got Ordering) (like : Likes u w o) where
-    unequal_looks : (x y : Value) → Refers h x → Refers h y → (s : Got Bool) → Looks (λ z. z ≡ decision s (o x y)) (got_row (unequal_row u x y) s) h
+    unequal_looks : (x y : Value) → Refers h x → Refers h y → (s : Got Bool) →
+        Looks (λ z. z ≡ decision s (o x y)) (got_row (unequal_row u x y) s) h
     unfolding unequal_row
     unequal_looks x y tx ty (Is true) = looks_ret S (λ z. z ≡ Is None) (Is None) h refl
     unequal_looks x y tx ty (Raise e) = looks_ret S (λ z. z ≡ Raise e) (Raise e) h refl
     unequal_looks x y tx ty (Is false) =
-        looks_then (λ g. g ≡ o x y) (λ z. z ≡ decision (Is false) (o x y)) (u.first x y) deciding h (like.ranks x y tx ty) (λ g e. subst (λ g. Looks {S = S} (λ z. z ≡ decision (Is false) (o x y)) (deciding g) h) (sym e) (deciding_looks (o x y)))
+        looks_then (λ g. g ≡ o x y) (λ z. z ≡ decision (Is false) (o x y)) (u.first x y) deciding h
+        (like.ranks x y tx ty) (λ g e.
+        subst (λ g. Looks {S = S} (λ z. z ≡ decision (Is false) (o x y)) (deciding g) h) (sym e)
+        (deciding_looks (o x y)))
       where
         deciding_looks : (g : Got Ordering) → Looks {S = S} (λ z. z ≡ decision (Is false) g) (deciding g) h
         deciding_looks (Is o) = looks_ret S (λ z. z ≡ Is (Some o)) (Is (Some o)) h refl
         deciding_looks (Raise e) = looks_ret S (λ z. z ≡ Raise e) (Raise e) h refl
 
-    decided_looks : (x y : Value) → Refers h x → Refers h y → Looks (λ z. z ≡ decision (w x y) (o x y)) (decided_row u x y) h
+    decided_looks : (x y : Value) → Refers h x → Refers h y →
+        Looks (λ z. z ≡ decision (w x y) (o x y)) (decided_row u x y) h
     unfolding decided_row
     decided_looks x y tx ty =
         let p = λ (z : Got (Option Ordering)). z ≡ decision (w x y) (o x y) in
-        looks_then (λ s. s ≡ w x y) p (u.same x y) (got_row (unequal_row u x y)) h (like.alike x y tx ty) (λ s e. subst (λ s. Looks p (got_row (unequal_row u x y) s) h) (sym e) (unequal_looks x y tx ty (w x y)))
+        looks_then (λ s. s ≡ w x y) p (u.same x y) (got_row (unequal_row u x y)) h (like.alike x y tx ty)
+        (λ s e. subst (λ s. Looks p (got_row (unequal_row u x y) s) h) (sym e) (unequal_looks x y tx ty (w x y)))
 
     module _ (a b : ℕ) (r s : Rec) (ea : h a ≡ Some r) (eb : h b ≡ Some s) where
-      turn_looks : (i : ℕ) (x y : Value) → value_at r.values i ≡ x → value_at s.values i ≡ y → Refers h x → Refers h y → Looks (λ z. z ≡ decision (w x y) (o x y)) (turn_row u a b i) h
+      turn_looks : (i : ℕ) (x y : Value) → value_at r.values i ≡ x → value_at s.values i ≡ y → Refers h x →
+          Refers h y → Looks (λ z. z ≡ decision (w x y) (o x y)) (turn_row u a b i) h
       unfolding turn_row turn_with
       turn_looks i x y ex ey tx ty =
           let p = λ (z : Got (Option Ordering)). z ≡ decision (w x y) (o x y) in
-          looks_then (λ k. k ≡ value_at r.values i) p (look_row a i) (λ k. turn_with u b i k) h (look_looks S h a r ea i)
-          (λ k ek. looks_then (λ l. l ≡ value_at s.values i) p (look_row b i) (λ l. decided_row u k l) h (look_looks S h b s eb i)
-          (λ l el. subst (λ k. Looks p (decided_row u k l) h) (sym (ek ∙ ex)) (subst (λ l. Looks p (decided_row u x l) h) (sym (el ∙ ey)) (decided_looks x y tx ty))))
+          looks_then (λ k. k ≡ value_at r.values i) p (look_row a i) (λ k. turn_with u b i k) h
+          (look_looks S h a r ea i)
+          (λ k ek. looks_then (λ l. l ≡ value_at s.values i) p (look_row b i) (λ l. decided_row u k l) h
+          (look_looks S h b s eb i)
+          (λ l el. subst (λ k. Looks p (decided_row u k l) h) (sym (ek ∙ ex))
+          (subst (λ l. Looks p (decided_row u x l) h) (sym (el ∙ ey)) (decided_looks x y tx ty))))
 
       -- the rest of a loop, once a turn's answer is known; the lengths are those of what is left
       abbrev Settles : ℕ → ℕ → ℕ → ℕ → Got Ordering → Type 0
       Settles i k n m g = Looks (λ z. by_lengths n m z ≡ g) (until_row (turn_row u a b) is_open (Is None) i k) h
 
       goes : (i k n m : ℕ) (first : Got (Option Ordering)) (next : Got Ordering) → Settles (i + 1) k n m next
-          → Looks (λ z. by_lengths n m z ≡ decide_then first next) (cond (is_open first) (until_row (turn_row u a b) is_open (Is None) (i + 1) k) (Ret first)) h
+          → Looks (λ z. by_lengths n m z ≡ decide_then first next)
+          (cond (is_open first) (until_row (turn_row u a b) is_open (Is None) (i + 1) k) (Ret first)) h
       goes i k n m (Is None) next l = l
       goes i k n m (Is (Some o)) next l = looks_ret S (λ z. by_lengths n m z ≡ Is o) (Is (Some o)) h refl
       goes i k n m (Raise e) next l = looks_ret S (λ z. by_lengths n m z ≡ Raise e) (Raise e) h refl
 
-      turned : (i k n m : ℕ) (first : Got (Option Ordering)) (next : Got Ordering) → Looks (λ z. z ≡ first) (turn_row u a b i) h → Settles (i + 1) k n m next → Settles i (suc k) n m (decide_then first next)
+      turned : (i k n m : ℕ) (first : Got (Option Ordering)) (next : Got Ordering) →
+          Looks (λ z. z ≡ first) (turn_row u a b i) h → Settles (i + 1) k n m next →
+          Settles i (suc k) n m (decide_then first next)
       unfolding until_row
       turned i k n m first next t l =
           let p = λ (z : Got (Option Ordering)). by_lengths n m z ≡ decide_then first next in
-          looks_then (λ z. z ≡ first) p (turn_row u a b i) (λ c. cond (is_open c) (until_row (turn_row u a b) is_open (Is None) (i + 1) k) (Ret c)) h t
-          (λ c e. subst (λ c. Looks p (cond (is_open c) (until_row (turn_row u a b) is_open (Is None) (i + 1) k) (Ret c)) h) (sym e) (goes i k n m first next l))
+          looks_then (λ z. z ≡ first) p (turn_row u a b i)
+          (λ c. cond (is_open c) (until_row (turn_row u a b) is_open (Is None) (i + 1) k) (Ret c)) h t
+          (λ c e. subst (λ c. Looks p (cond (is_open c) (until_row (turn_row u a b) is_open (Is None) (i + 1) k)
+          (Ret c)) h) (sym e) (goes i k n m first next l))
 
       -- nothing is left of one of the two
       ended : (i k n m : ℕ) (o : Ordering) → k ≡ 0 → nat_cmp n m ≡ o → Settles i k n m (Is o)
       unfolding until_row
-      ended i k n m o e c = subst (λ k. Settles i k n m (Is o)) (sym e) (looks_ret S (λ z. by_lengths n m z ≡ Is o) (Is None) h (ap Is c))
+      ended i k n m o e c = subst (λ k. Settles i k n m (Is o)) (sym e)
+          (looks_ret S (λ z. by_lengths n m z ≡ Is o) (Is None) h (ap Is c))
 
-      loop : (i : ℕ) (xs ys : List Value) (n m : ℕ) → nat_cmp n m ≡ nat_cmp (length xs) (length ys) → drop i r.values ≡ xs → drop i s.values ≡ ys → Every (Refers h) xs → Every (Refers h) ys
+      loop : (i : ℕ) (xs ys : List Value) (n m : ℕ) → nat_cmp n m ≡ nat_cmp (length xs) (length ys) →
+          drop i r.values ≡ xs → drop i s.values ≡ ys → Every (Refers h) xs → Every (Refers h) ys
           → Settles i (min (length xs) (length ys)) n m (order_items w o xs ys)
       loop i [] [] n m c dx dy tx ty = ended i 0 n m Equal refl (c ∙ sym (nat_cmp_is 0 0 Equal refl))
-      loop i [] (y ∷ ys) n m c dx dy tx ty = ended i (min 0 (suc (length ys))) n m Less (omega arith) (c ∙ no_item (length ys))
-      loop i (x ∷ xs) [] n m c dx dy tx ty = ended i (min (suc (length xs)) 0) n m Greater (omega arith) (c ∙ some_item (length xs))
+      loop i [] (y ∷ ys) n m c dx dy tx ty = ended i (min 0 (suc (length ys))) n m Less (omega arith)
+          (c ∙ no_item (length ys))
+      loop i (x ∷ xs) [] n m c dx dy tx ty = ended i (min (suc (length xs)) 0) n m Greater (omega arith)
+          (c ∙ some_item (length xs))
       loop i (x ∷ xs) (y ∷ ys) n m c dx dy tx ty =
           let p = drop_here r.values i x xs dx in
           let q = drop_here s.values i y ys dy in
           let k : min (suc (length xs)) (suc (length ys)) ≡ suc (min (length xs) (length ys)) = omega arith in
           let more = loop (i + 1) xs ys n m (c ∙ shifted (length xs) (length ys)) p.1 q.1 tx.1 ty.1 in
-          let all = turned i (min (length xs) (length ys)) n m (decision (w x y) (o x y)) (order_items w o xs ys) (turn_looks i x y p.0 q.0 tx.0 ty.0) more in
-          subst (λ j. Settles i j n m (order_then (w x y) (o x y) (order_items w o xs ys))) (sym k) (subst (λ g. Settles i (suc (min (length xs) (length ys))) n m g) (decide_order (w x y) (o x y) (order_items w o xs ys)) all)
+          let all = turned i (min (length xs) (length ys)) n m (decision (w x y) (o x y)) (order_items w o xs ys)
+          (turn_looks i x y p.0 q.0 tx.0 ty.0) more in
+          subst (λ j. Settles i j n m (order_then (w x y) (o x y) (order_items w o xs ys))) (sym k)
+          (subst (λ g. Settles i (suc (min (length xs) (length ys))) n m g)
+          (decide_order (w x y) (o x y) (order_items w o xs ys)) all)
 
       listed_looks : Looks (λ z. z ≡ order_items w o r.values s.values) (listed_row u a b) h
       unfolding listed_row listed_from shared_row
@@ -139,17 +161,22 @@ module _ (S : Type 0) (rules : Rules) (h : Heap) (order : IsOrdered rules h) whe
           let n = length r.values in
           let m = length s.values in
           looks_then (λ n. n ≡ length r.values) p (size_row a) (λ n. listed_from u a b n) h (size_looks S h a r ea)
-          (λ n1 en. looks_then (λ m. m ≡ length s.values) p (size_row b) (λ m. shared_row u a b n1 m) h (size_looks S h b s eb)
-          (λ m1 em. subst (λ n. Looks p (shared_row u a b n m1) h) (sym en) (subst (λ m. Looks p (shared_row u a b n m) h) (sym em)
-          (looks_then (λ z. by_lengths n m z ≡ order_items w o r.values s.values) p (until_row (turn_row u a b) is_open (Is None) 0 (min n m)) (λ g. Ret (by_lengths n m g)) h
-          (loop 0 r.values s.values n m refl refl refl (all_there a r ea) (all_there b s eb)) (λ g e. looks_ret S p (by_lengths n m g) h e)))))
+          (λ n1 en. looks_then (λ m. m ≡ length s.values) p (size_row b) (λ m. shared_row u a b n1 m) h
+          (size_looks S h b s eb)
+          (λ m1 em. subst (λ n. Looks p (shared_row u a b n m1) h) (sym en)
+          (subst (λ m. Looks p (shared_row u a b n m) h) (sym em)
+          (looks_then (λ z. by_lengths n m z ≡ order_items w o r.values s.values) p
+          (until_row (turn_row u a b) is_open (Is None) 0 (min n m)) (λ g. Ret (by_lengths n m g)) h
+          (loop 0 r.values s.values n m refl refl refl (all_there a r ea) (all_there b s eb))
+          (λ g e. looks_ret S p (by_lengths n m g) h e)))))
 
   -- ---- any two records, any two values
 
   -- how two lists of items are ordered, with what is left of levels
   Linked : Option (Parts S) → (List Value → List Value → Got Ordering) → Type 0
   Linked None items = (xs ys : List Value) → items xs ys ≡ Raise depth_fault
-  Linked (Some u) items = (w : Value → Value → Got Bool) × (o : Value → Value → Got Ordering) × Likes u w o × ((xs ys : List Value) → items xs ys ≡ order_items w o xs ys)
+  Linked (Some u) items = (w : Value → Value → Got Bool) × (o : Value → Value → Got Ordering) × Likes u w o ×
+      ((xs ys : List Value) → items xs ys ≡ order_items w o xs ys)
 
   module _ (a b : ℕ) (r s : Rec) (ea : h a ≡ Some r) (eb : h b ≡ Some s) where
     strings_looks : Looks {S = S} (λ z. z ≡ Is (order_bytes r.bytes s.bytes)) (strings_row a b) h
@@ -157,15 +184,20 @@ module _ (S : Type 0) (rules : Rules) (h : Heap) (order : IsOrdered rules h) whe
     strings_looks =
         let p = λ (z : Got Ordering). z ≡ Is (order_bytes r.bytes s.bytes) in
         looks_then (λ x. x ≡ r.bytes) p (bytes_row a) (λ x. bytes_with x b) h (bytes_looks S h a r ea)
-        (λ x ex. looks_then (λ y. y ≡ s.bytes) p (bytes_row b) (λ y. Ret (Is (order_bytes x y))) h (bytes_looks S h b s eb)
-        (λ y ey. looks_ret S p (Is (order_bytes x y)) h (ap (λ x. Is (order_bytes x y)) ex ∙ ap (λ y. Is (order_bytes r.bytes y)) ey)))
+        (λ x ex. looks_then (λ y. y ≡ s.bytes) p (bytes_row b) (λ y. Ret (Is (order_bytes x y))) h
+        (bytes_looks S h b s eb)
+        (λ y ey. looks_ret S p (Is (order_bytes x y)) h (ap (λ x. Is (order_bytes x y)) ex ∙
+        ap (λ y. Is (order_bytes r.bytes y)) ey)))
 
     module _ (items : List Value → List Value → Got Ordering) where
-      level_looks : (under : Option (Parts S)) → Linked under items → Looks (λ z. z ≡ items r.values s.values) (level_row under (λ u. listed_row u a b)) h
+      level_looks : (under : Option (Parts S)) → Linked under items →
+          Looks (λ z. z ≡ items r.values s.values) (level_row under (λ u. listed_row u a b)) h
       unfolding level_row Linked
-      level_looks None l = looks_ret S (λ z. z ≡ items r.values s.values) (Raise depth_fault) h (sym (l r.values s.values))
+      level_looks None l = looks_ret S (λ z. z ≡ items r.values s.values) (Raise depth_fault) h
+          (sym (l r.values s.values))
       level_looks (Some u) l =
-          looks_weaken (λ z. z ≡ order_items l.0 l.1 r.values s.values) (λ z. z ≡ items r.values s.values) (λ z e. e ∙ sym (l.3 r.values s.values)) (listed_row u a b) h (listed_looks u l.0 l.1 l.2 a b r s ea eb)
+          looks_weaken (λ z. z ≡ order_items l.0 l.1 r.values s.values) (λ z. z ≡ items r.values s.values)
+          (λ z e. e ∙ sym (l.3 r.values s.values)) (listed_row u a b) h (listed_looks u l.0 l.1 l.2 a b r s ea eb)
 
       module _ (under : Option (Parts S)) (link : Linked under items) where
         abbrev Says : Kind → Kind → Type 0
@@ -180,14 +212,20 @@ module _ (S : Type 0) (rules : Rules) (h : Heap) (order : IsOrdered rules h) whe
         by_kinds Method Method = looks_ret S (λ z. z ≡ Raise operand_fault) (Raise operand_fault) h refl
         by_kinds k l = looks_ret S (λ z. z ≡ Raise operand_fault) (Raise operand_fault) h refl
 
-        ranked_looks : Looks (λ z. z ≡ order_by h items (Ref (record { 0 = a })) (Ref (record { 0 = b }))) (ranked_row under a b) h
+        ranked_looks : Looks (λ z. z ≡ order_by h items (Ref (record { 0 = a })) (Ref (record { 0 = b })))
+            (ranked_row under a b) h
         unfolding ranked_row
         ranked_looks =
             let p = λ (z : Got Ordering). z ≡ order_by h items (Ref (record { 0 = a })) (Ref (record { 0 = b })) in
-            let q : order_records items r.kind s.kind r s ≡ order_by h items (Ref (record { 0 = a })) (Ref (record { 0 = b })) =
-            sym (ap (λ z. order_records items z.kind (at h b).kind z (at h b)) (at-is h a r ea) ∙ ap (λ z. order_records items r.kind z.kind r z) (at-is h b s eb)) in
-            looks_then (λ k. k ≡ pairing_of r.kind s.kind) p (kinds_row a b) (ordered_by under a b) h (kinds_looks S h a b r s ea eb)
-            (λ k ek. subst (λ k. Looks p (ordered_by under a b k) h) (sym ek) (looks_weaken (λ z. z ≡ order_records items r.kind s.kind r s) p (λ z e. e ∙ q) (ordered_by under a b (pairing_of r.kind s.kind)) h (by_kinds r.kind s.kind)))
+            let q : order_records items r.kind s.kind r s ≡ order_by h items (Ref (record { 0 = a }))
+            (Ref (record { 0 = b })) =
+            sym (ap (λ z. order_records items z.kind (at h b).kind z (at h b)) (at-is h a r ea) ∙
+            ap (λ z. order_records items r.kind z.kind r z) (at-is h b s eb)) in
+            looks_then (λ k. k ≡ pairing_of r.kind s.kind) p (kinds_row a b) (ordered_by under a b) h
+            (kinds_looks S h a b r s ea eb)
+            (λ k ek. subst (λ k. Looks p (ordered_by under a b k) h) (sym ek)
+            (looks_weaken (λ z. z ≡ order_records items r.kind s.kind r s) p (λ z e. e ∙ q)
+            (ordered_by under a b (pairing_of r.kind s.kind)) h (by_kinds r.kind s.kind)))
 
   module _ (under : Option (Parts S)) (items : List Value → List Value → Got Ordering) (link : Linked under items) where
     by_looks : (x y : Value) → Refers h x → Refers h y → Looks (λ z. z ≡ order_by h items x y) (order_under under x y) h
@@ -196,21 +234,38 @@ module _ (S : Type 0) (rules : Rules) (h : Heap) (order : IsOrdered rules h) whe
         let r = some_of (h a.0) i in
         let s = some_of (h b.0) j in
         ranked_looks a.0 b.0 r.0 s.0 r.1 s.1 items under link
-    by_looks Unset y i j = looks_ret S (λ z. z ≡ order_numbers (number_of Unset) (number_of y)) (order_numbers (number_of Unset) (number_of y)) h refl
-    by_looks NoneValue y i j = looks_ret S (λ z. z ≡ order_numbers (number_of NoneValue) (number_of y)) (order_numbers (number_of NoneValue) (number_of y)) h refl
-    by_looks (BoolValue c) y i j = looks_ret S (λ z. z ≡ order_numbers (number_of (BoolValue c)) (number_of y)) (order_numbers (number_of (BoolValue c)) (number_of y)) h refl
-    by_looks (Int k) y i j = looks_ret S (λ z. z ≡ order_numbers (number_of (Int k)) (number_of y)) (order_numbers (number_of (Int k)) (number_of y)) h refl
-    by_looks (Builtin n) y i j = looks_ret S (λ z. z ≡ order_numbers (number_of (Builtin n)) (number_of y)) (order_numbers (number_of (Builtin n)) (number_of y)) h refl
-    by_looks (Ref a) Unset i j = looks_ret S (λ z. z ≡ order_numbers None (number_of Unset)) (order_numbers None (number_of Unset)) h refl
-    by_looks (Ref a) NoneValue i j = looks_ret S (λ z. z ≡ order_numbers None (number_of NoneValue)) (order_numbers None (number_of NoneValue)) h refl
-    by_looks (Ref a) (BoolValue c) i j = looks_ret S (λ z. z ≡ order_numbers None (number_of (BoolValue c))) (order_numbers None (number_of (BoolValue c))) h refl
-    by_looks (Ref a) (Int k) i j = looks_ret S (λ z. z ≡ order_numbers None (number_of (Int k))) (order_numbers None (number_of (Int k))) h refl
-    by_looks (Ref a) (Builtin n) i j = looks_ret S (λ z. z ≡ order_numbers None (number_of (Builtin n))) (order_numbers None (number_of (Builtin n))) h refl
+    by_looks Unset y i j = looks_ret S (λ z. z ≡ order_numbers (number_of Unset) (number_of y))
+        (order_numbers (number_of Unset) (number_of y)) h refl
+    by_looks NoneValue y i j = looks_ret S (λ z. z ≡ order_numbers (number_of NoneValue) (number_of y))
+        (order_numbers (number_of NoneValue) (number_of y)) h refl
+    by_looks (BoolValue c) y i j = looks_ret S (λ z. z ≡ order_numbers (number_of (BoolValue c)) (number_of y))
+        (order_numbers (number_of (BoolValue c)) (number_of y)) h refl
+    by_looks (Int k) y i j = looks_ret S (λ z. z ≡ order_numbers (number_of (Int k)) (number_of y))
+        (order_numbers (number_of (Int k)) (number_of y)) h refl
+    by_looks (Builtin n) y i j = looks_ret S (λ z. z ≡ order_numbers (number_of (Builtin n)) (number_of y))
+        (order_numbers (number_of (Builtin n)) (number_of y)) h refl
+    by_looks (Ref a) Unset i j = looks_ret S (λ z. z ≡ order_numbers None (number_of Unset))
+        (order_numbers None (number_of Unset)) h refl
+    by_looks (Ref a) NoneValue i j = looks_ret S (λ z. z ≡ order_numbers None (number_of NoneValue))
+        (order_numbers None (number_of NoneValue)) h refl
+    by_looks (Ref a) (BoolValue c) i j = looks_ret S (λ z. z ≡ order_numbers None (number_of (BoolValue c)))
+        (order_numbers None (number_of (BoolValue c))) h refl
+    by_looks (Ref a) (Int k) i j = looks_ret S (λ z. z ≡ order_numbers None (number_of (Int k)))
+        (order_numbers None (number_of (Int k))) h refl
+    by_looks (Ref a) (Builtin n) i j = looks_ret S (λ z. z ≡ order_numbers None (number_of (Builtin n)))
+        (order_numbers None (number_of (Builtin n))) h refl
 
   -- for each number of levels
-  pub order_at_looks : (d : ℕ) (x y : Value) → Refers h x → Refers h y → Looks (λ z. z ≡ order_within h d x y) (order_levels {S = S} d x y) h
+  pub order_at_looks : (d : ℕ) (x y : Value) → Refers h x → Refers h y →
+      Looks (λ z. z ≡ order_within h d x y) (order_levels {S = S} d x y) h
   unfolding order_within parts_below Linked
   order_at_looks zero x y i j = by_looks None (λ xs ys. Raise depth_fault) (λ xs ys. refl) x y i j
   order_at_looks (suc d) x y i j =
-      let likes : Likes (parts_at d) (equal_within h d) (order_within h d) = record { alike = λ x y i j. equal_at_looks S rules h order d x y i j; ranks = λ x y i j. order_at_looks d x y i j } in
-      by_looks (Some (parts_at d)) (order_items (equal_within h d) (order_within h d)) (equal_within h d, order_within h d, likes, λ xs ys. refl) x y i j
+      let likes : Likes (parts_at d) (equal_within h d) (order_within h d) =
+      record {
+        alike = λ x y i j. equal_at_looks S rules h order d x y i j;
+        ranks = λ x y i j.
+            order_at_looks d x y i j;
+      } in
+      by_looks (Some (parts_at d)) (order_items (equal_within h d) (order_within h d))
+      (equal_within h d, order_within h d, likes, λ xs ys. refl) x y i j

@@ -13,7 +13,8 @@ use Rattle.obj_nest.specs.declared.pairing.Pairing.TheVariants.{Texts, Items, Pa
 
 -- ---- levels
 
--- What works on the parts of containers, where so many levels are left; none, where no level is. `f` is what works on a value,
+-- What works on the parts of containers, where so many levels are left; none, where no level is. `f` is what works on a
+-- value,
 -- given what works on its parts.
 unfoldable pub below : {U : Type 0} → (Option U → U) → ℕ → Option U
 below f zero = None

@@ -1,4 +1,5 @@
--- The texts of values, as `repr` and `str` write them: the row, look by look, which writes behind a text. States `docs/HEAP.md`,
+-- The texts of values, as `repr` and `str` write them: the row, look by look, which writes behind a text. States
+-- `docs/HEAP.md`,
 -- "Texts".
 use Rattle.std.specs.Prelude.{ℕ, ◌+◌, ◌*◌, ◌/◌, Bool, true, false, cond, List, [], ◌++◌, Option, codes, ◌==◌, unwrap_or, slice_get}
 use Rattle.std.specs.Fmt.{signed_decimal}
@@ -20,7 +21,8 @@ use Rattle.obj_nest.specs.Levels.{below, level_row}
 abbrev pub builtin_text : ℕ → List ℕ
 builtin_text b = unwrap_or (slice_get builtin_names b) []
 
--- how the simplest values are written: numbers in decimal, strings in quotes, builtins by their names in the list of all
+-- how the simplest values are written: numbers in decimal, strings in quotes, builtins by their names in the list of
+-- all
 abbrev pub spelling : Spelling
 spelling = record { number = signed_decimal; quoted = repr_of; builtin = builtin_text }
 
@@ -33,7 +35,8 @@ abbrev pub alone_within : Heap → ℕ → Value → Got (List ℕ)
 alone_within h d (Ref a) = alone_by_kind h d (Ref a) (at h a.0).kind (at h a.0)
 alone_within h d x = repr_within spelling h d x
 
--- The text of a value, with so many levels left: as it stands within others, or by itself. An exception is written as any other
+-- The text of a value, with so many levels left: as it stands within others, or by itself. An exception is written as
+-- any other
 -- instance is.
 abbrev pub text_within : Heap → ℕ → Value → Bool → Got (List ℕ)
 text_within h d x true = repr_within spelling h d x
@@ -75,7 +78,8 @@ unfoldable pub closed_row : {S : Type 0} → List ℕ → List ℕ → Row S (Go
 closed_row close out = Ret (Is (out ++ close))
 
 -- so many parts, and what closes them
-unfoldable pub parts_row : {S : Type 0} → (ℕ → List ℕ → Row S (Got (List ℕ))) → ℕ → List ℕ → List ℕ → Row S (Got (List ℕ))
+unfoldable pub parts_row : {S : Type 0} → (ℕ → List ℕ → Row S (Got (List ℕ))) → ℕ → List ℕ → List ℕ →
+    Row S (Got (List ℕ))
 parts_row f n close out = bind (each_row f 0 n out) (got_row (closed_row close))
 
 unfoldable pub list_row : {S : Type 0} → Writes S → ℕ → List ℕ → Row S (Got (List ℕ))
@@ -172,7 +176,8 @@ unfoldable pub alone_row : {S : Type 0} → ℕ → Value → Row S (Got (List �
 alone_row d (Ref a) = alone_at d a.0
 alone_row d x = repr_row d x
 
--- The text of a value, with so many levels left: as it stands within others (`quoted`), or by itself. An exception is written
+-- The text of a value, with so many levels left: as it stands within others (`quoted`), or by itself. An exception is
+-- written
 -- as any other instance is.
 unfoldable pub text_row : {S : Type 0} → ℕ → Value → Bool → Row S (Got (List ℕ))
 text_row d x true = repr_row d x

@@ -49,7 +49,8 @@ zero_is_false : truth_row {S = Unit {0}} (Int (pos 0)) ≡ Ret false
 unfolding truth_row
 zero_is_false = refl
 
-text_of_len : text_row {S = Unit {0}} 100 (Builtin (builtin_number (codes "len"))) true ≡ Ret (Is (codes "<built-in len>"))
+text_of_len : text_row {S = Unit {0}} 100 (Builtin (builtin_number (codes "len"))) true ≡ Ret
+    (Is (codes "<built-in len>"))
 unfolding text_row repr_row write_under
 text_of_len = refl
 
@@ -60,7 +61,8 @@ text_of_none = refl
 -- ---- parts
 
 -- where no level is left, a list has no parts to be compared
-too_deep : (f : Compares (Unit {0}) → Row (Unit {0}) (Got Bool)) → level_row (below equal_under 0) f ≡ Ret (Raise depth_fault)
+too_deep : (f : Compares (Unit {0}) → Row (Unit {0}) (Got Bool)) →
+    level_row (below equal_under 0) f ≡ Ret (Raise depth_fault)
 unfolding level_row below
 too_deep f = refl
 
@@ -119,7 +121,8 @@ string_quoted = refl
 quoted_is_repr : (h : Heap) (x : Value) → text_within h DEPTH_LIMIT x true ≡ repr spelling h x
 quoted_is_repr h x = refl
 
-by_kind_is_str : (h : Heap) (x : Value) (k : Kind) (r : Rec) → alone_by_kind h DEPTH_LIMIT x k r ≡ str_by spelling h x k r
+by_kind_is_str : (h : Heap) (x : Value) (k : Kind) (r : Rec) → alone_by_kind h DEPTH_LIMIT x k r ≡ str_by spelling h x
+    k r
 by_kind_is_str h x Str r = refl
 by_kind_is_str h x k r = refl
 

@@ -37,7 +37,8 @@ quotient_is : (f : ℤ → ℤ → ℤ) (i j q : ℤ) → divided f i j ≡ Is (
 unfolding divided
 quotient_is f i j q e = by (int_eq j (pos 0)) refl e
   where
-    by : (b : Bool) → int_eq j (pos 0) ≡ b → cond b (Raise zero_fault) (narrowed (f i j)) ≡ Is (Int q) → (j ≢ pos 0) × (f i j ≡ q)
+    by : (b : Bool) → int_eq j (pos 0) ≡ b → cond b (Raise zero_fault) (narrowed (f i j)) ≡ Is (Int q) →
+        (j ≢ pos 0) × (f i j ≡ q)
     by true t g = absurd cc
     by false t g = (λ z. let w : true ≡ false = sym (same_zero j z) ∙ t in cc, narrow_is (f i j) q g)
 
@@ -46,7 +47,8 @@ unfolding calculated
 division_law i j q r e f =
     let a = quotient_is floor_quotient i j q e in
     let b = quotient_is floor_remainder i j r f in
-    subst (λ z. IsFloorDivision i j z r) a.1 (subst (λ z. IsFloorDivision i j (floor_quotient i j) z) b.1 (divides i j a.0))
+    subst (λ z. IsFloorDivision i j z r) a.1
+    (subst (λ z. IsFloorDivision i j (floor_quotient i j) z) b.1 (divides i j a.0))
 
 -- ---- sequences
 module _ {S X : Type 0} (u : Sense S X) (L : Lawful u) where
@@ -54,7 +56,8 @@ module _ {S X : Type 0} (u : Sense S X) (L : Lawful u) where
   abbrev fresh : Rec → Row S (Got Value)
   fresh q = Do (Make q) (λ a. Ret (Is (Ref (record { 0 = a }))))
 
-  made_is : (q : Rec) (n w : X) (y : Value) (b : Bool) → Run u (cond b (fresh q) (Ret (Raise memory_fault))) n (Is y) w → (c : ℕ) × (y ≡ Ref (record { 0 = c })) × (u.heap w c ≡ Some q)
+  made_is : (q : Rec) (n w : X) (y : Value) (b : Bool) → Run u (cond b (fresh q) (Ret (Raise memory_fault))) n (Is y) w
+      → (c : ℕ) × (y ≡ Ref (record { 0 = c })) × (u.heap w c ≡ Some q)
   unfolding Run
   made_is q n w y true d =
       let f = L.effect (Make q) n d.0 d.1 d.2 in
@@ -72,8 +75,14 @@ module _ {S X : Type 0} (u : Sense S X) (L : Lawful u) where
       let right : g.0 ≡ s = sym (one_rec (u.heap d.1 b) g.0 s two.0 (ap (λ h. h b) one.1 ∙ f)) in
       let vs = d.0.values ++ g.0.values in
       let m = made_is (new_rec k vs []) g.1 w y (leb (length d.0.values + length g.0.values) LENGTH_LIMIT) g.3 in
-      let same : vs ≡ r.values ++ s.values = ap (λ z. z.values ++ g.0.values) left ∙ ap (λ z. r.values ++ z.values) right in
-      (m.0, new_rec k (r.values ++ s.values) [], m.1, m.2 ∙ ap (λ z. Some (new_rec k z [])) same, record { items = refl; count = length-append r.values s.values })
+      let same : vs ≡ r.values ++ s.values = ap (λ z. z.values ++ g.0.values) left ∙
+      ap (λ z. r.values ++ z.values) right in (
+        m.0,
+        new_rec k (r.values ++ s.values) [],
+        m.1,
+        m.2 ∙ ap (λ z. Some (new_rec k z [])) same,
+        record { items = refl; count = length-append r.values s.values },
+      )
 
   pub join_texts_law : JoinTextsLaw u
   unfolding Run joined_texts joined_text_with bytes_row bind new_text
@@ -85,5 +94,10 @@ module _ {S X : Type 0} (u : Sense S X) (L : Lawful u) where
       let right : g.0 ≡ s = sym (one_rec (u.heap d.1 b) g.0 s two.0 (ap (λ h. h b) one.1 ∙ f)) in
       let bs = d.0.bytes ++ g.0.bytes in
       let m = made_is (new_rec Str [] bs) g.1 w y (leb (length bs) LENGTH_LIMIT) g.3 in
-      let same : bs ≡ r.bytes ++ s.bytes = ap (λ z. z.bytes ++ g.0.bytes) left ∙ ap (λ z. r.bytes ++ z.bytes) right in
-      (m.0, new_rec Str [] (r.bytes ++ s.bytes), m.1, m.2 ∙ ap (λ z. Some (new_rec Str [] z)) same, record { bytes = refl; count = length-append r.bytes s.bytes })
+      let same : bs ≡ r.bytes ++ s.bytes = ap (λ z. z.bytes ++ g.0.bytes) left ∙ ap (λ z. r.bytes ++ z.bytes) right in (
+        m.0,
+        new_rec Str [] (r.bytes ++ s.bytes),
+        m.1,
+        m.2 ∙ ap (λ z. Some (new_rec Str [] z)) same,
+        record { bytes = refl; count = length-append r.bytes s.bytes },
+      )

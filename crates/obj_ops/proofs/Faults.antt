@@ -52,14 +52,16 @@ module _ (h g : Heap) where
     pairs_can : (xs ys : List Value) → Can (equal_pairs h u xs ys)
     pairs_can [] ys = tt
     pairs_can (k ∷ []) ys = tt
-    pairs_can (k ∷ x ∷ rest) ys = and_can (equal_found u ys x (find h ys k)) (equal_pairs h u rest ys) (found_can ys x (find h ys k)) (pairs_can rest ys)
+    pairs_can (k ∷ x ∷ rest) ys = and_can (equal_found u ys x (find h ys k)) (equal_pairs h u rest ys)
+        (found_can ys x (find h ys k)) (pairs_can rest ys)
 
   -- what compares the parts, if a level is left
   UnderCan : {A : Type 0} → Under A → Type 0
   UnderCan None = Unit {0}
   UnderCan (Some u) = (x y : Value) → Can (u x y)
 
-  kinds_can : (under : Under Bool) (b : Bool) (k l : Kind) (xs ys : List Value) → UnderCan under → Can (equal_kinds h under b k l xs ys)
+  kinds_can : (under : Under Bool) (b : Bool) (k l : Kind) (xs ys : List Value) → UnderCan under →
+      Can (equal_kinds h under b k l xs ys)
   unfolding UnderCan
   kinds_can None b Tuple Tuple xs ys i = (lit< tt, lit< tt, tt)
   kinds_can (Some u) b Tuple Tuple xs ys i = length_can xs ys (equal_items u xs ys) (items_can u i xs ys)
@@ -71,7 +73,8 @@ module _ (h g : Heap) where
   kinds_can under b k l xs ys i = tt
 
   by_can : (under : Under Bool) (x y : Value) → UnderCan under → Can (equal_by h under x y)
-  by_can under (Ref a) (Ref b) i = kinds_can under _ (at h a.0).kind (at h b.0).kind (at h a.0).values (at h b.0).values i
+  by_can under (Ref a) (Ref b) i = kinds_can under _ (at h a.0).kind (at h b.0).kind (at h a.0).values
+      (at h b.0).values i
   by_can under x y i = tt
 
   within_can : (d : ℕ) (x y : Value) → Can (equal_within h d x y)
@@ -88,12 +91,14 @@ module _ (h g : Heap) where
   then_can (Is false) x y i j k = j
   then_can (Raise e) x y i j k = i
 
-  module _ (same : Value → Value → Got Bool) (u : Value → Value → Got Ordering) (sames : (x y : Value) → Can (same x y)) (each : (x y : Value) → Can (u x y)) where
+  module _ (same : Value → Value → Got Bool) (u : Value → Value → Got Ordering)
+      (sames : (x y : Value) → Can (same x y)) (each : (x y : Value) → Can (u x y)) where
     order_items_can : (xs ys : List Value) → Can (order_items same u xs ys)
     order_items_can [] [] = tt
     order_items_can [] (y ∷ ys) = tt
     order_items_can (x ∷ xs) [] = tt
-    order_items_can (x ∷ xs) (y ∷ ys) = then_can (same x y) (u x y) (order_items same u xs ys) (sames x y) (each x y) (order_items_can xs ys)
+    order_items_can (x ∷ xs) (y ∷ ys) = then_can (same x y) (u x y) (order_items same u xs ys) (sames x y) (each x y)
+        (order_items_can xs ys)
 
   numbers_can : (o p : Option ℤ) → Can (order_numbers o p)
   numbers_can (Some i) (Some j) = tt
@@ -114,7 +119,8 @@ module _ (h g : Heap) where
   order_within_can : (d : ℕ) (x y : Value) → Can (order_within h d x y)
   unfolding order_within
   order_within_can zero x y = order_by_can _ (λ xs ys. (lit< tt, lit< tt, tt)) x y
-  order_within_can (suc d) x y = order_by_can (order_items (equal_within h d) (order_within h d)) (order_items_can (equal_within h d) (order_within h d) (within_can d) (order_within_can d)) x y
+  order_within_can (suc d) x y = order_by_can (order_items (equal_within h d) (order_within h d))
+      (order_items_can (equal_within h d) (order_within h d) (within_can d) (order_within_can d)) x y
 
   pub order_can : (x y : Value) → Can (order h x y)
   order_can x y = order_within_can 100 x y
@@ -139,12 +145,14 @@ module _ (h g : Heap) where
     more_pairs_can : (xs : List Value) → Can (more_pairs u xs)
     more_pairs_can [] = tt
     more_pairs_can (k ∷ []) = tt
-    more_pairs_can (k ∷ x ∷ rest) = got_can (pair_text u k x) _ (pair_can k x) (λ t. got_can (more_pairs u rest) _ (more_pairs_can rest) (λ ts. tt))
+    more_pairs_can (k ∷ x ∷ rest) = got_can (pair_text u k x) _ (pair_can k x)
+        (λ t. got_can (more_pairs u rest) _ (more_pairs_can rest) (λ ts. tt))
 
     pair_texts_can : (xs : List Value) → Can (pair_texts u xs)
     pair_texts_can [] = tt
     pair_texts_can (k ∷ []) = tt
-    pair_texts_can (k ∷ x ∷ rest) = got_can (pair_text u k x) _ (pair_can k x) (λ t. got_can (more_pairs u rest) _ (more_pairs_can rest) (λ ts. tt))
+    pair_texts_can (k ∷ x ∷ rest) = got_can (pair_text u k x) _ (pair_can k x)
+        (λ t. got_can (more_pairs u rest) _ (more_pairs_can rest) (λ ts. tt))
 
   PartsCan : Parts → Type 0
   PartsCan None = Unit {0}
@@ -201,7 +209,8 @@ module _ (h g : Heap) where
   part_can u (Some p) i = i p.quoted p.value
 
   module _ (vs : List Value) where
-    exception_can : (under : Option Tells) (own : List Value) → IfSome under TellsCan → Can (exception_text h vs under own)
+    exception_can : (under : Option Tells) (own : List Value) → IfSome under TellsCan →
+        Can (exception_text h vs under own)
     exception_can None own i = (lit< tt, lit< tt, tt)
     exception_can (Some u) own i = part_can u (told_part h vs own) i
 
@@ -211,7 +220,8 @@ module _ (h g : Heap) where
 
     module _ (under : Option Tells) (i : IfSome under TellsCan) (d : ℕ) where
       kind_can : (v : Value) (k : Kind) (own : List Value) → Can (alone_by h vs under d v k own)
-      kind_can v Instance own = either_can (is_of h vs (codes "BaseException") own) (exception_text h vs under own) (text_within h d v false) (exception_can under own i) (plain_can d v false)
+      kind_can v Instance own = either_can (is_of h vs (codes "BaseException") own) (exception_text h vs under own)
+          (text_within h d v false) (exception_can under own i) (plain_can d v false)
       kind_can v k own = plain_can d v false
 
       record_alone_can : (v : Value) (o : Option Rec) → Can (alone_at h vs under d v o)

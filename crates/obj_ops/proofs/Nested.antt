@@ -1,4 +1,5 @@
--- What rows of nested values answer, for operators that are put together from them: anything, or an exception that can be made.
+-- What rows of nested values answer, for operators that are put together from them: anything, or an exception that can
+-- be made.
 use Rattle.std.proofs.Common.{◌≡◌, ℕ, Bool, subst, sym}
 use Rattle.py_data.specs.declared.value.Value.{Value}
 use Rattle.py_data.specs.Heap.{Heap}
@@ -20,11 +21,18 @@ pub use Rattle.obj_str.proofs.StrHolds.{new_text_holds}
 
 module _ (S : Type 0) (rules : Rules) (h : Heap) (ordered : IsOrdered rules h) where
   pub equal_looks : (x y : Value) → IsItem h x → IsItem h y → Looks {S = S} (λ g. IsGot IsAny g h) (equal_row x y) h
-  equal_looks x y i j = looks_weaken (λ z. z ≡ equal h x y) (λ g. IsGot IsAny g h) (λ g e. subst (λ z. IsGot IsAny z h) (sym e) (equal_can h h x y)) (equal_row x y) h (nest.equal_looks S rules h x y ordered i j)
+  equal_looks x y i j = looks_weaken (λ z. z ≡ equal h x y) (λ g. IsGot IsAny g h)
+      (λ g e. subst (λ z. IsGot IsAny z h) (sym e) (equal_can h h x y)) (equal_row x y) h
+      (nest.equal_looks S rules h x y ordered i j)
 
   pub order_looks : (x y : Value) → IsItem h x → IsItem h y → Looks {S = S} (λ g. IsGot IsAny g h) (order_row x y) h
-  order_looks x y i j = looks_weaken (λ z. z ≡ order h x y) (λ g. IsGot IsAny g h) (λ g e. subst (λ z. IsGot IsAny z h) (sym e) (order_can h h x y)) (order_row x y) h (nest.order_looks S rules h x y ordered i j)
+  order_looks x y i j = looks_weaken (λ z. z ≡ order h x y) (λ g. IsGot IsAny g h)
+      (λ g e. subst (λ z. IsGot IsAny z h) (sym e) (order_can h h x y)) (order_row x y) h
+      (nest.order_looks S rules h x y ordered i j)
 
-  pub text_looks : (roots : ℕ) → IsRoots h roots → (x : Value) (quoted : Bool) → IsItem h x → Looks {S = S} (λ g. IsGot IsAny g h) (told_row roots x quoted) h
+  pub text_looks : (roots : ℕ) → IsRoots h roots → (x : Value) (quoted : Bool) → IsItem h x →
+      Looks {S = S} (λ g. IsGot IsAny g h) (told_row roots x quoted) h
   text_looks roots r x quoted i =
-      looks_weaken (λ z. z ≡ text_of h roots x quoted) (λ g. IsGot IsAny g h) (λ g e. subst (λ z. IsGot IsAny z h) (sym e) (text_can h h roots x quoted)) (told_row roots x quoted) h (told_looks S rules h ordered roots r x quoted i)
+      looks_weaken (λ z. z ≡ text_of h roots x quoted) (λ g. IsGot IsAny g h)
+      (λ g e. subst (λ z. IsGot IsAny z h) (sym e) (text_can h h roots x quoted)) (told_row roots x quoted) h
+      (told_looks S rules h ordered roots r x quoted i)

@@ -68,11 +68,14 @@ some_rec (Some r) i = (r, refl)
 pub kind_here : (o : Option Rec) (r : Rec) → o ≡ Some r → KindIn o (λ z. z ≡ r.kind)
 kind_here o r e = subst (λ z. KindIn z (λ q. q ≡ r.kind)) (sym e) refl
 
-pub operand_holds : {S : Type 0} (rules : Rules) (stands : Heap → S → Type 0) (x : Value) (h : Heap) → IsItem h x → Holds rules stands IsOperand (operand_row x) h
+pub operand_holds : {S : Type 0} (rules : Rules) (stands : Heap → S → Type 0) (x : Value) (h : Heap) → IsItem h x →
+    Holds rules stands IsOperand (operand_row x) h
 unfolding operand_row IsOperand
 operand_holds rules stands (Ref a) h i =
     let r = some_rec (h a.0) i.0 in
-    holds_read rules stands IsOperand a.0 (λ r. Ret (operand_of r.kind a)) h r.0 r.1 (holds_ret rules stands IsOperand (operand_of r.0.kind a) h (operand_good h r.0.kind a (kind_here (h a.0) r.0 r.1)))
+    holds_read rules stands IsOperand a.0 (λ r. Ret (operand_of r.kind a)) h r.0 r.1
+    (holds_ret rules stands IsOperand (operand_of r.0.kind a) h
+    (operand_good h r.0.kind a (kind_here (h a.0) r.0 r.1)))
 operand_holds rules stands Unset h i = holds_ret rules stands IsOperand Other h tt
 operand_holds rules stands NoneValue h i = holds_ret rules stands IsOperand Other h tt
 operand_holds rules stands (BoolValue b) h i = holds_ret rules stands IsOperand (Truth b) h tt
@@ -94,7 +97,8 @@ module _ (h : Heap) where
   both_good (Some i) None = tt
 
   numbers_good : (p q : Operand) → IsCase h (numbers_case p q)
-  numbers_good p q = truths_good (truth_of p) (truth_of q) (both_numbers (number_of p) (number_of q)) (both_good (number_of p) (number_of q))
+  numbers_good p q = truths_good (truth_of p) (truth_of q) (both_numbers (number_of p) (number_of q))
+      (both_good (number_of p) (number_of q))
 
   repeat_good : (k : Kind) (a : Addr) (n : Option ℤ) → IsAt h k a → IsCase h (repeat_case k a n)
   unfolding IsCase

@@ -84,7 +84,8 @@ pub power_odd : (i : ℤ) (n : ℕ) → unsigned_abs i ≤ 1 → n % 2 ≢ 0 →
 power_odd (pos zero) n l f = ap pos (zero_power n (λ e. f (ap (λ k. k % 2) e)))
 power_odd (pos (suc zero)) n l f = ap pos (one_power n)
 power_odd (pos (suc (suc a))) n l f = absurd (omega (arith, l))
-power_odd (negsuc zero) n l f = ap (λ b. cond b (pos (1 ^ n)) (neg_ℤ (pos (1 ^ n)))) (odd n f) ∙ ap (λ k. neg_ℤ (pos k)) (one_power n)
+power_odd (negsuc zero) n l f = ap (λ b. cond b (pos (1 ^ n)) (neg_ℤ (pos (1 ^ n)))) (odd n f) ∙
+    ap (λ k. neg_ℤ (pos k)) (one_power n)
 power_odd (negsuc (suc a)) n l f = absurd (omega (arith, l))
 
 -- ---- shifts
@@ -96,21 +97,26 @@ nothing m = omega arith
 
 pub shift_none : (i : ℤ) (n : ℕ) → i ≡ pos 0 → narrowed (i *ℤ pos (2 ^ n)) ≡ Is (Int (pos 0))
 unfolding narrowed
-shift_none i n e = ap (λ z. narrowed (z *ℤ pos (2 ^ n))) e ∙ ap narrowed (pos-*ℤ-pos 0 (2 ^ n) ∙ ap pos (nothing (2 ^ n)))
+shift_none i n e = ap (λ z. narrowed (z *ℤ pos (2 ^ n))) e ∙
+    ap narrowed (pos-*ℤ-pos 0 (2 ^ n) ∙ ap pos (nothing (2 ^ n)))
 
 pub shift_wide : (i : ℤ) (n : ℕ) → i ≢ pos 0 → 64 ≤ n → narrowed (i *ℤ pos (2 ^ n)) ≡ Raise overflow_fault
 shift_wide (pos zero) n f l = absurd (f refl)
-shift_wide (pos (suc a)) n f l = ap narrowed (pos-*ℤ-pos (suc a) (2 ^ n)) ∙ too_wide (pos (suc a * 2 ^ n)) (large (suc a * 2 ^ n) (at_least a (2 ^ n) (long n l)))
-shift_wide (negsuc a) n f l = ap narrowed (negsuc-*ℤ-pos a (2 ^ n)) ∙ too_wide (neg_ℤ (pos (suc a * 2 ^ n))) (large_below (suc a * 2 ^ n) (at_least a (2 ^ n) (long n l)))
+shift_wide (pos (suc a)) n f l = ap narrowed (pos-*ℤ-pos (suc a) (2 ^ n)) ∙
+    too_wide (pos (suc a * 2 ^ n)) (large (suc a * 2 ^ n) (at_least a (2 ^ n) (long n l)))
+shift_wide (negsuc a) n f l = ap narrowed (negsuc-*ℤ-pos a (2 ^ n)) ∙
+    too_wide (neg_ℤ (pos (suc a * 2 ^ n))) (large_below (suc a * 2 ^ n) (at_least a (2 ^ n) (long n l)))
 
 nothing_left : (a n : ℕ) → a < 9_223_372_036_854_775_808 → 64 ≤ n → a / 2 ^ n ≡ 0
 nothing_left a n l m = div-eq_of_lt (let p = long n m in omega (arith, p, l))
 
-pub shift_out : (i : ℤ) (n : ℕ) → mag i < 9_223_372_036_854_775_808 → 64 ≤ n → int_lt i (pos 0) ≡ false → floor_quotient i (pos (2 ^ n)) ≡ pos 0
+pub shift_out : (i : ℤ) (n : ℕ) → mag i < 9_223_372_036_854_775_808 → 64 ≤ n → int_lt i (pos 0) ≡ false →
+    floor_quotient i (pos (2 ^ n)) ≡ pos 0
 shift_out (pos a) n l m f = ap pos (nothing_left a n l m)
 shift_out (negsuc a) n l m f = absurd (let q : true ≡ false = f in cc)
 
-pub shift_out_below : (i : ℤ) (n : ℕ) → mag i < 9_223_372_036_854_775_808 → 64 ≤ n → int_lt i (pos 0) ≡ true → floor_quotient i (pos (2 ^ n)) ≡ negsuc 0
+pub shift_out_below : (i : ℤ) (n : ℕ) → mag i < 9_223_372_036_854_775_808 → 64 ≤ n → int_lt i (pos 0) ≡ true →
+    floor_quotient i (pos (2 ^ n)) ≡ negsuc 0
 shift_out_below (pos a) n l m f = absurd (let q : nat_lt a 0 ≡ true = f in grind (arith, q))
 shift_out_below (negsuc a) n l m f = ap negsuc (nothing_left a n l m)
 

@@ -35,7 +35,8 @@ takes (Number n) = 1
 takes (Text n) = 1
 takes _ = 0
 
--- each other byte stands for itself; the flag says whether a percent sign was just read, the number how many arguments were
+-- each other byte stands for itself; the flag says whether a percent sign was just read, the number how many arguments
+-- were
 -- taken so far
 unfoldable pub pieces : Bool → ℕ → List ℕ → List Piece
 pieces false n [] = []

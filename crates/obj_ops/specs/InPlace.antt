@@ -25,7 +25,8 @@ push_row a (x ∷ xs) = Do (Edit a (change.Push x)) (λ _. push_row a xs)
 
 -- to a list of n items, which is the answer; MemoryError before the first one, where there would be too many
 unfoldable pub pushed_row : {S : Type 0} → ℕ → List Value → ℕ → Row S (Got Value)
-pushed_row a vs n = cond (leb (n + length vs) LENGTH_LIMIT) (bind (push_row a vs) (λ _. Ret (Is (Ref (record { 0 = a }))))) (Ret (Raise memory_fault))
+pushed_row a vs n = cond (leb (n + length vs) LENGTH_LIMIT)
+    (bind (push_row a vs) (λ _. Ret (Is (Ref (record { 0 = a }))))) (Ret (Raise memory_fault))
 
 unfoldable pub appended_row : {S : Type 0} → ℕ → List Value → Row S (Got Value)
 appended_row a vs = bind (size_row a) (pushed_row a vs)

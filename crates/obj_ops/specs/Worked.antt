@@ -1,4 +1,5 @@
--- Operators worked by hand. Expected values are Python 2.7's, but where a rule is marked (own). States `docs/LANGUAGE.md`,
+-- Operators worked by hand. Expected values are Python 2.7's, but where a rule is marked (own). States
+-- `docs/LANGUAGE.md`,
 -- "Arithmetic", "Operators on sequences" and "The % operator".
 use Rattle.std.specs.Prelude.{◌≡◌, pos, negsuc, true, false, None, Some, [], ◌∷◌, refl, codes}
 use Rattle.py_base.specs.Numbers.{binary_number, unary_number, compare_number}
@@ -153,7 +154,8 @@ exclusive : case_of Xor (Truth true) (Truth true) ≡ Truths true true
 exclusive = refl
 
 -- 'a' % (..), 'a' % None
-with_tuple : case_of Remainder (Text (record { 0 = 5 })) (Sequence Tuple (record { 0 = 6 })) ≡ Format (record { 0 = 5 }) (Some (record { 0 = 6 }))
+with_tuple : case_of Remainder (Text (record { 0 = 5 })) (Sequence Tuple (record { 0 = 6 })) ≡ Format
+    (record { 0 = 5 }) (Some (record { 0 = 6 }))
 with_tuple = refl
 
 with_value : case_of Remainder (Text (record { 0 = 5 })) Other ≡ Format (record { 0 = 5 }) None

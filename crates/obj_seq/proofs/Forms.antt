@@ -14,5 +14,6 @@ copied-byte bs out k less e =
     let there : k + 0 ≡ k = omega arith in
     ap (λ o. get_or o 0 0) e ∙ first-of (drop k bs) some ∙ get_or-drop k bs 0 0 ∙ ap (λ i. get_or bs i 0) there
 
-pub one-byte : (bs out : List ℕ) (k : ℕ) → k < length bs → out ≡ take 1 (drop k bs) → Some (get_or out 0 0) ≡ slice_get bs k
+pub one-byte : (bs out : List ℕ) (k : ℕ) → k < length bs → out ≡ take 1 (drop k bs) →
+    Some (get_or out 0 0) ≡ slice_get bs k
 one-byte bs out k less e = ap Some (copied-byte bs out k less e) ∙ sym (slice_get-get_or bs k 0 less)

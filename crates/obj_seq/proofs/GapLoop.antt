@@ -18,7 +18,8 @@ pub record Closing {S X : Type 0} (u : Sense S X) (a k n : ℕ) (xs : List Value
   pub tail : Tail u a n xs (j + 1) w
 
 -- before a turn at place j: the rest of the row puts a value there, and moves what stands from j on
-pub record Opening {S X : Type 0} (u : Sense S X) (a k n : ℕ) (x : Value) (xs : List Value) (j : ℕ) (held : Value) (v w : X) : Type 0 where
+pub record Opening {S X : Type 0} (u : Sense S X) (a k n : ℕ) (x : Value) (xs : List Value) (j : ℕ) (held : Value)
+    (v w : X) : Type 0 where
   pub leads : Leads u (shift_row {S = S} a k x (drop k xs)) v (shift_row a j held (drop j xs)) w
   pub tail : Tail u a n xs j w
 
@@ -27,43 +28,71 @@ pub record Looked {S X : Type 0} (u : Sense S X) (P : X → Type 0) (a m : ℕ) 
   pub still : P x
   pub value : y ≡ value_at (at (u.heap x) a).values m
 
-looked-same : {S X : Type 0} (u : Sense S X) (P : X → Type 0) (a m : ℕ) (w x : X) (y : Value) → x ≡ w → P w → y ≡ value_at (at (u.heap w) a).values m → Looked u P a m x y
-looked-same u P a m w x y s h e = record { still = subst P (sym s) h; value = subst (λ z. y ≡ value_at (at (u.heap z) a).values m) (sym s) e }
+looked-same : {S X : Type 0} (u : Sense S X) (P : X → Type 0) (a m : ℕ) (w x : X) (y : Value) → x ≡ w → P w →
+    y ≡ value_at (at (u.heap w) a).values m → Looked u P a m x y
+looked-same u P a m w x y s h e = record {
+  still = subst P (sym s) h;
+  value =
+      subst (λ z. y ≡ value_at (at (u.heap z) a).values m) (sym s) e;
+}
 
 module _ {S X : Type 0} {u : Sense S X} {a k n : ℕ} {xs : List Value} {j : ℕ} {v w : X} where
-  pub closing-looked : (L : Lawful u) {q : Rec} {x : X} {y : Value} → Closing u a k n xs j v w → u.does (Read a) w q x → y ≡ value_at (at (u.heap w) a).values (j + 1) → Looked u (Closing u a k n xs j v) a (j + 1) x y
-  closing-looked L {q = q} {x = x} {y = y} h d e = looked-same u (Closing u a k n xs j v) a (j + 1) w x y (tail-looked L h.tail d) h e
+  pub closing-looked : (L : Lawful u) {q : Rec} {x : X} {y : Value} → Closing u a k n xs j v w → u.does (Read a) w q x
+      → y ≡ value_at (at (u.heap w) a).values (j + 1) → Looked u (Closing u a k n xs j v) a (j + 1) x y
+  closing-looked L {q = q} {x = x} {y = y} h d e = looked-same u (Closing u a k n xs j v) a (j + 1) w x y
+      (tail-looked L h.tail d) h e
 
   pub closing-next : Closing u a k n xs j v w → (y : Value) → j + 1 < n → y ≡ value_at (at (u.heap w) a).values (j + 1)
-      → Leads u (gap_row {S = S} a k (drop (k + 1) xs)) v (Do (Edit a (change.Set j y)) (λ _. gap_row a (j + 1) (drop (j + 1 + 1) xs))) w
+      → Leads u (gap_row {S = S} a k (drop (k + 1) xs)) v
+      (Do (Edit a (change.Set j y)) (λ _. gap_row a (j + 1) (drop (j + 1 + 1) xs))) w
   unfolding gap_row
-  closing-next h y less e = subst (λ vs. Leads u (gap_row {S = S} a k (drop (k + 1) xs)) v (gap_row a j vs) w) (tail-value h.tail y less e) h.leads
+  closing-next h y less e = subst (λ vs. Leads u (gap_row {S = S} a k (drop (k + 1) xs)) v (gap_row a j vs) w)
+      (tail-value h.tail y less e) h.leads
 
-  pub closing-more : (L : Lawful u) {x : X} (y : Value) → Closing u a k n xs j v w → j + 1 < n → y ≡ value_at (at (u.heap w) a).values (j + 1) → u.does (Edit a (change.Set j y)) w tt x → Closing u a k n xs (j + 1) v x
-  closing-more L {x = x} y h less e d = record { leads = leads-do L tt (closing-next h y less e) d; tail = tail-set L j y h.tail (omega arith) d }
+  pub closing-more : (L : Lawful u) {x : X} (y : Value) → Closing u a k n xs j v w → j + 1 < n →
+      y ≡ value_at (at (u.heap w) a).values (j + 1) → u.does (Edit a (change.Set j y)) w tt x →
+      Closing u a k n xs (j + 1) v x
+  closing-more L {x = x} y h less e d = record {
+    leads = leads-do L tt (closing-next h y less e) d;
+    tail =
+        tail-set L j y h.tail (omega arith) d;
+  }
 
-  pub closing-end : Closing u a k n xs j v w → n ≤ j + 1 → Leads u (gap_row {S = S} a k (drop (k + 1) xs)) v (Do (Edit a (change.Cut j)) (λ _. Ret tt)) w
+  pub closing-end : Closing u a k n xs j v w → n ≤ j + 1 →
+      Leads u (gap_row {S = S} a k (drop (k + 1) xs)) v (Do (Edit a (change.Cut j)) (λ _. Ret tt)) w
   unfolding gap_row
-  closing-end h less = subst (λ vs. Leads u (gap_row {S = S} a k (drop (k + 1) xs)) v (gap_row a j vs) w) (tail-end h.tail less) h.leads
+  closing-end h less = subst (λ vs. Leads u (gap_row {S = S} a k (drop (k + 1) xs)) v (gap_row a j vs) w)
+      (tail-end h.tail less) h.leads
 
   module _ {x : Value} {held : Value} where
-    pub opening-looked : (L : Lawful u) {q : Rec} {z : X} {y : Value} → Opening u a k n x xs j held v w → u.does (Read a) w q z → y ≡ value_at (at (u.heap w) a).values j → Looked u (Opening u a k n x xs j held v) a j z y
-    opening-looked L {q = q} {z = z} {y = y} h d e = looked-same u (Opening u a k n x xs j held v) a j w z y (tail-looked L h.tail d) h e
+    pub opening-looked : (L : Lawful u) {q : Rec} {z : X} {y : Value} → Opening u a k n x xs j held v w →
+        u.does (Read a) w q z → y ≡ value_at (at (u.heap w) a).values j →
+        Looked u (Opening u a k n x xs j held v) a j z y
+    opening-looked L {q = q} {z = z} {y = y} h d e = looked-same u (Opening u a k n x xs j held v) a j w z y
+        (tail-looked L h.tail d) h e
 
     pub opening-next : Opening u a k n x xs j held v w → (y : Value) → j < n → y ≡ value_at (at (u.heap w) a).values j
-        → Leads u (shift_row {S = S} a k x (drop k xs)) v (Do (Edit a (change.Set j held)) (λ _. shift_row a (j + 1) y (drop (j + 1) xs))) w
+        → Leads u (shift_row {S = S} a k x (drop k xs)) v
+        (Do (Edit a (change.Set j held)) (λ _. shift_row a (j + 1) y (drop (j + 1) xs))) w
     unfolding shift_row
-    opening-next h y less e = subst (λ vs. Leads u (shift_row {S = S} a k x (drop k xs)) v (shift_row a j held vs) w) (tail-value h.tail y less e) h.leads
+    opening-next h y less e = subst (λ vs. Leads u (shift_row {S = S} a k x (drop k xs)) v (shift_row a j held vs) w)
+        (tail-value h.tail y less e) h.leads
 
-    pub opening-more : (L : Lawful u) {z : X} (y : Value) → Opening u a k n x xs j held v w → j < n → y ≡ value_at (at (u.heap w) a).values j → u.does (Edit a (change.Set j held)) w tt z → Opening u a k n x xs (j + 1) y v z
-    opening-more L {z = z} y h less e d = record { leads = leads-do L tt (opening-next h y less e) d; tail = tail-set L j held h.tail (omega arith) d }
+    pub opening-more : (L : Lawful u) {z : X} (y : Value) → Opening u a k n x xs j held v w → j < n →
+        y ≡ value_at (at (u.heap w) a).values j → u.does (Edit a (change.Set j held)) w tt z →
+        Opening u a k n x xs (j + 1) y v z
+    opening-more L {z = z} y h less e d =
+        record { leads = leads-do L tt (opening-next h y less e) d; tail = tail-set L j held h.tail (omega arith) d }
 
-    pub opening-end : Opening u a k n x xs j held v w → n ≤ j → Leads u (shift_row {S = S} a k x (drop k xs)) v (Do (Edit a (change.Push held)) (λ _. Ret tt)) w
+    pub opening-end : Opening u a k n x xs j held v w → n ≤ j →
+        Leads u (shift_row {S = S} a k x (drop k xs)) v (Do (Edit a (change.Push held)) (λ _. Ret tt)) w
     unfolding shift_row
-    opening-end h less = subst (λ vs. Leads u (shift_row {S = S} a k x (drop k xs)) v (shift_row a j held vs) w) (tail-end h.tail less) h.leads
+    opening-end h less = subst (λ vs. Leads u (shift_row {S = S} a k x (drop k xs)) v (shift_row a j held vs) w)
+        (tail-end h.tail less) h.leads
 
 -- a row whose last call's answer is the call's own
-pub last-edit : {S X : Type 0} {u : Sense S X} {row : Row S (Unit {0})} {a : ℕ} {c : Change} {v w : X} (L : Lawful u) (x : X) (res : Result (Unit {0}) Stop)
+pub last-edit : {S X : Type 0} {u : Sense S X} {row : Row S (Unit {0})} {a : ℕ} {c : Change} {v w : X} (L : Lawful u)
+    (x : X) (res : Result (Unit {0}) Stop)
     → Leads u row v (Do (Edit a c) (λ _. Ret tt)) w → Answers u (Edit a c) (λ y. y) w x res → Meets u row v x res
 last-edit L x (Ok y) l d = leads-ret (leads-do L y l d)
 last-edit L x (Err e) l d = leads-refused l d

@@ -29,17 +29,20 @@ use Rattle.obj_seq.specs.Iter.{next_row}
 use Rattle.obj_seq.specs.Gather.{keys_of, letters_row, numbers, numbers_row, taken, take_row, left_row, gather_as, gather_of}
 
 -- a record that stands may be looked at
-pub stands-asks : {S X : Type 0} {u : Sense S X} {a : ℕ} {r : Rec} {w : X} → Stands u a r w → Asks {S = S} u.partial (Read a) (u.heap w)
+pub stands-asks : {S X : Type 0} {u : Sense S X} {a : ℕ} {r : Rec} {w : X} → Stands u a r w →
+    Asks {S = S} u.partial (Read a) (u.heap w)
 unfolding Asks
 stands-asks {u = u} {a = a} {r = r} {w = w} s = there-is (u.heap w) a r u.partial (λ r. Unit {0}) s.is tt
 
 module _ {S X : Type 0} (u : Sense S X) where
   -- another answer that is made of an answer, and a view that is as it was
-  pub ret-as : {A B : Type 0} (f : A → B) (x : A) (y : B) (v m w : X) (a : A) → m ≡ v → f x ≡ y → Meets u (Ret x) m w (Ok a) → Meets u (Ret y) v w (Ok (f a))
+  pub ret-as : {A B : Type 0} (f : A → B) (x : A) (y : B) (v m w : X) (a : A) → m ≡ v → f x ≡ y →
+      Meets u (Ret x) m w (Ok a) → Meets u (Ret y) v w (Ok (f a))
   unfolding Meets Run
   ret-as f x y v m w a same e d = (ap f d.0 ∙ e, d.1 ∙ same)
 
-  pub err-as : {A B : Type 0} (x : A) (y : B) (v m w : X) (e : Stop) → m ≡ v → Meets u (Ret x) m w (Err e) → Meets u (Ret y) v w (Err e)
+  pub err-as : {A B : Type 0} (x : A) (y : B) (v m w : X) (e : Stop) → m ≡ v → Meets u (Ret x) m w (Err e) →
+      Meets u (Ret y) v w (Err e)
   unfolding Meets Stopped
   err-as x y v m w e same d = (d.0, d.1 ∙ same)
 
@@ -48,12 +51,15 @@ module _ {S X : Type 0} (u : Sense S X) where
   ret-is x y v w same e = (e, same)
 
   -- a row that looks first, and goes on with what it saw
-  pub look-then : {A : Type 0} (L : Lawful u) (a : ℕ) (k : Rec → Row S A) (v m w : X) (res : Result A Stop) → u.does (Read a) v (at (u.heap v) a) m → Meets u (k (at (u.heap m) a)) m w res → Meets u (Do (Read a) k) v w res
+  pub look-then : {A : Type 0} (L : Lawful u) (a : ℕ) (k : Rec → Row S A) (v m w : X) (res : Result A Stop) →
+      u.does (Read a) v (at (u.heap v) a) m → Meets u (k (at (u.heap m) a)) m w res → Meets u (Do (Read a) k) v w res
   look-then L a k v m w res d h =
       let same : at (u.heap m) a ≡ at (u.heap v) a = ap (λ h. at h a) (read-heap L a v m (at (u.heap v) a) d) in
       meets-do u (Read a) k v m w (at (u.heap v) a) res d (subst (λ r. Meets u (k r) m w res) same h)
 
-  pub safe-looked : {A : Type 0} (L : Lawful u) (a : ℕ) (k : Rec → Row S A) (v m : X) → u.does (Read a) v (at (u.heap v) a) m → Safe u.partial (Do (Read a) k) (u.heap v) → Safe u.partial (k (at (u.heap m) a)) (u.heap m)
+  pub safe-looked : {A : Type 0} (L : Lawful u) (a : ℕ) (k : Rec → Row S A) (v m : X) →
+      u.does (Read a) v (at (u.heap v) a) m → Safe u.partial (Do (Read a) k) (u.heap v) →
+      Safe u.partial (k (at (u.heap m) a)) (u.heap m)
   safe-looked L a k v m d s =
       let same : at (u.heap m) a ≡ at (u.heap v) a = ap (λ h. at h a) (read-heap L a v m (at (u.heap v) a) d) in
       subst (λ r. Safe u.partial (k r) (u.heap m)) (sym same) (safe-next L (Read a) k v m (at (u.heap v) a) s d)
@@ -66,7 +72,8 @@ pub part-all : (vs : List Value) (n : ℕ) → n ≡ length vs → part vs 0 n �
 part-all vs n e = let z : n - 0 ≡ length vs = omega (arith, e) in rw z (whole vs)
 
 -- ---- keys
-pub keys-next : (vs : List Value) (i : ℕ) → 2 * i + 1 < length vs → keys_of (take (2 * (i + 1)) vs) ≡ keys_of (take (2 * i) vs) ++ value_at vs (2 * i) ∷ []
+pub keys-next : (vs : List Value) (i : ℕ) → 2 * i + 1 < length vs →
+    keys_of (take (2 * (i + 1)) vs) ≡ keys_of (take (2 * i) vs) ++ value_at vs (2 * i) ∷ []
 keys-next [] i h = absurd (omega arith)
 keys-next (k ∷ []) i h = absurd (omega arith)
 keys-next (k ∷ x ∷ rest) zero h = refl
@@ -81,11 +88,13 @@ keys-end (k ∷ []) zero h = refl
 keys-end (k ∷ x ∷ rest) zero h = absurd (omega arith)
 keys-end [] (suc i) h = let b : 2 * suc i ≡ suc (suc (2 * i)) = omega arith in rw b refl
 keys-end (k ∷ []) (suc i) h = let b : 2 * suc i ≡ suc (suc (2 * i)) = omega arith in rw b refl
-keys-end (k ∷ x ∷ rest) (suc i) h = let b : 2 * suc i ≡ suc (suc (2 * i)) = omega arith in rw b (ap (λ t. k ∷ t) (keys-end rest i (omega arith)))
+keys-end (k ∷ x ∷ rest) (suc i) h = let b : 2 * suc i ≡ suc (suc (2 * i)) = omega arith in
+    rw b (ap (λ t. k ∷ t) (keys-end rest i (omega arith)))
 
 -- ---- letters
 -- a record stands when another was made
-stands-made : {S X : Type 0} {u : Sense S X} (L : Lawful u) {a b : ℕ} {r made : Rec} {w x : X} → Stands u a r w → u.does (Make made) w b x → Stands u a r x
+stands-made : {S X : Type 0} {u : Sense S X} (L : Lawful u) {a b : ℕ} {r made : Rec} {w x : X} → Stands u a r w →
+    u.does (Make made) w b x → Stands u a r x
 stands-made {u = u} L {a = a} {b = b} {r = r} {made = made} {w = w} {x = x} h d =
     let e = L.effect (Make made) w b x d in
     let new : a ≢ b = λ same. let s = h.is in let n = e.0 in let s1 = ap (u.heap w) same in absurd (cc) in
@@ -95,7 +104,8 @@ stands-made {u = u} L {a = a} {b = b} {r = r} {made = made} {w = w} {x = x} h d 
     }
 
 -- before the turn for byte i
-pub record Lettering {S X : Type 0} (u : Sense S X) (a n : ℕ) (bs : List ℕ) (i : ℕ) (refs : List Value) (v w : X) : Type 0 where
+pub record Lettering {S X : Type 0} (u : Sense S X) (a n : ℕ) (bs : List ℕ) (i : ℕ) (refs : List Value)
+    (v w : X) : Type 0 where
   pub leads : Leads u (letters_row {S = S} [] bs) v (letters_row refs (drop i bs)) w
   pub now : Rec
   pub stands : Stands u a now w
@@ -104,21 +114,25 @@ pub record Lettering {S X : Type 0} (u : Sense S X) (a n : ℕ) (bs : List ℕ) 
 
 module _ {S X : Type 0} {u : Sense S X} {a n : ℕ} {bs : List ℕ} {i : ℕ} {refs : List Value} {v w : X} where
   -- the turn's byte was copied
-  pub lettering-looked : (L : Lawful u) {q : Rec} {x : X} → Lettering u a n bs i refs v w → u.does (Read a) w q x → Lettering u a n bs i refs v x
+  pub lettering-looked : (L : Lawful u) {q : Rec} {x : X} → Lettering u a n bs i refs v w → u.does (Read a) w q x →
+      Lettering u a n bs i refs v x
   lettering-looked L {q = q} h d = subst (Lettering u a n bs i refs v) (sym (stands-again L q h.stands d)) h
 
   pub lettering-here : Lettering u a n bs i refs v w → (at (u.heap w) a).bytes ≡ bs
   lettering-here h = ap (λ r. r.bytes) (at-is (u.heap w) a h.now h.stands.is) ∙ h.bytes
 
-  pub lettering-next : Lettering u a n bs i refs v w → (byte : ℕ) (made : Rec) → i < n → byte ≡ get_or bs i 0 → made ≡ new_rec Str [] (byte ∷ [])
-      → Leads u (letters_row {S = S} [] bs) v (Do (Make made) (λ b. letters_row (refs ++ Ref (record { 0 = b }) ∷ []) (drop (i + 1) bs))) w
+  pub lettering-next : Lettering u a n bs i refs v w → (byte : ℕ) (made : Rec) → i < n → byte ≡ get_or bs i 0 →
+      made ≡ new_rec Str [] (byte ∷ [])
+      → Leads u (letters_row {S = S} [] bs) v
+      (Do (Make made) (λ b. letters_row (refs ++ Ref (record { 0 = b }) ∷ []) (drop (i + 1) bs))) w
   unfolding letters_row
   lettering-next h byte made less e f =
       let inside : i < length bs = omega (arith, h.count) in
       let here : drop i bs ≡ byte ∷ drop (i + 1) bs = rw (e, add-one i) (drop-cons bs i 0 inside) in
       rw f (subst (λ l. Leads u (letters_row {S = S} [] bs) v (letters_row refs l) w) here h.leads)
 
-  pub lettering-more : (L : Lawful u) → Lettering u a n bs i refs v w → (byte : ℕ) (made : Rec) (b : ℕ) (z : X) → i < n → byte ≡ get_or bs i 0 → made ≡ new_rec Str [] (byte ∷ []) → u.does (Make made) w b z
+  pub lettering-more : (L : Lawful u) → Lettering u a n bs i refs v w → (byte : ℕ) (made : Rec) (b : ℕ) (z : X) →
+      i < n → byte ≡ get_or bs i 0 → made ≡ new_rec Str [] (byte ∷ []) → u.does (Make made) w b z
       → Lettering u a n bs (i + 1) (refs ++ Ref (record { 0 = b }) ∷ []) v z
   lettering-more L h byte made b z less e f m = record {
     leads = leads-do L b (lettering-next h byte made less e f) m;
@@ -128,61 +142,94 @@ module _ {S X : Type 0} {u : Sense S X} {a n : ℕ} {bs : List ℕ} {i : ℕ} {r
     count = h.count;
   }
 
-letters-end : {S : Type 0} (refs : List Value) (rest : List ℕ) → length rest ≤ 0 → letters_row {S = S} refs rest ≡ Ret (Is refs)
+letters-end : {S : Type 0} (refs : List Value) (rest : List ℕ) → length rest ≤ 0 →
+    letters_row {S = S} refs rest ≡ Ret (Is refs)
 unfolding letters_row
 letters-end refs [] h = refl
 letters-end refs (x ∷ rest) h = absurd (omega arith)
 
-pub lettering-last : {S X : Type 0} {u : Sense S X} {a n : ℕ} {bs : List ℕ} {i : ℕ} {refs : List Value} {v w : X} → Lettering u a n bs i refs v w → n ≤ i → Meets u (letters_row {S = S} [] bs) v w (Ok (Is refs))
+pub lettering-last : {S X : Type 0} {u : Sense S X} {a n : ℕ} {bs : List ℕ} {i : ℕ} {refs : List Value} {v w : X} →
+    Lettering u a n bs i refs v w → n ≤ i → Meets u (letters_row {S = S} [] bs) v w (Ok (Is refs))
 lettering-last {S = S} {u = u} {bs = bs} {i = i} {refs = refs} {v = v} {w = w} h less =
-    leads-ret (subst (λ row. Leads u (letters_row {S = S} [] bs) v row w) (letters-end refs (drop i bs) (omega (arith, length-drop i bs, h.count))) h.leads)
+    leads-ret (subst (λ row. Leads u (letters_row {S = S} [] bs) v row w)
+    (letters-end refs (drop i bs) (omega (arith, length-drop i bs, h.count))) h.leads)
 
 -- ---- numbers
 module _ {S X : Type 0} (u : Sense S X) where
-  pub numbers-many : (o : Option Span) (s : Span) (v : X) (res : Got (List Value)) → o ≡ Some s → LENGTH_LIMIT < range_length s.start s.stop s.step → res ≡ Raise memory_fault → Meets u (numbers_row o) v v (Ok res)
+  pub numbers-many : (o : Option Span) (s : Span) (v : X) (res : Got (List Value)) → o ≡ Some s →
+      LENGTH_LIMIT < range_length s.start s.stop s.step → res ≡ Raise memory_fault →
+      Meets u (numbers_row o) v v (Ok res)
   unfolding numbers_row
   numbers-many o s v res e less f =
-      let row : numbers_row {S = S} (Some s) ≡ Ret (Raise memory_fault) = cond-true _ _ _ (lt-ltb LENGTH_LIMIT (range_length s.start s.stop s.step) less) in
-      subst (λ o. Meets u (numbers_row o) v v (Ok res)) (sym e) (subst (λ r. Meets u r v v (Ok res)) (sym row) (subst (λ z. Meets u (Ret (Raise memory_fault)) v v (Ok z)) (sym f) (meets-ret u (Raise memory_fault) v)))
+      let row : numbers_row {S = S} (Some s) ≡ Ret (Raise memory_fault) =
+      cond-true _ _ _ (lt-ltb LENGTH_LIMIT (range_length s.start s.stop s.step) less) in
+      subst (λ o. Meets u (numbers_row o) v v (Ok res)) (sym e)
+      (subst (λ r. Meets u r v v (Ok res)) (sym row)
+      (subst (λ z. Meets u (Ret (Raise memory_fault)) v v (Ok z)) (sym f) (meets-ret u (Raise memory_fault) v)))
 
-  pub numbers-few : (o : Option Span) (s : Span) (v : X) (xs : List Value) → o ≡ Some s → range_length s.start s.stop s.step ≤ LENGTH_LIMIT → xs ≡ numbers s.start s.step (range_length s.start s.stop s.step) → Meets u (numbers_row o) v v (Ok (Is xs))
+  pub numbers-few : (o : Option Span) (s : Span) (v : X) (xs : List Value) → o ≡ Some s →
+      range_length s.start s.stop s.step ≤ LENGTH_LIMIT →
+      xs ≡ numbers s.start s.step (range_length s.start s.stop s.step) → Meets u (numbers_row o) v v (Ok (Is xs))
   unfolding numbers_row
   numbers-few o s v xs e few f =
-      let row : numbers_row {S = S} (Some s) ≡ Ret (Is (numbers s.start s.step (range_length s.start s.stop s.step))) = cond-false _ _ _ (le-ltb LENGTH_LIMIT (range_length s.start s.stop s.step) few) in
-      subst (λ o. Meets u (numbers_row o) v v (Ok (Is xs))) (sym e) (subst (λ r. Meets u r v v (Ok (Is xs))) (sym row) (subst (λ z. Meets u (Ret (Is (numbers s.start s.step (range_length s.start s.stop s.step)))) v v (Ok (Is z))) (sym f) (meets-ret u _ v)))
+      let row : numbers_row {S = S} (Some s) ≡ Ret (Is (numbers s.start s.step (range_length s.start s.stop s.step))) =
+      cond-false _ _ _ (le-ltb LENGTH_LIMIT (range_length s.start s.stop s.step) few) in
+      subst (λ o. Meets u (numbers_row o) v v (Ok (Is xs))) (sym e)
+      (subst (λ r. Meets u r v v (Ok (Is xs))) (sym row)
+      (subst (λ z. Meets u (Ret (Is (numbers s.start s.step (range_length s.start s.stop s.step)))) v v
+      (Ok (Is z))) (sym f) (meets-ret u _ v)))
 
 -- ---- what is left of an iterator
 module _ {S X : Type 0} {u : Sense S X} (it : ℕ) {v w : X} (xs : List Value) (i : ℕ) (less : i < LENGTH_LIMIT + 1)
-    (leads : Leads u (left_row {S = S} it) v (walk_row (take_row it) (Raise memory_fault) (LENGTH_LIMIT + 1 - i) xs) w) where
-  pub left-safe : Safe u.partial (next_row {S = S} it) (u.heap w)
-  left-safe = safe-first u.partial (next_row it) (λ g. Ret (taken xs g)) (u.heap w) (walk_safe (take_row it) (Raise memory_fault) i (LENGTH_LIMIT + 1) xs less leads)
+    (leads : Leads u (left_row {S = S} it) v (walk_row (take_row it) (Raise memory_fault) (LENGTH_LIMIT + 1 - i) xs) w)
+  where
+    pub left-safe : Safe u.partial (next_row {S = S} it) (u.heap w)
+    left-safe = safe-first u.partial (next_row it) (λ g. Ret (taken xs g)) (u.heap w)
+        (walk_safe (take_row it) (Raise memory_fault) i (LENGTH_LIMIT + 1) xs less leads)
 
-  taken-met : (x : X) (g : Got (Option Value)) → Meets u (next_row it) w x (Ok g) → Meets u (take_row it xs) w x (Ok (taken xs g))
-  taken-met x g m = meets-bind u (next_row it) (λ g. Ret (taken xs g)) w x x g (Ok (taken xs g)) m (meets-ret u (taken xs g) x)
+    taken-met : (x : X) (g : Got (Option Value)) → Meets u (next_row it) w x (Ok g) →
+        Meets u (take_row it xs) w x (Ok (taken xs g))
+    taken-met x g m = meets-bind u (next_row it) (λ g. Ret (taken xs g)) w x x g (Ok (taken xs g)) m
+        (meets-ret u (taken xs g) x)
 
-  pub left-stop : (x : X) (e : Stop) → Meets u (next_row it) w x (Err e) → Meets u (left_row it) v x (Err e)
-  left-stop x e m = walk_stop (take_row it) (Raise memory_fault) x e i (LENGTH_LIMIT + 1) xs less leads (meets-bind-err u (next_row it) (λ g. Ret (taken xs g)) w x e m)
+    pub left-stop : (x : X) (e : Stop) → Meets u (next_row it) w x (Err e) → Meets u (left_row it) v x (Err e)
+    left-stop x e m = walk_stop (take_row it) (Raise memory_fault) x e i (LENGTH_LIMIT + 1) xs less leads
+        (meets-bind-err u (next_row it) (λ g. Ret (taken xs g)) w x e m)
 
-  pub left-more : (L : Lawful u) (x : X) (g : Got (Option Value)) (y : Value) → Meets u (next_row it) w x (Ok g) → g ≡ Is (Some y) → Leads u (left_row it) v (walk_row (take_row it) (Raise memory_fault) (LENGTH_LIMIT + 1 - (i + 1)) (xs ++ y ∷ [])) x
-  left-more L x g y m e = walk_more (take_row it) (Raise memory_fault) L x i (LENGTH_LIMIT + 1) xs (xs ++ y ∷ []) less leads (subst (λ g. Meets u (take_row it xs) w x (Ok (taken xs g))) e (taken-met x g m))
+    pub left-more : (L : Lawful u) (x : X) (g : Got (Option Value)) (y : Value) → Meets u (next_row it) w x (Ok g) →
+        g ≡ Is (Some y) → Leads u (left_row it) v
+        (walk_row (take_row it) (Raise memory_fault) (LENGTH_LIMIT + 1 - (i + 1)) (xs ++ y ∷ [])) x
+    left-more L x g y m e = walk_more (take_row it) (Raise memory_fault) L x i (LENGTH_LIMIT + 1) xs (xs ++ y ∷ []) less
+        leads (subst (λ g. Meets u (take_row it xs) w x (Ok (taken xs g))) e (taken-met x g m))
 
-  pub left-end : (L : Lawful u) (x : X) (g : Got (Option Value)) → Meets u (next_row it) w x (Ok g) → g ≡ Is None → Meets u (left_row it) v x (Ok (Is xs))
-  left-end L x g m e = walk_done (take_row it) (Raise memory_fault) L x i (LENGTH_LIMIT + 1) xs (Is xs) less leads (subst (λ g. Meets u (take_row it xs) w x (Ok (taken xs g))) e (taken-met x g m))
+    pub left-end : (L : Lawful u) (x : X) (g : Got (Option Value)) → Meets u (next_row it) w x (Ok g) → g ≡ Is None →
+        Meets u (left_row it) v x (Ok (Is xs))
+    left-end L x g m e = walk_done (take_row it) (Raise memory_fault) L x i (LENGTH_LIMIT + 1) xs (Is xs) less leads
+        (subst (λ g. Meets u (take_row it xs) w x (Ok (taken xs g))) e (taken-met x g m))
 
-  pub left-raised : (L : Lawful u) (x : X) (g : Got (Option Value)) (e : Fault) → Meets u (next_row it) w x (Ok g) → g ≡ Raise e → Meets u (left_row it) v x (Ok (Raise e))
-  left-raised L x g e m f = walk_done (take_row it) (Raise memory_fault) L x i (LENGTH_LIMIT + 1) xs (Raise e) less leads (subst (λ g. Meets u (take_row it xs) w x (Ok (taken xs g))) f (taken-met x g m))
+    pub left-raised : (L : Lawful u) (x : X) (g : Got (Option Value)) (e : Fault) → Meets u (next_row it) w x (Ok g) →
+        g ≡ Raise e → Meets u (left_row it) v x (Ok (Raise e))
+    left-raised L x g e m f = walk_done (take_row it) (Raise memory_fault) L x i (LENGTH_LIMIT + 1) xs (Raise e) less
+        leads (subst (λ g. Meets u (take_row it xs) w x (Ok (taken xs g))) f (taken-met x g m))
 
 module _ {S X : Type 0} (u : Sense S X) (it : ℕ) (v : X) where
-  pub left-begin : (xs : List Value) → xs ≡ [] → Safe u.partial (left_row {S = S} it) (u.heap v) → IsLive u v → Leads u (left_row {S = S} it) v (walk_row (take_row it) (Raise memory_fault) (LENGTH_LIMIT + 1) xs) v
+  pub left-begin : (xs : List Value) → xs ≡ [] → Safe u.partial (left_row {S = S} it) (u.heap v) → IsLive u v →
+      Leads u (left_row {S = S} it) v (walk_row (take_row it) (Raise memory_fault) (LENGTH_LIMIT + 1) xs) v
   unfolding left_row
-  left-begin xs e s l = subst (λ xs. Leads u (left_row {S = S} it) v (walk_row (take_row it) (Raise memory_fault) (LENGTH_LIMIT + 1) xs) v) (sym e) (leads-begin u (left_row {S = S} it) v s l)
+  left-begin xs e s l = subst (λ xs. Leads u (left_row {S = S} it) v
+      (walk_row (take_row it) (Raise memory_fault) (LENGTH_LIMIT + 1) xs) v) (sym e)
+      (leads-begin u (left_row {S = S} it) v s l)
 
-  pub left-last : (w : X) (xs : List Value) (i : ℕ) (res : Got (List Value)) → LENGTH_LIMIT + 1 ≤ i → Leads u (left_row {S = S} it) v (walk_row (take_row it) (Raise memory_fault) (LENGTH_LIMIT + 1 - i) xs) w → res ≡ Raise memory_fault → Meets u (left_row it) v w (Ok res)
-  left-last w xs i res more l e = subst (λ z. Meets u (left_row it) v w (Ok z)) (sym e) (walk_end (take_row it) (Raise memory_fault) i (LENGTH_LIMIT + 1) xs more l)
+  pub left-last : (w : X) (xs : List Value) (i : ℕ) (res : Got (List Value)) → LENGTH_LIMIT + 1 ≤ i →
+      Leads u (left_row {S = S} it) v (walk_row (take_row it) (Raise memory_fault) (LENGTH_LIMIT + 1 - i) xs) w →
+      res ≡ Raise memory_fault → Meets u (left_row it) v w (Ok res)
+  left-last w xs i res more l e = subst (λ z. Meets u (left_row it) v w (Ok z)) (sym e)
+      (walk_end (take_row it) (Raise memory_fault) i (LENGTH_LIMIT + 1) xs more l)
 
 -- ---- all kinds
 -- a record of another kind has no items
-no_items : {S : Type 0} (a : ℕ) (k : Kind) (vs : List Value) (bs : List ℕ) → (k ≡ Str → ⊥) → (k ≡ Tuple → ⊥) → (k ≡ ListKind → ⊥) → (k ≡ Dict → ⊥) → (k ≡ Iter → ⊥) → (k ≡ Range → ⊥)
+no_items : {S : Type 0} (a : ℕ) (k : Kind) (vs : List Value) (bs : List ℕ) → (k ≡ Str → ⊥) → (k ≡ Tuple → ⊥) →
+    (k ≡ ListKind → ⊥) → (k ≡ Dict → ⊥) → (k ≡ Iter → ⊥) → (k ≡ Range → ⊥)
     → gather_as {S = S} a k vs bs ≡ Ret (Raise iterable_fault)
 no_items a Str vs bs n o p q r s = absurd (n refl)
 no_items a Tuple vs bs n o p q r s = absurd (o refl)
@@ -192,7 +239,11 @@ no_items a Iter vs bs n o p q r s = absurd (r refl)
 no_items a Range vs bs n o p q r s = absurd (s refl)
 no_items a _ vs bs n o p q r s = refl
 
-pub raised-met : {S X : Type 0} (u : Sense S X) (a : ℕ) (k : Kind) (r : Rec) (v : X) (res : Result (Got (List Value)) Stop) → k ≡ r.kind → (k ≡ Str → ⊥) → (k ≡ Tuple → ⊥) → (k ≡ ListKind → ⊥) → (k ≡ Dict → ⊥) → (k ≡ Iter → ⊥) → (k ≡ Range → ⊥)
+pub raised-met : {S X : Type 0} (u : Sense S X) (a : ℕ) (k : Kind) (r : Rec) (v : X)
+    (res : Result (Got (List Value)) Stop) → k ≡ r.kind → (k ≡ Str → ⊥) → (k ≡ Tuple → ⊥) → (k ≡ ListKind → ⊥) →
+    (k ≡ Dict → ⊥) → (k ≡ Iter → ⊥) → (k ≡ Range → ⊥)
     → MatchResult res (λ g. g ≡ Raise iterable_fault) (λ e. e ≡ OutOfMemory) → Meets u (gather_of {S = S} a r) v v res
 raised-met {S = S} u a k r v res e n o p q s t m =
-    subst (λ k. Meets u (gather_as {S = S} a k r.values r.bytes) v v res) e (subst (λ row. Meets u row v v res) (sym (no_items a k r.values r.bytes n o p q s t)) (meets-answer u (Raise iterable_fault) v res m))
+    subst (λ k. Meets u (gather_as {S = S} a k r.values r.bytes) v v res) e
+    (subst (λ row. Meets u row v v res) (sym (no_items a k r.values r.bytes n o p q s t))
+    (meets-answer u (Raise iterable_fault) v res m))

@@ -52,8 +52,10 @@ record Parted (h : Heap) (vs : List Value) : Type 0 where
   over : KindIn (h parts.over.0) (λ k. is_iterable k ≡ true)
   three : 1 < length vs
 
-parted_three : (h : Heap) (over at count : Value) → IsIterable h over → IsCount at → IsCount count → Parted h (over ∷ at ∷ count ∷ [])
-parted_three h (Ref a) (Int (pos at)) (Int (pos count)) i j k = record { parts = record { over = a; at = at; count = count }; is = refl; over = i; three = omega arith }
+parted_three : (h : Heap) (over at count : Value) → IsIterable h over → IsCount at → IsCount count →
+    Parted h (over ∷ at ∷ count ∷ [])
+parted_three h (Ref a) (Int (pos at)) (Int (pos count)) i j k =
+    record { parts = record { over = a; at = at; count = count }; is = refl; over = i; three = omega arith }
 parted_three h (Ref a) (Int (pos at)) _ i j k = absurd k
 parted_three h (Ref a) _ _ i j k = absurd j
 parted_three h _ _ _ i j k = absurd i
@@ -62,8 +64,10 @@ parted : (h : Heap) (vs : List Value) → HasShape h Iter vs → Parted h vs
 parted h (over ∷ at ∷ count ∷ []) s = parted_three h over at count s.0 s.1 s.2
 parted h _ s = absurd s
 
-parted_at : (rules : Rules) (h : Heap) (it : ℕ) (q : Rec) → IsOrdered rules h → h it ≡ Some q → q.kind ≡ Iter → Parted h q.values
-parted_at rules h it q order e k = parted h q.values (subst (λ k. HasShape h k q.values) k (order.each it q e).closed.shaped.0)
+parted_at : (rules : Rules) (h : Heap) (it : ℕ) (q : Rec) → IsOrdered rules h → h it ≡ Some q → q.kind ≡ Iter →
+    Parted h q.values
+parted_at rules h it q order e k = parted h q.values
+    (subst (λ k. HasShape h k q.values) k (order.each it q e).closed.shaped.0)
 
 -- ---- what there is at a place
 get_has : {A : Type 0} (P : A → Type 0) (xs : List A) (i : ℕ) → Every P xs → IfSome (slice_get xs i) P
@@ -88,34 +92,46 @@ picked_item h _ vs at i = tt
 
 module _ {S : Type 0} (rules : Rules) (stands : Heap → S → Type 0) where
   -- ---- make_iter
-  iter_fits : (h : Heap) (b a n : ℕ) → KindIn (h a) (λ k. is_iterable k ≡ true) → IsItem h (Ref (record { 0 = a })) → FitsAt rules h b (new_rec Iter (iter_values a 0 n) [])
+  iter_fits : (h : Heap) (b a n : ℕ) → KindIn (h a) (λ k. is_iterable k ≡ true) → IsItem h (Ref (record { 0 = a })) →
+      FitsAt rules h b (new_rec Iter (iter_values a 0 n) [])
   iter_fits h b a n k i =
-      made_fits rules h b Iter (iter_values a 0 n) [] (λ e. let z : Iter ≡ Class = e in cc) (λ e. let z : Iter ≡ Function = e in cc) (λ e. let z : Iter ≡ Cell = e in cc)
-      (i, ((tt, λ e. let z : Int (pos 0) ≡ Unset = e in cc), ((tt, λ e. let z : Int (pos n) ≡ Unset = e in cc), tt))) (k, tt, tt) refl (omega arith) (omega arith)
+      made_fits rules h b Iter (iter_values a 0 n) [] (λ e. let z : Iter ≡ Class = e in cc)
+      (λ e. let z : Iter ≡ Function = e in cc) (λ e. let z : Iter ≡ Cell = e in cc)
+      (i, ((tt, λ e. let z : Int (pos 0) ≡ Unset = e in cc), ((tt, λ e. let z : Int (pos n) ≡ Unset = e in cc), tt)))
+      (k, tt, tt) refl (omega arith) (omega arith)
 
-  made_holds : (a : ℕ) (r : Rec) (o : Option ℕ) (h : Heap) → h a ≡ Some r → IsItem h (Ref (record { 0 = a })) → count_of r.kind r.values r.bytes ≡ o → Holds rules stands (IsGot IsIterator) (make_iter_row a o) h
+  made_holds : (a : ℕ) (r : Rec) (o : Option ℕ) (h : Heap) → h a ≡ Some r → IsItem h (Ref (record { 0 = a })) →
+      count_of r.kind r.values r.bytes ≡ o → Holds rules stands (IsGot IsIterator) (make_iter_row a o) h
   unfolding make_iter_row
-  made_holds a r None h e i f = holds_ret rules stands (IsGot IsIterator) (Raise iterable_fault) h (lit< tt, lit< tt, tt)
+  made_holds a r None h e i f = holds_ret rules stands (IsGot IsIterator) (Raise iterable_fault) h
+      (lit< tt, lit< tt, tt)
   made_holds a r (Some n) h e i f =
       let k = subst (λ o. KindIn o (λ k. is_iterable k ≡ true)) (sym e) (counted r.kind r.values r.bytes n f) in
       let q = new_rec Iter (iter_values a 0 n) [] in
-      holds_make rules stands (IsGot IsIterator) q (λ b. Ret (Is (Ref (record { 0 = b })))) h (λ b. iter_fits h b a n k i)
+      holds_make rules stands (IsGot IsIterator) q (λ b. Ret (Is (Ref (record { 0 = b })))) h
+      (λ b. iter_fits h b a n k i)
       (λ b h1 order1 x g item.
-      holds_ret rules stands (IsGot IsIterator) (Is (Ref (record { 0 = b }))) h1 (item, subst (λ o. KindIn o (λ k. k ≡ Iter)) (sym (ap (λ z. z b) g ∙ put-here h b q)) refl))
+      holds_ret rules stands (IsGot IsIterator) (Is (Ref (record { 0 = b }))) h1
+      (item, subst (λ o. KindIn o (λ k. k ≡ Iter)) (sym (ap (λ z. z b) g ∙ put-here h b q)) refl))
 
-  over_iter_holds : (a : ℕ) (r : Rec) (h : Heap) → h a ≡ Some r → IsItem h (Ref (record { 0 = a })) → Holds rules stands (IsGot IsIterator) (iter_of a r) h
+  over_iter_holds : (a : ℕ) (r : Rec) (h : Heap) → h a ≡ Some r → IsItem h (Ref (record { 0 = a })) →
+      Holds rules stands (IsGot IsIterator) (iter_of a r) h
   over_iter_holds a r h e i =
-      cond_holds rules stands (IsGot IsIterator) (is_iter r.kind) (Ret (Is (Ref (record { 0 = a })))) (make_iter_row a (count_of r.kind r.values r.bytes)) h
-      (λ y. holds_ret rules stands (IsGot IsIterator) (Is (Ref (record { 0 = a }))) h (i, subst (λ o. KindIn o (λ k. k ≡ Iter)) (sym e) (iter_kind r.kind y)))
+      cond_holds rules stands (IsGot IsIterator) (is_iter r.kind) (Ret (Is (Ref (record { 0 = a }))))
+      (make_iter_row a (count_of r.kind r.values r.bytes)) h
+      (λ y. holds_ret rules stands (IsGot IsIterator) (Is (Ref (record { 0 = a }))) h
+      (i, subst (λ o. KindIn o (λ k. k ≡ Iter)) (sym e) (iter_kind r.kind y)))
       (λ n. made_holds a r (count_of r.kind r.values r.bytes) h e i refl)
 
   none_holds : (h : Heap) → Holds rules stands (IsGot IsIterator) (Ret (Raise iterable_fault)) h
   none_holds h = holds_ret rules stands (IsGot IsIterator) (Raise iterable_fault) h (lit< tt, lit< tt, tt)
 
-  pub make_iter_holds : (h : Heap) (x : Value) → IsOrdered rules h → IsItem h x → Holds rules stands (IsGot IsIterator) (iter_row x) h
+  pub make_iter_holds : (h : Heap) (x : Value) → IsOrdered rules h → IsItem h x →
+      Holds rules stands (IsGot IsIterator) (iter_row x) h
   make_iter_holds h (Ref a) order i = by (h a.0) refl i.0
     where
-      by : (o : Option Rec) → h a.0 ≡ o → is_some o ≡ true → Holds rules stands (IsGot IsIterator) (Do (Read a.0) (iter_of a.0)) h
+      by : (o : Option Rec) → h a.0 ≡ o → is_some o ≡ true →
+          Holds rules stands (IsGot IsIterator) (Do (Read a.0) (iter_of a.0)) h
       by None e j = absurd (let z : false ≡ true = j in cc)
       by (Some r) e j = holds_read rules stands (IsGot IsIterator) a.0 (iter_of a.0) h r e (over_iter_holds a.0 r h e i)
   make_iter_holds h Unset order i = none_holds h
@@ -125,41 +141,54 @@ module _ {S : Type 0} (rules : Rules) (stands : Heap → S → Type 0) where
   make_iter_holds h (Builtin b) order i = none_holds h
 
   -- ---- next
-  go_holds : (it at : ℕ) (o : Option Value) (h : Heap) → IsOrdered rules h → IsIterAt h it → IfItem o h → Holds rules stands (IsGot IfItem) (go_or_end it at o) h
+  go_holds : (it at : ℕ) (o : Option Value) (h : Heap) → IsOrdered rules h → IsIterAt h it → IfItem o h →
+      Holds rules stands (IsGot IfItem) (go_or_end it at o) h
   unfolding go_or_end
   go_holds it at None h order k i = holds_ret rules stands (IsGot IfItem) (Is None) h tt
   go_holds it at (Some x) h order k i =
       let t = at_of h it (λ k. k ≡ Iter) k in
       let q = t.rec in
       let p = parted_at rules h it q order t.here t.kind in
-      holds_edit rules stands (IsGot IfItem) it (change.Set 1 (Int (pos (at + 1)))) (λ _. Ret (Is (Some x))) h q order t.here (ap is_tracked t.kind, p.three) (subst (λ z. IsValuePlace z 1) (sym t.kind) tt)
+      holds_edit rules stands (IsGot IfItem) it (change.Set 1 (Int (pos (at + 1)))) (λ _. Ret (Is (Some x))) h q order
+      t.here (ap is_tracked t.kind, p.three) (subst (λ z. IsValuePlace z 1) (sym t.kind) tt)
       (subst (λ z. MayPut rules h it z 1 (Int (pos (at + 1)))) (sym t.kind) tt)
       (λ h1 order1 y f. holds_ret rules stands (IsGot IfItem) (Is (Some x)) h1 (item_stays h h1 y x i))
 
-  byte_holds : (it at : ℕ) (o : Option ℕ) (h : Heap) → IsOrdered rules h → IsIterAt h it → Holds rules stands (IsGot IfItem) (byte_or_end it at o) h
+  byte_holds : (it at : ℕ) (o : Option ℕ) (h : Heap) → IsOrdered rules h → IsIterAt h it →
+      Holds rules stands (IsGot IfItem) (byte_or_end it at o) h
   unfolding byte_or_end
   byte_holds it at None h order k = holds_ret rules stands (IsGot IfItem) (Is None) h tt
   byte_holds it at (Some x) h order k =
-      holds_make rules stands (IsGot IfItem) (new_rec Str [] (x ∷ [])) (λ b. go_or_end it at (Some (Ref (record { 0 = b })))) h (λ b. text_fits rules h b (x ∷ []) (omega arith))
-      (λ b h1 order1 y e item. go_holds it at (Some (Ref (record { 0 = b }))) h1 order1 (kind_stays h h1 y it (λ k. k ≡ Iter) k) item)
+      holds_make rules stands (IsGot IfItem) (new_rec Str [] (x ∷ []))
+      (λ b. go_or_end it at (Some (Ref (record { 0 = b })))) h (λ b. text_fits rules h b (x ∷ []) (omega arith))
+      (λ b h1 order1 y e item. go_holds it at (Some (Ref (record { 0 = b }))) h1 order1
+      (kind_stays h h1 y it (λ k. k ≡ Iter) k) item)
 
-  over_holds : (it at count : ℕ) (r : Rec) (h : Heap) → IsOrdered rules h → IsIterAt h it → Every (IsItem h) r.values → Holds rules stands (IsGot IfItem) (next_over it at count r) h
+  over_holds : (it at count : ℕ) (r : Rec) (h : Heap) → IsOrdered rules h → IsIterAt h it → Every (IsItem h) r.values →
+      Holds rules stands (IsGot IfItem) (next_over it at count r) h
   over_holds it at count r h order k i =
       let other : Row S (Got (Option Value)) = go_or_end it at (pick r.kind r.values at) in
-      cond_holds rules stands (IsGot IfItem) (is_str r.kind) (byte_or_end it at (slice_get r.bytes at)) (cond (has_changed r.kind r.values count) (Ret (Raise size_fault)) other) h
+      cond_holds rules stands (IsGot IfItem) (is_str r.kind) (byte_or_end it at (slice_get r.bytes at))
+      (cond (has_changed r.kind r.values count) (Ret (Raise size_fault)) other) h
       (λ y. byte_holds it at (slice_get r.bytes at) h order k)
-      (λ n. cond_holds rules stands (IsGot IfItem) (has_changed r.kind r.values count) (Ret (Raise size_fault)) other h (λ y. holds_ret rules stands (IsGot IfItem) (Raise size_fault) h (lit< tt, lit< tt, tt))
+      (λ n. cond_holds rules stands (IsGot IfItem) (has_changed r.kind r.values count) (Ret (Raise size_fault)) other h
+      (λ y. holds_ret rules stands (IsGot IfItem) (Raise size_fault) h (lit< tt, lit< tt, tt))
       (λ n. go_holds it at (pick r.kind r.values at) h order k (picked_item h r.kind r.values at i)))
 
-  with_holds : (it : ℕ) (p : Parts) (h : Heap) → IsOrdered rules h → IsIterAt h it → KindIn (h p.over.0) (λ k. is_iterable k ≡ true) → Holds rules stands (IsGot IfItem) (next_with it (Some p)) h
+  with_holds : (it : ℕ) (p : Parts) (h : Heap) → IsOrdered rules h → IsIterAt h it →
+      KindIn (h p.over.0) (λ k. is_iterable k ≡ true) → Holds rules stands (IsGot IfItem) (next_with it (Some p)) h
   unfolding next_with
   with_holds it p h order k i =
       let t = at_of h p.over.0 (λ k. is_iterable k ≡ true) i in
       holds_read rules stands (IsGot IfItem) p.over.0 (next_over it p.at p.count) h t.rec t.here
-      (over_holds it p.at p.count t.rec h order k (fit_items rules h p.over.0 t.rec (order.each p.over.0 t.rec t.here) (iterable_set t.rec.kind t.kind)))
+      (over_holds it p.at p.count t.rec h order k
+      (fit_items rules h p.over.0 t.rec (order.each p.over.0 t.rec t.here) (iterable_set t.rec.kind t.kind)))
 
-  pub next_holds : (h : Heap) (it : ℕ) → IsOrdered rules h → IsIterAt h it → Holds rules stands (IsGot IfItem) (next_row it) h
+  pub next_holds : (h : Heap) (it : ℕ) → IsOrdered rules h → IsIterAt h it →
+      Holds rules stands (IsGot IfItem) (next_row it) h
   next_holds h it order k =
       let t = at_of h it (λ k. k ≡ Iter) k in
       let p = parted_at rules h it t.rec order t.here t.kind in
-      holds_read rules stands (IsGot IfItem) it (λ q. next_with it (parts_of q.values)) h t.rec t.here (subst (λ o. Holds rules stands (IsGot IfItem) (next_with {S = S} it o) h) (sym p.is) (with_holds it p.parts h order k p.over))
+      holds_read rules stands (IsGot IfItem) it (λ q. next_with it (parts_of q.values)) h t.rec t.here
+      (subst (λ o. Holds rules stands (IsGot IfItem) (next_with {S = S} it o) h) (sym p.is)
+      (with_holds it p.parts h order k p.over))

@@ -37,29 +37,39 @@ unmade : {S : Type 0} (a : ℕ) (o : Option ℕ) → o ≡ None → make_iter_ro
 unfolding make_iter_row
 unmade {S} a o e = ap (make_iter_row {S = S} a) e
 
-no_iter : {S : Type 0} (a : ℕ) (r : Rec) → (is_iterable r.kind ≡ true → ⊥) → (r.kind ≡ Iter → ⊥) → iter_of {S = S} a r ≡ Ret (Raise iterable_fault)
+no_iter : {S : Type 0} (a : ℕ) (r : Rec) → (is_iterable r.kind ≡ true → ⊥) → (r.kind ≡ Iter → ⊥) →
+    iter_of {S = S} a r ≡ Ret (Raise iterable_fault)
 no_iter a r n m =
-    cond-false (is_iter r.kind) _ _ (is_false (is_iter r.kind) (λ y. m (iter_kind r.kind y))) ∙ unmade a (count_of r.kind r.values r.bytes) (not_counted r.kind r.values r.bytes (is_false (is_iterable r.kind) n))
+    cond-false (is_iter r.kind) _ _ (is_false (is_iter r.kind) (λ y. m (iter_kind r.kind y))) ∙
+    unmade a (count_of r.kind r.values r.bytes)
+    (not_counted r.kind r.values r.bytes (is_false (is_iterable r.kind) n))
 
 -- a dictionary that hasn't as many pairs
-size_changed : {S : Type 0} (it at count : ℕ) (r : Rec) → r.kind ≡ Dict → length r.values / 2 ≢ count → next_over {S = S} it at count r ≡ Ret (Raise size_fault)
+size_changed : {S : Type 0} (it at count : ℕ) (r : Rec) → r.kind ≡ Dict → length r.values / 2 ≢ count →
+    next_over {S = S} it at count r ≡ Ret (Raise size_fault)
 size_changed {S} it at count r e n =
-    ap (λ k. cond (is_str k) (byte_or_end {S = S} it at (slice_get r.bytes at)) (cond (has_changed k r.values count) (Ret (Raise size_fault)) (go_or_end it at (pick k r.values at)))) e
+    ap (λ k. cond (is_str k) (byte_or_end {S = S} it at (slice_get r.bytes at))
+    (cond (has_changed k r.values count) (Ret (Raise size_fault)) (go_or_end it at (pick k r.values at)))) e
     ∙ cond-true (not (length r.values / 2 == count)) _ _ (ap not (ne_eqb (length r.values / 2) count n))
 
 module _ {S X : Type 0} {u : Sense S X} (L : Lawful u) where
-  raised : (v w : X) (res : Got Value) → Run u (Ret (Raise iterable_fault)) v res w → Says u (Raise iterable_fault) res v w
+  raised : (v w : X) (res : Got Value) → Run u (Ret (Raise iterable_fault)) v res w →
+      Says u (Raise iterable_fault) res v w
   unfolding Run
   raised v w res d = (d.0, ap u.heap d.1)
 
-  at_record : (a : ℕ) (v w : X) (res : Got Value) → ((r : Rec) → u.heap v a ≡ Some r → iter_of {S = S} a r ≡ Ret (Raise iterable_fault)) → Run u (Do (Read a) (iter_of a)) v res w → Says u (Raise iterable_fault) res v w
+  at_record : (a : ℕ) (v w : X) (res : Got Value) →
+      ((r : Rec) → u.heap v a ≡ Some r → iter_of {S = S} a r ≡ Ret (Raise iterable_fault)) →
+      Run u (Do (Read a) (iter_of a)) v res w → Says u (Raise iterable_fault) res v w
   unfolding Run
-  at_record a v w res n d = let f = L.effect (Read a) v d.0 d.1 d.2 in says L a (iter_of a) d.0 (Raise iterable_fault) res v w f.0 (n d.0 f.0) d
+  at_record a v w res n d = let f = L.effect (Read a) v d.0 d.1 d.2 in
+      says L a (iter_of a) d.0 (Raise iterable_fault) res v w f.0 (n d.0 f.0) d
 
   pub no-iter-law : NoIterLaw u
   no-iter-law (Ref a) v w res n m d =
       at_record a.0 v w res
-      (λ r e. no_iter a.0 r (λ i. n (subst (λ o. KindIn o (λ k. is_iterable k ≡ true)) (sym e) i)) (λ i. m (subst (λ o. KindIn o (λ k. k ≡ Iter)) (sym e) i))) d
+      (λ r e. no_iter a.0 r (λ i. n (subst (λ o. KindIn o (λ k. is_iterable k ≡ true)) (sym e) i))
+      (λ i. m (subst (λ o. KindIn o (λ k. k ≡ Iter)) (sym e) i))) d
   no-iter-law Unset v w res n m d = raised v w res d
   no-iter-law NoneValue v w res n m d = raised v w res d
   no-iter-law (BoolValue b) v w res n m d = raised v w res d
@@ -71,5 +81,6 @@ module _ {S X : Type 0} {u : Sense S X} (L : Lawful u) where
   size-law it d at count q r v w res e f g k n s =
       let l = looked L it (λ q. next_with it (parts_of q.values)) q v w res e s in
       let t = subst (λ vs. Run u (next_with {S = S} it (parts_of vs)) l.0 res w) f l.2 in
-      let z = says L d (next_over it at count) r (Raise size_fault) res l.0 w (ap (λ h. h d) l.1 ∙ g) (size_changed it at count r k n) t in
+      let z = says L d (next_over it at count) r (Raise size_fault) res l.0 w (ap (λ h. h d) l.1 ∙ g)
+      (size_changed it at count r k n) t in
       (z.0, z.1 ∙ l.1)

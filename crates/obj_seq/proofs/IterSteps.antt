@@ -14,43 +14,58 @@ use Rattle.py_data.proofs.Rows.{again}
 use Rattle.obj_seq.specs.Iter.{count_of, is_iter, iter_of, make_iter_row, next_over, next_with, parts_of, go_or_end, byte_or_end, pick, has_changed, is_str, next_row}
 use Rattle.obj_seq.proofs.AfterLook.{leads-looked, looked-record}
 
-pub iter-leads : {S X : Type 0} {u : Sense S X} (L : Lawful u) {a : ℕ} {v m x : X} {q : Rec} (o : Option ℕ) → u.does (Read a) v (at (u.heap v) a) m → u.does (Read a) m q x → is_iter (at (u.heap v) a).kind ≡ false
-    → o ≡ count_of (at (u.heap m) a).kind (at (u.heap m) a).values (at (u.heap m) a).bytes → Safe {S = S} u.partial (Do (Read a) (iter_of a)) (u.heap v) → IsLive u v
+pub iter-leads : {S X : Type 0} {u : Sense S X} (L : Lawful u) {a : ℕ} {v m x : X} {q : Rec} (o : Option ℕ) →
+    u.does (Read a) v (at (u.heap v) a) m → u.does (Read a) m q x → is_iter (at (u.heap v) a).kind ≡ false
+    → o ≡ count_of (at (u.heap m) a).kind (at (u.heap m) a).values (at (u.heap m) a).bytes →
+    Safe {S = S} u.partial (Do (Read a) (iter_of a)) (u.heap v) → IsLive u v
     → Leads u (Do (Read a) (iter_of {S = S} a)) v (make_iter_row a o) x
 iter-leads {S = S} {u = u} L {a = a} {v = v} {m = m} {x = x} {q = q} o d g none e s live =
     let same = again L a v m x (at (u.heap v) a) q d g in
-    let l = leads-looked L d same (iter_of a) (λ r. make_iter_row a (count_of r.kind r.values r.bytes)) s live (cond-false _ _ _ none) in
+    let l = leads-looked L d same (iter_of a) (λ r. make_iter_row a (count_of r.kind r.values r.bytes)) s live
+    (cond-false _ _ _ none) in
     let here = looked-record L d same ∙ sym (looked-record L d refl) in
-    subst (λ c. Leads u (Do (Read a) (iter_of {S = S} a)) v (make_iter_row a c) x) (ap (λ r. count_of r.kind r.values r.bytes) here ∙ sym e) l
+    subst (λ c. Leads u (Do (Read a) (iter_of {S = S} a)) v (make_iter_row a c) x)
+    (ap (λ r. count_of r.kind r.values r.bytes) here ∙ sym e) l
 
 -- going on over a string, and over what else there is
-module _ {S X : Type 0} {u : Sense S X} (L : Lawful u) {a : ℕ} {v m : X} (it place count : ℕ) (looked : u.does (Read a) v (at (u.heap v) a) m)
+module _ {S X : Type 0} {u : Sense S X} (L : Lawful u) {a : ℕ} {v m : X} (it place count : ℕ)
+    (looked : u.does (Read a) v (at (u.heap v) a) m)
     (safe : Safe {S = S} u.partial (Do (Read a) (next_over it place count)) (u.heap v)) (live : IsLive u v) where
-  pub byte-leads : {x : X} {q : Rec} (b : Option ℕ) → u.does (Read a) m q x → is_str (at (u.heap v) a).kind ≡ true → b ≡ slice_get (at (u.heap m) a).bytes place
+  pub byte-leads : {x : X} {q : Rec} (b : Option ℕ) → u.does (Read a) m q x → is_str (at (u.heap v) a).kind ≡ true →
+      b ≡ slice_get (at (u.heap m) a).bytes place
       → Leads u (Do (Read a) (next_over {S = S} it place count)) v (byte_or_end it place b) x
   byte-leads {x = x} {q = q} b g is e =
       let same = again L a v m x (at (u.heap v) a) q looked g in
-      let l = leads-looked L looked same (next_over it place count) (λ r. byte_or_end it place (slice_get r.bytes place)) safe live (cond-true _ _ _ is) in
+      let l = leads-looked L looked same (next_over it place count)
+      (λ r. byte_or_end it place (slice_get r.bytes place)) safe live (cond-true _ _ _ is) in
       let here = looked-record L looked same ∙ sym (looked-record L looked refl) in
-      subst (λ o. Leads u (Do (Read a) (next_over {S = S} it place count)) v (byte_or_end it place o) x) (ap (λ r. slice_get r.bytes place) here ∙ sym e) l
+      subst (λ o. Leads u (Do (Read a) (next_over {S = S} it place count)) v (byte_or_end it place o) x)
+      (ap (λ r. slice_get r.bytes place) here ∙ sym e) l
 
   module _ {n : X} {q : Rec} (second : u.does (Read a) m q n) (not_str : is_str (at (u.heap v) a).kind ≡ false) where
     same-here : at (u.heap m) a ≡ at (u.heap v) a
     same-here = looked-record L looked refl
 
-    pub pick-leads : {x : X} {p : Rec} (o : Option Value) → u.does (Read a) n p x → has_changed (at (u.heap m) a).kind (at (u.heap m) a).values count ≡ false → o ≡ pick (at (u.heap n) a).kind (at (u.heap n) a).values place
+    pub pick-leads : {x : X} {p : Rec} (o : Option Value) → u.does (Read a) n p x →
+        has_changed (at (u.heap m) a).kind (at (u.heap m) a).values count ≡ false →
+        o ≡ pick (at (u.heap n) a).kind (at (u.heap n) a).values place
         → Leads u (Do (Read a) (next_over {S = S} it place count)) v (go_or_end it place o) x
     pick-leads {x = x} {p = p} o g unchanged e =
         let same2 = again L a v m n (at (u.heap v) a) q looked second in
         let same = again L a m n x q p second g ∙ same2 in
         let unchanged1 = ap (λ r. has_changed r.kind r.values count) (sym same-here) ∙ unchanged in
-        let l = leads-looked L looked same (next_over it place count) (λ r. go_or_end it place (pick r.kind r.values place)) safe live (cond-false _ _ _ not_str ∙ cond-false _ _ _ unchanged1) in
+        let l = leads-looked L looked same (next_over it place count)
+        (λ r. go_or_end it place (pick r.kind r.values place)) safe live
+        (cond-false _ _ _ not_str ∙ cond-false _ _ _ unchanged1) in
         let here = looked-record L looked same ∙ sym (looked-record L looked same2) in
-        subst (λ o. Leads u (Do (Read a) (next_over {S = S} it place count)) v (go_or_end it place o) x) (ap (λ r. pick r.kind r.values place) here ∙ sym e) l
+        subst (λ o. Leads u (Do (Read a) (next_over {S = S} it place count)) v (go_or_end it place o) x)
+        (ap (λ r. pick r.kind r.values place) here ∙ sym e) l
 
 -- what is left once a string of one byte was made
-pub made-leads : {S X : Type 0} {u : Sense S X} (L : Lawful u) (it place : ℕ) {byte : ℕ} {v m : X} (o : Option ℕ) (made : Rec) (b : ℕ) → o ≡ Some byte → made ≡ new_rec Str [] (byte ∷ [])
-    → Safe {S = S} u.partial (byte_or_end it place o) (u.heap v) → IsLive u v → u.does (Make made) v b m → Leads u (byte_or_end {S = S} it place o) v (go_or_end it place (Some (Ref (record { 0 = b })))) m
+pub made-leads : {S X : Type 0} {u : Sense S X} (L : Lawful u) (it place : ℕ) {byte : ℕ} {v m : X} (o : Option ℕ)
+    (made : Rec) (b : ℕ) → o ≡ Some byte → made ≡ new_rec Str [] (byte ∷ [])
+    → Safe {S = S} u.partial (byte_or_end it place o) (u.heap v) → IsLive u v → u.does (Make made) v b m →
+    Leads u (byte_or_end {S = S} it place o) v (go_or_end it place (Some (Ref (record { 0 = b })))) m
 unfolding byte_or_end
 made-leads {S = S} {u = u} L it place {byte = byte} {v = v} {m = m} o made b e f s live d =
     let first = leads-begin u (byte_or_end {S = S} it place o) v s live in
@@ -58,8 +73,11 @@ made-leads {S = S} {u = u} L it place {byte = byte} {v = v} {m = m} o made b e f
     leads-do L b first1 (subst (λ r. u.does (Make r) v b m) f d)
 
 -- what is left of an iterator's step once its parts are known
-pub parts-leads : {S X : Type 0} {u : Sense S X} (L : Lawful u) {it : ℕ} {v m : X} (o : Option Parts) → u.does (Read it) v (at (u.heap v) it) m → o ≡ parts_of (at (u.heap v) it).values
+pub parts-leads : {S X : Type 0} {u : Sense S X} (L : Lawful u) {it : ℕ} {v m : X} (o : Option Parts) →
+    u.does (Read it) v (at (u.heap v) it) m → o ≡ parts_of (at (u.heap v) it).values
     → Safe {S = S} u.partial (next_row it) (u.heap v) → IsLive u v → Leads u (next_row {S = S} it) v (next_with it o) m
 parts-leads {S = S} {u = u} L {it = it} {v = v} {m = m} o d e s live =
-    let l = leads-looked L d refl (λ q. next_with it (parts_of q.values)) (λ q. next_with it (parts_of q.values)) s live refl in
-    subst (λ p. Leads u (next_row {S = S} it) v (next_with it p) m) (ap (λ q. parts_of q.values) (looked-record L d refl) ∙ sym e) l
+    let l = leads-looked L d refl (λ q. next_with it (parts_of q.values)) (λ q. next_with it (parts_of q.values)) s
+    live refl in
+    subst (λ p. Leads u (next_row {S = S} it) v (next_with it p) m)
+    (ap (λ q. parts_of q.values) (looked-record L d refl) ∙ sym e) l

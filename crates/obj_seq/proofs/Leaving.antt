@@ -34,11 +34,22 @@ changed a f r h h1 e d = record {
 abbrev IsElse : Rec → Rec → Type 0
 IsElse r q = q ≡ record r { values = q.values; room = q.room }
 
-leaves-after : (a : ℕ) (r q : Rec) (values : List Value) (h h1 h2 : Heap) → Changed a q h h1 → IsElse r q → Leaves a q values h1 h2 → Leaves a r values h h2
-leaves-after a r q values h h1 h2 c k l = record { now = l.now; is = l.is; same = l.same ∙ ap {A = Rec} {B = Rec} (λ z. record z { values = values; room = l.now.room }) k; others = λ b n. l.others b n ∙ c.others b n }
+leaves-after : (a : ℕ) (r q : Rec) (values : List Value) (h h1 h2 : Heap) → Changed a q h h1 → IsElse r q →
+    Leaves a q values h1 h2 → Leaves a r values h h2
+leaves-after a r q values h h1 h2 c k l =
+    record {
+      now = l.now;
+      is = l.is;
+      same = l.same ∙
+          ap {A = Rec} {B = Rec} (λ z. record z { values = values; room = l.now.room }) k;
+      others = λ b n. l.others b n ∙
+          c.others b n;
+    }
 
-leaves-now : (a : ℕ) (r q : Rec) (values : List Value) (h h1 : Heap) → Changed a q h h1 → IsElse r q → q.values ≡ values → Leaves a r values h h1
-leaves-now a r q values h h1 c k e = record { now = q; is = c.is; same = k ∙ ap {B = Rec} (λ vs. record r { values = vs; room = q.room }) e; others = c.others }
+leaves-now : (a : ℕ) (r q : Rec) (values : List Value) (h h1 : Heap) → Changed a q h h1 → IsElse r q →
+    q.values ≡ values → Leaves a r values h h1
+leaves-now a r q values h h1 c k e = record
+    { now = q; is = c.is; same = k ∙ ap {B = Rec} (λ vs. record r { values = vs; room = q.room }) e; others = c.others }
 
 -- the values before the next place, once this one was set
 front : (xs ys : List Value) (k : ℕ) (x : Value) → k < length xs → take (k + 1) (set xs k x) ++ ys ≡ take k xs ++ x ∷ ys
@@ -53,65 +64,93 @@ behind xs ys k x y e = drop-set-lt (k + 1 + 1) xs k x (omega arith) ∙ sym (dro
 
 pub place-within : (i : ℤ) (n k : ℕ) → place i n ≡ Some k → k < n
 place-within (pos m) n k e = elim (cases_lt m n) [ inl l ↦ grind (arith, nat_tests) | inr l ↦ grind (arith, nat_tests) ]
-place-within (negsuc m) n k e = elim (cases_lt m n) [ inl l ↦ grind (arith, nat_tests) | inr l ↦ grind (arith, nat_tests) ]
+place-within (negsuc m) n k e = elim (cases_lt m n) [
+  | inl l ↦ grind (arith, nat_tests)
+  | inr l ↦
+      grind (arith, nat_tests)
+]
 
 pub bound-within : (i : ℤ) (n : ℕ) → bound i n ≤ n
 bound-within (pos m) n = omega arith
 bound-within (negsuc m) n = omega arith
 
 module _ {S X : Type 0} {u : Sense S X} (L : Lawful u) (a : ℕ) where
-  gap-leaves : (k : ℕ) (xs : List Value) (r : Rec) (v w : X) → u.heap v a ≡ Some r → drop (k + 1) r.values ≡ xs → k < length r.values → Run u (gap_row {S = S} a k xs) v tt w → Leaves a r (take k r.values ++ xs) (u.heap v) (u.heap w)
+  gap-leaves : (k : ℕ) (xs : List Value) (r : Rec) (v w : X) → u.heap v a ≡ Some r → drop (k + 1) r.values ≡ xs →
+      k < length r.values → Run u (gap_row {S = S} a k xs) v tt w →
+      Leaves a r (take k r.values ++ xs) (u.heap v) (u.heap w)
   unfolding gap_row Run
   gap-leaves k [] r v w e f h d =
       let c = changed a (cut_to k) r (u.heap v) (u.heap d.1) e (L.effect (Edit a (change.Cut k)) v tt d.1 d.2) in
-      let l = leaves-now a r (cut_to k r) (take k r.values ++ []) (u.heap v) (u.heap d.1) c refl (sym (append-nil (take k r.values))) in
+      let l = leaves-now a r (cut_to k r) (take k r.values ++ []) (u.heap v) (u.heap d.1) c refl
+      (sym (append-nil (take k r.values))) in
       subst (λ z. Leaves a r (take k r.values ++ []) (u.heap v) (u.heap z)) (sym d.3.1) l
   gap-leaves k (x ∷ xs) r v w e f h d =
-      let c = changed a (with_value k x) r (u.heap v) (u.heap d.1) e (L.effect (Edit a (change.Set k x)) v tt d.1 d.2) in
-      let more : k + 1 < length (set r.values k x) = omega (arith, some-behind r.values xs (k + 1) x f, length-set r.values k x) in
+      let c = changed a (with_value k x) r (u.heap v) (u.heap d.1) e (L.effect (Edit a (change.Set k x)) v tt d.1 d.2)
+      in
+      let more : k + 1 < length (set r.values k x) =
+      omega (arith, some-behind r.values xs (k + 1) x f, length-set r.values k x) in
       let l = gap-leaves (k + 1) xs (with_value k x r) d.1 w c.is (behind r.values xs k x x f) more d.3 in
-      let l1 = leaves-after a r (with_value k x r) (take (k + 1) (set r.values k x) ++ xs) (u.heap v) (u.heap d.1) (u.heap w) c refl l in
+      let l1 = leaves-after a r (with_value k x r) (take (k + 1) (set r.values k x) ++ xs) (u.heap v) (u.heap d.1)
+      (u.heap w) c refl l in
       subst (λ vs. Leaves a r vs (u.heap v) (u.heap w)) (front r.values xs k x h) l1
 
-  shift-leaves : (k : ℕ) (x : Value) (ys : List Value) (r : Rec) (v w : X) → u.heap v a ≡ Some r → drop k r.values ≡ ys → k ≤ length r.values → Run u (shift_row {S = S} a k x ys) v tt w → Leaves a r (take k r.values ++ x ∷ ys) (u.heap v) (u.heap w)
+  shift-leaves : (k : ℕ) (x : Value) (ys : List Value) (r : Rec) (v w : X) → u.heap v a ≡ Some r → drop k r.values ≡ ys
+      → k ≤ length r.values → Run u (shift_row {S = S} a k x ys) v tt w →
+      Leaves a r (take k r.values ++ x ∷ ys) (u.heap v) (u.heap w)
   unfolding shift_row Run
   shift-leaves k x [] r v w e f h d =
       let c = changed a (with_push x) r (u.heap v) (u.heap d.1) e (L.effect (Edit a (change.Push x)) v tt d.1 d.2) in
       let all : take k r.values ≡ r.values = take_all k r.values (omega (arith, length-drop k r.values, ap length f)) in
-      let l = leaves-now a r (with_push x r) (take k r.values ++ x ∷ []) (u.heap v) (u.heap d.1) c refl (ap (λ vs. vs ++ x ∷ []) (sym all)) in
+      let l = leaves-now a r (with_push x r) (take k r.values ++ x ∷ []) (u.heap v) (u.heap d.1) c refl
+      (ap (λ vs. vs ++ x ∷ []) (sym all)) in
       subst (λ z. Leaves a r (take k r.values ++ x ∷ []) (u.heap v) (u.heap z)) (sym d.3.1) l
   shift-leaves k x (y ∷ ys) r v w e f h d =
-      let c = changed a (with_value k x) r (u.heap v) (u.heap d.1) e (L.effect (Edit a (change.Set k x)) v tt d.1 d.2) in
+      let c = changed a (with_value k x) r (u.heap v) (u.heap d.1) e (L.effect (Edit a (change.Set k x)) v tt d.1 d.2)
+      in
       let less = some-behind r.values ys k y f in
-      let rest : drop (k + 1) (set r.values k x) ≡ ys = drop-set-lt (k + 1) r.values k x (omega arith) ∙ sym (drop-drop 1 k r.values) ∙ ap (drop 1) f in
+      let rest : drop (k + 1) (set r.values k x) ≡ ys = drop-set-lt (k + 1) r.values k x (omega arith) ∙
+      sym (drop-drop 1 k r.values) ∙ ap (drop 1) f in
       let more : k + 1 ≤ length (set r.values k x) = omega (arith, less, length-set r.values k x) in
       let l = shift-leaves (k + 1) y ys (with_value k x r) d.1 w c.is rest more d.3 in
-      let l1 = leaves-after a r (with_value k x r) (take (k + 1) (set r.values k x) ++ y ∷ ys) (u.heap v) (u.heap d.1) (u.heap w) c refl l in
+      let l1 = leaves-after a r (with_value k x r) (take (k + 1) (set r.values k x) ++ y ∷ ys) (u.heap v) (u.heap d.1)
+      (u.heap w) c refl l in
       subst (λ vs. Leaves a r vs (u.heap v) (u.heap w)) (front r.values (y ∷ ys) k x less) l1
 
-  put-leaves : (k : ℕ) (xs : List Value) (r : Rec) (v w : X) → u.heap v a ≡ Some r → k + length xs ≡ length r.values → Run u (put_row {S = S} a k xs) v tt w → Leaves a r (take k r.values ++ xs) (u.heap v) (u.heap w)
+  put-leaves : (k : ℕ) (xs : List Value) (r : Rec) (v w : X) → u.heap v a ≡ Some r → k + length xs ≡ length r.values →
+      Run u (put_row {S = S} a k xs) v tt w → Leaves a r (take k r.values ++ xs) (u.heap v) (u.heap w)
   unfolding put_row Run
   put-leaves k [] r v w e f d =
-      let all : r.values ≡ take k r.values ++ [] = sym (append-nil (take k r.values) ∙ take_all k r.values (omega arith)) in
+      let all : r.values ≡ take k r.values ++ [] =
+      sym (append-nil (take k r.values) ∙ take_all k r.values (omega arith)) in
       let same : u.heap w ≡ u.heap v = ap u.heap d.1 in
-      record { now = r; is = ap (λ h. h a) same ∙ e; same = ap {B = Rec} (λ vs. record r { values = vs }) all; others = λ b n. ap (λ h. h b) same }
+      record {
+        now = r;
+        is = ap (λ h. h a) same ∙ e;
+        same = ap {B = Rec} (λ vs. record r { values = vs }) all;
+        others =
+            λ b n. ap (λ h. h b) same;
+      }
   put-leaves k (x ∷ xs) r v w e f d =
-      let c = changed a (with_value k x) r (u.heap v) (u.heap d.1) e (L.effect (Edit a (change.Set k x)) v tt d.1 d.2) in
+      let c = changed a (with_value k x) r (u.heap v) (u.heap d.1) e (L.effect (Edit a (change.Set k x)) v tt d.1 d.2)
+      in
       let less : k < length r.values = omega arith in
       let more : k + 1 + length xs ≡ length (set r.values k x) = omega (arith, length-set r.values k x) in
       let l = put-leaves (k + 1) xs (with_value k x r) d.1 w c.is more d.3 in
-      let l1 = leaves-after a r (with_value k x r) (take (k + 1) (set r.values k x) ++ xs) (u.heap v) (u.heap d.1) (u.heap w) c refl l in
+      let l1 = leaves-after a r (with_value k x r) (take (k + 1) (set r.values k x) ++ xs) (u.heap v) (u.heap d.1)
+      (u.heap w) c refl l in
       subst (λ vs. Leaves a r vs (u.heap v) (u.heap w)) (front r.values xs k x less) l1
 
   -- a row looks at the record that is there, and goes on
-  pub looked : {A : Type 0} (f : Rec → Row S A) (r : Rec) (v w : X) (res : A) → u.heap v a ≡ Some r → Run u (Do (Read a) f) v res w → (m : X) × (u.heap m ≡ u.heap v) × Run u (f r) m res w
+  pub looked : {A : Type 0} (f : Rec → Row S A) (r : Rec) (v w : X) (res : A) → u.heap v a ≡ Some r →
+      Run u (Do (Read a) f) v res w → (m : X) × (u.heap m ≡ u.heap v) × Run u (f r) m res w
   unfolding Run
   looked f r v w res e d =
       let g = L.effect (Read a) v d.0 d.1 d.2 in
       (d.1, g.1, subst (λ q. Run u (f q) d.1 res w) (one_rec (u.heap v a) r d.0 e g.0) d.3)
 
   -- where it then answers, all records are as they were
-  pub says : {A : Type 0} (f : Rec → Row S A) (r : Rec) (y res : A) (v w : X) → u.heap v a ≡ Some r → f r ≡ Ret y → Run u (Do (Read a) f) v res w → Says u y res v w
+  pub says : {A : Type 0} (f : Rec → Row S A) (r : Rec) (y res : A) (v w : X) → u.heap v a ≡ Some r → f r ≡ Ret y →
+      Run u (Do (Read a) f) v res w → Says u y res v w
   unfolding Run
   says f r y res v w e g d =
       let l = looked f r v w res e d in
@@ -119,34 +158,41 @@ module _ {S X : Type 0} {u : Sense S X} (L : Lawful u) (a : ℕ) where
       (s.0, ap u.heap s.1 ∙ l.1)
 
   -- where it goes on with changes, they are changes of that record
-  leads : {A : Type 0} (f : Rec → Row S A) (r : Rec) (row : Row S A) (y res : A) (items : List Value) (v w : X) → u.heap v a ≡ Some r → f r ≡ row
-      → ((m : X) → u.heap m a ≡ Some r → Run u row m res w → (res ≡ y) × Leaves a r items (u.heap m) (u.heap w)) → Run u (Do (Read a) f) v res w → (res ≡ y) × Leaves a r items (u.heap v) (u.heap w)
+  leads : {A : Type 0} (f : Rec → Row S A) (r : Rec) (row : Row S A) (y res : A) (items : List Value) (v w : X) →
+      u.heap v a ≡ Some r → f r ≡ row
+      → ((m : X) → u.heap m a ≡ Some r → Run u row m res w → (res ≡ y) × Leaves a r items (u.heap m) (u.heap w)) →
+      Run u (Do (Read a) f) v res w → (res ≡ y) × Leaves a r items (u.heap v) (u.heap w)
   leads f r row y res items v w e g n d =
       let l = looked f r v w res e d in
       let x = n l.0 (ap (λ h. h a) l.1 ∙ e) (subst (λ z. Run u z l.0 res w) g l.2) in
       (x.0, subst (λ h. Leaves a r items h (u.heap w)) l.1 x.1)
 
   -- changes, and an answer
-  then-leaves : {A : Type 0} (row : Row S (Unit {0})) (r : Rec) (items : List Value) (y res : A) (m w : X) → ((z : X) → Run u row m tt z → Leaves a r items (u.heap m) (u.heap z)) → Run u (bind row (λ _. Ret y)) m res w
+  then-leaves : {A : Type 0} (row : Row S (Unit {0})) (r : Rec) (items : List Value) (y res : A) (m w : X) →
+      ((z : X) → Run u row m tt z → Leaves a r items (u.heap m) (u.heap z)) → Run u (bind row (λ _. Ret y)) m res w
       → (res ≡ y) × Leaves a r items (u.heap m) (u.heap w)
   unfolding Run
   then-leaves row r items y res m w n d =
       let b = bind-run u row (λ _. Ret y) m res w d in
       (b.3.0, subst (λ z. Leaves a r items (u.heap m) (u.heap z)) (sym b.3.1) (n b.1 b.2))
 
-  set-leaves : (k : ℕ) (x : Value) (r : Rec) (m w : X) (res : Got (Unit {0})) → u.heap m a ≡ Some r → Run u (Do (Edit a (change.Set k x)) (λ _. Ret (Is tt))) m res w
+  set-leaves : (k : ℕ) (x : Value) (r : Rec) (m w : X) (res : Got (Unit {0})) → u.heap m a ≡ Some r →
+      Run u (Do (Edit a (change.Set k x)) (λ _. Ret (Is tt))) m res w
       → (res ≡ Is tt) × Leaves a r (set r.values k x) (u.heap m) (u.heap w)
   unfolding Run
   set-leaves k x r m w res e d =
-      let c = changed a (with_value k x) r (u.heap m) (u.heap d.1) e (L.effect (Edit a (change.Set k x)) m tt d.1 d.2) in
+      let c = changed a (with_value k x) r (u.heap m) (u.heap d.1) e (L.effect (Edit a (change.Set k x)) m tt d.1 d.2)
+      in
       let l = leaves-now a r (with_value k x r) (set r.values k x) (u.heap m) (u.heap d.1) c refl refl in
       (d.3.0, subst (λ z. Leaves a r (set r.values k x) (u.heap m) (u.heap z)) (sym d.3.1) l)
 
   -- the gap of an item that was taken out is closed
-  closed-leaves : {A : Type 0} (k : ℕ) (r : Rec) (y res : A) (m w : X) → k < length r.values → u.heap m a ≡ Some r → Run u (bind (gap_row {S = S} a k (drop (k + 1) r.values)) (λ _. Ret y)) m res w
+  closed-leaves : {A : Type 0} (k : ℕ) (r : Rec) (y res : A) (m w : X) → k < length r.values → u.heap m a ≡ Some r →
+      Run u (bind (gap_row {S = S} a k (drop (k + 1) r.values)) (λ _. Ret y)) m res w
       → (res ≡ y) × Leaves a r (take k r.values ++ drop (k + 1) r.values) (u.heap m) (u.heap w)
   closed-leaves k r y res m w l e d =
-      then-leaves (gap_row a k (drop (k + 1) r.values)) r (take k r.values ++ drop (k + 1) r.values) y res m w (λ z s. gap-leaves k (drop (k + 1) r.values) r m z e refl l s) d
+      then-leaves (gap_row a k (drop (k + 1) r.values)) r (take k r.values ++ drop (k + 1) r.values) y res m w
+      (λ z s. gap-leaves k (drop (k + 1) r.values) r m z e refl l s) d
 
 -- ---- which row it is
 some-place : {A : Type 0} (o : Option ℕ) (k : ℕ) (f : ℕ → A) (z : A) → o ≡ Some k → if_place o f z ≡ f k
@@ -163,43 +209,54 @@ not-empty n l = ne_eqb n 0 (λ e. absurd (omega (arith, l, e)))
 
 module _ {S X : Type 0} {u : Sense S X} (L : Lawful u) where
   pub item-law : ItemLaw u
-  item-law a i r k v w res e f d = says L a (item_at i) r (Is (value_at r.values k)) res v w e (some-place (place i (length r.values)) k _ _ f) d
+  item-law a i r k v w res e f d = says L a (item_at i) r (Is (value_at r.values k)) res v w e
+      (some-place (place i (length r.values)) k _ _ f) d
 
   pub set-law : SetLaw u
   set-law a i x r k v w res e f d =
-      leads L a (set_item_at a i x) r (Do (Edit a (change.Set k x)) (λ _. Ret (Is tt))) (Is tt) res (set r.values k x) v w e (some-place (place i (length r.values)) k _ _ f) (λ m g s. set-leaves L a k x r m w res g s) d
+      leads L a (set_item_at a i x) r (Do (Edit a (change.Set k x)) (λ _. Ret (Is tt))) (Is tt) res (set r.values k x)
+      v w e (some-place (place i (length r.values)) k _ _ f) (λ m g s. set-leaves L a k x r m w res g s) d
 
   pub pop-law : PopLaw u
   pop-law a i r k v w res e f d =
       let l = place-within i (length r.values) k f in
-      leads L a (pop_at a i) r (bind (gap_row a k (drop (k + 1) r.values)) (λ _. Ret (Is (value_at r.values k)))) (Is (value_at r.values k)) res (take k r.values ++ drop (k + 1) r.values) v w e
-      (cond-false (length r.values == 0) _ _ (not-empty (length r.values) (omega (arith, l))) ∙ some-place (place i (length r.values)) k _ _ f)
+      leads L a (pop_at a i) r (bind (gap_row a k (drop (k + 1) r.values)) (λ _. Ret (Is (value_at r.values k))))
+      (Is (value_at r.values k)) res (take k r.values ++ drop (k + 1) r.values) v w e
+      (cond-false (length r.values == 0) _ _ (not-empty (length r.values) (omega (arith, l))) ∙
+      some-place (place i (length r.values)) k _ _ f)
       (λ m g s. closed-leaves L a k r (Is (value_at r.values k)) res m w l g s) d
 
   pub del-law : DelLaw u
   del-law a i r k v w res e f d =
-      leads L a (del_item_at a i) r (bind (gap_row a k (drop (k + 1) r.values)) (λ _. Ret (Is tt))) (Is tt) res (take k r.values ++ drop (k + 1) r.values) v w e
-      (some-place (place i (length r.values)) k _ _ f) (λ m g s. closed-leaves L a k r (Is tt) res m w (place-within i (length r.values) k f) g s) d
+      leads L a (del_item_at a i) r (bind (gap_row a k (drop (k + 1) r.values)) (λ _. Ret (Is tt))) (Is tt) res
+      (take k r.values ++ drop (k + 1) r.values) v w e
+      (some-place (place i (length r.values)) k _ _ f)
+      (λ m g s. closed-leaves L a k r (Is tt) res m w (place-within i (length r.values) k f) g s) d
 
   pub insert-law : InsertLaw u
   insert-law a i x r v w res e f d =
       let k = bound i (length r.values) in
       let items = take k r.values ++ x ∷ drop k r.values in
-      leads L a (insert_at a i x) r (bind (shift_row a k x (drop k r.values)) (λ _. Ret (Is tt))) (Is tt) res items v w e
+      leads L a (insert_at a i x) r (bind (shift_row a k x (drop k r.values)) (λ _. Ret (Is tt))) (Is tt) res items v w
+      e
       (cond-true (ltb (length r.values) LENGTH_LIMIT) _ _ (lt-ltb (length r.values) LENGTH_LIMIT f))
-      (λ m g s. then-leaves L a (shift_row a k x (drop k r.values)) r items (Is tt) res m w (λ z t. shift-leaves L a k x (drop k r.values) r m z g refl (bound-within i (length r.values)) t) s) d
+      (λ m g s. then-leaves L a (shift_row a k x (drop k r.values)) r items (Is tt) res m w
+      (λ z t. shift-leaves L a k x (drop k r.values) r m z g refl (bound-within i (length r.values)) t) s) d
 
   pub reverse-law : ReverseLaw u
   reverse-law a r v w e d =
       let l = looked L a (λ q. put_row a 0 (reverse q.values)) r v w tt e d in
-      subst (λ h. Leaves a r (reverse r.values) h (u.heap w)) l.1 (put-leaves L a 0 (reverse r.values) r l.0 w (ap (λ h. h a) l.1 ∙ e) (omega (arith, length-reverse r.values)) l.2)
+      subst (λ h. Leaves a r (reverse r.values) h (u.heap w)) l.1
+      (put-leaves L a 0 (reverse r.values) r l.0 w (ap (λ h. h a) l.1 ∙ e) (omega (arith, length-reverse r.values))
+      l.2)
 
   pub slice-law : SliceLaw u
   unfolding Run
   slice-law a from to r v w res e d =
       let l = looked L a (slice_at from to) r v w res e d in
       let m = l.2 in
-      let made = new_rec r.kind (part r.values (bound_or from 0 (length r.values)) (bound_or to (length r.values) (length r.values))) [] in
+      let made = new_rec r.kind (part r.values (bound_or from 0 (length r.values))
+      (bound_or to (length r.values) (length r.values))) [] in
       let f = L.effect (Make made) l.0 m.0 m.1 m.2 in
       let last : u.heap w ≡ put_at (u.heap v) m.0 made = ap u.heap m.3.1 ∙ f.1 ∙ ap (λ h. put_at h m.0 made) l.1 in (
         m.0,
@@ -211,20 +268,27 @@ module _ {S X : Type 0} {u : Sense S X} (L : Lawful u) where
 
   -- ---- what is raised
   pub item-index : IndexLaw u item_row
-  item-index a i r v w res e f d = says L a (item_at i) r (Raise index_fault) res v w e (no-place (place i (length r.values)) _ _ f) d
+  item-index a i r v w res e f d = says L a (item_at i) r (Raise index_fault) res v w e
+      (no-place (place i (length r.values)) _ _ f) d
 
   pub set-index : (x : Value) → IndexLaw u (λ a i. set_item_row a i x)
-  set-index x a i r v w res e f d = says L a (set_item_at a i x) r (Raise index_fault) res v w e (no-place (place i (length r.values)) _ _ f) d
+  set-index x a i r v w res e f d = says L a (set_item_at a i x) r (Raise index_fault) res v w e
+      (no-place (place i (length r.values)) _ _ f) d
 
   pub del-index : IndexLaw u del_item_row
-  del-index a i r v w res e f d = says L a (del_item_at a i) r (Raise index_fault) res v w e (no-place (place i (length r.values)) _ _ f) d
+  del-index a i r v w res e f d = says L a (del_item_at a i) r (Raise index_fault) res v w e
+      (no-place (place i (length r.values)) _ _ f) d
 
   pub pop-index : PopIndexLaw u
   pop-index a i r v w res e l f d =
-      says L a (pop_at a i) r (Raise index_fault) res v w e (cond-false (length r.values == 0) _ _ (not-empty (length r.values) l) ∙ no-place (place i (length r.values)) _ _ f) d
+      says L a (pop_at a i) r (Raise index_fault) res v w e
+      (cond-false (length r.values == 0) _ _ (not-empty (length r.values) l) ∙
+      no-place (place i (length r.values)) _ _ f) d
 
   pub pop-empty : EmptyLaw u
-  pop-empty a i r v w res e f d = says L a (pop_at a i) r (Raise empty_fault) res v w e (cond-true (length r.values == 0) _ _ (ap (λ vs. length vs == 0) f)) d
+  pop-empty a i r v w res e f d = says L a (pop_at a i) r (Raise empty_fault) res v w e
+      (cond-true (length r.values == 0) _ _ (ap (λ vs. length vs == 0) f)) d
 
   pub insert-full : FullLaw u
-  insert-full a i x r v w res e f d = says L a (insert_at a i x) r (Raise memory_fault) res v w e (cond-false (ltb (length r.values) LENGTH_LIMIT) _ _ (le-ltb (length r.values) LENGTH_LIMIT f)) d
+  insert-full a i x r v w res e f d = says L a (insert_at a i x) r (Raise memory_fault) res v w e
+      (cond-false (ltb (length r.values) LENGTH_LIMIT) _ _ (le-ltb (length r.values) LENGTH_LIMIT f)) d

@@ -21,26 +21,32 @@ at-none o f z e = ap (λ o. if_place o f z) e
 pub ruleset place_steps = (at-place, at-none)
 
 -- the place that the code found
-pub place-found : (i : ℤ) (n m k : ℕ) (o : Option ℕ) → FitsSigned w64 i → n ≡ m → o ≡ place (to_z w64 (of_z w64 i)) n → o ≡ Some k → place i m ≡ Some k
+pub place-found : (i : ℤ) (n m k : ℕ) (o : Option ℕ) → FitsSigned w64 i → n ≡ m → o ≡ place (to_z w64 (of_z w64 i)) n →
+    o ≡ Some k → place i m ≡ Some k
 place-found i n m k o fits e f g = sym (ap (λ z. place z n) (to_z-of_z w64 i fits) ∙ ap (place i) e) ∙ sym f ∙ g
 
 -- where the code found a bound
 pub bound-found : (i : ℤ) (n m k : ℕ) → FitsSigned w64 i → n ≡ m → k ≡ bound (to_z w64 (of_z w64 i)) n → bound i m ≡ k
 bound-found i n m k fits e f = sym (f ∙ ap (λ z. bound z n) (to_z-of_z w64 i fits) ∙ ap (bound i) e)
 
-pub insert-is : {S : Type 0} (a : ℕ) (i : ℤ) (x : Value) (r : Rec) (k : ℕ) → length r.values < LENGTH_LIMIT → bound i (length r.values) ≡ k
+pub insert-is : {S : Type 0} (a : ℕ) (i : ℤ) (x : Value) (r : Rec) (k : ℕ) → length r.values < LENGTH_LIMIT →
+    bound i (length r.values) ≡ k
     → insert_at {S = S} a i x r ≡ bind (shift_row a k x (drop k r.values)) (λ _. Ret (Is tt))
 insert-is a i x r k less e =
-    cond-true _ _ _ (lt-ltb (length r.values) LENGTH_LIMIT less) ∙ ap (λ k. bind (shift_row a k x (drop k r.values)) (λ _. Ret (Is tt))) e
+    cond-true _ _ _ (lt-ltb (length r.values) LENGTH_LIMIT less) ∙
+    ap (λ k. bind (shift_row a k x (drop k r.values)) (λ _. Ret (Is tt))) e
 
-pub pop-is : {S : Type 0} (a : ℕ) (i : ℤ) (r : Rec) (n k : ℕ) → n ≢ 0 → n ≡ length r.values → place i (length r.values) ≡ Some k
+pub pop-is : {S : Type 0} (a : ℕ) (i : ℤ) (r : Rec) (n k : ℕ) → n ≢ 0 → n ≡ length r.values →
+    place i (length r.values) ≡ Some k
     → pop_at {S = S} a i r ≡ bind (gap_row a k (drop (k + 1) r.values)) (λ _. Ret (Is (value_at r.values k)))
 pop-is a i r n k some e f = cond-false _ _ _ (ne_eqb (length r.values) 0 (λ z. some (e ∙ z))) ∙ at-place _ _ _ _ f
 
 -- the record that the code makes of a part of one that it looked at
-pub slice-is : (r : Rec) (kind : Kind) (values : List Value) (bytes : List ℕ) (from to : Option ℤ) (n i j : ℕ) → kind ≡ r.kind → n ≡ length r.values
+pub slice-is : (r : Rec) (kind : Kind) (values : List Value) (bytes : List ℕ) (from to : Option ℤ) (n i j : ℕ) →
+    kind ≡ r.kind → n ≡ length r.values
     → i ≡ bound_or from 0 n → j ≡ bound_or to n n → values ≡ part r.values i j → bytes ≡ []
-    → new_rec kind values bytes ≡ new_rec r.kind (part r.values (bound_or from 0 (length r.values)) (bound_or to (length r.values) (length r.values))) []
+    → new_rec kind values bytes ≡ new_rec r.kind
+    (part r.values (bound_or from 0 (length r.values)) (bound_or to (length r.values) (length r.values))) []
 slice-is r kind values bytes from to n i j e f g h l m =
     let i1 : i ≡ bound_or from 0 (length r.values) = g ∙ ap (bound_or from 0) f in
     let j1 : j ≡ bound_or to (length r.values) (length r.values) = h ∙ ap (λ n. bound_or to n n) f in

@@ -34,11 +34,17 @@ between low (pos n) high f g l h = below-top n high g h
 between low (negsuc n) high f g l h = above-bottom n low f l
 
 up-fits : (a b : ℤ) (m : ℕ) → FitsSigned w64 a → FitsSigned w64 b → IsOnWay (b -ℤ a) m → FitsSigned w64 (a +ℤ pos m)
-up-fits a b m f g h = let e = h.is in let l = h.short in between a (a +ℤ pos m) b f g (omega (arith, ints)) (omega (arith, ints))
+up-fits a b m f g h = let e = h.is in let l = h.short in
+    between a (a +ℤ pos m) b f g (omega (arith, ints)) (omega (arith, ints))
 
-down-fits : (a b : ℤ) (m : ℕ) → FitsSigned w64 a → FitsSigned w64 b → IsOnWay (a -ℤ b) m → FitsSigned w64 (a +ℤ neg_ℤ (pos m))
-down-fits a b m f g h = let e = h.is in let l = h.short in between b (a +ℤ neg_ℤ (pos m)) a g f (omega (arith, ints)) (omega (arith, ints))
+down-fits : (a b : ℤ) (m : ℕ) → FitsSigned w64 a → FitsSigned w64 b → IsOnWay (a -ℤ b) m →
+    FitsSigned w64 (a +ℤ neg_ℤ (pos m))
+down-fits a b m f g h = let e = h.is in let l = h.short in between b (a +ℤ neg_ℤ (pos m)) a g f (omega (arith, ints))
+    (omega (arith, ints))
 
-pub item-fits : (start stop step : ℤ) (k : ℕ) → FitsSigned w64 start → FitsSigned w64 stop → k < range_length start stop step → FitsSigned w64 (range_item start step k)
-item-fits start stop (pos s) k f g h = subst (λ z. FitsSigned w64 (start +ℤ z)) (sym (pos-*ℤ-pos k s)) (up-fits start stop (k * s) f g (on-way (stop -ℤ start) s k h))
-item-fits start stop (negsuc s) k f g h = subst (λ z. FitsSigned w64 (start +ℤ z)) (sym (pos-*ℤ-negsuc k s)) (down-fits start stop (k * suc s) f g (on-way (start -ℤ stop) (suc s) k h))
+pub item-fits : (start stop step : ℤ) (k : ℕ) → FitsSigned w64 start → FitsSigned w64 stop →
+    k < range_length start stop step → FitsSigned w64 (range_item start step k)
+item-fits start stop (pos s) k f g h = subst (λ z. FitsSigned w64 (start +ℤ z)) (sym (pos-*ℤ-pos k s))
+    (up-fits start stop (k * s) f g (on-way (stop -ℤ start) s k h))
+item-fits start stop (negsuc s) k f g h = subst (λ z. FitsSigned w64 (start +ℤ z)) (sym (pos-*ℤ-negsuc k s))
+    (down-fits start stop (k * suc s) f g (on-way (start -ℤ stop) (suc s) k h))

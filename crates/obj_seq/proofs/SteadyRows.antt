@@ -23,12 +23,14 @@ use Rattle.obj_seq.specs.Gather.{letters_row, numbers, numbers_row, taken, take_
 use Rattle.obj_seq.specs.HoldsLaws.{SeqSteady}
 
 module _ (S : Type 0) where
-  placed_steady : {A : Type 0} (o : Option ℕ) (f : ℕ → Row S A) (z : A) → ((k : ℕ) → Steady false (f k)) → Steady false (if_place o f (Ret z))
+  placed_steady : {A : Type 0} (o : Option ℕ) (f : ℕ → Row S A) (z : A) → ((k : ℕ) → Steady false (f k)) →
+      Steady false (if_place o f (Ret z))
   unfolding if_place Steady
   placed_steady (Some k) f z s = s k
   placed_steady None f z s = tt
 
-  cond_steady : {A : Type 0} (grown b : Bool) (p q : Row S A) → Steady grown p → Steady grown q → Steady grown (cond b p q)
+  cond_steady : {A : Type 0} (grown b : Bool) (p q : Row S A) → Steady grown p → Steady grown q →
+      Steady grown (cond b p q)
   cond_steady grown true p q s t = s
   cond_steady grown false p q s t = t
 
@@ -36,16 +38,23 @@ module _ (S : Type 0) where
   unfolding Steady
   ret_steady grown x = tt
 
-  read_steady : {A : Type 0} (a : ℕ) (k : Rec → Row S A) → ((r : Rec) → Steady false (k r)) → Steady false (Do (Read a) k)
+  read_steady : {A : Type 0} (a : ℕ) (k : Rec → Row S A) → ((r : Rec) → Steady false (k r)) →
+      Steady false (Do (Read a) k)
   unfolding Steady
   read_steady a k s = ((refl, tt), s)
 
-  then_steady : {A B : Type 0} (grown : Bool) (row : Row S A) (y : B) → Steady grown row → Steady grown (bind row (λ u. Ret y))
+  then_steady : {A B : Type 0} (grown : Bool) (row : Row S A) (y : B) → Steady grown row →
+      Steady grown (bind row (λ u. Ret y))
   unfolding Steady bind
   then_steady grown (Ret x) y s = tt
-  then_steady grown (Do c k) y s = ((s.0.0, asks_bind c k (λ u. Ret y) s.0.1), λ r. then_steady (grown || grows c) (k r) y (s.1 r))
+  then_steady grown (Do c k) y s = (
+    (s.0.0, asks_bind c k (λ u. Ret y) s.0.1),
+    λ r.
+        then_steady (grown || grows c) (k r) y (s.1 r),
+  )
 
-  set_steady : (a k : ℕ) (x : Value) → Steady {S = S} {A = Got (Unit {0})} false (Do (Edit a (change.Set k x)) (λ u. Ret (Is tt)))
+  set_steady : (a k : ℕ) (x : Value) → Steady {S = S} {A = Got (Unit {0})} false
+      (Do (Edit a (change.Set k x)) (λ u. Ret (Is tt)))
   unfolding Steady
   set_steady a k x = ((refl, tt), λ u. tt)
 
@@ -69,9 +78,12 @@ module _ (S : Type 0) where
   shift_steady a k x [] = ((refl, tt), λ u. tt)
   shift_steady a k x (y ∷ ys) = ((refl, tt), λ u. shift_steady a (k + 1) y ys)
 
-  taken_steady : {A : Type 0} (a : ℕ) (i : ℤ) (r : Rec) (f : ℕ → Got A) → Steady {S = S} false (if_place (place i (length r.values)) (λ k. bind (gap_row a k (drop (k + 1) r.values)) (λ u. Ret (f k))) (Ret (Raise index_fault)))
+  taken_steady : {A : Type 0} (a : ℕ) (i : ℤ) (r : Rec) (f : ℕ → Got A) →
+      Steady {S = S} false (if_place (place i (length r.values))
+      (λ k. bind (gap_row a k (drop (k + 1) r.values)) (λ u. Ret (f k))) (Ret (Raise index_fault)))
   taken_steady a i r f =
-      placed_steady (place i (length r.values)) (λ k. bind (gap_row a k (drop (k + 1) r.values)) (λ u. Ret (f k))) (Raise index_fault)
+      placed_steady (place i (length r.values)) (λ k. bind (gap_row a k (drop (k + 1) r.values)) (λ u. Ret (f k)))
+      (Raise index_fault)
       (λ k. then_steady false (gap_row a k (drop (k + 1) r.values)) (f k) (gap_steady a k (drop (k + 1) r.values)))
 
   -- ---- iterators
@@ -82,7 +94,9 @@ module _ (S : Type 0) where
 
   value_steady : (x : Value) → Steady {S = S} false (iter_row x)
   value_steady (Ref a) =
-      read_steady a.0 (iter_of a.0) (λ r. cond_steady false (is_iter r.kind) (Ret (Is (Ref (record { 0 = a.0 })))) (make_iter_row a.0 (count_of r.kind r.values r.bytes)) (ret_steady false _) (made_steady a.0 (count_of r.kind r.values r.bytes)))
+      read_steady a.0 (iter_of a.0) (λ r. cond_steady false (is_iter r.kind) (Ret (Is (Ref (record { 0 = a.0 }))))
+      (make_iter_row a.0 (count_of r.kind r.values r.bytes)) (ret_steady false _)
+      (made_steady a.0 (count_of r.kind r.values r.bytes)))
   value_steady Unset = ret_steady false _
   value_steady NoneValue = ret_steady false _
   value_steady (BoolValue b) = ret_steady false _
@@ -94,7 +108,8 @@ module _ (S : Type 0) where
   unfolding Steady
   look_grown a k s = ((refl, tt), s)
 
-  bind_grown : {A B : Type 0} (row : Row S A) (f : A → Row S B) → Steady true row → ((a : A) → Steady true (f a)) → Steady true (bind row f)
+  bind_grown : {A B : Type 0} (row : Row S A) (f : A → Row S B) → Steady true row → ((a : A) → Steady true (f a)) →
+      Steady true (bind row f)
   unfolding Steady bind
   bind_grown (Ret a) f s t = t a
   bind_grown (Do c k) f s t = ((s.0.0, asks_bind c k f s.0.1), λ r. bind_grown (k r) f (s.1 r) t)
@@ -118,9 +133,12 @@ module _ (S : Type 0) where
 
   over_grown : (it at count : ℕ) (r : Rec) → Steady {S = S} true (next_over it at count r)
   over_grown it at count r =
-      cond_steady true (is_str r.kind) (byte_or_end it at (slice_get r.bytes at)) (cond (has_changed r.kind r.values count) (Ret (Raise size_fault)) (go_or_end it at (pick r.kind r.values at)))
+      cond_steady true (is_str r.kind) (byte_or_end it at (slice_get r.bytes at))
+      (cond (has_changed r.kind r.values count) (Ret (Raise size_fault))
+      (go_or_end it at (pick r.kind r.values at)))
       (byte_grown it at (slice_get r.bytes at))
-      (cond_steady true (has_changed r.kind r.values count) (Ret (Raise size_fault)) (go_or_end it at (pick r.kind r.values at)) (ret_steady true _) (go_grown it at (pick r.kind r.values at)))
+      (cond_steady true (has_changed r.kind r.values count) (Ret (Raise size_fault))
+      (go_or_end it at (pick r.kind r.values at)) (ret_steady true _) (go_grown it at (pick r.kind r.values at)))
 
   with_grown : (it : ℕ) (o : Option Parts) → Steady {S = S} true (next_with it o)
   unfolding next_with
@@ -139,9 +157,12 @@ module _ (S : Type 0) where
   unfolding numbers_row
   numbers_grown None = ret_steady true _
   numbers_grown (Some s) =
-      cond_steady true (ltb LENGTH_LIMIT (range_length s.start s.stop s.step)) (Ret (Raise memory_fault)) (Ret (Is (numbers s.start s.step (range_length s.start s.stop s.step)))) (ret_steady true _) (ret_steady true _)
+      cond_steady true (ltb LENGTH_LIMIT (range_length s.start s.stop s.step)) (Ret (Raise memory_fault))
+      (Ret (Is (numbers s.start s.step (range_length s.start s.stop s.step)))) (ret_steady true _)
+      (ret_steady true _)
 
-  on_grown : (row : List Value → Row S (Got (List Value))) → ((xs : List Value) → Steady true (row xs)) → (r : Result (List Value) (Got (List Value))) → Steady {S = S} true (walk_on row r)
+  on_grown : (row : List Value → Row S (Got (List Value))) → ((xs : List Value) → Steady true (row xs)) →
+      (r : Result (List Value) (Got (List Value))) → Steady {S = S} true (walk_on row r)
   on_grown row s (Ok xs) = s xs
   on_grown row s (Err got) = ret_steady true _
 
@@ -149,7 +170,8 @@ module _ (S : Type 0) where
   unfolding walk_row
   left_from it zero xs = ret_steady true _
   left_from it (suc m) xs =
-      bind_grown (take_row it xs) (walk_on (walk_row (take_row it) (Raise memory_fault) m)) (bind_grown (next_row it) (λ g. Ret (taken xs g)) (next_grown it) (λ g. ret_steady true _))
+      bind_grown (take_row it xs) (walk_on (walk_row (take_row it) (Raise memory_fault) m))
+      (bind_grown (next_row it) (λ g. Ret (taken xs g)) (next_grown it) (λ g. ret_steady true _))
       (on_grown (walk_row (take_row it) (Raise memory_fault) m) (left_from it m))
 
   left_grown : (it : ℕ) → Steady {S = S} true (left_row it)
@@ -177,16 +199,28 @@ module _ (S : Type 0) where
   pub gather_steady : (x : Value) → Steady {S = S} false (gather_row x)
   gather_steady x = anyhow false (gather_row x) (gather_grown x)
 
-  shifted_steady : (a k : ℕ) (x : Value) (ys : List Value) (b : Bool) → Steady {S = S} {A = Got (Unit {0})} false (cond b (bind (shift_row a k x ys) (λ u. Ret (Is tt))) (Ret (Raise memory_fault)))
-  shifted_steady a k x ys b = cond_steady false b (bind (shift_row a k x ys) (λ u. Ret (Is tt))) (Ret (Raise memory_fault)) (then_steady false (shift_row a k x ys) (Is tt) (shift_steady a k x ys)) (ret_steady false _)
+  shifted_steady : (a k : ℕ) (x : Value) (ys : List Value) (b : Bool) →
+      Steady {S = S} {A = Got (Unit {0})} false
+      (cond b (bind (shift_row a k x ys) (λ u. Ret (Is tt))) (Ret (Raise memory_fault)))
+  shifted_steady a k x ys b = cond_steady false b (bind (shift_row a k x ys) (λ u. Ret (Is tt)))
+      (Ret (Raise memory_fault)) (then_steady false (shift_row a k x ys) (Is tt) (shift_steady a k x ys))
+      (ret_steady false _)
 
   pub seq_steady : SeqSteady S
   seq_steady = record {
-    item = λ a i. read_steady a (item_at i) (λ r. placed_steady (place i (length r.values)) (λ k. Ret (Is (value_at r.values k))) (Raise index_fault) (λ k. ret_steady false _));
-    set_item = λ a i x. read_steady a (set_item_at a i x) (λ r. placed_steady (place i (length r.values)) (λ k. Do (Edit a (change.Set k x)) (λ u. Ret (Is tt))) (Raise index_fault) (λ k. set_steady a k x));
+    item = λ a i. read_steady a (item_at i)
+        (λ r. placed_steady (place i (length r.values)) (λ k. Ret (Is (value_at r.values k))) (Raise index_fault)
+        (λ k. ret_steady false _));
+    set_item = λ a i x. read_steady a (set_item_at a i x)
+        (λ r. placed_steady (place i (length r.values)) (λ k. Do (Edit a (change.Set k x)) (λ u. Ret (Is tt)))
+        (Raise index_fault) (λ k. set_steady a k x));
     del_item = λ a i. read_steady a (del_item_at a i) (λ r. taken_steady a i r (λ k. Is tt));
-    pop = λ a i. read_steady a (pop_at a i) (λ r. cond_steady false (length r.values == 0) (Ret (Raise empty_fault)) _ (ret_steady false _) (taken_steady a i r (λ k. Is (value_at r.values k))));
-    insert = λ a i x. read_steady a (insert_at a i x) (λ r. shifted_steady a (bound i (length r.values)) x (drop (bound i (length r.values)) r.values) (ltb (length r.values) LENGTH_LIMIT));
+    pop = λ a i. read_steady a (pop_at a i)
+        (λ r. cond_steady false (length r.values == 0) (Ret (Raise empty_fault)) _ (ret_steady false _)
+        (taken_steady a i r (λ k. Is (value_at r.values k))));
+    insert = λ a i x. read_steady a (insert_at a i x)
+        (λ r. shifted_steady a (bound i (length r.values)) x (drop (bound i (length r.values)) r.values)
+        (ltb (length r.values) LENGTH_LIMIT));
     reverse = λ a. read_steady a (λ r. put_row a 0 (reverse r.values)) (λ r. put_steady a 0 (reverse r.values));
     slice = λ a from to. read_steady a (slice_at from to) (λ r. make_steady _);
     make_iter = value_steady;

@@ -34,19 +34,23 @@ module _ {S X : Type 0} {u : Sense S X} {a n : ℕ} {xs : List Value} {m : ℕ} 
   tail-looked L {q = q} h d = stands-again L q h.stands d
 
   -- the value that is found there is the first of what stands behind
-  pub tail-value : Tail u a n xs m w → (y : Value) → m < n → y ≡ value_at (at (u.heap w) a).values m → drop m xs ≡ y ∷ drop (m + 1) xs
+  pub tail-value : Tail u a n xs m w → (y : Value) → m < n → y ≡ value_at (at (u.heap w) a).values m →
+      drop m xs ≡ y ∷ drop (m + 1) xs
   tail-value h y less e =
       let same : (at (u.heap w) a).values ≡ h.now.values = ap (λ r. r.values) (here h) in
-      sym h.items ∙ drop-next h.now.values m (rw h.count less) ∙ rw (e, same) (ap (λ t. value_at h.now.values m ∷ t) (same-tail h.now.values xs m h.items))
+      sym h.items ∙ drop-next h.now.values m (rw h.count less) ∙
+      rw (e, same) (ap (λ t. value_at h.now.values m ∷ t) (same-tail h.now.values xs m h.items))
 
   pub tail-end : Tail u a n xs m w → n ≤ m → drop m xs ≡ []
   tail-end h less = sym h.items ∙ drop_of_length-le h.now.values (rw h.count less)
 
   -- after a change before the next place
-  pub tail-set : (L : Lawful u) {x : X} (j : ℕ) (y : Value) → Tail u a n xs m w → j ≤ m → u.does (Edit a (change.Set j y)) w tt x → Tail u a n xs (m + 1) x
+  pub tail-set : (L : Lawful u) {x : X} (j : ℕ) (y : Value) → Tail u a n xs m w → j ≤ m →
+      u.does (Edit a (change.Set j y)) w tt x → Tail u a n xs (m + 1) x
   tail-set L {x = x} j y h less d = record {
     now = with_value j y (at (u.heap w) a);
     stands = stands-edit L (change.Set j y) d;
-    items = drop-set-lt (m + 1) (at (u.heap w) a).values j y (omega arith) ∙ (ap (λ r. drop (m + 1) r.values) (here h) ∙ same-tail h.now.values xs m h.items);
+    items = drop-set-lt (m + 1) (at (u.heap w) a).values j y (omega arith) ∙
+        (ap (λ r. drop (m + 1) r.values) (here h) ∙ same-tail h.now.values xs m h.items);
     count = length-set (at (u.heap w) a).values j y ∙ ap (λ r. length r.values) (here h) ∙ h.count;
   }

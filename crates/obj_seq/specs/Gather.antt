@@ -24,7 +24,8 @@ keys_of (k ∷ x ∷ rest) = k ∷ keys_of rest
 -- a new string of each byte, behind those that were made before
 unfoldable pub letters_row : {S : Type 0} → List Value → List ℕ → Row S (Got (List Value))
 letters_row made [] = Ret (Is made)
-letters_row made (x ∷ xs) = Do (Make (new_rec Str [] (x ∷ []))) (λ b. letters_row (made ++ Ref (record { 0 = b }) ∷ []) xs)
+letters_row made (x ∷ xs) = Do (Make (new_rec Str [] (x ∷ [])))
+    (λ b. letters_row (made ++ Ref (record { 0 = b }) ∷ []) xs)
 
 -- the first so many numbers of a range
 abbrev pub numbers : ℤ → ℤ → ℕ → List Value
@@ -81,7 +82,8 @@ five_three_one : numbers (pos 5) (negsuc 1) 3 ≡ Int (pos 5) ∷ Int (pos 3) �
 five_three_one = refl
 
 -- 'ab' is two new strings, in the order of its bytes
-two_letters : letters_row {S = Unit {0}} [] (97 ∷ 98 ∷ []) ≡ Do (Make (new_rec Str [] (97 ∷ []))) (λ a. Do (Make (new_rec Str [] (98 ∷ []))) (λ b. Ret (Is (Ref (record { 0 = a }) ∷ Ref (record { 0 = b }) ∷ []))))
+two_letters : letters_row {S = Unit {0}} [] (97 ∷ 98 ∷ []) ≡ Do (Make (new_rec Str [] (97 ∷ [])))
+    (λ a. Do (Make (new_rec Str [] (98 ∷ []))) (λ b. Ret (Is (Ref (record { 0 = a }) ∷ Ref (record { 0 = b }) ∷ []))))
 unfolding letters_row
 two_letters = refl
 
@@ -89,7 +91,8 @@ two_letters = refl
 most_numbers : ltb LENGTH_LIMIT (range_length (pos 0) (pos 1_048_576) (pos 1)) ≡ false
 most_numbers = refl
 
-too_many_numbers : numbers_row {S = Unit {0}} (span_of (Int (pos 0) ∷ Int (pos 1_048_577) ∷ Int (pos 1) ∷ [])) ≡ Ret (Raise memory_fault)
+too_many_numbers : numbers_row {S = Unit {0}} (span_of (Int (pos 0) ∷ Int (pos 1_048_577) ∷ Int (pos 1) ∷ [])) ≡ Ret
+    (Raise memory_fault)
 unfolding numbers_row
 too_many_numbers = refl
 

@@ -1,5 +1,7 @@
--- Over each heap in order each operation on a list, a tuple or an iterator holds; and no record is longer in its course than
--- before it or at its end. States `docs/LANGUAGE.md`, "Lists and tuples" and "Iteration", and `docs/HEAP.md`, "Rows that hold".
+-- Over each heap in order each operation on a list, a tuple or an iterator holds; and no record is longer in its course
+-- than
+-- before it or at its end. States `docs/LANGUAGE.md`, "Lists and tuples" and "Iteration", and `docs/HEAP.md`, "Rows
+-- that hold".
 use Rattle.std.specs.Prelude.{◌≡◌, ◌≤◌, ℕ, ℤ, false, List, length, Option}
 use Rattle.py_base.specs.declared.kind.Kind.TheVariants.{List as ListKind, Iter}
 use Rattle.py_data.specs.declared.value.Value.{Value}
@@ -36,19 +38,28 @@ IsIterator x h = IsItem h x × RefTo h Iter x
 abbrev pub AreItems : List Value → Heap → Type 0
 AreItems vs h = Every (IsItem h) vs × (length vs ≤ LENGTH_LIMIT)
 
--- with values that stand in the heap each operation may be begun, leaves a heap in order, and answers what stands in it or an
+-- with values that stand in the heap each operation may be begun, leaves a heap in order, and answers what stands in it
+-- or an
 -- exception
 pub record SeqHolds {S : Type 0} (rules : Rules) (stands : Heap → S → Type 0) : Type 0 where
-  pub item : (h : Heap) (a : ℕ) (i : ℤ) → IsOrdered rules h → IsSequenceAt h a → Holds rules stands IsAnswer (item_row a i) h
-  pub set_item : (h : Heap) (a : ℕ) (i : ℤ) (x : Value) → IsOrdered rules h → IsListAt h a → IsItem h x → Holds rules stands IsDone (set_item_row a i x) h
-  pub del_item : (h : Heap) (a : ℕ) (i : ℤ) → IsOrdered rules h → IsListAt h a → Holds rules stands IsDone (del_item_row a i) h
+  pub item : (h : Heap) (a : ℕ) (i : ℤ) → IsOrdered rules h → IsSequenceAt h a →
+      Holds rules stands IsAnswer (item_row a i) h
+  pub set_item : (h : Heap) (a : ℕ) (i : ℤ) (x : Value) → IsOrdered rules h → IsListAt h a → IsItem h x →
+      Holds rules stands IsDone (set_item_row a i x) h
+  pub del_item : (h : Heap) (a : ℕ) (i : ℤ) → IsOrdered rules h → IsListAt h a →
+      Holds rules stands IsDone (del_item_row a i) h
   pub pop : (h : Heap) (a : ℕ) (i : ℤ) → IsOrdered rules h → IsListAt h a → Holds rules stands IsAnswer (pop_row a i) h
-  pub insert : (h : Heap) (a : ℕ) (i : ℤ) (x : Value) → IsOrdered rules h → IsListAt h a → IsItem h x → Holds rules stands IsDone (insert_row a i x) h
-  pub reverse : (h : Heap) (a : ℕ) → IsOrdered rules h → IsListAt h a → Holds rules stands (λ u h. Unit {0}) (reverse_row a) h
-  pub slice : (h : Heap) (a : ℕ) (from to : Option ℤ) → IsOrdered rules h → IsSequenceAt h a → Holds rules stands IsAnswer (slice_row a from to) h
-  pub make_iter : (h : Heap) (x : Value) → IsOrdered rules h → IsItem h x → Holds rules stands (IsGot IsIterator) (iter_row x) h
+  pub insert : (h : Heap) (a : ℕ) (i : ℤ) (x : Value) → IsOrdered rules h → IsListAt h a → IsItem h x →
+      Holds rules stands IsDone (insert_row a i x) h
+  pub reverse : (h : Heap) (a : ℕ) → IsOrdered rules h → IsListAt h a →
+      Holds rules stands (λ u h. Unit {0}) (reverse_row a) h
+  pub slice : (h : Heap) (a : ℕ) (from to : Option ℤ) → IsOrdered rules h → IsSequenceAt h a →
+      Holds rules stands IsAnswer (slice_row a from to) h
+  pub make_iter : (h : Heap) (x : Value) → IsOrdered rules h → IsItem h x →
+      Holds rules stands (IsGot IsIterator) (iter_row x) h
   pub next : (h : Heap) (it : ℕ) → IsOrdered rules h → IsIterAt h it → Holds rules stands (IsGot IfItem) (next_row it) h
-  pub gather : (h : Heap) (x : Value) → IsOrdered rules h → IsItem h x → Holds rules stands (IsGot AreItems) (gather_row x) h
+  pub gather : (h : Heap) (x : Value) → IsOrdered rules h → IsItem h x →
+      Holds rules stands (IsGot AreItems) (gather_row x) h
 
 pub record SeqSteady (S : Type 0) : Type 0 where
   pub item : (a : ℕ) (i : ℤ) → Steady {S = S} false (item_row a i)

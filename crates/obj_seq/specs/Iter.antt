@@ -27,7 +27,8 @@ is_range start stop (pos zero) = false
 is_range start stop step = leb (range_length start stop step) 9_223_372_036_854_775_807
 
 abbrev pub span_in : Option (Value × Value × Value) → Option Span
-span_in (Some (Int start, Int stop, Int step)) = cond (is_range start stop step) (Some (record { start = start; stop = stop; step = step })) None
+span_in (Some (Int start, Int stop, Int step)) =
+    cond (is_range start stop step) (Some (record { start = start; stop = stop; step = step })) None
 span_in _ = None
 
 -- what a range's values say
@@ -64,7 +65,8 @@ is_iter _ = false
 
 -- an iterator is its own
 abbrev pub iter_of : {S : Type 0} → ℕ → Rec → Row S (Got Value)
-iter_of a r = cond (is_iter r.kind) (Ret (Is (Ref (record { 0 = a })))) (make_iter_row a (count_of r.kind r.values r.bytes))
+iter_of a r = cond (is_iter r.kind) (Ret (Is (Ref (record { 0 = a }))))
+    (make_iter_row a (count_of r.kind r.values r.bytes))
 
 abbrev pub iter_row : {S : Type 0} → Value → Row S (Got Value)
 iter_row (Ref a) = Do (Read a.0) (iter_of a.0)
@@ -74,7 +76,8 @@ iter_row _ = Ret (Raise iterable_fault)
 
 -- the number of a range at a place
 abbrev pub number_in : Option Span → ℕ → Option Value
-number_in (Some s) at = cond (ltb at (range_length s.start s.stop s.step)) (Some (Int (range_item s.start s.step at))) None
+number_in (Some s) at = cond (ltb at (range_length s.start s.stop s.step)) (Some (Int (range_item s.start s.step at)))
+    None
 number_in None at = None
 
 -- what a record of a kind has at a place: its item, the key of its pair, its number

@@ -44,7 +44,8 @@ unfoldable pub gap_row : {S : Type 0} → ℕ → ℕ → List Value → Row S (
 gap_row a k [] = Do (Edit a (change.Cut k)) (λ _. Ret tt)
 gap_row a k (x ∷ xs) = Do (Edit a (change.Set k x)) (λ _. gap_row a (k + 1) xs)
 
--- x comes into place k, what stood there into the next place, and so on; the last of the values ys from place k on goes to
+-- x comes into place k, what stood there into the next place, and so on; the last of the values ys from place k on goes
+-- to
 -- the end
 unfoldable pub shift_row : {S : Type 0} → ℕ → ℕ → Value → List Value → Row S (Unit {0})
 shift_row a k x [] = Do (Edit a (change.Push x)) (λ _. Ret tt)
@@ -61,7 +62,8 @@ item_row a i = Do (Read a) (item_at i)
 -- ---- set_item
 
 abbrev pub set_item_at : {S : Type 0} → ℕ → ℤ → Value → Rec → Row S (Got (Unit {0}))
-set_item_at a i x r = if_place (place i (length r.values)) (λ k. Do (Edit a (change.Set k x)) (λ _. Ret (Is tt))) (Ret (Raise index_fault))
+set_item_at a i x r = if_place (place i (length r.values)) (λ k. Do (Edit a (change.Set k x)) (λ _. Ret (Is tt)))
+    (Ret (Raise index_fault))
 
 abbrev pub set_item_row : {S : Type 0} → ℕ → ℤ → Value → Row S (Got (Unit {0}))
 set_item_row a i x = Do (Read a) (set_item_at a i x)
@@ -113,7 +115,8 @@ reverse_row a = Do (Read a) (λ r. put_row a 0 (reverse r.values))
 abbrev pub slice_at : {S : Type 0} → Option ℤ → Option ℤ → Rec → Row S (Got Value)
 slice_at from to r =
     Do
-    (Make (new_rec r.kind (part r.values (bound_or from 0 (length r.values)) (bound_or to (length r.values) (length r.values))) []))
+    (Make (new_rec r.kind (part r.values (bound_or from 0 (length r.values))
+    (bound_or to (length r.values) (length r.values))) []))
     (λ b. Ret (Is (Ref (record { 0 = b }))))
 
 abbrev pub slice_row : {S : Type 0} → ℕ → Option ℤ → Option ℤ → Row S (Got Value)

@@ -10,7 +10,8 @@ pub words_front : (bs : List ℕ) → words bs ≡ words (without_front bs)
 words_front [] = refl
 words_front (b ∷ bs) = by (is_blank b) refl (words_front bs)
   where
-    by : (t : Bool) → is_blank b ≡ t → words bs ≡ words (without_front bs) → words (b ∷ bs) ≡ words (without_front (b ∷ bs))
+    by : (t : Bool) → is_blank b ≡ t → words bs ≡ words (without_front bs) →
+        words (b ∷ bs) ≡ words (without_front (b ∷ bs))
     by true e next =
         ap (filter has_bytes) (cond-true (is_blank b) ([] ∷ cut_blanks bs) (onto b (cut_blanks bs)) e)
         ∙ (next ∙ ap words (sym (cond-true (is_blank b) (without_front bs) (b ∷ bs) e)))
@@ -32,7 +33,8 @@ pub front_short : (bs : List ℕ) → length (without_front bs) ≤ length bs
 front_short [] = omega arith
 front_short (b ∷ bs) = by (is_blank b) (front_short bs)
   where
-    by : (t : Bool) → length (without_front bs) ≤ length bs → length (cond t (without_front bs) (b ∷ bs)) ≤ suc (length bs)
+    by : (t : Bool) → length (without_front bs) ≤ length bs →
+        length (cond t (without_front bs) (b ∷ bs)) ≤ suc (length bs)
     by true next = omega (arith, next)
     by false next = omega arith
 
@@ -49,17 +51,20 @@ run (b ∷ bs) = by (is_blank b) refl (run bs)
     by : (t : Bool) → is_blank b ≡ t → Run bs → Run (b ∷ bs)
     by true e r =
         let n : word_length (b ∷ bs) ≡ 0 = cond-true (is_blank b) 0 (word_length bs + 1) e in
-        let here : cut_blanks (b ∷ bs) ≡ [] ∷ cut_blanks bs = cond-true (is_blank b) ([] ∷ cut_blanks bs) (onto b (cut_blanks bs)) e in
+        let here : cut_blanks (b ∷ bs) ≡ [] ∷ cut_blanks bs =
+        cond-true (is_blank b) ([] ∷ cut_blanks bs) (onto b (cut_blanks bs)) e in
         record {
           more = cut_blanks bs;
           is = here ∙ ap (λ k. take k (b ∷ bs) ∷ cut_blanks bs) (sym n);
           then = ap (λ k. cut_blanks (drop k (b ∷ bs))) n ∙ here;
         }
     by false e r =
-        let n : word_length (b ∷ bs) ≡ suc (word_length bs) = cond-false (is_blank b) 0 (word_length bs + 1) e ∙ (let q : word_length bs + 1 ≡ suc (word_length bs) = omega arith in q) in
+        let n : word_length (b ∷ bs) ≡ suc (word_length bs) = cond-false (is_blank b) 0 (word_length bs + 1) e ∙
+        (let q : word_length bs + 1 ≡ suc (word_length bs) = omega arith in q) in
         record {
           more = r.more;
-          is = cond-false (is_blank b) ([] ∷ cut_blanks bs) (onto b (cut_blanks bs)) e ∙ (ap (onto b) r.is ∙ ap (λ k. take k (b ∷ bs) ∷ r.more) (sym n));
+          is = cond-false (is_blank b) ([] ∷ cut_blanks bs) (onto b (cut_blanks bs)) e ∙
+              (ap (onto b) r.is ∙ ap (λ k. take k (b ∷ bs) ∷ r.more) (sym n));
           then = ap (λ k. cut_blanks (drop k (b ∷ bs))) n ∙ r.then;
         }
 
@@ -75,12 +80,15 @@ pub word_some : (b : ℕ) (bs : List ℕ) → is_blank b ≡ false → 0 < word_
 word_some b bs e = subst (λ n. 0 < n) (sym (cond-false (is_blank b) 0 (word_length bs + 1) e)) (omega arith)
 
 -- a text that begins with another byte than a blank: its first word, and those behind it
-pub words_run : (b : ℕ) (bs : List ℕ) → is_blank b ≡ false → words (b ∷ bs) ≡ take (word_length (b ∷ bs)) (b ∷ bs) ∷ words (drop (word_length (b ∷ bs)) (b ∷ bs))
+pub words_run : (b : ℕ) (bs : List ℕ) → is_blank b ≡ false → words (b ∷ bs) ≡ take (word_length (b ∷ bs)) (b ∷ bs) ∷
+    words (drop (word_length (b ∷ bs)) (b ∷ bs))
 words_run b bs e =
     let r = run (b ∷ bs) in
-    ap (filter has_bytes) r.is ∙ (first (word_length (b ∷ bs)) r.more (word_some b bs e) ∙ ap (λ l. take (word_length (b ∷ bs)) (b ∷ bs) ∷ filter has_bytes l) (sym r.then))
+    ap (filter has_bytes) r.is ∙ (first (word_length (b ∷ bs)) r.more (word_some b bs e) ∙
+    ap (λ l. take (word_length (b ∷ bs)) (b ∷ bs) ∷ filter has_bytes l) (sym r.then))
   where
-    first : (n : ℕ) (more : List (List ℕ)) → 0 < n → filter has_bytes (take n (b ∷ bs) ∷ more) ≡ take n (b ∷ bs) ∷ filter has_bytes ([] ∷ more)
+    first : (n : ℕ) (more : List (List ℕ)) → 0 < n → filter has_bytes (take n (b ∷ bs) ∷ more) ≡ take n (b ∷ bs) ∷
+        filter has_bytes ([] ∷ more)
     first zero more l = absurd (omega (arith, l))
     first (suc n) more l = refl
 
@@ -94,13 +102,15 @@ end_last (x ∷ xs) b = by (is_blank b) (end_last xs b)
     some [] = refl
     some (y ∷ ys) = refl
 
-    by : (t : Bool) → without_end (xs ++ b ∷ []) ≡ cond t (without_end xs) (xs ++ b ∷ []) → kept x (without_end (xs ++ b ∷ [])) ≡ cond t (kept x (without_end xs)) (x ∷ (xs ++ b ∷ []))
+    by : (t : Bool) → without_end (xs ++ b ∷ []) ≡ cond t (without_end xs) (xs ++ b ∷ []) →
+        kept x (without_end (xs ++ b ∷ [])) ≡ cond t (kept x (without_end xs)) (x ∷ (xs ++ b ∷ []))
     by true next = ap (kept x) next
     by false next = ap (kept x) next ∙ some xs
 
 -- another byte than a blank at the end stays, and a blank goes
 pub end_kept : (bs xs : List ℕ) (b : ℕ) → bs ≡ xs ++ b ∷ [] → is_blank b ≡ false → without_end bs ≡ bs
-end_kept bs xs b e f = ap without_end e ∙ (end_last xs b ∙ (cond-false (is_blank b) (without_end xs) (xs ++ b ∷ []) f ∙ sym e))
+end_kept bs xs b e f = ap without_end e ∙
+    (end_last xs b ∙ (cond-false (is_blank b) (without_end xs) (xs ++ b ∷ []) f ∙ sym e))
 
 pub end_cut : (bs xs : List ℕ) (b : ℕ) → bs ≡ xs ++ b ∷ [] → is_blank b ≡ true → without_end bs ≡ without_end xs
 end_cut bs xs b e f = ap without_end e ∙ (end_last xs b ∙ cond-true (is_blank b) (without_end xs) (xs ++ b ∷ []) f)
@@ -119,7 +129,8 @@ end_twice (b ∷ bs) = kept_twice b (without_end bs) (end_twice bs)
 
 -- the end of what begins with another byte than a blank
 kept_front : (b : ℕ) (ys : List ℕ) → is_blank b ≡ false → without_front (kept b ys) ≡ kept b ys
-kept_front b [] e = ap without_front (cond-false (is_blank b) [] (b ∷ []) e) ∙ (cond-false (is_blank b) (without_front []) (b ∷ []) e ∙ sym (cond-false (is_blank b) [] (b ∷ []) e))
+kept_front b [] e = ap without_front (cond-false (is_blank b) [] (b ∷ []) e) ∙
+    (cond-false (is_blank b) (without_front []) (b ∷ []) e ∙ sym (cond-false (is_blank b) [] (b ∷ []) e))
 kept_front b (y ∷ ys) e = cond-false (is_blank b) (without_front (y ∷ ys)) (b ∷ y ∷ ys) e
 
 pub strip_twice : (bs : List ℕ) → strip (strip bs) ≡ strip bs
@@ -134,11 +145,13 @@ pub word_none : (bs rest : List ℕ) → rest ≡ without_front bs → length re
 word_none bs [] e l = words_front bs ∙ ap words (sym e)
 word_none bs (x ∷ xs) e l = absurd (omega (arith, l))
 
-pub word_first : (bs rest : List ℕ) → rest ≡ without_front bs → 0 < length rest → words bs ≡ take (word_length rest) rest ∷ words (drop (word_length rest) rest)
+pub word_first : (bs rest : List ℕ) → rest ≡ without_front bs → 0 < length rest →
+    words bs ≡ take (word_length rest) rest ∷ words (drop (word_length rest) rest)
 word_first bs [] e l = absurd (omega (arith, l))
 word_first bs (x ∷ xs) e l = words_front bs ∙ (ap words (sym e) ∙ words_run x xs (front_first bs x xs (sym e)))
 
-pub word_shorter : (bs rest : List ℕ) → rest ≡ without_front bs → 0 < length rest → length (drop (word_length rest) rest) < length bs
+pub word_shorter : (bs rest : List ℕ) → rest ≡ without_front bs → 0 < length rest →
+    length (drop (word_length rest) rest) < length bs
 word_shorter bs [] e l = absurd (omega (arith, l))
 word_shorter bs (x ∷ xs) e l =
     let some = word_some x xs (front_first bs x xs (sym e)) in

@@ -18,26 +18,34 @@ use Rattle.obj_seq.specs.Iter.{is_str}
 use Rattle.obj_str.specs.Methods.{text_in, text_at}
 
 -- a look that shows the length, and another one that copies so many bytes
-pub bytes_met : {S X : Type 0} {u : Sense S X} (L : Lawful u) (a n : ℕ) (v m w : X) (got out : List ℕ) → u.does (Read a) v (at (u.heap v) a) m → n ≡ length (at (u.heap v) a).bytes → u.does (Read a) m (at (u.heap m) a) w
+pub bytes_met : {S X : Type 0} {u : Sense S X} (L : Lawful u) (a n : ℕ) (v m w : X) (got out : List ℕ) →
+    u.does (Read a) v (at (u.heap v) a) m → n ≡ length (at (u.heap v) a).bytes → u.does (Read a) m (at (u.heap m) a) w
     → out ≡ take n (drop 0 (at (u.heap m) a).bytes) → got ≡ out → Meets u (bytes_row {S = S} a) v w (Ok got)
 unfolding bytes_row
 bytes_met {u = u} L a n v m w got out d e f o g =
     let r = at (u.heap v) a in
     let same : at (u.heap m) a ≡ r = ap (λ h. at h a) (read-heap L a v m r d) in
     let still : w ≡ m = again L a v m w r (at (u.heap m) a) d f in
-    let all : got ≡ r.bytes = g ∙ (o ∙ (ap (λ q. take n q.bytes) same ∙ (ap (λ k. take k r.bytes) e ∙ take-length r.bytes))) in
-    meets-do u (Read a) (λ r. Ret r.bytes) v m w r (Ok got) d (subst (λ z. Meets u (Ret r.bytes) m z (Ok got)) (sym still) (subst (λ b. Meets u (Ret r.bytes) m m (Ok b)) (sym all) (meets-ret u r.bytes m)))
+    let all : got ≡ r.bytes = g ∙ (o ∙ (ap (λ q. take n q.bytes) same ∙
+    (ap (λ k. take k r.bytes) e ∙ take-length r.bytes))) in
+    meets-do u (Read a) (λ r. Ret r.bytes) v m w r (Ok got) d
+    (subst (λ z. Meets u (Ret r.bytes) m z (Ok got)) (sym still)
+    (subst (λ b. Meets u (Ret r.bytes) m m (Ok b)) (sym all) (meets-ret u r.bytes m)))
 
 module _ {S X : Type 0} {u : Sense S X} (L : Lawful u) (a : ℕ) (v : X) (stands : Stands u a (at (u.heap v) a) v) where
   -- of a record that was looked at before
-  pub copied_met : (n : ℕ) (m w : X) (got out : List ℕ) → u.does (Read a) v (at (u.heap v) a) m → n ≡ length (at (u.heap v) a).bytes → u.does (Read a) m (at (u.heap m) a) w
-      → out ≡ take n (drop 0 (at (u.heap m) a).bytes) → got ≡ out → Meets u {A = List ℕ} (Ret (at (u.heap v) a).bytes) v w (Ok got)
+  pub copied_met : (n : ℕ) (m w : X) (got out : List ℕ) → u.does (Read a) v (at (u.heap v) a) m →
+      n ≡ length (at (u.heap v) a).bytes → u.does (Read a) m (at (u.heap m) a) w
+      → out ≡ take n (drop 0 (at (u.heap m) a).bytes) → got ≡ out →
+      Meets u {A = List ℕ} (Ret (at (u.heap v) a).bytes) v w (Ok got)
   copied_met n m w got out d e f o g =
       let r = at (u.heap v) a in
       let first : m ≡ v = stands-again L r stands d in
       let still : w ≡ v = again L a v m w r (at (u.heap m) a) d f ∙ first in
-      let all : got ≡ r.bytes = g ∙ (o ∙ (ap (λ z. take n (at (u.heap z) a).bytes) first ∙ (ap (λ k. take k r.bytes) e ∙ take-length r.bytes))) in
-      subst (λ z. Meets u (Ret r.bytes) v z (Ok got)) (sym still) (subst (λ b. Meets u (Ret r.bytes) v v (Ok b)) (sym all) (meets-ret u r.bytes v))
+      let all : got ≡ r.bytes = g ∙ (o ∙
+      (ap (λ z. take n (at (u.heap z) a).bytes) first ∙ (ap (λ k. take k r.bytes) e ∙ take-length r.bytes))) in
+      subst (λ z. Meets u (Ret r.bytes) v z (Ok got)) (sym still)
+      (subst (λ b. Meets u (Ret r.bytes) v v (Ok b)) (sym all) (meets-ret u r.bytes v))
 
   -- a look at it isn't refused
   pub copied_never : (m : X) (e : Stop) → u.refuses (Read a) v e m → ⊥
@@ -54,34 +62,44 @@ module _ {S X A B : Type 0} (u : Sense S X) (x : A) (v w : X) where
   answer_err y e m = m
 
 -- without memory a row that was done was stopped at its end
-pub done_starved : {S X A : Type 0} (u : Sense S X) (row : Row S A) (v w : X) (a : A) → Meets u row v w (Ok a) → Meets u row v w (Err OutOfMemory)
+pub done_starved : {S X A : Type 0} (u : Sense S X) (row : Row S A) (v w : X) (a : A) → Meets u row v w (Ok a) →
+    Meets u row v w (Err OutOfMemory)
 unfolding Meets Run Stopped
 done_starved u (Ret x) v w a m = (refl, m.1)
 done_starved u (Do c k) v w a m = inr (inr (m.0, m.1, m.2, done_starved u (k m.0) m.1 w a m.3))
 
-pub stands_asks : {S X : Type 0} (u : Sense S X) (a : ℕ) (v : X) (r : Rec) → Stands u a r v → Asks {S = S} u.partial (Read a) (u.heap v)
+pub stands_asks : {S X : Type 0} (u : Sense S X) (a : ℕ) (v : X) (r : Rec) → Stands u a r v →
+    Asks {S = S} u.partial (Read a) (u.heap v)
 unfolding Asks
 stands_asks u a v r s = there-is (u.heap v) a r u.partial (λ r. Unit {0}) s.is tt
 
 -- the bytes of a record whose kind was looked at
-module _ {S X : Type 0} {u : Sense S X} (L : Lawful u) (a : ℕ) (v m : X) (looked : u.does (Read a) v (at (u.heap v) a) m) (str : is_str (at (u.heap v) a).kind ≡ true) where
+module _ {S X : Type 0} {u : Sense S X} (L : Lawful u) (a : ℕ) (v m : X)
+    (looked : u.does (Read a) v (at (u.heap v) a) m) (str : is_str (at (u.heap v) a).kind ≡ true) where
   str_in : text_in {S = S} (at (u.heap v) a) ≡ Ret (Is (at (u.heap v) a).bytes)
   str_in = cond-true (is_str (at (u.heap v) a).kind) (Ret (Is (at (u.heap v) a).bytes)) (Ret (Raise argument_fault)) str
 
   -- a string has a text
   pub text_told : Meets u (text_at {S = S} a) v m (Ok (Is (at (u.heap v) a).bytes))
   unfolding text_at
-  text_told = meets-do u (Read a) text_in v m m (at (u.heap v) a) (Ok (Is (at (u.heap v) a).bytes)) looked (subst (λ row. Meets u row m m (Ok (Is (at (u.heap v) a).bytes))) (sym str_in) (meets-ret u (Is (at (u.heap v) a).bytes) m))
+  text_told = meets-do u (Read a) text_in v m m (at (u.heap v) a) (Ok (Is (at (u.heap v) a).bytes)) looked
+      (subst (λ row. Meets u row m m (Ok (Is (at (u.heap v) a).bytes))) (sym str_in)
+      (meets-ret u (Is (at (u.heap v) a).bytes) m))
 
-  text_leads : Safe u.partial (text_at {S = S} a) (u.heap v) → IsLive u v → Leads u (text_at a) v (Ret (Is (at (u.heap m) a).bytes)) m
+  text_leads : Safe u.partial (text_at {S = S} a) (u.heap v) → IsLive u v →
+      Leads u (text_at a) v (Ret (Is (at (u.heap m) a).bytes)) m
   unfolding text_at
   text_leads safe live = leads-looked L looked refl text_in (λ r. Ret (Is r.bytes)) safe live str_in
 
-  pub text_met : Safe u.partial (text_at {S = S} a) (u.heap v) → IsLive u v → (w : X) (got : List ℕ) → Meets u (Ret (at (u.heap m) a).bytes) m w (Ok got) → Meets u (text_at a) v w (Ok (Is got))
-  text_met safe live w got d = (text_leads safe live).finish w (Ok (Is got)) (answer_ok u (at (u.heap m) a).bytes m w Is got d)
+  pub text_met : Safe u.partial (text_at {S = S} a) (u.heap v) → IsLive u v → (w : X) (got : List ℕ) →
+      Meets u (Ret (at (u.heap m) a).bytes) m w (Ok got) → Meets u (text_at a) v w (Ok (Is got))
+  text_met safe live w got d = (text_leads safe live).finish w (Ok (Is got))
+      (answer_ok u (at (u.heap m) a).bytes m w Is got d)
 
-  pub text_stopped : Safe u.partial (text_at {S = S} a) (u.heap v) → IsLive u v → (w : X) (e : Stop) → Meets u {A = List ℕ} (Ret (at (u.heap m) a).bytes) m w (Err e) → Meets u (text_at a) v w (Err e)
-  text_stopped safe live w e d = (text_leads safe live).finish w (Err e) (answer_err u (at (u.heap m) a).bytes m w (Is (at (u.heap m) a).bytes) e d)
+  pub text_stopped : Safe u.partial (text_at {S = S} a) (u.heap v) → IsLive u v → (w : X) (e : Stop) →
+      Meets u {A = List ℕ} (Ret (at (u.heap m) a).bytes) m w (Err e) → Meets u (text_at a) v w (Err e)
+  text_stopped safe live w e d = (text_leads safe live).finish w (Err e)
+      (answer_err u (at (u.heap m) a).bytes m w (Is (at (u.heap m) a).bytes) e d)
 
   -- it stands where it was looked at
   pub text_stands : Stands u a (at (u.heap m) a) m

@@ -44,17 +44,23 @@ fitting_more xs ys e = by (leb (length xs) LENGTH_LIMIT) refl e
         long n l = omega (arith, leb-false n LENGTH_LIMIT l)
 
 -- ---- pieces that are joined again
-pub joined_first : (sep p : List ℕ) (ps : List (List ℕ)) → HasFirst ps → joined sep (p ∷ ps) ≡ (p ++ sep) ++ joined sep ps
+pub joined_first : (sep p : List ℕ) (ps : List (List ℕ)) → HasFirst ps →
+    joined sep (p ∷ ps) ≡ (p ++ sep) ++ joined sep ps
 joined_first sep p [] s = absurd (let q : ◌≡◌ {A = List (List ℕ)} [] (s.first ∷ s.more) = s.is in cc)
 joined_first sep p (q ∷ ps) s = refl
 
 -- one piece, with the new part, and then the others
-pub joined_turn : (old new bs p more text : List ℕ) → split old bs ≡ p ∷ split old more → text ++ joined new (split old bs) ≡ (text ++ (p ++ new)) ++ joined new (split old more)
+pub joined_turn : (old new bs p more text : List ℕ) → split old bs ≡ p ∷ split old more →
+    text ++ joined new (split old bs) ≡ (text ++ (p ++ new)) ++ joined new (split old more)
 joined_turn old new bs p more text e =
-    ap (λ l. text ++ joined new l) e ∙ (ap (λ l. text ++ l) (joined_first new p (split old more) (first_split old more)) ∙ sym (append_assoc text (p ++ new) (joined new (split old more))))
+    ap (λ l. text ++ joined new l) e ∙ (ap (λ l. text ++ l)
+    (joined_first new p (split old more) (first_split old more)) ∙
+    sym (append_assoc text (p ++ new) (joined new (split old more))))
 
-pub between_turn : (new more text : List ℕ) (b : ℕ) → text ++ between_all new (b ∷ more) ≡ (text ++ (new ++ b ∷ [])) ++ between_all new more
-between_turn new more text b = ap (λ l. text ++ l) (sym (append_assoc new (b ∷ []) (between_all new more))) ∙ sym (append_assoc text (new ++ b ∷ []) (between_all new more))
+pub between_turn : (new more text : List ℕ) (b : ℕ) → text ++ between_all new (b ∷ more) ≡ (text ++ (new ++ b ∷ [])) ++
+    between_all new more
+between_turn new more text b = ap (λ l. text ++ l) (sym (append_assoc new (b ∷ []) (between_all new more))) ∙
+    sym (append_assoc text (new ++ b ∷ []) (between_all new more))
 
 -- ---- replacing by whether the old part is empty
 pub replaced_empty : (old new bs : List ℕ) → length old ≡ 0 → replaced old new bs ≡ between_all new bs

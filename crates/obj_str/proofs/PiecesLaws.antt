@@ -26,7 +26,8 @@ none_here (b ∷ bs) part zero f l = by (begins part (b ∷ bs)) (find bs part) 
     by : (t : Bool) (o : Option ℕ) → cond {A = Option ℕ} t (Some 0) (option_map (λ k. k + 1) o) ≡ None → t ≡ false
     by true o e = absurd (let q : ◌≡◌ {A = Option ℕ} (Some 0) None = e in cc)
     by false o e = refl
-none_here (b ∷ bs) part (suc j) f l = none_here bs part j (by (begins part (b ∷ bs)) (find bs part) f) (omega (arith, l))
+none_here (b ∷ bs) part (suc j) f l = none_here bs part j (by (begins part (b ∷ bs)) (find bs part) f)
+    (omega (arith, l))
   where
     by : (t : Bool) (o : Option ℕ) → cond {A = Option ℕ} t (Some 0) (option_map (λ k. k + 1) o) ≡ None → o ≡ None
     by true o e = absurd (let q : ◌≡◌ {A = Option ℕ} (Some 0) None = e in cc)
@@ -42,7 +43,8 @@ there : (bs part : List ℕ) (k : ℕ) → find bs part ≡ Some k → There bs 
 there [] part k f = by (begins part []) refl f
   where
     by : (t : Bool) → begins part [] ≡ t → cond {A = Option ℕ} t (Some 0) None ≡ Some k → There [] part k
-    by true e g = let z : 0 ≡ k = cc in subst (There [] part) z (record { within = omega arith; here = e; before = λ j l. absurd (omega (arith, l)) })
+    by true e g = let z : 0 ≡ k = cc in subst (There [] part) z
+        (record { within = omega arith; here = e; before = λ j l. absurd (omega (arith, l)) })
     by false e g = absurd (let q : ◌≡◌ {A = Option ℕ} None (Some k) = g in cc)
 there (b ∷ bs) part k f = by (begins part (b ∷ bs)) (find bs part) refl refl f (λ n g. there bs part n g)
   where
@@ -53,8 +55,16 @@ there (b ∷ bs) part k f = by (begins part (b ∷ bs)) (find bs part) refl refl
         at zero l = e
         at (suc j) l = t.before j (omega (arith, l))
 
-    by : (t : Bool) (o : Option ℕ) → begins part (b ∷ bs) ≡ t → find bs part ≡ o → cond {A = Option ℕ} t (Some 0) (option_map (λ k. k + 1) o) ≡ Some k → ((n : ℕ) → find bs part ≡ Some n → There bs part n) → There (b ∷ bs) part k
-    by true o e s g rest = let z : 0 ≡ k = cc in subst (There (b ∷ bs) part) z (record { within = omega arith; here = e; before = λ j l. absurd (omega (arith, l)) })
+    by : (t : Bool) (o : Option ℕ) → begins part (b ∷ bs) ≡ t → find bs part ≡ o →
+        cond {A = Option ℕ} t (Some 0) (option_map (λ k. k + 1) o) ≡ Some k →
+        ((n : ℕ) → find bs part ≡ Some n → There bs part n) → There (b ∷ bs) part k
+    by true o e s g rest = let z : 0 ≡ k = cc in
+        subst (There (b ∷ bs) part) z (record {
+          within = omega arith;
+          here = e;
+          before = λ j l.
+              absurd (omega (arith, l));
+        })
     by false None e s g rest = absurd (let q : ◌≡◌ {A = Option ℕ} None (Some k) = g in cc)
     by false (Some n) e s g rest =
         let one : n + 1 ≡ k = cc in
@@ -90,8 +100,11 @@ ends_law = record {
   begins_is = λ part bs e. sym (behind part bs e);
   is_begins = begins_front;
   ends_is = λ part bs e.
-      sym (ap (λ l. take (length bs - length part) bs ++ l) ((bytes_eq-Decides part (drop (length bs - length part) bs)).0 e) ∙ take-append-drop (length bs - length part) bs);
-  is_ends = λ part front. (bytes_eq-Decides part (drop (length (front ++ part) - length part) (front ++ part))).1 (sym (tail_of front part));
+      sym (ap (λ l. take (length bs - length part) bs ++ l)
+      ((bytes_eq-Decides part (drop (length bs - length part) bs)).0 e) ∙
+      take-append-drop (length bs - length part) bs);
+  is_ends = λ part front. (bytes_eq-Decides part (drop (length (front ++ part) - length part) (front ++ part))).1
+      (sym (tail_of front part));
 }
 
 -- ---- split
@@ -104,14 +117,18 @@ joined_cut : (c : ℕ) (cs : List ℕ) (n : ℕ) (bs : List ℕ) → joined (c �
 joined_cut c cs zero [] = refl
 joined_cut c cs (suc n) [] = refl
 joined_cut c cs (suc n) (b ∷ bs) = joined_cut c cs n bs
-joined_cut c cs zero (b ∷ bs) = by (begins (c ∷ cs) (b ∷ bs)) refl (joined_cut c cs (length cs) bs) (joined_cut c cs zero bs)
+joined_cut c cs zero (b ∷ bs) = by (begins (c ∷ cs) (b ∷ bs)) refl (joined_cut c cs (length cs) bs)
+    (joined_cut c cs zero bs)
   where
-    by : (t : Bool) → begins (c ∷ cs) (b ∷ bs) ≡ t → joined (c ∷ cs) (cut (length cs) (c ∷ cs) bs) ≡ drop (length cs) bs → joined (c ∷ cs) (cut zero (c ∷ cs) bs) ≡ bs → joined (c ∷ cs) (split (c ∷ cs) (b ∷ bs)) ≡ b ∷ bs
+    by : (t : Bool) → begins (c ∷ cs) (b ∷ bs) ≡ t → joined (c ∷ cs) (cut (length cs) (c ∷ cs) bs) ≡ drop (length cs)
+        bs → joined (c ∷ cs) (cut zero (c ∷ cs) bs) ≡ bs → joined (c ∷ cs) (split (c ∷ cs) (b ∷ bs)) ≡ b ∷ bs
     by true e skip next =
         ap (joined (c ∷ cs)) (cut_here c cs b bs e)
         ∙ (joined_first (c ∷ cs) [] (split (c ∷ cs) (drop (length cs) bs)) (first_split (c ∷ cs) (drop (length cs) bs))
-        ∙ (ap (λ l. (c ∷ cs) ++ joined (c ∷ cs) l) (sym (cut_skip (length cs) (c ∷ cs) bs)) ∙ (ap (λ l. (c ∷ cs) ++ l) skip ∙ behind (c ∷ cs) (b ∷ bs) e)))
-    by false e skip next = ap (joined (c ∷ cs)) (cut_later c cs b bs e) ∙ (joined_onto (c ∷ cs) b (split (c ∷ cs) bs) ∙ ap (λ l. b ∷ l) next)
+        ∙ (ap (λ l. (c ∷ cs) ++ joined (c ∷ cs) l) (sym (cut_skip (length cs) (c ∷ cs) bs)) ∙
+        (ap (λ l. (c ∷ cs) ++ l) skip ∙ behind (c ∷ cs) (b ∷ bs) e)))
+    by false e skip next = ap (joined (c ∷ cs)) (cut_later c cs b bs e) ∙
+        (joined_onto (c ∷ cs) b (split (c ∷ cs) bs) ∙ ap (λ l. b ∷ l) next)
 
 pub split_joined : (c : ℕ) (cs bs : List ℕ) → joined (c ∷ cs) (split (c ∷ cs) bs) ≡ bs
 split_joined c cs bs = joined_cut c cs 0 bs
@@ -131,26 +148,44 @@ not_shorter part xs ys e = by (begins part xs) refl
 
 -- a text in which a part stands nowhere, and a byte before it
 none_onto : (part p : List ℕ) (b : ℕ) → begins part (b ∷ p) ≡ false → find p part ≡ None → find (b ∷ p) part ≡ None
-none_onto part p b e f = cond-false (begins part (b ∷ p)) (Some 0) (option_map (λ k. k + 1) (find p part)) e ∙ ap (option_map (λ k. k + 1)) f
+none_onto part p b e f = cond-false (begins part (b ∷ p)) (Some 0) (option_map (λ k. k + 1) (find p part)) e ∙
+    ap (option_map (λ k. k + 1)) f
 
 -- the first piece is a front of the text
-front_none : (c : ℕ) (cs : List ℕ) (b : ℕ) (bs : List ℕ) (ps : List (List ℕ)) → joined (c ∷ cs) ps ≡ bs → begins (c ∷ cs) (b ∷ bs) ≡ false → Every (λ p. find p (c ∷ cs) ≡ None) ps
+front_none : (c : ℕ) (cs : List ℕ) (b : ℕ) (bs : List ℕ) (ps : List (List ℕ)) → joined (c ∷ cs) ps ≡ bs →
+    begins (c ∷ cs) (b ∷ bs) ≡ false → Every (λ p. find p (c ∷ cs) ≡ None) ps
     → Every (λ p. find p (c ∷ cs) ≡ None) (onto b ps)
-front_none c cs b bs [] e f i = (none_onto (c ∷ cs) [] b (subst (λ l. begins (c ∷ cs) (b ∷ l) ≡ false) (sym e) f) refl, tt)
-front_none c cs b bs (p ∷ []) e f i = (none_onto (c ∷ cs) p b (subst (λ l. begins (c ∷ cs) (b ∷ l) ≡ false) (sym e) f) i.0, tt)
+front_none c cs b bs [] e f i = (
+  none_onto (c ∷ cs) [] b (subst (λ l. begins (c ∷ cs) (b ∷ l) ≡ false) (sym e) f) refl,
+  tt,
+)
+front_none c cs b bs (p ∷ []) e f i = (
+  none_onto (c ∷ cs) p b (subst (λ l. begins (c ∷ cs) (b ∷ l) ≡ false) (sym e) f)
+      i.0,
+  tt,
+)
 front_none c cs b bs (p ∷ q ∷ ps) e f i =
-    let whole : bs ≡ p ++ ((c ∷ cs) ++ joined (c ∷ cs) (q ∷ ps)) = sym e ∙ append_assoc p (c ∷ cs) (joined (c ∷ cs) (q ∷ ps)) in
-    (none_onto (c ∷ cs) p b (not_shorter (c ∷ cs) (b ∷ p) ((c ∷ cs) ++ joined (c ∷ cs) (q ∷ ps)) (subst (λ l. begins (c ∷ cs) (b ∷ l) ≡ false) whole f)) i.0, i.1)
+    let whole : bs ≡ p ++ ((c ∷ cs) ++ joined (c ∷ cs) (q ∷ ps)) = sym e ∙
+    append_assoc p (c ∷ cs) (joined (c ∷ cs) (q ∷ ps)) in (
+      none_onto (c ∷ cs) p b (not_shorter (c ∷ cs) (b ∷ p) ((c ∷ cs) ++ joined (c ∷ cs) (q ∷ ps))
+          (subst (λ l. begins (c ∷ cs) (b ∷ l) ≡ false) whole f)) i.0,
+      i.1,
+    )
 
 pieces_none : (c : ℕ) (cs : List ℕ) (n : ℕ) (bs : List ℕ) → Every (λ p. find p (c ∷ cs) ≡ None) (cut n (c ∷ cs) bs)
 pieces_none c cs zero [] = (refl, tt)
 pieces_none c cs (suc n) [] = (refl, tt)
 pieces_none c cs (suc n) (b ∷ bs) = pieces_none c cs n bs
-pieces_none c cs zero (b ∷ bs) = by (begins (c ∷ cs) (b ∷ bs)) refl (pieces_none c cs (length cs) bs) (pieces_none c cs zero bs)
+pieces_none c cs zero (b ∷ bs) = by (begins (c ∷ cs) (b ∷ bs)) refl (pieces_none c cs (length cs) bs)
+    (pieces_none c cs zero bs)
   where
-    by : (t : Bool) → begins (c ∷ cs) (b ∷ bs) ≡ t → Every (λ p. find p (c ∷ cs) ≡ None) (cut (length cs) (c ∷ cs) bs) → Every (λ p. find p (c ∷ cs) ≡ None) (split (c ∷ cs) bs) → Every (λ p. find p (c ∷ cs) ≡ None) (split (c ∷ cs) (b ∷ bs))
-    by true e skip next = subst (Every (λ p. find p (c ∷ cs) ≡ None)) (sym (cut_here c cs b bs e)) (refl, subst (Every (λ p. find p (c ∷ cs) ≡ None)) (cut_skip (length cs) (c ∷ cs) bs) skip)
-    by false e skip next = subst (Every (λ p. find p (c ∷ cs) ≡ None)) (sym (cut_later c cs b bs e)) (front_none c cs b bs (split (c ∷ cs) bs) (split_joined c cs bs) e next)
+    by : (t : Bool) → begins (c ∷ cs) (b ∷ bs) ≡ t → Every (λ p. find p (c ∷ cs) ≡ None) (cut (length cs) (c ∷ cs) bs)
+        → Every (λ p. find p (c ∷ cs) ≡ None) (split (c ∷ cs) bs) →
+        Every (λ p. find p (c ∷ cs) ≡ None) (split (c ∷ cs) (b ∷ bs))
+    by true e skip next = subst (Every (λ p. find p (c ∷ cs) ≡ None)) (sym (cut_here c cs b bs e))
+        (refl, subst (Every (λ p. find p (c ∷ cs) ≡ None)) (cut_skip (length cs) (c ∷ cs) bs) skip)
+    by false e skip next = subst (Every (λ p. find p (c ∷ cs) ≡ None)) (sym (cut_later c cs b bs e))
+        (front_none c cs b bs (split (c ∷ cs) bs) (split_joined c cs bs) e next)
 
 pub split_law : SplitLaw
 split_law = record { joined = joins; none = nones }
@@ -165,7 +200,8 @@ split_law = record { joined = joins; none = nones }
 
 -- ---- replace
 -- a part that shares no byte with another one doesn't reach into it
-not_into : (os zs : List ℕ) (n : ℕ) (ns rest : List ℕ) → SharesNone os (n ∷ ns) → begins os (zs ++ n ∷ rest) ≡ true → begins os zs ≡ true
+not_into : (os zs : List ℕ) (n : ℕ) (ns rest : List ℕ) → SharesNone os (n ∷ ns) → begins os (zs ++ n ∷ rest) ≡ true →
+    begins os zs ≡ true
 not_into [] zs n ns rest i e = refl
 not_into (o ∷ os) [] n ns rest i e = absurd (i.0.0 (eqb-true o n (and_both (o == n) (begins os rest) e).0))
 not_into (o ∷ os) (z ∷ zs) n ns rest i e =
@@ -182,7 +218,8 @@ not_begun o os n ns rest i = by (o == n) refl
 -- it stands nowhere across it
 across : (o : ℕ) (os ns ys : List ℕ) → Every (λ y. o ≢ y) ns → find ys (o ∷ os) ≡ None → find (ns ++ ys) (o ∷ os) ≡ None
 across o os [] ys i f = f
-across o os (n ∷ ns) ys i f = none_onto (o ∷ os) (ns ++ ys) n (not_begun o os n ns (ns ++ ys) i.0) (across o os ns ys i.1 f)
+across o os (n ∷ ns) ys i f = none_onto (o ∷ os) (ns ++ ys) n (not_begun o os n ns (ns ++ ys) i.0)
+    (across o os ns ys i.1 f)
 
 none_rest : (b : ℕ) (bs part : List ℕ) → find (b ∷ bs) part ≡ None → find bs part ≡ None
 none_rest b bs part f = by (begins part (b ∷ bs)) (find bs part) f
@@ -192,22 +229,27 @@ none_rest b bs part f = by (begins part (b ∷ bs)) (find bs part) f
     by false None e = refl
     by false (Some k) e = absurd (let q : ◌≡◌ {A = Option ℕ} (Some (k + 1)) None = e in cc)
 
-none_between : (o : ℕ) (os : List ℕ) (n : ℕ) (ns xs ys : List ℕ) → SharesNone (o ∷ os) (n ∷ ns) → find xs (o ∷ os) ≡ None → find ys (o ∷ os) ≡ None → find ((xs ++ n ∷ ns) ++ ys) (o ∷ os) ≡ None
+none_between : (o : ℕ) (os : List ℕ) (n : ℕ) (ns xs ys : List ℕ) → SharesNone (o ∷ os) (n ∷ ns) →
+    find xs (o ∷ os) ≡ None → find ys (o ∷ os) ≡ None → find ((xs ++ n ∷ ns) ++ ys) (o ∷ os) ≡ None
 none_between o os n ns [] ys i f g = across o os (n ∷ ns) ys i.0 g
 none_between o os n ns (x ∷ xs) ys i f g =
-    none_onto (o ∷ os) ((xs ++ n ∷ ns) ++ ys) x (by (begins (o ∷ os) (x ∷ ((xs ++ n ∷ ns) ++ ys))) refl) (none_between o os n ns xs ys i (none_rest x xs (o ∷ os) f) g)
+    none_onto (o ∷ os) ((xs ++ n ∷ ns) ++ ys) x (by (begins (o ∷ os) (x ∷ ((xs ++ n ∷ ns) ++ ys))) refl)
+    (none_between o os n ns xs ys i (none_rest x xs (o ∷ os) f) g)
   where
     by : (t : Bool) → begins (o ∷ os) (x ∷ ((xs ++ n ∷ ns) ++ ys)) ≡ t → t ≡ false
     by true e =
         let whole = subst (λ l. begins (o ∷ os) (x ∷ l) ≡ true) (append_assoc xs (n ∷ ns) ys) e in
-        let q : true ≡ false = sym (not_into (o ∷ os) (x ∷ xs) n ns (ns ++ ys) i whole) ∙ none_here (x ∷ xs) (o ∷ os) 0 f (omega arith) in
+        let q : true ≡ false = sym (not_into (o ∷ os) (x ∷ xs) n ns (ns ++ ys) i whole) ∙
+        none_here (x ∷ xs) (o ∷ os) 0 f (omega arith) in
         absurd cc
     by false e = refl
 
-none_joined : (o : ℕ) (os : List ℕ) (n : ℕ) (ns : List ℕ) (ps : List (List ℕ)) → SharesNone (o ∷ os) (n ∷ ns) → Every (λ p. find p (o ∷ os) ≡ None) ps → find (joined (n ∷ ns) ps) (o ∷ os) ≡ None
+none_joined : (o : ℕ) (os : List ℕ) (n : ℕ) (ns : List ℕ) (ps : List (List ℕ)) → SharesNone (o ∷ os) (n ∷ ns) →
+    Every (λ p. find p (o ∷ os) ≡ None) ps → find (joined (n ∷ ns) ps) (o ∷ os) ≡ None
 none_joined o os n ns [] i e = refl
 none_joined o os n ns (p ∷ []) i e = e.0
-none_joined o os n ns (p ∷ q ∷ ps) i e = none_between o os n ns p (joined (n ∷ ns) (q ∷ ps)) i e.0 (none_joined o os n ns (q ∷ ps) i e.1)
+none_joined o os n ns (p ∷ q ∷ ps) i e = none_between o os n ns p (joined (n ∷ ns) (q ∷ ps)) i e.0
+    (none_joined o os n ns (q ∷ ps) i e.1)
 
 pub replace_law : ReplaceLaw
 replace_law = record { none = nones; same = same }
@@ -230,11 +272,13 @@ no_blanks : (bs : List ℕ) → Every (Every (λ b. is_blank b ≡ false)) (cut_
 no_blanks [] = (tt, tt)
 no_blanks (b ∷ bs) = by (is_blank b) refl (no_blanks bs)
   where
-    more : (ps : List (List ℕ)) → is_blank b ≡ false → Every (Every (λ b. is_blank b ≡ false)) ps → Every (Every (λ b. is_blank b ≡ false)) (onto b ps)
+    more : (ps : List (List ℕ)) → is_blank b ≡ false → Every (Every (λ b. is_blank b ≡ false)) ps →
+        Every (Every (λ b. is_blank b ≡ false)) (onto b ps)
     more [] e i = ((e, tt), tt)
     more (p ∷ ps) e i = ((e, i.0), i.1)
 
-    by : (t : Bool) → is_blank b ≡ t → Every (Every (λ b. is_blank b ≡ false)) (cut_blanks bs) → Every (Every (λ b. is_blank b ≡ false)) (cond t ([] ∷ cut_blanks bs) (onto b (cut_blanks bs)))
+    by : (t : Bool) → is_blank b ≡ t → Every (Every (λ b. is_blank b ≡ false)) (cut_blanks bs) →
+        Every (Every (λ b. is_blank b ≡ false)) (cond t ([] ∷ cut_blanks bs) (onto b (cut_blanks bs)))
     by true e i = (tt, i)
     by false e i = more (cut_blanks bs) e i
 
@@ -256,7 +300,8 @@ fronted (b ∷ bs) = by (is_blank b) refl (fronted bs)
     by : (t : Bool) → is_blank b ≡ t → Fronted bs → Fronted (b ∷ bs)
     by true e f = record {
       left = b ∷ f.left;
-      is = ap (λ l. b ∷ l) f.is ∙ ap (λ l. b ∷ (f.left ++ l)) (sym (cond-true (is_blank b) (without_front bs) (b ∷ bs) e));
+      is = ap (λ l. b ∷ l) f.is ∙ ap (λ l. b ∷ (f.left ++ l))
+          (sym (cond-true (is_blank b) (without_front bs) (b ∷ bs) e));
       blank = (e, f.blank);
     }
     by false e f = record { left = []; is = sym (cond-false (is_blank b) (without_front bs) (b ∷ bs) e); blank = tt }
@@ -270,7 +315,8 @@ ended : (bs : List ℕ) → Ended bs
 ended [] = record { right = []; is = refl; blank = tt }
 ended (b ∷ bs) = by (without_end bs) refl (ended bs)
   where
-    none : (t : Bool) → is_blank b ≡ t → (r : List ℕ) → bs ≡ r → Every (λ b. is_blank b ≡ true) r → without_end bs ≡ [] → Ended (b ∷ bs)
+    none : (t : Bool) → is_blank b ≡ t → (r : List ℕ) → bs ≡ r → Every (λ b. is_blank b ≡ true) r → without_end bs ≡ []
+        → Ended (b ∷ bs)
     none true e r f i g =
         let here : without_end (b ∷ bs) ≡ [] = ap (kept b) g ∙ cond-true (is_blank b) [] (b ∷ []) e in
         record { right = b ∷ r; is = ap (λ l. b ∷ l) f ∙ ap (λ l. l ++ b ∷ r) (sym here); blank = (e, i) }
@@ -288,7 +334,13 @@ stripped : (bs : List ℕ) → IsBetween bs (strip bs)
 stripped bs =
     let f = fronted bs in
     let e = ended (without_front bs) in
-    record { left = f.left; right = e.right; is = f.is ∙ ap (λ l. f.left ++ l) e.is; left_blank = f.blank; right_blank = e.blank }
+    record {
+      left = f.left;
+      right = e.right;
+      is = f.is ∙ ap (λ l. f.left ++ l) e.is;
+      left_blank = f.blank;
+      right_blank = e.blank;
+    }
 
 -- the bytes of pieces one behind another
 flat_onto : (b : ℕ) (ps : List (List ℕ)) → flat (onto b ps) ≡ b ∷ flat ps
@@ -299,7 +351,9 @@ flat_blanks : (bs : List ℕ) → flat (cut_blanks bs) ≡ filter is_other bs
 flat_blanks [] = refl
 flat_blanks (b ∷ bs) = by (is_blank b) (flat_blanks bs)
   where
-    by : (t : Bool) → flat (cut_blanks bs) ≡ filter is_other bs → flat (cond t ([] ∷ cut_blanks bs) (onto b (cut_blanks bs))) ≡ cond (not t) (b ∷ filter is_other bs) (filter is_other bs)
+    by : (t : Bool) → flat (cut_blanks bs) ≡ filter is_other bs →
+        flat (cond t ([] ∷ cut_blanks bs) (onto b (cut_blanks bs))) ≡ cond (not t) (b ∷ filter is_other bs)
+        (filter is_other bs)
     by true e = e
     by false e = flat_onto b (cut_blanks bs) ∙ ap (λ l. b ∷ l) e
 
@@ -309,7 +363,11 @@ flat_words ([] ∷ ps) = flat_words ps
 flat_words ((b ∷ p) ∷ ps) = ap (λ l. (b ∷ p) ++ l) (flat_words ps)
 
 pub words_law : WordsLaw
-words_law = record { are = λ bs. are_words (cut_blanks bs) (no_blanks bs); kept = λ bs. flat_words (cut_blanks bs) ∙ flat_blanks bs }
+words_law = record {
+  are = λ bs. are_words (cut_blanks bs) (no_blanks bs);
+  kept = λ bs. flat_words (cut_blanks bs) ∙
+      flat_blanks bs;
+}
 
 pub strip_law : StripLaw
 strip_law = record { between = stripped; twice = strip_twice }
@@ -322,7 +380,12 @@ lower_byte : (b : ℕ) → to_ascii_lowercase (to_ascii_uppercase b) ≡ to_asci
 lower_byte b = grind (arith, nat_tests)
 
 pub letters_law : LettersLaw
-letters_law = record { upper_lower = ups; lower_upper = lows; upper_long = λ bs. long to_ascii_uppercase bs; lower_long = λ bs. long to_ascii_lowercase bs }
+letters_law = record {
+  upper_lower = ups;
+  lower_upper = lows;
+  upper_long = λ bs. long to_ascii_uppercase bs;
+  lower_long = λ bs. long to_ascii_lowercase bs;
+}
   where
     ups : (bs : List ℕ) → upper (lower bs) ≡ upper bs
     ups [] = refl

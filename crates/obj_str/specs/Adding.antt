@@ -10,8 +10,10 @@ use Rattle.obj_str.specs.Cutting.{more_of}
 use Rattle.obj_str.specs.Methods.{text_item}
 
 -- the item's text was read, and the answer is the text with it
-abbrev pub Adds : {S X : Type 0} → Sense S X → List ℕ → Option (List ℕ) → Value → X → X → Result (Got (Option (List ℕ))) Stop → Type 0
-Adds {S} u sep text x v w (Ok (Is longer)) = (p : List ℕ) × Meets u (text_item {S = S} x) v w (Ok (Is p)) × (longer ≡ more_of sep text p)
+abbrev pub Adds : {S X : Type 0} → Sense S X → List ℕ → Option (List ℕ) → Value → X → X →
+    Result (Got (Option (List ℕ))) Stop → Type 0
+Adds {S} u sep text x v w (Ok (Is longer)) = (p : List ℕ) × Meets u (text_item {S = S} x) v w (Ok (Is p)) ×
+    (longer ≡ more_of sep text p)
 Adds {S} u sep text x v w (Ok (Raise e)) = Meets u (text_item {S = S} x) v w (Ok (Raise e))
 Adds {S} u sep text x v w (Err e) = Meets u (text_item {S = S} x) v w (Err e)
 

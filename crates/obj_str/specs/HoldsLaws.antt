@@ -1,4 +1,5 @@
--- Over each heap in order each method of a string holds; and no record is longer in its course than before it or at its end.
+-- Over each heap in order each method of a string holds; and no record is longer in its course than before it or at its
+-- end.
 -- States `docs/LANGUAGE.md`, "Methods of strings", and `docs/HEAP.md`, "Rows that hold".
 use Rattle.std.specs.Prelude.{◌≡◌, ℕ, false, List}
 use Rattle.py_base.specs.declared.kind.Kind.TheVariants.{Str}
@@ -21,7 +22,8 @@ IsStrAt h a = KindIn (h a) (λ k. k ≡ Str)
 -- a new string may be made, and each method called with values that stand in the heap
 pub record StrHolds {S : Type 0} (rules : Rules) (stands : Heap → S → Type 0) : Type 0 where
   pub new_text : (h : Heap) (bs : List ℕ) → IsOrdered rules h → Holds rules stands IsAnswer (new_text bs) h
-  pub method : (h : Heap) (m a : ℕ) (args : List Value) → IsOrdered rules h → IsStrAt h a → Every (IsItem h) args → Holds rules stands IsAnswer (method_row m a args) h
+  pub method : (h : Heap) (m a : ℕ) (args : List Value) → IsOrdered rules h → IsStrAt h a → Every (IsItem h) args →
+      Holds rules stands IsAnswer (method_row m a args) h
 
 pub record StrSteady (S : Type 0) : Type 0 where
   pub new_text : (bs : List ℕ) → Steady {S = S} false (new_text bs)

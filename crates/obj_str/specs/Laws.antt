@@ -5,9 +5,11 @@ use Rattle.obj_str.specs.Pieces.{begins, ends, find, joined, split, words, has_b
 
 -- `find` answers a place where the part stands, and it stands at none before; and none where it stands nowhere
 pub record FindLaw : Type 0 where
-  pub there : (bs part : List ℕ) (k : ℕ) → find bs part ≡ Some k → k ≤ length bs × (drop k bs ≡ part ++ drop (length part) (drop k bs))
+  pub there : (bs part : List ℕ) (k : ℕ) → find bs part ≡ Some k →
+      k ≤ length bs × (drop k bs ≡ part ++ drop (length part) (drop k bs))
   pub least : (bs part : List ℕ) (k j : ℕ) → find bs part ≡ Some k → j < k → (rest : List ℕ) → drop j bs ≢ part ++ rest
-  pub none : (bs part : List ℕ) (j : ℕ) → find bs part ≡ None → j ≤ length bs → (rest : List ℕ) → drop j bs ≢ part ++ rest
+  pub none : (bs part : List ℕ) (j : ℕ) → find bs part ≡ None → j ≤ length bs → (rest : List ℕ) →
+      drop j bs ≢ part ++ rest
 
 -- a text begins with a part exactly where it is the part and something behind it, and ends with one exactly where it is
 -- something and then the part
@@ -26,7 +28,8 @@ pub record SplitLaw : Type 0 where
 abbrev pub SharesNone : List ℕ → List ℕ → Type 0
 SharesNone xs ys = Every (λ x. Every (λ y. x ≢ y) ys) xs
 
--- where neither part is empty and they share no byte, no old part is left; and a part that replaces itself changes nothing
+-- where neither part is empty and they share no byte, no old part is left; and a part that replaces itself changes
+-- nothing
 pub record ReplaceLaw : Type 0 where
   pub none : (old new bs : List ℕ) → old ≢ [] → new ≢ [] → SharesNone old new → find (replaced old new bs) old ≡ None
   pub same : (part bs : List ℕ) → replaced part part bs ≡ bs

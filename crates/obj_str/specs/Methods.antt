@@ -54,7 +54,8 @@ text_item _ = Ret (Raise argument_fault)
 -- ---- join
 
 -- the texts of values, in their order, behind those that were read; and then what is done with all
-unfoldable pub texts_then : {S : Type 0} → (List (List ℕ) → Row S (Got Value)) → List Value → List (List ℕ) → Row S (Got Value)
+unfoldable pub texts_then : {S : Type 0} → (List (List ℕ) → Row S (Got Value)) → List Value → List (List ℕ) →
+    Row S (Got Value)
 texts_then k [] ps = k ps
 texts_then k (x ∷ xs) ps = bind (text_item x) (got_row (λ p. texts_then k xs (ps ++ p ∷ [])))
 
@@ -76,7 +77,8 @@ unfoldable pub piece_row : {S : Type 0} → List ℕ → Row S Value
 piece_row p = Do (Make (new_rec Str [] p)) (λ a. Ret (Ref (record { 0 = a })))
 
 -- new strings of pieces, in their order, behind those that were made; and then what is done with all
-unfoldable pub strings_then : {S : Type 0} → (List Value → Row S (Got Value)) → List (List ℕ) → List Value → Row S (Got Value)
+unfoldable pub strings_then : {S : Type 0} → (List Value → Row S (Got Value)) → List (List ℕ) → List Value →
+    Row S (Got Value)
 strings_then k [] vs = k vs
 strings_then k (p ∷ ps) vs = bind (piece_row p) (λ x. strings_then k ps (vs ++ x ∷ []))
 

@@ -1,4 +1,5 @@
--- Parts of a text: where one stands, cutting at it, joining and replacing, as functions on bytes. States `docs/LANGUAGE.md`,
+-- Parts of a text: where one stands, cutting at it, joining and replacing, as functions on bytes. States
+-- `docs/LANGUAGE.md`,
 -- "Methods of strings".
 use Rattle.std.specs.Prelude.{ℕ, zero, suc, ◌+◌, ◌-◌, Bool, true, false, cond, ◌&&◌, ◌||◌, ◌==◌, leb, List, [], ◌∷◌, ◌++◌, length, drop, filter, map, Option, Some, None, option_map}
 use Rattle.std.specs.Char.{to_ascii_uppercase, to_ascii_lowercase}
@@ -100,7 +101,8 @@ abbrev pub between_all : List ℕ → List ℕ → List ℕ
 between_all new [] = new
 between_all new (b ∷ bs) = new ++ b ∷ between_all new bs
 
--- each old part, from the left, is the new one; where the old part is empty, the new one stands before each byte and at the end
+-- each old part, from the left, is the new one; where the old part is empty, the new one stands before each byte and at
+-- the end
 abbrev pub replaced : List ℕ → List ℕ → List ℕ → List ℕ
 replaced [] new bs = between_all new bs
 replaced (o ∷ os) new bs = joined new (split (o ∷ os) bs)

@@ -1,4 +1,5 @@
--- Rows that look, set values and make records, and give such an answer as waits or lets a thread start behind looks alone: how
+-- Rows that look, set values and make records, and give such an answer as waits or lets a thread start behind looks
+-- alone: how
 -- they are put together, and what follows.
 use Rattle.std.proofs.Common.{◌≡◌, ℕ, zero, suc, ◌+◌, Bool, true, false, cond, inl, inr, ◌&&◌, ◌||◌, refl, sym, ap, subst, ◌∙◌}
 use Rattle.py_data.specs.declared.change.Change.TheVariants.{Set}
@@ -19,10 +20,12 @@ use Rattle.obj_threads.specs.Quiet.{IsGotPending, Never, BehindLooks, IsUntouche
 
 -- ---- looks alone
 
-pub only_each : {S A : Type 0} (f : ℕ → A → Row S (Got A)) → ((i : ℕ) (a : A) → OnlyLooks (f i a)) → (i m : ℕ) (a : A) → OnlyLooks (each_row f i m a)
+pub only_each : {S A : Type 0} (f : ℕ → A → Row S (Got A)) → ((i : ℕ) (a : A) → OnlyLooks (f i a)) → (i m : ℕ) (a : A)
+    → OnlyLooks (each_row f i m a)
 unfolding each_row OnlyLooks
 only_each f n i zero a = tt
-only_each {S} {A} f n i (suc m) a = only_bind (f i a) (got_row (each_row f (i + 1) m)) (n i a) (more (only_each f n (i + 1) m))
+only_each {S} {A} f n i (suc m) a = only_bind (f i a) (got_row (each_row f (i + 1) m)) (n i a)
+    (more (only_each f n (i + 1) m))
   where
     more : ((a : A) → OnlyLooks (each_row f (i + 1) m a)) → (g : Got A) → OnlyLooks (got_row (each_row f (i + 1) m) g)
     more n (Is a) = n a
@@ -86,18 +89,21 @@ module _ (S : Type 0) where
   good_cond true p q i j = i
   good_cond false p q i j = j
 
-  mild_looks : {A : Type 0} (row : Row S A) (f : A → Row S (Got Answer)) → OnlyLooks row → ((a : A) → IsGood (f a)) → OnlyCalls IsMild (bind row f)
+  mild_looks : {A : Type 0} (row : Row S A) (f : A → Row S (Got Answer)) → OnlyLooks row → ((a : A) → IsGood (f a)) →
+      OnlyCalls IsMild (bind row f)
   unfolding OnlyLooks OnlyCalls bind
   mild_looks (Ret a) f i n = (n a).mild
   mild_looks (Do c k) f i n = (look_mild c i.0, λ r. mild_looks (k r) f (i.1 r) n)
 
-  pending_looks : {A : Type 0} (row : Row S A) (f : A → Row S (Got Answer)) → OnlyLooks row → ((a : A) → IsGood (f a)) → BehindLooks IsGotPending (bind row f)
+  pending_looks : {A : Type 0} (row : Row S A) (f : A → Row S (Got Answer)) → OnlyLooks row → ((a : A) → IsGood (f a))
+      → BehindLooks IsGotPending (bind row f)
   unfolding OnlyLooks BehindLooks bind
   pending_looks (Ret a) f i n = (n a).pending
   pending_looks (Do c k) f i n = inl (i.0, λ r. pending_looks (k r) f (i.1 r) n)
 
   -- looks come first
-  pub good_looks : {A : Type 0} (row : Row S A) (f : A → Row S (Got Answer)) → OnlyLooks row → ((a : A) → IsGood (f a)) → IsGood (bind row f)
+  pub good_looks : {A : Type 0} (row : Row S A) (f : A → Row S (Got Answer)) → OnlyLooks row → ((a : A) → IsGood (f a))
+      → IsGood (bind row f)
   good_looks row f i n = record { mild = mild_looks row f i n; pending = pending_looks row f i n }
 
   -- a call, and then a value
@@ -109,21 +115,38 @@ module _ (S : Type 0) where
   unfolding OnlyCalls BehindLooks Never
   good_make r f = record { mild = (tt, λ a. tt); pending = inr (λ a i. i) }
 
-  pub good_makes : (r : Rec) (q : ℕ → Rec) (f : ℕ → Value) → IsGood {S = S} (Do (Make r) (λ a. Do (Make (q a)) (λ b. Ret (answered (f b)))))
+  pub good_makes : (r : Rec) (q : ℕ → Rec) (f : ℕ → Value) →
+      IsGood {S = S} (Do (Make r) (λ a. Do (Make (q a)) (λ b. Ret (answered (f b)))))
   unfolding OnlyCalls BehindLooks Never
   good_makes r q f = record { mild = (tt, λ a. (tt, λ b. tt)); pending = inr (λ a b i. i) }
 
 -- ---- what follows
 
-never_does : {S A : Type 0} (p : A → Type 0) (row : Row S A) (s t : Sight S) (y : A) → Never p row → Does row s y t → p y → ⊥
+never_does : {S A : Type 0} (p : A → Type 0) (row : Row S A) (s t : Sight S) (y : A) → Never p row → Does row s y t →
+    p y → ⊥
 unfolding Run Never
 never_does p (Ret a) s t y n d i = n (subst p d.0 i)
 never_does p (Do c k) s t y n d i = never_does p (k d.0) d.1 t y (n d.0) d.3 i
 
 module _ {S : Type 0} where
   look_untouched : (c : Call S) → IsLook c → (s : Sight S) (r : Reply c) (t : Sight S) → Act c s r t → IsUntouched s t
-  look_untouched (Read a) i s r t d = record { heap = ap (λ z. z.heap) d.1; made = ap (λ z. z.made) d.1; started = ap (λ z. z.started) d.1; world = ap (λ z. z.world) d.1; used = ap (λ z. z.used) d.1 }
-  look_untouched (Find x key) i s r t d = record { heap = ap (λ z. z.heap) d.4; made = ap (λ z. z.made) d.4; started = ap (λ z. z.started) d.4; world = ap (λ z. z.world) d.4; used = ap (λ z. z.used) d.4 }
+  look_untouched (Read a) i s r t d = record {
+    heap = ap (λ z. z.heap) d.1;
+    made = ap (λ z. z.made) d.1;
+    started =
+        ap (λ z. z.started) d.1;
+    world = ap (λ z. z.world) d.1;
+    used = ap (λ z. z.used) d.1;
+  }
+  look_untouched (Find x key) i s r t d =
+      record {
+        heap = ap (λ z. z.heap) d.4;
+        made = ap (λ z. z.made) d.4;
+        started = ap (λ z. z.started) d.4;
+        world =
+            ap (λ z. z.world) d.4;
+        used = ap (λ z. z.used) d.4;
+      }
   look_untouched (Edit a c) i s r t d = absurd i
   look_untouched (Make q) i s r t d = absurd i
   look_untouched (Start q) i s r t d = absurd i
@@ -133,28 +156,57 @@ module _ {S : Type 0} where
   look_untouched (SetMidLine mid) i s r t d = absurd i
 
   untouched_then : (s t w : Sight S) → IsUntouched s t → IsUntouched t w → IsUntouched s w
-  untouched_then s t w x y = record { heap = y.heap ∙ x.heap; made = y.made ∙ x.made; started = y.started ∙ x.started; world = y.world ∙ x.world; used = y.used ∙ x.used }
+  untouched_then s t w x y = record {
+    heap = y.heap ∙ x.heap;
+    made = y.made ∙ x.made;
+    started = y.started ∙ x.started;
+    world = y.world ∙ x.world;
+    used = y.used ∙ x.used;
+  }
 
-  pub pending_does : {A : Type 0} (p : A → Type 0) (row : Row S A) (s t : Sight S) (y : A) → BehindLooks p row → p y → Does row s y t → IsUntouched s t
+  pub pending_does : {A : Type 0} (p : A → Type 0) (row : Row S A) (s t : Sight S) (y : A) → BehindLooks p row → p y →
+      Does row s y t → IsUntouched s t
   unfolding Run BehindLooks
-  pending_does p (Ret a) s t y b i d = subst (IsUntouched s) (sym d.1) (record { heap = refl; made = refl; started = refl; world = refl; used = refl })
+  pending_does p (Ret a) s t y b i d = subst (IsUntouched s) (sym d.1)
+      (record { heap = refl; made = refl; started = refl; world = refl; used = refl })
   pending_does p (Do c k) s t y b i d = elim b [
-    | inl l ↦ untouched_then s d.1 t (look_untouched c l.0 s d.0 d.1 d.2) (pending_does p (k d.0) d.1 t y (l.1 d.0) i d.3)
+    | inl l ↦ untouched_then s d.1 t (look_untouched c l.0 s d.0 d.1 d.2)
+        (pending_does p (k d.0) d.1 t y (l.1 d.0) i d.3)
     | inr n ↦ absurd (never_does p (k d.0) d.1 t y (n d.0) d.3 i)
   ]
 
   call_inside : (c : Call S) → IsHeapCall c → (s : Sight S) (r : Reply c) (t : Sight S) → Act c s r t → IsInside s t
-  call_inside (Read a) i s r t d = record { started = ap (λ z. z.started) d.1; world = ap (λ z. z.world) d.1; used = ap (λ z. z.used) d.1 }
-  call_inside (Find x key) i s r t d = record { started = ap (λ z. z.started) d.4; world = ap (λ z. z.world) d.4; used = ap (λ z. z.used) d.4 }
-  call_inside (Edit a c) i s r t d = record { started = ap (λ z. z.started) d.3; world = ap (λ z. z.world) d.3; used = ap (λ z. z.used) d.3 }
-  call_inside (Make q) i s r t d = record { started = ap (λ z. z.started) d.1; world = ap (λ z. z.world) d.1; used = ap (λ z. z.used) d.1 }
+  call_inside (Read a) i s r t d = record {
+    started = ap (λ z. z.started) d.1;
+    world = ap (λ z. z.world) d.1;
+    used =
+        ap (λ z. z.used) d.1;
+  }
+  call_inside (Find x key) i s r t d = record {
+    started = ap (λ z. z.started) d.4;
+    world = ap (λ z. z.world) d.4;
+    used = ap (λ z. z.used) d.4;
+  }
+  call_inside (Edit a c) i s r t d = record {
+    started = ap (λ z. z.started) d.3;
+    world = ap (λ z. z.world) d.3;
+    used =
+        ap (λ z. z.used) d.3;
+  }
+  call_inside (Make q) i s r t d = record {
+    started = ap (λ z. z.started) d.1;
+    world = ap (λ z. z.world) d.1;
+    used =
+        ap (λ z. z.used) d.1;
+  }
   call_inside (Start q) i s r t d = absurd i
   call_inside (Put on bytes) i s r t d = absurd i
   call_inside (Take most) i s r t d = absurd i
   call_inside MidLine i s r t d = absurd i
   call_inside (SetMidLine mid) i s r t d = absurd i
 
-  pub inside_does : {A : Type 0} (row : Row S A) (s t : Sight S) (y : A) → OnlyCalls IsHeapCall row → Does row s y t → IsInside s t
+  pub inside_does : {A : Type 0} (row : Row S A) (s t : Sight S) (y : A) → OnlyCalls IsHeapCall row → Does row s y t →
+      IsInside s t
   unfolding Run OnlyCalls
   inside_does (Ret a) s t y o d = subst (IsInside s) (sym d.1) (record { started = refl; world = refl; used = refl })
   inside_does (Do c k) s t y o d =

@@ -1,4 +1,5 @@
--- Each call of a builtin of `thread` or `threading` looks, sets values and makes records, and waits or lets a thread start
+-- Each call of a builtin of `thread` or `threading` looks, sets values and makes records, and waits or lets a thread
+-- start
 -- behind looks alone.
 use Rattle.std.proofs.Common.{ℕ, ◌==◌, true, false, List, [], ◌∷◌, length, codes, Option, Some, None}
 use Rattle.std.specs.Prelude.{◌/◌, ◌*◌, ◌+◌}
@@ -52,12 +53,14 @@ module _ (S : Type 0) where
   -- ---- locks
   good_new_lock : (args keys : List Value) → IsGood {S = S} (new_lock_row args keys)
   unfolding new_lock_row made_lock
-  good_new_lock args keys = good_cond S (is_bare args keys) made_lock (Ret (Raise argument_fault)) (good_make S (new_rec Lock (BoolValue false ∷ []) []) ref) (good_ret S (Raise argument_fault))
+  good_new_lock args keys = good_cond S (is_bare args keys) made_lock (Ret (Raise argument_fault))
+      (good_make S (new_rec Lock (BoolValue false ∷ []) []) ref) (good_ret S (Raise argument_fault))
 
   good_held : (o : Option Value) → IsGood {S = S} (held_row o)
   unfolding held_row
   good_held None = good_ret S (Is Waits)
-  good_held (Some x) = good_looks S (truth_row x) (λ b. Ret (held_answer b)) (only_truth x) (λ b. good_ret S (held_answer b))
+  good_held (Some x) = good_looks S (truth_row x) (λ b. Ret (held_answer b)) (only_truth x)
+      (λ b. good_ret S (held_answer b))
 
   good_hold : (a : ℕ) → IsGood {S = S} (hold_row a)
   unfolding hold_row
@@ -65,7 +68,8 @@ module _ (S : Type 0) where
 
   good_acquire : (a : ℕ) (o : Option Value) → IsGood {S = S} (acquire_row a o)
   unfolding acquire_row acquire_by
-  good_acquire a o = good_looks S (look_row a 0) (λ held. acquire_by a o (is_set held)) (only_look S a 0) (λ held. good_cond S (is_set held) (held_row o) (hold_row a) (good_held o) (good_hold a))
+  good_acquire a o = good_looks S (look_row a 0) (λ held. acquire_by a o (is_set held)) (only_look S a 0)
+      (λ held. good_cond S (is_set held) (held_row o) (hold_row a) (good_held o) (good_hold a))
 
   good_acquire_with : (a : ℕ) (args : List Value) → IsGood {S = S} (acquire_with a args)
   unfolding acquire_with
@@ -79,26 +83,34 @@ module _ (S : Type 0) where
 
   good_release : (a : ℕ) → IsGood {S = S} (release_row a)
   unfolding release_row release_by
-  good_release a = good_looks S (look_row a 0) (λ held. release_by a (is_set held)) (only_look S a 0) (λ held. good_cond S (is_set held) (free_row a) (Ret (Raise unlocked_fault)) (good_free a) (good_ret S (Raise unlocked_fault)))
+  good_release a = good_looks S (look_row a 0) (λ held. release_by a (is_set held)) (only_look S a 0)
+      (λ held. good_cond S (is_set held) (free_row a) (Ret (Raise unlocked_fault)) (good_free a)
+      (good_ret S (Raise unlocked_fault)))
 
   good_locked : (a : ℕ) → IsGood {S = S} (locked_row a)
   unfolding locked_row
-  good_locked a = good_looks S (look_row a 0) (λ held. Ret (answered (BoolValue (is_set held)))) (only_look S a 0) (λ held. good_ret S (answered (BoolValue (is_set held))))
+  good_locked a = good_looks S (look_row a 0) (λ held. Ret (answered (BoolValue (is_set held)))) (only_look S a 0)
+      (λ held. good_ret S (answered (BoolValue (is_set held))))
 
   good_lock_by : (m a : ℕ) (args : List Value) → IsGood {S = S} (lock_by m a args)
   unfolding lock_by unasked_lock_row bare_lock_row
   good_lock_by m a args =
-      good_cond S (m == builtin_number (codes "lock.acquire")) (acquire_with a args) (unasked_lock_row m a args) (good_acquire_with a args)
-      (good_cond S (length args == 0) (bare_lock_row m a) (Ret (Raise argument_fault)) (good_cond S (m == builtin_number (codes "lock.release")) (release_row a) (locked_row a) (good_release a) (good_locked a)) (good_ret S (Raise argument_fault)))
+      good_cond S (m == builtin_number (codes "lock.acquire")) (acquire_with a args) (unasked_lock_row m a args)
+      (good_acquire_with a args)
+      (good_cond S (length args == 0) (bare_lock_row m a) (Ret (Raise argument_fault))
+      (good_cond S (m == builtin_number (codes "lock.release")) (release_row a) (locked_row a) (good_release a)
+      (good_locked a)) (good_ret S (Raise argument_fault)))
 
   good_lock_of : (m a : ℕ) (args keys : List Value) (k : Kind) → IsGood {S = S} (lock_of m a args keys k)
   unfolding lock_of lock_keyed
-  good_lock_of m a args keys Lock = good_cond S (length keys == 0) (lock_by m a args) (Ret (Raise argument_fault)) (good_lock_by m a args) (good_ret S (Raise argument_fault))
+  good_lock_of m a args keys Lock = good_cond S (length keys == 0) (lock_by m a args) (Ret (Raise argument_fault))
+      (good_lock_by m a args) (good_ret S (Raise argument_fault))
   good_lock_of m a args keys _ = good_ret S _
 
   pub good_lock : (m : ℕ) (own : Value) (args keys : List Value) → IsGood {S = S} (lock_row m own args keys)
   unfolding lock_row lock_at
-  good_lock m (Ref a) args keys = good_looks S (kind_row a.0) (λ k. lock_of m a.0 args keys k) (only_kind S a.0) (good_lock_of m a.0 args keys)
+  good_lock m (Ref a) args keys = good_looks S (kind_row a.0) (λ k. lock_of m a.0 args keys k) (only_kind S a.0)
+      (good_lock_of m a.0 args keys)
   good_lock m _ args keys = good_ret S _
 
   -- ---- starts
@@ -134,18 +146,21 @@ module _ (S : Type 0) where
 
   good_room : (roots : ℕ) (f : Value) (t : Addr) (thread : Option Addr) → IsGood {S = S} (room_row roots f t thread)
   unfolding room_row answer_row
-  good_room roots f t thread = good_looks S (count_row roots) (λ n. answer_row f t thread (has_room n)) (only_count roots) (λ n. good_ret S (start_answer f t thread (has_room n)))
+  good_room roots f t thread = good_looks S (count_row roots) (λ n. answer_row f t thread (has_room n))
+      (only_count roots) (λ n. good_ret S (start_answer f t thread (has_room n)))
 
   good_start_with : (roots : ℕ) (f : Value) (thread o : Option Addr) → IsGood {S = S} (start_with roots f thread o)
   unfolding start_with start_called start_by
   good_start_with roots f thread (Some t) =
       good_looks S (target_row f) (λ good. start_by roots f t thread good) (only_target f)
-      (λ good. good_cond S good (room_row roots f t thread) (Ret (Raise argument_fault)) (good_room roots f t thread) (good_ret S (Raise argument_fault)))
+      (λ good. good_cond S good (room_row roots f t thread) (Ret (Raise argument_fault)) (good_room roots f t thread)
+      (good_ret S (Raise argument_fault)))
   good_start_with roots f thread None = good_ret S (Raise argument_fault)
 
   good_begin : (roots : ℕ) (f args : Value) (thread : Option Addr) → IsGood {S = S} (begin_row roots f args thread)
   unfolding begin_row
-  good_begin roots f args thread = good_looks S (tuple_row args) (λ o. start_with roots f thread o) (only_tuple args) (good_start_with roots f thread)
+  good_begin roots f args thread = good_looks S (tuple_row args) (λ o. start_with roots f thread o) (only_tuple args)
+      (good_start_with roots f thread)
 
   good_start_new_with : (roots : ℕ) (args : List Value) → IsGood {S = S} (start_new_with roots args)
   unfolding start_new_with
@@ -156,7 +171,8 @@ module _ (S : Type 0) where
 
   good_start_new : (roots : ℕ) (args keys : List Value) → IsGood {S = S} (start_new_row roots args keys)
   unfolding start_new_row
-  good_start_new roots args keys = good_cond S (length keys == 0) (start_new_with roots args) (Ret (Raise argument_fault)) (good_start_new_with roots args) (good_ret S (Raise argument_fault))
+  good_start_new roots args keys = good_cond S (length keys == 0) (start_new_with roots args)
+      (Ret (Raise argument_fault)) (good_start_new_with roots args) (good_ret S (Raise argument_fault))
 
   -- ---- new threads
   only_name : (x : Value) → OnlyLooks {S = S} (name_row x)
@@ -166,7 +182,8 @@ module _ (S : Type 0) where
 
   only_keyword : (keys : List Value) (i : ℕ) (k : Keywords) → OnlyLooks {S = S} (keyword_row keys i k)
   unfolding keyword_row named_row known_row OnlyLooks
-  only_keyword keys i k = only_bind (name_row (value_at keys (2 * i))) (λ t. known_row (with_keyword k t (value_at keys (2 * i + 1)))) (only_name (value_at keys (2 * i))) (λ t. tt)
+  only_keyword keys i k = only_bind (name_row (value_at keys (2 * i)))
+      (λ t. known_row (with_keyword k t (value_at keys (2 * i + 1)))) (only_name (value_at keys (2 * i))) (λ t. tt)
 
   only_keywords : (keys : List Value) → OnlyLooks {S = S} (keywords_row keys)
   unfolding keywords_row
@@ -179,7 +196,8 @@ module _ (S : Type 0) where
 
   good_thread_with : (f : Value) (o : Option Value) → IsGood {S = S} (thread_with f o)
   unfolding thread_with empty_row made_thread bind
-  good_thread_with f None = good_makes S (new_rec Tuple [] []) (λ t. new_rec Thread (f ∷ ref t ∷ NoneValue ∷ BoolValue false ∷ []) []) ref
+  good_thread_with f None = good_makes S (new_rec Tuple [] [])
+      (λ t. new_rec Thread (f ∷ ref t ∷ NoneValue ∷ BoolValue false ∷ []) []) ref
   good_thread_with f (Some x) = good_looks S (tuple_row x) (λ o. thread_by f o) (only_tuple x) (good_thread_by f)
 
   good_of_target : (args target : Option Value) → IsGood {S = S} (thread_of_target args target)
@@ -194,62 +212,83 @@ module _ (S : Type 0) where
 
   good_new_thread : (args keys : List Value) → IsGood {S = S} (new_thread_row args keys)
   unfolding new_thread_row thread_keyed
-  good_new_thread args keys = good_cond S (length args == 0) (thread_keyed keys) (Ret (Raise argument_fault)) (good_looks S (keywords_row keys) (got_row thread_given) (only_keywords keys) good_got_given) (good_ret S (Raise argument_fault))
+  good_new_thread args keys = good_cond S (length args == 0) (thread_keyed keys) (Ret (Raise argument_fault))
+      (good_looks S (keywords_row keys) (got_row thread_given) (only_keywords keys) good_got_given)
+      (good_ret S (Raise argument_fault))
 
   -- ---- threads
   good_start_fresh : (roots : ℕ) (a : Addr) → IsGood {S = S} (start_fresh roots a)
   unfolding start_fresh threads.start_called
   good_start_fresh roots a =
       good_looks S (look_row a.0 0) (λ f. threads.start_called roots a f) (only_look S a.0 0)
-      (λ f. good_looks S (look_row a.0 1) (λ args. begin_row roots f args (Some a)) (only_look S a.0 1) (λ args. good_begin roots f args (Some a)))
+      (λ f. good_looks S (look_row a.0 1) (λ args. begin_row roots f args (Some a)) (only_look S a.0 1)
+      (λ args. good_begin roots f args (Some a)))
 
   good_start : (roots : ℕ) (a : Addr) → IsGood {S = S} (start_row roots a)
   unfolding start_row start_by_number
-  good_start roots a = good_looks S (look_row a.0 2) (λ n. start_by_number roots a (is_none n)) (only_look S a.0 2) (λ n. good_cond S (is_none n) (start_fresh roots a) (Ret (Raise started_fault)) (good_start_fresh roots a) (good_ret S (Raise started_fault)))
+  good_start roots a = good_looks S (look_row a.0 2) (λ n. start_by_number roots a (is_none n)) (only_look S a.0 2)
+      (λ n. good_cond S (is_none n) (start_fresh roots a) (Ret (Raise started_fault)) (good_start_fresh roots a)
+      (good_ret S (Raise started_fault)))
 
   good_join_other : (a : ℕ) → IsGood {S = S} (join_other a)
   unfolding join_other
-  good_join_other a = good_looks S (look_row a 3) (λ ended. Ret (joined (is_set ended))) (only_look S a 3) (λ ended. good_ret S (joined (is_set ended)))
+  good_join_other a = good_looks S (look_row a 3) (λ ended. Ret (joined (is_set ended))) (only_look S a 3)
+      (λ ended. good_ret S (joined (is_set ended)))
 
   good_join : (me : Option ℕ) (a : ℕ) → IsGood {S = S} (join_row me a)
   unfolding join_row join_by_number join_started
   good_join me a =
       good_looks S (look_row a 2) (λ n. join_by_number me a (is_none n)) (only_look S a 2)
-      (λ n. good_cond S (is_none n) (Ret (Raise unstarted_fault)) (join_started me a) (good_ret S (Raise unstarted_fault)) (good_cond S (is_me me a) (Ret (Raise current_fault)) (join_other a) (good_ret S (Raise current_fault)) (good_join_other a)))
+      (λ n. good_cond S (is_none n) (Ret (Raise unstarted_fault)) (join_started me a)
+      (good_ret S (Raise unstarted_fault))
+      (good_cond S (is_me me a) (Ret (Raise current_fault)) (join_other a) (good_ret S (Raise current_fault))
+      (good_join_other a)))
 
   good_bare : (roots : ℕ) (me : Option ℕ) (m : ℕ) (a : Addr) → IsGood {S = S} (bare_thread_row roots me m a)
   unfolding bare_thread_row
-  good_bare roots me m a = good_cond S (m == builtin_number (codes "thread.start")) (start_row roots a) (join_row me a.0) (good_start roots a) (good_join me a.0)
+  good_bare roots me m a = good_cond S (m == builtin_number (codes "thread.start")) (start_row roots a)
+      (join_row me a.0) (good_start roots a) (good_join me a.0)
 
-  good_thread_of : (roots : ℕ) (me : Option ℕ) (m : ℕ) (a : Addr) (args keys : List Value) (k : Kind) → IsGood {S = S} (thread_of roots me m a args keys k)
+  good_thread_of : (roots : ℕ) (me : Option ℕ) (m : ℕ) (a : Addr) (args keys : List Value) (k : Kind) →
+      IsGood {S = S} (thread_of roots me m a args keys k)
   unfolding thread_of thread_bare
-  good_thread_of roots me m a args keys Thread = good_cond S (is_bare args keys) (bare_thread_row roots me m a) (Ret (Raise argument_fault)) (good_bare roots me m a) (good_ret S (Raise argument_fault))
+  good_thread_of roots me m a args keys Thread = good_cond S (is_bare args keys) (bare_thread_row roots me m a)
+      (Ret (Raise argument_fault)) (good_bare roots me m a) (good_ret S (Raise argument_fault))
   good_thread_of roots me m a args keys _ = good_ret S _
 
-  good_thread : (roots : ℕ) (me : Option ℕ) (m : ℕ) (own : Value) (args keys : List Value) → IsGood {S = S} (thread_row roots me m own args keys)
+  good_thread : (roots : ℕ) (me : Option ℕ) (m : ℕ) (own : Value) (args keys : List Value) →
+      IsGood {S = S} (thread_row roots me m own args keys)
   unfolding thread_row thread_at
-  good_thread roots me m (Ref a) args keys = good_looks S (kind_row a.0) (λ k. thread_of roots me m a args keys k) (only_kind S a.0) (good_thread_of roots me m a args keys)
+  good_thread roots me m (Ref a) args keys = good_looks S (kind_row a.0) (λ k. thread_of roots me m a args keys k)
+      (only_kind S a.0) (good_thread_of roots me m a args keys)
   good_thread roots me m _ args keys = good_ret S _
 
   -- ---- all
   good_member : (roots b : ℕ) (args keys : List Value) → IsGood {S = S} (member_row roots b args keys)
   unfolding member_row
   good_member roots b args keys =
-      good_cond S (b == builtin_number (codes "thread.start_new_thread")) (start_new_row roots args keys) _ (good_start_new roots args keys)
+      good_cond S (b == builtin_number (codes "thread.start_new_thread")) (start_new_row roots args keys) _
+      (good_start_new roots args keys)
       (good_cond S (makes_lock b) (new_lock_row args keys) _ (good_new_lock args keys)
-      (good_cond S (b == builtin_number (codes "threading.Thread")) (new_thread_row args keys) (Ret (Raise callable_fault)) (good_new_thread args keys) (good_ret S (Raise callable_fault))))
+      (good_cond S (b == builtin_number (codes "threading.Thread")) (new_thread_row args keys)
+      (Ret (Raise callable_fault)) (good_new_thread args keys) (good_ret S (Raise callable_fault))))
 
-  pub good_call : (roots : ℕ) (me : Option ℕ) (b : ℕ) (own : Value) (args keys : List Value) → IsGood {S = S} (thread_call_row roots me b own args keys)
+  pub good_call : (roots : ℕ) (me : Option ℕ) (b : ℕ) (own : Value) (args keys : List Value) →
+      IsGood {S = S} (thread_call_row roots me b own args keys)
   unfolding thread_call_row
   good_call roots me b own args keys =
       good_cond S (is_method_of Lock b) (lock_row b own args keys) _ (good_lock b own args keys)
-      (good_cond S (is_method_of Thread b) (thread_row roots me b own args keys) (member_row roots b args keys) (good_thread roots me b own args keys) (good_member roots b args keys))
+      (good_cond S (is_method_of Thread b) (thread_row roots me b own args keys) (member_row roots b args keys)
+      (good_thread roots me b own args keys) (good_member roots b args keys))
 
-  pub calls_calm : (roots : ℕ) (me : Option ℕ) (b : ℕ) (own : Value) (args keys : List Value) → Calm {S = S} (thread_call_row roots me b own args keys)
-  calls_calm roots me b own args keys = mild_calm (thread_call_row roots me b own args keys) (good_call roots me b own args keys).mild
+  pub calls_calm : (roots : ℕ) (me : Option ℕ) (b : ℕ) (own : Value) (args keys : List Value) →
+      Calm {S = S} (thread_call_row roots me b own args keys)
+  calls_calm roots me b own args keys = mild_calm (thread_call_row roots me b own args keys)
+      (good_call roots me b own args keys).mild
 
   pub threads_quiet : ThreadsQuiet S
   threads_quiet = record {
     pending = λ roots me b own args keys. (good_call roots me b own args keys).pending;
-    inside = λ roots me b own args keys. mild_inside (thread_call_row roots me b own args keys) (good_call roots me b own args keys).mild;
+    inside = λ roots me b own args keys. mild_inside (thread_call_row roots me b own args keys)
+        (good_call roots me b own args keys).mild;
   }

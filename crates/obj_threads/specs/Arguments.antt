@@ -1,4 +1,5 @@
--- What calls of builtins answer and raise, and how their arguments are told apart. States `docs/LANGUAGE.md`, "Locks and threads".
+-- What calls of builtins answer and raise, and how their arguments are told apart. States `docs/LANGUAGE.md`, "Locks
+-- and threads".
 use Rattle.std.specs.Prelude.{ℕ, ◌==◌, Bool, true, false, ◌||◌, ◌&&◌, codes, List, [], ◌∷◌, length}
 use Rattle.py_base.specs.declared.kind.Kind.{Kind}
 use Rattle.py_base.specs.Numbers.{class_number}

@@ -1,4 +1,5 @@
--- Over each heap in order the calls of builtins of `thread` and `threading` hold; and no record is longer in their course than
+-- Over each heap in order the calls of builtins of `thread` and `threading` hold; and no record is longer in their
+-- course than
 -- before or at the end. States `docs/LANGUAGE.md`, "Locks and threads", and `docs/HEAP.md`, "Rows that hold".
 use Rattle.std.specs.Prelude.{◌≡◌, ◌⊎◌, ℕ, true, false, List, Option, Some, IfSome}
 use Rattle.py_base.specs.declared.kind.Kind.TheVariants.{Tuple, Function, Method, Thread}
@@ -39,16 +40,20 @@ pub record IsUnstarted (h : Heap) (a : ℕ) : Type 0 where
   pub kind : thread.kind ≡ Thread
   pub number : value_at thread.values 2 ≡ NoneValue
 
--- What the call of a builtin answers, where these are the roots: an item; that it waits; or that a thread is to be started,
+-- What the call of a builtin answers, where these are the roots: an item; that it waits; or that a thread is to be
+-- started,
 -- for which there is room.
 abbrev pub IsCalled : ℕ → Answer → Heap → Type 0
 IsCalled roots (ValueAnswer x) h = IsItem h x
 IsCalled roots Waits h = Unit {0}
-IsCalled roots (Start f t thread) h = IsItem h f × IsTarget h f × RefTo h Tuple (Ref t) × IfSome thread (λ a. IsUnstarted h a.0) × (has_room (thread_count h roots) ≡ true)
+IsCalled roots (Start f t thread) h = IsItem h f × IsTarget h f × RefTo h Tuple (Ref t) × IfSome thread
+    (λ a. IsUnstarted h a.0) × (has_room (thread_count h roots) ≡ true)
 
 pub record ThreadsHold {S : Type 0} (rules : Rules) (stands : Heap → S → Type 0) : Type 0 where
-  pub call : (h : Heap) (roots : ℕ) (me : Option ℕ) (b : ℕ) (own : Value) (args keys : List Value) → IsOrdered rules h → IsRoots h roots → Refers h own → Every (IsItem h) args → Every (IsItem h) keys
+  pub call : (h : Heap) (roots : ℕ) (me : Option ℕ) (b : ℕ) (own : Value) (args keys : List Value) → IsOrdered rules h
+      → IsRoots h roots → Refers h own → Every (IsItem h) args → Every (IsItem h) keys
       → Holds rules stands (IsGot (IsCalled roots)) (thread_call_row roots me b own args keys) h
 
 pub record ThreadsSteady (S : Type 0) : Type 0 where
-  pub call : (roots : ℕ) (me : Option ℕ) (b : ℕ) (own : Value) (args keys : List Value) → Steady {S = S} false (thread_call_row roots me b own args keys)
+  pub call : (roots : ℕ) (me : Option ℕ) (b : ℕ) (own : Value) (args keys : List Value) →
+      Steady {S = S} false (thread_call_row roots me b own args keys)

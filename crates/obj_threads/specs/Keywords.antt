@@ -22,7 +22,8 @@ first_of None y = Some y
 
 -- what is known once a keyword of this name has this value; none where there is no keyword of this name
 abbrev pub with_keyword : Keywords → List ℕ → Value → Option Keywords
-with_keyword k name x = cond (bytes_eq (codes "target") name) (Some (record k { target = first_of k.target x })) (cond (bytes_eq (codes "args") name) (Some (record k { args = first_of k.args x })) None)
+with_keyword k name x = cond (bytes_eq (codes "target") name) (Some (record k { target = first_of k.target x }))
+    (cond (bytes_eq (codes "args") name) (Some (record k { args = first_of k.args x })) None)
 
 -- another keyword can't be given
 abbrev pub known : Option Keywords → Got Keywords

@@ -35,19 +35,26 @@ LockDone u name a args v y w = Run u (lock_row (builtin_number name) (ref a) arg
 -- over each view
 pub record LockLaw {S X : Type 0} (u : Sense S X) : Type 0 where
   -- who acquires a free lock holds it, whether he would have waited or not
-  pub acquire_free : (a : ℕ) (x : Value) (v w : X) (y : Got Answer) → IsLock (u.heap v) a false → LockDone u (codes "lock.acquire") a [] v y w ⊎ LockDone u (codes "lock.acquire") a (x ∷ []) v y w
+  pub acquire_free : (a : ℕ) (x : Value) (v w : X) (y : Got Answer) → IsLock (u.heap v) a false →
+      LockDone u (codes "lock.acquire") a [] v y w ⊎ LockDone u (codes "lock.acquire") a (x ∷ []) v y w
       → (y ≡ answered (BoolValue true)) × LockIsNow (u.heap v) (u.heap w) a true
   -- a held one is waited for, or False is the answer, and all is as it was
-  pub acquire_held : (a : ℕ) (v w : X) (y : Got Answer) → IsLock (u.heap v) a true → LockDone u (codes "lock.acquire") a [] v y w → (y ≡ Is Waits) × (u.heap w ≡ u.heap v)
-  pub acquire_asked : (a : ℕ) (x : Value) (v w : X) (y : Got Answer) → IsLock (u.heap v) a true → LockDone u (codes "lock.acquire") a (x ∷ []) v y w
+  pub acquire_held : (a : ℕ) (v w : X) (y : Got Answer) → IsLock (u.heap v) a true →
+      LockDone u (codes "lock.acquire") a [] v y w → (y ≡ Is Waits) × (u.heap w ≡ u.heap v)
+  pub acquire_asked : (a : ℕ) (x : Value) (v w : X) (y : Got Answer) → IsLock (u.heap v) a true →
+      LockDone u (codes "lock.acquire") a (x ∷ []) v y w
       → (y ≡ Is Waits ⊎ y ≡ answered (BoolValue false)) × (u.heap w ≡ u.heap v)
-  pub acquire_unwilling : (a : ℕ) (v w : X) (y : Got Answer) → IsLock (u.heap v) a true → LockDone u (codes "lock.acquire") a (BoolValue false ∷ []) v y w → y ≡ answered (BoolValue false)
+  pub acquire_unwilling : (a : ℕ) (v w : X) (y : Got Answer) → IsLock (u.heap v) a true →
+      LockDone u (codes "lock.acquire") a (BoolValue false ∷ []) v y w → y ≡ answered (BoolValue false)
   -- a held lock is free once it is released, by whichever thread; a free one can't be released
-  pub release_held : (a : ℕ) (v w : X) (y : Got Answer) → IsLock (u.heap v) a true → LockDone u (codes "lock.release") a [] v y w
+  pub release_held : (a : ℕ) (v w : X) (y : Got Answer) → IsLock (u.heap v) a true →
+      LockDone u (codes "lock.release") a [] v y w
       → (y ≡ answered NoneValue) × LockIsNow (u.heap v) (u.heap w) a false
-  pub release_free : (a : ℕ) (v w : X) (y : Got Answer) → IsLock (u.heap v) a false → LockDone u (codes "lock.release") a [] v y w → (y ≡ Raise unlocked_fault) × (u.heap w ≡ u.heap v)
+  pub release_free : (a : ℕ) (v w : X) (y : Got Answer) → IsLock (u.heap v) a false →
+      LockDone u (codes "lock.release") a [] v y w → (y ≡ Raise unlocked_fault) × (u.heap w ≡ u.heap v)
   -- `locked` says whether it is held
-  pub locked : (a : ℕ) (held : Bool) (v w : X) (y : Got Answer) → IsLock (u.heap v) a held → LockDone u (codes "lock.locked") a [] v y w → (y ≡ answered (BoolValue held)) × (u.heap w ≡ u.heap v)
+  pub locked : (a : ℕ) (held : Bool) (v w : X) (y : Got Answer) → IsLock (u.heap v) a held →
+      LockDone u (codes "lock.locked") a [] v y w → (y ≡ answered (BoolValue held)) × (u.heap w ≡ u.heap v)
 
 -- a thread stands there, with what it has as its number, and it has ended or hasn't
 pub record IsThread (h : Heap) (a : ℕ) (number : Value) (ended : Bool) : Type 0 where
@@ -64,11 +71,17 @@ ThreadDone u name roots me a v y w = Run u (thread_row roots me (builtin_number 
 -- over each view; in all these cases the heap is as it was
 pub record ThreadLaw {S X : Type 0} (u : Sense S X) : Type 0 where
   -- a thread that has a number was started, and isn't started again
-  pub start_again : (roots : ℕ) (me : Option ℕ) (a : ℕ) (i : ℤ) (ended : Bool) (v w : X) (y : Got Answer) → IsThread (u.heap v) a (Int i) ended → ThreadDone u (codes "thread.start") roots me a v y w → (y ≡ Raise started_fault) × (u.heap w ≡ u.heap v)
+  pub start_again : (roots : ℕ) (me : Option ℕ) (a : ℕ) (i : ℤ) (ended : Bool) (v w : X) (y : Got Answer) →
+      IsThread (u.heap v) a (Int i) ended → ThreadDone u (codes "thread.start") roots me a v y w →
+      (y ≡ Raise started_fault) × (u.heap w ≡ u.heap v)
   -- one that has none can't be waited for, and neither can the calling one
-  pub join_fresh : (roots : ℕ) (me : Option ℕ) (a : ℕ) (ended : Bool) (v w : X) (y : Got Answer) → IsThread (u.heap v) a NoneValue ended → ThreadDone u (codes "thread.join") roots me a v y w → (y ≡ Raise unstarted_fault) × (u.heap w ≡ u.heap v)
-  pub join_own : (roots : ℕ) (me : Option ℕ) (a : ℕ) (i : ℤ) (ended : Bool) (v w : X) (y : Got Answer) → IsThread (u.heap v) a (Int i) ended → is_me me a ≡ true → ThreadDone u (codes "thread.join") roots me a v y w
+  pub join_fresh : (roots : ℕ) (me : Option ℕ) (a : ℕ) (ended : Bool) (v w : X) (y : Got Answer) →
+      IsThread (u.heap v) a NoneValue ended → ThreadDone u (codes "thread.join") roots me a v y w →
+      (y ≡ Raise unstarted_fault) × (u.heap w ≡ u.heap v)
+  pub join_own : (roots : ℕ) (me : Option ℕ) (a : ℕ) (i : ℤ) (ended : Bool) (v w : X) (y : Got Answer) →
+      IsThread (u.heap v) a (Int i) ended → is_me me a ≡ true → ThreadDone u (codes "thread.join") roots me a v y w
       → (y ≡ Raise current_fault) × (u.heap w ≡ u.heap v)
   -- another one is waited for until it has ended
-  pub join_other : (roots : ℕ) (me : Option ℕ) (a : ℕ) (i : ℤ) (ended : Bool) (v w : X) (y : Got Answer) → IsThread (u.heap v) a (Int i) ended → is_me me a ≡ false → ThreadDone u (codes "thread.join") roots me a v y w
+  pub join_other : (roots : ℕ) (me : Option ℕ) (a : ℕ) (i : ℤ) (ended : Bool) (v w : X) (y : Got Answer) →
+      IsThread (u.heap v) a (Int i) ended → is_me me a ≡ false → ThreadDone u (codes "thread.join") roots me a v y w
       → (y ≡ joined ended) × (u.heap w ≡ u.heap v)

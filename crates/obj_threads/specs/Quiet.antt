@@ -1,4 +1,5 @@
--- Calls that wait, or that let a thread start, have done nothing but look; and no call of a builtin of this crate touches the
+-- Calls that wait, or that let a thread start, have done nothing but look; and no call of a builtin of this crate
+-- touches the
 -- world or starts a thread itself. States `docs/LANGUAGE.md`, "Locks and threads", and `docs/HEAP.md`, "Clients".
 use Rattle.std.specs.Prelude.{◌≡◌, ◌⊎◌, ℕ, List, Option}
 use Rattle.py_data.specs.declared.value.Value.{Value}
@@ -28,7 +29,8 @@ unfoldable pub Never : {S A : Type 0} → (A → Type 0) → Row S A → Type 0
 Never p (Ret a) = p a → ⊥
 Never p (Do c k) = (r : Reply c) → Never p (k r)
 
--- Such an answer comes only where nothing but looks came before it: the row looks, and then goes on so; or no answer from here
+-- Such an answer comes only where nothing but looks came before it: the row looks, and then goes on so; or no answer
+-- from here
 -- on is such a one.
 unfoldable pub BehindLooks : {S A : Type 0} → (A → Type 0) → Row S A → Type 0
 BehindLooks p (Ret a) = Unit {0}
@@ -44,7 +46,8 @@ pub record IsUntouched {S : Type 0} (s t : Sight S) : Type 0 where
 
 -- a row that has given such an answer behind looks alone has changed nothing
 abbrev pub PendingLaw : Type 0 → Type 0
-PendingLaw S = (row : Row S (Got Answer)) (s t : Sight S) (y : Got Answer) → BehindLooks IsGotPending row → IsGotPending y → Does row s y t → IsUntouched s t
+PendingLaw S = (row : Row S (Got Answer)) (s t : Sight S) (y : Got Answer) → BehindLooks IsGotPending row →
+    IsGotPending y → Does row s y t → IsUntouched s t
 
 -- ---- the heap alone
 
@@ -68,10 +71,13 @@ pub record IsInside {S : Type 0} (s t : Sight S) : Type 0 where
   pub used : t.used ≡ s.used
 
 abbrev pub InsideLaw : Type 0 → Type 0
-InsideLaw S = (row : Row S (Got Answer)) (s t : Sight S) (y : Got Answer) → OnlyCalls IsHeapCall row → Does row s y t → IsInside s t
+InsideLaw S = (row : Row S (Got Answer)) (s t : Sight S) (y : Got Answer) → OnlyCalls IsHeapCall row → Does row s y t →
+    IsInside s t
 
 -- ---- the calls of this crate
 
 pub record ThreadsQuiet (S : Type 0) : Type 0 where
-  pub pending : (roots : ℕ) (me : Option ℕ) (b : ℕ) (own : Value) (args keys : List Value) → BehindLooks {S = S} IsGotPending (thread_call_row roots me b own args keys)
-  pub inside : (roots : ℕ) (me : Option ℕ) (b : ℕ) (own : Value) (args keys : List Value) → OnlyCalls {S = S} IsHeapCall (thread_call_row roots me b own args keys)
+  pub pending : (roots : ℕ) (me : Option ℕ) (b : ℕ) (own : Value) (args keys : List Value) →
+      BehindLooks {S = S} IsGotPending (thread_call_row roots me b own args keys)
+  pub inside : (roots : ℕ) (me : Option ℕ) (b : ℕ) (own : Value) (args keys : List Value) →
+      OnlyCalls {S = S} IsHeapCall (thread_call_row roots me b own args keys)

@@ -1,4 +1,5 @@
--- The rows of thread records, and of the call of a builtin of `thread` or `threading`. States `docs/LANGUAGE.md`, "Locks and threads".
+-- The rows of thread records, and of the call of a builtin of `thread` or `threading`. States `docs/LANGUAGE.md`,
+-- "Locks and threads".
 use Rattle.std.specs.Prelude.{ℕ, ◌==◌, Bool, true, false, ◌||◌, cond, codes, List, [], ◌∷◌, length, Option, Some, None}
 use Rattle.py_base.specs.declared.kind.Kind.{Kind}
 use Rattle.py_base.specs.declared.kind.Kind.TheVariants.{Tuple, Lock, Thread}
@@ -25,7 +26,8 @@ use Rattle.obj_threads.specs.Starting.{tuple_row, begin_row, start_new_row}
 -- ---- a new thread, which isn't started
 
 unfoldable pub made_thread : {S : Type 0} → Value → Value → Row S (Got Answer)
-made_thread f args = Do (Make (new_rec Thread (f ∷ args ∷ NoneValue ∷ BoolValue false ∷ []) [])) (λ a. Ret (answered (ref a)))
+made_thread f args = Do (Make (new_rec Thread (f ∷ args ∷ NoneValue ∷ BoolValue false ∷ []) []))
+    (λ a. Ret (answered (ref a)))
 
 unfoldable pub empty_row : {S : Type 0} → Row S Value
 empty_row = Do (Make (new_rec Tuple [] [])) (λ a. Ret (ref a))
@@ -108,7 +110,8 @@ unfoldable pub bare_thread_row : {S : Type 0} → ℕ → Option ℕ → ℕ →
 bare_thread_row roots me m a = cond (m == builtin_number (codes "thread.start")) (start_row roots a) (join_row me a.0)
 
 unfoldable pub thread_bare : {S : Type 0} → ℕ → Option ℕ → ℕ → Addr → List Value → List Value → Row S (Got Answer)
-thread_bare roots me m a args keys = cond (is_bare args keys) (bare_thread_row roots me m a) (Ret (Raise argument_fault))
+thread_bare roots me m a args keys = cond (is_bare args keys) (bare_thread_row roots me m a)
+    (Ret (Raise argument_fault))
 
 unfoldable pub thread_of : {S : Type 0} → ℕ → Option ℕ → ℕ → Addr → List Value → List Value → Kind → Row S (Got Answer)
 thread_of roots me m a args keys Thread = thread_bare roots me m a args keys
@@ -135,7 +138,8 @@ member_row roots b args keys =
     (cond (makes_lock b) (new_lock_row args keys)
     (cond (b == builtin_number (codes "threading.Thread")) (new_thread_row args keys) (Ret (Raise callable_fault))))
 
--- The call of the builtin of number b by a thread whose record is at `me`, if it has one; `own` is the object of a method.
+-- The call of the builtin of number b by a thread whose record is at `me`, if it has one; `own` is the object of a
+-- method.
 unfoldable pub thread_call_row : {S : Type 0} → ℕ → Option ℕ → ℕ → Value → List Value → List Value → Row S (Got Answer)
 thread_call_row roots me b own args keys =
     cond (is_method_of Lock b) (lock_row b own args keys)

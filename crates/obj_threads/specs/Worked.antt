@@ -24,7 +24,8 @@ module _ (S : Type 0) where
   Answers = Row S (Got Answer)
 
   -- ---- locks
-  free_is_held : ◌≡◌ {A = Answers} (acquire_by 7 None false) (Do (Edit 7 (Set 0 (BoolValue true))) (λ u. Ret (answered (BoolValue true))))
+  free_is_held : ◌≡◌ {A = Answers} (acquire_by 7 None false)
+      (Do (Edit 7 (Set 0 (BoolValue true))) (λ u. Ret (answered (BoolValue true))))
   unfolding acquire_by hold_row
   free_is_held = refl
 
@@ -45,11 +46,13 @@ module _ (S : Type 0) where
   free_is_not_released = refl
 
   -- a number isn't a lock, whatever the arguments are; and no method of locks takes a keyword
-  number_is_no_lock : ◌≡◌ {A = Answers} (thread_call_row 3 None (builtin_number (codes "lock.acquire")) (Int (pos 5)) (NoneValue ∷ NoneValue ∷ []) []) (Ret (Raise operand_fault))
+  number_is_no_lock : ◌≡◌ {A = Answers} (thread_call_row 3 None (builtin_number (codes "lock.acquire")) (Int (pos 5))
+      (NoneValue ∷ NoneValue ∷ []) []) (Ret (Raise operand_fault))
   unfolding thread_call_row lock_row
   number_is_no_lock = refl
 
-  no_keyword_for_locks : ◌≡◌ {A = Answers} (lock_keyed (builtin_number (codes "lock.release")) 7 [] (ref 8 ∷ NoneValue ∷ [])) (Ret (Raise argument_fault))
+  no_keyword_for_locks : ◌≡◌ {A = Answers}
+      (lock_keyed (builtin_number (codes "lock.release")) 7 [] (ref 8 ∷ NoneValue ∷ [])) (Ret (Raise argument_fault))
   unfolding lock_keyed
   no_keyword_for_locks = refl
 
@@ -70,15 +73,20 @@ module _ (S : Type 0) where
   unfolding thread_of_target
   no_thread_without_target = refl
 
-  no_thread_by_place : ◌≡◌ {A = Answers} (thread_call_row 3 None (builtin_number (codes "threading.Thread")) Unset (ref 2 ∷ []) []) (Ret (Raise argument_fault))
+  no_thread_by_place : ◌≡◌ {A = Answers}
+      (thread_call_row 3 None (builtin_number (codes "threading.Thread")) Unset (ref 2 ∷ []) [])
+      (Ret (Raise argument_fault))
   unfolding thread_call_row member_row new_thread_row
   no_thread_by_place = refl
 
-  one_argument_starts_nothing : ◌≡◌ {A = Answers} (thread_call_row 3 None (builtin_number (codes "thread.start_new_thread")) Unset (ref 2 ∷ []) []) (Ret (Raise argument_fault))
+  one_argument_starts_nothing : ◌≡◌ {A = Answers}
+      (thread_call_row 3 None (builtin_number (codes "thread.start_new_thread")) Unset (ref 2 ∷ []) [])
+      (Ret (Raise argument_fault))
   unfolding thread_call_row member_row start_new_row start_new_with
   one_argument_starts_nothing = refl
 
-  modules_are_not_called : ◌≡◌ {A = Answers} (thread_call_row 3 None (builtin_number (codes "threading")) Unset [] []) (Ret (Raise callable_fault))
+  modules_are_not_called : ◌≡◌ {A = Answers} (thread_call_row 3 None (builtin_number (codes "threading")) Unset [] [])
+      (Ret (Raise callable_fault))
   unfolding thread_call_row member_row
   modules_are_not_called = refl
 

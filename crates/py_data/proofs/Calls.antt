@@ -18,7 +18,8 @@ none_some : (o : Option Rec) (r : Rec) → o ≡ None → o ≡ Some r → ⊥
 none_some o r e f = let g : ◌≡◌ {A = Option Rec} None (Some r) = sym e ∙ f in cc
 
 -- another record in the place of a tracked one, of the same kind
-edit_extends : (h : Heap) (a : ℕ) (r q : Rec) → h a ≡ Some r → q.kind ≡ r.kind → is_tracked r.kind ≡ true → Extends h (put_at h a q)
+edit_extends : (h : Heap) (a : ℕ) (r q : Rec) → h a ≡ Some r → q.kind ≡ r.kind → is_tracked r.kind ≡ true →
+    Extends h (put_at h a q)
 edit_extends h a r q e k t = record {
   kept = λ b s i.
       elim (cases_Bool (eqb b a)) [
@@ -45,14 +46,18 @@ make_extends h a q e = record {
 
 module _ (rules : Rules) (last : AreLasting rules) where
   -- a record that fits comes into a heap
-  put_ordered : (h : Heap) (a : ℕ) (q : Rec) → IsOrdered rules h → Extends h (put_at h a q) → FitsAt rules h a q → IsOrdered rules (put_at h a q)
+  put_ordered : (h : Heap) (a : ℕ) (q : Rec) → IsOrdered rules h → Extends h (put_at h a q) → FitsAt rules h a q →
+      IsOrdered rules (put_at h a q)
   put_ordered h a q order x f = record {
     each = λ b s i.
         elim (cases_Bool (eqb b a)) [
           | inl y ↦
               let same : q ≡ s = one_rec (put_at h a q b) s q i (cond-true (eqb b a) (Some q) (h b) y) in
-              subst (λ z. FitsAt rules (put_at h a q) b z) same (subst (λ z. FitsAt rules (put_at h a q) z q) (sym (eqb-true b a y)) (fit_stays h (put_at h a q) x rules order last a q f))
-          | inr n ↦ fit_stays h (put_at h a q) x rules order last b s (order.each b s (sym (with_rec_there a b q h n) ∙ i))
+              subst (λ z. FitsAt rules (put_at h a q) b z) same
+              (subst (λ z. FitsAt rules (put_at h a q) z q) (sym (eqb-true b a y))
+              (fit_stays h (put_at h a q) x rules order last a q f))
+          | inr n ↦ fit_stays h (put_at h a q) x rules order last b s
+              (order.each b s (sym (with_rec_there a b q h n) ∙ i))
         ];
   }
 
@@ -62,7 +67,8 @@ module _ (rules : Rules) (last : AreLasting rules) where
   same_ordered : (h h1 : Heap) → h1 ≡ h → IsOrdered rules h → Ordered h h1
   same_ordered h h1 e order = subst (Ordered h) (sym e) (order, extends_same h)
 
-  edit_by : (h h1 : Heap) (a : ℕ) (c : Change) (o : Option Rec) → h a ≡ o → is_some o ≡ true → IfThere false o (λ r. Allows c r × Suits false h c r) → Refits rules h a (after c)
+  edit_by : (h h1 : Heap) (a : ℕ) (c : Change) (o : Option Rec) → h a ≡ o → is_some o ≡ true →
+      IfThere false o (λ r. Allows c r × Suits false h c r) → Refits rules h a (after c)
       → h1 ≡ put_at h a (after c (at h a)) → IsOrdered rules h → Ordered h h1
   edit_by h h1 a c None e i ask fit g order = absurd (let q : false ≡ true = i in cc)
   edit_by h h1 a c (Some r) e i ask fit g order =
@@ -71,7 +77,8 @@ module _ (rules : Rules) (last : AreLasting rules) where
       subst (Ordered h) (sym now) (put_ordered h a (after c r) order x (fit r e), x)
 
   -- what a call leaves of a heap in order
-  pub call_ordered : {S : Type 0} (stands : Heap → S → Type 0) (c : Call S) (h h1 : Heap) (r : Reply c) → Asks false c h → Tends rules stands c h → Effect false c h r h1 → IsOrdered rules h → Ordered h h1
+  pub call_ordered : {S : Type 0} (stands : Heap → S → Type 0) (c : Call S) (h h1 : Heap) (r : Reply c) →
+      Asks false c h → Tends rules stands c h → Effect false c h r h1 → IsOrdered rules h → Ordered h h1
   unfolding Asks
   call_ordered stands (Read a) h h1 r i t e order = same_ordered h h1 e.1 order
   call_ordered stands (Find d key) h h1 r i t e order = same_ordered h h1 e.2 order

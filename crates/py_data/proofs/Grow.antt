@@ -24,7 +24,12 @@ pub kept_same : (r : Rec) → KeptAs r r
 kept_same r = record { kind = refl; first = refl; room = omega arith }
 
 pub kept_trans : (r q p : Rec) → KeptAs r q → KeptAs q p → KeptAs r p
-kept_trans r q p g h = record { kind = h.kind ∙ g.kind; first = h.first ∙ g.first; room = let x = g.room in let y = h.room in omega arith }
+kept_trans r q p g h = record {
+  kind = h.kind ∙ g.kind;
+  first = h.first ∙ g.first;
+  room = let x = g.room in let y =
+      h.room in omega arith;
+}
 
 -- a room doubles or stays
 room_more : (b : Bool) (room : ℕ) → room ≤ cond b (cond (room == 0) 1 (2 * room)) room
@@ -41,7 +46,8 @@ kept_push v r = record { kind = refl; first = refl; room = room_more (length r.v
 -- whatever the change
 pub kept_after : (x : Change) (r : Rec) → KeptAs r (after x r)
 kept_after (Push v) r = kept_push v r
-kept_after (Pair key v) r = kept_trans r (with_push key r) (after (Pair key v) r) (kept_push key r) (kept_push v (with_push key r))
+kept_after (Pair key v) r = kept_trans r (with_push key r) (after (Pair key v) r) (kept_push key r)
+    (kept_push v (with_push key r))
 kept_after (Set i v) r = record { kind = refl; first = refl; room = omega arith }
 kept_after (Cut n) r = record { kind = refl; first = refl; room = omega arith }
 kept_after (Unpair n) r = record { kind = refl; first = refl; room = omega arith }
@@ -56,7 +62,8 @@ for_tracked (Unpair n) k e = ap is_tracked e
 
 pub mem_append : (a : ℕ) (xs ys : List ℕ) → mem a (xs ++ ys) ≡ (mem a xs || mem a ys)
 mem_append a [] ys = refl
-mem_append a (x ∷ xs) ys = elim (eqb a x) as (λ b. (b || mem a (xs ++ ys)) ≡ ((b || mem a xs) || mem a ys)) [ true ↦ refl | false ↦ mem_append a xs ys ]
+mem_append a (x ∷ xs) ys = elim (eqb a x) as (λ b. (b || mem a (xs ++ ys)) ≡ ((b || mem a xs) || mem a ys))
+    [ true ↦ refl | false ↦ mem_append a xs ys ]
 
 pub grows_refl : {S : Type 0} (s : Sight S) → Grows s s
 grows_refl s = record {
@@ -139,7 +146,8 @@ grows_world w s = record {
   names = λ a e. e;
 }
 
-pub grows_edit : {S : Type 0} (a : ℕ) (r r' : Rec) (s : Sight S) → s.heap a ≡ Some r → is_tracked r.kind ≡ true → KeptAs r r' → Grows s (edited a r' s)
+pub grows_edit : {S : Type 0} (a : ℕ) (r r' : Rec) (s : Sight S) → s.heap a ≡ Some r → is_tracked r.kind ≡ true →
+    KeptAs r r' → Grows s (edited a r' s)
 grows_edit a r r' s is moves same_kind = record {
   looked = λ b e. or_right (eqb b a) (s.looked b) e;
   touched = λ b e. or_right (eqb b a) (s.touched b) e;
@@ -147,15 +155,23 @@ grows_edit a r r' s is moves same_kind = record {
   same = λ b e. with_rec_there a b r' s.heap (or_parts (eqb b a) (s.touched b) e).0;
   world = λ h. refl;
   kept = λ b q e. elim (cases_Bool (eqb b a)) [
-    | inl y ↦ (r', cond-true (eqb b a) (Some r') (s.heap b) y, subst (λ (o : Rec). KeptAs o r') (same_rec a b r q s.heap y is e) same_kind)
+    | inl y ↦ (
+      r',
+      cond-true (eqb b a) (Some r') (s.heap b) y,
+      subst (λ (o : Rec). KeptAs o r') (same_rec a b r q s.heap y is e) same_kind,
+    )
     | inr n ↦ (q, with_rec_there a b r' s.heap n ∙ e, kept_same q)
   ];
   fixed = λ b q e f. elim (cases_Bool (eqb b a)) [
-    | inl y ↦ absurd (both_ways (is_tracked q.kind) f (ap (λ (o : Rec). is_tracked o.kind) (sym (same_rec a b r q s.heap y is e)) ∙ moves))
+    | inl y ↦ absurd (both_ways (is_tracked q.kind) f
+        (ap (λ (o : Rec). is_tracked o.kind) (sym (same_rec a b r q s.heap y is e)) ∙ moves))
     | inr n ↦ with_rec_there a b r' s.heap n ∙ e
   ];
   seen = λ b q e f h. elim (or_cases (eqb b a) (s.touched b) f) [
-    | inl y ↦ (or_left (eqb b a) (s.looked b) y, ap (λ (o : Rec). is_tracked o.kind) (sym (same_rec a b r q s.heap y is h)) ∙ moves)
+    | inl y ↦ (
+      or_left (eqb b a) (s.looked b) y,
+      ap (λ (o : Rec). is_tracked o.kind) (sym (same_rec a b r q s.heap y is h)) ∙ moves,
+    )
     | inr y ↦ absurd (both_ways (s.touched b) e y)
   ];
   fresh = λ b e f h. elim (or_cases (eqb b a) (s.touched b) f) [

@@ -24,8 +24,10 @@ are_set Cell vs n i = absurd (n refl)
 are_set _ vs n i = i
 
 -- the values of a record that fits are items, but for a Cell's
-pub fit_items : (rules : Rules) (h : Heap) (a : ℕ) (r : Rec) → FitsAt rules h a r → r.kind ≢ Cell → Every (IsItem h) r.values
-fit_items rules h a r f n = every_with (Refers h) (λ v. v ≢ Unset) r.values f.closed.refers (are_set r.kind r.values n f.closed.shaped.2)
+pub fit_items : (rules : Rules) (h : Heap) (a : ℕ) (r : Rec) → FitsAt rules h a r → r.kind ≢ Cell →
+    Every (IsItem h) r.values
+fit_items rules h a r f n = every_with (Refers h) (λ v. v ≢ Unset) r.values f.closed.refers
+    (are_set r.kind r.values n f.closed.shaped.2)
 
 -- one of items by its place
 pub item_at : (h : Heap) (vs : List Value) (i : ℕ) → i < length vs → Every (IsItem h) vs → IsItem h (value_at vs i)

@@ -23,7 +23,13 @@ extends_then h h1 h2 e f = record {
   kept = λ a r i.
       let k = e.kept a r i in
       let m = f.kept a k.now k.here in
-      record { now = m.now; here = m.here; kind = m.kind ∙ k.kind; fixed = λ t. m.fixed (ap is_tracked k.kind ∙ t) ∙ k.fixed t };
+      record {
+        now = m.now;
+        here = m.here;
+        kind = m.kind ∙ k.kind;
+        fixed = λ t. m.fixed (ap is_tracked k.kind ∙ t) ∙
+            k.fixed t;
+      };
 }
 
 module _ (h h1 : Heap) (x : Extends h h1) where
@@ -124,7 +130,8 @@ module _ (h h1 : Heap) (x : Extends h h1) where
   text_by_stays a (Some r) e i =
       let k = x.kept a r e in
       elim (cases_Bool (is_tracked r.kind)) [
-        | inl t ↦ ap text_in k.here ∙ (text_none k.now.kind k.now.bytes (ap is_tracked k.kind ∙ t) ∙ sym (text_none r.kind r.bytes t))
+        | inl t ↦ ap text_in k.here ∙ (text_none k.now.kind k.now.bytes (ap is_tracked k.kind ∙ t) ∙
+            sym (text_none r.kind r.bytes t))
         | inr f ↦ ap text_in k.here ∙ ap (λ q. text_by q.kind q.bytes) (k.fixed f)
       ]
 
@@ -133,7 +140,8 @@ module _ (h h1 : Heap) (x : Extends h h1) where
 
   same_stays : (v w : Value) → Refers h v → Refers h w → same_key h1 v w ≡ same_key h v w
   same_stays (Ref a) (Ref b) i j =
-      ap (λ o. same_text (eqb a.0 b.0) o (text_in (h1 b.0))) (text_stays a.0 i) ∙ ap (λ o. same_text (eqb a.0 b.0) (text_in (h a.0)) o) (text_stays b.0 j)
+      ap (λ o. same_text (eqb a.0 b.0) o (text_in (h1 b.0))) (text_stays a.0 i) ∙
+      ap (λ o. same_text (eqb a.0 b.0) (text_in (h a.0)) o) (text_stays b.0 j)
   same_stays (Ref a) Unset i j = refl
   same_stays (Ref a) NoneValue i j = refl
   same_stays (Ref a) (BoolValue b) i j = refl
@@ -145,11 +153,13 @@ module _ (h h1 : Heap) (x : Extends h h1) where
   same_stays (Int n) w i j = refl
   same_stays (Builtin b) w i j = refl
 
-  find_stays : (n : ℕ) (vs : List Value) (key : Value) → Every (Refers h) vs → Refers h key → find_from h1 n vs key ≡ find_from h n vs key
+  find_stays : (n : ℕ) (vs : List Value) (key : Value) → Every (Refers h) vs → Refers h key →
+      find_from h1 n vs key ≡ find_from h n vs key
   find_stays n [] key i j = refl
   find_stays n (k ∷ []) key i j = refl
   find_stays n (k ∷ v ∷ rest) key i j =
-      ap (λ b. cond b (Some n) (find_from h1 (n + 1) rest key)) (same_stays k key i.0 j) ∙ ap (cond (same_key h k key) (Some n)) (find_stays (n + 1) rest key i.1.1 j)
+      ap (λ b. cond b (Some n) (find_from h1 (n + 1) rest key)) (same_stays k key i.0 j) ∙
+      ap (cond (same_key h k key) (Some n)) (find_stays (n + 1) rest key i.1.1 j)
 
   differ_stays : (vs : List Value) → Every (Refers h) vs → KeysDiffer h vs → KeysDiffer h1 vs
   differ_stays [] i d = tt
@@ -209,7 +219,9 @@ module _ (h h1 : Heap) (x : Extends h h1) where
   class_base (a ∷ b ∷ c ∷ d ∷ vs) s = absurd s
 
   module _ (rules : Rules) (order : IsOrdered rules h) where
-    bases_by : (n : ℕ) → ((v : Value) → NoneOr (RefTo h Class) v → BasesEnd h n v → BasesEnd h1 n v) → (a : ℕ) (o : Option Rec) → h a ≡ o → KindIn o (λ q. q ≡ Class) → BasesEnd h n (base_of o) → BasesEnd h1 n (base_of (h1 a))
+    bases_by : (n : ℕ) → ((v : Value) → NoneOr (RefTo h Class) v → BasesEnd h n v → BasesEnd h1 n v) →
+        (a : ℕ) (o : Option Rec) → h a ≡ o → KindIn o (λ q. q ≡ Class) → BasesEnd h n (base_of o) →
+        BasesEnd h1 n (base_of (h1 a))
     bases_by n more a None e i b = absurd i
     bases_by n more a (Some r) e i b =
         let k = x.kept a r e in
@@ -232,8 +244,11 @@ module _ (h h1 : Heap) (x : Extends h h1) where
       refers = all_refer r.values c.refers;
       shaped = (shape_stays r.kind r.values c.refers c.shaped.0, c.shaped.1, c.shaped.2);
       bases = λ e.
-          let m = c.bases e in
-          (m.0, bases_stay m.0 (value_at r.values 1) (class_base r.values (subst (λ q. HasShape h q r.values) e c.shaped.0)) m.1);
+          let m = c.bases e in (
+            m.0,
+            bases_stay m.0 (value_at r.values 1)
+                (class_base r.values (subst (λ q. HasShape h q r.values) e c.shaped.0)) m.1,
+          );
     }
 
     pub fit_stays : AreLasting rules → (a : ℕ) (r : Rec) → FitsAt rules h a r → FitsAt rules h1 a r

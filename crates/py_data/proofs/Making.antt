@@ -19,7 +19,8 @@ module _ (rules : Rules) (h : Heap) where
   no_unset _ vs i = i
 
   -- a record of items, of a kind of which a client asks nothing and which has no base
-  pub made_fits : (a : ℕ) (k : Kind) (vs : List Value) (bs : List ℕ) → k ≢ Class → k ≢ Function → k ≢ Cell → Every (IsItem h) vs → HasShape h k vs → OnlyStrings k bs → length vs ≤ LENGTH_LIMIT → length bs ≤ LENGTH_LIMIT
+  pub made_fits : (a : ℕ) (k : Kind) (vs : List Value) (bs : List ℕ) → k ≢ Class → k ≢ Function → k ≢ Cell →
+      Every (IsItem h) vs → HasShape h k vs → OnlyStrings k bs → length vs ≤ LENGTH_LIMIT → length bs ≤ LENGTH_LIMIT
       → FitsAt rules h a (new_rec k vs bs)
   made_fits a k vs bs class function cell i s o l m = record {
     closed = record {
@@ -33,12 +34,16 @@ module _ (rules : Rules) (h : Heap) where
   }
 
   -- a list or a tuple
-  pub sequence_fits : (a : ℕ) (k : Kind) (vs : List Value) → IsSequenceKind k → Every (IsItem h) vs → length vs ≤ LENGTH_LIMIT → FitsAt rules h a (new_rec k vs [])
+  pub sequence_fits : (a : ℕ) (k : Kind) (vs : List Value) → IsSequenceKind k → Every (IsItem h) vs →
+      length vs ≤ LENGTH_LIMIT → FitsAt rules h a (new_rec k vs [])
   sequence_fits a ListKind vs s i l =
-      made_fits a ListKind vs [] (λ e. let q : ListKind ≡ Class = e in cc) (λ e. let q : ListKind ≡ Function = e in cc) (λ e. let q : ListKind ≡ Cell = e in cc) i tt refl l (omega arith)
-  sequence_fits a Tuple vs s i l = made_fits a Tuple vs [] (λ e. let q : Tuple ≡ Class = e in cc) (λ e. let q : Tuple ≡ Function = e in cc) (λ e. let q : Tuple ≡ Cell = e in cc) i tt refl l (omega arith)
+      made_fits a ListKind vs [] (λ e. let q : ListKind ≡ Class = e in cc) (λ e. let q : ListKind ≡ Function = e in cc)
+      (λ e. let q : ListKind ≡ Cell = e in cc) i tt refl l (omega arith)
+  sequence_fits a Tuple vs s i l = made_fits a Tuple vs [] (λ e. let q : Tuple ≡ Class = e in cc)
+      (λ e. let q : Tuple ≡ Function = e in cc) (λ e. let q : Tuple ≡ Cell = e in cc) i tt refl l (omega arith)
   sequence_fits a k vs s i l = absurd s
 
   -- a string
   pub text_fits : (a : ℕ) (bs : List ℕ) → length bs ≤ LENGTH_LIMIT → FitsAt rules h a (new_rec Str [] bs)
-  text_fits a bs l = made_fits a Str [] bs (λ e. let q : Str ≡ Class = e in cc) (λ e. let q : Str ≡ Function = e in cc) (λ e. let q : Str ≡ Cell = e in cc) tt tt tt (omega arith) l
+  text_fits a bs l = made_fits a Str [] bs (λ e. let q : Str ≡ Class = e in cc) (λ e. let q : Str ≡ Function = e in cc)
+      (λ e. let q : Str ≡ Cell = e in cc) tt tt tt (omega arith) l

@@ -28,23 +28,30 @@ look_asks MidLine k i = absurd i
 look_asks _ k i = tt
 
 module _ {S A B : Type 0} where
-  pub only_bind : (row : Row S A) (f : A → Row S B) → OnlyLooks row → ((a : A) → OnlyLooks (f a)) → OnlyLooks (bind row f)
+  pub only_bind : (row : Row S A) (f : A → Row S B) → OnlyLooks row → ((a : A) → OnlyLooks (f a)) →
+      OnlyLooks (bind row f)
   unfolding OnlyLooks bind
   only_bind (Ret a) f i n = n a
   only_bind (Do c k) f i n = (i.0, λ r. only_bind (k r) f (i.1 r) n)
 
   -- looks, and then a steady row
-  pub looks_steady : (row : Row S A) (f : A → Row S B) → OnlyLooks row → ((a : A) → Steady false (f a)) → Steady false (bind row f)
+  pub looks_steady : (row : Row S A) (f : A → Row S B) → OnlyLooks row → ((a : A) → Steady false (f a)) →
+      Steady false (bind row f)
   unfolding OnlyLooks Steady bind
   looks_steady (Ret a) f i n = n a
   looks_steady (Do c k) f i n =
-      let s = still c i.0 in
-      ((refl, look_asks c (λ r. bind (k r) f) i.0), λ r. subst (λ b. Steady b (bind (k r) f)) (sym s.0) (looks_steady (k r) f (i.1 r) n))
+      let s = still c i.0 in (
+        (refl, look_asks c (λ r. bind (k r) f) i.0),
+        λ r.
+            subst (λ b. Steady b (bind (k r) f)) (sym s.0) (looks_steady (k r) f (i.1 r) n),
+      )
 
-pub only_walk : {S A B : Type 0} (f : A → Row S (Result A B)) (end : B) → ((a : A) → OnlyLooks (f a)) → (m : ℕ) (a : A) → OnlyLooks (walk_row f end m a)
+pub only_walk : {S A B : Type 0} (f : A → Row S (Result A B)) (end : B) → ((a : A) → OnlyLooks (f a)) →
+    (m : ℕ) (a : A) → OnlyLooks (walk_row f end m a)
 unfolding walk_row OnlyLooks
 only_walk f end i zero a = tt
-only_walk {S} {A} {B} f end i (suc m) a = only_bind (f a) (walk_on (walk_row f end m)) (i a) (walked (only_walk f end i m))
+only_walk {S} {A} {B} f end i (suc m) a =
+    only_bind (f a) (walk_on (walk_row f end m)) (i a) (walked (only_walk f end i m))
   where
     walked : ((a : A) → OnlyLooks (walk_row f end m a)) → (r : Result A B) → OnlyLooks (walk_on (walk_row f end m) r)
     walked more (Ok a) = more a

@@ -17,8 +17,11 @@ within : (way : ℤ) (step n : ℕ) → 0 < step → (steps way step ≤ n) ↔ 
 within (pos zero) step n p = (λ l. omega (arith, ints), λ l. omega arith)
 within (negsuc way) step n p = (λ l. omega (arith, ints), λ l. omega arith)
 within (pos (suc way)) step n p =
-    let e = le-div_iff_mul-le {k = step} {x = n} {y = way} p in
-    (λ l. past (n * step) way (λ i. let j = e.1 i in omega (arith, j, l)), λ l. steps_past (way / step) n (λ i. let j = e.0 i in omega (arith, ints)))
+    let e = le-div_iff_mul-le {k = step} {x = n} {y = way} p in (
+      λ l. past (n * step) way (λ i. let j = e.1 i in omega (arith, j, l)),
+      λ l.
+          steps_past (way / step) n (λ i. let j = e.0 i in omega (arith, ints)),
+    )
 
 up : (start stop : ℤ) (m : ℕ) → ((stop -ℤ start) ≤ℤ pos m) ↔ (stop ≤ℤ (start +ℤ pos m))
 up start stop m = (λ l. omega (arith, ints), λ l. omega (arith, ints))
@@ -30,9 +33,11 @@ pub range_law : RangeLaw
 range_law n start stop (pos zero) h = absurd (h refl)
 range_law n start stop (pos (suc s)) h =
     let e = within (stop -ℤ start) (suc s) n (omega arith) in
-    let f = subst (λ z. ((stop -ℤ start) ≤ℤ pos (n * suc s)) ↔ (stop ≤ℤ (start +ℤ z))) (sym (pos-*ℤ-pos n (suc s))) (up start stop (n * suc s)) in
+    let f = subst (λ z. ((stop -ℤ start) ≤ℤ pos (n * suc s)) ↔ (stop ≤ℤ (start +ℤ z))) (sym (pos-*ℤ-pos n (suc s)))
+    (up start stop (n * suc s)) in
     (λ l. f.0 (e.0 l), λ l. e.1 (f.1 l))
 range_law n start stop (negsuc s) h =
     let e = within (start -ℤ stop) (suc s) n (omega arith) in
-    let f = subst (λ z. ((start -ℤ stop) ≤ℤ pos (n * suc s)) ↔ ((start +ℤ z) ≤ℤ stop)) (sym (pos-*ℤ-negsuc n s)) (down start stop (n * suc s)) in
+    let f = subst (λ z. ((start -ℤ stop) ≤ℤ pos (n * suc s)) ↔ ((start +ℤ z) ≤ℤ stop)) (sym (pos-*ℤ-negsuc n s))
+    (down start stop (n * suc s)) in
     (λ l. f.0 (e.0 l), λ l. e.1 (f.1 l))

@@ -76,7 +76,8 @@ module _ (h : Heap) where
   thread_item (suc (suc (suc i))) x p = bool_item x p
 
   -- ---- the values of a record with another value in a place
-  iter_set : (vs : List Value) (i : ℕ) (x : Value) → HasShape h Iter vs → i < length vs → IterPlace h i x → HasShape h Iter (set vs i x)
+  iter_set : (vs : List Value) (i : ℕ) (x : Value) → HasShape h Iter vs → i < length vs → IterPlace h i x →
+      HasShape h Iter (set vs i x)
   iter_set [] i x s l p = absurd s
   iter_set (a ∷ []) i x s l p = absurd s
   iter_set (a ∷ b ∷ []) i x s l p = absurd s
@@ -86,13 +87,15 @@ module _ (h : Heap) where
   iter_set (a ∷ b ∷ c ∷ []) (suc (suc (suc i))) x s l p = absurd (omega (arith, l))
   iter_set (a ∷ b ∷ c ∷ d ∷ vs) i x s l p = absurd s
 
-  lock_set : (vs : List Value) (i : ℕ) (x : Value) → HasShape h Lock vs → i < length vs → IsBool x → HasShape h Lock (set vs i x)
+  lock_set : (vs : List Value) (i : ℕ) (x : Value) → HasShape h Lock vs → i < length vs → IsBool x →
+      HasShape h Lock (set vs i x)
   lock_set [] i x s l p = absurd s
   lock_set (a ∷ []) zero x s l p = p
   lock_set (a ∷ []) (suc i) x s l p = absurd (omega (arith, l))
   lock_set (a ∷ b ∷ vs) i x s l p = absurd s
 
-  thread_set : (vs : List Value) (i : ℕ) (x : Value) → HasShape h Thread vs → i < length vs → ThreadPlace h i x → HasShape h Thread (set vs i x)
+  thread_set : (vs : List Value) (i : ℕ) (x : Value) → HasShape h Thread vs → i < length vs → ThreadPlace h i x →
+      HasShape h Thread (set vs i x)
   thread_set [] i x s l p = absurd s
   thread_set (a ∷ []) i x s l p = absurd s
   thread_set (a ∷ b ∷ []) i x s l p = absurd s
@@ -104,14 +107,17 @@ module _ (h : Heap) where
   thread_set (a ∷ b ∷ c ∷ d ∷ []) (suc (suc (suc (suc i)))) x s l p = absurd (omega (arith, l))
   thread_set (a ∷ b ∷ c ∷ d ∷ e ∷ vs) i x s l p = absurd s
 
-  cell_set : (vs : List Value) (i : ℕ) (x : Value) → HasShape h Cell vs → i < length vs → (HasShape h Cell (set vs i x)) × (value_at (set vs i x) 0 ≡ x)
+  cell_set : (vs : List Value) (i : ℕ) (x : Value) → HasShape h Cell vs → i < length vs →
+      (HasShape h Cell (set vs i x)) × (value_at (set vs i x) 0 ≡ x)
   cell_set [] i x s l = absurd s
   cell_set (a ∷ []) zero x s l = (tt, refl)
   cell_set (a ∷ []) (suc i) x s l = absurd (omega (arith, l))
   cell_set (a ∷ b ∷ vs) i x s l = absurd s
 
-  dict_set : (vs : List Value) (i : ℕ) (x : Value) → HasShape h Dict vs → IsValuePlace Dict i → HasShape h Dict (set vs i x)
-  dict_set vs i x s p = subst (λ j. HasShape h Dict (set vs j x)) (sym p.1) (pairs_set h vs p.0 x s.0, differ_set h vs p.0 x s.0 s.1)
+  dict_set : (vs : List Value) (i : ℕ) (x : Value) → HasShape h Dict vs → IsValuePlace Dict i →
+      HasShape h Dict (set vs i x)
+  dict_set vs i x s p = subst (λ j. HasShape h Dict (set vs j x)) (sym p.1)
+      (pairs_set h vs p.0 x s.0, differ_set h vs p.0 x s.0 s.1)
 
 -- ---- a record that fits, with other values
 module _ (rules : Rules) (h : Heap) (a : ℕ) where
@@ -128,9 +134,15 @@ module _ (rules : Rules) (h : Heap) (a : ℕ) where
   function_fixed : (k : Kind) → is_tracked k ≡ true → k ≡ Function → ⊥
   function_fixed k t e = let z : false ≡ true = sym (ap is_tracked e) ∙ t in cc
 
-  values_fit : (r : Rec) (vs : List Value) (room : ℕ) → FitsAt rules h a r → is_tracked r.kind ≡ true → length vs ≤ LENGTH_LIMIT → Values r.kind vs → FitsAt rules h a (record r { values = vs; room = room })
+  values_fit : (r : Rec) (vs : List Value) (room : ℕ) → FitsAt rules h a r → is_tracked r.kind ≡ true →
+      length vs ≤ LENGTH_LIMIT → Values r.kind vs → FitsAt rules h a (record r { values = vs; room = room })
   values_fit r vs room f t l v = record {
-    closed = record { refers = v.refers; shaped = (v.shape, f.closed.shaped.1, v.set); bases = λ e. absurd (class_fixed r.kind t e) };
+    closed = record {
+      refers = v.refers;
+      shaped = (v.shape, f.closed.shaped.1, v.set);
+      bases = λ e.
+          absurd (class_fixed r.kind t e);
+    };
     short = (l, f.short.1);
     function = λ e. absurd (function_fixed r.kind t e);
     cell = v.cell;
@@ -141,29 +153,69 @@ module _ (rules : Rules) (h : Heap) (a : ℕ) where
 
   -- a list and a dictionary hold items
   list_values : (vs : List Value) → Every (Refers h) vs → Every (λ v. v ≢ Unset) vs → Values ListKind vs
-  list_values vs i j = record { refers = i; shape = tt; set = j; cell = λ e. absurd (let z : ListKind ≡ Cell = e in cc) }
+  list_values vs i j = record {
+    refers = i;
+    shape = tt;
+    set = j;
+    cell = λ e.
+        absurd (let z : ListKind ≡ Cell = e in cc);
+  }
 
-  dict_values : (vs : List Value) → Every (Refers h) vs → Every (λ v. v ≢ Unset) vs → ArePairs h vs → KeysDiffer h vs → Values Dict vs
-  dict_values vs i j p d = record { refers = i; shape = (p, d); set = j; cell = λ e. absurd (let z : Dict ≡ Cell = e in cc) }
+  dict_values : (vs : List Value) → Every (Refers h) vs → Every (λ v. v ≢ Unset) vs → ArePairs h vs → KeysDiffer h vs →
+      Values Dict vs
+  dict_values vs i j p d = record {
+    refers = i;
+    shape = (p, d);
+    set = j;
+    cell = λ e.
+        absurd (let z : Dict ≡ Cell = e in cc);
+  }
 
   -- ---- each change
-  set_values : (k : Kind) (vs : List Value) (i : ℕ) (x : Value) → is_tracked k ≡ true → Values k vs → i < length vs → IsValuePlace k i → MayPut rules h a k i x → Values k (set vs i x)
-  set_values ListKind vs i x t v l s p = list_values (set vs i x) (every_set (Refers h) vs i x v.refers p.0) (every_set (λ v. v ≢ Unset) vs i x v.set p.1)
+  set_values : (k : Kind) (vs : List Value) (i : ℕ) (x : Value) → is_tracked k ≡ true → Values k vs → i < length vs →
+      IsValuePlace k i → MayPut rules h a k i x → Values k (set vs i x)
+  set_values ListKind vs i x t v l s p = list_values (set vs i x) (every_set (Refers h) vs i x v.refers p.0)
+      (every_set (λ v. v ≢ Unset) vs i x v.set p.1)
   set_values Dict vs i x t v l s p =
       let d = dict_set h vs i x v.shape s in
-      dict_values (set vs i x) (every_set (Refers h) vs i x v.refers p.0) (every_set (λ v. v ≢ Unset) vs i x v.set p.1) d.0 d.1
+      dict_values (set vs i x) (every_set (Refers h) vs i x v.refers p.0) (every_set (λ v. v ≢ Unset) vs i x v.set p.1)
+      d.0 d.1
   set_values Cell vs i x t v l s p =
       let c = cell_set h vs i x v.shape l in
-      record { refers = every_set (Refers h) vs i x v.refers p.0; shape = c.0; set = tt; cell = λ e. subst (rules.cell a) (sym c.1) p.1 }
+      record {
+        refers = every_set (Refers h) vs i x v.refers p.0;
+        shape = c.0;
+        set = tt;
+        cell = λ e.
+            subst (rules.cell a) (sym c.1) p.1;
+      }
   set_values Iter vs i x t v l s p =
       let item = iter_item h i x p in
-      record { refers = every_set (Refers h) vs i x v.refers item.0; shape = iter_set h vs i x v.shape l p; set = every_set (λ v. v ≢ Unset) vs i x v.set item.1; cell = λ e. absurd (let z : Iter ≡ Cell = e in cc) }
+      record {
+        refers = every_set (Refers h) vs i x v.refers item.0;
+        shape = iter_set h vs i x v.shape l p;
+        set =
+            every_set (λ v. v ≢ Unset) vs i x v.set item.1;
+        cell = λ e. absurd (let z : Iter ≡ Cell = e in cc);
+      }
   set_values Lock vs i x t v l s p =
       let item = bool_item h x p in
-      record { refers = every_set (Refers h) vs i x v.refers item.0; shape = lock_set h vs i x v.shape l p; set = every_set (λ v. v ≢ Unset) vs i x v.set item.1; cell = λ e. absurd (let z : Lock ≡ Cell = e in cc) }
+      record {
+        refers = every_set (Refers h) vs i x v.refers item.0;
+        shape = lock_set h vs i x v.shape l p;
+        set =
+            every_set (λ v. v ≢ Unset) vs i x v.set item.1;
+        cell = λ e. absurd (let z : Lock ≡ Cell = e in cc);
+      }
   set_values Thread vs i x t v l s p =
       let item = thread_item h i x p in
-      record { refers = every_set (Refers h) vs i x v.refers item.0; shape = thread_set h vs i x v.shape l p; set = every_set (λ v. v ≢ Unset) vs i x v.set item.1; cell = λ e. absurd (let z : Thread ≡ Cell = e in cc) }
+      record {
+        refers = every_set (Refers h) vs i x v.refers item.0;
+        shape = thread_set h vs i x v.shape l p;
+        set =
+            every_set (λ v. v ≢ Unset) vs i x v.set item.1;
+        cell = λ e. absurd (let z : Thread ≡ Cell = e in cc);
+      }
   set_values Str vs i x t v l s p = absurd (let z : false ≡ true = t in cc)
   set_values Tuple vs i x t v l s p = absurd (let z : false ≡ true = t in cc)
   set_values Function vs i x t v l s p = absurd (let z : false ≡ true = t in cc)
@@ -173,36 +225,49 @@ module _ (rules : Rules) (h : Heap) (a : ℕ) where
   set_values Range vs i x t v l s p = absurd (let z : false ≡ true = t in cc)
 
   push_values : (vs : List Value) (x : Value) → Values ListKind vs → IsItem h x → Values ListKind (vs ++ x ∷ [])
-  push_values vs x v p = list_values (vs ++ x ∷ []) (every_and (Refers h) vs (x ∷ []) v.refers (p.0, tt)) (every_and (λ v. v ≢ Unset) vs (x ∷ []) v.set (p.1, tt))
+  push_values vs x v p = list_values (vs ++ x ∷ []) (every_and (Refers h) vs (x ∷ []) v.refers (p.0, tt))
+      (every_and (λ v. v ≢ Unset) vs (x ∷ []) v.set (p.1, tt))
 
   cut_values : (vs : List Value) (n : ℕ) → Values ListKind vs → Values ListKind (take n vs)
-  cut_values vs n v = list_values (take n vs) (every_take (Refers h) vs n v.refers) (every_take (λ v. v ≢ Unset) vs n v.set)
+  cut_values vs n v = list_values (take n vs) (every_take (Refers h) vs n v.refers)
+      (every_take (λ v. v ≢ Unset) vs n v.set)
 
-  pair_values : (vs : List Value) (key x : Value) → Values Dict vs → IsKey h key → find h vs key ≡ None → IsItem h key → IsItem h x → Values Dict ((vs ++ key ∷ []) ++ x ∷ [])
+  pair_values : (vs : List Value) (key x : Value) → Values Dict vs → IsKey h key → find h vs key ≡ None →
+      IsItem h key → IsItem h x → Values Dict ((vs ++ key ∷ []) ++ x ∷ [])
   pair_values vs key x v k n i j =
       let same : (vs ++ key ∷ []) ++ x ∷ [] ≡ vs ++ key ∷ x ∷ [] = append_assoc vs (key ∷ []) (x ∷ []) in
       subst (Values Dict) (sym same)
-      (dict_values (vs ++ key ∷ x ∷ []) (every_and (Refers h) vs (key ∷ x ∷ []) v.refers (i.0, (j.0, tt))) (every_and (λ v. v ≢ Unset) vs (key ∷ x ∷ []) v.set (i.1, (j.1, tt))) (pairs_last h vs key x v.shape.0 k) (differ_last h vs key x v.shape.0 v.shape.1 n))
+      (dict_values (vs ++ key ∷ x ∷ []) (every_and (Refers h) vs (key ∷ x ∷ []) v.refers (i.0, (j.0, tt)))
+      (every_and (λ v. v ≢ Unset) vs (key ∷ x ∷ []) v.set (i.1, (j.1, tt))) (pairs_last h vs key x v.shape.0 k)
+      (differ_last h vs key x v.shape.0 v.shape.1 n))
 
   unpair_values : (vs : List Value) (k : ℕ) → Values Dict vs → Values Dict (gone vs k)
   unpair_values vs k v =
-      dict_values (gone vs k) (less (Refers h) v.refers) (less (λ v. v ≢ Unset) v.set) (pairs_gone h vs k v.shape.0) (differ_gone h vs k v.shape.0 v.shape.1)
+      dict_values (gone vs k) (less (Refers h) v.refers) (less (λ v. v ≢ Unset) v.set) (pairs_gone h vs k v.shape.0)
+      (differ_gone h vs k v.shape.0 v.shape.1)
     where
       less : (P : Value → Type 0) → Every P vs → Every P (gone vs k)
       less P i = every_less P (remove vs (2 * k)) (2 * k) (every_less P vs (2 * k) i)
 
   -- the law: whatever the change
-  pub change_fits : (c : Change) (r : Rec) → FitsAt rules h a r → Allows c r → Suits false h c r → Puts rules h a c r → FitsAt rules h a (after c r)
-  change_fits (Set i x) r f l s p = values_fit r (set r.values i x) r.room f l.0 (short_after (Set i x) r l f.short).0 (set_values r.kind r.values i x l.0 (values_of r f) l.1 s p)
+  pub change_fits : (c : Change) (r : Rec) → FitsAt rules h a r → Allows c r → Suits false h c r → Puts rules h a c r →
+      FitsAt rules h a (after c r)
+  change_fits (Set i x) r f l s p = values_fit r (set r.values i x) r.room f l.0 (short_after (Set i x) r l f.short).0
+      (set_values r.kind r.values i x l.0 (values_of r f) l.1 s p)
   change_fits (Push x) r f l s p =
       values_fit r (r.values ++ x ∷ []) _ f (for_tracked (Push x) r.kind l.0) (short_after (Push x) r l f.short).0
-      (subst (λ k. Values k (r.values ++ x ∷ [])) (sym l.0) (push_values r.values x (subst (λ k. Values k r.values) l.0 (values_of r f)) p))
+      (subst (λ k. Values k (r.values ++ x ∷ [])) (sym l.0)
+      (push_values r.values x (subst (λ k. Values k r.values) l.0 (values_of r f)) p))
   change_fits (Cut n) r f l s p =
       values_fit r (take n r.values) r.room f (for_tracked (Cut n) r.kind l.0) (short_after (Cut n) r l f.short).0
-      (subst (λ k. Values k (take n r.values)) (sym l.0) (cut_values r.values n (subst (λ k. Values k r.values) l.0 (values_of r f))))
+      (subst (λ k. Values k (take n r.values)) (sym l.0)
+      (cut_values r.values n (subst (λ k. Values k r.values) l.0 (values_of r f))))
   change_fits (Pair key x) r f l s p =
-      values_fit r ((r.values ++ key ∷ []) ++ x ∷ []) _ f (for_tracked (Pair key x) r.kind l.0) (short_after (Pair key x) r l f.short).0
-      (subst (λ k. Values k ((r.values ++ key ∷ []) ++ x ∷ [])) (sym l.0) (pair_values r.values key x (subst (λ k. Values k r.values) l.0 (values_of r f)) s.0.1 s.1 p.0 p.1))
+      values_fit r ((r.values ++ key ∷ []) ++ x ∷ []) _ f (for_tracked (Pair key x) r.kind l.0)
+      (short_after (Pair key x) r l f.short).0
+      (subst (λ k. Values k ((r.values ++ key ∷ []) ++ x ∷ [])) (sym l.0)
+      (pair_values r.values key x (subst (λ k. Values k r.values) l.0 (values_of r f)) s.0.1 s.1 p.0 p.1))
   change_fits (Unpair k) r f l s p =
       values_fit r (gone r.values k) r.room f (for_tracked (Unpair k) r.kind l.0) (short_after (Unpair k) r l f.short).0
-      (subst (λ z. Values z (gone r.values k)) (sym l.0) (unpair_values r.values k (subst (λ z. Values z r.values) l.0 (values_of r f))))
+      (subst (λ z. Values z (gone r.values k)) (sym l.0)
+      (unpair_values r.values k (subst (λ z. Values z r.values) l.0 (values_of r f))))

@@ -13,8 +13,16 @@ pub short_after : (c : Change) (r : Rec) → Allows c r → IsShort r → IsShor
 short_after (Set i x) r h s = (let a = s.0 in omega (arith, length-set r.values i x), s.1)
 short_after (Push x) r h s = (omega (arith, length-append r.values (x ∷ [])), s.1)
 short_after (Cut n) r h s = (let a = s.0 in omega (arith, length-take n r.values), s.1)
-short_after (Pair key x) r h s = (omega (arith, length-append (r.values ++ key ∷ []) (x ∷ []), length-append r.values (key ∷ [])), s.1)
+short_after (Pair key x) r h s = (
+  omega (
+    arith,
+    length-append (r.values ++ key ∷ []) (x ∷ []),
+    length-append r.values (key ∷ []),
+  ),
+  s.1,
+)
 short_after (Unpair k) r h s =
     let a : length (remove r.values (2 * k)) + 1 ≡ length r.values = length-remove r.values (2 * k) (omega arith) in
-    let b : length (remove (remove r.values (2 * k)) (2 * k)) + 1 ≡ length (remove r.values (2 * k)) = length-remove (remove r.values (2 * k)) (2 * k) (omega arith) in
+    let b : length (remove (remove r.values (2 * k)) (2 * k)) + 1 ≡ length (remove r.values (2 * k)) =
+    length-remove (remove r.values (2 * k)) (2 * k) (omega arith) in
     (let l = s.0 in omega arith, s.1)

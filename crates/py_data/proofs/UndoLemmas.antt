@@ -8,12 +8,14 @@ use Rattle.py_data.specs.Heap.{Rec, with_value}
 use Rattle.py_data.specs.Undo.{IsUndo}
 
 -- an element that is put back
-set_back : (xs : List Value) (i : ℕ) (x old : Value) → i < length xs → old ≡ slice_index_or xs i old → slice_set (slice_set xs i x) i old ≡ xs
+set_back : (xs : List Value) (i : ℕ) (x old : Value) → i < length xs → old ≡ slice_index_or xs i old →
+    slice_set (slice_set xs i x) i old ≡ xs
 set_back [] i x old h e = absurd (omega arith)
 set_back (y ∷ xs) zero x old h e = ap (λ z. z ∷ xs) e
 set_back (y ∷ xs) (suc i) x old h e = ap (λ l. y ∷ l) (set_back xs i x old (omega arith) e)
 
-pub set_undone : (r q : Rec) (i : ℕ) (x old : Value) → i < length r.values → old ≡ slice_index_or r.values i old → q ≡ with_value i x r → IsUndo (Set i x) r (Put i old) q
+pub set_undone : (r q : Rec) (i : ℕ) (x old : Value) → i < length r.values → old ≡ slice_index_or r.values i old →
+    q ≡ with_value i x r → IsUndo (Set i x) r (Put i old) q
 set_undone r q i x old h e made = record {
   made = made;
   back = ap (with_value i old) made ∙ (λ j. record r { values = set_back r.values i x old h e j });

@@ -1,4 +1,5 @@
--- What a change makes of a record, and when it may be made; and records within the limit of length. States `docs/HEAP.md`,
+-- What a change makes of a record, and when it may be made; and records within the limit of length. States
+-- `docs/HEAP.md`,
 -- "Records" and "Views".
 use Rattle.std.specs.Prelude.{◌≡◌, ℕ, ◌+◌, ◌*◌, ◌<◌, ◌≤◌, Bool, true, false, length, Some, None}
 use Rattle.py_data.specs.declared.value.Value.{Value}
@@ -48,7 +49,8 @@ abbrev pub AsksKey : Bool → Heap → Value → Rec → Type 0
 AsksKey true h key r = r.kind ≡ Dict
 AsksKey false h key r = Fits h r key
 
--- What a view asks of a change besides, so that a dictionary stays one: a set puts a value, not a key, and the key of a new
+-- What a view asks of a change besides, so that a dictionary stays one: a set puts a value, not a key, and the key of a
+-- new
 -- pair isn't there.
 abbrev pub Suits : Bool → Heap → Change → Rec → Type 0
 Suits partial h (Set i x) r = IsValuePlace r.kind i

@@ -28,7 +28,8 @@ one_level (Some u) f = f u
 
 -- ---- identity
 
--- whether two values are the same one, as `is` has it: None, truth values, integers and builtins by type and value, others by address
+-- whether two values are the same one, as `is` has it: None, truth values, integers and builtins by type and value,
+-- others by address
 abbrev pub is_same : Value → Value → Bool
 is_same NoneValue NoneValue = true
 is_same (BoolValue b) (BoolValue c) = int_eq (bit b) (bit c)
@@ -54,7 +55,8 @@ abbrev pub equal_found : (Value → Value → Got Bool) → List Value → Value
 equal_found u ys x None = Is false
 equal_found u ys x (Some i) = u x (value_at ys (i + (i + 1)))
 
--- the value of each key is that of the same key of the other dictionary, of as many pairs; in the order of the first one
+-- the value of each key is that of the same key of the other dictionary, of as many pairs; in the order of the first
+-- one
 abbrev pub equal_pairs : Heap → (Value → Value → Got Bool) → List Value → List Value → Got Bool
 equal_pairs h u (k ∷ x ∷ rest) ys = and_then (equal_found u ys x (find h ys k)) (equal_pairs h u rest ys)
 equal_pairs h u _ ys = Is true
@@ -68,11 +70,13 @@ abbrev pub equal_kinds : Heap → Under Bool → Bool → Kind → Kind → List
 equal_kinds h under otherwise Tuple Tuple xs ys = one_level under (λ u. of_one_length xs ys (equal_items u xs ys))
 equal_kinds h under otherwise ListKind ListKind xs ys = one_level under (λ u. of_one_length xs ys (equal_items u xs ys))
 equal_kinds h under otherwise Dict Dict xs ys = one_level under (λ u. of_one_length xs ys (equal_pairs h u xs ys))
-equal_kinds h under otherwise Method Method xs ys = Is (is_same (value_at xs 0) (value_at ys 0) && is_same (value_at xs 1) (value_at ys 1))
+equal_kinds h under otherwise Method Method xs ys =
+    Is (is_same (value_at xs 0) (value_at ys 0) && is_same (value_at xs 1) (value_at ys 1))
 equal_kinds h under otherwise _ _ xs ys = Is otherwise
 
 abbrev pub equal_by : Heap → Under Bool → Value → Value → Got Bool
-equal_by h under (Ref a) (Ref b) = equal_kinds h under (same_key h (Ref a) (Ref b)) (at h a.0).kind (at h b.0).kind (at h a.0).values (at h b.0).values
+equal_by h under (Ref a) (Ref b) = equal_kinds h under (same_key h (Ref a) (Ref b)) (at h a.0).kind (at h b.0).kind
+    (at h a.0).values (at h b.0).values
 equal_by h under x y = Is (same_key h x y)
 
 -- with so many levels left
@@ -105,7 +109,8 @@ order_then (Is false) here next = here
 order_then (Raise fault) here next = Raise fault
 
 -- the first items that are unequal decide by their order; where there are none, the shorter comes first
-abbrev pub order_items : (Value → Value → Got Bool) → (Value → Value → Got Ordering) → List Value → List Value → Got Ordering
+abbrev pub order_items : (Value → Value → Got Bool) → (Value → Value → Got Ordering) → List Value → List Value →
+    Got Ordering
 order_items same u [] [] = Is Equal
 order_items same u [] (y ∷ ys) = Is Less
 order_items same u (x ∷ xs) [] = Is Greater

@@ -21,7 +21,8 @@ pub record Grows {S : Type 0} (s t : Sight S) : Type 0 where
   pub world : t.used ≡ false → t.world ≡ s.world
   pub kept : (a : ℕ) (r : Rec) → s.heap a ≡ Some r → (q : Rec) × (t.heap a ≡ Some q) × KeptAs r q
   pub fixed : (a : ℕ) (r : Rec) → s.heap a ≡ Some r → is_tracked r.kind ≡ false → t.heap a ≡ Some r
-  pub seen : (a : ℕ) (r : Rec) → s.touched a ≡ false → t.touched a ≡ true → s.heap a ≡ Some r → (t.looked a ≡ true) × (is_tracked r.kind ≡ true)
+  pub seen : (a : ℕ) (r : Rec) → s.touched a ≡ false → t.touched a ≡ true → s.heap a ≡ Some r →
+      (t.looked a ≡ true) × (is_tracked r.kind ≡ true)
   pub fresh : (a : ℕ) → s.touched a ≡ false → t.touched a ≡ true → s.heap a ≡ None → mem a t.made ≡ true
   pub names : (a : ℕ) → mem a s.made ≡ true → mem a t.made ≡ true
 
@@ -53,7 +54,8 @@ pub record Mirrors {S : Type 0} (fr : Frame S) (s s' : Sight S) : Type 0 where
 
 -- the other heap and world agree with what is looked at on the way from s to t
 pub record Agrees {S : Type 0} (base : Heap) (w : World) (s t : Sight S) : Type 0 where
-  pub looked : (a : ℕ) (r : Rec) → s.touched a ≡ false → s.heap a ≡ Some r → (is_tracked r.kind ≡ true → t.looked a ≡ true) → base a ≡ Some r
+  pub looked : (a : ℕ) (r : Rec) → s.touched a ≡ false → s.heap a ≡ Some r →
+      (is_tracked r.kind ≡ true → t.looked a ≡ true) → base a ≡ Some r
   pub fresh : (a : ℕ) → s.touched a ≡ false → t.touched a ≡ true → s.heap a ≡ None → base a ≡ None
   pub world : s.used ≡ false → t.used ≡ true → w ≡ s.world
 
@@ -78,20 +80,22 @@ pub record AgreesOn (looked : Marks) (h h' : Heap) : Type 0 where
   pub same : (a : ℕ) → looked a ≡ true → h' a ≡ h a
 
 -- the same step over another heap and world
-pub record SameStep {S A : Type 0} (w : Row S A) (h' : Heap) (v' : World) (t : Sight S) (y : A) (t' : Sight S) : Type 0 where
-  pub does : Does w (opened S h' v') y t'
-  pub looked : (a : ℕ) → t'.looked a ≡ t.looked a
-  pub made : t'.made ≡ t.made
-  pub started : t'.started ≡ t.started
-  pub changes : (a : ℕ) → t.touched a ≡ true → t'.heap a ≡ t.heap a
-  pub others : (a : ℕ) → t.touched a ≡ false → t'.heap a ≡ h' a
-  pub world : t.used ≡ false → t'.world ≡ v'
-  pub world_used : t.used ≡ true → t'.world ≡ t.world
+pub record SameStep {S A : Type 0} (w : Row S A) (h' : Heap) (v' : World) (t : Sight S) (y : A) (t' : Sight S) : Type 0
+  where
+    pub does : Does w (opened S h' v') y t'
+    pub looked : (a : ℕ) → t'.looked a ≡ t.looked a
+    pub made : t'.made ≡ t.made
+    pub started : t'.started ≡ t.started
+    pub changes : (a : ℕ) → t.touched a ≡ true → t'.heap a ≡ t.heap a
+    pub others : (a : ℕ) → t.touched a ≡ false → t'.heap a ≡ h' a
+    pub world : t.used ≡ false → t'.world ≡ v'
+    pub world_used : t.used ≡ true → t'.world ≡ t.world
 
 -- the frame law
 abbrev pub FrameLaw : Type 0 → Type 0 → Type 0
 FrameLaw S A =
-    (w : Row S A) (h h' : Heap) (v v' : World) (t : Sight S) (y : A) → Does w (opened S h v) y t → AgreesOn t.looked h h' → ((a : ℕ) → mem a t.made ≡ true → h' a ≡ None)
+    (w : Row S A) (h h' : Heap) (v v' : World) (t : Sight S) (y : A) → Does w (opened S h v) y t →
+    AgreesOn t.looked h h' → ((a : ℕ) → mem a t.made ≡ true → h' a ≡ None)
     → (t.used ≡ true → v' ≡ v) → (t' : Sight S) × SameStep w h' v' t y t'
 
 -- the same row from the same heap and world, with fresh bookkeeping

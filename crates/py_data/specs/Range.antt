@@ -4,7 +4,8 @@ use Rattle.std.specs.Prelude.{◌≡◌, ◌≢◌, ◌↔◌, ℕ, ℤ, pos, ne
 use Rattle.py_data.specs.declared.value.Value.{Value}
 use Rattle.py_data.specs.declared.value.Value.TheVariants.{Int}
 
--- how many numbers at this distance from one another, from the first on, stand before the end of a way: one, and one for each
+-- how many numbers at this distance from one another, from the first on, stand before the end of a way: one, and one
+-- for each
 -- whole step in the rest of the way
 abbrev pub steps : ℤ → ℕ → ℕ
 steps (pos zero) step = 0
@@ -22,7 +23,8 @@ range_item start step k = start +ℤ (pos k *ℤ step)
 
 -- a range: three whole numbers, of which the step isn't 0, and at most so many items as a number of 63 bits counts
 abbrev pub IsRange : List Value → Type 0
-IsRange (Int start ∷ Int stop ∷ Int step ∷ []) = (step ≢ pos 0) × (range_length start stop step ≤ 9_223_372_036_854_775_807)
+IsRange (Int start ∷ Int stop ∷ Int step ∷ []) =
+    (step ≢ pos 0) × (range_length start stop step ≤ 9_223_372_036_854_775_807)
 IsRange _ = ⊥
 
 -- so many steps from the start come to the stop or past it
@@ -32,7 +34,8 @@ EndsWithin n start stop (negsuc step) = range_item start (negsuc step) n ≤ℤ 
 
 -- a range has as many items as steps are needed, at least, to come to the stop or past it
 abbrev pub RangeLaw : Type 0
-RangeLaw = (n : ℕ) (start stop step : ℤ) → step ≢ pos 0 → (range_length start stop step ≤ n) ↔ EndsWithin n start stop step
+RangeLaw = (n : ℕ) (start stop step : ℤ) → step ≢ pos 0 → (range_length start stop step ≤ n) ↔ EndsWithin n start stop
+    step
 
 -- range(5), range(1, 10, 3), range(1, 11, 3), range(5, 0, -2), range(3, 3), range(3, 0)
 five : range_length (pos 0) (pos 5) (pos 1) ≡ 5

@@ -1,4 +1,5 @@
--- What a view says of itself, which of its calls may be made and refused, and when code over a view has done what a row means.
+-- What a view says of itself, which of its calls may be made and refused, and when code over a view has done what a row
+-- means.
 -- States `docs/HEAP.md`, "Views", "Rows" and "Stops".
 use Rattle.std.specs.Prelude.{◌≡◌, ◌⊎◌, ℕ, ◌≤◌, Bool, true, false, List, length, Option, Some, None, Result, Ok, Err, MatchOption}
 use Rattle.py_data.specs.declared.value.Value.{Value}
@@ -34,13 +35,15 @@ abbrev pub ShownOf : Bool → Heap → Heap → Type 0
 ShownOf true g h = IsPart g h
 ShownOf false g h = g ≡ h
 
--- What a partial view must know to answer a search: the key and the keys of the dictionary, so that the answer is the same in
+-- What a partial view must know to answer a search: the key and the keys of the dictionary, so that the answer is the
+-- same in
 -- each heap of which it shows a part.
 abbrev pub Knows : Bool → Heap → Value → Rec → Type 0
 Knows true h key r = IsKey h key × ArePairs h r.values
 Knows false h key r = Unit {0}
 
--- What each call answers over a heap, and what it leaves of it. A partial view makes no record, since it can't tell which
+-- What each call answers over a heap, and what it leaves of it. A partial view makes no record, since it can't tell
+-- which
 -- addresses are free.
 abbrev pub Effect : {S : Type 0} → Bool → (c : Call S) → Heap → Reply c → Heap → Type 0
 Effect p (Read a) h r h1 = (h a ≡ Some r) × (h1 ≡ h)
@@ -127,7 +130,8 @@ module _ {S X : Type 0} (u : Sense S X) where
   unfoldable pub Stopped : {A : Type 0} → Row S A → X → Stop → X → Type 0
   Stopped (Ret a) v e w = (e ≡ OutOfMemory) × (w ≡ v)
   Stopped (Do c k) v e w =
-      ((e ≡ OutOfMemory) × (w ≡ v)) ⊎ (u.refuses c v e w ⊎ ((r : Reply c) × (m : X) × u.does c v r m × Stopped (k r) m e w))
+      ((e ≡ OutOfMemory) × (w ≡ v)) ⊎ (u.refuses c v e w ⊎
+      ((r : Reply c) × (m : X) × u.does c v r m × Stopped (k r) m e w))
 
   -- what code with the row's meaning ensures
   unfoldable pub Meets : {A : Type 0} → Row S A → X → X → Result A Stop → Type 0
@@ -180,7 +184,8 @@ pub record Lawful {S X : Type 0} (u : Sense S X) : Type 0 where
   pub same : (a : ℕ) (v : X) (r : Rec) (w : X) → u.seen a v → u.does (Read a) v r w → w ≡ v
   pub sure : (a : ℕ) (v : X) (e : Stop) (w : X) → u.seen a v → u.refuses (Read a) v e w → ⊥
   pub halts : (c : Call S) (v : X) (e : Stop) (w : X) → u.refuses c v e w → u.stopped w ≡ Some e
-  pub cause : (c : Call S) (v : X) (e : Stop) (w : X) → u.refuses c v e w → (can_refuse c e ≡ true) × (u.can_stop e ≡ true) × IfFull e (WantsRoom c (u.heap v))
+  pub cause : (c : Call S) (v : X) (e : Stop) (w : X) → u.refuses c v e w →
+      (can_refuse c e ≡ true) × (u.can_stop e ≡ true) × IfFull e (WantsRoom c (u.heap v))
 
 -- How a view brackets a step.
 pub record Bracket (S X : Type 0) : Type 1 where
@@ -189,10 +194,13 @@ pub record Bracket (S X : Type 0) : Type 1 where
   pub opens : X → X → Type 0
   pub undoes : X → X → Type 0
 
--- what holds of the brackets of each view: calls keep the base, a step opens over it, and taking the step back gives it again
+-- what holds of the brackets of each view: calls keep the base, a step opens over it, and taking the step back gives it
+-- again
 pub record IsBracket {S X : Type 0} (u : Sense S X) (b : Bracket S X) : Type 0 where
-  pub keeps : (c : Call S) (v : X) (r : Reply c) (w : X) → u.does c v r w → (b.base w ≡ b.base v) × (b.solo w ≡ b.solo v)
-  pub keeps_refused : (c : Call S) (v : X) (e : Stop) (w : X) → u.refuses c v e w → (b.base w ≡ b.base v) × (b.solo w ≡ b.solo v)
+  pub keeps : (c : Call S) (v : X) (r : Reply c) (w : X) → u.does c v r w →
+      (b.base w ≡ b.base v) × (b.solo w ≡ b.solo v)
+  pub keeps_refused : (c : Call S) (v : X) (e : Stop) (w : X) → u.refuses c v e w →
+      (b.base w ≡ b.base v) × (b.solo w ≡ b.solo v)
   pub opened : (v w : X) → b.opens v w → (u.heap w ≡ u.heap v) × (b.base w ≡ u.heap v) × IsLive u w
   pub undone : (v w : X) → b.undoes v w → (u.heap w ≡ b.base v) × IsLive u w
   pub put : (v w : X) (bytes : List ℕ) → u.does (Put Output bytes) v tt w → b.solo v ≡ true

@@ -145,13 +145,15 @@ HasShape h ListKind vs = Unit {0}
 HasShape h Dict vs = ArePairs h vs × KeysDiffer h vs
 HasShape h Cell (v ∷ []) = Unit {0}
 HasShape h Function (name ∷ code ∷ defaults ∷ []) = RefTo h Str name × IsCount code × RefTo h Tuple defaults
-HasShape h Class (name ∷ base ∷ attributes ∷ []) = RefTo h Str name × NoneOr (RefTo h Class) base × RefTo h Dict attributes
+HasShape h Class (name ∷ base ∷ attributes ∷ []) = RefTo h Str name × NoneOr (RefTo h Class) base × RefTo h Dict
+    attributes
 HasShape h Instance (of ∷ attributes ∷ []) = RefTo h Class of × RefTo h Dict attributes
 HasShape h Method (f ∷ own ∷ []) = IsCallable h f
 HasShape h Iter (over ∷ at ∷ count ∷ []) = IsIterable h over × IsCount at × IsCount count
 HasShape h Range vs = IsRange vs
 HasShape h Lock (held ∷ []) = IsBool held
-HasShape h Thread (target ∷ args ∷ number ∷ ended ∷ []) = RefTo h Tuple args × NoneOr IsThreadNumber number × IsBool ended
+HasShape h Thread (target ∷ args ∷ number ∷ ended ∷ []) = RefTo h Tuple args × NoneOr IsThreadNumber number × IsBool
+    ended
 HasShape h _ _ = ⊥
 
 -- bytes where there may be some

@@ -1,4 +1,5 @@
--- What a row means by itself: over a heap and a world, with the bookkeeping of what it looks at, changes, makes and starts.
+-- What a row means by itself: over a heap and a world, with the bookkeeping of what it looks at, changes, makes and
+-- starts.
 -- States `docs/HEAP.md`, "Rows".
 use Rattle.std.specs.Prelude.{◌≡◌, ℕ, Bool, true, false, ◌||◌, ◌&&◌, eqb, List, [], ◌∷◌, ◌++◌, Some, None}
 use Rattle.py_data.specs.declared.change.Change.{Change}
@@ -50,7 +51,8 @@ Edited a c s t = (r : Rec) × (s.heap a ≡ Some r) × Allows c r × (t ≡ edit
 -- what each call answers and leaves: the meaning of a row, call by call
 abbrev pub Act : {S : Type 0} (c : Call S) → Sight S → Reply c → Sight S → Type 0
 Act (Read a) s r t = (s.heap a ≡ Some r) × (t ≡ looked_at a r s)
-Act (Find d key) s o t = (r : Rec) × (s.heap d ≡ Some r) × Fits s.heap r key × (o ≡ find s.heap r.values key) × (t ≡ looked_at d r s)
+Act (Find d key) s o t = (r : Rec) × (s.heap d ≡ Some r) × Fits s.heap r key × (o ≡ find s.heap r.values key) ×
+    (t ≡ looked_at d r s)
 Act (Edit a c) s u t = Edited a c s t
 Act (Make r) s n t = (s.heap n ≡ None) × (t ≡ made_new n r s)
 Act (Start p) s u t = t ≡ started_one p s
@@ -61,7 +63,16 @@ Act (SetMidLine mid) s u t = t ≡ in_world (record s.world { mid = mid }) s
 
 -- a sight as a view, which refuses nothing
 abbrev pub pure : {S : Type 0} → Sense S (Sight S)
-pure = record { heap = λ s. s.heap; partial = false; stopped = λ s. None; can_stop = λ e. false; does = Act; refuses = λ c s e t. ⊥; seen = λ a s. ⊥ }
+pure = record {
+  heap = λ s. s.heap;
+  partial = false;
+  stopped = λ s. None;
+  can_stop = λ e. false;
+  does = Act;
+  refuses =
+      λ c s e t. ⊥;
+  seen = λ a s. ⊥;
+}
 
 -- from s the row leaves t and answers y
 abbrev pub Does : {S A : Type 0} → Row S A → Sight S → A → Sight S → Type 0
@@ -78,4 +89,13 @@ mem a (x ∷ xs) = eqb a x || mem a xs
 
 -- the sight with which a step begins
 abbrev pub opened : (S : Type 0) → Heap → World → Sight S
-opened S h w = record { heap = h; looked = no_marks; touched = no_marks; made = []; started = []; world = w; used = false }
+opened S h w = record {
+  heap = h;
+  looked = no_marks;
+  touched = no_marks;
+  made = [];
+  started = [];
+  world = w;
+  used =
+      false;
+}

@@ -1,4 +1,5 @@
--- Rows in whose course no record is longer than it was before them or is at their end, and which ask whether the output is in mid
+-- Rows in whose course no record is longer than it was before them or is at their end, and which ask whether the output
+-- is in mid
 -- line only where they write next. States `docs/HEAP.md`, "Rows that hold".
 use Rattle.std.specs.Prelude.{◌≡◌, ◌⊎◌, ℕ, ◌≤◌, Bool, true, false, ◌||◌, ◌&&◌, [], ◌∷◌, length, Some, refl}
 use Rattle.py_data.specs.declared.change.Change.{Change}
@@ -50,7 +51,8 @@ AsksToPrint (Do c k) = WritesThen c k × ((r : Reply c) → AsksToPrint (k r))
 -- once something has grown, nothing shrinks, and a row asks to write; the flag says whether something grew before
 unfoldable pub Steady : {S A : Type 0} → Bool → Row S A → Type 0
 Steady grown (Ret a) = Unit {0}
-Steady grown (Do c k) = (((grown && shrinks c) ≡ false) × WritesThen c k) × ((r : Reply c) → Steady (grown || grows c) (k r))
+Steady grown (Do c k) = (((grown && shrinks c) ≡ false) × WritesThen c k) ×
+    ((r : Reply c) → Steady (grown || grows c) (k r))
 
 -- a row that makes nothing shorter: it is steady, whatever grew before it
 abbrev pub Calm : {S A : Type 0} → Row S A → Type 0

@@ -1,4 +1,5 @@
--- The texts of values, as `repr` and `str` write them, by recursion on the values. An exception's `str` isn't among them.
+-- The texts of values, as `repr` and `str` write them, by recursion on the values. An exception's `str` isn't among
+-- them.
 -- States `docs/HEAP.md`, "Texts".
 use Rattle.std.specs.Prelude.{ℕ, zero, suc, ℤ, List, [], ◌∷◌, ◌++◌, Option, Some, None, codes}
 use Rattle.py_data.specs.declared.value.Value.{Value}
@@ -40,7 +41,8 @@ abbrev pub pair_text : (Value → Got (List ℕ)) → Value → Value → Got (L
 pair_text u k x = got_then (u k) (λ t. got_then (u x) (λ y. Is (t ++ codes ": " ++ y)))
 
 abbrev pub more_pairs : (Value → Got (List ℕ)) → List Value → Got (List ℕ)
-more_pairs u (k ∷ x ∷ rest) = got_then (pair_text u k x) (λ t. got_then (more_pairs u rest) (λ ts. Is (codes ", " ++ t ++ ts)))
+more_pairs u (k ∷ x ∷ rest) = got_then (pair_text u k x)
+    (λ t. got_then (more_pairs u rest) (λ ts. Is (codes ", " ++ t ++ ts)))
 more_pairs u _ = Is []
 
 abbrev pub pair_texts : (Value → Got (List ℕ)) → List Value → Got (List ℕ)

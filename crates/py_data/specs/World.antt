@@ -1,4 +1,5 @@
--- What is outside of a program: the input that is left, what was written to the two outputs, and whether the output is in
+-- What is outside of a program: the input that is left, what was written to the two outputs, and whether the output is
+-- in
 -- the middle of a line. States `docs/LANGUAGE.md`, "Print" and "Input".
 use Rattle.std.specs.Prelude.{◌≡◌, ℕ, ◌≤◌, Bool, List, ◌++◌, length, take, drop, Option, Some, None}
 use Rattle.std.specs.Io.BufRead.{take_through}

@@ -23,11 +23,15 @@ pub IsWrittenAs-signed_decimal : (n : ℤ) → mag n < 2 ^ 63 → IsWrittenAs n 
 IsWrittenAs-signed_decimal (pos n) h = decimal_is_IsNumeral n (omega arith)
 IsWrittenAs-signed_decimal (negsuc n) h = (refl, decimal_is_IsNumeral (suc n) (omega arith))
 
-pub printed : {E : Type 0} (r : Result (List ℕ) E) (n : ℤ) (bs : List ℕ) → mag n < 2 ^ 63 → bs ≡ signed_decimal n → IfOk r (λ a. a ≡ bs) → IfOk r (IsWrittenAs n)
+pub printed : {E : Type 0} (r : Result (List ℕ) E) (n : ℤ) (bs : List ℕ) → mag n < 2 ^ 63 → bs ≡ signed_decimal n →
+    IfOk r (λ a. a ≡ bs) → IfOk r (IsWrittenAs n)
 printed (Ok a) n bs h e p = subst (IsWrittenAs n) (sym (p ∙ e)) (IsWrittenAs-signed_decimal n h)
 printed (Err x) n bs h e p = tt
 
 -- ---- the octal digits at the front
 
-pub octal_digits_stop : (bs most : List ℕ) (i : ℕ) → most ≡ take 3 bs → i ≤ length most → ((k : ℕ) → k < i → is_octal (get_or most k 0) ≡ true) → (i < length most → is_octal (get_or most i 0) ≡ false) → take i most ≡ octal_digits bs
-octal_digits_stop bs most i e h p q = ap (λ n. take n most) (sym (prefix_len_is is_octal most i 0 h p q)) ∙ ap (λ xs. take_while is_octal xs) e
+pub octal_digits_stop : (bs most : List ℕ) (i : ℕ) → most ≡ take 3 bs → i ≤ length most →
+    ((k : ℕ) → k < i → is_octal (get_or most k 0) ≡ true) → (i < length most → is_octal (get_or most i 0) ≡ false) →
+    take i most ≡ octal_digits bs
+octal_digits_stop bs most i e h p q = ap (λ n. take n most) (sym (prefix_len_is is_octal most i 0 h p q)) ∙
+    ap (λ xs. take_while is_octal xs) e

@@ -13,7 +13,8 @@ use Rattle.py_text.specs.declared.literal.Escape.{Escape}
 abbrev pub line_ends : List ℕ → List ℕ
 line_ends [] = []
 line_ends (b ∷ []) = (if b == 13 then 10 else b) ∷ []
-line_ends (b ∷ c ∷ bs) = if b == 13 then (if c == 10 then 10 ∷ line_ends bs else 10 ∷ line_ends (c ∷ bs)) else b ∷ line_ends (c ∷ bs)
+line_ends (b ∷ c ∷ bs) = if b == 13 then (if c == 10 then 10 ∷ line_ends bs else 10 ∷ line_ends (c ∷ bs)) else b ∷
+    line_ends (c ∷ bs)
 
 -- what follows a byte, where a line feed after a carriage return belongs to the same line end
 abbrev pub after_line_end : ℕ → List ℕ → List ℕ
@@ -83,7 +84,8 @@ then_spelled (Some e) rest = option_map (λ t. written e.byte ++ t) (rest e.size
 abbrev pub spelled : ℕ → List ℕ → Option (List ℕ)
 spelled n [] = Some []
 spelled (suc n) (b ∷ bs) = spelled n bs
-spelled zero (b ∷ bs) = if b == 92 then then_spelled (escape_at bs) (λ n. spelled n bs) else option_map (λ t. b ∷ t) (spelled zero bs)
+spelled zero (b ∷ bs) = if b == 92 then then_spelled (escape_at bs) (λ n. spelled n bs) else option_map (λ t. b ∷ t)
+    (spelled zero bs)
 
 -- In a raw string all stays.
 abbrev pub unescaped : Bool → List ℕ → Option (List ℕ)

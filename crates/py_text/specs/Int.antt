@@ -4,7 +4,8 @@ use Rattle.std.specs.Str.Parse.{IsNumeral, digits_value}
 use Rattle.py_text.specs.declared.error.TextError.{TextError}
 use Rattle.py_text.specs.declared.error.TextError.TheVariants.{Wide}
 
--- The number that the digits write, which is an integer of the language, or the error exactly where it is above the largest one.
+-- The number that the digits write, which is an integer of the language, or the error exactly where it is above the
+-- largest one.
 abbrev pub ReadsInt : Result ℤ TextError → ℕ → List ℕ → Type 0
 ReadsInt (Ok n) base digits = n ≡ pos (digits_value base digits)
 ReadsInt (Err e) base digits = (e ≡ Wide) × (2 ^ 63 ≤ digits_value base digits)

@@ -12,21 +12,25 @@ module _ (byte : ℕ) where
   take-place [] = refl
   take-place (x ∷ xs) =
       let more : 1 + place xs + 1 ≡ suc (place xs + 1) = omega arith in
-      elim (eqb x byte) as (λ b. take (cond (not b) (1 + place xs) 0 + 1) (x ∷ xs) ≡ cond b (x ∷ []) (x ∷ take_through byte xs)) [
+      elim (eqb x byte) as (λ b. take (cond (not b) (1 + place xs) 0 + 1) (x ∷ xs) ≡ cond b (x ∷ [])
+      (x ∷ take_through byte xs)) [
         | true ↦ refl
         | false ↦ rw more (ap (λ l. x ∷ l) (take-place xs))
       ]
 
-  pub take_through-found : (xs : List ℕ) (i : ℕ) → position (λ x. eqb x byte) xs ≡ Some i → take (i + 1) xs ≡ take_through byte xs
-  take_through-found xs i = elim (ltb (place xs) (length xs)) as (λ b. cond b (Some (place xs)) None ≡ Some i → take (i + 1) xs ≡ take_through byte xs) [
-    | true ↦ λ found. let e : place xs ≡ i = cc in rw (← e) (take-place xs)
-    | false ↦ λ found. cc
-  ]
+  pub take_through-found : (xs : List ℕ) (i : ℕ) → position (λ x. eqb x byte) xs ≡ Some i →
+      take (i + 1) xs ≡ take_through byte xs
+  take_through-found xs i = elim (ltb (place xs) (length xs)) as (λ b. cond b (Some (place xs)) None ≡ Some i →
+      take (i + 1) xs ≡ take_through byte xs) [
+        | true ↦ λ found. let e : place xs ≡ i = cc in rw (← e) (take-place xs)
+        | false ↦ λ found. cc
+      ]
 
   pub take_through-missed : (xs : List ℕ) → position (λ x. eqb x byte) xs ≡ None → xs ≡ take_through byte xs
   take_through-missed xs = at (ltb (place xs) (length xs)) refl
     where
-      at : (b : Bool) → ltb (place xs) (length xs) ≡ b → cond b (Some (place xs)) None ≡ None → xs ≡ take_through byte xs
+      at : (b : Bool) → ltb (place xs) (length xs) ≡ b → cond b (Some (place xs)) None ≡ None →
+          xs ≡ take_through byte xs
       at true is missed = cc
       at false is missed =
           let past = ltb-false (place xs) (length xs) is in

@@ -61,7 +61,8 @@ mem_source_state s = record { told = Some s.rest; faults = s.faults; ends = s.en
 -- why no line was taken, and what is left then: a failure takes as many bytes as the plan says
 abbrev pub MemTakes : {T : Type 0} → Result T TakeError → MemSourceValue → MemSourceValue → Type 0
 MemTakes (Ok l) old new = (due old.plan ≡ None) × (new.faults ≡ old.faults)
-MemTakes (Err TakeFailed) old new = IsSomeAnd (due old.plan) (λ n. new.rest ≡ drop n old.rest) × (new.ends ≡ old.ends) × (new.faults ≡ counted old.faults)
+MemTakes (Err TakeFailed) old new = IsSomeAnd (due old.plan) (λ n. new.rest ≡ drop n old.rest) × (new.ends ≡ old.ends)
+    × (new.faults ≡ counted old.faults)
 MemTakes (Err TakeMemory) old new = (new.rest ≡ old.rest) × (new.ends ≡ old.ends) × (new.faults ≡ old.faults)
 
 -- A sink: the bytes that were written, and how often it failed.
@@ -76,7 +77,8 @@ mem_sink_state s = record { told = Some s.written; faults = s.faults }
 -- what was written: all, or at a failure as many bytes as the plan says
 abbrev pub MemPuts : {T : Type 0} → List ℕ → Result T PutError → MemSinkValue → MemSinkValue → Type 0
 MemPuts bytes (Ok u) old new = (due old.plan ≡ None) × (new.written ≡ old.written ++ bytes) × (new.faults ≡ old.faults)
-MemPuts bytes (Err PutFailed) old new = IsSomeAnd (due old.plan) (λ n. new.written ≡ old.written ++ take n bytes) × (new.faults ≡ counted old.faults)
+MemPuts bytes (Err PutFailed) old new = IsSomeAnd (due old.plan) (λ n. new.written ≡ old.written ++ take n bytes) ×
+    (new.faults ≡ counted old.faults)
 MemPuts bytes (Err PutMemory) old new = (new.written ≡ old.written) × (new.faults ≡ old.faults)
 
 -- A loader that never fails: its text, whatever the name, and the names that it was asked for.

@@ -38,14 +38,16 @@ abbrev pub ends_after : List ℕ → ℕ → ℕ
 ends_after [] n = counted n
 ends_after (b ∷ bs) n = n
 
--- a load without an answer: a failure is counted, and the name is among those asked for; at want of memory it may be missing
+-- a load without an answer: a failure is counted, and the name is among those asked for; at want of memory it may be
+-- missing
 abbrev pub LoadStops : List ℕ → LoadError → LoaderState → LoaderState → Type 0
 LoadStops name LoadFailed old new = (new.asked ≡ old.asked ++ name ∷ []) × Rose old.faults new.faults
 LoadStops name LoadMemory old new = (new.asked ≡ old.asked) ⊎ (new.asked ≡ old.asked ++ name ∷ [])
 
 -- a line that wasn't taken: a failure is counted, and some bytes may be gone; at want of memory none are
 abbrev pub TakeStops : TakeError → SourceState → SourceState → Type 0
-TakeStops TakeFailed old new = ((k : ℕ) × (new.told ≡ shrunk old.told k)) × (new.ends ≡ old.ends) × Rose old.faults new.faults
+TakeStops TakeFailed old new = ((k : ℕ) × (new.told ≡ shrunk old.told k)) × (new.ends ≡ old.ends) × Rose old.faults
+    new.faults
 TakeStops TakeMemory old new = (new.told ≡ old.told) × (new.ends ≡ old.ends)
 
 -- bytes were put: all of them at Ok, a front of them at a failure, none at want of memory

@@ -90,7 +90,14 @@ form_behind_two [] = dashes
 form_behind_two (x ∷ xs) = long x xs
 
 form_behind_one : (bs : Text) → Form (45 ∷ bs)
-form_behind_one [] = plain _ (record { not_dashes = refl; no_long = refl; no_short = refl; word = refl; no_flag = refl })
+form_behind_one [] = plain _ (record {
+  not_dashes = refl;
+  no_long = refl;
+  no_short = refl;
+  word = refl;
+  no_flag =
+      refl;
+})
 form_behind_one (c ∷ cs) = go (is_dash c) refl
   where
     go : (x : Bool) → is_dash c ≡ x → Form (45 ∷ c ∷ cs)
@@ -127,5 +134,6 @@ first_char (c ∷ cs) x xs e = (c, refl)
 
 pub first_of_flags : (x : ℕ) (xs : Text) → IsUtf8 (45 ∷ x ∷ xs) → (c : ℕ) × (slice_get (chars (x ∷ xs)) 0 ≡ Some c)
 first_of_flags x xs utf8 =
-    let behind : IsUtf8 (x ∷ xs) = IsUtf8-drop (45 ∷ x ∷ xs) 1 utf8 (IsCharBoundary-after_ascii (45 ∷ x ∷ xs) 0 utf8 (omega arith) (omega arith)) in
+    let behind : IsUtf8 (x ∷ xs) = IsUtf8-drop (45 ∷ x ∷ xs) 1 utf8
+    (IsCharBoundary-after_ascii (45 ∷ x ∷ xs) 0 utf8 (omega arith) (omega arith)) in
     first_char (chars (x ∷ xs)) x xs (encodes-chars (x ∷ xs) behind)

@@ -69,7 +69,8 @@ script_read (File name) h = refl
 script_read (Demo n) h = option_read Workload n [] (omega arith)
 
 abbrev numbers_of : (s l p b : ℕ) → Use → List Use
-numbers_of s l p b u = Value Segments (decimal s) ∷ Value Length (decimal l) ∷ Value Pages (decimal p) ∷ Value Budget (decimal b) ∷ u ∷ []
+numbers_of s l p b u = Value Segments (decimal s) ∷ Value Length (decimal l) ∷ Value Pages (decimal p) ∷ Value Budget
+    (decimal b) ∷ u ∷ []
 
 words_read : (o : Options) → IsWithin o
     → uses_from (words_for o) None ≡ Some (numbers_of o.segments o.length o.pages o.budget (script_use o.script))
@@ -109,7 +110,14 @@ script_given (File name) h = named name h
 script_given (Demo n) h = ap (option_map Demo) (number_written 0 1000000 n (omega arith) h (omega arith))
 
 given_is : (s : Script) (n l p b : ℕ) → given_by (numbers_of n l p b (script_use s))
-    ≡ record { files = files_of s; segments = decimal n ∷ []; lengths = decimal l ∷ []; pages = decimal p ∷ []; budgets = decimal b ∷ []; demos = demos_of s }
+    ≡ record {
+      files = files_of s;
+      segments = decimal n ∷ [];
+      lengths = decimal l ∷ [];
+      pages = decimal p ∷ [];
+      budgets = decimal b ∷ [];
+      demos = demos_of s;
+    }
 given_is Source n l p b = refl
 given_is (File name) n l p b = refl
 given_is (Demo m) n l p b = refl

@@ -64,7 +64,8 @@ file_rule = record {
 
 abbrev pub rules : List Rule
 rules =
-    rule_of_setting Segments ∷ rule_of_setting Length ∷ rule_of_setting Pages ∷ rule_of_setting Budget ∷ rule_of_setting Workload ∷ file_rule ∷ []
+    rule_of_setting Segments ∷ rule_of_setting Length ∷ rule_of_setting Pages ∷ rule_of_setting Budget ∷
+    rule_of_setting Workload ∷ file_rule ∷ []
 
 abbrev pub shape : Shape
 shape = record {
@@ -101,7 +102,14 @@ text_of (Place v) = v
 text_of (Value s v) = v
 
 abbrev pub row_of : Use → Row
-row_of u = record { id = id_of u; values = text_of u ∷ []; count = None; source = Some CommandLine; reading = AsWritten }
+row_of u = record {
+  id = id_of u;
+  values = text_of u ∷ [];
+  count = None;
+  source = Some CommandLine;
+  reading =
+      AsWritten;
+}
 
 abbrev pub rows : List Use → List Row
 rows us = map row_of us

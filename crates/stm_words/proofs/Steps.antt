@@ -80,7 +80,9 @@ plain_walk : (w : Text) (h : Held) → IsPlain w
 unfolding walked
 plain_walk w h p = ap (λ (met : Held × Step). after_step rules w (at false false idle h) met.0 met.1)
     (plain_met 1 w h p)
-    ∙ elim (is_pending file_rule h.pending) as (λ b. at true false idle (pushed (codes "file") w (cond (b && false) h (settled rules h))) ≡ at true false idle (with_place h w)) [ true ↦ refl | false ↦ refl ]
+    ∙ elim (is_pending file_rule h.pending) as
+    (λ b. at true false idle (pushed (codes "file") w (cond (b && false) h (settled rules h))) ≡ at true false idle
+    (with_place h w)) [ true ↦ refl | false ↦ refl ]
 
 -- the word of a value that an option waits for
 value_met : (us : List Use) (s : Setting) (n : ℕ) (w : Text) → IsPlain w
@@ -133,7 +135,8 @@ plain_rests w ws more p us l false single placed = go (settles us l single)
         → outcome (resting false us l) (w ∷ ws) ≡ ends (with_last us l) (loose (w ∷ ws) None)
     go (inr f) = turn _ f.fault ∙ sym (doomed_ends (with_last us l) (loose (w ∷ ws) None) f.doomed)
     go (inl s) = turn _ s.quiet ∙ ap (λ walk. outcome walk ws) (plain_walk w (held us (last l)) p)
-        ∙ ap (λ rs. outcome (at true false idle (record { rows = rs; pending = Some (codes "file", w ∷ []); skip = 0 })) ws) s.rows
+        ∙ ap (λ rs. outcome (at true false idle
+        (record { rows = rs; pending = Some (codes "file", w ∷ []); skip = 0 })) ws) s.rows
         ∙ more.rest (with_last us l) (Some (Place w)) true s.single (placed_now (with_last us l) w)
         ∙ sym (ends_with (with_last us l) (Place w) (loose ws None))
         ∙ ap (ends (with_last us l)) (sym (plain_word_is w ws p))
@@ -151,7 +154,8 @@ plain_wants w ws more p us s b single placed =
 -- what may be wrong behind the word itself
 abbrev later_fault : Waiting → Bool → Held → Text → Kinds
 later_fault waiting b h w = step_fault shape (position_after b)
-    (word_met rules [] false waiting (position_after b) w h).0 (word_met rules [] false waiting (position_after b) w h).1
+    (word_met rules [] false waiting (position_after b) w h).0
+    (word_met rules [] false waiting (position_after b) w h).1
 
 short_fault_is : (x : ℕ) (xs : Text) (h : Held) → h.skip ≡ 0 → (c : ℕ) → slice_get (chars (x ∷ xs)) 0 ≡ Some c
     → flags_fault rules false (length (x ∷ xs)) (x ∷ xs) h.skip (record h { skip = 0 }) ≡ kind.UnknownArgument ∷ []
@@ -374,7 +378,8 @@ found_wants s (Some t) true v w ws us b =
     (Some v) w (held us (Some (name_of s, [])))) ws)) (unvalued us s)
 found_wants s (Some t) false v w ws us b =
     ap (λ ks. if_none (or_else ks [])
-    (outcome (option_walk (option (name_of s)) b (Some (rule_of_setting t)) None w (held us (Some (name_of s, [])))) ws)) (unvalued us s)
+    (outcome (option_walk (option (name_of s)) b (Some (rule_of_setting t)) None w (held us (Some (name_of s, []))))
+    ws)) (unvalued us s)
 
 long_wants : (x : ℕ) (xs : Text) (ws : List Text) → Wants (45 ∷ 45 ∷ x ∷ xs) ws
 unfolding walked

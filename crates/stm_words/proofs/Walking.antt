@@ -39,7 +39,14 @@ position_after b = if b then 2 else 1
 
 -- `placed` says whether a word went to the positional
 abbrev pub at : (placed trailing : Bool) → Waiting → Held → Walk
-at placed trailing waiting h = record { held = h; waiting = waiting; position = position_after placed; is_trailing = trailing; stopped = None }
+at placed trailing waiting h = record {
+  held = h;
+  waiting = waiting;
+  position = position_after placed;
+  is_trailing =
+      trailing;
+  stopped = None;
+}
 
 abbrev pub with_last : List Use → Option Use → List Use
 with_last us p = us ++ option_to_list p
@@ -84,7 +91,12 @@ settled_found : (us : List Use) (u : Use)
 settled_found us u = ap (λ o. used_by_id o (text_of u ∷ []) (rows us)) (rule_by_id u)
 
 pub settles : (us : List Use) (p : Option Use) → Single us → Settled us p ⊎ Faulty us p
-settles us None single = inl (record { quiet = refl; rows = ap rows (sym (append-nil us)); single = subst Single (sym (append-nil us)) single })
+settles us None single = inl (record {
+  quiet = refl;
+  rows = ap rows (sym (append-nil us));
+  single =
+      subst Single (sym (append-nil us)) single;
+})
 settles us (Some u) single = go (adds us u single)
   where
     go : Adds us u ⊎ Repeats us u → Settled us (Some u) ⊎ Faulty us (Some u)
@@ -112,16 +124,24 @@ ended placed trailing waiting us p single = go (settles us p single)
 
 -- what is held once the word went to the positional
 abbrev pub with_place : Held → Text → Held
-with_place h w = record { rows = settled_rows rules h.pending h.rows; pending = Some (codes "file", w ∷ []); skip = h.skip }
+with_place h w = record {
+  rows = settled_rows rules h.pending h.rows;
+  pending = Some (codes "file", w ∷ []);
+  skip =
+      h.skip;
+}
 
 pub trailing_turn : (waiting : Waiting) (h : Held) (w : Text)
     → turn_fault shape [] (at false true waiting h) w ≡ settle_fault rules false h
-trailing_turn waiting h w = elim (is_pending file_rule h.pending) as (λ b. cond (b && false) [] (settle_fault rules false h) ≡ settle_fault rules false h) [ true ↦ refl | false ↦ refl ]
+trailing_turn waiting h w = elim (is_pending file_rule h.pending) as
+    (λ b. cond (b && false) [] (settle_fault rules false h) ≡ settle_fault rules false h) [ true ↦ refl | false ↦ refl ]
 
 pub trailing_walk : (waiting : Waiting) (h : Held) (w : Text)
     → walked rules [] (at false true waiting h) w ≡ at true true idle (with_place h w)
 unfolding walked
-trailing_walk waiting h w = elim (is_pending file_rule h.pending) as (λ b. at true true idle (pushed (codes "file") w (cond (b && false) h (settled rules h))) ≡ at true true idle (with_place h w)) [ true ↦ refl | false ↦ refl ]
+trailing_walk waiting h w = elim (is_pending file_rule h.pending) as
+    (λ b. at true true idle (pushed (codes "file") w (cond (b && false) h (settled rules h))) ≡ at true true idle
+    (with_place h w)) [ true ↦ refl | false ↦ refl ]
 
 abbrev pub behind_one : (us : List Use) (u : Use) (more : List Use)
     → answer ((us ++ u ∷ []) ++ more) ≡ answer (us ++ u ∷ more)
@@ -152,5 +172,6 @@ behind (w ∷ ws) us p false waiting single placed = go (behind ws (with_last us
         (w ∷ ws) ≡ answer (with_last us p ++ Place w ∷ map Place ws)
     go rest (inr f) = turn _ f.fault ∙ sym (f.doomed (Place w ∷ map Place ws))
     go rest (inl s) = turn _ s.quiet ∙ ap (λ walk. outcome walk ws) (trailing_walk waiting (held us (last p)) w)
-        ∙ ap (λ rs. outcome (at true true idle (record { rows = rs; pending = Some (codes "file", w ∷ []); skip = 0 })) ws) s.rows
+        ∙ ap (λ rs. outcome (at true true idle (record { rows = rs; pending = Some (codes "file", w ∷ []); skip = 0 }))
+        ws) s.rows
         ∙ rest s.single (placed_now (with_last us p) w) ∙ behind_one (with_last us p) (Place w) (map Place ws)

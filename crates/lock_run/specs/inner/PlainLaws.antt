@@ -1,5 +1,6 @@
 -- What code and proofs say to each other: nothing public rests on it.
--- A plain view keeps the laws of views: the proofs that `impl View for PlainView` cites. States `docs/HEAP.md`, "Views".
+-- A plain view keeps the laws of views: the proofs that `impl View for PlainView` cites. States `docs/HEAP.md`,
+-- "Views".
 use Rattle.std.specs.Prelude.{◌≡◌, ℕ, true, false}
 use Rattle.std.proofs.Common.{ap, refl, ◌∙◌, sym, subst, IsSome}
 use Rattle.py_data.specs.declared.stop.Stop.{Stop}
@@ -17,13 +18,25 @@ use Rattle.lock_run.specs.PlainState.{PlainState, PlainDoes, Changes, Why}
 use Rattle.lock_run.specs.PlainSense.{plain_sense, plain_bracket, plain_stops}
 
 -- a change of a record is one of the heap
-changes_edits : {S : Type 0} (a : ℕ) (x : Change) (d e : PlainState S) → Changes a x d e → Edits a (after x) d.heap e.heap
-changes_edits a x d e h = (subst IsSome (sym h.1) refl, ap (λ d. d.heap) h.3 ∙ ap (λ q. put_at d.heap a (after x q)) (sym (at-is d.heap a h.0 h.1)))
+changes_edits : {S : Type 0} (a : ℕ) (x : Change) (d e : PlainState S) → Changes a x d e →
+    Edits a (after x) d.heap e.heap
+changes_edits a x d e h = (
+  subst IsSome (sym h.1) refl,
+  ap (λ d. d.heap) h.3 ∙
+      ap (λ q. put_at d.heap a (after x q)) (sym (at-is d.heap a h.0 h.1)),
+)
 
 -- each call does to the heap what such a call does over any view
-pub plain_effect : {S : Type 0} (c : Call S) (d : PlainState S) (r : Reply c) (e : PlainState S) → PlainDoes c d r e → Effect false c d.heap r e.heap
+pub plain_effect : {S : Type 0} (c : Call S) (d : PlainState S) (r : Reply c) (e : PlainState S) → PlainDoes c d r e →
+    Effect false c d.heap r e.heap
 plain_effect (Read a) d r e h = (h.0, ap (λ d. d.heap) h.1)
-plain_effect (Find a key) d r e h = (subst IsSome (sym h.1) refl, h.3 ∙ ap (λ q. find d.heap q.values key) (sym (at-is d.heap a h.0 h.1)), ap (λ d. d.heap) h.4, tt)
+plain_effect (Find a key) d r e h = (
+  subst IsSome (sym h.1) refl,
+  h.3 ∙
+      ap (λ q. find d.heap q.values key) (sym (at-is d.heap a h.0 h.1)),
+  ap (λ d. d.heap) h.4,
+  tt,
+)
 plain_effect (Edit a x) d r e h = changes_edits a x d e h
 plain_effect (Make q) d n e h = (h.1, ap (λ d. d.heap) h.2, refl)
 plain_effect (Start s) d r e h = ap (λ d. d.heap) h
@@ -34,7 +47,8 @@ plain_effect MidLine d r e h = ap (λ d. d.heap) h.1
 plain_effect (SetMidLine b) d r e h = ap (λ d. d.heap) h
 
 -- no call changes the base of the step
-pub plain_base : {S : Type 0} (c : Call S) (d : PlainState S) (r : Reply c) (e : PlainState S) → PlainDoes c d r e → e.base ≡ d.base
+pub plain_base : {S : Type 0} (c : Call S) (d : PlainState S) (r : Reply c) (e : PlainState S) → PlainDoes c d r e →
+    e.base ≡ d.base
 plain_base (Read a) d r e h = ap (λ d. d.base) h.1
 plain_base (Find a key) d r e h = ap (λ d. d.base) h.4
 plain_base (Edit a x) d r e h = ap (λ d. d.base) h.3
@@ -55,7 +69,8 @@ no_look_stops a d e OutOfMemory w = w.0
 no_look_stops a d e _ w = w
 
 -- each Stop is one that such a call can meet, and one of those that a plain view gives
-stop_cause : {S : Type 0} (c : Call S) (d e : PlainState S) (s : Stop) → Why s c d e → (can_refuse c s ≡ true) × (plain_stops s ≡ true) × IfFull s (WantsRoom c d.heap)
+stop_cause : {S : Type 0} (c : Call S) (d e : PlainState S) (s : Stop) → Why s c d e →
+    (can_refuse c s ≡ true) × (plain_stops s ≡ true) × IfFull s (WantsRoom c d.heap)
 stop_cause (Take most) d e ReadFault w = (refl, refl, tt)
 stop_cause _ d e ReadFault w = absurd w.0
 stop_cause (Put Output b) d e WriteFault w = (refl, refl, tt)

@@ -9,5 +9,6 @@ make-requires g c = λ h. dict_asks _ g.V.View.sense.partial h c.args.count _ c.
 
 pub loop-place-init : goal.loop-place-init
 loop-place-init g c =
-    let long : length c.in_ok-values.values ≡ 2 * c.args.count = ap length c.in_ok-values.ensures ∙ pairs_length 0 c.args.count in
+    let long : length c.in_ok-values.values ≡ 2 * c.args.count = ap length c.in_ok-values.ensures ∙
+    pairs_length 0 c.args.count in
     subst (λ n. HoldsRecord g.V.View.sense Dict c.in_ok-dict.dict.0 n c.make.new.v) long c.in_ok-dict.ensures

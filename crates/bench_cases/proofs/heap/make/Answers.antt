@@ -6,7 +6,10 @@ use Rattle.bench_cases.proofs.Holding.{made}
 use Rattle.bench_cases.proofs.heap.make.Goals as goal
 
 pub make-requires-clause-shape : goal.make-requires-clause-shape
-make-requires-clause-shape g c = subst (λ bs. Asks {S = g.row.S.Denot} g.V.View.sense.partial (Make (new_rec c.args.kind c.args.values bs)) (g.V.View.sense.heap c.open_step.new.self)) (sym c.new.ensures) (c.requires (g.V.View.sense.heap c.open_step.new.self))
+make-requires-clause-shape g c = subst (λ bs.
+    Asks {S = g.row.S.Denot} g.V.View.sense.partial (Make (new_rec c.args.kind c.args.values bs))
+    (g.V.View.sense.heap c.open_step.new.self)) (sym c.new.ensures)
+    (c.requires (g.V.View.sense.heap c.open_step.new.self))
 
 pub returns : goal.returns
 returns g c = made g.met.V.View.lawful _ _ _ _ _ _ c.make.ensures

@@ -8,5 +8,8 @@ pub loop-i-preserved : goal.loop-i-preserved
 loop-i-preserved c =
     let e = c.in_ok-push.ensures.ok in
     let vs = c.loop-i.values in
-    let x = c.args.x in
-    (ap length e ∙ length-append vs (x ∷ []) ∙ ap (λ n. n + 1) c.loop-i.invariant.0, λ h i. subst (Every (IsItem h)) (sym e) (every_and (IsItem h) vs (x ∷ []) (c.loop-i.invariant.1 h i) (i, tt)))
+    let x = c.args.x in (
+      ap length e ∙ length-append vs (x ∷ []) ∙ ap (λ n. n + 1) c.loop-i.invariant.0,
+      λ h i.
+          subst (Every (IsItem h)) (sym e) (every_and (IsItem h) vs (x ∷ []) (c.loop-i.invariant.1 h i) (i, tt)),
+    )

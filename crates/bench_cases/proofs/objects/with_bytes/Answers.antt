@@ -7,4 +7,6 @@ use Rattle.bench_cases.specs.Ordered.{free}
 use Rattle.bench_cases.proofs.objects.with_bytes.Goals as goal
 
 pub with_record-requires-clause-fits : goal.with_record-requires-clause-fits
-with_record-requires-clause-fits g c = λ a. subst (λ vs. FitsAt free (g.V.View.sense.heap c.args.v.now) a (new_rec Str vs c.args.bytes)) (sym c.new.ensures) (text_fits free (g.V.View.sense.heap c.args.v.now) a c.args.bytes c.requires.limit)
+with_record-requires-clause-fits g c = λ a.
+    subst (λ vs. FitsAt free (g.V.View.sense.heap c.args.v.now) a (new_rec Str vs c.args.bytes)) (sym c.new.ensures)
+    (text_fits free (g.V.View.sense.heap c.args.v.now) a c.args.bytes c.requires.limit)

@@ -12,4 +12,5 @@ with_record-requires-clause-fits g c = λ a.
     let h = g.V.View.sense.heap c.args.v.now in
     let vs = c.in_ok-copies.field-0 in
     subst (λ bs. FitsAt free h a (new_rec ListKind vs bs)) (sym c.new.ensures)
-    (sequence_fits free h a ListKind vs tt (c.in_ok-copies.ensures.items h c.requires.item) (subst (λ n. n ≤ LENGTH_LIMIT) (sym c.in_ok-copies.ensures.count) c.requires.limit))
+    (sequence_fits free h a ListKind vs tt (c.in_ok-copies.ensures.items h c.requires.item)
+    (subst (λ n. n ≤ LENGTH_LIMIT) (sym c.in_ok-copies.ensures.count) c.requires.limit))

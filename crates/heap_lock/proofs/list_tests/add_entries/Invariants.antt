@@ -7,4 +7,5 @@ abbrev pub invariant-loop : goal.invariant-loop
 invariant-loop g l =
     (l.none_shorter ≡ true)
     × (l.seat ≡ record l.initial.seat { seen = l.seat.seen; taken = l.seat.taken })
-    × ((x : Log) → All (λ (y : Log). (more : List ℕ) × (x.entries.items ≡ y.entries.items ++ more)) l.seat.seen → l.last ≤ length x.entries.items)
+    × ((x : Log) → All (λ (y : Log). (more : List ℕ) × (x.entries.items ≡ y.entries.items ++ more)) l.seat.seen →
+    l.last ≤ length x.entries.items)

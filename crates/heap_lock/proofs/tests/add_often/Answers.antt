@@ -8,6 +8,7 @@ loop-preserved g c =
     let gave = ap (λ (s : SeatView g.row.T.Denot g.row.T-Description.Denot). s.seen) c.give.ensures.seat in
     let job = g.T.Job in (
       search rules,
-      λ x all. c.loop.invariant.1 x (seen_before_give job.grows job.grows_then c.loop.seat.seen c.give.new.seat.seen c.take-value.result c.add.new.self x
+      λ x all. c.loop.invariant.1 x (seen_before_give job.grows job.grows_then c.loop.seat.seen c.give.new.seat.seen
+          c.take-value.result c.add.new.self x
           c.take-value.ensures.later c.add.ensures.grown gave all),
     )

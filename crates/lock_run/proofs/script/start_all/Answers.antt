@@ -13,12 +13,16 @@ returns-in_err-cells g c = stop-as _ _ _ _ _ _ (starting_starved c.loop-number.i
 
 pub returns-in_err-start_thread : goal.returns-in_err-start_thread
 returns-in_err-start_thread g c =
-    let d = subst (λ cells. g.V.View.sense.refuses (Start (Acts c.loop-number.number 0 cells c.args.list)) c.loop-number.v c.in_err-start_thread.field-0.0 c.start_thread.new.self) c.in_ok-cells.ensures c.in_err-start_thread.ensures in
-    stop-as _ _ _ _ _ _ (starting_refused c.loop-number.invariant c.in_err-start_thread.field-0.0 c.start_thread.new.self (omega arith) d) c.from_residual-in_err-start_thread.ensures.1
+    let d = subst (λ cells. g.V.View.sense.refuses (Start (Acts c.loop-number.number 0 cells c.args.list))
+    c.loop-number.v c.in_err-start_thread.field-0.0 c.start_thread.new.self) c.in_ok-cells.ensures
+    c.in_err-start_thread.ensures in
+    stop-as _ _ _ _ _ _ (starting_refused c.loop-number.invariant c.in_err-start_thread.field-0.0
+    c.start_thread.new.self (omega arith) d) c.from_residual-in_err-start_thread.ensures.1
 
 pub loop-number-preserved : goal.loop-number-preserved
 loop-number-preserved g c =
-    let d = subst (λ cells. g.V.View.sense.does (Start (Acts c.loop-number.number 0 cells c.args.list)) c.loop-number.v tt c.start_thread.new.self) c.in_ok-cells.ensures c.in_ok-start_thread.ensures in
+    let d = subst (λ cells. g.V.View.sense.does (Start (Acts c.loop-number.number 0 cells c.args.list)) c.loop-number.v
+    tt c.start_thread.new.self) c.in_ok-cells.ensures c.in_ok-start_thread.ensures in
     starting_more c.loop-number.invariant g.met.V.View.lawful c.start_thread.new.self (omega arith) d
 
 pub returns : goal.returns

@@ -4,4 +4,5 @@ use Rattle.py_base.proofs.Numbering.{beside}
 use Rattle.obj_class.proofs.named.number.Given as goal
 
 abbrev pub invariant-loop-entry : goal.invariant-loop-entry
-invariant-loop-entry l = number_beside (beside l.table) l.name ≡ number_beside (beside (drop l.entry-index l.table)) l.name
+invariant-loop-entry l = number_beside (beside l.table) l.name ≡ number_beside (beside (drop l.entry-index l.table))
+    l.name

@@ -8,10 +8,13 @@ pub next_root-requires-clause-safe : goal.next_root-requires-clause-safe
 next_root-requires-clause-safe g c = from_safe c.turns.n class_count c.turns.values (omega arith) c.turns.invariant
 
 pub returns-in_err-next : goal.returns-in_err-next
-returns-in_err-next g c = stop-as _ _ _ _ _ _ (from_stop _ _ c.turns.n class_count c.turns.values (omega arith) c.turns.invariant c.in_err-next.ensures) c.from_residual.ensures.1
+returns-in_err-next g c = stop-as _ _ _ _ _ _
+    (from_stop _ _ c.turns.n class_count c.turns.values (omega arith) c.turns.invariant c.in_err-next.ensures)
+    c.from_residual.ensures.1
 
 pub turns-preserved : goal.turns-preserved
-turns-preserved g c = from_more g.met.V.View.lawful _ c.turns.n class_count c.turns.values c.in_ok-next.next (omega arith) c.turns.invariant c.in_ok-next.ensures
+turns-preserved g c = from_more g.met.V.View.lawful _ c.turns.n class_count c.turns.values c.in_ok-next.next
+    (omega arith) c.turns.invariant c.in_ok-next.ensures
 
 pub returns : goal.returns
 returns g c = from_end c.turns.n class_count c.turns.values (omega arith) c.turns.invariant

@@ -6,4 +6,5 @@ pub half-requires-clause-safe : goal.half-requires-clause-safe
 half-requires-clause-safe g c = safe-first _ (half_row c.args.d.0 c.args.second) list_row _ c.requires.safe
 
 pub make_list-requires-clause-safe : goal.make_list-requires-clause-safe
-make_list-requires-clause-safe g c = safe-then g.V.View.sense g.met.V.View.lawful (half_row c.args.d.0 c.args.second) list_row c.args.v.now c.half.new.v _ c.requires.safe c.in_ok-items.ensures
+make_list-requires-clause-safe g c = safe-then g.V.View.sense g.met.V.View.lawful (half_row c.args.d.0 c.args.second)
+    list_row c.args.v.now c.half.new.v _ c.requires.safe c.in_ok-items.ensures

@@ -6,4 +6,5 @@ pub tuples-requires-clause-safe : goal.tuples-requires-clause-safe
 tuples-requires-clause-safe g c = safe-first _ (pairs_row c.args.d.0) list_row _ c.requires.safe
 
 pub make_list-requires-clause-safe : goal.make_list-requires-clause-safe
-make_list-requires-clause-safe g c = safe-then g.V.View.sense g.met.V.View.lawful (pairs_row c.args.d.0) list_row c.args.v.now c.tuples.new.v _ c.requires.safe c.in_ok-items.ensures
+make_list-requires-clause-safe g c = safe-then g.V.View.sense g.met.V.View.lawful (pairs_row c.args.d.0) list_row
+    c.args.v.now c.tuples.new.v _ c.requires.safe c.in_ok-items.ensures

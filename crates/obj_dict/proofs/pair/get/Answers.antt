@@ -6,8 +6,11 @@ use Rattle.obj_dict.proofs.pair.get.Goals as goal
 
 pub is_key-requires-clause-safe : goal.is_key-requires-clause-safe
 unfolding get_row
-is_key-requires-clause-safe g c = safe-first _ (key_row c.args.key) (if_key (Do (Find c.args.d.0 c.args.key) (value_of_pair c.args.d.0))) _ c.requires.safe
+is_key-requires-clause-safe g c = safe-first _ (key_row c.args.key)
+    (if_key (Do (Find c.args.d.0 c.args.key) (value_of_pair c.args.d.0))) _ c.requires.safe
 
 pub found_value-requires-clause-safe : goal.found_value-requires-clause-safe
 unfolding get_row
-found_value-requires-clause-safe g c = keyed-safe g.V.View.sense g.met.V.View.lawful c.args.key (Do (Find c.args.d.0 c.args.key) (value_of_pair c.args.d.0)) c.args.v.now c.is_key.new.v c.in_ok-is_key.field-0 c.requires.safe c.in_ok-is_key.ensures c.if-branch.true
+found_value-requires-clause-safe g c = keyed-safe g.V.View.sense g.met.V.View.lawful c.args.key
+    (Do (Find c.args.d.0 c.args.key) (value_of_pair c.args.d.0)) c.args.v.now c.is_key.new.v c.in_ok-is_key.field-0
+    c.requires.safe c.in_ok-is_key.ensures c.if-branch.true

@@ -10,13 +10,19 @@ pub set_val-requires-clause-live : goal.set_val-requires-clause-live
 set_val-requires-clause-live g c = c.turns.invariant.live
 
 pub set_val-requires-clause-there : goal.set_val-requires-clause-there
-set_val-requires-clause-there g c = leads-asks (put_next c.args.a.0 c.args.values.now c.turns.i c.at.result (omega (arith, c.len-n.ensures)) c.at.ensures c.turns.invariant)
+set_val-requires-clause-there g c = leads-asks
+    (put_next c.args.a.0 c.args.values.now c.turns.i c.at.result (omega (arith, c.len-n.ensures)) c.at.ensures
+    c.turns.invariant)
 
 pub returns-in_err-set_val : goal.returns-in_err-set_val
-returns-in_err-set_val g c = stop-as _ _ _ _ _ _ (leads-refused (put_next c.args.a.0 c.args.values.now c.turns.i c.at.result (omega (arith, c.len-n.ensures)) c.at.ensures c.turns.invariant) c.in_err-set_val.ensures) c.from_residual.ensures.1
+returns-in_err-set_val g c = stop-as _ _ _ _ _ _
+    (leads-refused (put_next c.args.a.0 c.args.values.now c.turns.i c.at.result (omega (arith, c.len-n.ensures))
+    c.at.ensures c.turns.invariant) c.in_err-set_val.ensures) c.from_residual.ensures.1
 
 pub turns-preserved : goal.turns-preserved
-turns-preserved g c = leads-do g.met.V.View.lawful tt (put_next c.args.a.0 c.args.values.now c.turns.i c.at.result (omega (arith, c.len-n.ensures)) c.at.ensures c.turns.invariant) c.in_ok-set_val.ensures
+turns-preserved g c = leads-do g.met.V.View.lawful tt
+    (put_next c.args.a.0 c.args.values.now c.turns.i c.at.result (omega (arith, c.len-n.ensures)) c.at.ensures
+    c.turns.invariant) c.in_ok-set_val.ensures
 
 pub returns : goal.returns
 returns g c = put_last c.args.a.0 c.args.values.now c.turns.i (omega (arith, c.len-n.ensures)) c.turns.invariant

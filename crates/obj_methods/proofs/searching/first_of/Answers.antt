@@ -13,16 +13,24 @@ pub place_at-requires-clause-live : goal.place_at-requires-clause-live
 place_at-requires-clause-live g c = c.turns.invariant.live
 
 pub place_at-requires-clause-safe : goal.place_at-requires-clause-safe
-place_at-requires-clause-safe g c = until_safe (place_row c.args.x c.args.a.0) goes_on (Is None) c.turns.i c.args.n (omega arith) c.turns.invariant
+place_at-requires-clause-safe g c = until_safe (place_row c.args.x c.args.a.0) goes_on (Is None) c.turns.i c.args.n
+    (omega arith) c.turns.invariant
 
 pub returns-in_err-place : goal.returns-in_err-place
-returns-in_err-place g c = stop-as _ _ _ _ _ _ (until_stop (place_row c.args.x c.args.a.0) goes_on (Is None) _ _ c.turns.i c.args.n (omega arith) c.turns.invariant c.in_err-place.ensures) c.from_residual.ensures.1
+returns-in_err-place g c = stop-as _ _ _ _ _ _
+    (until_stop (place_row c.args.x c.args.a.0) goes_on (Is None) _ _ c.turns.i c.args.n (omega arith)
+    c.turns.invariant c.in_err-place.ensures) c.from_residual.ensures.1
 
 pub returns-then-not-goes_on : goal.returns-then-not-goes_on
-returns-then-not-goes_on g c = until_found (place_row c.args.x c.args.a.0) goes_on (Is None) g.met.V.View.lawful _ c.in_ok-place.place c.turns.i c.args.n (omega arith) c.turns.invariant c.in_ok-place.ensures (sym c.goes_on.ensures ∙ c.if-not-goes_on.true)
+returns-then-not-goes_on g c = until_found (place_row c.args.x c.args.a.0) goes_on (Is None) g.met.V.View.lawful _
+    c.in_ok-place.place c.turns.i c.args.n (omega arith) c.turns.invariant c.in_ok-place.ensures
+    (sym c.goes_on.ensures ∙ c.if-not-goes_on.true)
 
 pub turns-preserved : goal.turns-preserved
-turns-preserved g c = until_more (place_row c.args.x c.args.a.0) goes_on (Is None) g.met.V.View.lawful _ c.in_ok-place.place c.turns.i c.args.n (omega arith) c.turns.invariant c.in_ok-place.ensures (sym c.goes_on.ensures ∙ c.if-not-goes_on.false)
+turns-preserved g c = until_more (place_row c.args.x c.args.a.0) goes_on (Is None) g.met.V.View.lawful _
+    c.in_ok-place.place c.turns.i c.args.n (omega arith) c.turns.invariant c.in_ok-place.ensures
+    (sym c.goes_on.ensures ∙ c.if-not-goes_on.false)
 
 pub returns : goal.returns
-returns g c = until_end (place_row c.args.x c.args.a.0) goes_on (Is None) c.turns.i c.args.n (omega arith) c.turns.invariant
+returns g c = until_end (place_row c.args.x c.args.a.0) goes_on (Is None) c.turns.i c.args.n (omega arith)
+    c.turns.invariant

@@ -65,9 +65,11 @@ decreases-found g l = 16 * l.levels + 5
 abbrev pub invariant-every_item-turns : goal.invariant-every_item-turns
 invariant-every_item-turns g l =
     let f = item_row (equal_levels l.levels) l.a.0 l.b.0 in
-    Leads g.V.View.sense (until_row f is_equal (Is true) 0 l.n) l.fn.v (until_row f is_equal (Is true) l.i (l.n - l.i)) l.v
+    Leads g.V.View.sense (until_row f is_equal (Is true) 0 l.n) l.fn.v (until_row f is_equal (Is true) l.i (l.n - l.i))
+    l.v
 
 abbrev pub invariant-every_pair-turns : goal.invariant-every_pair-turns
 invariant-every_pair-turns g l =
     let f = pair_row (equal_levels l.levels) l.a.0 l.b.0 in
-    Leads g.V.View.sense (until_row f is_equal (Is true) 0 l.n) l.fn.v (until_row f is_equal (Is true) l.i (l.n - l.i)) l.v
+    Leads g.V.View.sense (until_row f is_equal (Is true) 0 l.n) l.fn.v (until_row f is_equal (Is true) l.i (l.n - l.i))
+    l.v

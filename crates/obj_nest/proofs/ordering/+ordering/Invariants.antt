@@ -44,4 +44,5 @@ decreases-unequal g l = 16 * l.levels + 5
 abbrev pub invariant-every_turn-turns : goal.invariant-every_turn-turns
 invariant-every_turn-turns g l =
     let f = turn_row (parts_at l.levels) l.a.0 l.b.0 in
-    Leads g.V.View.sense (until_row f is_open (Is None) 0 l.n) l.fn.v (until_row f is_open (Is None) l.i (l.n - l.i)) l.v
+    Leads g.V.View.sense (until_row f is_open (Is None) 0 l.n) l.fn.v (until_row f is_open (Is None) l.i (l.n - l.i))
+    l.v

@@ -10,13 +10,19 @@ pub push_val-requires-clause-live : goal.push_val-requires-clause-live
 push_val-requires-clause-live g c = c.turns.invariant.live
 
 pub push_val-requires-clause-there : goal.push_val-requires-clause-there
-push_val-requires-clause-there g c = leads-asks (push_next c.args.a.0 c.args.values.now c.turns.i c.at.result (omega (arith, c.len-n.ensures)) c.at.ensures c.turns.invariant)
+push_val-requires-clause-there g c = leads-asks
+    (push_next c.args.a.0 c.args.values.now c.turns.i c.at.result (omega (arith, c.len-n.ensures)) c.at.ensures
+    c.turns.invariant)
 
 pub returns-in_err-push_val : goal.returns-in_err-push_val
-returns-in_err-push_val g c = stop-as _ _ _ _ _ _ (leads-refused (push_next c.args.a.0 c.args.values.now c.turns.i c.at.result (omega (arith, c.len-n.ensures)) c.at.ensures c.turns.invariant) c.in_err-push_val.ensures) c.from_residual.ensures.1
+returns-in_err-push_val g c = stop-as _ _ _ _ _ _
+    (leads-refused (push_next c.args.a.0 c.args.values.now c.turns.i c.at.result (omega (arith, c.len-n.ensures))
+    c.at.ensures c.turns.invariant) c.in_err-push_val.ensures) c.from_residual.ensures.1
 
 pub turns-preserved : goal.turns-preserved
-turns-preserved g c = leads-do g.met.V.View.lawful tt (push_next c.args.a.0 c.args.values.now c.turns.i c.at.result (omega (arith, c.len-n.ensures)) c.at.ensures c.turns.invariant) c.in_ok-push_val.ensures
+turns-preserved g c = leads-do g.met.V.View.lawful tt
+    (push_next c.args.a.0 c.args.values.now c.turns.i c.at.result (omega (arith, c.len-n.ensures)) c.at.ensures
+    c.turns.invariant) c.in_ok-push_val.ensures
 
 pub returns : goal.returns
 returns g c = push_last c.args.a.0 c.args.values.now c.turns.i (omega (arith, c.len-n.ensures)) c.turns.invariant

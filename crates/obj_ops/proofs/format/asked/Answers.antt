@@ -13,8 +13,10 @@ overflow_add-all c =
 
 pub turns-preserved : goal.turns-preserved
 turns-preserved c = record {
-  sum = asked_more c.args.ps.now c.turns.i c.turns.all c.takes-all.result _ c.turns-test.true c.takes-all.ensures c.turns.invariant.sum;
-  most = let one = takes_most c.takes-all.result _ c.takes-all.ensures in let m = c.turns.invariant.most in omega (arith, one, m);
+  sum = asked_more c.args.ps.now c.turns.i c.turns.all c.takes-all.result _ c.turns-test.true c.takes-all.ensures
+      c.turns.invariant.sum;
+  most = let one = takes_most c.takes-all.result _ c.takes-all.ensures in let m = c.turns.invariant.most in
+      omega (arith, one, m);
 }
 
 pub returns : goal.returns

@@ -9,4 +9,5 @@ returns-then-xs-eq0 g c =
     c.new-all.ensures ∙ sym (repeat_empty c.args.n c.args.xs.now e)
 
 pub turns-preserved : goal.turns-preserved
-turns-preserved g c = c.in_ok-extend_from_slice.ensures.ok ∙ (ap (λ l. l ++ c.args.xs.now) c.turns.invariant ∙ sym (repeat_next c.turns.counter c.args.xs.now))
+turns-preserved g c = c.in_ok-extend_from_slice.ensures.ok ∙
+    (ap (λ l. l ++ c.args.xs.now) c.turns.invariant ∙ sym (repeat_next c.turns.counter c.args.xs.now))

@@ -11,7 +11,8 @@ set_val-requires-clause-there g c =
 pub returns-in_err-set_val : goal.returns-in_err-set_val
 returns-in_err-set_val g c =
     let m = closing-looked g.met.V.View.lawful c.turns.invariant c.in_ok-y.ensures.0 c.in_ok-y.ensures.1 in
-    stop-as _ _ _ _ _ _ (leads-refused (closing-next m.still c.in_ok-y.y (omega arith) m.value) c.in_err-set_val.ensures) c.from_residual-in_err-set_val.ensures.1
+    stop-as _ _ _ _ _ _ (leads-refused (closing-next m.still c.in_ok-y.y (omega arith) m.value)
+    c.in_err-set_val.ensures) c.from_residual-in_err-set_val.ensures.1
 
 pub turns-preserved : goal.turns-preserved
 turns-preserved g c =

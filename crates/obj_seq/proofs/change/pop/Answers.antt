@@ -13,14 +13,23 @@ pub close_gap-requires-clause-safe : goal.close_gap-requires-clause-safe
 close_gap-requires-clause-safe g c =
     let L = g.met.V.View.lawful in
     let same = again L c.args.a.0 _ _ _ _ _ c.in_ok-n.ensures.shows.0 c.in_ok-x-in-Some.ensures.0 in
-    let is = pop-is c.args.a.0 c.args.i (at (g.V.View.sense.heap c.args.v.now) c.args.a.0) _ _ c.if-n-eq0.false c.in_ok-n.ensures.shows.1 (place-found c.args.i _ _ _ _ c.ranges.i c.in_ok-n.ensures.shows.1 c.place_of.ensures c.in-Some.is) in
-    let l = leads-looked L c.in_ok-n.ensures.shows.0 same (pop_at c.args.a.0 c.args.i) (λ r. bind (gap_row c.args.a.0 c.in-Some.k (drop (c.in-Some.k + 1) r.values)) (λ _. Ret (Is (value_at r.values c.in-Some.k)))) c.requires.safe c.requires.live is in
+    let is = pop-is c.args.a.0 c.args.i (at (g.V.View.sense.heap c.args.v.now) c.args.a.0) _ _ c.if-n-eq0.false
+    c.in_ok-n.ensures.shows.1 (place-found c.args.i _ _ _ _ c.ranges.i c.in_ok-n.ensures.shows.1 c.place_of.ensures
+    c.in-Some.is) in
+    let l = leads-looked L c.in_ok-n.ensures.shows.0 same (pop_at c.args.a.0 c.args.i)
+    (λ r. bind (gap_row c.args.a.0 c.in-Some.k (drop (c.in-Some.k + 1) r.values))
+    (λ _. Ret (Is (value_at r.values c.in-Some.k)))) c.requires.safe c.requires.live is in
     safe-first _ _ _ _ l.safe
 
 pub returns-in_err-close_gap-in-Some : goal.returns-in_err-close_gap-in-Some
 returns-in_err-close_gap-in-Some g c =
     let L = g.met.V.View.lawful in
     let same = again L c.args.a.0 _ _ _ _ _ c.in_ok-n.ensures.shows.0 c.in_ok-x-in-Some.ensures.0 in
-    let is = pop-is c.args.a.0 c.args.i (at (g.V.View.sense.heap c.args.v.now) c.args.a.0) _ _ c.if-n-eq0.false c.in_ok-n.ensures.shows.1 (place-found c.args.i _ _ _ _ c.ranges.i c.in_ok-n.ensures.shows.1 c.place_of.ensures c.in-Some.is) in
-    let l = leads-looked L c.in_ok-n.ensures.shows.0 same (pop_at c.args.a.0 c.args.i) (λ r. bind (gap_row c.args.a.0 c.in-Some.k (drop (c.in-Some.k + 1) r.values)) (λ _. Ret (Is (value_at r.values c.in-Some.k)))) c.requires.safe c.requires.live is in
-    stop-as _ _ _ _ _ _ (leads-call-stop _ _ _ _ l c.in_err-close_gap-in-Some.ensures) c.from_residual-in_err-close_gap-in-Some.ensures.1
+    let is = pop-is c.args.a.0 c.args.i (at (g.V.View.sense.heap c.args.v.now) c.args.a.0) _ _ c.if-n-eq0.false
+    c.in_ok-n.ensures.shows.1 (place-found c.args.i _ _ _ _ c.ranges.i c.in_ok-n.ensures.shows.1 c.place_of.ensures
+    c.in-Some.is) in
+    let l = leads-looked L c.in_ok-n.ensures.shows.0 same (pop_at c.args.a.0 c.args.i)
+    (λ r. bind (gap_row c.args.a.0 c.in-Some.k (drop (c.in-Some.k + 1) r.values))
+    (λ _. Ret (Is (value_at r.values c.in-Some.k)))) c.requires.safe c.requires.live is in
+    stop-as _ _ _ _ _ _ (leads-call-stop _ _ _ _ l c.in_err-close_gap-in-Some.ensures)
+    c.from_residual-in_err-close_gap-in-Some.ensures.1

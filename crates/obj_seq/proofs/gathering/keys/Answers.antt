@@ -10,7 +10,9 @@ pub len-requires-clause-there : goal.len-requires-clause-there
 len-requires-clause-there g c = stands-asks c.requires.stands
 
 pub returns-in_err-push : goal.returns-in_err-push
-returns-in_err-push g c = starved-again _ _ _ _ _ (looked-again _ g.met.V.View.lawful c.requires.stands c.turns.invariant.same c.in_ok-key.ensures.0) c.from_residual-in_err-push.ensures.1
+returns-in_err-push g c = starved-again _ _ _ _ _
+    (looked-again _ g.met.V.View.lawful c.requires.stands c.turns.invariant.same c.in_ok-key.ensures.0)
+    c.from_residual-in_err-push.ensures.1
 
 pub turns-preserved : goal.turns-preserved
 turns-preserved g c =
@@ -19,11 +21,13 @@ turns-preserved g c =
     let x = value-before g.V.View.sense c.args.a.0 _ _ _ (2 * c.turns.i) c.turns.invariant.same c.in_ok-key.ensures.1 in
     record {
       same = looked-again _ g.met.V.View.lawful c.requires.stands c.turns.invariant.same c.in_ok-key.ensures.0;
-      keys = c.in_ok-push.ensures.ok ∙ ap (λ l. l ++ c.in_ok-key.key ∷ []) c.turns.invariant.keys ∙ ap (λ y. keys_of (take (2 * c.turns.i) vs) ++ y ∷ []) x ∙ sym (keys-next vs c.turns.i less);
+      keys = c.in_ok-push.ensures.ok ∙ ap (λ l. l ++ c.in_ok-key.key ∷ []) c.turns.invariant.keys ∙
+          ap (λ y. keys_of (take (2 * c.turns.i) vs) ++ y ∷ []) x ∙ sym (keys-next vs c.turns.i less);
     }
 
 pub returns : goal.returns
 returns g c =
     let vs = (at (g.V.View.sense.heap c.args.v.now) c.args.a.0).values in
     let less : length vs ≤ 2 * c.turns.i + 1 = omega (arith, c.in_ok-n.ensures.shows.1, c.turns-test.false) in
-    ret-is g.V.View.sense _ _ _ _ c.turns.invariant.same (ap (λ l. Is l) (c.turns.invariant.keys ∙ keys-end vs c.turns.i less))
+    ret-is g.V.View.sense _ _ _ _ c.turns.invariant.same
+    (ap (λ l. Is l) (c.turns.invariant.keys ∙ keys-end vs c.turns.i less))

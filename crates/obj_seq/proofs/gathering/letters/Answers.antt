@@ -17,28 +17,37 @@ returns-in_err-made g c =
 pub make-requires-clause-shape : goal.make-requires-clause-shape
 make-requires-clause-shape g c =
     let h = lettering-looked g.met.V.View.lawful c.turns.invariant c.in_ok-copy_bytes.ensures.look.0 in
-    let e = copied-byte _ _ c.turns.i (omega (arith, c.turns.invariant.count, c.turns-test.true)) (c.in_ok-copy_bytes.ensures.bytes ∙ ap (λ bs. take 1 (drop c.turns.i bs)) (lettering-here c.turns.invariant)) in
+    let e = copied-byte _ _ c.turns.i (omega (arith, c.turns.invariant.count, c.turns-test.true))
+    (c.in_ok-copy_bytes.ensures.bytes ∙ ap (λ bs. take 1 (drop c.turns.i bs)) (lettering-here c.turns.invariant)) in
     leads-asks (lettering-next h _ _ c.turns-test.true e c.in_ok-made.ensures)
 
 pub returns-in_err-letter : goal.returns-in_err-letter
 returns-in_err-letter g c =
     let h = lettering-looked g.met.V.View.lawful c.turns.invariant c.in_ok-copy_bytes.ensures.look.0 in
-    let e = copied-byte _ _ c.turns.i (omega (arith, c.turns.invariant.count, c.turns-test.true)) (c.in_ok-copy_bytes.ensures.bytes ∙ ap (λ bs. take 1 (drop c.turns.i bs)) (lettering-here c.turns.invariant)) in
-    stop-as _ _ _ _ _ _ (leads-refused (lettering-next h _ _ c.turns-test.true e c.in_ok-made.ensures) c.in_err-letter.ensures) c.from_residual-in_err-letter.ensures.1
+    let e = copied-byte _ _ c.turns.i (omega (arith, c.turns.invariant.count, c.turns-test.true))
+    (c.in_ok-copy_bytes.ensures.bytes ∙ ap (λ bs. take 1 (drop c.turns.i bs)) (lettering-here c.turns.invariant)) in
+    stop-as _ _ _ _ _ _ (leads-refused (lettering-next h _ _ c.turns-test.true e c.in_ok-made.ensures)
+    c.in_err-letter.ensures) c.from_residual-in_err-letter.ensures.1
 
 pub returns-in_err-push : goal.returns-in_err-push
 returns-in_err-push g c =
     let h = lettering-looked g.met.V.View.lawful c.turns.invariant c.in_ok-copy_bytes.ensures.look.0 in
-    let e = copied-byte _ _ c.turns.i (omega (arith, c.turns.invariant.count, c.turns-test.true)) (c.in_ok-copy_bytes.ensures.bytes ∙ ap (λ bs. take 1 (drop c.turns.i bs)) (lettering-here c.turns.invariant)) in
-    let m = lettering-more g.met.V.View.lawful h _ _ c.in_ok-letter.letter.0 _ c.turns-test.true e c.in_ok-made.ensures c.in_ok-letter.ensures in
+    let e = copied-byte _ _ c.turns.i (omega (arith, c.turns.invariant.count, c.turns-test.true))
+    (c.in_ok-copy_bytes.ensures.bytes ∙ ap (λ bs. take 1 (drop c.turns.i bs)) (lettering-here c.turns.invariant)) in
+    let m = lettering-more g.met.V.View.lawful h _ _ c.in_ok-letter.letter.0 _ c.turns-test.true e c.in_ok-made.ensures
+    c.in_ok-letter.ensures in
     stop-as _ _ _ _ OutOfMemory _ (leads-own m.leads) c.from_residual-in_err-push.ensures.1
 
 pub turns-preserved : goal.turns-preserved
 turns-preserved g c =
     let h = lettering-looked g.met.V.View.lawful c.turns.invariant c.in_ok-copy_bytes.ensures.look.0 in
-    let e = copied-byte _ _ c.turns.i (omega (arith, c.turns.invariant.count, c.turns-test.true)) (c.in_ok-copy_bytes.ensures.bytes ∙ ap (λ bs. take 1 (drop c.turns.i bs)) (lettering-here c.turns.invariant)) in
-    let m = lettering-more g.met.V.View.lawful h _ _ c.in_ok-letter.letter.0 _ c.turns-test.true e c.in_ok-made.ensures c.in_ok-letter.ensures in
-    subst (λ refs. Lettering g.V.View.sense c.args.a.0 c.in_ok-n.n (at (g.V.View.sense.heap c.args.v.now) c.args.a.0).bytes (c.turns.i + 1) refs c.args.v.now c.make.new.self) (sym c.in_ok-push.ensures.ok) m
+    let e = copied-byte _ _ c.turns.i (omega (arith, c.turns.invariant.count, c.turns-test.true))
+    (c.in_ok-copy_bytes.ensures.bytes ∙ ap (λ bs. take 1 (drop c.turns.i bs)) (lettering-here c.turns.invariant)) in
+    let m = lettering-more g.met.V.View.lawful h _ _ c.in_ok-letter.letter.0 _ c.turns-test.true e c.in_ok-made.ensures
+    c.in_ok-letter.ensures in
+    subst (λ refs. Lettering g.V.View.sense c.args.a.0 c.in_ok-n.n
+    (at (g.V.View.sense.heap c.args.v.now) c.args.a.0).bytes (c.turns.i + 1) refs c.args.v.now c.make.new.self)
+    (sym c.in_ok-push.ensures.ok) m
 
 pub returns : goal.returns
 returns g c = lettering-last c.turns.invariant c.turns-test.false

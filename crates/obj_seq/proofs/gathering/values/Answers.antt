@@ -12,10 +12,12 @@ len-requires-clause-there g c = stands-asks c.requires.stands
 pub returns-in_err-collect : goal.returns-in_err-collect
 returns-in_err-collect g c =
     let same = stands-again g.met.V.View.lawful _ c.requires.stands c.in_ok-n.ensures.shows.0 in
-    stop-as _ _ _ _ _ _ (err-as g.V.View.sense _ _ _ _ _ _ same c.in_err-collect.ensures) c.from_residual-in_err-collect.ensures.1
+    stop-as _ _ _ _ _ _ (err-as g.V.View.sense _ _ _ _ _ _ same c.in_err-collect.ensures)
+    c.from_residual-in_err-collect.ensures.1
 
 pub returns : goal.returns
 returns g c =
     let same = stands-again g.met.V.View.lawful _ c.requires.stands c.in_ok-n.ensures.shows.0 in
-    let all = ap (λ z. part (at (g.V.View.sense.heap z) c.args.a.0).values 0 c.in_ok-n.n) same ∙ part-all (at (g.V.View.sense.heap c.args.v.now) c.args.a.0).values c.in_ok-n.n c.in_ok-n.ensures.shows.1 in
+    let all = ap (λ z. part (at (g.V.View.sense.heap z) c.args.a.0).values 0 c.in_ok-n.n) same ∙
+    part-all (at (g.V.View.sense.heap c.args.v.now) c.args.a.0).values c.in_ok-n.n c.in_ok-n.ensures.shows.1 in
     ret-as g.V.View.sense (λ vs. Is vs) _ _ _ _ _ _ same (ap (λ vs. Is vs) all) c.in_ok-collect.ensures

@@ -4,15 +4,23 @@ use Rattle.obj_seq.proofs.CollectLoop.{part-next, part-same, looked-again, starv
 use Rattle.obj_seq.proofs.look.collect.Goals as goal
 
 pub returns-in_err-push : goal.returns-in_err-push
-returns-in_err-push g c = starved-again _ _ _ _ _ (looked-again _ g.met.V.View.lawful c.requires.stands c.turns.invariant.same c.in_ok-val.ensures.0) c.from_residual-in_err-push.ensures.1
+returns-in_err-push g c = starved-again _ _ _ _ _
+    (looked-again _ g.met.V.View.lawful c.requires.stands c.turns.invariant.same c.in_ok-val.ensures.0)
+    c.from_residual-in_err-push.ensures.1
 
 pub turns-preserved : goal.turns-preserved
 turns-preserved g c = record {
   same = looked-again _ g.met.V.View.lawful c.requires.stands c.turns.invariant.same c.in_ok-val.ensures.0;
-  items = c.in_ok-push.ensures.ok ∙ ap (λ vs. vs ++ c.in_ok-val.field-0 ∷ []) c.turns.invariant.items ∙ sym (part-next _ _ _ _ c.turns.auto.k (omega (arith, c.requires.within)) (value-before g.V.View.sense c.args.a.0 _ _ _ c.turns.k c.turns.invariant.same c.in_ok-val.ensures.1));
+  items = c.in_ok-push.ensures.ok ∙ ap (λ vs. vs ++ c.in_ok-val.field-0 ∷ []) c.turns.invariant.items ∙
+      sym (part-next _ _ _ _ c.turns.auto.k (omega (arith, c.requires.within))
+      (value-before g.V.View.sense c.args.a.0 _ _ _ c.turns.k c.turns.invariant.same c.in_ok-val.ensures.1));
   within = omega arith;
 }
 
 pub returns : goal.returns
 unfolding Meets Run
-returns g c = (c.turns.invariant.items ∙ part-same _ c.args.i c.args.j c.turns.k (omega (arith, c.turns.invariant.within)), c.turns.invariant.same)
+returns g c = (
+  c.turns.invariant.items ∙
+      part-same _ c.args.i c.args.j c.turns.k (omega (arith, c.turns.invariant.within)),
+  c.turns.invariant.same,
+)

@@ -12,9 +12,19 @@ overflow_cast-result-4 c =
     let start : FitsSigned w128 c.args.start = sfits_widen tt c.ranges.start in
     let step : FitsSigned w128 c.args.step = sfits_widen tt c.ranges.step in
     let k : c.args.k < 2 ^ 127 = omega arith in
-    let product : FitsSigned w128 (pos c.args.k *ℤ c.args.step) = fits_signed_mul w128 (pos c.args.k) c.args.step 18446744073709551615 9223372036854775808 (omega arith) (omega (arith, ints)) (omega arith) in
+    let product : FitsSigned w128 (pos c.args.k *ℤ c.args.step) =
+    fits_signed_mul w128 (pos c.args.k) c.args.step 18446744073709551615 9223372036854775808 (omega arith)
+    (omega (arith, ints)) (omega arith) in
     let whole : FitsSigned w128 (range_item c.args.start c.args.step c.args.k) = sfits_widen tt item in
-    simp (to_z-of_z w64 c.args.start c.ranges.start, to_z-of_z w64 c.args.step c.ranges.step, to_z-of_z w128 c.args.start start, to_z-of_z w128 c.args.step step, to_z_pos w128 c.args.k k, to_z-of_z w128 (pos c.args.k *ℤ c.args.step) product, to_z-of_z w128 (range_item c.args.start c.args.step c.args.k) whole) item
+    simp (
+      to_z-of_z w64 c.args.start c.ranges.start,
+      to_z-of_z w64 c.args.step c.ranges.step,
+      to_z-of_z w128 c.args.start start,
+      to_z-of_z w128 c.args.step step,
+      to_z_pos w128 c.args.k k,
+      to_z-of_z w128 (pos c.args.k *ℤ c.args.step) product,
+      to_z-of_z w128 (range_item c.args.start c.args.step c.args.k) whole,
+    ) item
 
 pub returns : goal.returns
 returns c =
@@ -22,6 +32,17 @@ returns c =
     let start : FitsSigned w128 c.args.start = sfits_widen tt c.ranges.start in
     let step : FitsSigned w128 c.args.step = sfits_widen tt c.ranges.step in
     let k : c.args.k < 2 ^ 127 = omega arith in
-    let product : FitsSigned w128 (pos c.args.k *ℤ c.args.step) = fits_signed_mul w128 (pos c.args.k) c.args.step 18446744073709551615 9223372036854775808 (omega arith) (omega (arith, ints)) (omega arith) in
+    let product : FitsSigned w128 (pos c.args.k *ℤ c.args.step) =
+    fits_signed_mul w128 (pos c.args.k) c.args.step 18446744073709551615 9223372036854775808 (omega arith)
+    (omega (arith, ints)) (omega arith) in
     let whole : FitsSigned w128 (range_item c.args.start c.args.step c.args.k) = sfits_widen tt item in
-    simp (to_z-of_z w64 c.args.start c.ranges.start, to_z-of_z w64 c.args.step c.ranges.step, to_z-of_z w128 c.args.start start, to_z-of_z w128 c.args.step step, to_z_pos w128 c.args.k k, to_z-of_z w128 (pos c.args.k *ℤ c.args.step) product, to_z-of_z w128 (range_item c.args.start c.args.step c.args.k) whole, to_z-of_z w64 (range_item c.args.start c.args.step c.args.k) item)
+    simp (
+      to_z-of_z w64 c.args.start c.ranges.start,
+      to_z-of_z w64 c.args.step c.ranges.step,
+      to_z-of_z w128 c.args.start start,
+      to_z-of_z w128 c.args.step step,
+      to_z_pos w128 c.args.k k,
+      to_z-of_z w128 (pos c.args.k *ℤ c.args.step) product,
+      to_z-of_z w128 (range_item c.args.start c.args.step c.args.k) whole,
+      to_z-of_z w64 (range_item c.args.start c.args.step c.args.k) item,
+    )

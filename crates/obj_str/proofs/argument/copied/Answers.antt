@@ -10,16 +10,22 @@ pub byte_len-requires-clause-there : goal.byte_len-requires-clause-there
 byte_len-requires-clause-there g c = stands_asks g.V.View.sense c.args.a.0 _ _ c.requires.stands
 
 pub returns-in_err-room : goal.returns-in_err-room
-returns-in_err-room g c = starved-again _ _ _ _ _ (stands-again g.met.V.View.lawful _ c.requires.stands c.in_ok-n.ensures.shows.0) c.from_residual-in_err-room.ensures.1
+returns-in_err-room g c = starved-again _ _ _ _ _
+    (stands-again g.met.V.View.lawful _ c.requires.stands c.in_ok-n.ensures.shows.0)
+    c.from_residual-in_err-room.ensures.1
 
 pub returns-in_err-from_slice : goal.returns-in_err-from_slice
 returns-in_err-from_slice g c =
     let first = stands-again g.met.V.View.lawful _ c.requires.stands c.in_ok-n.ensures.shows.0 in
-    starved-again _ _ _ _ _ (looked-again _ g.met.V.View.lawful c.requires.stands first c.in_ok-copy_bytes.ensures.look.0) c.from_residual-in_err-from_slice.ensures.1
+    starved-again _ _ _ _ _ (looked-again _ g.met.V.View.lawful c.requires.stands first
+    c.in_ok-copy_bytes.ensures.look.0) c.from_residual-in_err-from_slice.ensures.1
 
 pub returns : goal.returns
 returns g c =
     let n : length c.as_mut_slice.result.now ≡ c.in_ok-n.n = grind (arith, common_steps) in
     let bs = (at (g.V.View.sense.heap c.byte_len.new.self) c.args.a.0).bytes in
-    let out : c.copy_bytes.new.out ≡ take c.in_ok-n.n (drop 0 bs) = c.in_ok-copy_bytes.ensures.bytes ∙ ap (λ k. take k (drop 0 bs)) n in
-    copied_met g.met.V.View.lawful c.args.a.0 _ c.requires.stands c.in_ok-n.n _ _ _ c.copy_bytes.new.out c.in_ok-n.ensures.shows.0 c.in_ok-n.ensures.shows.1 c.in_ok-copy_bytes.ensures.look.0 out (grind (arith, common_steps))
+    let out : c.copy_bytes.new.out ≡ take c.in_ok-n.n (drop 0 bs) = c.in_ok-copy_bytes.ensures.bytes ∙
+    ap (λ k. take k (drop 0 bs)) n in
+    copied_met g.met.V.View.lawful c.args.a.0 _ c.requires.stands c.in_ok-n.n _ _ _ c.copy_bytes.new.out
+    c.in_ok-n.ensures.shows.0 c.in_ok-n.ensures.shows.1 c.in_ok-copy_bytes.ensures.look.0 out
+    (grind (arith, common_steps))

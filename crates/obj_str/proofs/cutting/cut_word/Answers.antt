@@ -14,11 +14,14 @@ returns-clause-pieces c =
     let rest = c.without_front-rest.result.now in
     let l : 0 < length rest = grind (arith, common_steps) in
     word_first c.args.bytes.now rest c.without_front-rest.ensures l
-    ∙ (ap (λ n. take n rest ∷ words (drop n rest)) (sym c.word_length-n.ensures) ∙ (ap (λ p. p ∷ words (drop c.word_length-n.result rest)) (sym c.first.ensures) ∙ ap (λ p. c.first.result.now ∷ words p) (sym c.skip.ensures)))
+    ∙ (ap (λ n. take n rest ∷ words (drop n rest)) (sym c.word_length-n.ensures) ∙
+    (ap (λ p. p ∷ words (drop c.word_length-n.result rest)) (sym c.first.ensures) ∙
+    ap (λ p. c.first.result.now ∷ words p) (sym c.skip.ensures)))
 
 pub returns-clause-shorter : goal.returns-clause-shorter
 returns-clause-shorter c =
     let rest = c.without_front-rest.result.now in
     let l : 0 < length rest = grind (arith, common_steps) in
     let e = c.skip.ensures ∙ ap (λ n. drop n rest) c.word_length-n.ensures in
-    subst (λ p. length p < length c.args.bytes.now) (sym e) (word_shorter c.args.bytes.now rest c.without_front-rest.ensures l)
+    subst (λ p. length p < length c.args.bytes.now) (sym e)
+    (word_shorter c.args.bytes.now rest c.without_front-rest.ensures l)

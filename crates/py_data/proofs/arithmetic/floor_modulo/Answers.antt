@@ -10,7 +10,11 @@ moved : (c : Then-is_across) → int_rem c.args.a c.args.b +ℤ c.args.b ≡ flo
 moved c =
     let a = c.args.a in
     let b = c.args.b in
-    let s = simp (to_z-of_z w64 a c.ranges.a, to_z-of_z w64 b c.ranges.b, to_z-of_z w64 (int_rem a b) (rest_fits a b c.ranges.a)) at c.is_across.ensures in
+    let s = simp (
+      to_z-of_z w64 a c.ranges.a,
+      to_z-of_z w64 b c.ranges.b,
+      to_z-of_z w64 (int_rem a b) (rest_fits a b c.ranges.a),
+    ) at c.is_across.ensures in
     (lowered a b c.requires (s.0 c.if-is_across.true)).1
 
 moved_fits : (c : Then-is_across) → FitsSigned w64 (int_rem c.args.a c.args.b +ℤ c.args.b)
@@ -20,12 +24,26 @@ pub returns-then-is_across : goal.returns-then-is_across
 returns-then-is_across c =
     let a = c.args.a in
     let b = c.args.b in
-    simp (to_z-of_z w64 a c.ranges.a, to_z-of_z w64 b c.ranges.b, to_z-of_z w64 (int_rem a b) (rest_fits a b c.ranges.a), to_z-of_z w64 (int_rem a b +ℤ b) (moved_fits c)) (moved c)
+    simp (
+      to_z-of_z w64 a c.ranges.a,
+      to_z-of_z w64 b c.ranges.b,
+      to_z-of_z w64 (int_rem a b) (rest_fits a b c.ranges.a),
+      to_z-of_z w64 (int_rem a b +ℤ b) (moved_fits c),
+    )
+    (moved c)
 
 pub returns-else-is_across : goal.returns-else-is_across
 returns-else-is_across c =
     let a = c.args.a in
     let b = c.args.b in
-    let s = simp (to_z-of_z w64 a c.ranges.a, to_z-of_z w64 b c.ranges.b, to_z-of_z w64 (int_rem a b) (rest_fits a b c.ranges.a)) at c.is_across.ensures in
+    let s = simp (
+      to_z-of_z w64 a c.ranges.a,
+      to_z-of_z w64 b c.ranges.b,
+      to_z-of_z w64 (int_rem a b) (rest_fits a b c.ranges.a),
+    ) at c.is_across.ensures in
     let k = (kept a b c.requires (λ t. let y = s.1 t in cc (y, c.if-is_across.false))).1 in
-    simp (to_z-of_z w64 a c.ranges.a, to_z-of_z w64 b c.ranges.b, to_z-of_z w64 (int_rem a b) (rest_fits a b c.ranges.a)) k
+    simp (
+      to_z-of_z w64 a c.ranges.a,
+      to_z-of_z w64 b c.ranges.b,
+      to_z-of_z w64 (int_rem a b) (rest_fits a b c.ranges.a),
+    ) k

@@ -6,7 +6,8 @@ pub loop-n-preserved : goal.loop-n-preserved
 loop-n-preserved g c = not-here _ _ _ _ c.loop-n.invariant (omega arith) (sym c.same.ensures ∙ c.if-same.false)
 
 pub returns-then-same-clause-found : goal.returns-then-same-clause-found
-returns-then-same-clause-found g c = found-here _ _ _ _ c.loop-n.invariant (omega arith) (sym c.same.ensures ∙ c.if-same.true)
+returns-then-same-clause-found g c = found-here _ _ _ _ c.loop-n.invariant (omega arith)
+    (sym c.same.ensures ∙ c.if-same.true)
 
 pub returns-clause-found : goal.returns-clause-found
 returns-clause-found g c = none-left _ _ _ _ c.loop-n.invariant (omega arith)

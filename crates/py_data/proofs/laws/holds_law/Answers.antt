@@ -8,7 +8,9 @@ pub returns-clause-safe : goal.returns-clause-safe
 returns-clause-safe g c = holds_safe g.D.Demands.rules g.D.Demands.stands g.D.Demands.lasting g.P.Property.has
 
 pub returns-clause-run : goal.returns-clause-run
-returns-clause-run g c = holds_run g.D.Demands.rules g.D.Demands.stands g.D.Demands.lasting g.V.View.sense g.met.V.View.lawful g.P.Property.has
+returns-clause-run g c = holds_run g.D.Demands.rules g.D.Demands.stands g.D.Demands.lasting g.V.View.sense
+    g.met.V.View.lawful g.P.Property.has
 
 pub returns-clause-does : goal.returns-clause-does
-returns-clause-does g c = holds_does g.D.Demands.rules g.D.Demands.stands g.D.Demands.lasting g.D.Demands.stay g.P.Property.has
+returns-clause-does g c = holds_does g.D.Demands.rules g.D.Demands.stands g.D.Demands.lasting g.D.Demands.stay
+    g.P.Property.has

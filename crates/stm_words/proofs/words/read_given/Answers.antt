@@ -13,7 +13,8 @@ returns-clause-given c =
     given_right (found_of c.in-Ok.matches) words _ (strings_utf8 c.args.words.now)
     (no_fault _ words c.in_ok-command.ensures parse.kinds)
     (same_rows _ words c.in-Ok.matches c.in_ok-command.ensures parse.matches)
-    c.get_str.ensures c.get_str-2.ensures c.get_str-3.ensures c.get_str-4.ensures c.get_str-5.ensures c.get_str-6.ensures
+    c.get_str.ensures c.get_str-2.ensures c.get_str-3.ensures c.get_str-4.ensures c.get_str-5.ensures
+    c.get_str-6.ensures
 
 pub returns-in-Err-clause-usage : goal.returns-in-Err-clause-usage
 returns-in-Err-clause-usage c = λ usage.

@@ -9,4 +9,5 @@ use Rattle.obj_methods.proofs.words.Words.sorted.Goals as goal
 pub returns : goal.returns
 returns c =
     let key = answers_always _ (λ a r. is_lt r ≡ word_less a.0.now a.1.0.now) _ (λ f a r f1 q. search rules) in
-    sorted_is word_less words_rank _ _ (c.in_ok-sort_by.ensures.sorted word_less words_rank key) (c.in_ok-sort_by.ensures.stable word_less words_rank key) ∙ ap (in_order word_less) c.self.view_is
+    sorted_is word_less words_rank _ _ (c.in_ok-sort_by.ensures.sorted word_less words_rank key)
+    (c.in_ok-sort_by.ensures.stable word_less words_rank key) ∙ ap (in_order word_less) c.self.view_is

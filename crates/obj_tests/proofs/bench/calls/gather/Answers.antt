@@ -10,10 +10,13 @@ pub gather-requires-clause-safe : goal.gather-requires-clause-safe
 gather-requires-clause-safe g c =
     let i0 = good_item _ _ c.requires.place c.at.ensures c.requires.good in
     let h = g.V.View.sense.heap c.args.v.now in
-    good_safe (IsGot AreItems) (gather_row c.at.result) c.requires.good ((seq_holds free any_state).gather h c.at.result c.requires.good.order i0)
+    good_safe (IsGot AreItems) (gather_row c.at.result) c.requires.good
+    ((seq_holds free any_state).gather h c.at.result c.requires.good.order i0)
 
 pub returns : goal.returns
 returns g c =
     let i0 = good_item _ _ c.requires.place c.at.ensures c.requires.good in
     let h = g.V.View.sense.heap c.args.v.now in
-    good_done (IsGot AreItems) (gather_row c.at.result) c.requires.good ((seq_holds free any_state).gather h c.at.result c.requires.good.order i0) g.met.V.View.lawful _ _ c.in_ok-got.ensures
+    good_done (IsGot AreItems) (gather_row c.at.result) c.requires.good
+    ((seq_holds free any_state).gather h c.at.result c.requires.good.order i0) g.met.V.View.lawful _ _
+    c.in_ok-got.ensures

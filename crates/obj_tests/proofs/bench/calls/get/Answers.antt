@@ -9,10 +9,13 @@ pub get-requires-clause-safe : goal.get-requires-clause-safe
 get-requires-clause-safe g c =
     let i0 = good_item _ _ c.requires.place c.at.ensures c.requires.good in
     let h = g.V.View.sense.heap c.args.v.now in
-    good_safe (IsGot IfItem) (get_row c.args.a.0 c.at.result) c.requires.good ((dict_holds free any_state).get h c.args.a.0 c.at.result c.requires.good.order c.requires.at i0)
+    good_safe (IsGot IfItem) (get_row c.args.a.0 c.at.result) c.requires.good
+    ((dict_holds free any_state).get h c.args.a.0 c.at.result c.requires.good.order c.requires.at i0)
 
 pub returns : goal.returns
 returns g c =
     let i0 = good_item _ _ c.requires.place c.at.ensures c.requires.good in
     let h = g.V.View.sense.heap c.args.v.now in
-    good_done (IsGot IfItem) (get_row c.args.a.0 c.at.result) c.requires.good ((dict_holds free any_state).get h c.args.a.0 c.at.result c.requires.good.order c.requires.at i0) g.met.V.View.lawful _ _ c.in_ok-got.ensures
+    good_done (IsGot IfItem) (get_row c.args.a.0 c.at.result) c.requires.good
+    ((dict_holds free any_state).get h c.args.a.0 c.at.result c.requires.good.order c.requires.at i0)
+    g.met.V.View.lawful _ _ c.in_ok-got.ensures

@@ -8,9 +8,12 @@ use Rattle.obj_tests.proofs.bench.calls.next.Goals as goal
 pub next-requires-clause-safe : goal.next-requires-clause-safe
 next-requires-clause-safe g c =
     let h = g.V.View.sense.heap c.args.v.now in
-    good_safe (IsGot IfItem) (next_row c.args.a.0) c.requires.good ((seq_holds free any_state).next h c.args.a.0 c.requires.good.order c.requires.at)
+    good_safe (IsGot IfItem) (next_row c.args.a.0) c.requires.good
+    ((seq_holds free any_state).next h c.args.a.0 c.requires.good.order c.requires.at)
 
 pub returns : goal.returns
 returns g c =
     let h = g.V.View.sense.heap c.args.v.now in
-    good_done (IsGot IfItem) (next_row c.args.a.0) c.requires.good ((seq_holds free any_state).next h c.args.a.0 c.requires.good.order c.requires.at) g.met.V.View.lawful _ _ c.in_ok-got.ensures
+    good_done (IsGot IfItem) (next_row c.args.a.0) c.requires.good
+    ((seq_holds free any_state).next h c.args.a.0 c.requires.good.order c.requires.at) g.met.V.View.lawful _ _
+    c.in_ok-got.ensures

@@ -6,9 +6,13 @@ use Rattle.obj_tests.proofs.bench.calls.reverse.Goals as goal
 
 pub reverse-requires-clause-safe : goal.reverse-requires-clause-safe
 reverse-requires-clause-safe g c =
-    good_safe (λ u h. Unit {0}) (reverse_row c.args.a.0) c.requires.good ((seq_holds free any_state).reverse (g.V.View.sense.heap c.args.v.now) c.args.a.0 c.requires.good.order c.requires.at)
+    good_safe (λ u h. Unit {0}) (reverse_row c.args.a.0) c.requires.good
+    ((seq_holds free any_state).reverse (g.V.View.sense.heap c.args.v.now) c.args.a.0 c.requires.good.order
+    c.requires.at)
 
 pub returns : goal.returns
 returns g c =
-    let d = good_done (λ u h. Unit {0}) (reverse_row c.args.a.0) c.requires.good ((seq_holds free any_state).reverse (g.V.View.sense.heap c.args.v.now) c.args.a.0 c.requires.good.order c.requires.at) g.met.V.View.lawful _ _ c.in_ok-reverse.ensures in
+    let d = good_done (λ u h. Unit {0}) (reverse_row c.args.a.0) c.requires.good
+    ((seq_holds free any_state).reverse (g.V.View.sense.heap c.args.v.now) c.args.a.0 c.requires.good.order
+    c.requires.at) g.met.V.View.lawful _ _ c.in_ok-reverse.ensures in
     d.good

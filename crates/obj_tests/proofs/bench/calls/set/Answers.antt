@@ -10,11 +10,15 @@ set-requires-clause-safe g c =
     let i0 = good_item _ _ c.requires.place c.at.ensures c.requires.good in
     let i1 = good_item _ _ c.requires.value c.at-2.ensures c.requires.good in
     let h = g.V.View.sense.heap c.args.v.now in
-    good_safe IsDone (set_row c.args.a.0 c.at.result c.at-2.result) c.requires.good ((dict_holds free any_state).set h c.args.a.0 c.at.result c.at-2.result c.requires.good.order c.requires.at i0 i1)
+    good_safe IsDone (set_row c.args.a.0 c.at.result c.at-2.result) c.requires.good
+    ((dict_holds free any_state).set h c.args.a.0 c.at.result c.at-2.result c.requires.good.order c.requires.at i0
+    i1)
 
 pub returns : goal.returns
 returns g c =
     let i0 = good_item _ _ c.requires.place c.at.ensures c.requires.good in
     let i1 = good_item _ _ c.requires.value c.at-2.ensures c.requires.good in
     let h = g.V.View.sense.heap c.args.v.now in
-    good_done IsDone (set_row c.args.a.0 c.at.result c.at-2.result) c.requires.good ((dict_holds free any_state).set h c.args.a.0 c.at.result c.at-2.result c.requires.good.order c.requires.at i0 i1) g.met.V.View.lawful _ _ c.in_ok-got.ensures
+    good_done IsDone (set_row c.args.a.0 c.at.result c.at-2.result) c.requires.good
+    ((dict_holds free any_state).set h c.args.a.0 c.at.result c.at-2.result c.requires.good.order c.requires.at i0
+    i1) g.met.V.View.lawful _ _ c.in_ok-got.ensures

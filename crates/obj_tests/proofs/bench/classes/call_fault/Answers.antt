@@ -8,7 +8,9 @@ use Rattle.obj_tests.proofs.bench.classes.call_fault.Goals as goal
 pub make_fault-requires-clause-safe : goal.make_fault-requires-clause-safe
 make_fault-requires-clause-safe g c =
     let h = g.V.View.sense.heap c.args.v.now in
-    good_safe (IsRaised c.requires.good.listed.list.values c.args.e.now) (fault_row c.args.roots.0 c.args.e.now) c.requires.good (fault_holds free any_state h c.args.roots.0 c.args.e.now c.requires.good.order c.requires.good.listed c.requires.fault)
+    good_safe (IsRaised c.requires.good.listed.list.values c.args.e.now) (fault_row c.args.roots.0 c.args.e.now)
+    c.requires.good (fault_holds free any_state h c.args.roots.0 c.args.e.now c.requires.good.order
+    c.requires.good.listed c.requires.fault)
 
 pub returns : goal.returns
 returns g c = fault_done c.requires.good g.met.V.View.lawful c.args.e.now c.requires.fault _ _ c.in_ok-x.ensures

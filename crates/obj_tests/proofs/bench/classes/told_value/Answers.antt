@@ -3,4 +3,8 @@ use Rattle.obj_tests.proofs.BenchSteps.{good_item}
 use Rattle.obj_tests.proofs.bench.classes.told_value.Goals as goal
 
 pub raised-requires-clause-fault : goal.raised-requires-clause-fault
-raised-requires-clause-fault g c = (c.requires.above, c.requires.below, good_item _ _ (omega arith) c.at-x.ensures c.requires.good)
+raised-requires-clause-fault g c = (
+  c.requires.above,
+  c.requires.below,
+  good_item _ _ (omega arith) c.at-x.ensures c.requires.good,
+)

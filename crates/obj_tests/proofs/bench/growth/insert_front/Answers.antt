@@ -10,4 +10,6 @@ use Rattle.obj_tests.proofs.bench.growth.insert_front.Goals as goal
 pub insert-requires-clause-safe : goal.insert-requires-clause-safe
 insert-requires-clause-safe g c =
     let h = g.V.View.sense.heap c.args.v.now in
-    good_safe IsDone (insert_row c.args.a.0 (pos 0) (Int (pos 9))) c.requires.good ((seq_holds free any_state).insert h c.args.a.0 (pos 0) (Int (pos 9)) c.requires.good.order c.requires.at (tt, λ e. let z : Int (pos 9) ≡ Unset = e in cc))
+    good_safe IsDone (insert_row c.args.a.0 (pos 0) (Int (pos 9))) c.requires.good
+    ((seq_holds free any_state).insert h c.args.a.0 (pos 0) (Int (pos 9)) c.requires.good.order c.requires.at
+    (tt, λ e. let z : Int (pos 9) ≡ Unset = e in cc))

@@ -10,4 +10,5 @@ pub returns : goal.returns
 returns g c =
     let u = g.V.View.sense in
     let row = insert_row c.args.a.0 (pos 0) (Int (pos 9)) in
-    subst (λ o. IfSome o (λ e. Stopped u row c.args.v.now e c.insert_front.new.v)) (sym c.err.ensures.value) (err_stopped u row _ _ _ c.insert_front.ensures)
+    subst (λ o. IfSome o (λ e. Stopped u row c.args.v.now e c.insert_front.new.v)) (sym c.err.ensures.value)
+    (err_stopped u row _ _ _ c.insert_front.ensures)

@@ -8,10 +8,13 @@ pub equal-requires-clause-safe : goal.equal-requires-clause-safe
 equal-requires-clause-safe g c =
     let i0 = good_item _ _ c.requires.place c.at.ensures c.requires.good in
     let i1 = good_item _ _ c.requires.other c.at-2.ensures c.requires.good in
-    look_safe _ (equal_row c.at.result c.at-2.result) c.requires.good (equal_looks _ free (g.V.View.sense.heap c.args.v.now) c.at.result c.at-2.result c.requires.good.order i0 i1)
+    look_safe _ (equal_row c.at.result c.at-2.result) c.requires.good
+    (equal_looks _ free (g.V.View.sense.heap c.args.v.now) c.at.result c.at-2.result c.requires.good.order i0 i1)
 
 pub returns : goal.returns
 returns g c =
     let i0 = good_item _ _ c.requires.place c.at.ensures c.requires.good in
     let i1 = good_item _ _ c.requires.other c.at-2.ensures c.requires.good in
-    look_done _ (equal_row c.at.result c.at-2.result) c.requires.good (equal_looks _ free (g.V.View.sense.heap c.args.v.now) c.at.result c.at-2.result c.requires.good.order i0 i1) g.met.V.View.lawful _ _ c.in_ok-got.ensures
+    look_done _ (equal_row c.at.result c.at-2.result) c.requires.good
+    (equal_looks _ free (g.V.View.sense.heap c.args.v.now) c.at.result c.at-2.result c.requires.good.order i0 i1)
+    g.met.V.View.lawful _ _ c.in_ok-got.ensures

@@ -7,9 +7,13 @@ use Rattle.obj_tests.proofs.bench.nested.text.Goals as goal
 pub text-requires-clause-safe : goal.text-requires-clause-safe
 text-requires-clause-safe g c =
     let i0 = good_item _ _ c.requires.place c.at.ensures c.requires.good in
-    look_safe _ (told_row c.args.roots.0 c.at.result c.args.quoted) c.requires.good (told_looks _ free (g.V.View.sense.heap c.args.v.now) c.requires.good.order c.args.roots.0 c.requires.good.listed c.at.result c.args.quoted i0)
+    look_safe _ (told_row c.args.roots.0 c.at.result c.args.quoted) c.requires.good
+    (told_looks _ free (g.V.View.sense.heap c.args.v.now) c.requires.good.order c.args.roots.0
+    c.requires.good.listed c.at.result c.args.quoted i0)
 
 pub returns : goal.returns
 returns g c =
     let i0 = good_item _ _ c.requires.place c.at.ensures c.requires.good in
-    look_done _ (told_row c.args.roots.0 c.at.result c.args.quoted) c.requires.good (told_looks _ free (g.V.View.sense.heap c.args.v.now) c.requires.good.order c.args.roots.0 c.requires.good.listed c.at.result c.args.quoted i0) g.met.V.View.lawful _ _ c.in_ok-got.ensures
+    look_done _ (told_row c.args.roots.0 c.at.result c.args.quoted) c.requires.good
+    (told_looks _ free (g.V.View.sense.heap c.args.v.now) c.requires.good.order c.args.roots.0
+    c.requires.good.listed c.at.result c.args.quoted i0) g.met.V.View.lawful _ _ c.in_ok-got.ensures

@@ -7,9 +7,12 @@ use Rattle.obj_tests.proofs.bench.nested.truth.Goals as goal
 pub truth-requires-clause-safe : goal.truth-requires-clause-safe
 truth-requires-clause-safe g c =
     let i0 = good_item _ _ c.requires.place c.at.ensures c.requires.good in
-    look_safe _ (truth_row c.at.result) c.requires.good (truth_looks _ free (g.V.View.sense.heap c.args.v.now) c.at.result c.requires.good.order i0)
+    look_safe _ (truth_row c.at.result) c.requires.good
+    (truth_looks _ free (g.V.View.sense.heap c.args.v.now) c.at.result c.requires.good.order i0)
 
 pub returns : goal.returns
 returns g c =
     let i0 = good_item _ _ c.requires.place c.at.ensures c.requires.good in
-    look_done _ (truth_row c.at.result) c.requires.good (truth_looks _ free (g.V.View.sense.heap c.args.v.now) c.at.result c.requires.good.order i0) g.met.V.View.lawful _ _ c.in_ok-yes.ensures
+    look_done _ (truth_row c.at.result) c.requires.good
+    (truth_looks _ free (g.V.View.sense.heap c.args.v.now) c.at.result c.requires.good.order i0)
+    g.met.V.View.lawful _ _ c.in_ok-yes.ensures

@@ -7,4 +7,5 @@ use Rattle.obj_tests.proofs.bench.stacking.collapse.Goals as goal
 pub push-requires : goal.push-requires
 push-requires g c =
     let i = good_item _ _ (omega arith) c.at-x.ensures c.requires in
-    subst (λ s. GoodWith g.V.View.sense c.args.bench.roots.0 (λ x h. IsItem h x) s c.at-x.result c.args.bench.view) (sym c.truncate.ensures) (record { good = good_take _ c.requires; answer = i })
+    subst (λ s. GoodWith g.V.View.sense c.args.bench.roots.0 (λ x h. IsItem h x) s c.at-x.result c.args.bench.view)
+    (sym c.truncate.ensures) (record { good = good_take _ c.requires; answer = i })
