@@ -10,5 +10,6 @@ mod store;
 mod table;
 
 pub use laws::{sees_law, wants_law};
+pub use looks::Looks;
 pub use plain::PlainStore;
 pub use store::{SegStore, StoreFault};
