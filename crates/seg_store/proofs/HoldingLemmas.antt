@@ -1,5 +1,6 @@
 -- The records that a segment holds, after each call.
 use Rattle.std.proofs.Common.{◌≡◌, ◌⊎◌, inl, inr, ℕ, Bool, true, false, cond, ◌||◌, eqb, List, [], ◌∷◌, ◌++◌, length, take, zero, suc, Option, Some, Result, Ok, Err, OnOk, OnErr, is_some, refl, sym, ◌∙◌, ap, subst, ◌≢◌, arith, length-append, take_all}
+use Rattle.std.proofs.Math.Bool.{or_assoc}
 use Rattle.std.proofs.lemmas.Bool.Decides.{eqb_tells}
 use Rattle.std.proofs.lemmas.List.{length-take, take-append-le}
 use Rattle.py_data.specs.declared.change.Change.{Change}
@@ -10,7 +11,7 @@ use Rattle.py_data.specs.Heap.{Rec, Heap, put_at, no_records}
 use Rattle.py_data.specs.Sense.{IfThere}
 use Rattle.py_data.specs.Sight.{mem}
 use Rattle.seg_store.specs.inner.Holding.{IsGood, IsHeld}
-use Rattle.seg_store.proofs.Sees.{mem_last}
+use Rattle.seg_store.proofs.Sees.{mem_last, or_middle}
 use Rattle.seg_store.proofs.Goodness.{good_change}
 
 pub places_last : (xs : List Addr) (a : Addr) → places (xs ++ a ∷ []) ≡ places xs ++ a.0 ∷ []
@@ -43,15 +44,6 @@ good_put h a r g f b q e = by_test (eqb b a) (h b) (f b) e
     by_test true o f e = let s : r ≡ q = cc in subst IsGood s g
     by_test false o f e = f q e
 
-or_left : (x y z : Bool) → (x || (y || z)) ≡ ((x || y) || z)
-or_left true y z = refl
-or_left false y z = refl
-
-or_middle : (x y z : Bool) → (x || (y || z)) ≡ (y || (x || z))
-or_middle true true z = refl
-or_middle true false z = refl
-or_middle false y z = refl
-
 pub held_none : (h b : Heap) (changed made : List Addr) (kept : ℕ) → h ≡ no_records → b ≡ no_records → changed ≡ [] → made ≡ [] → kept ≡ 0 → IsHeld h b changed made kept
 held_none h b changed made kept eh eb ec em ek = rw (eh, eb, ec, em, ek) (record {
   now = λ a. refl;
@@ -73,12 +65,12 @@ module _ (h b : Heap) (changed made : List Addr) (kept : ℕ) (w : IsHeld h b ch
     where
       more : (h : Heap) (ms : List ℕ) → ((x : ℕ) → is_some (h x) ≡ (mem x (places changed) || mem x ms)) → (x : ℕ) → is_some (put_at h a.0 r x) ≡ (mem x (places (changed ++ a ∷ [])) || mem x ms)
       more h ms f x =
-          some_put h a.0 r x ∙ ap (λ t. eqb x a.0 || t) (f x) ∙ or_left (eqb x a.0) (mem x (places changed)) (mem x ms)
+          some_put h a.0 r x ∙ ap (λ t. eqb x a.0 || t) (f x) ∙ sym (or_assoc (eqb x a.0) (mem x (places changed)) (mem x ms))
           ∙ ap (λ t. t || mem x ms) (sym (mem_more x a changed))
 
   pub held_make : (h1 b1 : Heap) (made1 : List Addr) (a : Addr) (r : Rec) → IsGood r → h1 ≡ put_at h a.0 r → b1 ≡ b → made1 ≡ made ++ a ∷ [] → IsHeld h1 b1 changed made1 kept
   held_make h1 b1 made1 a r g eh eb em = rw (eh, eb, em) (record {
-    now = λ x. some_put h a.0 r x ∙ ap (λ t. eqb x a.0 || t) (w.now x) ∙ or_middle (eqb x a.0) (mem x (places changed)) (mem x (places made))
+    now = λ x. some_put h a.0 r x ∙ ap (λ t. eqb x a.0 || t) (w.now x) ∙ or_middle (mem x (places changed)) (eqb x a.0) (mem x (places made))
         ∙ ap (λ t. mem x (places changed) || t) (sym (mem_more x a made));
     before = λ x. w.before x ∙ ap (λ ms. mem x (places changed) || mem x (places ms)) (sym (take-append-le kept made (a ∷ []) w.front));
     front = let e = length-append made (a ∷ []) in let f = w.front in omega arith;

@@ -1,6 +1,7 @@
 -- A segment's part is set: what always holds of a store of maps still does.
 use Rattle.std.proofs.Common.{◌≡◌, ◌≢◌, inl, inr, ℕ, ◌<◌, ◌≤◌, Bool, true, false, ◌||◌, eqb, Option, Some, None, is_some, refl, sym, ◌∙◌, ap, subst, arith}
-use Rattle.std.proofs.lemmas.Bool.{cases_Bool, cond-true, cond-false, or_cases}
+use Rattle.std.proofs.Math.Bool.{or_assoc}
+use Rattle.std.proofs.lemmas.Bool.{cases_Bool, cond-true, cond-false, or_cases, or_right}
 use Rattle.std.proofs.lemmas.Bool.Decides.{eqb_tells}
 use Rattle.py_data.specs.Heap.{Rec}
 use Rattle.py_data.specs.Sight.{mem}
@@ -8,7 +9,7 @@ use Rattle.seg_store.specs.Meaning.{Part, Meaning, over, sees, holds, with_part}
 use Rattle.seg_store.specs.Calls.{first_locked, made, ended, after_publish}
 use Rattle.seg_store.specs.inner.Holding.{IsGood}
 use Rattle.seg_store.specs.inner.Tables.{IsSound}
-use Rattle.seg_store.proofs.Sees.{mem_last}
+use Rattle.seg_store.proofs.Sees.{mem_last, or_middle}
 
 -- a property of each part: of the one that is set, and of the others
 pub each_part : (P : ℕ → Part → Type 0) (k : ℕ) (p : Part) (m : Meaning) → P k p → ((j : ℕ) → j ≢ k → P j (m.part j)) → (j : ℕ) → P j ((with_part k p m).part j)
@@ -92,19 +93,9 @@ one_more P a x b e here there = elim (eqb_tells x a) [
   ]
 ]
 
-or_left : (x y z : Bool) → ((x || y) || z) ≡ (x || (y || z))
-or_left true y z = refl
-or_left false y z = refl
-
-or_middle : (x y z : Bool) → (y || (x || z)) ≡ (x || (y || z))
-or_middle true true z = refl
-or_middle true false z = refl
-or_middle false true z = refl
-or_middle false false z = refl
-
 module _ (m : Meaning) (n k a : ℕ) (r : Rec) (w : IsSound m n) (within : a < n) (free : (j : ℕ) → holds (m.part j) a ≡ false) where
   holds_lock : (x : ℕ) → holds (first_locked a r (m.part k)) x ≡ (eqb x a || holds (m.part k) x)
-  holds_lock x = ap (λ t. t || mem x (m.part k).made) (mem_last x a (m.part k).changed) ∙ or_left (eqb x a) (mem x (m.part k).changed) (mem x (m.part k).made)
+  holds_lock x = ap (λ t. t || mem x (m.part k).made) (mem_last x a (m.part k).changed) ∙ or_assoc (eqb x a) (mem x (m.part k).changed) (mem x (m.part k).made)
 
   holds_make : (x : ℕ) → holds (made a r (m.part k)) x ≡ (eqb x a || holds (m.part k) x)
   holds_make x = ap (λ t. mem x (m.part k).changed || t) (mem_last x a (m.part k).made) ∙ or_middle (eqb x a) (mem x (m.part k).changed) (mem x (m.part k).made)
@@ -144,10 +135,6 @@ none_over (Some r) y e f = cc
 pub good_over : (x y : Option Rec) → ((r : Rec) → x ≡ Some r → IsGood r) → ((r : Rec) → y ≡ Some r → IsGood r) → (r : Rec) → over x y ≡ Some r → IsGood r
 good_over None y f g r e = g r e
 good_over (Some q) y f g r e = f r e
-
-or_right : (x y : Bool) → y ≡ true → (x || y) ≡ true
-or_right true y e = refl
-or_right false y e = e
 
 pub publish_sound : (m : Meaning) (n k : ℕ) → IsSound m n → ((a : ℕ) → is_some ((m.part k).changes a) ≡ holds (m.part k) a) → ((a : ℕ) (r : Rec) → (m.part k).changes a ≡ Some r → IsGood r) → IsSound (after_publish k m) n
 publish_sound m n k w held good =

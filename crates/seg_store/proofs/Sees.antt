@@ -1,5 +1,6 @@
 -- What a segment sees and holds after a call.
 use Rattle.std.proofs.Common.{◌≡◌, ◌≢◌, inl, inr, ℕ, Bool, true, false, cond, ◌||◌, eqb, List, [], ◌∷◌, ◌++◌, Option, Some, None, is_some, unwrap_or, IsSome, refl, sym, ◌∙◌, ap}
+use Rattle.std.proofs.Math.Bool.{or_assoc}
 use Rattle.std.proofs.lemmas.Bool.{cases_Bool, cond-true, cond-false, or_parts}
 use Rattle.std.proofs.lemmas.Bool.Decides.{eqb_tells}
 use Rattle.py_data.specs.Heap.{Rec, Heap, Marks, Has, at, put_at, blank}
@@ -67,25 +68,16 @@ at_some h a s = some_by (h a) s
     some_by None s = cc
     some_by (Some r) s = refl
 
--- an address more at the end of a list
-pub mem_last : (b a : ℕ) (xs : List ℕ) → mem b (xs ++ a ∷ []) ≡ (eqb b a || mem b xs)
-mem_last b a [] = elim (eqb b a) as (λ t. (t || false) ≡ (t || false)) [ true ↦ refl | false ↦ refl ]
-mem_last b a (x ∷ xs) = ap (λ t. eqb b x || t) (mem_last b a xs) ∙ turn (eqb b x) (eqb b a) (mem b xs)
-  where
-    turn : (x y z : Bool) → (x || (y || z)) ≡ (y || (x || z))
-    turn true true z = refl
-    turn true false z = refl
-    turn false y z = refl
-
-or_right_more : (x y z : Bool) → ((x || y) || z) ≡ (x || (y || z))
-or_right_more true y z = refl
-or_right_more false y z = refl
-
-or_middle : (x y z : Bool) → (y || (x || z)) ≡ (x || (y || z))
+pub or_middle : (x y z : Bool) → (y || (x || z)) ≡ (x || (y || z))
 or_middle true true z = refl
 or_middle true false z = refl
 or_middle false true z = refl
 or_middle false false z = refl
+
+-- an address more at the end of a list
+pub mem_last : (b a : ℕ) (xs : List ℕ) → mem b (xs ++ a ∷ []) ≡ (eqb b a || mem b xs)
+mem_last b a [] = elim (eqb b a) as (λ t. (t || false) ≡ (t || false)) [ true ↦ refl | false ↦ refl ]
+mem_last b a (x ∷ xs) = ap (λ t. eqb b x || t) (mem_last b a xs) ∙ or_middle (eqb b a) (eqb b x) (mem b xs)
 
 pub change_shows : (k a : ℕ) (f : Rec → Rec) (m : Meaning) → ChangeShows k a f m
 change_shows k a f m =
@@ -140,7 +132,7 @@ locked_first reserved m k a s there h =
     record {
       seen = ap (λ (q : Part). overlay m.image q.changes) e ∙ overlay_put m.image p.changes a r ∙ put_there (sees m k) a r is;
       before = ap (λ (q : Part). overlay m.image q.kept) e ∙ overlay_put m.image p.kept a r ∙ put_there (saw m k) a r was;
-      held = ap holds e ∙ same_marks _ _ (λ b. ap (λ t. t || mem b p.made) (mem_last b a p.changed) ∙ or_right_more (eqb b a) (mem b p.changed) (mem b p.made));
+      held = ap holds e ∙ same_marks _ _ (λ b. ap (λ t. t || mem b p.made) (mem_last b a p.changed) ∙ or_assoc (eqb b a) (mem b p.changed) (mem b p.made));
     }
   where
     front_mem : (a : ℕ) (xs ys : List ℕ) → mem a (xs ++ ys) ≡ false → mem a xs ≡ false

@@ -2,8 +2,11 @@ pub mod Meaning
 pub mod Calls
 pub mod Extents
 pub mod Asking
+pub mod Sums
+pub mod Telling
 pub mod Store
 pub mod Laws
 pub mod Plain
 pub mod Worked
+pub mod WorkedUse
 pub mod inner

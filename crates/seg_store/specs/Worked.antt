@@ -8,11 +8,11 @@ use Rattle.py_data.specs.Heap.{Rec, new_rec, room_of}
 use Rattle.seg_store.specs.Extents.{class_holding, extents, words_in, words_at, Wants}
 
 -- so many values
-abbrev nones : ℕ → List Value
+abbrev pub nones : ℕ → List Value
 nones n = replicate n NoneValue
 
 -- a List of so many values and a Dict of so many pairs, with the room that they have now and had when they were made
-abbrev a_list : ℕ → ℕ → ℕ → Rec
+abbrev pub a_list : ℕ → ℕ → ℕ → Rec
 a_list n room first = record { kind = ListKind; values = nones n; bytes = []; room = room; first = first }
 
 abbrev a_dict : ℕ → ℕ → ℕ → Rec

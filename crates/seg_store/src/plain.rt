@@ -33,7 +33,7 @@ impl PlainStore {
     ghost use Rattle.std.specs.Prelude.{ℕ, Some, None, IfSome, ◌∷◌, ◌++◌, OnOk, OnErr, option_copied, true, false};
     ghost use Rattle.py_data.specs.Changes.{after};
     ghost use Rattle.py_data.specs.Heap.{Has};
-    ghost use Rattle.seg_store.specs.Store.{CanChange};
+    ghost use Rattle.seg_store.specs.Store.{CanChange, IsEmpty};
     ghost use Rattle.seg_store.specs.Meaning.{sees, holds};
     ghost use Rattle.seg_store.specs.Calls.{after_mark, after_lock, after_change, after_make};
     ghost use Rattle.seg_store.specs.inner.Holding.{IsGood};
@@ -83,7 +83,8 @@ impl PlainStore {
     pub fn new(alloc: Global, segments: u8) -> Result<PlainStore, NoMemory>
         requires some { 1 ≤ segments }
         requires few { segments ≤ 8 }
-        ensures { IfOk result (λ s. plain_meaning s ≡ empty_meaning segments) }
+        ensures meaning { IfOk result (λ s. plain_meaning s ≡ empty_meaning segments) }
+        ensures empty { IfOk result (λ s. IsEmpty (plain_meaning s) None) }
     {
         Ok(PlainStore {
             alloc,

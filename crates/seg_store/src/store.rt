@@ -9,6 +9,7 @@ ghost use Rattle.py_data.specs.Made.{rec_of};
 ghost use Rattle.seg_store.specs.declared.store.StoreFault.TheVariants.{OutOfMemory};
 ghost use Rattle.seg_store.specs.Asking.{AsksFor};
 ghost use Rattle.seg_store.specs.Meaning.{Meaning, sees, holds};
+ghost use Rattle.seg_store.specs.Telling.{in_use, use_with, Rises, RisesTo, IsTelling};
 ghost use Rattle.seg_store.specs.Calls.{after_begin, after_mark, after_lock, after_change, after_make, after_open, after_undo, after_publish, after_drop};
 ghost use Rattle.seg_store.specs.Store.{HasPlace, HasBytes, CanFind, CanChange, IsFull, NoOther, IsHolder, IsFree, Refuses, IsStore};
 
@@ -77,7 +78,8 @@ pub trait SegStore: Peek + Drop {
 
     /// What always holds of a store, for a caller's proof. It does nothing.
     fn known(&self)
-        ensures store { IsStore (reserved self.now) (meaning self.now) };
+        ensures store { IsStore (reserved self.now) (meaning self.now) }
+        ensures told { IfSome (peaks self.now) (IsTelling (reserved self.now) (meaning self.now)) };
 
     /// A transaction begins on a segment that holds nothing: it has looked at nothing yet.
     fn begin(&mut self, k: u8)
@@ -85,7 +87,8 @@ pub trait SegStore: Peek + Drop {
         requires changed { ((meaning self.old).part k).changed ≡ [] }
         requires made { ((meaning self.old).part k).made ≡ [] }
         ensures meaning { meaning self.new ≡ after_begin k (meaning self.old) }
-        ensures reserved { reserved self.new ≡ reserved self.old };
+        ensures reserved { reserved self.new ≡ reserved self.old }
+        ensures peaks { peaks self.new ≡ peaks self.old };
 
     /// The kind of a record that the segment sees.
     fn kind(&self, k: u8, a: Addr) -> Kind
@@ -133,7 +136,8 @@ pub trait SegStore: Peek + Drop {
         requires there { Has (sees (meaning self.old) k) a.0 }
         ensures ok { OnOk result (meaning self.new ≡ after_mark k a.0 (meaning self.old)) }
         ensures err { OnErr result (meaning self.new ≡ meaning self.old) }
-        ensures reserved { reserved self.new ≡ reserved self.old };
+        ensures reserved { reserved self.new ≡ reserved self.old }
+        ensures peaks { peaks self.new ≡ peaks self.old };
 
     /// The segment takes the write lock of a record, which counts as a look at it.
     fn lock(&mut self, k: u8, a: Addr) -> Result<(), NoMemory>
@@ -142,7 +146,8 @@ pub trait SegStore: Peek + Drop {
         requires free { NoOther (meaning self.old) k a.0 }
         ensures ok { OnOk result (meaning self.new ≡ after_lock k a.0 (meaning self.old)) }
         ensures err { OnErr result (meaning self.new ≡ meaning self.old) }
-        ensures reserved { reserved self.new ≡ reserved self.old };
+        ensures reserved { reserved self.new ≡ reserved self.old }
+        ensures peaks { peaks self.new ≡ peaks self.old };
 
     /// Puts another value in a place; of a Dict in the place of a value. It never meets a full heap.
     fn set_val(&mut self, k: u8, a: Addr, i: usize, v: Value) -> Result<(), StoreFault>
@@ -152,7 +157,8 @@ pub trait SegStore: Peek + Drop {
         ensures ok { OnOk result (meaning self.new ≡ after_change k a.0 (after (Set i v)) (meaning self.old)) }
         ensures err { OnErr result (meaning self.new ≡ meaning self.old) }
         ensures cause { IfErr result (λ e. e ≡ OutOfMemory) }
-        ensures reserved { reserved self.new ≡ reserved self.old };
+        ensures reserved { reserved self.new ≡ reserved self.old }
+        ensures peaks { peaks self.new ≡ peaks self.old };
 
     /// Adds a value at the end of a List. It meets a full heap only where the List's room is full.
     fn push_val(&mut self, k: u8, a: Addr, v: Value) -> Result<(), StoreFault>
@@ -163,7 +169,9 @@ pub trait SegStore: Peek + Drop {
         ensures err { OnErr result (meaning self.new ≡ meaning self.old) }
         ensures cause { IfErr result (Refuses (IsFull (sees (meaning self.old) k) a.0 (Push v)) (fills self.old) (reserved self.new) (meaning self.old).limit) }
         ensures asked { IfErr result (AsksFor (sees (meaning self.old) k a.0) (after (Push v) (at (sees (meaning self.old) k) a.0))) }
-        ensures reserved { reserved self.old ≤ reserved self.new };
+        ensures reserved { reserved self.old ≤ reserved self.new }
+        ensures peaks { OnOk result (Rises (peaks self.old) (peaks self.new) (in_use (meaning self.new))) }
+        ensures peaks_err { OnErr result (RisesTo (peaks self.old) (peaks self.new) (use_with (meaning self.old) (sees (meaning self.old) k a.0) (after (Push v) (at (sees (meaning self.old) k) a.0)))) };
 
     /// Leaves the first `n` values of a List. It never meets a full heap.
     fn truncate(&mut self, k: u8, a: Addr, n: usize) -> Result<(), StoreFault>
@@ -173,7 +181,8 @@ pub trait SegStore: Peek + Drop {
         ensures ok { OnOk result (meaning self.new ≡ after_change k a.0 (after (Cut n)) (meaning self.old)) }
         ensures err { OnErr result (meaning self.new ≡ meaning self.old) }
         ensures cause { IfErr result (λ e. e ≡ OutOfMemory) }
-        ensures reserved { reserved self.new ≡ reserved self.old };
+        ensures reserved { reserved self.new ≡ reserved self.old }
+        ensures peaks { peaks self.new ≡ peaks self.old };
 
     /// Adds a key that isn't there, and its value, at the end of a Dict. It meets a full heap only where the Dict's room is
     /// full.
@@ -185,7 +194,9 @@ pub trait SegStore: Peek + Drop {
         ensures err { OnErr result (meaning self.new ≡ meaning self.old) }
         ensures cause { IfErr result (Refuses (IsFull (sees (meaning self.old) k) d.0 (Pair key v)) (fills self.old) (reserved self.new) (meaning self.old).limit) }
         ensures asked { IfErr result (AsksFor (sees (meaning self.old) k d.0) (after (Pair key v) (at (sees (meaning self.old) k) d.0))) }
-        ensures reserved { reserved self.old ≤ reserved self.new };
+        ensures reserved { reserved self.old ≤ reserved self.new }
+        ensures peaks { OnOk result (Rises (peaks self.old) (peaks self.new) (in_use (meaning self.new))) }
+        ensures peaks_err { OnErr result (RisesTo (peaks self.old) (peaks self.new) (use_with (meaning self.old) (sees (meaning self.old) k d.0) (after (Pair key v) (at (sees (meaning self.old) k) d.0)))) };
 
     /// Drops the pair of that number; those behind close the gap. It never meets a full heap.
     fn drop_pair(&mut self, k: u8, d: Addr, place: usize) -> Result<(), StoreFault>
@@ -195,7 +206,8 @@ pub trait SegStore: Peek + Drop {
         ensures ok { OnOk result (meaning self.new ≡ after_change k d.0 (after (Unpair place)) (meaning self.old)) }
         ensures err { OnErr result (meaning self.new ≡ meaning self.old) }
         ensures cause { IfErr result (λ e. e ≡ OutOfMemory) }
-        ensures reserved { reserved self.new ≡ reserved self.old };
+        ensures reserved { reserved self.new ≡ reserved self.old }
+        ensures peaks { peaks self.new ≡ peaks self.old };
 
     /// Makes a record that the segment holds, and answers its address, at which none stood and which no segment held.
     fn make(&mut self, k: u8, r: &Record) -> Result<Addr, StoreFault>
@@ -208,19 +220,23 @@ pub trait SegStore: Peek + Drop {
         ensures err { OnErr result (meaning self.new ≡ meaning self.old) }
         ensures cause { IfErr result (Refuses (Unit {0}) (fills self.old) (reserved self.new) (meaning self.old).limit) }
         ensures asked { IfErr result (AsksFor None (rec_of r.now)) }
-        ensures reserved { reserved self.old ≤ reserved self.new };
+        ensures reserved { reserved self.old ≤ reserved self.new }
+        ensures peaks { OnOk result (Rises (peaks self.old) (peaks self.new) (in_use (meaning self.new))) }
+        ensures peaks_err { OnErr result (RisesTo (peaks self.old) (peaks self.new) (use_with (meaning self.old) None (rec_of r.now))) };
 
     /// A step begins: what stands now is what `undo_step` gives back.
     fn open_step(&mut self, k: u8)
         requires { k < (meaning self.old).segments }
         ensures meaning { meaning self.new ≡ after_open k (meaning self.old) }
-        ensures reserved { reserved self.new ≡ reserved self.old };
+        ensures reserved { reserved self.new ≡ reserved self.old }
+        ensures peaks { peaks self.new ≡ peaks self.old };
 
     /// Takes back the changes of the step and the records that it made. Looks and locks stay.
     fn undo_step(&mut self, k: u8)
         requires { k < (meaning self.old).segments }
         ensures meaning { meaning self.new ≡ after_undo k (meaning self.old) }
-        ensures reserved { reserved self.new ≡ reserved self.old };
+        ensures reserved { reserved self.new ≡ reserved self.old }
+        ensures peaks { peaks self.new ≡ peaks self.old };
 
     /// The segment that holds a record.
     fn holder(&self, a: Addr) -> Option<u8>
@@ -246,13 +262,15 @@ pub trait SegStore: Peek + Drop {
     fn publish(&mut self, k: u8)
         requires { k < (meaning self.old).segments }
         ensures meaning { meaning self.new ≡ after_publish k (meaning self.old) }
-        ensures reserved { reserved self.new ≡ reserved self.old };
+        ensures reserved { reserved self.new ≡ reserved self.old }
+        ensures peaks { peaks self.new ≡ peaks self.old };
 
     /// Drops what the segment changed and made: it sees the image again, and holds nothing; its looks stay.
     fn drop_changes(&mut self, k: u8)
         requires { k < (meaning self.old).segments }
         ensures meaning { meaning self.new ≡ after_drop k (meaning self.old) }
-        ensures reserved { reserved self.new ≡ reserved self.old };
+        ensures reserved { reserved self.new ≡ reserved self.old }
+        ensures peaks { peaks self.new ≡ peaks self.old };
 
     /// `Peek` reads the image.
     ghost same_image: { (s : Self) → Self.image s ≡ (meaning s).image };
