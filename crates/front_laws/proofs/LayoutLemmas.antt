@@ -7,8 +7,8 @@ use Rattle.py_tokens.specs.declared.token.Token.{Token}
 use Rattle.py_tokens.specs.declared.token.TokenKind.TheVariants as k
 use Rattle.py_tokens.specs.declared.word.Word.{Word}
 use Rattle.py_tokens.specs.declared.word.Word.TheVariants.{Blank, Comment, Joint, LineEnd, Opens, Closes, Plain}
-use Rattle.py_tokens.specs.Place.{token_at, before_token}
-use Rattle.py_tokens.specs.Layout.{joined, Line, Lines, lines, tokens_in, column_after, Laid, before, popped, indented, closing, ending, line_laid, lines_laid, laid}
+use Rattle.py_tokens.specs.Place.{token_at}
+use Rattle.py_tokens.specs.Layout.{joined, Line, Lines, lines, tokens_in, column_after, first_joint, before_line, Laid, before, popped, indented, closing, ending, line_laid, lines_laid, laid}
 use Rattle.front_laws.specs.Pieces.{is_layout, in_line}
 
 -- ---- words and lines
@@ -25,7 +25,7 @@ joined_tokens depth (Closes t ∷ ws) = ap (λ ts. t ∷ ts) (joined_tokens (dep
 joined_tokens depth (LineEnd p ∷ ws) = joined_cases p depth ws (depth == 0) (joined_tokens 0 ws) (joined_tokens depth ws)
 joined_tokens depth (Blank b ∷ ws) = joined_tokens depth ws
 joined_tokens depth (Comment ∷ ws) = joined_tokens depth ws
-joined_tokens depth (Joint ∷ ws) = joined_tokens depth ws
+joined_tokens depth (Joint p ∷ ws) = joined_tokens depth ws
 joined_tokens depth (Plain t ∷ ws) = ap (λ ts. t ∷ ts) (joined_tokens depth ws)
 
 lines_tokens : List Line → List Token
@@ -41,7 +41,7 @@ lines_are last [] = refl
 lines_are last (LineEnd p ∷ ws) = lines_are last ws
 lines_are last (Blank b ∷ ws) = lines_are last ws
 lines_are last (Comment ∷ ws) = lines_are last ws
-lines_are last (Joint ∷ ws) = lines_are last ws
+lines_are last (Joint p ∷ ws) = lines_are last ws
 lines_are last (Opens t ∷ ws) = ap (λ ts. t ∷ ts) (lines_are last ws)
 lines_are last (Closes t ∷ ws) = ap (λ ts. t ∷ ts) (lines_are last ws)
 lines_are last (Plain t ∷ ws) = ap (λ ts. t ∷ ts) (lines_are last ws)
@@ -107,12 +107,13 @@ before_twice : (ts : List Token) (n : Token) (r : Laid) → before ts (before (n
 before_twice ts n (Ok vs) = ap (λ us. Ok us) (sym (append_assoc ts (n ∷ []) vs))
 before_twice ts n (Err e) = refl
 
-laid_line : (column : ℕ) (ts us : List Token) (end : Place) (stack : List ℕ) (stop : Option Refusal) (rest : List ℕ → Laid) →
-    ((s : List ℕ) → LaidIs us stop (rest s)) → LaidIs (ts ++ us) stop (line_laid column ts end stack rest)
-laid_line column [] us end stack stop rest h = h stack
-laid_line column (t ∷ ts) us end stack stop rest h =
+laid_line : (column : ℕ) (joint : Option Place) (ts us : List Token) (end : Place)
+    (stack : List ℕ) (stop : Option Refusal) (rest : List ℕ → Laid) →
+    ((s : List ℕ) → LaidIs us stop (rest s)) → LaidIs (ts ++ us) stop (line_laid column joint ts end stack rest)
+laid_line column joint [] us end stack stop rest h = h stack
+laid_line column joint (t ∷ ts) us end stack stop rest h =
     let n = token_at k.Newline end in
-    laid_indented ((t ∷ ts) ++ us) stop (before_token t) column stack _
+    laid_indented ((t ∷ ts) ++ us) stop (before_line joint t) column stack _
     (λ s. subst (LaidIs ((t ∷ ts) ++ us) stop) (before_twice (t ∷ ts) n (rest s))
     (laid_before us (t ∷ ts) stop (before (n ∷ []) (rest s)) (laid_layout us n stop (rest s) refl (h s))))
 
@@ -120,7 +121,8 @@ laid_lines : (last : Place) (stop : Option Refusal) (stack : List ℕ) (ls : Lis
 unfolding lines_tokens
 laid_lines last stop stack [] = laid_ending last stop stack
 laid_lines last stop stack (l ∷ ls) =
-    laid_line (column_after 0 l.words) (tokens_in l.words) (lines_tokens ls) l.end stack stop _ (λ s. laid_lines last stop s ls)
+    laid_line (column_after 0 l.words) (first_joint l.words) (tokens_in l.words) (lines_tokens ls) l.end stack stop _
+    (λ s. laid_lines last stop s ls)
 
 pub laid_is : (last : Place) (stop : Option Refusal) (ws : List Word) → LaidIs (tokens_in ws) stop (laid last stop ws)
 unfolding laid all_tokens lines_tokens

@@ -340,7 +340,7 @@ CutIs size cs c = (ts : List Token) × Pieces size cs ts c.stop × (c.stop ≡ N
 word_tokens : (x : Word) (xs : List Word) → tokens_in (x ∷ xs) ≡ tokens_in (x ∷ []) ++ tokens_in xs
 word_tokens (w.Blank b) xs = refl
 word_tokens w.Comment xs = refl
-word_tokens w.Joint xs = refl
+word_tokens (w.Joint q) xs = refl
 word_tokens (w.LineEnd q) xs = refl
 word_tokens (w.Opens t) xs = refl
 word_tokens (w.Closes t) xs = refl

@@ -134,6 +134,50 @@ fn gives_lines(rt: HostRuntime) {
     }
 }
 
+/// Lines that begin with a joint: their indentation stands on its line.
+const JOINTS: [(&[u8], &[u8]); 9] = [
+    (
+        b"if 1:\n  \\\n pass\n",
+        b"1: <if> #1 : NL 2: IN 3: <pass> NL DE END",
+    ),
+    (
+        b"if x:\n  \\\n\\\n        y\n",
+        b"1: <if> x : NL 2: IN 4: y NL DE END",
+    ),
+    (
+        b"if x:\n\n  # c\n\t\\\r\ny\n        z\n",
+        b"1: <if> x : NL 4: IN 5: y NL 6: z NL DE END",
+    ),
+    (
+        b"if x:\n  y\n\\\nz\n",
+        b"1: <if> x : NL 2: IN y NL 3: DE 4: z NL END",
+    ),
+    (
+        b"if x:\n  if y:\n    z\n\\\n\\\nw\n",
+        b"1: <if> x : NL 2: IN <if> y : NL 3: IN z NL 4: DE DE 6: w NL END",
+    ),
+    (
+        b"if x:\n  y\n  \\\n    z\n",
+        b"1: <if> x : NL 2: IN y NL 4: z NL DE END",
+    ),
+    (
+        b"if x:\n  '''\n'''\n\\\ny\n",
+        b"1: <if> x : NL 2: IN '\\n' 3: NL 4: DE 5: y NL END",
+    ),
+    (
+        b"if x:\n  (\n)\n\\\ny\n",
+        b"1: <if> x : NL 2: IN ( 3: ) NL 4: DE 5: y NL END",
+    ),
+    (b"if x: \\\n  y\n", b"1: <if> x : 2: y NL END"),
+];
+
+#[test]
+fn gives_indentation_behind_joints(rt: HostRuntime) {
+    for (text, want) in JOINTS {
+        assert!(rt; is_shown(rt.alloc(), text, want), "{text:?}");
+    }
+}
+
 /// Numbers.
 const NUMBERS: [(&[u8], &[u8]); 12] = [
     (b"0 7 10 00 017\n", b"1: #0 #7 #10 #0 #15 NL END"),
@@ -252,7 +296,7 @@ const WORDS: [(&[u8], &[u8]); 11] = [
         b"1: <def> f ( ) : NL 2: IN <return> #1 NL 4: DE END",
     ),
     (b"x\\\n", b"1: x NL END"),
-    (b"  \\\nx\n", b"2: IN x NL DE END"),
+    (b"  \\\nx\n", b"1: IN 2: x NL DE END"),
     (b"'\xff\xfe'\n", b"1: '\\xff\\xfe' NL END"),
 ];
 
@@ -302,7 +346,7 @@ fn refuses_bad_characters(rt: HostRuntime) {
 }
 
 /// Lines that no column of the stack stands for.
-const BAD_DEDENTS: [(&[u8], u8, u32); 11] = [
+const BAD_DEDENTS: [(&[u8], u8, u32); 14] = [
     (b"if x:\n        print 1\n    print 2\n", 2, 3),
     (b"if x:\n  y\n z\n", 2, 3),
     (b"if x:\n\ty\n    z\n", 2, 3),
@@ -313,7 +357,10 @@ const BAD_DEDENTS: [(&[u8], u8, u32); 11] = [
     (b"if x:\n  y\n 'a\n", 2, 3),
     (b"if x:\r\n  y\r\n z", 2, 3),
     (b"if x:\n  y\n 08", 2, 3),
-    (b"if x:\n   y\n  \\\n z\n", 2, 4),
+    (b"if x:\n   y\n  \\\n z\n", 2, 3),
+    (b"if x:\n   y\n  \\\n\\\n z\n", 2, 3),
+    (b"if x:\n   y\n  \\\n $\n", 2, 3),
+    (b"if x:\n   y\n  \\x\n", 2, 3),
 ];
 
 #[test]
@@ -395,28 +442,59 @@ fn refuses_bad_escapes(rt: HostRuntime) {
     }
 }
 
-/// The slice of each token, of a text with a byte order mark, an indent and a line end of two bytes.
+/// Each of the nine tokens has the slice that is wanted.
+fn stands(alloc: Global, text: &[u8], want: [(u32, u32); 9]) -> bool {
+    if text.len() > 1000 {
+        return false;
+    }
+    match tokens(alloc, text) {
+        Ok(found) => {
+            for (t, (from, to)) in found.iter().zip(want) {
+                if t.from != from || t.to != to {
+                    return false;
+                }
+            }
+            found.len() == 9
+        }
+        Err(_) => false,
+    }
+}
+
+/// A byte order mark, an indent and a line end of two bytes; and an indent behind a joint.
+const PLACES: [(&[u8], [(u32, u32); 9]); 2] = [
+    (
+        b"\xef\xbb\xbfif x:\r\n  y",
+        [
+            (3, 5),
+            (6, 7),
+            (7, 8),
+            (8, 10),
+            (12, 12),
+            (12, 13),
+            (13, 13),
+            (13, 13),
+            (13, 13),
+        ],
+    ),
+    (
+        b"if x:\n  \\\n y",
+        [
+            (0, 2),
+            (3, 4),
+            (4, 5),
+            (5, 6),
+            (8, 8),
+            (11, 12),
+            (12, 12),
+            (12, 12),
+            (12, 12),
+        ],
+    ),
+];
+
 #[test]
 fn gives_places(rt: HostRuntime) {
-    let text = b"\xef\xbb\xbfif x:\r\n  y";
-    let want = [
-        (3, 5),
-        (6, 7),
-        (7, 8),
-        (8, 10),
-        (12, 12),
-        (12, 13),
-        (13, 13),
-        (13, 13),
-        (13, 13),
-    ];
-    match tokens(rt.alloc(), text) {
-        Ok(found) => {
-            assert!(rt; found.len() == 9);
-            for (t, (from, to)) in found.iter().zip(want) {
-                assert!(rt; t.from == from && t.to == to, "{from}");
-            }
-        }
-        Err(_) => assert!(rt; false),
+    for (text, want) in PLACES {
+        assert!(rt; stands(rt.alloc(), text, want), "{text:?}");
     }
 }

@@ -178,11 +178,21 @@ abbrev pub WordsPlaced : ℕ → ℕ → List Word → Type 0
 WordsPlaced size at [] = at ≤ size
 WordsPlaced size at (Blank b ∷ ws) = WordsPlaced size at ws
 WordsPlaced size at (Comment ∷ ws) = WordsPlaced size at ws
-WordsPlaced size at (Joint ∷ ws) = WordsPlaced size at ws
+WordsPlaced size at (Joint p ∷ ws) = (at ≤ p.from) × (p.from ≤ p.to) × WordsPlaced size p.to ws
 WordsPlaced size at (LineEnd p ∷ ws) = (at ≤ p.from) × (p.from ≤ p.to) × WordsPlaced size p.to ws
 WordsPlaced size at (Opens t ∷ ws) = (at ≤ t.from) × (t.from ≤ t.to) × IsInLine t.kind × WordsPlaced size t.to ws
 WordsPlaced size at (Closes t ∷ ws) = (at ≤ t.from) × (t.from ≤ t.to) × IsInLine t.kind × WordsPlaced size t.to ws
 WordsPlaced size at (Plain t ∷ ws) = (at ≤ t.from) × (t.from ≤ t.to) × IsInLine t.kind × WordsPlaced size t.to ws
+
+pub words_placed-le : (size a b : ℕ) (ws : List Word) → a ≤ b → WordsPlaced size b ws → WordsPlaced size a ws
+words_placed-le size a b [] h p = let q : b ≤ size = p in omega arith
+words_placed-le size a b (Blank x ∷ ws) h p = words_placed-le size a b ws h p
+words_placed-le size a b (Comment ∷ ws) h p = words_placed-le size a b ws h p
+words_placed-le size a b (Joint e ∷ ws) h p = let q : b ≤ e.from = p.0 in (omega arith, p.1, p.2)
+words_placed-le size a b (LineEnd e ∷ ws) h p = let q : b ≤ e.from = p.0 in (omega arith, p.1, p.2)
+words_placed-le size a b (Opens t ∷ ws) h p = let q : b ≤ t.from = p.0 in (omega arith, p.1, p.2, p.3)
+words_placed-le size a b (Closes t ∷ ws) h p = let q : b ≤ t.from = p.0 in (omega arith, p.1, p.2, p.3)
+words_placed-le size a b (Plain t ∷ ws) h p = let q : b ≤ t.from = p.0 in (omega arith, p.1, p.2, p.3)
 
 -- a word, before any words that are in order after it
 abbrev PieceGood : ℕ → ℕ → Piece → Type 0
@@ -229,7 +239,8 @@ good_word size at c cs p =
     piece_if (c.byte == 10) size at _ _ (λ ws go. (p.0, p.1, go c.to p.2))
     (piece_if (holds class.Blank c.byte) size at _ _ (λ ws go. go at later)
     (piece_if (c.byte == 35) size at _ _ (λ ws go. go at (placed-drop size at (run_len class.InLine cs) cs later))
-    (piece_if (c.byte == 92) size at _ _ (piece_if (next_is (class.Byte 10) cs) size at _ _ (λ ws go. go at (placed-drop size at 1 cs later)) tt)
+    (piece_if (c.byte == 92) size at _ _
+    (piece_if (next_is (class.Byte 10) cs) size at _ _ (λ ws go. (p.0, p.1, go c.to (placed-drop size c.to 1 cs p.2))) tt)
     (piece_if (holds class.NameStart c.byte) size at _ _ (good_token size at c all (name_at c.line all) p.0 here (keeps_name c.line all))
     (piece_if (holds class.Quote c.byte) size at _ _ (good_token size at c all (string_at c.line (prefix false false) all) p.0 here (keeps_string c.line (prefix false false) all all (keeps_all all)))
     (piece_if (holds ten c.byte || (c.byte == 46 && next_is ten cs)) size at _ _ (good_token size at c all (number_at c.line all) p.0 here (keeps_number c.line all))

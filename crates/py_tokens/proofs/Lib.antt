@@ -6,3 +6,4 @@ pub mod Loop
 pub mod InOrder
 pub mod Streams
 pub mod Whole
+pub mod LayoutRows

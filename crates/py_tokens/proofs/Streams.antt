@@ -18,7 +18,7 @@ use Rattle.py_tokens.specs.Layout.{lines, lines_laid, tokens_in, joined, after_b
 use Rattle.py_tokens.specs.Stream.{after_kind, IsStream}
 use Rattle.py_tokens.specs.Tokens.{to_come, took, depth_of, Tokenizes}
 use Rattle.py_tokens.proofs.Laying.{follows_opens, follows_closes, follows_plain}
-use Rattle.py_tokens.proofs.InOrder.{IsInLine, Placed, placed-le, placed_cases, placed-characters, WordsPlaced, cut_placed}
+use Rattle.py_tokens.proofs.InOrder.{IsInLine, Placed, placed-le, placed_cases, placed-characters, WordsPlaced, words_placed-le, cut_placed}
 
 -- ---- streams
 
@@ -103,9 +103,19 @@ good_indented size at b line column (e ∷ stack) rest h g =
     (good_indent size at b line (length stack) _ h (subst (λ n. Good size b n (rest (column ∷ e ∷ stack))) (one_more (length stack)) (g (column ∷ e ∷ stack))))
     (good_popped size at b line column (e ∷ stack) rest h g)
 
-good_took : (size at : ℕ) (t : Token) (m : Mode) (stack : List ℕ) (rest : List ℕ → Laid) → IsInLine t.kind → at ≤ t.from → t.from ≤ t.to → ((s : List ℕ) → Good size t.to (open_blocks s) (rest s)) → Good size at (open_blocks stack) (took t m stack rest)
+-- what is asked from this place on, or behind a joint from the joint's
+abbrev From : ℕ → Mode → (ℕ → Type 0) → Type 0
+From at (Fresh column) f = f at
+From at (Held column p) f = (at ≤ p.from) × f p.from
+From at (Within depth) f = f at
+
+good_took : (size at : ℕ) (t : Token) (m : Mode) (stack : List ℕ) (rest : List ℕ → Laid) → IsInLine t.kind →
+    From at m (λ b. b ≤ t.from) → t.from ≤ t.to →
+    ((s : List ℕ) → Good size t.to (open_blocks s) (rest s)) → Good size at (open_blocks stack) (took t m stack rest)
 good_took size at t (Fresh column) stack rest l h w g = good_indented size at t.from t.line column stack _ h (λ s. good_in_line size t.from (open_blocks s) t (rest s) l (omega arith) w (g s))
-good_took size at t (Held column) stack rest l h w g = good_indented size at t.from t.line column stack _ h (λ s. good_in_line size t.from (open_blocks s) t (rest s) l (omega arith) w (g s))
+good_took size at t (Held column p) stack rest l h w g =
+    good_indented size at p.from p.line column stack _ h.0
+    (λ s. good_in_line size p.from (open_blocks s) t (rest s) l h.1 w (g s))
 good_took size at t (Within depth) stack rest l h w g = good_in_line size at (open_blocks stack) t (rest stack) l h w (g stack)
 
 good_closing : (size at line : ℕ) (stack : List ℕ) → at ≤ size → IsStream size at (open_blocks stack) (closing (place size size line) stack)
@@ -126,30 +136,63 @@ within_cases : (b : Bool) (last : Place) (stop : Option Refusal) (depth : ℕ) (
 within_cases true last stop depth stack p ws size at one more = one
 within_cases false last stop depth stack p ws size at one more = more
 
-good_to_come : (size at line : ℕ) (stop : Option Refusal) (m : Mode) (stack : List ℕ) (ws : List Word) → WordsPlaced size at ws → Good size at (open_blocks stack) (to_come (place size size line) stop m stack ws)
+-- a token in front of words that are in order
+at_token : (size at : ℕ) (m : Mode) (t : Token) (ws : List Word) →
+    From at m (λ b. (b ≤ t.from) × (t.from ≤ t.to) × IsInLine t.kind × WordsPlaced size t.to ws) →
+    From at m (λ b. b ≤ t.from) × (t.from ≤ t.to) × IsInLine t.kind × WordsPlaced size t.to ws
+at_token size at (Fresh c) t ws p = p
+at_token size at (Held c q) t ws p = ((p.0, p.1.0), p.1.1, p.1.2, p.1.3)
+at_token size at (Within d) t ws p = p
+
+good_to_come : (size at line : ℕ) (stop : Option Refusal) (m : Mode) (stack : List ℕ) (ws : List Word) →
+    From at m (λ b. WordsPlaced size b ws) →
+    Good size at (open_blocks stack) (to_come (place size size line) stop m stack ws)
 good_to_come size at line stop (Fresh c) stack [] p = good_ending size at line stop stack p
-good_to_come size at line stop (Held c) stack [] p = good_ending size at line stop stack p
+good_to_come size at line stop (Held c q) stack [] p =
+    let h : at ≤ q.from = p.0 in let g : q.from ≤ size = p.1 in good_ending size at line stop stack (omega arith)
 good_to_come size at line stop (Within d) stack [] p = good_newline size at (open_blocks stack) (place size size line) _ p (omega arith) (good_ending size size line stop stack (omega arith))
 good_to_come size at line stop (Fresh c) stack (Blank b ∷ ws) p = good_to_come size at line stop (Fresh (after_blank c b)) stack ws p
-good_to_come size at line stop (Held c) stack (Blank b ∷ ws) p = good_to_come size at line stop (Held c) stack ws p
+good_to_come size at line stop (Held c q) stack (Blank b ∷ ws) p = good_to_come size at line stop (Held c q) stack ws p
 good_to_come size at line stop (Within d) stack (Blank b ∷ ws) p = good_to_come size at line stop (Within d) stack ws p
-good_to_come size at line stop (Fresh c) stack (Comment ∷ ws) p = good_to_come size at line stop (Held c) stack ws p
-good_to_come size at line stop (Held c) stack (Comment ∷ ws) p = good_to_come size at line stop (Held c) stack ws p
+good_to_come size at line stop (Fresh c) stack (Comment ∷ ws) p = good_to_come size at line stop (Fresh c) stack ws p
+good_to_come size at line stop (Held c q) stack (Comment ∷ ws) p = good_to_come size at line stop (Held c q) stack ws p
 good_to_come size at line stop (Within d) stack (Comment ∷ ws) p = good_to_come size at line stop (Within d) stack ws p
-good_to_come size at line stop (Fresh c) stack (Joint ∷ ws) p = good_to_come size at line stop (Held c) stack ws p
-good_to_come size at line stop (Held c) stack (Joint ∷ ws) p = good_to_come size at line stop (Held c) stack ws p
-good_to_come size at line stop (Within d) stack (Joint ∷ ws) p = good_to_come size at line stop (Within d) stack ws p
+good_to_come size at line stop (Fresh c) stack (Joint q ∷ ws) p =
+    good_to_come size at line stop (Held c q) stack ws (p.0, words_placed-le size q.from q.to ws p.1 p.2)
+good_to_come size at line stop (Held c q) stack (Joint r ∷ ws) p =
+    let h : q.from ≤ r.from = p.1.0 in
+    let w : r.from ≤ r.to = p.1.1 in
+    good_to_come size at line stop (Held c q) stack ws (p.0, words_placed-le size q.from r.to ws (omega arith) p.1.2)
+good_to_come size at line stop (Within d) stack (Joint q ∷ ws) p =
+    let h : at ≤ q.from = p.0 in
+    let w : q.from ≤ q.to = p.1 in
+    good_to_come size at line stop (Within d) stack ws (words_placed-le size at q.to ws (omega arith) p.2)
 good_to_come size at line stop (Fresh c) stack (LineEnd e ∷ ws) p = let h : at ≤ e.from = p.0 in let w : e.from ≤ e.to = p.1 in good-le size at e.to (open_blocks stack) _ (omega arith) (good_to_come size e.to line stop (Fresh 0) stack ws p.2)
-good_to_come size at line stop (Held c) stack (LineEnd e ∷ ws) p = let h : at ≤ e.from = p.0 in let w : e.from ≤ e.to = p.1 in good-le size at e.to (open_blocks stack) _ (omega arith) (good_to_come size e.to line stop (Fresh 0) stack ws p.2)
+good_to_come size at line stop (Held c q) stack (LineEnd e ∷ ws) p =
+    let g : at ≤ q.from = p.0 in
+    let h : q.from ≤ e.from = p.1.0 in
+    let w : e.from ≤ e.to = p.1.1 in
+    good-le size at e.to (open_blocks stack) _ (omega arith) (good_to_come size e.to line stop (Fresh 0) stack ws p.1.2)
 good_to_come size at line stop (Within d) stack (LineEnd e ∷ ws) p =
     let h : at ≤ e.from = p.0 in
     let w : e.from ≤ e.to = p.1 in
     within_cases (d == 0) (place size size line) stop d stack e ws size at
     (good_newline size at (open_blocks stack) e _ p.0 p.1 (good_to_come size e.to line stop (Fresh 0) stack ws p.2))
     (good-le size at e.to (open_blocks stack) _ (omega arith) (good_to_come size e.to line stop (Within d) stack ws p.2))
-good_to_come size at line stop m stack (Opens t ∷ ws) p = subst (Good size at (open_blocks stack)) (sym (follows_opens m t (place size size line) stop ws stack)) (good_took size at t m stack _ p.2 p.0 p.1 (λ s. good_to_come size t.to line stop (Within (depth_of m + 1)) s ws p.3))
-good_to_come size at line stop m stack (Closes t ∷ ws) p = subst (Good size at (open_blocks stack)) (sym (follows_closes m t (place size size line) stop ws stack)) (good_took size at t m stack _ p.2 p.0 p.1 (λ s. good_to_come size t.to line stop (Within (depth_of m - 1)) s ws p.3))
-good_to_come size at line stop m stack (Plain t ∷ ws) p = subst (Good size at (open_blocks stack)) (sym (follows_plain m t (place size size line) stop ws stack)) (good_took size at t m stack _ p.2 p.0 p.1 (λ s. good_to_come size t.to line stop (Within (depth_of m)) s ws p.3))
+good_to_come size at line stop m stack (Opens t ∷ ws) p =
+    let o = at_token size at m t ws p in
+    subst (Good size at (open_blocks stack)) (sym (follows_opens m t (place size size line) stop ws stack))
+    (good_took size at t m stack _ o.2 o.0 o.1
+    (λ s. good_to_come size t.to line stop (Within (depth_of m + 1)) s ws o.3))
+good_to_come size at line stop m stack (Closes t ∷ ws) p =
+    let o = at_token size at m t ws p in
+    subst (Good size at (open_blocks stack)) (sym (follows_closes m t (place size size line) stop ws stack))
+    (good_took size at t m stack _ o.2 o.0 o.1
+    (λ s. good_to_come size t.to line stop (Within (depth_of m - 1)) s ws o.3))
+good_to_come size at line stop m stack (Plain t ∷ ws) p =
+    let o = at_token size at m t ws p in
+    subst (Good size at (open_blocks stack)) (sym (follows_plain m t (place size size line) stop ws stack))
+    (good_took size at t m stack _ o.2 o.0 o.1 (λ s. good_to_come size t.to line stop (Within (depth_of m)) s ws o.3))
 
 good_lexed : (size : ℕ) (cs : List Character) → Placed size 0 cs → Good size 0 0 (lexed size cs)
 unfolding lexed laid

@@ -9,7 +9,7 @@ use Rattle.py_tokens.specs.declared.token.Token.{Token}
 use Rattle.py_tokens.specs.declared.token.TokenKind.TheVariants as k
 use Rattle.py_tokens.specs.declared.word.Word.{Word}
 use Rattle.py_tokens.specs.declared.word.Word.TheVariants.{Blank, Comment, Joint, LineEnd, Opens, Closes, Plain}
-use Rattle.py_tokens.specs.Place.{place, token_at, before_token}
+use Rattle.py_tokens.specs.Place.{place, token_at, before_place, before_token}
 use Rattle.py_tokens.specs.Characters.{last_line, text_characters}
 use Rattle.py_tokens.specs.Words.{cut}
 
@@ -23,7 +23,7 @@ joined depth (Closes t ∷ ws) = Closes t ∷ joined (depth - 1) ws
 joined depth (LineEnd p ∷ ws) = if depth == 0 then LineEnd p ∷ joined 0 ws else joined depth ws
 joined depth (Blank b ∷ ws) = Blank b ∷ joined depth ws
 joined depth (Comment ∷ ws) = Comment ∷ joined depth ws
-joined depth (Joint ∷ ws) = Joint ∷ joined depth ws
+joined depth (Joint p ∷ ws) = Joint p ∷ joined depth ws
 joined depth (Plain t ∷ ws) = Plain t ∷ joined depth ws
 
 -- a logical line, and the place of its end
@@ -44,7 +44,7 @@ lines last [] = (record { words = []; end = last }, [])
 lines last (LineEnd p ∷ ws) = (record { words = []; end = p }, (lines last ws).0 ∷ (lines last ws).1)
 lines last (Blank b ∷ ws) = longer (Blank b) (lines last ws)
 lines last (Comment ∷ ws) = longer Comment (lines last ws)
-lines last (Joint ∷ ws) = longer Joint (lines last ws)
+lines last (Joint p ∷ ws) = longer (Joint p) (lines last ws)
 lines last (Opens t ∷ ws) = longer (Opens t) (lines last ws)
 lines last (Closes t ∷ ws) = longer (Closes t) (lines last ws)
 lines last (Plain t ∷ ws) = longer (Plain t) (lines last ws)
@@ -56,7 +56,7 @@ tokens_in (Closes t ∷ ws) = t ∷ tokens_in ws
 tokens_in (Plain t ∷ ws) = t ∷ tokens_in ws
 tokens_in (Blank b ∷ ws) = tokens_in ws
 tokens_in (Comment ∷ ws) = tokens_in ws
-tokens_in (Joint ∷ ws) = tokens_in ws
+tokens_in (Joint p ∷ ws) = tokens_in ws
 tokens_in (LineEnd p ∷ ws) = tokens_in ws
 
 -- ---- indentation
@@ -65,10 +65,25 @@ tokens_in (LineEnd p ∷ ws) = tokens_in ws
 abbrev pub after_blank : ℕ → ℕ → ℕ
 after_blank column b = if b == 9 then (column / 8 + 1) * 8 else (if b == 12 then 0 else column + 1)
 
--- the column after the blanks at a line's start
+-- the column after the blanks at a line's start; only a line end follows a comment
 abbrev pub column_after : ℕ → List Word → ℕ
 column_after column (Blank b ∷ ws) = column_after (after_blank column b) ws
+column_after column (Comment ∷ ws) = column_after column ws
 column_after column _ = column
+
+-- the joint before a line's first token, the first of several
+abbrev pub first_joint : List Word → Option Place
+first_joint (Blank b ∷ ws) = first_joint ws
+first_joint (Comment ∷ ws) = first_joint ws
+first_joint (Joint p ∷ ws) = Some p
+first_joint _ = None
+
+-- Where a line begins, behind its blanks: before that joint, if there is one, and else before its first token. So
+-- this place
+-- stands on the line on which the logical line begins.
+abbrev pub before_line : Option Place → Token → Place
+before_line (Some p) t = before_place p
+before_line None t = before_token t
 
 -- the tokens of a text, or why it has none
 abbrev pub Laid : Type 0
@@ -102,14 +117,18 @@ abbrev pub ending : Place → Option Refusal → List ℕ → Laid
 ending last None stack = Ok (closing last stack)
 ending last (Some e) stack = Err e
 
--- One line at this column: the indentation of its first token, its tokens and Newline. One without tokens gives none.
-abbrev pub line_laid : ℕ → List Token → Place → List ℕ → (List ℕ → Laid) → Laid
-line_laid column [] end stack rest = rest stack
-line_laid column (t ∷ ts) end stack rest = indented (before_token t) column stack (λ s. before ((t ∷ ts) ++ token_at k.Newline end ∷ []) (rest s))
+-- One line at this column, behind this joint, if any: its indentation, its tokens and Newline. One without tokens
+-- gives none.
+abbrev pub line_laid : ℕ → Option Place → List Token → Place → List ℕ → (List ℕ → Laid) → Laid
+line_laid column joint [] end stack rest = rest stack
+line_laid column joint (t ∷ ts) end stack rest =
+    indented (before_line joint t) column stack (λ s. before ((t ∷ ts) ++ token_at k.Newline end ∷ []) (rest s))
 
 abbrev pub lines_laid : Place → Option Refusal → List ℕ → List Line → Laid
 lines_laid last stop stack [] = ending last stop stack
-lines_laid last stop stack (l ∷ ls) = line_laid (column_after 0 l.words) (tokens_in l.words) l.end stack (λ s. lines_laid last stop s ls)
+lines_laid last stop stack (l ∷ ls) =
+    line_laid (column_after 0 l.words) (first_joint l.words) (tokens_in l.words) l.end stack
+    (λ s. lines_laid last stop s ls)
 
 unfoldable pub laid : Place → Option Refusal → List Word → Laid
 laid last stop ws = let ls = lines last (joined 0 ws) in lines_laid last stop (0 ∷ []) (ls.0 ∷ ls.1)

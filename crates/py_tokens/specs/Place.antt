@@ -12,7 +12,10 @@ place from to line = record { from = from; to = to; line = line }
 abbrev pub token_at : TokenKind → Place → Token
 token_at kind p = record { kind = kind; from = p.from; to = p.to; line = p.line }
 
--- the empty place before a token
+-- the empty place before a part of the text, and before a token
+abbrev pub before_place : Place → Place
+before_place p = place p.from p.from p.line
+
 abbrev pub before_token : Token → Place
 before_token t = place t.from t.from t.line
 

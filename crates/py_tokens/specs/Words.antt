@@ -48,7 +48,7 @@ operator_word size c all (Some o) = Ok (bracketed o.0 (token_at (k.Op o.0) (plac
 
 -- A backslash joins two lines only right before a line end.
 abbrev pub joint : Character → List Character → Piece
-joint c cs = if next_is (Byte 10) cs then Ok (Joint, drop 1 cs) else Err (BadCharacter c.line)
+joint c cs = if next_is (Byte 10) cs then Ok (Joint (place_of c), drop 1 cs) else Err (BadCharacter c.line)
 
 -- the token at the front of these characters, of which c is the first and cs are the others
 abbrev pub token_front : ℕ → Character → List Character → List Character → Piece

@@ -1,7 +1,7 @@
 //! Logical lines, brackets and indentation.
 ghost use Rattle.std.specs.Prelude.{◌≡◌, ◌+◌, ◌^◌, ◌<◌, ◌≤◌, [], ◌∷◌, ◌++◌, reverse, length, IfOk, OnOk, OnErr};
 ghost use Rattle.py_tokens.specs.Layout.{after_blank, popped, indented};
-ghost use Rattle.py_tokens.specs.Place.{token_at, before_token};
+ghost use Rattle.py_tokens.specs.Place.{token_at, before_place, before_token};
 ghost use Rattle.py_tokens.specs.Tokens.{Moves, Lays, Closes, Finishes, Breaks, Stops, Ends, Takes, begun, took, depth_of, blanked, held, reach};
 
 use crate::error::TokenError;
@@ -14,8 +14,8 @@ use py_base::{NoMemory, Refusal};
 pub enum Mode {
     /// Before the first token of a line, at a column that blanks still move.
     Fresh(usize),
-    /// Before the first token of a line, at a column that no blank moves any more.
-    Held(usize),
+    /// Before the first token of a line, behind a joint at this place, at a column that no blank moves any more.
+    Held(usize, Place),
     /// After the first token of a line, inside so many brackets.
     Within(usize),
 }
@@ -93,6 +93,17 @@ fn after_blank(column: usize, b: u8) -> usize
     }
 }
 
+/// The empty place before a part of the text.
+fn before_place(place: Place) -> Place
+    ensures { result ≡ before_place place }
+{
+    Place {
+        from: place.from,
+        to: place.from,
+        line: place.line,
+    }
+}
+
 /// The empty place before a token.
 fn before_token(t: &Token) -> Place
     ensures { result ≡ before_token t.now }
@@ -104,7 +115,7 @@ fn before_token(t: &Token) -> Place
     }
 }
 
-/// The indentation before a line's first token, which stands after this place.
+/// The indentation before a line's first token, which stands after this place. Behind a joint it stands before that.
 fn begin_line(
     mode: Mode,
     stack: &mut Vec<usize>,
@@ -115,7 +126,7 @@ fn begin_line(
 {
     match mode {
         Mode::Fresh(column) => indent(stack, out, place, column),
-        Mode::Held(column) => indent(stack, out, place, column),
+        Mode::Held(column, joint) => indent(stack, out, before_place(joint), column),
         Mode::Within(_) => Ok(()),
     }
 }
@@ -142,17 +153,17 @@ fn depth_of(mode: Mode) -> usize
 {
     match mode {
         Mode::Fresh(_) => 0,
-        Mode::Held(_) => 0,
+        Mode::Held(_, _) => 0,
         Mode::Within(depth) => depth,
     }
 }
 
-/// The mode after a comment or a joint, after which no blank moves the column.
-fn held(mode: Mode) -> Mode
-    ensures { result ≡ held mode }
+/// The mode after a joint at this place, after which no blank moves the column.
+fn held(mode: Mode, place: Place) -> Mode
+    ensures { result ≡ held place mode }
 {
     match mode {
-        Mode::Fresh(column) => Mode::Held(column),
+        Mode::Fresh(column) => Mode::Held(column, place),
         other => other,
     }
 }
@@ -200,8 +211,8 @@ pub fn lay(
 {
     match w {
         Word::Blank(b) => Ok(blanked(mode, b)),
-        Word::Comment => Ok(held(mode)),
-        Word::Joint => Ok(held(mode)),
+        Word::Comment => Ok(mode),
+        Word::Joint(place) => Ok(held(mode, place)),
         Word::LineEnd(place) => line_end(mode, out, place),
         Word::Opens(t) => take(mode, stack, out, t, depth_of(mode) + 1),
         Word::Closes(t) => take(mode, stack, out, t, depth_of(mode).saturating_sub(1)),
@@ -254,12 +265,7 @@ fn broken(
 ) -> TokenError
     ensures { Breaks result place reason mode (reverse stack.items) }
 {
-    let before = Place {
-        from: place.from,
-        to: place.from,
-        line: place.line,
-    };
-    match begin_line(mode, &mut stack, &mut out, before) {
+    match begin_line(mode, &mut stack, &mut out, before_place(place)) {
         Ok(()) => TokenError::Refused(reason),
         Err(e) => e,
     }

@@ -25,8 +25,8 @@ pub enum Word {
     /// Space, tab or form feed.
     Blank(u8),
     Comment,
-    /// A backslash and the line end after it.
-    Joint,
+    /// A backslash at this place, and the line end after it.
+    Joint(Place),
     LineEnd(Place),
     /// An opening bracket.
     Opens(Token),
@@ -179,7 +179,7 @@ fn joint<'a>(c: Character, more: &'a [Character]) -> Piece<'a>
     ensures { Reads (λ r. r.now) result (joint c more.now) }
 {
     if next_is(Class::Byte(b'\n'), more) {
-        Ok((Word::Joint, skip(more, 1)))
+        Ok((Word::Joint(place_of(&c)), skip(more, 1)))
     } else {
         Err(TokenError::Refused(Refusal::BadCharacter { line: c.line }))
     }

@@ -34,7 +34,7 @@ abbrev pub WordsLined : ℕ → Option Refusal → ℕ → ℕ → List Word →
 WordsLined last stop a b [] = b ≤ last
 WordsLined last stop a b (Blank x ∷ ws) = WordsLined last stop a b ws
 WordsLined last stop a b (Comment ∷ ws) = WordsLined last stop a b ws
-WordsLined last stop a b (Joint ∷ ws) = WordsLined last stop a b ws
+WordsLined last stop a b (Joint q ∷ ws) = WordsLined last stop a b ws
 WordsLined last stop a b (LineEnd p ∷ ws) = (a ≤ p.line) × (b ≤ p.line) × WordsLined last stop (p.line + 1) p.line ws
 WordsLined last stop a b (Opens t ∷ ws) = (a ≤ t.line) × (b ≤ t.line) × IsInLine t.kind × (stop ≡ None → IsKept t.kind) × WordsLined last stop t.line t.line ws
 WordsLined last stop a b (Closes t ∷ ws) = (a ≤ t.line) × (b ≤ t.line) × IsInLine t.kind × (stop ≡ None → IsKept t.kind) × WordsLined last stop t.line t.line ws
@@ -44,7 +44,7 @@ words-le : (last : ℕ) (stop : Option Refusal) (a b c d : ℕ) (ws : List Word)
 words-le last stop a b c d [] h g p = let q : b ≤ last = p in omega arith
 words-le last stop a b c d (Blank x ∷ ws) h g p = words-le last stop a b c d ws h g p
 words-le last stop a b c d (Comment ∷ ws) h g p = words-le last stop a b c d ws h g p
-words-le last stop a b c d (Joint ∷ ws) h g p = words-le last stop a b c d ws h g p
+words-le last stop a b c d (Joint e ∷ ws) h g p = words-le last stop a b c d ws h g p
 words-le last stop a b c d (LineEnd e ∷ ws) h g p = let q : a ≤ e.line = p.0 in let r : b ≤ e.line = p.1 in (omega arith, omega arith, p.2)
 words-le last stop a b c d (Opens t ∷ ws) h g p = let q : a ≤ t.line = p.0 in let r : b ≤ t.line = p.1 in (omega arith, omega arith, p.2, p.3, p.4)
 words-le last stop a b c d (Closes t ∷ ws) h g p = let q : a ≤ t.line = p.0 in let r : b ≤ t.line = p.1 in (omega arith, omega arith, p.2, p.3, p.4)
@@ -167,7 +167,8 @@ good_indented stop a p column (e ∷ stack) rest g =
 
 good_took : (stop : Option Refusal) (a : ℕ) (t : Token) (m : Mode) (stack : List ℕ) (rest : List ℕ → Laid) → IsInLine t.kind → (stop ≡ None → IsKept t.kind) → a ≤ t.line → ((s : List ℕ) → Good stop t.line (rest s)) → Good stop a (took t m stack rest)
 good_took stop a t (Fresh column) stack rest l m h g = good_indented stop a (place t.from t.from t.line) column stack _ (λ s. good_in_line stop a t (rest s) l m h (g s))
-good_took stop a t (Held column) stack rest l m h g = good_indented stop a (place t.from t.from t.line) column stack _ (λ s. good_in_line stop a t (rest s) l m h (g s))
+good_took stop a t (Held column q) stack rest l m h g =
+    good_indented stop a (place q.from q.from q.line) column stack _ (λ s. good_in_line stop a t (rest s) l m h (g s))
 good_took stop a t (Within depth) stack rest l m h g = good_in_line stop a t (rest stack) l m h (g stack)
 
 closing_lined : (a : ℕ) (p : Place) (stack : List ℕ) → IsLined a (closing p stack)
@@ -189,7 +190,7 @@ good_ending (Some e) a p stack = tt
 -- within a line, its last line isn't before the line of the word before
 abbrev Fits : Mode → ℕ → ℕ → Type 0
 Fits (Fresh c) a b = Unit {0}
-Fits (Held c) a b = Unit {0}
+Fits (Held c q) a b = Unit {0}
 Fits (Within d) a b = a ≤ b
 
 -- a line end inside brackets, or not
@@ -201,19 +202,28 @@ within_cases false last stop depth stack p ws a one more = more
 
 good_to_come : (size last : ℕ) (stop : Option Refusal) (m : Mode) (stack : List ℕ) (a b : ℕ) (ws : List Word) → Fits m a b → WordsLined last stop a b ws → Good stop a (to_come (place size size last) stop m stack ws)
 good_to_come size last stop (Fresh c) stack a b [] f p = good_ending stop a (place size size last) stack
-good_to_come size last stop (Held c) stack a b [] f p = good_ending stop a (place size size last) stack
+good_to_come size last stop (Held c q) stack a b [] f p = good_ending stop a (place size size last) stack
 good_to_come size last stop (Within d) stack a b [] f p = let q : a ≤ b = f in let r : b ≤ last = p in let s : a ≤ last = omega arith in good_newline stop a (place size size last) _ s (good_ending stop (last + 1) (place size size last) stack)
 good_to_come size last stop (Fresh c) stack a b (Blank x ∷ ws) f p = good_to_come size last stop (Fresh (after_blank c x)) stack a b ws tt p
-good_to_come size last stop (Held c) stack a b (Blank x ∷ ws) f p = good_to_come size last stop (Held c) stack a b ws tt p
+good_to_come size last stop (Held c q) stack a b (Blank x ∷ ws) f p =
+    good_to_come size last stop (Held c q) stack a b ws tt p
 good_to_come size last stop (Within d) stack a b (Blank x ∷ ws) f p = good_to_come size last stop (Within d) stack a b ws f p
-good_to_come size last stop (Fresh c) stack a b (Comment ∷ ws) f p = good_to_come size last stop (Held c) stack a b ws tt p
-good_to_come size last stop (Held c) stack a b (Comment ∷ ws) f p = good_to_come size last stop (Held c) stack a b ws tt p
+good_to_come size last stop (Fresh c) stack a b (Comment ∷ ws) f p =
+    good_to_come size last stop (Fresh c) stack a b ws tt p
+good_to_come size last stop (Held c q) stack a b (Comment ∷ ws) f p =
+    good_to_come size last stop (Held c q) stack a b ws tt p
 good_to_come size last stop (Within d) stack a b (Comment ∷ ws) f p = good_to_come size last stop (Within d) stack a b ws f p
-good_to_come size last stop (Fresh c) stack a b (Joint ∷ ws) f p = good_to_come size last stop (Held c) stack a b ws tt p
-good_to_come size last stop (Held c) stack a b (Joint ∷ ws) f p = good_to_come size last stop (Held c) stack a b ws tt p
-good_to_come size last stop (Within d) stack a b (Joint ∷ ws) f p = good_to_come size last stop (Within d) stack a b ws f p
+good_to_come size last stop (Fresh c) stack a b (Joint q ∷ ws) f p =
+    good_to_come size last stop (Held c q) stack a b ws tt p
+good_to_come size last stop (Held c q) stack a b (Joint e ∷ ws) f p =
+    good_to_come size last stop (Held c q) stack a b ws tt p
+good_to_come size last stop (Within d) stack a b (Joint q ∷ ws) f p =
+    good_to_come size last stop (Within d) stack a b ws f p
 good_to_come size last stop (Fresh c) stack a b (LineEnd e ∷ ws) f p = let h : a ≤ e.line = p.0 in let g : a ≤ e.line + 1 = omega arith in good-le stop a (e.line + 1) _ g (good_to_come size last stop (Fresh 0) stack (e.line + 1) e.line ws tt p.2)
-good_to_come size last stop (Held c) stack a b (LineEnd e ∷ ws) f p = let h : a ≤ e.line = p.0 in let g : a ≤ e.line + 1 = omega arith in good-le stop a (e.line + 1) _ g (good_to_come size last stop (Fresh 0) stack (e.line + 1) e.line ws tt p.2)
+good_to_come size last stop (Held c q) stack a b (LineEnd e ∷ ws) f p =
+    let h : a ≤ e.line = p.0 in
+    let g : a ≤ e.line + 1 = omega arith in
+    good-le stop a (e.line + 1) _ g (good_to_come size last stop (Fresh 0) stack (e.line + 1) e.line ws tt p.2)
 good_to_come size last stop (Within d) stack a b (LineEnd e ∷ ws) f p =
     let h : a ≤ e.line = p.0 in
     let g : e.line ≤ e.line + 1 = omega arith in

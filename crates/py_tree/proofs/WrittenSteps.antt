@@ -101,7 +101,12 @@ module _ (size : ℕ) (last : Place) where
       let rest = h (at + 1 + 1) in
       let c : Character = character 92 at (at + 1) line in
       let cs : List Character = plain (at + 1 + 1) (line + 1) bytes in
-      (rest.0, comes_more size last (Within depth) (Within depth) stack stack c (character 10 (at + 1) (at + 1 + 1) line ∷ cs) cs Joint [] rest.0 refl (omega arith) (λ ws. before_nothing (to_come last None (Within depth) stack ws)) rest.1, rest.2)
+      let end : Character = character 10 (at + 1) (at + 1 + 1) line in (
+        rest.0,
+        comes_more size last (Within depth) (Within depth) stack stack c (end ∷ cs) cs (Joint (place_of c)) [] rest.0 refl
+            (omega arith) (λ ws. before_nothing (to_come last None (Within depth) stack ws)) rest.1,
+        rest.2,
+      )
 
   pub text_newline : (stack : List ℕ) (line : ℕ) (bytes : List ℕ) (ls : List Lexeme) → Text size last (Fresh 0) stack (line + 1) bytes ls → Text size last (Within 0) stack line (10 ∷ bytes) (lexeme k.Newline 0 ∷ ls)
   unfolding word_at

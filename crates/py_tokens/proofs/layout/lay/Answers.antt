@@ -14,15 +14,16 @@ pub returns-in-Comment-clause-lays : goal.returns-in-Comment-clause-lays
 returns-in-Comment-clause-lays c =
     let stack = reverse c.args.stack.now.items in
     let out = c.args.out.now.items in
-    as_word (Ok c.held.result) c.args.mode stack stack out out c.args.w Comment c.in-Comment.is
-    (as_mode c.held.result _ c.args.mode stack stack out out Comment c.held.ensures (lays_comment c.args.mode stack out))
+    as_word (Ok c.args.mode) c.args.mode stack stack out out c.args.w Comment c.in-Comment.is
+    (lays_comment c.args.mode stack out)
 
 pub returns-in-Joint-clause-lays : goal.returns-in-Joint-clause-lays
 returns-in-Joint-clause-lays c =
     let stack = reverse c.args.stack.now.items in
     let out = c.args.out.now.items in
-    as_word (Ok c.held-in-Joint.result) c.args.mode stack stack out out c.args.w Joint c.in-Joint.is
-    (as_mode c.held-in-Joint.result _ c.args.mode stack stack out out Joint c.held-in-Joint.ensures (lays_joint c.args.mode stack out))
+    as_word (Ok c.held.result) c.args.mode stack stack out out c.args.w (Joint c.in-Joint.place) c.in-Joint.is
+    (as_mode c.held.result _ c.args.mode stack stack out out (Joint c.in-Joint.place) c.held.ensures
+    (lays_joint c.args.mode c.in-Joint.place stack out))
 
 pub returns-in-Opens-clause-lays : goal.returns-in-Opens-clause-lays
 returns-in-Opens-clause-lays c =
