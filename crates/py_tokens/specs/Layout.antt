@@ -78,9 +78,8 @@ first_joint (Comment ∷ ws) = first_joint ws
 first_joint (Joint p ∷ ws) = Some p
 first_joint _ = None
 
--- Where a line begins, behind its blanks: before that joint, if there is one, and else before its first token. So
--- this place
--- stands on the line on which the logical line begins.
+-- Where a line begins, behind its blanks: before that joint, if there is one, and else before its first token. So this
+-- place stands on the line on which the logical line begins.
 abbrev pub before_line : Option Place → Token → Place
 before_line (Some p) t = before_place p
 before_line None t = before_token t
