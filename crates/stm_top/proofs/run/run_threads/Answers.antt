@@ -1,23 +1,13 @@
-use Rattle.std.proofs.Common.{◌≡◌, inr, ℕ, None, ap, ◌∙◌, subst, option_map}
-use Rattle.seg_store.specs.Meaning.{Meaning}
-use Rattle.seg_store.specs.Store.{IsEmpty}
-use Rattle.seg_store.specs.Plain.{plain_meaning, empty_meaning}
+use Rattle.std.proofs.Common.{◌≡◌, inr, ap, ◌∙◌, subst, option_map}
+use Rattle.seg_store.specs.Plain.{plain_meaning}
 use Rattle.stm_core.specs.CoreHeld.{core_limits}
 use Rattle.stm_core.specs.Events.{Limits}
 use Rattle.stm_top.specs.TopCall.{Told, devices_of, limits_of}
 use Rattle.stm_top.specs.inner.Ending.{RunEnds}
 use Rattle.stm_top.proofs.run.run_threads.Goals as goal
 
-is_empty : (m : Meaning) (n : ℕ) → m ≡ empty_meaning n → IsEmpty m None
-is_empty m n e = record {
-  image = λ a. ap (λ (x : Meaning). x.image a) e;
-  changed = λ j. ap (λ (x : Meaning). (x.part j).changed) e;
-  made = λ j. ap (λ (x : Meaning). (x.part j).made) e;
-  none = tt;
-}
-
 pub new-requires-2-clause-store : goal.new-requires-2-clause-store
-new-requires-2-clause-store g c = is_empty (plain_meaning c.in-Ok.store) _ c.in-Ok.ensures
+new-requires-2-clause-store g c = c.in-Ok.ensures.empty
 
 pub returns-in-Ok-new : goal.returns-in-Ok-new
 returns-in-Ok-new g c =
@@ -28,7 +18,7 @@ returns-in-Ok-new g c =
     let b = devices_of g.L.Loader.state g.I.Source.state g.O.Sink.state g.E.Sink.state r.outside.loader r.outside.input r.outside.out r.outside.err in
     let t : Told = record { history = r.history.entries; conflicts = r.conflicts.entries; store = option_map plain_meaning r.store } in
     let limits : core_limits plain_meaning c.in-Ok-new.core ≡ limits_of o
-    = n.limits ∙ (λ k. record { length = o.length; budget = o.budget; segments = (c.in-Ok.ensures k).segments; words = (c.in-Ok.ensures k).limit }) in
+    = n.limits ∙ (λ k. record { length = o.length; budget = o.budget; segments = (c.in-Ok.ensures.meaning k).segments; words = (c.in-Ok.ensures.meaning k).limit }) in
     let ends = c.run_core.ensures.ended c.args.outside.input c.args.outside.out c.args.outside.err n.devices in
     let ends1 = subst (λ z. RunEnds (g.C.Client.prog z) (core_limits plain_meaning c.in-Ok-new.core) r.answer a t b) n.client ends in
     record { ended = (ap g.L.Loader.state c.run_core.ensures.loader, inr (subst (λ z. RunEnds (g.C.Client.prog c.args.client.now) z r.answer a t b) limits ends1)) }

@@ -1,20 +1,8 @@
-use Rattle.std.proofs.Common.{◌≡◌, ℕ, None, ap}
 use Rattle.lock_run.specs.inner.ScriptLaws.{script_sound_first}
-use Rattle.seg_store.specs.Meaning.{Meaning}
-use Rattle.seg_store.specs.Store.{IsEmpty}
-use Rattle.seg_store.specs.Plain.{plain_meaning, empty_meaning}
 use Rattle.worker_tests.proofs.watch_rows.core.Goals as goal
-
-is_empty : (m : Meaning) (n : ℕ) → m ≡ empty_meaning n → IsEmpty m None
-is_empty m n e = record {
-  image = λ a. ap (λ (x : Meaning). x.image a) e;
-  changed = λ j. ap (λ (x : Meaning). (x.part j).changed) e;
-  made = λ j. ap (λ (x : Meaning). (x.part j).made) e;
-  none = tt;
-}
 
 pub new-requires-6-clause-first : goal.new-requires-6-clause-first
 new-requires-6-clause-first c = script_sound_first
 
 pub new-requires-6-clause-store : goal.new-requires-6-clause-store
-new-requires-6-clause-store c = is_empty (plain_meaning c.in_ok-store.store) 2 c.in_ok-store.ensures
+new-requires-6-clause-store c = c.in_ok-store.ensures.empty
