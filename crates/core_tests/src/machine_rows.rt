@@ -26,7 +26,7 @@ fn script(rt: &impl Abort, alloc: Global) -> Result<Script, test::Fail> {
 }
 
 /// A machine at its first state.
-#[tactic(auto, using(lock_run::specs::ScriptLaws::script_sound_first))]
+#[tactic(auto, using(lock_run::specs::inner::ScriptLaws::script_sound_first))]
 fn machine<'p>(alloc: Global, client: &'p Script) -> Result<MemRun<'p>, test::Fail>
     ensures { IfOk result (λ run. IsSound ScriptSound (lock_state mem_source_state mem_sink_state mem_sink_state run)) }
 {

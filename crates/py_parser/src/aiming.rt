@@ -72,7 +72,7 @@ impl<F: for<'b> Fn(&'b [Token]) -> Result<(Tall<Expr>, &'b [Token]), ParseError>
     }
 
     /// A test of a height of at most `budget`, or what is a target or becomes one.
-    #[tactic(auto, unfolding(crate::specs::Aiming::element_at))]
+    #[tactic(auto, unfolding(crate::specs::inner::Aiming::element_at))]
     fn element<'a>(&self, budget: usize, tokens: &'a [Token]) -> Read<'a, Tall<Expr>>
         requires calls { F.IsAlwaysCallable self.now.inner }
         requires answers { AnswersAim (F.post self.now.inner) self.now.turns self.now.room }
@@ -89,7 +89,7 @@ impl<F: for<'b> Fn(&'b [Token]) -> Result<(Tall<Expr>, &'b [Token]), ParseError>
     }
 
     /// The test after these.
-    #[tactic(auto, unfolding(crate::specs::Aiming::next_at))]
+    #[tactic(auto, unfolding(crate::specs::inner::Aiming::next_at))]
     fn next<'a>(&self, found: &Tall<Items<Expr>>, tokens: &'a [Token]) -> Read<'a, Tall<Expr>>
         requires calls { F.IsAlwaysCallable self.now.inner }
         requires answers { AnswersAim (F.post self.now.inner) self.now.turns self.now.room }
@@ -108,7 +108,7 @@ impl<F: for<'b> Fn(&'b [Token]) -> Result<(Tall<Expr>, &'b [Token]), ParseError>
     }
 
     /// Further tests after the first, each after a comma, which may also trail.
-    #[tactic(auto, unfolding(crate::specs::Aiming::elements_at))]
+    #[tactic(auto, unfolding(crate::specs::inner::Aiming::elements_at))]
     fn elements<'a>(&self, first: Tall<Expr>, tokens: &'a [Token]) -> Read<'a, Tall<Items<Expr>>>
         requires calls { F.IsAlwaysCallable self.now.inner }
         requires answers { AnswersAim (F.post self.now.inner) self.now.turns self.now.room }
@@ -138,7 +138,7 @@ impl<F: for<'b> Fn(&'b [Token]) -> Result<(Tall<Expr>, &'b [Token]), ParseError>
     }
 
     /// After `(` and a test.
-    #[tactic(auto, unfolding(crate::specs::Aiming::closed_at))]
+    #[tactic(auto, unfolding(crate::specs::inner::Aiming::closed_at))]
     fn round_close<'a>(&self, test: Tall<Expr>, tokens: &'a [Token]) -> Read<'a, Tall<Expr>>
         requires calls { F.IsAlwaysCallable self.now.inner }
         requires answers { AnswersAim (F.post self.now.inner) self.now.turns self.now.room }
@@ -163,7 +163,7 @@ impl<F: for<'b> Fn(&'b [Token]) -> Result<(Tall<Expr>, &'b [Token]), ParseError>
     }
 
     /// After `(`.
-    #[tactic(auto, unfolding(crate::specs::Aiming::aim_round))]
+    #[tactic(auto, unfolding(crate::specs::inner::Aiming::aim_round))]
     fn round<'a>(&self, tokens: &'a [Token]) -> Read<'a, Tall<Expr>>
         requires calls { F.IsAlwaysCallable self.now.inner }
         requires answers { AnswersAim (F.post self.now.inner) self.now.turns self.now.room }
@@ -183,7 +183,7 @@ impl<F: for<'b> Fn(&'b [Token]) -> Result<(Tall<Expr>, &'b [Token]), ParseError>
     }
 
     /// After `[` and a test.
-    #[tactic(auto, unfolding(crate::specs::Aiming::closed_at))]
+    #[tactic(auto, unfolding(crate::specs::inner::Aiming::closed_at))]
     fn list_close<'a>(&self, test: Tall<Expr>, tokens: &'a [Token]) -> Read<'a, Tall<Expr>>
         requires calls { F.IsAlwaysCallable self.now.inner }
         requires answers { AnswersAim (F.post self.now.inner) self.now.turns self.now.room }
@@ -201,7 +201,7 @@ impl<F: for<'b> Fn(&'b [Token]) -> Result<(Tall<Expr>, &'b [Token]), ParseError>
     }
 
     /// After `[`.
-    #[tactic(auto, unfolding(crate::specs::Aiming::aim_list))]
+    #[tactic(auto, unfolding(crate::specs::inner::Aiming::aim_list))]
     fn list<'a>(&self, tokens: &'a [Token]) -> Read<'a, Tall<Expr>>
         requires calls { F.IsAlwaysCallable self.now.inner }
         requires answers { AnswersAim (F.post self.now.inner) self.now.turns self.now.room }

@@ -19,7 +19,7 @@ use sqlite_items::Items;
 use std::alloc::Global;
 
 /// After an expression, where `=` may follow: the targets, and the value.
-#[tactic(auto, unfolding(crate::specs::Lines::equals_at))]
+#[tactic(auto, unfolding(crate::specs::inner::Lines::equals_at))]
 fn equals<'a>(
     alloc: Global,
     turns: usize,
@@ -61,7 +61,7 @@ fn run_or_assign(line: u32, targets: Items<Expr>, value: Expr) -> Stmt
 }
 
 /// After the first expression of a statement that began on this line, where no augmented assignment follows.
-#[tactic(auto, unfolding(crate::specs::Lines::run_at))]
+#[tactic(auto, unfolding(crate::specs::inner::Lines::run_at))]
 fn assign<'a>(
     alloc: Global,
     turns: usize,
@@ -79,7 +79,7 @@ fn assign<'a>(
 
 /// After the first expression of a statement that began on this line, where the augmented assignment with this operator comes
 /// next.
-#[tactic(auto, unfolding(crate::specs::Lines::run_at))]
+#[tactic(auto, unfolding(crate::specs::inner::Lines::run_at))]
 fn augment<'a>(
     alloc: Global,
     turns: usize,
@@ -107,7 +107,7 @@ fn augment<'a>(
 }
 
 /// A statement that begins with an expression: the expression alone, an assignment or an augmented one.
-#[tactic(auto, unfolding(crate::specs::Lines::running_at))]
+#[tactic(auto, unfolding(crate::specs::inner::Lines::running_at))]
 pub fn running<'a>(
     alloc: Global,
     turns: usize,

@@ -56,7 +56,7 @@ fn unicode_next(tokens: &[Token]) -> bool
 }
 
 /// Strings after one that was read, joined to it.
-#[tactic(auto, unfolding(crate::specs::Reading::strings_at))]
+#[tactic(auto, unfolding(crate::specs::inner::Reading::strings_at))]
 fn strings<'a>(alloc: Global, turns: usize, first: &Bytes, tokens: &'a [Token]) -> Read<'a, Bytes>
     ensures { Gives (λ x. (x.0, x.1.now)) result (strings_at turns first.now tokens.now) }
 {
@@ -104,7 +104,7 @@ impl<F: for<'b> Fn(Request, &'b [Token]) -> Result<(Tall<Expr>, &'b [Token]), Pa
     }
 
     /// After `(`.
-    #[tactic(auto, unfolding(crate::specs::Reading::round_at))]
+    #[tactic(auto, unfolding(crate::specs::inner::Reading::round_at))]
     fn round<'a>(&self, tokens: &'a [Token]) -> Read<'a, Tall<Expr>>
         requires calls { F.IsAlwaysCallable self.now.inner }
         requires answers { Answers (F.post self.now.inner) self.now.turns self.now.budget }
@@ -140,7 +140,7 @@ impl<F: for<'b> Fn(Request, &'b [Token]) -> Result<(Tall<Expr>, &'b [Token]), Pa
     }
 
     /// After `[`.
-    #[tactic(auto, unfolding(crate::specs::Reading::list_at))]
+    #[tactic(auto, unfolding(crate::specs::inner::Reading::list_at))]
     fn list<'a>(&self, tokens: &'a [Token]) -> Read<'a, Tall<Expr>>
         requires calls { F.IsAlwaysCallable self.now.inner }
         requires answers { Answers (F.post self.now.inner) self.now.turns self.now.budget }
@@ -156,7 +156,7 @@ impl<F: for<'b> Fn(Request, &'b [Token]) -> Result<(Tall<Expr>, &'b [Token]), Pa
     }
 
     /// Further pairs, each after a comma, which may also trail.
-    #[tactic(auto, unfolding(crate::specs::Reading::pairs_at))]
+    #[tactic(auto, unfolding(crate::specs::inner::Reading::pairs_at))]
     fn pairs<'a>(
         &self,
         key: Tall<Expr>,
@@ -236,7 +236,7 @@ impl<F: for<'b> Fn(Request, &'b [Token]) -> Result<(Tall<Expr>, &'b [Token]), Pa
     }
 
     /// After `{`.
-    #[tactic(auto, unfolding(crate::specs::Reading::dict_at))]
+    #[tactic(auto, unfolding(crate::specs::inner::Reading::dict_at))]
     fn dict<'a>(&self, tokens: &'a [Token]) -> Read<'a, Tall<Expr>>
         requires calls { F.IsAlwaysCallable self.now.inner }
         requires answers { Answers (F.post self.now.inner) self.now.turns self.now.budget }
@@ -270,7 +270,7 @@ impl<F: for<'b> Fn(Request, &'b [Token]) -> Result<(Tall<Expr>, &'b [Token]), Pa
     }
 
     /// An atom.
-    #[tactic(auto, unfolding(crate::specs::Reading::atom_at))]
+    #[tactic(auto, unfolding(crate::specs::inner::Reading::atom_at))]
     pub fn atom<'a>(&self, tokens: &'a [Token]) -> Read<'a, Tall<Expr>>
         requires calls { F.IsAlwaysCallable self.now.inner }
         requires answers { Answers (F.post self.now.inner) self.now.turns self.now.budget }

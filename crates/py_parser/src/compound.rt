@@ -101,7 +101,7 @@ impl<F: for<'b> Fn(&'b [Token]) -> Result<(Items<Stmt>, &'b [Token]), ParseError
     }
 
     /// The statements of a block, up to its end.
-    #[tactic(auto, unfolding(crate::specs::Lines::suite_at))]
+    #[tactic(auto, unfolding(crate::specs::inner::Lines::suite_at))]
     fn suite<'a>(&self, tokens: &'a [Token]) -> Read<'a, Items<Stmt>>
         requires calls { F.IsAlwaysCallable self.now.statement }
         requires answers { AnswersStatements (F.post self.now.statement) self.now.turns (self.now.budget - 1) }
@@ -122,7 +122,7 @@ impl<F: for<'b> Fn(&'b [Token]) -> Result<(Items<Stmt>, &'b [Token]), ParseError
     }
 
     /// A block: a line of its own indentation and more, or what is left of a line.
-    #[tactic(auto, unfolding(crate::specs::Lines::block_at, crate::specs::Lines::plain_at))]
+    #[tactic(auto, unfolding(crate::specs::inner::Lines::block_at, crate::specs::inner::Lines::plain_at))]
     fn block<'a>(&self, tokens: &'a [Token]) -> Read<'a, Items<Stmt>>
         requires calls { F.IsAlwaysCallable self.now.statement }
         requires answers { AnswersStatements (F.post self.now.statement) self.now.turns (self.now.budget - 1) }
@@ -145,7 +145,7 @@ impl<F: for<'b> Fn(&'b [Token]) -> Result<(Items<Stmt>, &'b [Token]), ParseError
     }
 
     /// A colon and a block.
-    #[tactic(auto, unfolding(crate::specs::Lines::body_at))]
+    #[tactic(auto, unfolding(crate::specs::inner::Lines::body_at))]
     fn body<'a>(&self, tokens: &'a [Token]) -> Read<'a, Items<Stmt>>
         requires calls { F.IsAlwaysCallable self.now.statement }
         requires answers { AnswersStatements (F.post self.now.statement) self.now.turns (self.now.budget - 1) }
@@ -157,7 +157,7 @@ impl<F: for<'b> Fn(&'b [Token]) -> Result<(Items<Stmt>, &'b [Token]), ParseError
     }
 
     /// A test and its block, of a clause that begins on this line.
-    #[tactic(auto, unfolding(crate::specs::Lines::arm_at))]
+    #[tactic(auto, unfolding(crate::specs::inner::Lines::arm_at))]
     fn arm<'a>(&self, line: u32, tokens: &'a [Token]) -> Read<'a, Arm>
         requires calls { F.IsAlwaysCallable self.now.statement }
         requires answers { AnswersStatements (F.post self.now.statement) self.now.turns (self.now.budget - 1) }
@@ -171,7 +171,7 @@ impl<F: for<'b> Fn(&'b [Token]) -> Result<(Items<Stmt>, &'b [Token]), ParseError
     }
 
     /// The arms of `elif` after the first arm.
-    #[tactic(auto, unfolding(crate::specs::Lines::elifs_at))]
+    #[tactic(auto, unfolding(crate::specs::inner::Lines::elifs_at))]
     fn elifs<'a>(&self, first: Arm, tokens: &'a [Token]) -> Read<'a, Items<Arm>>
         requires calls { F.IsAlwaysCallable self.now.statement }
         requires answers { AnswersStatements (F.post self.now.statement) self.now.turns (self.now.budget - 1) }
@@ -193,7 +193,7 @@ impl<F: for<'b> Fn(&'b [Token]) -> Result<(Items<Stmt>, &'b [Token]), ParseError
     }
 
     /// A clause that this keyword begins, where it comes.
-    #[tactic(auto, unfolding(crate::specs::Lines::clause_at))]
+    #[tactic(auto, unfolding(crate::specs::inner::Lines::clause_at))]
     fn clause<'a>(&self, word: u8, tokens: &'a [Token]) -> Read<'a, Option<Clause>>
         requires calls { F.IsAlwaysCallable self.now.statement }
         requires answers { AnswersStatements (F.post self.now.statement) self.now.turns (self.now.budget - 1) }
@@ -209,7 +209,7 @@ impl<F: for<'b> Fn(&'b [Token]) -> Result<(Items<Stmt>, &'b [Token]), ParseError
     }
 
     /// After `except`, which stands on this line.
-    #[tactic(auto, unfolding(crate::specs::Lines::handler_at))]
+    #[tactic(auto, unfolding(crate::specs::inner::Lines::handler_at))]
     fn handler<'a>(&self, line: u32, tokens: &'a [Token]) -> Read<'a, Handler>
         requires calls { F.IsAlwaysCallable self.now.statement }
         requires answers { AnswersStatements (F.post self.now.statement) self.now.turns (self.now.budget - 1) }
@@ -228,7 +228,7 @@ impl<F: for<'b> Fn(&'b [Token]) -> Result<(Items<Stmt>, &'b [Token]), ParseError
     }
 
     /// `except` clauses, up to one without a test.
-    #[tactic(auto, unfolding(crate::specs::Lines::handlers_at))]
+    #[tactic(auto, unfolding(crate::specs::inner::Lines::handlers_at))]
     fn handlers<'a>(&self, tokens: &'a [Token]) -> Read<'a, Items<Handler>>
         requires calls { F.IsAlwaysCallable self.now.statement }
         requires answers { AnswersStatements (F.post self.now.statement) self.now.turns (self.now.budget - 1) }
@@ -253,7 +253,7 @@ impl<F: for<'b> Fn(&'b [Token]) -> Result<(Items<Stmt>, &'b [Token]), ParseError
     }
 
     /// After `try` and its block.
-    #[tactic(auto, unfolding(crate::specs::Lines::try_at))]
+    #[tactic(auto, unfolding(crate::specs::inner::Lines::try_at))]
     fn try_more<'a>(&self, first: Clause, tokens: &'a [Token]) -> Read<'a, Stmt>
         requires calls { F.IsAlwaysCallable self.now.statement }
         requires answers { AnswersStatements (F.post self.now.statement) self.now.turns (self.now.budget - 1) }
@@ -287,7 +287,7 @@ impl<F: for<'b> Fn(&'b [Token]) -> Result<(Items<Stmt>, &'b [Token]), ParseError
     }
 
     /// After `def`, which stands on this line.
-    #[tactic(auto, unfolding(crate::specs::Lines::def_at))]
+    #[tactic(auto, unfolding(crate::specs::inner::Lines::def_at))]
     fn function<'a>(&self, line: u32, tokens: &'a [Token]) -> Read<'a, Stmt>
         requires calls { F.IsAlwaysCallable self.now.statement }
         requires answers { AnswersStatements (F.post self.now.statement) self.now.turns (self.now.budget - 1) }
@@ -303,7 +303,7 @@ impl<F: for<'b> Fn(&'b [Token]) -> Result<(Items<Stmt>, &'b [Token]), ParseError
     }
 
     /// After `class`, which stands on this line.
-    #[tactic(auto, unfolding(crate::specs::Lines::class_at))]
+    #[tactic(auto, unfolding(crate::specs::inner::Lines::class_at))]
     fn class<'a>(&self, line: u32, tokens: &'a [Token]) -> Read<'a, Stmt>
         requires calls { F.IsAlwaysCallable self.now.statement }
         requires answers { AnswersStatements (F.post self.now.statement) self.now.turns (self.now.budget - 1) }
@@ -410,7 +410,7 @@ impl<F: for<'b> Fn(&'b [Token]) -> Result<(Items<Stmt>, &'b [Token]), ParseError
     }
 
     /// A statement, or the simple ones of a line, of a height of at most `budget + 1`.
-    #[tactic(auto, unfolding(crate::specs::Lines::statement_at))]
+    #[tactic(auto, unfolding(crate::specs::inner::Lines::statement_at))]
     pub fn statement<'a>(&self, tokens: &'a [Token]) -> Read<'a, Items<Stmt>>
         requires calls { F.IsAlwaysCallable self.now.statement }
         requires answers { AnswersStatements (F.post self.now.statement) self.now.turns (self.now.budget - 1) }

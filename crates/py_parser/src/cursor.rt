@@ -83,7 +83,7 @@ pub fn keyword_next(tokens: &[Token], n: u8) -> bool
 }
 
 /// The tokens after this operator.
-#[tactic(auto, unfolding(crate::specs::Reading::op_at))]
+#[tactic(auto, unfolding(crate::specs::inner::Reading::op_at))]
 pub fn take_op(tokens: &[Token], n: u8) -> Result<&[Token], ParseError>
     ensures { Gives (λ r. (tt, r.now)) result (op_at n tokens.now) }
 {
@@ -95,7 +95,7 @@ pub fn take_op(tokens: &[Token], n: u8) -> Result<&[Token], ParseError>
 }
 
 /// The tokens after this keyword.
-#[tactic(auto, unfolding(crate::specs::Reading::keyword_at))]
+#[tactic(auto, unfolding(crate::specs::inner::Reading::keyword_at))]
 pub fn take_keyword(tokens: &[Token], n: u8) -> Result<&[Token], ParseError>
     ensures { Gives (λ r. (tt, r.now)) result (keyword_at n tokens.now) }
 {
@@ -107,7 +107,7 @@ pub fn take_keyword(tokens: &[Token], n: u8) -> Result<&[Token], ParseError>
 }
 
 /// The name that comes next.
-#[tactic(auto, unfolding(crate::specs::Reading::name_at))]
+#[tactic(auto, unfolding(crate::specs::inner::Reading::name_at))]
 pub fn take_name<'a>(alloc: Global, tokens: &'a [Token]) -> Read<'a, Bytes>
     ensures { Gives (λ x. (x.0, x.1.now)) result (name_at tokens.now) }
 {

@@ -105,7 +105,7 @@ fn grown<'a>(
 
 /// The test that begins with this expression of the level of targets, of a height of at most `budget`; or the expression
 /// alone, which may be higher.
-#[tactic(auto, unfolding(crate::specs::Aiming::risen_at))]
+#[tactic(auto, unfolding(crate::specs::inner::Aiming::risen_at))]
 pub fn risen<'a>(
     alloc: Global,
     turns: usize,

@@ -23,7 +23,7 @@ use sqlite_items::Items;
 use std::alloc::Global;
 
 /// A parameter; `later` says that one before it has a default.
-#[tactic(auto, unfolding(crate::specs::Lines::param_at))]
+#[tactic(auto, unfolding(crate::specs::inner::Lines::param_at))]
 fn param<'a>(
     alloc: Global,
     turns: usize,
@@ -54,7 +54,7 @@ fn param<'a>(
 }
 
 /// One parameter or more.
-#[tactic(auto, unfolding(crate::specs::Lines::params_at))]
+#[tactic(auto, unfolding(crate::specs::inner::Lines::params_at))]
 fn params<'a>(
     alloc: Global,
     turns: usize,
@@ -99,7 +99,7 @@ pub fn parameters<'a>(
 }
 
 /// What may stand between `except` and its colon: a test, and where what is caught is put.
-#[tactic(auto, unfolding(crate::specs::Lines::caught_at))]
+#[tactic(auto, unfolding(crate::specs::inner::Lines::caught_at))]
 pub fn caught<'a>(
     alloc: Global,
     turns: usize,
@@ -121,7 +121,7 @@ pub fn caught<'a>(
 }
 
 /// The base of a class, where one stands in brackets.
-#[tactic(auto, unfolding(crate::specs::Lines::base_at))]
+#[tactic(auto, unfolding(crate::specs::inner::Lines::base_at))]
 pub fn base<'a>(
     alloc: Global,
     turns: usize,
@@ -143,7 +143,7 @@ pub fn base<'a>(
 }
 
 /// Targets of `for` after the first, each after a comma, which may also trail.
-#[tactic(auto, unfolding(crate::specs::Lines::loops_at))]
+#[tactic(auto, unfolding(crate::specs::inner::Lines::loops_at))]
 fn loop_targets<'a>(
     alloc: Global,
     turns: usize,
@@ -174,7 +174,7 @@ fn loop_targets<'a>(
 }
 
 /// The targets of `for`. A target is read with the whole budget first, since no comma may follow.
-#[tactic(auto, unfolding(crate::specs::Lines::loop_at))]
+#[tactic(auto, unfolding(crate::specs::inner::Lines::loop_at))]
 pub fn loop_target<'a>(
     alloc: Global,
     turns: usize,

@@ -66,7 +66,7 @@ fn may_import(what: &Importable, name: &[u8]) -> bool
 }
 
 /// A name that may come; another is left out.
-#[tactic(auto, unfolding(crate::specs::Lines::import_name_at))]
+#[tactic(auto, unfolding(crate::specs::inner::Lines::import_name_at))]
 fn import_name<'a>(alloc: Global, what: &Importable, tokens: &'a [Token]) -> Read<'a, Bytes>
     ensures { Gives (λ x. (x.0, x.1.now)) result (import_name_at (may_import what.now) tokens.now) }
 {
@@ -78,7 +78,7 @@ fn import_name<'a>(alloc: Global, what: &Importable, tokens: &'a [Token]) -> Rea
 }
 
 /// The name after `as`, where `as` comes.
-#[tactic(auto, unfolding(crate::specs::Lines::renamed_at))]
+#[tactic(auto, unfolding(crate::specs::inner::Lines::renamed_at))]
 fn renamed<'a>(alloc: Global, tokens: &'a [Token]) -> Read<'a, Option<Bytes>>
     ensures { Gives (λ x. (x.0, x.1.now)) result (renamed_at tokens.now) }
 {
@@ -90,7 +90,7 @@ fn renamed<'a>(alloc: Global, tokens: &'a [Token]) -> Read<'a, Option<Bytes>>
 }
 
 /// A name that may come, and the name after `as`.
-#[tactic(auto, unfolding(crate::specs::Lines::imported_at))]
+#[tactic(auto, unfolding(crate::specs::inner::Lines::imported_at))]
 fn imported<'a>(alloc: Global, what: &Importable, tokens: &'a [Token]) -> Read<'a, Imported>
     ensures { Gives (λ x. (x.0, x.1.now)) result (imported_at (may_import what.now) tokens.now) }
 {
@@ -100,7 +100,7 @@ fn imported<'a>(alloc: Global, what: &Importable, tokens: &'a [Token]) -> Read<'
 }
 
 /// What is imported after the first, each after a comma.
-#[tactic(auto, unfolding(crate::specs::Lines::imports_at))]
+#[tactic(auto, unfolding(crate::specs::inner::Lines::imports_at))]
 fn imports<'a>(
     alloc: Global,
     turns: usize,
@@ -135,7 +135,7 @@ pub fn import<'a>(alloc: Global, turns: usize, line: u32, tokens: &'a [Token]) -
 }
 
 /// After `from`, in a statement that began on this line.
-#[tactic(auto, unfolding(crate::specs::Lines::from_at))]
+#[tactic(auto, unfolding(crate::specs::inner::Lines::from_at))]
 pub fn from<'a>(alloc: Global, turns: usize, line: u32, tokens: &'a [Token]) -> Read<'a, Stmt>
     ensures { Gives (λ x. (x.0, x.1.now)) result (from_at turns line tokens.now) }
 {

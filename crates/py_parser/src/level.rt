@@ -43,7 +43,7 @@ impl<F: for<'b> Fn(Request, &'b [Token]) -> Result<(Tall<Expr>, &'b [Token]), Pa
     }
 
     /// After what may be raised to a power.
-    #[tactic(auto, unfolding(crate::specs::Reading::power_at))]
+    #[tactic(auto, unfolding(crate::specs::inner::Reading::power_at))]
     fn power<'a>(&self, base: Tall<Expr>, tokens: &'a [Token]) -> Read<'a, Tall<Expr>>
         requires calls { F.IsAlwaysCallable self.now.inner }
         requires answers { Answers (F.post self.now.inner) self.now.turns self.now.budget }
@@ -78,7 +78,7 @@ impl<F: for<'b> Fn(Request, &'b [Token]) -> Result<(Tall<Expr>, &'b [Token]), Pa
     }
 
     /// Operators of a level with their operands, as many as come.
-    #[tactic(auto, unfolding(crate::specs::Reading::links_at))]
+    #[tactic(auto, unfolding(crate::specs::inner::Reading::links_at))]
     fn links<'a>(&self, level: Level, tokens: &'a [Token]) -> Read<'a, Tall<Items<Link>>>
         requires calls { F.IsAlwaysCallable self.now.inner }
         requires answers { Answers (F.post self.now.inner) self.now.turns self.now.budget }
@@ -100,7 +100,7 @@ impl<F: for<'b> Fn(Request, &'b [Token]) -> Result<(Tall<Expr>, &'b [Token]), Pa
     }
 
     /// After the first operand of a level.
-    #[tactic(auto, unfolding(crate::specs::Reading::chain_at))]
+    #[tactic(auto, unfolding(crate::specs::inner::Reading::chain_at))]
     fn chain<'a>(
         &self,
         level: Level,
@@ -140,7 +140,7 @@ impl<F: for<'b> Fn(Request, &'b [Token]) -> Result<(Tall<Expr>, &'b [Token]), Pa
     }
 
     /// After what may be chosen.
-    #[tactic(auto, unfolding(crate::specs::Reading::choice_at))]
+    #[tactic(auto, unfolding(crate::specs::inner::Reading::choice_at))]
     fn choice<'a>(&self, value: Tall<Expr>, tokens: &'a [Token]) -> Read<'a, Tall<Expr>>
         requires calls { F.IsAlwaysCallable self.now.inner }
         requires answers { Answers (F.post self.now.inner) self.now.turns self.now.budget }
@@ -162,7 +162,7 @@ impl<F: for<'b> Fn(Request, &'b [Token]) -> Result<(Tall<Expr>, &'b [Token]), Pa
     }
 
     /// After a test, where a comma makes a tuple.
-    #[tactic(auto, unfolding(crate::specs::Reading::after_at))]
+    #[tactic(auto, unfolding(crate::specs::inner::Reading::after_at))]
     pub fn after<'a>(&self, test: Tall<Expr>, tokens: &'a [Token]) -> Read<'a, Tall<Expr>>
         requires calls { F.IsAlwaysCallable self.now.inner }
         requires answers { Answers (F.post self.now.inner) self.now.turns self.now.budget }
@@ -181,7 +181,7 @@ impl<F: for<'b> Fn(Request, &'b [Token]) -> Result<(Tall<Expr>, &'b [Token]), Pa
     }
 
     /// An expression of a level.
-    #[tactic(auto, unfolding(crate::specs::Reading::level_at))]
+    #[tactic(auto, unfolding(crate::specs::inner::Reading::level_at))]
     pub fn level<'a>(&self, level: u8, tokens: &'a [Token]) -> Read<'a, Tall<Expr>>
         requires calls { F.IsAlwaysCallable self.now.inner }
         requires answers { Answers (F.post self.now.inner) self.now.turns self.now.budget }
@@ -252,7 +252,7 @@ impl<F: for<'b> Fn(Request, &'b [Token]) -> Result<(Tall<Expr>, &'b [Token]), Pa
     }
 
     /// What so many rungs above the level of targets add after an expression of it, one after another.
-    #[tactic(auto, unfolding(crate::specs::Aiming::grown_at))]
+    #[tactic(auto, unfolding(crate::specs::inner::Aiming::grown_at))]
     pub fn grown<'a>(
         &self,
         rungs: u8,

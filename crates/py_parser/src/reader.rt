@@ -65,7 +65,7 @@ impl<F: for<'b> Fn(Request, &'b [Token]) -> Result<(Tall<Expr>, &'b [Token]), Pa
     }
 
     /// Further tests, each after a comma; the truth value says that a comma trails.
-    #[tactic(auto, unfolding(crate::specs::Reading::tests_at))]
+    #[tactic(auto, unfolding(crate::specs::inner::Reading::tests_at))]
     pub fn tests<'a>(
         &self,
         first: Tall<Expr>,

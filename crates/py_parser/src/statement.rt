@@ -22,7 +22,7 @@ use sqlite_items::Items;
 use std::alloc::Global;
 
 /// An expression of this level, where one comes, or what is left out in its place.
-#[tactic(auto, unfolding(crate::specs::Lines::maybe_at))]
+#[tactic(auto, unfolding(crate::specs::inner::Lines::maybe_at))]
 pub fn maybe<'a>(
     alloc: Global,
     turns: usize,
@@ -41,7 +41,7 @@ pub fn maybe<'a>(
 }
 
 /// Further names of `global` after the first, each after a comma.
-#[tactic(auto, unfolding(crate::specs::Lines::names_at))]
+#[tactic(auto, unfolding(crate::specs::inner::Lines::names_at))]
 fn names<'a>(
     alloc: Global,
     turns: usize,
@@ -65,7 +65,7 @@ fn names<'a>(
 }
 
 /// After `print`.
-#[tactic(auto, unfolding(crate::specs::Lines::print_at))]
+#[tactic(auto, unfolding(crate::specs::inner::Lines::print_at))]
 fn print<'a>(
     alloc: Global,
     turns: usize,
@@ -113,7 +113,7 @@ fn return_value<'a>(
 }
 
 /// After `raise` and a test.
-#[tactic(auto, unfolding(crate::specs::Lines::raise_at))]
+#[tactic(auto, unfolding(crate::specs::inner::Lines::raise_at))]
 fn raise_more<'a>(
     alloc: Global,
     turns: usize,
@@ -179,7 +179,7 @@ fn global<'a>(alloc: Global, turns: usize, line: u32, tokens: &'a [Token]) -> Re
 }
 
 /// After `assert` and a test.
-#[tactic(auto, unfolding(crate::specs::Lines::assert_at))]
+#[tactic(auto, unfolding(crate::specs::inner::Lines::assert_at))]
 fn assert_more<'a>(
     alloc: Global,
     turns: usize,
@@ -248,7 +248,7 @@ fn worded<'a>(
 }
 
 /// A simple statement of a height of at most `budget`.
-#[tactic(auto, unfolding(crate::specs::Lines::simple_at))]
+#[tactic(auto, unfolding(crate::specs::inner::Lines::simple_at))]
 pub fn simple<'a>(alloc: Global, turns: usize, budget: usize, tokens: &'a [Token]) -> Read<'a, Stmt>
     requires small { budget ≤ HEIGHT_LIMIT }
     requires above { 0 < budget }

@@ -67,7 +67,7 @@ fn statement<'a>(
 }
 
 /// The statements of a module, up to its end.
-#[tactic(auto, unfolding(crate::specs::Lines::body_more))]
+#[tactic(auto, unfolding(crate::specs::inner::Lines::body_more))]
 fn body<'a>(alloc: Global, turns: usize, tokens: &'a [Token]) -> Read<'a, Items<Stmt>>
     ensures { Gives (λ x. (x.0, x.1.now)) result (body_more (statements_at turns 99) turns [] tokens.now) }
 {
@@ -89,7 +89,7 @@ fn body<'a>(alloc: Global, turns: usize, tokens: &'a [Token]) -> Read<'a, Items<
 }
 
 /// A module.
-#[tactic(auto, unfolding(crate::specs::Lines::module_at))]
+#[tactic(auto, unfolding(crate::specs::inner::Lines::module_at))]
 pub fn module<'a>(alloc: Global, tokens: &'a [Token]) -> Read<'a, Module>
     ensures { Gives (λ x. (x.0, x.1.now)) result (module_at (length tokens.now) tokens.now) }
 {

@@ -49,7 +49,7 @@ fn follows(place: TargetPlace, tokens: &[Token]) -> bool
 
 /// Refuses what is no target: an expression that was read, with the tokens after it. A slice is left out where these may
 /// follow a target; all else is unexpected.
-#[tactic(auto, unfolding(crate::specs::Lines::checked))]
+#[tactic(auto, unfolding(crate::specs::inner::Lines::checked))]
 pub fn check_target(
     place: TargetPlace,
     target: &Tall<Expr>,
@@ -84,7 +84,7 @@ pub fn target<'a>(
 }
 
 /// Further targets of `del` after the first, each after a comma.
-#[tactic(auto, unfolding(crate::specs::Lines::targets_at))]
+#[tactic(auto, unfolding(crate::specs::inner::Lines::targets_at))]
 pub fn targets<'a>(
     alloc: Global,
     turns: usize,

@@ -87,7 +87,7 @@ impl<F: for<'b> Fn(Request, &'b [Token]) -> Result<(Tall<Expr>, &'b [Token]), Pa
     F,
 > {
     /// Arguments by keyword after the first, each after a comma, which may also trail; at most so many.
-    #[tactic(auto, unfolding(crate::specs::Reading::named_at))]
+    #[tactic(auto, unfolding(crate::specs::inner::Reading::named_at))]
     fn named<'a>(
         &self,
         most: usize,
@@ -145,7 +145,7 @@ impl<F: for<'b> Fn(Request, &'b [Token]) -> Result<(Tall<Expr>, &'b [Token]), Pa
     }
 
     /// One argument or more.
-    #[tactic(auto, unfolding(crate::specs::Reading::args_at))]
+    #[tactic(auto, unfolding(crate::specs::inner::Reading::args_at))]
     fn arguments<'a>(&self, tokens: &'a [Token]) -> Read<'a, Tall<Trailer>>
         requires calls { F.IsAlwaysCallable self.now.inner }
         requires answers { Answers (F.post self.now.inner) self.now.turns self.now.budget }
@@ -178,7 +178,7 @@ impl<F: for<'b> Fn(Request, &'b [Token]) -> Result<(Tall<Expr>, &'b [Token]), Pa
     }
 
     /// After the first colon of a slice.
-    #[tactic(auto, unfolding(crate::specs::Reading::slice_at))]
+    #[tactic(auto, unfolding(crate::specs::inner::Reading::slice_at))]
     fn slice<'a>(&self, from: Option<Tall<Expr>>, tokens: &'a [Token]) -> Read<'a, Tall<Trailer>>
         requires calls { F.IsAlwaysCallable self.now.inner }
         requires answers { Answers (F.post self.now.inner) self.now.turns self.now.budget }
@@ -210,7 +210,7 @@ impl<F: for<'b> Fn(Request, &'b [Token]) -> Result<(Tall<Expr>, &'b [Token]), Pa
     }
 
     /// After `[`.
-    #[tactic(auto, unfolding(crate::specs::Reading::subscript_at))]
+    #[tactic(auto, unfolding(crate::specs::inner::Reading::subscript_at))]
     fn subscript<'a>(&self, tokens: &'a [Token]) -> Read<'a, Tall<Trailer>>
         requires calls { F.IsAlwaysCallable self.now.inner }
         requires answers { Answers (F.post self.now.inner) self.now.turns self.now.budget }
@@ -225,7 +225,7 @@ impl<F: for<'b> Fn(Request, &'b [Token]) -> Result<(Tall<Expr>, &'b [Token]), Pa
     }
 
     /// After `(`.
-    #[tactic(auto, unfolding(crate::specs::Reading::call_at))]
+    #[tactic(auto, unfolding(crate::specs::inner::Reading::call_at))]
     fn call<'a>(&self, tokens: &'a [Token]) -> Read<'a, Tall<Trailer>>
         requires calls { F.IsAlwaysCallable self.now.inner }
         requires answers { Answers (F.post self.now.inner) self.now.turns self.now.budget }
@@ -242,7 +242,7 @@ impl<F: for<'b> Fn(Request, &'b [Token]) -> Result<(Tall<Expr>, &'b [Token]), Pa
     }
 
     /// A trailer.
-    #[tactic(auto, unfolding(crate::specs::Reading::trailer_at))]
+    #[tactic(auto, unfolding(crate::specs::inner::Reading::trailer_at))]
     fn trailer<'a>(&self, tokens: &'a [Token]) -> Read<'a, Tall<Trailer>>
         requires calls { F.IsAlwaysCallable self.now.inner }
         requires answers { Answers (F.post self.now.inner) self.now.turns self.now.budget }
@@ -260,7 +260,7 @@ impl<F: for<'b> Fn(Request, &'b [Token]) -> Result<(Tall<Expr>, &'b [Token]), Pa
     }
 
     /// Trailers, as many as come.
-    #[tactic(auto, unfolding(crate::specs::Reading::trailers_at))]
+    #[tactic(auto, unfolding(crate::specs::inner::Reading::trailers_at))]
     fn trailers<'a>(&self, tokens: &'a [Token]) -> Read<'a, Tall<Items<Trailer>>>
         requires calls { F.IsAlwaysCallable self.now.inner }
         requires answers { Answers (F.post self.now.inner) self.now.turns self.now.budget }
@@ -281,7 +281,7 @@ impl<F: for<'b> Fn(Request, &'b [Token]) -> Result<(Tall<Expr>, &'b [Token]), Pa
     }
 
     /// After an atom.
-    #[tactic(auto, unfolding(crate::specs::Reading::trail_at))]
+    #[tactic(auto, unfolding(crate::specs::inner::Reading::trail_at))]
     pub fn trail<'a>(&self, atom: Tall<Expr>, tokens: &'a [Token]) -> Read<'a, Tall<Expr>>
         requires calls { F.IsAlwaysCallable self.now.inner }
         requires answers { Answers (F.post self.now.inner) self.now.turns self.now.budget }

@@ -1,5 +1,5 @@
 //! What is written so far, and where the pen stands.
-#![tactic(auto, unfolding(crate::specs::Page::put))]
+#![tactic(auto, unfolding(crate::specs::inner::Page::put))]
 
 ghost use Rattle.std.specs.Prelude.{◌≡◌, ℕ, ◌-◌, List, [], ◌∷◌, ◌++◌, true, map, replicate, OnOk};
 ghost use Rattle.py_tokens.specs.Tables.{keywords, operators};

@@ -50,7 +50,7 @@ pub struct Table {
     ghost placed: { IsPlaced (slice_get places.items) (slice_get list.items) },
 }
 
-#[tactic(auto, unfolding(crate::specs::Table::table_heap))]
+#[tactic(auto, unfolding(crate::specs::inner::Table::table_heap))]
 impl Table {
     ghost use Rattle.seg_store.specs.inner.Table.{table_heap};
 
