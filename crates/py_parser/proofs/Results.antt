@@ -187,16 +187,17 @@ module _ (ts : List Token) (h : EndsOnce ts) (f : Fault) (rest : List Token) (e 
     beyond_any : Opens any ((stop 0 0).front ++ t ∷ []) → (d : ℕ) × Begins d (front ++ t ∷ [])
     beyond_any o = let m : Module = record { body = o.body } in (tall_module m, (m, o.more, o.spells, omega arith))
 
-    -- Where the height isn't why, a construct with which some module begins so is why: reading goes on to its mark whatever follows.
+    -- Where the height isn't why, a construct with which some module begins so is why: reading stops at its mark,
+    -- whatever follows.
     reason : (c : Construct) → BeginsWith c (front ++ t ∷ []) → ((y : ℕ) → Stays y f) → f ≡ LeftOut c
     reason c b stays =
         let d = suc (talls b.0) in
         let i : slack (Some c) + talls b.0 ≤ more d 99 = omega (arith, more_is d 99) in
         let w = reads_it d b.1 b.2 i (stays d) in
-        elim w.1 [ inl ok ↦ absurd (err_ok _ _ _ w.0 ok) | inr bad ↦ same_fault (f, t ∷ b.1) (LeftOut bad.0, bad.1) _ w.0 bad.3 ∙ ap (λ z. LeftOut z) (same_mark c bad.0 bad.2) ]
+        elim w.1 [ inl ok ↦ absurd (err_ok _ _ _ w.0 ok) | inr bad ↦ at_mark bad.0 bad.2 (same_fault (f, t ∷ b.1) (LeftOut bad.0, bad.1) _ w.0 bad.3) ]
       where
-        same_mark : (c e : Construct) → Some c ≡ Some e → e ≡ c
-        same_mark c e q = cc
+        at_mark : (e : Construct) → Some c ≡ Some e → f ≡ LeftOut e → f ≡ LeftOut c
+        at_mark e p q = let same : e ≡ c = cc in q ∙ ap (λ z. LeftOut z) same
 
     because : Because f (front ++ t ∷ [])
     because = go f refl
