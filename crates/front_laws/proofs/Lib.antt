@@ -21,4 +21,5 @@ pub mod StringFronts
 pub mod Tables
 pub mod TargetForms
 pub mod TokenFronts
+pub mod TreeLemmas
 pub mod Worked

@@ -2,3 +2,4 @@ pub mod Fronts
 pub mod Pieces
 pub mod Spells
 pub mod Targets
+pub mod Trees

@@ -3,4 +3,4 @@
 
 mod laws;
 
-pub use laws::{spelling_law, target_law};
+pub use laws::{round_law, spelling_law, target_law, tree_law};

@@ -30,6 +30,7 @@ mod Modules
 mod Bodied
 mod NoEnd
 mod Results
+mod OneRefusal
 mod Ends
 mod LinedWords
 mod LinedSimple

@@ -134,12 +134,19 @@ cancel (f ∷ fs) (g ∷ gs) rest e = let a : f ≡ g = ap (first_or f) e in let
 err_ok : {A : Type 0} (x : Fault × List Token) (y : A × List Token) (r : Reads A) → r ≡ Err x → r ≡ Ok y → ⊥
 err_ok x y r p q = let e : Err x ≡ Ok y = sym p ∙ q in cc
 
-err_left : {A : Type 0} (us vs : List Token) (c : Construct) (r : Reads A) → r ≡ Err (Unexpected, us) → r ≡ Err (LeftOut c, vs) → ⊥
-err_left {A = A} us vs c r p q = no (sym (ap unexpected p) ∙ ap unexpected q)
-  where
-    unexpected : Reads A → Bool
-    unexpected (Err (Unexpected, zs)) = true
-    unexpected x = false
+same_fault : {A : Type 0} (x y : Fault × List Token) (r : Reads A) → r ≡ Err x → r ≡ Err y → x.0 ≡ y.0
+same_fault x y r p q = let e : Err x ≡ Err y = sym p ∙ q in let same : x ≡ y = cc in ap (λ z. z.0) same
+
+same_left : (c d : Construct) → LeftOut c ≡ LeftOut d → c ≡ d
+same_left c d e = cc
+
+not_left : (c : Construct) → Unexpected ≡ LeftOut c → ⊥
+not_left c e = cc
+
+-- these tokens are refused so, and no other construct could be why
+pub record Refuses (ts : List Token) (f : Fault) (line : ℕ) : Type 0 where
+  pub is : RefusedAt ts f line
+  pub alone : (c d : Construct) → f ≡ LeftOut c → BeginsWith d (is.front ++ is.token ∷ []) → c ≡ d
 
 always : (f : Fault) → Stays 0 f
 always Unexpected = tt
@@ -180,6 +187,18 @@ module _ (ts : List Token) (h : EndsOnce ts) (f : Fault) (rest : List Token) (e 
     beyond_any : Opens any ((stop 0 0).front ++ t ∷ []) → (d : ℕ) × Begins d (front ++ t ∷ [])
     beyond_any o = let m : Module = record { body = o.body } in (tall_module m, (m, o.more, o.spells, omega arith))
 
+    -- Where the height isn't why, a construct with which some module begins so is why: reading stops at its mark,
+    -- whatever follows.
+    reason : (c : Construct) → BeginsWith c (front ++ t ∷ []) → ((y : ℕ) → Stays y f) → f ≡ LeftOut c
+    reason c b stays =
+        let d = suc (talls b.0) in
+        let i : slack (Some c) + talls b.0 ≤ more d 99 = omega (arith, more_is d 99) in
+        let w = reads_it d b.1 b.2 i (stays d) in
+        elim w.1 [ inl ok ↦ absurd (err_ok _ _ _ w.0 ok) | inr bad ↦ at_mark bad.0 bad.2 (same_fault (f, t ∷ b.1) (LeftOut bad.0, bad.1) _ w.0 bad.3) ]
+      where
+        at_mark : (e : Construct) → Some c ≡ Some e → f ≡ LeftOut e → f ≡ LeftOut c
+        at_mark e p q = let same : e ≡ c = cc in q ∙ ap (λ z. LeftOut z) same
+
     because : Because f (front ++ t ∷ [])
     because = go f refl
       where
@@ -192,17 +211,13 @@ module _ (ts : List Token) (h : EndsOnce ts) (f : Fault) (rest : List Token) (e 
         go : (g : Fault) → f ≡ g → Because g (front ++ t ∷ [])
         go Deep q = beyond_any (subst (λ z. Beyond z ((stop 0 0).front ++ t ∷ [])) q ((stop 0 0).beyond t us r))
         go (LeftOut c) q = ((λ d. none d (subst (Stays d) (sym q) tt)), let o = subst (λ z. Beyond z ((stop 0 0).front ++ t ∷ [])) q ((stop 0 0).beyond t us r) in (o.body, o.more, o.spells))
-        go Unexpected q = ((λ d. none d (subst (Stays d) (sym q) tt)), λ c b. with_mark c b q)
-          where
-            with_mark : (c : Construct) → BeginsWith c (front ++ t ∷ []) → f ≡ Unexpected → ⊥
-            with_mark c b q =
-                let d = suc (talls b.0) in
-                let i : slack (Some c) + talls b.0 ≤ more d 99 = omega (arith, more_is d 99) in
-                let w = reads_it d b.1 b.2 i (subst (Stays d) (sym q) tt) in
-                elim w.1 [ inl ok ↦ err_ok _ _ _ w.0 ok | inr bad ↦ err_left (t ∷ b.1) bad.1 bad.0 _ (w.0 ∙ ap (λ z. Err (z, t ∷ b.1)) q) bad.3 ]
+        go Unexpected q = ((λ d. none d (subst (Stays d) (sym q) tt)), λ c b. not_left c (sym q ∙ reason c b (λ y. subst (Stays y) (sym q) tt)))
 
-    refused_there : RefusedAt ts f (line_of rest)
-    refused_there = record { front = front; token = t; rest = us; split = (stop 0 0).split ∙ ap (λ z. front ++ z) r; line_is = ap line_of r; before = before; here = none_with 0 (always f) 100 (omega arith); because = because }
+    refused_there : Refuses ts f (line_of rest)
+    refused_there = record {
+      is = record { front = front; token = t; rest = us; split = (stop 0 0).split ∙ ap (λ z. front ++ z) r; line_is = ap line_of r; before = before; here = none_with 0 (always f) 100 (omega arith); because = because };
+      alone = λ c d q b. same_left c d (sym q ∙ reason d b (λ y. subst (Stays y) (sym q) tt));
+    }
 
   -- All tokens are never taken.
   not_none : rest ≡ [] → ⊥
@@ -218,13 +233,13 @@ module _ (ts : List Token) (h : EndsOnce ts) (f : Fault) (rest : List Token) (e 
           let q : Body None ss ts = subst (Body None ss) (ap (λ z. front ++ z) (no_more same ss more' p) ∙ append-nil front ∙ sym same) p in
           elim (complete_body q (length ts) 99 (length ts) [] (omega arith) (omega arith) (omega (arith, i))) [ inl ok ↦ err_ok _ _ _ e ok | inr bad ↦ no (sym (ap is_some bad.2)) ]
 
-refused_by : (ts : List Token) (h : EndsOnce ts) (f : Fault) (rest : List Token) → body_more (statements_at (length ts) 99) (length ts) [] ts ≡ Err (f, rest) → RefusedAt ts f (line_of rest)
+refused_by : (ts : List Token) (h : EndsOnce ts) (f : Fault) (rest : List Token) → body_more (statements_at (length ts) 99) (length ts) [] ts ≡ Err (f, rest) → Refuses ts f (line_of rest)
 refused_by ts h f [] e = absurd (not_none ts h f [] e refl)
 refused_by ts h f (t ∷ us) e = refused_there ts h f (t ∷ us) e t us refl
 
-pub refused : (ts : List Token) (f : Fault) (rest : List Token) → EndsOnce ts → module_at (length ts) ts ≡ Err (f, rest) → RefusedAt ts f (line_of rest)
+pub refuses : (ts : List Token) (f : Fault) (rest : List Token) → EndsOnce ts → module_at (length ts) ts ≡ Err (f, rest) → Refuses ts f (line_of rest)
 unfolding module_at
-refused ts f rest h e = refused_by ts h f rest (go (body_more (statements_at (length ts) 99) (length ts) [] ts) e)
+refuses ts f rest h e = refused_by ts h f rest (go (body_more (statements_at (length ts) 99) (length ts) [] ts) e)
   where
     fault_of : Reads Module → Fault × List Token
     fault_of (Err x) = x
@@ -236,6 +251,9 @@ refused ts f rest h e = refused_by ts h f rest (go (body_more (statements_at (le
     go : (r : Reads (List Stmt)) → ◌≡◌ {A = Reads Module} (r >>= λ b. Ok (record { body = b.0 }, b.1)) (Err (f, rest)) → r ≡ Err (f, rest)
     go (Ok x) q = absurd (wrong _ q)
     go (Err x) q = ap (λ z. Err z) (ap fault_of q)
+
+pub refused : (ts : List Token) (f : Fault) (rest : List Token) → EndsOnce ts → module_at (length ts) ts ≡ Err (f, rest) → RefusedAt ts f (line_of rest)
+refused ts f rest h e = (refuses ts f rest h e).is
 
 -- a list of tokens has at most one tree
 pub unique : (ts : List Token) (m n : Module) → IsModule m ts → IsModule n ts → m ≡ n

@@ -13,12 +13,15 @@ ghost use Rattle.py_parser.specs.Refused.{RefusedAt, EndsOnce};
 ghost use Rattle.py_parser.specs.inner.Lines.{module_at};
 ghost use Rattle.py_parser.specs.Words.{line_of};
 
-/// Reading a list of tokens, in which End stands once, as the last, answers its module, of a height of at most 100, wherever
-/// there is one, and else refuses the first token with which no such module begins. A list of tokens has one module at most.
+/// Reading a list of tokens, in which End stands once, as the last, answers its module, of a height of at most 100,
+/// wherever there is one, and else refuses the first token with which no such module begins. It refuses the tokens so
+/// where and only where they are refused so, and a list of tokens has one module at most.
 pub fn grammar_law()
     ensures found { (ts : List Token) (m : Module) (rest : List Token) → EndsOnce ts → module_at (length ts) ts ≡ Ok (m, rest) → IsModule m ts × (tall_module m ≤ 100) }
     ensures only { (ts : List Token) (m : Module) → IsModule m ts → tall_module m ≤ 100 → module_at (length ts) ts ≡ Ok (m, []) }
     ensures refused { (ts : List Token) (f : Fault) (rest : List Token) → EndsOnce ts → module_at (length ts) ts ≡ Err (f, rest) → RefusedAt ts f (line_of rest) }
+    ensures stops { (ts : List Token) (f : Fault) (line : ℕ) → EndsOnce ts → RefusedAt ts f line →
+        (rest : List Token) × (module_at (length ts) ts ≡ Err (f, rest)) × (line ≡ line_of rest) }
     ensures one { (ts : List Token) (m n : Module) → IsModule m ts → IsModule n ts → m ≡ n }
 {}
 

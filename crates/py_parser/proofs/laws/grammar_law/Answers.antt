@@ -1,3 +1,4 @@
+use Rattle.py_parser.proofs.OneRefusal.{stops}
 use Rattle.py_parser.proofs.Whole.{only}
 use Rattle.py_parser.proofs.Results.{found, refused, unique}
 use Rattle.py_parser.proofs.laws.grammar_law.Goals as goal
@@ -10,6 +11,9 @@ returns-clause-only c = λ ts m q h. only m ts q h
 
 pub returns-clause-refused : goal.returns-clause-refused
 returns-clause-refused c = refused
+
+pub returns-clause-stops : goal.returns-clause-stops
+returns-clause-stops c = stops
 
 pub returns-clause-one : goal.returns-clause-one
 returns-clause-one c = unique
