@@ -1,0 +1,13 @@
+//! Pages of words that segments share until one first writes to them, and the extents that lie in them.
+#![tactic(auto)]
+
+mod laws;
+mod page;
+mod pages;
+mod sheet;
+mod shelf;
+#[cfg(test)]
+mod tests;
+
+pub use laws::{counting_law, laying_law};
+pub use pages::Pages;
