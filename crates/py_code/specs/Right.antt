@@ -1,6 +1,6 @@
 -- When a program is right: its roots, what each code is by itself, and what the codes say of one another.
 -- States `docs/LANGUAGE.md`, "Right programs".
-use Rattle.std.specs.Prelude.{◌≡◌, ℕ, zero, suc, ◌+◌, ◌<◌, ◌≤◌, ◌^◌, ◌==◌, codes, List, [], ◌∷◌, ◌++◌, Option, Some, None, Bool, true, false, IsTrue, All, if◌then◌else◌, drop, length, map, get_or, slice_get}
+use Rattle.std.specs.Prelude.{◌≡◌, ℕ, zero, suc, ◌+◌, ◌<◌, ◌≤◌, ◌^◌, ◌==◌, codes, List, [], ◌∷◌, ◌++◌, Option, Some, None, Bool, true, false, IsTrue, All, if◌then◌else◌, drop, length, map, slice_get}
 use Rattle.std.specs.List.{flat_map, last_or, list_any}
 use Rattle.std.specs.Str.{bytes_eq}
 use Rattle.py_base.specs.declared.kind.Kind.{Kind}
@@ -93,14 +93,9 @@ opens_body f _ = false
 abbrev pub all_instrs : List Code → List Instr
 all_instrs cs = flat_map (λ c. c.instrs) cs
 
--- of each code, from number n on, whether a CLASS_BODY names it
-unfoldable pub bodies : List Instr → ℕ → List Code → List Bool
-bodies is n [] = []
-bodies is n (c ∷ cs) = list_any (opens_body n) is ∷ bodies is (n + 1) cs
-
 -- a code is that of a class body where a CLASS_BODY names it
 abbrev pub is_body : List Code → ℕ → Bool
-is_body cs f = get_or (bodies (all_instrs cs) 0 cs) f false
+is_body cs f = list_any (opens_body f) (all_instrs cs)
 
 -- a string that is a global name too
 abbrev pub HasCell : List (List ℕ) → Kind → List ℕ → Type 0

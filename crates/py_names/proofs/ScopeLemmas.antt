@@ -1,7 +1,9 @@
 -- The laws of scopes.
 use Rattle.std.proofs.Common.{◌≡◌, ℕ, Bool, true, false, cond, not, ◌&&◌, ◌||◌, List, [], ◌∷◌, ◌++◌, filter, Option, Some, None, refl, sym, ap, ◌∙◌}
-use Rattle.std.specs.List.{list_any}
+use Rattle.std.specs.List.{list_any, AllByRecursion, IsDistinct}
 use Rattle.std.specs.Str.{bytes_eq}
+use Rattle.std.proofs.lemmas.Cmp.{nat_list_eq_equiv}
+use Rattle.std.proofs.lemmas.Map.Keys.{IsDistinct-push}
 use Rattle.std.proofs.lemmas.List.Folds.{list_any-append}
 use Rattle.std.proofs.lemmas.Slice.Eq.{bytes_eq-Decides}
 use Rattle.py_names.specs.declared.event.Event.{Event}
@@ -116,3 +118,46 @@ module _ (n : List ℕ) where
       has-filter (is_global (names_from no_names es)) (noted_all mention [] es)
       ∙ ap (λ z. not z && has n (noted_all mention [] es)) (own es) ∙ ap (λ z. not (is_own es n) && z) (has-all mention [] es)
       ∙ turned (is_own es n) (mentions es n)
+
+-- ---- each name once
+
+noted-once : (ns : List (List ℕ)) (o : Option (List ℕ)) → IsDistinct bytes_eq ns → IsDistinct bytes_eq (noted ns o)
+noted-once ns None d = d
+noted-once ns (Some m) d = by_test (has m ns) refl
+  where
+    by_test : (q : Bool) → has m ns ≡ q → IsDistinct bytes_eq (cond q ns (ns ++ m ∷ []))
+    by_test true e = d
+    by_test false e = IsDistinct-push nat_list_eq_equiv ns m d e
+
+all-once : (f : Event → Option (List ℕ)) (ns : List (List ℕ)) (es : List Event) → IsDistinct bytes_eq ns → IsDistinct bytes_eq (noted_all f ns es)
+all-once f ns [] d = d
+all-once f ns (e ∷ es) d = all-once f (noted ns (f e)) es (noted-once ns (f e) d)
+
+mentioned-once : (es : List Event) → IsDistinct bytes_eq (noted_all mention [] es)
+unfolding IsDistinct
+mentioned-once es = all-once mention [] es tt
+
+-- names that differ from one, and names that differ, without some of them
+apart_kept : (m : List ℕ) (q : Bool) (x : List ℕ) (ns : List (List ℕ)) → bytes_eq m x ≡ false → AllByRecursion (λ y. bytes_eq m y ≡ false) ns → AllByRecursion (λ y. bytes_eq m y ≡ false) (cond q (x ∷ ns) ns)
+apart_kept m true x ns e a = (e, a)
+apart_kept m false x ns e a = a
+
+apart-filter : (m : List ℕ) (p : List ℕ → Bool) (ns : List (List ℕ)) → AllByRecursion (λ y. bytes_eq m y ≡ false) ns → AllByRecursion (λ y. bytes_eq m y ≡ false) (filter p ns)
+apart-filter m p [] a = tt
+apart-filter m p (x ∷ ns) a = apart_kept m (p x) x (filter p ns) a.0 (apart-filter m p ns a.1)
+
+once_kept : (q : Bool) (x : List ℕ) (ns : List (List ℕ)) → AllByRecursion (λ y. bytes_eq x y ≡ false) ns → IsDistinct bytes_eq ns → IsDistinct bytes_eq (cond q (x ∷ ns) ns)
+unfolding IsDistinct
+once_kept true x ns a d = (a, d)
+once_kept false x ns a d = d
+
+once-filter : (p : List ℕ → Bool) (ns : List (List ℕ)) → IsDistinct bytes_eq ns → IsDistinct bytes_eq (filter p ns)
+unfolding IsDistinct
+once-filter p [] d = tt
+once-filter p (x ∷ ns) d = once_kept (p x) x (filter p ns) (apart-filter x p ns d.0) (once-filter p ns d.1)
+
+pub locals_once : (es : List Event) → IsDistinct bytes_eq (scope_of (names_from no_names es)).locals
+locals_once es = once-filter (is_local (names_from no_names es)) (noted_all mention [] es) (mentioned-once es)
+
+pub others_once : (es : List Event) → IsDistinct bytes_eq (scope_of (names_from no_names es)).globals
+others_once es = once-filter (is_global (names_from no_names es)) (noted_all mention [] es) (mentioned-once es)

@@ -1,51 +1,45 @@
 //! Which codes are those of class bodies.
-ghost use Rattle.std.specs.Prelude.{◌≡◌, ◌++◌, [], ◌∷◌, false, IfOk, List, replicate};
-ghost use Rattle.py_code.specs.declared.instr.Instr.{Instr};
-ghost use Rattle.py_code.specs.declared.program.Code.{Code};
-ghost use Rattle.py_code.specs.Right.{all_instrs, bodies};
+ghost use Rattle.std.specs.Prelude.{◌≡◌, ◌||◌, ℕ, false, IfOk, nat_eq, OnOk};
+ghost use Rattle.std.specs.List.{list_any};
+ghost use Rattle.indexmap.specs.IndexSet.{contains};
+ghost use Rattle.py_code.specs.Right.{is_body, opens_body};
 
-use py_base::{Items, NoMemory};
+use indexmap::IndexSet;
+use py_base::{NoMemory, split};
 use py_code::{Code, Instr};
 use std::alloc::Global;
 
-/// Of so many codes, that none of them is a class body's.
-fn unmarked(alloc: Global, count: usize) -> Result<Items<bool>, NoMemory>
-    ensures { IfOk result (λ ms. ms ≡ replicate count false) }
-{
-    let mut marks = Items::new(alloc);
-    for _ in 0..count {
-        marks.push(false)?;
-    }
-    Ok(marks)
-}
-
-/// Marks the code that an instruction opens as a class body.
-fn mark(marks: &mut Items<bool>, i: &Instr)
-    ensures { (all : List Instr) (codes : List Code) → marks.old ≡ bodies all 0 codes → marks.new ≡ bodies (all ++ i.now ∷ []) 0 codes }
+/// Adds the code that an instruction opens as a class body, if it opens one.
+fn add(bodies: &mut IndexSet<usize>, i: &Instr) -> Result<(), NoMemory>
+    ensures { OnOk result ((f : ℕ) → contains nat_eq bodies.new f ≡ (contains nat_eq bodies.old f || opens_body f i.now)) }
 {
     if let Instr::ClassBody(f) = *i {
-        if (f as usize) < marks.len() {
-            marks.set(f as usize, true);
-        }
+        let _ = bodies.insert_full(f as usize)?;
     }
+    Ok(())
 }
 
-/// Marks the codes that these instructions open as class bodies.
-fn mark_all(marks: &mut Items<bool>, instrs: &[Instr])
-    ensures { (all : List Instr) (codes : List Code) → marks.old ≡ bodies all 0 codes → marks.new ≡ bodies (all ++ instrs.now) 0 codes }
+/// Adds the codes that these instructions open as class bodies.
+fn add_all(bodies: &mut IndexSet<usize>, instrs: &[Instr]) -> Result<(), NoMemory>
+    ensures { OnOk result ((f : ℕ) → contains nat_eq bodies.new f ≡ (contains nat_eq bodies.old f || list_any (opens_body f) instrs.now)) }
 {
-    for i in instrs {
-        mark(marks, i);
+    let mut rest = instrs;
+    'instrs: while let Some((i, more)) = split(rest) {
+        add(bodies, i)?;
+        rest = more;
     }
+    Ok(())
 }
 
-/// Of each code, whether a CLASS_BODY names it.
-pub fn bodies_of(alloc: Global, codes: &[Code]) -> Result<Items<bool>, NoMemory>
-    ensures { IfOk result (λ ms. ms ≡ bodies (all_instrs codes.now) 0 codes.now) }
+/// The numbers of the codes that are those of class bodies.
+pub fn bodies_of(alloc: Global, codes: &[Code]) -> Result<IndexSet<usize>, NoMemory>
+    ensures { IfOk result (λ bodies. (f : ℕ) → contains nat_eq bodies f ≡ is_body codes.now f) }
 {
-    let mut marks = unmarked(alloc, codes.len())?;
-    for c in codes {
-        mark_all(&mut marks, c.instrs.as_slice());
+    let mut bodies = IndexSet::new(alloc);
+    let mut rest = codes;
+    'codes: while let Some((c, more)) = split(rest) {
+        add_all(&mut bodies, c.instrs.as_slice())?;
+        rest = more;
     }
-    Ok(marks)
+    Ok(bodies)
 }

@@ -1,8 +1,9 @@
 //! A program as the test of one of its codes sees it.
-ghost use Rattle.std.specs.Prelude.{◌≡◌, ◌↔◌, ◌<◌, All, IfOk, IsTrue, length, slice_get};
+ghost use Rattle.std.specs.Prelude.{◌≡◌, ◌↔◌, ◌<◌, ℕ, All, IfOk, IsTrue, length, nat_eq, slice_get};
+ghost use Rattle.indexmap.specs.IndexSet.{contains};
 ghost use Rattle.py_code.specs.Effects.{effect, Forward};
 ghost use Rattle.py_code.specs.Typing.{AllForward};
-ghost use Rattle.py_code.specs.Right.{all_instrs, AreRight, Belongs, bodies, first_place, HasCellAt, is_body, IsRightCode, limits_of, names_of};
+ghost use Rattle.py_code.specs.Right.{AreRight, Belongs, first_place, HasCellAt, is_body, IsRightCode, limits_of, names_of};
 
 use crate::bounds::{Bounds, FIRST_TEXT};
 use crate::effect::effect_in;
@@ -10,32 +11,34 @@ use crate::names::NameSet;
 use crate::roots::count_texts;
 use crate::setup::{first_place, sets_up};
 use crate::typing::is_right;
-use py_base::{Items, Kind, NoMemory, split};
+use indexmap::IndexSet;
+use py_base::{Kind, NoMemory, split};
 use py_code::{Code, Instr, Root};
 use std::alloc::Global;
 use std::marker::Model;
 
-/// The codes and the roots of a program, with the global names, which codes are those of class bodies, and the first root that
-/// is a global's cell.
+/// The codes and the roots of a program, with the global names, the numbers of the codes that are those of class bodies, and
+/// the first root that is a global's cell.
 #[derive(Drop)]
 pub struct Context<'s, 'a> {
     codes: &'s [Code],
     roots: &'a [Root],
     names: &'s NameSet<'a>,
-    marks: &'s Items<bool>,
+    bodies: &'s IndexSet<usize>,
     first_cell: usize,
 }
 
 impl<'s, 'a> Model for Context<'s, 'a> {
-    ghost use Rattle.std.specs.Prelude.{◌≡◌, ◌+◌, length};
-    ghost use Rattle.py_code.specs.Right.{all_instrs, bodies, first_text, names_of, texts_of};
+    ghost use Rattle.std.specs.Prelude.{◌≡◌, ◌+◌, ℕ, length, nat_eq};
+    ghost use Rattle.indexmap.specs.IndexSet.{contains};
+    ghost use Rattle.py_code.specs.Right.{first_text, is_body, names_of, texts_of};
     ghost use Rattle.py_verify.specs.inner.Whole.{Around};
 
     ghost Value = { Around };
 
     ghost view = { λ w. record { codes = w.codes.now; roots = w.roots.now } };
 
-    ghost invariant = { λ w. (w.names.now ≡ names_of w.roots.now) × (w.marks.now ≡ bodies (all_instrs w.codes.now) 0 w.codes.now) × (w.first_cell ≡ first_text + length (texts_of w.roots.now)) };
+    ghost invariant = { λ w. (w.names.now ≡ names_of w.roots.now) × ((f : ℕ) → contains nat_eq w.bodies.now f ≡ is_body w.codes.now f) × (w.first_cell ≡ first_text + length (texts_of w.roots.now)) };
 }
 
 /// Whether an instruction names no place before the first that a jump may name.
@@ -63,17 +66,17 @@ impl<'s, 'a> Context<'s, 'a> {
         codes: &'s [Code],
         roots: &'a [Root],
         names: &'s NameSet<'a>,
-        marks: &'s Items<bool>,
+        bodies: &'s IndexSet<usize>,
     ) -> Context<'s, 'a>
         requires names { names.now ≡ names_of roots.now }
-        requires marks { marks.now ≡ bodies (all_instrs codes.now) 0 codes.now }
+        requires bodies { (f : ℕ) → contains nat_eq bodies.now f ≡ is_body codes.now f }
         ensures { result ≡ record { codes = codes.now; roots = roots.now } }
     {
         Context {
             codes,
             roots,
             names,
-            marks,
+            bodies,
             first_cell: FIRST_TEXT + count_texts(roots),
         }
     }
@@ -82,10 +85,7 @@ impl<'s, 'a> Context<'s, 'a> {
     fn is_body(&self, f: usize) -> bool
         ensures { result ≡ is_body self.now.codes f }
     {
-        match self.marks.as_slice().get(f) {
-            Some(marked) => *marked,
-            None => false,
-        }
+        self.bodies.contains(&f)
     }
 
     /// Whether the string that is that root, if it is one, is a global name too.

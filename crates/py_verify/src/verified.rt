@@ -50,8 +50,8 @@ fn is_right_program(alloc: Global, p: &Program) -> Result<bool, NoMemory>
     let Some(names) = right_roots(alloc, roots)? else {
         return Ok(false);
     };
-    let marks = bodies_of(alloc, codes)?;
-    let right = Context::new(codes, roots, &names, &marks).are_right(alloc)?;
+    let bodies = bodies_of(alloc, codes)?;
+    let right = Context::new(codes, roots, &names, &bodies).are_right(alloc)?;
     Ok(right)
 }
 

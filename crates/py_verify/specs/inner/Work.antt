@@ -2,7 +2,7 @@
 -- What the parts of the search for a typing promise each other.
 use Rattle.std.specs.Prelude.{◌≡◌, ℕ, ◌+◌, ◌<◌, ◌≤◌, ◌⊎◌, List, Option, Some, None, Bool, true, false, length, slice_get, All, Contains, sum_by}
 use Rattle.py_code.specs.declared.instr.Instr.{Instr}
-use Rattle.py_code.specs.Effects.{Limits, Flow, Sh, target_of}
+use Rattle.py_code.specs.Effects.{Limits, Sh}
 use Rattle.py_code.specs.Typing.{shape_at, start, RightAt, IsTyping}
 
 -- what the one says of a place, the other says too
