@@ -123,7 +123,8 @@ words_copied sheet place n old page f below within was now =
       | inl h ↦ word_of_page (put (place / 512) (Some page) sheet) below p (Some page)
           (put_here (place / 512) (p / 512) (Some page) sheet h.1) ∙ ap (λ f. f (p % 512)) now
           ∙ elim (in_or_out place n p) [
-            | inl g ↦ over_in (place % 512) n (λ i. f (i - place % 512)) (word_at old) (p % 512) (omega (arith, h.1, g.1))
+            | inl g ↦ over_in (place % 512) n (λ i. f (i - place % 512)) (word_at old) (p % 512)
+                (omega (arith, h.1, g.1))
                 (omega (arith, h.1, g.1, g.2)) ∙ ap f (omega (arith, h.1, g.1))
                 ∙ sym (over_in place n (λ p. f (p - place)) (word_over sheet below) p g.1 g.2)
             | inr g ↦ over_out (place % 512) n (λ i. f (i - place % 512)) (word_at old) (p % 512) (outside p h.1 g.1)

@@ -1,4 +1,5 @@
--- Which extent is taken, when none can be, and what an extent that is given back leaves. States `docs/HEAP.md`, "Pages".
+-- Which extent is taken, when none can be, and what an extent that is given back leaves. States `docs/HEAP.md`,
+-- "Pages".
 use Rattle.std.specs.Prelude.{◌≡◌, ℕ, ◌+◌, ◌^◌, ◌<◌, ◌≤◌, ◌⊎◌, [], ◌∷◌, ◌++◌, Result, Ok, Err}
 use Rattle.seg_store.specs.declared.store.StoreFault.{StoreFault}
 use Rattle.seg_store.specs.declared.store.StoreFault.TheVariants.{Full, OutOfMemory}

@@ -18,25 +18,30 @@ any_more : (f : Instr → Bool) (all : List Instr) (i : Instr) → f i ≡ true 
 any_more f all i h = grind (arith, common_steps, list_any-append f all (i ∷ []))
 
 -- places that it doesn't name
-pub marks_kept : (all : List Instr) (i : Instr) (p : ℕ) (is : List Instr) → ((q : ℕ) → p ≤ q → q < p + length is → jumps_to q i ≡ false) → marks (all ++ i ∷ []) p is ≡ marks all p is
+pub marks_kept : (all : List Instr) (i : Instr) (p : ℕ) (is : List Instr) →
+    ((q : ℕ) → p ≤ q → q < p + length is → jumps_to q i ≡ false) → marks (all ++ i ∷ []) p is ≡ marks all p is
 unfolding marks
 marks_kept all i p [] h = refl
 marks_kept all i p (x ∷ is) h =
     let here : jumps_to p i ≡ false = h p (omega arith) (omega arith) in
-    let more : marks (all ++ i ∷ []) (p + 1) is ≡ marks all (p + 1) is = marks_kept all i (p + 1) is (λ q a b. h q (omega arith) (omega arith)) in
+    let more : marks (all ++ i ∷ []) (p + 1) is ≡ marks all (p + 1) is =
+    marks_kept all i (p + 1) is (λ q a b. h q (omega arith) (omega arith)) in
     cc (any_kept (jumps_to p) all i here)
 
 -- the place that it names
-pub marks_set : (all : List Instr) (i : Instr) (p : ℕ) (is : List Instr) (t : ℕ) → t < length is → ((q : ℕ) → jumps_to q i ≡ (p + t == q)) → slice_set (marks all p is) t true ≡ marks (all ++ i ∷ []) p is
+pub marks_set : (all : List Instr) (i : Instr) (p : ℕ) (is : List Instr) (t : ℕ) → t < length is →
+    ((q : ℕ) → jumps_to q i ≡ (p + t == q)) → slice_set (marks all p is) t true ≡ marks (all ++ i ∷ []) p is
 unfolding marks
 marks_set all i p [] t within h = absurd (omega arith)
 marks_set all i p (x ∷ is) zero within h =
     let here : jumps_to p i ≡ true = grind (arith, nat_tests, h p) in
-    let more : marks (all ++ i ∷ []) (p + 1) is ≡ marks all (p + 1) is = marks_kept all i (p + 1) is (λ q a b. grind (arith, nat_tests, h q)) in
+    let more : marks (all ++ i ∷ []) (p + 1) is ≡ marks all (p + 1) is =
+    marks_kept all i (p + 1) is (λ q a b. grind (arith, nat_tests, h q)) in
     cc (any_more (jumps_to p) all i here)
 marks_set all i p (x ∷ is) (suc t) within h =
     let here : jumps_to p i ≡ false = grind (arith, nat_tests, h p) in
-    let more : slice_set (marks all (p + 1) is) t true ≡ marks (all ++ i ∷ []) (p + 1) is = marks_set all i (p + 1) is t (omega arith) (λ q. grind (arith, nat_tests, h q)) in
+    let more : slice_set (marks all (p + 1) is) t true ≡ marks (all ++ i ∷ []) (p + 1) is =
+    marks_set all i (p + 1) is t (omega arith) (λ q. grind (arith, nat_tests, h q)) in
     cc (any_kept (jumps_to p) all i here)
 
 -- before the first instruction no place is named
@@ -55,13 +60,16 @@ names_place : (i : Instr) (t : ℕ) → operand_of i ≡ Place t → (q : ℕ) �
 names_place i t e q = ap (is_place q) e
 
 -- the marks before an instruction and behind it
-pub mark_set : (i : Instr) (t : ℕ) (named : List Bool) → operand_of i ≡ Place t → t < length named → (all is : List Instr) → named ≡ marks all 0 is → slice_set named t true ≡ marks (all ++ i ∷ []) 0 is
+pub mark_set : (i : Instr) (t : ℕ) (named : List Bool) → operand_of i ≡ Place t → t < length named →
+    (all is : List Instr) → named ≡ marks all 0 is → slice_set named t true ≡ marks (all ++ i ∷ []) 0 is
 mark_set i t named e lt all is h =
     let k = long all 0 is in
     let n = ap length h in
-    ap (λ ms. slice_set ms t true) h ∙ marks_set all i 0 is t (omega (arith, k, n, lt)) (λ q. let z : 0 + t ≡ t = omega arith in names_place i t e q ∙ ap (λ y. y == q) (sym z))
+    ap (λ ms. slice_set ms t true) h ∙ marks_set all i 0 is t (omega (arith, k, n, lt))
+    (λ q. let z : 0 + t ≡ t = omega arith in names_place i t e q ∙ ap (λ y. y == q) (sym z))
 
-pub mark_past : (i : Instr) (t : ℕ) (named : List Bool) → operand_of i ≡ Place t → length named ≤ t → (all is : List Instr) → named ≡ marks all 0 is → named ≡ marks (all ++ i ∷ []) 0 is
+pub mark_past : (i : Instr) (t : ℕ) (named : List Bool) → operand_of i ≡ Place t → length named ≤ t →
+    (all is : List Instr) → named ≡ marks all 0 is → named ≡ marks (all ++ i ∷ []) 0 is
 mark_past i t named e le all is h =
     let k = long all 0 is in
     let n = ap length h in
@@ -81,5 +89,6 @@ is_other (Count n) h q = refl
 is_other (Arguments n l) h q = refl
 is_other (Defaults f n) h q = refl
 
-pub mark_none : (i : Instr) (named : List Bool) → ((t : ℕ) → operand_of i ≡ Place t → ⊥) → (all is : List Instr) → named ≡ marks all 0 is → named ≡ marks (all ++ i ∷ []) 0 is
+pub mark_none : (i : Instr) (named : List Bool) → ((t : ℕ) → operand_of i ≡ Place t → ⊥) → (all is : List Instr) →
+    named ≡ marks all 0 is → named ≡ marks (all ++ i ∷ []) 0 is
 mark_none i named other all is h = h ∙ sym (marks_kept all i 0 is (λ q a b. is_other (operand_of i) other q))

@@ -26,7 +26,8 @@ pub data Flow : Type 0 where
   Opens : ℕ → Flow  -- at the next place, with one more block, whose handler stands at this place
   Closes : Flow  -- at the next place, with one block less
 
--- how many values an instruction takes from the stack, how many it then pushes where the next place follows, and what follows
+-- how many values an instruction takes from the stack, how many it then pushes where the next place follows, and what
+-- follows
 pub record Effect : Type 0 where
   pub pops : ℕ
   pub pushes : ℕ
@@ -40,7 +41,8 @@ plain a b = record { pops = a; pushes = b; flow = On }
 abbrev pub jumps : ℕ → ℕ → Flow → Effect
 jumps a b f = record { pops = a; pushes = b; flow = f }
 
--- One row for each instruction. A call takes the function (and its object), the arguments and one value for each keyword.
+-- One row for each instruction. A call takes the function (and its object), the arguments and one value for each
+-- keyword.
 abbrev pub effect : Limits → Instr → Effect
 effect k Setup = plain 0 0
 effect k (Const c) = plain 0 1
@@ -196,7 +198,8 @@ abbrev pub HasBlock : Flow → List ℕ → Type 0
 HasBlock Closes [] = ⊥
 HasBlock _ bs = Unit {0}
 
--- The instruction finds what it needs: its operands lie above the innermost block, and the stack stays below 2^32 values.
+-- The instruction finds what it needs: its operands lie above the innermost block, and the stack stays below 2^32
+-- values.
 pub record Fine (k : Limits) (i : Instr) (s : Sh) : Type 0 where
   pub operands : floor_of s.blocks + (effect k i).pops ≤ s.height
   pub room : s.height + (effect k i).pushes + 1 < 2 ^ 32

@@ -83,7 +83,8 @@ operand_text p c labels (BinarySign o) = named o (slice_get binary_signs o)
 operand_text p c labels (CompareSign o) = named o (slice_get compare_signs o)
 operand_text p c labels (Place t) = named t (option_map (λ l. codes "to " ++ label_text l) (label_at labels t))
 operand_text p c labels (Count n) = decimal n
-operand_text p c labels (Arguments n l) = decimal n ++ codes " keywords " ++ decimal l ++ keys_text p.roots (get_or c.keys l [])
+operand_text p c labels (Arguments n l) = decimal n ++ codes " keywords " ++ decimal l ++ keys_text p.roots
+    (get_or c.keys l [])
 operand_text p c labels (Defaults f n) = code_text p.codes f ++ codes " defaults " ++ decimal n
 
 -- ---- labels

@@ -1,4 +1,5 @@
--- A code is right where its places have shapes that fit each other: a typing gives a shape to each place that is reached.
+-- A code is right where its places have shapes that fit each other: a typing gives a shape to each place that is
+-- reached.
 -- States `docs/LANGUAGE.md`, "Right code".
 use Rattle.std.specs.Prelude.{◌≡◌, ◌≢◌, ℕ, ◌+◌, ◌<◌, ◌≤◌, ◌^◌, List, [], ◌∷◌, Option, Some, None, IsTrue, All, length, slice_get, get_or}
 use Rattle.py_code.specs.declared.instr.Instr.{Instr}
@@ -15,7 +16,8 @@ start = record { height = 0; blocks = [] }
 
 -- the places after the instruction have the shapes that it leaves
 pub record Leads (k : Limits) (t : List (Option Sh)) (p : ℕ) (i : Instr) (s : Sh) : Type 0 where
-  pub jump : (q : ℕ) → target_of (effect k i).flow ≡ Some q → (k.first ≤ q) × (shape_at t q ≡ Some (there (effect k i) s))
+  pub jump : (q : ℕ) → target_of (effect k i).flow ≡ Some q →
+      (k.first ≤ q) × (shape_at t q ≡ Some (there (effect k i) s))
   pub next : IsTrue (goes_on (effect k i).flow) → shape_at t (p + 1) ≡ Some (after (effect k i) s)
 
 -- the instruction finds what it needs at its place, and leads where its shape fits

@@ -9,7 +9,8 @@ module _ {A : Type 0} where
   pub three : (o a b d : List A) {p q r : List A} → p ≡ o ++ a → q ≡ p ++ b → r ≡ q ++ d → r ≡ o ++ ((a ++ b) ++ d)
   three o a b d e f g = two o (a ++ b) d (two o a b e f) g
 
-  pub four : (o a b d x : List A) {p q r s : List A} → p ≡ o ++ a → q ≡ p ++ b → r ≡ q ++ d → s ≡ r ++ x → s ≡ o ++ (((a ++ b) ++ d) ++ x)
+  pub four : (o a b d x : List A) {p q r s : List A} → p ≡ o ++ a → q ≡ p ++ b → r ≡ q ++ d → s ≡ r ++ x →
+      s ≡ o ++ (((a ++ b) ++ d) ++ x)
   four o a b d x e f g h = two o ((a ++ b) ++ d) x (three o a b d e f g) h
 
   pub from_nothing : (o w : List A) {q : List A} → o ≡ [] → q ≡ o ++ w → q ≡ w

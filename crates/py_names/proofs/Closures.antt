@@ -23,6 +23,8 @@ pub closure_of : (b : ℕ → Names) (inside : List ℕ) (k : ℕ) (outer : List
     r ≡ list_any (λ j. is_function (b j).kind && is_local (b j) n) outer → r ≡ is_closure b inside n
 closure_of b inside k outer n i l d f g a =
     a ∙ sym (list_any-reverse (λ j. is_function (b j).kind && is_local (b j) n) outer)
-    ∙ ap (λ z. not z && (not false && list_any (λ j. is_function (b j).kind && is_local (b j) n) (reverse outer))) (sym f ∙ l)
-    ∙ ap (λ z. not (is_local (b k) n) && (not z && list_any (λ j. is_function (b j).kind && is_local (b j) n) (reverse outer))) (sym g ∙ d)
+    ∙ ap (λ z. not z && (not false && list_any (λ j. is_function (b j).kind && is_local (b j) n) (reverse outer)))
+    (sym f ∙ l)
+    ∙ ap (λ z. not (is_local (b k) n) &&
+    (not z && list_any (λ j. is_function (b j).kind && is_local (b j) n) (reverse outer))) (sym g ∙ d)
     ∙ ap (λ z. is_closure b z n) (sym i)

@@ -53,7 +53,8 @@ module _ (n : List ℕ) where
   has-noted ns None = sym (or-false (has n ns))
   has-noted ns (Some m) = has-with ns m
 
-  pub has-all : (f : Event → Option (List ℕ)) (ns : List (List ℕ)) (es : List Event) → has n (noted_all f ns es) ≡ (has n ns || list_any (λ e. names_it n (f e)) es)
+  pub has-all : (f : Event → Option (List ℕ)) (ns : List (List ℕ)) (es : List Event) →
+      has n (noted_all f ns es) ≡ (has n ns || list_any (λ e. names_it n (f e)) es)
   has-all f ns [] = sym (or-false (has n ns))
   has-all f ns (e ∷ es) =
       has-all f (noted ns (f e)) es ∙ ap (λ z. z || list_any (λ x. names_it n (f x)) es) (has-noted ns (f e))
@@ -65,7 +66,8 @@ module _ (n : List ℕ) where
   kept true true h r p e f = ap (λ z. z && true) (e refl)
   kept false true h r p e f = f ∙ ap (λ z. z && r) (sym (e refl)) ∙ ap (λ z. z && true) (e refl)
 
-  has-cond : (q : Bool) (x : List ℕ) (ns : List (List ℕ)) → has n (cond q (x ∷ ns) ns) ≡ cond q (bytes_eq n x || has n ns) (has n ns)
+  has-cond : (q : Bool) (x : List ℕ) (ns : List (List ℕ)) →
+      has n (cond q (x ∷ ns) ns) ≡ cond q (bytes_eq n x || has n ns) (has n ns)
   has-cond true x ns = refl
   has-cond false x ns = refl
 
@@ -77,7 +79,8 @@ module _ (n : List ℕ) where
       nothing false = refl
   has-filter p (x ∷ ns) =
       has-cond (p x) x (filter p ns)
-      ∙ kept (p x) (bytes_eq n x) (has n (filter p ns)) (has n ns) (p n) (λ e. sym (ap p ((bytes_eq-Decides n x).0 e))) (has-filter p ns)
+      ∙ kept (p x) (bytes_eq n x) (has n (filter p ns)) (has n ns) (p n) (λ e. sym (ap p ((bytes_eq-Decides n x).0 e)))
+      (has-filter p ns)
 
   -- ---- bodies
 
@@ -98,7 +101,8 @@ module _ (n : List ℕ) where
 
   own : (es : List Event) → is_local (names_from no_names es) n ≡ is_own es n
   own es =
-      ap (λ z. not (is_module (kind_of Module es)) && (z && not (has n (noted_all declaration [] es)))) (has-all binding [] es)
+      ap (λ z. not (is_module (kind_of Module es)) && (z && not (has n (noted_all declaration [] es))))
+      (has-all binding [] es)
       ∙ ap (λ z. not (is_module (kind_of Module es)) && (binds es n && not z)) (has-all declaration [] es)
 
   absorbed : (a b d m : Bool) → (b ≡ true → m ≡ true) → ((a && (b && d)) && m) ≡ (a && (b && d))
@@ -111,12 +115,15 @@ module _ (n : List ℕ) where
   local_law es =
       has-filter (is_local (names_from no_names es)) (noted_all mention [] es)
       ∙ ap (λ z. z && has n (noted_all mention [] es)) (own es) ∙ ap (λ z. is_own es n && z) (has-all mention [] es)
-      ∙ absorbed (not (is_module (kind_of Module es))) (binds es n) (not (declares es n)) (mentions es n) (mentions-bound es)
+      ∙ absorbed (not (is_module (kind_of Module es))) (binds es n) (not (declares es n)) (mentions es n)
+      (mentions-bound es)
 
-  pub others_law : (es : List Event) → has n (scope_of (names_from no_names es)).globals ≡ (mentions es n && not (is_own es n))
+  pub others_law : (es : List Event) → has n (scope_of (names_from no_names es)).globals ≡
+      (mentions es n && not (is_own es n))
   others_law es =
       has-filter (is_global (names_from no_names es)) (noted_all mention [] es)
-      ∙ ap (λ z. not z && has n (noted_all mention [] es)) (own es) ∙ ap (λ z. not (is_own es n) && z) (has-all mention [] es)
+      ∙ ap (λ z. not z && has n (noted_all mention [] es)) (own es) ∙
+      ap (λ z. not (is_own es n) && z) (has-all mention [] es)
       ∙ turned (is_own es n) (mentions es n)
 
 -- ---- each name once
@@ -129,7 +136,8 @@ noted-once ns (Some m) d = by_test (has m ns) refl
     by_test true e = d
     by_test false e = IsDistinct-push nat_list_eq_equiv ns m d e
 
-all-once : (f : Event → Option (List ℕ)) (ns : List (List ℕ)) (es : List Event) → IsDistinct bytes_eq ns → IsDistinct bytes_eq (noted_all f ns es)
+all-once : (f : Event → Option (List ℕ)) (ns : List (List ℕ)) (es : List Event) → IsDistinct bytes_eq ns →
+    IsDistinct bytes_eq (noted_all f ns es)
 all-once f ns [] d = d
 all-once f ns (e ∷ es) d = all-once f (noted ns (f e)) es (noted-once ns (f e) d)
 
@@ -138,15 +146,18 @@ unfolding IsDistinct
 mentioned-once es = all-once mention [] es tt
 
 -- names that differ from one, and names that differ, without some of them
-apart_kept : (m : List ℕ) (q : Bool) (x : List ℕ) (ns : List (List ℕ)) → bytes_eq m x ≡ false → AllByRecursion (λ y. bytes_eq m y ≡ false) ns → AllByRecursion (λ y. bytes_eq m y ≡ false) (cond q (x ∷ ns) ns)
+apart_kept : (m : List ℕ) (q : Bool) (x : List ℕ) (ns : List (List ℕ)) → bytes_eq m x ≡ false →
+    AllByRecursion (λ y. bytes_eq m y ≡ false) ns → AllByRecursion (λ y. bytes_eq m y ≡ false) (cond q (x ∷ ns) ns)
 apart_kept m true x ns e a = (e, a)
 apart_kept m false x ns e a = a
 
-apart-filter : (m : List ℕ) (p : List ℕ → Bool) (ns : List (List ℕ)) → AllByRecursion (λ y. bytes_eq m y ≡ false) ns → AllByRecursion (λ y. bytes_eq m y ≡ false) (filter p ns)
+apart-filter : (m : List ℕ) (p : List ℕ → Bool) (ns : List (List ℕ)) → AllByRecursion (λ y. bytes_eq m y ≡ false) ns →
+    AllByRecursion (λ y. bytes_eq m y ≡ false) (filter p ns)
 apart-filter m p [] a = tt
 apart-filter m p (x ∷ ns) a = apart_kept m (p x) x (filter p ns) a.0 (apart-filter m p ns a.1)
 
-once_kept : (q : Bool) (x : List ℕ) (ns : List (List ℕ)) → AllByRecursion (λ y. bytes_eq x y ≡ false) ns → IsDistinct bytes_eq ns → IsDistinct bytes_eq (cond q (x ∷ ns) ns)
+once_kept : (q : Bool) (x : List ℕ) (ns : List (List ℕ)) → AllByRecursion (λ y. bytes_eq x y ≡ false) ns →
+    IsDistinct bytes_eq ns → IsDistinct bytes_eq (cond q (x ∷ ns) ns)
 unfolding IsDistinct
 once_kept true x ns a d = (a, d)
 once_kept false x ns a d = d

@@ -44,54 +44,79 @@ at-set (x ∷ ts) (suc b) zero t a = rw (eqb-suc-zero b) refl
 at-set (x ∷ ts) (suc b) (suc k) t a = rw (eqb-suc-suc b k) (at-set ts b k t (omega arith))
 
 -- what follows where an event is told to the innermost body, which stays the innermost
-still : (ts : List Names) (b : ℕ) (e : Event) (ps : List Placed) (k : ℕ) → b < length ts → names_from (at (slice_set ts b (names_after (at ts b) e)) k) (said_in k ps) ≡ names_from (at ts k) (cond (b == k) (e ∷ said_in k ps) (said_in k ps))
-still ts b e ps k a = ap (λ z. names_from z (said_in k ps)) (at-set ts b k (names_after (at ts b) e) a) ∙ go (b == k) refl
+still : (ts : List Names) (b : ℕ) (e : Event) (ps : List Placed) (k : ℕ) → b < length ts →
+    names_from (at (slice_set ts b (names_after (at ts b) e)) k) (said_in k ps) ≡ names_from (at ts k)
+    (cond (b == k) (e ∷ said_in k ps) (said_in k ps))
+still ts b e ps k a = ap (λ z. names_from z (said_in k ps)) (at-set ts b k (names_after (at ts b) e) a) ∙
+    go (b == k) refl
   where
-    go : (q : Bool) → b == k ≡ q → names_from (cond q (names_after (at ts b) e) (at ts k)) (said_in k ps) ≡ names_from (at ts k) (cond q (e ∷ said_in k ps) (said_in k ps))
+    go : (q : Bool) → b == k ≡ q → names_from (cond q (names_after (at ts b) e) (at ts k)) (said_in k ps) ≡ names_from
+        (at ts k) (cond q (e ∷ said_in k ps) (said_in k ps))
     go false f = refl
     go true f = ap (λ z. names_from (names_after (at ts z) e) (said_in k ps)) (eqb-true b k f)
 
-below-told : (ts : List Names) (inside : List ℕ) (e : Event) → Below (length ts) inside → Below (length (told ts inside e)) inside
+below-told : (ts : List Names) (inside : List ℕ) (e : Event) → Below (length ts) inside →
+    Below (length (told ts inside e)) inside
 below-told ts [] e a = tt
 below-told ts (b ∷ bs) e a = subst (λ n. Below n (b ∷ bs)) (sym (length-set ts b (names_after (at ts b) e))) a
 
-below-end : (ts : List Names) (t : Names) (bs : List ℕ) → Below (length ts) bs → Below (length (ts ++ t ∷ [])) (length ts ∷ bs)
-below-end ts t bs a = subst (λ n. Below n (length ts ∷ bs)) (sym (length-append ts (t ∷ []))) (omega arith, below-more (length ts) bs a)
+below-end : (ts : List Names) (t : Names) (bs : List ℕ) → Below (length ts) bs →
+    Below (length (ts ++ t ∷ [])) (length ts ∷ bs)
+below-end ts t bs a = subst (λ n. Below n (length ts ∷ bs)) (sym (length-append ts (t ∷ [])))
+    (omega arith, below-more (length ts) bs a)
 
 -- The names of body k, where some were gathered before and these events follow.
 abbrev pub Gathers : ℕ → List Names → List ℕ → List Event → Type 0
 Gathers k ts inside es = at (tables_by ts inside es) k ≡ names_from (at ts k) (said_in k (placed inside (length ts) es))
 
-others : (ts : List Names) (inside : List ℕ) (es : List Event) (k : ℕ) (e : Event) → Below (length ts) inside → Gathers k (told ts inside e) inside es → at (tables_by (told ts inside e) inside es) k ≡ names_from (at ts k) (cond (is_first k inside) (e ∷ said_in k (placed inside (length ts) es)) (said_in k (placed inside (length ts) es)))
+others : (ts : List Names) (inside : List ℕ) (es : List Event) (k : ℕ) (e : Event) → Below (length ts) inside →
+    Gathers k (told ts inside e) inside es → at (tables_by (told ts inside e) inside es) k ≡ names_from (at ts k)
+    (cond (is_first k inside) (e ∷ said_in k (placed inside (length ts) es)) (said_in k (placed inside (length ts) es)))
 others ts [] es k e a g = g
 others ts (b ∷ bs) es k e a g =
-    g ∙ ap (λ n. names_from (at (slice_set ts b (names_after (at ts b) e)) k) (said_in k (placed (b ∷ bs) n es))) (length-set ts b (names_after (at ts b) e))
+    g ∙ ap (λ n. names_from (at (slice_set ts b (names_after (at ts b) e)) k) (said_in k (placed (b ∷ bs) n es)))
+    (length-set ts b (names_after (at ts b) e))
     ∙ still ts b e (placed (b ∷ bs) (length ts) es) k a.0
 
 left : (b : Names) (q : Bool) (es : List Event) → names_from b es ≡ names_from b (cond q (Leave ∷ es) es)
 left b true es = refl
 left b false es = refl
 
-entered : (ts : List Names) (k : ℕ) (x : BodyKind) (es : List Event) → names_from (at (ts ++ names_after no_names (Enter x) ∷ []) k) es ≡ names_from (at ts k) (cond (length ts == k) (Enter x ∷ es) es)
+entered : (ts : List Names) (k : ℕ) (x : BodyKind) (es : List Event) →
+    names_from (at (ts ++ names_after no_names (Enter x) ∷ []) k) es ≡ names_from (at ts k)
+    (cond (length ts == k) (Enter x ∷ es) es)
 entered ts k x es = ap (λ z. names_from z es) (at-end ts (names_after no_names (Enter x)) k) ∙ go (length ts == k) refl
   where
-    go : (q : Bool) → length ts == k ≡ q → names_from (cond q (names_after no_names (Enter x)) (at ts k)) es ≡ names_from (at ts k) (cond q (Enter x ∷ es) es)
+    go : (q : Bool) → length ts == k ≡ q → names_from (cond q (names_after no_names (Enter x)) (at ts k)) es ≡
+        names_from (at ts k) (cond q (Enter x ∷ es) es)
     go false f = refl
-    go true f = ap (λ z. names_from (names_after z (Enter x)) es) (sym (ap (at ts) (sym (eqb-true (length ts) k f)) ∙ at-beyond ts))
+    go true f = ap (λ z. names_from (names_after z (Enter x)) es)
+        (sym (ap (at ts) (sym (eqb-true (length ts) k f)) ∙ at-beyond ts))
 
-pub gathers : (es : List Event) (ts : List Names) (inside : List ℕ) (k : ℕ) → Below (length ts) inside → Gathers k ts inside es
+pub gathers : (es : List Event) (ts : List Names) (inside : List ℕ) (k : ℕ) → Below (length ts) inside →
+    Gathers k ts inside es
 gathers [] ts inside k a = refl
 gathers (Enter x ∷ es) ts inside k a =
     gathers es (ts ++ names_after no_names (Enter x) ∷ []) (length ts ∷ inside) k (below-end ts _ inside a)
-    ∙ ap (λ n. names_from (at (ts ++ names_after no_names (Enter x) ∷ []) k) (said_in k (placed (length ts ∷ inside) n es))) (length-append ts (names_after no_names (Enter x) ∷ []))
+    ∙ ap (λ n. names_from (at (ts ++ names_after no_names (Enter x) ∷ []) k)
+    (said_in k (placed (length ts ∷ inside) n es))) (length-append ts (names_after no_names (Enter x) ∷ []))
     ∙ entered ts k x (said_in k (placed (length ts ∷ inside) (length ts + 1) es))
-gathers (Leave ∷ es) ts inside k a = gathers es ts (drop 1 inside) k (below-drop (length ts) inside a) ∙ left (at ts k) (is_first k (drop 1 inside)) (said_in k (placed (drop 1 inside) (length ts) es))
-gathers (Takes n ∷ es) ts inside k a = others ts inside es k (Takes n) a (gathers es (told ts inside (Takes n)) inside k (below-told ts inside _ a))
-gathers (Uses l n ∷ es) ts inside k a = others ts inside es k (Uses l n) a (gathers es (told ts inside (Uses l n)) inside k (below-told ts inside _ a))
-gathers (Binds l n ∷ es) ts inside k a = others ts inside es k (Binds l n) a (gathers es (told ts inside (Binds l n)) inside k (below-told ts inside _ a))
-gathers (Declares l n ∷ es) ts inside k a = others ts inside es k (Declares l n) a (gathers es (told ts inside (Declares l n)) inside k (below-told ts inside _ a))
-gathers (Misplaced l ∷ es) ts inside k a = others ts inside es k (Misplaced l) a (gathers es (told ts inside (Misplaced l)) inside k (below-told ts inside _ a))
-gathers (Doubled l ∷ es) ts inside k a = others ts inside es k (Doubled l) a (gathers es (told ts inside (Doubled l)) inside k (below-told ts inside _ a))
+gathers (Leave ∷ es) ts inside k a = gathers es ts (drop 1 inside) k (below-drop (length ts) inside a) ∙
+    left (at ts k) (is_first k (drop 1 inside)) (said_in k (placed (drop 1 inside) (length ts) es))
+gathers (Takes n ∷ es) ts inside k a = others ts inside es k (Takes n) a
+    (gathers es (told ts inside (Takes n)) inside k (below-told ts inside _ a))
+gathers (Uses l n ∷ es) ts inside k a = others ts inside es k (Uses l n) a
+    (gathers es (told ts inside (Uses l n)) inside k (below-told ts inside _ a))
+gathers (Binds l n ∷ es) ts inside k a =
+    others ts inside es k (Binds l n) a (gathers es (told ts inside (Binds l n)) inside k (below-told ts inside _ a))
+gathers (Declares l n ∷ es) ts inside k a =
+    others ts inside es k (Declares l n) a
+    (gathers es (told ts inside (Declares l n)) inside k (below-told ts inside _ a))
+gathers (Misplaced l ∷ es) ts inside k a =
+    others ts inside es k (Misplaced l) a
+    (gathers es (told ts inside (Misplaced l)) inside k (below-told ts inside _ a))
+gathers (Doubled l ∷ es) ts inside k a =
+    others ts inside es k (Doubled l) a (gathers es (told ts inside (Doubled l)) inside k (below-told ts inside _ a))
 
 -- ---- how many
 
@@ -99,9 +124,11 @@ told-length : (ts : List Names) (inside : List ℕ) (e : Event) → length (told
 told-length ts [] e = refl
 told-length ts (b ∷ bs) e = length-set ts b _
 
-pub counts : (es : List Event) (ts : List Names) (inside : List ℕ) → length (tables_by ts inside es) ≡ bodies (length ts) es
+pub counts : (es : List Event) (ts : List Names) (inside : List ℕ) →
+    length (tables_by ts inside es) ≡ bodies (length ts) es
 counts [] ts inside = refl
-counts (Enter x ∷ es) ts inside = counts es (ts ++ names_after no_names (Enter x) ∷ []) (length ts ∷ inside) ∙ ap (λ n. bodies n es) (length-append ts (names_after no_names (Enter x) ∷ []))
+counts (Enter x ∷ es) ts inside = counts es (ts ++ names_after no_names (Enter x) ∷ []) (length ts ∷ inside) ∙
+    ap (λ n. bodies n es) (length-append ts (names_after no_names (Enter x) ∷ []))
 counts (Leave ∷ es) ts inside = counts es ts (drop 1 inside)
 counts (Takes n ∷ es) ts inside = counts es _ inside ∙ ap (λ m. bodies m es) (told-length ts inside (Takes n))
 counts (Uses l n ∷ es) ts inside = counts es _ inside ∙ ap (λ m. bodies m es) (told-length ts inside (Uses l n))
@@ -121,10 +148,12 @@ shown-at (t ∷ ts) (suc k) a = shown-at ts k (omega arith)
 same_names : (es : List Event) (ts : List Names) → ts ≡ tables_by [] [] es → at ts ≡ body es
 same_names es ts e = ap at e ∙ (λ i k. gathers es [] [] k tt i)
 
-are_scopes : (es : List Event) (ts : List Names) (scopes : List Scope) → ts ≡ tables_by [] [] es → scopes ≡ map scope_of ts → AreScopes es scopes
+are_scopes : (es : List Event) (ts : List Names) (scopes : List Scope) → ts ≡ tables_by [] [] es →
+    scopes ≡ map scope_of ts → AreScopes es scopes
 are_scopes es ts scopes e f = record {
   count = ap length f ∙ length-map ts scope_of ∙ many;
-  each = λ k a. ap (λ ss. slice_get ss k) f ∙ shown-at ts k (subst (λ n. k < n) (sym many) a) ∙ ap (λ b. Some (scope_of (b k))) (same_names es ts e);
+  each = λ k a. ap (λ ss. slice_get ss k) f ∙ shown-at ts k (subst (λ n. k < n) (sym many) a) ∙
+      ap (λ b. Some (scope_of (b k))) (same_names es ts e);
 }
   where
     many : length ts ≡ bodies 0 es
@@ -137,14 +166,18 @@ pub record Found (m : List Event) (es fs : List Event) (ts us : List Names) : Ty
   pub tables : ts ≡ tables_by [] [] es
   pub shared : us ≡ ts
 
-pub found_of : {m es fs : List Event} {ts us : List Names} → es ≡ m → fs ≡ m → ts ≡ tables_by [] [] es → us ≡ ts → Found m es fs ts us
+pub found_of : {m es fs : List Event} {ts us : List Names} → es ≡ m → fs ≡ m → ts ≡ tables_by [] [] es → us ≡ ts →
+    Found m es fs ts us
 found_of a b d e = record { outlined = a; again = b; tables = d; shared = e }
 
 all_names : (m es fs : List Event) (ts us : List Names) → Found m es fs ts us → us ≡ tables_by [] [] m
 all_names m es fs ts us a = a.shared ∙ a.tables ∙ ap (tables_by [] []) a.outlined
 
-pub found_fault : (m es fs : List Event) (ts us : List Names) {r : Option Refusal} → Found m es fs ts us → r ≡ first_fault (at us) (placed [] 0 fs) → r ≡ fault m
-found_fault m es fs ts us a f = f ∙ ap (λ z. first_fault (at us) (placed [] 0 z)) a.again ∙ ap (λ b. first_fault b (placed [] 0 m)) (same_names m us (all_names m es fs ts us a))
+pub found_fault : (m es fs : List Event) (ts us : List Names) {r : Option Refusal} → Found m es fs ts us →
+    r ≡ first_fault (at us) (placed [] 0 fs) → r ≡ fault m
+found_fault m es fs ts us a f = f ∙ ap (λ z. first_fault (at us) (placed [] 0 z)) a.again ∙
+    ap (λ b. first_fault b (placed [] 0 m)) (same_names m us (all_names m es fs ts us a))
 
-pub found_scopes : (m es fs : List Event) (ts us : List Names) {scopes : List Scope} → Found m es fs ts us → scopes ≡ map scope_of us → AreScopes m scopes
+pub found_scopes : (m es fs : List Event) (ts us : List Names) {scopes : List Scope} → Found m es fs ts us →
+    scopes ≡ map scope_of us → AreScopes m scopes
 found_scopes m es fs ts us {scopes = scopes} a f = are_scopes m us scopes (all_names m es fs ts us a) f

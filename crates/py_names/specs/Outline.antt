@@ -1,4 +1,5 @@
--- What the text of a module says about names, in the order of the text. States `docs/LANGUAGE.md`, "Names and their scopes".
+-- What the text of a module says about names, in the order of the text. States `docs/LANGUAGE.md`, "Names and their
+-- scopes".
 use Rattle.std.specs.Prelude.{ℕ, Bool, true, false, ◌&&◌, not, if◌then◌else◌, codes, List, [], ◌∷◌, ◌++◌, map, Option, Some, None}
 use Rattle.std.specs.List.{list_any}
 use Rattle.std.specs.Str.{bytes_eq}
@@ -40,7 +41,8 @@ abbrev pub joined : List (List Event) → List Event
 joined [] = []
 joined (es ∷ more) = es ++ joined more
 
--- `None` is a constant: as a variable it is no name, and it can't be bound, nor name a parameter, a keyword or an attribute.
+-- `None` is a constant: as a variable it is no name, and it can't be bound, nor name a parameter, a keyword or an
+-- attribute.
 abbrev pub used_name : ℕ → List ℕ → List Event
 used_name line n = if is_none n then [] else Uses line n ∷ []
 
@@ -80,7 +82,8 @@ read_or (Some s) = s.read
 -- keyword arguments, after those with these names
 abbrev pub keywords : ℕ → List (List ℕ) → List (List ℕ × Said) → List Event
 keywords line before [] = []
-keywords line before (k ∷ ks) = label line k.0 ++ repeated line before k.0 ++ k.1.read ++ keywords line (with_name before k.0) ks
+keywords line before (k ∷ ks) = label line k.0 ++ repeated line before k.0 ++ k.1.read ++ keywords line
+    (with_name before k.0) ks
 
 module _ (line : ℕ) where
   abbrev pub expr_step : open'.Expr-F Said (List Event) (List Event) (List ℕ × Said) (List Event) → Said
@@ -114,10 +117,12 @@ module _ (line : ℕ) where
   pair_step p = p.key.read ++ p.value.read
 
   unfoldable pub said : Expr → Said
-  said = fold-Expr Said (List Event) (List Event) (List ℕ × Said) (List Event) expr_step trailer_step link_step named_step pair_step
+  said = fold-Expr Said (List Event) (List Event) (List ℕ × Said) (List Event) expr_step trailer_step link_step
+      named_step pair_step
 
   unfoldable pub said_trailer : Trailer → List Event
-  said_trailer = fold-Trailer Said (List Event) (List Event) (List ℕ × Said) (List Event) expr_step trailer_step link_step named_step pair_step
+  said_trailer = fold-Trailer Said (List Event) (List Event) (List ℕ × Said) (List Event) expr_step trailer_step
+      link_step named_step pair_step
 
 -- what operators say with their operands, and pairs, trailers and keyword arguments
 abbrev pub read_links : ℕ → List Link → List Event
@@ -134,7 +139,8 @@ read_trailers line (t ∷ ts) = said_trailer line t ++ read_trailers line ts
 
 abbrev pub read_keywords : ℕ → List (List ℕ) → List Named → List Event
 read_keywords line before [] = []
-read_keywords line before (k ∷ ks) = label line k.name ++ repeated line before k.name ++ (said line k.value).read ++ read_keywords line (with_name before k.name) ks
+read_keywords line before (k ∷ ks) = label line k.name ++ repeated line before k.name ++ (said line k.value).read ++
+    read_keywords line (with_name before k.name) ks
 
 -- what an expression says where it is read
 abbrev pub read : ℕ → Expr → List Event
@@ -210,7 +216,8 @@ says_some (Some s) w = s w
 -- the parameters of a `def`, after those with these names, with their defaults, as the body round the `def` has them
 abbrev pub parameters : ℕ → List (List ℕ) → List Param → List Event
 parameters line before [] = []
-parameters line before (p ∷ ps) = label line p.name ++ repeated line before p.name ++ read_some line p.default ++ parameters line (with_name before p.name) ps
+parameters line before (p ∷ ps) = label line p.name ++ repeated line before p.name ++ read_some line p.default ++
+    parameters line (with_name before p.name) ps
 
 abbrev pub takes : List Param → List Event
 takes ps = map (λ p. Takes p.name) ps
@@ -237,9 +244,12 @@ stmt_step (open2.From line m is) w = imported line is
 stmt_step (open2.If arms d) w = says_all arms w ++ says_some d w
 stmt_step (open2.While arm d) w = arm (inside_loop w) ++ says_some d w
 stmt_step (open2.For line t a body d) w = target line t ++ read line a ++ says_all body (inside_loop w) ++ says_some d w
-stmt_step (open2.Try body hs d f) w = body w ++ says_all hs (inside_clause w) ++ says_some d w ++ says_some f (inside_finally w)
-stmt_step (open2.Def line n ps body) w = bound_name line n ++ parameters line [] ps ++ Enter kind.Function ∷ takes ps ++ says_all body inside_function ++ Leave ∷ []
-stmt_step (open2.Class line n a body) w = bound_name line n ++ read_some line a ++ (Enter kind.Class ∷ []) ++ says_all body outside ++ Leave ∷ []
+stmt_step (open2.Try body hs d f) w = body w ++ says_all hs (inside_clause w) ++ says_some d w ++ says_some f
+    (inside_finally w)
+stmt_step (open2.Def line n ps body) w = bound_name line n ++ parameters line [] ps ++ Enter kind.Function ∷ takes ps
+    ++ says_all body inside_function ++ Leave ∷ []
+stmt_step (open2.Class line n a body) w = bound_name line n ++ read_some line a ++ (Enter kind.Class ∷ []) ++ says_all
+    body outside ++ Leave ∷ []
 
 abbrev pub arm_step : open2.Arm-F Says Says Says Says → Says
 arm_step a w = read a.line a.test ++ says_all a.body w

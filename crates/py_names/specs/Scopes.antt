@@ -12,7 +12,8 @@ use Rattle.py_names.specs.Outline.{has, with_name}
 
 -- ---- bodies
 
--- Bodies have numbers, from 0, in the order in which they begin. These are the bodies that stand round a place behind an
+-- Bodies have numbers, from 0, in the order in which they begin. These are the bodies that stand round a place behind
+-- an
 -- event, the innermost first; n bodies began before the event.
 abbrev pub inside_after : Event → ℕ → List ℕ → List ℕ
 inside_after (Enter k) n inside = n ∷ inside
@@ -30,7 +31,8 @@ pub record Placed : Type 0 where
 
 abbrev pub placed : List ℕ → ℕ → List Event → List Placed
 placed inside n [] = []
-placed inside n (e ∷ es) = record { event = e; inside = inside_after e n inside } ∷ placed (inside_after e n inside) (bodies_after e n) es
+placed inside n (e ∷ es) = record { event = e; inside = inside_after e n inside } ∷ placed (inside_after e n inside)
+    (bodies_after e n) es
 
 -- how many bodies begin
 abbrev pub bodies : ℕ → List Event → ℕ
@@ -149,7 +151,8 @@ pub record AreScopes (es : List Event) (scopes : List Scope) : Type 0 where
 -- A body uses a name that isn't its own, nor named in a `global` there, and that is local to a function round it.
 abbrev pub is_closure : (ℕ → Names) → List ℕ → List ℕ → Bool
 is_closure b [] n = false
-is_closure b (k ∷ outer) n = not (is_local (b k) n) && (not (has n (b k).declared) && list_any (λ j. is_function (b j).kind && is_local (b j) n) outer)
+is_closure b (k ∷ outer) n = not (is_local (b k) n) &&
+    (not (has n (b k).declared) && list_any (λ j. is_function (b j).kind && is_local (b j) n) outer)
 
 -- a `global` names a parameter of its body
 abbrev pub is_parameter : (ℕ → Names) → List ℕ → List ℕ → Bool

@@ -4,22 +4,33 @@ use Rattle.py_tokens.specs.declared.character.Character.{Character}
 use Rattle.py_tokens.specs.Characters.{character, characters, line_end, line_end_size, line_after, has_mark, text_characters}
 
 cases_cons : (p q : Bool) (at line b c : ℕ) (bs : List ℕ) →
-    (if p && q then character 10 at (at + 2) line ∷ characters (at + 2) (line + 1) bs else character (if p then 10 else b) at (at + 1) line ∷ characters (at + 1) (line_after (if p then 10 else b) line) (c ∷ bs))
-    ≡ character (if p then 10 else b) at (at + (if p && q then 2 else 1)) line ∷ characters (at + (if p && q then 2 else 1)) (line_after (if p then 10 else b) line) (drop (if p && q then 2 else 1) (b ∷ c ∷ bs))
+    (if p && q then character 10 at (at + 2) line ∷ characters (at + 2) (line + 1) bs else character
+    (if p then 10 else b) at (at + 1) line ∷ characters (at + 1) (line_after (if p then 10 else b) line) (c ∷ bs))
+    ≡ character (if p then 10 else b) at (at + (if p && q then 2 else 1)) line ∷ characters
+    (at + (if p && q then 2 else 1)) (line_after (if p then 10 else b) line)
+    (drop (if p && q then 2 else 1) (b ∷ c ∷ bs))
 cases_cons true true at line b c bs = refl
 cases_cons true false at line b c bs = refl
 cases_cons false true at line b c bs = refl
 cases_cons false false at line b c bs = refl
 
-characters-cons : (at line b : ℕ) (bs : List ℕ) → characters at line (b ∷ bs) ≡ character (line_end b) at (at + line_end_size b bs) line ∷ characters (at + line_end_size b bs) (line_after (line_end b) line) (drop (line_end_size b bs) (b ∷ bs))
+characters-cons : (at line b : ℕ) (bs : List ℕ) → characters at line (b ∷ bs) ≡ character (line_end b) at
+    (at + line_end_size b bs) line ∷ characters (at + line_end_size b bs) (line_after (line_end b) line)
+    (drop (line_end_size b bs) (b ∷ bs))
 characters-cons at line b [] = refl
 characters-cons at line b (c ∷ bs) = cases_cons (b == 13) (c == 10) at line b c bs
 
-pub characters_step : (all found found' : List Character) (at line b size byte line' : ℕ) (rest more rest' : List ℕ) (x : Character) →
-    rest ≡ b ∷ more → byte ≡ line_end b → size ≡ line_end_size b more → x ≡ character byte at (at + size) line → found' ≡ found ++ x ∷ [] → rest' ≡ drop size rest → line' ≡ line_after byte line →
+pub characters_step : (all found found' : List Character) (at line b size byte line' : ℕ) (rest more rest' : List ℕ)
+    (x : Character) →
+    rest ≡ b ∷ more → byte ≡ line_end b → size ≡ line_end_size b more → x ≡ character byte at (at + size) line →
+    found' ≡ found ++ x ∷ [] → rest' ≡ drop size rest → line' ≡ line_after byte line →
     all ≡ found ++ characters at line rest → all ≡ found' ++ characters (at + size) line' rest'
 characters_step all found found' at line b size byte line' rest more rest' x e1 e2 e3 e4 e5 e6 e7 h =
-    rw (e5, e4, e6, e7, e2, e3, e1) (h ∙ ap (λ z. found ++ characters at line z) e1 ∙ ap (λ z. found ++ z) (characters-cons at line b more) ∙ sym (append_assoc found (character (line_end b) at (at + line_end_size b more) line ∷ []) (characters (at + line_end_size b more) (line_after (line_end b) line) (drop (line_end_size b more) (b ∷ more)))))
+    rw (e5, e4, e6, e7, e2, e3, e1) (h ∙ ap (λ z. found ++ characters at line z) e1 ∙
+    ap (λ z. found ++ z) (characters-cons at line b more) ∙
+    sym (append_assoc found (character (line_end b) at (at + line_end_size b more) line ∷ [])
+    (characters (at + line_end_size b more) (line_after (line_end b) line)
+    (drop (line_end_size b more) (b ∷ more)))))
 
 size_cases : (p : Bool) (n : ℕ) → (1 ≤ (if p then 2 else 1)) × ((if p then 2 else 1) ≤ suc (suc n))
 size_cases true n = (omega arith, omega arith)
@@ -36,7 +47,8 @@ line_after-le byte line = go (byte == 10)
     go true = omega arith
     go false = omega arith
 
-length_cases : (p : Bool) (xs ys : List Character) (n : ℕ) → length xs ≤ suc (suc n) → length ys ≤ suc (suc n) → length (if p then xs else ys) ≤ suc (suc n)
+length_cases : (p : Bool) (xs ys : List Character) (n : ℕ) → length xs ≤ suc (suc n) → length ys ≤ suc (suc n) →
+    length (if p then xs else ys) ≤ suc (suc n)
 length_cases true xs ys n h k = h
 length_cases false xs ys n h k = k
 

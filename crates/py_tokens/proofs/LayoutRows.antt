@@ -15,7 +15,8 @@ use Rattle.py_tokens.specs.Layout.{laid, lexed, tokens_of_text}
 -- `if x:` on line 1
 abbrev head : List Token → List Token
 head ts =
-    token_at (k.Keyword keyword.IF) (place 0 2 1) ∷ token_at (k.Name (codes "x")) (place 3 4 1) ∷ token_at (k.Op operator.COLON) (place 4 5 1)
+    token_at (k.Keyword keyword.IF) (place 0 2 1) ∷ token_at (k.Name (codes "x")) (place 3 4 1) ∷ token_at
+    (k.Op operator.COLON) (place 4 5 1)
     ∷ token_at k.Newline (place 5 6 1) ∷ ts
 
 -- the line's first token stands on its first line
@@ -37,7 +38,8 @@ indent = refl
 -- the last line begins on line 3, and two joints lead to its first token on line 5
 dedent : tokens_of_text (codes "if x:\n  y\n\\\n\\\nz\n") ≡ Ok (head (
     token_at k.Indent (place 8 8 2) ∷ token_at (k.Name (codes "y")) (place 8 9 2) ∷ token_at k.Newline (place 9 10 2)
-    ∷ token_at k.Dedent (place 10 10 3) ∷ token_at (k.Name (codes "z")) (place 14 15 5) ∷ token_at k.Newline (place 15 16 5)
+    ∷ token_at k.Dedent (place 10 10 3) ∷ token_at (k.Name (codes "z")) (place 14 15 5) ∷ token_at k.Newline
+    (place 15 16 5)
     ∷ token_at k.End (place 16 16 5) ∷ []
     ))
 unfolding tokens_of_text lexed laid text_characters cut word_at name_at number_at

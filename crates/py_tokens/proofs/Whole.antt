@@ -40,20 +40,25 @@ abbrev Below : ℕ → Read → Type 0
 Below n (Ok p) = length p.1 < n
 Below n (Err e) = Unit {0}
 
-below_if : (b : Bool) (n : ℕ) (r s : Read) → (b ≡ true → Below n r) → (b ≡ false → Below n s) → Below n (if b then r else s)
+below_if : (b : Bool) (n : ℕ) (r s : Read) → (b ≡ true → Below n r) → (b ≡ false → Below n s) →
+    Below n (if b then r else s)
 below_if true n r s p q = p refl
 below_if false n r s p q = q refl
 
-below_suffixed : (n line : ℕ) (base : Base) (digits rest : List Character) → length rest < n → Below n (suffixed line base digits rest)
+below_suffixed : (n line : ℕ) (base : Base) (digits rest : List Character) → length rest < n →
+    Below n (suffixed line base digits rest)
 below_suffixed n line base digits rest h =
     let one = drop-le 1 rest in
     below_if (next_is (class.Letter 108) rest) n _ _ (λ e. omega arith)
-    (λ e. below_if (nat_lt (digits_value (base_of base) (map byte_of digits)) 9223372036854775808) n _ _ (λ f. h) (λ f. tt))
+    (λ e. below_if (nat_lt (digits_value (base_of base) (map byte_of digits)) 9223372036854775808) n _ _ (λ f. h)
+    (λ f. tt))
 
 below_prefixed : (n line : ℕ) (base : Base) (cs : List Character) → length cs < n → Below n (prefixed line base cs)
 below_prefixed n line base cs h =
     let rest = drop-le (run_len (class.Digit base) cs) cs in
-    below_if (next_is (class.Digit base) cs) n _ _ (λ e. below_suffixed n line base (run (class.Digit base) cs) (after (class.Digit base) cs) (omega arith)) (λ e. tt)
+    below_if (next_is (class.Digit base) cs) n _ _
+    (λ e. below_suffixed n line base (run (class.Digit base) cs) (after (class.Digit base) cs) (omega arith))
+    (λ e. tt)
 
 float_cases : (b : Bool) (n : ℕ) (cs : List Character) → length cs < n → length (if b then drop 1 cs else cs) < n
 float_cases true n cs h = let one = drop-le 1 cs in omega arith
@@ -62,19 +67,22 @@ float_cases false n cs h = h
 below_float : (n : ℕ) (cs : List Character) → length cs < n → Below n (float cs)
 below_float n cs h = float_cases (next_is (class.Letter 106) cs) n cs h
 
-below_imaginary : (n : ℕ) (cs : List Character) → length cs ≤ n → next_is (class.Letter 106) cs ≡ true → Below n (float cs)
+below_imaginary : (n : ℕ) (cs : List Character) → length cs ≤ n → next_is (class.Letter 106) cs ≡ true →
+    Below n (float cs)
 below_imaginary n cs h e =
     let one = next_shorter (class.Letter 106) cs e in
     let small : length (drop 1 cs) < n = omega arith in
     subst (λ b. length (if b then drop 1 cs else cs) < n) (sym e) small
 
-below_whole : (n line : ℕ) (digits rest : List Character) → length digits + length rest ≡ n → Below n (whole line digits rest)
+below_whole : (n line : ℕ) (digits rest : List Character) → length digits + length rest ≡ n →
+    Below n (whole line digits rest)
 below_whole n line digits rest h =
     below_if (length digits == 0) n _ _ (λ e. tt) (λ e.
     let some : length digits ≡ 0 → ⊥ = eqb-false (length digits) 0 e in
     let left : length rest < n = omega arith in
     below_if (next_is (class.Byte 48) digits && nat_lt 1 (length digits)) n _ _
-    (λ f. below_if (run_len (class.Digit Eight) digits == length digits) n _ _ (λ g. below_suffixed n line Eight digits rest left) (λ g. tt))
+    (λ f. below_if (run_len (class.Digit Eight) digits == length digits) n _ _
+    (λ g. below_suffixed n line Eight digits rest left) (λ g. tt))
     (λ f. below_suffixed n line Ten digits rest left))
 
 below_unprefixed : (line : ℕ) (cs : List Character) → Below (length cs) (unprefixed line cs)
@@ -86,7 +94,8 @@ below_unprefixed line cs =
     let fewer = drop-le (run_len ten cs) cs in
     below_if (nat_lt (length more) (length rest)) n _ _
     (λ e. let less = ltb-true (length more) (length rest) e in below_float n more (omega arith))
-    (λ e. below_if (next_is (class.Letter 106) rest) n _ _ (λ f. below_imaginary n rest fewer f) (λ f. below_whole n line (run ten cs) rest split))
+    (λ e. below_if (next_is (class.Letter 106) rest) n _ _ (λ f. below_imaginary n rest fewer f)
+    (λ f. below_whole n line (run ten cs) rest split))
 
 below_number : (line : ℕ) (cs : List Character) → Below (length cs) (number_at line cs)
 unfolding number_at
@@ -95,24 +104,32 @@ below_number line cs =
     let one = drop 1 cs in
     let fewer = drop-le 1 cs in
     below_if (next_is (class.Byte 48) cs) n _ _
-    (λ e. below_if (next_is (class.Letter 120) one) n _ _ (λ f. let h = next_shorter (class.Letter 120) one f in below_prefixed n line Sixteen (drop 1 one) (omega arith))
-    (λ f. below_if (next_is (class.Letter 98) one) n _ _ (λ g. let h = next_shorter (class.Letter 98) one g in below_prefixed n line Two (drop 1 one) (omega arith))
-    (λ g. below_if (next_is (class.Letter 111) one) n _ _ (λ i. let h = next_shorter (class.Letter 111) one i in below_prefixed n line Eight (drop 1 one) (omega arith))
+    (λ e. below_if (next_is (class.Letter 120) one) n _ _ (λ f. let h = next_shorter (class.Letter 120) one f in
+    below_prefixed n line Sixteen (drop 1 one) (omega arith))
+    (λ f. below_if (next_is (class.Letter 98) one) n _ _ (λ g. let h = next_shorter (class.Letter 98) one g in
+    below_prefixed n line Two (drop 1 one) (omega arith))
+    (λ g. below_if (next_is (class.Letter 111) one) n _ _ (λ i. let h = next_shorter (class.Letter 111) one i in
+    below_prefixed n line Eight (drop 1 one) (omega arith))
     (λ i. below_unprefixed line cs))))
     (λ e. below_unprefixed line cs)
 
-below_text : (n line : ℕ) (o : Option (List ℕ)) (rest : List Character) → length rest < n → Below n (text_of line o rest)
+below_text : (n line : ℕ) (o : Option (List ℕ)) (rest : List Character) → length rest < n →
+    Below n (text_of line o rest)
 below_text n line (Some bs) rest h = h
 below_text n line None rest h = tt
 
-below_literal : (n line : ℕ) (p : Prefix) (q : Quoting) (body rest : List Character) (fault : Option ℕ) → length rest < n → Below n (literal line p q body rest fault)
+below_literal : (n line : ℕ) (p : Prefix) (q : Quoting) (body rest : List Character) (fault : Option ℕ) →
+    length rest < n → Below n (literal line p q body rest fault)
 below_literal n line p q body rest (Some bad) h = tt
 below_literal n line p q body rest None h =
     let fewer = drop-le (quotes_len q) rest in
     let left : length (drop (quotes_len q) rest) < n = omega arith in
-    below_if (quotes q rest) n _ _ (λ e. below_if p.unicode n _ _ (λ f. left) (λ f. below_text n line (unescaped p.raw (map byte_of body)) (drop (quotes_len q) rest) left)) (λ e. tt)
+    below_if (quotes q rest) n _ _ (λ e.
+    below_if p.unicode n _ _ (λ f. left)
+    (λ f. below_text n line (unescaped p.raw (map byte_of body)) (drop (quotes_len q) rest) left)) (λ e. tt)
 
-below_string : (n line : ℕ) (p : Prefix) (cs : List Character) → length (drop (quotes_len (quotes_at cs)) cs) < n → Below n (string_at line p cs)
+below_string : (n line : ℕ) (p : Prefix) (cs : List Character) → length (drop (quotes_len (quotes_at cs)) cs) < n →
+    Below n (string_at line p cs)
 unfolding string_at
 below_string n line p cs h =
     let q = quotes_at cs in
@@ -128,23 +145,28 @@ some_quotes q = go q.triple
     go true = omega arith
     go false = omega arith
 
-below_named : (n line : ℕ) (name rest : List Character) (o : Option Prefix) → length rest < n → Below n (named line name rest o)
-below_named n line name rest (Some p) h = let fewer = drop-le (quotes_len (quotes_at rest)) rest in below_string n line p rest (omega arith)
+below_named : (n line : ℕ) (name rest : List Character) (o : Option Prefix) → length rest < n →
+    Below n (named line name rest o)
+below_named n line name rest (Some p) h = let fewer = drop-le (quotes_len (quotes_at rest)) rest in
+    below_string n line p rest (omega arith)
 below_named n line name rest None h = h
 
-some_name : (c : Character) (cs : List Character) → holds class.NameStart c.byte ≡ true → length (after class.Name (c ∷ cs)) < length (c ∷ cs)
+some_name : (c : Character) (cs : List Character) → holds class.NameStart c.byte ≡ true →
+    length (after class.Name (c ∷ cs)) < length (c ∷ cs)
 some_name c cs e =
     let n = run_len class.Name cs in
     let one : run_len class.Name (c ∷ cs) ≡ 1 + n = ap (λ b. cond (b || nat_lt (digit_value c.byte) 10) (1 + n) 0) e in
     let left = length-drop (run_len class.Name (c ∷ cs)) (c ∷ cs) in
     omega arith
 
-below_name : (line : ℕ) (c : Character) (cs : List Character) → holds class.NameStart c.byte ≡ true → Below (length (c ∷ cs)) (name_at line (c ∷ cs))
+below_name : (line : ℕ) (c : Character) (cs : List Character) → holds class.NameStart c.byte ≡ true →
+    Below (length (c ∷ cs)) (name_at line (c ∷ cs))
 unfolding name_at
 below_name line c cs e =
     let all = c ∷ cs in
     let rest = after class.Name all in
-    below_named (length all) line (run class.Name all) rest (if next_is class.Quote rest then prefix_of (run class.Name all) else None) (some_name c cs e)
+    below_named (length all) line (run class.Name all) rest
+    (if next_is class.Quote rest then prefix_of (run class.Name all) else None) (some_name c cs e)
 
 -- ---- words
 
@@ -152,7 +174,8 @@ abbrev PieceBelow : ℕ → Piece → Type 0
 PieceBelow n (Ok p) = length p.1 < n
 PieceBelow n (Err e) = Unit {0}
 
-piece_if : (b : Bool) (n : ℕ) (r s : Piece) → (b ≡ true → PieceBelow n r) → (b ≡ false → PieceBelow n s) → PieceBelow n (if b then r else s)
+piece_if : (b : Bool) (n : ℕ) (r s : Piece) → (b ≡ true → PieceBelow n r) → (b ≡ false → PieceBelow n s) →
+    PieceBelow n (if b then r else s)
 piece_if true n r s p q = p refl
 piece_if false n r s p q = q refl
 
@@ -169,16 +192,20 @@ abbrev all_some : List (List ℕ × ℕ) → Bool
 all_some [] = true
 all_some (o ∷ os) = nat_lt 0 (length o.0) && all_some os
 
-some_operator : (table : List (List ℕ × ℕ)) (cs : List Character) → all_some table ≡ true → TakesSome (operator_at table cs)
+some_operator : (table : List (List ℕ × ℕ)) (cs : List Character) → all_some table ≡ true →
+    TakesSome (operator_at table cs)
 some_operator [] cs e = tt
 some_operator (o ∷ os) cs e = go (begins o.0 cs) (nat_lt 0 (length o.0)) refl e (some_operator os cs)
   where
-    go : (b p : Bool) → nat_lt 0 (length o.0) ≡ p → (p && all_some os) ≡ true → (all_some os ≡ true → TakesSome (operator_at os cs)) → TakesSome (if b then Some (o.1, length o.0) else operator_at os cs)
+    go : (b p : Bool) → nat_lt 0 (length o.0) ≡ p → (p && all_some os) ≡ true →
+        (all_some os ≡ true → TakesSome (operator_at os cs)) →
+        TakesSome (if b then Some (o.1, length o.0) else operator_at os cs)
     go true true f h more = let some = ltb-true 0 (length o.0) f in omega arith
     go false true f h more = more h
     go b false f h more = absurd (cc)
 
-below_operator : (size : ℕ) (c d : Character) (cs : List Character) (o : Option (ℕ × ℕ)) → TakesSome o → PieceBelow (length (d ∷ cs)) (operator_word size c (d ∷ cs) o)
+below_operator : (size : ℕ) (c d : Character) (cs : List Character) (o : Option (ℕ × ℕ)) → TakesSome o →
+    PieceBelow (length (d ∷ cs)) (operator_word size c (d ∷ cs) o)
 below_operator size c d cs None h = tt
 below_operator size c d cs (Some o) h = omega (arith, length-drop o.1 (d ∷ cs))
 
@@ -195,9 +222,13 @@ word_below size c cs =
     (λ e. piece_if (holds class.Blank c.byte) n _ _ (λ e. omega arith)
     (λ e. piece_if (c.byte == 35) n _ _ (λ e. omega arith)
     (λ e. piece_if (c.byte == 92) n _ _ (λ e. piece_if (next_is (class.Byte 10) cs) n _ _ (λ e. omega arith) (λ e. tt))
-    (λ e. piece_if (holds class.NameStart c.byte) n _ _ (λ e. below_token n size c (name_at c.line all) (below_name c.line c cs e))
-    (λ e. piece_if (holds class.Quote c.byte) n _ _ (λ e. below_token n size c (string_at c.line none all) (below_string n c.line none all (omega (arith, length-drop (quotes_len q) all, some_quotes q))))
-    (λ e. piece_if (holds ten c.byte || (c.byte == 46 && next_is ten cs)) n _ _ (λ e. below_token n size c (number_at c.line all) (below_number c.line all))
+    (λ e. piece_if (holds class.NameStart c.byte) n _ _
+    (λ e. below_token n size c (name_at c.line all) (below_name c.line c cs e))
+    (λ e. piece_if (holds class.Quote c.byte) n _ _
+    (λ e. below_token n size c (string_at c.line none all)
+    (below_string n c.line none all (omega (arith, length-drop (quotes_len q) all, some_quotes q))))
+    (λ e. piece_if (holds ten c.byte || (c.byte == 46 && next_is ten cs)) n _ _
+    (λ e. below_token n size c (number_at c.line all) (below_number c.line all))
     (λ e. below_operator size c c cs (operator_at operators all) (some_operator operators all refl))))))))
 
 -- ---- the cut
@@ -210,9 +241,12 @@ cut_enough (suc n) zero size [] h k = refl
 cut_enough (suc n) (suc m) size [] h k = refl
 cut_enough zero m size (c ∷ cs) h k = absurd (omega arith)
 cut_enough (suc n) zero size (c ∷ cs) h k = absurd (omega arith)
-cut_enough (suc n) (suc m) size (c ∷ cs) h k = go (word_at size (c ∷ cs)) (word_below size c cs) (λ rest p q. cut_enough n m size rest p q)
+cut_enough (suc n) (suc m) size (c ∷ cs) h k =
+    go (word_at size (c ∷ cs)) (word_below size c cs) (λ rest p q. cut_enough n m size rest p q)
   where
-    go : (r : Piece) → PieceBelow (length (c ∷ cs)) r → ((rest : List Character) → length rest ≤ n → length rest ≤ m → cut n size rest ≡ cut m size rest) → cut_more c (cut n size) r ≡ cut_more c (cut m size) r
+    go : (r : Piece) → PieceBelow (length (c ∷ cs)) r →
+        ((rest : List Character) → length rest ≤ n → length rest ≤ m → cut n size rest ≡ cut m size rest) →
+        cut_more c (cut n size) r ≡ cut_more c (cut m size) r
     go (Ok w) below more = ap (with_word w.0) (more w.1 (omega arith) (omega arith))
     go (Err e) below more = refl
 

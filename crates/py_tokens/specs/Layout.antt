@@ -1,4 +1,5 @@
--- From the words of a text to its tokens, by logical lines and the indentation stack. States `docs/LANGUAGE.md`, "Lines"
+-- From the words of a text to its tokens, by logical lines and the indentation stack. States `docs/LANGUAGE.md`,
+-- "Lines"
 -- and "Indentation".
 use Rattle.std.specs.Prelude.{ℕ, ◌+◌, ◌-◌, ◌*◌, ◌/◌, nat_lt, ◌==◌, if◌then◌else◌, List, [], ◌∷◌, ◌++◌, length, Option, Some, None, Result, Ok, Err}
 use Rattle.py_base.specs.declared.refusal.Refusal.{Refusal}
@@ -103,7 +104,8 @@ popped p column (e ∷ stack) rest =
 abbrev pub indented : Place → ℕ → List ℕ → (List ℕ → Laid) → Laid
 indented p column [] rest = Err (BadDedent p.line)
 indented p column (e ∷ stack) rest =
-    if nat_lt e column then before (token_at k.Indent p ∷ []) (rest (column ∷ e ∷ stack)) else popped p column (e ∷ stack) rest
+    if nat_lt e column then before (token_at k.Indent p ∷ []) (rest (column ∷ e ∷ stack)) else popped p column
+    (e ∷ stack) rest
 
 -- the open Dedents and End
 abbrev pub closing : Place → List ℕ → List Token

@@ -27,7 +27,8 @@ named line name rest None = Ok (name_kind (word_number keywords (map byte_of nam
 
 -- the name at the front; a prefix and quotes begin a string
 unfoldable pub name_at : ℕ → List Character → Read
-name_at line cs = let rest = after Name cs in named line (run Name cs) rest (if next_is Quote rest then prefix_of (run Name cs) else None)
+name_at line cs = let rest = after Name cs in
+    named line (run Name cs) rest (if next_is Quote rest then prefix_of (run Name cs) else None)
 
 -- the characters begin with these bytes
 abbrev pub begins : List ℕ → List Character → Bool

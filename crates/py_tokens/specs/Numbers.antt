@@ -27,18 +27,21 @@ int_of line v rest = if nat_lt v (2 ^ 63) then Ok (k.Int (pos v), rest) else Err
 -- digits of a base; a suffix `l` comes before any test of width
 abbrev pub suffixed : ℕ → Base → List Character → List Character → Read
 suffixed line base digits rest =
-    if next_is (Letter 108) rest then Ok (k.Other other.Long, drop 1 rest) else int_of line (digits_value (base_of base) (map byte_of digits)) rest
+    if next_is (Letter 108) rest then Ok (k.Other other.Long, drop 1 rest) else int_of line
+    (digits_value (base_of base) (map byte_of digits)) rest
 
 -- after a prefix such as `0x`, which needs a digit
 abbrev pub prefixed : ℕ → Base → List Character → Read
-prefixed line base cs = if next_is (Digit base) cs then suffixed line base (run (Digit base) cs) (after (Digit base) cs) else Err (BadCharacter line)
+prefixed line base cs = if next_is (Digit base) cs then suffixed line base (run (Digit base) cs)
+    (after (Digit base) cs) else Err (BadCharacter line)
 
 abbrev pub after_point : List Character → List Character
 after_point cs = if next_is (Byte 46) cs then after ten (drop 1 cs) else cs
 
 -- what follows an exponent's letter with its digits; all, where it has none
 abbrev pub exponent : List Character → List Character → List Character
-exponent all cs = if next_is ten cs then after ten cs else (if next_is Sign cs && next_is ten (drop 1 cs) then after ten (drop 1 cs) else all)
+exponent all cs = if next_is ten cs then after ten cs else
+    (if next_is Sign cs && next_is ten (drop 1 cs) then after ten (drop 1 cs) else all)
 
 abbrev pub after_exponent : List Character → List Character
 after_exponent cs = if next_is (Letter 101) cs then exponent cs (drop 1 cs) else cs
@@ -51,7 +54,9 @@ float cs = Ok (k.Other other.Float, if next_is (Letter 106) cs then drop 1 cs el
 abbrev pub whole : ℕ → List Character → List Character → Read
 whole line digits rest =
     if length digits == 0 then Err (BadCharacter line) else
-    (if next_is (Byte 48) digits && nat_lt 1 (length digits) then (if run_len (Digit Eight) digits == length digits then suffixed line Eight digits rest else Err (BadCharacter line))
+    (if next_is (Byte 48) digits && nat_lt 1 (length digits) then
+    (if run_len (Digit Eight) digits == length digits then suffixed line Eight digits rest else Err
+    (BadCharacter line))
     else suffixed line Ten digits rest)
 
 -- a number without a base's prefix: a float where a point, an exponent or `j` continues its digits

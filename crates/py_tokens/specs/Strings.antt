@@ -43,7 +43,8 @@ prefix_of (a ∷ b ∷ c ∷ cs) = None
 
 -- such quotes are at the front
 abbrev pub quotes : Quoting → List Character → Bool
-quotes q cs = next_is (Byte q.mark) cs && (not q.triple || (next_is (Byte q.mark) (drop 1 cs) && next_is (Byte q.mark) (drop 2 cs)))
+quotes q cs = next_is (Byte q.mark) cs &&
+    (not q.triple || (next_is (Byte q.mark) (drop 1 cs) && next_is (Byte q.mark) (drop 2 cs)))
 
 abbrev pub quotes_len : Quoting → ℕ
 quotes_len q = if q.triple then 3 else 1
@@ -86,12 +87,14 @@ text_of line (Some bs) rest = Ok (k.Str bs, rest)
 text_of line None rest = Err (BadEscape line)
 
 abbrev pub closed : ℕ → Prefix → List Character → List Character → Read
-closed line p body rest = if p.unicode then Ok (k.Other other.Unicode, rest) else text_of line (unescaped p.raw (map byte_of body)) rest
+closed line p body rest = if p.unicode then Ok (k.Other other.Unicode, rest) else text_of line
+    (unescaped p.raw (map byte_of body)) rest
 
 -- An escape without meaning comes before the end of a string that isn't closed.
 abbrev pub literal : ℕ → Prefix → Quoting → List Character → List Character → Option ℕ → Read
 literal line p q body rest (Some bad) = Err (BadEscape bad)
-literal line p q body rest None = if quotes q rest then closed line p body (drop (quotes_len q) rest) else Err (OpenString line)
+literal line p q body rest None = if quotes q rest then closed line p body (drop (quotes_len q) rest) else Err
+    (OpenString line)
 
 abbrev pub quoted : ℕ → Prefix → Quoting → List Character → Read
 quoted line p q inner =

@@ -44,7 +44,10 @@ bracketed n t = if is_opening n then Opens t else (if is_closing n then Closes t
 -- the operator that was found at the front, if any
 abbrev pub operator_word : ℕ → Character → List Character → Option (ℕ × ℕ) → Piece
 operator_word size c all None = Err (BadCharacter c.line)
-operator_word size c all (Some o) = Ok (bracketed o.0 (token_at (k.Op o.0) (place_before size c (drop o.1 all))), drop o.1 all)
+operator_word size c all (Some o) = Ok (
+  bracketed o.0 (token_at (k.Op o.0) (place_before size c (drop o.1 all))),
+  drop o.1 all,
+)
 
 -- A backslash joins two lines only right before a line end.
 abbrev pub joint : Character → List Character → Piece
@@ -93,7 +96,8 @@ IsWhole size cs = (n : ℕ) → cut (length cs + n) size cs ≡ cut (length cs) 
 -- ---- contracts
 
 -- what the code reads at the front, where `view` gives the rest as a list
-abbrev pub Reads : {W X : Type 0} → (X → List Character) → Result (W × X) TokenError → Result (W × List Character) Refusal → Type 0
+abbrev pub Reads : {W X : Type 0} → (X → List Character) → Result (W × X) TokenError →
+    Result (W × List Character) Refusal → Type 0
 Reads view (Ok p) r = r ≡ Ok (p.0, view p.1)
 Reads view (Err (error.Refused e)) r = r ≡ Err e
 Reads view (Err error.OutOfMemory) r = Unit {0}

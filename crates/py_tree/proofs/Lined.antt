@@ -40,7 +40,8 @@ abbrev pub AllKept : List Token → Type 0
 AllKept [] = Unit {0}
 AllKept (t ∷ ts) = IsKept t.kind × AllKept ts
 
-le_kind : (kind : TokenKind) (at a b : ℕ) (rest : ℕ → Type 0) → a ≤ b → ((c d : ℕ) → c ≤ d → rest d → rest c) → lined_kind kind at b rest → lined_kind kind at a rest
+le_kind : (kind : TokenKind) (at a b : ℕ) (rest : ℕ → Type 0) → a ≤ b → ((c d : ℕ) → c ≤ d → rest d → rest c) →
+    lined_kind kind at b rest → lined_kind kind at a rest
 le_kind Newline at a b rest h f g = (let q : b ≤ at = g.0 in omega arith, g.1)
 le_kind Indent at a b rest h f g = f a b h g
 le_kind Dedent at a b rest h f g = f a b h g
@@ -56,7 +57,8 @@ pub lined-le : (ts : List Token) (a b : ℕ) → a ≤ b → IsLined b ts → Is
 lined-le [] a b h g = tt
 lined-le (t ∷ ts) a b h g = le_kind t.kind t.line a b (λ n. IsLined n ts) h (λ c d. lined-le ts c d) g
 
-drop_kind : (kind : TokenKind) (at a : ℕ) (rest : ℕ → Type 0) → ((c d : ℕ) → c ≤ d → rest d → rest c) → lined_kind kind at a rest → rest a
+drop_kind : (kind : TokenKind) (at a : ℕ) (rest : ℕ → Type 0) → ((c d : ℕ) → c ≤ d → rest d → rest c) →
+    lined_kind kind at a rest → rest a
 drop_kind Newline at a rest f g = let q : a ≤ at = g.0 in f a (at + 1) (omega arith) g.1
 drop_kind Indent at a rest f g = g
 drop_kind Dedent at a rest f g = g

@@ -38,22 +38,31 @@ written_end : (p : Pen) (ls : List Lexeme) → written p (ls ++ lexeme k.End 0 �
 written_end p [] = refl
 written_end p (l ∷ ls) = ap (λ z. mark p l ++ z) (written_end (moved p l) ls)
 
-pub text_written : (w v : Writer) (m : Module) → w.text ≡ [] → pen_of w ≡ first_pen → v ≡ put_all w (in_order false (pieces m.body)) → v.text ≡ module_text m
+pub text_written : (w v : Writer) (m : Module) → w.text ≡ [] → pen_of w ≡ first_pen →
+    v ≡ put_all w (in_order false (pieces m.body)) → v.text ≡ module_text m
 text_written w v m e f h =
     ap (λ (z : Writer). z.text) h
     ∙ (put_text w (in_order false (pieces m.body))
-    ∙ ((λ i. e i ++ written (f i) (in_order false (pieces m.body))) ∙ sym (written_end first_pen (in_order false (pieces m.body)))))
+    ∙ ((λ i. e i ++ written (f i) (in_order false (pieces m.body))) ∙
+    sym (written_end first_pen (in_order false (pieces m.body)))))
 
 -- ---- statements
 
-resumed_cons : (short : Bool) (open' : Option ℕ) (p : Piece) (ps : List Piece) → resumed short open' (p ∷ ps) ≡ joint short open' (simple_line p) ++ (piece_lexemes p ++ resumed short (simple_line p) ps)
+resumed_cons : (short : Bool) (open' : Option ℕ) (p : Piece) (ps : List Piece) →
+    resumed short open' (p ∷ ps) ≡ joint short open' (simple_line p) ++
+    (piece_lexemes p ++ resumed short (simple_line p) ps)
 resumed_cons short None (Simple line ws) ps = append_assoc (on line ws) (ending short line ps) (in_order short ps)
 resumed_cons short None (Compound ls) ps = refl
-resumed_cons short (Some line) (Simple next ws) ps = ap (λ z. joint short (Some line) (Some next) ++ z) (append_assoc (on next ws) (ending short next ps) (in_order short ps))
+resumed_cons short (Some line) (Simple next ws) ps =
+    ap (λ z. joint short (Some line) (Some next) ++ z)
+    (append_assoc (on next ws) (ending short next ps) (in_order short ps))
 resumed_cons short (Some line) (Compound ls) ps = refl
 
-resumed_one : (short : Bool) (open' : Option ℕ) (w v u total : Writer) (xs : List Stmt) (i : ℕ) (x : Stmt) → i < length xs → x ≡ get_or xs i x → v ≡ put_all w (joint short open' (simple_line (piece x))) → u ≡ put_all v (piece_lexemes (piece x)) →
-    put_all w (resumed short open' (pieces (drop i xs))) ≡ total → put_all u (resumed short (simple_line (piece x)) (pieces (drop (i + 1) xs))) ≡ total
+resumed_one : (short : Bool) (open' : Option ℕ) (w v u total : Writer) (xs : List Stmt) (i : ℕ) (x : Stmt) →
+    i < length xs → x ≡ get_or xs i x → v ≡ put_all w (joint short open' (simple_line (piece x))) →
+    u ≡ put_all v (piece_lexemes (piece x)) →
+    put_all w (resumed short open' (pieces (drop i xs))) ≡ total →
+    put_all u (resumed short (simple_line (piece x)) (pieces (drop (i + 1) xs))) ≡ total
 resumed_one short open' w v u total xs i x l e p q h =
     let now = piece_lexemes (piece x) in
     let before = joint short open' (simple_line (piece x)) in
@@ -61,12 +70,17 @@ resumed_one short open' w v u total xs i x l e p q h =
     ap (λ z. put_all z rest) (q ∙ ap (λ z. put_all z now) p)
     ∙ (sym (put_all-append (put_all w before) now rest)
     ∙ (sym (put_all-append w before (now ++ rest))
-    ∙ (sym (ap (put_all w) (ap (λ z. resumed short open' (pieces z)) (next_item xs i x l e) ∙ resumed_cons short open' (piece x) (pieces (drop (i + 1) xs)))) ∙ h)))
+    ∙ (sym (ap (put_all w) (ap (λ z. resumed short open' (pieces z)) (next_item xs i x l e) ∙
+    resumed_cons short open' (piece x) (pieces (drop (i + 1) xs)))) ∙ h)))
 
-pub resumed_more : (short : Bool) (open' next : Option ℕ) (w v u total : Writer) (xs : List Stmt) (i : ℕ) (x : Stmt) → i < length xs → x ≡ get_or xs i x → next ≡ simple_line (piece x) → v ≡ put_all w (joint short open' next) → u ≡ put_all v (piece_lexemes (piece x)) →
-    put_all w (resumed short open' (pieces (drop i xs))) ≡ total → put_all u (resumed short next (pieces (drop (i + 1) xs))) ≡ total
+pub resumed_more : (short : Bool) (open' next : Option ℕ) (w v u total : Writer) (xs : List Stmt) (i : ℕ) (x : Stmt) →
+    i < length xs → x ≡ get_or xs i x → next ≡ simple_line (piece x) → v ≡ put_all w (joint short open' next) →
+    u ≡ put_all v (piece_lexemes (piece x)) →
+    put_all w (resumed short open' (pieces (drop i xs))) ≡ total →
+    put_all u (resumed short next (pieces (drop (i + 1) xs))) ≡ total
 resumed_more short open' next w v u total xs i x l e n p q h =
-    ap (λ z. put_all u (resumed short z (pieces (drop (i + 1) xs)))) n ∙ resumed_one short open' w v u total xs i x l e (p ∙ ap (λ z. put_all w (joint short open' z)) n) q h
+    ap (λ z. put_all u (resumed short z (pieces (drop (i + 1) xs)))) n ∙
+    resumed_one short open' w v u total xs i x l e (p ∙ ap (λ z. put_all w (joint short open' z)) n) q h
 
 -- `if`, or `elif` where it isn't the first
 abbrev pub arms_from : ℕ → List Arm → List Lexeme
@@ -81,7 +95,8 @@ pub arms_if : (as' : List Arm) → arms_from keyword.IF as' ≡ lexemes_if as'
 arms_if [] = refl
 arms_if (a ∷ as') = refl
 
-pub arms_more : (word : ℕ) (w u total : Writer) (xs : List Arm) (i : ℕ) (x : Arm) → i < length xs → x ≡ get_or xs i x → u ≡ put_all w (lexemes_arm (k.Keyword word) x) →
+pub arms_more : (word : ℕ) (w u total : Writer) (xs : List Arm) (i : ℕ) (x : Arm) → i < length xs → x ≡ get_or xs i x →
+    u ≡ put_all w (lexemes_arm (k.Keyword word) x) →
     put_all w (arms_from word (drop i xs)) ≡ total → put_all u (arms_from keyword.ELIF (drop (i + 1) xs)) ≡ total
 arms_more word w u total xs i x l e q h =
     let rest = drop (i + 1) xs in
@@ -91,7 +106,8 @@ arms_more word w u total xs i x l e q h =
     ∙ (sym (ap (λ z. put_all w (arms_from word z)) (next_item xs i x l e)) ∙ h)))
 
 -- a head with its colon
-pub headed : (line : ℕ) (w a b : Writer) (ks : Words) → a ≡ spell line w ks → b ≡ put a (lexeme (k.Op operator.COLON) line) → b ≡ put_all w (head line ks)
+pub headed : (line : ℕ) (w a b : Writer) (ks : Words) → a ≡ spell line w ks →
+    b ≡ put a (lexeme (k.Op operator.COLON) line) → b ≡ put_all w (head line ks)
 headed line w a b ks e f =
     f ∙ (ap (λ z. put z (lexeme (k.Op operator.COLON) line)) e
     ∙ sym (on_spelled line w (ks ++ k.Op operator.COLON ∷ []) ∙ spell_append line w ks (k.Op operator.COLON ∷ [])))
@@ -99,7 +115,8 @@ headed line w a b ks e f =
 pub followed : (w a b : Writer) (ls ms : List Lexeme) → a ≡ put_all w ls → b ≡ put_all a ms → b ≡ put_all w (ls ++ ms)
 followed w a b ls ms e f = f ∙ (ap (λ z. put_all z ms) e ∙ sym (put_all-append w ls ms))
 
-pub handlers_more : (w u total : Writer) (xs : List Handler) (i : ℕ) (x : Handler) → i < length xs → x ≡ get_or xs i x → u ≡ put_all w (lexemes_handler x) →
+pub handlers_more : (w u total : Writer) (xs : List Handler) (i : ℕ) (x : Handler) → i < length xs → x ≡ get_or xs i x
+    → u ≡ put_all w (lexemes_handler x) →
     put_all w (lexemes_handlers (drop i xs)) ≡ total → put_all u (lexemes_handlers (drop (i + 1) xs)) ≡ total
 handlers_more w u total xs i x l e q h =
     let rest = lexemes_handlers (drop (i + 1) xs) in
@@ -107,27 +124,40 @@ handlers_more w u total xs i x l e q h =
     ∙ (sym (put_all-append w (lexemes_handler x) rest)
     ∙ (sym (ap (λ z. put_all w (lexemes_handlers z)) (next_item xs i x l e)) ∙ h))
 
-pub handler_written : (w a b u : Writer) (h : Handler) (ss : List Stmt) → ss ≡ h.body → a ≡ spell h.line w (k.Keyword keyword.EXCEPT ∷ expr_or h.test ++ led_or (k.Keyword keyword.AS) h.target) → b ≡ put a (lexeme (k.Op operator.COLON) h.line) → u ≡ put_all b (block_lexemes h.line (pieces ss)) →
+pub handler_written : (w a b u : Writer) (h : Handler) (ss : List Stmt) → ss ≡ h.body →
+    a ≡ spell h.line w (k.Keyword keyword.EXCEPT ∷ expr_or h.test ++ led_or (k.Keyword keyword.AS) h.target) →
+    b ≡ put a (lexeme (k.Op operator.COLON) h.line) → u ≡ put_all b (block_lexemes h.line (pieces ss)) →
     u ≡ put_all w (lexemes_handler h)
 handler_written w a b u h ss same e f g =
     let ks = k.Keyword keyword.EXCEPT ∷ expr_or h.test ++ led_or (k.Keyword keyword.AS) h.target in
-    followed w b u (head h.line ks) (block_lexemes h.line (pieces h.body)) (headed h.line w a b ks e f) (g ∙ ap (λ z. put_all b (block_lexemes h.line (pieces z))) same)
+    followed w b u (head h.line ks) (block_lexemes h.line (pieces h.body)) (headed h.line w a b ks e f)
+    (g ∙ ap (λ z. put_all b (block_lexemes h.line (pieces z))) same)
 
-pub for_written : (w a b d u : Writer) (line : ℕ) (target over : Expr) (body ss : List Stmt) (other : Option Clause) (s : Stmt) → s ≡ stmt.For line target over body other → ss ≡ body →
-    a ≡ spell line w (k.Keyword keyword.FOR ∷ words target ++ k.Keyword keyword.IN ∷ words over) → b ≡ put a (lexeme (k.Op operator.COLON) line) → d ≡ put_all b (block_lexemes line (pieces ss)) → u ≡ put_all d (lexemes_clause_or (k.Keyword keyword.ELSE) other) →
+pub for_written : (w a b d u : Writer) (line : ℕ) (target over : Expr) (body ss : List Stmt) (other : Option Clause)
+    (s : Stmt) → s ≡ stmt.For line target over body other → ss ≡ body →
+    a ≡ spell line w (k.Keyword keyword.FOR ∷ words target ++ k.Keyword keyword.IN ∷ words over) →
+    b ≡ put a (lexeme (k.Op operator.COLON) line) → d ≡ put_all b (block_lexemes line (pieces ss)) →
+    u ≡ put_all d (lexemes_clause_or (k.Keyword keyword.ELSE) other) →
     u ≡ put_all w (piece_lexemes (piece s))
 for_written w a b d u line target over body ss other s is same e f g h =
     let ks = k.Keyword keyword.FOR ∷ words target ++ k.Keyword keyword.IN ∷ words over in
     let block = block_lexemes line (pieces body) in
-    followed w d u (head line ks ++ block) (lexemes_clause_or (k.Keyword keyword.ELSE) other) (followed w b d (head line ks) block (headed line w a b ks e f) (g ∙ ap (λ z. put_all b (block_lexemes line (pieces z))) same)) h
+    followed w d u (head line ks ++ block) (lexemes_clause_or (k.Keyword keyword.ELSE) other)
+    (followed w b d (head line ks) block (headed line w a b ks e f)
+    (g ∙ ap (λ z. put_all b (block_lexemes line (pieces z))) same)) h
     ∙ sym (ap (λ z. put_all w (piece_lexemes z)) (ap piece is ∙ piece_for line target over body other))
 
-pub try_written : (w a b d u : Writer) (first : Clause) (each hs : List Handler) (other last : Option Clause) (s : Stmt) → s ≡ stmt.Try first each other last → hs ≡ each →
-    a ≡ put_all w (lexemes_clause (k.Keyword keyword.TRY) first) → b ≡ put_all a (lexemes_handlers hs) → d ≡ put_all b (lexemes_clause_or (k.Keyword keyword.ELSE) other) → u ≡ put_all d (lexemes_clause_or (k.Keyword keyword.FINALLY) last) →
+pub try_written : (w a b d u : Writer) (first : Clause) (each hs : List Handler) (other last : Option Clause)
+    (s : Stmt) → s ≡ stmt.Try first each other last → hs ≡ each →
+    a ≡ put_all w (lexemes_clause (k.Keyword keyword.TRY) first) → b ≡ put_all a (lexemes_handlers hs) →
+    d ≡ put_all b (lexemes_clause_or (k.Keyword keyword.ELSE) other) →
+    u ≡ put_all d (lexemes_clause_or (k.Keyword keyword.FINALLY) last) →
     u ≡ put_all w (piece_lexemes (piece s))
 try_written w a b d u first each hs other last s is same e f g h =
     let begin = lexemes_clause (k.Keyword keyword.TRY) first in
     let catch = lexemes_handlers each in
     let more = lexemes_clause_or (k.Keyword keyword.ELSE) other in
-    followed w d u (begin ++ catch ++ more) (lexemes_clause_or (k.Keyword keyword.FINALLY) last) (followed w b d (begin ++ catch) more (followed w a b begin catch e (f ∙ ap (λ z. put_all a (lexemes_handlers z)) same)) g) h
+    followed w d u (begin ++ catch ++ more) (lexemes_clause_or (k.Keyword keyword.FINALLY) last)
+    (followed w b d (begin ++ catch) more
+    (followed w a b begin catch e (f ∙ ap (λ z. put_all a (lexemes_handlers z)) same)) g) h
     ∙ sym (ap (λ z. put_all w (piece_lexemes z)) (ap piece is ∙ piece_try first each other last))

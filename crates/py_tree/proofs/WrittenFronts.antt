@@ -35,31 +35,43 @@ some : (p q : Bool) → p ≡ true → (p || q) ≡ true
 some p q e = rw e refl
 
 -- what begins with a byte of a class that lacks line ends, blanks and the signs of comments and joints is a token
-pub front : (f : ℕ → Bool) (size : ℕ) (c : Character) (cs : List Character) → f c.byte ≡ true → f 10 ≡ false → f 32 ≡ false → f 9 ≡ false → f 12 ≡ false → f 35 ≡ false → f 92 ≡ false →
+pub front : (f : ℕ → Bool) (size : ℕ) (c : Character) (cs : List Character) → f c.byte ≡ true → f 10 ≡ false →
+    f 32 ≡ false → f 9 ≡ false → f 12 ≡ false → f 35 ≡ false → f 92 ≡ false →
     word_at size (c ∷ cs) ≡ token_front size c cs (c ∷ cs)
 unfolding word_at
 front f size c cs h e1 e2 e3 e4 e5 e6 =
     skip (c.byte == 10) _ _ (other f c.byte 10 h e1)
-    ∙ (skip (holds class.Blank c.byte) _ _ (none (c.byte == 32) (c.byte == 9) (c.byte == 12) (other f c.byte 32 h e2) (other f c.byte 9 h e3) (other f c.byte 12 h e4))
+    ∙ (skip (holds class.Blank c.byte) _ _
+    (none (c.byte == 32) (c.byte == 9) (c.byte == 12) (other f c.byte 32 h e2) (other f c.byte 9 h e3)
+    (other f c.byte 12 h e4))
     ∙ (skip (c.byte == 35) _ _ (other f c.byte 35 h e5) ∙ skip (c.byte == 92) _ _ (other f c.byte 92 h e6)))
 
-pub front_name : (size : ℕ) (c : Character) (cs : List Character) → holds class.NameStart c.byte ≡ true → word_at size (c ∷ cs) ≡ token_word size c (name_at c.line (c ∷ cs))
-front_name size c cs h = front (holds class.NameStart) size c cs h refl refl refl refl refl refl ∙ hit (holds class.NameStart c.byte) _ _ h
+pub front_name : (size : ℕ) (c : Character) (cs : List Character) → holds class.NameStart c.byte ≡ true →
+    word_at size (c ∷ cs) ≡ token_word size c (name_at c.line (c ∷ cs))
+front_name size c cs h = front (holds class.NameStart) size c cs h refl refl refl refl refl refl ∙
+    hit (holds class.NameStart c.byte) _ _ h
 
-pub front_string : (size : ℕ) (c : Character) (cs : List Character) → holds class.NameStart c.byte ≡ false → holds class.Quote c.byte ≡ true → word_at size (c ∷ cs) ≡ token_word size c (string_at c.line (prefix false false) (c ∷ cs))
-front_string size c cs n h = front (holds class.Quote) size c cs h refl refl refl refl refl refl ∙ (skip (holds class.NameStart c.byte) _ _ n ∙ hit (holds class.Quote c.byte) _ _ h)
+pub front_string : (size : ℕ) (c : Character) (cs : List Character) → holds class.NameStart c.byte ≡ false →
+    holds class.Quote c.byte ≡ true → word_at size (c ∷ cs) ≡ token_word size c
+    (string_at c.line (prefix false false) (c ∷ cs))
+front_string size c cs n h = front (holds class.Quote) size c cs h refl refl refl refl refl refl ∙
+    (skip (holds class.NameStart c.byte) _ _ n ∙ hit (holds class.Quote c.byte) _ _ h)
 
-pub front_number : (size : ℕ) (c : Character) (cs : List Character) → holds class.NameStart c.byte ≡ false → holds ten c.byte ≡ true → word_at size (c ∷ cs) ≡ token_word size c (number_at c.line (c ∷ cs))
+pub front_number : (size : ℕ) (c : Character) (cs : List Character) → holds class.NameStart c.byte ≡ false →
+    holds ten c.byte ≡ true → word_at size (c ∷ cs) ≡ token_word size c (number_at c.line (c ∷ cs))
 front_number size c cs n h =
     front (holds ten) size c cs h refl refl refl refl refl refl
     ∙ (skip (holds class.NameStart c.byte) _ _ n
-    ∙ (skip (holds class.Quote c.byte) _ _ (neither (c.byte == 39) (c.byte == 34) (other (holds ten) c.byte 39 h refl) (other (holds ten) c.byte 34 h refl))
+    ∙ (skip (holds class.Quote c.byte) _ _
+    (neither (c.byte == 39) (c.byte == 34) (other (holds ten) c.byte 39 h refl)
+    (other (holds ten) c.byte 34 h refl))
     ∙ hit (holds ten c.byte || _) _ _ (some (holds ten c.byte) _ h)))
   where
     neither : (p q : Bool) → p ≡ false → q ≡ false → (p || q) ≡ false
     neither p q e f = rw (e, f) refl
 
-pub quiet_by : (f : ℕ → Bool) → f 10 ≡ false → f 13 ≡ false → f 239 ≡ false → (bs : List ℕ) → list_all f bs ≡ true → quiet bs ≡ true
+pub quiet_by : (f : ℕ → Bool) → f 10 ≡ false → f 13 ≡ false → f 239 ≡ false → (bs : List ℕ) → list_all f bs ≡ true →
+    quiet bs ≡ true
 quiet_by f e1 e2 e3 [] h = refl
 quiet_by f e1 e2 e3 (b ∷ bs) h =
     let each = both (f b) (list_all f bs) h in
@@ -71,15 +83,21 @@ pub bytes_row : (at line : ℕ) (bs : List ℕ) → map byte_of (row at line bs)
 bytes_row at line [] = refl
 bytes_row at line (b ∷ bs) = ap (λ z. b ∷ z) (bytes_row (at + 1) line bs)
 
-run_len_row : (c : Class) (at line : ℕ) (bs : List ℕ) (e : Character) (rest : List Character) → list_all (holds c) bs ≡ true → holds c e.byte ≡ false → run_len c (row at line bs ++ e ∷ rest) ≡ length (row at line bs)
+run_len_row : (c : Class) (at line : ℕ) (bs : List ℕ) (e : Character) (rest : List Character) →
+    list_all (holds c) bs ≡ true → holds c e.byte ≡ false →
+    run_len c (row at line bs ++ e ∷ rest) ≡ length (row at line bs)
 run_len_row c at line [] e rest h n = skip (holds c e.byte) _ _ n
 run_len_row c at line (b ∷ bs) e rest h n =
     let each = both (holds c b) (list_all (holds c) bs) h in
     let more = run_len_row c (at + 1) line bs e rest each.1 n in
     hit (holds c b) _ _ each.0 ∙ omega (arith, more)
 
-pub run_row : (c : Class) (at line : ℕ) (bs : List ℕ) (e : Character) (rest : List Character) → list_all (holds c) bs ≡ true → holds c e.byte ≡ false → run c (row at line bs ++ e ∷ rest) ≡ row at line bs
-run_row c at line bs e rest h n = ap (λ z. take z (row at line bs ++ e ∷ rest)) (run_len_row c at line bs e rest h n) ∙ take-append_seam (row at line bs) (e ∷ rest)
+pub run_row : (c : Class) (at line : ℕ) (bs : List ℕ) (e : Character) (rest : List Character) →
+    list_all (holds c) bs ≡ true → holds c e.byte ≡ false → run c (row at line bs ++ e ∷ rest) ≡ row at line bs
+run_row c at line bs e rest h n = ap (λ z. take z (row at line bs ++ e ∷ rest)) (run_len_row c at line bs e rest h n) ∙
+    take-append_seam (row at line bs) (e ∷ rest)
 
-pub after_row : (c : Class) (at line : ℕ) (bs : List ℕ) (e : Character) (rest : List Character) → list_all (holds c) bs ≡ true → holds c e.byte ≡ false → after c (row at line bs ++ e ∷ rest) ≡ e ∷ rest
-after_row c at line bs e rest h n = ap (λ z. drop z (row at line bs ++ e ∷ rest)) (run_len_row c at line bs e rest h n) ∙ drop-append_seam (row at line bs) (e ∷ rest)
+pub after_row : (c : Class) (at line : ℕ) (bs : List ℕ) (e : Character) (rest : List Character) →
+    list_all (holds c) bs ≡ true → holds c e.byte ≡ false → after c (row at line bs ++ e ∷ rest) ≡ e ∷ rest
+after_row c at line bs e rest h n = ap (λ z. drop z (row at line bs ++ e ∷ rest)) (run_len_row c at line bs e rest h n)
+    ∙ drop-append_seam (row at line bs) (e ∷ rest)

@@ -14,8 +14,12 @@ use Rattle.py_tree.specs.inner.Laid.{is_name}
 use Rattle.py_tree.proofs.WrittenRows.{row, Spelt, entry, both}
 use Rattle.py_tree.proofs.WrittenFronts.{front_name, quiet_by, bytes_row, run_row, after_row}
 
-name_row : (line' at line from to later : ℕ) (bs : List ℕ) (rest : List Character) → list_all (holds class.Name) bs ≡ true →
-    name_at line' (row at line bs ++ character 32 from to later ∷ rest) ≡ Ok (name_kind (word_number keywords bs) bs, character 32 from to later ∷ rest)
+name_row : (line' at line from to later : ℕ) (bs : List ℕ) (rest : List Character) →
+    list_all (holds class.Name) bs ≡ true →
+    name_at line' (row at line bs ++ character 32 from to later ∷ rest) ≡ Ok (
+      name_kind (word_number keywords bs) bs,
+      character 32 from to later ∷ rest,
+    )
 unfolding name_at
 name_row line' at line from to later bs rest h =
     let front = run_row class.Name at line bs (character 32 from to later) rest h refl in
@@ -34,4 +38,5 @@ spelt_name (b ∷ bs) h n =
     entry (k.Name (b ∷ bs)) b bs (quiet_by (holds class.Name) refl refl refl (b ∷ bs) all)
     (λ size at line from to later rest.
     front_name size (character b at (at + 1) line) (row (at + 1) line bs ++ character 32 from to later ∷ rest) each.0
-    ∙ ap (token_word size (character b at (at + 1) line)) (name_row line at line from to later (b ∷ bs) rest all ∙ ap (λ z. Ok (name_kind z (b ∷ bs), character 32 from to later ∷ rest)) n))
+    ∙ ap (token_word size (character b at (at + 1) line)) (name_row line at line from to later (b ∷ bs) rest all ∙
+    ap (λ z. Ok (name_kind z (b ∷ bs), character 32 from to later ∷ rest)) n))

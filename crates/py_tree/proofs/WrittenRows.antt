@@ -45,7 +45,8 @@ quiet_byte false false true e = absurd (cc)
 quiet_byte false true r e = absurd (cc)
 quiet_byte true q r e = absurd (cc)
 
-pub plain-row : (at line : ℕ) (bs more : List ℕ) → quiet bs ≡ true → plain at line (bs ++ more) ≡ row at line bs ++ plain (ahead at bs) line more
+pub plain-row : (at line : ℕ) (bs more : List ℕ) → quiet bs ≡ true →
+    plain at line (bs ++ more) ≡ row at line bs ++ plain (ahead at bs) line more
 plain-row at line [] more q = refl
 plain-row at line (b ∷ bs) more q =
     let each = both (is_quiet b) (quiet bs) q in
@@ -60,7 +61,9 @@ word_for _ t = Plain t
 
 -- at a row of these bytes, before a blank, a word of this kind is read
 abbrev pub ReadsAs : TokenKind → List ℕ → Type 0
-ReadsAs kind bytes = (size at line from to after : ℕ) (rest : List Character) → word_at size (row at line bytes ++ character 32 from to after ∷ rest) ≡ Ok (word_for kind (token_at kind (place at from line)), character 32 from to after ∷ rest)
+ReadsAs kind bytes = (size at line from to after : ℕ) (rest : List Character) →
+    word_at size (row at line bytes ++ character 32 from to after ∷ rest) ≡ Ok
+    (word_for kind (token_at kind (place at from line)), character 32 from to after ∷ rest)
 
 -- how a token of this kind is spelled
 pub record Spelt (kind : TokenKind) (bytes : List ℕ) : Type 0 where
@@ -70,5 +73,6 @@ pub record Spelt (kind : TokenKind) (bytes : List ℕ) : Type 0 where
   pub quiet : quiet bytes ≡ true
   pub reads : ReadsAs kind bytes
 
-pub entry : (kind : TokenKind) (b : ℕ) (bs : List ℕ) → quiet (b ∷ bs) ≡ true → ReadsAs kind (b ∷ bs) → Spelt kind (b ∷ bs)
+pub entry : (kind : TokenKind) (b : ℕ) (bs : List ℕ) → quiet (b ∷ bs) ≡ true → ReadsAs kind (b ∷ bs) →
+    Spelt kind (b ∷ bs)
 entry kind b bs q r = record { first = b; others = bs; is = refl; quiet = q; reads = r }

@@ -78,35 +78,52 @@ each_operator = (
                                                           (
                                                             entry _ _ _ refl (λ size at line from to after rest. refl),
                                                             (
-                                                              entry _ _ _ refl (λ size at line from to after rest. refl),
+                                                              entry _ _ _ refl (λ size at line from to after rest.
+                                                                  refl),
                                                               (
-                                                                entry _ _ _ refl (λ size at line from to after rest. refl),
+                                                                entry _ _ _ refl (λ size at line from to after rest.
+                                                                    refl),
                                                                 (
-                                                                  entry _ _ _ refl (λ size at line from to after rest. refl),
+                                                                  entry _ _ _ refl (λ size at line from to after rest.
+                                                                      refl),
                                                                   (
-                                                                    entry _ _ _ refl (λ size at line from to after rest. refl),
+                                                                    entry _ _ _ refl (λ size at line from to after
+                                                                        rest. refl),
                                                                     (
-                                                                      entry _ _ _ refl (λ size at line from to after rest. refl),
+                                                                      entry _ _ _ refl (λ size at line from to after
+                                                                          rest. refl),
                                                                       (
-                                                                        entry _ _ _ refl (λ size at line from to after rest. refl),
+                                                                        entry _ _ _ refl (λ size at line from to after
+                                                                            rest. refl),
                                                                         (
-                                                                          entry _ _ _ refl (λ size at line from to after rest. refl),
+                                                                          entry _ _ _ refl (λ size at line from to
+                                                                              after rest. refl),
                                                                           (
-                                                                            entry _ _ _ refl (λ size at line from to after rest. refl),
+                                                                            entry _ _ _ refl (λ size at line from to
+                                                                                after rest. refl),
                                                                             (
-                                                                              entry _ _ _ refl (λ size at line from to after rest. refl),
+                                                                              entry _ _ _ refl (λ size at line from to
+                                                                                  after rest. refl),
                                                                               (
-                                                                                entry _ _ _ refl (λ size at line from to after rest. refl),
+                                                                                entry _ _ _ refl (λ size at line from
+                                                                                    to after rest. refl),
                                                                                 (
-                                                                                  entry _ _ _ refl (λ size at line from to after rest. refl),
+                                                                                  entry _ _ _ refl (λ size at line from
+                                                                                      to after rest. refl),
                                                                                   (
-                                                                                    entry _ _ _ refl (λ size at line from to after rest. refl),
+                                                                                    entry _ _ _ refl (λ size at line
+                                                                                        from to after rest. refl),
                                                                                     (
-                                                                                      entry _ _ _ refl (λ size at line from to after rest. refl),
+                                                                                      entry _ _ _ refl (λ size at line
+                                                                                          from to after rest. refl),
                                                                                       (
-                                                                                        entry _ _ _ refl (λ size at line from to after rest. refl),
+                                                                                        entry _ _ _ refl (λ size at
+                                                                                            line from to after rest.
+                                                                                            refl),
                                                                                         (
-                                                                                          entry _ _ _ refl (λ size at line from to after rest. refl),
+                                                                                          entry _ _ _ refl (λ size at
+                                                                                              line from to after rest.
+                                                                                              refl),
                                                                                           tt,
                                                                                         ),
                                                                                       ),
@@ -217,7 +234,8 @@ each_keyword = (
                                                           (
                                                             entry _ _ _ refl (λ size at line from to after rest. refl),
                                                             (
-                                                              entry _ _ _ refl (λ size at line from to after rest. refl),
+                                                              entry _ _ _ refl (λ size at line from to after rest.
+                                                                  refl),
                                                               tt,
                                                             ),
                                                           ),
@@ -252,11 +270,13 @@ each_keyword = (
 )
 
 -- the word of a number that the table has
-of_table : (kind : ℕ → TokenKind) (table : List (List ℕ × ℕ)) (n : ℕ) → EachSpelt kind table → has_number table n ≡ true → Spelt (kind n) (word_of table n)
+of_table : (kind : ℕ → TokenKind) (table : List (List ℕ × ℕ)) (n : ℕ) → EachSpelt kind table →
+    has_number table n ≡ true → Spelt (kind n) (word_of table n)
 of_table kind [] n each h = absurd (cc)
 of_table kind (w ∷ ws) n each h = go (w.1 == n) refl h (λ g. of_table kind ws n each.1 g)
   where
-    go : (b : Bool) → (w.1 == n) ≡ b → (b || has_number ws n) ≡ true → (has_number ws n ≡ true → Spelt (kind n) (word_of ws n)) → Spelt (kind n) (if b then w.0 else word_of ws n)
+    go : (b : Bool) → (w.1 == n) ≡ b → (b || has_number ws n) ≡ true →
+        (has_number ws n ≡ true → Spelt (kind n) (word_of ws n)) → Spelt (kind n) (if b then w.0 else word_of ws n)
     go true e h more = subst (λ m. Spelt (kind m) w.0) (eqb-true w.1 n e) each.0
     go false e h more = more h
 

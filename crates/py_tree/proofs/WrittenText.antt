@@ -49,29 +49,41 @@ plain_joints zero = refl
 plain_joints (suc n) = plain_joints n
 
 plain_gap : (fresh : Bool) (line depth to : ℕ) → all_plain (gap (pen line depth fresh) to) ≡ true
-plain_gap true line depth to = plain-append (replicate (to - line) 10) (replicate depth 32) (plain-replicate (to - line) 10 refl) (plain-replicate depth 32 refl)
+plain_gap true line depth to = plain-append (replicate (to - line) 10) (replicate depth 32)
+    (plain-replicate (to - line) 10 refl) (plain-replicate depth 32 refl)
 plain_gap false line depth to = plain_joints (to - line)
 
 plain_worded : (p : Pen) (to : ℕ) (kind : TokenKind) → IsWord kind → all_plain (worded p to (spelling kind)) ≡ true
-plain_worded p to kind w = plain-append (gap p to ++ spelling kind) (32 ∷ []) (plain-append (gap p to) (spelling kind) (plain_gap p.fresh p.line p.depth to) (quiet_plain (spelling kind) (spelt kind w).quiet)) refl
+plain_worded p to kind w = plain-append (gap p to ++ spelling kind) (32 ∷ [])
+    (plain-append (gap p to) (spelling kind) (plain_gap p.fresh p.line p.depth to)
+    (quiet_plain (spelling kind) (spelt kind w).quiet)) refl
 
 -- what is written of such lexemes, by any pen, has plain bytes
 abbrev Plainly : List Lexeme → Type 0
 Plainly ls = (p : Pen) (line m : ℕ) (s : Stand) → IsLaid line m s ls → all_plain (written p ls) ≡ true
 
-plainly_word : (p : Pen) (to line m : ℕ) (s : Stand) (kind : TokenKind) (ls : List Lexeme) → IsWord kind → IsLaid line m s ls → Plainly ls → all_plain (worded p to (spelling kind) ++ written (pen to p.depth false) ls) ≡ true
-plainly_word p to line m s kind ls w laid more = plain-append (worded p to (spelling kind)) (written (pen to p.depth false) ls) (plain_worded p to kind w) (more (pen to p.depth false) line m s laid)
+plainly_word : (p : Pen) (to line m : ℕ) (s : Stand) (kind : TokenKind) (ls : List Lexeme) → IsWord kind →
+    IsLaid line m s ls → Plainly ls → all_plain (worded p to (spelling kind) ++ written (pen to p.depth false) ls) ≡
+    true
+plainly_word p to line m s kind ls w laid more =
+    plain-append (worded p to (spelling kind)) (written (pen to p.depth false) ls) (plain_worded p to kind w)
+    (more (pen to p.depth false) line m s laid)
 
-plainly_one : (kind : TokenKind) (p : Pen) (at line m : ℕ) (s : Stand) (ls : List Lexeme) → Stands kind at line m s (λ x d t. IsLaid x d t ls) (ls ≡ []) → Plainly ls → all_plain (written p (lexeme kind at ∷ ls)) ≡ true
+plainly_one : (kind : TokenKind) (p : Pen) (at line m : ℕ) (s : Stand) (ls : List Lexeme) →
+    Stands kind at line m s (λ x d t. IsLaid x d t ls) (ls ≡ []) → Plainly ls →
+    all_plain (written p (lexeme kind at ∷ ls)) ≡ true
 plainly_one k.Newline p at line m s ls h more = more (pen (p.line + 1) p.depth true) _ _ _ h.1
 plainly_one k.Indent p at line m s ls h more = more (pen p.line (p.depth + 1) p.fresh) _ _ _ h.1
 plainly_one k.Dedent p at line m s ls h more = more (pen p.line (p.depth - 1) p.fresh) _ _ _ h.2
 plainly_one k.End p at line m s ls h more = subst (λ z. all_plain (written p z) ≡ true) (sym h.2) refl
-plainly_one (k.Name bs) p at line m s ls h more = plainly_word p at at m (Within (brackets s)) (k.Name bs) ls h.1 h.2 more
-plainly_one (k.Keyword x) p at line m s ls h more = plainly_word p at at m (Within (brackets s)) (k.Keyword x) ls h.1 h.2 more
+plainly_one (k.Name bs) p at line m s ls h more = plainly_word p at at m (Within (brackets s)) (k.Name bs) ls h.1 h.2
+    more
+plainly_one (k.Keyword x) p at line m s ls h more = plainly_word p at at m (Within (brackets s)) (k.Keyword x) ls h.1
+    h.2 more
 plainly_one (k.Int x) p at line m s ls h more = plainly_word p at at m (Within (brackets s)) (k.Int x) ls h.1 h.2 more
 plainly_one (k.Str bs) p at line m s ls h more = plainly_word p at at m (Within (brackets s)) (k.Str bs) ls h.1 h.2 more
-plainly_one (k.Op x) p at line m s ls h more = plainly_word p at at m (Within (after_word (k.Op x) (brackets s))) (k.Op x) ls h.1 h.2 more
+plainly_one (k.Op x) p at line m s ls h more = plainly_word p at at m (Within (after_word (k.Op x) (brackets s)))
+    (k.Op x) ls h.1 h.2 more
 plainly_one (k.Other x) p at line m s ls h more = absurd h
 
 plainly : (ls : List Lexeme) → Plainly ls
@@ -87,17 +99,20 @@ plain_byte true q e = absurd (cc)
 
 characters-plain : (at line : ℕ) (bs : List ℕ) → all_plain bs ≡ true → characters at line bs ≡ plain at line bs
 characters-plain at line [] h = refl
-characters-plain at line (b ∷ []) h = let e = plain_byte (b == 13) (b == 239) (both (is_plain b) true h).0 in rw (e.0) refl
+characters-plain at line (b ∷ []) h = let e = plain_byte (b == 13) (b == 239) (both (is_plain b) true h).0 in
+    rw (e.0) refl
 characters-plain at line (b ∷ c ∷ bs) h =
     let each = both (is_plain b) (all_plain (c ∷ bs)) h in
     let e = plain_byte (b == 13) (b == 239) each.0 in
-    rw (e.0) (ap (λ z. character b at (at + 1) line ∷ z) (characters-plain (at + 1) (line_after b line) (c ∷ bs) each.1))
+    rw (e.0) (ap (λ z. character b at (at + 1) line ∷ z)
+    (characters-plain (at + 1) (line_after b line) (c ∷ bs) each.1))
 
 no_mark : (bs : List ℕ) → all_plain bs ≡ true → has_mark bs ≡ false
 no_mark [] h = refl
 no_mark (a ∷ []) h = refl
 no_mark (a ∷ b ∷ []) h = refl
-no_mark (a ∷ b ∷ c ∷ bs) h = let e = plain_byte (a == 13) (a == 239) (both (is_plain a) (all_plain (b ∷ c ∷ bs)) h).0 in rw (e.1) refl
+no_mark (a ∷ b ∷ c ∷ bs) h = let e = plain_byte (a == 13) (a == 239) (both (is_plain a) (all_plain (b ∷ c ∷ bs)) h).0
+    in rw (e.1) refl
 
 text_plain : (bs : List ℕ) → all_plain bs ≡ true → text_characters bs ≡ plain 0 1 bs
 unfolding text_characters
@@ -105,18 +120,24 @@ text_plain bs h = skip (has_mark bs) _ _ (no_mark bs h) ∙ characters-plain 0 1
 
 -- ---- texts
 
-lexed_comes : (size : ℕ) (cs : List Character) (ts : List Token) → Comes size (place size size (last_line 1 cs)) (mode.Fresh 0) (0 ∷ []) cs ts → lexed size cs ≡ Ok ts
+lexed_comes : (size : ℕ) (cs : List Character) (ts : List Token) →
+    Comes size (place size size (last_line 1 cs)) (mode.Fresh 0) (0 ∷ []) cs ts → lexed size cs ≡ Ok ts
 unfolding lexed laid
 lexed_comes size cs ts h =
     let last = place size size (last_line 1 cs) in
     ap (λ c. to_come last c.stop (mode.Fresh 0) (0 ∷ []) c.words) (h.cuts (length cs) (omega arith)) ∙ h.come
 
 -- Lexemes that are laid out well are read again from what is written of them.
-pub reads_again : (ls : List Lexeme) → IsLaid 1 0 Start ls → (ts : List Token) × (tokens_of_text (written first_pen ls) ≡ Ok ts) × (map lexeme_of ts ≡ ls)
+pub reads_again : (ls : List Lexeme) → IsLaid 1 0 Start ls →
+    (ts : List Token) × (tokens_of_text (written first_pen ls) ≡ Ok ts) × (map lexeme_of ts ≡ ls)
 unfolding tokens_of_text
 reads_again ls h =
     let text = written first_pen ls in
     let size = length text in
     let cs = plain 0 1 text in
-    let found = again size (place size size (last_line 1 cs)) ls 1 0 0 Start [] h (refl, refl) 0 in
-    (found.0, ap (lexed size) (text_plain text (plainly ls first_pen 1 0 Start h)) ∙ lexed_comes size cs found.0 found.1, found.2)
+    let found = again size (place size size (last_line 1 cs)) ls 1 0 0 Start [] h (refl, refl) 0 in (
+      found.0,
+      ap (lexed size) (text_plain text (plainly ls first_pen 1 0 Start h)) ∙
+          lexed_comes size cs found.0 found.1,
+      found.2,
+    )

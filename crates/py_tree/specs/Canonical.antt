@@ -1,4 +1,5 @@
--- The canonical text of a module: its lexemes, in the order of the grammar, as they are written. States `docs/LANGUAGE.md`, "The canonical text".
+-- The canonical text of a module: its lexemes, in the order of the grammar, as they are written. States
+-- `docs/LANGUAGE.md`, "The canonical text".
 -- All words of a simple statement stand on its line, and those of a clause up to its colon on the clause's line.
 use Rattle.std.specs.Prelude.{ℕ, ◌==◌, Bool, true, false, ◌||◌, if◌then◌else◌, List, [], ◌∷◌, ◌++◌, map, Option, Some, None}
 use Rattle.py_tokens.specs.declared.keyword.TheConstants as keyword
@@ -35,9 +36,11 @@ pub data Piece : Type 0 where
   Simple : ℕ → Words → Piece
   Compound : List Lexeme → Piece
 
--- What ends a simple statement of this line before these: a semicolon before a simple one on the same line, or on any line where all stand on their clause's line.
+-- What ends a simple statement of this line before these: a semicolon before a simple one on the same line, or on any
+-- line where all stand on their clause's line.
 abbrev pub ending : Bool → ℕ → List Piece → List Lexeme
-ending short line (Simple next ws ∷ ps) = if short || (line == next) then on line (Op operator.SEMICOLON ∷ []) else newline
+ending short line (Simple next ws ∷ ps) = if short || (line == next) then on line (Op operator.SEMICOLON ∷ []) else
+    newline
 ending short line _ = newline
 
 abbrev pub in_order : Bool → List Piece → List Lexeme
@@ -152,13 +155,20 @@ stmt_piece (open'.Del l es) = Simple l (Keyword keyword.DEL ∷ commas (all es))
 stmt_piece (open'.Global l ns) = Simple l (Keyword keyword.GLOBAL ∷ commas (map name_words ns))
 stmt_piece (open'.Assert l e f) = Simple l (Keyword keyword.ASSERT ∷ words e ++ led_or (Op operator.COMMA) f)
 stmt_piece (open'.Import l is) = Simple l (Keyword keyword.IMPORT ∷ commas (map imported_words is))
-stmt_piece (open'.From l m is) = Simple l (Keyword keyword.FROM ∷ Name m ∷ Keyword keyword.IMPORT ∷ commas (map imported_words is))
+stmt_piece (open'.From l m is) = Simple l
+    (Keyword keyword.FROM ∷ Name m ∷ Keyword keyword.IMPORT ∷ commas (map imported_words is))
 stmt_piece (open'.If fs d) = Compound (arms fs ++ clause_or (Keyword keyword.ELSE) d)
 stmt_piece (open'.While f d) = Compound (f (Keyword keyword.WHILE) ++ clause_or (Keyword keyword.ELSE) d)
-stmt_piece (open'.For l t e ps d) = Compound (head l (Keyword keyword.FOR ∷ words t ++ Keyword keyword.IN ∷ words e) ++ block_lexemes l ps ++ clause_or (Keyword keyword.ELSE) d)
-stmt_piece (open'.Try f hs d e) = Compound (f (Keyword keyword.TRY) ++ all_lexemes hs ++ clause_or (Keyword keyword.ELSE) d ++ clause_or (Keyword keyword.FINALLY) e)
-stmt_piece (open'.Def l n as' ps) = Compound (head l (Keyword keyword.DEF ∷ Name n ∷ round (commas (map param_words as'))) ++ block_lexemes l ps)
-stmt_piece (open'.Class l n e ps) = Compound (head l (Keyword keyword.CLASS ∷ Name n ∷ base_words e) ++ block_lexemes l ps)
+stmt_piece (open'.For l t e ps d) = Compound
+    (head l (Keyword keyword.FOR ∷ words t ++ Keyword keyword.IN ∷ words e) ++ block_lexemes l ps ++ clause_or
+    (Keyword keyword.ELSE) d)
+stmt_piece (open'.Try f hs d e) = Compound
+    (f (Keyword keyword.TRY) ++ all_lexemes hs ++ clause_or (Keyword keyword.ELSE) d ++ clause_or
+    (Keyword keyword.FINALLY) e)
+stmt_piece (open'.Def l n as' ps) = Compound
+    (head l (Keyword keyword.DEF ∷ Name n ∷ round (commas (map param_words as'))) ++ block_lexemes l ps)
+stmt_piece (open'.Class l n e ps) = Compound
+    (head l (Keyword keyword.CLASS ∷ Name n ∷ base_words e) ++ block_lexemes l ps)
 
 abbrev pub arm_lexemes : open'.Arm-F Piece Headless Headless (List Lexeme) → Headless
 arm_lexemes a = λ k. head a.line (k ∷ words a.test) ++ block_lexemes a.line a.body
@@ -167,7 +177,8 @@ abbrev pub clause_lexemes : open'.Clause-F Piece Headless Headless (List Lexeme)
 clause_lexemes c = λ k. head c.line (k ∷ []) ++ block_lexemes c.line c.body
 
 abbrev pub handler_lexemes : open'.Handler-F Piece Headless Headless (List Lexeme) → List Lexeme
-handler_lexemes h = head h.line (Keyword keyword.EXCEPT ∷ expr_or h.test ++ led_or (Keyword keyword.AS) h.target) ++ block_lexemes h.line h.body
+handler_lexemes h = head h.line (Keyword keyword.EXCEPT ∷ expr_or h.test ++ led_or (Keyword keyword.AS) h.target) ++
+    block_lexemes h.line h.body
 
 unfoldable pub piece : Stmt → Piece
 piece = fold-Stmt Piece Headless Headless (List Lexeme) stmt_piece arm_lexemes clause_lexemes handler_lexemes

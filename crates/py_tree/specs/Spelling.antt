@@ -1,5 +1,7 @@
--- The words that spell an expression, without their lines. States `docs/LANGUAGE.md`, "The canonical text" and "Grammar".
--- Parentheses stand where the tree has them, round each tuple, and nowhere else. No comma trails but that of a tuple of one.
+-- The words that spell an expression, without their lines. States `docs/LANGUAGE.md`, "The canonical text" and
+-- "Grammar".
+-- Parentheses stand where the tree has them, round each tuple, and nowhere else. No comma trails but that of a tuple of
+-- one.
 use Rattle.std.specs.Prelude.{List, [], ◌∷◌, ◌++◌, Option, Some, None}
 use Rattle.py_tokens.specs.declared.keyword.TheConstants as keyword
 use Rattle.py_tokens.specs.declared.operator.TheConstants as operator

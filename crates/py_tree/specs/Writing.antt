@@ -38,7 +38,8 @@ abbrev pub joints : ℕ → List ℕ
 joints zero = []
 joints (suc n) = 92 ∷ 10 ∷ joints n
 
--- What leads to a word on this line: before a logical line empty lines, and a space for each open block; within it line ends after backslashes.
+-- What leads to a word on this line: before a logical line empty lines, and a space for each open block; within it line
+-- ends after backslashes.
 abbrev pub gap : Pen → ℕ → List ℕ
 gap p line = if p.fresh then replicate (line - p.line) 10 ++ replicate p.depth 32 else joints (line - p.line)
 

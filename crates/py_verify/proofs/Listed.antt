@@ -54,7 +54,9 @@ class_is c ListKind n x h = absurd (cc)
 class_is c Dict n x h = absurd (cc)
 class_is c Cell n x h = absurd (cc)
 class_is c Function n x h = absurd (cc)
-class_is c Class n x h = let p = and_parts (n == c) (is_empty x) h in let e : n ≡ c = eqb-true n c p.0 in ap (λ m. record { kind = Class; number = m; bytes = x }) e ∙ ap (λ y. record { kind = Class; number = c; bytes = y }) (empty_is x p.1)
+class_is c Class n x h = let p = and_parts (n == c) (is_empty x) h in let e : n ≡ c = eqb-true n c p.0 in
+    ap (λ m. record { kind = Class; number = m; bytes = x }) e ∙
+    ap (λ y. record { kind = Class; number = c; bytes = y }) (empty_is x p.1)
 class_is c Instance n x h = absurd (cc)
 class_is c Method n x h = absurd (cc)
 class_is c IterKind n x h = absurd (cc)
@@ -77,25 +79,31 @@ cells_made (r ∷ rs) h =
     let p = and_parts (is_cell_by r.kind r.number) (are_cells rs) h in
     let e : r ≡ cell_root r.bytes = cell_is r.kind r.number r.bytes p.0 in
     let m = cells_made rs p.1 in
-    subst (λ y. (y ∷ rs ≡ map cell_root (cells_of (y ∷ rs))) × (texts_of (y ∷ rs) ≡ [])) (sym e) (ap (λ l. cell_root r.bytes ∷ l) m.0, m.1)
+    subst (λ y. (y ∷ rs ≡ map cell_root (cells_of (y ∷ rs))) × (texts_of (y ∷ rs) ≡ [])) (sym e)
+    (ap (λ l. cell_root r.bytes ∷ l) m.0, m.1)
 
 texts_made : (rs : List Root) → are_texts rs ≡ true → IsMade rs
 unfolding texts_of cells_of
 texts_made [] h = refl
 texts_made (r ∷ rs) h = by_test (is_text_by r.kind r.number) refl h (texts_made rs)
   where
-    by_test : (b : Bool) → is_text_by r.kind r.number ≡ b → (if b then are_texts rs else are_cells (r ∷ rs)) ≡ true → (are_texts rs ≡ true → IsMade rs) → IsMade (r ∷ rs)
-    by_test true e g more = subst (λ y. IsMade (y ∷ rs)) (sym (text_is r.kind r.number r.bytes e)) (ap (λ l. text_root r.bytes ∷ l) (more g))
-    by_test false e g more = let m = cells_made (r ∷ rs) g in m.0 ∙ ap (λ ts. map text_root ts ++ map cell_root (cells_of (r ∷ rs))) (sym m.1)
+    by_test : (b : Bool) → is_text_by r.kind r.number ≡ b → (if b then are_texts rs else are_cells (r ∷ rs)) ≡ true →
+        (are_texts rs ≡ true → IsMade rs) → IsMade (r ∷ rs)
+    by_test true e g more = subst (λ y. IsMade (y ∷ rs)) (sym (text_is r.kind r.number r.bytes e))
+        (ap (λ l. text_root r.bytes ∷ l) (more g))
+    by_test false e g more = let m = cells_made (r ∷ rs) g in m.0 ∙
+        ap (λ ts. map text_root ts ++ map cell_root (cells_of (r ∷ rs))) (sym m.1)
 
-classes_made : (n c : ℕ) (rs : List Root) → are_classes n c rs ≡ true → rs ≡ class_roots c n ++ map text_root (texts_of rs) ++ map cell_root (cells_of rs)
+classes_made : (n c : ℕ) (rs : List Root) → are_classes n c rs ≡ true →
+    rs ≡ class_roots c n ++ map text_root (texts_of rs) ++ map cell_root (cells_of rs)
 unfolding texts_of cells_of
 classes_made zero c rs h = texts_made rs h
 classes_made (suc n) c [] h = absurd (cc)
 classes_made (suc n) c (r ∷ rs) h =
     let p = and_parts (is_class_by c r.kind r.number r.bytes) (are_classes n (c + 1) rs) h in
     let e : r ≡ class_root c = class_is c r.kind r.number r.bytes p.0 in
-    subst (λ y. y ∷ rs ≡ class_roots c (suc n) ++ map text_root (texts_of (y ∷ rs)) ++ map cell_root (cells_of (y ∷ rs))) (sym e) (ap (λ l. class_root c ∷ l) (classes_made n (c + 1) rs p.1))
+    subst (λ y. y ∷ rs ≡ class_roots c (suc n) ++ map text_root (texts_of (y ∷ rs)) ++ map cell_root
+    (cells_of (y ∷ rs))) (sym e) (ap (λ l. class_root c ∷ l) (classes_made n (c + 1) rs p.1))
 
 roots_made : (rs : List Root) → are_roots rs ≡ true → rs ≡ roots_of (texts_of rs) (names_of rs)
 unfolding texts_of cells_of
@@ -105,7 +113,8 @@ roots_made (r ∷ rs) h =
     let q = and_parts (is_cell_by r.kind r.number) (is_empty r.bytes) p.0 in
     let e : r ≡ cell_root r.bytes = cell_is r.kind r.number r.bytes q.0 in
     let z : r ≡ cell_root [] = e ∙ ap cell_root (empty_is r.bytes q.1) in
-    subst (λ y. y ∷ rs ≡ roots_of (texts_of (y ∷ rs)) (names_of (y ∷ rs))) (sym z) (ap (λ l. cell_root [] ∷ l) (classes_made 20 0 rs p.1))
+    subst (λ y. y ∷ rs ≡ roots_of (texts_of (y ∷ rs)) (names_of (y ∷ rs))) (sym z)
+    (ap (λ l. cell_root [] ∷ l) (classes_made 20 0 rs p.1))
 
 -- the other way: what is made so passes
 cells_pass : (ns : List (List ℕ)) → are_cells (map cell_root ns) ≡ true
@@ -131,9 +140,11 @@ roots_pass ts ns = classes_pass 20 0 (map text_root ts ++ map cell_root ns) (tex
 short_from : (rs : List Root) → any_long rs ≡ false → All (λ t. length t ≤ 1048576) (texts_of rs)
 unfolding texts_of
 short_from [] h = All-nil (λ t. length t ≤ 1048576)
-short_from (r ∷ rs) h = let p = or_parts (is_long_by r.kind r.bytes) (any_long rs) h in by_kind r.kind r.bytes p.0 (short_from rs p.1)
+short_from (r ∷ rs) h = let p = or_parts (is_long_by r.kind r.bytes) (any_long rs) h in
+    by_kind r.kind r.bytes p.0 (short_from rs p.1)
   where
-    by_kind : (k : Kind) (x : List ℕ) → is_long_by k x ≡ false → All (λ t. length t ≤ 1048576) (texts_of rs) → All (λ t. length t ≤ 1048576) (texts_by k x (texts_of rs))
+    by_kind : (k : Kind) (x : List ℕ) → is_long_by k x ≡ false → All (λ t. length t ≤ 1048576) (texts_of rs) →
+        All (λ t. length t ≤ 1048576) (texts_by k x (texts_of rs))
     by_kind Str x p more = All-cons (λ t. length t ≤ 1048576) x (texts_of rs) (ltb-false 1048576 (length x) p) more
     by_kind Tuple x p more = more
     by_kind ListKind x p more = more
@@ -153,8 +164,11 @@ unfolding texts_of
 short_to [] h = refl
 short_to (r ∷ rs) h = by_kind r.kind r.bytes (short_to rs) h
   where
-    by_kind : (k : Kind) (x : List ℕ) → (All (λ t. length t ≤ 1048576) (texts_of rs) → any_long rs ≡ false) → All (λ t. length t ≤ 1048576) (texts_by k x (texts_of rs)) → (is_long_by k x || any_long rs) ≡ false
-    by_kind Str x more g = or_from (nat_lt 1048576 (length x)) (any_long rs) (le-ltb 1048576 (length x) (All-head (λ t. length t ≤ 1048576) x (texts_of rs) g)) (more (All-tail (λ t. length t ≤ 1048576) x (texts_of rs) g))
+    by_kind : (k : Kind) (x : List ℕ) → (All (λ t. length t ≤ 1048576) (texts_of rs) → any_long rs ≡ false) →
+        All (λ t. length t ≤ 1048576) (texts_by k x (texts_of rs)) → (is_long_by k x || any_long rs) ≡ false
+    by_kind Str x more g = or_from (nat_lt 1048576 (length x)) (any_long rs)
+        (le-ltb 1048576 (length x) (All-head (λ t. length t ≤ 1048576) x (texts_of rs) g))
+        (more (All-tail (λ t. length t ≤ 1048576) x (texts_of rs) g))
     by_kind Tuple x more g = more g
     by_kind ListKind x more g = more g
     by_kind Dict x more g = more g
@@ -184,12 +198,14 @@ not_listed ok rs is bad = (λ e. absurd (cc), λ f. let h = formed_roots rs f in
 pub too_many : (rs : List Root) → 65535 < length rs → IsTrue false ↔ IsFormed rs
 too_many rs lt = (λ e. absurd (cc), λ f. let h = f.few in absurd (omega (arith, h, lt)))
 
-pub all_formed : (ok long : Bool) (rs : List Root) → ok ≡ are_roots rs → ok ≡ true → length rs ≤ 65535 → long ≡ any_long rs → IsTrue (not long) ↔ IsFormed rs
+pub all_formed : (ok long : Bool) (rs : List Root) → ok ≡ are_roots rs → ok ≡ true → length rs ≤ 65535 →
+    long ≡ any_long rs → IsTrue (not long) ↔ IsFormed rs
 all_formed ok true rs is good le e = (λ h. absurd (cc), λ f. let h = formed_short rs f in absurd (cc))
 all_formed ok false rs is good le e = (λ h. formed_from rs (sym is ∙ good) (omega (arith, le)) (sym e), λ f. refl)
 
 -- a list that has its form begins with a cell, and the other cells are those of the names
-pub names_rest : (rs : List Root) (r : Root) (rest : List Root) → rs ≡ r ∷ rest → IsFormed rs → names_of rs ≡ cells_of rest
+pub names_rest : (rs : List Root) (r : Root) (rest : List Root) → rs ≡ r ∷ rest → IsFormed rs →
+    names_of rs ≡ cells_of rest
 unfolding cells_of
 names_rest rs r rest e f =
     let h : are_roots (r ∷ rest) ≡ true = ap are_roots (sym e) ∙ formed_roots rs f in
@@ -205,24 +221,40 @@ pub roots_formed : (rs : List Root) → HasRoots rs → IsFormed rs
 roots_formed rs h = record { form = h.form; few = h.few; short = h.short }
 
 -- what is left to test of a list that has its form
-pub roots_apart : (rs : List Root) (r : Root) (rest : List Root) → rs ≡ r ∷ rest → differ [] (cells_of rest) ≡ false → HasRoots rs → ⊥
+pub roots_apart : (rs : List Root) (r : Root) (rest : List Root) → rs ≡ r ∷ rest → differ [] (cells_of rest) ≡ false →
+    HasRoots rs → ⊥
 roots_apart rs r rest e no_two h =
     let n = names_rest rs r rest e (roots_formed rs h) in
     let a : differ [] (cells_of rest) ≡ true = ap (differ []) (sym n) ∙ h.apart in
     absurd (cc)
 
-pub roots_main : (ok : Bool) (rs : List Root) (r : Root) (rest : List Root) (names : List (List ℕ)) → rs ≡ r ∷ rest → names ≡ cells_of rest → (IsTrue ok ↔ (IsTrue (has own_name names) → last_or None (texts_of rs) ≡ Some main_name)) → ok ≡ false → HasRoots rs → ⊥
+pub roots_main : (ok : Bool) (rs : List Root) (r : Root) (rest : List Root) (names : List (List ℕ)) → rs ≡ r ∷ rest →
+    names ≡ cells_of rest → (IsTrue ok ↔ (IsTrue (has own_name names) → last_or None (texts_of rs) ≡ Some main_name)) →
+    ok ≡ false → HasRoots rs → ⊥
 roots_main ok rs r rest names e is iff bad h =
     let n = names_rest rs r rest e (roots_formed rs h) in
-    let m : IsTrue (has own_name names) → last_or None (texts_of rs) ≡ Some main_name = λ y. h.main (ap (has own_name) (n ∙ sym is) ∙ y) in
+    let m : IsTrue (has own_name names) → last_or None (texts_of rs) ≡ Some main_name = λ y.
+    h.main (ap (has own_name) (n ∙ sym is) ∙ y) in
     let y : IsTrue ok = iff.1 m in
     absurd (cc)
 
-pub roots_right : (ok : Bool) (rs : List Root) (r : Root) (rest : List Root) (names : List (List ℕ)) → rs ≡ r ∷ rest → IsFormed rs → names ≡ cells_of rest → differ [] (cells_of rest) ≡ true → (IsTrue ok ↔ (IsTrue (has own_name names) → last_or None (texts_of rs) ≡ Some main_name)) → ok ≡ true → (names ≡ names_of rs) × HasRoots rs
+pub roots_right : (ok : Bool) (rs : List Root) (r : Root) (rest : List Root) (names : List (List ℕ)) → rs ≡ r ∷ rest →
+    IsFormed rs → names ≡ cells_of rest → differ [] (cells_of rest) ≡ true →
+    (IsTrue ok ↔ (IsTrue (has own_name names) → last_or None (texts_of rs) ≡ Some main_name)) → ok ≡ true →
+    (names ≡ names_of rs) × HasRoots rs
 roots_right ok rs r rest names e f is apart iff good =
     let n = names_rest rs r rest e f in
-    let m = iff.0 good in
-    (is ∙ sym n, record { form = f.form; few = f.few; short = f.short; apart = ap (differ []) n ∙ apart; main = λ y. m (ap (has own_name) (is ∙ sym n) ∙ y) })
+    let m = iff.0 good in (
+      is ∙ sym n,
+      record {
+        form = f.form;
+        few = f.few;
+        short = f.short;
+        apart = ap (differ []) n ∙ apart;
+        main = λ y.
+            m (ap (has own_name) (is ∙ sym n) ∙ y);
+      },
+    )
 
 -- a loop over the classes
 abbrev Passes : ℕ → List Root → List Root → Type 0
@@ -232,25 +264,36 @@ left_over : (c : ℕ) → c < 20 → 20 - c ≡ suc (20 - (c + 1))
 left_over c lt = omega (arith, lt)
 
 pub class_none : (c : ℕ) (rest all : List Root) → c < 20 → rest ≡ [] → Passes c rest all → false ≡ are_classes 20 0 all
-class_none c rest all lt e inv = sym (ap (λ n. are_classes n c []) (left_over c lt)) ∙ ap (are_classes (20 - c) c) (sym e) ∙ inv
+class_none c rest all lt e inv = sym (ap (λ n. are_classes n c []) (left_over c lt)) ∙
+    ap (are_classes (20 - c) c) (sym e) ∙ inv
 
-one_class : (c : ℕ) (rest all : List Root) (r : Root) (more : List Root) → c < 20 → rest ≡ r ∷ more → Passes c rest all → (is_class_by c r.kind r.number r.bytes && are_classes (20 - (c + 1)) (c + 1) more) ≡ are_classes 20 0 all
-one_class c rest all r more lt e inv = sym (ap (λ n. are_classes n c (r ∷ more)) (left_over c lt)) ∙ ap (are_classes (20 - c) c) (sym e) ∙ inv
+one_class : (c : ℕ) (rest all : List Root) (r : Root) (more : List Root) → c < 20 → rest ≡ r ∷ more → Passes c rest all
+    → (is_class_by c r.kind r.number r.bytes && are_classes (20 - (c + 1)) (c + 1) more) ≡ are_classes 20 0 all
+one_class c rest all r more lt e inv = sym (ap (λ n. are_classes n c (r ∷ more)) (left_over c lt)) ∙
+    ap (are_classes (20 - c) c) (sym e) ∙ inv
 
-pub class_bad : (ok : Bool) (c : ℕ) (rest all : List Root) (r : Root) (more : List Root) → c < 20 → rest ≡ r ∷ more → ok ≡ is_class_by c r.kind r.number r.bytes → ok ≡ false → Passes c rest all → false ≡ are_classes 20 0 all
-class_bad ok c rest all r more lt e is bad inv = ap (λ b. b && are_classes (20 - (c + 1)) (c + 1) more) (sym bad ∙ is) ∙ one_class c rest all r more lt e inv
+pub class_bad : (ok : Bool) (c : ℕ) (rest all : List Root) (r : Root) (more : List Root) → c < 20 → rest ≡ r ∷ more →
+    ok ≡ is_class_by c r.kind r.number r.bytes → ok ≡ false → Passes c rest all → false ≡ are_classes 20 0 all
+class_bad ok c rest all r more lt e is bad inv = ap (λ b. b && are_classes (20 - (c + 1)) (c + 1) more) (sym bad ∙ is)
+    ∙ one_class c rest all r more lt e inv
 
-pub class_more : (ok : Bool) (c : ℕ) (rest all : List Root) (r : Root) (more : List Root) → c < 20 → rest ≡ r ∷ more → ok ≡ is_class_by c r.kind r.number r.bytes → ok ≡ true → Passes c rest all → Passes (c + 1) more all
-class_more ok c rest all r more lt e is good inv = ap (λ b. b && are_classes (20 - (c + 1)) (c + 1) more) (sym good ∙ is) ∙ one_class c rest all r more lt e inv
+pub class_more : (ok : Bool) (c : ℕ) (rest all : List Root) (r : Root) (more : List Root) → c < 20 → rest ≡ r ∷ more →
+    ok ≡ is_class_by c r.kind r.number r.bytes → ok ≡ true → Passes c rest all → Passes (c + 1) more all
+class_more ok c rest all r more lt e is good inv = ap (λ b. b && are_classes (20 - (c + 1)) (c + 1) more)
+    (sym good ∙ is) ∙ one_class c rest all r more lt e inv
 
-pub class_end : (ok : Bool) (c : ℕ) (rest all : List Root) → 20 ≤ c → ok ≡ are_texts rest → Passes c rest all → ok ≡ are_classes 20 0 all
-class_end ok c rest all le is inv = let z : 20 - c ≡ 0 = omega (arith, le) in is ∙ sym (ap (λ n. are_classes n c rest) z) ∙ inv
+pub class_end : (ok : Bool) (c : ℕ) (rest all : List Root) → 20 ≤ c → ok ≡ are_texts rest → Passes c rest all →
+    ok ≡ are_classes 20 0 all
+class_end ok c rest all le is inv = let z : 20 - c ≡ 0 = omega (arith, le) in is ∙
+    sym (ap (λ n. are_classes n c rest) z) ∙ inv
 
 -- what the search for two equal names answers
-pub names_none : (v : Option (List (List ℕ))) (ns : List (List ℕ)) → v ≡ None → MatchOption v (differ [] ns ≡ false) (λ s. (s ≡ ns) × (differ [] ns ≡ true)) → differ [] ns ≡ false
+pub names_none : (v : Option (List (List ℕ))) (ns : List (List ℕ)) → v ≡ None →
+    MatchOption v (differ [] ns ≡ false) (λ s. (s ≡ ns) × (differ [] ns ≡ true)) → differ [] ns ≡ false
 names_none None ns e m = m
 names_none (Some x) ns e m = absurd (cc)
 
-pub names_some : (v : Option (List (List ℕ))) (ns x : List (List ℕ)) → v ≡ Some x → MatchOption v (differ [] ns ≡ false) (λ s. (s ≡ ns) × (differ [] ns ≡ true)) → (x ≡ ns) × (differ [] ns ≡ true)
+pub names_some : (v : Option (List (List ℕ))) (ns x : List (List ℕ)) → v ≡ Some x →
+    MatchOption v (differ [] ns ≡ false) (λ s. (s ≡ ns) × (differ [] ns ≡ true)) → (x ≡ ns) × (differ [] ns ≡ true)
 names_some None ns x e m = absurd (cc)
 names_some (Some y) ns x e m = let k : y ≡ x = cc in (sym k ∙ m.0, m.1)

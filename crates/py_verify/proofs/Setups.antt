@@ -63,7 +63,8 @@ none_from : (is : List Instr) → no_setup is ≡ true → HasNoSetup is
 none_from [] h p e = absurd (cc)
 none_from (i ∷ is) h p e = by_test (is_setup i) refl h (none_from is) p e
   where
-    by_test : (b : Bool) → is_setup i ≡ b → (if b then false else no_setup is) ≡ true → (no_setup is ≡ true → HasNoSetup is) → HasNoSetup (i ∷ is)
+    by_test : (b : Bool) → is_setup i ≡ b → (if b then false else no_setup is) ≡ true →
+        (no_setup is ≡ true → HasNoSetup is) → HasNoSetup (i ∷ is)
     by_test true a g more p e = absurd (cc)
     by_test false a g more zero e = let k : i ≡ Setup = cc in let m : is_setup i ≡ true = ap is_setup k in absurd (cc)
     by_test false a g more (suc p) e = more g p e

@@ -19,7 +19,8 @@ pub record IsPut (flags : List Bool) (list : List ℕ) (a : ℕ) : Type 0 where
   pub listed : IsListed flags list
   pub there : mem a list ≡ true
 
-pub listed_more : (flags : List Bool) (xs ys : List ℕ) (a : ℕ) → IsListed flags xs → a < length flags → ys ≡ xs ++ a ∷ [] → IsPut flags ys a
+pub listed_more : (flags : List Bool) (xs ys : List ℕ) (a : ℕ) → IsListed flags xs → a < length flags →
+    ys ≡ xs ++ a ∷ [] → IsPut flags ys a
 listed_more flags xs ys a w l e = rw e (record {
   listed = record {
     flagged = λ b f. mem_more b a xs (w.flagged b f);
@@ -38,26 +39,32 @@ listed_more flags xs ys a w l e = rw e (record {
     ]
 
 -- where there may have been no memory for it
-pub listed_try : (flags : List Bool) (xs ys : List ℕ) (a : ℕ) (b : Bool) → IsListed flags xs → a < length flags → ys ≡ cond b (xs ++ a ∷ []) xs → IsListed flags ys
+pub listed_try : (flags : List Bool) (xs ys : List ℕ) (a : ℕ) (b : Bool) → IsListed flags xs → a < length flags →
+    ys ≡ cond b (xs ++ a ∷ []) xs → IsListed flags ys
 listed_try flags xs ys a true w l e = (listed_more flags xs ys a w l e).listed
 listed_try flags xs ys a false w l e = rw e w
 
 -- the last address of the list isn't flagged any more
-pub unlisted : (flags : List Bool) (xs ys : List ℕ) (a : ℕ) → IsListed flags xs → xs ≡ ys ++ a ∷ [] → IsListed (slice_set flags a false) ys
+pub unlisted : (flags : List Bool) (xs ys : List ℕ) (a : ℕ) → IsListed flags xs → xs ≡ ys ++ a ∷ [] →
+    IsListed (slice_set flags a false) ys
 unlisted flags xs ys a w e =
     let v : IsListed flags (ys ++ a ∷ []) = subst (IsListed flags) e w in
     record {
       flagged = λ b f. elim (eqb_tells b a) [
         | inl y ↦ let l = v.reached a (mem_last a a ys ∙ ap (λ t. t || mem a ys) (same_number a)) in
-            let g : slice_index_or (slice_set flags a false) b false ≡ false = ap (λ i. slice_index_or (slice_set flags a false) i false) y.1 ∙ get_or-set_same flags a false false l in cc
-        | inr n ↦ elim (or_cases (eqb b a) (mem b ys) (sym (mem_last b a ys) ∙ v.flagged b (sym (get_or-set_other flags a b false false n.1) ∙ f))) [
-          | inl y ↦ cc
-          | inr m ↦ m
-        ]
+            let g : slice_index_or (slice_set flags a false) b false ≡ false =
+            ap (λ i. slice_index_or (slice_set flags a false) i false) y.1 ∙
+            get_or-set_same flags a false false l in cc
+        | inr n ↦ elim (or_cases (eqb b a) (mem b ys)
+            (sym (mem_last b a ys) ∙ v.flagged b (sym (get_or-set_other flags a b false false n.1) ∙ f))) [
+              | inl y ↦ cc
+              | inr m ↦ m
+            ]
       ];
       reached = λ b m. subst (λ i. b < i) (sym (length-set flags a false)) (v.reached b (mem_more b a ys m));
     }
 
 -- the last address of the list is within
-pub last_within : (flags : List Bool) (xs ys : List ℕ) (a : ℕ) → IsListed flags xs → xs ≡ ys ++ a ∷ [] → a < length flags
+pub last_within : (flags : List Bool) (xs ys : List ℕ) (a : ℕ) → IsListed flags xs → xs ≡ ys ++ a ∷ [] →
+    a < length flags
 last_within flags xs ys a w e = w.reached a (ap (mem a) e ∙ mem_last a a ys ∙ ap (λ t. t || mem a ys) (same_number a))

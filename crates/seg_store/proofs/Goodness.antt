@@ -12,7 +12,8 @@ use Rattle.py_data.proofs.Grow.{for_tracked}
 use Rattle.py_data.proofs.Short.{short_after}
 use Rattle.seg_store.specs.inner.Holding.{one_list, IsGood}
 
-pub good_some : (x : Option Rec) (o : Option (Bor Rec)) → option_copied o ≡ x → ((r : Rec) → x ≡ Some r → IsGood r) → IfSome o (λ r. IsGood r.now)
+pub good_some : (x : Option Rec) (o : Option (Bor Rec)) → option_copied o ≡ x → ((r : Rec) → x ≡ Some r → IsGood r) →
+    IfSome o (λ r. IsGood r.now)
 good_some x None e f = tt
 good_some x (Some r) e f = f r.now (sym e)
 
@@ -23,10 +24,12 @@ good_change q c r k g n =
     record {
       values = l.0;
       bytes = l.1;
-      one = subst (λ (r : Rec). one_list r.kind r.values r.bytes ≡ true) (sym n) (one_change c q (for_tracked c q.kind k.0) g.one);
+      one = subst (λ (r : Rec). one_list r.kind r.values r.bytes ≡ true) (sym n)
+          (one_change c q (for_tracked c q.kind k.0) g.one);
     }
   where
-    one_tracked : (k : Kind) (vs ws : List Value) (bs : List ℕ) → is_tracked k ≡ true → one_list k vs bs ≡ true → one_list k ws bs ≡ true
+    one_tracked : (k : Kind) (vs ws : List Value) (bs : List ℕ) → is_tracked k ≡ true → one_list k vs bs ≡ true →
+        one_list k ws bs ≡ true
     one_tracked Str vs ws bs t o = cc
     one_tracked Tuple vs ws bs t o = o
     one_tracked ListKind vs ws bs t o = o
@@ -41,7 +44,8 @@ good_change q c r k g n =
     one_tracked Lock vs ws bs t o = o
     one_tracked Thread vs ws bs t o = o
 
-    one_change : (c : Change) (q : Rec) → is_tracked q.kind ≡ true → one_list q.kind q.values q.bytes ≡ true → one_list (after c q).kind (after c q).values (after c q).bytes ≡ true
+    one_change : (c : Change) (q : Rec) → is_tracked q.kind ≡ true → one_list q.kind q.values q.bytes ≡ true →
+        one_list (after c q).kind (after c q).values (after c q).bytes ≡ true
     one_change (Set i x) q t o = one_tracked q.kind q.values _ q.bytes t o
     one_change (Push x) q t o = one_tracked q.kind q.values _ q.bytes t o
     one_change (Cut n) q t o = one_tracked q.kind q.values _ q.bytes t o

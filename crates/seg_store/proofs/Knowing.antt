@@ -33,7 +33,11 @@ record IsPart (p : Part) : Type 0 where
   stored_kept : AreStored p.kept
 
 front_of : (n : ℕ) (xs : List Addr) → (more : List ℕ) × (places xs ≡ places (take n xs) ++ more)
-front_of n xs = (places (drop n xs), sym (sym (map-append (λ (a : Addr). a.0) (take n xs) (drop n xs)) ∙ ap places (take-append-drop n xs)))
+front_of n xs = (
+  places (drop n xs),
+  sym (sym (map-append (λ (a : Addr). a.0) (take n xs) (drop n xs)) ∙
+      ap places (take-append-drop n xs)),
+)
 
 part_is : (x : Option Hand) → IsPart (part_in x)
 part_is None = record {

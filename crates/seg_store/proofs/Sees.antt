@@ -37,19 +37,25 @@ other_part k p m j d = cond-false (eqb j k) p (m.part j) (other_number j k d)
 
 -- where a segment's changes were dropped, it has locked and made nothing
 pub dropped_changed : (k : ℕ) (m m1 : Meaning) → m1 ≡ after_drop k m → (m1.part k).changed ≡ []
-dropped_changed k m m1 e = ap (λ (n : Meaning). (n.part k).changed) e ∙ ap (λ (p : Part). p.changed) (own_part k (ended (m.part k)) m)
+dropped_changed k m m1 e = ap (λ (n : Meaning). (n.part k).changed) e ∙
+    ap (λ (p : Part). p.changed) (own_part k (ended (m.part k)) m)
 
 pub dropped_made : (k : ℕ) (m m1 : Meaning) → m1 ≡ after_drop k m → (m1.part k).made ≡ []
-dropped_made k m m1 e = ap (λ (n : Meaning). (n.part k).made) e ∙ ap (λ (p : Part). p.made) (own_part k (ended (m.part k)) m)
+dropped_made k m m1 e = ap (λ (n : Meaning). (n.part k).made) e ∙
+    ap (λ (p : Part). p.made) (own_part k (ended (m.part k)) m)
 
 pub part_set : (k : ℕ) (p : Part) (m : Meaning) → PartSet k p m
 part_set k p m = record { own = own_part k p m; others = other_part k p m }
 
 -- a record that is put over the image
-over_put : (image changes : Heap) (a : ℕ) (r : Rec) (b : ℕ) → over (put_at changes a r b) (image b) ≡ put_at (overlay image changes) a r b
-over_put image changes a r b = elim (eqb b a) as (λ t. over (cond t (Some r) (changes b)) (image b) ≡ cond t (Some r) (over (changes b) (image b))) [ true ↦ refl | false ↦ refl ]
+over_put : (image changes : Heap) (a : ℕ) (r : Rec) (b : ℕ) →
+    over (put_at changes a r b) (image b) ≡ put_at (overlay image changes) a r b
+over_put image changes a r b = elim (eqb b a) as
+    (λ t. over (cond t (Some r) (changes b)) (image b) ≡ cond t (Some r) (over (changes b) (image b)))
+    [ true ↦ refl | false ↦ refl ]
 
-pub overlay_put : (image changes : Heap) (a : ℕ) (r : Rec) → overlay image (put_at changes a r) ≡ put_at (overlay image changes) a r
+pub overlay_put : (image changes : Heap) (a : ℕ) (r : Rec) →
+    overlay image (put_at changes a r) ≡ put_at (overlay image changes) a r
 overlay_put image changes a r = same_heap _ _ (over_put image changes a r)
 
 -- a record that is put where it stands
@@ -84,7 +90,8 @@ change_shows k a f m =
     let p = changed a (f (at (sees m k) a)) (m.part k) in
     let e : (with_part k p m).part k ≡ p = own_part k p m in
     record {
-      seen = ap (λ (q : Part). overlay m.image q.changes) e ∙ overlay_put m.image (m.part k).changes a (f (at (sees m k) a));
+      seen = ap (λ (q : Part). overlay m.image q.changes) e ∙
+          overlay_put m.image (m.part k).changes a (f (at (sees m k) a));
       before = ap (λ (q : Part). overlay m.image q.kept) e;
       held = ap holds e;
     }
@@ -96,14 +103,16 @@ make_shows k n r m =
     record {
       seen = ap (λ (q : Part). overlay m.image q.changes) e ∙ overlay_put m.image (m.part k).changes n r;
       before = ap (λ (q : Part). overlay m.image q.kept) e;
-      held = ap holds e ∙ same_marks _ _ (λ b. ap (λ t. mem b (m.part k).changed || t) (mem_last b n (m.part k).made) ∙ or_middle (eqb b n) (mem b (m.part k).changed) (mem b (m.part k).made));
+      held = ap holds e ∙ same_marks _ _ (λ b. ap (λ t. mem b (m.part k).changed || t) (mem_last b n (m.part k).made) ∙
+          or_middle (eqb b n) (mem b (m.part k).changed) (mem b (m.part k).made));
     }
 
 -- where the segment holds the record already
 locked_again : (k a : ℕ) (m : Meaning) → holds (m.part k) a ≡ true → LockShows k a m
 locked_again k a m h =
     let r = at (sees m k) a in
-    let e : (after_lock k a m).part k ≡ marked a (m.part k) = own_part k (locked a r (m.part k)) m ∙ cond-true (holds (m.part k) a) (marked a (m.part k)) (first_locked a r (m.part k)) h in
+    let e : (after_lock k a m).part k ≡ marked a (m.part k) = own_part k (locked a r (m.part k)) m ∙
+    cond-true (holds (m.part k) a) (marked a (m.part k)) (first_locked a r (m.part k)) h in
     record {
       seen = ap (λ (q : Part). overlay m.image q.changes) e;
       before = ap (λ (q : Part). overlay m.image q.kept) e;
@@ -118,29 +127,38 @@ none_by None e = refl
 none_by (Some r) e = cc
 
 -- where no segment holds it, it stands in the image
-locked_first : (reserved : ℕ) (m : Meaning) (k a : ℕ) → IsStore reserved m → Has (sees m k) a → holds (m.part k) a ≡ false → LockShows k a m
+locked_first : (reserved : ℕ) (m : Meaning) (k a : ℕ) → IsStore reserved m → Has (sees m k) a →
+    holds (m.part k) a ≡ false → LockShows k a m
 locked_first reserved m k a s there h =
     let r = at (sees m k) a in
     let p = m.part k in
-    let e : (after_lock k a m).part k ≡ first_locked a r p = own_part k (locked a r p) m ∙ cond-false (holds p a) (marked a p) (first_locked a r p) h in
+    let e : (after_lock k a m).part k ≡ first_locked a r p = own_part k (locked a r p) m ∙
+    cond-false (holds p a) (marked a p) (first_locked a r p) h in
     let unheld = or_parts (mem a p.changed) (mem a p.made) h in
     let is : sees m k a ≡ Some r = at_some (sees m k) a there in
     let unchanged : p.changes a ≡ None = none_by (p.changes a) (s.changes k a ∙ h) in
     let here : m.image a ≡ Some r = sym (ap (λ o. over o (m.image a)) unchanged) ∙ is in
-    let unkept : p.kept a ≡ None = none_by (p.kept a) (s.kept k a ∙ ap (λ t. t || mem a p.kept_made) unheld.0 ∙ kept_unmade reserved m k a s unheld.1) in
+    let unkept : p.kept a ≡ None = none_by (p.kept a) (s.kept k a ∙ ap (λ t. t || mem a p.kept_made) unheld.0 ∙
+    kept_unmade reserved m k a s unheld.1) in
     let was : saw m k a ≡ Some r = ap (λ o. over o (m.image a)) unkept ∙ here in
     record {
-      seen = ap (λ (q : Part). overlay m.image q.changes) e ∙ overlay_put m.image p.changes a r ∙ put_there (sees m k) a r is;
-      before = ap (λ (q : Part). overlay m.image q.kept) e ∙ overlay_put m.image p.kept a r ∙ put_there (saw m k) a r was;
-      held = ap holds e ∙ same_marks _ _ (λ b. ap (λ t. t || mem b p.made) (mem_last b a p.changed) ∙ or_assoc (eqb b a) (mem b p.changed) (mem b p.made));
+      seen = ap (λ (q : Part). overlay m.image q.changes) e ∙ overlay_put m.image p.changes a r ∙
+          put_there (sees m k) a r is;
+      before = ap (λ (q : Part). overlay m.image q.kept) e ∙ overlay_put m.image p.kept a r ∙
+          put_there (saw m k) a r was;
+      held = ap holds e ∙ same_marks _ _ (λ b. ap (λ t. t || mem b p.made) (mem_last b a p.changed) ∙
+          or_assoc (eqb b a) (mem b p.changed) (mem b p.made));
     }
   where
     front_mem : (a : ℕ) (xs ys : List ℕ) → mem a (xs ++ ys) ≡ false → mem a xs ≡ false
     front_mem a [] ys e = refl
-    front_mem a (x ∷ xs) ys e = let q = or_parts (eqb a x) (mem a (xs ++ ys)) e in ap (λ t. t || mem a xs) q.0 ∙ front_mem a xs ys q.1
+    front_mem a (x ∷ xs) ys e = let q = or_parts (eqb a x) (mem a (xs ++ ys)) e in ap (λ t. t || mem a xs) q.0 ∙
+        front_mem a xs ys q.1
 
-    kept_unmade : (reserved : ℕ) (m : Meaning) (k a : ℕ) → IsStore reserved m → mem a (m.part k).made ≡ false → mem a (m.part k).kept_made ≡ false
-    kept_unmade reserved m k a s e = let f = s.front k in front_mem a (m.part k).kept_made f.0 (ap (mem a) (sym f.1) ∙ e)
+    kept_unmade : (reserved : ℕ) (m : Meaning) (k a : ℕ) → IsStore reserved m → mem a (m.part k).made ≡ false →
+        mem a (m.part k).kept_made ≡ false
+    kept_unmade reserved m k a s e = let f = s.front k in
+        front_mem a (m.part k).kept_made f.0 (ap (mem a) (sym f.1) ∙ e)
 
 pub lock_shows : (reserved : ℕ) (m : Meaning) (k a : ℕ) → IsStore reserved m → Has (sees m k) a → LockShows k a m
 lock_shows reserved m k a s there = elim (cases_Bool (holds (m.part k) a)) [

@@ -5,7 +5,8 @@ use Rattle.seg_store.specs.declared.store.StoreFault.{StoreFault}
 use Rattle.seg_store.specs.declared.store.StoreFault.TheVariants.{Full, OutOfMemory}
 use Rattle.seg_store.specs.Extents.{Wants}
 
--- Where the heap is full, the words that were needed are those of one extent that the record, which would stand in the place
+-- Where the heap is full, the words that were needed are those of one extent that the record, which would stand in the
+-- place
 -- of another or of none, has more than that one.
 abbrev pub AsksFor : Option Rec → Rec → StoreFault → Type 0
 AsksFor o r (Full reserved need limit) = Wants o r need

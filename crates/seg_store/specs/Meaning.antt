@@ -1,4 +1,5 @@
--- What a store means: a committed image, and what each segment has in hand. States `docs/HEAP.md`, "The store of segments".
+-- What a store means: a committed image, and what each segment has in hand. States `docs/HEAP.md`, "The store of
+-- segments".
 use Rattle.std.specs.Prelude.{ℕ, Bool, cond, ◌||◌, eqb, List, [], Option, Some, None}
 use Rattle.py_data.specs.Heap.{Rec, Heap, Marks, no_records}
 use Rattle.py_data.specs.Sight.{mem, no_marks}

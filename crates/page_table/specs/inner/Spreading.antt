@@ -1,4 +1,5 @@
--- How the pages of several segments take words from below. What code and proofs say to each other; nothing public rests on it.
+-- How the pages of several segments take words from below. What code and proofs say to each other; nothing public rests
+-- on it.
 use Rattle.std.specs.Prelude.{◌≡◌, ◌≢◌, ℕ, ◌<◌, ◌≤◌, List, length, Option}
 use Rattle.page_table.specs.Pages.{over}
 use Rattle.page_table.specs.Lists.{sheet_at, word_over, has_page}

@@ -1,5 +1,6 @@
 -- What code and proofs say to each other: nothing public rests on it.
--- The lexemes of clauses and of statements one after another, as they are written. States `docs/LANGUAGE.md`, "The canonical text".
+-- The lexemes of clauses and of statements one after another, as they are written. States `docs/LANGUAGE.md`, "The
+-- canonical text".
 use Rattle.std.specs.Prelude.{ℕ, Bool, ◌==◌, ◌||◌, if◌then◌else◌, List, [], ◌∷◌, ◌++◌, Option, Some, None}
 use Rattle.py_tokens.specs.declared.keyword.TheConstants as keyword
 use Rattle.py_tokens.specs.declared.operator.TheConstants as operator
@@ -35,7 +36,8 @@ lexemes_clause_or w None = []
 lexemes_clause_or w (Some c) = lexemes_clause w c
 
 abbrev pub lexemes_handler : Handler → List Lexeme
-lexemes_handler h = head h.line (Keyword keyword.EXCEPT ∷ expr_or h.test ++ led_or (Keyword keyword.AS) h.target) ++ block_lexemes h.line (pieces h.body)
+lexemes_handler h = head h.line (Keyword keyword.EXCEPT ∷ expr_or h.test ++ led_or (Keyword keyword.AS) h.target) ++
+    block_lexemes h.line (pieces h.body)
 
 abbrev pub lexemes_handlers : List Handler → List Lexeme
 lexemes_handlers [] = []

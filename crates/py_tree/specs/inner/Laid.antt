@@ -1,5 +1,6 @@
 -- What code and proofs say to each other: nothing public rests on it.
--- Which lexemes are laid out as a text's tokens are, so that they can be written and read again. States `docs/LANGUAGE.md`, "The canonical text".
+-- Which lexemes are laid out as a text's tokens are, so that they can be written and read again. States
+-- `docs/LANGUAGE.md`, "The canonical text".
 use Rattle.std.specs.Prelude.{◌≡◌, ℕ, pos, ◌+◌, ◌-◌, ◌^◌, ◌<◌, ◌≤◌, ◌==◌, Bool, true, false, ◌&&◌, if◌then◌else◌, List, [], ◌∷◌, None, All}
 use Rattle.std.specs.List.{list_any, list_all}
 use Rattle.py_tokens.specs.declared.class.Class.TheVariants as class
@@ -52,7 +53,8 @@ MayClose Start = Unit {0}
 MayClose Dedented = Unit {0}
 MayClose _ = ⊥
 
--- Of one lexeme of this kind and line, after this line, inside so many blocks: what is asked of it, of those after it, and of the last. Those that lay lines out have no line.
+-- Of one lexeme of this kind and line, after this line, inside so many blocks: what is asked of it, of those after it,
+-- and of the last. Those that lay lines out have no line.
 abbrev pub Stands : TokenKind → ℕ → ℕ → ℕ → Stand → (ℕ → ℕ → Stand → Type 0) → Type 0 → Type 0
 Stands Newline at line depth s rest last = (s ≡ Within 0) × rest (line + 1) depth Start × (at ≡ 0)
 Stands Indent at line depth s rest last = (s ≡ Start) × rest line (depth + 1) Indented × (at ≡ 0)
@@ -62,7 +64,8 @@ Stands (Name bs) at line depth s rest last = (line ≤ at) × IsWord (Name bs) �
 Stands (Keyword n) at line depth s rest last = (line ≤ at) × IsWord (Keyword n) × rest at depth (Within (brackets s))
 Stands (Int n) at line depth s rest last = (line ≤ at) × IsWord (Int n) × rest at depth (Within (brackets s))
 Stands (Str bs) at line depth s rest last = (line ≤ at) × IsWord (Str bs) × rest at depth (Within (brackets s))
-Stands (Op n) at line depth s rest last = (line ≤ at) × IsWord (Op n) × rest at depth (Within (after_word (Op n) (brackets s)))
+Stands (Op n) at line depth s rest last =
+    (line ≤ at) × IsWord (Op n) × rest at depth (Within (after_word (Op n) (brackets s)))
 Stands (Other o) at line depth s rest last = ⊥
 
 -- Logical lines with the indentation between them, on lines that don't fall: from this line and depth on.

@@ -1,5 +1,6 @@
 -- What code and proofs say to each other: nothing public rests on it.
--- What a writer has after lexemes: their text, and where its pen stands. States `docs/LANGUAGE.md`, "The canonical text".
+-- What a writer has after lexemes: their text, and where its pen stands. States `docs/LANGUAGE.md`, "The canonical
+-- text".
 use Rattle.std.specs.Prelude.{ℕ, Bool, true, false, List, [], ◌∷◌, ◌++◌}
 use Rattle.py_tokens.specs.declared.operator.TheConstants as operator
 use Rattle.py_tokens.specs.declared.token.TokenKind.TheVariants.{Op}
@@ -17,7 +18,12 @@ with_word w line bytes = record w { text = w.text ++ worded (pen_of w) line byte
 
 -- after one more lexeme
 unfoldable pub put : Writer → Lexeme → Writer
-put w l = let p = moved (pen_of w) l in record w { text = w.text ++ mark (pen_of w) l; line = p.line; depth = p.depth; fresh = p.fresh }
+put w l = let p = moved (pen_of w) l in record w {
+  text = w.text ++ mark (pen_of w) l;
+  line = p.line;
+  depth = p.depth;
+  fresh = p.fresh;
+}
 
 abbrev pub put_all : Writer → List Lexeme → Writer
 put_all w [] = w

@@ -55,5 +55,6 @@ pub record Going (k : Limits) (code : List Instr) (t : List (Option Sh)) (w : Li
   pub long : length t ≡ length code
   pub starts : shape_at t 0 ≡ Some start
   pub least : (u : List (Option Sh)) → IsTyping k code u → Below t u
-  pub done : (q : ℕ) (i : Instr) (s : Sh) → slice_get code q ≡ Some i → shape_at t q ≡ Some s → Contains w q ⊎ RightAt k t q i s
+  pub done : (q : ℕ) (i : Instr) (s : Sh) → slice_get code q ≡ Some i → shape_at t q ≡ Some s →
+      Contains w q ⊎ RightAt k t q i s
   pub places : All (λ p. p < length code) w

@@ -16,7 +16,13 @@ part_in (Some h) = part_of h
 
 -- what a store of these records, these hands and so many segments means
 abbrev pub meaning_in : (ℕ → Option (Option Rec)) → (ℕ → Option Hand) → ℕ → Meaning
-meaning_in t s n = record { image = image_in t; part = λ k. part_in (s k); segments = n; limit = 18_446_744_073_709_551_615 }
+meaning_in t s n = record {
+  image = image_in t;
+  part = λ k. part_in (s k);
+  segments = n;
+  limit =
+      18_446_744_073_709_551_615;
+}
 
 -- Of a store with so many addresses: what a segment holds is at an address; what it has locked stands in the image,
 -- and what it has made doesn't; no record is held by two segments.

@@ -5,31 +5,36 @@ use Rattle.py_names.specs.inner.Roles.{told_all}
 use Rattle.py_names.proofs.expression.+expressions.Given as goal
 
 abbrev pub invariant-expressions-items : goal.invariant-expressions-items
-invariant-expressions-items l = (l.out ++ told_all l.role l.line l.rest ≡ l.initial.out ++ told_all l.role l.line l.items) × (tops l.rest ≤ tops l.items)
+invariant-expressions-items l = (l.out ++ told_all l.role l.line l.rest ≡ l.initial.out ++ told_all l.role l.line
+    l.items) × (tops l.rest ≤ tops l.items)
 
 abbrev pub decreases-expressions-items : goal.decreases-expressions-items
 decreases-expressions-items l = length l.rest
 
 abbrev pub invariant-keywords-items : goal.invariant-keywords-items
-invariant-keywords-items l = (l.out ++ read_keywords l.line l.before l.rest ≡ l.initial.out ++ read_keywords l.line [] l.items) × (tops_named l.rest ≤ tops_named l.items)
+invariant-keywords-items l = (l.out ++ read_keywords l.line l.before l.rest ≡ l.initial.out ++ read_keywords l.line []
+    l.items) × (tops_named l.rest ≤ tops_named l.items)
 
 abbrev pub decreases-keywords-items : goal.decreases-keywords-items
 decreases-keywords-items l = length l.rest
 
 abbrev pub invariant-links-items : goal.invariant-links-items
-invariant-links-items l = (l.out ++ read_links l.line l.rest ≡ l.initial.out ++ read_links l.line l.items) × (tops_links l.rest ≤ tops_links l.items)
+invariant-links-items l = (l.out ++ read_links l.line l.rest ≡ l.initial.out ++ read_links l.line l.items) ×
+    (tops_links l.rest ≤ tops_links l.items)
 
 abbrev pub decreases-links-items : goal.decreases-links-items
 decreases-links-items l = length l.rest
 
 abbrev pub invariant-pairs-items : goal.invariant-pairs-items
-invariant-pairs-items l = (l.out ++ read_pairs l.line l.rest ≡ l.initial.out ++ read_pairs l.line l.items) × (tops_pairs l.rest ≤ tops_pairs l.items)
+invariant-pairs-items l = (l.out ++ read_pairs l.line l.rest ≡ l.initial.out ++ read_pairs l.line l.items) ×
+    (tops_pairs l.rest ≤ tops_pairs l.items)
 
 abbrev pub decreases-pairs-items : goal.decreases-pairs-items
 decreases-pairs-items l = length l.rest
 
 abbrev pub invariant-trailers-items : goal.invariant-trailers-items
-invariant-trailers-items l = (l.out ++ read_trailers l.line l.rest ≡ l.initial.out ++ read_trailers l.line l.items) × (tops_trailers l.rest ≤ tops_trailers l.items)
+invariant-trailers-items l = (l.out ++ read_trailers l.line l.rest ≡ l.initial.out ++ read_trailers l.line l.items) ×
+    (tops_trailers l.rest ≤ tops_trailers l.items)
 
 abbrev pub decreases-trailers-items : goal.decreases-trailers-items
 decreases-trailers-items l = length l.rest

@@ -29,12 +29,20 @@ statement-returns-in-Pass t c = rw (c.in-Pass.is, says_pass c.in-Pass.field-0 c.
 
 pub statement-returns-in_ok-expression-in-Assign : goal.statement-returns-in_ok-expression-in-Assign
 statement-returns-in_ok-expression-in-Assign t c =
-    rw (c.in-Assign.is, says_assign c.in-Assign.line c.in-Assign.targets c.in-Assign.a c.args.place, ← c.as_slice.ensures)
+    rw (
+      c.in-Assign.is,
+      says_assign c.in-Assign.line c.in-Assign.targets c.in-Assign.a c.args.place,
+      ← c.as_slice.ensures,
+    )
     (two _ _ _ c.in_ok-expressions-in-Assign.ensures c.in_ok-expression-in-Assign.ensures)
 
 pub statement-returns-in_ok-expression-in-Augment-2 : goal.statement-returns-in_ok-expression-in-Augment-2
 statement-returns-in_ok-expression-in-Augment-2 t c =
-    rw (c.in-Augment.is, says_augment c.in-Augment.line c.in-Augment.target c.in-Augment.field-2 c.in-Augment.a c.args.place)
+    rw (
+      c.in-Augment.is,
+      says_augment c.in-Augment.line c.in-Augment.target c.in-Augment.field-2 c.in-Augment.a
+          c.args.place,
+    )
     (two _ _ _ c.in_ok-expression-in-Augment.ensures c.in_ok-expression-in-Augment-2.ensures)
 
 pub statement-returns-in_ok-some-in-Return : goal.statement-returns-in_ok-some-in-Return
@@ -59,20 +67,43 @@ statement-returns-in_ok-clause-in-While t c =
 
 pub statement-returns-in_ok-clause-in-For : goal.statement-returns-in_ok-clause-in-For
 statement-returns-in_ok-clause-in-For t c =
-    rw (c.in-For.is, says_for c.in-For.line c.in-For.target c.in-For.a c.in-For.body c.in-For.otherwise c.args.place, ← c.inside_loop-in-For.ensures, ← c.as_slice-in-For.ensures)
-    (four _ _ _ _ _ c.in_ok-expression-in-For.ensures c.in_ok-expression-in-For-2.ensures c.in_ok-block-in-For.ensures c.in_ok-clause-in-For.ensures)
+    rw (
+      c.in-For.is,
+      says_for c.in-For.line c.in-For.target c.in-For.a c.in-For.body c.in-For.otherwise c.args.place,
+      ← c.inside_loop-in-For.ensures,
+      ← c.as_slice-in-For.ensures,
+    )
+    (four _ _ _ _ _ c.in_ok-expression-in-For.ensures c.in_ok-expression-in-For-2.ensures c.in_ok-block-in-For.ensures
+    c.in_ok-clause-in-For.ensures)
 
 pub statement-returns-in_ok-clause-in-Try-2 : goal.statement-returns-in_ok-clause-in-Try-2
 statement-returns-in_ok-clause-in-Try-2 t c =
-    rw (c.in-Try.is, says_try c.in-Try.x c.in-Try.items c.in-Try.otherwise c.in-Try.last c.args.place, ← c.inside_clause.ensures, ← c.inside_finally.ensures, ← c.as_slice-in-Try.ensures, ← c.as_slice-in-Try-2.ensures)
-    (four _ _ _ _ _ c.in_ok-block-in-Try.ensures c.in_ok-handlers-in-Try.ensures c.in_ok-clause-in-Try.ensures c.in_ok-clause-in-Try-2.ensures)
+    rw (
+      c.in-Try.is,
+      says_try c.in-Try.x c.in-Try.items c.in-Try.otherwise c.in-Try.last c.args.place,
+      ← c.inside_clause.ensures,
+      ← c.inside_finally.ensures,
+      ← c.as_slice-in-Try.ensures,
+      ← c.as_slice-in-Try-2.ensures,
+    )
+    (four _ _ _ _ _ c.in_ok-block-in-Try.ensures c.in_ok-handlers-in-Try.ensures c.in_ok-clause-in-Try.ensures
+    c.in_ok-clause-in-Try-2.ensures)
 
 pub statement-returns-in_ok-push-in-Def : goal.statement-returns-in_ok-push-in-Def
 statement-returns-in_ok-push-in-Def t c =
-    rw (c.in-Def.is, says_def c.in-Def.line c.in-Def.name c.in-Def.items c.in-Def.body c.args.place, ← c.as_slice-in-Def.ensures, ← c.as_slice-in-Def-2.ensures)
+    rw (
+      c.in-Def.is,
+      says_def c.in-Def.line c.in-Def.name c.in-Def.items c.in-Def.body c.args.place,
+      ← c.as_slice-in-Def.ensures,
+      ← c.as_slice-in-Def-2.ensures,
+    )
     (three _ _ _ _ c.in_ok-def_head-in-Def.ensures c.in_ok-block-in-Def.ensures c.in_ok-push-in-Def.ensures)
 
 pub statement-returns-in_ok-push-in-Class : goal.statement-returns-in_ok-push-in-Class
 statement-returns-in_ok-push-in-Class t c =
-    rw (c.in-Class.is, says_class c.in-Class.line c.in-Class.name c.in-Class.base c.in-Class.body c.args.place, ← c.as_slice-in-Class.ensures)
+    rw (
+      c.in-Class.is,
+      says_class c.in-Class.line c.in-Class.name c.in-Class.base c.in-Class.body c.args.place,
+      ← c.as_slice-in-Class.ensures,
+    )
     (three _ _ _ _ c.in_ok-class_head-in-Class.ensures c.in_ok-block-in-Class.ensures c.in_ok-push-in-Class.ensures)

@@ -4,19 +4,22 @@ use Rattle.py_names.specs.Outline.{says_block, says_arms, says_handlers}
 use Rattle.py_names.proofs.statement.+statements.Given as goal
 
 abbrev pub invariant-block-items : goal.invariant-block-items
-invariant-block-items l = (l.out ++ says_block l.rest l.place ≡ l.initial.out ++ says_block l.items l.place) × (talls l.rest ≤ talls l.items)
+invariant-block-items l = (l.out ++ says_block l.rest l.place ≡ l.initial.out ++ says_block l.items l.place) ×
+    (talls l.rest ≤ talls l.items)
 
 abbrev pub decreases-block-items : goal.decreases-block-items
 decreases-block-items l = length l.rest
 
 abbrev pub invariant-arms-items : goal.invariant-arms-items
-invariant-arms-items l = (l.out ++ says_arms l.rest l.place ≡ l.initial.out ++ says_arms l.items l.place) × (tall_arms l.rest ≤ tall_arms l.items)
+invariant-arms-items l = (l.out ++ says_arms l.rest l.place ≡ l.initial.out ++ says_arms l.items l.place) ×
+    (tall_arms l.rest ≤ tall_arms l.items)
 
 abbrev pub decreases-arms-items : goal.decreases-arms-items
 decreases-arms-items l = length l.rest
 
 abbrev pub invariant-handlers-items : goal.invariant-handlers-items
-invariant-handlers-items l = (l.out ++ says_handlers l.rest l.place ≡ l.initial.out ++ says_handlers l.items l.place) × (tall_handlers l.rest ≤ tall_handlers l.items)
+invariant-handlers-items l = (l.out ++ says_handlers l.rest l.place ≡ l.initial.out ++ says_handlers l.items l.place) ×
+    (tall_handlers l.rest ≤ tall_handlers l.items)
 
 abbrev pub decreases-handlers-items : goal.decreases-handlers-items
 decreases-handlers-items l = length l.rest

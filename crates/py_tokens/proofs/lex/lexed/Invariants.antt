@@ -6,6 +6,7 @@ use Rattle.py_tokens.proofs.lex.lexed.Given as goal
 
 abbrev pub invariant-loop-turn : goal.invariant-loop-turn
 invariant-loop-turn l = record {
-  same : SameTokens l.size l.fn.chars l.out.items l.mode (reverse l.stack.items) (cut (length l.fn.chars - l._turn) l.size l.rest);
+  same : SameTokens l.size l.fn.chars l.out.items l.mode (reverse l.stack.items)
+      (cut (length l.fn.chars - l._turn) l.size l.rest);
   small : reach l.mode ≤ 8 * l._turn;
 }

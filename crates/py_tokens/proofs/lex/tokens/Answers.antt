@@ -10,12 +10,15 @@ use Rattle.py_tokens.proofs.lex.tokens.Goals as goal
 
 pub lexed-requires : goal.lexed-requires
 lexed-requires c =
-    let same : length c.as_slice.result.now ≡ length (text_characters c.args.text.now) = ap length (c.as_slice.ensures ∙ c.in_ok-chars.ensures) in
+    let same : length c.as_slice.result.now ≡ length (text_characters c.args.text.now) =
+    ap length (c.as_slice.ensures ∙ c.in_ok-chars.ensures) in
     omega (arith, same, length-text_characters c.args.text.now)
 
-exact : (c : goal.After-drop-chars-inside) → Tokenizes {X = Vec Token Global} (λ v. v.items) c.lexed.result (tokens_of_text c.args.text.now)
+exact : (c : goal.After-drop-chars-inside) → Tokenizes {X = Vec Token Global} (λ v. v.items) c.lexed.result
+    (tokens_of_text c.args.text.now)
 unfolding tokens_of_text
-exact c = subst (λ cs. Tokenizes {X = Vec Token Global} (λ v. v.items) c.lexed.result (lexed (length c.args.text.now) cs)) (c.as_slice.ensures ∙ c.in_ok-chars.ensures) c.lexed.ensures
+exact c = subst (λ cs. Tokenizes {X = Vec Token Global} (λ v. v.items) c.lexed.result
+    (lexed (length c.args.text.now) cs)) (c.as_slice.ensures ∙ c.in_ok-chars.ensures) c.lexed.ensures
 
 pub returns-clause-exact : goal.returns-clause-exact
 returns-clause-exact c = exact c

@@ -9,5 +9,6 @@ use Rattle.py_tree.proofs.block.module_text.Goals as goal
 pub returns : goal.returns
 returns c =
     c.into_text.ensures
-    ∙ text_written c.new-w.result c.statements.new.w c.args.m.now (ap (λ (z : Writer). z.text) c.new-w.ensures) (ap pen_of c.new-w.ensures)
+    ∙ text_written c.new-w.result c.statements.new.w c.args.m.now (ap (λ (z : Writer). z.text) c.new-w.ensures)
+    (ap pen_of c.new-w.ensures)
     (c.in_ok-statements.ensures ∙ ap (λ z. put_all c.new-w.result (in_order false (pieces z))) c.as_slice.ensures)

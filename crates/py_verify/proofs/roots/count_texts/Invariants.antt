@@ -3,7 +3,8 @@ use Rattle.py_code.specs.Right.{texts_of}
 use Rattle.py_verify.proofs.roots.count_texts.Given as goal
 
 abbrev pub invariant-roots : goal.invariant-roots
-invariant-roots l = (l.n + length (texts_of l.rest) ≡ length (texts_of l.roots)) × (l.n + length l.rest ≤ length l.roots)
+invariant-roots l = (l.n + length (texts_of l.rest) ≡ length (texts_of l.roots)) ×
+    (l.n + length l.rest ≤ length l.roots)
 
 abbrev pub decreases-roots : goal.decreases-roots
 decreases-roots l = length l.rest

@@ -10,5 +10,6 @@ segments-preserved c =
     let e : c.push.new.self.items ≡ c.segments.hands.items ++ c.new.result ∷ [] = search rules in
     record {
       length = let l = ap length e in let m = length-append c.segments.hands.items (c.new.result ∷ []) in omega arith;
-      empty = subst (λ (hs : List Hand). (k : ℕ) → part_in (slice_get hs k) ≡ no_part) (sym e) (hand_more c.segments.hands.items c.new.result c.segments.invariant.empty c.new.ensures);
+      empty = subst (λ (hs : List Hand). (k : ℕ) → part_in (slice_get hs k) ≡ no_part) (sym e)
+          (hand_more c.segments.hands.items c.new.result c.segments.invariant.empty c.new.ensures);
     }

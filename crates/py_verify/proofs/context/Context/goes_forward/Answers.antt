@@ -5,5 +5,6 @@ use Rattle.py_verify.proofs.context.Context.goes_forward.Goals as goal
 
 pub returns : goal.returns
 returns c =
-    let here = subst (λ is. IsTrue c.all_forward.result ↔ AllForward c.bounds.result is) c.as_slice.ensures c.all_forward.ensures in
+    let here = subst (λ is. IsTrue c.all_forward.result ↔ AllForward c.bounds.result is) c.as_slice.ensures
+    c.all_forward.ensures in
     subst (λ k. IsTrue c.all_forward.result ↔ AllForward k c.args.code.now.instrs) c.bounds.ensures here

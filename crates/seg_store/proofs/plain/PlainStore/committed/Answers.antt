@@ -6,4 +6,5 @@ use Rattle.seg_store.proofs.plain.PlainStore.committed.Goals as goal
 pub returns-in-Some-clause-good : goal.returns-in-Some-clause-good
 returns-in-Some-clause-good c =
     good_some _ c.as_ref.result c.as_ref.ensures.value
-    (λ r e. c.args.self.now.sound.good c.args.a r (ap stands (sym c.slot.ensures) ∙ ap (λ o. stands (option_copied o)) c.in-Some.is ∙ e))
+    (λ r e. c.args.self.now.sound.good c.args.a r
+    (ap stands (sym c.slot.ensures) ∙ ap (λ o. stands (option_copied o)) c.in-Some.is ∙ e))

@@ -5,16 +5,19 @@ use Rattle.seg_store.proofs.Back.{last_entry}
 use Rattle.seg_store.proofs.space.Space.undo.Goals as goal
 
 pub restore-requires : goal.restore-requires
-restore-requires c = (last_entry c.pop.new.self.items c.entries.self.journal.items c.in-Some.a c.in-Some.undo (table_heap c.entries.self.records) (search rules) c.entries.self.undoable).can
+restore-requires c = (last_entry c.pop.new.self.items c.entries.self.journal.items c.in-Some.a c.in-Some.undo
+    (table_heap c.entries.self.records) (search rules) c.entries.self.undoable).can
 
 pub invariant_of-self : goal.invariant_of-self
 invariant_of-self c = record {
   undoable = subst (IsUndoable c.pop.new.self.items) (sym c.restore.ensures)
-      (last_entry c.pop.new.self.items c.entries.self.journal.items c.in-Some.a c.in-Some.undo (table_heap c.entries.self.records) (search rules) c.entries.self.undoable).undoable;
+      (last_entry c.pop.new.self.items c.entries.self.journal.items c.in-Some.a c.in-Some.undo
+      (table_heap c.entries.self.records) (search rules) c.entries.self.undoable).undoable;
 }
 
 pub entries-preserved : goal.entries-preserved
 entries-preserved c =
     ap (taken_back c.pop.new.self.items) c.restore.ensures
-    ∙ (last_entry c.pop.new.self.items c.entries.self.journal.items c.in-Some.a c.in-Some.undo (table_heap c.entries.self.records) (search rules) c.entries.self.undoable).base
+    ∙ (last_entry c.pop.new.self.items c.entries.self.journal.items c.in-Some.a c.in-Some.undo
+    (table_heap c.entries.self.records) (search rules) c.entries.self.undoable).base
     ∙ c.entries.invariant
