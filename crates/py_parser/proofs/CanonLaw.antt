@@ -11,7 +11,8 @@ use Rattle.py_parser.specs.Statements.{IsModule}
 use Rattle.py_parser.proofs.CanonBlocks.{canonical}
 use Rattle.py_parser.proofs.LinedBlocks.{lexemes_laid}
 
-pub read_again : (text : List ℕ) (ts : List Token) (m : Module) → Bytes text → tokens_of_text text ≡ Ok ts → IsModule m ts → (us : List Token) × (tokens_of_text (module_text m) ≡ Ok us) × IsModule m us
+pub read_again : (text : List ℕ) (ts : List Token) (m : Module) → Bytes text → tokens_of_text text ≡ Ok ts →
+    IsModule m ts → (us : List Token) × (tokens_of_text (module_text m) ≡ Ok us) × IsModule m us
 read_again text ts m b e h =
     let found = reads_again (lexemes m) (lexemes_laid text ts m b e h) in
     (found.0, found.1, canonical m ts (lined_text text ts b e) h found.0 found.2)

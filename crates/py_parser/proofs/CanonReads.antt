@@ -12,7 +12,8 @@ use Rattle.py_parser.proofs.CanonWords.{Spells, Nothing, nothing}
 
 pub data Reads : List Lexeme → List Token → Type 0 where
   nil : Reads [] []
-  cons : (l : Lexeme) (t : Token) {ls : List Lexeme} {ts : List Token} → lexeme_of t ≡ l → Reads ls ts → Reads (l ∷ ls) (t ∷ ts)
+  cons : (l : Lexeme) (t : Token) {ls : List Lexeme} {ts : List Token} → lexeme_of t ≡ l → Reads ls ts →
+      Reads (l ∷ ls) (t ∷ ts)
 
 self : (ts : List Token) → Reads (map lexeme_of ts) ts
 self [] = nil
@@ -29,7 +30,8 @@ alike {ts = ts} e s = subst (λ z. Reads z ts) e s
 pub data Split (us vs : List Lexeme) : List Token → Type 0 where
   split : {ts ws : List Token} → Reads us ts → Reads vs ws → Split us vs (ts ++ ws)
 
-split_more : (l : Lexeme) (t : Token) {us vs : List Lexeme} {ts : List Token} → lexeme_of t ≡ l → Split us vs ts → Split (l ∷ us) vs (t ∷ ts)
+split_more : (l : Lexeme) (t : Token) {us vs : List Lexeme} {ts : List Token} → lexeme_of t ≡ l → Split us vs ts →
+    Split (l ∷ us) vs (t ∷ ts)
 split_more l t e (split r s) = split (cons l t e r) s
 
 pub splits : (us vs : List Lexeme) {ts : List Token} → Reads (us ++ vs) ts → Split us vs ts
@@ -46,8 +48,10 @@ only us r = alike (append-nil us) r
 pub data Leads (κ : TokenKind) (line : ℕ) (ls : List Lexeme) : List Token → Type 0 where
   leads : (p : Place) {ts : List Token} → line_kept κ p.line ≡ line → Reads ls ts → Leads κ line ls (at κ p ∷ ts)
 
-pub led_by : {κ : TokenKind} {line : ℕ} {ls : List Lexeme} {ts : List Token} → Reads (lexeme κ line ∷ ls) ts → Leads κ line ls ts
-led_by (cons l t {ls} {ts} e r) = subst (λ z. Leads z.kind z.line ls (t ∷ ts)) e (leads (place t.from t.to t.line) refl r)
+pub led_by : {κ : TokenKind} {line : ℕ} {ls : List Lexeme} {ts : List Token} → Reads (lexeme κ line ∷ ls) ts →
+    Leads κ line ls ts
+led_by (cons l t {ls} {ts} e r) = subst (λ z. Leads z.kind z.line ls (t ∷ ts)) e
+    (leads (place t.from t.to t.line) refl r)
 
 -- ---- words on a line
 
@@ -61,7 +65,8 @@ pub record OnLine (line : ℕ) (ws : Words) (ts : List Token) : Type 0 where
   pub spells : Spells ws ts
   pub starts : BeginsOn line ts
 
-on_head : {κ : TokenKind} {line : ℕ} {ws : Words} {ls : List Lexeme} {ts : List Token} → ((us : List Token) → Reads ls us → OnLine line ws us) → Leads κ line ls ts → OnLine line (κ ∷ ws) ts
+on_head : {κ : TokenKind} {line : ℕ} {ws : Words} {ls : List Lexeme} {ts : List Token} →
+    ((us : List Token) → Reads ls us → OnLine line ws us) → Leads κ line ls ts → OnLine line (κ ∷ ws) ts
 on_head f (leads p e r) = record { spells = Spells.cons _ p (f _ r).spells; starts = e }
 
 pub on_line : (line : ℕ) (ws : Words) (ts : List Token) → Reads (on line ws) ts → OnLine line ws ts
@@ -81,5 +86,6 @@ worded_more us (worded κ p f) = worded κ p f
 pub line_front : {ts : List Token} (us : List Token) → Worded ts → line_of (ts ++ us) ≡ line_of ts
 line_front us (worded κ p f) = refl
 
-pub begins_front : (line : ℕ) {ts : List Token} (us : List Token) → Worded ts → BeginsOn line (ts ++ us) → BeginsOn line ts
+pub begins_front : (line : ℕ) {ts : List Token} (us : List Token) → Worded ts → BeginsOn line (ts ++ us) →
+    BeginsOn line ts
 begins_front line us (worded κ p f) e = e

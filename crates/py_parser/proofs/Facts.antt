@@ -63,7 +63,8 @@ not_op n k.Dedent p q = refl
 not_op n k.End p q = refl
 not_op n (k.Other o) p q = refl
 
-pub not_keyword : (i n : ℕ) (kind : TokenKind) → comes i (k.Keyword n) ≡ false → comes i kind ≡ true → is_keyword n kind ≡ false
+pub not_keyword : (i n : ℕ) (kind : TokenKind) → comes i (k.Keyword n) ≡ false → comes i kind ≡ true →
+    is_keyword n kind ≡ false
 not_keyword i n (k.Keyword m) p q = apart (λ z. comes i (k.Keyword z)) n m p q
 not_keyword i n (k.Op m) p q = refl
 not_keyword i n (k.Name m) p q = refl
@@ -78,15 +79,21 @@ not_keyword i n (k.Other o) p q = refl
 le_suc : (i n : ℕ) → nat_le i n ≡ true → nat_le i (suc n) ≡ true
 le_suc i n h = grind (arith, h)
 
-some_if : (a b : Bool) (x : Construct) → (a ≡ true → b ≡ true) → is_some (if a then Some x else None) ≡ true → is_some (if b then Some x else None) ≡ true
+some_if : (a b : Bool) (x : Construct) → (a ≡ true → b ≡ true) → is_some (if a then Some x else None) ≡ true →
+    is_some (if b then Some x else None) ≡ true
 some_if true true x f h = refl
 some_if true false x f h = no (sym (f refl))
 some_if false b x f h = no (sym h)
 
 -- what begins a level begins the next
 pub comes_up : (n : ℕ) (kind : TokenKind) → comes n kind ≡ true → comes (suc n) kind ≡ true
-comes_up n (k.Op m) h = or_mono (starts n (k.Op m)) _ (starts (suc n) (k.Op m)) _ (or_mono (m == 32) _ (m == 32) _ (λ e. e) (or_mono (m == 34) _ (m == 34) _ (λ e. e) (or_mono (m == 36) _ (m == 36) _ (λ e. e) (and_mono (nat_le 3 n) _ (nat_le 3 (suc n)) (le_suc 3 n))))) (λ e. e) h
-comes_up n (k.Keyword m) h = or_mono (starts n (k.Keyword m)) _ (starts (suc n) (k.Keyword m)) _ (and_mono (nat_le 11 n) _ (nat_le 11 (suc n)) (le_suc 11 n)) (some_if _ _ _ (and_mono (nat_le 14 n) (m == 20) (nat_le 14 (suc n)) (le_suc 14 n))) h
+comes_up n (k.Op m) h = or_mono (starts n (k.Op m)) _ (starts (suc n) (k.Op m)) _
+    (or_mono (m == 32) _ (m == 32) _ (λ e. e)
+    (or_mono (m == 34) _ (m == 34) _ (λ e. e)
+    (or_mono (m == 36) _ (m == 36) _ (λ e. e) (and_mono (nat_le 3 n) _ (nat_le 3 (suc n)) (le_suc 3 n))))) (λ e. e) h
+comes_up n (k.Keyword m) h = or_mono (starts n (k.Keyword m)) _ (starts (suc n) (k.Keyword m)) _
+    (and_mono (nat_le 11 n) _ (nat_le 11 (suc n)) (le_suc 11 n))
+    (some_if _ _ _ (and_mono (nat_le 14 n) (m == 20) (nat_le 14 (suc n)) (le_suc 14 n))) h
 comes_up n (k.Name m) h = h
 comes_up n (k.Int m) h = h
 comes_up n (k.Str m) h = h
@@ -100,14 +107,17 @@ comes_up n (k.Other other.Unicode) h = h
 
 pub comes_from : (n i : ℕ) (kind : TokenKind) → comes n kind ≡ true → comes (i + n) kind ≡ true
 comes_from n zero kind h = let e : zero + n ≡ n = omega arith in subst (λ z. comes z kind ≡ true) (sym e) h
-comes_from n (suc i) kind h = let e : suc i + n ≡ suc (i + n) = omega arith in subst (λ z. comes z kind ≡ true) (sym e) (comes_up (i + n) kind (comes_from n i kind h))
+comes_from n (suc i) kind h = let e : suc i + n ≡ suc (i + n) = omega arith in
+    subst (λ z. comes z kind ≡ true) (sym e) (comes_up (i + n) kind (comes_from n i kind h))
 
 pub comes_at : (n m : ℕ) (kind : TokenKind) → n ≤ m → comes n kind ≡ true → comes m kind ≡ true
-comes_at n m kind l h = let e : m ≡ (m - n) + n = omega arith in subst (λ z. comes z kind ≡ true) (sym e) (comes_from n (m - n) kind h)
+comes_at n m kind l h = let e : m ≡ (m - n) + n = omega arith in
+    subst (λ z. comes z kind ≡ true) (sym e) (comes_from n (m - n) kind h)
 
 no_sign : (kind : TokenKind) → comes 2 kind ≡ true → is_some (sign_of kind) ≡ false
 no_sign (k.Op m) h =
-    rw (apart (λ z. comes 2 (k.Op z)) 21 m refl h) (rw (apart (λ z. comes 2 (k.Op z)) 22 m refl h) (rw (apart (λ z. comes 2 (k.Op z)) 29 m refl h) refl))
+    rw (apart (λ z. comes 2 (k.Op z)) 21 m refl h)
+    (rw (apart (λ z. comes 2 (k.Op z)) 22 m refl h) (rw (apart (λ z. comes 2 (k.Op z)) 29 m refl h) refl))
 no_sign (k.Name m) h = refl
 no_sign (k.Keyword m) h = refl
 no_sign (k.Int m) h = refl
@@ -132,9 +142,11 @@ no_head (suc (suc (suc (suc (suc (suc (suc (suc (suc zero))))))))) kind b h = re
 no_head (suc (suc (suc (suc (suc (suc (suc (suc (suc (suc zero)))))))))) kind b h = not_keyword 10 21 kind refl h
 no_head (suc (suc (suc (suc (suc (suc (suc (suc (suc (suc (suc zero))))))))))) kind b h = refl
 no_head (suc (suc (suc (suc (suc (suc (suc (suc (suc (suc (suc (suc zero)))))))))))) kind b h = refl
-no_head (suc (suc (suc (suc (suc (suc (suc (suc (suc (suc (suc (suc (suc zero))))))))))))) kind b h = not_keyword 13 20 kind refl h
+no_head (suc (suc (suc (suc (suc (suc (suc (suc (suc (suc (suc (suc (suc zero))))))))))))) kind b h =
+    not_keyword 13 20 kind refl h
 no_head (suc (suc (suc (suc (suc (suc (suc (suc (suc (suc (suc (suc (suc (suc zero)))))))))))))) kind b h = refl
-no_head (suc (suc (suc (suc (suc (suc (suc (suc (suc (suc (suc (suc (suc (suc (suc n))))))))))))))) kind b h = absurd (omega (arith, b))
+no_head (suc (suc (suc (suc (suc (suc (suc (suc (suc (suc (suc (suc (suc (suc (suc n))))))))))))))) kind b h =
+    absurd (omega (arith, b))
 
 -- ---- what follows
 
@@ -177,11 +189,15 @@ pub word_stops : (o : Operator) (l : Level) → level_of o ≡ Some l → stops 
 word_stops op.Or l h = subst (λ z. stops (below z) (first_word op.Or) ≡ true) (some_inj level.Or l h) refl
 word_stops op.And l h = subst (λ z. stops (below z) (first_word op.And) ≡ true) (some_inj level.And l h) refl
 word_stops op.Less l h = subst (λ z. stops (below z) (first_word op.Less) ≡ true) (some_inj level.Compare l h) refl
-word_stops op.Greater l h = subst (λ z. stops (below z) (first_word op.Greater) ≡ true) (some_inj level.Compare l h) refl
+word_stops op.Greater l h = subst (λ z. stops (below z) (first_word op.Greater) ≡ true) (some_inj level.Compare l h)
+    refl
 word_stops op.Equal l h = subst (λ z. stops (below z) (first_word op.Equal) ≡ true) (some_inj level.Compare l h) refl
-word_stops op.GreaterEqual l h = subst (λ z. stops (below z) (first_word op.GreaterEqual) ≡ true) (some_inj level.Compare l h) refl
-word_stops op.LessEqual l h = subst (λ z. stops (below z) (first_word op.LessEqual) ≡ true) (some_inj level.Compare l h) refl
-word_stops op.NotEqual l h = subst (λ z. stops (below z) (first_word op.NotEqual) ≡ true) (some_inj level.Compare l h) refl
+word_stops op.GreaterEqual l h = subst (λ z. stops (below z) (first_word op.GreaterEqual) ≡ true)
+    (some_inj level.Compare l h) refl
+word_stops op.LessEqual l h = subst (λ z. stops (below z) (first_word op.LessEqual) ≡ true)
+    (some_inj level.Compare l h) refl
+word_stops op.NotEqual l h = subst (λ z. stops (below z) (first_word op.NotEqual) ≡ true) (some_inj level.Compare l h)
+    refl
 word_stops op.In l h = subst (λ z. stops (below z) (first_word op.In) ≡ true) (some_inj level.Compare l h) refl
 word_stops op.NotIn l h = subst (λ z. stops (below z) (first_word op.NotIn) ≡ true) (some_inj level.Compare l h) refl
 word_stops op.Is l h = subst (λ z. stops (below z) (first_word op.Is) ≡ true) (some_inj level.Compare l h) refl
@@ -189,14 +205,17 @@ word_stops op.IsNot l h = subst (λ z. stops (below z) (first_word op.IsNot) ≡
 word_stops op.BitOr l h = subst (λ z. stops (below z) (first_word op.BitOr) ≡ true) (some_inj level.BitOr l h) refl
 word_stops op.BitXor l h = subst (λ z. stops (below z) (first_word op.BitXor) ≡ true) (some_inj level.BitXor l h) refl
 word_stops op.BitAnd l h = subst (λ z. stops (below z) (first_word op.BitAnd) ≡ true) (some_inj level.BitAnd l h) refl
-word_stops op.ShiftLeft l h = subst (λ z. stops (below z) (first_word op.ShiftLeft) ≡ true) (some_inj level.Shift l h) refl
-word_stops op.ShiftRight l h = subst (λ z. stops (below z) (first_word op.ShiftRight) ≡ true) (some_inj level.Shift l h) refl
+word_stops op.ShiftLeft l h = subst (λ z. stops (below z) (first_word op.ShiftLeft) ≡ true) (some_inj level.Shift l h)
+    refl
+word_stops op.ShiftRight l h = subst (λ z. stops (below z) (first_word op.ShiftRight) ≡ true)
+    (some_inj level.Shift l h) refl
 word_stops op.Plus l h = subst (λ z. stops (below z) (first_word op.Plus) ≡ true) (some_inj level.Sum l h) refl
 word_stops op.Minus l h = subst (λ z. stops (below z) (first_word op.Minus) ≡ true) (some_inj level.Sum l h) refl
 word_stops op.Times l h = subst (λ z. stops (below z) (first_word op.Times) ≡ true) (some_inj level.Term l h) refl
 word_stops op.Divide l h = subst (λ z. stops (below z) (first_word op.Divide) ≡ true) (some_inj level.Term l h) refl
 word_stops op.Floor l h = subst (λ z. stops (below z) (first_word op.Floor) ≡ true) (some_inj level.Term l h) refl
-word_stops op.Remainder l h = subst (λ z. stops (below z) (first_word op.Remainder) ≡ true) (some_inj level.Term l h) refl
+word_stops op.Remainder l h = subst (λ z. stops (below z) (first_word op.Remainder) ≡ true) (some_inj level.Term l h)
+    refl
 word_stops op.Power l h = no (ap is_some (sym h))
 
 pub word_links : (o : Operator) (l : Level) → level_of o ≡ Some l → links l (first_word o) ≡ true
@@ -205,7 +224,8 @@ word_links op.And l h = subst (λ z. links z (first_word op.And) ≡ true) (some
 word_links op.Less l h = subst (λ z. links z (first_word op.Less) ≡ true) (some_inj level.Compare l h) refl
 word_links op.Greater l h = subst (λ z. links z (first_word op.Greater) ≡ true) (some_inj level.Compare l h) refl
 word_links op.Equal l h = subst (λ z. links z (first_word op.Equal) ≡ true) (some_inj level.Compare l h) refl
-word_links op.GreaterEqual l h = subst (λ z. links z (first_word op.GreaterEqual) ≡ true) (some_inj level.Compare l h) refl
+word_links op.GreaterEqual l h = subst (λ z. links z (first_word op.GreaterEqual) ≡ true) (some_inj level.Compare l h)
+    refl
 word_links op.LessEqual l h = subst (λ z. links z (first_word op.LessEqual) ≡ true) (some_inj level.Compare l h) refl
 word_links op.NotEqual l h = subst (λ z. links z (first_word op.NotEqual) ≡ true) (some_inj level.Compare l h) refl
 word_links op.In l h = subst (λ z. links z (first_word op.In) ≡ true) (some_inj level.Compare l h) refl
@@ -226,35 +246,64 @@ word_links op.Remainder l h = subst (λ z. links z (first_word op.Remainder) ≡
 word_links op.Power l h = no (ap is_some (sym h))
 
 -- reading an operator and its operand
-abbrev After : Test → (Tall (List Link) → Reader (Tall (List Link))) → Level → Operator → Place → Place → Tall (List Link) → List Token → Type 0
-After next go l o p q found us = linked next go (operator_of l (first (spelled o p q ++ us))) found (spelled o p q ++ us) ≡ (next us >>= λ a. go (push_link found o a.0) a.1)
+abbrev After : Test → (Tall (List Link) → Reader (Tall (List Link))) → Level → Operator → Place → Place →
+    Tall (List Link) → List Token → Type 0
+After next go l o p q found us = linked next go (operator_of l (first (spelled o p q ++ us))) found
+    (spelled o p q ++ us) ≡ (next us >>= λ a. go (push_link found o a.0) a.1)
 
 is_rest : (us : List Token) → is_keyword 21 (first us) ≡ false → operator_rest op.Is us ≡ Ok (op.Is, us)
 is_rest us h = rw h refl
 
-pub operator_step : (next : Test) (go : Tall (List Link) → Reader (Tall (List Link))) (l : Level) (o : Operator) (p q : Place) (found : Tall (List Link)) (us : List Token) → level_of o ≡ Some l → comes (below l) (first us) ≡ true → After next go l o p q found us
+pub operator_step : (next : Test) (go : Tall (List Link) → Reader (Tall (List Link))) (l : Level) (o : Operator)
+    (p q : Place) (found : Tall (List Link)) (us : List Token) → level_of o ≡ Some l →
+    comes (below l) (first us) ≡ true → After next go l o p q found us
 unfolding keyword_at
-operator_step next go l op.Or p q found us h w = subst (λ z. After next go z op.Or p q found us) (some_inj level.Or l h) refl
-operator_step next go l op.And p q found us h w = subst (λ z. After next go z op.And p q found us) (some_inj level.And l h) refl
-operator_step next go l op.Less p q found us h w = subst (λ z. After next go z op.Less p q found us) (some_inj level.Compare l h) refl
-operator_step next go l op.Greater p q found us h w = subst (λ z. After next go z op.Greater p q found us) (some_inj level.Compare l h) refl
-operator_step next go l op.Equal p q found us h w = subst (λ z. After next go z op.Equal p q found us) (some_inj level.Compare l h) refl
-operator_step next go l op.GreaterEqual p q found us h w = subst (λ z. After next go z op.GreaterEqual p q found us) (some_inj level.Compare l h) refl
-operator_step next go l op.LessEqual p q found us h w = subst (λ z. After next go z op.LessEqual p q found us) (some_inj level.Compare l h) refl
-operator_step next go l op.NotEqual p q found us h w = subst (λ z. After next go z op.NotEqual p q found us) (some_inj level.Compare l h) refl
-operator_step next go l op.In p q found us h w = subst (λ z. After next go z op.In p q found us) (some_inj level.Compare l h) refl
-operator_step next go l op.NotIn p q found us h w = subst (λ z. After next go z op.NotIn p q found us) (some_inj level.Compare l h) refl
-operator_step next go l op.Is p q found us h w = let e = some_inj level.Compare l h in subst (λ z. After next go z op.Is p q found us) e (ap (λ r. r >>= λ o'. (next o'.1 >>= λ a. go (push_link found o'.0 a.0) a.1)) (is_rest us (not_keyword 9 21 (first us) refl (subst (λ z. comes (below z) (first us) ≡ true) (sym e) w))))
-operator_step next go l op.IsNot p q found us h w = subst (λ z. After next go z op.IsNot p q found us) (some_inj level.Compare l h) refl
-operator_step next go l op.BitOr p q found us h w = subst (λ z. After next go z op.BitOr p q found us) (some_inj level.BitOr l h) refl
-operator_step next go l op.BitXor p q found us h w = subst (λ z. After next go z op.BitXor p q found us) (some_inj level.BitXor l h) refl
-operator_step next go l op.BitAnd p q found us h w = subst (λ z. After next go z op.BitAnd p q found us) (some_inj level.BitAnd l h) refl
-operator_step next go l op.ShiftLeft p q found us h w = subst (λ z. After next go z op.ShiftLeft p q found us) (some_inj level.Shift l h) refl
-operator_step next go l op.ShiftRight p q found us h w = subst (λ z. After next go z op.ShiftRight p q found us) (some_inj level.Shift l h) refl
-operator_step next go l op.Plus p q found us h w = subst (λ z. After next go z op.Plus p q found us) (some_inj level.Sum l h) refl
-operator_step next go l op.Minus p q found us h w = subst (λ z. After next go z op.Minus p q found us) (some_inj level.Sum l h) refl
-operator_step next go l op.Times p q found us h w = subst (λ z. After next go z op.Times p q found us) (some_inj level.Term l h) refl
-operator_step next go l op.Divide p q found us h w = subst (λ z. After next go z op.Divide p q found us) (some_inj level.Term l h) refl
-operator_step next go l op.Floor p q found us h w = subst (λ z. After next go z op.Floor p q found us) (some_inj level.Term l h) refl
-operator_step next go l op.Remainder p q found us h w = subst (λ z. After next go z op.Remainder p q found us) (some_inj level.Term l h) refl
+operator_step next go l op.Or p q found us h w =
+    subst (λ z. After next go z op.Or p q found us) (some_inj level.Or l h) refl
+operator_step next go l op.And p q found us h w =
+    subst (λ z. After next go z op.And p q found us) (some_inj level.And l h) refl
+operator_step next go l op.Less p q found us h w =
+    subst (λ z. After next go z op.Less p q found us) (some_inj level.Compare l h) refl
+operator_step next go l op.Greater p q found us h w =
+    subst (λ z. After next go z op.Greater p q found us) (some_inj level.Compare l h) refl
+operator_step next go l op.Equal p q found us h w =
+    subst (λ z. After next go z op.Equal p q found us) (some_inj level.Compare l h) refl
+operator_step next go l op.GreaterEqual p q found us h w = subst (λ z. After next go z op.GreaterEqual p q found us)
+    (some_inj level.Compare l h) refl
+operator_step next go l op.LessEqual p q found us h w = subst (λ z. After next go z op.LessEqual p q found us)
+    (some_inj level.Compare l h) refl
+operator_step next go l op.NotEqual p q found us h w = subst (λ z. After next go z op.NotEqual p q found us)
+    (some_inj level.Compare l h) refl
+operator_step next go l op.In p q found us h w =
+    subst (λ z. After next go z op.In p q found us) (some_inj level.Compare l h) refl
+operator_step next go l op.NotIn p q found us h w =
+    subst (λ z. After next go z op.NotIn p q found us) (some_inj level.Compare l h) refl
+operator_step next go l op.Is p q found us h w = let e = some_inj level.Compare l h in
+    subst (λ z. After next go z op.Is p q found us) e
+    (ap (λ r. r >>= λ o'. (next o'.1 >>= λ a. go (push_link found o'.0 a.0) a.1))
+    (is_rest us (not_keyword 9 21 (first us) refl (subst (λ z. comes (below z) (first us) ≡ true) (sym e) w))))
+operator_step next go l op.IsNot p q found us h w =
+    subst (λ z. After next go z op.IsNot p q found us) (some_inj level.Compare l h) refl
+operator_step next go l op.BitOr p q found us h w =
+    subst (λ z. After next go z op.BitOr p q found us) (some_inj level.BitOr l h) refl
+operator_step next go l op.BitXor p q found us h w =
+    subst (λ z. After next go z op.BitXor p q found us) (some_inj level.BitXor l h) refl
+operator_step next go l op.BitAnd p q found us h w =
+    subst (λ z. After next go z op.BitAnd p q found us) (some_inj level.BitAnd l h) refl
+operator_step next go l op.ShiftLeft p q found us h w = subst (λ z. After next go z op.ShiftLeft p q found us)
+    (some_inj level.Shift l h) refl
+operator_step next go l op.ShiftRight p q found us h w = subst (λ z. After next go z op.ShiftRight p q found us)
+    (some_inj level.Shift l h) refl
+operator_step next go l op.Plus p q found us h w =
+    subst (λ z. After next go z op.Plus p q found us) (some_inj level.Sum l h) refl
+operator_step next go l op.Minus p q found us h w =
+    subst (λ z. After next go z op.Minus p q found us) (some_inj level.Sum l h) refl
+operator_step next go l op.Times p q found us h w =
+    subst (λ z. After next go z op.Times p q found us) (some_inj level.Term l h) refl
+operator_step next go l op.Divide p q found us h w =
+    subst (λ z. After next go z op.Divide p q found us) (some_inj level.Term l h) refl
+operator_step next go l op.Floor p q found us h w =
+    subst (λ z. After next go z op.Floor p q found us) (some_inj level.Term l h) refl
+operator_step next go l op.Remainder p q found us h w = subst (λ z. After next go z op.Remainder p q found us)
+    (some_inj level.Term l h) refl
 operator_step next go l op.Power p q found us h w = no (ap is_some (sym h))

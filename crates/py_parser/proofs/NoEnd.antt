@@ -49,7 +49,8 @@ step {t = t} {ts = ts} e n = record { none = no_or (is_end t.kind) (has_end ts) 
 
 append_none : (ts us : List Token) → has_end ts ≡ false → has_end us ≡ false → has_end (ts ++ us) ≡ false
 append_none [] us e f = f
-append_none (t ∷ ts) us e f = no_or (is_end t.kind) _ (or_left (is_end t.kind) _ e) (append_none ts us (or_right (is_end t.kind) _ e) f)
+append_none (t ∷ ts) us e f = no_or (is_end t.kind) _ (or_left (is_end t.kind) _ e)
+    (append_none ts us (or_right (is_end t.kind) _ e) f)
 
 pub no2 : {ts us : List Token} → NoEnd ts → NoEnd us → NoEnd (ts ++ us)
 no2 {ts = ts} {us = us} n m = record { none = append_none ts us n.none m.none }
@@ -154,8 +155,10 @@ mutual
   no_Trails (G.Trails.no_call _ _ _) = step refl (step refl nil)
   no_Trails (G.Trails.call _ _ h1) = step refl (no2 (no_Args h1) (step refl nil))
   no_Trails (G.Trails.generator_call _ _ h1) = step refl (no2 (no_Is h1) (step refl nil))
-  no_Trails (G.Trails.long_slice _ _ _ h1 h2) = step refl (no2 (no2 (no_Maybe h1) (step refl (no_Maybe h2))) (step refl nil))
-  no_Trails (G.Trails.slices _ _ _ h1 h2) = step refl (no2 (no2 (no_Maybe h1) (step refl (no_Maybe h2))) (step refl nil))
+  no_Trails (G.Trails.long_slice _ _ _ h1 h2) =
+      step refl (no2 (no2 (no_Maybe h1) (step refl (no_Maybe h2))) (step refl nil))
+  no_Trails (G.Trails.slices _ _ _ h1 h2) =
+      step refl (no2 (no2 (no_Maybe h1) (step refl (no_Maybe h2))) (step refl nil))
 
   no_Maybe : {i0 : Marks} {i1 : Option Expr} {ts : List Token} → Maybe i0 i1 ts → NoEnd ts
   no_Maybe (G.Maybe.nothing _) = nil
@@ -290,13 +293,18 @@ mutual
 
   no_Excepts : {i0 : Marks} {i1 : List Handler} {ts : List Token} → Excepts i0 i1 ts → NoEnd ts
   no_Excepts (S.Excepts.except_one _ _ h1 h2) = step refl (no2 (no_Caught h1) (step refl (no_Block h2)))
-  no_Excepts (S.Excepts.except_more _ _ h1 h2 h3) = step refl (no2 (no2 (no_Caught h1) (step refl (no_Block h2))) (no_Excepts h3))
+  no_Excepts (S.Excepts.except_more _ _ h1 h2 h3) =
+      step refl (no2 (no2 (no_Caught h1) (step refl (no_Block h2))) (no_Excepts h3))
 
   no_Compound : {i0 : Marks} {i1 : Stmt} {ts : List Token} → Compound i0 i1 ts → NoEnd ts
-  no_Compound (S.Compound.if' _ _ h1 h2 h3 h4) = step refl (no2 (no2 (no2 (no_Is h1) (step refl (no_Block h2))) (no_Elifs h3)) (no_Else h4))
+  no_Compound (S.Compound.if' _ _ h1 h2 h3 h4) =
+      step refl (no2 (no2 (no2 (no_Is h1) (step refl (no_Block h2))) (no_Elifs h3)) (no_Else h4))
   no_Compound (S.Compound.while _ _ h1 h2 h3) = step refl (no2 (no2 (no_Is h1) (step refl (no_Block h2))) (no_Else h3))
-  no_Compound (S.Compound.for' _ _ _ h1 h2 h3 h4) = step refl (no2 (no2 (no2 (no_Loops h1) (step refl (no_Exprs h2))) (step refl (no_Block h3))) (no_Else h4))
-  no_Compound (S.Compound.try _ _ h1 h2 h3 h4) = step refl (step refl (no2 (no2 (no2 (no_Block h1) (no_Excepts h2)) (no_Else h3)) (no_Finally h4)))
+  no_Compound (S.Compound.for' _ _ _ h1 h2 h3 h4) =
+      step refl (no2 (no2 (no2 (no_Loops h1) (step refl (no_Exprs h2))) (step refl (no_Block h3))) (no_Else h4))
+  no_Compound (S.Compound.try _ _ h1 h2 h3 h4) =
+      step refl (step refl (no2 (no2 (no2 (no_Block h1) (no_Excepts h2)) (no_Else h3)) (no_Finally h4)))
   no_Compound (S.Compound.try_finally _ _ h1 h2) = step refl (step refl (no2 (no_Block h1) (no_Finally h2)))
-  no_Compound (S.Compound.def _ _ _ _ _ _ h1 h2) = step refl (step refl (step refl (no2 (no_Params h1) (step refl (step refl (no_Block h2))))))
+  no_Compound (S.Compound.def _ _ _ _ _ _ h1 h2) =
+      step refl (step refl (step refl (no2 (no_Params h1) (step refl (step refl (no_Block h2))))))
   no_Compound (S.Compound.class _ _ _ _ h1 h2) = step refl (step refl (no2 (no_Base h1) (step refl (no_Block h2))))

@@ -12,7 +12,8 @@ use Rattle.py_parser.specs.inner.Suites.{parts_of, inner_block}
 
 -- without room for a block, what reads blocks is not asked
 lowest : (g : ℕ) (block other : Suite) (kind : TokenKind) (ts : List Token) →
-    statement_by (record { under = readers g 0; lower = readers g 0; budget = 0; block = block }) g 1 kind ts ≡ statement_by (record { under = readers g 0; lower = readers g 0; budget = 0; block = other }) g 1 kind ts
+    statement_by (record { under = readers g 0; lower = readers g 0; budget = 0; block = block }) g 1 kind ts ≡
+    statement_by (record { under = readers g 0; lower = readers g 0; budget = 0; block = other }) g 1 kind ts
 lowest g block other (k.Name n) ts = refl
 lowest g block other (k.Keyword n) ts = refl
 lowest g block other (k.Int n) ts = refl
@@ -29,7 +30,8 @@ unfolding statement_at statements_at
 at_statements g zero ts = lowest g (inner_block g 0) (λ us. Err (Deep, us)) (first ts) ts
 at_statements g (suc d) ts = let e : suc d - 1 ≡ d = omega arith in rw e refl
 
-pub statements_up : (g d : ℕ) (ts : List Token) → 0 < d → statement_at (parts_of g (d - 1)) g (d - 1 + 1) ts ≡ statements_at g d ts
+pub statements_up : (g d : ℕ) (ts : List Token) → 0 < d →
+    statement_at (parts_of g (d - 1)) g (d - 1 + 1) ts ≡ statements_at g d ts
 statements_up g zero ts h = absurd (omega arith)
 statements_up g (suc d) ts h =
     let e : suc d - 1 ≡ d = omega arith in

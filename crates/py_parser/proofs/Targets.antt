@@ -36,13 +36,15 @@ use Rattle.py_parser.specs.inner.Lines.{checked, Stop}
 -- ---- expressions
 
 abbrev pub ExprsHole : ℕ → List Token → Type 0
-ExprsHole d pre = (m : Mode) (a : Expr) (us : List Token) → Exprs m.marks a us → Fits m (height a) d → Opens m (pre ++ us)
+ExprsHole d pre = (m : Mode) (a : Expr) (us : List Token) → Exprs m.marks a us → Fits m (height a) d →
+    Opens m (pre ++ us)
 
 abbrev pub ReadExprs : ℕ → Tall Expr → List Token → Type 0
 ReadExprs d v fs = (a : Expr) × (v ≡ of a) × ((x : Marks) → Exprs x a fs) × (height a ≤ d)
 
 abbrev pub TellExprs : ℕ → ℕ → ℕ → Test → Test → Type 0
-TellExprs y g d next' next = (pre ts : List Token) → length ts ≤ g → Opens low pre → ExprsHole d pre → Told y pre ts next' (ReadExprs d) (next ts)
+TellExprs y g d next' next = (pre ts : List Token) → length ts ≤ g → Opens low pre → ExprsHole d pre →
+    Told y pre ts next' (ReadExprs d) (next ts)
 
 deep_15 : (κ : TokenKind) → too_deep 14 κ ≡ too_deep 15 κ
 deep_15 (k.Op m) = refl
@@ -66,27 +68,41 @@ zero_14 : (g : ℕ) (ts : List Token) → (reads g 0).read 14 ts ≡ Err (too_de
 unfolding reads
 zero_14 g ts = refl
 
-err_15 : (g y : ℕ) (f : Fault) (ts us : List Token) → (reads g y).read 14 ts ≡ Err (f, us) → (reads g y).read 15 ts ≡ Err (f, us)
+err_15 : (g y : ℕ) (f : Fault) (ts us : List Token) → (reads g y).read 14 ts ≡ Err (f, us) →
+    (reads g y).read 15 ts ≡ Err (f, us)
 unfolding reads level_at
 err_15 g zero f ts us e = zero_15 g ts ∙ e
 err_15 g (suc y) f ts us e = ap (λ r. r >>= λ a. after_at (reads g y) g (suc y) a.0 a.1) e
 
-more_15 : (w y g d : ℕ) → TellExprs y g (suc d) ((reads (more w g) (more y (suc d))).read 15) ((reads g (suc d)).read 15)
+more_15 : (w y g d : ℕ) → TellExprs y g (suc d) ((reads (more w g) (more y (suc d))).read 15)
+    ((reads g (suc d)).read 15)
 unfolding reads level_at
 more_15 w y g d pre ts l o hole =
-    told_read 14 (suc d) _ _ ((unders w y g (suc d)).read 14 (omega arith) pre ts l o (λ m a us p h. hole m a us (G.single p) h))
+    told_read 14 (suc d) _ _ ((unders w y g (suc d)).read 14 (omega arith) pre ts l o
+    (λ m a us p h. hole m a us (G.single p) h))
     (λ a fs rest q is h. told_post (λ v us r. (r.0, r.1, (λ x. then_exprs (is x) (r.2 x)), r.3))
-    (tell_after w y g d (reads (more w g) (more y d)) (reads g d) (unders w y g d) a (pre ++ fs) rest (omega (arith, l, length_after ts fs rest q)) h (λ m b us r j. near m pre fs us (hole m b (fs ++ us) (then_exprs (is m.marks) r) j))))
+    (tell_after w y g d (reads (more w g) (more y d)) (reads g d) (unders w y g d) a (pre ++ fs) rest
+    (omega (arith, l, length_after ts fs rest q)) h
+    (λ m b us r j. near m pre fs us (hole m b (fs ++ us) (then_exprs (is m.marks) r) j))))
 
 pub tell_exprs : (w y g d : ℕ) → TellExprs y g d ((reads (more w g) (more y d)).read 15) ((reads g d).read 15)
-tell_exprs w y g zero pre ts l o hole = subst (λ z. Told y pre ts ((reads (more w g) (more y 0)).read 15) (ReadExprs 0) z) (sym (zero_15 g ts))
-    (told_err (λ vs ws e. err_15 (more w g) y _ vs ws e) (subst (λ z. Told y pre ts ((reads (more w g) (more y 0)).read 14) (Read 14 0) z) (zero_14 g ts) ((unders w y g 0).read 14 (omega arith) pre ts l o (λ m a us p h. hole m a us (G.single p) h))))
+tell_exprs w y g zero pre ts l o hole = subst
+    (λ z. Told y pre ts ((reads (more w g) (more y 0)).read 15) (ReadExprs 0) z) (sym (zero_15 g ts))
+    (told_err (λ vs ws e. err_15 (more w g) y _ vs ws e)
+    (subst (λ z. Told y pre ts ((reads (more w g) (more y 0)).read 14) (Read 14 0) z) (zero_14 g ts)
+    ((unders w y g 0).read 14 (omega arith) pre ts l o (λ m a us p h. hole m a us (G.single p) h))))
 tell_exprs w y g (suc d) pre ts l o hole = more_15 w y g d pre ts l o hole
 
-pub told_exprs : {A : Type 0} {y : ℕ} {pre ts : List Token} {again : Test} {r : Reads (Tall Expr)} {Q : A → List Token → Type 0} (d : ℕ) (K' K : Tall Expr × List Token → Reads A) → Told y pre ts again (ReadExprs d) r →
-    ((a : Expr) (fs rest : List Token) → ts ≡ fs ++ rest → ((x : Marks) → Exprs x a fs) → height a ≤ d → Told y (pre ++ fs) rest (λ us. K' (of a, us)) (λ b us. Q b (fs ++ us)) (K (of a, rest))) →
+pub told_exprs : {A : Type 0} {y : ℕ} {pre ts : List Token} {again : Test} {r : Reads (Tall Expr)}
+    {Q : A → List Token → Type 0} (d : ℕ) (K' K : Tall Expr × List Token → Reads A) →
+    Told y pre ts again (ReadExprs d) r →
+    ((a : Expr) (fs rest : List Token) → ts ≡ fs ++ rest → ((x : Marks) → Exprs x a fs) → height a ≤ d →
+    Told y (pre ++ fs) rest (λ us. K' (of a, us)) (λ b us. Q b (fs ++ us)) (K (of a, rest))) →
     Told y pre ts (λ us. again us >>= K') Q (r >>= K)
-told_exprs {y = y} {pre = pre} {Q = Q} d K' K p h = told_bind K' K (ReadExprs d) p (λ v fs rest e q. subst (λ z. Told y (pre ++ fs) rest (λ us. K' (z, us)) (λ b us. Q b (fs ++ us)) (K (z, rest))) (sym q.1) (h q.0 fs rest e q.2 q.3))
+told_exprs {y = y} {pre = pre} {Q = Q} d K' K p h =
+    told_bind K' K (ReadExprs d) p (λ v fs rest e q.
+    subst (λ z. Told y (pre ++ fs) rest (λ us. K' (z, us)) (λ b us. Q b (fs ++ us)) (K (z, rest))) (sym q.1)
+    (h q.0 fs rest e q.2 q.3))
 
 -- a name as an expression
 pub exprs_word : (x : Marks) → Exprs x (ex.Name []) word
@@ -115,7 +131,8 @@ trailer_good (G.generator_call p q {a = a} r) = rw (ff.form_call (a ∷ []) []) 
 trailer_good (G.long_slice p q r {a = a} {b = b} i j) = rw (ff.form_slice a b) (λ e. refl)
 trailer_good (G.slices p q r {a = a} {b = b} i j) = rw (ff.form_slice a b) (λ e. refl)
 
-trailers_good : {x : Marks} {rs : List Trailer} {ts : List Token} → Trailers x rs ts → Good (last_form (map form_trailer rs))
+trailers_good : {x : Marks} {rs : List Trailer} {ts : List Token} → Trailers x rs ts →
+    Good (last_form (map form_trailer rs))
 trailers_good (G.last r) = trailer_good r
 trailers_good (G.more_trailers r (G.last q)) = trailer_good q
 trailers_good (G.more_trailers r (G.more_trailers q w)) = trailers_good (G.more_trailers q w)
@@ -188,7 +205,8 @@ by_marks P (Some left.SliceForm) f h = h
 by_marks P (Some left.MultipleBases) f h = f
 
 -- a target is one with any marks
-pub target_any : {a : Expr} {ts : List Token} → Exprs None a ts → is_target false (form a) ≡ true → (x : Marks) → is_target (slices x) (form a) ≡ true
+pub target_any : {a : Expr} {ts : List Token} → Exprs None a ts → is_target false (form a) ≡ true → (x : Marks) →
+    is_target (slices x) (form a) ≡ true
 target_any {a = a} p e x = by_marks (λ z. is_target z (form a) ≡ true) x e (good_exprs p e)
 
 pub single_any : (a : Expr) → is_single false (form a) ≡ true → (x : Marks) → is_single (slices x) (form a) ≡ true
@@ -201,24 +219,41 @@ single_any a e x = by_marks (λ z. is_single z (form a) ≡ true) x e (wider (fo
     wider (Many s w) e = e
     wider Plain e = e
 
-pub target_of : {a : Expr} {ts : List Token} → ((x : Marks) → Is x 1 a ts) → is_target false (form a) ≡ true → (x : Marks) → Target x a ts
-target_of {a = a} p e x = record { spells = p x; is = by_marks (λ z. is_target z (form a) ≡ true) x e (good (p None) e) }
+pub target_of : {a : Expr} {ts : List Token} → ((x : Marks) → Is x 1 a ts) → is_target false (form a) ≡ true →
+    (x : Marks) → Target x a ts
+target_of {a = a} p e x = record {
+  spells = p x;
+  is =
+      by_marks (λ z. is_target z (form a) ≡ true) x e (good (p None) e);
+}
 
 pub word_target : (x : Marks) → Target x (ex.Name []) word
-word_target x = record { spells = is_word 1 x (omega arith); is = rw (ff.form_name []) (by_marks (λ z. is_target z Bare ≡ true) x refl refl) }
+word_target x = record {
+  spells = is_word 1 x (omega arith);
+  is =
+      rw (ff.form_name []) (by_marks (λ z. is_target z Bare ≡ true) x refl refl);
+}
 
 -- ---- targets
 
-pub told_checked : {A : Type 0} {y : ℕ} {pre ts : List Token} {Q : A → List Token → Type 0} (after : Stop) (a : Expr) (K' K : Tall Expr × List Token → Reads A) → Opens low pre →
-    (is_target true (form a) ≡ true → after (first ts) ≡ true → (p : Place) → Opens (marked left.SliceForm) (pre ++ at (first ts) p ∷ [])) →
-    (is_target false (form a) ≡ true → Told y pre ts (λ us. K' (of a, us)) Q (K (of a, ts))) → Told y pre ts (λ us. checked after (of a, us) >>= K') Q (checked after (of a, ts) >>= K)
+pub told_checked : {A : Type 0} {y : ℕ} {pre ts : List Token} {Q : A → List Token → Type 0} (after : Stop) (a : Expr)
+    (K' K : Tall Expr × List Token → Reads A) → Opens low pre →
+    (is_target true (form a) ≡ true → after (first ts) ≡ true → (p : Place) →
+    Opens (marked left.SliceForm) (pre ++ at (first ts) p ∷ [])) →
+    (is_target false (form a) ≡ true → Told y pre ts (λ us. K' (of a, us)) Q (K (of a, ts))) →
+    Told y pre ts (λ us. checked after (of a, us) >>= K') Q (checked after (of a, ts) >>= K)
 unfolding checked
 told_checked {y = y} {pre = pre} {ts = ts} {Q = Q} after a K' K o m h = go (is_target false (form a)) refl
   where
-    go : (b : Bool) → is_target false (form a) ≡ b → Told y pre ts (λ us. checked after (of a, us) >>= K') Q (checked after (of a, ts) >>= K)
+    go : (b : Bool) → is_target false (form a) ≡ b → Told y pre ts (λ us. checked after (of a, us) >>= K') Q
+        (checked after (of a, ts) >>= K)
     go true e = told_same {X' = λ us. K' (of a, us)} {q = K (of a, ts)} (rw e refl) (λ us s. rw e refl) (h e)
     go false e = bad (is_target true (form a) && after (first ts)) refl
       where
-        bad : (b : Bool) → (is_target true (form a) && after (first ts)) ≡ b → Told y pre ts (λ us. checked after (of a, us) >>= K') Q (checked after (of a, ts) >>= K)
-        bad true q = told_same {X' = λ us. Err (LeftOut left.SliceForm, us)} {q = Err (LeftOut left.SliceForm, ts)} (rw e (rw q refl)) (λ us s. rw e (rw s (rw q refl))) (told_left (first ts) refl o (m (and_parts _ _ q).0 (and_parts (is_target true (form a)) _ q).1))
-        bad false q = told_same {X' = λ us. Err (Unexpected, us)} {q = Err (Unexpected, ts)} (rw e (rw q refl)) (λ us s. rw e (rw s (rw q refl))) (told_refused o)
+        bad : (b : Bool) → (is_target true (form a) && after (first ts)) ≡ b →
+            Told y pre ts (λ us. checked after (of a, us) >>= K') Q (checked after (of a, ts) >>= K)
+        bad true q = told_same {X' = λ us. Err (LeftOut left.SliceForm, us)} {q = Err (LeftOut left.SliceForm, ts)}
+            (rw e (rw q refl)) (λ us s. rw e (rw s (rw q refl)))
+            (told_left (first ts) refl o (m (and_parts _ _ q).0 (and_parts (is_target true (form a)) _ q).1))
+        bad false q = told_same {X' = λ us. Err (Unexpected, us)} {q = Err (Unexpected, ts)} (rw e (rw q refl))
+            (λ us s. rw e (rw s (rw q refl))) (told_refused o)

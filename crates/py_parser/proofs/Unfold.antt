@@ -10,7 +10,8 @@ use Rattle.py_parser.specs.inner.Pieces.{too_high}
 use Rattle.py_parser.specs.inner.Reading.{Below, reads, level_at, rung_at, rung_of, after_at, first}
 use Rattle.std.specs.Prelude.{Err}
 
-pub level_up : (under : Below) (g d n : ℕ) (ts : List Token) → 0 < n → level_at under g d n ts ≡ rung_at (rung_of (n - 1)) under g d (level_at under g d (n - 1)) ts
+pub level_up : (under : Below) (g d n : ℕ) (ts : List Token) → 0 < n →
+    level_at under g d n ts ≡ rung_at (rung_of (n - 1)) under g d (level_at under g d (n - 1)) ts
 unfolding level_at
 level_up under g d zero ts h = absurd (omega arith)
 level_up under g d (suc n) ts h = let e : suc n - 1 ≡ n = omega arith in rw e refl
@@ -22,11 +23,13 @@ at_level g d n ts = refl
 pub read_up : (g d n : ℕ) (ts : List Token) → (reads g (d + 1)).read n ts ≡ level_at (reads g d) g (d + 1) n ts
 read_up g d n ts = let e : d + 1 ≡ suc d = omega arith in rw e (at_level g d n ts)
 
-at_after : (g d : ℕ) (a : Tall Expr) (ts : List Token) → (reads g (suc d)).after a ts ≡ after_at (reads g d) g (suc d) a ts
+at_after : (g d : ℕ) (a : Tall Expr) (ts : List Token) → (reads g (suc d)).after a ts ≡ after_at (reads g d) g (suc d)
+    a ts
 unfolding reads
 at_after g d a ts = refl
 
-pub after_up : (g d : ℕ) (a : Tall Expr) (ts : List Token) → (reads g (d + 1)).after a ts ≡ after_at (reads g d) g (d + 1) a ts
+pub after_up : (g d : ℕ) (a : Tall Expr) (ts : List Token) → (reads g (d + 1)).after a ts ≡ after_at (reads g d) g
+    (d + 1) a ts
 after_up g d a ts = let e : d + 1 ≡ suc d = omega arith in rw e (at_after g d a ts)
 
 pub at_zero : (g : ℕ) (q : Request) (ts : List Token) → requested (reads g 0) q ts ≡ Err (too_high q (first ts), ts)

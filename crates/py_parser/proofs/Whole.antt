@@ -38,35 +38,49 @@ body_first (S.end x p) = refl
 body_first (S.newline p r) = refl
 body_first (S.more {ts = ts} {us = us} q r) = stray_clear (first (ts ++ us)) (statement_first q us)
 
-s_end : (statement : Suite) (f : ℕ) (found : List Stmt) (p : Place) (us : List Token) → body_more statement (suc f) found (at k.End p ∷ us) ≡ Ok (found, us)
+s_end : (statement : Suite) (f : ℕ) (found : List Stmt) (p : Place) (us : List Token) →
+    body_more statement (suc f) found (at k.End p ∷ us) ≡ Ok (found, us)
 unfolding body_more
 s_end statement f found p us = refl
 
-s_newline : (statement : Suite) (f : ℕ) (found : List Stmt) (p : Place) (us : List Token) → body_more statement (suc f) found (at k.Newline p ∷ us) ≡ body_more statement f found us
+s_newline : (statement : Suite) (f : ℕ) (found : List Stmt) (p : Place) (us : List Token) →
+    body_more statement (suc f) found (at k.Newline p ∷ us) ≡ body_more statement f found us
 unfolding body_more
 s_newline statement f found p us = refl
 
-s_more : (statement : Suite) (f : ℕ) (found : List Stmt) (us : List Token) → stray (first us) ≡ false → body_more statement (suc f) found us ≡ (statement us >>= λ a. body_more statement f (found ++ a.0) a.1)
+s_more : (statement : Suite) (f : ℕ) (found : List Stmt) (us : List Token) → stray (first us) ≡ false →
+    body_more statement (suc f) found us ≡ (statement us >>= λ a. body_more statement f (found ++ a.0) a.1)
 unfolding body_more
 s_more statement f found us h = rw (stray_end (first us) h) (rw (stray_newline (first us) h) refl)
 
-pub complete_body : {x : Marks} {ss : List Stmt} {ts : List Token} → Body x ss ts → (g d f : ℕ) (found : List Stmt) → length ts ≤ g → length ts ≤ f → slack x + talls ss ≤ d → Reaches x (body_more (statements_at g d) f found ts) (found ++ ss) []
+pub complete_body : {x : Marks} {ss : List Stmt} {ts : List Token} → Body x ss ts → (g d f : ℕ) (found : List Stmt) →
+    length ts ≤ g → length ts ≤ f → slack x + talls ss ≤ d →
+    Reaches x (body_more (statements_at g d) f found ts) (found ++ ss) []
 complete_body (S.end x p) g d zero found l m h = absurd (omega arith)
-complete_body (S.end x p) g d (suc f) found l m h = inl (s_end (statements_at g d) f found p [] ∙ ap (λ z. Ok (z, [])) (sym (append-nil found)))
+complete_body (S.end x p) g d (suc f) found l m h =
+    inl (s_end (statements_at g d) f found p [] ∙ ap (λ z. Ok (z, [])) (sym (append-nil found)))
 complete_body (S.newline p r) g d zero found l m h = absurd (omega arith)
-complete_body (S.newline p {x = x} {ts = ts} r) g d (suc f) found l m h = at_same x _ _ _ [] (s_newline (statements_at g d) f found p ts) (complete_body r g d f found (omega arith) (omega arith) h)
-complete_body (S.more {ts = ts} {us = us} q r) g d zero found l m h = absurd (omega (arith, length-append ts us, statement_long q))
+complete_body (S.newline p {x = x} {ts = ts} r) g d (suc f) found l m h =
+    at_same x _ _ _ [] (s_newline (statements_at g d) f found p ts)
+    (complete_body r g d f found (omega arith) (omega arith) h)
+complete_body (S.more {ts = ts} {us = us} q r) g d zero found l m h =
+    absurd (omega (arith, length-append ts us, statement_long q))
 complete_body (S.more {x = x} {as' = ss} {bs = bs} {ts = ts} {us = us} q r) g d (suc f) found l m h =
     let len = length-append ts us in let top = talls_append ss bs in let pos = statement_long q in
     at_same x _ _ _ [] (s_more (statements_at g d) f found (ts ++ us) (statement_first q us))
-    (then_reads x _ (λ a. body_more (statements_at g d) f (found ++ a.0) a.1) ss us _ [] (complete_statement q g d us (omega arith) (omega arith) (body_first r))
-    (as_value x _ _ _ [] (append_assoc found ss bs) (complete_body r g d f (found ++ ss) (omega arith) (omega arith) (omega arith))))
+    (then_reads x _ (λ a. body_more (statements_at g d) f (found ++ a.0) a.1) ss us _ []
+    (complete_statement q g d us (omega arith) (omega arith) (body_first r))
+    (as_value x _ _ _ [] (append_assoc found ss bs)
+    (complete_body r g d f (found ++ ss) (omega arith) (omega arith) (omega arith))))
 
 -- with or without a mark
-pub complete_module : {x : Marks} {ss : List Stmt} {ts : List Token} → Body x ss ts → slack x + tall_module (record { body = ss }) ≤ 100 → Reaches x (module_at (length ts) ts) (record { body = ss }) []
+pub complete_module : {x : Marks} {ss : List Stmt} {ts : List Token} → Body x ss ts →
+    slack x + tall_module (record { body = ss }) ≤ 100 → Reaches x (module_at (length ts) ts) (record { body = ss }) []
 unfolding module_at tall_module
 complete_module {x = x} {ss = ss} {ts = ts} q h =
-    then_reads x _ (λ b. Ok (record { body = b.0 }, b.1)) ss [] _ [] (complete_body q (length ts) 99 (length ts) [] (omega arith) (omega arith) (omega (arith, highest_talls ss))) (inl refl)
+    then_reads x _ (λ b. Ok (record { body = b.0 }, b.1)) ss [] _ []
+    (complete_body q (length ts) 99 (length ts) [] (omega arith) (omega arith) (omega (arith, highest_talls ss)))
+    (inl refl)
 
 pub read : {A : Type 0} {r : Reads A} {v : A} {us : List Token} → Reaches None r v us → r ≡ Ok (v, us)
 read (inl p) = p

@@ -1,4 +1,5 @@
--- What a call of the parser answers for a list of tokens. States `docs/LANGUAGE.md`, "Grammar", "Height" and "What is refused".
+-- What a call of the parser answers for a list of tokens. States `docs/LANGUAGE.md`, "Grammar", "Height" and "What is
+-- refused".
 use Rattle.std.specs.Prelude.{◌≡◌, ℕ, ◌≤◌, List, Result, Ok, Err}
 use Rattle.py_tokens.specs.declared.token.Token.{Token}
 use Rattle.py_tree.specs.declared.stmt.Module.{Module}

@@ -121,7 +121,8 @@ is_module n = bytes_eq n (codes "thread") || bytes_eq n (codes "threading")
 -- what may be imported from a module
 abbrev pub is_member : List ℕ → List ℕ → Bool
 is_member m n =
-    (bytes_eq m (codes "thread") && (bytes_eq n (codes "start_new_thread") || (bytes_eq n (codes "allocate_lock") || bytes_eq n (codes "error")))) ||
+    (bytes_eq m (codes "thread") && (bytes_eq n (codes "start_new_thread") ||
+    (bytes_eq n (codes "allocate_lock") || bytes_eq n (codes "error")))) ||
     (bytes_eq m (codes "threading") && (bytes_eq n (codes "Thread") || bytes_eq n (codes "Lock")))
 
 -- the token's number of the assignment with an operator, such as `+=`

@@ -20,4 +20,5 @@ Replies = Bor (List Token) → Result (Tall Expr × Bor (List Token)) ParseError
 
 -- each answer is what reading gives with this budget, and is at most as high
 abbrev pub AnswersAim : Replies → ℕ → ℕ → Type 0
-AnswersAim replies g d = (ts : Bor (List Token)) (r : Result (Tall Expr × Bor (List Token)) ParseError) → replies ts r → Gives (λ x. (x.0, x.1.now)) r (aim_at g d ts.now) × IfOk r (λ x. x.0.tall ≤ d)
+AnswersAim replies g d = (ts : Bor (List Token)) (r : Result (Tall Expr × Bor (List Token)) ParseError) →
+    replies ts r → Gives (λ x. (x.0, x.1.now)) r (aim_at g d ts.now) × IfOk r (λ x. x.0.tall ≤ d)

@@ -1,8 +1,11 @@
 -- The mirror of the code: nothing public rests on it.
--- Reading what is a target or may become one, with the first refusal that is met: what the code computes, as a function on lists.
+-- Reading what is a target or may become one, with the first refusal that is met: what the code computes, as a function
+-- on lists.
 -- `Statements` says what a target is; `docs/LANGUAGE.md`, "Height" and "What is refused".
--- An expression of the level of targets becomes a target by a trailer. That is a node more, but for what ends in trailers.
--- So with d left for a target, a test in brackets may be a target of d - 1, or any test of d - 2; and all in one pair of brackets are the one or the other.
+-- An expression of the level of targets becomes a target by a trailer. That is a node more, but for what ends in
+-- trailers.
+-- So with d left for a target, a test in brackets may be a target of d - 1, or any test of d - 2; and all in one pair
+-- of brackets are the one or the other.
 use Rattle.std.specs.Prelude.{ℕ, zero, suc, ◌-◌, List, Ok, Err, nat_lt, nat_le, ◌==◌, ◌||◌, if◌then◌else◌, Bool, false}
 use Rattle.py_tokens.specs.declared.token.Token.{Token}
 use Rattle.py_tokens.specs.declared.token.TokenKind.{TokenKind}
@@ -40,7 +43,8 @@ grows (suc n) kind = grows n kind || takes (rung_of (suc n)) kind
 
 -- after an expression of the level of targets: a test of a height of at most q, or the expression alone
 unfoldable pub risen_at : ℕ → ℕ → Tall Expr × List Token → Reads (Tall Expr)
-risen_at g q a = if nat_le a.0.tall q then grown_at (reads g (q - 1)) g q 13 a else (if grows 13 (first a.1) then Err (Deep, a.1) else Ok a)
+risen_at g q a = if nat_le a.0.tall q then grown_at (reads g (q - 1)) g q 13 a else
+    (if grows 13 (first a.1) then Err (Deep, a.1) else Ok a)
 
 -- a test of a height of at most q, or what `aim` reads
 unfoldable pub element_at : Test → ℕ → ℕ → Test
@@ -55,7 +59,8 @@ fine room found = is_target false found.form || nat_lt found.tall room
 -- a test after these
 unfoldable pub next_at : Test → ℕ → ℕ → Tall (List Expr) → Test
 next_at aim g room found ts =
-    if is_target false found.form then element_at aim g (if nat_lt found.tall room then room - 1 else 0) ts else (reads g (room - 1)).read 14 ts
+    if is_target false found.form then element_at aim g (if nat_lt found.tall room then room - 1 else 0) ts else
+    (reads g (room - 1)).read 14 ts
 
 -- further tests, each after a comma, which may also trail
 unfoldable pub elements_at : Test → ℕ → ℕ → ℕ → Tall (List Expr) → Reader (Tall (List Expr))
@@ -67,7 +72,8 @@ elements_at aim g room (suc f) found ts =
 
 -- the closing bracket, where what is in the brackets may stand there
 abbrev pub closing_at : ℕ → Bool → Reader (Unit {0})
-closing_at n fits ts = if is_op n (first ts) then (if fits then Ok (tt, rest ts) else Err (Deep, ts)) else Err (Unexpected, ts)
+closing_at n fits ts = if is_op n (first ts) then (if fits then Ok (tt, rest ts) else Err (Deep, ts)) else Err
+    (Unexpected, ts)
 
 unfoldable pub closed_at : ℕ → ℕ → (Tall (List Expr) → Tall Expr) → Tall (List Expr) × List Token → Reads (Tall Expr)
 closed_at n room node es = closing_at n (fine room es.0) es.1 >>= λ x. Ok (node es.0, x.1)
@@ -83,15 +89,18 @@ round_rest aim g room a =
 unfoldable pub aim_round : Test → ℕ → ℕ → Test
 aim_round aim g room ts =
     if is_op 33 (first ts) then Ok (unit, rest ts) else
-    (if is_keyword 30 (first ts) then Err (LeftOut left.Generator, ts) else (next_at aim g room none ts >>= round_rest aim g room))
+    (if is_keyword 30 (first ts) then Err (LeftOut left.Generator, ts) else
+    (next_at aim g room none ts >>= round_rest aim g room))
 
 abbrev pub list_rest : Test → ℕ → ℕ → Tall Expr × List Token → Reads (Tall Expr)
 list_rest aim g room a =
-    if is_keyword 13 (first a.1) then Err (LeftOut left.Comprehension, a.1) else (elements_at aim g room g (start a.0) a.1 >>= closed_at 35 room of_list)
+    if is_keyword 13 (first a.1) then Err (LeftOut left.Comprehension, a.1) else
+    (elements_at aim g room g (start a.0) a.1 >>= closed_at 35 room of_list)
 
 -- after `[`
 unfoldable pub aim_list : Test → ℕ → ℕ → Test
-aim_list aim g room ts = if is_op 35 (first ts) then Ok (of_list none, rest ts) else (next_at aim g room none ts >>= list_rest aim g room)
+aim_list aim g room ts = if is_op 35 (first ts) then Ok (of_list none, rest ts) else
+    (next_at aim g room none ts >>= list_rest aim g room)
 
 -- ---- what is a target, or may become one
 
@@ -103,7 +112,8 @@ aim_atom aim g room (k.Op n) ts =
     (if n == 34 then aim_list aim g room (rest ts) else (reads g room).read 0 ts)
 aim_atom aim g room kind ts = (reads g room).read 0 ts
 
--- An expression of the level of targets, of a height of at most d, which is a target or becomes one of at most this height.
+-- An expression of the level of targets, of a height of at most d, which is a target or becomes one of at most this
+-- height.
 unfoldable pub aim_at : ℕ → ℕ → Test
 aim_at g zero ts = Err (too_deep 1 (first ts), ts)
 aim_at g (suc d) ts = aim_atom (aim_at g d) g d (first ts) ts >>= trail_at (reads g d) g (suc d)

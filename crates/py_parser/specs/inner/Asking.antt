@@ -26,4 +26,6 @@ Replies = Request → Bor (List Token) → Result (Tall Expr × Bor (List Token)
 
 -- each answer is what reading gives with this budget, and is at most as high
 abbrev pub Answers : Replies → ℕ → ℕ → Type 0
-Answers replies g d = (q : Request) (ts : Bor (List Token)) (r : Result (Tall Expr × Bor (List Token)) ParseError) → replies q ts r → Gives (λ x. (x.0, x.1.now)) r (requested (reads g d) q ts.now) × IfOk r (λ x. x.0.tall ≤ max d (held q))
+Answers replies g d = (q : Request) (ts : Bor (List Token)) (r : Result (Tall Expr × Bor (List Token)) ParseError) →
+    replies q ts r → Gives (λ x. (x.0, x.1.now)) r (requested (reads g d) q ts.now) × IfOk r
+    (λ x. x.0.tall ≤ max d (held q))

@@ -1,5 +1,6 @@
 -- The mirror of the code: nothing public rests on it.
--- What may follow an expression without being taken for a part of it. It belongs to the reading of `Reading`, which `docs/LANGUAGE.md`, "Grammar", is the rule of.
+-- What may follow an expression without being taken for a part of it. It belongs to the reading of `Reading`, which
+-- `docs/LANGUAGE.md`, "Grammar", is the rule of.
 use Rattle.std.specs.Prelude.{ℕ, zero, suc, Bool, false, not, ◌&&◌, ◌||◌}
 use Rattle.py_tokens.specs.declared.token.TokenKind.{TokenKind}
 use Rattle.py_parser.specs.declared.rung.Rung.{Rung}

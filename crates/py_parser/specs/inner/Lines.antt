@@ -118,7 +118,8 @@ run_or_assign l (t ∷ es) a = s.Assign l (t ∷ es) a
 unfoldable pub run_at : Readers → ℕ → ℕ → Tall Expr × List Token → Option Operator → Reads Stmt
 run_at under g l a (Some o) =
     if is_single false a.0.form then
-    (if is_keyword 30 (first (rest a.1)) then Err (LeftOut left.Generator, rest a.1) else (under.read 15 (rest a.1) >>= λ b. Ok (s.Augment l a.0.tree o b.0.tree, b.1))) else
+    (if is_keyword 30 (first (rest a.1)) then Err (LeftOut left.Generator, rest a.1) else
+    (under.read 15 (rest a.1) >>= λ b. Ok (s.Augment l a.0.tree o b.0.tree, b.1))) else
     (if is_single true a.0.form then Err (LeftOut left.SliceForm, a.1) else Err (Unexpected, a.1))
 run_at under g l a None = equals_at under g [] a >>= λ x. Ok (run_or_assign l (x.0).0 (x.0).1, x.1)
 
@@ -160,11 +161,16 @@ print_at under g l ts =
 unfoldable pub raise_at : Readers → ℕ → Tall Expr × List Token → Reads Stmt
 raise_at under l a = if is_op 38 (first a.1) then (do
   b ← under.read 14 (rest a.1)
-  if is_op 38 (first b.1) then Err (LeftOut left.Traceback, b.1) else Ok (s.Raise l (Some a.0.tree) (Some b.0.tree), b.1)) else Ok (s.Raise l (Some a.0.tree) None, a.1)
+  if is_op 38 (first b.1) then Err (LeftOut left.Traceback, b.1) else Ok (
+    s.Raise l (Some a.0.tree) (Some b.0.tree),
+    b.1,
+  )) else Ok (s.Raise l (Some a.0.tree) None, a.1)
 
 -- after `assert` and a test
 unfoldable pub assert_at : Readers → ℕ → Tall Expr × List Token → Reads Stmt
-assert_at under l a = if is_op 38 (first a.1) then (under.read 14 (rest a.1) >>= λ b. Ok (s.Assert l a.0.tree (Some b.0.tree), b.1)) else Ok (s.Assert l a.0.tree None, a.1)
+assert_at under l a = if is_op 38 (first a.1) then
+    (under.read 14 (rest a.1) >>= λ b. Ok (s.Assert l a.0.tree (Some b.0.tree), b.1)) else Ok
+    (s.Assert l a.0.tree None, a.1)
 
 -- after `from`
 unfoldable pub from_at : ℕ → ℕ → Reader Stmt
@@ -183,7 +189,8 @@ worded_at under g d n other ts =
     (if n == 3 then Ok (s.Break (line_of ts), rest ts) else
     (if n == 5 then Ok (s.Continue (line_of ts), rest ts) else
     (if n == 26 then (maybe_at under 15 (rest ts) >>= λ a. Ok (s.Return (line_of ts) (tree_or a.0), a.1)) else
-    (if n == 25 then (if comes 14 (first (rest ts)) then (under.read 14 (rest ts) >>= raise_at under (line_of ts)) else Ok (s.Raise (line_of ts) None None, rest ts)) else
+    (if n == 25 then (if comes 14 (first (rest ts)) then (under.read 14 (rest ts) >>= raise_at under (line_of ts)) else
+    Ok (s.Raise (line_of ts) None None, rest ts)) else
     (if n == 7 then (if nat_lt d 2 then Err (Deep, ts) else (do
       a ← target_at under ends_del (rest ts)
       es ← targets_at under g (start a.0) a.1
@@ -192,7 +199,8 @@ worded_at under g d n other ts =
       m ← name_at (rest ts)
       ns ← names_at g (m.0 ∷ []) m.1
       Ok (s.Global (line_of ts) ns.0, ns.1)) else
-    (if n == 2 then (if nat_lt d 2 then Err (Deep, ts) else (under.read 14 (rest ts) >>= assert_at under (line_of ts))) else
+    (if n == 2 then (if nat_lt d 2 then Err (Deep, ts) else (under.read 14 (rest ts) >>= assert_at under (line_of ts)))
+    else
     (if n == 17 then (do
       i ← imported_at is_module (rest ts)
       is ← imports_at is_module g (i.0 ∷ []) i.1
@@ -217,7 +225,8 @@ unfoldable pub line_more : Reader Stmt → ℕ → List Stmt → Reader (List St
 line_more simple zero found ts = Ok (found, ts)
 line_more simple (suc g) found ts =
     if is_op 41 (first ts) then
-    (if is_newline (first (rest ts)) then Ok (found, rest (rest ts)) else (simple (rest ts) >>= λ a. line_more simple g (found ++ a.0 ∷ []) a.1)) else
+    (if is_newline (first (rest ts)) then Ok (found, rest (rest ts)) else
+    (simple (rest ts) >>= λ a. line_more simple g (found ++ a.0 ∷ []) a.1)) else
     (plain_at is_newline ts >>= λ x. Ok (found, x.1))
 
 unfoldable pub line_at : Readers → ℕ → ℕ → Reader (List Stmt)
@@ -246,13 +255,15 @@ elifs_at under block (suc g) found ts = if is_keyword 8 (first ts) then (do
 
 -- a clause that this keyword begins, where it comes
 unfoldable pub clause_at : ℕ → Suite → Reader (Option Clause)
-clause_at n block ts = if is_keyword n (first ts) then (body_at block (rest ts) >>= λ b. Ok (Some (record { line = line_of ts; body = b.0 }), b.1)) else Ok (None, ts)
+clause_at n block ts = if is_keyword n (first ts) then
+    (body_at block (rest ts) >>= λ b. Ok (Some (record { line = line_of ts; body = b.0 }), b.1)) else Ok (None, ts)
 
 -- what may stand between `except` and its colon
 unfoldable pub caught_at : Readers → Reader (Option Expr × Option Expr)
 caught_at under ts = if comes 14 (first ts) then (do
   a ← under.read 14 ts
-  if is_keyword 1 (first a.1) || is_op 38 (first a.1) then (target_at under ends_caught (rest a.1) >>= λ b. Ok ((Some a.0.tree, Some b.0.tree), b.1)) else Ok ((Some a.0.tree, None), a.1)) else Ok ((None, None), ts)
+  if is_keyword 1 (first a.1) || is_op 38 (first a.1) then (target_at under ends_caught (rest a.1) >>= λ b.
+      Ok ((Some a.0.tree, Some b.0.tree), b.1)) else Ok ((Some a.0.tree, None), a.1)) else Ok ((None, None), ts)
 
 unfoldable pub handler_at : Readers → Suite → ℕ → Reader Handler
 handler_at under block l ts = do
@@ -265,7 +276,8 @@ unfoldable pub handlers_at : Readers → Suite → ℕ → List Handler → Read
 handlers_at under block zero found ts = Ok (found, ts)
 handlers_at under block (suc g) found ts = if is_keyword 10 (first ts) then (do
   h ← handler_at under block (line_of ts) (rest ts)
-  if is_some h.0.test then handlers_at under block g (found ++ h.0 ∷ []) h.1 else Ok (found ++ h.0 ∷ [], h.1)) else Ok (found, ts)
+  if is_some h.0.test then handlers_at under block g (found ++ h.0 ∷ []) h.1 else Ok (found ++ h.0 ∷ [], h.1)) else Ok
+    (found, ts)
 
 -- after `try` and its block
 unfoldable pub try_at : Readers → Suite → ℕ → Clause → Reader Stmt
@@ -285,7 +297,8 @@ param_at under later ts =
     if is_op 23 (first ts) || is_op 4 (first ts) then Err (LeftOut left.StarArgument, ts) else
     (if is_op 32 (first ts) then Err (LeftOut left.TupleArgument, ts) else (do
       n ← name_at ts
-      if is_op 42 (first n.1) then (under.read 14 (rest n.1) >>= λ a. Ok (record { name = n.0; default = Some a.0.tree }, a.1)) else
+      if is_op 42 (first n.1) then (under.read 14 (rest n.1) >>= λ a.
+          Ok (record { name = n.0; default = Some a.0.tree }, a.1)) else
           (if later then Err (Unexpected, n.1) else Ok (record { name = n.0; default = None }, n.1))))
 
 -- one parameter or more
@@ -351,7 +364,8 @@ compound_at p g n ts =
     (if n == 27 then (do
       b ← body_at p.block (rest ts)
       try_at p.under p.block g (record { line = line_of ts; body = b.0 }) b.1) else
-    (if n == 6 then def_at p.under p.block g (line_of ts) (rest ts) else class_at p.under p.block (line_of ts) (rest ts)))))
+    (if n == 6 then def_at p.under p.block g (line_of ts) (rest ts) else class_at p.under p.block (line_of ts)
+    (rest ts)))))
 
 -- the keywords that begin compound statements
 abbrev pub is_compound : ℕ → Bool
@@ -360,7 +374,8 @@ is_compound n = n == 16 || (n == 28 || (n == 13 || (n == 27 || (n == 6 || n == 4
 abbrev pub statement_by : Parts → ℕ → ℕ → TokenKind → Suite
 statement_by p g d (k.Keyword n) ts =
     if n == 29 then Err (LeftOut left.With, ts) else
-    (if is_compound n then (if nat_lt d 3 then Err (Deep, ts) else (compound_at p g n ts >>= λ a. Ok (a.0 ∷ [], a.1))) else line_at p.under g d ts)
+    (if is_compound n then (if nat_lt d 3 then Err (Deep, ts) else (compound_at p g n ts >>= λ a. Ok (a.0 ∷ [], a.1)))
+    else line_at p.under g d ts)
 statement_by p g d (k.Op n) ts = if n == 43 then Err (LeftOut left.Decorator, ts) else line_at p.under g d ts
 statement_by p g d _ ts = line_at p.under g d ts
 
@@ -388,15 +403,23 @@ line_of_at g (suc d) ts = line_at (readers g d) g (suc d) ts
 -- a statement with budget d; its block has a budget one less, and the block's statements two less
 unfoldable pub statements_at : ℕ → ℕ → Suite
 statements_at g zero ts = Err (Deep, ts)
-statements_at g (suc zero) ts = statement_at (record { under = readers g 0; lower = readers g 0; budget = 0; block = λ us. Err (Deep, us) }) g 1 ts
+statements_at g (suc zero) ts = statement_at
+    (record { under = readers g 0; lower = readers g 0; budget = 0; block = λ us. Err (Deep, us) }) g 1 ts
 statements_at g (suc (suc d)) ts =
-    statement_at (record { under = readers g (suc d); lower = readers g d; budget = suc d; block = block_at (line_of_at g d) (statements_at g d) g }) g (suc (suc d)) ts
+    statement_at (record {
+      under = readers g (suc d);
+      lower = readers g d;
+      budget = suc d;
+      block =
+          block_at (line_of_at g d) (statements_at g d) g;
+    }) g (suc (suc d)) ts
 
 unfoldable pub body_more : Suite → ℕ → List Stmt → Suite
 body_more statement zero found ts = Err (Unexpected, ts)
 body_more statement (suc g) found ts =
     if is_end (first ts) then Ok (found, rest ts) else
-    (if is_newline (first ts) then body_more statement g found (rest ts) else (statement ts >>= λ a. body_more statement g (found ++ a.0) a.1))
+    (if is_newline (first ts) then body_more statement g found (rest ts) else
+    (statement ts >>= λ a. body_more statement g (found ++ a.0) a.1))
 
 -- A module with budget 100: the tokens bound the turns of each loop.
 unfoldable pub module_at : ℕ → Reader Module

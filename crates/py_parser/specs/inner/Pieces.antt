@@ -22,7 +22,8 @@ keywords_at next g found n ts = do
 
 -- a sign, which comes next, and its operand
 abbrev pub signed_at : Below → ℕ → Sign → Reader (Tall Expr)
-signed_at under d s ts = if nat_lt d 2 then Err (Deep, ts) else (under.read 3 (rest ts) >>= λ a. Ok (of_sign s a.0, a.1))
+signed_at under d s ts = if nat_lt d 2 then Err (Deep, ts) else
+    (under.read 3 (rest ts) >>= λ a. Ok (of_sign s a.0, a.1))
 
 -- `not`, which comes next, and its operand
 abbrev pub negated_at : Below → ℕ → Reader (Tall Expr)

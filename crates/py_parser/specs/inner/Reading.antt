@@ -1,5 +1,6 @@
 -- The mirror of the code: nothing public rests on it.
--- Reading expressions from left to right, with the first refusal that is met: what the code computes, as a function on lists.
+-- Reading expressions from left to right, with the first refusal that is met: what the code computes, as a function on
+-- lists.
 -- `Grammar` says what it means; `docs/LANGUAGE.md`, "Grammar", "Height" and "What is left out".
 use Rattle.std.specs.Prelude.{ℕ, zero, suc, ◌+◌, List, [], ◌∷◌, ◌++◌, Result, Ok, Err, nat_lt, nat_le, ◌==◌, ◌&&◌, ◌||◌, if◌then◌else◌, Bool, true, false, Option, Some, None}
 use Rattle.py_tokens.specs.declared.token.Token.{Token}
@@ -119,16 +120,20 @@ comes n kind = starts n kind || is_some (left_at n kind)
 abbrev pub operator_of : Level → TokenKind → Option Operator
 operator_of level.Or (k.Keyword m) = if m == 22 then Some op.Or else None
 operator_of level.And (k.Keyword m) = if m == 0 then Some op.And else None
-operator_of level.Compare (k.Keyword m) = if m == 18 then Some op.In else (if m == 21 then Some op.NotIn else (if m == 19 then Some op.Is else None))
+operator_of level.Compare (k.Keyword m) =
+    if m == 18 then Some op.In else (if m == 21 then Some op.NotIn else (if m == 19 then Some op.Is else None))
 operator_of level.Compare (k.Op m) =
     if m == 30 then Some op.Less else (if m == 31 then Some op.Greater else (if m == 10 then Some op.Equal else
-    (if m == 9 then Some op.GreaterEqual else (if m == 8 then Some op.LessEqual else (if m == 11 then Some op.NotEqual else None)))))
+    (if m == 9 then Some op.GreaterEqual else
+    (if m == 8 then Some op.LessEqual else (if m == 11 then Some op.NotEqual else None)))))
 operator_of level.BitOr (k.Op m) = if m == 27 then Some op.BitOr else None
 operator_of level.BitXor (k.Op m) = if m == 28 then Some op.BitXor else None
 operator_of level.BitAnd (k.Op m) = if m == 26 then Some op.BitAnd else None
 operator_of level.Shift (k.Op m) = if m == 6 then Some op.ShiftLeft else (if m == 7 then Some op.ShiftRight else None)
 operator_of level.Sum (k.Op m) = if m == 21 then Some op.Plus else (if m == 22 then Some op.Minus else None)
-operator_of level.Term (k.Op m) = if m == 23 then Some op.Times else (if m == 24 then Some op.Divide else (if m == 5 then Some op.Floor else (if m == 25 then Some op.Remainder else None)))
+operator_of level.Term (k.Op m) = if m == 23 then Some op.Times else
+    (if m == 24 then Some op.Divide else
+    (if m == 5 then Some op.Floor else (if m == 25 then Some op.Remainder else None)))
 operator_of _ _ = None
 
 -- the rest of an operator after its first token
@@ -197,7 +202,8 @@ list_close under g a = if is_keyword 13 (first a.1) then Err (LeftOut left.Compr
 
 -- after `[`
 unfoldable pub list_at : Below → ℕ → Test
-list_at under g ts = if is_op 35 (first ts) then Ok (of_list none, rest ts) else (under.read 14 ts >>= list_close under g)
+list_at under g ts = if is_op 35 (first ts) then Ok (of_list none, rest ts) else
+    (under.read 14 ts >>= list_close under g)
 
 -- further pairs, each after a comma
 unfoldable pub pairs_at : Test → ℕ → Tall (List Pair) → Reader (Tall (List Pair))
@@ -223,7 +229,8 @@ dict_value under g a =
 
 -- after `{`
 unfoldable pub dict_at : Below → ℕ → Test
-dict_at under g ts = if is_op 37 (first ts) then Ok (of_dict (plain [] 0), rest ts) else (under.read 14 ts >>= dict_value under g)
+dict_at under g ts = if is_op 37 (first ts) then Ok (of_dict (plain [] 0), rest ts) else
+    (under.read 14 ts >>= dict_value under g)
 
 abbrev pub atom_of : Below → ℕ → TokenKind → Test
 atom_of under g (k.Name n) ts = Ok (of_name n, rest ts)
@@ -263,14 +270,18 @@ abbrev pub is_none : {A : Type 0} → List A → Bool
 is_none [] = true
 is_none (x ∷ xs) = false
 
-abbrev pub arg_by : Test → ℕ → (Tall (List Expr) → Reader (Tall Trailer)) → Tall (List Expr) → Tall Expr × List Token → Option (List ℕ) → Reads (Tall Trailer)
+abbrev pub arg_by : Test → ℕ → (Tall (List Expr) → Reader (Tall Trailer)) → Tall (List Expr) → Tall Expr × List Token →
+    Option (List ℕ) → Reads (Tall Trailer)
 arg_by next g go found a (Some n) = do
   b ← next (rest a.1)
   ns ← named_at next g (push_named (plain [] 0) n b.0) b.1
   Ok (of_call found ns.0, ns.1)
 arg_by next g go found a None =
     if is_none found.tree && is_keyword 13 (first a.1) then Err (LeftOut left.Comprehension, a.1) else
-    (if is_op 38 (first a.1) then (if is_op 33 (first (rest a.1)) then Ok (of_call (push found a.0) (plain [] 0), rest a.1)
+    (if is_op 38 (first a.1) then (if is_op 33 (first (rest a.1)) then Ok (
+      of_call (push found a.0) (plain [] 0),
+      rest a.1,
+    )
     else go (push found a.0) (rest a.1))
     else Ok (of_call (push found a.0) (plain [] 0), a.1))
 
@@ -302,7 +313,8 @@ index_close under a = if is_op 39 (first a.1) then slice_at under (Some a.0) (re
 
 -- after `[` of a trailer
 unfoldable pub subscript_at : Below → Reader (Tall Trailer)
-subscript_at under ts = if is_op 39 (first ts) then slice_at under None (rest ts) else (under.read 14 ts >>= index_close under)
+subscript_at under ts = if is_op 39 (first ts) then slice_at under None (rest ts) else
+    (under.read 14 ts >>= index_close under)
 
 -- after `(` of a trailer
 unfoldable pub call_at : Below → ℕ → Reader (Tall Trailer)
@@ -340,10 +352,12 @@ power_at under d a = if is_op 4 (first a.1) then (if nat_lt d (a.0.tall + 1) the
   Ok (of_power a.0 b.0, b.1))) else Ok a
 
 abbrev pub sign_of : TokenKind → Option Sign
-sign_of (k.Op n) = if n == 21 then Some sign.Plus else (if n == 22 then Some sign.Minus else (if n == 29 then Some sign.Invert else None))
+sign_of (k.Op n) = if n == 21 then Some sign.Plus else
+    (if n == 22 then Some sign.Minus else (if n == 29 then Some sign.Invert else None))
 sign_of _ = None
 
-abbrev pub linked : Test → (Tall (List Link) → Reader (Tall (List Link))) → Option Operator → Tall (List Link) → Reader (Tall (List Link))
+abbrev pub linked : Test → (Tall (List Link) → Reader (Tall (List Link))) → Option Operator → Tall (List Link) →
+    Reader (Tall (List Link))
 linked next go None found ts = Ok (found, ts)
 linked next go (Some o) found ts = do
   o' ← operator_rest o (rest ts)
@@ -379,14 +393,19 @@ after_at under g d a ts = if is_op 38 (first ts) then (if nat_lt d (a.tall + 1) 
 
 abbrev pub signed : Below → ℕ → Test → Option Sign → Test
 signed under d operand None ts = operand ts
-signed under d operand (Some s) ts = if nat_lt d 2 then Err (Deep, ts) else (under.read 3 (rest ts) >>= λ a. Ok (of_sign s a.0, a.1))
+signed under d operand (Some s) ts = if nat_lt d 2 then Err (Deep, ts) else
+    (under.read 3 (rest ts) >>= λ a. Ok (of_sign s a.0, a.1))
 
 abbrev pub rung_of : ℕ → Rung
 rung_of n =
-    if n == 0 then Trailed else (if n == 1 then Powered else (if n == 2 then Signed else (if n == 3 then Chained level.Term else
-    (if n == 4 then Chained level.Sum else (if n == 5 then Chained level.Shift else (if n == 6 then Chained level.BitAnd else
-    (if n == 7 then Chained level.BitXor else (if n == 8 then Chained level.BitOr else (if n == 9 then Chained level.Compare else
-    (if n == 10 then Negated else (if n == 11 then Chained level.And else (if n == 12 then Chained level.Or else (if n == 13 then Chosen else Listed)))))))))))))
+    if n == 0 then Trailed else (if n == 1 then Powered else
+    (if n == 2 then Signed else (if n == 3 then Chained level.Term else
+    (if n == 4 then Chained level.Sum else
+    (if n == 5 then Chained level.Shift else (if n == 6 then Chained level.BitAnd else
+    (if n == 7 then Chained level.BitXor else
+    (if n == 8 then Chained level.BitOr else (if n == 9 then Chained level.Compare else
+    (if n == 10 then Negated else (if n == 11 then Chained level.And else
+    (if n == 12 then Chained level.Or else (if n == 13 then Chosen else Listed)))))))))))))
 
 -- by what is added; `operand` reads the level below
 abbrev pub rung_at : Rung → Below → ℕ → ℕ → Test → Test
@@ -394,8 +413,10 @@ rung_at Trailed under g d operand ts = operand ts >>= trail_at under g d
 rung_at Powered under g d operand ts = operand ts >>= power_at under d
 rung_at Signed under g d operand ts = signed under d operand (sign_of (first ts)) ts
 rung_at (Chained l) under g d operand ts = operand ts >>= chain_at l (under.read (below l)) g d
-rung_at Negated under g d operand ts = if is_keyword 21 (first ts) then (if nat_lt d 2 then Err (Deep, ts) else (under.read 11 (rest ts) >>= λ a. Ok (of_not a.0, a.1))) else operand ts
-rung_at Chosen under g d operand ts = if is_keyword 20 (first ts) then Err (LeftOut left.Lambda, ts) else (operand ts >>= choice_at under d)
+rung_at Negated under g d operand ts = if is_keyword 21 (first ts) then
+    (if nat_lt d 2 then Err (Deep, ts) else (under.read 11 (rest ts) >>= λ a. Ok (of_not a.0, a.1))) else operand ts
+rung_at Chosen under g d operand ts = if is_keyword 20 (first ts) then Err (LeftOut left.Lambda, ts) else
+    (operand ts >>= choice_at under d)
 rung_at Listed under g d operand ts = operand ts >>= λ a. after_at under g d a.0 a.1
 
 unfoldable pub level_at : Below → ℕ → ℕ → ℕ → Test

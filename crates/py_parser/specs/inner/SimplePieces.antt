@@ -22,7 +22,8 @@ return_at under l ts = maybe_at under 15 ts >>= λ a. Ok (s.Return l (tree_or a.
 
 -- after `raise`
 abbrev pub raise_or_none_at : Readers → ℕ → Reader Stmt
-raise_or_none_at under l ts = if comes 14 (first ts) then (under.read 14 ts >>= raise_at under l) else Ok (s.Raise l None None, ts)
+raise_or_none_at under l ts = if comes 14 (first ts) then (under.read 14 ts >>= raise_at under l) else Ok
+    (s.Raise l None None, ts)
 
 -- after `del`
 abbrev pub del_at : Readers → ℕ → ℕ → Reader Stmt

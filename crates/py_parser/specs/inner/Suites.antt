@@ -1,5 +1,6 @@
 -- The mirror of the code: nothing public rests on it.
--- Parts of the reading of statements that have functions of their own in the code, and what a reader of statements answers.
+-- Parts of the reading of statements that have functions of their own in the code, and what a reader of statements
+-- answers.
 use Rattle.std.specs.Prelude.{ℕ, ◌-◌, List, [], ◌∷◌, Result, false, Ok, Err, nat_lt, if◌then◌else◌}
 use Rattle.std.specs.Borrow.{Bor}
 use Rattle.py_tokens.specs.declared.token.Token.{Token}
@@ -28,7 +29,8 @@ Replies = Bor (List Token) → Result (List Stmt × Bor (List Token)) ParseError
 
 -- each answer is what reading gives with this budget
 abbrev pub AnswersStatements : Replies → ℕ → ℕ → Type 0
-AnswersStatements replies g d = (ts : Bor (List Token)) (r : Result (List Stmt × Bor (List Token)) ParseError) → replies ts r → Gives (λ x. (x.0, x.1.now)) r (statements_at g d ts.now)
+AnswersStatements replies g d = (ts : Bor (List Token)) (r : Result (List Stmt × Bor (List Token)) ParseError) →
+    replies ts r → Gives (λ x. (x.0, x.1.now)) r (statements_at g d ts.now)
 
 -- the parameters of a `def`, up to its closing bracket
 abbrev pub parameters_at : Readers → ℕ → Reader (List Param)

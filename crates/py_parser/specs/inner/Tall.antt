@@ -58,7 +58,12 @@ abbrev pub of_string : List ℕ → Tall Expr
 of_string n = plain (e.Str n) 1
 
 abbrev pub of_group : Tall Expr → Tall Expr
-of_group a = record { tree = e.Group a.tree; tall = a.tall + 1; form = Many (is_target false a.form) (is_target true a.form) }
+of_group a = record {
+  tree = e.Group a.tree;
+  tall = a.tall + 1;
+  form =
+      Many (is_target false a.form) (is_target true a.form);
+}
 
 abbrev pub unit : Tall Expr
 unit = plain (e.Tuple []) 1

@@ -8,23 +8,27 @@ use Rattle.py_parser.proofs.assignment.equals.Goals as goal
 pub returns-in_err-check_target : goal.returns-in_err-check_target
 unfolding equals_at
 returns-in_err-check_target c =
-    let e = one_more (λ n. equals_at (readers c.args.turns c.args.budget) n c.turns.targets (c.turns.value, c.turns.more.now)) _ c.turns._turn c.turns-test.true c.turns.invariant in
+    let e = one_more (λ n. equals_at (readers c.args.turns c.args.budget) n c.turns.targets
+    (c.turns.value, c.turns.more.now)) _ c.turns._turn c.turns-test.true c.turns.invariant in
     grind (arith, common_steps)
 
 pub returns-then-keyword_next : goal.returns-then-keyword_next
 unfolding equals_at
 returns-then-keyword_next c =
-    let e = one_more (λ n. equals_at (readers c.args.turns c.args.budget) n c.turns.targets (c.turns.value, c.turns.more.now)) _ c.turns._turn c.turns-test.true c.turns.invariant in
+    let e = one_more (λ n. equals_at (readers c.args.turns c.args.budget) n c.turns.targets
+    (c.turns.value, c.turns.more.now)) _ c.turns._turn c.turns-test.true c.turns.invariant in
     grind (arith, common_steps)
 
 pub returns-in_err-next : goal.returns-in_err-next
 unfolding equals_at
 returns-in_err-next c =
-    let e = one_more (λ n. equals_at (readers c.args.turns c.args.budget) n c.turns.targets (c.turns.value, c.turns.more.now)) _ c.turns._turn c.turns-test.true c.turns.invariant in
+    let e = one_more (λ n. equals_at (readers c.args.turns c.args.budget) n c.turns.targets
+    (c.turns.value, c.turns.more.now)) _ c.turns._turn c.turns-test.true c.turns.invariant in
     grind (arith, common_steps)
 
 pub turns-preserved : goal.turns-preserved
 unfolding equals_at
 turns-preserved c =
-    let e = one_more (λ n. equals_at (readers c.args.turns c.args.budget) n c.turns.targets (c.turns.value, c.turns.more.now)) _ c.turns._turn c.turns-test.true c.turns.invariant in
+    let e = one_more (λ n. equals_at (readers c.args.turns c.args.budget) n c.turns.targets
+    (c.turns.value, c.turns.more.now)) _ c.turns._turn c.turns-test.true c.turns.invariant in
     grind (arith, common_steps)

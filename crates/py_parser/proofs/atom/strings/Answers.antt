@@ -7,11 +7,13 @@ use Rattle.py_parser.proofs.atom.strings.Goals as goal
 pub returns-then-unicode_next : goal.returns-then-unicode_next
 unfolding strings_at
 returns-then-unicode_next c =
-    let e = one_more (λ n. strings_at n c.turns.found c.turns.more.now) _ c.turns._turn c.turns-test.true c.turns.invariant in
+    let e = one_more (λ n. strings_at n c.turns.found c.turns.more.now) _ c.turns._turn c.turns-test.true
+    c.turns.invariant in
     grind (arith, common_steps)
 
 pub turns-preserved : goal.turns-preserved
 unfolding strings_at
 turns-preserved c =
-    let e = one_more (λ n. strings_at n c.turns.found c.turns.more.now) _ c.turns._turn c.turns-test.true c.turns.invariant in
+    let e = one_more (λ n. strings_at n c.turns.found c.turns.more.now) _ c.turns._turn c.turns-test.true
+    c.turns.invariant in
     grind (arith, common_steps)

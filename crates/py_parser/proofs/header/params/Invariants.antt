@@ -4,4 +4,5 @@ use Rattle.py_parser.specs.inner.Aiming.{readers}
 use Rattle.py_parser.proofs.header.params.Given as goal
 
 abbrev pub invariant-turns : goal.invariant-turns
-invariant-turns l = params_at (readers l.fn.turns l.fn.budget) l.fn.turns false [] l.fn.tokens ≡ params_at (readers l.fn.turns l.fn.budget) (l.fn.turns - l._turn) l.later l.found l.more
+invariant-turns l = params_at (readers l.fn.turns l.fn.budget) l.fn.turns false [] l.fn.tokens ≡ params_at
+    (readers l.fn.turns l.fn.budget) (l.fn.turns - l._turn) l.later l.found l.more

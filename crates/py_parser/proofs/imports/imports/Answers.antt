@@ -8,11 +8,13 @@ use Rattle.py_parser.proofs.imports.imports.Goals as goal
 pub returns-in_err-next : goal.returns-in_err-next
 unfolding imports_at
 returns-in_err-next c =
-    let e = one_more (λ n. imports_at (may_import c.args.what.now) n c.turns.found c.turns.more.now) _ c.turns._turn c.turns-test.true c.turns.invariant in
+    let e = one_more (λ n. imports_at (may_import c.args.what.now) n c.turns.found c.turns.more.now) _ c.turns._turn
+    c.turns-test.true c.turns.invariant in
     grind (arith, common_steps)
 
 pub turns-preserved : goal.turns-preserved
 unfolding imports_at
 turns-preserved c =
-    let e = one_more (λ n. imports_at (may_import c.args.what.now) n c.turns.found c.turns.more.now) _ c.turns._turn c.turns-test.true c.turns.invariant in
+    let e = one_more (λ n. imports_at (may_import c.args.what.now) n c.turns.found c.turns.more.now) _ c.turns._turn
+    c.turns-test.true c.turns.invariant in
     grind (arith, common_steps)

@@ -4,4 +4,5 @@ use Rattle.py_parser.specs.inner.SimplePieces.{may_import}
 use Rattle.py_parser.proofs.imports.imports.Given as goal
 
 abbrev pub invariant-turns : goal.invariant-turns
-invariant-turns l = imports_at (may_import l.fn.what) l.fn.turns (l.fn.first ∷ []) l.fn.tokens ≡ imports_at (may_import l.fn.what) (l.fn.turns - l._turn) l.found l.more
+invariant-turns l = imports_at (may_import l.fn.what) l.fn.turns (l.fn.first ∷ []) l.fn.tokens ≡ imports_at
+    (may_import l.fn.what) (l.fn.turns - l._turn) l.found l.more

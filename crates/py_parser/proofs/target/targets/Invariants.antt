@@ -5,4 +5,5 @@ use Rattle.py_parser.specs.inner.Tall.{start}
 use Rattle.py_parser.proofs.target.targets.Given as goal
 
 abbrev pub invariant-turns : goal.invariant-turns
-invariant-turns l = targets_at (readers l.fn.turns l.fn.budget) l.fn.turns (start l.fn.first) l.fn.tokens ≡ targets_at (readers l.fn.turns l.fn.budget) (l.fn.turns - l._turn) l.found l.more
+invariant-turns l = targets_at (readers l.fn.turns l.fn.budget) l.fn.turns (start l.fn.first) l.fn.tokens ≡ targets_at
+    (readers l.fn.turns l.fn.budget) (l.fn.turns - l._turn) l.found l.more

@@ -6,5 +6,6 @@ use Rattle.py_parser.proofs.reader.Reader.+grown.Goals as goal
 
 pub returns-clause-value : goal.returns-clause-value
 returns-clause-value g t c =
-    let e = grown_up (reads c.args.self.now.turns c.args.self.now.budget) c.args.self.now.turns (c.args.self.now.budget + 1) c.args.rungs (c.args.operand, c.args.tokens.now) (omega arith) in
+    let e = grown_up (reads c.args.self.now.turns c.args.self.now.budget) c.args.self.now.turns
+    (c.args.self.now.budget + 1) c.args.rungs (c.args.operand, c.args.tokens.now) (omega arith) in
     grind (arith, common_steps)

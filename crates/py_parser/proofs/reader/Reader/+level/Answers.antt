@@ -7,20 +7,24 @@ use Rattle.py_parser.proofs.reader.Reader.+level.Goals as goal
 pub returns-in_err-first-in-Chained-clause-value :
     goal.returns-in_err-first-in-Chained-clause-value
 returns-in_err-first-in-Chained-clause-value g t c =
-    let e = level_up (reads c.args.self.now.turns c.args.self.now.budget) c.args.self.now.turns (c.args.self.now.budget + 1) c.args.level c.args.tokens.now (omega arith) in
+    let e = level_up (reads c.args.self.now.turns c.args.self.now.budget) c.args.self.now.turns
+    (c.args.self.now.budget + 1) c.args.level c.args.tokens.now (omega arith) in
     grind (arith, common_steps)
 
 pub returns-in_err-test-in-Listed-clause-value : goal.returns-in_err-test-in-Listed-clause-value
 returns-in_err-test-in-Listed-clause-value g t c =
-    let e = level_up (reads c.args.self.now.turns c.args.self.now.budget) c.args.self.now.turns (c.args.self.now.budget + 1) c.args.level c.args.tokens.now (omega arith) in
+    let e = level_up (reads c.args.self.now.turns c.args.self.now.budget) c.args.self.now.turns
+    (c.args.self.now.budget + 1) c.args.level c.args.tokens.now (omega arith) in
     grind (arith, common_steps)
 
 pub returns-in_ok-first-in-Chained-clause-value : goal.returns-in_ok-first-in-Chained-clause-value
 returns-in_ok-first-in-Chained-clause-value g t c =
-    let e = level_up (reads c.args.self.now.turns c.args.self.now.budget) c.args.self.now.turns (c.args.self.now.budget + 1) c.args.level c.args.tokens.now (omega arith) in
+    let e = level_up (reads c.args.self.now.turns c.args.self.now.budget) c.args.self.now.turns
+    (c.args.self.now.budget + 1) c.args.level c.args.tokens.now (omega arith) in
     grind (arith, common_steps)
 
 pub returns-in_ok-test-in-Listed-clause-value : goal.returns-in_ok-test-in-Listed-clause-value
 returns-in_ok-test-in-Listed-clause-value g t c =
-    let e = level_up (reads c.args.self.now.turns c.args.self.now.budget) c.args.self.now.turns (c.args.self.now.budget + 1) c.args.level c.args.tokens.now (omega arith) in
+    let e = level_up (reads c.args.self.now.turns c.args.self.now.budget) c.args.self.now.turns
+    (c.args.self.now.budget + 1) c.args.level c.args.tokens.now (omega arith) in
     grind (arith, common_steps)

@@ -5,5 +5,6 @@ use Rattle.py_parser.proofs.reader.Reader.arguments.Given as goal
 
 abbrev pub invariant-turns : goal.invariant-turns
 invariant-turns g l =
-    (args_at ((reads l.fn.self.turns l.fn.self.budget).read 14) l.fn.self.turns none l.fn.tokens ≡ args_at ((reads l.fn.self.turns l.fn.self.budget).read 14) (l.fn.self.turns - l.turn) l.found l.more)
+    (args_at ((reads l.fn.self.turns l.fn.self.budget).read 14) l.fn.self.turns none l.fn.tokens ≡ args_at
+    ((reads l.fn.self.turns l.fn.self.budget).read 14) (l.fn.self.turns - l.turn) l.found l.more)
     × (l.found.tall ≤ l.fn.self.budget)

@@ -7,6 +7,8 @@ use Rattle.py_parser.proofs.reader.Reader.links.Given as goal
 
 abbrev pub invariant-turns : goal.invariant-turns
 invariant-turns g l =
-    (links_at l.fn.level ((reads l.fn.self.turns l.fn.self.budget).read (below l.fn.level)) l.fn.self.turns (plain [] 0) l.fn.tokens ≡ links_at l.fn.level ((reads l.fn.self.turns l.fn.self.budget).read (below l.fn.level)) (l.fn.self.turns - l._turn) l.found l.more)
+    (links_at l.fn.level ((reads l.fn.self.turns l.fn.self.budget).read (below l.fn.level)) l.fn.self.turns
+    (plain [] 0) l.fn.tokens ≡ links_at l.fn.level
+    ((reads l.fn.self.turns l.fn.self.budget).read (below l.fn.level)) (l.fn.self.turns - l._turn) l.found l.more)
     × (l.found.tall ≤ l.fn.self.budget)
     × (l.found.form ≡ Plain)

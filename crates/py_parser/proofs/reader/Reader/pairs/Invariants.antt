@@ -6,6 +6,8 @@ use Rattle.py_parser.proofs.reader.Reader.pairs.Given as goal
 
 abbrev pub invariant-turns : goal.invariant-turns
 invariant-turns g l =
-    (pairs_at ((reads l.fn.self.turns l.fn.self.budget).read 14) l.fn.self.turns (push_pair (plain [] 0) l.fn.key l.fn.value) l.fn.tokens ≡ pairs_at ((reads l.fn.self.turns l.fn.self.budget).read 14) (l.fn.self.turns - l._turn) l.found l.more)
+    (pairs_at ((reads l.fn.self.turns l.fn.self.budget).read 14) l.fn.self.turns
+    (push_pair (plain [] 0) l.fn.key l.fn.value) l.fn.tokens ≡ pairs_at
+    ((reads l.fn.self.turns l.fn.self.budget).read 14) (l.fn.self.turns - l._turn) l.found l.more)
     × (l.found.tall ≤ l.fn.self.budget)
     × (l.found.form ≡ Plain)

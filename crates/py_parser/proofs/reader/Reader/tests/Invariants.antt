@@ -5,5 +5,6 @@ use Rattle.py_parser.proofs.reader.Reader.tests.Given as goal
 
 abbrev pub invariant-turns : goal.invariant-turns
 invariant-turns g l =
-    (tests_at ((reads l.fn.self.turns l.fn.self.budget).read 14) l.fn.self.turns (start l.fn.first) l.fn.tokens ≡ tests_at ((reads l.fn.self.turns l.fn.self.budget).read 14) (l.fn.self.turns - l._turn) l.found l.more)
+    (tests_at ((reads l.fn.self.turns l.fn.self.budget).read 14) l.fn.self.turns (start l.fn.first) l.fn.tokens ≡
+    tests_at ((reads l.fn.self.turns l.fn.self.budget).read 14) (l.fn.self.turns - l._turn) l.found l.more)
     × (l.found.tall ≤ l.fn.self.budget)

@@ -5,5 +5,6 @@ use Rattle.py_parser.proofs.reader.Reader.trailers.Given as goal
 
 abbrev pub invariant-turns : goal.invariant-turns
 invariant-turns g l =
-    (trailers_at (reads l.fn.self.turns l.fn.self.budget) l.fn.self.turns l.fn.self.turns (plain [] 0) l.fn.tokens ≡ trailers_at (reads l.fn.self.turns l.fn.self.budget) l.fn.self.turns (l.fn.self.turns - l._turn) l.found l.more)
+    (trailers_at (reads l.fn.self.turns l.fn.self.budget) l.fn.self.turns l.fn.self.turns (plain [] 0) l.fn.tokens ≡
+    trailers_at (reads l.fn.self.turns l.fn.self.budget) l.fn.self.turns (l.fn.self.turns - l._turn) l.found l.more)
     × (l.found.tall ≤ l.fn.self.budget)
