@@ -4,7 +4,7 @@ use Rattle.py_data.specs.Heap.{Heap}
 use Rattle.lock_run.specs.declared.client.Life.TheVariants.{Lives}
 use Rattle.lock_run.specs.Prog.{Prog}
 use Rattle.lock_run.specs.Client.{Going, Waiting}
-use Rattle.lock_run.specs.LockState.{IsReady}
+use Rattle.lock_run.specs.RunState.{IsReady}
 
 -- a living thread can go on where it isn't blocked
 pub ready_of : {S : Type 0} (p : Prog S) (s : S) (h : Heap) (blocked : Bool) → p.life s ≡ Lives →

@@ -1,12 +1,8 @@
 -- What a LockRun holds, as values. States `docs/HEAP.md`, "The one-lock machine".
-use Rattle.std.specs.Prelude.{◌≡◌, ℕ, List, [], ◌++◌, Option, Bool, true, false}
+use Rattle.std.specs.Prelude.{◌≡◌, List, ◌++◌}
 use Rattle.py_data.specs.Heap.{Heap}
-use Rattle.py_data.specs.World.{World}
 use Rattle.stm_io.specs.Outside.{SourceState, SinkState}
 use Rattle.lock_run.specs.declared.machine.LockRun.{LockRun}
-use Rattle.lock_run.specs.declared.client.Life.TheVariants.{Lives}
-use Rattle.lock_run.specs.Prog.{Prog}
-use Rattle.lock_run.specs.Client.{Going, Waiting}
 use Rattle.lock_run.specs.PlainSense.{plain_state}
 use Rattle.lock_run.specs.Turns.{LockState}
 
@@ -31,15 +27,6 @@ lock_client run = run.client.now
 -- the states of the threads stand over the heap
 abbrev pub IsSound : {S : Type 0} → (Heap → List S → Type 0) → LockState S → Type 0
 IsSound sound s = sound s.view.heap s.threads
-
--- whether a thread can go on: it lives, and its next step over this heap doesn't wait
-abbrev pub IsReady : {S : Type 0} → Prog S → S → Heap → Bool → Type 0
-IsReady p s h true = (p.life s ≡ Lives) × Going (p.row s) h
-IsReady p s h false = p.life s ≡ Lives → Waiting (p.row s) h
-
--- the world at the beginning of a run: an input that tells this, nothing written yet
-abbrev pub first_world : Option (List ℕ) → World
-first_world input = record { input = input; out = []; err = []; mid = false }
 
 -- the devices of a machine are these, as far as they tell of themselves
 pub record HasDevices {S : Type 0} (s : LockState S) (source : SourceState) (sink error_sink : SinkState) : Type 0 where

@@ -1,12 +1,22 @@
 -- How a run of the one-lock machine stands. States `docs/HEAP.md`, "How a run stands".
-use Rattle.std.specs.Prelude.{◌≡◌, ◌≢◌, ℕ, ◌<◌, ◌≤◌, List, Some, slice_get, true}
+use Rattle.std.specs.Prelude.{◌≡◌, ◌≢◌, ℕ, ◌<◌, ◌≤◌, Bool, true, false, List, [], Option, Some, slice_get}
 use Rattle.std.specs.List.{sum_by}
+use Rattle.py_data.specs.Heap.{Heap}
+use Rattle.py_data.specs.World.{World}
 use Rattle.lock_run.specs.declared.client.Life.TheVariants.{Lives}
 use Rattle.lock_run.specs.declared.turn.Turn.{Turn}
 use Rattle.lock_run.specs.Prog.{Prog}
-use Rattle.lock_run.specs.Client.{Waiting}
-use Rattle.lock_run.specs.LockState.{IsReady}
+use Rattle.lock_run.specs.Client.{Going, Waiting}
 use Rattle.lock_run.specs.Machine.{Machine}
+
+-- whether a thread can go on: it lives, and its next step over this heap doesn't wait
+abbrev pub IsReady : {S : Type 0} → Prog S → S → Heap → Bool → Type 0
+IsReady p s h true = (p.life s ≡ Lives) × Going (p.row s) h
+IsReady p s h false = p.life s ≡ Lives → Waiting (p.row s) h
+
+-- the world at the beginning of a run: an input that tells this, nothing written yet
+abbrev pub first_world : Option (List ℕ) → World
+first_world input = record { input = input; out = []; err = []; mid = false }
 
 -- how many steps turns have, all together
 abbrev pub steps_done : List Turn → ℕ

@@ -80,7 +80,8 @@ impl<'p, C: Client, I: Source, O: Sink, E: Sink> LockRun<'p, C, I, O, E> {
     ghost use Rattle.std.specs.Prelude.{◌≡◌, ◌<◌, ◌≤◌, ◌≢◌, OnOk, OnErr, IfOk, IfErr, IfSome, slice_get, length, drop, [], ◌∷◌, None, Some};
     ghost use Rattle.py_data.specs.Collection.{places};
     ghost use Rattle.lock_run.specs.declared.client.Life.TheVariants.{Lives};
-    ghost use Rattle.lock_run.specs.LockState.{lock_state, moved_state, lock_client, IsSound, IsReady, first_world, HasDevices};
+    ghost use Rattle.lock_run.specs.LockState.{lock_state, moved_state, lock_client, IsSound, HasDevices};
+    ghost use Rattle.lock_run.specs.RunState.{IsReady, first_world};
     ghost use Rattle.lock_run.specs.Client.{IsSoundFirst, Standing};
     ghost use Rattle.lock_run.specs.Machine.{begin_with};
     ghost use Rattle.lock_run.specs.Turns.{NoneFall, Stands, TurnDone, TurnCut, FreeDone, FreeCut, StepGoes, StepCut, Reach, ReachCut};

@@ -28,7 +28,8 @@ use Rattle.stm_core.specs.declared.steps.Pause.TheVariants.{Whole, Waits, Ended 
 use Rattle.stm_core.specs.inner.Hold.{Dooms}
 use Rattle.stm_core.specs.Asking.{Reaches, AsksToChange, AskedFor, Went}
 use Rattle.stm_core.specs.inner.Whole.{stepped, StepDone, StepCut}
-use Rattle.stm_core.specs.Advance.{Try, moves_of, IsStepOf, IsTry, core_with, Tried, Gone, Sane, SaneShown}
+use Rattle.stm_core.specs.Advance.{Try, moves_of, IsStepOf, IsTry, Tried, Gone}
+use Rattle.stm_core.specs.inner.Trying.{core_with, Sane, SaneShown}
 use Rattle.stm_core.specs.inner.Pauses.{tried_by}
 use Rattle.stm_core.specs.inner.Pausing.{HasTold, Paused, SaneAfter}
 use Rattle.stm_core.specs.Devices.{DeviceState, Shown}

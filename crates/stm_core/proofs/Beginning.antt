@@ -9,7 +9,7 @@ use Rattle.py_data.specs.Sight.{mem, no_marks}
 use Rattle.lock_run.specs.Client.{StaysSound, Waiting, Going}
 use Rattle.lock_run.specs.declared.client.Life.TheVariants.{Lives}
 use Rattle.lock_run.specs.Prog.{Prog}
-use Rattle.lock_run.specs.LockState.{first_world}
+use Rattle.lock_run.specs.RunState.{first_world}
 use Rattle.lock_run.specs.Machine.{begin_with}
 use Rattle.seg_store.specs.Meaning.{Part, Meaning, holds}
 use Rattle.seg_store.specs.Calls.{begun, after_begin}

@@ -19,7 +19,7 @@ use Rattle.stm_core.specs.CoreState.{no_world, Transaction, Doomed, Running, Cor
 use Rattle.stm_core.specs.Conflict.{conflict, side, wins, IsStanding}
 use Rattle.stm_core.specs.Books.{Worlds, is_running, runs_at, side_of, transaction, segment_of, core_of}
 use Rattle.stm_core.specs.Passes.{met, doom_met, doom_one, doom_readers, NoneWins}
-use Rattle.stm_core.specs.Advance.{core_with}
+use Rattle.stm_core.specs.inner.Trying.{core_with}
 use Rattle.stm_core.specs.inner.Readers.{read_at, work_side, Beats, FirstBeats}
 use Rattle.lock_run.specs.Prog.{Prog}
 use Rattle.stm_core.specs.Committed.{Beaten}

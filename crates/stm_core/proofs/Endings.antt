@@ -32,7 +32,7 @@ use Rattle.stm_core.specs.Solo.{up_to_whole, SoloFailed}
 use Rattle.stm_core.specs.Devices.{DeviceState, Tells, Shown}
 use Rattle.stm_core.specs.Books.{Worlds, broken_of, transaction, core_of}
 use Rattle.stm_core.specs.inner.Whole.{StopOf}
-use Rattle.stm_core.specs.Advance.{core_with}
+use Rattle.stm_core.specs.inner.Trying.{core_with}
 use Rattle.stm_core.specs.Advanced.{StepReaches, IsStepCause, IsSoloCause, with_cause, Fails, Ends}
 use Rattle.stm_core.specs.inner.Settled.{IsOut, SettledTo}
 use Rattle.stm_core.proofs.Settling.{lost_with, failed_with}

@@ -5,7 +5,7 @@ use Rattle.std.proofs.lemmas.Bool.{cases_Bool, both_ways, or_parts, eqb-false, c
 use Rattle.std.proofs.lemmas.List.Sums.{sum_by-cons}
 use Rattle.py_data.specs.Heap.{Heap, no_records}
 use Rattle.py_data.specs.World.{grown}
-use Rattle.lock_run.specs.LockState.{first_world}
+use Rattle.lock_run.specs.RunState.{first_world}
 use Rattle.py_data.specs.Sight.{mem}
 use Rattle.lock_run.specs.Prog.{Prog}
 use Rattle.seg_store.specs.Meaning.{Part, Meaning, holds}

@@ -6,7 +6,7 @@ use Rattle.py_data.specs.declared.stop.Conflict.{Conflict}
 use Rattle.py_data.specs.Heap.{Heap}
 use Rattle.py_data.specs.World.{World}
 use Rattle.stm_io.specs.Outside.{SourceState, SinkState}
-use Rattle.lock_run.specs.LockState.{first_world}
+use Rattle.lock_run.specs.RunState.{first_world}
 use Rattle.lock_run.specs.Prog.{Prog}
 use Rattle.lock_run.specs.Machine.{begin_with}
 use Rattle.seg_store.specs.Meaning.{Meaning}

@@ -29,7 +29,8 @@ use Rattle.stm_core.specs.Moves.{Stays}
 use Rattle.stm_core.specs.Books.{Worlds, with_own, transaction, segment_of, core_of, Fit}
 use Rattle.stm_core.specs.Asking.{WaitsThere, Reaches, AsksToChange, AsksOutside, AsksRoom}
 use Rattle.stm_core.specs.inner.Hold.{LosesTo}
-use Rattle.stm_core.specs.Advance.{core_with, Tried, Sane}
+use Rattle.stm_core.specs.Advance.{Tried}
+use Rattle.stm_core.specs.inner.Trying.{core_with, Sane}
 use Rattle.stm_core.specs.Devices.{DeviceState, Shown, ShowsWorld, IsLeftAlone}
 use Rattle.stm_core.specs.inner.Whole.{stepped, CutWhy, StepDone, StepCut, StepBroke}
 use Rattle.stm_core.specs.inner.Pausing.{StopWhy, Paused}

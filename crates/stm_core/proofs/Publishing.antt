@@ -25,7 +25,7 @@ use Rattle.stm_core.specs.Moves.{Move, Drops, Loses, Next, published}
 use Rattle.stm_core.specs.Books.{Worlds, worlds_after, WorkFits, is_running, runs_at, one_running, one_started, is_lock, transaction, segment_of, core_of, Fit}
 use Rattle.stm_core.specs.Passes.{met, doom_met, doom_one, doom_readers}
 use Rattle.stm_core.specs.inner.Whole.{Whole}
-use Rattle.stm_core.specs.Advance.{core_with}
+use Rattle.stm_core.specs.inner.Trying.{core_with}
 use Rattle.stm_core.specs.Outside.{Outer, InCore, Inner, IsInner, OuterLed, told_after}
 use Rattle.stm_core.specs.Devices.{DeviceState}
 use Rattle.stm_core.specs.SaneCore.{StandsFor, LeadsBetween}

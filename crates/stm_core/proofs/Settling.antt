@@ -13,7 +13,7 @@ use Rattle.stm_core.specs.CoreState.{Segment, Idle, Running, CoreState, set_segm
 use Rattle.stm_core.specs.Moves.{first_cause}
 use Rattle.stm_core.specs.Books.{Worlds, is_running, runs_at, one_running, one_started, transaction, segment_of, core_of}
 use Rattle.stm_core.specs.inner.Whole.{Whole as WholeBooks}
-use Rattle.stm_core.specs.Advance.{core_with}
+use Rattle.stm_core.specs.inner.Trying.{core_with}
 use Rattle.stm_core.specs.Advanced.{with_cause}
 use Rattle.stm_core.proofs.Fits.{sum_set}
 use Rattle.stm_core.proofs.Wholes.{Set, set_here, set_there, core_set}

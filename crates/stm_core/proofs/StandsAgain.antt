@@ -1,7 +1,7 @@
 -- A core stands for a state again after moves.
 use Rattle.std.proofs.Common.{◌≡◌, ℕ, List, None, refl, sym, ◌∙◌, ap, subst}
 use Rattle.py_data.specs.Heap.{Heap}
-use Rattle.lock_run.specs.LockState.{first_world}
+use Rattle.lock_run.specs.RunState.{first_world}
 use Rattle.lock_run.specs.Prog.{Prog}
 use Rattle.lock_run.specs.Machine.{begin_with}
 use Rattle.seg_store.specs.Meaning.{Meaning}

@@ -7,7 +7,7 @@ use Rattle.py_data.specs.Heap.{Heap}
 use Rattle.py_data.specs.World.{World}
 use Rattle.stm_io.specs.Outside.{Rose}
 use Rattle.lock_run.specs.declared.client.Life.TheVariants.{Lives}
-use Rattle.lock_run.specs.LockState.{first_world}
+use Rattle.lock_run.specs.RunState.{first_world}
 use Rattle.lock_run.specs.Prog.{Prog}
 use Rattle.lock_run.specs.Machine.{begin_with}
 use Rattle.seg_store.specs.Meaning.{Meaning}
@@ -30,7 +30,8 @@ use Rattle.stm_core.specs.Devices.{DeviceState, Tells, Shown, IsLeftAlone, Count
 use Rattle.stm_core.specs.Books.{Worlds, with_own, broken_of, transaction, segment_of, core_of}
 use Rattle.stm_core.specs.inner.Pauses.{tried_by}
 use Rattle.stm_core.specs.inner.Pausing.{Paused, DevicesGrow, SaneAfter}
-use Rattle.stm_core.specs.Advance.{Gone, core_with, Sane, SaneShown}
+use Rattle.stm_core.specs.Advance.{Gone}
+use Rattle.stm_core.specs.inner.Trying.{core_with, Sane, SaneShown}
 use Rattle.stm_core.specs.Advanced.{CountsDone, tried_after, Ends, StepsTaken, AdvancedFrom, Advanced}
 use Rattle.stm_core.specs.SaneCore.{StandsFor, SaneCore, CauseRose, LeadsBetween}
 use Rattle.stm_core.specs.inner.Settled.{IsTakenOut, IsOut, SettledTo, Rises}

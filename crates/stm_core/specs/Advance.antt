@@ -1,22 +1,15 @@
 -- What so many steps of a transaction are, as moves of the core. States `docs/HEAP.md`, "Events".
-use Rattle.std.specs.Prelude.{◌≡◌, ℕ, Bool, true, false, Option, List, [], ◌∷◌, ◌++◌, length, map, All}
+use Rattle.std.specs.Prelude.{◌≡◌, ℕ, Bool, true, false, List, [], ◌∷◌, ◌++◌, length, map, All}
 use Rattle.py_data.specs.declared.stop.Conflict.{Conflict}
 use Rattle.py_data.specs.Heap.{Heap}
 use Rattle.py_data.specs.Row.{Row, Ret}
 use Rattle.py_data.specs.World.{World}
 use Rattle.lock_run.specs.declared.client.Outcome.{Outcome}
 use Rattle.lock_run.specs.Prog.{Prog}
-use Rattle.lock_run.specs.Machine.{Machine}
-use Rattle.seg_store.specs.Meaning.{Meaning}
-use Rattle.stm_core.specs.declared.books.Work.{Work}
-use Rattle.stm_core.specs.declared.books.Books.{Books}
-use Rattle.stm_core.specs.CoreState.{Running, CoreState, sight_of, with_segment}
+use Rattle.stm_core.specs.CoreState.{CoreState, sight_of}
 use Rattle.stm_core.specs.Asking.{Went}
 use Rattle.stm_core.specs.Conflict.{AsksFrom}
-use Rattle.stm_core.specs.Good.{Good}
 use Rattle.stm_core.specs.Moves.{Move, Dooms, Goes, Rests, Follows}
-use Rattle.stm_core.specs.Books.{Worlds, transaction, core_of}
-use Rattle.stm_core.specs.Devices.{DeviceState, Shown}
 
 -- A step of a transaction that was tried: the conflicts by which it doomed others on its way, and then the move that it was.
 pub record Try (S : Type 0) : Type 0 where
@@ -40,10 +33,6 @@ pub record IsTry {S : Type 0} (p : Prog S) (image : Heap) (w : World) (k : ℕ) 
   pub wins : All (AsksFrom k 0) t.dooms
   pub step : IsStepOf p image w k t.dooms t.move done
 
--- the core with the transaction that was taken out of segment k
-abbrev pub core_with : {S : Type 0} → Worlds → ℕ → Meaning → Books S → Work S → CoreState S
-core_with w k m b x = with_segment k (Running (transaction w.own (m.part k) x)) (core_of w m b)
-
 -- n steps of the transaction of segment k were tried, one after another, and each of them was done, or none. They lead from one
 -- state of the core to another.
 pub record Tried {S : Type 0} (p : Prog S) (most k : ℕ) (done : Bool) (n : ℕ) (c c1 : CoreState S) : Type 0 where
@@ -60,17 +49,3 @@ pub record Gone {S : Type 0} (p : Prog S) (most k n more : ℕ) (c c1 : CoreStat
   pub reached : CoreState S
   pub steps : Tried p most k true n c reached
   pub rest : Tried p most k false more reached c1
-
--- a good core, in some worlds, with the transaction that was taken out of segment k, from a first state that may stand
-pub record Sane {S : Type 0} (p : Prog S) (sound : Heap → List S → Type 0) (most k : ℕ) (m : Meaning) (b : Books S) (x : Work S) : Type 0 where
-  pub worlds : Worlds
-  pub start : Machine S
-  pub first : sound start.heap start.threads
-  pub good : Good p start most (core_with worlds k m b x)
-
--- and the devices show the world of the transaction, where it is solo
-pub record SaneShown {S : Type 0} (p : Prog S) (sound : Heap → List S → Type 0) (most k : ℕ) (d : DeviceState) (m : Meaning) (b : Books S) (x : Work S) : Type 0 where
-  pub sane : Sane p sound most k m b x
-  pub out : Option (List ℕ)
-  pub err : Option (List ℕ)
-  pub shown : Shown x.solo out err d sane.worlds.own

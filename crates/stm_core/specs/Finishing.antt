@@ -4,7 +4,7 @@ use Rattle.py_data.specs.declared.stop.Conflict.{Conflict}
 use Rattle.py_data.specs.Heap.{Heap}
 use Rattle.lock_run.specs.declared.client.Life.TheVariants.{Failed}
 use Rattle.lock_run.specs.declared.turn.Turn.{Turn}
-use Rattle.lock_run.specs.LockState.{first_world}
+use Rattle.lock_run.specs.RunState.{first_world}
 use Rattle.lock_run.specs.Prog.{Prog}
 use Rattle.lock_run.specs.Machine.{begin_with}
 use Rattle.seg_store.specs.Meaning.{Part}

@@ -8,3 +8,4 @@ pub mod SegLaws
 pub mod SegSense
 pub mod Settled
 pub mod Whole
+pub mod Trying

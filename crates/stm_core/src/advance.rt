@@ -18,7 +18,7 @@ impl<'p, C: Client, S: SegStore, I: Source, O: Sink, E: Sink> Core<'p, C, S, I, 
     ghost use Rattle.stm_core.specs.Devices.{DeviceState, device_state};
     ghost use Rattle.stm_core.specs.Books.{Fit, Worlds, transaction};
     ghost use Rattle.stm_core.specs.inner.Whole.{Whole, SameShape};
-    ghost use Rattle.stm_core.specs.Advance.{SaneShown};
+    ghost use Rattle.stm_core.specs.inner.Trying.{SaneShown};
     ghost use Rattle.stm_core.specs.Begun.{CountsSteps};
     ghost use Rattle.stm_core.specs.Events.{may_make};
     ghost use Rattle.stm_core.specs.declared.events.Event.{Event};

@@ -98,7 +98,7 @@ impl<'p, C: Client, S: SegStore, I: Source, O: Sink, E: Sink> Core<'p, C, S, I, 
     ghost use Rattle.stm_core.specs.Outside.{InCore};
     ghost use Rattle.stm_core.specs.Books.{Fit, Worlds, worlds_after, transaction, core_of};
     ghost use Rattle.stm_core.specs.inner.Whole.{Whole, SameShape};
-    ghost use Rattle.stm_core.specs.Advance.{core_with};
+    ghost use Rattle.stm_core.specs.inner.Trying.{core_with};
     ghost use Rattle.stm_core.specs.Events.{may_make};
     ghost use Rattle.stm_core.specs.declared.events.Event.{Event};
     ghost use Rattle.stm_core.specs.CoreHeld.{core_client, core_limits, Says, Leads, IsGoodCore, SameJob};

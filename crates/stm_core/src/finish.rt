@@ -68,7 +68,7 @@ impl<'p, C: Client, S: SegStore, I: Source, O: Sink, E: Sink> Core<'p, C, S, I, 
     ghost use Rattle.lock_run.specs.Client.{IsSoundFirst};
     ghost use Rattle.seg_store.specs.Store.{IsEmpty};
     ghost use Rattle.stm_core.specs.CoreState.{Idle, core_new, with_segment};
-    ghost use Rattle.lock_run.specs.LockState.{first_world};
+    ghost use Rattle.lock_run.specs.RunState.{first_world};
     ghost use Rattle.stm_core.specs.Outside.{Outer, outer_new};
     ghost use Rattle.stm_core.specs.Devices.{device_state};
     ghost use Rattle.stm_core.specs.Books.{Worlds, NoneSolo, core_of};

@@ -42,7 +42,8 @@ impl<'p, C: Client, S: SegStore, I: Source, O: Sink, E: Sink> Core<'p, C, S, I, 
     ghost use Rattle.seg_store.specs.Calls.{after_drop};
     ghost use Rattle.seg_store.specs.Store.{IsStore};
     ghost use Rattle.stm_core.specs.CoreState.{CoreState};
-    ghost use Rattle.stm_core.specs.Advance.{Tried, SaneShown, core_with};
+    ghost use Rattle.stm_core.specs.Advance.{Tried};
+    ghost use Rattle.stm_core.specs.inner.Trying.{SaneShown, core_with};
     ghost use Rattle.stm_core.specs.inner.Pauses.{done_by, PauseCount};
     ghost use Rattle.stm_core.specs.inner.Pausing.{DevicesGrow, Paused, SaneAfter};
 

@@ -5,7 +5,7 @@ use Rattle.py_data.specs.declared.stop.Conflict.{Conflict}
 use Rattle.py_data.specs.World.{World, grown}
 use Rattle.lock_run.specs.declared.client.Life.TheVariants.{Failed}
 use Rattle.lock_run.specs.declared.turn.Turn.{Turn}
-use Rattle.lock_run.specs.LockState.{first_world}
+use Rattle.lock_run.specs.RunState.{first_world}
 use Rattle.lock_run.specs.Prog.{Prog}
 use Rattle.lock_run.specs.Machine.{Machine, Runs, begin_with}
 use Rattle.lock_run.specs.Cut.{Broken, Broke}

@@ -19,7 +19,8 @@ use Rattle.stm_core.specs.Devices.{DeviceState, Shown, IsLeftAlone, CountsGrow, 
 use Rattle.stm_core.specs.Books.{Worlds, with_own, transaction}
 use Rattle.stm_core.specs.inner.Whole.{StepBroke}
 use Rattle.stm_core.specs.inner.Pauses.{tried_by}
-use Rattle.stm_core.specs.Advance.{core_with, Gone, Sane, SaneShown}
+use Rattle.stm_core.specs.Advance.{Gone}
+use Rattle.stm_core.specs.inner.Trying.{core_with, Sane, SaneShown}
 
 -- The next step of the transaction x of segment k was cut at a call that it comes to: the call changes a record by which x loses
 -- a conflict that stands, prints or reads, or wants words that the store doesn't have; or there was no memory, or, of a solo one, a

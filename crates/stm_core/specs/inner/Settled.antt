@@ -11,7 +11,7 @@ use Rattle.stm_core.specs.declared.steps.Pause.{Pause}
 use Rattle.stm_core.specs.Outside.{Outer}
 use Rattle.stm_core.specs.Devices.{DeviceState, Tells, Shown, CountsGrow}
 use Rattle.stm_core.specs.Books.{Worlds, broken_of, core_of}
-use Rattle.stm_core.specs.Advance.{core_with}
+use Rattle.stm_core.specs.inner.Trying.{core_with}
 use Rattle.stm_core.specs.inner.Pausing.{PauseWhy, HasTold}
 use Rattle.stm_core.specs.SaneCore.{CauseRose}
 

@@ -1,7 +1,7 @@
 use Rattle.std.proofs.Common.{ap, ◌∙◌}
 use Rattle.stm_core.specs.Moves.{first_cause}
 use Rattle.stm_core.specs.Books.{transaction}
-use Rattle.stm_core.specs.Advance.{core_with}
+use Rattle.stm_core.specs.inner.Trying.{core_with}
 use Rattle.stm_core.specs.Advanced.{with_cause}
 use Rattle.stm_core.proofs.Settling.{caused, core_caused}
 use Rattle.stm_core.proofs.Breaking.{whole_cause, cut_whole}

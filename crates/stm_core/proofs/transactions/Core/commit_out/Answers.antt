@@ -3,7 +3,7 @@ use Rattle.std.specs.List.{range_with_len}
 use Rattle.stm_core.specs.CoreState.{with_conflict}
 use Rattle.stm_core.specs.Moves.{published}
 use Rattle.stm_core.specs.Books.{worlds_after, transaction}
-use Rattle.stm_core.specs.Advance.{core_with}
+use Rattle.stm_core.specs.inner.Trying.{core_with}
 use Rattle.stm_core.specs.Begun.{CountsSteps}
 use Rattle.stm_core.specs.inner.Readers.{FirstBeats}
 use Rattle.stm_core.proofs.Committing.{none_wins, beaten_is}

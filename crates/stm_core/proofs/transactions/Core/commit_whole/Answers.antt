@@ -2,7 +2,7 @@ use Rattle.std.proofs.Common.{◌<◌, ap, subst, sym, ◌∙◌, length}
 use Rattle.std.specs.List.{range_with_len}
 use Rattle.stm_core.specs.Moves.{published}
 use Rattle.stm_core.specs.Books.{worlds_after, transaction}
-use Rattle.stm_core.specs.Advance.{core_with}
+use Rattle.stm_core.specs.inner.Trying.{core_with}
 use Rattle.stm_core.specs.Begun.{CountsSteps}
 use Rattle.stm_core.proofs.Publishing.{left_idle, dooms_keep}
 use Rattle.stm_core.proofs.Breaking.{whole_none, whole_some}

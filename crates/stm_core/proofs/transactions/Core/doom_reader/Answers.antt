@@ -1,6 +1,6 @@
 use Rattle.std.proofs.Common.{false, sym, ap, subst, ◌∙◌, slice_get}
 use Rattle.stm_core.specs.Books.{Fit, side_of}
-use Rattle.stm_core.specs.Advance.{core_with}
+use Rattle.stm_core.specs.inner.Trying.{core_with}
 use Rattle.stm_core.proofs.Publish.{get_set_other}
 use Rattle.stm_core.proofs.Fits.{started_pending, fit_doom}
 use Rattle.stm_core.proofs.Committing.{reader_is, doom_some}

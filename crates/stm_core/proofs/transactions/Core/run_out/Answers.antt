@@ -2,7 +2,7 @@ use Rattle.std.proofs.Common.{◌≡◌, ◌+◌, ℕ, List, Option, refl, sym, 
 use Rattle.stm_core.specs.declared.steps.Pause.TheVariants.{Whole, Waits, Ended, Stopped}
 use Rattle.stm_core.specs.Books.{Worlds, with_own}
 use Rattle.stm_core.specs.Devices.{Shown, device_state}
-use Rattle.stm_core.specs.Advance.{core_with}
+use Rattle.stm_core.specs.inner.Trying.{core_with}
 use Rattle.stm_core.specs.inner.Pausing.{Paused}
 use Rattle.stm_core.proofs.Advancing.{sane_paused}
 use Rattle.stm_core.proofs.Counting.{counts_same, counts_then}

@@ -6,7 +6,7 @@ use Rattle.stm_core.specs.declared.steps.Pause.TheVariants.{Whole}
 use Rattle.stm_core.specs.Books.{Worlds, Fit}
 use Rattle.stm_core.specs.Devices.{device_state, Shown, CountsGrow, IsLeftAlone}
 use Rattle.stm_core.specs.inner.Whole.{SameShape}
-use Rattle.stm_core.specs.Advance.{SaneShown, core_with}
+use Rattle.stm_core.specs.inner.Trying.{SaneShown, core_with}
 use Rattle.stm_core.specs.inner.Pausing.{Paused}
 use Rattle.stm_core.proofs.transactions.Core.run_out.Given as goal
 

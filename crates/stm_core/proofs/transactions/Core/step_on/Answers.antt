@@ -4,7 +4,7 @@ use Rattle.stm_core.specs.declared.steps.Pause.TheVariants.{Whole, Waits, Ended,
 use Rattle.lock_run.specs.Client.{LifeAfter}
 use Rattle.lock_run.specs.declared.client.Outcome.TheVariants.{Waits as WaitsNow}
 use Rattle.stm_core.specs.Devices.{device_state}
-use Rattle.stm_core.specs.Advance.{Sane, core_with}
+use Rattle.stm_core.specs.inner.Trying.{Sane, core_with}
 use Rattle.stm_core.specs.inner.Pausing.{Paused}
 use Rattle.stm_core.proofs.Advancing.{sane_stands, sane_paused, gone_good, gone_cut, tried_none, done_others, done_not_waits, ended_not_waits}
 use Rattle.stm_core.proofs.Pausing.{numbers_apart, paused_waits, paused_whole, paused_ended, paused_cut}

@@ -2,7 +2,7 @@ use Rattle.std.proofs.Common.{refl, sym, ◌∙◌, ap, subst}
 use Rattle.stm_core.specs.Books.{with_own}
 use Rattle.stm_core.specs.Begun.{CountsSteps}
 use Rattle.stm_core.specs.Devices.{device_state}
-use Rattle.stm_core.specs.Advance.{core_with}
+use Rattle.stm_core.specs.inner.Trying.{core_with}
 use Rattle.stm_core.specs.inner.Pausing.{PauseWhy}
 use Rattle.stm_core.specs.inner.Settled.{KeepsOrRose, Rises}
 use Rattle.stm_core.proofs.TakenSteps.{sane_paused, thread_out, history_paused, cause_paused, settled_now}
