@@ -9,4 +9,5 @@ use Rattle.stm_core.specs.declared.transactions.Core.{Core}
 use Rattle.stm_core.specs.CoreHeld.{IsGoodCore}
 
 abbrev pub IsGoodScriptCore : Core Script PlainStore MemSourceValue MemSinkValue MemSinkValue ScriptState → Type 0
-IsGoodScriptCore x = IsGoodCore mem_source_state mem_sink_state mem_sink_state (λ c. script_prog (cells_in c) (lists_in c)) (λ c. ScriptSound) (λ s. 0) plain_meaning x
+IsGoodScriptCore x = IsGoodCore mem_source_state mem_sink_state mem_sink_state
+    (λ c. script_prog (cells_in c) (lists_in c)) (λ c. ScriptSound) (λ s. 0) plain_meaning x

@@ -7,7 +7,8 @@ use Rattle.py_data.proofs.Rows.{safe-next}
 
 module _ {S X : Type 0} {u : Sense S X} where
   -- what a safe row asks behind a call, where what follows is known by another name
-  pub safe_behind : {A : Type 0} (L : Lawful u) (c : Call S) (k : Reply c → Row S A) (rest : Row S A) (v w : X) (r : Reply c) → u.does c v r w → Safe u.partial (Do c k) (u.heap v) → k r ≡ rest → Safe u.partial rest (u.heap w)
+  pub safe_behind : {A : Type 0} (L : Lawful u) (c : Call S) (k : Reply c → Row S A) (rest : Row S A) (v w : X)
+      (r : Reply c) → u.does c v r w → Safe u.partial (Do c k) (u.heap v) → k r ≡ rest → Safe u.partial rest (u.heap w)
   safe_behind L c k rest v w r d s e = subst (λ z. Safe u.partial z (u.heap w)) e (safe-next L c k v w r s d)
 
   -- a call that was done leaves a view that has not stopped
@@ -15,7 +16,8 @@ module _ {S X : Type 0} {u : Sense S X} where
   live_behind L c v w r d l = L.live c v r w d l
 
   -- a view that has written may set the flag
-  pub may_set : {b : Bracket S X} (B : IsBracket u b) (v w : X) (text : List ℕ) → u.does (Put Output text) v tt w → b.solo w ≡ true
+  pub may_set : {b : Bracket S X} (B : IsBracket u b) (v w : X) (text : List ℕ) → u.does (Put Output text) v tt w →
+      b.solo w ≡ true
   may_set B v w text d = (B.keeps (Put Output text) v tt w d).1 ∙ B.put v w text d
 
 pub ruleset after_steps = (safe_behind, live_behind)

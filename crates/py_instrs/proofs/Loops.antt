@@ -12,4 +12,5 @@ module _ {S X : Type 0} {u : Sense S X} where
   unfolding some_catches
   some_begin roots e t n v s l =
       let q : n - 0 ≡ n = omega arith in
-      subst (λ m. Leads u (some_catches {S = S} roots e t n) v (until_row (place_catches roots e t) not false 0 m) v) (sym q) (leads-begin u (some_catches {S = S} roots e t n) v s l)
+      subst (λ m. Leads u (some_catches {S = S} roots e t n) v (until_row (place_catches roots e t) not false 0 m) v)
+      (sym q) (leads-begin u (some_catches {S = S} roots e t n) v s l)

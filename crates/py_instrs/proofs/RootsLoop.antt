@@ -11,26 +11,40 @@ use Rattle.py_code.specs.declared.program.Root.{Root}
 use Rattle.py_frames.specs.SetupRows.{root_by, roots_row}
 
 module _ {S X : Type 0} {u : Sense S X} where
-  pub roots_begin : (rs : List Root) (vs : List Value) (v : X) → vs ≡ [] → Safe u.partial (roots_row {S = S} rs []) (u.heap v) → IsLive u v → Leads u (roots_row {S = S} rs []) v (roots_row rs vs) v
-  roots_begin rs vs v e s l = subst (λ z. Leads u (roots_row {S = S} rs []) v (roots_row rs z) v) (sym e) (leads-begin u (roots_row {S = S} rs []) v s l)
+  pub roots_begin : (rs : List Root) (vs : List Value) (v : X) → vs ≡ [] →
+      Safe u.partial (roots_row {S = S} rs []) (u.heap v) → IsLive u v →
+      Leads u (roots_row {S = S} rs []) v (roots_row rs vs) v
+  roots_begin rs vs v e s l = subst (λ z. Leads u (roots_row {S = S} rs []) v (roots_row rs z) v) (sym e)
+      (leads-begin u (roots_row {S = S} rs []) v s l)
 
 module _ {S X : Type 0} {u : Sense S X} {row : Row S (List Value)} {v w : X} where
-  one_root : (rs more : List Root) (r : Root) (vs : List Value) → rs ≡ r ∷ more → Leads u row v (roots_row rs vs) w → Leads u row v (bind (root_by r vs r.kind) (λ x. roots_row more (vs ++ x ∷ []))) w
+  one_root : (rs more : List Root) (r : Root) (vs : List Value) → rs ≡ r ∷ more → Leads u row v (roots_row rs vs) w →
+      Leads u row v (bind (root_by r vs r.kind) (λ x. roots_row more (vs ++ x ∷ []))) w
   unfolding roots_row
   one_root rs more r vs e l = subst (λ z. Leads u row v (roots_row z vs) w) e l
 
-  pub root_safe : (rs more : List Root) (r : Root) (vs : List Value) → rs ≡ r ∷ more → Leads u row v (roots_row rs vs) w → Safe u.partial (root_by {S = S} r vs r.kind) (u.heap w)
-  root_safe rs more r vs e l = let t = one_root rs more r vs e l in safe-first u.partial (root_by r vs r.kind) (λ x. roots_row more (vs ++ x ∷ [])) (u.heap w) t.safe
+  pub root_safe : (rs more : List Root) (r : Root) (vs : List Value) → rs ≡ r ∷ more →
+      Leads u row v (roots_row rs vs) w → Safe u.partial (root_by {S = S} r vs r.kind) (u.heap w)
+  root_safe rs more r vs e l = let t = one_root rs more r vs e l in
+      safe-first u.partial (root_by r vs r.kind) (λ x. roots_row more (vs ++ x ∷ [])) (u.heap w) t.safe
 
-  pub root_stop : (x : X) (f : Stop) (rs more : List Root) (r : Root) (vs : List Value) → rs ≡ r ∷ more → Leads u row v (roots_row rs vs) w → Meets u (root_by r vs r.kind) w x (Err f) → Meets u row v x (Err f)
-  root_stop x f rs more r vs e l m = leads-call-stop (root_by r vs r.kind) (λ x. roots_row more (vs ++ x ∷ [])) x f (one_root rs more r vs e l) m
+  pub root_stop : (x : X) (f : Stop) (rs more : List Root) (r : Root) (vs : List Value) → rs ≡ r ∷ more →
+      Leads u row v (roots_row rs vs) w → Meets u (root_by r vs r.kind) w x (Err f) → Meets u row v x (Err f)
+  root_stop x f rs more r vs e l m = leads-call-stop (root_by r vs r.kind) (λ x. roots_row more (vs ++ x ∷ [])) x f
+      (one_root rs more r vs e l) m
 
-  pub root_more : (L : Lawful u) (x : X) (y : Value) (rs more : List Root) (r : Root) (vs ws : List Value) → rs ≡ r ∷ more → ws ≡ vs ++ y ∷ [] → Leads u row v (roots_row rs vs) w → Meets u (root_by r vs r.kind) w x (Ok y) → Leads u row v (roots_row more ws) x
-  root_more L x y rs more r vs ws e q l m = subst (λ z. Leads u row v (roots_row more z) x) (sym q) (leads-call L (root_by r vs r.kind) (λ x. roots_row more (vs ++ x ∷ [])) x y (one_root rs more r vs e l) m)
+  pub root_more : (L : Lawful u) (x : X) (y : Value) (rs more : List Root) (r : Root) (vs ws : List Value) →
+      rs ≡ r ∷ more → ws ≡ vs ++ y ∷ [] → Leads u row v (roots_row rs vs) w → Meets u (root_by r vs r.kind) w x (Ok y)
+      → Leads u row v (roots_row more ws) x
+  root_more L x y rs more r vs ws e q l m = subst (λ z. Leads u row v (roots_row more z) x) (sym q)
+      (leads-call L (root_by r vs r.kind) (λ x. roots_row more (vs ++ x ∷ [])) x y (one_root rs more r vs e l) m)
 
-  pub root_starved : (L : Lawful u) (x : X) (y : Value) (rs more : List Root) (r : Root) (vs : List Value) → rs ≡ r ∷ more → Leads u row v (roots_row rs vs) w → Meets u (root_by r vs r.kind) w x (Ok y) → Meets u row v x (Err OutOfMemory)
+  pub root_starved : (L : Lawful u) (x : X) (y : Value) (rs more : List Root) (r : Root) (vs : List Value) →
+      rs ≡ r ∷ more → Leads u row v (roots_row rs vs) w → Meets u (root_by r vs r.kind) w x (Ok y) →
+      Meets u row v x (Err OutOfMemory)
   root_starved L x y rs more r vs e l m = leads-own (root_more L x y rs more r vs (vs ++ y ∷ []) e refl l m)
 
-  pub roots_end : (rs : List Root) (vs : List Value) → rs ≡ [] → Leads u row v (roots_row rs vs) w → Meets u row v w (Ok vs)
+  pub roots_end : (rs : List Root) (vs : List Value) → rs ≡ [] → Leads u row v (roots_row rs vs) w →
+      Meets u row v w (Ok vs)
   unfolding roots_row
   roots_end rs vs e l = leads-ret (subst (λ z. Leads u row v (roots_row z vs) w) e l)

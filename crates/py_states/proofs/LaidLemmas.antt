@@ -15,59 +15,76 @@ pub length_laid : (hs : List Head) (vs : List Value) (bs : List Block) → lengt
 length_laid [] vs bs = refl
 length_laid (h ∷ hs) vs bs = ap suc (length_laid hs (take h.base vs) (drop h.blocks bs))
 
--- ---- the stack of the innermost frame, which lies above a floor of b values and s slots: of its values the first m stay, so that
+-- ---- the stack of the innermost frame, which lies above a floor of b values and s slots: of its values the first m
+-- stay, so that
 -- k values stay in all, and others come behind them
 
-module _ (b s m k : ℕ) (vs ys : List Value) (low : b + s ≤ length vs) (is : k ≡ length vs - (length vs - b - s - m)) where
-  kept : length (take k vs) ≡ k
-  kept = length-take-le k vs (omega (arith, is))
+module _ (b s m k : ℕ) (vs ys : List Value) (low : b + s ≤ length vs) (is : k ≡ length vs - (length vs - b - s - m))
+  where
+    kept : length (take k vs) ≡ k
+    kept = length-take-le k vs (omega (arith, is))
 
-  cut_low : take b (take k vs ++ ys) ≡ take b vs
-  cut_low = take-append-le b (take k vs) ys (omega (arith, low, is, kept)) ∙ take-take b k vs (omega (arith, low, is))
+    cut_low : take b (take k vs ++ ys) ≡ take b vs
+    cut_low = take-append-le b (take k vs) ys (omega (arith, low, is, kept)) ∙ take-take b k vs (omega (arith, low, is))
 
-  cut_own : drop b (take k vs ++ ys) ≡ take (k - b) (drop b vs) ++ ys
-  cut_own =
-      let e : k ≡ b + (k - b) = omega (arith, low, is) in
-      drop-append-le b (take k vs) ys (omega (arith, low, is, kept)) ∙ ap (λ z. z ++ ys) (ap (λ n. drop b (take n vs)) e ∙ drop-take b (k - b) vs)
+    cut_own : drop b (take k vs ++ ys) ≡ take (k - b) (drop b vs) ++ ys
+    cut_own =
+        let e : k ≡ b + (k - b) = omega (arith, low, is) in
+        drop-append-le b (take k vs) ys (omega (arith, low, is, kept)) ∙
+        ap (λ z. z ++ ys) (ap (λ n. drop b (take n vs)) e ∙ drop-take b (k - b) vs)
 
-  own : length (drop b vs) ≡ length vs - b
-  own = length-drop b vs
+    own : length (drop b vs) ≡ length vs - b
+    own = length-drop b vs
 
-  stays : length (take (k - b) (drop b vs)) ≡ k - b
-  stays = length-take-le (k - b) (drop b vs) (omega (arith, is, own))
+    stays : length (take (k - b) (drop b vs)) ≡ k - b
+    stays = length-take-le (k - b) (drop b vs) (omega (arith, is, own))
 
-  cut_slots : take s (drop b (take k vs ++ ys)) ≡ take s (drop b vs)
-  cut_slots =
-      ap (take s) cut_own
-      ∙ (take-append-le s (take (k - b) (drop b vs)) ys (omega (arith, low, is, stays)) ∙ take-take s (k - b) (drop b vs) (omega (arith, low, is)))
+    cut_slots : take s (drop b (take k vs ++ ys)) ≡ take s (drop b vs)
+    cut_slots =
+        ap (take s) cut_own
+        ∙ (take-append-le s (take (k - b) (drop b vs)) ys (omega (arith, low, is, stays)) ∙
+        take-take s (k - b) (drop b vs) (omega (arith, low, is)))
 
-  above : length (drop s (drop b vs)) ≡ length vs - b - s
-  above = length-drop s (drop b vs) ∙ ap (λ n. n - s) own
+    above : length (drop s (drop b vs)) ≡ length vs - b - s
+    above = length-drop s (drop b vs) ∙ ap (λ n. n - s) own
 
-  cut_stack : drop s (drop b (take k vs ++ ys)) ≡ take m (drop s (drop b vs)) ++ ys
-  cut_stack =
-      let e : k - b ≡ s + (k - b - s) = omega (arith, low, is) in
-      let f : k - b - s ≡ min m (length (drop s (drop b vs))) = omega (arith, low, is, above) in
-      ap (drop s) cut_own
-      ∙ (drop-append-le s (take (k - b) (drop b vs)) ys (omega (arith, low, is, stays))
-      ∙ ap (λ z. z ++ ys)
-      (ap (λ n. drop s (take n (drop b vs))) e
-      ∙ (drop-take s (k - b - s) (drop b vs)
-      ∙ (ap (λ n. take n (drop s (drop b vs))) f ∙ take_min m (drop s (drop b vs))))))
+    cut_stack : drop s (drop b (take k vs ++ ys)) ≡ take m (drop s (drop b vs)) ++ ys
+    cut_stack =
+        let e : k - b ≡ s + (k - b - s) = omega (arith, low, is) in
+        let f : k - b - s ≡ min m (length (drop s (drop b vs))) = omega (arith, low, is, above) in
+        ap (drop s) cut_own
+        ∙ (drop-append-le s (take (k - b) (drop b vs)) ys (omega (arith, low, is, stays))
+        ∙ ap (λ z. z ++ ys)
+        (ap (λ n. drop s (take n (drop b vs))) e
+        ∙ (drop-take s (k - b - s) (drop b vs)
+        ∙ (ap (λ n. take n (drop s (drop b vs))) f ∙ take_min m (drop s (drop b vs))))))
 
-restacked_cons : (h : Head) (hs : List Head) (m k : ℕ) (vs ys : List Value) (bs : List Block) → h.base + h.slots ≤ length vs → k ≡ length vs - (length vs - h.base - h.slots - m)
+restacked_cons : (h : Head) (hs : List Head) (m k : ℕ) (vs ys : List Value) (bs : List Block) →
+    h.base + h.slots ≤ length vs → k ≡ length vs - (length vs - h.base - h.slots - m)
     → laid (h ∷ hs) (take k vs ++ ys) bs ≡ on_top (restacked m ys) (laid (h ∷ hs) vs bs)
 restacked_cons h hs m k vs ys bs low is =
     let p = cut_slots h.base h.slots m k vs ys low is in
     let q = cut_stack h.base h.slots m k vs ys low is in
     let r = cut_low h.base h.slots m k vs ys low is in
-    λ i. record { code = h.code; pc = h.pc; slots = p i; stack = q i; blocks = take h.blocks bs; made = h.made; names = h.names } ∷ laid hs (r i) (drop h.blocks bs)
+    λ i. record {
+      code = h.code;
+      pc = h.pc;
+      slots = p i;
+      stack = q i;
+      blocks = take h.blocks bs;
+      made = h.made;
+      names =
+          h.names;
+    } ∷ laid hs (r i) (drop h.blocks bs)
 
-pub restacked_laid : (h : Head) (hs : List Head) (m k : ℕ) (vs ys : List Value) (bs : List Block) → hs ≡ h ∷ drop 1 hs → IsLaid hs vs bs
-    → k ≡ length vs - (length vs - h.base - h.slots - m) → laid hs (take k vs ++ ys) bs ≡ on_top (restacked m ys) (laid hs vs bs)
+pub restacked_laid : (h : Head) (hs : List Head) (m k : ℕ) (vs ys : List Value) (bs : List Block) → hs ≡ h ∷ drop 1 hs
+    → IsLaid hs vs bs
+    → k ≡ length vs - (length vs - h.base - h.slots - m) → laid hs (take k vs ++ ys) bs ≡ on_top (restacked m ys)
+    (laid hs vs bs)
 restacked_laid h hs m k vs ys bs e laid_so is =
     let whole : IsLaid (h ∷ drop 1 hs) vs bs = subst (λ z. IsLaid z vs bs) e laid_so in
-    subst (λ z. laid z (take k vs ++ ys) bs ≡ on_top (restacked m ys) (laid z vs bs)) (sym e) (restacked_cons h (drop 1 hs) m k vs ys bs whole.0 is)
+    subst (λ z. laid z (take k vs ++ ys) bs ≡ on_top (restacked m ys) (laid z vs bs)) (sym e)
+    (restacked_cons h (drop 1 hs) m k vs ys bs whole.0 is)
 
 -- ---- a slot of the innermost frame
 
@@ -81,36 +98,57 @@ stored_cons : (h : Head) (hs : List Head) (i : ℕ) (x : Value) (vs : List Value
     → laid (h ∷ hs) (slice_set vs (h.base + i) x) bs ≡ on_top (stored i x) (laid (h ∷ hs) vs bs)
 stored_cons h hs i x vs bs l =
     let own : drop h.base (slice_set vs (h.base + i) x) ≡ slice_set (drop h.base vs) i x = drop-set-add h.base vs i x in
-    let p : take h.slots (drop h.base (slice_set vs (h.base + i) x)) ≡ slice_set (take h.slots (drop h.base vs)) i x = ap (take h.slots) own ∙ set_within h.slots i (drop h.base vs) x in
-    let q : drop h.slots (drop h.base (slice_set vs (h.base + i) x)) ≡ drop h.slots (drop h.base vs) = ap (drop h.slots) own ∙ drop-set-lt h.slots (drop h.base vs) i x l in
-    let r : take h.base (slice_set vs (h.base + i) x) ≡ take h.base vs = take-set-le h.base vs (h.base + i) x (omega arith) in
-    λ j. record { code = h.code; pc = h.pc; slots = p j; stack = q j; blocks = take h.blocks bs; made = h.made; names = h.names } ∷ laid hs (r j) (drop h.blocks bs)
+    let p : take h.slots (drop h.base (slice_set vs (h.base + i) x)) ≡ slice_set (take h.slots (drop h.base vs)) i x =
+    ap (take h.slots) own ∙ set_within h.slots i (drop h.base vs) x in
+    let q : drop h.slots (drop h.base (slice_set vs (h.base + i) x)) ≡ drop h.slots (drop h.base vs) =
+    ap (drop h.slots) own ∙ drop-set-lt h.slots (drop h.base vs) i x l in
+    let r : take h.base (slice_set vs (h.base + i) x) ≡ take h.base vs =
+    take-set-le h.base vs (h.base + i) x (omega arith) in
+    λ j. record {
+      code = h.code;
+      pc = h.pc;
+      slots = p j;
+      stack = q j;
+      blocks = take h.blocks bs;
+      made = h.made;
+      names =
+          h.names;
+    } ∷ laid hs (r j) (drop h.blocks bs)
 
-pub stored_laid : (h : Head) (hs : List Head) (i : ℕ) (x : Value) (vs : List Value) (bs : List Block) → hs ≡ h ∷ drop 1 hs → i < h.slots
+pub stored_laid : (h : Head) (hs : List Head) (i : ℕ) (x : Value) (vs : List Value) (bs : List Block) →
+    hs ≡ h ∷ drop 1 hs → i < h.slots
     → laid hs (slice_set vs (h.base + i) x) bs ≡ on_top (stored i x) (laid hs vs bs)
-stored_laid h hs i x vs bs e l = subst (λ z. laid z (slice_set vs (h.base + i) x) bs ≡ on_top (stored i x) (laid z vs bs)) (sym e) (stored_cons h (drop 1 hs) i x vs bs l)
+stored_laid h hs i x vs bs e l = subst (λ z. laid z (slice_set vs (h.base + i) x) bs ≡ on_top (stored i x)
+    (laid z vs bs)) (sym e) (stored_cons h (drop 1 hs) i x vs bs l)
 
 -- ---- the first frame that has an open block
 
-opened_so : (n i : ℕ) (bs : List Block) (rest : Option ℕ) → n ≤ length bs → cond (n == 0) rest (Some i) ≡ catching_by i (take n bs) rest
+opened_so : (n i : ℕ) (bs : List Block) (rest : Option ℕ) → n ≤ length bs →
+    cond (n == 0) rest (Some i) ≡ catching_by i (take n bs) rest
 opened_so zero i bs rest l = refl
 opened_so (suc n) i [] rest l = absurd (omega (arith, l))
 opened_so (suc n) i (b ∷ bs) rest l = rw (eqb-suc-zero n) refl
 
-opening_is : (i : ℕ) (hs : List Head) (vs : List Value) (bs : List Block) → IsLaid hs vs bs → opening i hs ≡ catching i (laid hs vs bs)
+opening_is : (i : ℕ) (hs : List Head) (vs : List Value) (bs : List Block) → IsLaid hs vs bs →
+    opening i hs ≡ catching i (laid hs vs bs)
 opening_is i [] vs bs is = refl
 opening_is i (h ∷ hs) vs bs is =
     ap (λ r. cond (h.blocks == 0) r (Some i)) (opening_is (i + 1) hs (take h.base vs) (drop h.blocks bs) is.2)
     ∙ opened_so h.blocks i bs (catching (i + 1) (laid hs (take h.base vs) (drop h.blocks bs))) is.1
 
-pub opening_laid : (i k : ℕ) (hs : List Head) (vs : List Value) (bs : List Block) → IsLaid hs vs bs → opening i (drop k hs) ≡ catching i (drop k (laid hs vs bs))
+pub opening_laid : (i k : ℕ) (hs : List Head) (vs : List Value) (bs : List Block) → IsLaid hs vs bs →
+    opening i (drop k hs) ≡ catching i (drop k (laid hs vs bs))
 opening_laid i zero hs vs bs is = opening_is i hs vs bs is
 opening_laid i (suc k) [] vs bs is = refl
 opening_laid i (suc k) (h ∷ hs) vs bs is = opening_laid i k hs (take h.base vs) (drop h.blocks bs) is.2
 
 -- one head more
-pub opening_here : (i : ℕ) (hs : List Head) (h : Head) → drop i hs ≡ h ∷ drop (i + 1) hs → h.blocks ≢ 0 → opening i (drop i hs) ≡ Some i
-opening_here i hs h e l = ap (opening i) e ∙ ap (λ b. cond b (opening (i + 1) (drop (i + 1) hs)) (Some i)) (ne_eqb h.blocks 0 l)
+pub opening_here : (i : ℕ) (hs : List Head) (h : Head) → drop i hs ≡ h ∷ drop (i + 1) hs → h.blocks ≢ 0 →
+    opening i (drop i hs) ≡ Some i
+opening_here i hs h e l = ap (opening i) e ∙ ap (λ b. cond b (opening (i + 1) (drop (i + 1) hs)) (Some i))
+    (ne_eqb h.blocks 0 l)
 
-pub opening_next : (i : ℕ) (hs : List Head) (h : Head) → drop i hs ≡ h ∷ drop (i + 1) hs → h.blocks ≡ 0 → opening i (drop i hs) ≡ opening (i + 1) (drop (i + 1) hs)
-opening_next i hs h e l = ap (opening i) e ∙ ap (λ b. cond b (opening (i + 1) (drop (i + 1) hs)) (Some i)) (eq-eqb h.blocks 0 l)
+pub opening_next : (i : ℕ) (hs : List Head) (h : Head) → drop i hs ≡ h ∷ drop (i + 1) hs → h.blocks ≡ 0 →
+    opening i (drop i hs) ≡ opening (i + 1) (drop (i + 1) hs)
+opening_next i hs h e l = ap (opening i) e ∙ ap (λ b. cond b (opening (i + 1) (drop (i + 1) hs)) (Some i))
+    (eq-eqb h.blocks 0 l)

@@ -22,21 +22,26 @@ before : {A : Type 0} (init : List A) (l : A) → length (init ++ l ∷ []) - 1 
 before init l = let e : length (init ++ l ∷ []) ≡ length init + 1 = length-append init (l ∷ []) in omega (arith, e)
 
 -- another last element
-pub set_is : {A : Type 0} (xs : List A) (x : A) → 0 < length xs → reverse (slice_set xs (length xs - 1) x) ≡ x ∷ drop 1 (reverse xs)
+pub set_is : {A : Type 0} (xs : List A) (x : A) → 0 < length xs → reverse (slice_set xs (length xs - 1) x) ≡ x ∷ drop 1
+    (reverse xs)
 set_is [] x l = absurd (omega (arith, l))
 set_is (y ∷ ys) x l =
     let s = snoc y ys in
     subst (λ z. reverse (slice_set z (length z - 1) x) ≡ x ∷ drop 1 (reverse z)) (sym s.is)
-    (ap (λ k. reverse (slice_set (s.init ++ s.last ∷ []) k x)) (before s.init s.last) ∙ (ap reverse (set_snoc s.init s.last x) ∙ (rev_snoc s.init x ∙ sym (ap (λ z. x ∷ drop 1 z) (rev_snoc s.init s.last)))))
+    (ap (λ k. reverse (slice_set (s.init ++ s.last ∷ []) k x)) (before s.init s.last) ∙
+    (ap reverse (set_snoc s.init s.last x) ∙
+    (rev_snoc s.init x ∙ sym (ap (λ z. x ∷ drop 1 z) (rev_snoc s.init s.last)))))
 
 -- without the last n
 pub cut_is : {A : Type 0} (xs : List A) (n : ℕ) → reverse (take (length xs - n) xs) ≡ drop n (reverse xs)
 cut_is xs n =
     let k = length xs - n in
-    let parts : reverse xs ≡ reverse (drop k xs) ++ reverse (take k xs) = ap reverse (sym (take-append-drop k xs)) ∙ reverse-append (take k xs) (drop k xs) in
+    let parts : reverse xs ≡ reverse (drop k xs) ++ reverse (take k xs) = ap reverse (sym (take-append-drop k xs)) ∙
+    reverse-append (take k xs) (drop k xs) in
     let tall : length (reverse (drop k xs)) ≡ min n (length (reverse xs)) =
     length-reverse (drop k xs) ∙ (length-drop k xs ∙ omega (arith, length-reverse xs)) in
-    sym (drop_at (reverse (drop k xs)) (reverse (take k xs)) (min n (length (reverse xs))) tall) ∙ (ap (drop (min n (length (reverse xs)))) (sym parts) ∙ drop_min n (reverse xs))
+    sym (drop_at (reverse (drop k xs)) (reverse (take k xs)) (min n (length (reverse xs))) tall) ∙
+    (ap (drop (min n (length (reverse xs)))) (sym parts) ∙ drop_min n (reverse xs))
 
 -- what is left from a place on, where it is known what is there
 pub left_at : {A : Type 0} (xs : List A) (i : ℕ) (x : A) → slice_get xs i ≡ Some x → drop i xs ≡ x ∷ drop (i + 1) xs
@@ -47,7 +52,8 @@ left_at (y ∷ ys) (suc i) x e =
     left_at ys i x e ∙ ap (λ k. x ∷ drop k (y ∷ ys)) same
 
 -- another last element, where the list is a pile's and has k elements
-pub set_top_is : {A : Type 0} (xs es : List A) (x : A) (k : ℕ) → reverse xs ≡ es → k ≡ length xs → 0 < length es → reverse (slice_set xs (k - 1) x) ≡ x ∷ drop 1 es
+pub set_top_is : {A : Type 0} (xs es : List A) (x : A) (k : ℕ) → reverse xs ≡ es → k ≡ length xs → 0 < length es →
+    reverse (slice_set xs (k - 1) x) ≡ x ∷ drop 1 es
 set_top_is xs es x k e q l =
     let tall : length es ≡ length xs = ap length (sym e) ∙ length-reverse xs in
     ap (λ n. reverse (slice_set xs (n - 1) x)) q ∙ (set_is xs x (omega (arith, l, tall)) ∙ ap (λ z. x ∷ drop 1 z) e)

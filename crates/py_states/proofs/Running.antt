@@ -12,5 +12,6 @@ there_is [] l = absurd (omega (arith, l))
 there_is (f ∷ fs) l = refl
 
 -- the end of its step is that of the innermost frame
-pub settled_there : (p : Program) (s : State) (n : ℕ) (next : Next) (f : Frame) (fs : List Frame) → s.frames ≡ f ∷ fs → settled_in p s n next s.frames ≡ settled p s n f fs next
+pub settled_there : (p : Program) (s : State) (n : ℕ) (next : Next) (f : Frame) (fs : List Frame) → s.frames ≡ f ∷ fs →
+    settled_in p s n next s.frames ≡ settled p s n f fs next
 settled_there p s n next f fs e = ap (settled_in p s n next) e

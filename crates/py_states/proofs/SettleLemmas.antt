@@ -13,7 +13,8 @@ use Rattle.py_states.specs.Innermost.{innermost, settled_in, Settles}
 use Rattle.py_states.specs.inner.Changes.{on_top}
 
 -- an end that is the same one
-pub ended : {E : Type 0} (a b : Outcome × State) (r : Result Outcome E) (t : State) → IfOk r (λ o. Settles a o t) → a ≡ b → IfOk r (λ o. Settles b o t)
+pub ended : {E : Type 0} (a b : Outcome × State) (r : Result Outcome E) (t : State) → IfOk r (λ o. Settles a o t) →
+    a ≡ b → IfOk r (λ o. Settles b o t)
 ended a b (Ok o) t i e = i ∙ e
 ended a b (Err z) t i e = tt
 
@@ -21,7 +22,8 @@ ended a b (Err z) t i e = tt
 abbrev Ends : Program → State → ℕ → Next → List Frame → Outcome × State → Type 0
 Ends p s n next fs x = x ≡ settled_in p s n next fs
 
-pub goes_is : (p : Program) (s : State) (n : ℕ) (next : Next) (zs ys : List Value) (fs : List Frame) → next ≡ Goes ys → zs ≡ ys → 0 < length fs
+pub goes_is : (p : Program) (s : State) (n : ℕ) (next : Next) (zs ys : List Value) (fs : List Frame) → next ≡ Goes ys →
+    zs ≡ ys → 0 < length fs
     → Ends p s n next fs (Done, with_frames s (on_top (λ f. advanced n zs (f.pc + 1) f) fs))
 unfolding settled
 goes_is p s n next zs ys [] e q l = absurd (omega (arith, l))
@@ -29,7 +31,8 @@ goes_is p s n next zs ys (f ∷ fs) e q l =
     let make : List Value → Outcome × State = λ us. (Done, with_frames s (advanced n us (f.pc + 1) f ∷ fs)) in
     ap make q ∙ sym (ap (settled p s n f fs) e)
 
-pub jumps_is : (p : Program) (s : State) (n t : ℕ) (next : Next) (zs ys : List Value) (fs : List Frame) → next ≡ Jumps t ys → zs ≡ ys → 0 < length fs
+pub jumps_is : (p : Program) (s : State) (n t : ℕ) (next : Next) (zs ys : List Value) (fs : List Frame) →
+    next ≡ Jumps t ys → zs ≡ ys → 0 < length fs
     → Ends p s n next fs (Done, with_frames s (on_top (advanced n zs t) fs))
 unfolding settled
 jumps_is p s n t next zs ys [] e q l = absurd (omega (arith, l))
@@ -37,7 +40,8 @@ jumps_is p s n t next zs ys (f ∷ fs) e q l =
     let make : List Value → Outcome × State = λ us. (Done, with_frames s (advanced n us t f ∷ fs)) in
     ap make q ∙ sym (ap (settled p s n f fs) e)
 
-pub stores_is : (p : Program) (s : State) (n i : ℕ) (next : Next) (x : Value) (fs : List Frame) → next ≡ Stores i x → 0 < length fs
+pub stores_is : (p : Program) (s : State) (n i : ℕ) (next : Next) (x : Value) (fs : List Frame) → next ≡ Stores i x →
+    0 < length fs
     → Ends p s n next fs (Done, with_frames s (on_top (λ f. stored i x (passed n f)) fs))
 unfolding settled
 stores_is p s n i next x [] e l = absurd (omega (arith, l))
@@ -55,32 +59,38 @@ unfolding settled
 closes_is p s n next [] e l = absurd (omega (arith, l))
 closes_is p s n next (f ∷ fs) e l = sym (ap (settled p s n f fs) e)
 
-pub enters_is : (p : Program) (s : State) (n : ℕ) (next : Next) (g : Frame) (fs : List Frame) → next ≡ Enters g → 0 < length fs
+pub enters_is : (p : Program) (s : State) (n : ℕ) (next : Next) (g : Frame) (fs : List Frame) → next ≡ Enters g →
+    0 < length fs
     → Ends p s n next fs (Done, with_frames s (g ∷ on_top (passed n) fs))
 unfolding settled
 enters_is p s n next g [] e l = absurd (omega (arith, l))
 enters_is p s n next g (f ∷ fs) e l = sym (ap (settled p s n f fs) e)
 
-pub leaves_is : (p : Program) (s : State) (n : ℕ) (next : Next) (x : Value) (fs : List Frame) → next ≡ Leaves x → 0 < length fs
+pub leaves_is : (p : Program) (s : State) (n : ℕ) (next : Next) (x : Value) (fs : List Frame) → next ≡ Leaves x →
+    0 < length fs
     → Ends p s n next fs (returned s x (drop 1 fs))
 unfolding settled
 leaves_is p s n next x [] e l = absurd (omega (arith, l))
 leaves_is p s n next x (f ∷ fs) e l = sym (ap (settled p s n f fs) e)
 
-pub begins_is : (p : Program) (s : State) (n : ℕ) (next : Next) (a : Addr) (fs : List Frame) → next ≡ Begins a → 0 < length fs
+pub begins_is : (p : Program) (s : State) (n : ℕ) (next : Next) (a : Addr) (fs : List Frame) → next ≡ Begins a →
+    0 < length fs
     → Ends p s n next fs (Done, record (with_frames s (on_top (passed n) fs)) { roots = Some a })
 unfolding settled
 begins_is p s n next a [] e l = absurd (omega (arith, l))
 begins_is p s n next a (f ∷ fs) e l = sym (ap (settled p s n f fs) e)
 
 -- the line of the innermost frame's instruction
-lined : (p : Program) (line code pc : ℕ) (f : Frame) → (let c = code_at p code in line ≡ get_or c.lines pc 0) → code ≡ f.code → pc ≡ f.pc → line ≡ line_at p f
+lined : (p : Program) (line code pc : ℕ) (f : Frame) → (let c = code_at p code in line ≡ get_or c.lines pc 0) →
+    code ≡ f.code → pc ≡ f.pc → line ≡ line_at p f
 lined p line code pc f e q r =
     let at : ℕ → ℕ → ℕ = λ i j. let c = code_at p i in get_or c.lines j 0 in
     e ∙ (λ i. at (q i) (r i))
 
-pub fails_is : (p : Program) (s : State) (n line code pc : ℕ) (next : Next) (x : Value) (fs : List Frame) → next ≡ Fails x → 0 < length fs
-    → (let c = code_at p code in line ≡ get_or c.lines pc 0) → (let f = innermost fs in code ≡ f.code) → (let f = innermost fs in pc ≡ f.pc)
+pub fails_is : (p : Program) (s : State) (n line code pc : ℕ) (next : Next) (x : Value) (fs : List Frame) →
+    next ≡ Fails x → 0 < length fs
+    → (let c = code_at p code in line ≡ get_or c.lines pc 0) → (let f = innermost fs in code ≡ f.code) →
+    (let f = innermost fs in pc ≡ f.pc)
     → Ends p s n next fs (Done, thrown_to s x line (unwound x (drop 1 fs)))
 unfolding settled
 fails_is p s n line code pc next x [] e l a b c = absurd (omega (arith, l))
@@ -88,8 +98,10 @@ fails_is p s n line code pc next x (f ∷ fs) e l a b c =
     let make : ℕ → Outcome × State = λ k. (Done, thrown_to s x k (unwound x fs)) in
     ap make (lined p line code pc f a b c) ∙ sym (ap (settled p s n f fs) e)
 
-pub throws_is : (p : Program) (s : State) (n line code pc : ℕ) (next : Next) (x : Value) (fs : List Frame) → next ≡ Throws x → 0 < length fs
-    → (let c = code_at p code in line ≡ get_or c.lines pc 0) → (let f = innermost fs in code ≡ f.code) → (let f = innermost fs in pc ≡ f.pc)
+pub throws_is : (p : Program) (s : State) (n line code pc : ℕ) (next : Next) (x : Value) (fs : List Frame) →
+    next ≡ Throws x → 0 < length fs
+    → (let c = code_at p code in line ≡ get_or c.lines pc 0) → (let f = innermost fs in code ≡ f.code) →
+    (let f = innermost fs in pc ≡ f.pc)
     → Ends p s n next fs (Done, thrown_to s x line (unwound x (drop 0 fs)))
 unfolding settled
 throws_is p s n line code pc next x [] e l a b c = absurd (omega (arith, l))
@@ -97,7 +109,8 @@ throws_is p s n line code pc next x (f ∷ fs) e l a b c =
     let make : ℕ → Outcome × State = λ k. (Done, thrown_to s x k (unwound x (f ∷ fs))) in
     ap make (lined p line code pc f a b c) ∙ sym (ap (settled p s n f fs) e)
 
-pub waits_is : (p : Program) (s t : State) (n : ℕ) (next : Next) (fs : List Frame) → next ≡ Waits → t ≡ s → 0 < length fs → Settles (settled_in p s n next fs) WaitsNow t
+pub waits_is : (p : Program) (s t : State) (n : ℕ) (next : Next) (fs : List Frame) → next ≡ Waits → t ≡ s →
+    0 < length fs → Settles (settled_in p s n next fs) WaitsNow t
 unfolding settled
 waits_is p s t n next [] e q l = absurd (omega (arith, l))
 waits_is p s t n next (f ∷ fs) e q l =

@@ -47,7 +47,8 @@ abbrev pub start : ℕ
 start = builtin_number (codes "thread.start")
 
 -- a record that is there has its kind's shape
-shaped : (h : Heap) (closed : AreClosed h) (a : ℕ) (k : Kind) → Has h a → (at h a).kind ≡ k → HasShape h k (at h a).values
+shaped : (h : Heap) (closed : AreClosed h) (a : ℕ) (k : Kind) → Has h a → (at h a).kind ≡ k →
+    HasShape h k (at h a).values
 shaped h closed a k there e =
     let c = closed.each a (at h a) (there_at h a there) in
     subst (λ k. HasShape h k (at h a).values) e c.shaped.0
@@ -69,7 +70,8 @@ module _ (S : Type 0) (h : Heap) where
     unfolding Comes range_filled stop_with step_with look_row bind
     range_comes i = (there, (there, (there, ap has_item (three (at h a).values i))))
 
-    by_comes : (k : Kind) → ((k ≡ Range) → IsRange (at h a).values) → Comes {S = S} h (filled_by a k) (truth_by k (at h a).values (at h a).bytes)
+    by_comes : (k : Kind) → ((k ≡ Range) → IsRange (at h a).values) →
+        Comes {S = S} h (filled_by a k) (truth_by k (at h a).values (at h a).bytes)
     unfolding Comes filled_by bytes_filled
     by_comes Str i = (there, filled (at h a).bytes)
     by_comes Tuple i = values_come
@@ -186,30 +188,38 @@ module _ (S : Type 0) (h : Heap) where
     unfolding acquire_row acquire_by hold_row Avoids Never
     free_goes x e =
         let n : Told false (acquire_by a x false) = λ u q. value_not _ q in
-        tells_then h false AnswersWait (look_row a 0) (λ held. acquire_by a x (is_set held)) (value_at (at h a).values 0) (comes_look S h a there 0)
+        tells_then h false AnswersWait (look_row a 0) (λ held. acquire_by a x (is_set held))
+        (value_at (at h a).values 0) (comes_look S h a there 0)
         (subst (λ b. Told false (acquire_by a x b)) (sym e) n)
 
     -- of a free lock
-    pub free_tells : (args : List Value) → is_set (value_at (at h a).values 0) ≡ false → Told false (acquire_with a args)
+    pub free_tells : (args : List Value) → is_set (value_at (at h a).values 0) ≡ false →
+        Told false (acquire_with a args)
     unfolding acquire_with Avoids
     free_tells [] e = free_goes None e
     free_tells (x ∷ []) e = free_goes (Some x) e
     free_tells (x ∷ y ∷ zs) e = raise_not _
 
-    held_waits : (b : Bool) (x : Option Value) → is_set (value_at (at h a).values 0) ≡ true → Told b (held_row x) → Told b (acquire_row a x)
+    held_waits : (b : Bool) (x : Option Value) → is_set (value_at (at h a).values 0) ≡ true → Told b (held_row x) →
+        Told b (acquire_row a x)
     unfolding acquire_row acquire_by
     held_waits b x e t =
-        tells_then h b AnswersWait (look_row a 0) (λ held. acquire_by a x (is_set held)) (value_at (at h a).values 0) (comes_look S h a there 0)
+        tells_then h b AnswersWait (look_row a 0) (λ held. acquire_by a x (is_set held)) (value_at (at h a).values 0)
+        (comes_look S h a there 0)
         (subst (λ q. Told b (acquire_by a x q)) (sym e) t)
 
     -- of a held one without an argument, with one, and with more
-    pub held_alone : (args : List Value) → args ≡ [] → is_set (value_at (at h a).values 0) ≡ true → Told true (acquire_with a args)
+    pub held_alone : (args : List Value) → args ≡ [] → is_set (value_at (at h a).values 0) ≡ true →
+        Told true (acquire_with a args)
     unfolding acquire_with held_row
-    held_alone args n e = subst (λ args. Told true (acquire_with a args)) (sym n) (held_waits true None e (waits _ refl))
+    held_alone args n e = subst (λ args. Told true (acquire_with a args)) (sym n)
+        (held_waits true None e (waits _ refl))
 
-    pub held_asked : (b : Bool) (args : List Value) (x : Value) → args ≡ x ∷ [] → is_set (value_at (at h a).values 0) ≡ true → Comes {S = S} h (truth_row x) b → Told b (acquire_with a args)
+    pub held_asked : (b : Bool) (args : List Value) (x : Value) → args ≡ x ∷ [] →
+        is_set (value_at (at h a).values 0) ≡ true → Comes {S = S} h (truth_row x) b → Told b (acquire_with a args)
     unfolding acquire_with
-    held_asked b args x n e c = subst (λ args. Told b (acquire_with a args)) (sym n) (held_waits b (Some x) e (held_tells b x c))
+    held_asked b args x n e c = subst (λ args. Told b (acquire_with a args)) (sym n)
+        (held_waits b (Some x) e (held_tells b x c))
 
     pub many_goes : (args : List Value) → 2 ≤ length args → Told false (acquire_with a args)
     unfolding acquire_with Avoids
@@ -220,10 +230,12 @@ module _ (S : Type 0) (h : Heap) where
     -- ---- join
 
     module _ (me : Option ℕ) where
-      started : (b : Bool) (fresh : Bool) → is_none (value_at (at h a).values 2) ≡ fresh → Told b (join_by_number me a fresh) → Told b (join_row me a)
+      started : (b : Bool) (fresh : Bool) → is_none (value_at (at h a).values 2) ≡ fresh →
+          Told b (join_by_number me a fresh) → Told b (join_row me a)
       unfolding join_row
       started b fresh e t =
-          tells_then h b AnswersWait (look_row a 2) (λ n. join_by_number me a (is_none n)) (value_at (at h a).values 2) (comes_look S h a there 2)
+          tells_then h b AnswersWait (look_row a 2) (λ n. join_by_number me a (is_none n)) (value_at (at h a).values 2)
+          (comes_look S h a there 2)
           (subst (λ q. Told b (join_by_number me a q)) (sym e) t)
 
       -- of a thread that isn't started, of the calling one, and of another
@@ -231,9 +243,11 @@ module _ (S : Type 0) (h : Heap) where
       unfolding join_by_number Avoids
       fresh_goes e = started false true e (raise_not _)
 
-      mine : (b : Bool) (m : Bool) → is_me me a ≡ m → is_none (value_at (at h a).values 2) ≡ false → Told b (cond m (Ret (Raise current_fault)) (join_other a)) → Told b (join_row me a)
+      mine : (b : Bool) (m : Bool) → is_me me a ≡ m → is_none (value_at (at h a).values 2) ≡ false →
+          Told b (cond m (Ret (Raise current_fault)) (join_other a)) → Told b (join_row me a)
       unfolding join_by_number join_started
-      mine b m e n t = started b false n (subst (λ q. Told b (cond q (Ret (Raise current_fault)) (join_other a))) (sym e) t)
+      mine b m e n t = started b false n
+          (subst (λ q. Told b (cond q (Ret (Raise current_fault)) (join_other a))) (sym e) t)
 
       pub me_goes : is_none (value_at (at h a).values 2) ≡ false → is_me me a ≡ true → Told false (join_row me a)
       unfolding Avoids
@@ -243,58 +257,78 @@ module _ (S : Type 0) (h : Heap) where
       joined_tells false = waits _ refl
       joined_tells true = goes _ (value_not _)
 
-      pub other_tells : (ended : Bool) → is_none (value_at (at h a).values 2) ≡ false → is_me me a ≡ false → is_set (value_at (at h a).values 3) ≡ ended → Told (not ended) (join_row me a)
+      pub other_tells : (ended : Bool) → is_none (value_at (at h a).values 2) ≡ false → is_me me a ≡ false →
+          is_set (value_at (at h a).values 3) ≡ ended → Told (not ended) (join_row me a)
       unfolding join_other
       other_tells ended n e i =
-          let last : Told (not ended) (Ret (joined (is_set (value_at (at h a).values 3)))) = subst (λ b. Told (not ended) (Ret (joined b))) (sym i) (joined_tells ended) in
-          mine (not ended) false e n (tells_then h (not ended) AnswersWait (look_row a 3) (λ ended. Ret (joined (is_set ended))) (value_at (at h a).values 3) (comes_look S h a there 3) last)
+          let last : Told (not ended) (Ret (joined (is_set (value_at (at h a).values 3)))) =
+          subst (λ b. Told (not ended) (Ret (joined b))) (sym i) (joined_tells ended) in
+          mine (not ended) false e n (tells_then h (not ended) AnswersWait (look_row a 3)
+          (λ ended. Ret (joined (is_set ended))) (value_at (at h a).values 3) (comes_look S h a there 3) last)
 
   -- ---- methods of locks and threads
 
-  pub lock_tells : (b : Bool) (own : Value) (a : Addr) (args : List Value) → own ≡ Ref a → Has h a.0 → (at h a.0).kind ≡ Lock → Told b (acquire_with a.0 args) → Told b (lock_row acquire own args [])
+  pub lock_tells : (b : Bool) (own : Value) (a : Addr) (args : List Value) → own ≡ Ref a → Has h a.0 →
+      (at h a.0).kind ≡ Lock → Told b (acquire_with a.0 args) → Told b (lock_row acquire own args [])
   unfolding lock_row lock_at lock_of lock_keyed lock_by
   lock_tells b own a args e there k t =
       subst (λ own. Told b (lock_row acquire own args [])) (sym e)
-      (tells_then h b AnswersWait (kind_row a.0) (λ k. lock_of acquire a.0 args [] k) (at h a.0).kind (comes_kind S h a.0 there) (subst (λ k. Told b (lock_of acquire a.0 args [] k)) (sym k) t))
+      (tells_then h b AnswersWait (kind_row a.0) (λ k. lock_of acquire a.0 args [] k) (at h a.0).kind
+      (comes_kind S h a.0 there) (subst (λ k. Told b (lock_of acquire a.0 args [] k)) (sym k) t))
 
   lock_kinds : (a : ℕ) (args : List Value) (k : Kind) → (k ≡ Lock → ⊥) → Told false (lock_of acquire a args [] k)
   unfolding lock_of Avoids
   lock_kinds a args Lock n = absurd (n refl)
   lock_kinds a args _ n = raise_not _
 
-  pub lock_goes : (own : Value) (args : List Value) → Refers h own → (IsOf h Lock own → ⊥) → Told false (lock_row acquire own args [])
+  pub lock_goes : (own : Value) (args : List Value) → Refers h own → (IsOf h Lock own → ⊥) →
+      Told false (lock_row acquire own args [])
   unfolding lock_row lock_at Avoids
-  lock_goes (Ref a) args i n = tells_then h false AnswersWait (kind_row a.0) (λ k. lock_of acquire a.0 args [] k) (at h a.0).kind (comes_kind S h a.0 i) (lock_kinds a.0 args (at h a.0).kind n)
+  lock_goes (Ref a) args i n = tells_then h false AnswersWait (kind_row a.0) (λ k. lock_of acquire a.0 args [] k)
+      (at h a.0).kind (comes_kind S h a.0 i) (lock_kinds a.0 args (at h a.0).kind n)
   lock_goes _ args i n = raise_not _
 
   module _ (roots : ℕ) (me : Option ℕ) where
-    pub thread_tells : (b : Bool) (own : Value) (a : Addr) (args : List Value) → own ≡ Ref a → args ≡ [] → Has h a.0 → (at h a.0).kind ≡ Thread → Told b (join_row me a.0) → Told b (thread_row roots me join own args [])
+    pub thread_tells : (b : Bool) (own : Value) (a : Addr) (args : List Value) → own ≡ Ref a → args ≡ [] → Has h a.0 →
+        (at h a.0).kind ≡ Thread → Told b (join_row me a.0) → Told b (thread_row roots me join own args [])
     unfolding thread_row thread_at thread_of thread_bare bare_thread_row
     thread_tells b own a args e n there k t =
         subst (λ own. Told b (thread_row roots me join own args [])) (sym e)
-        (tells_then h b AnswersWait (kind_row a.0) (λ k. thread_of roots me join a args [] k) (at h a.0).kind (comes_kind S h a.0 there)
-        (subst (λ k. Told b (thread_of roots me join a args [] k)) (sym k) (subst (λ args. Told b (thread_of roots me join a args [] Thread)) (sym n) t)))
+        (tells_then h b AnswersWait (kind_row a.0) (λ k. thread_of roots me join a args [] k) (at h a.0).kind
+        (comes_kind S h a.0 there)
+        (subst (λ k. Told b (thread_of roots me join a args [] k)) (sym k)
+        (subst (λ args. Told b (thread_of roots me join a args [] Thread)) (sym n) t)))
 
-    thread_kinds : (a : Addr) (args : List Value) (k : Kind) → (k ≡ Thread → ⊥) → Told false (thread_of roots me join a args [] k)
+    thread_kinds : (a : Addr) (args : List Value) (k : Kind) → (k ≡ Thread → ⊥) →
+        Told false (thread_of roots me join a args [] k)
     unfolding thread_of Avoids
     thread_kinds a args Thread n = absurd (n refl)
     thread_kinds a args _ n = raise_not _
 
-    pub thread_goes : (own : Value) (args : List Value) → Refers h own → (IsOf h Thread own → ⊥) → Told false (thread_row roots me join own args [])
+    pub thread_goes : (own : Value) (args : List Value) → Refers h own → (IsOf h Thread own → ⊥) →
+        Told false (thread_row roots me join own args [])
     unfolding thread_row thread_at Avoids
-    thread_goes (Ref a) args i n = tells_then h false AnswersWait (kind_row a.0) (λ k. thread_of roots me join a args [] k) (at h a.0).kind (comes_kind S h a.0 i) (thread_kinds a args (at h a.0).kind n)
+    thread_goes (Ref a) args i n = tells_then h false AnswersWait (kind_row a.0)
+        (λ k. thread_of roots me join a args [] k) (at h a.0).kind (comes_kind S h a.0 i)
+        (thread_kinds a args (at h a.0).kind n)
     thread_goes _ args i n = raise_not _
 
-    asked_of : (a : Addr) (x : Value) (xs : List Value) (k : Kind) → Told false (thread_of roots me join a (x ∷ xs) [] k)
+    asked_of : (a : Addr) (x : Value) (xs : List Value) (k : Kind) →
+        Told false (thread_of roots me join a (x ∷ xs) [] k)
     unfolding thread_of thread_bare Avoids
-    asked_of a x xs Thread = subst (λ b. Told false (cond (b && true) (bare_thread_row roots me join a) (Ret (Raise argument_fault)))) (sym (some_not x xs)) (raise_not _)
+    asked_of a x xs Thread = subst (λ b.
+        Told false (cond (b && true) (bare_thread_row roots me join a) (Ret (Raise argument_fault))))
+        (sym (some_not x xs)) (raise_not _)
     asked_of a x xs _ = raise_not _
 
     -- with an argument
-    pub asked_goes : (own : Value) (args : List Value) → 1 ≤ length args → Refers h own → Told false (thread_row roots me join own args [])
+    pub asked_goes : (own : Value) (args : List Value) → 1 ≤ length args → Refers h own →
+        Told false (thread_row roots me join own args [])
     unfolding thread_row thread_at Avoids
     asked_goes own [] n i = absurd (let e : ⊥ = omega (arith, n) in e)
-    asked_goes (Ref a) (x ∷ xs) n i = tells_then h false AnswersWait (kind_row a.0) (λ k. thread_of roots me join a (x ∷ xs) [] k) (at h a.0).kind (comes_kind S h a.0 i) (asked_of a x xs (at h a.0).kind)
+    asked_goes (Ref a) (x ∷ xs) n i = tells_then h false AnswersWait (kind_row a.0)
+        (λ k. thread_of roots me join a (x ∷ xs) [] k) (at h a.0).kind (comes_kind S h a.0 i)
+        (asked_of a x xs (at h a.0).kind)
     asked_goes _ (x ∷ xs) n i = raise_not _
 
 -- ---- every other builtin
@@ -359,7 +393,8 @@ module _ (S : Type 0) where
 
   object_goes : (m : ℕ) (own : Value) (args keys : List Value) → Goes (object_row m own args keys)
   unfolding object_row method_at method_of method_keyed
-  object_goes m (Ref a) args keys = next (kind_row a.0) _ (λ k. cond_goes _ _ _ (cond_goes _ _ _ (kinds_go m a.0 args k) (raises _)) (raises _))
+  object_goes m (Ref a) args keys = next (kind_row a.0) _
+      (λ k. cond_goes _ _ _ (cond_goes _ _ _ (kinds_go m a.0 args k) (raises _)) (raises _))
   object_goes m _ args keys = raises _
 
   function_goes : (roots b : ℕ) (args keys : List Value) → Goes (function_keyed roots b args keys)
@@ -377,13 +412,15 @@ module _ (S : Type 0) where
 
   unasked_goes : (m a : ℕ) (args : List Value) → Goes (unasked_lock_row m a args)
   unfolding unasked_lock_row bare_lock_row release_row locked_row
-  unasked_goes m a args = cond_goes _ _ _ (cond_goes _ _ _ (next _ _ (λ held. set_goes (is_set held) a)) (next _ _ (λ held. gives _))) (raises _)
+  unasked_goes m a args = cond_goes _ _ _
+      (cond_goes _ _ _ (next _ _ (λ held. set_goes (is_set held) a)) (next _ _ (λ held. gives _))) (raises _)
 
   lock_of_goes : (m a : ℕ) (args keys : List Value) → IsOther m keys → (k : Kind) → Goes (lock_of m a args keys k)
   unfolding lock_of lock_keyed lock_by
   lock_of_goes m a args keys o Lock =
       if_goes (length keys == 0) (lock_by m a args) (Ret (Raise argument_fault)) (λ e. elim o [
-        | inl n ↦ if_goes (m == acquire) (acquire_with a args) (unasked_lock_row m a args) (λ q. absurd (apart (m == acquire) q n.0)) (λ q. unasked_goes m a args)
+        | inl n ↦ if_goes (m == acquire) (acquire_with a args) (unasked_lock_row m a args)
+            (λ q. absurd (apart (m == acquire) q n.0)) (λ q. unasked_goes m a args)
         | inr n ↦ absurd (apart (length keys == 0) e n)
       ]) (λ e. raises argument_fault)
   lock_of_goes m a args keys o _ = raises _
@@ -396,12 +433,14 @@ module _ (S : Type 0) where
   -- ---- threads
   room_goes : (f : Value) (t : Addr) (thread : Option Addr) (room : Bool) → Goes (answer_row f t thread room)
   unfolding answer_row
-  room_goes f t thread true = never_ret S AnswersWait _ (λ e. let q : ◌≡◌ {A = Got Answer} (Is (Start f t thread)) (Is Waits) = e in cc)
+  room_goes f t thread true = never_ret S AnswersWait _
+      (λ e. let q : ◌≡◌ {A = Got Answer} (Is (Start f t thread)) (Is Waits) = e in cc)
   room_goes f t thread false = raises _
 
   begun_goes : (roots : ℕ) (f : Value) (thread : Option Addr) (o : Option Addr) → Goes (start_with roots f thread o)
   unfolding start_with start_tested start_by room_row
-  begun_goes roots f thread (Some t) = next (target_row f) _ (λ good. cond_goes _ _ _ (next (count_row roots) _ (λ n. room_goes f t thread _)) (raises _))
+  begun_goes roots f thread (Some t) = next (target_row f) _
+      (λ good. cond_goes _ _ _ (next (count_row roots) _ (λ n. room_goes f t thread _)) (raises _))
   begun_goes roots f thread None = raises _
 
   begin_goes : (roots : ℕ) (f args : Value) (thread : Option Addr) → Goes (begin_row roots f args thread)
@@ -452,38 +491,50 @@ module _ (S : Type 0) where
 
   start_goes : (roots : ℕ) (a : Addr) → Goes (start_row roots a)
   unfolding start_row start_by_number start_fresh start_called
-  start_goes roots a = next (look_row a.0 2) _ (λ n. cond_goes _ _ _ (next (look_row a.0 0) _ (λ f. next (look_row a.0 1) _ (λ args. begin_goes roots f args (Some a)))) (raises _))
+  start_goes roots a = next (look_row a.0 2) _
+      (λ n. cond_goes _ _ _ (next (look_row a.0 0) _
+      (λ f. next (look_row a.0 1) _ (λ args. begin_goes roots f args (Some a)))) (raises _))
 
-  thread_of_goes : (roots : ℕ) (me : Option ℕ) (m : ℕ) (a : Addr) (args keys : List Value) → IsOther m keys → is_method_of Thread m ≡ true → (k : Kind) → Goes (thread_of roots me m a args keys k)
+  thread_of_goes : (roots : ℕ) (me : Option ℕ) (m : ℕ) (a : Addr) (args keys : List Value) → IsOther m keys →
+      is_method_of Thread m ≡ true → (k : Kind) → Goes (thread_of roots me m a args keys k)
   unfolding thread_of thread_bare bare_thread_row
   thread_of_goes roots me m a args keys o i Thread =
       if_goes (is_bare args keys) (bare_thread_row roots me m a) (Ret (Raise argument_fault)) (λ e. elim o [
-        | inl n ↦ if_goes (m == start) (start_row roots a) (join_row me a.0) (λ q. start_goes roots a) (λ q. absurd (apart (m == start) (one_left m n.1 i) q))
+        | inl n ↦ if_goes (m == start) (start_row roots a) (join_row me a.0) (λ q. start_goes roots a)
+            (λ q. absurd (apart (m == start) (one_left m n.1 i) q))
         | inr n ↦ absurd (apart (length keys == 0) (both (length args == 0) (length keys == 0) e) n)
       ]) (λ e. raises argument_fault)
   thread_of_goes roots me m a args keys o i _ = raises _
 
-  thread_row_goes : (roots : ℕ) (me : Option ℕ) (m : ℕ) (own : Value) (args keys : List Value) → IsOther m keys → is_method_of Thread m ≡ true → Goes (thread_row roots me m own args keys)
+  thread_row_goes : (roots : ℕ) (me : Option ℕ) (m : ℕ) (own : Value) (args keys : List Value) → IsOther m keys →
+      is_method_of Thread m ≡ true → Goes (thread_row roots me m own args keys)
   unfolding thread_row thread_at
-  thread_row_goes roots me m (Ref a) args keys o i = next (kind_row a.0) _ (λ k. thread_of_goes roots me m a args keys o i k)
+  thread_row_goes roots me m (Ref a) args keys o i =
+      next (kind_row a.0) _ (λ k. thread_of_goes roots me m a args keys o i k)
   thread_row_goes roots me m _ args keys o i = raises _
 
   member_goes : (roots b : ℕ) (args keys : List Value) → Goes (member_row roots b args keys)
   unfolding member_row
-  member_goes roots b args keys = cond_goes _ _ _ (new_start_goes roots args keys) (cond_goes _ _ _ (new_lock_goes args keys) (cond_goes _ _ _ (new_thread_goes args keys) (raises _)))
+  member_goes roots b args keys = cond_goes _ _ _ (new_start_goes roots args keys)
+      (cond_goes _ _ _ (new_lock_goes args keys) (cond_goes _ _ _ (new_thread_goes args keys) (raises _)))
 
   -- ---- the builtin of a number
-  pub other_goes : (roots : ℕ) (me : Option ℕ) (b : ℕ) (own : Value) (args keys : List Value) → IsOther b keys → Goes (call_row roots me b own args keys)
+  pub other_goes : (roots : ℕ) (me : Option ℕ) (b : ℕ) (own : Value) (args keys : List Value) → IsOther b keys →
+      Goes (call_row roots me b own args keys)
   unfolding call_row other_row thread_call_row
   other_goes roots me b own args keys o =
-      cond_goes _ _ _ (object_goes b own args keys) (cond_goes _ _ _ (function_goes roots b args keys) (cond_goes _ _ _ (input_goes roots args keys)
-      (cond_goes _ _ _ (lock_row_goes b own args keys o) (if_goes _ _ _ (λ i. thread_row_goes roots me b own args keys o i) (λ i. member_goes roots b args keys)))))
+      cond_goes _ _ _ (object_goes b own args keys)
+      (cond_goes _ _ _ (function_goes roots b args keys) (cond_goes _ _ _ (input_goes roots args keys)
+      (cond_goes _ _ _ (lock_row_goes b own args keys o)
+      (if_goes _ _ _ (λ i. thread_row_goes roots me b own args keys o i) (λ i. member_goes roots b args keys)))))
 
 module _ (S : Type 0) (h : Heap) (roots : ℕ) (me : Option ℕ) (own : Value) (args : List Value) (r : Bool) where
-  pub acquire_tells : (b : ℕ) → b ≡ acquire → Tells {S = S} r AnswersWait h (lock_row acquire own args []) → Tells {S = S} r AnswersWait h (call_row roots me b own args [])
+  pub acquire_tells : (b : ℕ) → b ≡ acquire → Tells {S = S} r AnswersWait h (lock_row acquire own args []) →
+      Tells {S = S} r AnswersWait h (call_row roots me b own args [])
   unfolding call_row other_row thread_call_row
   acquire_tells b e t = subst (λ b. Tells {S = S} r AnswersWait h (call_row roots me b own args [])) (sym e) t
 
-  pub join_tells : (b : ℕ) → b ≡ join → Tells {S = S} r AnswersWait h (thread_row roots me join own args []) → Tells {S = S} r AnswersWait h (call_row roots me b own args [])
+  pub join_tells : (b : ℕ) → b ≡ join → Tells {S = S} r AnswersWait h (thread_row roots me join own args []) →
+      Tells {S = S} r AnswersWait h (call_row roots me b own args [])
   unfolding call_row other_row thread_call_row
   join_tells b e t = subst (λ b. Tells {S = S} r AnswersWait h (call_row roots me b own args [])) (sym e) t

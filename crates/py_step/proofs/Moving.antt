@@ -38,18 +38,21 @@ frames_are s l = there_is s.frames (lives_in_frame s l)
 
 -- ---- which row its step has
 
-pub dying_is : (p : Program) (s : State) (d : Dying) → life_of s ≡ Lives → s.dying ≡ Some d → step_row p s ≡ dying_step s d
+pub dying_is : (p : Program) (s : State) (d : Dying) → life_of s ≡ Lives → s.dying ≡ Some d →
+    step_row p s ≡ dying_step s d
 unfolding step_row step_by
 dying_is p s d l e = ap (λ o. step_by p s o s.frames) e ∙ ap (step_by p s (Some d)) (frames_are s l)
 
-pub at_is : (p : Program) (s : State) (o : Option Instr) → life_of s ≡ Lives → s.dying ≡ None → instr_at p (innermost s.frames) ≡ o → step_row p s ≡ step_at p s (innermost s.frames) (drop 1 s.frames) o
+pub at_is : (p : Program) (s : State) (o : Option Instr) → life_of s ≡ Lives → s.dying ≡ None →
+    instr_at p (innermost s.frames) ≡ o → step_row p s ≡ step_at p s (innermost s.frames) (drop 1 s.frames) o
 unfolding step_row step_by
 at_is p s o l e at =
     ap (λ d. step_by p s d s.frames) e
     ∙ ap (step_by p s None) (frames_are s l)
     ∙ ap (step_at p s (innermost s.frames) (drop 1 s.frames)) at
 
-pub operator_here : (p : Program) (s : State) (i : Instr) → IsOperable p s → life_of s ≡ Lives → s.dying ≡ None → instr_at p (innermost s.frames) ≡ Some i → HasOperator i
+pub operator_here : (p : Program) (s : State) (i : Instr) → IsOperable p s → life_of s ≡ Lives → s.dying ≡ None →
+    instr_at p (innermost s.frames) ≡ Some i → HasOperator i
 operator_here p s i o l e at = o.each (innermost s.frames) (drop 1 s.frames) i e (frames_are s l) at
 
 module _ {X : Type 0} (u : Sense State X) (p : Program) (s : State) where
@@ -67,7 +70,8 @@ module _ {X : Type 0} (u : Sense State X) (p : Program) (s : State) where
 
     whole : step_at p s f fs (Some i) ≡ bind part rest
     unfolding step_at
-    whole = ap (λ m. bind (guarded_row (site_of p s fs) f (operands m f) i) (λ next. Ret (settled p s m f fs next))) (sym e)
+    whole = ap (λ m. bind (guarded_row (site_of p s fs) f (operands m f) i) (λ next. Ret (settled p s m f fs next)))
+        (sym e)
 
     pub part_safe : (h : Heap) → Safe u.partial (step_at p s f fs (Some i)) h → Safe u.partial part h
     part_safe h z = safe-first u.partial part rest h (subst (λ r. Safe u.partial r h) whole z)
@@ -76,24 +80,33 @@ module _ {X : Type 0} (u : Sense State X) (p : Program) (s : State) where
     unfolding Meets
     stopped_within v w x m = subst (λ r. Stopped u r v x w) (sym whole) (stop-first u part rest v w x m)
 
-    pub stopped_behind : (v w : X) (next : Next) → Meets u part v w (Ok next) → Stopped u (step_at p s f fs (Some i)) v OutOfMemory w
+    pub stopped_behind : (v w : X) (next : Next) → Meets u part v w (Ok next) →
+        Stopped u (step_at p s f fs (Some i)) v OutOfMemory w
     unfolding Meets
-    stopped_behind v w next m = subst (λ r. Stopped u r v OutOfMemory w) (sym whole) (stop-then u part rest v w w next OutOfMemory m (own-memory u (rest next) w))
+    stopped_behind v w next m = subst (λ r. Stopped u r v OutOfMemory w) (sym whole)
+        (stop-then u part rest v w w next OutOfMemory m (own-memory u (rest next) w))
 
-    pub part_moved : (v w : X) (x : Stop) (r : Result Outcome Stop) → Meets u part v w (Err x) → IsErrAnd r (λ y. y ≡ x) → Moves u (step_at p s f fs (Some i)) v s w s r
-    part_moved v w x r m q = subst (λ z. Moves u (step_at p s f fs (Some i)) v s w s z) (sym (as-err r x q)) (stopped_within v w x m, refl)
+    pub part_moved : (v w : X) (x : Stop) (r : Result Outcome Stop) → Meets u part v w (Err x) →
+        IsErrAnd r (λ y. y ≡ x) → Moves u (step_at p s f fs (Some i)) v s w s r
+    part_moved v w x r m q = subst (λ z. Moves u (step_at p s f fs (Some i)) v s w s z) (sym (as-err r x q))
+        (stopped_within v w x m, refl)
 
-    pub settle_moved : (v w : X) (next : Next) (t : State) (r : Result Outcome Stop) → Meets u part v w (Ok next) → t ≡ s → IsErrAnd r (λ y. y ≡ OutOfMemory) → Moves u (step_at p s f fs (Some i)) v s w t r
-    settle_moved v w next t r m e q = subst (λ z. Moves u (step_at p s f fs (Some i)) v s w t z) (sym (as-err r OutOfMemory q)) (stopped_behind v w next m, e)
+    pub settle_moved : (v w : X) (next : Next) (t : State) (r : Result Outcome Stop) → Meets u part v w (Ok next) →
+        t ≡ s → IsErrAnd r (λ y. y ≡ OutOfMemory) → Moves u (step_at p s f fs (Some i)) v s w t r
+    settle_moved v w next t r m e q = subst (λ z. Moves u (step_at p s f fs (Some i)) v s w t z)
+        (sym (as-err r OutOfMemory q)) (stopped_behind v w next m, e)
 
-    pub settled_so : (v w : X) (next : Next) (z : Outcome × State) → Meets u part v w (Ok next) → z ≡ settled p s n f fs next → Run u (step_at p s f fs (Some i)) v z w
+    pub settled_so : (v w : X) (next : Next) (z : Outcome × State) → Meets u part v w (Ok next) →
+        z ≡ settled p s n f fs next → Run u (step_at p s f fs (Some i)) v z w
     unfolding Meets
     settled_so v w next z m q =
         subst (λ r. Run u r v z w) (sym whole)
-        (run-bind u part rest v w w next z m (subst (λ y. Run u (rest next) w y w) (sym q) (run-ret u (settled p s n f fs next) w)))
+        (run-bind u part rest v w w next z m
+        (subst (λ y. Run u (rest next) w y w) (sym q) (run-ret u (settled p s n f fs next) w)))
 
   -- the state's own frames
-  pub settled_is : (n : ℕ) (next : Next) (o : Outcome) (t : State) → 0 < length s.frames → Settles (settled_in p s n next s.frames) o t
+  pub settled_is : (n : ℕ) (next : Next) (o : Outcome) (t : State) → 0 < length s.frames →
+      Settles (settled_in p s n next s.frames) o t
       → ◌≡◌ {A = Outcome × State} (o, t) (settled p s n (innermost s.frames) (drop 1 s.frames) next)
   settled_is n next o t l q = q ∙ settled_there p s n next (innermost s.frames) (drop 1 s.frames) (there_is s.frames l)
 
@@ -109,13 +122,17 @@ module _ {X : Type 0} (u : Sense State X) (s : State) (d : Dying) where
   unfolding Meets
   words_stopped v w x m = stop-first u (dying_words s d) last v w x m
 
-  pub words_said : (v w : X) (z : Outcome × State) → Meets u (dying_words s d) v w (Ok tt) → z ≡ (Ended, with_frames s []) → Run u (dying_step s d) v z w
+  pub words_said : (v w : X) (z : Outcome × State) → Meets u (dying_words s d) v w (Ok tt) →
+      z ≡ (Ended, with_frames s []) → Run u (dying_step s d) v z w
   unfolding Meets
   words_said v w z m e =
-      run-bind u (dying_words s d) last v w w tt z m (subst (λ y. Run u (last tt) w y w) (sym e) (run-ret u (Ended, with_frames s []) w))
+      run-bind u (dying_words s d) last v w w tt z m
+      (subst (λ y. Run u (last tt) w y w) (sym e) (run-ret u (Ended, with_frames s []) w))
 
-  pub words_moved : (v w : X) (x : Stop) (r : Result Outcome Stop) → Meets u (dying_words s d) v w (Err x) → IsErrAnd r (λ y. y ≡ x) → Moves u (dying_step s d) v s w s r
-  words_moved v w x r m q = subst (λ z. Moves u (dying_step s d) v s w s z) (sym (as-err r x q)) (words_stopped v w x m, refl)
+  pub words_moved : (v w : X) (x : Stop) (r : Result Outcome Stop) → Meets u (dying_words s d) v w (Err x) →
+      IsErrAnd r (λ y. y ≡ x) → Moves u (dying_step s d) v s w s r
+  words_moved v w x r m q = subst (λ z. Moves u (dying_step s d) v s w s z) (sym (as-err r x q))
+      (words_stopped v w x m, refl)
 
 -- two parts that are the same
 pub both : (o q : Outcome) (s t : State) → o ≡ q → s ≡ t → ◌≡◌ {A = Outcome × State} (o, s) (q, t)
@@ -125,7 +142,8 @@ module _ {X : Type 0} (u : Sense State X) (row other : Row State (Outcome × Sta
   pub safe_as : (h : Heap) → row ≡ other → Safe u.partial row h → Safe u.partial other h
   safe_as h e z = subst (λ r. Safe u.partial r h) e z
 
-  pub moves_as : (v w : X) (s t : State) (r : Result Outcome Stop) → row ≡ other → Moves u other v s w t r → Moves u row v s w t r
+  pub moves_as : (v w : X) (s t : State) (r : Result Outcome Stop) → row ≡ other → Moves u other v s w t r →
+      Moves u row v s w t r
   moves_as v w s t r e z = subst (λ q. Moves u q v s w t r) (sym e) z
 
   pub run_as : (v : X) (y z : Outcome × State) (w : X) → row ≡ other → y ≡ z → Run u other v z w → Run u row v y w

@@ -36,24 +36,31 @@ operable p partial g s st = record {
   each = λ f fs i dying frames at.
       let z = st.standing in
       let q = never_lacks_law p st.heap z.0 z.1 s f fs z.3 z.2 dying frames in
-      operator_of (limits p f) i (subst (IsKnown (limits p f)) (one_instr (instr_at p f) q.instr i q.at at) q.fine.known);
+      operator_of (limits p f) i (subst (IsKnown (limits p f)) (one_instr (instr_at p f) q.instr i q.at at)
+      q.fine.known);
 }
 
-module _ {X : Type 0} (u : Sense State X) (b : Bracket State X) (is : IsBracket u b) (p : Program) (s : State) (v v1 : X) (opens : b.opens v v1) where
+module _ {X : Type 0} (u : Sense State X) (b : Bracket State X) (is : IsBracket u b) (p : Program) (s : State)
+    (v v1 : X) (opens : b.opens v v1) where
   pub opened_live : IsLive u v1
   opened_live = (is.opened v v1 opens).2
 
-  pub opened_safe : StandsIn (Sound p) u.partial (u.heap v) s → life_of s ≡ Lives → Safe u.partial (step_row p s) (u.heap v1)
+  pub opened_safe : StandsIn (Sound p) u.partial (u.heap v) s → life_of s ≡ Lives →
+      Safe u.partial (step_row p s) (u.heap v1)
   opened_safe st l =
       let z = st.standing in
       let safe = safe_law p z.0 z.1 s st.heap z.3 z.2 l in
-      subst (λ h. Safe u.partial (step_row p s) h) (sym (is.opened v v1 opens).0) (safe_shown u.partial (step_row p s) (u.heap v) st.heap st.shown safe)
+      subst (λ h. Safe u.partial (step_row p s) h) (sym (is.opened v v1 opens).0)
+      (safe_shown u.partial (step_row p s) (u.heap v) st.heap st.shown safe)
 
-  pub opened_safe_as : (q : Program) → q ≡ p → StandsIn (Sound p) u.partial (u.heap v) s → life_of s ≡ Lives → Safe u.partial (step_row q s) (u.heap v1)
+  pub opened_safe_as : (q : Program) → q ≡ p → StandsIn (Sound p) u.partial (u.heap v) s → life_of s ≡ Lives →
+      Safe u.partial (step_row q s) (u.heap v1)
   opened_safe_as q e st l = subst (λ r. Safe u.partial (step_row r s) (u.heap v1)) (sym e) (opened_safe st l)
 
-  pub stepped : (w : X) (t : State) (o : Outcome) → Moves u (step_row p s) v1 s w t (Ok o) → Stepped u b (step_row p s) v o t w
+  pub stepped : (w : X) (t : State) (o : Outcome) → Moves u (step_row p s) v1 s w t (Ok o) →
+      Stepped u b (step_row p s) v o t w
   stepped w t o m = (v1, opens, m)
 
-  pub step_stopped : (w w1 : X) (t : State) (e : Stop) → Moves u (step_row p s) v1 s w t (Err e) → b.undoes w w1 → StepStopped u b (step_row p s) v e w1
+  pub step_stopped : (w w1 : X) (t : State) (e : Stop) → Moves u (step_row p s) v1 s w t (Err e) → b.undoes w w1 →
+      StepStopped u b (step_row p s) v e w1
   step_stopped w w1 t e m un = (v1, w, opens, m.0, un)

@@ -8,7 +8,8 @@ use Rattle.py_frames.specs.State.{no_code, code_at, instr_at}
 use Rattle.py_instrs.proofs.Places.{none_at}
 
 -- a code that isn't there has no instructions
-pub no_instr : (p : Program) (f : Frame) (n : ℕ) → n ≡ f.code → None ≡ slice_get p.codes n → ◌≡◌ {A = Option Instr} None (instr_at p f)
+pub no_instr : (p : Program) (f : Frame) (n : ℕ) → n ≡ f.code → None ≡ slice_get p.codes n →
+    ◌≡◌ {A = Option Instr} None (instr_at p f)
 no_instr p f n e none =
     let g : Code → Option Instr = λ c. slice_get c.instrs f.pc in
     ap g (none_at p.codes f.code no_code (subst (λ k. ◌≡◌ {A = Option Code} None (slice_get p.codes k)) e none))

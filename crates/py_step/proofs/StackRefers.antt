@@ -33,15 +33,20 @@ found_in P (x ∷ ss) (suc t) s i e = found_in P ss t s i.1 e
 module _ (p : Program) (h : Heap) (s : State) where
   pub closed_over : Standing (Sound p h) s → AreClosed h
   closed_over w = elim w.3.1 [
-    | inl b ↦ record { each = λ a r e. absurd (let q : ◌≡◌ {A = Option Rec} None (Some r) = sym (ap (λ g. g a) b.heap) ∙ e in cc) }
+    | inl b ↦ record {
+      each = λ a r e. absurd (let q : ◌≡◌ {A = Option Rec} None (Some r) = sym (ap (λ g. g a) b.heap)
+          ∙ e in cc);
+    }
     | inr a ↦ record { each = λ n r e. (a.order.each n r e).closed }
   ]
 
   -- the first state has nothing on its stack
-  begun : (ss : List State) (t : ℕ) → ss ≡ first_state p ∷ [] → slice_get ss t ≡ Some s → Every (Refers h) (innermost s.frames).stack
+  begun : (ss : List State) (t : ℕ) → ss ≡ first_state p ∷ [] → slice_get ss t ≡ Some s →
+      Every (Refers h) (innermost s.frames).stack
   begun ss t e i =
       let all : Every (λ s. Every (Refers h) (innermost s.frames).stack) (first_state p ∷ []) = (tt, tt) in
-      found_in (λ s. Every (Refers h) (innermost s.frames).stack) ss t s (subst (Every (λ s. Every (Refers h) (innermost s.frames).stack)) (sym e) all) i
+      found_in (λ s. Every (Refers h) (innermost s.frames).stack) ss t s
+      (subst (Every (λ s. Every (Refers h) (innermost s.frames).stack)) (sym e) all) i
 
   frames_refer : (fs : List Frame) → AreFrames p h 0 fs → Every (Refers h) (innermost fs).stack
   frames_refer [] a = tt
@@ -50,5 +55,6 @@ module _ (p : Program) (h : Heap) (s : State) where
   pub stack_refers : Standing (Sound p h) s → s.dying ≡ None → Every (Refers h) (innermost s.frames).stack
   stack_refers w d = elim w.3.1 [
     | inl b ↦ begun w.0 w.1 b.states w.2
-    | inr a ↦ let i = found_in (IsState p a.roots h) w.0 w.1 s a.each w.2 in frames_refer s.frames (subst (λ d. CanGoOn p h d s.frames) d i.goes)
+    | inr a ↦ let i = found_in (IsState p a.roots h) w.0 w.1 s a.each w.2 in
+        frames_refer s.frames (subst (λ d. CanGoOn p h d s.frames) d i.goes)
   ]

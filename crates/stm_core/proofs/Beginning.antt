@@ -44,36 +44,45 @@ beyond (x ∷ xs) zero h = absurd (omega arith)
 beyond (x ∷ xs) (suc i) h = beyond xs i (omega arith)
 
 -- the committed states may stand over the image
-pub sound_core : {S : Type 0} (p : Prog S) (sound : Heap → List S → Type 0) (law : StaysSound p sound) (most : ℕ) (first d : DeviceState) (m : Meaning) (b : Books S) → SaneCore p sound most first d m b → sound m.image b.threads.entries
+pub sound_core : {S : Type 0} (p : Prog S) (sound : Heap → List S → Type 0) (law : StaysSound p sound) (most : ℕ)
+    (first d : DeviceState) (m : Meaning) (b : Books S) → SaneCore p sound most first d m b →
+    sound m.image b.threads.entries
 sound_core p sound law most first d m b s =
     let w = s.stands.worlds in
     let g = subst (Good p (begin_with p (first_world first.input)) most) s.stands.core s.stands.kept.good in
-    sound_run p sound law (begin_with p (first_world first.input)) (committed (core_of w m b)) b.history.entries s.first_sound g.run
+    sound_run p sound law (begin_with p (first_world first.input)) (committed (core_of w m b)) b.history.entries
+    s.first_sound g.run
 
 module _ {S : Type 0} (p : Prog S) (w : Worlds) (m : Meaning) (b : Books S) (t : ℕ) where
-  pub ready : (q : S) → slice_get b.threads.entries t ≡ Some q → p.life q ≡ Lives → ((j : ℕ) (y : Work S) → slice_get b.hands.items j ≡ Some (Runs y) → t ≢ y.thread) → Going (p.row q) m.image → IsReady p (core_of w m b) t
+  pub ready : (q : S) → slice_get b.threads.entries t ≡ Some q → p.life q ≡ Lives →
+      ((j : ℕ) (y : Work S) → slice_get b.hands.items j ≡ Some (Runs y) → t ≢ y.thread) → Going (p.row q) m.image →
+      IsReady p (core_of w m b) t
   ready q is lives rests goes = record {
     state = q;
     is = is;
     lives = lives;
-    rests = λ j y e. let r = running_work w (m.part j) (slice_get b.hands.items j) y e in subst (λ (z : Transaction S). t ≢ z.thread) (sym r.2) (rests j r.0 r.1);
+    rests = λ j y e. let r = running_work w (m.part j) (slice_get b.hands.items j) y e in
+        subst (λ (z : Transaction S). t ≢ z.thread) (sym r.2) (rests j r.0 r.1);
     goes = goes;
   }
 
   pub unready_none : length b.threads.entries ≤ t → IsUnready p (core_of w m b) t
   unready_none h = subst (UnreadyAt p (core_of w m b) t) (sym (beyond b.threads.entries t h)) tt
 
-  pub unready_runs : t < length b.threads.entries → (j : ℕ) (y : Work S) → slice_get b.hands.items j ≡ Some (Runs y) → y.thread ≡ t → IsUnready p (core_of w m b) t
+  pub unready_runs : t < length b.threads.entries → (j : ℕ) (y : Work S) → slice_get b.hands.items j ≡ Some (Runs y) →
+      y.thread ≡ t → IsUnready p (core_of w m b) t
   unready_runs lt j y e h = go (slice_get b.threads.entries t)
     where
       go : (o : Option S) → UnreadyAt p (core_of w m b) t o
       go None = tt
       go (Some q) = inr (inl (j, transaction w.own (m.part j) y, ap (segment_of w.own (m.part j)) e, h))
 
-  pub unready_ended : (q : S) → slice_get b.threads.entries t ≡ Some q → p.life q ≢ Lives → IsUnready p (core_of w m b) t
+  pub unready_ended : (q : S) → slice_get b.threads.entries t ≡ Some q → p.life q ≢ Lives →
+      IsUnready p (core_of w m b) t
   unready_ended q is n = subst (UnreadyAt p (core_of w m b) t) (sym is) (inl n)
 
-  pub unready_waits : (q : S) → slice_get b.threads.entries t ≡ Some q → Waiting (p.row q) m.image → IsUnready p (core_of w m b) t
+  pub unready_waits : (q : S) → slice_get b.threads.entries t ≡ Some q → Waiting (p.row q) m.image →
+      IsUnready p (core_of w m b) t
   unready_waits q is h = subst (UnreadyAt p (core_of w m b) t) (sym is) (inr (inr h))
 
 -- ---- the budget
@@ -96,7 +105,8 @@ pub record Starts {S : Type 0} (k : ℕ) (x : Work S) (b b1 : Books S) : Type 0 
   pub hands : b1.hands.items ≡ slice_set b.hands.items k (Runs x)
 
 -- a segment whose hand is empty holds nothing
-module _ {S : Type 0} (k : ℕ) (m : Meaning) (b : Books S) (h : Whole m b) (e : slice_get b.hands.items k ≡ Some IdleHand) where
+module _ {S : Type 0} (k : ℕ) (m : Meaning) (b : Books S) (h : Whole m b)
+    (e : slice_get b.hands.items k ≡ Some IdleHand) where
   pub holds_none : (a : ℕ) → holds (m.part k) a ≡ false
   holds_none a = elim (cases_Bool (holds (m.part k) a)) [
     | inl y ↦ absurd (both_ways (runs_at b.hands.items k) (ap is_running e) (h.holders k a y))
@@ -104,10 +114,12 @@ module _ {S : Type 0} (k : ℕ) (m : Meaning) (b : Books S) (h : Whole m b) (e :
   ]
 
   pub changed_none : (m.part k).changed ≡ []
-  changed_none = mem_none (m.part k).changed (λ a. (or_parts (mem a (m.part k).changed) (mem a (m.part k).made) (holds_none a)).0)
+  changed_none = mem_none (m.part k).changed
+      (λ a. (or_parts (mem a (m.part k).changed) (mem a (m.part k).made) (holds_none a)).0)
 
   pub made_none : (m.part k).made ≡ []
-  made_none = mem_none (m.part k).made (λ a. (or_parts (mem a (m.part k).changed) (mem a (m.part k).made) (holds_none a)).1)
+  made_none = mem_none (m.part k).made (λ a.
+      (or_parts (mem a (m.part k).changed) (mem a (m.part k).made) (holds_none a)).1)
 
   module _ (r : ℕ) (b1 : Books S) (x : Work S) (st : IsStore r m) (f : IsFresh x.thread b x) (s : Starts k x b b1) where
     lt : k < length b.hands.items
@@ -142,16 +154,20 @@ module _ {S : Type 0} (k : ℕ) (m : Meaning) (b : Books S) (h : Whole m b) (e :
     -- its part holds what it held
     holds_same : (j a : ℕ) → holds ((after_begin k m).part j) a ≡ holds (m.part j) a
     holds_same j a = elim (cases_Bool (eqb j k)) [
-      | inl y ↦ let q : j ≡ k = eqb-true j k y in subst (λ i. holds ((after_begin k m).part i) a ≡ holds (m.part i) a) (sym q) (ap (λ (z : Part). holds z a) part_here)
+      | inl y ↦ let q : j ≡ k = eqb-true j k y in subst (λ i. holds ((after_begin k m).part i) a ≡ holds (m.part i) a)
+          (sym q) (ap (λ (z : Part). holds z a) part_here)
       | inr n ↦ ap (λ (z : Part). holds z a) (part_there j (eqb-false j k n))
     ]
 
-    pub begun_whole : sum_by one_running b.hands.items < b.history.room → sum_by one_running b.hands.items < b.conflicts.room → Whole (after_begin k m) b1
+    pub begun_whole : sum_by one_running b.hands.items < b.history.room →
+        sum_by one_running b.hands.items < b.conflicts.room → Whole (after_begin k m) b1
     begun_whole ht hl =
         let running = sum_set one_running b.hands.items k IdleHand (Runs x) e in
         let started = sum_set one_started b.hands.items k IdleHand (Runs x) e in
-        let sr : sum_by one_running b1.hands.items ≡ sum_by one_running (slice_set b.hands.items k (Runs x)) = ap (sum_by one_running) s.hands in
-        let ss : sum_by one_started b1.hands.items ≡ sum_by one_started (slice_set b.hands.items k (Runs x)) = ap (sum_by one_started) s.hands in
+        let sr : sum_by one_running b1.hands.items ≡ sum_by one_running (slice_set b.hands.items k (Runs x)) =
+        ap (sum_by one_running) s.hands in
+        let ss : sum_by one_started b1.hands.items ≡ sum_by one_started (slice_set b.hands.items k (Runs x)) =
+        ap (sum_by one_started) s.hands in
         let hi : b1.history.room ≡ b.history.room = ap (λ (z : Books S). z.history.room) s.rest in
         let co : b1.conflicts.room ≡ b.conflicts.room = ap (λ (z : Books S). z.conflicts.room) s.rest in
         let th : b1.threads.room ≡ b.threads.room = ap (λ (z : Books S). z.threads.room) s.rest in
@@ -167,13 +183,18 @@ module _ {S : Type 0} (k : ℕ) (m : Meaning) (b : Books S) (h : Whole m b) (e :
           works = λ j y q. elim (cases_Bool (eqb j k)) [
             | inl z ↦ let d : j ≡ k = eqb-true j k z in
                 let same : x ≡ y = same_work x y (sym here ∙ ap (slice_get b1.hands.items) (sym d) ∙ q) in
-                subst (λ (u : Work S). WorkFits ((after_begin k m).part j) u) same (subst (λ i. WorkFits ((after_begin k m).part i) x) (sym d) own)
-            | inr n ↦ let d = eqb-false j k n in subst (λ (z : Part). WorkFits z y) (sym (part_there j d)) (h.works j y (sym (there j d) ∙ q))
+                subst (λ (u : Work S). WorkFits ((after_begin k m).part j) u) same
+                (subst (λ i. WorkFits ((after_begin k m).part i) x) (sym d) own)
+            | inr n ↦ let d = eqb-false j k n in subst (λ (z : Part). WorkFits z y) (sym (part_there j d))
+                (h.works j y (sym (there j d) ∙ q))
           ];
           locked = λ j a q. elim (cases_Bool (eqb j k)) [
-            | inl y ↦ absurd (both_ways false refl (sym (ap (mem a) changed_none) ∙ sym (ap (λ (z : Part). mem a z.changed) part_here) ∙ subst (λ i. mem a ((after_begin k m).part i).changed ≡ true) (eqb-true j k y) q))
+            | inl y ↦ absurd (both_ways false refl
+                (sym (ap (mem a) changed_none) ∙ sym (ap (λ (z : Part). mem a z.changed) part_here) ∙
+                subst (λ i. mem a ((after_begin k m).part i).changed ≡ true) (eqb-true j k y) q))
             | inr n ↦ let d = part_there j (eqb-false j k n) in
-                subst (λ (z : Part). is_lock (m.image a) (z.looked a) ≡ true) (sym d) (h.locked j a (subst (λ (z : Part). mem a z.changed ≡ true) d q))
+                subst (λ (z : Part). is_lock (m.image a) (z.looked a) ≡ true) (sym d)
+                (h.locked j a (subst (λ (z : Part). mem a z.changed ≡ true) d q))
           ];
           turns = omega (arith, running, sr, hi, ht);
           losses = omega (arith, running, sr, co, hl);
@@ -187,7 +208,8 @@ module _ {S : Type 0} (k : ℕ) (m : Meaning) (b : Books S) (h : Whole m b) (e :
         own : WorkFits ((after_begin k m).part k) x
         own = subst (λ (z : Part). WorkFits z x) (sym part_here) (record {
           names = ap places f.names ∙ sym made_none;
-          kept_names = ap (λ xs. places (take x.progress.kept_names xs)) f.names ∙ ap (λ n. places (take n [])) f.kept_names ∙ sym kept_none;
+          kept_names = ap (λ xs. places (take x.progress.kept_names xs)) f.names ∙
+              ap (λ n. places (take n [])) f.kept_names ∙ sym kept_none;
           within = let q = f.kept_names in omega (arith, q);
         })
 
@@ -225,13 +247,18 @@ module _ {S : Type 0} (k : ℕ) (m : Meaning) (b : Books S) (h : Whole m b) (e :
           world = cond (f.solo i) w.own no_world;
         }
 
-        same : (j : ℕ) → segment_of w.own ((after_begin k m).part j) (slice_get b1.hands.items j) ≡ set_segment k (Running new) (λ y. segment_of w.own (m.part y) (slice_get b.hands.items y)) j
+        same : (j : ℕ) → segment_of w.own ((after_begin k m).part j) (slice_get b1.hands.items j) ≡ set_segment k
+            (Running new) (λ y. segment_of w.own (m.part y) (slice_get b.hands.items y)) j
         same j = elim (cases_Bool (eqb j k)) [
           | inl y ↦ let d : j ≡ k = eqb-true j k y in
-              ap (λ z. segment_of w.own ((after_begin k m).part z) (slice_get b1.hands.items z)) d ∙ ap (segment_of w.own ((after_begin k m).part k)) here ∙ ap (λ p. Running (transaction w.own p x)) part_here ∙ ap Running own
+              ap (λ z. segment_of w.own ((after_begin k m).part z) (slice_get b1.hands.items z)) d ∙
+              ap (segment_of w.own ((after_begin k m).part k)) here ∙
+              ap (λ p. Running (transaction w.own p x)) part_here ∙ ap Running own
               ∙ sym (cond-true (eqb j k) (Running new) (segment_of w.own (m.part j) (slice_get b.hands.items j)) y)
           | inr n ↦ let d = eqb-false j k n in
-              ap (λ p. segment_of w.own p (slice_get b1.hands.items j)) (part_there j d) ∙ ap (segment_of w.own (m.part j)) (there j d) ∙ sym (cond-false (eqb j k) (Running new) (segment_of w.own (m.part j) (slice_get b.hands.items j)) n)
+              ap (λ p. segment_of w.own p (slice_get b1.hands.items j)) (part_there j d) ∙
+              ap (segment_of w.own (m.part j)) (there j d) ∙
+              sym (cond-false (eqb j k) (Running new) (segment_of w.own (m.part j) (slice_get b.hands.items j)) n)
         ]
 
 -- ---- what `begin` answers
@@ -282,7 +309,8 @@ module _ {S : Type 0} (m : Meaning) (b b1 : Books S) (r : Rooms b b1) where
   }
 
 -- a cause is kept
-pub caused_whole : {S : Type 0} (m : Meaning) (b : Books S) (e : Option Cause) → Whole m b → Whole m (record b { cause = e })
+pub caused_whole : {S : Type 0} (m : Meaning) (b : Books S) (e : Option Cause) → Whole m b →
+    Whole m (record b { cause = e })
 caused_whole m b e h = record {
   hands = h.hands;
   holders = h.holders;
@@ -295,26 +323,41 @@ caused_whole m b e h = record {
 }
 
 -- the state that a ready thread has is the one that its transaction begins with
-pub begun_state : {S : Type 0} (p : Prog S) (k t : ℕ) (c : CoreState S) (q : S) (a : IsReady p c t) → slice_get c.threads t ≡ Some q → begun_at k t q c ≡ begun_at k t a.state c
-begun_state p k t c q a e = let same : q ≡ a.state = (let u : Some q ≡ Some a.state = sym e ∙ a.is in cc) in ap (λ s. begun_at k t s c) same
+pub begun_state : {S : Type 0} (p : Prog S) (k t : ℕ) (c : CoreState S) (q : S) (a : IsReady p c t) →
+    slice_get c.threads t ≡ Some q → begun_at k t q c ≡ begun_at k t a.state c
+begun_state p k t c q a e = let same : q ≡ a.state = (let u : Some q ≡ Some a.state = sym e ∙ a.is in cc) in
+    ap (λ s. begun_at k t s c) same
 
 -- a call of begin is a list of moves, which tells the devices nothing
-begun_moves : {S : Type 0} (p : Prog S) (most k t budget : ℕ) (r : Result (Unit {0}) BeginError) (o o1 : Outer S) → InCore (Begun p k t budget r) o o1 → (ms : List (OuterMove S)) × OuterFollows p most o ms o1
-begun_moves p most k t budget (Ok u) o o1 h = let a = h.0.0 in (Inner (Begins k t a.ready.state) ∷ [], (o1, (o1.core, (a.goes_on, a.idle, a.ready.is, a.ready.lives, a.ready.rests, h.0.1), tt, h.1), refl))
+begun_moves : {S : Type 0} (p : Prog S) (most k t budget : ℕ) (r : Result (Unit {0}) BeginError) (o o1 : Outer S) →
+    InCore (Begun p k t budget r) o o1 → (ms : List (OuterMove S)) × OuterFollows p most o ms o1
+begun_moves p most k t budget (Ok u) o o1 h = let a = h.0.0 in (
+  Inner (Begins k t a.ready.state) ∷ [],
+  (o1, (o1.core, (a.goes_on, a.idle, a.ready.is, a.ready.lives, a.ready.rests, h.0.1), tt, h.1), refl),
+)
 begun_moves p most k t budget (Err (Over e)) o o1 h = ([], h.1 ∙ ap (λ c. record o { core = c }) h.0.1)
 begun_moves p most k t budget (Err (Busy i)) o o1 h = ([], h.1 ∙ ap (λ c. record o { core = c }) h.0.3)
 begun_moves p most k t budget (Err (NotReady s)) o o1 h = ([], h.1 ∙ ap (λ c. record o { core = c }) h.0.4)
 begun_moves p most k t budget (Err AtBudget) o o1 h = ([], h.1 ∙ ap (λ c. record o { core = c }) h.0.4)
 begun_moves p most k t budget (Err OutOfMemory) o o1 h =
     let a = h.0.0 in
-    let e = h.0.1 ∙ ap (λ z. record o.core { cause = z }) (sym (ap (λ z. first_cause z NoMemoryLeft) a.goes_on)) in
-    (Inner (Keeps NoMemoryLeft) ∷ [], (o1, (o1.core, (t, a.ready.state, a.ready.is, a.ready.lives, a.ready.rests, tt, e), refl, h.1), refl))
+    let e = h.0.1 ∙ ap (λ z. record o.core { cause = z }) (sym (ap (λ z. first_cause z NoMemoryLeft) a.goes_on)) in (
+      Inner (Keeps NoMemoryLeft) ∷ [],
+      (
+        o1,
+        (o1.core, (t, a.ready.state, a.ready.is, a.ready.lives, a.ready.rests, tt, e), refl, h.1),
+        refl,
+      ),
+    )
 
 -- and keeps what a core keeps
-pub begun_stands : {S : Type 0} (p : Prog S) (most k t budget : ℕ) (first d : DeviceState) (m m1 : Meaning) (b b1 : Books S) (r : Result (Unit {0}) BeginError) → ((w : Worlds) → Begun p k t budget r (core_of w m b) (core_of w m1 b1)) → b1.broken ≡ b.broken
+pub begun_stands : {S : Type 0} (p : Prog S) (most k t budget : ℕ) (first d : DeviceState) (m m1 : Meaning)
+    (b b1 : Books S) (r : Result (Unit {0}) BeginError) →
+    ((w : Worlds) → Begun p k t budget r (core_of w m b) (core_of w m1 b1)) → b1.broken ≡ b.broken
     → LeadsBetween (StandsFor p most first d m b) (StandsFor p most first d m1 b1) (InCore (Begun p k t budget r))
 begun_stands p most k t budget first d m m1 b b1 r h same o s =
     let o1 = record o { core = core_of s.worlds m1 b1 } in
-    let made : InCore (Begun p k t budget r) o o1 = (subst (λ c. Begun p k t budget r c (core_of s.worlds m1 b1)) (sym s.core) (h s.worlds), refl) in
+    let made : InCore (Begun p k t budget r) o o1 =
+    (subst (λ c. Begun p k t budget r c (core_of s.worlds m1 b1)) (sym s.core) (h s.worlds), refl) in
     let ms = begun_moves p most k t budget r o o1 made in
     (o1, stands_told p most first d m m1 b b1 o s s.worlds same ms.0 ms.1, made)

@@ -1,4 +1,5 @@
--- A solo transaction whose next step was cut: it is committed up to its last whole step, and the books keep the step and the cause.
+-- A solo transaction whose next step was cut: it is committed up to its last whole step, and the books keep the step
+-- and the cause.
 use Rattle.std.proofs.Common.{◌≡◌, ◌≢◌, ℕ, zero, suc, Option, refl}
 use Rattle.std.specs.List.{range_with_len}
 use Rattle.seg_store.specs.Meaning.{Meaning}
@@ -17,7 +18,8 @@ module _ {S : Type 0} (k n : ℕ) (x : Transaction S) (c : CoreState S) where
   whole_none (suc i) c1 e h = absurd cc
 
   -- and otherwise it is committed
-  pub whole_some : (i : ℕ) (c1 : CoreState S) → i ≢ 0 → c1 ≡ after_commit k x (range_with_len 0 n) c → c1 ≡ up_to_whole k n x i c
+  pub whole_some : (i : ℕ) (c1 : CoreState S) → i ≢ 0 → c1 ≡ after_commit k x (range_with_len 0 n) c →
+      c1 ≡ up_to_whole k n x i c
   whole_some zero c1 e h = absurd (e refl)
   whole_some (suc i) c1 e h = h
 
@@ -27,7 +29,8 @@ module _ {S : Type 0} (k n : ℕ) (x : Transaction S) (c : CoreState S) where
   whole_cause (suc i) = (doom_leaves k x (range_with_len 0 n) c).cause
 
 -- the books keep another step that was cut
-pub cut_whole : {S : Type 0} (m : Meaning) (b : Books S) (z : Option Cut) → Whole m b → Whole m (record b { broken = z })
+pub cut_whole : {S : Type 0} (m : Meaning) (b : Books S) (z : Option Cut) → Whole m b →
+    Whole m (record b { broken = z })
 cut_whole m b z f = record {
   hands = f.hands;
   holders = f.holders;

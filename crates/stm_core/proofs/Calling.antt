@@ -1,4 +1,5 @@
--- What the condition of a call on the core's state says of the books, and how the job and a good core come out of each way of return.
+-- What the condition of a call on the core's state says of the books, and how the job and a good core come out of each
+-- way of return.
 use Rattle.std.proofs.Common.{◌≡◌, ◌<◌, ◌≤◌, ◌+◌, ℕ, Bool, true, false, ◌&&◌, nat_lt, nat_le, cond, List, Option, Some, None, Result, Ok, Err, slice_get, refl, sym, ◌∙◌, ap, subst, arith}
 use Rattle.std.proofs.lemmas.Bool.Decides.{nat_tests}
 use Rattle.py_data.specs.Heap.{Heap}
@@ -63,8 +64,10 @@ module _ {S : Type 0} (w : Worlds) (m : Meaning) (b : Books S) (k : ℕ) where
   busy h e = no (sym (ap (λ (o : Option (Hand S)). is_busy (slot_of (segment_of w.own (m.part k) o))) e) ∙ h)
 
   -- the steps that are asked for are within the length
-  within : (most length : ℕ) → is_within length most (slot_of ((core_of w m b).segments k)) ≡ true → (x : Work S) → slice_get b.hands.items k ≡ Some (hand.Runs x) → IsShort length (x.steps + most)
-  within most length h x e = at_most (x.steps + most) length (sym (ap (λ (o : Option (Hand S)). is_within length most (slot_of (segment_of w.own (m.part k) o))) e) ∙ h)
+  within : (most length : ℕ) → is_within length most (slot_of ((core_of w m b).segments k)) ≡ true → (x : Work S) →
+      slice_get b.hands.items k ≡ Some (hand.Runs x) → IsShort length (x.steps + most)
+  within most length h x e = at_most (x.steps + most) length
+      (sym (ap (λ (o : Option (Hand S)). is_within length most (slot_of (segment_of w.own (m.part k) o))) e) ∙ h)
 
 -- a commit, or a call of `solo`, that may be made
 pub record Ending {S : Type 0} (m : Meaning) (b : Books S) (k : ℕ) : Type 0 where
@@ -78,40 +81,54 @@ pub record Going {S : Type 0} (m : Meaning) (b : Books S) (k most length : ℕ) 
   pub some : 1 ≤ most
   pub short : (x : Work S) → slice_get b.hands.items k ≡ Some (hand.Runs x) → IsShort length (x.steps + most)
 
-module _ {S : Type 0} (p : Prog S) (most : ℕ) (first d : DeviceState) (m : Meaning) (b : Books S) (o : Outer S) (s : StandsFor p most first d m b o) (l : Limits) (k : ℕ) where
-  pub ending : l.segments ≡ m.segments → nat_lt k l.segments && is_busy (slot_of (o.core.segments k)) ≡ true → Ending m b k
+module _ {S : Type 0} (p : Prog S) (most : ℕ) (first d : DeviceState) (m : Meaning) (b : Books S) (o : Outer S)
+    (s : StandsFor p most first d m b o) (l : Limits) (k : ℕ) where
+  pub ending : l.segments ≡ m.segments → nat_lt k l.segments && is_busy (slot_of (o.core.segments k)) ≡ true →
+      Ending m b k
   ending e h = record {
     segment = omega (arith, below k l.segments (left _ _ h), e);
-    busy = busy s.worlds m b k (subst (λ (c : CoreState S). is_busy (slot_of (c.segments k)) ≡ true) s.core (right (nat_lt k l.segments) _ h));
+    busy = busy s.worlds m b k (subst (λ (c : CoreState S). is_busy (slot_of (c.segments k)) ≡ true) s.core
+        (right (nat_lt k l.segments) _ h));
   }
 
-  pub going : (steps : ℕ) → l.segments ≡ m.segments → may_make l o.core (event.Advance k steps) ≡ true → Going m b k steps l.length
+  pub going : (steps : ℕ) → l.segments ≡ m.segments → may_make l o.core (event.Advance k steps) ≡ true →
+      Going m b k steps l.length
   going steps e h =
       let h1 = right (nat_lt k l.segments) _ h in
       let h2 = right (is_busy (slot_of (o.core.segments k))) _ h1 in
       record {
         segment = omega (arith, below k l.segments (left _ _ h), e);
-        busy = busy s.worlds m b k (subst (λ (c : CoreState S). is_busy (slot_of (c.segments k)) ≡ true) s.core (left _ _ h1));
+        busy = busy s.worlds m b k (subst (λ (c : CoreState S). is_busy (slot_of (c.segments k)) ≡ true) s.core
+            (left _ _ h1));
         some = omega (arith, below 0 steps (left _ _ h2));
-        short = within s.worlds m b k steps l.length (subst (λ (c : CoreState S). is_within l.length steps (slot_of (c.segments k)) ≡ true) s.core (right (nat_lt 0 steps) _ h2));
+        short = within s.worlds m b k steps l.length
+            (subst (λ (c : CoreState S). is_within l.length steps (slot_of (c.segments k)) ≡ true) s.core
+            (right (nat_lt 0 steps) _ h2));
       }
 
 -- what a call's condition says of a core that is good
-module _ {S : Type 0} {p : Prog S} {sound : Heap → List S → Type 0} {most : ℕ} {first d : DeviceState} {m : Meaning} {b : Books S} (s : SaneCore p sound most first d m b) (l : Limits) (k : ℕ) (same : l.segments ≡ m.segments) where
-  pub ending_now : ((o : Outer S) → StandsFor p most first d m b o → (nat_lt k l.segments && is_busy (slot_of (o.core.segments k))) ≡ true) → Ending m b k
+module _ {S : Type 0} {p : Prog S} {sound : Heap → List S → Type 0} {most : ℕ} {first d : DeviceState} {m : Meaning}
+    {b : Books S} (s : SaneCore p sound most first d m b) (l : Limits) (k : ℕ) (same : l.segments ≡ m.segments) where
+  pub ending_now : ((o : Outer S) → StandsFor p most first d m b o →
+      (nat_lt k l.segments && is_busy (slot_of (o.core.segments k))) ≡ true) → Ending m b k
   ending_now may = ending p most first d m b s.state s.stands l k same (may s.state s.stands)
 
-  pub going_now : (steps : ℕ) → ((o : Outer S) → StandsFor p most first d m b o → may_make l o.core (event.Advance k steps) ≡ true) → Going m b k steps l.length
+  pub going_now : (steps : ℕ) → ((o : Outer S) → StandsFor p most first d m b o →
+      may_make l o.core (event.Advance k steps) ≡ true) → Going m b k steps l.length
   going_now steps may = going p most first d m b s.state s.stands l k steps same (may s.state s.stands)
 
 -- ---- after a call, which keeps the client and the store's shape
 
 -- the core stands for a state again to which one leads for which it stood
-pub sane_led : {S : Type 0} (p : Prog S) (sound : Heap → List S → Type 0) (most : ℕ) (first d d1 : DeviceState) (m m1 : Meaning) (b b1 : Books S) (leads : Outer S → Outer S → Type 0) → SaneCore p sound most first d m b
-    → LeadsBetween (StandsFor p most first d m b) (StandsFor p most first d1 m1 b1) leads → CountsGrow first d1 → CauseRose b1.cause first d1 → SaneCore p sound most first d1 m1 b1
-sane_led p sound most first d d1 m m1 b b1 leads s f counts rose = let z = f s.state s.stands in record { first_sound = s.first_sound; state = z.0; stands = z.1; counts = counts; rose = rose }
+pub sane_led : {S : Type 0} (p : Prog S) (sound : Heap → List S → Type 0) (most : ℕ) (first d d1 : DeviceState)
+    (m m1 : Meaning) (b b1 : Books S) (leads : Outer S → Outer S → Type 0) → SaneCore p sound most first d m b
+    → LeadsBetween (StandsFor p most first d m b) (StandsFor p most first d1 m1 b1) leads → CountsGrow first d1 →
+    CauseRose b1.cause first d1 → SaneCore p sound most first d1 m1 b1
+sane_led p sound most first d d1 m m1 b b1 leads s f counts rose = let z = f s.state s.stands in
+    record { first_sound = s.first_sound; state = z.0; stands = z.1; counts = counts; rose = rose }
 
-module _ {C S I O E T : Type 0} (input : I → SourceState) (out : O → SinkState) (err : E → SinkState) (prog : C → Prog T) (sound : C → Heap → List T → Type 0) (reserved : S → ℕ) (meaning : S → Meaning) where
+module _ {C S I O E T : Type 0} (input : I → SourceState) (out : O → SinkState) (err : E → SinkState)
+    (prog : C → Prog T) (sound : C → Heap → List T → Type 0) (reserved : S → ℕ) (meaning : S → Meaning) where
   -- what a way of return leaves
   pub record Kept (x y : Core C S I O E T) : Type 0 where
     pub rest : y ≡ record x { store = y.store; books = y.books; devices = y.devices; spent = y.spent }
@@ -120,7 +137,8 @@ module _ {C S I O E T : Type 0} (input : I → SourceState) (out : O → SinkSta
     pub whole : Whole (meaning y.store) y.books
     pub count : CountsSteps y.spent y.books.history.entries
     pub kept : IsFullKept (reserved y.store) (meaning y.store).limit y.books.cause
-    pub sane : SaneCore (prog x.client.now) (sound x.client.now) x.length (first_devices input out err x) (core_devices input out err y) (meaning y.store) y.books
+    pub sane : SaneCore (prog x.client.now) (sound x.client.now) x.length (first_devices input out err x)
+        (core_devices input out err y) (meaning y.store) y.books
 
   pub good_again : (x y : Core C S I O E T) → Kept x y → IsGoodCore input out err prog sound reserved meaning y
   good_again x y k = record {
@@ -128,22 +146,35 @@ module _ {C S I O E T : Type 0} (input : I → SourceState) (out : O → SinkSta
     whole = k.whole;
     count = k.count;
     kept = k.kept;
-    sane = subst (λ (z : Core C S I O E T). SaneCore (prog z.client.now) (sound z.client.now) z.length (first_devices input out err z) (core_devices input out err y) (meaning y.store) y.books) (sym k.rest) k.sane;
+    sane = subst (λ (z : Core C S I O E T). SaneCore (prog z.client.now) (sound z.client.now) z.length
+        (first_devices input out err z) (core_devices input out err y) (meaning y.store) y.books) (sym k.rest) k.sane;
   }
 
   pub same_again : (x y : Core C S I O E T) → Kept x y → SameJob meaning x y
   same_again x y k = record {
     client = λ i. (k.rest i).client.now;
-    limits = λ i. record { length = (k.rest i).length; budget = (k.rest i).budget; segments = k.shape.0 i; words = k.shape.1 i };
+    limits = λ i. record {
+      length = (k.rest i).length;
+      budget = (k.rest i).budget;
+      segments = k.shape.0 i;
+      words =
+          k.shape.1 i;
+    };
     made_with = λ i. (k.rest i).made_with;
   }
 
   -- what leads from the one core to the other leads there for the other's own job
   pub leads_again : (x y : Core C S I O E T) (leads : Outer T → Outer T → Type 0) → Kept x y
-      → LeadsBetween (CoreStands input out err prog meaning x) (StandsFor (prog x.client.now) x.length (first_devices input out err x) (core_devices input out err y) (meaning y.store) y.books) leads → Leads input out err prog meaning x y leads
+      → LeadsBetween (CoreStands input out err prog meaning x)
+      (StandsFor (prog x.client.now) x.length (first_devices input out err x) (core_devices input out err y)
+      (meaning y.store) y.books) leads → Leads input out err prog meaning x y leads
   leads_again x y leads k f o s =
-      let z = f o s in
-      (z.0, subst (λ (q : Core C S I O E T). StandsFor (prog q.client.now) q.length (first_devices input out err q) (core_devices input out err y) (meaning y.store) y.books z.0) (sym k.rest) z.1, z.2)
+      let z = f o s in (
+        z.0,
+        subst (λ (q : Core C S I O E T). StandsFor (prog q.client.now) q.length (first_devices input out err q)
+            (core_devices input out err y) (meaning y.store) y.books z.0) (sym k.rest) z.1,
+        z.2,
+      )
 
 -- where the cause is as before
 pub rose_same : (o o1 : Option Cause) (d d1 : DeviceState) → o1 ≡ o → CauseRose o d d1 → CauseRose o1 d d1
@@ -151,7 +182,8 @@ rose_same o o1 d d1 e r = subst (λ z. CauseRose z d d1) (sym e) r
 
 -- ---- after a call that leaves the devices alone
 
-module _ {C S I O E T : Type 0} (input : I → SourceState) (out : O → SinkState) (err : E → SinkState) (prog : C → Prog T) (sound : C → Heap → List T → Type 0) (reserved : S → ℕ) (meaning : S → Meaning) where
+module _ {C S I O E T : Type 0} (input : I → SourceState) (out : O → SinkState) (err : E → SinkState)
+    (prog : C → Prog T) (sound : C → Heap → List T → Type 0) (reserved : S → ℕ) (meaning : S → Meaning) where
   -- what a way of return leaves
   pub record Quiet (x y : Core C S I O E T) (leads : Outer T → Outer T → Type 0) : Type 0 where
     pub rest : y ≡ record x { store = y.store; books = y.books; spent = y.spent }
@@ -161,25 +193,44 @@ module _ {C S I O E T : Type 0} (input : I → SourceState) (out : O → SinkSta
     pub count : CountsSteps y.spent y.books.history.entries
     pub kept : IsFullKept (reserved y.store) (meaning y.store).limit y.books.cause
     pub rose : CauseRose y.books.cause (first_devices input out err x) (core_devices input out err x)
-    pub led : LeadsBetween (CoreStands input out err prog meaning x) (StandsFor (prog x.client.now) x.length (first_devices input out err x) (core_devices input out err x) (meaning y.store) y.books) leads
+    pub led : LeadsBetween (CoreStands input out err prog meaning x)
+        (StandsFor (prog x.client.now) x.length (first_devices input out err x) (core_devices input out err x)
+        (meaning y.store) y.books) leads
 
-  module _ (x y : Core C S I O E T) (leads : Outer T → Outer T → Type 0) (q : Quiet x y leads) (good : IsGoodCore input out err prog sound reserved meaning x) where
+  module _ (x y : Core C S I O E T) (leads : Outer T → Outer T → Type 0) (q : Quiet x y leads)
+      (good : IsGoodCore input out err prog sound reserved meaning x) where
     same_devices : core_devices input out err y ≡ core_devices input out err x
     same_devices i = device_state input out err (q.rest i).devices
 
-    led_on : LeadsBetween (CoreStands input out err prog meaning x) (StandsFor (prog x.client.now) x.length (first_devices input out err x) (core_devices input out err y) (meaning y.store) y.books) leads
-    led_on o s = let z = q.led o s in (z.0, subst (λ d. StandsFor (prog x.client.now) x.length (first_devices input out err x) d (meaning y.store) y.books z.0) (sym same_devices) z.1, z.2)
+    led_on : LeadsBetween (CoreStands input out err prog meaning x)
+        (StandsFor (prog x.client.now) x.length (first_devices input out err x) (core_devices input out err y)
+        (meaning y.store) y.books) leads
+    led_on o s = let z = q.led o s in (
+      z.0,
+      subst (λ d. StandsFor (prog x.client.now) x.length (first_devices input out err x) d (meaning y.store) y.books
+          z.0) (sym same_devices) z.1,
+      z.2,
+    )
 
     kept_on : Kept input out err prog sound reserved meaning x y
     kept_on = record {
-      rest = q.rest ∙ (λ i. record x { store = y.store; books = y.books; devices = (sym q.rest i).devices; spent = y.spent });
+      rest = q.rest ∙ (λ i. record x {
+        store = y.store;
+        books = y.books;
+        devices = (sym q.rest i).devices;
+        spent =
+            y.spent;
+      });
       shape = q.shape;
       store = q.store;
       whole = q.whole;
       count = q.count;
       kept = q.kept;
-      sane = subst (λ d. SaneCore (prog x.client.now) (sound x.client.now) x.length (first_devices input out err x) d (meaning y.store) y.books) (sym same_devices)
-          (sane_led (prog x.client.now) (sound x.client.now) x.length (first_devices input out err x) (core_devices input out err x) (core_devices input out err x) (meaning x.store) (meaning y.store) x.books y.books leads good.sane q.led good.sane.counts q.rose);
+      sane = subst (λ d. SaneCore (prog x.client.now) (sound x.client.now) x.length (first_devices input out err x) d
+          (meaning y.store) y.books) (sym same_devices)
+          (sane_led (prog x.client.now) (sound x.client.now) x.length (first_devices input out err x)
+          (core_devices input out err x) (core_devices input out err x) (meaning x.store) (meaning y.store) x.books
+          y.books leads good.sane q.led good.sane.counts q.rose);
     }
 
     pub quiet_good : IsGoodCore input out err prog sound reserved meaning y
@@ -192,12 +243,19 @@ module _ {C S I O E T : Type 0} (input : I → SourceState) (out : O → SinkSta
     quiet_leads = leads_again input out err prog sound reserved meaning x y leads kept_on led_on
 
 -- where the count of the steps stays too
-pub with_spent : {C S I O E T : Type 0} (x y : Core C S I O E T) → y ≡ record x { store = y.store; books = y.books } → y ≡ record x { store = y.store; books = y.books; spent = y.spent }
+pub with_spent : {C S I O E T : Type 0} (x y : Core C S I O E T) → y ≡ record x { store = y.store; books = y.books } →
+    y ≡ record x { store = y.store; books = y.books; spent = y.spent }
 with_spent x y e = e ∙ (λ i. record x { store = y.store; books = y.books; spent = (sym e i).spent })
 
 -- the same job, and again the same job
-pub same_then : {C S I O E T : Type 0} (meaning : S → Meaning) (x y z : Core C S I O E T) → SameJob meaning x y → SameJob meaning y z → SameJob meaning x z
-same_then meaning x y z a b = record { client = b.client ∙ a.client; limits = b.limits ∙ a.limits; made_with = b.made_with ∙ a.made_with }
+pub same_then : {C S I O E T : Type 0} (meaning : S → Meaning) (x y z : Core C S I O E T) → SameJob meaning x y →
+    SameJob meaning y z → SameJob meaning x z
+same_then meaning x y z a b = record {
+  client = b.client ∙ a.client;
+  limits = b.limits ∙ a.limits;
+  made_with =
+      b.made_with ∙ a.made_with;
+}
 
 -- ---- a kept Full
 
@@ -214,30 +272,36 @@ pub le_same : (a b : ℕ) → b ≡ a → a ≤ b
 le_same a b e = omega (arith, e)
 
 -- where the cause is as before
-pub full_same : (r r1 l l1 : ℕ) (o o1 : Option Cause) → r ≤ r1 → l1 ≡ l → o1 ≡ o → IsFullKept r l o → IsFullKept r1 l1 o1
+pub full_same : (r r1 l l1 : ℕ) (o o1 : Option Cause) → r ≤ r1 → l1 ≡ l → o1 ≡ o → IsFullKept r l o →
+    IsFullKept r1 l1 o1
 full_same r r1 l l1 o o1 le e same k = subst (IsFullKept r1 l1) (sym same) (full_later r r1 l l1 o le e k)
 
-module _ {S : Type 0} (p : Prog S) (r r1 l l1 : ℕ) (le : r ≤ r1) (same : l1 ≡ l) (c c1 : CoreState S) (old : IsFullKept r l c.cause) where
+module _ {S : Type 0} (p : Prog S) (r r1 l l1 : ℕ) (le : r ≤ r1) (same : l1 ≡ l) (c c1 : CoreState S)
+    (old : IsFullKept r l c.cause) where
   as_before : (q : CoreState S) → q.cause ≡ c.cause → c1 ≡ q → IsFullKept r1 l1 c1.cause
   as_before q e h = full_same r r1 l l1 c.cause c1.cause le same (ap (λ (z : CoreState S). z.cause) h ∙ e) old
 
   -- a begin
-  pub begun_kept : (k t budget : ℕ) (result : Result (Unit {0}) BeginError) → Begun p k t budget result c c1 → IsFullKept r1 l1 c1.cause
+  pub begun_kept : (k t budget : ℕ) (result : Result (Unit {0}) BeginError) → Begun p k t budget result c c1 →
+      IsFullKept r1 l1 c1.cause
   begun_kept k t budget (Ok u) b = as_before (begun_at k t b.0.ready.state c) refl b.1
   begun_kept k t budget (Err (Over e)) b = as_before c refl b.1
   begun_kept k t budget (Err (Busy i)) b = as_before c refl b.3
   begun_kept k t budget (Err (NotReady s)) b = as_before c refl b.4
   begun_kept k t budget (Err AtBudget) b = as_before c refl b.4
-  begun_kept k t budget (Err NoMemoryError) b = subst (IsFullKept r1 l1) (sym (ap (λ (z : CoreState S). z.cause) b.1)) tt
+  begun_kept k t budget (Err NoMemoryError) b = subst (IsFullKept r1 l1) (sym (ap (λ (z : CoreState S). z.cause) b.1))
+      tt
 
 -- ---- after an advance
 
-module _ {S : Type 0} (p : Prog S) (r r1 l l1 : ℕ) (le : r ≤ r1) (same : l1 ≡ l) (o o1 : Outer S) (old : IsFullKept r l o.core.cause) where
+module _ {S : Type 0} (p : Prog S) (r r1 l l1 : ℕ) (le : r ≤ r1) (same : l1 ≡ l) (o o1 : Outer S)
+    (old : IsFullKept r l o.core.cause) where
   from_cause : (q : Option Cause) → q ≡ o.core.cause → o1.core.cause ≡ q → IsFullKept r1 l1 o1.core.cause
   from_cause q e h = full_same r r1 l l1 o.core.cause o1.core.cause le same (h ∙ e) old
 
   -- what an advance kept of a full heap, which has these numbers
-  kept_first : (z : Option Cause) (e : Cause) (u : CoreState S) (x : Transaction S) → IsFullKept r1 l1 z → IsSoloCause p u x r1 l1 e → IsFullKept r1 l1 (first_cause z e)
+  kept_first : (z : Option Cause) (e : Cause) (u : CoreState S) (x : Transaction S) → IsFullKept r1 l1 z →
+      IsSoloCause p u x r1 l1 e → IsFullKept r1 l1 (first_cause z e)
   kept_first (Some d) e u x h w = h
   kept_first None (Full i n j) u x h w = let a = w.1 in (w.2, omega (arith, a), w.3)
   kept_first None OutOfMemory u x h w = tt
@@ -252,7 +316,8 @@ module _ {S : Type 0} (p : Prog S) (r r1 l l1 : ℕ) (le : r ≤ r1) (same : l1 
   solo_cause WriteFault u x w = tt
   solo_cause ErrFault u x w = tt
 
-  pub advanced_kept : (length k n most : ℕ) (result : Result Advance AdvanceError) → Advanced p length k n most r1 l1 o result o1 → IsFullKept r1 l1 o1.core.cause
+  pub advanced_kept : (length k n most : ℕ) (result : Result Advance AdvanceError) →
+      Advanced p length k n most r1 l1 o result o1 → IsFullKept r1 l1 o1.core.cause
   advanced_kept length k n most result h = from (o.core.segments k) h
     where
       taken : StepsTaken p length k n most r1 l1 o result o1 → IsFullKept r1 l1 o1.core.cause
@@ -267,8 +332,11 @@ module _ {S : Type 0} (p : Prog S) (r r1 l l1 : ℕ) (le : r ≤ r1) (same : l1 
           before : (q : Outer S) → q.core.cause ≡ t.before.cause → o1 ≡ q → IsFullKept r1 l1 o1.core.cause
           before q e z = from_cause t.before.cause stays (ap (λ (v : Outer S). v.core.cause) z ∙ e)
 
-          first : (e : Cause) → IsSoloCause p t.before t.last r1 l1 e → o1.core.cause ≡ first_cause t.before.cause e → IsFullKept r1 l1 o1.core.cause
-          first e w z = subst (IsFullKept r1 l1) (sym z) (kept_first t.before.cause e t.before t.last (full_same r r1 l l1 o.core.cause t.before.cause le same stays old) w)
+          first : (e : Cause) → IsSoloCause p t.before t.last r1 l1 e → o1.core.cause ≡ first_cause t.before.cause e →
+              IsFullKept r1 l1 o1.core.cause
+          first e w z = subst (IsFullKept r1 l1) (sym z)
+              (kept_first t.before.cause e t.before t.last
+              (full_same r r1 l l1 o.core.cause t.before.cause le same stays old) w)
 
           fails : (b : Bool) (e : Cause) → Fails b p k n r1 l1 e u t.last o1 → IsFullKept r1 l1 o1.core.cause
           fails false e f = first e (solo_cause e t.before t.last f.0) (ap (λ (v : Outer S). v.core.cause) f.1)
@@ -289,5 +357,7 @@ module _ {S : Type 0} (p : Prog S) (r r1 l l1 : ℕ) (le : r ≤ r1) (same : l1 
         where
           life : (z : Life) → p.life x.state ≡ z → IsFullKept r1 l1 o1.core.cause
           life Lives e = taken (q.1 e)
-          life EndedLife e = from_cause o.core.cause refl (ap (λ (v : Outer S). v.core.cause) (q.0 (λ h. let a : EndedLife ≡ Lives = sym e ∙ h in cc)).1)
-          life FailedLife e = from_cause o.core.cause refl (ap (λ (v : Outer S). v.core.cause) (q.0 (λ h. let a : FailedLife ≡ Lives = sym e ∙ h in cc)).1)
+          life EndedLife e = from_cause o.core.cause refl
+              (ap (λ (v : Outer S). v.core.cause) (q.0 (λ h. let a : EndedLife ≡ Lives = sym e ∙ h in cc)).1)
+          life FailedLife e = from_cause o.core.cause refl
+              (ap (λ (v : Outer S). v.core.cause) (q.0 (λ h. let a : FailedLife ≡ Lives = sym e ∙ h in cc)).1)

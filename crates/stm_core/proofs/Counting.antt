@@ -33,44 +33,67 @@ counts_then p q r a b = record {
 
 pub kept_same : (solo : Bool) (p q : DeviceState) → q ≡ p → DevicesKept solo p q
 kept_same solo p q h = record {
-  counts = counts_same p q (ap (λ (z : DeviceState). z.reads) h) (ap (λ (z : DeviceState). z.writes) h) (ap (λ (z : DeviceState). z.errs) h);
+  counts = counts_same p q (ap (λ (z : DeviceState). z.reads) h) (ap (λ (z : DeviceState). z.writes) h)
+      (ap (λ (z : DeviceState). z.errs) h);
   was_mid = ap (λ (z : DeviceState). z.was_mid) h;
   alone = λ m. h;
 }
 
 pub kept_then : (solo : Bool) (p q r : DeviceState) → DevicesKept solo p q → DevicesKept solo q r → DevicesKept solo p r
-kept_then solo p q r a b = record { counts = counts_then p q r a.counts b.counts; was_mid = b.was_mid ∙ a.was_mid; alone = λ m. b.alone m ∙ a.alone m }
+kept_then solo p q r a b = record {
+  counts = counts_then p q r a.counts b.counts;
+  was_mid = b.was_mid ∙ a.was_mid;
+  alone = λ m. b.alone m ∙ a.alone m;
+}
 
 -- a solo one used the output, the error output or the input
-kept_out : (solo : Bool) (p q : DeviceState) (told : Option (List ℕ)) → solo ≡ true → q ≡ record p { out = told; writes = q.writes } → p.writes ≤ q.writes → DevicesKept solo p q
+kept_out : (solo : Bool) (p q : DeviceState) (told : Option (List ℕ)) → solo ≡ true →
+    q ≡ record p { out = told; writes = q.writes } → p.writes ≤ q.writes → DevicesKept solo p q
 kept_out solo p q told m h le = record {
-  counts = record { reads = let a : q.reads ≡ p.reads = ap (λ (z : DeviceState). z.reads) h in omega (arith, a); writes = le; errs = let a : q.errs ≡ p.errs = ap (λ (z : DeviceState). z.errs) h in omega (arith, a) };
+  counts = record {
+    reads = let a : q.reads ≡ p.reads = ap (λ (z : DeviceState). z.reads) h in omega (arith, a);
+    writes = le;
+    errs = let a : q.errs ≡ p.errs = ap (λ (z : DeviceState). z.errs) h in omega (arith, a);
+  };
   was_mid = ap (λ (z : DeviceState). z.was_mid) h;
   alone = λ n. absurd (both_ways solo n m);
 }
 
-kept_err : (solo : Bool) (p q : DeviceState) (told : Option (List ℕ)) → solo ≡ true → q ≡ record p { err = told; errs = q.errs } → p.errs ≤ q.errs → DevicesKept solo p q
+kept_err : (solo : Bool) (p q : DeviceState) (told : Option (List ℕ)) → solo ≡ true →
+    q ≡ record p { err = told; errs = q.errs } → p.errs ≤ q.errs → DevicesKept solo p q
 kept_err solo p q told m h le = record {
-  counts = record { reads = let a : q.reads ≡ p.reads = ap (λ (z : DeviceState). z.reads) h in omega (arith, a); writes = let a : q.writes ≡ p.writes = ap (λ (z : DeviceState). z.writes) h in omega (arith, a); errs = le };
+  counts = record {
+    reads = let a : q.reads ≡ p.reads = ap (λ (z : DeviceState). z.reads) h in omega (arith, a);
+    writes = let a : q.writes ≡ p.writes = ap (λ (z : DeviceState). z.writes) h in omega (arith, a);
+    errs = le;
+  };
   was_mid = ap (λ (z : DeviceState). z.was_mid) h;
   alone = λ n. absurd (both_ways solo n m);
 }
 
-kept_in : (solo : Bool) (p q : DeviceState) (told : Option (List ℕ)) → solo ≡ true → q ≡ record p { input = told; reads = q.reads } → p.reads ≤ q.reads → DevicesKept solo p q
+kept_in : (solo : Bool) (p q : DeviceState) (told : Option (List ℕ)) → solo ≡ true →
+    q ≡ record p { input = told; reads = q.reads } → p.reads ≤ q.reads → DevicesKept solo p q
 kept_in solo p q told m h le = record {
-  counts = record { reads = le; writes = let a : q.writes ≡ p.writes = ap (λ (z : DeviceState). z.writes) h in omega (arith, a); errs = let a : q.errs ≡ p.errs = ap (λ (z : DeviceState). z.errs) h in omega (arith, a) };
+  counts = record {
+    reads = le;
+    writes = let a : q.writes ≡ p.writes = ap (λ (z : DeviceState). z.writes) h in
+        omega (arith, a);
+    errs = let a : q.errs ≡ p.errs = ap (λ (z : DeviceState). z.errs) h in omega (arith, a);
+  };
   was_mid = ap (λ (z : DeviceState). z.was_mid) h;
   alone = λ n. absurd (both_ways solo n m);
 }
 
 -- a call that was done
-pub does_keeps : {S : Type 0} (me : Side) (c : Call S) (p : DeviceState) (r : Reply c) (q : DeviceState) → OuterDoes me c p r q → DevicesKept me.solo p q
+pub does_keeps : {S : Type 0} (me : Side) (c : Call S) (p : DeviceState) (r : Reply c) (q : DeviceState) →
+    OuterDoes me c p r q → DevicesKept me.solo p q
 does_keeps me (Put Output bytes) p r q h = kept_out me.solo p q _ h.0 h.1 h.2
 does_keeps me (Put ErrorOutput bytes) p r q h = kept_err me.solo p q _ h.0 h.1 h.2
 does_keeps me (Take most) p r q h = kept_in me.solo p q _ h.0 h.3 h.4
 does_keeps me MidLine p r q h = kept_same me.solo p q h.1
 does_keeps me (SetMidLine b) p r q h = record {
-  counts = counts_same p q (ap (λ (z : DeviceState). z.reads) h.1) (ap (λ (z : DeviceState). z.writes) h.1) (ap (λ (z : DeviceState). z.errs) h.1);
+  counts = counts_same p q (ap (λ (z : DeviceState). z.reads) h.1) (ap (λ (z : DeviceState). z.writes) h.1)
+      (ap (λ (z : DeviceState). z.errs) h.1);
   was_mid = ap (λ (z : DeviceState). z.was_mid) h.1;
   alone = λ n. absurd (both_ways me.solo n h.0);
 }
@@ -82,12 +105,14 @@ does_keeps me (Start x) p r q h = kept_same me.solo p q h
 
 -- ---- a call that was refused
 
-write_keeps : (s : Stop) (me : Side) (bytes : List ℕ) (p q : DeviceState) → WriteRefused s me bytes p q → DevicesKept me.solo p q
+write_keeps : (s : Stop) (me : Side) (bytes : List ℕ) (p q : DeviceState) → WriteRefused s me bytes p q →
+    DevicesKept me.solo p q
 write_keeps NeedSolo me bytes p q h = kept_same me.solo p q h
 write_keeps WriteFault me bytes p q h = kept_out me.solo p q _ h.0 h.1.1 h.2
 write_keeps _ me bytes p q h = kept_out me.solo p q p.out h.0 h.1 h.2
 
-err_keeps : (s : Stop) (me : Side) (bytes : List ℕ) (p q : DeviceState) → ErrRefused s me bytes p q → DevicesKept me.solo p q
+err_keeps : (s : Stop) (me : Side) (bytes : List ℕ) (p q : DeviceState) → ErrRefused s me bytes p q →
+    DevicesKept me.solo p q
 err_keeps NeedSolo me bytes p q h = kept_same me.solo p q h
 err_keeps ErrFault me bytes p q h = kept_err me.solo p q _ h.0 h.1.1 h.2
 err_keeps _ me bytes p q h = kept_err me.solo p q p.err h.0 h.1 h.2
@@ -97,7 +122,8 @@ take_keeps NeedSolo me p q h = kept_same me.solo p q h
 take_keeps ReadFault me p q h = kept_in me.solo p q _ h.0 h.1.1 h.2
 take_keeps _ me p q h = kept_in me.solo p q p.input h.0 h.1 h.2
 
-pub refuses_keeps : {S : Type 0} (me : Side) (c : Call S) (s : Stop) (p q : DeviceState) → OuterRefuses me c s p q → DevicesKept me.solo p q
+pub refuses_keeps : {S : Type 0} (me : Side) (c : Call S) (s : Stop) (p q : DeviceState) → OuterRefuses me c s p q →
+    DevicesKept me.solo p q
 refuses_keeps me (Put Output bytes) s p q h = write_keeps s me bytes p q h
 refuses_keeps me (Put ErrorOutput bytes) s p q h = err_keeps s me bytes p q h
 refuses_keeps me (Take most) s p q h = take_keeps s me p q h
@@ -110,7 +136,8 @@ refuses_keeps me (Make x) s p q h = kept_same me.solo p q h
 refuses_keeps me (Start x) s p q h = kept_same me.solo p q h
 
 -- the count of the device that failed rose
-pub refuses_rose : {S : Type 0} (k : ℕ) (me : Side) (c : Call S) (s : Stop) (p q : DeviceState) (h : Heap) (d : Hold S) → SegWhy k me s c h d → OuterRefuses me c s p q → StopRose s p q
+pub refuses_rose : {S : Type 0} (k : ℕ) (me : Side) (c : Call S) (s : Stop) (p q : DeviceState) (h : Heap) (d : Hold S)
+    → SegWhy k me s c h d → OuterRefuses me c s p q → StopRose s p q
 refuses_rose k me (Take most) ReadFault p q h d w o = o.3
 refuses_rose k me _ ReadFault p q h d w o = absurd w.1
 refuses_rose k me (Put Output bytes) WriteFault p q h d w o = o.3
@@ -151,29 +178,38 @@ pub record StepLeaves (solo : Bool) (p q : DeviceState) : Type 0 where
   pub alone : solo ≡ false → IsLeftAlone p q
 
 counts_opened : (p q : DeviceState) → OuterOpens p q → CountsGrow p q
-counts_opened p q h = counts_same p q (ap (λ (z : DeviceState). z.reads) h) (ap (λ (z : DeviceState). z.writes) h) (ap (λ (z : DeviceState). z.errs) h)
+counts_opened p q h = counts_same p q (ap (λ (z : DeviceState). z.reads) h) (ap (λ (z : DeviceState). z.writes) h)
+    (ap (λ (z : DeviceState). z.errs) h)
 
 counts_undone : (p q : DeviceState) → OuterUndoes p q → CountsGrow p q
-counts_undone p q h = counts_same p q (ap (λ (z : DeviceState). z.reads) h) (ap (λ (z : DeviceState). z.writes) h) (ap (λ (z : DeviceState). z.errs) h)
+counts_undone p q h = counts_same p q (ap (λ (z : DeviceState). z.reads) h) (ap (λ (z : DeviceState). z.writes) h)
+    (ap (λ (z : DeviceState). z.errs) h)
 
 -- one that was done
 pub leaves_done : (solo : Bool) (p p1 q : DeviceState) → OuterOpens p p1 → DevicesKept solo p1 q → StepLeaves solo p q
 leaves_done solo p p1 q op k = record {
   counts = counts_then p p1 q (counts_opened p p1 op) k.counts;
-  alone = λ m. let h : q ≡ record p { was_mid = p.mid } = k.alone m ∙ op in h ∙ ap (λ (b : Bool). record p { was_mid = b }) (sym (ap (λ (z : DeviceState). z.was_mid) h));
+  alone = λ m. let h : q ≡ record p { was_mid = p.mid } = k.alone m ∙ op in h ∙
+      ap (λ (b : Bool). record p { was_mid = b }) (sym (ap (λ (z : DeviceState). z.was_mid) h));
 }
 
 -- one that was cut and taken back
-pub leaves_cut : (solo : Bool) (p p1 q1 q : DeviceState) → OuterOpens p p1 → DevicesKept solo p1 q1 → OuterUndoes q1 q → StepLeaves solo p q
+pub leaves_cut : (solo : Bool) (p p1 q1 q : DeviceState) → OuterOpens p p1 → DevicesKept solo p1 q1 →
+    OuterUndoes q1 q → StepLeaves solo p q
 leaves_cut solo p p1 q1 q op k un = record {
   counts = counts_then p q1 q (counts_then p p1 q1 (counts_opened p p1 op) k.counts) (counts_undone q1 q un);
-  alone = λ m. let h : q ≡ record p { was_mid = p.mid } = un ∙ ap (λ (z : DeviceState). record z { mid = z.was_mid }) (k.alone m ∙ op) in h ∙ ap (λ (b : Bool). record p { was_mid = b }) (sym (ap (λ (z : DeviceState). z.was_mid) h));
+  alone = λ m. let h : q ≡ record p { was_mid = p.mid } = un ∙ ap (λ (z : DeviceState). record z { mid = z.was_mid })
+      (k.alone m ∙ op) in h ∙ ap (λ (b : Bool). record p { was_mid = b }) (sym (ap (λ (z : DeviceState). z.was_mid) h));
 }
 
 -- its flag is as it was before
-pub flag_cut : (solo : Bool) (p p1 q1 q : DeviceState) → OuterOpens p p1 → DevicesKept solo p1 q1 → OuterUndoes q1 q → q.mid ≡ p.mid
-flag_cut solo p p1 q1 q op k un = ap (λ (z : DeviceState). z.mid) un ∙ k.was_mid ∙ ap (λ (z : DeviceState). z.was_mid) op
+pub flag_cut : (solo : Bool) (p p1 q1 q : DeviceState) → OuterOpens p p1 → DevicesKept solo p1 q1 → OuterUndoes q1 q →
+    q.mid ≡ p.mid
+flag_cut solo p p1 q1 q op k un = ap (λ (z : DeviceState). z.mid) un ∙ k.was_mid ∙
+    ap (λ (z : DeviceState). z.was_mid) op
 
 -- and the count of the device that failed rose
-pub rose_cut : (s : Stop) (p p1 q1 q : DeviceState) → OuterOpens p p1 → StopRose s p1 q1 → OuterUndoes q1 q → StopRose s p q
-rose_cut s p p1 q1 q op h un = rose_before s p q1 q (rose_after s p p1 q1 (counts_opened p p1 op) h) (counts_undone q1 q un)
+pub rose_cut : (s : Stop) (p p1 q1 q : DeviceState) → OuterOpens p p1 → StopRose s p1 q1 → OuterUndoes q1 q →
+    StopRose s p q
+rose_cut s p p1 q1 q op h un = rose_before s p q1 q (rose_after s p p1 q1 (counts_opened p p1 op) h)
+    (counts_undone q1 q un)

@@ -24,7 +24,8 @@ use Rattle.stm_core.proofs.Beginning.{beyond, mem_none}
 
 -- ---- empty hands
 
-pub get_push : {X : Type 0} (xs : List X) (y : X) (j : ℕ) (x : X) → slice_get (xs ++ y ∷ []) j ≡ Some x → (slice_get xs j ≡ Some x) ⊎ (x ≡ y)
+pub get_push : {X : Type 0} (xs : List X) (y : X) (j : ℕ) (x : X) → slice_get (xs ++ y ∷ []) j ≡ Some x →
+    (slice_get xs j ≡ Some x) ⊎ (x ≡ y)
 get_push [] y zero x e = let same : y ≡ x = cc in inr (sym same)
 get_push [] y (suc j) x e = absurd cc
 get_push (z ∷ xs) y zero x e = inl e
@@ -51,80 +52,92 @@ grown_none (Some xs) = ap Some (sym (append-nil xs))
 
 -- ---- a new core
 
-module _ {S : Type 0} (p : Prog S) (m : Meaning) (b : Books S) (e : (a : ℕ) → m.image a ≡ None) (changed : (j : ℕ) → (m.part j).changed ≡ []) (made : (j : ℕ) → (m.part j).made ≡ []) (n : IsFirst p m.segments b) where
-  pub new_whole : Whole m b
-  new_whole =
-      let r = sum_idle one_running refl b.hands.items n.idle in
-      let s = sum_idle one_started refl b.hands.items n.idle in
-      let q = n.pending in
-      record {
-        hands = n.hands;
-        holders = λ j a h. absurd (both_ways false refl (sym (ap (λ (z : List ℕ). holds (record (m.part j) { changed = z }) a) (changed j) ∙ ap (λ (z : List ℕ). mem a z) (made j)) ∙ h));
-        works = λ j x e. absurd (let u : Runs x ≡ IdleHand = n.idle j (Runs x) e in cc);
-        locked = λ j a h. absurd (both_ways false refl (sym (ap (mem a) (changed j)) ∙ h));
-        turns = omega (arith, r);
-        losses = omega (arith, r);
-        pending = omega (arith, s, q);
-        threads = omega (arith, q);
-      }
+module _ {S : Type 0} (p : Prog S) (m : Meaning) (b : Books S) (e : (a : ℕ) → m.image a ≡ None)
+    (changed : (j : ℕ) → (m.part j).changed ≡ []) (made : (j : ℕ) → (m.part j).made ≡ []) (n : IsFirst p m.segments b)
+  where
+    pub new_whole : Whole m b
+    new_whole =
+        let r = sum_idle one_running refl b.hands.items n.idle in
+        let s = sum_idle one_started refl b.hands.items n.idle in
+        let q = n.pending in
+        record {
+          hands = n.hands;
+          holders = λ j a h. absurd (both_ways false refl
+              (sym (ap (λ (z : List ℕ). holds (record (m.part j) { changed = z }) a) (changed j) ∙
+              ap (λ (z : List ℕ). mem a z) (made j)) ∙ h));
+          works = λ j x e. absurd (let u : Runs x ≡ IdleHand = n.idle j (Runs x) e in cc);
+          locked = λ j a h. absurd (both_ways false refl (sym (ap (mem a) (changed j)) ∙ h));
+          turns = omega (arith, r);
+          losses = omega (arith, r);
+          pending = omega (arith, s, q);
+          threads = omega (arith, q);
+        }
 
-  pub core_is_new : (w : Worlds) → core_of w m b ≡ core_new p w.committed
-  core_is_new w i = record {
-    image = λ a. e a i;
-    threads = n.threads i;
-    world = w.committed;
-    history = n.history i;
-    conflicts = n.conflicts i;
-    begun = n.begun i;
-    last = n.last i;
-    cause = n.cause i;
-    segments = λ j. same j (slice_get b.hands.items j) refl i;
-  }
-    where
-      same : (j : ℕ) (o : Option (Hand S)) → slice_get b.hands.items j ≡ o → segment_of w.own (m.part j) (slice_get b.hands.items j) ≡ Idle
-      same j None e = ap (segment_of w.own (m.part j)) e
-      same j (Some h) e = ap (segment_of w.own (m.part j)) (e ∙ ap Some (n.idle j h e))
-
-  -- it stands for the core as it is made
-  new_stands : (most : ℕ) (d : DeviceState) → d.mid ≡ false → StandsFor p most d d m b (outer_new (core_new p (first_world d.input)))
-  new_stands most d dry =
-      let w : Worlds = record { committed = first_world d.input; own = no_world } in
-      record {
-        worlds = w;
-        core = sym (core_is_new w);
-        broken = sym (ap broken_of n.broken);
-        tells = record { input = refl; out = grown_none d.out; err = grown_none d.err };
-        mid = λ e. sym dry;
-        kept = kept_new p (first_world d.input) most;
-      }
-
-  -- for devices that are as they were when it was made
-  module _ (most : ℕ) (first d : DeviceState) (same : first ≡ d) (dry : d.mid ≡ false) where
-    pub stands_first : StandsFor p most first d m b (outer_new (core_new p (first_world d.input)))
-    stands_first = subst (λ z. StandsFor p most z d m b (outer_new (core_new p (first_world d.input)))) (sym same) (new_stands most d dry)
-
-    pub new_sane : (sound : Heap → List S → Type 0) → sound no_records (p.first ∷ []) → SaneCore p sound most first d m b
-    new_sane sound h = record {
-      first_sound = h;
-      state = outer_new (core_new p (first_world d.input));
-      stands = stands_first;
-      counts = subst (λ z. CountsGrow z d) (sym same) (record { reads = omega arith; writes = omega arith; errs = omega arith });
-      rose = subst (λ z. CauseRose z first d) (sym n.cause) tt;
+    pub core_is_new : (w : Worlds) → core_of w m b ≡ core_new p w.committed
+    core_is_new w i = record {
+      image = λ a. e a i;
+      threads = n.threads i;
+      world = w.committed;
+      history = n.history i;
+      conflicts = n.conflicts i;
+      begun = n.begun i;
+      last = n.last i;
+      cause = n.cause i;
+      segments = λ j. same j (slice_get b.hands.items j) refl i;
     }
+      where
+        same : (j : ℕ) (o : Option (Hand S)) → slice_get b.hands.items j ≡ o →
+            segment_of w.own (m.part j) (slice_get b.hands.items j) ≡ Idle
+        same j None e = ap (segment_of w.own (m.part j)) e
+        same j (Some h) e = ap (segment_of w.own (m.part j)) (e ∙ ap Some (n.idle j h e))
+
+    -- it stands for the core as it is made
+    new_stands : (most : ℕ) (d : DeviceState) → d.mid ≡ false →
+        StandsFor p most d d m b (outer_new (core_new p (first_world d.input)))
+    new_stands most d dry =
+        let w : Worlds = record { committed = first_world d.input; own = no_world } in
+        record {
+          worlds = w;
+          core = sym (core_is_new w);
+          broken = sym (ap broken_of n.broken);
+          tells = record { input = refl; out = grown_none d.out; err = grown_none d.err };
+          mid = λ e. sym dry;
+          kept = kept_new p (first_world d.input) most;
+        }
+
+    -- for devices that are as they were when it was made
+    module _ (most : ℕ) (first d : DeviceState) (same : first ≡ d) (dry : d.mid ≡ false) where
+      pub stands_first : StandsFor p most first d m b (outer_new (core_new p (first_world d.input)))
+      stands_first = subst (λ z. StandsFor p most z d m b (outer_new (core_new p (first_world d.input)))) (sym same)
+          (new_stands most d dry)
+
+      pub new_sane : (sound : Heap → List S → Type 0) → sound no_records (p.first ∷ []) →
+          SaneCore p sound most first d m b
+      new_sane sound h = record {
+        first_sound = h;
+        state = outer_new (core_new p (first_world d.input));
+        stands = stands_first;
+        counts = subst (λ z. CountsGrow z d) (sym same)
+            (record { reads = omega arith; writes = omega arith; errs = omega arith });
+        rose = subst (λ z. CauseRose z first d) (sym n.cause) tt;
+      }
 
 -- ---- what runs is dropped
 
-pub still_idle : {S : Type 0} (k i : ℕ) (c : CoreState S) → (i < k → c.segments i ≡ Idle) → i < k + 1 → (with_segment k Idle c).segments i ≡ Idle
+pub still_idle : {S : Type 0} (k i : ℕ) (c : CoreState S) → (i < k → c.segments i ≡ Idle) → i < k + 1 →
+    (with_segment k Idle c).segments i ≡ Idle
 still_idle k i c h lt = elim (cases_Bool (eqb i k)) [
   | inl y ↦ cond-true (eqb i k) Idle (c.segments i) y
   | inr n ↦ let d = eqb-false i k n in cond-false (eqb i k) Idle (c.segments i) n ∙ h (omega (arith, d, lt))
 ]
 
-module _ {S : Type 0} (m : Meaning) (b : Books S) (h : Whole m b) (idle : (w : Worlds) (i : ℕ) → i < m.segments → (core_of w m b).segments i ≡ Idle) where
+module _ {S : Type 0} (m : Meaning) (b : Books S) (h : Whole m b) (idle : (w : Worlds) (i : ℕ) → i < m.segments →
+    (core_of w m b).segments i ≡ Idle) where
   idle_there : (w : Worlds) (i : ℕ) → (core_of w m b).segments i ≡ Idle
   idle_there w i = elim (cases_Bool (ltb i m.segments)) [
     | inl y ↦ idle w i (ltb-true i m.segments y)
-    | inr n ↦ let le = ltb-false i m.segments n in let q = h.hands in ap (segment_of w.own (m.part i)) (beyond b.hands.items i (omega (arith, le, q)))
+    | inr n ↦ let le = ltb-false i m.segments n in let q = h.hands in
+        ap (segment_of w.own (m.part i)) (beyond b.hands.items i (omega (arith, le, q)))
   ]
 
   pub core_idle : (w : Worlds) → core_of w m b ≡ idle_core (core_of w m b)
@@ -139,7 +152,10 @@ module _ {S : Type 0} (m : Meaning) (b : Books S) (h : Whole m b) (idle : (w : W
   pub unused : (w : Worlds) (j : ℕ) → IsUnused (m.part j)
   unused w j =
       let none : (a : ℕ) → holds (m.part j) a ≡ false = λ a. elim (cases_Bool (holds (m.part j) a)) [
-        | inl y ↦ absurd (both_ways (runs_at b.hands.items j) (resting w (m.part j) (slice_get b.hands.items j) (idle_there w j)) (h.holders j a y))
+        | inl y ↦ absurd (both_ways (runs_at b.hands.items j)
+            (resting w (m.part j) (slice_get b.hands.items j) (idle_there w j)) (h.holders j a y))
         | inr n ↦ n
-      ] in
-      (mem_none (m.part j).changed (λ a. (or_parts (mem a (m.part j).changed) (mem a (m.part j).made) (none a)).0), mem_none (m.part j).made (λ a. (or_parts (mem a (m.part j).changed) (mem a (m.part j).made) (none a)).1))
+      ] in (
+        mem_none (m.part j).changed (λ a. (or_parts (mem a (m.part j).changed) (mem a (m.part j).made) (none a)).0),
+        mem_none (m.part j).made (λ a. (or_parts (mem a (m.part j).changed) (mem a (m.part j).made) (none a)).1),
+      )

@@ -11,10 +11,13 @@ at_turn (y ∷ xs) zero x lt e = ap Some (sym e)
 at_turn (y ∷ xs) (suc i) x lt e = at_turn xs i x (omega arith) e
 
 -- the hand of this turn runs another thread, or none
-pub other_thread : {S : Type 0} (hs : List (Hand S)) (i t : ℕ) (h : Hand S) (x z : Work S) → slice_get hs i ≡ Some h → h ≡ Runs x → (x.thread ≡ t → ⊥) → slice_get hs i ≡ Some (Runs z) → t ≢ z.thread
-other_thread hs i t h x z e r n f q = let same : x ≡ z = (let u : Some h ≡ Some (Runs z) = sym e ∙ f in cc) in n (ap (λ (y : Work _). y.thread) same ∙ sym q)
+pub other_thread : {S : Type 0} (hs : List (Hand S)) (i t : ℕ) (h : Hand S) (x z : Work S) → slice_get hs i ≡ Some h →
+    h ≡ Runs x → (x.thread ≡ t → ⊥) → slice_get hs i ≡ Some (Runs z) → t ≢ z.thread
+other_thread hs i t h x z e r n f q = let same : x ≡ z = (let u : Some h ≡ Some (Runs z) = sym e ∙ f in cc) in
+    n (ap (λ (y : Work _). y.thread) same ∙ sym q)
 
-pub not_running : {S : Type 0} (hs : List (Hand S)) (i : ℕ) (h : Hand S) (z : Work S) → slice_get hs i ≡ Some h → slice_get hs i ≡ Some (Runs z) → h ≡ Runs z
+pub not_running : {S : Type 0} (hs : List (Hand S)) (i : ℕ) (h : Hand S) (z : Work S) → slice_get hs i ≡ Some h →
+    slice_get hs i ≡ Some (Runs z) → h ≡ Runs z
 not_running hs i h z e f = let u : Some h ≡ Some (Runs z) = sym e ∙ f in cc
 
 pub not_true : (b : Bool) → not b ≡ true → b ≡ false

@@ -38,7 +38,14 @@ hold_then k d e f a b = record {
 }
 
 hold_beside : {S : Type 0} (P : ℕ → Type 0) (k : ℕ) (me : Side) (d e : Hold S) → Beside k me P d e → HoldKept k d e
-hold_beside P k me d e h = record { image = h.image; segments = h.segments; limit = h.limit; reserved = h.reserved; hand = h.hand; broken = h.broken }
+hold_beside P k me d e h = record {
+  image = h.image;
+  segments = h.segments;
+  limit = h.limit;
+  reserved = h.reserved;
+  hand = h.hand;
+  broken = h.broken;
+}
 
 hold_opened : {S : Type 0} (k : ℕ) (d e : Hold S) → SegOpens k d e → HoldKept k d e
 hold_opened {S} k d e h = record {
@@ -62,7 +69,8 @@ hold_undone {S} k d e h = record {
 
 -- ---- rows and steps
 
-module _ {S X : Type 0} (hold : X → Hold S) (devices : X → DeviceState) (segment : X → ℕ) (me : X → Side) (same : X → X → Type 0) (same_refl : (v : X) → same v v) (same_then : (u v w : X) → same u v → same v w → same u w)
+module _ {S X : Type 0} (hold : X → Hold S) (devices : X → DeviceState) (segment : X → ℕ) (me : X → Side)
+    (same : X → X → Type 0) (same_refl : (v : X) → same v v) (same_then : (u v w : X) → same u v → same v w → same u w)
     (k : ℕ) (s : Side) where
   -- what calls of segment k keep, which acts for the side s
   pub record Kept (v w : X) : Type 0 where
@@ -96,7 +104,8 @@ module _ {S X : Type 0} (hold : X → Hold S) (devices : X → DeviceState) (seg
         tells = kept_then s.solo (devices v) (devices m) (devices w) a.tells b.tells;
       }
 
-  call_keeps : (c : Call S) (v : X) (r : Reply c) (w : X) → (seg_sense hold devices segment me same).does c v r w → Keeps v w
+  call_keeps : (c : Call S) (v : X) (r : Reply c) (w : X) → (seg_sense hold devices segment me same).does c v r w →
+      Keeps v w
   call_keeps c v r w d ek es =
       let done = done_at hold devices segment me same k s c v r w ek es d in
       record {
@@ -108,13 +117,17 @@ module _ {S X : Type 0} (hold : X → Hold S) (devices : X → DeviceState) (seg
       }
 
   -- a call that was refused, of this segment and side
-  pub refused_at : (c : Call S) (v : X) (e : Stop) (w : X) → segment v ≡ k → me v ≡ s → (seg_sense hold devices segment me same).refuses c v e w → SegRefuses k s c (hold v) e (hold w) × OuterRefuses s c e (devices v) (devices w)
+  pub refused_at : (c : Call S) (v : X) (e : Stop) (w : X) → segment v ≡ k → me v ≡ s →
+      (seg_sense hold devices segment me same).refuses c v e w →
+      SegRefuses k s c (hold v) e (hold w) × OuterRefuses s c e (devices v) (devices w)
   refused_at c v e w ek es d = (
-    subst (λ i. SegRefuses i s c (hold v) e (hold w)) ek (subst (λ z. SegRefuses (segment v) z c (hold v) e (hold w)) es d.0),
+    subst (λ i. SegRefuses i s c (hold v) e (hold w)) ek
+        (subst (λ z. SegRefuses (segment v) z c (hold v) e (hold w)) es d.0),
     subst (λ z. OuterRefuses z c e (devices v) (devices w)) es d.1,
   )
 
-  refused_keeps : (c : Call S) (v : X) (e : Stop) (w : X) → (seg_sense hold devices segment me same).refuses c v e w → Keeps v w
+  refused_keeps : (c : Call S) (v : X) (e : Stop) (w : X) → (seg_sense hold devices segment me same).refuses c v e w →
+      Keeps v w
   refused_keeps c v e w d ek es =
       let h = refused_at c v e w ek es d in
       record {
@@ -126,19 +139,26 @@ module _ {S X : Type 0} (hold : X → Hold S) (devices : X → DeviceState) (seg
       }
 
   -- a row that was begun
-  pub upto_keeps : {A : Type 0} (row : Row S A) (v : X) (left : Row S A) (m : X) → Upto (seg_sense hold devices segment me same) row v left m → segment v ≡ k → me v ≡ s → Kept v m
-  upto_keeps row v left m h = upto_steps (seg_sense hold devices segment me same) Keeps keeps_none keeps_join call_keeps row v left m h
+  pub upto_keeps : {A : Type 0} (row : Row S A) (v : X) (left : Row S A) (m : X) →
+      Upto (seg_sense hold devices segment me same) row v left m → segment v ≡ k → me v ≡ s → Kept v m
+  upto_keeps row v left m h = upto_steps (seg_sense hold devices segment me same) Keeps keeps_none keeps_join
+      call_keeps row v left m h
 
   -- a row that was stopped
-  pub stop_keeps : {A : Type 0} (row : Row S A) (v : X) (e : Stop) (w : X) → Stopped (seg_sense hold devices segment me same) row v e w → segment v ≡ k → me v ≡ s → Kept v w × StopRose e (devices v) (devices w)
+  pub stop_keeps : {A : Type 0} (row : Row S A) (v : X) (e : Stop) (w : X) →
+      Stopped (seg_sense hold devices segment me same) row v e w → segment v ≡ k → me v ≡ s →
+      Kept v w × StopRose e (devices v) (devices w)
   stop_keeps row v e w h ek es =
       let u = seg_sense hold devices segment me same in
       let a = stopped_at u row v e w h in
       let b = upto_keeps row v a.left a.place a.upto ek es in
       elim a.why [
         | inl x ↦ (subst (Kept v) (sym x.1) b, subst (λ z. StopRose z (devices v) (devices w)) (sym x.0) tt)
-        | inr x ↦ let r = refused_at x.0 a.place e w b.segment_is b.me_is x.3 in
-            (keeps_join v a.place w (λ p q. b) (refused_keeps x.0 a.place e w x.3) ek es, rose_after e (devices v) (devices a.place) (devices w) b.tells.counts (refuses_rose k s x.0 e (devices a.place) (devices w) _ (hold w) r.0.why r.1))
+        | inr x ↦ let r = refused_at x.0 a.place e w b.segment_is b.me_is x.3 in (
+          keeps_join v a.place w (λ p q. b) (refused_keeps x.0 a.place e w x.3) ek es,
+          rose_after e (devices v) (devices a.place) (devices w) b.tells.counts
+              (refuses_rose k s x.0 e (devices a.place) (devices w) _ (hold w) r.0.why r.1),
+        )
       ]
 
   -- what a step keeps, from the view v on, which holds d and whose devices tell p
@@ -151,12 +171,15 @@ module _ {S X : Type 0} (hold : X → Hold S) (devices : X → DeviceState) (seg
     pub rose : IfErr r (λ e. StopRose e p (devices u))
 
   step_kept : (row : Row S (Outcome × S)) (v : X) (r : Result Outcome Stop) (q : S) (u : X) → segment v ≡ k → me v ≡ s
-      → IfOk r (λ o. Stepped (seg_sense hold devices segment me same) (seg_bracket hold devices segment me same) row v o q u)
-      → IfErr r (λ e. StepStopped (seg_sense hold devices segment me same) (seg_bracket hold devices segment me same) row v e u) → StepKept v (hold v) (devices v) u r
+      → IfOk r (λ o. Stepped (seg_sense hold devices segment me same) (seg_bracket hold devices segment me same) row v
+      o q u)
+      → IfErr r (λ e. StepStopped (seg_sense hold devices segment me same) (seg_bracket hold devices segment me same)
+      row v e u) → StepKept v (hold v) (devices v) u r
   step_kept row v (Ok o) q u ek es ok err =
       let v1 = ok.0 in
       let op : SegOpens k (hold v) (hold v1) = subst (λ i. SegOpens i (hold v) (hold v1)) ek ok.1.0 in
-      let b = upto_keeps row v1 _ u (run_upto (seg_sense hold devices segment me same) row v1 (o, q) u ok.2) (ok.1.2.segment_is ∙ ek) (ok.1.2.me_is ∙ es) in
+      let b = upto_keeps row v1 _ u (run_upto (seg_sense hold devices segment me same) row v1 (o, q) u ok.2)
+      (ok.1.2.segment_is ∙ ek) (ok.1.2.me_is ∙ es) in
       record {
         segment_is = b.segment_is;
         same_is = same_then v v1 u ok.1.2.same_is b.same_is;
@@ -174,13 +197,19 @@ module _ {S X : Type 0} (hold : X → Hold S) (devices : X → DeviceState) (seg
       record {
         segment_is = err.4.2.segment_is ∙ b.0.segment_is;
         same_is = same_then v v1 u err.2.2.same_is (same_then v1 u1 u b.0.same_is err.4.2.same_is);
-        holds = hold_then k (hold v) (hold v1) (hold u) (hold_opened k (hold v) (hold v1) op) (hold_then k (hold v1) (hold u1) (hold u) b.0.holds (hold_undone k (hold u1) (hold u) un));
+        holds = hold_then k (hold v) (hold v1) (hold u) (hold_opened k (hold v) (hold v1) op)
+            (hold_then k (hold v1) (hold u1) (hold u) b.0.holds (hold_undone k (hold u1) (hold u) un));
         leaves = leaves_cut s.solo (devices v) (devices v1) (devices u1) (devices u) err.2.1 b.0.tells err.4.1;
         flag = flag_cut s.solo (devices v) (devices v1) (devices u1) (devices u) err.2.1 b.0.tells err.4.1;
         rose = rose_cut e (devices v) (devices v1) (devices u1) (devices u) err.2.1 b.1 err.4.1;
       }
 
-  pub step_keeps : (row : Row S (Outcome × S)) (v : X) (d : Hold S) (p : DeviceState) (r : Result Outcome Stop) (q : S) (u : X) → hold v ≡ d → devices v ≡ p → segment v ≡ k → me v ≡ s
-      → IfOk r (λ o. Stepped (seg_sense hold devices segment me same) (seg_bracket hold devices segment me same) row v o q u)
-      → IfErr r (λ e. StepStopped (seg_sense hold devices segment me same) (seg_bracket hold devices segment me same) row v e u) → StepKept v d p u r
-  step_keeps row v d p r q u ev pv ek es ok err = subst (λ z. StepKept v z p u r) ev (subst (λ z. StepKept v (hold v) z u r) pv (step_kept row v r q u ek es ok err))
+  pub step_keeps : (row : Row S (Outcome × S)) (v : X) (d : Hold S) (p : DeviceState) (r : Result Outcome Stop) (q : S)
+      (u : X) → hold v ≡ d → devices v ≡ p → segment v ≡ k → me v ≡ s
+      → IfOk r (λ o. Stepped (seg_sense hold devices segment me same) (seg_bracket hold devices segment me same) row v
+      o q u)
+      → IfErr r (λ e. StepStopped (seg_sense hold devices segment me same) (seg_bracket hold devices segment me same)
+      row v e u) → StepKept v d p u r
+  step_keeps row v d p r q u ev pv ek es ok err =
+      subst (λ z. StepKept v z p u r) ev
+      (subst (λ z. StepKept v (hold v) z u r) pv (step_kept row v r q u ek es ok err))

@@ -25,5 +25,6 @@ noted_fixed h a b there t = go (h a) there t
 pub looks_noted : (a k : ℕ) (m : Meaning) → is_noted (sees m k a) ((m.part k).looked a) ≡ true → Looks a k m m
 looks_noted a k m e = sym (cond-true (is_noted (sees m k a) ((m.part k).looked a)) m (after_mark k a m) e)
 
-pub looks_marked : (a k : ℕ) (m m1 : Meaning) → is_noted (sees m k a) ((m.part k).looked a) ≡ false → m1 ≡ after_mark k a m → Looks a k m m1
+pub looks_marked : (a k : ℕ) (m m1 : Meaning) → is_noted (sees m k a) ((m.part k).looked a) ≡ false →
+    m1 ≡ after_mark k a m → Looks a k m m1
 looks_marked a k m m1 e f = f ∙ sym (cond-false (is_noted (sees m k a) ((m.part k).looked a)) m (after_mark k a m) e)

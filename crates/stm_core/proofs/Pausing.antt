@@ -39,10 +39,12 @@ use Rattle.stm_core.proofs.Afresh.{IsOfHeap, does_same, reaches_afresh, change_o
 use Rattle.stm_core.proofs.Committing.{running_work, wins_back}
 
 -- what the segment sees stays, but for looks and locks
-sees_stays : {S : Type 0} (w : Worlds) (k : ℕ) (m m1 : Meaning) (x x1 : Work S) → m1.image ≡ m.image → Stays m.image (transaction w.own (m.part k) x) (transaction w.own (m1.part k) x1) → sees m1 k ≡ sees m k
+sees_stays : {S : Type 0} (w : Worlds) (k : ℕ) (m m1 : Meaning) (x x1 : Work S) → m1.image ≡ m.image →
+    Stays m.image (transaction w.own (m.part k) x) (transaction w.own (m1.part k) x1) → sees m1 k ≡ sees m k
 sees_stays w k m m1 x x1 im s = (λ i a. over ((m1.part k).changes a) (im i a)) ∙ (λ i a. s.view a i)
 
-module _ {S : Type 0} (w : Worlds) (k : ℕ) (m m1 : Meaning) (x x1 : Work S) (im : m1.image ≡ m.image) (s : Stays m.image (transaction w.own (m.part k) x) (transaction w.own (m1.part k) x1)) where
+module _ {S : Type 0} (w : Worlds) (k : ℕ) (m m1 : Meaning) (x x1 : Work S) (im : m1.image ≡ m.image)
+    (s : Stays m.image (transaction w.own (m.part k) x) (transaction w.own (m1.part k) x1)) where
   abbrev went : Transaction S
   went = transaction w.own (m.part k) x
 
@@ -56,36 +58,52 @@ module _ {S : Type 0} (w : Worlds) (k : ℕ) (m m1 : Meaning) (x x1 : Work S) (i
   -- a wait stays one
   pub waits_stays : (p : Prog S) → WaitsThere p m.image w.committed went → WaitsThere p m1.image w.committed came
   waits_stays p h = record {
-    mortal = λ e. subst (λ v. Waiting (p.row x1.state) v) (sym (sees_stays w k m m1 x x1 im s)) (subst (λ q. Waiting (p.row q) (sees m k)) (sym s.state) (h.mortal (sym s.solo ∙ e)));
+    mortal = λ e. subst (λ v. Waiting (p.row x1.state) v) (sym (sees_stays w k m m1 x x1 im s))
+        (subst (λ q. Waiting (p.row q) (sees m k)) (sym s.state) (h.mortal (sym s.solo ∙ e)));
     solo = λ e.
         let z = h.solo (sym s.solo ∙ e) in
-        let d = does_same (p.row x.state) (sight_of m.image w.committed went) (sight_of m1.image w.committed came) z.1 (WaitsNow, z.0) z.2 (sees_stays w k m m1 x x1 im s) world_stays in
-        (z.0, d.0, subst (λ q. Does (p.row q) (sight_of m1.image w.committed came) (WaitsNow, z.0) d.0) (sym s.state) d.1);
+        let d = does_same (p.row x.state) (sight_of m.image w.committed went) (sight_of m1.image w.committed came) z.1
+        (WaitsNow, z.0) z.2 (sees_stays w k m m1 x x1 im s) world_stays in (
+          z.0,
+          d.0,
+          subst (λ q. Does (p.row q) (sight_of m1.image w.committed came) (WaitsNow, z.0) d.0) (sym s.state)
+              d.1,
+        );
   }
 
   -- a call that it comes to stays one
-  pub reaches_stays : (p : Prog S) (kind : Call S → Sight S → Type 0) → IsOfHeap kind → Reaches (p.row x.state) (sight_of m.image w.committed went) kind → Reaches (p.row x1.state) (sight_of m1.image w.committed came) kind
+  pub reaches_stays : (p : Prog S) (kind : Call S → Sight S → Type 0) → IsOfHeap kind →
+      Reaches (p.row x.state) (sight_of m.image w.committed went) kind →
+      Reaches (p.row x1.state) (sight_of m1.image w.committed came) kind
   reaches_stays p kind law r = subst (λ q. Reaches (p.row q) (sight_of m1.image w.committed came) kind) (sym s.state)
-      (reaches_afresh (p.row x.state) (sight_of m.image w.committed went) (sight_of m1.image w.committed came) kind law (sees_stays w k m m1 x x1 im s) world_stays r)
+      (reaches_afresh (p.row x.state) (sight_of m.image w.committed went) (sight_of m1.image w.committed came) kind law
+      (sees_stays w k m m1 x x1 im s) world_stays r)
 
 -- of the transactions that run none has the number of the one out of its hand
-pub numbers_apart : {S : Type 0} (p : Prog S) (sound : Heap → List S → Type 0) (most k : ℕ) (m : Meaning) (b : Books S) (x : Work S) → Sane p sound most k m b x → (w : Worlds) (j : ℕ) (y : Transaction S) → j ≢ k → (core_of w m b).segments j ≡ Running y → y.begun ≢ x.begun
+pub numbers_apart : {S : Type 0} (p : Prog S) (sound : Heap → List S → Type 0) (most k : ℕ) (m : Meaning) (b : Books S)
+    (x : Work S) → Sane p sound most k m b x → (w : Worlds) (j : ℕ) (y : Transaction S) → j ≢ k →
+    (core_of w m b).segments j ≡ Running y → y.begun ≢ x.begun
 numbers_apart {S} p sound most k m b x s w j y n e f =
     let v = s.worlds in
     let z = running_work w (m.part j) (slice_get b.hands.items j) y e in
     let c = core_with v k m b x in
     let tx = transaction v.own (m.part k) x in
     let ty = transaction v.own (m.part j) z.0 in
-    let own : c.segments k ≡ Running tx = cond-true (eqb k k) (Running tx) ((core_of v m b).segments k) (eq-eqb k k refl) in
-    let other : c.segments j ≡ Running ty = cond-false (eqb j k) (Running tx) ((core_of v m b).segments j) (ne_eqb j k n) ∙ ap (segment_of v.own (m.part j)) z.1 in
+    let own : c.segments k ≡ Running tx = cond-true (eqb k k) (Running tx) ((core_of v m b).segments k)
+    (eq-eqb k k refl) in
+    let other : c.segments j ≡ Running ty = cond-false (eqb j k) (Running tx) ((core_of v m b).segments j)
+    (ne_eqb j k n) ∙ ap (segment_of v.own (m.part j)) z.1 in
     (s.good.apart j k ty tx n other own).begun (sym (ap (λ (t : Transaction S). t.begun) z.2) ∙ f)
 
-module _ {S : Type 0} (p : Prog S) (w : Worlds) (k : ℕ) (m : Meaning) (b : Books S) (x : Work S) (numbers : (j : ℕ) (y : Transaction S) → j ≢ k → (core_of w m b).segments j ≡ Running y → y.begun ≢ x.begun) where
+module _ {S : Type 0} (p : Prog S) (w : Worlds) (k : ℕ) (m : Meaning) (b : Books S) (x : Work S)
+    (numbers : (j : ℕ) (y : Transaction S) → j ≢ k → (core_of w m b).segments j ≡ Running y → y.begun ≢ x.begun) where
   abbrev tx : Transaction S
   tx = transaction w.own (m.part k) x
 
   -- a conflict that it loses by its request stands, with the transaction in its segment
-  lost_stands : (f : Conflict) → LosesTo k (side k tx) f (core_of w m b) → Reaches (p.row x.state) (sight_of m.image w.committed tx) (AsksToChange f.at.0) → IsStanding p (core_with w k m b x) f × AsksFrom k 1 f
+  lost_stands : (f : Conflict) → LosesTo k (side k tx) f (core_of w m b) →
+      Reaches (p.row x.state) (sight_of m.image w.committed tx) (AsksToChange f.at.0) →
+      IsStanding p (core_with w k m b x) f × AsksFrom k 1 f
   lost_stands f l r =
       let q = l.meets in
       let at_k : f.other.segment ≡ k = ap (λ (z : Side). z.segment) q.other in
@@ -93,28 +111,36 @@ module _ {S : Type 0} (p : Prog S) (w : Worlds) (k : ℕ) (m : Meaning) (b : Boo
       let one : eqb f.lost 0 ≡ false = ap (λ n. eqb n 0) l.lost in
       let lose : loser f ≡ f.other = cond-false (eqb f.lost 0) f.writer f.other one in
       let win : winner f ≡ f.writer = cond-false (eqb f.lost 0) f.other f.writer one in
-      let differ : f.writer.begun ≢ (side k tx).begun = λ e. numbers f.writer.segment q.writer q.differ q.writes (sym (ap (λ (z : Side). z.begun) q.writer_is) ∙ e) in (
+      let differ : f.writer.begun ≢ (side k tx).begun = λ e.
+      numbers f.writer.segment q.writer q.differ q.writes (sym (ap (λ (z : Side). z.begun) q.writer_is) ∙ e) in (
         record {
           x = q.writer;
           y = tx;
-          writes = cond-false (eqb f.writer.segment k) (Running tx) ((core_of w m b).segments f.writer.segment) (ne_eqb f.writer.segment k q.differ) ∙ q.writes;
-          reads = ap (core_with w k m b x).segments at_k ∙ cond-true (eqb k k) (Running tx) ((core_of w m b).segments k) (eq-eqb k k refl);
+          writes = cond-false (eqb f.writer.segment k) (Running tx) ((core_of w m b).segments f.writer.segment)
+              (ne_eqb f.writer.segment k q.differ) ∙ q.writes;
+          reads = ap (core_with w k m b x).segments at_k ∙
+              cond-true (eqb k k) (Running tx) ((core_of w m b).segments k) (eq-eqb k k refl);
           is = λ i. record { at = f.at; writer = q.writer_is i; other = other i; asks = f.asks; lost = f.lost };
           differ = λ e. q.differ (e ∙ at_k);
           held = q.held;
           met = subst (IsMet p m.image w.committed tx f.at.0) (sym q.asks) r;
           lost = let n = l.lost in omega (arith, n);
-          loses = ap (λ z. wins z (loser f)) win ∙ ap (wins f.writer) (lose ∙ q.other) ∙ wins_back f.writer (side k tx) differ l.loses;
+          loses = ap (λ z. wins z (loser f)) win ∙ ap (wins f.writer) (lose ∙ q.other) ∙
+              wins_back f.writer (side k tx) differ l.loses;
         },
         record { segment = at_k; asks = q.asks; lost_is = l.lost },
       )
 
 -- a step that was cut
-pub why_cut : {S : Type 0} (p : Prog S) (k : ℕ) (w : Worlds) (e : Stop) (m m1 : Meaning) (r1 : ℕ) (b b1 : Books S) (x x1 : Work S) → m1.image ≡ m.image → ((j : ℕ) (y : Transaction S) → j ≢ k → (core_of w m1 b1).segments j ≡ Running y → y.begun ≢ x1.begun)
+pub why_cut : {S : Type 0} (p : Prog S) (k : ℕ) (w : Worlds) (e : Stop) (m m1 : Meaning) (r1 : ℕ) (b b1 : Books S)
+    (x x1 : Work S) → m1.image ≡ m.image →
+    ((j : ℕ) (y : Transaction S) → j ≢ k → (core_of w m1 b1).segments j ≡ Running y → y.begun ≢ x1.begun)
     → StepCut p w k (side k (transaction w.own (m.part k) x)) e m b x m1 r1 b1 x1 → StopWhy p w k e m1 r1 b1 x1
 why_cut {S} p k w e m m1 r1 b b1 x x1 im numbers z = why e z.why
   where
-    now : (kind : Call S → Sight S → Type 0) → IsOfHeap kind → Reaches (p.row x.state) (sight_of m.image w.committed (transaction w.own (m.part k) x)) kind → Reaches (p.row x1.state) (sight_of m1.image w.committed (transaction w.own (m1.part k) x1)) kind
+    now : (kind : Call S → Sight S → Type 0) → IsOfHeap kind →
+        Reaches (p.row x.state) (sight_of m.image w.committed (transaction w.own (m.part k) x)) kind →
+        Reaches (p.row x1.state) (sight_of m1.image w.committed (transaction w.own (m1.part k) x1)) kind
     now = reaches_stays w k m m1 x x1 im z.stays p
 
     me : side k (transaction w.own (m.part k) x) ≡ side k (transaction w.own (m1.part k) x1)
@@ -124,9 +150,12 @@ why_cut {S} p k w e m m1 r1 b b1 x x1 im numbers z = why e z.why
     first_false false r h = refl
     first_false true r h = h
 
-    why : (y : Stop) → CutWhy k (side k (transaction w.own (m.part k) x)) y (p.row x.state) (sight_of m.image w.committed (transaction w.own (m.part k) x)) (core_of w m1 b1) r1 m1.limit → StopWhy p w k y m1 r1 b1 x1
+    why : (y : Stop) → CutWhy k (side k (transaction w.own (m.part k) x)) y (p.row x.state)
+        (sight_of m.image w.committed (transaction w.own (m.part k) x)) (core_of w m1 b1) r1 m1.limit →
+        StopWhy p w k y m1 r1 b1 x1
     why (Lost f) h =
-        let l = lost_stands p w k m1 b1 x1 numbers f (subst (λ s. LosesTo k s f (core_of w m1 b1)) me h.0) (now (AsksToChange f.at.0) (change_of_heap f.at.0) h.1) in
+        let l = lost_stands p w k m1 b1 x1 numbers f (subst (λ s. LosesTo k s f (core_of w m1 b1)) me h.0)
+        (now (AsksToChange f.at.0) (change_of_heap f.at.0) h.1) in
         (l.0, l.1, z.stays.solo ∙ first_false x.solo (not f.writer.solo && ltb x.begun f.writer.begun) h.0.loses)
     why NeedSolo h = (now AsksOutside outside_of_heap h.1, z.stays.solo ∙ h.0)
     why (Full r n l) h = (now (AsksRoom n) (room_of_heap n) h.0, h.1, h.2, h.3)
@@ -138,86 +167,120 @@ why_cut {S} p k w e m m1 r1 b b1 x x1 im numbers z = why e z.why
 
 -- ---- a step, whichever way it ended
 
-module _ {S : Type 0} (p : Prog S) (most k n : ℕ) (t e : Option (List ℕ)) (w : Worlds) (d1 : DeviceState) (m m1 : Meaning) (r1 : ℕ) (b b1 : Books S) (x x1 : Work S) (c0 : CoreState S) (im : m1.image ≡ m.image) (st : IsStore r1 m1) (fit : Fit k m1 b1 x1.progress)
-    (lives : p.life x.state ≡ Lives) (same : x1.solo ≡ x.solo) (g : Tried p most k true n c0 (core_with w k m b x)) where
-  -- it waits
-  pub paused_waits : (own : World) (o : Outcome) → o ≡ WaitsNow → StepDone p w own k (side k (transaction w.own (m.part k) x)) o m b x m1 b1 x1 → Shown x.solo t e d1 own → Paused p most k t e w c0 (n + 0) Waits m1 r1 b1 x1 d1
-  paused_waits own o is d shown =
-      let v = d.waits is in
-      record {
-        own = w.own;
-        mortal = λ q. refl;
-        gone = gone_wait p most k n w m m1 r1 b b1 x x1 c0 im st fit g own o is d;
-        why = (ap p.life v.1.state ∙ lives, waits_stays w k m m1 x x1 im v.1 p (d.waiting is));
-        told = λ q. subst (ShowsWorld t e d1) v.0 (shown (sym same ∙ q));
+module _ {S : Type 0} (p : Prog S) (most k n : ℕ) (t e : Option (List ℕ)) (w : Worlds) (d1 : DeviceState)
+    (m m1 : Meaning) (r1 : ℕ) (b b1 : Books S) (x x1 : Work S) (c0 : CoreState S) (im : m1.image ≡ m.image)
+    (st : IsStore r1 m1) (fit : Fit k m1 b1 x1.progress)
+    (lives : p.life x.state ≡ Lives) (same : x1.solo ≡ x.solo) (g : Tried p most k true n c0 (core_with w k m b x))
+  where
+    -- it waits
+    pub paused_waits : (own : World) (o : Outcome) → o ≡ WaitsNow →
+        StepDone p w own k (side k (transaction w.own (m.part k) x)) o m b x m1 b1 x1 → Shown x.solo t e d1 own →
+        Paused p most k t e w c0 (n + 0) Waits m1 r1 b1 x1 d1
+    paused_waits own o is d shown =
+        let v = d.waits is in
+        record {
+          own = w.own;
+          mortal = λ q. refl;
+          gone = gone_wait p most k n w m m1 r1 b b1 x x1 c0 im st fit g own o is d;
+          why = (ap p.life v.1.state ∙ lives, waits_stays w k m m1 x x1 im v.1 p (d.waiting is));
+          told = λ q. subst (ShowsWorld t e d1) v.0 (shown (sym same ∙ q));
+        }
+
+    -- it was done
+    module _ (own : World) (o : Outcome) (goes : o ≢ WaitsNow)
+        (d : StepDone p w own k (side k (transaction w.own (m.part k) x)) o m b x m1 b1 x1) (le : suc x.steps ≤ most)
+        (others : x.solo ≡ true → (j : ℕ) (z : Work S) → j ≢ k → slice_get b1.hands.items j ≡ Some (Runs z) →
+        z.solo ≡ false) (shown : Shown x.solo t e d1 own) where
+      pub paused_whole : p.life x1.state ≡ Lives → Paused p most k t e w c0 (n + 1) Whole m1 r1 b1 (stepped x1) d1
+      paused_whole on = record {
+        own = own;
+        mortal = λ q. d.mortal (sym same ∙ q);
+        gone = gone_step p most k n w m m1 r1 b b1 x x1 c0 im st fit g own o goes d le others;
+        why = on;
+        told = λ q. shown (sym same ∙ q);
       }
 
-  -- it was done
-  module _ (own : World) (o : Outcome) (goes : o ≢ WaitsNow) (d : StepDone p w own k (side k (transaction w.own (m.part k) x)) o m b x m1 b1 x1) (le : suc x.steps ≤ most)
-      (others : x.solo ≡ true → (j : ℕ) (z : Work S) → j ≢ k → slice_get b1.hands.items j ≡ Some (Runs z) → z.solo ≡ false) (shown : Shown x.solo t e d1 own) where
-    pub paused_whole : p.life x1.state ≡ Lives → Paused p most k t e w c0 (n + 1) Whole m1 r1 b1 (stepped x1) d1
-    paused_whole on = record {
-      own = own;
-      mortal = λ q. d.mortal (sym same ∙ q);
-      gone = gone_step p most k n w m m1 r1 b b1 x x1 c0 im st fit g own o goes d le others;
-      why = on;
-      told = λ q. shown (sym same ∙ q);
-    }
+      -- and the thread's last
+      pub paused_ended : p.life x1.state ≢ Lives → Paused p most k t e w c0 (n + 1) Ended m1 r1 b1 (stepped x1) d1
+      paused_ended over = record {
+        own = own;
+        mortal = λ q. d.mortal (sym same ∙ q);
+        gone = gone_step p most k n w m m1 r1 b b1 x x1 c0 im st fit g own o goes d le others;
+        why = over;
+        told = λ q. shown (sym same ∙ q);
+      }
 
-    -- and the thread's last
-    pub paused_ended : p.life x1.state ≢ Lives → Paused p most k t e w c0 (n + 1) Ended m1 r1 b1 (stepped x1) d1
-    paused_ended over = record {
-      own = own;
-      mortal = λ q. d.mortal (sym same ∙ q);
-      gone = gone_step p most k n w m m1 r1 b b1 x x1 c0 im st fit g own o goes d le others;
-      why = over;
-      told = λ q. shown (sym same ∙ q);
+    -- it was cut
+    pub paused_cut : (stop : Stop) → StepCut p w k (side k (transaction w.own (m.part k) x)) stop m b x m1 r1 b1 x1 →
+        ((j : ℕ) (y : Transaction S) → j ≢ k → (core_of w m1 b1).segments j ≡ Running y → y.begun ≢ x1.begun)
+        → (x.solo ≡ true → StepBroke p t e m.image w.committed (transaction w.own (m.part k) x) stop d1) →
+        Paused p most k t e w c0 (n + 0) (Stopped stop) m1 r1 b1 x1 d1
+    paused_cut stop z numbers broke = record {
+      own = w.own;
+      mortal = λ q. refl;
+      gone = gone_cut p most k n w m m1 r1 b b1 x x1 c0 im st fit g stop z;
+      why = (ap p.life z.stays.state ∙ lives, why_cut p k w stop m m1 r1 b b1 x x1 im numbers z);
+      told = λ q. broke_stays (broke (sym same ∙ q));
     }
-
-  -- it was cut
-  pub paused_cut : (stop : Stop) → StepCut p w k (side k (transaction w.own (m.part k) x)) stop m b x m1 r1 b1 x1 → ((j : ℕ) (y : Transaction S) → j ≢ k → (core_of w m1 b1).segments j ≡ Running y → y.begun ≢ x1.begun)
-      → (x.solo ≡ true → StepBroke p t e m.image w.committed (transaction w.own (m.part k) x) stop d1) → Paused p most k t e w c0 (n + 0) (Stopped stop) m1 r1 b1 x1 d1
-  paused_cut stop z numbers broke = record {
-    own = w.own;
-    mortal = λ q. refl;
-    gone = gone_cut p most k n w m m1 r1 b b1 x x1 c0 im st fit g stop z;
-    why = (ap p.life z.stays.state ∙ lives, why_cut p k w stop m m1 r1 b b1 x x1 im numbers z);
-    told = λ q. broke_stays (broke (sym same ∙ q));
-  }
-    where
-      broke_stays : StepBroke p t e m.image w.committed (transaction w.own (m.part k) x) stop d1 → StepBroke p t e m1.image w.committed (transaction w.own (m1.part k) x1) stop d1
-      broke_stays h =
-          let tx = transaction w.own (m.part k) x in
-          let tx1 = transaction w.own (m1.part k) x1 in
-          let c = h.cut in
-          let u = upto_afresh (p.row x.state) c.left (sight_of m.image w.committed tx) (sight_of m1.image w.committed tx1) c.place (sees_stays w k m m1 x x1 im z.stays) (world_stays w k m m1 x x1 im z.stays) c.upto in
-          record {
-            told = h.told;
-            tells = h.tells;
-            cut = record {
-              left = c.left;
-              place = u.0;
-              upto = subst (λ q. Upto pure (p.row q) (sight_of m1.image w.committed tx1) c.left u.0) (sym z.stays.state) u.1;
-              part = subst (λ v. PartOf c.left v h.told) (sym u.2) c.part;
-            };
-            fault = h.fault;
-          }
+      where
+        broke_stays : StepBroke p t e m.image w.committed (transaction w.own (m.part k) x) stop d1 →
+            StepBroke p t e m1.image w.committed (transaction w.own (m1.part k) x1) stop d1
+        broke_stays h =
+            let tx = transaction w.own (m.part k) x in
+            let tx1 = transaction w.own (m1.part k) x1 in
+            let c = h.cut in
+            let u = upto_afresh (p.row x.state) c.left (sight_of m.image w.committed tx)
+            (sight_of m1.image w.committed tx1) c.place (sees_stays w k m m1 x x1 im z.stays)
+            (world_stays w k m m1 x x1 im z.stays) c.upto in
+            record {
+              told = h.told;
+              tells = h.tells;
+              cut = record {
+                left = c.left;
+                place = u.0;
+                upto = subst (λ q. Upto pure (p.row q) (sight_of m1.image w.committed tx1) c.left u.0)
+                    (sym z.stays.state) u.1;
+                part = subst (λ v. PartOf c.left v h.told) (sym u.2) c.part;
+              };
+              fault = h.fault;
+            }
 
 -- steps that were done, and then more of the same client
-pub paused_then : {S : Type 0} (p p1 : Prog S) (most k done more : ℕ) (t e : Option (List ℕ)) (w : Worlds) (d d1 : DeviceState) (pause : Pause) (m m1 : Meaning) (r r1 : ℕ) (b b1 : Books S) (x x1 : Work S) (c : CoreState S) → p1 ≡ p → x1.solo ≡ x.solo
-    → (u : Paused p most k t e w c done Whole m r b x d) → (Shown x.solo t e d u.own → Tried p1 most k true done c (core_with (with_own u.own w) k m b x) → Paused p1 most k t e (with_own u.own w) c (done + more) pause m1 r1 b1 x1 d1)
+pub paused_then : {S : Type 0} (p p1 : Prog S) (most k done more : ℕ) (t e : Option (List ℕ)) (w : Worlds)
+    (d d1 : DeviceState) (pause : Pause) (m m1 : Meaning) (r r1 : ℕ) (b b1 : Books S) (x x1 : Work S) (c : CoreState S)
+    → p1 ≡ p → x1.solo ≡ x.solo
+    → (u : Paused p most k t e w c done Whole m r b x d) →
+    (Shown x.solo t e d u.own → Tried p1 most k true done c (core_with (with_own u.own w) k m b x) →
+    Paused p1 most k t e (with_own u.own w) c (done + more) pause m1 r1 b1 x1 d1)
     → Paused p most k t e w c (done + more) pause m1 r1 b1 x1 d1
 paused_then {S} p p1 most k done more t e w d d1 pause m m1 r r1 b b1 x x1 c client same u next =
     let here = core_with (with_own u.own w) k m b x in
-    let tried = subst (λ z. Tried p most k true done c z) (sym (none_tried p most k false u.gone.reached here u.gone.rest)) u.gone.steps in
-    let z = subst (λ q. Paused q most k t e (with_own u.own w) c (done + more) pause m1 r1 b1 x1 d1) client (next u.told (subst (λ q. Tried q most k true done c here) (sym client) tried)) in
-    record { own = z.own; mortal = λ q. z.mortal q ∙ u.mortal (sym same ∙ q); gone = z.gone; why = z.why; told = z.told }
+    let tried = subst (λ z. Tried p most k true done c z)
+    (sym (none_tried p most k false u.gone.reached here u.gone.rest)) u.gone.steps in
+    let z = subst (λ q. Paused q most k t e (with_own u.own w) c (done + more) pause m1 r1 b1 x1 d1) client
+    (next u.told (subst (λ q. Tried q most k true done c here) (sym client) tried)) in
+    record {
+      own = z.own;
+      mortal = λ q. z.mortal q ∙ u.mortal (sym same ∙ q);
+      gone = z.gone;
+      why = z.why;
+      told =
+          z.told;
+    }
 
 -- before the first step
-pub paused_none : {S : Type 0} (p : Prog S) (most k : ℕ) (t e : Option (List ℕ)) (w : Worlds) (d : DeviceState) (m : Meaning) (r : ℕ) (b : Books S) (x : Work S) → p.life x.state ≡ Lives → Shown x.solo t e d w.own → Paused p most k t e w (core_with w k m b x) 0 Whole m r b x d
+pub paused_none : {S : Type 0} (p : Prog S) (most k : ℕ) (t e : Option (List ℕ)) (w : Worlds) (d : DeviceState)
+    (m : Meaning) (r : ℕ) (b : Books S) (x : Work S) → p.life x.state ≡ Lives → Shown x.solo t e d w.own →
+    Paused p most k t e w (core_with w k m b x) 0 Whole m r b x d
 paused_none p most k t e w d m r b x lives shown =
     let c = core_with w k m b x in
-    record { own = w.own; mortal = λ q. refl; gone = all_gone p most k 0 c c (tried_none p most k true c); why = lives; told = shown }
+    record {
+      own = w.own;
+      mortal = λ q. refl;
+      gone = all_gone p most k 0 c c (tried_none p most k true c);
+      why = lives;
+      told = shown;
+    }
 
 -- nothing was told by what told nothing, and then nothing
 pub alone_then : (d d1 d2 : DeviceState) → IsLeftAlone d d1 → IsLeftAlone d1 d2 → IsLeftAlone d d2

@@ -44,7 +44,8 @@ at_there h a t = go (h a) t
 
 -- marks that a look leaves
 marks_tracked : (a : ℕ) (t : Bool) (m : Marks) → t ≡ true → with_mark a m ≡ (λ b. (eqb b a && t) || m b)
-marks_tracked a t m e = same_marks (with_mark a m) (λ b. (eqb b a && t) || m b) (λ b. ap (λ z. z || m b) (both (eqb b a) t e))
+marks_tracked a t m e = same_marks (with_mark a m) (λ b. (eqb b a && t) || m b)
+    (λ b. ap (λ z. z || m b) (both (eqb b a) t e))
   where
     both : (x z : Bool) → z ≡ true → x ≡ (x && z)
     both true z q = sym q
@@ -58,34 +59,55 @@ marks_fixed a t m e = same_marks m (λ b. (eqb b a && t) || m b) (λ b. ap (λ z
     none false z q = refl
 
 -- a look at a record, as a call
-pub see_done : {S : Type 0} (me : Side) (a k : ℕ) (m m1 : Meaning) (r r1 : ℕ) (b b1 : Books S) (p p1 : Progress S) (o o1 : Option Stop) → runs_at b.hands.items k ≡ false → Has (sees m k) a → Looks a k m m1 → r1 ≡ r → b1 ≡ b → p1 ≡ p → o1 ≡ o → o ≡ None
+pub see_done : {S : Type 0} (me : Side) (a k : ℕ) (m m1 : Meaning) (r r1 : ℕ) (b b1 : Books S) (p p1 : Progress S)
+    (o o1 : Option Stop) → runs_at b.hands.items k ≡ false → Has (sees m k) a → Looks a k m m1 → r1 ≡ r → b1 ≡ b →
+    p1 ≡ p → o1 ≡ o → o ≡ None
     → SegDoes k me (Read a) (holding m r b p o) (at (sees m k) a) (holding m1 r1 b1 p1 o1)
 see_done {S} me a k m m1 r r1 b b1 p p1 o o1 out there h er eb ep eo live =
     let s = looks_same a k m m1 h in
     let tracked = is_tracked (at (sees m k) a).kind in
     let looked : (m1.part k).looked ≡ (λ c. (eqb c a && tracked) || (m.part k).looked c) = elim (cases_Bool tracked) [
       | inl y ↦ looks_mark a k m m1 there y h ∙ marks_tracked a tracked (m.part k).looked y
-      | inr y ↦ ap (λ (z : Meaning). (z.part k).looked) (h ∙ cond-true (is_noted (sees m k a) ((m.part k).looked a)) m (after_mark k a m) (noted_fixed (sees m k) a ((m.part k).looked a) there y)) ∙ marks_fixed a tracked (m.part k).looked y
+      | inr y ↦ ap (λ (z : Meaning). (z.part k).looked)
+          (h ∙ cond-true (is_noted (sees m k a) ((m.part k).looked a)) m (after_mark k a m)
+          (noted_fixed (sees m k) a ((m.part k).looked a) there y)) ∙ marks_fixed a tracked (m.part k).looked y
     ] in
     let e : Hold S = holding m1 r b p o in
-    let sights : sight k e ≡ looked_at a (at (sees m k) a) (sight k (holding m r b p o)) = λ i. record (sight k e) { heap = s.0 i; looked = looked i; touched = s.1 i; made = s.2 i } in
-    let base : SegDoes k me (Read a) (holding m r b p o) (at (sees m k) a) (holding m1 r b p o) = ((at_there (sees m k) a there, sights), looks_beside me a k m m1 r b p o o out h, live) in
-    subst (λ z. SegDoes k me (Read a) (holding m r b p o) (at (sees m k) a) (holding m1 z b1 p1 o1)) (sym er) (subst (λ z. SegDoes k me (Read a) (holding m r b p o) (at (sees m k) a) (holding m1 r z p1 o1)) (sym eb)
-    (subst (λ z. SegDoes k me (Read a) (holding m r b p o) (at (sees m k) a) (holding m1 r b z o1)) (sym ep) (subst (λ z. SegDoes k me (Read a) (holding m r b p o) (at (sees m k) a) (holding m1 r b p z)) (sym eo) base)))
+    let sights : sight k e ≡ looked_at a (at (sees m k) a) (sight k (holding m r b p o)) = λ i.
+    record (sight k e) { heap = s.0 i; looked = looked i; touched = s.1 i; made = s.2 i } in
+    let base : SegDoes k me (Read a) (holding m r b p o) (at (sees m k) a) (holding m1 r b p o) =
+    ((at_there (sees m k) a there, sights), looks_beside me a k m m1 r b p o o out h, live) in
+    subst (λ z. SegDoes k me (Read a) (holding m r b p o) (at (sees m k) a) (holding m1 z b1 p1 o1)) (sym er)
+    (subst (λ z. SegDoes k me (Read a) (holding m r b p o) (at (sees m k) a) (holding m1 r z p1 o1)) (sym eb)
+    (subst (λ z. SegDoes k me (Read a) (holding m r b p o) (at (sees m k) a) (holding m1 r b z o1)) (sym ep)
+    (subst (λ z. SegDoes k me (Read a) (holding m r b p o) (at (sees m k) a) (holding m1 r b p z)) (sym eo) base)))
 
 -- a call that stopped and changed nothing
-pub refused_alone : {S : Type 0} (k : ℕ) (me : Side) (c : Call S) (m m1 : Meaning) (r r1 : ℕ) (b b1 : Books S) (p p1 : Progress S) (o o1 : Option Stop) (s : Stop) → m1 ≡ m → r ≤ r1 → b1 ≡ b → p1 ≡ p → o1 ≡ Some s
-    → SegWhy k me s c (sees m k) (holding m r1 b p (Some s)) → SegRefuses k me c (holding m r b p o) s (holding m1 r1 b1 p1 o1)
+pub refused_alone : {S : Type 0} (k : ℕ) (me : Side) (c : Call S) (m m1 : Meaning) (r r1 : ℕ) (b b1 : Books S)
+    (p p1 : Progress S) (o o1 : Option Stop) (s : Stop) → m1 ≡ m → r ≤ r1 → b1 ≡ b → p1 ≡ p → o1 ≡ Some s
+    → SegWhy k me s c (sees m k) (holding m r1 b p (Some s)) →
+    SegRefuses k me c (holding m r b p o) s (holding m1 r1 b1 p1 o1)
 refused_alone {S} k me c m m1 r r1 b b1 p p1 o o1 s em le eb ep eo why =
-    let base : SegRefuses k me c (holding m r b p o) s (holding m r1 b p (Some s)) = record { stopped = refl; beside = beside_stop k me m r r1 b p o (Some s) le; why = why; looked = λ x h. inl h; locks = λ x h. inl h } in
-    subst (λ z. SegRefuses k me c (holding m r b p o) s (holding z r1 b1 p1 o1)) (sym em) (subst (λ z. SegRefuses k me c (holding m r b p o) s (holding m r1 z p1 o1)) (sym eb)
-    (subst (λ z. SegRefuses k me c (holding m r b p o) s (holding m r1 b z o1)) (sym ep) (subst (λ z. SegRefuses k me c (holding m r b p o) s (holding m r1 b p z)) (sym eo) base)))
+    let base : SegRefuses k me c (holding m r b p o) s (holding m r1 b p (Some s)) =
+    record {
+      stopped = refl;
+      beside = beside_stop k me m r r1 b p o (Some s) le;
+      why = why;
+      looked = λ x h. inl h;
+      locks = λ x h. inl h;
+    } in
+    subst (λ z. SegRefuses k me c (holding m r b p o) s (holding z r1 b1 p1 o1)) (sym em)
+    (subst (λ z. SegRefuses k me c (holding m r b p o) s (holding m r1 z p1 o1)) (sym eb)
+    (subst (λ z. SegRefuses k me c (holding m r b p o) s (holding m r1 b z o1)) (sym ep)
+    (subst (λ z. SegRefuses k me c (holding m r b p o) s (holding m r1 b p z)) (sym eo) base)))
 
 -- what was seen needs no mark
-pub seen_noted : {S : Type 0} (a k : ℕ) (d : Hold S) → Seen a k d → is_noted (sees d.meaning k a) ((d.meaning.part k).looked a) ≡ true
+pub seen_noted : {S : Type 0} (a k : ℕ) (d : Hold S) → Seen a k d →
+    is_noted (sees d.meaning k a) ((d.meaning.part k).looked a) ≡ true
 seen_noted a k d s = ap (λ o. is_noted o ((d.meaning.part k).looked a)) s.is ∙ go (is_tracked s.entry.kind) refl
   where
-    go : (t : Bool) → is_tracked s.entry.kind ≡ t → (not (is_tracked s.entry.kind) || (d.meaning.part k).looked a) ≡ true
+    go : (t : Bool) → is_tracked s.entry.kind ≡ t → (not (is_tracked s.entry.kind) || (d.meaning.part k).looked a) ≡
+        true
     go true e = ap (λ z. not z || (d.meaning.part k).looked a) e ∙ s.noted e
     go false e = ap (λ z. not z || (d.meaning.part k).looked a) e
 
@@ -94,22 +116,34 @@ pub see_same : (a k k1 : ℕ) (m m1 : Meaning) → k1 ≡ k → Looks a k m m1 �
 see_same a k k1 m m1 e h = ap (sees m1) e ∙ (looks_same a k m m1 h).0
 
 -- a look that found no memory
-pub see_refused : {S : Type 0} (me : Side) (a k : ℕ) (m m1 : Meaning) (r r1 : ℕ) (b b1 : Books S) (p p1 : Progress S) (o o1 : Option Stop) (e : Stop) → e ≡ OutOfMemory → o1 ≡ Some OutOfMemory → m1 ≡ m → r1 ≡ r → b1 ≡ b → p1 ≡ p
+pub see_refused : {S : Type 0} (me : Side) (a k : ℕ) (m m1 : Meaning) (r r1 : ℕ) (b b1 : Books S) (p p1 : Progress S)
+    (o o1 : Option Stop) (e : Stop) → e ≡ OutOfMemory → o1 ≡ Some OutOfMemory → m1 ≡ m → r1 ≡ r → b1 ≡ b → p1 ≡ p
     → SegRefuses k me (Read a) (holding m r b p o) e (holding m1 r1 b1 p1 o1)
 see_refused {S} me a k m m1 r r1 b b1 p p1 o o1 e ee eo em er eb ep =
-    subst (λ z. SegRefuses k me (Read a) (holding m r b p o) z (holding m1 r1 b1 p1 o1)) (sym ee) (refused_alone k me (Read a) m m1 r r1 b b1 p p1 o o1 OutOfMemory em (omega (arith, er)) eb ep eo tt)
+    subst (λ z. SegRefuses k me (Read a) (holding m r b p o) z (holding m1 r1 b1 p1 o1)) (sym ee)
+    (refused_alone k me (Read a) m m1 r r1 b b1 p p1 o o1 OutOfMemory em (omega (arith, er)) eb ep eo tt)
 
 -- ---- the search of a dictionary
 
-pub find_done : {S : Type 0} (k : ℕ) (me : Side) (a : ℕ) (key : Value) (d e : Hold S) (o : Option ℕ) → CanFind (sees d.meaning k) a key
-    → SegDoes k me (Read a) d (at (sees d.meaning k) a) e → o ≡ find (sees d.meaning k) (at (sees d.meaning k) a).values key → SegDoes k me (Find a key) d o e
+pub find_done : {S : Type 0} (k : ℕ) (me : Side) (a : ℕ) (key : Value) (d e : Hold S) (o : Option ℕ) →
+    CanFind (sees d.meaning k) a key
+    → SegDoes k me (Read a) d (at (sees d.meaning k) a) e →
+    o ≡ find (sees d.meaning k) (at (sees d.meaning k) a).values key → SegDoes k me (Find a key) d o e
 find_done {S} k me a key d e o there h f = ((at (sees d.meaning k) a, h.0.0, fits, f, h.0.1), h.1, h.2)
   where
     fits : Fits (sees d.meaning k) (at (sees d.meaning k) a) key
     fits = subst (λ q. IfThere false q (λ r. Fits (sees d.meaning k) r key)) h.0.0 there
 
-pub find_refused : {S : Type 0} (k : ℕ) (me : Side) (a : ℕ) (key : Value) (d : Hold S) (s : Stop) (e : Hold S) → SegRefuses k me (Read a) d s e → SegRefuses k me (Find a key) d s e
-find_refused k me a key d s e h = record { stopped = h.stopped; beside = h.beside; why = reason s h.why; looked = h.looked; locks = h.locks }
+pub find_refused : {S : Type 0} (k : ℕ) (me : Side) (a : ℕ) (key : Value) (d : Hold S) (s : Stop) (e : Hold S) →
+    SegRefuses k me (Read a) d s e → SegRefuses k me (Find a key) d s e
+find_refused k me a key d s e h = record {
+  stopped = h.stopped;
+  beside = h.beside;
+  why = reason s h.why;
+  looked =
+      h.looked;
+  locks = h.locks;
+}
   where
     reason : (z : Stop) → SegWhy k me z (Read a) (sees d.meaning k) e → SegWhy k me z (Find a key) (sees d.meaning k) e
     reason (Lost q) w = absurd w.0
@@ -129,13 +163,16 @@ take_front (suc n) [] ys h = absurd (omega arith)
 take_front (suc n) (x ∷ xs) ys h = ap (λ z. x ∷ z) (take_front n xs ys (omega arith))
 
 -- an element more at the end keeps the front
-pub front_more : {X : Type 0} (n n1 : ℕ) (xs ys : List X) (x : X) → n1 ≡ n → ys ≡ xs ++ x ∷ [] → n ≤ length xs → (n1 ≤ length ys) × (take n1 ys ≡ take n xs)
+pub front_more : {X : Type 0} (n n1 : ℕ) (xs ys : List X) (x : X) → n1 ≡ n → ys ≡ xs ++ x ∷ [] → n ≤ length xs →
+    (n1 ≤ length ys) × (take n1 ys ≡ take n xs)
 front_more n n1 xs ys x e f h =
     let l : length ys ≡ length xs + 1 = ap length f ∙ length-append xs (x ∷ []) in
     (omega (arith, e, l), ap (λ z. take z ys) e ∙ ap (take n) f ∙ take_front n xs (x ∷ []) h)
 
 -- room for more threads shows nothing
-core_started : {S : Type 0} (w : Worlds) (m : Meaning) (b b1 : Books S) → b1 ≡ record b { threads = b1.threads; pending = b1.pending } → b1.threads.entries ≡ b.threads.entries → core_of w m b1 ≡ core_of w m b
+core_started : {S : Type 0} (w : Worlds) (m : Meaning) (b b1 : Books S) →
+    b1 ≡ record b { threads = b1.threads; pending = b1.pending } → b1.threads.entries ≡ b.threads.entries →
+    core_of w m b1 ≡ core_of w m b
 core_started {S} w m b b1 eb et i = record {
   image = m.image;
   threads = et i;
@@ -148,8 +185,10 @@ core_started {S} w m b b1 eb et i = record {
   segments = λ j. segment_of w.own (m.part j) (slice_get (ap (λ (z : Books S). z.hands.items) eb i) j);
 }
 
-pub start_done : {S : Type 0} (k : ℕ) (me : Side) (m : Meaning) (r : ℕ) (b b1 : Books S) (p p1 : Progress S) (o : Option Stop) (s : S) → runs_at b.hands.items k ≡ false → o ≡ None
-    → b1 ≡ record b { threads = b1.threads; pending = b1.pending } → b1.threads.entries ≡ b.threads.entries → p1 ≡ record p { started = p.started ++ s ∷ [] }
+pub start_done : {S : Type 0} (k : ℕ) (me : Side) (m : Meaning) (r : ℕ) (b b1 : Books S) (p p1 : Progress S)
+    (o : Option Stop) (s : S) → runs_at b.hands.items k ≡ false → o ≡ None
+    → b1 ≡ record b { threads = b1.threads; pending = b1.pending } → b1.threads.entries ≡ b.threads.entries →
+    p1 ≡ record p { started = p.started ++ s ∷ [] }
     → SegDoes k me (Start s) (holding m r b p o) tt (holding m r b1 p1 o)
 start_done {S} k me m r b b1 p p1 o s out live eb et ep =
     let started : p1.started ≡ p.started ++ s ∷ [] = ap (λ (z : Progress S). z.started) ep in
@@ -170,7 +209,12 @@ start_done {S} k me m r b b1 p p1 o s out live eb et ep =
         asked = All-nil (λ (f : Conflict). ⊥);
         kept_names = kept_names;
         kept_started = kept;
-        names = λ h. (subst (λ z. z ≤ length p1.names) (sym kept_names) (subst (λ z. p.kept_names ≤ length z) (sym names) h), ap (λ z. take z p1.names) kept_names ∙ ap (take p.kept_names) names);
+        names = λ h. (
+          subst (λ z. z ≤ length p1.names) (sym kept_names)
+              (subst (λ z. p.kept_names ≤ length z) (sym names) h),
+          ap (λ z. take z p1.names) kept_names ∙
+              ap (take p.kept_names) names,
+        );
         started = λ h. front_more p.kept_started p1.kept_started p.started p1.started s kept started h;
         made = refl;
         looked = λ a h. h;
@@ -181,35 +225,56 @@ start_done {S} k me m r b b1 p p1 o s out live eb et ep =
 
 -- ---- a record that is made
 
-pub fit_made : {S : Type 0} (k n : ℕ) (q : Rec) (m : Meaning) (b : Books S) (p p1 : Progress S) (a : Addr) → Fit k m b p → a.0 ≡ n → p1 ≡ record p { names = p.names ++ a ∷ [] }
+pub fit_made : {S : Type 0} (k n : ℕ) (q : Rec) (m : Meaning) (b : Books S) (p p1 : Progress S) (a : Addr) →
+    Fit k m b p → a.0 ≡ n → p1 ≡ record p { names = p.names ++ a ∷ [] }
     → Fit k (after_make k n q m) b p1
 fit_made {S} k n q m b p p1 a f an ep =
     fit_own k m (made n q (m.part k)) b p p1 f
     (ap (λ (z : Progress S). places z.names) ep ∙ places_more p.names a n an ∙ ap (λ l. l ++ n ∷ []) f.own_names)
-    (ap (λ (z : Progress S). places (take z.kept_names z.names)) ep ∙ ap places (take_front p.kept_names p.names (a ∷ []) f.within) ∙ f.kept_names)
-    (front_more p.kept_names p1.kept_names p.names p1.names a (ap (λ (z : Progress S). z.kept_names) ep) (ap (λ (z : Progress S). z.names) ep) f.within).0
+    (ap (λ (z : Progress S). places (take z.kept_names z.names)) ep ∙
+    ap places (take_front p.kept_names p.names (a ∷ []) f.within) ∙ f.kept_names)
+    (front_more p.kept_names p1.kept_names p.names p1.names a (ap (λ (z : Progress S). z.kept_names) ep)
+    (ap (λ (z : Progress S). z.names) ep) f.within).0
     (λ c l. f.locked k c l) (ap (λ (z : Progress S). length z.started) ep)
   where
     places_more : (xs : List Addr) (x : Addr) (i : ℕ) → x.0 ≡ i → places (xs ++ x ∷ []) ≡ places xs ++ i ∷ []
     places_more [] x i e = ap (λ z. z ∷ []) e
     places_more (y ∷ ys) x i e = ap (λ z. y.0 ∷ z) (places_more ys x i e)
 
-pub make_done : {S : Type 0} (k : ℕ) (me : Side) (m m1 : Meaning) (r r1 : ℕ) (b b1 : Books S) (p p1 : Progress S) (o o1 : Option Stop) (q : Rec) (a : Addr) → runs_at b.hands.items k ≡ false → o ≡ None → IsFree m a.0 → m1 ≡ after_make k a.0 q m → r ≤ r1
-    → b1 ≡ b → p1 ≡ record p { names = p.names ++ a ∷ [] } → o1 ≡ o → SegDoes k me (Make q) (holding m r b p o) a.0 (holding m1 r1 b1 p1 o1)
+pub make_done : {S : Type 0} (k : ℕ) (me : Side) (m m1 : Meaning) (r r1 : ℕ) (b b1 : Books S) (p p1 : Progress S)
+    (o o1 : Option Stop) (q : Rec) (a : Addr) → runs_at b.hands.items k ≡ false → o ≡ None → IsFree m a.0 →
+    m1 ≡ after_make k a.0 q m → r ≤ r1
+    → b1 ≡ b → p1 ≡ record p { names = p.names ++ a ∷ [] } → o1 ≡ o →
+    SegDoes k me (Make q) (holding m r b p o) a.0 (holding m1 r1 b1 p1 o1)
 make_done {S} k me m m1 r r1 b b1 p p1 o o1 q a out live free em er eb ep eo =
     let s = make_shows k a.0 q m in
     let none : sees m k a.0 ≡ None = ap (λ z. over z (m.image a.0)) (free.changes k) ∙ free.image in
-    let part : m1.part k ≡ made a.0 q (m.part k) = ap (λ (z : Meaning). z.part k) em ∙ own_part k (made a.0 q (m.part k)) m in
+    let part : m1.part k ≡ made a.0 q (m.part k) = ap (λ (z : Meaning). z.part k) em ∙
+    own_part k (made a.0 q (m.part k)) m in
     let heap : sees m1 k ≡ put_at (sees m k) a.0 q = ap (λ z. sees z k) em ∙ s.seen in
-    let touched : holds (m1.part k) ≡ with_mark a.0 (holds (m.part k)) = ap (λ (z : Meaning). holds (z.part k)) em ∙ s.held in
+    let touched : holds (m1.part k) ≡ with_mark a.0 (holds (m.part k)) = ap (λ (z : Meaning). holds (z.part k)) em ∙
+    s.held in
     let looked : (m1.part k).looked ≡ (m.part k).looked = ap (λ (z : Part). z.looked) part in
     let makes : (m1.part k).made ≡ (m.part k).made ++ a.0 ∷ [] = ap (λ (z : Part). z.made) part in
     let started : p1.started ≡ p.started = ap (λ (z : Progress S). z.started) ep in
     let d = holding m r b p o in
     let e = holding m1 r1 b1 p1 o1 in
-    let own : Beside k me (λ c. ⊥) d (holding (after_make k a.0 q m) r1 b p o1) = beside_own k me m (made a.0 q (m.part k)) r r1 b p o o1 out er refl refl (λ c h. h) (λ c h. h) in
-    let moved : Beside k me (λ c. ⊥) d (holding m1 r1 b1 p o1) = subst (λ z. Beside k me (λ c. ⊥) d (holding z r1 b1 p o1)) (sym em) (subst (λ z. Beside k me (λ c. ⊥) d (holding (after_make k a.0 q m) r1 z p o1)) (sym eb) own) in (
-      (none, λ i. record (sight k e) { heap = heap i; looked = looked i; touched = touched i; made = makes i; started = started i }),
+    let own : Beside k me (λ c. ⊥) d (holding (after_make k a.0 q m) r1 b p o1) =
+    beside_own k me m (made a.0 q (m.part k)) r r1 b p o o1 out er refl refl (λ c h. h) (λ c h. h) in
+    let moved : Beside k me (λ c. ⊥) d (holding m1 r1 b1 p o1) =
+    subst (λ z. Beside k me (λ c. ⊥) d (holding z r1 b1 p o1)) (sym em)
+    (subst (λ z. Beside k me (λ c. ⊥) d (holding (after_make k a.0 q m) r1 z p o1)) (sym eb) own) in (
+      (
+        none,
+        λ i. record (sight k e) {
+          heap = heap i;
+          looked = looked i;
+          touched = touched i;
+          made = makes i;
+          started =
+              started i;
+        },
+      ),
       record {
         saw = moved.saw;
         image = moved.image;
@@ -223,8 +288,12 @@ make_done {S} k me m m1 r r1 b b1 p p1 o o1 q a out live free em er eb ep eo =
         asked = moved.asked;
         kept_names = ap (λ (z : Progress S). z.kept_names) ep;
         kept_started = ap (λ (z : Progress S). z.kept_started) ep;
-        names = λ h. front_more p.kept_names p1.kept_names p.names p1.names a (ap (λ (z : Progress S). z.kept_names) ep) (ap (λ (z : Progress S). z.names) ep) h;
-        started = λ h. (subst (λ (z : Progress S). z.kept_started ≤ length z.started) (sym ep) h, ap (λ (z : Progress S). take z.kept_started z.started) ep);
+        names = λ h. front_more p.kept_names p1.kept_names p.names p1.names a
+            (ap (λ (z : Progress S). z.kept_names) ep) (ap (λ (z : Progress S). z.names) ep) h;
+        started = λ h. (
+          subst (λ (z : Progress S). z.kept_started ≤ length z.started) (sym ep) h,
+          ap (λ (z : Progress S). take z.kept_started z.started) ep,
+        );
         made = moved.made;
         looked = moved.looked;
         locks = moved.locks;
@@ -232,23 +301,36 @@ make_done {S} k me m m1 r r1 b b1 p p1 o o1 q a out live free em er eb ep eo =
       eo ∙ live,
     )
 
-pub make_refused : {S : Type 0} (k : ℕ) (me : Side) (m m1 : Meaning) (r r1 : ℕ) (b b1 : Books S) (p p1 : Progress S) (o o1 : Option Stop) (q : Rec) (x : StoreFault) (s : Stop) → m1 ≡ m → r ≤ r1 → b1 ≡ b → p1 ≡ p → s ≡ stop_of x → o1 ≡ Some s
+pub make_refused : {S : Type 0} (k : ℕ) (me : Side) (m m1 : Meaning) (r r1 : ℕ) (b b1 : Books S) (p p1 : Progress S)
+    (o o1 : Option Stop) (q : Rec) (x : StoreFault) (s : Stop) → m1 ≡ m → r ≤ r1 → b1 ≡ b → p1 ≡ p → s ≡ stop_of x →
+    o1 ≡ Some s
     → FaultWhy (Wants None q) r1 m.limit x → SegRefuses k me (Make q) (holding m r b p o) s (holding m1 r1 b1 p1 o1)
 make_refused {S} k me m m1 r r1 b b1 p p1 o o1 q x s em er eb ep es eo why =
     subst (λ z. SegRefuses k me (Make q) (holding m r b p o) z (holding m1 r1 b1 p1 o1)) (sym es)
     (refused_alone k me (Make q) m m1 r r1 b b1 p p1 o o1 (stop_of x) em er eb ep (eo ∙ ap Some es) (reason x why))
   where
-    reason : (y : StoreFault) → FaultWhy (Wants None q) r1 m.limit y → SegWhy k me (stop_of y) (Make q) (sees m k) (holding m r1 b p (Some (stop_of x)))
+    reason : (y : StoreFault) → FaultWhy (Wants None q) r1 m.limit y →
+        SegWhy k me (stop_of y) (Make q) (sees m k) (holding m r1 b p (Some (stop_of x)))
     reason (FullStore u n l) w = w
     reason NoMemoryLeft w = tt
 
 -- a thread that can't be started
-pub start_refused : {S : Type 0} (k : ℕ) (me : Side) (x : S) (m m1 : Meaning) (r r1 : ℕ) (b b1 b2 : Books S) (p p1 p2 : Progress S) (o o1 : Option Stop) (s : Stop) → s ≡ OutOfMemory → o1 ≡ Some OutOfMemory → m1 ≡ m → r1 ≡ r
-    → b1 ≡ record b { threads = b1.threads; pending = b1.pending } → b1.threads.entries ≡ b.threads.entries → b2 ≡ b1 → p1 ≡ p → p2 ≡ p1 → SegRefuses k me (Start x) (holding m r b p o) s (holding m1 r1 b2 p2 o1)
+pub start_refused : {S : Type 0} (k : ℕ) (me : Side) (x : S) (m m1 : Meaning) (r r1 : ℕ) (b b1 b2 : Books S)
+    (p p1 p2 : Progress S) (o o1 : Option Stop) (s : Stop) → s ≡ OutOfMemory → o1 ≡ Some OutOfMemory → m1 ≡ m → r1 ≡ r
+    → b1 ≡ record b { threads = b1.threads; pending = b1.pending } → b1.threads.entries ≡ b.threads.entries → b2 ≡ b1 →
+    p1 ≡ p → p2 ≡ p1 → SegRefuses k me (Start x) (holding m r b p o) s (holding m1 r1 b2 p2 o1)
 start_refused {S} k me x m m1 r r1 b b1 b2 p p1 p2 o o1 s es eo em er eb et eb2 ep ep2 =
-    let base : SegRefuses k me (Start x) (holding m r b1 p (Some OutOfMemory)) OutOfMemory (holding m r b1 p (Some OutOfMemory)) =
-    record { stopped = refl; beside = beside_stop k me m r r b1 p (Some OutOfMemory) (Some OutOfMemory) (omega arith); why = tt; looked = λ a h. inl h; locks = λ a h. inl h } in
-    let full : SegRefuses k me (Start x) (holding m r b p o) OutOfMemory (holding m r b1 p (Some OutOfMemory)) = record {
+    let base : SegRefuses k me (Start x) (holding m r b1 p (Some OutOfMemory)) OutOfMemory
+    (holding m r b1 p (Some OutOfMemory)) =
+    record {
+      stopped = refl;
+      beside = beside_stop k me m r r b1 p (Some OutOfMemory) (Some OutOfMemory) (omega arith);
+      why = tt;
+      looked = λ a h. inl h;
+      locks = λ a h. inl h;
+    } in
+    let full : SegRefuses k me (Start x) (holding m r b p o) OutOfMemory (holding m r b1 p (Some OutOfMemory)) =
+    record {
       stopped = refl;
       beside = record {
         saw = refl;
@@ -273,13 +355,18 @@ start_refused {S} k me x m m1 r r1 b b1 b2 p p1 p2 o o1 s es eo em er eb et eb2 
       looked = λ a h. inl h;
       locks = λ a h. inl h;
     } in
-    subst (λ z. SegRefuses k me (Start x) (holding m r b p o) z (holding m1 r1 b2 p2 o1)) (sym es) (subst (λ z. SegRefuses k me (Start x) (holding m r b p o) OutOfMemory (holding z r1 b2 p2 o1)) (sym em)
-    (subst (λ z. SegRefuses k me (Start x) (holding m r b p o) OutOfMemory (holding m z b2 p2 o1)) (sym er) (subst (λ z. SegRefuses k me (Start x) (holding m r b p o) OutOfMemory (holding m r z p2 o1)) (sym eb2)
-    (subst (λ z. SegRefuses k me (Start x) (holding m r b p o) OutOfMemory (holding m r b1 z o1)) (sym (ep2 ∙ ep)) (subst (λ z. SegRefuses k me (Start x) (holding m r b p o) OutOfMemory (holding m r b1 p z)) (sym eo) full)))))
+    subst (λ z. SegRefuses k me (Start x) (holding m r b p o) z (holding m1 r1 b2 p2 o1)) (sym es)
+    (subst (λ z. SegRefuses k me (Start x) (holding m r b p o) OutOfMemory (holding z r1 b2 p2 o1)) (sym em)
+    (subst (λ z. SegRefuses k me (Start x) (holding m r b p o) OutOfMemory (holding m z b2 p2 o1)) (sym er)
+    (subst (λ z. SegRefuses k me (Start x) (holding m r b p o) OutOfMemory (holding m r z p2 o1)) (sym eb2)
+    (subst (λ z. SegRefuses k me (Start x) (holding m r b p o) OutOfMemory (holding m r b1 z o1)) (sym (ep2 ∙ ep))
+    (subst (λ z. SegRefuses k me (Start x) (holding m r b p o) OutOfMemory (holding m r b1 p z)) (sym eo) full)))))
 
 -- the name that was put in the place made for it
-pub name_set : {X : Type 0} (xs ys zs : List X) (x y : X) (n : ℕ) → ys ≡ xs ++ x ∷ [] → n ≡ length xs → zs ≡ slice_set ys n y → zs ≡ xs ++ y ∷ []
-name_set {X} xs ys zs x y n e l s = s ∙ ap (λ w. slice_set w n y) e ∙ ap (λ w. slice_set (xs ++ x ∷ []) w y) l ∙ at_end xs
+pub name_set : {X : Type 0} (xs ys zs : List X) (x y : X) (n : ℕ) → ys ≡ xs ++ x ∷ [] → n ≡ length xs →
+    zs ≡ slice_set ys n y → zs ≡ xs ++ y ∷ []
+name_set {X} xs ys zs x y n e l s = s ∙ ap (λ w. slice_set w n y) e ∙ ap (λ w. slice_set (xs ++ x ∷ []) w y) l ∙
+    at_end xs
   where
     at_end : (ws : List X) → slice_set (ws ++ x ∷ []) (length ws) y ≡ ws ++ y ∷ []
     at_end [] = refl
@@ -302,8 +389,10 @@ stored_at r m k a s there = go ((m.part k).changes a) (m.image a) refl refl
     none_there (Some q) h t = cc
 
     go : (o i : Option Rec) → (m.part k).changes a ≡ o → m.image a ≡ i → IsStored (at (sees m k) a)
-    go (Some q) i e f = subst IsStored (sym (at-is (sees m k) a q (ap (λ z. over z (m.image a)) e))) ((s.stored_changes k).each a q e)
-    go None (Some q) e f = subst IsStored (sym (at-is (sees m k) a q (ap (λ z. over z (m.image a)) e ∙ f))) (s.stored.each a q f)
+    go (Some q) i e f = subst IsStored (sym (at-is (sees m k) a q (ap (λ z. over z (m.image a)) e)))
+        ((s.stored_changes k).each a q e)
+    go None (Some q) e f = subst IsStored (sym (at-is (sees m k) a q (ap (λ z. over z (m.image a)) e ∙ f)))
+        (s.stored.each a q f)
     go None None e f = absurd (none_there (sees m k a) (ap (λ z. over z (m.image a)) e ∙ f) there)
 
 -- the counts of values and bytes, by the kind
@@ -322,7 +411,8 @@ pub count_of_str : (x : Kind) (vs : List Value) (bs : List ℕ) → x ≡ StrKin
 count_of_str x vs bs e = ap (λ z. length_by z vs bs) e
 
 -- the place made for a name is given back
-pub name_back : {X : Type 0} (xs ys zs : List X) (x : X) (n : ℕ) → ys ≡ xs ++ x ∷ [] → n ≡ length xs → zs ≡ take n ys → zs ≡ xs
+pub name_back : {X : Type 0} (xs ys zs : List X) (x : X) (n : ℕ) → ys ≡ xs ++ x ∷ [] → n ≡ length xs → zs ≡ take n ys →
+    zs ≡ xs
 name_back {X} xs ys zs x n e l t = t ∙ ap (take n) e ∙ ap (λ z. take z (xs ++ x ∷ [])) l ∙ front xs
   where
     front : (ws : List X) → take (length ws) (ws ++ x ∷ []) ≡ ws

@@ -1,5 +1,7 @@
--- A solo transaction wins, so that it is never doomed and its commit always goes. What a call of `solo` does is a list of moves,
--- and so is what comes of a step of a solo transaction that was cut: dooms of readers and a commit, or a drop, and then the break.
+-- A solo transaction wins, so that it is never doomed and its commit always goes. What a call of `solo` does is a list
+-- of moves,
+-- and so is what comes of a step of a solo transaction that was cut: dooms of readers and a commit, or a drop, and then
+-- the break.
 use Rattle.std.proofs.Common.{◌≡◌, ◌≢◌, ◌<◌, ◌≤◌, ◌&&◌, not, ltb, eqb, ℕ, zero, suc, Bool, true, false, cond, List, [], ◌∷◌, ◌++◌, length, slice_get, slice_set, Option, Some, None, Result, Ok, Err, refl, sym, ◌∙◌, ap, subst, inl, inr, arith}
 use Rattle.std.specs.List.{range_with_len}
 use Rattle.std.proofs.lemmas.Bool.{both_ways, cond-true, false_from_ne_true, or_left}
@@ -37,29 +39,45 @@ pub solo_beats : {S : Type 0} (i : ℕ) (x : Transaction S) (c : CoreState S) �
 solo_beats i x c solo j y a n e h = or_left x.solo (not y.solo && ltb x.begun y.begun) solo
 
 -- a transaction that loses by its own step isn't solo
-pub solo_keeps : {S : Type 0} (k : ℕ) (x : Transaction S) (f : Conflict) (c : CoreState S) → LosesTo k (side k x) f c → x.solo ≡ false
-solo_keeps k x f c h = false_from_ne_true x.solo (λ s. both_ways (wins (side k x) f.writer) h.loses (or_left x.solo (not f.writer.solo && ltb x.begun f.writer.begun) s))
+pub solo_keeps : {S : Type 0} (k : ℕ) (x : Transaction S) (f : Conflict) (c : CoreState S) → LosesTo k (side k x) f c →
+    x.solo ≡ false
+solo_keeps k x f c h = false_from_ne_true x.solo
+    (λ s. both_ways (wins (side k x) f.writer) h.loses
+    (or_left x.solo (not f.writer.solo && ltb x.begun f.writer.begun) s))
 
 -- the loser of a conflict that stands isn't solo, and neither is the transaction that runs there
-pub mortal_loses : {S : Type 0} (p : Prog S) (first : Machine S) (most : ℕ) (c : CoreState S) (f : Conflict) → Good p first most c → IsStanding p c f
+pub mortal_loses : {S : Type 0} (p : Prog S) (first : Machine S) (most : ℕ) (c : CoreState S) (f : Conflict) →
+    Good p first most c → IsStanding p c f
     → ((loser f).solo ≡ false) × ((x : Transaction S) → c.segments (loser f).segment ≡ Running x → x.solo ≡ false)
 mortal_loses {S} p first most c f g v =
-    let r = loser_runs p first most c f g v in
-    ((is_conflict p first most c f g v).mortal, λ x e. ap (λ (z : Transaction S). z.solo) (same_run x r.run (sym e ∙ r.is)) ∙ r.mortal)
+    let r = loser_runs p first most c f g v in (
+      (is_conflict p first most c f g v).mortal,
+      λ x e.
+          ap (λ (z : Transaction S). z.solo) (same_run x r.run (sym e ∙ r.is)) ∙ r.mortal,
+    )
 
 -- ---- a call of `solo`
 
 no_runs : {S : Type 0} (s : Segment S) (f : Conflict) (x : Transaction S) → s ≡ Doomed f → s ≡ Running x → ⊥
 no_runs s f x e g = let q : Doomed f ≡ Running x = sym e ∙ g in cc
 
-pub soloed_moves : {S : Type 0} (p : Prog S) (most k : ℕ) (r : Result (Unit {0}) SoloError) (o o1 : Outer S) → Soloed k r o o1 → OuterLed p most o o1
+pub soloed_moves : {S : Type 0} (p : Prog S) (most k : ℕ) (r : Result (Unit {0}) SoloError) (o o1 : Outer S) →
+    Soloed k r o o1 → OuterLed p most o o1
 soloed_moves {S} p most k r o o1 h = go (o.core.segments k) refl r h
   where
-    go : (s : Segment S) → o.core.segments k ≡ s → (q : Result (Unit {0}) SoloError) → SoloedFrom s k q o o1 → OuterLed p most o o1
+    go : (s : Segment S) → o.core.segments k ≡ s → (q : Result (Unit {0}) SoloError) → SoloedFrom s k q o o1 →
+        OuterLed p most o o1
     go (Doomed f) e (Err (Over c)) q = ([], q.1)
     go (Running x) e (Err (Over c)) q = ([], q.1)
     go (Running x) e (Err (Taken j)) q = ([], q.2)
-    go (Doomed f) e (Err (Lost g)) q = (Inner (Drops k) ∷ [], (o1, (with_segment k Idle o.core, ((λ x w. absurd (no_runs (o.core.segments k) f x e w)), refl), tt, q.2), refl))
+    go (Doomed f) e (Err (Lost g)) q = (
+      Inner (Drops k) ∷ [],
+      (
+        o1,
+        (with_segment k Idle o.core, ((λ x w. absurd (no_runs (o.core.segments k) f x e w)), refl), tt, q.2),
+        refl,
+      ),
+    )
     go (Running x) e (Ok u) q = (Solos k x ∷ [], (o1, (q.0, e, q.1, q.2), refl))
     go Idle e q z = absurd z
     go (Doomed f) e (Err (Taken j)) z = absurd z
@@ -75,12 +93,19 @@ pub record SameBase {S : Type 0} (c d : CoreState S) : Type 0 where
   pub world : d.world ≡ c.world
   pub cause : d.cause ≡ c.cause
 
-pub doom_leaves : {S : Type 0} (i : ℕ) (x : Transaction S) (js : List ℕ) (c : CoreState S) → SameBase c (doom_readers i x js c)
+pub doom_leaves : {S : Type 0} (i : ℕ) (x : Transaction S) (js : List ℕ) (c : CoreState S) →
+    SameBase c (doom_readers i x js c)
 doom_leaves i x [] c = record { image = refl; threads = refl; world = refl; cause = refl }
 doom_leaves {S} i x (j ∷ js) c =
     let a = choice (eqb j i) (c.segments j) in
     let b = doom_leaves i x js (cond (eqb j i) c (doom_one i x j c (c.segments j))) in
-    record { image = b.image ∙ a.image; threads = b.threads ∙ a.threads; world = b.world ∙ a.world; cause = b.cause ∙ a.cause }
+    record {
+      image = b.image ∙ a.image;
+      threads = b.threads ∙ a.threads;
+      world = b.world ∙ a.world;
+      cause = b.cause ∙
+          a.cause;
+    }
   where
     by_met : (y : Transaction S) (q : Option ℕ) → SameBase c (doom_met i x j y c q)
     by_met y None = record { image = refl; threads = refl; world = refl; cause = refl }
@@ -95,7 +120,8 @@ doom_leaves {S} i x (j ∷ js) c =
     choice true s = record { image = refl; threads = refl; world = refl; cause = refl }
     choice false s = by_segment s
 
--- Moves up to the last whole step of x lead from o to c: there the thread is free, no transaction is solo, and the committed state
+-- Moves up to the last whole step of x lead from o to c: there the thread is free, no transaction is solo, and the
+-- committed state
 -- is what x saw.
 record WentUp {S : Type 0} (p : Prog S) (most : ℕ) (o : Outer S) (x : Transaction S) (c : CoreState S) : Type 0 where
   pub moved : OuterLed p most o (record o { core = c })
@@ -105,16 +131,20 @@ record WentUp {S : Type 0} (p : Prog S) (most : ℕ) (o : Outer S) (x : Transact
   pub world : c.world ≡ world_after o.core.world x
   pub cause : c.cause ≡ o.core.cause
 
-module _ {S : Type 0} (p : Prog S) (first : Machine S) (most k n : ℕ) (o : Outer S) (x : Transaction S) (h : Kept p first most o) (is : o.core.segments k ≡ Running x) (solo : x.solo ≡ true)
+module _ {S : Type 0} (p : Prog S) (first : Machine S) (most k n : ℕ) (o : Outer S) (x : Transaction S)
+    (h : Kept p first most o) (is : o.core.segments k ≡ Running x) (solo : x.solo ≡ true)
     (within : (j : ℕ) (y : Transaction S) → o.core.segments j ≡ Running y → j < n) where
-  apart_from : (j : ℕ) (y : Transaction S) → j ≢ k → o.core.segments j ≡ Running y → (x.thread ≢ y.thread) × (y.solo ≡ false)
+  apart_from : (j : ℕ) (y : Transaction S) → j ≢ k → o.core.segments j ≡ Running y →
+      (x.thread ≢ y.thread) × (y.solo ≡ false)
   apart_from j y d e = let a = h.good.apart k j x y (λ q. d (sym q)) is e in (a.threads, a.solo solo)
 
   dropped : x.steps ≡ 0 → WentUp p most o x (with_segment k Idle o.core)
   dropped none =
       let s = h.good.stands k x is in
-      let z : Steps p 0 s.before (opened S o.core.image o.core.world) x.state s.sight = subst (λ i. Steps p i s.before (opened S o.core.image o.core.world) x.state s.sight) none s.steps in
-      let same : (y : Transaction S) → o.core.segments k ≡ Running y → y.steps ≡ 0 = λ y e. ap (λ (t : Transaction S). t.steps) (same_run y x (sym e ∙ is)) ∙ none in
+      let z : Steps p 0 s.before (opened S o.core.image o.core.world) x.state s.sight =
+      subst (λ i. Steps p i s.before (opened S o.core.image o.core.world) x.state s.sight) none s.steps in
+      let same : (y : Transaction S) → o.core.segments k ≡ Running y → y.steps ≡ 0 = λ y e.
+      ap (λ (t : Transaction S). t.steps) (same_run y x (sym e ∙ is)) ∙ none in
       let c1 = with_segment k Idle o.core in
       record {
         moved = (Inner (Drops k) ∷ [], (record o { core = c1 }, (c1, ((λ y e f. same y e), refl), tt, refl), refl));
@@ -124,7 +154,8 @@ module _ {S : Type 0} (p : Prog S) (first : Machine S) (most k n : ℕ) (o : Out
           | inr q ↦ apart_from j y q.0 q.1
         ];
         image = λ i a. (ap (λ (v : Sight S). v.heap a) (sym z.1) ∙ s.shows.view a) i;
-        world = sym (unstepped p first most o.core k x h.good is solo none) ∙ sym (cond-true x.solo x.world o.core.world solo);
+        world = sym (unstepped p first most o.core k x h.good is solo none) ∙
+            sym (cond-true x.solo x.world o.core.world solo);
         cause = refl;
       }
 
@@ -136,10 +167,12 @@ module _ {S : Type 0} (p : Prog S) (first : Machine S) (most k n : ℕ) (o : Out
       let u = doom_readers k x js o.core in
       let d = doom_leaves k x js o.core in
       let s = h.good.stands k x is in
-      let all : (j : ℕ) (y : Transaction S) → o.core.segments j ≡ Running y → mem j js ≡ true = λ j y e. mem_range 0 n j (omega arith) (let lt = within j y e in omega (arith, lt)) in
+      let all : (j : ℕ) (y : Transaction S) → o.core.segments j ≡ Running y → mem j js ≡ true = λ j y e.
+      mem_range 0 n j (omega arith) (let lt = within j y e in omega (arith, lt)) in
       record {
         moved = commit_led p most k x js o is some wins all;
-        state = ap (λ (ts : List S). slice_get (slice_set ts x.thread x.state ++ x.started) x.thread) d.threads ∙ get_set o.core.threads x.started x.thread s.before x.state s.is;
+        state = ap (λ (ts : List S). slice_get (slice_set ts x.thread x.state ++ x.started) x.thread) d.threads ∙
+            get_set o.core.threads x.started x.thread s.before x.state s.is;
         others = λ j y e. elim (set_cases k j Idle (Running y) u.segments e) [
           | inl q ↦ (let w = q.1 in absurd cc)
           | inr q ↦ apart_from j y q.0 (r.fewer j y q.1)
@@ -158,10 +191,30 @@ module _ {S : Type 0} (p : Prog S) (first : Machine S) (most k n : ℕ) (o : Out
       let c = up_to_whole k n x x.steps o.core in
       let w = went_up x.steps refl in
       let b : Broken = record { thread = x.thread; turns = length c.history } in
-      let free : IsFreeThread p c x.thread = record { state = x.state; is = w.state; lives = f.lives; rests = λ j y q. (w.others j y q).0 } in
-      let there = upto_afresh (p.row x.state) f.cut.left (sight_of o.core.image o.core.world x) (opened S c.image c.world) f.cut.place w.image w.world f.cut.upto in
-      let cut : RowCut (p.row x.state) (opened S c.image c.world) f.told = record { left = f.cut.left; place = there.0; upto = there.1; part = subst (λ v. PartOf f.cut.left v f.told) (sym there.2) f.cut.part } in
-      let gives : o1 ≡ record { core = record c { cause = first_cause c.cause e }; told = f.told; broken = Some b } = f.gives ∙ (λ i. record { core = record c { cause = first_cause (sym w.cause i) e }; told = f.told; broken = Some b }) in
+      let free : IsFreeThread p c x.thread =
+      record { state = x.state; is = w.state; lives = f.lives; rests = λ j y q. (w.others j y q).0 } in
+      let there = upto_afresh (p.row x.state) f.cut.left (sight_of o.core.image o.core.world x)
+      (opened S c.image c.world) f.cut.place w.image w.world f.cut.upto in
+      let cut : RowCut (p.row x.state) (opened S c.image c.world) f.told =
+      record {
+        left = f.cut.left;
+        place = there.0;
+        upto = there.1;
+        part =
+            subst (λ v. PartOf f.cut.left v f.told) (sym there.2) f.cut.part;
+      } in
+      let gives : o1 ≡ record { core = record c { cause = first_cause c.cause e }; told = f.told; broken = Some b } =
+      f.gives ∙ (λ i. record {
+        core = record c { cause = first_cause (sym w.cause i) e };
+        told = f.told;
+        broken =
+            Some b;
+      }) in
       let v : Outer S = record o { core = c } in
-      let breaks : OuterNext p most v (Breaks e b f.told) o1 = (free, cut, f.fault, (solo_told p first most k o x h is solo).0, refl, (λ j y q. (w.others j y q).1), gives) in
-      (w.moved.0 ++ Breaks e b f.told ∷ [], outer_append p most o v o1 w.moved.0 (Breaks e b f.told ∷ []) w.moved.1 (o1, breaks, refl))
+      let breaks : OuterNext p most v (Breaks e b f.told) o1 =
+      (free, cut, f.fault, (solo_told p first most k o x h is solo).0, refl, (λ j y q. (w.others j y q).1), gives)
+      in (
+        w.moved.0 ++ Breaks e b f.told ∷ [],
+        outer_append p most o v o1 w.moved.0 (Breaks e b f.told ∷ []) w.moved.1
+            (o1, breaks, refl),
+      )

@@ -33,7 +33,8 @@ module _ {S : Type 0} (p : Prog S) (c : CoreState S) where
   ]
 
   -- looked for from the first thread on, where none comes first
-  from_first : (n : ℕ) → n ≡ length c.threads → ((s t : ℕ) → t < n → sooner c.last s t ≡ true → (s < t) ⊎ (n ≤ s)) → (r : Option ℕ) → FirstReady p c 0 n r → IsNext p c r
+  from_first : (n : ℕ) → n ≡ length c.threads → ((s t : ℕ) → t < n → sooner c.last s t ≡ true → (s < t) ⊎ (n ≤ s)) →
+      (r : Option ℕ) → FirstReady p c 0 n r → IsNext p c r
   from_first n len before None f = λ t. all_past 0 n len f t (omega arith)
   from_first n len before (Some t) f = (
     f.2,
@@ -46,14 +47,17 @@ module _ {S : Type 0} (p : Prog S) (c : CoreState S) where
   pub next_none : (n : ℕ) → n ≡ length c.threads → c.last ≡ None → (r : Option ℕ) → FirstReady p c 0 n r → IsNext p c r
   next_none n len e = from_first n len (λ s t lt h. inl (ltb-true s t (subst (λ o. sooner o s t ≡ true) e h)))
 
-  pub next_far : (n l : ℕ) → n ≡ length c.threads → c.last ≡ Some l → n ≤ l → (r : Option ℕ) → FirstReady p c 0 n r → IsNext p c r
+  pub next_far : (n l : ℕ) → n ≡ length c.threads → c.last ≡ Some l → n ≤ l → (r : Option ℕ) → FirstReady p c 0 n r →
+      IsNext p c r
   next_far n l len e far = from_first n len (λ s t lt h. after s t lt (subst (λ o. sooner o s t ≡ true) e h))
     where
       after : (s t : ℕ) → t < n → sooner (Some l) s t ≡ true → (s < t) ⊎ (n ≤ s)
-      after s t lt h = elim (or_cases (ltb l s) (ltb s t) (sym (cond-false (ltb l t) (ltb l s && ltb s t) (ltb l s || ltb s t) (le-ltb l t (omega (arith, far, lt)))) ∙ h)) [
-        | inl y ↦ inr (let q = ltb-true l s y in omega (arith, far, q))
-        | inr y ↦ inl (ltb-true s t y)
-      ]
+      after s t lt h = elim (or_cases (ltb l s) (ltb s t)
+          (sym (cond-false (ltb l t) (ltb l s && ltb s t) (ltb l s || ltb s t) (le-ltb l t (omega (arith, far, lt)))) ∙
+          h)) [
+            | inl y ↦ inr (let q = ltb-true l s y in omega (arith, far, q))
+            | inr y ↦ inl (ltb-true s t y)
+          ]
 
   pub next_above : (n l t : ℕ) → c.last ≡ Some l → FirstReady p c (l + 1) n (Some t) → IsNext p c (Some t)
   next_above n l t e f = (f.2, λ s h. between s (subst (λ o. sooner o s t ≡ true) e h))
@@ -61,11 +65,14 @@ module _ {S : Type 0} (p : Prog S) (c : CoreState S) where
       between : (s : ℕ) → sooner (Some l) s t ≡ true → IsUnready p c s
       between s h =
           let a = f.0 in
-          let q = and_parts (ltb l s) (ltb s t) (sym (cond-true (ltb l t) (ltb l s && ltb s t) (ltb l s || ltb s t) (lt-ltb l t (omega (arith, a)))) ∙ h) in
+          let q = and_parts (ltb l s) (ltb s t)
+          (sym (cond-true (ltb l t) (ltb l s && ltb s t) (ltb l s || ltb s t) (lt-ltb l t (omega (arith, a)))) ∙ h)
+          in
           let x = ltb-true l s q.0 in
           f.3 s (omega (arith, x)) (ltb-true s t q.1)
 
-  pub next_below : (n l : ℕ) → n ≡ length c.threads → c.last ≡ Some l → FirstReady p c (l + 1) n None → (r : Option ℕ) → FirstReady p c 0 (l + 1) r → IsNext p c r
+  pub next_below : (n l : ℕ) → n ≡ length c.threads → c.last ≡ Some l → FirstReady p c (l + 1) n None →
+      (r : Option ℕ) → FirstReady p c 0 (l + 1) r → IsNext p c r
   next_below n l len e f None g = λ t. elim (cases_Bool (ltb t (l + 1))) [
     | inl y ↦ g t (omega arith) (ltb-true t (l + 1) y)
     | inr y ↦ all_past (l + 1) n len f t (let q = ltb-false t (l + 1) y in omega (arith, q))
@@ -75,7 +82,9 @@ module _ {S : Type 0} (p : Prog S) (c : CoreState S) where
       before : (s : ℕ) → sooner (Some l) s t ≡ true → IsUnready p c s
       before s h =
           let a = g.1 in
-          elim (or_cases (ltb l s) (ltb s t) (sym (cond-false (ltb l t) (ltb l s && ltb s t) (ltb l s || ltb s t) (le-ltb l t (omega (arith, a)))) ∙ h)) [
+          elim (or_cases (ltb l s) (ltb s t)
+          (sym (cond-false (ltb l t) (ltb l s && ltb s t) (ltb l s || ltb s t) (le-ltb l t (omega (arith, a)))) ∙
+          h)) [
             | inl y ↦ all_past (l + 1) n len f s (let q = ltb-true l s y in omega (arith, q))
             | inr y ↦ g.3 s (omega arith) (ltb-true s t y)
           ]
@@ -95,17 +104,22 @@ module _ {S : Type 0} (p : Prog S) (c : CoreState S) where
   some_ready t r = (t, r.state, r.is, (r.lives, r.goes))
 
 -- a hand that runs counts
-pub some_running : {S : Type 0} (hs : List (Hand S)) → 0 < sum_by one_running hs → (j : ℕ) × (y : Work S) × (slice_get hs j ≡ Some (Runs y))
+pub some_running : {S : Type 0} (hs : List (Hand S)) → 0 < sum_by one_running hs →
+    (j : ℕ) × (y : Work S) × (slice_get hs j ≡ Some (Runs y))
 some_running [] h = absurd (omega arith)
 some_running {S} (Runs y ∷ hs) h = (0, y, refl)
-some_running {S} (Idle ∷ hs) h = let x : Hand S = Idle in let s = sum_by-cons one_running x hs in let r = some_running hs (omega (arith, s, h)) in (suc r.0, r.1, r.2)
-some_running {S} (Doomed f ∷ hs) h = let x : Hand S = Doomed f in let s = sum_by-cons one_running x hs in let r = some_running hs (omega (arith, s, h)) in (suc r.0, r.1, r.2)
+some_running {S} (Idle ∷ hs) h = let x : Hand S = Idle in let s = sum_by-cons one_running x hs in let r =
+    some_running hs (omega (arith, s, h)) in (suc r.0, r.1, r.2)
+some_running {S} (Doomed f ∷ hs) h = let x : Hand S = Doomed f in let s = sum_by-cons one_running x hs in let r =
+    some_running hs (omega (arith, s, h)) in (suc r.0, r.1, r.2)
 
-none_running : {S : Type 0} (hs : List (Hand S)) → sum_by one_running hs ≤ 0 → (j : ℕ) (y : Work S) → slice_get hs j ≡ Some (Runs y) → ⊥
+none_running : {S : Type 0} (hs : List (Hand S)) → sum_by one_running hs ≤ 0 → (j : ℕ) (y : Work S) →
+    slice_get hs j ≡ Some (Runs y) → ⊥
 none_running hs h j y e = let s = sum_set one_running hs j (Runs y) Idle e in omega (arith, s, h)
 
 -- the core rests where no cause is kept and no hand runs
-pub at_rest : {S : Type 0} (w : Worlds) (m : Meaning) (b : Books S) {n : ℕ} → b.cause ≡ None → n ≡ sum_by one_running b.hands.items → n ≤ 0 → IsAtRest (core_of w m b)
+pub at_rest : {S : Type 0} (w : Worlds) (m : Meaning) (b : Books S) {n : ℕ} → b.cause ≡ None →
+    n ≡ sum_by one_running b.hands.items → n ≤ 0 → IsAtRest (core_of w m b)
 at_rest w m b e count none = (
   e,
   λ j x runs.

@@ -27,20 +27,44 @@ shown_now p = record { tells = record { input = refl; out = none p.out; err = no
     none None = refl
     none (Some xs) = ap Some (sym (append-nil xs))
 
-pub shows_out : (t e : Option (List ℕ)) (p q : DeviceState) (w : World) (bytes : List ℕ) → ShowsWorld t e p w → q ≡ record p { out = grown p.out bytes; writes = q.writes } → ShowsWorld t e q (wrote Output bytes w)
+pub shows_out : (t e : Option (List ℕ)) (p q : DeviceState) (w : World) (bytes : List ℕ) → ShowsWorld t e p w →
+    q ≡ record p { out = grown p.out bytes; writes = q.writes } → ShowsWorld t e q (wrote Output bytes w)
 shows_out t e p q w bytes s h = subst (λ (z : DeviceState). ShowsWorld t e z (wrote Output bytes w)) (sym h)
-    (record { tells = record { input = s.tells.input; out = ap (λ l. grown l bytes) s.tells.out ∙ grown_then t w.out bytes; err = s.tells.err }; mid = s.mid })
+    (record {
+      tells = record {
+        input = s.tells.input;
+        out = ap (λ l. grown l bytes) s.tells.out ∙
+            grown_then t w.out bytes;
+        err = s.tells.err;
+      };
+      mid = s.mid;
+    })
 
-pub shows_err : (t e : Option (List ℕ)) (p q : DeviceState) (w : World) (bytes : List ℕ) → ShowsWorld t e p w → q ≡ record p { err = grown p.err bytes; errs = q.errs } → ShowsWorld t e q (wrote ErrorOutput bytes w)
+pub shows_err : (t e : Option (List ℕ)) (p q : DeviceState) (w : World) (bytes : List ℕ) → ShowsWorld t e p w →
+    q ≡ record p { err = grown p.err bytes; errs = q.errs } → ShowsWorld t e q (wrote ErrorOutput bytes w)
 shows_err t e p q w bytes s h = subst (λ (z : DeviceState). ShowsWorld t e z (wrote ErrorOutput bytes w)) (sym h)
-    (record { tells = record { input = s.tells.input; out = s.tells.out; err = ap (λ l. grown l bytes) s.tells.err ∙ grown_then e w.err bytes }; mid = s.mid })
+    (record {
+      tells = record {
+        input = s.tells.input;
+        out = s.tells.out;
+        err = ap (λ l. grown l bytes) s.tells.err ∙
+            grown_then e w.err bytes;
+      };
+      mid = s.mid;
+    })
 
-pub shows_in : (t e : Option (List ℕ)) (p q : DeviceState) (w : World) (n : ℕ) → ShowsWorld t e p w → q ≡ record p { input = shrunk p.input n; reads = q.reads } → ShowsWorld t e q (record w { input = shrunk w.input n })
+pub shows_in : (t e : Option (List ℕ)) (p q : DeviceState) (w : World) (n : ℕ) → ShowsWorld t e p w →
+    q ≡ record p { input = shrunk p.input n; reads = q.reads } →
+    ShowsWorld t e q (record w { input = shrunk w.input n })
 shows_in t e p q w n s h = subst (λ (z : DeviceState). ShowsWorld t e z (record w { input = shrunk w.input n })) (sym h)
-    (record { tells = record { input = ap (λ l. shrunk l n) s.tells.input; out = s.tells.out; err = s.tells.err }; mid = s.mid })
+    (record {
+      tells = record { input = ap (λ l. shrunk l n) s.tells.input; out = s.tells.out; err = s.tells.err };
+      mid = s.mid;
+    })
 
 -- only counts and flags differ
-pub tells_same : (t e : Option (List ℕ)) (p q : DeviceState) (w : World) → Tells t e p w → q.input ≡ p.input → q.out ≡ p.out → q.err ≡ p.err → Tells t e q w
+pub tells_same : (t e : Option (List ℕ)) (p q : DeviceState) (w : World) → Tells t e p w → q.input ≡ p.input →
+    q.out ≡ p.out → q.err ≡ p.err → Tells t e q w
 tells_same t e p q w h a b c = record { input = h.input ∙ sym a; out = b ∙ h.out; err = c ∙ h.err }
 
 -- ---- a call that was refused
@@ -64,7 +88,8 @@ part_none (Do (Make x) f) w = refl
 part_none (Do (Start x) f) w = refl
 
 -- a fault of a device is one of the call that was refused
-pub fault_of : {S A : Type 0} (k : ℕ) (me : Side) (s : Stop) (c : Call S) (f : Reply c → Row S A) (h : Heap) (d : Hold S) → SegWhy k me s c h d → StopOf s (Do c f)
+pub fault_of : {S A : Type 0} (k : ℕ) (me : Side) (s : Stop) (c : Call S) (f : Reply c → Row S A) (h : Heap)
+    (d : Hold S) → SegWhy k me s c h d → StopOf s (Do c f)
 fault_of k me ReadFault (Take most) f h d w = tt
 fault_of k me ReadFault _ f h d w = absurd w.1
 fault_of k me WriteFault (Put Output bytes) f h d w = tt
@@ -84,29 +109,58 @@ pub record Told {S A : Type 0} (t e : Option (List ℕ)) (row : Row S A) (w : Wo
   pub part : PartOf row w told
 
 -- nothing was told
-pub told_none : {S A : Type 0} (t e : Option (List ℕ)) (row : Row S A) (w : World) (p q : DeviceState) → Tells t e p w → q.input ≡ p.input → q.out ≡ p.out → q.err ≡ p.err → Told t e row w q
+pub told_none : {S A : Type 0} (t e : Option (List ℕ)) (row : Row S A) (w : World) (p q : DeviceState) →
+    Tells t e p w → q.input ≡ p.input → q.out ≡ p.out → q.err ≡ p.err → Told t e row w q
 told_none t e row w p q h a b c = record { told = w; tells = tells_same t e p q w h a b c; part = part_none row w }
 
-told_same : {S A : Type 0} (t e : Option (List ℕ)) (row : Row S A) (w : World) (p q : DeviceState) → Tells t e p w → q ≡ p → Told t e row w q
-told_same t e row w p q h same = told_none t e row w p q h (ap (λ (z : DeviceState). z.input) same) (ap (λ (z : DeviceState). z.out) same) (ap (λ (z : DeviceState). z.err) same)
+told_same : {S A : Type 0} (t e : Option (List ℕ)) (row : Row S A) (w : World) (p q : DeviceState) → Tells t e p w →
+    q ≡ p → Told t e row w q
+told_same t e row w p q h same = told_none t e row w p q h (ap (λ (z : DeviceState). z.input) same)
+    (ap (λ (z : DeviceState). z.out) same) (ap (λ (z : DeviceState). z.err) same)
 
-write_told : {S A : Type 0} (t e : Option (List ℕ)) (bytes : List ℕ) (f : Unit {0} → Row S A) (w : World) (s : Stop) (me : Side) (p q : DeviceState) → ShowsWorld t e p w → WriteRefused s me bytes p q → Told t e (Do (Put Output bytes) f) w q
+write_told : {S A : Type 0} (t e : Option (List ℕ)) (bytes : List ℕ) (f : Unit {0} → Row S A) (w : World) (s : Stop)
+    (me : Side) (p q : DeviceState) → ShowsWorld t e p w → WriteRefused s me bytes p q →
+    Told t e (Do (Put Output bytes) f) w q
 write_told t e bytes f w NeedSolo me p q h r = told_same t e (Do (Put Output bytes) f) w p q h.tells r
-write_told t e bytes f w WriteFault me p q h r = let n = r.1.0 in record { told = wrote Output (take n bytes) w; tells = (shows_out t e p q w (take n bytes) h r.1.1).tells; part = (n, refl) }
-write_told t e bytes f w _ me p q h r = told_none t e (Do (Put Output bytes) f) w p q h.tells (ap (λ (z : DeviceState). z.input) r.1) (ap (λ (z : DeviceState). z.out) r.1) (ap (λ (z : DeviceState). z.err) r.1)
+write_told t e bytes f w WriteFault me p q h r = let n = r.1.0 in
+    record {
+      told = wrote Output (take n bytes) w;
+      tells = (shows_out t e p q w (take n bytes) h r.1.1).tells;
+      part =
+          (n, refl);
+    }
+write_told t e bytes f w _ me p q h r = told_none t e (Do (Put Output bytes) f) w p q h.tells
+    (ap (λ (z : DeviceState). z.input) r.1) (ap (λ (z : DeviceState). z.out) r.1) (ap (λ (z : DeviceState). z.err) r.1)
 
-err_told : {S A : Type 0} (t e : Option (List ℕ)) (bytes : List ℕ) (f : Unit {0} → Row S A) (w : World) (s : Stop) (me : Side) (p q : DeviceState) → ShowsWorld t e p w → ErrRefused s me bytes p q → Told t e (Do (Put ErrorOutput bytes) f) w q
+err_told : {S A : Type 0} (t e : Option (List ℕ)) (bytes : List ℕ) (f : Unit {0} → Row S A) (w : World) (s : Stop)
+    (me : Side) (p q : DeviceState) → ShowsWorld t e p w → ErrRefused s me bytes p q →
+    Told t e (Do (Put ErrorOutput bytes) f) w q
 err_told t e bytes f w NeedSolo me p q h r = told_same t e (Do (Put ErrorOutput bytes) f) w p q h.tells r
-err_told t e bytes f w ErrFault me p q h r = let n = r.1.0 in record { told = wrote ErrorOutput (take n bytes) w; tells = (shows_err t e p q w (take n bytes) h r.1.1).tells; part = (n, refl) }
-err_told t e bytes f w _ me p q h r = told_none t e (Do (Put ErrorOutput bytes) f) w p q h.tells (ap (λ (z : DeviceState). z.input) r.1) (ap (λ (z : DeviceState). z.out) r.1) (ap (λ (z : DeviceState). z.err) r.1)
+err_told t e bytes f w ErrFault me p q h r = let n = r.1.0 in
+    record {
+      told = wrote ErrorOutput (take n bytes) w;
+      tells = (shows_err t e p q w (take n bytes) h r.1.1).tells;
+      part = (n, refl);
+    }
+err_told t e bytes f w _ me p q h r = told_none t e (Do (Put ErrorOutput bytes) f) w p q h.tells
+    (ap (λ (z : DeviceState). z.input) r.1) (ap (λ (z : DeviceState). z.out) r.1) (ap (λ (z : DeviceState). z.err) r.1)
 
-take_told : {S A : Type 0} (t e : Option (List ℕ)) (most : ℕ) (f : List ℕ → Row S A) (w : World) (s : Stop) (me : Side) (p q : DeviceState) → ShowsWorld t e p w → TakeRefused s me p q → Told t e (Do (Take most) f) w q
+take_told : {S A : Type 0} (t e : Option (List ℕ)) (most : ℕ) (f : List ℕ → Row S A) (w : World) (s : Stop) (me : Side)
+    (p q : DeviceState) → ShowsWorld t e p w → TakeRefused s me p q → Told t e (Do (Take most) f) w q
 take_told t e most f w NeedSolo me p q h r = told_same t e (Do (Take most) f) w p q h.tells r
-take_told t e most f w ReadFault me p q h r = let n = r.1.0 in record { told = record w { input = shrunk w.input n }; tells = (shows_in t e p q w n h r.1.1).tells; part = (n, refl) }
-take_told t e most f w _ me p q h r = told_none t e (Do (Take most) f) w p q h.tells (ap (λ (z : DeviceState). z.input) r.1) (ap (λ (z : DeviceState). z.out) r.1) (ap (λ (z : DeviceState). z.err) r.1)
+take_told t e most f w ReadFault me p q h r = let n = r.1.0 in
+    record {
+      told = record w { input = shrunk w.input n };
+      tells = (shows_in t e p q w n h r.1.1).tells;
+      part =
+          (n, refl);
+    }
+take_told t e most f w _ me p q h r = told_none t e (Do (Take most) f) w p q h.tells
+    (ap (λ (z : DeviceState). z.input) r.1) (ap (λ (z : DeviceState). z.out) r.1) (ap (λ (z : DeviceState). z.err) r.1)
 
 -- of a call that was refused a part was told
-pub call_told : {S A : Type 0} (t e : Option (List ℕ)) (c : Call S) (f : Reply c → Row S A) (w : World) (s : Stop) (me : Side) (p q : DeviceState) → ShowsWorld t e p w → OuterRefuses me c s p q → Told t e (Do c f) w q
+pub call_told : {S A : Type 0} (t e : Option (List ℕ)) (c : Call S) (f : Reply c → Row S A) (w : World) (s : Stop)
+    (me : Side) (p q : DeviceState) → ShowsWorld t e p w → OuterRefuses me c s p q → Told t e (Do c f) w q
 call_told t e (Put Output bytes) f w s me p q h r = write_told t e bytes f w s me p q h r
 call_told t e (Put ErrorOutput bytes) f w s me p q h r = err_told t e bytes f w s me p q h r
 call_told t e (Take most) f w s me p q h r = take_told t e most f w s me p q h r

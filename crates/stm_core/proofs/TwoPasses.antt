@@ -15,20 +15,24 @@ use Rattle.stm_core.specs.Passes.{met, doom_met, doom_one, doom_readers, after_c
 use Rattle.stm_core.proofs.Kept.{set_cases, good_after}
 
 -- the dooms of the second pass
-pub record Clears {S : Type 0} (c : Prog S) (most i : ℕ) (x : Transaction S) (js : List ℕ) (k k' : CoreState S) : Type 0 where
+pub record Clears {S : Type 0} (c : Prog S) (most i : ℕ) (x : Transaction S) (js : List ℕ) (k k' : CoreState S) : Type
+    0 where
   pub moves : List (Move S)
   pub follows : Follows c most k moves k'
   pub own : All (IsOwn i) moves
   pub mine : k'.segments i ≡ Running x
   pub fewer : (j : ℕ) (y : Transaction S) → k'.segments j ≡ Running y → k.segments j ≡ Running y
-  pub unread : (j : ℕ) (y : Transaction S) → mem j js ≡ true → j ≢ i → k'.segments j ≡ Running y → met x.changed y.looked ≡ None
+  pub unread : (j : ℕ) (y : Transaction S) → mem j js ≡ true → j ≢ i → k'.segments j ≡ Running y →
+      met x.changed y.looked ≡ None
 
 pub met_some : (rest : List ℕ) (m : Marks) (a : ℕ) → met rest m ≡ Some a → (mem a rest ≡ true) × (m a ≡ true)
 met_some [] m a e = absurd cc
 met_some (b ∷ rest) m a e = elim (cases_Bool (m b)) [
-  | inl y ↦ let same : b ≡ a = let p : cond (m b) (Some b) (met rest m) ≡ Some b = cond-true (m b) (Some b) (met rest m) y in cc in
+  | inl y ↦ let same : b ≡ a = let p : cond (m b) (Some b) (met rest m) ≡ Some b =
+      cond-true (m b) (Some b) (met rest m) y in cc in
       (or_left (eqb a b) (mem a rest) (eq-eqb a b (sym same)), subst (λ n. m n ≡ true) same y)
-  | inr n ↦ let r = met_some rest m a (sym (cond-false (m b) (Some b) (met rest m) n) ∙ e) in (or_right (eqb a b) (mem a rest) r.0, r.1)
+  | inr n ↦ let r = met_some rest m a (sym (cond-false (m b) (Some b) (met rest m) n) ∙ e) in
+      (or_right (eqb a b) (mem a rest) r.0, r.1)
 ]
 
 pub met_none : (rest : List ℕ) (m : Marks) (a : ℕ) → met rest m ≡ None → mem a rest ≡ true → m a ≡ false
@@ -41,12 +45,15 @@ met_none (b ∷ rest) m a e h = elim (cases_Bool (m b)) [
   ]
 ]
 
-pub follows_append : {S : Type 0} (c : Prog S) (most : ℕ) (k u v : CoreState S) (ms ns : List (Move S)) → Follows c most k ms u → Follows c most u ns v → Follows c most k (ms ++ ns) v
+pub follows_append : {S : Type 0} (c : Prog S) (most : ℕ) (k u v : CoreState S) (ms ns : List (Move S)) →
+    Follows c most k ms u → Follows c most u ns v → Follows c most k (ms ++ ns) v
 follows_append c most k u v [] ns f g = subst (λ w. Follows c most w ns v) f g
 follows_append c most k u v (m ∷ ms) ns f g = (f.0, f.1, follows_append c most f.0 u v ms ns f.2 g)
 
 -- one slot
-clears_one : {S : Type 0} (c : Prog S) (most i : ℕ) (x : Transaction S) (j : ℕ) (k : CoreState S) → k.segments i ≡ Running x → NoneWins i x k → j ≢ i → (s : Segment S) → k.segments j ≡ s → Clears c most i x (j ∷ []) k (doom_one i x j k s)
+clears_one : {S : Type 0} (c : Prog S) (most i : ℕ) (x : Transaction S) (j : ℕ) (k : CoreState S) →
+    k.segments i ≡ Running x → NoneWins i x k → j ≢ i → (s : Segment S) → k.segments j ≡ s →
+    Clears c most i x (j ∷ []) k (doom_one i x j k s)
 clears_one {S} c most i x j k mine wins ne Idle is = record {
   moves = [];
   follows = refl;
@@ -79,14 +86,28 @@ clears_one {S} c most i x j k mine wins ne (Running z) is = go (met x.changed z.
       mine = mine;
       fewer = λ l y h. h;
       unread = λ l y m d h. elim (or_cases (eqb l j) false m) [
-        | inl q ↦ let same : z ≡ y = (let p : Running z ≡ Running y = sym is ∙ (ap k.segments (sym (eqb-true l j q)) ∙ h) in cc) in subst (λ (r : Transaction S). met x.changed r.looked ≡ None) same e
+        | inl q ↦ let same : z ≡ y = (let p : Running z ≡ Running y = sym is ∙
+            (ap k.segments (sym (eqb-true l j q)) ∙ h) in cc) in
+            subst (λ (r : Transaction S). met x.changed r.looked ≡ None) same e
         | inr q ↦ absurd (both_ways false refl q)
       ];
     }
     go (Some a) e =
         let f = conflict i x j z a false 1 in
         let r = met_some x.changed z.looked a e in
-        let stands : IsStanding c k f = record { x = x; y = z; writes = mine; reads = is; is = refl; differ = λ q. ne (sym q); held = r.0; met = r.1; lost = omega arith; loses = wins j z a ne is e } in
+        let stands : IsStanding c k f = record {
+          x = x;
+          y = z;
+          writes = mine;
+          reads = is;
+          is = refl;
+          differ = λ q.
+              ne (sym q);
+          held = r.0;
+          met = r.1;
+          lost = omega arith;
+          loses = wins j z a ne is e;
+        } in
         record {
           moves = Dooms f ∷ [];
           follows = (with_conflict f (with_segment j (Doomed f) k), (stands, refl), refl);
@@ -105,14 +126,33 @@ clears_one {S} c most i x j k mine wins ne (Running z) is = go (met x.changed z.
           ];
         }
 
-pub clears : {S : Type 0} (c : Prog S) (most i : ℕ) (x : Transaction S) (js : List ℕ) (k : CoreState S) → k.segments i ≡ Running x → NoneWins i x k → Clears c most i x js k (doom_readers i x js k)
-clears c most i x [] k mine wins = record { moves = []; follows = refl; own = All-nil (IsOwn i); mine = mine; fewer = λ j y e. e; unread = λ j y m d e. absurd (both_ways false refl m) }
+pub clears : {S : Type 0} (c : Prog S) (most i : ℕ) (x : Transaction S) (js : List ℕ) (k : CoreState S) →
+    k.segments i ≡ Running x → NoneWins i x k → Clears c most i x js k (doom_readers i x js k)
+clears c most i x [] k mine wins = record {
+  moves = [];
+  follows = refl;
+  own = All-nil (IsOwn i);
+  mine = mine;
+  fewer =
+      λ j y e. e;
+  unread = λ j y m d e. absurd (both_ways false refl m);
+}
 clears {S} c most i x (j ∷ js) k mine wins =
     let u = cond (eqb j i) k (doom_one i x j k (k.segments j)) in
     let one : Clears c most i x (cond (eqb j i) [] (j ∷ [])) k u = elim (cases_Bool (eqb j i)) [
-      | inl y ↦ subst (λ b. Clears c most i x (cond b [] (j ∷ [])) k (cond b k (doom_one i x j k (k.segments j)))) (sym y)
-          (record { moves = []; follows = refl; own = All-nil (IsOwn i); mine = mine; fewer = λ l z e. e; unread = λ l z m d e. absurd (both_ways false refl m) })
-      | inr n ↦ subst (λ b. Clears c most i x (cond b [] (j ∷ [])) k (cond b k (doom_one i x j k (k.segments j)))) (sym n)
+      | inl y ↦ subst (λ b. Clears c most i x (cond b [] (j ∷ [])) k (cond b k (doom_one i x j k (k.segments j))))
+          (sym y)
+          (record {
+            moves = [];
+            follows = refl;
+            own = All-nil (IsOwn i);
+            mine = mine;
+            fewer = λ l z e. e;
+            unread =
+                λ l z m d e. absurd (both_ways false refl m);
+          })
+      | inr n ↦ subst (λ b. Clears c most i x (cond b [] (j ∷ [])) k (cond b k (doom_one i x j k (k.segments j))))
+          (sym n)
           (clears_one c most i x j k mine wins (eqb-false j i n) (k.segments j) refl)
     ] in
     let rest = clears c most i x js u one.mine (λ l y a d e. wins l y a d (one.fewer l y e)) in
@@ -134,14 +174,27 @@ clears {S} c most i x (j ∷ js) k mine wins =
         ap (mem l) (cond-false (eqb j i) [] (j ∷ []) n) ∙ or_left (eqb l j) false q
 
 -- a commit that no winning reader stands against is moves, and so keeps the core good
-pub commit_follows : {S : Type 0} (c : Prog S) (most i : ℕ) (x : Transaction S) (js : List ℕ) (k : CoreState S) → k.segments i ≡ Running x → 1 ≤ x.steps → NoneWins i x k
-    → ((j : ℕ) (y : Transaction S) → k.segments j ≡ Running y → mem j js ≡ true) → (ms : List (Move S)) × Follows c most k ms (after_commit i x js k)
+pub commit_follows : {S : Type 0} (c : Prog S) (most i : ℕ) (x : Transaction S) (js : List ℕ) (k : CoreState S) →
+    k.segments i ≡ Running x → 1 ≤ x.steps → NoneWins i x k
+    → ((j : ℕ) (y : Transaction S) → k.segments j ≡ Running y → mem j js ≡ true) →
+    (ms : List (Move S)) × Follows c most k ms (after_commit i x js k)
 commit_follows {S} c most i x js k is some wins all =
     let r = clears c most i x js k is wins in
     let u = doom_readers i x js k in
-    let last : Next c most u (Commits i x) (after_commit i x js k) = (r.mine, some, λ j y d e a m. met_none x.changed y.looked a (r.unread j y (all j y (r.fewer j y e)) d e) m, refl) in
-    (r.moves ++ Commits i x ∷ [], follows_append c most k u (after_commit i x js k) r.moves (Commits i x ∷ []) r.follows (after_commit i x js k, last, refl))
+    let last : Next c most u (Commits i x) (after_commit i x js k) = (
+      r.mine,
+      some,
+      λ j y d e a m. met_none x.changed y.looked a (r.unread j y (all j y (r.fewer j y e)) d e) m,
+      refl,
+    ) in (
+      r.moves ++ Commits i x ∷ [],
+      follows_append c most k u (after_commit i x js k) r.moves (Commits i x ∷ [])
+          r.follows (after_commit i x js k, last, refl),
+    )
 
-pub commit_good : {S : Type 0} (c : Prog S) (m0 : Machine S) (most i : ℕ) (x : Transaction S) (js : List ℕ) (k : CoreState S) → Good c m0 most k → k.segments i ≡ Running x → 1 ≤ x.steps → NoneWins i x k
-    → ((j : ℕ) (y : Transaction S) → k.segments j ≡ Running y → mem j js ≡ true) → Good c m0 most (after_commit i x js k)
-commit_good c m0 most i x js k g is some wins all = let f = commit_follows c most i x js k is some wins all in good_after c m0 most k (after_commit i x js k) f.0 g f.1
+pub commit_good : {S : Type 0} (c : Prog S) (m0 : Machine S) (most i : ℕ) (x : Transaction S) (js : List ℕ)
+    (k : CoreState S) → Good c m0 most k → k.segments i ≡ Running x → 1 ≤ x.steps → NoneWins i x k
+    → ((j : ℕ) (y : Transaction S) → k.segments j ≡ Running y → mem j js ≡ true) →
+    Good c m0 most (after_commit i x js k)
+commit_good c m0 most i x js k g is some wins all = let f = commit_follows c most i x js k is some wins all in
+    good_after c m0 most k (after_commit i x js k) f.0 g f.1

@@ -11,7 +11,8 @@ use Rattle.stm_core.specs.Asking.{Went}
 use Rattle.stm_core.specs.Conflict.{AsksFrom}
 use Rattle.stm_core.specs.Moves.{Move, Dooms, Goes, Rests, Follows}
 
--- A step of a transaction that was tried: the conflicts by which it doomed others on its way, and then the move that it was.
+-- A step of a transaction that was tried: the conflicts by which it doomed others on its way, and then the move that it
+-- was.
 pub record Try (S : Type 0) : Type 0 where
   pub dooms : List Conflict
   pub move : Move S
@@ -21,11 +22,14 @@ abbrev pub moves_of : {S : Type 0} → List (Try S) → List (Move S)
 moves_of [] = []
 moves_of (t ∷ ts) = map Dooms t.dooms ++ t.move ∷ moves_of ts
 
--- The move is a step of segment k: one that was done to its end where it is said to be done, and otherwise one that waits or was
+-- The move is a step of segment k: one that was done to its end where it is said to be done, and otherwise one that
+-- waits or was
 -- taken back. It looked at, locked and doomed only what its row asked for on its way.
 abbrev pub IsStepOf : {S : Type 0} → Prog S → Heap → World → ℕ → List Conflict → Move S → Bool → Type 0
-IsStepOf {S} p image w k fs (Goes i x x1) true = (i ≡ k) × (y : Outcome × S) × Went (p.row x.state) (sight_of image w x) (Ret y) x1.looked x1.changed fs
-IsStepOf {S} p image w k fs (Rests i x x1) false = (i ≡ k) × (left : Row S (Outcome × S)) × Went (p.row x.state) (sight_of image w x) left x1.looked x1.changed fs
+IsStepOf {S} p image w k fs (Goes i x x1) true =
+    (i ≡ k) × (y : Outcome × S) × Went (p.row x.state) (sight_of image w x) (Ret y) x1.looked x1.changed fs
+IsStepOf {S} p image w k fs (Rests i x x1) false = (i ≡ k) × (left : Row S (Outcome × S)) × Went (p.row x.state)
+    (sight_of image w x) left x1.looked x1.changed fs
 IsStepOf p image w k fs _ _ = ⊥
 
 -- a try of segment k: it doomed others by its own requests alone, which it won
@@ -33,7 +37,8 @@ pub record IsTry {S : Type 0} (p : Prog S) (image : Heap) (w : World) (k : ℕ) 
   pub wins : All (AsksFrom k 0) t.dooms
   pub step : IsStepOf p image w k t.dooms t.move done
 
--- n steps of the transaction of segment k were tried, one after another, and each of them was done, or none. They lead from one
+-- n steps of the transaction of segment k were tried, one after another, and each of them was done, or none. They lead
+-- from one
 -- state of the core to another.
 pub record Tried {S : Type 0} (p : Prog S) (most k : ℕ) (done : Bool) (n : ℕ) (c c1 : CoreState S) : Type 0 where
   pub tries : List (Try S)

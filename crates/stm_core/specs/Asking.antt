@@ -1,4 +1,5 @@
--- The calls that a step comes to, and what it looks at, locks and dooms on its way. States `docs/HEAP.md`, "What a step asks
+-- The calls that a step comes to, and what it looks at, locks and dooms on its way. States `docs/HEAP.md`, "What a step
+-- asks
 -- for".
 use Rattle.std.specs.Prelude.{◌≡◌, ◌⊎◌, ℕ, true, false, List, Some, None, All}
 use Rattle.py_data.specs.declared.stop.Conflict.{Conflict}
@@ -29,7 +30,8 @@ IsOuter (Put on bytes) = Unit {0}
 IsOuter (Take most) = Unit {0}
 IsOuter _ = ⊥
 
--- a change of the record a that wants so many words: it has no room for what the change adds, and these are the words of an
+-- a change of the record a that wants so many words: it has no room for what the change adds, and these are the words
+-- of an
 -- extent that it has more with the change done
 abbrev pub ChangeWants : Change → Heap → ℕ → ℕ → Type 0
 ChangeWants c h a n = IfThere false (h a) (λ r. Outgrows c r × Wants (Some r) (after c r) n)
@@ -63,13 +65,14 @@ abbrev pub AsksRoom : {S : Type 0} → ℕ → Call S → Sight S → Type 0
 AsksRoom n c s = CallWants c s.heap n
 
 -- On its way from the sight s to a place, at which `left` is left of it, the row asked to change the record.
-pub record AskedFor {S A : Type 0} (row : Row S A) (s : Sight S) (left : Row S A) (place : Sight S) (a : ℕ) : Type 0 where
-  pub call : Call S
-  pub next : Reply call → Row S A
-  pub at : Sight S
-  pub upto : Upto pure row s (Do call next) at
-  pub on : Upto pure (Do call next) at left place
-  pub changes : Changes a call
+pub record AskedFor {S A : Type 0} (row : Row S A) (s : Sight S) (left : Row S A) (place : Sight S) (a : ℕ) : Type 0
+  where
+    pub call : Call S
+    pub next : Reply call → Row S A
+    pub at : Sight S
+    pub upto : Upto pure row s (Do call next) at
+    pub on : Upto pure (Do call next) at left place
+    pub changes : Changes a call
 
 -- the next call of a row looks at the record, or changes it
 abbrev pub LooksNext : {S A : Type 0} → Row S A → ℕ → Type 0
@@ -81,10 +84,13 @@ abbrev pub ChangesNext : {S A : Type 0} → Row S A → ℕ → Type 0
 ChangesNext (Ret y) a = ⊥
 ChangesNext (Do c f) a = Changes a c
 
--- How far a step went: its row's calls, from the sight s on, were done up to a place, at which `left` is left of it. Whatever
--- is looked at now was so there, or is what the next call looks at; whatever is locked now was changed there, or is what the next
+-- How far a step went: its row's calls, from the sight s on, were done up to a place, at which `left` is left of it.
+-- Whatever
+-- is looked at now was so there, or is what the next call looks at; whatever is locked now was changed there, or is
+-- what the next
 -- call changes; and each doom of another segment was for a record that the row asked to change on this way.
-pub record Went {S A : Type 0} (row : Row S A) (s : Sight S) (left : Row S A) (looked : Marks) (locked : List ℕ) (dooms : List Conflict) : Type 0 where
+pub record Went {S A : Type 0} (row : Row S A) (s : Sight S) (left : Row S A) (looked : Marks) (locked : List ℕ)
+    (dooms : List Conflict) : Type 0 where
   pub place : Sight S
   pub upto : Upto pure row s left place
   pub looks : (a : ℕ) → looked a ≡ true → (place.looked a ≡ true) ⊎ LooksNext left a
@@ -93,7 +99,8 @@ pub record Went {S A : Type 0} (row : Row S A) (s : Sight S) (left : Row S A) (l
 
 -- ---- a step that waits
 
--- The next step of the transaction waits over what it sees: that of a solo one in its world, and that of another one in any world.
+-- The next step of the transaction waits over what it sees: that of a solo one in its world, and that of another one in
+-- any world.
 pub record WaitsThere {S : Type 0} (p : Prog S) (image : Heap) (w : World) (x : Transaction S) : Type 0 where
   pub mortal : x.solo ≡ false → Waiting (p.row x.state) (overlay image x.changes)
   pub solo : x.solo ≡ true → (q : S) × (z : Sight S) × Does (p.row x.state) (sight_of image w x) (WaitsNow, q) z

@@ -60,8 +60,10 @@ abbrev pub Begun : {S : Type 0} → Prog S → ℕ → ℕ → ℕ → Result Un
 Begun p k t budget (Ok u) c c1 = (a : CanBegin p k t budget c) × (c1 ≡ begun_at k t a.ready.state c)
 Begun p k t budget (Err (Over e)) c c1 = (c.cause ≡ Some e) × (c1 ≡ c)
 Begun p k t budget (Err (Busy i)) c c1 = (i ≡ k) × (c.cause ≡ None) × (c.segments k ≢ Idle) × (c1 ≡ c)
-Begun p k t budget (Err (NotReady s)) c c1 = (s ≡ t) × (c.cause ≡ None) × (c.segments k ≡ Idle) × IsUnready p c t × (c1 ≡ c)
-Begun p k t budget (Err AtBudget) c c1 = (c.cause ≡ None) × (c.segments k ≡ Idle) × IsReady p c t × IsAtBudget budget c × (c1 ≡ c)
+Begun p k t budget (Err (NotReady s)) c c1 = (s ≡ t) × (c.cause ≡ None) × (c.segments k ≡ Idle) × IsUnready p c t ×
+    (c1 ≡ c)
+Begun p k t budget (Err AtBudget) c c1 = (c.cause ≡ None) × (c.segments k ≡ Idle) × IsReady p c t × IsAtBudget budget c
+    × (c1 ≡ c)
 Begun p k t budget (Err OutOfMemory) c c1 = CanBegin p k t budget c × (c1 ≡ record c { cause = Some NoMemoryLeft })
 
 -- the transaction of the thread t, of which no step was done yet

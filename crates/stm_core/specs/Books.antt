@@ -68,7 +68,8 @@ IsSoloAt {S} hs (Some j) = (x : Work S) × (slice_get hs j ≡ Some (hand.Runs x
 
 -- ---- the core's state
 
--- What the books don't keep of the core's state: the committed world, and that of the solo transaction, if there is one.
+-- What the books don't keep of the core's state: the committed world, and that of the solo transaction, if there is
+-- one.
 pub record Worlds : Type 0 where
   pub committed : World
   pub own : World

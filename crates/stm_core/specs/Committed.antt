@@ -9,7 +9,8 @@ use Rattle.stm_core.specs.CoreState.{Transaction, Segment, Idle, Doomed, Running
 use Rattle.stm_core.specs.Conflict.{side, wins, IsStanding}
 use Rattle.stm_core.specs.Passes.{met, after_commit, NoneWins}
 
--- The first pass of the writer x on segment i ends at a conflict that stands, with a reader that wins: of the running transactions
+-- The first pass of the writer x on segment i ends at a conflict that stands, with a reader that wins: of the running
+-- transactions
 -- that have looked at a record that x changed, and that win, the one of the least segment, and the first such record.
 pub record Beaten {S : Type 0} (p : Prog S) (i : ℕ) (x : Transaction S) (f : Conflict) (c : CoreState S) : Type 0 where
   pub stands : IsStanding p c f
@@ -17,16 +18,20 @@ pub record Beaten {S : Type 0} (p : Prog S) (i : ℕ) (x : Transaction S) (f : C
   pub looked : f.asks ≡ false
   pub lost : f.lost ≡ 0
   pub first_record : met x.changed stands.y.looked ≡ Some f.at.0
-  pub first_reader : (j : ℕ) (y : Transaction S) (a : ℕ) → j < f.other.segment → j ≢ i → c.segments j ≡ Running y → met x.changed y.looked ≡ Some a → wins (side j y) (side i x) ≡ false
+  pub first_reader : (j : ℕ) (y : Transaction S) (a : ℕ) → j < f.other.segment → j ≢ i → c.segments j ≡ Running y →
+      met x.changed y.looked ≡ Some a → wins (side j y) (side i x) ≡ false
 
 -- of a transaction that runs, on one of n segments
-abbrev pub CommitEnds : {S : Type 0} → Prog S → ℕ → ℕ → Transaction S → Result Commit Conflict → CoreState S → CoreState S → Type 0
+abbrev pub CommitEnds : {S : Type 0} → Prog S → ℕ → ℕ → Transaction S → Result Commit Conflict → CoreState S →
+    CoreState S → Type 0
 CommitEnds p k n x (Ok Nothing) c c1 = (x.steps ≡ 0) × (c1 ≡ with_segment k Idle c)
-CommitEnds p k n x (Ok (AtTurn i)) c c1 = (1 ≤ x.steps) × NoneWins k x c × (i ≡ length c.history) × (c1 ≡ after_commit k x (range_with_len 0 n) c)
+CommitEnds p k n x (Ok (AtTurn i)) c c1 = (1 ≤ x.steps) × NoneWins k x c × (i ≡ length c.history) ×
+    (c1 ≡ after_commit k x (range_with_len 0 n) c)
 CommitEnds p k n x (Err f) c c1 = (1 ≤ x.steps) × Beaten p k x f c × (c1 ≡ with_conflict f (with_segment k Idle c))
 
 -- of what the segment has in hand
-abbrev pub CommitOf : {S : Type 0} → Prog S → ℕ → ℕ → Segment S → Result Commit Conflict → CoreState S → CoreState S → Type 0
+abbrev pub CommitOf : {S : Type 0} → Prog S → ℕ → ℕ → Segment S → Result Commit Conflict → CoreState S → CoreState S →
+    Type 0
 CommitOf p k n Idle r c c1 = ⊥
 CommitOf p k n (Doomed f) r c c1 = (r ≡ Err f) × (c1 ≡ with_segment k Idle c)
 CommitOf p k n (Running x) r c c1 = CommitEnds p k n x r c c1

@@ -1,4 +1,5 @@
--- What a core is to its callers: the states for which it stands, what stays the same, and when it is good. States `docs/HEAP.md`, "The
+-- What a core is to its callers: the states for which it stands, what stays the same, and when it is good. States
+-- `docs/HEAP.md`, "The
 -- transactional core" and "A good core".
 use Rattle.std.specs.Prelude.{◌≡◌, ℕ, ◌+◌, ◌<◌, ◌≤◌, List, Option, Some}
 use Rattle.py_data.specs.Heap.{Heap}
@@ -24,7 +25,13 @@ abbrev pub core_client : {C S I O E T : Type 0} → Core C S I O E T → C
 core_client x = x.client.now
 
 abbrev pub core_limits : {C S I O E T : Type 0} → (S → Meaning) → Core C S I O E T → Limits
-core_limits meaning x = record { length = x.length; budget = x.budget; segments = (meaning x.store).segments; words = (meaning x.store).limit }
+core_limits meaning x = record {
+  length = x.length;
+  budget = x.budget;
+  segments = (meaning x.store).segments;
+  words =
+      (meaning x.store).limit;
+}
 
 -- a kept Full: by the store's numbers its need wasn't there, of which what is reserved never falls
 abbrev pub IsFullKept : ℕ → ℕ → Option Cause → Type 0
@@ -41,23 +48,27 @@ module _ {C S I O E T : Type 0} (input : I → SourceState) (out : O → SinkSta
 
   -- it stands for this state
   abbrev pub CoreStands : (C → Prog T) → (S → Meaning) → Core C S I O E T → Outer T → Type 0
-  CoreStands prog meaning x o = StandsFor (prog x.client.now) x.length (first_devices x) (core_devices x) (meaning x.store) x.books o
+  CoreStands prog meaning x o = StandsFor (prog x.client.now) x.length (first_devices x) (core_devices x)
+      (meaning x.store) x.books o
 
   -- of each state for which it stands this holds
   abbrev pub Says : (C → Prog T) → (S → Meaning) → Core C S I O E T → (Outer T → Type 0) → Type 0
   Says prog meaning x says = (o : Outer T) → CoreStands prog meaning x o → says o
 
   -- each state for which a core stood leads so to one for which it stands after a call
-  abbrev pub Leads : (C → Prog T) → (S → Meaning) → Core C S I O E T → Core C S I O E T → (Outer T → Outer T → Type 0) → Type 0
+  abbrev pub Leads : (C → Prog T) → (S → Meaning) → Core C S I O E T → Core C S I O E T → (Outer T → Outer T → Type 0)
+      → Type 0
   Leads prog meaning x y leads = LeadsBetween (CoreStands prog meaning x) (CoreStands prog meaning y) leads
 
   -- Store and books fit together, a kept Full was one, and the core stands for a state that keeps what a core keeps.
-  pub record IsGoodCore (prog : C → Prog T) (sound : C → Heap → List T → Type 0) (reserved : S → ℕ) (meaning : S → Meaning) (x : Core C S I O E T) : Type 0 where
+  pub record IsGoodCore (prog : C → Prog T) (sound : C → Heap → List T → Type 0) (reserved : S → ℕ)
+      (meaning : S → Meaning) (x : Core C S I O E T) : Type 0 where
     pub store : IsStore (reserved x.store) (meaning x.store)
     pub whole : Whole (meaning x.store) x.books
     pub count : CountsSteps x.spent x.books.history.entries
     pub kept : IsFullKept (reserved x.store) (meaning x.store).limit x.books.cause
-    pub sane : SaneCore (prog x.client.now) (sound x.client.now) x.length (first_devices x) (core_devices x) (meaning x.store) x.books
+    pub sane : SaneCore (prog x.client.now) (sound x.client.now) x.length (first_devices x) (core_devices x)
+        (meaning x.store) x.books
 
 -- the job stays: the same client and limits, and the devices with which the core was made
 pub record SameJob {C S I O E T : Type 0} (meaning : S → Meaning) (x y : Core C S I O E T) : Type 0 where

@@ -1,4 +1,5 @@
--- The state of the transactional core: the committed state, the history, the conflicts, and what each segment has in hand.
+-- The state of the transactional core: the committed state, the history, the conflicts, and what each segment has in
+-- hand.
 -- States `docs/HEAP.md`, "The transactional core".
 use Rattle.std.specs.Prelude.{ℕ, ◌≤◌, Bool, true, false, cond, ◌||◌, eqb, nat_le, List, [], ◌∷◌, ◌++◌, Option, None, slice_set}
 use Rattle.py_data.specs.declared.stop.Conflict.{Conflict}
@@ -17,7 +18,8 @@ use Rattle.stm_core.specs.declared.cause.Cause.{Cause}
 abbrev pub no_world : World
 no_world = record { input = None; out = []; err = []; mid = false }
 
--- a transaction that runs: its thread, the steps done so far, and what they changed, locked, looked at, made and started
+-- a transaction that runs: its thread, the steps done so far, and what they changed, locked, looked at, made and
+-- started
 pub record Transaction (S : Type 0) : Type 0 where
   pub thread : ℕ
   pub steps : ℕ
@@ -81,7 +83,16 @@ threads_after ts x = slice_set ts x.thread x.state ++ x.started
 
 -- the sight with which a transaction goes into its next step
 abbrev pub sight_of : {S : Type 0} → Heap → World → Transaction S → Sight S
-sight_of image w x = record { heap = overlay image x.changes; looked = x.looked; touched = owned x; made = places x.made; started = x.started; world = world_after w x; used = x.solo }
+sight_of image w x = record {
+  heap = overlay image x.changes;
+  looked = x.looked;
+  touched = owned x;
+  made =
+      places x.made;
+  started = x.started;
+  world = world_after w x;
+  used = x.solo;
+}
 
 -- ---- one segment set
 
@@ -96,7 +107,20 @@ with_conflict f k = record k { conflicts = k.conflicts ++ f ∷ [] }
 
 -- a transaction of the thread t as it begins
 abbrev pub fresh : {S : Type 0} → CoreState S → ℕ → S → Transaction S
-fresh k t p = record { thread = t; steps = 0; state = p; changes = λ a. None; changed = []; looked = no_marks; made = []; started = []; begun = k.begun; solo = false; world = no_world }
+fresh k t p = record {
+  thread = t;
+  steps = 0;
+  state = p;
+  changes = λ a. None;
+  changed = [];
+  looked = no_marks;
+  made =
+      [];
+  started = [];
+  begun = k.begun;
+  solo = false;
+  world = no_world;
+}
 
 -- a transaction as it becomes solo over the committed world w; one that is solo stays as it is
 abbrev pub soloed : {S : Type 0} → World → Transaction S → Transaction S
@@ -104,4 +128,14 @@ soloed w x = record x { solo = true; world = world_after w x }
 
 -- a core as it is made: the machine's first state, and nothing in hand
 abbrev pub core_new : {S : Type 0} → Prog S → World → CoreState S
-core_new p w = record { image = λ a. None; threads = p.first ∷ []; world = w; history = []; conflicts = []; begun = 0; last = None; cause = None; segments = λ i. Idle }
+core_new p w = record {
+  image = λ a. None;
+  threads = p.first ∷ [];
+  world = w;
+  history = [];
+  conflicts = [];
+  begun = 0;
+  last = None;
+  cause = None;
+  segments = λ i. Idle;
+}

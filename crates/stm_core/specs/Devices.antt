@@ -6,7 +6,8 @@ use Rattle.py_data.specs.World.{World, grown}
 use Rattle.stm_io.specs.Outside.{SourceState, SinkState, Rose}
 use Rattle.stm_core.specs.declared.devices.Devices.{Devices}
 
--- what they tell, whether the output is in the middle of a line, whether it was when the open step began, and the counts of faults
+-- what they tell, whether the output is in the middle of a line, whether it was when the open step began, and the
+-- counts of faults
 pub record DeviceState : Type 0 where
   pub input : Option (List ℕ)
   pub out : Option (List ℕ)
@@ -17,7 +18,8 @@ pub record DeviceState : Type 0 where
   pub writes : ℕ
   pub errs : ℕ
 
-abbrev pub device_state : {I O E : Type 0} → (I → SourceState) → (O → SinkState) → (E → SinkState) → Devices I O E → DeviceState
+abbrev pub device_state : {I O E : Type 0} → (I → SourceState) → (O → SinkState) → (E → SinkState) → Devices I O E →
+    DeviceState
 device_state input out err d = record {
   input = (input d.input).told;
   out = (out d.out).told;

@@ -55,7 +55,8 @@ abbrev pub is_within : ℕ → ℕ → Slot → Bool
 is_within length m (slot.Running t n solo) = is_short length (n + m)
 is_within length m _ = true
 
--- what stays the same in all events: the most steps of a transaction, the steps of the history at which none begins any more,
+-- what stays the same in all events: the most steps of a transaction, the steps of the history at which none begins any
+-- more,
 -- how many segments there are, and the store's limit of words
 pub record Limits : Type 0 where
   pub length : ℕ
@@ -66,7 +67,8 @@ pub record Limits : Type 0 where
 -- the condition of an event
 abbrev pub may_make : {S : Type 0} → Limits → CoreState S → Event → Bool
 may_make l c (event.Begin k t) = nat_lt k l.segments
-may_make l c (event.Advance k m) = nat_lt k l.segments && (is_busy (slot_of (c.segments k)) && (nat_lt 0 m && is_within l.length m (slot_of (c.segments k))))
+may_make l c (event.Advance k m) = nat_lt k l.segments &&
+    (is_busy (slot_of (c.segments k)) && (nat_lt 0 m && is_within l.length m (slot_of (c.segments k))))
 may_make l c (event.Solo k) = nat_lt k l.segments && is_busy (slot_of (c.segments k))
 may_make l c (event.Commit k) = nat_lt k l.segments && is_busy (slot_of (c.segments k))
 
@@ -74,10 +76,13 @@ may_make l c (event.Commit k) = nat_lt k l.segments && is_busy (slot_of (c.segme
 
 -- an event whose condition holds
 abbrev pub Made : {S : Type 0} → Prog S → Limits → Event → Reply → Outer S → Outer S → Type 0
-Made p l (event.Begin k t) r o o1 = (result : Result (Unit {0}) BeginError) × (r ≡ begin_reply result) × InCore (Begun p k t l.budget result) o o1
-Made p l (event.Advance k m) r o o1 = (result : Result Advance AdvanceError) × (reserved : ℕ) × (r ≡ advance_reply result) × Advanced p l.length k l.segments m reserved l.words o result o1
+Made p l (event.Begin k t) r o o1 = (result : Result (Unit {0}) BeginError) × (r ≡ begin_reply result) × InCore
+    (Begun p k t l.budget result) o o1
+Made p l (event.Advance k m) r o o1 = (result : Result Advance AdvanceError) × (reserved : ℕ) ×
+    (r ≡ advance_reply result) × Advanced p l.length k l.segments m reserved l.words o result o1
 Made p l (event.Solo k) r o o1 = (result : Result (Unit {0}) SoloError) × (r ≡ solo_reply result) × Soloed k result o o1
-Made p l (event.Commit k) r o o1 = (result : Result Commit Conflict) × (r ≡ commit_reply result) × InCore (Committed p k l.segments result) o o1
+Made p l (event.Commit k) r o o1 = (result : Result Commit Conflict) × (r ≡ commit_reply result) × InCore
+    (Committed p k l.segments result) o o1
 
 -- it is made where its condition holds, and skipped otherwise
 abbrev pub MadeIf : {S : Type 0} → Prog S → Limits → Event → Bool → Reply → Outer S → Outer S → Type 0

@@ -38,11 +38,15 @@ HasFailedIf p c false = HasFailed p c → ⊥
 abbrev pub SettlesSolo : {S : Type 0} → Prog S → ℕ → Outer S → Outer S → Type 0
 SettlesSolo {S} p n o u =
     (((i : ℕ) (x : Transaction S) → o.core.segments i ≡ Running x → x.solo ≡ false) × (u ≡ o))
-    ⊎ ((k : ℕ) × (x : Transaction S) × (o.core.segments k ≡ Running x) × (x.solo ≡ true) × (c : Commit) × InCore (Committed p k n (Ok c)) o u)
+    ⊎ ((k : ℕ) × (x : Transaction S) × (o.core.segments k ≡ Running x) × (x.solo ≡ true) × (c : Commit) × InCore
+    (Committed p k n (Ok c)) o u)
 
--- What a core of n segments that stood for o hands out: the solo transaction was committed, and what else ran dropped, which led to
--- o1. It keeps all that a core keeps; how it stands, its history, conflicts and image are told, and the devices were told what it says.
-pub record HandedOut {S : Type 0} (p : Prog S) (most budget n : ℕ) (first d : DeviceState) (state : RunState) (failed : Bool) (history : List Turn) (conflicts : List Conflict) (image : Heap) (o o1 : Outer S) : Type 0 where
+-- What a core of n segments that stood for o hands out: the solo transaction was committed, and what else ran dropped,
+-- which led to
+-- o1. It keeps all that a core keeps; how it stands, its history, conflicts and image are told, and the devices were
+-- told what it says.
+pub record HandedOut {S : Type 0} (p : Prog S) (most budget n : ℕ) (first d : DeviceState) (state : RunState)
+    (failed : Bool) (history : List Turn) (conflicts : List Conflict) (image : Heap) (o o1 : Outer S) : Type 0 where
   pub settled : Outer S
   pub settles : SettlesSolo p n o settled
   pub idle : o1 ≡ record settled { core = idle_core settled.core }

@@ -1,4 +1,5 @@
--- When a transaction stands, and when a core is good. States `docs/HEAP.md`, "A transaction that stands" and "A good core".
+-- When a transaction stands, and when a core is good. States `docs/HEAP.md`, "A transaction that stands" and "A good
+-- core".
 use Rattle.std.specs.Prelude.{◌≡◌, ◌≢◌, ℕ, ◌<◌, true, false, List, Some, None, slice_get, All, AllPairs, Contains}
 use Rattle.py_data.specs.declared.stop.Conflict.{Conflict}
 use Rattle.py_data.specs.Heap.{Rec, Heap, Marks, is_tracked}
@@ -20,8 +21,10 @@ pub record IsLocked (image : Heap) (looked : Marks) (a : ℕ) : Type 0 where
   pub tracked : is_tracked entry.kind ≡ true
   pub marked : looked a ≡ true
 
--- A sight shows what a transaction has: the image with its changes laid over it, its names and its started threads. What was looked
--- at and changed is in its sets, and it changed only what it holds. Its locks are locks, and its names are free in the image. Where
+-- A sight shows what a transaction has: the image with its changes laid over it, its names and its started threads.
+-- What was looked
+-- at and changed is in its sets, and it changed only what it holds. Its locks are locks, and its names are free in the
+-- image. Where
 -- it is solo its world is the sight's, and otherwise the world wasn't used.
 pub record Shows {S : Type 0} (image : Heap) (x : Transaction S) (sight : Sight S) : Type 0 where
   pub view : (a : ℕ) → sight.heap a ≡ over (x.changes a) (image a)
@@ -36,7 +39,8 @@ pub record Shows {S : Type 0} (image : Heap) (x : Transaction S) (sight : Sight 
   pub quiet : x.solo ≡ false → sight.used ≡ false
 
 -- A transaction stands: the one-lock machine, from the committed state, can do its steps, and they leave what it has.
-pub record Stands {S : Type 0} (p : Prog S) (image : Heap) (threads : List S) (world : World) (x : Transaction S) : Type 0 where
+pub record Stands {S : Type 0} (p : Prog S) (image : Heap) (threads : List S) (world : World)
+    (x : Transaction S) : Type 0 where
   pub before : S
   pub sight : Sight S
   pub is : slice_get threads x.thread ≡ Some before
@@ -60,8 +64,10 @@ pub record Unfinished {S : Type 0} (p : Prog S) (k : CoreState S) : Type 0 where
   pub lives : p.life state ≡ Lives
   pub rests : (i : ℕ) (x : Transaction S) → k.segments i ≡ Running x → x.thread ≢ thread
 
--- A core is good, from the machine's state `start` on: its history is a run that gives the committed state, each transaction
--- that runs stands and is apart from the others, each conflict was one, and a doomed segment lost the one that it holds.
+-- A core is good, from the machine's state `start` on: its history is a run that gives the committed state, each
+-- transaction
+-- that runs stands and is apart from the others, each conflict was one, and a doomed segment lost the one that it
+-- holds.
 pub record Good {S : Type 0} (p : Prog S) (start : Machine S) (most : ℕ) (k : CoreState S) : Type 0 where
   pub run : Runs p start k.history (committed k)
   pub short : All (λ (t : Turn). IsShort most t.steps) k.history
@@ -69,7 +75,8 @@ pub record Good {S : Type 0} (p : Prog S) (start : Machine S) (most : ℕ) (k : 
   pub at_most : (i : ℕ) (x : Transaction S) → k.segments i ≡ Running x → IsShort most x.steps × (x.begun < k.begun)
   pub apart : (i j : ℕ) (x y : Transaction S) → i ≢ j → k.segments i ≡ Running x → k.segments j ≡ Running y → Apart x y
   pub conflicts : All (IsConflict k.image k.begun) k.conflicts
-  pub lost : (i : ℕ) (x : Transaction S) → k.segments i ≡ Running x → All (λ (f : Conflict). (loser f).begun ≢ x.begun) k.conflicts
+  pub lost : (i : ℕ) (x : Transaction S) → k.segments i ≡ Running x →
+      All (λ (f : Conflict). (loser f).begun ≢ x.begun) k.conflicts
   pub differ : AllPairs (λ (f g : Conflict). (loser f).begun ≢ (loser g).begun) k.conflicts
   pub doomed : (i : ℕ) (f : Conflict) → k.segments i ≡ Doomed f → Contains k.conflicts f × ((loser f).segment ≡ i)
   pub caused : k.cause ≢ None → Unfinished p k

@@ -34,7 +34,8 @@ pub record IsQuiet {S : Type 0} (c c1 : CoreState S) : Type 0 where
   pub world : c1.world ≡ c.world
   pub history : c1.history ≡ c.history
 
--- A turn is added: the transaction x of segment k, of some steps, becomes the last of the history, and the image what it saw. The
+-- A turn is added: the transaction x of segment k, of some steps, becomes the last of the history, and the image what
+-- it saw. The
 -- segment has nothing in hand then, and no transaction that goes on has looked at a record that x changed.
 pub record AddsTurn {S : Type 0} (l : Limits) (k : ℕ) (x : Transaction S) (c c1 : CoreState S) : Type 0 where
   pub some : 1 ≤ x.steps
@@ -43,7 +44,8 @@ pub record AddsTurn {S : Type 0} (l : Limits) (k : ℕ) (x : Transaction S) (c c
   pub threads : c1.threads ≡ threads_after c.threads x
   pub world : c1.world ≡ world_after c.world x
   pub idle : c1.segments k ≡ Idle
-  pub unread : (j : ℕ) (y : Transaction S) → j < l.segments → c1.segments j ≡ Running y → (a : ℕ) → mem a x.changed ≡ true → y.looked a ≡ false
+  pub unread : (j : ℕ) (y : Transaction S) → j < l.segments → c1.segments j ≡ Running y → (a : ℕ) →
+      mem a x.changed ≡ true → y.looked a ≡ false
 
 -- The event commits: its segment's transaction becomes the turn of this number.
 pub record IsCommit {S : Type 0} (l : Limits) (e : Event) (n : ℕ) (c c1 : CoreState S) : Type 0 where
@@ -58,7 +60,8 @@ abbrev pub steps_of : {S : Type 0} → Move S → ℕ
 steps_of (Goes i x x1) = 1
 steps_of _ = 0
 
--- The event is an advance that fails, and its segment's transaction y is solo: moves of the segment, and dooms of others, do fewer
+-- The event is an advance that fails, and its segment's transaction y is solo: moves of the segment, and dooms of
+-- others, do fewer
 -- steps of it than were asked for, and what it is then, x, becomes a turn.
 pub record IsCutOff {S : Type 0} (p : Prog S) (l : Limits) (e : Event) (c c1 : CoreState S) : Type 0 where
   pub most : ℕ
@@ -75,7 +78,8 @@ pub record IsCutOff {S : Type 0} (p : Prog S) (l : Limits) (e : Event) (c c1 : C
   pub solo : x.solo ≡ true
   pub turn : AddsTurn l (event_segment e) x c c1
 
--- Image, threads, world and history change by commits alone, each of which adds a turn: of an event that is replied the number of
+-- Image, threads, world and history change by commits alone, each of which adds a turn: of an event that is replied the
+-- number of
 -- the turn, or of an advance that fails, whose solo transaction is committed. Any other event leaves them.
 abbrev pub Publishes : {S : Type 0} → Prog S → Limits → Event → Reply → CoreState S → CoreState S → Type 0
 Publishes p l e (HasCommitted n) c c1 = IsCommit l e n c c1
@@ -92,29 +96,36 @@ IsAsked k f = (f.other.segment ≡ k) × (f.asks ≡ true)
 abbrev pub IsLookedAt : ℕ → Conflict → Type 0
 IsLookedAt k f = (f.writer.segment ≡ k) × (f.asks ≡ false)
 
--- The conflicts that an event can make: a begin and a call of `solo` make none; an advance those in which its segment asks, and
--- where it adds a turn, that of its solo transaction, those of a commit; a commit those in which another one has looked.
+-- The conflicts that an event can make: a begin and a call of `solo` make none; an advance those in which its segment
+-- asks, and
+-- where it adds a turn, that of its solo transaction, those of a commit; a commit those in which another one has
+-- looked.
 abbrev pub IsMadeBy : {S : Type 0} → Event → CoreState S → CoreState S → Conflict → Type 0
 IsMadeBy (event.Begin k t) c c1 f = ⊥
-IsMadeBy (event.Advance k m) c c1 f = IsAsked k f ⊎ (IsLookedAt k f × (f.writer.solo ≡ true) × (length c.history < length c1.history))
+IsMadeBy (event.Advance k m) c c1 f = IsAsked k f ⊎
+    (IsLookedAt k f × (f.writer.solo ≡ true) × (length c.history < length c1.history))
 IsMadeBy (event.Solo k) c c1 f = ⊥
 IsMadeBy (event.Commit k) c c1 f = IsLookedAt k f
 
--- how many steps an event's segment has done in it where a conflict stands: fewer than were asked for, since one more was tried; a
+-- how many steps an event's segment has done in it where a conflict stands: fewer than were asked for, since one more
+-- was tried; a
 -- commit does none
 abbrev pub IsEarly : Event → ℕ → Type 0
 IsEarly (event.Advance k m) n = n < m
 IsEarly (event.Commit k) n = n ≡ 0
 IsEarly _ n = ⊥
 
--- How an event ends after moves of its segment: as it is; or as an advance does, with a cause kept; or, for a commit, with its
+-- How an event ends after moves of its segment: as it is; or as an advance does, with a cause kept; or, for a commit,
+-- with its
 -- transaction committed.
 abbrev pub ComesToEnd : {S : Type 0} → Event → CoreState S → CoreState S → Type 0
 ComesToEnd (event.Advance k m) u c1 = EndsSo k u c1
-ComesToEnd {S} (event.Commit k) u c1 = (c1 ≡ u) ⊎ ((x : Transaction S) × (u.segments k ≡ Running x) × (c1 ≡ published k x u))
+ComesToEnd {S} (event.Commit k) u c1 = (c1 ≡ u) ⊎
+    ((x : Transaction S) × (u.segments k ≡ Running x) × (c1 ≡ published k x u))
 ComesToEnd _ u c1 = c1 ≡ u
 
--- The conflict stood in a state that the event came through: moves of its segment, and dooms of others, lead to it from the first
+-- The conflict stood in a state that the event came through: moves of its segment, and dooms of others, lead to it from
+-- the first
 -- state, and from it to the event's end.
 pub record HasStood {S : Type 0} (p : Prog S) (most : ℕ) (e : Event) (c c1 : CoreState S) (f : Conflict) : Type 0 where
   pub left : CoreState S
@@ -131,19 +142,23 @@ pub record IsDoomed {S : Type 0} (j : ℕ) (fs : List Conflict) (s s1 : Segment 
   pub lost : loser conflict ≡ side j y
   pub now : s1 ≡ Doomed conflict
 
--- What an event does beside: new conflicts stand at the end of the list, each of them stood, and another segment has in hand
+-- What an event does beside: new conflicts stand at the end of the list, each of them stood, and another segment has in
+-- hand
 -- what it had, or is doomed by one of them.
 pub record LeavesOthers {S : Type 0} (p : Prog S) (most : ℕ) (e : Event) (c c1 : CoreState S) : Type 0 where
   pub new : List Conflict
   pub conflicts : c1.conflicts ≡ c.conflicts ++ new
   pub made : All (IsMadeBy e c c1) new
   pub stood : All (HasStood p most e c c1) new
-  pub others : (j : ℕ) → j ≢ event_segment e → (c1.segments j ≡ c.segments j) ⊎ IsDoomed j new (c.segments j) (c1.segments j)
+  pub others : (j : ℕ) → j ≢ event_segment e → (c1.segments j ≡ c.segments j) ⊎ IsDoomed j new (c.segments j)
+      (c1.segments j)
 
--- Where an event is replied a conflict, its segment has nothing in hand any more. It was doomed by that conflict before, or, in an
+-- Where an event is replied a conflict, its segment has nothing in hand any more. It was doomed by that conflict
+-- before, or, in an
 -- advance or a commit, lost it in this event.
 abbrev pub IsToldLost : {S : Type 0} → ℕ → Reply → List Conflict → CoreState S → CoreState S → Type 0
-IsToldLost k (Lost f) new c c1 = (c1.segments k ≡ Idle) × ((c.segments k ≡ Doomed f) ⊎ (Contains new f × ((loser f).segment ≡ k)))
+IsToldLost k (Lost f) new c c1 = (c1.segments k ≡ Idle) ×
+    ((c.segments k ≡ Doomed f) ⊎ (Contains new f × ((loser f).segment ≡ k)))
 IsToldLost k (Unsolo (solo.Lost f)) new c c1 = (c1.segments k ≡ Idle) × (c.segments k ≡ Doomed f)
 IsToldLost k _ new c c1 = Unit {0}
 
@@ -171,8 +186,10 @@ abbrev pub has_failed : Reply → Bool
 has_failed (Failed y) = true
 has_failed _ = false
 
--- From the first event to the last the history grows by turns, and the conflicts grow. The numbers that were replied ascend, and each
--- is the place of a new turn; every other new turn is one of an event that failed. Where no turn was added the committed state stays.
+-- From the first event to the last the history grows by turns, and the conflicts grow. The numbers that were replied
+-- ascend, and each
+-- is the place of a new turn; every other new turn is one of an event that failed. Where no turn was added the
+-- committed state stays.
 pub record IsGrown {S : Type 0} (rs : List Reply) (c c1 : CoreState S) : Type 0 where
   pub turns : List Turn
   pub history : c1.history ≡ c.history ++ turns

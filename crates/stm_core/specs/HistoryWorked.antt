@@ -149,14 +149,16 @@ lost_told = (refl, inr (Contains-push [] won_by, refl))
 doomed_told : IsToldLost 1 (Lost read_by) [] (with_segment 1 (Doomed read_by) before) (with_segment 1 Idle before)
 doomed_told = (refl, inl refl)
 
-unsolo_told : IsToldLost 1 (Unsolo (solo.Lost read_by)) [] (with_segment 1 (Doomed read_by) before) (with_segment 1 Idle before)
+unsolo_told : IsToldLost 1 (Unsolo (solo.Lost read_by)) [] (with_segment 1 (Doomed read_by) before)
+    (with_segment 1 Idle before)
 unsolo_told = (refl, refl)
 
 -- the commit ends with its transaction committed, and an advance that dropped its own with a cause
 commit_ends : ComesToEnd (Commit 0) before (published 0 writer before)
 commit_ends = inr (writer, refl, refl)
 
-advance_ends : ComesToEnd (Advance 0 5) (with_segment 0 Idle before) (with_cause OutOfMemory (with_segment 0 Idle before))
+advance_ends : ComesToEnd (Advance 0 5) (with_segment 0 Idle before)
+    (with_cause OutOfMemory (with_segment 0 Idle before))
 advance_ends = inr (OutOfMemory, inl refl)
 
 -- ---- a solo transaction that has done a step and printed, and whose next step is cut in an advance by at most five
@@ -207,7 +209,8 @@ failed_makes : IsMadeBy (Advance 0 5) solo_before solo_after (conflict 0 soloist
 failed_makes = inr ((refl, refl), refl, omega arith)
 
 -- an advance that fails may commit nothing
-dropped_publishes : (p : Prog ℕ) → Publishes p limits (Advance 0 5) (Failed OutOfMemory) before (with_cause OutOfMemory (with_segment 0 Idle before))
+dropped_publishes : (p : Prog ℕ) → Publishes p limits (Advance 0 5) (Failed OutOfMemory) before
+    (with_cause OutOfMemory (with_segment 0 Idle before))
 dropped_publishes p = inl (record { image = refl; threads = refl; world = refl; history = refl })
 
 -- ---- steps that were tried after those that were done
@@ -237,7 +240,8 @@ history_grown = record {
   turns = turn_of writer ∷ [];
   history = refl;
   ascend = λ i j d lt below. absurd (omega (arith, lt, below));
-  places = All-cons (λ (n : ℕ). (0 ≤ n) × (n < 1)) 0 [] (omega arith, omega arith) (All-nil (λ (n : ℕ). (0 ≤ n) × (n < 1)));
+  places = All-cons (λ (n : ℕ). (0 ≤ n) × (n < 1)) 0 [] (omega arith, omega arith)
+      (All-nil (λ (n : ℕ). (0 ≤ n) × (n < 1)));
   others = omega arith;
   new = [];
   conflicts = refl;

@@ -1,4 +1,5 @@
--- What the calls of the core are made of: moves from one state of the core to the next. States `docs/HEAP.md`, "Events".
+-- What the calls of the core are made of: moves from one state of the core to the next. States `docs/HEAP.md`,
+-- "Events".
 use Rattle.std.specs.Prelude.{◌≡◌, ◌≢◌, ℕ, suc, ◌+◌, ◌<◌, ◌≤◌, true, false, List, [], ◌∷◌, ◌++◌, Option, Some, None, slice_get}
 use Rattle.py_data.specs.declared.stop.Conflict.{Conflict}
 use Rattle.py_data.specs.Heap.{Heap}
@@ -28,8 +29,10 @@ pub record Advances {S : Type 0} (p : Prog S) (image : Heap) (w : World) (x x1 :
 
 -- its locks and names are no other's
 pub record IsFree {S : Type 0} (k : CoreState S) (i : ℕ) (x : Transaction S) : Type 0 where
-  pub changed : (j : ℕ) (y : Transaction S) → j ≢ i → k.segments j ≡ Running y → (a : ℕ) → mem a x.changed ≡ true → mem a y.changed ≡ false
-  pub made : (j : ℕ) (y : Transaction S) → j ≢ i → k.segments j ≡ Running y → (a : ℕ) → mem a (places x.made) ≡ true → mem a (places y.made) ≡ false
+  pub changed : (j : ℕ) (y : Transaction S) → j ≢ i → k.segments j ≡ Running y → (a : ℕ) → mem a x.changed ≡ true →
+      mem a y.changed ≡ false
+  pub made : (j : ℕ) (y : Transaction S) → j ≢ i → k.segments j ≡ Running y → (a : ℕ) → mem a (places x.made) ≡ true →
+      mem a (places y.made) ≡ false
 
 -- a step that was taken back, or that waits, leaves looks and locks
 pub record Stays {S : Type 0} (image : Heap) (x x1 : Transaction S) : Type 0 where
@@ -47,7 +50,8 @@ pub record Stays {S : Type 0} (image : Heap) (x x1 : Transaction S) : Type 0 whe
   pub within : (a : ℕ) → owned x1 a ≡ false → x1.changes a ≡ None
   pub locked : (a : ℕ) → mem a x1.changed ≡ true → IsLocked image x1.looked a
 
--- After fewer steps of a thread that has the state q than a transaction may have, from the committed state on, its next step
+-- After fewer steps of a thread that has the state q than a transaction may have, from the committed state on, its next
+-- step
 -- comes to a call that wants so many words.
 pub record ComesToWant {S : Type 0} (p : Prog S) (most : ℕ) (image : Heap) (w : World) (q : S) (n : ℕ) : Type 0 where
   pub done : ℕ
@@ -58,7 +62,8 @@ pub record ComesToWant {S : Type 0} (p : Prog S) (most : ℕ) (image : Heap) (w 
   pub lives : p.life after ≡ Lives
   pub wants : Reaches (p.row after) sight (AsksRoom n)
 
--- why a cause is kept that a thread with the state q met: the heap has no room for what it came to want, or there was no memory
+-- why a cause is kept that a thread with the state q met: the heap has no room for what it came to want, or there was
+-- no memory
 abbrev pub IsMetBy : {S : Type 0} → Prog S → ℕ → CoreState S → S → Cause → Type 0
 IsMetBy p most k q (Full r n l) = ComesToWant p most k.image k.world q n × (l < r + n)
 IsMetBy p most k q OutOfMemory = Unit {0}
@@ -100,18 +105,24 @@ pub data Move (S : Type 0) : Type 0 where
 -- when each move can be made from a state, and to which it leads
 abbrev pub Next : {S : Type 0} → Prog S → ℕ → CoreState S → Move S → CoreState S → Type 0
 Next {S} p most k (Begins i t q) k1 =
-    (k.cause ≡ None) × (k.segments i ≡ Idle) × (slice_get k.threads t ≡ Some q) × (p.life q ≡ Lives) × ((j : ℕ) (y : Transaction S) → k.segments j ≡ Running y → t ≢ y.thread) × (k1 ≡ begun_at i t q k)
-Next {S} p most k (Drops i) k1 = ((x : Transaction S) → k.segments i ≡ Running x → x.solo ≡ true → x.steps ≡ 0) × (k1 ≡ with_segment i Idle k)
+    (k.cause ≡ None) × (k.segments i ≡ Idle) × (slice_get k.threads t ≡ Some q) × (p.life q ≡ Lives) ×
+    ((j : ℕ) (y : Transaction S) → k.segments j ≡ Running y → t ≢ y.thread) × (k1 ≡ begun_at i t q k)
+Next {S} p most k (Drops i) k1 = ((x : Transaction S) → k.segments i ≡ Running x → x.solo ≡ true → x.steps ≡ 0) ×
+    (k1 ≡ with_segment i Idle k)
 Next p most k (Dooms f) k1 = IsStanding p k f × (k1 ≡ with_conflict f (with_segment (loser f).segment (Doomed f) k))
 Next p most k (Loses f) k1 = IsStanding p k f × (k1 ≡ with_conflict f (with_segment (loser f).segment Idle k))
 Next {S} p most k (Goes i x x1) k1 =
-    (k.segments i ≡ Running x) × IsShort most (suc x.steps) × Advances p k.image k.world x x1 × IsFree k i x1 × (k1 ≡ with_segment i (Running x1) k)
+    (k.segments i ≡ Running x) × IsShort most (suc x.steps) × Advances p k.image k.world x x1 × IsFree k i x1 ×
+    (k1 ≡ with_segment i (Running x1) k)
 Next {S} p most k (Rests i x x1) k1 =
     (k.segments i ≡ Running x) × Stays k.image x x1 × IsFree k i x1 × (k1 ≡ with_segment i (Running x1) k)
 Next {S} p most k (Commits i x) k1 =
-    (k.segments i ≡ Running x) × (1 ≤ x.steps) × ((j : ℕ) (y : Transaction S) → j ≢ i → k.segments j ≡ Running y → (a : ℕ) → mem a x.changed ≡ true → y.looked a ≡ false) × (k1 ≡ published i x k)
+    (k.segments i ≡ Running x) × (1 ≤ x.steps) × ((j : ℕ) (y : Transaction S) → j ≢ i → k.segments j ≡ Running y →
+    (a : ℕ) → mem a x.changed ≡ true → y.looked a ≡ false) × (k1 ≡ published i x k)
 Next {S} p most k (Keeps e) k1 =
-    (t : ℕ) × (q : S) × (slice_get k.threads t ≡ Some q) × (p.life q ≡ Lives) × ((j : ℕ) (y : Transaction S) → k.segments j ≡ Running y → t ≢ y.thread) × IsMetBy p most k q e × (k1 ≡ record k { cause = first_cause k.cause e })
+    (t : ℕ) × (q : S) × (slice_get k.threads t ≡ Some q) × (p.life q ≡ Lives) ×
+    ((j : ℕ) (y : Transaction S) → k.segments j ≡ Running y → t ≢ y.thread) × IsMetBy p most k q e ×
+    (k1 ≡ record k { cause = first_cause k.cause e })
 
 -- a list of moves
 abbrev pub Follows : {S : Type 0} → Prog S → ℕ → CoreState S → List (Move S) → CoreState S → Type 0

@@ -1,4 +1,5 @@
--- The core's state with what lies outside of it: what the devices were told since the run began, and the step that broke.
+-- The core's state with what lies outside of it: what the devices were told since the run began, and the step that
+-- broke.
 -- States `docs/HEAP.md`, "Solo transactions" and "What the devices were told".
 use Rattle.std.specs.Prelude.{◌≡◌, ◌≢◌, ℕ, Bool, true, false, cond, List, [], ◌∷◌, length, slice_get, Option, Some, None, All}
 use Rattle.py_data.specs.declared.stop.Out.TheVariants.{Output, ErrorOutput}
@@ -51,7 +52,8 @@ pub record IsTold {S : Type 0} (o : Outer S) : Type 0 where
   pub solo : (i : ℕ) (x : Transaction S) → o.core.segments i ≡ Running x → x.solo ≡ true → o.told ≡ x.world
   pub alone : ((i : ℕ) (x : Transaction S) → o.core.segments i ≡ Running x → x.solo ≡ false) → o.told ≡ o.core.world
 
--- A step broke: a cause is kept, no transaction is solo, and no segment runs its thread, which lives. It was the thread's next one,
+-- A step broke: a cause is kept, no transaction is solo, and no segment runs its thread, which lives. It was the
+-- thread's next one,
 -- and a kept fault of a device is one of the call in which it was cut.
 pub record IsBroken {S : Type 0} (p : Prog S) (first : Machine S) (o : Outer S) (b : Broken) : Type 0 where
   pub caused : o.core.cause ≢ None
@@ -61,13 +63,15 @@ pub record IsBroken {S : Type 0} (p : Prog S) (first : Machine S) (o : Outer S) 
   pub stays : slice_get o.core.threads b.thread ≡ Some broke.state
   pub why : (e : Cause) → o.core.cause ≡ Some e → FaultOf e broke.cut.left
 
--- The devices were told what the transactions did, up to the step that broke; and a kept fault of a device is that step's.
+-- The devices were told what the transactions did, up to the step that broke; and a kept fault of a device is that
+-- step's.
 pub record Outside {S : Type 0} (p : Prog S) (first : Machine S) (o : Outer S) : Type 0 where
   pub told : o.broken ≡ None → IsTold o
   pub broken : (b : Broken) → o.broken ≡ Some b → IsBroken p first o b
   pub faulted : (e : Cause) → o.core.cause ≡ Some e → is_device e ≡ true → (b : Broken) × (o.broken ≡ Some b)
 
--- ALL THAT A CORE KEEPS, from the machine's state `first` on: it is good, each conflict of its list stood, and its devices were told
+-- ALL THAT A CORE KEEPS, from the machine's state `first` on: it is good, each conflict of its list stood, and its
+-- devices were told
 -- what the transactions did.
 pub record Kept {S : Type 0} (p : Prog S) (first : Machine S) (most : ℕ) (o : Outer S) : Type 0 where
   pub good : Good p first most o.core
@@ -109,11 +113,14 @@ NoOtherSolo {S} k c = (j : ℕ) (y : Transaction S) → j ≢ k → c.segments j
 
 -- when each move can be made, and to which state it leads
 abbrev pub OuterNext : {S : Type 0} → Prog S → ℕ → Outer S → OuterMove S → Outer S → Type 0
-OuterNext {S} p most o (Inner m) o1 = (c1 : CoreState S) × Next p most o.core m c1 × IsInner m × (o1 ≡ record o { core = c1; told = told_after m o.told })
+OuterNext {S} p most o (Inner m) o1 = (c1 : CoreState S) × Next p most o.core m c1 × IsInner m ×
+    (o1 ≡ record o { core = c1; told = told_after m o.told })
 OuterNext p most o (Solos i x) o1 =
-    (o.core.cause ≡ None) × (o.core.segments i ≡ Running x) × NoOtherSolo i o.core × (o1 ≡ record o { core = with_segment i (Running (soloed o.core.world x)) o.core })
+    (o.core.cause ≡ None) × (o.core.segments i ≡ Running x) × NoOtherSolo i o.core ×
+    (o1 ≡ record o { core = with_segment i (Running (soloed o.core.world x)) o.core })
 OuterNext {S} p most o (Breaks e b told) o1 =
-    (t : IsFreeThread p o.core b.thread) × (cut : RowCut (p.row t.state) (opened S o.core.image o.core.world) told) × FaultOf e cut.left
+    (t : IsFreeThread p o.core b.thread) × (cut : RowCut (p.row t.state) (opened S o.core.image o.core.world) told) ×
+    FaultOf e cut.left
     × (o.broken ≡ None) × (length o.core.history ≡ b.turns)
     × ((i : ℕ) (x : Transaction S) → o.core.segments i ≡ Running x → x.solo ≡ false)
     × (o1 ≡ record { core = record o.core { cause = first_cause o.core.cause e }; told = told; broken = Some b })

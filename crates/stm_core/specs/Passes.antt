@@ -13,7 +13,8 @@ met (a ∷ rest) m = cond (m a) (Some a) (met rest m)
 -- the reader y on segment j loses to the writer x on segment i, over the first record that it has looked at
 abbrev pub doom_met : {S : Type 0} → ℕ → Transaction S → ℕ → Transaction S → CoreState S → Option ℕ → CoreState S
 doom_met i x j y k None = k
-doom_met i x j y k (Some a) = with_conflict (conflict i x j y a false 1) (with_segment j (Doomed (conflict i x j y a false 1)) k)
+doom_met i x j y k (Some a) = with_conflict (conflict i x j y a false 1)
+    (with_segment j (Doomed (conflict i x j y a false 1)) k)
 
 abbrev pub doom_one : {S : Type 0} → ℕ → Transaction S → ℕ → CoreState S → Segment S → CoreState S
 doom_one i x j k Idle = k
@@ -31,4 +32,5 @@ after_commit i x js k = published i x (doom_readers i x js k)
 
 -- the first pass meets no reader that wins
 abbrev pub NoneWins : {S : Type 0} → ℕ → Transaction S → CoreState S → Type 0
-NoneWins {S} i x k = (j : ℕ) (y : Transaction S) (a : ℕ) → j ≢ i → k.segments j ≡ Running y → met x.changed y.looked ≡ Some a → wins (side i x) (side j y) ≡ true
+NoneWins {S} i x k = (j : ℕ) (y : Transaction S) (a : ℕ) → j ≢ i → k.segments j ≡ Running y →
+    met x.changed y.looked ≡ Some a → wins (side i x) (side j y) ≡ true

@@ -1,4 +1,5 @@
--- The states that a core stands for, and when it is good. States `docs/HEAP.md`, "A good core" and "What the devices were told".
+-- The states that a core stands for, and when it is good. States `docs/HEAP.md`, "A good core" and "What the devices
+-- were told".
 use Rattle.std.specs.Prelude.{◌≡◌, ℕ, List, Option, Some, None, [], ◌∷◌}
 use Rattle.py_data.specs.Heap.{Heap, no_records}
 use Rattle.stm_io.specs.Outside.{Rose}
@@ -13,9 +14,11 @@ use Rattle.stm_core.specs.Outside.{Outer, Kept}
 use Rattle.stm_core.specs.Devices.{DeviceState, Tells, CountsGrow}
 use Rattle.stm_core.specs.Books.{Worlds, broken_of, core_of}
 
--- Store and books stand for this state of the core, and the devices, which were `first` when the core was made, were told what it
+-- Store and books stand for this state of the core, and the devices, which were `first` when the core was made, were
+-- told what it
 -- says. The state keeps all that a core keeps, from the machine's first state over that input on.
-pub record StandsFor {S : Type 0} (p : Prog S) (most : ℕ) (first d : DeviceState) (m : Meaning) (b : Books S) (o : Outer S) : Type 0 where
+pub record StandsFor {S : Type 0} (p : Prog S) (most : ℕ) (first d : DeviceState) (m : Meaning) (b : Books S)
+    (o : Outer S) : Type 0 where
   pub worlds : Worlds
   pub core : o.core ≡ core_of worlds m b
   pub broken : o.broken ≡ broken_of b.broken
@@ -30,9 +33,11 @@ CauseRose (Some WriteFault) d d1 = Rose d.writes d1.writes
 CauseRose (Some ErrFault) d d1 = Rose d.errs d1.errs
 CauseRose _ d d1 = Unit {0}
 
--- The client's first state may stand over the empty heap. There is a state for which the core stands, no count of faults fell since it
+-- The client's first state may stand over the empty heap. There is a state for which the core stands, no count of
+-- faults fell since it
 -- was made, and that of a kept fault rose.
-pub record SaneCore {S : Type 0} (p : Prog S) (sound : Heap → List S → Type 0) (most : ℕ) (first d : DeviceState) (m : Meaning) (b : Books S) : Type 0 where
+pub record SaneCore {S : Type 0} (p : Prog S) (sound : Heap → List S → Type 0) (most : ℕ) (first d : DeviceState)
+    (m : Meaning) (b : Books S) : Type 0 where
   pub first_sound : sound no_records (p.first ∷ [])
   pub state : Outer S
   pub stands : StandsFor p most first d m b state

@@ -1,4 +1,5 @@
--- What a call of `solo` answers, and what comes of a solo transaction whose next step is cut. States `docs/HEAP.md`, "Solo
+-- What a call of `solo` answers, and what comes of a solo transaction whose next step is cut. States `docs/HEAP.md`,
+-- "Solo
 -- transactions".
 use Rattle.std.specs.Prelude.{◌≡◌, ◌≢◌, ℕ, zero, suc, true, length, Some, None, Result, Ok, Err}
 use Rattle.std.specs.List.{range_with_len}
@@ -24,9 +25,11 @@ IsOtherSolo {S} k j c = (j ≢ k) × (y : Transaction S) × (c.segments j ≡ Ru
 abbrev pub SoloedFrom : {S : Type 0} → Segment S → ℕ → Result (Unit {0}) SoloError → Outer S → Outer S → Type 0
 SoloedFrom (Doomed f) k (Err (Over e)) o o1 = (o.core.cause ≡ Some e) × (o1 ≡ o)
 SoloedFrom (Running x) k (Err (Over e)) o o1 = (o.core.cause ≡ Some e) × (o1 ≡ o)
-SoloedFrom (Doomed f) k (Err (Lost g)) o o1 = (o.core.cause ≡ None) × (g ≡ f) × (o1 ≡ record o { core = with_segment k Idle o.core })
+SoloedFrom (Doomed f) k (Err (Lost g)) o o1 =
+    (o.core.cause ≡ None) × (g ≡ f) × (o1 ≡ record o { core = with_segment k Idle o.core })
 SoloedFrom (Running x) k (Err (Taken j)) o o1 = (o.core.cause ≡ None) × IsOtherSolo k j o.core × (o1 ≡ o)
-SoloedFrom (Running x) k (Ok u) o o1 = (o.core.cause ≡ None) × NoOtherSolo k o.core × (o1 ≡ record o { core = with_segment k (Running (soloed o.core.world x)) o.core })
+SoloedFrom (Running x) k (Ok u) o o1 = (o.core.cause ≡ None) × NoOtherSolo k o.core ×
+    (o1 ≡ record o { core = with_segment k (Running (soloed o.core.world x)) o.core })
 SoloedFrom _ k r o o1 = ⊥
 
 -- what `solo` answers on segment k, by the first that holds, and what it makes of the core
@@ -35,15 +38,18 @@ Soloed k r o o1 = SoloedFrom (o.core.segments k) k r o o1
 
 -- ---- a step of a solo transaction that was cut
 
--- The transaction x of segment k is committed up to its last whole step, in both passes over n segments; where it has done none,
+-- The transaction x of segment k is committed up to its last whole step, in both passes over n segments; where it has
+-- done none,
 -- it is dropped.
 abbrev pub up_to_whole : {S : Type 0} → ℕ → ℕ → Transaction S → ℕ → CoreState S → CoreState S
 up_to_whole k n x zero c = with_segment k Idle c
 up_to_whole k n x (suc i) c = after_commit k x (range_with_len 0 n) c
 
--- The next step of the solo transaction x of segment k was cut for this cause. The transaction is committed up to its last whole
+-- The next step of the solo transaction x of segment k was cut for this cause. The transaction is committed up to its
+-- last whole
 -- step; then the step is the next one of its thread, and what was told of it stays told.
-pub record SoloFailed {S : Type 0} (p : Prog S) (k n : ℕ) (e : Cause) (o : Outer S) (x : Transaction S) (o1 : Outer S) : Type 0 where
+pub record SoloFailed {S : Type 0} (p : Prog S) (k n : ℕ) (e : Cause) (o : Outer S) (x : Transaction S)
+    (o1 : Outer S) : Type 0 where
   pub lives : p.life x.state ≡ Lives
   pub told : World
   pub cut : RowCut (p.row x.state) (sight_of o.core.image o.core.world x) told

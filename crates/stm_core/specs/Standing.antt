@@ -1,4 +1,5 @@
--- How a core stands: what a segment has in hand, which thread is next, and how the run stands. States `docs/HEAP.md`, "How a
+-- How a core stands: what a segment has in hand, which thread is next, and how the run stands. States `docs/HEAP.md`,
+-- "How a
 -- core stands".
 use Rattle.std.specs.Prelude.{◌≡◌, ◌⊎◌, ℕ, ◌<◌, ◌≤◌, Bool, true, cond, ◌&&◌, ◌||◌, ltb, Option, Some, None}
 use Rattle.lock_run.specs.Prog.{Prog}
@@ -16,7 +17,8 @@ slot_of Idle = slot.Idle
 slot_of (Doomed f) = slot.Doomed
 slot_of (Running x) = slot.Running x.thread x.steps x.solo
 
--- The order in which threads are looked for: those above the one last begun come first, in the order of their numbers, and
+-- The order in which threads are looked for: those above the one last begun come first, in the order of their numbers,
+-- and
 -- then the others. The thread s comes before t.
 abbrev pub sooner : Option ℕ → ℕ → ℕ → Bool
 sooner None s t = ltb s t
@@ -50,4 +52,5 @@ IsOutcome p budget c (Faulted e) = c.cause ≡ Some e
 IsOutcome p budget c Done = (c.cause ≡ None) × IsDone p (committed c)
 IsOutcome p budget c Stuck = IsAtRest c × IsStuck p (committed c)
 IsOutcome p budget c Spent = IsAtRest c × IsSpent p budget c.history (committed c)
-IsOutcome p budget c GoesOn = ((c.cause ≡ None) × SomeLives p (committed c) × SomeRuns c) ⊎ (IsAtRest c × IsRunning p budget c.history (committed c))
+IsOutcome p budget c GoesOn = ((c.cause ≡ None) × SomeLives p (committed c) × SomeRuns c) ⊎
+    (IsAtRest c × IsRunning p budget c.history (committed c))

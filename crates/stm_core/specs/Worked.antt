@@ -69,14 +69,26 @@ module _ {S : Type 0} (p : Prog S) where
   winner_of_look = refl
 
   look_stands : IsStanding p two by_look
-  look_stands = record { x = locker; y = looker; writes = refl; reads = refl; is = refl; differ = λ e. cc; held = refl; met = refl; lost = omega arith; loses = refl }
+  look_stands = record {
+    x = locker;
+    y = looker;
+    writes = refl;
+    reads = refl;
+    is = refl;
+    differ = λ e. cc;
+    held = refl;
+    met = refl;
+    lost = omega arith;
+    loses = refl;
+  }
 
   no_writer : (x : Transaction S) → Running locker ≡ Running x → x ≡ locker
   no_writer x e = cc
 
   -- none over a record that isn't locked
   other_record_stands_not : IsStanding p two (conflict 0 locker 1 looker 4 false 1) → ⊥
-  other_record_stands_not h = absurd (let e = no_writer h.x h.writes in let q : false ≡ true = ap (λ (z : Transaction S). mem 4 z.changed) (sym e) ∙ h.held in cc)
+  other_record_stands_not h = absurd (let e = no_writer h.x h.writes in let q : false ≡ true =
+      ap (λ (z : Transaction S). mem 4 z.changed) (sym e) ∙ h.held in cc)
 
   -- none that the looker wins
   winner_loses_not : IsStanding p two (conflict 0 locker 1 looker 3 false 0) → ⊥
@@ -155,7 +167,14 @@ module _ {S : Type 0} (p : Prog S) where
       y = looker;
       writes = writer_stands;
       reads = looker_stands;
-      apart = record { threads = λ e. cc; begun = λ e. cc; made = λ a h. refl; changed = λ a h. refl; solo = λ h. refl };
+      apart = record {
+        threads = λ e. cc;
+        begun = λ e. cc;
+        made = λ a h. refl;
+        changed = λ a h. refl;
+        solo = λ h.
+            refl;
+      };
       is = refl;
       differ = λ e. cc;
       held = refl;
@@ -166,5 +185,6 @@ module _ {S : Type 0} (p : Prog S) where
     }
 
   -- none that the looker won stood, whatever the history
-  won_stood_not : (first : Machine S) (history : List Turn) → Stood p first history (conflict 0 locker 1 looker 3 false 0) → ⊥
+  won_stood_not : (first : Machine S) (history : List Turn) →
+      Stood p first history (conflict 0 locker 1 looker 3 false 0) → ⊥
   won_stood_not first history h = let q : false ≡ true = h.loses in cc

@@ -5,7 +5,8 @@ use Rattle.stm_core.specs.declared.transactions.Core.{Core}
 use Rattle.stm_core.specs.CoreHeld.{SameJob}
 use Rattle.stm_workers.specs.CoreJob.{core_job}
 
-pub one_job : {C S I O E T : Type 0} (meaning : S → Meaning) (x y : Core C S I O E T) → SameJob meaning x y → core_job meaning y ≡ core_job meaning x
+pub one_job : {C S I O E T : Type 0} (meaning : S → Meaning) (x y : Core C S I O E T) → SameJob meaning x y →
+    core_job meaning y ≡ core_job meaning x
 one_job meaning x y same = λ i. record {
   client = same.client i;
   length = (same.limits i).length;

@@ -27,7 +27,8 @@ module _ (T : RattleType) (t : IsSend T) where
   work_sent = search (progress_sent, sendable, crosses) depth 20
 
   hand_sent : IsSend (hand.the_row T)
-  hand_sent = recorded_send _ _ _ (hand.the_type T).to_one (enum_send (enum.shape (hand.the_type T)) (tt, ((conflict_sent, tt), ((work_sent, tt), tt))))
+  hand_sent = recorded_send _ _ _ (hand.the_type T).to_one
+      (enum_send (enum.shape (hand.the_type T)) (tt, ((conflict_sent, tt), ((work_sent, tt), tt))))
 
   books_sent : IsSend (Struct (struct.shape (books.the_type T)))
   -- threads, pending, hands, history, conflicts, begun, last, cause, broken
@@ -60,10 +61,12 @@ module _ (T : RattleType) (t : IsSend T) where
     ),
   )
 
-devices_sent : (I O E : RattleType) → IsSend I → IsSend O → IsSend E → IsSend (Struct (struct.shape (devices.the_type I O E)))
+devices_sent : (I O E : RattleType) → IsSend I → IsSend O → IsSend E →
+    IsSend (Struct (struct.shape (devices.the_type I O E)))
 devices_sent I O E i o e = search sendable depth 20
 
-module _ (κ : NamedLft) (C S I O E T : RattleType) (c : IsSync C) (s : IsSend S) (i : IsSend I) (o : IsSend O) (e : IsSend E) (t : IsSend T) where
+module _ (κ : NamedLft) (C S I O E T : RattleType) (c : IsSync C) (s : IsSend S) (i : IsSend I) (o : IsSend O)
+    (e : IsSend E) (t : IsSend T) where
   core_sent : IsSend (Struct (struct.shape (core.the_type κ C S I O E T)))
   core_sent =
       let b = books_sent T t in
@@ -71,4 +74,5 @@ module _ (κ : NamedLft) (C S I O E T : RattleType) (c : IsSync C) (s : IsSend S
       search (b, d, sendable, crosses) depth 20
 
   pub held_sent : IsSend (held.the_row κ C S I O E T)
-  held_sent = recorded_send _ _ _ (held.the_type κ C S I O E T).to_one (struct_send (struct.shape (held.the_type κ C S I O E T)) (core_sent, tt))
+  held_sent = recorded_send _ _ _ (held.the_type κ C S I O E T).to_one
+      (struct_send (struct.shape (held.the_type κ C S I O E T)) (core_sent, tt))

@@ -1,4 +1,5 @@
--- What tells one core from another: the job that stays the same, whoever has visited it. States `docs/HEAP.md`, "Workers".
+-- What tells one core from another: the job that stays the same, whoever has visited it. States `docs/HEAP.md`,
+-- "Workers".
 use Rattle.seg_store.specs.Meaning.{Meaning}
 use Rattle.stm_core.specs.declared.transactions.Core.{Core}
 use Rattle.stm_core.specs.CoreHeld.{core_client, core_limits}

@@ -10,7 +10,9 @@ use Rattle.stm_core.specs.CoreHeld.{core_client, core_limits, Says}
 use Rattle.stm_core.specs.Standing.{IsOutcome}
 
 -- how the run stands, where it doesn't go on
-pub record HasEnded {C S I O E T : Type 0} (input : I → SourceState) (out : O → SinkState) (err : E → SinkState) (prog : C → Prog T) (meaning : S → Meaning) (x : Core C S I O E T) : Type 0 where
+pub record HasEnded {C S I O E T : Type 0} (input : I → SourceState) (out : O → SinkState) (err : E → SinkState)
+    (prog : C → Prog T) (meaning : S → Meaning) (x : Core C S I O E T) : Type 0 where
   pub state : RunState
-  pub is : Says input out err prog meaning x (λ o. IsOutcome (prog (core_client x)) (core_limits meaning x).budget o.core state)
+  pub is : Says input out err prog meaning x
+      (λ o. IsOutcome (prog (core_client x)) (core_limits meaning x).budget o.core state)
   pub over : state ≢ Running

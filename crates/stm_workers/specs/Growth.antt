@@ -17,5 +17,6 @@ pub record ListsGrow {T : Type 0} (c c1 : CoreState T) : Type 0 where
   pub conflicts : c1.conflicts ≡ c.conflicts ++ new
 
 -- each state for which the one core stands leads so to one for which the other stands
-pub record Grows {C S I O E T : Type 0} (input : I → SourceState) (out : O → SinkState) (err : E → SinkState) (prog : C → Prog T) (meaning : S → Meaning) (x y : Core C S I O E T) : Type 0 where
+pub record Grows {C S I O E T : Type 0} (input : I → SourceState) (out : O → SinkState) (err : E → SinkState)
+    (prog : C → Prog T) (meaning : S → Meaning) (x y : Core C S I O E T) : Type 0 where
   pub leads : Leads input out err prog meaning x y (λ o o1. ListsGrow o.core o1.core)

@@ -1,4 +1,5 @@
--- Nothing here is to be believed: it is proved that a good core has as many turns as its history tells, and that what has grown from it
+-- Nothing here is to be believed: it is proved that a good core has as many turns as its history tells, and that what
+-- has grown from it
 -- has no fewer.
 use Rattle.std.specs.Prelude.{◌≡◌, ◌≤◌, ◌++◌, ℕ, List, length}
 use Rattle.std.proofs.Common.{subst, sym, ap, ◌∙◌}
@@ -16,17 +17,23 @@ use Rattle.stm_workers.specs.Growth.{Grows}
 use Rattle.worker_tests.specs.Turns.{turns_of}
 
 no_shorter : {A : Type 0} (old new more : List A) → new ≡ old ++ more → length old ≤ length new
-no_shorter old new more is = subst (λ n. length old ≤ n) (sym (ap length is ∙ length-append old more)) (le-add_right (length old) (length more))
+no_shorter old new more is = subst (λ n. length old ≤ n) (sym (ap length is ∙ length-append old more))
+    (le-add_right (length old) (length more))
 
-module _ {C S I O E T : Type 0} (input : I → SourceState) (out : O → SinkState) (err : E → SinkState) (prog : C → Prog T) (sound : C → Heap → List T → Type 0) (reserved : S → ℕ) (meaning : S → Meaning) where
-  pub turns_told : (x : Core C S I O E T) (told : List Turn) → IsGoodCore input out err prog sound reserved meaning x → Says input out err prog meaning x (λ o. o.core.history ≡ told) → length told ≡ turns_of x
+module _ {C S I O E T : Type 0} (input : I → SourceState) (out : O → SinkState) (err : E → SinkState)
+    (prog : C → Prog T) (sound : C → Heap → List T → Type 0) (reserved : S → ℕ) (meaning : S → Meaning) where
+  pub turns_told : (x : Core C S I O E T) (told : List Turn) → IsGoodCore input out err prog sound reserved meaning x →
+      Says input out err prog meaning x (λ o. o.core.history ≡ told) → length told ≡ turns_of x
   turns_told x told good says =
       let stands = good.sane.stands in
-      ap (λ (l : List Turn). length l) (sym (says good.sane.state stands) ∙ ap (λ (c : CoreState T). c.history) stands.core)
+      ap (λ (l : List Turn). length l) (sym (says good.sane.state stands) ∙
+      ap (λ (c : CoreState T). c.history) stands.core)
 
-  pub turns_grow : (x y : Core C S I O E T) → IsGoodCore input out err prog sound reserved meaning x → Grows input out err prog meaning x y → turns_of x ≤ turns_of y
+  pub turns_grow : (x y : Core C S I O E T) → IsGoodCore input out err prog sound reserved meaning x →
+      Grows input out err prog meaning x y → turns_of x ≤ turns_of y
   turns_grow x y good grows =
       let stands = good.sane.stands in
       let grown = grows.leads good.sane.state stands in
-      let same = sym (ap (λ (c : CoreState T). c.history) grown.1.core) ∙ grown.2.history ∙ ap (λ (c : CoreState T). c.history ++ grown.2.turns) stands.core in
+      let same = sym (ap (λ (c : CoreState T). c.history) grown.1.core) ∙ grown.2.history ∙
+      ap (λ (c : CoreState T). c.history ++ grown.2.turns) stands.core in
       no_shorter x.books.history.entries y.books.history.entries grown.2.turns same

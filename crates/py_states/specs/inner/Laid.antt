@@ -1,4 +1,5 @@
--- How frames lie in memory: the values of all frames one behind the other, those of the innermost frame last, and in the same
+-- How frames lie in memory: the values of all frames one behind the other, those of the innermost frame last, and in
+-- the same
 -- way their blocks. What code and proofs say to each other; nothing public rests on it.
 use Rattle.std.specs.Prelude.{◌≡◌, ℕ, ◌+◌, ◌≤◌, List, [], ◌∷◌, ◌==◌, cond, length, take, drop, Option, Some, None}
 use Rattle.py_data.specs.declared.value.Value.{Value}
@@ -18,7 +19,8 @@ frame_of h vs bs = record {
   names = h.names;
 }
 
--- The frames of these heads, the innermost first. Of the values the last ones are the innermost frame's, of the blocks the
+-- The frames of these heads, the innermost first. Of the values the last ones are the innermost frame's, of the blocks
+-- the
 -- first.
 abbrev pub laid : List Head → List Value → List Block → List Frame
 laid [] vs bs = []

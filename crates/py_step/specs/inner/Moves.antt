@@ -11,9 +11,11 @@ use Rattle.py_frames.specs.PrintRows.{dying_row}
 use Rattle.py_frames.specs.Raising.{place_of}
 use Rattle.py_frames.specs.State.{State, with_frames}
 
--- The row was done, its answer is how the step ended and the state that it left; or it was stopped, and the state stayed as it
+-- The row was done, its answer is how the step ended and the state that it left; or it was stopped, and the state
+-- stayed as it
 -- was.
-abbrev pub Moves : {X : Type 0} → Sense State X → Row State (Outcome × State) → X → State → X → State → Result Outcome Stop → Type 0
+abbrev pub Moves : {X : Type 0} → Sense State X → Row State (Outcome × State) → X → State → X → State →
+    Result Outcome Stop → Type 0
 Moves u row v s w t (Ok o) = Run u row v (o, t) w
 Moves u row v s w t (Err e) = Stopped u row v e w × (t ≡ s)
 

@@ -19,4 +19,5 @@ HasOperator _ = Unit {0}
 
 -- so does the next instruction of a thread that doesn't die
 pub record IsOperable (p : Program) (s : State) : Type 0 where
-  pub each : (f : Frame) (fs : List Frame) (i : Instr) → s.dying ≡ None → s.frames ≡ f ∷ fs → instr_at p f ≡ Some i → HasOperator i
+  pub each : (f : Frame) (fs : List Frame) (i : Instr) → s.dying ≡ None → s.frames ≡ f ∷ fs → instr_at p f ≡ Some i →
+      HasOperator i

@@ -1,5 +1,6 @@
 -- What code and proofs say to each other: nothing public rests on it.
--- What a segment's view holds, as values, and what each of its calls does. States `docs/HEAP.md`, "The view of a segment".
+-- What a segment's view holds, as values, and what each of its calls does. States `docs/HEAP.md`, "The view of a
+-- segment".
 use Rattle.std.specs.Prelude.{◌≡◌, ◌≢◌, ℕ, ◌+◌, ◌<◌, ◌≤◌, ◌⊎◌, Bool, true, false, cond, not, ◌||◌, List, [], ◌∷◌, Option, Some, None, length, take, slice_get, All}
 use Rattle.py_data.specs.declared.stop.Side.{Side}
 use Rattle.py_data.specs.declared.stop.Conflict.{Conflict}
@@ -43,7 +44,8 @@ sight k d = record {
 
 -- ---- what a call may do to other segments
 
--- The conflict of the side `me` of segment k, whose transaction is out of its hand and asks to change the record, with the
+-- The conflict of the side `me` of segment k, whose transaction is out of its hand and asks to change the record, with
+-- the
 -- transaction of another segment that has locked it.
 pub record MeetsLock {S : Type 0} (k : ℕ) (me : Side) (f : Conflict) (c : CoreState S) : Type 0 where
   pub writer : Transaction S
@@ -70,7 +72,8 @@ Dooms {S} k me (f ∷ fs) c c1 = (u : CoreState S) × DoomsOne k me f c u × Doo
 abbrev pub KeepsFront : {X : Type 0} → ℕ → List X → ℕ → List X → Type 0
 KeepsFront n xs n1 ys = n ≤ length xs → (n1 ≤ length ys) × (take n1 ys ≡ take n xs)
 
--- What calls of segment k, which acts for the side `me`, leave beside its own sight: other segments are only doomed, each for
+-- What calls of segment k, which acts for the side `me`, leave beside its own sight: other segments are only doomed,
+-- each for
 -- a record that the calls ask to change.
 pub record Beside {S : Type 0} (k : ℕ) (me : Side) (asks : ℕ → Type 0) (d e : Hold S) : Type 0 where
   pub saw : saw e.meaning k ≡ saw d.meaning k
@@ -133,7 +136,8 @@ pub record LosesTo {S : Type 0} (k : ℕ) (me : Side) (f : Conflict) (c : CoreSt
   pub lost : f.lost ≡ 1
   pub loses : wins me f.writer ≡ false
 
--- Why each Stop comes, where the call was asked for over the heap h: only one that isn't solo wants to be, and only a solo one
+-- Why each Stop comes, where the call was asked for over the heap h: only one that isn't solo wants to be, and only a
+-- solo one
 -- meets a fault of a device.
 abbrev pub SegWhy : {S : Type 0} → ℕ → Side → Stop → Call S → Heap → Hold S → Type 0
 SegWhy k me (Lost f) c h e = Changes f.at.0 c × ((w : Worlds) → LosesTo k me f (core_of w e.meaning e.books))
@@ -142,14 +146,17 @@ SegWhy k me (Full r n l) c h e = CallWants c h n × (r ≡ e.reserved) × (l ≡
 SegWhy k me OutOfMemory c h e = IsHeld c
 SegWhy k me s c h e = (me.solo ≡ true) × IsFaultOf s c
 
--- A call that was refused: at most one record more was looked at, the one that the call asks for, and at most one more locked,
+-- A call that was refused: at most one record more was looked at, the one that the call asks for, and at most one more
+-- locked,
 -- the one that it changes.
 pub record SegRefuses {S : Type 0} (k : ℕ) (me : Side) (c : Call S) (d : Hold S) (s : Stop) (e : Hold S) : Type 0 where
   pub stopped : e.stopped ≡ Some s
   pub beside : Beside k me (λ a. Changes a c) d e
   pub why : SegWhy k me s c (sees d.meaning k) e
-  pub looked : (a : ℕ) → (e.meaning.part k).looked a ≡ true → ((d.meaning.part k).looked a ≡ true) ⊎ (touches c ≡ Some a)
-  pub locks : (a : ℕ) → mem a (e.meaning.part k).changed ≡ true → (mem a (d.meaning.part k).changed ≡ true) ⊎ Changes a c
+  pub looked : (a : ℕ) → (e.meaning.part k).looked a ≡ true →
+      ((d.meaning.part k).looked a ≡ true) ⊎ (touches c ≡ Some a)
+  pub locks : (a : ℕ) → mem a (e.meaning.part k).changed ≡ true → (mem a (d.meaning.part k).changed ≡ true) ⊎ Changes a
+      c
 
 -- ---- how a step is opened and taken back
 
@@ -164,7 +171,11 @@ abbrev pub SegUndoes : {S : Type 0} → ℕ → Hold S → Hold S → Type 0
 SegUndoes k d e = e ≡ record d {
   meaning = after_undo k d.meaning;
   books = record d.books { pending = e.books.pending };
-  progress = record d.progress { names = take d.progress.kept_names d.progress.names; started = take d.progress.kept_started d.progress.started };
+  progress = record d.progress {
+    names = take d.progress.kept_names d.progress.names;
+    started =
+        take d.progress.kept_started d.progress.started;
+  };
   stopped = None;
 }
 

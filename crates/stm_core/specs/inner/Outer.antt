@@ -14,10 +14,13 @@ use Rattle.stm_core.specs.Devices.{DeviceState}
 
 -- Only a solo transaction writes, takes input and sets the flag.
 abbrev pub OuterDoes : {S : Type 0} → Side → (c : Call S) → DeviceState → Reply c → DeviceState → Type 0
-OuterDoes me (Put Output bytes) p r q = (me.solo ≡ true) × (q ≡ record p { out = grown p.out bytes; writes = q.writes }) × (p.writes ≤ q.writes)
-OuterDoes me (Put ErrorOutput bytes) p r q = (me.solo ≡ true) × (q ≡ record p { err = grown p.err bytes; errs = q.errs }) × (p.errs ≤ q.errs)
+OuterDoes me (Put Output bytes) p r q = (me.solo ≡ true) ×
+    (q ≡ record p { out = grown p.out bytes; writes = q.writes }) × (p.writes ≤ q.writes)
+OuterDoes me (Put ErrorOutput bytes) p r q =
+    (me.solo ≡ true) × (q ≡ record p { err = grown p.err bytes; errs = q.errs }) × (p.errs ≤ q.errs)
 OuterDoes me (Take most) p l q =
-    (me.solo ≡ true) × IsLine p.input most l × (length l ≤ most) × (q ≡ record p { input = shrunk p.input (length l); reads = q.reads }) × (p.reads ≤ q.reads)
+    (me.solo ≡ true) × IsLine p.input most l × (length l ≤ most) ×
+    (q ≡ record p { input = shrunk p.input (length l); reads = q.reads }) × (p.reads ≤ q.reads)
 OuterDoes me MidLine p b q = (b ≡ p.mid) × (q ≡ p)
 OuterDoes me (SetMidLine b) p r q = (me.solo ≡ true) × (q ≡ record p { mid = b })
 OuterDoes me c p r q = q ≡ p
@@ -29,19 +32,24 @@ OuterDoes me c p r q = q ≡ p
 abbrev pub WriteRefused : Stop → Side → List ℕ → DeviceState → DeviceState → Type 0
 WriteRefused NeedSolo me bytes p q = q ≡ p
 WriteRefused WriteFault me bytes p q =
-    (me.solo ≡ true) × ((n : ℕ) × (q ≡ record p { out = grown p.out (take n bytes); writes = q.writes })) × (p.writes ≤ q.writes) × Rose p.writes q.writes
+    (me.solo ≡ true) × ((n : ℕ) × (q ≡ record p { out = grown p.out (take n bytes); writes = q.writes })) ×
+    (p.writes ≤ q.writes) × Rose p.writes q.writes
 WriteRefused _ me bytes p q = (me.solo ≡ true) × (q ≡ record p { writes = q.writes }) × (p.writes ≤ q.writes)
 
 -- the same of the error output
 abbrev pub ErrRefused : Stop → Side → List ℕ → DeviceState → DeviceState → Type 0
 ErrRefused NeedSolo me bytes p q = q ≡ p
-ErrRefused ErrFault me bytes p q = (me.solo ≡ true) × ((n : ℕ) × (q ≡ record p { err = grown p.err (take n bytes); errs = q.errs })) × (p.errs ≤ q.errs) × Rose p.errs q.errs
+ErrRefused ErrFault me bytes p q = (me.solo ≡ true) ×
+    ((n : ℕ) × (q ≡ record p { err = grown p.err (take n bytes); errs = q.errs })) × (p.errs ≤ q.errs) × Rose p.errs
+    q.errs
 ErrRefused _ me bytes p q = (me.solo ≡ true) × (q ≡ record p { errs = q.errs }) × (p.errs ≤ q.errs)
 
 -- a line that wasn't taken: at a fault of the input some bytes may be gone
 abbrev pub TakeRefused : Stop → Side → DeviceState → DeviceState → Type 0
 TakeRefused NeedSolo me p q = q ≡ p
-TakeRefused ReadFault me p q = (me.solo ≡ true) × ((n : ℕ) × (q ≡ record p { input = shrunk p.input n; reads = q.reads })) × (p.reads ≤ q.reads) × Rose p.reads q.reads
+TakeRefused ReadFault me p q = (me.solo ≡ true) ×
+    ((n : ℕ) × (q ≡ record p { input = shrunk p.input n; reads = q.reads })) × (p.reads ≤ q.reads) × Rose p.reads
+    q.reads
 TakeRefused _ me p q = (me.solo ≡ true) × (q ≡ record p { reads = q.reads }) × (p.reads ≤ q.reads)
 
 abbrev pub OuterRefuses : {S : Type 0} → Side → Call S → Stop → DeviceState → DeviceState → Type 0

@@ -27,9 +27,12 @@ work_side j x = record { segment = j; thread = x.thread; begun = x.begun; solo =
 
 -- Segment j is no reader that wins over the writer `me` of segment k; or it is one, and this is the conflict.
 abbrev pub Beats : {S : Type 0} → List (Hand S) → Meaning → ℕ → Side → ℕ → Option Conflict → Type 0
-Beats {S} hs m k me j None = (y : Work S) (a : ℕ) → slice_get hs j ≡ Some (Runs y) → read_at hs m k j ≡ Some a → wins (work_side j y) me ≡ false
+Beats {S} hs m k me j None = (y : Work S) (a : ℕ) → slice_get hs j ≡ Some (Runs y) → read_at hs m k j ≡ Some a →
+    wins (work_side j y) me ≡ false
 Beats {S} hs m k me j (Some f) =
-    (y : Work S) × (slice_get hs j ≡ Some (Runs y)) × (read_at hs m k j ≡ Some f.at.0) × (f ≡ record { at = f.at; writer = me; other = work_side j y; asks = false; lost = 0 }) × (wins (work_side j y) me ≡ true)
+    (y : Work S) × (slice_get hs j ≡ Some (Runs y)) × (read_at hs m k j ≡ Some f.at.0) ×
+    (f ≡ record { at = f.at; writer = me; other = work_side j y; asks = false; lost = 0 }) ×
+    (wins (work_side j y) me ≡ true)
 
 -- the first of n segments that is a reader that wins
 abbrev pub FirstBeats : {S : Type 0} → List (Hand S) → Meaning → ℕ → Side → ℕ → Option Conflict → Type 0

@@ -23,9 +23,11 @@ pub record Seen {T : Type 0} (a k : ℕ) (d : Hold T) : Type 0 where
   pub is : sees d.meaning k a ≡ Some entry
   pub noted : is_tracked entry.kind ≡ true → (d.meaning.part k).looked a ≡ true
 
--- a view of type X: what it holds, its devices, its segment, the side that it acts for, and that two values of it borrow the same
+-- a view of type X: what it holds, its devices, its segment, the side that it acts for, and that two values of it
+-- borrow the same
 -- things
-module _ {T X : Type 0} (hold : X → Hold T) (devices : X → DeviceState) (segment : X → ℕ) (me : X → Side) (same : X → X → Type 0) where
+module _ {T X : Type 0} (hold : X → Hold T) (devices : X → DeviceState) (segment : X → ℕ) (me : X → Side)
+    (same : X → X → Type 0) where
   -- a look at a record that was seen changes nothing
   abbrev pub Quiet : Call T → X → X → Type 0
   Quiet (Read a) v w = Seen a (segment v) (hold v) → w ≡ v
@@ -48,8 +50,10 @@ module _ {T X : Type 0} (hold : X → Hold T) (devices : X → DeviceState) (seg
     partial = false;
     stopped = λ v. (hold v).stopped;
     can_stop = seg_stops;
-    does = λ c v r w. SegDoes (segment v) (me v) c (hold v) r (hold w) × OuterDoes (me v) c (devices v) r (devices w) × Stays v w × Quiet c v w;
-    refuses = λ c v e w. SegRefuses (segment v) (me v) c (hold v) e (hold w) × OuterRefuses (me v) c e (devices v) (devices w) × Stays v w × Unsure c v;
+    does = λ c v r w. SegDoes (segment v) (me v) c (hold v) r (hold w) × OuterDoes (me v) c (devices v) r (devices w) ×
+        Stays v w × Quiet c v w;
+    refuses = λ c v e w. SegRefuses (segment v) (me v) c (hold v) e (hold w) × OuterRefuses (me v) c e (devices v)
+        (devices w) × Stays v w × Unsure c v;
     seen = λ a v. Seen a (segment v) (hold v);
   }
 

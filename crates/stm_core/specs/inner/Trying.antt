@@ -1,4 +1,5 @@
--- A core with a transaction that was taken out of its segment. What code and proofs say to each other: nothing public rests
+-- A core with a transaction that was taken out of its segment. What code and proofs say to each other: nothing public
+-- rests
 -- on it.
 use Rattle.std.specs.Prelude.{ℕ, Option, List}
 use Rattle.py_data.specs.Heap.{Heap}
@@ -17,14 +18,16 @@ abbrev pub core_with : {S : Type 0} → Worlds → ℕ → Meaning → Books S �
 core_with w k m b x = with_segment k (Running (transaction w.own (m.part k) x)) (core_of w m b)
 
 -- a good core, in some worlds, with the transaction that was taken out of segment k, from a first state that may stand
-pub record Sane {S : Type 0} (p : Prog S) (sound : Heap → List S → Type 0) (most k : ℕ) (m : Meaning) (b : Books S) (x : Work S) : Type 0 where
+pub record Sane {S : Type 0} (p : Prog S) (sound : Heap → List S → Type 0) (most k : ℕ) (m : Meaning) (b : Books S)
+    (x : Work S) : Type 0 where
   pub worlds : Worlds
   pub start : Machine S
   pub first : sound start.heap start.threads
   pub good : Good p start most (core_with worlds k m b x)
 
 -- and the devices show the world of the transaction, where it is solo
-pub record SaneShown {S : Type 0} (p : Prog S) (sound : Heap → List S → Type 0) (most k : ℕ) (d : DeviceState) (m : Meaning) (b : Books S) (x : Work S) : Type 0 where
+pub record SaneShown {S : Type 0} (p : Prog S) (sound : Heap → List S → Type 0) (most k : ℕ) (d : DeviceState)
+    (m : Meaning) (b : Books S) (x : Work S) : Type 0 where
   pub sane : Sane p sound most k m b x
   pub out : Option (List ℕ)
   pub err : Option (List ℕ)

@@ -1,5 +1,6 @@
 -- What code and proofs say to each other: nothing public rests on it.
--- Store and books fit together, with a transaction out of its hand and with all in their hands. States `docs/HEAP.md`, "The
+-- Store and books fit together, with a transaction out of its hand and with all in their hands. States `docs/HEAP.md`,
+-- "The
 -- transactional core".
 use Rattle.std.specs.Prelude.{◌≡◌, ◌≢◌, ◌⊎◌, ℕ, ◌+◌, ◌<◌, ◌≤◌, true, false, List, Option, length, Some, slice_get, suc}
 use Rattle.std.specs.List.{sum_by}
@@ -49,47 +50,60 @@ SameShape m m1 = (m1.segments ≡ m.segments) × (m1.limit ≡ m.limit)
 abbrev pub stepped : {S : Type 0} → Work S → Work S
 stepped x = record x { steps = suc x.steps }
 
--- Other segments were doomed by these conflicts, and then the step was done, or it waits. The world of a solo transaction is `own`
+-- Other segments were doomed by these conflicts, and then the step was done, or it waits. The world of a solo
+-- transaction is `own`
 -- then; of another one, and of one that waits, it is as it was.
-pub record StepDone {S : Type 0} (p : Prog S) (w : Worlds) (own : World) (k : ℕ) (me : Side) (o : Outcome) (m : Meaning) (b : Books S) (x : Work S) (m1 : Meaning) (b1 : Books S) (x1 : Work S) : Type 0 where
+pub record StepDone {S : Type 0} (p : Prog S) (w : Worlds) (own : World) (k : ℕ) (me : Side) (o : Outcome)
+    (m : Meaning) (b : Books S) (x : Work S) (m1 : Meaning) (b1 : Books S) (x1 : Work S) : Type 0 where
   pub dooms : List Conflict
   pub others : Dooms k me dooms (core_of w m b) (core_of w m1 b1)
-  pub goes : o ≢ WaitsNow → Advances p m.image w.committed (transaction w.own (m.part k) x) (transaction own (m1.part k) (stepped x1))
-  pub waits : o ≡ WaitsNow → (own ≡ w.own) × Stays m.image (transaction w.own (m.part k) x) (transaction w.own (m1.part k) x1)
+  pub goes : o ≢ WaitsNow → Advances p m.image w.committed (transaction w.own (m.part k) x)
+      (transaction own (m1.part k) (stepped x1))
+  pub waits : o ≡ WaitsNow → (own ≡ w.own) × Stays m.image (transaction w.own (m.part k) x)
+      (transaction w.own (m1.part k) x1)
   pub mortal : x.solo ≡ false → own ≡ w.own
   pub waiting : o ≡ WaitsNow → WaitsThere p m.image w.committed (transaction w.own (m.part k) x)
   pub last : Outcome × S
-  pub went : Went (p.row x.state) (sight_of m.image w.committed (transaction w.own (m.part k) x)) (Ret last) (m1.part k).looked (m1.part k).changed dooms
+  pub went : Went (p.row x.state) (sight_of m.image w.committed (transaction w.own (m.part k) x)) (Ret last)
+      (m1.part k).looked (m1.part k).changed dooms
 
--- Where a row, from the sight s, was stopped: its calls were done up to a place, and there the code found no memory, or the next
+-- Where a row, from the sight s, was stopped: its calls were done up to a place, and there the code found no memory, or
+-- the next
 -- call was refused.
-pub record StopsAt {S A : Type 0} (k : ℕ) (me : Side) (row : Row S A) (s : Sight S) (e : Stop) (c d : Hold S) : Type 0 where
-  pub left : Row S A
-  pub place : Sight S
-  pub upto : Upto pure row s left place
-  pub looks : (a : ℕ) → (d.meaning.part k).looked a ≡ true → (place.looked a ≡ true) ⊎ LooksNext left a
-  pub locks : (a : ℕ) → mem a (d.meaning.part k).changed ≡ true → (place.touched a ≡ true) ⊎ ChangesNext left a
-  pub beside : Beside k me (AskedFor row s left place) c d
-  pub why : (e ≡ OutOfMemory) ⊎ ((q : Call S) × (f : Reply q → Row S A) × (left ≡ Do q f) × SegWhy k me e q place.heap d)
+pub record StopsAt {S A : Type 0} (k : ℕ) (me : Side) (row : Row S A) (s : Sight S) (e : Stop) (c d : Hold S) : Type 0
+  where
+    pub left : Row S A
+    pub place : Sight S
+    pub upto : Upto pure row s left place
+    pub looks : (a : ℕ) → (d.meaning.part k).looked a ≡ true → (place.looked a ≡ true) ⊎ LooksNext left a
+    pub locks : (a : ℕ) → mem a (d.meaning.part k).changed ≡ true → (place.touched a ≡ true) ⊎ ChangesNext left a
+    pub beside : Beside k me (AskedFor row s left place) c d
+    pub why : (e ≡ OutOfMemory) ⊎ ((q : Call S) × (f : Reply q → Row S A) × (left ≡ Do q f) × SegWhy k me e q place.heap
+        d)
 
--- Why a step wasn't done: from the sight s its row comes to a call that was refused, as the core is afterwards. Only one that isn't
+-- Why a step wasn't done: from the sight s its row comes to a call that was refused, as the core is afterwards. Only
+-- one that isn't
 -- solo meets a lock that wins, or wants to be solo; only a solo one meets a fault of a device.
 abbrev pub CutWhy : {S A : Type 0} → ℕ → Side → Stop → Row S A → Sight S → CoreState S → ℕ → ℕ → Type 0
 CutWhy k me (Lost f) row s c reserved limit = LosesTo k me f c × Reaches row s (AsksToChange f.at.0)
 CutWhy k me NeedSolo row s c reserved limit = (me.solo ≡ false) × Reaches row s AsksOutside
-CutWhy k me (Full r n l) row s c reserved limit = Reaches row s (AsksRoom n) × (r ≡ reserved) × (l ≡ limit) × (l < r + n)
+CutWhy k me (Full r n l) row s c reserved limit = Reaches row s (AsksRoom n) × (r ≡ reserved) × (l ≡ limit) ×
+    (l < r + n)
 CutWhy k me OutOfMemory row s c reserved limit = Unit {0}
 CutWhy k me NeedHeap row s c reserved limit = ⊥
 CutWhy k me _ row s c reserved limit = me.solo ≡ true
 
 -- Other segments were doomed by these conflicts, and then the step was cut and taken back: looks and locks stay.
-pub record StepCut {S : Type 0} (p : Prog S) (w : Worlds) (k : ℕ) (me : Side) (e : Stop) (m : Meaning) (b : Books S) (x : Work S) (m1 : Meaning) (r1 : ℕ) (b1 : Books S) (x1 : Work S) : Type 0 where
+pub record StepCut {S : Type 0} (p : Prog S) (w : Worlds) (k : ℕ) (me : Side) (e : Stop) (m : Meaning) (b : Books S)
+    (x : Work S) (m1 : Meaning) (r1 : ℕ) (b1 : Books S) (x1 : Work S) : Type 0 where
   pub dooms : List Conflict
   pub others : Dooms k me dooms (core_of w m b) (core_of w m1 b1)
   pub stays : Stays m.image (transaction w.own (m.part k) x) (transaction w.own (m1.part k) x1)
   pub left : Row S (Outcome × S)
-  pub went : Went (p.row x.state) (sight_of m.image w.committed (transaction w.own (m.part k) x)) left (m1.part k).looked (m1.part k).changed dooms
-  pub why : CutWhy k me e (p.row x.state) (sight_of m.image w.committed (transaction w.own (m.part k) x)) (core_of w m1 b1) r1 m1.limit
+  pub went : Went (p.row x.state) (sight_of m.image w.committed (transaction w.own (m.part k) x)) left
+      (m1.part k).looked (m1.part k).changed dooms
+  pub why : CutWhy k me e (p.row x.state) (sight_of m.image w.committed (transaction w.own (m.part k) x))
+      (core_of w m1 b1) r1 m1.limit
 
 -- a fault of a device that a Stop tells is one of the call that was cut
 abbrev pub StopOf : {S A : Type 0} → Stop → Row S A → Type 0
@@ -101,8 +115,10 @@ StopOf ErrFault (Do (Put ErrorOutput bytes) f) = Unit {0}
 StopOf ErrFault _ = ⊥
 StopOf _ _ = Unit {0}
 
--- What the devices were told by the step of a solo transaction that was cut: its row's calls up to a place, and a part of the next.
-pub record StepBroke {S : Type 0} (p : Prog S) (t e : Option (List ℕ)) (image : Heap) (w : World) (x : Transaction S) (stop : Stop) (d1 : DeviceState) : Type 0 where
+-- What the devices were told by the step of a solo transaction that was cut: its row's calls up to a place, and a part
+-- of the next.
+pub record StepBroke {S : Type 0} (p : Prog S) (t e : Option (List ℕ)) (image : Heap) (w : World) (x : Transaction S)
+    (stop : Stop) (d1 : DeviceState) : Type 0 where
   pub told : World
   pub tells : Tells t e d1 told
   pub cut : RowCut (p.row x.state) (sight_of image w x) told

@@ -1,4 +1,5 @@
--- Nothing here is to be believed: these are the two laws that the lock asks for, proved. A core has grown from itself, and what has
+-- Nothing here is to be believed: these are the two laws that the lock asks for, proved. A core has grown from itself,
+-- and what has
 -- grown in two steps has grown in one.
 use Rattle.std.specs.Prelude.{◌≡◌, List, [], ◌++◌}
 use Rattle.std.proofs.Common.{sym, ◌∙◌, ap, append_assoc, append-nil}
@@ -12,7 +13,13 @@ use Rattle.stm_core.specs.Outside.{Outer}
 use Rattle.stm_workers.specs.Growth.{ListsGrow, Grows}
 
 pub lists_same : {T : Type 0} (c : CoreState T) → ListsGrow c c
-lists_same c = record { turns = []; history = sym (append-nil c.history); new = []; conflicts = sym (append-nil c.conflicts) }
+lists_same c = record {
+  turns = [];
+  history = sym (append-nil c.history);
+  new = [];
+  conflicts =
+      sym (append-nil c.conflicts);
+}
 
 pub lists_then : {T : Type 0} (c u v : CoreState T) → ListsGrow c u → ListsGrow u v → ListsGrow c v
 lists_then c u v a b = record {
@@ -22,11 +29,13 @@ lists_then c u v a b = record {
   conflicts = b.conflicts ∙ ap (λ z. z ++ b.new) a.conflicts ∙ append_assoc c.conflicts a.new b.new;
 }
 
-module _ {C S I O E T : Type 0} (input : I → SourceState) (out : O → SinkState) (err : E → SinkState) (prog : C → Prog T) (meaning : S → Meaning) where
+module _ {C S I O E T : Type 0} (input : I → SourceState) (out : O → SinkState) (err : E → SinkState)
+    (prog : C → Prog T) (meaning : S → Meaning) where
   pub grows_same : (x : Core C S I O E T) → Grows input out err prog meaning x x
   grows_same x = record { leads = λ o stands. (o, stands, lists_same o.core) }
 
-  pub grows_then : (x y z : Core C S I O E T) → Grows input out err prog meaning x y → Grows input out err prog meaning y z → Grows input out err prog meaning x z
+  pub grows_then : (x y z : Core C S I O E T) → Grows input out err prog meaning x y →
+      Grows input out err prog meaning y z → Grows input out err prog meaning x z
   grows_then x y z a b = record {
     leads = λ o stands.
         let u = a.leads o stands in

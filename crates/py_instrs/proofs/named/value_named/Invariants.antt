@@ -4,7 +4,8 @@ use Rattle.py_frames.specs.State.{root_name}
 use Rattle.py_instrs.proofs.named.value_named.Given as goal
 
 abbrev pub invariant-keys : goal.invariant-keys
-invariant-keys l = value_named l.name (map (root_name l.p) l.keys) l.values l.other ≡ value_named l.name (map (root_name l.p) l.rest) l.left l.other
+invariant-keys l = value_named l.name (map (root_name l.p) l.keys) l.values l.other ≡ value_named l.name
+    (map (root_name l.p) l.rest) l.left l.other
 
 abbrev pub decreases-keys : goal.decreases-keys
 decreases-keys l = length l.rest

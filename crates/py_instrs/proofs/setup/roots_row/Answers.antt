@@ -12,16 +12,22 @@ pub root_by-requires-clause-live : goal.root_by-requires-clause-live
 root_by-requires-clause-live g c = c.turns.invariant.live
 
 pub root_by-requires-clause-safe : goal.root_by-requires-clause-safe
-root_by-requires-clause-safe g c = root_safe c.turns.rest.now c.in-Some.more.now c.in-Some.r.now c.turns.values c.in-Some.ensures c.turns.invariant
+root_by-requires-clause-safe g c = root_safe c.turns.rest.now c.in-Some.more.now c.in-Some.r.now c.turns.values
+    c.in-Some.ensures c.turns.invariant
 
 pub returns-in_err-x : goal.returns-in_err-x
-returns-in_err-x g c = stop-as _ _ _ _ _ _ (root_stop _ _ c.turns.rest.now c.in-Some.more.now c.in-Some.r.now c.turns.values c.in-Some.ensures c.turns.invariant c.in_err-x.ensures) c.from_residual.ensures.1
+returns-in_err-x g c = stop-as _ _ _ _ _ _
+    (root_stop _ _ c.turns.rest.now c.in-Some.more.now c.in-Some.r.now c.turns.values c.in-Some.ensures
+    c.turns.invariant c.in_err-x.ensures) c.from_residual.ensures.1
 
 pub returns-in_err-push : goal.returns-in_err-push
-returns-in_err-push g c = stop-as _ _ _ _ OutOfMemory _ (root_starved g.met.V.View.lawful _ c.in_ok-x.x c.turns.rest.now c.in-Some.more.now c.in-Some.r.now c.turns.values c.in-Some.ensures c.turns.invariant c.in_ok-x.ensures) c.from_residual-in_err-push.ensures.1
+returns-in_err-push g c = stop-as _ _ _ _ OutOfMemory _
+    (root_starved g.met.V.View.lawful _ c.in_ok-x.x c.turns.rest.now c.in-Some.more.now c.in-Some.r.now c.turns.values
+    c.in-Some.ensures c.turns.invariant c.in_ok-x.ensures) c.from_residual-in_err-push.ensures.1
 
 pub turns-preserved : goal.turns-preserved
-turns-preserved g c = root_more g.met.V.View.lawful _ c.in_ok-x.x c.turns.rest.now c.in-Some.more.now c.in-Some.r.now c.turns.values _ c.in-Some.ensures c.in_ok-push.ensures.ok c.turns.invariant c.in_ok-x.ensures
+turns-preserved g c = root_more g.met.V.View.lawful _ c.in_ok-x.x c.turns.rest.now c.in-Some.more.now c.in-Some.r.now
+    c.turns.values _ c.in-Some.ensures c.in_ok-push.ensures.ok c.turns.invariant c.in_ok-x.ensures
 
 pub returns : goal.returns
 returns g c =

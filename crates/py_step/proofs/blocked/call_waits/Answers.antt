@@ -13,4 +13,6 @@ returns g c = λ s f l m e.
     let b = c.value_waits.result in
     let k = given_in s f c.args.m l (drop 1 c.args.xs.now) in
     let a = sym (c.first-args.ensures ∙ ap (take c.args.m) c.skip.ensures) in
-    call_tells h b s f c.args.xs.now c.args.m l (subst (λ x. Tells {S = State} b LeadsToWait h (value_call s Unset k x)) c.value_or_unset.ensures (c.value_waits.ensures s k m a a e))
+    call_tells h b s f c.args.xs.now c.args.m l
+    (subst (λ x. Tells {S = State} b LeadsToWait h (value_call s Unset k x)) c.value_or_unset.ensures
+    (c.value_waits.ensures s k m a a e))

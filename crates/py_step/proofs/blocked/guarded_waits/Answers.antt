@@ -12,7 +12,8 @@ returns-then-lacks_operand g c = λ fs.
     let i = c.args.i in
     let xs = c.operands-xs.ensures ∙ ap (λ n. operands n f) c.pops.ensures in
     let e = ap (λ xs. has_unset (wanted i xs)) (sym xs) ∙ sym c.lacks_operand.ensures ∙ c.if-lacks_operand.true in
-    unset_goes (g.P.Peek.image c.args.heap.now) (site_of c.args.p.now c.args.s.now fs) f (operands (pops c.args.p.now f i) f) i e
+    unset_goes (g.P.Peek.image c.args.heap.now) (site_of c.args.p.now c.args.s.now fs) f
+    (operands (pops c.args.p.now f i) f) i e
 
 pub returns-else-lacks_operand : goal.returns-else-lacks_operand
 returns-else-lacks_operand g c = λ fs.
@@ -23,4 +24,5 @@ returns-else-lacks_operand g c = λ fs.
     let s = site_of c.args.p.now c.args.s.now fs in
     let xs = c.operands-xs.ensures ∙ ap (λ n. operands n f) c.pops.ensures in
     let e = ap (λ xs. has_unset (wanted i xs)) (sym xs) ∙ sym c.lacks_operand.ensures ∙ c.if-lacks_operand.false in
-    set_tells h b s f (operands (pops c.args.p.now f i) f) i e (subst (λ xs. Tells {S = State} b LeadsToWait h (instr_row s f xs i)) xs (c.instr_waits.ensures fs))
+    set_tells h b s f (operands (pops c.args.p.now f i) f) i e
+    (subst (λ xs. Tells {S = State} b LeadsToWait h (instr_row s f xs i)) xs (c.instr_waits.ensures fs))

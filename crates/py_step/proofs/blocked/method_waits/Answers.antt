@@ -20,4 +20,5 @@ returns g c = λ s f l m e.
     let all = own_args h own k (plainly (take c.args.m (drop 2 xs))) refl ∙ sym c.with_object-all.ensures in
     let t = c.value_waits.ensures s k m a all e in
     let called = subst (λ x. Tells {S = State} b LeadsToWait h (value_call s own k x)) c.value_or_unset.ensures t in
-    method_tells h b s f xs c.args.m l (subst (λ x. Tells {S = State} b LeadsToWait h (value_call s x k (value_at xs 0))) c.value_or_unset-own.ensures called)
+    method_tells h b s f xs c.args.m l (subst
+    (λ x. Tells {S = State} b LeadsToWait h (value_call s x k (value_at xs 0))) c.value_or_unset-own.ensures called)

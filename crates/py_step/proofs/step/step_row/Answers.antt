@@ -3,20 +3,27 @@ use Rattle.py_step.proofs.Moving.{dying_is, at_is, safe_as, moves_as, run_as, ov
 use Rattle.py_step.proofs.step.step_row.Goals as goal
 
 pub die-requires-clause-safe : goal.die-requires-clause-safe
-die-requires-clause-safe g c = safe_as g.V.View.sense _ _ _ (dying_is c.args.p.now c.args.s.now c.in-Some.d c.requires.lives (sym c.in-Some.ensures)) c.requires.safe
+die-requires-clause-safe g c = safe_as g.V.View.sense _ _ _
+    (dying_is c.args.p.now c.args.s.now c.in-Some.d c.requires.lives (sym c.in-Some.ensures)) c.requires.safe
 
 pub returns-in-Some : goal.returns-in-Some
-returns-in-Some g c = moves_as g.V.View.sense _ _ _ _ _ _ _ (dying_is c.args.p.now c.args.s.now c.in-Some.d c.requires.lives (sym c.in-Some.ensures)) c.die.ensures
+returns-in-Some g c = moves_as g.V.View.sense _ _ _ _ _ _ _
+    (dying_is c.args.p.now c.args.s.now c.in-Some.d c.requires.lives (sym c.in-Some.ensures)) c.die.ensures
 
 pub go_on-requires-clause-safe : goal.go_on-requires-clause-safe
 go_on-requires-clause-safe g c =
-    safe_as g.V.View.sense _ _ _ (at_is c.args.p.now c.args.s.now (Some c.in-Some-instr_at.i) c.requires.lives (sym c.in_default.ensures) (sym c.in-Some-instr_at.ensures)) c.requires.safe
+    safe_as g.V.View.sense _ _ _ (at_is c.args.p.now c.args.s.now (Some c.in-Some-instr_at.i) c.requires.lives
+    (sym c.in_default.ensures) (sym c.in-Some-instr_at.ensures)) c.requires.safe
 
 pub returns-in-Some-instr_at : goal.returns-in-Some-instr_at
 returns-in-Some-instr_at g c =
-    moves_as g.V.View.sense _ _ _ _ _ _ _ (at_is c.args.p.now c.args.s.now (Some c.in-Some-instr_at.i) c.requires.lives (sym c.in_default.ensures) (sym c.in-Some-instr_at.ensures)) c.go_on.ensures
+    moves_as g.V.View.sense _ _ _ _ _ _ _
+    (at_is c.args.p.now c.args.s.now (Some c.in-Some-instr_at.i) c.requires.lives (sym c.in_default.ensures)
+    (sym c.in-Some-instr_at.ensures)) c.go_on.ensures
 
 pub returns-in-None : goal.returns-in-None
 returns-in-None g c =
-    run_as g.V.View.sense _ _ _ (c.end.result, c.end.new.s) _ _ (at_is c.args.p.now c.args.s.now None c.requires.lives (sym c.in_default.ensures) (sym c.in-None.ensures)) (both _ _ _ _ c.end.ensures.outcome c.end.ensures.state)
+    run_as g.V.View.sense _ _ _ (c.end.result, c.end.new.s) _ _
+    (at_is c.args.p.now c.args.s.now None c.requires.lives (sym c.in_default.ensures) (sym c.in-None.ensures))
+    (both _ _ _ _ c.end.ensures.outcome c.end.ensures.state)
     (over g.V.View.sense c.args.p.now c.args.s.now _ _ _)

@@ -5,4 +5,5 @@ use Rattle.stm_io.specs.Memory.{sure_sink_state, sure_source_state}
 use Rattle.script_cases.proofs.again.turns_again.Given as goal
 
 abbrev pub invariant-turns : goal.invariant-turns
-invariant-turns l = IsSound (Sound (program_in (lock_client l.run))) (lock_state sure_source_state sure_sink_state sure_sink_state l.run)
+invariant-turns l = IsSound (Sound (program_in (lock_client l.run)))
+    (lock_state sure_source_state sure_sink_state sure_sink_state l.run)

@@ -14,4 +14,5 @@ pub returns-clause-moves : goal.returns-clause-moves
 returns-clause-moves g c = soloed_moves
 
 pub returns-clause-fails : goal.returns-clause-fails
-returns-clause-fails g c = λ p first most k n e o o1 x h is solo within f. failed_moves p first most k n o x h is solo within e o1 f
+returns-clause-fails g c = λ p first most k n e o o1 x h is solo within f.
+    failed_moves p first most k n o x h is solo within e o1 f

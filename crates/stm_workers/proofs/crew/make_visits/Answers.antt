@@ -8,7 +8,8 @@ loop-preserved g c =
     let gave = ap (λ (s : SeatView g.row.T.Denot g.row.T-Description.Denot). s.seen) c.give.ensures.seat in
     let job = g.T.Job in (
       search rules,
-      λ x all. c.loop.invariant.1 x (seen_before_give job.grows job.grows_then c.loop.seat.seen c.give.new.seat.seen c.take-value.result c.visit-over.new.value x
+      λ x all. c.loop.invariant.1 x (seen_before_give job.grows job.grows_then c.loop.seat.seen c.give.new.seat.seen
+          c.take-value.result c.visit-over.new.value x
           c.take-value.ensures.later c.visit-over.ensures.grows gave all),
     )
 
@@ -16,5 +17,6 @@ pub returns-then-over-clause-seen : goal.returns-then-over-clause-seen
 returns-then-over-clause-seen g c =
     let gave = ap (λ (s : SeatView g.row.T.Denot g.row.T-Description.Denot). s.seen) c.give.ensures.seat in
     let job = g.T.Job in
-    λ x all. c.loop.invariant.1 x (seen_before_give job.grows job.grows_then c.loop.seat.seen c.give.new.seat.seen c.take-value.result c.visit-over.new.value x
+    λ x all. c.loop.invariant.1 x (seen_before_give job.grows job.grows_then c.loop.seat.seen c.give.new.seat.seen
+    c.take-value.result c.visit-over.new.value x
     c.take-value.ensures.later c.visit-over.ensures.grows gave all)

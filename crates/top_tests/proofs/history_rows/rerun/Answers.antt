@@ -5,4 +5,5 @@ use Rattle.py_frames.specs.Sound.{Sound}
 use Rattle.top_tests.proofs.history_rows.rerun.Goals as goal
 
 pub replayed-requires : goal.replayed-requires
-replayed-requires g c = subst (λ p. IsSoundFirst (prog_of p) (Sound p)) (sym c.new-client.ensures.program) c.new-client.ensures.first
+replayed-requires g c = subst (λ p. IsSoundFirst (prog_of p) (Sound p)) (sym c.new-client.ensures.program)
+    c.new-client.ensures.first

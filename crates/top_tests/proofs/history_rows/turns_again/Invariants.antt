@@ -5,4 +5,5 @@ use Rattle.stm_io.specs.Memory.{mem_sink_state, mem_source_state}
 use Rattle.top_tests.proofs.history_rows.turns_again.Given as goal
 
 abbrev pub invariant-turns : goal.invariant-turns
-invariant-turns g l = IsSound (Sound (program_in (lock_client l.run))) (lock_state mem_source_state mem_sink_state mem_sink_state l.run)
+invariant-turns g l = IsSound (Sound (program_in (lock_client l.run)))
+    (lock_state mem_source_state mem_sink_state mem_sink_state l.run)

@@ -60,7 +60,8 @@ pub returns-in-Fails-clause-ok : goal.returns-in-Fails-clause-ok
 returns-in-Fails-clause-ok c =
     let same = frames_same c.self.view_is in
     let some : 0 < length c.args.self.now.frames = omega (arith, c.len.ensures, ap length same, c.if-len-eq0.false) in
-    ended _ _ _ _ c.throws.ensures.ok (fails_is _ _ _ _ _ _ _ _ _ c.in-Fails.is some c.line_at-line.ensures (c.code.ensures ∙ ap code_in same) (c.pc.ensures ∙ ap pc_in same))
+    ended _ _ _ _ c.throws.ensures.ok (fails_is _ _ _ _ _ _ _ _ _ c.in-Fails.is some c.line_at-line.ensures
+    (c.code.ensures ∙ ap code_in same) (c.pc.ensures ∙ ap pc_in same))
 
 pub returns-in-Begins-clause-ok : goal.returns-in-Begins-clause-ok
 returns-in-Begins-clause-ok c =
@@ -72,7 +73,9 @@ pub returns-in-Throws-clause-ok : goal.returns-in-Throws-clause-ok
 returns-in-Throws-clause-ok c =
     let same = frames_same c.self.view_is in
     let some : 0 < length c.args.self.now.frames = omega (arith, c.len.ensures, ap length same, c.if-len-eq0.false) in
-    ended _ _ _ _ c.throws-in-Throws.ensures.ok (throws_is _ _ _ _ _ _ _ _ _ c.in-Throws.is some c.line_at-line.ensures (c.code.ensures ∙ ap code_in same) (c.pc.ensures ∙ ap pc_in same))
+    ended _ _ _ _ c.throws-in-Throws.ensures.ok
+    (throws_is _ _ _ _ _ _ _ _ _ c.in-Throws.is some c.line_at-line.ensures (c.code.ensures ∙ ap code_in same)
+    (c.pc.ensures ∙ ap pc_in same))
 
 pub returns-in-Waits-clause-ok : goal.returns-in-Waits-clause-ok
 returns-in-Waits-clause-ok c =

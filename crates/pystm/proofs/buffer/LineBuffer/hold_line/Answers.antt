@@ -28,6 +28,8 @@ returns-then-branch-eq0-clause-line g c =
     let fewer = c.if-seen-most.true in
     let nothing = c.if-branch-eq0.true in
     let more = read.more in
-    let w : take c.min-end.result c.held-held.result.now ≡ take c.min-end.result c.loop-seen.self = ap (take c.min-end.result) c.held-held.ensures in
-    end-known _ _ c.loop-seen.self c.read_more.new.self c.args.most c.min-end.result (Keeps-trans _ _ _ keeps read.bytes) (read.end nothing)
+    let w : take c.min-end.result c.held-held.result.now ≡ take c.min-end.result c.loop-seen.self =
+    ap (take c.min-end.result) c.held-held.ensures in
+    end-known _ _ c.loop-seen.self c.read_more.new.self c.args.most c.min-end.result
+    (Keeps-trans _ _ _ keeps read.bytes) (read.end nothing)
     (omega arith) read.front (omega arith) (omega arith) (subst (All (λ b. b ≢ 10)) w c.in_default.ensures.none)

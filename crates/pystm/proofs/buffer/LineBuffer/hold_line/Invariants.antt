@@ -7,7 +7,8 @@ abbrev pub invariant-loop-seen : goal.invariant-loop-seen
 invariant-loop-seen g l =
     (l.seen ≤ l.most) × (l.seen ≤ length l.self)
     × All (λ b. b ≢ 10) (take l.seen l.self)
-    × Keeps (prepend_known l.initial.self (g.R.Read.remaining l.initial.reader)) (prepend_known l.self (g.R.Read.remaining l.reader))
+    × Keeps (prepend_known l.initial.self (g.R.Read.remaining l.initial.reader))
+    (prepend_known l.self (g.R.Read.remaining l.reader))
 
 abbrev pub decreases-loop-seen : goal.decreases-loop-seen
 decreases-loop-seen g l = (l.most - l.seen) + (l.most - length l.self)

@@ -7,34 +7,54 @@ use Rattle.stm_core.proofs.Changing.{can_ready, can_moved, change_done, change_r
 use Rattle.stm_core.proofs.segment.SegView.change.Goals as goal
 
 pub hold-requires-clause-tracked : goal.hold-requires-clause-tracked
-hold-requires-clause-tracked g c = (can_ready c.args.change (sees (g.S.SegStore.meaning c.args.self.now.store.now) c.args.self.now.segment) c.args.a.0 c.requires.can).tracked
+hold-requires-clause-tracked g c = (can_ready c.args.change
+    (sees (g.S.SegStore.meaning c.args.self.now.store.now) c.args.self.now.segment) c.args.a.0 c.requires.can).tracked
 
 pub change_held-requires-clause-held : goal.change_held-requires-clause-held
-change_held-requires-clause-held g c = change_held_at c.args.self.now.segment c.hold.new.self.segment c.args.a.0 (g.S.SegStore.meaning c.args.self.now.store.now) (g.S.SegStore.meaning c.hold.new.self.store.now) c.in-Ok.ensures.stays.0 c.in-Ok.ensures.ok.touched
+change_held-requires-clause-held g c = change_held_at c.args.self.now.segment c.hold.new.self.segment c.args.a.0
+    (g.S.SegStore.meaning c.args.self.now.store.now) (g.S.SegStore.meaning c.hold.new.self.store.now)
+    c.in-Ok.ensures.stays.0 c.in-Ok.ensures.ok.touched
 
 pub returns-in-Ok-change_held-clause-ok : goal.returns-in-Ok-change_held-clause-ok
 returns-in-Ok-change_held-clause-ok g c =
     change_done c.args.self.now.segment c.args.self.now.side c.args.a.0 c.args.change
-    (holding (g.S.SegStore.meaning c.args.self.now.store.now) (g.S.SegStore.reserved c.args.self.now.store.now) c.args.self.now.books.now c.args.self.now.progress.now c.args.self.now.stopped)
-    (holding (g.S.SegStore.meaning c.hold.new.self.store.now) (g.S.SegStore.reserved c.hold.new.self.store.now) c.hold.new.self.books.now c.hold.new.self.progress.now c.hold.new.self.stopped)
-    (holding (g.S.SegStore.meaning c.change_held.new.self.store.now) (g.S.SegStore.reserved c.change_held.new.self.store.now) c.change_held.new.self.books.now c.change_held.new.self.progress.now c.change_held.new.self.stopped)
-    c.requires.can c.requires.live (runs_moved c.hold.new.self.books.now.hands.items c.hold.new.self.segment c.args.self.now.segment c.in-Ok.ensures.stays.0 c.hold.new.self.fits.out) c.in-Ok.ensures.ok
-    (after_moved c.args.self.now.segment c.hold.new.self.segment c.args.a.0 (after c.args.change) (g.S.SegStore.meaning c.hold.new.self.store.now) (g.S.SegStore.meaning c.change_held.new.self.store.now) c.in-Ok.ensures.stays.0 c.in-Ok-change_held.ensures.ok)
-    c.change_held.ensures.reserved c.change_held.ensures.books c.change_held.ensures.progress c.change_held.ensures.stopped
+    (holding (g.S.SegStore.meaning c.args.self.now.store.now) (g.S.SegStore.reserved c.args.self.now.store.now)
+    c.args.self.now.books.now c.args.self.now.progress.now c.args.self.now.stopped)
+    (holding (g.S.SegStore.meaning c.hold.new.self.store.now) (g.S.SegStore.reserved c.hold.new.self.store.now)
+    c.hold.new.self.books.now c.hold.new.self.progress.now c.hold.new.self.stopped)
+    (holding (g.S.SegStore.meaning c.change_held.new.self.store.now)
+    (g.S.SegStore.reserved c.change_held.new.self.store.now) c.change_held.new.self.books.now
+    c.change_held.new.self.progress.now c.change_held.new.self.stopped)
+    c.requires.can c.requires.live (runs_moved c.hold.new.self.books.now.hands.items c.hold.new.self.segment
+    c.args.self.now.segment c.in-Ok.ensures.stays.0 c.hold.new.self.fits.out) c.in-Ok.ensures.ok
+    (after_moved c.args.self.now.segment c.hold.new.self.segment c.args.a.0 (after c.args.change)
+    (g.S.SegStore.meaning c.hold.new.self.store.now) (g.S.SegStore.meaning c.change_held.new.self.store.now)
+    c.in-Ok.ensures.stays.0 c.in-Ok-change_held.ensures.ok)
+    c.change_held.ensures.reserved c.change_held.ensures.books c.change_held.ensures.progress
+    c.change_held.ensures.stopped
 
 pub change_held-requires-clause-can : goal.change_held-requires-clause-can
-change_held-requires-clause-can g c = can_moved c.args.self.now.segment c.hold.new.self.segment c.args.a.0 c.args.change (g.S.SegStore.meaning c.args.self.now.store.now) (g.S.SegStore.meaning c.hold.new.self.store.now) c.in-Ok.ensures.stays.0 c.in-Ok.ensures.ok.shown c.requires.can
+change_held-requires-clause-can g c = can_moved c.args.self.now.segment c.hold.new.self.segment c.args.a.0
+    c.args.change (g.S.SegStore.meaning c.args.self.now.store.now) (g.S.SegStore.meaning c.hold.new.self.store.now)
+    c.in-Ok.ensures.stays.0 c.in-Ok.ensures.ok.shown c.requires.can
 
 pub returns-in-Err-change_held-clause-err : goal.returns-in-Err-change_held-clause-err
 returns-in-Err-change_held-clause-err g c =
     let m = g.S.SegStore.meaning c.hold.new.self.store.now in
     let same = sym (ap g.S.SegStore.reserved c.refuse.ensures.store) in
     change_refused c.args.self.now.segment c.args.self.now.side c.args.a.0 c.args.change
-    (holding (g.S.SegStore.meaning c.args.self.now.store.now) (g.S.SegStore.reserved c.args.self.now.store.now) c.args.self.now.books.now c.args.self.now.progress.now c.args.self.now.stopped)
-    (holding (g.S.SegStore.meaning c.hold.new.self.store.now) (g.S.SegStore.reserved c.hold.new.self.store.now) c.hold.new.self.books.now c.hold.new.self.progress.now c.hold.new.self.stopped)
-    (holding (g.S.SegStore.meaning c.refuse.new.self.store.now) (g.S.SegStore.reserved c.refuse.new.self.store.now) c.refuse.new.self.books.now c.refuse.new.self.progress.now c.refuse.new.self.stopped)
-    c.in-Err-change_held.fault c.refuse.result c.in-Ok.ensures.ok (ap g.S.SegStore.meaning c.refuse.ensures.store ∙ c.in-Err-change_held.ensures.err)
+    (holding (g.S.SegStore.meaning c.args.self.now.store.now) (g.S.SegStore.reserved c.args.self.now.store.now)
+    c.args.self.now.books.now c.args.self.now.progress.now c.args.self.now.stopped)
+    (holding (g.S.SegStore.meaning c.hold.new.self.store.now) (g.S.SegStore.reserved c.hold.new.self.store.now)
+    c.hold.new.self.books.now c.hold.new.self.progress.now c.hold.new.self.stopped)
+    (holding (g.S.SegStore.meaning c.refuse.new.self.store.now) (g.S.SegStore.reserved c.refuse.new.self.store.now)
+    c.refuse.new.self.books.now c.refuse.new.self.progress.now c.refuse.new.self.stopped)
+    c.in-Err-change_held.fault c.refuse.result c.in-Ok.ensures.ok (ap g.S.SegStore.meaning c.refuse.ensures.store ∙
+    c.in-Err-change_held.ensures.err)
     (subst (λ n. g.S.SegStore.reserved c.hold.new.self.store.now ≤ n) same c.change_held.ensures.reserved)
-    (c.refuse.ensures.books ∙ c.change_held.ensures.books) (c.refuse.ensures.progress ∙ c.change_held.ensures.progress) c.refuse.ensures.same c.refuse.ensures.stopped
-    (subst (λ k. FaultWhy (ChangeWants c.args.change (sees m k) c.args.a.0) (g.S.SegStore.reserved c.refuse.new.self.store.now) m.limit c.in-Err-change_held.fault) c.in-Ok.ensures.stays.0
-    (subst (λ n. FaultWhy (ChangeWants c.args.change (sees m c.hold.new.self.segment) c.args.a.0) n m.limit c.in-Err-change_held.fault) same c.in-Err-change_held.ensures.cause))
+    (c.refuse.ensures.books ∙ c.change_held.ensures.books) (c.refuse.ensures.progress ∙ c.change_held.ensures.progress)
+    c.refuse.ensures.same c.refuse.ensures.stopped
+    (subst (λ k. FaultWhy (ChangeWants c.args.change (sees m k) c.args.a.0)
+    (g.S.SegStore.reserved c.refuse.new.self.store.now) m.limit c.in-Err-change_held.fault) c.in-Ok.ensures.stays.0
+    (subst (λ n. FaultWhy (ChangeWants c.args.change (sees m c.hold.new.self.segment) c.args.a.0) n m.limit
+    c.in-Err-change_held.fault) same c.in-Err-change_held.ensures.cause))

@@ -5,5 +5,7 @@ use Rattle.stm_core.proofs.segment.SegView.fail.Goals as goal
 pub returns-clause-refuses : goal.returns-clause-refuses
 returns-clause-refuses g c = λ q why.
     let v = c.args.self.now in
-    refused_alone v.segment v.side q (g.S.SegStore.meaning v.store.now) (g.S.SegStore.meaning v.store.now) (g.S.SegStore.reserved v.store.now) (g.S.SegStore.reserved v.store.now) v.books.now v.books.now v.progress.now v.progress.now v.stopped (Some c.args.stop) c.args.stop
+    refused_alone v.segment v.side q (g.S.SegStore.meaning v.store.now) (g.S.SegStore.meaning v.store.now)
+    (g.S.SegStore.reserved v.store.now) (g.S.SegStore.reserved v.store.now) v.books.now v.books.now v.progress.now
+    v.progress.now v.stopped (Some c.args.stop) c.args.stop
     refl (omega arith) refl refl refl why

@@ -6,9 +6,11 @@ use Rattle.stm_core.proofs.segment.SegView.is_seen.Goals as goal
 pub returns-then-is_tracked_kind : goal.returns-then-is_tracked_kind
 returns-then-is_tracked_kind g c =
     let m = g.S.SegStore.meaning c.args.self.now.store.now in
-    c.has_looked.ensures ∙ sym (noted_tracked (sees m c.args.self.now.segment) c.args.a.0 ((m.part c.args.self.now.segment).looked c.args.a.0) c.requires.there (cc))
+    c.has_looked.ensures ∙ sym (noted_tracked (sees m c.args.self.now.segment) c.args.a.0
+    ((m.part c.args.self.now.segment).looked c.args.a.0) c.requires.there (cc))
 
 pub returns-else-is_tracked_kind : goal.returns-else-is_tracked_kind
 returns-else-is_tracked_kind g c =
     let m = g.S.SegStore.meaning c.args.self.now.store.now in
-    sym (noted_fixed (sees m c.args.self.now.segment) c.args.a.0 ((m.part c.args.self.now.segment).looked c.args.a.0) c.requires.there (cc))
+    sym (noted_fixed (sees m c.args.self.now.segment) c.args.a.0 ((m.part c.args.self.now.segment).looked c.args.a.0)
+    c.requires.there (cc))

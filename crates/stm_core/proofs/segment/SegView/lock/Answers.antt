@@ -5,17 +5,28 @@ use Rattle.stm_core.proofs.segment.SegView.lock.Goals as goal
 
 pub invariant_of-self : goal.invariant_of-self
 invariant_of-self g c = record {
-  fits = fit_lock_result c.lock.result (g.S.SegStore.reserved c.args.self.now.store.now) c.args.self.now.segment c.args.a.0 (g.S.SegStore.meaning c.args.self.now.store.now) (g.S.SegStore.meaning c.lock.new.self)
-      c.args.self.now.books.now c.args.self.now.progress.now c.known.ensures.store c.requires.there c.requires.tracked c.args.self.now.fits c.lock.ensures.ok c.lock.ensures.err;
+  fits = fit_lock_result c.lock.result (g.S.SegStore.reserved c.args.self.now.store.now) c.args.self.now.segment
+      c.args.a.0 (g.S.SegStore.meaning c.args.self.now.store.now) (g.S.SegStore.meaning c.lock.new.self)
+      c.args.self.now.books.now c.args.self.now.progress.now c.known.ensures.store c.requires.there c.requires.tracked
+      c.args.self.now.fits c.lock.ensures.ok c.lock.ensures.err;
 }
 
 pub returns-in-Ok-clause-ok : goal.returns-in-Ok-clause-ok
 returns-in-Ok-clause-ok g c =
-    holds_locked c.args.self.now.side c.args.a.0 c.args.self.now.segment (g.S.SegStore.meaning c.args.self.now.store.now) (g.S.SegStore.meaning c.lock.new.self) (g.S.SegStore.reserved c.args.self.now.store.now) (g.S.SegStore.reserved c.lock.new.self)
-    c.args.self.now.books.now c.args.self.now.books.now c.args.self.now.progress.now c.args.self.now.progress.now c.args.self.now.stopped c.args.self.now.stopped c.args.self.now.fits.out c.known.ensures.store c.requires.there c.in-Ok.ensures.ok c.lock.ensures.reserved refl refl refl
+    holds_locked c.args.self.now.side c.args.a.0 c.args.self.now.segment
+    (g.S.SegStore.meaning c.args.self.now.store.now) (g.S.SegStore.meaning c.lock.new.self)
+    (g.S.SegStore.reserved c.args.self.now.store.now) (g.S.SegStore.reserved c.lock.new.self)
+    c.args.self.now.books.now c.args.self.now.books.now c.args.self.now.progress.now c.args.self.now.progress.now
+    c.args.self.now.stopped c.args.self.now.stopped c.args.self.now.fits.out c.known.ensures.store c.requires.there
+    c.in-Ok.ensures.ok c.lock.ensures.reserved refl refl refl
 
 pub returns-in-Err-clause-err : goal.returns-in-Err-clause-err
 returns-in-Err-clause-err g c =
-    fails_memory c.args.self.now.segment c.args.self.now.side c.args.a.0 (g.S.SegStore.meaning c.args.self.now.store.now) (g.S.SegStore.meaning c.fail.new.self.store.now) (g.S.SegStore.reserved c.args.self.now.store.now) (g.S.SegStore.reserved c.fail.new.self.store.now)
-    c.args.self.now.books.now c.fail.new.self.books.now c.args.self.now.progress.now c.fail.new.self.progress.now c.args.self.now.stopped c.fail.new.self.stopped c.fail.result c.fail.ensures.same c.fail.ensures.stopped
-    (ap g.S.SegStore.meaning c.fail.ensures.store ∙ c.in-Err.ensures.err) (ap g.S.SegStore.reserved c.fail.ensures.store ∙ c.lock.ensures.reserved) c.fail.ensures.books c.fail.ensures.progress
+    fails_memory c.args.self.now.segment c.args.self.now.side c.args.a.0
+    (g.S.SegStore.meaning c.args.self.now.store.now) (g.S.SegStore.meaning c.fail.new.self.store.now)
+    (g.S.SegStore.reserved c.args.self.now.store.now) (g.S.SegStore.reserved c.fail.new.self.store.now)
+    c.args.self.now.books.now c.fail.new.self.books.now c.args.self.now.progress.now c.fail.new.self.progress.now
+    c.args.self.now.stopped c.fail.new.self.stopped c.fail.result c.fail.ensures.same c.fail.ensures.stopped
+    (ap g.S.SegStore.meaning c.fail.ensures.store ∙ c.in-Err.ensures.err)
+    (ap g.S.SegStore.reserved c.fail.ensures.store ∙ c.lock.ensures.reserved) c.fail.ensures.books
+    c.fail.ensures.progress

@@ -4,14 +4,20 @@ use Rattle.stm_core.proofs.segment.SegView.look_held.Goals as goal
 
 pub returns-clause-ok : goal.returns-clause-ok
 returns-clause-ok g c =
-    on_ok_two c.look.result (λ h e. holds_looked c.args.self.now.side c.args.a.0 c.args.self.now.segment (g.S.SegStore.meaning c.args.self.now.store.now) (g.S.SegStore.meaning c.look.new.self.store.now)
-    (g.S.SegStore.reserved c.args.self.now.store.now) (g.S.SegStore.reserved c.look.new.self.store.now) c.args.self.now.books.now c.look.new.self.books.now c.args.self.now.progress.now c.look.new.self.progress.now
-    c.args.self.now.stopped c.look.new.self.stopped c.args.self.now.fits.out c.requires.there c.requires.tracked c.requires.held h c.look.ensures.reserved c.look.ensures.books c.look.ensures.progress e)
+    on_ok_two c.look.result (λ h e. holds_looked c.args.self.now.side c.args.a.0 c.args.self.now.segment
+    (g.S.SegStore.meaning c.args.self.now.store.now) (g.S.SegStore.meaning c.look.new.self.store.now)
+    (g.S.SegStore.reserved c.args.self.now.store.now) (g.S.SegStore.reserved c.look.new.self.store.now)
+    c.args.self.now.books.now c.look.new.self.books.now c.args.self.now.progress.now c.look.new.self.progress.now
+    c.args.self.now.stopped c.look.new.self.stopped c.args.self.now.fits.out c.requires.there c.requires.tracked
+    c.requires.held h c.look.ensures.reserved c.look.ensures.books c.look.ensures.progress e)
     c.look.ensures.done c.look.ensures.stopped
 
 pub returns-clause-err : goal.returns-clause-err
 returns-clause-err g c =
-    IfErr-weaker c.look.result _ _ (λ e h. fails_memory c.args.self.now.segment c.args.self.now.side c.args.a.0 (g.S.SegStore.meaning c.args.self.now.store.now) (g.S.SegStore.meaning c.look.new.self.store.now)
-    (g.S.SegStore.reserved c.args.self.now.store.now) (g.S.SegStore.reserved c.look.new.self.store.now) c.args.self.now.books.now c.look.new.self.books.now c.args.self.now.progress.now c.look.new.self.progress.now
-    c.args.self.now.stopped c.look.new.self.stopped e h.0 h.1 h.2 c.look.ensures.reserved c.look.ensures.books c.look.ensures.progress)
+    IfErr-weaker c.look.result _ _ (λ e h. fails_memory c.args.self.now.segment c.args.self.now.side c.args.a.0
+    (g.S.SegStore.meaning c.args.self.now.store.now) (g.S.SegStore.meaning c.look.new.self.store.now)
+    (g.S.SegStore.reserved c.args.self.now.store.now) (g.S.SegStore.reserved c.look.new.self.store.now)
+    c.args.self.now.books.now c.look.new.self.books.now c.args.self.now.progress.now c.look.new.self.progress.now
+    c.args.self.now.stopped c.look.new.self.stopped e h.0 h.1 h.2 c.look.ensures.reserved c.look.ensures.books
+    c.look.ensures.progress)
     c.look.ensures.err

@@ -6,20 +6,36 @@ use Rattle.stm_core.proofs.segment.SegView.meet.Goals as goal
 
 pub returns-then-not-wins-clause-err : goal.returns-then-not-wins-clause-err
 returns-then-not-wins-clause-err g c =
-    fails_lost c.args.self.now.segment c.args.self.now.side c.args.a.0 c.args.j _ (g.S.SegStore.meaning c.args.self.now.store.now) (g.S.SegStore.meaning c.fail.new.self.store.now)
-    (g.S.SegStore.reserved c.args.self.now.store.now) (g.S.SegStore.reserved c.fail.new.self.store.now) c.args.self.now.books.now c.fail.new.self.books.now c.args.self.now.progress.now c.fail.new.self.progress.now
-    c.args.self.now.stopped c.fail.new.self.stopped c.fail.result c.fail.ensures.same c.requires.other c.requires.runs refl c.side-writer.ensures refl refl refl (cc)
-    (meets_lock (g.S.SegStore.reserved c.args.self.now.store.now) (g.S.SegStore.meaning c.args.self.now.store.now) c.args.j c.args.self.now.segment c.args.a.0 c.known.ensures.store c.requires.other c.requires.there c.requires.held)
-    (ap g.S.SegStore.meaning c.fail.ensures.store) (ap g.S.SegStore.reserved c.fail.ensures.store) c.fail.ensures.books c.fail.ensures.progress (c.fail.ensures.stopped ∙ ap Some (sym c.fail.ensures.same))
+    fails_lost c.args.self.now.segment c.args.self.now.side c.args.a.0 c.args.j _
+    (g.S.SegStore.meaning c.args.self.now.store.now) (g.S.SegStore.meaning c.fail.new.self.store.now)
+    (g.S.SegStore.reserved c.args.self.now.store.now) (g.S.SegStore.reserved c.fail.new.self.store.now)
+    c.args.self.now.books.now c.fail.new.self.books.now c.args.self.now.progress.now c.fail.new.self.progress.now
+    c.args.self.now.stopped c.fail.new.self.stopped c.fail.result c.fail.ensures.same c.requires.other c.requires.runs
+    refl c.side-writer.ensures refl refl refl (cc)
+    (meets_lock (g.S.SegStore.reserved c.args.self.now.store.now) (g.S.SegStore.meaning c.args.self.now.store.now)
+    c.args.j c.args.self.now.segment c.args.a.0 c.known.ensures.store c.requires.other c.requires.there
+    c.requires.held)
+    (ap g.S.SegStore.meaning c.fail.ensures.store) (ap g.S.SegStore.reserved c.fail.ensures.store) c.fail.ensures.books
+    c.fail.ensures.progress (c.fail.ensures.stopped ∙ ap Some (sym c.fail.ensures.same))
 
 pub returns-clause-ok : goal.returns-clause-ok
 returns-clause-ok g c =
-    on_ok_weaker c.lock.result (holds_then c.args.self.now.segment c.args.self.now.side c.args.j _ (g.S.SegStore.meaning c.args.self.now.store.now) (g.S.SegStore.reserved c.args.self.now.store.now) c.args.self.now.books.now c.args.self.now.progress.now c.args.self.now.stopped
-    c.doom.new.self.segment c.doom.new.self.side (g.S.SegStore.meaning c.doom.new.self.store.now) (g.S.SegStore.reserved c.doom.new.self.store.now) c.doom.new.self.books.now c.doom.new.self.progress.now c.doom.new.self.stopped
+    on_ok_weaker c.lock.result (holds_then c.args.self.now.segment c.args.self.now.side c.args.j _
+    (g.S.SegStore.meaning c.args.self.now.store.now) (g.S.SegStore.reserved c.args.self.now.store.now)
+    c.args.self.now.books.now c.args.self.now.progress.now c.args.self.now.stopped
+    c.doom.new.self.segment c.doom.new.self.side (g.S.SegStore.meaning c.doom.new.self.store.now)
+    (g.S.SegStore.reserved c.doom.new.self.store.now) c.doom.new.self.books.now c.doom.new.self.progress.now
+    c.doom.new.self.stopped
     (record {
-      dooms = dooms_hand c.args.self.now.segment c.args.self.now.side c.args.j _ (g.S.SegStore.meaning c.args.self.now.store.now) c.args.self.now.books.now c.doom.new.self.books.now c.requires.other
-          (dooms_one c.args.self.now.segment c.args.self.now.side c.args.j _ (g.S.SegStore.meaning c.args.self.now.store.now) c.args.self.now.books.now c.doom.new.self.books.now c.requires.other c.requires.runs c.side-writer.ensures refl refl refl (cc)
-          (meets_lock (g.S.SegStore.reserved c.args.self.now.store.now) (g.S.SegStore.meaning c.args.self.now.store.now) c.args.j c.args.self.now.segment c.args.a.0 c.known.ensures.store c.requires.other c.requires.there c.requires.held)
+      dooms = dooms_hand c.args.self.now.segment c.args.self.now.side c.args.j _
+          (g.S.SegStore.meaning c.args.self.now.store.now) c.args.self.now.books.now c.doom.new.self.books.now
+          c.requires.other
+          (dooms_one c.args.self.now.segment c.args.self.now.side c.args.j _
+          (g.S.SegStore.meaning c.args.self.now.store.now) c.args.self.now.books.now c.doom.new.self.books.now
+          c.requires.other c.requires.runs c.side-writer.ensures refl refl refl (cc)
+          (meets_lock (g.S.SegStore.reserved c.args.self.now.store.now)
+          (g.S.SegStore.meaning c.args.self.now.store.now) c.args.j c.args.self.now.segment c.args.a.0
+          c.known.ensures.store c.requires.other c.requires.there c.requires.held)
           c.doom.ensures.books c.doom.ensures.hands c.doom.ensures.conflicts)
           c.doom.ensures.books c.doom.ensures.hands;
       segment = c.doom.ensures.stays.0;
@@ -28,16 +44,28 @@ returns-clause-ok g c =
       reserved = c.doom.ensures.reserved;
       progress = c.doom.ensures.progress;
       stopped = c.doom.ensures.stopped;
-    }) c.args.a.0 refl (holding (g.S.SegStore.meaning c.lock.new.self.store.now) (g.S.SegStore.reserved c.lock.new.self.store.now) c.lock.new.self.books.now c.lock.new.self.progress.now c.lock.new.self.stopped)) c.lock.ensures.ok
+    }) c.args.a.0 refl (holding (g.S.SegStore.meaning c.lock.new.self.store.now)
+    (g.S.SegStore.reserved c.lock.new.self.store.now) c.lock.new.self.books.now c.lock.new.self.progress.now
+    c.lock.new.self.stopped)) c.lock.ensures.ok
 
 pub returns-clause-err : goal.returns-clause-err
 returns-clause-err g c =
-    IfErr-weaker c.lock.result _ _ (fails_then c.args.self.now.segment c.args.self.now.side c.args.j _ (g.S.SegStore.meaning c.args.self.now.store.now) (g.S.SegStore.reserved c.args.self.now.store.now) c.args.self.now.books.now c.args.self.now.progress.now c.args.self.now.stopped
-    c.doom.new.self.segment c.doom.new.self.side (g.S.SegStore.meaning c.doom.new.self.store.now) (g.S.SegStore.reserved c.doom.new.self.store.now) c.doom.new.self.books.now c.doom.new.self.progress.now c.doom.new.self.stopped
+    IfErr-weaker c.lock.result _ _ (fails_then c.args.self.now.segment c.args.self.now.side c.args.j _
+    (g.S.SegStore.meaning c.args.self.now.store.now) (g.S.SegStore.reserved c.args.self.now.store.now)
+    c.args.self.now.books.now c.args.self.now.progress.now c.args.self.now.stopped
+    c.doom.new.self.segment c.doom.new.self.side (g.S.SegStore.meaning c.doom.new.self.store.now)
+    (g.S.SegStore.reserved c.doom.new.self.store.now) c.doom.new.self.books.now c.doom.new.self.progress.now
+    c.doom.new.self.stopped
     (record {
-      dooms = dooms_hand c.args.self.now.segment c.args.self.now.side c.args.j _ (g.S.SegStore.meaning c.args.self.now.store.now) c.args.self.now.books.now c.doom.new.self.books.now c.requires.other
-          (dooms_one c.args.self.now.segment c.args.self.now.side c.args.j _ (g.S.SegStore.meaning c.args.self.now.store.now) c.args.self.now.books.now c.doom.new.self.books.now c.requires.other c.requires.runs c.side-writer.ensures refl refl refl (cc)
-          (meets_lock (g.S.SegStore.reserved c.args.self.now.store.now) (g.S.SegStore.meaning c.args.self.now.store.now) c.args.j c.args.self.now.segment c.args.a.0 c.known.ensures.store c.requires.other c.requires.there c.requires.held)
+      dooms = dooms_hand c.args.self.now.segment c.args.self.now.side c.args.j _
+          (g.S.SegStore.meaning c.args.self.now.store.now) c.args.self.now.books.now c.doom.new.self.books.now
+          c.requires.other
+          (dooms_one c.args.self.now.segment c.args.self.now.side c.args.j _
+          (g.S.SegStore.meaning c.args.self.now.store.now) c.args.self.now.books.now c.doom.new.self.books.now
+          c.requires.other c.requires.runs c.side-writer.ensures refl refl refl (cc)
+          (meets_lock (g.S.SegStore.reserved c.args.self.now.store.now)
+          (g.S.SegStore.meaning c.args.self.now.store.now) c.args.j c.args.self.now.segment c.args.a.0
+          c.known.ensures.store c.requires.other c.requires.there c.requires.held)
           c.doom.ensures.books c.doom.ensures.hands c.doom.ensures.conflicts)
           c.doom.ensures.books c.doom.ensures.hands;
       segment = c.doom.ensures.stays.0;
@@ -46,4 +74,6 @@ returns-clause-err g c =
       reserved = c.doom.ensures.reserved;
       progress = c.doom.ensures.progress;
       stopped = c.doom.ensures.stopped;
-    }) c.args.a.0 refl (holding (g.S.SegStore.meaning c.lock.new.self.store.now) (g.S.SegStore.reserved c.lock.new.self.store.now) c.lock.new.self.books.now c.lock.new.self.progress.now c.lock.new.self.stopped)) c.lock.ensures.err
+    }) c.args.a.0 refl (holding (g.S.SegStore.meaning c.lock.new.self.store.now)
+    (g.S.SegStore.reserved c.lock.new.self.store.now) c.lock.new.self.books.now c.lock.new.self.progress.now
+    c.lock.new.self.stopped)) c.lock.ensures.err

@@ -16,30 +16,42 @@ use Rattle.stm_core.proofs.transactions.Core.advance.Goals as goal
 
 pub take-requires : goal.take-requires
 take-requires g c =
-    let lt = (going_now c.requires.good.sane (core_limits g.S.SegStore.meaning c.args.self.now) c.args.k refl c.args.most c.requires.may).segment in
+    let lt = (going_now c.requires.good.sane (core_limits g.S.SegStore.meaning c.args.self.now) c.args.k refl
+    c.args.most c.requires.may).segment in
     let n = c.requires.good.whole.hands in
     omega (arith, lt, n)
 
 pub unreachable-requires : goal.unreachable-requires
-unreachable-requires g c = ((going_now c.requires.good.sane (core_limits g.S.SegStore.meaning c.args.self.now) c.args.k refl c.args.most c.requires.may).busy c.in-Idle.ensures.hand)
+unreachable-requires g c = ((going_now c.requires.good.sane (core_limits g.S.SegStore.meaning c.args.self.now) c.args.k
+    refl c.args.most c.requires.may).busy c.in-Idle.ensures.hand)
 
 pub advance_out-result-requires-clause-short : goal.advance_out-result-requires-clause-short
-advance_out-result-requires-clause-short g c = (going_now c.requires.good.sane (core_limits g.S.SegStore.meaning c.args.self.now) c.args.k refl c.args.most c.requires.may).short c.in-Runs.work c.in-Runs.ensures.hand
+advance_out-result-requires-clause-short g c =
+    (going_now c.requires.good.sane (core_limits g.S.SegStore.meaning c.args.self.now) c.args.k refl c.args.most
+    c.requires.may).short c.in-Runs.work c.in-Runs.ensures.hand
 
 pub advance_out-result-requires-clause-fit : goal.advance_out-result-requires-clause-fit
 advance_out-result-requires-clause-fit g c =
-    taken c.args.k (g.S.SegStore.meaning c.args.self.now.store) c.args.self.now.books c.take.new.self c.in-Runs.work c.requires.good.whole c.in-Runs.ensures.hand (record { rest = c.take.ensures.rest; hands = c.take.ensures.hands })
+    taken c.args.k (g.S.SegStore.meaning c.args.self.now.store) c.args.self.now.books c.take.new.self c.in-Runs.work
+    c.requires.good.whole c.in-Runs.ensures.hand
+    (record { rest = c.take.ensures.rest; hands = c.take.ensures.hands })
 
 pub advance_out-result-requires-clause-idle : goal.advance_out-result-requires-clause-idle
 advance_out-result-requires-clause-idle g c =
-    set_here c.args.k (g.S.SegStore.meaning c.args.self.now.store) c.args.self.now.books c.take.new.self Idle (record { rest = c.take.ensures.rest; hands = c.take.ensures.hands }) (slice_get_within c.args.self.now.books.hands.items c.args.k (Runs c.in-Runs.work) c.in-Runs.ensures.hand)
+    set_here c.args.k (g.S.SegStore.meaning c.args.self.now.store) c.args.self.now.books c.take.new.self Idle
+    (record { rest = c.take.ensures.rest; hands = c.take.ensures.hands })
+    (slice_get_within c.args.self.now.books.hands.items c.args.k (Runs c.in-Runs.work) c.in-Runs.ensures.hand)
 
 pub advance_out-result-requires-clause-count : goal.advance_out-result-requires-clause-count
-advance_out-result-requires-clause-count g c = subst (λ (z : Books g.row.C-State.Denot). CountsSteps c.args.self.now.spent z.history.entries) (sym c.take.ensures.rest) c.requires.good.count
+advance_out-result-requires-clause-count g c =
+    subst (λ (z : Books g.row.C-State.Denot). CountsSteps c.args.self.now.spent z.history.entries)
+    (sym c.take.ensures.rest) c.requires.good.count
 
 pub advance_out-result-requires-clause-sane : goal.advance_out-result-requires-clause-sane
 advance_out-result-requires-clause-sane g c =
-    sane_out (g.C.Client.prog c.args.self.now.client.now) c.args.self.now.length c.args.k _ _ (g.S.SegStore.meaning c.args.self.now.store) c.args.self.now.books c.take.new.self c.in-Runs.work c.in-Runs.ensures.hand (record { rest = c.take.ensures.rest; hands = c.take.ensures.hands })
+    sane_out (g.C.Client.prog c.args.self.now.client.now) c.args.self.now.length c.args.k _ _
+    (g.S.SegStore.meaning c.args.self.now.store) c.args.self.now.books c.take.new.self c.in-Runs.work
+    c.in-Runs.ensures.hand (record { rest = c.take.ensures.rest; hands = c.take.ensures.hands })
     (g.C.Client.sound c.args.self.now.client.now) c.requires.good.sane
 
 pub returns-in-Doomed : goal.returns-in-Doomed
@@ -49,20 +61,30 @@ returns-in-Doomed g c =
     let m = g.S.SegStore.meaning x.store in
     let y = record x { books = c.take.new.self } in
     let cause : y.books.cause ≡ x.books.cause = ap (λ (z : Books g.row.C-State.Denot). z.cause) c.take.ensures.rest in
-    let q : Quiet g.I.Source.state g.O.Sink.state g.E.Sink.state g.C.Client.prog g.C.Client.sound g.S.SegStore.reserved g.S.SegStore.meaning x y (λ o o1. Advanced p x.length c.args.k m.segments c.args.most (g.S.SegStore.reserved x.store) m.limit o (Err (Lost c.in-Doomed.f)) o1) = record {
+    let q : Quiet g.I.Source.state g.O.Sink.state g.E.Sink.state g.C.Client.prog g.C.Client.sound g.S.SegStore.reserved
+    g.S.SegStore.meaning x y (λ o o1.
+    Advanced p x.length c.args.k m.segments c.args.most (g.S.SegStore.reserved x.store) m.limit o
+    (Err (Lost c.in-Doomed.f)) o1) = record {
       rest = refl;
       shape = (refl, refl);
       store = c.known.ensures.store;
-      whole = emptied c.args.k m x.books c.take.new.self (Doomed c.in-Doomed.f) refl refl refl c.requires.good.whole c.in-Doomed.ensures.hand (record { rest = c.take.ensures.rest; hands = c.take.ensures.hands });
-      count = subst (λ (z : Books g.row.C-State.Denot). CountsSteps x.spent z.history.entries) (sym c.take.ensures.rest) c.requires.good.count;
+      whole = emptied c.args.k m x.books c.take.new.self (Doomed c.in-Doomed.f) refl refl refl c.requires.good.whole
+          c.in-Doomed.ensures.hand (record { rest = c.take.ensures.rest; hands = c.take.ensures.hands });
+      count = subst (λ (z : Books g.row.C-State.Denot). CountsSteps x.spent z.history.entries)
+          (sym c.take.ensures.rest) c.requires.good.count;
       kept = full_same _ _ _ _ x.books.cause y.books.cause (le_same _ _ refl) refl cause c.requires.good.kept;
       rose = rose_same x.books.cause y.books.cause _ _ cause c.requires.good.sane.rose;
-      led = doomed_led p x.length c.args.k _ _ m x.books c.take.new.self c.in-Doomed.f c.in-Doomed.ensures.hand (record { rest = c.take.ensures.rest; hands = c.take.ensures.hands }) c.args.most _ _ c.requires.good.whole.hands;
+      led = doomed_led p x.length c.args.k _ _ m x.books c.take.new.self c.in-Doomed.f c.in-Doomed.ensures.hand
+          (record { rest = c.take.ensures.rest; hands = c.take.ensures.hands }) c.args.most _ _
+          c.requires.good.whole.hands;
     } in
     record {
-      good = quiet_good g.I.Source.state g.O.Sink.state g.E.Sink.state g.C.Client.prog g.C.Client.sound g.S.SegStore.reserved g.S.SegStore.meaning x y _ q c.requires.good;
-      job = quiet_job g.I.Source.state g.O.Sink.state g.E.Sink.state g.C.Client.prog g.C.Client.sound g.S.SegStore.reserved g.S.SegStore.meaning x y _ q c.requires.good;
-      advanced = quiet_leads g.I.Source.state g.O.Sink.state g.E.Sink.state g.C.Client.prog g.C.Client.sound g.S.SegStore.reserved g.S.SegStore.meaning x y _ q c.requires.good;
+      good = quiet_good g.I.Source.state g.O.Sink.state g.E.Sink.state g.C.Client.prog g.C.Client.sound
+          g.S.SegStore.reserved g.S.SegStore.meaning x y _ q c.requires.good;
+      job = quiet_job g.I.Source.state g.O.Sink.state g.E.Sink.state g.C.Client.prog g.C.Client.sound
+          g.S.SegStore.reserved g.S.SegStore.meaning x y _ q c.requires.good;
+      advanced = quiet_leads g.I.Source.state g.O.Sink.state g.E.Sink.state g.C.Client.prog g.C.Client.sound
+          g.S.SegStore.reserved g.S.SegStore.meaning x y _ q c.requires.good;
     }
 
 pub returns-in-Runs : goal.returns-in-Runs
@@ -80,21 +102,34 @@ returns-in-Runs g c =
     let e = c.advance_out-result.ensures in
     let result = c.advance_out-result.result in
     let h = c.requires.good in
-    let led : LeadsBetween (StandsFor p x.length first d m x.books) (StandsFor p x.length first d1 m1 y.books) (λ o o1. Advanced p x.length c.args.k m.segments c.args.most r1 m.limit o result o1) =
-    subst (λ l. LeadsBetween (StandsFor p x.length first d m x.books) (StandsFor p x.length first d1 m1 y.books) (λ o o1. Advanced p x.length c.args.k m.segments c.args.most r1 l o result o1)) e.shape.1
-    (running_led p x.length c.args.k first d m x.books c.take.new.self c.in-Runs.work c.in-Runs.ensures.hand (record { rest = c.take.ensures.rest; hands = c.take.ensures.hands }) c.args.most r1 m1.limit d1 m1 y.books result h.whole.hands e.advanced) in
-    let rises : Rises x.books.cause y.books.cause d d1 = subst (λ (z : Books g.row.C-State.Denot). Rises z.cause y.books.cause d d1) c.take.ensures.rest e.rises in
-    let kept : Kept g.I.Source.state g.O.Sink.state g.E.Sink.state g.C.Client.prog g.C.Client.sound g.S.SegStore.reserved g.S.SegStore.meaning x y = record {
+    let led : LeadsBetween (StandsFor p x.length first d m x.books) (StandsFor p x.length first d1 m1 y.books)
+    (λ o o1. Advanced p x.length c.args.k m.segments c.args.most r1 m.limit o result o1) =
+    subst (λ l. LeadsBetween (StandsFor p x.length first d m x.books) (StandsFor p x.length first d1 m1 y.books)
+    (λ o o1. Advanced p x.length c.args.k m.segments c.args.most r1 l o result o1)) e.shape.1
+    (running_led p x.length c.args.k first d m x.books c.take.new.self c.in-Runs.work c.in-Runs.ensures.hand
+    (record { rest = c.take.ensures.rest; hands = c.take.ensures.hands }) c.args.most r1 m1.limit d1 m1 y.books
+    result h.whole.hands e.advanced) in
+    let rises : Rises x.books.cause y.books.cause d d1 =
+    subst (λ (z : Books g.row.C-State.Denot). Rises z.cause y.books.cause d d1) c.take.ensures.rest e.rises in
+    let kept : Kept g.I.Source.state g.O.Sink.state g.E.Sink.state g.C.Client.prog g.C.Client.sound
+    g.S.SegStore.reserved g.S.SegStore.meaning x y = record {
       rest = e.rest;
       shape = e.shape;
       store = c.known-in-Runs.ensures.store;
       whole = e.whole;
       count = e.count;
-      kept = subst (λ l. IsFullKept r1 l y.books.cause) (sym e.shape.1) (full_led p s x.length c.args.k m.segments c.args.most _ r1 m.limit m.limit first d d1 m m1 x.books y.books result e.reserved refl h.sane h.kept led);
-      sane = sane_led p s x.length first d d1 m m1 x.books y.books _ h.sane led (counts_on first d d1 h.sane.counts rises.counts) (rose_on x.books.cause y.books.cause first d d1 h.sane.counts h.sane.rose rises);
+      kept = subst (λ l. IsFullKept r1 l y.books.cause) (sym e.shape.1)
+          (full_led p s x.length c.args.k m.segments c.args.most _ r1 m.limit m.limit first d d1 m m1 x.books y.books
+          result e.reserved refl h.sane h.kept led);
+      sane = sane_led p s x.length first d d1 m m1 x.books y.books _ h.sane led
+          (counts_on first d d1 h.sane.counts rises.counts)
+          (rose_on x.books.cause y.books.cause first d d1 h.sane.counts h.sane.rose rises);
     } in
     record {
-      good = good_again g.I.Source.state g.O.Sink.state g.E.Sink.state g.C.Client.prog g.C.Client.sound g.S.SegStore.reserved g.S.SegStore.meaning x y kept;
-      job = same_again g.I.Source.state g.O.Sink.state g.E.Sink.state g.C.Client.prog g.C.Client.sound g.S.SegStore.reserved g.S.SegStore.meaning x y kept;
-      advanced = leads_again g.I.Source.state g.O.Sink.state g.E.Sink.state g.C.Client.prog g.C.Client.sound g.S.SegStore.reserved g.S.SegStore.meaning x y _ kept led;
+      good = good_again g.I.Source.state g.O.Sink.state g.E.Sink.state g.C.Client.prog g.C.Client.sound
+          g.S.SegStore.reserved g.S.SegStore.meaning x y kept;
+      job = same_again g.I.Source.state g.O.Sink.state g.E.Sink.state g.C.Client.prog g.C.Client.sound
+          g.S.SegStore.reserved g.S.SegStore.meaning x y kept;
+      advanced = leads_again g.I.Source.state g.O.Sink.state g.E.Sink.state g.C.Client.prog g.C.Client.sound
+          g.S.SegStore.reserved g.S.SegStore.meaning x y _ kept led;
     }

@@ -7,7 +7,8 @@ use Rattle.stm_core.proofs.Calling.{blank}
 use Rattle.stm_core.proofs.transactions.Core.advance_out.Goals as goal
 
 pub returns-in-Lives-clause-advanced : goal.returns-in-Lives-clause-advanced
-returns-in-Lives-clause-advanced g c = λ t e w o at. let lives = sym c.in-Lives.ensures in settled_as t e _ _ _ _ _ (λ o1 h. ((λ n. absurd (n lives)), (λ l. h))) (c.take_steps.ensures.taken t e w o at)
+returns-in-Lives-clause-advanced g c = λ t e w o at. let lives = sym c.in-Lives.ensures in
+    settled_as t e _ _ _ _ _ (λ o1 h. ((λ n. absurd (n lives)), (λ l. h))) (c.take_steps.ensures.taken t e w o at)
 
 pub returns-in_default : goal.returns-in_default
 returns-in_default g c =
@@ -16,16 +17,27 @@ returns-in_default g c =
     let rest = c.put_back.ensures.rest in
     let d = device_state g.I.Source.state g.O.Sink.state g.E.Sink.state x.devices in
     let m1 = g.S.SegStore.meaning y.store in
-    let same : device_state g.I.Source.state g.O.Sink.state g.E.Sink.state y.devices ≡ d = λ i. device_state g.I.Source.state g.O.Sink.state g.E.Sink.state (rest i).devices in
-    let reserved : g.S.SegStore.reserved y.store ≡ g.S.SegStore.reserved x.store = λ i. g.S.SegStore.reserved (rest i).store in
-    let rises : Rises x.books.cause y.books.cause d d = record { counts = counts_same d; rose = inl (ap (λ k. k.cause) (c.put_back.ensures.core blank)) } in
+    let same : device_state g.I.Source.state g.O.Sink.state g.E.Sink.state y.devices ≡ d = λ i.
+    device_state g.I.Source.state g.O.Sink.state g.E.Sink.state (rest i).devices in
+    let reserved : g.S.SegStore.reserved y.store ≡ g.S.SegStore.reserved x.store = λ i.
+    g.S.SegStore.reserved (rest i).store in
+    let rises : Rises x.books.cause y.books.cause d d =
+    record { counts = counts_same d; rose = inl (ap (λ k. k.cause) (c.put_back.ensures.core blank)) } in
     record {
-      rest = rest ∙ (λ i. record x { store = (sym rest i).store; books = y.books; devices = (sym rest i).devices; spent = (sym rest i).spent });
+      rest = rest ∙ (λ i. record x {
+        store = (sym rest i).store;
+        books = y.books;
+        devices = (sym rest i).devices;
+        spent = (sym rest i).spent;
+      });
       shape = (λ i. (g.S.SegStore.meaning (rest i).store).segments, λ i. (g.S.SegStore.meaning (rest i).store).limit);
       reserved = omega (arith, reserved);
       whole = c.put_back.ensures.whole;
-      count = ap (λ s. s.spent) rest ∙ subst (λ l. CountsSteps x.spent l) (sym (ap (λ k. k.history) (c.put_back.ensures.core blank))) c.requires.count;
+      count = ap (λ s. s.spent) rest ∙ subst (λ l. CountsSteps x.spent l)
+          (sym (ap (λ k. k.history) (c.put_back.ensures.core blank))) c.requires.count;
       rises = subst (Rises x.books.cause y.books.cause d) (sym same) rises;
-      advanced = λ t e w o at. ended_out (g.C.Client.prog x.client.now) c.args.length c.args.k t e d w (g.S.SegStore.meaning x.store) x.books y.books c.args.work o at (λ h. c.in_default.not-Lives (c.life.ensures ∙ h)) (g.S.SegStore.meaning x.store).segments c.args.most
+      advanced = λ t e w o at. ended_out (g.C.Client.prog x.client.now) c.args.length c.args.k t e d w
+          (g.S.SegStore.meaning x.store) x.books y.books c.args.work o at
+          (λ h. c.in_default.not-Lives (c.life.ensures ∙ h)) (g.S.SegStore.meaning x.store).segments c.args.most
           (g.S.SegStore.reserved y.store) m1.limit _ m1 same (c.put_back.ensures.core w) c.put_back.ensures.broken;
     }

@@ -18,11 +18,16 @@ pub returns-clause-cause : goal.returns-clause-cause
 returns-clause-cause g c =
     let m = g.S.SegStore.meaning c.args.self.now.store in
     let z = c.commit_whole.ensures.core blank in
-    c.keep.ensures.cause ∙ ap (λ o. first_cause o c.args.cause) (ap (λ k. k.cause) z.1 ∙ whole_cause c.args.k m.segments (transaction blank.own (m.part c.args.k) c.args.work) (core_with blank c.args.k m c.args.self.now.books c.args.work) c.args.work.steps)
+    c.keep.ensures.cause ∙ ap (λ o. first_cause o c.args.cause)
+    (ap (λ k. k.cause) z.1 ∙ whole_cause c.args.k m.segments (transaction blank.own (m.part c.args.k) c.args.work)
+    (core_with blank c.args.k m c.args.self.now.books c.args.work) c.args.work.steps)
 
 pub returns-clause-core : goal.returns-clause-core
 returns-clause-core g c = λ w.
     let y = c.commit_whole.new.self in
     let m1 = g.S.SegStore.meaning y.store in
-    let z = c.commit_whole.ensures.core w in
-    (z.0, core_caused z.0 m1 _ c.keep.new.self c.args.cause c.keep.ensures.rest c.keep.ensures.cause ∙ ap (with_cause c.args.cause) z.1)
+    let z = c.commit_whole.ensures.core w in (
+      z.0,
+      core_caused z.0 m1 _ c.keep.new.self c.args.cause c.keep.ensures.rest c.keep.ensures.cause ∙
+          ap (with_cause c.args.cause) z.1,
+    )

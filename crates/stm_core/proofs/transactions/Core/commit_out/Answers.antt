@@ -12,23 +12,38 @@ use Rattle.stm_core.proofs.Calling.{blank}
 use Rattle.stm_core.proofs.transactions.Core.commit_out.Goals as goal
 
 pub returns-then-work-eq0-clause-ends : goal.returns-then-work-eq0-clause-ends
-returns-then-work-eq0-clause-ends g c = λ w. (w, (c.if-work-eq0.true, c.drop_out.ensures.core w ∙ left_idle w c.args.k (g.S.SegStore.meaning c.args.self.now.store) c.args.self.now.books c.args.work c.requires.idle))
+returns-then-work-eq0-clause-ends g c = λ w. (
+  w,
+  (
+    c.if-work-eq0.true,
+    c.drop_out.ensures.core w ∙
+        left_idle w c.args.k (g.S.SegStore.meaning c.args.self.now.store) c.args.self.now.books c.args.work
+        c.requires.idle,
+  ),
+)
 
 pub publish-requires-clause-thread : goal.publish-requires-clause-thread
 publish-requires-clause-thread g c =
     let m = g.S.SegStore.meaning c.args.self.now.store in
-    let e = ap (λ k. k.threads) (c.doom_readers.ensures.core blank) ∙ (dooms_keep c.args.k (transaction blank.own (m.part c.args.k) c.args.work) (range_with_len 0 m.segments) (core_with blank c.args.k m c.args.self.now.books c.args.work)).0 in
+    let e = ap (λ k. k.threads) (c.doom_readers.ensures.core blank) ∙
+    (dooms_keep c.args.k (transaction blank.own (m.part c.args.k) c.args.work) (range_with_len 0 m.segments)
+    (core_with blank c.args.k m c.args.self.now.books c.args.work)).0 in
     subst (λ l. c.args.work.thread < length l) (sym e) c.requires.thread
 
 pub publish-requires-clause-count : goal.publish-requires-clause-count
 publish-requires-clause-count g c =
     let m = g.S.SegStore.meaning c.args.self.now.store in
-    let e = ap (λ k. k.history) (c.doom_readers.ensures.core blank) ∙ (dooms_keep c.args.k (transaction blank.own (m.part c.args.k) c.args.work) (range_with_len 0 m.segments) (core_with blank c.args.k m c.args.self.now.books c.args.work)).1 in
-    ap (λ s. s.spent) c.doom_readers.ensures.rest ∙ subst (λ l. CountsSteps c.args.self.now.spent l) (sym e) c.requires.count
+    let e = ap (λ k. k.history) (c.doom_readers.ensures.core blank) ∙
+    (dooms_keep c.args.k (transaction blank.own (m.part c.args.k) c.args.work) (range_with_len 0 m.segments)
+    (core_with blank c.args.k m c.args.self.now.books c.args.work)).1 in
+    ap (λ s. s.spent) c.doom_readers.ensures.rest ∙ subst (λ l. CountsSteps c.args.self.now.spent l) (sym e)
+    c.requires.count
 
 pub returns-in-Some-clause-count : goal.returns-in-Some-clause-count
 returns-in-Some-clause-count g c =
-    ap (λ s. s.spent) c.lose_out.ensures.rest ∙ subst (λ l. CountsSteps c.args.self.now.spent l) (sym (ap (λ k. k.history) (c.lose_out.ensures.core blank))) c.requires.count
+    ap (λ s. s.spent) c.lose_out.ensures.rest ∙
+    subst (λ l. CountsSteps c.args.self.now.spent l) (sym (ap (λ k. k.history) (c.lose_out.ensures.core blank)))
+    c.requires.count
 
 pub returns-in-Some-clause-ends : goal.returns-in-Some-clause-ends
 returns-in-Some-clause-ends g c = λ w.
@@ -37,8 +52,12 @@ returns-in-Some-clause-ends g c = λ w.
       w,
       (
         omega (arith, n),
-        beaten_is w c.args.k m c.args.self.now.books c.args.work (g.C.Client.prog c.args.self.now.client.now) m.segments c.in-Some.f (subst (λ s. FirstBeats c.args.self.now.books.hands.items m c.args.k s m.segments (Some c.in-Some.f)) c.side-me.ensures c.in-Some.ensures),
-        c.lose_out.ensures.core w ∙ ap (with_conflict c.in-Some.f) (left_idle w c.args.k m c.args.self.now.books c.args.work c.requires.idle),
+        beaten_is w c.args.k m c.args.self.now.books c.args.work (g.C.Client.prog c.args.self.now.client.now)
+            m.segments c.in-Some.f (subst
+            (λ s. FirstBeats c.args.self.now.books.hands.items m c.args.k s m.segments (Some c.in-Some.f))
+            c.side-me.ensures c.in-Some.ensures),
+        c.lose_out.ensures.core w ∙ ap (with_conflict c.in-Some.f)
+            (left_idle w c.args.k m c.args.self.now.books c.args.work c.requires.idle),
       ),
     )
 
@@ -52,8 +71,14 @@ returns-in-None-clause-ends g c = λ w.
       worlds_after w c.args.work,
       (
         omega (arith, n),
-        none_wins w c.args.k m c.args.self.now.books c.args.work m.segments c.requires.fit.hands (subst (λ s. FirstBeats c.args.self.now.books.hands.items m c.args.k s m.segments None) c.side-me.ensures c.in-None.ensures) c.requires.numbers,
-        c.publish.ensures.place ∙ ap (λ k. length k.history) (c.doom_readers.ensures.core w) ∙ ap length (dooms_keep c.args.k tx (range_with_len 0 m.segments) u).1,
-        c.publish.ensures.core w ∙ ap (λ p. published c.args.k (transaction w.own p c.args.work) (core_with w c.args.k m1 c.doom_readers.new.self.books c.args.work)) c.doom_readers.ensures.part ∙ ap (published c.args.k tx) (c.doom_readers.ensures.core w),
+        none_wins w c.args.k m c.args.self.now.books c.args.work m.segments c.requires.fit.hands
+            (subst (λ s. FirstBeats c.args.self.now.books.hands.items m c.args.k s m.segments None) c.side-me.ensures
+            c.in-None.ensures) c.requires.numbers,
+        c.publish.ensures.place ∙ ap (λ k. length k.history) (c.doom_readers.ensures.core w) ∙
+            ap length (dooms_keep c.args.k tx (range_with_len 0 m.segments) u).1,
+        c.publish.ensures.core w ∙ ap (λ p.
+            published c.args.k (transaction w.own p c.args.work)
+            (core_with w c.args.k m1 c.doom_readers.new.self.books c.args.work)) c.doom_readers.ensures.part ∙
+            ap (published c.args.k tx) (c.doom_readers.ensures.core w),
       ),
     )

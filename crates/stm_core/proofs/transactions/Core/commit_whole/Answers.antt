@@ -12,21 +12,29 @@ use Rattle.stm_core.proofs.transactions.Core.commit_whole.Goals as goal
 pub publish-requires-clause-thread : goal.publish-requires-clause-thread
 publish-requires-clause-thread g c =
     let m = g.S.SegStore.meaning c.args.self.now.store in
-    let e = ap (λ k. k.threads) (c.doom_readers.ensures.core blank) ∙ (dooms_keep c.args.k (transaction blank.own (m.part c.args.k) c.args.work) (range_with_len 0 m.segments) (core_with blank c.args.k m c.args.self.now.books c.args.work)).0 in
+    let e = ap (λ k. k.threads) (c.doom_readers.ensures.core blank) ∙
+    (dooms_keep c.args.k (transaction blank.own (m.part c.args.k) c.args.work) (range_with_len 0 m.segments)
+    (core_with blank c.args.k m c.args.self.now.books c.args.work)).0 in
     subst (λ l. c.args.work.thread < length l) (sym e) c.requires.thread
 
 pub publish-requires-clause-count : goal.publish-requires-clause-count
 publish-requires-clause-count g c =
     let m = g.S.SegStore.meaning c.args.self.now.store in
-    let e = ap (λ k. k.history) (c.doom_readers.ensures.core blank) ∙ (dooms_keep c.args.k (transaction blank.own (m.part c.args.k) c.args.work) (range_with_len 0 m.segments) (core_with blank c.args.k m c.args.self.now.books c.args.work)).1 in
-    ap (λ s. s.spent) c.doom_readers.ensures.rest ∙ subst (λ l. CountsSteps c.args.self.now.spent l) (sym e) c.requires.count
+    let e = ap (λ k. k.history) (c.doom_readers.ensures.core blank) ∙
+    (dooms_keep c.args.k (transaction blank.own (m.part c.args.k) c.args.work) (range_with_len 0 m.segments)
+    (core_with blank c.args.k m c.args.self.now.books c.args.work)).1 in
+    ap (λ s. s.spent) c.doom_readers.ensures.rest ∙ subst (λ l. CountsSteps c.args.self.now.spent l) (sym e)
+    c.requires.count
 
 pub returns-then-work-eq0-clause-core : goal.returns-then-work-eq0-clause-core
 returns-then-work-eq0-clause-core g c = λ w.
     let m = g.S.SegStore.meaning c.args.self.now.store in
     let b = c.args.self.now.books in
-    let u = core_with w c.args.k m b c.args.work in
-    (w, whole_none c.args.k m.segments (transaction w.own (m.part c.args.k) c.args.work) u c.args.work.steps _ c.if-work-eq0.true (c.drop_out.ensures.core w ∙ left_idle w c.args.k m b c.args.work c.requires.idle))
+    let u = core_with w c.args.k m b c.args.work in (
+      w,
+      whole_none c.args.k m.segments (transaction w.own (m.part c.args.k) c.args.work) u c.args.work.steps _
+          c.if-work-eq0.true (c.drop_out.ensures.core w ∙ left_idle w c.args.k m b c.args.work c.requires.idle),
+    )
 
 pub returns-else-work-eq0-clause-core : goal.returns-else-work-eq0-clause-core
 returns-else-work-eq0-clause-core g c = λ w.
@@ -36,5 +44,8 @@ returns-else-work-eq0-clause-core g c = λ w.
     let u = core_with w c.args.k m c.args.self.now.books c.args.work in (
       worlds_after w c.args.work,
       whole_some c.args.k m.segments tx u c.args.work.steps _ c.if-work-eq0.false
-          (c.publish.ensures.core w ∙ ap (λ p. published c.args.k (transaction w.own p c.args.work) (core_with w c.args.k m1 c.doom_readers.new.self.books c.args.work)) c.doom_readers.ensures.part ∙ ap (published c.args.k tx) (c.doom_readers.ensures.core w)),
+          (c.publish.ensures.core w ∙ ap
+          (λ p. published c.args.k (transaction w.own p c.args.work)
+          (core_with w c.args.k m1 c.doom_readers.new.self.books c.args.work)) c.doom_readers.ensures.part ∙
+          ap (published c.args.k tx) (c.doom_readers.ensures.core w)),
     )

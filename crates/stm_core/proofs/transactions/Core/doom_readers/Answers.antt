@@ -33,6 +33,8 @@ segments-preserved g c =
           let n = c.segments-count.ensures in
           let lt = c.segments-test.true in
           ap (doom_readers c.args.k tx (range_with_len (c.segments.j + 1) (m0.segments - (c.segments.j + 1))))
-          (e.core w ∙ ap (λ p. cond (eqb c.segments.j c.args.k) u (doom_one c.args.k (transaction w.own p c.args.work.now) c.segments.j u (u.segments c.segments.j))) v.part)
+          (e.core w ∙ ap (λ p. cond (eqb c.segments.j c.args.k) u
+          (doom_one c.args.k (transaction w.own p c.args.work.now) c.segments.j u (u.segments c.segments.j)))
+          v.part)
           ∙ dooms_on c.args.k tx c.segments.j m0.segments u (omega (arith, n, lt)) ∙ v.core w;
     }

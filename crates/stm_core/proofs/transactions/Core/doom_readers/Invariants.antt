@@ -22,6 +22,11 @@ invariant-segments g l = record {
   part : (g.S.SegStore.meaning l.self.store).part l.k ≡ (g.S.SegStore.meaning l.initial.self.store).part l.k;
   shape : SameShape (g.S.SegStore.meaning l.initial.self.store) (g.S.SegStore.meaning l.self.store);
   reserved : g.S.SegStore.reserved l.self.store ≡ g.S.SegStore.reserved l.initial.self.store;
-  core : (w : Worlds) → doom_readers l.k (transaction w.own ((g.S.SegStore.meaning l.initial.self.store).part l.k) l.work) (range_with_len l.j ((g.S.SegStore.meaning l.initial.self.store).segments - l.j)) (core_with w l.k (g.S.SegStore.meaning l.self.store) l.self.books l.work)
-      ≡ doom_readers l.k (transaction w.own ((g.S.SegStore.meaning l.initial.self.store).part l.k) l.work) (range_with_len 0 (g.S.SegStore.meaning l.initial.self.store).segments) (core_with w l.k (g.S.SegStore.meaning l.initial.self.store) l.initial.self.books l.work);
+  core : (w : Worlds) → doom_readers l.k
+      (transaction w.own ((g.S.SegStore.meaning l.initial.self.store).part l.k) l.work)
+      (range_with_len l.j ((g.S.SegStore.meaning l.initial.self.store).segments - l.j))
+      (core_with w l.k (g.S.SegStore.meaning l.self.store) l.self.books l.work)
+      ≡ doom_readers l.k (transaction w.own ((g.S.SegStore.meaning l.initial.self.store).part l.k) l.work)
+      (range_with_len 0 (g.S.SegStore.meaning l.initial.self.store).segments)
+      (core_with w l.k (g.S.SegStore.meaning l.initial.self.store) l.initial.self.books l.work);
 }

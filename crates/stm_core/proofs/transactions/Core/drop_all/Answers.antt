@@ -22,16 +22,22 @@ slots-preserved g c =
       cause = e.cause ∙ v.cause;
       shape = (e.shape.0 ∙ v.shape.0, e.shape.1 ∙ v.shape.1);
       reserved = e.reserved ∙ v.reserved;
-      idle = λ w i lt. ap (λ z. z.segments i) (e.core w) ∙ still_idle c.slots.k i (core_of w (g.S.SegStore.meaning c.slots.self.store) c.slots.self.books) (λ h. v.idle w i h) lt;
+      idle = λ w i lt. ap (λ z. z.segments i) (e.core w) ∙
+          still_idle c.slots.k i (core_of w (g.S.SegStore.meaning c.slots.self.store) c.slots.self.books)
+          (λ h. v.idle w i h) lt;
       core = λ w. ap idle_core (e.core w) ∙ v.core w;
     }
 
 pub returns-clause-unused : goal.returns-clause-unused
 returns-clause-unused g c =
     let v = c.slots.invariant in
-    unused (g.S.SegStore.meaning c.slots.self.store) c.slots.self.books v.whole (λ w i lt. v.idle w i (let n = c.segments-count.ensures in let t = c.slots-test.false in let s = v.shape.0 in omega (arith, lt, n, t, s))) blank
+    unused (g.S.SegStore.meaning c.slots.self.store) c.slots.self.books v.whole
+    (λ w i lt. v.idle w i (let n = c.segments-count.ensures in let t = c.slots-test.false in let s = v.shape.0 in
+    omega (arith, lt, n, t, s))) blank
 
 pub returns-clause-core : goal.returns-clause-core
 returns-clause-core g c = λ w.
     let v = c.slots.invariant in
-    core_idle (g.S.SegStore.meaning c.slots.self.store) c.slots.self.books v.whole (λ u i lt. v.idle u i (let n = c.segments-count.ensures in let t = c.slots-test.false in let s = v.shape.0 in omega (arith, lt, n, t, s))) w ∙ v.core w
+    core_idle (g.S.SegStore.meaning c.slots.self.store) c.slots.self.books v.whole
+    (λ u i lt. v.idle u i (let n = c.segments-count.ensures in let t = c.slots-test.false in let s = v.shape.0 in
+    omega (arith, lt, n, t, s))) w ∙ v.core w

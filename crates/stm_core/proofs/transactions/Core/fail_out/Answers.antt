@@ -5,7 +5,9 @@ use Rattle.stm_core.proofs.transactions.Core.fail_out.Goals as goal
 
 pub returns-else-work-clause-count : goal.returns-else-work-clause-count
 returns-else-work-clause-count g c =
-    ap (λ s. s.spent) c.give_up.ensures.rest ∙ subst (λ l. CountsSteps c.args.self.now.spent l) (sym (ap (λ k. k.history) (c.give_up.ensures.core blank))) c.requires.count
+    ap (λ s. s.spent) c.give_up.ensures.rest ∙
+    subst (λ l. CountsSteps c.args.self.now.spent l) (sym (ap (λ k. k.history) (c.give_up.ensures.core blank)))
+    c.requires.count
 
 pub returns-else-work-clause-cause : goal.returns-else-work-clause-cause
 returns-else-work-clause-cause g c = ap (λ k. k.cause) (c.give_up.ensures.core blank)

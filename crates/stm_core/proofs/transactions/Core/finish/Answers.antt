@@ -9,6 +9,10 @@ returns-clause-finished g c = λ o s.
     let z = c.come_to_rest.new.self in
     let a = c.settle_solo.ensures.settles o s in
     let b = c.come_to_rest.ensures.idle a.0 a.1 in
-    let h = handed_out g.I.Source.state g.O.Sink.state g.E.Sink.state g.C.Client.prog g.C.Client.sound g.S.SegStore.reserved g.S.SegStore.meaning x z (same_then g.S.SegStore.meaning x y z c.settle_solo.ensures.job c.come_to_rest.ensures.job) c.come_to_rest.ensures.good
-    c.outcome-state.result c.has_failed-failed.result c.outcome-state.ensures c.has_failed-failed.ensures.yes c.has_failed-failed.ensures.not o a.0 b.0 a.2 b.1 b.2 in
+    let h = handed_out g.I.Source.state g.O.Sink.state g.E.Sink.state g.C.Client.prog g.C.Client.sound
+    g.S.SegStore.reserved g.S.SegStore.meaning x z
+    (same_then g.S.SegStore.meaning x y z c.settle_solo.ensures.job c.come_to_rest.ensures.job)
+    c.come_to_rest.ensures.good
+    c.outcome-state.result c.has_failed-failed.result c.outcome-state.ensures c.has_failed-failed.ensures.yes
+    c.has_failed-failed.ensures.not o a.0 b.0 a.2 b.1 b.2 in
     (b.0, h.0, h.1)

@@ -8,14 +8,19 @@ use Rattle.stm_core.proofs.transactions.Core.run_events.Goals as goal
 pub events-preserved : goal.events-preserved
 events-preserved g c = record {
   good = c.make-reply.ensures.good;
-  job = same_then g.S.SegStore.meaning c.args.self.now c.events.self c.make-reply.new.self c.events.invariant.job c.make-reply.ensures.job;
+  job = same_then g.S.SegStore.meaning c.args.self.now c.events.self c.make-reply.new.self c.events.invariant.job
+      c.make-reply.ensures.job;
   made = λ o s.
       let z = c.events.invariant.made o s in
       let v = c.make-reply.ensures.made z.0 z.1 in (
         v.0,
         v.1,
-        turn g.C.Client.prog (core_client c.args.self.now) (core_client c.events.self) (core_limits g.S.SegStore.meaning c.args.self.now) (core_limits g.S.SegStore.meaning c.events.self) c.args.list.now c.events.replies.items c.push.new.self.items c.in-Some.event.now c.events.rest.now c.in-Some.more.now c.make-reply.result
-            o z.0 v.0 z.2 (search (rules)) c.events.invariant.job.client c.events.invariant.job.limits v.2 (search (rules)),
+        turn g.C.Client.prog (core_client c.args.self.now) (core_client c.events.self)
+            (core_limits g.S.SegStore.meaning c.args.self.now) (core_limits g.S.SegStore.meaning c.events.self)
+            c.args.list.now c.events.replies.items c.push.new.self.items c.in-Some.event.now c.events.rest.now
+            c.in-Some.more.now c.make-reply.result
+            o z.0 v.0 z.2 (search (rules)) c.events.invariant.job.client c.events.invariant.job.limits v.2
+            (search (rules)),
       );
   room = search (rules, arith);
 }

@@ -5,9 +5,12 @@ use Rattle.stm_core.proofs.transactions.Core.run_events.Given as goal
 
 abbrev pub invariant-events : goal.invariant-events
 invariant-events g l = record {
-  good : IsGoodCore g.I.Source.state g.O.Sink.state g.E.Sink.state g.C.Client.prog g.C.Client.sound g.S.SegStore.reserved g.S.SegStore.meaning l.self;
+  good : IsGoodCore g.I.Source.state g.O.Sink.state g.E.Sink.state g.C.Client.prog g.C.Client.sound
+      g.S.SegStore.reserved g.S.SegStore.meaning l.self;
   job : SameJob g.S.SegStore.meaning l.fn.self l.self;
-  made : Leads g.I.Source.state g.O.Sink.state g.E.Sink.state g.C.Client.prog g.S.SegStore.meaning l.fn.self l.self (SoFar (g.C.Client.prog (core_client l.fn.self)) (core_limits g.S.SegStore.meaning l.fn.self) l.list l.replies.items l.rest);
+  made : Leads g.I.Source.state g.O.Sink.state g.E.Sink.state g.C.Client.prog g.S.SegStore.meaning l.fn.self l.self
+      (SoFar (g.C.Client.prog (core_client l.fn.self)) (core_limits g.S.SegStore.meaning l.fn.self) l.list
+      l.replies.items l.rest);
   room : vec_len l.replies + length l.rest ≤ vec_capacity l.replies;
 }
 

@@ -24,38 +24,106 @@ turns-init g c = record {
   shape = (refl, refl);
   reserved = omega arith;
   broken = refl;
-  counts = counts_same (device_state g.I.Source.state g.O.Sink.state g.E.Sink.state c.args.self.now.devices) (device_state g.I.Source.state g.O.Sink.state g.E.Sink.state c.args.self.now.devices) refl refl refl;
+  counts = counts_same (device_state g.I.Source.state g.O.Sink.state g.E.Sink.state c.args.self.now.devices)
+      (device_state g.I.Source.state g.O.Sink.state g.E.Sink.state c.args.self.now.devices) refl refl refl;
   alone = λ q. refl;
   sane = c.requires.sane;
   lives = c.requires.lives;
   steps = sym (add-zero c.args.work.now.steps);
   solo = refl;
-  paused = λ t e w shown. paused_none (g.C.Client.prog c.args.self.now.client.now) c.args.length c.args.k t e w (device_state g.I.Source.state g.O.Sink.state g.E.Sink.state c.args.self.now.devices) (g.S.SegStore.meaning c.args.self.now.store) (g.S.SegStore.reserved c.args.self.now.store) c.args.self.now.books c.args.work.now c.requires.lives shown;
+  paused = λ t e w shown. paused_none (g.C.Client.prog c.args.self.now.client.now) c.args.length c.args.k t e w
+      (device_state g.I.Source.state g.O.Sink.state g.E.Sink.state c.args.self.now.devices)
+      (g.S.SegStore.meaning c.args.self.now.store) (g.S.SegStore.reserved c.args.self.now.store) c.args.self.now.books
+      c.args.work.now c.requires.lives shown;
 }
 
 pub returns-in-Waits-clause-paused : goal.returns-in-Waits-clause-paused
-returns-in-Waits-clause-paused g c = λ t e w c0 shown is. subst (λ z. Paused (g.C.Client.prog c.args.self.now.client.now) c.args.length c.args.k t e w z (c.turns.done) Waits (g.S.SegStore.meaning c.step_on.new.self.store) (g.S.SegStore.reserved c.step_on.new.self.store) c.step_on.new.self.books c.step_on.new.work (device_state g.I.Source.state g.O.Sink.state g.E.Sink.state c.step_on.new.self.devices)) (sym is)
-    (subst (λ z. Paused (g.C.Client.prog c.args.self.now.client.now) c.args.length c.args.k t e w (core_with w c.args.k (g.S.SegStore.meaning c.args.self.now.store) c.args.self.now.books c.args.work.now) z Waits (g.S.SegStore.meaning c.step_on.new.self.store) (g.S.SegStore.reserved c.step_on.new.self.store) c.step_on.new.self.books c.step_on.new.work (device_state g.I.Source.state g.O.Sink.state g.E.Sink.state c.step_on.new.self.devices)) (add-zero c.turns.done)
-    (paused_then (g.C.Client.prog c.args.self.now.client.now) (g.C.Client.prog c.turns.self.client.now) c.args.length c.args.k c.turns.done 0 t e w (device_state g.I.Source.state g.O.Sink.state g.E.Sink.state c.turns.self.devices) (device_state g.I.Source.state g.O.Sink.state g.E.Sink.state c.step_on.new.self.devices) Waits (g.S.SegStore.meaning c.turns.self.store) (g.S.SegStore.meaning c.step_on.new.self.store) (g.S.SegStore.reserved c.turns.self.store) (g.S.SegStore.reserved c.step_on.new.self.store) c.turns.self.books c.step_on.new.self.books c.turns.work c.step_on.new.work (core_with w c.args.k (g.S.SegStore.meaning c.args.self.now.store) c.args.self.now.books c.args.work.now) (λ i. g.C.Client.prog (c.turns.invariant.client i).now) c.step_on.ensures.solo
-    (c.turns.invariant.paused t e w shown) (λ s h. c.in-Waits.ensures.paused t e (with_own (c.turns.invariant.paused t e w shown).own w) c.turns.done (core_with w c.args.k (g.S.SegStore.meaning c.args.self.now.store) c.args.self.now.books c.args.work.now) s h)))
+returns-in-Waits-clause-paused g c = λ t e w c0 shown is.
+    subst (λ z. Paused (g.C.Client.prog c.args.self.now.client.now) c.args.length c.args.k t e w z (c.turns.done) Waits
+    (g.S.SegStore.meaning c.step_on.new.self.store) (g.S.SegStore.reserved c.step_on.new.self.store)
+    c.step_on.new.self.books c.step_on.new.work
+    (device_state g.I.Source.state g.O.Sink.state g.E.Sink.state c.step_on.new.self.devices)) (sym is)
+    (subst (λ z. Paused (g.C.Client.prog c.args.self.now.client.now) c.args.length c.args.k t e w
+    (core_with w c.args.k (g.S.SegStore.meaning c.args.self.now.store) c.args.self.now.books c.args.work.now) z
+    Waits (g.S.SegStore.meaning c.step_on.new.self.store) (g.S.SegStore.reserved c.step_on.new.self.store)
+    c.step_on.new.self.books c.step_on.new.work
+    (device_state g.I.Source.state g.O.Sink.state g.E.Sink.state c.step_on.new.self.devices))
+    (add-zero c.turns.done)
+    (paused_then (g.C.Client.prog c.args.self.now.client.now) (g.C.Client.prog c.turns.self.client.now) c.args.length
+    c.args.k c.turns.done 0 t e w (device_state g.I.Source.state g.O.Sink.state g.E.Sink.state
+    c.turns.self.devices) (device_state g.I.Source.state g.O.Sink.state g.E.Sink.state c.step_on.new.self.devices)
+    Waits (g.S.SegStore.meaning c.turns.self.store) (g.S.SegStore.meaning c.step_on.new.self.store)
+    (g.S.SegStore.reserved c.turns.self.store) (g.S.SegStore.reserved c.step_on.new.self.store) c.turns.self.books
+    c.step_on.new.self.books c.turns.work c.step_on.new.work
+    (core_with w c.args.k (g.S.SegStore.meaning c.args.self.now.store) c.args.self.now.books c.args.work.now)
+    (λ i. g.C.Client.prog (c.turns.invariant.client i).now) c.step_on.ensures.solo
+    (c.turns.invariant.paused t e w shown)
+    (λ s h. c.in-Waits.ensures.paused t e (with_own (c.turns.invariant.paused t e w shown).own w) c.turns.done
+    (core_with w c.args.k (g.S.SegStore.meaning c.args.self.now.store) c.args.self.now.books c.args.work.now) s h)))
 
 pub returns-in-Ended-clause-paused : goal.returns-in-Ended-clause-paused
-returns-in-Ended-clause-paused g c = λ t e w c0 shown is. subst (λ z. Paused (g.C.Client.prog c.args.self.now.client.now) c.args.length c.args.k t e w z (c.turns.done + 1) Ended (g.S.SegStore.meaning c.step_on.new.self.store) (g.S.SegStore.reserved c.step_on.new.self.store) c.step_on.new.self.books c.step_on.new.work (device_state g.I.Source.state g.O.Sink.state g.E.Sink.state c.step_on.new.self.devices)) (sym is)
-    (paused_then (g.C.Client.prog c.args.self.now.client.now) (g.C.Client.prog c.turns.self.client.now) c.args.length c.args.k c.turns.done 1 t e w (device_state g.I.Source.state g.O.Sink.state g.E.Sink.state c.turns.self.devices) (device_state g.I.Source.state g.O.Sink.state g.E.Sink.state c.step_on.new.self.devices) Ended (g.S.SegStore.meaning c.turns.self.store) (g.S.SegStore.meaning c.step_on.new.self.store) (g.S.SegStore.reserved c.turns.self.store) (g.S.SegStore.reserved c.step_on.new.self.store) c.turns.self.books c.step_on.new.self.books c.turns.work c.step_on.new.work (core_with w c.args.k (g.S.SegStore.meaning c.args.self.now.store) c.args.self.now.books c.args.work.now) (λ i. g.C.Client.prog (c.turns.invariant.client i).now) c.step_on.ensures.solo
-    (c.turns.invariant.paused t e w shown) (λ s h. c.in-Ended.ensures.paused t e (with_own (c.turns.invariant.paused t e w shown).own w) c.turns.done (core_with w c.args.k (g.S.SegStore.meaning c.args.self.now.store) c.args.self.now.books c.args.work.now) s h))
+returns-in-Ended-clause-paused g c = λ t e w c0 shown is.
+    subst (λ z. Paused (g.C.Client.prog c.args.self.now.client.now) c.args.length c.args.k t e w z (c.turns.done + 1)
+    Ended (g.S.SegStore.meaning c.step_on.new.self.store) (g.S.SegStore.reserved c.step_on.new.self.store)
+    c.step_on.new.self.books c.step_on.new.work
+    (device_state g.I.Source.state g.O.Sink.state g.E.Sink.state c.step_on.new.self.devices)) (sym is)
+    (paused_then (g.C.Client.prog c.args.self.now.client.now) (g.C.Client.prog c.turns.self.client.now) c.args.length
+    c.args.k c.turns.done 1 t e w (device_state g.I.Source.state g.O.Sink.state g.E.Sink.state
+    c.turns.self.devices) (device_state g.I.Source.state g.O.Sink.state g.E.Sink.state c.step_on.new.self.devices)
+    Ended (g.S.SegStore.meaning c.turns.self.store) (g.S.SegStore.meaning c.step_on.new.self.store)
+    (g.S.SegStore.reserved c.turns.self.store) (g.S.SegStore.reserved c.step_on.new.self.store) c.turns.self.books
+    c.step_on.new.self.books c.turns.work c.step_on.new.work
+    (core_with w c.args.k (g.S.SegStore.meaning c.args.self.now.store) c.args.self.now.books c.args.work.now)
+    (λ i. g.C.Client.prog (c.turns.invariant.client i).now) c.step_on.ensures.solo
+    (c.turns.invariant.paused t e w shown)
+    (λ s h. c.in-Ended.ensures.paused t e (with_own (c.turns.invariant.paused t e w shown).own w) c.turns.done
+    (core_with w c.args.k (g.S.SegStore.meaning c.args.self.now.store) c.args.self.now.books c.args.work.now) s h))
 
 pub returns-in-Stopped-clause-paused : goal.returns-in-Stopped-clause-paused
-returns-in-Stopped-clause-paused g c = λ t e w c0 shown is. subst (λ z. Paused (g.C.Client.prog c.args.self.now.client.now) c.args.length c.args.k t e w z (c.turns.done) (Stopped c.in-Stopped.stop) (g.S.SegStore.meaning c.step_on.new.self.store) (g.S.SegStore.reserved c.step_on.new.self.store) c.step_on.new.self.books c.step_on.new.work (device_state g.I.Source.state g.O.Sink.state g.E.Sink.state c.step_on.new.self.devices)) (sym is)
-    (subst (λ z. Paused (g.C.Client.prog c.args.self.now.client.now) c.args.length c.args.k t e w (core_with w c.args.k (g.S.SegStore.meaning c.args.self.now.store) c.args.self.now.books c.args.work.now) z (Stopped c.in-Stopped.stop) (g.S.SegStore.meaning c.step_on.new.self.store) (g.S.SegStore.reserved c.step_on.new.self.store) c.step_on.new.self.books c.step_on.new.work (device_state g.I.Source.state g.O.Sink.state g.E.Sink.state c.step_on.new.self.devices)) (add-zero c.turns.done)
-    (paused_then (g.C.Client.prog c.args.self.now.client.now) (g.C.Client.prog c.turns.self.client.now) c.args.length c.args.k c.turns.done 0 t e w (device_state g.I.Source.state g.O.Sink.state g.E.Sink.state c.turns.self.devices) (device_state g.I.Source.state g.O.Sink.state g.E.Sink.state c.step_on.new.self.devices) (Stopped c.in-Stopped.stop) (g.S.SegStore.meaning c.turns.self.store) (g.S.SegStore.meaning c.step_on.new.self.store) (g.S.SegStore.reserved c.turns.self.store) (g.S.SegStore.reserved c.step_on.new.self.store) c.turns.self.books c.step_on.new.self.books c.turns.work c.step_on.new.work (core_with w c.args.k (g.S.SegStore.meaning c.args.self.now.store) c.args.self.now.books c.args.work.now) (λ i. g.C.Client.prog (c.turns.invariant.client i).now) c.step_on.ensures.solo
-    (c.turns.invariant.paused t e w shown) (λ s h. c.in-Stopped.ensures.paused t e (with_own (c.turns.invariant.paused t e w shown).own w) c.turns.done (core_with w c.args.k (g.S.SegStore.meaning c.args.self.now.store) c.args.self.now.books c.args.work.now) s h)))
+returns-in-Stopped-clause-paused g c = λ t e w c0 shown is.
+    subst (λ z. Paused (g.C.Client.prog c.args.self.now.client.now) c.args.length c.args.k t e w z (c.turns.done)
+    (Stopped c.in-Stopped.stop) (g.S.SegStore.meaning c.step_on.new.self.store)
+    (g.S.SegStore.reserved c.step_on.new.self.store) c.step_on.new.self.books c.step_on.new.work
+    (device_state g.I.Source.state g.O.Sink.state g.E.Sink.state c.step_on.new.self.devices)) (sym is)
+    (subst (λ z. Paused (g.C.Client.prog c.args.self.now.client.now) c.args.length c.args.k t e w
+    (core_with w c.args.k (g.S.SegStore.meaning c.args.self.now.store) c.args.self.now.books c.args.work.now) z
+    (Stopped c.in-Stopped.stop) (g.S.SegStore.meaning c.step_on.new.self.store)
+    (g.S.SegStore.reserved c.step_on.new.self.store) c.step_on.new.self.books c.step_on.new.work
+    (device_state g.I.Source.state g.O.Sink.state g.E.Sink.state c.step_on.new.self.devices))
+    (add-zero c.turns.done)
+    (paused_then (g.C.Client.prog c.args.self.now.client.now) (g.C.Client.prog c.turns.self.client.now) c.args.length
+    c.args.k c.turns.done 0 t e w (device_state g.I.Source.state g.O.Sink.state g.E.Sink.state
+    c.turns.self.devices) (device_state g.I.Source.state g.O.Sink.state g.E.Sink.state c.step_on.new.self.devices)
+    (Stopped c.in-Stopped.stop) (g.S.SegStore.meaning c.turns.self.store)
+    (g.S.SegStore.meaning c.step_on.new.self.store) (g.S.SegStore.reserved c.turns.self.store)
+    (g.S.SegStore.reserved c.step_on.new.self.store) c.turns.self.books c.step_on.new.self.books c.turns.work
+    c.step_on.new.work (core_with w c.args.k (g.S.SegStore.meaning c.args.self.now.store) c.args.self.now.books
+    c.args.work.now) (λ i. g.C.Client.prog (c.turns.invariant.client i).now) c.step_on.ensures.solo
+    (c.turns.invariant.paused t e w shown)
+    (λ s h. c.in-Stopped.ensures.paused t e (with_own (c.turns.invariant.paused t e w shown).own w) c.turns.done
+    (core_with w c.args.k (g.S.SegStore.meaning c.args.self.now.store) c.args.self.now.books c.args.work.now) s h)))
 
 -- one step more was done
-whole : (g : given.Over) (c : goal.In-Whole g) (t e : Option (List ℕ)) (w : Worlds) → Shown c.args.work.now.solo t e (device_state g.I.Source.state g.O.Sink.state g.E.Sink.state c.args.self.now.devices) w.own
-    → Paused (g.C.Client.prog c.args.self.now.client.now) c.args.length c.args.k t e w (core_with w c.args.k (g.S.SegStore.meaning c.args.self.now.store) c.args.self.now.books c.args.work.now) (c.turns.done + 1) Whole (g.S.SegStore.meaning c.step_on.new.self.store) (g.S.SegStore.reserved c.step_on.new.self.store) c.step_on.new.self.books c.step_on.new.work (device_state g.I.Source.state g.O.Sink.state g.E.Sink.state c.step_on.new.self.devices)
+whole : (g : given.Over) (c : goal.In-Whole g) (t e : Option (List ℕ)) (w : Worlds) →
+    Shown c.args.work.now.solo t e (device_state g.I.Source.state g.O.Sink.state g.E.Sink.state
+    c.args.self.now.devices) w.own
+    → Paused (g.C.Client.prog c.args.self.now.client.now) c.args.length c.args.k t e w
+    (core_with w c.args.k (g.S.SegStore.meaning c.args.self.now.store) c.args.self.now.books c.args.work.now)
+    (c.turns.done + 1) Whole (g.S.SegStore.meaning c.step_on.new.self.store)
+    (g.S.SegStore.reserved c.step_on.new.self.store) c.step_on.new.self.books c.step_on.new.work
+    (device_state g.I.Source.state g.O.Sink.state g.E.Sink.state c.step_on.new.self.devices)
 whole g c t e w shown =
-    paused_then (g.C.Client.prog c.args.self.now.client.now) (g.C.Client.prog c.turns.self.client.now) c.args.length c.args.k c.turns.done 1 t e w (device_state g.I.Source.state g.O.Sink.state g.E.Sink.state c.turns.self.devices) (device_state g.I.Source.state g.O.Sink.state g.E.Sink.state c.step_on.new.self.devices) Whole (g.S.SegStore.meaning c.turns.self.store) (g.S.SegStore.meaning c.step_on.new.self.store) (g.S.SegStore.reserved c.turns.self.store) (g.S.SegStore.reserved c.step_on.new.self.store) c.turns.self.books c.step_on.new.self.books c.turns.work c.step_on.new.work (core_with w c.args.k (g.S.SegStore.meaning c.args.self.now.store) c.args.self.now.books c.args.work.now) (λ i. g.C.Client.prog (c.turns.invariant.client i).now) c.step_on.ensures.solo
-    (c.turns.invariant.paused t e w shown) (λ s h. c.in-Whole.ensures.paused t e (with_own (c.turns.invariant.paused t e w shown).own w) c.turns.done (core_with w c.args.k (g.S.SegStore.meaning c.args.self.now.store) c.args.self.now.books c.args.work.now) s h)
+    paused_then (g.C.Client.prog c.args.self.now.client.now) (g.C.Client.prog c.turns.self.client.now) c.args.length
+    c.args.k c.turns.done 1 t e w (device_state g.I.Source.state g.O.Sink.state g.E.Sink.state
+    c.turns.self.devices) (device_state g.I.Source.state g.O.Sink.state g.E.Sink.state c.step_on.new.self.devices)
+    Whole (g.S.SegStore.meaning c.turns.self.store) (g.S.SegStore.meaning c.step_on.new.self.store)
+    (g.S.SegStore.reserved c.turns.self.store) (g.S.SegStore.reserved c.step_on.new.self.store) c.turns.self.books
+    c.step_on.new.self.books c.turns.work c.step_on.new.work
+    (core_with w c.args.k (g.S.SegStore.meaning c.args.self.now.store) c.args.self.now.books c.args.work.now)
+    (λ i. g.C.Client.prog (c.turns.invariant.client i).now) c.step_on.ensures.solo
+    (c.turns.invariant.paused t e w shown)
+    (λ s h. c.in-Whole.ensures.paused t e (with_own (c.turns.invariant.paused t e w shown).own w) c.turns.done
+    (core_with w c.args.k (g.S.SegStore.meaning c.args.self.now.store) c.args.self.now.books c.args.work.now) s h)
 
 pub turns-preserved : goal.turns-preserved
 turns-preserved g c =
@@ -75,9 +143,21 @@ turns-preserved g c =
       shape = (e.shape.0 ∙ v.shape.0, e.shape.1 ∙ v.shape.1);
       reserved = (let a = e.reserved in let b = v.reserved in omega (arith, a, b));
       broken = e.broken ∙ v.broken;
-      counts = counts_then (device_state g.I.Source.state g.O.Sink.state g.E.Sink.state c.args.self.now.devices) (device_state g.I.Source.state g.O.Sink.state g.E.Sink.state c.turns.self.devices) (device_state g.I.Source.state g.O.Sink.state g.E.Sink.state c.step_on.new.self.devices) v.counts e.devices.counts;
-      alone = λ q. alone_then (device_state g.I.Source.state g.O.Sink.state g.E.Sink.state c.args.self.now.devices) (device_state g.I.Source.state g.O.Sink.state g.E.Sink.state c.turns.self.devices) (device_state g.I.Source.state g.O.Sink.state g.E.Sink.state c.step_on.new.self.devices) (v.alone q) (e.devices.alone (v.solo ∙ q));
-      sane = sane_paused (g.C.Client.prog c.args.self.now.client.now) (g.C.Client.sound c.args.self.now.client.now) c.args.length c.args.k (c.turns.done + 1) (g.S.SegStore.reserved c.step_on.new.self.store) Whole (device_state g.I.Source.state g.O.Sink.state g.E.Sink.state c.args.self.now.devices) (device_state g.I.Source.state g.O.Sink.state g.E.Sink.state c.step_on.new.self.devices) (g.S.SegStore.meaning c.args.self.now.store) (g.S.SegStore.meaning c.step_on.new.self.store) c.args.self.now.books c.step_on.new.self.books c.args.work.now c.step_on.new.work s (whole g c s.out s.err s.sane.worlds s.shown);
+      counts = counts_then (device_state g.I.Source.state g.O.Sink.state g.E.Sink.state c.args.self.now.devices)
+          (device_state g.I.Source.state g.O.Sink.state g.E.Sink.state c.turns.self.devices)
+          (device_state g.I.Source.state g.O.Sink.state g.E.Sink.state c.step_on.new.self.devices) v.counts
+          e.devices.counts;
+      alone = λ q. alone_then (device_state g.I.Source.state g.O.Sink.state g.E.Sink.state c.args.self.now.devices)
+          (device_state g.I.Source.state g.O.Sink.state g.E.Sink.state c.turns.self.devices)
+          (device_state g.I.Source.state g.O.Sink.state g.E.Sink.state c.step_on.new.self.devices) (v.alone q)
+          (e.devices.alone (v.solo ∙ q));
+      sane = sane_paused (g.C.Client.prog c.args.self.now.client.now) (g.C.Client.sound c.args.self.now.client.now)
+          c.args.length c.args.k (c.turns.done + 1) (g.S.SegStore.reserved c.step_on.new.self.store) Whole
+          (device_state g.I.Source.state g.O.Sink.state g.E.Sink.state c.args.self.now.devices)
+          (device_state g.I.Source.state g.O.Sink.state g.E.Sink.state c.step_on.new.self.devices)
+          (g.S.SegStore.meaning c.args.self.now.store) (g.S.SegStore.meaning c.step_on.new.self.store)
+          c.args.self.now.books c.step_on.new.self.books c.args.work.now c.step_on.new.work s
+          (whole g c s.out s.err s.sane.worlds s.shown);
       lives = (whole g c s.out s.err s.sane.worlds s.shown).why;
       steps = (let a = c.in-Whole.ensures.steps in let b = v.steps in omega (arith, a, b));
       solo = e.solo ∙ v.solo;
@@ -87,5 +167,11 @@ turns-preserved g c =
 pub returns-clause-paused : goal.returns-clause-paused
 returns-clause-paused g c = λ t e w c0 shown is.
     let all : c.turns.done ≡ c.args.most = omega (arith, c.turns.auto.done-end, c.turns-test.false) in
-    subst (λ z. Paused (g.C.Client.prog c.args.self.now.client.now) c.args.length c.args.k t e w z c.args.most Whole (g.S.SegStore.meaning c.turns.self.store) (g.S.SegStore.reserved c.turns.self.store) c.turns.self.books c.turns.work (device_state g.I.Source.state g.O.Sink.state g.E.Sink.state c.turns.self.devices)) (sym is)
-    (subst (λ n. Paused (g.C.Client.prog c.args.self.now.client.now) c.args.length c.args.k t e w (core_with w c.args.k (g.S.SegStore.meaning c.args.self.now.store) c.args.self.now.books c.args.work.now) n Whole (g.S.SegStore.meaning c.turns.self.store) (g.S.SegStore.reserved c.turns.self.store) c.turns.self.books c.turns.work (device_state g.I.Source.state g.O.Sink.state g.E.Sink.state c.turns.self.devices)) all (c.turns.invariant.paused t e w shown))
+    subst (λ z. Paused (g.C.Client.prog c.args.self.now.client.now) c.args.length c.args.k t e w z c.args.most Whole
+    (g.S.SegStore.meaning c.turns.self.store) (g.S.SegStore.reserved c.turns.self.store) c.turns.self.books
+    c.turns.work (device_state g.I.Source.state g.O.Sink.state g.E.Sink.state c.turns.self.devices)) (sym is)
+    (subst (λ n. Paused (g.C.Client.prog c.args.self.now.client.now) c.args.length c.args.k t e w
+    (core_with w c.args.k (g.S.SegStore.meaning c.args.self.now.store) c.args.self.now.books c.args.work.now) n
+    Whole (g.S.SegStore.meaning c.turns.self.store) (g.S.SegStore.reserved c.turns.self.store) c.turns.self.books
+    c.turns.work (device_state g.I.Source.state g.O.Sink.state g.E.Sink.state c.turns.self.devices)) all
+    (c.turns.invariant.paused t e w shown))

@@ -24,12 +24,22 @@ invariant-turns g l = record {
   shape : SameShape (g.S.SegStore.meaning l.initial.self.store) (g.S.SegStore.meaning l.self.store);
   reserved : g.S.SegStore.reserved l.initial.self.store ≤ g.S.SegStore.reserved l.self.store;
   broken : l.self.books.broken ≡ l.initial.self.books.broken;
-  counts : CountsGrow (device_state g.I.Source.state g.O.Sink.state g.E.Sink.state l.initial.self.devices) (device_state g.I.Source.state g.O.Sink.state g.E.Sink.state l.self.devices);
-  alone : l.initial.work.solo ≡ false → IsLeftAlone (device_state g.I.Source.state g.O.Sink.state g.E.Sink.state l.initial.self.devices) (device_state g.I.Source.state g.O.Sink.state g.E.Sink.state l.self.devices);
-  sane : SaneShown (g.C.Client.prog l.initial.self.client.now) (g.C.Client.sound l.initial.self.client.now) l.length l.k (device_state g.I.Source.state g.O.Sink.state g.E.Sink.state l.self.devices) (g.S.SegStore.meaning l.self.store) l.self.books l.work;
+  counts : CountsGrow (device_state g.I.Source.state g.O.Sink.state g.E.Sink.state l.initial.self.devices)
+      (device_state g.I.Source.state g.O.Sink.state g.E.Sink.state l.self.devices);
+  alone : l.initial.work.solo ≡ false → IsLeftAlone
+      (device_state g.I.Source.state g.O.Sink.state g.E.Sink.state l.initial.self.devices)
+      (device_state g.I.Source.state g.O.Sink.state g.E.Sink.state l.self.devices);
+  sane : SaneShown (g.C.Client.prog l.initial.self.client.now) (g.C.Client.sound l.initial.self.client.now) l.length
+      l.k (device_state g.I.Source.state g.O.Sink.state g.E.Sink.state l.self.devices)
+      (g.S.SegStore.meaning l.self.store) l.self.books l.work;
   lives : (g.C.Client.prog l.initial.self.client.now).life l.work.state ≡ Lives;
   steps : l.work.steps ≡ l.initial.work.steps + l.done;
   solo : l.work.solo ≡ l.initial.work.solo;
-  paused : (t e : Option (List ℕ)) (w : Worlds) → Shown l.initial.work.solo t e (device_state g.I.Source.state g.O.Sink.state g.E.Sink.state l.initial.self.devices) w.own
-      → Paused (g.C.Client.prog l.initial.self.client.now) l.length l.k t e w (core_with w l.k (g.S.SegStore.meaning l.initial.self.store) l.initial.self.books l.initial.work) l.done Whole (g.S.SegStore.meaning l.self.store) (g.S.SegStore.reserved l.self.store) l.self.books l.work (device_state g.I.Source.state g.O.Sink.state g.E.Sink.state l.self.devices);
+  paused : (t e : Option (List ℕ)) (w : Worlds) →
+      Shown l.initial.work.solo t e (device_state g.I.Source.state g.O.Sink.state g.E.Sink.state
+      l.initial.self.devices) w.own
+      → Paused (g.C.Client.prog l.initial.self.client.now) l.length l.k t e w
+      (core_with w l.k (g.S.SegStore.meaning l.initial.self.store) l.initial.self.books l.initial.work) l.done
+      Whole (g.S.SegStore.meaning l.self.store) (g.S.SegStore.reserved l.self.store) l.self.books l.work
+      (device_state g.I.Source.state g.O.Sink.state g.E.Sink.state l.self.devices);
 }

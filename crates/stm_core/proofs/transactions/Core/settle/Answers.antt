@@ -10,40 +10,62 @@ pub returns-in-Whole-clause-settled : goal.returns-in-Whole-clause-settled
 returns-in-Whole-clause-settled g c = λ t e w o out.
     let x = c.args.self.now in
     let y = c.put_back.new.self in
-    ran_ends (g.C.Client.prog x.client.now) t e _ w c.args.k (g.S.SegStore.meaning x.store) (g.S.SegStore.reserved x.store) x.books c.args.work o (device_state g.I.Source.state g.O.Sink.state g.E.Sink.state y.devices) (λ i. device_state g.I.Source.state g.O.Sink.state g.E.Sink.state (c.put_back.ensures.rest i).devices) (g.S.SegStore.meaning y.store) (g.S.SegStore.reserved y.store) y.books c.args.done c.args.pause c.in-Whole.is out (c.put_back.ensures.core w) c.put_back.ensures.broken
+    ran_ends (g.C.Client.prog x.client.now) t e _ w c.args.k (g.S.SegStore.meaning x.store)
+    (g.S.SegStore.reserved x.store) x.books c.args.work o
+    (device_state g.I.Source.state g.O.Sink.state g.E.Sink.state y.devices)
+    (λ i. device_state g.I.Source.state g.O.Sink.state g.E.Sink.state (c.put_back.ensures.rest i).devices)
+    (g.S.SegStore.meaning y.store) (g.S.SegStore.reserved y.store) y.books c.args.done c.args.pause c.in-Whole.is
+    out (c.put_back.ensures.core w) c.put_back.ensures.broken
 
 pub returns-in-Waits-clause-settled : goal.returns-in-Waits-clause-settled
 returns-in-Waits-clause-settled g c = λ t e w o out.
     let x = c.args.self.now in
     let y = c.put_back-in-Waits.new.self in
-    waits_ends (g.C.Client.prog x.client.now) t e _ w c.args.k (g.S.SegStore.meaning x.store) (g.S.SegStore.reserved x.store) x.books c.args.work o (device_state g.I.Source.state g.O.Sink.state g.E.Sink.state y.devices) (λ i. device_state g.I.Source.state g.O.Sink.state g.E.Sink.state (c.put_back-in-Waits.ensures.rest i).devices) (g.S.SegStore.meaning y.store) (g.S.SegStore.reserved y.store) y.books c.args.done c.args.pause c.in-Waits.is out (c.put_back-in-Waits.ensures.core w) c.put_back-in-Waits.ensures.broken
+    waits_ends (g.C.Client.prog x.client.now) t e _ w c.args.k (g.S.SegStore.meaning x.store)
+    (g.S.SegStore.reserved x.store) x.books c.args.work o
+    (device_state g.I.Source.state g.O.Sink.state g.E.Sink.state y.devices)
+    (λ i. device_state g.I.Source.state g.O.Sink.state g.E.Sink.state (c.put_back-in-Waits.ensures.rest i).devices)
+    (g.S.SegStore.meaning y.store) (g.S.SegStore.reserved y.store) y.books c.args.done c.args.pause c.in-Waits.is
+    out (c.put_back-in-Waits.ensures.core w) c.put_back-in-Waits.ensures.broken
 
 pub returns-in-Ended-clause-settled : goal.returns-in-Ended-clause-settled
 returns-in-Ended-clause-settled g c = λ t e w o out.
     let x = c.args.self.now in
     let y = c.put_back-in-Ended.new.self in
-    ended_ends (g.C.Client.prog x.client.now) t e _ w c.args.k (g.S.SegStore.meaning x.store) (g.S.SegStore.reserved x.store) x.books c.args.work o (device_state g.I.Source.state g.O.Sink.state g.E.Sink.state y.devices) (λ i. device_state g.I.Source.state g.O.Sink.state g.E.Sink.state (c.put_back-in-Ended.ensures.rest i).devices) (g.S.SegStore.meaning y.store) (g.S.SegStore.reserved y.store) y.books c.args.done c.args.pause c.in-Ended.is out (c.put_back-in-Ended.ensures.core w) c.put_back-in-Ended.ensures.broken
+    ended_ends (g.C.Client.prog x.client.now) t e _ w c.args.k (g.S.SegStore.meaning x.store)
+    (g.S.SegStore.reserved x.store) x.books c.args.work o
+    (device_state g.I.Source.state g.O.Sink.state g.E.Sink.state y.devices)
+    (λ i. device_state g.I.Source.state g.O.Sink.state g.E.Sink.state (c.put_back-in-Ended.ensures.rest i).devices)
+    (g.S.SegStore.meaning y.store) (g.S.SegStore.reserved y.store) y.books c.args.done c.args.pause c.in-Ended.is
+    out (c.put_back-in-Ended.ensures.core w) c.put_back-in-Ended.ensures.broken
 
 pub returns-in-Whole-clause-count : goal.returns-in-Whole-clause-count
 returns-in-Whole-clause-count g c =
-    ap (λ s. s.spent) c.put_back.ensures.rest ∙ subst (λ l. CountsSteps c.args.self.now.spent l) (sym (ap (λ k. k.history) (c.put_back.ensures.core blank))) c.requires.count
+    ap (λ s. s.spent) c.put_back.ensures.rest ∙
+    subst (λ l. CountsSteps c.args.self.now.spent l) (sym (ap (λ k. k.history) (c.put_back.ensures.core blank)))
+    c.requires.count
 
 pub returns-in-Whole-clause-rose : goal.returns-in-Whole-clause-rose
 returns-in-Whole-clause-rose g c = λ d d1 h. inl (ap (λ k. k.cause) (c.put_back.ensures.core blank))
 
 pub returns-in-Waits-clause-count : goal.returns-in-Waits-clause-count
 returns-in-Waits-clause-count g c =
-    ap (λ s. s.spent) c.put_back-in-Waits.ensures.rest ∙ subst (λ l. CountsSteps c.args.self.now.spent l) (sym (ap (λ k. k.history) (c.put_back-in-Waits.ensures.core blank))) c.requires.count
+    ap (λ s. s.spent) c.put_back-in-Waits.ensures.rest ∙
+    subst (λ l. CountsSteps c.args.self.now.spent l)
+    (sym (ap (λ k. k.history) (c.put_back-in-Waits.ensures.core blank))) c.requires.count
 
 pub returns-in-Waits-clause-rose : goal.returns-in-Waits-clause-rose
 returns-in-Waits-clause-rose g c = λ d d1 h. inl (ap (λ k. k.cause) (c.put_back-in-Waits.ensures.core blank))
 
 pub returns-in-Ended-clause-count : goal.returns-in-Ended-clause-count
 returns-in-Ended-clause-count g c =
-    ap (λ s. s.spent) c.put_back-in-Ended.ensures.rest ∙ subst (λ l. CountsSteps c.args.self.now.spent l) (sym (ap (λ k. k.history) (c.put_back-in-Ended.ensures.core blank))) c.requires.count
+    ap (λ s. s.spent) c.put_back-in-Ended.ensures.rest ∙
+    subst (λ l. CountsSteps c.args.self.now.spent l)
+    (sym (ap (λ k. k.history) (c.put_back-in-Ended.ensures.core blank))) c.requires.count
 
 pub returns-in-Ended-clause-rose : goal.returns-in-Ended-clause-rose
 returns-in-Ended-clause-rose g c = λ d d1 h. inl (ap (λ k. k.cause) (c.put_back-in-Ended.ensures.core blank))
 
 pub returns-in-Stopped-clause-counted : goal.returns-in-Stopped-clause-counted
-returns-in-Stopped-clause-counted g c = λ most h. c.settle_stop.ensures.counted most (subst (PauseCount most c.args.done) c.in-Stopped.is h)
+returns-in-Stopped-clause-counted g c = λ most h.
+    c.settle_stop.ensures.counted most (subst (PauseCount most c.args.done) c.in-Stopped.is h)

@@ -7,53 +7,107 @@ use Rattle.stm_core.proofs.transactions.Core.settle_stop.Goals as goal
 
 pub returns-in-NeedSolo-clause-count : goal.returns-in-NeedSolo-clause-count
 returns-in-NeedSolo-clause-count g c =
-    ap (λ s. s.spent) c.put_back.ensures.rest ∙ subst (λ l. CountsSteps c.args.self.now.spent l) (sym (ap (λ k. k.history) (c.put_back.ensures.core blank))) c.requires.count
+    ap (λ s. s.spent) c.put_back.ensures.rest ∙
+    subst (λ l. CountsSteps c.args.self.now.spent l) (sym (ap (λ k. k.history) (c.put_back.ensures.core blank)))
+    c.requires.count
 
 pub returns-in-NeedSolo-clause-rose : goal.returns-in-NeedSolo-clause-rose
 returns-in-NeedSolo-clause-rose g c = λ d d1 h. inl (ap (λ k. k.cause) (c.put_back.ensures.core blank))
 
 pub returns-in-Lost-clause-count : goal.returns-in-Lost-clause-count
 returns-in-Lost-clause-count g c =
-    ap (λ s. s.spent) c.lose_out.ensures.rest ∙ subst (λ l. CountsSteps c.args.self.now.spent l) (sym (ap (λ k. k.history) (c.lose_out.ensures.core blank))) c.requires.count
+    ap (λ s. s.spent) c.lose_out.ensures.rest ∙
+    subst (λ l. CountsSteps c.args.self.now.spent l) (sym (ap (λ k. k.history) (c.lose_out.ensures.core blank)))
+    c.requires.count
 
 pub returns-in-NeedSolo-clause-settled : goal.returns-in-NeedSolo-clause-settled
 returns-in-NeedSolo-clause-settled g c = λ t e w o out.
     let x = c.args.self.now in
     let y = c.put_back.new.self in
-    solo_ends (g.C.Client.prog x.client.now) t e _ w c.args.k (g.S.SegStore.meaning x.store) (g.S.SegStore.reserved x.store) x.books c.args.work o (device_state g.I.Source.state g.O.Sink.state g.E.Sink.state y.devices) (λ i. device_state g.I.Source.state g.O.Sink.state g.E.Sink.state (c.put_back.ensures.rest i).devices) (g.S.SegStore.meaning y.store) (g.S.SegStore.reserved y.store) y.books c.args.done c.args.stop c.in-NeedSolo.is out (c.put_back.ensures.core w) c.put_back.ensures.broken
+    solo_ends (g.C.Client.prog x.client.now) t e _ w c.args.k (g.S.SegStore.meaning x.store)
+    (g.S.SegStore.reserved x.store) x.books c.args.work o
+    (device_state g.I.Source.state g.O.Sink.state g.E.Sink.state y.devices)
+    (λ i. device_state g.I.Source.state g.O.Sink.state g.E.Sink.state (c.put_back.ensures.rest i).devices)
+    (g.S.SegStore.meaning y.store) (g.S.SegStore.reserved y.store) y.books c.args.done c.args.stop c.in-NeedSolo.is
+    out (c.put_back.ensures.core w) c.put_back.ensures.broken
 
 pub returns-in-Lost-clause-settled : goal.returns-in-Lost-clause-settled
 returns-in-Lost-clause-settled g c = λ t e w o out.
     let x = c.args.self.now in
     let y = c.lose_out.new.self in
-    lost_ends (g.C.Client.prog x.client.now) t e _ w c.args.k (g.S.SegStore.meaning x.store) (g.S.SegStore.reserved x.store) x.books c.args.work o (device_state g.I.Source.state g.O.Sink.state g.E.Sink.state y.devices) (λ i. device_state g.I.Source.state g.O.Sink.state g.E.Sink.state (c.lose_out.ensures.rest i).devices) (g.S.SegStore.meaning y.store) (g.S.SegStore.reserved y.store) y.books c.in-Lost.f c.args.stop c.in-Lost.is out c.requires.idle (c.lose_out.ensures.core w) c.lose_out.ensures.broken
+    lost_ends (g.C.Client.prog x.client.now) t e _ w c.args.k (g.S.SegStore.meaning x.store)
+    (g.S.SegStore.reserved x.store) x.books c.args.work o
+    (device_state g.I.Source.state g.O.Sink.state g.E.Sink.state y.devices)
+    (λ i. device_state g.I.Source.state g.O.Sink.state g.E.Sink.state (c.lose_out.ensures.rest i).devices)
+    (g.S.SegStore.meaning y.store) (g.S.SegStore.reserved y.store) y.books c.in-Lost.f c.args.stop c.in-Lost.is out
+    c.requires.idle (c.lose_out.ensures.core w) c.lose_out.ensures.broken
 
 pub returns-in-Full-clause-settled : goal.returns-in-Full-clause-settled
 returns-in-Full-clause-settled g c = λ t e w o out.
     let x = c.args.self.now in
     let y = c.fail_out.new.self in
-    full_ends (g.C.Client.prog x.client.now) t e _ w c.args.k (g.S.SegStore.meaning x.store) (g.S.SegStore.reserved x.store) x.books c.args.work o (device_state g.I.Source.state g.O.Sink.state g.E.Sink.state y.devices) (λ i. device_state g.I.Source.state g.O.Sink.state g.E.Sink.state (c.fail_out.ensures.rest i).devices) (g.S.SegStore.meaning y.store) (g.S.SegStore.reserved y.store) y.books c.in-Full.reserved c.in-Full.need c.in-Full.limit c.args.stop c.in-Full.is out c.requires.idle c.fail_out.ensures.reserved c.fail_out.ensures.shape.1 (λ q. let h = c.fail_out.ensures.mortal q in record { broken = h.0; core = h.1 }) (λ q. let h = c.fail_out.ensures.solo q in record { broken = h.0; core = h.1 }) c.fail_out.result c.fail_out.ensures.same
+    full_ends (g.C.Client.prog x.client.now) t e _ w c.args.k (g.S.SegStore.meaning x.store)
+    (g.S.SegStore.reserved x.store) x.books c.args.work o
+    (device_state g.I.Source.state g.O.Sink.state g.E.Sink.state y.devices)
+    (λ i. device_state g.I.Source.state g.O.Sink.state g.E.Sink.state (c.fail_out.ensures.rest i).devices)
+    (g.S.SegStore.meaning y.store) (g.S.SegStore.reserved y.store) y.books c.in-Full.reserved c.in-Full.need
+    c.in-Full.limit c.args.stop c.in-Full.is out c.requires.idle c.fail_out.ensures.reserved
+    c.fail_out.ensures.shape.1 (λ q. let h = c.fail_out.ensures.mortal q in record { broken = h.0; core = h.1 })
+    (λ q. let h = c.fail_out.ensures.solo q in record { broken = h.0; core = h.1 }) c.fail_out.result
+    c.fail_out.ensures.same
 
 pub returns-in-OutOfMemory-clause-settled : goal.returns-in-OutOfMemory-clause-settled
 returns-in-OutOfMemory-clause-settled g c = λ t e w o out.
     let x = c.args.self.now in
     let y = c.fail_out-in-OutOfMemory.new.self in
-    memory_ends (g.C.Client.prog x.client.now) t e _ w c.args.k (g.S.SegStore.meaning x.store) (g.S.SegStore.reserved x.store) x.books c.args.work o (device_state g.I.Source.state g.O.Sink.state g.E.Sink.state y.devices) (λ i. device_state g.I.Source.state g.O.Sink.state g.E.Sink.state (c.fail_out-in-OutOfMemory.ensures.rest i).devices) (g.S.SegStore.meaning y.store) (g.S.SegStore.reserved y.store) y.books c.args.stop c.in-OutOfMemory.is out c.requires.idle (λ q. let h = c.fail_out-in-OutOfMemory.ensures.mortal q in record { broken = h.0; core = h.1 }) (λ q. let h = c.fail_out-in-OutOfMemory.ensures.solo q in record { broken = h.0; core = h.1 }) c.fail_out-in-OutOfMemory.result c.fail_out-in-OutOfMemory.ensures.same
+    memory_ends (g.C.Client.prog x.client.now) t e _ w c.args.k (g.S.SegStore.meaning x.store)
+    (g.S.SegStore.reserved x.store) x.books c.args.work o
+    (device_state g.I.Source.state g.O.Sink.state g.E.Sink.state y.devices)
+    (λ i. device_state g.I.Source.state g.O.Sink.state g.E.Sink.state
+    (c.fail_out-in-OutOfMemory.ensures.rest i).devices) (g.S.SegStore.meaning y.store)
+    (g.S.SegStore.reserved y.store) y.books c.args.stop c.in-OutOfMemory.is out c.requires.idle
+    (λ q. let h = c.fail_out-in-OutOfMemory.ensures.mortal q in record { broken = h.0; core = h.1 })
+    (λ q. let h = c.fail_out-in-OutOfMemory.ensures.solo q in record { broken = h.0; core = h.1 })
+    c.fail_out-in-OutOfMemory.result c.fail_out-in-OutOfMemory.ensures.same
 
 pub returns-in-ReadFault-clause-settled : goal.returns-in-ReadFault-clause-settled
 returns-in-ReadFault-clause-settled g c = λ t e w o out.
     let x = c.args.self.now in
     let y = c.fail_out-in-ReadFault.new.self in
-    read_ends (g.C.Client.prog x.client.now) t e _ w c.args.k (g.S.SegStore.meaning x.store) (g.S.SegStore.reserved x.store) x.books c.args.work o (device_state g.I.Source.state g.O.Sink.state g.E.Sink.state y.devices) (λ i. device_state g.I.Source.state g.O.Sink.state g.E.Sink.state (c.fail_out-in-ReadFault.ensures.rest i).devices) (g.S.SegStore.meaning y.store) (g.S.SegStore.reserved y.store) y.books c.args.stop c.in-ReadFault.is out c.requires.idle (λ q. let h = c.fail_out-in-ReadFault.ensures.mortal q in record { broken = h.0; core = h.1 }) (λ q. let h = c.fail_out-in-ReadFault.ensures.solo q in record { broken = h.0; core = h.1 }) c.fail_out-in-ReadFault.result c.fail_out-in-ReadFault.ensures.same
+    read_ends (g.C.Client.prog x.client.now) t e _ w c.args.k (g.S.SegStore.meaning x.store)
+    (g.S.SegStore.reserved x.store) x.books c.args.work o
+    (device_state g.I.Source.state g.O.Sink.state g.E.Sink.state y.devices)
+    (λ i. device_state g.I.Source.state g.O.Sink.state g.E.Sink.state
+    (c.fail_out-in-ReadFault.ensures.rest i).devices) (g.S.SegStore.meaning y.store)
+    (g.S.SegStore.reserved y.store) y.books c.args.stop c.in-ReadFault.is out c.requires.idle
+    (λ q. let h = c.fail_out-in-ReadFault.ensures.mortal q in record { broken = h.0; core = h.1 })
+    (λ q. let h = c.fail_out-in-ReadFault.ensures.solo q in record { broken = h.0; core = h.1 })
+    c.fail_out-in-ReadFault.result c.fail_out-in-ReadFault.ensures.same
 
 pub returns-in-WriteFault-clause-settled : goal.returns-in-WriteFault-clause-settled
 returns-in-WriteFault-clause-settled g c = λ t e w o out.
     let x = c.args.self.now in
     let y = c.fail_out-in-WriteFault.new.self in
-    write_ends (g.C.Client.prog x.client.now) t e _ w c.args.k (g.S.SegStore.meaning x.store) (g.S.SegStore.reserved x.store) x.books c.args.work o (device_state g.I.Source.state g.O.Sink.state g.E.Sink.state y.devices) (λ i. device_state g.I.Source.state g.O.Sink.state g.E.Sink.state (c.fail_out-in-WriteFault.ensures.rest i).devices) (g.S.SegStore.meaning y.store) (g.S.SegStore.reserved y.store) y.books c.args.stop c.in-WriteFault.is out c.requires.idle (λ q. let h = c.fail_out-in-WriteFault.ensures.mortal q in record { broken = h.0; core = h.1 }) (λ q. let h = c.fail_out-in-WriteFault.ensures.solo q in record { broken = h.0; core = h.1 }) c.fail_out-in-WriteFault.result c.fail_out-in-WriteFault.ensures.same
+    write_ends (g.C.Client.prog x.client.now) t e _ w c.args.k (g.S.SegStore.meaning x.store)
+    (g.S.SegStore.reserved x.store) x.books c.args.work o
+    (device_state g.I.Source.state g.O.Sink.state g.E.Sink.state y.devices)
+    (λ i. device_state g.I.Source.state g.O.Sink.state g.E.Sink.state
+    (c.fail_out-in-WriteFault.ensures.rest i).devices) (g.S.SegStore.meaning y.store)
+    (g.S.SegStore.reserved y.store) y.books c.args.stop c.in-WriteFault.is out c.requires.idle
+    (λ q. let h = c.fail_out-in-WriteFault.ensures.mortal q in record { broken = h.0; core = h.1 })
+    (λ q. let h = c.fail_out-in-WriteFault.ensures.solo q in record { broken = h.0; core = h.1 })
+    c.fail_out-in-WriteFault.result c.fail_out-in-WriteFault.ensures.same
 
 pub returns-in-ErrFault-clause-settled : goal.returns-in-ErrFault-clause-settled
 returns-in-ErrFault-clause-settled g c = λ t e w o out.
     let x = c.args.self.now in
     let y = c.fail_out-in-ErrFault.new.self in
-    err_ends (g.C.Client.prog x.client.now) t e _ w c.args.k (g.S.SegStore.meaning x.store) (g.S.SegStore.reserved x.store) x.books c.args.work o (device_state g.I.Source.state g.O.Sink.state g.E.Sink.state y.devices) (λ i. device_state g.I.Source.state g.O.Sink.state g.E.Sink.state (c.fail_out-in-ErrFault.ensures.rest i).devices) (g.S.SegStore.meaning y.store) (g.S.SegStore.reserved y.store) y.books c.args.stop c.in-ErrFault.is out c.requires.idle (λ q. let h = c.fail_out-in-ErrFault.ensures.mortal q in record { broken = h.0; core = h.1 }) (λ q. let h = c.fail_out-in-ErrFault.ensures.solo q in record { broken = h.0; core = h.1 }) c.fail_out-in-ErrFault.result c.fail_out-in-ErrFault.ensures.same
+    err_ends (g.C.Client.prog x.client.now) t e _ w c.args.k (g.S.SegStore.meaning x.store)
+    (g.S.SegStore.reserved x.store) x.books c.args.work o
+    (device_state g.I.Source.state g.O.Sink.state g.E.Sink.state y.devices)
+    (λ i. device_state g.I.Source.state g.O.Sink.state g.E.Sink.state
+    (c.fail_out-in-ErrFault.ensures.rest i).devices) (g.S.SegStore.meaning y.store) (g.S.SegStore.reserved y.store)
+    y.books c.args.stop c.in-ErrFault.is out c.requires.idle
+    (λ q. let h = c.fail_out-in-ErrFault.ensures.mortal q in record { broken = h.0; core = h.1 })
+    (λ q. let h = c.fail_out-in-ErrFault.ensures.solo q in record { broken = h.0; core = h.1 })
+    c.fail_out-in-ErrFault.result c.fail_out-in-ErrFault.ensures.same

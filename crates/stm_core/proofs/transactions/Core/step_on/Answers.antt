@@ -13,18 +13,33 @@ use Rattle.stm_core.proofs.transactions.Core.step_on.Goals.{After-step_out, In-E
 use Rattle.stm_core.proofs.transactions.Core.step_on.Goals as goal
 
 pub step_out-requires-clause-stands : goal.step_out-requires-clause-stands
-step_out-requires-clause-stands g c = sane_stands (g.C.Client.prog c.args.self.now.client.now) (g.C.Client.sound c.args.self.now.client.now) c.args.length c.args.k (g.S.SegStore.meaning c.args.self.now.store) c.args.self.now.books c.args.work.now (g.met.C.Client.sound_step c.args.self.now.client.now) c.requires.sane.sane
+step_out-requires-clause-stands g c = sane_stands (g.C.Client.prog c.args.self.now.client.now)
+    (g.C.Client.sound c.args.self.now.client.now) c.args.length c.args.k (g.S.SegStore.meaning c.args.self.now.store)
+    c.args.self.now.books c.args.work.now (g.met.C.Client.sound_step c.args.self.now.client.now) c.requires.sane.sane
 
 pub returns-in-Ok-Waits-clause-paused : goal.returns-in-Ok-Waits-clause-paused
 returns-in-Ok-Waits-clause-paused g c = λ t e w n c0 shown h.
     let z = c.in-Ok-Waits.ensures.done t e w shown in
-    paused_waits (g.C.Client.prog c.args.self.now.client.now) c.args.length c.args.k n t e w (device_state g.I.Source.state g.O.Sink.state g.E.Sink.state c.step_out.new.self.devices) (g.S.SegStore.meaning c.args.self.now.store) (g.S.SegStore.meaning c.step_out.new.self.store) (g.S.SegStore.reserved c.step_out.new.self.store) c.args.self.now.books c.step_out.new.self.books c.args.work.now c.step_out.new.work c0 c.step_out.ensures.image c.step_out.ensures.store c.step_out.ensures.fit c.requires.lives c.step_out.ensures.same.3 h z.0 c.in-Ok-Waits.field-0 c.in-Ok-Waits.field-0-is z.2 z.1
+    paused_waits (g.C.Client.prog c.args.self.now.client.now) c.args.length c.args.k n t e w
+    (device_state g.I.Source.state g.O.Sink.state g.E.Sink.state c.step_out.new.self.devices)
+    (g.S.SegStore.meaning c.args.self.now.store) (g.S.SegStore.meaning c.step_out.new.self.store)
+    (g.S.SegStore.reserved c.step_out.new.self.store) c.args.self.now.books c.step_out.new.self.books
+    c.args.work.now c.step_out.new.work c0 c.step_out.ensures.image c.step_out.ensures.store c.step_out.ensures.fit
+    c.requires.lives c.step_out.ensures.same.3 h z.0 c.in-Ok-Waits.field-0 c.in-Ok-Waits.field-0-is z.2 z.1
 
 pub returns-in-Ok-Waits-clause-sane : goal.returns-in-Ok-Waits-clause-sane
 returns-in-Ok-Waits-clause-sane g c =
     let s = c.requires.sane in
-    let c0 = core_with s.sane.worlds c.args.k (g.S.SegStore.meaning c.args.self.now.store) c.args.self.now.books c.args.work.now in
-    sane_paused (g.C.Client.prog c.args.self.now.client.now) (g.C.Client.sound c.args.self.now.client.now) c.args.length c.args.k 0 (g.S.SegStore.reserved c.step_out.new.self.store) Waits (device_state g.I.Source.state g.O.Sink.state g.E.Sink.state c.args.self.now.devices) (device_state g.I.Source.state g.O.Sink.state g.E.Sink.state c.step_out.new.self.devices) (g.S.SegStore.meaning c.args.self.now.store) (g.S.SegStore.meaning c.step_out.new.self.store) c.args.self.now.books c.step_out.new.self.books c.args.work.now c.step_out.new.work s (returns-in-Ok-Waits-clause-paused g c s.out s.err s.sane.worlds 0 c0 s.shown (tried_none (g.C.Client.prog c.args.self.now.client.now) c.args.length c.args.k true c0))
+    let c0 = core_with s.sane.worlds c.args.k (g.S.SegStore.meaning c.args.self.now.store) c.args.self.now.books
+    c.args.work.now in
+    sane_paused (g.C.Client.prog c.args.self.now.client.now) (g.C.Client.sound c.args.self.now.client.now)
+    c.args.length c.args.k 0 (g.S.SegStore.reserved c.step_out.new.self.store) Waits
+    (device_state g.I.Source.state g.O.Sink.state g.E.Sink.state c.args.self.now.devices)
+    (device_state g.I.Source.state g.O.Sink.state g.E.Sink.state c.step_out.new.self.devices)
+    (g.S.SegStore.meaning c.args.self.now.store) (g.S.SegStore.meaning c.step_out.new.self.store)
+    c.args.self.now.books c.step_out.new.self.books c.args.work.now c.step_out.new.work s
+    (returns-in-Ok-Waits-clause-paused g c s.out s.err s.sane.worlds 0 c0 s.shown
+    (tried_none (g.C.Client.prog c.args.self.now.client.now) c.args.length c.args.k true c0))
 
 pub returns-in-Ok-Done-clause-paused : goal.returns-in-Ok-Done-clause-paused
 returns-in-Ok-Done-clause-paused g c = λ t e w n c0 shown h.
@@ -33,15 +48,38 @@ returns-in-Ok-Done-clause-paused g c = λ t e w n c0 shown h.
     let goes : o ≢ WaitsNow = λ q. done_not_waits (sym c.in-Ok-Done.field-0-is ∙ q) in
     let z = c.in-Ok-Done.ensures.done t e w shown in
     let y = c.in-Ok-Done.ensures.done s.out s.err s.sane.worlds s.shown in
-    let others = done_others (g.C.Client.prog c.args.self.now.client.now) (g.C.Client.sound c.args.self.now.client.now) c.args.length c.args.k (g.S.SegStore.meaning c.args.self.now.store) (g.S.SegStore.meaning c.step_out.new.self.store) c.args.self.now.books c.step_out.new.self.books c.args.work.now c.step_out.new.work s.sane y.0 o y.2 in
-    subst (λ (v : Work g.row.C-State.Denot). Paused (g.C.Client.prog c.args.self.now.client.now) c.args.length c.args.k t e w c0 (n + 1) Whole (g.S.SegStore.meaning c.step_out.new.self.store) (g.S.SegStore.reserved c.step_out.new.self.store) c.step_out.new.self.books v (device_state g.I.Source.state g.O.Sink.state g.E.Sink.state c.step_out.new.self.devices)) (sym c.count_step.ensures)
-    (paused_whole (g.C.Client.prog c.args.self.now.client.now) c.args.length c.args.k n t e w (device_state g.I.Source.state g.O.Sink.state g.E.Sink.state c.step_out.new.self.devices) (g.S.SegStore.meaning c.args.self.now.store) (g.S.SegStore.meaning c.step_out.new.self.store) (g.S.SegStore.reserved c.step_out.new.self.store) c.args.self.now.books c.step_out.new.self.books c.args.work.now c.step_out.new.work c0 c.step_out.ensures.image c.step_out.ensures.store c.step_out.ensures.fit c.requires.lives c.step_out.ensures.same.3 h z.0 o goes z.2 (let q = c.requires.short in omega (arith, q)) others z.1 (subst (λ v. LifeAfter v ((g.C.Client.prog c.args.self.now.client.now).life c.step_out.new.work.state)) c.in-Ok-Done.field-0-is c.in-Ok-Done.ensures.life))
+    let others = done_others (g.C.Client.prog c.args.self.now.client.now) (g.C.Client.sound c.args.self.now.client.now)
+    c.args.length c.args.k (g.S.SegStore.meaning c.args.self.now.store)
+    (g.S.SegStore.meaning c.step_out.new.self.store) c.args.self.now.books c.step_out.new.self.books
+    c.args.work.now c.step_out.new.work s.sane y.0 o y.2 in
+    subst (λ (v : Work g.row.C-State.Denot). Paused (g.C.Client.prog c.args.self.now.client.now) c.args.length c.args.k
+    t e w c0 (n + 1) Whole (g.S.SegStore.meaning c.step_out.new.self.store)
+    (g.S.SegStore.reserved c.step_out.new.self.store) c.step_out.new.self.books v
+    (device_state g.I.Source.state g.O.Sink.state g.E.Sink.state c.step_out.new.self.devices))
+    (sym c.count_step.ensures)
+    (paused_whole (g.C.Client.prog c.args.self.now.client.now) c.args.length c.args.k n t e w
+    (device_state g.I.Source.state g.O.Sink.state g.E.Sink.state c.step_out.new.self.devices)
+    (g.S.SegStore.meaning c.args.self.now.store) (g.S.SegStore.meaning c.step_out.new.self.store)
+    (g.S.SegStore.reserved c.step_out.new.self.store) c.args.self.now.books c.step_out.new.self.books
+    c.args.work.now c.step_out.new.work c0 c.step_out.ensures.image c.step_out.ensures.store c.step_out.ensures.fit
+    c.requires.lives c.step_out.ensures.same.3 h z.0 o goes z.2 (let q = c.requires.short in omega (arith, q))
+    others z.1 (subst (λ v. LifeAfter v
+    ((g.C.Client.prog c.args.self.now.client.now).life c.step_out.new.work.state)) c.in-Ok-Done.field-0-is
+    c.in-Ok-Done.ensures.life))
 
 pub returns-in-Ok-Done-clause-sane : goal.returns-in-Ok-Done-clause-sane
 returns-in-Ok-Done-clause-sane g c =
     let s = c.requires.sane in
-    let c0 = core_with s.sane.worlds c.args.k (g.S.SegStore.meaning c.args.self.now.store) c.args.self.now.books c.args.work.now in
-    sane_paused (g.C.Client.prog c.args.self.now.client.now) (g.C.Client.sound c.args.self.now.client.now) c.args.length c.args.k 1 (g.S.SegStore.reserved c.step_out.new.self.store) Whole (device_state g.I.Source.state g.O.Sink.state g.E.Sink.state c.args.self.now.devices) (device_state g.I.Source.state g.O.Sink.state g.E.Sink.state c.step_out.new.self.devices) (g.S.SegStore.meaning c.args.self.now.store) (g.S.SegStore.meaning c.step_out.new.self.store) c.args.self.now.books c.step_out.new.self.books c.args.work.now c.count_step.new.self s (returns-in-Ok-Done-clause-paused g c s.out s.err s.sane.worlds 0 c0 s.shown (tried_none (g.C.Client.prog c.args.self.now.client.now) c.args.length c.args.k true c0))
+    let c0 = core_with s.sane.worlds c.args.k (g.S.SegStore.meaning c.args.self.now.store) c.args.self.now.books
+    c.args.work.now in
+    sane_paused (g.C.Client.prog c.args.self.now.client.now) (g.C.Client.sound c.args.self.now.client.now)
+    c.args.length c.args.k 1 (g.S.SegStore.reserved c.step_out.new.self.store) Whole
+    (device_state g.I.Source.state g.O.Sink.state g.E.Sink.state c.args.self.now.devices)
+    (device_state g.I.Source.state g.O.Sink.state g.E.Sink.state c.step_out.new.self.devices)
+    (g.S.SegStore.meaning c.args.self.now.store) (g.S.SegStore.meaning c.step_out.new.self.store)
+    c.args.self.now.books c.step_out.new.self.books c.args.work.now c.count_step.new.self s
+    (returns-in-Ok-Done-clause-paused g c s.out s.err s.sane.worlds 0 c0 s.shown
+    (tried_none (g.C.Client.prog c.args.self.now.client.now) c.args.length c.args.k true c0))
 
 pub returns-in-Ok-Ended-clause-paused : goal.returns-in-Ok-Ended-clause-paused
 returns-in-Ok-Ended-clause-paused g c = λ t e w n c0 shown h.
@@ -50,36 +88,84 @@ returns-in-Ok-Ended-clause-paused g c = λ t e w n c0 shown h.
     let goes : o ≢ WaitsNow = λ q. ended_not_waits (sym c.in-Ok-Ended.field-0-is ∙ q) in
     let z = c.in-Ok-Ended.ensures.done t e w shown in
     let y = c.in-Ok-Ended.ensures.done s.out s.err s.sane.worlds s.shown in
-    let others = done_others (g.C.Client.prog c.args.self.now.client.now) (g.C.Client.sound c.args.self.now.client.now) c.args.length c.args.k (g.S.SegStore.meaning c.args.self.now.store) (g.S.SegStore.meaning c.step_out.new.self.store) c.args.self.now.books c.step_out.new.self.books c.args.work.now c.step_out.new.work s.sane y.0 o y.2 in
-    subst (λ (v : Work g.row.C-State.Denot). Paused (g.C.Client.prog c.args.self.now.client.now) c.args.length c.args.k t e w c0 (n + 1) Ended (g.S.SegStore.meaning c.step_out.new.self.store) (g.S.SegStore.reserved c.step_out.new.self.store) c.step_out.new.self.books v (device_state g.I.Source.state g.O.Sink.state g.E.Sink.state c.step_out.new.self.devices)) (sym c.count_step-in-Ok-Ended.ensures)
-    (paused_ended (g.C.Client.prog c.args.self.now.client.now) c.args.length c.args.k n t e w (device_state g.I.Source.state g.O.Sink.state g.E.Sink.state c.step_out.new.self.devices) (g.S.SegStore.meaning c.args.self.now.store) (g.S.SegStore.meaning c.step_out.new.self.store) (g.S.SegStore.reserved c.step_out.new.self.store) c.args.self.now.books c.step_out.new.self.books c.args.work.now c.step_out.new.work c0 c.step_out.ensures.image c.step_out.ensures.store c.step_out.ensures.fit c.requires.lives c.step_out.ensures.same.3 h z.0 o goes z.2 (let q = c.requires.short in omega (arith, q)) others z.1 (subst (λ v. LifeAfter v ((g.C.Client.prog c.args.self.now.client.now).life c.step_out.new.work.state)) c.in-Ok-Ended.field-0-is c.in-Ok-Ended.ensures.life))
+    let others = done_others (g.C.Client.prog c.args.self.now.client.now) (g.C.Client.sound c.args.self.now.client.now)
+    c.args.length c.args.k (g.S.SegStore.meaning c.args.self.now.store)
+    (g.S.SegStore.meaning c.step_out.new.self.store) c.args.self.now.books c.step_out.new.self.books
+    c.args.work.now c.step_out.new.work s.sane y.0 o y.2 in
+    subst (λ (v : Work g.row.C-State.Denot). Paused (g.C.Client.prog c.args.self.now.client.now) c.args.length c.args.k
+    t e w c0 (n + 1) Ended (g.S.SegStore.meaning c.step_out.new.self.store)
+    (g.S.SegStore.reserved c.step_out.new.self.store) c.step_out.new.self.books v
+    (device_state g.I.Source.state g.O.Sink.state g.E.Sink.state c.step_out.new.self.devices))
+    (sym c.count_step-in-Ok-Ended.ensures)
+    (paused_ended (g.C.Client.prog c.args.self.now.client.now) c.args.length c.args.k n t e w
+    (device_state g.I.Source.state g.O.Sink.state g.E.Sink.state c.step_out.new.self.devices)
+    (g.S.SegStore.meaning c.args.self.now.store) (g.S.SegStore.meaning c.step_out.new.self.store)
+    (g.S.SegStore.reserved c.step_out.new.self.store) c.args.self.now.books c.step_out.new.self.books
+    c.args.work.now c.step_out.new.work c0 c.step_out.ensures.image c.step_out.ensures.store c.step_out.ensures.fit
+    c.requires.lives c.step_out.ensures.same.3 h z.0 o goes z.2 (let q = c.requires.short in omega (arith, q))
+    others z.1 (subst (λ v. LifeAfter v
+    ((g.C.Client.prog c.args.self.now.client.now).life c.step_out.new.work.state)) c.in-Ok-Ended.field-0-is
+    c.in-Ok-Ended.ensures.life))
 
 pub returns-in-Ok-Ended-clause-sane : goal.returns-in-Ok-Ended-clause-sane
 returns-in-Ok-Ended-clause-sane g c =
     let s = c.requires.sane in
-    let c0 = core_with s.sane.worlds c.args.k (g.S.SegStore.meaning c.args.self.now.store) c.args.self.now.books c.args.work.now in
-    sane_paused (g.C.Client.prog c.args.self.now.client.now) (g.C.Client.sound c.args.self.now.client.now) c.args.length c.args.k 1 (g.S.SegStore.reserved c.step_out.new.self.store) Ended (device_state g.I.Source.state g.O.Sink.state g.E.Sink.state c.args.self.now.devices) (device_state g.I.Source.state g.O.Sink.state g.E.Sink.state c.step_out.new.self.devices) (g.S.SegStore.meaning c.args.self.now.store) (g.S.SegStore.meaning c.step_out.new.self.store) c.args.self.now.books c.step_out.new.self.books c.args.work.now c.count_step-in-Ok-Ended.new.self s (returns-in-Ok-Ended-clause-paused g c s.out s.err s.sane.worlds 0 c0 s.shown (tried_none (g.C.Client.prog c.args.self.now.client.now) c.args.length c.args.k true c0))
+    let c0 = core_with s.sane.worlds c.args.k (g.S.SegStore.meaning c.args.self.now.store) c.args.self.now.books
+    c.args.work.now in
+    sane_paused (g.C.Client.prog c.args.self.now.client.now) (g.C.Client.sound c.args.self.now.client.now)
+    c.args.length c.args.k 1 (g.S.SegStore.reserved c.step_out.new.self.store) Ended
+    (device_state g.I.Source.state g.O.Sink.state g.E.Sink.state c.args.self.now.devices)
+    (device_state g.I.Source.state g.O.Sink.state g.E.Sink.state c.step_out.new.self.devices)
+    (g.S.SegStore.meaning c.args.self.now.store) (g.S.SegStore.meaning c.step_out.new.self.store)
+    c.args.self.now.books c.step_out.new.self.books c.args.work.now c.count_step-in-Ok-Ended.new.self s
+    (returns-in-Ok-Ended-clause-paused g c s.out s.err s.sane.worlds 0 c0 s.shown
+    (tried_none (g.C.Client.prog c.args.self.now.client.now) c.args.length c.args.k true c0))
 
 -- the core is good after a step that was cut
-sane_cut : (g : given.Over) (c : In-Err g) → Sane (g.C.Client.prog c.args.self.now.client.now) (g.C.Client.sound c.args.self.now.client.now) c.args.length c.args.k (g.S.SegStore.meaning c.step_out.new.self.store) c.step_out.new.self.books c.step_out.new.work
+sane_cut : (g : given.Over) (c : In-Err g) →
+    Sane (g.C.Client.prog c.args.self.now.client.now) (g.C.Client.sound c.args.self.now.client.now) c.args.length
+    c.args.k (g.S.SegStore.meaning c.step_out.new.self.store) c.step_out.new.self.books c.step_out.new.work
 sane_cut g c =
     let s = c.requires.sane in
     let w = s.sane.worlds in
     let c0 = core_with w c.args.k (g.S.SegStore.meaning c.args.self.now.store) c.args.self.now.books c.args.work.now in
-    let gone = gone_cut (g.C.Client.prog c.args.self.now.client.now) c.args.length c.args.k 0 w (g.S.SegStore.meaning c.args.self.now.store) (g.S.SegStore.meaning c.step_out.new.self.store) (g.S.SegStore.reserved c.step_out.new.self.store) c.args.self.now.books c.step_out.new.self.books c.args.work.now c.step_out.new.work c0 c.step_out.ensures.image c.step_out.ensures.store c.step_out.ensures.fit (tried_none (g.C.Client.prog c.args.self.now.client.now) c.args.length c.args.k true c0) c.in-Err.stop (c.in-Err.ensures.cut s.out s.err w s.shown) in
+    let gone = gone_cut (g.C.Client.prog c.args.self.now.client.now) c.args.length c.args.k 0 w
+    (g.S.SegStore.meaning c.args.self.now.store) (g.S.SegStore.meaning c.step_out.new.self.store)
+    (g.S.SegStore.reserved c.step_out.new.self.store) c.args.self.now.books c.step_out.new.self.books
+    c.args.work.now c.step_out.new.work c0 c.step_out.ensures.image c.step_out.ensures.store c.step_out.ensures.fit
+    (tried_none (g.C.Client.prog c.args.self.now.client.now) c.args.length c.args.k true c0) c.in-Err.stop
+    (c.in-Err.ensures.cut s.out s.err w s.shown) in
     record {
       worlds = w;
       start = s.sane.start;
       first = s.sane.first;
-      good = gone_good (g.C.Client.prog c.args.self.now.client.now) s.sane.start c.args.length c.args.k 0 1 c0 (core_with w c.args.k (g.S.SegStore.meaning c.step_out.new.self.store) c.step_out.new.self.books c.step_out.new.work) s.sane.good gone;
+      good = gone_good (g.C.Client.prog c.args.self.now.client.now) s.sane.start c.args.length c.args.k 0 1 c0
+          (core_with w c.args.k (g.S.SegStore.meaning c.step_out.new.self.store) c.step_out.new.self.books
+          c.step_out.new.work) s.sane.good gone;
     }
 
 pub returns-in-Err-clause-paused : goal.returns-in-Err-clause-paused
 returns-in-Err-clause-paused g c = λ t e w n c0 shown h.
-    paused_cut (g.C.Client.prog c.args.self.now.client.now) c.args.length c.args.k n t e w (device_state g.I.Source.state g.O.Sink.state g.E.Sink.state c.step_out.new.self.devices) (g.S.SegStore.meaning c.args.self.now.store) (g.S.SegStore.meaning c.step_out.new.self.store) (g.S.SegStore.reserved c.step_out.new.self.store) c.args.self.now.books c.step_out.new.self.books c.args.work.now c.step_out.new.work c0 c.step_out.ensures.image c.step_out.ensures.store c.step_out.ensures.fit c.requires.lives c.step_out.ensures.same.3 h c.in-Err.stop (c.in-Err.ensures.cut t e w shown) (numbers_apart (g.C.Client.prog c.args.self.now.client.now) (g.C.Client.sound c.args.self.now.client.now) c.args.length c.args.k (g.S.SegStore.meaning c.step_out.new.self.store) c.step_out.new.self.books c.step_out.new.work (sane_cut g c) w) (λ q. c.in-Err.ensures.broke q t e w (shown q))
+    paused_cut (g.C.Client.prog c.args.self.now.client.now) c.args.length c.args.k n t e w
+    (device_state g.I.Source.state g.O.Sink.state g.E.Sink.state c.step_out.new.self.devices)
+    (g.S.SegStore.meaning c.args.self.now.store) (g.S.SegStore.meaning c.step_out.new.self.store)
+    (g.S.SegStore.reserved c.step_out.new.self.store) c.args.self.now.books c.step_out.new.self.books
+    c.args.work.now c.step_out.new.work c0 c.step_out.ensures.image c.step_out.ensures.store c.step_out.ensures.fit
+    c.requires.lives c.step_out.ensures.same.3 h c.in-Err.stop (c.in-Err.ensures.cut t e w shown)
+    (numbers_apart (g.C.Client.prog c.args.self.now.client.now) (g.C.Client.sound c.args.self.now.client.now)
+    c.args.length c.args.k (g.S.SegStore.meaning c.step_out.new.self.store) c.step_out.new.self.books
+    c.step_out.new.work (sane_cut g c) w) (λ q. c.in-Err.ensures.broke q t e w (shown q))
 
 pub returns-in-Err-clause-sane : goal.returns-in-Err-clause-sane
 returns-in-Err-clause-sane g c =
     let s = c.requires.sane in
-    let c0 = core_with s.sane.worlds c.args.k (g.S.SegStore.meaning c.args.self.now.store) c.args.self.now.books c.args.work.now in
-    sane_paused (g.C.Client.prog c.args.self.now.client.now) (g.C.Client.sound c.args.self.now.client.now) c.args.length c.args.k 0 (g.S.SegStore.reserved c.step_out.new.self.store) (Stopped c.in-Err.stop) (device_state g.I.Source.state g.O.Sink.state g.E.Sink.state c.args.self.now.devices) (device_state g.I.Source.state g.O.Sink.state g.E.Sink.state c.step_out.new.self.devices) (g.S.SegStore.meaning c.args.self.now.store) (g.S.SegStore.meaning c.step_out.new.self.store) c.args.self.now.books c.step_out.new.self.books c.args.work.now c.step_out.new.work s (returns-in-Err-clause-paused g c s.out s.err s.sane.worlds 0 c0 s.shown (tried_none (g.C.Client.prog c.args.self.now.client.now) c.args.length c.args.k true c0))
+    let c0 = core_with s.sane.worlds c.args.k (g.S.SegStore.meaning c.args.self.now.store) c.args.self.now.books
+    c.args.work.now in
+    sane_paused (g.C.Client.prog c.args.self.now.client.now) (g.C.Client.sound c.args.self.now.client.now)
+    c.args.length c.args.k 0 (g.S.SegStore.reserved c.step_out.new.self.store) (Stopped c.in-Err.stop)
+    (device_state g.I.Source.state g.O.Sink.state g.E.Sink.state c.args.self.now.devices)
+    (device_state g.I.Source.state g.O.Sink.state g.E.Sink.state c.step_out.new.self.devices)
+    (g.S.SegStore.meaning c.args.self.now.store) (g.S.SegStore.meaning c.step_out.new.self.store)
+    c.args.self.now.books c.step_out.new.self.books c.args.work.now c.step_out.new.work s
+    (returns-in-Err-clause-paused g c s.out s.err s.sane.worlds 0 c0 s.shown
+    (tried_none (g.C.Client.prog c.args.self.now.client.now) c.args.length c.args.k true c0))

@@ -19,7 +19,8 @@ abbrev View : given.Over → Type 0
 View g = SegView (State g) g.row.S.Denot g.row.I.Denot g.row.O.Denot g.row.E.Denot g.S.SegStore g.S.Peek
 
 abbrev hold : (g : given.Over) → View g → Hold (State g)
-hold g v = holding (g.S.SegStore.meaning v.store.now) (g.S.SegStore.reserved v.store.now) v.books.now v.progress.now v.stopped
+hold g v = holding (g.S.SegStore.meaning v.store.now) (g.S.SegStore.reserved v.store.now) v.books.now v.progress.now
+    v.stopped
 
 abbrev devices : (g : given.Over) → View g → DeviceState
 devices g v = device_state g.I.Source.state g.O.Sink.state g.E.Sink.state v.devices.now
@@ -31,7 +32,8 @@ abbrev me : (g : given.Over) → View g → Side
 me g v = v.side
 
 abbrev same : (g : given.Over) → View g → View g → Type 0
-same g v w = (w.store.ghost_name ≡ v.store.ghost_name) × (w.books.ghost_name ≡ v.books.ghost_name) × (w.progress.ghost_name ≡ v.progress.ghost_name) × (w.devices.ghost_name ≡ v.devices.ghost_name)
+same g v w = (w.store.ghost_name ≡ v.store.ghost_name) × (w.books.ghost_name ≡ v.books.ghost_name) ×
+    (w.progress.ghost_name ≡ v.progress.ghost_name) × (w.devices.ghost_name ≡ v.devices.ghost_name)
 
 same_refl : (g : given.Over) (v : View g) → same g v v
 same_refl g v = (refl, refl, refl, refl)
@@ -41,7 +43,8 @@ same_then g u v w a b = (b.0 ∙ a.0, b.1 ∙ a.1, b.2 ∙ a.2, b.3 ∙ a.3)
 
 -- what it is made of
 abbrev made_of : (g : given.Over) → goal.After-known g → Hold (State g)
-made_of g c = holding (g.S.SegStore.meaning c.args.self.now.store) (g.S.SegStore.reserved c.args.self.now.store) c.args.self.now.books c.args.work.now.progress None
+made_of g c = holding (g.S.SegStore.meaning c.args.self.now.store) (g.S.SegStore.reserved c.args.self.now.store)
+    c.args.self.now.books c.args.work.now.progress None
 
 abbrev told : (g : given.Over) → goal.After-known g → DeviceState
 told g c = device_state g.I.Source.state g.O.Sink.state g.E.Sink.state c.args.self.now.devices
@@ -50,7 +53,9 @@ told g c = device_state g.I.Source.state g.O.Sink.state g.E.Sink.state c.args.se
 
 same_then_view : (g : given.Over) (c : goal.After-step-result g) → same g c.new-view.result c.step-result.new.v
 same_then_view g c =
-    (step_keeps (hold g) (devices g) (segment g) (me g) (same g) (same_refl g) (same_then g) _ _ _ c.new-view.result _ _ c.step-result.result c.step-result.new.s c.step-result.new.v refl refl refl refl c.step-result.ensures.ok c.step-result.ensures.err).same_is
+    (step_keeps (hold g) (devices g) (segment g) (me g) (same g) (same_refl g) (same_then g) _ _ _ c.new-view.result _
+    _ c.step-result.result c.step-result.new.s c.step-result.new.v refl refl refl refl c.step-result.ensures.ok
+    c.step-result.ensures.err).same_is
 
 pub shape_of-self : goal.shape_of-self
 shape_of-self g c = sym ((same_then_view g c).3 ∙ c.new-view.ensures.refs.3)
@@ -66,13 +71,21 @@ shape_of-work g c = sym ((same_then_view g c).2 ∙ c.new-view.ensures.refs.2)
 
 -- ---- what the step keeps
 
-kept : (g : given.Over) (c : goal.After-known g) → StepKept (hold g) (devices g) (segment g) (me g) (same g) (same_refl g) (same_then g) c.args.k c.side-side.result c.new-view.result (made_of g c) (told g c) c.step-result.new.v c.step-result.result
+kept : (g : given.Over) (c : goal.After-known g) → StepKept (hold g) (devices g) (segment g) (me g) (same g)
+    (same_refl g) (same_then g) c.args.k c.side-side.result c.new-view.result (made_of g c) (told g c)
+    c.step-result.new.v c.step-result.result
 kept g c =
-    step_keeps (hold g) (devices g) (segment g) (me g) (same g) (same_refl g) (same_then g) c.args.k c.side-side.result _ c.new-view.result (made_of g c) (told g c) c.step-result.result c.step-result.new.s c.step-result.new.v c.new-view.ensures.holds (ap (device_state g.I.Source.state g.O.Sink.state g.E.Sink.state) c.new-view.ensures.tells)
+    step_keeps (hold g) (devices g) (segment g) (me g) (same g) (same_refl g) (same_then g) c.args.k c.side-side.result
+    _ c.new-view.result (made_of g c) (told g c) c.step-result.result c.step-result.new.s c.step-result.new.v
+    c.new-view.ensures.holds (ap (device_state g.I.Source.state g.O.Sink.state g.E.Sink.state)
+    c.new-view.ensures.tells)
     c.new-view.ensures.stays.0 c.new-view.ensures.stays.1 c.step-result.ensures.ok c.step-result.ensures.err
 
-fits : (g : given.Over) (c : goal.After-known g) → Fit c.args.k (hold g c.step-result.new.v).meaning (hold g c.step-result.new.v).books (hold g c.step-result.new.v).progress
-fits g c = subst (λ k. Fit k (hold g c.step-result.new.v).meaning (hold g c.step-result.new.v).books (hold g c.step-result.new.v).progress) (kept g c).segment_is c.step-result.new.v.fits
+fits : (g : given.Over) (c : goal.After-known g) →
+    Fit c.args.k (hold g c.step-result.new.v).meaning (hold g c.step-result.new.v).books
+    (hold g c.step-result.new.v).progress
+fits g c = subst (λ k. Fit k (hold g c.step-result.new.v).meaning (hold g c.step-result.new.v).books
+    (hold g c.step-result.new.v).progress) (kept g c).segment_is c.step-result.new.v.fits
 
 pub returns-clause-fit : goal.returns-clause-fit
 returns-clause-fit g c = fits g c
@@ -108,22 +121,49 @@ returns-clause-rose g c = (kept g c).rose
 
 pub returns-clause-life : goal.returns-clause-life
 returns-clause-life g c =
-    IfOk-weaker c.step-result.result _ _ (λ o h. step_lives (hold g) (devices g) (segment g) (me g) (same g) (same_refl g) (same_then g) (g.C.Client.prog c.args.self.now.client.now) c.args.k c.side-side.result c.args.work.now.state c.step-result.new.s c.new-view.result o c.step-result.new.v c.new-view.ensures.stays.0 c.new-view.ensures.stays.1 c.requires.lives (g.met.C.Client.asks_to_print c.args.self.now.client.now c.args.work.now.state) (g.met.C.Client.outcomes c.args.self.now.client.now) h) c.step-result.ensures.ok
+    IfOk-weaker c.step-result.result _ _
+    (λ o h. step_lives (hold g) (devices g) (segment g) (me g) (same g) (same_refl g) (same_then g)
+    (g.C.Client.prog c.args.self.now.client.now) c.args.k c.side-side.result c.args.work.now.state
+    c.step-result.new.s c.new-view.result o c.step-result.new.v c.new-view.ensures.stays.0
+    c.new-view.ensures.stays.1 c.requires.lives
+    (g.met.C.Client.asks_to_print c.args.self.now.client.now c.args.work.now.state)
+    (g.met.C.Client.outcomes c.args.self.now.client.now) h) c.step-result.ensures.ok
 
 pub returns-clause-done : goal.returns-clause-done
 returns-clause-done g c =
-    IfOk-weaker c.step-result.result _ _ (λ o h t e w shown. step_done (hold g) (devices g) (segment g) (me g) (same g) (same_refl g) (same_then g) t e (g.C.Client.prog c.args.self.now.client.now) w c.args.k (g.S.SegStore.meaning c.args.self.now.store) (g.S.SegStore.reserved c.args.self.now.store) c.args.self.now.books c.args.work.now
-    (told g c) c.new-view.result h.0 c.step-result.new.v c.step-result.new.s c.new-view.ensures.holds (ap (device_state g.I.Source.state g.O.Sink.state g.E.Sink.state) c.new-view.ensures.tells) c.new-view.ensures.stays.0 (c.new-view.ensures.stays.1 ∙ c.side-side.ensures) h.1
-    c.requires.fit (fits g c) c.known.ensures.store c.requires.lives (g.met.C.Client.asks_to_print c.args.self.now.client.now c.args.work.now.state) shown o (g.met.C.Client.waits_quietly c.args.self.now.client.now) h.2) c.step-result.ensures.ok
+    IfOk-weaker c.step-result.result _ _
+    (λ o h t e w shown. step_done (hold g) (devices g) (segment g) (me g) (same g) (same_refl g) (same_then g) t e
+    (g.C.Client.prog c.args.self.now.client.now) w c.args.k (g.S.SegStore.meaning c.args.self.now.store)
+    (g.S.SegStore.reserved c.args.self.now.store) c.args.self.now.books c.args.work.now
+    (told g c) c.new-view.result h.0 c.step-result.new.v c.step-result.new.s c.new-view.ensures.holds
+    (ap (device_state g.I.Source.state g.O.Sink.state g.E.Sink.state) c.new-view.ensures.tells)
+    c.new-view.ensures.stays.0 (c.new-view.ensures.stays.1 ∙ c.side-side.ensures) h.1
+    c.requires.fit (fits g c) c.known.ensures.store c.requires.lives
+    (g.met.C.Client.asks_to_print c.args.self.now.client.now c.args.work.now.state) shown o
+    (g.met.C.Client.waits_quietly c.args.self.now.client.now) h.2) c.step-result.ensures.ok
 
 pub returns-clause-cut : goal.returns-clause-cut
 returns-clause-cut g c =
-    if_err_on c.step-result.result (λ stop h state t e w shown. step_cut (hold g) (devices g) (segment g) (me g) (same g) (same_refl g) (same_then g) t e (g.C.Client.prog c.args.self.now.client.now) w c.args.k (g.S.SegStore.meaning c.args.self.now.store) (g.S.SegStore.reserved c.args.self.now.store) c.args.self.now.books c.args.work.now
-    (told g c) c.new-view.result h.0 c.step-result.new.v c.step-result.new.s c.new-view.ensures.holds (ap (device_state g.I.Source.state g.O.Sink.state g.E.Sink.state) c.new-view.ensures.tells) c.new-view.ensures.stays.0 (c.new-view.ensures.stays.1 ∙ c.side-side.ensures) h.2
-    c.requires.fit (fits g c) c.known.ensures.store c.requires.lives (g.met.C.Client.asks_to_print c.args.self.now.client.now c.args.work.now.state) shown stop state h.1 h.3 h.4) c.step-result.ensures.err c.step-result.ensures.state
+    if_err_on c.step-result.result (λ stop h state t e w shown.
+    step_cut (hold g) (devices g) (segment g) (me g) (same g) (same_refl g) (same_then g) t e
+    (g.C.Client.prog c.args.self.now.client.now) w c.args.k (g.S.SegStore.meaning c.args.self.now.store)
+    (g.S.SegStore.reserved c.args.self.now.store) c.args.self.now.books c.args.work.now
+    (told g c) c.new-view.result h.0 c.step-result.new.v c.step-result.new.s c.new-view.ensures.holds
+    (ap (device_state g.I.Source.state g.O.Sink.state g.E.Sink.state) c.new-view.ensures.tells)
+    c.new-view.ensures.stays.0 (c.new-view.ensures.stays.1 ∙ c.side-side.ensures) h.2
+    c.requires.fit (fits g c) c.known.ensures.store c.requires.lives
+    (g.met.C.Client.asks_to_print c.args.self.now.client.now c.args.work.now.state) shown stop state h.1 h.3 h.4)
+    c.step-result.ensures.err c.step-result.ensures.state
 
 pub returns-clause-broke : goal.returns-clause-broke
 returns-clause-broke g c =
-    if_err_on c.step-result.result (λ stop h state solo t e w shows. step_broke (hold g) (devices g) (segment g) (me g) (same g) (same_refl g) (same_then g) t e (g.C.Client.prog c.args.self.now.client.now) w c.args.k (g.S.SegStore.meaning c.args.self.now.store) (g.S.SegStore.reserved c.args.self.now.store) c.args.self.now.books c.args.work.now
-    (told g c) c.new-view.result h.0 c.step-result.new.v c.step-result.new.s c.new-view.ensures.holds (ap (device_state g.I.Source.state g.O.Sink.state g.E.Sink.state) c.new-view.ensures.tells) c.new-view.ensures.stays.0 (c.new-view.ensures.stays.1 ∙ c.side-side.ensures) h.2
-    c.requires.fit (fits g c) c.known.ensures.store c.requires.lives (g.met.C.Client.asks_to_print c.args.self.now.client.now c.args.work.now.state) (λ y. shows) stop state h.1 h.3 h.4 solo) c.step-result.ensures.err c.step-result.ensures.state
+    if_err_on c.step-result.result (λ stop h state solo t e w shows.
+    step_broke (hold g) (devices g) (segment g) (me g) (same g) (same_refl g) (same_then g) t e
+    (g.C.Client.prog c.args.self.now.client.now) w c.args.k (g.S.SegStore.meaning c.args.self.now.store)
+    (g.S.SegStore.reserved c.args.self.now.store) c.args.self.now.books c.args.work.now
+    (told g c) c.new-view.result h.0 c.step-result.new.v c.step-result.new.s c.new-view.ensures.holds
+    (ap (device_state g.I.Source.state g.O.Sink.state g.E.Sink.state) c.new-view.ensures.tells)
+    c.new-view.ensures.stays.0 (c.new-view.ensures.stays.1 ∙ c.side-side.ensures) h.2
+    c.requires.fit (fits g c) c.known.ensures.store c.requires.lives
+    (g.met.C.Client.asks_to_print c.args.self.now.client.now c.args.work.now.state) (λ y. shows) stop state h.1 h.3
+    h.4 solo) c.step-result.ensures.err c.step-result.ensures.state

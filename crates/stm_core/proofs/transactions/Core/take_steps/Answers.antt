@@ -15,13 +15,16 @@ settle-requires-clause-thread g c =
     let s = g.C.Client.sound x.client.now in
     let y = c.run_out-done.new.self in
     let m1 = g.S.SegStore.meaning y.store in
-    thread_out p s c.args.length c.args.k m1 y.books c.run_out-done.new.work (sane_paused p s c.args.length c.args.k c.run_out-done.result.1 _ m1 y.books c.run_out-done.new.work c.run_out-done.ensures.sane)
+    thread_out p s c.args.length c.args.k m1 y.books c.run_out-done.new.work
+    (sane_paused p s c.args.length c.args.k c.run_out-done.result.1 _ m1 y.books c.run_out-done.new.work
+    c.run_out-done.ensures.sane)
 
 pub settle-requires-clause-count : goal.settle-requires-clause-count
 settle-requires-clause-count g c =
     let x = c.args.self.now in
     let s = c.requires.sane in
-    let q = c.run_out-done.ensures.paused s.out s.err s.sane.worlds (core_with s.sane.worlds c.args.k (g.S.SegStore.meaning x.store) x.books c.args.work) s.shown refl in
+    let q = c.run_out-done.ensures.paused s.out s.err s.sane.worlds
+    (core_with s.sane.worlds c.args.k (g.S.SegStore.meaning x.store) x.books c.args.work) s.shown refl in
     let e = history_paused _ _ _ _ _ _ _ q.gone in
     ap (λ z. z.spent) c.run_out-done.ensures.rest ∙ subst (λ l. CountsSteps x.spent l) (sym e) c.requires.count
 
@@ -30,9 +33,14 @@ settle-requires-clause-why g c =
     let x = c.args.self.now in
     let y = c.run_out-done.new.self in
     let s = c.requires.sane in
-    let q = c.run_out-done.ensures.paused s.out s.err s.sane.worlds (core_with s.sane.worlds c.args.k (g.S.SegStore.meaning x.store) x.books c.args.work) s.shown refl in
-    let v = with_own q.own s.sane.worlds in
-    (v, subst (λ p. PauseWhy p v c.args.k c.run_out-done.result.1 (g.S.SegStore.meaning y.store) (g.S.SegStore.reserved y.store) y.books c.run_out-done.new.work) (sym (λ i. g.C.Client.prog (c.run_out-done.ensures.rest i).client.now)) q.why)
+    let q = c.run_out-done.ensures.paused s.out s.err s.sane.worlds
+    (core_with s.sane.worlds c.args.k (g.S.SegStore.meaning x.store) x.books c.args.work) s.shown refl in
+    let v = with_own q.own s.sane.worlds in (
+      v,
+      subst (λ p. PauseWhy p v c.args.k c.run_out-done.result.1 (g.S.SegStore.meaning y.store)
+          (g.S.SegStore.reserved y.store) y.books c.run_out-done.new.work)
+          (sym (λ i. g.C.Client.prog (c.run_out-done.ensures.rest i).client.now)) q.why,
+    )
 
 pub returns-clause-rises : goal.returns-clause-rises
 returns-clause-rises g c =
@@ -42,11 +50,18 @@ returns-clause-rises g c =
     let d = device_state g.I.Source.state g.O.Sink.state g.E.Sink.state x.devices in
     let d1 = device_state g.I.Source.state g.O.Sink.state g.E.Sink.state y.devices in
     let s = c.requires.sane in
-    let q = c.run_out-done.ensures.paused s.out s.err s.sane.worlds (core_with s.sane.worlds c.args.k (g.S.SegStore.meaning x.store) x.books c.args.work) s.shown refl in
+    let q = c.run_out-done.ensures.paused s.out s.err s.sane.worlds
+    (core_with s.sane.worlds c.args.k (g.S.SegStore.meaning x.store) x.books c.args.work) s.shown refl in
     let grow = c.run_out-done.ensures.devices in
     let same = cause_paused _ _ _ _ _ _ _ q.gone in
-    let rises : Rises x.books.cause z.books.cause d d1 = record { counts = grow.counts; rose = subst (λ o. KeepsOrRose o z.books.cause d d1) same (c.settle.ensures.rose d d1 grow.rose) } in
-    subst (Rises x.books.cause z.books.cause d) (sym (λ i. device_state g.I.Source.state g.O.Sink.state g.E.Sink.state (c.settle.ensures.rest i).devices)) rises
+    let rises : Rises x.books.cause z.books.cause d d1 =
+    record {
+      counts = grow.counts;
+      rose =
+          subst (λ o. KeepsOrRose o z.books.cause d d1) same (c.settle.ensures.rose d d1 grow.rose);
+    } in
+    subst (Rises x.books.cause z.books.cause d)
+    (sym (λ i. device_state g.I.Source.state g.O.Sink.state g.E.Sink.state (c.settle.ensures.rest i).devices)) rises
 
 pub returns-clause-taken : goal.returns-clause-taken
 returns-clause-taken g c = λ t e w o at.
@@ -61,6 +76,9 @@ returns-clause-taken g c = λ t e w o at.
     let d2 = device_state g.I.Source.state g.O.Sink.state g.E.Sink.state z.devices in
     let r = c.run_out-done.ensures in
     let q = r.paused t e w (core_with w c.args.k m x.books c.args.work) at.shown refl in
-    settled_now p c.args.length c.args.k t e w d d1 m m1 (g.S.SegStore.reserved y.store) x.books y.books c.args.work c.run_out-done.new.work o at c.run_out-done.result.0 c.run_out-done.result.1 q r.solo r.broken r.devices
-    (g.C.Client.prog y.client.now) (λ i. g.C.Client.prog (r.rest i).client.now) m.segments c.args.most (g.S.SegStore.reserved z.store) d2 (g.S.SegStore.meaning z.store) z.books c.settle.result r.shape.0 c.settle.ensures.tried
+    settled_now p c.args.length c.args.k t e w d d1 m m1 (g.S.SegStore.reserved y.store) x.books y.books c.args.work
+    c.run_out-done.new.work o at c.run_out-done.result.0 c.run_out-done.result.1 q r.solo r.broken r.devices
+    (g.C.Client.prog y.client.now) (λ i. g.C.Client.prog (r.rest i).client.now) m.segments c.args.most
+    (g.S.SegStore.reserved z.store) d2 (g.S.SegStore.meaning z.store) z.books c.settle.result r.shape.0
+    c.settle.ensures.tried
     (c.settle.ensures.counted c.args.most r.count) c.requires.short r.steps (c.settle.ensures.settled t e)
