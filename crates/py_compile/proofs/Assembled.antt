@@ -35,7 +35,7 @@ use Rattle.py_compile.proofs.RootsMade.{parts, roots_right}
 use Rattle.py_compile.proofs.Sits.{Opens, opens_front, opens_back, Sits, sub_parts, BodiesSit, AllOpen, module_opens}
 use Rattle.py_compile.proofs.Clean.{Fit, NoteOk, IsClean, template_clean, parts_clean}
 use Rattle.py_compile.proofs.StmtClean.{Flagged, BodiesClean, module_clean}
-use Rattle.py_compile.proofs.BelongRows.{no_setup, every_all, opens_none, belongs_from, body_at, body_past, number_is}
+use Rattle.py_compile.proofs.BelongRows.{no_setup, every_all, opens_none, belongs_from, number_is}
 use Rattle.py_compile.proofs.Program.{IsWhole}
 use Rattle.py_compile.proofs.CodesRight as made
 use Rattle.py_compile.proofs.Compiled.{least_apart}
@@ -186,10 +186,6 @@ module _ (locals : List (List (List ℕ))) (ss : List Stmt) where
   codes_params j [] = refl
   codes_params j (y ∷ ys) = ap (λ l. y.params ∷ l) (codes_params (j + 1) ys)
 
-  codes_long : (j : ℕ) (ys : List Body) → length (codes j ys) ≡ length ys
-  codes_long j [] = refl
-  codes_long j (y ∷ ys) = ap suc (codes_long (j + 1) ys)
-
   limits_same : (j : ℕ) (y : Body) → lim L T C Ks P j (length (code j y).slots) (first_place j) ≡ limits_of cs rs j (code j y)
   limits_same j y =
       let lt = length-append T (main_texts C) in
@@ -244,13 +240,10 @@ module _ (locals : List (List (List ℕ))) (ss : List Stmt) where
         list_any-append (opens_body f) a c ∙ or_false (list_any (opens_body f) a) (list_any (opens_body f) c) (fit_none ok flags j y.is_class f a (fits j y h.0) e) (none_open f e (j + 1) ys h.1)
 
     other : Cleans 0 (whole.bodies ss) → (f : ℕ) → flags f ≡ false → is_body cs f ≡ false
-    other h f e = let z : f ≡ 0 + f = omega arith in body_past all 0 cs f (subst (λ i. list_any (opens_body i) all ≡ false) z (none_open f e 0 (whole.bodies ss) h))
+    other h f e = none_open f e 0 (whole.bodies ss) h
 
-    own : (j : ℕ) → j < length cs → Opens all j → is_body cs j ≡ true
-    own j lt o = let z : 0 + j ≡ j = omega arith in body_at all 0 cs j lt ∙ ap (λ i. list_any (opens_body i) all) z ∙ o
-
-    code_ok : Cleans 0 (whole.bodies ss) → (j : ℕ) (y : Body) → j < length cs → ((sl p : ℕ) → Slotted L T C Ks P j y.is_class sl → Does (lim L T C Ks P j sl p) [] (y.block (N j y.is_class))) → IsClean ok flags y.is_class (y.block (N j y.is_class)) → (y.is_class ≡ true → Opens all j) → whole.large_at j y (nm j y) ≡ None → y.params ≤ length (whole.slots_named y.is_class (L j)) → IsRightCode cs rs j (code j y)
-    code_ok h j y lt d c o e q =
+    code_ok : Cleans 0 (whole.bodies ss) → (j : ℕ) (y : Body) → ((sl p : ℕ) → Slotted L T C Ks P j y.is_class sl → Does (lim L T C Ks P j sl p) [] (y.block (N j y.is_class))) → IsClean ok flags y.is_class (y.block (N j y.is_class)) → (y.is_class ≡ true → Opens all j) → whole.large_at j y (nm j y) ≡ None → y.params ≤ length (whole.slots_named y.is_class (L j)) → IsRightCode cs rs j (code j y)
+    code_ok h j y d c o e q =
         let few = ltb-false 65535 (whole.whole j y (nm j y)).size (large_none (nat_lt 65535 (whole.whole j y (nm j y)).size) y.line e) in
         let fit = fits j y c in
         let long = made.slots_long locals ss j y in
@@ -260,23 +253,22 @@ module _ (locals : List (List (List ℕ))) (ss : List Stmt) where
           lined = whole_lined (lim L T C Ks P j (slots + 0) 0) j y (N j y.is_class) slots (d (slots + 0) 0 (made.named_slotted locals ss y.is_class j 0)) (omega (arith, few));
           slotted = omega (arith, q, long);
           sets_up = fit_setup ok flags j y.is_class (code j y).instrs fit;
-          belongs = fit_belongs cs rs flags j y.is_class (λ z. own j lt (o z)) (other h) (code j y).instrs fit;
+          belongs = fit_belongs cs rs flags j y.is_class o (other h) (code j y).instrs fit;
           forward = whole_code.forward;
           typed = whole_code.right;
         }
 
-    codes_right : Cleans 0 (whole.bodies ss) → (j : ℕ) (ys : List Body) → j + length ys ≡ length cs → BodiesOk L T C Ks P j ys → Cleans j ys → AllOpen N all j ys → whole.large_bodies nm j ys ≡ None → ParamsFit locals j ys → AreRight cs rs j (codes j ys)
-    codes_right h j [] n d c o e q = tt
-    codes_right h j (y ∷ ys) n d c o e q =
+    codes_right : Cleans 0 (whole.bodies ss) → (j : ℕ) (ys : List Body) → BodiesOk L T C Ks P j ys → Cleans j ys → AllOpen N all j ys → whole.large_bodies nm j ys ≡ None → ParamsFit locals j ys → AreRight cs rs j (codes j ys)
+    codes_right h j [] d c o e q = tt
+    codes_right h j (y ∷ ys) d c o e q =
         let p = least_apart (whole.large_at j y (nm j y)) (whole.large_bodies nm (j + 1) ys) e in
-        (code_ok h j y (omega (arith, n)) d.0 c.0 o.0 p.0 q.0, codes_right h (j + 1) ys (omega (arith, n)) d.1 c.1 o.1 p.1 q.1)
+        (code_ok h j y d.0 c.0 o.0 p.0 q.0, codes_right h (j + 1) ys d.1 c.1 o.1 p.1 q.1)
 
     pub right_program : legal_all ss false false ≡ true → ParamsFit locals 0 (whole.bodies ss) → whole.too_large locals ss ≡ None → IsRightProgram (record { codes = cs; roots = rs })
     right_program h q e =
         let p = parts locals ss e in
         let c = cleans h in
-        let n = codes_long 0 (whole.bodies ss) in
-        record { roots = roots_right locals ss p.0; first = omega arith; each = codes_right c 0 (whole.bodies ss) (omega (arith, n)) (made.all_do locals ss h) c all_open p.1 q }
+        record { roots = roots_right locals ss p.0; first = omega arith; each = codes_right c 0 (whole.bodies ss) (made.all_do locals ss h) c all_open p.1 q }
 
 -- What a module compiles to is right, where it is legal, `None` is no name that a body binds, parameters are among the names
 -- that their function binds, and nothing is too large.

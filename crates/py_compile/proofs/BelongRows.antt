@@ -10,7 +10,7 @@ use Rattle.py_code.specs.declared.instr.Instr.TheVariants.{Setup, Const, Pop, Du
 use Rattle.py_code.specs.declared.program.Root.{Root}
 use Rattle.py_code.specs.declared.program.Code.{Code}
 use Rattle.py_code.specs.Typing.{HasNoSetup}
-use Rattle.py_code.specs.Right.{opens_body, bodies, is_body, HasCellAt, Belongs, names_of}
+use Rattle.py_code.specs.Right.{opens_body, is_body, HasCellAt, Belongs, names_of}
 use Rattle.py_compile.specs.Names.{number_in}
 use Rattle.py_names.specs.Outline.{has}
 use Rattle.py_compile.proofs.ExprInduct.{Every}
@@ -142,19 +142,6 @@ belongs_from cs rs j flags z own other (MakeRaised a) h = tt
 belongs_from cs rs j flags z own other Raise h = tt
 belongs_from cs rs j flags z own other PrintItem h = tt
 belongs_from cs rs j flags z own other PrintNewline h = tt
-
--- which codes are those of class bodies
-pub body_at : (is : List Instr) (n : ℕ) (cs : List Code) (f : ℕ) → f < length cs → get_or (bodies is n cs) f false ≡ list_any (opens_body (n + f)) is
-unfolding bodies
-body_at is n [] f lt = absurd (omega (arith, lt))
-body_at is n (c ∷ cs) zero lt = let e : n ≡ n + 0 = omega arith in ap (λ k. list_any (opens_body k) is) e
-body_at is n (c ∷ cs) (suc f) lt = let e : n + 1 + f ≡ n + suc f = omega arith in body_at is (n + 1) cs f (omega (arith, lt)) ∙ ap (λ k. list_any (opens_body k) is) e
-
-pub body_past : (is : List Instr) (n : ℕ) (cs : List Code) (f : ℕ) → list_any (opens_body (n + f)) is ≡ false → get_or (bodies is n cs) f false ≡ false
-unfolding bodies
-body_past is n [] f e = refl
-body_past is n (c ∷ cs) zero e = let k : n ≡ n + 0 = omega arith in ap (λ k. list_any (opens_body k) is) k ∙ e
-body_past is n (c ∷ cs) (suc f) e = let k : n + 1 + f ≡ n + suc f = omega arith in body_past is (n + 1) cs f (ap (λ k. list_any (opens_body k) is) k ∙ e)
 
 -- the string that a number of a name is
 pub number_is : (x : List ℕ) (ns : List (List ℕ)) (d : List ℕ) → has x ns ≡ true → (number_in x ns < length ns) × (bytes_eq x (get_or ns (number_in x ns) d) ≡ true)

@@ -6,9 +6,11 @@ use Rattle.py_code.specs.declared.instr.Constant.TheVariants.{Root}
 use Rattle.py_code.specs.declared.instr.Instr.{Instr}
 use Rattle.py_code.specs.declared.instr.Instr.TheVariants.{Const, Pop, Dup, Rot2, Dup2, Rot3, LoadLocal, StoreLocal, LoadAttr, StoreAttr, LoadItem, StoreItem, DelAttr, DelItem, Not, InPlace, Jump, JumpFalse, Call, Return, PopTry, MakeRaised, Raise, PrintItem, PrintNewline}
 use Rattle.py_code.specs.Effects.{Limits, effect, On, Sh, floor_of, IsKnown, IsText}
+use Rattle.py_compile.specs.declared.around.Way.{Way}
+use Rattle.py_compile.specs.declared.around.Way.TheVariants as way
 use Rattle.py_compile.specs.declared.home.Home.{Home}
 use Rattle.py_compile.specs.Template.{Piece, Op, Hidden, To, Here, Alone, Sub, size_of, row}
-use Rattle.py_compile.specs.Table.{E, A, load, store, nothing, one, assign, del_attr, del_item, add_name, add_attr, add_item, expression, print_one, print_line, import_one, raise_one, raise_two, assert_with, assert_alone, Around, InWhile, InFor, InTry, InClause, InFinally, break_code, continue_code, leaves, return, raise_again}
+use Rattle.py_compile.specs.Table.{E, A, load, store, nothing, one, assign, del_attr, del_item, add_name, add_attr, add_item, expression, print_one, print_line, import_one, raise_one, raise_two, assert_with, assert_alone, Around, InWhile, InFor, InTry, InClause, InFinally, way_out, return, raise_again}
 use Rattle.py_compile.proofs.Typed.{Ring, ring_at, Typed, Goes, template_typed}
 use Rattle.py_compile.proofs.Ops.{sh, op, load_op, store_op, pop_op, pop_try_op, raise_op, return_op, jump_op, jump_false}
 use Rattle.py_compile.proofs.Values.{Each, Room, Value, Store, Change, changes, same}
@@ -90,13 +92,23 @@ module _ (k : Limits) where
     pop_here : (h : ℕ) (bs outer : List ℕ) → bs ≡ h ∷ outer → h + 1 < 2 ^ 32 → Goes k PopTry (sh h bs) (sh h outer)
     pop_here h bs outer e room = subst (λ z. Goes k PopTry (sh h z) (sh h outer)) (sym e) (pop_try_op k h outer room)
 
-    pub break_does : (c : List Around) → IsTrue (in_loop c) → Leaves c (break_code ln c)
-    break_does [] i = cc
-    break_does (InWhile ∷ c) i = record {
+    -- break and continue
+    abbrev pub jumps : Way → Bool
+    jumps way.Out = false
+    jumps _ = true
+
+    pub jump_does : (w : Way) → IsTrue (jumps w) → (c : List Around) → IsTrue (in_loop c) → Leaves c (way_out ln w c)
+    jump_does w q [] i = cc
+    jump_does way.Break q (InWhile ∷ c) i = record {
       typed = λ gs h bs s f room. template_typed k ln 0 0 (To 1 Jump E ∷ []) [] gs _ _ refl refl
           (s, (sh h bs, f.0, jump_op k h bs s (low (InWhile ∷ c) gs h bs f) (omega (arith, room))), refl);
     }
-    break_does (InFor ∷ c) i = record {
+    jump_does way.Continue q (InWhile ∷ c) i = record {
+      typed = λ gs h bs s f room. template_typed k ln 0 0 (To 1 Jump A ∷ []) [] gs _ _ refl refl
+          (s, (sh h bs, f.1, jump_op k h bs s (low (InWhile ∷ c) gs h bs f) (omega (arith, room))), refl);
+    }
+    jump_does way.Out q (InWhile ∷ c) i = cc
+    jump_does way.Break q (InFor ∷ c) i = record {
       typed = λ gs h bs s f room. let (l, e, a, b, g) = f in
           let floor = low c (drop 1 gs) l bs g in
           template_typed k ln 0 0 (Op Pop ∷ To 1 Jump E ∷ []) [] gs _ _ refl refl (
@@ -105,43 +117,23 @@ module _ (k : Limits) where
             (s, (sh l bs, a, jump_op k l bs s floor (omega (arith, room, e))), refl),
           );
     }
-    break_does (InTry ∷ c) i = let r = break_does c i in record {
-      typed = λ gs h bs s f room. let (o, e, g) = f in
-          template_typed k ln 0 0 (Op PopTry ∷ Sub 2 (break_code ln c) ∷ []) [] gs _ _ refl refl
-          (sh h o, pop_here h bs o e (omega (arith, room)), (s, r.typed (drop 1 gs) h o s g (omega (arith, room)), refl));
-    }
-    break_does (InClause ∷ c) i = let r = break_does c i in record {
-      typed = λ gs h bs s f room.
-          template_typed k ln 0 0 (Sub 2 (break_code ln c) ∷ []) [] gs _ _ refl refl (s, r.typed (drop 1 gs) h bs s f.1 (omega (arith, room)), refl);
-    }
-    break_does (InFinally fin ∷ c) i = let r = break_does c i in record {
-      typed = λ gs h bs s f room. let (o, e, t, g) = f in
-          template_typed k ln 0 0 (Op PopTry ∷ Sub 2 fin ∷ Sub 2 (break_code ln c) ∷ []) [] gs _ _ refl refl
-          (sh h o, pop_here h bs o e (omega (arith, room)), (sh h o, t, (s, r.typed (drop 1 gs) h o s g (omega (arith, room)), refl)));
-    }
-
-    pub continue_does : (c : List Around) → IsTrue (in_loop c) → Leaves c (continue_code ln c)
-    continue_does [] i = cc
-    continue_does (InWhile ∷ c) i = record {
-      typed = λ gs h bs s f room. template_typed k ln 0 0 (To 1 Jump A ∷ []) [] gs _ _ refl refl
-          (s, (sh h bs, f.1, jump_op k h bs s (low (InWhile ∷ c) gs h bs f) (omega (arith, room))), refl);
-    }
-    continue_does (InFor ∷ c) i = record {
+    jump_does way.Continue q (InFor ∷ c) i = record {
       typed = λ gs h bs s f room. template_typed k ln 0 0 (To 1 Jump A ∷ []) [] gs _ _ refl refl
           (s, (sh h bs, f.3, jump_op k h bs s (low (InFor ∷ c) gs h bs f) (omega (arith, room))), refl);
     }
-    continue_does (InTry ∷ c) i = let r = continue_does c i in record {
+    jump_does way.Out q (InFor ∷ c) i = cc
+    jump_does w q (InTry ∷ c) i = let r = jump_does w q c i in record {
       typed = λ gs h bs s f room. let (o, e, g) = f in
-          template_typed k ln 0 0 (Op PopTry ∷ Sub 2 (continue_code ln c) ∷ []) [] gs _ _ refl refl
+          template_typed k ln 0 0 (Op PopTry ∷ Sub 2 (way_out ln w c) ∷ []) [] gs _ _ refl refl
           (sh h o, pop_here h bs o e (omega (arith, room)), (s, r.typed (drop 1 gs) h o s g (omega (arith, room)), refl));
     }
-    continue_does (InClause ∷ c) i = let r = continue_does c i in record {
+    jump_does w q (InClause ∷ c) i = let r = jump_does w q c i in record {
       typed = λ gs h bs s f room.
-          template_typed k ln 0 0 (Sub 2 (continue_code ln c) ∷ []) [] gs _ _ refl refl (s, r.typed (drop 1 gs) h bs s f.1 (omega (arith, room)), refl);
+          template_typed k ln 0 0 (Sub 2 (way_out ln w c) ∷ []) [] gs _ _ refl refl (s, r.typed (drop 1 gs) h bs s f.1 (omega (arith, room)), refl);
     }
-    continue_does (InFinally fin ∷ c) i = let r = continue_does c i in record {
+    jump_does w q (InFinally fin ∷ c) i = let r = jump_does w q c i in record {
       typed = λ gs h bs s f room. let (o, e, t, g) = f in
-          template_typed k ln 0 0 (Op PopTry ∷ Sub 2 fin ∷ Sub 2 (continue_code ln c) ∷ []) [] gs _ _ refl refl
+          template_typed k ln 0 0 (Op PopTry ∷ Sub 2 fin ∷ Sub 2 (way_out ln w c) ∷ []) [] gs _ _ refl refl
           (sh h o, pop_here h bs o e (omega (arith, room)), (sh h o, t, (s, r.typed (drop 1 gs) h o s g (omega (arith, room)), refl)));
     }
 
@@ -149,19 +141,19 @@ module _ (k : Limits) where
     record Out (gs : List Ring) (h : ℕ) (bs : List ℕ) (c : List Around) : Type 0 where
       height : ℕ
       blocks : List ℕ
-      typed : Typed k (leaves ln c) gs (sh h bs) (sh height blocks)
+      typed : Typed k (way_out ln way.Out c) gs (sh h bs) (sh height blocks)
       floor : floor_of blocks ≤ height
       less : height ≤ h
 
-    out : (c : List Around) (gs : List Ring) (h : ℕ) (bs : List ℕ) → AroundFits c gs h bs → Room h (leaves ln c) → Out gs h bs c
+    out : (c : List Around) (gs : List Ring) (h : ℕ) (bs : List ℕ) → AroundFits c gs h bs → Room h (way_out ln way.Out c) → Out gs h bs c
     out [] gs h bs f room = record { height = h; blocks = bs; typed = template_typed k ln 0 0 [] [] gs _ _ refl refl refl; floor = f; less = omega arith }
-    out (InWhile ∷ c) gs h bs f room = let o = out c (drop 1 gs) h bs f.2 (omega (arith, room)) in record { height = o.height; blocks = o.blocks; typed = template_typed k ln 0 0 (Sub 2 (leaves ln c) ∷ []) [] gs _ _ refl refl (sh o.height o.blocks, o.typed, refl); floor = o.floor; less = o.less }
+    out (InWhile ∷ c) gs h bs f room = let o = out c (drop 1 gs) h bs f.2 (omega (arith, room)) in record { height = o.height; blocks = o.blocks; typed = template_typed k ln 0 0 (Sub 2 (way_out ln way.Out c) ∷ []) [] gs _ _ refl refl (sh o.height o.blocks, o.typed, refl); floor = o.floor; less = o.less }
     out (InFor ∷ c) gs h bs (l, e, a, b, g) room =
         let o = out c (drop 1 gs) l bs g (omega (arith, room, e)) in
         record {
           height = o.height;
           blocks = o.blocks;
-          typed = template_typed k ln 0 0 (Op Pop ∷ Sub 2 (leaves ln c) ∷ []) [] gs _ _ refl refl
+          typed = template_typed k ln 0 0 (Op Pop ∷ Sub 2 (way_out ln way.Out c) ∷ []) [] gs _ _ refl refl
               (sh l bs, subst (λ z. Goes k Pop (sh z bs) (sh l bs)) (sym e) (pop_op k l bs (low c (drop 1 gs) l bs g) (omega (arith, room, e))), (sh o.height o.blocks, o.typed, refl));
           floor = o.floor;
           less = omega (arith, e, o.less);
@@ -171,18 +163,18 @@ module _ (k : Limits) where
         record {
           height = o.height;
           blocks = o.blocks;
-          typed = template_typed k ln 0 0 (Op PopTry ∷ Sub 2 (leaves ln c) ∷ []) [] gs _ _ refl refl
+          typed = template_typed k ln 0 0 (Op PopTry ∷ Sub 2 (way_out ln way.Out c) ∷ []) [] gs _ _ refl refl
               (sh h l, pop_here h bs l e (omega (arith, room)), (sh o.height o.blocks, o.typed, refl));
           floor = o.floor;
           less = o.less;
         }
-    out (InClause ∷ c) gs h bs f room = let o = out c (drop 1 gs) h bs f.1 (omega (arith, room)) in record { height = o.height; blocks = o.blocks; typed = template_typed k ln 0 0 (Sub 2 (leaves ln c) ∷ []) [] gs _ _ refl refl (sh o.height o.blocks, o.typed, refl); floor = o.floor; less = o.less }
+    out (InClause ∷ c) gs h bs f room = let o = out c (drop 1 gs) h bs f.1 (omega (arith, room)) in record { height = o.height; blocks = o.blocks; typed = template_typed k ln 0 0 (Sub 2 (way_out ln way.Out c) ∷ []) [] gs _ _ refl refl (sh o.height o.blocks, o.typed, refl); floor = o.floor; less = o.less }
     out (InFinally fin ∷ c) gs h bs (l, e, t, g) room =
         let o = out c (drop 1 gs) h l g (omega (arith, room)) in
         record {
           height = o.height;
           blocks = o.blocks;
-          typed = template_typed k ln 0 0 (Op PopTry ∷ Sub 2 fin ∷ Sub 2 (leaves ln c) ∷ []) [] gs _ _ refl refl
+          typed = template_typed k ln 0 0 (Op PopTry ∷ Sub 2 fin ∷ Sub 2 (way_out ln way.Out c) ∷ []) [] gs _ _ refl refl
               (sh h l, pop_here h bs l e (omega (arith, room)), (sh h l, t, (sh o.height o.blocks, o.typed, refl)));
           floor = o.floor;
           less = o.less;
@@ -193,7 +185,7 @@ module _ (k : Limits) where
       typed = λ gs h bs s f room.
           let le = low c gs h bs f in
           let o = out c gs h bs f (omega (arith, room)) in
-          template_typed k ln 1 0 (Alone e ∷ Hidden 0 StoreLocal ∷ Sub 1 (leaves ln c) ∷ Hidden 0 LoadLocal ∷ Op Return ∷ []) [] gs _ _ refl refl (
+          template_typed k ln 1 0 (Alone e ∷ Hidden 0 StoreLocal ∷ Sub 1 (way_out ln way.Out c) ∷ Hidden 0 LoadLocal ∷ Op Return ∷ []) [] gs _ _ refl refl (
             sh (h + 1) bs,
             ve.typed h bs le (omega (arith, room)),
             (

@@ -2,9 +2,10 @@
 use Rattle.std.proofs.Common.{◌≡◌, [], ◌∷◌, refl}
 use Rattle.py_code.specs.declared.instr.Constant.TheVariants.{None as NoValue}
 use Rattle.py_code.specs.declared.instr.Instr.TheVariants.{Setup, Const, Pop, Dup, Rot2, Rot3, LoadLocal, StoreLocal, Compare, Jump, JumpFalse, KeepFalse, Iter, Next, Return, Try, PopTry, ExcMatch, Raise}
+use Rattle.py_compile.specs.declared.around.Way.TheVariants.{Break}
 use Rattle.py_compile.specs.declared.home.Home.TheVariants.{Slot}
 use Rattle.py_compile.specs.Template.{Piece, row}
-use Rattle.py_compile.specs.Table.{one, name, between, chained, expression, for, try_except, clause_bare, clause_target, try_finally, break_code, return, raise_again, module_code, InFor, InClause, InFinally}
+use Rattle.py_compile.specs.Table.{one, name, between, chained, expression, for, try_except, clause_bare, clause_target, try_finally, way_out, return, raise_again, module_code, InFor, InClause, InFinally}
 
 a : Piece
 a = name 1 (Slot 0)
@@ -31,7 +32,7 @@ fin : Piece
 fin = row (expression 4 b ∷ [])
 
 loop : Piece
-loop = for 1 (one 1 (StoreLocal 5)) a (row (try_finally 2 (row (break_code 3 (InFinally fin ∷ InFor ∷ []) ∷ [])) fin ∷ [])) (row [])
+loop = for 1 (one 1 (StoreLocal 5)) a (row (try_finally 2 (row (way_out 3 Break (InFinally fin ∷ InFor ∷ []) ∷ [])) fin ∷ [])) (row [])
 
 left : (module_code 1 (row (loop ∷ []))).code [] 0 9 ≡
     Setup ∷ LoadLocal 0 ∷ Iter ∷ Next 21 ∷ StoreLocal 5 ∷

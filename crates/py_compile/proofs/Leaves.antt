@@ -7,8 +7,7 @@ use Rattle.py_compile.specs.declared.draft.Far.TheVariants.{Always}
 use Rattle.py_compile.specs.declared.around.Way.{Way}
 use Rattle.py_compile.specs.declared.around.Way.TheVariants.{Break, Continue, Out}
 use Rattle.py_compile.specs.Template.{Frame, Piece, Op, Hidden, To, Sub}
-use Rattle.py_compile.specs.Table.{Around, InWhile, InFor, InTry, InClause, InFinally, break_code, continue_code, leaves, raise_again}
-use Rattle.py_compile.specs.inner.Rounds.{leaving}
+use Rattle.py_compile.specs.Table.{Around, InWhile, InFor, InTry, InClause, InFinally, way_out, raise_again}
 use Rattle.py_compile.specs.inner.State.{St, put, Emitted, frame_there}
 use Rattle.py_compile.proofs.Emits.{plain_emitted}
 
@@ -17,58 +16,44 @@ ok_map (Ok a) h f = f a h
 ok_map (Err e) h f = h
 
 module _ (line : ℕ) (env : List ℕ → List Frame) (c : List Around) where
-  pub leave_none : (w : Way) (e : St) → Emitted e e (leaving w line []) env
-  leave_none Break e = plain_emitted line env [] e e refl refl refl
-  leave_none Continue e = plain_emitted line env [] e e refl refl refl
-  leave_none Out e = plain_emitted line env [] e e refl refl refl
+  pub leave_none : (w : Way) (e : St) → Emitted e e (way_out line w []) env
+  leave_none w e = plain_emitted line env [] e e refl refl refl
 
-  pub break_while : (base : ℕ) (e m : St) → m ≡ put e line (DraftTo Always base) → Emitted e m (leaving Break line (InWhile ∷ c)) (λ ls. frame_there base 3 0 ls ∷ env ls)
+  pub break_while : (base : ℕ) (e m : St) → m ≡ put e line (DraftTo Always base) → Emitted e m (way_out line Break (InWhile ∷ c)) (λ ls. frame_there base 3 0 ls ∷ env ls)
   break_while base e m h = plain_emitted line (λ ls. frame_there base 3 0 ls ∷ env ls) (To 1 Jump 0 ∷ []) e m refl refl (m, (Always, base, λ q. refl, λ ls. refl, h), refl)
 
-  pub continue_while : (base : ℕ) (e m : St) → m ≡ put e line (DraftTo Always (base + 1)) → Emitted e m (leaving Continue line (InWhile ∷ c)) (λ ls. frame_there base 3 0 ls ∷ env ls)
+  pub continue_while : (base : ℕ) (e m : St) → m ≡ put e line (DraftTo Always (base + 1)) → Emitted e m (way_out line Continue (InWhile ∷ c)) (λ ls. frame_there base 3 0 ls ∷ env ls)
   continue_while base e m h = plain_emitted line (λ ls. frame_there base 3 0 ls ∷ env ls) (To 1 Jump 1 ∷ []) e m refl refl (m, (Always, base + 1, λ q. refl, λ ls. refl, h), refl)
 
-  pub out_while : (base : ℕ) (e m : St) → Emitted e m (leaving Out line c) env → Emitted e m (leaving Out line (InWhile ∷ c)) (λ ls. frame_there base 3 0 ls ∷ env ls)
-  out_while base e m h = plain_emitted line (λ ls. frame_there base 3 0 ls ∷ env ls) (Sub 2 (leaves line c) ∷ []) e m refl refl (m, h, refl)
+  pub out_while : (base : ℕ) (e m : St) → Emitted e m (way_out line Out c) env → Emitted e m (way_out line Out (InWhile ∷ c)) (λ ls. frame_there base 3 0 ls ∷ env ls)
+  out_while base e m h = plain_emitted line (λ ls. frame_there base 3 0 ls ∷ env ls) (Sub 2 (way_out line Out c) ∷ []) e m refl refl (m, h, refl)
 
-  pub break_for : (base : ℕ) (e m1 m2 : St) → m1 ≡ put e line (DraftOp Pop) → m2 ≡ put m1 line (DraftTo Always base) → Emitted e m2 (leaving Break line (InFor ∷ c)) (λ ls. frame_there base 3 0 ls ∷ env ls)
+  pub break_for : (base : ℕ) (e m1 m2 : St) → m1 ≡ put e line (DraftOp Pop) → m2 ≡ put m1 line (DraftTo Always base) → Emitted e m2 (way_out line Break (InFor ∷ c)) (λ ls. frame_there base 3 0 ls ∷ env ls)
   break_for base e m1 m2 h1 h2 = plain_emitted line (λ ls. frame_there base 3 0 ls ∷ env ls) (Op Pop ∷ To 1 Jump 0 ∷ []) e m2 refl refl (m1, h1, (m2, (Always, base, λ q. refl, λ ls. refl, h2), refl))
 
-  pub continue_for : (base : ℕ) (e m : St) → m ≡ put e line (DraftTo Always (base + 1)) → Emitted e m (leaving Continue line (InFor ∷ c)) (λ ls. frame_there base 3 0 ls ∷ env ls)
+  pub continue_for : (base : ℕ) (e m : St) → m ≡ put e line (DraftTo Always (base + 1)) → Emitted e m (way_out line Continue (InFor ∷ c)) (λ ls. frame_there base 3 0 ls ∷ env ls)
   continue_for base e m h = plain_emitted line (λ ls. frame_there base 3 0 ls ∷ env ls) (To 1 Jump 1 ∷ []) e m refl refl (m, (Always, base + 1, λ q. refl, λ ls. refl, h), refl)
 
-  pub out_for : (base : ℕ) (e m1 m2 : St) → m1 ≡ put e line (DraftOp Pop) → Emitted m1 m2 (leaving Out line c) env → Emitted e m2 (leaving Out line (InFor ∷ c)) (λ ls. frame_there base 3 0 ls ∷ env ls)
-  out_for base e m1 m2 h1 h2 = plain_emitted line (λ ls. frame_there base 3 0 ls ∷ env ls) (Op Pop ∷ Sub 2 (leaves line c) ∷ []) e m2 refl refl (m1, h1, (m2, h2, refl))
+  pub out_for : (base : ℕ) (e m1 m2 : St) → m1 ≡ put e line (DraftOp Pop) → Emitted m1 m2 (way_out line Out c) env → Emitted e m2 (way_out line Out (InFor ∷ c)) (λ ls. frame_there base 3 0 ls ∷ env ls)
+  out_for base e m1 m2 h1 h2 = plain_emitted line (λ ls. frame_there base 3 0 ls ∷ env ls) (Op Pop ∷ Sub 2 (way_out line Out c) ∷ []) e m2 refl refl (m1, h1, (m2, h2, refl))
 
-  pub leave_try : (w : Way) (base slot : ℕ) (e m1 m2 : St) → m1 ≡ put e line (DraftOp PopTry) → Emitted m1 m2 (leaving w line c) env → Emitted e m2 (leaving w line (InTry ∷ c)) (λ ls. frame_there base 2 slot ls ∷ env ls)
-  leave_try Break base slot e m1 m2 h1 h2 = plain_emitted line (λ ls. frame_there base 2 slot ls ∷ env ls) (Op PopTry ∷ Sub 2 (break_code line c) ∷ []) e m2 refl refl (m1, h1, (m2, h2, refl))
-  leave_try Continue base slot e m1 m2 h1 h2 = plain_emitted line (λ ls. frame_there base 2 slot ls ∷ env ls) (Op PopTry ∷ Sub 2 (continue_code line c) ∷ []) e m2 refl refl (m1, h1, (m2, h2, refl))
-  leave_try Out base slot e m1 m2 h1 h2 = plain_emitted line (λ ls. frame_there base 2 slot ls ∷ env ls) (Op PopTry ∷ Sub 2 (leaves line c) ∷ []) e m2 refl refl (m1, h1, (m2, h2, refl))
+  pub leave_try : (w : Way) (base slot : ℕ) (e m1 m2 : St) → m1 ≡ put e line (DraftOp PopTry) → Emitted m1 m2 (way_out line w c) env → Emitted e m2 (way_out line w (InTry ∷ c)) (λ ls. frame_there base 2 slot ls ∷ env ls)
+  leave_try w base slot e m1 m2 h1 h2 = plain_emitted line (λ ls. frame_there base 2 slot ls ∷ env ls) (Op PopTry ∷ Sub 2 (way_out line w c) ∷ []) e m2 refl refl (m1, h1, (m2, h2, refl))
 
-  pub leave_clause : (w : Way) (base slot : ℕ) (e m : St) → Emitted e m (leaving w line c) env → Emitted e m (leaving w line (InClause ∷ c)) (λ ls. frame_there base 2 slot ls ∷ env ls)
-  leave_clause Break base slot e m h = plain_emitted line (λ ls. frame_there base 2 slot ls ∷ env ls) (Sub 2 (break_code line c) ∷ []) e m refl refl (m, h, refl)
-  leave_clause Continue base slot e m h = plain_emitted line (λ ls. frame_there base 2 slot ls ∷ env ls) (Sub 2 (continue_code line c) ∷ []) e m refl refl (m, h, refl)
-  leave_clause Out base slot e m h = plain_emitted line (λ ls. frame_there base 2 slot ls ∷ env ls) (Sub 2 (leaves line c) ∷ []) e m refl refl (m, h, refl)
+  pub leave_clause : (w : Way) (base slot : ℕ) (e m : St) → Emitted e m (way_out line w c) env → Emitted e m (way_out line w (InClause ∷ c)) (λ ls. frame_there base 2 slot ls ∷ env ls)
+  leave_clause w base slot e m h = plain_emitted line (λ ls. frame_there base 2 slot ls ∷ env ls) (Sub 2 (way_out line w c) ∷ []) e m refl refl (m, h, refl)
 
-  pub leave_finally : (w : Way) (fin : Piece) (base slot : ℕ) (e m1 m2 m3 : St) → m1 ≡ put e line (DraftOp PopTry) → Emitted m1 m2 fin env → Emitted m2 m3 (leaving w line c) env → Emitted e m3 (leaving w line (InFinally fin ∷ c)) (λ ls. frame_there base 2 slot ls ∷ env ls)
-  leave_finally Break fin base slot e m1 m2 m3 h1 h2 h3 = plain_emitted line (λ ls. frame_there base 2 slot ls ∷ env ls) (Op PopTry ∷ Sub 2 fin ∷ Sub 2 (break_code line c) ∷ []) e m3 refl refl (m1, h1, (m2, h2, (m3, h3, refl)))
-  leave_finally Continue fin base slot e m1 m2 m3 h1 h2 h3 = plain_emitted line (λ ls. frame_there base 2 slot ls ∷ env ls) (Op PopTry ∷ Sub 2 fin ∷ Sub 2 (continue_code line c) ∷ []) e m3 refl refl (m1, h1, (m2, h2, (m3, h3, refl)))
-  leave_finally Out fin base slot e m1 m2 m3 h1 h2 h3 = plain_emitted line (λ ls. frame_there base 2 slot ls ∷ env ls) (Op PopTry ∷ Sub 2 fin ∷ Sub 2 (leaves line c) ∷ []) e m3 refl refl (m1, h1, (m2, h2, (m3, h3, refl)))
+  pub leave_finally : (w : Way) (fin : Piece) (base slot : ℕ) (e m1 m2 m3 : St) → m1 ≡ put e line (DraftOp PopTry) → Emitted m1 m2 fin env → Emitted m2 m3 (way_out line w c) env → Emitted e m3 (way_out line w (InFinally fin ∷ c)) (λ ls. frame_there base 2 slot ls ∷ env ls)
+  leave_finally w fin base slot e m1 m2 m3 h1 h2 h3 = plain_emitted line (λ ls. frame_there base 2 slot ls ∷ env ls) (Op PopTry ∷ Sub 2 fin ∷ Sub 2 (way_out line w c) ∷ []) e m3 refl refl (m1, h1, (m2, h2, (m3, h3, refl)))
 
-  pub try_size : (w : Way) → (leaving w line (InTry ∷ c)).size ≡ 1 + (leaving w line c).size
-  try_size Break = omega arith
-  try_size Continue = omega arith
-  try_size Out = omega arith
+  pub try_size : (w : Way) → (way_out line w (InTry ∷ c)).size ≡ 1 + (way_out line w c).size
+  try_size w = omega arith
 
-  pub clause_size : (w : Way) → (leaving w line (InClause ∷ c)).size ≡ (leaving w line c).size
-  clause_size Break = omega arith
-  clause_size Continue = omega arith
-  clause_size Out = omega arith
+  pub clause_size : (w : Way) → (way_out line w (InClause ∷ c)).size ≡ (way_out line w c).size
+  clause_size w = omega arith
 
-  pub finally_size : (w : Way) (fin : Piece) → (leaving w line (InFinally fin ∷ c)).size ≡ 1 + (fin.size + (leaving w line c).size)
-  finally_size Break fin = omega arith
-  finally_size Continue fin = omega arith
-  finally_size Out fin = omega arith
+  pub finally_size : (w : Way) (fin : Piece) → (way_out line w (InFinally fin ∷ c)).size ≡ 1 + (fin.size + (way_out line w c).size)
+  finally_size w fin = omega arith
 
   -- a raise alone
 

@@ -25,13 +25,12 @@ use Rattle.py_names.specs.Resolves.{Resolves}
 use Rattle.py_names.proofs.ScopeLemmas.{local_law}
 use Rattle.py_compile.specs.Statements.{Body}
 use Rattle.py_compile.specs.Whole.{bodies, slots_named}
-use Rattle.py_compile.specs.Compiles.{once_from, bound_in}
+use Rattle.py_compile.specs.Compiles.{bound_in}
 use Rattle.py_compile.proofs.Legal.{legal_all}
 use Rattle.py_compile.proofs.Clear.{Clears, clear_front, first_parts, outline_clear}
 use Rattle.py_compile.proofs.OrdinaryEvents.{Ordinary, AllOrdinary, parameters_ordinary}
 use Rattle.py_compile.proofs.Begun.{Begin, NoMore, Beside, Bare, Taking, module_begun}
 use Rattle.py_names.proofs.ScopeLemmas.{has-all}
-use Rattle.py_compile.proofs.OnceNames.{has-once}
 use Rattle.py_compile.proofs.ParamNames.{param_names, params_differ, no_more}
 
 -- each body has at most as many parameters as its code has named slots
@@ -121,11 +120,11 @@ module _ (x : List ℕ) (f : Event → Option (List ℕ)) (given : (n : List ℕ
       ∙ or_right (list_any test front) (list_any test (Enter kind.Function ∷ (takes ps ++ back))) (or_right (test (Enter kind.Function)) (list_any test (takes ps ++ back)) taken)
 
 -- the names that a body binds
-pub names_bound : (es : List Event) (scopes : List Scope) → AreScopes es scopes → (k : ℕ) → k < body_count 0 es → get_or (bound_in scopes) k [] ≡ once_from [] (scope_of (body es k)).locals
+pub names_bound : (es : List Event) (scopes : List Scope) → AreScopes es scopes → (k : ℕ) → k < body_count 0 es → get_or (bound_in scopes) k [] ≡ (scope_of (body es k)).locals
 names_bound es scopes are k within =
     let scope = scope_of (body es k) in
     let there = are.each k within in
-    get_or-map (λ s. once_from [] s.locals) scopes k scope [] (slice_get_within scopes k scope there) ∙ ap (λ s. once_from [] s.locals) (get_or_from_slice_get scopes k scope scope there)
+    get_or-map (λ s. s.locals) scopes k scope [] (slice_get_within scopes k scope there) ∙ ap (λ s. s.locals) (get_or_from_slice_get scopes k scope scope there)
 
 -- ---- a module none of whose places is refused
 
@@ -213,8 +212,7 @@ module _ (all : List Event) where
         let behind = Enter kind.Function ∷ (takes ps ++ es) in
         let at = past n (parameters l [] ps) behind (parameters_ordinary l [] ps) r in
         let within : n < body_count 0 all = omega (arith, at.count, bodies_rise (n + 1) (takes ps ++ es)) in
-        let locals = (scope_of (body all n)).locals in
-        let few = no_more (param_names ps) (once_from [] locals) (params_differ l [] ps (clear_front (parameters l [] ps) behind r.clear)) (λ x h. has-once x [] locals ∙ params_local n ps (opened n ps es at) x h) in
+        let few = no_more (param_names ps) (scope_of (body all n)).locals (params_differ l [] ps (clear_front (parameters l [] ps) behind r.clear)) (params_local n ps (opened n ps es at)) in
         subst (λ m. m ≤ length (get_or (bound_in scopes) n [])) (length-map ps (λ p. p.name)) (subst (λ ns. length (param_names ps) ≤ length ns) (sym (names_bound all scopes are n within)) few)
 
     fits : {ys : List Body} {es : List Event} → Begin ys es → (n : ℕ) → Rest n es → ParamsFit (bound_in scopes) n ys

@@ -9,15 +9,14 @@ use Rattle.py_tree.specs.declared.stmt.Module.{Module}
 use Rattle.py_names.specs.declared.scope.Scope.{Scope}
 use Rattle.py_names.specs.Outline.{has, is_none, outline}
 use Rattle.py_names.specs.Resolves.{Resolves}
-use Rattle.py_names.specs.Scopes.{bodies, body, scope_of}
-use Rattle.py_compile.specs.Compiles.{Compiles, bound_in, once_from}
+use Rattle.py_names.specs.Scopes.{bodies}
+use Rattle.py_compile.specs.Compiles.{Compiles, bound_in}
 use Rattle.py_compile.specs.Resolved.{IsResolved}
 use Rattle.py_compile.specs.Whole.{locals_of, program_of, too_large_in}
 use Rattle.py_compile.proofs.Assembled.{program_right}
 use Rattle.py_compile.proofs.Legal.{legal_all}
 use Rattle.py_compile.proofs.LegalStmts.{legal_text}
 use Rattle.py_compile.proofs.NoneFree.{none_free}
-use Rattle.py_compile.proofs.OnceNames.{has-once}
 use Rattle.py_compile.proofs.ParamSlots.{names_bound, params_fit}
 
 -- ---- no body binds None
@@ -28,10 +27,10 @@ none_bound m scopes h r k x e = by_place (nat_lt k (bodies 0 (outline m))) refl
     by_place : (b : Bool) → nat_lt k (bodies 0 (outline m)) ≡ b → has x (get_or (bound_in scopes) k []) ≡ false
     by_place true q =
         ap (has x) (names_bound (outline m) scopes r.1 k (ltb-true k (bodies 0 (outline m)) q))
-        ∙ has-once x [] (scope_of (body (outline m) k)).locals ∙ none_free m h r.0 k x e
+        ∙ none_free m h r.0 k x e
     by_place false q =
         let past = ltb-false k (bodies 0 (outline m)) q in
-        let count = length-map scopes (λ s. once_from [] s.locals) ∙ r.1.count in
+        let count = length-map scopes (λ s. s.locals) ∙ r.1.count in
         ap (has x) (get_or_past (bound_in scopes) k [] (subst (λ n. n ≤ k) (sym count) past))
 
 -- ---- the program

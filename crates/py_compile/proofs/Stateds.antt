@@ -11,8 +11,9 @@ use Rattle.py_tree.specs.declared.stmt.Handler.{Handler}
 use Rattle.py_tree.specs.declared.stmt.Stmt.TheVariants as s
 use Rattle.py_tree.specs.declared.stmt.Stmt.TheOpen as open'
 use Rattle.py_tree.specs.declared.stmt.Stmt.TheFolds.{fold-Arm, fold-Clause, fold-Handler, fold-roll-Stmt, fold_out-Arm, fold_out-Clause, fold_out-Handler}
+use Rattle.py_compile.specs.declared.around.Way.TheVariants.{Break, Continue}
 use Rattle.py_compile.specs.Template.{row}
-use Rattle.py_compile.specs.Table.{Around, InTry, try_except, nothing, expression, break_code, continue_code, return, def, class}
+use Rattle.py_compile.specs.Table.{Around, InTry, try_except, nothing, expression, way_out, return, def, class}
 use Rattle.py_compile.specs.Names.{Known, home}
 use Rattle.py_compile.specs.Expressions.{coded, add_at, operator, value, values, value_some, all_deleted}
 use Rattle.py_compile.specs.Statements.{Stated, Armed, Claused, Handled, still, block, count, inners, armed_count, armed_inner, assigned, printed, raised, asserted, imported, taken_from, deletion, base, defaults, other, finally, inner_body, stmt_step, arm_step, clause_step, handler_step, stated, all_stated, stated_arm, stated_arms, stated_clause, stated_some, stated_block, stated_handler, stated_handlers, handled, handled_count}
@@ -73,11 +74,11 @@ pub stated_pass : (ln : ℕ) → stated (s.Pass ln) ≡ still (λ n c. nothing l
 unfolding stated folded_arm folded_clause folded_handler
 stated_pass ln = ap stated (sym (s.rolls-Pass ln)) ∙ fold-roll-Stmt Stated Armed Claused Handled stmt_step arm_step clause_step handler_step (open'.Pass ln)
 
-pub stated_break : (ln : ℕ) → stated (s.Break ln) ≡ still (λ n c. break_code ln c)
+pub stated_break : (ln : ℕ) → stated (s.Break ln) ≡ still (λ n c. way_out ln Break c)
 unfolding stated folded_arm folded_clause folded_handler
 stated_break ln = ap stated (sym (s.rolls-Break ln)) ∙ fold-roll-Stmt Stated Armed Claused Handled stmt_step arm_step clause_step handler_step (open'.Break ln)
 
-pub stated_continue : (ln : ℕ) → stated (s.Continue ln) ≡ still (λ n c. continue_code ln c)
+pub stated_continue : (ln : ℕ) → stated (s.Continue ln) ≡ still (λ n c. way_out ln Continue c)
 unfolding stated folded_arm folded_clause folded_handler
 stated_continue ln = ap stated (sym (s.rolls-Continue ln)) ∙ fold-roll-Stmt Stated Armed Claused Handled stmt_step arm_step clause_step handler_step (open'.Continue ln)
 

@@ -3,11 +3,12 @@ use Rattle.std.proofs.Common.{◌≡◌, ℕ, ◌+◌, map, List, [], ◌∷◌,
 use Rattle.py_code.specs.declared.instr.Constant.{Constant}
 use Rattle.py_code.specs.declared.instr.Constant.TheVariants.{Root}
 use Rattle.py_code.specs.declared.instr.Instr.TheVariants.{Pop, Dup, Not, Const, Call, LoadLocal, StoreLocal, Jump, JumpFalse, Iter, Next, Try, PopTry, ExcMatch, MakeRaised, Raise, Return, PrintItem, PrintNewline, MakeFunction, ClassBody}
+use Rattle.py_compile.specs.declared.around.Way.TheVariants.{Out}
 use Rattle.py_compile.specs.declared.home.Home.{Home}
 use Rattle.py_compile.specs.declared.draft.Draft.TheVariants.{Op as DraftOp, To as DraftTo}
 use Rattle.py_compile.specs.declared.draft.Far.TheVariants.{Always, Trying}
 use Rattle.py_compile.specs.Template.{Frame, Piece, Part, Op, Hidden, To, Here, Alone, Sub, row}
-use Rattle.py_compile.specs.Table.{also, assign, expression, print_one, print_line, raise_one, raise_two, assert_alone, assert_with, import_one, store, def, class, arm, all_arms, while, for, try_except, try_finally, return, leaves, Around}
+use Rattle.py_compile.specs.Table.{also, assign, expression, print_one, print_line, raise_one, raise_two, assert_alone, assert_with, import_one, store, def, class, arm, all_arms, while, for, try_except, try_finally, return, way_out, Around}
 use Rattle.py_compile.specs.Names.{Known}
 use Rattle.py_compile.specs.Expressions.{value, stored}
 use Rattle.py_compile.specs.Statements.{deletion, clause}
@@ -102,10 +103,10 @@ module _ (line : ℕ) (env : List ℕ → List Frame) where
       template_emitted line 1 2 base slot env (To 0 Try 1 ∷ Sub 0 inner ∷ Op PopTry ∷ Sub 1 fin ∷ To 0 Jump 0 ∷ Here 1 ∷ Hidden 0 StoreLocal ∷ Sub 1 fin ∷ Hidden 0 LoadLocal ∷ Op Raise ∷ Here 0 ∷ []) e (opened e 2 1) m8 eb es refl refl refl refl
       (m1, (Trying, base + 1, λ q. refl, λ ls. refl, h1), (m2, h2, (m3, h3, (m4, h4, (put m4 line (DraftTo Always base), (Always, base, λ q. refl, λ ls. refl, refl), (marked (put m4 line (DraftTo Always base)) (base + 1), refl, (m5, (slot, λ ls. refl, h5), (m6, h6, (put m6 line (DraftOp (LoadLocal slot)), (slot, λ ls. refl, refl), (m7, h7, (m8, h8, refl)))))))))))
 
-  pub return_arm : (x : Piece) (c : List Around) (slot : ℕ) (e m1 m2 m3 : St) → slot ≡ e.slots → Puts line (length e.labels) (λ ls. frame_there (length e.labels) 0 slot ls ∷ env ls) (Alone x ∷ Hidden 0 StoreLocal ∷ []) (opened e 0 1) m1 → Emitted m1 m2 (leaves line c) env → m3 ≡ put (put m2 line (DraftOp (LoadLocal slot))) line (DraftOp Return) → Emitted e m3 (return line x c) env
+  pub return_arm : (x : Piece) (c : List Around) (slot : ℕ) (e m1 m2 m3 : St) → slot ≡ e.slots → Puts line (length e.labels) (λ ls. frame_there (length e.labels) 0 slot ls ∷ env ls) (Alone x ∷ Hidden 0 StoreLocal ∷ []) (opened e 0 1) m1 → Emitted m1 m2 (way_out line Out c) env → m3 ≡ put (put m2 line (DraftOp (LoadLocal slot))) line (DraftOp Return) → Emitted e m3 (return line x c) env
   return_arm x c slot e m1 m2 m3 es h1 h2 h3 =
-      template_emitted line 1 0 (length e.labels) slot env (Alone x ∷ Hidden 0 StoreLocal ∷ Sub 1 (leaves line c) ∷ Hidden 0 LoadLocal ∷ Op Return ∷ []) e (opened e 0 1) m3 refl es refl refl refl refl
-      (puts_more line (length e.labels) (λ ls. frame_there (length e.labels) 0 slot ls ∷ env ls) (Alone x ∷ Hidden 0 StoreLocal ∷ []) (Sub 1 (leaves line c) ∷ Hidden 0 LoadLocal ∷ Op Return ∷ []) (opened e 0 1) m1 m3 h1
+      template_emitted line 1 0 (length e.labels) slot env (Alone x ∷ Hidden 0 StoreLocal ∷ Sub 1 (way_out line Out c) ∷ Hidden 0 LoadLocal ∷ Op Return ∷ []) e (opened e 0 1) m3 refl es refl refl refl refl
+      (puts_more line (length e.labels) (λ ls. frame_there (length e.labels) 0 slot ls ∷ env ls) (Alone x ∷ Hidden 0 StoreLocal ∷ []) (Sub 1 (way_out line Out c) ∷ Hidden 0 LoadLocal ∷ Op Return ∷ []) (opened e 0 1) m1 m3 h1
       (m2, h2, (put m2 line (DraftOp (LoadLocal slot)), (slot, λ ls. refl, refl), (m3, h3, refl))))
 
 -- an except clause

@@ -11,8 +11,10 @@ use Rattle.py_tree.specs.declared.stmt.Stmt.{Stmt}
 use Rattle.py_tree.specs.declared.stmt.Param.{Param}
 use Rattle.py_tree.specs.declared.stmt.Imported.{Imported}
 use Rattle.py_tree.specs.declared.stmt.Stmt.TheOpen as open'
+use Rattle.py_compile.specs.declared.around.Way.{Way}
+use Rattle.py_compile.specs.declared.around.Way.TheVariants.{Break, Continue, Out}
 use Rattle.py_compile.specs.Template.{Piece, Op, Hidden, To, Here, Alone, Sub, template, row}
-use Rattle.py_compile.specs.Table.{A, B, E, H, M, Around, InWhile, InFor, InTry, InClause, InFinally, all_arms, while, for, def, class, print_one, import_one, break_code, continue_code, leaves, return, raise_again, store}
+use Rattle.py_compile.specs.Table.{A, B, E, H, M, Around, InWhile, InFor, InTry, InClause, InFinally, all_arms, while, for, def, class, print_one, import_one, way_out, return, raise_again, store}
 use Rattle.py_compile.specs.Names.{Known, home, text, library, member}
 use Rattle.py_names.specs.Outline.{has, is_none}
 use Rattle.py_compile.specs.Expressions.{coded, add_at, operator, value, values, value_some, stored, all_stored, all_deleted}
@@ -23,7 +25,7 @@ use Rattle.py_compile.proofs.Legal as lg
 use Rattle.py_compile.proofs.Sane.{sane, sane_some}
 use Rattle.py_compile.proofs.ExprInduct.{Every, every_front, every_back, every_join}
 use Rattle.py_compile.proofs.World.{known, inside, lim, HasNone}
-use Rattle.py_compile.proofs.Blocks.{leaves_does, nothing_does, break_does, continue_does}
+use Rattle.py_compile.proofs.Blocks.{leaves_does, nothing_does, jump_does}
 use Rattle.py_compile.proofs.StmtSimple.{do_here, assign_here, augment_here, print_here, return_here, raise_here, del_here, assert_here, import_here, from_here}
 use Rattle.py_compile.proofs.UsesInTurn.{use_back, zero_back, three_uses, four_uses}
 use Rattle.py_compile.proofs.FoldInduct.{Related, Nil, Cons, related_as, related_of, clause_stands, code_by_arm, code_by_clause, code_by_handler, uses_by_arm, uses_by_clause, uses_by_handler, ClauseWith, HandlerWith, LayerWith, IsLayer, every_stmts}
@@ -37,29 +39,17 @@ module _ (ok : ℕ → Type 0) (flags : ℕ → Bool) (z : Bool) where
   AroundClean (InFinally fin ∷ c) = IsClean ok flags z fin × AroundClean c
   AroundClean (_ ∷ c) = AroundClean c
 
-  break_clean : (ln : ℕ) (c : List Around) → AroundClean c → IsClean ok flags z (break_code ln c)
-  break_clean ln [] a = template_clean ok flags z ln 0 0 [] tt
-  break_clean ln (InWhile ∷ c) a = template_clean ok flags z ln 0 0 (To 1 Jump E ∷ []) ((λ q. tt), tt)
-  break_clean ln (InFor ∷ c) a = template_clean ok flags z ln 0 0 (Op Pop ∷ To 1 Jump E ∷ []) (tt, ((λ q. tt), tt))
-  break_clean ln (InTry ∷ c) a = template_clean ok flags z ln 0 0 (Op PopTry ∷ Sub 2 (break_code ln c) ∷ []) (tt, (break_clean ln c a, tt))
-  break_clean ln (InClause ∷ c) a = template_clean ok flags z ln 0 0 (Sub 2 (break_code ln c) ∷ []) (break_clean ln c a, tt)
-  break_clean ln (InFinally fin ∷ c) a = template_clean ok flags z ln 0 0 (Op PopTry ∷ Sub 2 fin ∷ Sub 2 (break_code ln c) ∷ []) (tt, (a.0, (break_clean ln c a.1, tt)))
-
-  continue_clean : (ln : ℕ) (c : List Around) → AroundClean c → IsClean ok flags z (continue_code ln c)
-  continue_clean ln [] a = template_clean ok flags z ln 0 0 [] tt
-  continue_clean ln (InWhile ∷ c) a = template_clean ok flags z ln 0 0 (To 1 Jump A ∷ []) ((λ q. tt), tt)
-  continue_clean ln (InFor ∷ c) a = template_clean ok flags z ln 0 0 (To 1 Jump A ∷ []) ((λ q. tt), tt)
-  continue_clean ln (InTry ∷ c) a = template_clean ok flags z ln 0 0 (Op PopTry ∷ Sub 2 (continue_code ln c) ∷ []) (tt, (continue_clean ln c a, tt))
-  continue_clean ln (InClause ∷ c) a = template_clean ok flags z ln 0 0 (Sub 2 (continue_code ln c) ∷ []) (continue_clean ln c a, tt)
-  continue_clean ln (InFinally fin ∷ c) a = template_clean ok flags z ln 0 0 (Op PopTry ∷ Sub 2 fin ∷ Sub 2 (continue_code ln c) ∷ []) (tt, (a.0, (continue_clean ln c a.1, tt)))
-
-  leaves_clean : (ln : ℕ) (c : List Around) → AroundClean c → IsClean ok flags z (leaves ln c)
-  leaves_clean ln [] a = template_clean ok flags z ln 0 0 [] tt
-  leaves_clean ln (InWhile ∷ c) a = template_clean ok flags z ln 0 0 (Sub 2 (leaves ln c) ∷ []) (leaves_clean ln c a, tt)
-  leaves_clean ln (InFor ∷ c) a = template_clean ok flags z ln 0 0 (Op Pop ∷ Sub 2 (leaves ln c) ∷ []) (tt, (leaves_clean ln c a, tt))
-  leaves_clean ln (InTry ∷ c) a = template_clean ok flags z ln 0 0 (Op PopTry ∷ Sub 2 (leaves ln c) ∷ []) (tt, (leaves_clean ln c a, tt))
-  leaves_clean ln (InClause ∷ c) a = template_clean ok flags z ln 0 0 (Sub 2 (leaves ln c) ∷ []) (leaves_clean ln c a, tt)
-  leaves_clean ln (InFinally fin ∷ c) a = template_clean ok flags z ln 0 0 (Op PopTry ∷ Sub 2 fin ∷ Sub 2 (leaves ln c) ∷ []) (tt, (a.0, (leaves_clean ln c a.1, tt)))
+  way_clean : (ln : ℕ) (w : Way) (c : List Around) → AroundClean c → IsClean ok flags z (way_out ln w c)
+  way_clean ln w [] a = template_clean ok flags z ln 0 0 [] tt
+  way_clean ln Break (InWhile ∷ c) a = template_clean ok flags z ln 0 0 (To 1 Jump E ∷ []) ((λ q. tt), tt)
+  way_clean ln Continue (InWhile ∷ c) a = template_clean ok flags z ln 0 0 (To 1 Jump A ∷ []) ((λ q. tt), tt)
+  way_clean ln Out (InWhile ∷ c) a = template_clean ok flags z ln 0 0 (Sub 2 (way_out ln Out c) ∷ []) (way_clean ln Out c a, tt)
+  way_clean ln Break (InFor ∷ c) a = template_clean ok flags z ln 0 0 (Op Pop ∷ To 1 Jump E ∷ []) (tt, ((λ q. tt), tt))
+  way_clean ln Continue (InFor ∷ c) a = template_clean ok flags z ln 0 0 (To 1 Jump A ∷ []) ((λ q. tt), tt)
+  way_clean ln Out (InFor ∷ c) a = template_clean ok flags z ln 0 0 (Op Pop ∷ Sub 2 (way_out ln Out c) ∷ []) (tt, (way_clean ln Out c a, tt))
+  way_clean ln w (InTry ∷ c) a = template_clean ok flags z ln 0 0 (Op PopTry ∷ Sub 2 (way_out ln w c) ∷ []) (tt, (way_clean ln w c a, tt))
+  way_clean ln w (InClause ∷ c) a = template_clean ok flags z ln 0 0 (Sub 2 (way_out ln w c) ∷ []) (way_clean ln w c a, tt)
+  way_clean ln w (InFinally fin ∷ c) a = template_clean ok flags z ln 0 0 (Op PopTry ∷ Sub 2 fin ∷ Sub 2 (way_out ln w c) ∷ []) (tt, (a.0, (way_clean ln w c a.1, tt)))
 
   again_clean : (ln : ℕ) (c : List Around) → AroundClean c → IsClean ok flags z (raise_again ln c)
   again_clean ln [] a = template_clean ok flags z ln 0 0 [] tt
@@ -70,7 +60,7 @@ module _ (ok : ℕ → Type 0) (flags : ℕ → Bool) (z : Bool) where
   again_clean ln (InFinally fin ∷ c) a = template_clean ok flags z ln 0 0 (Sub 2 (raise_again ln c) ∷ []) (again_clean ln c a.1, tt)
 
   return_clean : (ln : ℕ) (x : Piece) (c : List Around) → IsClean ok flags z x → AroundClean c → IsClean ok flags z (return ln x c)
-  return_clean ln x c v a = template_clean ok flags z ln 1 0 (Alone x ∷ Hidden 0 StoreLocal ∷ Sub 1 (leaves ln c) ∷ Hidden 0 LoadLocal ∷ Op Return ∷ []) (v, ((λ s. tt), (leaves_clean ln c a, ((λ s. tt), (tt, tt)))))
+  return_clean ln x c v a = template_clean ok flags z ln 1 0 (Alone x ∷ Hidden 0 StoreLocal ∷ Sub 1 (way_out ln Out c) ∷ Hidden 0 LoadLocal ∷ Op Return ∷ []) (v, ((λ s. tt), (way_clean ln Out c a, ((λ s. tt), (tt, tt)))))
 
   -- simple statements of a body that knows these names
   module _ (n : Known) (b : Inside) (names : n.locals ≡ b.locals) (kind : n.is_class ≡ b.is_class) (cls : n.is_class ≡ z) (to go : List ℕ → Type 0) (holds : (x : List ℕ) → to x → go x → ok (text n x)) (free : (x : List ℕ) → is_none x ≡ true → has x n.locals ≡ false) where
@@ -545,8 +535,8 @@ module _ (locals : ℕ → List (List ℕ)) (texts cells : List (List ℕ)) (key
   layer (open'.Augment ln t o e) = still_rel_clean _ _ _ (still_rel locals texts cells keys params none _ _ _ (λ j z sl p s c h w. augment_here locals texts cells keys params none j z sl p s c ln t o e h w)) (λ j z c a w. clean_augment ok flags z (N j z) (I j z) refl refl refl to go holds (free j) ln t o e w)
   layer (open'.Print ln es comma) = still_rel_clean _ _ _ (still_rel locals texts cells keys params none _ _ _ (λ j z sl p s c h w. print_here locals texts cells keys params none j z sl p s c ln es comma h w)) (λ j z c a w. clean_print ok flags z (N j z) (I j z) refl refl refl to go holds (free j) ln es comma w)
   layer (open'.Pass ln) = still_rel_clean _ _ _ (still_rel locals texts cells keys params none _ _ _ (λ j z sl p s c h w. nothing_does (K j sl p) ln c)) (λ j z c a w. template_clean ok flags z ln 0 0 [] tt)
-  layer (open'.Break ln) = still_rel_clean _ _ _ (still_rel locals texts cells keys params none _ _ _ (λ j z sl p s c h w. leaves_does (K j sl p) c (break_code ln c) (break_does (K j sl p) ln c h))) (λ j z c a w. break_clean ok flags z ln c a)
-  layer (open'.Continue ln) = still_rel_clean _ _ _ (still_rel locals texts cells keys params none _ _ _ (λ j z sl p s c h w. leaves_does (K j sl p) c (continue_code ln c) (continue_does (K j sl p) ln c h))) (λ j z c a w. continue_clean ok flags z ln c a)
+  layer (open'.Break ln) = still_rel_clean _ _ _ (still_rel locals texts cells keys params none _ _ _ (λ j z sl p s c h w. leaves_does (K j sl p) c (way_out ln Break c) (jump_does (K j sl p) ln Break refl c h))) (λ j z c a w. way_clean ok flags z ln Break c a)
+  layer (open'.Continue ln) = still_rel_clean _ _ _ (still_rel locals texts cells keys params none _ _ _ (λ j z sl p s c h w. leaves_does (K j sl p) c (way_out ln Continue c) (jump_does (K j sl p) ln Continue refl c h))) (λ j z c a w. way_clean ok flags z ln Continue c a)
   layer (open'.Return ln e) = still_rel_clean _ _ _ (still_rel locals texts cells keys params none _ _ _ (λ j z sl p s c h w. return_here locals texts cells keys params none j z sl p s c ln e h w)) (λ j z c a w. return_clean ok flags z ln (value_some (N j z) ln e) c (clean_some ok flags z (N j z) (I j z) refl refl refl to go holds (free j) ln e w) a)
   layer (open'.Raise ln e v) = still_rel_clean _ _ _ (still_rel locals texts cells keys params none _ _ _ (λ j z sl p s c h w. raise_here locals texts cells keys params none j z sl p s c ln e v h w)) (λ j z c a w. clean_raise ok flags z (N j z) (I j z) refl refl refl to go holds (free j) ln c e v a w)
   layer (open'.Del ln ts) = still_rel_clean _ _ _ (still_rel locals texts cells keys params none _ _ _ (λ j z sl p s c h w. del_here locals texts cells keys params none j z sl p s c ln ts h w)) (λ j z c a w. clean_del ok flags z (N j z) (I j z) refl refl refl to go holds (free j) ln ts w)

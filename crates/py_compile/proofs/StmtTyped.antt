@@ -7,8 +7,9 @@ use Rattle.py_tree.specs.declared.expr.Expr.{Expr}
 use Rattle.py_tree.specs.declared.stmt.Stmt.{Stmt}
 use Rattle.py_tree.specs.declared.stmt.Param.{Param}
 use Rattle.py_tree.specs.declared.stmt.Stmt.TheOpen as open'
+use Rattle.py_compile.specs.declared.around.Way.TheVariants.{Break, Continue}
 use Rattle.py_compile.specs.Template.{Piece, row}
-use Rattle.py_compile.specs.Table.{Around, InWhile, InFor, InTry, InClause, InFinally, arm, all_arms, while, for, def, class, break_code, continue_code}
+use Rattle.py_compile.specs.Table.{Around, InWhile, InFor, InTry, InClause, InFinally, arm, all_arms, while, for, def, class, way_out}
 use Rattle.py_compile.specs.Names.{Known, home}
 use Rattle.py_compile.specs.Expressions.{value, values, stored}
 use Rattle.py_compile.specs.Uses.{Use, Inside, Uses, quiet, in_turn, none_used, all_in_turn, body_used, name_bound, read, target, read_some, target_some, read_defaults, stmt_uses}
@@ -18,7 +19,7 @@ use Rattle.py_compile.proofs.Sane.{sane, sane_some}
 use Rattle.py_compile.proofs.Legal.{Legal, always, both, all_legal, has_clause, is_target_of, sane_defaults, legal, legal_by_arm, legal_by_clause, legal_by_handler}
 use Rattle.py_compile.proofs.Legal as lg
 use Rattle.py_compile.proofs.Values.{Each, Value}
-use Rattle.py_compile.proofs.Blocks.{Does, block_does, in_loop, in_clause, leaves_does, nothing_does, break_does, continue_does, Clause}
+use Rattle.py_compile.proofs.Blocks.{Does, block_does, in_loop, in_clause, leaves_does, nothing_does, jump_does, Clause}
 use Rattle.py_compile.proofs.Constructs.{Arm, arm_is, all_arms_does, while_does, for_does, clause_bare_is, clause_test_is, clause_target_is, try_except_does, try_finally_does, def_does, class_does}
 use Rattle.py_compile.proofs.World.{known, inside, lim, Covers, Wide, HasNone, Slotted, Standing, stand_front, stand_back, BodiesOk, bodies_join}
 use Rattle.py_compile.proofs.FoldInduct.{Related, Nil, Cons, related_of, clause_stands, code_by_arm, code_by_clause, code_by_handler, uses_by_arm, uses_by_clause, uses_by_handler, ClauseWith, HandlerWith, LayerWith, IsLayer, every_stmts}
@@ -462,8 +463,8 @@ module _ (locals : ℕ → List (List ℕ)) (texts cells : List (List ℕ)) (key
   layer (open'.Augment ln t o e) = still_rel _ _ _ (λ j z sl p s c h w. augment_here locals texts cells keys params none j z sl p s c ln t o e h w)
   layer (open'.Print ln es comma) = still_rel _ _ _ (λ j z sl p s c h w. print_here locals texts cells keys params none j z sl p s c ln es comma h w)
   layer (open'.Pass ln) = still_rel _ _ _ (λ j z sl p s c h w. nothing_does (K j sl p) ln c)
-  layer (open'.Break ln) = still_rel _ _ _ (λ j z sl p s c h w. leaves_does (K j sl p) c (break_code ln c) (break_does (K j sl p) ln c h))
-  layer (open'.Continue ln) = still_rel _ _ _ (λ j z sl p s c h w. leaves_does (K j sl p) c (continue_code ln c) (continue_does (K j sl p) ln c h))
+  layer (open'.Break ln) = still_rel _ _ _ (λ j z sl p s c h w. leaves_does (K j sl p) c (way_out ln Break c) (jump_does (K j sl p) ln Break refl c h))
+  layer (open'.Continue ln) = still_rel _ _ _ (λ j z sl p s c h w. leaves_does (K j sl p) c (way_out ln Continue c) (jump_does (K j sl p) ln Continue refl c h))
   layer (open'.Return ln e) = still_rel _ _ _ (λ j z sl p s c h w. return_here locals texts cells keys params none j z sl p s c ln e h w)
   layer (open'.Raise ln e v) = still_rel _ _ _ (λ j z sl p s c h w. raise_here locals texts cells keys params none j z sl p s c ln e v h w)
   layer (open'.Del ln ts) = still_rel _ _ _ (λ j z sl p s c h w. del_here locals texts cells keys params none j z sl p s c ln ts h w)

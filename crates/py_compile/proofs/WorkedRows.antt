@@ -7,8 +7,9 @@ use Rattle.py_code.specs.declared.instr.Instr.{Instr}
 use Rattle.py_code.specs.declared.instr.Instr.TheVariants.{Const, Pop, Not, Dup, Rot2, Dup2, Rot3, LoadLocal, StoreLocal, DelLocal, LoadGlobal, StoreGlobal, StoreName, LoadAttr, StoreAttr, LoadMethod, LoadItem, StoreItem, DelItem, Slice, Binary, InPlace, Compare, Jump, JumpFalse, KeepFalse, BuildDict, Unpack, Call, CallMethod, MakeFunction, ClassBody, Raise, PrintItem, PrintNewline}
 use Rattle.py_tree.specs.declared.expr.Level.TheVariants as level
 use Rattle.py_tree.specs.declared.expr.Expr.TheOpen as open'
+use Rattle.py_compile.specs.declared.around.Way.TheVariants.{Continue}
 use Rattle.py_compile.specs.Template.{Piece, row}
-use Rattle.py_compile.specs.Table.{InWhile, constant, assign, also, all_arms, arm, assert_with, class, continue_code, def, expression, import_one, print_line, print_one, while}
+use Rattle.py_compile.specs.Table.{InWhile, constant, assign, also, all_arms, arm, assert_with, class, def, expression, import_one, print_line, print_one, way_out, while}
 use Rattle.py_compile.specs.Names.{Known, home, library, member, main_texts, first_cell}
 use Rattle.py_compile.specs.Expressions.{Coded, Trailed, expr_step, trailer_step, store_at, del_at, add_at}
 use Rattle.py_compile.specs.Uses.{Use, Text, Global, Keys, Inside, name_read, name_bound, texts_from, cells_from, keys_from}
@@ -111,7 +112,7 @@ unfolding known named number code_at
 arms = refl
 
 -- while a: continue else: g
-loop : code_at (while 1 (named (codes "a")).value (continue_code 2 (InWhile ∷ [])) (expression 3 (named (codes "g")).value)) ≡ LoadLocal 0 ∷ JumpFalse 4 ∷ Jump 0 ∷ Jump 0 ∷ LoadGlobal 23 ∷ Pop ∷ []
+loop : code_at (while 1 (named (codes "a")).value (way_out 2 Continue (InWhile ∷ [])) (expression 3 (named (codes "g")).value)) ≡ LoadLocal 0 ∷ JumpFalse 4 ∷ Jump 0 ∷ Jump 0 ∷ LoadGlobal 23 ∷ Pop ∷ []
 unfolding known named code_at
 loop = refl
 

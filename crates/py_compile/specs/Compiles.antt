@@ -1,22 +1,16 @@
 -- What `compile` answers. States `docs/LANGUAGE.md`, "Code of a tree".
-use Rattle.std.specs.Prelude.{◌≡◌, ℕ, List, [], ◌∷◌, map, option_map, Some, None, Result, Ok, Err}
+use Rattle.std.specs.Prelude.{◌≡◌, ℕ, List, map, option_map, Some, None, Result, Ok, Err}
 use Rattle.py_base.specs.declared.refusal.Refusal.TheVariants.{TooLarge}
 use Rattle.py_code.specs.declared.program.Program.{Program}
 use Rattle.py_tree.specs.declared.stmt.Module.{Module}
 use Rattle.py_names.specs.declared.scope.Scope.{Scope}
 use Rattle.py_compile.specs.declared.error.CompileError.{CompileError}
 use Rattle.py_compile.specs.declared.error.CompileError.TheVariants.{Refused, OutOfMemory}
-use Rattle.py_names.specs.Outline.{with_name}
 use Rattle.py_compile.specs.Whole.{program_of, too_large_in}
-
--- each once, in the order in which they are first
-abbrev pub once_from : List (List ℕ) → List (List ℕ) → List (List ℕ)
-once_from ns [] = ns
-once_from ns (x ∷ xs) = once_from (with_name ns x) xs
 
 -- the names that the bodies bind
 abbrev pub bound_in : List Scope → List (List (List ℕ))
-bound_in scopes = map (λ s. once_from [] s.locals) scopes
+bound_in scopes = map (λ s. s.locals) scopes
 
 -- The program where nothing is too large, and else its line; want of memory is free.
 abbrev pub Compiles : Module → List Scope → Result Program CompileError → Type 0

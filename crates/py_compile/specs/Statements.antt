@@ -11,8 +11,9 @@ use Rattle.py_tree.specs.declared.stmt.Clause.{Clause}
 use Rattle.py_tree.specs.declared.stmt.Handler.{Handler}
 use Rattle.py_tree.specs.declared.stmt.Stmt.TheOpen as open'
 use Rattle.py_tree.specs.declared.stmt.Stmt.TheFolds.{fold-Stmt}
+use Rattle.py_compile.specs.declared.around.Way.TheVariants.{Break, Continue}
 use Rattle.py_compile.specs.Template.{Piece, Alone, template, row}
-use Rattle.py_compile.specs.Table.{nothing, constant, also, assign, expression, print_one, print_line, raise_one, raise_two, assert_with, assert_alone, import_one, def, class, arm, all_arms, while, for, try_except, clause_bare, clause_test, clause_target, try_finally, Around, InWhile, InFor, InTry, InClause, InFinally, break_code, continue_code, return, raise_again}
+use Rattle.py_compile.specs.Table.{nothing, constant, also, assign, expression, print_one, print_line, raise_one, raise_two, assert_with, assert_alone, import_one, def, class, arm, all_arms, while, for, try_except, clause_bare, clause_test, clause_target, try_finally, Around, InWhile, InFor, InTry, InClause, InFinally, way_out, return, raise_again}
 use Rattle.py_compile.specs.Names.{Known, home, library, member}
 use Rattle.py_compile.specs.Expressions.{coded, add_at, operator, value, values, value_some, stored, all_deleted}
 
@@ -186,8 +187,8 @@ stmt_step (open'.Assign ln ts e) = still (λ n c. assigned n ln ts e)
 stmt_step (open'.Augment ln t o e) = still (λ n c. add_at ln (coded n ln t).place (operator o) (value n ln e))
 stmt_step (open'.Print ln es comma) = still (λ n c. printed n ln es comma)
 stmt_step (open'.Pass ln) = still (λ n c. nothing ln)
-stmt_step (open'.Break ln) = still (λ n c. break_code ln c)
-stmt_step (open'.Continue ln) = still (λ n c. continue_code ln c)
+stmt_step (open'.Break ln) = still (λ n c. way_out ln Break c)
+stmt_step (open'.Continue ln) = still (λ n c. way_out ln Continue c)
 stmt_step (open'.Return ln e) = still (λ n c. return ln (value_some n ln e) c)
 stmt_step (open'.Raise ln e v) = still (λ n c. raised n ln c e v)
 stmt_step (open'.Del ln ts) = still (λ n c. deletion ln (all_deleted n ln ts))

@@ -5,6 +5,8 @@ use Rattle.py_code.specs.declared.instr.Constant.{Constant}
 use Rattle.py_code.specs.declared.instr.Constant.TheVariants.{None as NoValue, Root}
 use Rattle.py_code.specs.declared.instr.Instr.{Instr}
 use Rattle.py_code.specs.declared.instr.Instr.TheVariants.{Setup, Const, Pop, Dup, Rot2, Dup2, Rot3, LoadLocal, StoreLocal, DelLocal, LoadGlobal, StoreGlobal, DelGlobal, LoadName, StoreName, DelName, LoadAttr, StoreAttr, DelAttr, LoadMethod, LoadItem, StoreItem, DelItem, Slice, Not, InPlace, Compare, Jump, JumpFalse, KeepFalse, Unpack, Iter, Next, Call, CallMethod, Return, MakeFunction, ClassBody, Try, PopTry, ExcMatch, MakeRaised, Raise, PrintItem, PrintNewline}
+use Rattle.py_compile.specs.declared.around.Way.{Way}
+use Rattle.py_compile.specs.declared.around.Way.TheVariants.{Break, Continue, Out}
 use Rattle.py_compile.specs.declared.home.Home.{Home}
 use Rattle.py_compile.specs.declared.home.Home.TheVariants.{Slot, Cell, Body}
 use Rattle.py_compile.specs.Template.{Piece, Op, Hidden, To, Here, Alone, Sub, template, row}
@@ -230,35 +232,29 @@ pub data Around : Type 0 where
   InFinally : Piece → Around  -- in the part of a try that this finally body follows
 
 module _ (ln : ℕ) where
-  -- what break does inside these constructs, the innermost first
-  abbrev pub break_code : List Around → Piece
-  break_code [] = nothing ln
-  break_code (InWhile ∷ c) = template ln 0 0 (To 1 Jump E ∷ [])
-  break_code (InFor ∷ c) = template ln 0 0 (Op Pop ∷ To 1 Jump E ∷ [])
-  break_code (InTry ∷ c) = template ln 0 0 (Op PopTry ∷ Sub 2 (break_code c) ∷ [])
-  break_code (InClause ∷ c) = template ln 0 0 (Sub 2 (break_code c) ∷ [])
-  break_code (InFinally fin ∷ c) = template ln 0 0 (Op PopTry ∷ Sub 2 fin ∷ Sub 2 (break_code c) ∷ [])
+  -- What is done on a way out of these constructs, the innermost first: to the end of the innermost loop (`break`), to its
+  -- next turn (`continue`), or out of the body. At a loop, rest is the way on from there.
+  abbrev pub past_while : Way → Piece → Piece
+  past_while Break rest = template ln 0 0 (To 1 Jump E ∷ [])
+  past_while Continue rest = template ln 0 0 (To 1 Jump A ∷ [])
+  past_while Out rest = template ln 0 0 (Sub 2 rest ∷ [])
 
-  abbrev pub continue_code : List Around → Piece
-  continue_code [] = nothing ln
-  continue_code (InWhile ∷ c) = template ln 0 0 (To 1 Jump A ∷ [])
-  continue_code (InFor ∷ c) = template ln 0 0 (To 1 Jump A ∷ [])
-  continue_code (InTry ∷ c) = template ln 0 0 (Op PopTry ∷ Sub 2 (continue_code c) ∷ [])
-  continue_code (InClause ∷ c) = template ln 0 0 (Sub 2 (continue_code c) ∷ [])
-  continue_code (InFinally fin ∷ c) = template ln 0 0 (Op PopTry ∷ Sub 2 fin ∷ Sub 2 (continue_code c) ∷ [])
+  abbrev pub past_for : Way → Piece → Piece
+  past_for Break rest = template ln 0 0 (Op Pop ∷ To 1 Jump E ∷ [])
+  past_for Continue rest = template ln 0 0 (To 1 Jump A ∷ [])
+  past_for Out rest = template ln 0 0 (Op Pop ∷ Sub 2 rest ∷ [])
 
-  -- what is done on the way out of the body
-  abbrev pub leaves : List Around → Piece
-  leaves [] = nothing ln
-  leaves (InWhile ∷ c) = template ln 0 0 (Sub 2 (leaves c) ∷ [])
-  leaves (InFor ∷ c) = template ln 0 0 (Op Pop ∷ Sub 2 (leaves c) ∷ [])
-  leaves (InTry ∷ c) = template ln 0 0 (Op PopTry ∷ Sub 2 (leaves c) ∷ [])
-  leaves (InClause ∷ c) = template ln 0 0 (Sub 2 (leaves c) ∷ [])
-  leaves (InFinally fin ∷ c) = template ln 0 0 (Op PopTry ∷ Sub 2 fin ∷ Sub 2 (leaves c) ∷ [])
+  abbrev pub way_out : Way → List Around → Piece
+  way_out w [] = nothing ln
+  way_out w (InWhile ∷ c) = past_while w (way_out w c)
+  way_out w (InFor ∷ c) = past_for w (way_out w c)
+  way_out w (InTry ∷ c) = template ln 0 0 (Op PopTry ∷ Sub 2 (way_out w c) ∷ [])
+  way_out w (InClause ∷ c) = template ln 0 0 (Sub 2 (way_out w c) ∷ [])
+  way_out w (InFinally fin ∷ c) = template ln 0 0 (Op PopTry ∷ Sub 2 fin ∷ Sub 2 (way_out w c) ∷ [])
 
   -- without a value, e is CONST None
   abbrev pub return : Piece → List Around → Piece
-  return e c = template ln 1 0 (Alone e ∷ Hidden 0 StoreLocal ∷ Sub 1 (leaves c) ∷ Hidden 0 LoadLocal ∷ Op Return ∷ [])
+  return e c = template ln 1 0 (Alone e ∷ Hidden 0 StoreLocal ∷ Sub 1 (way_out Out c) ∷ Hidden 0 LoadLocal ∷ Op Return ∷ [])
 
   -- a raise alone: the exception of the innermost clause round it
   abbrev pub raise_again : List Around → Piece

@@ -1,9 +1,10 @@
 //! The program of a module.
 ghost use Rattle.std.specs.Prelude.{◌≡◌, [], IfOk, OnOk};
-ghost use Rattle.std.specs.List.{list_any};
+ghost use Rattle.std.specs.List.{IsDistinct, list_any};
+ghost use Rattle.std.specs.Str.{bytes_eq};
 ghost use Rattle.py_code.specs.Right.{IsRightProgram};
-ghost use Rattle.py_compile.specs.Compiles.{Compiles, bound_in, once_from};
-ghost use Rattle.py_compile.specs.inner.Bodies.{Padded};
+ghost use Rattle.py_compile.specs.Compiles.{Compiles, bound_in};
+ghost use Rattle.py_compile.specs.inner.Bodies.{NamedOnce, Padded};
 ghost use Rattle.py_compile.specs.inner.Gathered.{numbered};
 ghost use Rattle.py_compile.specs.Resolved.{IsResolved};
 ghost use Rattle.py_compile.specs.Whole.{bodies, is_long};
@@ -26,9 +27,10 @@ const MOST: usize = 65535;
 /// How many bytes a string among the roots may have.
 const LONGEST: usize = 1_048_576;
 
-/// These names, each once.
+/// These names, none of which stands twice.
 fn set_of<'a>(alloc: Global, names: &'a [Bytes]) -> Result<NameSet<'a>, NoMemory>
-    ensures { IfOk result (λ set. set ≡ once_from [] names.now) }
+    requires { IsDistinct bytes_eq names.now }
+    ensures { IfOk result (λ set. set ≡ names.now) }
 {
     let mut set = NameSet::new(alloc);
     let mut rest = names;
@@ -40,7 +42,9 @@ fn set_of<'a>(alloc: Global, names: &'a [Bytes]) -> Result<NameSet<'a>, NoMemory
 }
 
 /// The names that the bodies bind, by their scopes.
+#[tactic(auto, unfolding(crate::specs::inner::Bodies::NamedOnce))]
 fn bound<'a>(alloc: Global, scopes: &'a Scopes) -> Result<Vec<NameSet<'a>>, NoMemory>
+    requires { NamedOnce scopes.now }
     ensures { IfOk result (λ sets. sets.items ≡ bound_in scopes.now) }
 {
     let mut sets = Vec::new(alloc);

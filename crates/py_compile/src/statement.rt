@@ -6,10 +6,10 @@ ghost use Rattle.py_compile.specs.declared.draft.Far.TheVariants.{Always};
 ghost use Rattle.py_compile.specs.Expressions.{value_some};
 ghost use Rattle.py_compile.specs.Names.{Known};
 ghost use Rattle.py_compile.specs.inner.Plans.{for_plan, finally_plan, if_plan, planned, planned_all, planned_arms, planned_block, planned_handlers, simple_stmt, try_plan, while_plan};
-ghost use Rattle.py_compile.specs.inner.Rounds.{around_of, env_of, leaving};
+ghost use Rattle.py_compile.specs.inner.Rounds.{around_of, env_of};
 ghost use Rattle.py_compile.specs.inner.State.{Emitted, frame_there, put};
 ghost use Rattle.py_compile.specs.Statements.{raised, stated};
-ghost use Rattle.py_compile.specs.Table.{raise_again, return};
+ghost use Rattle.py_compile.specs.Table.{raise_again, return, way_out};
 ghost use Rattle.py_compile.specs.Template.{row};
 
 use crate::around::{Around, Way};
@@ -96,8 +96,8 @@ fn pop(e: &mut Emitter, line: u32) -> Result<(), Fault>
 /// What is done on a way out, from the innermost construct on. No resolved tree has a break or a continue outside of a loop.
 #[cycle(statements)]
 fn leave(e: &mut Emitter, names: &Names, line: u32, way: Way, around: &Around) -> Result<(), Fault>
-    ensures done { IfOk result (λ _. Emitted e.old e.new (leaving way line (around_of names.now around.now)) (env_of around.now)) }
-    ensures large { result ≡ Err Fault.TooLarge → 65535 < length e.old.code + (leaving way line (around_of names.now around.now)).size }
+    ensures done { IfOk result (λ _. Emitted e.old e.new (way_out line way (around_of names.now around.now)) (env_of around.now)) }
+    ensures large { result ≡ Err Fault.TooLarge → 65535 < length e.old.code + (way_out line way (around_of names.now around.now)).size }
 {
     match around {
         Around::Body => Ok(()),

@@ -1,5 +1,5 @@
 -- The first step of a right program: SETUP over no records.
-use Rattle.std.proofs.Common.{arith, ◌≡◌, ℕ, suc, ◌+◌, ◌<◌, ◌==◌, ◌||◌, true, false, List, [], ◌∷◌, ◌++◌, length, Option, Some, None, refl, sym, ap, subst, ◌∙◌, pos, get_or, slice_get}
+use Rattle.std.proofs.Common.{arith, ◌≡◌, ℕ, suc, ◌+◌, ◌<◌, ◌==◌, ◌||◌, true, false, List, [], ◌∷◌, ◌++◌, length, Option, Some, None, refl, sym, ap, subst, ◌∙◌, pos, slice_get}
 use Rattle.std.specs.Prelude.{All, is_some}
 use Rattle.std.specs.List.{list_any}
 use Rattle.std.proofs.lemmas.Bool.Decides.{nat_tests}
@@ -22,7 +22,7 @@ use Rattle.py_code.specs.declared.instr.Instr.TheVariants.{Setup, ClassBody}
 use Rattle.py_code.specs.declared.program.Code.{Code}
 use Rattle.py_code.specs.declared.program.Program.{Program}
 use Rattle.py_code.specs.declared.program.Root.{Root}
-use Rattle.py_code.specs.Right.{IsRightProgram, AreRight, Belongs, SetsUp, opens_body, all_instrs, bodies, is_body, cell_root}
+use Rattle.py_code.specs.Right.{IsRightProgram, AreRight, Belongs, SetsUp, opens_body, all_instrs, is_body, cell_root}
 use Rattle.lock_run.specs.declared.client.Outcome.{Outcome}
 use Rattle.obj_class.specs.Bases.{ref}
 use Rattle.obj_class.specs.Exceptions.{made_row}
@@ -56,13 +56,8 @@ none_opens all rs n [] r = refl
 none_opens all rs n (c ∷ cs) r =
     list_any-append (opens_body 0) c.instrs (all_instrs cs) ∙ (ap (λ b. b || list_any (opens_body 0) (all_instrs cs)) (none_of all rs n c.instrs r.0.belongs) ∙ none_opens all rs (n + 1) cs r.1)
 
-first_body : (is : List Instr) (cs : List Code) → 0 < length cs → get_or (bodies is 0 cs) 0 false ≡ list_any (opens_body 0) is
-unfolding bodies
-first_body is [] l = absurd (omega (arith, l))
-first_body is (c ∷ cs) l = refl
-
 module_is_none : (p : Program) → IsRightProgram p → is_body p.codes 0 ≡ false
-module_is_none p right = first_body (all_instrs p.codes) p.codes right.first ∙ none_opens p.codes p.roots 0 p.codes right.each
+module_is_none p right = none_opens p.codes p.roots 0 p.codes right.each
 
 -- ---- SETUP is the first instruction
 

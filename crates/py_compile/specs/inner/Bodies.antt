@@ -1,8 +1,11 @@
 -- The mirror of the code: nothing public rests on it.
 -- What the body with a number knows of names, and the codes of bodies one after another. It belongs to `Compiles`.
-use Rattle.std.specs.Prelude.{◌≡◌, ℕ, Bool, List, [], option_map, Some, None, Result, Ok, Err, get_or, length, ◌≤◌}
+use Rattle.std.specs.Prelude.{◌≡◌, ℕ, Bool, List, [], ◌∷◌, option_map, Some, None, Result, Ok, Err, get_or, length, ◌≤◌}
+use Rattle.std.specs.List.{IsDistinct}
+use Rattle.std.specs.Str.{bytes_eq}
 use Rattle.py_base.specs.declared.refusal.Refusal.TheVariants.{TooLarge}
 use Rattle.py_code.specs.declared.program.Code.{Code}
+use Rattle.py_names.specs.declared.scope.Scope.{Scope}
 use Rattle.py_compile.specs.declared.error.CompileError.{CompileError}
 use Rattle.py_compile.specs.declared.error.CompileError.TheVariants.{Refused, OutOfMemory}
 use Rattle.py_compile.specs.Names.{Known}
@@ -22,6 +25,11 @@ abbrev pub CodesOf : (ℕ → Body → Known) → List Body → Result (List Cod
 CodesOf known ys (Ok cs) = (large_bodies known 0 ys ≡ None) × (cs ≡ codes_from known 0 ys)
 CodesOf known ys (Err (Refused r)) = option_map TooLarge (large_bodies known 0 ys) ≡ Some r
 CodesOf known ys (Err OutOfMemory) = Unit {0}
+
+-- each scope names its locals once
+unfoldable pub NamedOnce : List Scope → Type 0
+NamedOnce [] = Unit {0}
+NamedOnce (s ∷ more) = IsDistinct bytes_eq s.locals × NamedOnce more
 
 -- at least so many, and those behind the first ones are empty
 pub record Padded (n : ℕ) (xs ys : List (List (List ℕ))) : Type 0 where

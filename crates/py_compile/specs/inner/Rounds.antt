@@ -3,10 +3,8 @@
 use Rattle.std.specs.Prelude.{ℕ, List, [], ◌∷◌}
 use Rattle.py_compile.specs.declared.around.Around.{Around as Round}
 use Rattle.py_compile.specs.declared.around.Around.TheVariants.{Body, While', For', Try', Clause', Finally'}
-use Rattle.py_compile.specs.declared.around.Way.{Way}
-use Rattle.py_compile.specs.declared.around.Way.TheVariants.{Break, Continue, Out}
-use Rattle.py_compile.specs.Template.{Frame, Piece}
-use Rattle.py_compile.specs.Table.{Around, InWhile, InFor, InTry, InClause, InFinally, break_code, continue_code, leaves}
+use Rattle.py_compile.specs.Template.{Frame}
+use Rattle.py_compile.specs.Table.{Around, InWhile, InFor, InTry, InClause, InFinally}
 use Rattle.py_compile.specs.Names.{Known}
 use Rattle.py_compile.specs.inner.Plans.{planned_block}
 use Rattle.py_compile.specs.inner.State.{frame_there}
@@ -26,9 +24,3 @@ env_of (For' b r o) ls = frame_there b 3 0 ls ∷ env_of o ls
 env_of (Try' b s r o) ls = frame_there b 2 s ls ∷ env_of o ls
 env_of (Clause' b s r o) ls = frame_there b 2 s ls ∷ env_of o ls
 env_of (Finally' b s d r o) ls = frame_there b 2 s ls ∷ env_of o ls
-
--- what is done on a way out
-abbrev pub leaving : Way → ℕ → List Around → Piece
-leaving Break ln c = break_code ln c
-leaving Continue ln c = continue_code ln c
-leaving Out ln c = leaves ln c

@@ -1,9 +1,8 @@
-use Rattle.std.proofs.Common.{◌≡◌, [], length}
-use Rattle.py_compile.specs.Compiles.{once_from}
+use Rattle.std.proofs.Common.{◌≡◌, ◌++◌, length}
 use Rattle.py_compile.proofs.compiler.set_of.Given as goal
 
 abbrev pub invariant-names : goal.invariant-names
-invariant-names l = once_from l.set l.rest ≡ once_from [] l.names
+invariant-names l = l.set ++ l.rest ≡ l.names
 
 abbrev pub decreases-names : goal.decreases-names
 decreases-names l = length l.rest
