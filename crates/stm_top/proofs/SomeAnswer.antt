@@ -7,11 +7,8 @@ use Rattle.py_tokens.specs.Layout.{Laid, tokens_of_text}
 use Rattle.py_tree.specs.declared.stmt.Module.{Module}
 use Rattle.py_tree.specs.Tall.{tall_module}
 use Rattle.py_parser.specs.declared.fault.Fault.{Fault}
-use Rattle.py_parser.specs.inner.Lines.{module_at}
-use Rattle.py_parser.specs.inner.Reading.{Reads}
 use Rattle.py_parser.specs.Refused.{refusal_of, RefusedAt, EndsOnce}
 use Rattle.py_parser.specs.Statements.{IsModule}
-use Rattle.py_parser.specs.Words.{line_of}
 use Rattle.py_names.specs.declared.event.Event.{Event}
 use Rattle.py_names.specs.declared.scope.Scope.{Scope}
 use Rattle.py_names.specs.Outline.{outline}
@@ -19,7 +16,8 @@ use Rattle.py_names.specs.Scopes.{Names, bodies, body, scope_of, AreScopes, faul
 use Rattle.py_code.specs.declared.program.Program.{Program}
 use Rattle.py_compile.specs.Compiles.{bound_in}
 use Rattle.py_compile.specs.Whole.{program_of, too_large_in}
-use Rattle.stm_top.specs.TextCode.{IsTree, HasNoTree, HasScopes, HasNoScopes, HasCode, HasNoCode, IsRefused}
+use Rattle.front_laws.specs.Trees.{IsTree}
+use Rattle.stm_top.specs.TextCode.{HasNoTree, HasScopes, HasNoScopes, HasCode, HasNoCode, IsRefused}
 
 -- a program, or a refusal
 abbrev pub HasAnswer : List ℕ → Type 0
@@ -65,18 +63,23 @@ with_tree text tree None is e =
     with_scopes text tree s.0 (too_large_in (bound_in s.0) tree) (record { is = is; allowed = e; are = s.1 }) refl
 with_tree text tree (Some r) is e = inr (r, inr (inr (inl (record { tree = tree; is = is; refused = e }))))
 
-module _ (found : (ts : List Token) (m : Module) (rest : List Token) → EndsOnce ts → module_at (length ts) ts ≡ Ok (m, rest) → IsModule m ts × (tall_module m ≤ 100))
-    (refused : (ts : List Token) (f : Fault) (rest : List Token) → EndsOnce ts → module_at (length ts) ts ≡ Err (f, rest) → RefusedAt ts f (line_of rest))
+module _ (some_tree : (ts : List Token) → EndsOnce ts →
+    ((m : Module) × IsModule m ts × (tall_module m ≤ 100)) ⊎ ((f : Fault) × (line : ℕ) × RefusedAt ts f line))
     (ends : (text : List ℕ) (ts : List Token) → tokens_of_text text ≡ Ok ts → EndsOnce ts) where
-  with_tokens : (text : List ℕ) (ts : List Token) (r : Reads Module) → tokens_of_text text ≡ Ok ts → module_at (length ts) ts ≡ r → HasAnswer text
-  with_tokens text ts (Ok x) are e =
-      let is = found ts x.0 x.1 (ends text ts are) e in
-      with_tree text x.0 (fault (outline x.0)) (record { tokens = ts; are = are; is = is.0; low = is.1 }) refl
-  with_tokens text ts (Err x) are e =
-      inr (refusal_of x.0 (line_of x.1), inr (inl (record { tokens = ts; are = are; fault = x.0; line = line_of x.1; is = refl; refused = refused ts x.0 x.1 (ends text ts are) e })))
+  with_tokens : (text : List ℕ) (ts : List Token) → tokens_of_text text ≡ Ok ts → HasAnswer text
+  with_tokens text ts are = go (some_tree ts (ends text ts are))
+    where
+      go : ((m : Module) × IsModule m ts × (tall_module m ≤ 100)) ⊎ ((f : Fault) × (line : ℕ) × RefusedAt ts f line) →
+          HasAnswer text
+      go (inl (m, is, low)) =
+          with_tree text m (fault (outline m)) (record { tokens = ts; are = are; is = is; low = low }) refl
+      go (inr (f, line, r)) =
+          let none : HasNoTree text (refusal_of f line) =
+          record { tokens = ts; are = are; fault = f; line = line; is = refl; refused = r } in
+          inr (refusal_of f line, inr (inl none))
 
   of_tokens : (text : List ℕ) (r : Laid) → tokens_of_text text ≡ r → HasAnswer text
-  of_tokens text (Ok ts) e = with_tokens text ts (module_at (length ts) ts) e refl
+  of_tokens text (Ok ts) e = with_tokens text ts e
   of_tokens text (Err x) e = inr (x, inl e)
 
   pub some_answer : (text : List ℕ) → HasAnswer text

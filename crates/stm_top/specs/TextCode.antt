@@ -1,14 +1,13 @@
 -- The program of a text, or why it has none. States `docs/LANGUAGE.md`, "From a text to its program".
-use Rattle.std.specs.Prelude.{◌≡◌, ℕ, ◌≤◌, ◌⊎◌, List, Some, None, option_map, Ok, Err}
+use Rattle.std.specs.Prelude.{◌≡◌, ℕ, ◌⊎◌, List, Some, None, option_map, Ok, Err}
 use Rattle.py_base.specs.declared.refusal.Refusal.{Refusal}
 use Rattle.py_base.specs.declared.refusal.Refusal.TheVariants.{TooLarge}
 use Rattle.py_tokens.specs.declared.token.Token.{Token}
 use Rattle.py_tokens.specs.Layout.{tokens_of_text}
 use Rattle.py_tree.specs.declared.stmt.Module.{Module}
-use Rattle.py_tree.specs.Tall.{tall_module}
 use Rattle.py_parser.specs.declared.fault.Fault.{Fault}
 use Rattle.py_parser.specs.Refused.{refusal_of, RefusedAt}
-use Rattle.py_parser.specs.Statements.{IsModule}
+use Rattle.front_laws.specs.Trees.{IsTree}
 use Rattle.py_names.specs.Outline.{outline}
 use Rattle.py_names.specs.declared.scope.Scope.{Scope}
 use Rattle.py_names.specs.Scopes.{AreScopes, fault}
@@ -19,14 +18,7 @@ use Rattle.stm_top.specs.declared.text_code.TextFault.{TextFault}
 use Rattle.stm_top.specs.declared.text_code.TextFault.TheVariants.{Refused, OutOfMemory}
 
 -- ---- the tree
--- the text's tokens have this tree, of a height of at most 100
-pub record IsTree (text : List ℕ) (tree : Module) : Type 0 where
-  pub tokens : List Token
-  pub are : tokens_of_text text ≡ Ok tokens
-  pub is : IsModule tree tokens
-  pub low : tall_module tree ≤ 100
-
--- its tokens have no such tree, and are refused where that shows first
+-- the text's tokens have no tree of a height of at most 100, and are refused where that shows first
 pub record HasNoTree (text : List ℕ) (refusal : Refusal) : Type 0 where
   pub tokens : List Token
   pub are : tokens_of_text text ≡ Ok tokens

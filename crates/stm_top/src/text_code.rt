@@ -1,18 +1,19 @@
 //! From a text to its verified program.
 ghost use Rattle.std.specs.Prelude.{◌≡◌, ◌<◌, ◌^◌, ◌⊎◌, List, ℕ, length, Ok, IfOk, IfErr};
-ghost use Rattle.py_base.specs.Refusal.{refusal_line, refusal_number};
 ghost use Rattle.py_base.specs.declared.refusal.Refusal.{Refusal as Reason};
 ghost use Rattle.py_tokens.specs.Layout.{tokens_of_text};
 ghost use Rattle.py_parser.specs.Refused.{EndsOnce};
 ghost use Rattle.py_code.specs.Right.{IsRightProgram};
 ghost use Rattle.py_code.specs.declared.program.Program.{Program as Code};
-ghost use Rattle.stm_top.specs.TextCode.{HasCode, HasScopes, IsFault, IsRefused, IsTree};
+ghost use Rattle.front_laws.specs.Trees.{IsTree};
+ghost use Rattle.stm_top.specs.TextCode.{HasCode, HasScopes, IsFault, IsRefused};
 
+use front_laws::{round_law, tree_law};
 use py_code::Program;
 use py_compile::{CompileError, compile};
 use py_data::Refusal;
 use py_names::{NameFault, Scopes, resolve};
-use py_parser::{ParseError, ends_law, grammar_law, parse};
+use py_parser::{ParseError, ends_law, parse};
 use py_tokens::{Token, TokenError, tokens};
 use py_tree::Module;
 use py_verify::{Verified, verify};
@@ -109,14 +110,15 @@ pub fn compile_text(alloc: Global, text: &[u8]) -> Result<Verified, TextFault>
     }
 }
 
-/// A text has a program or is refused, and not both. It has one program at most, and all its refusals have one number and one line. A
-/// call does nothing, and gives its caller's proof these facts.
+/// A text has a program or is refused, and not both; and it has one program at most and one refusal at most. A call
+/// does nothing, and gives its caller's proof these facts.
 pub fn text_law()
     ensures some { (text : List ℕ) → ((p : Code) × HasCode text p) ⊎ ((r : Reason) × IsRefused text r) }
     ensures program { (text : List ℕ) (p q : Code) → HasCode text p → HasCode text q → p ≡ q }
     ensures none { (text : List ℕ) (p : Code) (r : Reason) → HasCode text p → IsRefused text r → ⊥ }
-    ensures refusal { (text : List ℕ) (r s : Reason) → IsRefused text r → IsRefused text s → (refusal_number r ≡ refusal_number s) × (refusal_line r ≡ refusal_line s) }
+    ensures refusal { (text : List ℕ) (r s : Reason) → IsRefused text r → IsRefused text s → r ≡ s }
 {
-    grammar_law();
+    tree_law();
+    round_law();
     ends_law();
 }

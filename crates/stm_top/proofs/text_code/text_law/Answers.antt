@@ -3,13 +3,16 @@ use Rattle.stm_top.proofs.SomeAnswer.{some_answer}
 use Rattle.stm_top.proofs.text_code.text_law.Goals as goal
 
 pub returns-clause-some : goal.returns-clause-some
-returns-clause-some c = some_answer c.grammar_law.ensures.found c.grammar_law.ensures.refused c.ends_law.ensures.text
+returns-clause-some c = some_answer c.tree_law.ensures.some c.ends_law.ensures.text
 
 pub returns-clause-program : goal.returns-clause-program
-returns-clause-program c = one_program c.grammar_law.ensures.one
+returns-clause-program c = one_program c.round_law.ensures.one c.tree_law.ensures.never_both
 
 pub returns-clause-none : goal.returns-clause-none
-returns-clause-none c = program_or_refusal c.grammar_law.ensures.one
+returns-clause-none c = program_or_refusal c.round_law.ensures.one c.tree_law.ensures.never_both
 
 pub returns-clause-refusal : goal.returns-clause-refusal
-returns-clause-refusal c = one_refusal c.grammar_law.ensures.one
+returns-clause-refusal c = λ text.
+    let both = c.tree_law.ensures.never_both in
+    let ends = c.ends_law.ensures.text text in
+    one_refusal c.round_law.ensures.one both text c.tree_law.ensures.one_refusal ends
