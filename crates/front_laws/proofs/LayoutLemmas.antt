@@ -1,4 +1,5 @@
--- Of the tokens of a text, those of its lines are the ones of its words; and where the layout refuses a text, a dedent is bad.
+-- Of the tokens of a text, those of its lines are the ones of its words; and where the layout refuses a text, a dedent
+-- is bad.
 use Rattle.std.proofs.Common.{◌≡◌, ℕ, ◌+◌, ◌-◌, ◌==◌, nat_lt, Bool, true, false, if◌then◌else◌, List, [], ◌∷◌, ◌++◌, Option, Some, None, Ok, Err, ◌⊎◌, inl, inr, refl, sym, ap, ◌∙◌, subst, append_assoc}
 use Rattle.py_base.specs.declared.refusal.Refusal.{Refusal}
 use Rattle.py_base.specs.declared.refusal.Refusal.TheVariants.{BadDedent}
@@ -14,7 +15,8 @@ use Rattle.front_laws.specs.Pieces.{is_layout, in_line}
 -- ---- words and lines
 
 joined_cases : (p : Place) (depth : ℕ) (ws : List Word) (b : Bool) → tokens_in (joined 0 ws) ≡ tokens_in ws →
-    tokens_in (joined depth ws) ≡ tokens_in ws → tokens_in (if b then LineEnd p ∷ joined 0 ws else joined depth ws) ≡ tokens_in ws
+    tokens_in (joined depth ws) ≡ tokens_in ws → tokens_in (if b then LineEnd p ∷ joined 0 ws else joined depth ws) ≡
+    tokens_in ws
 joined_cases p depth ws true top same = top
 joined_cases p depth ws false top same = same
 
@@ -22,7 +24,8 @@ joined_tokens : (depth : ℕ) (ws : List Word) → tokens_in (joined depth ws) �
 joined_tokens depth [] = refl
 joined_tokens depth (Opens t ∷ ws) = ap (λ ts. t ∷ ts) (joined_tokens (depth + 1) ws)
 joined_tokens depth (Closes t ∷ ws) = ap (λ ts. t ∷ ts) (joined_tokens (depth - 1) ws)
-joined_tokens depth (LineEnd p ∷ ws) = joined_cases p depth ws (depth == 0) (joined_tokens 0 ws) (joined_tokens depth ws)
+joined_tokens depth (LineEnd p ∷ ws) = joined_cases p depth ws (depth == 0) (joined_tokens 0 ws)
+    (joined_tokens depth ws)
 joined_tokens depth (Blank b ∷ ws) = joined_tokens depth ws
 joined_tokens depth (Comment ∷ ws) = joined_tokens depth ws
 joined_tokens depth (Joint p ∷ ws) = joined_tokens depth ws
@@ -49,7 +52,8 @@ lines_are last (Plain t ∷ ws) = ap (λ ts. t ∷ ts) (lines_are last ws)
 -- ---- the layout
 
 append_cases : (t : Token) (ts ys : List Token) (b : Bool) → in_line (ts ++ ys) ≡ in_line ts ++ in_line ys →
-    (if b then in_line (ts ++ ys) else t ∷ in_line (ts ++ ys)) ≡ (if b then in_line ts else t ∷ in_line ts) ++ in_line ys
+    (if b then in_line (ts ++ ys) else t ∷ in_line (ts ++ ys)) ≡ (if b then in_line ts else t ∷ in_line ts) ++ in_line
+    ys
 append_cases t ts ys true e = e
 append_cases t ts ys false e = ap (λ us. t ∷ us) e
 
@@ -65,12 +69,18 @@ abbrev pub LaidIs : List Token → Option Refusal → Laid → Type 0
 LaidIs us stop (Ok ts) = (in_line ts ≡ in_line us) × (stop ≡ None)
 LaidIs us stop (Err e) = IsDedent e ⊎ (stop ≡ Some e)
 
-laid_before : (us ts : List Token) (stop : Option Refusal) (r : Laid) → LaidIs us stop r → LaidIs (ts ++ us) stop (before ts r)
-laid_before us ts stop (Ok vs) h = (in_line_append ts vs ∙ ap (λ xs. in_line ts ++ xs) h.0 ∙ sym (in_line_append ts us), h.1)
+laid_before : (us ts : List Token) (stop : Option Refusal) (r : Laid) → LaidIs us stop r →
+    LaidIs (ts ++ us) stop (before ts r)
+laid_before us ts stop (Ok vs) h = (
+  in_line_append ts vs ∙ ap (λ xs. in_line ts ++ xs) h.0 ∙
+      sym (in_line_append ts us),
+  h.1,
+)
 laid_before us ts stop (Err e) h = h
 
 -- a token of the layout adds none
-laid_layout : (us : List Token) (t : Token) (stop : Option Refusal) (r : Laid) → is_layout t.kind ≡ true → LaidIs us stop r →
+laid_layout : (us : List Token) (t : Token) (stop : Option Refusal) (r : Laid) → is_layout t.kind ≡ true →
+    LaidIs us stop r →
     LaidIs us stop (before (t ∷ []) r)
 laid_layout us t stop (Ok vs) e h = (ap (λ (b : Bool). if b then in_line vs else t ∷ in_line vs) e ∙ h.0, h.1)
 laid_layout us t stop (Err x) e h = h
@@ -80,14 +90,16 @@ laid_if : (us : List Token) (stop : Option Refusal) (b : Bool) (r s : Laid) → 
 laid_if us stop true r s h g = h
 laid_if us stop false r s h g = g
 
-laid_popped : (us : List Token) (stop : Option Refusal) (p : Place) (column : ℕ) (stack : List ℕ) (rest : List ℕ → Laid) →
+laid_popped : (us : List Token) (stop : Option Refusal) (p : Place) (column : ℕ) (stack : List ℕ)
+    (rest : List ℕ → Laid) →
     ((s : List ℕ) → LaidIs us stop (rest s)) → LaidIs us stop (popped p column stack rest)
 laid_popped us stop p column [] rest h = inl (p.line, refl)
 laid_popped us stop p column (e ∷ stack) rest h =
     laid_if us stop (column == e) _ _ (h (e ∷ stack)) (laid_if us stop (nat_lt e column) _ _ (inl (p.line, refl))
     (laid_layout us (token_at k.Dedent p) stop _ refl (laid_popped us stop p column stack rest h)))
 
-laid_indented : (us : List Token) (stop : Option Refusal) (p : Place) (column : ℕ) (stack : List ℕ) (rest : List ℕ → Laid) →
+laid_indented : (us : List Token) (stop : Option Refusal) (p : Place) (column : ℕ) (stack : List ℕ)
+    (rest : List ℕ → Laid) →
     ((s : List ℕ) → LaidIs us stop (rest s)) → LaidIs us stop (indented p column stack rest)
 laid_indented us stop p column [] rest h = inl (p.line, refl)
 laid_indented us stop p column (e ∷ stack) rest h =
@@ -117,7 +129,8 @@ laid_line column joint (t ∷ ts) us end stack stop rest h =
     (λ s. subst (LaidIs ((t ∷ ts) ++ us) stop) (before_twice (t ∷ ts) n (rest s))
     (laid_before us (t ∷ ts) stop (before (n ∷ []) (rest s)) (laid_layout us n stop (rest s) refl (h s))))
 
-laid_lines : (last : Place) (stop : Option Refusal) (stack : List ℕ) (ls : List Line) → LaidIs (lines_tokens ls) stop (lines_laid last stop stack ls)
+laid_lines : (last : Place) (stop : Option Refusal) (stack : List ℕ) (ls : List Line) →
+    LaidIs (lines_tokens ls) stop (lines_laid last stop stack ls)
 unfolding lines_tokens
 laid_lines last stop stack [] = laid_ending last stop stack
 laid_lines last stop stack (l ∷ ls) =
@@ -128,4 +141,5 @@ pub laid_is : (last : Place) (stop : Option Refusal) (ws : List Word) → LaidIs
 unfolding laid all_tokens lines_tokens
 laid_is last stop ws =
     let ls = lines last (joined 0 ws) in
-    subst (λ us. LaidIs us stop (laid last stop ws)) (lines_are last (joined 0 ws) ∙ joined_tokens 0 ws) (laid_lines last stop (0 ∷ []) (ls.0 ∷ ls.1))
+    subst (λ us. LaidIs us stop (laid last stop ws)) (lines_are last (joined 0 ws) ∙ joined_tokens 0 ws)
+    (laid_lines last stop (0 ∷ []) (ls.0 ∷ ls.1))

@@ -1,4 +1,5 @@
--- Names, keywords and strings with a prefix at the front of a text: what is read is spelled, and reaches as far as any front that is.
+-- Names, keywords and strings with a prefix at the front of a text: what is read is spelled, and reaches as far as any
+-- front that is.
 use Rattle.std.proofs.Common.{◌≡◌, ℕ, ◌-◌, ◌≤◌, nat_lt, Bool, true, false, ◌||◌, if◌then◌else◌, List, ◌∷◌, ◌++◌, length, map, take, drop, Option, Some, None, Ok, Err, inl, inr, refl, sym, ap, ◌∙◌, subst, arith}
 use Rattle.std.specs.Char.{digit_value}
 use Rattle.std.proofs.lemmas.List.{length-drop}
@@ -25,7 +26,8 @@ name_of_start c e = ap (λ b. b || nat_lt (digit_value c.byte) 10) e
 
 -- ---- what is read is spelled
 
-kind_cases : (c : Character) (cs : List Character) (o : Option ℕ) → word_number keywords (map byte_of (c ∷ cs)) ≡ o → Is NameStart c → Each Name cs →
+kind_cases : (c : Character) (cs : List Character) (o : Option ℕ) → word_number keywords (map byte_of (c ∷ cs)) ≡ o →
+    Is NameStart c → Each Name cs →
     Spells (c ∷ cs) (name_kind o (map byte_of (c ∷ cs)))
 kind_cases c cs (Some n) e first each = s.keyword n (listed keywords (map byte_of (c ∷ cs)) n e)
 kind_cases c cs None e first each = s.name c cs first each (λ n. unlisted keywords (map byte_of (c ∷ cs)) n e)
@@ -40,19 +42,24 @@ plain_spelled line c cs first =
     subst (λ xs. Spelled (c ∷ cs) (named line xs (after Name (c ∷ cs)) None)) (sym (run_more Name c cs more))
     (front, splits, kind_cases c (run Name cs) (word_number keywords (map byte_of front)) refl first (each_run Name cs))
 
-prefix_cases : (line : ℕ) (c : Character) (cs : List Character) (o : Option Prefix) → prefix_of (run Name (c ∷ cs)) ≡ o → Is NameStart c →
-    next_is Quote (after Name (c ∷ cs)) ≡ true → Spelled (c ∷ cs) (named line (run Name (c ∷ cs)) (after Name (c ∷ cs)) o)
+prefix_cases : (line : ℕ) (c : Character) (cs : List Character) (o : Option Prefix) → prefix_of (run Name (c ∷ cs)) ≡ o
+    → Is NameStart c →
+    next_is Quote (after Name (c ∷ cs)) ≡ true →
+    Spelled (c ∷ cs) (named line (run Name (c ∷ cs)) (after Name (c ∷ cs)) o)
 prefix_cases line c cs (Some p) e first quote =
     subst (λ xs. Spelled xs (string_at line p (after Name (c ∷ cs)))) (run_splits Name (c ∷ cs))
     (string_spelled line (run Name (c ∷ cs)) (after Name (c ∷ cs)) p (prefix_spelled _ p e) quote)
 prefix_cases line c cs None e first quote = plain_spelled line c cs first
 
-quote_cases : (line : ℕ) (c : Character) (cs : List Character) (b : Bool) → next_is Quote (after Name (c ∷ cs)) ≡ b → Is NameStart c →
-    Spelled (c ∷ cs) (named line (run Name (c ∷ cs)) (after Name (c ∷ cs)) (if b then prefix_of (run Name (c ∷ cs)) else None))
+quote_cases : (line : ℕ) (c : Character) (cs : List Character) (b : Bool) → next_is Quote (after Name (c ∷ cs)) ≡ b →
+    Is NameStart c →
+    Spelled (c ∷ cs) (named line (run Name (c ∷ cs)) (after Name (c ∷ cs))
+    (if b then prefix_of (run Name (c ∷ cs)) else None))
 quote_cases line c cs true e first = prefix_cases line c cs (prefix_of (run Name (c ∷ cs))) refl first e
 quote_cases line c cs false e first = plain_spelled line c cs first
 
-pub name_spelled : (line : ℕ) (c : Character) (cs : List Character) → Is NameStart c → Spelled (c ∷ cs) (name_at line (c ∷ cs))
+pub name_spelled : (line : ℕ) (c : Character) (cs : List Character) → Is NameStart c →
+    Spelled (c ∷ cs) (name_at line (c ∷ cs))
 unfolding name_at
 name_spelled line c cs first = quote_cases line c cs (next_is Quote (after Name (c ∷ cs))) refl first
 
@@ -71,11 +78,13 @@ name_caused line cs text = named_caused line (run Name cs) (after Name cs) text 
 shorter_drop : (n m : ℕ) (cs : List Character) → length cs ≤ m → length (drop n cs) ≤ m
 shorter_drop n m cs h = let e : length (drop n cs) ≡ length cs - n = length-drop n cs in omega (arith, e, h)
 
-text_short : (line m : ℕ) (o : Option (List ℕ)) (rest : List Character) → length rest ≤ m → Within m (text_of line o rest)
+text_short : (line m : ℕ) (o : Option (List ℕ)) (rest : List Character) → length rest ≤ m →
+    Within m (text_of line o rest)
 text_short line m (Some bs) rest h = h
 text_short line m None rest h = tt
 
-literal_short : (line m : ℕ) (p : Prefix) (q : Quoting) (body rest : List Character) (fault : Option ℕ) → length rest ≤ m →
+literal_short : (line m : ℕ) (p : Prefix) (q : Quoting) (body rest : List Character) (fault : Option ℕ) →
+    length rest ≤ m →
     Within m (literal line p q body rest fault)
 literal_short line m p q body rest (Some bad) h = tt
 literal_short line m p q body rest None h =
@@ -97,15 +106,18 @@ pub within_more : (m n : ℕ) (r : Read) → m ≤ n → Within m r → Within n
 within_more m n (Ok p) h w = omega (arith, w, h)
 within_more m n (Err e) h w = tt
 
-named_within : (line m : ℕ) (xs rest : List Character) (o : Option Prefix) → length rest ≤ m → Within m (named line xs rest o)
+named_within : (line m : ℕ) (xs rest : List Character) (o : Option Prefix) → length rest ≤ m →
+    Within m (named line xs rest o)
 named_within line m xs rest (Some p) h = within_more (length rest) m _ h (string_short line p rest)
 named_within line m xs rest None h = h
 
-pub name_within : (line : ℕ) (cs rest : List Character) → Each Name cs → Within (length rest) (name_at line (cs ++ rest))
+pub name_within : (line : ℕ) (cs rest : List Character) → Each Name cs →
+    Within (length rest) (name_at line (cs ++ rest))
 unfolding name_at
 name_within line cs rest each =
     named_within line (length rest) (run Name (cs ++ rest))
-    (after Name (cs ++ rest)) _ (subst (λ xs. length xs ≤ length rest) (sym (after_each Name cs rest each)) (after_shorter Name rest))
+    (after Name (cs ++ rest)) _ (subst (λ xs. length xs ≤ length rest) (sym (after_each Name cs rest each))
+    (after_shorter Name rest))
 
 -- quotes are in no name, and begin a string
 mark_name : (m : ℕ) → IsMark m → holds Name m ≡ false
@@ -116,15 +128,18 @@ mark_quote : (m : ℕ) → IsMark m → holds Quote m ≡ true
 mark_quote m (inl e) = ap (holds Quote) e
 mark_quote m (inr e) = ap (holds Quote) e
 
-pub quotes_no_name : (q : Quoting) (qs cs rest : List Character) → IsMark q.mark → Quotes q qs → next_is Name ((qs ++ cs) ++ rest) ≡ false
+pub quotes_no_name : (q : Quoting) (qs cs rest : List Character) → IsMark q.mark → Quotes q qs →
+    next_is Name ((qs ++ cs) ++ rest) ≡ false
 quotes_no_name q qs cs rest mark (s.one m c e) = ap (holds Name) e ∙ mark_name m mark
 quotes_no_name q qs cs rest mark (s.three m c d f e g h) = ap (holds Name) e ∙ mark_name m mark
 
-pub quotes_quote : (q : Quoting) (qs cs rest : List Character) → IsMark q.mark → Quotes q qs → next_is Quote ((qs ++ cs) ++ rest) ≡ true
+pub quotes_quote : (q : Quoting) (qs cs rest : List Character) → IsMark q.mark → Quotes q qs →
+    next_is Quote ((qs ++ cs) ++ rest) ≡ true
 quotes_quote q qs cs rest mark (s.one m c e) = ap (holds Quote) e ∙ mark_quote m mark
 quotes_quote q qs cs rest mark (s.three m c d f e g h) = ap (holds Quote) e ∙ mark_quote m mark
 
-pub prefixed_within : (line : ℕ) (q : Quoting) (p : Prefix) (ps qs body cs rest : List Character) → Prefixes ps p → prefix_of ps ≡ Some p →
+pub prefixed_within : (line : ℕ) (q : Quoting) (p : Prefix) (ps qs body cs rest : List Character) → Prefixes ps p →
+    prefix_of ps ≡ Some p →
     IsMark q.mark → Quotes q qs → Closed q body cs →
     Within (length rest) (name_at line (ps ++ ((qs ++ cs) ++ rest)))
 unfolding name_at
@@ -135,5 +150,7 @@ prefixed_within line q p ps qs body cs rest is e mark opens closes =
     let read = λ (xs ys : List Character). named line xs ys (if next_is Quote ys then prefix_of xs else None) in
     subst (λ xs. Within (length rest) (read xs (after Name (ps ++ tail)))) (sym (run_each Name ps tail each stops))
     (subst (λ ys. Within (length rest) (read ps ys)) (sym (after_each Name ps tail each ∙ after_none Name tail stops))
-    (subst (λ (b : Bool). Within (length rest) (named line ps tail (if b then prefix_of ps else None))) (sym (quotes_quote q qs cs rest mark opens))
-    (subst (λ o. Within (length rest) (named line ps tail o)) (sym e) (string_within line q p qs body cs rest mark opens closes))))
+    (subst (λ (b : Bool). Within (length rest) (named line ps tail (if b then prefix_of ps else None)))
+    (sym (quotes_quote q qs cs rest mark opens))
+    (subst (λ o. Within (length rest) (named line ps tail o)) (sym e)
+    (string_within line q p qs body cs rest mark opens closes))))

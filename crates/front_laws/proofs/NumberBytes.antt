@@ -19,10 +19,12 @@ contrary e f = true≢false (sym e ∙ f)
 pub by_letter : (P : ℕ → Type 0) (low : ℕ) (c : Character) → Is (Letter (low + 32)) c → P (low + 32) → P low → P c.byte
 by_letter P low c h p q = ⊎_elim
     (λ e. subst P (sym (eqb-true c.byte (low + 32) e)) p)
-    (λ e. let same : c.byte + 32 ≡ low + 32 = eqb-true (c.byte + 32) (low + 32) e in let at : low ≡ c.byte = omega arith in subst P at q)
+    (λ e. let same : c.byte + 32 ≡ low + 32 = eqb-true (c.byte + 32) (low + 32) e in let at : low ≡ c.byte =
+    omega arith in subst P at q)
     (or_cases _ _ h)
 
-pub other_letter : (x y : ℕ) (c : Character) → Is (Letter x) c → (x ≡ y → ⊥) → (x ≡ y + 32 → ⊥) → (y ≡ x + 32 → ⊥) → in_class (Letter y) c ≡ false
+pub other_letter : (x y : ℕ) (c : Character) → Is (Letter x) c → (x ≡ y → ⊥) → (x ≡ y + 32 → ⊥) → (y ≡ x + 32 → ⊥) →
+    in_class (Letter y) c ≡ false
 other_letter x y c h p q r = ⊎_elim
     (λ e. let at : c.byte ≡ x = eqb-true c.byte x e in
     or_from _ _ (ne_eqb c.byte y (λ f. p (omega arith))) (ne_eqb (c.byte + 32) y (λ f. r (omega arith))))
@@ -39,7 +41,8 @@ digit_no_letter x c high h =
 
 pub digit_decimal : (base : Base) (c : Character) → base_of base ≤ 10 → Is (Digit base) c → Is ten c
 digit_decimal base c small h =
-    let l : digit_value c.byte < base_of base = ltb-true (digit_value c.byte) (base_of base) h in lt-ltb (digit_value c.byte) 10 (omega arith)
+    let l : digit_value c.byte < base_of base = ltb-true (digit_value c.byte) (base_of base) h in
+    lt-ltb (digit_value c.byte) 10 (omega arith)
 
 pub digits_decimal : (base : Base) (cs : List Character) → base_of base ≤ 10 → Each (Digit base) cs → Each ten cs
 digits_decimal base [] small h = tt
@@ -97,10 +100,14 @@ point_no_base p cs e base letter eight = subst (λ b. holds (Letter 111) b ≡ f
 point_no_base p cs e base letter sixteen = subst (λ b. holds (Letter 120) b ≡ false) (sym e) refl
 
 -- `e`, `j` and `l` are none
-pub letter_no_base : (x : ℕ) (c : Character) (cs : List Character) → 98 < x → x < 111 → Is (Letter x) c → NoBase (c ∷ cs)
-letter_no_base x c cs low high h base letter two = other_letter x 98 c h (λ e. omega arith) (λ e. omega arith) (λ e. omega arith)
-letter_no_base x c cs low high h base letter eight = other_letter x 111 c h (λ e. omega arith) (λ e. omega arith) (λ e. omega arith)
-letter_no_base x c cs low high h base letter sixteen = other_letter x 120 c h (λ e. omega arith) (λ e. omega arith) (λ e. omega arith)
+pub letter_no_base : (x : ℕ) (c : Character) (cs : List Character) → 98 < x → x < 111 → Is (Letter x) c →
+    NoBase (c ∷ cs)
+letter_no_base x c cs low high h base letter two = other_letter x 98 c h (λ e. omega arith) (λ e. omega arith)
+    (λ e. omega arith)
+letter_no_base x c cs low high h base letter eight = other_letter x 111 c h (λ e. omega arith) (λ e. omega arith)
+    (λ e. omega arith)
+letter_no_base x c cs low high h base letter sixteen = other_letter x 120 c h (λ e. omega arith) (λ e. omega arith)
+    (λ e. omega arith)
 
 pub digits_no_base : (ds rest : List Character) → Each ten ds → NoBase rest → NoBase (ds ++ rest)
 digits_no_base [] rest h free = free

@@ -31,17 +31,22 @@ run_len_each c (x ∷ xs) h =
     ap (λ b. cond b (1 + run_len c xs) 0) h.0 ∙ more
 
 -- a text whose reading is refused has no float at its front
-no_float : (line : ℕ) (e : Refusal) (front rest : List Character) → number_at line (front ++ rest) ≡ Err e → Spells front (k.Other other.Float) → ⊥
+no_float : (line : ℕ) (e : Refusal) (front rest : List Character) → number_at line (front ++ rest) ≡ Err e →
+    Spells front (k.Other other.Float) → ⊥
 no_float line e front rest h (s.float f) = subst (Found (length rest)) h (float_found line front rest f)
-no_float line e front rest h (s.imaginary {cs = cs} j f l) = subst (Found (length rest)) h (imaginary_found line j cs rest f l)
-no_float line e front rest h (s.imaginary_whole d ds j each l) = subst (Found (length rest)) h (imaginary_whole_found line d ds j rest each l)
+no_float line e front rest h (s.imaginary {cs = cs} j f l) =
+    subst (Found (length rest)) h (imaginary_found line j cs rest f l)
+no_float line e front rest h (s.imaginary_whole d ds j each l) =
+    subst (Found (length rest)) h (imaginary_whole_found line d ds j rest each l)
 
 suffixed_caused : (line : ℕ) (base : Base) (ds rest all : List Character) → Caused line all (suffixed line base ds rest)
 suffixed_caused line base ds rest all =
     read_cases (Caused line all) (next_is (Letter 108) rest) _ _ (λ e. tt)
-    (λ e. read_cases (Caused line all) (nat_lt (digits_value (base_of base) (map byte_of ds)) 9223372036854775808) _ _ (λ f. tt) (λ f. tt))
+    (λ e. read_cases (Caused line all) (nat_lt (digits_value (base_of base) (map byte_of ds)) 9223372036854775808) _ _
+    (λ f. tt) (λ f. tt))
 
-prefixed_caused : (line : ℕ) (base : Base) (letter : ℕ) (c : Character) (cs : List Character) → BaseLetter base letter → c.byte ≡ 48 →
+prefixed_caused : (line : ℕ) (base : Base) (letter : ℕ) (c : Character) (cs : List Character) → BaseLetter base letter
+    → c.byte ≡ 48 →
     next_is (Letter letter) cs ≡ true → Caused line (c ∷ cs) (prefixed line base (drop 1 cs))
 prefixed_caused line base letter c [] l e h = absurd (contrary h refl)
 prefixed_caused line base letter c (x ∷ cs) l e h =
@@ -49,17 +54,21 @@ prefixed_caused line base letter c (x ∷ cs) l e h =
     (λ f. suffixed_caused line base (run (Digit base) cs) (after (Digit base) cs) (c ∷ x ∷ cs))
     (λ f. (refl, no_digit base letter l c x cs e h f))
 
-octal_caused : (line : ℕ) (d : Character) (ds rest : List Character) → d.byte ≡ 48 → Each ten ds → next_is ten rest ≡ false →
+octal_caused : (line : ℕ) (d : Character) (ds rest : List Character) → d.byte ≡ 48 → Each ten ds →
+    next_is ten rest ≡ false →
     (run_len (Digit Eight) (d ∷ ds) == length (d ∷ ds)) ≡ false →
-    number_at line ((d ∷ ds) ++ rest) ≡ Err (BadCharacter line) → Caused line ((d ∷ ds) ++ rest) (Err (BadCharacter line))
+    number_at line ((d ∷ ds) ++ rest) ≡ Err (BadCharacter line) →
+    Caused line ((d ∷ ds) ++ rest) (Err (BadCharacter line))
 octal_caused line d ds rest e each stop short h =
     let all = (d ∷ ds) ++ rest in
     let zero : holds (Digit Eight) d.byte ≡ true = subst (λ b. holds (Digit Eight) b ≡ true) (sym e) refl in (
       refl,
       no_octal d ds rest e each
-          (λ eight. contrary (eq-eqb (run_len (Digit Eight) (d ∷ ds)) (length (d ∷ ds)) (run_len_each (Digit Eight) (d ∷ ds) (zero, eight))) short)
+          (λ eight. contrary (eq-eqb (run_len (Digit Eight) (d ∷ ds)) (length (d ∷ ds))
+          (run_len_each (Digit Eight) (d ∷ ds) (zero, eight))) short)
           stop
-          (λ front after same spelled. no_float line (BadCharacter line) front after (ap (number_at line) (sym same) ∙ h) spelled),
+          (λ front after same spelled. no_float line (BadCharacter line) front after
+          (ap (number_at line) (sym same) ∙ h) spelled),
     )
 
 -- a reading that the text has is caused
@@ -74,17 +83,21 @@ split_caused line d ds rest each stop =
     let P : Read → Type 0 = CausedAt line all in
     read_cases P (nat_lt (length (more_of rest)) (length rest)) _ _ (λ e h. tt)
     (λ e. read_cases P (next_is (Letter 106) rest) _ _ (λ f h. tt)
-    (λ f. read_cases P (length front == 0) _ _ (λ g h. let none : length (d ∷ ds) ≡ 0 = eqb-true (length front) 0 g in absurd (omega arith))
+    (λ f. read_cases P (length front == 0) _ _ (λ g h. let none : length (d ∷ ds) ≡ 0 = eqb-true (length front) 0 g in
+    absurd (omega arith))
     (λ g. read_cases P (d.byte == 48 && nat_lt 1 (length front)) _ _
-    (λ m. read_cases P (run_len (Digit Eight) front == length front) _ _ (λ n h. suffixed_caused line Eight front rest all)
+    (λ m. read_cases P (run_len (Digit Eight) front == length front) _ _
+    (λ n h. suffixed_caused line Eight front rest all)
     (λ n h. octal_caused line d ds rest (eqb-true d.byte 48 (and_parts _ _ m).0) each.1 stop n h))
     (λ m h. suffixed_caused line Ten front rest all))))
 
 start_caused : (line : ℕ) (cs : List Character) → Start cs → Caused line cs (number_at line cs)
 start_caused line cs (digits d ds rest each stop) =
     let all = (d ∷ ds) ++ rest in
-    number_cases (CausedAt line all) line all (λ base letter l z f h. prefixed_caused line base letter d (ds ++ rest) l (eqb-true d.byte 48 z) f)
-    (subst (CausedAt line all) (sym (digits_split line d ds rest each stop)) (split_caused line d ds rest each stop)) refl
+    number_cases (CausedAt line all) line all
+    (λ base letter l z f h. prefixed_caused line base letter d (ds ++ rest) l (eqb-true d.byte 48 z) f)
+    (subst (CausedAt line all) (sym (digits_split line d ds rest each stop)) (split_caused line d ds rest each stop))
+    refl
 start_caused line cs (point p f rest e h) = subst (Caused line (p ∷ f ∷ rest)) (sym (point_float line p f rest e h)) tt
 
 pub number_caused : (line : ℕ) (cs : List Character) → starts_number cs ≡ true → Caused line cs (number_at line cs)

@@ -23,7 +23,8 @@ use Rattle.front_laws.proofs.NumberReading.{number_cases, number_unprefixed, mor
 
 -- digits, or a point and a digit
 pub data Start : List Character → Type 0 where
-  digits : (d : Character) (ds rest : List Character) → Each ten (d ∷ ds) → next_is ten rest ≡ false → Start ((d ∷ ds) ++ rest)
+  digits : (d : Character) (ds rest : List Character) → Each ten (d ∷ ds) → next_is ten rest ≡ false →
+      Start ((d ∷ ds) ++ rest)
   point : (p f : Character) (cs : List Character) → p.byte ≡ 46 → Is ten f → Start (p ∷ f ∷ cs)
 
 start_point : (p : Character) (cs : List Character) → Is (Byte 46) p → next_is ten cs ≡ true → Start (p ∷ cs)
@@ -32,49 +33,67 @@ start_point p (f ∷ cs) e h = point p f cs (eqb-true p.byte 46 e) h
 
 start_digit : (d : Character) (cs : List Character) → Is ten d → Start (d ∷ cs)
 start_digit d cs h =
-    subst Start (ap (λ xs. d ∷ xs) (run_splits ten cs)) (digits d (run ten cs) (after ten cs) (h, each_run ten cs) (after_stops ten cs))
+    subst Start (ap (λ xs. d ∷ xs) (run_splits ten cs))
+    (digits d (run ten cs) (after ten cs) (h, each_run ten cs) (after_stops ten cs))
 
 pub started : (cs : List Character) → starts_number cs ≡ true → Start cs
 started [] e = absurd (contrary e refl)
-started (c ∷ cs) e = ⊎_elim (λ h. start_digit c cs h) (λ h. let both = and_parts _ _ h in start_point c cs both.0 both.1) (or_cases _ _ e)
+started (c ∷ cs) e = ⊎_elim (λ h. start_digit c cs h) (λ h. let both = and_parts _ _ h in
+    start_point c cs both.0 both.1) (or_cases _ _ e)
 
 -- ---- whole numbers
 
-long_spelled : (fr rest all : List Character) (v : ℕ) → Whole fr v → all ≡ fr ++ rest → next_is (Letter 108) rest ≡ true →
+long_spelled : (fr rest all : List Character) (v : ℕ) → Whole fr v → all ≡ fr ++ rest →
+    next_is (Letter 108) rest ≡ true →
     Spelled all (Ok (k.Other other.Long, drop 1 rest))
 long_spelled fr [] all v w e h = absurd (contrary h refl)
 long_spelled fr (l ∷ rest) all v w e h = (fr ++ l ∷ [], e ∙ sym (append_assoc fr (l ∷ []) rest), s.long l w h)
 
-suffixed_spelled : (line : ℕ) (base : Base) (ds fr rest all : List Character) → Whole fr (value base ds) → all ≡ fr ++ rest →
+suffixed_spelled : (line : ℕ) (base : Base) (ds fr rest all : List Character) → Whole fr (value base ds) →
+    all ≡ fr ++ rest →
     Spelled all (suffixed line base ds rest)
 suffixed_spelled line base ds fr rest all w e =
     let v = digits_value (base_of base) (map byte_of ds) in
     read_cases (Spelled all) (next_is (Letter 108) rest) _ _ (λ h. long_spelled fr rest all v w e h)
-    (λ h. read_cases (Spelled all) (nat_lt v 9223372036854775808) _ _ (λ f. (fr, e, s.int w (ltb-true v 9223372036854775808 f)))
-    (λ f. record { front = fr; rest = rest; splits = e; number = v; whole = w; wide = ltb-false v 9223372036854775808 f }))
+    (λ h. read_cases (Spelled all) (nat_lt v 9223372036854775808) _ _
+    (λ f. (fr, e, s.int w (ltb-true v 9223372036854775808 f)))
+    (λ f. record {
+      front = fr;
+      rest = rest;
+      splits = e;
+      number = v;
+      whole = w;
+      wide =
+          ltb-false v 9223372036854775808 f;
+    }))
 
 pub some_run : (base : Base) (cs : List Character) → next_is (Digit base) cs ≡ true →
     (d : Character) × (ds : List Character) × (run (Digit base) cs ≡ d ∷ ds)
 some_run base [] h = absurd (contrary h refl)
 some_run base (d ∷ cs) h = (d, run (Digit base) cs, run_more (Digit base) d cs h)
 
-pub base_whole : (base : Base) (letter : ℕ) (c x : Character) (ds : List Character) → BaseLetter base letter → c.byte ≡ 48 → Is (Letter letter) x →
+pub base_whole : (base : Base) (letter : ℕ) (c x : Character) (ds : List Character) → BaseLetter base letter →
+    c.byte ≡ 48 → Is (Letter letter) x →
     Each (Digit base) ds → (d : Character) (es : List Character) → ds ≡ d ∷ es → Whole (c ∷ x ∷ ds) (value base ds)
 base_whole base letter c x ds l e h each d es same =
-    subst (λ xs. Whole (c ∷ x ∷ xs) (value base xs)) (sym same) (in_base base letter l c x d es e h (subst (Each (Digit base)) same each))
+    subst (λ xs. Whole (c ∷ x ∷ xs) (value base xs)) (sym same)
+    (in_base base letter l c x d es e h (subst (Each (Digit base)) same each))
 
-prefixed_spelled : (line : ℕ) (base : Base) (letter : ℕ) (c : Character) (cs : List Character) → BaseLetter base letter → c.byte ≡ 48 →
+prefixed_spelled : (line : ℕ) (base : Base) (letter : ℕ) (c : Character) (cs : List Character) → BaseLetter base letter
+    → c.byte ≡ 48 →
     next_is (Letter letter) cs ≡ true → Spelled (c ∷ cs) (prefixed line base (drop 1 cs))
 prefixed_spelled line base letter c [] l e h = absurd (contrary h refl)
 prefixed_spelled line base letter c (x ∷ cs) l e h =
     read_cases (Spelled (c ∷ x ∷ cs)) (next_is (Digit base) cs) _ _
     (λ f. let ds = run (Digit base) cs in let r = some_run base cs f in
     suffixed_spelled line base ds (c ∷ x ∷ ds) (after (Digit base) cs) (c ∷ x ∷ cs)
-    (base_whole base letter c x ds l e h (each_run (Digit base) cs) r.0 r.1 r.2) (ap (λ xs. c ∷ x ∷ xs) (sym (run_splits (Digit base) cs))))
+    (base_whole base letter c x ds l e h (each_run (Digit base) cs) r.0 r.1 r.2)
+    (ap (λ xs. c ∷ x ∷ xs) (sym (run_splits (Digit base) cs))))
     (λ f. tt)
 
 pub each_octal : (ds : List Character) → run_len (Digit Eight) ds ≡ length ds → Each (Digit Eight) ds
-each_octal ds e = subst (Each (Digit Eight)) (ap (λ n. take n ds) e ∙ take_all (length ds) ds (omega arith)) (each_run (Digit Eight) ds)
+each_octal ds e = subst (Each (Digit Eight)) (ap (λ n. take n ds) e ∙ take_all (length ds) ds (omega arith))
+    (each_run (Digit Eight) ds)
 
 zero_first : (base : Base) (c : Character) (cs : List Character) → c.byte ≡ 48 → value base (c ∷ cs) ≡ value base cs
 zero_first base c cs e =
@@ -82,24 +101,30 @@ zero_first base c cs e =
     let at : 0 * base_of base + digit_value c.byte ≡ 0 = omega arith in
     ap (λ n. digits_value_after (base_of base) n (map byte_of cs)) at
 
-pub octal_whole : (d : Character) (ds : List Character) → d.byte ≡ 48 → 1 < length (d ∷ ds) → Each (Digit Eight) (d ∷ ds) →
+pub octal_whole : (d : Character) (ds : List Character) → d.byte ≡ 48 → 1 < length (d ∷ ds) →
+    Each (Digit Eight) (d ∷ ds) →
     Whole (d ∷ ds) (value Eight (d ∷ ds))
 octal_whole d [] e more each = absurd (omega arith)
-octal_whole d (f ∷ ds) e more each = subst (Whole (d ∷ f ∷ ds)) (sym (zero_first Eight d (f ∷ ds) e)) (octal d f ds e each.1)
+octal_whole d (f ∷ ds) e more each = subst (Whole (d ∷ f ∷ ds)) (sym (zero_first Eight d (f ∷ ds) e))
+    (octal d f ds e each.1)
 
-one_digit : (d : Character) (ds : List Character) → d.byte ≡ 48 → length (d ∷ ds) ≤ 1 → Whole (d ∷ ds) (value Ten (d ∷ ds))
+one_digit : (d : Character) (ds : List Character) → d.byte ≡ 48 → length (d ∷ ds) ≤ 1 →
+    Whole (d ∷ ds) (value Ten (d ∷ ds))
 one_digit d [] e few = subst (Whole (d ∷ [])) (sym (zero_first Ten d [] e)) (zero_digit d e)
 one_digit d (f ∷ ds) e few = absurd (omega arith)
 
 -- unless a zero begins more digits
-pub ten_whole : (d : Character) (ds : List Character) → Each ten (d ∷ ds) → (d.byte == 48 && nat_lt 1 (length (d ∷ ds))) ≡ false →
+pub ten_whole : (d : Character) (ds : List Character) → Each ten (d ∷ ds) →
+    (d.byte == 48 && nat_lt 1 (length (d ∷ ds))) ≡ false →
     Whole (d ∷ ds) (value Ten (d ∷ ds))
 ten_whole d ds each h = ⊎_elim
-    (λ e. one_digit d ds e (⊎_elim (λ f. absurd (eqb-false d.byte 48 f e)) (λ f. ltb-false 1 (length (d ∷ ds)) f) (and_cases _ _ h)))
+    (λ e. one_digit d ds e (⊎_elim (λ f. absurd (eqb-false d.byte 48 f e)) (λ f. ltb-false 1 (length (d ∷ ds)) f)
+    (and_cases _ _ h)))
     (λ other. decimal d ds other each)
     (cases_eq d.byte 48)
 
-whole_spelled : (line : ℕ) (d : Character) (ds rest : List Character) → Each ten (d ∷ ds) → Spelled ((d ∷ ds) ++ rest) (whole line (d ∷ ds) rest)
+whole_spelled : (line : ℕ) (d : Character) (ds rest : List Character) → Each ten (d ∷ ds) →
+    Spelled ((d ∷ ds) ++ rest) (whole line (d ∷ ds) rest)
 whole_spelled line d ds rest each =
     let front = d ∷ ds in
     let all = front ++ rest in
@@ -128,12 +153,14 @@ float_spelled fr more all f e = rest_spelled fr more all (next_is (Letter 106) m
 abbrev ExponentTaken : List Character → List Character → Type 0
 ExponentTaken cs left = (left ≡ cs) ⊎ ((es : List Character) × Exponent es × (cs ≡ es ++ left))
 
-taken_cases : (cs xs ys : List Character) (b : Bool) → (b ≡ true → ExponentTaken cs xs) → (b ≡ false → ExponentTaken cs ys) →
+taken_cases : (cs xs ys : List Character) (b : Bool) → (b ≡ true → ExponentTaken cs xs) →
+    (b ≡ false → ExponentTaken cs ys) →
     ExponentTaken cs (if b then xs else ys)
 taken_cases cs xs ys true f g = f refl
 taken_cases cs xs ys false f g = g refl
 
-plain_taken : (e : Character) (cs : List Character) → Is (Letter 101) e → next_is ten cs ≡ true → ExponentTaken (e ∷ cs) (after ten cs)
+plain_taken : (e : Character) (cs : List Character) → Is (Letter 101) e → next_is ten cs ≡ true →
+    ExponentTaken (e ∷ cs) (after ten cs)
 plain_taken e [] l h = absurd (contrary h refl)
 plain_taken e (d ∷ cs) l h =
     inr (
@@ -142,7 +169,8 @@ plain_taken e (d ∷ cs) l h =
       ap (λ xs. e ∷ d ∷ xs) (sym (run_splits ten cs) ∙ ap (λ xs. run ten cs ++ xs) (sym (after_more ten d cs h))),
     )
 
-signed_taken : (e : Character) (cs : List Character) → Is (Letter 101) e → next_is Sign cs ≡ true → next_is ten (drop 1 cs) ≡ true →
+signed_taken : (e : Character) (cs : List Character) → Is (Letter 101) e → next_is Sign cs ≡ true →
+    next_is ten (drop 1 cs) ≡ true →
     ExponentTaken (e ∷ cs) (after ten (drop 1 cs))
 signed_taken e [] l sign h = absurd (contrary h refl)
 signed_taken e (c ∷ []) l sign h = absurd (contrary h refl)
@@ -164,22 +192,26 @@ exponent_taken : (cs : List Character) → ExponentTaken cs (after_exponent cs)
 exponent_taken cs = taken_cases cs _ _ (next_is (Letter 101) cs) (λ l. letter_taken cs l) (λ l. inl refl)
 
 -- after digits and a point
-pointed_spelled : (fr rest all : List Character) → Pointed fr → all ≡ fr ++ rest → Spelled all (float (after_exponent rest))
+pointed_spelled : (fr rest all : List Character) → Pointed fr → all ≡ fr ++ rest →
+    Spelled all (float (after_exponent rest))
 pointed_spelled fr rest all p e =
     let left = after_exponent rest in
     ⊎_elim
     (λ same. float_spelled fr left all (pointed p) (e ∙ ap (λ xs. fr ++ xs) (sym same)))
-    (λ t. float_spelled (fr ++ t.0) left all (raised p t.1) (e ∙ ap (λ xs. fr ++ xs) t.2 ∙ sym (append_assoc fr t.0 left)))
+    (λ t. float_spelled (fr ++ t.0) left all (raised p t.1)
+    (e ∙ ap (λ xs. fr ++ xs) t.2 ∙ sym (append_assoc fr t.0 left)))
     (exponent_taken rest)
 
-power_spelled : (d : Character) (ds rest : List Character) → Each ten (d ∷ ds) → length (after_exponent rest) < length rest →
+power_spelled : (d : Character) (ds rest : List Character) → Each ten (d ∷ ds) →
+    length (after_exponent rest) < length rest →
     Spelled ((d ∷ ds) ++ rest) (float (after_exponent rest))
 power_spelled d ds rest each less =
     let fr = d ∷ ds in
     let left = after_exponent rest in
     ⊎_elim
     (λ same. let n : length left ≡ length rest = ap length same in absurd (omega arith))
-    (λ t. float_spelled (fr ++ t.0) left (fr ++ rest) (power d ds each t.1) (ap (λ xs. fr ++ xs) t.2 ∙ sym (append_assoc fr t.0 left)))
+    (λ t. float_spelled (fr ++ t.0) left (fr ++ rest) (power d ds each t.1)
+    (ap (λ xs. fr ++ xs) t.2 ∙ sym (append_assoc fr t.0 left)))
     (exponent_taken rest)
 
 -- what follows the digits begins with a point, or not
@@ -191,7 +223,8 @@ more_spelled d ds (p ∷ rest) true e each less =
     let fs = run ten rest in
     pointed_spelled ((d ∷ ds) ++ (p ∷ fs)) (after ten rest) ((d ∷ ds) ++ (p ∷ rest))
     (before d ds p fs each (eqb-true p.byte 46 e) (each_run ten rest))
-    (ap (λ xs. (d ∷ ds) ++ (p ∷ xs)) (sym (run_splits ten rest)) ∙ sym (append_assoc (d ∷ ds) (p ∷ fs) (after ten rest)))
+    (ap (λ xs. (d ∷ ds) ++ (p ∷ xs)) (sym (run_splits ten rest)) ∙
+    sym (append_assoc (d ∷ ds) (p ∷ fs) (after ten rest)))
 more_spelled d ds rest false e each less = power_spelled d ds rest each less
 
 imaginary_spelled : (d : Character) (ds rest : List Character) → Each ten (d ∷ ds) → next_is (Letter 106) rest ≡ true →
@@ -202,21 +235,25 @@ imaginary_spelled d ds (j ∷ rest) each h =
     subst (λ b. Spelled all (Ok (k.Other other.Float, if b then rest else j ∷ rest))) (sym h)
     ((d ∷ ds) ++ j ∷ [], sym (append_assoc (d ∷ ds) (j ∷ []) rest), s.imaginary_whole d ds j each h)
 
-split_spelled : (line : ℕ) (d : Character) (ds rest : List Character) → Each ten (d ∷ ds) → Spelled ((d ∷ ds) ++ rest) (split line (d ∷ ds) rest)
+split_spelled : (line : ℕ) (d : Character) (ds rest : List Character) → Each ten (d ∷ ds) →
+    Spelled ((d ∷ ds) ++ rest) (split line (d ∷ ds) rest)
 split_spelled line d ds rest each =
     let all = (d ∷ ds) ++ rest in
     read_cases (Spelled all) (nat_lt (length (more_of rest)) (length rest)) _ _
     (λ e. more_spelled d ds rest (next_is (Byte 46) rest) refl each (ltb-true (length (more_of rest)) (length rest) e))
-    (λ e. read_cases (Spelled all) (next_is (Letter 106) rest) _ _ (λ f. imaginary_spelled d ds rest each f) (λ f. whole_spelled line d ds rest each))
+    (λ e. read_cases (Spelled all) (next_is (Letter 106) rest) _ _ (λ f. imaginary_spelled d ds rest each f)
+    (λ f. whole_spelled line d ds rest each))
 
 -- ---- numbers
 
 -- after digits without a prefix
-pub digits_split : (line : ℕ) (d : Character) (ds rest : List Character) → Each ten (d ∷ ds) → next_is ten rest ≡ false →
+pub digits_split : (line : ℕ) (d : Character) (ds rest : List Character) → Each ten (d ∷ ds) → next_is ten rest ≡ false
+    →
     unprefixed line ((d ∷ ds) ++ rest) ≡ split line (d ∷ ds) rest
 digits_split line d ds rest each stop =
     let all = (d ∷ ds) ++ rest in
-    ap (split line (run ten all)) (after_digits Ten (d ∷ ds) rest each stop) ∙ ap (λ xs. split line xs rest) (run_each ten (d ∷ ds) rest each stop)
+    ap (split line (run ten all)) (after_digits Ten (d ∷ ds) rest each stop) ∙
+    ap (λ xs. split line xs rest) (run_each ten (d ∷ ds) rest each stop)
 
 -- from a point
 pub point_float : (line : ℕ) (p f : Character) (cs : List Character) → p.byte ≡ 46 → Is ten f →
@@ -224,26 +261,34 @@ pub point_float : (line : ℕ) (p f : Character) (cs : List Character) → p.byt
 point_float line p f cs e h =
     let all = p ∷ f ∷ cs in
     let rest = after ten all in
-    let less : length (more_of rest) < length rest = (float_after (p ∷ f ∷ []) cs (pointed (behind p f [] e (h, tt)))).1 in
+    let less : length (more_of rest) < length rest =
+    (float_after (p ∷ f ∷ []) cs (pointed (behind p f [] e (h, tt)))).1 in
     number_unprefixed line all (digit_no_base f cs h)
-    ∙ ap (λ b. if b then float (more_of rest) else (if next_is (Letter 106) rest then float rest else whole line (run ten all) rest))
+    ∙ ap (λ b. if b then float (more_of rest) else
+    (if next_is (Letter 106) rest then float rest else whole line (run ten all) rest))
     (lt-ltb (length (more_of rest)) (length rest) less)
 
-point_spelled : (p f : Character) (cs : List Character) → p.byte ≡ 46 → Is ten f → Spelled (p ∷ f ∷ cs) (float (more_of (after ten (p ∷ f ∷ cs))))
+point_spelled : (p f : Character) (cs : List Character) → p.byte ≡ 46 → Is ten f →
+    Spelled (p ∷ f ∷ cs) (float (more_of (after ten (p ∷ f ∷ cs))))
 point_spelled p f cs e h =
     let all = p ∷ f ∷ cs in
     let fs = run ten cs in
-    let point : after_point all ≡ after ten cs = ap (λ b. if b then after ten (f ∷ cs) else all) (eq-eqb p.byte 46 e) ∙ after_more ten f cs h in
-    let same : after ten cs ≡ after_point (after ten all) = sym (ap after_point (after_none ten all (point_no_digit p e)) ∙ point) in
+    let point : after_point all ≡ after ten cs = ap (λ b. if b then after ten (f ∷ cs) else all) (eq-eqb p.byte 46 e) ∙
+    after_more ten f cs h in
+    let same : after ten cs ≡ after_point (after ten all) =
+    sym (ap after_point (after_none ten all (point_no_digit p e)) ∙ point) in
     subst (λ xs. Spelled all (float (after_exponent xs))) same
-    (pointed_spelled (p ∷ f ∷ fs) (after ten cs) all (behind p f fs e (h, each_run ten cs)) (ap (λ xs. p ∷ f ∷ xs) (sym (run_splits ten cs))))
+    (pointed_spelled (p ∷ f ∷ fs) (after ten cs) all (behind p f fs e (h, each_run ten cs))
+    (ap (λ xs. p ∷ f ∷ xs) (sym (run_splits ten cs))))
 
 start_spelled : (line : ℕ) (cs : List Character) → Start cs → Spelled cs (number_at line cs)
 start_spelled line cs (digits d ds rest each stop) =
     let all = (d ∷ ds) ++ rest in
-    number_cases (Spelled all) line all (λ base letter l z h. prefixed_spelled line base letter d (ds ++ rest) l (eqb-true d.byte 48 z) h)
+    number_cases (Spelled all) line all (λ base letter l z h.
+    prefixed_spelled line base letter d (ds ++ rest) l (eqb-true d.byte 48 z) h)
     (subst (Spelled all) (sym (digits_split line d ds rest each stop)) (split_spelled line d ds rest each))
-start_spelled line cs (point p f rest e h) = subst (Spelled (p ∷ f ∷ rest)) (sym (point_float line p f rest e h)) (point_spelled p f rest e h)
+start_spelled line cs (point p f rest e h) = subst (Spelled (p ∷ f ∷ rest)) (sym (point_float line p f rest e h))
+    (point_spelled p f rest e h)
 
 pub number_spelled : (line : ℕ) (cs : List Character) → starts_number cs ≡ true → Spelled cs (number_at line cs)
 number_spelled line cs e = start_spelled line cs (started cs e)

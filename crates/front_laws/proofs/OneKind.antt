@@ -40,7 +40,8 @@ keywords_distinct = refl
 operators_distinct : distinct operators ≡ true
 operators_distinct = refl
 
-not_behind : (w : List ℕ × ℕ) (ws : Table) (word : List ℕ) (n : ℕ) → every (λ v. not (bytes_eq w.0 v)) ws ≡ true → w.0 ≡ word → Lists ws word n → ⊥
+not_behind : (w : List ℕ × ℕ) (ws : Table) (word : List ℕ) (n : ℕ) → every (λ v. not (bytes_eq w.0 v)) ws ≡ true →
+    w.0 ≡ word → Lists ws word n → ⊥
 not_behind w ws word n e same h =
     never (bytes_eq w.0 word) (not-true (bytes_eq w.0 word) (of_every (λ v. not (bytes_eq w.0 v)) ws word n e h))
     ((bytes_eq-Decides w.0 word).1 same)
@@ -89,11 +90,13 @@ module _ (cs : List Character) where
   unfolding sort_of other_sort
   as_text e f = cond-false _ _ _ e ∙ cond-true _ _ _ f
 
-  as_word : starts_number cs ≡ false → next_is Quote (after Name cs) ≡ false → next_is NameStart cs ≡ true → sort_of cs ≡ word
+  as_word : starts_number cs ≡ false → next_is Quote (after Name cs) ≡ false → next_is NameStart cs ≡ true →
+      sort_of cs ≡ word
   unfolding sort_of other_sort
   as_word e f g = cond-false _ _ _ e ∙ cond-false _ _ _ f ∙ cond-true _ _ _ g
 
-  as_sign : starts_number cs ≡ false → next_is Quote (after Name cs) ≡ false → next_is NameStart cs ≡ false → sort_of cs ≡ sign
+  as_sign : starts_number cs ≡ false → next_is Quote (after Name cs) ≡ false → next_is NameStart cs ≡ false →
+      sort_of cs ≡ sign
   unfolding sort_of other_sort
   as_sign e f g = cond-false _ _ _ e ∙ cond-false _ _ _ f ∙ cond-false _ _ _ g
 
@@ -109,7 +112,8 @@ text_kind p body = if p.unicode then Some (k.Other other.Unicode) else str_of (u
 
 abbrev IsWord : List ℕ → TokenKind → Type 0
 IsWord bytes a =
-    ((n : ℕ) × Lists keywords bytes n × (a ≡ k.Keyword n)) ⊎ ((a ≡ k.Name bytes) × ((n : ℕ) → Lists keywords bytes n → ⊥))
+    ((n : ℕ) × Lists keywords bytes n × (a ≡ k.Keyword n)) ⊎
+    ((a ≡ k.Name bytes) × ((n : ℕ) → Lists keywords bytes n → ⊥))
 
 -- characters spell this token of this sort
 abbrev Sorted : Sort → List Character → TokenKind → Type 0
@@ -121,7 +125,8 @@ Sorted float cs a = a ≡ k.Other other.Float
 Sorted sign cs a = (n : ℕ) × Lists operators (map byte_of cs) n × (a ≡ k.Op n)
 
 one_word : (bytes : List ℕ) (a b : TokenKind) → IsWord bytes a → IsWord bytes b → a ≡ b
-one_word bytes a b (inl h) (inl g) = h.2 ∙ ap k.Keyword (one_number keywords bytes h.0 g.0 keywords_distinct h.1 g.1) ∙ sym g.2
+one_word bytes a b (inl h) (inl g) = h.2 ∙ ap k.Keyword (one_number keywords bytes h.0 g.0 keywords_distinct h.1 g.1) ∙
+    sym g.2
 one_word bytes a b (inl h) (inr g) = absurd (g.1 h.0 h.1)
 one_word bytes a b (inr h) (inl g) = absurd (h.1 g.0 g.1)
 one_word bytes a b (inr h) (inr g) = h.0 ∙ sym g.0
@@ -134,7 +139,8 @@ one_sorted text cs a b h g =
 one_sorted whole cs a b h g = h.2 ∙ ap (λ n. k.Int (pos n)) (one_value cs h.0 g.0 h.1 g.1) ∙ sym g.2
 one_sorted long cs a b h g = h ∙ sym g
 one_sorted float cs a b h g = h ∙ sym g
-one_sorted sign cs a b h g = h.2 ∙ ap k.Op (one_number operators (map byte_of cs) h.0 g.0 operators_distinct h.1 g.1) ∙ sym g.2
+one_sorted sign cs a b h g = h.2 ∙ ap k.Op (one_number operators (map byte_of cs) h.0 g.0 operators_distinct h.1 g.1) ∙
+    sym g.2
 
 -- ---- each form is of its sort
 
@@ -150,7 +156,8 @@ quote_no_number cs e = false_from_ne_true _ (λ f. never _ (number_no_quote cs f
 -- names and keywords
 name_sort : (c : Character) (cs : List Character) → Is NameStart c → Each Name cs → sort_of (c ∷ cs) ≡ word
 name_sort c cs first each =
-    let none : after Name (c ∷ cs) ≡ [] = ap (after Name) (sym (append-nil (c ∷ cs))) ∙ after_each Name (c ∷ cs) [] (name_of_start c first, each) in
+    let none : after Name (c ∷ cs) ≡ [] = ap (after Name) (sym (append-nil (c ∷ cs))) ∙
+    after_each Name (c ∷ cs) [] (name_of_start c first, each) in
     as_word (c ∷ cs) (name_no_number (c ∷ cs) first) (ap (next_is Quote) none) first
 
 keyword_sort : (cs : List Character) → is_name_word (map byte_of cs) ≡ true → sort_of cs ≡ word
@@ -159,13 +166,15 @@ keyword_sort (c ∷ cs) e = let both = and_parts (is_name_start c.byte) _ e in n
 
 literal_sort : (cs body : List Character) (p : Prefix) → Literal cs p body → sort_of cs ≡ text
 literal_sort cs body p h =
-    as_text cs (⊎_elim (λ e. name_no_number cs e) (λ e. quote_no_number cs e) (literal_first cs body p h)) (literal_starts cs body p h)
+    as_text cs (⊎_elim (λ e. name_no_number cs e) (λ e. quote_no_number cs e) (literal_first cs body p h))
+    (literal_starts cs body p h)
 
 -- An operator's first character is of no other sort, but that a point may begin a number where a digit follows.
 start_sort : (c : Character) (cs : List Character) → OperatorStart c cs → sort_of (c ∷ cs) ≡ sign
 start_sort c cs start =
     let no_name = or_from (is_name_start c.byte) _ start.name start.digit in
-    let no_point = false_from_ne_true _ (λ e. let both = and_parts (c.byte == 46) (next_is ten cs) e in point cs start.alone both.0 both.1) in
+    let no_point = false_from_ne_true _ (λ e. let both = and_parts (c.byte == 46) (next_is ten cs) e in
+    point cs start.alone both.0 both.1) in
     as_sign (c ∷ cs) (or_from (holds ten c.byte) (c.byte == 46 && next_is ten cs) start.digit no_point)
     (ap (next_is Quote) (after_none Name (c ∷ cs) no_name) ∙ start.quote) start.name
   where
@@ -182,22 +191,29 @@ starts_alone : (cs : List Character) → starts_number (cs ++ []) ≡ true → s
 starts_alone cs e = subst (λ xs. starts_number xs ≡ true) (append-nil cs) e
 
 whole_sort : (n : ℕ) (cs : List Character) → Whole cs n → sort_of cs ≡ whole
-whole_sort n cs w = as_whole cs (starts_alone cs (whole_starts n cs [] w)) (whole_no_float n cs w) (whole_no_long n cs w)
+whole_sort n cs w = as_whole cs (starts_alone cs (whole_starts n cs [] w)) (whole_no_float n cs w)
+    (whole_no_long n cs w)
 
-long_sort : (n : ℕ) (cs : List Character) (l : Character) → Whole cs n → Is (Letter 108) l → sort_of (cs ++ l ∷ []) ≡ long
-long_sort n cs l w h = as_long (cs ++ l ∷ []) (whole_starts n cs (l ∷ []) w) (long_no_float n cs l w h) (long_has cs l h)
+long_sort : (n : ℕ) (cs : List Character) (l : Character) → Whole cs n → Is (Letter 108) l →
+    sort_of (cs ++ l ∷ []) ≡ long
+long_sort n cs l w h = as_long (cs ++ l ∷ []) (whole_starts n cs (l ∷ []) w) (long_no_float n cs l w h)
+    (long_has cs l h)
 
 sorted : (cs : List Character) (a : TokenKind) → Spells cs a → Sorted (sort_of cs) cs a
 sorted cs a (s.keyword n h) =
-    sorted_as word cs a (keyword_sort cs (of_every is_name_word keywords (map byte_of cs) n keyword_words h)) (inl (n, h, refl))
+    sorted_as word cs a (keyword_sort cs (of_every is_name_word keywords (map byte_of cs) n keyword_words h))
+    (inl (n, h, refl))
 sorted cs a (s.name c ds first each none) = sorted_as word cs a (name_sort c ds first each) (inr (refl, none))
 sorted cs a (s.operator n h) =
-    sorted_as sign cs a (operator_sort cs (of_every is_operator_word operators (map byte_of cs) n operator_words h)) (n, h, refl)
+    sorted_as sign cs a (operator_sort cs (of_every is_operator_word operators (map byte_of cs) n operator_words h))
+    (n, h, refl)
 sorted cs a (s.int {n = n} w small) = sorted_as whole cs a (whole_sort n cs w) (n, w, refl)
 sorted cs a (s.long {cs = ds} {n = n} l w h) = sorted_as long (ds ++ l ∷ []) a (long_sort n ds l w h) refl
-sorted cs a (s.float f) = sorted_as float cs a (as_float cs (starts_alone cs (float_starts cs [] f)) (float_alone cs f)) refl
+sorted cs a (s.float f) = sorted_as float cs a
+    (as_float cs (starts_alone cs (float_starts cs [] f)) (float_alone cs f)) refl
 sorted cs a (s.imaginary {cs = ds} j f h) =
-    sorted_as float (ds ++ j ∷ []) a (as_float (ds ++ j ∷ []) (float_starts ds (j ∷ []) f) (float_is ds (j ∷ []) f)) refl
+    sorted_as float (ds ++ j ∷ []) a (as_float (ds ++ j ∷ []) (float_starts ds (j ∷ []) f) (float_is ds (j ∷ []) f))
+    refl
 sorted cs a (s.imaginary_whole d ds j each h) =
     sorted_as float ((d ∷ ds) ++ j ∷ []) a
     (as_float ((d ∷ ds) ++ j ∷ []) (or_left (holds ten d.byte) _ each.0) (imaginary_is_float (d ∷ ds) j each h)) refl

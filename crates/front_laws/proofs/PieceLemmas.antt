@@ -92,7 +92,8 @@ some_literal cs body p (s.literal q {ps = ps} {qs = qs} {cs = ds} is mark opens 
 some_spelled : (cs : List Character) (kind : TokenKind) → Spells cs kind → Some_in cs
 some_spelled cs kind (s.keyword n h) = some_word cs (of_every is_some_word keywords (map byte_of cs) n some_keyword h)
 some_spelled cs kind (s.name c ds first each none) = omega arith
-some_spelled cs kind (s.operator n h) = some_word cs (of_every is_some_word operators (map byte_of cs) n some_operator h)
+some_spelled cs kind (s.operator n h) = some_word cs
+    (of_every is_some_word operators (map byte_of cs) n some_operator h)
 some_spelled cs kind (s.int {n = n} whole small) = some_whole n cs whole
 some_spelled cs kind (s.long {cs = ds} {n = n} l whole e) = some_left ds (l ∷ []) (some_whole n ds whole)
 some_spelled cs kind (s.float f) = some_float cs f
@@ -106,7 +107,8 @@ some_spelled cs kind (s.unicode_string {body = body} {p = p} l e) = some_literal
 read_reached : (n : ℕ) (cs : List Character) (r : Read) → read_of cs ≡ r → Reached n cs (read_of cs) → Reached n cs r
 read_reached n cs r e h = subst (Reached n cs) e h
 
-front_longest : (cs front rest : List Character) (kind : TokenKind) → cs ≡ front ++ rest → read_of cs ≡ Ok (kind, rest) → Spells front kind →
+front_longest : (cs front rest : List Character) (kind : TokenKind) → cs ≡ front ++ rest → read_of cs ≡ Ok (kind, rest)
+    → Spells front kind →
     IsLongest front rest kind
 front_longest cs front rest kind splits read spelled = record {
   spelled = spelled;
@@ -120,10 +122,12 @@ front_longest cs front rest kind splits read spelled = record {
 }
 
 -- of a bad character: any front that is spelled is that of a number that is none
-fronts_bad : (cs : List Character) (l : ℕ) → read_of cs ≡ Err (BadCharacter l) → (front rest : List Character) (kind : TokenKind) →
+fronts_bad : (cs : List Character) (l : ℕ) → read_of cs ≡ Err (BadCharacter l) →
+    (front rest : List Character) (kind : TokenKind) →
     cs ≡ front ++ rest → Spells front kind → BadNumber cs
 fronts_bad cs l read front rest kind e h =
-    read_reached (length rest) cs (Err (BadCharacter l)) read (subst (λ xs. Reached (length rest) xs (read_of xs)) (sym e)
+    read_reached (length rest) cs (Err (BadCharacter l)) read
+    (subst (λ xs. Reached (length rest) xs (read_of xs)) (sym e)
     (front_reached front rest kind h))
 
 -- ---- why nothing is read
@@ -140,7 +144,8 @@ abbrev ReadTold : Character → List Character → Read → Type 0
 ReadTold c cs (Ok r) = Unit {0}
 ReadTold c cs (Err e) = Told c cs e
 
-number_told : (c : Character) (cs : List Character) (r : Read) → starts_number (c ∷ cs) ≡ true → number_at c.line (c ∷ cs) ≡ r →
+number_told : (c : Character) (cs : List Character) (r : Read) → starts_number (c ∷ cs) ≡ true →
+    number_at c.line (c ∷ cs) ≡ r →
     NumberRefused c.line r → ReadTold c cs r
 number_told c cs (Ok r) starts e refused = tt
 number_told c cs (Err (BadCharacter l)) starts e refused = refused
@@ -154,7 +159,8 @@ string_told c cs (Err (BadEscape l)) cause = cause
 string_told c cs (Err _) cause = absurd cause
 
 named_told : (c : Character) (cs : List Character) (o : Option Prefix) → prefix_of (run Name (c ∷ cs)) ≡ o →
-    next_is Quote (after Name (c ∷ cs)) ≡ true → ReadTold c cs (named c.line (run Name (c ∷ cs)) (after Name (c ∷ cs)) o)
+    next_is Quote (after Name (c ∷ cs)) ≡ true →
+    ReadTold c cs (named c.line (run Name (c ∷ cs)) (after Name (c ∷ cs)) o)
 named_told c cs None e quote = tt
 named_told c cs (Some x) e quote =
     let ps = run Name (c ∷ cs) in
@@ -164,7 +170,8 @@ named_told c cs (Some x) e quote =
     (string_cause c.line ps rest x (prefix_spelled ps x e) quote))
 
 name_cases : (c : Character) (cs : List Character) (b : Bool) → next_is Quote (after Name (c ∷ cs)) ≡ b →
-    ReadTold c cs (named c.line (run Name (c ∷ cs)) (after Name (c ∷ cs)) (if b then prefix_of (run Name (c ∷ cs)) else None))
+    ReadTold c cs (named c.line (run Name (c ∷ cs)) (after Name (c ∷ cs))
+    (if b then prefix_of (run Name (c ∷ cs)) else None))
 name_cases c cs true e = named_told c cs (prefix_of (run Name (c ∷ cs))) refl e
 name_cases c cs false e = tt
 
@@ -172,7 +179,8 @@ name_told : (c : Character) (cs : List Character) → ReadTold c cs (name_at c.l
 unfolding name_at
 name_told c cs = name_cases c cs (next_is Quote (after Name (c ∷ cs))) refl
 
-operator_told : (c : Character) (cs : List Character) (o : Option (ℕ × ℕ)) → ReadTold c cs (operator_read c.line (c ∷ cs) o)
+operator_told : (c : Character) (cs : List Character) (o : Option (ℕ × ℕ)) →
+    ReadTold c cs (operator_read c.line (c ∷ cs) o)
 operator_told c cs None = refl
 operator_told c cs (Some o) = tt
 
@@ -181,8 +189,10 @@ read_told c cs =
     let all = c ∷ cs in
     let P = ReadTold c cs in
     read_cases P (next_is NameStart all) _ _ (λ e. name_told c cs)
-    (λ e. read_cases P (next_is Quote all) _ _ (λ f. string_told c cs _ (string_cause c.line [] all (prefix false false) s.none f))
-    (λ f. read_cases P (starts_number all) _ _ (λ g. number_told c cs (number_at c.line all) g refl (number_refused c.line all))
+    (λ e. read_cases P (next_is Quote all) _ _
+    (λ f. string_told c cs _ (string_cause c.line [] all (prefix false false) s.none f))
+    (λ f. read_cases P (starts_number all) _ _
+    (λ g. number_told c cs (number_at c.line all) g refl (number_refused c.line all))
     (λ g. operator_told c cs (operator_at operators all))))
 
 cause_of : (c : Character) (cs : List Character) (e : Refusal) → read_of (c ∷ cs) ≡ Err e → Told c cs e → Cause c cs e
@@ -200,10 +210,12 @@ read_cause c cs e read = cause_of c cs e read (subst (ReadTold c cs) read (read_
 -- a word and what follows it, before any pieces of the rest; or why there is none
 abbrev PieceIs : ℕ → Character → List Character → Piece → Type 0
 PieceIs size c cs (Ok r) =
-    (length r.1 ≤ length cs) × ((ts : List Token) (e : Option Refusal) → Pieces size r.1 ts e → Pieces size (c ∷ cs) (tokens_in (r.0 ∷ []) ++ ts) e)
+    (length r.1 ≤ length cs) × ((ts : List Token) (e : Option Refusal) → Pieces size r.1 ts e →
+    Pieces size (c ∷ cs) (tokens_in (r.0 ∷ []) ++ ts) e)
 PieceIs size c cs (Err e) = Pieces size (c ∷ cs) [] (Some e)
 
-piece_cases : (size : ℕ) (c : Character) (cs : List Character) (b : Bool) (r s : Piece) → (b ≡ true → PieceIs size c cs r) →
+piece_cases : (size : ℕ) (c : Character) (cs : List Character) (b : Bool) (r s : Piece) →
+    (b ≡ true → PieceIs size c cs r) →
     (b ≡ false → PieceIs size c cs s) → PieceIs size c cs (if b then r else s)
 piece_cases size c cs true r s f g = f refl
 piece_cases size c cs false r s f g = g refl
@@ -213,11 +225,18 @@ first_or d [] = d
 first_or d (c ∷ cs) = c
 
 placed : (size : ℕ) (c : Character) (rest : List Character) (kind : TokenKind) →
-    token_at kind (place_before size c rest) ≡ record { kind = kind; from = c.from; to = begin size rest; line = c.line }
+    token_at kind (place_before size c rest) ≡ record {
+      kind = kind;
+      from = c.from;
+      to = begin size rest;
+      line =
+          c.line;
+    }
 placed size c [] kind = refl
 placed size c (d ∷ ds) kind = refl
 
-taken : (size : ℕ) (c : Character) (cs front rest : List Character) (kind : TokenKind) → c ∷ cs ≡ front ++ rest → Some_in front →
+taken : (size : ℕ) (c : Character) (cs front rest : List Character) (kind : TokenKind) → c ∷ cs ≡ front ++ rest →
+    Some_in front →
     IsLongest front rest kind →
     (length rest ≤ length cs) × ((ts : List Token) (e : Option Refusal) → Pieces size rest ts e → Pieces size (c ∷ cs)
     (token_at kind (place_before size c rest) ∷ ts) e)
@@ -230,8 +249,10 @@ taken size c cs (d ∷ ds) rest kind e some longest =
       omega (arith, lengths, a),
       λ ts x h.
           subst (λ t. Pieces size (c ∷ cs) (t ∷ ts) x) (sym (placed size c rest kind))
-          (subst (λ z. Pieces size (c ∷ cs) (record { kind = kind; from = z.from; to = begin size rest; line = z.line } ∷ ts) x) (sym same)
-          (subst (λ xs. Pieces size xs (record { kind = kind; from = d.from; to = begin size rest; line = d.line } ∷ ts) x) (sym e)
+          (subst (λ z. Pieces size (c ∷ cs)
+          (record { kind = kind; from = z.from; to = begin size rest; line = z.line } ∷ ts) x) (sym same)
+          (subst (λ xs. Pieces size xs (record { kind = kind; from = d.from; to = begin size rest; line = d.line } ∷
+          ts) x) (sym e)
           (p.token d ds kind longest h))),
     )
 
@@ -255,19 +276,24 @@ read_piece size c cs (Ok (kind, rest)) space read =
 read_piece size c cs (Err e) space read = p.none c e space (read_cause c cs e read)
 
 operator_piece : (size : ℕ) (c : Character) (cs : List Character) (o : Option (ℕ × ℕ)) →
-    PieceIs size c cs (token_word size c (operator_read c.line (c ∷ cs) o)) → PieceIs size c cs (operator_word size c (c ∷ cs) o)
+    PieceIs size c cs (token_word size c (operator_read c.line (c ∷ cs) o)) →
+    PieceIs size c cs (operator_word size c (c ∷ cs) o)
 operator_piece size c cs None h = h
 operator_piece size c cs (Some o) h =
     let t = token_at (k.Op o.0) (place_before size c (drop o.1 (c ∷ cs))) in
     (h.0, λ ts e more. subst (λ us. Pieces size (c ∷ cs) (us ++ ts) e) (sym (bracketed_token o.0 t)) (h.1 ts e more))
 
-front_piece : (size : ℕ) (c : Character) (cs : List Character) → IsNoSpace c cs → PieceIs size c cs (token_front size c cs (c ∷ cs))
+front_piece : (size : ℕ) (c : Character) (cs : List Character) → IsNoSpace c cs →
+    PieceIs size c cs (token_front size c cs (c ∷ cs))
 front_piece size c cs space =
     let all = c ∷ cs in
-    piece_cases size c cs (next_is NameStart all) _ _ (λ e. read_piece size c cs (name_at c.line all) space (as_name all e))
-    (λ e. piece_cases size c cs (next_is Quote all) _ _ (λ f. read_piece size c cs (string_at c.line (prefix false false) all) space
+    piece_cases size c cs (next_is NameStart all) _ _
+    (λ e. read_piece size c cs (name_at c.line all) space (as_name all e))
+    (λ e. piece_cases size c cs (next_is Quote all) _ _
+    (λ f. read_piece size c cs (string_at c.line (prefix false false) all) space
     (as_string all e f))
-    (λ f. piece_cases size c cs (starts_number all) _ _ (λ g. read_piece size c cs (number_at c.line all) space (as_number all e f g))
+    (λ f. piece_cases size c cs (starts_number all) _ _
+    (λ g. read_piece size c cs (number_at c.line all) space (as_number all e f g))
     (λ g. operator_piece size c cs (operator_at operators all)
     (read_piece size c cs (operator_read c.line all (operator_at operators all)) space (as_operator all e f g)))))
 
@@ -281,16 +307,19 @@ no_slash : every is_no_slash operators ≡ true
 unfolding is_no_slash
 no_slash = refl
 
-slash_word : (word : List ℕ) (c : Character) (cs : List Character) → c.byte ≡ 92 → is_no_slash word ≡ true → begins word (c ∷ cs) ≡ true → ⊥
+slash_word : (word : List ℕ) (c : Character) (cs : List Character) → c.byte ≡ 92 → is_no_slash word ≡ true →
+    begins word (c ∷ cs) ≡ true → ⊥
 unfolding is_no_slash
 slash_word [] c cs e h f = never false refl h
 slash_word (b ∷ bs) c cs e h f =
     let same : c.byte ≡ b = eqb-true c.byte b (and_parts (c.byte == b) (begins bs cs) f).0 in
     never (b == 92) (not-true (b == 92) h) (eq-eqb b 92 (sym same ∙ e))
 
-slash_operator : (c : Character) (cs : List Character) (o : Option (ℕ × ℕ)) → c.byte ≡ 92 → IsFound operators (c ∷ cs) o → o ≡ None
+slash_operator : (c : Character) (cs : List Character) (o : Option (ℕ × ℕ)) → c.byte ≡ 92 →
+    IsFound operators (c ∷ cs) o → o ≡ None
 slash_operator c cs None e h = refl
-slash_operator c cs (Some o) e h = absurd (slash_word h.0 c cs e (of_every is_no_slash operators h.0 o.0 no_slash h.1) h.3)
+slash_operator c cs (Some o) e h = absurd
+    (slash_word h.0 c cs e (of_every is_no_slash operators h.0 o.0 no_slash h.1) h.3)
 
 slash_read : (c : Character) (cs : List Character) → c.byte ≡ 92 → read_of (c ∷ cs) ≡ Err (BadCharacter c.line)
 slash_read c cs e =
@@ -298,13 +327,15 @@ slash_read c cs e =
     as_operator all (ap is_name_start e) (ap (holds Quote) e) (ap (λ b. holds ten b || (b == 46 && next_is ten cs)) e)
     ∙ ap (operator_read c.line all) (slash_operator c cs (operator_at operators all) e (is_found operators all))
 
-joint_piece : (size : ℕ) (c : Character) (cs : List Character) → (Is class.Blank c → ⊥) → (c.byte ≡ 10 → ⊥) → (c.byte ≡ 35 → ⊥) → c.byte ≡ 92 →
+joint_piece : (size : ℕ) (c : Character) (cs : List Character) → (Is class.Blank c → ⊥) → (c.byte ≡ 10 → ⊥) →
+    (c.byte ≡ 35 → ⊥) → c.byte ≡ 92 →
     PieceIs size c cs (joint c cs)
 joint_piece size c [] blank end comment e =
     p.none c (BadCharacter c.line) (record { blank = blank; line_end = end; comment = comment; joint = λ x. refl })
     (read_cause c [] (BadCharacter c.line) (slash_read c [] e))
 joint_piece size c (d ∷ ds) blank end comment e =
-    piece_cases size c (d ∷ ds) (d.byte == 10) _ _ (λ f. (omega arith, λ ts x more. p.joint c d e (eqb-true d.byte 10 f) more))
+    piece_cases size c (d ∷ ds) (d.byte == 10) _ _
+    (λ f. (omega arith, λ ts x more. p.joint c d e (eqb-true d.byte 10 f) more))
     (λ f. p.none c (BadCharacter c.line) (record { blank = blank; line_end = end; comment = comment; joint = λ x. f })
     (read_cause c (d ∷ ds) (BadCharacter c.line) (slash_read c (d ∷ ds) e)))
 
@@ -322,7 +353,8 @@ word_piece size c cs =
           (p.comment c (run InLine cs) (eqb-true c.byte 35 g) (each_run InLine cs) (after_stops InLine cs) more),
     ))
     (λ g. piece_cases size c cs (c.byte == 92) _ _
-    (λ h. joint_piece size c cs (λ x. never (holds class.Blank c.byte) f x) (λ x. never (c.byte == 10) e (eq-eqb c.byte 10 x))
+    (λ h. joint_piece size c cs (λ x. never (holds class.Blank c.byte) f x)
+    (λ x. never (c.byte == 10) e (eq-eqb c.byte 10 x))
     (λ x. never (c.byte == 35) g (eq-eqb c.byte 35 x)) (eqb-true c.byte 92 h))
     (λ h. front_piece size c cs (record {
       blank = λ x. never (holds class.Blank c.byte) f x;
@@ -365,4 +397,5 @@ cut_is size zero [] h = ([], p.end, λ e. refl)
 cut_is size (suc n) [] h = ([], p.end, λ e. refl)
 cut_is size zero (c ∷ cs) h = absurd (omega (arith, h))
 cut_is size (suc n) (c ∷ cs) h =
-    more_cut size n c cs (word_at size (c ∷ cs)) (omega (arith, h)) (λ rest g. cut_is size n rest g) (word_piece size c cs)
+    more_cut size n c cs (word_at size (c ∷ cs)) (omega (arith, h)) (λ rest g. cut_is size n rest g)
+    (word_piece size c cs)

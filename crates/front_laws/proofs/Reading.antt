@@ -1,4 +1,5 @@
--- What a reading at the front of a text is to be: spelled by the front that it takes, reaching as far as any front that is spelled, and
+-- What a reading at the front of a text is to be: spelled by the front that it takes, reaching as far as any front that
+-- is spelled, and
 -- refused as a bad character only where a number is none.
 use Rattle.std.proofs.Common.{◌≡◌, ℕ, ◌^◌, ◌≤◌, Bool, true, false, ◌&&◌, ◌||◌, if◌then◌else◌, List, ◌++◌, length, drop, Ok, Err, refl}
 use Rattle.py_base.specs.declared.refusal.Refusal.{Refusal}
@@ -50,6 +51,7 @@ Caused line cs (Ok p) = Unit {0}
 Caused line cs (Err e) = CausedBy line cs e
 
 -- a case of two readings, each with what it is known by
-pub read_cases : (P : Read → Type 0) (b : Bool) (r s : Read) → (b ≡ true → P r) → (b ≡ false → P s) → P (if b then r else s)
+pub read_cases : (P : Read → Type 0) (b : Bool) (r s : Read) → (b ≡ true → P r) → (b ≡ false → P s) →
+    P (if b then r else s)
 read_cases P true r s f g = f refl
 read_cases P false r s f g = g refl

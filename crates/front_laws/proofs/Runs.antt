@@ -29,9 +29,11 @@ after_each k [] rest e = refl
 after_each k (x ∷ xs) rest e = after_more k x (xs ++ rest) e.0 ∙ after_each k xs rest e.1
 
 pub after_shorter : (k : Class) (cs : List Character) → length (after k cs) ≤ length cs
-after_shorter k cs = let n : length (after k cs) ≡ length cs - run_len k cs = length-drop (run_len k cs) cs in omega (arith, n)
+after_shorter k cs = let n : length (after k cs) ≡ length cs - run_len k cs = length-drop (run_len k cs) cs in
+    omega (arith, n)
 
-after_cases : (k : Class) (c : Character) (cs : List Character) (b : Bool) → in_class k c ≡ b → next_is k (after k cs) ≡ false →
+after_cases : (k : Class) (c : Character) (cs : List Character) (b : Bool) → in_class k c ≡ b →
+    next_is k (after k cs) ≡ false →
     next_is k (after k (c ∷ cs)) ≡ false
 after_cases k c cs true e h = ap (next_is k) (after_more k c cs e) ∙ h
 after_cases k c cs false e h = ap (next_is k) (after_none k (c ∷ cs) e) ∙ e
@@ -56,7 +58,8 @@ run_each k (x ∷ xs) rest e stop = run_more k x (xs ++ rest) e.0 ∙ ap (λ ys.
 pub run_splits : (k : Class) (cs : List Character) → run k cs ++ after k cs ≡ cs
 run_splits k cs = take-append-drop (run_len k cs) cs
 
-each_cases : (k : Class) (c : Character) (cs : List Character) (b : Bool) → in_class k c ≡ b → Each k (run k cs) → Each k (run k (c ∷ cs))
+each_cases : (k : Class) (c : Character) (cs : List Character) (b : Bool) → in_class k c ≡ b → Each k (run k cs) →
+    Each k (run k (c ∷ cs))
 each_cases k c cs true e h = subst (Each k) (sym (run_more k c cs e)) (e, h)
 each_cases k c cs false e h = subst (Each k) (sym (run_none k (c ∷ cs) e)) tt
 

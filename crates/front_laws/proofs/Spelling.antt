@@ -30,7 +30,8 @@ spelled_in_line cs kind (s.imaginary_whole d ds j each e) = refl
 spelled_in_line cs kind (s.string l raw e) = refl
 spelled_in_line cs kind (s.unicode_string l e) = refl
 
-all_in_line : (size : ℕ) (cs : List Character) (ts : List Token) (e : Option Refusal) → Pieces size cs ts e → in_line ts ≡ ts
+all_in_line : (size : ℕ) (cs : List Character) (ts : List Token) (e : Option Refusal) → Pieces size cs ts e →
+    in_line ts ≡ ts
 all_in_line size cs ts e p.end = refl
 all_in_line size cs ts e (p.blank c {cs = ds} is more) = all_in_line size ds ts e more
 all_in_line size cs ts e (p.line_end c {cs = ds} is more) = all_in_line size ds ts e more
@@ -48,10 +49,12 @@ Told : ℕ → List Character → Laid → Type 0
 Told size cs (Ok ts) = Pieces size cs (in_line ts) None
 Told size cs (Err e) = ((line : ℕ) × (e ≡ BadDedent line)) ⊎ ((ts : List Token) × Pieces size cs ts (Some e))
 
-told : (size : ℕ) (cs : List Character) (c : Cut) (r : Laid) → CutIs size cs c → LaidIs (tokens_in c.words) c.stop r → Told size cs r
+told : (size : ℕ) (cs : List Character) (c : Cut) (r : Laid) → CutIs size cs c → LaidIs (tokens_in c.words) c.stop r →
+    Told size cs r
 unfolding Told
 told size cs c (Ok ts) is laid =
-    let same : in_line ts ≡ is.0 = laid.0 ∙ ap (λ us. in_line us) (is.2 laid.1) ∙ all_in_line size cs is.0 c.stop is.1 in
+    let same : in_line ts ≡ is.0 = laid.0 ∙ ap (λ us. in_line us) (is.2 laid.1) ∙
+    all_in_line size cs is.0 c.stop is.1 in
     subst (λ us. Pieces size cs us None) (sym same) (subst (λ e. Pieces size cs is.0 e) laid.1 is.1)
 told size cs c (Err e) is (inl dedent) = inl dedent
 told size cs c (Err e) is (inr stop) = inr (is.0, subst (λ x. Pieces size cs is.0 x) stop is.1)
@@ -65,7 +68,8 @@ text_told text =
     told size cs c (laid (place size size (last_line 1 cs)) c.stop c.words) (cut_is size (length cs) cs (omega arith))
     (laid_is (place size size (last_line 1 cs)) c.stop c.words)
 
-pub text_pieces : (text : List ℕ) (ts : List Token) → tokens_of_text text ≡ Ok ts → Pieces (length text) (text_characters text) (in_line ts) None
+pub text_pieces : (text : List ℕ) (ts : List Token) → tokens_of_text text ≡ Ok ts →
+    Pieces (length text) (text_characters text) (in_line ts) None
 unfolding Told
 text_pieces text ts e = subst (Told (length text) (text_characters text)) e (text_told text)
 

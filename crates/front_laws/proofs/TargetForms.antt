@@ -79,7 +79,8 @@ every P (y ∷ ys) = (y.1, every P ys)
 plain : {A : Type 0} (slices : Bool) (f : Form) → f ≡ Plain → is_target slices f ≡ true → A
 plain slices f q h = never (is_target slices f) (ap (is_target slices) q) h
 
-all_found : (slices : Bool) (es : List Expr) → Every Found es → all_targets slices (map form es) ≡ true → AreTargets slices es
+all_found : (slices : Bool) (es : List Expr) → Every Found es → all_targets slices (map form es) ≡ true →
+    AreTargets slices es
 all_found slices [] fs h = AreTargets.none slices
 all_found slices (a ∷ es) fs h =
     let p = and_parts (is_target slices (form a)) (all_targets slices (map form es)) h in
@@ -102,14 +103,16 @@ tuple_found (a ∷ es) fs slices h =
     IsTarget.tuple (all_found slices (a ∷ es) fs p)
 
 -- the last of these trailers is the last of all
-last_found : (slices : Bool) (a : Expr) (all rs : List Trailer) → Every Ends rs → ((r : Trailer) → LastOf rs r → LastOf all r) →
+last_found : (slices : Bool) (a : Expr) (all rs : List Trailer) → Every Ends rs →
+    ((r : Trailer) → LastOf rs r → LastOf all r) →
     is_target slices (last_form (map form_trailer rs)) ≡ true → IsTarget slices (e.Trail a all)
 last_found slices a all [] fs g h = plain slices Plain refl h
 last_found slices a all (r ∷ []) fs g h = fs.0 slices h a all (g r (LastOf.last r))
 last_found slices a all (q ∷ r ∷ rs) fs g h = last_found slices a all (r ∷ rs) fs.1 (λ p l. g p (LastOf.later q l)) h
 
 trail_found : (a : Expr) (rs : List Trailer) → Every Ends rs → Found (e.Trail a rs)
-trail_found a rs fs slices h = last_found slices a rs rs fs (λ r l. l) (ap (is_target slices) (sym (forms.form_trail a rs)) ∙ h)
+trail_found a rs fs slices h = last_found slices a rs rs fs (λ r l. l)
+    (ap (is_target slices) (sym (forms.form_trail a rs)) ∙ h)
 
 slice_ends : (low high : Option Expr) → Ends (t.Slice low high)
 slice_ends low high true h a rs l = IsTarget.slice a low high l
@@ -140,16 +143,21 @@ of_expr (open'.Name n) = subst Found (sym (e.rolls-Name n)) (λ slices h. IsTarg
 of_expr (open'.Int n) = subst Found (sym (e.rolls-Int n)) (λ slices h. plain slices _ (forms.form_int n) h)
 of_expr (open'.Str n) = subst Found (sym (e.rolls-Str n)) (λ slices h. plain slices _ (forms.form_str n) h)
 of_expr (open'.Group a) = subst Found (sym (e.rolls-Group a.0)) (group_found a.0 a.1)
-of_expr (open'.Tuple ys) = subst Found (sym (e.rolls-Tuple (map (λ y. y.0) ys))) (tuple_found (map (λ y. y.0) ys) (every Found ys))
-of_expr (open'.List ys) = subst Found (sym (e.rolls-List (map (λ y. y.0) ys))) (list_found (map (λ y. y.0) ys) (every Found ys))
+of_expr (open'.Tuple ys) = subst Found (sym (e.rolls-Tuple (map (λ y. y.0) ys)))
+    (tuple_found (map (λ y. y.0) ys) (every Found ys))
+of_expr (open'.List ys) = subst Found (sym (e.rolls-List (map (λ y. y.0) ys)))
+    (list_found (map (λ y. y.0) ys) (every Found ys))
 of_expr (open'.Dict ys) =
     subst Found (sym (e.rolls-Dict (map (λ y. y.0) ys))) (λ slices h. plain slices _ (forms.form_dict _) h)
 of_expr (open'.Trail a ys) =
     subst Found (sym (e.rolls-Trail a.0 (map (λ y. y.0) ys))) (trail_found a.0 (map (λ y. y.0) ys) (every Ends ys))
-of_expr (open'.Power a b) = subst Found (sym (e.rolls-Power a.0 b.0)) (λ slices h. plain slices _ (forms.form_power a.0 b.0) h)
-of_expr (open'.Unary g a) = subst Found (sym (e.rolls-Unary g a.0)) (λ slices h. plain slices _ (forms.form_unary g a.0) h)
+of_expr (open'.Power a b) = subst Found (sym (e.rolls-Power a.0 b.0))
+    (λ slices h. plain slices _ (forms.form_power a.0 b.0) h)
+of_expr (open'.Unary g a) = subst Found (sym (e.rolls-Unary g a.0))
+    (λ slices h. plain slices _ (forms.form_unary g a.0) h)
 of_expr (open'.Chain l a ys) =
-    subst Found (sym (e.rolls-Chain l a.0 (map (λ y. y.0) ys))) (λ slices h. plain slices _ (forms.form_chain l a.0 _) h)
+    subst Found (sym (e.rolls-Chain l a.0 (map (λ y. y.0) ys)))
+    (λ slices h. plain slices _ (forms.form_chain l a.0 _) h)
 of_expr (open'.Not a) = subst Found (sym (e.rolls-Not a.0)) (λ slices h. plain slices _ (forms.form_not a.0) h)
 of_expr (open'.Choice a b d) =
     subst Found (sym (e.rolls-Choice a.0 b.0 d.0)) (λ slices h. plain slices _ (forms.form_choice a.0 b.0 d.0) h)
@@ -157,14 +165,17 @@ of_expr (open'.Choice a b d) =
 of_trailer : (y : open'.Trailer-F OfExpr OfTrailer OfLink OfNamed OfPair) →
     Ends (roll-Trailer (map-Trailer OfExpr OfTrailer OfLink OfNamed OfPair Expr Trailer Link Named Pair
     (λ y. y.0) (λ y. y.0) (λ y. y.0) (λ y. y.0) (λ y. y.0) y))
-of_trailer (open'.Attribute n) = subst Ends (sym (t.rolls-Attribute n)) (λ slices h a rs l. IsTarget.attribute slices a n l)
+of_trailer (open'.Attribute n) = subst Ends (sym (t.rolls-Attribute n))
+    (λ slices h a rs l. IsTarget.attribute slices a n l)
 of_trailer (open'.Index i) = subst Ends (sym (t.rolls-Index i.0)) (λ slices h a rs l. IsTarget.subscript slices a i.0 l)
 of_trailer (open'.Slice None None) = subst Ends (sym (t.rolls-Slice None None)) (slice_ends None None)
 of_trailer (open'.Slice None (Some b)) = subst Ends (sym (t.rolls-Slice None (Some b.0))) (slice_ends None (Some b.0))
 of_trailer (open'.Slice (Some a) None) = subst Ends (sym (t.rolls-Slice (Some a.0) None)) (slice_ends (Some a.0) None)
-of_trailer (open'.Slice (Some a) (Some b)) = subst Ends (sym (t.rolls-Slice (Some a.0) (Some b.0))) (slice_ends (Some a.0) (Some b.0))
+of_trailer (open'.Slice (Some a) (Some b)) = subst Ends (sym (t.rolls-Slice (Some a.0) (Some b.0)))
+    (slice_ends (Some a.0) (Some b.0))
 of_trailer (open'.Call ys zs) =
-    subst Ends (sym (t.rolls-Call (map (λ y. y.0) ys) (map (λ z. z.0) zs))) (λ slices h a rs l. plain slices _ (forms.form_call _ _) h)
+    subst Ends (sym (t.rolls-Call (map (λ y. y.0) ys) (map (λ z. z.0) zs)))
+    (λ slices h a rs l. plain slices _ (forms.form_call _ _) h)
 
 found : (a : Expr) → Found a
 found = ind-Expr Found Ends (λ l. Unit {0}) (λ n. Unit {0}) (λ p. Unit {0})

@@ -45,7 +45,8 @@ power : Spells (row (codes "1e5")) (k.Other other.Float)
 power = s.float (s.power _ [] (refl, tt) (s.plain _ _ [] refl (refl, tt)))
 
 raised : Spells (row (codes "1.5E-3")) (k.Other other.Float)
-raised = s.float (s.raised {cs = row (codes "1.5")} (s.before _ [] _ _ (refl, tt) refl (refl, tt)) (s.signed _ _ _ [] refl refl (refl, tt)))
+raised = s.float (s.raised {cs = row (codes "1.5")} (s.before _ [] _ _ (refl, tt) refl (refl, tt))
+    (s.signed _ _ _ [] refl refl (refl, tt)))
 
 imaginary : Spells (row (codes "1j")) (k.Other other.Float)
 imaginary = s.imaginary_whole _ [] _ (refl, tt) refl
@@ -64,23 +65,28 @@ power_assign = s.operator operator.POWER_ASSIGN (inl (refl, refl))
 string : Spells (row (codes "'a'")) (k.Str (codes "a"))
 string =
     let body = s.more _ (λ e. omega (arith, e)) refl (λ t e. omega (arith, e)) (s.end (s.one 39 _ refl)) in
-    s.string (s.literal (record { mark = 39; triple = false }) {ps = []} s.none (inl refl) (s.one 39 _ refl) body) refl refl
+    s.string (s.literal (record { mark = 39; triple = false }) {ps = []} s.none (inl refl) (s.one 39 _ refl) body) refl
+    refl
 
 -- in a raw string the backslash stays
 raw_string : Spells (row (codes "r'\\n'")) (k.Str (codes "\\n"))
 raw_string =
     let body = s.kept _ _ refl (s.end (s.one 39 _ refl)) in
-    s.string (s.literal (record { mark = 39; triple = false }) (s.raw _ refl) (inl refl) (s.one 39 _ refl) body) refl refl
+    s.string (s.literal (record { mark = 39; triple = false }) (s.raw _ refl) (inl refl) (s.one 39 _ refl) body) refl
+    refl
 
 unicode_string : Spells (row (codes "u'x'")) (k.Other other.Unicode)
 unicode_string =
     let body = s.more _ (λ e. omega (arith, e)) refl (λ t e. omega (arith, e)) (s.end (s.one 39 _ refl)) in
-    s.unicode_string (s.literal (record { mark = 39; triple = false }) (s.unicode _ refl) (inl refl) (s.one 39 _ refl) body) refl
+    s.unicode_string (s.literal (record { mark = 39; triple = false }) (s.unicode _ refl) (inl refl) (s.one 39 _ refl)
+    body) refl
 
 -- one quote stands in triple quotes
 triple_string : Spells (row (codes "'''a'b'''")) (k.Str (codes "a'b"))
 triple_string =
     let end = s.end (s.three 39 _ _ _ refl refl refl) in
     let last = s.more _ (λ e. omega (arith, e)) refl (λ t. never true t refl) end in
-    let body = s.more _ (λ e. omega (arith, e)) refl (λ t. never true t refl) (s.more _ (λ e. omega (arith, e)) refl (λ t. never true t refl) last) in
-    s.string (s.literal (record { mark = 39; triple = true }) {ps = []} s.none (inl refl) (s.three 39 _ _ _ refl refl refl) body) refl refl
+    let body = s.more _ (λ e. omega (arith, e)) refl (λ t. never true t refl)
+    (s.more _ (λ e. omega (arith, e)) refl (λ t. never true t refl) last) in
+    s.string (s.literal (record { mark = 39; triple = true }) {ps = []} s.none (inl refl)
+    (s.three 39 _ _ _ refl refl refl) body) refl refl

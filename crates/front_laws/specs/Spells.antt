@@ -1,5 +1,7 @@
--- Which characters spell which token: one case for each form. States `docs/LANGUAGE.md`, "Names and keywords", "Numbers", "Strings" and
--- "Operators". Of py_tokens it takes the classes of characters, the tables of keywords and operators, and what an escape stands for.
+-- Which characters spell which token: one case for each form. States `docs/LANGUAGE.md`, "Names and keywords",
+-- "Numbers", "Strings" and
+-- "Operators". Of py_tokens it takes the classes of characters, the tables of keywords and operators, and what an
+-- escape stands for.
 use Rattle.std.specs.Prelude.{◌≡◌, ◌≢◌, ℕ, ◌^◌, ◌<◌, pos, true, false, List, [], ◌∷◌, ◌++◌, map, Some, ◌⊎◌}
 use Rattle.std.specs.Str.Parse.{digits_value}
 use Rattle.py_text.specs.Escape.{unescaped}
@@ -39,26 +41,33 @@ pub data BaseLetter : Base → ℕ → Type 0 where
 -- a whole number, and its value
 pub data Whole : List Character → ℕ → Type 0 where
   zero_digit : (c : Character) → c.byte ≡ 48 → Whole (c ∷ []) 0
-  decimal : (c : Character) (cs : List Character) → c.byte ≢ 48 → Each (Digit Ten) (c ∷ cs) → Whole (c ∷ cs) (value Ten (c ∷ cs))
-  octal : (c d : Character) (cs : List Character) → c.byte ≡ 48 → Each (Digit Eight) (d ∷ cs) → Whole (c ∷ d ∷ cs) (value Eight (d ∷ cs))
-  in_base : (base : Base) (letter : ℕ) → BaseLetter base letter → (c x d : Character) (cs : List Character) → c.byte ≡ 48 → Is (Letter letter) x →
+  decimal : (c : Character) (cs : List Character) → c.byte ≢ 48 → Each (Digit Ten) (c ∷ cs) →
+      Whole (c ∷ cs) (value Ten (c ∷ cs))
+  octal : (c d : Character) (cs : List Character) → c.byte ≡ 48 → Each (Digit Eight) (d ∷ cs) →
+      Whole (c ∷ d ∷ cs) (value Eight (d ∷ cs))
+  in_base : (base : Base) (letter : ℕ) → BaseLetter base letter → (c x d : Character) (cs : List Character) →
+      c.byte ≡ 48 → Is (Letter letter) x →
       Each (Digit base) (d ∷ cs) → Whole (c ∷ x ∷ d ∷ cs) (value base (d ∷ cs))
 
 -- `e`, a sign if any, and digits
 pub data Exponent : List Character → Type 0 where
-  plain : (e d : Character) (cs : List Character) → Is (Letter 101) e → Each (Digit Ten) (d ∷ cs) → Exponent (e ∷ d ∷ cs)
-  signed : (e s d : Character) (cs : List Character) → Is (Letter 101) e → Is Sign s → Each (Digit Ten) (d ∷ cs) → Exponent (e ∷ s ∷ d ∷ cs)
+  plain : (e d : Character) (cs : List Character) → Is (Letter 101) e → Each (Digit Ten) (d ∷ cs) →
+      Exponent (e ∷ d ∷ cs)
+  signed : (e s d : Character) (cs : List Character) → Is (Letter 101) e → Is Sign s → Each (Digit Ten) (d ∷ cs) →
+      Exponent (e ∷ s ∷ d ∷ cs)
 
 -- digits with a point before, between or behind them
 pub data Pointed : List Character → Type 0 where
   behind : (p f : Character) (fs : List Character) → p.byte ≡ 46 → Each (Digit Ten) (f ∷ fs) → Pointed (p ∷ f ∷ fs)
-  before : (d : Character) (ds : List Character) (p : Character) (fs : List Character) → Each (Digit Ten) (d ∷ ds) → p.byte ≡ 46 →
+  before : (d : Character) (ds : List Character) (p : Character) (fs : List Character) → Each (Digit Ten) (d ∷ ds) →
+      p.byte ≡ 46 →
       Each (Digit Ten) fs → Pointed ((d ∷ ds) ++ (p ∷ fs))
 
 pub data Float : List Character → Type 0 where
   pointed : {cs : List Character} → Pointed cs → Float cs
   raised : {cs es : List Character} → Pointed cs → Exponent es → Float (cs ++ es)
-  power : (d : Character) (ds : List Character) {es : List Character} → Each (Digit Ten) (d ∷ ds) → Exponent es → Float ((d ∷ ds) ++ es)
+  power : (d : Character) (ds : List Character) {es : List Character} → Each (Digit Ten) (d ∷ ds) → Exponent es →
+      Float ((d ∷ ds) ++ es)
 
 -- ---- strings
 
@@ -77,19 +86,24 @@ IsMark m = (m ≡ 39) ⊎ (m ≡ 34)
 -- such quotes: the mark once, or three times
 pub data Quotes : Quoting → List Character → Type 0 where
   one : (m : ℕ) (c : Character) → c.byte ≡ m → Quotes (record { mark = m; triple = false }) (c ∷ [])
-  three : (m : ℕ) (c d e : Character) → c.byte ≡ m → d.byte ≡ m → e.byte ≡ m → Quotes (record { mark = m; triple = true }) (c ∷ d ∷ e ∷ [])
+  three : (m : ℕ) (c d e : Character) → c.byte ≡ m → d.byte ≡ m → e.byte ≡ m →
+      Quotes (record { mark = m; triple = true }) (c ∷ d ∷ e ∷ [])
 
--- A body, and the body with its closing quotes. The first closing quotes end it; a backslash keeps the character after it from ending it,
+-- A body, and the body with its closing quotes. The first closing quotes end it; a backslash keeps the character after
+-- it from ending it,
 -- and a line end stands in triple quotes or behind a backslash alone.
 pub data Closed (q : Quoting) : List Character → List Character → Type 0 where
   end : {qs : List Character} → Quotes q qs → Closed q [] qs
-  more : (c : Character) {body cs : List Character} → c.byte ≢ 92 → quotes q (c ∷ cs) ≡ false → (q.triple ≡ false → c.byte ≢ 10) → Closed q body cs →
+  more : (c : Character) {body cs : List Character} → c.byte ≢ 92 → quotes q (c ∷ cs) ≡ false →
+      (q.triple ≡ false → c.byte ≢ 10) → Closed q body cs →
       Closed q (c ∷ body) (c ∷ cs)
-  kept : (c d : Character) {body cs : List Character} → c.byte ≡ 92 → Closed q body cs → Closed q (c ∷ d ∷ body) (c ∷ d ∷ cs)
+  kept : (c d : Character) {body cs : List Character} → c.byte ≡ 92 → Closed q body cs →
+      Closed q (c ∷ d ∷ body) (c ∷ d ∷ cs)
 
 -- a prefix, quotes, a body and the same quotes
 pub data Literal : List Character → Prefix → List Character → Type 0 where
-  literal : (q : Quoting) {ps qs body cs : List Character} {p : Prefix} → Prefixes ps p → IsMark q.mark → Quotes q qs → Closed q body cs →
+  literal : (q : Quoting) {ps qs body cs : List Character} {p : Prefix} → Prefixes ps p → IsMark q.mark → Quotes q qs →
+      Closed q body cs →
       Literal (ps ++ qs ++ cs) p body
 
 -- ---- tokens
@@ -101,16 +115,21 @@ Lists (w ∷ ws) word n = ((w.0 ≡ word) × (w.1 ≡ n)) ⊎ Lists ws word n
 
 pub data Spells : List Character → TokenKind → Type 0 where
   keyword : {cs : List Character} (n : ℕ) → Lists keywords (map byte_of cs) n → Spells cs (k.Keyword n)
-  name : (c : Character) (cs : List Character) → Is NameStart c → Each Name cs → ((n : ℕ) → Lists keywords (map byte_of (c ∷ cs)) n → ⊥) →
+  name : (c : Character) (cs : List Character) → Is NameStart c → Each Name cs →
+      ((n : ℕ) → Lists keywords (map byte_of (c ∷ cs)) n → ⊥) →
       Spells (c ∷ cs) (k.Name (map byte_of (c ∷ cs)))
   operator : {cs : List Character} (n : ℕ) → Lists operators (map byte_of cs) n → Spells cs (k.Op n)
   int : {cs : List Character} {n : ℕ} → Whole cs n → n < 2 ^ 63 → Spells cs (k.Int (pos n))
   -- what the tokens tell apart, though the language leaves it out
-  long : {cs : List Character} {n : ℕ} (l : Character) → Whole cs n → Is (Letter 108) l → Spells (cs ++ l ∷ []) (k.Other other.Long)
+  long : {cs : List Character} {n : ℕ} (l : Character) → Whole cs n → Is (Letter 108) l →
+      Spells (cs ++ l ∷ []) (k.Other other.Long)
   float : {cs : List Character} → Float cs → Spells cs (k.Other other.Float)
-  imaginary : {cs : List Character} (j : Character) → Float cs → Is (Letter 106) j → Spells (cs ++ j ∷ []) (k.Other other.Float)
-  imaginary_whole : (d : Character) (ds : List Character) (j : Character) → Each (Digit Ten) (d ∷ ds) → Is (Letter 106) j →
+  imaginary : {cs : List Character} (j : Character) → Float cs → Is (Letter 106) j →
+      Spells (cs ++ j ∷ []) (k.Other other.Float)
+  imaginary_whole : (d : Character) (ds : List Character) (j : Character) → Each (Digit Ten) (d ∷ ds) →
+      Is (Letter 106) j →
       Spells ((d ∷ ds) ++ j ∷ []) (k.Other other.Float)
   string : {cs body : List Character} {p : Prefix} {bs : List ℕ} → Literal cs p body → p.unicode ≡ false →
       unescaped p.raw (map byte_of body) ≡ Some bs → Spells cs (k.Str bs)
-  unicode_string : {cs body : List Character} {p : Prefix} → Literal cs p body → p.unicode ≡ true → Spells cs (k.Other other.Unicode)
+  unicode_string : {cs body : List Character} {p : Prefix} → Literal cs p body → p.unicode ≡ true →
+      Spells cs (k.Other other.Unicode)

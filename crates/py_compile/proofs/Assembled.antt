@@ -47,43 +47,76 @@ FitAll ok flags zero z [] = ⊥
 FitAll ok flags zero z (i ∷ is) = (i ≡ Setup) × Every (Fit ok flags z) is
 FitAll ok flags (suc j) z is = Every (Fit ok flags z) is
 
-fit_setup : (ok : ℕ → Type 0) (flags : ℕ → Bool) (j : ℕ) (z : Bool) (is : List Instr) → FitAll ok flags j z is → SetsUp j is
+fit_setup : (ok : ℕ → Type 0) (flags : ℕ → Bool) (j : ℕ) (z : Bool) (is : List Instr) → FitAll ok flags j z is →
+    SetsUp j is
 fit_setup ok flags zero z [] h = h
 fit_setup ok flags zero z (i ∷ is) h = (h.0, no_setup ok flags z is h.1)
 fit_setup ok flags (suc j) z is h = no_setup ok flags z is h
 
-fit_none : (ok : ℕ → Type 0) (flags : ℕ → Bool) (j : ℕ) (z : Bool) (f : ℕ) (is : List Instr) → FitAll ok flags j z is → flags f ≡ false → list_any (opens_body f) is ≡ false
+fit_none : (ok : ℕ → Type 0) (flags : ℕ → Bool) (j : ℕ) (z : Bool) (f : ℕ) (is : List Instr) → FitAll ok flags j z is →
+    flags f ≡ false → list_any (opens_body f) is ≡ false
 fit_none ok flags zero z f [] h e = refl
-fit_none ok flags zero z f (i ∷ is) h e = subst (λ k. (opens_body f k || list_any (opens_body f) is) ≡ false) (sym h.0) (opens_none ok flags z f is h.1 e)
+fit_none ok flags zero z f (i ∷ is) h e = subst (λ k. (opens_body f k || list_any (opens_body f) is) ≡ false) (sym h.0)
+    (opens_none ok flags z f is h.1 e)
 fit_none ok flags (suc j) z f is h e = opens_none ok flags z f is h e
 
-fit_belongs : (cs : List Code) (rs : List Root) (flags : ℕ → Bool) (j : ℕ) (z : Bool) → (z ≡ true → is_body cs j ≡ true) → ((f : ℕ) → flags f ≡ false → is_body cs f ≡ false) → (is : List Instr) → FitAll (λ r. HasCellAt (names_of rs) (slice_get rs r)) flags j z is → All (Belongs cs rs j) is
+fit_belongs : (cs : List Code) (rs : List Root) (flags : ℕ → Bool) (j : ℕ) (z : Bool) →
+    (z ≡ true → is_body cs j ≡ true) → ((f : ℕ) → flags f ≡ false → is_body cs f ≡ false) → (is : List Instr) →
+    FitAll (λ r. HasCellAt (names_of rs) (slice_get rs r)) flags j z is → All (Belongs cs rs j) is
 fit_belongs cs rs flags zero z own other [] h = absurd h
-fit_belongs cs rs flags zero z own other (i ∷ is) h = All-cons (Belongs cs rs zero) i is (subst (Belongs cs rs zero) (sym h.0) tt) (every_all (Fit (λ r. HasCellAt (names_of rs) (slice_get rs r)) flags z) (Belongs cs rs zero) (belongs_from cs rs zero flags z own other) is h.1)
-fit_belongs cs rs flags (suc j) z own other is h = every_all (Fit (λ r. HasCellAt (names_of rs) (slice_get rs r)) flags z) (Belongs cs rs (suc j)) (belongs_from cs rs (suc j) flags z own other) is h
+fit_belongs cs rs flags zero z own other (i ∷ is) h =
+    All-cons (Belongs cs rs zero) i is (subst (Belongs cs rs zero) (sym h.0) tt)
+    (every_all (Fit (λ r. HasCellAt (names_of rs) (slice_get rs r)) flags z) (Belongs cs rs zero)
+    (belongs_from cs rs zero flags z own other) is h.1)
+fit_belongs cs rs flags (suc j) z own other is h =
+    every_all (Fit (λ r. HasCellAt (names_of rs) (slice_get rs r)) flags z) (Belongs cs rs (suc j))
+    (belongs_from cs rs (suc j) flags z own other) is h
 
-whole_fit : (ok : ℕ → Type 0) (flags : ℕ → Bool) (j : ℕ) (z : Bool) (y : Body) (n : Known) (h : ℕ) → IsClean ok flags z (y.block n) → FitAll ok flags j z ((whole.whole j y n).code [] 0 h)
-whole_fit ok flags zero z y n h c = (refl, parts_clean ok flags z (Sub 1 (y.block n) ∷ Op (Const NoValue) ∷ Op Return ∷ []) (c, (tt, (tt, tt))) (record { labels = []; slot = 0 } ∷ []) 1 (h + 0 + 0))
-whole_fit ok flags (suc j) z y n h c = template_clean ok flags z y.line 0 0 (Sub 1 (y.block n) ∷ Op (Const NoValue) ∷ Op Return ∷ []) (c, (tt, (tt, tt))) [] 0 h
+whole_fit : (ok : ℕ → Type 0) (flags : ℕ → Bool) (j : ℕ) (z : Bool) (y : Body) (n : Known) (h : ℕ) →
+    IsClean ok flags z (y.block n) → FitAll ok flags j z ((whole.whole j y n).code [] 0 h)
+whole_fit ok flags zero z y n h c = (
+  refl,
+  parts_clean ok flags z (Sub 1 (y.block n) ∷ Op (Const NoValue) ∷ Op Return ∷ []) (c, (tt, (tt, tt)))
+      (record { labels = []; slot = 0 } ∷ []) 1 (h + 0 + 0),
+)
+whole_fit ok flags (suc j) z y n h c = template_clean ok flags z y.line 0 0
+    (Sub 1 (y.block n) ∷ Op (Const NoValue) ∷ Op Return ∷ []) (c, (tt, (tt, tt))) [] 0 h
 
-whole_sits : (N : ℕ → Bool → Known) (all : List Instr) (j : ℕ) (y : Body) (n : Known) (h : ℕ) → ((g : ℕ) → Opens ((whole.whole j y n).code [] 0 h) g → Opens all g) → Sits N all (y.block n)
-whole_sits N all zero y n h s = (sub_parts N all y.line 0 0 (Op Setup ∷ Sub 1 (y.block n) ∷ Op (Const NoValue) ∷ Op Return ∷ []) (record { env = []; place = 0; slot = h; opens = s })).1.0
-whole_sits N all (suc j) y n h s = (sub_parts N all y.line 0 0 (Sub 1 (y.block n) ∷ Op (Const NoValue) ∷ Op Return ∷ []) (record { env = []; place = 0; slot = h; opens = s })).0
+whole_sits : (N : ℕ → Bool → Known) (all : List Instr) (j : ℕ) (y : Body) (n : Known) (h : ℕ) →
+    ((g : ℕ) → Opens ((whole.whole j y n).code [] 0 h) g → Opens all g) → Sits N all (y.block n)
+whole_sits N all zero y n h s = (sub_parts N all y.line 0 0
+    (Op Setup ∷ Sub 1 (y.block n) ∷ Op (Const NoValue) ∷ Op Return ∷ [])
+    (record { env = []; place = 0; slot = h; opens = s })).1.0
+whole_sits N all (suc j) y n h s = (sub_parts N all y.line 0 0
+    (Sub 1 (y.block n) ∷ Op (Const NoValue) ∷ Op Return ∷ []) (record { env = []; place = 0; slot = h; opens = s })).0
 
 -- each instruction has its line
-whole_lined : (k : Limits) (j : ℕ) (y : Body) (n : Known) (h : ℕ) → Does k [] (y.block n) → (whole.whole j y n).size < 2 ^ 16 → length (whole.whole j y n).lines ≡ length ((whole.whole j y n).code [] 0 h)
+whole_lined : (k : Limits) (j : ℕ) (y : Body) (n : Known) (h : ℕ) → Does k [] (y.block n) →
+    (whole.whole j y n).size < 2 ^ 16 → length (whole.whole j y n).lines ≡ length ((whole.whole j y n).code [] 0 h)
 whole_lined k zero y n h d few =
     let b = y.block n in
     let t = d.typed [] 0 [] (omega arith) (omega (arith, few)) in
     let l = t.lined in
     let c = t.sized [] 1 (h + 0 + 0) in
-    omega (arith, l, c, length-append b.lines (y.line ∷ y.line ∷ []), length-append (b.code [] 1 (h + 0 + 0)) (Const NoValue ∷ Return ∷ []))
+    omega (
+      arith,
+      l,
+      c,
+      length-append b.lines (y.line ∷ y.line ∷ []),
+      length-append (b.code [] 1 (h + 0 + 0)) (Const NoValue ∷ Return ∷ []),
+    )
 whole_lined k (suc j) y n h d few =
     let b = y.block n in
     let t = d.typed [] 0 [] (omega arith) (omega (arith, few)) in
     let l = t.lined in
     let c = t.sized [] 0 (h + 0) in
-    omega (arith, l, c, length-append b.lines (y.line ∷ y.line ∷ []), length-append (b.code [] 0 (h + 0)) (Const NoValue ∷ Return ∷ []))
+    omega (
+      arith,
+      l,
+      c,
+      length-append b.lines (y.line ∷ y.line ∷ []),
+      length-append (b.code [] 0 (h + 0)) (Const NoValue ∷ Return ∷ []),
+    )
 
 -- a body that is no line of what is too large
 large_none : (b : Bool) (l : ℕ) → (if b then Some l else None) ≡ None → b ≡ false
@@ -93,8 +126,10 @@ large_none false l e = refl
 or_false : (b c : Bool) → b ≡ false → c ≡ false → (b || c) ≡ false
 or_false b c e f = subst (λ x. (x || c) ≡ false) (sym e) f
 
-same_limits : (a c : Limits) → a.slots ≡ c.slots → a.keys ≡ c.keys → a.strings ≡ c.strings → a.cells ≡ c.cells → a.roots ≡ c.roots → a.params ≡ c.params → a.first ≡ c.first → a ≡ c
-same_limits a c e1 e2 e3 e4 e5 e6 e7 i = record { slots = e1 i; keys = e2 i; strings = e3 i; cells = e4 i; roots = e5 i; params = e6 i; first = e7 i }
+same_limits : (a c : Limits) → a.slots ≡ c.slots → a.keys ≡ c.keys → a.strings ≡ c.strings → a.cells ≡ c.cells →
+    a.roots ≡ c.roots → a.params ≡ c.params → a.first ≡ c.first → a ≡ c
+same_limits a c e1 e2 e3 e4 e5 e6 e7 i =
+    record { slots = e1 i; keys = e2 i; strings = e3 i; cells = e4 i; roots = e5 i; params = e6 i; first = e7 i }
 
 module _ (locals : List (List (List ℕ))) (ss : List Stmt) where
   abbrev L : ℕ → List (List ℕ)
@@ -164,13 +199,16 @@ module _ (locals : List (List (List ℕ))) (ss : List Stmt) where
       let same : x ≡ y = (bytes_eq-Decides x y).0 n.1 in
       let lt = length-append T (main_texts C) in
       let lm = length-map TT text_root in
-      let a : get_or rs (21 + k) (text_root []) ≡ get_or (map text_root TT ++ map cell_root C) k (text_root []) = get_or-append-add (cell_root [] ∷ class_roots 0 class_count) (map text_root TT ++ map cell_root C) k (text_root []) in
+      let a : get_or rs (21 + k) (text_root []) ≡ get_or (map text_root TT ++ map cell_root C) k (text_root []) =
+      get_or-append-add (cell_root [] ∷ class_roots 0 class_count) (map text_root TT ++ map cell_root C) k
+      (text_root []) in
       let b = get_or_append_left (map text_root TT) (map cell_root C) (text_root []) k (omega (arith, w, lm, lt)) in
       let c = get_or-map text_root TT k [] (text_root []) (omega (arith, w, lt)) in
       let e = get_or_append_left T (main_texts C) [] k w in
       let v : get_or rs (21 + k) (text_root []) ≡ text_root y = a ∙ b ∙ c ∙ ap text_root e in
       let within : 21 + k < length rs = omega (arith, w, lm, lt, length-append (map text_root TT) (map cell_root C)) in
-      let s : slice_get rs (21 + k) ≡ Some (text_root y) = slice_get-get_or rs (21 + k) (text_root []) within ∙ ap Some v in
+      let s : slice_get rs (21 + k) ≡ Some (text_root y) = slice_get-get_or rs (21 + k) (text_root []) within ∙
+      ap Some v in
       let h : has y (names_of rs) ≡ true = ap (has y) (names_told TT C) ∙ subst (λ z. has z C ≡ true) same g in
       subst (HasCellAt (names_of rs)) (sym s) h
 
@@ -186,21 +224,34 @@ module _ (locals : List (List (List ℕ))) (ss : List Stmt) where
   codes_params j [] = refl
   codes_params j (y ∷ ys) = ap (λ l. y.params ∷ l) (codes_params (j + 1) ys)
 
-  limits_same : (j : ℕ) (y : Body) → lim L T C Ks P j (length (code j y).slots) (first_place j) ≡ limits_of cs rs j (code j y)
+  limits_same : (j : ℕ) (y : Body) → lim L T C Ks P j (length (code j y).slots) (first_place j) ≡ limits_of cs rs j
+      (code j y)
   limits_same j y =
       let lt = length-append T (main_texts C) in
       let tl : length (texts_of rs) ≡ length TT = ap length (texts_told TT C) in
       let cells : 21 + length T + length (main_texts C) ≡ 21 + length (texts_of rs) = omega (arith, tl, lt) in
-      let roots : 21 + length T + length (main_texts C) + length C ≡ length rs = omega (arith, lt, length-map TT text_root, length-map C cell_root, length-append (map text_root TT) (map cell_root C)) in
-      same_limits (lim L T C Ks P j (length (code j y).slots) (first_place j)) (limits_of cs rs j (code j y)) refl refl refl cells roots (sym (codes_params 0 (whole.bodies ss))) refl
+      let roots : 21 + length T + length (main_texts C) + length C ≡ length rs =
+      omega (
+        arith,
+        lt,
+        length-map TT text_root,
+        length-map C cell_root,
+        length-append (map text_root TT) (map cell_root C),
+      ) in
+      same_limits (lim L T C Ks P j (length (code j y).slots) (first_place j)) (limits_of cs rs j (code j y)) refl refl
+      refl cells roots (sym (codes_params 0 (whole.bodies ss))) refl
 
   -- the code of each body is among all instructions
-  codes_sit : (j : ℕ) (ys : List Body) → ((g : ℕ) → Opens (all_instrs (codes j ys)) g → Opens all g) → BodiesSit N all j ys
+  codes_sit : (j : ℕ) (ys : List Body) → ((g : ℕ) → Opens (all_instrs (codes j ys)) g → Opens all g) →
+      BodiesSit N all j ys
   codes_sit j [] h = tt
   codes_sit j (y ∷ ys) h =
       let a = (code j y).instrs in
-      let c = all_instrs (codes (j + 1) ys) in
-      (whole_sits N all j y (N j y.is_class) (length (whole.slots_named y.is_class (L j))) (λ g o. h g (opens_front a c g o)), codes_sit (j + 1) ys (λ g o. h g (opens_back a c g o)))
+      let c = all_instrs (codes (j + 1) ys) in (
+        whole_sits N all j y (N j y.is_class) (length (whole.slots_named y.is_class (L j)))
+            (λ g o. h g (opens_front a c g o)),
+        codes_sit (j + 1) ys (λ g o. h g (opens_back a c g o)),
+      )
 
   all_open : AllOpen N all 0 (whole.bodies ss)
   all_open = let s = codes_sit 0 (whole.bodies ss) (λ g o. o) in ((λ e. absurd (cc)), module_opens N all ss s.0 s.1)
@@ -212,45 +263,61 @@ module _ (locals : List (List (List ℕ))) (ss : List Stmt) where
     abbrev Cleans : ℕ → List Body → Type 0
     Cleans f ys = BodiesClean L T C Ks P (made.none locals ss) ok flags to go holds free f ys
 
-    flag_all : (pre ys : List Body) → 0 < length pre → FlagsOf (λ f. get_or (map (λ y. y.is_class) (pre ++ ys)) f false) (length pre) ys
+    flag_all : (pre ys : List Body) → 0 < length pre →
+        FlagsOf (λ f. get_or (map (λ y. y.is_class) (pre ++ ys)) f false) (length pre) ys
     flag_all pre [] lt = tt
     flag_all pre (y ∷ ys) lt =
         let fs : List Bool = map (λ y. y.is_class) (pre ++ y ∷ ys) in
-        let parts : fs ≡ map (λ y. y.is_class) pre ++ y.is_class ∷ map (λ y. y.is_class) ys = map-append (λ y. y.is_class) pre (y ∷ ys) in
+        let parts : fs ≡ map (λ y. y.is_class) pre ++ y.is_class ∷ map (λ y. y.is_class) ys =
+        map-append (λ y. y.is_class) pre (y ∷ ys) in
         let long : length (map (λ y. y.is_class) pre) ≡ length pre = length-map pre (λ y. y.is_class) in
-        let here : get_or fs (length pre) false ≡ y.is_class = ap (λ l. get_or l (length pre) false) parts ∙ sym (ap (λ i. get_or (map (λ y. y.is_class) pre ++ y.is_class ∷ map (λ y. y.is_class) ys) i false) long) ∙ get_or-append_seam (map (λ y. y.is_class) pre) y.is_class (map (λ y. y.is_class) ys) false in
+        let here : get_or fs (length pre) false ≡ y.is_class = ap (λ l. get_or l (length pre) false) parts ∙
+        sym (ap (λ i. get_or (map (λ y. y.is_class) pre ++ y.is_class ∷ map (λ y. y.is_class) ys) i false) long) ∙
+        get_or-append_seam (map (λ y. y.is_class) pre) y.is_class (map (λ y. y.is_class) ys) false in
         let m : length (pre ++ y ∷ []) ≡ length pre + 1 = omega (arith, length-append pre (y ∷ [])) in
         let rest = flag_all (pre ++ y ∷ []) ys (omega (arith, m)) in
-        let rest' = subst (λ l. FlagsOf (λ f. get_or (map (λ y. y.is_class) l) f false) (length (pre ++ y ∷ [])) ys) (append_assoc pre (y ∷ []) ys) rest in
+        let rest' = subst (λ l. FlagsOf (λ f. get_or (map (λ y. y.is_class) l) f false) (length (pre ++ y ∷ [])) ys)
+        (append_assoc pre (y ∷ []) ys) rest in
         (lt, here, subst (λ i. FlagsOf (λ f. get_or fs f false) i ys) m rest')
 
     cleans : legal_all ss false false ≡ true → Cleans 0 (whole.bodies ss)
     unfolding module_uses
-    cleans h = module_clean L T C Ks P (made.none locals ss) ok flags to go holds free ss h (notes us (all_noted [] [] (λ j. [] ∷ []) us)) (flag_all (whole.module_body ss ∷ []) inner (omega arith))
+    cleans h = module_clean L T C Ks P (made.none locals ss) ok flags to go holds free ss h
+        (notes us (all_noted [] [] (λ j. [] ∷ []) us)) (flag_all (whole.module_body ss ∷ []) inner (omega arith))
 
-    fits : (j : ℕ) (y : Body) → IsClean ok flags y.is_class (y.block (N j y.is_class)) → FitAll ok flags j y.is_class (code j y).instrs
+    fits : (j : ℕ) (y : Body) → IsClean ok flags y.is_class (y.block (N j y.is_class)) →
+        FitAll ok flags j y.is_class (code j y).instrs
     fits j y c = whole_fit ok flags j y.is_class y (N j y.is_class) (length (whole.slots_named y.is_class (L j))) c
 
     -- what is no class body's isn't opened
-    none_open : (f : ℕ) → flags f ≡ false → (j : ℕ) (ys : List Body) → Cleans j ys → list_any (opens_body f) (all_instrs (codes j ys)) ≡ false
+    none_open : (f : ℕ) → flags f ≡ false → (j : ℕ) (ys : List Body) → Cleans j ys →
+        list_any (opens_body f) (all_instrs (codes j ys)) ≡ false
     none_open f e j [] h = refl
     none_open f e j (y ∷ ys) h =
         let a = (code j y).instrs in
         let c = all_instrs (codes (j + 1) ys) in
-        list_any-append (opens_body f) a c ∙ or_false (list_any (opens_body f) a) (list_any (opens_body f) c) (fit_none ok flags j y.is_class f a (fits j y h.0) e) (none_open f e (j + 1) ys h.1)
+        list_any-append (opens_body f) a c ∙ or_false (list_any (opens_body f) a) (list_any (opens_body f) c)
+        (fit_none ok flags j y.is_class f a (fits j y h.0) e) (none_open f e (j + 1) ys h.1)
 
     other : Cleans 0 (whole.bodies ss) → (f : ℕ) → flags f ≡ false → is_body cs f ≡ false
     other h f e = none_open f e 0 (whole.bodies ss) h
 
-    code_ok : Cleans 0 (whole.bodies ss) → (j : ℕ) (y : Body) → ((sl p : ℕ) → Slotted L T C Ks P j y.is_class sl → Does (lim L T C Ks P j sl p) [] (y.block (N j y.is_class))) → IsClean ok flags y.is_class (y.block (N j y.is_class)) → (y.is_class ≡ true → Opens all j) → whole.large_at j y (nm j y) ≡ None → y.params ≤ length (whole.slots_named y.is_class (L j)) → IsRightCode cs rs j (code j y)
+    code_ok : Cleans 0 (whole.bodies ss) → (j : ℕ) (y : Body) →
+        ((sl p : ℕ) → Slotted L T C Ks P j y.is_class sl → Does (lim L T C Ks P j sl p) [] (y.block (N j y.is_class)))
+        → IsClean ok flags y.is_class (y.block (N j y.is_class)) → (y.is_class ≡ true → Opens all j) →
+        whole.large_at j y (nm j y) ≡ None → y.params ≤ length (whole.slots_named y.is_class (L j)) →
+        IsRightCode cs rs j (code j y)
     code_ok h j y d c o e q =
-        let few = ltb-false 65535 (whole.whole j y (nm j y)).size (large_none (nat_lt 65535 (whole.whole j y (nm j y)).size) y.line e) in
+        let few = ltb-false 65535 (whole.whole j y (nm j y)).size
+        (large_none (nat_lt 65535 (whole.whole j y (nm j y)).size) y.line e) in
         let fit = fits j y c in
         let long = made.slots_long locals ss j y in
         let slots = length (whole.slots_named y.is_class (L j)) in
-        let whole_code = subst (λ k. IsWhole k (code j y).instrs) (limits_same j y) (made.code_right locals ss j y d (omega (arith, few))) in
+        let whole_code = subst (λ k. IsWhole k (code j y).instrs) (limits_same j y)
+        (made.code_right locals ss j y d (omega (arith, few))) in
         record {
-          lined = whole_lined (lim L T C Ks P j (slots + 0) 0) j y (N j y.is_class) slots (d (slots + 0) 0 (made.named_slotted locals ss y.is_class j 0)) (omega (arith, few));
+          lined = whole_lined (lim L T C Ks P j (slots + 0) 0) j y (N j y.is_class) slots
+              (d (slots + 0) 0 (made.named_slotted locals ss y.is_class j 0)) (omega (arith, few));
           slotted = omega (arith, q, long);
           sets_up = fit_setup ok flags j y.is_class (code j y).instrs fit;
           belongs = fit_belongs cs rs flags j y.is_class o (other h) (code j y).instrs fit;
@@ -258,20 +325,31 @@ module _ (locals : List (List (List ℕ))) (ss : List Stmt) where
           typed = whole_code.right;
         }
 
-    codes_right : Cleans 0 (whole.bodies ss) → (j : ℕ) (ys : List Body) → BodiesOk L T C Ks P j ys → Cleans j ys → AllOpen N all j ys → whole.large_bodies nm j ys ≡ None → ParamsFit locals j ys → AreRight cs rs j (codes j ys)
+    codes_right : Cleans 0 (whole.bodies ss) → (j : ℕ) (ys : List Body) → BodiesOk L T C Ks P j ys → Cleans j ys →
+        AllOpen N all j ys → whole.large_bodies nm j ys ≡ None → ParamsFit locals j ys → AreRight cs rs j (codes j ys)
     codes_right h j [] d c o e q = tt
     codes_right h j (y ∷ ys) d c o e q =
         let p = least_apart (whole.large_at j y (nm j y)) (whole.large_bodies nm (j + 1) ys) e in
         (code_ok h j y d.0 c.0 o.0 p.0 q.0, codes_right h (j + 1) ys d.1 c.1 o.1 p.1 q.1)
 
-    pub right_program : legal_all ss false false ≡ true → ParamsFit locals 0 (whole.bodies ss) → whole.too_large locals ss ≡ None → IsRightProgram (record { codes = cs; roots = rs })
+    pub right_program : legal_all ss false false ≡ true → ParamsFit locals 0 (whole.bodies ss) →
+        whole.too_large locals ss ≡ None → IsRightProgram (record { codes = cs; roots = rs })
     right_program h q e =
         let p = parts locals ss e in
         let c = cleans h in
-        record { roots = roots_right locals ss p.0; first = omega arith; each = codes_right c 0 (whole.bodies ss) (made.all_do locals ss h) c all_open p.1 q }
+        record {
+          roots = roots_right locals ss p.0;
+          first = omega arith;
+          each =
+              codes_right c 0 (whole.bodies ss) (made.all_do locals ss h) c all_open p.1 q;
+        }
 
--- What a module compiles to is right, where it is legal, `None` is no name that a body binds, parameters are among the names
+-- What a module compiles to is right, where it is legal, `None` is no name that a body binds, parameters are among the
+-- names
 -- that their function binds, and nothing is too large.
-pub program_right : (locals : List (List (List ℕ))) (m : Module) → legal_all m.body false false ≡ true → ((j : ℕ) (x : List ℕ) → is_none x ≡ true → has x (whole.locals_of locals m.body j) ≡ false) → ParamsFit locals 0 (whole.bodies m.body) → whole.too_large_in locals m ≡ None → IsRightProgram (whole.program_of locals m)
+pub program_right : (locals : List (List (List ℕ))) (m : Module) → legal_all m.body false false ≡ true →
+    ((j : ℕ) (x : List ℕ) → is_none x ≡ true → has x (whole.locals_of locals m.body j) ≡ false) →
+    ParamsFit locals 0 (whole.bodies m.body) → whole.too_large_in locals m ≡ None →
+    IsRightProgram (whole.program_of locals m)
 unfolding whole.program_of whole.too_large_in
 program_right locals m h free q e = right_program locals m.body free h q e

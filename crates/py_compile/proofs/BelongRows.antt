@@ -18,7 +18,8 @@ use Rattle.py_compile.proofs.Homes.{any_place}
 use Rattle.py_compile.proofs.Clean.{Fit}
 
 -- what holds of each instruction
-pub no_setup : (ok : ℕ → Type 0) (flags : ℕ → Bool) (z : Bool) (is : List Instr) → Every (Fit ok flags z) is → HasNoSetup is
+pub no_setup : (ok : ℕ → Type 0) (flags : ℕ → Bool) (z : Bool) (is : List Instr) → Every (Fit ok flags z) is →
+    HasNoSetup is
 no_setup ok flags z [] h p e = absurd (cc)
 no_setup ok flags z (i ∷ is) h zero e = let k : i ≡ Setup = cc in absurd (subst (Fit ok flags z) k h.0)
 no_setup ok flags z (i ∷ is) h (suc p) e = no_setup ok flags z is h.1 p e
@@ -28,8 +29,10 @@ every_all P Q f [] h = All-nil Q
 every_all P Q f (i ∷ is) h = All-cons Q i is (f i h.0) (every_all P Q f is h.1)
 
 -- where no code of a class body is f, nothing opens it
-opens_not : (ok : ℕ → Type 0) (flags : ℕ → Bool) (z : Bool) (f : ℕ) (i : Instr) → Fit ok flags z i → flags f ≡ false → opens_body f i ≡ true → false ≡ true
-opens_not ok flags z f (ClassBody g) q e o = let k : g ≡ f = eqb-true g f o in let m : flags f ≡ true = subst (λ x. flags x ≡ true) k q.1 in sym e ∙ m
+opens_not : (ok : ℕ → Type 0) (flags : ℕ → Bool) (z : Bool) (f : ℕ) (i : Instr) → Fit ok flags z i → flags f ≡ false →
+    opens_body f i ≡ true → false ≡ true
+opens_not ok flags z f (ClassBody g) q e o = let k : g ≡ f = eqb-true g f o in let m : flags f ≡ true =
+    subst (λ x. flags x ≡ true) k q.1 in sym e ∙ m
 opens_not ok flags z f Setup q e o = o
 opens_not ok flags z f (Const a) q e o = o
 opens_not ok flags z f Pop q e o = o
@@ -81,16 +84,20 @@ opens_not ok flags z f Raise q e o = o
 opens_not ok flags z f PrintItem q e o = o
 opens_not ok flags z f PrintNewline q e o = o
 
-pub opens_none : (ok : ℕ → Type 0) (flags : ℕ → Bool) (z : Bool) (f : ℕ) (is : List Instr) → Every (Fit ok flags z) is → flags f ≡ false → list_any (opens_body f) is ≡ false
+pub opens_none : (ok : ℕ → Type 0) (flags : ℕ → Bool) (z : Bool) (f : ℕ) (is : List Instr) → Every (Fit ok flags z) is
+    → flags f ≡ false → list_any (opens_body f) is ≡ false
 opens_none ok flags z f [] h e = refl
 opens_none ok flags z f (i ∷ is) h e = by_test (opens_body f i) refl (opens_none ok flags z f is h.1 e)
   where
-    by_test : (b : Bool) → opens_body f i ≡ b → list_any (opens_body f) is ≡ false → (b || list_any (opens_body f) is) ≡ false
+    by_test : (b : Bool) → opens_body f i ≡ b → list_any (opens_body f) is ≡ false →
+        (b || list_any (opens_body f) is) ≡ false
     by_test true o m = let k = opens_not ok flags z f i h.0 e o in absurd (cc)
     by_test false o m = m
 
 -- what fits in a body belongs in its code
-pub belongs_from : (cs : List Code) (rs : List Root) (j : ℕ) (flags : ℕ → Bool) (z : Bool) → (z ≡ true → is_body cs j ≡ true) → ((f : ℕ) → flags f ≡ false → is_body cs f ≡ false) → (i : Instr) → Fit (λ r. HasCellAt (names_of rs) (slice_get rs r)) flags z i → Belongs cs rs j i
+pub belongs_from : (cs : List Code) (rs : List Root) (j : ℕ) (flags : ℕ → Bool) (z : Bool) →
+    (z ≡ true → is_body cs j ≡ true) → ((f : ℕ) → flags f ≡ false → is_body cs f ≡ false) → (i : Instr) →
+    Fit (λ r. HasCellAt (names_of rs) (slice_get rs r)) flags z i → Belongs cs rs j i
 belongs_from cs rs j flags z own other (LoadName a) h = (own h.0, h.1)
 belongs_from cs rs j flags z own other (StoreName a) h = own h
 belongs_from cs rs j flags z own other (DelName a) h = own h
@@ -144,17 +151,26 @@ belongs_from cs rs j flags z own other PrintItem h = tt
 belongs_from cs rs j flags z own other PrintNewline h = tt
 
 -- the string that a number of a name is
-pub number_is : (x : List ℕ) (ns : List (List ℕ)) (d : List ℕ) → has x ns ≡ true → (number_in x ns < length ns) × (bytes_eq x (get_or ns (number_in x ns) d) ≡ true)
+pub number_is : (x : List ℕ) (ns : List (List ℕ)) (d : List ℕ) → has x ns ≡ true →
+    (number_in x ns < length ns) × (bytes_eq x (get_or ns (number_in x ns) d) ≡ true)
 number_is x ns d h =
     let e : nat_lt (position_or_len (bytes_eq x) ns) (length ns) ≡ true = sym (any_place (bytes_eq x) ns) ∙ h in
     let l = ltb-true (position_or_len (bytes_eq x) ns) (length ns) e in
-    let n : number_in x ns ≡ position_or_len (bytes_eq x) ns = ap (λ b. unwrap_or (cond b (Some (position_or_len (bytes_eq x) ns)) None) 0) e in
-    (subst (λ i. i < length ns) (sym n) l, subst (λ i. bytes_eq x (get_or ns i d) ≡ true) (sym n) (first_is (bytes_eq x) ns d l))
+    let n : number_in x ns ≡ position_or_len (bytes_eq x) ns =
+    ap (λ b. unwrap_or (cond b (Some (position_or_len (bytes_eq x) ns)) None) 0) e in (
+      subst (λ i. i < length ns) (sym n) l,
+      subst (λ i. bytes_eq x (get_or ns i d) ≡ true) (sym n)
+          (first_is (bytes_eq x) ns d l),
+    )
   where
-    first_is : (p : List ℕ → Bool) (ns : List (List ℕ)) (d : List ℕ) → position_or_len p ns < length ns → p (get_or ns (position_or_len p ns) d) ≡ true
+    first_is : (p : List ℕ → Bool) (ns : List (List ℕ)) (d : List ℕ) → position_or_len p ns < length ns →
+        p (get_or ns (position_or_len p ns) d) ≡ true
     first_is p [] d lt = absurd (omega (arith, lt))
     first_is p (y ∷ ys) d lt = by_test (p y) refl lt (first_is p ys d)
       where
-        by_test : (b : Bool) → p y ≡ b → cond (not b) (1 + position_or_len p ys) 0 < suc (length ys) → (position_or_len p ys < length ys → p (get_or ys (position_or_len p ys) d) ≡ true) → p (get_or (y ∷ ys) (cond (not b) (1 + position_or_len p ys) 0) d) ≡ true
+        by_test : (b : Bool) → p y ≡ b → cond (not b) (1 + position_or_len p ys) 0 < suc (length ys) →
+            (position_or_len p ys < length ys → p (get_or ys (position_or_len p ys) d) ≡ true) →
+            p (get_or (y ∷ ys) (cond (not b) (1 + position_or_len p ys) 0) d) ≡ true
         by_test true e lt more = e
-        by_test false e lt more = let k : suc (position_or_len p ys) ≡ 1 + position_or_len p ys = omega arith in subst (λ i. p (get_or (y ∷ ys) i d) ≡ true) k (more (omega (arith, lt)))
+        by_test false e lt more = let k : suc (position_or_len p ys) ≡ 1 + position_or_len p ys = omega arith in
+            subst (λ i. p (get_or (y ∷ ys) i d) ≡ true) k (more (omega (arith, lt)))

@@ -51,10 +51,12 @@ pub first_parts : (a c : Option Refusal) → first_of a c ≡ None → (a ≡ No
 first_parts None c q = (refl, q)
 first_parts (Some r) c q = absurd (cc)
 
-fault_clear : (b : ℕ → Names) (inside : List ℕ) (n : ℕ) (es : List Event) → first_fault b (placed inside n es) ≡ None → Every Clear es
+fault_clear : (b : ℕ → Names) (inside : List ℕ) (n : ℕ) (es : List Event) → first_fault b (placed inside n es) ≡ None →
+    Every Clear es
 fault_clear b inside n [] q = tt
 fault_clear b inside n (v ∷ es) q =
-    let p = first_parts (refused b (inside_after v n inside) v) (first_fault b (placed (inside_after v n inside) (bodies_after v n) es)) q in
+    let p = first_parts (refused b (inside_after v n inside) v)
+    (first_fault b (placed (inside_after v n inside) (bodies_after v n) es)) q in
     (refused_clear b (inside_after v n inside) v p.0, fault_clear b (inside_after v n inside) (bodies_after v n) es p.1)
 
 pub outline_clear : (m : Module) → fault (outline m) ≡ None → Clears (outline m)

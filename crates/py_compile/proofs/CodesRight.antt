@@ -20,29 +20,37 @@ use Rattle.py_compile.proofs.StmtTyped.{block_rel, stmts_rel}
 use Rattle.py_compile.proofs.Numbers as numbers
 
 -- the keyword lists of a body begin with the empty one
-keys_grow : (kss rest : List (List (List ℕ))) (ks : List (List ℕ)) (a b : Bool) → kss ≡ [] ∷ rest → (more : List (List (List ℕ))) × ((if a then (if b then kss else kss ++ ks ∷ []) else kss) ≡ [] ∷ more)
+keys_grow : (kss rest : List (List (List ℕ))) (ks : List (List ℕ)) (a b : Bool) → kss ≡ [] ∷ rest →
+    (more : List (List (List ℕ))) × ((if a then (if b then kss else kss ++ ks ∷ []) else kss) ≡ [] ∷ more)
 keys_grow kss rest ks true true e = (rest, e)
 keys_grow kss rest ks true false e = (rest ++ ks ∷ [], ap (λ l. l ++ ks ∷ []) e)
 keys_grow kss rest ks false b e = (rest, e)
 
-keys_first : (j : ℕ) (us : List Use) (kss rest : List (List (List ℕ))) → kss ≡ [] ∷ rest → (more : List (List (List ℕ))) × (keys_from j kss us ≡ [] ∷ more)
+keys_first : (j : ℕ) (us : List Use) (kss rest : List (List (List ℕ))) → kss ≡ [] ∷ rest →
+    (more : List (List (List ℕ))) × (keys_from j kss us ≡ [] ∷ more)
 keys_first j [] kss rest e = (rest, e)
 keys_first j (Text x ∷ us) kss rest e = keys_first j us kss rest e
 keys_first j (Global x ∷ us) kss rest e = keys_first j us kss rest e
-keys_first j (Keys c ks ∷ us) kss rest e = let g = keys_grow kss rest ks (j == c) (list_any (same_names ks) kss) e in keys_first j us (if j == c then with_keys kss ks else kss) g.0 g.1
+keys_first j (Keys c ks ∷ us) kss rest e = let g = keys_grow kss rest ks (j == c) (list_any (same_names ks) kss) e in
+    keys_first j us (if j == c then with_keys kss ks else kss) g.0 g.1
 
 -- bodies stand at their numbers
-stand_all : (locals : ℕ → List (List ℕ)) (texts cells : List (List ℕ)) (keys : ℕ → List (List (List ℕ))) (pre ys : List Body) → Standing locals texts cells keys (map (λ y. y.params) (pre ++ ys)) (length pre) ys
+stand_all : (locals : ℕ → List (List ℕ)) (texts cells : List (List ℕ)) (keys : ℕ → List (List (List ℕ)))
+    (pre ys : List Body) → Standing locals texts cells keys (map (λ y. y.params) (pre ++ ys)) (length pre) ys
 stand_all locals texts cells keys pre [] = tt
 stand_all locals texts cells keys pre (y ∷ ys) =
     let ps : List ℕ = map (λ y. y.params) (pre ++ y ∷ ys) in
-    let parts : ps ≡ map (λ y. y.params) pre ++ y.params ∷ map (λ y. y.params) ys = map-append (λ y. y.params) pre (y ∷ ys) in
+    let parts : ps ≡ map (λ y. y.params) pre ++ y.params ∷ map (λ y. y.params) ys =
+    map-append (λ y. y.params) pre (y ∷ ys) in
     let long : length (map (λ y. y.params) pre) ≡ length pre = length-map pre (λ y. y.params) in
     let lp = length-map (pre ++ y ∷ ys) (λ y. y.params) in
-    let here : get_or ps (length pre) 0 ≡ y.params = ap (λ l. get_or l (length pre) 0) parts ∙ sym (ap (λ i. get_or (map (λ y. y.params) pre ++ y.params ∷ map (λ y. y.params) ys) i 0) long) ∙ get_or-append_seam (map (λ y. y.params) pre) y.params (map (λ y. y.params) ys) 0 in
+    let here : get_or ps (length pre) 0 ≡ y.params = ap (λ l. get_or l (length pre) 0) parts ∙
+    sym (ap (λ i. get_or (map (λ y. y.params) pre ++ y.params ∷ map (λ y. y.params) ys) i 0) long) ∙
+    get_or-append_seam (map (λ y. y.params) pre) y.params (map (λ y. y.params) ys) 0 in
     let m : length (pre ++ y ∷ []) ≡ length pre + 1 = omega (arith, length-append pre (y ∷ [])) in
     let rest = stand_all locals texts cells keys (pre ++ y ∷ []) ys in
-    let rest' = subst (λ l. Standing locals texts cells keys (map (λ y. y.params) l) (length (pre ++ y ∷ [])) ys) (append_assoc pre (y ∷ []) ys) rest in
+    let rest' = subst (λ l. Standing locals texts cells keys (map (λ y. y.params) l) (length (pre ++ y ∷ [])) ys)
+    (append_assoc pre (y ∷ []) ys) rest in
     (omega (arith, lp, length-append pre (y ∷ ys)), here, subst (λ i. Standing locals texts cells keys ps i ys) m rest')
 
 module _ (locals : List (List (List ℕ))) (ss : List Stmt) where
@@ -91,18 +99,30 @@ module _ (locals : List (List (List ℕ))) (ss : List Stmt) where
   abbrev pub code_at : ℕ → Body → Code
   code_at j y = whole.code_by y (whole.names_of locals ss j y) (whole.whole j y (whole.names_of locals ss j y))
 
-  pub slots_long : (j : ℕ) (y : Body) → length (code_at j y).slots ≡ length (whole.slots_named y.is_class (L j)) + (whole.whole j y (whole.names_of locals ss j y)).slots
-  slots_long j y = let p = whole.whole j y (whole.names_of locals ss j y) in let e : List ℕ = [] in let n = length-replicate p.slots e in omega (arith, n, length-append (whole.slots_named y.is_class (L j)) (replicate p.slots []))
+  pub slots_long : (j : ℕ) (y : Body) → length (code_at j y).slots ≡ length (whole.slots_named y.is_class (L j)) +
+      (whole.whole j y (whole.names_of locals ss j y)).slots
+  slots_long j y = let p = whole.whole j y (whole.names_of locals ss j y) in let e : List ℕ = [] in let n =
+      length-replicate p.slots e in omega
+      (arith, n, length-append (whole.slots_named y.is_class (L j)) (replicate p.slots []))
 
   -- a code that isn't too large is right
-  pub code_right : (j : ℕ) (y : Body) → ((sl p : ℕ) → Slotted L T C Ks P j y.is_class sl → Does (lim L T C Ks P j sl p) [] (y.block (known L T C Ks P j y.is_class))) → (whole.whole j y (whole.names_of locals ss j y)).size < 2 ^ 16 → IsWhole (lim L T C Ks P j (length (code_at j y).slots) (first_place j)) (code_at j y).instrs
+  pub code_right : (j : ℕ) (y : Body) → ((sl p : ℕ) → Slotted L T C Ks P j y.is_class sl →
+      Does (lim L T C Ks P j sl p) [] (y.block (known L T C Ks P j y.is_class))) →
+      (whole.whole j y (whole.names_of locals ss j y)).size < 2 ^ 16 →
+      IsWhole (lim L T C Ks P j (length (code_at j y).slots) (first_place j)) (code_at j y).instrs
   code_right zero y d few =
       let b = y.block (known L T C Ks P zero y.is_class) in
       let h = length (whole.slots_named y.is_class (L zero)) in
       let m = slots_long zero y in
-      module_right (lim L T C Ks P zero (length (code_at zero y).slots) 1) y.line h b (d (length (code_at zero y).slots) 1 (subst (Slotted L T C Ks P zero y.is_class) (sym m) (named_slotted y.is_class zero (module_code y.line b).slots))) (omega arith) (omega (arith, m)) few
+      module_right (lim L T C Ks P zero (length (code_at zero y).slots) 1) y.line h b
+      (d (length (code_at zero y).slots) 1
+      (subst (Slotted L T C Ks P zero y.is_class) (sym m)
+      (named_slotted y.is_class zero (module_code y.line b).slots))) (omega arith) (omega (arith, m)) few
   code_right (suc j) y d few =
       let b = y.block (known L T C Ks P (suc j) y.is_class) in
       let h = length (whole.slots_named y.is_class (L (suc j))) in
       let m = slots_long (suc j) y in
-      body_right (lim L T C Ks P (suc j) (length (code_at (suc j) y).slots) 0) y.line h b (d (length (code_at (suc j) y).slots) 0 (subst (Slotted L T C Ks P (suc j) y.is_class) (sym m) (named_slotted y.is_class (suc j) (body_code y.line b).slots))) refl (omega (arith, m)) few
+      body_right (lim L T C Ks P (suc j) (length (code_at (suc j) y).slots) 0) y.line h b
+      (d (length (code_at (suc j) y).slots) 0
+      (subst (Slotted L T C Ks P (suc j) y.is_class) (sym m)
+      (named_slotted y.is_class (suc j) (body_code y.line b).slots))) refl (omega (arith, m)) few

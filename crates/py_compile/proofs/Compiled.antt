@@ -45,22 +45,28 @@ pub tally_count : (t : Tally) (us : List Use) → length (tally t us).keys ≡ l
 tally_count t [] = refl
 tally_count t (Text x ∷ us) = tally_count (tally_one t (Text x)) us
 tally_count t (Global x ∷ us) = tally_count (tally_one t (Global x)) us
-tally_count t (Keys b ks ∷ us) = tally_count (tally_one t (Keys b ks)) us ∙ length-set t.keys b (with_keys (get_or t.keys b []) ks)
+tally_count t (Keys b ks ∷ us) = tally_count (tally_one t (Keys b ks)) us ∙
+    length-set t.keys b (with_keys (get_or t.keys b []) ks)
 
-after_keys : (b c : ℕ) (ks : List (List ℕ)) (keys : List (List (List (List ℕ)))) → b < length keys → (x : Bool) → (b == c) ≡ x →
-    get_or (slice_set keys c (with_keys (get_or keys c []) ks)) b [] ≡ (if x then with_keys (get_or keys b []) ks else get_or keys b [])
-after_keys b c ks keys lt true e = let q : b ≡ c = eqb-true b c e in rw (← q) (get_or-set_same keys b (with_keys (get_or keys b []) ks) [] lt)
+after_keys : (b c : ℕ) (ks : List (List ℕ)) (keys : List (List (List (List ℕ)))) → b < length keys → (x : Bool) →
+    (b == c) ≡ x →
+    get_or (slice_set keys c (with_keys (get_or keys c []) ks)) b [] ≡
+    (if x then with_keys (get_or keys b []) ks else get_or keys b [])
+after_keys b c ks keys lt true e = let q : b ≡ c = eqb-true b c e in
+    rw (← q) (get_or-set_same keys b (with_keys (get_or keys b []) ks) [] lt)
 after_keys b c ks keys lt false e = get_or-set_other keys c b (with_keys (get_or keys c []) ks) [] (λ q. apart q)
   where
     apart : b ≡ c → ⊥
     apart q = let z : (b == b) ≡ false = ap (λ k. b == k) q ∙ e in absurd (grind (arith))
 
-pub tally_keys : (b : ℕ) (t : Tally) (us : List Use) → b < length t.keys → get_or (tally t us).keys b [] ≡ keys_from b (get_or t.keys b []) us
+pub tally_keys : (b : ℕ) (t : Tally) (us : List Use) → b < length t.keys →
+    get_or (tally t us).keys b [] ≡ keys_from b (get_or t.keys b []) us
 tally_keys b t [] lt = refl
 tally_keys b t (Text x ∷ us) lt = tally_keys b (tally_one t (Text x)) us lt
 tally_keys b t (Global x ∷ us) lt = tally_keys b (tally_one t (Global x)) us lt
 tally_keys b t (Keys c ks ∷ us) lt =
-    tally_keys b (tally_one t (Keys c ks)) us (omega (arith, lt, length-set t.keys c (with_keys (get_or t.keys c []) ks)))
+    tally_keys b (tally_one t (Keys c ks)) us
+    (omega (arith, lt, length-set t.keys c (with_keys (get_or t.keys c []) ks)))
     ∙ ap (λ z. keys_from b z us) (after_keys b c ks t.keys lt (b == c) refl)
 
 -- what a module uses was gathered, of so many bodies
@@ -74,15 +80,19 @@ module _ (all : List (List (List ℕ))) (ss : List Stmt) (n : ℕ) where
   start = record { texts = []; cells = []; keys = replicate n ([] ∷ []); next = 1 }
 
   pub module_told : (t0 t1 t2 : Tally) (place : Place) →
-      t0 ≡ record { texts = []; cells = []; keys = replicate n ([] ∷ []); next = 0 } → place ≡ record { number = t0.next; is_class = false } → t1 ≡ bump t0 1 →
+      t0 ≡ record { texts = []; cells = []; keys = replicate n ([] ∷ []); next = 0 } →
+      place ≡ record { number = t0.next; is_class = false } → t1 ≡ bump t0 1 →
       t2 ≡ after t1 (inside all place) (block_uses all ss) → Told n (module_uses (locals_in all) ss) t2
   unfolding start module_uses
   module_told t0 t1 t2 place e at f g = record {
     texts = ap (λ z. z.texts) final ∙ tally_texts start us ∙ ap (texts_from []) (sym same);
     cells = ap (λ z. z.cells) final ∙ tally_cells start us ∙ ap (cells_from []) (sym same);
     keys = record {
-      count = ap (λ z. length z.keys) final ∙ tally_count start us ∙ length-replicate {A = List (List (List ℕ))} n ([] ∷ []);
-      lists = λ b lt. ap (λ z. get_or z.keys b []) final ∙ tally_keys b start us (omega (arith, lt, length-replicate {A = List (List (List ℕ))} n ([] ∷ []))) ∙ ap (λ z. keys_from b z us) (get_or-replicate n b ([] ∷ []) [] lt) ∙ ap (keys_from b ([] ∷ [])) (sym same);
+      count = ap (λ z. length z.keys) final ∙ tally_count start us ∙
+          length-replicate {A = List (List (List ℕ))} n ([] ∷ []);
+      lists = λ b lt. ap (λ z. get_or z.keys b []) final ∙
+          tally_keys b start us (omega (arith, lt, length-replicate {A = List (List (List ℕ))} n ([] ∷ []))) ∙
+          ap (λ z. keys_from b z us) (get_or-replicate n b ([] ∷ []) [] lt) ∙ ap (keys_from b ([] ∷ [])) (sym same);
     };
   }
     where
@@ -95,7 +105,8 @@ module _ (all : List (List (List ℕ))) (ss : List Stmt) (n : ℕ) where
       final : t2 ≡ record (tally start us) { next = (tally start us).next + (block_uses all ss).bodies }
       final =
           g ∙ ap (λ z. after z (inside all place) (block_uses all ss)) (f ∙ ap (λ z. bump z 1) e)
-          ∙ ap (λ z. after start (inside all z) (block_uses all ss)) (at ∙ ap (λ z. record { number = z.next; is_class = false }) e)
+          ∙ ap (λ z. after start (inside all z) (block_uses all ss))
+          (at ∙ ap (λ z. record { number = z.next; is_class = false }) e)
           ∙ bump_is (tally start us) (block_uses all ss).bodies
 
 -- ---- the codes
@@ -110,10 +121,12 @@ length_take_below (x ∷ xs) zero lt = refl
 length_take_below (x ∷ xs) (suc i) lt = ap suc (length_take_below xs i (omega (arith, lt)))
 
 -- one body more, where these are numbered from 0 on
-pub numbered_next : (bs : List Gathered) (i : ℕ) (d : Gathered) → i < length bs → numbered 0 (take (i + 1) bs) ≡ numbered 0 (take i bs) ++ body_of i (get_or bs i d) ∷ []
+pub numbered_next : (bs : List Gathered) (i : ℕ) (d : Gathered) → i < length bs →
+    numbered 0 (take (i + 1) bs) ≡ numbered 0 (take i bs) ++ body_of i (get_or bs i d) ∷ []
 numbered_next bs i d lt =
     let n : 0 + length (take i bs) ≡ i = omega (arith, length_take_below bs i lt) in
-    ap (numbered 0) (take_more bs i d lt) ∙ numbered_more 0 (take i bs) (get_or bs i d) ∙ ap (λ k. numbered 0 (take i bs) ++ body_of k (get_or bs i d) ∷ []) n
+    ap (numbered 0) (take_more bs i d lt) ∙ numbered_more 0 (take i bs) (get_or bs i d) ∙
+    ap (λ k. numbered 0 (take i bs) ++ body_of k (get_or bs i d) ∷ []) n
 
 min_both : (a b c : ℕ) → min (min a b) c ≡ min a (min b c)
 min_both a b c = omega arith
@@ -135,18 +148,24 @@ least_apart (Some a) None e = cc
 least_apart (Some a) (Some b) e = cc
 
 module _ (known : ℕ → Body → Known) where
-  pub codes_more : (b : ℕ) (ys : List Body) (y : Body) → codes_from known b (ys ++ y ∷ []) ≡ codes_from known b ys ++ code_at (b + length ys) y (known (b + length ys) y) ∷ []
+  pub codes_more : (b : ℕ) (ys : List Body) (y : Body) → codes_from known b (ys ++ y ∷ []) ≡ codes_from known b ys ++
+      code_at (b + length ys) y (known (b + length ys) y) ∷ []
   codes_more b [] y = let e : b ≡ b + 0 = omega arith in ap (λ k. code_at k y (known k y) ∷ []) e
   codes_more b (x ∷ xs) y =
       let e : b + 1 + length xs ≡ b + suc (length xs) = omega arith in
-      ap (λ z. code_at b x (known b x) ∷ z) (codes_more (b + 1) xs y) ∙ ap (λ k. code_at b x (known b x) ∷ codes_from known (b + 1) xs ++ code_at k y (known k y) ∷ []) e
+      ap (λ z. code_at b x (known b x) ∷ z) (codes_more (b + 1) xs y) ∙
+      ap (λ k. code_at b x (known b x) ∷ codes_from known (b + 1) xs ++ code_at k y (known k y) ∷ []) e
 
-  pub large_more : (b : ℕ) (ys : List Body) (y : Body) → large_bodies known b (ys ++ y ∷ []) ≡ least (large_bodies known b ys) (large_at (b + length ys) y (known (b + length ys) y))
-  large_more b [] y = let e : b ≡ b + 0 = omega arith in least_none (large_at b y (known b y)) ∙ ap (λ k. large_at k y (known k y)) e
+  pub large_more : (b : ℕ) (ys : List Body) (y : Body) →
+      large_bodies known b (ys ++ y ∷ []) ≡ least (large_bodies known b ys)
+      (large_at (b + length ys) y (known (b + length ys) y))
+  large_more b [] y = let e : b ≡ b + 0 = omega arith in least_none (large_at b y (known b y)) ∙
+      ap (λ k. large_at k y (known k y)) e
   large_more b (x ∷ xs) y =
       let e : b + 1 + length xs ≡ b + suc (length xs) = omega arith in
       ap (λ z. least (large_at b x (known b x)) z) (large_more (b + 1) xs y)
-      ∙ sym (least_both (large_at b x (known b x)) (large_bodies known (b + 1) xs) (large_at (b + 1 + length xs) y (known (b + 1 + length xs) y)))
+      ∙ sym (least_both (large_at b x (known b x)) (large_bodies known (b + 1) xs)
+      (large_at (b + 1 + length xs) y (known (b + 1 + length xs) y)))
       ∙ ap (λ k. least (least (large_at b x (known b x)) (large_bodies known (b + 1) xs)) (large_at k y (known k y))) e
 
 -- within a list no default counts
@@ -185,27 +204,34 @@ module _ (locals : List (List (List ℕ))) (used : Tally) (bs : List Gathered) w
       larges =
           e ∙ ap (λ o. least found (large_at i (body_of i y) (known_by o used i y.is_class))) hown
           ∙ ap (λ o. least o (large_at i (body_of i y) (K i (body_of i y)))) so.1.0
-          ∙ ap (λ k. least (large_bodies K 0 (numbered 0 (take i bs))) (large_at k (body_of i y) (K k (body_of i y)))) (sym at)
+          ∙ ap (λ k. least (large_bodies K 0 (numbered 0 (take i bs))) (large_at k (body_of i y) (K k (body_of i y))))
+          (sym at)
           ∙ sym (large_more K 0 (numbered 0 (take i bs)) (body_of i y))
           ∙ ap (large_bodies K 0) (sym more)
 
       codes : found' ≡ None → out' ≡ codes_from K 0 (numbered 0 (take (i + 1) bs))
       codes none =
           f none
-          ∙ ap (λ z. z ++ code_at i (body_of i y) (known_by own used i y.is_class) ∷ []) (so.1.1 (least_apart found (large_at i (body_of i y) (known_by own used i y.is_class)) (sym e ∙ none)).0)
-          ∙ ap (λ o. codes_from K 0 (numbered 0 (take i bs)) ++ code_at i (body_of i y) (known_by o used i y.is_class) ∷ []) hown
-          ∙ ap (λ k. codes_from K 0 (numbered 0 (take i bs)) ++ code_at k (body_of i y) (K k (body_of i y)) ∷ []) (sym at)
+          ∙ ap (λ z. z ++ code_at i (body_of i y) (known_by own used i y.is_class) ∷ [])
+          (so.1.1 (least_apart found (large_at i (body_of i y) (known_by own used i y.is_class)) (sym e ∙ none)).0)
+          ∙ ap (λ o. codes_from K 0 (numbered 0 (take i bs)) ++ code_at i (body_of i y) (known_by o used i y.is_class)
+          ∷ []) hown
+          ∙ ap (λ k. codes_from K 0 (numbered 0 (take i bs)) ++ code_at k (body_of i y) (K k (body_of i y)) ∷ [])
+          (sym at)
           ∙ sym (codes_more K 0 (numbered 0 (take i bs)) (body_of i y))
           ∙ ap (codes_from K 0) (sym more)
 
-  pub codes_turn : (i number : ℕ) (y : Gathered) (own : List (List ℕ)) (found found' : Option ℕ) (out out' : List Code) →
-      i < length bs → length bs ≤ length locals → y ≡ get_or bs i y → own ≡ get_or locals number own → SoFar i number found out →
+  pub codes_turn : (i number : ℕ) (y : Gathered) (own : List (List ℕ)) (found found' : Option ℕ) (out out' : List Code)
+      →
+      i < length bs → length bs ≤ length locals → y ≡ get_or bs i y → own ≡ get_or locals number own →
+      SoFar i number found out →
       found' ≡ least found (large_at number (body_of number y) (known_by own used number y.is_class)) →
       (found' ≡ None → out' ≡ out ++ code_at number (body_of number y) (known_by own used number y.is_class) ∷ []) →
       SoFar (i + 1) (number + 1) found' out'
   codes_turn i number y own found found' out out' lt long hy hown so e f =
       subst (λ n. SoFar (i + 1) (n + 1) found' out') (sym so.0)
-      (turn_at i y own found found' out out' lt hy (subst (λ n. own ≡ get_or locals n own) so.0 hown ∙ within_list locals i own [] (omega (arith, lt, long))) (refl, so.1)
+      (turn_at i y own found found' out out' lt hy (subst (λ n. own ≡ get_or locals n own) so.0 hown ∙
+      within_list locals i own [] (omega (arith, lt, long))) (refl, so.1)
       (subst (λ n. found' ≡ least found (large_at n (body_of n y) (known_by own used n y.is_class))) so.0 e)
       (subst (λ n. found' ≡ None → out' ≡ out ++ code_at n (body_of n y) (known_by own used n y.is_class) ∷ []) so.0 f))
 
@@ -231,17 +257,29 @@ places_agree (x ∷ xs) zero p h = ap (λ o. unwrap_or o 0) h
 places_agree (x ∷ xs) (suc l) p h = places_agree xs l p h
 
 -- what was emitted from the start on
-pub emitted_code : (k : ℕ) (e : St) (p : Piece) → Emitted (fresh k) e p no_frames → done (places_of e.labels) e.code ≡ p.code [] 0 k
+pub emitted_code : (k : ℕ) (e : St) (p : Piece) → Emitted (fresh k) e p no_frames →
+    done (places_of e.labels) e.code ≡ p.code [] 0 k
 emitted_code k e p h = h.code (places_of e.labels) (places_agree e.labels)
 
 -- a code is what its parts are
-pub code_is : (b : ℕ) (y : Body) (n n' : Known) (named hidden : ℕ) (e0 e : St) (is : List Instr) (ls : List ℕ) (ss : List (List ℕ)) (ks : List (List ℕ)) (lists : List (List (List ℕ))) (nm : List ℕ) →
-    n ≡ n' → e0 ≡ fresh named → named ≡ length (slots_named y.is_class n'.locals) → Emitted e0 e (whole b y n) no_frames →
-    is ≡ done (places_of e.labels) e.code → ls ≡ e.lines → ss ≡ slots_named y.is_class n'.locals ++ replicate hidden [] → hidden ≡ e.slots - named →
+pub code_is : (b : ℕ) (y : Body) (n n' : Known) (named hidden : ℕ) (e0 e : St) (is : List Instr) (ls : List ℕ)
+    (ss : List (List ℕ)) (ks : List (List ℕ)) (lists : List (List (List ℕ))) (nm : List ℕ) →
+    n ≡ n' → e0 ≡ fresh named → named ≡ length (slots_named y.is_class n'.locals) →
+    Emitted e0 e (whole b y n) no_frames →
+    is ≡ done (places_of e.labels) e.code → ls ≡ e.lines → ss ≡ slots_named y.is_class n'.locals ++ replicate hidden []
+    → hidden ≡ e.slots - named →
     ks ≡ map (map (text n)) lists → lists ≡ n'.keys → nm ≡ y.name →
     record { name = nm; instrs = is; lines = ls; slots = ss; params = y.params; keys = ks } ≡ code_at b y n'
 code_is b y n n' named hidden e0 e is ls ss ks lists nm hn he hk em hi hl hs hh hkeys hlists hname =
-    λ i. record { name = hname i; instrs = (hi ∙ emitted_code k e p whole_em) i; lines = (hl ∙ whole_em.lines) i; slots = (hs ∙ ap (λ h. slots_named y.is_class n'.locals ++ replicate h []) left) i; params = y.params; keys = (hkeys ∙ ap (λ z. map (map (text z)) lists) hn ∙ ap (map (map (text n'))) hlists) i }
+    λ i. record {
+      name = hname i;
+      instrs = (hi ∙ emitted_code k e p whole_em) i;
+      lines = (hl ∙ whole_em.lines) i;
+      slots = (hs ∙ ap (λ h. slots_named y.is_class n'.locals ++ replicate h []) left) i;
+      params = y.params;
+      keys =
+          (hkeys ∙ ap (λ z. map (map (text z)) lists) hn ∙ ap (map (map (text n'))) hlists) i;
+    }
   where
     k : ℕ
     k = length (slots_named y.is_class n'.locals)
@@ -250,17 +288,24 @@ code_is b y n n' named hidden e0 e is ls ss ks lists nm hn he hk em hi hl hs hh 
     p = whole b y n'
 
     whole_em : Emitted (fresh k) e p no_frames
-    whole_em = subst (λ z. Emitted (fresh k) e (whole b y z) no_frames) hn (subst (λ z. Emitted z e (whole b y n) no_frames) (he ∙ ap fresh hk) em)
+    whole_em = subst (λ z. Emitted (fresh k) e (whole b y z) no_frames) hn
+        (subst (λ z. Emitted z e (whole b y n) no_frames) (he ∙ ap fresh hk) em)
 
     left : hidden ≡ p.slots
     left = omega (arith, hh, hk, whole_em.slots)
 
 module _ (line : ℕ) (b : Piece) (env : List ℕ → List Frame) where
-  pub body_arm : (e m1 m2 m3 : St) → Emitted e m1 b env → m2 ≡ put m1 line (DraftOp (Const NoValue)) → m3 ≡ put m2 line (DraftOp Return) → Emitted e m3 (body_code line b) env
-  body_arm e m1 m2 m3 h1 h2 h3 = plain_emitted line env (Sub 1 b ∷ Op (Const NoValue) ∷ Op Return ∷ []) e m3 refl refl (m1, h1, (m2, h2, (m3, h3, refl)))
+  pub body_arm : (e m1 m2 m3 : St) → Emitted e m1 b env → m2 ≡ put m1 line (DraftOp (Const NoValue)) →
+      m3 ≡ put m2 line (DraftOp Return) → Emitted e m3 (body_code line b) env
+  body_arm e m1 m2 m3 h1 h2 h3 = plain_emitted line env (Sub 1 b ∷ Op (Const NoValue) ∷ Op Return ∷ []) e m3 refl refl
+      (m1, h1, (m2, h2, (m3, h3, refl)))
 
-  pub module_arm : (e m0 m1 m2 m3 : St) → m0 ≡ put e line (DraftOp Setup) → Emitted m0 m1 b env → m2 ≡ put m1 line (DraftOp (Const NoValue)) → m3 ≡ put m2 line (DraftOp Return) → Emitted e m3 (module_code line b) env
-  module_arm e m0 m1 m2 m3 h0 h1 h2 h3 = plain_emitted line env (Op Setup ∷ Sub 1 b ∷ Op (Const NoValue) ∷ Op Return ∷ []) e m3 refl refl (m0, h0, (m1, h1, (m2, h2, (m3, h3, refl))))
+  pub module_arm : (e m0 m1 m2 m3 : St) → m0 ≡ put e line (DraftOp Setup) → Emitted m0 m1 b env →
+      m2 ≡ put m1 line (DraftOp (Const NoValue)) → m3 ≡ put m2 line (DraftOp Return) →
+      Emitted e m3 (module_code line b) env
+  module_arm e m0 m1 m2 m3 h0 h1 h2 h3 =
+      plain_emitted line env (Op Setup ∷ Sub 1 b ∷ Op (Const NoValue) ∷ Op Return ∷ []) e m3 refl refl
+      (m0, h0, (m1, h1, (m2, h2, (m3, h3, refl))))
 
 -- ---- the roots
 
@@ -269,4 +314,5 @@ classes_more c zero = let e : c ≡ c + 0 = omega arith in ap (λ k. class_roots
 classes_more c (suc n) =
     let e : c + 1 + n ≡ c + suc n = omega arith in
     let f : suc n + 1 ≡ suc (n + 1) = omega arith in
-    ap (class_roots c) f ∙ ap (λ z. class_roots c 1 ++ z) (classes_more (c + 1) n) ∙ ap (λ k. class_roots c (suc n) ++ class_roots k 1) e
+    ap (class_roots c) f ∙ ap (λ z. class_roots c 1 ++ z) (classes_more (c + 1) n) ∙
+    ap (λ k. class_roots c (suc n) ++ class_roots k 1) e

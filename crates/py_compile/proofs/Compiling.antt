@@ -22,8 +22,11 @@ use Rattle.py_compile.specs.Whole.{bodies, codes_from, is_long, large_bodies, na
 use Rattle.py_compile.proofs.Compiled.{Told, length_numbered, codes_same, large_same}
 
 -- what was gathered, by what calls say of it
-pub told_is : (all : List (List (List ℕ))) (ss : List Stmt) (n : ℕ) (used : Tally) (all' : List (List (List ℕ))) (ss' : List Stmt) (n' : ℕ) → all ≡ all' → ss ≡ ss' → n ≡ n' →
-    used.texts ≡ texts_from [] (module_uses (locals_in all) ss) → used.cells ≡ cells_from [] (module_uses (locals_in all) ss) → Listed n used.keys (module_uses (locals_in all) ss) →
+pub told_is : (all : List (List (List ℕ))) (ss : List Stmt) (n : ℕ) (used : Tally) (all' : List (List (List ℕ)))
+    (ss' : List Stmt) (n' : ℕ) → all ≡ all' → ss ≡ ss' → n ≡ n' →
+    used.texts ≡ texts_from [] (module_uses (locals_in all) ss) →
+    used.cells ≡ cells_from [] (module_uses (locals_in all) ss) →
+    Listed n used.keys (module_uses (locals_in all) ss) →
     Told n' (module_uses (locals_in all') ss') used
 told_is all ss n used all' ss' n' ea es en t c k =
     subst (λ z. Told z (module_uses (locals_in all') ss') used) en
@@ -44,9 +47,11 @@ not_past a b c le e = by (nat_lt a c) refl
 pub padded_is : (n n' : ℕ) (xs xs' ys : List (List (List ℕ))) → n ≡ n' → xs ≡ xs' → Padded n xs ys → Padded n' xs' ys
 padded_is n n' xs xs' ys en ex p = subst (λ z. Padded z xs' ys) en (subst (λ z. Padded n z ys) ex p)
 
-pub codes_said : (used : Tally) (l l' : List (List (List ℕ))) (ys ys' : List Gathered) (r : Result (List Code) CompileError) → l ≡ l' → ys ≡ ys' →
+pub codes_said : (used : Tally) (l l' : List (List (List ℕ))) (ys ys' : List Gathered)
+    (r : Result (List Code) CompileError) → l ≡ l' → ys ≡ ys' →
     CodesOf (known_in l used) (numbered 0 ys) r → CodesOf (known_in l' used) (numbered 0 ys') r
-codes_said used l l' ys ys' r el ey h = subst (λ z. CodesOf (known_in l' used) (numbered 0 z) r) ey (subst (λ z. CodesOf (known_in z used) (numbered 0 ys) r) el h)
+codes_said used l l' ys ys' r el ey h = subst (λ z. CodesOf (known_in l' used) (numbered 0 z) r) ey
+    (subst (λ z. CodesOf (known_in z used) (numbered 0 ys) r) el h)
 
 module _ (scopes : List Scope) (m : Module) (bs : List Gathered) (eb : numbered 0 bs ≡ bodies m.body) where
   count : length (bodies m.body) ≡ length bs
@@ -60,41 +65,62 @@ module _ (scopes : List Scope) (m : Module) (bs : List Gathered) (eb : numbered 
     pub roots_are : roots_with used.texts used.cells ≡ roots (bound_in scopes) m.body
     roots_are = λ i. roots_with (told.texts i) (told.cells i)
 
-    tests : too_many (bound_in scopes) m.body ≡ (if nat_lt 65535 (length bs) then true else (if nat_lt 65535 (length (roots_with used.texts used.cells)) then true else list_any is_long used.texts))
-    tests = sym (λ i. if nat_lt 65535 (sym count i) then true else (if nat_lt 65535 (length (roots_are i)) then true else list_any is_long (told.texts i)))
+    tests : too_many (bound_in scopes) m.body ≡
+        (if nat_lt 65535 (length bs) then true else
+        (if nat_lt 65535 (length (roots_with used.texts used.cells)) then true else list_any is_long used.texts))
+    tests = sym (λ i. if nat_lt 65535 (sym count i) then true else
+        (if nat_lt 65535 (length (roots_are i)) then true else list_any is_long (told.texts i)))
 
-    pub many_roots : nat_lt 65535 (length bs) ≡ false → nat_lt 65535 (length (roots_with used.texts used.cells)) ≡ true → too_large_in (bound_in scopes) m ≡ Some 1
+    pub many_roots : nat_lt 65535 (length bs) ≡ false → nat_lt 65535 (length (roots_with used.texts used.cells)) ≡ true
+        → too_large_in (bound_in scopes) m ≡ Some 1
     unfolding too_large_in
     many_roots h1 h2 = rw (tests, h1, h2) refl
 
-    pub long_text : nat_lt 65535 (length bs) ≡ false → nat_lt 65535 (length (roots_with used.texts used.cells)) ≡ false → list_any is_long used.texts ≡ true → too_large_in (bound_in scopes) m ≡ Some 1
+    pub long_text : nat_lt 65535 (length bs) ≡ false → nat_lt 65535 (length (roots_with used.texts used.cells)) ≡ false
+        → list_any is_long used.texts ≡ true → too_large_in (bound_in scopes) m ≡ Some 1
     unfolding too_large_in
     long_text h1 h2 h3 = rw (tests, h1, h2, h3) refl
 
     module _ (locals : List (List (List ℕ))) (padded : Padded (length bs) (bound_in scopes) locals) where
       same : (b : ℕ) (y : Body) → b < length bs → known_in locals used b y ≡ names_of (bound_in scopes) m.body b y
-      same b y lt = λ i. record { is_class = y.is_class; locals = padded.same b i; texts = told.texts i; cells = told.cells i; keys = told.keys.lists b lt i }
+      same b y lt = λ i. record {
+        is_class = y.is_class;
+        locals = padded.same b i;
+        texts = told.texts i;
+        cells =
+            told.cells i;
+        keys = told.keys.lists b lt i;
+      }
 
-      pub large_is : nat_lt 65535 (length bs) ≡ false → nat_lt 65535 (length (roots_with used.texts used.cells)) ≡ false → list_any is_long used.texts ≡ false →
+      pub large_is : nat_lt 65535 (length bs) ≡ false → nat_lt 65535 (length (roots_with used.texts used.cells)) ≡
+          false → list_any is_long used.texts ≡ false →
           too_large_in (bound_in scopes) m ≡ large_bodies (known_in locals used) 0 (numbered 0 bs)
       unfolding too_large_in
       large_is h1 h2 h3 =
           let n = length_numbered 0 bs in
-          rw (tests, h1, h2, h3) (sym (large_same (known_in locals used) (names_of (bound_in scopes) m.body) (length bs) same 0 (numbered 0 bs) (omega (arith, n)) ∙ ap (large_bodies (names_of (bound_in scopes) m.body) 0) eb))
+          rw (tests, h1, h2, h3) (sym (large_same (known_in locals used) (names_of (bound_in scopes) m.body)
+          (length bs) same 0 (numbered 0 bs) (omega (arith, n)) ∙
+          ap (large_bodies (names_of (bound_in scopes) m.body) 0) eb))
 
-      pub program_is : program_of (bound_in scopes) m ≡ record { codes = codes_from (known_in locals used) 0 (numbered 0 bs); roots = roots_with used.texts used.cells }
+      pub program_is : program_of (bound_in scopes) m ≡ record
+          { codes = codes_from (known_in locals used) 0 (numbered 0 bs); roots = roots_with used.texts used.cells }
       unfolding program_of
       program_is =
           let n = length_numbered 0 bs in
-          let cs : codes_from (known_in locals used) 0 (numbered 0 bs) ≡ codes_from (names_of (bound_in scopes) m.body) 0 (bodies m.body) =
-          codes_same (known_in locals used) (names_of (bound_in scopes) m.body) (length bs) same 0 (numbered 0 bs) (omega (arith, n)) ∙ ap (codes_from (names_of (bound_in scopes) m.body) 0) eb in
+          let cs : codes_from (known_in locals used) 0 (numbered 0 bs) ≡ codes_from (names_of (bound_in scopes) m.body)
+          0 (bodies m.body) =
+          codes_same (known_in locals used) (names_of (bound_in scopes) m.body) (length bs) same 0 (numbered 0 bs)
+          (omega (arith, n)) ∙ ap (codes_from (names_of (bound_in scopes) m.body) 0) eb in
           λ i. record { codes = sym cs i; roots = sym roots_are i }
 
-      pub compiles_err : (e : CompileError) → too_large_in (bound_in scopes) m ≡ large_bodies (known_in locals used) 0 (numbered 0 bs) →
+      pub compiles_err : (e : CompileError) → too_large_in (bound_in scopes) m ≡ large_bodies (known_in locals used) 0
+          (numbered 0 bs) →
           CodesOf (known_in locals used) (numbered 0 bs) (Err e) → Compiles m scopes (Err e)
       compiles_err (Refused r) e h = ap (option_map TooLarge) e ∙ h
       compiles_err OutOfMemory e h = tt
 
-      pub compiles_ok : (cs : List Code) (rs : List Root) → too_large_in (bound_in scopes) m ≡ large_bodies (known_in locals used) 0 (numbered 0 bs) →
-          CodesOf (known_in locals used) (numbered 0 bs) (Ok cs) → rs ≡ roots_with used.texts used.cells → Compiles m scopes (Ok (record { codes = cs; roots = rs }))
+      pub compiles_ok : (cs : List Code) (rs : List Root) →
+          too_large_in (bound_in scopes) m ≡ large_bodies (known_in locals used) 0 (numbered 0 bs) →
+          CodesOf (known_in locals used) (numbered 0 bs) (Ok cs) → rs ≡ roots_with used.texts used.cells →
+          Compiles m scopes (Ok (record { codes = cs; roots = rs }))
       compiles_ok cs rs e h r = (e ∙ h.0, (λ i. record { codes = h.1 i; roots = r i }) ∙ sym program_is)

@@ -12,21 +12,25 @@ use Rattle.py_compile.proofs.Blocks.{AroundFits, low, Does, Clause, IsHome, stor
 
 module _ (k : Limits) where
   module _ (ln : ℕ) where
-    pub def_does : (c : List Around) (ds : List Piece) (f : ℕ) (x : Home) → IsHome k ln x → Each (Value k) ds → IsKnown k (MakeFunction f (length ds)) → Does k c (def ln ds f x)
+    pub def_does : (c : List Around) (ds : List Piece) (f : ℕ) (x : Home) → IsHome k ln x → Each (Value k) ds →
+        IsKnown k (MakeFunction f (length ds)) → Does k c (def ln ds f x)
     def_does c ds f x ix vs kn = record {
       typed = λ gs h bs fits room. let le = low k c gs h bs fits in
-          template_typed k ln 0 0 (Alone (row ds) ∷ Op (MakeFunction f (length ds)) ∷ Op (store x) ∷ []) [] gs _ _ refl refl (
+          template_typed k ln 0 0 (Alone (row ds) ∷ Op (MakeFunction f (length ds)) ∷ Op (store x) ∷ []) [] gs _ _ refl
+          refl (
             sh (h + length ds) bs,
             values k ds h bs vs le (omega (arith, room)),
             (
               sh (h + 1) bs,
-              op k (MakeFunction f (length ds)) (h + length ds) (h + 1) bs refl kn (omega (arith, le)) (omega (arith, room, many_values k ds vs)) (omega arith),
+              op k (MakeFunction f (length ds)) (h + length ds) (h + 1) bs refl kn (omega (arith, le))
+                  (omega (arith, room, many_values k ds vs)) (omega arith),
               (sh h bs, store_home k ln x h bs ix le (omega (arith, room)), refl),
             ),
           );
     }
 
-    pub class_does : (c : List Around) (b : Piece) (f : ℕ) (x : Home) → IsHome k ln x → Value k b → IsKnown k (ClassBody f) → Does k c (class ln b f x)
+    pub class_does : (c : List Around) (b : Piece) (f : ℕ) (x : Home) → IsHome k ln x → Value k b →
+        IsKnown k (ClassBody f) → Does k c (class ln b f x)
     class_does c b f x ix vb kn = record {
       typed = λ gs h bs fits room. let le = low k c gs h bs fits in
           template_typed k ln 0 0 (Alone b ∷ Op (ClassBody f) ∷ Op (store x) ∷ []) [] gs _ _ refl refl (
@@ -42,16 +46,21 @@ module _ (k : Limits) where
 
     -- an arm: E is the end of its `if`
     pub record Arm (c : List Around) (b : Piece) : Type 0 where
-      pub typed : (gs : List Ring) (h : ℕ) (bs : List ℕ) → AroundFits k c (drop 1 gs) h bs → get_or (ring_at gs 0).labels E None ≡ Some (sh h bs) → Room h b → Typed k b gs (sh h bs) (sh h bs)
+      pub typed : (gs : List Ring) (h : ℕ) (bs : List ℕ) → AroundFits k c (drop 1 gs) h bs →
+          get_or (ring_at gs 0).labels E None ≡ Some (sh h bs) → Room h b → Typed k b gs (sh h bs) (sh h bs)
 
-    each_arm : (c : List Around) (gs : List Ring) (h : ℕ) (bs : List ℕ) (ps : List Piece) → AroundFits k c (drop 1 gs) h bs → get_or (ring_at gs 0).labels E None ≡ Some (sh h bs) → Each (Arm c) ps → h + size_of (map (Sub 1) ps) + 8 < 2 ^ 32 → Each (λ b. Typed k b gs (sh h bs) (sh h bs)) ps
+    each_arm : (c : List Around) (gs : List Ring) (h : ℕ) (bs : List ℕ) (ps : List Piece) →
+        AroundFits k c (drop 1 gs) h bs → get_or (ring_at gs 0).labels E None ≡ Some (sh h bs) → Each (Arm c) ps →
+        h + size_of (map (Sub 1) ps) + 8 < 2 ^ 32 → Each (λ b. Typed k b gs (sh h bs) (sh h bs)) ps
     each_arm c gs h bs [] f far vs room = tt
-    each_arm c gs h bs (p ∷ ps) f far (v, vs) room = (v.typed gs h bs f far (omega (arith, room)), each_arm c gs h bs ps f far vs (omega (arith, room)))
+    each_arm c gs h bs (p ∷ ps) f far (v, vs) room =
+        (v.typed gs h bs f far (omega (arith, room)), each_arm c gs h bs ps f far vs (omega (arith, room)))
 
     pub arm_is : (c : List Around) (t body : Piece) → Value k t → Does k c body → Arm c (arm ln t body)
     arm_is c t body vt vb = record {
       typed = λ gs h bs f far room. let le = low k c (drop 1 gs) h bs f in
-          template_typed k ln 0 1 (Alone t ∷ To 0 JumpFalse M ∷ Sub 2 body ∷ To 1 Jump E ∷ Here M ∷ []) (Some (sh h bs) ∷ []) gs _ _ refl refl (
+          template_typed k ln 0 1 (Alone t ∷ To 0 JumpFalse M ∷ Sub 2 body ∷ To 1 Jump E ∷ Here M ∷ [])
+          (Some (sh h bs) ∷ []) gs _ _ refl refl (
             sh (h + 1) bs,
             vt.typed h bs le (omega (arith, room)),
             (
@@ -70,18 +79,24 @@ module _ (k : Limits) where
           );
     }
 
-    pub all_arms_does : (c : List Around) (ps : List Piece) (other : Piece) → Each (Arm c) ps → Does k c other → Does k c (all_arms ln ps other)
+    pub all_arms_does : (c : List Around) (ps : List Piece) (other : Piece) → Each (Arm c) ps → Does k c other →
+        Does k c (all_arms ln ps other)
     all_arms_does c ps other vs vo = record {
       typed = λ gs h bs f room.
           let g : Ring = own_ring 0 (Some (sh h bs) ∷ []) in
-          template_typed k ln 0 1 (Sub 0 (row ps) ∷ Sub 1 other ∷ Here E ∷ []) (Some (sh h bs) ∷ []) gs _ _ refl refl
-          (sh h bs, same k (g ∷ gs) ps (sh h bs) (each_arm c (g ∷ gs) h bs ps f refl vs (omega (arith, room))), (sh h bs, vo.typed gs h bs f (omega (arith, room)), (sh h bs, (refl, refl), refl)));
+          template_typed k ln 0 1 (Sub 0 (row ps) ∷ Sub 1 other ∷ Here E ∷ []) (Some (sh h bs) ∷ []) gs _ _ refl refl (
+            sh h bs,
+            same k (g ∷ gs) ps (sh h bs) (each_arm c (g ∷ gs) h bs ps f refl vs (omega (arith, room))),
+            (sh h bs, vo.typed gs h bs f (omega (arith, room)), (sh h bs, (refl, refl), refl)),
+          );
     }
 
-    pub while_does : (c : List Around) (t body other : Piece) → Value k t → Does k (InWhile ∷ c) body → Does k c other → Does k c (while ln t body other)
+    pub while_does : (c : List Around) (t body other : Piece) → Value k t → Does k (InWhile ∷ c) body →
+        Does k c other → Does k c (while ln t body other)
     while_does c t body other vt vb vo = record {
       typed = λ gs h bs f room. let le = low k c gs h bs f in
-          template_typed k ln 0 3 (Here A ∷ Alone t ∷ To 0 JumpFalse B ∷ Sub 0 body ∷ To 0 Jump A ∷ Here B ∷ Sub 1 other ∷ Here E ∷ []) (Some (sh h bs) ∷ Some (sh h bs) ∷ Some (sh h bs) ∷ []) gs _ _ refl refl (
+          template_typed k ln 0 3 (Here A ∷ Alone t ∷ To 0 JumpFalse B ∷ Sub 0 body ∷ To 0 Jump A ∷ Here B ∷ Sub 1
+          other ∷ Here E ∷ []) (Some (sh h bs) ∷ Some (sh h bs) ∷ Some (sh h bs) ∷ []) gs _ _ refl refl (
             sh h bs,
             (refl, refl),
             (
@@ -112,10 +127,13 @@ module _ (k : Limits) where
           );
     }
 
-    pub for_does : (c : List Around) (t e body other : Piece) → Store k t → Value k e → Does k (InFor ∷ c) body → Does k c other → Does k c (for ln t e body other)
+    pub for_does : (c : List Around) (t e body other : Piece) → Store k t → Value k e → Does k (InFor ∷ c) body →
+        Does k c other → Does k c (for ln t e body other)
     for_does c t e body other vt ve vb vo = record {
       typed = λ gs h bs f room. let le = low k c gs h bs f in
-          template_typed k ln 0 3 (Alone e ∷ Op Iter ∷ Here A ∷ To 0 Next B ∷ Alone t ∷ Sub 0 body ∷ To 0 Jump A ∷ Here B ∷ Sub 1 other ∷ Here E ∷ []) (Some (sh h bs) ∷ Some (sh (h + 1) bs) ∷ Some (sh h bs) ∷ []) gs _ _ refl refl (
+          template_typed k ln 0 3 (Alone e ∷ Op Iter ∷ Here A ∷ To 0 Next B ∷ Alone t ∷ Sub 0 body ∷ To 0 Jump A ∷ Here
+          B ∷ Sub 1 other ∷ Here E ∷ []) (Some (sh h bs) ∷ Some (sh (h + 1) bs) ∷ Some (sh h bs) ∷ []) gs _ _ refl
+          refl (
             sh (h + 1) bs,
             ve.typed h bs le (omega (arith, room)),
             (
@@ -154,20 +172,28 @@ module _ (k : Limits) where
           );
     }
 
-    match_op : (h : ℕ) (bs : List ℕ) → floor_of bs ≤ h → h + 4 < 2 ^ 32 → Goes k ExcMatch (sh (h + 1 + 1) bs) (sh (h + 1) bs)
-    match_op h bs le room = op k ExcMatch (h + 1 + 1) (h + 1) bs refl tt (omega (arith, le)) (omega (arith, room)) (omega arith)
+    match_op : (h : ℕ) (bs : List ℕ) → floor_of bs ≤ h → h + 4 < 2 ^ 32 →
+        Goes k ExcMatch (sh (h + 1 + 1) bs) (sh (h + 1) bs)
+    match_op h bs le room = op k ExcMatch (h + 1 + 1) (h + 1) bs refl tt (omega (arith, le)) (omega (arith, room))
+        (omega arith)
 
-    pub clause_bare_is : (c : List Around) (body : Piece) → Does k (InClause ∷ c) body → Clause k c (clause_bare ln body)
+    pub clause_bare_is : (c : List Around) (body : Piece) → Does k (InClause ∷ c) body →
+        Clause k c (clause_bare ln body)
     clause_bare_is c body vb = record {
       typed = λ gs h bs f end room. let le = low k (InClause ∷ c) gs h bs f in
-          template_typed k ln 0 0 (Sub 1 body ∷ To 1 Jump E ∷ []) [] gs _ _ refl refl
-          (sh h bs, vb.typed gs h bs f (omega (arith, room)), (sh h bs, (sh h bs, end, jump_op k h bs (sh h bs) le (omega (arith, room))), refl));
+          template_typed k ln 0 0 (Sub 1 body ∷ To 1 Jump E ∷ []) [] gs _ _ refl refl (
+            sh h bs,
+            vb.typed gs h bs f (omega (arith, room)),
+            (sh h bs, (sh h bs, end, jump_op k h bs (sh h bs) le (omega (arith, room))), refl),
+          );
     }
 
-    pub clause_test_is : (c : List Around) (t body : Piece) → Value k t → Does k (InClause ∷ c) body → Clause k c (clause_test ln t body)
+    pub clause_test_is : (c : List Around) (t body : Piece) → Value k t → Does k (InClause ∷ c) body →
+        Clause k c (clause_test ln t body)
     clause_test_is c t body vt vb = record {
       typed = λ gs h bs f end room. let le = low k (InClause ∷ c) gs h bs f in
-          template_typed k ln 0 1 (Hidden 1 LoadLocal ∷ Alone t ∷ Op ExcMatch ∷ To 0 JumpFalse M ∷ Sub 1 body ∷ To 1 Jump E ∷ Here M ∷ []) (Some (sh h bs) ∷ []) gs _ _ refl refl (
+          template_typed k ln 0 1 (Hidden 1 LoadLocal ∷ Alone t ∷ Op ExcMatch ∷ To 0 JumpFalse M ∷ Sub 1 body ∷ To 1
+          Jump E ∷ Here M ∷ []) (Some (sh h bs) ∷ []) gs _ _ refl refl (
             sh (h + 1) bs,
             (f.0, λ r lt. load_op k r h bs lt le (omega (arith, room))),
             (
@@ -194,10 +220,12 @@ module _ (k : Limits) where
           );
     }
 
-    pub clause_target_is : (c : List Around) (t x body : Piece) → Value k t → Store k x → Does k (InClause ∷ c) body → Clause k c (clause_target ln t x body)
+    pub clause_target_is : (c : List Around) (t x body : Piece) → Value k t → Store k x → Does k (InClause ∷ c) body →
+        Clause k c (clause_target ln t x body)
     clause_target_is c t x body vt vx vb = record {
       typed = λ gs h bs f end room. let le = low k (InClause ∷ c) gs h bs f in
-          template_typed k ln 0 1 (Hidden 1 LoadLocal ∷ Alone t ∷ Op ExcMatch ∷ To 0 JumpFalse M ∷ Hidden 1 LoadLocal ∷ Alone x ∷ Sub 1 body ∷ To 1 Jump E ∷ Here M ∷ []) (Some (sh h bs) ∷ []) gs _ _ refl refl (
+          template_typed k ln 0 1 (Hidden 1 LoadLocal ∷ Alone t ∷ Op ExcMatch ∷ To 0 JumpFalse M ∷ Hidden 1 LoadLocal ∷
+          Alone x ∷ Sub 1 body ∷ To 1 Jump E ∷ Here M ∷ []) (Some (sh h bs) ∷ []) gs _ _ refl refl (
             sh (h + 1) bs,
             (f.0, λ r lt. load_op k r h bs lt le (omega (arith, room))),
             (
@@ -232,15 +260,23 @@ module _ (k : Limits) where
           );
     }
 
-    each_clause : (c : List Around) (gs : List Ring) (h : ℕ) (bs : List ℕ) (ps : List Piece) → AroundFits k (InClause ∷ c) gs h bs → get_or (ring_at gs 0).labels E None ≡ Some (sh h bs) → Each (Clause k c) ps → h + size_of (map (Sub 1) ps) + 8 < 2 ^ 32 → Each (λ b. Typed k b gs (sh h bs) (sh h bs)) ps
+    each_clause : (c : List Around) (gs : List Ring) (h : ℕ) (bs : List ℕ) (ps : List Piece) →
+        AroundFits k (InClause ∷ c) gs h bs → get_or (ring_at gs 0).labels E None ≡ Some (sh h bs) →
+        Each (Clause k c) ps → h + size_of (map (Sub 1) ps) + 8 < 2 ^ 32 →
+        Each (λ b. Typed k b gs (sh h bs) (sh h bs)) ps
     each_clause c gs h bs [] f end vs room = tt
-    each_clause c gs h bs (p ∷ ps) f end (v, vs) room = (v.typed gs h bs f end (omega (arith, room)), each_clause c gs h bs ps f end vs (omega (arith, room)))
+    each_clause c gs h bs (p ∷ ps) f end (v, vs) room =
+        (v.typed gs h bs f end (omega (arith, room)), each_clause c gs h bs ps f end vs (omega (arith, room)))
 
-    pub try_except_does : (c : List Around) (body : Piece) (clauses : List Piece) (other : Piece) → Does k (InTry ∷ c) body → Each (Clause k c) clauses → Does k c other → Does k c (try_except ln body clauses other)
+    pub try_except_does : (c : List Around) (body : Piece) (clauses : List Piece) (other : Piece) →
+        Does k (InTry ∷ c) body → Each (Clause k c) clauses → Does k c other →
+        Does k c (try_except ln body clauses other)
     try_except_does c body clauses other vb vs vo = record {
       typed = λ gs h bs f room. let le = low k c gs h bs f in
           let g : Ring = own_ring 1 (Some (sh h bs) ∷ Some (sh (h + 1) bs) ∷ []) in
-          template_typed k ln 1 2 (To 0 Try H ∷ Sub 0 body ∷ Op PopTry ∷ Sub 1 other ∷ To 0 Jump E ∷ Here H ∷ Hidden 0 StoreLocal ∷ Sub 0 (row clauses) ∷ Hidden 0 LoadLocal ∷ Op Raise ∷ Here E ∷ []) (Some (sh h bs) ∷ Some (sh (h + 1) bs) ∷ []) gs _ _ refl refl (
+          template_typed k ln 1 2 (To 0 Try H ∷ Sub 0 body ∷ Op PopTry ∷ Sub 1 other ∷ To 0 Jump E ∷ Here H ∷ Hidden 0
+          StoreLocal ∷ Sub 0 (row clauses) ∷ Hidden 0 LoadLocal ∷ Op Raise ∷ Here E ∷ [])
+          (Some (sh h bs) ∷ Some (sh (h + 1) bs) ∷ []) gs _ _ refl refl (
             sh h (h ∷ bs),
             (sh (h + 1) bs, refl, try_op k h bs le (omega (arith, room))),
             (
@@ -263,7 +299,8 @@ module _ (k : Limits) where
                         (omega arith, λ r lt. store_op k r h bs lt le (omega (arith, room))),
                         (
                           sh h bs,
-                          same k (g ∷ gs) clauses (sh h bs) (each_clause c (g ∷ gs) h bs clauses (omega arith, f) refl vs (omega (arith, room))),
+                          same k (g ∷ gs) clauses (sh h bs)
+                              (each_clause c (g ∷ gs) h bs clauses (omega arith, f) refl vs (omega (arith, room))),
                           (
                             sh (h + 1) bs,
                             (omega arith, λ r lt. load_op k r h bs lt le (omega (arith, room))),
@@ -283,12 +320,15 @@ module _ (k : Limits) where
           );
     }
 
-    pub try_finally_does : (c : List Around) (inner fin : Piece) → Does k (InFinally fin ∷ c) inner → Does k c fin → Does k c (try_finally ln inner fin)
+    pub try_finally_does : (c : List Around) (inner fin : Piece) → Does k (InFinally fin ∷ c) inner → Does k c fin →
+        Does k c (try_finally ln inner fin)
     try_finally_does c inner fin vi vf = record {
       typed = λ gs h bs f room. let le = low k c gs h bs f in
           let g : Ring = own_ring 1 (Some (sh h bs) ∷ Some (sh (h + 1) bs) ∷ []) in
           let ft = vf.typed gs h bs f (omega (arith, room)) in
-          template_typed k ln 1 2 (To 0 Try H ∷ Sub 0 inner ∷ Op PopTry ∷ Sub 1 fin ∷ To 0 Jump E ∷ Here H ∷ Hidden 0 StoreLocal ∷ Sub 1 fin ∷ Hidden 0 LoadLocal ∷ Op Raise ∷ Here E ∷ []) (Some (sh h bs) ∷ Some (sh (h + 1) bs) ∷ []) gs _ _ refl refl (
+          template_typed k ln 1 2 (To 0 Try H ∷ Sub 0 inner ∷ Op PopTry ∷ Sub 1 fin ∷ To 0 Jump E ∷ Here H ∷ Hidden 0
+          StoreLocal ∷ Sub 1 fin ∷ Hidden 0 LoadLocal ∷ Op Raise ∷ Here E ∷ [])
+          (Some (sh h bs) ∷ Some (sh (h + 1) bs) ∷ []) gs _ _ refl refl (
             sh h (h ∷ bs),
             (sh (h + 1) bs, refl, try_op k h bs le (omega (arith, room))),
             (

@@ -14,7 +14,8 @@ use Rattle.py_compile.specs.inner.Deletions.{SameDeletions}
 use Rattle.py_compile.proofs.Coded.{coded_group, coded_tuple, coded_list, coded_int, coded_str, coded_dict, coded_power, coded_unary, coded_chain, coded_not, coded_choice}
 use Rattle.py_compile.proofs.RowsEqual.{row_flat, row_front}
 
-all_deleted-append : (n : Known) (ln : ℕ) (xs ys : List Expr) → all_deleted n ln (xs ++ ys) ≡ all_deleted n ln xs ++ all_deleted n ln ys
+all_deleted-append : (n : Known) (ln : ℕ) (xs ys : List Expr) →
+    all_deleted n ln (xs ++ ys) ≡ all_deleted n ln xs ++ all_deleted n ln ys
 all_deleted-append n ln [] ys = refl
 all_deleted-append n ln (x ∷ xs) ys = ap (λ z. deleted n ln x ∷ z) (all_deleted-append n ln xs ys)
 
@@ -33,7 +34,8 @@ before xs ys zs s = record {
 }
 
 -- a target that is deleted by a row, behind others
-in_row : (xs ys : List Expr) (x : Expr) → ((n : Known) (ln : ℕ) → deleted n ln x ≡ row (all_deleted n ln ys)) → SameDeletions (xs ++ ys) (xs ++ x ∷ [])
+in_row : (xs ys : List Expr) (x : Expr) → ((n : Known) (ln : ℕ) → deleted n ln x ≡ row (all_deleted n ln ys)) →
+    SameDeletions (xs ++ ys) (xs ++ x ∷ [])
 in_row xs ys x q = record {
   code = λ n ln. ap row (all_deleted-append n ln xs ys)
       ∙ ap (λ z. row (all_deleted n ln xs ++ z)) (sym (append-nil (all_deleted n ln ys)))
@@ -43,8 +45,10 @@ in_row xs ys x q = record {
 }
 
 -- what isn't a target has no deletion
-none : (xs : List Expr) (x : Expr) → ((n : Known) (ln : ℕ) → (coded n ln x).place ≡ NoPlace) → SameDeletions xs (xs ++ x ∷ [])
-none xs x q = chain xs (xs ++ []) (xs ++ x ∷ []) (same xs (xs ++ []) (sym (append-nil xs))) (in_row xs [] x (λ n ln. ap (del_at ln) (q n ln)))
+none : (xs : List Expr) (x : Expr) → ((n : Known) (ln : ℕ) → (coded n ln x).place ≡ NoPlace) →
+    SameDeletions xs (xs ++ x ∷ [])
+none xs x q = chain xs (xs ++ []) (xs ++ x ∷ []) (same xs (xs ++ []) (sym (append-nil xs)))
+    (in_row xs [] x (λ n ln. ap (del_at ln) (q n ln)))
 
 pub none_int : (xs : List Expr) (i : ℤ) → SameDeletions xs (xs ++ e.Int i ∷ [])
 none_int xs i = none xs (e.Int i) (λ n ln. ap (λ c. c.place) (coded_int n ln i))
@@ -71,7 +75,8 @@ pub none_choice : (xs : List Expr) (a b d : Expr) → SameDeletions xs (xs ++ e.
 none_choice xs a b d = none xs (e.Choice a b d) (λ n ln. ap (λ c. c.place) (coded_choice n ln a b d))
 
 -- a group, a tuple and a list are deleted as what stands in them
-pub in_group : (xs os : List Expr) (a : Expr) → SameDeletions xs (os ++ a ∷ []) → SameDeletions xs (os ++ e.Group a ∷ [])
+pub in_group : (xs os : List Expr) (a : Expr) → SameDeletions xs (os ++ a ∷ []) →
+    SameDeletions xs (os ++ e.Group a ∷ [])
 in_group xs os a s = chain xs (os ++ a ∷ []) (os ++ e.Group a ∷ []) s (record {
   code = λ n ln. ap row (all_deleted-append n ln os (a ∷ []))
       ∙ ap (λ c. row (all_deleted n ln os ++ del_at ln c.place ∷ [])) (sym (coded_group n ln a))
@@ -79,13 +84,34 @@ in_group xs os a s = chain xs (os ++ a ∷ []) (os ++ e.Group a ∷ []) s (recor
 })
 
 pub in_tuple : (xs os ys : List Expr) → SameDeletions xs (os ++ ys) → SameDeletions xs (os ++ e.Tuple ys ∷ [])
-in_tuple xs os ys s = chain xs (os ++ ys) (os ++ e.Tuple ys ∷ []) s (in_row os ys (e.Tuple ys) (λ n ln. ap (λ c. del_at ln c.place) (coded_tuple n ln ys)))
+in_tuple xs os ys s = chain xs (os ++ ys) (os ++ e.Tuple ys ∷ []) s
+    (in_row os ys (e.Tuple ys) (λ n ln. ap (λ c. del_at ln c.place) (coded_tuple n ln ys)))
 
 pub in_list : (xs os ys : List Expr) → SameDeletions xs (os ++ ys) → SameDeletions xs (os ++ e.List ys ∷ [])
-in_list xs os ys s = chain xs (os ++ ys) (os ++ e.List ys ∷ []) s (in_row os ys (e.List ys) (λ n ln. ap (λ c. del_at ln c.place) (coded_list n ln ys)))
+in_list xs os ys s = chain xs (os ++ ys) (os ++ e.List ys ∷ []) s
+    (in_row os ys (e.List ys) (λ n ln. ap (λ c. del_at ln c.place) (coded_list n ln ys)))
 
 -- one more target
-pub one_more : (xs os more : List Expr) (x : Expr) (zs : List Expr) → SameDeletions xs (os ++ x ∷ []) → SameDeletions (os ++ x ∷ more) zs → SameDeletions (xs ++ more) zs
-one_more xs os more x zs s t = chain (xs ++ more) (os ++ x ∷ more) zs (chain (xs ++ more) ((os ++ x ∷ []) ++ more) (os ++ x ∷ more) (before xs (os ++ x ∷ []) more s) (same ((os ++ x ∷ []) ++ more) (os ++ x ∷ more) (append_assoc os (x ∷ []) more))) t
+pub one_more : (xs os more : List Expr) (x : Expr) (zs : List Expr) → SameDeletions xs (os ++ x ∷ []) →
+    SameDeletions (os ++ x ∷ more) zs → SameDeletions (xs ++ more) zs
+one_more xs os more x zs s t = chain (xs ++ more) (os ++ x ∷ more) zs
+    (chain (xs ++ more) ((os ++ x ∷ []) ++ more) (os ++ x ∷ more) (before xs (os ++ x ∷ []) more s)
+    (same ((os ++ x ∷ []) ++ more) (os ++ x ∷ more) (append_assoc os (x ∷ []) more))) t
 
-pub ruleset deletion_rules = (none_int, none_str, none_dict, none_power, none_unary, none_chain, none_not, none_choice, in_group, in_tuple, in_list, one_more, height_group, height_tuple, height_list)
+pub ruleset deletion_rules = (
+  none_int,
+  none_str,
+  none_dict,
+  none_power,
+  none_unary,
+  none_chain,
+  none_not,
+  none_choice,
+  in_group,
+  in_tuple,
+  in_list,
+  one_more,
+  height_group,
+  height_tuple,
+  height_list,
+)

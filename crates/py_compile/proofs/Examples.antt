@@ -32,7 +32,8 @@ fin : Piece
 fin = row (expression 4 b ∷ [])
 
 loop : Piece
-loop = for 1 (one 1 (StoreLocal 5)) a (row (try_finally 2 (row (way_out 3 Break (InFinally fin ∷ InFor ∷ []) ∷ [])) fin ∷ [])) (row [])
+loop = for 1 (one 1 (StoreLocal 5)) a (row
+    (try_finally 2 (row (way_out 3 Break (InFinally fin ∷ InFor ∷ []) ∷ [])) fin ∷ [])) (row [])
 
 left : (module_code 1 (row (loop ∷ []))).code [] 0 9 ≡
     Setup ∷ LoadLocal 0 ∷ Iter ∷ Next 21 ∷ StoreLocal 5 ∷
@@ -42,13 +43,16 @@ unfolding a b fin loop
 left = refl
 
 -- (b stands for an expression of line 1)
-lines : (module_code 1 (row (loop ∷ []))).lines ≡ 1 ∷ 1 ∷ 1 ∷ 1 ∷ 1 ∷ 2 ∷ 3 ∷ 1 ∷ 4 ∷ 3 ∷ 3 ∷ 2 ∷ 1 ∷ 4 ∷ 2 ∷ 2 ∷ 1 ∷ 4 ∷ 2 ∷ 2 ∷ 1 ∷ 1 ∷ 1 ∷ []
+lines : (module_code 1 (row (loop ∷ []))).lines ≡ 1 ∷ 1 ∷ 1 ∷ 1 ∷ 1 ∷ 2 ∷ 3 ∷ 1 ∷ 4 ∷ 3 ∷ 3 ∷ 2 ∷ 1 ∷ 4 ∷ 2 ∷ 2 ∷ 1 ∷ 4
+    ∷ 2 ∷ 2 ∷ 1 ∷ 1 ∷ 1 ∷ []
 unfolding a b fin loop
 lines = refl
 
 -- try: b except c as x: raise except: return a
 tried : Piece
-tried = try_except 1 (row (expression 1 b ∷ [])) (clause_target 2 c (one 2 (StoreLocal 5)) (row (raise_again 2 (InClause ∷ []) ∷ [])) ∷ clause_bare 3 (row (return 3 a (InClause ∷ []) ∷ [])) ∷ []) (row [])
+tried = try_except 1 (row (expression 1 b ∷ []))
+    (clause_target 2 c (one 2 (StoreLocal 5)) (row (raise_again 2 (InClause ∷ []) ∷ [])) ∷ clause_bare 3
+    (row (return 3 a (InClause ∷ []) ∷ [])) ∷ []) (row [])
 
 caught : tried.code [] 0 9 ≡
     Try 5 ∷ LoadLocal 1 ∷ Pop ∷ PopTry ∷ Jump 22 ∷ StoreLocal 9 ∷

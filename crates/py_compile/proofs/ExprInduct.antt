@@ -89,37 +89,56 @@ module _ (P : Expr → Type 0) (T : Trailer → Type 0) where
   abbrev P-with : Type 0
   P-with = (x : Pair) × OfPair x
 
-  expr_arm : Arms → (y : open'.Expr-F E-with T-with L-with N-with P-with) → P (roll-Expr (map-Expr E-with T-with L-with N-with P-with Expr Trailer Link Named Pair (λ y. y.0) (λ y. y.0) (λ y. y.0) (λ y. y.0) (λ y. y.0) y))
+  expr_arm : Arms → (y : open'.Expr-F E-with T-with L-with N-with P-with) →
+      P (roll-Expr (map-Expr E-with T-with L-with N-with P-with Expr Trailer Link Named Pair (λ y. y.0) (λ y. y.0)
+      (λ y. y.0) (λ y. y.0) (λ y. y.0) y))
   expr_arm m (open'.Name x) = subst P (sym (e.rolls-Name x)) (m.name x)
   expr_arm m (open'.Int x) = subst P (sym (e.rolls-Int x)) (m.int x)
   expr_arm m (open'.Str x) = subst P (sym (e.rolls-Str x)) (m.str x)
   expr_arm m (open'.Group a) = subst P (sym (e.rolls-Group a.0)) (m.group a.0 a.1)
-  expr_arm m (open'.Tuple ys) = subst P (sym (e.rolls-Tuple (map (λ y. y.0) ys))) (m.tuple (map (λ y. y.0) ys) (every P ys))
-  expr_arm m (open'.List ys) = subst P (sym (e.rolls-List (map (λ y. y.0) ys))) (m.list (map (λ y. y.0) ys) (every P ys))
-  expr_arm m (open'.Dict ys) = subst P (sym (e.rolls-Dict (map (λ y. y.0) ys))) (m.dict (map (λ y. y.0) ys) (every OfPair ys))
-  expr_arm m (open'.Trail a ys) = subst P (sym (e.rolls-Trail a.0 (map (λ y. y.0) ys))) (m.trail a.0 (map (λ y. y.0) ys) a.1 (every T ys))
+  expr_arm m (open'.Tuple ys) = subst P (sym (e.rolls-Tuple (map (λ y. y.0) ys)))
+      (m.tuple (map (λ y. y.0) ys) (every P ys))
+  expr_arm m (open'.List ys) = subst P (sym (e.rolls-List (map (λ y. y.0) ys)))
+      (m.list (map (λ y. y.0) ys) (every P ys))
+  expr_arm m (open'.Dict ys) = subst P (sym (e.rolls-Dict (map (λ y. y.0) ys)))
+      (m.dict (map (λ y. y.0) ys) (every OfPair ys))
+  expr_arm m (open'.Trail a ys) = subst P (sym (e.rolls-Trail a.0 (map (λ y. y.0) ys)))
+      (m.trail a.0 (map (λ y. y.0) ys) a.1 (every T ys))
   expr_arm m (open'.Power a b) = subst P (sym (e.rolls-Power a.0 b.0)) (m.power a.0 b.0 a.1 b.1)
   expr_arm m (open'.Unary g a) = subst P (sym (e.rolls-Unary g a.0)) (m.unary g a.0 a.1)
-  expr_arm m (open'.Chain l a ys) = subst P (sym (e.rolls-Chain l a.0 (map (λ y. y.0) ys))) (m.chain l a.0 (map (λ y. y.0) ys) a.1 (every OfLink ys))
+  expr_arm m (open'.Chain l a ys) = subst P (sym (e.rolls-Chain l a.0 (map (λ y. y.0) ys)))
+      (m.chain l a.0 (map (λ y. y.0) ys) a.1 (every OfLink ys))
   expr_arm m (open'.Not a) = subst P (sym (e.rolls-Not a.0)) (m.not a.0 a.1)
   expr_arm m (open'.Choice a b d) = subst P (sym (e.rolls-Choice a.0 b.0 d.0)) (m.choice a.0 b.0 d.0 a.1 b.1 d.1)
 
-  trailer_arm : Arms → (y : open'.Trailer-F E-with T-with L-with N-with P-with) → T (roll-Trailer (map-Trailer E-with T-with L-with N-with P-with Expr Trailer Link Named Pair (λ y. y.0) (λ y. y.0) (λ y. y.0) (λ y. y.0) (λ y. y.0) y))
+  trailer_arm : Arms → (y : open'.Trailer-F E-with T-with L-with N-with P-with) →
+      T (roll-Trailer (map-Trailer E-with T-with L-with N-with P-with Expr Trailer Link Named Pair (λ y. y.0)
+      (λ y. y.0) (λ y. y.0) (λ y. y.0) (λ y. y.0) y))
   trailer_arm m (open'.Attribute x) = subst T (sym (t.rolls-Attribute x)) (m.attribute x)
   trailer_arm m (open'.Index a) = subst T (sym (t.rolls-Index a.0)) (m.index a.0 a.1)
   trailer_arm m (open'.Slice None None) = subst T (sym (t.rolls-Slice None None)) (m.slice None None tt tt)
-  trailer_arm m (open'.Slice None (Some b)) = subst T (sym (t.rolls-Slice None (Some b.0))) (m.slice None (Some b.0) tt b.1)
-  trailer_arm m (open'.Slice (Some a) None) = subst T (sym (t.rolls-Slice (Some a.0) None)) (m.slice (Some a.0) None a.1 tt)
-  trailer_arm m (open'.Slice (Some a) (Some b)) = subst T (sym (t.rolls-Slice (Some a.0) (Some b.0))) (m.slice (Some a.0) (Some b.0) a.1 b.1)
-  trailer_arm m (open'.Call ys zs) = subst T (sym (t.rolls-Call (map (λ y. y.0) ys) (map (λ y. y.0) zs))) (m.call (map (λ y. y.0) ys) (map (λ y. y.0) zs) (every P ys) (every OfNamed zs))
+  trailer_arm m (open'.Slice None (Some b)) =
+      subst T (sym (t.rolls-Slice None (Some b.0))) (m.slice None (Some b.0) tt b.1)
+  trailer_arm m (open'.Slice (Some a) None) =
+      subst T (sym (t.rolls-Slice (Some a.0) None)) (m.slice (Some a.0) None a.1 tt)
+  trailer_arm m (open'.Slice (Some a) (Some b)) =
+      subst T (sym (t.rolls-Slice (Some a.0) (Some b.0))) (m.slice (Some a.0) (Some b.0) a.1 b.1)
+  trailer_arm m (open'.Call ys zs) = subst T (sym (t.rolls-Call (map (λ y. y.0) ys) (map (λ y. y.0) zs)))
+      (m.call (map (λ y. y.0) ys) (map (λ y. y.0) zs) (every P ys) (every OfNamed zs))
 
-  link_arm : (y : open'.Link-F E-with T-with L-with N-with P-with) → OfLink (roll-Link (map-Link E-with T-with L-with N-with P-with Expr Trailer Link Named Pair (λ y. y.0) (λ y. y.0) (λ y. y.0) (λ y. y.0) (λ y. y.0) y))
+  link_arm : (y : open'.Link-F E-with T-with L-with N-with P-with) →
+      OfLink (roll-Link (map-Link E-with T-with L-with N-with P-with Expr Trailer Link Named Pair (λ y. y.0) (λ y. y.0)
+      (λ y. y.0) (λ y. y.0) (λ y. y.0) y))
   link_arm y = y.operand.1
 
-  named_arm : (y : open'.Named-F E-with T-with L-with N-with P-with) → OfNamed (roll-Named (map-Named E-with T-with L-with N-with P-with Expr Trailer Link Named Pair (λ y. y.0) (λ y. y.0) (λ y. y.0) (λ y. y.0) (λ y. y.0) y))
+  named_arm : (y : open'.Named-F E-with T-with L-with N-with P-with) →
+      OfNamed (roll-Named (map-Named E-with T-with L-with N-with P-with Expr Trailer Link Named Pair (λ y. y.0)
+      (λ y. y.0) (λ y. y.0) (λ y. y.0) (λ y. y.0) y))
   named_arm y = y.value.1
 
-  pair_arm : (y : open'.Pair-F E-with T-with L-with N-with P-with) → OfPair (roll-Pair (map-Pair E-with T-with L-with N-with P-with Expr Trailer Link Named Pair (λ y. y.0) (λ y. y.0) (λ y. y.0) (λ y. y.0) (λ y. y.0) y))
+  pair_arm : (y : open'.Pair-F E-with T-with L-with N-with P-with) →
+      OfPair (roll-Pair (map-Pair E-with T-with L-with N-with P-with Expr Trailer Link Named Pair (λ y. y.0) (λ y. y.0)
+      (λ y. y.0) (λ y. y.0) (λ y. y.0) y))
   pair_arm y = (y.key.1, y.value.1)
 
   pub expr_induct : Arms → (x : Expr) → P x

@@ -19,7 +19,8 @@ pub any_place : {A : Type 0} (p : A → Bool) (xs : List A) → list_any p xs �
 any_place p [] = refl
 any_place p (x ∷ xs) = by_test (p x) (any_place p xs)
   where
-    by_test : (b : Bool) → list_any p xs ≡ nat_lt (position_or_len p xs) (length xs) → (b || list_any p xs) ≡ nat_lt (cond (not b) (1 + position_or_len p xs) 0) (suc (length xs))
+    by_test : (b : Bool) → list_any p xs ≡ nat_lt (position_or_len p xs) (length xs) →
+        (b || list_any p xs) ≡ nat_lt (cond (not b) (1 + position_or_len p xs) 0) (suc (length xs))
     by_test true m = grind (arith, nat_tests)
     by_test false m = m ∙ grind (arith, nat_tests)
 
@@ -32,9 +33,11 @@ cond_some true m i e = (refl, cc)
 cond_some false m i e = absurd (cc)
 
 pub find_none : (x : List ℕ) (ls : List (List ℕ)) → find_name x ls ≡ None → has x ls ≡ false
-find_none x ls e = any_place (bytes_eq x) ls ∙ cond_none (nat_lt (position_or_len (bytes_eq x) ls) (length ls)) (position_or_len (bytes_eq x) ls) e
+find_none x ls e = any_place (bytes_eq x) ls ∙ cond_none (nat_lt (position_or_len (bytes_eq x) ls) (length ls))
+    (position_or_len (bytes_eq x) ls) e
 
-pub find_some : (x : List ℕ) (ls : List (List ℕ)) (i : ℕ) → find_name x ls ≡ Some i → (has x ls ≡ true) × (i < length ls)
+pub find_some : (x : List ℕ) (ls : List (List ℕ)) (i : ℕ) → find_name x ls ≡ Some i →
+    (has x ls ≡ true) × (i < length ls)
 find_some x ls i e =
     let c = cond_some (nat_lt (position_or_len (bytes_eq x) ls) (length ls)) (position_or_len (bytes_eq x) ls) i e in
     let l = ltb-true (position_or_len (bytes_eq x) ls) (length ls) c.0 in
@@ -57,13 +60,54 @@ module _ (k : Limits) where
     pub del_known : IsKnown k (del x)
 
   slot_homed : (s : ℕ) → s < k.slots → IsHomed (Slot s)
-  slot_homed s lt = record { load_flow = refl; load_pops = refl; load_pushes = refl; load_known = lt; store_flow = refl; store_pops = refl; store_pushes = refl; store_known = lt; del_flow = refl; del_pops = refl; del_pushes = refl; del_known = lt }
+  slot_homed s lt = record {
+    load_flow = refl;
+    load_pops = refl;
+    load_pushes = refl;
+    load_known = lt;
+    store_flow =
+        refl;
+    store_pops = refl;
+    store_pushes = refl;
+    store_known = lt;
+    del_flow = refl;
+    del_pops = refl;
+    del_pushes =
+        refl;
+    del_known = lt;
+  }
 
   cell_homed : (g : ℕ) → IsCell k g → IsHomed (Cell g)
-  cell_homed g h = record { load_flow = refl; load_pops = refl; load_pushes = refl; load_known = h; store_flow = refl; store_pops = refl; store_pushes = refl; store_known = h; del_flow = refl; del_pops = refl; del_pushes = refl; del_known = h }
+  cell_homed g h = record {
+    load_flow = refl;
+    load_pops = refl;
+    load_pushes = refl;
+    load_known = h;
+    store_flow = refl;
+    store_pops = refl;
+    store_pushes = refl;
+    store_known = h;
+    del_flow = refl;
+    del_pops = refl;
+    del_pushes = refl;
+    del_known = h;
+  }
 
   body_homed : (x : ℕ) → IsText k x → IsHomed (Body x)
-  body_homed x h = record { load_flow = refl; load_pops = refl; load_pushes = refl; load_known = h; store_flow = refl; store_pops = refl; store_pushes = refl; store_known = h; del_flow = refl; del_pops = refl; del_pushes = refl; del_known = h }
+  body_homed x h = record {
+    load_flow = refl;
+    load_pops = refl;
+    load_pushes = refl;
+    load_known = h;
+    store_flow = refl;
+    store_pops = refl;
+    store_pushes = refl;
+    store_known = h;
+    del_flow = refl;
+    del_pops = refl;
+    del_pushes = refl;
+    del_known = h;
+  }
 
   module _ (n : Known) (b : Inside) where
     -- a keyword list of the code has these names
@@ -84,7 +128,8 @@ module _ (k : Limits) where
       pub strings : 0 < k.strings
       pub classes : 20 < k.cells
 
-    own_home : Fits → (x : List ℕ) (i : ℕ) (c : Bool) → n.is_class ≡ c → i < length n.locals → Every Covered (own_bound c x) → IsHomed (if c then Body (text n x) else Slot i)
+    own_home : Fits → (x : List ℕ) (i : ℕ) (c : Bool) → n.is_class ≡ c → i < length n.locals →
+        Every Covered (own_bound c x) → IsHomed (if c then Body (text n x) else Slot i)
     own_home f x i true e lt cs = body_homed (text n x) cs.0
     own_home f x i false e lt cs = let m = f.slots e in slot_homed i (omega (arith, lt, m))
 
@@ -94,16 +139,20 @@ module _ (k : Limits) where
         by_find : (o : Option ℕ) → find_name x n.locals ≡ o → IsHomed (home n x)
         by_find None e =
             let h : has x b.locals ≡ false = ap (has x) (sym f.names) ∙ find_none x n.locals e in
-            let g : Every Covered (Global x ∷ []) = subst (λ z. Every Covered (if z then own_bound b.is_class x else Global x ∷ [])) h cs in
+            let g : Every Covered (Global x ∷ []) =
+            subst (λ z. Every Covered (if z then own_bound b.is_class x else Global x ∷ [])) h cs in
             subst IsHomed (sym (ap (home_at n x) e)) (cell_homed (cell n x) g.0)
         by_find (Some i) e =
             let s = find_some x n.locals i e in
             let h : has x b.locals ≡ true = ap (has x) (sym f.names) ∙ s.0 in
-            let g : Every Covered (own_bound b.is_class x) = subst (λ z. Every Covered (if z then own_bound b.is_class x else Global x ∷ [])) h cs in
-            let g' : Every Covered (own_bound n.is_class x) = subst (λ z. Every Covered (own_bound z x)) (sym f.kind) g in
+            let g : Every Covered (own_bound b.is_class x) =
+            subst (λ z. Every Covered (if z then own_bound b.is_class x else Global x ∷ [])) h cs in
+            let g' : Every Covered (own_bound n.is_class x) = subst (λ z. Every Covered (own_bound z x)) (sym f.kind) g
+            in
             subst IsHomed (sym (ap (home_at n x) e)) (own_home f x i n.is_class refl s.1 g')
 
-    has_bound : (h c : Bool) (x : List ℕ) → Every Covered (if h then own_read c x else Global x ∷ []) → Every Covered (if h then own_bound c x else Global x ∷ [])
+    has_bound : (h c : Bool) (x : List ℕ) → Every Covered (if h then own_read c x else Global x ∷ []) →
+        Every Covered (if h then own_bound c x else Global x ∷ [])
     has_bound true true x cs = (cs.0, tt)
     has_bound true false x cs = tt
     has_bound false c x cs = cs
@@ -111,5 +160,7 @@ module _ (k : Limits) where
     -- a name that is read is as one that is bound, unless it is None
     pub read_bound : (x : List ℕ) → is_none x ≡ false → Every Covered (name_read b x) → Every Covered (name_bound b x)
     read_bound x e cs =
-        let g : Every Covered (if has x b.locals then own_read b.is_class x else Global x ∷ []) = subst (λ z. Every Covered (if z then [] else (if has x b.locals then own_read b.is_class x else Global x ∷ []))) e cs in
+        let g : Every Covered (if has x b.locals then own_read b.is_class x else Global x ∷ []) =
+        subst (λ z. Every Covered (if z then [] else
+        (if has x b.locals then own_read b.is_class x else Global x ∷ []))) e cs in
         has_bound (has x b.locals) b.is_class x g

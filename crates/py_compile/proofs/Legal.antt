@@ -1,5 +1,7 @@
--- Modules whose code can be right: targets are targets, comparisons compare, `break` and `continue` stand in loops, a `raise`
--- alone in an except clause, and a `try` without an except clause has no else. Each module of a text that has scopes is so.
+-- Modules whose code can be right: targets are targets, comparisons compare, `break` and `continue` stand in loops, a
+-- `raise`
+-- alone in an except clause, and a `try` without an except clause has no else. Each module of a text that has scopes is
+-- so.
 use Rattle.std.specs.Prelude.{◌&&◌, Bool, true, false, List, [], ◌∷◌, Option, Some, None, map}
 use Rattle.py_tree.specs.declared.expr.Expr.{Expr}
 use Rattle.py_tree.specs.declared.stmt.Stmt.{Stmt}
@@ -70,8 +72,10 @@ stmt_step (open'.Import ln is) = always true
 stmt_step (open'.From ln m is) = always true
 stmt_step (open'.If as' e) = both (all_legal as') (legal_or e)
 stmt_step (open'.While a e) = both (λ l c. a true c) (legal_or e)
-stmt_step (open'.For ln t x ss e) = both (always (is_target_of t && sane x)) (both (λ l c. all_legal ss true c) (legal_or e))
-stmt_step (open'.Try t hs e d) = both t (both (λ l c. all_legal hs l true) (both (legal_or e) (both (legal_or d) (always (has_clause hs e)))))
+stmt_step (open'.For ln t x ss e) = both (always (is_target_of t && sane x))
+    (both (λ l c. all_legal ss true c) (legal_or e))
+stmt_step (open'.Try t hs e d) = both t (both (λ l c. all_legal hs l true)
+    (both (legal_or e) (both (legal_or d) (always (has_clause hs e)))))
 stmt_step (open'.Def ln x ps ss) = always (sane_defaults ps && all_legal ss false false)
 stmt_step (open'.Class ln x e ss) = always (sane_some e && all_legal ss false false)
 

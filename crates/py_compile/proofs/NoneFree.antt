@@ -38,12 +38,14 @@ ordinary_all_free [] h = tt
 ordinary_all_free (v ∷ es) h = (ordinary_free v h.0, ordinary_all_free es h.1)
 
 -- no parameter is `None`
-takes_free : (l : ℕ) (before : List (List ℕ)) (ps : List Param) → Clears (parameters l before ps) → Every Free (takes ps)
+takes_free : (l : ℕ) (before : List (List ℕ)) (ps : List Param) → Clears (parameters l before ps) →
+    Every Free (takes ps)
 takes_free l before [] h = tt
 takes_free l before (p ∷ ps) h =
     let front = label l p.name ++ repeated l before p.name ++ read_some l p.default in
     let more = parameters l (with_name before p.name) ps in
-    let first = clear_front (label l p.name) (repeated l before p.name) (clear_front (label l p.name ++ repeated l before p.name) (read_some l p.default) (clear_front front more h)) in
+    let first = clear_front (label l p.name) (repeated l before p.name)
+    (clear_front (label l p.name ++ repeated l before p.name) (read_some l p.default) (clear_front front more h)) in
     (label_clear l p.name first, takes_free l (with_name before p.name) ps (clear_back front more h))
 
 begun_free : {ys : List Body} {es : List Event} → Begin ys es → Clears es → Every Free es
@@ -54,16 +56,24 @@ begun_free (Taking {es = es} l ps p z b) c =
     let front = parameters l [] ps in
     let behind = Enter kind.Function ∷ (takes ps ++ es) in
     let inner : Clears (takes ps ++ es) = record { each = (clear_back front behind c).each.1 } in
-    every_join Free front behind (ordinary_all_free front (parameters_ordinary l [] ps).each) (tt, every_join Free (takes ps) es (takes_free l [] ps (clear_front front behind c)) (begun_free b (clear_back (takes ps) es inner)))
+    every_join Free front behind (ordinary_all_free front (parameters_ordinary l [] ps).each) (
+      tt,
+      every_join Free (takes ps) es (takes_free l [] ps (clear_front front behind c))
+          (begun_free b (clear_back (takes ps) es inner)),
+    )
 
 -- ---- the names of a body
 
 -- what is said in a body is said in the module
-said_free : (k : ℕ) (inside : List ℕ) (n : ℕ) (es : List Event) → Every Free es → Every Free (said_in k (placed inside n es))
+said_free : (k : ℕ) (inside : List ℕ) (n : ℕ) (es : List Event) → Every Free es →
+    Every Free (said_in k (placed inside n es))
 said_free k inside n [] h = tt
-said_free k inside n (v ∷ es) h = by_test (is_first k (inside_after v n inside)) (said_free k (inside_after v n inside) (bodies_after v n) es h.1)
+said_free k inside n (v ∷ es) h = by_test (is_first k (inside_after v n inside))
+    (said_free k (inside_after v n inside) (bodies_after v n) es h.1)
   where
-    by_test : (b : Bool) → Every Free (said_in k (placed (inside_after v n inside) (bodies_after v n) es)) → Every Free (if b then v ∷ said_in k (placed (inside_after v n inside) (bodies_after v n) es) else said_in k (placed (inside_after v n inside) (bodies_after v n) es))
+    by_test : (b : Bool) → Every Free (said_in k (placed (inside_after v n inside) (bodies_after v n) es)) →
+        Every Free (if b then v ∷ said_in k (placed (inside_after v n inside) (bodies_after v n) es) else said_in k
+        (placed (inside_after v n inside) (bodies_after v n) es))
     by_test true g = (h.0, g)
     by_test false g = g
 
@@ -91,8 +101,10 @@ not_own true b c q = subst (λ y. (y && c) ≡ false) (sym q) refl
 not_own false b c q = refl
 
 -- `None` is no local name of any body.
-pub none_free : (m : Module) → legal_all m.body false false ≡ true → fault (outline m) ≡ None → (k : ℕ) (x : List ℕ) → is_none x ≡ true → has x (scope_of (body (outline m) k)).locals ≡ false
+pub none_free : (m : Module) → legal_all m.body false false ≡ true → fault (outline m) ≡ None → (k : ℕ) (x : List ℕ) →
+    is_none x ≡ true → has x (scope_of (body (outline m) k)).locals ≡ false
 none_free m h q k x e =
     let said = said_in k (placed [] 0 (outline m)) in
     let free : Every Free (outline m) = begun_free (module_begun m h) (outline_clear m q) in
-    local_law x said ∙ not_own (not (is_module (kind_of kind.Module said))) (binds said x) (not (declares said x)) (unbound said x e (said_free k [] 0 (outline m) free))
+    local_law x said ∙ not_own (not (is_module (kind_of kind.Module said))) (binds said x) (not (declares said x))
+    (unbound said x e (said_free k [] 0 (outline m) free))

@@ -21,7 +21,8 @@ pub number_small : (x : List ℕ) (ns : List (List ℕ)) → has x ns ≡ true �
 number_small x ns h =
     let e : nat_lt (position_or_len (bytes_eq x) ns) (length ns) ≡ true = sym (any_place (bytes_eq x) ns) ∙ h in
     let l = ltb-true (position_or_len (bytes_eq x) ns) (length ns) e in
-    let n : number_in x ns ≡ position_or_len (bytes_eq x) ns = ap (λ b. unwrap_or (cond b (Some (position_or_len (bytes_eq x) ns)) None) 0) e in
+    let n : number_in x ns ≡ position_or_len (bytes_eq x) ns =
+    ap (λ b. unwrap_or (cond b (Some (position_or_len (bytes_eq x) ns)) None) 0) e in
     subst (λ i. i < length ns) (sym n) l
 
 -- texts that are equal, and lists of names
@@ -44,14 +45,16 @@ module _ {A : Type 0} (same : A → A → Bool) (alike : (x : A) → same x x �
     where
       by_test : (b : Bool) → list_any (same y) (if b then ns else ns ++ x ∷ []) ≡ true
       by_test true = h
-      by_test false = list_any-append (same y) ns (x ∷ []) ∙ or_left (list_any (same y) ns) (list_any (same y) (x ∷ [])) h
+      by_test false = list_any-append (same y) ns (x ∷ []) ∙
+          or_left (list_any (same y) ns) (list_any (same y) (x ∷ [])) h
 
   pub added : (ns : List A) (x : A) → list_any (same x) (grown ns x) ≡ true
   added ns x = by_test (list_any (same x) ns) refl
     where
       by_test : (b : Bool) → list_any (same x) ns ≡ b → list_any (same x) (if b then ns else ns ++ x ∷ []) ≡ true
       by_test true e = e
-      by_test false e = list_any-append (same x) ns (x ∷ []) ∙ or_right (list_any (same x) ns) (list_any (same x) (x ∷ [])) (or_left (same x x) false (alike x))
+      by_test false e = list_any-append (same x) ns (x ∷ []) ∙
+          or_right (list_any (same x) ns) (list_any (same x) (x ∷ [])) (or_left (same x x) false (alike x))
 
 -- strings
 texts_keep : (ns : List (List ℕ)) (us : List Use) (y : List ℕ) → has y ns ≡ true → has y (texts_from ns us) ≡ true
@@ -66,18 +69,21 @@ cells_keep ns (Text x ∷ us) y h = cells_keep ns us y h
 cells_keep ns (Global x ∷ us) y h = cells_keep (with_name ns x) us y (still bytes_eq bytes_same ns x y h)
 cells_keep ns (Keys c ks ∷ us) y h = cells_keep ns us y h
 
-keys_step : (j c : ℕ) (kss : List (List (List ℕ))) (ks y : List (List ℕ)) → list_any (same_names y) kss ≡ true → list_any (same_names y) (if j == c then with_keys kss ks else kss) ≡ true
+keys_step : (j c : ℕ) (kss : List (List (List ℕ))) (ks y : List (List ℕ)) → list_any (same_names y) kss ≡ true →
+    list_any (same_names y) (if j == c then with_keys kss ks else kss) ≡ true
 keys_step j c kss ks y h = by_test (j == c)
   where
     by_test : (b : Bool) → list_any (same_names y) (if b then with_keys kss ks else kss) ≡ true
     by_test true = still same_names names_same kss ks y h
     by_test false = h
 
-keys_keep : (j : ℕ) (kss : List (List (List ℕ))) (us : List Use) (y : List (List ℕ)) → list_any (same_names y) kss ≡ true → list_any (same_names y) (keys_from j kss us) ≡ true
+keys_keep : (j : ℕ) (kss : List (List (List ℕ))) (us : List Use) (y : List (List ℕ)) →
+    list_any (same_names y) kss ≡ true → list_any (same_names y) (keys_from j kss us) ≡ true
 keys_keep j kss [] y h = h
 keys_keep j kss (Text x ∷ us) y h = keys_keep j kss us y h
 keys_keep j kss (Global x ∷ us) y h = keys_keep j kss us y h
-keys_keep j kss (Keys c ks ∷ us) y h = keys_keep j (if j == c then with_keys kss ks else kss) us y (keys_step j c kss ks y h)
+keys_keep j kss (Keys c ks ∷ us) y h = keys_keep j (if j == c then with_keys kss ks else kss) us y
+    (keys_step j c kss ks y h)
 
 -- what each use is in: a list of strings, of global names, of the keyword lists of its body
 abbrev pub Noted : List (List ℕ) → List (List ℕ) → (ℕ → List (List (List ℕ))) → Use → Type 0
@@ -85,11 +91,22 @@ Noted ts cs kss (Text x) = has x ts ≡ true
 Noted ts cs kss (Global x) = has x cs ≡ true
 Noted ts cs kss (Keys c ks) = list_any (same_names ks) (kss c) ≡ true
 
-pub all_noted : (ts cs : List (List ℕ)) (kss : ℕ → List (List (List ℕ))) (us : List Use) → Every (Noted (texts_from ts us) (cells_from cs us) (λ j. keys_from j (kss j) us)) us
+pub all_noted : (ts cs : List (List ℕ)) (kss : ℕ → List (List (List ℕ))) (us : List Use) →
+    Every (Noted (texts_from ts us) (cells_from cs us) (λ j. keys_from j (kss j) us)) us
 all_noted ts cs kss [] = tt
-all_noted ts cs kss (Text x ∷ us) = (texts_keep (with_name ts x) us x (added bytes_eq bytes_same ts x), all_noted (with_name ts x) cs kss us)
-all_noted ts cs kss (Global x ∷ us) = (cells_keep (with_name cs x) us x (added bytes_eq bytes_same cs x), all_noted ts (with_name cs x) kss us)
-all_noted ts cs kss (Keys c ks ∷ us) = (keys_keep c (if c == c then with_keys (kss c) ks else kss c) us ks (here (c == c) (eq-eqb c c refl)), all_noted ts cs (λ j. if j == c then with_keys (kss j) ks else kss j) us)
+all_noted ts cs kss (Text x ∷ us) = (
+  texts_keep (with_name ts x) us x (added bytes_eq bytes_same ts x),
+  all_noted (with_name ts x) cs kss us,
+)
+all_noted ts cs kss (Global x ∷ us) = (
+  cells_keep (with_name cs x) us x (added bytes_eq bytes_same cs x),
+  all_noted ts (with_name cs x) kss us,
+)
+all_noted ts cs kss (Keys c ks ∷ us) = (
+  keys_keep c (if c == c then with_keys (kss c) ks else kss c) us ks
+      (here (c == c) (eq-eqb c c refl)),
+  all_noted ts cs (λ j. if j == c then with_keys (kss j) ks else kss j) us,
+)
   where
     here : (b : Bool) → b ≡ true → list_any (same_names ks) (if b then with_keys (kss c) ks else kss c) ≡ true
     here true e = added same_names names_same (kss c) ks
@@ -102,32 +119,51 @@ pub record ListAt (i : ℕ) (ks : List (List ℕ)) (kss : List (List (List ℕ))
   pub within : place < length kss
   pub is : get_or kss place [] ≡ ks
 
-pub list_at : (i : ℕ) (ks : List (List ℕ)) (kss : List (List (List ℕ))) → list_any (same_names ks) kss ≡ true → ListAt i ks kss
+pub list_at : (i : ℕ) (ks : List (List ℕ)) (kss : List (List (List ℕ))) → list_any (same_names ks) kss ≡ true →
+    ListAt i ks kss
 list_at i ks [] h = absurd (cc)
 list_at i ks (x ∷ xs) h = by_test (same_names ks x) refl h (list_at (i + 1) ks xs)
   where
-    by_test : (b : Bool) → same_names ks x ≡ b → (b || list_any (same_names ks) xs) ≡ true → (list_any (same_names ks) xs ≡ true → ListAt (i + 1) ks xs) → ListAt i ks (x ∷ xs)
-    by_test true e g more = record { place = 0; number = ap (λ b. if b then i else list_number (i + 1) ks xs) e ∙ omega arith; within = omega arith; is = sym ((names_decide ks x).0 e) }
-    by_test false e g more = let r = more g in let n = r.number in let w = r.within in record { place = suc r.place; number = ap (λ b. if b then i else list_number (i + 1) ks xs) e ∙ omega (arith, n); within = omega (arith, w); is = r.is }
+    by_test : (b : Bool) → same_names ks x ≡ b → (b || list_any (same_names ks) xs) ≡ true →
+        (list_any (same_names ks) xs ≡ true → ListAt (i + 1) ks xs) → ListAt i ks (x ∷ xs)
+    by_test true e g more = record {
+      place = 0;
+      number = ap (λ b. if b then i else list_number (i + 1) ks xs) e ∙
+          omega arith;
+      within = omega arith;
+      is = sym ((names_decide ks x).0 e);
+    }
+    by_test false e g more = let r = more g in let n = r.number in let w = r.within in
+        record {
+          place = suc r.place;
+          number = ap (λ b. if b then i else list_number (i + 1) ks xs) e ∙
+              omega (arith, n);
+          within = omega (arith, w);
+          is = r.is;
+        }
 
 -- so what is noted has its number
-module _ (locals : ℕ → List (List ℕ)) (texts cells : List (List ℕ)) (keys : ℕ → List (List (List ℕ))) (params : List ℕ) where
-  keys_covered : (c : ℕ) (ks : List (List ℕ)) → list_any (same_names ks) (keys c) ≡ true → KeysFit (lim locals texts cells keys params c 0 0) (known locals texts cells keys params c false) (inside locals texts cells keys params c false) ks
-  keys_covered c ks h =
-      let r = list_at 0 ks (keys c) h in
-      let t = text (known locals texts cells keys params c false) in
-      let z : list_number 0 ks (keys c) ≡ r.place = r.number ∙ omega arith in
-      let w = r.within in
-      let m = length-map (keys c) (map t) in (
-        subst (λ i. i < length (map (map t) (keys c))) (sym z) (omega (arith, w, m)),
-        ap (λ i. get_or (map (map t) (keys c)) i []) z ∙ get_or-map (map t) (keys c) r.place [] [] w ∙ ap (map t) r.is,
-      )
+module _ (locals : ℕ → List (List ℕ)) (texts cells : List (List ℕ)) (keys : ℕ → List (List (List ℕ))) (params : List ℕ)
+  where
+    keys_covered : (c : ℕ) (ks : List (List ℕ)) → list_any (same_names ks) (keys c) ≡ true →
+        KeysFit (lim locals texts cells keys params c 0 0) (known locals texts cells keys params c false)
+        (inside locals texts cells keys params c false) ks
+    keys_covered c ks h =
+        let r = list_at 0 ks (keys c) h in
+        let t = text (known locals texts cells keys params c false) in
+        let z : list_number 0 ks (keys c) ≡ r.place = r.number ∙ omega arith in
+        let w = r.within in
+        let m = length-map (keys c) (map t) in (
+          subst (λ i. i < length (map (map t) (keys c))) (sym z) (omega (arith, w, m)),
+          ap (λ i. get_or (map (map t) (keys c)) i []) z ∙ get_or-map (map t) (keys c) r.place [] [] w ∙
+              ap (map t) r.is,
+        )
 
-  covered : (u : Use) → Noted texts cells keys u → Covers locals texts cells keys params u
-  covered (Text x) h = let l = number_small x texts h in (omega arith, omega (arith, l))
-  covered (Global x) h = let l = number_small x cells h in (omega arith, omega (arith, l))
-  covered (Keys c ks) h = keys_covered c ks h
+    covered : (u : Use) → Noted texts cells keys u → Covers locals texts cells keys params u
+    covered (Text x) h = let l = number_small x texts h in (omega arith, omega (arith, l))
+    covered (Global x) h = let l = number_small x cells h in (omega arith, omega (arith, l))
+    covered (Keys c ks) h = keys_covered c ks h
 
-  pub wide : (us : List Use) → Every (Noted texts cells keys) us → Wide locals texts cells keys params us
-  wide [] h = tt
-  wide (u ∷ us) h = (covered u h.0, wide us h.1)
+    pub wide : (us : List Use) → Every (Noted texts cells keys) us → Wide locals texts cells keys params us
+    wide [] h = tt
+    wide (u ∷ us) h = (covered u h.0, wide us h.1)

@@ -14,16 +14,19 @@ use Rattle.py_compile.specs.inner.Bodies.{NamedOnce}
 
 -- ---- one more name
 
-apart_there : (x y : List ℕ) (xs ys : List (List ℕ)) → AllByRecursion (λ z. bytes_eq x z ≡ false) (xs ++ y ∷ ys) → bytes_eq x y ≡ false
+apart_there : (x y : List ℕ) (xs ys : List (List ℕ)) → AllByRecursion (λ z. bytes_eq x z ≡ false) (xs ++ y ∷ ys) →
+    bytes_eq x y ≡ false
 apart_there x y [] ys h = h.0
 apart_there x y (z ∷ xs) ys h = apart_there x y xs ys h.1
 
 is_new : (xs : List (List ℕ)) (y : List ℕ) (ys : List (List ℕ)) → IsDistinct bytes_eq (xs ++ y ∷ ys) → has y xs ≡ false
 unfolding IsDistinct
 is_new [] y ys d = refl
-is_new (x ∷ xs) y ys d = ap (λ b. b || has y xs) (nat_list_eq_equiv.symm y x ∙ apart_there x y xs ys d.0) ∙ is_new xs y ys d.1
+is_new (x ∷ xs) y ys d = ap (λ b. b || has y xs) (nat_list_eq_equiv.symm y x ∙ apart_there x y xs ys d.0) ∙
+    is_new xs y ys d.1
 
-pub one_more : (all set set' : List (List ℕ)) (x : List ℕ) (rest more : List (List ℕ)) → IsDistinct bytes_eq all → set ++ rest ≡ all → rest ≡ x ∷ more → set' ≡ with_name set x → set' ++ more ≡ all
+pub one_more : (all set set' : List (List ℕ)) (x : List ℕ) (rest more : List (List ℕ)) → IsDistinct bytes_eq all →
+    set ++ rest ≡ all → rest ≡ x ∷ more → set' ≡ with_name set x → set' ++ more ≡ all
 one_more all set set' x rest more d e r w =
     let whole : set ++ x ∷ more ≡ all = ap (λ z. set ++ z) (sym r) ∙ e in
     let new : has x set ≡ false = is_new set x more (subst (IsDistinct bytes_eq) (sym whole) d) in
@@ -31,7 +34,8 @@ one_more all set set' x rest more d e r w =
 
 -- ---- the scopes of a module
 
-named_once : (scopes : List Scope) → ((k : ℕ) (s : Scope) → slice_get scopes k ≡ Some s → IsDistinct bytes_eq s.locals) → NamedOnce scopes
+named_once : (scopes : List Scope) → ((k : ℕ) (s : Scope) → slice_get scopes k ≡ Some s → IsDistinct bytes_eq s.locals)
+    → NamedOnce scopes
 unfolding NamedOnce
 named_once [] h = tt
 named_once (s ∷ more) h = (h 0 s refl, named_once more (λ k t e. h (suc k) t e))

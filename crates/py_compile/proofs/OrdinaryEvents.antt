@@ -1,4 +1,5 @@
--- The events of names, expressions and the heads of statements are ordinary ones: what begins a body, and takes a parameter, is
+-- The events of names, expressions and the heads of statements are ordinary ones: what begins a body, and takes a
+-- parameter, is
 -- said by `def` and `class` alone, and `None` is never bound.
 use Rattle.std.proofs.Common.{◌≡◌, ℕ, Bool, true, false, List, [], ◌∷◌, ◌++◌, Option, Some, None, refl, sym, subst}
 use Rattle.std.specs.Prelude.{if◌then◌else◌}
@@ -123,29 +124,41 @@ trailers_ordinary : (l : ℕ) (ts : List Trailer) → Every OfTrailer ts → All
 trailers_ordinary l [] h = ordinary_nil
 trailers_ordinary l (t ∷ ts) h = ordinary_join (h.0 l) (trailers_ordinary l ts h.1)
 
-keywords_ordinary : (l : ℕ) (before : List (List ℕ)) (ks : List Named) → Every (OfNamed OfExpr OfTrailer) ks → AllOrdinary (read_keywords l before ks)
+keywords_ordinary : (l : ℕ) (before : List (List ℕ)) (ks : List Named) → Every (OfNamed OfExpr OfTrailer) ks →
+    AllOrdinary (read_keywords l before ks)
 keywords_ordinary l before [] h = ordinary_nil
-keywords_ordinary l before (k ∷ ks) h = ordinary_join (ordinary_join (ordinary_join (label_ordinary l k.name) (repeated_ordinary l before k.name)) (h.0 l).read) (keywords_ordinary l (with_name before k.name) ks h.1)
+keywords_ordinary l before (k ∷ ks) h = ordinary_join
+    (ordinary_join (ordinary_join (label_ordinary l k.name) (repeated_ordinary l before k.name)) (h.0 l).read)
+    (keywords_ordinary l (with_name before k.name) ks h.1)
 
 expr_arms : Arms OfExpr OfTrailer
 expr_arms = record {
-  name = λ n l. subst SaidOrdinary (sym (said_name l n)) (record { read = used_ordinary l n; target = bound_ordinary l n });
+  name = λ n l. subst SaidOrdinary (sym (said_name l n))
+      (record { read = used_ordinary l n; target = bound_ordinary l n });
   int = λ i l. subst SaidOrdinary (sym (said_int l i)) (plain_ordinary ordinary_nil);
   str = λ x l. subst SaidOrdinary (sym (said_str l x)) (plain_ordinary ordinary_nil);
   group = λ a h l. subst SaidOrdinary (sym (said_group l a)) (h l);
-  tuple = λ xs h l. subst SaidOrdinary (sym (said_tuple l xs)) (record { read = exprs_read l xs h; target = exprs_targets l xs h });
-  list = λ xs h l. subst SaidOrdinary (sym (said_list l xs)) (record { read = exprs_read l xs h; target = exprs_targets l xs h });
+  tuple = λ xs h l. subst SaidOrdinary (sym (said_tuple l xs))
+      (record { read = exprs_read l xs h; target = exprs_targets l xs h });
+  list = λ xs h l. subst SaidOrdinary (sym (said_list l xs))
+      (record { read = exprs_read l xs h; target = exprs_targets l xs h });
   dict = λ ps h l. subst SaidOrdinary (sym (said_dict l ps)) (plain_ordinary (pairs_ordinary l ps h));
-  trail = λ a ts h g l. subst SaidOrdinary (sym (said_trail l a ts)) (plain_ordinary (ordinary_join (h l).read (trailers_ordinary l ts g)));
-  power = λ a b h g l. subst SaidOrdinary (sym (said_power l a b)) (plain_ordinary (ordinary_join (h l).read (g l).read));
+  trail = λ a ts h g l. subst SaidOrdinary (sym (said_trail l a ts))
+      (plain_ordinary (ordinary_join (h l).read (trailers_ordinary l ts g)));
+  power = λ a b h g l. subst SaidOrdinary (sym (said_power l a b))
+      (plain_ordinary (ordinary_join (h l).read (g l).read));
   unary = λ o a h l. subst SaidOrdinary (sym (said_unary l o a)) (plain_ordinary (h l).read);
-  chain = λ o a ls h g l. subst SaidOrdinary (sym (said_chain l o a ls)) (plain_ordinary (ordinary_join (h l).read (links_ordinary l ls g)));
+  chain = λ o a ls h g l. subst SaidOrdinary (sym (said_chain l o a ls))
+      (plain_ordinary (ordinary_join (h l).read (links_ordinary l ls g)));
   not = λ a h l. subst SaidOrdinary (sym (said_not l a)) (plain_ordinary (h l).read);
-  choice = λ a b d h g k l. subst SaidOrdinary (sym (said_choice l a b d)) (plain_ordinary (ordinary_join (ordinary_join (h l).read (g l).read) (k l).read));
+  choice = λ a b d h g k l. subst SaidOrdinary (sym (said_choice l a b d))
+      (plain_ordinary (ordinary_join (ordinary_join (h l).read (g l).read) (k l).read));
   attribute = λ n l. subst AllOrdinary (sym (said_attribute l n)) (label_ordinary l n);
   index = λ a h l. subst AllOrdinary (sym (said_index l a)) (h l).read;
-  slice = λ a b h g l. subst AllOrdinary (sym (said_slice l a b)) (ordinary_join (option_read l a h) (option_read l b g));
-  call = λ xs ks h g l. subst AllOrdinary (sym (said_call l xs ks)) (ordinary_join (exprs_read l xs h) (keywords_ordinary l [] ks g));
+  slice = λ a b h g l. subst AllOrdinary (sym (said_slice l a b))
+      (ordinary_join (option_read l a h) (option_read l b g));
+  call = λ xs ks h g l. subst AllOrdinary (sym (said_call l xs ks))
+      (ordinary_join (exprs_read l xs h) (keywords_ordinary l [] ks g));
 }
 
 said_ordinary : (a : Expr) → OfExpr a
@@ -177,4 +190,6 @@ raises_ordinary l (Some a) v w = ordinary_join (read_ordinary l a) (read_some_or
 
 pub parameters_ordinary : (l : ℕ) (before : List (List ℕ)) (ps : List Param) → AllOrdinary (parameters l before ps)
 parameters_ordinary l before [] = ordinary_nil
-parameters_ordinary l before (p ∷ ps) = ordinary_join (ordinary_join (ordinary_join (label_ordinary l p.name) (repeated_ordinary l before p.name)) (read_some_ordinary l p.default)) (parameters_ordinary l (with_name before p.name) ps)
+parameters_ordinary l before (p ∷ ps) = ordinary_join
+    (ordinary_join (ordinary_join (label_ordinary l p.name) (repeated_ordinary l before p.name))
+    (read_some_ordinary l p.default)) (parameters_ordinary l (with_name before p.name) ps)

@@ -21,7 +21,8 @@ use Rattle.py_compile.proofs.ParamSlots.{names_bound, params_fit}
 
 -- ---- no body binds None
 
-none_bound : (m : Module) (scopes : List Scope) → legal_all m.body false false ≡ true → Resolves m (Ok scopes) → (k : ℕ) (x : List ℕ) → is_none x ≡ true → has x (locals_of (bound_in scopes) m.body k) ≡ false
+none_bound : (m : Module) (scopes : List Scope) → legal_all m.body false false ≡ true → Resolves m (Ok scopes) →
+    (k : ℕ) (x : List ℕ) → is_none x ≡ true → has x (locals_of (bound_in scopes) m.body k) ≡ false
 none_bound m scopes h r k x e = by_place (nat_lt k (bodies 0 (outline m))) refl
   where
     by_place : (b : Bool) → nat_lt k (bodies 0 (outline m)) ≡ b → has x (get_or (bound_in scopes) k []) ≡ false
@@ -35,11 +36,14 @@ none_bound m scopes h r k x e = by_place (nat_lt k (bodies 0 (outline m))) refl
 
 -- ---- the program
 
-pub compiled_right : (m : Module) (scopes : List Scope) → IsResolved m scopes → too_large_in (bound_in scopes) m ≡ None → IsRightProgram (program_of (bound_in scopes) m)
+pub compiled_right : (m : Module) (scopes : List Scope) → IsResolved m scopes → too_large_in (bound_in scopes) m ≡ None
+    → IsRightProgram (program_of (bound_in scopes) m)
 compiled_right m scopes h small =
     let legal = legal_text m h.tokens h.is h.resolves.0 in
-    program_right (bound_in scopes) m legal (none_bound m scopes legal h.resolves) (params_fit m scopes legal h.resolves) small
+    program_right (bound_in scopes) m legal (none_bound m scopes legal h.resolves)
+    (params_fit m scopes legal h.resolves) small
 
 -- what `compile` answers
-pub compiles_right : (m : Module) (scopes : List Scope) (p : Program) → IsResolved m scopes → Compiles m scopes (Ok p) → IsRightProgram p
+pub compiles_right : (m : Module) (scopes : List Scope) (p : Program) → IsResolved m scopes → Compiles m scopes (Ok p)
+    → IsRightProgram p
 compiles_right m scopes p h done = subst IsRightProgram (sym done.1) (compiled_right m scopes h done.0)

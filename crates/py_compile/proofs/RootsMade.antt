@@ -15,15 +15,20 @@ use Rattle.py_names.specs.Outline.{with_name}
 use Rattle.py_compile.specs.Whole as whole
 
 -- names that are put in once differ
-differ_more : (before xs : List (List ℕ)) (x : List ℕ) → differ before xs ≡ true → has x (before ++ xs) ≡ false → differ before (xs ++ x ∷ []) ≡ true
-differ_more before [] x d h = by_test (has x before) (or_parts (has x before) false (sym (list_any-append (bytes_eq x) before []) ∙ h)).0
+differ_more : (before xs : List (List ℕ)) (x : List ℕ) → differ before xs ≡ true → has x (before ++ xs) ≡ false →
+    differ before (xs ++ x ∷ []) ≡ true
+differ_more before [] x d h = by_test (has x before)
+    (or_parts (has x before) false (sym (list_any-append (bytes_eq x) before []) ∙ h)).0
   where
     by_test : (b : Bool) → b ≡ false → (if b then false else true) ≡ true
     by_test true e = absurd (cc)
     by_test false e = refl
-differ_more before (y ∷ xs) x d h = by_test (has y before) d (λ e. differ_more (before ++ y ∷ []) xs x e (ap (has x) (append_assoc before (y ∷ []) xs) ∙ h))
+differ_more before (y ∷ xs) x d h = by_test (has y before) d
+    (λ e. differ_more (before ++ y ∷ []) xs x e (ap (has x) (append_assoc before (y ∷ []) xs) ∙ h))
   where
-    by_test : (b : Bool) → (if b then false else differ (before ++ y ∷ []) xs) ≡ true → (differ (before ++ y ∷ []) xs ≡ true → differ (before ++ y ∷ []) (xs ++ x ∷ []) ≡ true) → (if b then false else differ (before ++ y ∷ []) (xs ++ x ∷ [])) ≡ true
+    by_test : (b : Bool) → (if b then false else differ (before ++ y ∷ []) xs) ≡ true →
+        (differ (before ++ y ∷ []) xs ≡ true → differ (before ++ y ∷ []) (xs ++ x ∷ []) ≡ true) →
+        (if b then false else differ (before ++ y ∷ []) (xs ++ x ∷ [])) ≡ true
     by_test true e more = absurd (cc)
     by_test false e more = more e
 
@@ -53,7 +58,8 @@ main_last ts cs h = by_test (has own_name cs) h
 
 all_short : (ts : List (List ℕ)) → list_any whole.is_long ts ≡ false → All (λ t. length t ≤ 1048576) ts
 all_short [] h = All-nil (λ t. length t ≤ 1048576)
-all_short (t ∷ ts) h = let q = or_parts (whole.is_long t) (list_any whole.is_long ts) h in All-cons (λ t. length t ≤ 1048576) t ts (ltb-false 1048576 (length t) q.0) (all_short ts q.1)
+all_short (t ∷ ts) h = let q = or_parts (whole.is_long t) (list_any whole.is_long ts) h in
+    All-cons (λ t. length t ≤ 1048576) t ts (ltb-false 1048576 (length t) q.0) (all_short ts q.1)
 
 main_short : (cs : List (List ℕ)) → All (λ t. length t ≤ 1048576) (main_texts cs)
 main_short cs = by_test (has own_name cs)
@@ -72,21 +78,27 @@ if_false true c e = absurd (cc)
 if_false false c e = (refl, e)
 
 module _ (locals : List (List (List ℕ))) (ss : List Stmt) where
-  pub parts : whole.too_large locals ss ≡ None → (whole.too_many locals ss ≡ false) × (whole.large_bodies (whole.names_of locals ss) 0 (whole.bodies ss) ≡ None)
+  pub parts : whole.too_large locals ss ≡ None →
+      (whole.too_many locals ss ≡ false) × (whole.large_bodies (whole.names_of locals ss) 0 (whole.bodies ss) ≡ None)
   parts e = if_none (whole.too_many locals ss) (whole.large_bodies (whole.names_of locals ss) 0 (whole.bodies ss)) e
 
   pub roots_right : whole.too_many locals ss ≡ false → HasRoots (whole.roots locals ss)
   roots_right e =
-      let p = if_false (nat_lt 65535 (length (whole.bodies ss))) (if nat_lt 65535 (length (whole.roots locals ss)) then true else list_any whole.is_long (whole.texts locals ss)) e in
-      let q = if_false (nat_lt 65535 (length (whole.roots locals ss))) (list_any whole.is_long (whole.texts locals ss)) p.1 in
+      let p = if_false (nat_lt 65535 (length (whole.bodies ss)))
+      (if nat_lt 65535 (length (whole.roots locals ss)) then true else list_any whole.is_long
+      (whole.texts locals ss)) e in
+      let q = if_false (nat_lt 65535 (length (whole.roots locals ss))) (list_any whole.is_long (whole.texts locals ss))
+      p.1 in
       let ts = whole.texts locals ss ++ main_texts (whole.cells locals ss) in
       let cs = whole.cells locals ss in
       let few = ltb-false 65535 (length (whole.roots locals ss)) q.0 in
-      let short = All-append (λ t. length t ≤ 1048576) (whole.texts locals ss) (main_texts cs) (all_short (whole.texts locals ss) q.1) (main_short cs) in
+      let short = All-append (λ t. length t ≤ 1048576) (whole.texts locals ss) (main_texts cs)
+      (all_short (whole.texts locals ss) q.1) (main_short cs) in
       record {
         form = λ i. roots_of (sym (texts_told ts cs) i) (sym (names_told ts cs) i);
         few = omega (arith, few);
         short = subst (All (λ t. length t ≤ 1048576)) (sym (texts_told ts cs)) short;
         apart = ap (differ []) (names_told ts cs) ∙ cells_differ [] (whole.uses locals ss) refl;
-        main = λ h. ap (last_or None) (texts_told ts cs) ∙ main_last (whole.texts locals ss) cs (ap (has own_name) (sym (names_told ts cs)) ∙ h);
+        main = λ h. ap (last_or None) (texts_told ts cs) ∙
+            main_last (whole.texts locals ss) cs (ap (has own_name) (sym (names_told ts cs)) ∙ h);
       }

@@ -25,7 +25,8 @@ row_cons_is a bs = λ i. record {
     own : Frame
     own = record { labels = []; slot = 0 }
 
-    code : (env : List Frame) (p k : ℕ) → a.code env p (k + 0) ++ code_of (own ∷ env) (map (Sub 1) bs) (p + a.size) (k + 0 + a.slots) ≡ a.code env p k ++ code_of (own ∷ env) (map (Sub 1) bs) (p + a.size) (k + a.slots + 0)
+    code : (env : List Frame) (p k : ℕ) → a.code env p (k + 0) ++ code_of (own ∷ env) (map (Sub 1) bs) (p + a.size)
+        (k + 0 + a.slots) ≡ a.code env p k ++ code_of (own ∷ env) (map (Sub 1) bs) (p + a.size) (k + a.slots + 0)
     code env p k =
         let e : k + 0 ≡ k = omega arith in
         let f : k + 0 + a.slots ≡ k + a.slots + 0 = omega arith in
@@ -48,24 +49,35 @@ none_then b = λ i. record { size = plus b.size i; slots = slots i; lines = b.li
         ap (λ z. b.code env z (k + (0 + 0))) e ∙ ap (λ z. b.code env p z) f
 
 then_then : (a b c : Piece) → then (then a b) c ≡ then a (then b c)
-then_then a b c = λ i. record { size = sums a.size b.size c.size i; slots = sums a.slots b.slots c.slots i; lines = append_assoc a.lines b.lines c.lines i; code = λ env p k. code env p k i }
+then_then a b c = λ i. record {
+  size = sums a.size b.size c.size i;
+  slots = sums a.slots b.slots c.slots i;
+  lines =
+      append_assoc a.lines b.lines c.lines i;
+  code = λ env p k. code env p k i;
+}
   where
     sums : (l m n : ℕ) → l + m + n ≡ l + (m + n)
     sums l m n = omega arith
 
     code : (env : List Frame) (p k : ℕ) → (then (then a b) c).code env p k ≡ (then a (then b c)).code env p k
     code env p k =
-        append_assoc (a.code env p k) (b.code env (p + a.size) (k + a.slots)) (c.code env (p + (a.size + b.size)) (k + (a.slots + b.slots)))
-        ∙ ap (λ z. a.code env p k ++ (b.code env (p + a.size) (k + a.slots) ++ c.code env z (k + (a.slots + b.slots)))) (sym (sums p a.size b.size))
-        ∙ ap (λ z. a.code env p k ++ (b.code env (p + a.size) (k + a.slots) ++ c.code env (p + a.size + b.size) z)) (sym (sums k a.slots b.slots))
+        append_assoc (a.code env p k) (b.code env (p + a.size) (k + a.slots))
+        (c.code env (p + (a.size + b.size)) (k + (a.slots + b.slots)))
+        ∙ ap (λ z. a.code env p k ++ (b.code env (p + a.size) (k + a.slots) ++ c.code env z (k + (a.slots + b.slots))))
+        (sym (sums p a.size b.size))
+        ∙ ap (λ z. a.code env p k ++ (b.code env (p + a.size) (k + a.slots) ++ c.code env (p + a.size + b.size) z))
+        (sym (sums k a.slots b.slots))
 
 row_both : (bs cs : List Piece) → row (bs ++ cs) ≡ then (row bs) (row cs)
 row_both [] cs = sym (none_then (row cs))
-row_both (b ∷ bs) cs = row_cons_is b (bs ++ cs) ∙ ap (then b) (row_both bs cs) ∙ sym (then_then b (row bs) (row cs)) ∙ ap (λ z. then z (row cs)) (sym (row_cons_is b bs))
+row_both (b ∷ bs) cs = row_cons_is b (bs ++ cs) ∙ ap (then b) (row_both bs cs) ∙ sym (then_then b (row bs) (row cs)) ∙
+    ap (λ z. then z (row cs)) (sym (row_cons_is b bs))
 
 -- a row among pieces
 pub row_flat : (as' bs cs : List Piece) → row (as' ++ row bs ∷ cs) ≡ row (as' ++ (bs ++ cs))
-row_flat as' bs cs = row_both as' (row bs ∷ cs) ∙ ap (then (row as')) (row_cons_is (row bs) cs ∙ sym (row_both bs cs)) ∙ sym (row_both as' (bs ++ cs))
+row_flat as' bs cs = row_both as' (row bs ∷ cs) ∙ ap (then (row as')) (row_cons_is (row bs) cs ∙ sym (row_both bs cs))
+    ∙ sym (row_both as' (bs ++ cs))
 
 -- rows with equal fronts, and rows with equal ends
 pub row_front : (as' bs cs : List Piece) → row as' ≡ row bs → row (as' ++ cs) ≡ row (bs ++ cs)

@@ -25,10 +25,12 @@ abbrev pub Opens : List Instr → ℕ → Type 0
 Opens is g = list_any (opens_body g) is ≡ true
 
 pub opens_front : (a c : List Instr) (g : ℕ) → Opens a g → Opens (a ++ c) g
-opens_front a c g h = list_any-append (opens_body g) a c ∙ or_left (list_any (opens_body g) a) (list_any (opens_body g) c) h
+opens_front a c g h = list_any-append (opens_body g) a c ∙
+    or_left (list_any (opens_body g) a) (list_any (opens_body g) c) h
 
 pub opens_back : (a c : List Instr) (g : ℕ) → Opens c g → Opens (a ++ c) g
-opens_back a c g h = list_any-append (opens_body g) a c ∙ or_right (list_any (opens_body g) a) (list_any (opens_body g) c) h
+opens_back a c g h = list_any-append (opens_body g) a c ∙
+    or_right (list_any (opens_body g) a) (list_any (opens_body g) c) h
 
 -- the bodies of a body: what it knows, by its number and whether it is a class's
 module _ (N : ℕ → Bool → Known) (all : List Instr) where
@@ -45,7 +47,8 @@ module _ (N : ℕ → Bool → Known) (all : List Instr) where
   PartSits (Sub d b) = Sits b
   PartSits _ = Unit {0}
 
-  one_part : (x : Part) (env : List Frame) (p k : ℕ) → ((g : ℕ) → Opens (part_code env x p k) g → Opens all g) → PartSits x
+  one_part : (x : Part) (env : List Frame) (p k : ℕ) → ((g : ℕ) → Opens (part_code env x p k) g → Opens all g) →
+      PartSits x
   one_part (Op i) env p k h = h
   one_part (Hidden d j) env p k h = tt
   one_part (To d j l) env p k h = tt
@@ -53,16 +56,22 @@ module _ (N : ℕ → Bool → Known) (all : List Instr) where
   one_part (Alone b) env p k h = record { env = []; place = p; slot = k; opens = h }
   one_part (Sub d b) env p k h = record { env = drop d env; place = p; slot = k; opens = h }
 
-  parts_sit : (xs : List Part) (env : List Frame) (p k : ℕ) → ((g : ℕ) → Opens (code_of env xs p k) g → Opens all g) → Every PartSits xs
+  parts_sit : (xs : List Part) (env : List Frame) (p k : ℕ) → ((g : ℕ) → Opens (code_of env xs p k) g → Opens all g) →
+      Every PartSits xs
   parts_sit [] env p k h = tt
   parts_sit (x ∷ xs) env p k h =
       let a = part_code env x p k in
-      let c = code_of env xs (p + part_size x) (k + part_slots x) in
-      (one_part x env p k (λ g o. h g (opens_front a c g o)), parts_sit xs env (p + part_size x) (k + part_slots x) (λ g o. h g (opens_back a c g o)))
+      let c = code_of env xs (p + part_size x) (k + part_slots x) in (
+        one_part x env p k (λ g o. h g (opens_front a c g o)),
+        parts_sit xs env (p + part_size x) (k + part_slots x)
+            (λ g o. h g (opens_back a c g o)),
+      )
 
   -- so are those of its parts
   pub sub_parts : (ln own count : ℕ) (xs : List Part) → Sits (template ln own count xs) → Every PartSits xs
-  sub_parts ln own count xs s = parts_sit xs (record { labels = labels_from xs s.place count 0; slot = own_slot own s.slot } ∷ s.env) s.place (s.slot + own) s.opens
+  sub_parts ln own count xs s = parts_sit xs
+      (record { labels = labels_from xs s.place count 0; slot = own_slot own s.slot } ∷ s.env) s.place (s.slot + own)
+      s.opens
 
   rows_sit : (ps : List Piece) → Every PartSits (map (Sub 1) ps) → Every Sits ps
   rows_sit [] h = tt
@@ -82,7 +91,8 @@ module _ (N : ℕ → Bool → Known) (all : List Instr) where
 
   sits_back : (f m : ℕ) (a c : List Body) → length a ≡ m → BodiesSit f (a ++ c) → BodiesSit (f + m) c
   sits_back f m [] c e h = let k : f ≡ f + m = omega (arith, e) in subst (λ g. BodiesSit g c) k h
-  sits_back f m (y ∷ a) c e h = let k : f + 1 + length a ≡ f + m = omega (arith, e) in subst (λ g. BodiesSit g c) k (sits_back (f + 1) (length a) a c refl h.1)
+  sits_back f m (y ∷ a) c e h = let k : f + 1 + length a ≡ f + m = omega (arith, e) in
+      subst (λ g. BodiesSit g c) k (sits_back (f + 1) (length a) a c refl h.1)
 
   -- each of these that is a class's has its CLASS_BODY
   abbrev pub AllOpen : ℕ → List Body → Type 0
@@ -91,12 +101,14 @@ module _ (N : ℕ → Bool → Known) (all : List Instr) where
 
   opens_join : (f m : ℕ) (a c : List Body) → length a ≡ m → AllOpen f a → AllOpen (f + m) c → AllOpen f (a ++ c)
   opens_join f m [] c e h g = let k : f + m ≡ f = omega (arith, e) in subst (λ i. AllOpen i c) k g
-  opens_join f m (y ∷ a) c e h g = let k : f + m ≡ f + 1 + length a = omega (arith, e) in (h.0, opens_join (f + 1) (length a) a c refl h.1 (subst (λ i. AllOpen i c) k g))
+  opens_join f m (y ∷ a) c e h g = let k : f + m ≡ f + 1 + length a = omega (arith, e) in
+      (h.0, opens_join (f + 1) (length a) a c refl h.1 (subst (λ i. AllOpen i c) k g))
 
   -- a statement
   pub record SitRel (s : Stated) : Type 0 where
     pub long : (f : ℕ) → length (s.inner f) ≡ s.bodies
-    pub sits : (j : ℕ) (z : Bool) (c : List Around) (f : ℕ) → Sits (s.code (N j z) c f) → BodiesSit f (s.inner f) → AllOpen f (s.inner f)
+    pub sits : (j : ℕ) (z : Bool) (c : List Around) (f : ℕ) → Sits (s.code (N j z) c f) → BodiesSit f (s.inner f) →
+        AllOpen f (s.inner f)
 
   pub record ArmSit (a : Armed) : Type 0 where
     pub block : SitRel a.block
@@ -109,48 +121,71 @@ module _ (N : ℕ → Bool → Known) (all : List Instr) where
 
   list_long : (ss : List Stated) → Every SitRel ss → (f : ℕ) → length (inners ss f) ≡ count ss
   list_long [] rs f = refl
-  list_long (s ∷ ss) rs f = let a = rs.0.long f in let b = list_long ss rs.1 (f + s.bodies) in omega (arith, a, b, length-append (s.inner f) (inners ss (f + s.bodies)))
+  list_long (s ∷ ss) rs f = let a = rs.0.long f in let b = list_long ss rs.1 (f + s.bodies) in
+      omega (arith, a, b, length-append (s.inner f) (inners ss (f + s.bodies)))
 
-  list_sits : (ss : List Stated) → Every SitRel ss → (j : ℕ) (z : Bool) (c : List Around) (f : ℕ) → Every Sits (pieces ss (N j z) c f) → BodiesSit f (inners ss f) → AllOpen f (inners ss f)
+  list_sits : (ss : List Stated) → Every SitRel ss → (j : ℕ) (z : Bool) (c : List Around) (f : ℕ) →
+      Every Sits (pieces ss (N j z) c f) → BodiesSit f (inners ss f) → AllOpen f (inners ss f)
   list_sits [] rs j z c f p b = tt
   list_sits (s ∷ ss) rs j z c f p b =
       let t = inners ss (f + s.bodies) in
-      opens_join f s.bodies (s.inner f) t (rs.0.long f) (rs.0.sits j z c f p.0 (sits_front f (s.inner f) t b)) (list_sits ss rs.1 j z c (f + s.bodies) p.1 (sits_back f s.bodies (s.inner f) t (rs.0.long f) b))
+      opens_join f s.bodies (s.inner f) t (rs.0.long f) (rs.0.sits j z c f p.0 (sits_front f (s.inner f) t b))
+      (list_sits ss rs.1 j z c (f + s.bodies) p.1 (sits_back f s.bodies (s.inner f) t (rs.0.long f) b))
 
   block_sit : (ss : List Stated) → Every SitRel ss → SitRel (block ss)
-  block_sit ss rs = record { long = list_long ss rs; sits = λ j z c f s b. list_sits ss rs j z c f (row_sits (pieces ss (N j z) c f) s) b }
+  block_sit ss rs = record {
+    long = list_long ss rs;
+    sits = λ j z c f s b.
+        list_sits ss rs j z c f (row_sits (pieces ss (N j z) c f) s) b;
+  }
 
   -- two parts in turn
-  two : (f m : ℕ) (a c : List Body) → length a ≡ m → (BodiesSit f a → AllOpen f a) → (BodiesSit (f + m) c → AllOpen (f + m) c) → BodiesSit f (a ++ c) → AllOpen f (a ++ c)
+  two : (f m : ℕ) (a c : List Body) → length a ≡ m → (BodiesSit f a → AllOpen f a) →
+      (BodiesSit (f + m) c → AllOpen (f + m) c) → BodiesSit f (a ++ c) → AllOpen f (a ++ c)
   two f m a c e x y b = opens_join f m a c e (x (sits_front f a c b)) (y (sits_back f m a c e b))
 
   -- the parts of the constructs
   arm_sits : (ln : ℕ) (t b : Piece) → Sits (arm ln t b) → Sits b
-  arm_sits ln t b s = let q = sub_parts ln 0 1 (Alone t ∷ To 0 JumpFalse M ∷ Sub 2 b ∷ To 1 Jump E ∷ Here M ∷ []) s in q.1.1.0
+  arm_sits ln t b s = let q = sub_parts ln 0 1 (Alone t ∷ To 0 JumpFalse M ∷ Sub 2 b ∷ To 1 Jump E ∷ Here M ∷ []) s in
+      q.1.1.0
 
   all_arms_sit : (as' : List Piece) (e : Piece) → Sits (all_arms 0 as' e) → Every Sits as' × Sits e
-  all_arms_sit as' e s = let q = sub_parts 0 0 1 (Sub 0 (row as') ∷ Sub 1 e ∷ Here E ∷ []) s in (row_sits as' q.0, q.1.0)
+  all_arms_sit as' e s = let q = sub_parts 0 0 1 (Sub 0 (row as') ∷ Sub 1 e ∷ Here E ∷ []) s in
+      (row_sits as' q.0, q.1.0)
 
   while_sits : (ln : ℕ) (t b e : Piece) → Sits (while ln t b e) → Sits b × Sits e
-  while_sits ln t b e s = let q = sub_parts ln 0 3 (Here A ∷ Alone t ∷ To 0 JumpFalse B ∷ Sub 0 b ∷ To 0 Jump A ∷ Here B ∷ Sub 1 e ∷ Here E ∷ []) s in (q.1.1.1.0, q.1.1.1.1.1.1.0)
+  while_sits ln t b e s = let q = sub_parts ln 0 3
+      (Here A ∷ Alone t ∷ To 0 JumpFalse B ∷ Sub 0 b ∷ To 0 Jump A ∷ Here B ∷ Sub 1 e ∷ Here E ∷ []) s in
+      (q.1.1.1.0, q.1.1.1.1.1.1.0)
 
   for_sits : (ln : ℕ) (t x b e : Piece) → Sits (for ln t x b e) → Sits b × Sits e
-  for_sits ln t x b e s = let q = sub_parts ln 0 3 (Alone x ∷ Op Iter ∷ Here A ∷ To 0 Next B ∷ Alone t ∷ Sub 0 b ∷ To 0 Jump A ∷ Here B ∷ Sub 1 e ∷ Here E ∷ []) s in (q.1.1.1.1.1.0, q.1.1.1.1.1.1.1.1.0)
+  for_sits ln t x b e s = let q = sub_parts ln 0 3
+      (Alone x ∷ Op Iter ∷ Here A ∷ To 0 Next B ∷ Alone t ∷ Sub 0 b ∷ To 0 Jump A ∷ Here B ∷ Sub 1 e ∷ Here E ∷ []) s
+      in (q.1.1.1.1.1.0, q.1.1.1.1.1.1.1.1.0)
 
-  try_sits : (ln : ℕ) (b : Piece) (hs : List Piece) (e : Piece) → Sits (try_except ln b hs e) → Sits b × Every Sits hs × Sits e
-  try_sits ln b hs e s = let q = sub_parts ln 1 2 (To 0 Try H ∷ Sub 0 b ∷ Op PopTry ∷ Sub 1 e ∷ To 0 Jump E ∷ Here H ∷ Hidden 0 StoreLocal ∷ Sub 0 (row hs) ∷ Hidden 0 LoadLocal ∷ Op Raise ∷ Here E ∷ []) s in (q.1.0, row_sits hs q.1.1.1.1.1.1.1.0, q.1.1.1.0)
+  try_sits : (ln : ℕ) (b : Piece) (hs : List Piece) (e : Piece) → Sits (try_except ln b hs e) →
+      Sits b × Every Sits hs × Sits e
+  try_sits ln b hs e s = let q = sub_parts ln 1 2
+      (To 0 Try H ∷ Sub 0 b ∷ Op PopTry ∷ Sub 1 e ∷ To 0 Jump E ∷ Here H ∷ Hidden 0 StoreLocal ∷ Sub 0 (row hs) ∷
+      Hidden 0 LoadLocal ∷ Op Raise ∷ Here E ∷ []) s in (q.1.0, row_sits hs q.1.1.1.1.1.1.1.0, q.1.1.1.0)
 
   finally_sits : (ln : ℕ) (b d : Piece) → Sits (try_finally ln b d) → Sits b × Sits d
-  finally_sits ln b d s = let q = sub_parts ln 1 2 (To 0 Try H ∷ Sub 0 b ∷ Op PopTry ∷ Sub 1 d ∷ To 0 Jump E ∷ Here H ∷ Hidden 0 StoreLocal ∷ Sub 1 d ∷ Hidden 0 LoadLocal ∷ Op Raise ∷ Here E ∷ []) s in (q.1.0, q.1.1.1.0)
+  finally_sits ln b d s = let q = sub_parts ln 1 2
+      (To 0 Try H ∷ Sub 0 b ∷ Op PopTry ∷ Sub 1 d ∷ To 0 Jump E ∷ Here H ∷ Hidden 0 StoreLocal ∷ Sub 1 d ∷ Hidden 0
+      LoadLocal ∷ Op Raise ∷ Here E ∷ []) s in (q.1.0, q.1.1.1.0)
 
   bare_sits : (ln : ℕ) (b : Piece) → Sits (clause_bare ln b) → Sits b
   bare_sits ln b s = let q = sub_parts ln 0 0 (Sub 1 b ∷ To 1 Jump E ∷ []) s in q.0
 
   test_sits : (ln : ℕ) (e b : Piece) → Sits (clause_test ln e b) → Sits b
-  test_sits ln e b s = let q = sub_parts ln 0 1 (Hidden 1 LoadLocal ∷ Alone e ∷ Op ExcMatch ∷ To 0 JumpFalse M ∷ Sub 1 b ∷ To 1 Jump E ∷ Here M ∷ []) s in q.1.1.1.1.0
+  test_sits ln e b s = let q = sub_parts ln 0 1
+      (Hidden 1 LoadLocal ∷ Alone e ∷ Op ExcMatch ∷ To 0 JumpFalse M ∷ Sub 1 b ∷ To 1 Jump E ∷ Here M ∷ []) s in
+      q.1.1.1.1.0
 
   target_sits : (ln : ℕ) (e t b : Piece) → Sits (clause_target ln e t b) → Sits b
-  target_sits ln e t b s = let q = sub_parts ln 0 1 (Hidden 1 LoadLocal ∷ Alone e ∷ Op ExcMatch ∷ To 0 JumpFalse M ∷ Hidden 1 LoadLocal ∷ Alone t ∷ Sub 1 b ∷ To 1 Jump E ∷ Here M ∷ []) s in q.1.1.1.1.1.1.0
+  target_sits ln e t b s = let q = sub_parts ln 0 1
+      (Hidden 1 LoadLocal ∷ Alone e ∷ Op ExcMatch ∷ To 0 JumpFalse M ∷ Hidden 1 LoadLocal ∷ Alone t ∷ Sub 1 b ∷ To 1
+      Jump E ∷ Here M ∷ []) s in q.1.1.1.1.1.1.0
 
   class_opens : (ln : ℕ) (b : Piece) (f : ℕ) (x : Home) → Sits (class ln b f x) → Opens all f
   class_opens ln b f x s =
@@ -159,35 +194,65 @@ module _ (N : ℕ → Bool → Known) (all : List Instr) where
 
   arms_long : (as' : List Armed) → Every ArmSit as' → (f : ℕ) → length (armed_inner as' f) ≡ armed_count as'
   arms_long [] rs f = refl
-  arms_long (x ∷ as') rs f = let a = rs.0.block.long f in let b = arms_long as' rs.1 (f + x.block.bodies) in omega (arith, a, b, length-append (x.block.inner f) (armed_inner as' (f + x.block.bodies)))
+  arms_long (x ∷ as') rs f = let a = rs.0.block.long f in let b = arms_long as' rs.1 (f + x.block.bodies) in
+      omega (arith, a, b, length-append (x.block.inner f) (armed_inner as' (f + x.block.bodies)))
 
-  arms_sit : (as' : List Armed) → Every ArmSit as' → (j : ℕ) (z : Bool) (c : List Around) (f : ℕ) → Every Sits (armed as' (N j z) c f) → BodiesSit f (armed_inner as' f) → AllOpen f (armed_inner as' f)
+  arms_sit : (as' : List Armed) → Every ArmSit as' → (j : ℕ) (z : Bool) (c : List Around) (f : ℕ) →
+      Every Sits (armed as' (N j z) c f) → BodiesSit f (armed_inner as' f) → AllOpen f (armed_inner as' f)
   arms_sit [] rs j z c f p b = tt
   arms_sit (x ∷ as') rs j z c f p b =
       two f x.block.bodies (x.block.inner f) (armed_inner as' (f + x.block.bodies)) (rs.0.block.long f)
       (λ d. rs.0.block.sits j z c f (arm_sits x.line (value (N j z) x.line x.test) (x.block.code (N j z) c f) p.0) d)
       (λ d. arms_sit as' rs.1 j z c (f + x.block.bodies) p.1 d) b
 
-  if_sit : (as' : List Armed) (e : Stated) → Every ArmSit as' → SitRel e → SitRel (record { bodies = armed_count as' + e.bodies; code = λ n c f. all_arms 0 (armed as' n c f) (e.code n c (f + armed_count as')); inner = λ f. armed_inner as' f ++ e.inner (f + armed_count as') })
+  if_sit : (as' : List Armed) (e : Stated) → Every ArmSit as' → SitRel e →
+      SitRel (record {
+        bodies = armed_count as' + e.bodies;
+        code = λ n c f.
+            all_arms 0 (armed as' n c f) (e.code n c (f + armed_count as'));
+        inner = λ f.
+            armed_inner as' f ++ e.inner (f + armed_count as');
+      })
   if_sit as' e rs re = record {
-    long = λ f. let a = arms_long as' rs f in let b = re.long (f + armed_count as') in omega (arith, a, b, length-append (armed_inner as' f) (e.inner (f + armed_count as')));
+    long = λ f. let a = arms_long as' rs f in let b = re.long (f + armed_count as') in
+        omega (arith, a, b, length-append (armed_inner as' f) (e.inner (f + armed_count as')));
     sits = λ j z c f s b. let q = all_arms_sit (armed as' (N j z) c f) (e.code (N j z) c (f + armed_count as')) s in
         two f (armed_count as') (armed_inner as' f) (e.inner (f + armed_count as')) (arms_long as' rs f)
         (λ d. arms_sit as' rs j z c f q.0 d) (λ d. re.sits j z c (f + armed_count as') q.1 d) b;
   }
 
-  while_sit : (a : Armed) (e : Stated) → ArmSit a → SitRel e → SitRel (record { bodies = a.block.bodies + e.bodies; code = λ n c f. while a.line (value n a.line a.test) (a.block.code n (InWhile ∷ c) f) (e.code n c (f + a.block.bodies)); inner = λ f. a.block.inner f ++ e.inner (f + a.block.bodies) })
+  while_sit : (a : Armed) (e : Stated) → ArmSit a → SitRel e →
+      SitRel (record {
+        bodies = a.block.bodies + e.bodies;
+        code = λ n c f.
+            while a.line (value n a.line a.test) (a.block.code n (InWhile ∷ c) f) (e.code n c (f + a.block.bodies));
+        inner =
+            λ f. a.block.inner f ++ e.inner (f + a.block.bodies);
+      })
   while_sit a e ra re = record {
-    long = λ f. let x = ra.block.long f in let y = re.long (f + a.block.bodies) in omega (arith, x, y, length-append (a.block.inner f) (e.inner (f + a.block.bodies)));
-    sits = λ j z c f s b. let q = while_sits a.line (value (N j z) a.line a.test) (a.block.code (N j z) (InWhile ∷ c) f) (e.code (N j z) c (f + a.block.bodies)) s in
-        two f a.block.bodies (a.block.inner f) (e.inner (f + a.block.bodies)) (ra.block.long f) (λ d. ra.block.sits j z (InWhile ∷ c) f q.0 d) (λ d. re.sits j z c (f + a.block.bodies) q.1 d) b;
+    long = λ f. let x = ra.block.long f in let y = re.long (f + a.block.bodies) in
+        omega (arith, x, y, length-append (a.block.inner f) (e.inner (f + a.block.bodies)));
+    sits = λ j z c f s b. let q = while_sits a.line (value (N j z) a.line a.test)
+        (a.block.code (N j z) (InWhile ∷ c) f) (e.code (N j z) c (f + a.block.bodies)) s in
+        two f a.block.bodies (a.block.inner f) (e.inner (f + a.block.bodies)) (ra.block.long f)
+        (λ d. ra.block.sits j z (InWhile ∷ c) f q.0 d) (λ d. re.sits j z c (f + a.block.bodies) q.1 d) b;
   }
 
-  for_sit : (ln : ℕ) (t x : Expr) (ss : List Stated) (e : Stated) → Every SitRel ss → SitRel e → SitRel (record { bodies = count ss + e.bodies; code = λ n c f. for ln (stored n ln t) (value n ln x) ((block ss).code n (InFor ∷ c) f) (e.code n c (f + count ss)); inner = λ f. inners ss f ++ e.inner (f + count ss) })
+  for_sit : (ln : ℕ) (t x : Expr) (ss : List Stated) (e : Stated) → Every SitRel ss → SitRel e →
+      SitRel (record {
+        bodies = count ss + e.bodies;
+        code = λ n c f.
+            for ln (stored n ln t) (value n ln x) ((block ss).code n (InFor ∷ c) f) (e.code n c (f + count ss));
+        inner = λ f.
+            inners ss f ++ e.inner (f + count ss);
+      })
   for_sit ln t x ss e rs re = record {
-    long = λ f. let a = list_long ss rs f in let b = re.long (f + count ss) in omega (arith, a, b, length-append (inners ss f) (e.inner (f + count ss)));
-    sits = λ j z c f s b. let q = for_sits ln (stored (N j z) ln t) (value (N j z) ln x) ((block ss).code (N j z) (InFor ∷ c) f) (e.code (N j z) c (f + count ss)) s in
-        two f (count ss) (inners ss f) (e.inner (f + count ss)) (list_long ss rs f) (λ d. (block_sit ss rs).sits j z (InFor ∷ c) f q.0 d) (λ d. re.sits j z c (f + count ss) q.1 d) b;
+    long = λ f. let a = list_long ss rs f in let b = re.long (f + count ss) in
+        omega (arith, a, b, length-append (inners ss f) (e.inner (f + count ss)));
+    sits = λ j z c f s b. let q = for_sits ln (stored (N j z) ln t) (value (N j z) ln x)
+        ((block ss).code (N j z) (InFor ∷ c) f) (e.code (N j z) c (f + count ss)) s in
+        two f (count ss) (inners ss f) (e.inner (f + count ss)) (list_long ss rs f)
+        (λ d. (block_sit ss rs).sits j z (InFor ∷ c) f q.0 d) (λ d. re.sits j z c (f + count ss) q.1 d) b;
   }
 
   clause_body : (n : Known) (ln : ℕ) (e t : Option Expr) (b : Piece) → Sits (clause n ln e t b) → Sits b
@@ -197,42 +262,68 @@ module _ (N : ℕ → Bool → Known) (all : List Instr) where
 
   handlers_long : (hs : List Handled) → Every HandlerSit hs → (f : ℕ) → length (handled_inner hs f) ≡ handled_count hs
   handlers_long [] rs f = refl
-  handlers_long (x ∷ hs) rs f = let a = rs.0.block.long f in let b = handlers_long hs rs.1 (f + x.block.bodies) in omega (arith, a, b, length-append (x.block.inner f) (handled_inner hs (f + x.block.bodies)))
+  handlers_long (x ∷ hs) rs f = let a = rs.0.block.long f in let b = handlers_long hs rs.1 (f + x.block.bodies) in
+      omega (arith, a, b, length-append (x.block.inner f) (handled_inner hs (f + x.block.bodies)))
 
-  handlers_sit : (hs : List Handled) → Every HandlerSit hs → (j : ℕ) (z : Bool) (c : List Around) (f : ℕ) → Every Sits (handled hs (N j z) c f) → BodiesSit f (handled_inner hs f) → AllOpen f (handled_inner hs f)
+  handlers_sit : (hs : List Handled) → Every HandlerSit hs → (j : ℕ) (z : Bool) (c : List Around) (f : ℕ) →
+      Every Sits (handled hs (N j z) c f) → BodiesSit f (handled_inner hs f) → AllOpen f (handled_inner hs f)
   handlers_sit [] rs j z c f p b = tt
   handlers_sit (x ∷ hs) rs j z c f p b =
       two f x.block.bodies (x.block.inner f) (handled_inner hs (f + x.block.bodies)) (rs.0.block.long f)
-      (λ d. rs.0.block.sits j z (InClause ∷ c) f (clause_body (N j z) x.line x.test x.target (x.block.code (N j z) (InClause ∷ c) f) p.0) d)
+      (λ d. rs.0.block.sits j z (InClause ∷ c) f
+      (clause_body (N j z) x.line x.test x.target (x.block.code (N j z) (InClause ∷ c) f) p.0) d)
       (λ d. handlers_sit hs rs.1 j z c (f + x.block.bodies) p.1 d) b
 
-  try_sit : (t : Claused) (hs : List Handled) (e : Stated) → SitRel t.block → Every HandlerSit hs → SitRel e → SitRel (tried t hs e)
+  try_sit : (t : Claused) (hs : List Handled) (e : Stated) → SitRel t.block → Every HandlerSit hs → SitRel e →
+      SitRel (tried t hs e)
   try_sit t [] e rt rs re = rt
   try_sit t (h ∷ hs) e rt rs re = record {
-    long = λ f. let m = rt.long f in let n = handlers_long (h ∷ hs) rs (f + t.block.bodies) in let y = re.long (f + t.block.bodies + handled_count (h ∷ hs)) in omega (arith, m, n, y, length-append (t.block.inner f ++ handled_inner (h ∷ hs) (f + t.block.bodies)) (e.inner (f + t.block.bodies + handled_count (h ∷ hs))), length-append (t.block.inner f) (handled_inner (h ∷ hs) (f + t.block.bodies)));
+    long = λ f. let m = rt.long f in let n = handlers_long (h ∷ hs) rs (f + t.block.bodies) in let y =
+        re.long (f + t.block.bodies + handled_count (h ∷ hs)) in
+        omega (
+          arith,
+          m,
+          n,
+          y,
+          length-append (t.block.inner f ++ handled_inner (h ∷ hs) (f + t.block.bodies))
+              (e.inner (f + t.block.bodies + handled_count (h ∷ hs))),
+          length-append (t.block.inner f) (handled_inner (h ∷ hs) (f + t.block.bodies)),
+        );
     sits = λ j z c f s b.
-        let q = try_sits t.line (t.block.code (N j z) (InTry ∷ c) f) (handled (h ∷ hs) (N j z) c (f + t.block.bodies)) (e.code (N j z) c (f + t.block.bodies + handled_count (h ∷ hs))) s in
+        let q = try_sits t.line (t.block.code (N j z) (InTry ∷ c) f) (handled (h ∷ hs) (N j z) c (f + t.block.bodies))
+        (e.code (N j z) c (f + t.block.bodies + handled_count (h ∷ hs))) s in
         let a = t.block.inner f in
         let m = handled_inner (h ∷ hs) (f + t.block.bodies) in
         let d = e.inner (f + t.block.bodies + handled_count (h ∷ hs)) in
-        let len : length (a ++ m) ≡ t.block.bodies + handled_count (h ∷ hs) = let x = rt.long f in let y = handlers_long (h ∷ hs) rs (f + t.block.bodies) in omega (arith, x, y, length-append a m) in
-        let far : f + t.block.bodies + handled_count (h ∷ hs) ≡ f + (t.block.bodies + handled_count (h ∷ hs)) = omega arith in
+        let len : length (a ++ m) ≡ t.block.bodies + handled_count (h ∷ hs) = let x = rt.long f in let y =
+        handlers_long (h ∷ hs) rs (f + t.block.bodies) in omega (arith, x, y, length-append a m) in
+        let far : f + t.block.bodies + handled_count (h ∷ hs) ≡ f + (t.block.bodies + handled_count (h ∷ hs)) =
+        omega arith in
         two f (t.block.bodies + handled_count (h ∷ hs)) (a ++ m) d len
-        (λ w. two f t.block.bodies a m (rt.long f) (λ v. rt.sits j z (InTry ∷ c) f q.0 v) (λ v. handlers_sit (h ∷ hs) rs j z c (f + t.block.bodies) q.1 v) w)
-        (λ w. subst (λ i. AllOpen i d) far (re.sits j z c (f + t.block.bodies + handled_count (h ∷ hs)) q.2 (subst (λ i. BodiesSit i d) (sym far) w))) b;
+        (λ w. two f t.block.bodies a m (rt.long f) (λ v. rt.sits j z (InTry ∷ c) f q.0 v)
+        (λ v. handlers_sit (h ∷ hs) rs j z c (f + t.block.bodies) q.1 v) w)
+        (λ w. subst (λ i. AllOpen i d) far
+        (re.sits j z c (f + t.block.bodies + handled_count (h ∷ hs)) q.2 (subst (λ i. BodiesSit i d) (sym far) w)))
+        b;
   }
 
-  finally_sit : (ln : ℕ) (t : Stated) (d : Option Claused) → SitRel t → ((x : Claused) → d ≡ Some x → SitRel x.block) → SitRel (finally ln t d)
+  finally_sit : (ln : ℕ) (t : Stated) (d : Option Claused) → SitRel t → ((x : Claused) → d ≡ Some x → SitRel x.block) →
+      SitRel (finally ln t d)
   finally_sit ln t None rt rd = rt
   finally_sit ln t (Some d) rt rd = record {
-    long = λ f. let x = rt.long f in let y = (rd d refl).long (f + t.bodies) in omega (arith, x, y, length-append (t.inner f) (d.block.inner (f + t.bodies)));
-    sits = λ j z c f s b. let q = finally_sits ln (t.code (N j z) (InFinally (d.block.code (N j z) c (f + t.bodies)) ∷ c) f) (d.block.code (N j z) c (f + t.bodies)) s in
+    long = λ f. let x = rt.long f in let y = (rd d refl).long (f + t.bodies) in
+        omega (arith, x, y, length-append (t.inner f) (d.block.inner (f + t.bodies)));
+    sits = λ j z c f s b. let q = finally_sits ln
+        (t.code (N j z) (InFinally (d.block.code (N j z) c (f + t.bodies)) ∷ c) f)
+        (d.block.code (N j z) c (f + t.bodies)) s in
         two f t.bodies (t.inner f) (d.block.inner (f + t.bodies)) (rt.long f)
         (λ w. rt.sits j z (InFinally (d.block.code (N j z) c (f + t.bodies)) ∷ c) f q.0 w)
         (λ w. (rd d refl).sits j z c (f + t.bodies) q.1 w) b;
   }
 
-  body_sit : (ln : ℕ) (x : List ℕ) (z : Bool) (m : ℕ) (ss : List Stated) (g : Known → List Around → ℕ → Piece) → Every SitRel ss → (z ≡ true → (j : ℕ) (w : Bool) (c : List Around) (f : ℕ) → Sits (g (N j w) c f) → Opens all f) → SitRel (record { bodies = 1 + count ss; code = g; inner = inner_body ln x z m ss })
+  body_sit : (ln : ℕ) (x : List ℕ) (z : Bool) (m : ℕ) (ss : List Stated) (g : Known → List Around → ℕ → Piece) →
+      Every SitRel ss → (z ≡ true → (j : ℕ) (w : Bool) (c : List Around) (f : ℕ) → Sits (g (N j w) c f) → Opens all f)
+      → SitRel (record { bodies = 1 + count ss; code = g; inner = inner_body ln x z m ss })
   body_sit ln x z m ss g rs o = record {
     long = λ f. let a = list_long ss rs (f + 1) in omega (arith, a);
     sits = λ j w c f s b. ((λ e. o e j w c f s), (block_sit ss rs).sits f z [] (f + 1) b.0 b.1);
@@ -278,22 +369,47 @@ module _ (N : ℕ → Bool → Known) (all : List Instr) where
   layer (open'.Assert ln t m) = still_sit _
   layer (open'.Import ln is) = still_sit _
   layer (open'.From ln m is) = still_sit _
-  layer (open'.If ys None) = if_sit _ (block []) (related_every ArmSit (related_of ArmRel code_by_arm (uses_by_arm no_locals) legal_by_arm ys)) none_sit
-  layer (open'.If ys (Some e)) = if_sit _ (code_by_clause e.0).block (related_every ArmSit (related_of ArmRel code_by_arm (uses_by_arm no_locals) legal_by_arm ys)) e.1
+  layer (open'.If ys None) = if_sit _ (block [])
+      (related_every ArmSit (related_of ArmRel code_by_arm (uses_by_arm no_locals) legal_by_arm ys)) none_sit
+  layer (open'.If ys (Some e)) = if_sit _ (code_by_clause e.0).block
+      (related_every ArmSit (related_of ArmRel code_by_arm (uses_by_arm no_locals) legal_by_arm ys)) e.1
   layer (open'.While a None) = while_sit (code_by_arm a.0) (block []) a.1 none_sit
   layer (open'.While a (Some e)) = while_sit (code_by_arm a.0) (code_by_clause e.0).block a.1 e.1
-  layer (open'.For ln t x ys None) = for_sit ln t x _ (block []) (related_every SitRel (related_of Rel stated (stmt_uses no_locals) legal ys)) none_sit
-  layer (open'.For ln t x ys (Some e)) = for_sit ln t x _ (code_by_clause e.0).block (related_every SitRel (related_of Rel stated (stmt_uses no_locals) legal ys)) e.1
-  layer (open'.Try t ys None None) = finally_sit (code_by_clause t.0).line _ None (try_sit (code_by_clause t.0) _ (block []) t.1 (related_every HandlerSit (related_of HandlerRel code_by_handler (uses_by_handler no_locals) legal_by_handler ys)) none_sit) d_none
-  layer (open'.Try t ys (Some e) None) = finally_sit (code_by_clause t.0).line _ None (try_sit (code_by_clause t.0) _ (code_by_clause e.0).block t.1 (related_every HandlerSit (related_of HandlerRel code_by_handler (uses_by_handler no_locals) legal_by_handler ys)) e.1) d_none
-  layer (open'.Try t ys None (Some d)) = finally_sit (code_by_clause t.0).line _ (Some (code_by_clause d.0)) (try_sit (code_by_clause t.0) _ (block []) t.1 (related_every HandlerSit (related_of HandlerRel code_by_handler (uses_by_handler no_locals) legal_by_handler ys)) none_sit) (d_some d)
-  layer (open'.Try t ys (Some e) (Some d)) = finally_sit (code_by_clause t.0).line _ (Some (code_by_clause d.0)) (try_sit (code_by_clause t.0) _ (code_by_clause e.0).block t.1 (related_every HandlerSit (related_of HandlerRel code_by_handler (uses_by_handler no_locals) legal_by_handler ys)) e.1) (d_some d)
-  layer (open'.Def ln x ps ys) = body_sit ln x false (length ps) _ _ (related_every SitRel (related_of Rel stated (stmt_uses no_locals) legal ys)) (λ e. absurd (cc))
-  layer (open'.Class ln x e ys) = body_sit ln x true 0 _ _ (related_every SitRel (related_of Rel stated (stmt_uses no_locals) legal ys)) (λ q j w c f s. class_opens ln (base (N j w) ln e) f (home (N j w) x) s)
+  layer (open'.For ln t x ys None) = for_sit ln t x _ (block [])
+      (related_every SitRel (related_of Rel stated (stmt_uses no_locals) legal ys)) none_sit
+  layer (open'.For ln t x ys (Some e)) =
+      for_sit ln t x _ (code_by_clause e.0).block
+      (related_every SitRel (related_of Rel stated (stmt_uses no_locals) legal ys)) e.1
+  layer (open'.Try t ys None None) = finally_sit (code_by_clause t.0).line _ None
+      (try_sit (code_by_clause t.0) _ (block []) t.1
+      (related_every HandlerSit (related_of HandlerRel code_by_handler (uses_by_handler no_locals) legal_by_handler
+      ys)) none_sit) d_none
+  layer (open'.Try t ys (Some e) None) =
+      finally_sit (code_by_clause t.0).line _ None
+      (try_sit (code_by_clause t.0) _ (code_by_clause e.0).block t.1
+      (related_every HandlerSit (related_of HandlerRel code_by_handler (uses_by_handler no_locals) legal_by_handler
+      ys)) e.1) d_none
+  layer (open'.Try t ys None (Some d)) = finally_sit (code_by_clause t.0).line _ (Some (code_by_clause d.0))
+      (try_sit (code_by_clause t.0) _ (block []) t.1
+      (related_every HandlerSit (related_of HandlerRel code_by_handler (uses_by_handler no_locals) legal_by_handler
+      ys)) none_sit) (d_some d)
+  layer (open'.Try t ys (Some e) (Some d)) = finally_sit (code_by_clause t.0).line _ (Some (code_by_clause d.0))
+      (try_sit (code_by_clause t.0) _ (code_by_clause e.0).block t.1
+      (related_every HandlerSit (related_of HandlerRel code_by_handler (uses_by_handler no_locals) legal_by_handler
+      ys)) e.1) (d_some d)
+  layer (open'.Def ln x ps ys) = body_sit ln x false (length ps) _ _
+      (related_every SitRel (related_of Rel stated (stmt_uses no_locals) legal ys)) (λ e. absurd (cc))
+  layer (open'.Class ln x e ys) = body_sit ln x true 0 _ _
+      (related_every SitRel (related_of Rel stated (stmt_uses no_locals) legal ys))
+      (λ q j w c f s. class_opens ln (base (N j w) ln e) f (home (N j w) x) s)
 
   pub stmts_sit : (ss : List Stmt) → Every SitRel (all_stated ss)
-  stmts_sit ss = related_every SitRel (every_stmts no_locals Rel ArmRel HandlerRel layer (λ ss vs gs rs. block_sit ss (related_every SitRel rs)) (λ ln t ss vs gs rs. record { block = block_sit ss (related_every SitRel rs) }) (λ ln e t ss vs gs rs. record { block = block_sit ss (related_every SitRel rs) }) ss)
+  stmts_sit ss = related_every SitRel (every_stmts no_locals Rel ArmRel HandlerRel layer
+      (λ ss vs gs rs. block_sit ss (related_every SitRel rs))
+      (λ ln t ss vs gs rs. record { block = block_sit ss (related_every SitRel rs) })
+      (λ ln e t ss vs gs rs. record { block = block_sit ss (related_every SitRel rs) }) ss)
 
   -- the bodies inside a module's statements
-  pub module_opens : (ss : List Stmt) → Sits ((block (all_stated ss)).code (N 0 false) [] 1) → BodiesSit 1 (inners (all_stated ss) 1) → AllOpen 1 (inners (all_stated ss) 1)
+  pub module_opens : (ss : List Stmt) → Sits ((block (all_stated ss)).code (N 0 false) [] 1) →
+      BodiesSit 1 (inners (all_stated ss) 1) → AllOpen 1 (inners (all_stated ss) 1)
   module_opens ss s b = (block_sit (all_stated ss) (stmts_sit ss)).sits 0 false [] 1 s b

@@ -49,7 +49,8 @@ bump_both t m n =
     bump_is (bump t m) n ∙ ap (later n) (bump_is t m) ∙ ap (λ k. record t { next = k }) e ∙ sym (bump_is t (m + n))
 
 -- one statement after another
-pub turn : (o : Tally) (b : Inside) (s t : Uses) {p q : Tally} → p ≡ done o b s → q ≡ done p b t → q ≡ done o b (in_turn s t)
+pub turn : (o : Tally) (b : Inside) (s t : Uses) {p q : Tally} → p ≡ done o b s → q ≡ done p b t →
+    q ≡ done o b (in_turn s t)
 turn o b s t {p} e f =
     f ∙ ap (λ z. done z b t) e
     ∙ ap (λ k. bump (tally (bump (tally o (s.uses b o.next)) s.bodies) (t.uses b k)) t.bodies) next
@@ -58,18 +59,26 @@ turn o b s t {p} e f =
     ∙ ap (λ z. bump z (s.bodies + t.bodies)) (sym (tally_append o (s.uses b o.next) (t.uses b (o.next + s.bodies))))
   where
     next : (bump (tally o (s.uses b o.next)) s.bodies).next ≡ o.next + s.bodies
-    next = ap (λ z. z.next) (bump_is (tally o (s.uses b o.next)) s.bodies) ∙ ap (λ k. k + s.bodies) (tally_next o (s.uses b o.next))
+    next = ap (λ z. z.next) (bump_is (tally o (s.uses b o.next)) s.bodies) ∙
+        ap (λ k. k + s.bodies) (tally_next o (s.uses b o.next))
 
 -- a body, behind what stands before it in the body round it
-pub within : (all : List (List (List ℕ))) (o : Tally) (b : Inside) (before : Inside → List Use) (is_class : Bool) (ss : Uses) (place : Place) {p q r : Tally} →
-    p ≡ tally o (before b) → place ≡ record { number = p.next; is_class = is_class } → q ≡ bump p 1 → r ≡ done q (inside all place) ss →
+pub within : (all : List (List (List ℕ))) (o : Tally) (b : Inside) (before : Inside → List Use) (is_class : Bool)
+    (ss : Uses) (place : Place) {p q r : Tally} →
+    p ≡ tally o (before b) → place ≡ record { number = p.next; is_class = is_class } → q ≡ bump p 1 →
+    r ≡ done q (inside all place) ss →
     r ≡ done o b (body_used (locals_in all) before is_class ss)
 within all o b before is_class ss place {p} e at f g =
     g ∙ ap (λ z. done z (inside all place) ss) (f ∙ bump_is p 1)
     ∙ ap (λ z. done (record p { next = p.next + 1 }) (inside all z) ss) at
-    ∙ ap (λ z. done (record z { next = z.next + 1 }) (inside all (record { number = z.next; is_class = is_class })) ss) e
-    ∙ ap (λ k. bump (tally (record (tally o (before b)) { next = k + 1 }) (ss.uses (inside all (record { number = k; is_class = is_class })) (k + 1))) ss.bodies) (tally_next o (before b))
-    ∙ ap (λ z. bump (tally z us) ss.bodies) (ap (λ k. record (tally o (before b)) { next = k + 1 }) (sym (tally_next o (before b))) ∙ sym (bump_is (tally o (before b)) 1))
+    ∙ ap (λ z. done (record z { next = z.next + 1 }) (inside all (record { number = z.next; is_class = is_class })) ss)
+    e
+    ∙ ap (λ k. bump (tally (record (tally o (before b)) { next = k + 1 })
+    (ss.uses (inside all (record { number = k; is_class = is_class })) (k + 1))) ss.bodies)
+    (tally_next o (before b))
+    ∙ ap (λ z. bump (tally z us) ss.bodies)
+    (ap (λ k. record (tally o (before b)) { next = k + 1 }) (sym (tally_next o (before b))) ∙
+    sym (bump_is (tally o (before b)) 1))
     ∙ ap (λ z. bump z ss.bodies) (bump_tally (tally o (before b)) 1 us)
     ∙ bump_both (tally (tally o (before b)) us) 1 ss.bodies
     ∙ ap (λ z. bump z (1 + ss.bodies)) (sym (tally_append o (before b) us))

@@ -56,7 +56,8 @@ sign_number sign.Plus = unary_number (codes "+")
 sign_number sign.Minus = unary_number (codes "-")
 sign_number sign.Invert = unary_number (codes "~")
 
--- What an expression is as a target. Of targets in a tuple, list or group these are the codes that store and that delete.
+-- What an expression is as a target. Of targets in a tuple, list or group these are the codes that store and that
+-- delete.
 pub data Place : Type 0 where
   AtName : Home → Place
   AtAttr : Piece → ℕ → Place
@@ -207,11 +208,22 @@ module _ (n : Known) (ln : ℕ) where
   expr_step (open'.Int i) = record { value = constant ln (IntValue i); place = NoPlace }
   expr_step (open'.Str s) = record { value = constant ln (Root (text n s)); place = NoPlace }
   expr_step (open'.Group c) = c
-  expr_step (open'.Tuple cs) = record { value = built ln (BuildTuple (length cs)) (coded_values cs); place = spread ln cs }
-  expr_step (open'.List cs) = record { value = built ln (BuildList (length cs)) (coded_values cs); place = spread ln cs }
+  expr_step (open'.Tuple cs) = record {
+    value = built ln (BuildTuple (length cs)) (coded_values cs);
+    place =
+        spread ln cs;
+  }
+  expr_step (open'.List cs) = record {
+    value = built ln (BuildList (length cs)) (coded_values cs);
+    place =
+        spread ln cs;
+  }
   expr_step (open'.Dict ps) = record { value = built ln (BuildDict (length ps)) ps; place = NoPlace }
   expr_step (open'.Trail o ts) = record { value = trailed o.value ts; place = place_of_trail o.value ts }
-  expr_step (open'.Power a b) = record { value = two_values ln (Binary (binary_number (codes "**"))) a.value b.value; place = NoPlace }
+  expr_step (open'.Power a b) = record {
+    value = two_values ln (Binary (binary_number (codes "**"))) a.value b.value;
+    place = NoPlace;
+  }
   expr_step (open'.Unary s a) = record { value = one_value ln (Unary (sign_number s)) a.value; place = NoPlace }
   expr_step (open'.Chain l a xs) = record { value = chain ln l a.value xs; place = NoPlace }
   expr_step (open'.Not a) = record { value = one_value ln Not a.value; place = NoPlace }
@@ -233,10 +245,12 @@ module _ (n : Known) (ln : ℕ) where
   pair_step p = pair ln p.key.value p.value.value
 
   unfoldable pub coded : Expr → Coded
-  coded = fold-Expr Coded Trailed (ℕ × Piece) (List ℕ × Piece) Piece expr_step trailer_step link_step named_step pair_step
+  coded = fold-Expr Coded Trailed (ℕ × Piece) (List ℕ × Piece) Piece expr_step trailer_step link_step named_step
+      pair_step
 
   unfoldable pub coded_trailer : Trailer → Trailed
-  coded_trailer = fold-Trailer Coded Trailed (ℕ × Piece) (List ℕ × Piece) Piece expr_step trailer_step link_step named_step pair_step
+  coded_trailer = fold-Trailer Coded Trailed (ℕ × Piece) (List ℕ × Piece) Piece expr_step trailer_step link_step
+      named_step pair_step
 
   -- an expression's code; the store to a target, its deletion
   abbrev pub value : Expr → Piece

@@ -10,7 +10,8 @@ use Rattle.py_names.specs.Outline.{has}
 use Rattle.py_compile.specs.declared.home.Home.{Home}
 use Rattle.py_compile.specs.declared.home.Home.TheVariants.{Slot, Cell, Body}
 
--- What a body knows of names: whether it is that of a class; the names that it binds; of the whole program the strings and
+-- What a body knows of names: whether it is that of a class; the names that it binds; of the whole program the strings
+-- and
 -- the global names among the roots; and the names in each of its keyword lists.
 pub record Known : Type 0 where
   pub is_class : Bool
@@ -63,11 +64,13 @@ key_list n ks = list_number 0 ks n.keys
 
 -- a module, and a name that it has; `error` is a class, whose root stands behind the cell of the count
 abbrev pub library : List ℕ → Constant
-library m = if bytes_eq m (codes "thread") then Builtin (builtin_number (codes "thread")) else Builtin (builtin_number (codes "threading"))
+library m = if bytes_eq m (codes "thread") then Builtin (builtin_number (codes "thread")) else Builtin
+    (builtin_number (codes "threading"))
 
 abbrev pub member : List ℕ → Constant
 member n =
     if bytes_eq n (codes "start_new_thread") then Builtin (builtin_number (codes "thread.start_new_thread")) else (
     if bytes_eq n (codes "allocate_lock") then Builtin (builtin_number (codes "thread.allocate_lock")) else (
     if bytes_eq n (codes "error") then Root (1 + class_number (codes "thread.error")) else (
-    if bytes_eq n (codes "Thread") then Builtin (builtin_number (codes "threading.Thread")) else Builtin (builtin_number (codes "threading.Lock")))))
+    if bytes_eq n (codes "Thread") then Builtin (builtin_number (codes "threading.Thread")) else Builtin
+    (builtin_number (codes "threading.Lock")))))

@@ -1,4 +1,5 @@
--- The code of statements, and the bodies inside them: one layer for each kind of statement, over the codes of its parts.
+-- The code of statements, and the bodies inside them: one layer for each kind of statement, over the codes of its
+-- parts.
 -- States `docs/LANGUAGE.md`, "Code of a tree".
 use Rattle.std.specs.Prelude.{ℕ, ◌+◌, List, [], ◌∷◌, ◌++◌, Option, Some, None, Bool, true, false, length, map}
 use Rattle.py_code.specs.declared.instr.Constant.TheVariants.{Root}
@@ -26,7 +27,8 @@ pub record Body : Type 0 where
   pub params : ℕ
   pub block : Known → Piece
 
--- A statement: how many bodies it holds; its code in a body that knows these names, inside these constructs, where its own
+-- A statement: how many bodies it holds; its code in a body that knows these names, inside these constructs, where its
+-- own
 -- bodies are numbered from f on; and its bodies, in the order of the text.
 pub record Stated : Type 0 where
   pub bodies : ℕ
@@ -52,7 +54,8 @@ inners (s ∷ ss) f = s.inner f ++ inners ss (f + s.bodies)
 abbrev pub block : List Stated → Stated
 block ss = record { bodies = count ss; code = λ n c f. row (pieces ss n c f); inner = inners ss }
 
--- a clause with its line; `if`, `elif` and `while` with their tests; `except` with what it catches and where that is put
+-- a clause with its line; `if`, `elif` and `while` with their tests; `except` with what it catches and where that is
+-- put
 pub record Claused : Type 0 where
   pub line : ℕ
   pub block : Stated
@@ -159,27 +162,38 @@ clause n ln (Some e) (Some t) body = clause_target ln (value n ln e) (stored n l
 
 abbrev pub handled : List Handled → Known → List Around → ℕ → List Piece
 handled [] n c f = []
-handled (h ∷ hs) n c f = clause n h.line h.test h.target (h.block.code n (InClause ∷ c) f) ∷ handled hs n c (f + h.block.bodies)
+handled (h ∷ hs) n c f = clause n h.line h.test h.target (h.block.code n (InClause ∷ c) f) ∷ handled hs n c
+    (f + h.block.bodies)
 
 -- a `try` without its finally; without except clauses it is its block
 abbrev pub tried : Claused → List Handled → Stated → Stated
 tried t [] e = t.block
 tried t (h ∷ hs) e = record {
   bodies = t.block.bodies + (handled_count (h ∷ hs) + e.bodies);
-  code = λ n c f. try_except t.line (t.block.code n (InTry ∷ c) f) (handled (h ∷ hs) n c (f + t.block.bodies)) (e.code n c (f + t.block.bodies + handled_count (h ∷ hs)));
-  inner = λ f. t.block.inner f ++ handled_inner (h ∷ hs) (f + t.block.bodies) ++ e.inner (f + t.block.bodies + handled_count (h ∷ hs));
+  code = λ n c f. try_except t.line (t.block.code n (InTry ∷ c) f) (handled (h ∷ hs) n c (f + t.block.bodies))
+      (e.code n c (f + t.block.bodies + handled_count (h ∷ hs)));
+  inner = λ f. t.block.inner f ++ handled_inner (h ∷ hs) (f + t.block.bodies) ++ e.inner
+      (f + t.block.bodies + handled_count (h ∷ hs));
 }
 
 abbrev pub finally : ℕ → Stated → Option Claused → Stated
 finally ln t None = t
 finally ln t (Some d) = record {
   bodies = t.bodies + d.block.bodies;
-  code = λ n c f. try_finally ln (t.code n (InFinally (d.block.code n c (f + t.bodies)) ∷ c) f) (d.block.code n c (f + t.bodies));
+  code = λ n c f. try_finally ln (t.code n (InFinally (d.block.code n c (f + t.bodies)) ∷ c) f)
+      (d.block.code n c (f + t.bodies));
   inner = λ f. t.inner f ++ d.block.inner (f + t.bodies);
 }
 
 abbrev pub inner_body : ℕ → List ℕ → Bool → ℕ → List Stated → ℕ → List Body
-inner_body ln x is_class params ss f = record { line = ln; name = x; is_class = is_class; params = params; block = λ n. (block ss).code n [] (f + 1) } ∷ inners ss (f + 1)
+inner_body ln x is_class params ss f = record {
+  line = ln;
+  name = x;
+  is_class = is_class;
+  params = params;
+  block = λ n.
+      (block ss).code n [] (f + 1);
+} ∷ inners ss (f + 1)
 
 abbrev pub stmt_step : open'.Stmt-F Stated Armed Claused Handled → Stated
 stmt_step (open'.Do ln e) = still (λ n c. expression ln (value n ln e))
@@ -203,12 +217,14 @@ stmt_step (open'.If as' e) = record {
 }
 stmt_step (open'.While a e) = record {
   bodies = a.block.bodies + (other e).bodies;
-  code = λ n c f. while a.line (value n a.line a.test) (a.block.code n (InWhile ∷ c) f) ((other e).code n c (f + a.block.bodies));
+  code = λ n c f. while a.line (value n a.line a.test) (a.block.code n (InWhile ∷ c) f)
+      ((other e).code n c (f + a.block.bodies));
   inner = λ f. a.block.inner f ++ (other e).inner (f + a.block.bodies);
 }
 stmt_step (open'.For ln t x ss e) = record {
   bodies = count ss + (other e).bodies;
-  code = λ n c f. for ln (stored n ln t) (value n ln x) ((block ss).code n (InFor ∷ c) f) ((other e).code n c (f + count ss));
+  code = λ n c f. for ln (stored n ln t) (value n ln x) ((block ss).code n (InFor ∷ c) f)
+      ((other e).code n c (f + count ss));
   inner = λ f. inners ss f ++ (other e).inner (f + count ss);
 }
 stmt_step (open'.Try t hs e d) = finally t.line (tried t hs (other e)) d

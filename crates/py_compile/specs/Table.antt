@@ -1,4 +1,5 @@
--- The table of templates: one for each construct, over the code of its parts. States `docs/LANGUAGE.md`, "Code of a tree".
+-- The table of templates: one for each construct, over the code of its parts. States `docs/LANGUAGE.md`, "Code of a
+-- tree".
 -- In each of them `ln` is the line of the simple statement or clause that the construct stands in.
 use Rattle.std.specs.Prelude.{ℕ, List, [], ◌∷◌, length, map}
 use Rattle.py_code.specs.declared.instr.Constant.{Constant}
@@ -92,11 +93,14 @@ module _ (ln : ℕ) where
   between o b = template ln 0 0 (Alone b ∷ Op Dup ∷ Op Rot3 ∷ Op (Compare o) ∷ To 1 KeepFalse F ∷ [])
 
   abbrev pub chained : Piece → List Piece → Piece → ℕ → Piece
-  chained a betweens last o = template ln 0 2 (Alone a ∷ Sub 0 (row betweens) ∷ Alone last ∷ Op (Compare o) ∷ To 0 Jump E ∷ Here F ∷ Op Rot2 ∷ Op Pop ∷ Here E ∷ [])
+  chained a betweens last o = template ln 0 2
+      (Alone a ∷ Sub 0 (row betweens) ∷ Alone last ∷ Op (Compare o) ∷ To 0 Jump E ∷ Here F ∷ Op Rot2 ∷ Op Pop ∷ Here E
+      ∷ [])
 
   -- x if c else y
   abbrev pub conditional : Piece → Piece → Piece → Piece
-  conditional x c y = template ln 0 2 (Alone c ∷ To 0 JumpFalse N ∷ Alone x ∷ To 0 Jump E ∷ Here N ∷ Alone y ∷ Here E ∷ [])
+  conditional x c y = template ln 0 2 (Alone c ∷ To 0 JumpFalse N ∷ Alone x ∷ To 0 Jump E ∷ Here N ∷ Alone y ∷ Here E ∷
+      [])
 
   -- What stands behind an atom: .n, [i], [i:j], a call, and a call of .m; each takes the value so far from the stack. A
   -- call has n arguments without a keyword, and those of keyword list k.
@@ -113,7 +117,8 @@ module _ (ln : ℕ) where
   call args k values = template ln 0 0 (Alone (row args) ∷ Alone (row values) ∷ Op (Call (length args) k) ∷ [])
 
   abbrev pub method_call : ℕ → List Piece → ℕ → List Piece → Piece
-  method_call m args k values = template ln 0 0 (Op (LoadMethod m) ∷ Alone (row args) ∷ Alone (row values) ∷ Op (CallMethod (length args) k) ∷ [])
+  method_call m args k values = template ln 0 0
+      (Op (LoadMethod m) ∷ Alone (row args) ∷ Alone (row values) ∷ Op (CallMethod (length args) k) ∷ [])
 
   abbrev pub trail : Piece → List Piece → Piece
   trail o behind = template ln 0 0 (Alone o ∷ Alone (row behind) ∷ [])
@@ -155,10 +160,12 @@ module _ (ln : ℕ) where
   add_name x o e = template ln 0 0 (Op (load x) ∷ Alone e ∷ Op (InPlace o) ∷ Op (store x) ∷ [])
 
   abbrev pub add_attr : Piece → ℕ → ℕ → Piece → Piece
-  add_attr a n o e = template ln 0 0 (Alone a ∷ Op Dup ∷ Op (LoadAttr n) ∷ Alone e ∷ Op (InPlace o) ∷ Op Rot2 ∷ Op (StoreAttr n) ∷ [])
+  add_attr a n o e = template ln 0 0 (Alone a ∷ Op Dup ∷ Op (LoadAttr n) ∷ Alone e ∷ Op (InPlace o) ∷ Op Rot2 ∷ Op
+      (StoreAttr n) ∷ [])
 
   abbrev pub add_item : Piece → Piece → ℕ → Piece → Piece
-  add_item a i o e = template ln 0 0 (Alone a ∷ Alone i ∷ Op Dup2 ∷ Op LoadItem ∷ Alone e ∷ Op (InPlace o) ∷ Op Rot3 ∷ Op StoreItem ∷ [])
+  add_item a i o e = template ln 0 0 (Alone a ∷ Alone i ∷ Op Dup2 ∷ Op LoadItem ∷ Alone e ∷ Op (InPlace o) ∷ Op Rot3 ∷
+      Op StoreItem ∷ [])
 
   abbrev pub expression : Piece → Piece
   expression e = template ln 0 0 (Alone e ∷ Op Pop ∷ [])
@@ -177,10 +184,12 @@ module _ (ln : ℕ) where
 
   -- root 13 is the class AssertionError
   abbrev pub assert_with : Piece → Piece → Piece
-  assert_with c m = template ln 0 1 (Alone c ∷ Op Not ∷ To 0 JumpFalse E ∷ Op (Const (Root 13)) ∷ Alone m ∷ Op (Call 1 0) ∷ Op Raise ∷ Here E ∷ [])
+  assert_with c m = template ln 0 1 (Alone c ∷ Op Not ∷ To 0 JumpFalse E ∷ Op (Const (Root 13)) ∷ Alone m ∷ Op
+      (Call 1 0) ∷ Op Raise ∷ Here E ∷ [])
 
   abbrev pub assert_alone : Piece → Piece
-  assert_alone c = template ln 0 1 (Alone c ∷ Op Not ∷ To 0 JumpFalse E ∷ Op (Const (Root 13)) ∷ Op (MakeRaised 0) ∷ Op Raise ∷ Here E ∷ [])
+  assert_alone c = template ln 0 1 (Alone c ∷ Op Not ∷ To 0 JumpFalse E ∷ Op (Const (Root 13)) ∷ Op (MakeRaised 0) ∷ Op
+      Raise ∷ Here E ∷ [])
 
   abbrev pub import_one : Constant → Home → Piece
   import_one c x = template ln 0 0 (Op (Const c) ∷ Op (store x) ∷ [])
@@ -202,26 +211,35 @@ module _ (ln : ℕ) where
   all_arms arms other = template ln 0 1 (Sub 0 (row arms) ∷ Sub 1 other ∷ Here E ∷ [])
 
   abbrev pub while : Piece → Piece → Piece → Piece
-  while c body other = template ln 0 3 (Here A ∷ Alone c ∷ To 0 JumpFalse B ∷ Sub 0 body ∷ To 0 Jump A ∷ Here B ∷ Sub 1 other ∷ Here E ∷ [])
+  while c body other = template ln 0 3 (Here A ∷ Alone c ∷ To 0 JumpFalse B ∷ Sub 0 body ∷ To 0 Jump A ∷ Here B ∷ Sub 1
+      other ∷ Here E ∷ [])
 
   abbrev pub for : Piece → Piece → Piece → Piece → Piece
-  for t e body other = template ln 0 3 (Alone e ∷ Op Iter ∷ Here A ∷ To 0 Next B ∷ Alone t ∷ Sub 0 body ∷ To 0 Jump A ∷ Here B ∷ Sub 1 other ∷ Here E ∷ [])
+  for t e body other = template ln 0 3 (Alone e ∷ Op Iter ∷ Here A ∷ To 0 Next B ∷ Alone t ∷ Sub 0 body ∷ To 0 Jump A ∷
+      Here B ∷ Sub 1 other ∷ Here E ∷ [])
 
   abbrev pub try_except : Piece → List Piece → Piece → Piece
-  try_except body clauses other = template ln 1 2 (To 0 Try H ∷ Sub 0 body ∷ Op PopTry ∷ Sub 1 other ∷ To 0 Jump E ∷ Here H ∷ Hidden 0 StoreLocal ∷ Sub 0 (row clauses) ∷ Hidden 0 LoadLocal ∷ Op Raise ∷ Here E ∷ [])
+  try_except body clauses other = template ln 1 2
+      (To 0 Try H ∷ Sub 0 body ∷ Op PopTry ∷ Sub 1 other ∷ To 0 Jump E ∷ Here H ∷ Hidden 0 StoreLocal ∷ Sub 0
+      (row clauses) ∷ Hidden 0 LoadLocal ∷ Op Raise ∷ Here E ∷ [])
 
   -- a clause stands inside its try; x and E are the try's
   abbrev pub clause_bare : Piece → Piece
   clause_bare body = template ln 0 0 (Sub 1 body ∷ To 1 Jump E ∷ [])
 
   abbrev pub clause_test : Piece → Piece → Piece
-  clause_test c body = template ln 0 1 (Hidden 1 LoadLocal ∷ Alone c ∷ Op ExcMatch ∷ To 0 JumpFalse M ∷ Sub 1 body ∷ To 1 Jump E ∷ Here M ∷ [])
+  clause_test c body = template ln 0 1 (Hidden 1 LoadLocal ∷ Alone c ∷ Op ExcMatch ∷ To 0 JumpFalse M ∷ Sub 1 body ∷ To
+      1 Jump E ∷ Here M ∷ [])
 
   abbrev pub clause_target : Piece → Piece → Piece → Piece
-  clause_target c t body = template ln 0 1 (Hidden 1 LoadLocal ∷ Alone c ∷ Op ExcMatch ∷ To 0 JumpFalse M ∷ Hidden 1 LoadLocal ∷ Alone t ∷ Sub 1 body ∷ To 1 Jump E ∷ Here M ∷ [])
+  clause_target c t body = template ln 0 1
+      (Hidden 1 LoadLocal ∷ Alone c ∷ Op ExcMatch ∷ To 0 JumpFalse M ∷ Hidden 1 LoadLocal ∷ Alone t ∷ Sub 1 body ∷ To 1
+      Jump E ∷ Here M ∷ [])
 
   abbrev pub try_finally : Piece → Piece → Piece
-  try_finally inner fin = template ln 1 2 (To 0 Try H ∷ Sub 0 inner ∷ Op PopTry ∷ Sub 1 fin ∷ To 0 Jump E ∷ Here H ∷ Hidden 0 StoreLocal ∷ Sub 1 fin ∷ Hidden 0 LoadLocal ∷ Op Raise ∷ Here E ∷ [])
+  try_finally inner fin = template ln 1 2
+      (To 0 Try H ∷ Sub 0 inner ∷ Op PopTry ∷ Sub 1 fin ∷ To 0 Jump E ∷ Here H ∷ Hidden 0 StoreLocal ∷ Sub 1 fin ∷
+      Hidden 0 LoadLocal ∷ Op Raise ∷ Here E ∷ [])
 
 -- The constructs round a statement that show it their labels or slot, or that a leave passes; one frame each.
 pub data Around : Type 0 where
@@ -232,7 +250,8 @@ pub data Around : Type 0 where
   InFinally : Piece → Around  -- in the part of a try that this finally body follows
 
 module _ (ln : ℕ) where
-  -- What is done on a way out of these constructs, the innermost first: to the end of the innermost loop (`break`), to its
+  -- What is done on a way out of these constructs, the innermost first: to the end of the innermost loop (`break`), to
+  -- its
   -- next turn (`continue`), or out of the body. At a loop, rest is the way on from there.
   abbrev pub past_while : Way → Piece → Piece
   past_while Break rest = template ln 0 0 (To 1 Jump E ∷ [])
@@ -254,7 +273,8 @@ module _ (ln : ℕ) where
 
   -- without a value, e is CONST None
   abbrev pub return : Piece → List Around → Piece
-  return e c = template ln 1 0 (Alone e ∷ Hidden 0 StoreLocal ∷ Sub 1 (way_out Out c) ∷ Hidden 0 LoadLocal ∷ Op Return ∷ [])
+  return e c = template ln 1 0 (Alone e ∷ Hidden 0 StoreLocal ∷ Sub 1 (way_out Out c) ∷ Hidden 0 LoadLocal ∷ Op Return
+      ∷ [])
 
   -- a raise alone: the exception of the innermost clause round it
   abbrev pub raise_again : List Around → Piece

@@ -1,4 +1,5 @@
--- Templates with labels and hidden slots, and the code that they stand for. States `docs/LANGUAGE.md`, "Code of a tree".
+-- Templates with labels and hidden slots, and the code that they stand for. States `docs/LANGUAGE.md`, "Code of a
+-- tree".
 use Rattle.std.specs.Prelude.{ℕ, zero, suc, ◌+◌, List, [], ◌∷◌, ◌++◌, Bool, false, nat_eq, if◌then◌else◌, drop, get_or, map}
 use Rattle.py_code.specs.declared.instr.Instr.{Instr}
 

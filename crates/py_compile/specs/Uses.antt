@@ -87,7 +87,8 @@ module _ (b : Inside) where
   trailer_step (open'.Attribute m) = Text m ∷ []
   trailer_step (open'.Index u) = u.read
   trailer_step (open'.Slice u v) = read_or u ++ read_or v
-  trailer_step (open'.Call us ks) = reads us ++ joined (map (λ k. Text k.0 ∷ k.1) ks) ++ Keys b.number (map (λ k. k.0) ks) ∷ []
+  trailer_step (open'.Call us ks) = reads us ++ joined (map (λ k. Text k.0 ∷ k.1) ks) ++ Keys b.number
+      (map (λ k. k.0) ks) ∷ []
 
   abbrev pub link_step : open'.Link-F Used (List Use) (List Use) (List ℕ × List Use) (List Use) → List Use
   link_step l = l.operand.read
@@ -99,10 +100,12 @@ module _ (b : Inside) where
   pair_step p = p.key.read ++ p.value.read
 
   unfoldable pub used : Expr → Used
-  used = fold-Expr Used (List Use) (List Use) (List ℕ × List Use) (List Use) expr_step trailer_step link_step named_step pair_step
+  used = fold-Expr Used (List Use) (List Use) (List ℕ × List Use) (List Use) expr_step trailer_step link_step
+      named_step pair_step
 
   unfoldable pub used_trailer : Trailer → List Use
-  used_trailer = fold-Trailer Used (List Use) (List Use) (List ℕ × List Use) (List Use) expr_step trailer_step link_step named_step pair_step
+  used_trailer = fold-Trailer Used (List Use) (List Use) (List ℕ × List Use) (List Use) expr_step trailer_step
+      link_step named_step pair_step
 
   abbrev pub read : Expr → List Use
   read x = (used x).read
@@ -184,7 +187,8 @@ module _ (locals : ℕ → List (List ℕ)) where
   stmt_step (open2.From ln m is) = quiet (λ b. import_use b is)
   stmt_step (open2.If as' e) = in_turn (all_in_turn as') (some_used e)
   stmt_step (open2.While a e) = in_turn a (some_used e)
-  stmt_step (open2.For ln t x ss e) = in_turn (quiet (λ b. target b t ++ read b x)) (in_turn (all_in_turn ss) (some_used e))
+  stmt_step (open2.For ln t x ss e) = in_turn (quiet (λ b. target b t ++ read b x))
+      (in_turn (all_in_turn ss) (some_used e))
   stmt_step (open2.Try t hs e d) = in_turn t (in_turn (all_in_turn hs) (in_turn (some_used e) (some_used d)))
   stmt_step (open2.Def ln x ps ss) = body_used (λ b. name_bound b x ++ read_defaults b ps) false (all_in_turn ss)
   stmt_step (open2.Class ln x e ss) = body_used (λ b. name_bound b x ++ read_some b e) true (all_in_turn ss)

@@ -18,7 +18,14 @@ use Rattle.py_compile.specs.Uses.{Use, module_uses, texts_from, cells_from, keys
 
 -- the module's own statements are a body too
 abbrev pub module_body : List Stmt → Body
-module_body ss = record { line = 1; name = []; is_class = false; params = 0; block = λ n. (stated_block ss).code n [] 1 }
+module_body ss = record {
+  line = 1;
+  name = [];
+  is_class = false;
+  params = 0;
+  block = λ n.
+      (stated_block ss).code n [] 1;
+}
 
 -- the module's, and then that of each `def` and `class` in the order of the text, outer ones before inner ones
 abbrev pub bodies : List Stmt → List Body
@@ -72,7 +79,8 @@ least (Some a) (Some b) = Some (min a b)
 abbrev pub large_at : ℕ → Body → Known → Option ℕ
 large_at b y n = if nat_lt 65535 (whole b y n).size then Some y.line else None
 
--- The codes of bodies that are numbered from b on, and the least line of one that is too large, where this is known of names.
+-- The codes of bodies that are numbered from b on, and the least line of one that is too large, where this is known of
+-- names.
 module _ (known : ℕ → Body → Known) where
   abbrev pub codes_from : ℕ → List Body → List Code
   codes_from b [] = []
@@ -98,7 +106,14 @@ module _ (locals : List (List (List ℕ))) (ss : List Stmt) where
 
   -- keyword list 0 is empty
   abbrev pub names_of : ℕ → Body → Known
-  names_of b y = record { is_class = y.is_class; locals = locals_of b; texts = texts; cells = cells; keys = keys_from b ([] ∷ []) uses }
+  names_of b y = record {
+    is_class = y.is_class;
+    locals = locals_of b;
+    texts = texts;
+    cells = cells;
+    keys =
+        keys_from b ([] ∷ []) uses;
+  }
 
   -- the cell of the count of threads, the classes, the strings, the cells of the global names
   abbrev pub roots : List Root
@@ -106,7 +121,8 @@ module _ (locals : List (List (List ℕ))) (ss : List Stmt) where
 
   -- more functions or roots than 65,535, or a string that is too long
   abbrev pub too_many : Bool
-  too_many = if nat_lt 65535 (length (bodies ss)) then true else (if nat_lt 65535 (length roots) then true else list_any is_long texts)
+  too_many = if nat_lt 65535 (length (bodies ss)) then true else
+      (if nat_lt 65535 (length roots) then true else list_any is_long texts)
 
   -- The line of TooLarge, or none. No line is before line 1.
   abbrev pub too_large : Option ℕ
@@ -114,7 +130,11 @@ module _ (locals : List (List (List ℕ))) (ss : List Stmt) where
 
 -- the program of a module, where nothing is too large
 unfoldable pub program_of : List (List (List ℕ)) → Module → Program
-program_of locals m = record { codes = codes_from (names_of locals m.body) 0 (bodies m.body); roots = roots locals m.body }
+program_of locals m = record {
+  codes = codes_from (names_of locals m.body) 0 (bodies m.body);
+  roots =
+      roots locals m.body;
+}
 
 -- the line of what is too large, or none
 unfoldable pub too_large_in : List (List (List ℕ)) → Module → Option ℕ

@@ -9,4 +9,5 @@ use Rattle.obj_builtins.proofs.CallHolds as calls
 use Rattle.obj_builtins.proofs.Holding.{functions_hold}
 
 pub call_holds : {S : Type 0} (rules : Rules) (stands : Heap → S → Type 0) → CallHolds rules stands
-call_holds rules stands = calls.call_holds rules stands (functions_hold rules stands) (methods_hold rules stands) (str_holds rules stands) (threads_hold rules stands)
+call_holds rules stands = calls.call_holds rules stands (functions_hold rules stands) (methods_hold rules stands)
+    (str_holds rules stands) (threads_hold rules stands)

@@ -81,8 +81,11 @@ module _ (S : Type 0) where
   pub fault_calm : (roots : ℕ) (e : Fault) → C (fault_row roots e)
   unfolding fault_row numbered_row exception_row keyed_row
   fault_calm roots e =
-      one_of (is_tellable e.with) _ _ (look_then roots _ _ (λ class. made_then _ _ (λ key. both (with_row e.with) _ (with_calm e.with) (λ args. args_calm class key args))))
-      (look_then roots _ _ (λ class. made_then _ _ (λ key. both (with_row Nothing) _ (with_calm Nothing) (λ args. args_calm class key args))))
+      one_of (is_tellable e.with) _ _ (look_then roots _ _
+      (λ class. made_then _ _ (λ key.
+      both (with_row e.with) _ (with_calm e.with) (λ args. args_calm class key args))))
+      (look_then roots _ _ (λ class. made_then _ _
+      (λ key. both (with_row Nothing) _ (with_calm Nothing) (λ args. args_calm class key args))))
 
   pub raise_calm : (roots : ℕ) (e : Fault) → C (raise_row roots e)
   unfolding raise_row
@@ -182,14 +185,17 @@ module _ (S : Type 0) where
   outer_calm roots name o (Some g) = load_global_calm roots g name o
   outer_calm roots name o None = unbound_calm roots name o
 
-  pub named_calm : (roots : ℕ) (name : List ℕ) (o : Option Constant) (g : Option ℕ) (x : Option Value) → C (named_row roots name o g x)
+  pub named_calm : (roots : ℕ) (name : List ℕ) (o : Option Constant) (g : Option ℕ) (x : Option Value) →
+      C (named_row roots name o g x)
   unfolding named_row
   named_calm roots name o g (Some x) = ret _
   named_calm roots name o g None = outer_calm roots name o g
 
-  pub load_name_calm : (roots d n : ℕ) (name : List ℕ) (o : Option Constant) (g : Option ℕ) → C (load_name_row roots d n name o g)
+  pub load_name_calm : (roots d n : ℕ) (name : List ℕ) (o : Option Constant) (g : Option ℕ) →
+      C (load_name_row roots d n name o g)
   unfolding load_name_row own_or_outer
-  load_name_calm roots d n name o g = look_then roots n _ (λ key. both (held_row d key) _ (held_calm d key) (λ x. named_calm roots name o g x))
+  load_name_calm roots d n name o g = look_then roots n _
+      (λ key. both (held_row d key) _ (held_calm d key) (λ x. named_calm roots name o g x))
 
   -- ---- classes
   pub kept_calm : (v key : Value) → C (kept_row v key)
@@ -208,14 +214,16 @@ module _ (S : Type 0) where
 
   pub heir_calm : (key v : Value) → C (heir_step key v)
   unfolding heir_step class_step own_row
-  heir_calm key (Ref c) = both (bind (look_row c.0 2) (λ d. kept_row d key)) _ (look_then c.0 2 _ (λ d. kept_calm d key)) (λ o. next_class_calm c.0 o)
+  heir_calm key (Ref c) = both (bind (look_row c.0 2) (λ d. kept_row d key)) _
+      (look_then c.0 2 _ (λ d. kept_calm d key)) (λ o. next_class_calm c.0 o)
   heir_calm key Unset = ret _
   heir_calm key NoneValue = ret _
   heir_calm key (BoolValue b) = ret _
   heir_calm key (Int n) = ret _
   heir_calm key (Builtin b) = ret _
 
-  pub walk_calm : {A B : Type 0} (f : A → Row S (Result A B)) (end : B) → ((a : A) → C (f a)) → (m : ℕ) (a : A) → C (walk_row f end m a)
+  pub walk_calm : {A B : Type 0} (f : A → Row S (Result A B)) (end : B) → ((a : A) → C (f a)) → (m : ℕ) (a : A) →
+      C (walk_row f end m a)
   unfolding walk_row
   walk_calm f end i zero a = ret end
   walk_calm {A} {B} f end i (suc m) a = both (f a) (walk_on (walk_row f end m)) (i a) (walked (walk_calm f end i m))
@@ -229,7 +237,8 @@ module _ (S : Type 0) where
   inherited_calm key c = walk_calm (heir_step key) None (heir_calm key) MOST_BASES c
 
   pub sub_calm : (c base : ℕ) → C (is_sub_row c base)
-  sub_calm c base = walk_calm (sub_step base) false (λ v. only_calm (sub_step base v) (only_sub S base v)) MOST_BASES (ref c)
+  sub_calm c base = walk_calm (sub_step base) false (λ v. only_calm (sub_step base v) (only_sub S base v)) MOST_BASES
+      (ref c)
 
   pub init_calm : (roots c : ℕ) (o : Option ℕ) → C (init_by roots c o)
   unfolding init_by
@@ -247,11 +256,13 @@ module _ (S : Type 0) where
 
   pub new_instance_calm : (c : ℕ) (args : List Value) (b : Bool) → C (new_instance c args b)
   unfolding new_instance
-  new_instance_calm c args b = one_of _ _ _ (both (instance_of c args b) _ (instance_of_calm c args b) (λ x. ret (Is x))) (ret _)
+  new_instance_calm c args b = one_of _ _ _
+      (both (instance_of c args b) _ (instance_of_calm c args b) (λ x. ret (Is x))) (ret _)
 
   pub bound_to_calm : (p : Program) (g : Given) (f : ℕ) → C (bound_call p g f)
   unfolding bound_call numbered_bound defaulted_row
-  bound_to_calm p g f = look_then f 1 _ (λ n. look_then f 2 _ (λ d. both (values_row _) _ (values_calm _) (λ ds. ret _)))
+  bound_to_calm p g f = look_then f 1 _ (λ n.
+      look_then f 2 _ (λ d. both (values_row _) _ (values_calm _) (λ ds. ret _)))
 
   pub entered_calm : (s : Site) (x : Got Frame) → C (entered_row s x)
   unfolding entered_row
@@ -265,12 +276,15 @@ module _ (S : Type 0) where
 
   pub init_entered_calm : (s : Site) (c : ℕ) (g : Given) (b : Bool) (x : Got Frame) → C (init_entered s c g b x)
   unfolding init_entered making_row
-  init_entered_calm s c g b (Is f) = one_of _ _ _ (both (new_instance c g.args b) _ (new_instance_calm c g.args b) (λ x. with_instance_calm s f x)) (raise_calm s.roots _)
+  init_entered_calm s c g b (Is f) = one_of _ _ _
+      (both (new_instance c g.args b) _ (new_instance_calm c g.args b) (λ x. with_instance_calm s f x))
+      (raise_calm s.roots _)
   init_entered_calm s c g b (Raise e) = raise_calm s.roots e
 
   pub record_init_calm : (s : Site) (c : ℕ) (g : Given) (b : Bool) (f : ℕ) (k : Kind) → C (record_init s c g b f k)
   unfolding record_init function_init
-  record_init_calm s c g b f Function = both (bound_call s.program (with_first Unset g) f) _ (bound_to_calm s.program (with_first Unset g) f) (λ x. init_entered_calm s c g b x)
+  record_init_calm s c g b f Function = both (bound_call s.program (with_first Unset g) f) _
+      (bound_to_calm s.program (with_first Unset g) f) (λ x. init_entered_calm s c g b x)
   record_init_calm s c g b f _ = raise_calm s.roots _
 
   pub value_init_calm : (s : Site) (c : ℕ) (g : Given) (b : Bool) (x : Value) → C (value_init s c g b x)
@@ -281,11 +295,14 @@ module _ (S : Type 0) where
   pub init_or_calm : (s : Site) (c : ℕ) (g : Given) (o : Option Value) (b : Bool) → C (init_or_bare s c g o b)
   unfolding init_or_bare bare_call given_instance
   init_or_calm s c g (Some x) b = value_init_calm s c g b x
-  init_or_calm s c g None b = one_of _ _ _ (both (new_instance c g.args b) _ (new_instance_calm c g.args b) (λ x. give_calm s.roots x)) (raise_calm s.roots _)
+  init_or_calm s c g None b = one_of _ _ _
+      (both (new_instance c g.args b) _ (new_instance_calm c g.args b) (λ x. give_calm s.roots x))
+      (raise_calm s.roots _)
 
   pub class_call_calm : (s : Site) (g : Given) (c : ℕ) → C (class_call s g c)
   unfolding class_call known_class init_row
-  class_call_calm s g c = both (init_by s.roots c _) _ (init_calm s.roots c _) (λ o. both (exception_class_row s.roots c) _ (exception_calm s.roots c) (λ b. init_or_calm s c g o b))
+  class_call_calm s g c = both (init_by s.roots c _) _ (init_calm s.roots c _)
+      (λ o. both (exception_class_row s.roots c) _ (exception_calm s.roots c) (λ b. init_or_calm s c g o b))
 
   pub function_call_calm : (s : Site) (g : Given) (f : ℕ) → C (function_call s g f)
   unfolding function_call

@@ -47,14 +47,19 @@ not_opened cs rs n (ClassBody g) l = by g l
     by g l = grind (arith, nat_tests)
 not_opened cs rs n _ l = refl
 
-none_of : (cs : List Code) (rs : List Root) (n : ℕ) (is : List Instr) → All (Belongs cs rs n) is → list_any (opens_body 0) is ≡ false
+none_of : (cs : List Code) (rs : List Root) (n : ℕ) (is : List Instr) → All (Belongs cs rs n) is →
+    list_any (opens_body 0) is ≡ false
 none_of cs rs n [] a = refl
-none_of cs rs n (i ∷ is) a = ap (λ b. b || list_any (opens_body 0) is) (not_opened cs rs n i (a 0 i (omega arith))) ∙ none_of cs rs n is (λ k d l. a (suc k) d (omega (arith, l)))
+none_of cs rs n (i ∷ is) a = ap (λ b. b || list_any (opens_body 0) is) (not_opened cs rs n i (a 0 i (omega arith))) ∙
+    none_of cs rs n is (λ k d l. a (suc k) d (omega (arith, l)))
 
-none_opens : (all : List Code) (rs : List Root) (n : ℕ) (cs : List Code) → AreRight all rs n cs → list_any (opens_body 0) (all_instrs cs) ≡ false
+none_opens : (all : List Code) (rs : List Root) (n : ℕ) (cs : List Code) → AreRight all rs n cs →
+    list_any (opens_body 0) (all_instrs cs) ≡ false
 none_opens all rs n [] r = refl
 none_opens all rs n (c ∷ cs) r =
-    list_any-append (opens_body 0) c.instrs (all_instrs cs) ∙ (ap (λ b. b || list_any (opens_body 0) (all_instrs cs)) (none_of all rs n c.instrs r.0.belongs) ∙ none_opens all rs (n + 1) cs r.1)
+    list_any-append (opens_body 0) c.instrs (all_instrs cs) ∙
+    (ap (λ b. b || list_any (opens_body 0) (all_instrs cs)) (none_of all rs n c.instrs r.0.belongs) ∙
+    none_opens all rs (n + 1) cs r.1)
 
 module_is_none : (p : Program) → IsRightProgram p → is_body p.codes 0 ≡ false
 module_is_none p right = none_opens p.codes p.roots 0 p.codes right.each
@@ -75,10 +80,12 @@ count_cell = new_rec Cell (Int (pos 1) ∷ []) []
 
 -- what is left once the Cell of the count is made
 abbrev rest_row : Program → ℕ → Row State (Outcome × State)
-rest_row p a = bind (bind (roots_row (rest_of p) (ref a ∷ [])) (λ vs. begun_row vs)) (λ next. Ret (settled p (first_state p) 0 (module_frame p) [] next))
+rest_row p a = bind (bind (roots_row (rest_of p) (ref a ∷ [])) (λ vs. begun_row vs))
+    (λ next. Ret (settled p (first_state p) 0 (module_frame p) [] next))
 
 abbrev setup_by : Program → List Root → Row State (Outcome × State)
-setup_by p rs = bind (bind (roots_row rs []) (λ vs. begun_row vs)) (λ next. Ret (settled p (first_state p) 0 (module_frame p) [] next))
+setup_by p rs = bind (bind (roots_row rs []) (λ vs. begun_row vs))
+    (λ next. Ret (settled p (first_state p) 0 (module_frame p) [] next))
 
 begins_so : (p : Program) → step_at p (first_state p) (module_frame p) [] (Some Setup) ≡ setup_by p p.roots
 unfolding step_at guarded_row instr_row setup_row
@@ -90,7 +97,8 @@ cell_first p = refl
 
 first_row : (p : Program) → IsRightProgram p → step_row p (first_state p) ≡ Do (Make count_cell) (rest_row p)
 unfolding step_row step_by
-first_row p right = ap (step_at p (first_state p) (module_frame p) []) (first_instr p right) ∙ (begins_so p ∙ (ap (setup_by p) right.roots.form ∙ cell_first p))
+first_row p right = ap (step_at p (first_state p) (module_frame p) []) (first_instr p right) ∙
+    (begins_so p ∙ (ap (setup_by p) right.roots.form ∙ cell_first p))
 
 -- ---- the heap that has the Cell of the count alone
 
@@ -110,12 +118,15 @@ empty_ordered p count = record { each = λ a r e. absurd (let q : ◌≡◌ {A =
 abbrev Nobody : Heap → State → Type 0
 Nobody h s = ⊥
 
-module _ (p : Program) (right : IsRightProgram p) (a : ℕ) (h1 : Heap) (effect : Effect {S = State} false (Make count_cell) no_records a h1) where
+module _ (p : Program) (right : IsRightProgram p) (a : ℕ) (h1 : Heap)
+    (effect : Effect {S = State} false (Make count_cell) no_records a h1) where
   pub one_ordered : IsOrdered (rules_of p a) h1
   unfolding Asks
   one_ordered =
       let one = cell_fits p a no_records 0 in
-      (call_ordered (rules_of p a) (functions_last p a) Nobody (Make count_cell) no_records h1 a (one.closed.shaped, one.short.0, one.short.1) (λ b e. cell_fits p a no_records b) effect (empty_ordered p a)).0
+      (call_ordered (rules_of p a) (functions_last p a) Nobody (Make count_cell) no_records h1 a
+      (one.closed.shaped, one.short.0, one.short.1) (λ b e. cell_fits p a no_records b) effect
+      (empty_ordered p a)).0
 
   one_here : h1 a ≡ Some count_cell
   one_here = made_here no_records h1 a count_cell effect.1
@@ -138,7 +149,8 @@ module _ (p : Program) (right : IsRightProgram p) (a : ℕ) (h1 : Heap) (effect 
   frame_after : (h : Heap) → IsFrame p h 0 (record (module_frame p) { pc = 1; stack = [] })
   frame_after h =
       let code = right_at p 0 right right.first in
-      let r = code.typed.1.each 0 Setup (record { height = 0; blocks = [] }) (first_instr p right) code.typed.1.starts in
+      let r = code.typed.1.each 0 Setup (record { height = 0; blocks = [] }) (first_instr p right) code.typed.1.starts
+      in
       record {
         is = right.first;
         typing = code.typed.0;
@@ -157,7 +169,8 @@ module _ (p : Program) (right : IsRightProgram p) (a : ℕ) (h1 : Heap) (effect 
   abbrev pub HasBegun : Outcome × State → Heap → Type 0
   HasBegun z h = (roots : Addr) × AreRoots p h a roots.0 × IsState p roots h z.1
 
-  settles : (next : Next) (h : Heap) → IsBegun p a next h → HasBegun (settled p (first_state p) 0 (module_frame p) [] next) h
+  settles : (next : Next) (h : Heap) → IsBegun p a next h →
+      HasBegun (settled p (first_state p) 0 (module_frame p) [] next) h
   unfolding settled
   settles (Begins r) h i = (r, i, record { roots_are = refl; thread = tt; goes = (frame_after h, tt) })
   settles (Goes ys) h i = absurd i
@@ -178,19 +191,27 @@ module _ (p : Program) (right : IsRightProgram p) (a : ℕ) (h1 : Heap) (effect 
       let few = right.roots.few in
       let same : n ≡ length (cell_root [] ∷ rest_of p) = ap length right.roots.form in
       let all : n ≡ 1 + length (rest_of p) = omega (arith, same) in
-      holds_bind (rules_of p a) Nobody (IsBegun p a) HasBegun (bind (roots_row (rest_of p) (ref a ∷ [])) (λ vs. begun_row vs)) (λ next. Ret (settled p (first_state p) 0 (module_frame p) [] next)) h1 one_ordered
-      (holds_bind (rules_of p a) Nobody (λ vs h. Begun p a h vs × (length vs ≡ n)) (IsBegun p a) (roots_row (rest_of p) (ref a ∷ [])) (λ vs. begun_row vs) h1 one_ordered
+      holds_bind (rules_of p a) Nobody (IsBegun p a) HasBegun
+      (bind (roots_row (rest_of p) (ref a ∷ [])) (λ vs. begun_row vs))
+      (λ next. Ret (settled p (first_state p) 0 (module_frame p) [] next)) h1 one_ordered
+      (holds_bind (rules_of p a) Nobody (λ vs h. Begun p a h vs × (length vs ≡ n)) (IsBegun p a)
+      (roots_row (rest_of p) (ref a ∷ [])) (λ vs. begun_row vs) h1 one_ordered
       (roots_hold p a Nobody (rest_of p) (ref a ∷ []) n h1 one_ordered one_begun (roots_from p right) all)
       (λ vs h2 order x i. begun_holds p a Nobody vs h2 i.0 i.1 (omega (arith, few)) (omega (arith, long))))
-      (λ next h2 order x i. holds_ret (rules_of p a) Nobody HasBegun (settled p (first_state p) 0 (module_frame p) [] next) h2 (settles next h2 i))
+      (λ next h2 order x i. holds_ret (rules_of p a) Nobody HasBegun
+      (settled p (first_state p) 0 (module_frame p) [] next) h2 (settles next h2 i))
 
 -- ---- the laws for the first step
 
 safe_make : (p : Program) → IsRightProgram p → Safe false (Do (Make count_cell) (rest_row p)) no_records
 unfolding Safe Asks
 safe_make p right =
-    let one = cell_fits p 0 no_records 0 in
-    ((one.closed.shaped, one.short.0, one.short.1), λ a h1 e. holds_safe (rules_of p a) Nobody (functions_last p a) (HasBegun p right a h1 e) false (rest_row p a) h1 h1 refl (one_ordered p right a h1 e) (rest_holds p right a h1 e))
+    let one = cell_fits p 0 no_records 0 in (
+      (one.closed.shaped, one.short.0, one.short.1),
+      λ a h1 e. holds_safe (rules_of p a) Nobody (functions_last p a)
+          (HasBegun p right a h1 e) false (rest_row p a) h1 h1 refl (one_ordered p right a h1 e)
+          (rest_holds p right a h1 e),
+    )
 
 pub first_safe : (p : Program) → IsRightProgram p → Safe false (step_row p (first_state p)) no_records
 first_safe p right = subst (λ row. Safe false row no_records) (sym (first_row p right)) (safe_make p right)
@@ -208,22 +229,27 @@ pub record HasLeft (p : Program) (z : Outcome × State) (y : Sight State) : Type
   pub state : IsState p roots y.heap z.1
   pub started : y.started ≡ []
 
-made_first : (p : Program) → IsRightProgram p → (w : World) (z : Outcome × State) (y : Sight State) → Does (Do (Make count_cell) (rest_row p)) (opened State no_records w) z y → HasLeft p z y
+made_first : (p : Program) → IsRightProgram p → (w : World) (z : Outcome × State) (y : Sight State) →
+    Does (Do (Make count_cell) (rest_row p)) (opened State no_records w) z y → HasLeft p z y
 unfolding Run
 made_first p right w z y d =
     let a = d.0 in
     let m = d.1 in
     let e = act_effect (Make count_cell) (opened State no_records w) a m d.2 in
     let last = functions_last p a in
-    let left = holds_does (rules_of p a) Nobody last (λ h h1 s order x i. i) (HasBegun p right a m.heap e) (rest_row p a) m y z (rest_holds p right a m.heap e) (one_ordered p right a m.heap e) d.3 in
+    let left = holds_does (rules_of p a) Nobody last (λ h h1 s order x i. i) (HasBegun p right a m.heap e)
+    (rest_row p a) m y z (rest_holds p right a m.heap e) (one_ordered p right a m.heap e) d.3 in
     record {
       roots = left.answer.0;
       count = a;
       order = left.order;
       rooted = left.answer.1;
       state = left.answer.2;
-      started = left.more ∙ (ap (λ z. z ++ left.started) (ap (λ z. z.started) d.2.1) ∙ nobody y.heap left.started left.each);
+      started = left.more ∙ (ap (λ z. z ++ left.started) (ap (λ z. z.started) d.2.1) ∙
+          nobody y.heap left.started left.each);
     }
 
-pub first_left : (p : Program) → IsRightProgram p → (w : World) (z : Outcome × State) (y : Sight State) → Does (step_row p (first_state p)) (opened State no_records w) z y → HasLeft p z y
-first_left p right w z y d = made_first p right w z y (subst (λ row. Does row (opened State no_records w) z y) (first_row p right) d)
+pub first_left : (p : Program) → IsRightProgram p → (w : World) (z : Outcome × State) (y : Sight State) →
+    Does (step_row p (first_state p)) (opened State no_records w) z y → HasLeft p z y
+first_left p right w z y d = made_first p right w z y
+    (subst (λ row. Does row (opened State no_records w) z y) (first_row p right) d)

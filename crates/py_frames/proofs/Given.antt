@@ -48,21 +48,27 @@ functions_last p count = record {
   };
 }
 
-pub rooted_stays : (p : Program) (count roots : ℕ) (h h1 : Heap) → Extends h h1 → AreRoots p h count roots → AreRoots p h1 count roots
+pub rooted_stays : (p : Program) (count roots : ℕ) (h h1 : Heap) → Extends h h1 → AreRoots p h count roots →
+    AreRoots p h1 count roots
 rooted_stays p count roots h h1 x r =
     let old = r.known.list in
     let k = roots_stay h h1 roots x r.known in
-    let same : old ≡ k.list = sym (one_rec (h1 roots) old k.list (fixed_stays h h1 roots old x r.known.here (ap is_tracked r.known.kind)) k.here) in
+    let same : old ≡ k.list = sym (one_rec (h1 roots) old k.list
+    (fixed_stays h h1 roots old x r.known.here (ap is_tracked r.known.kind)) k.here) in
     record {
       known = k;
       counts = subst (λ z. value_at z.values 0 ≡ ref count) same r.counts;
-      texts = λ n a b. subst (λ z. RefTo h1 Str (value_at z.values n)) same (ref_stays h h1 x Str (value_at old.values n) (r.texts n a b));
-      cells = λ n a b. subst (λ z. RefTo h1 Cell (value_at z.values n)) same (ref_stays h h1 x Cell (value_at old.values n) (r.cells n a b));
+      texts = λ n a b. subst (λ z. RefTo h1 Str (value_at z.values n)) same
+          (ref_stays h h1 x Str (value_at old.values n) (r.texts n a b));
+      cells = λ n a b. subst (λ z. RefTo h1 Cell (value_at z.values n)) same
+          (ref_stays h h1 x Cell (value_at old.values n) (r.cells n a b));
       apart = λ n a b. subst (λ z. value_at z.values n ≢ ref count) same (r.apart n a b);
     }
 
-pub context_stays : (p : Program) (count roots : ℕ) (h h1 : Heap) → Extends h h1 → IsOrdered (rules_of p count) h1 → Context p count roots h → Context p count roots h1
-context_stays p count roots h h1 x order c = record { order = order; rooted = rooted_stays p count roots h h1 x c.rooted }
+pub context_stays : (p : Program) (count roots : ℕ) (h h1 : Heap) → Extends h h1 → IsOrdered (rules_of p count) h1 →
+    Context p count roots h → Context p count roots h1
+context_stays p count roots h h1 x order c =
+    record { order = order; rooted = rooted_stays p count roots h h1 x c.rooted }
 
 -- ---- references
 
@@ -93,7 +99,12 @@ pub ref_at : (h : Heap) (k : Kind) (v : Value) → RefTo h k v → RefTo h k (re
 ref_at h k v i = let n = named h k v i in subst (RefTo h k) n.is i
 
 pub ref_item : (h : Heap) (k : Kind) (v : Value) → RefTo h k v → IsItem h v
-ref_item h k v i = let n = named h k v i in subst (IsItem h) (sym n.is) (ap Rattle.std.specs.Prelude.is_some n.here, λ e. let z : ref (place_in v) ≡ Unset = e in cc)
+ref_item h k v i = let n = named h k v i in
+    subst (IsItem h) (sym n.is) (
+      ap Rattle.std.specs.Prelude.is_some n.here,
+      λ e. let z : ref (place_in v) ≡ Unset =
+          e in cc,
+    )
 
 -- the record that a reference names
 pub there_of : (h : Heap) (a : Addr) → IsItem h (Ref a) → (r : Rec) × (h a.0 ≡ Some r)
@@ -101,7 +112,8 @@ there_of h a i = some_of (h a.0) i.0
 
 -- ---- lists by places
 
-pub some_at : {A : Type 0} (xs : List A) (k : ℕ) (d x : A) → slice_get xs k ≡ Some x → (get_or xs k d ≡ x) × (k < length xs)
+pub some_at : {A : Type 0} (xs : List A) (k : ℕ) (d x : A) → slice_get xs k ≡ Some x →
+    (get_or xs k d ≡ x) × (k < length xs)
 some_at [] k d x e = absurd (let q : ◌≡◌ {A = Option _} None (Some x) = e in cc)
 some_at (y ∷ ys) zero d x e = ((let q : y ≡ x = cc in q), omega arith)
 some_at (y ∷ ys) (suc k) d x e = let r = some_at ys k d x e in (r.0, (let l = r.1 in omega (arith, l)))
@@ -124,12 +136,15 @@ every_of P (x ∷ xs) a = (a 0 x (omega arith), every_of P xs (λ k d l. a (suc 
 
 -- ---- the codes of a right program
 
-right_by : (all : List Code) (rs : List Root) (m : ℕ) (cs : List Code) → AreRight all rs m cs → (n : ℕ) → n < length cs → IsRightCode all rs (m + n) (get_or cs n no_code)
+right_by : (all : List Code) (rs : List Root) (m : ℕ) (cs : List Code) → AreRight all rs m cs → (n : ℕ) →
+    n < length cs → IsRightCode all rs (m + n) (get_or cs n no_code)
 right_by all rs m [] r n l = absurd (omega (arith, l))
 right_by all rs m (c ∷ cs) r zero l = subst (λ k. IsRightCode all rs k c) (let e : m ≡ m + 0 = omega arith in e) r.0
 right_by all rs m (c ∷ cs) r (suc n) l =
     let i = right_by all rs (m + 1) cs r.1 n (omega (arith, l)) in
     subst (λ k. IsRightCode all rs k (get_or cs n no_code)) (let e : m + 1 + n ≡ m + suc n = omega arith in e) i
 
-pub right_at : (p : Program) (n : ℕ) → IsRightProgram p → n < length p.codes → IsRightCode p.codes p.roots n (code_at p n)
-right_at p n right l = subst (λ k. IsRightCode p.codes p.roots k (code_at p n)) (let e : 0 + n ≡ n = omega arith in e) (right_by p.codes p.roots 0 p.codes right.each n l)
+pub right_at : (p : Program) (n : ℕ) → IsRightProgram p → n < length p.codes →
+    IsRightCode p.codes p.roots n (code_at p n)
+right_at p n right l = subst (λ k. IsRightCode p.codes p.roots k (code_at p n)) (let e : 0 + n ≡ n = omega arith in e)
+    (right_by p.codes p.roots 0 p.codes right.each n l)

@@ -69,32 +69,39 @@ module _ {S : Type 0} (p : Program) (count roots : ℕ) (stands : Heap → S →
   -- ---- operations answer
 
   -- the fault needs nothing of the heap
-  raised : {A : Type 0} (q : A → Heap → Type 0) (fault : Fault) (h : Heap) → IsFault h fault → Kept (IsGot q) (Ret (Raise fault)) h
+  raised : {A : Type 0} (q : A → Heap → Type 0) (fault : Fault) (h : Heap) → IsFault h fault →
+      Kept (IsGot q) (Ret (Raise fault)) h
   raised q fault h i = holds_ret (rules_of p count) stands (IsGot q) (Raise fault) h i
 
   abbrev wrong : {A : Type 0} (q : A → Heap → Type 0) (h : Heap) → Kept (IsGot q) (Ret (Raise operand_fault)) h
   wrong q h = raised q operand_fault h (lit< tt, lit< tt, tt)
 
   -- of a record, by its kind
-  pub after_kind : {B : Type 0} (z : B → Heap → Type 0) (a : Addr) (g : Kind → Row S B) (h : Heap) → Context p count roots h → IsItem h (Ref a) → ((k : Kind) → RefTo h k (Ref a) → Kept z (g k) h) → Kept z (bind (kind_row a.0) g) h
+  pub after_kind : {B : Type 0} (z : B → Heap → Type 0) (a : Addr) (g : Kind → Row S B) (h : Heap) →
+      Context p count roots h → IsItem h (Ref a) → ((k : Kind) → RefTo h k (Ref a) → Kept z (g k) h) →
+      Kept z (bind (kind_row a.0) g) h
   after_kind z a g h c i n =
       let t = there_of h a i in
       after_looks p count roots stands (λ k. k ≡ t.0.kind) z (kind_row a.0) g h c (kind_looks S h a.0 t.0 t.1)
       (λ k q. n k (at_ref h k a.0 t.0 t.1 (sym q)))
 
   -- the bytes of a string
-  after_bytes : {B : Type 0} (z : B → Heap → Type 0) (a : ℕ) (g : List ℕ → Row S B) (h : Heap) → Context p count roots h → RefTo h Str (ref a) → ((t : List ℕ) → Kept z (g t) h) → Kept z (bind (bytes_row a) g) h
+  after_bytes : {B : Type 0} (z : B → Heap → Type 0) (a : ℕ) (g : List ℕ → Row S B) (h : Heap) →
+      Context p count roots h → RefTo h Str (ref a) → ((t : List ℕ) → Kept z (g t) h) → Kept z (bind (bytes_row a) g) h
   after_bytes z a g h c i n =
       let t = is_at h Str a i in
-      after_looks p count roots stands (λ bs. bs ≡ t.rec.bytes) z (bytes_row a) g h c (bytes_looks S h a t.rec t.here) (λ bs q. n bs)
+      after_looks p count roots stands (λ bs. bs ≡ t.rec.bytes) z (bytes_row a) g h c (bytes_looks S h a t.rec t.here)
+      (λ bs q. n bs)
 
   -- a new string
   pub text_made : (bs : List ℕ) (h : Heap) → Context p count roots h → Kept IsAnswer (new_text bs) h
   unfolding new_text
   text_made bs h c = by (leb (length bs) LENGTH_LIMIT) refl
     where
-      by : (b : Bool) → leb (length bs) LENGTH_LIMIT ≡ b → Kept IsAnswer (cond b (Rattle.obj_str.specs.Strings.made_text bs) (Ret (Raise memory_fault))) h
-      by true t = holds_make (rules_of p count) stands IsAnswer (new_rec Str [] bs) (λ a. Ret (Is (ref a))) h (λ a. text_fits (rules_of p count) h a bs (leb-true (length bs) LENGTH_LIMIT t))
+      by : (b : Bool) → leb (length bs) LENGTH_LIMIT ≡ b →
+          Kept IsAnswer (cond b (Rattle.obj_str.specs.Strings.made_text bs) (Ret (Raise memory_fault))) h
+      by true t = holds_make (rules_of p count) stands IsAnswer (new_rec Str [] bs) (λ a. Ret (Is (ref a))) h
+          (λ a. text_fits (rules_of p count) h a bs (leb-true (length bs) LENGTH_LIMIT t))
           (λ a h1 order x e item. holds_ret (rules_of p count) stands IsAnswer (Is (ref a)) h1 item)
       by false t = raised (λ v h. IsItem h v) memory_fault h (lit< tt, lit< tt, tt)
 
@@ -104,37 +111,46 @@ module _ {S : Type 0} (p : Program) (count roots : ℕ) (stands : Heap → S →
   byte_holds t (Some k) h c = text_made (take 1 (drop k t)) h c
   byte_holds t None h c = raised (λ v h. IsItem h v) index_fault h (lit< tt, lit< tt, tt)
 
-  text_item_holds : (a : ℕ) (o : Option ℤ) (h : Heap) → Context p count roots h → RefTo h Str (ref a) → Kept IsAnswer (text_item a o) h
+  text_item_holds : (a : ℕ) (o : Option ℤ) (h : Heap) → Context p count roots h → RefTo h Str (ref a) →
+      Kept IsAnswer (text_item a o) h
   unfolding text_item byte_item_row
-  text_item_holds a (Some i) h c s = after_bytes IsAnswer a (λ t. byte_row t (place i (length t))) h c s (λ t. byte_holds t (place i (length t)) h c)
+  text_item_holds a (Some i) h c s = after_bytes IsAnswer a (λ t. byte_row t (place i (length t))) h c s
+      (λ t. byte_holds t (place i (length t)) h c)
   text_item_holds a None h c s = wrong (λ v h. IsItem h v) h
 
-  list_item_holds : (a : ℕ) (o : Option ℤ) (h : Heap) → Context p count roots h → IsSequenceAt h a → Kept IsAnswer (list_item a o) h
+  list_item_holds : (a : ℕ) (o : Option ℤ) (h : Heap) → Context p count roots h → IsSequenceAt h a →
+      Kept IsAnswer (list_item a o) h
   unfolding list_item
   list_item_holds a (Some i) h c s = let q = seq_holds (rules_of p count) stands in q.item h a i c.order s
   list_item_holds a None h c s = wrong (λ v h. IsItem h v) h
 
-  sequence : (h : Heap) (a : ℕ) (k : Kind) → Rattle.py_data.specs.Answers.IsSequenceKind k → RefTo h k (ref a) → IsSequenceAt h a
+  sequence : (h : Heap) (a : ℕ) (k : Kind) → Rattle.py_data.specs.Answers.IsSequenceKind k → RefTo h k (ref a) →
+      IsSequenceAt h a
   sequence h a k i s = by (h a) s
     where
       by : (o : Option Rec) → KindIn o (λ q. q ≡ k) → KindIn o Rattle.py_data.specs.Answers.IsSequenceKind
       by None j = absurd j
       by (Some r) j = subst Rattle.py_data.specs.Answers.IsSequenceKind (sym j) i
 
-  or_key : (key : Value) (g : Got (Option Value)) (h : Heap) → IsItem h key → IsGot IfItem g h → IsAnswer (value_or_key key g) h
+  or_key : (key : Value) (g : Got (Option Value)) (h : Heap) → IsItem h key → IsGot IfItem g h →
+      IsAnswer (value_or_key key g) h
   unfolding value_or_key
   or_key key (Is (Some x)) h i j = j
   or_key key (Is None) h i j = (lit< tt, lit< tt, i)
   or_key key (Raise fault) h i j = j
 
-  dict_item_holds : (d : ℕ) (key : Value) (h : Heap) → Context p count roots h → RefTo h Dict (ref d) → IsItem h key → Kept IsAnswer (dict_item d key) h
+  dict_item_holds : (d : ℕ) (key : Value) (h : Heap) → Context p count roots h → RefTo h Dict (ref d) → IsItem h key →
+      Kept IsAnswer (dict_item d key) h
   unfolding dict_item
   dict_item_holds d key h c s i =
       let o = dict_holds (rules_of p count) stands in
-      then_holds p count roots stands (IsGot IfItem) IsAnswer (get_row d key) (λ g. Ret (value_or_key key g)) h c (o.get h d key c.order s i)
-      (λ g h1 c1 x j. holds_ret (rules_of p count) stands IsAnswer (value_or_key key g) h1 (or_key key g h1 (item_stays h h1 x key i) j))
+      then_holds p count roots stands (IsGot IfItem) IsAnswer (get_row d key) (λ g. Ret (value_or_key key g)) h c
+      (o.get h d key c.order s i)
+      (λ g h1 c1 x j. holds_ret (rules_of p count) stands IsAnswer (value_or_key key g) h1
+      (or_key key g h1 (item_stays h h1 x key i) j))
 
-  item_by_holds : (a : ℕ) (i : Value) (k : Kind) (h : Heap) → Context p count roots h → RefTo h k (ref a) → IsItem h i → Kept IsAnswer (item_by a i k) h
+  item_by_holds : (a : ℕ) (i : Value) (k : Kind) (h : Heap) → Context p count roots h → RefTo h k (ref a) →
+      IsItem h i → Kept IsAnswer (item_by a i k) h
   unfolding item_by
   item_by_holds a i Str h c s j = text_item_holds a (number_of i) h c s
   item_by_holds a i Tuple h c s j = list_item_holds a (number_of i) h c (sequence h a Tuple tt s)
@@ -150,9 +166,11 @@ module _ {S : Type 0} (p : Program) (count roots : ℕ) (stands : Heap → S →
   item_by_holds a i Lock h c s j = wrong (λ v h. IsItem h v) h
   item_by_holds a i Thread h c s j = wrong (λ v h. IsItem h v) h
 
-  item_holds : (o i : Value) (h : Heap) → Context p count roots h → IsItem h o → IsItem h i → Kept IsAnswer (item_of o i) h
+  item_holds : (o i : Value) (h : Heap) → Context p count roots h → IsItem h o → IsItem h i →
+      Kept IsAnswer (item_of o i) h
   unfolding item_of
-  item_holds (Ref a) i h c s j = after_kind IsAnswer a (λ k. item_by a.0 i k) h c s (λ k q. item_by_holds a.0 i k h c q j)
+  item_holds (Ref a) i h c s j = after_kind IsAnswer a (λ k. item_by a.0 i k) h c s
+      (λ k q. item_by_holds a.0 i k h c q j)
   item_holds Unset i h c s j = wrong (λ v h. IsItem h v) h
   item_holds NoneValue i h c s j = wrong (λ v h. IsItem h v) h
   item_holds (BoolValue b) i h c s j = wrong (λ v h. IsItem h v) h
@@ -163,12 +181,14 @@ module _ {S : Type 0} (p : Program) (count roots : ℕ) (stands : Heap → S →
   abbrev Any : Unit {0} → Heap → Type 0
   Any u h = Unit {0}
 
-  set_list_holds : (a : ℕ) (x : Value) (o : Option ℤ) (h : Heap) → Context p count roots h → RefTo h ListKind (ref a) → IsItem h x → Kept IsDone (set_list_item a x o) h
+  set_list_holds : (a : ℕ) (x : Value) (o : Option ℤ) (h : Heap) → Context p count roots h → RefTo h ListKind (ref a) →
+      IsItem h x → Kept IsDone (set_list_item a x o) h
   unfolding set_list_item
   set_list_holds a x (Some i) h c s j = let q = seq_holds (rules_of p count) stands in q.set_item h a i x c.order s j
   set_list_holds a x None h c s j = wrong Any h
 
-  set_by_holds : (a : ℕ) (i x : Value) (k : Kind) (h : Heap) → Context p count roots h → RefTo h k (ref a) → IsItem h i → IsItem h x → Kept IsDone (set_by a i x k) h
+  set_by_holds : (a : ℕ) (i x : Value) (k : Kind) (h : Heap) → Context p count roots h → RefTo h k (ref a) →
+      IsItem h i → IsItem h x → Kept IsDone (set_by a i x k) h
   unfolding set_by
   set_by_holds a i x ListKind h c s j l = set_list_holds a x (number_of i) h c s l
   set_by_holds a i x Dict h c s j l = let o = dict_holds (rules_of p count) stands in o.set h a i x c.order s j l
@@ -184,9 +204,11 @@ module _ {S : Type 0} (p : Program) (count roots : ℕ) (stands : Heap → S →
   set_by_holds a i x Lock h c s j l = wrong Any h
   set_by_holds a i x Thread h c s j l = wrong Any h
 
-  set_holds : (o i x : Value) (h : Heap) → Context p count roots h → IsItem h o → IsItem h i → IsItem h x → Kept IsDone (set_item o i x) h
+  set_holds : (o i x : Value) (h : Heap) → Context p count roots h → IsItem h o → IsItem h i → IsItem h x →
+      Kept IsDone (set_item o i x) h
   unfolding set_item
-  set_holds (Ref a) i x h c s j l = after_kind IsDone a (λ k. set_by a.0 i x k) h c s (λ k q. set_by_holds a.0 i x k h c q j l)
+  set_holds (Ref a) i x h c s j l = after_kind IsDone a (λ k. set_by a.0 i x k) h c s
+      (λ k q. set_by_holds a.0 i x k h c q j l)
   set_holds Unset i x h c s j l = wrong Any h
   set_holds NoneValue i x h c s j l = wrong Any h
   set_holds (BoolValue b) i x h c s j l = wrong Any h
@@ -194,22 +216,27 @@ module _ {S : Type 0} (p : Program) (count roots : ℕ) (stands : Heap → S →
   set_holds (Builtin b) i x h c s j l = wrong Any h
 
   -- ---- DEL_ITEM
-  del_list_holds : (a : ℕ) (o : Option ℤ) (h : Heap) → Context p count roots h → RefTo h ListKind (ref a) → Kept IsDone (del_list_item a o) h
+  del_list_holds : (a : ℕ) (o : Option ℤ) (h : Heap) → Context p count roots h → RefTo h ListKind (ref a) →
+      Kept IsDone (del_list_item a o) h
   unfolding del_list_item
   del_list_holds a (Some i) h c s = let q = seq_holds (rules_of p count) stands in q.del_item h a i c.order s
   del_list_holds a None h c s = wrong Any h
 
-  del_key_holds : (d : ℕ) (key : Value) (h : Heap) → Context p count roots h → RefTo h Dict (ref d) → IsItem h key → Kept IsDone (del_key d key) h
+  del_key_holds : (d : ℕ) (key : Value) (h : Heap) → Context p count roots h → RefTo h Dict (ref d) → IsItem h key →
+      Kept IsDone (del_key d key) h
   unfolding del_key
   del_key_holds d key h c s i =
       let o = dict_holds (rules_of p count) stands in
-      then_holds p count roots stands IsAnswer IsDone (del_row d key) (λ g. Ret (got_then g (λ x. Is tt))) h c (o.del h d key c.order s i) (λ g h1 c1 x j. holds_ret (rules_of p count) stands IsDone (got_then g (λ x. Is tt)) h1 (left g h1 j))
+      then_holds p count roots stands IsAnswer IsDone (del_row d key) (λ g. Ret (got_then g (λ x. Is tt))) h c
+      (o.del h d key c.order s i) (λ g h1 c1 x j.
+      holds_ret (rules_of p count) stands IsDone (got_then g (λ x. Is tt)) h1 (left g h1 j))
     where
       left : (g : Got Value) (h1 : Heap) → IsAnswer g h1 → IsDone (got_then g (λ x. Is tt)) h1
       left (Is x) h1 j = tt
       left (Raise fault) h1 j = j
 
-  del_by_holds : (a : ℕ) (i : Value) (k : Kind) (h : Heap) → Context p count roots h → RefTo h k (ref a) → IsItem h i → Kept IsDone (del_by a i k) h
+  del_by_holds : (a : ℕ) (i : Value) (k : Kind) (h : Heap) → Context p count roots h → RefTo h k (ref a) → IsItem h i →
+      Kept IsDone (del_by a i k) h
   unfolding del_by
   del_by_holds a i ListKind h c s j = del_list_holds a (number_of i) h c s
   del_by_holds a i Dict h c s j = del_key_holds a i h c s j
@@ -225,7 +252,8 @@ module _ {S : Type 0} (p : Program) (count roots : ℕ) (stands : Heap → S →
   del_by_holds a i Lock h c s j = wrong Any h
   del_by_holds a i Thread h c s j = wrong Any h
 
-  del_holds : (o i : Value) (h : Heap) → Context p count roots h → IsItem h o → IsItem h i → Kept IsDone (del_item o i) h
+  del_holds : (o i : Value) (h : Heap) → Context p count roots h → IsItem h o → IsItem h i →
+      Kept IsDone (del_item o i) h
   unfolding del_item
   del_holds (Ref a) i h c s j = after_kind IsDone a (λ k. del_by a.0 i k) h c s (λ k q. del_by_holds a.0 i k h c q j)
   del_holds Unset i h c s j = wrong Any h
@@ -235,12 +263,17 @@ module _ {S : Type 0} (p : Program) (count roots : ℕ) (stands : Heap → S →
   del_holds (Builtin b) i h c s j = wrong Any h
 
   -- ---- SLICE
-  slice_by_holds : (a : ℕ) (b : Option ℤ × Option ℤ) (k : Kind) (h : Heap) → Context p count roots h → RefTo h k (ref a) → Kept IsAnswer (slice_by a b k) h
+  slice_by_holds : (a : ℕ) (b : Option ℤ × Option ℤ) (k : Kind) (h : Heap) → Context p count roots h →
+      RefTo h k (ref a) → Kept IsAnswer (slice_by a b k) h
   unfolding slice_by text_slice
   slice_by_holds a b Str h c s =
-      after_bytes IsAnswer a (λ t. new_text (bytes_part t (bound_or b.0 0 (length t)) (bound_or b.1 (length t) (length t)))) h c s (λ t. text_made (bytes_part t (bound_or b.0 0 (length t)) (bound_or b.1 (length t) (length t))) h c)
-  slice_by_holds a b Tuple h c s = let q = seq_holds (rules_of p count) stands in q.slice h a b.0 b.1 c.order (sequence h a Tuple tt s)
-  slice_by_holds a b ListKind h c s = let q = seq_holds (rules_of p count) stands in q.slice h a b.0 b.1 c.order (sequence h a ListKind tt s)
+      after_bytes IsAnswer a (λ t. new_text
+      (bytes_part t (bound_or b.0 0 (length t)) (bound_or b.1 (length t) (length t)))) h c s
+      (λ t. text_made (bytes_part t (bound_or b.0 0 (length t)) (bound_or b.1 (length t) (length t))) h c)
+  slice_by_holds a b Tuple h c s = let q = seq_holds (rules_of p count) stands in
+      q.slice h a b.0 b.1 c.order (sequence h a Tuple tt s)
+  slice_by_holds a b ListKind h c s = let q = seq_holds (rules_of p count) stands in
+      q.slice h a b.0 b.1 c.order (sequence h a ListKind tt s)
   slice_by_holds a b Dict h c s = wrong (λ v h. IsItem h v) h
   slice_by_holds a b Cell h c s = wrong (λ v h. IsItem h v) h
   slice_by_holds a b Function h c s = wrong (λ v h. IsItem h v) h
@@ -281,12 +314,16 @@ module _ {S : Type 0} (p : Program) (count roots : ℕ) (stands : Heap → S →
       by (Is i) (Raise fault) u v = v
       by (Raise fault) q u v = u
 
-  slice_at_holds : (a : Addr) (g : Got (Option ℤ × Option ℤ)) (h : Heap) → Context p count roots h → IsItem h (Ref a) → AreBounds g → Kept IsAnswer (slice_at a.0 g) h
+  slice_at_holds : (a : Addr) (g : Got (Option ℤ × Option ℤ)) (h : Heap) → Context p count roots h → IsItem h (Ref a) →
+      AreBounds g → Kept IsAnswer (slice_at a.0 g) h
   unfolding slice_at
-  slice_at_holds a (Is b) h c s i = after_kind IsAnswer a (λ k. slice_by a.0 b k) h c s (λ k q. slice_by_holds a.0 b k h c q)
-  slice_at_holds a (Raise fault) h c s i = raised (λ v h. IsItem h v) fault h (subst (IsFault h) (sym i) (lit< tt, lit< tt, tt))
+  slice_at_holds a (Is b) h c s i = after_kind IsAnswer a (λ k. slice_by a.0 b k) h c s
+      (λ k q. slice_by_holds a.0 b k h c q)
+  slice_at_holds a (Raise fault) h c s i =
+      raised (λ v h. IsItem h v) fault h (subst (IsFault h) (sym i) (lit< tt, lit< tt, tt))
 
-  slice_holds : (o : Value) (g : Got (Option ℤ × Option ℤ)) (h : Heap) → Context p count roots h → IsItem h o → AreBounds g → Kept IsAnswer (slice_of o g) h
+  slice_holds : (o : Value) (g : Got (Option ℤ × Option ℤ)) (h : Heap) → Context p count roots h → IsItem h o →
+      AreBounds g → Kept IsAnswer (slice_of o g) h
   unfolding slice_of
   slice_holds (Ref a) g h c s i = slice_at_holds a g h c s i
   slice_holds Unset g h c s i = wrong (λ v h. IsItem h v) h
@@ -300,30 +337,38 @@ module _ {S : Type 0} (p : Program) (count roots : ℕ) (stands : Heap → S →
   Raises (Is x) h = ⊥
   Raises (Raise fault) h = IsFault h fault
 
-  missing_holds : (name : ℕ) (h : Heap) → Context p count roots h → RefTo h Str (ref name) → Kept Raises (missing_row name) h
+  missing_holds : (name : ℕ) (h : Heap) → Context p count roots h → RefTo h Str (ref name) →
+      Kept Raises (missing_row name) h
   unfolding missing_row
-  missing_holds name h c i = after_bytes Raises name (λ t. Ret (Raise (attribute_fault t))) h c i (λ t. holds_ret (rules_of p count) stands Raises (Raise (attribute_fault t)) h (lit< tt, lit< tt, tt))
+  missing_holds name h c i = after_bytes Raises name (λ t. Ret (Raise (attribute_fault t))) h c i
+      (λ t. holds_ret (rules_of p count) stands Raises (Raise (attribute_fault t)) h (lit< tt, lit< tt, tt))
 
   module _ (e : InstrEffect) (f : Frame) where
     abbrev Ok : Row S Next → Heap → Type 0
     Ok row h = Leads p count roots stands e f row h
 
     -- ---- the instructions on items
-    pub load_item_holds : (o i : Value) (h : Heap) → Context p count roots h → Pushes e → IsItem h o → IsItem h i → Ok (load_item_row roots o i) h
+    pub load_item_holds : (o i : Value) (h : Heap) → Context p count roots h → Pushes e → IsItem h o → IsItem h i →
+        Ok (load_item_row roots o i) h
     unfolding load_item_row
     load_item_holds o i h c t s j = gives p count roots stands e f (item_of o i) h c t (item_holds o i h c s j)
 
-    pub store_item_holds : (x o i : Value) (h : Heap) → Context p count roots h → Passes e → IsItem h x → IsItem h o → IsItem h i → Ok (store_item_row roots x o i) h
+    pub store_item_holds : (x o i : Value) (h : Heap) → Context p count roots h → Passes e → IsItem h x → IsItem h o →
+        IsItem h i → Ok (store_item_row roots x o i) h
     unfolding store_item_row
-    store_item_holds x o i h c t l s j = finishes p count roots stands e f Any (set_item o i x) h c t (set_holds o i x h c s j l)
+    store_item_holds x o i h c t l s j = finishes p count roots stands e f Any (set_item o i x) h c t
+        (set_holds o i x h c s j l)
 
-    pub del_item_holds : (o i : Value) (h : Heap) → Context p count roots h → Passes e → IsItem h o → IsItem h i → Ok (del_item_instr roots o i) h
+    pub del_item_holds : (o i : Value) (h : Heap) → Context p count roots h → Passes e → IsItem h o → IsItem h i →
+        Ok (del_item_instr roots o i) h
     unfolding del_item_instr
     del_item_holds o i h c t s j = finishes p count roots stands e f Any (del_item o i) h c t (del_holds o i h c s j)
 
-    pub slice_instr_holds : (o i j : Value) (h : Heap) → Context p count roots h → Pushes e → IsItem h o → Ok (slice_instr roots o i j) h
+    pub slice_instr_holds : (o i j : Value) (h : Heap) → Context p count roots h → Pushes e → IsItem h o →
+        Ok (slice_instr roots o i j) h
     unfolding slice_instr
-    slice_instr_holds o i j h c t s = gives p count roots stands e f (slice_of o (bounds_in i j)) h c t (slice_holds o (bounds_in i j) h c s (both_bounds i j))
+    slice_instr_holds o i j h c t s = gives p count roots stands e f (slice_of o (bounds_in i j)) h c t
+        (slice_holds o (bounds_in i j) h c s (both_bounds i j))
 
     -- ---- attributes
     abbrev name_at : (n : ℕ) (h : Heap) → Context p count roots h → ℕ
@@ -332,26 +377,32 @@ module _ {S : Type 0} (p : Program) (count roots : ℕ) (stands : Heap → S →
     is_name : (n : ℕ) (h : Heap) (c : Context p count roots h) → Names p n → RefTo h Str (ref (name_at n h c))
     is_name n h c w = ref_at h Str (value_at c.rooted.known.list.values n) (c.rooted.texts n w.0 w.1)
 
-    pub load_attr_holds : (n : ℕ) (o : Value) (h : Heap) → Context p count roots h → Names p n → Pushes e → IsItem h o → Ok (load_attr_row roots n o) h
+    pub load_attr_holds : (n : ℕ) (o : Value) (h : Heap) → Context p count roots h → Names p n → Pushes e →
+        IsItem h o → Ok (load_attr_row roots n o) h
     unfolding load_attr_row loaded_attr
     load_attr_holds n o h c w t i =
         let k = class_holds (rules_of p count) stands in
         after_root p count roots stands (Fits p e f) n (λ name. loaded_attr roots o (place_in name)) h c
-        (gives p count roots stands e f (attr_row roots o (name_at n h c)) h c t (k.attr h roots (name_at n h c) o c.order c.rooted.known i (is_name n h c w)))
+        (gives p count roots stands e f (attr_row roots o (name_at n h c)) h c t
+        (k.attr h roots (name_at n h c) o c.order c.rooted.known i (is_name n h c w)))
 
-    pub store_attr_holds : (n : ℕ) (x o : Value) (h : Heap) → Context p count roots h → Names p n → Passes e → IsItem h x → IsItem h o → Ok (store_attr_row roots n x o) h
+    pub store_attr_holds : (n : ℕ) (x o : Value) (h : Heap) → Context p count roots h → Names p n → Passes e →
+        IsItem h x → IsItem h o → Ok (store_attr_row roots n x o) h
     unfolding store_attr_row stored_attr
     store_attr_holds n x o h c w t i j =
         let k = class_holds (rules_of p count) stands in
         after_root p count roots stands (Fits p e f) n (λ name. stored_attr roots x o (place_in name)) h c
-        (finishes p count roots stands e f Any (set_attr_row o (name_at n h c) x) h c t (k.set_attr h (name_at n h c) o x c.order j (is_name n h c w) i))
+        (finishes p count roots stands e f Any (set_attr_row o (name_at n h c) x) h c t
+        (k.set_attr h (name_at n h c) o x c.order j (is_name n h c w) i))
 
-    pub del_attr_holds : (n : ℕ) (o : Value) (h : Heap) → Context p count roots h → Names p n → Passes e → IsItem h o → Ok (del_attr_instr roots n o) h
+    pub del_attr_holds : (n : ℕ) (o : Value) (h : Heap) → Context p count roots h → Names p n → Passes e → IsItem h o →
+        Ok (del_attr_instr roots n o) h
     unfolding del_attr_instr dropped_attr
     del_attr_holds n o h c w t i =
         let k = class_holds (rules_of p count) stands in
         after_root p count roots stands (Fits p e f) n (λ name. dropped_attr roots o (place_in name)) h c
-        (finishes p count roots stands e f Any (del_attr_row o (name_at n h c)) h c t (k.del_attr h (name_at n h c) o c.order i (is_name n h c w)))
+        (finishes p count roots stands e f Any (del_attr_row o (name_at n h c)) h c t
+        (k.del_attr h (name_at n h c) o c.order i (is_name n h c w)))
 
     -- the attribute isn't there: nothing is pushed but an exception raised
     raised_given : (g : Got Value) (h : Heap) → Context p count roots h → Raises g h → Ok (give roots g) h
@@ -359,17 +410,24 @@ module _ {S : Type 0} (p : Program) (count roots : ℕ) (stands : Heap → S →
     raised_given (Is x) h c i = absurd i
     raised_given (Raise fault) h c i = raises p count roots stands e f fault h c i
 
-    missing_method_holds : (name : ℕ) (h : Heap) → Context p count roots h → RefTo h Str (ref name) → Ok (missing_method roots name) h
+    missing_method_holds : (name : ℕ) (h : Heap) → Context p count roots h → RefTo h Str (ref name) →
+        Ok (missing_method roots name) h
     unfolding missing_method
-    missing_method_holds name h c i = then_holds p count roots stands Raises (Fits p e f) (missing_row name) (λ g. give roots g) h c (missing_holds name h c i) (λ g h1 c1 x j. raised_given g h1 c1 j)
+    missing_method_holds name h c i = then_holds p count roots stands Raises (Fits p e f) (missing_row name)
+        (λ g. give roots g) h c (missing_holds name h c i) (λ g h1 c1 x j. raised_given g h1 c1 j)
 
-    found_holds : (o : Value) (name : ℕ) (found : Option Found) (h : Heap) → (c : Context p count roots h) → RefTo h Str (ref name) → PushesTwo e → IsItem h o → IfSome found (IsGood (rules_of p count) h c.order) → Ok (found_method roots o name found) h
+    found_holds : (o : Value) (name : ℕ) (found : Option Found) (h : Heap) → (c : Context p count roots h) →
+        RefTo h Str (ref name) → PushesTwo e → IsItem h o → IfSome found (IsGood (rules_of p count) h c.order) →
+        Ok (found_method roots o name found) h
     unfolding found_method
     found_holds o name None h c s t i j = missing_method_holds name h c s
-    found_holds o name (Some (Plain x)) h c s t i j = leads_to p count roots stands e f (Goes (x ∷ Unset ∷ [])) h (t.0, sym t.1, (j.0, (tt, tt)))
-    found_holds o name (Some (Bound x)) h c s t i j = leads_to p count roots stands e f (Goes (x ∷ o ∷ [])) h (t.0, sym t.1, (j.0.0, (i.0, tt)))
+    found_holds o name (Some (Plain x)) h c s t i j = leads_to p count roots stands e f (Goes (x ∷ Unset ∷ [])) h
+        (t.0, sym t.1, (j.0, (tt, tt)))
+    found_holds o name (Some (Bound x)) h c s t i j = leads_to p count roots stands e f (Goes (x ∷ o ∷ [])) h
+        (t.0, sym t.1, (j.0.0, (i.0, tt)))
 
-    pub load_method_holds : (n : ℕ) (o : Value) (h : Heap) → Context p count roots h → Names p n → PushesTwo e → IsItem h o → Ok (load_method_row roots n o) h
+    pub load_method_holds : (n : ℕ) (o : Value) (h : Heap) → Context p count roots h → Names p n → PushesTwo e →
+        IsItem h o → Ok (load_method_row roots n o) h
     unfolding load_method_row loaded_method
     load_method_holds n o h c w t i =
         let k = class_holds (rules_of p count) stands in
@@ -377,5 +435,7 @@ module _ {S : Type 0} (p : Program) (count roots : ℕ) (stands : Heap → S →
         let s = is_name n h c w in
         let good = attribute_good (rules_of p count) h c.order roots name o c.rooted.known in
         after_root p count roots stands (Fits p e f) n (λ name. loaded_method roots o (place_in name)) h c
-        (after_looks p count roots stands (λ z. z ≡ attribute h roots o name) (Fits p e f) (find_attr_row roots o name) (λ z. found_method roots o name z) h c (k.find_attr h roots name o c.order c.rooted.known i s)
-        (λ z q. found_holds o name z h c s t i (subst (λ z. IfSome z (IsGood (rules_of p count) h c.order)) (sym q) good)))
+        (after_looks p count roots stands (λ z. z ≡ attribute h roots o name) (Fits p e f) (find_attr_row roots o name)
+        (λ z. found_method roots o name z) h c (k.find_attr h roots name o c.order c.rooted.known i s)
+        (λ z q. found_holds o name z h c s t i
+        (subst (λ z. IfSome z (IsGood (rules_of p count) h c.order)) (sym q) good)))

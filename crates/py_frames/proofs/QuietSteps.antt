@@ -50,18 +50,21 @@ behind_ret : (S : Type 0) {A : Type 0} (p : A → Type 0) (a : A) → BehindLook
 unfolding BehindLooks
 behind_ret S p a = tt
 
-behind_looks : {S A B : Type 0} (p : B → Type 0) (row : Row S A) (f : A → Row S B) → OnlyLooks row → ((a : A) → BehindLooks p (f a)) → BehindLooks p (bind row f)
+behind_looks : {S A B : Type 0} (p : B → Type 0) (row : Row S A) (f : A → Row S B) → OnlyLooks row →
+    ((a : A) → BehindLooks p (f a)) → BehindLooks p (bind row f)
 unfolding OnlyLooks BehindLooks bind
 behind_looks p (Ret a) f i n = n a
 behind_looks p (Do c k) f i n = inl (i.0, λ r. behind_looks p (k r) f (i.1 r) n)
 
 -- what follows an answer that is no such one is none either
-never_after : {S A B : Type 0} (q : A → Type 0) (p : B → Type 0) (row : Row S A) (f : A → Row S B) → Never q row → ((a : A) → (q a → ⊥) → Never p (f a)) → Never p (bind row f)
+never_after : {S A B : Type 0} (q : A → Type 0) (p : B → Type 0) (row : Row S A) (f : A → Row S B) → Never q row →
+    ((a : A) → (q a → ⊥) → Never p (f a)) → Never p (bind row f)
 unfolding Never bind
 never_after q p (Ret a) f i n = n a i
 never_after q p (Do c k) f i n = λ r. never_after q p (k r) f (i r) n
 
-behind_bind : {S A B : Type 0} (q : A → Type 0) (p : B → Type 0) (row : Row S A) (f : A → Row S B) → BehindLooks q row → ((a : A) → BehindLooks p (f a)) → ((a : A) → (q a → ⊥) → Never p (f a)) → BehindLooks p (bind row f)
+behind_bind : {S A B : Type 0} (q : A → Type 0) (p : B → Type 0) (row : Row S A) (f : A → Row S B) → BehindLooks q row
+    → ((a : A) → BehindLooks p (f a)) → ((a : A) → (q a → ⊥) → Never p (f a)) → BehindLooks p (bind row f)
 unfolding BehindLooks bind
 behind_bind q p (Ret a) f i m n = m a
 behind_bind q p (Do c k) f i m n = elim i [
@@ -69,7 +72,8 @@ behind_bind q p (Do c k) f i m n = elim i [
   | inr w ↦ inr (λ r. never_after q p (k r) f (w r) n)
 ]
 
-behind_cond : {S A : Type 0} (p : A → Type 0) (b : Bool) (x y : Row S A) → BehindLooks p x → BehindLooks p y → BehindLooks p (cond b x y)
+behind_cond : {S A : Type 0} (p : A → Type 0) (b : Bool) (x y : Row S A) → BehindLooks p x → BehindLooks p y →
+    BehindLooks p (cond b x y)
 behind_cond p true x y i j = i
 behind_cond p false x y i j = j
 
@@ -81,27 +85,35 @@ Quiet row = BehindLooks Waiting row
 works_quiet : (row : Row State Next) → Works row → Quiet row
 works_quiet row n = never_behind Waiting row n
 
-counted_works : (roots : ℕ) (thread : Option Addr) (f : Frame) (count n : ℕ) (x : Value) → Works (counted_row roots thread f count n x)
+counted_works : (roots : ℕ) (thread : Option Addr) (f : Frame) (count n : ℕ) (x : Value) →
+    Works (counted_row roots thread f count n x)
 unfolding counted_row
-counted_works roots thread f count n x = never_do State Waiting _ _ (λ u. never_do State Waiting _ _ (λ v. goes State _))
+counted_works roots thread f count n x =
+    never_do State Waiting _ _ (λ u. never_do State Waiting _ _ (λ v. goes State _))
 
-started_works : (roots : ℕ) (thread : Option Addr) (f : Frame) (count n : ℕ) → Works (started_row roots thread f count n)
+started_works : (roots : ℕ) (thread : Option Addr) (f : Frame) (count n : ℕ) →
+    Works (started_row roots thread f count n)
 unfolding started_row
-started_works roots (Some t) f count n = never_do State Waiting _ _ (λ u. counted_works roots (Some t) f count n NoneValue)
+started_works roots (Some t) f count n =
+    never_do State Waiting _ _ (λ u. counted_works roots (Some t) f count n NoneValue)
 started_works roots None f count n = counted_works roots None f count n _
 
 thread_works : (roots : ℕ) (thread : Option Addr) (g : Got Frame) → Works (thread_row roots thread g)
 unfolding thread_row numbered_start
-thread_works roots thread (Is f) = then_works State _ _ (λ c. then_works State _ _ (λ v. started_works roots thread f _ _))
+thread_works roots thread (Is f) = then_works State _ _
+    (λ c. then_works State _ _ (λ v. started_works roots thread f _ _))
 thread_works roots thread (Raise e) = raises State roots e
 
-function_start_works : (s : Site) (thread : Option Addr) (args : List Value) (f : ℕ) → Works (function_start s thread args f)
+function_start_works : (s : Site) (thread : Option Addr) (args : List Value) (f : ℕ) →
+    Works (function_start s thread args f)
 unfolding function_start
 function_start_works s thread args f = then_works State _ _ (λ g. thread_works s.roots thread g)
 
-target_works : (s : Site) (thread : Option Addr) (args : List Value) (a : ℕ) (k : Kind) → Works (target_start s thread args a k)
+target_works : (s : Site) (thread : Option Addr) (args : List Value) (a : ℕ) (k : Kind) →
+    Works (target_start s thread args a k)
 unfolding target_start owned_start
-target_works s thread args a Method = then_works State _ _ (λ f. then_works State _ _ (λ own. function_start_works s thread _ _))
+target_works s thread args a Method = then_works State _ _
+    (λ f. then_works State _ _ (λ own. function_start_works s thread _ _))
 target_works s thread args a _ = function_start_works s thread args a
 
 pub start_works : (s : Site) (thread : Option Addr) (target : Value) (args : ℕ) → Works (start_row s thread target args)
@@ -135,8 +147,11 @@ builtin_quiet : (s : Site) (own : Value) (g : Given) (b : ℕ) → Quiet (builti
 unfolding builtin_call keyed_call
 builtin_quiet s own g b =
     let q = call_quiet State (threads_quiet State) in
-    behind_looks Waiting (keys_row s.roots g.names g.values) (λ keys. keyed_call s b own g.args keys) (only_keys s.roots g.names g.values)
-    (λ keys. behind_bind IsGotPending Waiting (call_row s.roots (option_map (λ a. a.0) s.thread) b own g.args keys) (λ g. answered s g) (q.pending s.roots (option_map (λ a. a.0) s.thread) b own g.args keys) (answered_quiet s) (answered_works s))
+    behind_looks Waiting (keys_row s.roots g.names g.values) (λ keys. keyed_call s b own g.args keys)
+    (only_keys s.roots g.names g.values)
+    (λ keys. behind_bind IsGotPending Waiting (call_row s.roots (option_map (λ a. a.0) s.thread) b own g.args keys)
+    (λ g. answered s g) (q.pending s.roots (option_map (λ a. a.0) s.thread) b own g.args keys) (answered_quiet s)
+    (answered_works s))
 
 owned_quiet : (s : Site) (f : Value) (g : Given) (own : Value) → Quiet (owned_call s f g own)
 unfolding owned_call
@@ -149,7 +164,8 @@ owned_quiet s (Ref a) g own = works_quiet _ (function_call_works State s _ _)
 
 method_quiet : (s : Site) (g : Given) (a : ℕ) → Quiet (method_call s g a)
 unfolding method_call method_of
-method_quiet s g a = behind_looks Waiting (look_row a 0) _ (only_look State a 0) (λ f. behind_looks Waiting (look_row a 1) _ (only_look State a 1) (λ own. owned_quiet s f g own))
+method_quiet s g a = behind_looks Waiting (look_row a 0) _ (only_look State a 0)
+    (λ f. behind_looks Waiting (look_row a 1) _ (only_look State a 1) (λ own. owned_quiet s f g own))
 
 record_quiet : (s : Site) (g : Given) (a : ℕ) (k : Kind) → Quiet (record_call s g a k)
 unfolding record_call
@@ -160,7 +176,8 @@ record_quiet s g a _ = works_quiet _ (raises State s.roots _)
 
 value_quiet : (s : Site) (own : Value) (g : Given) (x : Value) → Quiet (value_call s own g x)
 unfolding value_call
-value_quiet s own g (Ref a) = behind_looks Waiting (kind_row a.0) _ (only_kind State a.0) (λ k. record_quiet s (with_own own g) a.0 k)
+value_quiet s own g (Ref a) = behind_looks Waiting (kind_row a.0) _ (only_kind State a.0)
+    (λ k. record_quiet s (with_own own g) a.0 k)
 value_quiet s own g (Builtin b) = builtin_quiet s own g b
 value_quiet s own g _ = works_quiet _ (raises State s.roots _)
 
@@ -234,7 +251,8 @@ instr_quiet s f xs i = works_quiet (instr_row s f xs i) (instr_works s f xs i re
 
 guarded_quiet : (s : Site) (f : Frame) (xs : List Value) (i : Instr) → Quiet (guarded_row s f xs i)
 unfolding guarded_row
-guarded_quiet s f xs i = behind_cond Waiting (has_unset (wanted i xs)) (raise_row s.roots operand_fault) (instr_row s f xs i) (works_quiet _ (raises State s.roots _)) (instr_quiet s f xs i)
+guarded_quiet s f xs i = behind_cond Waiting (has_unset (wanted i xs)) (raise_row s.roots operand_fault)
+    (instr_row s f xs i) (works_quiet _ (raises State s.roots _)) (instr_quiet s f xs i)
 
 -- ---- a step
 
@@ -256,7 +274,8 @@ returned_not : (s : State) (x : Value) (fs : List Frame) → Stays (returned s x
 returned_not s x [] e = ended_not e
 returned_not s x (g ∷ fs) e = done_not e
 
-pub settled_waits : (p : Program) (s : State) (n : ℕ) (f : Frame) (fs : List Frame) (next : Next) → Stays (settled p s n f fs next) → next ≡ Waits
+pub settled_waits : (p : Program) (s : State) (n : ℕ) (f : Frame) (fs : List Frame) (next : Next) →
+    Stays (settled p s n f fs next) → next ≡ Waits
 unfolding settled
 settled_waits p s n f fs (Goes ys) e = absurd (done_not e)
 settled_waits p s n f fs (Jumps t ys) e = absurd (done_not e)
@@ -270,30 +289,40 @@ settled_waits p s n f fs (Begins a) e = absurd (done_not e)
 settled_waits p s n f fs (Throws x) e = absurd (done_not e)
 settled_waits p s n f fs Waits e = refl
 
-settled_same : (p : Program) (s : State) (n : ℕ) (f : Frame) (fs : List Frame) (next : Next) → Same s (settled p s n f fs next)
+settled_same : (p : Program) (s : State) (n : ℕ) (f : Frame) (fs : List Frame) (next : Next) →
+    Same s (settled p s n f fs next)
 unfolding settled
 settled_same p s n f fs next e =
     let w = settled_waits p s n f fs next e in
     subst (λ next. (settled p s n f fs next).1 ≡ s) (sym w) refl
 
-at_quiet : (p : Program) (s : State) (f : Frame) (fs : List Frame) (o : Option Instr) → BehindLooks Stays (step_at p s f fs o) × Ends (Same s) (step_at p s f fs o)
+at_quiet : (p : Program) (s : State) (f : Frame) (fs : List Frame) (o : Option Instr) →
+    BehindLooks Stays (step_at p s f fs o) × Ends (Same s) (step_at p s f fs o)
 unfolding step_at
 at_quiet p s f fs (Some i) =
     let n = pops p f i in
     let row = guarded_row (site_of p s fs) f (operands n f) i in
     let last : Next → Row State (Outcome × State) = λ next. Ret (settled p s n f fs next) in (
-      behind_bind Waiting Stays row last (guarded_quiet (site_of p s fs) f (operands n f) i) (λ next. behind_ret State Stays (settled p s n f fs next)) (λ next w. never_ret State Stays (settled p s n f fs next) (λ e. w (settled_waits p s n f fs next e))),
-      ends_bind (Same s) row last (λ next. ends_ret State (Same s) (settled p s n f fs next) (settled_same p s n f fs next)),
+      behind_bind Waiting Stays row last (guarded_quiet (site_of p s fs) f (operands n f) i)
+          (λ next. behind_ret State Stays (settled p s n f fs next))
+          (λ next w. never_ret State Stays (settled p s n f fs next) (λ e. w (settled_waits p s n f fs next e))),
+      ends_bind (Same s) row last (λ next.
+          ends_ret State (Same s) (settled p s n f fs next) (settled_same p s n f fs next)),
     )
-at_quiet p s f fs None = (behind_ret State Stays (Ended, with_frames s []), ends_ret State (Same s) (Ended, with_frames s []) (λ e. absurd (ended_not e)))
+at_quiet p s f fs None = (
+  behind_ret State Stays (Ended, with_frames s []),
+  ends_ret State (Same s) (Ended, with_frames s []) (λ e. absurd (ended_not e)),
+)
 
-by_quiet : (p : Program) (s : State) (d : Option Dying) (fs : List Frame) → BehindLooks Stays (step_by p s d fs) × Ends (Same s) (step_by p s d fs)
+by_quiet : (p : Program) (s : State) (d : Option Dying) (fs : List Frame) →
+    BehindLooks Stays (step_by p s d fs) × Ends (Same s) (step_by p s d fs)
 unfolding step_by
 by_quiet p s d [] = (behind_ret State Stays (Ended, s), ends_ret State (Same s) (Ended, s) (λ e. absurd (ended_not e)))
 by_quiet p s (Some d) (f ∷ fs) =
     let row : Row State (Unit {0}) = dying_row (place_of s.roots) s.number s.thread d in
     let last : Unit {0} → Row State (Outcome × State) = λ u. Ret (Ended, with_frames s []) in (
-      never_behind Stays (bind row last) (never_bind State Stays row last (λ u. never_ret State Stays (Ended, with_frames s []) ended_not)),
+      never_behind Stays (bind row last)
+          (never_bind State Stays row last (λ u. never_ret State Stays (Ended, with_frames s []) ended_not)),
       ends_bind (Same s) row last (λ u. ends_ret State (Same s) (Ended, with_frames s []) (λ e. absurd (ended_not e))),
     )
 by_quiet p s None (f ∷ fs) = at_quiet p s f fs (instr_at p f)

@@ -43,30 +43,36 @@ set_ref h a i = (i, λ q. let z : Ref a ≡ Unset = q in cc)
 
 module _ (S : Type 0) (p : Program) (count roots : ℕ) where
   -- a look at the kind of a record, and more looks
-  kind_then : {A : Type 0} (q : A → Type 0) (a : Addr) (g : Kind → Row S A) (h : Heap) → Refers h (Ref a) → ((k : Kind) → RefTo h k (Ref a) → Looks q (g k) h) → Looks q (bind (kind_row a.0) g) h
+  kind_then : {A : Type 0} (q : A → Type 0) (a : Addr) (g : Kind → Row S A) (h : Heap) → Refers h (Ref a) →
+      ((k : Kind) → RefTo h k (Ref a) → Looks q (g k) h) → Looks q (bind (kind_row a.0) g) h
   kind_then q a g h i n =
       let t = there_of h a (set_ref h a i) in
-      looks_then (λ k. k ≡ t.0.kind) q (kind_row a.0) g h (kind_looks S h a.0 t.0 t.1) (λ k e. n k (at_ref h k a.0 t.0 t.1 (sym e)))
+      looks_then (λ k. k ≡ t.0.kind) q (kind_row a.0) g h (kind_looks S h a.0 t.0 t.1)
+      (λ k e. n k (at_ref h k a.0 t.0 t.1 (sym e)))
 
   module _ (h : Heap) (c : Context p count roots h) where
     yes_or_no : (b : Bool) → Looks {S = S} Any (Ret b) h
     yes_or_no b = looks_ret S Any b h tt
 
     -- the class of an instance
-    class_of_instance : (a : ℕ) → RefTo h Instance (ref a) → (r : Rec) × (h a ≡ Some r) × RefTo h Class (ref (place_in (value_at r.values 0)))
+    class_of_instance : (a : ℕ) → RefTo h Instance (ref a) →
+        (r : Rec) × (h a ≡ Some r) × RefTo h Class (ref (place_in (value_at r.values 0)))
     class_of_instance a i =
         let t = is_at h Instance a i in
         (t.rec, t.here, ref_at h Class (value_at t.rec.values 0) (of_instance_at (rules_of p count) h c.order a t).0)
 
-    class_catches_looks : (e a : ℕ) → RefTo h Class (ref e) → RefTo h Class (ref a) → Looks {S = S} Any (class_catches roots e a) h
+    class_catches_looks : (e a : ℕ) → RefTo h Class (ref e) → RefTo h Class (ref a) →
+        Looks {S = S} Any (class_catches roots e a) h
     unfolding class_catches catches_if
-    class_catches_looks e a i j = looks_then Any Any (exception_class_row roots a) (λ b. catches_if e a b) h (exception_looks p count roots (λ h s. Unit {0}) a h c j) by
+    class_catches_looks e a i j = looks_then Any Any (exception_class_row roots a) (λ b. catches_if e a b) h
+        (exception_looks p count roots (λ h s. Unit {0}) a h c j) by
       where
         by : (b : Bool) → Unit {0} → Looks {S = S} Any (catches_if e a b) h
         by true u = sub_any p count roots (λ h s. Unit {0}) e a h c i
         by false u = yes_or_no false
 
-    item_by_looks : (e : ℕ) (a : Addr) (k : Kind) → RefTo h Class (ref e) → RefTo h k (Ref a) → Looks {S = S} Any (item_by roots e a.0 k) h
+    item_by_looks : (e : ℕ) (a : Addr) (k : Kind) → RefTo h Class (ref e) → RefTo h k (Ref a) →
+        Looks {S = S} Any (item_by roots e a.0 k) h
     unfolding item_by
     item_by_looks e a Class i j = class_catches_looks e a.0 i j
     item_by_looks e a Str i j = yes_or_no false
@@ -91,26 +97,36 @@ module _ (S : Type 0) (p : Program) (count roots : ℕ) where
     item_looks e (Int n) i j = yes_or_no false
     item_looks e (Builtin b) i j = yes_or_no false
 
-    place_looks : (e t : ℕ) (r : Rec) (i : ℕ) → h t ≡ Some r → RefTo h Class (ref e) → Looks {S = S} Any (place_catches roots e t i) h
+    place_looks : (e t : ℕ) (r : Rec) (i : ℕ) → h t ≡ Some r → RefTo h Class (ref e) →
+        Looks {S = S} Any (place_catches roots e t i) h
     unfolding place_catches
     place_looks e t r i here j =
-        looks_then (λ x. x ≡ value_at r.values i) Any (look_row t i) (λ x. item_catches roots e x) h (look_looks S h t r here i)
-        (λ x u. item_looks e x j (subst (Refers h) (sym u) (value_refers h r.values i (c.order.each t r here).closed.refers)))
+        looks_then (λ x. x ≡ value_at r.values i) Any (look_row t i) (λ x. item_catches roots e x) h
+        (look_looks S h t r here i)
+        (λ x u. item_looks e x j (subst (Refers h) (sym u)
+        (value_refers h r.values i (c.order.each t r here).closed.refers)))
 
-    some_looks : (e t : ℕ) (r : Rec) (i n : ℕ) → h t ≡ Some r → RefTo h Class (ref e) → Looks {S = S} Any (until_row (place_catches roots e t) not false i n) h
+    some_looks : (e t : ℕ) (r : Rec) (i n : ℕ) → h t ≡ Some r → RefTo h Class (ref e) →
+        Looks {S = S} Any (until_row (place_catches roots e t) not false i n) h
     unfolding until_row
     some_looks e t r i zero here j = yes_or_no false
-    some_looks e t r i (suc n) here j = looks_then Any Any (place_catches roots e t i) (λ a. cond (not a) (until_row (place_catches roots e t) not false (i + 1) n) (Ret a)) h (place_looks e t r i here j) (by (some_looks e t r (i + 1) n here j))
+    some_looks e t r i (suc n) here j = looks_then Any Any (place_catches roots e t i)
+        (λ a. cond (not a) (until_row (place_catches roots e t) not false (i + 1) n) (Ret a)) h
+        (place_looks e t r i here j) (by (some_looks e t r (i + 1) n here j))
       where
-        by : Looks {S = S} Any (until_row (place_catches roots e t) not false (i + 1) n) h → (b : Bool) → Unit {0} → Looks {S = S} Any (cond (not b) (until_row (place_catches roots e t) not false (i + 1) n) (Ret b)) h
+        by : Looks {S = S} Any (until_row (place_catches roots e t) not false (i + 1) n) h → (b : Bool) → Unit {0} →
+            Looks {S = S} Any (cond (not b) (until_row (place_catches roots e t) not false (i + 1) n) (Ret b)) h
         by more true u = yes_or_no true
         by more false u = more
 
-    tuple_looks : (e t : ℕ) (r : Rec) → h t ≡ Some r → RefTo h Class (ref e) → Looks {S = S} Any (tuple_catches roots e t) h
+    tuple_looks : (e t : ℕ) (r : Rec) → h t ≡ Some r → RefTo h Class (ref e) →
+        Looks {S = S} Any (tuple_catches roots e t) h
     unfolding tuple_catches some_catches
-    tuple_looks e t r here j = looks_then (λ n. n ≡ length r.values) Any (size_row t) (λ n. some_catches roots e t n) h (size_looks S h t r here) (λ n u. some_looks e t r 0 n here j)
+    tuple_looks e t r here j = looks_then (λ n. n ≡ length r.values) Any (size_row t) (λ n. some_catches roots e t n) h
+        (size_looks S h t r here) (λ n u. some_looks e t r 0 n here j)
 
-    record_looks : (e : ℕ) (a : Addr) (k : Kind) → RefTo h Class (ref e) → RefTo h k (Ref a) → Looks {S = S} Any (record_catches roots e a.0 k) h
+    record_looks : (e : ℕ) (a : Addr) (k : Kind) → RefTo h Class (ref e) → RefTo h k (Ref a) →
+        Looks {S = S} Any (record_catches roots e a.0 k) h
     unfolding record_catches
     record_looks e a Class i j = class_catches_looks e a.0 i j
     record_looks e a Tuple i j = let t = is_at h Tuple a.0 j in tuple_looks e a.0 t.rec t.here i
@@ -126,9 +142,11 @@ module _ (S : Type 0) (p : Program) (count roots : ℕ) where
     record_looks e a Lock i j = yes_or_no false
     record_looks e a Thread i j = yes_or_no false
 
-    catches_looks : (e : ℕ) (x : Value) → RefTo h Class (ref e) → Refers h x → Looks {S = S} Any (catches_row roots e x) h
+    catches_looks : (e : ℕ) (x : Value) → RefTo h Class (ref e) → Refers h x →
+        Looks {S = S} Any (catches_row roots e x) h
     unfolding catches_row
-    catches_looks e (Ref a) i j = kind_then Any a (λ k. record_catches roots e a.0 k) h j (λ k l. record_looks e a k i l)
+    catches_looks e (Ref a) i j = kind_then Any a (λ k. record_catches roots e a.0 k) h j
+        (λ k l. record_looks e a k i l)
     catches_looks e Unset i j = yes_or_no false
     catches_looks e NoneValue i j = yes_or_no false
     catches_looks e (BoolValue b) i j = yes_or_no false
@@ -140,7 +158,10 @@ module _ (S : Type 0) (p : Program) (count roots : ℕ) where
     unfolding instance_by below_row
     instance_by_looks e a Instance i =
         let t = class_of_instance a.0 i in
-        looks_then (λ x. x ≡ value_at t.0.values 0) Any (look_row a.0 0) (λ c. is_sub_row (place_in c) e) h (look_looks S h a.0 t.0 t.1 0) (λ x u. sub_any p count roots (λ h s. Unit {0}) (place_in x) e h c (subst (λ z. RefTo h Class (ref (place_in z))) (sym u) t.2))
+        looks_then (λ x. x ≡ value_at t.0.values 0) Any (look_row a.0 0) (λ c. is_sub_row (place_in c) e) h
+        (look_looks S h a.0 t.0 t.1 0)
+        (λ x u. sub_any p count roots (λ h s. Unit {0}) (place_in x) e h c
+        (subst (λ z. RefTo h Class (ref (place_in z))) (sym u) t.2))
     instance_by_looks e a Class i = yes_or_no false
     instance_by_looks e a Tuple i = yes_or_no false
     instance_by_looks e a Str i = yes_or_no false
@@ -171,7 +192,10 @@ module _ (S : Type 0) (p : Program) (count roots : ℕ) where
     unfolding items_by
     items_looks a Tuple i =
         let t = is_at h Tuple a.0 i in
-        looks_weaken (λ vs. vs ≡ t.rec.values) Items (λ vs u. subst Items (sym u) (fit_items (rules_of p count) h a.0 t.rec (c.order.each a.0 t.rec t.here) (λ z. let w : Tuple ≡ Cell = sym t.kind ∙ z in cc))) (values_row a.0) h (values_looks S h a.0 t.rec t.here)
+        looks_weaken (λ vs. vs ≡ t.rec.values) Items
+        (λ vs u. subst Items (sym u)
+        (fit_items (rules_of p count) h a.0 t.rec (c.order.each a.0 t.rec t.here)
+        (λ z. let w : Tuple ≡ Cell = sym t.kind ∙ z in cc))) (values_row a.0) h (values_looks S h a.0 t.rec t.here)
     items_looks a Str i = looks_ret S Items (Ref a ∷ []) h (ref_item h Str (Ref a) i, tt)
     items_looks a Class i = looks_ret S Items (Ref a ∷ []) h (ref_item h Class (Ref a) i, tt)
     items_looks a ListKind i = looks_ret S Items (Ref a ∷ []) h (ref_item h ListKind (Ref a) i, tt)
@@ -194,7 +218,8 @@ module _ (S : Type 0) (p : Program) (count roots : ℕ) where
     args_looks (Int n) i = looks_ret S Items (Int n ∷ []) h (i, tt)
     args_looks (Builtin b) i = looks_ret S Items (Builtin b ∷ []) h (i, tt)
 
-module _ {S : Type 0} (p : Program) (count roots : ℕ) (stands : Heap → S → Type 0) (right : IsRightProgram p) (e : InstrEffect) (f : Frame) (thread : Option Addr) (depth : ℕ) where
+module _ {S : Type 0} (p : Program) (count roots : ℕ) (stands : Heap → S → Type 0) (right : IsRightProgram p)
+    (e : InstrEffect) (f : Frame) (thread : Option Addr) (depth : ℕ) where
   abbrev Ok : Row S Next → Heap → Type 0
   Ok row h = Leads p count roots stands e f row h
 
@@ -208,12 +233,16 @@ module _ {S : Type 0} (p : Program) (count roots : ℕ) (stands : Heap → S →
   unraised h c = raises p count roots stands e f raised_fault h c (lit< tt, lit< tt, tt)
 
   -- ---- EXC_MATCH
-  match_holds : (x : Value) (a : Addr) (k : Kind) (h : Heap) → Context p count roots h → Pushes e → Refers h x → RefTo h k (Ref a) → Ok (match_by roots x a.0 k) h
+  match_holds : (x : Value) (a : Addr) (k : Kind) (h : Heap) → Context p count roots h → Pushes e → Refers h x →
+      RefTo h k (Ref a) → Ok (match_by roots x a.0 k) h
   unfolding match_by class_match told_match
   match_holds x a Instance h c t v i =
       let r = class_of_instance S p count roots h c a.0 i in
       after_look p count roots stands (Fits p e f) a.0 0 r.0 (λ w. told_match roots x (place_in w)) h c r.1
-      (after_looks p count roots stands Any (Fits p e f) (catches_row roots (place_in (value_at r.0.values 0)) x) (λ b. Ret (Goes (BoolValue b ∷ []))) h c (catches_looks S p count roots h c (place_in (value_at r.0.values 0)) x r.2 v) (λ b u. goes_one p count roots stands e f (BoolValue b) h t tt))
+      (after_looks p count roots stands Any (Fits p e f) (catches_row roots (place_in (value_at r.0.values 0)) x)
+      (λ b. Ret (Goes (BoolValue b ∷ []))) h c
+      (catches_looks S p count roots h c (place_in (value_at r.0.values 0)) x r.2 v)
+      (λ b u. goes_one p count roots stands e f (BoolValue b) h t tt))
   match_holds x a Str h c t v i = wrong h c
   match_holds x a Tuple h c t v i = wrong h c
   match_holds x a ListKind h c t v i = wrong h c
@@ -227,9 +256,11 @@ module _ {S : Type 0} (p : Program) (count roots : ℕ) (stands : Heap → S →
   match_holds x a Lock h c t v i = wrong h c
   match_holds x a Thread h c t v i = wrong h c
 
-  pub exc_match_holds : (y x : Value) (h : Heap) → Context p count roots h → Pushes e → IsItem h y → Refers h x → Ok (exc_match_row roots y x) h
+  pub exc_match_holds : (y x : Value) (h : Heap) → Context p count roots h → Pushes e → IsItem h y → Refers h x →
+      Ok (exc_match_row roots y x) h
   unfolding exc_match_row
-  exc_match_holds (Ref a) x h c t i v = after_kind p count roots stands (Fits p e f) a (λ k. match_by roots x a.0 k) h c i (λ k j. match_holds x a k h c t v j)
+  exc_match_holds (Ref a) x h c t i v = after_kind p count roots stands (Fits p e f) a (λ k. match_by roots x a.0 k) h
+      c i (λ k j. match_holds x a k h c t v j)
   exc_match_holds Unset x h c t i v = wrong h c
   exc_match_holds NoneValue x h c t i v = wrong h c
   exc_match_holds (BoolValue b) x h c t i v = wrong h c
@@ -237,12 +268,15 @@ module _ {S : Type 0} (p : Program) (count roots : ℕ) (stands : Heap → S →
   exc_match_holds (Builtin b) x h c t i v = wrong h c
 
   -- ---- RAISE
-  raise_kind : (a : Addr) (k : Kind) (h : Heap) → Context p count roots h → RefTo h k (Ref a) → Ok (raise_by roots a.0 k) h
+  raise_kind : (a : Addr) (k : Kind) (h : Heap) → Context p count roots h → RefTo h k (Ref a) →
+      Ok (raise_by roots a.0 k) h
   unfolding raise_by raise_instance raise_of raise_if
   raise_kind a Instance h c i =
       let r = class_of_instance S p count roots h c a.0 i in
       after_look p count roots stands (Fits p e f) a.0 0 r.0 (λ w. raise_of roots (ref a.0) (place_in w)) h c r.1
-      (after_looks p count roots stands Any (Fits p e f) (exception_class_row roots (place_in (value_at r.0.values 0))) (λ b. raise_if roots (ref a.0) b) h c (exception_looks p count roots stands (place_in (value_at r.0.values 0)) h c r.2) by)
+      (after_looks p count roots stands Any (Fits p e f) (exception_class_row roots (place_in (value_at r.0.values 0)))
+      (λ b. raise_if roots (ref a.0) b) h c
+      (exception_looks p count roots stands (place_in (value_at r.0.values 0)) h c r.2) by)
     where
       by : (b : Bool) → Unit {0} → Ok (raise_if roots (ref a.0) b) h
       by true u = leads_to p count roots stands e f (Throws (ref a.0)) h i
@@ -262,7 +296,8 @@ module _ {S : Type 0} (p : Program) (count roots : ℕ) (stands : Heap → S →
 
   pub raise_holds : (x : Value) (h : Heap) → Context p count roots h → IsItem h x → Ok (raise_value roots x) h
   unfolding raise_value
-  raise_holds (Ref a) h c i = after_kind p count roots stands (Fits p e f) a (λ k. raise_by roots a.0 k) h c i (λ k j. raise_kind a k h c j)
+  raise_holds (Ref a) h c i = after_kind p count roots stands (Fits p e f) a (λ k. raise_by roots a.0 k) h c i
+      (λ k j. raise_kind a k h c j)
   raise_holds Unset h c i = unraised h c
   raise_holds NoneValue h c i = unraised h c
   raise_holds (BoolValue b) h c i = unraised h c
@@ -270,12 +305,16 @@ module _ {S : Type 0} (p : Program) (count roots : ℕ) (stands : Heap → S →
   raise_holds (Builtin b) h c i = unraised h c
 
   -- ---- MAKE_RAISED
-  called : (args : List Value) (a : ℕ) (h : Heap) → Context p count roots h → Pushes e → RefTo h Class (ref a) → Every (IsItem h) args → Ok (class_call site (plainly args) a) h
-  called args a h c t i j = class_call_holds p count roots stands right e f thread depth (plainly args) a h c t i (record { args = j; values = tt })
+  called : (args : List Value) (a : ℕ) (h : Heap) → Context p count roots h → Pushes e → RefTo h Class (ref a) →
+      Every (IsItem h) args → Ok (class_call site (plainly args) a) h
+  called args a h c t i j = class_call_holds p count roots stands right e f thread depth (plainly args) a h c t i
+      (record { args = j; values = tt })
 
-  alone_kind : (a : Addr) (k : Kind) (h : Heap) → Context p count roots h → Pushes e → IsItem h (Ref a) → RefTo h k (Ref a) → Ok (alone_by site a.0 k) h
+  alone_kind : (a : Addr) (k : Kind) (h : Heap) → Context p count roots h → Pushes e → IsItem h (Ref a) →
+      RefTo h k (Ref a) → Ok (alone_by site a.0 k) h
   unfolding alone_by class_raised call_if
-  alone_kind a Class h c t i j = after_looks p count roots stands Any (Fits p e f) (exception_class_row roots a.0) (λ b. call_if site a.0 b) h c (exception_looks p count roots stands a.0 h c j) by
+  alone_kind a Class h c t i j = after_looks p count roots stands Any (Fits p e f) (exception_class_row roots a.0)
+      (λ b. call_if site a.0 b) h c (exception_looks p count roots stands a.0 h c j) by
     where
       by : (b : Bool) → Unit {0} → Ok (call_if site a.0 b) h
       by true u = called [] a.0 h c t j tt
@@ -293,25 +332,32 @@ module _ {S : Type 0} (p : Program) (count roots : ℕ) (stands : Heap → S →
   alone_kind a Lock h c t i j = unraised h c
   alone_kind a Thread h c t i j = unraised h c
 
-  pub made_alone_holds : (x : Value) (h : Heap) → Context p count roots h → Pushes e → IsItem h x → Ok (made_alone site x) h
+  pub made_alone_holds : (x : Value) (h : Heap) → Context p count roots h → Pushes e → IsItem h x →
+      Ok (made_alone site x) h
   unfolding made_alone
-  made_alone_holds (Ref a) h c t i = after_kind p count roots stands (Fits p e f) a (λ k. alone_by site a.0 k) h c i (λ k j. alone_kind a k h c t i j)
+  made_alone_holds (Ref a) h c t i = after_kind p count roots stands (Fits p e f) a (λ k. alone_by site a.0 k) h c i
+      (λ k j. alone_kind a k h c t i j)
   made_alone_holds Unset h c t i = unraised h c
   made_alone_holds NoneValue h c t i = unraised h c
   made_alone_holds (BoolValue b) h c t i = unraised h c
   made_alone_holds (Int n) h c t i = unraised h c
   made_alone_holds (Builtin b) h c t i = unraised h c
 
-  class_with_holds : (a : ℕ) (x : Value) (b : Bool) (h : Heap) → Context p count roots h → Pushes e → RefTo h Class (ref a) → IsItem h x → Ok (class_with_if site a x b) h
+  class_with_holds : (a : ℕ) (x : Value) (b : Bool) (h : Heap) → Context p count roots h → Pushes e →
+      RefTo h Class (ref a) → IsItem h x → Ok (class_with_if site a x b) h
   unfolding class_with_if class_with same_or_called called_with
-  class_with_holds a x true h c t i j = after_looks p count roots stands Any (Fits p e f) (is_instance_row a x) (λ b. same_or_called site a x b) h c (is_instance_looks S p count roots h c a x j.0) by
+  class_with_holds a x true h c t i j = after_looks p count roots stands Any (Fits p e f) (is_instance_row a x)
+      (λ b. same_or_called site a x b) h c (is_instance_looks S p count roots h c a x j.0) by
     where
       by : (b : Bool) → Unit {0} → Ok (same_or_called site a x b) h
       by true u = goes_one p count roots stands e f x h t j.0
-      by false u = after_looks p count roots stands (λ vs. Every (IsItem h) vs) (Fits p e f) (raised_args x) (λ args. class_call site (plainly args) a) h c (args_looks S p count roots h c x j) (λ args l. called args a h c t i l)
+      by false u = after_looks p count roots stands (λ vs. Every (IsItem h) vs) (Fits p e f) (raised_args x)
+          (λ args. class_call site (plainly args) a) h c (args_looks S p count roots h c x j)
+          (λ args l. called args a h c t i l)
   class_with_holds a x false h c t i j = unraised h c
 
-  instance_valued_holds : (a : Addr) (x : Value) (h : Heap) → Context p count roots h → Pushes e → IsItem h (Ref a) → Ok (instance_valued site a.0 x) h
+  instance_valued_holds : (a : Addr) (x : Value) (h : Heap) → Context p count roots h → Pushes e → IsItem h (Ref a) →
+      Ok (instance_valued site a.0 x) h
   unfolding instance_valued
   instance_valued_holds a NoneValue h c t i = goes_one p count roots stands e f (ref a.0) h t i.0
   instance_valued_holds a Unset h c t i = unraised h c
@@ -320,9 +366,12 @@ module _ {S : Type 0} (p : Program) (count roots : ℕ) (stands : Heap → S →
   instance_valued_holds a (Ref b) h c t i = unraised h c
   instance_valued_holds a (Builtin b) h c t i = unraised h c
 
-  valued_kind : (a : Addr) (x : Value) (k : Kind) (h : Heap) → Context p count roots h → Pushes e → IsItem h (Ref a) → IsItem h x → RefTo h k (Ref a) → Ok (valued_by site a.0 x k) h
+  valued_kind : (a : Addr) (x : Value) (k : Kind) (h : Heap) → Context p count roots h → Pushes e → IsItem h (Ref a) →
+      IsItem h x → RefTo h k (Ref a) → Ok (valued_by site a.0 x k) h
   unfolding valued_by class_valued
-  valued_kind a x Class h c t i l j = after_looks p count roots stands Any (Fits p e f) (exception_class_row roots a.0) (λ b. class_with_if site a.0 x b) h c (exception_looks p count roots stands a.0 h c j) (λ b u. class_with_holds a.0 x b h c t j l)
+  valued_kind a x Class h c t i l j = after_looks p count roots stands Any (Fits p e f) (exception_class_row roots a.0)
+      (λ b. class_with_if site a.0 x b) h c (exception_looks p count roots stands a.0 h c j)
+      (λ b u. class_with_holds a.0 x b h c t j l)
   valued_kind a x Instance h c t i l j = instance_valued_holds a x h c t i
   valued_kind a x Str h c t i l j = unraised h c
   valued_kind a x Tuple h c t i l j = unraised h c
@@ -336,9 +385,11 @@ module _ {S : Type 0} (p : Program) (count roots : ℕ) (stands : Heap → S →
   valued_kind a x Lock h c t i l j = unraised h c
   valued_kind a x Thread h c t i l j = unraised h c
 
-  pub made_valued_holds : (y x : Value) (h : Heap) → Context p count roots h → Pushes e → IsItem h y → IsItem h x → Ok (made_valued site y x) h
+  pub made_valued_holds : (y x : Value) (h : Heap) → Context p count roots h → Pushes e → IsItem h y → IsItem h x →
+      Ok (made_valued site y x) h
   unfolding made_valued
-  made_valued_holds (Ref a) x h c t i l = after_kind p count roots stands (Fits p e f) a (λ k. valued_by site a.0 x k) h c i (λ k j. valued_kind a x k h c t i l j)
+  made_valued_holds (Ref a) x h c t i l = after_kind p count roots stands (Fits p e f) a (λ k. valued_by site a.0 x k)
+      h c i (λ k j. valued_kind a x k h c t i l j)
   made_valued_holds Unset x h c t i l = unraised h c
   made_valued_holds NoneValue x h c t i l = unraised h c
   made_valued_holds (BoolValue b) x h c t i l = unraised h c

@@ -69,7 +69,8 @@ module _ (S : Type 0) where
   -- ---- names of a class body
   pub store_name_steady : (roots d n : ℕ) (x : Value) → T (store_name_row roots d n x)
   unfolding store_name_row put_name_row
-  store_name_steady roots d n x = let o = dict_steady S in looked roots n _ (λ key. finished roots (set_row d key x) (o.set d key x))
+  store_name_steady roots d n x = let o = dict_steady S in
+      looked roots n _ (λ key. finished roots (set_row d key x) (o.set d key x))
 
   gone_calm : (roots : ℕ) (name : List ℕ) (g : Got Value) → Calm (gone_row {S = S} roots name g)
   unfolding gone_row
@@ -78,7 +79,8 @@ module _ (S : Type 0) where
 
   pub del_name_steady : (roots d n : ℕ) (name : List ℕ) → T (del_name_row roots d n name)
   unfolding del_name_row drop_name_row
-  del_name_steady roots d n name = let o = dict_steady S in looked roots n _ (λ key. after (del_row d key) _ (o.del d key) (λ g. gone_calm roots name g))
+  del_name_steady roots d n name = let o = dict_steady S in
+      looked roots n _ (λ key. after (del_row d key) _ (o.del d key) (λ g. gone_calm roots name g))
 
   -- ---- attributes
   pub load_attr_steady : (roots n : ℕ) (o : Value) → T (load_attr_row roots n o)
@@ -97,7 +99,8 @@ module _ (S : Type 0) where
   unfolding missing_row
   missing_calm name = bind_calm S (bytes_row name) _ (bytes_calm S name) (λ t. ret_calm S _)
 
-  found_calm : (roots : ℕ) (o : Value) (name : ℕ) (found : Option Found) → Calm (found_method {S = S} roots o name found)
+  found_calm : (roots : ℕ) (o : Value) (name : ℕ) (found : Option Found) →
+      Calm (found_method {S = S} roots o name found)
   unfolding found_method missing_method
   found_calm roots o name None = bind_calm S (missing_row name) _ (missing_calm name) (λ g. give_calm S roots g)
   found_calm roots o name (Some (Plain x)) = ret_calm S _
@@ -105,7 +108,8 @@ module _ (S : Type 0) where
 
   pub load_method_steady : (roots n : ℕ) (o : Value) → T (load_method_row roots n o)
   unfolding load_method_row loaded_method
-  load_method_steady roots n o = looked roots n _ (λ name. looks_steady (find_attr_row roots o _) _ (only_find S roots _ o) (λ z. found_calm roots o _ z false))
+  load_method_steady roots n o = looked roots n _
+      (λ name. looks_steady (find_attr_row roots o _) _ (only_find S roots _ o) (λ z. found_calm roots o _ z false))
 
   -- ---- items
   text_calm : (bs : List ℕ) → Calm (new_text {S = S} bs)
@@ -220,11 +224,13 @@ module _ (S : Type 0) where
 
   pub binary_instr_steady : (roots op : ℕ) (x y : Value) → T (binary_instr roots op x y)
   unfolding binary_instr
-  binary_instr_steady roots op x y = let o = ops_steady S in given roots (binary_row roots op x y) (o.binary roots op x y)
+  binary_instr_steady roots op x y = let o = ops_steady S in
+      given roots (binary_row roots op x y) (o.binary roots op x y)
 
   pub in_place_instr_steady : (roots op : ℕ) (x y : Value) → T (in_place_instr roots op x y)
   unfolding in_place_instr
-  in_place_instr_steady roots op x y = let o = ops_steady S in given roots (in_place_row roots op x y) (o.in_place roots op x y)
+  in_place_instr_steady roots op x y = let o = ops_steady S in
+      given roots (in_place_row roots op x y) (o.in_place roots op x y)
 
   pub compare_instr_steady : (roots op : ℕ) (x y : Value) → T (compare_instr roots op x y)
   unfolding compare_instr
@@ -275,7 +281,8 @@ module _ (S : Type 0) where
 
   set_row_calm : (d : ℕ) (key x : Value) → Calm (set_row {S = S} d key x)
   unfolding set_row
-  set_row_calm d key x = both S (key_row key) _ (key_calm key) (λ b. if_key_calm _ b (do_calm _ _ refl tt (λ o. set_pair_calm d key x o)))
+  set_row_calm d key x = both S (key_row key) _ (key_calm key)
+      (λ b. if_key_calm _ b (do_calm _ _ refl tt (λ o. set_pair_calm d key x o)))
 
   pairs_calm : (d : ℕ) (xs : List Value) → Calm (pairs_set {S = S} d xs)
   unfolding pairs_set
@@ -303,7 +310,9 @@ module _ (S : Type 0) where
 
   pub build_dict_calm : (roots : ℕ) (xs : List Value) → Calm (build_dict_row {S = S} roots xs)
   unfolding build_dict_row new_dict filled_dict too_many_pairs
-  build_dict_calm roots xs = one_of S _ _ _ (made_then S _ _ (λ d. both S (pairs_set _ xs) _ (pairs_calm _ xs) (λ g. dict_calm roots d g))) (both S (all_keys_row xs) _ (all_keys_calm xs) (λ b. raise_calm S roots _))
+  build_dict_calm roots xs = one_of S _ _ _
+      (made_then S _ _ (λ d. both S (pairs_set _ xs) _ (pairs_calm _ xs) (λ g. dict_calm roots d g)))
+      (both S (all_keys_row xs) _ (all_keys_calm xs) (λ b. raise_calm S roots _))
 
   spread_calm : (roots n : ℕ) (g : Got (List Value)) → Calm (spread {S = S} roots n g)
   unfolding spread
@@ -316,7 +325,8 @@ module _ (S : Type 0) where
 
   pub unpack_steady : (roots n : ℕ) (x : Value) → T (unpack_row roots n x)
   unfolding unpack_row spread_row
-  unpack_steady roots n x = let q = seq_steady S in cond_steady _ _ _ (after (gather_row x) _ (q.gather x) (λ g. spread_calm roots n g)) (raise_calm S roots _ false)
+  unpack_steady roots n x = let q = seq_steady S in
+      cond_steady _ _ _ (after (gather_row x) _ (q.gather x) (λ g. spread_calm roots n g)) (raise_calm S roots _ false)
 
   pub iter_steady : (roots : ℕ) (x : Value) → T (iter_instr roots x)
   unfolding iter_instr
@@ -330,7 +340,8 @@ module _ (S : Type 0) where
 
   next_by_steady : (roots t a : ℕ) (k : Kind) → T (next_by roots t a k)
   unfolding next_by next_of
-  next_by_steady roots t a Iter = let q = seq_steady S in after (next_row a) _ (q.next a) (λ g. next_end_calm roots t _ g)
+  next_by_steady roots t a Iter = let q = seq_steady S in
+      after (next_row a) _ (q.next a) (λ g. next_end_calm roots t _ g)
   next_by_steady roots t a _ = raise_calm S roots _ false
 
   pub next_instr_steady : (roots t : ℕ) (x : Value) → T (next_instr roots t x)

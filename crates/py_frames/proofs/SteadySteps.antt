@@ -1,4 +1,5 @@
--- In the course of a step no record is longer than before it, or than at its end, and a step that asks whether the output is in
+-- In the course of a step no record is longer than before it, or than at its end, and a step that asks whether the
+-- output is in
 -- mid line goes on to write.
 use Rattle.std.proofs.Common.{ℕ, zero, suc, Bool, true, false, cond, List, [], ◌∷◌, Option, Some, None, refl}
 use Rattle.std.specs.Prelude.{option_map}
@@ -65,9 +66,11 @@ module _ (S : Type 0) where
   unfolding function_of
   function_of_calm n name d = made_then S _ _ (λ f. ret S _)
 
-  make_function_calm : (roots : ℕ) (name : List ℕ) (n : ℕ) (ds : List Value) → Calm (make_function_row {S = S} roots name n ds)
+  make_function_calm : (roots : ℕ) (name : List ℕ) (n : ℕ) (ds : List Value) →
+      Calm (make_function_row {S = S} roots name n ds)
   unfolding make_function_row new_function named_function
-  make_function_calm roots name n ds = one_of S _ _ _ (made_then S _ _ (λ a. made_then S _ _ (λ d. function_of_calm n a d))) (raise_calm S roots _)
+  make_function_calm roots name n ds = one_of S _ _ _
+      (made_then S _ _ (λ a. made_then S _ _ (λ d. function_of_calm n a d))) (raise_calm S roots _)
 
   body_calm : (s : Site) (n : ℕ) (base : Value) (k : Kind) → Calm (body_by {S = S} s n base k)
   unfolding body_by new_body
@@ -91,14 +94,16 @@ module _ (S : Type 0) where
 
   class_row_calm : (roots : ℕ) (name : List ℕ) (base : Value) (d : Addr) → Calm (class_row {S = S} roots name base d)
   unfolding class_row new_class class_of
-  class_row_calm roots name base d = one_of S _ _ _ (made_then S _ _ (λ a. made_then S _ _ (λ c. ret S _))) (fail_calm S roots _)
+  class_row_calm roots name base d = one_of S _ _ _ (made_then S _ _ (λ a. made_then S _ _ (λ c. ret S _)))
+      (fail_calm S roots _)
 
   instance_calm : (roots : ℕ) (made x : Value) → Calm (instance_row {S = S} roots made x)
   unfolding instance_row
   instance_calm roots made NoneValue = ret S _
   instance_calm roots made _ = raise_calm S roots _
 
-  value_calm : (roots : ℕ) (thread : Option Addr) (n : ℕ) (x made : Value) → Calm (value_or_instance {S = S} roots thread n x made)
+  value_calm : (roots : ℕ) (thread : Option Addr) (n : ℕ) (x made : Value) →
+      Calm (value_or_instance {S = S} roots thread n x made)
   unfolding value_or_instance
   value_calm roots thread n x Unset = leave_calm thread n x
   value_calm roots thread n x NoneValue = instance_calm roots _ x
@@ -107,7 +112,8 @@ module _ (S : Type 0) where
   value_calm roots thread n x (Ref a) = instance_calm roots _ x
   value_calm roots thread n x (Builtin b) = instance_calm roots _ x
 
-  return_calm : (roots : ℕ) (thread : Option Addr) (name : List ℕ) (n : ℕ) (x made : Value) (names : Option Addr) → Calm (return_by {S = S} roots thread name n x made names)
+  return_calm : (roots : ℕ) (thread : Option Addr) (name : List ℕ) (n : ℕ) (x made : Value) (names : Option Addr) →
+      Calm (return_by {S = S} roots thread name n x made names)
   unfolding return_by
   return_calm roots thread name n x made (Some d) = class_row_calm roots name made d
   return_calm roots thread name n x made None = value_calm roots thread n x made
@@ -120,7 +126,8 @@ module _ (S : Type 0) where
 
   class_catches_calm : (roots e c : ℕ) → Calm (class_catches {S = S} roots e c)
   unfolding class_catches
-  class_catches_calm roots e c = both S (exception_class_row roots c) _ (exception_calm S roots c) (λ b. catches_if_calm e c b)
+  class_catches_calm roots e c = both S (exception_class_row roots c) _ (exception_calm S roots c)
+      (λ b. catches_if_calm e c b)
 
   item_by_calm : (roots e c : ℕ) (k : Kind) → Calm (exception_item {S = S} roots e c k)
   unfolding exception_item
@@ -138,7 +145,8 @@ module _ (S : Type 0) where
 
   tuple_calm : (roots e t : ℕ) → Calm (tuple_catches {S = S} roots e t)
   unfolding tuple_catches some_catches
-  tuple_calm roots e t = both S (size_row t) _ (size_calm S t) (λ n. until_calm S (place_catches roots e t) not false (place_calm roots e t) 0 n)
+  tuple_calm roots e t = both S (size_row t) _ (size_calm S t)
+      (λ n. until_calm S (place_catches roots e t) not false (place_calm roots e t) 0 n)
 
   record_catches_calm : (roots e c : ℕ) (k : Kind) → Calm (record_catches {S = S} roots e c k)
   unfolding record_catches
@@ -153,7 +161,8 @@ module _ (S : Type 0) where
 
   match_calm : (roots : ℕ) (c : Value) (a : ℕ) (k : Kind) → Calm (match_by {S = S} roots c a k)
   unfolding match_by class_match told_match
-  match_calm roots c a Instance = look_then S a 0 _ (λ e. both S (catches_row roots _ c) _ (catches_calm roots _ c) (λ b. ret S _))
+  match_calm roots c a Instance = look_then S a 0 _
+      (λ e. both S (catches_row roots _ c) _ (catches_calm roots _ c) (λ b. ret S _))
   match_calm roots c a _ = raise_calm S roots _
 
   exc_match_calm : (roots : ℕ) (e c : Value) → Calm (exc_match_row {S = S} roots e c)
@@ -168,7 +177,8 @@ module _ (S : Type 0) where
 
   raise_by_calm : (roots a : ℕ) (k : Kind) → Calm (raise_by {S = S} roots a k)
   unfolding raise_by raise_instance raise_of
-  raise_by_calm roots a Instance = look_then S a 0 _ (λ c. both S (exception_class_row roots _) _ (exception_calm S roots _) (λ b. raise_if_calm roots _ b))
+  raise_by_calm roots a Instance = look_then S a 0 _
+      (λ c. both S (exception_class_row roots _) _ (exception_calm S roots _) (λ b. raise_if_calm roots _ b))
   raise_by_calm roots a _ = raise_calm S roots _
 
   raise_value_calm : (roots : ℕ) (x : Value) → Calm (raise_value {S = S} roots x)
@@ -233,7 +243,8 @@ module _ (S : Type 0) where
 
   valued_calm : (s : Site) (a : ℕ) (x : Value) (k : Kind) → Calm (valued_by {S = S} s a x k)
   unfolding valued_by class_valued
-  valued_calm s a x Class = both S (exception_class_row s.roots a) _ (exception_calm S s.roots a) (λ b. class_with_calm s a x b)
+  valued_calm s a x Class = both S (exception_class_row s.roots a) _ (exception_calm S s.roots a)
+      (λ b. class_with_calm s a x b)
   valued_calm s a x Instance = instance_valued_calm s a x
   valued_calm s a x _ = raise_calm S s.roots _
 
@@ -249,7 +260,8 @@ module _ (S : Type 0) where
   -- ---- what is written
   write_calm : (roots : ℕ) (g : Got (List ℕ)) → Calm (write_or_raise {S = S} roots g)
   unfolding write_or_raise written_row put_row
-  write_calm roots (Is t) = do_calm _ _ refl (λ mid. tt) (λ mid. do_calm _ _ refl tt (λ u. do_calm _ _ refl tt (λ v. ret S _)))
+  write_calm roots (Is t) = do_calm _ _ refl (λ mid. tt)
+      (λ mid. do_calm _ _ refl tt (λ u. do_calm _ _ refl tt (λ v. ret S _)))
   write_calm roots (Raise e) = raise_calm S roots e
 
   print_item_calm : (roots : ℕ) (x : Value) → Calm (print_item_row {S = S} roots x)
@@ -264,7 +276,8 @@ module _ (S : Type 0) where
   unfolding dying_row class_name_row name_of_class named_words last_words
   dying_calm roots number thread d =
       both S _ _ (look_then S _ 0 _ (λ c. look_then S _ 0 _ (λ name. bytes_calm S _)))
-      (λ name. both S (told_row roots d.exc false) _ (told_calm S roots d.exc false) (λ text. do_calm _ _ refl tt (λ u. ended_calm thread)))
+      (λ name. both S (told_row roots d.exc false) _ (told_calm S roots d.exc false)
+      (λ text. do_calm _ _ refl tt (λ u. ended_calm thread)))
 
   -- ---- SETUP
   class_root_calm : (n : ℕ) (vs : List Value) → Calm (class_root {S = S} n vs)
@@ -289,7 +302,8 @@ module _ (S : Type 0) where
 
 -- ---- calls
 
-counted_calm : (roots : ℕ) (thread : Option Addr) (f : Frame) (count n : ℕ) (x : Value) → Calm (counted_row roots thread f count n x)
+counted_calm : (roots : ℕ) (thread : Option Addr) (f : Frame) (count n : ℕ) (x : Value) →
+    Calm (counted_row roots thread f count n x)
 unfolding counted_row
 counted_calm roots thread f count n x = do_calm _ _ refl tt (λ u. do_calm _ _ refl tt (λ v. ret State _))
 
@@ -300,21 +314,27 @@ started_calm roots None f count n = counted_calm roots None f count n _
 
 thread_calm : (roots : ℕ) (thread : Option Addr) (g : Got Frame) → Calm (thread_row roots thread g)
 unfolding thread_row numbered_start
-thread_calm roots thread (Is f) = look_then State roots 0 _ (λ c. look_then State _ 0 _ (λ v. started_calm roots thread f _ _))
+thread_calm roots thread (Is f) = look_then State roots 0 _
+    (λ c. look_then State _ 0 _ (λ v. started_calm roots thread f _ _))
 thread_calm roots thread (Raise e) = raise_calm State roots e
 
-function_start_calm : (s : Site) (thread : Option Addr) (args : List Value) (f : ℕ) → Calm (function_start s thread args f)
+function_start_calm : (s : Site) (thread : Option Addr) (args : List Value) (f : ℕ) →
+    Calm (function_start s thread args f)
 unfolding function_start
-function_start_calm s thread args f = both State (bound_call s.program (plainly args) f) _ (bound_to_calm State s.program (plainly args) f) (λ g. thread_calm s.roots thread g)
+function_start_calm s thread args f = both State (bound_call s.program (plainly args) f) _
+    (bound_to_calm State s.program (plainly args) f) (λ g. thread_calm s.roots thread g)
 
-target_calm : (s : Site) (thread : Option Addr) (args : List Value) (a : ℕ) (k : Kind) → Calm (target_start s thread args a k)
+target_calm : (s : Site) (thread : Option Addr) (args : List Value) (a : ℕ) (k : Kind) →
+    Calm (target_start s thread args a k)
 unfolding target_start owned_start
-target_calm s thread args a Method = look_then State a 0 _ (λ f. look_then State a 1 _ (λ own. function_start_calm s thread _ _))
+target_calm s thread args a Method = look_then State a 0 _
+    (λ f. look_then State a 1 _ (λ own. function_start_calm s thread _ _))
 target_calm s thread args a _ = function_start_calm s thread args a
 
 start_calm : (s : Site) (thread : Option Addr) (target : Value) (args : ℕ) → Calm (start_row s thread target args)
 unfolding start_row kind_start
-start_calm s thread target args = both State (values_row args) _ (values_calm State args) (λ vs. kind_then State _ _ (λ k. target_calm s thread vs _ k))
+start_calm s thread target args = both State (values_row args) _ (values_calm State args)
+    (λ vs. kind_then State _ _ (λ k. target_calm s thread vs _ k))
 
 answered_calm : (s : Site) (g : Got Answer) → Calm (answered s g)
 unfolding answered
@@ -336,7 +356,9 @@ unfolding builtin_call keyed_call
 builtin_steady s own g b =
     let me = option_map (λ a. a.0) s.thread in
     let c = call_steady State (functions_steady State) (methods_steady State) (str_steady State) threads_steady in
-    looks_steady (keys_row s.roots g.names g.values) _ (keys_only s.roots g.names g.values) (λ keys. bind_steady State false (call_row s.roots me b own g.args keys) _ (c.call s.roots me b own g.args keys) (answered_calm s))
+    looks_steady (keys_row s.roots g.names g.values) _ (keys_only s.roots g.names g.values)
+    (λ keys. bind_steady State false (call_row s.roots me b own g.args keys) _
+    (c.call s.roots me b own g.args keys) (answered_calm s))
 
 owned_steady : (s : Site) (f : Value) (g : Given) (own : Value) → Steady false (owned_call s f g own)
 unfolding owned_call
@@ -349,7 +371,8 @@ owned_steady s (Ref a) g own = function_call_calm State s _ _ false
 
 method_steady : (s : Site) (g : Given) (a : ℕ) → Steady false (method_call s g a)
 unfolding method_call method_of
-method_steady s g a = looks_steady (look_row a 0) _ (only_look State a 0) (λ f. looks_steady (look_row a 1) _ (only_look State a 1) (λ own. owned_steady s f g own))
+method_steady s g a = looks_steady (look_row a 0) _ (only_look State a 0)
+    (λ f. looks_steady (look_row a 1) _ (only_look State a 1) (λ own. owned_steady s f g own))
 
 record_steady : (s : Site) (g : Given) (a : ℕ) (k : Kind) → Steady false (record_call s g a k)
 unfolding record_call
@@ -360,7 +383,8 @@ record_steady s g a _ = raise_calm State s.roots _ false
 
 value_steady : (s : Site) (own : Value) (g : Given) (x : Value) → Steady false (value_call s own g x)
 unfolding value_call
-value_steady s own g (Ref a) = looks_steady (kind_row a.0) _ (only_kind State a.0) (λ k. record_steady s (with_own own g) a.0 k)
+value_steady s own g (Ref a) = looks_steady (kind_row a.0) _ (only_kind State a.0)
+    (λ k. record_steady s (with_own own g) a.0 k)
 value_steady s own g (Builtin b) = builtin_steady s own g b
 value_steady s own g _ = raise_calm State s.roots _ false
 
@@ -428,15 +452,18 @@ guarded_steady : (s : Site) (f : Frame) (xs : List Value) (i : Instr) → Steady
 unfolding guarded_row
 guarded_steady s f xs i = cond_steady _ _ _ (raise_calm State s.roots operand_fault false) (instr_steady s f xs i)
 
-at_steady : (p : Program) (s : State) (f : Frame) (fs : List Frame) (o : Option Instr) → Steady false (step_at p s f fs o)
+at_steady : (p : Program) (s : State) (f : Frame) (fs : List Frame) (o : Option Instr) →
+    Steady false (step_at p s f fs o)
 unfolding step_at
-at_steady p s f fs (Some i) = bind_steady State false (guarded_row (site_of p s fs) f (operands (pops p f i) f) i) _ (guarded_steady (site_of p s fs) f (operands (pops p f i) f) i) (λ next. ret State _)
+at_steady p s f fs (Some i) = bind_steady State false (guarded_row (site_of p s fs) f (operands (pops p f i) f) i) _
+    (guarded_steady (site_of p s fs) f (operands (pops p f i) f) i) (λ next. ret State _)
 at_steady p s f fs None = ret State _ false
 
 by_steady : (p : Program) (s : State) (d : Option Dying) (fs : List Frame) → Steady false (step_by p s d fs)
 unfolding step_by
 by_steady p s d [] = ret State _ false
-by_steady p s (Some d) (f ∷ fs) = both State (dying_row (place_of s.roots) s.number s.thread d) _ (dying_calm State (place_of s.roots) s.number s.thread d) (λ u. ret State _) false
+by_steady p s (Some d) (f ∷ fs) = both State (dying_row (place_of s.roots) s.number s.thread d) _
+    (dying_calm State (place_of s.roots) s.number s.thread d) (λ u. ret State _) false
 by_steady p s None (f ∷ fs) = at_steady p s f fs (instr_at p f)
 
 pub steady_law : SteadyStepLaw

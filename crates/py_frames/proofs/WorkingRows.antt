@@ -49,11 +49,13 @@ module _ (S : Type 0) where
   unfolding Never
   never_ret p a n = n
 
-  pub never_do : {A : Type 0} (p : A → Type 0) (c : Call S) (k : Reply c → Row S A) → ((r : Reply c) → Never p (k r)) → Never p (Do c k)
+  pub never_do : {A : Type 0} (p : A → Type 0) (c : Call S) (k : Reply c → Row S A) → ((r : Reply c) → Never p (k r)) →
+      Never p (Do c k)
   unfolding Never
   never_do p c k n = n
 
-  pub never_bind : {A B : Type 0} (p : B → Type 0) (row : Row S A) (f : A → Row S B) → ((a : A) → Never p (f a)) → Never p (bind row f)
+  pub never_bind : {A B : Type 0} (p : B → Type 0) (row : Row S A) (f : A → Row S B) → ((a : A) → Never p (f a)) →
+      Never p (bind row f)
   unfolding Never bind
   never_bind p (Ret a) f n = n a
   never_bind p (Do c k) f n = λ r. never_bind p (k r) f n
@@ -85,11 +87,13 @@ module _ (S : Type 0) where
 
   pub raises : (roots : ℕ) (e : Fault) → Works {S = S} (raise_row roots e)
   unfolding raise_row
-  raises roots e = then_works (fault_row roots e) (λ x. Ret (Throws x)) (λ x. works (Throws x) (λ q. let z : Throws x ≡ Waits = q in cc))
+  raises roots e = then_works (fault_row roots e) (λ x. Ret (Throws x))
+      (λ x. works (Throws x) (λ q. let z : Throws x ≡ Waits = q in cc))
 
   pub fails : (roots : ℕ) (e : Fault) → Works {S = S} (fail_row roots e)
   unfolding fail_row
-  fails roots e = then_works (fault_row roots e) (λ x. Ret (Fails x)) (λ x. works (Fails x) (λ q. let z : Fails x ≡ Waits = q in cc))
+  fails roots e = then_works (fault_row roots e) (λ x. Ret (Fails x))
+      (λ x. works (Fails x) (λ q. let z : Fails x ≡ Waits = q in cc))
 
   pub gives : (roots : ℕ) (g : Got Value) → Works {S = S} (give roots g)
   unfolding give
@@ -133,7 +137,8 @@ module _ (S : Type 0) where
   unbound_works roots name (Some c) = const_works roots c
   unbound_works roots name None = raises roots _
 
-  pub bound_works : (roots : ℕ) (name : List ℕ) (o : Option Constant) (x : Value) → Works {S = S} (bound_row roots name o x)
+  pub bound_works : (roots : ℕ) (name : List ℕ) (o : Option Constant) (x : Value) →
+      Works {S = S} (bound_row roots name o x)
   unfolding bound_row
   bound_works roots name o Unset = unbound_works roots name o
   bound_works roots name o NoneValue = goes _
@@ -142,7 +147,8 @@ module _ (S : Type 0) where
   bound_works roots name o (Ref a) = goes _
   bound_works roots name o (Builtin b) = goes _
 
-  pub load_global_works : (roots g : ℕ) (name : List ℕ) (o : Option Constant) → Works {S = S} (load_global_row roots g name o)
+  pub load_global_works : (roots g : ℕ) (name : List ℕ) (o : Option Constant) →
+      Works {S = S} (load_global_row roots g name o)
   unfolding load_global_row load_cell_row
   load_global_works roots g name o = then_works _ _ (λ c. then_works _ _ (λ x. bound_works roots name o x))
 
@@ -167,17 +173,20 @@ module _ (S : Type 0) where
   unfolding del_global_row clear_cell_row
   del_global_works roots g name = then_works _ _ (λ c. then_works _ _ (λ x. cleared_works roots name _ x))
 
-  pub outer_works : (roots : ℕ) (name : List ℕ) (o : Option Constant) (g : Option ℕ) → Works {S = S} (outer_row roots name o g)
+  pub outer_works : (roots : ℕ) (name : List ℕ) (o : Option Constant) (g : Option ℕ) →
+      Works {S = S} (outer_row roots name o g)
   unfolding outer_row
   outer_works roots name o (Some g) = load_global_works roots g name o
   outer_works roots name o None = unbound_works roots name o
 
-  pub named_works : (roots : ℕ) (name : List ℕ) (o : Option Constant) (g : Option ℕ) (x : Option Value) → Works {S = S} (named_row roots name o g x)
+  pub named_works : (roots : ℕ) (name : List ℕ) (o : Option Constant) (g : Option ℕ) (x : Option Value) →
+      Works {S = S} (named_row roots name o g x)
   unfolding named_row
   named_works roots name o g (Some x) = goes _
   named_works roots name o g None = outer_works roots name o g
 
-  pub load_name_works : (roots d n : ℕ) (name : List ℕ) (o : Option Constant) (g : Option ℕ) → Works {S = S} (load_name_row roots d n name o g)
+  pub load_name_works : (roots d n : ℕ) (name : List ℕ) (o : Option Constant) (g : Option ℕ) →
+      Works {S = S} (load_name_row roots d n name o g)
   unfolding load_name_row own_or_outer
   load_name_works roots d n name o g = then_works _ _ (λ key. then_works _ _ (λ x. named_works roots name o g x))
 
@@ -207,7 +216,8 @@ module _ (S : Type 0) where
   unfolding del_attr_instr dropped_attr
   del_attr_works roots n o = then_works _ _ (λ name. then_works _ _ (λ g. does roots g))
 
-  pub found_works : (roots : ℕ) (o : Value) (name : ℕ) (found : Option Found) → Works {S = S} (found_method roots o name found)
+  pub found_works : (roots : ℕ) (o : Value) (name : ℕ) (found : Option Found) →
+      Works {S = S} (found_method roots o name found)
   unfolding found_method missing_method
   found_works roots o name None = then_works _ _ (λ g. gives roots g)
   found_works roots o name (Some (Plain x)) = goes _
@@ -288,7 +298,8 @@ module _ (S : Type 0) where
 
   pub build_dict_works : (roots : ℕ) (xs : List Value) → Works {S = S} (build_dict_row roots xs)
   unfolding build_dict_row new_dict filled_dict too_many_pairs
-  build_dict_works roots xs = cond_works _ _ _ (then_works _ _ (λ d. then_works _ _ (λ g. dict_works roots d g))) (then_works _ _ (λ b. raises roots _))
+  build_dict_works roots xs = cond_works _ _ _ (then_works _ _ (λ d. then_works _ _ (λ g. dict_works roots d g)))
+      (then_works _ _ (λ b. raises roots _))
 
   pub spread_works : (roots n : ℕ) (g : Got (List Value)) → Works {S = S} (spread roots n g)
   unfolding spread
@@ -320,9 +331,11 @@ module _ (S : Type 0) where
   next_works roots t _ = raises roots _
 
   -- ---- functions and classes
-  pub make_function_works : (roots : ℕ) (name : List ℕ) (n : ℕ) (ds : List Value) → Works {S = S} (make_function_row roots name n ds)
+  pub make_function_works : (roots : ℕ) (name : List ℕ) (n : ℕ) (ds : List Value) →
+      Works {S = S} (make_function_row roots name n ds)
   unfolding make_function_row new_function named_function function_of
-  make_function_works roots name n ds = cond_works _ _ _ (then_works _ _ (λ a. then_works _ _ (λ d. then_works _ _ (λ f. goes _)))) (raises roots _)
+  make_function_works roots name n ds = cond_works _ _ _
+      (then_works _ _ (λ a. then_works _ _ (λ d. then_works _ _ (λ f. goes _)))) (raises roots _)
 
   pub body_works : (s : Site) (n : ℕ) (base : Value) (k : Kind) → Works {S = S} (body_by s n base k)
   unfolding body_by new_body
@@ -339,16 +352,19 @@ module _ (S : Type 0) where
   leave_works thread zero x = then_works _ _ (λ u. leaves x)
   leave_works thread (suc n) x = leaves x
 
-  pub class_row_works : (roots : ℕ) (name : List ℕ) (base : Value) (d : Addr) → Works {S = S} (class_row roots name base d)
+  pub class_row_works : (roots : ℕ) (name : List ℕ) (base : Value) (d : Addr) →
+      Works {S = S} (class_row roots name base d)
   unfolding class_row new_class class_of
-  class_row_works roots name base d = cond_works _ _ _ (then_works _ _ (λ a. then_works _ _ (λ c. leaves c))) (fails roots _)
+  class_row_works roots name base d = cond_works _ _ _ (then_works _ _ (λ a. then_works _ _ (λ c. leaves c)))
+      (fails roots _)
 
   pub instance_works : (roots : ℕ) (made x : Value) → Works {S = S} (instance_row roots made x)
   unfolding instance_row
   instance_works roots made NoneValue = leaves made
   instance_works roots made _ = raises roots _
 
-  pub value_works : (roots : ℕ) (thread : Option Addr) (n : ℕ) (x made : Value) → Works {S = S} (value_or_instance roots thread n x made)
+  pub value_works : (roots : ℕ) (thread : Option Addr) (n : ℕ) (x made : Value) →
+      Works {S = S} (value_or_instance roots thread n x made)
   unfolding value_or_instance
   value_works roots thread n x Unset = leave_works thread n x
   value_works roots thread n x NoneValue = instance_works roots _ x
@@ -357,7 +373,8 @@ module _ (S : Type 0) where
   value_works roots thread n x (Ref a) = instance_works roots _ x
   value_works roots thread n x (Builtin b) = instance_works roots _ x
 
-  pub return_works : (roots : ℕ) (thread : Option Addr) (name : List ℕ) (n : ℕ) (x made : Value) (names : Option Addr) → Works {S = S} (return_by roots thread name n x made names)
+  pub return_works : (roots : ℕ) (thread : Option Addr) (name : List ℕ) (n : ℕ) (x made : Value) (names : Option Addr)
+      → Works {S = S} (return_by roots thread name n x made names)
   unfolding return_by
   return_works roots thread name n x made (Some d) = class_row_works roots name made d
   return_works roots thread name n x made None = value_works roots thread n x made
@@ -372,12 +389,14 @@ module _ (S : Type 0) where
   with_works s f (Is x) = enters _
   with_works s f (Raise e) = raises s.roots e
 
-  pub init_entered_works : (s : Site) (c : ℕ) (g : Given) (b : Bool) (x : Got Frame) → Works {S = S} (init_entered s c g b x)
+  pub init_entered_works : (s : Site) (c : ℕ) (g : Given) (b : Bool) (x : Got Frame) →
+      Works {S = S} (init_entered s c g b x)
   unfolding init_entered making_row
   init_entered_works s c g b (Is f) = cond_works _ _ _ (then_works _ _ (λ x. with_works s f x)) (raises s.roots _)
   init_entered_works s c g b (Raise e) = raises s.roots e
 
-  pub record_init_works : (s : Site) (c : ℕ) (g : Given) (b : Bool) (f : ℕ) (k : Kind) → Works {S = S} (record_init s c g b f k)
+  pub record_init_works : (s : Site) (c : ℕ) (g : Given) (b : Bool) (f : ℕ) (k : Kind) →
+      Works {S = S} (record_init s c g b f k)
   unfolding record_init function_init
   record_init_works s c g b f Function = then_works _ _ (λ x. init_entered_works s c g b x)
   record_init_works s c g b f _ = raises s.roots _
@@ -387,7 +406,8 @@ module _ (S : Type 0) where
   value_init_works s c g b (Ref a) = then_works _ _ (λ k. record_init_works s c g b a.0 k)
   value_init_works s c g b _ = raises s.roots _
 
-  pub init_or_works : (s : Site) (c : ℕ) (g : Given) (o : Option Value) (b : Bool) → Works {S = S} (init_or_bare s c g o b)
+  pub init_or_works : (s : Site) (c : ℕ) (g : Given) (o : Option Value) (b : Bool) →
+      Works {S = S} (init_or_bare s c g o b)
   unfolding init_or_bare bare_call given_instance
   init_or_works s c g (Some x) b = value_init_works s c g b x
   init_or_works s c g None b = cond_works _ _ _ (then_works _ _ (λ x. gives s.roots x)) (raises s.roots _)
@@ -475,7 +495,8 @@ module _ (S : Type 0) where
   -- ---- printing
   pub write_works : (roots : ℕ) (g : Got (List ℕ)) → Works {S = S} (write_or_raise roots g)
   unfolding write_or_raise written_row put_row
-  write_works roots (Is t) = never_do Waiting _ _ (λ mid. never_do Waiting _ _ (λ u. never_do Waiting _ _ (λ v. goes [])))
+  write_works roots (Is t) = never_do Waiting _ _
+      (λ mid. never_do Waiting _ _ (λ u. never_do Waiting _ _ (λ v. goes [])))
   write_works roots (Raise e) = raises roots e
 
   pub print_item_works : (roots : ℕ) (x : Value) → Works {S = S} (print_item_row roots x)
@@ -488,4 +509,5 @@ module _ (S : Type 0) where
 
   pub setup_works : (p : Program) → Works {S = S} (setup_row p)
   unfolding setup_row begun_row
-  setup_works p = then_works _ _ (λ vs. never_do Waiting _ _ (λ a. works (Begins _) (λ q. let z : Begins (record { 0 = a }) ≡ Waits = q in cc)))
+  setup_works p = then_works _ _ (λ vs. never_do Waiting _ _
+      (λ a. works (Begins _) (λ q. let z : Begins (record { 0 = a }) ≡ Waits = q in cc)))

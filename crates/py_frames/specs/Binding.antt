@@ -16,7 +16,8 @@ use Rattle.py_frames.specs.declared.state.Frame.{Frame}
 use Rattle.py_frames.specs.State.{code_at, root_name}
 use Rattle.py_frames.specs.Raising.{place_in, count_in, values_row}
 
--- what a call gives: the arguments without a keyword, and for each keyword the number of its name among the roots, and its value
+-- what a call gives: the arguments without a keyword, and for each keyword the number of its name among the roots, and
+-- its value
 pub record Given : Type 0 where
   pub args : List Value
   pub names : List ℕ
@@ -54,7 +55,8 @@ abbrev pub all_named : List (List ℕ) → List (List ℕ) → Bool
 all_named [] keys = true
 all_named (n ∷ ns) keys = has n keys && all_named ns keys
 
--- Of parameters that have no argument the last ones have so many defaults; the keywords are among them, and those that have no
+-- Of parameters that have no argument the last ones have so many defaults; the keywords are among them, and those that
+-- have no
 -- default are named.
 abbrev pub are_filled : List (List ℕ) → List (List ℕ) → ℕ → Bool
 are_filled names keys d = are_named names keys && all_named (take (length names - d) names) keys
@@ -92,7 +94,8 @@ unfoldable pub bound_to : Program → Given → ℕ → List Value → Got Frame
 bound_to p g n ds =
     let c = code_at p n in
     let keys = map (root_name p) g.names in
-    cond (fits_call c (length g.args) keys (length ds)) (Is (entered n (bound_slots c g.args keys g.values ds))) (Raise argument_fault)
+    cond (fits_call c (length g.args) keys (length ds)) (Is (entered n (bound_slots c g.args keys g.values ds)))
+    (Raise argument_fault)
 
 -- ---- the row: the number of the Function's code, and its defaults, are looked at
 

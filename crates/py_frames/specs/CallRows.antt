@@ -1,4 +1,5 @@
--- The rows of calls, of functions and of what starts a thread. States `docs/LANGUAGE.md`, "Calls and frames" and "Threads".
+-- The rows of calls, of functions and of what starts a thread. States `docs/LANGUAGE.md`, "Calls and frames" and
+-- "Threads".
 use Rattle.std.specs.Prelude.{ℕ, pos, ◌+◌, ◌<◌, cond, leb, ltb, ◌&&◌, List, [], ◌∷◌, length, get_or, Option, Some, None, option_map}
 use Rattle.py_base.specs.declared.kind.Kind.{Kind}
 use Rattle.py_base.specs.declared.kind.Kind.TheVariants.{Function, Class, Method}
@@ -32,15 +33,25 @@ function_call s g f = bind (bound_row s.program g f) (λ x. entered_row s x)
 
 -- a thread of this number, Thread record and frame
 abbrev pub new_state : ℕ → ℕ → Option Addr → Frame → State
-new_state n roots thread f = record { number = n; roots = Some (record { 0 = roots }); thread = thread; frames = f ∷ []; dying = None }
+new_state n roots thread f = record {
+  number = n;
+  roots = Some (record { 0 = roots });
+  thread = thread;
+  frames =
+      f ∷ [];
+  dying = None;
+}
 
--- The count of threads rises, and the thread starts. Its number is how many were started before it, the first one counted.
+-- The count of threads rises, and the thread starts. Its number is how many were started before it, the first one
+-- counted.
 unfoldable pub counted_row : ℕ → Option Addr → Frame → ℕ → ℕ → Value → Row State Next
-counted_row roots thread f count n x = Do (Edit count (change.Set 0 (Int (pos (n + 1))))) (λ _. Do (Start (new_state n roots thread f)) (λ _. Ret (Goes (x ∷ []))))
+counted_row roots thread f count n x = Do (Edit count (change.Set 0 (Int (pos (n + 1)))))
+    (λ _. Do (Start (new_state n roots thread f)) (λ _. Ret (Goes (x ∷ []))))
 
 -- the Thread record gets its number, and the answer is None; without one the answer is the number
 unfoldable pub started_row : ℕ → Option Addr → Frame → ℕ → ℕ → Row State Next
-started_row roots (Some t) f count n = Do (Edit t.0 (change.Set 2 (Int (pos n)))) (λ _. counted_row roots (Some t) f count n NoneValue)
+started_row roots (Some t) f count n = Do (Edit t.0 (change.Set 2 (Int (pos n))))
+    (λ _. counted_row roots (Some t) f count n NoneValue)
 started_row roots None f count n = counted_row roots None f count n (Int (pos n))
 
 unfoldable pub numbered_start : ℕ → Option Addr → Frame → ℕ → Row State Next
@@ -76,7 +87,8 @@ answered s (Is (StartAnswer target args thread)) = start_row s thread target arg
 answered s (Raise e) = raise_row s.roots e
 
 unfoldable pub keyed_call : Site → ℕ → Value → List Value → List Value → Row State Next
-keyed_call s b own args keys = bind (call_row s.roots (option_map (λ a. a.0) s.thread) b own args keys) (λ g. answered s g)
+keyed_call s b own args keys = bind (call_row s.roots (option_map (λ a. a.0) s.thread) b own args keys)
+    (λ g. answered s g)
 
 -- beside the name of each keyword, a root, its value
 abbrev pub key_pairs : List Value → List ℕ → List Value → List Value
@@ -110,7 +122,8 @@ record_call s g a Method = method_call s g a
 record_call s g a Class = class_call s g a
 record_call s g a _ = raise_row s.roots call_fault
 
--- The call of a value, where an object may stand in front: it is a builtin's own object, and the first argument of all else.
+-- The call of a value, where an object may stand in front: it is a builtin's own object, and the first argument of all
+-- else.
 unfoldable pub value_call : Site → Value → Given → Value → Row State Next
 value_call s own g (Ref a) = bind (kind_row a.0) (λ k. record_call s (with_own own g) a.0 k)
 value_call s own g (Builtin b) = builtin_call s own g b

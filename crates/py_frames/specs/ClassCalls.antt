@@ -1,4 +1,5 @@
--- The row of the call of a class, which makes an instance. States `docs/LANGUAGE.md`, "Calls and frames" and "Classes and
+-- The row of the call of a class, which makes an instance. States `docs/LANGUAGE.md`, "Calls and frames" and "Classes
+-- and
 -- instances".
 use Rattle.std.specs.Prelude.{ℕ, Bool, true, false, cond, leb, ltb, ◌&&◌, List, [], ◌∷◌, length, slice_set, Option, Some, None, codes}
 use Rattle.py_base.specs.Numbers.{class_number}
@@ -54,7 +55,8 @@ init_row s c = init_by s.roots c (text_number s.program (codes "__init__"))
 
 -- whether a class is an exception class
 unfoldable pub exception_class_row : {S : Type 0} → ℕ → ℕ → Row S Bool
-exception_class_row roots c = bind (look_row roots (class_place (class_number (codes "BaseException")))) (λ b. is_sub_row c (place_in b))
+exception_class_row roots c = bind (look_row roots (class_place (class_number (codes "BaseException"))))
+    (λ b. is_sub_row c (place_in b))
 
 -- ---- the instance
 
@@ -70,7 +72,8 @@ instance_of c args true = args_instance c args
 instance_of c args false = plain_instance c
 
 unfoldable pub new_instance : {S : Type 0} → ℕ → List Value → Bool → Row S (Got Value)
-new_instance c args exception = cond (leb (length args) LENGTH_LIMIT) (bind (instance_of c args exception) (λ x. Ret (Is x))) (Ret (Raise memory_fault))
+new_instance c args exception = cond (leb (length args) LENGTH_LIMIT)
+    (bind (instance_of c args exception) (λ x. Ret (Is x))) (Ret (Raise memory_fault))
 
 -- ---- without an `__init__` only an exception class takes arguments
 
@@ -101,12 +104,14 @@ unfoldable pub making_row : {S : Type 0} → Site → ℕ → Given → Bool →
 making_row s c g exception f = bind (new_instance c g.args exception) (λ x. with_instance s f x)
 
 unfoldable pub init_entered : {S : Type 0} → Site → ℕ → Given → Bool → Got Frame → Row S Next
-init_entered s c g exception (Is f) = cond (ltb s.depth MOST_FRAMES) (making_row s c g exception f) (raise_row s.roots depth_fault)
+init_entered s c g exception (Is f) = cond (ltb s.depth MOST_FRAMES) (making_row s c g exception f)
+    (raise_row s.roots depth_fault)
 init_entered s c g exception (Raise e) = raise_row s.roots e
 
 -- the arguments are bound before the instance is made, with nothing yet in its place
 unfoldable pub function_init : {S : Type 0} → Site → ℕ → Given → Bool → ℕ → Row S Next
-function_init s c g exception f = bind (bound_row s.program (with_first Unset g) f) (λ x. init_entered s c g exception x)
+function_init s c g exception f = bind (bound_row s.program (with_first Unset g) f)
+    (λ x. init_entered s c g exception x)
 
 unfoldable pub record_init : {S : Type 0} → Site → ℕ → Given → Bool → ℕ → Kind → Row S Next
 record_init s c g exception f Function = function_init s c g exception f

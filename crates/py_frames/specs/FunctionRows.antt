@@ -1,4 +1,5 @@
--- The rows that make functions and classes, and that leave frames. States `docs/LANGUAGE.md`, "Instructions", "Calls and frames"
+-- The rows that make functions and classes, and that leave frames. States `docs/LANGUAGE.md`, "Instructions", "Calls
+-- and frames"
 -- and "Sizes".
 use Rattle.std.specs.Prelude.{ℕ, pos, zero, suc, cond, leb, ltb, true, ◌&&◌, List, [], ◌∷◌, length, Option, Some, None}
 use Rattle.py_base.specs.declared.kind.Kind.{Kind}
@@ -24,7 +25,8 @@ use Rattle.py_frames.specs.State.{code_at}
 -- ---- MAKE_FUNCTION
 
 unfoldable pub function_of : {S : Type 0} → ℕ → Value → Value → Row S Next
-function_of n name defaults = bind (made_row (new_rec Function (name ∷ Int (pos n) ∷ defaults ∷ []) [])) (λ f. Ret (Goes (f ∷ [])))
+function_of n name defaults = bind (made_row (new_rec Function (name ∷ Int (pos n) ∷ defaults ∷ []) []))
+    (λ f. Ret (Goes (f ∷ [])))
 
 unfoldable pub named_function : {S : Type 0} → ℕ → List Value → Value → Row S Next
 named_function n defaults name = bind (made_row (new_rec Tuple defaults [])) (λ d. function_of n name d)
@@ -34,19 +36,22 @@ new_function name n defaults = bind (made_row (new_rec Str [] name)) (λ a. name
 
 -- by the name of the code, its number, and the defaults
 unfoldable pub make_function_row : {S : Type 0} → ℕ → List ℕ → ℕ → List Value → Row S Next
-make_function_row roots name n defaults = cond (leb (length name) LENGTH_LIMIT && leb (length defaults) LENGTH_LIMIT) (new_function name n defaults) (raise_row roots memory_fault)
+make_function_row roots name n defaults = cond (leb (length name) LENGTH_LIMIT && leb (length defaults) LENGTH_LIMIT)
+    (new_function name n defaults) (raise_row roots memory_fault)
 
 -- ---- CLASS_BODY
 
 -- the frame of a class body: no slot has a value
 abbrev pub body_frame : ℕ → ℕ → Value → Value → Frame
-body_frame n slots base dict = record (entered n (unset_slots slots)) { made = base; names = Some (record { 0 = place_in dict }) }
+body_frame n slots base dict = record (entered n (unset_slots slots))
+    { made = base; names = Some (record { 0 = place_in dict }) }
 
 unfoldable pub new_body : {S : Type 0} → ℕ → ℕ → Value → Row S Next
 new_body n slots base = bind (made_row (new_rec Dict [] [])) (λ d. Ret (Enters (body_frame n slots base d)))
 
 unfoldable pub body_by : {S : Type 0} → Site → ℕ → Value → Kind → Row S Next
-body_by s n base Class = cond (ltb s.depth MOST_FRAMES) (new_body n (length (code_at s.program n).slots) base) (raise_row s.roots depth_fault)
+body_by s n base Class = cond (ltb s.depth MOST_FRAMES) (new_body n (length (code_at s.program n).slots) base)
+    (raise_row s.roots depth_fault)
 body_by s n base _ = raise_row s.roots base_fault
 
 unfoldable pub class_body_row : {S : Type 0} → Site → ℕ → Value → Row S Next
@@ -74,7 +79,8 @@ new_class name base dict = bind (made_row (new_rec Str [] name)) (λ a. class_of
 
 -- the body's frame has gone by then
 unfoldable pub class_row : {S : Type 0} → ℕ → List ℕ → Value → Addr → Row S Next
-class_row roots name base dict = cond (leb (length name) LENGTH_LIMIT) (new_class name base dict) (fail_row roots memory_fault)
+class_row roots name base dict = cond (leb (length name) LENGTH_LIMIT) (new_class name base dict)
+    (fail_row roots memory_fault)
 
 -- what an `__init__` returned must be None
 unfoldable pub instance_row : {S : Type 0} → ℕ → Value → Value → Row S Next

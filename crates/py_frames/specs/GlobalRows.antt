@@ -1,4 +1,5 @@
--- The rows of global names, and of the names of a class body. States `docs/LANGUAGE.md`, "Instructions" and "Numbers and names".
+-- The rows of global names, and of the names of a class body. States `docs/LANGUAGE.md`, "Instructions" and "Numbers
+-- and names".
 use Rattle.std.specs.Prelude.{ℕ, ◌+◌, true, false, cond, List, [], ◌∷◌, ◌++◌, length, take, Option, Some, None, option_map, codes}
 use Rattle.std.specs.Str.{bytes_eq}
 use Rattle.py_base.specs.Numbers.{number_in, class_names, class_number, builtin_names, builtin_number}
@@ -63,7 +64,8 @@ unfoldable pub builtin_named : Program → List ℕ → Option Constant
 builtin_named p name =
     cond (bytes_eq (codes "True") name) (Some (Truth true))
     (cond (bytes_eq (codes "False") name) (Some (Truth false))
-    (cond (bytes_eq own_name name) (Some (RootConstant (main_place p))) (class_or (number_in exception_names name) (function_named name))))
+    (cond (bytes_eq own_name name) (Some (RootConstant (main_place p)))
+    (class_or (number_in exception_names name) (function_named name))))
 
 -- ---- global names
 

@@ -115,7 +115,8 @@ abbrev pub bytes_part : List ℕ → ℕ → ℕ → List ℕ
 bytes_part t i j = take (j - i) (drop i t)
 
 unfoldable pub text_slice : {S : Type 0} → ℕ → Option ℤ → Option ℤ → Row S (Got Value)
-text_slice a i j = bind (bytes_row a) (λ t. new_text (bytes_part t (bound_or i 0 (length t)) (bound_or j (length t) (length t))))
+text_slice a i j = bind (bytes_row a) (λ t.
+    new_text (bytes_part t (bound_or i 0 (length t)) (bound_or j (length t) (length t))))
 
 unfoldable pub slice_by : {S : Type 0} → ℕ → Option ℤ × Option ℤ → Kind → Row S (Got Value)
 slice_by a b Str = text_slice a b.0 b.1

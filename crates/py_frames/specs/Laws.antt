@@ -1,4 +1,5 @@
--- What holds of the threads of a right program, in the words of the laws of clients. States `docs/LANGUAGE.md`, "Sound states".
+-- What holds of the threads of a right program, in the words of the laws of clients. States `docs/LANGUAGE.md`, "Sound
+-- states".
 use Rattle.std.specs.Prelude.{◌≡◌, ℕ, ◌<◌, List, [], ◌∷◌, length, slice_get, Some, None, false}
 use Rattle.py_data.specs.Heap.{Heap, no_records}
 use Rattle.py_data.specs.Steady.{AsksToPrint, Steady}
@@ -45,7 +46,8 @@ AskLaw = (p : Program) (s : State) → AsksToPrint (step_row p s)
 abbrev pub WaitLaw : Type 0
 WaitLaw = (p : Program) → WaitsQuietly (prog_of p)
 
--- The innermost frame of a thread that may stand over the heap, and doesn't die, lacks nothing: it has its code, an instruction
+-- The innermost frame of a thread that may stand over the heap, and doesn't die, lacks nothing: it has its code, an
+-- instruction
 -- at its place, the operands above the innermost block, and what the instruction names.
 pub record IsEquipped (p : Program) (f : Frame) : Type 0 where
   pub code : f.code < length p.codes

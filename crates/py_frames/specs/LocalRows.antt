@@ -23,7 +23,8 @@ const_row roots (RootConstant n) = bind (look_row roots n) (λ x. Ret (Goes (x �
 
 -- the slot of this name has no value
 abbrev pub unbound_fault : List ℕ → Fault
-unbound_fault name = text_fault (class_number (codes "UnboundLocalError")) (codes "local variable '" ++ name ++ codes "' referenced before assignment")
+unbound_fault name = text_fault (class_number (codes "UnboundLocalError"))
+    (codes "local variable '" ++ name ++ codes "' referenced before assignment")
 
 -- LOAD_LOCAL, by what the slot has
 unfoldable pub load_local_row : {S : Type 0} → ℕ → List ℕ → Value → Row S Next

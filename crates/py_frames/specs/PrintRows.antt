@@ -1,4 +1,5 @@
--- The rows that write: PRINT_ITEM, PRINT_NEWLINE, and the last step of a thread that dies. States `docs/LANGUAGE.md`, "Print" and
+-- The rows that write: PRINT_ITEM, PRINT_NEWLINE, and the last step of a thread that dies. States `docs/LANGUAGE.md`,
+-- "Print" and
 -- "Exceptions".
 use Rattle.std.specs.Prelude.{ℕ, pos, Bool, false, cond, not, ◌||◌, ◌==◌, List, [], ◌∷◌, ◌++◌, Option, Some, None, codes}
 use Rattle.std.specs.Fmt.{signed_decimal}
@@ -63,7 +64,8 @@ told_text (Raise e) = []
 
 abbrev pub error_line : ℕ → ℕ → List ℕ → Got (List ℕ) → List ℕ
 error_line number line name text =
-    codes "thread " ++ (signed_decimal (pos number) ++ (codes ", line " ++ (signed_decimal (pos line) ++ (codes ": " ++ (name ++ (told_text text ++ 10 ∷ []))))))
+    codes "thread " ++ (signed_decimal (pos number) ++
+    (codes ", line " ++ (signed_decimal (pos line) ++ (codes ": " ++ (name ++ (told_text text ++ 10 ∷ []))))))
 
 -- the name of the class of an instance
 unfoldable pub name_of_class : {S : Type 0} → ℕ → Row S (List ℕ)
@@ -73,11 +75,14 @@ unfoldable pub class_name_row : {S : Type 0} → ℕ → Row S (List ℕ)
 class_name_row a = bind (look_row a 0) (λ c. name_of_class (place_in c))
 
 unfoldable pub last_words : {S : Type 0} → ℕ → ℕ → Option Addr → List ℕ → Got (List ℕ) → Row S (Unit {0})
-last_words number line thread name text = Do (Put ErrorOutput (error_line number line name text)) (λ _. ended_row thread)
+last_words number line thread name text = Do (Put ErrorOutput (error_line number line name text))
+    (λ _. ended_row thread)
 
 unfoldable pub named_words : {S : Type 0} → ℕ → ℕ → Option Addr → Dying → List ℕ → Row S (Unit {0})
-named_words roots number thread d name = bind (told_row roots d.exc false) (λ text. last_words number d.line thread name text)
+named_words roots number thread d name =
+    bind (told_row roots d.exc false) (λ text. last_words number d.line thread name text)
 
 -- by the roots, the number of the thread, its Thread record, and its exception
 unfoldable pub dying_row : {S : Type 0} → ℕ → ℕ → Option Addr → Dying → Row S (Unit {0})
-dying_row roots number thread d = bind (class_name_row (place_in d.exc)) (λ name. named_words roots number thread d name)
+dying_row roots number thread d = bind (class_name_row (place_in d.exc))
+    (λ name. named_words roots number thread d name)

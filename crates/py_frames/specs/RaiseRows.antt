@@ -1,4 +1,5 @@
--- The rows that raise exceptions and match them. States `docs/LANGUAGE.md`, "Instructions", "Exceptions" and "Raising again".
+-- The rows that raise exceptions and match them. States `docs/LANGUAGE.md`, "Instructions", "Exceptions" and "Raising
+-- again".
 use Rattle.std.specs.Prelude.{ℕ, Bool, true, false, not, List, [], ◌∷◌}
 use Rattle.py_base.specs.declared.kind.Kind.{Kind}
 use Rattle.py_base.specs.declared.kind.Kind.TheVariants.{Tuple, Class, Instance}

@@ -1,4 +1,5 @@
--- The states of threads, and what the end of an instruction makes of one. States `docs/LANGUAGE.md`, "States of threads".
+-- The states of threads, and what the end of an instruction makes of one. States `docs/LANGUAGE.md`, "States of
+-- threads".
 use Rattle.std.specs.Prelude.{ℕ, ◌+◌, ◌-◌, List, [], ◌∷◌, ◌++◌, length, take, drop, slice_get, slice_set, get_or, Option, Some, None}
 use Rattle.py_base.specs.declared.kind.Kind.TheVariants.{Str}
 use Rattle.py_data.specs.declared.value.Addr.{Addr}
@@ -76,7 +77,8 @@ life_of s = life_by s.dying s.frames
 
 -- ---- raising
 
--- The innermost open block of a frame takes an exception: the stack is cut to the block's height, the exception is pushed, and
+-- The innermost open block of a frame takes an exception: the stack is cut to the block's height, the exception is
+-- pushed, and
 -- the handler follows.
 abbrev pub handled : Value → Frame → Block → List Block → Frame
 handled x f b bs = record f { pc = b.handler; stack = take b.height f.stack ++ x ∷ []; blocks = bs }
@@ -127,7 +129,8 @@ opened t n f = record f { blocks = record { handler = t; height = n } ∷ f.bloc
 abbrev pub closed : Frame → Frame
 closed f = record f { blocks = drop 1 f.blocks }
 
--- The line of an exception is that of the instruction which ends. A frame that is entered stands on the one that goes on
+-- The line of an exception is that of the instruction which ends. A frame that is entered stands on the one that goes
+-- on
 -- behind the call.
 unfoldable pub settled : Program → State → ℕ → Frame → List Frame → Next → Outcome × State
 settled p s n f fs (Goes ys) = (Done, with_frames s (advanced n ys (f.pc + 1) f ∷ fs))

@@ -1,4 +1,5 @@
--- The row of every instruction, and of a step of a thread. States `docs/LANGUAGE.md`, "Instructions" and "States of threads".
+-- The row of every instruction, and of a step of a thread. States `docs/LANGUAGE.md`, "Instructions" and "States of
+-- threads".
 use Rattle.std.specs.Prelude.{ℕ, zero, suc, ◌+◌, ◌-◌, Bool, true, false, cond, List, [], ◌∷◌, ◌++◌, length, take, drop, get_or, Option, Some, None}
 use Rattle.std.specs.List.{list_any}
 use Rattle.py_base.specs.declared.kind.Kind.TheVariants.{Tuple, List as ListKind}
@@ -32,10 +33,16 @@ use Rattle.py_frames.specs.Raising.{place_of, raise_row}
 use Rattle.py_frames.specs.SetupRows.{setup_row}
 use Rattle.py_frames.specs.State.{State, code_at, root_name, slot_name, instr_at, pops, operands, settled, with_frames}
 
--- ---- what a call gives, out of the operands behind what is called: so many arguments, and the values of this keyword list
+-- ---- what a call gives, out of the operands behind what is called: so many arguments, and the values of this keyword
+-- list
 
 abbrev pub given_in : Site → Frame → ℕ → ℕ → List Value → Given
-given_in s f m l xs = record { args = take m xs; names = get_or (code_at s.program f.code).keys l []; values = drop m xs }
+given_in s f m l xs = record {
+  args = take m xs;
+  names = get_or (code_at s.program f.code).keys l [];
+  values =
+      drop m xs;
+}
 
 -- ---- MAKE_RAISED 0 and 1
 
@@ -56,11 +63,13 @@ instr_row s f xs Rot3 = Ret (Goes (value_at xs 2 ∷ value_at xs 0 ∷ value_at 
 instr_row s f xs (LoadLocal i) = load_local_row s.roots (slot_name s.program f i) (value_at f.slots i)
 instr_row s f xs (StoreLocal i) = Ret (Stores i (value_at xs 0))
 instr_row s f xs (DelLocal i) = del_local_row s.roots (slot_name s.program f i) i (value_at f.slots i)
-instr_row s f xs (LoadGlobal g) = load_global_row s.roots g (root_name s.program g) (builtin_named s.program (root_name s.program g))
+instr_row s f xs (LoadGlobal g) = load_global_row s.roots g (root_name s.program g)
+    (builtin_named s.program (root_name s.program g))
 instr_row s f xs (StoreGlobal g) = store_global_row s.roots g (value_at xs 0)
 instr_row s f xs (DelGlobal g) = del_global_row s.roots g (root_name s.program g)
 instr_row s f xs (LoadName n) =
-    load_name_row s.roots (place_of f.names) n (root_name s.program n) (builtin_named s.program (root_name s.program n)) (cell_number s.program (root_name s.program n))
+    load_name_row s.roots (place_of f.names) n (root_name s.program n)
+    (builtin_named s.program (root_name s.program n)) (cell_number s.program (root_name s.program n))
 instr_row s f xs (StoreName n) = store_name_row s.roots (place_of f.names) n (value_at xs 0)
 instr_row s f xs (DelName n) = del_name_row s.roots (place_of f.names) n (root_name s.program n)
 instr_row s f xs (LoadAttr n) = load_attr_row s.roots n (value_at xs 0)
@@ -128,13 +137,15 @@ abbrev pub site_of : Program → State → List Frame → Site
 site_of p s fs = record { program = p; roots = place_of s.roots; thread = s.thread; depth = length fs + 1 }
 
 unfoldable pub step_at : Program → State → Frame → List Frame → Option Instr → Row State (Outcome × State)
-step_at p s f fs (Some i) = bind (guarded_row (site_of p s fs) f (operands (pops p f i) f) i) (λ next. Ret (settled p s (pops p f i) f fs next))
+step_at p s f fs (Some i) = bind (guarded_row (site_of p s fs) f (operands (pops p f i) f) i)
+    (λ next. Ret (settled p s (pops p f i) f fs next))
 step_at p s f fs None = Ret (Ended, with_frames s [])
 
 -- a thread that dies writes its last line, and has ended
 unfoldable pub step_by : Program → State → Option Dying → List Frame → Row State (Outcome × State)
 step_by p s d [] = Ret (Ended, s)
-step_by p s (Some d) (f ∷ fs) = bind (dying_row (place_of s.roots) s.number s.thread d) (λ _. Ret (Ended, with_frames s []))
+step_by p s (Some d) (f ∷ fs) = bind (dying_row (place_of s.roots) s.number s.thread d)
+    (λ _. Ret (Ended, with_frames s []))
 step_by p s None (f ∷ fs) = step_at p s f fs (instr_at p f)
 
 unfoldable pub step_row : Program → State → Row State (Outcome × State)

@@ -21,7 +21,8 @@ use Rattle.stm_top.specs.TextCode.{HasNoTree, HasScopes, HasNoScopes, HasCode, H
 -- ---- lists and answers
 
 -- lists of one length with the same items are one list
-same_items : {A : Type 0} (xs ys : List A) → length xs ≡ length ys → ((k : ℕ) → k < length ys → slice_get xs k ≡ slice_get ys k) → xs ≡ ys
+same_items : {A : Type 0} (xs ys : List A) → length xs ≡ length ys →
+    ((k : ℕ) → k < length ys → slice_get xs k ≡ slice_get ys k) → xs ≡ ys
 same_items [] [] n h = refl
 same_items [] (y ∷ ys) n h = absurd (omega (arith, n))
 same_items (x ∷ xs) [] n h = absurd (omega (arith, n))
@@ -54,28 +55,37 @@ module _ (same_tree : (text : List ℕ) (m n : Module) → IsTree text m → IsT
       let ts = same_ok (tokens_of_text text) a.tokens b.tokens a.are b.are in
       never_both b.tokens t b.fault b.line (subst (IsModule t) ts a.is) a.low b.refused
 
-  same_by_tree : (t u : Module) (xs ys : List Scope) → t ≡ u → AreScopes (outline t) xs → AreScopes (outline u) ys → xs ≡ ys
+  same_by_tree : (t u : Module) (xs ys : List Scope) → t ≡ u → AreScopes (outline t) xs → AreScopes (outline u) ys →
+      xs ≡ ys
   same_by_tree t u xs ys e a b =
       let a' : AreScopes (outline u) xs = subst (λ m. AreScopes (outline m) xs) e a in
-      same_items xs ys (a'.count ∙ sym b.count) (λ k lt. a'.each k (subst (λ n. k < n) b.count lt) ∙ sym (b.each k (subst (λ n. k < n) b.count lt)))
+      same_items xs ys (a'.count ∙ sym b.count) (λ k lt. a'.each k (subst (λ n. k < n) b.count lt) ∙
+      sym (b.each k (subst (λ n. k < n) b.count lt)))
 
   same_scopes : (t u : Module) (xs ys : List Scope) → HasScopes text t xs → HasScopes text u ys → xs ≡ ys
   same_scopes t u xs ys a b = same_by_tree t u xs ys (same_tree text t u a.is b.is) a.are b.are
 
   -- a tree with scopes has no place that is refused
   scopes_or_none : (t : Module) (xs : List Scope) (r : Refusal) → HasScopes text t xs → HasNoScopes text r → ⊥
-  scopes_or_none t xs r a b = none_or_some (fault (outline t)) r a.allowed (ap (λ m. fault (outline m)) (same_tree text t b.tree a.is b.is) ∙ b.refused)
+  scopes_or_none t xs r a b = none_or_some (fault (outline t)) r a.allowed
+      (ap (λ m. fault (outline m)) (same_tree text t b.tree a.is b.is) ∙ b.refused)
 
-  same_large : (t u : Module) (xs ys : List Scope) → HasScopes text t xs → HasScopes text u ys → too_large_in (bound_in xs) t ≡ too_large_in (bound_in ys) u
-  same_large t u xs ys a b = ap (λ s. too_large_in (bound_in s) t) (same_scopes t u xs ys a b) ∙ ap (too_large_in (bound_in ys)) (same_tree text t u a.is b.is)
+  same_large : (t u : Module) (xs ys : List Scope) → HasScopes text t xs → HasScopes text u ys →
+      too_large_in (bound_in xs) t ≡ too_large_in (bound_in ys) u
+  same_large t u xs ys a b = ap (λ s. too_large_in (bound_in s) t) (same_scopes t u xs ys a b) ∙
+      ap (too_large_in (bound_in ys)) (same_tree text t u a.is b.is)
 
   pub one_program : (p q : Program) → HasCode text p → HasCode text q → p ≡ q
-  one_program p q a b = a.is ∙ ap (λ s. program_of (bound_in s) a.tree) (same_scopes a.tree b.tree a.scopes b.scopes a.has b.has) ∙ ap (program_of (bound_in b.scopes)) (same_tree text a.tree b.tree a.has.is b.has.is) ∙ sym b.is
+  one_program p q a b = a.is ∙ ap (λ s. program_of (bound_in s) a.tree)
+      (same_scopes a.tree b.tree a.scopes b.scopes a.has b.has) ∙
+      ap (program_of (bound_in b.scopes)) (same_tree text a.tree b.tree a.has.is b.has.is) ∙ sym b.is
 
   code_or_none : (p : Program) (r : Refusal) → HasCode text p → HasNoCode text r → ⊥
   code_or_none p r a b =
-      let none : too_large_in (bound_in b.scopes) b.tree ≡ None = sym (same_large a.tree b.tree a.scopes b.scopes a.has b.has) ∙ a.fits in
-      none_or_some (option_map TooLarge (too_large_in (bound_in b.scopes) b.tree)) r (ap (option_map TooLarge) none) b.refused
+      let none : too_large_in (bound_in b.scopes) b.tree ≡ None =
+      sym (same_large a.tree b.tree a.scopes b.scopes a.has b.has) ∙ a.fits in
+      none_or_some (option_map TooLarge (too_large_in (bound_in b.scopes) b.tree)) r (ap (option_map TooLarge) none)
+      b.refused
 
   pub program_or_refusal : (p : Program) (r : Refusal) → HasCode text p → IsRefused text r → ⊥
   program_or_refusal p r a (inl b) = ok_or_err (tokens_of_text text) a.has.is.tokens r a.has.is.are b
@@ -100,7 +110,8 @@ module _ (same_tree : (text : List ℕ) (m n : Module) → IsTree text m → IsT
     one_refusal r s (inl a) (inl b) = same_err r s a b
     one_refusal r s (inl a) (inr (inl b)) = absurd (ok_or_err (tokens_of_text text) b.tokens r b.are a)
     one_refusal r s (inl a) (inr (inr (inl b))) = absurd (ok_or_err (tokens_of_text text) b.is.tokens r b.is.are a)
-    one_refusal r s (inl a) (inr (inr (inr b))) = absurd (ok_or_err (tokens_of_text text) b.has.is.tokens r b.has.is.are a)
+    one_refusal r s (inl a) (inr (inr (inr b))) =
+        absurd (ok_or_err (tokens_of_text text) b.has.is.tokens r b.has.is.are a)
     one_refusal r s (inr (inl a)) (inl b) = absurd (ok_or_err (tokens_of_text text) a.tokens s a.are b)
     one_refusal r s (inr (inl a)) (inr (inl b)) = none_same r s a b
     one_refusal r s (inr (inl a)) (inr (inr (inl b))) = absurd (tree_or_none b.tree r b.is a)
@@ -111,7 +122,8 @@ module _ (same_tree : (text : List ℕ) (m n : Module) → IsTree text m → IsT
         let there = ap (λ m. fault (outline m)) (same_tree text b.tree a.tree b.is a.is) ∙ a.refused in
         same_some (fault (outline b.tree)) r s there b.refused
     one_refusal r s (inr (inr (inl a))) (inr (inr (inr b))) = absurd (scopes_or_none b.tree b.scopes r b.has a)
-    one_refusal r s (inr (inr (inr a))) (inl b) = absurd (ok_or_err (tokens_of_text text) a.has.is.tokens s a.has.is.are b)
+    one_refusal r s (inr (inr (inr a))) (inl b) =
+        absurd (ok_or_err (tokens_of_text text) a.has.is.tokens s a.has.is.are b)
     one_refusal r s (inr (inr (inr a))) (inr (inl b)) = absurd (tree_or_none a.tree s a.has.is b)
     one_refusal r s (inr (inr (inr a))) (inr (inr (inl b))) = absurd (scopes_or_none a.tree a.scopes s a.has b)
     one_refusal r s (inr (inr (inr a))) (inr (inr (inr b))) =

@@ -39,7 +39,8 @@ scopes_each : (b : ℕ → Names) (k n i : ℕ) → i < n → slice_get (scopes_
 unfolding scopes_from
 scopes_each b k zero i h = absurd (omega (arith, h))
 scopes_each b k (suc n) zero h = let e : k ≡ k + 0 = omega arith in ap (λ j. Some (scope_of (b j))) e
-scopes_each b k (suc n) (suc i) h = let e : suc k + i ≡ k + suc i = omega arith in scopes_each b (suc k) n i (omega (arith, h)) ∙ ap (λ j. Some (scope_of (b j))) e
+scopes_each b k (suc n) (suc i) h = let e : suc k + i ≡ k + suc i = omega arith in
+    scopes_each b (suc k) n i (omega (arith, h)) ∙ ap (λ j. Some (scope_of (b j))) e
 
 some_scopes : (es : List Event) → (scopes : List Scope) × AreScopes es scopes
 some_scopes es =
@@ -47,17 +48,31 @@ some_scopes es =
       scopes_from (body es) 0 n,
       record {
         count = scopes_count (body es) 0 n;
-        each = λ k h. let e : 0 + k ≡ k = omega arith in scopes_each (body es) 0 n k h ∙ ap (λ j. Some (scope_of (body es j))) e;
+        each = λ k h. let e : 0 + k ≡ k = omega arith in scopes_each (body es) 0 n k h ∙
+            ap (λ j. Some (scope_of (body es j))) e;
       },
     )
 
 -- ---- the stages
 
-with_scopes : (text : List ℕ) (tree : Module) (scopes : List Scope) (o : Option ℕ) → HasScopes text tree scopes → too_large_in (bound_in scopes) tree ≡ o → HasAnswer text
-with_scopes text tree scopes None has e = inl (program_of (bound_in scopes) tree, record { tree = tree; scopes = scopes; has = has; fits = e; is = refl })
-with_scopes text tree scopes (Some line) has e = inr (TooLarge line, inr (inr (inr (record { tree = tree; scopes = scopes; has = has; refused = ap (option_map TooLarge) e }))))
+with_scopes : (text : List ℕ) (tree : Module) (scopes : List Scope) (o : Option ℕ) → HasScopes text tree scopes →
+    too_large_in (bound_in scopes) tree ≡ o → HasAnswer text
+with_scopes text tree scopes None has e =
+    inl (program_of (bound_in scopes) tree, record { tree = tree; scopes = scopes; has = has; fits = e; is = refl })
+with_scopes text tree scopes (Some line) has e =
+    inr (
+      TooLarge line,
+      inr (inr (inr (record {
+        tree = tree;
+        scopes = scopes;
+        has = has;
+        refused =
+            ap (option_map TooLarge) e;
+      }))),
+    )
 
-with_tree : (text : List ℕ) (tree : Module) (o : Option Refusal) → IsTree text tree → fault (outline tree) ≡ o → HasAnswer text
+with_tree : (text : List ℕ) (tree : Module) (o : Option Refusal) → IsTree text tree → fault (outline tree) ≡ o →
+    HasAnswer text
 with_tree text tree None is e =
     let s = some_scopes (outline tree) in
     with_scopes text tree s.0 (too_large_in (bound_in s.0) tree) (record { is = is; allowed = e; are = s.1 }) refl

@@ -23,7 +23,12 @@ use Rattle.stm_top.specs.inner.Ending.{NoScript, RunEnds, ThreadsEnded, NoProgra
 
 -- no text is put where there is none
 pub nothing_put : (text : List ℕ) (s : SinkState) → text ≡ [] → TextPut text s s
-nothing_put text s e = record { result = Ok tt; puts = sym (ap (grown s.told) e ∙ grown_nothing s.told); cause = omega arith }
+nothing_put text s e = record {
+  result = Ok tt;
+  puts = sym (ap (grown s.told) e ∙ grown_nothing s.told);
+  cause =
+      omega arith;
+}
   where
     grown_nothing : (o : Option (List ℕ)) → grown o [] ≡ o
     grown_nothing None = refl
@@ -45,7 +50,8 @@ taken_later (File name) text x y h = let e = ap (λ (s : SourceState). s.faults)
 taken_later (Demo n) text x y h = let e = ap (λ (s : SourceState). s.faults) h.2 in omega (arith, e)
 
 -- the text of a workload is short
-length_lines : (xs : List (List ℕ)) (x : List ℕ) (ys : List (List ℕ)) → length (lines (xs ++ x ∷ ys)) ≡ length (lines xs) + (length x + (1 + length (lines ys)))
+length_lines : (xs : List (List ℕ)) (x : List ℕ) (ys : List (List ℕ)) →
+    length (lines (xs ++ x ∷ ys)) ≡ length (lines xs) + (length x + (1 + length (lines ys)))
 length_lines [] x ys = let one = length-append x (10 ∷ lines ys) in omega (arith, one)
 length_lines (l ∷ xs) x ys =
     let one = length-append l (10 ∷ lines (xs ++ x ∷ ys)) in
@@ -65,7 +71,8 @@ demo_short n h =
     let right : length behind_number ≡ 12 = refl in
     omega (arith, number, whole, line, end, first, last, left, right)
 
-pub taken_short : (script : Script) (text : List ℕ) (x y : Origin) → IsScript script → Taken script text x y → length text ≤ 4194304
+pub taken_short : (script : Script) (text : List ℕ) (x y : Origin) → IsScript script → Taken script text x y →
+    length text ≤ 4194304
 taken_short Source text x y w h = h.0.short
 taken_short (File name) text x y w h = h.1
 taken_short (Demo n) text x y w h = subst (λ z. length z ≤ 4194304) (sym h.0) (demo_short n w)
@@ -74,7 +81,9 @@ rose_after : (a b c : ℕ) → a ≤ b → Rose b c → Rose a c
 rose_after a b c l r = omega (arith, l, r)
 
 -- the source counted no fewer failures after the script was taken than before
-earlier : (answer : Answer) {input out err : Option (List ℕ)} {history : List Turn} {conflicts : List Conflict} {input1 out1 err1 : Option (List ℕ)} {S : Type 0} {p : Prog S} {n : ℕ} (l : Limits) (a a1 b : Faults) (r : Serial p n input out err history conflicts input1 out1 err1)
+earlier : (answer : Answer) {input out err : Option (List ℕ)} {history : List Turn} {conflicts : List Conflict}
+    {input1 out1 err1 : Option (List ℕ)} {S : Type 0} {p : Prog S} {n : ℕ} (l : Limits) (a a1 b : Faults)
+    (r : Serial p n input out err history conflicts input1 out1 err1)
     → a.input ≤ a1.input → a1.out ≡ a.out → a1.err ≡ a.err → RunEnded l answer a1 b r → RunEnded l answer a b r
 earlier Done l a a1 b r i o e h = h
 earlier Failed l a a1 b r i o e h = h
@@ -94,12 +103,14 @@ earlier ScriptTooLong l a a1 b r i o e h = h
 abbrev pub with_origin : Devices → Origin → Devices
 with_origin a x = record a { loader = x.loader; input = x.input }
 
-module _ {P S : Type 0} (is_code : List ℕ → P → Type 0) (refused : List ℕ → Refusal → Type 0) (rows : P → Prog S) (o : Options) (a b : Devices) (t : Told) where
+module _ {P S : Type 0} (is_code : List ℕ → P → Type 0) (refused : List ℕ → Refusal → Type 0) (rows : P → Prog S)
+    (o : Options) (a b : Devices) (t : Told) where
   abbrev Caused : Answer → Type 0
   Caused answer = CausedBy is_code refused rows answer o a t b
 
   -- no script was taken
-  pub no_script : (answer : Answer) (x : Origin) → origin b ≡ x → NothingRan a t b → NoScript answer o.script (origin a) x → Caused answer
+  pub no_script : (answer : Answer) (x : Origin) → origin b ≡ x → NothingRan a t b →
+      NoScript answer o.script (origin a) x → Caused answer
   no_script LoaderFailed x e n h = (n, subst (NoScript LoaderFailed o.script (origin a)) (sym e) h)
   no_script InputFailed x e n h = inl (n, subst (NoScript InputFailed o.script (origin a)) (sym e) h)
   no_script ScriptTooLong x e n h = (n, subst (NoScript ScriptTooLong o.script (origin a)) (sym e) h)
@@ -122,7 +133,8 @@ module _ {P S : Type 0} (is_code : List ℕ → P → Type 0) (refused : List �
     asks : origin b ≡ x → AskedAtMost o.script (origin a) (origin b)
     asks e = subst (AskedAtMost o.script (origin a)) (sym e) (taken_asks o.script text (origin a) x taken)
 
-    unmade : (answer : Answer) → origin b ≡ x → NothingRan (with_origin a x) t b → NoProgram is_code refused rows text answer → Caused answer
+    unmade : (answer : Answer) → origin b ≡ x → NothingRan (with_origin a x) t b →
+        NoProgram is_code refused rows text answer → Caused answer
     unmade (Refused refusal) e n h = (as_before n, text, subst (Taken o.script text (origin a)) (sym e) taken, h)
     unmade OutOfMemory e n h = inl (as_before n, asks e)
     unmade Done e n h = absurd h
@@ -138,7 +150,8 @@ module _ {P S : Type 0} (is_code : List ℕ → P → Type 0) (refused : List �
     unmade ScriptTooLong e n h = absurd h
 
     module _ (program : P) (is : is_code text program) where
-      ran : (answer : Answer) → b.loader ≡ x.loader → RunEnds (rows program) (limits_of o) answer (with_origin a x) t b → Ran is_code refused rows o a t b
+      ran : (answer : Answer) → b.loader ≡ x.loader → RunEnds (rows program) (limits_of o) answer (with_origin a x) t b
+          → Ran is_code refused rows o a t b
       ran answer e r = record {
         text = text;
         source = x.input;
@@ -149,17 +162,22 @@ module _ {P S : Type 0} (is_code : List ℕ → P → Type 0) (refused : List �
         store = r.store;
       }
 
-      ended : (answer : Answer) (e : b.loader ≡ x.loader) (r : RunEnds (rows program) (limits_of o) answer (with_origin a x) t b) → RunEnded (limits_of o) answer (faults_of a) (faults_of b) (ran answer e r).serial
+      ended : (answer : Answer) (e : b.loader ≡ x.loader)
+          (r : RunEnds (rows program) (limits_of o) answer (with_origin a x) t b) →
+          RunEnded (limits_of o) answer (faults_of a) (faults_of b) (ran answer e r).serial
       unfolding ran
-      ended answer e r = earlier answer (limits_of o) (faults_of a) (faults_of (with_origin a x)) (faults_of b) r.serial (taken_later o.script text (origin a) x taken) refl refl r.ended
+      ended answer e r = earlier answer (limits_of o) (faults_of a) (faults_of (with_origin a x)) (faults_of b)
+          r.serial (taken_later o.script text (origin a) x taken) refl refl r.ended
 
-      caused : (answer : Answer) → b.loader ≡ x.loader → RunEnds (rows program) (limits_of o) answer (with_origin a x) t b → Caused answer
+      caused : (answer : Answer) → b.loader ≡ x.loader → RunEnds (rows program) (limits_of o) answer (with_origin a x)
+          t b → Caused answer
       caused Done e r = (ran Done e r, ended Done e r)
       caused Failed e r = (ran Failed e r, ended Failed e r)
       caused InputFailed e r = inr (ran InputFailed e r, ended InputFailed e r)
       caused OutputFailed e r = (ran OutputFailed e r, ended OutputFailed e r)
       caused ErrorOutputFailed e r = (ran ErrorOutputFailed e r, ended ErrorOutputFailed e r)
-      caused (HeapFull reserved need limit) e r = (ran (HeapFull reserved need limit) e r, ended (HeapFull reserved need limit) e r)
+      caused (HeapFull reserved need limit) e r =
+          (ran (HeapFull reserved need limit) e r, ended (HeapFull reserved need limit) e r)
       caused Stuck e r = (ran Stuck e r, ended Stuck e r)
       caused (BudgetSpent steps) e r = (ran (BudgetSpent steps) e r, ended (BudgetSpent steps) e r)
       caused OutOfMemory e r = inr (ran OutOfMemory e r, ended OutOfMemory e r)
@@ -170,10 +188,12 @@ module _ {P S : Type 0} (is_code : List ℕ → P → Type 0) (refused : List �
 
       threads_ran : (answer : Answer) → ThreadsEnded (rows program) o answer (with_origin a x) t b → Caused answer
       threads_ran answer h = elim h.1 [
-        | inl n ↦ subst (λ z. CausedBy is_code refused rows z o a t b) (sym n.2) (inl (as_before n.0, asks (λ i. record { loader = h.0 i; input = n.1 i })))
+        | inl n ↦ subst (λ z. CausedBy is_code refused rows z o a t b) (sym n.2)
+            (inl (as_before n.0, asks (λ i. record { loader = h.0 i; input = n.1 i })))
         | inr r ↦ caused answer h.0 r
       ]
 
-    pub text_ran : (answer : Answer) → TextEnded is_code refused rows text o answer (with_origin a x) t b → Caused answer
+    pub text_ran : (answer : Answer) → TextEnded is_code refused rows text o answer (with_origin a x) t b →
+        Caused answer
     text_ran answer (inl z) = unmade answer z.1 z.0 z.2
     text_ran answer (inr z) = threads_ran z.0 z.1 answer z.2

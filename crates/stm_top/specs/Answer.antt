@@ -56,14 +56,16 @@ refusal_name (BadEscape line) = codes "bad escape"
 
 abbrev pub refusal_text : Refusal → List ℕ
 refusal_text refusal =
-    codes "pystm: line " ++ signed_decimal (pos (refusal_line refusal)) ++ codes ": refusal " ++ signed_decimal (pos (refusal_number refusal)) ++ codes ": " ++ refusal_name refusal ++ codes "\n"
+    codes "pystm: line " ++ signed_decimal (pos (refusal_line refusal)) ++ codes ": refusal " ++ signed_decimal
+    (pos (refusal_number refusal)) ++ codes ": " ++ refusal_name refusal ++ codes "\n"
 
 abbrev pub spent_text : ℕ → List ℕ
 spent_text steps = codes "pystm: budget spent: " ++ signed_decimal (pos steps) ++ codes " steps\n"
 
 abbrev pub full_text : (reserved need limit : ℕ) → List ℕ
 full_text reserved need limit =
-    codes "pystm: heap full: reserved " ++ signed_decimal (pos reserved) ++ codes ", needed " ++ signed_decimal (pos need) ++ codes ", limit " ++ signed_decimal (pos limit) ++ codes " words\n"
+    codes "pystm: heap full: reserved " ++ signed_decimal (pos reserved) ++ codes ", needed " ++ signed_decimal
+    (pos need) ++ codes ", limit " ++ signed_decimal (pos limit) ++ codes " words\n"
 
 -- what it writes to the error output: a line, or nothing
 abbrev pub text_of : Answer → List ℕ

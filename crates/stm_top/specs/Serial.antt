@@ -1,4 +1,5 @@
--- The headline: what a run of threads leaves is what one interpreter under one lock leaves. States `docs/LANGUAGE.md`, "The top
+-- The headline: what a run of threads leaves is what one interpreter under one lock leaves. States `docs/LANGUAGE.md`,
+-- "The top
 -- call".
 use Rattle.std.specs.Prelude.{◌≡◌, ◌≢◌, ℕ, ◌≤◌, List, Option, Some, slice_get, All, AllPairs}
 use Rattle.py_data.specs.declared.stop.Conflict.{Conflict}
@@ -19,11 +20,15 @@ pub data Ended {S : Type 0} (p : Prog S) (first : Machine S) (history : List Tur
   Whole : told ≡ w → Ended p first history w told
   Cut : (b : Broken) → Broke p first history w told b → Ended p first history w told
 
--- THE HEADLINE. The transactions in the history, run as turns one after another by one interpreter under one lock, from its first
--- state over this input, give `machine`. The outputs are those at entry, and then what that run wrote; where a step broke, and
--- then what a beginning of the next step of one thread writes, a thread that has no later turn. No turn is longer than `length`.
+-- THE HEADLINE. The transactions in the history, run as turns one after another by one interpreter under one lock, from
+-- its first
+-- state over this input, give `machine`. The outputs are those at entry, and then what that run wrote; where a step
+-- broke, and
+-- then what a beginning of the next step of one thread writes, a thread that has no later turn. No turn is longer than
+-- `length`.
 -- Each transaction that was aborted had lost a conflict that stood, once, and was not inevitable.
-pub record Serial {S : Type 0} (p : Prog S) (length : ℕ) (input out err : Option (List ℕ)) (history : List Turn) (conflicts : List Conflict) (input1 out1 err1 : Option (List ℕ)) : Type 0 where
+pub record Serial {S : Type 0} (p : Prog S) (length : ℕ) (input out err : Option (List ℕ)) (history : List Turn)
+    (conflicts : List Conflict) (input1 out1 err1 : Option (List ℕ)) : Type 0 where
   pub machine : Machine S
   pub run : Runs p (begin_with p (first_world input)) history machine
   pub told : World
@@ -37,12 +42,14 @@ pub record Serial {S : Type 0} (p : Prog S) (length : ℕ) (input out err : Opti
 
 -- ---- how it ended
 
-abbrev pub IsWhole : {S : Type 0} {p : Prog S} {first : Machine S} {history : List Turn} {w told : World} → Ended p first history w told → Type 0
+abbrev pub IsWhole : {S : Type 0} {p : Prog S} {first : Machine S} {history : List Turn} {w told : World} →
+    Ended p first history w told → Type 0
 IsWhole (Whole e) = Unit {0}
 IsWhole (Cut b h) = ⊥
 
 -- the step that broke did so in a call of this device
-abbrev pub IsCutBy : {S : Type 0} {p : Prog S} {first : Machine S} {history : List Turn} {w told : World} → Cause → Ended p first history w told → Type 0
+abbrev pub IsCutBy : {S : Type 0} {p : Prog S} {first : Machine S} {history : List Turn} {w told : World} → Cause →
+    Ended p first history w told → Type 0
 IsCutBy e (Whole h) = ⊥
 IsCutBy e (Cut b h) = FaultOf e h.cut.left
 

@@ -58,7 +58,8 @@ pub record HasNoCode (text : List ℕ) (refusal : Refusal) : Type 0 where
 
 -- why it has no program: it has no tokens; or they have no tree; or that has no scopes, or no code
 abbrev pub IsRefused : List ℕ → Refusal → Type 0
-IsRefused text refusal = (tokens_of_text text ≡ Err refusal) ⊎ (HasNoTree text refusal ⊎ (HasNoScopes text refusal ⊎ HasNoCode text refusal))
+IsRefused text refusal = (tokens_of_text text ≡ Err refusal) ⊎
+    (HasNoTree text refusal ⊎ (HasNoScopes text refusal ⊎ HasNoCode text refusal))
 
 -- the cause of each fault of `compile_text`; want of memory is free
 abbrev pub IsFault : List ℕ → TextFault → Type 0

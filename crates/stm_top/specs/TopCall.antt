@@ -29,8 +29,10 @@ pub record Devices : Type 0 where
   pub out : SinkState
   pub err : SinkState
 
-abbrev pub devices_of : {L I O E : Type 0} → (L → LoaderState) → (I → SourceState) → (O → SinkState) → (E → SinkState) → L → I → O → E → Devices
-devices_of loader_of source sink error_sink loader input out err = record { loader = loader_of loader; input = source input; out = sink out; err = error_sink err }
+abbrev pub devices_of : {L I O E : Type 0} → (L → LoaderState) → (I → SourceState) → (O → SinkState) →
+    (E → SinkState) → L → I → O → E → Devices
+devices_of loader_of source sink error_sink loader input out err =
+    record { loader = loader_of loader; input = source input; out = sink out; err = error_sink err }
 
 -- those of them from which a script may come
 abbrev pub origin : Devices → Origin
@@ -48,11 +50,13 @@ bytes_of words = map string_bytes words
 
 -- ---- where threads ran
 
--- how many words a store of so many pages has at most: a store of maps counts no words, whatever the pages, and is never full
+-- how many words a store of so many pages has at most: a store of maps counts no words, whatever the pages, and is
+-- never full
 abbrev pub store_words : ℕ → ℕ
 store_words pages = 18_446_744_073_709_551_615
 
--- what stays the same in a run: the most steps of a turn, the steps at which no turn begins any more, the segments, and the words
+-- what stays the same in a run: the most steps of a turn, the steps at which no turn begins any more, the segments, and
+-- the words
 abbrev pub limits_of : Options → Limits
 limits_of o = record { length = o.length; budget = o.budget; segments = o.segments; words = store_words o.pages }
 
@@ -75,16 +79,19 @@ abbrev pub faults_of : Devices → Faults
 faults_of d = record { input = d.input.faults; out = d.out.faults; err = d.err.faults }
 
 -- why a run came to its end, with the counts of failures before it and after it
-abbrev pub RunEnded : {S : Type 0} {p : Prog S} {length : ℕ} {input out err : Option (List ℕ)} {history : List Turn} {conflicts : List Conflict} {input1 out1 err1 : Option (List ℕ)} → Limits → Answer → Faults → Faults
+abbrev pub RunEnded : {S : Type 0} {p : Prog S} {length : ℕ} {input out err : Option (List ℕ)} {history : List Turn}
+    {conflicts : List Conflict} {input1 out1 err1 : Option (List ℕ)} → Limits → Answer → Faults → Faults
     → Serial p length input out err history conflicts input1 out1 err1 → Type 0
 RunEnded {p = p} l Done a b r = IsWhole r.ended × IsDone p r.machine × (FirstFailed p r.machine → ⊥)
 RunEnded {p = p} l Failed a b r = IsWhole r.ended × IsDone p r.machine × FirstFailed p r.machine
 RunEnded l InputFailed a b r = IsCutBy ReadFault r.ended × Rose a.input b.input
 RunEnded l OutputFailed a b r = IsCutBy WriteFault r.ended × Rose a.out b.out
 RunEnded l ErrorOutputFailed a b r = IsCutBy ErrFault r.ended × Rose a.err b.err
-RunEnded {p = p} l (HeapFull reserved need limit) a b r = SomeLives p r.machine × (limit ≡ l.words) × (limit < reserved + need)
+RunEnded {p = p} l (HeapFull reserved need limit) a b r =
+    SomeLives p r.machine × (limit ≡ l.words) × (limit < reserved + need)
 RunEnded {p = p} l Stuck a b r = IsWhole r.ended × IsStuck p r.machine
-RunEnded {p = p} {history = history} l (BudgetSpent steps) a b r = IsWhole r.ended × IsSpent p l.budget history r.machine × (steps ≡ steps_done history)
+RunEnded {p = p} {history = history} l (BudgetSpent steps) a b r =
+    IsWhole r.ended × IsSpent p l.budget history r.machine × (steps ≡ steps_done history)
 RunEnded {p = p} l OutOfMemory a b r = SomeLives p r.machine
 RunEnded l _ a b r = ⊥
 
@@ -108,9 +115,11 @@ pub record TextPut (text : List ℕ) (before now : SinkState) : Type 0 where
   pub puts : Puts before.told text result now.told
   pub cause : PutCause before.faults now.faults result
 
--- P: programs; `is_code` says which program a text has, `refused` why it has none, and `rows` what a program's threads do
+-- P: programs; `is_code` says which program a text has, `refused` why it has none, and `rows` what a program's threads
+-- do
 module _ {P S : Type 0} (is_code : List ℕ → P → Type 0) (refused : List ℕ → Refusal → Type 0) (rows : P → Prog S) where
-  -- A script was taken that has a program, and transactions of its threads ran. The report's store has the heap that the history
+  -- A script was taken that has a program, and transactions of its threads ran. The report's store has the heap that
+  -- the history
   -- gives.
   pub record Ran (o : Options) (a : Devices) (t : Told) (b : Devices) : Type 0 where
     pub text : List ℕ
@@ -118,7 +127,8 @@ module _ {P S : Type 0} (is_code : List ℕ → P → Type 0) (refused : List �
     pub taken : Taken o.script text (origin a) (record { loader = b.loader; input = source })
     pub program : P
     pub is : is_code text program
-    pub serial : Serial (rows program) o.length source.told a.out.told a.err.told t.history t.conflicts b.input.told b.out.told b.err.told
+    pub serial : Serial (rows program) o.length source.told a.out.told a.err.told t.history t.conflicts b.input.told
+        b.out.told b.err.told
     pub store : IsLeft (limits_of o) serial.machine.heap t.store
 
   -- and the run came to its end so
@@ -128,11 +138,14 @@ module _ {P S : Type 0} (is_code : List ℕ → P → Type 0) (refused : List �
   -- the cause of each answer, with these options
   abbrev pub CausedBy : Answer → Options → Devices → Told → Devices → Type 0
   CausedBy Usage o a t b = ⊥
-  CausedBy (Refused refusal) o a t b = NothingRan a t b × (text : List ℕ) × Taken o.script text (origin a) (origin b) × refused text refusal
+  CausedBy (Refused refusal) o a t b = NothingRan a t b × (text : List ℕ) × Taken o.script text (origin a) (origin b) ×
+      refused text refusal
   CausedBy LoaderFailed o a t b = NothingRan a t b × NotLoaded o.script (origin a) (origin b)
   CausedBy ScriptTooLong o a t b = NothingRan a t b × TooLong o.script (origin a) (origin b)
-  CausedBy InputFailed o a t b = (NothingRan a t b × NotTaken o.script (origin a) (origin b)) ⊎ RanTo InputFailed o a t b
-  CausedBy OutOfMemory o a t b = (NothingRan a t b × AskedAtMost o.script (origin a) (origin b)) ⊎ RanTo OutOfMemory o a t b
+  CausedBy InputFailed o a t b = (NothingRan a t b × NotTaken o.script (origin a) (origin b)) ⊎ RanTo InputFailed o a t
+      b
+  CausedBy OutOfMemory o a t b = (NothingRan a t b × AskedAtMost o.script (origin a) (origin b)) ⊎ RanTo OutOfMemory o
+      a t b
   CausedBy answer o a t b = RanTo answer o a t b
 
   -- the words give options, and with them the answer has its cause
@@ -146,7 +159,8 @@ module _ {P S : Type 0} (is_code : List ℕ → P → Type 0) (refused : List �
   Caused answer words a t b = CausedWith answer words a t b
 
   -- What a call answers: its status, its cause, and its text, which was put to the error output last.
-  pub record Answered (words : List (List ℕ)) (a : Devices) (status : Status) (text : List ℕ) (t : Told) (b : Devices) : Type 0 where
+  pub record Answered (words : List (List ℕ)) (a : Devices) (status : Status) (text : List ℕ) (t : Told)
+      (b : Devices) : Type 0 where
     pub answer : Answer
     pub is : status ≡ status_of answer
     pub err_before : SinkState

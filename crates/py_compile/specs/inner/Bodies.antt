@@ -15,7 +15,14 @@ use Rattle.py_compile.specs.inner.Tallies.{Tally}
 
 -- what the body with that number knows of names, where these were used
 abbrev pub known_by : List (List ℕ) → Tally → ℕ → Bool → Known
-known_by locals t b is_class = record { is_class = is_class; locals = locals; texts = t.texts; cells = t.cells; keys = get_or t.keys b [] }
+known_by locals t b is_class = record {
+  is_class = is_class;
+  locals = locals;
+  texts = t.texts;
+  cells = t.cells;
+  keys =
+      get_or t.keys b [];
+}
 
 abbrev pub known_in : List (List (List ℕ)) → Tally → ℕ → Body → Known
 known_in locals t b y = known_by (get_or locals b []) t b y.is_class

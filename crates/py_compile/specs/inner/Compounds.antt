@@ -18,13 +18,16 @@ otherwise x = other (stated_some x)
 
 module _ (n : Known) (c : List Around) (f : ℕ) where
   abbrev pub if_code : List Arm → Option Clause → Piece
-  if_code as' e = all_arms 0 (armed (stated_arms as') n c f) ((otherwise e).code n c (f + armed_count (stated_arms as')))
+  if_code as' e = all_arms 0 (armed (stated_arms as') n c f)
+      ((otherwise e).code n c (f + armed_count (stated_arms as')))
 
   abbrev pub while_code : Arm → Option Clause → Piece
-  while_code a e = while a.line (value n a.line a.test) ((stated_block a.body).code n (InWhile ∷ c) f) ((otherwise e).code n c (f + count (all_stated a.body)))
+  while_code a e = while a.line (value n a.line a.test) ((stated_block a.body).code n (InWhile ∷ c) f)
+      ((otherwise e).code n c (f + count (all_stated a.body)))
 
   abbrev pub for_code : ℕ → Expr → Expr → List Stmt → Option Clause → Piece
-  for_code ln t x ss e = for ln (stored n ln t) (value n ln x) ((stated_block ss).code n (InFor ∷ c) f) ((otherwise e).code n c (f + count (all_stated ss)))
+  for_code ln t x ss e = for ln (stored n ln t) (value n ln x) ((stated_block ss).code n (InFor ∷ c) f)
+      ((otherwise e).code n c (f + count (all_stated ss)))
 
 -- a `try` without its finally
 abbrev pub tried_of : Clause → List Handler → Option Clause → Stated
@@ -32,4 +35,6 @@ tried_of t hs e = tried (stated_clause t) (stated_handlers hs) (otherwise e)
 
 -- the code of a `try` with its finally
 abbrev pub finally_code : Known → List Around → ℕ → Clause → List Handler → Option Clause → Clause → Piece
-finally_code n c f t hs e d = try_finally t.line ((tried_of t hs e).code n (InFinally ((stated_block d.body).code n c (f + (tried_of t hs e).bodies)) ∷ c) f) ((stated_block d.body).code n c (f + (tried_of t hs e).bodies))
+finally_code n c f t hs e d = try_finally t.line
+    ((tried_of t hs e).code n (InFinally ((stated_block d.body).code n c (f + (tried_of t hs e).bodies)) ∷ c) f)
+    ((stated_block d.body).code n c (f + (tried_of t hs e).bodies))

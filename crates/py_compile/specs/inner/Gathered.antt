@@ -6,7 +6,14 @@ use Rattle.py_compile.specs.Statements.{Body, stated_block}
 
 -- a body with that number
 abbrev pub body_of : ℕ → DeclaredBody → Body
-body_of f y = record { line = y.line; name = y.name.now; is_class = y.is_class; params = y.params; block = λ n. (stated_block y.block.now).code n [] (f + 1) }
+body_of f y = record {
+  line = y.line;
+  name = y.name.now;
+  is_class = y.is_class;
+  params = y.params;
+  block = λ n.
+      (stated_block y.block.now).code n [] (f + 1);
+}
 
 -- bodies that are numbered from f on
 abbrev pub numbered : ℕ → List DeclaredBody → List Body

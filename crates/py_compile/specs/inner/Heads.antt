@@ -27,7 +27,10 @@ handler_size n ln (Some x) t = (value n ln x).size + 3 + target_size n ln t
 -- a clause that catches all has no label
 abbrev pub HandlerHead : Known → ℕ → Option Expr → Option Expr → ℕ → Option ℕ → St → St → Type 0
 HandlerHead n ln None t slot None e m = e ≡ m
-HandlerHead n ln (Some x) t slot (Some next) e m = (next ≡ length e.labels) × (next < length m.labels) × ((base : ℕ) (env : List ℕ → List Frame) → Puts ln next (λ ls. frame_there next 1 0 ls ∷ frame_there base 2 slot ls ∷ env ls) (Hidden 1 LoadLocal ∷ Alone (value n ln x) ∷ Op ExcMatch ∷ To 0 JumpFalse 0 ∷ target_parts n ln t) (opened e 1 0) m)
+HandlerHead n ln (Some x) t slot (Some next) e m = (next ≡ length e.labels) × (next < length m.labels) ×
+    ((base : ℕ) (env : List ℕ → List Frame) →
+    Puts ln next (λ ls. frame_there next 1 0 ls ∷ frame_there base 2 slot ls ∷ env ls)
+    (Hidden 1 LoadLocal ∷ Alone (value n ln x) ∷ Op ExcMatch ∷ To 0 JumpFalse 0 ∷ target_parts n ln t) (opened e 1 0) m)
 HandlerHead n ln _ t slot _ e m = ⊥
 
 abbrev pub HandlerTail : ℕ → Option ℕ → ℕ → St → St → Type 0

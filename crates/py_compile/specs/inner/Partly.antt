@@ -11,7 +11,8 @@ module _ (line base : ℕ) (env : List ℕ → List Frame) where
   abbrev pub IsPut : Part → St → St → Type 0
   IsPut (Op i) e m = m ≡ put e line (DraftOp i)
   IsPut (Hidden d j) e m = (s : ℕ) × ((ls : List ℕ) → slot_at (env ls) d ≡ s) × (m ≡ put e line (DraftOp (j s)))
-  IsPut (To d j l) e m = (f : Far) × (x : ℕ) × ((q : ℕ) → jump_of f q ≡ j q) × ((ls : List ℕ) → label_at (env ls) d l ≡ get_or ls x 0) × (m ≡ put e line (DraftTo f x))
+  IsPut (To d j l) e m = (f : Far) × (x : ℕ) × ((q : ℕ) → jump_of f q ≡ j q) ×
+      ((ls : List ℕ) → label_at (env ls) d l ≡ get_or ls x 0) × (m ≡ put e line (DraftTo f x))
   IsPut (Here l) e m = m ≡ marked e (number base l)
   IsPut (Alone b) e m = Emitted e m b no_frames
   IsPut (Sub d b) e m = Emitted e m b (λ ls. drop d (env ls))

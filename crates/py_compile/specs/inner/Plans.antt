@@ -46,16 +46,20 @@ plan_step (open'.Delete ln ts) n c = deletion ln (all_deleted n ln (map (λ x. x
 plan_step (open'.Def ln x ps f) n c = def ln (values n ln (defaults ps.now)) f (home n x.now)
 plan_step (open'.Class ln x b f) n c = class ln (base n ln b.now) f (home n x.now)
 plan_step (open'.If as' e) n c = all_arms 0 (each as' n c) (row (each e n c))
-plan_step (open'.While a ps e) n c = while a.now.line (value n a.now.line a.now.test) (row (each ps n (InWhile ∷ c))) (row (each e n c))
-plan_step (open'.For ln t x ps e) n c = for ln (stored n ln t.now) (value n ln x.now) (row (each ps n (InFor ∷ c))) (row (each e n c))
+plan_step (open'.While a ps e) n c = while a.now.line (value n a.now.line a.now.test) (row (each ps n (InWhile ∷ c)))
+    (row (each e n c))
+plan_step (open'.For ln t x ps e) n c = for ln (stored n ln t.now) (value n ln x.now) (row (each ps n (InFor ∷ c)))
+    (row (each e n c))
 plan_step (open'.Try ln ps hs e) n c = try_except ln (row (each ps n (InTry ∷ c))) (each hs n c) (row (each e n c))
-plan_step (open'.Finally ln ps d) n c = try_finally ln (row (each ps n (InFinally (row (each d n c)) ∷ c))) (row (each d n c))
+plan_step (open'.Finally ln ps d) n c = try_finally ln (row (each ps n (InFinally (row (each d n c)) ∷ c)))
+    (row (each d n c))
 
 abbrev pub arm_step : open'.PlanArm-F Coded Coded Coded → Coded
 arm_step a n c = arm a.arm.now.line (value n a.arm.now.line a.arm.now.test) (row (each a.body n c))
 
 abbrev pub handler_step : open'.PlanHandler-F Coded Coded Coded → Coded
-handler_step h n c = clause n h.handler.now.line h.handler.now.test h.handler.now.target (row (each h.body n (InClause ∷ c)))
+handler_step h n c = clause n h.handler.now.line h.handler.now.test h.handler.now.target
+    (row (each h.body n (InClause ∷ c)))
 
 unfoldable pub planned : Plan → Coded
 planned = fold-Plan Coded Coded Coded plan_step arm_step handler_step
@@ -73,7 +77,8 @@ planned_arms [] n c = []
 planned_arms (a ∷ as') n c = planned_arm a n c ∷ planned_arms as' n c
 
 abbrev pub planned_handler : PlanHandler → Coded
-planned_handler h n c = clause n h.handler.now.line h.handler.now.test h.handler.now.target (row (planned_all h.body n (InClause ∷ c)))
+planned_handler h n c = clause n h.handler.now.line h.handler.now.test h.handler.now.target
+    (row (planned_all h.body n (InClause ∷ c)))
 
 abbrev pub planned_handlers : List PlanHandler → Known → List Around → List Piece
 planned_handlers [] n c = []
@@ -105,4 +110,5 @@ ArePlans ps g = (n : Known) (c : List Around) → planned_block ps n c ≡ g n c
 
 -- the new plans have the code of the old ones and then that code
 abbrev pub AddPlans : List Plan → List Plan → Coded → Type 0
-AddPlans old new g = (n : Known) (c : List Around) (more : List Piece) → row (planned_all new n c ++ more) ≡ row (planned_all old n c ++ g n c ∷ more)
+AddPlans old new g = (n : Known) (c : List Around) (more : List Piece) →
+    row (planned_all new n c ++ more) ≡ row (planned_all old n c ++ g n c ∷ more)

@@ -23,11 +23,23 @@ abbrev pub put : St → ℕ → Draft → St
 put e line d = record { code = e.code ++ d ∷ []; lines = e.lines ++ line ∷ []; labels = e.labels; slots = e.slots }
 
 abbrev pub marked : St → ℕ → St
-marked e l = record { code = e.code; lines = e.lines; labels = slice_set e.labels l (Some (length e.code)); slots = e.slots }
+marked e l = record {
+  code = e.code;
+  lines = e.lines;
+  labels = slice_set e.labels l (Some (length e.code));
+  slots =
+      e.slots;
+}
 
 -- a template with so many labels and hidden slots begins
 abbrev pub opened : St → ℕ → ℕ → St
-opened e count own = record { code = e.code; lines = e.lines; labels = e.labels ++ replicate count None; slots = e.slots + own }
+opened e count own = record {
+  code = e.code;
+  lines = e.lines;
+  labels = e.labels ++ replicate count None;
+  slots =
+      e.slots + own;
+}
 
 abbrev pub jump_of : Far → ℕ → Instr
 jump_of Always q = Jump q
@@ -72,7 +84,8 @@ pub record Emitted (e0 e1 : St) (b : Piece) (env : List ℕ → List Frame) : Ty
   pub lines : e1.lines ≡ e0.lines ++ b.lines
   pub more : length e0.labels ≤ length e1.labels
   pub kept : (l : ℕ) → l < length e0.labels → get_or e1.labels l None ≡ get_or e0.labels l None
-  pub code : (ls : List ℕ) → Agree e1.labels ls → done ls e1.code ≡ done ls e0.code ++ b.code (env ls) (length e0.code) e0.slots
+  pub code : (ls : List ℕ) → Agree e1.labels ls → done ls e1.code ≡ done ls e0.code ++ b.code (env ls) (length e0.code)
+      e0.slots
 
 -- the places of the labels; 0 where one stands nowhere
 abbrev pub places_of : List (Option ℕ) → List ℕ

@@ -79,8 +79,12 @@ module _ (n : Known) (ln : ℕ) where
   Runs (Pairs ps) e m = Emitted e m (row (pairs n ln ps)) no_frames
   Runs (Keys ks) e m = Emitted e m (row (key_values n ln ks)) no_frames
   Runs (Links ls) e m = Emitted e m (row (links ln (linked n ln ls))) no_frames
-  Runs (Kept f l a ls) e m = (k : St) × Emitted e k (row (deciding f a ls)) (λ places. frame_there l 1 0 places ∷ []) × Emitted k m (deciding_last a ls) no_frames
-  Runs (Between f x ls) e m = (l : ℕ) → f ≡ l + 1 → (j : St) × (k : St) × Emitted e j (row (betweens ln (linked_one x) (linked n ln ls))) (λ places. frame_there l 2 0 places ∷ []) × Emitted j k (last_link (linked_one x) (linked n ln ls)).1 no_frames × (m ≡ put k ln (DraftOp (Compare (last_link (linked_one x) (linked n ln ls)).0)))
+  Runs (Kept f l a ls) e m = (k : St) × Emitted e k (row (deciding f a ls)) (λ places. frame_there l 1 0 places ∷ []) ×
+      Emitted k m (deciding_last a ls) no_frames
+  Runs (Between f x ls) e m = (l : ℕ) → f ≡ l + 1 →
+      (j : St) × (k : St) × Emitted e j (row (betweens ln (linked_one x) (linked n ln ls)))
+      (λ places. frame_there l 2 0 places ∷ []) × Emitted j k (last_link (linked_one x) (linked n ln ls)).1 no_frames ×
+      (m ≡ put k ln (DraftOp (Compare (last_link (linked_one x) (linked n ln ls)).0)))
   Runs (Store x) e m = Emitted e m (stored n ln x) no_frames
   Runs (Stores xs) e m = Emitted e m (row (all_stored n ln xs)) no_frames
   Runs (Delete x) e m = Emitted e m (deleted n ln x) no_frames
@@ -104,7 +108,8 @@ module _ (n : Known) (ln : ℕ) where
   size (Keys ks) = (row (key_values n ln ks)).size
   size (Links ls) = (row (links ln (linked n ln ls))).size
   size (Kept f l a ls) = (row (deciding f a ls)).size + (deciding_last a ls).size
-  size (Between l x ls) = (row (betweens ln (linked_one x) (linked n ln ls))).size + ((last_link (linked_one x) (linked n ln ls)).1.size + 1)
+  size (Between l x ls) = (row (betweens ln (linked_one x) (linked n ln ls))).size +
+      ((last_link (linked_one x) (linked n ln ls)).1.size + 1)
   size (Store x) = (stored n ln x).size
   size (Stores xs) = (row (all_stored n ln xs)).size
   size (Delete x) = (deleted n ln x).size

@@ -37,25 +37,30 @@ answer_to cause.WriteFault = OutputFailed
 answer_to cause.ErrFault = ErrorOutputFailed
 answer_to cause.OutOfMemory = OutOfMemory
 
--- What is told of a run, by how it stands and whether thread 0 failed. A run that could go on ended for want of memory, or of
+-- What is told of a run, by how it stands and whether thread 0 failed. A run that could go on ended for want of memory,
+-- or of
 -- numbers.
 abbrev pub AnswerTo : RunState → Bool → List Turn → Answer → Type 0
 AnswerTo state.Done false history answer = answer ≡ Done
 AnswerTo state.Done true history answer = answer ≡ Failed
 AnswerTo state.Stuck failed history answer = answer ≡ Stuck
-AnswerTo state.Spent failed history answer = ((steps : ℕ) × (answer ≡ BudgetSpent steps) × (steps ≡ steps_done history)) ⊎ (answer ≡ OutOfMemory)
+AnswerTo state.Spent failed history answer =
+    ((steps : ℕ) × (answer ≡ BudgetSpent steps) × (steps ≡ steps_done history)) ⊎ (answer ≡ OutOfMemory)
 AnswerTo state.Running failed history answer = answer ≡ OutOfMemory
 AnswerTo (state.Faulted e) failed history answer = answer ≡ answer_to e
 
 -- threads ran over these devices, and came to their end
-pub record RunEnds {S : Type 0} (p : Prog S) (l : Limits) (answer : Answer) (a : Devices) (t : Told) (b : Devices) : Type 0 where
-  pub serial : Serial p l.length a.input.told a.out.told a.err.told t.history t.conflicts b.input.told b.out.told b.err.told
+pub record RunEnds {S : Type 0} (p : Prog S) (l : Limits) (answer : Answer) (a : Devices) (t : Told)
+    (b : Devices) : Type 0 where
+  pub serial : Serial p l.length a.input.told a.out.told a.err.told t.history t.conflicts b.input.told b.out.told
+      b.err.told
   pub store : IsLeft l serial.machine.heap t.store
   pub ended : RunEnded l answer (faults_of a) (faults_of b) serial
 
 -- there was no memory for the core, or the threads ran; the loader was left alone
 abbrev pub ThreadsEnded : {S : Type 0} → Prog S → Options → Answer → Devices → Told → Devices → Type 0
-ThreadsEnded p o answer a t b = (b.loader ≡ a.loader) × ((NothingRan a t b × (b.input ≡ a.input) × (answer ≡ OutOfMemory)) ⊎ RunEnds p (limits_of o) answer a t b)
+ThreadsEnded p o answer a t b = (b.loader ≡ a.loader) ×
+    ((NothingRan a t b × (b.input ≡ a.input) × (answer ≡ OutOfMemory)) ⊎ RunEnds p (limits_of o) answer a t b)
 
 module _ {P S : Type 0} (is_code : List ℕ → P → Type 0) (refused : List ℕ → Refusal → Type 0) (rows : P → Prog S) where
   -- why a text has no program; want of memory is free
@@ -66,4 +71,5 @@ module _ {P S : Type 0} (is_code : List ℕ → P → Type 0) (refused : List �
 
   -- a text: it has no program, or its program's threads came to their end
   abbrev pub TextEnded : List ℕ → Options → Answer → Devices → Told → Devices → Type 0
-  TextEnded text o answer a t b = (NothingRan a t b × NothingTaken a b × NoProgram text answer) ⊎ ((program : P) × is_code text program × ThreadsEnded (rows program) o answer a t b)
+  TextEnded text o answer a t b = (NothingRan a t b × NothingTaken a b × NoProgram text answer) ⊎
+      ((program : P) × is_code text program × ThreadsEnded (rows program) o answer a t b)

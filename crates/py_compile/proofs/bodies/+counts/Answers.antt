@@ -19,7 +19,8 @@ bodies_in-bodies_in_block-requires-in-Try t c =
 
 pub bodies_in-returns-in_ok-n-in-Try : goal.bodies_in-returns-in_ok-n-in-Try
 bodies_in-returns-in_ok-n-in-Try t c =
-    let e = ap (λ z. (stated z).bodies) c.in-Try.is ∙ bodies_try c.in-Try.block c.in-Try.handlers c.in-Try.other c.in-Try.last in
+    let e = ap (λ z. (stated z).bodies) c.in-Try.is ∙ bodies_try c.in-Try.block c.in-Try.handlers c.in-Try.other
+    c.in-Try.last in
     let f = ap (λ z. z.bodies) c.clause_body-in-Try.ensures.same in
     let g = rw c.as_slice-in-Try.ensures at c.in_ok-a-in-Try.ensures in
     let h = c.in_ok-b-in-Try.ensures in

@@ -22,35 +22,65 @@ gather_one-gather-requires-in-Try t c =
 
 pub gather_one-returns-in_ok-gather-in-If-clause-bodies : goal.gather_one-returns-in_ok-gather-in-If-clause-bodies
 gather_one-returns-in_ok-gather-in-If-clause-bodies t c =
-    two (numbered 0 c.args.out.now) _ _ (armed_inner (stated_arms c.in-If.arms) (length c.args.out.now)) (inners (all_stated c.clause_body.result.now)) (length c.args.out.now) _ (armed_count (stated_arms c.in-If.arms)) (rw c.as_slice.ensures at c.in_ok-gather_arms-in-If.ensures.bodies) (rw c.as_slice.ensures at c.in_ok-gather_arms-in-If.ensures.more) c.in_ok-gather-in-If.ensures.bodies
-    ∙ ap (λ z. numbered 0 c.args.out.now ++ (armed_inner (stated_arms c.in-If.arms) (length c.args.out.now) ++ z.inner (length c.args.out.now + armed_count (stated_arms c.in-If.arms)))) (sym c.clause_body.ensures.same)
-    ∙ ap (λ z. numbered 0 c.args.out.now ++ z.inner (length c.args.out.now)) (sym (stated_if c.in-If.arms c.in-If.other))
+    two (numbered 0 c.args.out.now) _ _ (armed_inner (stated_arms c.in-If.arms) (length c.args.out.now))
+    (inners (all_stated c.clause_body.result.now)) (length c.args.out.now) _
+    (armed_count (stated_arms c.in-If.arms)) (rw c.as_slice.ensures at c.in_ok-gather_arms-in-If.ensures.bodies)
+    (rw c.as_slice.ensures at c.in_ok-gather_arms-in-If.ensures.more) c.in_ok-gather-in-If.ensures.bodies
+    ∙ ap (λ z. numbered 0 c.args.out.now ++
+    (armed_inner (stated_arms c.in-If.arms) (length c.args.out.now) ++ z.inner
+    (length c.args.out.now + armed_count (stated_arms c.in-If.arms)))) (sym c.clause_body.ensures.same)
+    ∙ ap (λ z. numbered 0 c.args.out.now ++ z.inner (length c.args.out.now))
+    (sym (stated_if c.in-If.arms c.in-If.other))
     ∙ ap (λ z. numbered 0 c.args.out.now ++ (stated z).inner (length c.args.out.now)) (sym c.in-If.is)
 
-pub gather_one-returns-in_ok-gather-in-While-2-clause-bodies : goal.gather_one-returns-in_ok-gather-in-While-2-clause-bodies
+pub gather_one-returns-in_ok-gather-in-While-2-clause-bodies :
+    goal.gather_one-returns-in_ok-gather-in-While-2-clause-bodies
 gather_one-returns-in_ok-gather-in-While-2-clause-bodies t c =
-    two (numbered 0 c.args.out.now) _ _ (inners (all_stated c.in-While.arm.body) (length c.args.out.now)) (inners (all_stated c.clause_body-in-While.result.now)) (length c.args.out.now) _ (count (all_stated c.in-While.arm.body)) (rw c.as_slice-in-While.ensures at c.in_ok-gather-in-While.ensures.bodies) (rw c.as_slice-in-While.ensures at c.in_ok-gather-in-While.ensures.more) c.in_ok-gather-in-While-2.ensures.bodies
-    ∙ ap (λ z. numbered 0 c.args.out.now ++ (inners (all_stated c.in-While.arm.body) (length c.args.out.now) ++ z.inner (length c.args.out.now + count (all_stated c.in-While.arm.body)))) (sym c.clause_body-in-While.ensures.same)
-    ∙ ap (λ z. numbered 0 c.args.out.now ++ z.inner (length c.args.out.now)) (sym (stated_while c.in-While.arm c.in-While.other))
+    two (numbered 0 c.args.out.now) _ _ (inners (all_stated c.in-While.arm.body) (length c.args.out.now))
+    (inners (all_stated c.clause_body-in-While.result.now)) (length c.args.out.now) _
+    (count (all_stated c.in-While.arm.body))
+    (rw c.as_slice-in-While.ensures at c.in_ok-gather-in-While.ensures.bodies)
+    (rw c.as_slice-in-While.ensures at c.in_ok-gather-in-While.ensures.more)
+    c.in_ok-gather-in-While-2.ensures.bodies
+    ∙ ap (λ z. numbered 0 c.args.out.now ++
+    (inners (all_stated c.in-While.arm.body) (length c.args.out.now) ++ z.inner
+    (length c.args.out.now + count (all_stated c.in-While.arm.body)))) (sym c.clause_body-in-While.ensures.same)
+    ∙ ap (λ z. numbered 0 c.args.out.now ++ z.inner (length c.args.out.now))
+    (sym (stated_while c.in-While.arm c.in-While.other))
     ∙ ap (λ z. numbered 0 c.args.out.now ++ (stated z).inner (length c.args.out.now)) (sym c.in-While.is)
 
 pub gather_one-returns-in_ok-gather-in-For-2-clause-bodies : goal.gather_one-returns-in_ok-gather-in-For-2-clause-bodies
 gather_one-returns-in_ok-gather-in-For-2-clause-bodies t c =
-    two (numbered 0 c.args.out.now) _ _ (inners (all_stated c.in-For.body) (length c.args.out.now)) (inners (all_stated c.clause_body-in-For.result.now)) (length c.args.out.now) _ (count (all_stated c.in-For.body)) (rw c.as_slice-in-For.ensures at c.in_ok-gather-in-For.ensures.bodies) (rw c.as_slice-in-For.ensures at c.in_ok-gather-in-For.ensures.more) c.in_ok-gather-in-For-2.ensures.bodies
-    ∙ ap (λ z. numbered 0 c.args.out.now ++ (inners (all_stated c.in-For.body) (length c.args.out.now) ++ z.inner (length c.args.out.now + count (all_stated c.in-For.body)))) (sym c.clause_body-in-For.ensures.same)
-    ∙ ap (λ z. numbered 0 c.args.out.now ++ z.inner (length c.args.out.now)) (sym (stated_for c.in-For.field-0 c.in-For.field-1 c.in-For.field-2 c.in-For.body c.in-For.other))
+    two (numbered 0 c.args.out.now) _ _ (inners (all_stated c.in-For.body) (length c.args.out.now))
+    (inners (all_stated c.clause_body-in-For.result.now)) (length c.args.out.now) _
+    (count (all_stated c.in-For.body)) (rw c.as_slice-in-For.ensures at c.in_ok-gather-in-For.ensures.bodies)
+    (rw c.as_slice-in-For.ensures at c.in_ok-gather-in-For.ensures.more) c.in_ok-gather-in-For-2.ensures.bodies
+    ∙ ap (λ z. numbered 0 c.args.out.now ++
+    (inners (all_stated c.in-For.body) (length c.args.out.now) ++ z.inner
+    (length c.args.out.now + count (all_stated c.in-For.body)))) (sym c.clause_body-in-For.ensures.same)
+    ∙ ap (λ z. numbered 0 c.args.out.now ++ z.inner (length c.args.out.now))
+    (sym (stated_for c.in-For.field-0 c.in-For.field-1 c.in-For.field-2 c.in-For.body c.in-For.other))
     ∙ ap (λ z. numbered 0 c.args.out.now ++ (stated z).inner (length c.args.out.now)) (sym c.in-For.is)
 
 pub gather_one-returns-in_ok-gather-in-Try-clause-bodies : goal.gather_one-returns-in_ok-gather-in-Try-clause-bodies
 gather_one-returns-in_ok-gather-in-Try-clause-bodies t c =
-    two (numbered 0 c.args.out.now) _ _ ((tried_of c.in-Try.block c.in-Try.handlers c.in-Try.other).inner (length c.args.out.now)) (inners (all_stated c.clause_body-in-Try.result.now)) (length c.args.out.now) _ ((tried_of c.in-Try.block c.in-Try.handlers c.in-Try.other).bodies) (rw c.as_slice-in-Try.ensures at c.in_ok-gather_try-in-Try.ensures.bodies) (rw c.as_slice-in-Try.ensures at c.in_ok-gather_try-in-Try.ensures.more) c.in_ok-gather-in-Try.ensures.bodies
-    ∙ ap (λ z. numbered 0 c.args.out.now ++ ((tried_of c.in-Try.block c.in-Try.handlers c.in-Try.other).inner (length c.args.out.now) ++ z.inner (length c.args.out.now + (tried_of c.in-Try.block c.in-Try.handlers c.in-Try.other).bodies))) (sym c.clause_body-in-Try.ensures.same)
-    ∙ ap (λ z. numbered 0 c.args.out.now ++ z) (sym (inner_try c.in-Try.block c.in-Try.handlers c.in-Try.other c.in-Try.last (length c.args.out.now)))
+    two (numbered 0 c.args.out.now) _ _ ((tried_of c.in-Try.block c.in-Try.handlers c.in-Try.other).inner
+    (length c.args.out.now)) (inners (all_stated c.clause_body-in-Try.result.now)) (length c.args.out.now) _
+    ((tried_of c.in-Try.block c.in-Try.handlers c.in-Try.other).bodies)
+    (rw c.as_slice-in-Try.ensures at c.in_ok-gather_try-in-Try.ensures.bodies)
+    (rw c.as_slice-in-Try.ensures at c.in_ok-gather_try-in-Try.ensures.more) c.in_ok-gather-in-Try.ensures.bodies
+    ∙ ap (λ z. numbered 0 c.args.out.now ++
+    ((tried_of c.in-Try.block c.in-Try.handlers c.in-Try.other).inner (length c.args.out.now) ++ z.inner
+    (length c.args.out.now + (tried_of c.in-Try.block c.in-Try.handlers c.in-Try.other).bodies)))
+    (sym c.clause_body-in-Try.ensures.same)
+    ∙ ap (λ z. numbered 0 c.args.out.now ++ z)
+    (sym (inner_try c.in-Try.block c.in-Try.handlers c.in-Try.other c.in-Try.last (length c.args.out.now)))
     ∙ ap (λ z. numbered 0 c.args.out.now ++ (stated z).inner (length c.args.out.now)) (sym c.in-Try.is)
 
 pub gather_one-returns-in_ok-gather-in-Try-clause-more : goal.gather_one-returns-in_ok-gather-in-Try-clause-more
 gather_one-returns-in_ok-gather-in-Try-clause-more t c =
-    let e = ap (λ z. (stated z).bodies) c.in-Try.is ∙ bodies_try c.in-Try.block c.in-Try.handlers c.in-Try.other c.in-Try.last in
+    let e = ap (λ z. (stated z).bodies) c.in-Try.is ∙ bodies_try c.in-Try.block c.in-Try.handlers c.in-Try.other
+    c.in-Try.last in
     let f = ap (λ z. z.bodies) c.clause_body-in-Try.ensures.same in
     let g = rw c.as_slice-in-Try.ensures at c.in_ok-gather_try-in-Try.ensures.more in
     let h = c.in_ok-gather-in-Try.ensures.more in
@@ -58,10 +88,26 @@ gather_one-returns-in_ok-gather-in-Try-clause-more t c =
 
 pub gather_one-returns-in_ok-gather-in-Def-clause-bodies : goal.gather_one-returns-in_ok-gather-in-Def-clause-bodies
 gather_one-returns-in_ok-gather-in-Def-clause-bodies t c =
-    rw (c.in-Def.is, stated_def c.in-Def.line c.in-Def.name c.in-Def.params c.in-Def.body, ← c.as_slice-body.ensures, ← c.as_slice-in-Def.ensures, ← c.len.ensures, ← c.in_ok-params-in-Def.ensures.same)
-    (two (numbered 0 c.args.out.now) _ _ (_ ∷ []) (inners (all_stated c.as_slice-body.result.now)) (length c.args.out.now) _ 1 c.in_ok-add-in-Def.ensures.bodies c.in_ok-add-in-Def.ensures.more c.in_ok-gather-in-Def.ensures.bodies)
+    rw (
+      c.in-Def.is,
+      stated_def c.in-Def.line c.in-Def.name c.in-Def.params c.in-Def.body,
+      ← c.as_slice-body.ensures,
+      ← c.as_slice-in-Def.ensures,
+      ← c.len.ensures,
+      ← c.in_ok-params-in-Def.ensures.same,
+    )
+    (two (numbered 0 c.args.out.now) _ _ (_ ∷ []) (inners (all_stated c.as_slice-body.result.now))
+    (length c.args.out.now) _ 1 c.in_ok-add-in-Def.ensures.bodies c.in_ok-add-in-Def.ensures.more
+    c.in_ok-gather-in-Def.ensures.bodies)
 
 pub gather_one-returns-in_ok-gather-in-Class-clause-bodies : goal.gather_one-returns-in_ok-gather-in-Class-clause-bodies
 gather_one-returns-in_ok-gather-in-Class-clause-bodies t c =
-    rw (c.in-Class.is, stated_class c.in-Class.line c.in-Class.name c.in-Class.field-2 c.in-Class.body, ← c.as_slice-body-in-Class.ensures, ← c.as_slice-in-Class.ensures)
-    (two (numbered 0 c.args.out.now) _ _ (_ ∷ []) (inners (all_stated c.as_slice-body-in-Class.result.now)) (length c.args.out.now) _ 1 c.in_ok-add-in-Class.ensures.bodies c.in_ok-add-in-Class.ensures.more c.in_ok-gather-in-Class.ensures.bodies)
+    rw (
+      c.in-Class.is,
+      stated_class c.in-Class.line c.in-Class.name c.in-Class.field-2 c.in-Class.body,
+      ← c.as_slice-body-in-Class.ensures,
+      ← c.as_slice-in-Class.ensures,
+    )
+    (two (numbered 0 c.args.out.now) _ _ (_ ∷ []) (inners (all_stated c.as_slice-body-in-Class.result.now))
+    (length c.args.out.now) _ 1 c.in_ok-add-in-Class.ensures.bodies c.in_ok-add-in-Class.ensures.more
+    c.in_ok-gather-in-Class.ensures.bodies)

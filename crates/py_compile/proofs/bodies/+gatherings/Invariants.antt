@@ -20,19 +20,28 @@ abbrev pub decreases-gather_handlers : goal.decreases-gather_handlers
 decreases-gather_handlers l = 2 + weights_handlers l.items.now
 
 abbrev pub invariant-gather-items : goal.invariant-gather-items
-invariant-gather-items l = (numbered 0 l.out ++ inners (all_stated l.rest) (length l.out) ≡ numbered 0 l.initial.out ++ inners (all_stated l.items) (length l.initial.out)) × (length l.out + count (all_stated l.rest) ≡ length l.initial.out + count (all_stated l.items)) × (weights l.rest ≤ weights l.items)
+invariant-gather-items l = (numbered 0 l.out ++ inners (all_stated l.rest) (length l.out) ≡ numbered 0 l.initial.out ++
+    inners (all_stated l.items) (length l.initial.out)) ×
+    (length l.out + count (all_stated l.rest) ≡ length l.initial.out + count (all_stated l.items)) ×
+    (weights l.rest ≤ weights l.items)
 
 abbrev pub decreases-gather-items : goal.decreases-gather-items
 decreases-gather-items l = length l.rest
 
 abbrev pub invariant-gather_arms-items : goal.invariant-gather_arms-items
-invariant-gather_arms-items l = (numbered 0 l.out ++ armed_inner (stated_arms l.rest) (length l.out) ≡ numbered 0 l.initial.out ++ armed_inner (stated_arms l.items) (length l.initial.out)) × (length l.out + armed_count (stated_arms l.rest) ≡ length l.initial.out + armed_count (stated_arms l.items)) × (weights_arms l.rest ≤ weights_arms l.items)
+invariant-gather_arms-items l = (numbered 0 l.out ++ armed_inner (stated_arms l.rest) (length l.out) ≡ numbered 0
+    l.initial.out ++ armed_inner (stated_arms l.items) (length l.initial.out)) ×
+    (length l.out + armed_count (stated_arms l.rest) ≡ length l.initial.out + armed_count (stated_arms l.items)) ×
+    (weights_arms l.rest ≤ weights_arms l.items)
 
 abbrev pub decreases-gather_arms-items : goal.decreases-gather_arms-items
 decreases-gather_arms-items l = length l.rest
 
 abbrev pub invariant-gather_handlers-items : goal.invariant-gather_handlers-items
-invariant-gather_handlers-items l = (numbered 0 l.out ++ handled_inner (stated_handlers l.rest) (length l.out) ≡ numbered 0 l.initial.out ++ handled_inner (stated_handlers l.items) (length l.initial.out)) × (length l.out + handled_count (stated_handlers l.rest) ≡ length l.initial.out + handled_count (stated_handlers l.items)) × (weights_handlers l.rest ≤ weights_handlers l.items)
+invariant-gather_handlers-items l = (numbered 0 l.out ++ handled_inner (stated_handlers l.rest) (length l.out) ≡
+    numbered 0 l.initial.out ++ handled_inner (stated_handlers l.items) (length l.initial.out)) ×
+    (length l.out + handled_count (stated_handlers l.rest) ≡ length l.initial.out + handled_count
+    (stated_handlers l.items)) × (weights_handlers l.rest ≤ weights_handlers l.items)
 
 abbrev pub decreases-gather_handlers-items : goal.decreases-gather_handlers-items
 decreases-gather_handlers-items l = length l.rest

@@ -4,19 +4,22 @@ use Rattle.py_compile.specs.inner.Tallies.{arms_uses, block_uses, done, handlers
 use Rattle.py_compile.proofs.body_uses.+statements.Given as goal
 
 abbrev pub invariant-block-items : goal.invariant-block-items
-invariant-block-items l = (done l.out (inside l.all l.b) (block_uses l.all l.rest) ≡ done l.initial.out (inside l.all l.b) (block_uses l.all l.items)) × (talls l.rest ≤ talls l.items)
+invariant-block-items l = (done l.out (inside l.all l.b) (block_uses l.all l.rest) ≡ done l.initial.out
+    (inside l.all l.b) (block_uses l.all l.items)) × (talls l.rest ≤ talls l.items)
 
 abbrev pub decreases-block-items : goal.decreases-block-items
 decreases-block-items l = length l.rest
 
 abbrev pub invariant-arms-items : goal.invariant-arms-items
-invariant-arms-items l = (done l.out (inside l.all l.b) (arms_uses l.all l.rest) ≡ done l.initial.out (inside l.all l.b) (arms_uses l.all l.items)) × (tall_arms l.rest ≤ tall_arms l.items)
+invariant-arms-items l = (done l.out (inside l.all l.b) (arms_uses l.all l.rest) ≡ done l.initial.out
+    (inside l.all l.b) (arms_uses l.all l.items)) × (tall_arms l.rest ≤ tall_arms l.items)
 
 abbrev pub decreases-arms-items : goal.decreases-arms-items
 decreases-arms-items l = length l.rest
 
 abbrev pub invariant-handlers-items : goal.invariant-handlers-items
-invariant-handlers-items l = (done l.out (inside l.all l.b) (handlers_uses l.all l.rest) ≡ done l.initial.out (inside l.all l.b) (handlers_uses l.all l.items)) × (tall_handlers l.rest ≤ tall_handlers l.items)
+invariant-handlers-items l = (done l.out (inside l.all l.b) (handlers_uses l.all l.rest) ≡ done l.initial.out
+    (inside l.all l.b) (handlers_uses l.all l.items)) × (tall_handlers l.rest ≤ tall_handlers l.items)
 
 abbrev pub decreases-handlers-items : goal.decreases-handlers-items
 decreases-handlers-items l = length l.rest

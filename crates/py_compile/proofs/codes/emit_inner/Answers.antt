@@ -7,6 +7,8 @@ use Rattle.py_compile.proofs.codes.emit_inner.Goals as goal
 
 pub returns-clause-done : goal.returns-clause-done
 returns-clause-done c =
-    body_arm c.args.body.now.line (row (pieces (all_stated c.args.body.now.block.now) c.args.names.now [] c.args.first)) no_frames
+    body_arm c.args.body.now.line (row (pieces (all_stated c.args.body.now.block.now) c.args.names.now []
+    c.args.first)) no_frames
     c.args.e.now c.block-2.new.e c.put.new.self c.put-2.new.self
-    (subst (λ z. Emitted c.args.e.now c.block-2.new.e z no_frames) (c.in_ok-plans.ensures.plans c.args.names.now []) (rw c.as_slice.ensures at c.in_ok-block.ensures.done)) c.in_ok-put.ensures.done c.in_ok-put-2.ensures.done
+    (subst (λ z. Emitted c.args.e.now c.block-2.new.e z no_frames) (c.in_ok-plans.ensures.plans c.args.names.now [])
+    (rw c.as_slice.ensures at c.in_ok-block.ensures.done)) c.in_ok-put.ensures.done c.in_ok-put-2.ensures.done

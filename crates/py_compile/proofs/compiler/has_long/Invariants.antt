@@ -4,4 +4,6 @@ use Rattle.py_compile.specs.Whole.{is_long}
 use Rattle.py_compile.proofs.compiler.has_long.Given as goal
 
 abbrev pub invariant-loop-text : goal.invariant-loop-text
-invariant-loop-text l = (map (λ x. x.now) l.text-items ≡ l.texts) × (list_any is_long (map (λ x. x.now) (drop l.text-index l.text-items)) ≡ list_any is_long (map (λ x. x.now) l.text-items))
+invariant-loop-text l = (map (λ x. x.now) l.text-items ≡ l.texts) ×
+    (list_any is_long (map (λ x. x.now) (drop l.text-index l.text-items)) ≡ list_any is_long
+    (map (λ x. x.now) l.text-items))

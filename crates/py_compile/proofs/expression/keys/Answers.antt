@@ -4,4 +4,6 @@ use Rattle.py_compile.proofs.Steps.{keys_more, split_as, then_ok}
 use Rattle.py_compile.proofs.expression.keys.Goals as goal
 
 pub returns-in-Some-clause-done : goal.returns-in-Some-clause-done
-returns-in-Some-clause-done c = then_ok c.push_two.result _ _ c.push_two.ensures.done (λ q n. split_as n _ _ _ _ _ (λ ln e. keys_more n ln c.in-Some.x.now c.in-Some.more.now _ e) (ap (λ z. Keys z) c.in-Some.ensures) q)
+returns-in-Some-clause-done c = then_ok c.push_two.result _ _ c.push_two.ensures.done
+    (λ q n. split_as n _ _ _ _ _ (λ ln e. keys_more n ln c.in-Some.x.now c.in-Some.more.now _ e)
+    (ap (λ z. Keys z) c.in-Some.ensures) q)

@@ -4,4 +4,7 @@ use Rattle.py_compile.proofs.Steps.{links_more, split_as, then_ok}
 use Rattle.py_compile.proofs.expression.links.Goals as goal
 
 pub returns-in-Some-clause-done : goal.returns-in-Some-clause-done
-returns-in-Some-clause-done c = then_ok c.push_three.result _ _ c.push_three.ensures.done (λ q n. let f0 = c.operator_number.ensures in split_as n _ _ _ _ _ (λ ln e. links_more n ln c.in-Some.x.now c.in-Some.more.now _ e) (ap (λ z. Links z) c.in-Some.ensures) (cc))
+returns-in-Some-clause-done c = then_ok c.push_three.result _ _ c.push_three.ensures.done
+    (λ q n. let f0 = c.operator_number.ensures in
+    split_as n _ _ _ _ _ (λ ln e. links_more n ln c.in-Some.x.now c.in-Some.more.now _ e)
+    (ap (λ z. Links z) c.in-Some.ensures) (cc))

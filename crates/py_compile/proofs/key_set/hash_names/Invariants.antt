@@ -6,7 +6,8 @@ use Rattle.py_compile.specs.Expressions.{key_names}
 use Rattle.py_compile.proofs.key_set.hash_names.Given as goal
 
 abbrev pub invariant-names : goal.invariant-names
-invariant-names g l = fold g.H.Hasher.write l.state (flat_map (slice u8) (key_names l.rest)) ≡ fold g.H.Hasher.write l.initial.state (flat_map (slice u8) (key_names l.named))
+invariant-names g l = fold g.H.Hasher.write l.state (flat_map (slice u8) (key_names l.rest)) ≡ fold g.H.Hasher.write
+    l.initial.state (flat_map (slice u8) (key_names l.named))
 
 abbrev pub decreases-names : goal.decreases-names
 decreases-names g l = length l.rest

@@ -11,11 +11,13 @@ use Rattle.py_compile.proofs.planning.+planning.Goals as goal
 
 pub block-returns-clause-plans : goal.block-returns-clause-plans
 block-returns-clause-plans t c =
-    alone _ (λ n d. (stated_block c.args.items.now).code n d c.args.first) (rw c.new-out.ensures at c.in_ok-number.ensures.plans)
+    alone _ (λ n d. (stated_block c.args.items.now).code n d c.args.first)
+    (rw c.new-out.ensures at c.in_ok-number.ensures.plans)
 
 pub add_block-returns-clause-plans : goal.add_block-returns-clause-plans
 add_block-returns-clause-plans t c =
-    added_end c.args.out.now (all_stated c.args.items.now) c.args.first c.items.out c.items.number (rw c.in_default.ensures at c.items.invariant.0)
+    added_end c.args.out.now (all_stated c.args.items.now) c.args.first c.items.out c.items.number
+    (rw c.in_default.ensures at c.items.invariant.0)
 
 pub arms-items-preserved : goal.arms-items-preserved
 arms-items-preserved t c =
@@ -24,8 +26,13 @@ arms-items-preserved t c =
     let w = ap weights_arms e in
     let k = c.items.invariant.1 in
     let l = c.items.invariant.2 in
-    let b = rw c.as_slice.ensures at c.in_ok-body.ensures.number in
-    (λ n d. arms_step n d c.items.out _ _ c.in-Some.more.now c.items.number c.in_ok-body.behind _ c.in_ok-push.ensures.ok (rw c.as_slice.ensures at (c.in_ok-body.ensures.plans n d)) b (rw e at (c.items.invariant.0 n d)), grind (arith, common_steps), grind (arith, common_steps))
+    let b = rw c.as_slice.ensures at c.in_ok-body.ensures.number in (
+      λ n d. arms_step n d c.items.out _ _ c.in-Some.more.now c.items.number c.in_ok-body.behind _
+          c.in_ok-push.ensures.ok (rw c.as_slice.ensures at (c.in_ok-body.ensures.plans n d)) b
+          (rw e at (c.items.invariant.0 n d)),
+      grind (arith, common_steps),
+      grind (arith, common_steps),
+    )
 
 pub handlers-items-preserved : goal.handlers-items-preserved
 handlers-items-preserved t c =
@@ -34,34 +41,65 @@ handlers-items-preserved t c =
     let w = ap weights_handlers e in
     let k = c.items.invariant.1 in
     let l = c.items.invariant.2 in
-    let b = rw c.as_slice.ensures at c.in_ok-body.ensures.number in
-    (λ n d. handlers_step n d c.items.out _ _ c.in-Some.more.now c.items.number c.in_ok-body.behind _ c.in_ok-push.ensures.ok (rw c.as_slice.ensures at (c.in_ok-body.ensures.plans n (InClause ∷ d))) b (rw e at (c.items.invariant.0 n d)), grind (arith, common_steps), grind (arith, common_steps))
+    let b = rw c.as_slice.ensures at c.in_ok-body.ensures.number in (
+      λ n d. handlers_step n d c.items.out _ _ c.in-Some.more.now c.items.number c.in_ok-body.behind _
+          c.in_ok-push.ensures.ok (rw c.as_slice.ensures at (c.in_ok-body.ensures.plans n (InClause ∷ d))) b
+          (rw e at (c.items.invariant.0 n d)),
+      grind (arith, common_steps),
+      grind (arith, common_steps),
+    )
 
 pub if_else-returns-clause-plans : goal.if_else-returns-clause-plans
 if_else-returns-clause-plans t c =
-    add_plan c.args.out.now _ _ (λ n d. if_code n d c.args.first c.args.items.now c.args.other.now) c.in_ok-push.ensures.ok (λ n d. if_plans n d _ _ _ _ (c.in_ok-arms.ensures.plans n d) (other_code n d (otherwise c.args.other.now) (stated_block c.clause_body.result.now) _ _ _ c.clause_body.ensures.same c.in_ok-arms.ensures.number (c.in_ok-otherwise.ensures.plans n d)))
+    add_plan c.args.out.now _ _ (λ n d. if_code n d c.args.first c.args.items.now c.args.other.now)
+    c.in_ok-push.ensures.ok (λ n d. if_plans n d _ _ _ _ (c.in_ok-arms.ensures.plans n d)
+    (other_code n d (otherwise c.args.other.now) (stated_block c.clause_body.result.now) _ _ _
+    c.clause_body.ensures.same c.in_ok-arms.ensures.number (c.in_ok-otherwise.ensures.plans n d)))
 
 pub while_loop-returns-clause-plans : goal.while_loop-returns-clause-plans
 while_loop-returns-clause-plans t c =
-    add_plan c.args.out.now _ _ (λ n d. while_code n d c.args.first c.args.arm.now c.args.other.now) c.in_ok-push.ensures.ok (λ n d. while_plans n d c.args.arm _ _ _ _ (rw c.as_slice.ensures at (c.in_ok-body.ensures.plans n (InWhile ∷ d))) (other_code n d (otherwise c.args.other.now) (stated_block c.clause_body.result.now) _ _ _ c.clause_body.ensures.same (rw c.as_slice.ensures at c.in_ok-body.ensures.number) (c.in_ok-otherwise.ensures.plans n d)))
+    add_plan c.args.out.now _ _ (λ n d. while_code n d c.args.first c.args.arm.now c.args.other.now)
+    c.in_ok-push.ensures.ok (λ n d. while_plans n d c.args.arm _ _ _ _
+    (rw c.as_slice.ensures at (c.in_ok-body.ensures.plans n (InWhile ∷ d)))
+    (other_code n d (otherwise c.args.other.now) (stated_block c.clause_body.result.now) _ _ _
+    c.clause_body.ensures.same (rw c.as_slice.ensures at c.in_ok-body.ensures.number)
+    (c.in_ok-otherwise.ensures.plans n d)))
 
 pub for_loop-returns-clause-plans : goal.for_loop-returns-clause-plans
 for_loop-returns-clause-plans t c =
-    add_plan c.args.out.now _ _ (λ n d. for_code n d c.args.first c.args.line c.args.target.now c.args.x.now c.args.body.now c.args.other.now) c.in_ok-push.ensures.ok (λ n d. for_plans n d c.args.line c.args.target c.args.x _ _ _ _ (c.in_ok-body.ensures.plans n (InFor ∷ d)) (other_code n d (otherwise c.args.other.now) (stated_block c.clause_body.result.now) _ _ _ c.clause_body.ensures.same c.in_ok-body.ensures.number (c.in_ok-otherwise.ensures.plans n d)))
+    add_plan c.args.out.now _ _ (λ n d. for_code n d c.args.first c.args.line c.args.target.now c.args.x.now
+    c.args.body.now c.args.other.now) c.in_ok-push.ensures.ok
+    (λ n d. for_plans n d c.args.line c.args.target c.args.x _ _ _ _ (c.in_ok-body.ensures.plans n (InFor ∷ d))
+    (other_code n d (otherwise c.args.other.now) (stated_block c.clause_body.result.now) _ _ _
+    c.clause_body.ensures.same c.in_ok-body.ensures.number (c.in_ok-otherwise.ensures.plans n d)))
 
 pub tried-returns-in_ok-push-in-Some-clause-plans : goal.tried-returns-in_ok-push-in-Some-clause-plans
 tried-returns-in_ok-push-in-Some-clause-plans t c =
-    add_plan c.args.out.now _ _ (λ n d. (tried_of c.args.x.now c.args.items.now c.args.other.now).code n d c.args.first) c.in_ok-push-in-Some.ensures.ok (λ n d.
-    try_plans n d c.args.x.now.line _ _ _ ((stated_block c.args.x.now.body).code n (InTry ∷ d) c.args.first) (handled (stated_handlers c.args.items.now) n d (c.args.first + count (all_stated c.args.x.now.body))) ((otherwise c.args.other.now).code n d (c.args.first + count (all_stated c.args.x.now.body) + handled_count (stated_handlers c.args.items.now)))
+    add_plan c.args.out.now _ _ (λ n d. (tried_of c.args.x.now c.args.items.now c.args.other.now).code n d
+    c.args.first) c.in_ok-push-in-Some.ensures.ok (λ n d.
+    try_plans n d c.args.x.now.line _ _ _ ((stated_block c.args.x.now.body).code n (InTry ∷ d) c.args.first)
+    (handled (stated_handlers c.args.items.now) n d (c.args.first + count (all_stated c.args.x.now.body)))
+    ((otherwise c.args.other.now).code n d
+    (c.args.first + count (all_stated c.args.x.now.body) + handled_count (stated_handlers c.args.items.now)))
     (rw c.as_slice-in-Some.ensures at (c.in_ok-body-in-Some.ensures.plans n (InTry ∷ d)))
-    (rw (c.in_ok-body-in-Some.ensures.number, c.as_slice-in-Some.ensures) at (c.in_ok-clauses-in-Some.ensures.plans n d))
-    (other_code n d (otherwise c.args.other.now) (stated_block c.clause_body.result.now) _ _ _ c.clause_body.ensures.same (rw (c.in_ok-body-in-Some.ensures.number, c.as_slice-in-Some.ensures) at c.in_ok-clauses-in-Some.ensures.number) (c.in_ok-otherwise-in-Some.ensures.plans n d))
-    ∙ sym (k.try_code c.args.x.now c.args.items.now c.in-Some.field-0.0.now c.in-Some.field-0.1.now c.args.other.now n d c.args.first c.in-Some.ensures))
+    (rw (c.in_ok-body-in-Some.ensures.number, c.as_slice-in-Some.ensures) at
+    (c.in_ok-clauses-in-Some.ensures.plans n d))
+    (other_code n d (otherwise c.args.other.now) (stated_block c.clause_body.result.now) _ _ _
+    c.clause_body.ensures.same (rw (c.in_ok-body-in-Some.ensures.number, c.as_slice-in-Some.ensures) at
+    c.in_ok-clauses-in-Some.ensures.number) (c.in_ok-otherwise-in-Some.ensures.plans n d))
+    ∙ sym (k.try_code c.args.x.now c.args.items.now c.in-Some.field-0.0.now c.in-Some.field-0.1.now c.args.other.now n
+    d c.args.first c.in-Some.ensures))
 
 pub tried_finally-returns-clause-plans : goal.tried_finally-returns-clause-plans
 tried_finally-returns-clause-plans t c =
-    let inner = alone _ (λ n d. (tried_of c.args.x.now c.args.items.now c.args.other.now).code n d c.args.first) (rw c.new-inner.ensures at c.in_ok-behind.ensures.plans) in
-    add_plan c.args.out.now _ _ (λ n d. finally_code n d c.args.first c.args.x.now c.args.items.now c.args.other.now c.args.last.now) c.in_ok-push.ensures.ok (λ n d. finally_plans n d c.args.x.now.line _ _ _ _ (inner n (InFinally ((stated_block c.args.last.now.body).code n d (c.args.first + (tried_of c.args.x.now c.args.items.now c.args.other.now).bodies)) ∷ d)) (rw (c.in_ok-behind.ensures.number, c.as_slice.ensures) at (c.in_ok-last.ensures.plans n d)))
+    let inner = alone _ (λ n d. (tried_of c.args.x.now c.args.items.now c.args.other.now).code n d c.args.first)
+    (rw c.new-inner.ensures at c.in_ok-behind.ensures.plans) in
+    add_plan c.args.out.now _ _ (λ n d. finally_code n d c.args.first c.args.x.now c.args.items.now c.args.other.now
+    c.args.last.now) c.in_ok-push.ensures.ok
+    (λ n d. finally_plans n d c.args.x.now.line _ _ _ _
+    (inner n (InFinally ((stated_block c.args.last.now.body).code n d
+    (c.args.first + (tried_of c.args.x.now c.args.items.now c.args.other.now).bodies)) ∷ d))
+    (rw (c.in_ok-behind.ensures.number, c.as_slice.ensures) at (c.in_ok-last.ensures.plans n d)))
 
 pub statement-if_else-requires : goal.statement-if_else-requires
 statement-if_else-requires t c =
@@ -76,7 +114,8 @@ statement-while_loop-requires t c =
 
 pub statement-for_loop-requires : goal.statement-for_loop-requires
 statement-for_loop-requires t c =
-    let w = ap weight c.in-For.is ∙ k.weight_for c.in-For.line c.in-For.target c.in-For.x c.in-For.body c.in-For.other in
+    let w = ap weight c.in-For.is ∙ k.weight_for c.in-For.line c.in-For.target c.in-For.x c.in-For.body c.in-For.other
+    in
     let f = ap weights c.as_slice-in-For.ensures in
     grind (arith, common_steps)
 
@@ -111,43 +150,84 @@ statement-returns-in-While-clause-number t c =
 
 pub statement-returns-in-For-clause-plans : goal.statement-returns-in-For-clause-plans
 statement-returns-in-For-clause-plans t c =
-    rw (c.in-For.is, k.stated_for c.in-For.line c.in-For.target c.in-For.x c.in-For.body c.in-For.other, ← c.as_slice-in-For.ensures) c.for_loop.ensures.plans
+    rw (
+      c.in-For.is,
+      k.stated_for c.in-For.line c.in-For.target c.in-For.x c.in-For.body c.in-For.other,
+      ← c.as_slice-in-For.ensures,
+    ) c.for_loop.ensures.plans
 
 pub statement-returns-in-For-clause-number : goal.statement-returns-in-For-clause-number
 statement-returns-in-For-clause-number t c =
-    rw (c.in-For.is, k.stated_for c.in-For.line c.in-For.target c.in-For.x c.in-For.body c.in-For.other, ← c.as_slice-in-For.ensures) c.for_loop.ensures.number
+    rw (
+      c.in-For.is,
+      k.stated_for c.in-For.line c.in-For.target c.in-For.x c.in-For.body c.in-For.other,
+      ← c.as_slice-in-For.ensures,
+    ) c.for_loop.ensures.number
 
 pub statement-returns-in-None-clause-plans : goal.statement-returns-in-None-clause-plans
 statement-returns-in-None-clause-plans t c =
-    rw (c.in-Try.is, k.stated_try c.in-Try.x c.in-Try.items c.in-Try.other c.in-Try.last, c.in-None.is, ← c.as_slice-in-None.ensures) c.tried.ensures.plans
+    rw (
+      c.in-Try.is,
+      k.stated_try c.in-Try.x c.in-Try.items c.in-Try.other c.in-Try.last,
+      c.in-None.is,
+      ← c.as_slice-in-None.ensures,
+    ) c.tried.ensures.plans
 
 pub statement-returns-in-None-clause-number : goal.statement-returns-in-None-clause-number
 statement-returns-in-None-clause-number t c =
-    rw (c.in-Try.is, k.stated_try c.in-Try.x c.in-Try.items c.in-Try.other c.in-Try.last, c.in-None.is, ← c.as_slice-in-None.ensures) c.tried.ensures.number
+    rw (
+      c.in-Try.is,
+      k.stated_try c.in-Try.x c.in-Try.items c.in-Try.other c.in-Try.last,
+      c.in-None.is,
+      ← c.as_slice-in-None.ensures,
+    ) c.tried.ensures.number
 
 pub statement-returns-in-Some-clause-plans : goal.statement-returns-in-Some-clause-plans
 statement-returns-in-Some-clause-plans t c =
-    rw (c.in-Try.is, k.stated_try c.in-Try.x c.in-Try.items c.in-Try.other c.in-Try.last, c.in-Some.is, ← c.as_slice-in-Some.ensures) c.tried_finally.ensures.plans
+    rw (
+      c.in-Try.is,
+      k.stated_try c.in-Try.x c.in-Try.items c.in-Try.other c.in-Try.last,
+      c.in-Some.is,
+      ← c.as_slice-in-Some.ensures,
+    ) c.tried_finally.ensures.plans
 
 pub statement-returns-in-Some-clause-number : goal.statement-returns-in-Some-clause-number
 statement-returns-in-Some-clause-number t c =
-    rw (c.in-Try.is, k.stated_try c.in-Try.x c.in-Try.items c.in-Try.other c.in-Try.last, c.in-Some.is, ← c.as_slice-in-Some.ensures) c.tried_finally.ensures.number
+    rw (
+      c.in-Try.is,
+      k.stated_try c.in-Try.x c.in-Try.items c.in-Try.other c.in-Try.last,
+      c.in-Some.is,
+      ← c.as_slice-in-Some.ensures,
+    ) c.tried_finally.ensures.number
 
 pub statement-returns-in-Def-clause-plans : goal.statement-returns-in-Def-clause-plans
 statement-returns-in-Def-clause-plans t c =
-    rw (c.in-Def.is, k.stated_def c.in-Def.line c.in-Def.name c.in-Def.params c.in-Def.body, ← c.as_slice-in-Def.ensures) c.def.ensures.plans
+    rw (
+      c.in-Def.is,
+      k.stated_def c.in-Def.line c.in-Def.name c.in-Def.params c.in-Def.body,
+      ← c.as_slice-in-Def.ensures,
+    ) c.def.ensures.plans
 
 pub statement-returns-in-Def-clause-number : goal.statement-returns-in-Def-clause-number
 statement-returns-in-Def-clause-number t c =
-    rw (c.in-Def.is, k.stated_def c.in-Def.line c.in-Def.name c.in-Def.params c.in-Def.body, ← c.as_slice-in-Def-2.ensures) c.def.ensures.number
+    rw (
+      c.in-Def.is,
+      k.stated_def c.in-Def.line c.in-Def.name c.in-Def.params c.in-Def.body,
+      ← c.as_slice-in-Def-2.ensures,
+    ) c.def.ensures.number
 
 pub statement-returns-in-Class-clause-plans : goal.statement-returns-in-Class-clause-plans
 statement-returns-in-Class-clause-plans t c =
-    rw (c.in-Class.is, k.stated_class c.in-Class.line c.in-Class.name c.in-Class.x c.in-Class.body) c.class.ensures.plans
+    rw (c.in-Class.is, k.stated_class c.in-Class.line c.in-Class.name c.in-Class.x c.in-Class.body)
+    c.class.ensures.plans
 
 pub statement-returns-in-Class-clause-number : goal.statement-returns-in-Class-clause-number
 statement-returns-in-Class-clause-number t c =
-    rw (c.in-Class.is, k.stated_class c.in-Class.line c.in-Class.name c.in-Class.x c.in-Class.body, ← c.as_slice-in-Class.ensures) c.class.ensures.number
+    rw (
+      c.in-Class.is,
+      k.stated_class c.in-Class.line c.in-Class.name c.in-Class.x c.in-Class.body,
+      ← c.as_slice-in-Class.ensures,
+    ) c.class.ensures.number
 
 pub statement-returns-in-Pass-clause-plans : goal.statement-returns-in-Pass-clause-plans
 statement-returns-in-Pass-clause-plans t c =
@@ -159,7 +239,8 @@ statement-returns-in-Pass-clause-number t c =
 
 pub statement-returns-in-Global-clause-plans : goal.statement-returns-in-Global-clause-plans
 statement-returns-in-Global-clause-plans t c =
-    rw (c.in-Global.is, k.stated_global c.in-Global.field-0 c.in-Global.field-1) (add_none c.args.out.now c.in-Global.field-0)
+    rw (c.in-Global.is, k.stated_global c.in-Global.field-0 c.in-Global.field-1)
+    (add_none c.args.out.now c.in-Global.field-0)
 
 pub statement-returns-in-Global-clause-number : goal.statement-returns-in-Global-clause-number
 statement-returns-in-Global-clause-number t c =
@@ -171,4 +252,5 @@ statement-returns-in-Del-clause-plans t c =
 
 pub statement-returns-in-Del-clause-number : goal.statement-returns-in-Del-clause-number
 statement-returns-in-Del-clause-number t c =
-    rw (c.in-Del.is, k.stated_del c.in-Del.line c.in-Del.targets) (ok_map c.delete.result c.delete.ensures.number (λ u h. omega (arith, h)))
+    rw (c.in-Del.is, k.stated_del c.in-Del.line c.in-Del.targets)
+    (ok_map c.delete.result c.delete.ensures.number (λ u h. omega (arith, h)))

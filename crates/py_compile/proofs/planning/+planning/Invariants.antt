@@ -35,22 +35,30 @@ abbrev pub decreases-tried : goal.decreases-tried
 decreases-tried l = 4 + (weights l.x.now.body + (weights_handlers l.items.now + weights_some l.other.now))
 
 abbrev pub decreases-tried_finally : goal.decreases-tried_finally
-decreases-tried_finally l = 8 + (weights l.x.now.body + (weights_handlers l.items.now + (weights_some l.other.now + weights l.last.now.body)))
+decreases-tried_finally l = 8 + (weights l.x.now.body +
+    (weights_handlers l.items.now + (weights_some l.other.now + weights l.last.now.body)))
 
 abbrev pub invariant-add_block-items : goal.invariant-add_block-items
-invariant-add_block-items l = Added l.initial.out (all_stated l.items) l.first l.out (all_stated l.rest) l.number × (l.number + count (all_stated l.rest) ≡ l.first + count (all_stated l.items)) × (weights l.rest ≤ weights l.items)
+invariant-add_block-items l = Added l.initial.out (all_stated l.items) l.first l.out (all_stated l.rest) l.number ×
+    (l.number + count (all_stated l.rest) ≡ l.first + count (all_stated l.items)) × (weights l.rest ≤ weights l.items)
 
 abbrev pub decreases-add_block-items : goal.decreases-add_block-items
 decreases-add_block-items l = length l.rest
 
 abbrev pub invariant-arms-items : goal.invariant-arms-items
-invariant-arms-items l = ((n : Known) (c : List Around) → planned_arms l.out n c ++ armed (stated_arms l.rest) n c l.number ≡ armed (stated_arms l.items) n c l.first) × (l.number + armed_count (stated_arms l.rest) ≡ l.first + armed_count (stated_arms l.items)) × (weights_arms l.rest ≤ weights_arms l.items)
+invariant-arms-items l = ((n : Known) (c : List Around) → planned_arms l.out n c ++ armed (stated_arms l.rest) n c
+    l.number ≡ armed (stated_arms l.items) n c l.first) ×
+    (l.number + armed_count (stated_arms l.rest) ≡ l.first + armed_count (stated_arms l.items)) ×
+    (weights_arms l.rest ≤ weights_arms l.items)
 
 abbrev pub decreases-arms-items : goal.decreases-arms-items
 decreases-arms-items l = length l.rest
 
 abbrev pub invariant-handlers-items : goal.invariant-handlers-items
-invariant-handlers-items l = ((n : Known) (c : List Around) → planned_handlers l.out n c ++ handled (stated_handlers l.rest) n c l.number ≡ handled (stated_handlers l.items) n c l.first) × (l.number + handled_count (stated_handlers l.rest) ≡ l.first + handled_count (stated_handlers l.items)) × (weights_handlers l.rest ≤ weights_handlers l.items)
+invariant-handlers-items l = ((n : Known) (c : List Around) →
+    planned_handlers l.out n c ++ handled (stated_handlers l.rest) n c l.number ≡ handled (stated_handlers l.items) n c
+    l.first) × (l.number + handled_count (stated_handlers l.rest) ≡ l.first + handled_count (stated_handlers l.items))
+    × (weights_handlers l.rest ≤ weights_handlers l.items)
 
 abbrev pub decreases-handlers-items : goal.decreases-handlers-items
 decreases-handlers-items l = length l.rest

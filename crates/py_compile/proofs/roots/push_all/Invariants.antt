@@ -2,4 +2,6 @@ use Rattle.std.proofs.Common.{◌≡◌, ◌++◌, map, take}
 use Rattle.py_compile.proofs.roots.push_all.Given as goal
 
 abbrev pub invariant-loop-name : goal.invariant-loop-name
-invariant-loop-name l = (map (λ x. x.now) l.name-items ≡ l.names) × (l.out ≡ l.initial.out ++ map (λ x. record { kind = l.kind; number = 0; bytes = x }) (map (λ x. x.now) (take l.name-index l.name-items)))
+invariant-loop-name l = (map (λ x. x.now) l.name-items ≡ l.names) ×
+    (l.out ≡ l.initial.out ++ map (λ x. record { kind = l.kind; number = 0; bytes = x })
+    (map (λ x. x.now) (take l.name-index l.name-items)))

@@ -8,9 +8,15 @@ use Rattle.py_compile.specs.Statements.{defaults, default_or}
 
 pub params-preserved-in_ok-expression : goal.params-preserved-in_ok-expression
 params-preserved-in_ok-expression c =
-    let e : defaults c.params.rest.now ≡ c.in-Some-default.x ∷ defaults c.in-Some.more.now = ap defaults c.in-Some.ensures ∙ ap (λ z. default_or z (defaults c.in-Some.more.now)) c.in-Some-default.is in
+    let e : defaults c.params.rest.now ≡ c.in-Some-default.x ∷ defaults c.in-Some.more.now =
+    ap defaults c.in-Some.ensures ∙ ap (λ z. default_or z (defaults c.in-Some.more.now)) c.in-Some-default.is in
     let f = ap length c.in-Some.ensures in
     let i = rw e at c.params.invariant.0 in
     let k = rw e at c.params.invariant.1 in
-    let b = c.params.invariant.2 in
-    (rest_step no_frames c.args.e.now (values c.args.names.now c.args.line (defaults c.args.params.now)) c.params.e c.expression.new.e (value c.args.names.now c.args.line c.in-Some-default.x) (values c.args.names.now c.args.line (defaults c.in-Some.more.now)) i c.in_ok-expression.ensures.done, grind (arith, common_steps), grind (arith, common_steps))
+    let b = c.params.invariant.2 in (
+      rest_step no_frames c.args.e.now (values c.args.names.now c.args.line (defaults c.args.params.now)) c.params.e
+          c.expression.new.e (value c.args.names.now c.args.line c.in-Some-default.x)
+          (values c.args.names.now c.args.line (defaults c.in-Some.more.now)) i c.in_ok-expression.ensures.done,
+      grind (arith, common_steps),
+      grind (arith, common_steps),
+    )

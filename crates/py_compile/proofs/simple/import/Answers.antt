@@ -7,15 +7,23 @@ use Rattle.py_compile.specs.Statements.{imported, bound_name}
 use Rattle.py_compile.specs.Names.{home, library}
 
 pub returns-in_err-put-clause-large : goal.returns-in_err-put-clause-large
-returns-in_err-put-clause-large c h = let i = rw c.in-Some.ensures at (c.items.invariant no_frames) in let e = i.size in search rules
+returns-in_err-put-clause-large c h = let i = rw c.in-Some.ensures at (c.items.invariant no_frames) in let e =
+    i.size in search rules
 
 pub returns-in_err-put-2-clause-large : goal.returns-in_err-put-2-clause-large
-returns-in_err-put-2-clause-large c h = let i = rw c.in-Some.ensures at (c.items.invariant no_frames) in let e = i.size in search rules
+returns-in_err-put-2-clause-large c h = let i = rw c.in-Some.ensures at (c.items.invariant no_frames) in let e =
+    i.size in search rules
 
 pub items-preserved : goal.items-preserved
 items-preserved c env =
-    rest_step env c.args.e.now (imported c.args.names.now c.args.line c.args.items.now) c.items.e c.put-in-Some.new.self _ (imported c.args.names.now c.args.line c.in-Some.more.now) (rw c.in-Some.ensures at (c.items.invariant env))
-    (import_arm c.args.line env (library c.in-Some.x.now.name) (home c.args.names.now (bound_name c.in-Some.x.now.name c.in-Some.x.now.bound)) c.items.e _ _ (rw (c.library-c.ensures, c.as_slice.ensures) at c.in_ok-put.ensures.done) (rw (c.store.ensures, c.home.ensures, c.bound_name.ensures) at c.in_ok-put-2.ensures.done))
+    rest_step env c.args.e.now (imported c.args.names.now c.args.line c.args.items.now) c.items.e
+    c.put-in-Some.new.self _ (imported c.args.names.now c.args.line c.in-Some.more.now)
+    (rw c.in-Some.ensures at (c.items.invariant env))
+    (import_arm c.args.line env (library c.in-Some.x.now.name)
+    (home c.args.names.now (bound_name c.in-Some.x.now.name c.in-Some.x.now.bound)) c.items.e _ _
+    (rw (c.library-c.ensures, c.as_slice.ensures) at c.in_ok-put.ensures.done)
+    (rw (c.store.ensures, c.home.ensures, c.bound_name.ensures) at c.in_ok-put-2.ensures.done))
 
 pub returns-clause-done : goal.returns-clause-done
-returns-clause-done c env = rest_end env c.args.e.now (imported c.args.names.now c.args.line c.args.items.now) c.items.e (rw c.in_default.ensures at (c.items.invariant env))
+returns-clause-done c env = rest_end env c.args.e.now (imported c.args.names.now c.args.line c.args.items.now)
+    c.items.e (rw c.in_default.ensures at (c.items.invariant env))

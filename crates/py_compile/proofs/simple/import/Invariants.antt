@@ -5,7 +5,8 @@ use Rattle.py_compile.proofs.Rests.{Rest}
 use Rattle.py_compile.proofs.simple.import.Given as goal
 
 abbrev pub invariant-items : goal.invariant-items
-invariant-items l = (env : List ℕ → List Frame) → Rest env l.initial.e (imported l.names l.line l.items) l.e (imported l.names l.line l.rest)
+invariant-items l = (env : List ℕ → List Frame) → Rest env l.initial.e (imported l.names l.line l.items) l.e
+    (imported l.names l.line l.rest)
 
 abbrev pub decreases-items : goal.decreases-items
 decreases-items l = length l.rest

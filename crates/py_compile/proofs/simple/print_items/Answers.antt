@@ -7,15 +7,23 @@ use Rattle.py_compile.proofs.simple.print_items.Goals as goal
 use Rattle.py_compile.specs.Table.{print_one}
 
 pub returns-in_err-expression-clause-large : goal.returns-in_err-expression-clause-large
-returns-in_err-expression-clause-large c h = let i = rw c.in-Some.ensures at (c.items.invariant no_frames) in let e = i.size in search rules
+returns-in_err-expression-clause-large c h = let i = rw c.in-Some.ensures at (c.items.invariant no_frames) in let e =
+    i.size in search rules
 
 pub returns-in_err-put-clause-large : goal.returns-in_err-put-clause-large
-returns-in_err-put-clause-large c h = let i = rw c.in-Some.ensures at (c.items.invariant no_frames) in let e = i.size in search rules
+returns-in_err-put-clause-large c h = let i = rw c.in-Some.ensures at (c.items.invariant no_frames) in let e =
+    i.size in search rules
 
 pub items-preserved : goal.items-preserved
 items-preserved c env =
-    rest_step env c.args.e.now (map (print_one c.args.line) (values c.args.names.now c.args.line c.args.items.now)) c.items.e c.put.new.self (print_one c.args.line (value c.args.names.now c.args.line c.in-Some.x.now)) (map (print_one c.args.line) (values c.args.names.now c.args.line c.in-Some.more.now)) (rw c.in-Some.ensures at (c.items.invariant env))
-    (print_arm c.args.line env (value c.args.names.now c.args.line c.in-Some.x.now) c.items.e _ _ c.in_ok-expression.ensures.done c.in_ok-put.ensures.done)
+    rest_step env c.args.e.now (map (print_one c.args.line) (values c.args.names.now c.args.line c.args.items.now))
+    c.items.e c.put.new.self (print_one c.args.line (value c.args.names.now c.args.line c.in-Some.x.now))
+    (map (print_one c.args.line) (values c.args.names.now c.args.line c.in-Some.more.now))
+    (rw c.in-Some.ensures at (c.items.invariant env))
+    (print_arm c.args.line env (value c.args.names.now c.args.line c.in-Some.x.now) c.items.e _ _
+    c.in_ok-expression.ensures.done c.in_ok-put.ensures.done)
 
 pub returns-clause-done : goal.returns-clause-done
-returns-clause-done c env = rest_end env c.args.e.now (map (print_one c.args.line) (values c.args.names.now c.args.line c.args.items.now)) c.items.e (rw c.in_default.ensures at (c.items.invariant env))
+returns-clause-done c env = rest_end env c.args.e.now
+    (map (print_one c.args.line) (values c.args.names.now c.args.line c.args.items.now)) c.items.e
+    (rw c.in_default.ensures at (c.items.invariant env))

@@ -8,7 +8,11 @@ use Rattle.py_compile.specs.Statements.{stores_before}
 
 pub targets-preserved : goal.targets-preserved
 targets-preserved c = (
-  rest_step no_frames c.args.e.now (stores_before c.args.names.now c.args.line c.args.first.now c.args.more.now) c.targets.e c.store.new.e (also c.args.line (stored c.args.names.now c.args.line c.targets.last.now)) (stores_before c.args.names.now c.args.line c.in-Some.next.now c.in-Some.others.now) (rw c.in-Some.ensures at c.targets.invariant.0)
-      (also_arm c.args.line no_frames (stored c.args.names.now c.args.line c.targets.last.now) c.targets.e _ _ c.in_ok-put.ensures.done c.in_ok-store.ensures.done),
+  rest_step no_frames c.args.e.now (stores_before c.args.names.now c.args.line c.args.first.now c.args.more.now)
+      c.targets.e c.store.new.e (also c.args.line (stored c.args.names.now c.args.line c.targets.last.now))
+      (stores_before c.args.names.now c.args.line c.in-Some.next.now c.in-Some.others.now)
+      (rw c.in-Some.ensures at c.targets.invariant.0)
+      (also_arm c.args.line no_frames (stored c.args.names.now c.args.line c.targets.last.now) c.targets.e _ _
+      c.in_ok-put.ensures.done c.in_ok-store.ensures.done),
   rw c.in-Some.ensures at c.targets.invariant.1,
 )

@@ -5,7 +5,8 @@ use Rattle.py_compile.proofs.Rests.{Rest}
 use Rattle.py_compile.proofs.simple.store_in_turn.Given as goal
 
 abbrev pub invariant-targets : goal.invariant-targets
-invariant-targets l = Rest no_frames l.initial.e (stores_before l.names l.line l.first l.more) l.e (stores_before l.names l.line l.last l.rest) × (last_target l.first l.more ≡ last_target l.last l.rest)
+invariant-targets l = Rest no_frames l.initial.e (stores_before l.names l.line l.first l.more) l.e
+    (stores_before l.names l.line l.last l.rest) × (last_target l.first l.more ≡ last_target l.last l.rest)
 
 abbrev pub decreases-targets : goal.decreases-targets
 decreases-targets l = length l.rest

@@ -37,16 +37,26 @@ abbrev pub decreases-handlers : goal.decreases-handlers
 decreases-handlers l = 3 + plan_weights_handlers l.items.now + outside l.outer.now
 
 abbrev pub decreases-tried : goal.decreases-tried
-decreases-tried l = 4 + (plan_weights l.body.now + (plan_weights_handlers l.items.now + plan_weights l.other.now)) + outside l.around.now
+decreases-tried l = 4 + (plan_weights l.body.now + (plan_weights_handlers l.items.now + plan_weights l.other.now)) +
+    outside l.around.now
 
 abbrev pub decreases-tried_finally : goal.decreases-tried_finally
 decreases-tried_finally l = 5 + (plan_weights l.inner.now + plan_weights l.last.now) + outside l.around.now
 
 abbrev pub invariant-block-loop-x : goal.invariant-block-loop-x
-invariant-block-loop-x l = Rest (env_of l.around) l.initial.e (planned_all l.items l.names (around_of l.names l.around)) l.e (planned_all (drop l.x-index l.items) l.names (around_of l.names l.around)) × (plan_weights (drop l.x-index l.items) ≤ plan_weights l.items)
+invariant-block-loop-x l = Rest (env_of l.around) l.initial.e
+    (planned_all l.items l.names (around_of l.names l.around)) l.e
+    (planned_all (drop l.x-index l.items) l.names (around_of l.names l.around)) ×
+    (plan_weights (drop l.x-index l.items) ≤ plan_weights l.items)
 
 abbrev pub invariant-arms-loop-x : goal.invariant-arms-loop-x
-invariant-arms-loop-x l = Rest (λ ls. frame_there l.end 1 0 ls ∷ env_of l.around ls) l.initial.e (planned_arms l.items l.names (around_of l.names l.around)) l.e (planned_arms (drop l.x-index l.items) l.names (around_of l.names l.around)) × (plan_weights_arms (drop l.x-index l.items) ≤ plan_weights_arms l.items)
+invariant-arms-loop-x l = Rest (λ ls. frame_there l.end 1 0 ls ∷ env_of l.around ls) l.initial.e
+    (planned_arms l.items l.names (around_of l.names l.around)) l.e
+    (planned_arms (drop l.x-index l.items) l.names (around_of l.names l.around)) ×
+    (plan_weights_arms (drop l.x-index l.items) ≤ plan_weights_arms l.items)
 
 abbrev pub invariant-handlers-loop-x : goal.invariant-handlers-loop-x
-invariant-handlers-loop-x l = Rest (λ ls. frame_there l.base 2 l.slot ls ∷ env_of l.outer ls) l.initial.e (planned_handlers l.items l.names (around_of l.names l.outer)) l.e (planned_handlers (drop l.x-index l.items) l.names (around_of l.names l.outer)) × (plan_weights_handlers (drop l.x-index l.items) ≤ plan_weights_handlers l.items)
+invariant-handlers-loop-x l = Rest (λ ls. frame_there l.base 2 l.slot ls ∷ env_of l.outer ls) l.initial.e
+    (planned_handlers l.items l.names (around_of l.names l.outer)) l.e
+    (planned_handlers (drop l.x-index l.items) l.names (around_of l.names l.outer)) ×
+    (plan_weights_handlers (drop l.x-index l.items) ≤ plan_weights_handlers l.items)

@@ -4,31 +4,36 @@ use Rattle.py_compile.specs.inner.Tallies.{inside, read_links, read_named, read_
 use Rattle.py_compile.proofs.uses.+uses.Given as goal
 
 abbrev pub invariant-expressions-items : goal.invariant-expressions-items
-invariant-expressions-items l = (tally l.out (told_all l.role (inside l.all l.b) l.rest) ≡ tally l.initial.out (told_all l.role (inside l.all l.b) l.items)) × (tops l.rest ≤ tops l.items)
+invariant-expressions-items l = (tally l.out (told_all l.role (inside l.all l.b) l.rest) ≡ tally l.initial.out
+    (told_all l.role (inside l.all l.b) l.items)) × (tops l.rest ≤ tops l.items)
 
 abbrev pub decreases-expressions-items : goal.decreases-expressions-items
 decreases-expressions-items l = length l.rest
 
 abbrev pub invariant-keywords-items : goal.invariant-keywords-items
-invariant-keywords-items l = (tally l.out (read_named (inside l.all l.b) l.rest) ≡ tally l.initial.out (read_named (inside l.all l.b) l.items)) × (tops_named l.rest ≤ tops_named l.items)
+invariant-keywords-items l = (tally l.out (read_named (inside l.all l.b) l.rest) ≡ tally l.initial.out
+    (read_named (inside l.all l.b) l.items)) × (tops_named l.rest ≤ tops_named l.items)
 
 abbrev pub decreases-keywords-items : goal.decreases-keywords-items
 decreases-keywords-items l = length l.rest
 
 abbrev pub invariant-links-items : goal.invariant-links-items
-invariant-links-items l = (tally l.out (read_links (inside l.all l.b) l.rest) ≡ tally l.initial.out (read_links (inside l.all l.b) l.items)) × (tops_links l.rest ≤ tops_links l.items)
+invariant-links-items l = (tally l.out (read_links (inside l.all l.b) l.rest) ≡ tally l.initial.out
+    (read_links (inside l.all l.b) l.items)) × (tops_links l.rest ≤ tops_links l.items)
 
 abbrev pub decreases-links-items : goal.decreases-links-items
 decreases-links-items l = length l.rest
 
 abbrev pub invariant-pairs-items : goal.invariant-pairs-items
-invariant-pairs-items l = (tally l.out (read_pairs (inside l.all l.b) l.rest) ≡ tally l.initial.out (read_pairs (inside l.all l.b) l.items)) × (tops_pairs l.rest ≤ tops_pairs l.items)
+invariant-pairs-items l = (tally l.out (read_pairs (inside l.all l.b) l.rest) ≡ tally l.initial.out
+    (read_pairs (inside l.all l.b) l.items)) × (tops_pairs l.rest ≤ tops_pairs l.items)
 
 abbrev pub decreases-pairs-items : goal.decreases-pairs-items
 decreases-pairs-items l = length l.rest
 
 abbrev pub invariant-trailers-items : goal.invariant-trailers-items
-invariant-trailers-items l = (tally l.out (read_trailers (inside l.all l.b) l.rest) ≡ tally l.initial.out (read_trailers (inside l.all l.b) l.items)) × (tops_trailers l.rest ≤ tops_trailers l.items)
+invariant-trailers-items l = (tally l.out (read_trailers (inside l.all l.b) l.rest) ≡ tally l.initial.out
+    (read_trailers (inside l.all l.b) l.items)) × (tops_trailers l.rest ≤ tops_trailers l.items)
 
 abbrev pub decreases-trailers-items : goal.decreases-trailers-items
 decreases-trailers-items l = length l.rest

@@ -12,24 +12,44 @@ returns-clause-ended g c = λ i o e has.
     let job = c.run_workers-core.ensures.job in
     let r = c.finish-state.result in
     let made = y.made_with.value in
-    let left = devices_of g.L.Loader.state g.I.Source.state g.O.Sink.state g.E.Sink.state c.args.loader r.input r.out r.err in
-    let t : Told = record { history = r.history.entries; conflicts = r.conflicts.entries; store = Some (g.S.SegStore.meaning r.store) } in
+    let left = devices_of g.L.Loader.state g.I.Source.state g.O.Sink.state g.E.Sink.state c.args.loader r.input r.out
+    r.err in
+    let t : Told = record {
+      history = r.history.entries;
+      conflicts = r.conflicts.entries;
+      store =
+          Some (g.S.SegStore.meaning r.store);
+    } in
     let sane = c.run_workers-core.ensures.good.sane in
     let f = c.finish-state.ensures.finished sane.state sane.stands in
     let ends : RunEnds (g.C.Client.prog (core_client y)) (core_limits g.S.SegStore.meaning y) c.answer.result
-    (devices_of g.L.Loader.state g.I.Source.state g.O.Sink.state g.E.Sink.state c.args.loader made.input made.out made.err) t left
+    (devices_of g.L.Loader.state g.I.Source.state g.O.Sink.state g.E.Sink.state c.args.loader made.input made.out
+    made.err) t left
     = handed_over (g.C.Client.prog (core_client y)) (core_limits g.S.SegStore.meaning y)
-    (devices_of g.L.Loader.state g.I.Source.state g.O.Sink.state g.E.Sink.state c.args.loader made.input made.out made.err) left
-    made.mid made.was_mid (g.S.SegStore.meaning r.store) (g.S.SegStore.reserved r.store) sane.state f.0 r.state r.failed t c.answer.result
-    f.1 f.2 c.finish-state.ensures.shape.0 c.finish-state.ensures.shape.1 c.finish-state.ensures.unused refl c.answer.ensures in
+    (devices_of g.L.Loader.state g.I.Source.state g.O.Sink.state g.E.Sink.state c.args.loader made.input made.out
+    made.err) left
+    made.mid made.was_mid (g.S.SegStore.meaning r.store) (g.S.SegStore.reserved r.store) sane.state f.0 r.state
+    r.failed t c.answer.result
+    f.1 f.2 c.finish-state.ensures.shape.0 c.finish-state.ensures.shape.1 c.finish-state.ensures.unused refl
+    c.answer.ensures in
     let ends1 = subst (λ z. RunEnds (g.C.Client.prog z) (core_limits g.S.SegStore.meaning y) c.answer.result
-    (devices_of g.L.Loader.state g.I.Source.state g.O.Sink.state g.E.Sink.state c.args.loader made.input made.out made.err) t left) (λ k. (job k).client) ends in
+    (devices_of g.L.Loader.state g.I.Source.state g.O.Sink.state g.E.Sink.state c.args.loader made.input made.out
+    made.err) t left) (λ k. (job k).client) ends in
     let limits : core_limits g.S.SegStore.meaning y ≡ core_limits g.S.SegStore.meaning x
-    = λ k. record { length = (job k).length; budget = (job k).budget; segments = (job k).segments; words = (job k).words } in
+    = λ k. record {
+      length = (job k).length;
+      budget = (job k).budget;
+      segments = (job k).segments;
+      words =
+          (job k).words;
+    } in
     let ends2 = subst (λ z. RunEnds (g.C.Client.prog (core_client x)) z c.answer.result
-    (devices_of g.L.Loader.state g.I.Source.state g.O.Sink.state g.E.Sink.state c.args.loader made.input made.out made.err) t left) limits ends1 in
+    (devices_of g.L.Loader.state g.I.Source.state g.O.Sink.state g.E.Sink.state c.args.loader made.input made.out
+    made.err) t left) limits ends1 in
     let input = (λ k. (job k).input) ∙ has.input_is in
     let out = (λ k. (job k).out) ∙ has.out_is in
     let err = (λ k. (job k).err) ∙ has.err_is in
-    subst (λ (d : Devices). RunEnds (g.C.Client.prog (core_client x)) (core_limits g.S.SegStore.meaning x) c.answer.result d t left)
-    (λ k. devices_of g.L.Loader.state g.I.Source.state g.O.Sink.state g.E.Sink.state c.args.loader (input k) (out k) (err k)) ends2
+    subst (λ (d : Devices). RunEnds (g.C.Client.prog (core_client x)) (core_limits g.S.SegStore.meaning x)
+    c.answer.result d t left)
+    (λ k. devices_of g.L.Loader.state g.I.Source.state g.O.Sink.state g.E.Sink.state c.args.loader (input k) (out k)
+    (err k)) ends2

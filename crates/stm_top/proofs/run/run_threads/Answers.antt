@@ -14,11 +14,29 @@ returns-in-Ok-new g c =
     let r = c.run_core.result in
     let n = c.in-Ok-new.ensures in
     let o = c.args.options.now in
-    let a = devices_of g.L.Loader.state g.I.Source.state g.O.Sink.state g.E.Sink.state c.args.outside.loader c.args.outside.input c.args.outside.out c.args.outside.err in
-    let b = devices_of g.L.Loader.state g.I.Source.state g.O.Sink.state g.E.Sink.state r.outside.loader r.outside.input r.outside.out r.outside.err in
-    let t : Told = record { history = r.history.entries; conflicts = r.conflicts.entries; store = option_map plain_meaning r.store } in
+    let a = devices_of g.L.Loader.state g.I.Source.state g.O.Sink.state g.E.Sink.state c.args.outside.loader
+    c.args.outside.input c.args.outside.out c.args.outside.err in
+    let b = devices_of g.L.Loader.state g.I.Source.state g.O.Sink.state g.E.Sink.state r.outside.loader r.outside.input
+    r.outside.out r.outside.err in
+    let t : Told = record {
+      history = r.history.entries;
+      conflicts = r.conflicts.entries;
+      store =
+          option_map plain_meaning r.store;
+    } in
     let limits : core_limits plain_meaning c.in-Ok-new.core ≡ limits_of o
-    = n.limits ∙ (λ k. record { length = o.length; budget = o.budget; segments = (c.in-Ok.ensures.meaning k).segments; words = (c.in-Ok.ensures.meaning k).limit }) in
+    = n.limits ∙ (λ k. record {
+      length = o.length;
+      budget = o.budget;
+      segments = (c.in-Ok.ensures.meaning k).segments;
+      words = (c.in-Ok.ensures.meaning k).limit;
+    }) in
     let ends = c.run_core.ensures.ended c.args.outside.input c.args.outside.out c.args.outside.err n.devices in
-    let ends1 = subst (λ z. RunEnds (g.C.Client.prog z) (core_limits plain_meaning c.in-Ok-new.core) r.answer a t b) n.client ends in
-    record { ended = (ap g.L.Loader.state c.run_core.ensures.loader, inr (subst (λ z. RunEnds (g.C.Client.prog c.args.client.now) z r.answer a t b) limits ends1)) }
+    let ends1 = subst (λ z. RunEnds (g.C.Client.prog z) (core_limits plain_meaning c.in-Ok-new.core) r.answer a t b)
+    n.client ends in
+    record {
+      ended = (
+        ap g.L.Loader.state c.run_core.ensures.loader,
+        inr (subst (λ z. RunEnds (g.C.Client.prog c.args.client.now) z r.answer a t b) limits ends1),
+      );
+    }

@@ -3,4 +3,5 @@ use Rattle.stm_top.proofs.TopSteps.{nothing_put, no_bytes}
 use Rattle.stm_top.proofs.top.put_text.Goals as goal
 
 pub returns-else-not-is_empty : goal.returns-else-not-is_empty
-returns-else-not-is_empty g c = nothing_put c.args.text.now (g.E.Sink.state c.args.err.now) (no_bytes c.args.text.now (sym c.is_empty.ensures ∙ c.if-not-is_empty.false))
+returns-else-not-is_empty g c = nothing_put c.args.text.now (g.E.Sink.state c.args.err.now)
+    (no_bytes c.args.text.now (sym c.is_empty.ensures ∙ c.if-not-is_empty.false))

@@ -10,7 +10,8 @@ use Rattle.stm_top.proofs.top.run_script.Goals as goal
 
 pub run_text-requires-clause-short : goal.run_text-requires-clause-short
 run_text-requires-clause-short g c =
-    let short = taken_short c.args.options.now.script c.in-Ok.text.items _ _ c.requires.options.script c.in-Ok.ensures.taken in
+    let short = taken_short c.args.options.now.script c.in-Ok.text.items _ _ c.requires.options.script
+    c.in-Ok.ensures.taken in
     let same = ap length c.as_slice.ensures.value in
     omega (arith, short, same)
 
@@ -18,10 +19,26 @@ pub returns-in-Ok : goal.returns-in-Ok
 returns-in-Ok g c =
     let r = c.run_text.result in
     let o = c.args.options.now in
-    let a = devices_of g.L.Loader.state g.I.Source.state g.O.Sink.state g.E.Sink.state c.args.outside.loader c.args.outside.input c.args.outside.out c.args.outside.err in
-    let b = devices_of g.L.Loader.state g.I.Source.state g.O.Sink.state g.E.Sink.state r.outside.loader r.outside.input r.outside.out r.outside.err in
-    let t : Told = record { history = r.history.entries; conflicts = r.conflicts.entries; store = option_map plain_meaning r.store } in
-    let between = devices_of g.L.Loader.state g.I.Source.state g.O.Sink.state g.E.Sink.state c.take_script.new.loader c.take_script.new.input c.args.outside.out c.args.outside.err in
-    let taken_to : Origin = record { loader = g.L.Loader.state c.take_script.new.loader; input = g.I.Source.state c.take_script.new.input } in
-    let ended = subst (λ x. TextEnded HasCode IsRefused prog_of x o r.answer between t b) c.as_slice.ensures.value c.run_text.ensures.ended in
-    record { cause = text_ran HasCode IsRefused prog_of o a b t c.in-Ok.text.items taken_to c.in-Ok.ensures.taken r.answer ended }
+    let a = devices_of g.L.Loader.state g.I.Source.state g.O.Sink.state g.E.Sink.state c.args.outside.loader
+    c.args.outside.input c.args.outside.out c.args.outside.err in
+    let b = devices_of g.L.Loader.state g.I.Source.state g.O.Sink.state g.E.Sink.state r.outside.loader r.outside.input
+    r.outside.out r.outside.err in
+    let t : Told = record {
+      history = r.history.entries;
+      conflicts = r.conflicts.entries;
+      store =
+          option_map plain_meaning r.store;
+    } in
+    let between = devices_of g.L.Loader.state g.I.Source.state g.O.Sink.state g.E.Sink.state c.take_script.new.loader
+    c.take_script.new.input c.args.outside.out c.args.outside.err in
+    let taken_to : Origin = record {
+      loader = g.L.Loader.state c.take_script.new.loader;
+      input =
+          g.I.Source.state c.take_script.new.input;
+    } in
+    let ended = subst (λ x. TextEnded HasCode IsRefused prog_of x o r.answer between t b) c.as_slice.ensures.value
+    c.run_text.ensures.ended in
+    record {
+      cause = text_ran HasCode IsRefused prog_of o a b t c.in-Ok.text.items taken_to c.in-Ok.ensures.taken
+          r.answer ended;
+    }

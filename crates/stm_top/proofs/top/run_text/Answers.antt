@@ -8,12 +8,27 @@ use Rattle.stm_top.specs.TopCall.{devices_of, Told}
 use Rattle.stm_top.proofs.top.run_text.Goals as goal
 
 pub run_threads-requires-clause-first : goal.run_threads-requires-clause-first
-run_threads-requires-clause-first g c κs within = subst (λ p. IsSoundFirst (prog_of p) (Sound p)) (sym c.new-client.ensures.program) c.new-client.ensures.first
+run_threads-requires-clause-first g c κs within =
+    subst (λ p. IsSoundFirst (prog_of p) (Sound p)) (sym c.new-client.ensures.program) c.new-client.ensures.first
 
 pub returns : goal.returns
 returns g c =
     let r = c.run_threads.result in
-    let a = devices_of g.L.Loader.state g.I.Source.state g.O.Sink.state g.E.Sink.state c.args.outside.loader c.args.outside.input c.args.outside.out c.args.outside.err in
-    let b = devices_of g.L.Loader.state g.I.Source.state g.O.Sink.state g.E.Sink.state r.outside.loader r.outside.input r.outside.out r.outside.err in
-    let t : Told = record { history = r.history.entries; conflicts = r.conflicts.entries; store = option_map plain_meaning r.store } in
-    record { ended = inr (c.in-Ok.program, c.in-Ok.ensures.program, subst (λ p. ThreadsEnded (prog_of p) c.args.options.now r.answer a t b) c.new-client.ensures.program c.run_threads.ensures.ended) }
+    let a = devices_of g.L.Loader.state g.I.Source.state g.O.Sink.state g.E.Sink.state c.args.outside.loader
+    c.args.outside.input c.args.outside.out c.args.outside.err in
+    let b = devices_of g.L.Loader.state g.I.Source.state g.O.Sink.state g.E.Sink.state r.outside.loader r.outside.input
+    r.outside.out r.outside.err in
+    let t : Told = record {
+      history = r.history.entries;
+      conflicts = r.conflicts.entries;
+      store =
+          option_map plain_meaning r.store;
+    } in
+    record {
+      ended = inr (
+        c.in-Ok.program,
+        c.in-Ok.ensures.program,
+        subst (λ p. ThreadsEnded (prog_of p) c.args.options.now r.answer a t b) c.new-client.ensures.program
+            c.run_threads.ensures.ended,
+      );
+    }

@@ -10,6 +10,8 @@ pub returns : goal.returns
 returns g c =
     let write = g.H.Hasher.write in
     let named = c.self.inside.named.now in
-    fed_then write c.args.state.now c.write_usize.new.self c.hash_names.new.state (usize (length named)) (flat_map (slice u8) (key_names named)) c.write_usize.ensures c.hash_names.ensures
-    ∙ ap (λ n. fold write c.args.state.now (usize n ++ flat_map (slice u8) (key_names named))) (sym (length-key_names named))
+    fed_then write c.args.state.now c.write_usize.new.self c.hash_names.new.state (usize (length named))
+    (flat_map (slice u8) (key_names named)) c.write_usize.ensures c.hash_names.ensures
+    ∙ ap (λ n. fold write c.args.state.now (usize n ++ flat_map (slice u8) (key_names named)))
+    (sym (length-key_names named))
     ∙ ap (λ ks. fold write c.args.state.now (slice (slice u8) ks)) c.self.view_is
