@@ -1,0 +1,17 @@
+use Rattle.std.proofs.Common.{get_or, refl, arith}
+use Rattle.paged_store.proofs.BookSteps.{mem_place, show_step}
+use Rattle.paged_store.proofs.books.show.Goals as goal
+
+pub index_mut-requires : goal.index_mut-requires
+index_mut-requires c =
+    let l = c.requires (get_or c.args.names.now c.names.a-index (record { 0 = 0 })).0
+    (mem_place c.args.names.now c.names.a-index (record { 0 = 0 }) (omega arith)) in
+    let e = c.names.invariant.count in
+    omega (arith, l, e, c.names.present.ok.0)
+
+pub names-preserved : goal.names-preserved
+names-preserved c =
+    show_step c.args.names.now c.names.a-index (record { 0 = 0 }) c.args.present.now.items c.names.present.items _
+    (omega arith)
+    (c.requires (get_or c.args.names.now c.names.a-index (record { 0 = 0 })).0
+    (mem_place c.args.names.now c.names.a-index (record { 0 = 0 }) (omega arith))) c.names.invariant refl

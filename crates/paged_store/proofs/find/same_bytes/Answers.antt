@@ -1,0 +1,22 @@
+use Rattle.std.proofs.Common.{◌∙◌}
+use Rattle.paged_store.proofs.TextLemmas.{other_text, whole_text, end_text}
+use Rattle.paged_store.proofs.find.same_bytes.Goals as goal
+
+pub returns-then-not-same_words : goal.returns-then-not-same_words
+returns-then-not-same_words c =
+    other_text _ _ c.args.a c.args.b _ _ c.text-x.result.1 c.requires.first.stands c.requires.second.stands
+    c.requires.text c.requires.other c.text-x.ensures.body c.text-y.ensures.body c.text-x.ensures.length
+    (c.if-n-m.false ∙ c.text-y.ensures.length) c.if-not-same_words.ensures
+
+pub returns-then-n-eq0 : goal.returns-then-n-eq0
+returns-then-n-eq0 c =
+    whole_text _ _ c.args.a c.args.b _ _ c.text-x.result.1 c.requires.first.stands c.requires.second.stands
+    c.requires.text c.requires.other c.text-x.ensures.body c.text-y.ensures.body c.text-x.ensures.length
+    (c.if-n-m.false ∙ c.text-y.ensures.length) c.if-not-same_words.ensures c.if-n-eq0.true
+
+pub returns : goal.returns
+returns c = c.eq.ensures ∙
+    end_text _ _ c.args.a c.args.b _ _ c.text-x.result.1 c.requires.first.stands c.requires.second.stands
+    c.requires.text c.requires.other c.text-x.ensures.body c.text-y.ensures.body c.text-x.ensures.length
+    (c.if-n-m.false ∙ c.text-y.ensures.length) _ _ _ _ c.if-not-same_words.ensures c.word.ensures
+    c.word-2.ensures c.to_le_bytes-last.ensures c.to_le_bytes-other.ensures

@@ -1,0 +1,15 @@
+use Rattle.std.proofs.Common.{arith}
+use Rattle.page_table.specs.Lists.{table_of}
+use Rattle.paged_store.proofs.TakeLemmas.{opened_then, own_extents_step}
+use Rattle.paged_store.proofs.take.open_extents.Goals as goal
+
+pub extents-preserved : goal.extents-preserved
+extents-preserved c = record {
+  same = opened_then (table_of c.args.pages.now) (table_of c.extents.pages) (table_of c.open_span.new.pages)
+      c.extents.invariant.same
+      c.in_ok-open_span.ensures.same;
+  own = own_extents_step c.args.k c.extents.extent-index c.args.extents.now _ c.words.result (table_of c.extents.pages)
+      (table_of c.open_span.new.pages) (omega arith) c.words.ensures c.extents.invariant.own
+      c.in_ok-open_span.ensures.same
+      c.in_ok-open_span.ensures.own;
+}

@@ -1,0 +1,13 @@
+-- What code and proofs say to each other. Nothing public rests on it.
+pub mod Formed
+pub mod State
+pub mod Moves
+pub mod Paged
+pub mod Drafts
+pub mod Ending
+pub mod Claiming
+pub mod Writing
+pub mod Written
+pub mod Sight
+pub mod Taking
+pub mod Growing

@@ -1,0 +1,87 @@
+-- What is done to a table and to the books of a store where a step is taken back, and where a transaction ends. What
+-- code
+-- and proofs say to each other: nothing public rests on it.
+use Rattle.std.specs.Prelude.{◌≡◌, ℕ, ◌+◌, ◌/◌, ◌<◌, ◌≤◌, Bool, true, false, cond, ◌||◌, List, length, get_or, drop}
+use Rattle.py_data.specs.Sight.{mem}
+use Rattle.page_table.specs.Pages.{Table, Lies}
+use Rattle.paged_store.specs.declared.extent.Span.{Span}
+use Rattle.paged_store.specs.declared.extent.Extent.{Extent}
+use Rattle.paged_store.specs.declared.extent.Note.{Note}
+use Rattle.paged_store.specs.Words.{Words}
+use Rattle.paged_store.specs.inner.Moves.{put, given}
+use Rattle.paged_store.specs.inner.Paged.{Drafted, in_extents, of_class, extents_at, rewound, spare_at, taken_since}
+
+-- ---- where spans, extents and notes lie
+
+abbrev pub SpansLie : ℕ → List Span → Type 0
+SpansLie end xs = (i : ℕ) (x : Span) → i < length xs → (get_or xs i x).place + (get_or xs i x).words ≤ end
+
+abbrev pub ExtentsLie : ℕ → List Extent → Type 0
+ExtentsLie end xs = (i : ℕ) (x : Extent) → i < length xs → Lies (get_or xs i x).class (get_or xs i x).place end
+
+abbrev pub HaveClasses : List Extent → Type 0
+HaveClasses xs = (i : ℕ) (x : Extent) → i < length xs → (1 ≤ (get_or xs i x).class) × ((get_or xs i x).class ≤ 21)
+
+-- in pages of segment k's own
+abbrev pub NotesLie : ℕ → Table → List Note → Type 0
+NotesLie k t xs = (i : ℕ) (x : Note) → i < length xs →
+    ((get_or xs i x).place < t.reserved) × (t.own k ((get_or xs i x).place / 512) ≡ true)
+
+-- ---- words
+
+-- segment k's words in the places of f are the shared ones, and every segment's
+abbrev pub pushes : ℕ → (ℕ → Bool) → Table → Table
+pushes k f t = record t { shared = given f (t.word k) t.shared; word = λ j. given f (t.word k) (t.word j) }
+
+-- the shared words in the places of f are segment k's
+abbrev pub restores : ℕ → (ℕ → Bool) → Table → Table
+restores k f t = record t { word = put k (given f t.shared (t.word k)) t.word }
+
+-- segment k has other words
+abbrev pub with_words : ℕ → Words → Table → Table
+with_words k w t = record t { word = put k w t.word }
+
+-- ---- extents
+
+-- of each class there is room on the shelf for the extents
+abbrev pub HaveRoom : List Extent → Table → Type 0
+HaveRoom xs t = (c : ℕ) → of_class c xs + length (t.shelf c).spare ≤ (t.shelf c).total
+
+-- the extents were given back
+pub record GivenBack (xs : List Extent) (t u : Table) : Type 0 where
+  pub others : u ≡ record t { shelf = u.shelf }
+  pub total : (c : ℕ) → (u.shelf c).total ≡ (t.shelf c).total
+  pub count : (c : ℕ) → length (u.shelf c).spare ≡ length (t.shelf c).spare + of_class c xs
+  pub spare : (p : ℕ) → spare_at u p ≡ spare_at t p + extents_at xs p
+
+-- ---- books
+
+abbrev pub among : List ℕ → ℕ → Bool
+among xs a = mem a xs
+
+-- the bytes of the addresses of f are 0
+pub record Released (f : ℕ → Bool) (old new : List ℕ) : Type 0 where
+  pub count : length new ≡ length old
+  pub each : (a : ℕ) → get_or new a 0 ≡ cond (f a) 0 (get_or old a 0)
+
+-- the addresses of f are of records of the image
+pub record Shown (f : ℕ → Bool) (old new : List Bool) : Type 0 where
+  pub count : length new ≡ length old
+  pub each : (a : ℕ) → get_or new a false ≡ (f a || get_or old a false)
+
+-- the books say the same, of no fewer addresses
+pub record SameBooks (ps : List Bool) (hs : List ℕ) (ps1 : List Bool) (hs1 : List ℕ) : Type 0 where
+  pub count : length hs1 ≡ length ps1
+  pub more : length ps ≤ length ps1
+  pub present : (a : ℕ) → get_or ps1 a false ≡ get_or ps a false
+  pub holders : (a : ℕ) → get_or hs1 a 0 ≡ get_or hs a 0
+
+-- ---- a draft
+
+-- segment k's words as its open step began with them
+abbrev pub rewinds : ℕ → Drafted → Table → Table
+rewinds k d t = restores k (in_extents (taken_since d)) (with_words k (rewound d.notes (t.word k)) t)
+
+-- the records that the open step made
+abbrev pub made_since : Drafted → List ℕ
+made_since d = drop d.made_before d.made

@@ -1,0 +1,225 @@
+-- The fields of a paged store, and the state that they stand for. What code and proofs say to each other: nothing
+-- public
+-- rests on it.
+use Rattle.std.specs.Prelude.{◌≡◌, ℕ, zero, suc, ◌+◌, ◌/◌, ◌^◌, ◌<◌, ◌≤◌, Bool, true, false, cond, ◌||◌, eqb, List, [], ◌∷◌, length, take, drop, get_or, slice_get, Option, Some, None}
+use Rattle.py_data.specs.Collection.{places}
+use Rattle.py_data.specs.Heap.{Marks}
+use Rattle.py_data.specs.Sight.{mem, no_marks}
+use Rattle.seg_store.specs.inner.Looks.{marks_of}
+use Rattle.seg_store.specs.Store.{IsStore}
+use Rattle.page_table.specs.Pages.{Table, in_span, limit, Lies}
+use Rattle.page_table.specs.Lists.{Lists, table_of}
+use Rattle.paged_store.specs.declared.extent.Span.{Span}
+use Rattle.paged_store.specs.declared.extent.Extent.{Extent}
+use Rattle.paged_store.specs.declared.extent.Note.{Note}
+use Rattle.paged_store.specs.declared.draft.Draft.{Draft}
+use Rattle.paged_store.specs.Words.{Words}
+use Rattle.paged_store.specs.inner.State.{Hand, State, meaning_in, Sound}
+
+-- ---- lists of spans, extents and notes
+
+abbrev pub in_spans : List Span → ℕ → Bool
+in_spans [] p = false
+in_spans (x ∷ xs) p = in_span x.place x.words p || in_spans xs p
+
+abbrev pub in_extent : Extent → ℕ → Bool
+in_extent x p = in_span x.place (2 ^ x.class) p
+
+abbrev pub one_if : Bool → ℕ
+one_if b = cond b 1 0
+
+-- how many of these extents have the place
+abbrev pub extents_at : List Extent → ℕ → ℕ
+extents_at [] p = 0
+extents_at (x ∷ xs) p = one_if (in_extent x p) + extents_at xs p
+
+abbrev pub in_extents : List Extent → ℕ → Bool
+in_extents [] p = false
+in_extents (x ∷ xs) p = in_extent x p || in_extents xs p
+
+-- how many of these extents are of a class
+abbrev pub of_class : ℕ → List Extent → ℕ
+of_class c [] = 0
+of_class c (x ∷ xs) = one_if (eqb c x.class) + of_class c xs
+
+abbrev pub noted : List Note → ℕ → Bool
+noted [] p = false
+noted (x ∷ xs) p = eqb p x.place || noted xs p
+
+-- the words before all writes that the notes tell of: of each place the first note decides
+abbrev pub rewound : List Note → Words → Words
+rewound [] w = w
+rewound (x ∷ xs) w = λ p. cond (eqb p x.place) x.word (rewound xs w p)
+
+-- how many of the extents of n words from these places on have the place
+abbrev pub spare_in : ℕ → List ℕ → ℕ → ℕ
+spare_in n [] p = 0
+spare_in n (x ∷ xs) p = one_if (in_span x n p) + spare_in n xs p
+
+-- of the classes from c on, k of them, how many of the extents that were given back have the place
+abbrev pub spare_from : ℕ → ℕ → Table → ℕ → ℕ
+spare_from zero c t p = 0
+spare_from (suc k) c t p = spare_in (2 ^ c) (t.shelf c).spare p + spare_from k (c + 1) t p
+
+abbrev pub spare_at : Table → ℕ → ℕ
+spare_at t p = spare_from 21 1 t p
+
+-- ---- drafts
+
+-- what a segment's transaction has in hand, as lists
+pub record Drafted : Type 0 where
+  pub changed : List ℕ
+  pub made : List ℕ
+  pub looked : Marks
+  pub spans : List Span
+  pub taken : List Extent
+  pub notes : List Note
+  pub spans_before : ℕ
+  pub taken_before : ℕ
+  pub made_before : ℕ
+
+abbrev pub no_draft : Drafted
+no_draft = record {
+  changed = [];
+  made = [];
+  looked = no_marks;
+  spans = [];
+  taken = [];
+  notes = [];
+  spans_before = 0;
+  taken_before = 0;
+  made_before = 0;
+}
+
+unfoldable pub drafted : Draft → Drafted
+drafted d = record {
+  changed = places d.changed;
+  made = places d.made;
+  looked = marks_of d.looked;
+  spans = d.spans.items;
+  taken = d.taken.items;
+  notes = d.notes.items;
+  spans_before = d.spans_before;
+  taken_before = d.taken_before;
+  made_before = d.made_before;
+}
+
+abbrev pub drafted_in : Option Draft → Drafted
+drafted_in None = no_draft
+drafted_in (Some d) = drafted d
+
+-- ---- a segment's hands
+
+-- the records that it holds
+abbrev pub held_by : Drafted → ℕ → Bool
+held_by d a = mem a d.changed || mem a d.made
+
+-- where it may have written
+abbrev pub touched_by : Drafted → ℕ → Bool
+touched_by d p = in_spans d.spans p || in_extents d.taken p
+
+abbrev pub taken_then : Drafted → List Extent
+taken_then d = take d.taken_before d.taken
+
+-- the extents that the open step took
+abbrev pub taken_since : Drafted → List Extent
+taken_since d = drop d.taken_before d.taken
+
+-- a segment's words as its open step began with them
+abbrev pub word_before : Table → ℕ → Drafted → Words
+word_before t k d p = cond (in_extents (taken_since d) p) (t.shared p) (rewound d.notes (t.word k) p)
+
+abbrev pub hand_now : Table → ℕ → Drafted → Hand
+hand_now t k d = record {
+  word = t.word k;
+  holds = λ a. mem a d.changed || mem a d.made;
+  touched = λ p. in_spans d.spans p || in_extents d.taken p;
+  taken = extents_at d.taken;
+}
+
+abbrev pub hand_before : Table → ℕ → Drafted → Hand
+hand_before t k d = record {
+  word = word_before t k d;
+  holds = λ a. mem a d.changed || mem a (take d.made_before d.made);
+  touched = λ p. in_spans (take d.spans_before d.spans) p || in_extents (taken_then d) p;
+  taken = extents_at (taken_then d);
+}
+
+-- ---- the fields
+
+-- Of each address whether the image has a record there, and 0 or the number of the segment that holds it plus 1; and
+-- the
+-- drafts, by segment.
+pub record Paged : Type 0 where
+  pub table : Table
+  pub present : List Bool
+  pub holders : List ℕ
+  pub drafts : ℕ → Drafted
+
+unfoldable pub state_of : Paged → State
+state_of p = record {
+  shared = p.table.shared;
+  image = λ a. get_or p.present a false;
+  now = λ k. hand_now p.table k (p.drafts k);
+  before = λ k. hand_before p.table k (p.drafts k);
+  changed = λ k. (p.drafts k).changed;
+  made = λ k. (p.drafts k).made;
+  kept_made = λ k. take (p.drafts k).made_before (p.drafts k).made;
+  looked = λ k. (p.drafts k).looked;
+  spare = spare_at p.table;
+  reserved = p.table.reserved;
+  segments = p.table.segments;
+  limit = limit p.table;
+}
+
+-- ---- when they fit each other
+
+-- a draft of segment k fits the table, and the addresses up to n
+pub record FitsTable (t : Table) (n k : ℕ) (d : Drafted) : Type 0 where
+  pub spans : (i : ℕ) (x : Span) → i < length d.spans
+      → (get_or d.spans i x).place + (get_or d.spans i x).words ≤ t.reserved
+  pub taken : (i : ℕ) (x : Extent) → i < length d.taken → Lies (get_or d.taken i x).class (get_or d.taken i x).place
+      t.reserved
+  pub classes : (i : ℕ) (x : Extent) → i < length d.taken →
+      (1 ≤ (get_or d.taken i x).class) × ((get_or d.taken i x).class ≤ 21)
+  pub notes : (p : ℕ) → noted d.notes p ≡ true → (p < t.reserved) × (t.own k (p / 512) ≡ true)
+  pub noted_touched : (p : ℕ) → noted d.notes p ≡ true → (in_spans d.spans p || in_extents d.taken p) ≡ true
+  pub holds : (a : ℕ) → (mem a d.changed || mem a d.made) ≡ true → a < n
+  pub spans_before : d.spans_before ≤ length d.spans
+  pub taken_before : d.taken_before ≤ length d.taken
+  pub made_before : d.made_before ≤ length d.made
+  -- no record was made twice, before the open step began and since
+  pub once : (a : ℕ) → mem a (take d.made_before d.made) ≡ true → mem a (drop d.made_before d.made) ≡ false
+
+-- the sum of f at the numbers below n
+abbrev pub sum_to : ℕ → (ℕ → ℕ) → ℕ
+sum_to zero f = 0
+sum_to (suc n) f = sum_to n f + f n
+
+pub record Fits (p : Paged) : Type 0 where
+  pub lengths : length p.holders ≡ length p.present
+  pub drafts : (k : ℕ) → FitsTable p.table (length p.present) k (p.drafts k)
+  pub holders : (k a : ℕ) → eqb (get_or p.holders a 0) (suc k) ≡ (mem a (p.drafts k).changed || mem a (p.drafts k).made)
+  -- of each class no more extents are in hand and given back than there are
+  pub counted : (c : ℕ) → sum_to p.table.segments (λ k. of_class c (p.drafts k).taken) + length (p.table.shelf c).spare
+      ≤ (p.table.shelf c).total
+
+pub record Fine (p : Paged) : Type 0 where
+  pub fits : Fits p
+  pub sound : ∥ ((own : Words) × ((role : Words) × Sound own role (state_of p))) ∥₁
+  pub known : ∥ IsStore p.table.reserved (meaning_in (state_of p)) ∥₁
+
+-- ---- a store's fields in memory
+
+abbrev pub paged_by : Lists → List Bool → List ℕ → List Draft → Paged
+paged_by pages present holders drafts = record {
+  table = table_of pages;
+  present = present;
+  holders = holders;
+  drafts = λ k. drafted_in (slice_get drafts k);
+}
+
+-- there is a draft for each segment
+pub record IsPaged (pages : Lists) (present : List Bool) (holders : List ℕ) (drafts : List Draft) : Type 0 where
+  pub count : length drafts ≡ (table_of pages).segments
+  pub fine : Fine (paged_by pages present holders drafts)

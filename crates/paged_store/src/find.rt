@@ -1,0 +1,135 @@
+//! The pair of a dictionary in words with an equal key.
+ghost use Rattle.std.specs.Prelude.{◌≡◌, ℕ, ◌+◌, ◌*◌, ◌/◌, ◌^◌, ◌<◌, ◌≤◌, eqb, length, Some, true, IfSome, MatchBool};
+ghost use Rattle.py_base.specs.declared.kind.Kind.TheVariants.{Str, Dict};
+ghost use Rattle.py_data.specs.Heap.{Heap};
+ghost use Rattle.py_data.specs.Shape.{find, same_key, same_bytes, same_text, text_in};
+ghost use Rattle.page_table.specs.Lists.{table_of};
+ghost use Rattle.paged_store.specs.Words.{body_by};
+ghost use Rattle.paged_store.specs.inner.Sight.{words_seen, record_seen, IsSeen, CanRead, SameWords, OtherWords, IsKeySeen, KeysSeen, KnowsKeys, heap_seen};
+
+use crate::sight::{Seen, body, kind, len, value, word};
+use page_table::Pages;
+use py_data::{Kind, Value};
+
+/// Whether the first `n` words from two places on are the same.
+fn same_words(pages: &Pages, seen: Seen, x: usize, y: usize, n: usize) -> bool
+    requires segment { IsSeen (table_of pages.now) seen }
+    requires first { 0 < n → x + n ≤ (table_of pages.now).reserved }
+    requires second { 0 < n → y + n ≤ (table_of pages.now).reserved }
+    ensures { let w = words_seen (table_of pages.now) seen in
+        MatchBool result (SameWords w x y n) (OtherWords w x y n) }
+{
+    pages.known();
+    'words: for j in 0..n {
+        if word(pages, seen, (x + j) as u32) != word(pages, seen, (y + j) as u32) {
+            return false;
+        }
+    }
+    true
+}
+
+/// Where the bytes of a string begin, and how many there are.
+fn text(pages: &Pages, seen: Seen, a: u32) -> (usize, usize)
+    requires there { CanRead (table_of pages.now) seen a }
+    requires kind { (record_seen (table_of pages.now) seen a).kind ≡ Str }
+    ensures body { result.0 ≡ body_by (words_seen (table_of pages.now) seen) a }
+    ensures length { result.1 ≡ length (record_seen (table_of pages.now) seen a).bytes }
+    ensures within { 0 < result.1 → result.0 + (result.1 + 7) / 8 ≤ (table_of pages.now).reserved }
+{
+    (body(pages, seen, a), len(pages, seen, a))
+}
+
+/// Whether the strings at two addresses have the same bytes. What stands behind the last byte of each isn't compared.
+fn same_bytes(pages: &Pages, seen: Seen, a: u32, b: u32) -> bool
+    requires first { CanRead (table_of pages.now) seen a }
+    requires second { CanRead (table_of pages.now) seen b }
+    requires text { (record_seen (table_of pages.now) seen a).kind ≡ Str }
+    requires other { (record_seen (table_of pages.now) seen b).kind ≡ Str }
+    ensures { result
+        ≡ same_bytes (record_seen (table_of pages.now) seen a).bytes (record_seen (table_of pages.now) seen b).bytes }
+{
+    pages.known();
+    let (x, n) = text(pages, seen, a);
+    let (y, m) = text(pages, seen, b);
+    if n != m {
+        return false;
+    }
+    let whole = n / 8;
+    if !same_words(pages, seen, x, y, whole) {
+        return false;
+    }
+    if n % 8 == 0 {
+        return true;
+    }
+    let last = word(pages, seen, (x + whole) as u32).to_le_bytes();
+    let other = word(pages, seen, (y + whole) as u32).to_le_bytes();
+    last[..n % 8] == other[..n % 8]
+}
+
+/// Whether two addresses are equal as keys.
+fn same_address(pages: &Pages, seen: Seen, a: u32, b: u32) -> bool
+    requires first { CanRead (table_of pages.now) seen a }
+    requires second { CanRead (table_of pages.now) seen b }
+    ensures { result
+        ≡ same_text (eqb a b) (text_in (Some (record_seen (table_of pages.now) seen a)))
+        (text_in (Some (record_seen (table_of pages.now) seen b))) }
+{
+    if a == b {
+        return true;
+    }
+    match (kind(pages, seen, a), kind(pages, seen, b)) {
+        (Kind::Str, Kind::Str) => same_bytes(pages, seen, a, b),
+        _ => false,
+    }
+}
+
+/// Whether two keys are equal.
+fn same(pages: &Pages, seen: Seen, x: Value, y: Value) -> bool
+    requires first { IsKeySeen (table_of pages.now) seen x }
+    requires second { IsKeySeen (table_of pages.now) seen y }
+    ensures { result ≡ same_key (heap_seen (table_of pages.now) seen) x y }
+{
+    match (x, y) {
+        (Value::Int(i), Value::Int(j)) => i == j,
+        (Value::Int(i), Value::Bool(b)) => i == b as i64,
+        (Value::Bool(b), Value::Int(j)) => b as i64 == j,
+        (Value::Bool(b), Value::Bool(c)) => b as i64 == c as i64,
+        (Value::None, Value::None) => true,
+        (Value::Builtin(i), Value::Builtin(j)) => i == j,
+        (Value::Ref(a), Value::Ref(b)) => same_address(pages, seen, a.0, b.0),
+        _ => false,
+    }
+}
+
+/// Where the pairs of a dictionary begin, and how many there are.
+fn pairs(pages: &Pages, seen: Seen, d: u32) -> (usize, usize)
+    requires there { CanRead (table_of pages.now) seen d }
+    requires kind { (record_seen (table_of pages.now) seen d).kind ≡ Dict }
+    ensures body { result.0 ≡ body_by (words_seen (table_of pages.now) seen) d }
+    ensures count { result.1 ≡ length (record_seen (table_of pages.now) seen d).values / 2 }
+    ensures within { 0 < result.1 → result.0 + 4 * result.1 ≤ (table_of pages.now).reserved }
+{
+    (body(pages, seen, d), len(pages, seen, d) / 2)
+}
+
+/// The number, from 0, of the first pair whose key is equal. It goes through the pairs one after another.
+pub fn find_key(pages: &Pages, seen: Seen, d: u32, key: Value) -> Option<usize>
+    requires there { CanRead (table_of pages.now) seen d }
+    requires kind { (record_seen (table_of pages.now) seen d).kind ≡ Dict }
+    requires keys { KeysSeen (table_of pages.now) seen (record_seen (table_of pages.now) seen d).values }
+    requires key { IsKeySeen (table_of pages.now) seen key }
+    ensures found { result ≡ find (heap_seen (table_of pages.now) seen) (record_seen (table_of pages.now) seen d).values key }
+    ensures within { IfSome result (λ i. 2 * i + 1 < length (record_seen (table_of pages.now) seen d).values) }
+    ensures heap { (h : Heap)
+        → KnowsKeys h (words_seen (table_of pages.now) seen) (record_seen (table_of pages.now) seen d).values key
+        → result ≡ find h (record_seen (table_of pages.now) seen d).values key }
+{
+    pages.known();
+    let (body, count) = pairs(pages, seen, d);
+    'pairs: for n in 0..count {
+        if same(pages, seen, value(pages, seen, (body + 4 * n) as u32), key) {
+            return Some(n);
+        }
+    }
+    None
+}

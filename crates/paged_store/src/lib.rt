@@ -1,0 +1,24 @@
+//! A store of records in words.
+#![tactic(auto)]
+
+mod books;
+mod changes;
+mod claim;
+mod draft;
+mod extent;
+mod fill;
+mod find;
+mod grow;
+mod image;
+mod put;
+mod ready;
+mod sight;
+mod spans;
+mod store;
+mod take;
+mod value;
+mod write;
+
+pub use draft::Draft;
+pub use extent::{Extent, Note, Span};
+pub use store::PagedStore;

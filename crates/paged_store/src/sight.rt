@@ -1,0 +1,155 @@
+//! Records as they are read in words: in those of the image, or in a segment's.
+ghost use Rattle.std.specs.Prelude.{◌≡◌, ℕ, ◌+◌, ◌-◌, ◌*◌, ◌%◌, ◌<◌, ◌≤◌, length, min, take, drop, slice_index};
+ghost use Rattle.py_data.specs.Heap.{length_of, value_at};
+ghost use Rattle.page_table.specs.Lists.{table_of};
+ghost use Rattle.paged_store.specs.Words.{value_of, kind_by, class_in, first_in, count_by, body_by, room_in};
+ghost use Rattle.paged_store.specs.inner.Sight.{words_seen, record_seen, IsSeen, CanRead};
+
+use crate::value::{Header, value_at};
+use page_table::Pages;
+use py_data::{Kind, Value};
+
+/// Whose words are read: the image's, or those of the segment of that number.
+#[derive(Clone, Copy, Debug, Drop)]
+pub enum Seen {
+    Image,
+    Segment(u8),
+}
+
+/// The word at a place.
+pub fn word(pages: &Pages, seen: Seen, place: u32) -> u64
+    requires segment { IsSeen (table_of pages.now) seen }
+    requires place { place < (table_of pages.now).reserved }
+    ensures { result ≡ words_seen (table_of pages.now) seen place }
+{
+    match seen {
+        Seen::Image => pages.shared_word(place),
+        Seen::Segment(k) => pages.word(k, place),
+    }
+}
+
+/// The words from a place on: `n` of them, or as many as lie in the page of that place.
+pub fn words(pages: &Pages, seen: Seen, place: u32, n: u32) -> &[u64]
+    requires segment { IsSeen (table_of pages.now) seen }
+    requires span { place + n ≤ (table_of pages.now).reserved }
+    ensures some { min n (512 - place % 512) ≤ length result.now }
+    ensures most { length result.now ≤ n }
+    ensures words { (i : ℕ) → i < length result.now
+        → slice_index result.now i ≡ words_seen (table_of pages.now) seen (place + i) }
+{
+    match seen {
+        Seen::Image => pages.shared_words(place, n),
+        Seen::Segment(k) => pages.words(k, place, n),
+    }
+}
+
+/// The value whose first word is at a place. Where the place is even both of its words lie in one page, and are found
+/// at once.
+pub fn value(pages: &Pages, seen: Seen, place: u32) -> Value
+    requires segment { IsSeen (table_of pages.now) seen }
+    requires span { place + 2 ≤ (table_of pages.now).reserved }
+    ensures { let w = words_seen (table_of pages.now) seen in result ≡ value_of (w place) (w (place + 1)) }
+{
+    pages.known();
+    let two = words(pages, seen, place, 2);
+    if two.len() == 2 {
+        return value_at(two[0], two[1]);
+    }
+    value_at(word(pages, seen, place), word(pages, seen, place + 1))
+}
+
+/// What the first word of a record's header tells.
+fn header(pages: &Pages, seen: Seen, a: u32) -> Header
+    requires { CanRead (table_of pages.now) seen a }
+    ensures kind { result.kind ≡ kind_by (words_seen (table_of pages.now) seen) a }
+    ensures class { result.class ≡ class_in (words_seen (table_of pages.now) seen (2 * a)) }
+    ensures first { result.first ≡ first_in (words_seen (table_of pages.now) seen (2 * a)) }
+{
+    pages.known();
+    Header::of(word(pages, seen, 2 * a))
+}
+
+/// Where its body begins, if it has one.
+pub fn body(pages: &Pages, seen: Seen, a: u32) -> usize
+    requires { CanRead (table_of pages.now) seen a }
+    ensures { result ≡ body_by (words_seen (table_of pages.now) seen) a }
+{
+    pages.known();
+    word(pages, seen, 2 * a + 2) as usize
+}
+
+/// The kind of the record at an address.
+pub fn kind(pages: &Pages, seen: Seen, a: u32) -> Kind
+    requires { CanRead (table_of pages.now) seen a }
+    ensures { result ≡ (record_seen (table_of pages.now) seen a).kind }
+{
+    header(pages, seen, a).kind
+}
+
+/// The count of its values; of a Str that of its bytes.
+pub fn len(pages: &Pages, seen: Seen, a: u32) -> usize
+    requires { CanRead (table_of pages.now) seen a }
+    ensures { result ≡ length_of (record_seen (table_of pages.now) seen a) }
+{
+    pages.known();
+    word(pages, seen, 2 * a + 1) as usize
+}
+
+/// Its value at a place, from 0.
+pub fn val(pages: &Pages, seen: Seen, a: u32, i: usize) -> Value
+    requires there { CanRead (table_of pages.now) seen a }
+    requires place { i < length (record_seen (table_of pages.now) seen a).values }
+    ensures { result ≡ value_at (record_seen (table_of pages.now) seen a).values i }
+{
+    pages.known();
+    value(pages, seen, (body(pages, seen, a) + 2 * i) as u32)
+}
+
+/// The values that a body of a class has room for.
+fn room(class: u8) -> usize
+    requires { class ≤ 21 }
+    ensures { result ≡ room_in class }
+{
+    if class == 0 { 0 } else { 1 << (class - 1) }
+}
+
+/// Its room, and the room that it had when it was made: 0 and 0 for a record that is no List and no Dict.
+pub fn rooms(pages: &Pages, seen: Seen, a: u32) -> (usize, usize)
+    requires { CanRead (table_of pages.now) seen a }
+    ensures { let r = record_seen (table_of pages.now) seen a in result ≡ (r.room, r.first) }
+{
+    let header = header(pages, seen, a);
+    match header.kind {
+        Kind::List | Kind::Dict => (room(header.class), room(header.first)),
+        _ => (0, 0),
+    }
+}
+
+/// Its byte at a place, from 0.
+pub fn byte(pages: &Pages, seen: Seen, a: u32, i: usize) -> u8
+    requires there { CanRead (table_of pages.now) seen a }
+    requires place { i < length (record_seen (table_of pages.now) seen a).bytes }
+    ensures { result ≡ slice_index (record_seen (table_of pages.now) seen a).bytes i }
+{
+    pages.known();
+    let bytes = word(pages, seen, (body(pages, seen, a) + i / 8) as u32).to_le_bytes();
+    bytes[i % 8]
+}
+
+/// Copies as many of its bytes as `out` holds, from a place on. It reads each word once.
+pub fn copy_bytes(pages: &Pages, seen: Seen, a: u32, from: usize, out: &mut [u8])
+    requires there { CanRead (table_of pages.now) seen a }
+    requires bytes { from + length out.old ≤ length (record_seen (table_of pages.now) seen a).bytes }
+    ensures { out.new ≡ take (length out.old) (drop from (record_seen (table_of pages.now) seen a).bytes) }
+{
+    pages.known();
+    let body = body(pages, seen, a);
+    let mut done = 0;
+    'words: while done < out.len() {
+        let i = from + done;
+        let bytes = word(pages, seen, (body + i / 8) as u32).to_le_bytes();
+        let n = (8 - i % 8).min(out.len() - done);
+        out[done..done + n].copy_from_slice(&bytes[i % 8..i % 8 + n]);
+        done += n;
+    }
+}
