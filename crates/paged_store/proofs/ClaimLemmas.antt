@@ -421,3 +421,13 @@ pub ends_within : (class end : ℕ) (r : Result ℕ StoreFault) → 0 < class �
     IfOk r (λ p. p + size_of class ≤ end)
 ends_within class end (Ok p) l h = let e = size_of_some class l in let m = h.within in omega (arith, e, m)
 ends_within class end (Err e) l h = tt
+
+-- no more is reserved than that
+pub grows_by : (class : ℕ) (t u : Table) (r : Result ℕ StoreFault) → 0 < class → Reserves class t u r →
+    IfOk r (λ p. u.reserved ≤ t.reserved + size_of class)
+grows_by class t u (Err e) l h = tt
+grows_by class t u (Ok p) l h = elim h [
+  | inl x ↦ (let e : u.reserved ≡ t.reserved = ap (λ (z : Table). z.reserved) x.table in omega (arith, e))
+  | inr x ↦ (let e : u.reserved ≡ t.reserved + 2 ^ class = ap (λ (z : Table). z.reserved) x.table in let s =
+      size_of_some class l in omega (arith, e, s))
+]

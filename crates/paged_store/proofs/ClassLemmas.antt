@@ -1,7 +1,8 @@
 -- The class of an extent that holds so many words, and the class of a body with a room.
-use Rattle.std.proofs.Common.{◌≡◌, ◌⊎◌, ℕ, zero, suc, ◌+◌, ◌*◌, ◌^◌, ◌<◌, ◌≤◌, max, true, false, cond, eqb, leb, refl, sym, ap, ◌∙◌, inl, inr, arith}
+use Rattle.std.proofs.Common.{◌≡◌, ◌≢◌, ◌⊎◌, ℕ, zero, suc, ◌+◌, ◌*◌, ◌^◌, ◌<◌, ◌≤◌, max, true, false, cond, eqb, leb, refl, sym, ap, ◌∙◌, inl, inr, arith}
 use Rattle.std.proofs.Math.Nat.{pow-succ', pow-le-pow_right}
 use Rattle.std.proofs.lemmas.Nat.{pow_pos, pow_below}
+use Rattle.std.proofs.lemmas.Bool.{cond-true, cond-false, eq-eqb}
 use Rattle.std.proofs.lemmas.Bool.Decides.{eqb_tells, leb_tells}
 use Rattle.py_base.specs.declared.kind.Kind.{Kind}
 use Rattle.py_base.specs.declared.kind.Kind.TheVariants.{Str, Tuple, List as ListKind, Dict, Cell, Function, Class, Instance, Method, Iter, Range, Lock, Thread}
@@ -217,3 +218,26 @@ pub class_of_room_in : (c : ℕ) → c ≤ 21 → class_of_room (room_in c) ≡ 
 class_of_room_in zero h = ap class_of_room room_in_zero ∙ class_holding_none
 class_of_room_in (suc c) h = ap class_of_room (room_in_next c) ∙ class_of_power c (omega arith) ∙
     (let z : c + 1 ≡ suc c = omega arith in z)
+
+-- ---- the class that a List, and a Dict, is made with
+
+pub list_class_none : (n : ℕ) → n ≡ 0 → class_of_room (room_of ListKind n) ≡ 0
+list_class_none n e = ap class_of_room (list_room n ∙ cond-true (eqb n 0) 0 (2 ^ class_from 20 n) (eq-eqb n 0 e)) ∙
+    class_holding_none
+
+pub list_class_some : (n : ℕ) → n ≢ 0 → class_of_room (room_of ListKind n) ≡ class_from 20 n + 1
+list_class_some n e = elim (eqb_tells n 0) [
+  | inl y ↦ absurd (e y.1)
+  | inr m ↦ ap class_of_room (list_room n ∙ cond-false (eqb n 0) 0 (2 ^ class_from 20 n) m.0)
+      ∙ class_of_power (class_from 20 n) (class_from_most 20 n)
+]
+
+greater_power : (m : ℕ) → max 2 (2 ^ m) ≡ 2 ^ max m 1
+greater_power zero = refl
+greater_power (suc m) = (let l : 2 ^ 1 ≤ 2 ^ suc m = pow-le-pow_right (omega arith) {i = 1} (omega arith) in
+    let e : max (suc m) 1 ≡ suc m = omega arith in
+    let z : max 2 (2 ^ suc m) ≡ 2 ^ suc m = omega arith in z ∙ ap (λ i. 2 ^ i) (sym e))
+
+pub dict_class_is : (n : ℕ) → class_of_room (room_of Dict n) ≡ max (class_from 20 n) 1 + 1
+dict_class_is n = ap class_of_room (dict_room n ∙ greater_power (class_from 20 n))
+    ∙ class_of_power (max (class_from 20 n) 1) (let m = class_from_most 20 n in omega (arith, m))

@@ -72,3 +72,7 @@ pub mod GrownWords
 pub mod TakeCall
 pub mod GrowCall
 pub mod GrowStore
+pub mod MakeTakes
+pub mod MadeWords
+pub mod MakeCall
+pub mod MakeStore

@@ -88,7 +88,7 @@ made_index_fits Range n = refl
 made_index_fits Lock n = refl
 made_index_fits Thread n = refl
 
-made_index_small : (k : Kind) (c : ℕ) → made_index k c ≤ c
+pub made_index_small : (k : Kind) (c : ℕ) → made_index k c ≤ c
 made_index_small Dict c = omega arith
 made_index_small Str c = omega arith
 made_index_small Tuple c = omega arith
@@ -230,3 +230,34 @@ make_changed own role w now a e part kind vs bs short one each small m t = recor
   lays = lays_made own role w now a e part t;
   others = λ p o z. t.others p z;
 }
+
+-- ---- the class that the body of each kind has
+
+pub list_made : (n : ℕ) → made_class ListKind n ≡ class_of_room (room_of ListKind n)
+unfolding made_class
+list_made n = refl
+
+pub dict_made_is : (n : ℕ) → made_class Dict n ≡ class_of_room (room_of Dict n)
+unfolding made_class
+dict_made_is n = refl
+
+pub text_made : (n : ℕ) → made_class Str n ≡ class_holding ((n + 7) / 8)
+unfolding made_class
+text_made n = refl
+
+pub values_made : (k : Kind) (n : ℕ) → (k ≡ Str → ⊥) → (k ≡ ListKind → ⊥) → (k ≡ Dict → ⊥) →
+    made_class k n ≡ class_holding (2 * n)
+unfolding made_class
+values_made Str n s l d = absurd (s refl)
+values_made Tuple n s l d = refl
+values_made ListKind n s l d = absurd (l refl)
+values_made Dict n s l d = absurd (d refl)
+values_made Cell n s l d = refl
+values_made Function n s l d = refl
+values_made Class n s l d = refl
+values_made Instance n s l d = refl
+values_made Method n s l d = refl
+values_made Iter n s l d = refl
+values_made Range n s l d = refl
+values_made Lock n s l d = refl
+values_made Thread n s l d = refl

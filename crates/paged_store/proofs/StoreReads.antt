@@ -1,14 +1,13 @@
 -- What is read of a store: the image's records, and those that a segment sees.
-use Rattle.std.proofs.Common.{◌≡◌, ℕ, ◌+◌, ◌*◌, ◌<◌, ◌≤◌, Bool, true, false, cond, List, length, Option, Some, None, IsSome, IfSome, unwrap_or, refl, sym, ◌∙◌, ap, subst, arith}
+use Rattle.std.proofs.Common.{◌≡◌, ℕ, ◌+◌, ◌*◌, ◌<◌, ◌≤◌, Bool, true, false, cond, length, Option, Some, None, IsSome, IfSome, unwrap_or, refl, sym, ◌∙◌, ap, subst, arith}
 use Rattle.py_base.specs.declared.kind.Kind.TheVariants.{Dict}
 use Rattle.py_data.specs.declared.record.TheConstants.{LENGTH_LIMIT}
 use Rattle.py_data.specs.declared.value.Value.{Value}
-use Rattle.py_data.specs.Heap.{Rec, Heap, Has, at, blank, has_bytes, length_of}
+use Rattle.py_data.specs.Heap.{Rec, Has, at, blank, has_bytes, length_of}
 use Rattle.py_data.specs.Shape.{Fits, find}
 use Rattle.seg_store.specs.Meaning.{sees}
 use Rattle.seg_store.specs.Store.{Where, CanFind, IsStored}
 use Rattle.page_table.specs.Lists.{table_of}
-use Rattle.paged_store.specs.declared.sight.Seen.{Seen}
 use Rattle.paged_store.specs.declared.sight.Seen.TheVariants.{Image, Segment}
 use Rattle.paged_store.specs.declared.store.PagedStore.{PagedStore}
 use Rattle.paged_store.specs.inner.Sight.{CanRead, words_seen, record_seen, IsKeySeen, KeysSeen, KnowsKeys}

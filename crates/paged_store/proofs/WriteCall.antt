@@ -129,7 +129,7 @@ module _ (p : Paged) (k : ℕ) (new : Desk) (w : Words) (t : ℕ → Bool) (xs :
   held_still : over_each in_hand (put k new.draft p.drafts) ≡ over_each in_hand p.drafts
   held_still = put_still in_hand k new.draft p.drafts (λ i a. mem a (d.changed i) || mem a (d.made i))
 
-  fits_turned : k < p.table.segments → Fits (turned_to p k new)
+  pub fits_turned : k < p.table.segments → Fits (turned_to p k new)
   fits_turned l = record {
     lengths = f.fits.lengths;
     drafts = put_each (λ j x. FitsTable new.table (length p.present) j x) k new.draft p.drafts
@@ -176,7 +176,7 @@ module _ (p : Paged) (k : ℕ) (new : Desk) (w : Words) (t : ℕ → Bool) (xs :
   taken_now : (q : ℕ) → extents_at new.draft.taken q ≡ extents_at xs q + extents_at (p.drafts k).taken q
   taken_now q = (let e = ap (λ z. extents_at z q) d.taken ∙ at_both (p.drafts k).taken xs q in omega (arith, e))
 
-  hand_turned : hand_now new.table k new.draft ≡ written w t (extents_at xs) (hand_now p.table k (p.drafts k))
+  pub hand_turned : hand_now new.table k new.draft ≡ written w t (extents_at xs) (hand_now p.table k (p.drafts k))
   hand_turned = λ i. record (hand_now p.table k (p.drafts k)) {
     word = λ q. d.word q i;
     holds = λ a. mem a (d.changed i) || mem a (d.made i);
@@ -192,7 +192,7 @@ module _ (p : Paged) (k : ℕ) (new : Desk) (w : Words) (t : ℕ → Bool) (xs :
   extents_then = (λ i. take (d.taken_before i) (d.taken i))
       ∙ take-append-le (p.drafts k).taken_before (p.drafts k).taken xs (f.fits.drafts k).taken_before
 
-  before_turned : hand_before new.table k new.draft ≡ hand_before p.table k (p.drafts k)
+  pub before_turned : hand_before new.table k new.draft ≡ hand_before p.table k (p.drafts k)
   before_turned = λ i. record (hand_before p.table k (p.drafts k)) {
     word = λ q. d.before q i;
     holds = λ a. mem a (d.changed i) || mem a (take (d.made_before i) (d.made i));
@@ -200,10 +200,10 @@ module _ (p : Paged) (k : ℕ) (new : Desk) (w : Words) (t : ℕ → Bool) (xs :
     taken = λ q. extents_at (extents_then i) q;
   }
 
-  abbrev stock : State → State
+  abbrev pub stock : State → State
   stock s = stocked (spare_at new.table) new.table.reserved s
 
-  state_turned : state_of (turned_to p k new) ≡ writes k w t (extents_at xs) (stock (state_of p))
+  pub state_turned : state_of (turned_to p k new) ≡ writes k w t (extents_at xs) (stock (state_of p))
   unfolding state_of
   state_turned =
       let s : State = stock (state_of p) in

@@ -11,3 +11,4 @@ pub mod Written
 pub mod Sight
 pub mod Taking
 pub mod Growing
+pub mod Making

@@ -1,19 +1,20 @@
 //! Extents that are claimed for a record before anything is written.
 ghost use Rattle.std.specs.Prelude.{◌≡◌, ◌+◌, ◌<◌, ◌≤◌, [], ◌∷◌, ◌++◌, length, IfOk, IfErr, OnErr};
-ghost use Rattle.paged_store.specs.Words.{size_of};
 ghost use Rattle.page_table.specs.Pages.{Lies};
 ghost use Rattle.page_table.specs.Lists.{table_of};
+ghost use Rattle.paged_store.specs.Words.{size_of};
 ghost use Rattle.paged_store.specs.inner.Claiming.{extent_for, Claims, Denies};
 ghost use Rattle.paged_store.specs.inner.Ending.{ExtentsLie, HaveClasses, HaveRoom, GivenBack};
 
 use page_table::Pages;
 use seg_store::StoreFault;
 
-/// Takes an extent of a class, and answers its place; of class 0 it takes none, and the place says nothing.
+/// Takes an extent of a class, or none of class 0, for which the place is 0.
 fn claim_one(pages: &mut Pages, class: u8) -> Result<u32, StoreFault>
     requires { class ≤ 21 }
     ensures ok { IfOk result (λ p. Claims (extent_for class p) (table_of pages.old) (table_of pages.new)) }
     ensures within { IfOk result (λ p. p + size_of class ≤ (table_of pages.new).reserved) }
+    ensures most { IfOk result (λ p. (table_of pages.new).reserved ≤ (table_of pages.old).reserved + size_of class) }
     ensures same { OnErr result (table_of pages.new ≡ table_of pages.old) }
     ensures cause { IfErr result (Denies (class ∷ []) (table_of pages.old) (table_of pages.new)) }
 {
@@ -40,9 +41,9 @@ pub fn return_one(pages: &mut Pages, class: u8, place: u32)
 fn claim_two(pages: &mut Pages, first: u8, second: u8) -> Result<(u32, u32), StoreFault>
     requires first { first ≤ 21 }
     requires second { second ≤ 21 }
-    ensures ok { IfOk result (λ p. Claims (extent_for first p.0 ++ extent_for second p.1)
-        (table_of pages.old) (table_of pages.new)) }
+    ensures ok { IfOk result (λ p. Claims (extent_for first p.0 ++ extent_for second p.1) (table_of pages.old) (table_of pages.new)) }
     ensures within { IfOk result (λ p. (p.0 + size_of first ≤ (table_of pages.new).reserved) × (p.1 + size_of second ≤ (table_of pages.new).reserved)) }
+    ensures most { IfOk result (λ p. (table_of pages.new).reserved ≤ (table_of pages.old).reserved + size_of first + size_of second) }
     ensures err { OnErr result (Claims [] (table_of pages.old) (table_of pages.new)) }
     ensures cause { IfErr result (Denies (first ∷ second ∷ []) (table_of pages.old) (table_of pages.new)) }
 {
@@ -57,8 +58,8 @@ fn claim_two(pages: &mut Pages, first: u8, second: u8) -> Result<(u32, u32), Sto
     }
 }
 
-/// Takes extents of three classes, for which it answers their places, or none. For class 0 no extent is taken, and its
-/// place says nothing.
+/// Takes extents of three classes, for which it answers their places, or none. For class 0 no extent is taken, and the place
+/// is 0.
 pub fn claim(
     pages: &mut Pages,
     first: u8,
@@ -68,10 +69,9 @@ pub fn claim(
     requires first { first ≤ 21 }
     requires second { second ≤ 21 }
     requires third { third ≤ 21 }
-    ensures ok { IfOk result (λ p. Claims (extent_for first p.0 ++ extent_for second p.1 ++ extent_for third p.2)
-        (table_of pages.old) (table_of pages.new)) }
-    ensures within { IfOk result (λ p. (p.0 + size_of first ≤ (table_of pages.new).reserved) ×
-        (p.1 + size_of second ≤ (table_of pages.new).reserved) × (p.2 + size_of third ≤ (table_of pages.new).reserved)) }
+    ensures ok { IfOk result (λ p. Claims (extent_for first p.0 ++ extent_for second p.1 ++ extent_for third p.2) (table_of pages.old) (table_of pages.new)) }
+    ensures within { IfOk result (λ p. (p.0 + size_of first ≤ (table_of pages.new).reserved) × (p.1 + size_of second ≤ (table_of pages.new).reserved) × (p.2 + size_of third ≤ (table_of pages.new).reserved)) }
+    ensures most { IfOk result (λ p. (table_of pages.new).reserved ≤ (table_of pages.old).reserved + size_of first + size_of second + size_of third) }
     ensures err { OnErr result (Claims [] (table_of pages.old) (table_of pages.new)) }
     ensures cause { IfErr result (Denies (first ∷ second ∷ third ∷ []) (table_of pages.old) (table_of pages.new)) }
 {

@@ -12,7 +12,7 @@ use page_table::Pages;
 use py_data::{Kind, Record};
 
 /// The length of a record that is to be made: the count of its values, and of a Str that of its bytes.
-fn length_of(r: &Record) -> u64
+pub(crate) fn length_of(r: &Record) -> u64
     ensures { result ≡ length_by r.now.kind r.now.values r.now.bytes }
 {
     match r.kind {

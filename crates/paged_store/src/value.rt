@@ -1,5 +1,9 @@
 //! Values, kinds and headers as words.
-ghost use Rattle.std.specs.Prelude.{◌≡◌, ◌<◌, ◌^◌};
+ghost use Rattle.std.specs.Prelude.{◌≡◌, ◌<◌, ◌≤◌, ◌^◌};
+ghost use Rattle.py_base.specs.declared.kind.Kind.TheVariants.{Dict};
+ghost use Rattle.py_data.specs.declared.record.TheConstants.{LENGTH_LIMIT};
+ghost use Rattle.seg_store.specs.Extents.{class_from, class_holding};
+ghost use Rattle.paged_store.specs.inner.Written.{made_class, made_index};
 ghost use Rattle.paged_store.specs.inner.Formed.{FitsValue};
 ghost use Rattle.paged_store.specs.Words.{tag_of, payload_of, value_of, kind_number, kind_at, kind_in, class_in, index_class_in, first_in, head_word};
 
@@ -142,5 +146,70 @@ impl Header {
             + 256 * u64::from(self.class)
             + 65536 * u64::from(self.index)
             + 16_777_216 * u64::from(self.first)
+    }
+
+    /// The header of a record that is made: its body holds what it is made with, or has its first room, and a Dict has an
+    /// index of half as many words as its body.
+    pub fn made(kind: Kind, n: usize) -> Header
+        requires { n ≤ LENGTH_LIMIT }
+        ensures kind { result.kind ≡ kind }
+        ensures class { result.class ≡ made_class kind n }
+        ensures index { result.index ≡ made_index kind (made_class kind n) }
+        ensures first { result.first ≡ made_class kind n }
+    {
+        let class = made_class(kind, n);
+        let index = match kind {
+            Kind::Dict => class - 1,
+            _ => 0,
+        };
+        Header {
+            kind,
+            class,
+            index,
+            first: class,
+        }
+    }
+}
+
+/// The least class, up to `most`, of which an extent holds `n` words.
+fn class_from(most: u8, n: usize) -> u8
+    requires { most ≤ 21 }
+    ensures class { result ≡ class_from most n }
+    ensures most { result ≤ most }
+{
+    let mut class = most;
+    'classes: while class > 0 && n <= 1usize << (class - 1) {
+        class -= 1;
+    }
+    class
+}
+
+/// The least class from 1 on of which an extent holds `n` words; 0 for no words.
+#[tactic(auto, using(crate::proofs::ClassLemmas::class_holding_most), unfolding(seg_store::specs::Extents::class_holding))]
+fn class_holding(n: usize) -> u8
+    ensures class { result ≡ class_holding n }
+    ensures most { result ≤ 21 }
+{
+    if n == 0 {
+        0
+    } else if n <= 2 {
+        1
+    } else {
+        class_from(21, n)
+    }
+}
+
+/// The class of the body of a record that is made with so many values, or bytes.
+fn made_class(kind: Kind, n: usize) -> u8
+    requires { n ≤ LENGTH_LIMIT }
+    ensures class { result ≡ made_class kind n }
+    ensures most { result ≤ 21 }
+    ensures pairs { kind ≡ Dict → 2 ≤ result }
+{
+    match kind {
+        Kind::List => { if n == 0 { 0 } else { class_from(20, n) + 1 } }
+        Kind::Dict => class_from(20, n).max(1) + 1,
+        Kind::Str => class_holding((n + 7) / 8),
+        _ => class_holding(2 * n),
     }
 }

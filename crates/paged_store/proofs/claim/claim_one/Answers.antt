@@ -1,6 +1,6 @@
 use Rattle.std.proofs.Common.{arith}
 use Rattle.page_table.specs.Lists.{table_of}
-use Rattle.paged_store.proofs.ClaimLemmas.{claimed_one, ends_within}
+use Rattle.paged_store.proofs.ClaimLemmas.{claimed_one, ends_within, grows_by}
 use Rattle.paged_store.proofs.PartLemmas.{size_of_none}
 use Rattle.paged_store.proofs.claim.claim_one.Goals as goal
 
@@ -13,5 +13,9 @@ pub returns-then-class-eq0-clause-within : goal.returns-then-class-eq0-clause-wi
 returns-then-class-eq0-clause-within c = (let e = size_of_none c.args.class c.if-class-eq0.true in omega (arith, e))
 
 pub returns-else-class-eq0-clause-within : goal.returns-else-class-eq0-clause-within
-returns-else-class-eq0-clause-within c = ends_within c.args.class _ c.reserve.result
-    (omega (arith, c.if-class-eq0.false)) c.reserve.ensures.lies
+returns-else-class-eq0-clause-within c =
+    ends_within c.args.class _ c.reserve.result (omega (arith, c.if-class-eq0.false)) c.reserve.ensures.lies
+
+pub returns-else-class-eq0-clause-most : goal.returns-else-class-eq0-clause-most
+returns-else-class-eq0-clause-most c = grows_by c.args.class _ _ c.reserve.result (omega (arith, c.if-class-eq0.false))
+    c.reserve.ensures.extent
