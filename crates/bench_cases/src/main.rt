@@ -3,6 +3,7 @@
 #![tactic(auto)]
 
 mod heap;
+mod index;
 mod measure;
 mod objects;
 

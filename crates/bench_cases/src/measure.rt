@@ -3,6 +3,7 @@ ghost use Rattle.std.specs.Prelude.{◌≡◌, ◌*◌, ◌≤◌, None};
 ghost use Rattle.lock_run.specs.Space.{space_heap};
 
 use crate::heap::{appends, changes};
+use crate::index::probes;
 use crate::objects::{joins, list_sums, searches, text_sums, texts};
 use lock_run::PlainView;
 use py_data::{LENGTH_LIMIT, Stop};
@@ -35,6 +36,6 @@ pub fn measured(alloc: Global, name: &str, count: u32) -> Option<Result<i64, Sto
         "joins" => Some(joins(alloc, &mut view, count)),
         "texts" => Some(texts(alloc, &mut view, count)),
         "searches" => Some(searches(alloc, &mut view, count)),
-        _ => None,
+        kind => Some(probes(alloc, kind, count)?.map_err(|_| Stop::OutOfMemory)),
     }
 }

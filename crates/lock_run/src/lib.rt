@@ -16,4 +16,5 @@ pub use laws::{accept_law, run_law, steps_law, turn_law};
 pub use machine::LockRun;
 pub use plain::PlainView;
 pub use script::{Act, Acts, Script, ScriptState};
+pub use space::Space;
 pub use turn::{History, Turn, TurnFault, TurnWhy};

@@ -5,7 +5,7 @@ use Rattle.std.proofs.Math.Nat.{pow-succ', div-div-eq-div-mul, zero-div, pow-le-
 use Rattle.std.proofs.lemmas.List.{get_or-take, get_or-drop, length-take}
 use Rattle.paged_store.specs.Words.{Words, listed, byte_in}
 use Rattle.paged_store.proofs.ListedLemmas.{listed_is}
-use Rattle.paged_store.specs.inner.Written.{number_of, packed}
+use Rattle.dict_index.specs.Packed.{number_of, packed}
 
 pub number_byte : (bs : List ℕ) (k : ℕ) → ((i : ℕ) → get_or bs i 0 < 256) →
     number_of bs / 256 ^ k % 256 ≡ get_or bs k 0

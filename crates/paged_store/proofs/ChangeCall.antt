@@ -1,23 +1,26 @@
 -- A segment changes a record in the words that it has, on a store's fields; or the change is refused.
-use Rattle.std.proofs.Common.{◌≡◌, ℕ, ◌+◌, ◌*◌, ◌<◌, ◌≤◌, Bool, true, false, [], sym, ◌∙◌, ap, refl, arith}
+use Rattle.std.proofs.Common.{get_or, ◌||◌, ◌≡◌, ℕ, ◌<◌, ◌≤◌, Bool, true, false, [], refl, arith}
+use Rattle.std.proofs.Math.Logic.{∥∥₁_map}
 use Rattle.py_data.specs.declared.change.Change.{Change}
 use Rattle.py_data.specs.Changes.{after}
 use Rattle.py_data.specs.Heap.{Rec}
+use Rattle.seg_store.specs.Extents.{extents}
 use Rattle.seg_store.specs.Meaning.{Meaning, sees, holds}
 use Rattle.seg_store.specs.Calls.{after_change}
 use Rattle.seg_store.specs.Store.{CanChange, IsStore}
-use Rattle.page_table.specs.Pages.{Table}
 use Rattle.paged_store.specs.Words.{Words, decode, in_record}
 use Rattle.paged_store.specs.inner.Formed.{Lays}
-use Rattle.paged_store.specs.inner.State.{State, meaning_in, Sound}
+use Rattle.paged_store.specs.inner.State.{meaning_in, Sound}
 use Rattle.paged_store.specs.inner.Moves.{never}
-use Rattle.paged_store.specs.inner.Paged.{Drafted, Paged, state_of, spare_at, Fine}
+use Rattle.paged_store.specs.inner.Paged.{Paged, state_of, spare_at, Fine}
 use Rattle.paged_store.specs.inner.Writing.{Desk, Wrote, Refused}
 use Rattle.paged_store.specs.inner.Written.{Changed}
 use Rattle.paged_store.proofs.OwnerLemmas.{place_own}
 use Rattle.paged_store.proofs.StockMove.{less_stocks}
 use Rattle.paged_store.proofs.Keeping.{change_kept}
 use Rattle.paged_store.proofs.FineLemmas.{known_of, Leaves}
+use Rattle.paged_store.proofs.IndexFrame.{Renews}
+use Rattle.paged_store.proofs.KeyedLemmas.{keyed_change, fixed_change}
 use Rattle.paged_store.proofs.LookCalls.{in_hand}
 use Rattle.paged_store.proofs.WriteCall.{Rewritten, turned, turned_to, turn_leaves, stay_leaves}
 
@@ -85,11 +88,17 @@ module _ (p : Paged) (k a : ℕ) (f : Fine p) (l : k < p.table.segments)
     -- the record is another
     pub change_leaves : (c : Change) → CanChange (sees (meaning_in (state_of p)) k) a c
         → InPlaceOf (p.table.word k) now t a (after c (decode (p.table.word k) a))
+        → ((n : ℕ) → 1 ≤ n → extents (after c (decode (p.table.word k) a)) n ≡ extents (decode (p.table.word k) a) n)
+        → Renews (λ b. get_or p.present b false || in_hand k (p.drafts k) b) (p.table.word k) now a
+        (after c (decode (p.table.word k) a))
         → Leaves (turned_to p k new) (after_change k a (after c) (meaning_in (state_of p)))
-    change_leaves c can i = turn_leaves p k new now t [] f (turned k now t old new h) a is_held (after c) l
+    change_leaves c can i same right = turn_leaves p k new now t [] f (turned k now t old new h) a is_held (after c) l
         (λ own role g. rewritten own role (after c (decode (p.table.word k) a)) g i)
         (change_kept p.table.reserved new.table.reserved k (meaning_in (state_of p)) (known_of p f) room_kept a c held
         can)
+        (λ n z. let e = same n z in omega (arith, e))
+        (∥∥₁_map f.keyed (λ q. keyed_change (meaning_in (state_of p)) k a c q can))
+        ((fixed_change (meaning_in (state_of p)) k a c can).now k) right
 
   same_words : (t : ℕ → Bool) (own role : Words) → ((q : ℕ) → t q ≡ true → in_record (p.table.word k) a q ≡ true) →
       Sound own role (state_of p)
@@ -116,4 +125,4 @@ module _ (p : Paged) (k a : ℕ) (f : Fine p) (l : k < p.table.segments)
       (λ own role g. rewritten w r.touched r.wrote own role (decode w a) g
       (same_words r.touched own role (λ q x. inside q (r.within q x)) g))
       (still_store p.table.reserved new.table.reserved (meaning_in (state_of p)) (known_of p f)
-      (room_kept w r.touched r.wrote))
+      (room_kept w r.touched r.wrote)) refl

@@ -318,7 +318,7 @@ given_one class place t u low high e =
 
 -- ---- refusals
 
-times_both : (k : ℕ) (ws vs : List ℕ) → times k (ws ++ vs) ≡ times k ws + times k vs
+pub times_both : (k : ℕ) (ws vs : List ℕ) → times k (ws ++ vs) ≡ times k ws + times k vs
 times_both k [] vs = omega arith
 times_both k (x ∷ ws) vs = let e = times_both k ws vs in omega (arith, e)
 

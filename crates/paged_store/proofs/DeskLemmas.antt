@@ -31,7 +31,6 @@ same_then k a b c s r = record {
   own = λ j q h. r.own j q (s.own j q h);
   changed = r.changed ∙ s.changed;
   made = r.made ∙ s.made;
-  looked = r.looked ∙ s.looked;
   taken = r.taken ∙ s.taken;
   taken_before = r.taken_before ∙ s.taken_before;
   made_before = r.made_before ∙ s.made_before;
@@ -192,7 +191,6 @@ module _ (k place m : ℕ) (t : ℕ → Bool) (own : ℕ → ℕ → Bool) (span
       own = r.grows;
       changed = refl;
       made = refl;
-      looked = refl;
       taken = refl;
       taken_before = refl;
       made_before = refl;

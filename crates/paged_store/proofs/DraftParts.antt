@@ -7,6 +7,7 @@ use Rattle.py_data.specs.Collection.{places}
 use Rattle.py_data.specs.Sight.{mem}
 use Rattle.py_data.proofs.Grow.{mem_append}
 use Rattle.seg_store.proofs.Sees.{same_number}
+use Rattle.seg_marks.specs.Marks.{Marked}
 use Rattle.page_table.specs.Pages.{Table, Shelf, Lies}
 use Rattle.paged_store.specs.declared.draft.Draft.{Draft}
 use Rattle.paged_store.specs.declared.extent.Span.{Span}
@@ -105,7 +106,7 @@ unfolding drafted
 rewound_table t u v k d xs ys e f a b = b ∙ ap (restores k (in_extents ys)) a ∙
     (λ i. restores k (in_extents (f i)) (with_words k (rewound (e i) (t.word k)) t))
 
-pub released_both : (d : Draft) (ns bs : List Addr) (hs us vs : List ℕ) → ns ≡ d.changed → bs ≡ d.made →
+pub released_both : (d : Draft) (ns bs : List Addr) (hs us vs : Marked) → ns ≡ d.changed → bs ≡ d.made →
     Released (among (places ns)) hs us → Released (among (places bs)) us vs
     → Released (held_by (drafted d)) hs vs
 unfolding drafted
@@ -118,7 +119,7 @@ pub shown_made : (d : Draft) (ns : List Addr) (ps qs : List Bool) → ns ≡ d.m
 unfolding drafted
 shown_made d ns ps qs e p = subst (λ xs. Shown (among (places xs)) ps qs) e p
 
-pub released_since : (d : Draft) (ns : List Addr) (hs us : List ℕ) → ns ≡ drop d.made_before d.made →
+pub released_since : (d : Draft) (ns : List Addr) (hs us : Marked) → ns ≡ drop d.made_before d.made →
     Released (among (places ns)) hs us → Released (among (made_since (drafted d))) hs us
 unfolding drafted
 released_since d ns hs us e p = subst (λ xs. Released (among xs) hs us)

@@ -11,7 +11,7 @@ use Rattle.paged_store.proofs.MeaningLemmas.{put_here, put_there, part_by, meani
 use Rattle.paged_store.proofs.FreeLemmas.{same_step, empty_fits, image_freed, now_freed, before_freed, spare_freed, spare_once_freed, beyond_freed}
 
 module _ (own role : Words) (s : State) (k : ℕ) (g : Sound own role s) where
-  restored_same : (p : ℕ) → given (s.now k).touched s.shared (s.now k).word p ≡ s.shared p
+  pub restored_same : (p : ℕ) → given (s.now k).touched s.shared (s.now k).word p ≡ s.shared p
   restored_same p = elim (cases_Bool ((s.now k).touched p)) [
     | inl y ↦ cond-true ((s.now k).touched p) (s.shared p) ((s.now k).word p) y
     | inr n ↦ cond-false ((s.now k).touched p) (s.shared p) ((s.now k).word p) n ∙ (g.now k).same p n

@@ -1,5 +1,5 @@
 -- A segment publishes, drops what it has in hand, and takes its step back, on a store's fields.
-use Rattle.std.proofs.Common.{◌≡◌, ◌≢◌, ℕ, ◌+◌, ◌-◌, ◌*◌, ◌<◌, ◌≤◌, Bool, true, false, cond, ◌||◌, ◌&&◌, not, eqb, List, [], ◌∷◌, length, get_or, take, drop, Some, None, inl, inr, refl, sym, ◌∙◌, ap, subst, arith}
+use Rattle.std.proofs.Common.{◌≡◌, ◌≢◌, ℕ, ◌+◌, ◌-◌, ◌*◌, ◌<◌, ◌≤◌, Bool, true, false, cond, ◌||◌, ◌&&◌, not, eqb, List, [], ◌∷◌, length, get_or, take, drop, Option, Some, None, inl, inr, refl, sym, ◌∙◌, ap, subst, arith}
 use Rattle.std.proofs.Math.Logic.{∥∥₁_elim, ∥∥₁_map}
 use Rattle.std.proofs.lemmas.Bool.{cases_Bool, both_ways, false_from_ne_true, or_right, or_parts, cond-true, cond-false, cond_both}
 use Rattle.std.proofs.lemmas.List.{take-append-drop, take-take, drop_all, length-take-le}
@@ -13,9 +13,9 @@ use Rattle.paged_store.specs.declared.extent.Note.{Note}
 use Rattle.paged_store.specs.Words.{Words, decode}
 use Rattle.paged_store.specs.inner.State.{Hand, State, meaning_in, fresh, Sound}
 use Rattle.paged_store.specs.inner.Moves.{put, empty_hand, given, gives, publishes, drops, undoes, freed, took}
-use Rattle.paged_store.specs.inner.Paged.{Drafted, Paged, state_of, in_spans, in_extents, spare_at, extents_at, of_class, noted, rewound, held_by, touched_by, taken_since, taken_then, word_before, hand_now, hand_before, sum_to, Fits, Fine}
-use Rattle.paged_store.specs.inner.Drafts.{step_undone, cleared}
-use Rattle.paged_store.specs.inner.Ending.{pushes, restores, with_words, rewinds, GivenBack, among, Released, Shown, made_since}
+use Rattle.paged_store.specs.inner.Paged.{Drafted, no_draft, Paged, state_of, in_spans, in_extents, spare_at, extents_at, of_class, noted, rewound, held_by, touched_by, taken_since, taken_then, word_before, hand_now, hand_before, sum_to, counts_of, Fits, Fine}
+use Rattle.paged_store.specs.inner.Drafts.{step_undone}
+use Rattle.paged_store.specs.inner.Ending.{pushes, restores, with_words, rewinds, GivenBack, among, free_of, Shown, made_since}
 use Rattle.paged_store.proofs.OverLemmas.{over_each, put_over, put_self, put_still}
 use Rattle.paged_store.proofs.MeaningLemmas.{put_here, put_there}
 use Rattle.paged_store.proofs.StepMoves.{undoes_sound, undoes_means}
@@ -23,9 +23,18 @@ use Rattle.paged_store.proofs.DropMove.{drops_sound, drops_means}
 use Rattle.paged_store.proofs.PublishMove.{publishes_sound, publishes_means}
 use Rattle.paged_store.proofs.Keeping.{undo_kept, drop_kept, publish_kept}
 use Rattle.paged_store.proofs.FineLemmas.{known_of, Leaves, leaves_by, leaves_of}
+use Rattle.paged_store.proofs.CountLemmas.{counted_undo, counted_publish, counted_drop}
+use Rattle.paged_store.proofs.KeyedLemmas.{keyed_undo, keyed_drop, keyed_publish}
+use Rattle.paged_store.proofs.IndexedLemmas.{indexes_prop, drops_indexed, undoes_indexed}
+use Rattle.paged_store.proofs.IndexedPublish.{publishes_indexed}
+use Rattle.paged_store.proofs.CountCalls.{now_put, then_put}
 use Rattle.paged_store.proofs.LockCall.{image_there}
 use Rattle.paged_store.proofs.SpanSteps.{given_same, put_twice}
-use Rattle.paged_store.proofs.EndLemmas.{sum_put, sum_less, class_parts, at_parts, table_fits, cleared_fits, undone_fits, ended, fits_end, now_by, before_by, now_cleared, before_cleared, put_others}
+use Rattle.paged_store.proofs.EndLemmas.{sum_put, sum_less, class_parts, at_parts, table_fits, empty_fits, undone_fits, ended, fits_end, now_by, before_by, now_cleared, before_cleared, put_others}
+
+in_segments : (p : Paged) (k : ℕ) → k < p.table.segments → k < (meaning_in (state_of p)).segments
+unfolding meaning_in state_of
+in_segments p k l = l
 
 -- ---- what a segment publishes
 
@@ -56,9 +65,9 @@ locked_there : (p : Paged) (k a : ℕ) → Fine p → mem a (p.drafts k).changed
 unfolding meaning_in state_of
 locked_there p k a f e = image_there p.present a (decode p.table.shared a) ((known_of p f).locked k a e)
 
-module _ (p : Paged) (k : ℕ) (f : Fine p) (ps : List Bool) (hs : List ℕ) (u : Table)
+module _ (p : Paged) (k : ℕ) (f : Fine p) (l : k < p.table.segments) (ps : List Bool) (hs : ℕ → Option ℕ) (u : Table)
     (is : u ≡ pushes k (touched_by (p.drafts k)) p.table)
-    (shown : Shown (among (p.drafts k).made) p.present ps) (released : Released (held_by (p.drafts k)) p.holders hs)
+    (shown : Shown (among (p.drafts k).made) p.present ps) (released : hs ≡ free_of (held_by (p.drafts k)) p.holder)
   where
     abbrev d : Drafted
     d = p.drafts k
@@ -117,31 +126,30 @@ module _ (p : Paged) (k : ℕ) (f : Fine p) (ps : List Bool) (hs : List ℕ) (u 
         joined true false false e = refl
         joined false false false e = refl
 
-    state_published : state_of (ended k (cleared d) t ps hs p) ≡ publishes k (state_of p)
+    state_published : state_of (ended k no_draft t ps hs p) ≡ publishes k (state_of p)
     unfolding state_of
     state_published =
         let s : State = state_of p in
-        (λ i. record (state_of (ended k (cleared d) t ps hs p)) {
-          now = put_over (hand_now t) k (cleared d) p.drafts i;
-          before = put_over (hand_before t) k (cleared d) p.drafts i;
-          changed = put_over (λ j x. x.changed) k (cleared d) p.drafts i;
-          made = put_over (λ j x. x.made) k (cleared d) p.drafts i;
-          kept_made = put_over (λ j x. take x.made_before x.made) k (cleared d) p.drafts i;
-          looked = put_still (λ j x. x.looked) k (cleared d) p.drafts refl i;
+        (λ i. record (state_of (ended k no_draft t ps hs p)) {
+          now = put_over (hand_now t) k no_draft p.drafts i;
+          before = put_over (hand_before t) k no_draft p.drafts i;
+          changed = put_over (λ j x. x.changed) k no_draft p.drafts i;
+          made = put_over (λ j x. x.made) k no_draft p.drafts i;
+          kept_made = put_over (λ j x. take x.made_before x.made) k no_draft p.drafts i;
         })
         ∙ (λ i. record (publishes k s) {
           image = λ a. image_after a i;
-          now = put k (now_cleared t k d (p.table.word k) own_word i) (λ j. gives (s.now k) (s.now j));
-          before = put k (before_cleared t k d (p.table.word k) own_word i) (over_each (hand_before t) p.drafts);
+          now = put k (now_cleared t k (p.table.word k) own_word i) (λ j. gives (s.now k) (s.now j));
+          before = put k (before_cleared t k (p.table.word k) own_word i) (over_each (hand_before t) p.drafts);
         })
         ∙ (λ i. record (publishes k s) {
           before = put_others k (empty_hand (p.table.word k)) (over_each (hand_before t) p.drafts)
               (λ j. gives (s.now k) (s.before j)) before_given i;
         })
 
-    fits_published : Fits (ended k (cleared d) t ps hs p)
-    fits_published = fits_end p k (cleared d) t ps hs (held_by d) f.fits refl refl shown.count
-        (cleared_fits t (length ps) k d) released (λ a e. e) (λ a. sym (none (held_by d a)))
+    fits_published : Fits (ended k no_draft t ps hs p)
+    fits_published = fits_end p k no_draft t ps hs (held_by d) f.fits refl refl shown.count
+        (empty_fits t (length ps) k) released (λ a e. e) (λ a. sym (none (held_by d a)))
         (λ c. let h = f.fits.counted c in let z = sum_less p.table.segments k (λ j. of_class c (p.drafts j).taken) in
         omega (arith, h, z))
       where
@@ -149,11 +157,11 @@ module _ (p : Paged) (k : ℕ) (f : Fine p) (ps : List Bool) (hs : List ℕ) (u 
         none true = refl
         none false = refl
 
-    pub publish_leaves : Leaves (ended k (cleared d) u ps hs p) (after_publish k (meaning_in (state_of p)))
+    pub publish_leaves : Leaves (ended k no_draft u ps hs p) (after_publish k (meaning_in (state_of p)))
     publish_leaves =
         let w = known_of p f in
-        subst (λ x. Leaves (ended k (cleared d) x ps hs p) (after_publish k (meaning_in (state_of p)))) (sym is)
-        (leaves_of p (ended k (cleared d) t ps hs p) (publishes k (state_of p))
+        subst (λ x. Leaves (ended k no_draft x ps hs p) (after_publish k (meaning_in (state_of p)))) (sym is)
+        (leaves_of p (ended k no_draft t ps hs p) (publishes k (state_of p))
         (after_publish k (meaning_in (state_of p))) f fits_published state_published
         (λ own role g. record {
           own = own;
@@ -162,7 +170,14 @@ module _ (p : Paged) (k : ℕ) (f : Fine p) (ps : List Bool) (hs : List ℕ) (u 
           means =
               publishes_means own role (state_of p) k g;
         })
-        (publish_kept p.table.reserved p.table.reserved k (meaning_in (state_of p)) w w.room))
+        (publish_kept p.table.reserved p.table.reserved k (meaning_in (state_of p)) w w.room)
+        (counted_publish p.table.reserved (meaning_in (state_of p)) (counts_of p)
+        (counts_of (ended k no_draft t ps hs p)) k w f.counted (in_segments p k l)
+        (λ j c z. now_put k no_draft p.drafts j c) (λ j c z. then_put k no_draft p.drafts j c)
+        (λ c z. refl) (λ c z. refl))
+        (∥∥₁_map f.keyed (λ q. keyed_publish p.table.reserved (meaning_in (state_of p)) k w q))
+        (∥∥₁_elim f.sound (indexes_prop _) (λ x. ∥∥₁_elim f.keyed (indexes_prop _) (λ q.
+        publishes_indexed x.0 x.1.0 (state_of p) k x.1.1 q f.indexed))))
 
 -- ---- what was given back
 
@@ -204,20 +219,20 @@ module _ (k : ℕ) (w : Words) (t u : Table) (r : Reworded k w t u) where
 
 -- ---- what a segment drops
 
-module _ (p : Paged) (k : ℕ) (f : Fine p) (l : k < p.table.segments) (hs : List ℕ) (u : Table)
+module _ (p : Paged) (k : ℕ) (f : Fine p) (l : k < p.table.segments) (hs : ℕ → Option ℕ) (u : Table)
     (back : GivenBack (p.drafts k).taken (restores k (touched_by (p.drafts k)) p.table) u)
-    (released : Released (held_by (p.drafts k)) p.holders hs) where
+    (released : hs ≡ free_of (held_by (p.drafts k)) p.holder) where
   abbrev dropped_words : Words
   dropped_words = given (touched_by (p.drafts k)) p.table.shared (p.table.word k)
 
   dropped : Reworded k dropped_words p.table u
   dropped = reworded k dropped_words p.table u (p.drafts k).taken back
 
-  state_dropped : state_of (ended k (cleared (p.drafts k)) u p.present hs p) ≡ drops k (state_of p)
+  state_dropped : state_of (ended k no_draft u p.present hs p) ≡ drops k (state_of p)
   unfolding state_of
   state_dropped =
       let s : State = state_of p in
-      let d : Drafted = cleared (p.drafts k) in
+      let d : Drafted = no_draft in
       let r = dropped in
       (λ i. record (state_of (ended k d u p.present hs p)) {
         now = (put_over (hand_now u) k d p.drafts ∙ now_there k dropped_words p.table u r (hand_now u k d) p.drafts) i;
@@ -226,12 +241,11 @@ module _ (p : Paged) (k : ℕ) (f : Fine p) (l : k < p.table.segments) (hs : Lis
         changed = put_over (λ j x. x.changed) k d p.drafts i;
         made = put_over (λ j x. x.made) k d p.drafts i;
         kept_made = put_over (λ j x. take x.made_before x.made) k d p.drafts i;
-        looked = put_still (λ j x. x.looked) k d p.drafts refl i;
       })
       ∙ (λ i. record (drops k s) {
         shared = r.shared i;
-        now = put k (now_cleared u k (p.drafts k) dropped_words (word_here k dropped_words p.table u r) i) s.now;
-        before = put k (before_cleared u k (p.drafts k) dropped_words (word_here k dropped_words p.table u r) i)
+        now = put k (now_cleared u k dropped_words (word_here k dropped_words p.table u r) i) s.now;
+        before = put k (before_cleared u k dropped_words (word_here k dropped_words p.table u r) i)
             s.before;
         spare = λ q. back.spare q i;
         reserved = r.reserved i;
@@ -239,9 +253,9 @@ module _ (p : Paged) (k : ℕ) (f : Fine p) (l : k < p.table.segments) (hs : Lis
         limit = 512 * r.pages i;
       })
 
-  fits_dropped : Fits (ended k (cleared (p.drafts k)) u p.present hs p)
-  fits_dropped = fits_end p k (cleared (p.drafts k)) u p.present hs (held_by (p.drafts k)) f.fits dropped.reserved
-      dropped.own refl (cleared_fits u (length p.present) k (p.drafts k)) released
+  fits_dropped : Fits (ended k no_draft u p.present hs p)
+  fits_dropped = fits_end p k no_draft u p.present hs (held_by (p.drafts k)) f.fits dropped.reserved
+      dropped.own refl (empty_fits u (length p.present) k) released
       (λ a e. e) (λ a. sym (none (held_by (p.drafts k) a))) counted
     where
       none : (b : Bool) → (b && not b) ≡ false
@@ -258,15 +272,21 @@ module _ (p : Paged) (k : ℕ) (f : Fine p) (l : k < p.table.segments) (hs : Lis
           let e = ap (λ x. sum_to x (put k 0 (λ j. of_class c (p.drafts j).taken))) dropped.segments in
           omega (arith, h, z, n, m, e)
 
-  pub drop_leaves : Leaves (ended k (cleared (p.drafts k)) u p.present hs p) (after_drop k (meaning_in (state_of p)))
+  pub drop_leaves : Leaves (ended k no_draft u p.present hs p) (after_drop k (meaning_in (state_of p)))
   drop_leaves =
       let w = known_of p f in
-      leaves_by (ended k (cleared (p.drafts k)) u p.present hs p) (drops k (state_of p))
+      leaves_by (ended k no_draft u p.present hs p) (drops k (state_of p))
       (after_drop k (meaning_in (state_of p))) fits_dropped state_dropped
       (∥∥₁_map f.sound (λ x. (freed (took (state_of p) k) x.0, (x.1.0, drops_sound x.0 x.1.0 (state_of p) k x.1.1))))
       (drops_means (state_of p) k)
       (drop_kept p.table.reserved u.reserved k (meaning_in (state_of p)) w
       (subst (λ n. n ≤ (meaning_in (state_of p)).limit) (sym dropped.reserved) w.room))
+      (counted_drop (meaning_in (state_of p)) (counts_of p)
+      (counts_of (ended k no_draft u p.present hs p)) k f.counted (in_segments p k l)
+      (λ j c z. now_put k no_draft p.drafts j c)
+      (λ j c z. then_put k no_draft p.drafts j c) (λ c z. back.total c) (λ c z. back.count c))
+      (∥∥₁_map f.keyed (λ q. keyed_drop (meaning_in (state_of p)) k q))
+      (∥∥₁_elim f.sound (indexes_prop _) (λ x. drops_indexed x.0 x.1.0 (state_of p) k x.1.1 f.indexed))
 
 -- ---- what a step takes back
 
@@ -312,9 +332,9 @@ made_unlocked p k a f e m = both_ways _ (none_there (get_or p.present a false) (
     none_there true r x = absurd (cc)
     none_there false r x = refl
 
-module _ (p : Paged) (k : ℕ) (f : Fine p) (l : k < p.table.segments) (hs : List ℕ) (u : Table)
+module _ (p : Paged) (k : ℕ) (f : Fine p) (l : k < p.table.segments) (hs : ℕ → Option ℕ) (u : Table)
     (back : GivenBack (taken_since (p.drafts k)) (rewinds k (p.drafts k) p.table) u)
-    (released : Released (among (made_since (p.drafts k))) p.holders hs) where
+    (released : hs ≡ free_of (among (made_since (p.drafts k))) p.holder) where
   abbrev words_then : Words
   words_then = word_before p.table k (p.drafts k)
 
@@ -357,7 +377,6 @@ module _ (p : Paged) (k : ℕ) (f : Fine p) (l : k < p.table.segments) (hs : Lis
         made = put_over (λ j x. x.made) k d p.drafts i;
         kept_made = put_still (λ j x. take x.made_before x.made) k d p.drafts
             (take-take d.made_before d.made_before (p.drafts k).made (omega arith)) i;
-        looked = put_still (λ j x. x.looked) k d p.drafts refl i;
       })
       ∙ (λ i. record (undoes k s) {
         shared = r.shared i;
@@ -402,3 +421,13 @@ module _ (p : Paged) (k : ℕ) (f : Fine p) (l : k < p.table.segments) (hs : Lis
       (undoes_means (state_of p) k)
       (undo_kept p.table.reserved u.reserved k (meaning_in (state_of p)) w
       (subst (λ n. n ≤ (meaning_in (state_of p)).limit) (sym undone.reserved) w.room))
+      (counted_undo (meaning_in (state_of p)) (counts_of p)
+      (counts_of (ended k (step_undone (p.drafts k)) u p.present hs p)) k f.counted (in_segments p k l)
+      (λ j c z. now_put k (step_undone (p.drafts k)) p.drafts j c)
+      (λ j c z. ap (λ (g : ℕ → ℕ). g j) (put_still (λ j x. of_class c (taken_then x)) k (step_undone (p.drafts k))
+      p.drafts (ap (of_class c) (take-take (p.drafts k).taken_before (p.drafts k).taken_before (p.drafts k).taken
+      (omega arith)))))
+      (λ c z. back.total c)
+      (λ c z. let n = back.count c in let y = class_parts c (p.drafts k) in omega (arith, n, y)))
+      (∥∥₁_map f.keyed (λ q. keyed_undo (meaning_in (state_of p)) k q))
+      (undoes_indexed (state_of p) k f.indexed)

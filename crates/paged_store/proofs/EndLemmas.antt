@@ -1,5 +1,5 @@
 -- What a store's fields are where a step is taken back and where a transaction ends.
-use Rattle.std.proofs.Common.{◌≡◌, ◌≢◌, ℕ, zero, suc, ◌+◌, ◌/◌, ◌<◌, ◌≤◌, Bool, true, cond, ◌||◌, ◌&&◌, not, eqb, List, [], ◌∷◌, ◌++◌, length, get_or, take, drop, inl, inr, refl, sym, ◌∙◌, ap, subst, arith}
+use Rattle.std.proofs.Common.{◌≡◌, ◌≢◌, ℕ, zero, suc, ◌+◌, ◌/◌, ◌<◌, ◌≤◌, Bool, true, cond, ◌||◌, ◌&&◌, not, eqb, List, [], ◌∷◌, ◌++◌, length, get_or, take, drop, Option, inl, inr, refl, sym, ◌∙◌, ap, subst, arith}
 use Rattle.std.proofs.lemmas.Bool.{or_left, or_right, or_cases, cond-true, cond-false, cond_both}
 use Rattle.std.proofs.lemmas.Bool.Decides.{eqb_tells}
 use Rattle.std.proofs.lemmas.List.{take-append-drop, get_or-take, length-take, length-take-le, drop_all}
@@ -10,13 +10,13 @@ use Rattle.paged_store.specs.declared.extent.Span.{Span}
 use Rattle.paged_store.specs.declared.extent.Extent.{Extent}
 use Rattle.paged_store.specs.Words.{Words}
 use Rattle.paged_store.specs.inner.Moves.{put, empty_hand}
-use Rattle.paged_store.specs.inner.Paged.{Drafted, Paged, in_extents, extents_at, of_class, rewound, held_by, taken_since, taken_then, hand_now, hand_before, sum_to, FitsTable, Fits}
-use Rattle.paged_store.specs.inner.Drafts.{step_undone, cleared}
-use Rattle.paged_store.specs.inner.Ending.{HaveRoom, Released}
+use Rattle.paged_store.specs.inner.Paged.{Drafted, no_draft, Paged, in_extents, extents_at, of_class, rewound, held_by, taken_since, taken_then, hand_now, hand_before, sum_to, FitsTable, Fits}
+use Rattle.paged_store.specs.inner.Drafts.{step_undone}
+use Rattle.paged_store.specs.inner.Ending.{HaveRoom, free_of}
 use Rattle.paged_store.proofs.OverLemmas.{put_over}
 use Rattle.paged_store.proofs.MeaningLemmas.{put_there}
 use Rattle.paged_store.proofs.StateLemmas.{put_each, put_two}
-use Rattle.paged_store.proofs.HolderLemmas.{names, names_fewer}
+use Rattle.paged_store.proofs.HolderLemmas.{held_in, names_fewer}
 use Rattle.paged_store.proofs.LookCalls.{in_hand}
 
 -- ---- sums over segments
@@ -107,8 +107,8 @@ table_fits t u n m k d r o e f = record {
   once = f.once;
 }
 
-pub cleared_fits : (t : Table) (n k : ℕ) (d : Drafted) → FitsTable t n k (cleared d)
-cleared_fits t n k d = record {
+pub empty_fits : (t : Table) (n k : ℕ) → FitsTable t n k no_draft
+empty_fits t n k = record {
   spans = λ i x l. absurd (omega arith);
   taken = λ i x l. absurd (omega arith);
   classes = λ i x l. absurd (omega arith);
@@ -152,22 +152,28 @@ undone_fits t n k d f = record {
 
 -- ---- a store's fields
 
-abbrev pub ended : ℕ → Drafted → Table → List Bool → List ℕ → Paged → Paged
-ended k d u ps hs p = record { table = u; present = ps; holders = hs; drafts = put k d p.drafts }
+abbrev pub ended : ℕ → Drafted → Table → List Bool → (ℕ → Option ℕ) → Paged → Paged
+ended k d u ps hs p = record {
+  table = u;
+  present = ps;
+  holder = hs;
+  looked = p.looked;
+  drafts = put k d p.drafts;
+}
 
-pub fits_end : (p : Paged) (k : ℕ) (d : Drafted) (u : Table) (ps : List Bool) (hs : List ℕ) (g : ℕ → Bool) → Fits p →
+pub fits_end : (p : Paged) (k : ℕ) (d : Drafted) (u : Table) (ps : List Bool) (hs : ℕ → Option ℕ) (g : ℕ → Bool) →
+    Fits p →
     u.reserved ≡ p.table.reserved → u.own ≡ p.table.own → length ps ≡ length p.present
-    → FitsTable u (length ps) k d → Released g p.holders hs → ((a : ℕ) → g a ≡ true → held_by (p.drafts k) a ≡ true) →
+    → FitsTable u (length ps) k d → hs ≡ free_of g p.holder → ((a : ℕ) → g a ≡ true → held_by (p.drafts k) a ≡ true) →
     ((a : ℕ) → held_by d a ≡ (held_by (p.drafts k) a && not (g a)))
     → ((c : ℕ) → sum_to u.segments (put k (of_class c d.taken) (λ j. of_class c (p.drafts j).taken)) + length
     (u.shelf c).spare ≤ (u.shelf c).total)
     → Fits (ended k d u ps hs p)
 fits_end p k d u ps hs g f reserved own count here released mine left counted = record {
-  lengths = released.count ∙ f.lengths ∙ sym count;
   drafts = put_each (λ j x. FitsTable u (length ps) j x) k d p.drafts here
       (λ j n. table_fits p.table u (length p.present) (length ps) j (p.drafts j) reserved own count (f.drafts j));
-  holders = λ j a. names_fewer p.holders hs k g released (λ b e. f.holders k b ∙ mine b e) j a
-      ∙ put_two (λ j h x. h a ≡ in_hand j x a) k (λ b. names p.holders k b && not (g b)) (names p.holders) d p.drafts
+  holders = λ j a. names_fewer p.holder hs k g released (λ b e. f.holders k b ∙ mine b e) j a
+      ∙ put_two (λ j h x. h a ≡ in_hand j x a) k (λ b. held_in p.holder k b && not (g b)) (held_in p.holder) d p.drafts
       (ap (λ t. t && not (g a)) (f.holders k a) ∙ sym (left a)) (λ j n. f.holders j a) j;
   counted = λ c. subst (λ h. sum_to u.segments h + length (u.shelf c).spare ≤ (u.shelf c).total)
       (sym (put_over (λ j x. of_class c x.taken) k d p.drafts)) (counted c);
@@ -183,12 +189,12 @@ pub before_by : (t u : Table) (j : ℕ) (d : Drafted) → u.shared ≡ t.shared 
 before_by t u j d s e = λ i. record (hand_before t j d)
     { word = λ p. cond (in_extents (taken_since d) p) (s i p) (rewound d.notes (e i) p) }
 
-pub now_cleared : (u : Table) (k : ℕ) (d : Drafted) (w : Words) → u.word k ≡ w → hand_now u k (cleared d) ≡ empty_hand w
-now_cleared u k d w e = λ i. record (empty_hand w) { word = e i }
+pub now_cleared : (u : Table) (k : ℕ) (w : Words) → u.word k ≡ w → hand_now u k no_draft ≡ empty_hand w
+now_cleared u k w e = λ i. record (empty_hand w) { word = e i }
 
-pub before_cleared : (u : Table) (k : ℕ) (d : Drafted) (w : Words) → u.word k ≡ w →
-    hand_before u k (cleared d) ≡ empty_hand w
-before_cleared u k d w e = λ i. record (empty_hand w) { word = e i }
+pub before_cleared : (u : Table) (k : ℕ) (w : Words) → u.word k ≡ w →
+    hand_before u k no_draft ≡ empty_hand w
+before_cleared u k w e = λ i. record (empty_hand w) { word = e i }
 
 pub put_others : {A : Type 0} (k : ℕ) (x : A) (f g : ℕ → A) → ((j : ℕ) → j ≢ k → f j ≡ g j) → put k x f ≡ put k x g
 put_others k x f g e = λ i j. here j i

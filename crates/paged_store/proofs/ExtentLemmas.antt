@@ -24,7 +24,7 @@ first_class_most f h = elim (eqb_tells (room_in f) 0) [
 ]
 
 -- no body is above the greatest
-no_body : (first room c : ℕ) → class_of_room room < c → bodies first room c ≡ 0
+pub no_body : (first room c : ℕ) → class_of_room room < c → bodies first room c ≡ 0
 no_body first room c h = elim (eqb_tells room 0) [
   | inl e ↦ rw e.0 refl
   | inr e ↦ rw e.0 (elim (leb_tells c (class_of_room room)) [
@@ -38,7 +38,7 @@ no_body first room c h = elim (eqb_tells room 0) [
     no_test true = refl
     no_test false = refl
 
-a_body : (first room c : ℕ) → room ≢ 0 → first_class first ≤ c → c ≤ class_of_room room → bodies first room c ≡ 1
+pub a_body : (first room c : ℕ) → room ≢ 0 → first_class first ≤ c → c ≤ class_of_room room → bodies first room c ≡ 1
 a_body first room c some low high = elim (eqb_tells room 0) [
   | inl e ↦ absurd (some e.1)
   | inr e ↦ rw e.0 (elim (leb_tells (first_class first) c) [
@@ -49,7 +49,7 @@ a_body first room c some low high = elim (eqb_tells room 0) [
 ]
 
 -- a body that there was is there
-same_body : (first room more c : ℕ) → room ≢ 0 → more ≢ 0 → c ≤ class_of_room room → c ≤ class_of_room more →
+pub same_body : (first room more c : ℕ) → room ≢ 0 → more ≢ 0 → c ≤ class_of_room room → c ≤ class_of_room more →
     bodies first room c ≡ bodies first more c
 same_body first room more c some some_more l m = elim (leb_tells (first_class first) c) [
   | inl h ↦ a_body first room c some h.1 l ∙ sym (a_body first more c some_more h.1 m)
@@ -59,11 +59,11 @@ same_body first room more c some some_more l m = elim (leb_tells (first_class fi
     none : (room : ℕ) → room ≢ 0 → leb (first_class first) c ≡ false → bodies first room c ≡ 0
     none room some h = elim (eqb_tells room 0) [ inl e ↦ absurd (some e.1) | inr e ↦ rw (e.0, h) refl ]
 
-list_extents : (r : Rec) (c : ℕ) → r.kind ≡ ListKind → extents r c ≡ one_if (eqb c 2) + bodies r.first r.room c
+pub list_extents : (r : Rec) (c : ℕ) → r.kind ≡ ListKind → extents r c ≡ one_if (eqb c 2) + bodies r.first r.room c
 unfolding extents
 list_extents r c k = ap (λ (z : Kind). one_if (eqb c 2) + bodies_of r z c) k
 
-dict_extents : (r : Rec) (c : ℕ) → r.kind ≡ Dict →
+pub dict_extents : (r : Rec) (c : ℕ) → r.kind ≡ Dict →
     extents r c ≡ one_if (eqb c 2) + (bodies r.first r.room c + bodies r.first r.room (c + 1))
 unfolding extents
 dict_extents r c k = ap (λ (z : Kind). one_if (eqb c 2) + bodies_of r z c) k
@@ -81,17 +81,17 @@ pub record Doubles (r q : Rec) (c f : ℕ) : Type 0 where
   pub twice : q.room ≡ doubled r.room
 
 module _ (r q : Rec) (c f : ℕ) (d : Doubles r q c f) where
-  old_class : class_of_room r.room ≡ c
+  pub old_class : class_of_room r.room ≡ c
   old_class = ap class_of_room d.room ∙ class_of_room_in c (omega (arith, d.below))
 
-  new_class : class_of_room q.room ≡ suc c
+  pub new_class : class_of_room q.room ≡ suc c
   new_class = ap class_of_room (d.twice ∙ ap doubled d.room ∙ sym (room_next c)) ∙ class_of_room_in (suc c) d.below
 
-  new_some : q.room ≢ 0
+  pub new_some : q.room ≢ 0
   new_some e = let l : r.room < doubled r.room = doubled_above r.room in let t : q.room ≡ doubled r.room = d.twice in
       omega arith
 
-  new_low : first_class q.first ≤ c + 1
+  pub new_low : first_class q.first ≤ c + 1
   new_low = let l : first_class (room_in f) ≤ f + 1 = first_class_most f (omega (arith, d.order, d.below)) in
       let o : f ≤ c = d.order in rw (d.same ∙ d.first) (omega arith)
 

@@ -3,7 +3,8 @@ use Rattle.std.proofs.Common.{◌≡◌, ℕ, ◌+◌, ◌*◌, ◌/◌, ◌≤�
 use Rattle.page_table.specs.Pages.{Table, after_write}
 use Rattle.py_data.specs.declared.value.Value.{Value}
 use Rattle.paged_store.specs.Words.{Words}
-use Rattle.paged_store.specs.inner.Written.{put_word, packed}
+use Rattle.dict_index.specs.Packed.{packed}
+use Rattle.paged_store.specs.inner.Written.{put_word}
 use Rattle.paged_store.specs.inner.Writing.{CanPut, with_words, laid, cleared, put_values, headed, filled_words}
 use Rattle.paged_store.proofs.PutLemmas.{words_then, can_still, can_part}
 

@@ -1,17 +1,21 @@
 -- A key is found in words as in a heap that has the records that they stand for.
-use Rattle.std.proofs.Common.{◌≡◌, ℕ, suc, ◌+◌, ◌*◌, ◌/◌, ◌<◌, ◌≤◌, true, false, cond, eqb, List, [], ◌∷◌, length, Some, None, refl, sym, ap, ◌∙◌, subst, arith}
-use Rattle.py_base.specs.declared.kind.Kind.TheVariants.{Dict}
+use Rattle.std.proofs.Common.{◌≡◌, ◌≢◌, ℕ, suc, ◌+◌, ◌-◌, ◌*◌, ◌/◌, ◌<◌, ◌≤◌, true, false, cond, eqb, List, [], ◌∷◌, length, Some, None, refl, sym, ap, ◌∙◌, subst, arith}
 use Rattle.py_data.specs.declared.value.Value.{Value}
 use Rattle.py_data.specs.declared.value.Value.TheVariants.{Ref}
-use Rattle.py_data.specs.Heap.{Heap, has_bytes, length_of, value_at}
-use Rattle.py_data.specs.Shape.{same_key, same_text, text_in, find, find_from}
-use Rattle.py_data.proofs.Finding.{Searching, found-here, not-here, none-left}
+use Rattle.py_data.specs.Heap.{Heap, value_at}
+use Rattle.py_data.specs.Shape.{same_key, same_text, text_in, find, find_from, ArePairs, KeysDiffer}
+use Rattle.dict_index.specs.Keys.{home_of}
+use Rattle.dict_index.specs.Slots.{slot}
+use Rattle.dict_index.specs.Index.{IsIndex}
+use Rattle.dict_index.specs.Seeking.{Passed, IsOver}
+use Rattle.dict_index.proofs.Right.{index_of}
+use Rattle.dict_index.proofs.Seeking.{in_pairs, one_passed, here, nowhere}
 use Rattle.page_table.specs.Pages.{Table}
 use Rattle.paged_store.specs.declared.sight.Seen.{Seen}
-use Rattle.paged_store.specs.Words.{Words, value_of, decode, kind_by, body_by}
+use Rattle.paged_store.specs.Words.{Words, value_of, decode, body_by, index_by, index_size}
+use Rattle.paged_store.specs.inner.Indexed.{class_by, index_words, home_by, pairs_by, IsIndexed}
 use Rattle.paged_store.specs.inner.Sight.{Stands, records_in, IsKeySeen, KeysSeen, IsKnown, KnowsKeys}
-use Rattle.paged_store.proofs.RecordWords.{kind_is, count_fits}
-use Rattle.paged_store.proofs.ReadLemmas.{length_read, value_there}
+use Rattle.paged_store.proofs.ReadLemmas.{value_within, value_there}
 
 -- ---- another heap
 
@@ -36,17 +40,6 @@ find_known h w vs key k = find_from_known h w 0 vs key k.sought k.each
 
 -- ---- the search
 
-pub pairs_count : (w : Words) (d n : ℕ) → (decode w d).kind ≡ Dict → n ≡ length_of (decode w d) →
-    n / 2 ≡ length (decode w d).values / 2
-pairs_count w d n k e = ap (λ z. z / 2)
-    (e ∙ ap (λ t. cond t (length (decode w d).bytes) (length (decode w d).values)) (ap has_bytes k))
-
-pub pairs_within : (w : Words) (reserved d b n : ℕ) → Stands w reserved d → (decode w d).kind ≡ Dict →
-    b ≡ body_by w d → n ≡ length_of (decode w d) → 0 < n / 2 → b + 4 * (n / 2) ≤ reserved
-pairs_within w reserved d b n r k e f some =
-    let none : has_bytes (kind_by w d) ≡ false = ap has_bytes (sym (kind_is w d) ∙ k) in
-    omega (arith, e, f, length_read w d, count_fits w d none r.formed, r.body)
-
 pub key_there : (w : Words) (reserved d b n : ℕ) → Stands w reserved d → b ≡ body_by w d →
     n < length (decode w d).values / 2 →
     value_of (w (b + 4 * n)) (w (b + 4 * n + 1)) ≡ value_at (decode w d).values (2 * n)
@@ -61,17 +54,54 @@ pub key_seen : (t : Table) (seen : Seen) (values : List Value) (n : ℕ) (x : Va
     n < length values / 2 → x ≡ value_at values (2 * n) → IsKeySeen t seen x
 key_seen t seen values n x k h e = subst (IsKeySeen t seen) (sym e) (k.each n (omega (arith, h)))
 
--- the answer where a key is equal, and what is left where it isn't
-pub key_found : (h : Heap) (values : List Value) (key x : Value) (n : ℕ) → Searching h values key n →
-    n < length values / 2 → x ≡ value_at values (2 * n) → same_key h x key ≡ true → Some n ≡ find h values key
-key_found h values key x n s l e f = found-here h values key n s (omega (arith, l))
-    (ap (λ z. same_key h z key) (sym e) ∙ f)
+-- the words of a pair's key stand within what is reserved
+pub key_within : (w : Words) (reserved d b n : ℕ) → Stands w reserved d → b ≡ body_by w d →
+    n < length (decode w d).values / 2 → b + 4 * n + 2 ≤ reserved
+key_within w reserved d b n r e h = omega (arith, e, value_within w reserved d (2 * n) r (omega (arith, h)))
 
-pub key_not_found : (h : Heap) (values : List Value) (key x : Value) (n : ℕ) → Searching h values key n →
-    n < length values / 2 → x ≡ value_at values (2 * n) → same_key h x key ≡ false → Searching h values key (n + 1)
-key_not_found h values key x n s l e f = not-here h values key n s (omega (arith, l))
-    (ap (λ z. same_key h z key) (sym e) ∙ f)
+-- ---- the walk over the slots of an index
 
-pub no_key_found : (h : Heap) (values : List Value) (key : Value) (n : ℕ) → Searching h values key n →
-    length values / 2 ≤ n → None ≡ find h values key
-no_key_found h values key n s l = none-left h values key n s (omega (arith, l))
+-- a word that is read is that of its slot
+pub slot_word : (w : Words) (d place n start j at word : ℕ) → place ≡ index_by w d → at ≡ slot n start j →
+    word ≡ w (place + at) → word ≡ index_words w d (slot n start j)
+slot_word w d place n start j at word e a h = h ∙ (λ i. w (e i + a i))
+
+module _ (w : Words) (d n : ℕ) (key : Value) (x : IsIndexed w d) (g : n ≡ index_size w d) where
+  index_is : IsIndex (home_by w d) n (index_words w d) (pairs_by w d)
+  index_is = subst (λ m. IsIndex (home_by w d) m (index_words w d) (pairs_by w d)) (sym g)
+      (index_of (home_by w d) (index_size w d) (index_words w d) (pairs_by w d) x)
+
+  -- a word that isn't empty is the number of a pair
+  pub pair_there : (place at word : ℕ) → place ≡ index_by w d → at < n → word ≡ w (place + at) → word ≢ 0 →
+      word - 1 < length (decode w d).values / 2
+  pair_there place at word e l h f =
+      let i : word ≡ index_words w d at = h ∙ ap (λ z. w (z + at)) e in
+      subst (λ z. z - 1 < pairs_by w d) (sym i) (in_pairs (home_by w d) n (index_words w d) (pairs_by w d) at index_is l
+      (λ z. f (i ∙ z)))
+
+  -- whose key is compared
+  pub pair_compared : (place at word start j : ℕ) (y : Value) → place ≡ index_by w d → at ≡ slot n start j →
+      word ≡ w (place + at) → y ≡ value_at (decode w d).values (2 * (word - 1)) → word ≢ 0 →
+      same_key (records_in w) y key ≡ false →
+      Passed (records_in w) (decode w d).values key n (index_words w d) start j →
+      Passed (records_in w) (decode w d).values key n (index_words w d) start (j + 1)
+  pair_compared place at word start j y e a h k f o p =
+      let i : word ≡ index_words w d (slot n start j) = slot_word w d place n start j at word e a h in
+      one_passed (records_in w) (decode w d).values key n (index_words w d) start j p (λ z. f (i ∙ z))
+      (ap (λ z. same_key (records_in w) (value_at (decode w d).values (2 * (z - 1))) key) (sym i) ∙
+      ap (λ z. same_key (records_in w) z key) (sym k) ∙ o)
+
+  -- and found
+  pub pair_found : (word : ℕ) (y : Value) → y ≡ value_at (decode w d).values (2 * (word - 1)) →
+      ArePairs (records_in w) (decode w d).values → KeysDiffer (records_in w) (decode w d).values →
+      word - 1 < length (decode w d).values / 2 → same_key (records_in w) y key ≡ true →
+      Some (word - 1) ≡ find (records_in w) (decode w d).values key
+  pair_found word y k p q l o = here (records_in w) (decode w d).values key (word - 1) p q (omega (arith, l))
+      (ap (λ z. same_key (records_in w) z key) (sym k) ∙ o)
+
+  -- no key is equal, where the walk is over
+  pub key_nowhere : (start j : ℕ) → start ≡ home_of n (class_by w key) →
+      Passed (records_in w) (decode w d).values key n (index_words w d) start j → IsOver n (index_words w d) start j →
+      None ≡ find (records_in w) (decode w d).values key
+  key_nowhere start j h p o = nowhere (records_in w) (decode w d).values key (home_by w d) n (index_words w d) start j h
+      (λ j l. (λ i. home_of (sym g i) (class_by w (value_at (decode w d).values (2 * j))))) index_is p o

@@ -12,7 +12,10 @@ use Rattle.seg_store.specs.Meaning.{Meaning}
 use Rattle.seg_store.specs.Store.{NoneOf, IsStore}
 use Rattle.paged_store.specs.Words.{Words}
 use Rattle.paged_store.specs.inner.State.{State, meaning_in, Sound}
-use Rattle.paged_store.specs.inner.Paged.{Paged, state_of, Fits, Fine}
+use Rattle.paged_store.specs.inner.Counted.{IsCounted}
+use Rattle.paged_store.specs.inner.Keyed.{IsKeyed}
+use Rattle.paged_store.specs.inner.Indexed.{HasIndexes}
+use Rattle.paged_store.specs.inner.Paged.{Paged, state_of, counts_of, Fits, Fine}
 
 front_prop : (xs ys : List ℕ) → IsProp ((more : List ℕ) × (ys ≡ xs ++ more))
 front_prop xs ys = λ u v. Σ_prop_path (λ m. hlevel props) (append_cancel_left xs u.0 v.0 (sym u.1 ∙ v.1))
@@ -39,10 +42,14 @@ abbrev pub IsSound : State → Type 0
 IsSound s = ∥ ((own : Words) × ((role : Words) × Sound own role s)) ∥₁
 
 pub leaves_by : (q : Paged) (s : State) (m : Meaning) → Fits q → state_of q ≡ s → IsSound s → meaning_in s ≡ m →
-    IsStore q.table.reserved m → Leaves q m
-leaves_by q s m fits is sound means known = record {
+    IsStore q.table.reserved m → IsCounted m (counts_of q) → ∥ IsKeyed m ∥₁ → HasIndexes s →
+    Leaves q m
+leaves_by q s m fits is sound means known counted keyed indexed = record {
   fine = record {
     fits = fits;
+    counted = subst (λ x. IsCounted x (counts_of q)) (sym (ap meaning_in is ∙ means)) counted;
+    keyed = subst (λ x. ∥ IsKeyed x ∥₁) (sym (ap meaning_in is ∙ means)) keyed;
+    indexed = subst HasIndexes (sym is) indexed;
     sound = subst IsSound (sym is) sound;
     known = ∣ subst (IsStore q.table.reserved) (sym (ap meaning_in is ∙ means)) known ∣₁;
   };
@@ -61,8 +68,9 @@ pub record Went (s : State) (m : Meaning) : Type 0 where
 
 -- a store after a call of which it takes soundness to say what it means
 pub leaves_of : (p q : Paged) (s : State) (m : Meaning) → Fine p → Fits q → state_of q ≡ s →
-    ((own role : Words) → Sound own role (state_of p) → Went s m) → IsStore q.table.reserved m → Leaves q m
-leaves_of p q s m f fits is go known = leaves_by q s m fits is
+    ((own role : Words) → Sound own role (state_of p) → Went s m) → IsStore q.table.reserved m → IsCounted m (counts_of q)
+    → ∥ IsKeyed m ∥₁ → HasIndexes s → Leaves q m
+leaves_of p q s m f fits is go known counted keyed indexed = leaves_by q s m fits is
     (∥∥₁_map f.sound (λ x. let w = go x.0 x.1.0 x.1.1 in (w.own, (w.role, w.sound))))
     (∥∥₁_elim f.sound (meanings_set (meaning_in s) m) (λ x. (go x.0 x.1.0 x.1.1).means))
-    known
+    known counted keyed indexed

@@ -57,15 +57,19 @@ lays_same own role w v a s l = lays_moved own role w v a s.first s.body s.index 
 
 -- ---- words that agree on a record's places
 
-pub decode_agrees : (w v : Words) (a : ℕ) → AgreeOn w v a → decode w a ≡ decode v a
+pub decode_same : (w v : Words) (a : ℕ) → ((p : ℕ) → in_head a p ≡ true → w p ≡ v p) →
+    ((p : ℕ) → in_body w a p ≡ true → w p ≡ v p) → decode w a ≡ decode v a
 unfolding decode
-decode_agrees w v a s =
-    let h : HeadSame w v a = head_same w v a s.head in
+decode_same w v a head body =
+    let h : HeadSame w v a = head_same w v a head in
     let b : body_words w a ≡ clipped (body_size w a) (λ j. v (body_by w a + j)) =
     clipped_same (body_size w a) (λ j. w (body_by w a + j)) (λ j. v (body_by w a + j))
-    (λ j l. s.body (body_by w a + j) (in_span_at (body_by w a) (body_size w a) j l)) in
+    (λ j l. body (body_by w a + j) (in_span_at (body_by w a) (body_size w a) j l)) in
     λ i. record_of (h.first i) (h.count i) ((b ∙ (λ z. clipped (size_of (class_in (h.first z)))
     (λ j. v (h.body z + j)))) i)
+
+pub decode_agrees : (w v : Words) (a : ℕ) → AgreeOn w v a → decode w a ≡ decode v a
+decode_agrees w v a s = decode_same w v a s.head s.body
 
 pub places_agree : (w v : Words) (a p : ℕ) → AgreeOn w v a → in_record w a p ≡ in_record v a p
 places_agree w v a p s = places_same w v a p (head_same w v a s.head)

@@ -11,13 +11,14 @@ use Rattle.py_data.specs.declared.change.Change.{Change}
 use Rattle.py_data.specs.declared.change.Change.TheVariants.{Push, Pair}
 use Rattle.py_data.specs.declared.value.Value.{Value}
 use Rattle.py_data.specs.Changes.{after, Outgrows}
-use Rattle.py_data.specs.Heap.{Rec, Heap, Has, at, has_rooms, doubled}
+use Rattle.py_data.specs.Heap.{with_push, Rec, Heap, at, has_rooms, doubled}
 use Rattle.py_data.specs.Sense.{IfThere}
 use Rattle.py_data.specs.Shape.{ArePairs}
 use Rattle.seg_store.specs.declared.store.StoreFault.{StoreFault}
 use Rattle.seg_store.specs.declared.store.StoreFault.TheVariants.{Full, OutOfMemory}
 use Rattle.seg_store.specs.Asking.{AsksFor}
-use Rattle.seg_store.specs.Extents.{Wants}
+use Rattle.seg_store.specs.Extents.{extents, extents_of, Wants}
+use Rattle.seg_store.specs.Telling.{use_with, Rises, RisesTo}
 use Rattle.seg_store.specs.Meaning.{Meaning, sees, holds}
 use Rattle.seg_store.specs.Calls.{after_change}
 use Rattle.seg_store.specs.Store.{CanChange, IsFull, Refuses}
@@ -26,30 +27,30 @@ use Rattle.page_table.specs.Lists.{Lists, table_of}
 use Rattle.paged_store.specs.declared.draft.Draft.{Draft}
 use Rattle.paged_store.specs.declared.sight.Seen.TheVariants.{Segment}
 use Rattle.paged_store.specs.declared.store.PagedStore.{PagedStore}
-use Rattle.paged_store.specs.Words.{Words, room_in, class_in, index_class_in, first_in, decode, kind_by, count_by, body_size, in_body}
-use Rattle.paged_store.specs.inner.Formed.{Formed, HasIndex, FitsValue}
-use Rattle.paged_store.specs.inner.State.{State, meaning_in, Sound}
-use Rattle.paged_store.specs.inner.Paged.{Drafted, Paged, drafted, state_of, one_if, spare_at, Fine}
+use Rattle.paged_store.specs.Words.{Words, room_in, class_in, index_class_in, first_in, decode, kind_by, count_by, body_size}
+use Rattle.paged_store.specs.inner.Formed.{HasIndex, FitsValue}
+use Rattle.paged_store.specs.inner.State.{meaning_in, Sound}
+use Rattle.paged_store.specs.inner.Paged.{Paged, state_of, one_if, paged_by}
 use Rattle.paged_store.specs.inner.Written.{next_index}
-use Rattle.paged_store.specs.Stores.{paged_of, paged_meaning, Fills, Wanting}
-use Rattle.paged_store.specs.inner.Claiming.{times, NoneLeft, Denies}
+use Rattle.paged_store.specs.Stores.{paged_of, paged_meaning, peaks_of, Fills}
+use Rattle.paged_store.specs.inner.Claiming.{times, RisesBy, Denies}
 use Rattle.paged_store.specs.inner.Growing.{grown_class, grown_index, MayGrow, KeepsBody, Grew, Ungrown}
 use Rattle.paged_store.specs.inner.Writing.{Desk, desk, next_body_size}
 use Rattle.paged_store.proofs.OwnerLemmas.{place_own, body_place}
 use Rattle.paged_store.proofs.StateLemmas.{holds_some, reserved_place}
-use Rattle.paged_store.proofs.RecordWords.{size_is, room_is, room_in_next, kind_is, values_length, count_fits}
-use Rattle.paged_store.proofs.PushWords.{is_full, rooms_no_bytes}
+use Rattle.paged_store.proofs.RecordWords.{size_is, room_is, room_in_next, kind_is}
+use Rattle.paged_store.proofs.PushWords.{is_full}
 use Rattle.paged_store.proofs.GrowWords.{room_next, doubled_above, doubled_far, full_class_below}
 use Rattle.paged_store.proofs.ExtentLemmas.{list_wants, dict_wants, dict_wants_index, push_doubles, pair_doubles}
-use Rattle.paged_store.proofs.FineLemmas.{Leaves}
-use Rattle.paged_store.proofs.StandLemmas.{Shows, at_seen}
+use Rattle.paged_store.proofs.IndexFrame.{Renews, list_renews}
+use Rattle.paged_store.proofs.ExtentCounts.{GainsGrown, list_grown, dict_grown}
+use Rattle.paged_store.proofs.PeakLemmas.{grown_classes, total_of, used_in, taken_rises, refused_rises}
+use Rattle.paged_store.proofs.StandLemmas.{at_seen}
 use Rattle.paged_store.proofs.StoreCalls.{Stands as StoreStands}
 use Rattle.paged_store.proofs.StoreEnds.{table_segment}
-use Rattle.paged_store.proofs.WriteCall.{turned_to}
-use Rattle.paged_store.proofs.ChangeCall.{is_held}
-use Rattle.paged_store.proofs.GrowCall.{ungrown_turns, grown_turns, ungrown_leaves, grown_leaves, GrowsTo}
-use Rattle.paged_store.proofs.GrownWords.{push_grown, pair_grown}
-use Rattle.paged_store.proofs.StoreChanges.{words_of, reserved_in, seen_by, there, stands, allowed, counted, bodied, list_rooms, dict_rooms, read, turn_stands}
+use Rattle.paged_store.proofs.GrowCall.{Filled, not_filled, ungrown_turns, grown_turns, ungrown_leaves, grown_leaves, GrowsTo, grows_then}
+use Rattle.paged_store.proofs.GrownWords.{with_index, with_index_size, push_grown}
+use Rattle.paged_store.proofs.StoreChanges.{words_of, seen_by_store, reserved_in, seen_by, there, stands, allowed, counted, bodied, list_rooms, dict_rooms, read, turn_stands}
 
 -- ---- rooms
 
@@ -198,6 +199,21 @@ module _ (s : PagedStore) (k a : ℕ) (l : k < (paged_meaning s).segments)
           dict_room;
     }
 
+  -- ---- the extents that it has more then
+
+  module _ (v : Value) (can : CanChange (sees (paged_meaning s) k) a (Push v))
+      (small : body_size w a < 2 * (count_by w a + 1)) where
+    pub list_gains : (c : ℕ) → 1 ≤ c → GainsGrown w a (Push v) c
+    list_gains = list_grown w a v (stands s k a l (Push v) can).formed
+        (sym (kind_is w a) ∙ (allowed s k a l (Push v) can).0.0) (list_grows v can small).class (list_full v can small)
+
+  module _ (key v : Value) (can : CanChange (sees (paged_meaning s) k) a (Pair key v))
+      (small : body_size w a < 2 * (count_by w a + 2)) where
+    pub dict_gains : (c : ℕ) → 1 ≤ c → GainsGrown w a (Pair key v) c
+    dict_gains = dict_grown w a key v (stands s k a l (Pair key v) can).formed
+        (sym (kind_is w a) ∙ (allowed s k a l (Pair key v) can).0.0) (dict_grows key v can small).class
+        (dict_full key v can small)
+
 -- ---- why a record can't grow
 
 -- a class that some are wanted of
@@ -268,6 +284,20 @@ module _ (s : PagedStore) (k a : ℕ) (l : k < (paged_meaning s).segments) (c : 
       let Q : Option Rec → Type 0 = λ o. P o (at (sees (paged_meaning s) k) a) in
       let R : Rec → Type 0 = λ q. P (Some (decode (words_of s k) a)) q in
       subst Q (sym sees_is) (subst R (sym at_is) h)
+
+  -- where it can't, what is ever new of a class rises at most to what would be in use with it grown
+  pub grow_refused : (u : Table) → ((n : ℕ) → 1 ≤ n → GainsGrown (words_of s k) a c n)
+      → RisesBy (grown_class (words_of s k) a ∷ grown_index (words_of s k) a ∷ 0 ∷ []) (table_of s.pages) u
+      → RisesTo (Some (peaks_of s)) (Some (λ n. (u.shelf n).total))
+      (use_with (paged_meaning s) (sees (paged_meaning s) k a) (after c (at (sees (paged_meaning s) k) a)))
+  grow_refused u more rises =
+      let wanted : List ℕ = grown_class (words_of s k) a ∷ grown_index (words_of s k) a ∷ 0 ∷ [] in
+      let P : Option Rec → Rec → Type 0 = λ o q. (n : ℕ) → 1 ≤ n →
+      extents (after c q) n ≡ extents_of o n + times n wanted in
+      let Q : Option Rec → Type 0 = λ o. P o (at (sees (paged_meaning s) k) a) in
+      let R : Rec → Type 0 = λ q. P (Some (decode (words_of s k) a)) q in
+      refused_rises (paged_of s) u s.sound.fine wanted (sees (paged_meaning s) k a)
+      (after c (at (sees (paged_meaning s) k) a)) rises (subst Q (sym sees_is) (subst R (sym at_is) more))
 
 module _ (s : PagedStore) (k a : ℕ) (l : k < (paged_meaning s).segments)
     (held : holds ((paged_meaning s).part k) a ≡ true) (u : Table)
@@ -342,65 +372,80 @@ module _ (s : PagedStore) (k a : ℕ) (l : k < (paged_meaning s).segments)
     (held : holds ((paged_meaning s).part k) a ≡ true)
     (g : Draft) (is : g ≡ slice_index_or s.drafts.items k g) (d : Draft) (u : Lists)
     (most : (table_of u).reserved ≤ limit (table_of u)) where
-  abbrev old : Desk
+  abbrev pub old : Desk
   old = record { table = table_of s.pages; draft = (paged_of s).drafts k }
 
   desk_is : desk s.pages g ≡ old
   desk_is = λ i. record { table = table_of s.pages; draft = read s k a l held g is d u i }
 
   pub ungrown_stands : Ungrown k a (desk s.pages g) (desk u d)
-      → StoreStands u s.present.items s.holders.items (slice_set s.drafts.items k d) (paged_meaning s)
+      → StoreStands u s.present.items s.marks (slice_set s.drafts.items k d) (paged_meaning s)
   ungrown_stands h =
       let z : Ungrown k a old (desk u d) = subst (λ x. Ungrown k a x (desk u d)) desk_is h in
       turn_stands s k a l held g is d u (paged_meaning s)
-      (ungrown_turns (paged_of s) k a s.sound.fine (table_segment s k l) held (desk u d) most z).segments
+      (let t = ungrown_turns (paged_of s) k a s.sound.fine (table_segment s k l) held (desk u d) most z in
+      (t.segments, t.pages))
       (ungrown_leaves (paged_of s) k a s.sound.fine (table_segment s k l) held (desk u d) most z)
 
-  grew_stands : (vs : List Value) (c : Change) → CanChange (sees (paged_meaning s) k) a c →
-      (h : Grew k a vs old (desk u d))
-      → GrowsTo (paged_of s) k a s.sound.fine (table_segment s k l) held (desk u d) most vs h
+  -- a record that has grown, over the store's draft
+  pub grew_desk : (vs : List Value) (b : Desk) → Grew k a vs (desk s.pages g) b → Grew k a vs old b
+  grew_desk vs b h = subst (λ x. Grew k a vs x b) desk_is h
+
+  pub grew_stands : (vs : List Value) (c : Change) → CanChange (sees (paged_meaning s) k) a c →
+      (h : Filled k a vs old (desk u d))
+      → GrowsTo (paged_of s) k a s.sound.fine (table_segment s k l) held (desk u d) most vs h ((table_of u).word k)
       (after c (decode (words_of s k) a))
-      → StoreStands u s.present.items s.holders.items (slice_set s.drafts.items k d)
+      → ((n : ℕ) → 1 ≤ n → GainsGrown (words_of s k) a c n)
+      → Renews (seen_by_store s k) (words_of s k) ((table_of u).word k) a (after c (decode (words_of s k) a))
+      → StoreStands u s.present.items s.marks (slice_set s.drafts.items k d)
       (after_change k a (after c) (paged_meaning s))
-  grew_stands vs c can h to = turn_stands s k a l held g is d u (after_change k a (after c) (paged_meaning s))
-      (grown_turns (paged_of s) k a s.sound.fine (table_segment s k l) held (desk u d) most vs h).segments
-      (grown_leaves (paged_of s) k a s.sound.fine (table_segment s k l) held (desk u d) most vs h c can to)
+  grew_stands vs c can h to more right = turn_stands s k a l held g is d u
+      (after_change k a (after c) (paged_meaning s))
+      (let t = grown_turns (paged_of s) k a s.sound.fine (table_segment s k l) held (desk u d) most vs h in
+      (t.segments, t.pages))
+      (grown_leaves (paged_of s) k a s.sound.fine (table_segment s k l) held (desk u d) most vs h c can to
+      (λ n z. let e = more n z in let q = grown_classes n (words_of s k) a h.grew.body h.grew.index z in
+      omega (arith, e, q)) right)
+
+  pub list_filled : (v : Value) → Grew k a (v ∷ []) (desk s.pages g) (desk u d) → Filled k a (v ∷ []) old (desk u d)
+  list_filled v h = not_filled k a (v ∷ []) old (desk u d) (grew_desk (v ∷ []) (desk u d) h)
 
   pub list_stands : (v : Value) (can : CanChange (sees (paged_meaning s) k) a (Push v)) →
       body_size (words_of s k) a < 2 * (count_by (words_of s k) a + 1)
       → FitsValue v → Grew k a (v ∷ []) (desk s.pages g) (desk u d)
-      → StoreStands u s.present.items s.holders.items (slice_set s.drafts.items k d)
+      → StoreStands u s.present.items s.marks (slice_set s.drafts.items k d)
       (after_change k a (after (Push v)) (paged_meaning s))
   list_stands v can small fits h =
-      let z : Grew k a (v ∷ []) old (desk u d) = subst (λ x. Grew k a (v ∷ []) x (desk u d)) desk_is h in
+      let z : Filled k a (v ∷ []) old (desk u d) = list_filled v h in
       let c : Change = Push v in
       let m = list_grows s k a l held v can small in
-      grew_stands (v ∷ []) c can z (λ own role lays fresh once.
-      push_grown (words_of s k) a z.body z.index own role (address s k a l held)
-      (stands s k a l c can).formed lays (list_rooms s k a l v can) m.class fresh once v
-      (list_full s k a l held v can small) m.room fits)
+      let f = (stands s k a l c can).formed in
+      let rooms = list_rooms s k a l v can in
+      let body : ℕ = z.grew.body in
+      let index : ℕ = z.grew.index in
+      let w : Words = words_of s k in
+      grew_stands (v ∷ []) c can z
+      (grows_then (paged_of s) k a s.sound.fine (table_segment s k l) held (desk u d) most (v ∷ []) z
+      (with_push v (decode w a))
+      (λ own role lays fresh once. (
+        with_index w a body index own role (address s k a l held) f lays rooms m.class fresh once (v ∷ []) m.room,
+        with_index_size w a body index own role (address s k a l held) f lays rooms m.class fresh once (v ∷ []) m.room,
+      ))
+      (λ own role lays fresh once.
+      push_grown w a body index own role (address s k a l held) f lays rooms m.class fresh once v
+      (list_full s k a l held v can small) m.room fits))
+      (list_gains s k a l held v can small)
+      (list_renews (seen_by_store s k) w ((table_of u).word k) a (with_push v (decode w a)) (allowed s k a l c can).0.0)
 
-  pub dict_stands : (key v : Value) (can : CanChange (sees (paged_meaning s) k) a (Pair key v)) →
-      body_size (words_of s k) a < 2 * (count_by (words_of s k) a + 2)
-      → FitsValue key → FitsValue v → Grew k a (key ∷ v ∷ []) (desk s.pages g) (desk u d)
-      → StoreStands u s.present.items s.holders.items (slice_set s.drafts.items k d)
-      (after_change k a (after (Pair key v)) (paged_meaning s))
-  dict_stands key v can small fits_key fits h =
-      let z : Grew k a (key ∷ v ∷ []) old (desk u d) = subst (λ x. Grew k a (key ∷ v ∷ []) x (desk u d)) desk_is h in
-      let c : Change = Pair key v in
-      let m = dict_grows s k a l held key v can small in
-      grew_stands (key ∷ v ∷ []) c can z
-      (λ own role lays fresh once. pair_grown (words_of s k) a z.body z.index own role (address s k a l held)
-      (stands s k a l c can).formed lays (dict_rooms s k a l key v can) m.class fresh once key v
-      (dict_full s k a l held key v can small)
-      (dict_big s k a l held key v can small) m.room fits_key fits)
-
-  -- no less is reserved
-  pub ungrown_more : Ungrown k a (desk s.pages g) (desk u d) → (table_of s.pages).reserved ≤ (table_of u).reserved
-  ungrown_more h = let z : Ungrown k a old (desk u d) = subst (λ x. Ungrown k a x (desk u d)) desk_is h in
-      (ungrown_turns (paged_of s) k a s.sound.fine (table_segment s k l) held (desk u d) most z).more
-
-  pub grew_more : (vs : List Value) → Grew k a vs (desk s.pages g) (desk u d) →
-      (table_of s.pages).reserved ≤ (table_of u).reserved
-  grew_more vs h = let z : Grew k a vs old (desk u d) = subst (λ x. Grew k a vs x (desk u d)) desk_is h in
-      (grown_turns (paged_of s) k a s.sound.fine (table_segment s k l) held (desk u d) most vs z).more
+  -- the peaks rise to what is in use
+  pub grew_rises : (vs : List Value) (m : Meaning) → Filled k a vs old (desk u d)
+      → RisesBy (grown_class (words_of s k) a ∷ grown_index (words_of s k) a ∷ 0 ∷ []) (table_of s.pages) (table_of u)
+      → StoreStands u s.present.items s.marks (slice_set s.drafts.items k d) m
+      → (let q : Paged = paged_by u s.present.items s.marks (slice_set s.drafts.items k d) in
+      Rises (Some (peaks_of s)) (Some (total_of q)) (used_in q))
+  grew_rises vs m z rises v =
+      taken_rises (paged_of s) (paged_by u s.present.items s.marks (slice_set s.drafts.items k d))
+      s.sound.fine v.sound.fine
+      (grown_class (words_of s k) a ∷ grown_index (words_of s k) a ∷ 0 ∷ []) rises
+      (λ n low. let t = grown_turns (paged_of s) k a s.sound.fine (table_segment s k l) held (desk u d) most vs z in
+      let e = t.count n in let q = grown_classes n (words_of s k) a z.grew.body z.grew.index low in omega (arith, e, q))

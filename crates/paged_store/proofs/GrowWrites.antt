@@ -1,18 +1,17 @@
 -- A record that is written with its body and its index in other places.
-use Rattle.std.proofs.Common.{◌≡◌, ◌≢◌, ◌⊎◌, ℕ, zero, suc, ◌+◌, ◌-◌, ◌*◌, ◌/◌, ◌^◌, ◌<◌, ◌≤◌, Bool, true, false, ◌||◌, List, length, refl, sym, ap, subst, ◌∙◌, inl, inr, arith}
-use Rattle.std.proofs.lemmas.Bool.Decides.{nat_tests}
+use Rattle.std.proofs.Common.{◌≡◌, ◌≢◌, ℕ, zero, suc, ◌+◌, ◌*◌, ◌/◌, ◌^◌, ◌<◌, ◌≤◌, true, false, List, length, sym, ap, subst, ◌∙◌, arith}
 use Rattle.page_table.specs.Pages.{Table, after_write}
 use Rattle.py_data.specs.declared.value.Value.{Value}
-use Rattle.paged_store.specs.Words.{Words, in_span, size_of, kind_in, class_in, index_class_in, first_in, head_word, kind_by, count_by, body_by, body_size, in_head, in_body}
+use Rattle.paged_store.specs.Words.{Words, in_span, size_of, kind_in, class_in, index_class_in, first_in, head_word, count_by, body_by, body_size, in_head, in_body}
 use Rattle.py_base.specs.declared.kind.Kind.{Kind}
 use Rattle.paged_store.specs.declared.value.Header.{Header}
 use Rattle.paged_store.specs.inner.Formed.{Formed}
-use Rattle.paged_store.specs.inner.Written.{put_word, copied, next_index, next_head, Grows}
+use Rattle.paged_store.specs.inner.Written.{put_word, copied, next_index, next_head}
 use Rattle.paged_store.specs.inner.Growing.{grown_with, grown_class, grown_index, CanGrow}
 use Rattle.paged_store.specs.inner.Writing.{CanPut, with_words, cleared, headed, put_values, next_body_size, next_index_size}
-use Rattle.paged_store.proofs.SpanLemmas.{in_span_at, in_span_holds, span_bounds, head_at, head_first}
+use Rattle.paged_store.proofs.SpanLemmas.{in_span_holds, span_bounds, head_at, head_first}
 use Rattle.paged_store.proofs.PartLemmas.{false_from}
-use Rattle.paged_store.proofs.PutWords.{put_miss, copied_word, grow_puts}
+use Rattle.paged_store.proofs.PutWords.{put_miss}
 use Rattle.paged_store.proofs.GrowWords.{size_grows}
 use Rattle.paged_store.proofs.PutLemmas.{words_then, can_still, can_part, laid_none}
 

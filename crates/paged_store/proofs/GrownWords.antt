@@ -1,21 +1,20 @@
 -- The words of a record that has grown.
-use Rattle.std.proofs.Common.{◌≡◌, ◌≢◌, ◌⊎◌, ℕ, zero, suc, ◌+◌, ◌*◌, ◌<◌, ◌≤◌, Bool, true, false, ◌||◌, cond, List, [], ◌∷◌, length, inl, inr, refl, sym, ◌∙◌, ap, subst, arith}
+use Rattle.std.proofs.Common.{◌≡◌, ◌≢◌, ◌⊎◌, ℕ, ◌+◌, ◌*◌, ◌<◌, ◌≤◌, Bool, true, false, cond, List, [], ◌∷◌, length, inl, inr, refl, sym, ◌∙◌, ap, subst, arith}
 use Rattle.std.proofs.lemmas.Bool.{both_ways, cond-true, cond-false}
 use Rattle.std.proofs.lemmas.Bool.Decides.{nat_tests}
 use Rattle.py_data.specs.declared.value.Value.{Value}
-use Rattle.py_data.specs.Heap.{Rec, has_rooms, with_push, with_pair, doubled}
-use Rattle.paged_store.specs.declared.extent.Extent.{Extent}
-use Rattle.paged_store.specs.Words.{Words, in_span, size_of, kind_in, class_in, index_class_in, decode, kind_by, count_by, body_by, index_by, body_size, in_head, in_body, in_index}
+use Rattle.py_data.specs.Heap.{has_rooms, with_push, with_pair, doubled}
+use Rattle.paged_store.specs.Words.{Words, in_span, size_of, class_in, index_class_in, decode, kind_by, count_by, body_by, index_by, body_size, index_size, in_head, in_body, in_index}
 use Rattle.paged_store.specs.inner.Formed.{Formed, Lays, FitsValue}
 use Rattle.paged_store.specs.inner.Paged.{extents_at, one_if}
-use Rattle.paged_store.specs.inner.Written.{owned_by, parted, put_word, push_words, pair_words, copied, next_head, Grows, TakesBody, PushesValue, PushesPair, Changed}
-use Rattle.paged_store.specs.inner.Writing.{cleared, headed, put_values, next_body_size, next_index_size, grown_words, pushed_words}
+use Rattle.paged_store.specs.inner.Written.{owned_by, parted, put_word, push_words, pair_words, copied, next_head, Grows, TakesBody, Changed}
+use Rattle.paged_store.specs.inner.Writing.{cleared, put_values, next_body_size, next_index_size, grown_words, pushed_words}
 use Rattle.paged_store.specs.inner.Claiming.{extent_for}
 use Rattle.paged_store.specs.inner.Growing.{grown_with, grown_class, grown_index, grown_extents}
 use Rattle.paged_store.proofs.SpanLemmas.{in_span_at, head_at, head_first}
 use Rattle.paged_store.proofs.PartLemmas.{false_from}
 use Rattle.paged_store.proofs.PutWords.{put_hit, put_miss, copied_word, copied_miss, grow_puts, push_puts, pair_puts}
-use Rattle.paged_store.proofs.WriteLemmas.{put_off, values_off, laid_off}
+use Rattle.paged_store.proofs.WriteLemmas.{values_off, laid_off}
 use Rattle.paged_store.proofs.RecordWords.{count_fits}
 use Rattle.paged_store.proofs.PushWords.{rooms_no_bytes}
 use Rattle.paged_store.proofs.GrowWords.{size_grows, NextHead, next_of, grow_changed, grow_push_changed, grow_pair_changed}
@@ -216,6 +215,40 @@ module _ (w : Words) (a body index : ℕ) where
 
     mid_size : body_size mid a ≡ size
     mid_size = ap size_of mid_class
+
+    -- the header has the same words with them, but for the count
+    with_head : (vs : List Value) (q : ℕ) → 2 * (count_by w a + length vs) ≤ size → in_head a q ≡ true → q ≢ 2 * a + 1
+        → grown_with w a body index vs q ≡ mid q
+    with_head vs q l h n =
+        put_miss (2 * a + 1) q (count_by w a + length vs) (put_values (body + 2 * count_by w a) vs mid) n
+        ∙ values_off (body + 2 * count_by w a) q vs mid
+        (within_span body size (body + 2 * count_by w a) (2 * length vs) q (omega arith) (omega (arith, l))
+        (off_extents q (head_off q h)).0)
+
+    pub with_index : (vs : List Value) → 2 * (count_by w a + length vs) ≤ size
+        → index_by (grown_with w a body index vs) a ≡ index
+    with_index vs l = with_head vs (2 * a + 3) l (head_at a 3 (omega arith)) (λ x. omega arith) ∙ mid_index
+
+    pub with_index_size : (vs : List Value) → 2 * (count_by w a + length vs) ≤ size
+        → index_size (grown_with w a body index vs) a ≡ index_room
+    with_index_size vs l = ap (λ x. size_of (index_class_in x))
+        (with_head vs (2 * a) l (head_first a) (λ x. omega arith)) ∙ ap size_of mid_index_class
+
+    -- the index has nothing in it
+    pub with_blank : (vs : List Value) (s : ℕ) → 2 * (count_by w a + length vs) ≤ size → s < index_room
+        → grown_with w a body index vs (index + s) ≡ 0
+    with_blank vs s l h =
+        let q : ℕ = index + s in
+        let x : in_span index index_room q ≡ true = in_span_at index index_room s h in
+        let o : in_head a q ≡ false = off_head q (on_index q x) in
+        let b : in_span body size q ≡ false =
+        false_from (in_span body size q) (λ y. both_ways (in_span index index_room q) (apart q y) x) in
+        put_miss (2 * a + 1) q (count_by w a + length vs) (put_values (body + 2 * count_by w a) vs mid)
+        (λ z. both_ways (in_head a q) o (ap (in_head a) z ∙ head_at a 1 (omega arith)))
+        ∙ values_off (body + 2 * count_by w a) q vs mid
+        (within_span body size (body + 2 * count_by w a) (2 * length vs) q (omega arith) (omega (arith, l)) b)
+        ∙ headed_off a first body index q base o
+        ∙ cond-true (in_span index index_room q) 0 (copied (body_by w a) body (2 * count_by w a) w q) x
 
     pub push_grown : (v : Value) → length (decode w a).values ≡ (decode w a).room → 2 * (count_by w a + 1) ≤ size →
         FitsValue v

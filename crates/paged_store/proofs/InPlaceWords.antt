@@ -1,5 +1,5 @@
 -- Each change of a record in the words that it has: which words it puts, and where.
-use Rattle.std.proofs.Common.{◌≡◌, ◌⊎◌, ℕ, ◌+◌, ◌-◌, ◌*◌, ◌<◌, ◌≤◌, Bool, true, false, ◌||◌, leb, List, [], ◌∷◌, length, min, MatchBool, ◌^◌, take, inl, inr, refl, sym, ◌∙◌, ap, subst, arith}
+use Rattle.std.proofs.Common.{◌≡◌, ℕ, ◌+◌, ◌-◌, ◌*◌, ◌<◌, ◌≤◌, true, false, leb, List, [], ◌∷◌, min, MatchBool, ◌^◌, take, inl, inr, refl, sym, ◌∙◌, ap, arith}
 use Rattle.std.proofs.lemmas.Bool.{or_cases}
 use Rattle.std.proofs.lemmas.Bool.Decides.{leb_tells}
 use Rattle.std.proofs.lemmas.List.{take_min}
@@ -8,9 +8,9 @@ use Rattle.py_base.specs.declared.kind.Kind.TheVariants.{Str, Tuple, List as Lis
 use Rattle.py_data.specs.declared.value.Value.{Value}
 use Rattle.py_data.specs.Heap.{Rec, is_tracked, has_bytes, has_rooms, with_value, with_push, cut_to, with_pair, without_pair, length_of}
 use Rattle.paged_store.specs.Words.{Words, in_span, decode, room_in, class_in, kind_by, count_by, body_by, body_size, in_head, in_body, in_index, in_record}
-use Rattle.paged_store.specs.inner.Formed.{Formed, Lays, FitsValue}
+use Rattle.paged_store.specs.inner.Formed.{Formed, FitsValue}
 use Rattle.paged_store.specs.inner.Moves.{never}
-use Rattle.paged_store.specs.inner.Written.{set_words, push_words, pair_words, drop_words, slid, put_word}
+use Rattle.paged_store.specs.inner.Written.{set_words, push_words, pair_words, drop_words, slid}
 use Rattle.paged_store.specs.inner.Writing.{with_count, pushed_words, cut_words, put_values}
 use Rattle.paged_store.proofs.SpanLemmas.{in_span_holds, span_bounds, in_first, in_second}
 use Rattle.paged_store.proofs.RecordWords.{size_is, room_is, count_fits, count_most, values_length}

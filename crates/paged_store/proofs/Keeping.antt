@@ -254,7 +254,7 @@ sees_stored n m k w = record {
 }
 
 -- a record that a segment doesn't hold stands for it as in the image
-unheld : (n : ℕ) (m : Meaning) (k a : ℕ) → IsStore n m → holds (m.part k) a ≡ false → sees m k a ≡ m.image a
+pub unheld : (n : ℕ) (m : Meaning) (k a : ℕ) → IsStore n m → holds (m.part k) a ≡ false → sees m k a ≡ m.image a
 unheld n m k a w e = ap (λ o. over o (m.image a)) (none_by ((m.part k).changes a) (w.changes k a ∙ e))
 
 -- ---- the calls

@@ -1,7 +1,8 @@
 -- A segment locks a record of the image that none holds, on a store's fields.
-use Rattle.std.proofs.Common.{◌≡◌, ℕ, ◌+◌, ◌<◌, ◌≤◌, Bool, true, false, cond, ◌||◌, eqb, List, [], ◌∷◌, ◌++◌, length, take, get_or, slice_set, Option, Some, None, IsSome, is_some, inl, inr, refl, sym, ◌∙◌, subst, arith}
+use Rattle.std.proofs.Common.{◌≡◌, ℕ, ◌+◌, ◌<◌, ◌≤◌, Bool, true, false, cond, ◌||◌, eqb, List, [], ◌∷◌, ◌++◌, length, take, get_or, Option, Some, None, IsSome, is_some, inl, inr, refl, sym, ◌∙◌, subst}
+use Rattle.std.proofs.Math.Logic.{∥∥₁_map}
 use Rattle.std.proofs.lemmas.Bool.{cases_lt, both_ways}
-use Rattle.std.proofs.lemmas.List.{get_or_past, length-set}
+use Rattle.std.proofs.lemmas.List.{get_or_past}
 use Rattle.py_data.specs.Heap.{Rec, Has}
 use Rattle.py_data.specs.Sight.{mem, with_mark}
 use Rattle.seg_store.specs.Meaning.{Meaning, over, sees, holds}
@@ -9,16 +10,21 @@ use Rattle.seg_store.specs.Calls.{after_lock}
 use Rattle.seg_store.specs.Store.{NoOther, IsStore}
 use Rattle.paged_store.specs.Words.{Words, decode}
 use Rattle.paged_store.specs.inner.State.{State, meaning_in, Sound}
+use Rattle.paged_store.specs.inner.Counted.{IsCounted}
 use Rattle.paged_store.specs.inner.Moves.{put, with_held, locks}
-use Rattle.paged_store.specs.inner.Paged.{Paged, state_of, hand_now, hand_before, of_class, sum_to, FitsTable, Fits, Fine}
+use Rattle.paged_store.specs.inner.Paged.{names, Paged, state_of, hand_now, hand_before, of_class, sum_to, counts_of, FitsTable, Fits, Fine}
 use Rattle.paged_store.specs.inner.Drafts.{with_lock}
 use Rattle.paged_store.proofs.OverLemmas.{put_self, put_still}
 use Rattle.paged_store.proofs.StateLemmas.{put_each, put_two}
 use Rattle.paged_store.proofs.MemLemmas.{one_more, locked_more}
-use Rattle.paged_store.proofs.HolderLemmas.{names, names_more}
+use Rattle.paged_store.proofs.HolderLemmas.{held_in, names_more}
 use Rattle.paged_store.proofs.LockMove.{locks_sound, locks_means}
 use Rattle.paged_store.proofs.Keeping.{lock_kept}
 use Rattle.paged_store.proofs.FineLemmas.{known_of, Leaves, Went, leaves_of}
+use Rattle.paged_store.proofs.CountLemmas.{counted_lock}
+use Rattle.paged_store.proofs.KeyedLemmas.{keyed_lock}
+use Rattle.paged_store.proofs.IndexedLemmas.{locks_indexed}
+use Rattle.paged_store.proofs.CountCalls.{counts_still}
 use Rattle.paged_store.proofs.LookCalls.{with_draft, state_put, in_hand}
 
 pub there_within : (xs : List Bool) (a : ℕ) → get_or xs a false ≡ true → a < length xs
@@ -47,9 +53,6 @@ image_has n m k a w there free = by_changes ((m.part k).changes a) (w.changes k 
 
 module _ (p : Paged) (k a : ℕ) (f : Fine p) (is : get_or p.present a false ≡ true)
     (free : (j : ℕ) → in_hand j (p.drafts j) a ≡ false) where
-  within : a < length p.holders
-  within = let l = there_within p.present a is in let e = f.fits.lengths in omega (arith, l, e)
-
   lock_fits_table : FitsTable p.table (length p.present) k (with_lock a (p.drafts k))
   lock_fits_table = let d = f.fits.drafts k in record {
     spans = d.spans;
@@ -67,20 +70,22 @@ module _ (p : Paged) (k a : ℕ) (f : Fine p) (is : get_or p.present a false ≡
   }
 
   abbrev locked : Paged
-  locked = record (with_draft k (with_lock a (p.drafts k)) p) { holders = slice_set p.holders a (k + 1) }
+  locked = record (with_draft k (with_lock a (p.drafts k)) p) {
+    holder = put a (Some k) p.holder;
+    looked = put k (with_mark a (p.looked k)) p.looked;
+  }
 
-  free_names : (j : ℕ) → names p.holders j a ≡ false
+  free_names : (j : ℕ) → names (p.holder a) j ≡ false
   free_names j = f.fits.holders j a ∙ free j
 
   lock_fits : Fits locked
   lock_fits = record {
-    lengths = length-set p.holders a (k + 1) ∙ f.fits.lengths;
     drafts = put_each (λ j x. FitsTable p.table (length p.present) j x) k (with_lock a (p.drafts k)) p.drafts
         lock_fits_table (λ j n. f.fits.drafts j);
-    holders = λ j b. names_more p.holders k a within free_names j b ∙
-        put_two (λ j g x. g b ≡ in_hand j x b) k (λ b. eqb b a || names p.holders k b) (names p.holders)
+    holders = λ j b. names_more p.holder k a free_names j b ∙
+        put_two (λ j g x. g b ≡ in_hand j x b) k (λ b. eqb b a || held_in p.holder k b) (held_in p.holder)
         (with_lock a (p.drafts k)) p.drafts
-        (locked_more a b (names p.holders k b) (p.drafts k).changed (p.drafts k).made (f.fits.holders k b))
+        (locked_more a b (held_in p.holder k b) (p.drafts k).changed (p.drafts k).made (f.fits.holders k b))
         (λ j n. f.fits.holders j b) j;
     counted = λ c. subst (λ g. sum_to p.table.segments g + length (p.table.shelf c).spare ≤ (p.table.shelf c).total)
         (sym (put_still (λ j x. of_class c x.taken) k (with_lock a (p.drafts k)) p.drafts refl)) (f.fits.counted c);
@@ -103,13 +108,14 @@ module _ (p : Paged) (k a : ℕ) (f : Fine p) (is : get_or p.present a false ≡
   unfolding state_of
   state_locked =
       let s : State = state_of p in
-      state_put p k (with_lock a (p.drafts k)) ∙ (λ i. record s {
+      (λ i. record (state_put p k (with_lock a (p.drafts k)) i) { looked = put k (with_mark a (s.looked k)) s.looked })
+      ∙ (λ i. record s {
         now = put k (now_locked i) s.now;
         before = put k (before_locked i) s.before;
         changed = put k ((p.drafts k).changed ++ a ∷ []) s.changed;
         made = put_self k (s.made k) s.made refl i;
         kept_made = put_self k (s.kept_made k) s.kept_made refl i;
-        looked = put k (with_mark a (p.drafts k).looked) s.looked;
+        looked = put k (with_mark a (s.looked k)) s.looked;
       })
 
   went : (own role : Words) → Sound own role (state_of p) →
@@ -135,9 +141,18 @@ module _ (p : Paged) (k a : ℕ) (f : Fine p) (is : get_or p.present a false ≡
   unfolding meaning_in state_of
   no_other = λ j n. free j
 
+  there_image : (state_of p).image a ≡ true
+  unfolding state_of
+  there_image = is
+
   pub lock_leaves : Leaves locked (after_lock k a (meaning_in (state_of p)))
   lock_leaves =
       let w = known_of p f in
       leaves_of p locked (locks k a (state_of p)) (after_lock k a (meaning_in (state_of p))) f lock_fits state_locked
       went
       (lock_kept p.table.reserved p.table.reserved k (meaning_in (state_of p)) w w.room a there no_other)
+      (subst (IsCounted (after_lock k a (meaning_in (state_of p))))
+      (sym (counts_still p.table k (with_lock a (p.drafts k)) p.drafts refl refl))
+      (counted_lock p.table.reserved (meaning_in (state_of p)) (counts_of p) k a w there f.counted))
+      (∥∥₁_map f.keyed (λ q. keyed_lock p.table.reserved (meaning_in (state_of p)) k a w there q))
+      (locks_indexed (state_of p) k a there_image f.indexed)

@@ -1,19 +1,21 @@
 -- The words of a record that is made.
-use Rattle.std.proofs.Common.{◌≡◌, ◌≢◌, ℕ, zero, suc, ◌+◌, ◌*◌, ◌/◌, ◌^◌, ◌<◌, ◌≤◌, Bool, true, false, cond, List, [], ◌∷◌, ◌++◌, length, inl, inr, refl, sym, ◌∙◌, ap, subst, arith}
+use Rattle.std.proofs.Common.{◌≡◌, ℕ, zero, suc, ◌+◌, ◌*◌, ◌/◌, ◌^◌, ◌<◌, ◌≤◌, Bool, true, false, cond, List, [], ◌∷◌, ◌++◌, length, inl, refl, sym, ◌∙◌, ap, subst, arith}
 use Rattle.std.proofs.lemmas.Bool.{both_ways, cond-true, cond-false}
 use Rattle.std.proofs.lemmas.Bool.Decides.{nat_tests}
-use Rattle.py_base.specs.declared.kind.Kind.{Kind}
 use Rattle.py_data.specs.declared.record.Record.{Record}
 use Rattle.py_data.specs.declared.value.Value.{Value}
-use Rattle.py_data.specs.Heap.{Rec, has_bytes, value_at, new_rec}
+use Rattle.py_data.specs.Heap.{has_bytes, value_at, new_rec}
 use Rattle.seg_store.specs.Store.{NoneOf, OneList}
-use Rattle.paged_store.specs.Words.{Words, in_span, size_of, class_in, index_class_in, count_by, body_by, index_by, in_head, in_body, in_index}
+use Rattle.paged_store.specs.Words.{Words, in_span, size_of, class_in, index_class_in, count_by, body_by, index_by, body_size, index_size, in_head, in_body, in_index}
 use Rattle.paged_store.specs.inner.Paged.{extents_at, one_if}
 use Rattle.paged_store.specs.inner.Claiming.{extent_for}
 use Rattle.paged_store.specs.inner.Making.{made_length, body_class, index_class, made_extents, made_words, FitsRecord, FitsBody}
-use Rattle.paged_store.specs.inner.Writing.{laid, cleared, headed, put_values}
-use Rattle.paged_store.specs.inner.Written.{put_word, put_value, packed, made_head, ValueAt, Makes, TakesRecord, Changed}
-use Rattle.paged_store.proofs.SpanLemmas.{in_span_at, in_span_holds, not_in_span, none_in_span, head_at, head_first}
+use Rattle.paged_store.specs.inner.Writing.{laid, cleared, put_values}
+use Rattle.paged_store.specs.inner.Indexed.{index_words}
+use Rattle.dict_index.specs.Packed.{packed}
+use Rattle.dict_index.specs.Index.{IsBlank}
+use Rattle.paged_store.specs.inner.Written.{put_word, put_value, made_head, ValueAt, TakesRecord, Changed}
+use Rattle.paged_store.proofs.SpanLemmas.{in_span_at, in_span_holds, not_in_span, none_in_span, head_at}
 use Rattle.paged_store.proofs.PutWords.{put_hit, put_miss, value_put}
 use Rattle.paged_store.proofs.WriteLemmas.{values_off, laid_off}
 use Rattle.paged_store.proofs.RecordWords.{size_of_next}
@@ -82,6 +84,13 @@ module _ (w : Words) (a body index : ℕ) (r : Record) where
       let z = extent_times (index_class r) index p in
       omega (arith, all, two, x, y, z)
 
+  -- the places of the index are taken
+  pub index_off : (p : ℕ) → e p ≡ 0 → in_span index index_room p ≡ false
+  index_off p z = none_of _ (let s = e_of p in omega (arith, s, z))
+
+  pub index_taken : (p : ℕ) → in_span index index_room p ≡ true → 0 < e p
+  index_taken p h = (let s = e_of p in let o = ap one_if h in omega (arith, s, o))
+
   abbrev pub part : ℕ → ℕ
   part p = cond (in_head a p) 0 (cond (in_span body size p) (2 * body_class r) (2 * index_class r + 1))
 
@@ -122,12 +131,12 @@ module _ (w : Words) (a body index : ℕ) (r : Record) where
     now_first : now (2 * a) ≡ first
     now_first = put_hit (2 * a) (2 * a) first (put_word (2 * a + 2) body (put_word (2 * a + 3) index counted)) refl
 
-    now_body : body_by now a ≡ body
+    pub now_body : body_by now a ≡ body
     now_body = put_miss (2 * a) (2 * a + 2) first (put_word (2 * a + 2) body (put_word (2 * a + 3) index counted))
         (λ x. omega arith)
         ∙ put_hit (2 * a + 2) (2 * a + 2) body (put_word (2 * a + 3) index counted) refl
 
-    now_index : index_by now a ≡ index
+    pub now_index : index_by now a ≡ index
     now_index = put_miss (2 * a) (2 * a + 3) first (put_word (2 * a + 2) body (put_word (2 * a + 3) index counted))
         (λ x. omega arith)
         ∙ put_miss (2 * a + 2) (2 * a + 3) body (put_word (2 * a + 3) index counted) (λ x. omega arith)
@@ -149,11 +158,20 @@ module _ (w : Words) (a body index : ℕ) (r : Record) where
     now_index_class : index_class_in (now (2 * a)) ≡ index_class r
     now_index_class = ap index_class_in now_first ∙ parts.index
 
+    pub now_body_size : body_size now a ≡ size
+    now_body_size = ap size_of now_class
+
     body_now : (p : ℕ) → in_body now a p ≡ true → in_span body size p ≡ true
     body_now p h = (λ i. in_span (sym now_body i) (size_of (sym now_class i)) p) ∙ h
 
+    pub now_index_size : index_size now a ≡ index_room
+    now_index_size = ap size_of now_index_class
+
+    pub index_is : (p : ℕ) → in_index now a p ≡ in_span index index_room p
+    index_is p = λ i. in_span (now_index i) (now_index_size i) p
+
     index_now : (p : ℕ) → in_index now a p ≡ true → in_span index index_room p ≡ true
-    index_now p h = (λ i. in_span (sym now_index i) (size_of (sym now_index_class i)) p) ∙ h
+    index_now p h = sym (index_is p) ∙ h
 
     module _ (once : (p : ℕ) → e p ≤ 1) where
       alone : (p : ℕ) → one_if (in_head a p) + one_if (in_span body size p) + one_if (in_span index index_room p) ≤ 1
@@ -193,6 +211,17 @@ module _ (w : Words) (a body index : ℕ) (r : Record) where
           ∙ put_miss (2 * a + 1) q (made_length r) blank
           (λ x. both_ways (in_head a q) o.0 (ap (in_head a) x ∙ head_at a 1 (omega arith)))
           ∙ laid_off index index_room q (λ j. 0) bytes o.1
+
+      -- nothing is in the index
+      pub made_blank : IsBlank (index_size now a) (index_words now a)
+      made_blank s h =
+          let l : s < index_room = subst (λ n. s < n) now_index_size h in
+          let o = on_index (index + s) (in_span_at index index_room s l) in
+          ap (λ i. now (i + s)) now_index
+          ∙ headed_off a first body index (index + s) counted o.0
+          ∙ put_miss (2 * a + 1) (index + s) (made_length r) blank
+          (λ x. both_ways (in_head a (index + s)) o.0 (ap (in_head a) x ∙ head_at a 1 (omega arith)))
+          ∙ laid_on index index_room s (λ j. 0) bytes l
 
       -- where there are values there are no bytes
       no_bytes : (i : ℕ) → OneList r.kind r.values r.bytes → i < length r.values → (length r.bytes + 7) / 8 ≡ 0

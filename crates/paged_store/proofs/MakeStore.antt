@@ -1,65 +1,61 @@
 -- A segment makes a record, on a store's fields in memory.
-use Rattle.std.proofs.Common.{◌≡◌, ◌≢◌, ◌⊎◌, ℕ, suc, ◌+◌, ◌-◌, ◌*◌, ◌/◌, ◌^◌, ◌<◌, ◌≤◌, Bool, true, false, ◌||◌, cond, eqb, ltb, List, [], ◌∷◌, ◌++◌, length, get_or, Option, Some, None, slice_index_or, slice_set, inl, inr, refl, sym, ◌∙◌, ap, subst, arith}
+use Rattle.std.proofs.Common.{◌≡◌, ◌≢◌, ◌⊎◌, ℕ, ◌+◌, ◌*◌, ◌^◌, ◌<◌, ◌≤◌, Bool, true, false, ◌||◌, cond, eqb, ltb, List, [], ◌∷◌, ◌++◌, length, Some, None, slice_index_or, slice_set, inl, inr, refl, sym, ◌∙◌, ap, subst, arith}
 use Rattle.std.proofs.Math.Logic.{∥∥₁_map}
 use Rattle.std.proofs.lemmas.Bool.Decides.{eqb_tells}
-use Rattle.std.proofs.lemmas.List.{append-nil, length-set}
+use Rattle.std.proofs.lemmas.List.{length-set}
 use Rattle.py_base.specs.declared.kind.Kind.{Kind}
 use Rattle.py_base.specs.declared.kind.Kind.TheVariants.{Str, Tuple, List as ListKind, Dict, Cell, Function, Class, Instance, Method, Iter, Range, Lock, Thread}
 use Rattle.py_data.specs.declared.record.Record.{Record}
 use Rattle.py_data.specs.declared.value.Value.{Value}
 use Rattle.py_data.specs.Made.{rec_of}
-use Rattle.py_data.specs.Heap.{Rec, Heap, has_bytes, length_by, value_at}
+use Rattle.py_data.specs.Heap.{Rec, Heap, has_bytes, length_by}
 use Rattle.py_data.specs.Shape.{HasShape, OnlyStrings, IsShaped}
 use Rattle.seg_store.specs.declared.store.StoreFault.{StoreFault}
 use Rattle.seg_store.specs.declared.store.StoreFault.TheVariants.{Full, OutOfMemory}
 use Rattle.seg_store.specs.Asking.{AsksFor}
 use Rattle.seg_store.specs.Extents.{Wants}
-use Rattle.seg_store.specs.Meaning.{Meaning, sees}
+use Rattle.seg_store.specs.Telling.{use_with, Rises, RisesTo}
+use Rattle.seg_store.specs.Meaning.{Meaning}
+use Rattle.seg_store.specs.Meaning.{sees}
 use Rattle.seg_store.specs.Calls.{after_make}
 use Rattle.seg_store.specs.Store.{IsFree, NoneOf, OneList, Refuses}
+use Rattle.dict_index.specs.Index.{IsBlank}
+use Rattle.seg_marks.specs.Marks.{Marked, marks_of, holders_of, granules, SameSizes}
 use Rattle.page_table.specs.Pages.{Table, limit}
 use Rattle.page_table.specs.Lists.{Lists, table_of}
 use Rattle.paged_store.specs.declared.draft.Draft.{Draft}
 use Rattle.paged_store.specs.declared.store.PagedStore.{PagedStore}
-use Rattle.paged_store.specs.Words.{Words, size_of}
-use Rattle.paged_store.specs.inner.Formed.{FitsValue, words_for}
+use Rattle.paged_store.specs.Words.{Words, size_of, index_by, index_size}
+use Rattle.paged_store.specs.inner.Indexed.{index_words, IsIndexed, HasIndexes}
+use Rattle.paged_store.specs.inner.Indexing.{CanIndex, Puts}
+use Rattle.paged_store.specs.inner.Formed.{words_for}
 use Rattle.paged_store.specs.inner.State.{Hand, State, meaning_in, Sound}
 use Rattle.paged_store.specs.inner.Moves.{put, nowhere, written}
-use Rattle.paged_store.specs.inner.Paged.{Drafted, Paged, drafted, state_of, one_if, paged_by, extents_at, FitsTable, Fits, Fine}
-use Rattle.paged_store.specs.Stores.{paged_of, paged_meaning, Fills, Wanting}
-use Rattle.paged_store.specs.inner.Claiming.{times, NoneLeft, Denies}
+use Rattle.paged_store.specs.inner.Paged.{Paged, drafted, state_of, one_if, paged_by, extents_at, Fine}
+use Rattle.paged_store.specs.Stores.{paged_of, paged_meaning, peaks_of, Fills}
+use Rattle.paged_store.specs.inner.Claiming.{times, RisesBy, Denies}
 use Rattle.paged_store.specs.inner.Taking.{Takes}
-use Rattle.paged_store.specs.inner.Making.{made_length, body_class, index_class, FitsRecord, FitsBody, Places, Longer}
+use Rattle.paged_store.specs.inner.Making.{made_length, body_class, index_class, made_extents, FitsRecord, FitsBody, Places}
 use Rattle.paged_store.specs.inner.Written.{made_class, made_index}
-use Rattle.paged_store.specs.inner.Writing.{Desk, desk}
+use Rattle.paged_store.specs.inner.Writing.{Desk, desk, with_words}
 use Rattle.paged_store.proofs.OverLemmas.{put_self}
-use Rattle.paged_store.proofs.MakeWords.{made_class_most, made_holds, dict_made}
+use Rattle.paged_store.proofs.MakeWords.{made_holds, dict_made}
 use Rattle.paged_store.proofs.ExtentLemmas.{make_wants_header, make_wants_body, make_wants_index}
 use Rattle.paged_store.proofs.StockMove.{stocked_sound}
-use Rattle.paged_store.proofs.FineLemmas.{known_of, IsSound, Leaves, leaves_by}
+use Rattle.paged_store.proofs.ExtentCounts.{made_extents_are}
+use Rattle.paged_store.proofs.PeakLemmas.{made_classes, total_of, used_in, taken_rises, refused_rises}
+use Rattle.paged_store.proofs.FineLemmas.{known_of, Leaves, leaves_by}
+use Rattle.paged_store.proofs.IndexedLemmas.{stocked_indexed}
 use Rattle.paged_store.proofs.SegmentDrafts.{drafts_in, read_draft, set_draft}
-use Rattle.paged_store.proofs.StoreCalls.{segment_in, Stands as StoreStands}
+use Rattle.paged_store.proofs.StoreCalls.{segment_in, SameTable, Stands as StoreStands, stands_after}
 use Rattle.paged_store.proofs.StoreEnds.{table_segment}
-use Rattle.paged_store.proofs.WriteCall.{Turns, turned_to, fits_turned, state_turned, stock}
+use Rattle.paged_store.proofs.WriteCall.{Turns, turned_to, fits_turned, state_turned, stock, rest_counted}
 use Rattle.paged_store.proofs.ChangeCall.{still_store}
 use Rattle.paged_store.proofs.TakeCall.{took, took_freed}
-use Rattle.paged_store.proofs.MakeCall.{limit_of, wrote_none, longer_fits, free_there, made_leaves, new_is, mid_turns}
-
--- ---- what is known of more addresses
-
-longer_leaves : (p : Paged) (ps : List Bool) (hs : List ℕ) → Fine p → Longer false p.present ps → Longer 0 p.holders hs
-    → length hs ≡ length ps
-    → Leaves (record p { present = ps; holders = hs }) (meaning_in (state_of p))
-unfolding state_of
-longer_leaves p ps hs f lp lh same =
-    let is : state_of (record p { present = ps; holders = hs }) ≡ state_of p = λ i.
-    record (state_of p) { image = λ a. lp.each a i } in
-    leaves_by (record p { present = ps; holders = hs }) (state_of p) (meaning_in (state_of p)) (record {
-      lengths = same;
-      drafts = λ k. longer_fits p.table (length p.present) (length ps) k (p.drafts k) lp.more (f.fits.drafts k);
-      holders = λ k a. ap (λ x. eqb x (suc k)) (lh.each a) ∙ f.fits.holders k a;
-      counted = f.fits.counted;
-    }) is f.sound refl (known_of p f)
+use Rattle.paged_store.proofs.RecordWords.{kind_is}
+use Rattle.paged_store.proofs.RiseLemmas.{rises_kept}
+use Rattle.paged_store.proofs.MakeIndex.{made_can, made_empty, made_puts}
+use Rattle.paged_store.proofs.MakeCall.{limit_of, wrote_none, free_there, made_leaves, new_is, mid_turns}
 
 -- ---- nothing was taken
 
@@ -94,6 +90,10 @@ module _ (p : Paged) (k : ℕ) (f : Fine p) (l : k < p.table.segments) (new : De
     sound_rests own role g = stocked_sound own role (state_of p) _ _ g
         (took_freed p k f (p.table.word k) nowhere [] old new (wrote_none k old) t own role g).stocks
 
+    -- the words are what they were
+    rests_indexed : HasIndexes (state_of p) → HasIndexes (rest (state_of p))
+    rests_indexed i = stocked_indexed (state_of p) _ _ i
+
     pub rest_leaves : Leaves (turned_to p k new) (meaning_in (state_of p))
     unfolding meaning_in
     rest_leaves = leaves_by (turned_to p k new) (rest (state_of p)) (meaning_in (state_of p))
@@ -101,6 +101,14 @@ module _ (p : Paged) (k : ℕ) (f : Fine p) (l : k < p.table.segments) (new : De
         (∥∥₁_map f.sound (λ x. (x.0, (x.1.0, sound_rests x.0 x.1.0 x.1.1)))) refl
         (still_store p.table.reserved new.table.reserved (meaning_in (state_of p)) (known_of p f)
         (let e = rest_turns.pages in let y = limit_of p in omega (arith, most, e, y)))
+        (rest_counted p k new (p.table.word k) nowhere [] f rest_turns refl) f.keyed (rests_indexed f.indexed)
+
+-- where none can be made, what is ever new of a class rises at most to what would be in use with it
+pub make_refused : (s : PagedStore) (u : Table) (r : Record) →
+    RisesBy (2 ∷ body_class r ∷ index_class r ∷ []) (table_of s.pages) u
+    → RisesTo (Some (peaks_of s)) (Some (λ n. (u.shelf n).total)) (use_with (paged_meaning s) None (rec_of r))
+make_refused s u r rises = refused_rises (paged_of s) u s.sound.fine (2 ∷ body_class r ∷ index_class r ∷ []) None
+    (rec_of r) rises (λ n low. let e = made_extents_are r n low in omega (arith, e))
 
 -- ---- the shape of a record
 
@@ -240,61 +248,45 @@ make_asks r t u (Full m n i) d = subst (λ z. Wants None (rec_of r) z) (sym d.ne
 
 -- ---- a store's fields
 
-module _ (s : PagedStore) (k : ℕ) (l : k < (paged_meaning s).segments) (ps : List Bool) (hs : List ℕ)
-    (lp : Longer false s.present.items ps)
-    (lh : Longer 0 s.holders.items hs) (same : length hs ≡ length ps) where
-  abbrev p : Paged
-  p = record (paged_of s) { present = ps; holders = hs }
-
-  reached : Leaves p (paged_meaning s)
-  reached = longer_leaves (paged_of s) ps hs s.sound.fine lp lh same
-
-  pub reach_stands : StoreStands s.pages ps hs s.drafts.items (paged_meaning s)
-  reach_stands = record { sound = record { count = s.sound.count; fine = reached.fine }; means = reached.means }
-
-  module _ (g : Draft) (is : g ≡ slice_index_or s.drafts.items k g) (d : Draft) (u : Lists)
-      (most : (table_of u).reserved ≤ limit (table_of u)) where
+module _ (s : PagedStore) (k : ℕ) (l : k < (paged_meaning s).segments) where
+  module _ (g : Draft) (is : g ≡ slice_index_or s.drafts.items k g) (d : Draft) (u : Lists) where
     read : drafted g ≡ (paged_of s).drafts k
     read = read_draft s.drafts.items k g (segment_in s k l) is
 
     drafts_now : drafts_in (slice_set s.drafts.items k d) ≡ put k (drafted d) (paged_of s).drafts
     drafts_now = set_draft s.drafts.items k d (drafted d) (segment_in s k l) refl
 
-    fields_stand : (m : Meaning) (hs1 : List ℕ) → (table_of u).segments ≡ (table_of s.pages).segments
-        → Leaves (record {
-          table = table_of u;
-          present = ps;
-          holders = hs1;
-          drafts =
-              put k (drafted d) (paged_of s).drafts;
+    fields_stand : (v : Lists) (m : Meaning) (t : Marked) → SameTable (table_of s.pages) (table_of v)
+        → SameSizes s.marks t → Leaves (record {
+          table = table_of v;
+          present = s.present.items;
+          holder = holders_of t;
+          looked = marks_of t;
+          drafts = put k (drafted d) (paged_of s).drafts;
         }) m
-        → StoreStands u ps hs1 (slice_set s.drafts.items k d) m
-    fields_stand m hs1 segments v =
-        let w : Leaves (paged_by u ps hs1 (slice_set s.drafts.items k d)) m =
-        subst (λ x. Leaves (record { table = table_of u; present = ps; holders = hs1; drafts = x }) m) (sym drafts_now)
-        v in
-        record {
-          sound = record {
-            count = length-set s.drafts.items k d ∙ s.sound.count ∙ sym segments;
-            fine =
-                w.fine;
-          };
-          means = w.means;
-        }
+        → StoreStands v s.present.items t (slice_set s.drafts.items k d) m
+    fields_stand v m t same sizes leaves = stands_after s v s.present.items t (slice_set s.drafts.items k d) m same refl
+        sizes (length-set s.drafts.items k d)
+        (subst (λ x. Leaves (record {
+          table = table_of v;
+          present = s.present.items;
+          holder = holders_of t;
+          looked = marks_of t;
+          drafts = x;
+        }) m) (sym drafts_now) leaves)
 
-    module _ (t : Takes k [] (desk s.pages g) (desk u d)) where
+    module _ (most : (table_of u).reserved ≤ limit (table_of u)) (t : Takes k [] (desk s.pages g) (desk u d)) where
       untaken : Takes k [] (record { table = table_of s.pages; draft = (paged_of s).drafts k }) (desk u d)
       untaken = subst (λ x. Takes k [] (record { table = table_of s.pages; draft = x }) (desk u d)) read t
 
-      pub untaken_stands : StoreStands u ps hs (slice_set s.drafts.items k d) (paged_meaning s)
+      pub untaken_stands : StoreStands u s.present.items s.marks (slice_set s.drafts.items k d) (paged_meaning s)
       untaken_stands =
-          let v = rest_leaves p k reached.fine (table_segment s k l) (desk u d) untaken most in
-          fields_stand (paged_meaning s) hs
-          (rest_turns p k reached.fine (table_segment s k l) (desk u d) untaken most).segments
-          (record { fine = v.fine; means = v.means ∙ reached.means })
+          let t = rest_turns (paged_of s) k s.sound.fine (table_segment s k l) (desk u d) untaken most in
+          fields_stand u (paged_meaning s) s.marks (t.segments, t.pages) (record { segments = refl; granules = refl })
+          (rest_leaves (paged_of s) k s.sound.fine (table_segment s k l) (desk u d) untaken most)
 
       pub untaken_more : (table_of s.pages).reserved ≤ (table_of u).reserved
-      untaken_more = (rest_turns p k reached.fine (table_segment s k l) (desk u d) untaken most).more
+      untaken_more = (rest_turns (paged_of s) k s.sound.fine (table_segment s k l) (desk u d) untaken most).more
 
     module _ (r : Record) (a : ℕ) (fits : FitsBody r) (h : Places k a r (desk s.pages g) (desk u d)) where
       abbrev before : Desk
@@ -306,32 +298,93 @@ module _ (s : PagedStore) (k : ℕ) (l : k < (paged_meaning s).segments) (ps : L
       pub placed_free : IsFree (paged_meaning s) a
       placed_free = free_there (paged_of s) k a s.sound.fine (table_segment s k l) r (desk u d) placed fits
 
-      pub placed_more : (table_of s.pages).reserved ≤ (table_of u).reserved
-      placed_more = (let m = (mid_turns (paged_of s) k a s.sound.fine (table_segment s k l) r (desk u d) placed
-          fits).more in
-          let e = ap (λ (x : Desk). x.table.reserved)
-          (new_is (paged_of s) k a s.sound.fine (table_segment s k l) r (desk u d) placed fits) in
-          omega (arith, m, e))
+      module _ (values : length r.values ≤ 2 ^ 20) (bytes : length r.bytes ≤ 2 ^ 20)
+          (shape : IsShaped (sees (paged_meaning s) k) (rec_of r)) (each : FitsRecord r) where
+        one : OneList r.kind r.values r.bytes
+        one = shape_one (sees (paged_meaning s) k) r shape
 
-      pub placed_stands : a < length hs → length r.values ≤ 2 ^ 20 → length r.bytes ≤ 2 ^ 20 →
-          OneList r.kind r.values r.bytes → FitsRecord r
-          → StoreStands u ps (slice_set hs a (k + 1)) (slice_set s.drafts.items k d)
-          (after_make k a (rec_of r) (paged_meaning s))
-      placed_stands within values bytes one each =
-          let is = new_is (paged_of s) k a s.sound.fine (table_segment s k l) r (desk u d) placed fits in
-          let turns = mid_turns (paged_of s) k a s.sound.fine (table_segment s k l) r (desk u d) placed fits in
-          let e = ap (λ (x : Desk). x.table) is in
-          let v = made_leaves (paged_of s) k a s.sound.fine (table_segment s k l) r (desk u d) placed fits ps hs lp lh
-          same within
-          (made_short r values bytes) one each values bytes (subst (λ (x : Table). x.reserved ≤ limit x) e most) in
-          let P : Desk → Type 0 = λ x. Leaves
-          (record {
-            table = x.table;
-            present = ps;
-            holders = slice_set hs a (k + 1);
-            drafts =
-                put k x.draft (paged_of s).drafts;
-          })
-          (after_make k a (rec_of r) (paged_meaning s)) in
-          fields_stand (after_make k a (rec_of r) (paged_meaning s)) (slice_set hs a (k + 1))
-          (ap (λ (x : Table). x.segments) e ∙ turns.segments) (subst P (sym is) v)
+        -- the pairs of a Dict can be entered in its index, which is empty
+        pub placed_can : r.kind ≡ Dict → CanIndex k a (index_by ((table_of u).word k) a)
+            (index_size ((table_of u).word k) a) (table_of u)
+        placed_can = made_can (paged_of s) k a s.sound.fine (table_segment s k l) r (desk u d) placed fits
+            (made_short r values bytes) one each shape
+
+        pub placed_blank : r.kind ≡ Dict
+            → IsBlank (index_size ((table_of u).word k) a) (index_words ((table_of u).word k) a)
+        placed_blank is_dict = made_empty (paged_of s) k a s.sound.fine (table_segment s k l) r (desk u d) placed fits
+
+        -- once they are
+        module _ (v : Lists)
+            (puts : Puts k (index_by ((table_of u).word k) a) (index_size ((table_of u).word k) a) (table_of u)
+            (table_of v)) where
+          puts_there : Puts k placed.index (size_of (index_class r)) (table_of u) (table_of v)
+          puts_there = made_puts (paged_of s) k a s.sound.fine (table_segment s k l) r (desk u d) placed fits
+              (table_of v) puts
+
+          turns : Turns k ((table_of v).word k) nowhere (made_extents r (2 * a) placed.body placed.index) before
+              (record placed.taken { table = with_words k ((table_of v).word k) placed.taken.table })
+          turns = mid_turns (paged_of s) k a s.sound.fine (table_segment s k l) r (desk u d) placed fits (table_of v)
+              puts_there
+
+          is_new : desk v d ≡ record placed.taken {
+            table = with_words k ((table_of v).word k) placed.taken.table;
+            draft = record placed.taken.draft { made = placed.taken.draft.made ++ a ∷ [] };
+          }
+          is_new = new_is (paged_of s) k a s.sound.fine (table_segment s k l) r (desk u d) placed fits (table_of v)
+              puts_there
+
+          pub placed_more : (table_of s.pages).reserved ≤ (table_of v).reserved
+          placed_more = (let m = turns.more in let e = ap (λ (x : Desk). x.table.reserved) is_new in
+              omega (arith, m, e))
+
+          -- the peaks rise to what is in use
+          pub placed_rises : (m : Marked)
+              → RisesBy (2 ∷ body_class r ∷ index_class r ∷ []) (table_of s.pages) (table_of u)
+              → (let q : Paged = paged_by v s.present.items m (slice_set s.drafts.items k d) in
+              Fine q → Rises (Some (peaks_of s)) (Some (total_of q)) (used_in q))
+          placed_rises m rises fine =
+              taken_rises (paged_of s) (paged_by v s.present.items m (slice_set s.drafts.items k d))
+              s.sound.fine fine (2 ∷ body_class r ∷ index_class r ∷ [])
+              (rises_kept (2 ∷ body_class r ∷ index_class r ∷ []) (table_of s.pages) (table_of u) (table_of v) rises
+              (ap (λ (x : Table). x.shelf) puts.same))
+              (λ n low. let e = turns.count n in let q = made_classes n r (2 * a) placed.body placed.index low in
+              let x = ap (λ (z : Desk). length (z.table.shelf n).spare) is_new in
+              let y = ap (λ (z : Desk). (z.table.shelf n).total) is_new in
+              omega (arith, e, q, x, y))
+
+          -- the address has a granule
+          pub placed_within : (table_of u).reserved ≤ limit (table_of u) → a < granules s.marks
+          placed_within most = (let h = placed.head_within in let o = placed.is in
+              let e = ap (λ (x : Desk). x.table.reserved) placed.puts in
+              let q = ap (λ (x : Desk). x.table.pages) placed.puts in
+              let x = turns.pages in let y = s.sound.bound in
+              omega (arith, most, h, o, e, q, x, y))
+
+          pub placed_stands : (table_of u).reserved ≤ limit (table_of u) → (m : Marked) → SameSizes s.marks m
+              → marks_of m ≡ marks_of s.marks → holders_of m ≡ put a (Some k) (holders_of s.marks)
+              → (r.kind ≡ Dict → IsIndexed ((table_of v).word k) a)
+              → StoreStands v s.present.items m (slice_set s.drafts.items k d)
+              (after_make k a (rec_of r) (paged_meaning s))
+          placed_stands most m sizes marks holders indexed =
+              let e = ap (λ (x : Desk). x.table) is_new in
+              let most_now : (table_of v).reserved ≤ limit (table_of v) =
+              subst (λ (x : Table). x.reserved ≤ limit x) (sym puts.same) most in
+              let g = s.sound.addresses in
+              let w = placed_within most in
+              let leaves = made_leaves (paged_of s) k a s.sound.fine (table_segment s k l) r (desk u d) placed fits
+              (table_of v) puts_there (omega (arith, w, g)) (made_short r values bytes) one each values bytes
+              (subst (λ (x : Table). x.reserved ≤ limit x) e most_now)
+              (λ c n. let x = made_extents_are r c n in
+              let y = made_classes c r (2 * a) placed.body placed.index n in omega (arith, x, y)) shape
+              (λ keys stays means d. indexed
+              (ap (λ (q : Rec). q.kind) (sym means) ∙ kind_is ((table_of v).word k) a ∙ d)) in
+              let P : Paged → Type 0 = λ x. Leaves x (after_make k a (rec_of r) (paged_meaning s)) in
+              fields_stand v (after_make k a (rec_of r) (paged_meaning s)) m
+              (ap (λ (x : Table). x.segments) e ∙ turns.segments, ap (λ (x : Table). x.pages) e ∙ turns.pages) sizes
+              (subst P (sym (λ i. record {
+                table = (is_new i).table;
+                present = s.present.items;
+                holder = holders i;
+                looked = marks i;
+                drafts = put k (is_new i).draft (paged_of s).drafts;
+              })) leaves)

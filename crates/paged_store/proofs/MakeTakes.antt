@@ -1,5 +1,5 @@
 -- The extents that a new record takes, and the draft that has made it.
-use Rattle.std.proofs.Common.{◌≡◌, ℕ, ◌+◌, ◌*◌, ◌/◌, ◌%◌, ◌<◌, ◌≤◌, true, ◌||◌, List, [], ◌∷◌, ◌++◌, length, take, set, map, refl, sym, ◌∙◌, ap, subst, arith}
+use Rattle.std.proofs.Common.{◌≡◌, ℕ, ◌+◌, ◌*◌, ◌/◌, ◌≤◌, true, ◌||◌, List, [], ◌∷◌, ◌++◌, length, take, set, map, sym, ◌∙◌, ap, subst, arith}
 use Rattle.std.proofs.lemmas.Bool.{or_left, or_right}
 use Rattle.std.proofs.lemmas.List.{length-map, length-append, map-set, take-map, map-append}
 use Rattle.std.proofs.Math.Seq.{set-append_seam, take-append_seam}
@@ -10,7 +10,7 @@ use Rattle.page_table.specs.Pages.{Table, Lies}
 use Rattle.paged_store.specs.declared.extent.Extent.{Extent}
 use Rattle.paged_store.specs.Words.{in_span, size_of, head_word}
 use Rattle.paged_store.specs.inner.Written.{made_head}
-use Rattle.paged_store.specs.inner.Paged.{Drafted, in_extents}
+use Rattle.paged_store.specs.inner.Paged.{in_extents}
 use Rattle.paged_store.specs.inner.Claiming.{extent_for}
 use Rattle.paged_store.specs.inner.Taking.{Takes}
 use Rattle.paged_store.specs.declared.value.Header.{Header}

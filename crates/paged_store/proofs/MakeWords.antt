@@ -9,7 +9,8 @@ use Rattle.seg_store.specs.Extents.{class_holding, class_of_room}
 use Rattle.seg_store.specs.Store.{NoneOf, OneList}
 use Rattle.paged_store.specs.Words.{Words, listed, clipped, value_in, byte_in, size_of, room_in, kind_in, class_in, index_class_in, first_in, record_of, decode, kind_by, count_by, body_by, body_size, body_words}
 use Rattle.paged_store.specs.inner.Formed.{Formed, Lays, FitsValue, HasIndex, words_for}
-use Rattle.paged_store.specs.inner.Written.{owned_by, parted, packed, made_class, made_index, made_head, ValueAt, Makes, TakesRecord, Changed}
+use Rattle.dict_index.specs.Packed.{packed}
+use Rattle.paged_store.specs.inner.Written.{owned_by, parted, made_class, made_index, made_head, ValueAt, Makes, TakesRecord, Changed}
 use Rattle.paged_store.proofs.HeadWords.{head_kind, head_class, head_index, head_first, head_below}
 use Rattle.paged_store.proofs.ListedLemmas.{listed_is}
 use Rattle.paged_store.proofs.ByteWords.{bytes_back}

@@ -1,7 +1,7 @@
 -- Bytes that are packed into a word, the last one first.
 use Rattle.std.proofs.Common.{◌≡◌, ℕ, zero, suc, ◌+◌, ◌-◌, ◌*◌, ◌^◌, ◌<◌, ◌≤◌, min, List, [], ◌∷◌, length, take, drop, get_or, refl, ap, ◌∙◌, arith}
 use Rattle.std.proofs.lemmas.List.{length-take, length-drop, take_min}
-use Rattle.paged_store.specs.inner.Written.{number_of, packed}
+use Rattle.dict_index.specs.Packed.{number_of, packed}
 use Rattle.paged_store.proofs.ByteWords.{number_below, take_small, drop_small, short_below}
 
 number_step : (bs : List ℕ) (i m : ℕ) → i < length bs → number_of (take (suc m) (drop i bs)) ≡ get_or bs i 0 + 256 *

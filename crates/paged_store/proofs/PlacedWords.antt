@@ -11,7 +11,8 @@ use Rattle.paged_store.specs.Words.{Words, in_span, size_of, class_in, index_cla
 use Rattle.paged_store.specs.inner.Formed.{Formed}
 use Rattle.paged_store.specs.inner.Sight.{Stands}
 use Rattle.paged_store.specs.inner.Moves.{nowhere}
-use Rattle.paged_store.specs.inner.Written.{put_word, put_value, copied, packed, next_head, made_class, made_index, made_head, ValueAt, Grows, Makes}
+use Rattle.dict_index.specs.Packed.{packed}
+use Rattle.paged_store.specs.inner.Written.{put_word, put_value, copied, next_head, made_class, made_index, made_head, ValueAt, Grows, Makes}
 use Rattle.paged_store.specs.inner.Writing.{Desk, Wrote, MayWrite, with_words, laid, cleared, put_values, headed, next_body_size, next_index_size, grown_words, filled_words, PartsApart}
 use Rattle.paged_store.proofs.SpanLemmas.{in_span_at, not_in_span, head_at}
 use Rattle.paged_store.proofs.PutWords.{put_hit, put_miss, value_put, copied_word, grow_puts}

@@ -30,7 +30,7 @@ module _ (own role : Words) (s : State) (k : ℕ) (g : Sound own role s) where
     | inr n ↦ cond-false ((s.now k).touched p) ((s.now k).word p) (s.shared p) n ∙ sym ((g.now k).same p n)
   ]
 
-  shared_words : given_by (s.now k) s.shared ≡ (s.now k).word
+  pub shared_words : given_by (s.now k) s.shared ≡ (s.now k).word
   shared_words = λ i p. shared_is p i
 
   -- where the segment doesn't hold what has the place, others have the words that they had
@@ -38,7 +38,7 @@ module _ (own role : Words) (s : State) (k : ℕ) (g : Sound own role s) where
   given_out w p e = cond-false ((s.now k).touched p) ((s.now k).word p) (w p)
       (untouched own role s.shared s.image (s.now k) (g.now k) p e)
 
-  agree_given : (w : Words) (a : ℕ) → Lays own role w a → (s.now k).holds a ≡ false
+  pub agree_given : (w : Words) (a : ℕ) → Lays own role w a → (s.now k).holds a ≡ false
       → AgreeOn w (given_by (s.now k) w) a
   agree_given w a o e = agree_on_own own role w (given_by (s.now k) w) a o
       (λ p i. sym (given_out w p (ap (s.now k).holds i ∙ e)))

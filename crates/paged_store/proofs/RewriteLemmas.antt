@@ -23,7 +23,7 @@ module _ (own role : Words) (s : State) (k a : ℕ) (w : Words) (t : ℕ → Boo
   new_owner p l = cond-false (eqb (e p) 0) (own p) a (ne_eqb (e p) 0 (λ z. omega (arith, l, z)))
 
   -- what belongs to a record isn't taken
-  not_taken : (p : ℕ) → own p ≢ 0 → e p ≡ 0
+  pub not_taken : (p : ℕ) → own p ≢ 0 → e p ≡ 0
   not_taken p n = elim (none_or_some (e p)) [ inl z ↦ z | inr l ↦ absurd (n (r.free p l).0) ]
 
   still : (p : ℕ) → own p ≢ 0 → SameOwner own role (owned e a own) (parted e part role) p

@@ -41,7 +41,7 @@ module _ (own role : Words) (s : State) (k : ℕ) (g : Sound own role s) where
     | inr n ↦ (let i = was_image a e n in formed_agrees s.shared (s.now k).word a (agree_image a i n) (g.formed a i))
   ]
 
-  seen_some : (a : ℕ) → (s.image a || (s.now k).holds a) ≡ true → a ≢ 0
+  pub seen_some : (a : ℕ) → (s.image a || (s.now k).holds a) ≡ true → a ≢ 0
   seen_some a e = elim (or_cases _ _ e) [
     | inl x ↦ image_some own role s g a x
     | inr x ↦ holds_some own role s g k a x

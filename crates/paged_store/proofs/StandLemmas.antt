@@ -79,7 +79,7 @@ has_some : (o : Option Rec) (r : Rec) → o ≡ Some r → IsSome o
 has_some None r e = absurd (cc)
 has_some (Some s) r e = refl
 
-has_kind : (o : Option Rec) (P : Kind → Type 0) → KindIn o P → IsSome o
+pub has_kind : (o : Option Rec) (P : Kind → Type 0) → KindIn o P → IsSome o
 has_kind None P e = absurd e
 has_kind (Some r) P e = refl
 

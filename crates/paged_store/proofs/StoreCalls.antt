@@ -1,21 +1,25 @@
 -- A store's calls on its fields in memory.
-use Rattle.std.proofs.Common.{◌≡◌, ℕ, suc, ◌+◌, ◌-◌, ◌<◌, Bool, true, false, eqb, ltb, List, length, get_or, slice_index_or, slice_set, Some, None, inl, inr, sym, ◌∙◌, ap, subst, arith}
-use Rattle.std.proofs.lemmas.Bool.{cases_lt, both_ways, ltb-true, ltb-false, eq-eqb}
-use Rattle.std.proofs.lemmas.List.{length-set, get_or_past, get_or_read}
+use Rattle.std.proofs.Common.{◌≡◌, ℕ, ◌<◌, Bool, true, false, cond, List, length, get_or, slice_index_or, slice_set, Option, Some, None, IsSome, inl, inr, refl, sym, ◌∙◌, ap, subst, arith}
+use Rattle.std.proofs.lemmas.Bool.{cases_lt, both_ways}
+use Rattle.std.proofs.lemmas.List.{length-set}
 use Rattle.std.proofs.lemmas.Option.{slice_get_past}
 use Rattle.py_data.specs.Collection.{places}
-use Rattle.py_data.specs.Heap.{Has}
-use Rattle.seg_store.specs.Meaning.{Meaning, holds}
+use Rattle.py_data.specs.Heap.{Has, Marks}
+use Rattle.py_data.specs.Sight.{no_marks, with_mark}
+use Rattle.seg_store.specs.Meaning.{Meaning, over, sees, holds}
 use Rattle.seg_store.specs.Calls.{after_begin, after_mark, after_lock, after_open}
 use Rattle.seg_store.specs.Store.{IsHolder}
-use Rattle.seg_store.specs.inner.Looks.{marks_of}
+use Rattle.seg_store.proofs.Sees.{same_number}
+use Rattle.seg_marks.specs.Marks.{Marked, marks_of, holders_of, segments, granules, SameSizes}
+use Rattle.page_table.specs.Pages.{Table}
 use Rattle.page_table.specs.Lists.{Lists, table_of}
 use Rattle.paged_store.specs.declared.draft.Draft.{Draft}
 use Rattle.paged_store.specs.declared.store.PagedStore.{PagedStore}
 use Rattle.paged_store.specs.inner.State.{meaning_in}
 use Rattle.paged_store.specs.inner.Moves.{put}
-use Rattle.paged_store.specs.inner.Paged.{Drafted, drafted, drafted_in, state_of, paged_by, IsPaged}
-use Rattle.paged_store.specs.inner.Drafts.{forgot, looked_at, with_lock, step_opened}
+use Rattle.paged_store.specs.inner.Paged.{Drafted, drafted, drafted_in, names, Paged, state_of, paged_by, Fits, IsPaged}
+use Rattle.paged_store.specs.Words.{decode}
+use Rattle.paged_store.specs.inner.Drafts.{with_lock, step_opened}
 use Rattle.paged_store.specs.Stores.{paged_of, paged_meaning}
 use Rattle.paged_store.proofs.SegmentDrafts.{drafts_in, read_draft, set_draft}
 use Rattle.paged_store.proofs.FineLemmas.{Leaves}
@@ -29,12 +33,32 @@ unfolding meaning_in state_of
 segment_in s k l = omega (arith, l, s.sound.count)
 
 -- these fields are a store's, and mean m
-pub record Stands (pages : Lists) (present : List Bool) (holders : List ℕ) (drafts : List Draft) (m : Meaning) : Type 0
+pub record Stands (pages : Lists) (present : List Bool) (marks : Marked) (drafts : List Draft) (m : Meaning) : Type 0
   where
-    pub sound : IsPaged pages present holders drafts
-    pub means : meaning_in (state_of (paged_by pages present holders drafts)) ≡ m
+    pub sound : IsPaged pages present marks drafts
+    pub means : meaning_in (state_of (paged_by pages present marks drafts)) ≡ m
 
--- another draft for a segment
+-- a table has as many segments and pages
+abbrev pub SameTable : Table → Table → Type 0
+SameTable t u = (u.segments ≡ t.segments) × (u.pages ≡ t.pages)
+
+-- other fields, of the same sizes
+pub stands_after : (s : PagedStore) (u : Lists) (ps : List Bool) (t : Marked) (ds : List Draft) (m : Meaning) →
+    SameTable (table_of s.pages) (table_of u) → length ps ≡ length s.present.items → SameSizes s.marks t →
+    length ds ≡ length s.drafts.items → Leaves (paged_by u ps t ds) m → Stands u ps t ds m
+stands_after s u ps t ds m table present sizes drafts v = record {
+  sound = record {
+    count = drafts ∙ s.sound.count ∙ sym table.0;
+    rows = sizes.segments ∙ s.sound.rows ∙ sym table.0;
+    addresses = sizes.granules ∙ s.sound.addresses ∙ sym present;
+    bound = (let a = table.1 in let b = s.sound.bound in let c = sizes.granules in omega (arith, a, b, c));
+    fine = v.fine;
+  };
+  means = v.means;
+}
+
+-- ---- another draft for a segment
+
 module _ (s : PagedStore) (k : ℕ) (l : k < (paged_meaning s).segments) (g d : Draft)
     (is : g ≡ slice_index_or s.drafts.items k g) where
   -- it is what f makes of the one before
@@ -43,34 +67,64 @@ module _ (s : PagedStore) (k : ℕ) (l : k < (paged_meaning s).segments) (g d : 
   drafts_after f e = set_draft s.drafts.items k d (f (drafts_in s.drafts.items k)) (segment_in s k l)
       (e ∙ ap f (read_draft s.drafts.items k g (segment_in s k l) is))
 
-  pub count_after : length (slice_set s.drafts.items k d) ≡ (table_of s.pages).segments
-  count_after = length-set s.drafts.items k d ∙ s.sound.count
-
-  draft_stands : (m : Meaning) → Leaves (paged_by s.pages s.present.items s.holders.items
-      (slice_set s.drafts.items k d)) m → Stands s.pages s.present.items s.holders.items (slice_set s.drafts.items k d)
-      m
-  draft_stands m v = record { sound = record { count = count_after; fine = v.fine }; means = v.means }
+  draft_stands : (m : Meaning) → Leaves (paged_by s.pages s.present.items s.marks (slice_set s.drafts.items k d)) m →
+      Stands s.pages s.present.items s.marks (slice_set s.drafts.items k d) m
+  draft_stands m v = stands_after s s.pages s.present.items s.marks (slice_set s.drafts.items k d) m (refl, refl) refl
+      (record { segments = refl; granules = refl }) (length-set s.drafts.items k d) v
 
   pub same_stands : drafted d ≡ drafted g →
-      Stands s.pages s.present.items s.holders.items (slice_set s.drafts.items k d) (paged_meaning s)
+      Stands s.pages s.present.items s.marks (slice_set s.drafts.items k d) (paged_meaning s)
   same_stands e = draft_stands (paged_meaning s)
       (same_leaves (paged_of s) k (drafts_in (slice_set s.drafts.items k d)) s.sound.fine (drafts_after (λ x. x) e))
 
-  pub begin_stands : drafted d ≡ forgot (drafted g) →
-      Stands s.pages s.present.items s.holders.items (slice_set s.drafts.items k d) (after_begin k (paged_meaning s))
-  begin_stands e = draft_stands (after_begin k (paged_meaning s))
-      (begin_leaves (paged_of s) k (drafts_in (slice_set s.drafts.items k d)) s.sound.fine (drafts_after forgot e))
-
-  pub mark_stands : (a : ℕ) → drafted d ≡ looked_at a (drafted g) →
-      Stands s.pages s.present.items s.holders.items (slice_set s.drafts.items k d) (after_mark k a (paged_meaning s))
-  mark_stands a e = draft_stands (after_mark k a (paged_meaning s))
-      (mark_leaves (paged_of s) k a (drafts_in (slice_set s.drafts.items k d)) s.sound.fine
-      (drafts_after (looked_at a) e))
-
   pub open_stands : drafted d ≡ step_opened (drafted g) →
-      Stands s.pages s.present.items s.holders.items (slice_set s.drafts.items k d) (after_open k (paged_meaning s))
+      Stands s.pages s.present.items s.marks (slice_set s.drafts.items k d) (after_open k (paged_meaning s))
   open_stands e = draft_stands (after_open k (paged_meaning s))
       (open_leaves (paged_of s) k (drafts_in (slice_set s.drafts.items k d)) s.sound.fine (drafts_after step_opened e))
+
+-- ---- looks
+
+module _ (s : PagedStore) (k : ℕ) (t : Marked) (sizes : SameSizes s.marks t) (same : holders_of t ≡ holders_of s.marks)
+  where
+    marks_stand : (looked : ℕ → Marks) (m : Meaning) → marks_of t ≡ looked →
+        Leaves (record (paged_of s) { looked = looked }) m → Stands s.pages s.present.items t s.drafts.items m
+    marks_stand looked m e v = stands_after s s.pages s.present.items t s.drafts.items m (refl, refl) refl sizes refl
+        (subst (λ (x : Paged). Leaves x m) (sym (λ i. record (paged_of s) { holder = same i; looked = e i })) v)
+
+    pub begin_stands : marks_of t ≡ put k no_marks (marks_of s.marks) →
+        Stands s.pages s.present.items t s.drafts.items (after_begin k (paged_meaning s))
+    begin_stands e = marks_stand (put k no_marks (marks_of s.marks)) (after_begin k (paged_meaning s)) e
+        (begin_leaves (paged_of s) k s.sound.fine)
+
+    pub mark_stands : (a : ℕ) → marks_of t ≡ put k (with_mark a (marks_of s.marks k)) (marks_of s.marks) →
+        Stands s.pages s.present.items t s.drafts.items (after_mark k a (paged_meaning s))
+    mark_stands a e = marks_stand (put k (with_mark a (marks_of s.marks k)) (marks_of s.marks))
+        (after_mark k a (paged_meaning s)) e (mark_leaves (paged_of s) k a s.sound.fine)
+
+-- there is a row of marks for a segment
+pub segment_marks : (s : PagedStore) (k : ℕ) → k < (paged_meaning s).segments → k < segments s.marks
+unfolding meaning_in state_of
+segment_marks s k l = (let e = s.sound.rows in omega (arith, l, e))
+
+pub look_is : (s : PagedStore) (k a : ℕ) → ((paged_meaning s).part k).looked a ≡ marks_of s.marks k a
+unfolding meaning_in state_of
+look_is s k a = refl
+
+-- a record that a segment sees has a granule
+seen_within : (p : Paged) (k a : ℕ) → Fits p → Has (sees (meaning_in (state_of p)) k) a → a < length p.present
+unfolding meaning_in state_of
+seen_within p k a f there = by_hand (in_hand k (p.drafts k) a) refl there
+  where
+    by_hand : (b : Bool) → in_hand k (p.drafts k) a ≡ b
+        → IsSome (over (cond b (Some (decode (p.table.word k) a)) None)
+        (cond (get_or p.present a false) (Some (decode p.table.shared a)) None))
+        → a < length p.present
+    by_hand true e h = (f.drafts k).holds a e
+    by_hand false e h = there_within p.present a (image_there p.present a (decode p.table.shared a) h)
+
+pub seen_granule : (s : PagedStore) (k a : ℕ) → Has (sees (paged_meaning s) k) a → a < granules s.marks
+seen_granule s k a there = (let l = seen_within (paged_of s) k a s.sound.fine.fits there in
+    let e = s.sound.addresses in omega (arith, l, e))
 
 -- ---- who holds a record
 
@@ -82,33 +136,21 @@ in_hand_within ds j a e = elim (cases_lt j (length ds)) [
       ap (λ o. in_hand j (drafted_in o) a) (slice_get_past ds j n) in absurd (both_ways _ z e))
 ]
 
--- the byte of an address, 0 where there is none
-pub byte_is : (hs xs : List ℕ) (a h : ℕ) → xs ≡ hs → true ≡ ltb a (length xs) → h ≡ get_or xs a h → get_or hs a 0 ≡ h
-byte_is hs xs a h e l is = rw (← e) (sym (get_or_read xs a h (ltb-true a (length xs) (sym l)) is 0))
-
-pub byte_past : (hs xs : List ℕ) (a : ℕ) → xs ≡ hs → false ≡ ltb a (length xs) → get_or hs a 0 ≡ 0
-byte_past hs xs a e l = rw (← e) (get_or_past xs a 0 (ltb-false a (length xs) (sym l)))
-
-pub holder_some : (s : PagedStore) (a h : ℕ) → get_or s.holders.items a 0 ≡ h → 0 < h →
-    IsHolder (paged_meaning s) a (Some (h - 1))
+pub holder_is : (s : PagedStore) (a : ℕ) (o : Option ℕ) → o ≡ holders_of s.marks a → IsHolder (paged_meaning s) a o
 unfolding meaning_in state_of
-holder_some s a h e l =
-    let is : eqb (get_or s.holders.items a 0) (suc (h - 1)) ≡ true = ap (λ x. eqb x (suc (h - 1))) e ∙
-    eq-eqb h (suc (h - 1)) (omega (arith, l)) in
-    let held : in_hand (h - 1) (drafts_in s.drafts.items (h - 1)) a ≡ true = sym (s.sound.fine.fits.holders (h - 1) a)
-    ∙ is in
-    (let w = in_hand_within s.drafts.items (h - 1) a held in omega (arith, w, s.sound.count), held)
+holder_is s a None e = λ j. sym (s.sound.fine.fits.holders j a) ∙ ap (λ x. names x j) (sym e)
+holder_is s a (Some i) e =
+    let held : in_hand i (drafts_in s.drafts.items i) a ≡ true = sym (s.sound.fine.fits.holders i a)
+    ∙ ap (λ x. names x i) (sym e) ∙ same_number i in
+    (let w = in_hand_within s.drafts.items i a held in let c = s.sound.count in omega (arith, w, c), held)
 
-pub holder_none : (s : PagedStore) (a : ℕ) → get_or s.holders.items a 0 ≡ 0 → IsHolder (paged_meaning s) a None
+-- a record that no segment has in hand is free
+pub free_granule : (s : PagedStore) (a : ℕ) → ((j : ℕ) → holds ((paged_meaning s).part j) a ≡ false) →
+    holders_of s.marks a ≡ None
 unfolding meaning_in state_of
-holder_none s a e = λ j. sym (s.sound.fine.fits.holders j a) ∙ ap (λ x. eqb x (suc j)) e ∙ none_named j
+free_granule s a free = none_named (holders_of s.marks a) (λ j. s.sound.fine.fits.holders j a ∙ free j)
 
 -- ---- a segment's draft, as the meaning has it
-
-pub part_looked : (s : PagedStore) (k : ℕ) → k < (paged_meaning s).segments → (d : Draft) →
-    d ≡ slice_index_or s.drafts.items k d → ((paged_meaning s).part k).looked ≡ marks_of d.looked
-unfolding meaning_in state_of drafted
-part_looked s k l d is = sym (ap (λ x. x.looked) (read_draft s.drafts.items k d (segment_in s k l) is))
 
 pub part_changed : (s : PagedStore) (k : ℕ) → k < (paged_meaning s).segments → (d : Draft) →
     d ≡ slice_index_or s.drafts.items k d → ((paged_meaning s).part k).changed ≡ places d.changed
@@ -117,24 +159,25 @@ part_changed s k l d is = sym (ap (λ x. x.changed) (read_draft s.drafts.items k
 
 -- ---- a lock
 
-pub holder_within : (s : PagedStore) (a : ℕ) → Has (paged_meaning s).image a → a < length s.holders.items
+pub image_granule : (s : PagedStore) (a : ℕ) → Has (paged_meaning s).image a → a < granules s.marks
 unfolding meaning_in state_of
-holder_within s a there = let l = there_within s.present.items a (image_there s.present.items a _ there) in let e =
-    s.sound.fine.fits.lengths in omega (arith, l, e)
+image_granule s a there = let l = there_within s.present.items a (image_there s.present.items a _ there) in let e =
+    s.sound.addresses in omega (arith, l, e)
 
 pub lock_stands : (s : PagedStore) (k : ℕ) → k < (paged_meaning s).segments → (g d : Draft) →
     g ≡ slice_index_or s.drafts.items k g → (a : ℕ) → Has (paged_meaning s).image a →
     ((j : ℕ) → holds ((paged_meaning s).part j) a ≡ false)
-    → drafted d ≡ with_lock a (drafted g) → Stands s.pages s.present.items (slice_set s.holders.items a (k + 1))
-    (slice_set s.drafts.items k d) (after_lock k a (paged_meaning s))
+    → drafted d ≡ with_lock a (drafted g) → (t : Marked) → SameSizes s.marks t →
+    marks_of t ≡ put k (with_mark a (marks_of s.marks k)) (marks_of s.marks) →
+    holders_of t ≡ put a (Some k) (holders_of s.marks) →
+    Stands s.pages s.present.items t (slice_set s.drafts.items k d) (after_lock k a (paged_meaning s))
 unfolding meaning_in state_of
-lock_stands s k l g d is a there free e =
+lock_stands s k l g d is a there free e t sizes marks holders =
     let p = paged_of s in
     let after : drafts_in (slice_set s.drafts.items k d) ≡ put k (with_lock a (p.drafts k)) p.drafts =
     drafts_after s k l g d is (with_lock a) e in
-    let v : Leaves (paged_by s.pages s.present.items (slice_set s.holders.items a (k + 1))
-    (slice_set s.drafts.items k d)) (after_lock k a (paged_meaning s)) =
-    subst (λ x. Leaves (record p { drafts = x; holders = slice_set s.holders.items a (k + 1) })
-    (after_lock k a (paged_meaning s))) (sym after)
-    (lock_leaves p k a s.sound.fine (image_there s.present.items a _ there) free) in
-    record { sound = record { count = count_after s k l g d is; fine = v.fine }; means = v.means }
+    stands_after s s.pages s.present.items t (slice_set s.drafts.items k d) (after_lock k a (paged_meaning s))
+    (refl, refl) refl sizes (length-set s.drafts.items k d)
+    (subst (λ (x : Paged). Leaves x (after_lock k a (paged_meaning s)))
+    (sym (λ i. record p { holder = holders i; looked = marks i; drafts = after i }))
+    (lock_leaves p k a s.sound.fine (image_there s.present.items a _ there) free))

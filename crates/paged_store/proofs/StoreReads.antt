@@ -4,15 +4,19 @@ use Rattle.py_base.specs.declared.kind.Kind.TheVariants.{Dict}
 use Rattle.py_data.specs.declared.record.TheConstants.{LENGTH_LIMIT}
 use Rattle.py_data.specs.declared.value.Value.{Value}
 use Rattle.py_data.specs.Heap.{Rec, Has, at, blank, has_bytes, length_of}
-use Rattle.py_data.specs.Shape.{Fits, find}
+use Rattle.py_data.specs.Shape.{ArePairs, KeysDiffer, Fits, find}
 use Rattle.seg_store.specs.Meaning.{sees}
 use Rattle.seg_store.specs.Store.{Where, CanFind, IsStored}
 use Rattle.page_table.specs.Lists.{table_of}
 use Rattle.paged_store.specs.declared.sight.Seen.TheVariants.{Image, Segment}
 use Rattle.paged_store.specs.declared.store.PagedStore.{PagedStore}
-use Rattle.paged_store.specs.inner.Sight.{CanRead, words_seen, record_seen, IsKeySeen, KeysSeen, KnowsKeys}
+use Rattle.paged_store.specs.Words.{kind_by, index_by, index_size}
+use Rattle.paged_store.specs.inner.Indexed.{IsIndexed}
+use Rattle.paged_store.specs.inner.Sight.{heap_seen, CanRead, words_seen, record_seen, IsKeySeen, KeysSeen, KnowsKeys}
 use Rattle.paged_store.specs.Stores.{paged_of, paged_meaning, reserved_of}
+use Rattle.paged_store.proofs.DictReads.{dict_right, dict_extent, dict_pairs, dict_differs}
 use Rattle.paged_store.proofs.FineLemmas.{known_of}
+use Rattle.paged_store.proofs.RecordWords.{kind_is}
 use Rattle.paged_store.proofs.Keeping.{sees_stored}
 use Rattle.paged_store.proofs.StandLemmas.{Shows, fine_image, fine_seen, can_read, at_seen, where_has, where_seen, find_there, find_kind, find_keys_seen, find_key_seen, find_knows}
 use Rattle.paged_store.proofs.StoreEnds.{table_segment}
@@ -127,6 +131,25 @@ module _ (s : PagedStore) (k d : ℕ) (key : Value) (l : k < (paged_meaning s).s
 
   dict_there : Has (sees (paged_meaning s) k) d
   dict_there = own_there s k d l (λ r. Fits (sees (paged_meaning s) k) r key) can
+
+  dict_is : kind_by (words_seen (table_of s.pages) (Segment k)) d ≡ Dict
+  dict_is = sym (kind_is (words_seen (table_of s.pages) (Segment k)) d) ∙ key_kind
+
+  -- its index is right
+  pub key_index : IsIndexed (words_seen (table_of s.pages) (Segment k)) d
+  key_index = dict_right s k d dict_there dict_is
+
+  pub key_extent : index_by (words_seen (table_of s.pages) (Segment k)) d
+      + index_size (words_seen (table_of s.pages) (Segment k)) d ≤ (table_of s.pages).reserved
+  key_extent = dict_extent s k d dict_there dict_is
+
+  -- its keys are keys, and differ
+  pub key_pairs : ArePairs (heap_seen (table_of s.pages) (Segment k)) (record_seen (table_of s.pages) (Segment k) d).values
+  key_pairs = dict_pairs s k d dict_there dict_is
+
+  pub key_differs : KeysDiffer (heap_seen (table_of s.pages) (Segment k))
+      (record_seen (table_of s.pages) (Segment k) d).values
+  key_differs = dict_differs s k d dict_there dict_is
 
   -- the pair that was found, in the heap that the segment sees
   pub key_found : (o : Option ℕ)

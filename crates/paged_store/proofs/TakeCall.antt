@@ -1,22 +1,22 @@
 -- A segment takes extents for a record, on a store's fields.
-use Rattle.std.proofs.Common.{◌≡◌, ◌≢◌, ◌⊎◌, ℕ, ◌+◌, ◌-◌, ◌*◌, ◌/◌, ◌<◌, ◌≤◌, Bool, true, false, ◌||◌, ◌&&◌, cond, eqb, leb, ltb, List, [], ◌∷◌, ◌++◌, length, get_or, drop, inl, inr, refl, sym, ◌∙◌, ap, subst, arith, append_assoc, length-append}
+use Rattle.std.proofs.Common.{◌≡◌, ℕ, ◌+◌, ◌-◌, ◌/◌, ◌<◌, ◌≤◌, Bool, true, false, ◌||◌, ◌&&◌, cond, leb, ltb, List, ◌++◌, length, get_or, drop, inl, inr, refl, sym, ◌∙◌, ap, subst, arith, append_assoc, length-append}
 use Rattle.std.proofs.Props.{props}
 use Rattle.std.proofs.Math.Logic.{∥∥₁_elim}
-use Rattle.std.proofs.lemmas.Bool.{cases_Bool, both_ways, false_from_ne_true, or_cases, or_left, or_right, or_parts, cond-true, cond-false, cond_both, cases_lt, ltb-true, leb-true, lt-leb}
+use Rattle.std.proofs.lemmas.Bool.{cases_Bool, both_ways, false_from_ne_true, or_cases, or_left, or_right, cond-true, cond_both, cases_lt, ltb-true, leb-true, lt-leb}
 use Rattle.std.proofs.lemmas.List.{drop-append-le, get_or_append_left, get_or-append_right}
 use Rattle.page_table.specs.Pages.{Table, Shelf, Lies}
 use Rattle.paged_store.specs.declared.extent.Extent.{Extent}
 use Rattle.paged_store.specs.Words.{Words}
 use Rattle.paged_store.specs.inner.State.{State, Sound}
 use Rattle.paged_store.specs.inner.Moves.{Stocks}
-use Rattle.paged_store.specs.inner.Paged.{Drafted, Paged, state_of, in_spans, in_extents, extents_at, one_if, of_class, spare_at, noted, rewound, touched_by, taken_since, word_before, FitsTable, Fits, Fine}
+use Rattle.paged_store.specs.inner.Paged.{Drafted, Paged, state_of, in_spans, in_extents, extents_at, one_if, spare_at, noted, rewound, touched_by, taken_since, word_before, FitsTable, Fine}
 use Rattle.paged_store.specs.inner.Claiming.{newly, Claims}
 use Rattle.paged_store.specs.inner.Taking.{Takes}
 use Rattle.paged_store.specs.inner.Writing.{Desk, Wrote, MayWrite}
 use Rattle.paged_store.proofs.StateLemmas.{untouched}
 use Rattle.paged_store.proofs.EndCalls.{rewound_none}
 use Rattle.paged_store.proofs.GrowTakes.{fresh_place}
-use Rattle.paged_store.proofs.WriteCall.{Turns, extents_both, extents_some}
+use Rattle.paged_store.proofs.WriteCall.{Turns, extents_both}
 
 -- ---- one change of a desk after another
 
@@ -43,7 +43,6 @@ turned_then k w v t u xs a b c s h = let r = h.same in record {
       let y = ap (λ (f : ℕ → Shelf). (f i).total) r.shelf in omega (arith, m, x, y));
   changed = r.changed ∙ s.changed;
   made = r.made ∙ s.made;
-  looked = r.looked ∙ s.looked;
   taken_before = r.taken_before ∙ s.taken_before;
   made_before = r.made_before ∙ s.made_before;
   spans_before = r.spans_before ∙ s.spans_before;
@@ -273,7 +272,6 @@ module _ (p : Paged) (k : ℕ) (f : Fine p) (w : Words) (t : ℕ → Bool) (ys :
         let y = ap (λ (g : ℕ → Shelf). (g c).total) s.shelf in omega (arith, m, x, y));
     changed = ap (λ (d : Drafted). d.changed) z.draft ∙ s.changed;
     made = ap (λ (d : Drafted). d.made) z.draft ∙ s.made;
-    looked = ap (λ (d : Drafted). d.looked) z.draft ∙ s.looked;
     taken_before = ap (λ (d : Drafted). d.taken_before) z.draft ∙ s.taken_before;
     made_before = ap (λ (d : Drafted). d.made_before) z.draft ∙ s.made_before;
     spans_before = ap (λ (d : Drafted). d.spans_before) z.draft ∙ s.spans_before;

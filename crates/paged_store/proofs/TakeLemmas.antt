@@ -1,11 +1,11 @@
 -- Extents that a draft takes.
-use Rattle.std.proofs.Common.{◌≡◌, ℕ, ◌+◌, ◌/◌, ◌^◌, ◌<◌, Bool, true, ◌||◌, List, [], ◌∷◌, ◌++◌, length, get_or, take, drop, inl, inr, refl, sym, ◌∙◌, ap, subst, arith}
+use Rattle.std.proofs.Common.{◌≡◌, ℕ, ◌+◌, ◌/◌, ◌^◌, ◌<◌, Bool, true, List, [], ◌++◌, length, get_or, take, drop, inl, inr, sym, ◌∙◌, ap, subst}
 use Rattle.std.proofs.lemmas.Bool.{or_cases}
 use Rattle.std.proofs.lemmas.List.{append-nil, take_more}
 use Rattle.std.proofs.Math.Seq.{take-append_seam, drop-append_seam}
 use Rattle.page_table.specs.Pages.{Table, IsTable}
 use Rattle.paged_store.specs.declared.extent.Extent.{Extent}
-use Rattle.paged_store.specs.inner.Paged.{Drafted, in_extent, in_extents}
+use Rattle.paged_store.specs.inner.Paged.{in_extent, in_extents}
 use Rattle.paged_store.specs.inner.Claiming.{Claims}
 use Rattle.paged_store.specs.inner.Ending.{ExtentsLie, HaveClasses, HaveRoom, GivenBack}
 use Rattle.paged_store.specs.inner.Taking.{OwnExtents, Takes}

@@ -4,7 +4,8 @@ use Rattle.py_base.specs.declared.kind.Kind.TheVariants.{Str, Tuple, List as Lis
 use Rattle.py_data.specs.declared.value.Value.TheVariants.{Unset, None as NoneValue, Bool as BoolValue, Int, Ref}
 use Rattle.py_data.specs.Heap.{new_rec}
 use Rattle.paged_store.specs.Words.{Words, signed, value_of, clipped, value_in, byte_in, size_of, room_in, kind_at, kind_in, class_in, index_class_in, first_in, record_of, decode}
-use Rattle.paged_store.specs.inner.Written.{packed, made_class, made_head}
+use Rattle.dict_index.specs.Packed.{packed}
+use Rattle.paged_store.specs.inner.Written.{made_class, made_head}
 use Rattle.seg_store.specs.Extents.{class_holding}
 use Rattle.py_data.specs.Heap.{room_of}
 

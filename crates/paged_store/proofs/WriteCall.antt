@@ -1,25 +1,37 @@
 -- A segment writes on its desk, on a store's fields: a record that it holds is another then, or nothing is.
-use Rattle.std.proofs.Common.{◌≡◌, ◌≢◌, ℕ, ◌+◌, ◌*◌, ◌/◌, ◌<◌, ◌≤◌, Bool, true, false, cond, ◌||◌, eqb, ltb, List, [], ◌∷◌, ◌++◌, length, get_or, take, refl, sym, ◌∙◌, ap, subst, arith, length-append}
-use Rattle.std.proofs.lemmas.Bool.{lt-ltb}
+use Rattle.std.proofs.Common.{◌≡◌, ◌≢◌, ℕ, ◌+◌, ◌*◌, ◌/◌, ◌<◌, ◌≤◌, Bool, true, false, cond, ◌||◌, eqb, ltb, List, [], ◌∷◌, ◌++◌, length, take, Some, None, unwrap_or, refl, sym, ◌∙◌, ap, subst, arith, get_or}
+use Rattle.std.proofs.lemmas.Bool.{lt-ltb, or_right}
+use Rattle.std.proofs.Math.Logic.{∥∥₁_elim}
 use Rattle.std.proofs.lemmas.List.{take-append-le, append-nil}
-use Rattle.py_data.specs.Heap.{Rec}
+use Rattle.py_base.specs.declared.kind.Kind.TheVariants.{Dict}
+use Rattle.py_data.specs.Heap.{Rec, at, blank}
 use Rattle.py_data.specs.Sight.{mem}
-use Rattle.seg_store.specs.Meaning.{Meaning}
+use Rattle.seg_store.specs.Meaning.{over, sees}
 use Rattle.seg_store.specs.Calls.{after_change}
 use Rattle.seg_store.specs.Store.{IsStore}
-use Rattle.page_table.specs.Pages.{Table, Shelf, Lies, limit}
+use Rattle.seg_store.specs.Extents.{extents, extents_of}
+use Rattle.dict_index.specs.Laws.{KeepsFixed}
+use Rattle.page_table.specs.Pages.{Table, Shelf}
 use Rattle.paged_store.specs.declared.extent.Span.{Span}
 use Rattle.paged_store.specs.declared.extent.Extent.{Extent}
-use Rattle.paged_store.specs.Words.{Words, decode}
+use Rattle.paged_store.specs.Words.{Words, decode, kind_by}
 use Rattle.paged_store.specs.inner.State.{State, heap_of, part_in, meaning_in, Sound}
+use Rattle.paged_store.specs.inner.Counted.{IsCounted}
+use Rattle.paged_store.specs.inner.Keyed.{HasKeys, IsKeyed}
+use Rattle.paged_store.specs.inner.Indexed.{IsIndexed, HasIndexes}
 use Rattle.paged_store.specs.inner.Moves.{put, written, stocked, Stocks, owned, parted, Rewrites, writes}
-use Rattle.paged_store.specs.inner.Paged.{Drafted, Paged, state_of, in_spans, in_extent, in_extents, extents_at, one_if, of_class, spare_at, taken_then, word_before, hand_now, hand_before, sum_to, FitsTable, Fits, Fine}
+use Rattle.paged_store.specs.inner.Paged.{Drafted, Paged, state_of, in_spans, in_extent, in_extents, extents_at, one_if, of_class, spare_at, taken_then, word_before, hand_now, hand_before, sum_to, counts_of, FitsTable, Fits, Fine}
 use Rattle.paged_store.specs.inner.Writing.{Desk, Wrote}
 use Rattle.paged_store.proofs.OverLemmas.{over_each, put_over, put_self, put_still}
 use Rattle.paged_store.proofs.StateLemmas.{put_each}
 use Rattle.paged_store.proofs.StockMove.{stocked_sound}
 use Rattle.paged_store.proofs.WriteMove.{writes_sound, writes_means}
-use Rattle.paged_store.proofs.FineLemmas.{known_of, Leaves, Went, leaves_of}
+use Rattle.paged_store.proofs.FineLemmas.{Leaves, Went, leaves_of}
+use Rattle.paged_store.proofs.CountLemmas.{counted_change}
+use Rattle.paged_store.proofs.CountCalls.{now_put, held_below, counted_rest}
+use Rattle.paged_store.proofs.IndexedLemmas.{indexes_prop, stocked_indexed, writes_same, writes_indexed}
+use Rattle.paged_store.proofs.IndexFrame.{Renews}
+use Rattle.paged_store.proofs.SightLemmas.{seen_words}
 use Rattle.paged_store.proofs.LookCalls.{in_hand}
 use Rattle.paged_store.proofs.EndLemmas.{sum_put, class_both, at_both, now_by, before_by, put_others}
 
@@ -39,7 +51,6 @@ pub record Turns (k : ℕ) (w : Words) (t : ℕ → Bool) (xs : List Extent) (ol
       ≡ length (old.table.shelf c).spare + (new.table.shelf c).total
   pub changed : new.draft.changed ≡ old.draft.changed
   pub made : new.draft.made ≡ old.draft.made
-  pub looked : new.draft.looked ≡ old.draft.looked
   pub taken_before : new.draft.taken_before ≡ old.draft.taken_before
   pub made_before : new.draft.made_before ≡ old.draft.made_before
   pub spans_before : new.draft.spans_before ≡ old.draft.spans_before
@@ -63,7 +74,6 @@ turned k w t old new h = let s = h.same in record {
       let y = ap (λ (f : ℕ → Shelf). (f c).total) s.shelf in omega (arith, x, y));
   changed = s.changed;
   made = s.made;
-  looked = s.looked;
   taken_before = s.taken_before;
   made_before = s.made_before;
   spans_before = s.spans_before;
@@ -117,7 +127,8 @@ abbrev pub turned_to : Paged → ℕ → Desk → Paged
 turned_to p k new = record {
   table = new.table;
   present = p.present;
-  holders = p.holders;
+  holder = p.holder;
+  looked = p.looked;
   drafts =
       put k new.draft p.drafts;
 }
@@ -131,7 +142,6 @@ module _ (p : Paged) (k : ℕ) (new : Desk) (w : Words) (t : ℕ → Bool) (xs :
 
   pub fits_turned : k < p.table.segments → Fits (turned_to p k new)
   fits_turned l = record {
-    lengths = f.fits.lengths;
     drafts = put_each (λ j x. FitsTable new.table (length p.present) j x) k new.draft p.drafts
         (d.fits (length p.present) (f.fits.drafts k))
         (λ j n. grown_fits p.table new.table (length p.present) j (p.drafts j) d.more d.own (f.fits.drafts j));
@@ -188,7 +198,7 @@ module _ (p : Paged) (k : ℕ) (new : Desk) (w : Words) (t : ℕ → Bool) (xs :
   spans_then = (λ i. take (d.spans_before i) (d.spans i))
       ∙ take-append-le (p.drafts k).spans_before (p.drafts k).spans d.more_spans (f.fits.drafts k).spans_before
 
-  extents_then : taken_then new.draft ≡ taken_then (p.drafts k)
+  pub extents_then : taken_then new.draft ≡ taken_then (p.drafts k)
   extents_then = (λ i. take (d.taken_before i) (d.taken i))
       ∙ take-append-le (p.drafts k).taken_before (p.drafts k).taken xs (f.fits.drafts k).taken_before
 
@@ -215,7 +225,6 @@ module _ (p : Paged) (k : ℕ) (new : Desk) (w : Words) (t : ℕ → Bool) (xs :
         made = put_still (λ j x. x.made) k new.draft p.drafts d.made i;
         kept_made = put_still (λ j x. take x.made_before x.made) k new.draft p.drafts
             (λ i. take (d.made_before i) (d.made i)) i;
-        looked = put_still (λ j x. x.looked) k new.draft p.drafts d.looked i;
       })
       ∙ (λ i. record (writes k w t (extents_at xs) s) {
         shared = d.shared i;
@@ -229,6 +238,44 @@ module _ (p : Paged) (k : ℕ) (new : Desk) (w : Words) (t : ℕ → Bool) (xs :
         limit = 512 * d.pages i;
       })
 
+  -- ---- what it counts
+
+  pub counts_now : (j c : ℕ) → of_class c (put k new.draft p.drafts j).taken
+      ≡ cond (eqb j k) (of_class c (p.drafts k).taken + of_class c xs) (of_class c (p.drafts j).taken)
+  counts_now j c = now_put k new.draft p.drafts j c ∙
+      ap (λ n. cond (eqb j k) n (of_class c (p.drafts j).taken))
+      (ap (of_class c) d.taken ∙ class_both c (p.drafts k).taken xs)
+
+  pub counts_before : (j c : ℕ) → of_class c (taken_then (put k new.draft p.drafts j)) ≡ of_class c (taken_then (p.drafts j))
+  counts_before j c = ap (λ (g : ℕ → ℕ). g j)
+      (put_still (λ j x. of_class c (taken_then x)) k new.draft p.drafts (ap (of_class c) extents_then))
+
+  -- a record that the segment holds is another, with the extents that were taken
+  change_counted : (a : ℕ) (g : Rec → Rec) → k < p.table.segments → in_hand k (p.drafts k) a ≡ true
+      → ((c : ℕ) → 1 ≤ c → extents (g (decode (p.table.word k) a)) c
+      ≡ extents (decode (p.table.word k) a) c + of_class c xs)
+      → IsCounted (after_change k a g (meaning_in (state_of p))) (counts_of (turned_to p k new))
+  unfolding meaning_in state_of at
+  change_counted a g l held more =
+      counted_change (meaning_in (state_of p)) (counts_of p) (counts_of (turned_to p k new)) k a g (λ c. of_class c xs)
+      f.counted l (held_below p k a f held)
+      (λ c z. subst (λ o. extents (g (unwrap_or o blank)) c ≡ extents_of o c + of_class c xs) (sym seen) (more c z))
+      (λ j c z. counts_now j c) (λ j c z. counts_before j c) (λ c z. d.count c)
+    where
+      seen : sees (meaning_in (state_of p)) k a ≡ Some (decode (p.table.word k) a)
+      seen = ap (λ b. over (cond b (Some (decode (p.table.word k) a)) None) ((meaning_in (state_of p)).image a)) held
+
+  -- no extent was taken
+  pub rest_counted : xs ≡ [] → IsCounted (meaning_in (state_of p)) (counts_of (turned_to p k new))
+  rest_counted none =
+      counted_rest (meaning_in (state_of p)) (counts_of p) (counts_of (turned_to p k new)) f.counted
+      (λ i j c. put_still (λ j x. of_class c x.taken) k new.draft p.drafts (ap (of_class c) taken_same) i j)
+      (λ i j c. counts_before j c i)
+      (λ c l. let n = d.count c in let e = ap (of_class c) none in omega (arith, n, e))
+    where
+      taken_same : new.draft.taken ≡ (p.drafts k).taken
+      taken_same = d.taken ∙ ap (λ ys. (p.drafts k).taken ++ ys) none ∙ append-nil (p.drafts k).taken
+
   -- ---- what it means
 
   -- of any account of whose the places are: what is spare is nobody's, and the words are those of the record at a
@@ -238,7 +285,32 @@ module _ (p : Paged) (k : ℕ) (new : Desk) (w : Words) (t : ℕ → Bool) (xs :
     pub rewrites : Rewrites own role (stock (state_of p)) k a w t (extents_at xs) part
     pub means : decode w a ≡ r
 
+  -- the records that the segment sees
+  abbrev pub seen_there : ℕ → Bool
+  seen_there b = get_or p.present b false || in_hand k (p.drafts k) b
+
+  pub was_indexed : (a : ℕ) → in_hand k (p.drafts k) a ≡ true → kind_by (p.table.word k) a ≡ Dict
+      → IsIndexed (p.table.word k) a
+  unfolding state_of
+  was_indexed a held = f.indexed.now k a (or_right (get_or p.present a false) _ held)
+
   module _ (a : ℕ) (held : in_hand k (p.drafts k) a ≡ true) where
+    -- the indexes are right, of this record too
+    written_indexed : (y : Rec) → ((own role : Words) → Sound own role (state_of p) → Rewritten own role a y)
+        → ((own role : Words) → Sound own role (state_of p) → KeepsFixed (sees (meaning_in (state_of p)) k)
+        (sees (meaning_in (writes k w t (extents_at xs) (stock (state_of p)))) k))
+        → Renews seen_there (p.table.word k) w a y → HasIndexes (writes k w t (extents_at xs) (stock (state_of p)))
+    unfolding state_of meaning_in
+    written_indexed y h fixed right = ∥∥₁_elim f.sound (indexes_prop _) (λ x. ∥∥₁_elim f.keyed (indexes_prop _) (λ q.
+        let r = h x.0 x.1.0 x.1.1 in
+        let z : Sound x.0 x.1.0 (stock (state_of p)) =
+        stocked_sound x.0 x.1.0 (state_of p) (spare_at new.table) new.table.reserved x.1.1 r.stocks in
+        let stays = fixed x.0 x.1.0 x.1.1 in
+        writes_indexed x.0 x.1.0 (stock (state_of p)) k a w t (extents_at xs) r.part z held r.rewrites stays (q.now k)
+        (right (subst HasKeys (seen_words x.0 x.1.0 (stock (state_of p)) k z) (q.now k))
+        (writes_same x.0 x.1.0 (stock (state_of p)) k a w t (extents_at xs) r.part z held r.rewrites stays) r.means)
+        (stocked_indexed (state_of p) (spare_at new.table) new.table.reserved f.indexed)))
+
     went : (g : Rec → Rec) (own role : Words) → Sound own role (state_of p) →
         Rewritten own role a (g (decode (p.table.word k) a))
         → Went (writes k w t (extents_at xs) (stock (state_of p))) (after_change k a g (meaning_in (state_of p)))
@@ -256,10 +328,18 @@ module _ (p : Paged) (k : ℕ) (new : Desk) (w : Words) (t : ℕ → Bool) (xs :
     pub turn_leaves : (g : Rec → Rec) → k < p.table.segments
         → ((own role : Words) → Sound own role (state_of p) → Rewritten own role a (g (decode (p.table.word k) a)))
         → IsStore new.table.reserved (after_change k a g (meaning_in (state_of p)))
+        → ((c : ℕ) → 1 ≤ c → extents (g (decode (p.table.word k) a)) c
+        ≡ extents (decode (p.table.word k) a) c + of_class c xs)
+        → ∥ IsKeyed (after_change k a g (meaning_in (state_of p))) ∥₁
+        → KeepsFixed (sees (meaning_in (state_of p)) k) (sees (after_change k a g (meaning_in (state_of p))) k)
+        → Renews seen_there (p.table.word k) w a (g (decode (p.table.word k) a))
         → Leaves (turned_to p k new) (after_change k a g (meaning_in (state_of p)))
-    turn_leaves g l h known = leaves_of p (turned_to p k new) (writes k w t (extents_at xs) (stock (state_of p)))
+    turn_leaves g l h known more keyed fixed right = leaves_of p (turned_to p k new) (writes k w t (extents_at xs) (stock (state_of p)))
         (after_change k a g (meaning_in (state_of p))) f (fits_turned l) state_turned
-        (λ own role s. went g own role s (h own role s)) known
+        (λ own role s. went g own role s (h own role s)) known (change_counted a g l held more) keyed
+        (written_indexed (g (decode (p.table.word k) a)) h
+        (λ own role s. subst (λ m. KeepsFixed (sees (meaning_in (state_of p)) k) (sees m k))
+        (sym (went g own role s (h own role s)).means) fixed) right)
 
     -- the words are what they were
     same_means : (s : State) → (s.now k).word ≡ w → meaning_in (writes k w t (extents_at xs) (stock s)) ≡ meaning_in s
@@ -283,8 +363,11 @@ module _ (p : Paged) (k : ℕ) (new : Desk) (w : Words) (t : ℕ → Bool) (xs :
 
     pub stay_leaves : k < p.table.segments → p.table.word k ≡ w
         → ((own role : Words) → Sound own role (state_of p) → Rewritten own role a (decode w a))
-        → IsStore new.table.reserved (meaning_in (state_of p))
+        → IsStore new.table.reserved (meaning_in (state_of p)) → xs ≡ []
         → Leaves (turned_to p k new) (meaning_in (state_of p))
-    stay_leaves l e h known = leaves_of p (turned_to p k new) (writes k w t (extents_at xs) (stock (state_of p)))
+    stay_leaves l e h known none = leaves_of p (turned_to p k new) (writes k w t (extents_at xs) (stock (state_of p)))
         (meaning_in (state_of p)) f (fits_turned l) state_turned (λ own role s. stayed own role s e (h own role s))
-        known
+        known (rest_counted none) f.keyed
+        (written_indexed (decode w a) h (λ own role s. subst (λ m. KeepsFixed (sees (meaning_in (state_of p)) k) (sees m k))
+        (sym (stayed own role s e (h own role s)).means) (λ b r x y. x))
+        (λ keys same means. subst (λ v. kind_by v a ≡ Dict → IsIndexed v a) e (was_indexed a held)))

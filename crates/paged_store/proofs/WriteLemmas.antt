@@ -1,5 +1,5 @@
 -- What is written once it was made ready.
-use Rattle.std.proofs.Common.{◌≡◌, ◌⊎◌, ℕ, suc, ◌+◌, ◌-◌, ◌*◌, ◌/◌, ◌<◌, ◌≤◌, Bool, true, false, ◌||◌, cond, List, [], ◌∷◌, length, refl, sym, ap, subst, ◌∙◌, inl, inr, arith}
+use Rattle.std.proofs.Common.{◌≡◌, ◌⊎◌, ℕ, suc, ◌+◌, ◌*◌, ◌/◌, ◌<◌, ◌≤◌, Bool, true, false, ◌||◌, cond, List, [], ◌∷◌, length, refl, sym, ap, subst, ◌∙◌, inl, inr, arith}
 use Rattle.std.proofs.lemmas.Bool.{cases_Bool}
 use Rattle.std.proofs.lemmas.Bool.Decides.{nat_tests}
 use Rattle.std.proofs.lemmas.List.{append-nil}
@@ -8,12 +8,12 @@ use Rattle.py_data.specs.declared.value.Value.{Value}
 use Rattle.paged_store.specs.Words.{Words, in_span, count_by, body_by}
 use Rattle.paged_store.specs.inner.Moves.{nowhere}
 use Rattle.paged_store.specs.inner.Paged.{in_extents, rewound, taken_since, word_before}
-use Rattle.paged_store.specs.inner.Written.{put_word, put_value, copied, slid, push_words, pair_words, drop_words}
+use Rattle.paged_store.specs.inner.Written.{put_word, put_value, copied, slid, push_words, pair_words}
 use Rattle.paged_store.specs.inner.Writing.{Desk, Wrote, MayWrite, Readied, OwnSpan, CanPut, with_words, laid, put_values, with_count, pushed_words}
 use Rattle.paged_store.proofs.SpanLemmas.{in_span_holds, span_bounds}
 use Rattle.paged_store.proofs.DraftLemmas.{rewound_noted, rewound_same}
 use Rattle.paged_store.proofs.DeskLemmas.{wrote_then, wrote_words, may_still}
-use Rattle.paged_store.proofs.PutWords.{put_miss, value_miss, slid_miss}
+use Rattle.paged_store.proofs.PutWords.{put_miss, value_miss}
 use Rattle.paged_store.proofs.PutLemmas.{words_at, words_off, words_then}
 
 -- ---- a write to places that may be written
@@ -44,7 +44,6 @@ module _ (k : ℕ) (w : Words) (d : Desk) (h : (p : ℕ) → (w p ≡ d.table.wo
       own = λ j q o. o;
       changed = refl;
       made = refl;
-      looked = refl;
       taken = refl;
       taken_before = refl;
       made_before = refl;
@@ -186,24 +185,6 @@ push_wrote k a place n x vs d b t new ep en ex r e h =
     let S : ℕ → Type 0 = λ z. P place n z in
     subst Q ep (subst R en (subst S ex (counted_wrote k a place n x d b t new (put_values place vs) r e h
     (λ u p o. values_off place p vs u (ap (λ z. in_span place z p) (sym en) ∙ o)))))
-
-pub drop_wrote : (k a pair place n x : ℕ) (d b : Desk) (t new : Table) → place ≡ body_by (d.table.word k) a + 4 * pair
-    → x ≡ count_by (d.table.word k) a - 2 → n ≡ 2 * x - 4 * pair → Readied k (with_count a place n) d b →
-    t ≡ with_words k (copied (place + 4) place n (b.table.word k)) b.table → new ≡ after_write k (2 * a + 1) x t →
-    Wrote k (drop_words (d.table.word k) a pair (count_by (d.table.word k) a - 2))
-    (with_count a (body_by (d.table.word k) a + 4 * pair) (2 * (count_by (d.table.word k) a - 2) - 4 * pair)) d
-    (record { table = new; draft = b.draft })
-drop_wrote k a pair place n x d b t new ep ex en r e h =
-    let w : Words = d.table.word k in
-    let P : ℕ → ℕ → ℕ → Type 0 = λ place n x.
-    Wrote k (put_word (2 * a + 1) x (slid place n 4 w)) (with_count a place n) d
-    (record { table = new; draft = b.draft }) in
-    let Q : ℕ → Type 0 = λ z. P z (2 * (count_by w a - 2) - 4 * pair) (count_by w a - 2) in
-    let R : ℕ → Type 0 = λ z. P place (2 * z - 4 * pair) z in
-    let S : ℕ → Type 0 = λ z. P place z x in
-    subst Q ep (subst R ex (subst S en (counted_wrote k a place n x d b t new (slid place n 4) r
-    (e ∙ (λ i. with_words k (slid_copied place n 4 (b.table.word k) i) b.table)) h
-    (λ u p o. slid_miss place n 4 p u o))))
 
 -- one value, or two, at the end
 pub pushed_one : (w : Words) (a : ℕ) (v : Value) → pushed_words w a (v ∷ []) ≡ push_words w a v

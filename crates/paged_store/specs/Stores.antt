@@ -9,7 +9,7 @@ use Rattle.paged_store.specs.inner.Paged.{Paged, state_of, paged_by}
 
 -- a store as its fields
 abbrev pub paged_of : PagedStore → Paged
-paged_of s = paged_by s.pages s.present.items s.holders.items s.drafts.items
+paged_of s = paged_by s.pages s.present.items s.marks s.drafts.items
 
 abbrev pub paged_meaning : PagedStore → Meaning
 paged_meaning s = meaning_in (state_of (paged_of s))
@@ -17,6 +17,10 @@ paged_meaning s = meaning_in (state_of (paged_of s))
 -- the end of the words taken so far
 abbrev pub reserved_of : PagedStore → ℕ
 reserved_of s = (paged_of s).table.reserved
+
+-- of each class, how many extents were ever new, which is the most that were in use at once
+abbrev pub peaks_of : PagedStore → ℕ → ℕ
+peaks_of s c = ((paged_of s).table.shelf c).total
 
 -- what a new store means: no record, and nothing in any segment's hand
 abbrev pub new_meaning : ℕ → ℕ → Meaning

@@ -1,14 +1,18 @@
 -- What code and proofs say to each other. Nothing public rests on it.
 pub mod Formed
 pub mod State
+pub mod Counted
+pub mod Keyed
 pub mod Moves
+pub mod Sight
+pub mod Indexed
 pub mod Paged
 pub mod Drafts
 pub mod Ending
 pub mod Claiming
 pub mod Writing
 pub mod Written
-pub mod Sight
+pub mod Indexing
 pub mod Taking
 pub mod Growing
 pub mod Making

@@ -12,11 +12,12 @@ ghost use Rattle.paged_store.specs.Words.{kind_by, count_by, body_size};
 ghost use Rattle.paged_store.specs.inner.Sight.{CanRead};
 ghost use Rattle.paged_store.specs.declared.sight.Seen.TheVariants.{Segment};
 
+use crate::enter::fill_index;
 use crate::grow::grow;
 use crate::sight::{Seen, len, rooms};
 use crate::store::PagedStore;
 use crate::value::known_value;
-use crate::write::{cut, drop_pair, push_values, set_value};
+use crate::write::{cut, drop_pair, push_pair, push_values, set_value};
 use page_table::Pages;
 use py_data::{Addr, NoMemory, Value};
 use seg_store::StoreFault;
@@ -35,7 +36,9 @@ pub(crate) fn has_room(pages: &Pages, k: u8, a: u32, more: usize) -> bool
 }
 
 impl PagedStore {
-    ghost use Rattle.paged_store.specs.Stores.{paged_meaning, reserved_of, Fills};
+    ghost use Rattle.std.specs.Prelude.{Some};
+    ghost use Rattle.seg_store.specs.Telling.{in_use, use_with, Rises, RisesTo};
+    ghost use Rattle.paged_store.specs.Stores.{paged_meaning, reserved_of, peaks_of, Fills};
 
     /// Puts another value in a place of a record that a segment holds.
     pub fn put_value(&mut self, k: u8, a: Addr, i: usize, v: Value) -> Result<(), NoMemory>
@@ -45,6 +48,7 @@ impl PagedStore {
         ensures ok { OnOk result (paged_meaning self.new ≡ after_change k a.0 (after (Set i v)) (paged_meaning self.old)) }
         ensures err { OnErr result (paged_meaning self.new ≡ paged_meaning self.old) }
         ensures reserved { reserved_of self.new ≡ reserved_of self.old }
+        ensures peaks { peaks_of self.new ≡ peaks_of self.old }
     {
         known_value(v);
         let draft = &mut self.drafts[k as usize];
@@ -61,6 +65,7 @@ impl PagedStore {
         ensures ok { OnOk result (paged_meaning self.new ≡ after_change k a.0 (after (Push v)) (paged_meaning self.old)) }
         ensures err { OnErr result (paged_meaning self.new ≡ paged_meaning self.old) }
         ensures reserved { reserved_of self.new ≡ reserved_of self.old }
+        ensures peaks { peaks_of self.new ≡ peaks_of self.old }
     {
         known_value(v);
         let draft = &mut self.drafts[k as usize];
@@ -77,11 +82,12 @@ impl PagedStore {
         ensures ok { OnOk result (paged_meaning self.new ≡ after_change k d.0 (after (Pair key v)) (paged_meaning self.old)) }
         ensures err { OnErr result (paged_meaning self.new ≡ paged_meaning self.old) }
         ensures reserved { reserved_of self.new ≡ reserved_of self.old }
+        ensures peaks { peaks_of self.new ≡ peaks_of self.old }
     {
         known_value(key);
         known_value(v);
         let draft = &mut self.drafts[k as usize];
-        push_values(&mut self.pages, draft, k, d.0, &[key, v])?;
+        push_pair(&mut self.pages, draft, k, d.0, key, v)?;
         Ok(())
     }
 
@@ -93,6 +99,7 @@ impl PagedStore {
         ensures ok { OnOk result (paged_meaning self.new ≡ after_change k a.0 (after (Cut n)) (paged_meaning self.old)) }
         ensures err { OnErr result (paged_meaning self.new ≡ paged_meaning self.old) }
         ensures reserved { reserved_of self.new ≡ reserved_of self.old }
+        ensures peaks { peaks_of self.new ≡ peaks_of self.old }
     {
         let left = n.min(len(&self.pages, Seen::Segment(k), a.0));
         let draft = &mut self.drafts[k as usize];
@@ -108,6 +115,7 @@ impl PagedStore {
         ensures ok { OnOk result (paged_meaning self.new ≡ after_change k d.0 (after (Unpair place)) (paged_meaning self.old)) }
         ensures err { OnErr result (paged_meaning self.new ≡ paged_meaning self.old) }
         ensures reserved { reserved_of self.new ≡ reserved_of self.old }
+        ensures peaks { peaks_of self.new ≡ peaks_of self.old }
     {
         let draft = &mut self.drafts[k as usize];
         drop_pair(&mut self.pages, draft, k, d.0, place as u32)?;
@@ -125,6 +133,8 @@ impl PagedStore {
         ensures cause { IfErr result (Refuses (IsFull (sees (paged_meaning self.old) k) a.0 (Push v)) (Fills self.old) (reserved_of self.new) (paged_meaning self.old).limit) }
         ensures asked { IfErr result (AsksFor (sees (paged_meaning self.old) k a.0) (after (Push v) (at (sees (paged_meaning self.old) k) a.0))) }
         ensures reserved { reserved_of self.old ≤ reserved_of self.new }
+        ensures rises { OnOk result (Rises (Some (peaks_of self.old)) (Some (peaks_of self.new)) (in_use (paged_meaning self.new))) }
+        ensures rises_err { OnErr result (RisesTo (Some (peaks_of self.old)) (Some (peaks_of self.new)) (use_with (paged_meaning self.old) (sees (paged_meaning self.old) k a.0) (after (Push v) (at (sees (paged_meaning self.old) k) a.0)))) }
     {
         known_value(v);
         let draft = &mut self.drafts[k as usize];
@@ -143,11 +153,14 @@ impl PagedStore {
         ensures cause { IfErr result (Refuses (IsFull (sees (paged_meaning self.old) k) d.0 (Pair key v)) (Fills self.old) (reserved_of self.new) (paged_meaning self.old).limit) }
         ensures asked { IfErr result (AsksFor (sees (paged_meaning self.old) k d.0) (after (Pair key v) (at (sees (paged_meaning self.old) k) d.0))) }
         ensures reserved { reserved_of self.old ≤ reserved_of self.new }
+        ensures rises { OnOk result (Rises (Some (peaks_of self.old)) (Some (peaks_of self.new)) (in_use (paged_meaning self.new))) }
+        ensures rises_err { OnErr result (RisesTo (Some (peaks_of self.old)) (Some (peaks_of self.new)) (use_with (paged_meaning self.old) (sees (paged_meaning self.old) k d.0) (after (Pair key v) (at (sees (paged_meaning self.old) k) d.0)))) }
     {
         known_value(key);
         known_value(v);
         let draft = &mut self.drafts[k as usize];
         grow(&mut self.pages, draft, k, d.0, &[key, v])?;
+        fill_index(&mut self.pages, k, d.0);
         Ok(())
     }
 }

@@ -3,7 +3,7 @@ ghost use Rattle.std.specs.Prelude.{◌≡◌, ◌+◌, ◌<◌, ◌≤◌, [], 
 ghost use Rattle.page_table.specs.Pages.{Lies};
 ghost use Rattle.page_table.specs.Lists.{table_of};
 ghost use Rattle.paged_store.specs.Words.{size_of};
-ghost use Rattle.paged_store.specs.inner.Claiming.{extent_for, Claims, Denies};
+ghost use Rattle.paged_store.specs.inner.Claiming.{extent_for, Claims, Denies, RisesBy};
 ghost use Rattle.paged_store.specs.inner.Ending.{ExtentsLie, HaveClasses, HaveRoom, GivenBack};
 
 use page_table::Pages;
@@ -17,7 +17,9 @@ fn claim_one(pages: &mut Pages, class: u8) -> Result<u32, StoreFault>
     ensures most { IfOk result (λ p. (table_of pages.new).reserved ≤ (table_of pages.old).reserved + size_of class) }
     ensures same { OnErr result (table_of pages.new ≡ table_of pages.old) }
     ensures cause { IfErr result (Denies (class ∷ []) (table_of pages.old) (table_of pages.new)) }
+    ensures rises { RisesBy (class ∷ []) (table_of pages.old) (table_of pages.new) }
 {
+    pages.known();
     if class == 0 {
         Ok(0)
     } else {
@@ -46,6 +48,7 @@ fn claim_two(pages: &mut Pages, first: u8, second: u8) -> Result<(u32, u32), Sto
     ensures most { IfOk result (λ p. (table_of pages.new).reserved ≤ (table_of pages.old).reserved + size_of first + size_of second) }
     ensures err { OnErr result (Claims [] (table_of pages.old) (table_of pages.new)) }
     ensures cause { IfErr result (Denies (first ∷ second ∷ []) (table_of pages.old) (table_of pages.new)) }
+    ensures rises { RisesBy (first ∷ second ∷ []) (table_of pages.old) (table_of pages.new) }
 {
     pages.known();
     let one = claim_one(pages, first)?;
@@ -74,6 +77,7 @@ pub fn claim(
     ensures most { IfOk result (λ p. (table_of pages.new).reserved ≤ (table_of pages.old).reserved + size_of first + size_of second + size_of third) }
     ensures err { OnErr result (Claims [] (table_of pages.old) (table_of pages.new)) }
     ensures cause { IfErr result (Denies (first ∷ second ∷ third ∷ []) (table_of pages.old) (table_of pages.new)) }
+    ensures rises { RisesBy (first ∷ second ∷ third ∷ []) (table_of pages.old) (table_of pages.new) }
 {
     pages.known();
     let (one, two) = claim_two(pages, first, second)?;

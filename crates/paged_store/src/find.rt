@@ -2,12 +2,16 @@
 ghost use Rattle.std.specs.Prelude.{◌≡◌, ℕ, ◌+◌, ◌*◌, ◌/◌, ◌^◌, ◌<◌, ◌≤◌, eqb, length, Some, true, IfSome, MatchBool};
 ghost use Rattle.py_base.specs.declared.kind.Kind.TheVariants.{Str, Dict};
 ghost use Rattle.py_data.specs.Heap.{Heap};
-ghost use Rattle.py_data.specs.Shape.{find, same_key, same_bytes, same_text, text_in};
+ghost use Rattle.py_data.specs.Shape.{find, same_key, same_bytes, same_text, text_in, ArePairs, KeysDiffer};
 ghost use Rattle.page_table.specs.Lists.{table_of};
-ghost use Rattle.paged_store.specs.Words.{body_by};
+ghost use Rattle.paged_store.specs.Words.{body_by, index_by, index_size};
+ghost use Rattle.paged_store.specs.inner.Indexed.{IsIndexed};
 ghost use Rattle.paged_store.specs.inner.Sight.{words_seen, record_seen, IsSeen, CanRead, SameWords, OtherWords, IsKeySeen, KeysSeen, KnowsKeys, heap_seen};
 
+use crate::hash::home;
+use crate::index::slots;
 use crate::sight::{Seen, body, kind, len, value, word};
+use dict_index::slots::next;
 use page_table::Pages;
 use py_data::{Kind, Value};
 
@@ -29,7 +33,7 @@ fn same_words(pages: &Pages, seen: Seen, x: usize, y: usize, n: usize) -> bool
 }
 
 /// Where the bytes of a string begin, and how many there are.
-fn text(pages: &Pages, seen: Seen, a: u32) -> (usize, usize)
+pub(crate) fn text(pages: &Pages, seen: Seen, a: u32) -> (usize, usize)
     requires there { CanRead (table_of pages.now) seen a }
     requires kind { (record_seen (table_of pages.now) seen a).kind ≡ Str }
     ensures body { result.0 ≡ body_by (words_seen (table_of pages.now) seen) a }
@@ -101,23 +105,18 @@ fn same(pages: &Pages, seen: Seen, x: Value, y: Value) -> bool
     }
 }
 
-/// Where the pairs of a dictionary begin, and how many there are.
-fn pairs(pages: &Pages, seen: Seen, d: u32) -> (usize, usize)
-    requires there { CanRead (table_of pages.now) seen d }
-    requires kind { (record_seen (table_of pages.now) seen d).kind ≡ Dict }
-    ensures body { result.0 ≡ body_by (words_seen (table_of pages.now) seen) d }
-    ensures count { result.1 ≡ length (record_seen (table_of pages.now) seen d).values / 2 }
-    ensures within { 0 < result.1 → result.0 + 4 * result.1 ≤ (table_of pages.now).reserved }
-{
-    (body(pages, seen, d), len(pages, seen, d) / 2)
-}
-
-/// The number, from 0, of the first pair whose key is equal. It goes through the pairs one after another.
+/// The number, from 0, of the pair whose key is equal. It goes through the slots of the index, from the key's home to an
+/// empty one.
 pub fn find_key(pages: &Pages, seen: Seen, d: u32, key: Value) -> Option<usize>
     requires there { CanRead (table_of pages.now) seen d }
     requires kind { (record_seen (table_of pages.now) seen d).kind ≡ Dict }
     requires keys { KeysSeen (table_of pages.now) seen (record_seen (table_of pages.now) seen d).values }
     requires key { IsKeySeen (table_of pages.now) seen key }
+    requires extent { let w = words_seen (table_of pages.now) seen in
+        index_by w d + index_size w d ≤ (table_of pages.now).reserved }
+    requires index { IsIndexed (words_seen (table_of pages.now) seen) d }
+    requires pairs { ArePairs (heap_seen (table_of pages.now) seen) (record_seen (table_of pages.now) seen d).values }
+    requires differ { KeysDiffer (heap_seen (table_of pages.now) seen) (record_seen (table_of pages.now) seen d).values }
     ensures found { result ≡ find (heap_seen (table_of pages.now) seen) (record_seen (table_of pages.now) seen d).values key }
     ensures within { IfSome result (λ i. 2 * i + 1 < length (record_seen (table_of pages.now) seen d).values) }
     ensures heap { (h : Heap)
@@ -125,11 +124,25 @@ pub fn find_key(pages: &Pages, seen: Seen, d: u32, key: Value) -> Option<usize>
         → result ≡ find h (record_seen (table_of pages.now) seen d).values key }
 {
     pages.known();
-    let (body, count) = pairs(pages, seen, d);
-    'pairs: for n in 0..count {
-        if same(pages, seen, value(pages, seen, (body + 4 * n) as u32), key) {
-            return Some(n);
+    let (place, n) = slots(pages, seen, d);
+    let body = body(pages, seen, d);
+    let start = home(pages, seen, key, n);
+    let mut at = start;
+    'slots: for j in 0..n {
+        let word = word(pages, seen, place + at as u32);
+        if word == 0 {
+            return None;
         }
+        let pair = word as usize - 1;
+        if same(
+            pages,
+            seen,
+            value(pages, seen, (body + 4 * pair) as u32),
+            key,
+        ) {
+            return Some(pair);
+        }
+        at = next(at, n);
     }
     None
 }

@@ -3,7 +3,7 @@ ghost use Rattle.std.specs.Prelude.{◌≡◌, ◌+◌, ◌*◌, ◌<◌, ◌≤
 ghost use Rattle.page_table.specs.Pages.{limit};
 ghost use Rattle.page_table.specs.Lists.{table_of};
 ghost use Rattle.paged_store.specs.Words.{size_of, count_by, body_by, body_size};
-ghost use Rattle.paged_store.specs.inner.Claiming.{Denies};
+ghost use Rattle.paged_store.specs.inner.Claiming.{Denies, RisesBy};
 ghost use Rattle.paged_store.specs.inner.Growing.{grown_with, grown_class, grown_index, MayGrow, KeepsBody, CanGrow, Grew, Ungrown};
 ghost use Rattle.paged_store.specs.inner.Sight.{Stands};
 ghost use Rattle.paged_store.specs.inner.Written.{next_index};
@@ -110,6 +110,8 @@ fn try_grow(
     ensures err { OnErr result (Ungrown k a (desk pages.old draft.old) (desk pages.new draft.new)) }
     ensures cause { IfErr result (let w = (table_of pages.old).word k in
         Denies (grown_class w a ∷ grown_index w a ∷ 0 ∷ []) (table_of pages.old) (table_of pages.new)) }
+    ensures rises { let w = (table_of pages.old).word k in
+        RisesBy (grown_class w a ∷ grown_index w a ∷ 0 ∷ []) (table_of pages.old) (table_of pages.new) }
 {
     pages.known();
     let next = Header::of(pages.word(k, 2 * a)).next();
@@ -134,6 +136,8 @@ pub(crate) fn grow(
     ensures err { OnErr result (Ungrown k a (desk pages.old draft.old) (desk pages.new draft.new)) }
     ensures cause { IfErr result (let w = (table_of pages.old).word k in
         Denies (grown_class w a ∷ grown_index w a ∷ 0 ∷ []) (table_of pages.old) (table_of pages.new)) }
+    ensures rises { let w = (table_of pages.old).word k in
+        RisesBy (grown_class w a ∷ grown_index w a ∷ 0 ∷ []) (table_of pages.old) (table_of pages.new) }
     ensures most { (table_of pages.new).reserved ≤ limit (table_of pages.new) }
 {
     match try_grow(pages, draft, k, a, vs) {

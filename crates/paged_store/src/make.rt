@@ -3,8 +3,7 @@ ghost use Rattle.std.specs.Prelude.{◌≡◌, ℕ, ◌+◌, ◌*◌, ◌<◌, �
 ghost use Rattle.page_table.specs.Pages.{limit};
 ghost use Rattle.page_table.specs.Lists.{table_of};
 ghost use Rattle.py_data.specs.Heap.{length_by};
-ghost use Rattle.paged_store.specs.Words.{size_of};
-ghost use Rattle.paged_store.specs.inner.Claiming.{Denies};
+ghost use Rattle.paged_store.specs.inner.Claiming.{Denies, RisesBy};
 ghost use Rattle.paged_store.specs.inner.Making.{made_length, body_class, index_class, FitsBody, Places};
 ghost use Rattle.paged_store.specs.inner.Taking.{Takes};
 ghost use Rattle.paged_store.specs.inner.Writing.{desk};
@@ -33,9 +32,9 @@ pub(crate) fn make(
     requires first { header.first ≡ body_class r.now }
     requires fits { FitsBody r.now }
     ensures ok { IfOk result (λ a. Places k a.0 r.now (desk pages.old draft.old) (desk pages.new draft.new)) }
-    ensures most { IfOk result (λ a. 2 * a.0 ≤ (table_of pages.old).reserved + size_of (body_class r.now) + size_of (index_class r.now)) }
     ensures err { OnErr result (Takes k [] (desk pages.old draft.old) (desk pages.new draft.new)) }
     ensures cause { IfErr result (Denies (2 ∷ body_class r.now ∷ index_class r.now ∷ []) (table_of pages.old) (table_of pages.new)) }
+    ensures rises { RisesBy (2 ∷ body_class r.now ∷ index_class r.now ∷ []) (table_of pages.old) (table_of pages.new) }
     ensures within { (table_of pages.new).reserved ≤ limit (table_of pages.new) }
 {
     pages.known();

@@ -1,6 +1,7 @@
 //! Records that a segment makes.
-ghost use Rattle.std.specs.Prelude.{◌≡◌, ℕ, ◌<◌, ◌≤◌, false, length, get_or, vec_capacity, OnOk, OnErr, IfOk, IfErr};
+ghost use Rattle.std.specs.Prelude.{◌≡◌, ℕ, ◌<◌, ◌≤◌, length, get_or, OnOk, OnErr, IfOk, IfErr};
 ghost use Rattle.std.specs.Prelude.{None};
+ghost use Rattle.py_base.specs.declared.kind.Kind.TheVariants.{Dict};
 ghost use Rattle.py_data.specs.declared.record.TheConstants.{LENGTH_LIMIT};
 ghost use Rattle.py_data.specs.Heap.{value_at};
 ghost use Rattle.py_data.specs.Made.{rec_of};
@@ -9,15 +10,21 @@ ghost use Rattle.seg_store.specs.Asking.{AsksFor};
 ghost use Rattle.seg_store.specs.Calls.{after_make};
 ghost use Rattle.seg_store.specs.Meaning.{sees};
 ghost use Rattle.seg_store.specs.Store.{IsFree, Refuses};
+ghost use Rattle.dict_index.specs.Index.{IsBlank};
+ghost use Rattle.page_table.specs.Lists.{table_of};
+ghost use Rattle.paged_store.specs.Words.{index_by, index_size};
 ghost use Rattle.paged_store.specs.inner.Formed.{FitsValue};
-ghost use Rattle.paged_store.specs.inner.Making.{FitsRecord, Longer};
+ghost use Rattle.paged_store.specs.inner.Indexed.{index_words, IsIndexed};
+ghost use Rattle.paged_store.specs.inner.Indexing.{CanIndex, Puts};
+ghost use Rattle.paged_store.specs.inner.Making.{FitsRecord};
 
+use crate::enter::fill_index;
 use crate::fill::length_of;
-use crate::grow::size_of;
 use crate::make::make;
 use crate::store::PagedStore;
 use crate::value::{Header, known_value};
-use py_data::{Addr, NoMemory, Record, Value};
+use page_table::Pages;
+use py_data::{Addr, Kind, Record, Value};
 use seg_store::StoreFault;
 
 /// What always holds of values, for a caller's proof. It does nothing.
@@ -44,50 +51,24 @@ fn known_record(r: &Record)
     known_bytes(r.bytes.as_slice());
 }
 
-/// Adds flags that are false, for which there is room.
-fn lengthen_flags(flags: &mut Vec<bool>, n: usize)
-    requires more { length flags.old.items ≤ n }
-    requires room { n ≤ vec_capacity flags.old }
-    ensures longer { Longer false flags.old.items flags.new.items }
-    ensures length { length flags.new.items ≡ n }
+/// Enters the pairs of a new record of that kind, whose index is empty, if it is a Dict.
+fn index_made(pages: &mut Pages, k: u8, a: u32, kind: Kind)
+    requires can { let w = (table_of pages.old).word k in
+        kind ≡ Dict → CanIndex k a (index_by w a) (index_size w a) (table_of pages.old) }
+    requires blank { let w = (table_of pages.old).word k in kind ≡ Dict → IsBlank (index_size w a) (index_words w a) }
+    ensures puts { let w = (table_of pages.old).word k in
+        Puts k (index_by w a) (index_size w a) (table_of pages.old) (table_of pages.new) }
+    ensures index { kind ≡ Dict → IsIndexed ((table_of pages.new).word k) a }
 {
-    if flags.resize(n, false).is_err() {
-        unreachable!();
+    if kind == Kind::Dict {
+        fill_index(pages, k, a);
     }
-}
-
-/// Adds bytes that are 0, for which there is room.
-fn lengthen_bytes(bytes: &mut Vec<u8>, n: usize)
-    requires more { length bytes.old.items ≤ n }
-    requires room { n ≤ vec_capacity bytes.old }
-    ensures longer { Longer 0 bytes.old.items bytes.new.items }
-    ensures length { length bytes.new.items ≡ n }
-{
-    if bytes.resize(n, 0).is_err() {
-        unreachable!();
-    }
-}
-
-/// Makes the lists of what is known of each address reach so many addresses.
-fn reach(present: &mut Vec<bool>, holders: &mut Vec<u8>, n: usize) -> Result<(), NoMemory>
-    requires { length holders.old.items ≡ length present.old.items }
-    ensures present { Longer false present.old.items present.new.items }
-    ensures holders { Longer 0 holders.old.items holders.new.items }
-    ensures same { length holders.new.items ≡ length present.new.items }
-    ensures ok { OnOk result (n ≤ length present.new.items) }
-{
-    let had = present.len();
-    if n > had {
-        present.reserve(n - had)?;
-        holders.reserve(n - had)?;
-        lengthen_flags(present, n);
-        lengthen_bytes(holders, n);
-    }
-    Ok(())
 }
 
 impl PagedStore {
-    ghost use Rattle.paged_store.specs.Stores.{paged_meaning, reserved_of, Fills};
+    ghost use Rattle.std.specs.Prelude.{Some};
+    ghost use Rattle.seg_store.specs.Telling.{in_use, use_with, Rises, RisesTo};
+    ghost use Rattle.paged_store.specs.Stores.{paged_meaning, reserved_of, peaks_of, Fills};
 
     /// Makes a record that a segment holds, and answers its address.
     pub fn make_record(&mut self, k: u8, r: &Record) -> Result<Addr, StoreFault>
@@ -101,17 +82,16 @@ impl PagedStore {
         ensures cause { IfErr result (Refuses (Unit {0}) (Fills self.old) (reserved_of self.new) (paged_meaning self.old).limit) }
         ensures asked { IfErr result (AsksFor None (rec_of r.now)) }
         ensures reserved { reserved_of self.old ≤ reserved_of self.new }
+        ensures rises { OnOk result (Rises (Some (peaks_of self.old)) (Some (peaks_of self.new)) (in_use (paged_meaning self.new))) }
+        ensures rises_err { OnErr result (RisesTo (Some (peaks_of self.old)) (Some (peaks_of self.new)) (use_with (paged_meaning self.old) None (rec_of r.now))) }
     {
         known_record(r);
         self.pages.known();
         let header = Header::made(r.kind, length_of(r) as usize);
-        let end = self.pages.reserved()
-            + u64::from(size_of(header.class))
-            + u64::from(size_of(header.index));
-        reach(&mut self.present, &mut self.holders, (end / 2 + 1) as usize)?;
         let draft = &mut self.drafts[k as usize];
         let a = make(&mut self.pages, draft, k, header, r)?;
-        self.holders[a.0 as usize] = k + 1;
+        index_made(&mut self.pages, k, a.0, r.kind);
+        self.marks.lock(k, a.0);
         Ok(a)
     }
 }

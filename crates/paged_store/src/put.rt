@@ -2,7 +2,8 @@
 ghost use Rattle.std.specs.Prelude.{◌≡◌, ℕ, ◌+◌, ◌*◌, ◌/◌, ◌<◌, ◌≤◌, ◌^◌, false, length};
 ghost use Rattle.page_table.specs.Lists.{table_of};
 ghost use Rattle.paged_store.specs.Words.{in_span};
-ghost use Rattle.paged_store.specs.inner.Written.{put_value, copied, packed};
+ghost use Rattle.dict_index.specs.Packed.{packed};
+ghost use Rattle.paged_store.specs.inner.Written.{put_value, copied};
 ghost use Rattle.paged_store.specs.inner.Writing.{CanPut, with_words, laid, cleared, put_values, headed};
 
 use crate::value::{payload, tag};

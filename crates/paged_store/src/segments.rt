@@ -7,8 +7,8 @@ use py_data::{Addr, Kind, NoMemory, Record, Value};
 use seg_store::{SegStore, StoreFault};
 
 impl SegStore for PagedStore {
-    ghost use Rattle.std.specs.Prelude.{None, refl};
-    ghost use Rattle.paged_store.specs.Stores.{paged_meaning, reserved_of, Fills};
+    ghost use Rattle.std.specs.Prelude.{Some, refl};
+    ghost use Rattle.paged_store.specs.Stores.{paged_meaning, reserved_of, peaks_of, Fills};
 
     ghost meaning = { paged_meaning };
 
@@ -16,7 +16,7 @@ impl SegStore for PagedStore {
 
     ghost fills = { Fills };
 
-    ghost peaks = { λ s. None };
+    ghost peaks = { λ s. Some (peaks_of s) };
 
     ghost same_image = { λ s. refl };
 

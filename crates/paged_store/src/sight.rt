@@ -2,7 +2,7 @@
 ghost use Rattle.std.specs.Prelude.{◌≡◌, ℕ, ◌+◌, ◌-◌, ◌*◌, ◌%◌, ◌<◌, ◌≤◌, length, min, take, drop, slice_index};
 ghost use Rattle.py_data.specs.Heap.{length_of, value_at};
 ghost use Rattle.page_table.specs.Lists.{table_of};
-ghost use Rattle.paged_store.specs.Words.{value_of, kind_by, class_in, first_in, count_by, body_by, room_in};
+ghost use Rattle.paged_store.specs.Words.{value_of, kind_by, class_in, index_class_in, first_in, count_by, body_by, room_in};
 ghost use Rattle.paged_store.specs.inner.Sight.{words_seen, record_seen, IsSeen, CanRead};
 
 use crate::value::{Header, value_at};
@@ -59,10 +59,11 @@ pub fn value(pages: &Pages, seen: Seen, place: u32) -> Value
 }
 
 /// What the first word of a record's header tells.
-fn header(pages: &Pages, seen: Seen, a: u32) -> Header
+pub(crate) fn header(pages: &Pages, seen: Seen, a: u32) -> Header
     requires { CanRead (table_of pages.now) seen a }
     ensures kind { result.kind ≡ kind_by (words_seen (table_of pages.now) seen) a }
     ensures class { result.class ≡ class_in (words_seen (table_of pages.now) seen (2 * a)) }
+    ensures index { result.index ≡ index_class_in (words_seen (table_of pages.now) seen (2 * a)) }
     ensures first { result.first ≡ first_in (words_seen (table_of pages.now) seen (2 * a)) }
 {
     pages.known();

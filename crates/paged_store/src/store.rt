@@ -1,5 +1,5 @@
 //! A store of records in words.
-ghost use Rattle.std.specs.Prelude.{◌≡◌, ℕ, ◌*◌, ◌<◌, ◌≤◌, false, [], length, slice_get, Some, None, OnOk, OnErr, IfOk};
+ghost use Rattle.std.specs.Prelude.{◌≡◌, ℕ, ◌*◌, ◌<◌, ◌≤◌, false, [], length, slice_get, Some, OnOk, OnErr, IfOk};
 ghost use Rattle.py_data.specs.Heap.{Has};
 ghost use Rattle.seg_store.specs.Meaning.{sees, holds};
 ghost use Rattle.seg_store.specs.Store.{NoOther, IsHolder, IsStore, IsEmpty};
@@ -9,6 +9,7 @@ ghost use Rattle.paged_store.specs.inner.Paged.{IsPaged, no_draft, drafted_in};
 use crate::draft::Draft;
 use page_table::Pages;
 use py_data::{Addr, NoMemory};
+use seg_marks::Marks;
 use std::alloc::Global;
 
 /// A store that keeps its records in words of pages, which its segments share until they write to them.
@@ -17,9 +18,9 @@ pub struct PagedStore {
     pub(crate) alloc: Global,
     pub(crate) pages: Pages,
     pub(crate) present: Vec<bool>,
-    pub(crate) holders: Vec<u8>,
+    pub(crate) marks: Marks,
     pub(crate) drafts: Vec<Draft>,
-    ghost sound: { IsPaged pages present.items holders.items drafts.items },
+    ghost sound: { IsPaged pages present.items marks drafts.items },
 }
 
 /// The drafts of so many segments, with nothing in them.
@@ -35,31 +36,37 @@ fn new_drafts(alloc: Global, segments: u8) -> Result<Vec<Draft>, NoMemory>
 }
 
 impl PagedStore {
-    ghost use Rattle.paged_store.specs.Stores.{paged_meaning, reserved_of, new_meaning};
+    ghost use Rattle.seg_store.specs.Telling.{IsTelling};
+    ghost use Rattle.paged_store.specs.Stores.{paged_meaning, reserved_of, peaks_of, new_meaning};
 
     /// A store for 1 to 8 segments and 1 to 65,536 pages, with no record.
     pub fn new(alloc: Global, segments: u8, pages: u32) -> Result<PagedStore, NoMemory>
         requires segments { (1 ≤ segments) × (segments ≤ 8) }
         requires pages { (1 ≤ pages) × (pages ≤ 65536) }
         ensures meaning { IfOk result (λ s. paged_meaning s ≡ new_meaning segments (512 * pages)) }
-        ensures empty { IfOk result (λ s. IsEmpty (paged_meaning s) None) }
+        ensures empty { IfOk result (λ s. IsEmpty (paged_meaning s) (Some (peaks_of s))) }
         ensures reserved { IfOk result (λ s. reserved_of s ≡ 2) }
     {
         let table = Pages::new(alloc, segments, pages)?;
+        let marks = Marks::new(alloc, segments, 256 * pages)?;
+        let mut present = Vec::new(alloc);
+        present.resize(256 * pages as usize, false)?;
         let drafts = new_drafts(alloc, segments)?;
         Ok(PagedStore {
             alloc,
             pages: table,
-            present: Vec::new(alloc),
-            holders: Vec::new(alloc),
+            present,
+            marks,
             drafts,
         })
     }
 
     /// What always holds of a store, for a caller's proof. It does nothing.
     pub fn is_known(&self)
-        ensures { IsStore (reserved_of self.now) (paged_meaning self.now) }
+        ensures store { IsStore (reserved_of self.now) (paged_meaning self.now) }
+        ensures told { IsTelling (reserved_of self.now) (paged_meaning self.now) (peaks_of self.now) }
     {
+        self.pages.known();
         let _drafts = &self.drafts;
     }
 
@@ -91,18 +98,21 @@ impl PagedStore {
         requires { k < (paged_meaning self.old).segments }
         ensures meaning { paged_meaning self.new ≡ after_begin k (paged_meaning self.old) }
         ensures reserved { reserved_of self.new ≡ reserved_of self.old }
+        ensures peaks { peaks_of self.new ≡ peaks_of self.old }
     {
-        self.drafts[k as usize].forget();
+        self.marks.begin(k);
     }
 
     /// A segment looks at a record.
     pub fn note_look(&mut self, k: u8, a: Addr) -> Result<(), NoMemory>
-        requires { k < (paged_meaning self.old).segments }
+        requires segment { k < (paged_meaning self.old).segments }
+        requires there { Has (sees (paged_meaning self.old) k) a.0 }
         ensures ok { OnOk result (paged_meaning self.new ≡ after_mark k a.0 (paged_meaning self.old)) }
         ensures err { OnErr result (paged_meaning self.new ≡ paged_meaning self.old) }
         ensures reserved { reserved_of self.new ≡ reserved_of self.old }
+        ensures peaks { peaks_of self.new ≡ peaks_of self.old }
     {
-        self.drafts[k as usize].mark(a)?;
+        self.marks.mark(k, a.0);
         Ok(())
     }
 
@@ -110,10 +120,7 @@ impl PagedStore {
     pub fn held_by(&self, a: Addr) -> Option<u8>
         ensures { IsHolder (paged_meaning self.now) a.0 result }
     {
-        match self.holders.get(a.0 as usize) {
-            Some(byte) => { if *byte > 0 { Some(*byte - 1) } else { None } }
-            None => None,
-        }
+        self.marks.holder(a.0)
     }
 
     /// A segment locks a record of the image that none holds.
@@ -124,9 +131,11 @@ impl PagedStore {
         ensures ok { OnOk result (paged_meaning self.new ≡ after_lock k a.0 (paged_meaning self.old)) }
         ensures err { OnErr result (paged_meaning self.new ≡ paged_meaning self.old) }
         ensures reserved { reserved_of self.new ≡ reserved_of self.old }
+        ensures peaks { peaks_of self.new ≡ peaks_of self.old }
     {
         self.drafts[k as usize].lock(a)?;
-        self.holders[a.0 as usize] = k + 1;
+        self.marks.mark(k, a.0);
+        self.marks.lock(k, a.0);
         Ok(())
     }
 
@@ -138,6 +147,7 @@ impl PagedStore {
         ensures ok { OnOk result (paged_meaning self.new ≡ after_lock k a.0 (paged_meaning self.old)) }
         ensures err { OnErr result (paged_meaning self.new ≡ paged_meaning self.old) }
         ensures reserved { reserved_of self.new ≡ reserved_of self.old }
+        ensures peaks { peaks_of self.new ≡ peaks_of self.old }
     {
         if self.held_by(a).is_some() {
             self.note_look(k, a)
@@ -151,6 +161,7 @@ impl PagedStore {
         requires { k < (paged_meaning self.old).segments }
         ensures meaning { paged_meaning self.new ≡ after_open k (paged_meaning self.old) }
         ensures reserved { reserved_of self.new ≡ reserved_of self.old }
+        ensures peaks { peaks_of self.new ≡ peaks_of self.old }
     {
         self.drafts[k as usize].open();
     }
@@ -160,7 +171,7 @@ impl PagedStore {
         requires { k < (paged_meaning self.now).segments }
         ensures { result ≡ ((paged_meaning self.now).part k).looked a.0 }
     {
-        self.drafts[k as usize].looked.has(a.0)
+        self.marks.marked(k, a.0)
     }
 
     /// How many records of the image a segment has locked.
@@ -185,9 +196,10 @@ impl PagedStore {
         requires { k < (paged_meaning self.old).segments }
         ensures meaning { paged_meaning self.new ≡ after_publish k (paged_meaning self.old) }
         ensures reserved { reserved_of self.new ≡ reserved_of self.old }
+        ensures peaks { peaks_of self.new ≡ peaks_of self.old }
     {
         let draft = &mut self.drafts[k as usize];
-        draft.publish(k, &mut self.pages, &mut self.present, &mut self.holders);
+        draft.publish(k, &mut self.pages, &mut self.present, &mut self.marks);
     }
 
     /// Drops what the segment changed and made. The segment then holds nothing.
@@ -195,9 +207,10 @@ impl PagedStore {
         requires { k < (paged_meaning self.old).segments }
         ensures meaning { paged_meaning self.new ≡ after_drop k (paged_meaning self.old) }
         ensures reserved { reserved_of self.new ≡ reserved_of self.old }
+        ensures peaks { peaks_of self.new ≡ peaks_of self.old }
     {
         let draft = &mut self.drafts[k as usize];
-        draft.let_go(k, &mut self.pages, &mut self.holders);
+        draft.let_go(k, &mut self.pages, &mut self.marks);
     }
 
     /// Takes back what the segment's step changed and made.
@@ -205,8 +218,9 @@ impl PagedStore {
         requires { k < (paged_meaning self.old).segments }
         ensures meaning { paged_meaning self.new ≡ after_undo k (paged_meaning self.old) }
         ensures reserved { reserved_of self.new ≡ reserved_of self.old }
+        ensures peaks { peaks_of self.new ≡ peaks_of self.old }
     {
         let draft = &mut self.drafts[k as usize];
-        draft.take_back(k, &mut self.pages, &mut self.holders);
+        draft.take_back(k, &mut self.pages, &mut self.marks);
     }
 }

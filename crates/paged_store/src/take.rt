@@ -2,7 +2,7 @@
 ghost use Rattle.std.specs.Prelude.{◌≡◌, ◌+◌, ◌<◌, ◌≤◌, [], ◌∷◌, ◌++◌, length, vec_capacity, IfOk, IfErr, OnOk, OnErr};
 ghost use Rattle.page_table.specs.Lists.{table_of};
 ghost use Rattle.paged_store.specs.Words.{size_of};
-ghost use Rattle.paged_store.specs.inner.Claiming.{extent_for, Denies};
+ghost use Rattle.paged_store.specs.inner.Claiming.{extent_for, Denies, RisesBy};
 ghost use Rattle.paged_store.specs.inner.Ending.{ExtentsLie, HaveClasses};
 ghost use Rattle.paged_store.specs.inner.Taking.{OwnExtents, Takes};
 ghost use Rattle.paged_store.specs.inner.Writing.{desk, Opened};
@@ -72,6 +72,7 @@ pub(crate) fn take(
     ensures most { IfOk result (λ p. (table_of pages.new).reserved ≤ (table_of pages.old).reserved + size_of first + size_of second + size_of third) }
     ensures err { OnErr result (Takes k [] (desk pages.old draft.old) (desk pages.new draft.new)) }
     ensures cause { IfErr result (Denies (first ∷ second ∷ third ∷ []) (table_of pages.old) (table_of pages.new)) }
+    ensures rises { RisesBy (first ∷ second ∷ third ∷ []) (table_of pages.old) (table_of pages.new) }
 {
     pages.known();
     let before = draft.taken.len();

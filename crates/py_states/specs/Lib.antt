@@ -1,2 +1,3 @@
 pub mod Innermost
+pub mod Leading
 pub mod inner

@@ -1,6 +1,7 @@
 //! The state of a thread in memory: three lists, whatever the depth of its calls.
 #![tactic(auto)]
 
+mod direct;
 mod frames;
 mod head;
 mod moves;
@@ -11,4 +12,5 @@ mod tests;
 mod thread;
 mod track;
 
+pub use direct::Direct;
 pub use thread::ThreadState;

@@ -7,3 +7,4 @@ mod PeekedRows
 mod BuiltinWaits
 mod CallWaits
 mod StepWaits
+mod Directs

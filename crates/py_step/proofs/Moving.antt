@@ -1,5 +1,5 @@
 -- Steps of a thread, by the instruction at hand.
-use Rattle.std.proofs.Common.{arith, ◌≡◌, ℕ, ◌<◌, List, [], ◌∷◌, length, drop, Option, Some, None, Result, Ok, Err, refl, sym, ap, subst, ◌∙◌}
+use Rattle.std.proofs.Common.{arith, ◌≡◌, ℕ, ◌<◌, List, [], ◌∷◌, length, drop, Option, Some, None, Result, Ok, Err, IfOk, IfErr, refl, sym, ap, subst, ◌∙◌}
 use Rattle.py_data.specs.declared.stop.Stop.{Stop}
 use Rattle.py_data.specs.declared.stop.Stop.TheVariants.{OutOfMemory}
 use Rattle.py_data.specs.Heap.{Heap}
@@ -20,6 +20,10 @@ use Rattle.py_frames.specs.State.{State, instr_at, life_by, life_of, pops, opera
 use Rattle.py_frames.specs.Steps.{guarded_row, site_of, step_at, step_by, step_row}
 use Rattle.py_states.specs.Innermost.{innermost, settled_in, Settles}
 use Rattle.py_states.proofs.Running.{there_is, settled_there}
+use Rattle.py_data.specs.declared.value.Value.{Value}
+use Rattle.py_states.specs.declared.direct.Direct.{Direct}
+use Rattle.py_states.specs.Leading.{leads}
+use Rattle.py_step.specs.inner.Directly.{LeadsTo}
 use Rattle.py_step.specs.inner.Moves.{Moves, dying_step, dying_words}
 use Rattle.py_step.specs.inner.Operators.{HasOperator, IsOperable}
 
@@ -104,11 +108,33 @@ module _ {X : Type 0} (u : Sense State X) (p : Program) (s : State) where
         (run-bind u part rest v w w next z m
         (subst (λ y. Run u (rest next) w y w) (sym q) (run-ret u (settled p s n f fs next) w)))
 
+    -- the instruction asks nothing of the heap: its row is at its end
+    pub told_here : (xs : List Value) (d : Direct) → xs ≡ operands n f → LeadsTo f xs i d → part ≡ Ret (leads d)
+    told_here xs d q h = subst (λ xs. guarded_row (site_of p s fs) f xs i ≡ Ret (leads d)) q (h (site_of p s fs))
+
+    pub told_moved : (v : X) (next : Next) (t : State) (r : Result Outcome Stop) → part ≡ Ret next →
+        IfOk r (λ o. ◌≡◌ {A = Outcome × State} (o, t) (settled p s n f fs next)) →
+        IfErr r (λ x. (x ≡ OutOfMemory) × (t ≡ s)) → Moves u (step_at p s f fs (Some i)) v s v t r
+    unfolding Meets
+    told_moved v next t (Ok o) q k h =
+        settled_so v v next (o, t) (subst (λ row. Run u row v next v) (sym q) (run-ret u next v)) k
+    told_moved v next t (Err x) q k h = (
+      subst (λ x. Stopped u (step_at p s f fs (Some i)) v x v) (sym h.0)
+          (stopped_behind v v next (subst (λ row. Run u row v next v) (sym q) (run-ret u next v))),
+      h.1,
+    )
+
   -- the state's own frames
   pub settled_is : (n : ℕ) (next : Next) (o : Outcome) (t : State) → 0 < length s.frames →
       Settles (settled_in p s n next s.frames) o t
       → ◌≡◌ {A = Outcome × State} (o, t) (settled p s n (innermost s.frames) (drop 1 s.frames) next)
   settled_is n next o t l q = q ∙ settled_there p s n next (innermost s.frames) (drop 1 s.frames) (there_is s.frames l)
+
+  pub settled_ok : (n : ℕ) (next : Next) (r : Result Outcome Stop) (t : State) → 0 < length s.frames →
+      IfOk r (λ o. Settles (settled_in p s n next s.frames) o t) →
+      IfOk r (λ o. ◌≡◌ {A = Outcome × State} (o, t) (settled p s n (innermost s.frames) (drop 1 s.frames) next))
+  settled_ok n next (Ok o) t l q = settled_is n next o t l q
+  settled_ok n next (Err x) t l q = tt
 
 -- ---- a thread that dies
 module _ {X : Type 0} (u : Sense State X) (s : State) (d : Dying) where

@@ -2,3 +2,4 @@
 pub mod Peeked
 pub mod Moves
 pub mod Operators
+pub mod Directly

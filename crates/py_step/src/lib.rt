@@ -1,6 +1,7 @@
 //! One step of a thread of a program, over any view, and programs as clients of a machine.
 #![tactic(auto)]
 
+mod at_once;
 mod blocked;
 mod client;
 mod guard;

@@ -1,14 +1,18 @@
 //! A step of a thread.
-ghost use Rattle.std.specs.Prelude.{◌≡◌, ◌<◌, [], Some, drop, length};
+ghost use Rattle.std.specs.Prelude.{◌≡◌, ◌<◌, [], IfErr, IfOk, Some, drop, length};
 ghost use Rattle.lock_run.specs.declared.client.Life.TheVariants.{Lives};
 ghost use Rattle.lock_run.specs.declared.client.Outcome.TheVariants.{Ended};
 ghost use Rattle.py_data.specs.Sense.{Meets, Safe, IsLive};
 ghost use Rattle.py_frames.specs.State as state;
 ghost use Rattle.py_frames.specs.Steps as steps;
-ghost use Rattle.py_states.specs.Innermost.{innermost};
+ghost use Rattle.py_code.specs.declared.program.Program.{Program as Compiled};
+ghost use Rattle.py_data.specs.declared.stop.Stop.TheVariants.{OutOfMemory};
+ghost use Rattle.py_states.specs.Innermost.{innermost, settled_in, Settles};
+ghost use Rattle.py_states.specs.Leading.{leads};
 ghost use Rattle.py_step.specs.inner.Moves.{Moves, dying_step, dying_words};
 ghost use Rattle.py_step.specs.inner.Operators.{HasOperator, IsOperable};
 
+use crate::at_once::direct;
 use crate::guard::guarded_row;
 use crate::operands::pops;
 use crate::place::{instr_at, place_of, site};
@@ -17,7 +21,7 @@ use py_code::{Instr, Program};
 use py_data::{Stop, View};
 use py_frames::{Dying, Next};
 use py_instrs::dying_row;
-use py_states::ThreadState;
+use py_states::{Direct, ThreadState};
 use std::alloc::Global;
 
 /// Does the instruction at hand of a thread that has a frame, over its `n` operands.
@@ -42,7 +46,37 @@ fn next_of<V: View<ThreadState>>(
     guarded_row(alloc, v, &site, s, s.operands(n), i)
 }
 
-/// The step of a thread that has a frame: does the instruction at hand, and what it leads to.
+/// The step of a thread that has a frame: does the instruction at hand by its row, and what it leads to.
+fn go_by_row<V: View<ThreadState>>(
+    alloc: Global,
+    v: &mut V,
+    p: &Program,
+    s: &mut ThreadState,
+    n: usize,
+    i: Instr,
+) -> Result<Outcome, Stop>
+    requires some { 0 < length s.old.frames }
+    requires count { n ≡ state.pops p.now (innermost s.old.frames) i }
+    requires operator { HasOperator i }
+    requires live { IsLive V.sense v.old }
+    requires safe { Safe V.sense.partial (steps.step_at p.now s.old (innermost s.old.frames) (drop 1 s.old.frames) (Some i)) (V.sense.heap v.old) }
+    ensures { Moves V.sense (steps.step_at p.now s.old (innermost s.old.frames) (drop 1 s.old.frames) (Some i)) v.old s.old v.new s.new result }
+{
+    let next = next_of(alloc, v, p, s, n, i)?;
+    let outcome = s.settle(p, n, next)?;
+    Ok(outcome)
+}
+
+/// What an instruction that asks nothing of the heap leads to.
+fn go_at_once(s: &mut ThreadState, n: usize, next: Direct) -> Result<Outcome, Stop>
+    ensures ok { (p : Compiled) → IfOk result (λ o. Settles (settled_in p s.old n (leads next) s.old.frames) o s.new) }
+    ensures err { IfErr result (λ e. (e ≡ OutOfMemory) × (s.new ≡ s.old)) }
+{
+    let outcome = s.settle_directly(n, next)?;
+    Ok(outcome)
+}
+
+/// The step of a thread that has a frame: at once where the instruction asks nothing of the heap, else by its row.
 fn go_on<V: View<ThreadState>>(
     alloc: Global,
     v: &mut V,
@@ -57,9 +91,10 @@ fn go_on<V: View<ThreadState>>(
     ensures { Moves V.sense (steps.step_at p.now s.old (innermost s.old.frames) (drop 1 s.old.frames) (Some i)) v.old s.old v.new s.new result }
 {
     let n = pops(p, s, i);
-    let next = next_of(alloc, v, p, s, n, i)?;
-    let outcome = s.settle(p, n, next)?;
-    Ok(outcome)
+    match direct(s, s.operands(n), i) {
+        Some(next) => go_at_once(s, n, next),
+        None => go_by_row(alloc, v, p, s, n, i),
+    }
 }
 
 /// The last words of a thread that dies.

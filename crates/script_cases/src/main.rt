@@ -2,26 +2,18 @@
 //! standard input; `README.md` says how it is laid out.
 #![tactic(auto)]
 
-mod again;
 mod case;
-mod terminal;
 mod told;
 
-use crate::again::written_again;
 use crate::case::{Case, read_cases};
-use crate::terminal::Terminal;
 use crate::told::tell;
 use anyhow::Result;
+use script_runs::{SureReport, is_same, is_serial, run};
 use std::alloc::{AllocError, Global};
 use std::io;
 use std::io::{BufWriter, Write};
 use std::sync::Wait;
 use std::thread::Threads;
-use stm_io::{OpenGate, SureLoader, SureSink};
-use stm_top::{Report, run_words};
-
-/// A report over devices in memory that never fail.
-type SureReport = Report<SureLoader, Terminal, SureSink, SureSink>;
 
 /// How many segments a run has, and how many steps its transactions have at most.
 const ALONE: (&str, &str) = ("1", "1000");
@@ -29,8 +21,8 @@ const ALONE: (&str, &str) = ("1", "1000");
 /// The same, of a run in turns of one step.
 const STEPWISE: (&str, &str) = ("1", "1");
 
-/// The same, of a run whose transactions meet.
-const SHARED: (&str, &str) = ("4", "1000");
+/// The same, of runs whose transactions meet.
+const SHARED: [(&str, &str); 3] = [("2", "1000"), ("4", "1000"), ("8", "1000")];
 
 /// What begins the name of a case whose answer follows from turns of one step.
 const IN_TURNS: &str = "turns:";
@@ -38,16 +30,20 @@ const IN_TURNS: &str = "turns:";
 /// What begins the name of a case that spends its budget, which is smaller.
 const SPENDING: &str = "budget:";
 
-/// The words of a run of a case.
-fn words_of(alloc: Global, case: &Case, run: (&str, &str)) -> Result<Vec<String>, AllocError> {
-    let (segments, length) = run;
+/// Runs the script of a case.
+fn run_case<Rt: Threads + Wait + Sync>(
+    rt: &Rt,
+    alloc: Global,
+    case: &Case,
+    plan: (&str, &str),
+) -> Result<SureReport, AllocError> {
+    let (segments, length) = plan;
     let budget = if case.name.starts_with(SPENDING) {
         "10000"
     } else {
         "1000000"
     };
-    let mut words = Vec::new(alloc);
-    for word in [
+    let words = [
         "--segments",
         segments,
         "--length",
@@ -55,36 +51,14 @@ fn words_of(alloc: Global, case: &Case, run: (&str, &str)) -> Result<Vec<String>
         "--budget",
         budget,
         "-",
-    ] {
-        words.push(String::from_str(alloc, word)?)?;
-    }
-    Ok(words)
-}
-
-/// Runs the script of a case.
-fn run<Rt: Threads + Wait + Sync>(
-    rt: &Rt,
-    alloc: Global,
-    case: &Case,
-    run: (&str, &str),
-) -> Result<SureReport, AllocError> {
-    let words = words_of(alloc, case, run)?;
-    let loader = SureLoader::new(alloc, Vec::new(alloc));
-    let script = Vec::from_slice(alloc, case.script.as_slice())?;
-    let input = Vec::from_slice(alloc, case.input.as_slice())?;
-    let terminal = Terminal::new(alloc, script, input);
-    let out = SureSink::new(alloc);
-    let err = SureSink::new(alloc);
-    Ok(run_words(
+    ];
+    run(
         rt,
         alloc,
-        words.as_slice(),
-        loader,
-        terminal,
-        out,
-        err,
-        &OpenGate,
-    ))
+        &words,
+        case.script.as_slice(),
+        case.input.as_slice(),
+    )
 }
 
 /// The run of a case that is told.
@@ -96,21 +70,9 @@ fn told_run(case: &Case) -> (&'static str, &'static str) {
     }
 }
 
-/// A run wrote what the turns of its history write, one after another, with its text behind the lines of the error output. Where
-/// there is no program it has no history, and wrote nothing.
-fn is_serial(alloc: Global, case: &Case, report: &SureReport) -> Result<bool, AllocError> {
-    match written_again(alloc, case, &report.history)? {
-        Some(again) => {
-            let err = report.err.written().strip_suffix(report.text.as_slice());
-            Ok(report.out.written() == again.out.written() && err == Some(again.err.written()))
-        }
-        None => Ok(report.history.len() == 0 && report.out.written().is_empty()),
-    }
-}
-
-/// Two runs wrote the same to the output and ended with the same status.
-fn is_same(one: &SureReport, other: &SureReport) -> bool {
-    one.out.written() == other.out.written() && one.status == other.status
+/// A run of a case is what its history says.
+fn is_told(alloc: Global, case: &Case, report: &SureReport) -> Result<bool, AllocError> {
+    is_serial(alloc, case.script.as_slice(), case.input.as_slice(), report)
 }
 
 /// Runs a case alone, which is told, and shared. Says so where one of the runs isn't what its history is, or where they differ.
@@ -120,7 +82,7 @@ fn try_case<Rt: Threads + Wait + Sync, W: Write>(
     told: &mut W,
     case: &Case,
 ) -> Result<()> {
-    let alone = run(rt, alloc, case, told_run(case))?;
+    let alone = run_case(rt, alloc, case, told_run(case))?;
     tell(
         told,
         case.name.as_str(),
@@ -128,12 +90,17 @@ fn try_case<Rt: Threads + Wait + Sync, W: Write>(
         alone.err.written(),
         alone.status.number(),
     )?;
-    let shared = run(rt, alloc, case, SHARED)?;
-    if !is_serial(alloc, case, &alone)? || !is_serial(alloc, case, &shared)? {
+    if !is_told(alloc, case, &alone)? {
         writeln!(told, "its history writes otherwise")?;
     }
-    if !case.name.starts_with(IN_TURNS) && !is_same(&alone, &shared) {
-        writeln!(told, "on four segments it wrote and ended otherwise")?;
+    for plan in SHARED {
+        let shared = run_case(rt, alloc, case, plan)?;
+        if !is_told(alloc, case, &shared)? {
+            writeln!(told, "on {} segments its history writes otherwise", plan.0)?;
+        }
+        if !case.name.starts_with(IN_TURNS) && !is_same(&alone, &shared) {
+            writeln!(told, "on {} segments it wrote and ended otherwise", plan.0)?;
+        }
     }
     Ok(())
 }

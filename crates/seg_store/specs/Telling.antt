@@ -14,21 +14,21 @@ in_use m c = asked (m.limit / 2) m.image c + sum_below m.segments (λ k. gained 
 abbrev pub use_with : Meaning → Option Rec → Rec → ℕ → ℕ
 use_with m o r c = in_use m c + (extents r c - extents_of o c)
 
--- A call was done: each peak is the greater of the old one and of what is in use now. A store that tells its extents
--- doesn't cease to, and one that doesn't tell them doesn't begin to.
+-- A call was done: the peak of each class, from 1 on, is the greater of the old one and of what is in use now. A store
+-- that tells its extents doesn't cease to, and one that doesn't tell them doesn't begin to.
 abbrev pub Rises : Option (ℕ → ℕ) → Option (ℕ → ℕ) → (ℕ → ℕ) → Type 0
 Rises None None now = Unit {0}
-Rises (Some f) (Some g) now = (c : ℕ) → g c ≡ max (f c) (now c)
+Rises (Some f) (Some g) now = (c : ℕ) → 1 ≤ c → g c ≡ max (f c) (now c)
 Rises _ _ now = ⊥
 
 -- A call was refused: what it took for a while counts, and with that no more was in use than it would have left.
 abbrev pub RisesTo : Option (ℕ → ℕ) → Option (ℕ → ℕ) → (ℕ → ℕ) → Type 0
 RisesTo None None most = Unit {0}
-RisesTo (Some f) (Some g) most = (c : ℕ) → (f c ≤ g c) × (g c ≤ max (f c) (most c))
+RisesTo (Some f) (Some g) most = (c : ℕ) → 1 ≤ c → (f c ≤ g c) × (g c ≤ max (f c) (most c))
 RisesTo _ _ most = ⊥
 
 -- What always holds of a store that tells its extents: no more of a class are in use than its peak, and the words taken
 -- are the first two and those of the peaks.
 pub record IsTelling (reserved : ℕ) (m : Meaning) (f : ℕ → ℕ) : Type 0 where
-  pub within : (c : ℕ) → in_use m c ≤ f c
+  pub within : (c : ℕ) → 1 ≤ c → in_use m c ≤ f c
   pub words : reserved ≡ 2 + words_in f

@@ -82,23 +82,23 @@ would_make = refl
 -- the peaks are what is in use: two words, 6 of the Cell, 1,026 of the List and 1,024 of its next body
 all_words : IsTelling 2_058 (a_store grown_part no_part) (in_use (a_store grown_part no_part))
 unfolding in_use sum_below class_holding extents words_in room_of
-all_words = record { within = λ c. omega arith; words = refl }
+all_words = record { within = λ c l. omega arith; words = refl }
 
 -- a new store has taken two words
 first_words : IsTelling 2 (record { image = no_records; part = λ k. no_part; segments = 1; limit = 512 }) (λ c. 0)
 unfolding in_use sum_below words_in
-first_words = record { within = λ c. omega arith; words = refl }
+first_words = record { within = λ c l. omega arith; words = refl }
 
 -- a peak rises to what is in use, and doesn't fall with it
 peak_rises : Rises (Some (λ c. 1)) (Some (λ c. 3)) (λ c. 3)
-peak_rises = λ c. refl
+peak_rises = λ c l. refl
 
 peak_stays : Rises (Some (λ c. 3)) (Some (λ c. 3)) (λ c. 1)
-peak_stays = λ c. refl
+peak_stays = λ c l. refl
 
 -- a call that was refused may have taken less
 peak_between : RisesTo (Some (λ c. 1)) (Some (λ c. 2)) (λ c. 3)
-peak_between = λ c. (omega arith, omega arith)
+peak_between = λ c l. (omega arith, omega arith)
 
 -- a store doesn't cease to tell
 none_ceases : Rises (Some (λ c. 0)) None (λ c. 0) → ⊥

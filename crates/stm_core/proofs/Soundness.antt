@@ -18,7 +18,7 @@ set_self (y ∷ xs) zero x e = let same : y ≡ x = cc in ap (λ z. z ∷ xs) (s
 set_self (y ∷ xs) (suc i) x e = ap (λ zs. y ∷ zs) (set_self xs i x e)
 
 module _ {S : Type 0} (p : Prog S) (sound : Heap → List S → Type 0) (law : StaysSound p sound) where
-  sound_steps : (ts : List S) (i n : ℕ) (before q : S) (s : Sight S) (q1 : S) (t : Sight S) →
+  pub sound_steps : (ts : List S) (i n : ℕ) (before q : S) (s : Sight S) (q1 : S) (t : Sight S) →
       slice_get ts i ≡ Some before → sound s.heap (slice_set ts i q ++ s.started) → Steps p n q s q1 t →
       sound t.heap (slice_set ts i q1 ++ t.started)
   sound_steps ts i zero before q s q1 t is h d = subst (λ z. sound t.heap (slice_set ts i z ++ t.started)) (sym d.0)
@@ -37,7 +37,7 @@ module _ {S : Type 0} (p : Prog S) (sound : Heap → List S → Type 0) (law : S
       set_set ts (u.started ++ a.0.started) i before r q1 is ∙ ap (λ z. slice_set ts i q1 ++ z) (sym a.1.started) in
       subst (λ z. sound z (slice_set ts i q1 ++ t.started)) heap (subst (sound a.0.heap) list k)
 
-  first_sound : (h : Heap) (ts : List S) (i : ℕ) (q : S) → slice_get ts i ≡ Some q → sound h ts →
+  pub first_sound : (h : Heap) (ts : List S) (i : ℕ) (q : S) → slice_get ts i ≡ Some q → sound h ts →
       sound h (slice_set ts i q ++ [])
   first_sound h ts i q is s = subst (sound h) (sym (append-nil (slice_set ts i q) ∙ set_self ts i q is)) s
 

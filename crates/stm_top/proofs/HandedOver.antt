@@ -126,15 +126,20 @@ module _ {S : Type 0} (p : Prog S) (l : Limits) (a b : Devices) (mid was : Bool)
 
   abbrev EndsAt : (s : RunState) (history : List Turn) (conflicts : List Conflict) → Handed s history conflicts →
       Answer → Type 0
-  EndsAt s history conflicts h answer = RunEnded l answer (faults_of a) (faults_of b) (run_of s history conflicts h)
+  EndsAt s history conflicts h answer = RunEnded l (Some reserved) answer (faults_of a) (faults_of b)
+      (run_of s history conflicts h)
 
   -- a cause that was kept
   module _ (full : IsFullKept reserved m.limit o1.core.cause) (words : m.limit ≡ l.words) where
     caused_end : (e : Cause) (history : List Turn) (conflicts : List Conflict)
         (h : Handed (state.Faulted e) history conflicts) → EndsAt (state.Faulted e) history conflicts h (answer_to e)
     caused_end (cause.Full r n x) history conflicts h =
-        let f = subst (λ z. IsFullKept reserved m.limit z) h.outcome full in
-        (lives (state.Faulted (cause.Full r n x)) history conflicts h (cause.Full r n x) h.outcome, f.0 ∙ words, f.2)
+        let f = subst (λ z. IsFullKept reserved m.limit z) h.outcome full in (
+          lives (state.Faulted (cause.Full r n x)) history conflicts h (cause.Full r n x) h.outcome,
+          f.0 ∙ words,
+          f.2,
+          (reserved, refl, f.1),
+        )
     caused_end cause.ReadFault history conflicts h = (
       cut_by (state.Faulted cause.ReadFault) history conflicts h cause.ReadFault h.outcome refl,
       rose_with (state.Faulted cause.ReadFault) history conflicts h cause.ReadFault h.outcome,
@@ -156,7 +161,7 @@ module _ {S : Type 0} (p : Prog S) (l : Limits) (a b : Devices) (mid was : Bool)
     (history : List Turn) (conflicts : List Conflict) where
   abbrev EndsWith : (s : RunState) (failed : Bool) → HandedOut p l.length l.budget l.segments (telling a mid was)
       (telling b false false) s failed history conflicts m.image o o1 → Answer → Type 0
-  EndsWith s failed h answer = RunEnded l answer (faults_of a) (faults_of b)
+  EndsWith s failed h answer = RunEnded l (Some reserved) answer (faults_of a) (faults_of b)
       (run_of p l a b mid was m reserved failed o o1 s history conflicts h)
 
   answered : (s : RunState) (failed : Bool)
@@ -189,12 +194,21 @@ pub handed_over : {S : Type 0} (p : Prog S) (l : Limits) (a b : Devices) (mid wa
     → HandedOut p l.length l.budget l.segments (telling a mid was) (telling b false false) s failed t.history
     t.conflicts m.image o o1
     → IsFullKept reserved m.limit o1.core.cause → m.segments ≡ l.segments → m.limit ≡ l.words →
-    ((j : ℕ) → IsUnused (m.part j)) → t.store ≡ Some m → AnswerTo s failed t.history answer →
-    RunEnds p l answer a t b
+    ((j : ℕ) → IsUnused (m.part j)) → t.store ≡ Some m → t.reserved ≡ Some reserved →
+    AnswerTo s failed t.history answer → RunEnds p l answer a t b
 unfolding run_of
-handed_over {S} p l a b mid was m reserved o o1 s failed t answer h full segments words unused store e =
-    let same : record { history = o1.core.history; conflicts = o1.core.conflicts; store = t.store } ≡ t = λ i.
-    record { history = h.history_is i; conflicts = h.conflicts_are i; store = t.store } in
+handed_over {S} p l a b mid was m reserved o o1 s failed t answer h full segments words unused store taken e =
+    let same : record {
+      history = o1.core.history;
+      conflicts = o1.core.conflicts;
+      store = t.store;
+      reserved = t.reserved;
+    } ≡ t = λ i. record {
+      history = h.history_is i;
+      conflicts = h.conflicts_are i;
+      store = t.store;
+      reserved = t.reserved;
+    } in
     subst (λ (u : Told). RunEnds p l answer a u b) same (record {
       serial = run_of p l a b mid was m reserved failed o o1 s t.history t.conflicts h;
       store = record {
@@ -206,6 +220,9 @@ handed_over {S} p l a b mid was m reserved o o1 s failed t answer h full segment
         unused =
             unused;
       };
-      ended = answered p l a b mid was m reserved o o1 full words t.history t.conflicts s failed h answer
-          (subst (λ z. AnswerTo s failed z answer) (sym h.history_is) e);
+      ended = subst (λ z. RunEnded l z answer (faults_of a) (faults_of b)
+          (run_of p l a b mid was m reserved failed o o1 s t.history t.conflicts h)) (sym taken)
+          (answered p l a b mid was m reserved o o1 full words t.history t.conflicts s failed h answer
+          (subst (λ z. AnswerTo s failed z answer) (sym h.history_is) e));
+      counts = record { input = h.counts.reads; out = h.counts.writes; err = h.counts.errs };
     })

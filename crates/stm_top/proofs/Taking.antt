@@ -1,12 +1,13 @@
 -- Lines that are taken one after another make a script.
-use Rattle.std.proofs.Common.{◌≡◌, ◌≢◌, ℕ, zero, suc, ◌+◌, ◌-◌, ◌≤◌, Bool, true, false, cond, ◌==◌, List, [], ◌∷◌, ◌++◌, length, take, drop, Option, Some, None, IfSome, refl, sym, ap, subst, ◌∙◌, arith, append_assoc}
+use Rattle.std.proofs.Common.{◌≡◌, ◌≢◌, ℕ, zero, suc, ◌+◌, ◌-◌, ◌≤◌, Bool, true, false, cond, ◌==◌, List, [], ◌∷◌, ◌++◌, length, length-append, take, drop, Option, Some, None, IfSome, Result, Ok, Err, IfErr, refl, sym, ap, subst, ◌∙◌, arith, append_assoc}
+use Rattle.std.specs.Result.{IsErrAnd}
 use Rattle.std.specs.Io.BufRead.{take_through}
 use Rattle.std.proofs.Math.Seq.{drop-append-add, drop-append_seam}
 use Rattle.py_data.specs.World.{line_of, IsLine, shrunk}
 use Rattle.stm_io.specs.Outside.{SourceState, counted, Rose, ends_after, TakeStops}
 use Rattle.stm_io.specs.declared.error.TakeError.{TakeError}
 use Rattle.stm_io.specs.declared.error.TakeError.TheVariants.{Failed, OutOfMemory}
-use Rattle.stm_top.specs.Script.{TakenFrom, TakenSoFar, ScriptTaken, TakingFailed, TakingStopped}
+use Rattle.stm_top.specs.Script.{TakenFrom, TakenSoFar, ScriptTaken, TakingFailed, TakingWanted, TakingStopped}
 
 -- ---- a line is a front of what is left
 through_front : (b : ℕ) (xs : List ℕ) → (rest : List ℕ) × (xs ≡ take_through b xs ++ rest)
@@ -109,10 +110,39 @@ failed_there bytes a s u t h = record {
   rose = rose_later a.faults s.faults u.faults t.faults h.2;
 }
 
-pub stopped_there : (e : TakeError) (bytes : List ℕ) (a s u : SourceState) → TakenSoFar bytes a s → TakeStops e s u →
-    TakingStopped e a u
-stopped_there Failed bytes a s u t h = failed_there bytes a s u t h
-stopped_there OutOfMemory bytes a s u t h = tt
+-- ---- want of memory
+wanted_there : (bytes : List ℕ) (a s u : SourceState) → length bytes ≤ 4194305 → TakenSoFar bytes a s →
+    TakeStops OutOfMemory s u → s.faults ≤ u.faults → TakingWanted a u
+wanted_there bytes a s u b t h f = record {
+  bytes = bytes;
+  short = b;
+  so_far = record {
+    taken = subst (λ z. TakenFrom a.told bytes z) (sym h.0) t.taken;
+    ends = h.1 ∙ t.ends;
+    faults = let y = t.faults in omega (arith, y, f);
+  };
+}
+
+pub stopped_there : (e : TakeError) (bytes : List ℕ) (a s u : SourceState) → length bytes ≤ 4194305 →
+    TakenSoFar bytes a s → TakeStops e s u → s.faults ≤ u.faults → TakingStopped e a u
+stopped_there Failed bytes a s u b t h f = failed_there bytes a s u t h
+stopped_there OutOfMemory bytes a s u b t h f = wanted_there bytes a s u b t h f
+
+-- a call that ends so
+pub ends_so : {A : Type 0} (result : Result A TakeError) (e : TakeError) (a u : SourceState) → TakingStopped e a u →
+    IsErrAnd result (λ x. x ≡ e) → IfErr result (λ x. TakingStopped x a u)
+ends_so (Ok t) e a u s h = tt
+ends_so (Err x) e a u s h = subst (λ z. TakingStopped z a u) (sym h) s
+
+-- a line was taken, and there was no room for it
+pub no_room : (bytes l : List ℕ) (a s u : SourceState) (most : ℕ) → TakenSoFar bytes a s → length bytes ≤ 4194304 →
+    length l ≤ 4194305 - length bytes → IsLine s.told most l → u.told ≡ shrunk s.told (length l) →
+    u.ends ≡ ends_after l s.ends → s.faults ≤ u.faults → l ≢ [] → TakingStopped OutOfMemory a u
+no_room bytes l a s u most t b n i e z f h = record {
+  bytes = bytes ++ l;
+  short = room_more (length bytes) (length l) (length (bytes ++ l)) b n (length-append bytes l);
+  so_far = one_line_more bytes l a s u most t i e z f h;
+}
 
 nothing_taken : (told : Option (List ℕ)) → TakenFrom told [] told
 nothing_taken None = refl

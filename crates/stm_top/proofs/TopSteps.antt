@@ -1,11 +1,12 @@
 -- The steps of the top call, put together.
-use Rattle.std.proofs.Common.{◌≡◌, ◌≤◌, inl, inr, ℕ, ◌+◌, true, ◌==◌, List, [], ◌∷◌, ◌++◌, Option, Some, None, Ok, refl, sym, ap, subst, ◌∙◌, arith, append-nil, length, length-append, decimal}
+use Rattle.std.proofs.Common.{◌≡◌, ◌≤◌, inl, inr, ℕ, ◌+◌, true, false, ◌==◌, List, [], ◌∷◌, ◌++◌, Option, Some, None, Result, Ok, refl, sym, ap, subst, ◌∙◌, arith, append-nil, length, length-append, decimal}
 use Rattle.std.proofs.lemmas.Bool.Decides.{nat_tests}
 use Rattle.std.proofs.lemmas.Fmt.{length-decimal-le}
 use Rattle.py_base.specs.declared.refusal.Refusal.{Refusal}
 use Rattle.py_data.specs.declared.stop.Conflict.{Conflict}
 use Rattle.py_data.specs.World.{grown}
-use Rattle.stm_io.specs.Outside.{LoaderState, SourceState, SinkState, Rose}
+use Rattle.stm_io.specs.declared.error.PutError.{PutError}
+use Rattle.stm_io.specs.Outside.{LoaderState, SourceState, SinkState, Rose, Puts, PutCause}
 use Rattle.lock_run.specs.declared.turn.Turn.{Turn}
 use Rattle.lock_run.specs.Prog.{Prog}
 use Rattle.stm_core.specs.Events.{Limits}
@@ -18,7 +19,7 @@ use Rattle.stm_top.specs.declared.answer.Answer.{Answer}
 use Rattle.stm_top.specs.declared.answer.Answer.TheVariants.{Done, Failed, Usage, Refused, LoaderFailed, InputFailed, OutputFailed, ErrorOutputFailed, HeapFull, Stuck, BudgetSpent, OutOfMemory, ScriptTooLong}
 use Rattle.stm_top.specs.Script.{Origin, Taken, AskedAtMost}
 use Rattle.stm_top.specs.Serial.{Serial}
-use Rattle.stm_top.specs.TopCall.{Devices, Told, origin, limits_of, Faults, faults_of, RunEnded, NothingRan, TextPut, Ran, CausedBy}
+use Rattle.stm_top.specs.TopCall.{Devices, Told, origin, limits_of, Faults, faults_of, NoneFell, RunEnded, NothingRan, TextPut, Ran, CausedBy}
 use Rattle.stm_top.specs.inner.Ending.{NoScript, RunEnds, ThreadsEnded, NoProgram, TextEnded}
 
 -- no text is put where there is none
@@ -28,6 +29,7 @@ nothing_put text s e = record {
   puts = sym (ap (grown s.told) e ∙ grown_nothing s.told);
   cause =
       omega arith;
+  empty = λ q. refl;
 }
   where
     grown_nothing : (o : Option (List ℕ)) → grown o [] ≡ o
@@ -38,12 +40,21 @@ pub no_bytes : (text : List ℕ) → (length text == 0) ≡ true → text ≡ []
 no_bytes [] e = refl
 no_bytes (b ∷ bs) e = absurd (grind (arith, nat_tests, e))
 
--- ---- a script that was taken
-taken_asks : (script : Script) (text : List ℕ) (x y : Origin) → Taken script text x y → AskedAtMost script x y
-taken_asks Source text x y h = h.1
-taken_asks (File name) text x y h = (inr h.0.asked, h.2)
-taken_asks (Demo n) text x y h = (h.1, h.2)
+-- a text that has a byte was put
+pub text_put : (text : List ℕ) (s u : SinkState) (result : Result (Unit {0}) PutError) →
+    (length text == 0) ≡ false → Puts s.told text result u.told → PutCause s.faults u.faults result → TextPut text s u
+text_put text s u result e puts cause = record {
+  result = result;
+  puts = puts;
+  cause = cause;
+  empty = λ q. absurd (some text q e);
+}
+  where
+    some : (text : List ℕ) → text ≡ [] → (length text == 0) ≡ false → ⊥
+    some [] q e = absurd (grind (arith, nat_tests, e))
+    some (b ∷ bs) q e = absurd (cc)
 
+-- ---- a script that was taken
 taken_later : (script : Script) (text : List ℕ) (x y : Origin) → Taken script text x y → x.input.faults ≤ y.input.faults
 taken_later Source text x y h = h.0.faults
 taken_later (File name) text x y h = let e = ap (λ (s : SourceState). s.faults) h.2 in omega (arith, e)
@@ -82,22 +93,29 @@ rose_after a b c l r = omega (arith, l, r)
 
 -- the source counted no fewer failures after the script was taken than before
 earlier : (answer : Answer) {input out err : Option (List ℕ)} {history : List Turn} {conflicts : List Conflict}
-    {input1 out1 err1 : Option (List ℕ)} {S : Type 0} {p : Prog S} {n : ℕ} (l : Limits) (a a1 b : Faults)
-    (r : Serial p n input out err history conflicts input1 out1 err1)
-    → a.input ≤ a1.input → a1.out ≡ a.out → a1.err ≡ a.err → RunEnded l answer a1 b r → RunEnded l answer a b r
-earlier Done l a a1 b r i o e h = h
-earlier Failed l a a1 b r i o e h = h
-earlier InputFailed l a a1 b r i o e h = (h.0, rose_after a.input a1.input b.input i h.1)
-earlier OutputFailed l a a1 b r i o e h = (h.0, subst (λ z. Rose z b.out) o h.1)
-earlier ErrorOutputFailed l a a1 b r i o e h = (h.0, subst (λ z. Rose z b.err) e h.1)
-earlier (HeapFull reserved need limit) l a a1 b r i o e h = h
-earlier Stuck l a a1 b r i o e h = h
-earlier (BudgetSpent steps) l a a1 b r i o e h = h
-earlier OutOfMemory l a a1 b r i o e h = h
-earlier Usage l a a1 b r i o e h = h
-earlier (Refused refusal) l a a1 b r i o e h = h
-earlier LoaderFailed l a a1 b r i o e h = h
-earlier ScriptTooLong l a a1 b r i o e h = h
+    {input1 out1 err1 : Option (List ℕ)} {S : Type 0} {p : Prog S} {n : ℕ} (l : Limits) (w : Option ℕ)
+    (a a1 b : Faults) (r : Serial p n input out err history conflicts input1 out1 err1)
+    → a.input ≤ a1.input → a1.out ≡ a.out → a1.err ≡ a.err → RunEnded l w answer a1 b r → RunEnded l w answer a b r
+earlier Done l w a a1 b r i o e h = h
+earlier Failed l w a a1 b r i o e h = h
+earlier InputFailed l w a a1 b r i o e h = (h.0, rose_after a.input a1.input b.input i h.1)
+earlier OutputFailed l w a a1 b r i o e h = (h.0, subst (λ z. Rose z b.out) o h.1)
+earlier ErrorOutputFailed l w a a1 b r i o e h = (h.0, subst (λ z. Rose z b.err) e h.1)
+earlier (HeapFull reserved need limit) l w a a1 b r i o e h = h
+earlier Stuck l w a a1 b r i o e h = h
+earlier (BudgetSpent steps) l w a a1 b r i o e h = h
+earlier OutOfMemory l w a a1 b r i o e h = h
+earlier Usage l w a a1 b r i o e h = h
+earlier (Refused refusal) l w a a1 b r i o e h = h
+earlier LoaderFailed l w a a1 b r i o e h = h
+earlier ScriptTooLong l w a a1 b r i o e h = h
+
+none_fell : (a a1 b : Faults) → a.input ≤ a1.input → a1.out ≡ a.out → a1.err ≡ a.err → NoneFell a1 b → NoneFell a b
+none_fell a a1 b i o e h = record {
+  input = let y = h.input in omega (arith, i, y);
+  out = let y = h.out in omega (arith, o, y);
+  err = let y = h.err in omega (arith, e, y);
+}
 
 -- the devices once a script was taken
 abbrev pub with_origin : Devices → Origin → Devices
@@ -114,7 +132,7 @@ module _ {P S : Type 0} (is_code : List ℕ → P → Type 0) (refused : List �
   no_script LoaderFailed x e n h = (n, subst (NoScript LoaderFailed o.script (origin a)) (sym e) h)
   no_script InputFailed x e n h = inl (n, subst (NoScript InputFailed o.script (origin a)) (sym e) h)
   no_script ScriptTooLong x e n h = (n, subst (NoScript ScriptTooLong o.script (origin a)) (sym e) h)
-  no_script OutOfMemory x e n h = inl (n, subst (NoScript OutOfMemory o.script (origin a)) (sym e) h)
+  no_script OutOfMemory x e n h = inl (n, inl (subst (NoScript OutOfMemory o.script (origin a)) (sym e) h))
   no_script Done x e n h = absurd h
   no_script Failed x e n h = absurd h
   no_script Usage x e n h = absurd h
@@ -131,7 +149,7 @@ module _ {P S : Type 0} (is_code : List ℕ → P → Type 0) (refused : List �
     as_before n = record { history = n.history; conflicts = n.conflicts; store = n.store; out = n.out; err = n.err }
 
     asks : origin b ≡ x → AskedAtMost o.script (origin a) (origin b)
-    asks e = subst (AskedAtMost o.script (origin a)) (sym e) (taken_asks o.script text (origin a) x taken)
+    asks e = inr (text, subst (Taken o.script text (origin a)) (sym e) taken)
 
     unmade : (answer : Answer) → origin b ≡ x → NothingRan (with_origin a x) t b →
         NoProgram is_code refused rows text answer → Caused answer
@@ -160,14 +178,16 @@ module _ {P S : Type 0} (is_code : List ℕ → P → Type 0) (refused : List �
         is = is;
         serial = r.serial;
         store = r.store;
+        counts = none_fell (faults_of a) (faults_of (with_origin a x)) (faults_of b)
+            (taken_later o.script text (origin a) x taken) refl refl r.counts;
       }
 
       ended : (answer : Answer) (e : b.loader ≡ x.loader)
           (r : RunEnds (rows program) (limits_of o) answer (with_origin a x) t b) →
-          RunEnded (limits_of o) answer (faults_of a) (faults_of b) (ran answer e r).serial
+          RunEnded (limits_of o) t.reserved answer (faults_of a) (faults_of b) (ran answer e r).serial
       unfolding ran
-      ended answer e r = earlier answer (limits_of o) (faults_of a) (faults_of (with_origin a x)) (faults_of b)
-          r.serial (taken_later o.script text (origin a) x taken) refl refl r.ended
+      ended answer e r = earlier answer (limits_of o) t.reserved (faults_of a) (faults_of (with_origin a x))
+          (faults_of b) r.serial (taken_later o.script text (origin a) x taken) refl refl r.ended
 
       caused : (answer : Answer) → b.loader ≡ x.loader → RunEnds (rows program) (limits_of o) answer (with_origin a x)
           t b → Caused answer

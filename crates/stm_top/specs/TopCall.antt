@@ -1,6 +1,6 @@
 -- What the top call does, and why it answers as it does. States `docs/LANGUAGE.md`, "The top call".
 use Rattle.std.specs.String.{string_bytes}
-use Rattle.std.specs.Prelude.{◌≡◌, ◌⊎◌, String, ℕ, ◌+◌, ◌<◌, map, List, [], Option, Some, None, Result}
+use Rattle.std.specs.Prelude.{◌≡◌, ◌⊎◌, String, ℕ, ◌+◌, ◌*◌, ◌<◌, ◌≤◌, map, List, [], Option, Some, None, option_map, Result}
 use Rattle.py_data.specs.declared.stop.Conflict.{Conflict}
 use Rattle.py_data.specs.Heap.{Heap}
 use Rattle.py_base.specs.declared.refusal.Refusal.{Refusal}
@@ -38,11 +38,20 @@ devices_of loader_of source sink error_sink loader input out err =
 abbrev pub origin : Devices → Origin
 origin d = record { loader = d.loader; input = d.input }
 
--- what a call reports beside its status and its text
+-- what a call reports beside its status and its text: of the store what it means, and how many words it has reserved
 pub record Told : Type 0 where
   pub history : List Turn
   pub conflicts : List Conflict
   pub store : Option Meaning
+  pub reserved : Option ℕ
+
+abbrev pub told_of : {S : Type 0} → (S → Meaning) → (S → ℕ) → List Turn → List Conflict → Option S → Told
+told_of meaning words history conflicts store = record {
+  history = history;
+  conflicts = conflicts;
+  store = option_map meaning store;
+  reserved = option_map words store;
+}
 
 -- the bytes of words
 abbrev pub bytes_of : {Z : Type 0} → List (String Z) → List (List ℕ)
@@ -50,10 +59,9 @@ bytes_of words = map string_bytes words
 
 -- ---- where threads ran
 
--- how many words a store of so many pages has at most: a store of maps counts no words, whatever the pages, and is
--- never full
+-- how many words a store of so many pages has at most
 abbrev pub store_words : ℕ → ℕ
-store_words pages = 18_446_744_073_709_551_615
+store_words pages = 512 * pages
 
 -- what stays the same in a run: the most steps of a turn, the steps at which no turn begins any more, the segments, and
 -- the words
@@ -78,22 +86,33 @@ pub record Faults : Type 0 where
 abbrev pub faults_of : Devices → Faults
 faults_of d = record { input = d.input.faults; out = d.out.faults; err = d.err.faults }
 
--- why a run came to its end, with the counts of failures before it and after it
+-- no count of failures fell
+pub record NoneFell (a b : Faults) : Type 0 where
+  pub input : a.input ≤ b.input
+  pub out : a.out ≤ b.out
+  pub err : a.err ≤ b.err
+
+-- the report's store has reserved at least so many words
+abbrev pub HasReserved : ℕ → Option ℕ → Type 0
+HasReserved words reserved = (most : ℕ) × (reserved ≡ Some most) × (words ≤ most)
+
+-- why a run came to its end, with the words that the report's store has reserved, and the counts of failures before the
+-- run and after it
 abbrev pub RunEnded : {S : Type 0} {p : Prog S} {length : ℕ} {input out err : Option (List ℕ)} {history : List Turn}
-    {conflicts : List Conflict} {input1 out1 err1 : Option (List ℕ)} → Limits → Answer → Faults → Faults
+    {conflicts : List Conflict} {input1 out1 err1 : Option (List ℕ)} → Limits → Option ℕ → Answer → Faults → Faults
     → Serial p length input out err history conflicts input1 out1 err1 → Type 0
-RunEnded {p = p} l Done a b r = IsWhole r.ended × IsDone p r.machine × (FirstFailed p r.machine → ⊥)
-RunEnded {p = p} l Failed a b r = IsWhole r.ended × IsDone p r.machine × FirstFailed p r.machine
-RunEnded l InputFailed a b r = IsCutBy ReadFault r.ended × Rose a.input b.input
-RunEnded l OutputFailed a b r = IsCutBy WriteFault r.ended × Rose a.out b.out
-RunEnded l ErrorOutputFailed a b r = IsCutBy ErrFault r.ended × Rose a.err b.err
-RunEnded {p = p} l (HeapFull reserved need limit) a b r =
-    SomeLives p r.machine × (limit ≡ l.words) × (limit < reserved + need)
-RunEnded {p = p} l Stuck a b r = IsWhole r.ended × IsStuck p r.machine
-RunEnded {p = p} {history = history} l (BudgetSpent steps) a b r =
+RunEnded {p = p} l w Done a b r = IsWhole r.ended × IsDone p r.machine × (FirstFailed p r.machine → ⊥)
+RunEnded {p = p} l w Failed a b r = IsWhole r.ended × IsDone p r.machine × FirstFailed p r.machine
+RunEnded l w InputFailed a b r = IsCutBy ReadFault r.ended × Rose a.input b.input
+RunEnded l w OutputFailed a b r = IsCutBy WriteFault r.ended × Rose a.out b.out
+RunEnded l w ErrorOutputFailed a b r = IsCutBy ErrFault r.ended × Rose a.err b.err
+RunEnded {p = p} l w (HeapFull reserved need limit) a b r =
+    SomeLives p r.machine × (limit ≡ l.words) × (limit < reserved + need) × HasReserved reserved w
+RunEnded {p = p} l w Stuck a b r = IsWhole r.ended × IsStuck p r.machine
+RunEnded {p = p} {history = history} l w (BudgetSpent steps) a b r =
     IsWhole r.ended × IsSpent p l.budget history r.machine × (steps ≡ steps_done history)
-RunEnded {p = p} l OutOfMemory a b r = SomeLives p r.machine
-RunEnded l _ a b r = ⊥
+RunEnded {p = p} l w OutOfMemory a b r = SomeLives p r.machine
+RunEnded l w _ a b r = ⊥
 
 -- ---- the whole call
 
@@ -109,11 +128,12 @@ pub record NothingRan (a : Devices) (t : Told) (b : Devices) : Type 0 where
 abbrev pub NothingTaken : Devices → Devices → Type 0
 NothingTaken a b = origin b ≡ origin a
 
--- a text was put to an output, whole, or as far as a counted failure or want of memory let it
+-- A text was put to an output, whole, or as far as a counted failure or want of memory let it. An empty one wasn't put.
 pub record TextPut (text : List ℕ) (before now : SinkState) : Type 0 where
   pub result : Result (Unit {0}) PutError
   pub puts : Puts before.told text result now.told
   pub cause : PutCause before.faults now.faults result
+  pub empty : text ≡ [] → now ≡ before
 
 -- P: programs; `is_code` says which program a text has, `refused` why it has none, and `rows` what a program's threads
 -- do
@@ -130,10 +150,12 @@ module _ {P S : Type 0} (is_code : List ℕ → P → Type 0) (refused : List �
     pub serial : Serial (rows program) o.length source.told a.out.told a.err.told t.history t.conflicts b.input.told
         b.out.told b.err.told
     pub store : IsLeft (limits_of o) serial.machine.heap t.store
+    pub counts : NoneFell (faults_of a) (faults_of b)
 
   -- and the run came to its end so
   abbrev pub RanTo : Answer → Options → Devices → Told → Devices → Type 0
-  RanTo answer o a t b = (r : Ran o a t b) × RunEnded (limits_of o) answer (faults_of a) (faults_of b) r.serial
+  RanTo answer o a t b = (r : Ran o a t b) ×
+      RunEnded (limits_of o) t.reserved answer (faults_of a) (faults_of b) r.serial
 
   -- the cause of each answer, with these options
   abbrev pub CausedBy : Answer → Options → Devices → Told → Devices → Type 0

@@ -1,17 +1,18 @@
 //! The run of a program's threads, as transactions on a core.
-ghost use Rattle.std.specs.Prelude.{◌≡◌, [], None, IfSome, option_map};
+ghost use Rattle.std.specs.Prelude.{◌≡◌, [], None, IfSome};
 ghost use Rattle.lock_run.specs.Client.{IsSoundFirst};
 ghost use Rattle.lock_run.specs.RunState.{steps_done};
-ghost use Rattle.seg_store.specs.Plain.{plain_meaning};
+ghost use Rattle.paged_store.specs.Stores.{paged_meaning, reserved_of};
 ghost use Rattle.stm_core.specs.CoreHeld.{core_client, core_limits, IsGoodCore, HasDevices};
 ghost use Rattle.stm_words.specs.Options.{IsWithin};
-ghost use Rattle.stm_top.specs.TopCall.{devices_of};
+ghost use Rattle.stm_top.specs.TopCall.{devices_of, told_of};
 ghost use Rattle.stm_top.specs.inner.Ending.{answer_to, AnswerTo, RunEnds, ThreadsEnded};
 
 use crate::answer::Answer;
 use lock_run::{Client, History};
+use paged_store::PagedStore;
 use py_data::Conflicts;
-use seg_store::{PlainStore, SegStore};
+use seg_store::SegStore;
 use std::alloc::Global;
 use std::sync::Wait;
 use std::thread::Threads;
@@ -127,7 +128,7 @@ where
     requires good { IsGoodCore I.state O.state E.state C.prog C.sound S.reserved S.meaning core }
     ensures loader { result.outside.loader ≡ loader }
     ensures ended { (i : I) (o : O) (e : E) → HasDevices i o e core.entry → RunEnds (C.prog (core_client core.entry)) (core_limits S.meaning core.entry) result.answer (devices_of L.state I.state O.state E.state loader i o e)
-        (record { history = result.history.entries; conflicts = result.conflicts.entries; store = option_map S.meaning result.store }) (devices_of L.state I.state O.state E.state result.outside.loader result.outside.input result.outside.out result.outside.err) }
+        (told_of S.meaning S.reserved result.history.entries result.conflicts.entries result.store) (devices_of L.state I.state O.state E.state result.outside.loader result.outside.input result.outside.out result.outside.err) }
 {
     let core = run_workers(rt, alloc, core, gate);
     let Finished {
@@ -170,15 +171,15 @@ pub(crate) fn run_threads<
     options: &Options,
     outside: Outside<L, I, O, E>,
     gate: &G,
-) -> End<PlainStore, L, I, O, E>
+) -> End<PagedStore, L, I, O, E>
 where
     C::State: Send,
     requires first { IsSoundFirst (C.prog client.now) (C.sound client.now) }
     requires options { IsWithin options.now }
     ensures ended { ThreadsEnded (C.prog client.now) options.now result.answer (devices_of L.state I.state O.state E.state outside.loader outside.input outside.out outside.err)
-        (record { history = result.history.entries; conflicts = result.conflicts.entries; store = option_map plain_meaning result.store }) (devices_of L.state I.state O.state E.state result.outside.loader result.outside.input result.outside.out result.outside.err) }
+        (told_of paged_meaning reserved_of result.history.entries result.conflicts.entries result.store) (devices_of L.state I.state O.state E.state result.outside.loader result.outside.input result.outside.out result.outside.err) }
 {
-    let store = match PlainStore::new(alloc, options.segments) {
+    let store = match PagedStore::new(alloc, options.segments, options.pages) {
         Ok(store) => store,
         Err(_) => return nothing_ran(alloc, Answer::OutOfMemory, outside),
     };

@@ -1,10 +1,10 @@
 //! The top call: from the words to the end of the run.
-ghost use Rattle.std.specs.Prelude.{◌≡◌, ◌≤◌, length, option_map};
+ghost use Rattle.std.specs.Prelude.{◌≡◌, ◌≤◌, length};
 ghost use Rattle.py_frames.specs.Laws.{prog_of};
-ghost use Rattle.seg_store.specs.Plain.{plain_meaning};
+ghost use Rattle.paged_store.specs.Stores.{paged_meaning, reserved_of};
 ghost use Rattle.stm_words.specs.Options.{IsWithin};
 ghost use Rattle.stm_top.specs.TextCode.{HasCode, IsRefused};
-ghost use Rattle.stm_top.specs.TopCall.{devices_of, bytes_of, Caused, CausedBy, TextPut, Answered};
+ghost use Rattle.stm_top.specs.TopCall.{devices_of, told_of, bytes_of, Caused, CausedBy, TextPut, Answered};
 ghost use Rattle.stm_top.specs.inner.Ending.{TextEnded};
 
 use crate::answer::Answer;
@@ -13,9 +13,9 @@ use crate::script::take_script;
 use crate::status::Status;
 use crate::text_code::{TextFault, compile_text};
 use lock_run::History;
+use paged_store::PagedStore;
 use py_data::{Bytes, Conflicts};
 use py_step::PyClient;
-use seg_store::PlainStore;
 use std::alloc::Global;
 use std::sync::Wait;
 use std::thread::Threads;
@@ -34,7 +34,7 @@ pub struct Report<L, I, O, E> {
     /// The conflicts that transactions lost, each once, in the order in which they did. It is empty where nothing ran.
     pub conflicts: Conflicts,
     /// The heap that the run used. There is none where nothing ran.
-    pub store: Option<PlainStore>,
+    pub store: Option<PagedStore>,
     pub loader: L,
     pub input: I,
     pub out: O,
@@ -56,11 +56,11 @@ fn run_text<
     options: &Options,
     outside: Outside<L, I, O, E>,
     gate: &G,
-) -> End<PlainStore, L, I, O, E>
+) -> End<PagedStore, L, I, O, E>
     requires short { length text.now ≤ 4194304 }
     requires options { IsWithin options.now }
     ensures ended { TextEnded HasCode IsRefused prog_of text.now options.now result.answer (devices_of L.state I.state O.state E.state outside.loader outside.input outside.out outside.err)
-        (record { history = result.history.entries; conflicts = result.conflicts.entries; store = option_map plain_meaning result.store }) (devices_of L.state I.state O.state E.state result.outside.loader result.outside.input result.outside.out result.outside.err) }
+        (told_of paged_meaning reserved_of result.history.entries result.conflicts.entries result.store) (devices_of L.state I.state O.state E.state result.outside.loader result.outside.input result.outside.out result.outside.err) }
 {
     let program = match compile_text(alloc, text) {
         Ok(program) => program,
@@ -89,10 +89,10 @@ fn run_script<
     options: &Options,
     mut outside: Outside<L, I, O, E>,
     gate: &G,
-) -> End<PlainStore, L, I, O, E>
+) -> End<PagedStore, L, I, O, E>
     requires options { IsWithin options.now }
     ensures cause { CausedBy HasCode IsRefused prog_of result.answer options.now (devices_of L.state I.state O.state E.state outside.loader outside.input outside.out outside.err)
-        (record { history = result.history.entries; conflicts = result.conflicts.entries; store = option_map plain_meaning result.store }) (devices_of L.state I.state O.state E.state result.outside.loader result.outside.input result.outside.out result.outside.err) }
+        (told_of paged_meaning reserved_of result.history.entries result.conflicts.entries result.store) (devices_of L.state I.state O.state E.state result.outside.loader result.outside.input result.outside.out result.outside.err) }
 {
     match take_script(
         alloc,
@@ -119,9 +119,9 @@ fn run_named<
     words: &[String],
     outside: Outside<L, I, O, E>,
     gate: &G,
-) -> End<PlainStore, L, I, O, E>
+) -> End<PagedStore, L, I, O, E>
     ensures cause { Caused HasCode IsRefused prog_of result.answer (bytes_of words.now) (devices_of L.state I.state O.state E.state outside.loader outside.input outside.out outside.err)
-        (record { history = result.history.entries; conflicts = result.conflicts.entries; store = option_map plain_meaning result.store }) (devices_of L.state I.state O.state E.state result.outside.loader result.outside.input result.outside.out result.outside.err) }
+        (told_of paged_meaning reserved_of result.history.entries result.conflicts.entries result.store) (devices_of L.state I.state O.state E.state result.outside.loader result.outside.input result.outside.out result.outside.err) }
 {
     match read_words(alloc, words) {
         Ok(options) => run_script(rt, alloc, &options, outside, gate),
@@ -168,8 +168,8 @@ pub fn run_words<
     err: E,
     gate: &G,
 ) -> Report<L, I, O, E>
-    ensures { Answered HasCode IsRefused prog_of (bytes_of words.now) (devices_of L.state I.state O.state E.state loader input out err) result.status result.text
-        (record { history = result.history.entries; conflicts = result.conflicts.entries; store = option_map plain_meaning result.store }) (devices_of L.state I.state O.state E.state result.loader result.input result.out result.err) }
+    ensures answered { Answered HasCode IsRefused prog_of (bytes_of words.now) (devices_of L.state I.state O.state E.state loader input out err) result.status result.text
+        (told_of paged_meaning reserved_of result.history.entries result.conflicts.entries result.store) (devices_of L.state I.state O.state E.state result.loader result.input result.out result.err) }
 {
     let outside = Outside {
         loader,

@@ -3,7 +3,6 @@ use denote.RattleType.{RattleType}
 use denote.Ref.{NamedLft}
 use denote.Struct.Struct.{Struct}
 use denote.Struct.Declared as struct
-use denote.Enum.Enum.{Enum}
 use denote.Enum.Declared as enum
 use denote.Param.Send.{IsSend, IsSync, sendable, recorded_send, struct_send, enum_send}
 use Rattle.std.proofs.Crossing.{crosses}

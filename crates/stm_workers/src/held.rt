@@ -6,7 +6,7 @@ ghost use Rattle.stm_workers.specs.Growth.{Grows};
 ghost use Rattle.stm_workers.specs.inner.GrowthLaws.{grows_same, grows_then};
 
 use crate::crew::Crew;
-use crate::visits::visit;
+use crate::visits::{Finding, visit};
 use heap_lock::Job;
 use lock_run::Client;
 use seg_store::SegStore;
@@ -61,7 +61,7 @@ impl<'p, C: Client, S: SegStore, I: Source, O: Sink, E: Sink> Crew<Held<'p, C, S
 
     ghost workers = { λ w. w.workers };
 
-    fn visit(&self, value: &mut Held<'p, C, S, I, O, E>, k: u8) -> bool
+    fn visit(&self, value: &mut Held<'p, C, S, I, O, E>, k: u8) -> Finding
         requires good { IsGoodCore I.state O.state E.state C.prog C.sound S.reserved S.meaning value.old.core }
         requires serves { (core_job S.meaning value.old.core).segments ≡ self.now.workers }
         requires worker { k < self.now.workers }

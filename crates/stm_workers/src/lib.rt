@@ -7,5 +7,5 @@ mod visits;
 mod workers;
 
 pub use held::{CoreJob, Held};
-pub use visits::visit;
+pub use visits::{Finding, visit};
 pub use workers::run_workers;

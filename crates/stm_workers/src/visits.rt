@@ -1,5 +1,5 @@
 //! What a worker does at one visit to a core.
-ghost use Rattle.std.specs.Prelude.{◌≡◌, ◌<◌, ◌≤◌, true};
+ghost use Rattle.std.specs.Prelude.{◌≡◌, ◌≢◌, ◌<◌, ◌≤◌, true};
 ghost use Rattle.stm_core.specs.CoreHeld.{core_limits, Says, IsGoodCore, SameJob};
 ghost use Rattle.stm_core.specs.Events.{is_busy, is_within, may_make};
 ghost use Rattle.stm_core.specs.declared.events.Event.{Event};
@@ -11,6 +11,26 @@ use lock_run::Client;
 use seg_store::SegStore;
 use stm_core::{Advance, AdvanceError, Core, RunState, Slot, SoloError, events_law};
 use stm_io::{Sink, Source};
+
+/// What a visit found.
+#[derive(Clone, Copy, Debug)]
+pub enum Finding {
+    /// The run has ended. Nothing was done.
+    Ended,
+    /// The segment had something in hand, be it that a transaction began there.
+    Worked,
+    /// There was nothing to do, and no thread was ready.
+    Idle,
+}
+
+impl Finding {
+    /// It is the worker's last.
+    pub(crate) fn is_last(self) -> bool
+        ensures { result ≡ true → self ≡ Finding.Ended }
+    {
+        matches!(self, Finding::Ended)
+    }
+}
 
 /// The most steps of one visit.
 const VISIT_STEPS: u64 = 100;
@@ -239,11 +259,11 @@ fn has_ended<C: Client, S: SegStore, I: Source, O: Sink, E: Sink>(
     }
 }
 
-/// What a segment has in hand goes on, be it that a transaction begins there now.
+/// What a segment has in hand goes on, be it that a transaction begins there now: whether it has something.
 fn work<C: Client, S: SegStore, I: Source, O: Sink, E: Sink>(
     core: &mut Core<'_, C, S, I, O, E>,
     k: u8,
-)
+) -> bool
     requires good { IsGoodCore I.state O.state E.state C.prog C.sound S.reserved S.meaning core.old }
     requires segment { k < (core_limits S.meaning core.old).segments }
     ensures good { IsGoodCore I.state O.state E.state C.prog C.sound S.reserved S.meaning core.new }
@@ -251,10 +271,23 @@ fn work<C: Client, S: SegStore, I: Source, O: Sink, E: Sink>(
     ensures grows { Grows I.state O.state E.state C.prog S.meaning core.old core.new }
 {
     begin_next(core, k);
+    let is_busy = is_busy(core.slot(k));
     go_on(core, k);
+    is_busy
 }
 
-/// One visit of the worker of segment `k`: whether the run has ended, and then nothing is done.
+/// What a visit found where the run goes on.
+fn found(is_busy: bool) -> Finding
+    ensures { result ≢ Finding.Ended }
+{
+    if is_busy {
+        Finding::Worked
+    } else {
+        Finding::Idle
+    }
+}
+
+/// One visit of the worker of segment `k`, and what it found.
 ///
 /// Where nothing is in hand a transaction of the next ready thread begins. Then at most `VISIT_STEPS` steps are done, up to the
 /// length. What has as many steps as the length, or waits, or has ended, is committed; what is to print or read becomes solo, or is
@@ -262,17 +295,16 @@ fn work<C: Client, S: SegStore, I: Source, O: Sink, E: Sink>(
 pub fn visit<C: Client, S: SegStore, I: Source, O: Sink, E: Sink>(
     core: &mut Core<'_, C, S, I, O, E>,
     k: u8,
-) -> bool
+) -> Finding
     requires good { IsGoodCore I.state O.state E.state C.prog C.sound S.reserved S.meaning core.old }
     requires segment { k < (core_limits S.meaning core.old).segments }
     ensures good { IsGoodCore I.state O.state E.state C.prog C.sound S.reserved S.meaning core.new }
     ensures job { core_job S.meaning core.new ≡ core_job S.meaning core.old }
     ensures grows { Grows I.state O.state E.state C.prog S.meaning core.old core.new }
-    ensures over { result ≡ true → HasEnded I.state O.state E.state C.prog S.meaning core.new }
+    ensures over { result ≡ Finding.Ended → HasEnded I.state O.state E.state C.prog S.meaning core.new }
 {
     if has_ended(core) {
-        return true;
+        return Finding::Ended;
     }
-    work(core, k);
-    false
+    found(work(core, k))
 }

@@ -33,7 +33,7 @@ fn finish<'p, C: Client, S: SegStore, I: Source, O: Sink, E: Sink, Rt: Wait>(
 {
     for _ in rt.forever() {
         'segments: for k in 0..segments {
-            if visit(&mut core, k) {
+            if visit(&mut core, k).is_last() {
                 return core;
             }
         }
@@ -68,7 +68,7 @@ where
     ensures grows { All (λ y. Grows I.state O.state E.state C.prog S.meaning y.core result.core) seat.entry.seen }
 {
     let hands = Hands { workers };
-    let seat = run_all(rt, &lock, seat, &hands, workers);
+    let seat = run_all(rt, &lock, seat, &hands, workers, workers == 1);
     lock.close(seat)
 }
 

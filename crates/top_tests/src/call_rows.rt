@@ -206,7 +206,7 @@ fn words_are_refused(rt: HostRuntime) -> Tested {
 /// A script comes from the source, or from the file of the one name that the loader knows.
 #[test]
 fn words_name_scripts(rt: HostRuntime) -> Tested {
-    for text in ["-", "-- -", "--segments 4 -", "--length=1 --pages 1 -"] {
+    for text in ["-", "-- -", "--segments 4 -", "--length=1 --pages 2 -"] {
         let shown = word_answer(&rt, rt.alloc(), text, NO_FAILURE)?;
         assert_eq!(rt; shown.as_str(), "0~2;~~0~1", "{text:?}");
     }

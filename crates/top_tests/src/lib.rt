@@ -16,6 +16,8 @@ mod history_rows;
 #[cfg(test)]
 mod names_rows;
 #[cfg(test)]
+mod page_rows;
+#[cfg(test)]
 mod program_rows;
 #[cfg(test)]
 mod text_rows;

@@ -124,29 +124,60 @@ fn exception_ends_a_thread(rt: HostRuntime) -> Tested {
     Ok(())
 }
 
-/// What the workload of the number 7 answers on so many segments, with transactions of at most so many steps.
-fn workload<Rt: Abort + Threads + Wait + Sync>(
+/// The workload of the number 7 writes the same on so many segments, however long its transactions may be.
+fn workload_is_done<Rt: Abort + Threads + Wait + Sync>(
     rt: &Rt,
     alloc: Global,
     segments: u8,
-    length: u32,
-) -> Result<String, NoMemory> {
-    let words = format!(in alloc; "--demo 7 --segments={segments} --length {length}")?;
-    answer(rt, alloc, words.as_str(), b"")
-}
-
-/// The workload writes the same, however many segments there are and however long its transactions may be.
-#[test]
-fn workload_is_done(rt: HostRuntime) -> Tested {
-    for segments in 1..=8 {
-        for length in [1, 7, 1_000] {
-            let shown = workload(&rt, rt.alloc(), segments, length)?;
-            assert_eq!(rt;
-                shown.as_str(),
-                "0~total 8000;transfers 10000;~",
-                "{segments} segments, {length} steps"
-            );
-        }
+) -> Tested {
+    for length in [1, 7, 1_000] {
+        let words = format!(in alloc; "--demo 7 --segments={segments} --length {length}")?;
+        let shown = answer(rt, alloc, words.as_str(), b"")?;
+        assert_eq!(rt;
+            shown.as_str(),
+            "0~total 8000;transfers 10000;~",
+            "{length} steps"
+        );
     }
     Ok(())
+}
+
+#[test]
+fn workload_is_done_on_one_segment(rt: HostRuntime) -> Tested {
+    workload_is_done(&rt, rt.alloc(), 1)
+}
+
+#[test]
+fn workload_is_done_on_two_segments(rt: HostRuntime) -> Tested {
+    workload_is_done(&rt, rt.alloc(), 2)
+}
+
+#[test]
+fn workload_is_done_on_three_segments(rt: HostRuntime) -> Tested {
+    workload_is_done(&rt, rt.alloc(), 3)
+}
+
+#[test]
+fn workload_is_done_on_four_segments(rt: HostRuntime) -> Tested {
+    workload_is_done(&rt, rt.alloc(), 4)
+}
+
+#[test]
+fn workload_is_done_on_five_segments(rt: HostRuntime) -> Tested {
+    workload_is_done(&rt, rt.alloc(), 5)
+}
+
+#[test]
+fn workload_is_done_on_six_segments(rt: HostRuntime) -> Tested {
+    workload_is_done(&rt, rt.alloc(), 6)
+}
+
+#[test]
+fn workload_is_done_on_seven_segments(rt: HostRuntime) -> Tested {
+    workload_is_done(&rt, rt.alloc(), 7)
+}
+
+#[test]
+fn workload_is_done_on_eight_segments(rt: HostRuntime) -> Tested {
+    workload_is_done(&rt, rt.alloc(), 8)
 }

@@ -124,7 +124,7 @@ impl<'p, C: Client, S: SegStore, I: Source, O: Sink, E: Sink> Watch<Held<'p, C, 
         ensures grows { Grows I.state O.state E.state C.prog S.meaning value.old.core value.new.core }
     {
         let core = &mut value.core;
-        visit(core, k);
+        let _ = visit(core, k);
     }
 
     fn turns(&self, value: &Held<'p, C, S, I, O, E>) -> usize

@@ -1,10 +1,11 @@
 -- Extents that are claimed for a record, and claims that are refused. What code and proofs say to each other: nothing
 -- public
 -- rests on it.
-use Rattle.std.specs.Prelude.{◌≡◌, ℕ, ◌+◌, ◌^◌, ◌<◌, ◌≤◌, Bool, cond, ◌&&◌, eqb, ltb, leb, List, [], ◌∷◌, length}
+use Rattle.std.specs.Prelude.{◌≡◌, ℕ, ◌+◌, ◌^◌, ◌<◌, ◌≤◌, Bool, cond, ◌&&◌, eqb, ltb, leb, max, List, [], ◌∷◌, length}
 use Rattle.seg_store.specs.declared.store.StoreFault.{StoreFault}
 use Rattle.seg_store.specs.declared.store.StoreFault.TheVariants.{Full, OutOfMemory}
 use Rattle.page_table.specs.Pages.{Table, limit}
+use Rattle.page_table.specs.Counting.{in_use}
 use Rattle.paged_store.specs.declared.extent.Extent.{Extent}
 use Rattle.paged_store.specs.inner.Paged.{one_if, of_class, extents_at, spare_at}
 use Rattle.paged_store.specs.inner.Ending.{ExtentsLie, HaveClasses}
@@ -35,6 +36,12 @@ pub record Claims (xs : List Extent) (t u : Table) : Type 0 where
 abbrev pub times : ℕ → List ℕ → ℕ
 times c [] = 0
 times c (x ∷ xs) = one_if (eqb c x) + times c xs
+
+-- Extents of these classes, where 0 is none, are wanted: what was ever new of a class rises at most to what would be in
+-- use with them.
+abbrev pub RisesBy : List ℕ → Table → Table → Type 0
+RisesBy wanted t u = (c : ℕ) → 1 ≤ c → ((t.shelf c).total ≤ (u.shelf c).total)
+    × ((u.shelf c).total ≤ max (t.shelf c).total (in_use t c + times c wanted))
 
 -- An extent of a class that was wanted can't be had: fewer were given back than are wanted, and there are not so many
 -- words

@@ -1,9 +1,10 @@
 -- What is done to a table and to the books of a store where a step is taken back, and where a transaction ends. What
 -- code
 -- and proofs say to each other: nothing public rests on it.
-use Rattle.std.specs.Prelude.{◌≡◌, ℕ, ◌+◌, ◌/◌, ◌<◌, ◌≤◌, Bool, true, false, cond, ◌||◌, List, length, get_or, drop}
+use Rattle.std.specs.Prelude.{◌≡◌, ℕ, ◌+◌, ◌/◌, ◌<◌, ◌≤◌, Bool, true, false, cond, ◌||◌, List, length, get_or, drop, Option, None}
 use Rattle.py_data.specs.Sight.{mem}
 use Rattle.page_table.specs.Pages.{Table, Lies}
+use Rattle.seg_marks.specs.Marks.{Marked, marks_of, holders_of, SameSizes}
 use Rattle.paged_store.specs.declared.extent.Span.{Span}
 use Rattle.paged_store.specs.declared.extent.Extent.{Extent}
 use Rattle.paged_store.specs.declared.extent.Note.{Note}
@@ -59,22 +60,20 @@ pub record GivenBack (xs : List Extent) (t u : Table) : Type 0 where
 abbrev pub among : List ℕ → ℕ → Bool
 among xs a = mem a xs
 
--- the bytes of the addresses of f are 0
-pub record Released (f : ℕ → Bool) (old new : List ℕ) : Type 0 where
-  pub count : length new ≡ length old
-  pub each : (a : ℕ) → get_or new a 0 ≡ cond (f a) 0 (get_or old a 0)
+-- nobody holds the addresses of f
+abbrev pub free_of : (ℕ → Bool) → (ℕ → Option ℕ) → ℕ → Option ℕ
+free_of f h = λ a. cond (f a) None (h a)
+
+-- the addresses of f became free
+pub record Released (f : ℕ → Bool) (old new : Marked) : Type 0 where
+  pub sizes : SameSizes old new
+  pub marks : marks_of new ≡ marks_of old
+  pub holders : holders_of new ≡ free_of f (holders_of old)
 
 -- the addresses of f are of records of the image
 pub record Shown (f : ℕ → Bool) (old new : List Bool) : Type 0 where
   pub count : length new ≡ length old
   pub each : (a : ℕ) → get_or new a false ≡ (f a || get_or old a false)
-
--- the books say the same, of no fewer addresses
-pub record SameBooks (ps : List Bool) (hs : List ℕ) (ps1 : List Bool) (hs1 : List ℕ) : Type 0 where
-  pub count : length hs1 ≡ length ps1
-  pub more : length ps ≤ length ps1
-  pub present : (a : ℕ) → get_or ps1 a false ≡ get_or ps a false
-  pub holders : (a : ℕ) → get_or hs1 a 0 ≡ get_or hs a 0
 
 -- ---- a draft
 

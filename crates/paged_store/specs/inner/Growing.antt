@@ -1,6 +1,6 @@
 -- A record that grows: its body, and a Dict's index, stand in larger extents. What code and proofs say to each other:
 -- nothing public rests on it.
-use Rattle.std.specs.Prelude.{◌≡◌, ℕ, ◌+◌, ◌*◌, ◌<◌, ◌≤◌, true, false, List, [], ◌∷◌, ◌++◌, length}
+use Rattle.std.specs.Prelude.{◌≡◌, ℕ, ◌+◌, ◌*◌, ◌<◌, ◌≤◌, true, false, List, [], ◌++◌, length}
 use Rattle.page_table.specs.Pages.{Table}
 use Rattle.py_data.specs.declared.value.Value.{Value}
 use Rattle.paged_store.specs.declared.extent.Extent.{Extent}

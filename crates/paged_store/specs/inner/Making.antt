@@ -1,8 +1,6 @@
 -- A record that is made, in extents of its own. What code and proofs say to each other: nothing public rests on it.
 use Rattle.std.specs.Prelude.{◌≡◌, ℕ, ◌+◌, ◌*◌, ◌/◌, ◌<◌, ◌≤◌, List, [], ◌∷◌, ◌++◌, length, get_or}
-use Rattle.py_base.specs.declared.kind.Kind.{Kind}
 use Rattle.py_data.specs.declared.record.Record.{Record}
-use Rattle.py_data.specs.declared.value.Value.{Value}
 use Rattle.py_data.specs.Heap.{length_by, value_at}
 use Rattle.paged_store.specs.declared.extent.Extent.{Extent}
 use Rattle.paged_store.specs.Words.{Words, size_of}
@@ -59,8 +57,3 @@ pub record Places (k a : ℕ) (r : Record) (old new : Desk) : Type 0 where
     table = with_words k (made_words (taken.table.word k) a body index r) taken.table;
     draft = record taken.draft { made = taken.draft.made ++ a ∷ [] };
   }
-
--- a list is longer, and has d in its new places
-pub record Longer {A : Type 0} (d : A) (old new : List A) : Type 0 where
-  pub each : (i : ℕ) → get_or new i d ≡ get_or old i d
-  pub more : length old ≤ length new

@@ -1,20 +1,23 @@
 -- The fields of a paged store, and the state that they stand for. What code and proofs say to each other: nothing
 -- public
 -- rests on it.
-use Rattle.std.specs.Prelude.{◌≡◌, ℕ, zero, suc, ◌+◌, ◌/◌, ◌^◌, ◌<◌, ◌≤◌, Bool, true, false, cond, ◌||◌, eqb, List, [], ◌∷◌, length, take, drop, get_or, slice_get, Option, Some, None}
+use Rattle.std.specs.Prelude.{◌≡◌, ℕ, zero, suc, ◌+◌, ◌*◌, ◌/◌, ◌^◌, ◌<◌, ◌≤◌, Bool, true, false, cond, ◌||◌, eqb, List, [], ◌∷◌, length, take, drop, get_or, slice_get, Option, Some, None}
 use Rattle.py_data.specs.Collection.{places}
 use Rattle.py_data.specs.Heap.{Marks}
-use Rattle.py_data.specs.Sight.{mem, no_marks}
-use Rattle.seg_store.specs.inner.Looks.{marks_of}
+use Rattle.py_data.specs.Sight.{mem}
 use Rattle.seg_store.specs.Store.{IsStore}
 use Rattle.page_table.specs.Pages.{Table, in_span, limit, Lies}
 use Rattle.page_table.specs.Lists.{Lists, table_of}
+use Rattle.seg_marks.specs.Marks.{Marked, marks_of, holders_of, segments, granules}
 use Rattle.paged_store.specs.declared.extent.Span.{Span}
 use Rattle.paged_store.specs.declared.extent.Extent.{Extent}
 use Rattle.paged_store.specs.declared.extent.Note.{Note}
 use Rattle.paged_store.specs.declared.draft.Draft.{Draft}
 use Rattle.paged_store.specs.Words.{Words}
 use Rattle.paged_store.specs.inner.State.{Hand, State, meaning_in, Sound}
+use Rattle.paged_store.specs.inner.Counted.{Counts, IsCounted}
+use Rattle.paged_store.specs.inner.Keyed.{IsKeyed}
+use Rattle.paged_store.specs.inner.Indexed.{HasIndexes}
 
 -- ---- lists of spans, extents and notes
 
@@ -70,7 +73,6 @@ spare_at t p = spare_from 21 1 t p
 pub record Drafted : Type 0 where
   pub changed : List ℕ
   pub made : List ℕ
-  pub looked : Marks
   pub spans : List Span
   pub taken : List Extent
   pub notes : List Note
@@ -82,7 +84,6 @@ abbrev pub no_draft : Drafted
 no_draft = record {
   changed = [];
   made = [];
-  looked = no_marks;
   spans = [];
   taken = [];
   notes = [];
@@ -95,7 +96,6 @@ unfoldable pub drafted : Draft → Drafted
 drafted d = record {
   changed = places d.changed;
   made = places d.made;
-  looked = marks_of d.looked;
   spans = d.spans.items;
   taken = d.taken.items;
   notes = d.notes.items;
@@ -147,13 +147,13 @@ hand_before t k d = record {
 
 -- ---- the fields
 
--- Of each address whether the image has a record there, and 0 or the number of the segment that holds it plus 1; and
--- the
--- drafts, by segment.
+-- Of each address whether the image has a record there, and the segment that holds it; and of each segment what it
+-- looked at, and its draft.
 pub record Paged : Type 0 where
   pub table : Table
   pub present : List Bool
-  pub holders : List ℕ
+  pub holder : ℕ → Option ℕ
+  pub looked : ℕ → Marks
   pub drafts : ℕ → Drafted
 
 unfoldable pub state_of : Paged → State
@@ -165,7 +165,7 @@ state_of p = record {
   changed = λ k. (p.drafts k).changed;
   made = λ k. (p.drafts k).made;
   kept_made = λ k. take (p.drafts k).made_before (p.drafts k).made;
-  looked = λ k. (p.drafts k).looked;
+  looked = p.looked;
   spare = spare_at p.table;
   reserved = p.table.reserved;
   segments = p.table.segments;
@@ -196,30 +196,53 @@ abbrev pub sum_to : ℕ → (ℕ → ℕ) → ℕ
 sum_to zero f = 0
 sum_to (suc n) f = sum_to n f + f n
 
+-- it is that segment
+abbrev pub names : Option ℕ → ℕ → Bool
+names None k = false
+names (Some j) k = eqb j k
+
 pub record Fits (p : Paged) : Type 0 where
-  pub lengths : length p.holders ≡ length p.present
   pub drafts : (k : ℕ) → FitsTable p.table (length p.present) k (p.drafts k)
-  pub holders : (k a : ℕ) → eqb (get_or p.holders a 0) (suc k) ≡ (mem a (p.drafts k).changed || mem a (p.drafts k).made)
+  pub holders : (k a : ℕ) → names (p.holder a) k ≡ (mem a (p.drafts k).changed || mem a (p.drafts k).made)
   -- of each class no more extents are in hand and given back than there are
   pub counted : (c : ℕ) → sum_to p.table.segments (λ k. of_class c (p.drafts k).taken) + length (p.table.shelf c).spare
       ≤ (p.table.shelf c).total
 
+-- how many extents a table and drafts count
+abbrev pub counted_by : Table → (ℕ → Drafted) → Counts
+counted_by t drafts = record {
+  spare = λ c. length (t.shelf c).spare;
+  total = λ c. (t.shelf c).total;
+  now = λ k c. of_class c (drafts k).taken;
+  before = λ k c. of_class c (taken_then (drafts k));
+}
+
+abbrev pub counts_of : Paged → Counts
+counts_of p = counted_by p.table p.drafts
+
 pub record Fine (p : Paged) : Type 0 where
   pub fits : Fits p
+  pub counted : IsCounted (meaning_in (state_of p)) (counts_of p)
+  pub keyed : ∥ IsKeyed (meaning_in (state_of p)) ∥₁
+  pub indexed : HasIndexes (state_of p)
   pub sound : ∥ ((own : Words) × ((role : Words) × Sound own role (state_of p))) ∥₁
   pub known : ∥ IsStore p.table.reserved (meaning_in (state_of p)) ∥₁
 
 -- ---- a store's fields in memory
 
-abbrev pub paged_by : Lists → List Bool → List ℕ → List Draft → Paged
-paged_by pages present holders drafts = record {
+abbrev pub paged_by : Lists → List Bool → Marked → List Draft → Paged
+paged_by pages present marks drafts = record {
   table = table_of pages;
   present = present;
-  holders = holders;
+  holder = holders_of marks;
+  looked = marks_of marks;
   drafts = λ k. drafted_in (slice_get drafts k);
 }
 
--- there is a draft for each segment
-pub record IsPaged (pages : Lists) (present : List Bool) (holders : List ℕ) (drafts : List Draft) : Type 0 where
+-- there is a draft, and a row of marks, for each segment, and a granule for each address below half of the limit
+pub record IsPaged (pages : Lists) (present : List Bool) (marks : Marked) (drafts : List Draft) : Type 0 where
   pub count : length drafts ≡ (table_of pages).segments
-  pub fine : Fine (paged_by pages present holders drafts)
+  pub rows : segments marks ≡ (table_of pages).segments
+  pub addresses : granules marks ≡ length present
+  pub bound : limit (table_of pages) ≡ 2 * granules marks
+  pub fine : Fine (paged_by pages present marks drafts)

@@ -7,8 +7,9 @@ use Rattle.py_data.specs.declared.value.Value.{Value}
 use Rattle.paged_store.specs.declared.extent.Span.{Span}
 use Rattle.paged_store.specs.declared.extent.Note.{Note}
 use Rattle.paged_store.specs.declared.draft.Draft.{Draft}
-use Rattle.paged_store.specs.Words.{Words, in_span, listed, size_of, class_in, index_class_in, kind_by, count_by, body_by, in_head, in_body}
-use Rattle.paged_store.specs.inner.Written.{put_word, put_value, copied, packed, next_index, next_head}
+use Rattle.paged_store.specs.Words.{Words, in_span, listed, size_of, class_in, index_class_in, kind_by, count_by, body_by, in_head}
+use Rattle.dict_index.specs.Packed.{packed}
+use Rattle.paged_store.specs.inner.Written.{put_word, put_value, copied, next_index, next_head}
 use Rattle.paged_store.specs.inner.Paged.{Drafted, FitsTable, drafted, in_spans, in_extents, noted, taken_since, word_before}
 
 pub record Desk : Type 0 where
@@ -29,7 +30,6 @@ pub record SameBut (k : ℕ) (old new : Desk) : Type 0 where
   pub own : (j q : ℕ) → old.table.own j q ≡ true → new.table.own j q ≡ true
   pub changed : new.draft.changed ≡ old.draft.changed
   pub made : new.draft.made ≡ old.draft.made
-  pub looked : new.draft.looked ≡ old.draft.looked
   pub taken : new.draft.taken ≡ old.draft.taken
   pub taken_before : new.draft.taken_before ≡ old.draft.taken_before
   pub made_before : new.draft.made_before ≡ old.draft.made_before

@@ -1,10 +1,11 @@
 -- What a record's words are once it is written. What code and proofs say to each other: nothing public rests on it.
-use Rattle.std.specs.Prelude.{◌≡◌, ◌≢◌, ℕ, ◌+◌, ◌-◌, ◌*◌, ◌/◌, ◌<◌, ◌≤◌, true, false, cond, eqb, List, [], ◌∷◌, length, take, drop}
+use Rattle.std.specs.Prelude.{◌≡◌, ◌≢◌, ℕ, ◌+◌, ◌-◌, ◌*◌, ◌/◌, ◌<◌, ◌≤◌, true, false, cond, eqb, List, length}
 use Rattle.py_base.specs.declared.kind.Kind.{Kind}
 use Rattle.py_base.specs.declared.kind.Kind.TheVariants.{Dict}
 use Rattle.py_data.specs.declared.value.Value.{Value}
 use Rattle.py_data.specs.Heap.{Rec, has_bytes, has_rooms, room_of, length_by, value_at}
 use Rattle.seg_store.specs.Extents.{class_holding, class_of_room}
+use Rattle.dict_index.specs.Packed.{packed}
 use Rattle.paged_store.specs.Words.{Words, in_span, tag_of, payload_of, kind_in, class_in, index_class_in, first_in, head_word, decode, count_by, body_by, in_head, in_body, in_index}
 use Rattle.paged_store.specs.inner.Formed.{Formed, Lays, words_for}
 
@@ -39,17 +40,6 @@ copied from to n w = λ q. cond (in_span to n q) (w (from + (q - to))) (w q)
 -- the words of a record once the pair of a number is gone, and n values are left
 abbrev pub drop_words : Words → ℕ → ℕ → ℕ → Words
 drop_words w a k n = put_word (2 * a + 1) n (slid (body_by w a + 4 * k) (2 * n - 4 * k) 4 w)
-
--- ---- bytes
-
--- the number that bytes stand for, the lowest first
-abbrev pub number_of : List ℕ → ℕ
-number_of [] = 0
-number_of (b ∷ bs) = b + 256 * number_of bs
-
--- the words of bytes, 8 in each
-unfoldable pub packed : List ℕ → Words
-packed bs j = number_of (take 8 (drop (8 * j) bs))
 
 -- ---- changes in place
 

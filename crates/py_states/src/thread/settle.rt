@@ -3,9 +3,12 @@ ghost use Rattle.std.specs.Prelude.{◌≡◌, ◌+◌, ◌-◌, [], ◌∷◌, 
 ghost use Rattle.lock_run.specs.declared.client.Outcome.TheVariants.{Done};
 ghost use Rattle.py_frames.specs.State.{advanced, closed, code_at, opened, passed, returned, stored, thrown_to, unwound, with_frames};
 ghost use Rattle.py_states.specs.Innermost.{innermost, settled_in, Settles};
+ghost use Rattle.py_states.specs.Leading.{leads};
 ghost use Rattle.py_states.specs.inner.Changes.{on_top, with_top};
+ghost use Rattle.py_code.specs.declared.program.Program.{Program as Compiled};
 
 use super::ThreadState;
+use crate::direct::Direct;
 use lock_run::Outcome;
 use py_base::NoMemory;
 use py_code::{Code, Program};
@@ -160,6 +163,22 @@ impl ThreadState {
             Next::Begins(roots) => self.begins(n, roots),
             Next::Throws(x) => self.throws(0, x, line),
             Next::Waits => Ok(Outcome::Waits),
+        }
+    }
+
+    /// The same of what an instruction leads to that asks nothing of the heap, whatever the program.
+    pub fn settle_directly(&mut self, n: usize, next: Direct) -> Result<Outcome, NoMemory>
+        ensures ok { (p : Compiled) → IfOk result (λ o. Settles (settled_in p self.old n (leads next) self.old.frames) o self.new) }
+        ensures err { OnErr result (self.new ≡ self.old) }
+    {
+        if self.frames.len() == 0 {
+            return Ok(Outcome::Waits);
+        }
+        match next {
+            Direct::Passes => self.goes(n, &[]),
+            Direct::Gives(x) => self.goes(n, &[x]),
+            Direct::Jumps(place) => self.jumps(n, place, &[]),
+            Direct::Stores(i, x) => self.stores(n, i, x),
         }
     }
 }

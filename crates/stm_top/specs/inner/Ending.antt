@@ -13,9 +13,9 @@ use Rattle.stm_words.specs.declared.call.Options.{Options}
 use Rattle.stm_words.specs.declared.call.Script.{Script}
 use Rattle.stm_top.specs.declared.answer.Answer.{Answer}
 use Rattle.stm_top.specs.declared.answer.Answer.TheVariants.{Done, Failed, Refused, LoaderFailed, InputFailed, OutputFailed, ErrorOutputFailed, HeapFull, Stuck, BudgetSpent, OutOfMemory, ScriptTooLong}
-use Rattle.stm_top.specs.Script.{Origin, TooLong, NotLoaded, NotTaken, AskedAtMost}
+use Rattle.stm_top.specs.Script.{Origin, TooLong, NotLoaded, NotTaken, Untaken}
 use Rattle.stm_top.specs.Serial.{Serial}
-use Rattle.stm_top.specs.TopCall.{Devices, Told, limits_of, IsLeft, faults_of, RunEnded, NothingRan, NothingTaken}
+use Rattle.stm_top.specs.TopCall.{Devices, Told, limits_of, IsLeft, faults_of, NoneFell, RunEnded, NothingRan, NothingTaken}
 
 -- ---- the script
 
@@ -24,7 +24,7 @@ abbrev pub NoScript : Answer → Script → Origin → Origin → Type 0
 NoScript LoaderFailed script a b = NotLoaded script a b
 NoScript InputFailed script a b = NotTaken script a b
 NoScript ScriptTooLong script a b = TooLong script a b
-NoScript OutOfMemory script a b = AskedAtMost script a b
+NoScript OutOfMemory script a b = Untaken script a b
 NoScript _ script a b = ⊥
 
 -- ---- the run
@@ -55,7 +55,8 @@ pub record RunEnds {S : Type 0} (p : Prog S) (l : Limits) (answer : Answer) (a :
   pub serial : Serial p l.length a.input.told a.out.told a.err.told t.history t.conflicts b.input.told b.out.told
       b.err.told
   pub store : IsLeft l serial.machine.heap t.store
-  pub ended : RunEnded l answer (faults_of a) (faults_of b) serial
+  pub ended : RunEnded l t.reserved answer (faults_of a) (faults_of b) serial
+  pub counts : NoneFell (faults_of a) (faults_of b)
 
 -- there was no memory for the core, or the threads ran; the loader was left alone
 abbrev pub ThreadsEnded : {S : Type 0} → Prog S → Options → Answer → Devices → Told → Devices → Type 0

@@ -1,15 +1,13 @@
 -- Nothing here is to be believed: these are the two laws that the lock asks for, proved. A core has grown from itself,
 -- and what has
 -- grown in two steps has grown in one.
-use Rattle.std.specs.Prelude.{◌≡◌, List, [], ◌++◌}
+use Rattle.std.specs.Prelude.{[], ◌++◌}
 use Rattle.std.proofs.Common.{sym, ◌∙◌, ap, append_assoc, append-nil}
 use Rattle.stm_io.specs.Outside.{SourceState, SinkState}
 use Rattle.lock_run.specs.Prog.{Prog}
 use Rattle.seg_store.specs.Meaning.{Meaning}
 use Rattle.stm_core.specs.declared.transactions.Core.{Core}
 use Rattle.stm_core.specs.CoreState.{CoreState}
-use Rattle.stm_core.specs.CoreHeld.{CoreStands}
-use Rattle.stm_core.specs.Outside.{Outer}
 use Rattle.stm_workers.specs.Growth.{ListsGrow, Grows}
 
 pub lists_same : {T : Type 0} (c : CoreState T) → ListsGrow c c

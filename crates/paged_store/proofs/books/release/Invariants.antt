@@ -4,4 +4,4 @@ use Rattle.paged_store.specs.inner.Ending.{among, Released}
 use Rattle.paged_store.proofs.books.release.Given as goal
 
 abbrev pub invariant-names : goal.invariant-names
-invariant-names l = Released (among (places (take l.a-index l.names))) l.initial.holders.items l.holders.items
+invariant-names l = Released (among (places (take l.a-index l.names))) l.initial.marks l.marks

@@ -5,6 +5,7 @@ use Rattle.page_table.specs.Lists.{table_of}
 use Rattle.paged_store.specs.inner.Claiming.{extent_for}
 use Rattle.paged_store.specs.inner.Ending.{ExtentsLie}
 use Rattle.paged_store.proofs.ClaimLemmas.{denies_more, claims_both, room_both, first_lie, second_lie, first_room, second_room, given_both, returned, denied, same_two}
+use Rattle.paged_store.proofs.RiseLemmas.{rises_more, rises_then, rises_back}
 use Rattle.paged_store.proofs.claim.claim.Goals as goal
 
 pub return_one-requires-clause-lie : goal.return_one-requires-clause-lie
@@ -71,3 +72,26 @@ returns-in_err-one-clause-cause c =
     let p = err_from_is_err_and c.from_residual.result c.from_residual.ensures.1 in
     rw (p.1, p.2) (denies_more (c.args.first ∷ c.args.second ∷ []) (c.args.third ∷ []) (table_of c.args.pages.now)
     (table_of c.claim_two.new.pages) _ c.in_err-one.ensures.cause)
+
+pub returns-in_err-one-clause-rises : goal.returns-in_err-one-clause-rises
+returns-in_err-one-clause-rises c = rises_more (c.args.first ∷ c.args.second ∷ []) (c.args.third ∷ [])
+    (table_of c.args.pages.now) (table_of c.claim_two.new.pages) c.claim_two.ensures.rises
+
+pub returns-in-Ok-clause-rises : goal.returns-in-Ok-clause-rises
+returns-in-Ok-clause-rises c =
+    rises_then (c.args.first ∷ c.args.second ∷ []) (c.args.third ∷ [])
+    (extent_for c.args.first c.in_ok-one.one ++ extent_for c.args.second c.in_ok-one.two)
+    (table_of c.args.pages.now) (table_of c.claim_two.new.pages) (table_of c.claim_one.new.pages)
+    c.claim_two.ensures.rises c.in_ok-one.ensures.ok
+    (same_two c.args.first c.in_ok-one.one c.args.second c.in_ok-one.two) c.claim_one.ensures.rises
+
+pub returns-in-Err-clause-rises : goal.returns-in-Err-clause-rises
+returns-in-Err-clause-rises c =
+    rises_back (c.args.first ∷ c.args.second ∷ []) (c.args.third ∷ [])
+    (extent_for c.args.first c.in_ok-one.one ++ extent_for c.args.second c.in_ok-one.two)
+    (table_of c.args.pages.now) (table_of c.claim_two.new.pages) (table_of c.claim_one.new.pages)
+    (table_of c.return_one-in-Err.new.pages) c.claim_two.ensures.rises c.in_ok-one.ensures.ok
+    (same_two c.args.first c.in_ok-one.one c.args.second c.in_ok-one.two) c.claim_one.ensures.rises
+    (given_both (extent_for c.args.first c.in_ok-one.one) (extent_for c.args.second c.in_ok-one.two)
+    (table_of c.claim_one.new.pages) (table_of c.return_one.new.pages)
+    (table_of c.return_one-in-Err.new.pages) c.return_one.ensures c.return_one-in-Err.ensures)

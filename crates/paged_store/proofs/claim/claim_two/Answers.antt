@@ -5,6 +5,7 @@ use Rattle.paged_store.specs.inner.Claiming.{extent_for, Claims}
 use Rattle.paged_store.specs.inner.Ending.{HaveRoom}
 use Rattle.std.proofs.lemmas.Result.{err_from_is_err_and}
 use Rattle.paged_store.proofs.ClaimLemmas.{claims_none, claims_both, room_claimed, denies_more, returned, denied, same_one}
+use Rattle.paged_store.proofs.RiseLemmas.{rises_more, rises_then, rises_back}
 use Rattle.paged_store.proofs.claim.claim_two.Goals as goal
 
 pub returns-in_err-one-clause-err : goal.returns-in_err-one-clause-err
@@ -42,3 +43,21 @@ returns-in-Err-clause-cause c =
     (table_of c.claim_one.new.pages) (table_of c.claim_one-2.new.pages)
     (table_of c.return_one.new.pages) c.in_ok-one.ensures.ok c.in-Err.ensures.same c.return_one.ensures c.in-Err.e
     (same_one c.args.first c.in_ok-one.one) c.in-Err.ensures.cause
+
+pub returns-in_err-one-clause-rises : goal.returns-in_err-one-clause-rises
+returns-in_err-one-clause-rises c = rises_more (c.args.first ∷ []) (c.args.second ∷ []) (table_of c.args.pages.now)
+    (table_of c.claim_one.new.pages) c.claim_one.ensures.rises
+
+pub returns-in-Ok-clause-rises : goal.returns-in-Ok-clause-rises
+returns-in-Ok-clause-rises c =
+    rises_then (c.args.first ∷ []) (c.args.second ∷ []) (extent_for c.args.first c.in_ok-one.one)
+    (table_of c.args.pages.now) (table_of c.claim_one.new.pages) (table_of c.claim_one-2.new.pages)
+    c.claim_one.ensures.rises c.in_ok-one.ensures.ok (same_one c.args.first c.in_ok-one.one)
+    c.claim_one-2.ensures.rises
+
+pub returns-in-Err-clause-rises : goal.returns-in-Err-clause-rises
+returns-in-Err-clause-rises c =
+    rises_back (c.args.first ∷ []) (c.args.second ∷ []) (extent_for c.args.first c.in_ok-one.one)
+    (table_of c.args.pages.now) (table_of c.claim_one.new.pages) (table_of c.claim_one-2.new.pages)
+    (table_of c.return_one.new.pages) c.claim_one.ensures.rises c.in_ok-one.ensures.ok
+    (same_one c.args.first c.in_ok-one.one) c.claim_one-2.ensures.rises c.return_one.ensures

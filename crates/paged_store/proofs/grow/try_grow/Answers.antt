@@ -1,11 +1,13 @@
-use Rattle.std.proofs.Common.{◌≡◌, ◌+◌, ◌*◌, ◌∙◌, ap, refl, arith}
+use Rattle.std.proofs.Common.{ℕ, List, [], ◌∷◌, ap, refl, arith}
 use Rattle.std.proofs.lemmas.Result.{err_from_is_err_and}
+use Rattle.page_table.specs.Pages.{Table}
 use Rattle.page_table.specs.Lists.{table_of}
 use Rattle.paged_store.specs.inner.Paged.{drafted}
-use Rattle.paged_store.specs.inner.Growing.{grown_class, grown_index, grown_with}
-use Rattle.paged_store.specs.inner.Writing.{desk, with_words}
+use Rattle.paged_store.specs.inner.Growing.{grown_class, grown_index}
+use Rattle.paged_store.specs.inner.Writing.{desk}
 use Rattle.paged_store.proofs.GrowWrites.{head_word_small, grown_class_is, grown_index_is}
 use Rattle.paged_store.proofs.GrowTakes.{takes_grown, ends_at, denies_from, can_grow, grew}
+use Rattle.paged_store.proofs.RiseLemmas.{rises_none, rises_kept, rises_from}
 use Rattle.paged_store.proofs.grow.try_grow.Goals as goal
 
 pub of-requires : goal.of-requires
@@ -61,3 +63,36 @@ returns-clause-ok c =
     ei c.in_ok-body.ensures.within.1)
     c.args.vs.now refl (desk c.write_grown.new.pages c.take.new.draft)
     (λ i. record { table = c.write_grown.ensures i; draft = drafted c.take.new.draft })
+
+pub returns-in_err-ready-clause-rises : goal.returns-in_err-ready-clause-rises
+returns-in_err-ready-clause-rises c =
+    let w = (table_of c.args.pages.now).word c.args.k in
+    let wanted : List ℕ = grown_class w c.args.a ∷ grown_index w c.args.a ∷ 0 ∷ [] in
+    rises_kept wanted (table_of c.args.pages.now) (table_of c.args.pages.now) (table_of c.ready.new.pages)
+    (rises_none wanted (table_of c.args.pages.now)) c.in_err-ready.ensures.err.wrote.same.shelf
+
+pub returns-in_err-body-clause-rises : goal.returns-in_err-body-clause-rises
+returns-in_err-body-clause-rises c =
+    let w = (table_of c.args.pages.now).word c.args.k in
+    let ec = grown_class_is w c.args.a c.next-next.result.class c.of.result.class c.word.result
+    c.next-next.ensures.class c.of.ensures.class c.word.ensures in
+    let ei = grown_index_is w c.args.a c.next-next.result.index c.of.result.index c.word.result c.of.result.kind
+    c.next-next.ensures.index c.of.ensures.kind c.of.ensures.index c.word.ensures in
+    rises_from (c.next-next.result.class ∷ c.next-next.result.index ∷ 0 ∷ [])
+    (grown_class w c.args.a ∷ grown_index w c.args.a ∷ 0 ∷ []) (table_of c.args.pages.now)
+    (table_of c.ready.new.pages) (table_of c.take.new.pages) (λ i. ec i ∷ ei i ∷ 0 ∷ [])
+    c.in_ok-ready.ensures.ok.wrote.same.shelf c.take.ensures.rises
+
+pub returns-clause-rises : goal.returns-clause-rises
+returns-clause-rises c =
+    let w = (table_of c.args.pages.now).word c.args.k in
+    let ec = grown_class_is w c.args.a c.next-next.result.class c.of.result.class c.word.result
+    c.next-next.ensures.class c.of.ensures.class c.word.ensures in
+    let ei = grown_index_is w c.args.a c.next-next.result.index c.of.result.index c.word.result c.of.result.kind
+    c.next-next.ensures.index c.of.ensures.kind c.of.ensures.index c.word.ensures in
+    let wanted : List ℕ = grown_class w c.args.a ∷ grown_index w c.args.a ∷ 0 ∷ [] in
+    rises_kept wanted (table_of c.args.pages.now) (table_of c.take.new.pages) (table_of c.write_grown.new.pages)
+    (rises_from (c.next-next.result.class ∷ c.next-next.result.index ∷ 0 ∷ []) wanted (table_of c.args.pages.now)
+    (table_of c.ready.new.pages) (table_of c.take.new.pages) (λ i. ec i ∷ ei i ∷ 0 ∷ [])
+    c.in_ok-ready.ensures.ok.wrote.same.shelf c.take.ensures.rises)
+    (ap (λ (t : Table). t.shelf) c.write_grown.ensures)

@@ -1,13 +1,13 @@
-use Rattle.std.proofs.Common.{◌≡◌, ◌≤◌, ◌+◌, ◌/◌, ◌++◌, ◌∷◌, [], length, sym, ◌∙◌, ap, subst, refl, arith}
+use Rattle.std.proofs.Common.{◌≡◌, ◌/◌, ◌∷◌, [], length, ◌∙◌, ap, refl, arith}
 use Rattle.py_data.specs.Collection.{places}
+use Rattle.page_table.specs.Pages.{Table}
 use Rattle.page_table.specs.Lists.{table_of}
-use Rattle.paged_store.specs.Words.{size_of}
-use Rattle.paged_store.specs.inner.Making.{body_class, index_class, made_words}
+use Rattle.paged_store.specs.inner.Making.{body_class, index_class}
 use Rattle.paged_store.specs.inner.Paged.{Drafted, drafted}
-use Rattle.paged_store.specs.inner.Writing.{Desk, desk, with_words}
-use Rattle.paged_store.proofs.MakeWords.{made_class_most, made_index_small}
+use Rattle.paged_store.specs.inner.Writing.{desk}
 use Rattle.paged_store.proofs.GrowTakes.{ends_at}
 use Rattle.paged_store.proofs.MakeTakes.{classes_few, head_can, body_can, index_can, takes_made, takes_besides, made_set, made_cut, made_length, made_pushed, words_made, places_by}
+use Rattle.paged_store.proofs.RiseLemmas.{rises_from, rises_kept}
 use Rattle.paged_store.proofs.make.make.Goals as goal
 
 pub take-requires-clause-second : goal.take-requires-clause-second
@@ -86,3 +86,13 @@ returns-in-Err-clause-err c =
     (ap (λ (d : Drafted). d.made) c.in-Err.ensures.err.draft) c.in_ok-push.ensures.ok) c.len-before.ensures in
     takes_besides c.args.k [] (desk c.args.pages.now c.args.draft.now) (desk c.take.new.pages c.take.new.draft)
     (places c.push.new.self) (places c.truncate.new.self) cut c.in-Err.ensures.err
+
+pub returns-in-Ok-clause-rises : goal.returns-in-Ok-clause-rises
+returns-in-Ok-clause-rises c =
+    rises_from (2 ∷ c.args.header.class ∷ c.args.header.index ∷ [])
+    (2 ∷ body_class c.args.r.now ∷ index_class c.args.r.now ∷ []) (table_of c.args.pages.now)
+    (table_of c.args.pages.now) (table_of c.fill.new.pages)
+    (λ i. 2 ∷ c.requires.class i ∷ c.requires.index i ∷ []) refl
+    (rises_kept (2 ∷ c.args.header.class ∷ c.args.header.index ∷ []) (table_of c.args.pages.now)
+    (table_of c.take.new.pages) (table_of c.fill.new.pages) c.take.ensures.rises
+    (ap (λ (t : Table). t.shelf) c.fill.ensures))

@@ -1,5 +1,5 @@
 use Rattle.std.proofs.Common.{◌≡◌, ◌-◌, ◌*◌, take, drop, ap, ◌∙◌, arith}
-use Rattle.paged_store.specs.inner.Written.{number_of}
+use Rattle.dict_index.specs.Packed.{number_of}
 use Rattle.paged_store.proofs.PackLemmas.{pack_more, pack_more_fits, pack_all}
 use Rattle.paged_store.proofs.put.packed_word.Goals as goal
 

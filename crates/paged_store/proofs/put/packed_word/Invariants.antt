@@ -1,5 +1,5 @@
 use Rattle.std.proofs.Common.{◌≡◌, ◌-◌, ◌≤◌, take, drop}
-use Rattle.paged_store.specs.inner.Written.{number_of}
+use Rattle.dict_index.specs.Packed.{number_of}
 use Rattle.paged_store.proofs.put.packed_word.Given as goal
 
 abbrev pub invariant-bytes : goal.invariant-bytes

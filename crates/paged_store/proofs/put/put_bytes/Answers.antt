@@ -1,6 +1,6 @@
 use Rattle.std.proofs.Common.{◌+◌, ◌/◌, length}
 use Rattle.page_table.specs.Lists.{table_of}
-use Rattle.paged_store.specs.inner.Written.{packed}
+use Rattle.dict_index.specs.Packed.{packed}
 use Rattle.paged_store.proofs.PutLemmas.{can_still, can_at, lays_more}
 use Rattle.paged_store.proofs.put.put_bytes.Goals as goal
 

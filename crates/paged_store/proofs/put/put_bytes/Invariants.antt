@@ -1,6 +1,6 @@
 use Rattle.std.proofs.Common.{◌≡◌}
 use Rattle.page_table.specs.Lists.{table_of}
-use Rattle.paged_store.specs.inner.Written.{packed}
+use Rattle.dict_index.specs.Packed.{packed}
 use Rattle.paged_store.specs.inner.Writing.{with_words, laid}
 use Rattle.paged_store.proofs.put.put_bytes.Given as goal
 

@@ -1,5 +1,6 @@
-use Rattle.std.proofs.Common.{◌≡◌, ℕ, List, [], ◌++◌, length, Result, Ok, Err, OnOk, is_err, false, drop, sym, ◌∙◌, ap, arith}
+use Rattle.std.proofs.Common.{◌≡◌, ℕ, List, [], ◌∷◌, ◌++◌, length, Result, Ok, Err, OnOk, is_err, false, sym, ◌∙◌, ap, arith}
 use Rattle.seg_store.proofs.Stores.{told}
+use Rattle.page_table.specs.Pages.{Table}
 use Rattle.page_table.specs.Lists.{table_of}
 use Rattle.paged_store.specs.declared.extent.Extent.{Extent}
 use Rattle.paged_store.specs.inner.Claiming.{extent_for}
@@ -7,6 +8,7 @@ use Rattle.paged_store.specs.inner.Paged.{drafted}
 use Rattle.paged_store.specs.inner.Writing.{desk}
 use Rattle.paged_store.proofs.ClaimLemmas.{claims_none}
 use Rattle.paged_store.proofs.TakeLemmas.{takes_none, takes_all, takes_back, takes_kept, room_opened, lie_opened, lie_claimed, classes_claimed, last_ones}
+use Rattle.paged_store.proofs.RiseLemmas.{rises_still, rises_kept}
 use Rattle.paged_store.proofs.take.take.Goals as goal
 
 -- the extents of three classes
@@ -128,3 +130,17 @@ returns-clause-ok c =
     (c.deref.ensures.value ∙ more) (omega (arith, c.len-before.ensures, c.args.draft.now.taken.ok.0))
     c.skip.ensures)
     (ok_of c.open_extents.result (sym c.is_err.ensures.value ∙ c.if-is_err.false) c.open_extents.ensures.own)
+
+pub returns-then-is_err-clause-rises : goal.returns-then-is_err-clause-rises
+returns-then-is_err-clause-rises c =
+    let wanted : List ℕ = c.args.first ∷ c.args.second ∷ c.args.third ∷ [] in
+    rises_still wanted (table_of c.args.pages.now) (table_of c.open_extents.new.pages) (table_of c.give_back_all.new.pages)
+    (rises_kept wanted (table_of c.args.pages.now) (table_of c.claim.new.pages) (table_of c.open_extents.new.pages)
+    c.claim.ensures.rises (ap (λ (t : Table). t.shelf) c.open_extents.ensures.same.same))
+    c.give_back_all.ensures.total
+
+pub returns-clause-rises : goal.returns-clause-rises
+returns-clause-rises c =
+    rises_kept (c.args.first ∷ c.args.second ∷ c.args.third ∷ []) (table_of c.args.pages.now)
+    (table_of c.claim.new.pages) (table_of c.open_extents.new.pages)
+    c.claim.ensures.rises (ap (λ (t : Table). t.shelf) c.open_extents.ensures.same.same)

@@ -1,4 +1,4 @@
-use Rattle.std.proofs.Common.{◌≡◌, ℕ, ◌+◌, ◌∙◌, sym, ap, max, arith}
+use Rattle.std.proofs.Common.{◌≡◌, ℕ, ◌+◌, ◌∙◌, sym, ap, max}
 use Rattle.py_base.specs.declared.kind.Kind.{Kind}
 use Rattle.paged_store.specs.inner.Written.{made_class}
 use Rattle.paged_store.proofs.ClassLemmas.{list_class_none, list_class_some, dict_class_is}

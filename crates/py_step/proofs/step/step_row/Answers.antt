@@ -1,4 +1,4 @@
-use Rattle.std.proofs.Common.{sym, subst, None, Some}
+use Rattle.std.proofs.Common.{sym, None, Some}
 use Rattle.py_step.proofs.Moving.{dying_is, at_is, safe_as, moves_as, run_as, over, both}
 use Rattle.py_step.proofs.step.step_row.Goals as goal
 

@@ -1,6 +1,6 @@
 use Rattle.std.proofs.Common.{◌≡◌, Some, refl, ◌∙◌, subst}
 use Rattle.stm_core.specs.CoreHeld.{core_client, core_limits}
-use Rattle.stm_top.specs.TopCall.{Devices, Told, devices_of}
+use Rattle.stm_top.specs.TopCall.{Devices, Told, devices_of, told_of}
 use Rattle.stm_top.specs.inner.Ending.{RunEnds}
 use Rattle.stm_top.proofs.HandedOver.{handed_over}
 use Rattle.stm_top.proofs.run.run_core.Goals as goal
@@ -14,12 +14,8 @@ returns-clause-ended g c = λ i o e has.
     let made = y.made_with.value in
     let left = devices_of g.L.Loader.state g.I.Source.state g.O.Sink.state g.E.Sink.state c.args.loader r.input r.out
     r.err in
-    let t : Told = record {
-      history = r.history.entries;
-      conflicts = r.conflicts.entries;
-      store =
-          Some (g.S.SegStore.meaning r.store);
-    } in
+    let t : Told = told_of g.S.SegStore.meaning g.S.SegStore.reserved r.history.entries r.conflicts.entries
+    (Some r.store) in
     let sane = c.run_workers-core.ensures.good.sane in
     let f = c.finish-state.ensures.finished sane.state sane.stands in
     let ends : RunEnds (g.C.Client.prog (core_client y)) (core_limits g.S.SegStore.meaning y) c.answer.result
@@ -31,7 +27,7 @@ returns-clause-ended g c = λ i o e has.
     made.mid made.was_mid (g.S.SegStore.meaning r.store) (g.S.SegStore.reserved r.store) sane.state f.0 r.state
     r.failed t c.answer.result
     f.1 f.2 c.finish-state.ensures.shape.0 c.finish-state.ensures.shape.1 c.finish-state.ensures.unused refl
-    c.answer.ensures in
+    refl c.answer.ensures in
     let ends1 = subst (λ z. RunEnds (g.C.Client.prog z) (core_limits g.S.SegStore.meaning y) c.answer.result
     (devices_of g.L.Loader.state g.I.Source.state g.O.Sink.state g.E.Sink.state c.args.loader made.input made.out
     made.err) t left) (λ k. (job k).client) ends in

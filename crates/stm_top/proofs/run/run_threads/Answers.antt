@@ -1,8 +1,8 @@
-use Rattle.std.proofs.Common.{◌≡◌, inr, ap, ◌∙◌, subst, option_map}
-use Rattle.seg_store.specs.Plain.{plain_meaning}
+use Rattle.std.proofs.Common.{◌≡◌, inr, ap, ◌∙◌, subst}
+use Rattle.paged_store.specs.Stores.{paged_meaning, reserved_of}
 use Rattle.stm_core.specs.CoreHeld.{core_limits}
 use Rattle.stm_core.specs.Events.{Limits}
-use Rattle.stm_top.specs.TopCall.{Told, devices_of, limits_of}
+use Rattle.stm_top.specs.TopCall.{Told, devices_of, limits_of, told_of}
 use Rattle.stm_top.specs.inner.Ending.{RunEnds}
 use Rattle.stm_top.proofs.run.run_threads.Goals as goal
 
@@ -18,13 +18,8 @@ returns-in-Ok-new g c =
     c.args.outside.input c.args.outside.out c.args.outside.err in
     let b = devices_of g.L.Loader.state g.I.Source.state g.O.Sink.state g.E.Sink.state r.outside.loader r.outside.input
     r.outside.out r.outside.err in
-    let t : Told = record {
-      history = r.history.entries;
-      conflicts = r.conflicts.entries;
-      store =
-          option_map plain_meaning r.store;
-    } in
-    let limits : core_limits plain_meaning c.in-Ok-new.core ≡ limits_of o
+    let t : Told = told_of paged_meaning reserved_of r.history.entries r.conflicts.entries r.store in
+    let limits : core_limits paged_meaning c.in-Ok-new.core ≡ limits_of o
     = n.limits ∙ (λ k. record {
       length = o.length;
       budget = o.budget;
@@ -32,7 +27,7 @@ returns-in-Ok-new g c =
       words = (c.in-Ok.ensures.meaning k).limit;
     }) in
     let ends = c.run_core.ensures.ended c.args.outside.input c.args.outside.out c.args.outside.err n.devices in
-    let ends1 = subst (λ z. RunEnds (g.C.Client.prog z) (core_limits plain_meaning c.in-Ok-new.core) r.answer a t b)
+    let ends1 = subst (λ z. RunEnds (g.C.Client.prog z) (core_limits paged_meaning c.in-Ok-new.core) r.answer a t b)
     n.client ends in
     record {
       ended = (

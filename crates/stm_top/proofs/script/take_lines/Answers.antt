@@ -1,6 +1,6 @@
 use Rattle.std.proofs.Common.{◌≡◌, ap, subst, sym, arith, length, length-append, ◌∙◌, ◌++◌}
 use Rattle.stm_top.specs.Script.{TakenSoFar}
-use Rattle.stm_top.proofs.Taking.{room_more, one_line_more, at_the_end}
+use Rattle.stm_top.proofs.Taking.{room_more, one_line_more, at_the_end, no_room, ends_so}
 use Rattle.stm_top.proofs.script.take_lines.Goals as goal
 
 pub returns-then-is_empty-clause-whole : goal.returns-then-is_empty-clause-whole
@@ -23,3 +23,11 @@ lines-preserved g c =
           c.in_ok-line.ensures.line c.in_ok-line.ensures.rest c.in_ok-line.ensures.ends c.take_line.ensures.later
           (λ q. search (arith, q))),
     )
+
+pub returns-in_err-extend_from_slice-clause-stopped : goal.returns-in_err-extend_from_slice-clause-stopped
+returns-in_err-extend_from_slice-clause-stopped g c = ends_so _ _ _ _
+    (no_room c.lines.script.items c.in_ok-line.line.items (g.I.Source.state c.args.input.now)
+    (g.I.Source.state c.lines.input) (g.I.Source.state c.take_line.new.self) _ c.lines.invariant.1 (search (arith))
+    (search (arith, c.in_ok-line.ensures.short)) c.in_ok-line.ensures.line c.in_ok-line.ensures.rest
+    c.in_ok-line.ensures.ends c.take_line.ensures.later (λ q. search (arith, q)))
+    c.from_residual-in_err-extend_from_slice.ensures.1

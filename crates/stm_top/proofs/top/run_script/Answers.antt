@@ -1,9 +1,9 @@
-use Rattle.std.proofs.Common.{sym, ap, subst, option_map, length, arith}
-use Rattle.seg_store.specs.Plain.{plain_meaning}
+use Rattle.std.proofs.Common.{sym, ap, subst, length, arith}
+use Rattle.paged_store.specs.Stores.{paged_meaning, reserved_of}
 use Rattle.py_frames.specs.Laws.{prog_of}
 use Rattle.stm_top.specs.Script.{Origin}
 use Rattle.stm_top.specs.TextCode.{HasCode, IsRefused}
-use Rattle.stm_top.specs.TopCall.{devices_of, Told}
+use Rattle.stm_top.specs.TopCall.{devices_of, Told, told_of}
 use Rattle.stm_top.specs.inner.Ending.{TextEnded}
 use Rattle.stm_top.proofs.TopSteps.{taken_short, text_ran}
 use Rattle.stm_top.proofs.top.run_script.Goals as goal
@@ -23,12 +23,7 @@ returns-in-Ok g c =
     c.args.outside.input c.args.outside.out c.args.outside.err in
     let b = devices_of g.L.Loader.state g.I.Source.state g.O.Sink.state g.E.Sink.state r.outside.loader r.outside.input
     r.outside.out r.outside.err in
-    let t : Told = record {
-      history = r.history.entries;
-      conflicts = r.conflicts.entries;
-      store =
-          option_map plain_meaning r.store;
-    } in
+    let t : Told = told_of paged_meaning reserved_of r.history.entries r.conflicts.entries r.store in
     let between = devices_of g.L.Loader.state g.I.Source.state g.O.Sink.state g.E.Sink.state c.take_script.new.loader
     c.take_script.new.input c.args.outside.out c.args.outside.err in
     let taken_to : Origin = record {

@@ -1,10 +1,10 @@
-use Rattle.std.proofs.Common.{inr, sym, subst, option_map}
-use Rattle.seg_store.specs.Plain.{plain_meaning}
+use Rattle.std.proofs.Common.{inr, sym, subst}
+use Rattle.paged_store.specs.Stores.{paged_meaning, reserved_of}
 use Rattle.lock_run.specs.Client.{IsSoundFirst}
 use Rattle.py_frames.specs.Laws.{prog_of}
 use Rattle.py_frames.specs.Sound.{Sound}
 use Rattle.stm_top.specs.inner.Ending.{ThreadsEnded}
-use Rattle.stm_top.specs.TopCall.{devices_of, Told}
+use Rattle.stm_top.specs.TopCall.{devices_of, Told, told_of}
 use Rattle.stm_top.proofs.top.run_text.Goals as goal
 
 pub run_threads-requires-clause-first : goal.run_threads-requires-clause-first
@@ -18,12 +18,7 @@ returns g c =
     c.args.outside.input c.args.outside.out c.args.outside.err in
     let b = devices_of g.L.Loader.state g.I.Source.state g.O.Sink.state g.E.Sink.state r.outside.loader r.outside.input
     r.outside.out r.outside.err in
-    let t : Told = record {
-      history = r.history.entries;
-      conflicts = r.conflicts.entries;
-      store =
-          option_map plain_meaning r.store;
-    } in
+    let t : Told = told_of paged_meaning reserved_of r.history.entries r.conflicts.entries r.store in
     record {
       ended = inr (
         c.in-Ok.program,

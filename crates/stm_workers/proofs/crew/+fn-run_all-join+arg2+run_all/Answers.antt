@@ -1,4 +1,4 @@
-use Rattle.std.proofs.Common.{◌≡◌, All, ap, subst}
+use Rattle.std.proofs.Common.{All, ap, subst}
 use Rattle.heap_lock.specs.Views.{SeatView}
 use Rattle.stm_workers.proofs.Joined.{seen_before_join}
 use Rattle.stm_workers.proofs.crew.+fn-run_all-join+arg2+run_all.Goals as goal

@@ -10,12 +10,12 @@ loop-init g c = (
       g.S.SegStore.meaning c.args.core,
 )
 
-pub returns-then-visit-clause-grows : goal.returns-then-visit-clause-grows
-returns-then-visit-clause-grows g c = grows_then g.I.Source.state g.O.Sink.state g.E.Sink.state g.C.Client.prog
+pub returns-then-is_last-clause-grows : goal.returns-then-is_last-clause-grows
+returns-then-is_last-clause-grows g c = grows_then g.I.Source.state g.O.Sink.state g.E.Sink.state g.C.Client.prog
     g.S.SegStore.meaning c.args.core c.segments.core c.visit.new.core c.segments.invariant.2 c.visit.ensures.grows
 
-pub returns-then-visit-clause-ended : goal.returns-then-visit-clause-ended
-returns-then-visit-clause-ended g c = c.visit.ensures.over c.if-visit.true
+pub returns-then-is_last-clause-ended : goal.returns-then-is_last-clause-ended
+returns-then-is_last-clause-ended g c = c.visit.ensures.over (c.is_last.ensures c.if-is_last.true)
 
 pub segments-preserved : goal.segments-preserved
 segments-preserved g c = (

@@ -1,8 +1,5 @@
-use Rattle.std.proofs.Common.{◌≡◌, List, [], ◌∷◌, All, ap, subst, sym}
+use Rattle.std.proofs.Common.{[], All, subst, sym}
 use Rattle.std.proofs.lemmas.List.Elements.{All-head}
-use Rattle.heap_lock.specs.Views.{SeatView}
-use Rattle.stm_core.specs.declared.transactions.Core.{Core}
-use Rattle.stm_workers.specs.declared.held.CoreJob.{CoreJob}
 use Rattle.stm_workers.specs.declared.held.Held.{Held}
 use Rattle.stm_workers.specs.Growth.{Grows}
 use Rattle.stm_workers.specs.inner.GrowthLaws.{grows_same}

@@ -40,7 +40,7 @@ release-requires c = changed_within (table_of c.args.pages.now) _ c.args.k c.arg
 
 pub release-requires-2 : goal.release-requires-2
 release-requires-2 c = made_within (table_of c.args.pages.now) _ c.args.k c.args.self.now c.requires.fits
-    c.as_slice-2.result.now _ c.as_slice-2.ensures c.release.ensures.count
+    c.as_slice-2.result.now _ c.as_slice-2.ensures c.release.ensures.sizes.granules
 
 pub returns-clause-table : goal.returns-clause-table
 returns-clause-table c =
@@ -53,4 +53,4 @@ returns-clause-table c =
 
 pub returns-clause-holders : goal.returns-clause-holders
 returns-clause-holders c = released_both c.args.self.now c.as_slice.result.now c.as_slice-2.result.now _
-    c.release.new.holders.items _ c.as_slice.ensures c.as_slice-2.ensures c.release.ensures c.release-2.ensures
+    c.release.new.marks _ c.as_slice.ensures c.as_slice-2.ensures c.release.ensures c.release-2.ensures

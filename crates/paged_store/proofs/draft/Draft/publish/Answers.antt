@@ -19,11 +19,11 @@ push_extents-requires-clause-classes c = have_classes (table_of c.args.pages.now
 
 pub release-requires : goal.release-requires
 release-requires c = changed_within (table_of c.args.pages.now) _ c.args.k c.args.self.now c.requires.fits
-    c.as_slice.result.now _ c.as_slice.ensures c.requires.lengths
+    c.as_slice.result.now _ c.as_slice.ensures c.requires.granules
 
 pub release-requires-2 : goal.release-requires-2
 release-requires-2 c = made_within (table_of c.args.pages.now) _ c.args.k c.args.self.now c.requires.fits
-    c.as_slice-2.result.now _ c.as_slice-2.ensures (c.release.ensures.count ∙ c.requires.lengths)
+    c.as_slice-2.result.now _ c.as_slice-2.ensures (c.release.ensures.sizes.granules ∙ c.requires.granules)
 
 pub show-requires : goal.show-requires
 show-requires c = made_within (table_of c.args.pages.now) _ c.args.k c.args.self.now c.requires.fits
@@ -39,4 +39,4 @@ returns-clause-present c = shown_made c.args.self.now c.as_slice-3.result.now _ 
 
 pub returns-clause-holders : goal.returns-clause-holders
 returns-clause-holders c = released_both c.args.self.now c.as_slice.result.now c.as_slice-2.result.now _
-    c.release.new.holders.items _ c.as_slice.ensures c.as_slice-2.ensures c.release.ensures c.release-2.ensures
+    c.release.new.marks _ c.as_slice.ensures c.as_slice-2.ensures c.release.ensures c.release-2.ensures

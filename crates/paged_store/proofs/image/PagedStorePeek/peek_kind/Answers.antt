@@ -1,5 +1,4 @@
-use Rattle.std.proofs.Common.{◌<◌, length, slice_index}
-use Rattle.py_data.specs.Heap.{Rec, length_of, value_at}
+use Rattle.py_data.specs.Heap.{Rec}
 use Rattle.paged_store.proofs.StoreReads.{image_read, image_back}
 use Rattle.paged_store.proofs.image.PagedStorePeek.peek_kind.Goals as goal
 

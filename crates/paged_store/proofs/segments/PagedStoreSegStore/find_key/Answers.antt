@@ -1,6 +1,6 @@
 use Rattle.seg_store.specs.Meaning.{sees}
 use Rattle.paged_store.specs.Stores.{paged_meaning}
-use Rattle.paged_store.proofs.StoreReads.{key_there, key_kind, keys_seen, key_seen, key_knows, key_found, key_within}
+use Rattle.paged_store.proofs.StoreReads.{key_extent, key_index, key_pairs, key_differs, key_there, key_kind, keys_seen, key_seen, key_knows, key_found, key_within}
 use Rattle.paged_store.proofs.segments.PagedStoreSegStore.find_key.Goals as goal
 
 pub find_key-requires-clause-there : goal.find_key-requires-clause-there
@@ -17,6 +17,22 @@ find_key-requires-clause-keys c = keys_seen c.args.self.now c.args.k c.args.d.0 
 
 pub find_key-requires-clause-key : goal.find_key-requires-clause-key
 find_key-requires-clause-key c = key_seen c.args.self.now c.args.k c.args.d.0 c.args.key c.requires.segment
+    c.requires.there
+
+pub find_key-requires-clause-extent : goal.find_key-requires-clause-extent
+find_key-requires-clause-extent c = key_extent c.args.self.now c.args.k c.args.d.0 c.args.key c.requires.segment
+    c.requires.there
+
+pub find_key-requires-clause-index : goal.find_key-requires-clause-index
+find_key-requires-clause-index c = key_index c.args.self.now c.args.k c.args.d.0 c.args.key c.requires.segment
+    c.requires.there
+
+pub find_key-requires-clause-pairs : goal.find_key-requires-clause-pairs
+find_key-requires-clause-pairs c = key_pairs c.args.self.now c.args.k c.args.d.0 c.args.key c.requires.segment
+    c.requires.there
+
+pub find_key-requires-clause-differ : goal.find_key-requires-clause-differ
+find_key-requires-clause-differ c = key_differs c.args.self.now c.args.k c.args.d.0 c.args.key c.requires.segment
     c.requires.there
 
 pub returns-clause-found : goal.returns-clause-found

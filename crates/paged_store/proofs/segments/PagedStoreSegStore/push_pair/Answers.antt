@@ -1,4 +1,7 @@
 use Rattle.py_data.specs.declared.change.Change.TheVariants.{Pair}
+use Rattle.seg_store.proofs.Stores.{told}
+use Rattle.paged_store.specs.Stores.{paged_of, peaks_of}
+use Rattle.paged_store.proofs.PeakLemmas.{still_rises, still_rises_to}
 use Rattle.paged_store.proofs.StoreChanges.{readable, dict_rooms}
 use Rattle.paged_store.proofs.segments.PagedStoreSegStore.push_pair.Goals as goal
 
@@ -9,3 +12,11 @@ has_room-requires-clause-there c =
 pub has_room-requires-clause-kind : goal.has_room-requires-clause-kind
 has_room-requires-clause-kind c =
     dict_rooms c.args.self.now c.args.k c.args.d.0 c.requires.segment c.args.key c.args.v c.requires.there
+
+pub returns-in_err-add_pair-clause-peaks_err : goal.returns-in_err-add_pair-clause-peaks_err
+returns-in_err-add_pair-clause-peaks_err c = told c.from_residual.result
+    (still_rises_to (peaks_of c.args.self.now) (peaks_of c.add_pair.new.self) _ c.add_pair.ensures.peaks)
+
+pub returns-in_ok-add_pair-clause-peaks : goal.returns-in_ok-add_pair-clause-peaks
+returns-in_ok-add_pair-clause-peaks c = still_rises (paged_of c.args.self.now) (paged_of c.add_pair.new.self)
+    c.add_pair.new.self.sound.fine c.add_pair.ensures.peaks

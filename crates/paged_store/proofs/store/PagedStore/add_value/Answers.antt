@@ -1,4 +1,4 @@
-use Rattle.std.proofs.Common.{rules, arith}
+use Rattle.std.proofs.Common.{arith}
 use Rattle.py_data.specs.declared.change.Change.TheVariants.{Push}
 use Rattle.seg_store.proofs.Stores.{either, told}
 use Rattle.paged_store.proofs.StoreCalls.{segment_in}
@@ -40,3 +40,9 @@ returns-clause-ok c = (add_stands c.args.self.now c.args.k c.args.a.0 c.requires
     c.index_mut-draft.result.now
     c.index_mut-draft.ensures.value c.push_values.new.draft c.push_values.new.pages c.args.v c.requires.there
     c.requires.room c.known_value.ensures c.in_ok-push_values.ensures.ok).means
+
+pub returns-in_err-push_values-clause-peaks : goal.returns-in_err-push_values-clause-peaks
+returns-in_err-push_values-clause-peaks c = λ i n. (c.in_err-push_values.ensures.err.wrote.same.shelf i n).total
+
+pub returns-clause-peaks : goal.returns-clause-peaks
+returns-clause-peaks c = λ i n. (c.in_ok-push_values.ensures.ok.same.shelf i n).total

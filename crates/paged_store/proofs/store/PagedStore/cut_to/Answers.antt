@@ -1,4 +1,4 @@
-use Rattle.std.proofs.Common.{rules, arith}
+use Rattle.std.proofs.Common.{arith}
 use Rattle.py_data.specs.declared.change.Change.TheVariants.{Cut}
 use Rattle.seg_store.proofs.Stores.{either, told}
 use Rattle.paged_store.proofs.StoreCalls.{segment_in}
@@ -50,3 +50,9 @@ returns-clause-ok c = (cut_stands c.args.self.now c.args.k c.args.a.0 c.requires
     c.index_mut-draft.ensures.value c.cut.new.draft c.cut.new.pages c.args.n c.min-left.result c.requires.there
     (left_is c.args.self.now c.args.k c.args.a.0 c.args.n c.min-left.result c.len.result c.min-left.ensures
     c.len.ensures) c.in_ok-cut.ensures.ok).means
+
+pub returns-in_err-cut-clause-peaks : goal.returns-in_err-cut-clause-peaks
+returns-in_err-cut-clause-peaks c = λ i n. (c.in_err-cut.ensures.err.wrote.same.shelf i n).total
+
+pub returns-clause-peaks : goal.returns-clause-peaks
+returns-clause-peaks c = λ i n. (c.in_ok-cut.ensures.ok.same.shelf i n).total

@@ -1,11 +1,12 @@
-use Rattle.std.proofs.Common.{◌≡◌, ◌≤◌, [], ◌∷◌, arith}
+use Rattle.std.proofs.Common.{arith}
 use Rattle.std.proofs.lemmas.Result.{err_from_is_err_and}
 use Rattle.py_data.specs.declared.change.Change.TheVariants.{Pair}
-use Rattle.seg_store.proofs.Stores.{either, told}
+use Rattle.seg_store.proofs.Stores.{told}
 use Rattle.page_table.specs.Lists.{table_of}
 use Rattle.paged_store.proofs.StoreCalls.{segment_in}
 use Rattle.paged_store.proofs.StoreEnds.{table_segment}
-use Rattle.paged_store.proofs.GrowStore.{keeps, dict_grows, dict_stands, dict_refuses, dict_asks, ungrown_stands, ungrown_more, grew_more}
+use Rattle.paged_store.proofs.GrowStore.{keeps, dict_grows, dict_refuses, dict_asks, ungrown_stands, dict_gains, grow_refused}
+use Rattle.paged_store.proofs.GrowPair.{can_index, is_blank, dict_stands, dict_rises}
 use Rattle.paged_store.proofs.store.PagedStore.grow_pair.Goals as goal
 
 pub index_mut-draft-requires : goal.index_mut-draft-requires
@@ -22,16 +23,33 @@ grow-requires-clause-grows c = dict_grows c.args.self.now c.args.k c.args.d.0 c.
 pub grow-requires-clause-keeps : goal.grow-requires-clause-keeps
 grow-requires-clause-keeps c = keeps c.args.self.now c.args.k c.args.d.0 c.requires.segment c.requires.held
 
+pub fill_index-requires-clause-can : goal.fill_index-requires-clause-can
+fill_index-requires-clause-can c = can_index c.args.self.now c.args.k c.args.d.0 c.requires.segment c.requires.held
+    c.index_mut-draft.result.now c.index_mut-draft.ensures.value c.grow.new.draft c.grow.new.pages c.grow.ensures.most
+    c.args.key c.args.v c.requires.there c.requires.full c.known_value.ensures c.known_value-2.ensures
+    c.in_ok-grow.ensures.ok
+
+pub fill_index-requires-clause-blank : goal.fill_index-requires-clause-blank
+fill_index-requires-clause-blank c = is_blank c.args.self.now c.args.k c.args.d.0 c.requires.segment c.requires.held
+    c.index_mut-draft.result.now c.index_mut-draft.ensures.value c.grow.new.draft c.grow.new.pages c.grow.ensures.most
+    c.args.key c.args.v c.requires.there c.requires.full c.known_value.ensures c.known_value-2.ensures
+    c.in_ok-grow.ensures.ok
+
 pub invariant_of-self : goal.invariant_of-self
 invariant_of-self c = record {
-  sound = either _ c.grow.result c.grow.ensures.ok c.grow.ensures.err
-      (λ e. (dict_stands c.args.self.now c.args.k c.args.d.0 c.requires.segment c.requires.held
+  sound = (ungrown_stands c.args.self.now c.args.k c.args.d.0 c.requires.segment c.requires.held
+      c.index_mut-draft.result.now
+      c.index_mut-draft.ensures.value c.grow.new.draft c.grow.new.pages c.grow.ensures.most
+      c.in_err-grow.ensures.err).sound;
+}
+
+pub invariant_of-self-2 : goal.invariant_of-self-2
+invariant_of-self-2 c = record {
+  sound = (dict_stands c.args.self.now c.args.k c.args.d.0 c.requires.segment c.requires.held
       c.index_mut-draft.result.now
       c.index_mut-draft.ensures.value c.grow.new.draft c.grow.new.pages c.grow.ensures.most c.args.key c.args.v
-      c.requires.there c.requires.full c.known_value.ensures c.known_value-2.ensures e).sound)
-      (λ e. (ungrown_stands c.args.self.now c.args.k c.args.d.0 c.requires.segment c.requires.held
-      c.index_mut-draft.result.now
-      c.index_mut-draft.ensures.value c.grow.new.draft c.grow.new.pages c.grow.ensures.most e).sound);
+      c.requires.there c.requires.full c.known_value.ensures c.known_value-2.ensures c.in_ok-grow.ensures.ok
+      c.fill_index.new.pages c.fill_index.ensures.puts c.fill_index.ensures.index).sound;
 }
 
 pub returns-in_err-grow-clause-err : goal.returns-in_err-grow-clause-err
@@ -58,4 +76,23 @@ pub returns-clause-ok : goal.returns-clause-ok
 returns-clause-ok c = (dict_stands c.args.self.now c.args.k c.args.d.0 c.requires.segment c.requires.held
     c.index_mut-draft.result.now
     c.index_mut-draft.ensures.value c.grow.new.draft c.grow.new.pages c.grow.ensures.most c.args.key c.args.v
-    c.requires.there c.requires.full c.known_value.ensures c.known_value-2.ensures c.in_ok-grow.ensures.ok).means
+    c.requires.there c.requires.full c.known_value.ensures c.known_value-2.ensures c.in_ok-grow.ensures.ok
+    c.fill_index.new.pages c.fill_index.ensures.puts c.fill_index.ensures.index).means
+
+pub returns-in_err-grow-clause-rises_err : goal.returns-in_err-grow-clause-rises_err
+returns-in_err-grow-clause-rises_err c = told c.from_residual.result
+    (grow_refused c.args.self.now c.args.k c.args.d.0 c.requires.segment (Pair c.args.key c.args.v) c.requires.there
+    (table_of c.grow.new.pages)
+    (dict_gains c.args.self.now c.args.k c.args.d.0 c.requires.segment c.requires.held c.args.key c.args.v
+    c.requires.there c.requires.full) c.grow.ensures.rises)
+
+pub returns-clause-rises : goal.returns-clause-rises
+returns-clause-rises c = dict_rises c.args.self.now c.args.k c.args.d.0 c.requires.segment c.requires.held
+    c.index_mut-draft.result.now c.index_mut-draft.ensures.value c.grow.new.draft c.grow.new.pages c.grow.ensures.most
+    c.args.key c.args.v c.requires.there c.requires.full c.known_value.ensures c.known_value-2.ensures
+    c.in_ok-grow.ensures.ok c.fill_index.new.pages c.fill_index.ensures.puts _ c.grow.ensures.rises
+    (dict_stands c.args.self.now c.args.k c.args.d.0 c.requires.segment c.requires.held
+    c.index_mut-draft.result.now
+    c.index_mut-draft.ensures.value c.grow.new.draft c.grow.new.pages c.grow.ensures.most c.args.key c.args.v
+    c.requires.there c.requires.full c.known_value.ensures c.known_value-2.ensures c.in_ok-grow.ensures.ok
+    c.fill_index.new.pages c.fill_index.ensures.puts c.fill_index.ensures.index)

@@ -1,11 +1,11 @@
-use Rattle.std.proofs.Common.{◌≡◌, ◌≤◌, [], ◌∷◌, arith}
+use Rattle.std.proofs.Common.{[], ◌∷◌, arith}
 use Rattle.std.proofs.lemmas.Result.{err_from_is_err_and}
 use Rattle.py_data.specs.declared.change.Change.TheVariants.{Push}
 use Rattle.seg_store.proofs.Stores.{either, told}
 use Rattle.page_table.specs.Lists.{table_of}
 use Rattle.paged_store.proofs.StoreCalls.{segment_in}
 use Rattle.paged_store.proofs.StoreEnds.{table_segment}
-use Rattle.paged_store.proofs.GrowStore.{keeps, list_grows, list_stands, list_refuses, list_asks, ungrown_stands, ungrown_more, grew_more}
+use Rattle.paged_store.proofs.GrowStore.{keeps, list_grows, list_filled, list_stands, list_refuses, list_asks, ungrown_stands, list_gains, grow_refused, grew_rises}
 use Rattle.paged_store.proofs.store.PagedStore.grow_value.Goals as goal
 
 pub index_mut-draft-requires : goal.index_mut-draft-requires
@@ -59,3 +59,22 @@ returns-clause-ok c = (list_stands c.args.self.now c.args.k c.args.a.0 c.require
     c.index_mut-draft.result.now
     c.index_mut-draft.ensures.value c.grow.new.draft c.grow.new.pages c.grow.ensures.most c.args.v c.requires.there
     c.requires.full c.known_value.ensures c.in_ok-grow.ensures.ok).means
+
+pub returns-in_err-grow-clause-rises_err : goal.returns-in_err-grow-clause-rises_err
+returns-in_err-grow-clause-rises_err c = told c.from_residual.result
+    (grow_refused c.args.self.now c.args.k c.args.a.0 c.requires.segment (Push c.args.v) c.requires.there
+    (table_of c.grow.new.pages)
+    (list_gains c.args.self.now c.args.k c.args.a.0 c.requires.segment c.requires.held c.args.v c.requires.there
+    c.requires.full) c.grow.ensures.rises)
+
+pub returns-clause-rises : goal.returns-clause-rises
+returns-clause-rises c = grew_rises c.args.self.now c.args.k c.args.a.0 c.requires.segment c.requires.held
+    c.index_mut-draft.result.now c.index_mut-draft.ensures.value c.grow.new.draft c.grow.new.pages c.grow.ensures.most
+    (c.args.v ∷ []) _
+    (list_filled c.args.self.now c.args.k c.args.a.0 c.requires.segment c.requires.held c.index_mut-draft.result.now
+    c.index_mut-draft.ensures.value c.grow.new.draft c.grow.new.pages c.grow.ensures.most c.args.v
+    c.in_ok-grow.ensures.ok) c.grow.ensures.rises
+    (list_stands c.args.self.now c.args.k c.args.a.0 c.requires.segment c.requires.held
+    c.index_mut-draft.result.now
+    c.index_mut-draft.ensures.value c.grow.new.draft c.grow.new.pages c.grow.ensures.most c.args.v c.requires.there
+    c.requires.full c.known_value.ensures c.in_ok-grow.ensures.ok)

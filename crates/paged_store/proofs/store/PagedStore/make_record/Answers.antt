@@ -1,39 +1,24 @@
-use Rattle.std.proofs.Common.{◌≡◌, ℕ, ◌+◌, ◌*◌, ◌<◌, ◌≤◌, Result, OnErr, length, sym, ap, subst, arith}
+use Rattle.std.proofs.Common.{ℕ, ◌≤◌, ◌^◌, length, inl, arith}
 use Rattle.std.proofs.lemmas.Result.{err_from_is_err_and}
-use Rattle.seg_store.specs.Store.{IsStore}
+use Rattle.py_data.specs.declared.record.Record.{Record}
+use Rattle.py_data.specs.Made.{rec_of}
+use Rattle.py_data.specs.Shape.{IsShaped}
+use Rattle.seg_store.specs.Meaning.{sees}
 use Rattle.seg_store.proofs.Stores.{told}
 use Rattle.page_table.specs.Lists.{table_of}
-use Rattle.paged_store.specs.Words.{size_of}
-use Rattle.paged_store.specs.Stores.{paged_of, paged_meaning}
-use Rattle.paged_store.proofs.FineLemmas.{known_of}
-use Rattle.paged_store.proofs.StoreCalls.{segment_in}
+use Rattle.paged_store.specs.declared.store.PagedStore.{PagedStore}
+use Rattle.paged_store.specs.Stores.{paged_meaning}
+use Rattle.paged_store.specs.inner.Making.{FitsBody}
+use Rattle.paged_store.proofs.StoreCalls.{segment_in, segment_marks, free_granule}
 use Rattle.paged_store.proofs.StoreEnds.{table_segment}
-use Rattle.paged_store.proofs.MakeTakes.{classes_few}
-use Rattle.paged_store.proofs.MakeStore.{shape_one, made_short, made_body, header_class, header_index, make_refuses, make_asks, reach_stands, untaken_stands, untaken_more, placed_free, placed_more, placed_stands}
+use Rattle.paged_store.proofs.MakeStore.{make_refused, placed_rises, shape_one, made_short, made_body, make_refuses, make_asks, untaken_stands, placed_free, placed_can, placed_blank, placed_within, placed_stands}
 use Rattle.paged_store.proofs.store.PagedStore.make_record.Goals as goal
 
-pub size_of-requires : goal.size_of-requires
-size_of-requires c = (let m = (classes_few c.args.r.now).0 in let e =
-    (header_class c.args.r.now c.made-header.result.class c.length_of.result c.made-header.ensures.class
-    c.length_of.ensures) in omega (arith, m, e))
-
-pub size_of-requires-2 : goal.size_of-requires-2
-size_of-requires-2 c = (let m = (classes_few c.args.r.now).1 in let e =
-    (header_index c.args.r.now c.made-header.result.index c.length_of.result c.made-header.ensures.index
-    c.length_of.ensures) in omega (arith, m, e))
-
-pub invariant_of-self : goal.invariant_of-self
-invariant_of-self c = record {
-  sound = (reach_stands c.args.self.now c.args.k c.requires.segment
-      c.reach.new.present.items c.reach.new.holders.items c.reach.ensures.present
-      c.reach.ensures.holders c.reach.ensures.same).sound;
-}
-
-pub returns-in_err-reach-clause-err : goal.returns-in_err-reach-clause-err
-returns-in_err-reach-clause-err c = told c.from_residual.result
-    (reach_stands c.args.self.now c.args.k c.requires.segment c.reach.new.present.items c.reach.new.holders.items
-    c.reach.ensures.present
-    c.reach.ensures.holders c.reach.ensures.same).means
+-- a record of its kind's shape fits the body that it is made with
+fits_body : (s : PagedStore) (k : ℕ) (r : Record) → IsShaped (sees (paged_meaning s) k) (rec_of r)
+    → length r.values ≤ 2 ^ 20 → length r.bytes ≤ 2 ^ 20 → FitsBody r
+fits_body s k r shape values bytes =
+    made_body r (shape_one (sees (paged_meaning s) k) r shape) (made_short r values bytes)
 
 pub index_mut-draft-requires : goal.index_mut-draft-requires
 index_mut-draft-requires c = let l = segment_in c.args.self.now c.args.k c.requires.segment in
@@ -43,110 +28,100 @@ pub make-requires-clause-segment : goal.make-requires-clause-segment
 make-requires-clause-segment c = table_segment c.args.self.now c.args.k c.requires.segment
 
 pub make-requires-clause-fits : goal.make-requires-clause-fits
-make-requires-clause-fits c = (made_body c.args.r.now (shape_one _ c.args.r.now c.requires.shape)
-    (made_short c.args.r.now c.requires.values c.requires.bytes))
+make-requires-clause-fits c = fits_body c.args.self.now c.args.k c.args.r.now c.requires.shape c.requires.values
+    c.requires.bytes
 
-pub invariant_of-self-in-Break-branch-2 : goal.invariant_of-self-in-Break-branch-2
-invariant_of-self-in-Break-branch-2 c = record {
-  sound = (untaken_stands c.args.self.now c.args.k c.requires.segment c.reach.new.present.items
-      c.reach.new.holders.items c.reach.ensures.present
-      c.reach.ensures.holders c.reach.ensures.same c.index_mut-draft.result.now c.index_mut-draft.ensures.value
+pub invariant_of-self : goal.invariant_of-self
+invariant_of-self c = record {
+  sound = (untaken_stands c.args.self.now c.args.k c.requires.segment c.index_mut-draft.result.now
+      c.index_mut-draft.ensures.value
       c.make.new.draft c.make.new.pages c.make.ensures.within c.in_err-a.ensures.err).sound;
 }
 
 pub returns-in_err-a-clause-err : goal.returns-in_err-a-clause-err
-returns-in_err-a-clause-err c = told c.from_residual-in_err-a.result
-    (untaken_stands c.args.self.now c.args.k c.requires.segment c.reach.new.present.items c.reach.new.holders.items
-    c.reach.ensures.present
-    c.reach.ensures.holders c.reach.ensures.same c.index_mut-draft.result.now c.index_mut-draft.ensures.value
+returns-in_err-a-clause-err c = told c.from_residual.result
+    (untaken_stands c.args.self.now c.args.k c.requires.segment c.index_mut-draft.result.now
+    c.index_mut-draft.ensures.value
     c.make.new.draft c.make.new.pages c.make.ensures.within c.in_err-a.ensures.err).means
 
 pub returns-in_err-a-clause-cause : goal.returns-in_err-a-clause-cause
 returns-in_err-a-clause-cause c =
-    let p = err_from_is_err_and c.from_residual-in_err-a.result c.from_residual-in_err-a.ensures.1 in
+    let p = err_from_is_err_and c.from_residual.result c.from_residual.ensures.1 in
     rw (p.1, p.2) (make_refuses c.args.self.now c.args.r.now (table_of c.make.new.pages) _ c.in_err-a.ensures.cause)
 
 pub returns-in_err-a-clause-asked : goal.returns-in_err-a-clause-asked
 returns-in_err-a-clause-asked c =
-    let p = err_from_is_err_and c.from_residual-in_err-a.result c.from_residual-in_err-a.ensures.1 in
+    let p = err_from_is_err_and c.from_residual.result c.from_residual.ensures.1 in
     rw (p.1, p.2) (make_asks c.args.r.now (table_of c.args.self.now.pages) (table_of c.make.new.pages) _
     c.in_err-a.ensures.cause)
 
-pub overflow_add-k : goal.overflow_add-k
-overflow_add-k c =
-    let few : (paged_meaning c.args.self.now).segments ≤ 8 =
-    (known_of (paged_of c.args.self.now) c.args.self.now.sound.fine).few in
-    omega (arith, few, c.requires.segment)
+pub index_made-requires-clause-can : goal.index_made-requires-clause-can
+index_made-requires-clause-can c = placed_can c.args.self.now c.args.k c.requires.segment
+    c.index_mut-draft.result.now c.index_mut-draft.ensures.value c.make.new.draft c.make.new.pages c.args.r.now
+    c.in_ok-a.a.0 (fits_body c.args.self.now c.args.k c.args.r.now c.requires.shape c.requires.values c.requires.bytes)
+    c.in_ok-a.ensures.ok c.requires.values c.requires.bytes c.requires.shape c.known_record.ensures
+
+pub index_made-requires-clause-blank : goal.index_made-requires-clause-blank
+index_made-requires-clause-blank c = placed_blank c.args.self.now c.args.k c.requires.segment
+    c.index_mut-draft.result.now c.index_mut-draft.ensures.value c.make.new.draft c.make.new.pages c.args.r.now
+    c.in_ok-a.a.0 (fits_body c.args.self.now c.args.k c.args.r.now c.requires.shape c.requires.values c.requires.bytes)
+    c.in_ok-a.ensures.ok c.requires.values c.requires.bytes c.requires.shape c.known_record.ensures
+
+pub lock-requires-clause-segment : goal.lock-requires-clause-segment
+lock-requires-clause-segment c = segment_marks c.args.self.now c.args.k c.requires.segment
+
+pub lock-requires-clause-granule : goal.lock-requires-clause-granule
+lock-requires-clause-granule c = placed_within c.args.self.now c.args.k c.requires.segment
+    c.index_mut-draft.result.now c.index_mut-draft.ensures.value c.make.new.draft c.make.new.pages c.args.r.now
+    c.in_ok-a.a.0 (fits_body c.args.self.now c.args.k c.args.r.now c.requires.shape c.requires.values c.requires.bytes)
+    c.in_ok-a.ensures.ok c.requires.values c.requires.bytes c.requires.shape c.known_record.ensures
+    c.index_made.new.pages c.index_made.ensures.puts c.make.ensures.within
+
+pub lock-requires-clause-free : goal.lock-requires-clause-free
+lock-requires-clause-free c = inl (free_granule c.args.self.now c.in_ok-a.a.0
+    (placed_free c.args.self.now c.args.k c.requires.segment
+    c.index_mut-draft.result.now c.index_mut-draft.ensures.value c.make.new.draft c.make.new.pages c.args.r.now
+    c.in_ok-a.a.0 (fits_body c.args.self.now c.args.k c.args.r.now c.requires.shape c.requires.values c.requires.bytes)
+    c.in_ok-a.ensures.ok).held)
 
 pub invariant_of-self-2 : goal.invariant_of-self-2
-invariant_of-self-2 c =
-    let x = c.in_ok-a.ensures.most in
-    let y = c.in_ok-reach.ensures.ok in
-    let ec = ap size_of (header_class c.args.r.now c.made-header.result.class c.length_of.result
-    c.made-header.ensures.class c.length_of.ensures) in
-    let ei = ap size_of (header_index c.args.r.now c.made-header.result.index c.length_of.result
-    c.made-header.ensures.index c.length_of.ensures) in
-    let within : c.in_ok-a.a.0 < length c.reach.new.holders.items =
-    omega (
-      arith,
-      x,
-      y,
-      ec,
-      ei,
-      c.reach.ensures.same,
-      c.from.ensures,
-      c.size_of.ensures,
-      c.from-2.ensures,
-      c.size_of-2.ensures,
-      c.reserved.ensures,
-    ) in
-    record {
-      sound = (placed_stands c.args.self.now c.args.k c.requires.segment c.reach.new.present.items
-          c.reach.new.holders.items c.reach.ensures.present
-          c.reach.ensures.holders c.reach.ensures.same c.index_mut-draft.result.now c.index_mut-draft.ensures.value
-          c.make.new.draft c.make.new.pages c.make.ensures.within c.args.r.now c.in_ok-a.a.0
-          (made_body c.args.r.now (shape_one _ c.args.r.now c.requires.shape)
-          (made_short c.args.r.now c.requires.values c.requires.bytes))
-          c.in_ok-a.ensures.ok within c.requires.values c.requires.bytes (shape_one _ c.args.r.now c.requires.shape)
-          c.known_record.ensures).sound;
-    }
+invariant_of-self-2 c = record {
+  sound = (placed_stands c.args.self.now c.args.k c.requires.segment c.index_mut-draft.result.now
+      c.index_mut-draft.ensures.value c.make.new.draft c.make.new.pages c.args.r.now
+      c.in_ok-a.a.0
+      (fits_body c.args.self.now c.args.k c.args.r.now c.requires.shape c.requires.values c.requires.bytes)
+      c.in_ok-a.ensures.ok c.requires.values c.requires.bytes c.requires.shape c.known_record.ensures
+      c.index_made.new.pages c.index_made.ensures.puts c.make.ensures.within c.lock.new.self c.lock.ensures.sizes
+      c.lock.ensures.marks c.lock.ensures.holders c.index_made.ensures.index).sound;
+}
 
 pub returns-clause-fresh : goal.returns-clause-fresh
-returns-clause-fresh c = placed_free c.args.self.now c.args.k c.requires.segment c.reach.new.present.items
-    c.reach.new.holders.items c.reach.ensures.present
-    c.reach.ensures.holders c.reach.ensures.same c.index_mut-draft.result.now c.index_mut-draft.ensures.value
-    c.make.new.draft c.make.new.pages c.make.ensures.within c.args.r.now c.in_ok-a.a.0
-    (made_body c.args.r.now (shape_one _ c.args.r.now c.requires.shape)
-    (made_short c.args.r.now c.requires.values c.requires.bytes))
+returns-clause-fresh c = placed_free c.args.self.now c.args.k c.requires.segment c.index_mut-draft.result.now
+    c.index_mut-draft.ensures.value c.make.new.draft c.make.new.pages c.args.r.now
+    c.in_ok-a.a.0 (fits_body c.args.self.now c.args.k c.args.r.now c.requires.shape c.requires.values c.requires.bytes)
     c.in_ok-a.ensures.ok
 
 pub returns-clause-ok : goal.returns-clause-ok
-returns-clause-ok c =
-    let x = c.in_ok-a.ensures.most in
-    let y = c.in_ok-reach.ensures.ok in
-    let ec = ap size_of (header_class c.args.r.now c.made-header.result.class c.length_of.result
-    c.made-header.ensures.class c.length_of.ensures) in
-    let ei = ap size_of (header_index c.args.r.now c.made-header.result.index c.length_of.result
-    c.made-header.ensures.index c.length_of.ensures) in
-    let within : c.in_ok-a.a.0 < length c.reach.new.holders.items =
-    omega (
-      arith,
-      x,
-      y,
-      ec,
-      ei,
-      c.reach.ensures.same,
-      c.from.ensures,
-      c.size_of.ensures,
-      c.from-2.ensures,
-      c.size_of-2.ensures,
-      c.reserved.ensures,
-    ) in
-    (placed_stands c.args.self.now c.args.k c.requires.segment c.reach.new.present.items c.reach.new.holders.items
-    c.reach.ensures.present
-    c.reach.ensures.holders c.reach.ensures.same c.index_mut-draft.result.now c.index_mut-draft.ensures.value
-    c.make.new.draft c.make.new.pages c.make.ensures.within c.args.r.now c.in_ok-a.a.0
-    (made_body c.args.r.now (shape_one _ c.args.r.now c.requires.shape)
-    (made_short c.args.r.now c.requires.values c.requires.bytes))
-    c.in_ok-a.ensures.ok within c.requires.values c.requires.bytes (shape_one _ c.args.r.now c.requires.shape)
-    c.known_record.ensures).means
+returns-clause-ok c = (placed_stands c.args.self.now c.args.k c.requires.segment c.index_mut-draft.result.now
+    c.index_mut-draft.ensures.value c.make.new.draft c.make.new.pages c.args.r.now
+    c.in_ok-a.a.0 (fits_body c.args.self.now c.args.k c.args.r.now c.requires.shape c.requires.values c.requires.bytes)
+    c.in_ok-a.ensures.ok c.requires.values c.requires.bytes c.requires.shape c.known_record.ensures
+    c.index_made.new.pages c.index_made.ensures.puts c.make.ensures.within c.lock.new.self c.lock.ensures.sizes
+    c.lock.ensures.marks c.lock.ensures.holders c.index_made.ensures.index).means
+
+pub returns-in_err-a-clause-rises_err : goal.returns-in_err-a-clause-rises_err
+returns-in_err-a-clause-rises_err c = told c.from_residual.result
+    (make_refused c.args.self.now (table_of c.make.new.pages) c.args.r.now c.make.ensures.rises)
+
+pub returns-clause-rises : goal.returns-clause-rises
+returns-clause-rises c = placed_rises c.args.self.now c.args.k c.requires.segment c.index_mut-draft.result.now
+    c.index_mut-draft.ensures.value c.make.new.draft c.make.new.pages c.args.r.now
+    c.in_ok-a.a.0 (fits_body c.args.self.now c.args.k c.args.r.now c.requires.shape c.requires.values c.requires.bytes)
+    c.in_ok-a.ensures.ok c.requires.values c.requires.bytes c.requires.shape c.known_record.ensures
+    c.index_made.new.pages c.index_made.ensures.puts c.lock.new.self c.make.ensures.rises
+    (placed_stands c.args.self.now c.args.k c.requires.segment c.index_mut-draft.result.now
+    c.index_mut-draft.ensures.value c.make.new.draft c.make.new.pages c.args.r.now
+    c.in_ok-a.a.0 (fits_body c.args.self.now c.args.k c.args.r.now c.requires.shape c.requires.values c.requires.bytes)
+    c.in_ok-a.ensures.ok c.requires.values c.requires.bytes c.requires.shape c.known_record.ensures
+    c.index_made.new.pages c.index_made.ensures.puts c.make.ensures.within c.lock.new.self c.lock.ensures.sizes
+    c.lock.ensures.marks c.lock.ensures.holders c.index_made.ensures.index).sound.fine

@@ -15,22 +15,25 @@ pub publish-requires-clause-fits : goal.publish-requires-clause-fits
 publish-requires-clause-fits c = draft_fits c.args.self.now c.args.k c.requires c.index_mut-draft.result.now
     c.index_mut-draft.ensures.value
 
-pub publish-requires-clause-lengths : goal.publish-requires-clause-lengths
-publish-requires-clause-lengths c = c.args.self.now.sound.fine.fits.lengths
+pub publish-requires-clause-granules : goal.publish-requires-clause-granules
+publish-requires-clause-granules c = c.args.self.now.sound.addresses
 
 pub invariant_of-self : goal.invariant_of-self
 invariant_of-self c = record {
   sound = (publish_stands c.args.self.now c.args.k c.requires c.index_mut-draft.result.now
       c.index_mut-draft.ensures.value c.publish.new.self c.publish.new.pages c.publish.new.present.items
-      c.publish.new.holders.items c.publish.ensures.draft c.publish.ensures.table c.publish.ensures.present
+      c.publish.new.marks c.publish.ensures.draft c.publish.ensures.table c.publish.ensures.present
       c.publish.ensures.holders).sound;
 }
 
 pub returns-clause-meaning : goal.returns-clause-meaning
 returns-clause-meaning c = (publish_stands c.args.self.now c.args.k c.requires c.index_mut-draft.result.now
     c.index_mut-draft.ensures.value c.publish.new.self c.publish.new.pages c.publish.new.present.items
-    c.publish.new.holders.items c.publish.ensures.draft c.publish.ensures.table c.publish.ensures.present
+    c.publish.new.marks c.publish.ensures.draft c.publish.ensures.table c.publish.ensures.present
     c.publish.ensures.holders).means
 
 pub returns-clause-reserved : goal.returns-clause-reserved
 returns-clause-reserved c = ap (λ (t : Table). t.reserved) c.publish.ensures.table
+
+pub returns-clause-peaks : goal.returns-clause-peaks
+returns-clause-peaks c = λ i n. ((c.publish.ensures.table i).shelf n).total

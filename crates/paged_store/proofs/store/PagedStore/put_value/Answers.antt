@@ -1,4 +1,4 @@
-use Rattle.std.proofs.Common.{rules, arith}
+use Rattle.std.proofs.Common.{arith}
 use Rattle.py_data.specs.declared.change.Change.TheVariants.{Set}
 use Rattle.seg_store.proofs.Stores.{either, told}
 use Rattle.paged_store.proofs.StoreCalls.{segment_in}
@@ -57,3 +57,9 @@ returns-clause-ok c = (put_stands c.args.self.now c.args.k c.args.a.0 c.requires
     c.index_mut-draft.result.now
     c.index_mut-draft.ensures.value c.set_value.new.draft c.set_value.new.pages c.args.i c.args.v c.requires.there
     c.known_value.ensures c.in_ok-set_value.ensures.ok).means
+
+pub returns-in_err-set_value-clause-peaks : goal.returns-in_err-set_value-clause-peaks
+returns-in_err-set_value-clause-peaks c = λ i n. (c.in_err-set_value.ensures.err.wrote.same.shelf i n).total
+
+pub returns-clause-peaks : goal.returns-clause-peaks
+returns-clause-peaks c = λ i n. (c.in_ok-set_value.ensures.ok.same.shelf i n).total

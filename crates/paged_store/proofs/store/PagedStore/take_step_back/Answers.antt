@@ -1,7 +1,7 @@
 use Rattle.std.proofs.Common.{ap, arith}
 use Rattle.page_table.specs.Pages.{Table}
 use Rattle.paged_store.proofs.StoreCalls.{segment_in}
-use Rattle.paged_store.proofs.StoreEnds.{table_segment, draft_fits_holders, room_for_step, undo_stands}
+use Rattle.paged_store.proofs.StoreEnds.{table_segment, draft_fits_marks, room_for_step, undo_stands}
 use Rattle.paged_store.proofs.store.PagedStore.take_step_back.Goals as goal
 
 pub index_mut-draft-requires : goal.index_mut-draft-requires
@@ -12,7 +12,7 @@ pub take_back-requires-clause-segment : goal.take_back-requires-clause-segment
 take_back-requires-clause-segment c = table_segment c.args.self.now c.args.k c.requires
 
 pub take_back-requires-clause-fits : goal.take_back-requires-clause-fits
-take_back-requires-clause-fits c = draft_fits_holders c.args.self.now c.args.k c.requires c.index_mut-draft.result.now
+take_back-requires-clause-fits c = draft_fits_marks c.args.self.now c.args.k c.requires c.index_mut-draft.result.now
     c.index_mut-draft.ensures.value
 
 pub take_back-requires-clause-room : goal.take_back-requires-clause-room
@@ -22,13 +22,13 @@ take_back-requires-clause-room c = room_for_step c.args.self.now c.args.k c.requ
 pub invariant_of-self : goal.invariant_of-self
 invariant_of-self c = record {
   sound = (undo_stands c.args.self.now c.args.k c.requires c.index_mut-draft.result.now
-      c.index_mut-draft.ensures.value c.take_back.new.self c.take_back.new.pages c.take_back.new.holders.items
+      c.index_mut-draft.ensures.value c.take_back.new.self c.take_back.new.pages c.take_back.new.marks
       c.take_back.ensures.draft c.take_back.ensures.table c.take_back.ensures.holders).sound;
 }
 
 pub returns-clause-meaning : goal.returns-clause-meaning
 returns-clause-meaning c = (undo_stands c.args.self.now c.args.k c.requires c.index_mut-draft.result.now
-    c.index_mut-draft.ensures.value c.take_back.new.self c.take_back.new.pages c.take_back.new.holders.items
+    c.index_mut-draft.ensures.value c.take_back.new.self c.take_back.new.pages c.take_back.new.marks
     c.take_back.ensures.draft c.take_back.ensures.table c.take_back.ensures.holders).means
 
 pub returns-clause-reserved : goal.returns-clause-reserved

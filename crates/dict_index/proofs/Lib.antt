@@ -1,0 +1,15 @@
+pub mod Circle
+pub mod Put
+pub mod Count
+pub mod Walking
+pub mod Homes
+pub mod Entering
+pub mod Closing
+pub mod Lowering
+pub mod Frame
+pub mod Right
+pub mod Classes
+pub mod Pairs
+pub mod Gone
+pub mod Kept
+pub mod Seeking

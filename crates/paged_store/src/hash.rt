@@ -1,0 +1,92 @@
+//! Hashes of keys, and their homes in an index.
+ghost use Rattle.std.specs.Prelude.{◌≡◌, ◌*◌, ◌^◌, ◌<◌, ◌≤◌, length, Some};
+ghost use Rattle.py_base.specs.declared.kind.Kind.TheVariants.{Str};
+ghost use Rattle.py_data.specs.Shape.{text_in};
+ghost use Rattle.page_table.specs.Lists.{table_of};
+ghost use Rattle.dict_index.specs.Packed.{packed};
+ghost use Rattle.dict_index.specs.Keys.{text_or_name, hash_text, hash_of, home_of};
+ghost use Rattle.paged_store.specs.Words.{body_by};
+ghost use Rattle.paged_store.specs.inner.Sight.{words_seen, record_seen, CanRead, IsKeySeen};
+ghost use Rattle.paged_store.specs.inner.Indexed.{class_by};
+
+use crate::find::text;
+use crate::sight::{Seen, kind, word};
+use dict_index::hash::{BUILT, NAMED, hash_int, hash_length, mix};
+use dict_index::slots::home_from;
+use page_table::Pages;
+use py_data::{Kind, Value};
+
+/// The word of that number, from 0, of a string of `n` bytes that begins at `x`. What stands behind its bytes is left
+/// out.
+fn text_word(pages: &Pages, seen: Seen, a: u32, x: usize, n: usize, j: usize) -> u64
+    requires there { CanRead (table_of pages.now) seen a }
+    requires kind { (record_seen (table_of pages.now) seen a).kind ≡ Str }
+    requires body { x ≡ body_by (words_seen (table_of pages.now) seen) a }
+    requires length { n ≡ length (record_seen (table_of pages.now) seen a).bytes }
+    requires within { 8 * j < n }
+    ensures { result ≡ packed (record_seen (table_of pages.now) seen a).bytes j }
+{
+    pages.known();
+    let word = word(pages, seen, (x + j) as u32);
+    let left = n - 8 * j;
+    if left < 8 {
+        word % (1u64 << (8 * left))
+    } else {
+        word
+    }
+}
+
+/// The hash of the string at an address.
+fn text_hash(pages: &Pages, seen: Seen, a: u32) -> u64
+    requires there { CanRead (table_of pages.now) seen a }
+    requires kind { (record_seen (table_of pages.now) seen a).kind ≡ Str }
+    ensures { result ≡ hash_text (record_seen (table_of pages.now) seen a).bytes }
+{
+    pages.known();
+    let (x, n) = text(pages, seen, a);
+    let mut hash = hash_length(n);
+    'words: for j in 0..(n + 7) / 8 {
+        hash = mix(hash, text_word(pages, seen, a, x, n, j));
+    }
+    hash
+}
+
+/// The hash of an address as a key: of a string it is that of its bytes.
+#[tactic(auto, unfolding(dict_index::specs::Keys::hash_of))]
+fn address_hash(pages: &Pages, seen: Seen, a: u32) -> u64
+    requires { CanRead (table_of pages.now) seen a }
+    ensures { result ≡ hash_of (text_or_name a (text_in (Some (record_seen (table_of pages.now) seen a)))) }
+{
+    match kind(pages, seen, a) {
+        Kind::Str => text_hash(pages, seen, a),
+        _ => mix(NAMED, u64::from(a)),
+    }
+}
+
+/// The hash of what a key has in common with those that are equal to it.
+#[tactic(auto, unfolding(dict_index::specs::Keys::hash_of))]
+pub(crate) fn class_hash(pages: &Pages, seen: Seen, key: Value) -> u64
+    requires { IsKeySeen (table_of pages.now) seen key }
+    ensures { result ≡ hash_of (class_by (words_seen (table_of pages.now) seen) key) }
+{
+    match key {
+        Value::Unset => 0,
+        Value::None => 3,
+        Value::Bool(b) => hash_int(b as i64),
+        Value::Int(i) => hash_int(i),
+        Value::Ref(a) => address_hash(pages, seen, a.0),
+        Value::Builtin(b) => mix(BUILT, u64::from(b)),
+    }
+}
+
+/// The slot, of `n`, from which a key is looked for.
+#[tactic(auto, unfolding(dict_index::specs::Keys::home_of))]
+pub(crate) fn home(pages: &Pages, seen: Seen, key: Value, n: usize) -> usize
+    requires key { IsKeySeen (table_of pages.now) seen key }
+    requires some { 0 < n }
+    requires few { n ≤ 2 ^ 21 }
+    ensures value { result ≡ home_of n (class_by (words_seen (table_of pages.now) seen) key) }
+    ensures within { result < n }
+{
+    home_from(class_hash(pages, seen, key), n)
+}

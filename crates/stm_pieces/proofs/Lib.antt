@@ -1,0 +1,9 @@
+pub mod Coming
+pub mod Edits
+pub mod Lift
+pub mod Loaned
+pub mod Pairs
+pub mod Running
+pub mod Turns
+pub mod Walk
+pub mod ScriptStands

@@ -1,0 +1,14 @@
+//! Pieces: steps of a thread over copies of records, with nothing shared.
+#![tactic(auto)]
+
+mod known;
+mod loan;
+mod run;
+#[cfg(test)]
+mod tests;
+mod view;
+
+pub use known::knows;
+pub use loan::{Loan, Piece, run_piece};
+pub use run::{PieceEnd, run_steps};
+pub use view::{PieceView, Term};

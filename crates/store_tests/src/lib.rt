@@ -1,0 +1,21 @@
+//! The stores of the segmented heap, tried by rows and by lists of events. It has tests alone.
+#![tactic(auto)]
+
+#[cfg(test)]
+mod acts;
+#[cfg(test)]
+mod bench;
+#[cfg(test)]
+mod both;
+#[cfg(test)]
+mod extents;
+#[cfg(test)]
+mod index_rows;
+#[cfg(test)]
+mod lists;
+#[cfg(test)]
+mod numbers;
+#[cfg(test)]
+mod page_rows;
+#[cfg(test)]
+mod store_rows;
