@@ -1,0 +1,9 @@
+mod Opening
+mod Keeping
+mod Telling
+mod Standing
+mod Causes
+mod Wording
+mod Refusing
+mod Leading
+mod Finishing

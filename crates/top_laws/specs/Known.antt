@@ -1,0 +1,51 @@
+-- What is known of a call from outside, before it and by its report: the script that the words name, the machine to
+-- which the history leads, and that no device failed. States `docs/LANGUAGE.md`, "The top call".
+use Rattle.std.specs.Prelude.{◌≡◌, ℕ, ◌≤◌, List, [], length, Some}
+use Rattle.stm_io.specs.Outside.{Rose}
+use Rattle.lock_run.specs.declared.turn.Turn.{Turn}
+use Rattle.lock_run.specs.Prog.{Prog}
+use Rattle.lock_run.specs.RunState.{first_world}
+use Rattle.lock_run.specs.Machine.{Machine, Runs, begin_with}
+use Rattle.stm_words.specs.declared.call.Script.{Script}
+use Rattle.stm_words.specs.declared.call.Script.TheVariants.{Source, File, Demo}
+use Rattle.stm_words.specs.Demo.{demo_of}
+use Rattle.stm_top.specs.TopCall.{Devices}
+
+-- the whole script, where it is told: all that the source has, the file of that name, or the workload's text
+abbrev pub IsScriptOf : Script → List ℕ → Devices → Type 0
+IsScriptOf Source text a = a.input.told ≡ Some text
+IsScriptOf (File name) text a = a.loader.told name ≡ Some text
+IsScriptOf (Demo n) text a = text ≡ demo_of n
+
+-- the input behind the script, where it is told: nothing, or all that the source has
+abbrev pub IsInputOf : Script → List ℕ → Devices → Type 0
+IsInputOf Source input a = input ≡ []
+IsInputOf _ input a = a.input.told ≡ Some input
+
+-- no longer than a script may be, as each workload is
+abbrev pub IsShort : Script → List ℕ → Type 0
+IsShort (Demo n) text = Unit {0}
+IsShort _ text = length text ≤ 4194304
+
+-- longer than a script may be
+abbrev pub IsLong : Script → List ℕ → Type 0
+IsLong (Demo n) text = ⊥
+IsLong _ text = 4194305 ≤ length text
+
+-- The script has this program, and the history, as turns of its threads over the input behind the script, leads to this
+-- machine.
+pub record Leads {P S : Type 0} (is_code : List ℕ → P → Type 0) (rows : P → Prog S) (script : Script) (a : Devices)
+    (history : List Turn) (program : P) (machine : Machine S) : Type 0 where
+  pub text : List ℕ
+  pub whole : IsScriptOf script text a
+  pub is : is_code text program
+  pub rest : List ℕ
+  pub input : IsInputOf script rest a
+  pub run : Runs (rows program) (begin_with (rows program) (first_world (Some rest))) history machine
+
+-- no device failed: no count of failures rose, or stands at its last number
+pub record NoneRose (a b : Devices) : Type 0 where
+  pub loader : Rose a.loader.faults b.loader.faults → ⊥
+  pub input : Rose a.input.faults b.input.faults → ⊥
+  pub out : Rose a.out.faults b.out.faults → ⊥
+  pub err : Rose a.err.faults b.err.faults → ⊥
