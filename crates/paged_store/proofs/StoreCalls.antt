@@ -1,10 +1,10 @@
 -- A store's calls on its fields in memory.
-use Rattle.std.proofs.Common.{◌≡◌, ℕ, ◌<◌, Bool, true, false, cond, List, length, get_or, slice_index_or, slice_set, Option, Some, None, IsSome, inl, inr, refl, sym, ◌∙◌, ap, subst, arith}
+use Rattle.std.proofs.Common.{◌≡◌, ℕ, ◌<◌, Bool, true, false, cond, List, length, get_or, slice_index_or, slice_set, Option, Some, None, IsSome, is_some, inl, inr, refl, sym, ◌∙◌, ap, subst, arith}
 use Rattle.std.proofs.lemmas.Bool.{cases_lt, both_ways}
 use Rattle.std.proofs.lemmas.List.{length-set}
 use Rattle.std.proofs.lemmas.Option.{slice_get_past}
 use Rattle.py_data.specs.Collection.{places}
-use Rattle.py_data.specs.Heap.{Has, Marks}
+use Rattle.py_data.specs.Heap.{Rec, Has, Marks}
 use Rattle.py_data.specs.Sight.{no_marks, with_mark}
 use Rattle.seg_store.specs.Meaning.{Meaning, over, sees, holds}
 use Rattle.seg_store.specs.Calls.{after_begin, after_mark, after_lock, after_open}
@@ -56,6 +56,16 @@ stands_after s u ps t ds m table present sizes drafts v = record {
   };
   means = v.means;
 }
+
+-- a record of the image stands at an address where the list says so
+pub stands_is : (s : PagedStore) (a : ℕ) (b : Bool) → b ≡ get_or s.present.items a false →
+    b ≡ is_some ((paged_meaning s).image a)
+unfolding meaning_in state_of
+stands_is s a b e = e ∙ by_test (decode (paged_of s).table.shared a) (get_or s.present.items a false)
+  where
+    by_test : (r : Rec) (there : Bool) → there ≡ is_some (cond there (Some r) None)
+    by_test r true = refl
+    by_test r false = refl
 
 -- ---- another draft for a segment
 

@@ -1,5 +1,5 @@
 //! Who holds a store's records, and which of its addresses have records of the image.
-ghost use Rattle.std.specs.Prelude.{◌≡◌, ℕ, ◌<◌, true, length};
+ghost use Rattle.std.specs.Prelude.{◌≡◌, ℕ, ◌<◌, true, false, length, get_or};
 ghost use Rattle.py_data.specs.Collection.{places};
 ghost use Rattle.py_data.specs.Sight.{mem};
 ghost use Rattle.seg_marks.specs.Marks.{granules};
@@ -26,4 +26,12 @@ pub fn show(present: &mut Vec<bool>, names: &[Addr])
     'names: for a in names {
         present[a.0 as usize] = true;
     }
+}
+
+/// Whether the record at an address is of the image.
+pub fn is_shown(present: &Vec<bool>, a: u32) -> bool
+    ensures { result ≡ get_or present.now.items a false }
+{
+    let a = a as usize;
+    a < present.len() && present[a]
 }

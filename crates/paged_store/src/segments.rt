@@ -117,6 +117,10 @@ impl SegStore for PagedStore {
         self.take_step_back(k);
     }
 
+    fn stands(&self, a: Addr) -> bool {
+        self.stands_at(a)
+    }
+
     fn holder(&self, a: Addr) -> Option<u8> {
         self.held_by(a)
     }

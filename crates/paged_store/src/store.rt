@@ -1,11 +1,12 @@
 //! A store of records in words.
-ghost use Rattle.std.specs.Prelude.{◌≡◌, ℕ, ◌*◌, ◌<◌, ◌≤◌, false, [], length, slice_get, Some, OnOk, OnErr, IfOk};
+ghost use Rattle.std.specs.Prelude.{◌≡◌, ℕ, ◌*◌, ◌<◌, ◌≤◌, false, [], is_some, length, slice_get, Some, OnOk, OnErr, IfOk};
 ghost use Rattle.py_data.specs.Heap.{Has};
 ghost use Rattle.seg_store.specs.Meaning.{sees, holds};
 ghost use Rattle.seg_store.specs.Store.{NoOther, IsHolder, IsStore, IsEmpty};
 ghost use Rattle.seg_store.specs.Calls.{after_begin, after_mark, after_lock, after_open, after_undo, after_publish, after_drop};
 ghost use Rattle.paged_store.specs.inner.Paged.{IsPaged, no_draft, drafted_in};
 
+use crate::books::is_shown;
 use crate::draft::Draft;
 use page_table::Pages;
 use py_data::{Addr, NoMemory};
@@ -114,6 +115,13 @@ impl PagedStore {
     {
         self.marks.mark(k, a.0);
         Ok(())
+    }
+
+    /// Whether a record of the image stands at an address.
+    pub fn stands_at(&self, a: Addr) -> bool
+        ensures { result ≡ is_some ((paged_meaning self.now).image a.0) }
+    {
+        is_shown(&self.present, a.0)
     }
 
     /// The segment that holds a record.

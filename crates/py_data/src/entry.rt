@@ -60,6 +60,31 @@ impl Entry {
         })
     }
 
+    /// The entry of a record that stands somewhere else, of these lists and with its rooms, which are 0 for a kind that has
+    /// none.
+    pub fn standing(
+        kind: Kind,
+        mut values: Vec<Value>,
+        bytes: Bytes,
+        room: usize,
+        first: usize,
+    ) -> Result<Entry, NoMemory>
+        requires values { length values.items ≤ LENGTH_LIMIT }
+        requires bytes { length bytes ≤ LENGTH_LIMIT }
+        requires roomy { has_rooms kind ≡ true → length values.items ≤ room }
+        ensures { IfOk result (λ e. e ≡ record { kind = kind; values = values.items; bytes = bytes; room = room; first = first }) }
+    {
+        let more = room.saturating_sub(values.len());
+        values.reserve_exact(more)?;
+        Ok(Entry {
+            kind,
+            values,
+            bytes,
+            room,
+            first,
+        })
+    }
+
     /// An equal entry in memory of its own, its rooms too.
     pub fn copy(&self, alloc: Global) -> Result<Entry, NoMemory>
         ensures { IfOk result (λ e. e ≡ self.now) }

@@ -371,6 +371,10 @@ impl SegStore for PlainStore {
         self.hands[k as usize].undo();
     }
 
+    fn stands(&self, a: Addr) -> bool {
+        self.committed(a.0).is_some()
+    }
+
     fn holder(&self, a: Addr) -> Option<u8> {
         'segments: for k in 0..self.hands.len() {
             if self.hands[k].holds(a) {

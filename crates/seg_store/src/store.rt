@@ -1,5 +1,5 @@
 //! What the transactional core asks of a store.
-ghost use Rattle.std.specs.Prelude.{◌≡◌, ℕ, ◌≤◌, Option, Some, None, [], length, take, drop, slice_get, IfOk, IfErr, IfSome, OnOk, OnErr, true, ◌<◌, ◌*◌, ◌+◌};
+ghost use Rattle.std.specs.Prelude.{◌≡◌, ℕ, ◌≤◌, Option, Some, None, [], is_some, length, take, drop, slice_get, IfOk, IfErr, IfSome, OnOk, OnErr, true, ◌<◌, ◌*◌, ◌+◌};
 ghost use Rattle.py_data.specs.declared.record.TheConstants.{LENGTH_LIMIT};
 ghost use Rattle.py_data.specs.declared.change.Change.TheVariants.{Set, Push, Cut, Pair, Unpair};
 ghost use Rattle.py_data.specs.Changes.{after};
@@ -237,6 +237,10 @@ pub trait SegStore: Peek + Drop {
         ensures meaning { meaning self.new ≡ after_undo k (meaning self.old) }
         ensures reserved { reserved self.new ≡ reserved self.old }
         ensures peaks { peaks self.new ≡ peaks self.old };
+
+    /// Whether a record of the image stands at an address.
+    fn stands(&self, a: Addr) -> bool
+        ensures { result ≡ is_some ((meaning self.now).image a.0) };
 
     /// The segment that holds a record.
     fn holder(&self, a: Addr) -> Option<u8>
