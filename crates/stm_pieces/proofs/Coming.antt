@@ -1,7 +1,8 @@
 -- Why a step can't be done over a piece view, by the step's own meaning.
-use Rattle.std.proofs.Common.{◌≡◌, ◌⊎◌, ℕ, ◌+◌, ◌<◌, false, List, MatchOption, length, sym, ◌∙◌, ap, subst, inl, inr}
+use Rattle.std.proofs.Common.{◌≡◌, ℕ, ◌<◌, List, MatchOption, sym, ◌∙◌, ap, subst, inl, inr}
 use Rattle.py_data.specs.Heap.{Heap, Marks}
 use Rattle.py_data.specs.World.{World}
+use Rattle.py_data.specs.declared.change.Change.{Change}
 use Rattle.py_data.specs.declared.stop.Stop.{Stop}
 use Rattle.py_data.specs.declared.stop.Stop.TheVariants as stop
 use Rattle.py_data.specs.declared.stop.Stop.TheVariants.{OutOfMemory}
@@ -17,20 +18,20 @@ use Rattle.lock_run.specs.declared.client.Outcome.{Outcome}
 use Rattle.lock_run.specs.Client.{StepStopped}
 use Rattle.stm_pieces.specs.declared.run.PieceEnd.{PieceEnd}
 use Rattle.stm_pieces.specs.declared.run.PieceEnd.TheVariants as end
-use Rattle.stm_pieces.specs.PieceState.{PieceState, SameTerms, Outer, Lacks, NeedsHeap, Why, growth}
+use Rattle.stm_pieces.specs.PieceState.{PieceState, SameTerms, Outer, Lacks, NeedsHeap, Why}
 use Rattle.stm_pieces.specs.PieceSense.{piece_sense, piece_bracket}
 use Rattle.stm_pieces.specs.Ends.{ComesTo, ComesOut, ComesToNeed, Hindered, EndsSo}
 use Rattle.stm_pieces.specs.inner.Ending.{end_for}
 use Rattle.stm_pieces.specs.inner.Walked.{Walked}
 use Rattle.stm_pieces.proofs.Running.{upto_piece, upto_out, GoesOut}
-use Rattle.stm_pieces.proofs.Walk.{walked_begins, shown_follows, opened_terms, base_upto, stopped_back, terms_then}
+use Rattle.stm_pieces.proofs.Walk.{AsBefore, walked_begins, shown_follows, opened_terms, base_upto, stopped_back, terms_then, terms_back}
 
 -- ---- what a call needs, of another view with the same records and terms
-lacks_same : (d e : PieceState) (a n : ℕ) → e.heap ≡ d.heap → e.most ≡ d.most → e.locked ≡ d.locked → Lacks d a n →
-    Lacks e a n
-lacks_same d e a n h m l x =
+lacks_same : (d e : PieceState) (a : ℕ) (c : Change) → e.heap ≡ d.heap → e.most ≡ d.most → e.locked ≡ d.locked →
+    Lacks d a c → Lacks e a c
+lacks_same d e a c h m l x =
     let P : Heap → (ℕ → ℕ) → Marks → Type 0 =
-    λ g most locked. MatchOption (g a) (Unit {0}) (λ r. (locked a ≡ false) ⊎ (most a < length r.values + n)) in
+    λ g most locked. Lacks (record d { heap = g; most = most; locked = locked }) a c in
     subst (λ g. P g e.most e.locked) (sym h) (subst (λ t. P d.heap t e.locked) (sym m)
     (subst (λ t. P d.heap d.most t) (sym l) x))
 
@@ -39,7 +40,7 @@ needs_same : {S : Type 0} (c : Call S) (d e : PieceState) → e.heap ≡ d.heap 
 needs_same (Read a) d e h t x = ap (λ g. g a) h ∙ x
 needs_same (Find a key) d e h t x =
     subst (λ g. MatchOption (g a) (Unit {0}) (λ r. Fits g r key → ⊥)) (sym h) x
-needs_same (Edit a c) d e h t x = lacks_same d e a (growth c) h t.most t.locked x
+needs_same (Edit a c) d e h t x = lacks_same d e a c h t.most t.locked x
 needs_same (Make q) d e h t x = tt
 needs_same (Start s) d e h t x = tt
 needs_same (Put on b) d e h t x = absurd x
@@ -72,26 +73,28 @@ module _ {S X : Type 0} (state : X → PieceState) (p : Prog S) (sound : Heap �
     -- the place at which a row was refused for want of the heap, by its meaning
     needs_here : (c : Call S) (f : Reply c → Row S (Outcome × S)) (v1 m x : X) → (piece_bracket state S).opens v v1 →
         Upto (piece_sense state S) (p.row q) v1 (Do c f) m → NeedsHeap c (state m)
-        → ((state x).heap ≡ (state v).heap) × SameTerms (state v) (state x) → ComesToNeed (p.row q) (state x)
+        → AsBefore (state v) (state x) → ComesToNeed (p.row q) (state x)
     needs_here c f v1 m x op up need back = λ w.
         let first = walked_begins state p sound {v = v} k w in
         let o = opened_terms state p sound v v1 op in
-        let fo = shown_follows d0 (state v) (state v1) (opened S (state v).heap w) o.0 o.2 first in
+        let fo = shown_follows d0 (state v) (state v1) (opened S (state v).heap w) o first in
         let y = upto_piece state (p.row q) (Do c f) d0 v1 m (opened S (state v).heap w) (prints q)
         (needs_no_write c f (state m) need) up fo in
         let u = (base_upto state p sound (p.row q) (Do c f) v1 m up).terms in
-        let t = terms_then (state v) (state v1) (state m) o.2 u in
-        let same : SameTerms (state m) (state x) = record {
-          most = back.1.most ∙ sym t.most;
-          locked = back.1.locked ∙ sym t.locked;
-          solo = back.1.solo ∙ sym t.solo;
-        } in record {
+        let t = terms_then (state v) (state v1) (state m) o.terms u in
+        let same = terms_then (state m) (state v) (state x) (terms_back (state v) (state m) t) back.terms in record {
           call = c;
           rest = f;
           place = y.0;
-          upto = subst (λ h. Upto pure (p.row q) (opened S h w) (Do c f) y.0) (sym back.0) y.1;
+          upto = subst (λ h. Upto pure (p.row q) (opened S h w) (Do c f) y.0) (sym back.heap) y.1;
           so = needs_same c (state m) (record (state x) { heap = y.0.heap }) y.2.heap
-              (record { most = same.most; locked = same.locked; solo = same.solo }) need;
+              (record {
+                loaned = same.loaned;
+                names = same.names;
+                most = same.most;
+                locked = same.locked;
+                solo = same.solo;
+              }) need;
         }
 
     -- and for want of the devices
@@ -101,7 +104,7 @@ module _ {S X : Type 0} (state : X → PieceState) (p : Prog S) (sound : Heap �
     out_here c f v1 m x op up out back = λ w.
         let first = walked_begins state p sound {v = v} k w in
         let o = opened_terms state p sound v v1 op in
-        let fo = shown_follows d0 (state v) (state v1) (opened S (state v).heap w) o.0 o.2 first in
+        let fo = shown_follows d0 (state v) (state v1) (opened S (state v).heap w) o first in
         let y = upto_out state (p.row q) (Do c f) d0 v1 m (opened S (state v).heap w) (prints q) out up fo in
         out_call (p.row q) y.0 (state x).heap w y.1
         (subst (λ h. Upto pure (p.row q) (opened S h w) y.0 y.1) (sym back) y.2) y.3
@@ -111,7 +114,7 @@ module _ {S X : Type 0} (state : X → PieceState) (p : Prog S) (sound : Heap �
         Hindered p q (state x) (end_for e)
     hindered_stop e x d = by_stop e d.3
       where
-        back : ((state x).heap ≡ (state v).heap) × SameTerms (state v) (state x)
+        back : AsBefore (state v) (state x)
         back = stopped_back state p sound q v e x d
 
         own_not : (e : Stop) → e ≡ OutOfMemory → Hindered p q (state x) (end_for e)
@@ -120,7 +123,7 @@ module _ {S X : Type 0} (state : X → PieceState) (p : Prog S) (sound : Heap �
         refused_at : (e : Stop) (c : Call S) (f : Reply c → Row S (Outcome × S)) (m : X) →
             Upto (piece_sense state S) (p.row q) d.0 (Do c f) m → Why e c (state m) → Hindered p q (state x) (end_for e)
         refused_at stop.NeedHeap c f m up y = needs_here c f d.0 m x d.2 up y back
-        refused_at stop.NeedSolo c f m up y = out_here c f d.0 m x d.2 up y back.0
+        refused_at stop.NeedSolo c f m up y = out_here c f d.0 m x d.2 up y back.heap
         refused_at _ c f m up y = tt
 
         by_stop : (e : Stop) → Stopped (piece_sense state S) (p.row q) d.0 e d.1 → Hindered p q (state x) (end_for e)

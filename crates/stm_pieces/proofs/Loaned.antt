@@ -1,35 +1,17 @@
--- Records that are loaned as long as they are.
-use Rattle.std.proofs.Common.{◌≡◌, ℕ, Bool, false, eqb, Option, Some, None, Result, Ok, Err, OnOk, OnErr, length, sym, ◌∙◌, ap, subst, inl, inr}
+-- Records that are loaned as long as they are, of which nothing was changed, and the parts of a view.
+use Rattle.std.proofs.Common.{◌≡◌, ℕ, Bool, false, eqb, List, [], ◌∷◌, ◌++◌, refl, Option, Some, None, Result, Ok, Err, OnOk, OnErr, length, sym, ◌∙◌, ap, subst, inl, inr}
 use Rattle.std.proofs.lemmas.Bool.{cases_Bool, cond-true, cond-false}
-use Rattle.py_data.specs.Heap.{Heap, Marks, Rec, put_at}
-use Rattle.stm_pieces.specs.declared.view.Term.{Term}
-use Rattle.stm_pieces.specs.PieceState.{PieceState, IsTight, nothing_loaned, but_at, with_loaned, with_base}
-use Rattle.stm_pieces.specs.PieceOf.{most_in, locked_in}
+use Rattle.py_data.specs.declared.stop.Stop.{Stop}
+use Rattle.py_data.specs.declared.value.Addr.{Addr}
+use Rattle.py_data.specs.declared.change.Change.{Change}
+use Rattle.py_data.specs.Heap.{Heap, Rec, put_at}
+use Rattle.stm_pieces.specs.declared.lent.OnTerms.{OnTerms}
+use Rattle.stm_pieces.specs.PieceState.{PieceState, IsTight, IsFresh, nothing_loaned, but_at, with_loaned, with_base}
+use Rattle.stm_pieces.specs.Terms.{loaned_in, most_in, locked_in}
+use Rattle.stm_pieces.proofs.Laying.{field_set}
 
 none_some : (o : Option Rec) (r : Rec) → o ≡ None → o ≡ Some r → ⊥
 none_some o r e f = let g : ◌≡◌ {A = Option Rec} None (Some r) = sym e ∙ f in cc
-
--- ---- the terms
--- what a field of the terms says, once those of one record are set
-field_in : {A : Type 0} (f : Option Term → A) (terms : ℕ → Option Term) (a : ℕ) (t : Term) (b : ℕ) →
-    f (but_at terms a (Some t) b) ≡ but_at (λ n. f (terms n)) a (f (Some t)) b
-field_in f terms a t b = elim (cases_Bool (eqb b a)) [
-  | inl y ↦ ap f (cond-true (eqb b a) (Some t) (terms b) y) ∙ sym (cond-true (eqb b a) (f (Some t)) (f (terms b)) y)
-  | inr n ↦ ap f (cond-false (eqb b a) (Some t) (terms b) n) ∙
-      sym (cond-false (eqb b a) (f (Some t)) (f (terms b)) n)
-]
-
-field_set : {A : Type 0} (f : Option Term → A) (terms terms1 : ℕ → Option Term) (a : ℕ) (t : Term) →
-    terms1 ≡ but_at terms a (Some t) → (λ n. f (terms1 n)) ≡ but_at (λ n. f (terms n)) a (f (Some t))
-field_set f terms terms1 a t e = ap (λ g. λ n. f (g n)) e ∙ (λ i b. field_in f terms a t b i)
-
-pub most_set : (terms terms1 : ℕ → Option Term) (a : ℕ) (t : Term) → terms1 ≡ but_at terms a (Some t) →
-    (λ n. most_in (terms1 n)) ≡ but_at (λ n. most_in (terms n)) a t.most
-most_set terms terms1 a t e = field_set most_in terms terms1 a t e
-
-pub locked_set : (terms terms1 : ℕ → Option Term) (a : ℕ) (t : Term) → terms1 ≡ but_at terms a (Some t) →
-    (λ n. locked_in (terms1 n)) ≡ but_at (λ n. locked_in (terms n)) a t.locked
-locked_set terms terms1 a t e = field_set locked_in terms terms1 a t e
 
 -- ---- records as long as they are
 pub tight_nothing : (d : PieceState) → d ≡ nothing_loaned → IsTight d
@@ -67,17 +49,64 @@ pub alone_added : (d e : PieceState) (a : ℕ) (q : Rec) (locked : Bool) {E : Ty
 alone_added d e a q locked (Ok u) y n k = ap (λ (z : PieceState). z.solo) y ∙ k
 alone_added d e a q locked (Err w) y n k = ap (λ (z : PieceState). z.solo) n ∙ k
 
--- ---- the view's fields, one by one
-pub is_loaned : (d : PieceState) (heap base : Heap) (most : ℕ → ℕ) (locks : Marks) (a : ℕ) (q : Rec) (locked : Bool) →
-    heap ≡ put_at d.heap a q → base ≡ d.heap → most ≡ but_at d.most a (length q.values) →
-    locks ≡ but_at d.locked a locked
-    → record d { heap = heap; base = base; most = most; locked = locks } ≡ with_loaned a q locked d
-is_loaned d heap base most locks a q locked h b m l =
-    λ i. record d { heap = h i; base = b i; most = m i; locked = l i }
+-- ---- a loan of which nothing was changed
+pub fresh_nothing : (d : PieceState) → d ≡ nothing_loaned → IsFresh d
+fresh_nothing d e = subst IsFresh (sym e) (record { heap = refl; edits = refl })
 
-pub is_based : (d : PieceState) (heap base : Heap) (terms terms1 : ℕ → Option Term) → heap ≡ d.heap → base ≡ d.heap →
-    terms1 ≡ terms
-    → record d { heap = heap; base = base; most = λ n. most_in (terms1 n); locked = λ n. locked_in (terms1 n) }
-    ≡ record d { base = d.heap; most = λ n. most_in (terms n); locked = λ n. locked_in (terms n) }
-is_based d heap base terms terms1 h b e =
-    λ i. record d { heap = h i; base = b i; most = λ n. most_in (e i n); locked = λ n. locked_in (e i n) }
+fresh_with : (d : PieceState) (a : ℕ) (q : Rec) (locked : Bool) → IsFresh d → IsFresh (with_loaned a q locked d)
+fresh_with d a q locked f = record { heap = ap (λ h. put_at h a q) f.heap; edits = f.edits }
+
+pub fresh_added : (d e : PieceState) (a : ℕ) (q : Rec) (locked : Bool) {E : Type 0} (r : Result (Unit {0}) E) →
+    OnOk r (e ≡ with_loaned a q locked d) → OnErr r (e ≡ with_base d) → IsFresh d → IsFresh e
+fresh_added d e a q locked (Ok u) y n f = subst IsFresh (sym y) (fresh_with d a q locked f)
+fresh_added d e a q locked (Err w) y n f = subst IsFresh (sym n) (record { heap = f.heap; edits = f.edits })
+
+-- ---- the parts of a piece view
+-- the state with these parts
+abbrev pub state_with : (ℕ → Option OnTerms) → Heap → Heap → List (Addr × Change) → List (Addr × Change) → List Addr →
+    Bool → Option Stop → PieceState
+state_with terms heap base edits before names solo stopped = record {
+  loaned = λ a. loaned_in (terms a);
+  heap = heap;
+  base = base;
+  edits = edits;
+  kept = before;
+  names = names;
+  most = λ a. most_in (terms a);
+  locked = λ a. locked_in (terms a);
+  solo = solo;
+  stopped = stopped;
+}
+
+-- with the same parts it is the same
+pub states_same : (solo : Bool) (stopped : Option Stop) {terms terms1 : ℕ → Option OnTerms}
+    {heap heap1 base base1 : Heap} {edits edits1 before before1 : List (Addr × Change)} {names names1 : List Addr} →
+    terms1 ≡ terms → heap1 ≡ heap → base1 ≡ base → edits1 ≡ edits → before1 ≡ before → names1 ≡ names
+    → state_with terms1 heap1 base1 edits1 before1 names1 solo stopped
+    ≡ state_with terms heap base edits before names solo stopped
+states_same solo stopped t h b e k n = λ i. state_with (t i) (h i) (b i) (e i) (k i) (n i) solo stopped
+
+-- and with one record more it has that
+pub states_lent : (solo : Bool) (stopped : Option Stop) (terms terms1 : ℕ → Option OnTerms)
+    (heap base heap1 base1 : Heap) (edits edits1 before before1 : List (Addr × Change)) (names names1 : List Addr)
+    (a : Addr) (q : Rec) (locked : Bool) →
+    terms1 ≡ but_at terms a.0 (Some (record { entry = q; most = length q.values; locked = locked })) →
+    heap1 ≡ put_at heap a.0 q → base1 ≡ put_at heap a.0 q → edits1 ≡ edits → before1 ≡ edits →
+    names1 ≡ names ++ a ∷ []
+    → state_with terms1 heap1 base1 edits1 before1 names1 solo stopped
+    ≡ with_loaned a.0 q locked (state_with terms heap base edits before names solo stopped)
+states_lent solo stopped terms terms1 heap base heap1 base1 edits edits1 before before1 names names1 a q locked t h b e k
+    n =
+    let u : OnTerms = record { entry = q; most = length q.values; locked = locked } in
+    λ i. record {
+      loaned = field_set loaned_in terms terms1 a.0 u t i;
+      heap = h i;
+      base = b i;
+      edits = e i;
+      kept = k i;
+      names = n i;
+      most = field_set most_in terms terms1 a.0 u t i;
+      locked = field_set locked_in terms terms1 a.0 u t i;
+      solo = solo;
+      stopped = stopped;
+    }

@@ -14,9 +14,10 @@ use Rattle.py_data.specs.Shape.{Fits, find}
 use Rattle.py_data.specs.Sense.{Run, Upto}
 use Rattle.py_data.specs.Sight.{Sight, Act, Does, Edited, pure, looked_at, edited, in_world}
 use Rattle.py_data.specs.Steady.{AsksToPrint, Writes, WritesThen, NoLonger}
-use Rattle.stm_pieces.specs.PieceState.{PieceState, PieceDoes, Changes, Outer, growth}
+use Rattle.stm_pieces.specs.PieceState.{PieceState, PieceDoes, Changes, Outer, growth, with_edit}
 use Rattle.stm_pieces.specs.PieceSense.{piece_sense}
 use Rattle.stm_pieces.specs.inner.Walked.{Follows}
+use Rattle.stm_pieces.proofs.Replaying.{replayed_more}
 
 same_follows : {S : Type 0} (d0 d e : PieceState) (s : Sight S) → e ≡ d → Follows d0 d s → Follows d0 e s
 same_follows d0 d e s q f = subst (λ (z : PieceState). Follows d0 z s) (sym q) f
@@ -30,6 +31,7 @@ look_follows a r d0 d s f = record {
   locked = f.locked;
   within = f.within;
   terms = f.terms;
+  replayed = f.replayed;
   tight = f.tight;
   alone = f.alone;
 }
@@ -81,11 +83,11 @@ edit_follows : {S : Type 0} (a : ℕ) (c : Change) (d0 d e : PieceState) (s : Si
 edit_follows {S} a c d0 d e s h f =
     let q = after c h.0 in
     let t = edited a q s in
-    let was = f.within a h.0 h.1 in
+    let was = f.within a h.0 h.1.is in
     let most : d.most a ≡ length was.0.values = ap (λ m. m a) f.terms.most ∙ f.tight a was.0 was.1 in
-    let short : length q.values ≤ length was.0.values = omega (arith, grown c h.0, h.4, most) in
-    let lock : d0.locked a ≡ true = ap (λ m. m a) (sym f.terms.locked) ∙ h.3 in
-    let d1 : PieceState = record d { heap = put_at d.heap a q } in
+    let short : length q.values ≤ length was.0.values = omega (arith, grown c h.0, h.2, most) in
+    let lock : d0.locked a ≡ true = ap (λ m. m a) (sym f.terms.locked) ∙ h.1.locked_is in
+    let d1 : PieceState = with_edit a c h.0 d in
     let n : Follows d0 d1 t = record {
       heap = ap (λ g. put_at g a q) f.heap;
       quiet = record { made = f.quiet.made; started = f.quiet.started; unused = f.quiet.unused };
@@ -98,11 +100,18 @@ edit_follows {S} a c d0 d e s h f =
         | inr x ↦ f.locked b (other_mark (eqb b a) (s.touched b) x m)
       ];
       within = put_within d.heap d0.heap a q was.0 f.within was.1 short;
-      terms = record { most = f.terms.most; locked = f.terms.locked; solo = f.terms.solo };
+      terms = record {
+        loaned = f.terms.loaned;
+        names = f.terms.names;
+        most = f.terms.most;
+        locked = f.terms.locked;
+        solo = f.terms.solo;
+      };
+      replayed = replayed_more a c d0 d d1 f.terms.locked (h.0, h.1, h.2, refl) f.replayed;
       tight = f.tight;
       alone = f.alone;
     } in
-    (t, (h.0, ap (λ g. g a) f.heap ∙ h.1, h.2, refl), same_follows d0 d1 e t h.5 n)
+    (t, (h.0, ap (λ g. g a) f.heap ∙ h.1.is, h.1.allows, refl), same_follows d0 d1 e t h.3 n)
 
 -- ---- calls
 -- the call asks whether the output is in mid line, and whatever the answer, the row writes next

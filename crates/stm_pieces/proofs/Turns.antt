@@ -46,10 +46,11 @@ module _ {S X : Type 0} (state : X → PieceState) (p : Prog S) (sound : Heap �
       let back = done_back state p sound q v o q1 w x d un in
       let same = state_waits state p sound {v = v} k quiet prints o q1 w e d in
       let waits = waits_here state p sound {v = v} k prints o q1 w e d in
-      subst (λ z. Walked p sound d0 n q0 z (state x) × (p.life z ≡ Lives) × Hindered p z (state x) end.Waits) (sym same) (
+      subst (λ z. Walked p sound d0 n q0 z (state x) × (p.life z ≡ Lives) × Hindered p z (state x) end.Waits)
+      (sym same) (
         walked_same state p sound {v = v} k x back,
         lives,
-        subst (λ h. Waiting (p.row q) h) (sym back.0) waits,
+        subst (λ h. Waiting (p.row q) h) (sym back.heap) waits,
       )
 
   -- a step that met a Stop

@@ -16,35 +16,64 @@ use Rattle.lock_run.specs.declared.client.Life.TheVariants.{Lives}
 use Rattle.lock_run.specs.Prog.{Prog}
 use Rattle.lock_run.specs.Client.{StandsIn, Stepped, StepStopped, StaysSound, WaitsQuietly, TellsLife, LifeAfter, Waiting}
 use Rattle.stm_pieces.specs.Piece.{IsPiece}
-use Rattle.stm_pieces.specs.PieceState.{PieceState, PieceDoes, SameTerms, IsTight}
+use Rattle.stm_pieces.specs.PieceState.{PieceState, PieceDoes, SameTerms, IsTight, Replayed}
 use Rattle.stm_pieces.specs.PieceSense.{piece_sense, piece_bracket}
 use Rattle.stm_pieces.specs.inner.PieceLaws.{kept}
 use Rattle.stm_pieces.specs.inner.Walked.{Quiet, Follows, Walked}
 use Rattle.stm_pieces.proofs.Lift.{lift}
+use Rattle.stm_pieces.proofs.Replaying.{replayed_none, replayed_same}
 use Rattle.stm_pieces.proofs.Running.{row_piece}
 
 -- ---- what calls leave alone
--- the same terms, and the same base of the step
+-- the same terms, and the same base of the step, with the changes that had led there
 pub record SameBase (d e : PieceState) : Type 0 where
   pub base : e.base ≡ d.base
+  pub before : e.kept ≡ d.kept
   pub terms : SameTerms d e
 
 pub terms_refl : (d : PieceState) → SameTerms d d
-terms_refl d = record { most = refl; locked = refl; solo = refl }
+terms_refl d = record { loaned = refl; names = refl; most = refl; locked = refl; solo = refl }
 
 pub terms_then : (d e f : PieceState) → SameTerms d e → SameTerms e f → SameTerms d f
-terms_then d e f g h = record { most = h.most ∙ g.most; locked = h.locked ∙ g.locked; solo = h.solo ∙ g.solo }
+terms_then d e f g h = record {
+  loaned = h.loaned ∙ g.loaned;
+  names = h.names ∙ g.names;
+  most = h.most ∙ g.most;
+  locked = h.locked ∙ g.locked;
+  solo = h.solo ∙ g.solo;
+}
+
+pub terms_back : (d e : PieceState) → SameTerms d e → SameTerms e d
+terms_back d e g = record {
+  loaned = sym g.loaned;
+  names = sym g.names;
+  most = sym g.most;
+  locked = sym g.locked;
+  solo = sym g.solo;
+}
+
+-- a view that shows the same records, with the same changes, on the same terms
+pub record AsBefore (d e : PieceState) : Type 0 where
+  pub heap : e.heap ≡ d.heap
+  pub edits : e.edits ≡ d.edits
+  pub terms : SameTerms d e
 
 base_refl : (d : PieceState) → SameBase d d
-base_refl d = record { base = refl; terms = terms_refl d }
+base_refl d = record { base = refl; before = refl; terms = terms_refl d }
 
 base_then : (d e f : PieceState) → SameBase d e → SameBase e f → SameBase d f
-base_then d e f g h = record { base = h.base ∙ g.base; terms = terms_then d e f g.terms h.terms }
+base_then d e f g h =
+    record { base = h.base ∙ g.base; before = h.before ∙ g.before; terms = terms_then d e f g.terms h.terms }
 
 base_call : {S : Type 0} (c : Call S) (d : PieceState) (r : Reply c) (e : PieceState) → PieceDoes c d r e →
     SameBase d e
-base_call c d r e h = let k = kept c d r e h in
-    record { base = k.base; terms = record { most = k.most; locked = k.locked; solo = k.solo } }
+base_call c d r e h =
+    let k = kept c d r e h in
+    record {
+      base = k.base;
+      before = k.before;
+      terms = record { loaned = k.loaned; names = k.names; most = k.most; locked = k.locked; solo = k.solo };
+    }
 
 -- ---- lists of states
 get_set : {A : Type 0} (xs : List A) (i : ℕ) (x : A) → i < length xs → slice_get (slice_set xs i x) i ≡ Some x
@@ -76,21 +105,21 @@ begins_follows d0 d s w f = record {
   locked = λ a e. absurd (both_ways false refl e);
   within = f.within;
   terms = f.terms;
+  replayed = f.replayed;
   tight = f.tight;
   alone = f.alone;
 }
 
 -- ---- views that show the same
--- a view with the same records and terms
-pub shown_follows : {S : Type 0} (d0 d e : PieceState) (s : Sight S) → e.heap ≡ d.heap → SameTerms d e → Follows d0 d s
-    → Follows d0 e s
-shown_follows d0 d e s h t f = record {
-  heap = f.heap ∙ sym h;
+pub shown_follows : {S : Type 0} (d0 d e : PieceState) (s : Sight S) → AsBefore d e → Follows d0 d s → Follows d0 e s
+shown_follows d0 d e s b f = record {
+  heap = f.heap ∙ sym b.heap;
   quiet = f.quiet;
   there = f.there;
   locked = f.locked;
-  within = subst (λ g. NoLonger g d0.heap) (sym h) f.within;
-  terms = terms_then d0 d e f.terms t;
+  within = subst (λ g. NoLonger g d0.heap) (sym b.heap) f.within;
+  terms = terms_then d0 d e f.terms b.terms;
+  replayed = replayed_same d0 d e b.heap b.edits f.replayed;
   tight = f.tight;
   alone = f.alone;
 }
@@ -119,11 +148,9 @@ module _ {S X : Type 0} (state : X → PieceState) (p : Prog S) (sound : Heap �
         | inl own ↦ subst (λ z. SameBase (state v) (state z)) (sym own.1) u
         | inr r ↦ let o = r.3.0 in base_then (state v) (state k.place) (state w) u (record {
           base = ap (λ (z : PieceState). z.base) o;
-          terms = record {
-            most = ap (λ (z : PieceState). z.most) o;
-            locked = ap (λ (z : PieceState). z.locked) o;
-            solo = ap (λ (z : PieceState). z.solo) o;
-          };
+          before = ap (λ (z : PieceState). z.kept) o;
+          terms = subst (SameTerms (state k.place)) (sym o)
+              (record { loaned = refl; names = refl; most = refl; locked = refl; solo = refl });
         })
       ]
 
@@ -141,6 +168,7 @@ module _ {S X : Type 0} (state : X → PieceState) (p : Prog S) (sound : Heap �
         locked = λ a e. absurd (both_ways false refl e);
         within = λ a r e. (r, e, omega arith);
         terms = terms_refl (state v);
+        replayed = replayed_none (state v);
         tight = tight;
         alone = alone;
       },
@@ -148,41 +176,34 @@ module _ {S X : Type 0} (state : X → PieceState) (p : Prog S) (sound : Heap �
     stands = stands;
   }
 
-  -- a step is opened: records and terms are the same
-  pub opened_terms : (v v1 : X) → (piece_bracket state S).opens v v1 →
-      ((state v1).heap ≡ (state v).heap) × ((state v1).base ≡ (state v).heap) × SameTerms (state v) (state v1)
-  opened_terms v v1 op = (
-    ap (λ (z : PieceState). z.heap) op,
-    ap (λ (z : PieceState). z.base) op,
-    record {
-      most = ap (λ (z : PieceState). z.most) op;
-      locked = ap (λ (z : PieceState). z.locked) op;
-      solo = ap (λ (z : PieceState). z.solo) op;
-    },
-  )
+  -- a step is opened: records, changes and terms are the same
+  pub opened_terms : (v v1 : X) → (piece_bracket state S).opens v v1 → AsBefore (state v) (state v1)
+  opened_terms v v1 op = record {
+    heap = ap (λ (z : PieceState). z.heap) op;
+    edits = ap (λ (z : PieceState). z.edits) op;
+    terms = subst (SameTerms (state v)) (sym op)
+        (record { loaned = refl; names = refl; most = refl; locked = refl; solo = refl });
+  }
 
-  -- a step that was opened and taken back leaves records and terms
+  -- a step that was opened and taken back leaves records, changes and terms
   pub taken_back : (v v1 w x : X) → (piece_bracket state S).opens v v1 → SameBase (state v1) (state w) →
-      (piece_bracket state S).undoes w x → ((state x).heap ≡ (state v).heap) × SameTerms (state v) (state x)
-  taken_back v v1 w x op t un =
-      let o = opened_terms v v1 op in
-      let u : SameTerms (state w) (state x) = record {
-        most = ap (λ (z : PieceState). z.most) un;
-        locked = ap (λ (z : PieceState). z.locked) un;
-        solo = ap (λ (z : PieceState). z.solo) un;
-      } in (
-        ap (λ (z : PieceState). z.heap) un ∙ (t.base ∙ o.1),
-        terms_then (state v) (state w) (state x) (terms_then (state v) (state v1) (state w) o.2 t.terms) u,
-      )
+      (piece_bracket state S).undoes w x → AsBefore (state v) (state x)
+  taken_back v v1 w x op t un = record {
+    heap = ap (λ (z : PieceState). z.heap) un ∙ (t.base ∙ ap (λ (z : PieceState). z.base) op);
+    edits = ap (λ (z : PieceState). z.edits) un ∙ (t.before ∙ ap (λ (z : PieceState). z.kept) op);
+    terms = terms_then (state v) (state w) (state x)
+        (terms_then (state v) (state v1) (state w) (opened_terms v v1 op).terms t.terms)
+        (subst (SameTerms (state w)) (sym un)
+        (record { loaned = refl; names = refl; most = refl; locked = refl; solo = refl }));
+  }
 
   pub stopped_back : (q : S) (v : X) (e : Stop) (x : X) →
-      StepStopped (piece_sense state S) (piece_bracket state S) (p.row q) v e x
-      → ((state x).heap ≡ (state v).heap) × SameTerms (state v) (state x)
+      StepStopped (piece_sense state S) (piece_bracket state S) (p.row q) v e x → AsBefore (state v) (state x)
   stopped_back q v e x d = taken_back v d.0 d.1 x d.2 (base_stop (p.row q) d.0 d.1 e d.3) d.4
 
   pub done_back : (q : S) (v : X) (o : Outcome) (q1 : S) (w x : X) →
       Stepped (piece_sense state S) (piece_bracket state S) (p.row q) v o q1 w → (piece_bracket state S).undoes w x
-      → ((state x).heap ≡ (state v).heap) × SameTerms (state v) (state x)
+      → AsBefore (state v) (state x)
   done_back q v o q1 w x d un = taken_back v d.0 w x d.1 (base_run (p.row q) d.0 w (o, q1) d.2) un
 
   -- a step that was done was done by its meaning
@@ -190,17 +211,15 @@ module _ {S X : Type 0} (state : X → PieceState) (p : Prog S) (sound : Heap �
       AsksToPrint (p.row q) → Stepped (piece_sense state S) (piece_bracket state S) (p.row q) v o q1 w
       → Follows d0 (state v) s → (t : Sight S) × Does (p.row q) s (o, q1) t × Follows d0 (state w) t
   stepped_piece d0 q v o q1 w s prints d f =
-      let op = opened_terms v d.0 d.1 in
       row_piece state (p.row q) d0 d.0 w (o, q1) s prints d.2
-      (shown_follows d0 (state v) (state d.0) s op.0 op.2 f)
+      (shown_follows d0 (state v) (state d.0) s (opened_terms v d.0 d.1) f)
 
   module _ {d0 : PieceState} {n : ℕ} {q0 q : S} {v : X} (k : Walked p sound d0 n q0 q (state v)) where
     -- a view that shows the same
-    pub walked_same : (w : X) → ((state w).heap ≡ (state v).heap) × SameTerms (state v) (state w) →
-        Walked p sound d0 n q0 q (state w)
+    pub walked_same : (w : X) → AsBefore (state v) (state w) → Walked p sound d0 n q0 q (state w)
     walked_same w h = record {
-      steps = λ o. let s = k.steps o in (s.0, s.1, shown_follows d0 (state v) (state w) s.0 h.0 h.1 s.2);
-      stands = subst (λ x. StandsIn sound true x q) (sym h.0) k.stands;
+      steps = λ o. let s = k.steps o in (s.0, s.1, shown_follows d0 (state v) (state w) s.0 h s.2);
+      stands = subst (λ x. StandsIn sound true x q) (sym h.heap) k.stands;
     }
 
     -- over the view as it stands
@@ -293,6 +312,10 @@ module _ {S X : Type 0} (state : X → PieceState) (p : Prog S) (sound : Heap �
     -- on the terms of the first view
     pub walked_terms : SameTerms d0 (state v)
     walked_terms = (k.steps some_world).2.terms
+
+    -- and its changes lead from there
+    pub walked_replayed : Replayed d0 (state v)
+    walked_replayed = (k.steps some_world).2.replayed
 
 pub walked_more : {S : Type 0} {p : Prog S} {sound : Heap → List S → Type 0} {d0 : PieceState} {n : ℕ} {q0 q : S}
     {d : PieceState} → Walked p sound d0 (suc n) q0 q d → Walked p sound d0 (n + 1) q0 q d

@@ -1,6 +1,10 @@
 pub mod Piece
+pub mod Replay
 pub mod PieceState
 pub mod PieceSense
+pub mod Terms
+pub mod LentOf
 pub mod PieceOf
+pub mod PieceBy
 pub mod Ends
 pub mod inner

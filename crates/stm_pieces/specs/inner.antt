@@ -4,3 +4,4 @@ pub mod Edited
 pub mod Walked
 pub mod Ending
 pub mod Stepwise
+pub mod Lending

@@ -2,7 +2,10 @@
 #![tactic(auto)]
 
 mod known;
+mod lent;
 mod loan;
+mod needs;
+mod noted;
 mod run;
 #[cfg(test)]
 mod tests;
@@ -11,4 +14,4 @@ mod view;
 pub use known::knows;
 pub use loan::{Loan, Piece, run_piece};
 pub use run::{PieceEnd, run_steps};
-pub use view::{PieceView, Term};
+pub use view::PieceView;

@@ -1,7 +1,7 @@
 //! Loans, and the pieces that are run over them.
 ghost use Rattle.std.specs.Prelude.{◌≡◌, false};
 ghost use Rattle.stm_pieces.specs.PieceOf.{piece_state};
-ghost use Rattle.stm_pieces.specs.PieceState.{IsTight};
+ghost use Rattle.stm_pieces.specs.PieceState.{IsTight, IsFresh};
 
 use crate::run::{PieceEnd, run_steps};
 use crate::view::PieceView;
@@ -23,10 +23,11 @@ pub struct Loan<T> {
     pub view: PieceView,
     ghost tight: { IsTight (piece_state view) },
     ghost alone: { (piece_state view).solo ≡ false },
+    ghost fresh: { IsFresh (piece_state view) },
 }
 
 impl<T> Loan<T> {
-    ghost use Rattle.std.specs.Prelude.{None, OnOk, OnErr};
+    ghost use Rattle.std.specs.Prelude.{◌≤◌, ◌↔◌, None, OnOk, OnErr, IsTrue, min, is_some};
     ghost use Rattle.stm_pieces.specs.PieceState.{nothing_loaned, with_loaned, with_base};
 
     /// A loan of no records.
@@ -56,6 +57,35 @@ impl<T> Loan<T> {
     {
         self.view.add(a, r, locked)
     }
+
+    /// The same for fewer steps: so many at most, and no more than it allowed.
+    pub fn at_most(self, m: u64) -> Loan<T>
+        requires { 1 ≤ m }
+        ensures thread { result.thread ≡ self.thread }
+        ensures state { result.state ≡ self.state }
+        ensures most { result.most ≡ min self.most m }
+        ensures view { result.view ≡ self.view }
+    {
+        let Loan {
+            thread,
+            state,
+            most,
+            view,
+        } = self;
+        Loan {
+            thread,
+            state,
+            most: most.min(m),
+            view,
+        }
+    }
+
+    /// Whether a record is loaned at an address.
+    pub fn has(&self, a: Addr) -> bool
+        ensures { result ≡ is_some ((piece_state self.now.view).loaned a.0) }
+    {
+        self.view.loaned(a.0).is_some()
+    }
 }
 
 /// The state at a piece's start, the state at its end, and the records as it left them.
@@ -79,6 +109,7 @@ ghost use Rattle.lock_run.specs.Client.{StandsIn};
 ghost use Rattle.stm_pieces.specs.Piece.{IsPiece};
 ghost use Rattle.stm_pieces.specs.PieceState.{SameTerms};
 ghost use Rattle.stm_pieces.specs.Ends.{EndsSo, last_of};
+ghost use Rattle.stm_pieces.specs.PieceBy.{IsPieceBy};
 
 /// Runs steps of the loaned thread on the loaned records, until the most were run, the thread has ended, or the next
 /// step can't be done there. It touches nothing but the loan.
@@ -90,6 +121,9 @@ pub fn run_piece<C: Client>(alloc: Global, client: &C, loan: Loan<C::State>) -> 
     ensures piece { IsPiece (C.prog client.now) (piece_state loan.view).heap (piece_state loan.view).locked result.steps loan.state (last_of result.start result.last) (piece_state result.view).heap }
     ensures end { EndsSo (C.prog client.now) loan.most result.steps (last_of result.start result.last) (piece_state result.view) result.end }
     ensures terms { SameTerms (piece_state loan.view) (piece_state result.view) }
+    ensures by { IsPieceBy (C.prog client.now) result }
+    ensures loaned { (piece_state result.view).loaned ≡ (piece_state loan.view).loaned }
+    ensures names { (piece_state result.view).names ≡ (piece_state loan.view).names }
 {
     let Loan {
         thread: _,

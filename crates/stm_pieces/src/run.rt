@@ -4,7 +4,7 @@ ghost use Rattle.lock_run.specs.declared.client.Life.TheVariants.{Lives};
 ghost use Rattle.lock_run.specs.Client.{StandsIn};
 ghost use Rattle.stm_pieces.specs.Piece.{IsPiece};
 ghost use Rattle.stm_pieces.specs.PieceOf.{piece_state};
-ghost use Rattle.stm_pieces.specs.PieceState.{IsTight, SameTerms};
+ghost use Rattle.stm_pieces.specs.PieceState.{IsTight, SameTerms, Replayed};
 ghost use Rattle.stm_pieces.specs.Ends.{EndsSo};
 ghost use Rattle.stm_pieces.specs.inner.Ending.{end_for};
 ghost use Rattle.stm_pieces.specs.inner.Stepwise.{OneStep, NoStep};
@@ -26,7 +26,7 @@ pub enum PieceEnd {
     /// The next step prints or reads.
     NeedSolo,
     /// The next step needs a record that isn't loaned, or makes one, or starts a thread, or changes a record that isn't
-    /// locked or would be longer than it may.
+    /// locked, or would be longer than it may or than it has room for.
     NeedHeap,
     /// There was no memory for the next step. It can be tried again.
     OutOfMemory,
@@ -85,6 +85,7 @@ pub fn run_steps<C: Client>(
     ensures few { result.0 ≤ most }
     ensures end { EndsSo (C.prog client.now) most result.0 state.new (piece_state view.new) result.1 }
     ensures terms { SameTerms (piece_state view.old) (piece_state view.new) }
+    ensures replayed { Replayed (piece_state view.old) (piece_state view.new) }
 {
     for steps in 0..most {
         match step_here(alloc, client, state, view) {

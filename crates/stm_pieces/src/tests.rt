@@ -65,6 +65,14 @@ fn cell_in(piece: &Piece<ScriptState>) -> Option<Value> {
     }
 }
 
+/// The first value of the Cell as it was loaned.
+fn cell_before(piece: &Piece<ScriptState>) -> Option<Value> {
+    match piece.view.loaned(CELL.0) {
+        Some(r) => r.values().first().copied(),
+        None => None,
+    }
+}
+
 /// A script with one Cell and one list of acts.
 fn script(rt: &impl Abort, alloc: Global, acts: &[Act]) -> Result<Script, test::Fail> {
     let mut lists = Vec::new(alloc);
@@ -79,6 +87,7 @@ fn ended(rt: &impl Abort, piece: &Piece<ScriptState>, held: &[i64], end: PieceEn
     let steps = piece.steps as usize;
     assert!(rt; steps < held.len());
     assert_eq!(rt; cell_in(piece), Some(Value::Int(held[steps])));
+    assert_eq!(rt; cell_before(piece), Some(Value::Int(held[0])));
     if piece.end != PieceEnd::OutOfMemory {
         assert_eq!(rt; piece.end, end);
         assert_eq!(rt; steps + 1, held.len());
@@ -109,6 +118,7 @@ fn stops_where_it_prints(rt: HostRuntime) -> Tested {
     let prints = script(&rt, alloc, &[Act::Set(0, 4), Act::Set(0, 6), Act::Put(97)])?;
     let piece = run_piece(alloc, &prints, loan_of_cell(alloc, 0, 9, true)?);
     ended(&rt, &piece, &[7, 4, 6], PieceEnd::NeedSolo);
+    assert_eq!(rt; piece.view.edits().len() as u64, piece.steps);
     Ok(())
 }
 

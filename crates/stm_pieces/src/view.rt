@@ -1,70 +1,40 @@
 //! The piece view: copies of some records of a heap, on terms, with nothing shared.
-ghost use Rattle.std.specs.Prelude.{◌≡◌, Some, OnOk, OnErr};
-ghost use Rattle.std.specs.Ordering.{nat_cmp};
-ghost use Rattle.std.specs.BTreeMap as tree;
-ghost use Rattle.py_data.specs.Changes.{after};
-ghost use Rattle.stm_pieces.specs.PieceState.{but_at, growth};
+ghost use Rattle.std.specs.Prelude.{◌≡◌};
 
 use crate::known::knows;
-use lock_run::Space;
+use crate::lent::Lent;
+use crate::needs::{growth, has_room, keys_known};
+use crate::noted::Noted;
 use py_data::{
     Addr, Change, Entry, Kind, NoMemory, Out, Record, Records, Stop, Value, View, find_pair,
 };
 use std::alloc::Global;
-use std::collections::BTreeMap;
-
-/// On which terms a record is loaned.
-#[derive(Clone, Copy, Debug, Drop, PartialEq, Eq)]
-pub struct Term {
-    /// How many values it may have.
-    pub most: usize,
-    /// Whether it may be changed.
-    pub locked: bool,
-}
-
-/// Sets the terms of a record.
-fn set_term(terms: &mut BTreeMap<u32, Term>, a: u32, t: Term) -> Result<(), NoMemory>
-    ensures ok { OnOk result (tree.get nat_cmp terms.new ≡ but_at (tree.get nat_cmp terms.old) a (Some t)) }
-    ensures err { OnErr result (tree.get nat_cmp terms.new ≡ tree.get nat_cmp terms.old) }
-{
-    terms.insert(a, t)?;
-    Ok(())
-}
-
-/// How many values a change adds to a record.
-fn growth(c: &Change) -> usize
-    ensures { result ≡ growth c.now }
-{
-    match c {
-        Change::Push(_) => 1,
-        Change::Pair(_, _) => 2,
-        _ => 0,
-    }
-}
 
 /// A view of some records of a heap, which stand in it alone. It makes no record, starts no thread and uses no device,
-/// it changes locked records only, and it lets none have more values than its terms say. What isn't loaned isn't there.
+/// it changes locked records only, within their rooms, and it lets none have more values than its terms say. What isn't
+/// loaned isn't there. It keeps the records as they were loaned, too, and the changes that it made, one after another.
 ///
-/// It gives the Stop NeedHeap where it is asked for a record that isn't here, for a search whose keys' records aren't
-/// all here, for a change that the terms don't allow, and for a new record or thread; NeedSolo where it is to print or
-/// read; and OutOfMemory at changes alone. A change takes time of what it changes, beside the look for the record; a
-/// search goes through the pairs twice.
+/// It gives the Stop NeedHeap where it is asked for a record that isn't here, for a search or a new pair whose keys'
+/// records aren't all here, for a change that terms or room don't allow, and for a new record or thread; NeedSolo where
+/// it is to print or read; and OutOfMemory at changes alone. A record's first change takes time of its values, each
+/// other one only of what it changes, beside two looks for the record; a search goes through the pairs twice, and so
+/// does a new pair once.
 #[derive(Drop)]
 pub struct PieceView {
     alloc: Global,
-    space: Space,
-    terms: BTreeMap<u32, Term>,
+    records: Lent,
+    edits: Noted,
     solo: bool,
     stopped: Option<Stop>,
 }
 
 impl PieceView {
-    ghost use Rattle.std.specs.Prelude.{true, false, None, ◌↔◌};
+    ghost use Rattle.std.specs.Prelude.{true, false, Some, None, OnOk, OnErr, ◌↔◌, option_copied};
     ghost use Rattle.py_data.specs.Changes.{Allows};
     ghost use Rattle.py_data.specs.Sense.{IfThere};
     ghost use Rattle.stm_pieces.specs.PieceOf.{piece_state};
-    ghost use Rattle.stm_pieces.specs.PieceState.{nothing_loaned, with_loaned, with_base, Lacks};
-    ghost use Rattle.stm_pieces.specs.inner.Edited.{May, EditAnswer};
+    ghost use Rattle.stm_pieces.specs.PieceState.{nothing_loaned, with_loaned, with_base, IsNamed, Lacks};
+    ghost use Rattle.stm_pieces.specs.inner.Edited.{May, AsksEdit, HasEdited, EditAnswer};
 
     /// A view of no records.
     pub fn new(alloc: Global) -> PieceView
@@ -72,8 +42,8 @@ impl PieceView {
     {
         PieceView {
             alloc,
-            space: Space::new(alloc),
-            terms: BTreeMap::new(alloc),
+            records: Lent::new(alloc),
+            edits: Noted::new(alloc),
             solo: false,
             stopped: None,
         }
@@ -86,17 +56,46 @@ impl PieceView {
         ensures ok { OnOk result (piece_state self.new ≡ with_loaned a.0 r locked (piece_state self.old)) }
         ensures err { OnErr result (piece_state self.new ≡ with_base (piece_state self.old)) }
     {
-        let most = r.values().len();
-        self.space.open();
-        self.space.add(a.0, r)?;
-        match set_term(&mut self.terms, a.0, Term { most, locked }) {
+        self.records.open();
+        self.edits.open();
+        match self.records.lend(a, r, locked) {
             Ok(()) => Ok(()),
-            Err(want) => {
-                self.space.undo();
-                Err(want)
-            }
+            Err(want) => Err(want),
         }
     }
+
+    /// The addresses of the loaned records, in the order of the loan.
+    pub fn names(&self) -> &[Addr]
+        ensures { result.now ≡ (piece_state self.now).names }
+    {
+        self.records.names()
+    }
+
+    /// The record at an address as it was loaned, if one is loaned there.
+    pub fn loaned(&self, a: u32) -> Option<&Entry>
+        ensures { option_copied result ≡ (piece_state self.now).loaned a }
+    {
+        self.records.loaned(a)
+    }
+
+    /// Whether the record at an address may be changed.
+    pub fn is_locked(&self, a: u32) -> bool
+        ensures { result ≡ (piece_state self.now).locked a }
+    {
+        self.records.is_locked(a)
+    }
+
+    /// The changes that were made, one after another.
+    pub fn edits(&self) -> &[(Addr, Change)]
+        ensures { result.now ≡ (piece_state self.now).edits }
+    {
+        self.edits.as_slice()
+    }
+
+    /// The names are the addresses of the loaned records, and only such a record is locked.
+    pub fn known(&self)
+        ensures named { IsNamed (piece_state self.now) }
+    {}
 
     /// Keeps a Stop, and hands it on.
     fn fail(&mut self, stop: Stop) -> Stop
@@ -107,29 +106,49 @@ impl PieceView {
         stop
     }
 
-    /// The record is here and may be changed, and may have so many values more.
-    fn may(&self, a: u32, more: usize) -> bool
-        ensures yes { result ≡ true → May (piece_state self.now) a more }
-        ensures not { result ≡ false → Lacks (piece_state self.now) a more }
+    /// The record is here, and its terms, its room and the records of its keys allow a change.
+    fn may(&self, a: u32, c: &Change) -> bool
+        ensures yes { result ≡ true → May (piece_state self.now) a c.now }
+        ensures not { result ≡ false → Lacks (piece_state self.now) a c.now }
     {
-        match self.space.look(a) {
-            Some(r) => match self.terms.get(&a) {
-                Some(t) => t.locked && more <= t.most && r.values().len() <= t.most - more,
-                None => false,
-            },
+        match self.records.look(a) {
+            Some(r) => {
+                let allowed = self.records.allows(a, r.values().len() + growth(c));
+                let roomy = has_room(r, c);
+                let known = keys_known(self, r, c);
+                allowed && roomy && known
+            }
             None => false,
+        }
+    }
+
+    /// Makes a change of a record that is here, and notes it. At want of memory nothing is changed.
+    fn change(&mut self, a: u32, c: Change) -> Result<(), NoMemory>
+        requires { IfThere false ((piece_state self.old).heap a) (λ r. Allows c r) }
+        ensures ok { OnOk result (HasEdited a c (piece_state self.old) (piece_state self.new)) }
+        ensures err { OnErr result (piece_state self.new ≡ piece_state self.old) }
+    {
+        match self.edits.reserve() {
+            Ok(()) => match self.records.replace(self.alloc, a, c) {
+                Ok(()) => {
+                    self.edits.note(Addr(a), c);
+                    Ok(())
+                }
+                Err(want) => Err(want),
+            },
+            Err(want) => Err(want),
         }
     }
 
     /// Makes a change of a record, if the terms allow it. At a Stop no record is changed.
     fn edit(&mut self, a: u32, c: Change) -> Result<(), Stop>
-        requires { IfThere true ((piece_state self.old).heap a) (Allows c) }
+        requires { AsksEdit (piece_state self.old) a c }
         ensures { EditAnswer (piece_state self.old) (piece_state self.new) a c result }
     {
-        if !self.may(a, growth(&c)) {
+        if !self.may(a, &c) {
             return Err(self.fail(Stop::NeedHeap));
         }
-        match self.space.replace(self.alloc, a, c) {
+        match self.change(a, c) {
             Ok(()) => Ok(()),
             Err(_) => Err(self.fail(Stop::OutOfMemory)),
         }
@@ -150,12 +169,14 @@ impl<S: Drop> View<S> for PieceView {
     ghost bracketed = { piece_bracketed piece_state S };
 
     fn open_step(&mut self) {
-        self.space.open();
+        self.records.open();
+        self.edits.open();
         self.stopped = None;
     }
 
     fn undo_step(&mut self) {
-        self.space.undo();
+        self.records.undo();
+        self.edits.undo();
         self.stopped = None;
     }
 
@@ -165,7 +186,7 @@ impl<S: Drop> View<S> for PieceView {
 
     #[tactic(auto, unfolding(py_data::specs::Heap::at))]
     fn kind(&mut self, a: Addr) -> Result<Kind, Stop> {
-        match self.space.look(a.0) {
+        match self.records.look(a.0) {
             Some(r) => Ok(r.kind()),
             None => Err(self.fail(Stop::NeedHeap)),
         }
@@ -173,7 +194,7 @@ impl<S: Drop> View<S> for PieceView {
 
     #[tactic(auto, unfolding(py_data::specs::Heap::at))]
     fn len(&mut self, a: Addr) -> Result<usize, Stop> {
-        match self.space.look(a.0) {
+        match self.records.look(a.0) {
             Some(r) => Ok(r.values().len()),
             None => Err(self.fail(Stop::NeedHeap)),
         }
@@ -181,7 +202,7 @@ impl<S: Drop> View<S> for PieceView {
 
     #[tactic(auto, unfolding(py_data::specs::Heap::at))]
     fn val(&mut self, a: Addr, i: usize) -> Result<Value, Stop> {
-        match self.space.look(a.0) {
+        match self.records.look(a.0) {
             Some(r) => Ok(r.values()[i]),
             None => Err(self.fail(Stop::NeedHeap)),
         }
@@ -189,7 +210,7 @@ impl<S: Drop> View<S> for PieceView {
 
     #[tactic(auto, unfolding(py_data::specs::Heap::at))]
     fn byte_len(&mut self, a: Addr) -> Result<usize, Stop> {
-        match self.space.look(a.0) {
+        match self.records.look(a.0) {
             Some(r) => Ok(r.bytes().len()),
             None => Err(self.fail(Stop::NeedHeap)),
         }
@@ -197,7 +218,7 @@ impl<S: Drop> View<S> for PieceView {
 
     #[tactic(auto, unfolding(py_data::specs::Heap::at))]
     fn copy_bytes(&mut self, a: Addr, from: usize, out: &mut [u8]) -> Result<(), Stop> {
-        match self.space.look(a.0) {
+        match self.records.look(a.0) {
             Some(r) => {
                 let bytes = r.bytes();
                 out.copy_from_slice(&bytes[from..from + out.len()]);
@@ -209,10 +230,10 @@ impl<S: Drop> View<S> for PieceView {
 
     #[tactic(auto, unfolding(py_data::specs::Sense::Asks, py_data::specs::Heap::at))]
     fn find_key(&mut self, d: Addr, key: Value) -> Result<Option<usize>, Stop> {
-        match self.space.look(d.0) {
+        match self.records.look(d.0) {
             Some(r) => {
-                if knows(&self.space, r.values(), key) {
-                    Ok(find_pair(&self.space, r.values(), key))
+                if knows(self, r.values(), key) {
+                    Ok(find_pair(self, r.values(), key))
                 } else {
                     Err(self.fail(Stop::NeedHeap))
                 }
@@ -270,6 +291,6 @@ impl Records for PieceView {
     ghost records = { λ v. (piece_state v).heap };
 
     fn record(&self, a: u32) -> Option<&Entry> {
-        self.space.look(a)
+        self.records.look(a)
     }
 }

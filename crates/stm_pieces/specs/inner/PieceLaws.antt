@@ -1,5 +1,6 @@
 -- What code and proofs say to each other: nothing public rests on it.
--- A piece view keeps the laws of views: the proofs that `impl View for PieceView` cites. States `docs/HEAP.md`, "Views".
+-- A piece view keeps the laws of views: the proofs that `impl View for PieceView` cites. States `docs/HEAP.md`,
+-- "Views".
 use Rattle.std.specs.Prelude.{◌≡◌, ℕ, true}
 use Rattle.std.proofs.Common.{ap, refl, ◌∙◌, sym, subst, IsSome, Option, Some, None, eqb, inl, inr}
 use Rattle.std.proofs.lemmas.Bool.{cases_Bool, cond-true, cond-false}
@@ -19,9 +20,9 @@ use Rattle.stm_pieces.specs.PieceSense.{piece_sense, piece_bracket, piece_stops}
 -- a change of a record is one of the heap
 changes_edits : (a : ℕ) (c : Change) (d e : PieceState) → Changes a c d e → Edits a (after c) d.heap e.heap
 changes_edits a c d e h = (
-  subst IsSome (sym h.1) refl,
-  ap (λ d. d.heap) h.5 ∙
-      ap (λ q. put_at d.heap a (after c q)) (sym (at-is d.heap a h.0 h.1)),
+  subst IsSome (sym h.1.is) refl,
+  ap (λ d. d.heap) h.3 ∙
+      ap (λ q. put_at d.heap a (after c q)) (sym (at-is d.heap a h.0 h.1.is)),
 )
 
 -- each call does to the records what such a call does over any view of a part of a heap
@@ -50,10 +51,13 @@ put_has h a b q s = elim (cases_Bool (eqb b a)) [
   | inr n ↦ subst IsSome (sym (cond-false (eqb b a) (Some q) (h b) n)) s
 ]
 
--- each record that was there is there, and terms and base are the same
+-- each record that was there is there, and loan, terms and what a step goes back to are the same
 pub record Kept (d e : PieceState) : Type 0 where
   pub has : (b : ℕ) → Has d.heap b → Has e.heap b
+  pub loaned : e.loaned ≡ d.loaned
+  pub names : e.names ≡ d.names
   pub base : e.base ≡ d.base
+  pub before : e.kept ≡ d.kept
   pub most : e.most ≡ d.most
   pub locked : e.locked ≡ d.locked
   pub solo : e.solo ≡ d.solo
@@ -61,7 +65,10 @@ pub record Kept (d e : PieceState) : Type 0 where
 kept_same : (d e : PieceState) → e ≡ d → Kept d e
 kept_same d e q = record {
   has = λ b s. subst (λ (z : PieceState). Has z.heap b) (sym q) s;
+  loaned = ap (λ (z : PieceState). z.loaned) q;
+  names = ap (λ (z : PieceState). z.names) q;
   base = ap (λ (z : PieceState). z.base) q;
+  before = ap (λ (z : PieceState). z.kept) q;
   most = ap (λ (z : PieceState). z.most) q;
   locked = ap (λ (z : PieceState). z.locked) q;
   solo = ap (λ (z : PieceState). z.solo) q;
@@ -69,11 +76,14 @@ kept_same d e q = record {
 
 kept_edit : (a : ℕ) (c : Change) (d e : PieceState) → Changes a c d e → Kept d e
 kept_edit a c d e h = record {
-  has = λ b s. subst (λ (z : PieceState). Has z.heap b) (sym h.5) (put_has d.heap a b (after c h.0) s);
-  base = ap (λ (z : PieceState). z.base) h.5;
-  most = ap (λ (z : PieceState). z.most) h.5;
-  locked = ap (λ (z : PieceState). z.locked) h.5;
-  solo = ap (λ (z : PieceState). z.solo) h.5;
+  has = λ b s. subst (λ (z : PieceState). Has z.heap b) (sym h.3) (put_has d.heap a b (after c h.0) s);
+  loaned = ap (λ (z : PieceState). z.loaned) h.3;
+  names = ap (λ (z : PieceState). z.names) h.3;
+  base = ap (λ (z : PieceState). z.base) h.3;
+  before = ap (λ (z : PieceState). z.kept) h.3;
+  most = ap (λ (z : PieceState). z.most) h.3;
+  locked = ap (λ (z : PieceState). z.locked) h.3;
+  solo = ap (λ (z : PieceState). z.solo) h.3;
 }
 
 pub kept : {S : Type 0} (c : Call S) (d : PieceState) (r : Reply c) (e : PieceState) → PieceDoes c d r e → Kept d e
@@ -96,7 +106,7 @@ touched_there : {S : Type 0} (c : Call S) (d : PieceState) (r : Reply c) (e : Pi
     PieceDoes c d r e → touches c ≡ Some a → Has d.heap a
 touched_there (Read b) d r e a h t = is_there d b a r h.0 t
 touched_there (Find b key) d r e a h t = is_there d b a h.0 h.1 t
-touched_there (Edit b c) d r e a h t = is_there d b a h.0 h.1 t
+touched_there (Edit b c) d r e a h t = is_there d b a h.0 h.1.is t
 touched_there (Make q) d n e a h t = absurd h
 touched_there (Start s) d r e a h t = absurd h
 touched_there (Put on b) d r e a h t = absurd h

@@ -8,7 +8,7 @@ use Rattle.py_data.specs.Steady.{NoLonger}
 use Rattle.lock_run.specs.Prog.{Prog}
 use Rattle.lock_run.specs.Client.{StandsIn}
 use Rattle.stm_pieces.specs.Piece.{PieceSteps}
-use Rattle.stm_pieces.specs.PieceState.{PieceState, IsTight, SameTerms}
+use Rattle.stm_pieces.specs.PieceState.{PieceState, IsTight, SameTerms, Replayed}
 
 -- a sight that made and started nothing and left the devices alone
 pub record Quiet {S : Type 0} (s : Sight S) : Type 0 where
@@ -24,6 +24,7 @@ pub record Follows {S : Type 0} (d0 d : PieceState) (s : Sight S) : Type 0 where
   pub locked : (a : ℕ) → s.touched a ≡ true → d0.locked a ≡ true
   pub within : NoLonger d.heap d0.heap
   pub terms : SameTerms d0 d
+  pub replayed : Replayed d0 d
   pub tight : IsTight d0
   pub alone : d0.solo ≡ false
 

@@ -2,7 +2,7 @@ use Rattle.std.proofs.Common.{◌≡◌, subst, arith}
 use Rattle.stm_pieces.specs.Piece.{IsPiece}
 use Rattle.stm_pieces.specs.PieceOf.{piece_state}
 use Rattle.stm_pieces.specs.inner.Stepwise.{Tells}
-use Rattle.stm_pieces.proofs.Walk.{walked_first, walked_piece, walked_terms, walked_more}
+use Rattle.stm_pieces.proofs.Walk.{walked_first, walked_piece, walked_terms, walked_replayed, walked_more}
 use Rattle.stm_pieces.proofs.Coming.{ends_early}
 use Rattle.stm_pieces.proofs.run.run_steps.Goals as goal
 
@@ -44,6 +44,13 @@ returns-in-Ok-false-clause-terms g c =
     walked_terms piece_state (g.C.Client.prog c.args.client.now) (g.C.Client.sound c.args.client.now)
     {v = c.step_here.new.view} one.0
 
+pub returns-in-Ok-false-clause-replayed : goal.returns-in-Ok-false-clause-replayed
+returns-in-Ok-false-clause-replayed g c =
+    let one = c.in-Ok-false.ensures.ok (piece_state c.args.view.now) c.loop-steps.steps c.args.state.now
+    c.loop-steps.invariant.walked in
+    walked_replayed piece_state (g.C.Client.prog c.args.client.now) (g.C.Client.sound c.args.client.now)
+    {v = c.step_here.new.view} one.0
+
 pub returns-in-Err-clause-piece : goal.returns-in-Err-clause-piece
 returns-in-Err-clause-piece g c =
     let none = c.in-Err.ensures.err (piece_state c.args.view.now) c.loop-steps.steps c.args.state.now
@@ -65,6 +72,13 @@ returns-in-Err-clause-terms g c =
     walked_terms piece_state (g.C.Client.prog c.args.client.now) (g.C.Client.sound c.args.client.now)
     {v = c.step_here.new.view} none.0
 
+pub returns-in-Err-clause-replayed : goal.returns-in-Err-clause-replayed
+returns-in-Err-clause-replayed g c =
+    let none = c.in-Err.ensures.err (piece_state c.args.view.now) c.loop-steps.steps c.args.state.now
+    c.loop-steps.invariant.walked in
+    walked_replayed piece_state (g.C.Client.prog c.args.client.now) (g.C.Client.sound c.args.client.now)
+    {v = c.step_here.new.view} none.0
+
 pub returns-clause-piece : goal.returns-clause-piece
 returns-clause-piece g c =
     let n : c.loop-steps.steps ≡ c.args.most = omega arith in
@@ -76,4 +90,9 @@ returns-clause-piece g c =
 pub returns-clause-terms : goal.returns-clause-terms
 returns-clause-terms g c =
     walked_terms piece_state (g.C.Client.prog c.args.client.now) (g.C.Client.sound c.args.client.now)
+    {v = c.loop-steps.view} c.loop-steps.invariant.walked
+
+pub returns-clause-replayed : goal.returns-clause-replayed
+returns-clause-replayed g c =
+    walked_replayed piece_state (g.C.Client.prog c.args.client.now) (g.C.Client.sound c.args.client.now)
     {v = c.loop-steps.view} c.loop-steps.invariant.walked

@@ -1,32 +1,34 @@
-use Rattle.std.proofs.Common.{◌∙◌, ap, length}
-use Rattle.std.specs.Ordering.{nat_cmp}
-use Rattle.std.specs.BTreeMap as tree
+use Rattle.std.proofs.Common.{◌∙◌, ap, [], ◌∷◌, ◌++◌, Some, length}
 use Rattle.py_data.specs.Heap.{put_at}
-use Rattle.lock_run.specs.Space.{space_heap, space_base}
-use Rattle.stm_pieces.specs.PieceOf.{piece_state, most_in, locked_in}
+use Rattle.stm_pieces.specs.LentOf.{terms_of, lent_heap, lent_base, all_edits, kept_edits}
 use Rattle.stm_pieces.specs.PieceState.{but_at}
-use Rattle.stm_pieces.proofs.Loaned.{most_set, locked_set, is_loaned, is_based}
+use Rattle.stm_pieces.proofs.Loaned.{states_same, states_lent}
 use Rattle.stm_pieces.proofs.view.PieceView.add.Goals as goal
 
-pub add-requires : goal.add-requires
-add-requires c = ap (λ h. h c.args.a.0) c.open.ensures.heap ∙ c.requires.fresh
+pub lend-requires-clause-heap : goal.lend-requires-clause-heap
+lend-requires-clause-heap c = ap (λ h. h c.args.a.0) c.open.ensures.heap ∙ c.requires.fresh
+
+pub lend-requires-clause-base : goal.lend-requires-clause-base
+lend-requires-clause-base c = ap (λ h. h c.args.a.0) c.open.ensures.base ∙ c.requires.fresh
 
 pub returns-in-Ok-clause-ok : goal.returns-in-Ok-clause-ok
 returns-in-Ok-clause-ok c =
-    let d = piece_state c.args.self.now in
-    let terms = tree.get nat_cmp c.args.self.now.terms in
-    let terms1 = tree.get nat_cmp c.set_term.new.terms in
-    is_loaned d (space_heap c.add.new.self) (space_base c.add.new.self) (λ n. most_in (terms1 n))
-    (λ n. locked_in (terms1 n)) c.args.a.0 c.args.r c.args.locked
-    (c.in_ok-add.ensures.heap ∙ ap (λ h. put_at h c.args.a.0 c.args.r) c.open.ensures.heap)
-    (c.add.ensures.base ∙ c.open.ensures.base)
-    (most_set terms terms1 c.args.a.0 _ c.in-Ok.ensures.ok ∙
-    ap (λ xs. but_at d.most c.args.a.0 (length xs)) c.values-most.ensures.values)
-    (locked_set terms terms1 c.args.a.0 _ c.in-Ok.ensures.ok)
+    let v = c.args.self.now in
+    let l = c.lend.new.self in
+    let r = c.args.r in
+    let more = c.in-Ok.ensures.ok in
+    states_lent v.solo v.stopped (terms_of v.records) (terms_of l) (lent_heap v.records) (lent_base v.records)
+    (lent_heap l) (lent_base l) (all_edits v.edits) (all_edits c.open-2.new.self) (kept_edits v.edits) (kept_edits c.open-2.new.self)
+    v.records.names.items l.names.items c.args.a r c.args.locked
+    (more.terms ∙ ap (λ f. but_at f c.args.a.0
+    (Some (record { entry = r; most = length r.values; locked = c.args.locked }))) c.open.ensures.terms)
+    (more.heap ∙ ap (λ h. put_at h c.args.a.0 r) c.open.ensures.heap)
+    (more.base ∙ ap (λ h. put_at h c.args.a.0 r) c.open.ensures.base) c.open-2.ensures.all c.open-2.ensures.kept
+    (more.names ∙ ap (λ xs. xs ++ c.args.a ∷ []) c.open.ensures.names)
 
 pub returns-in-Err-clause-err : goal.returns-in-Err-clause-err
 returns-in-Err-clause-err c =
-    is_based (piece_state c.args.self.now) (space_heap c.undo.new.self) (space_base c.undo.new.self)
-    (tree.get nat_cmp c.args.self.now.terms) (tree.get nat_cmp c.set_term.new.terms)
-    (c.undo.ensures.heap ∙ c.add.ensures.base ∙ c.open.ensures.base)
-    (c.undo.ensures.base ∙ c.add.ensures.base ∙ c.open.ensures.base) c.in-Err.ensures.err
+    let same = c.in-Err.ensures.err in
+    states_same c.args.self.now.solo c.args.self.now.stopped (same.terms ∙ c.open.ensures.terms)
+    (same.heap ∙ c.open.ensures.heap) (same.base ∙ c.open.ensures.base) c.open-2.ensures.all c.open-2.ensures.kept
+    (same.names ∙ c.open.ensures.names)
