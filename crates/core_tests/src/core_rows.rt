@@ -446,11 +446,12 @@ fn draw(seed: &mut u32) -> u32 {
 
 fn draw_event(seed: &mut u32) -> Event {
     let k = (draw(seed) % 3) as u8;
-    match draw(seed) % 5 {
+    match draw(seed) % 6 {
         0 => Event::Begin(k, draw(seed) % 4),
         1 => Event::Advance(k, 1),
         2 => Event::Advance(k, 2),
         3 => Event::Solo(k),
+        4 => Event::Piece(k, 2),
         _ => Event::Commit(k),
     }
 }
@@ -468,9 +469,30 @@ fn draw_events(alloc: Global, seed: u32, count: usize) -> Result<Vec<Event>, tes
 /// Three threads that look at, set and push what the others do, and print.
 fn three(rt: &impl Abort, alloc: Global) -> Result<Script, test::Fail> {
     let mut lists = Vec::new(alloc);
-    let first = [Act::Look(0), Act::Set(1, 1), Act::Put(65), Act::Push(7)];
-    let second = [Act::Set(0, 2), Act::Look(1), Act::Put(66), Act::Push(8)];
-    let third = [Act::Look(1), Act::Put(67), Act::Set(0, 3), Act::Set(1, 4)];
+    let first = [
+        Act::Look(0),
+        Act::Set(1, 1),
+        Act::Look(0),
+        Act::Set(1, 5),
+        Act::Put(65),
+        Act::Push(7),
+    ];
+    let second = [
+        Act::Set(0, 2),
+        Act::Set(0, 6),
+        Act::Look(1),
+        Act::Put(66),
+        Act::Look(1),
+        Act::Push(8),
+    ];
+    let third = [
+        Act::Look(1),
+        Act::Look(1),
+        Act::Put(67),
+        Act::Set(0, 3),
+        Act::Set(1, 4),
+        Act::Look(0),
+    ];
     lists.push(Acts::from_slice(alloc, &first)?)?;
     lists.push(Acts::from_slice(alloc, &second)?)?;
     lists.push(Acts::from_slice(alloc, &third)?)?;
@@ -517,13 +539,28 @@ struct Left {
     conflicts: usize,
     /// How many bytes were written.
     bytes: usize,
+    /// How many pieces were installed that had a step.
+    pieces: usize,
+}
+
+/// How many pieces of some steps were installed.
+fn pieces_in(replies: &[Reply]) -> usize {
+    let mut pieces = 0usize;
+    for reply in replies {
+        if let Reply::Installed(n) = reply
+            && *n > 0
+        {
+            pieces = pieces.saturating_add(1);
+        }
+    }
+    pieces
 }
 
 /// Makes the events of a list on a core, and does its history's turns again on a machine, which writes the same.
 fn on_both(rt: &impl Abort, alloc: Global, client: &Script, seed: u32) -> Result<Left, test::Fail> {
     let mut core = begun(rt, alloc, client, 1_000)?;
-    let list = draw_events(alloc, seed, 60)?;
-    core.run_events(list.as_slice())?;
+    let list = draw_events(alloc, seed, 80)?;
+    let replies = core.run_events(list.as_slice())?;
     let finished = core.finish();
     let mut run = machine(alloc, client)?;
     all_again(rt, &mut run, &finished.history);
@@ -533,6 +570,7 @@ fn on_both(rt: &impl Abort, alloc: Global, client: &Script, seed: u32) -> Result
         turns: finished.history.len(),
         conflicts: finished.conflicts.len(),
         bytes: out.written().len(),
+        pieces: pieces_in(replies.as_slice()),
     })
 }
 
@@ -543,14 +581,17 @@ fn histories_run_again(rt: HostRuntime) -> Tested {
     let mut turns = 0usize;
     let mut conflicts = 0usize;
     let mut bytes = 0usize;
+    let mut pieces = 0usize;
     for seed in 0..500 {
         let left = on_both(&rt, rt.alloc(), &client, seed)?;
         turns = turns.saturating_add(left.turns);
         conflicts = conflicts.saturating_add(left.conflicts);
         bytes = bytes.saturating_add(left.bytes);
+        pieces = pieces.saturating_add(left.pieces);
     }
     assert!(&rt; turns > 1_500, "{turns}");
     assert!(&rt; conflicts > 150, "{conflicts}");
     assert!(&rt; bytes > 300, "{bytes}");
+    assert!(&rt; pieces > 200, "{pieces}");
     Ok(())
 }

@@ -7,4 +7,6 @@ mod core_rows;
 #[cfg(test)]
 mod machine_rows;
 #[cfg(test)]
+mod piece_rows;
+#[cfg(test)]
 mod solo_rows;

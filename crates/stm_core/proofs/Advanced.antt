@@ -396,16 +396,29 @@ module _ {S : Type 0} (p : Prog S) (first : Machine S) (most k n : ℕ) where
       }
 
   -- dropped, where it isn't solo, and a cause kept that its thread met
-  failed_led : (reserved limit : ℕ) (u : CoreState S) (x : Transaction S) (y : Cause) → Good p first most u →
-      u.segments k ≡ Running x → x.solo ≡ false → IsShort most (suc x.steps) → p.life x.state ≡ Lives
-      → IsStepCause p u x reserved limit y → Led p most k u (with_cause y (with_segment k Idle u))
-  failed_led reserved limit u x y g runs mortal short lives why =
+  pub dropped_led : (u : CoreState S) (x : Transaction S) (y : Cause) (g : Good p first most u)
+      (runs : u.segments k ≡ Running x) → x.solo ≡ false
+      → IsMetBy p most (with_segment k Idle u) (g.stands k x runs).before y →
+      Led p most k u (with_cause y (with_segment k Idle u))
+  dropped_led u x y g runs mortal met =
       let v = with_segment k Idle u in
       let st = g.stands k x runs in
       let keeps : Next p most v (Keeps y) (with_cause y v) =
-      (x.thread, st.before, st.is, st.lives, λ j z e. rests j z e, met_by y why, refl) in
+      (x.thread, st.before, st.is, st.lives, λ j z e. rests j z e, met, refl) in
       led_then p most k u v (with_cause y v) (drop_led p most k u x runs (λ s. absurd (both_ways x.solo mortal s)))
       (one_led p most k (Keeps y) v (with_cause y v) tt keeps)
+    where
+      rests : (j : ℕ) (z : Transaction S) → set_segment k Idle u.segments j ≡ Running z → x.thread ≢ z.thread
+      rests j z e = elim (set_cases k j Idle (Running z) u.segments e) [
+        | inl q ↦ absurd (let d : Idle ≡ Running z = q.1 in cc)
+        | inr q ↦ (g.apart k j x z (λ d. q.0 (sym d)) runs q.1).threads
+      ]
+
+  -- so it is for a cause that its next step met
+  failed_led : (reserved limit : ℕ) (u : CoreState S) (x : Transaction S) (y : Cause) → Good p first most u →
+      u.segments k ≡ Running x → x.solo ≡ false → IsShort most (suc x.steps) → p.life x.state ≡ Lives
+      → IsStepCause p u x reserved limit y → Led p most k u (with_cause y (with_segment k Idle u))
+  failed_led reserved limit u x y g runs mortal short lives why = dropped_led u x y g runs mortal (met_by y why)
     where
       met_by : (e : Cause) → IsStepCause p u x reserved limit e →
           IsMetBy p most (with_segment k Idle u) (g.stands k x runs).before e
@@ -414,12 +427,6 @@ module _ {S : Type 0} (p : Prog S) (first : Machine S) (most k n : ℕ) where
       met_by ReadFault w = w
       met_by WriteFault w = w
       met_by ErrFault w = w
-
-      rests : (j : ℕ) (z : Transaction S) → set_segment k Idle u.segments j ≡ Running z → x.thread ≢ z.thread
-      rests j z e = elim (set_cases k j Idle (Running z) u.segments e) [
-        | inl q ↦ absurd (let d : Idle ≡ Running z = q.1 in cc)
-        | inr q ↦ (g.apart k j x z (λ d. q.0 (sym d)) runs q.1).threads
-      ]
 
   ends_moved : (reserved limit : ℕ) (o u : Outer S) (x : Transaction S) (r : Result Advance AdvanceError)
       (o1 : Outer S) → Reached o u x → ((e : AdvanceError) → r ≡ Err e → IsShort most (suc x.steps))

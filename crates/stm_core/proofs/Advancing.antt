@@ -147,7 +147,7 @@ came_to row left s place fs h = All-weaker (λ (f : Conflict). AskedFor row s le
     (λ f q. record { call = q.call; next = q.next; place = q.at; upto = q.upto; is = q.changes }) fs h
 
 -- what is free of the others stays so with the transaction in its segment
-free_with : {S : Type 0} (k : ℕ) (s : Segment S) (c : CoreState S) (x : Transaction S) → IsFree c k x →
+pub free_with : {S : Type 0} (k : ℕ) (s : Segment S) (c : CoreState S) (x : Transaction S) → IsFree c k x →
     IsFree (with_segment k s c) k x
 free_with k s c x f = record {
   changed = λ j y n e a h. f.changed j y n (sym (cond-false (eqb j k) s (c.segments j) (ne_eqb j k n)) ∙ e) a h;

@@ -1,13 +1,12 @@
 -- What events leave of the committed state, the history, the conflicts and other segments.
-use Rattle.std.proofs.Common.{◌≡◌, ◌≢◌, ◌⊎◌, ℕ, zero, suc, ◌+◌, ◌<◌, ◌≤◌, false, true, Bool, cond, eqb, List, [], ◌∷◌, ◌++◌, length, Option, Some, Result, Ok, Err, All, AllPairs, refl, sym, ◌∙◌, ap, subst, inl, inr, append-nil, append_assoc, length-append, arith}
-use Rattle.std.specs.List.{sum_by, count_by, range_with_len}
-use Rattle.std.proofs.lemmas.Bool.{cases_Bool, both_ways, eqb-false, eq-eqb, ne_eqb, cond-true, cond-false}
+use Rattle.std.proofs.Common.{◌≡◌, ◌≢◌, ℕ, suc, ◌+◌, ◌<◌, ◌≤◌, false, true, Bool, cond, eqb, List, [], ◌∷◌, ◌++◌, length, Some, Result, Ok, Err, All, AllPairs, refl, sym, ◌∙◌, ap, subst, inl, inr, append-nil, append_assoc, length-append, arith}
+use Rattle.std.specs.List.{count_by, range_with_len}
+use Rattle.std.proofs.lemmas.Bool.{eq-eqb, ne_eqb, cond-true, cond-false}
 use Rattle.std.proofs.lemmas.List.Elements.{All-cons, All-nil, All-weaker, Contains-push}
 use Rattle.std.proofs.lemmas.List.Kept.{AllPairs-cons}
 use Rattle.std.proofs.lemmas.List.Sums.{sum_by-cons}
 use Rattle.py_data.specs.declared.stop.Side.{Side}
 use Rattle.py_data.specs.declared.stop.Conflict.{Conflict}
-use Rattle.py_data.specs.Sight.{mem}
 use Rattle.lock_run.specs.declared.client.Life.{Life}
 use Rattle.lock_run.specs.declared.client.Life.TheVariants.{Lives, Ended as EndedLife, Failed as FailedLife}
 use Rattle.lock_run.specs.declared.turn.Turn.{Turn}
@@ -18,104 +17,32 @@ use Rattle.stm_core.specs.declared.answers.AdvanceError.{AdvanceError}
 use Rattle.stm_core.specs.declared.answers.AdvanceError.TheVariants as advance
 use Rattle.stm_core.specs.declared.begin.BeginError.{BeginError}
 use Rattle.stm_core.specs.declared.begin.BeginError.TheVariants as begin
-use Rattle.stm_core.specs.declared.cause.Cause.{Cause}
 use Rattle.stm_core.specs.declared.cause.Cause.TheVariants.{OutOfMemory as NoMemoryLeft}
 use Rattle.stm_core.specs.declared.commit.Commit.{Commit}
 use Rattle.stm_core.specs.declared.commit.Commit.TheVariants as commit
 use Rattle.stm_core.specs.declared.events.Event.{Event}
 use Rattle.stm_core.specs.declared.events.Event.TheVariants as event
 use Rattle.stm_core.specs.declared.events.Reply.{Reply}
-use Rattle.stm_core.specs.declared.events.Reply.TheVariants.{Skipped, Begun as HasBegun, Refused, Advanced as HasAdvanced, Solo as IsSolo, Unsolo, Committed as HasCommitted, Nothing, Lost, Failed}
+use Rattle.stm_core.specs.declared.events.Reply.TheVariants.{Skipped, Begun as HasBegun, Refused, Advanced as HasAdvanced, Solo as IsSolo, Unsolo, Committed as HasCommitted, Nothing, Lost, Failed, Installed, Unfit, OutOfMemory}
 use Rattle.stm_core.specs.declared.solo.SoloError.{SoloError}
 use Rattle.stm_core.specs.declared.solo.SoloError.TheVariants as solo
-use Rattle.seg_store.specs.Meaning.{overlay}
-use Rattle.stm_core.specs.CoreState.{Transaction, Segment, Idle, Doomed, Running, CoreState, fresh, soloed, turn_of, world_after, threads_after, with_segment, with_conflict}
+use Rattle.stm_core.specs.CoreState.{Transaction, Segment, Idle, Doomed, Running, CoreState, fresh, soloed, turn_of, with_segment, with_conflict}
 use Rattle.stm_core.specs.Conflict.{loser, IsStanding}
-use Rattle.stm_core.specs.Moves.{first_cause, published, begun_at}
+use Rattle.stm_core.specs.Moves.{published, begun_at}
 use Rattle.stm_core.specs.Passes.{doom_readers, after_commit, NoneWins}
 use Rattle.stm_core.specs.Outside.{Outer}
-use Rattle.stm_core.specs.Advanced.{CountsDone, tried_after, with_cause, Fails, Ends, StepsTaken, AdvancedFrom}
+use Rattle.stm_core.specs.Advanced.{CountsDone, tried_after, Ends, StepsTaken, AdvancedFrom}
 use Rattle.stm_core.specs.Begun.{Begun}
 use Rattle.stm_core.specs.Committed.{Beaten, CommitEnds, CommitOf}
-use Rattle.stm_core.specs.Solo.{SoloedFrom, up_to_whole}
-use Rattle.stm_core.specs.Events.{Limits, begin_reply, advance_reply, solo_reply, commit_reply, may_make, Made, MadeIf, EventsMade}
-use Rattle.stm_core.specs.History.{event_segment, IsQuiet, AddsTurn, steps_of, Publishes, IsAsked, IsLookedAt, IsMadeBy, IsEarly, ComesToEnd, HasStood, IsDoomed, LeavesOthers, IsToldLost, Leaves, AllLeave, numbers_of, has_failed, IsGrown}
-use Rattle.stm_core.proofs.Publishing.{mem_range}
-use Rattle.stm_core.proofs.TwoPasses.{met_none, Clears, clears}
-use Rattle.stm_core.proofs.SoloMoves.{solo_beats}
-use Rattle.stm_core.proofs.Advanced.{cut_kept, asker_loses, may_drop}
-use Rattle.stm_core.proofs.Came.{quiet_none, quiet_then, Came, StoodWithin, came_drop, came_loses, came_then, came_more, came_dooms, came_tried}
-
-module _ {S : Type 0} (p : Prog S) (most : ℕ) (e : Event) where
-  -- ---- what an event leaves that commits nothing
-
-  record Calm (r : Reply) (c c1 : CoreState S) : Type 0 where
-    quiet : IsQuiet c c1
-    beside : LeavesOthers p most e c c1
-    told : IsToldLost (event_segment e) r beside.new c c1
-
-  -- it made no conflict
-  calm_plain : (r : Reply) (c c1 : CoreState S) → IsQuiet c c1 → c1.conflicts ≡ c.conflicts →
-      ((j : ℕ) → j ≢ event_segment e → c1.segments j ≡ c.segments j) → IsToldLost (event_segment e) r [] c c1 →
-      Calm r c c1
-  calm_plain r c c1 q f g t = record {
-    quiet = q;
-    beside = record {
-      new = [];
-      conflicts = f ∙ sym (append-nil c.conflicts);
-      made = All-nil (IsMadeBy e c c1);
-      stood =
-          All-nil (HasStood p most e c c1);
-      others = λ j d. inl (g j d);
-    };
-    told = t;
-  }
-
-  calm_same : (r : Reply) (c c1 : CoreState S) → IsToldLost (event_segment e) r [] c c → c1 ≡ c → Calm r c c1
-  calm_same r c c1 t is = subst (Calm r c) (sym is) (calm_plain r c c (quiet_none c) refl (λ j d. refl) t)
-
-  -- its own segment is empty now
-  calm_idle : (r : Reply) (c c1 : CoreState S) →
-      IsToldLost (event_segment e) r [] c (with_segment (event_segment e) Idle c) →
-      c1 ≡ with_segment (event_segment e) Idle c → Calm r c c1
-  calm_idle r c c1 t is = subst (Calm r c) (sym is)
-      (calm_plain r c (with_segment (event_segment e) Idle c)
-      (record { image = refl; threads = refl; world = refl; history = refl }) refl
-      (λ j d. cond-false (eqb j (event_segment e)) Idle (c.segments j) (ne_eqb j (event_segment e) d)) t)
-
-  -- what it came through, with its end
-  abbrev beside_end : (M : Conflict → Type 0) (a b : ℕ) (c u c1 : CoreState S) →
-      (x : Came p most (event_segment e) M a b c u) → ((f : Conflict) → M f → IsMadeBy e c c1 f) →
-      ((n : ℕ) → n < b → IsEarly e n) → ComesToEnd e u c1
-      → c1.conflicts ≡ u.conflicts → ((j : ℕ) → j ≢ event_segment e → c1.segments j ≡ u.segments j) →
-      LeavesOthers p most e c c1
-  beside_end M a b c u c1 x made early end co se = record {
-    new = x.new;
-    conflicts = co ∙ x.conflicts;
-    made = All-weaker M (IsMadeBy e c c1) made x.new x.made;
-    stood = All-weaker (StoodWithin p most (event_segment e) M b c u) (HasStood p most e c c1)
-        (λ f h. record {
-          left = u;
-          stood = h.stood;
-          early = early (sum_by steps_of h.stood.before.moves) h.few;
-          end =
-              end;
-        }) x.new x.stood;
-    others = λ j d. subst (λ (s : Segment S). (s ≡ c.segments j) ⊎ IsDoomed j x.new (c.segments j) s) (sym (se j d))
-        (x.others j d);
-  }
-
-  calm_end : (r : Reply) (M : Conflict → Type 0) (a b : ℕ) (c u : CoreState S) →
-      (x : Came p most (event_segment e) M a b c u) → ((f : Conflict) → M f → IsMadeBy e c u f) →
-      ((n : ℕ) → n < b → IsEarly e n) → ComesToEnd e u u
-      → IsToldLost (event_segment e) r x.new c u → Calm r c u
-  calm_end r M a b c u x made early end t =
-      record { quiet = x.quiet; beside = beside_end M a b c u u x made early end refl (λ j d. refl); told = t }
-
--- with its reply, where that says of none that it commits
-calm_leaves : {S : Type 0} (p : Prog S) (l : Limits) (e : Event) (r : Reply) (c c1 : CoreState S) →
-    (IsQuiet c c1 → Publishes p l e r c c1) → Calm p l.length e r c c1 → Leaves p l e r c c1
-calm_leaves p l e r c c1 publishes z = record { publishes = publishes z.quiet; beside = z.beside; told = z.told }
+use Rattle.stm_core.specs.Solo.{SoloedFrom}
+use Rattle.stm_core.specs.Pieces.{IsGivenUp}
+use Rattle.stm_core.specs.Events.{Limits, begin_reply, advance_reply, solo_reply, commit_reply, may_make, PieceRan, PieceFrom, Made, MadeIf, EventsMade}
+use Rattle.stm_core.specs.History.{IsQuiet, Publishes, IsAsked, IsLookedAt, Leaves, AllLeave, numbers_of, has_failed, IsGrown}
+use Rattle.stm_core.proofs.TwoPasses.{Clears, clears}
+use Rattle.stm_core.proofs.Advanced.{asker_loses}
+use Rattle.stm_core.proofs.Leaving.{Calm, calm_plain, calm_same, calm_set, calm_idle, beside_end, calm_end, calm_leaves, turn_added, Tries, fails_leave}
+use Rattle.stm_core.proofs.PieceEvents.{piece_asked}
+use Rattle.stm_core.proofs.Came.{quiet_none, quiet_then, Came, came_none, came_loses, came_then, came_dooms, came_tried}
 
 -- ---- begin
 
@@ -162,12 +89,8 @@ solo_calm {S} p most k (Doomed f) (Err (solo.Lost g)) o o1 is h =
     (cond-true (eqb k k) Idle (o.core.segments k) (eq-eqb k k refl), is ∙ ap Doomed (sym h.1))
     (ap (λ (z : Outer S). z.core) h.2)
 solo_calm {S} p most k (Running x) (Ok u) o o1 is h =
-    let s = Running (soloed o.core.world x) in
-    let c1 = with_segment k s o.core in
-    subst (Calm p most (event.Solo k) IsSolo o.core) (sym (ap (λ (z : Outer S). z.core) h.2))
-    (calm_plain p most (event.Solo k) IsSolo o.core c1
-    (record { image = refl; threads = refl; world = refl; history = refl }) refl
-    (λ j n. cond-false (eqb j k) s (o.core.segments j) (ne_eqb j k n)) tt)
+    calm_set p most (event.Solo k) IsSolo (Running (soloed o.core.world x)) o.core o1.core tt
+    (ap (λ (z : Outer S). z.core) h.2)
 solo_calm p most k Idle result o o1 is h = absurd h
 solo_calm p most k (Doomed f) (Err (solo.Taken j)) o o1 is h = absurd h
 solo_calm p most k (Doomed f) (Ok u) o o1 is h = absurd h
@@ -177,49 +100,6 @@ solo_publishes : {S : Type 0} (p : Prog S) (l : Limits) (e : Event) (result : Re
     (c c1 : CoreState S) → IsQuiet c c1 → Publishes p l e (solo_reply result) c c1
 solo_publishes p l e (Ok u) c c1 q = q
 solo_publishes p l e (Err y) c c1 q = q
-
--- ---- a turn
-
--- both passes of the transaction x of segment i, from a state to which moves led that committed nothing, and a cause is
--- set
-turn_added : {S : Type 0} (p : Prog S) (l : Limits) (i : ℕ) (x : Transaction S) (c0 c : CoreState S) (q : Option Cause)
-    → c.segments i ≡ Running x → 1 ≤ x.steps → NoneWins i x c →
-    IsQuiet c0 (doom_readers i x (range_with_len 0 l.segments) c)
-    → AddsTurn l i x c0 (record (published i x (doom_readers i x (range_with_len 0 l.segments) c)) { cause = q })
-turn_added {S} p l i x c0 c q mine some none quiet =
-    let js = range_with_len 0 l.segments in
-    let d = doom_readers i x js c in
-    let cleared : Clears p l.length i x js c d = clears p l.length i x js c mine none in
-    record {
-      some = some;
-      history = ap (λ h. h ++ turn_of x ∷ []) quiet.history;
-      image = ap (λ h. overlay h x.changes) quiet.image;
-      threads = ap (λ ts. threads_after ts x) quiet.threads;
-      world = ap (λ w. world_after w x) quiet.world;
-      idle = cond-true (eqb i i) Idle (d.segments i) (eq-eqb i i refl);
-      unread = λ j y below runs a locked. unread_by j y below (cases_Bool (eqb j i)) runs a locked cleared;
-    }
-  where
-    unread_by : (j : ℕ) (y : Transaction S) → j < l.segments → (eqb j i ≡ true) ⊎ (eqb j i ≡ false) →
-        (published i x (doom_readers i x (range_with_len 0 l.segments) c)).segments j ≡ Running y → (a : ℕ) →
-        mem a x.changed ≡ true
-        → Clears p l.length i x (range_with_len 0 l.segments) c (doom_readers i x (range_with_len 0 l.segments) c) →
-        y.looked a ≡ false
-    unread_by j y below (inl same) runs a locked r =
-        absurd (let clash : Idle ≡ Running y =
-        sym (cond-true (eqb j i) Idle ((doom_readers i x (range_with_len 0 l.segments) c).segments j) same) ∙
-        runs in cc)
-    unread_by j y below (inr other) runs a locked r =
-        let on : (doom_readers i x (range_with_len 0 l.segments) c).segments j ≡ Running y =
-        sym (cond-false (eqb j i) Idle ((doom_readers i x (range_with_len 0 l.segments) c).segments j) other) ∙
-        runs in
-        met_none x.changed y.looked a (r.unread j y (mem_range 0 l.segments j (omega arith) (omega arith))
-        (eqb-false j i other) on) locked
-
--- it makes the history longer
-turn_longer : {S : Type 0} (l : Limits) (i : ℕ) (x : Transaction S) (c c1 : CoreState S) → AddsTurn l i x c c1 →
-    length c1.history ≡ length c.history + 1
-turn_longer l i x c c1 t = ap length t.history ∙ length-append c.history (turn_of x ∷ [])
 
 -- ---- advance
 
@@ -235,12 +115,18 @@ module _ {S : Type 0} (p : Prog S) (l : Limits) (k m reserved : ℕ) where
   abbrev event_is : Event
   event_is = event.Advance k m
 
-  -- what it makes where it fails with a solo transaction
-  abbrev Solos : Conflict → Type 0
-  Solos f = IsAsked k f ⊎ (IsLookedAt k f × (f.writer.solo ≡ true))
-
   abbrev Asks : ℕ → ℕ → CoreState S → CoreState S → Type 0
   Asks n b c u = Came p l.length k (IsAsked k) n b c u
+
+  -- as an event that fails
+  tries : Tries S event_is m (IsAsked k)
+  tries = record {
+    asks = refl;
+    early = λ i lt. lt;
+    ends = λ u c1 h. h;
+    makes = λ c c1 f h. inl h;
+    turns = λ c c1 f looked solo longer. inr (looked, solo, longer);
+  }
 
   -- nothing is committed
   quiet_leaves : (result : Result Advance AdvanceError) (c c1 : CoreState S) →
@@ -250,72 +136,13 @@ module _ {S : Type 0} (p : Prog S) (l : Limits) (k m reserved : ℕ) where
   quiet_leaves (Err (advance.Failed y)) c c1 z = calm_leaves p l event_is (Failed y) c c1 (λ q. inl q) z
 
   module _ (n b : ℕ) (c u : CoreState S) (came : Asks n b c u) (few : b ≤ m) where
-    early : (i : ℕ) → i < b → i < m
-    early i lt = omega (arith, lt, few)
+    in_time : (i : ℕ) → i < b → i < m
+    in_time i lt = omega (arith, lt, few)
 
     stays : (a : Advance) (c1 : CoreState S) → c1 ≡ u → Leaves p l event_is (HasAdvanced a) c c1
     stays a c1 is = subst (Leaves p l event_is (HasAdvanced a) c) (sym is)
         (quiet_leaves (Ok a) c u (calm_end p l.length event_is (HasAdvanced a) (IsAsked k) n b c u came (λ f h. inl h)
-        early (inl refl) tt))
-
-    -- the transaction is dropped, and a cause kept
-    drop_leaves : (y : Cause) (x : Transaction S) (c1 : CoreState S) → n ≤ b → u.segments k ≡ Running x →
-        (x.solo ≡ true → x.steps ≡ 0) → c1 ≡ with_cause y (with_segment k Idle u) → Leaves p l event_is (Failed y) c c1
-    drop_leaves y x c1 le runs none is =
-        let v = with_segment k Idle u in
-        let all : Asks (n + 0) b c v = came_then p l.length k (IsAsked k) n b 0 0 b c u v (omega arith)
-        (omega (arith, le)) came (came_drop p l.length k (IsAsked k) u (may_drop p l.length k u x runs none)) in
-        subst (Leaves p l event_is (Failed y) c) (sym is) (record {
-          publishes = inl (quiet_then c v (with_cause y v) all.quiet
-              (record { image = refl; threads = refl; world = refl; history = refl }));
-          beside = beside_end p l.length event_is (IsAsked k) (n + 0) b c v (with_cause y v) all (λ f h. inl h) early
-              (inr (y, inl refl)) refl (λ j d. refl);
-          told = tt;
-        })
-
-    -- the solo transaction is committed, and a cause kept
-    cut_leaves : (y : Cause) (x : Transaction S) (c1 : CoreState S) → n + 1 ≤ b → u.segments k ≡ Running x →
-        x.solo ≡ true → 1 ≤ x.steps → c1 ≡ record (after_commit k x (range_with_len 0 l.segments) u)
-        { cause = first_cause u.cause y } → Leaves p l event_is (Failed y) c c1
-    cut_leaves y x c1 le runs solo some is =
-        let js = range_with_len 0 l.segments in
-        let d = doom_readers k x js u in
-        let none = solo_beats k x u solo in
-        let mine = (clears p l.length k x js u runs none).mine in
-        let dooms = came_dooms p l.length k Solos x (λ j z a. inr ((refl, refl), solo)) js u runs none in
-        let all : Came p l.length k Solos (n + 0) b c d = came_then p l.length k Solos n b 0 1 b c u d (omega arith) le
-        (came_more p l.length k (IsAsked k) Solos n b c u (λ f h. inl h) came) dooms in
-        let end = record (published k x d) { cause = first_cause u.cause y } in
-        let turn : AddsTurn l k x c end = turn_added p l k x c u (first_cause u.cause y) runs some none all.quiet in
-        let was = all.goes.on x mine in
-        let longer : length c.history < length end.history = let q = turn_longer l k x c end turn in omega (arith, q) in
-        subst (Leaves p l event_is (Failed y) c) (sym is) (record {
-          publishes = inr (record {
-            most = m;
-            call = refl;
-            y = was.0;
-            runs = was.1;
-            left = d;
-            way = all.way;
-            early = let q = all.count in omega (arith, q, le, few);
-            x = x;
-            ran = mine;
-            same = was.2.same;
-            steps = was.2.steps ∙ ap (λ i. (was.0).steps + i) (sym all.count);
-            solo = solo;
-            turn = turn;
-          });
-          beside = beside_end p l.length event_is Solos (n + 0) b c d end all (λ f h. made f longer h) early
-              (inr (y, inr (x, mine, solo, some, cut_kept k x js u y))) refl
-              (λ j e. cond-false (eqb j k) Idle (d.segments j) (ne_eqb j k e));
-          told = tt;
-        })
-      where
-        made : (f : Conflict) → length c.history < length (after_commit k x (range_with_len 0 l.segments) u).history →
-            Solos f → IsMadeBy event_is c
-            (record (after_commit k x (range_with_len 0 l.segments) u) { cause = first_cause u.cause y }) f
-        made f longer (inl h) = inl h
-        made f longer (inr h) = inr (h.0, h.1, longer)
+        in_time (inl refl) tt))
 
     -- what comes after the steps
     ends_leave : (o : Outer S) (x : Transaction S) (result : Result Advance AdvanceError) (o1 : Outer S) → o.core ≡ u →
@@ -336,23 +163,10 @@ module _ {S : Type 0} (p : Prog S) (l : Limits) (k m reserved : ℕ) where
         ap (λ z. with_conflict f (with_segment k Idle z)) at in
         subst (Leaves p l event_is (Lost f) c) (sym is)
         (quiet_leaves (Err (advance.Lost f)) c v
-        (calm_end p l.length event_is (Lost f) (IsAsked k) (n + 0) b c v all (λ f h. inl h) early (inl refl)
+        (calm_end p l.length event_is (Lost f) (IsAsked k) (n + 0) b c v all (λ f h. inl h) in_time (inl refl)
         (cond-true (eqb k k) Idle (u.segments k) (eq-eqb k k refl), inr (Contains-push came.new f, own))))
-    ends_leave o x (Err (advance.Failed y)) o1 at runs le h = fails x.solo refl h.1
-      where
-        whole : x.solo ≡ true → (i : ℕ) → x.steps ≡ i → o1.core ≡ record (up_to_whole k l.segments x i o.core)
-            { cause = first_cause o.core.cause y } → Leaves p l event_is (Failed y) c o1.core
-        whole s zero e is = drop_leaves y x o1.core (omega (arith, le)) runs (λ q. e)
-            (is ∙ ap (λ z. with_cause y (with_segment k Idle z)) at)
-        whole s (suc i) e is = cut_leaves y x o1.core le runs s (omega (arith, e))
-            (is ∙ ap (λ (z : CoreState S). record (after_commit k x (range_with_len 0 l.segments) z)
-            { cause = first_cause z.cause y }) at)
-
-        fails : (s : Bool) → x.solo ≡ s → Fails s p k l.segments reserved l.words y o x o1 →
-            Leaves p l event_is (Failed y) c o1.core
-        fails false e f = drop_leaves y x o1.core (omega (arith, le)) runs (λ s. absurd (both_ways x.solo e s))
-            (ap (λ (z : Outer S). z.core) f.1 ∙ ap (λ z. with_cause y (with_segment k Idle z)) at)
-        fails true e f = whole e x.steps refl (ap (λ (z : Outer S). z.core) f.1.gives)
+    ends_leave o x (Err (advance.Failed y)) o1 at runs le h =
+        fails_leave p l event_is m reserved (IsAsked k) tries n b c u came few o x y o1 at runs le h.1
 
   steps_leave : (o : Outer S) (result : Result Advance AdvanceError) (o1 : Outer S) →
       StepsTaken p l.length k l.segments m reserved l.words o result o1 →
@@ -451,30 +265,93 @@ commit_leaves {S} p l k (Doomed f) result c c1 is h =
     (cond-true (eqb k k) Idle (c.segments k) (eq-eqb k k refl), inl is) h.1))
 commit_leaves p l k (Running x) result c c1 is h = commit_ends p l k x result c c1 is h
 
+-- ---- a piece
+
+module _ {S : Type 0} (p : Prog S) (l : Limits) (k m : ℕ) where
+  -- it makes no conflict before it ends
+  abbrev NoConflict : Conflict → Type 0
+  NoConflict f = ⊥
+
+  -- as an event that fails
+  piece_tries : Tries S (event.Piece k m) m NoConflict
+  piece_tries = record {
+    asks = refl;
+    early = λ i lt. lt;
+    ends = λ u c1 h. h;
+    makes = λ c c1 f h. absurd h;
+    turns = λ c c1 f looked solo longer. (looked, solo, longer);
+  }
+
+  -- there was no memory for its install: no step of it was done
+  piece_failed : (reserved : ℕ) (o o1 : Outer S) → 1 ≤ m → IsGivenUp p k l.segments reserved l.words o o1 →
+      Leaves p l (event.Piece k m) (Failed NoMemoryLeft) o.core o1.core
+  piece_failed reserved o o1 some h =
+      let none = came_none p l.length k NoConflict o.core in
+      let came = came_then p l.length k NoConflict 0 0 0 0 1 o.core o.core o.core (omega arith) (omega arith) none
+      none in
+      fails_leave p l (event.Piece k m) m reserved NoConflict piece_tries (0 + 0) 1 o.core o.core came some o h.x
+      NoMemoryLeft o1 refl h.runs (omega arith) h.fails
+
+  ran_leaves : (r : Reply) (o o1 : Outer S) → 1 ≤ m → PieceRan p l k m r o o1 →
+      Leaves p l (event.Piece k m) r o.core o1.core
+  ran_leaves (Installed n) o o1 some h =
+      let i = h.4 in
+      calm_leaves p l (event.Piece k m) (Installed n) o.core o1.core (λ q. q)
+      (calm_set p l.length (event.Piece k m) (Installed n) (Running i.after) o.core o1.core tt
+      (ap (λ (z : Outer S). z.core) i.is))
+  ran_leaves (Failed y) o o1 some h = subst (λ z. Leaves p l (event.Piece k m) (Failed z) o.core o1.core) (sym h.0)
+      (piece_failed h.1 o o1 some h.2)
+  ran_leaves OutOfMemory o o1 some h = calm_leaves p l (event.Piece k m) OutOfMemory o.core o1.core (λ q. q)
+      (calm_same p l.length (event.Piece k m) OutOfMemory o.core o1.core tt (ap (λ (z : Outer S). z.core) h))
+  ran_leaves _ o o1 some h = absurd h
+
+  piece_leaves : (s : Segment S) (r : Reply) (o o1 : Outer S) → 1 ≤ m → o.core.segments k ≡ s →
+      PieceFrom s p l k m r o o1 → Leaves p l (event.Piece k m) r o.core o1.core
+  piece_leaves Idle r o o1 some is h = absurd h
+  piece_leaves (Doomed f) r o o1 some is h =
+      subst (λ z. Leaves p l (event.Piece k m) z o.core o1.core) (sym h.0)
+      (calm_leaves p l (event.Piece k m) (Lost f) o.core o1.core (λ q. q)
+      (calm_idle p l.length (event.Piece k m) (Lost f) o.core o1.core
+      (cond-true (eqb k k) Idle (o.core.segments k) (eq-eqb k k refl), inl is) (ap (λ (z : Outer S). z.core) h.1)))
+  piece_leaves (Running x) r o o1 some is h = by_life (p.life x.state) refl
+    where
+      ended : (p.life x.state ≢ Lives) → Leaves p l (event.Piece k m) r o.core o1.core
+      ended n = let e = h.0 n in
+          subst (λ z. Leaves p l (event.Piece k m) z o.core o1.core) (sym e.0)
+          (calm_leaves p l (event.Piece k m) Skipped o.core o1.core (λ q. q)
+          (calm_same p l.length (event.Piece k m) Skipped o.core o1.core tt (ap (λ (z : Outer S). z.core) e.1)))
+
+      by_life : (y : Life) → p.life x.state ≡ y → Leaves p l (event.Piece k m) r o.core o1.core
+      by_life Lives is = ran_leaves r o o1 some (h.1 is)
+      by_life EndedLife is = ended (λ e. let clash : EndedLife ≡ Lives = sym is ∙ e in absurd cc)
+      by_life FailedLife is = ended (λ e. let clash : FailedLife ≡ Lives = sym is ∙ e in absurd cc)
+
 -- ---- events
 
-made_leaves : {S : Type 0} (p : Prog S) (l : Limits) (e : Event) (r : Reply) (o o1 : Outer S) → Made p l e r o o1 →
-    Leaves p l e r o.core o1.core
-made_leaves p l (event.Begin k t) r o o1 h =
+made_leaves : {S : Type 0} (p : Prog S) (l : Limits) (e : Event) (r : Reply) (o o1 : Outer S) →
+    may_make l o.core e ≡ true → Made p l e r o o1 → Leaves p l e r o.core o1.core
+made_leaves p l (event.Begin k t) r o o1 may h =
     subst (λ r. Leaves p l (event.Begin k t) r o.core o1.core) (sym h.1)
     (calm_leaves p l (event.Begin k t) (begin_reply h.0) o.core o1.core
     (begin_publishes p l (event.Begin k t) h.0 o.core o1.core) (begin_calm p l k t h.0 o.core o1.core h.2.0))
-made_leaves p l (event.Advance k m) r o o1 h =
+made_leaves p l (event.Advance k m) r o o1 may h =
     subst (λ r. Leaves p l (event.Advance k m) r o.core o1.core) (sym h.2)
     (advance_leaves p l k m h.1 (o.core.segments k) o h.0 o1 refl h.3)
-made_leaves p l (event.Solo k) r o o1 h =
+made_leaves p l (event.Solo k) r o o1 may h =
     subst (λ r. Leaves p l (event.Solo k) r o.core o1.core) (sym h.1)
     (calm_leaves p l (event.Solo k) (solo_reply h.0) o.core o1.core
     (solo_publishes p l (event.Solo k) h.0 o.core o1.core)
     (solo_calm p l.length k (o.core.segments k) h.0 o o1 refl h.2))
-made_leaves p l (event.Commit k) r o o1 h =
+made_leaves p l (event.Commit k) r o o1 may h =
     subst (λ r. Leaves p l (event.Commit k) r o.core o1.core) (sym h.1)
     (commit_leaves p l k (o.core.segments k) h.0 o.core o1.core refl h.2.0)
+made_leaves p l (event.Piece k m) r o o1 may h =
+    piece_leaves p l k m (o.core.segments k) r o o1 (piece_asked l o.core k m may).1 refl h
 
 event_leaves : {S : Type 0} (p : Prog S) (l : Limits) (e : Event) (b : Bool) (r : Reply) (o o1 : Outer S) →
-    MadeIf p l e b r o o1 → Leaves p l e r o.core o1.core
-event_leaves p l e true r o o1 h = made_leaves p l e r o o1 h
-event_leaves {S} p l e false r o o1 h =
+    may_make l o.core e ≡ b → MadeIf p l e b r o o1 → Leaves p l e r o.core o1.core
+event_leaves p l e true r o o1 may h = made_leaves p l e r o o1 may h
+event_leaves {S} p l e false r o o1 may h =
     subst (λ r. Leaves p l e r o.core o1.core) (sym h.0)
     (calm_leaves p l e Skipped o.core o1.core (λ q. q)
     (calm_same p l.length e Skipped o.core o1.core tt (ap (λ (z : Outer S). z.core) h.1)))
@@ -486,7 +363,7 @@ all_leave p l [] (r ∷ rs) o o1 h = absurd h
 all_leave p l (e ∷ es) [] o o1 h = absurd h
 all_leave {S} p l (e ∷ es) (r ∷ rs) o o1 h =
     let u : Outer S = h.0 in
-    (u.core, event_leaves p l e (may_make l o.core e) r o u h.1, all_leave p l es rs u o1 h.2)
+    (u.core, event_leaves p l e (may_make l o.core e) r o u refl h.1, all_leave p l es rs u o1 h.2)
 
 -- ---- from the first to the last
 
@@ -596,6 +473,12 @@ grown_one {S} p l e r rs c u c1 new q f g = by_reply r q (sum_by-cons (λ (z : R
         (count_by has_failed (Nothing ∷ rs)) (omega (arith, is)) q
     by_reply (Lost y) q is = grown_quiet (numbers_of rs) (count_by has_failed rs) c u c1 new f g
         (count_by has_failed (Lost y ∷ rs)) (omega (arith, is)) q
+    by_reply (Installed n) q is = grown_quiet (numbers_of rs) (count_by has_failed rs) c u c1 new f g
+        (count_by has_failed (Installed n ∷ rs)) (omega (arith, is)) q
+    by_reply Unfit q is = grown_quiet (numbers_of rs) (count_by has_failed rs) c u c1 new f g
+        (count_by has_failed (Unfit ∷ rs)) (omega (arith, is)) q
+    by_reply OutOfMemory q is = grown_quiet (numbers_of rs) (count_by has_failed rs) c u c1 new f g
+        (count_by has_failed (OutOfMemory ∷ rs)) (omega (arith, is)) q
 
 grown : {S : Type 0} (p : Prog S) (l : Limits) (es : List Event) (rs : List Reply) (c c1 : CoreState S) →
     AllLeave p l es rs c c1 → Grown (numbers_of rs) (count_by has_failed rs) c c1

@@ -121,7 +121,7 @@ module _ {S : Type 0} (p : Prog S) (most k : ℕ) where
 
 module _ {S : Type 0} (p : Prog S) (most k : ℕ) where
   -- a doom that the segment won, or a step of it
-  abbrev IsGoing : Move S → Type 0
+  abbrev pub IsGoing : Move S → Type 0
   IsGoing (Dooms f) = AsksFrom k 0 f
   IsGoing (Goes i x x1) = i ≡ k
   IsGoing (Rests i x x1) = i ≡ k
@@ -212,7 +212,7 @@ module _ {S : Type 0} (p : Prog S) (most k : ℕ) where
       (tries_going image w done ts (All-tail (IsTry p image w k done) t ts h)))
 
   -- The transaction stays solo or not, and of a solo one the devices were told its world, as they were before.
-  going_led : (o : Outer S) (ms : List (Move S)) (c1 : CoreState S) (x x1 : Transaction S) → All IsGoing ms →
+  pub going_led : (o : Outer S) (ms : List (Move S)) (c1 : CoreState S) (x x1 : Transaction S) → All IsGoing ms →
       Follows p most o.core ms c1 → o.core.segments k ≡ Running x → (x.solo ≡ true → o.told ≡ x.world) →
       c1.segments k ≡ Running x1
       → (x1.solo ≡ x.solo) × OuterLed p most o (record o { core = c1; told = cond x1.solo x1.world o.told })

@@ -28,15 +28,24 @@ pub mod Soloing
 pub mod FinishingLemmas
 mod Standings
 pub mod Settling
+pub mod Sighting
+pub mod Lending
+pub mod Loaning
 pub mod Breaking
 pub mod Endings
 pub mod Advanced
 pub mod Calling
 pub mod TakenSteps
 pub mod EventSteps
+pub mod PieceEvents
 pub mod OutsideLemmas
 pub mod InnerMoves
 pub mod SoloMoves
+pub mod Installing
+pub mod Replaying
+pub mod Putting
+pub mod InstallCalls
 pub mod Came
+mod Leaving
 mod Histories
 pub mod Ends

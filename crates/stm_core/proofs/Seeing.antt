@@ -34,7 +34,7 @@ use Rattle.stm_core.proofs.Holding.{looks_beside, looks_same, looks_mark, beside
 use Rattle.stm_core.proofs.Fits.{fit_own}
 
 -- the record that is there
-at_there : (h : Heap) (a : ℕ) → Has h a → h a ≡ Some (at h a)
+pub at_there : (h : Heap) (a : ℕ) → Has h a → h a ≡ Some (at h a)
 unfolding at
 at_there h a t = go (h a) t
   where

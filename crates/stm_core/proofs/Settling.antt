@@ -20,7 +20,7 @@ use Rattle.stm_core.proofs.Wholes.{Set, set_here, set_there, core_set}
 use Rattle.stm_core.proofs.Advancing.{set_again}
 
 -- a segment that is set to what it is
-set_same : {S : Type 0} (k : ℕ) (s : Segment S) (f : ℕ → Segment S) → f k ≡ s → set_segment k s f ≡ f
+pub set_same : {S : Type 0} (k : ℕ) (s : Segment S) (f : ℕ → Segment S) → f k ≡ s → set_segment k s f ≡ f
 set_same {S} k s f e q x = at x q
   where
     at : (x : ℕ) → set_segment k s f x ≡ f x

@@ -61,6 +61,18 @@ mortal_loses {S} p first most c f g v =
 no_runs : {S : Type 0} (s : Segment S) (f : Conflict) (x : Transaction S) → s ≡ Doomed f → s ≡ Running x → ⊥
 no_runs s f x e g = let q : Doomed f ≡ Running x = sym e ∙ g in cc
 
+-- what a doomed segment has in hand is dropped
+pub doomed_moves : {S : Type 0} (p : Prog S) (most k : ℕ) (f : Conflict) (o o1 : Outer S) →
+    o.core.segments k ≡ Doomed f → o1 ≡ record o { core = with_segment k Idle o.core } → OuterLed p most o o1
+doomed_moves p most k f o o1 e q = (
+  Inner (Drops k) ∷ [],
+  (
+    o1,
+    (with_segment k Idle o.core, ((λ x w. absurd (no_runs (o.core.segments k) f x e w)), refl), tt, q),
+    refl,
+  ),
+)
+
 pub soloed_moves : {S : Type 0} (p : Prog S) (most k : ℕ) (r : Result (Unit {0}) SoloError) (o o1 : Outer S) →
     Soloed k r o o1 → OuterLed p most o o1
 soloed_moves {S} p most k r o o1 h = go (o.core.segments k) refl r h
@@ -70,14 +82,7 @@ soloed_moves {S} p most k r o o1 h = go (o.core.segments k) refl r h
     go (Doomed f) e (Err (Over c)) q = ([], q.1)
     go (Running x) e (Err (Over c)) q = ([], q.1)
     go (Running x) e (Err (Taken j)) q = ([], q.2)
-    go (Doomed f) e (Err (Lost g)) q = (
-      Inner (Drops k) ∷ [],
-      (
-        o1,
-        (with_segment k Idle o.core, ((λ x w. absurd (no_runs (o.core.segments k) f x e w)), refl), tt, q.2),
-        refl,
-      ),
-    )
+    go (Doomed f) e (Err (Lost g)) q = doomed_moves p most k f o o1 e q.2
     go (Running x) e (Ok u) q = (Solos k x ∷ [], (o1, (q.0, e, q.1, q.2), refl))
     go Idle e q z = absurd z
     go (Doomed f) e (Err (Taken j)) z = absurd z

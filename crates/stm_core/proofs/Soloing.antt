@@ -21,7 +21,7 @@ use Rattle.stm_core.specs.Books.{Worlds, with_own, transaction, segment_of, core
 use Rattle.stm_core.specs.SaneCore.{StandsFor, LeadsBetween}
 use Rattle.stm_core.proofs.Committing.{running_work, mortal_segment}
 use Rattle.stm_core.proofs.Wholes.{Set, set_here, set_there, core_set}
-use Rattle.stm_core.proofs.SoloMoves.{soloed_moves}
+use Rattle.stm_core.proofs.SoloMoves.{soloed_moves, doomed_moves}
 use Rattle.stm_core.proofs.StandsAgain.{stands_told}
 
 -- where no hand runs a solo transaction, the world of one doesn't matter
@@ -163,10 +163,11 @@ module _ {S : Type 0} (p : Prog S) (most k : ℕ) (first d : DeviceState) (m : M
         made,
       )
 
-  -- it was doomed
-  pub doomed_stands : (f : Conflict) → slice_get b.hands.items k ≡ Some (DoomedHand f) → Set k IdleHand b b1 →
-      b.cause ≡ None → (o1 : Outer S) × StandsFor p most first d m b1 o1 × Soloed k (Err (Lost f)) o o1
-  doomed_stands f e t none =
+  -- what a doomed segment had in hand is gone
+  pub emptied_stands : (f : Conflict) → slice_get b.hands.items k ≡ Some (DoomedHand f) → Set k IdleHand b b1 →
+      (o1 : Outer S) × StandsFor p most first d m b1 o1 × (o.core.segments k ≡ Doomed f) ×
+      (o1 ≡ record o { core = with_segment k Idle o.core })
+  emptied_stands f e t =
       let w = s.worlds in
       let c1 = core_of w m b1 in
       let gives : c1 ≡ with_segment k Idle o.core =
@@ -174,14 +175,25 @@ module _ {S : Type 0} (p : Prog S) (most k : ℕ) (first d : DeviceState) (m : M
       ap (with_segment k Idle) (sym s.core) in
       let at : o.core.segments k ≡ Doomed f = ap (λ (c : CoreState S). c.segments k) s.core ∙
       ap (segment_of w.own (m.part k)) e in
-      let made : Soloed k (Err (Lost f)) o (record o { core = c1 }) =
-      subst (λ (z : Segment S). SoloedFrom z k (Err (Lost f)) o (record o { core = c1 })) (sym at)
-      (ap (λ (c : CoreState S). c.cause) s.core ∙ none, refl, ap (λ c. record o { core = c }) gives) in
-      let ms = soloed_moves p most k (Err (Lost f)) o (record o { core = c1 }) made in (
+      let is : (record o { core = c1 }) ≡ (record o { core = with_segment k Idle o.core }) =
+      ap (λ c. record o { core = c }) gives in
+      let ms = doomed_moves p most k f o (record o { core = c1 }) at is in (
         record o { core = c1 },
         stands_told p most first d m m b b1 o s w (ap (λ (z : Books S). z.broken) t.rest) ms.0
             ms.1,
-        made,
+        at,
+        is,
+      )
+
+  -- it was doomed
+  pub doomed_stands : (f : Conflict) → slice_get b.hands.items k ≡ Some (DoomedHand f) → Set k IdleHand b b1 →
+      b.cause ≡ None → (o1 : Outer S) × StandsFor p most first d m b1 o1 × Soloed k (Err (Lost f)) o o1
+  doomed_stands f e t none =
+      let z = emptied_stands f e t in (
+        z.0,
+        z.1,
+        subst (λ (q : Segment S). SoloedFrom q k (Err (Lost f)) o z.0) (sym z.2)
+            (ap (λ (c : CoreState S). c.cause) s.core ∙ none, refl, z.3),
       )
 
   -- the core goes on no more

@@ -207,7 +207,7 @@ module _ {S : Type 0} (p : Prog S) (most k : ℕ) (first d : DeviceState) (m : M
   broken_same : b1.broken ≡ b.broken
   broken_same = ap (λ (z : Books S). z.broken) set.rest
 
-  runs_in : (o : Outer S) (s : StandsFor p most first d m b o) →
+  pub runs_in : (o : Outer S) (s : StandsFor p most first d m b o) →
       o.core.segments k ≡ Running (transaction s.worlds.own (m.part k) x)
   runs_in o s = ap (λ (c : CoreState S). c.segments k) s.core ∙ ap (segment_of s.worlds.own (m.part k)) at
 
@@ -221,7 +221,7 @@ module _ {S : Type 0} (p : Prog S) (most k : ℕ) (first d : DeviceState) (m : M
         mid = ap (λ v. v.mid) (sym own) ∙ s.mid (no_break b.broken (sym s.broken ∙ h.0));
       }
 
-  out_of : (o : Outer S) (s : StandsFor p most first d m b o) → IsTakenOut first.out first.err d s.worlds k m b1 x o
+  pub out_of : (o : Outer S) (s : StandsFor p most first d m b o) → IsTakenOut first.out first.err d s.worlds k m b1 x o
   out_of o s = record {
     core = s.core ∙ sym (core_taken k m b b1 s.worlds x at set);
     broken = s.broken ∙ ap broken_of (sym broken_same);

@@ -24,6 +24,7 @@ event_segment (event.Begin k t) = k
 event_segment (event.Advance k m) = k
 event_segment (event.Solo k) = k
 event_segment (event.Commit k) = k
+event_segment (event.Piece k m) = k
 
 -- ---- the committed state and the history
 
@@ -60,12 +61,17 @@ abbrev pub steps_of : {S : Type 0} → Move S → ℕ
 steps_of (Goes i x x1) = 1
 steps_of _ = 0
 
--- The event is an advance that fails, and its segment's transaction y is solo: moves of the segment, and dooms of
--- others, do fewer
--- steps of it than were asked for, and what it is then, x, becomes a turn.
+-- the event asks for at most so many steps of its segment: it is an advance, or a piece
+abbrev pub AsksSteps : Event → ℕ → Type 0
+AsksSteps (event.Advance k m) n = n ≡ m
+AsksSteps (event.Piece k m) n = n ≡ m
+AsksSteps _ n = ⊥
+
+-- The event is an advance that fails, or a piece, and its segment's transaction y is solo: moves of the segment, and
+-- dooms of others, do fewer steps of it than were asked for, and what it is then, x, becomes a turn.
 pub record IsCutOff {S : Type 0} (p : Prog S) (l : Limits) (e : Event) (c c1 : CoreState S) : Type 0 where
   pub most : ℕ
-  pub call : e ≡ event.Advance (event_segment e) most
+  pub call : AsksSteps e most
   pub y : Transaction S
   pub runs : c.segments (event_segment e) ≡ Running y
   pub left : CoreState S
@@ -80,7 +86,7 @@ pub record IsCutOff {S : Type 0} (p : Prog S) (l : Limits) (e : Event) (c c1 : C
 
 -- Image, threads, world and history change by commits alone, each of which adds a turn: of an event that is replied the
 -- number of
--- the turn, or of an advance that fails, whose solo transaction is committed. Any other event leaves them.
+-- the turn, or of an advance or a piece that fails, whose solo transaction is committed. Any other event leaves them.
 abbrev pub Publishes : {S : Type 0} → Prog S → Limits → Event → Reply → CoreState S → CoreState S → Type 0
 Publishes p l e (HasCommitted n) c c1 = IsCommit l e n c c1
 Publishes p l e (Failed y) c c1 = IsQuiet c c1 ⊎ IsCutOff p l e c c1
@@ -97,15 +103,15 @@ abbrev pub IsLookedAt : ℕ → Conflict → Type 0
 IsLookedAt k f = (f.writer.segment ≡ k) × (f.asks ≡ false)
 
 -- The conflicts that an event can make: a begin and a call of `solo` make none; an advance those in which its segment
--- asks, and
--- where it adds a turn, that of its solo transaction, those of a commit; a commit those in which another one has
--- looked.
+-- asks, and where it adds a turn, that of its solo transaction, those of a commit; a piece only the latter; a commit
+-- those in which another one has looked.
 abbrev pub IsMadeBy : {S : Type 0} → Event → CoreState S → CoreState S → Conflict → Type 0
 IsMadeBy (event.Begin k t) c c1 f = ⊥
 IsMadeBy (event.Advance k m) c c1 f = IsAsked k f ⊎
     (IsLookedAt k f × (f.writer.solo ≡ true) × (length c.history < length c1.history))
 IsMadeBy (event.Solo k) c c1 f = ⊥
 IsMadeBy (event.Commit k) c c1 f = IsLookedAt k f
+IsMadeBy (event.Piece k m) c c1 f = IsLookedAt k f × (f.writer.solo ≡ true) × (length c.history < length c1.history)
 
 -- how many steps an event's segment has done in it where a conflict stands: fewer than were asked for, since one more
 -- was tried; a
@@ -113,15 +119,16 @@ IsMadeBy (event.Commit k) c c1 f = IsLookedAt k f
 abbrev pub IsEarly : Event → ℕ → Type 0
 IsEarly (event.Advance k m) n = n < m
 IsEarly (event.Commit k) n = n ≡ 0
+IsEarly (event.Piece k m) n = n < m
 IsEarly _ n = ⊥
 
--- How an event ends after moves of its segment: as it is; or as an advance does, with a cause kept; or, for a commit,
--- with its
--- transaction committed.
+-- How an event ends after moves of its segment: as it is; or as an advance and a piece do, with a cause kept; or, for a
+-- commit, with its transaction committed.
 abbrev pub ComesToEnd : {S : Type 0} → Event → CoreState S → CoreState S → Type 0
 ComesToEnd (event.Advance k m) u c1 = EndsSo k u c1
 ComesToEnd {S} (event.Commit k) u c1 = (c1 ≡ u) ⊎
     ((x : Transaction S) × (u.segments k ≡ Running x) × (c1 ≡ published k x u))
+ComesToEnd (event.Piece k m) u c1 = EndsSo k u c1
 ComesToEnd _ u c1 = c1 ≡ u
 
 -- The conflict stood in a state that the event came through: moves of its segment, and dooms of others, lead to it from

@@ -1,7 +1,7 @@
--- What events leave, worked by hand: a commit, a conflict, and a solo transaction that fails after a step.
+-- What events leave, worked by hand: a commit, a conflict, a solo transaction that fails after a step, and a piece.
 -- States `docs/HEAP.md`, "Events".
 use Rattle.std.specs.Prelude.{◌≡◌, ℕ, ◌≤◌, ◌<◌, true, false, cond, eqb, [], ◌∷◌, Some, None, Ok, Err, refl}
-use Rattle.std.proofs.Common.{arith, inl, inr}
+use Rattle.std.proofs.Common.{ap, subst, sym, arith, inl, inr}
 use Rattle.std.proofs.lemmas.List.Elements.{All-nil, All-cons, Contains-push}
 use Rattle.py_data.specs.declared.stop.Conflict.{Conflict}
 use Rattle.py_base.specs.declared.kind.Kind.TheVariants.{Cell}
@@ -12,16 +12,18 @@ use Rattle.lock_run.specs.Prog.{Prog}
 use Rattle.seg_store.specs.Meaning.{overlay}
 use Rattle.stm_core.specs.declared.answers.Advance.TheVariants.{Ran, Waits, Ended}
 use Rattle.stm_core.specs.declared.answers.AdvanceError.TheVariants as advance
+use Rattle.stm_core.specs.declared.cause.Cause.{Cause}
 use Rattle.stm_core.specs.declared.cause.Cause.TheVariants.{WriteFault, OutOfMemory}
-use Rattle.stm_core.specs.declared.events.Event.TheVariants.{Begin, Advance, Solo, Commit}
-use Rattle.stm_core.specs.declared.events.Reply.TheVariants.{Skipped, Begun, Unsolo, Committed, Nothing, Lost, Failed}
+use Rattle.stm_core.specs.declared.events.Event.{Event}
+use Rattle.stm_core.specs.declared.events.Event.TheVariants.{Begin, Advance, Solo, Commit, Piece}
+use Rattle.stm_core.specs.declared.events.Reply.TheVariants.{Skipped, Begun, Unsolo, Committed, Nothing, Lost, Failed, Installed}
 use Rattle.stm_core.specs.declared.solo.SoloError.TheVariants as solo
 use Rattle.stm_core.specs.CoreState.{Transaction, Idle, Doomed, Running, CoreState, no_world, turn_of, with_segment}
 use Rattle.stm_core.specs.Conflict.{conflict}
 use Rattle.stm_core.specs.Moves.{published}
 use Rattle.stm_core.specs.Advanced.{with_cause, tried_after, IsOwn}
 use Rattle.stm_core.specs.Events.{Limits}
-use Rattle.stm_core.specs.History.{event_segment, AddsTurn, Publishes, IsMadeBy, IsEarly, ComesToEnd, IsDoomed, IsToldLost, numbers_of, IsGrown}
+use Rattle.stm_core.specs.History.{event_segment, AddsTurn, AsksSteps, IsCutOff, Publishes, IsMadeBy, IsEarly, ComesToEnd, IsDoomed, IsToldLost, numbers_of, IsGrown}
 
 abbrev limits : Limits
 limits = record { length = 10; budget = 100; segments = 2; words = 0 }
@@ -34,6 +36,9 @@ segment_row = refl
 solo_segment_row : event_segment (Solo 1) ≡ 1
 solo_segment_row = refl
 
+piece_segment_row : event_segment (Piece 1 5) ≡ 1
+piece_segment_row = refl
+
 -- of five steps that are asked for the last one can meet a conflict, after four
 early_row : IsEarly (Advance 1 5) 4
 early_row = omega arith
@@ -43,6 +48,23 @@ late_row h = omega (arith, h)
 
 commit_early_row : IsEarly (Commit 1) 0
 commit_early_row = refl
+
+-- a piece that fails has done no step of it
+piece_early_row : IsEarly (Piece 1 5) 0
+piece_early_row = omega arith
+
+no_piece_row : IsEarly (Piece 1 0) 0 → ⊥
+no_piece_row h = omega (arith, h)
+
+-- an advance and a piece ask for steps, and no other event
+advance_asks : AsksSteps (Advance 1 5) 5
+advance_asks = refl
+
+piece_asks : AsksSteps (Piece 1 5) 5
+piece_asks = refl
+
+commit_asks_none : AsksSteps (Commit 1) 0 → ⊥
+commit_asks_none h = h
 
 -- ---- a transaction that has done a step and changed the record 3, and one that has looked at it
 
@@ -139,6 +161,10 @@ advance_makes_none : IsMadeBy (Advance 0 5) before after read_by → ⊥
 advance_makes_none (inl h) = let e = h.1 in absurd cc
 advance_makes_none (inr h) = let e = h.1 in absurd cc
 
+-- a piece makes none in which its segment asks
+piece_makes_none : IsMadeBy (Piece 1 5) before before asked_by → ⊥
+piece_makes_none h = let e = h.0.1 in absurd cc
+
 begin_makes_none : IsMadeBy (Begin 1 1) before before asked_by → ⊥
 begin_makes_none h = h
 
@@ -172,34 +198,44 @@ soloist = record writer { solo = true; world = printed }
 abbrev solo_before : CoreState ℕ
 solo_before = record before { segments = λ i. cond (eqb i 0) (Running soloist) Idle }
 
--- the step that it did is committed
-abbrev solo_after : CoreState ℕ
-solo_after = record after { world = printed; cause = Some WriteFault }
+-- the step that it did is committed, and the cause kept
+abbrev cut_after : Cause → CoreState ℕ
+cut_after e = record after { world = printed; cause = Some e }
 
-failed_publishes : (p : Prog ℕ) → Publishes p limits (Advance 0 5) (Failed WriteFault) solo_before solo_after
-failed_publishes p = inr (record {
+abbrev solo_after : CoreState ℕ
+solo_after = cut_after WriteFault
+
+soloist_turn : (e : Cause) → AddsTurn limits 0 soloist solo_before (cut_after e)
+soloist_turn e = record {
+  some = omega arith;
+  history = refl;
+  image = refl;
+  threads = refl;
+  world = refl;
+  idle = refl;
+  unread = λ j y below runs a locked. absurd cc;
+}
+
+cut_off : (p : Prog ℕ) (e : Event) (y : Cause) → AsksSteps e 5 → event_segment e ≡ 0 →
+    IsCutOff p limits e solo_before (cut_after y)
+cut_off p e y asks here = record {
   most = 5;
-  call = refl;
+  call = asks;
   y = soloist;
-  runs = refl;
+  runs = ap solo_before.segments here;
   left = solo_before;
-  way = record { moves = []; follows = refl; own = All-nil (IsOwn 0) };
+  way = record { moves = []; follows = refl; own = All-nil (IsOwn (event_segment e)) };
   early = omega arith;
   x = soloist;
-  ran = refl;
+  ran = ap solo_before.segments here;
   same = refl;
   steps = refl;
   solo = refl;
-  turn = record {
-    some = omega arith;
-    history = refl;
-    image = refl;
-    threads = refl;
-    world = refl;
-    idle = refl;
-    unread = λ j y below runs a locked. absurd cc;
-  };
-})
+  turn = subst (λ k. AddsTurn limits k soloist solo_before (cut_after y)) (sym here) (soloist_turn y);
+}
+
+failed_publishes : (p : Prog ℕ) → Publishes p limits (Advance 0 5) (Failed WriteFault) solo_before solo_after
+failed_publishes p = inr (cut_off p (Advance 0 5) WriteFault refl refl)
 
 failed_ends : ComesToEnd (Advance 0 5) solo_before (with_cause WriteFault (published 0 soloist solo_before))
 failed_ends = inr (WriteFault, inr (soloist, refl, refl, omega arith, refl))
@@ -207,6 +243,26 @@ failed_ends = inr (WriteFault, inr (soloist, refl, refl, omega arith, refl))
 -- it dooms who has looked
 failed_makes : IsMadeBy (Advance 0 5) solo_before solo_after (conflict 0 soloist 1 reader 3 false 1)
 failed_makes = inr ((refl, refl), refl, omega arith)
+
+-- ---- the same where there was no memory for a piece of at most five steps
+
+abbrev piece_after : CoreState ℕ
+piece_after = cut_after OutOfMemory
+
+piece_publishes : (p : Prog ℕ) → Publishes p limits (Piece 0 5) (Failed OutOfMemory) solo_before piece_after
+piece_publishes p = inr (cut_off p (Piece 0 5) OutOfMemory refl refl)
+
+piece_ends : ComesToEnd (Piece 0 5) solo_before (with_cause OutOfMemory (published 0 soloist solo_before))
+piece_ends = inr (OutOfMemory, inr (soloist, refl, refl, omega arith, refl))
+
+piece_makes : IsMadeBy (Piece 0 5) solo_before piece_after (conflict 0 soloist 1 reader 3 false 1)
+piece_makes = ((refl, refl), refl, omega arith)
+
+-- one that is installed commits nothing
+installed_publishes : (p : Prog ℕ) → Publishes p limits (Piece 0 5) (Installed 2) before before
+installed_publishes p = record { image = refl; threads = refl; world = refl; history = refl }
+
+-- ---- nothing is committed
 
 -- an advance that fails may commit nothing
 dropped_publishes : (p : Prog ℕ) → Publishes p limits (Advance 0 5) (Failed OutOfMemory) before
@@ -232,7 +288,7 @@ lost_tried = refl
 numbers_row : numbers_of (Begun ∷ Committed 0 ∷ Skipped ∷ Lost read_by ∷ Nothing ∷ Committed 1 ∷ []) ≡ 0 ∷ 1 ∷ []
 numbers_row = refl
 
-no_numbers_row : numbers_of (Begun ∷ Lost read_by ∷ []) ≡ []
+no_numbers_row : numbers_of (Begun ∷ Lost read_by ∷ Installed 2 ∷ []) ≡ []
 no_numbers_row = refl
 
 history_grown : IsGrown (Committed 0 ∷ []) before after

@@ -3,9 +3,12 @@ pub mod Hold
 pub mod Outer
 pub mod Pauses
 pub mod Pausing
+pub mod PutIn
 pub mod Readers
+pub mod Replayed
 pub mod SegLaws
 pub mod SegSense
 pub mod Settled
 pub mod Whole
 pub mod Trying
+pub mod Lent

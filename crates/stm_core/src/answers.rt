@@ -1,6 +1,10 @@
 //! What calls of a core answer.
+ghost use Rattle.std.specs.Prelude.{◌≡◌};
+ghost use Rattle.stm_core.specs.declared.answers.LoanError.TheVariants.{OutOfMemory};
+
 use crate::cause::Cause;
 use py_data::Conflict;
+use std::alloc::AllocError;
 use thiserror::Error;
 
 /// How steps of a transaction that goes on came to an end, and how many of them this call did.
@@ -28,4 +32,23 @@ pub enum AdvanceError {
     /// first cause that it met.
     #[error("the core goes on no more")]
     Failed(Cause),
+}
+
+/// Why nothing is loaned.
+#[derive(Clone, Copy, Debug, Drop, Error, PartialEq, Eq)]
+pub enum LoanError {
+    /// The transaction lost this conflict, and its segment has nothing in hand then.
+    #[error("the transaction lost a conflict")]
+    Lost(Conflict),
+    /// There was no memory, and nothing changed.
+    #[error("out of memory")]
+    OutOfMemory,
+}
+
+impl From<AllocError> for LoanError {
+    ghost from_gives = { λ _ e. e ≡ OutOfMemory };
+
+    fn from(_e: AllocError) -> LoanError {
+        LoanError::OutOfMemory
+    }
 }

@@ -3,6 +3,7 @@ ghost use Rattle.std.specs.Prelude.{◌≡◌};
 
 use crate::books::{Hand, Progress, Work};
 use crate::cause::Cause;
+use crate::recent::Recent;
 use crate::threads::Started;
 use crate::transactions::Core;
 use lock_run::Client;
@@ -69,6 +70,7 @@ impl<'p, C: Client, S: SegStore, I: Source, O: Sink, E: Sink> Core<'p, C, S, I, 
                 kept_names: 0,
                 started: Started::new(self.alloc),
                 kept_started: 0,
+                recent: Recent::new(self.alloc),
             },
         })
     }

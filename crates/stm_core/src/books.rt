@@ -6,6 +6,7 @@ ghost use Rattle.stm_core.specs.Moves.{first_cause};
 ghost use Rattle.stm_core.specs.inner.Whole.{stepped};
 
 use crate::cause::Cause;
+use crate::recent::Recent;
 use crate::threads::{Started, Threads};
 use lock_run::History;
 use py_data::{Conflict, Conflicts, Names, NoMemory, Side};
@@ -13,13 +14,14 @@ use std::alloc::AllocError;
 use std::mem;
 
 /// The names that a transaction gave and the threads that it started, and how many of them there were when its open step
-/// began.
+/// began; and the records that its steps looked at last.
 #[derive(Drop)]
 pub struct Progress<T> {
     pub names: Names,
     pub kept_names: usize,
     pub started: Started<T>,
     pub kept_started: usize,
+    pub recent: Recent,
 }
 
 /// A transaction that runs, but for what the store keeps of it.

@@ -72,6 +72,7 @@ impl<T: Drop> Books<T> {
             kept_names: _,
             started,
             kept_started: _,
+            recent: _,
         } = progress;
         self.pending -= started.len();
         self.threads.set(thread, state);

@@ -1,14 +1,14 @@
 //! Events: calls of a core as values, for lists of them.
 ghost use Rattle.std.specs.Prelude.{◌≡◌, ◌&&◌, nat_lt, [], ◌∷◌, MatchOption};
-ghost use Rattle.stm_core.specs.Events.{begin_reply, advance_reply, solo_reply, commit_reply, is_busy, is_within};
+ghost use Rattle.stm_core.specs.Events.{begin_reply, advance_reply, solo_reply, commit_reply, loan_reply, piece_reply, is_busy, is_within};
 
-use crate::answers::{Advance, AdvanceError};
+use crate::answers::{Advance, AdvanceError, LoanError};
 use crate::begin::BeginError;
 use crate::cause::Cause;
 use crate::commit::Commit;
 use crate::solo::SoloError;
 use crate::standing::Slot;
-use py_data::Conflict;
+use py_data::{Conflict, NoMemory};
 
 /// A call of a core on the segment of the first number.
 #[derive(Clone, Copy, Debug, Drop, PartialEq, Eq)]
@@ -21,13 +21,17 @@ pub enum Event {
     Solo(u8),
     /// Its transaction is committed.
     Commit(u8),
+    /// A piece of its transaction, of at most so many steps, at least 1: a loan is taken and run, and what it leaves is
+    /// installed, if it fits.
+    Piece(u8, u64),
 }
 
 /// What an event was answered.
 #[derive(Clone, Copy, Debug, Drop, PartialEq, Eq)]
 pub enum Reply {
     /// The condition of the call didn't hold, and it wasn't made: there is no such segment; nothing is in hand to advance or
-    /// to commit; no step is asked for; or the steps would be more than the length.
+    /// to commit; no step is asked for; or the steps would be more than the length. Of a piece it also says that the
+    /// thread has ended in its transaction.
     Skipped,
     Begun,
     Refused(BeginError),
@@ -44,6 +48,12 @@ pub enum Reply {
     Lost(Conflict),
     /// The core goes on no more, for this cause.
     Failed(Cause),
+    /// A piece of so many steps was installed.
+    Installed(u64),
+    /// The piece doesn't fit its segment any more. One that is installed at once always fits.
+    Unfit,
+    /// There was no memory for a loan, and nothing changed.
+    OutOfMemory,
 }
 
 /// What a begin that answered this is replied as.
@@ -88,6 +98,26 @@ pub fn commit_reply(answer: Result<Commit, Conflict>) -> Reply
     }
 }
 
+/// What is replied where there is no loan, for this reason.
+pub fn loan_reply(reason: LoanError) -> Reply
+    ensures { result ≡ loan_reply reason }
+{
+    match reason {
+        LoanError::Lost(f) => Reply::Lost(f),
+        LoanError::OutOfMemory => Reply::OutOfMemory,
+    }
+}
+
+/// What an install that answered this is replied as.
+pub fn piece_reply(answer: Result<u64, NoMemory>) -> Reply
+    ensures { result ≡ piece_reply answer }
+{
+    match answer {
+        Ok(n) => Reply::Installed(n),
+        Err(_) => Reply::Failed(Cause::OutOfMemory),
+    }
+}
+
 /// Something is in hand.
 pub fn is_busy(slot: Slot) -> bool
     ensures { result ≡ is_busy slot }
@@ -111,11 +141,11 @@ fn is_within(slot: Slot, most: u64, length: u64) -> bool
     }
 }
 
-/// Something is in hand, some steps are asked for, and they are within the length.
-pub fn may_advance(slot: Slot, most: u64, length: u64) -> bool
-    ensures { result ≡ (is_busy slot && (nat_lt 0 most && is_within length most slot)) }
+/// Something is in hand, some steps are asked for, and so many more are within the length.
+pub fn may_go_on(slot: Slot, asked: u64, more: u64, length: u64) -> bool
+    ensures { result ≡ (is_busy slot && (nat_lt 0 asked && is_within length more slot)) }
 {
-    is_busy(slot) && 0 < most && is_within(slot, most, length)
+    is_busy(slot) && 0 < asked && is_within(slot, more, length)
 }
 
 /// The first event, and those after it.

@@ -20,19 +20,9 @@ ghost use Rattle.stm_core.specs.inner.Hold.{holding, SegDoes, SegWhy, SegRefuses
 
 use crate::books::{Books, Hand, Progress};
 use crate::devices::Devices;
+use crate::sights::{byte_count, is_tracked_kind, value_count};
 use py_data::{Addr, Change, Conflict, Kind, LENGTH_LIMIT, Record, Side, Stop, Value};
 use seg_store::{SegStore, StoreFault};
-
-/// A record of this kind changes, and a look at it is noted.
-#[tactic(auto, unfolding(py_data::specs::Heap::is_tracked))]
-fn is_tracked_kind(kind: Kind) -> bool
-    ensures { result ≡ is_tracked kind }
-{
-    matches!(
-        kind,
-        Kind::List | Kind::Dict | Kind::Cell | Kind::Iter | Kind::Lock | Kind::Thread
-    )
-}
 
 /// Of two sides of a conflict the first one wins: the solo one does, and otherwise the one that began earlier.
 pub fn wins(x: Side, y: Side) -> bool
@@ -122,6 +112,11 @@ impl<'a, T: Drop, S: SegStore, I, O, E> SegView<'a, T, S, I, O, E> {
             }),
             StoreFault::OutOfMemory => self.fail(Stop::OutOfMemory),
         }
+    }
+
+    /// A record is the one that was looked at last.
+    fn note(&self, a: Addr) {
+        self.progress.recent.note(a);
     }
 
     /// The record was seen already, or a look at it isn't noted.
@@ -251,6 +246,7 @@ impl<'a, T: Drop, S: SegStore, I, O, E> SegView<'a, T, S, I, O, E> {
         ensures stays { (self.new.segment ≡ self.old.segment) × (self.new.side ≡ self.old.side) × (self.new.devices ≡ self.old.devices) }
         ensures refs { (self.new.store.ghost_name ≡ self.old.store.ghost_name) × (self.new.books.ghost_name ≡ self.old.books.ghost_name) × (self.new.progress.ghost_name ≡ self.old.progress.ghost_name) }
     {
+        self.note(a);
         match self.store.holder(a) {
             None => self.lock(a),
             Some(j) => {
@@ -349,11 +345,7 @@ impl<'a, T: Drop, S: SegStore, I, O, E> SegView<'a, T, S, I, O, E> {
         ensures count { result ≡ length (at (sees (S.meaning self.now.store.now) self.now.segment) a.0).values }
         ensures fits { result ≤ LENGTH_LIMIT }
     {
-        self.store.known();
-        match self.store.kind(self.segment, a) {
-            Kind::Str => 0,
-            _ => self.store.len(self.segment, a),
-        }
+        value_count(self.store, self.segment, a)
     }
 
     /// The count of a record's bytes. No look is noted.
@@ -362,11 +354,7 @@ impl<'a, T: Drop, S: SegStore, I, O, E> SegView<'a, T, S, I, O, E> {
         ensures count { result ≡ length (at (sees (S.meaning self.now.store.now) self.now.segment) a.0).bytes }
         ensures fits { result ≤ LENGTH_LIMIT }
     {
-        self.store.known();
-        match self.store.kind(self.segment, a) {
-            Kind::Str => self.store.len(self.segment, a),
-            _ => 0,
-        }
+        byte_count(self.store, self.segment, a)
     }
 
     /// A value of a record. No look is noted.
@@ -406,6 +394,7 @@ impl<'a, T: Drop, S: SegStore, I, O, E> SegView<'a, T, S, I, O, E> {
         ensures stays { (self.new.segment ≡ self.old.segment) × (self.new.side ≡ self.old.side) × (self.new.devices ≡ self.old.devices) }
         ensures refs { (self.new.store.ghost_name ≡ self.old.store.ghost_name) × (self.new.books.ghost_name ≡ self.old.books.ghost_name) × (self.new.progress.ghost_name ≡ self.old.progress.ghost_name) }
     {
+        self.note(a);
         self.look(a)
     }
 }

@@ -2,7 +2,8 @@
 use crate::books::Books;
 use crate::devices::Devices;
 use crate::events::{
-    Event, Reply, advance_reply, begin_reply, commit_reply, is_busy, may_advance, solo_reply, split,
+    Event, Reply, advance_reply, begin_reply, commit_reply, is_busy, loan_reply, may_go_on,
+    piece_reply, solo_reply, split,
 };
 use lock_run::{Client, History};
 use py_data::{Conflicts, NoMemory};
@@ -10,6 +11,7 @@ use seg_store::SegStore;
 use std::alloc::Global;
 use std::snapshot::Snapshot;
 use stm_io::{Sink, Source};
+use stm_pieces::run_piece;
 
 /// The greatest length.
 pub const LENGTH_LIMIT: u64 = 1_000_000;
@@ -41,9 +43,10 @@ pub struct Core<'p, C: Client, S, I, O, E> {
 }
 
 impl<'p, C: Client, S: SegStore, I: Source, O: Sink, E: Sink> Core<'p, C, S, I, O, E> {
-    ghost use Rattle.std.specs.Prelude.{◌≡◌, IfOk, OnErr};
+    ghost use Rattle.std.specs.Prelude.{◌≡◌, true, IfOk, OnErr};
     ghost use Rattle.stm_core.specs.CoreHeld.{core_client, core_limits, core_store, Says, Leads, IsGoodCore, SameJob};
-    ghost use Rattle.stm_core.specs.Events.{may_make, EventMade, EventsMade};
+    ghost use Rattle.stm_core.specs.declared.events.Event.{Event};
+    ghost use Rattle.stm_core.specs.Events.{may_make, Made, EventMade, EventsMade};
     ghost use Rattle.stm_core.specs.History.{AllLeave, IsGrown};
 
     /// The length that it was made with: the most steps of a transaction.
@@ -82,11 +85,39 @@ impl<'p, C: Client, S: SegStore, I: Source, O: Sink, E: Sink> Core<'p, C, S, I, 
         match event {
             Event::Begin(k, _) => k < self.store.segments(),
             Event::Advance(k, most) => {
-                k < self.store.segments() && may_advance(self.slot(k), most, self.length)
+                k < self.store.segments() && may_go_on(self.slot(k), most, most, self.length)
             }
             Event::Solo(k) | Event::Commit(k) => {
                 k < self.store.segments() && is_busy(self.slot(k))
             }
+            Event::Piece(k, most) => {
+                k < self.store.segments() && may_go_on(self.slot(k), most, 1, self.length)
+            }
+        }
+    }
+
+    /// Makes a piece: a loan is lowered to at most so many steps and run, and what it leaves is installed at once.
+    fn make_piece(&mut self, k: u8, most: u64) -> Reply
+        requires good { IsGoodCore I.state O.state E.state C.prog C.sound S.reserved S.meaning self.old }
+        requires may { Says I.state O.state E.state C.prog S.meaning self.old
+            (λ o. may_make (core_limits S.meaning self.old) o.core (Event.Piece k most) ≡ true) }
+        ensures good { IsGoodCore I.state O.state E.state C.prog C.sound S.reserved S.meaning self.new }
+        ensures job { SameJob S.meaning self.old self.new }
+        ensures made { Leads I.state O.state E.state C.prog S.meaning self.old self.new
+            (Made (C.prog (core_client self.old)) (core_limits S.meaning self.old) (Event.Piece k most) result) }
+    {
+        if !self.may_loan(k) {
+            return Reply::Skipped;
+        }
+        match self.loan(k) {
+            Ok(loan) => {
+                let piece = run_piece(self.alloc, self.client, loan.at_most(most));
+                if !self.fits(k, &piece) {
+                    return Reply::Unfit;
+                }
+                piece_reply(self.install(k, piece))
+            }
+            Err(reason) => loan_reply(reason),
         }
     }
 
@@ -105,6 +136,7 @@ impl<'p, C: Client, S: SegStore, I: Source, O: Sink, E: Sink> Core<'p, C, S, I, 
             Event::Advance(k, most) => advance_reply(self.advance(k, most)),
             Event::Solo(k) => solo_reply(self.solo(k)),
             Event::Commit(k) => commit_reply(self.commit(k)),
+            Event::Piece(k, most) => self.make_piece(k, most),
         }
     }
 

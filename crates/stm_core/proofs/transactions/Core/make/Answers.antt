@@ -1,4 +1,4 @@
-use Rattle.stm_core.specs.declared.events.Event.TheVariants.{Begin, Advance, Solo, Commit}
+use Rattle.stm_core.specs.declared.events.Event.TheVariants.{Begin, Advance, Solo, Commit, Piece}
 use Rattle.stm_core.specs.CoreHeld.{core_client, core_limits}
 use Rattle.stm_core.proofs.Calling.{below}
 use Rattle.stm_core.proofs.EventSteps.{may_now, made_now}
@@ -23,6 +23,11 @@ pub commit-requires-clause-may : goal.commit-requires-clause-may
 commit-requires-clause-may g c = λ o s. may_now (core_limits g.S.SegStore.meaning c.args.self.now) o.core
     c.can_make.result c.args.event (Commit c.in-Commit.k) c.if-not-can_make.false (c.can_make.ensures o s)
     c.in-Commit.is
+
+pub make_piece-requires-clause-may : goal.make_piece-requires-clause-may
+make_piece-requires-clause-may g c = λ o s. may_now (core_limits g.S.SegStore.meaning c.args.self.now) o.core
+    c.can_make.result c.args.event (Piece c.in-Piece.k c.in-Piece.most) c.if-not-can_make.false (c.can_make.ensures o s)
+    c.in-Piece.is
 
 pub returns-in-Begin-clause-made : goal.returns-in-Begin-clause-made
 returns-in-Begin-clause-made g c = made_now (g.C.Client.prog (core_client c.args.self.now))
@@ -49,3 +54,9 @@ returns-in-Commit-clause-made g c = made_now (g.C.Client.prog (core_client c.arg
     (core_limits g.S.SegStore.meaning c.args.self.now) _ _ c.can_make.result c.args.event (Commit c.in-Commit.k)
     c.commit_reply.result _ c.if-not-can_make.false c.can_make.ensures c.in-Commit.is c.commit.ensures.committed
     (λ o o1 m. (c.commit.result, c.commit_reply.ensures, m))
+
+pub returns-in-Piece-clause-made : goal.returns-in-Piece-clause-made
+returns-in-Piece-clause-made g c = made_now (g.C.Client.prog (core_client c.args.self.now))
+    (core_limits g.S.SegStore.meaning c.args.self.now) _ _ c.can_make.result c.args.event
+    (Piece c.in-Piece.k c.in-Piece.most) c.make_piece.result _ c.if-not-can_make.false c.can_make.ensures c.in-Piece.is
+    c.make_piece.ensures.made (λ o o1 m. m)
