@@ -121,7 +121,7 @@ fn run_core<
     I: Source + Send,
     O: Sink + Send,
     E: Sink + Send,
-    G: Gate,
+    G: Gate + Sync,
 >(rt: &Rt, alloc: Global, core: Core<'_, C, S, I, O, E>, loader: L, gate: &G) -> End<S, L, I, O, E>
 where
     C::State: Send,
@@ -163,7 +163,7 @@ pub(crate) fn run_threads<
     I: Source + Send,
     O: Sink + Send,
     E: Sink + Send,
-    G: Gate,
+    G: Gate + Sync,
 >(
     rt: &Rt,
     alloc: Global,

@@ -48,7 +48,7 @@ fn run_text<
     I: Source + Send,
     O: Sink + Send,
     E: Sink + Send,
-    G: Gate,
+    G: Gate + Sync,
 >(
     rt: &Rt,
     alloc: Global,
@@ -82,7 +82,7 @@ fn run_script<
     I: Source + Send,
     O: Sink + Send,
     E: Sink + Send,
-    G: Gate,
+    G: Gate + Sync,
 >(
     rt: &Rt,
     alloc: Global,
@@ -112,7 +112,7 @@ fn run_named<
     I: Source + Send,
     O: Sink + Send,
     E: Sink + Send,
-    G: Gate,
+    G: Gate + Sync,
 >(
     rt: &Rt,
     alloc: Global,
@@ -157,7 +157,7 @@ pub fn run_words<
     I: Source + Send,
     O: Sink + Send,
     E: Sink + Send,
-    G: Gate,
+    G: Gate + Sync,
 >(
     rt: &Rt,
     alloc: Global,

@@ -1,4 +1,5 @@
 pub mod Growing
+pub mod Installed
 pub mod Jobs
 pub mod Joined
 pub mod Sent

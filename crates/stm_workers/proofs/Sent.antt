@@ -11,6 +11,7 @@ use Rattle.stm_core.specs.contracts.books.Books as books
 use Rattle.stm_core.specs.contracts.books.Hand as hand
 use Rattle.stm_core.specs.contracts.books.Work as work
 use Rattle.stm_core.specs.contracts.books.Progress as progress
+use Rattle.stm_core.specs.contracts.recent.Recent as recent
 use Rattle.stm_core.specs.contracts.devices.Devices as devices
 use Rattle.stm_core.specs.contracts.transactions.Core as core
 use Rattle.stm_workers.specs.contracts.held.Held as held
@@ -18,9 +19,12 @@ use Rattle.stm_workers.specs.contracts.held.Held as held
 conflict_sent : IsSend (Struct (struct.shape conflict.the_type))
 conflict_sent = search sendable depth 20
 
+recent_sent : IsSend (Struct (struct.shape recent.the_type))
+recent_sent = search (sendable, crosses) depth 20
+
 module _ (T : RattleType) (t : IsSend T) where
   progress_sent : IsSend (Struct (struct.shape (progress.the_type T)))
-  progress_sent = search (sendable, crosses) depth 20
+  progress_sent = search (recent_sent, sendable, crosses) depth 20
 
   work_sent : IsSend (Struct (struct.shape (work.the_type T)))
   work_sent = search (progress_sent, sendable, crosses) depth 20

@@ -1,4 +1,5 @@
 pub mod CoreJob
 pub mod Ended
+pub mod Errands
 pub mod Growth
 pub mod inner

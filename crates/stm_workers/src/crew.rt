@@ -10,22 +10,43 @@ use std::thread::{Threads, join, yield_now};
 /// The longest pause of a worker that finds nothing to do, in times that it lets others run.
 const LONGEST_PAUSE: u32 = 64;
 
-/// What the workers of a crew do with a value of a job.
-pub(crate) trait Crew<T: Job> {
+/// What the workers of a crew do with a value of a job, and between their visits to it. A visit may leave an errand `L` to its worker,
+/// to be run before the next one; what comes of it, `P`, the worker brings to its next visit.
+pub(crate) trait Crew<T: Job, L, P> {
     /// The crew is for this job.
     ghost serves: { Self → T.Description → Type 0 };
 
     /// How many workers it has. They have the numbers below it.
     ghost workers: { Self → ℕ };
 
-    /// One visit of the worker `k` to the value, and what it found.
-    fn visit(&self, value: &mut T, k: u8) -> Finding
+    /// The errand is one of this job.
+    ghost errand_of: { T.Description → L → Type 0 };
+
+    /// What came of an errand came of one of this job.
+    ghost done_of: { T.Description → P → Type 0 };
+
+    /// One visit of the worker `k` to the value, with what came of the errand of its last one, and what it found.
+    fn visit(&self, value: &mut T, k: u8, done: Option<P>) -> Visit<L>
         requires good { T.good value.old }
         requires serves { serves self.now (T.job value.old) }
         requires worker { k < workers self.now }
+        requires done { IfSome done (done_of (T.job value.old)) }
         ensures good { T.good value.new }
         ensures job { T.job value.new ≡ T.job value.old }
-        ensures grows { T.grows value.old value.new };
+        ensures grows { T.grows value.old value.new }
+        ensures errand { IfSome result.errand (errand_of (T.job value.old)) };
+
+    /// The worker `k` runs an errand, with no value in hand.
+    fn run(&self, k: u8, errand: L) -> P
+        requires { (j : T.Description) × errand_of j errand }
+        ensures { (j : T.Description) → errand_of j errand → done_of j result };
+}
+
+/// What a visit found, and what it left to its worker.
+#[derive(Drop)]
+pub(crate) struct Visit<E> {
+    pub found: Finding,
+    pub errand: Option<E>,
 }
 
 /// The pause after a visit that found this, where the pause before it was so long: it doubles while there is nothing to do. A
@@ -47,9 +68,24 @@ fn rest(pause: u32) {
     }
 }
 
-/// The visits of the worker `k`, up to the last, with other threads let run in between unless it is alone. What has grown from all
-/// that the seat has seen then has grown from all that it had seen before.
-fn make_visits<T: Job, W: Crew<T>, Rt: Wait>(
+/// What comes of the errand that a visit left, if it left one.
+fn run_errand<T: Job, L: Drop, P: Drop, W: Crew<T, L, P>>(
+    crew: &W,
+    k: u8,
+    errand: Option<L>,
+) -> Option<P>
+    requires { IfSome errand (λ e. (j : T.Description) × W.errand_of j e) }
+    ensures { (j : T.Description) → IfSome errand (W.errand_of j) → IfSome result (W.done_of j) }
+{
+    match errand {
+        Some(errand) => Some(crew.run(k, errand)),
+        None => None,
+    }
+}
+
+/// The visits of the worker `k`, up to the last. In between it runs what a visit left to it, or lets other threads run, unless it is
+/// alone. What has grown from all that the seat has seen then has grown from all that it had seen before.
+fn make_visits<T: Job, L: Drop, P: Drop, W: Crew<T, L, P>, Rt: Wait>(
     rt: &Rt,
     lock: &HeapLock<T>,
     mut seat: Seat<T>,
@@ -65,29 +101,30 @@ fn make_visits<T: Job, W: Crew<T>, Rt: Wait>(
     ensures seen { (x : T) → All (λ y. T.grows y x) result.seen → All (λ y. T.grows y x) seat.seen }
 {
     let mut pause = 1;
+    let mut done: Option<P> = None;
     for _ in rt.forever() {
         let mut value = lock.take(rt, &mut seat);
-        let found = crew.visit(&mut value, k);
+        let visit = crew.visit(&mut value, k, done);
         lock.give(&mut seat, value);
-        if found.is_last() {
+        if visit.found.is_last() {
             return seat;
         }
-        pause = pause_after(found, pause, alone);
+        pause = pause_after(visit.found, pause, alone);
         rest(pause);
+        done = run_errand(crew, k, visit.errand);
     }
     unreachable!()
 }
 
 /// One worker for each part of the seat, each in a thread of its own, the caller's among them. `alone` says that no others share the
 /// lock.
-pub(crate) fn run_all<T: Job + Send, W: Crew<T> + Sync, Rt: Threads + Wait + Sync>(
-    rt: &Rt,
-    lock: &HeapLock<T>,
-    mut seat: Seat<T>,
-    crew: &W,
-    parts: u8,
-    alone: bool,
-) -> Seat<T>
+pub(crate) fn run_all<
+    T: Job + Send,
+    L: Drop + Send,
+    P: Drop + Send,
+    W: Crew<T, L, P> + Sync,
+    Rt: Threads + Wait + Sync,
+>(rt: &Rt, lock: &HeapLock<T>, mut seat: Seat<T>, crew: &W, parts: u8, alone: bool) -> Seat<T>
     requires lock { seat.lock ≡ lock.now.id }
     requires free { seat.holds ≡ false }
     requires serves { IfSome seat.job (W.serves crew.now) }

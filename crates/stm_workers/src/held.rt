@@ -1,17 +1,21 @@
 //! A core as it lies in the lock, and the crew that visits it.
-ghost use Rattle.std.specs.Prelude.{◌≡◌, ◌<◌};
+ghost use Rattle.std.specs.Prelude.{◌≡◌, ◌<◌, IfSome};
 ghost use Rattle.stm_core.specs.CoreHeld.{IsGoodCore};
+ghost use Rattle.stm_pieces.specs.PieceBy.{IsPieceBy};
 ghost use Rattle.stm_workers.specs.CoreJob.{core_job};
+ghost use Rattle.stm_workers.specs.Errands.{IsRunnable, CanRun};
 ghost use Rattle.stm_workers.specs.Growth.{Grows};
 ghost use Rattle.stm_workers.specs.inner.GrowthLaws.{grows_same, grows_then};
 
-use crate::crew::Crew;
-use crate::visits::{Finding, visit};
+use crate::crew::{Crew, Visit};
+use crate::visits::visit_with;
 use heap_lock::Job;
 use lock_run::Client;
 use seg_store::SegStore;
+use std::alloc::Global;
 use stm_core::Core;
-use stm_io::{Sink, Source};
+use stm_io::{Gate, Sink, Source};
+use stm_pieces::{Loan, Piece, run_piece};
 
 /// The job of a core: its client, its limits, and the devices with which it was made. No value of it is made.
 pub struct CoreJob<C, I, O, E> {
@@ -49,27 +53,74 @@ impl<'p, C: Client, S: SegStore, I: Source, O: Sink, E: Sink> Job for Held<'p, C
     ghost grows_then = { λ x y z. grows_then I.state O.state E.state C.prog S.meaning x.core y.core z.core };
 }
 
-/// The workers of a core's segments.
+/// A piece to be run: a loan of a core, and the core's client.
 #[derive(Drop)]
-pub(crate) struct Hands {
-    pub workers: u8,
+pub(crate) struct Errand<'p, C: Client> {
+    pub client: &'p C,
+    pub loan: Loan<C::State>,
 }
 
-impl<'p, C: Client, S: SegStore, I: Source, O: Sink, E: Sink> Crew<Held<'p, C, S, I, O, E>>
-    for Hands {
+/// The workers of a core's segments, which pass a gate before each piece.
+#[derive(Drop)]
+pub(crate) struct Hands<'g, G> {
+    pub alloc: Global,
+    pub workers: u8,
+    pub gate: &'g G,
+}
+
+/// The errand of a loan, if there is one.
+fn with_client<'p, C: Client>(client: &'p C, loan: Option<Loan<C::State>>) -> Option<Errand<'p, C>>
+    requires { IfSome loan (λ l. IsRunnable C.prog C.sound client.now l) }
+    ensures { IfSome result (CanRun C.prog C.sound client.now) }
+{
+    match loan {
+        Some(loan) => Some(Errand { client, loan }),
+        None => None,
+    }
+}
+
+impl<'p, 'g, C: Client, S: SegStore, I: Source, O: Sink, E: Sink, G: Gate> Crew<
+    Held<'p, C, S, I, O, E>,
+    Errand<'p, C>,
+    Piece<C::State>,
+> for Hands<'g, G> {
     ghost serves = { λ w j. j.segments ≡ w.workers };
 
     ghost workers = { λ w. w.workers };
 
-    fn visit(&self, value: &mut Held<'p, C, S, I, O, E>, k: u8) -> Finding
+    ghost errand_of = { λ j e. CanRun C.prog C.sound j.client e };
+
+    ghost done_of = { λ j piece. IsPieceBy (C.prog j.client) piece };
+
+    fn visit(
+        &self,
+        value: &mut Held<'p, C, S, I, O, E>,
+        k: u8,
+        done: Option<Piece<C::State>>,
+    ) -> Visit<Errand<'p, C>>
         requires good { IsGoodCore I.state O.state E.state C.prog C.sound S.reserved S.meaning value.old.core }
         requires serves { (core_job S.meaning value.old.core).segments ≡ self.now.workers }
         requires worker { k < self.now.workers }
+        requires done { IfSome done (IsPieceBy (C.prog (core_job S.meaning value.old.core).client)) }
         ensures good { IsGoodCore I.state O.state E.state C.prog C.sound S.reserved S.meaning value.new.core }
         ensures job { core_job S.meaning value.new.core ≡ core_job S.meaning value.old.core }
         ensures grows { Grows I.state O.state E.state C.prog S.meaning value.old.core value.new.core }
+        ensures errand { IfSome result.errand (CanRun C.prog C.sound (core_job S.meaning value.old.core).client) }
     {
         let core = &mut value.core;
-        visit(core, k)
+        let client = core.client();
+        let (found, loan) = visit_with(core, k, done);
+        Visit {
+            found,
+            errand: with_client(client, loan),
+        }
+    }
+
+    fn run(&self, k: u8, errand: Errand<'p, C>) -> Piece<C::State>
+        requires { (j : CoreJob C I O E) × CanRun C.prog C.sound j.client errand }
+        ensures { (j : CoreJob C I O E) → CanRun C.prog C.sound j.client errand.entry → IsPieceBy (C.prog j.client) result }
+    {
+        self.gate.enter(k, errand.loan.thread);
+        run_piece(self.alloc, errand.client, errand.loan)
     }
 }

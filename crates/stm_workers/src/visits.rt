@@ -1,16 +1,19 @@
 //! What a worker does at one visit to a core.
-ghost use Rattle.std.specs.Prelude.{◌≡◌, ◌≢◌, ◌<◌, ◌≤◌, true};
-ghost use Rattle.stm_core.specs.CoreHeld.{core_limits, Says, IsGoodCore, SameJob};
+ghost use Rattle.std.specs.Prelude.{◌≡◌, ◌≢◌, ◌<◌, ◌≤◌, true, false, IfSome};
+ghost use Rattle.stm_core.specs.CoreHeld.{core_client, core_limits, Says, IsGoodCore, SameJob};
 ghost use Rattle.stm_core.specs.Events.{is_busy, is_within, may_make};
 ghost use Rattle.stm_core.specs.declared.events.Event.{Event};
 ghost use Rattle.stm_workers.specs.CoreJob.{core_job};
+ghost use Rattle.stm_pieces.specs.PieceBy.{IsPieceBy};
 ghost use Rattle.stm_workers.specs.Ended.{HasEnded};
+ghost use Rattle.stm_workers.specs.Errands.{IsRunnable};
 ghost use Rattle.stm_workers.specs.Growth.{Grows};
 
 use lock_run::Client;
 use seg_store::SegStore;
 use stm_core::{Advance, AdvanceError, Core, RunState, Slot, SoloError, events_law};
 use stm_io::{Sink, Source};
+use stm_pieces::{Loan, Piece};
 
 /// What a visit found.
 #[derive(Clone, Copy, Debug)]
@@ -26,7 +29,8 @@ pub enum Finding {
 impl Finding {
     /// It is the worker's last.
     pub(crate) fn is_last(self) -> bool
-        ensures { result ≡ true → self ≡ Finding.Ended }
+        ensures yes { result ≡ true → self ≡ Finding.Ended }
+        ensures not { result ≡ false → self ≢ Finding.Ended }
     {
         matches!(self, Finding::Ended)
     }
@@ -34,6 +38,15 @@ impl Finding {
 
 /// The most steps of one visit.
 const VISIT_STEPS: u64 = 100;
+
+/// A piece of fewer steps isn't worth the copies that it takes.
+const WORTHY_STEPS: u64 = 16;
+
+/// How many steps a visit does where the piece that was brought to it did so many. After a piece that went far it is one step, for
+/// which the piece ended; otherwise there are as many as without pieces, since the records that a piece wants are met so.
+fn steps_after(piece: u64) -> u64 {
+    if piece < WORTHY_STEPS { VISIT_STEPS } else { 1 }
+}
 
 /// Something is in hand.
 fn is_busy(slot: Slot) -> bool
@@ -45,14 +58,15 @@ fn is_busy(slot: Slot) -> bool
     }
 }
 
-/// How many steps a segment does in one visit. There are none for a transaction that has as many as the length, and for a doomed one.
-fn steps_of(slot: Slot, length: u64) -> u64
+/// How many steps a segment does in one visit of at most so many. There are none for a transaction that has as many as the length,
+/// and for a doomed one.
+fn steps_of(slot: Slot, length: u64, most: u64) -> u64
     ensures { 1 ≤ result → is_within length result slot ≡ true }
 {
     match slot {
         Slot::Running { steps, .. } => {
             if steps < length {
-                (length - steps).min(VISIT_STEPS)
+                (length - steps).min(most)
             } else {
                 0
             }
@@ -191,10 +205,12 @@ fn advance<C: Client, S: SegStore, I: Source, O: Sink, E: Sink>(
     follow(core, k, answer);
 }
 
-/// Goes on with what a segment has in hand, which is committed at the length, and where its thread waits or has ended.
+/// Goes on with what a segment has in hand, by at most so many steps. It is committed at the length, and where its thread waits or
+/// has ended.
 fn go_on<C: Client, S: SegStore, I: Source, O: Sink, E: Sink>(
     core: &mut Core<'_, C, S, I, O, E>,
     k: u8,
+    most: u64,
 )
     requires good { IsGoodCore I.state O.state E.state C.prog C.sound S.reserved S.meaning core.old }
     requires segment { k < (core_limits S.meaning core.old).segments }
@@ -203,7 +219,7 @@ fn go_on<C: Client, S: SegStore, I: Source, O: Sink, E: Sink>(
     ensures grows { Grows I.state O.state E.state C.prog S.meaning core.old core.new }
 {
     let slot = core.slot(k);
-    let steps = steps_of(slot, core.length());
+    let steps = steps_of(slot, core.length(), most);
     if is_busy(slot) && 0 < steps {
         advance(core, k, steps);
     } else {
@@ -259,10 +275,11 @@ fn has_ended<C: Client, S: SegStore, I: Source, O: Sink, E: Sink>(
     }
 }
 
-/// What a segment has in hand goes on, be it that a transaction begins there now: whether it has something.
+/// What a segment has in hand goes on, by at most so many steps, be it that a transaction begins there now: whether it has something.
 fn work<C: Client, S: SegStore, I: Source, O: Sink, E: Sink>(
     core: &mut Core<'_, C, S, I, O, E>,
     k: u8,
+    most: u64,
 ) -> bool
     requires good { IsGoodCore I.state O.state E.state C.prog C.sound S.reserved S.meaning core.old }
     requires segment { k < (core_limits S.meaning core.old).segments }
@@ -272,7 +289,7 @@ fn work<C: Client, S: SegStore, I: Source, O: Sink, E: Sink>(
 {
     begin_next(core, k);
     let is_busy = is_busy(core.slot(k));
-    go_on(core, k);
+    go_on(core, k, most);
     is_busy
 }
 
@@ -287,7 +304,92 @@ fn found(is_busy: bool) -> Finding
     }
 }
 
-/// One visit of the worker of segment `k`, and what it found.
+/// A piece that fits what a segment has in hand is installed, and another one is let go: how many steps that added.
+fn install<C: Client, S: SegStore, I: Source, O: Sink, E: Sink>(
+    core: &mut Core<'_, C, S, I, O, E>,
+    k: u8,
+    piece: Piece<C::State>,
+) -> u64
+    requires good { IsGoodCore I.state O.state E.state C.prog C.sound S.reserved S.meaning core.old }
+    requires segment { k < (core_limits S.meaning core.old).segments }
+    requires by { IsPieceBy (C.prog (core_client core.old)) piece }
+    ensures good { IsGoodCore I.state O.state E.state C.prog C.sound S.reserved S.meaning core.new }
+    ensures job { SameJob S.meaning core.old core.new }
+    ensures grows { Grows I.state O.state E.state C.prog S.meaning core.old core.new }
+{
+    if !core.fits(k, &piece) {
+        return 0;
+    }
+    core.install(k, piece).unwrap_or(0)
+}
+
+/// A piece that was brought is installed, if it fits, and what then has as many steps as the length is committed: how many steps the
+/// piece added.
+fn take_in<C: Client, S: SegStore, I: Source, O: Sink, E: Sink>(
+    core: &mut Core<'_, C, S, I, O, E>,
+    k: u8,
+    piece: Option<Piece<C::State>>,
+) -> u64
+    requires good { IsGoodCore I.state O.state E.state C.prog C.sound S.reserved S.meaning core.old }
+    requires segment { k < (core_limits S.meaning core.old).segments }
+    requires by { IfSome piece (IsPieceBy (C.prog (core_client core.old))) }
+    ensures good { IsGoodCore I.state O.state E.state C.prog C.sound S.reserved S.meaning core.new }
+    ensures job { SameJob S.meaning core.old core.new }
+    ensures grows { Grows I.state O.state E.state C.prog S.meaning core.old core.new }
+{
+    match piece {
+        Some(piece) => {
+            let steps = install(core, k, piece);
+            commit_whole(core, k);
+            steps
+        }
+        None => 0,
+    }
+}
+
+/// A loan of what a segment has in hand, if that may go on. A worker that is alone gets none, as it would copy records for nobody.
+fn lend<C: Client, S: SegStore, I: Source, O: Sink, E: Sink>(
+    core: &mut Core<'_, C, S, I, O, E>,
+    k: u8,
+) -> Option<Loan<C::State>>
+    requires good { IsGoodCore I.state O.state E.state C.prog C.sound S.reserved S.meaning core.old }
+    requires segment { k < (core_limits S.meaning core.old).segments }
+    ensures good { IsGoodCore I.state O.state E.state C.prog C.sound S.reserved S.meaning core.new }
+    ensures job { SameJob S.meaning core.old core.new }
+    ensures grows { Grows I.state O.state E.state C.prog S.meaning core.old core.new }
+    ensures loan { IfSome result (IsRunnable C.prog C.sound (core_client core.old)) }
+{
+    if core.store().segments() == 1 || !core.may_loan(k) {
+        return None;
+    }
+    match core.loan(k) {
+        Ok(loan) => Some(loan),
+        Err(_) => None,
+    }
+}
+
+/// A visit that brings a piece, if there is one, and what it found. It asks for no loan.
+fn go_round<C: Client, S: SegStore, I: Source, O: Sink, E: Sink>(
+    core: &mut Core<'_, C, S, I, O, E>,
+    k: u8,
+    piece: Option<Piece<C::State>>,
+) -> Finding
+    requires good { IsGoodCore I.state O.state E.state C.prog C.sound S.reserved S.meaning core.old }
+    requires segment { k < (core_limits S.meaning core.old).segments }
+    requires by { IfSome piece (IsPieceBy (C.prog (core_client core.old))) }
+    ensures good { IsGoodCore I.state O.state E.state C.prog C.sound S.reserved S.meaning core.new }
+    ensures job { SameJob S.meaning core.old core.new }
+    ensures grows { Grows I.state O.state E.state C.prog S.meaning core.old core.new }
+    ensures over { result ≡ Finding.Ended → HasEnded I.state O.state E.state C.prog S.meaning core.new }
+{
+    if has_ended(core) {
+        return Finding::Ended;
+    }
+    let steps = take_in(core, k, piece);
+    found(work(core, k, steps_after(steps)))
+}
+
+/// One visit of the worker of segment `k` without pieces, and what it found.
 ///
 /// Where nothing is in hand a transaction of the next ready thread begins. Then at most `VISIT_STEPS` steps are done, up to the
 /// length. What has as many steps as the length, or waits, or has ended, is committed; what is to print or read becomes solo, or is
@@ -303,8 +405,32 @@ pub fn visit<C: Client, S: SegStore, I: Source, O: Sink, E: Sink>(
     ensures grows { Grows I.state O.state E.state C.prog S.meaning core.old core.new }
     ensures over { result ≡ Finding.Ended → HasEnded I.state O.state E.state C.prog S.meaning core.new }
 {
-    if has_ended(core) {
-        return Finding::Ended;
+    go_round(core, k, None)
+}
+
+/// One visit of the worker of segment `k`, which brings the piece that it has run since the last one, if it has: what it found, and
+/// a loan for the next piece.
+///
+/// A piece that fits is installed, and what has as many steps as the length then is committed. The visit goes on as one without
+/// pieces does, but by one step where the piece went far. Then, where a transaction that may go on is in hand, its thread's state and
+/// records that its steps have looked at are loaned.
+pub fn visit_with<C: Client, S: SegStore, I: Source, O: Sink, E: Sink>(
+    core: &mut Core<'_, C, S, I, O, E>,
+    k: u8,
+    piece: Option<Piece<C::State>>,
+) -> (Finding, Option<Loan<C::State>>)
+    requires good { IsGoodCore I.state O.state E.state C.prog C.sound S.reserved S.meaning core.old }
+    requires segment { k < (core_limits S.meaning core.old).segments }
+    requires by { IfSome piece (IsPieceBy (C.prog (core_client core.old))) }
+    ensures good { IsGoodCore I.state O.state E.state C.prog C.sound S.reserved S.meaning core.new }
+    ensures job { core_job S.meaning core.new ≡ core_job S.meaning core.old }
+    ensures grows { Grows I.state O.state E.state C.prog S.meaning core.old core.new }
+    ensures over { result.0 ≡ Finding.Ended → HasEnded I.state O.state E.state C.prog S.meaning core.new }
+    ensures loan { IfSome result.1 (IsRunnable C.prog C.sound (core_client core.old)) }
+{
+    let found = go_round(core, k, piece);
+    if found.is_last() {
+        return (found, None);
     }
-    found(work(core, k))
+    (found, lend(core, k))
 }

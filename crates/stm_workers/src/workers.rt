@@ -50,25 +50,26 @@ fn run_locked<
     I: Source + Send,
     O: Sink + Send,
     E: Sink + Send,
+    G: Gate + Sync,
 >(
     rt: &Rt,
     lock: HeapLock<Held<'p, C, S, I, O, E>>,
     seat: Seat<Held<'p, C, S, I, O, E>>,
-    workers: u8,
+    hands: &Hands<'_, G>,
 ) -> Held<'p, C, S, I, O, E>
 where
     C::State: Send,
     requires lock { seat.lock ≡ lock.id }
     requires free { seat.holds ≡ false }
-    requires parts { (1 ≤ workers) × (length seat.parts ≡ workers) }
+    requires parts { (1 ≤ hands.now.workers) × (length seat.parts ≡ hands.now.workers) }
     requires all { HasAllParts lock.parts seat.parts }
-    requires job { IfSome seat.job (λ j. j.segments ≡ workers) }
+    requires job { IfSome seat.job (λ j. j.segments ≡ hands.now.workers) }
     ensures good { IsGoodCore I.state O.state E.state C.prog C.sound S.reserved S.meaning result.core }
     ensures job { seat.entry.job ≡ Some (core_job S.meaning result.core) }
     ensures grows { All (λ y. Grows I.state O.state E.state C.prog S.meaning y.core result.core) seat.entry.seen }
 {
-    let hands = Hands { workers };
-    let seat = run_all(rt, &lock, seat, &hands, workers, workers == 1);
+    let workers = hands.workers;
+    let seat = run_all(rt, &lock, seat, hands, workers, workers == 1);
     lock.close(seat)
 }
 
@@ -81,7 +82,14 @@ fn run_held<
     I: Source + Send,
     O: Sink + Send,
     E: Sink + Send,
->(rt: &Rt, alloc: Global, held: Held<'p, C, S, I, O, E>, workers: u8) -> Held<'p, C, S, I, O, E>
+    G: Gate + Sync,
+>(
+    rt: &Rt,
+    alloc: Global,
+    held: Held<'p, C, S, I, O, E>,
+    workers: u8,
+    gate: &G,
+) -> Held<'p, C, S, I, O, E>
 where
     C::State: Send,
     requires good { IsGoodCore I.state O.state E.state C.prog C.sound S.reserved S.meaning held.core }
@@ -91,7 +99,14 @@ where
     ensures grows { Grows I.state O.state E.state C.prog S.meaning held.entry.core result.core }
 {
     match HeapLock::new(alloc, held, workers) {
-        Ok((lock, seat)) => run_locked(rt, lock, seat, workers),
+        Ok((lock, seat)) => {
+            let hands = Hands {
+                alloc,
+                workers,
+                gate,
+            };
+            run_locked(rt, lock, seat, &hands)
+        }
         Err((_, held)) => held,
     }
 }
@@ -100,8 +115,9 @@ where
 /// the caller's among them.
 ///
 /// A worker takes the core out of a lock, does some steps on its own segment and gives the core back, so that each worker sees the
-/// core as any order of such visits leaves it. Where there is no memory for the lock, the caller makes the visits by itself. The
-/// gate is for what a worker runs between its visits, and is not entered yet.
+/// core as any order of such visits leaves it. In between it passes the gate and runs a piece: steps of its transaction's thread over
+/// copies of records, which its next visit installs if it fits. Where there is no memory for the lock, the caller makes the visits by
+/// itself, without pieces.
 ///
 /// Nothing is claimed of when it returns. Once it has, the core is good, of the same job, its history and conflicts have those that it
 /// had as their beginnings, and its run doesn't go on.
@@ -113,8 +129,8 @@ pub fn run_workers<
     I: Source + Send,
     O: Sink + Send,
     E: Sink + Send,
-    G: Gate,
->(rt: &Rt, alloc: Global, core: Core<'p, C, S, I, O, E>, _gate: &G) -> Core<'p, C, S, I, O, E>
+    G: Gate + Sync,
+>(rt: &Rt, alloc: Global, core: Core<'p, C, S, I, O, E>, gate: &G) -> Core<'p, C, S, I, O, E>
 where
     C::State: Send,
     requires good { IsGoodCore I.state O.state E.state C.prog C.sound S.reserved S.meaning core }
@@ -125,6 +141,6 @@ where
 {
     core.store().known();
     let workers = core.store().segments();
-    let Held { core } = run_held(rt, alloc, Held { core }, workers);
+    let Held { core } = run_held(rt, alloc, Held { core }, workers, gate);
     finish(rt, core, workers)
 }

@@ -20,7 +20,7 @@ use stm_core::{Core, RunState};
 use stm_io::{MemSink, MemSource, Sink, Source};
 use stm_workers::{Held, visit};
 
-type MemCore<'p> = Core<'p, Script, PlainStore, MemSource, MemSink, MemSink>;
+pub(crate) type MemCore<'p> = Core<'p, Script, PlainStore, MemSource, MemSink, MemSink>;
 
 /// What threads do with a value whose turns only grow.
 trait Watch<T: Job> {
@@ -186,15 +186,22 @@ fn script(rt: &impl Abort, alloc: Global) -> Result<Script, test::Fail> {
     Ok(Script::new(2, lists))
 }
 
+/// A source with nothing in it, an output and an error output.
+pub(crate) fn empty_devices(alloc: Global) -> (MemSource, MemSink, MemSink) {
+    (
+        MemSource::new(alloc, Vec::new(alloc), Vec::new(alloc)),
+        MemSink::new(alloc, Vec::new(alloc)),
+        MemSink::new(alloc, Vec::new(alloc)),
+    )
+}
+
 /// A core of two segments, whose transactions have at most three steps.
 fn core<'p>(alloc: Global, client: &'p Script) -> Result<MemCore<'p>, test::Fail>
     ensures good { IfOk result IsGoodScriptCore }
     ensures segments { IfOk result (λ x. segments_of x ≡ 2) }
 {
     let store = PlainStore::new(alloc, 2)?;
-    let input = MemSource::new(alloc, Vec::new(alloc), Vec::new(alloc));
-    let out = MemSink::new(alloc, Vec::new(alloc));
-    let err = MemSink::new(alloc, Vec::new(alloc));
+    let (input, out, err) = empty_devices(alloc);
     match Core::new(alloc, client, store, 3, 10_000, input, out, err) {
         Ok(core) => Ok(core),
         Err(_) => Err("no memory".into()),

@@ -9,8 +9,9 @@ loop-preserved g c =
     let job = g.T.Job in (
       search rules,
       λ x all. c.loop.invariant.1 x (seen_before_give job.grows job.grows_then c.loop.seat.seen c.give.new.seat.seen
-          c.take-value.result c.visit-found.new.value x
-          c.take-value.ensures.later c.visit-found.ensures.grows gave all),
+          c.take-value.result c.visit-visit.new.value x
+          c.take-value.ensures.later c.visit-visit.ensures.grows gave all),
+      search rules,
     )
 
 pub returns-then-is_last-clause-seen : goal.returns-then-is_last-clause-seen
@@ -18,5 +19,5 @@ returns-then-is_last-clause-seen g c =
     let gave = ap (λ (s : SeatView g.row.T.Denot g.row.T-Description.Denot). s.seen) c.give.ensures.seat in
     let job = g.T.Job in
     λ x all. c.loop.invariant.1 x (seen_before_give job.grows job.grows_then c.loop.seat.seen c.give.new.seat.seen
-    c.take-value.result c.visit-found.new.value x
-    c.take-value.ensures.later c.visit-found.ensures.grows gave all)
+    c.take-value.result c.visit-visit.new.value x
+    c.take-value.ensures.later c.visit-visit.ensures.grows gave all)

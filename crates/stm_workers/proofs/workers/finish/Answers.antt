@@ -15,7 +15,7 @@ returns-then-is_last-clause-grows g c = grows_then g.I.Source.state g.O.Sink.sta
     g.S.SegStore.meaning c.args.core c.segments.core c.visit.new.core c.segments.invariant.2 c.visit.ensures.grows
 
 pub returns-then-is_last-clause-ended : goal.returns-then-is_last-clause-ended
-returns-then-is_last-clause-ended g c = c.visit.ensures.over (c.is_last.ensures c.if-is_last.true)
+returns-then-is_last-clause-ended g c = c.visit.ensures.over (c.is_last.ensures.yes c.if-is_last.true)
 
 pub segments-preserved : goal.segments-preserved
 segments-preserved g c = (
