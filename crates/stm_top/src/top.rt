@@ -146,9 +146,9 @@ fn put_text<E: Sink>(err: &mut E, text: &[u8])
 /// taken. Its threads run as transactions on the segments that the options ask for. What they write goes to `out` and `err`. What is
 /// wrong is told by the status and by the text, which is put to `err` last.
 ///
-/// For each segment a worker runs, in a thread of the machine below, the caller's among them; they take the heap in turn. The gate is
-/// for what a worker runs while another has the heap, and is not entered yet. Nothing is claimed of when the call returns: a wait for
-/// the heap that never ends is the only way in which it doesn't.
+/// For each segment a worker runs, in a thread of the machine below, the caller's among them; they take the heap in turn. In
+/// between each of them runs steps of its thread on copies of records, and passes the gate before. Nothing is claimed of when the call
+/// returns: a wait for the heap that never ends, and one at the gate, are the only ways in which it doesn't.
 ///
 /// `specs/TopCall.antt` says what each status means, by its cause, and `specs/Serial.antt` what the run was.
 pub fn run_words<
