@@ -68,18 +68,22 @@ fn rest(pause: u32) {
     }
 }
 
-/// What comes of the errand that a visit left, if it left one.
-fn run_errand<T: Job, L: Drop, P: Drop, W: Crew<T, L, P>>(
+/// What comes of the errand that a visit left. Where it left none, others are let run so many times.
+fn run_between<T: Job, L: Drop, P: Drop, W: Crew<T, L, P>>(
     crew: &W,
     k: u8,
     errand: Option<L>,
+    pause: u32,
 ) -> Option<P>
     requires { IfSome errand (λ e. (j : T.Description) × W.errand_of j e) }
     ensures { (j : T.Description) → IfSome errand (W.errand_of j) → IfSome result (W.done_of j) }
 {
     match errand {
         Some(errand) => Some(crew.run(k, errand)),
-        None => None,
+        None => {
+            rest(pause);
+            None
+        }
     }
 }
 
@@ -110,8 +114,7 @@ fn make_visits<T: Job, L: Drop, P: Drop, W: Crew<T, L, P>, Rt: Wait>(
             return seat;
         }
         pause = pause_after(visit.found, pause, alone);
-        rest(pause);
-        done = run_errand(crew, k, visit.errand);
+        done = run_between(crew, k, visit.errand, pause);
     }
     unreachable!()
 }
