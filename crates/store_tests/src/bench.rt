@@ -66,11 +66,6 @@ impl<S: SegStore> Bench<S> {
         self.store.holder(a)
     }
 
-    /// A record of the image stands at the address.
-    pub fn stands(&self, a: Addr) -> bool {
-        self.store.stands(a)
-    }
-
     /// No other segment holds the record.
     fn is_free(&self, k: u8, a: Addr) -> bool
         ensures { result ≡ true → NoOther (S.meaning self.now.store) k a.0 }

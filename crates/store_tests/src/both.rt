@@ -462,7 +462,7 @@ impl Both {
         }
     }
 
-    /// Locks, holders, looks, words and the addresses of the image are as they must be.
+    /// Locks, holders, looks and words are as they must be.
     pub fn same_books(&self, rt: &impl Abort) {
         self.same_words(rt);
         'segments: for k in 0..self.maps.segments() {
@@ -473,7 +473,6 @@ impl Both {
                 assert!(rt; x == self.maps.has_looked(rt, k, place.0));
                 assert!(rt; y == self.pages.has_looked(rt, k, place.1));
                 assert!(rt; self.maps.holder(place.0) == self.pages.holder(place.1));
-                assert!(rt; self.maps.stands(place.0) == self.pages.stands(place.1));
             }
         }
     }
