@@ -24,7 +24,8 @@ use Rattle.stm_core.specs.Books.{Worlds, is_running, segment_of, core_of, Fit}
 use Rattle.stm_core.specs.CoreState.{Segment, Idle, Doomed, Running, CoreState, committed, sight_of}
 use Rattle.stm_core.specs.Good.{Good}
 use Rattle.heap_bound.specs.Moments.{More, IsAsked, InUse}
-use Rattle.heap_bound.specs.Using.{seg_view, core_use, wants_more, RisesUpTo, Lifts}
+use Rattle.stm_core.specs.InUse.{seg_view, core_use, wants_more, RisesUpTo}
+use Rattle.heap_bound.specs.Using.{Lifts}
 use Rattle.heap_bound.specs.Laws.{StoreLaw, UseLaw, TellsLaw, TellsRefusedLaw, ChainLaw, RiseLaw}
 use Rattle.heap_bound.proofs.Summing.{below_le, below_more}
 use Rattle.heap_bound.proofs.Larger.{more_refl, act_more}

@@ -35,7 +35,8 @@ use Rattle.stm_core.specs.Good.{Good}
 use Rattle.stm_core.specs.Moves.{Move, Next}
 use Rattle.heap_bound.specs.Growth.{IsNearlyFull}
 use Rattle.heap_bound.specs.Moments.{IsAsked, IsWanted, IsExplained}
-use Rattle.heap_bound.specs.Using.{core_use, next_more, RisesUpTo, Lifts, KeepsWanted, OuterWanted}
+use Rattle.stm_core.specs.InUse.{core_use, next_more, RisesUpTo}
+use Rattle.heap_bound.specs.Using.{Lifts, KeepsWanted, OuterWanted}
 
 -- ---- a step that was cut asked for no more than some whole step
 

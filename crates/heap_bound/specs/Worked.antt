@@ -15,7 +15,7 @@ use Rattle.seg_store.specs.Worked.{nones, a_list}
 use Rattle.stm_core.specs.CoreState.{Transaction, Idle, Running, CoreState, no_world}
 use Rattle.lock_run.specs.declared.turn.Turn.{Turn}
 use Rattle.heap_bound.specs.Growth.{words_of, names_in}
-use Rattle.heap_bound.specs.Using.{core_use, wants_more, RisesUpTo}
+use Rattle.stm_core.specs.InUse.{core_use, wants_more, RisesUpTo}
 
 -- ---- words of names
 

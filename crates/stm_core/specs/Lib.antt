@@ -14,6 +14,7 @@ pub mod Committed
 pub mod Begun
 pub mod Standing
 pub mod Advanced
+pub mod InUse
 pub mod Pieces
 pub mod SaneCore
 pub mod Events

@@ -6,6 +6,7 @@ pub mod Pausing
 pub mod PutIn
 pub mod Readers
 pub mod Replayed
+pub mod Rising
 pub mod SegLaws
 pub mod SegSense
 pub mod Settled

@@ -10,19 +10,21 @@ use seg_store::SegStore;
 use stm_io::{Sink, Source};
 
 impl<'p, C: Client, S: SegStore, I: Source, O: Sink, E: Sink> Core<'p, C, S, I, O, E> {
-    ghost use Rattle.std.specs.Prelude.{◌≡◌, ◌<◌, ◌≤◌, ◌+◌, ℕ, true, false, length, slice_get, Some, List, Option};
+    ghost use Rattle.std.specs.Prelude.{◌≡◌, ◌<◌, ◌≤◌, ◌+◌, ◌/◌, ℕ, true, false, length, slice_get, Some, List, Option};
     ghost use Rattle.lock_run.specs.declared.client.Life.TheVariants.{Lives};
     ghost use Rattle.seg_store.specs.Store.{IsStore};
     ghost use Rattle.stm_core.specs.CoreState.{IsShort, Running};
     ghost use Rattle.stm_core.specs.Outside.{Outer};
-    ghost use Rattle.stm_core.specs.Devices.{DeviceState, device_state};
+    ghost use Rattle.stm_core.specs.Devices.{DeviceState, Shown, device_state};
     ghost use Rattle.stm_core.specs.Books.{Fit, Worlds, transaction};
     ghost use Rattle.stm_core.specs.inner.Whole.{Whole, SameShape};
-    ghost use Rattle.stm_core.specs.inner.Trying.{SaneShown};
+    ghost use Rattle.stm_core.specs.inner.Trying.{SaneShown, core_with};
+    ghost use Rattle.stm_core.specs.InUse.{IfTold, RisesWithin};
+    ghost use Rattle.stm_core.specs.inner.Rising.{RisesOut};
     ghost use Rattle.stm_core.specs.Begun.{CountsSteps};
     ghost use Rattle.stm_core.specs.Events.{may_make};
     ghost use Rattle.stm_core.specs.declared.events.Event.{Event};
-    ghost use Rattle.stm_core.specs.CoreHeld.{core_client, core_limits, Says, Leads, IsGoodCore, SameJob};
+    ghost use Rattle.stm_core.specs.CoreHeld.{core_client, core_limits, core_store, Says, Leads, IsGoodCore, SameJob};
     ghost use Rattle.stm_core.specs.inner.Pauses.{tried_by, PauseCount};
     ghost use Rattle.stm_core.specs.inner.Pausing.{PauseWhy, PauseRose};
     ghost use Rattle.stm_core.specs.Advanced.{CountsDone, tried_after, Ends, StepsTaken, AdvancedFrom, Advanced};
@@ -44,6 +46,7 @@ impl<'p, C: Client, S: SegStore, I: Source, O: Sink, E: Sink> Core<'p, C, S, I, 
         ensures rest { self.new ≡ record self.old { store = self.new.store; books = self.new.books; spent = self.new.spent } }
         ensures shape { SameShape (S.meaning self.old.store) (S.meaning self.new.store) }
         ensures reserved { S.reserved self.new.store ≡ S.reserved self.old.store }
+        ensures peaks { S.peaks self.new.store ≡ S.peaks self.old.store }
         ensures whole { Whole (S.meaning self.new.store) self.new.books }
         ensures count { CountsSteps self.new.spent self.new.books.history.entries }
         ensures counted { (most : ℕ) → done < most → CountsDone most done result }
@@ -99,6 +102,7 @@ impl<'p, C: Client, S: SegStore, I: Source, O: Sink, E: Sink> Core<'p, C, S, I, 
         ensures rest { self.new ≡ record self.old { store = self.new.store; books = self.new.books; spent = self.new.spent } }
         ensures shape { SameShape (S.meaning self.old.store) (S.meaning self.new.store) }
         ensures reserved { S.reserved self.new.store ≡ S.reserved self.old.store }
+        ensures peaks { S.peaks self.new.store ≡ S.peaks self.old.store }
         ensures whole { Whole (S.meaning self.new.store) self.new.books }
         ensures count { CountsSteps self.new.spent self.new.books.history.entries }
         ensures counted { (most : ℕ) → PauseCount most done pause → CountsDone most done result }
@@ -144,6 +148,8 @@ impl<'p, C: Client, S: SegStore, I: Source, O: Sink, E: Sink> Core<'p, C, S, I, 
         ensures rest { self.new ≡ record self.old { store = self.new.store; books = self.new.books; devices = self.new.devices; spent = self.new.spent } }
         ensures shape { SameShape (S.meaning self.old.store) (S.meaning self.new.store) }
         ensures reserved { S.reserved self.old.store ≤ S.reserved self.new.store }
+        ensures peaks { (t e : Option (List ℕ)) (w : Worlds) → Shown work.solo t e (device_state I.state O.state E.state self.old.devices) w.own
+            → IfTold (S.peaks self.old.store) (S.peaks self.new.store) (RisesOut (C.prog self.old.client.now) length k (S.meaning self.old.store) (core_with w k (S.meaning self.old.store) self.old.books work)) }
         ensures whole { Whole (S.meaning self.new.store) self.new.books }
         ensures count { CountsSteps self.new.spent self.new.books.history.entries }
         ensures rises { Rises self.old.books.cause self.new.books.cause (device_state I.state O.state E.state self.old.devices) (device_state I.state O.state E.state self.new.devices) }
@@ -173,6 +179,8 @@ impl<'p, C: Client, S: SegStore, I: Source, O: Sink, E: Sink> Core<'p, C, S, I, 
         ensures rest { self.new ≡ record self.old { store = self.new.store; books = self.new.books; devices = self.new.devices; spent = self.new.spent } }
         ensures shape { SameShape (S.meaning self.old.store) (S.meaning self.new.store) }
         ensures reserved { S.reserved self.old.store ≤ S.reserved self.new.store }
+        ensures peaks { (t e : Option (List ℕ)) (w : Worlds) → Shown work.solo t e (device_state I.state O.state E.state self.old.devices) w.own
+            → IfTold (S.peaks self.old.store) (S.peaks self.new.store) (RisesOut (C.prog self.old.client.now) length k (S.meaning self.old.store) (core_with w k (S.meaning self.old.store) self.old.books work)) }
         ensures whole { Whole (S.meaning self.new.store) self.new.books }
         ensures count { CountsSteps self.new.spent self.new.books.history.entries }
         ensures rises { Rises self.old.books.cause self.new.books.cause (device_state I.state O.state E.state self.old.devices) (device_state I.state O.state E.state self.new.devices) }
@@ -199,6 +207,8 @@ impl<'p, C: Client, S: SegStore, I: Source, O: Sink, E: Sink> Core<'p, C, S, I, 
         ensures job { SameJob S.meaning self.old self.new }
         ensures advanced { Leads I.state O.state E.state C.prog S.meaning self.old self.new
             (λ o o1. Advanced (C.prog (core_client self.old)) (core_limits S.meaning self.old).length k (core_limits S.meaning self.old).segments most (S.reserved self.new.store) (core_limits S.meaning self.old).words o result o1) }
+        ensures peaks { Says I.state O.state E.state C.prog S.meaning self.old
+            (λ o. IfTold (S.peaks (core_store self.old)) (S.peaks (core_store self.new)) (RisesWithin (C.prog (core_client self.old)) (core_limits S.meaning self.old).length ((core_limits S.meaning self.old).words / 2) (core_limits S.meaning self.old).segments k o.core)) }
     {
         self.store.known();
         match self.books.take(k) {

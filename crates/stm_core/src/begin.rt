@@ -39,7 +39,7 @@ impl<'p, C: Client, S: SegStore, I: Source, O: Sink, E: Sink> Core<'p, C, S, I, 
     ghost use Rattle.stm_core.specs.Outside.{InCore};
     ghost use Rattle.stm_core.specs.Books.{one_running, Worlds, core_of};
     ghost use Rattle.stm_core.specs.inner.Whole.{Whole, SameShape};
-    ghost use Rattle.stm_core.specs.CoreHeld.{core_client, core_limits, Leads, IsGoodCore, SameJob};
+    ghost use Rattle.stm_core.specs.CoreHeld.{core_client, core_limits, core_store, Leads, IsGoodCore, SameJob};
     ghost use Rattle.stm_core.specs.Begun.{Begun, IsFresh};
 
     /// A transaction of the thread, as it begins, and room for its turn and a conflict.
@@ -87,6 +87,7 @@ impl<'p, C: Client, S: SegStore, I: Source, O: Sink, E: Sink> Core<'p, C, S, I, 
         ensures rest { self.new ≡ record self.old { store = self.new.store; books = self.new.books } }
         ensures shape { SameShape (S.meaning self.old.store) (S.meaning self.new.store) }
         ensures reserved { S.reserved self.new.store ≡ S.reserved self.old.store }
+        ensures peaks { S.peaks self.new.store ≡ S.peaks self.old.store }
         ensures broken { self.new.books.broken ≡ self.old.books.broken }
         ensures core { (w : Worlds) → core_of w (S.meaning self.new.store) self.new.books ≡ begun_at k work.thread work.state (core_of w (S.meaning self.old.store) self.old.books) }
     {
@@ -105,6 +106,7 @@ impl<'p, C: Client, S: SegStore, I: Source, O: Sink, E: Sink> Core<'p, C, S, I, 
         ensures good { IsGoodCore I.state O.state E.state C.prog C.sound S.reserved S.meaning self.new }
         ensures job { SameJob S.meaning self.old self.new }
         ensures begun { Leads I.state O.state E.state C.prog S.meaning self.old self.new (InCore (Begun (C.prog (core_client self.old)) k t (core_limits S.meaning self.old).budget result)) }
+        ensures peaks { S.peaks (core_store self.new) ≡ S.peaks (core_store self.old) }
     {
         self.store.known();
         if let Some(cause) = self.books.cause {

@@ -102,7 +102,7 @@ impl<'p, C: Client, S: SegStore, I: Source, O: Sink, E: Sink> Core<'p, C, S, I, 
     ghost use Rattle.stm_core.specs.inner.Trying.{core_with};
     ghost use Rattle.stm_core.specs.Events.{may_make};
     ghost use Rattle.stm_core.specs.declared.events.Event.{Event};
-    ghost use Rattle.stm_core.specs.CoreHeld.{core_client, core_limits, Says, Leads, IsGoodCore, SameJob};
+    ghost use Rattle.stm_core.specs.CoreHeld.{core_client, core_limits, core_store, Says, Leads, IsGoodCore, SameJob};
     ghost use Rattle.stm_core.specs.Begun.{CountsSteps};
     ghost use Rattle.stm_core.specs.inner.Readers.{place_of, read_at, Beats, FirstBeats};
     ghost use Rattle.stm_core.specs.Committed.{CommitEnds, Committed};
@@ -175,6 +175,7 @@ impl<'p, C: Client, S: SegStore, I: Source, O: Sink, E: Sink> Core<'p, C, S, I, 
         ensures part { (S.meaning self.new.store).part k ≡ (S.meaning self.old.store).part k }
         ensures shape { SameShape (S.meaning self.old.store) (S.meaning self.new.store) }
         ensures reserved { S.reserved self.new.store ≡ S.reserved self.old.store }
+        ensures peaks { S.peaks self.new.store ≡ S.peaks self.old.store }
         ensures broken { self.new.books.broken ≡ self.old.books.broken }
         ensures cause { self.new.books.cause ≡ self.old.books.cause }
         ensures core { (w : Worlds) → core_with w k (S.meaning self.new.store) self.new.books work.now
@@ -208,6 +209,7 @@ impl<'p, C: Client, S: SegStore, I: Source, O: Sink, E: Sink> Core<'p, C, S, I, 
         ensures part { (S.meaning self.new.store).part k ≡ (S.meaning self.old.store).part k }
         ensures shape { SameShape (S.meaning self.old.store) (S.meaning self.new.store) }
         ensures reserved { S.reserved self.new.store ≡ S.reserved self.old.store }
+        ensures peaks { S.peaks self.new.store ≡ S.peaks self.old.store }
         ensures broken { self.new.books.broken ≡ self.old.books.broken }
         ensures cause { self.new.books.cause ≡ self.old.books.cause }
         ensures core { (w : Worlds) → core_with w k (S.meaning self.new.store) self.new.books work.now
@@ -230,6 +232,7 @@ impl<'p, C: Client, S: SegStore, I: Source, O: Sink, E: Sink> Core<'p, C, S, I, 
         ensures rest { self.new ≡ record self.old { store = self.new.store; books = self.new.books; spent = self.new.spent } }
         ensures shape { SameShape (S.meaning self.old.store) (S.meaning self.new.store) }
         ensures reserved { S.reserved self.new.store ≡ S.reserved self.old.store }
+        ensures peaks { S.peaks self.new.store ≡ S.peaks self.old.store }
         ensures place { result ≡ length self.old.books.history.entries }
         ensures core { (w : Worlds) → core_of (worlds_after w work) (S.meaning self.new.store) self.new.books ≡ published k (transaction w.own ((S.meaning self.old.store).part k) work) (core_with w k (S.meaning self.old.store) self.old.books work) }
         ensures broken { self.new.books.broken ≡ self.old.books.broken }
@@ -255,6 +258,7 @@ impl<'p, C: Client, S: SegStore, I: Source, O: Sink, E: Sink> Core<'p, C, S, I, 
         ensures rest { self.new ≡ record self.old { store = self.new.store; books = self.new.books; spent = self.new.spent } }
         ensures shape { SameShape (S.meaning self.old.store) (S.meaning self.new.store) }
         ensures reserved { S.reserved self.new.store ≡ S.reserved self.old.store }
+        ensures peaks { S.peaks self.new.store ≡ S.peaks self.old.store }
         ensures broken { self.new.books.broken ≡ self.old.books.broken }
         ensures cause { self.new.books.cause ≡ self.old.books.cause }
         ensures ends { (w : Worlds) → (w1 : Worlds) × CommitEnds (C.prog self.old.client.now) k (S.meaning self.old.store).segments (transaction w.own ((S.meaning self.old.store).part k) work) result
@@ -290,6 +294,7 @@ impl<'p, C: Client, S: SegStore, I: Source, O: Sink, E: Sink> Core<'p, C, S, I, 
         ensures good { IsGoodCore I.state O.state E.state C.prog C.sound S.reserved S.meaning self.new }
         ensures job { SameJob S.meaning self.old self.new }
         ensures committed { Leads I.state O.state E.state C.prog S.meaning self.old self.new (InCore (Committed (C.prog (core_client self.old)) k (core_limits S.meaning self.old).segments result)) }
+        ensures peaks { S.peaks (core_store self.new) ≡ S.peaks (core_store self.old) }
     {
         match self.books.take(k) {
             Hand::Runs(work) => {

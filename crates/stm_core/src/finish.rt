@@ -74,7 +74,7 @@ impl<'p, C: Client, S: SegStore, I: Source, O: Sink, E: Sink> Core<'p, C, S, I, 
     ghost use Rattle.stm_core.specs.Books.{Worlds, NoneSolo, core_of};
     ghost use Rattle.stm_core.specs.inner.Whole.{Whole, SameShape};
     ghost use Rattle.stm_core.specs.Finishing.{idle_core, IsUnused, HasFailed, SettlesSolo, HandedOut};
-    ghost use Rattle.stm_core.specs.CoreHeld.{core_client, core_devices, core_limits, first_devices, CoreStands, HasDevices, IsFullKept, IsGoodCore, Leads, SameJob, Says};
+    ghost use Rattle.stm_core.specs.CoreHeld.{core_client, core_devices, core_limits, core_store, first_devices, CoreStands, HasDevices, IsFullKept, IsGoodCore, Leads, SameJob, Says};
 
     /// A core over an empty store, whose only thread is the client's first, which may stand over no records. At want of memory
     /// the devices come back.
@@ -101,6 +101,7 @@ impl<'p, C: Client, S: SegStore, I: Source, O: Sink, E: Sink> Core<'p, C, S, I, 
         ensures limits { IfOk result (λ x. core_limits S.meaning x ≡ record { length = length; budget = budget; segments = (S.meaning store).segments; words = (S.meaning store).limit }) }
         ensures devices { IfOk result (HasDevices input out err) }
         ensures state { IfOk result (λ x. CoreStands I.state O.state E.state C.prog S.meaning x (outer_new (core_new (C.prog client.now) (first_world (I.state input).told)))) }
+        ensures peaks { IfOk result (λ x. S.peaks (core_store x) ≡ S.peaks store) }
         ensures back { IfErr result (λ e. (e.1 ≡ input) × (e.2 ≡ out) × (e.3 ≡ err)) }
     {
         store.known();
@@ -136,6 +137,7 @@ impl<'p, C: Client, S: SegStore, I: Source, O: Sink, E: Sink> Core<'p, C, S, I, 
         ensures good { IsGoodCore I.state O.state E.state C.prog C.sound S.reserved S.meaning self.new }
         ensures job { SameJob S.meaning self.old self.new }
         ensures settles { Leads I.state O.state E.state C.prog S.meaning self.old self.new (SettlesSolo (C.prog (core_client self.old)) (core_limits S.meaning self.old).segments) }
+        ensures peaks { S.peaks (core_store self.new) ≡ S.peaks (core_store self.old) }
         ensures none { NoneSolo self.new.books.hands.items }
     {
         self.store.known();
@@ -157,6 +159,7 @@ impl<'p, C: Client, S: SegStore, I: Source, O: Sink, E: Sink> Core<'p, C, S, I, 
         ensures cause { self.new.books.cause ≡ self.old.books.cause }
         ensures shape { SameShape (S.meaning self.old.store) (S.meaning self.new.store) }
         ensures reserved { S.reserved self.new.store ≡ S.reserved self.old.store }
+        ensures peaks { S.peaks self.new.store ≡ S.peaks self.old.store }
         ensures core { (w : Worlds) → core_of w (S.meaning self.new.store) self.new.books ≡ with_segment k Idle (core_of w (S.meaning self.old.store) self.old.books) }
     {
         match self.books.take(k) {
@@ -175,6 +178,7 @@ impl<'p, C: Client, S: SegStore, I: Source, O: Sink, E: Sink> Core<'p, C, S, I, 
         ensures cause { self.new.books.cause ≡ self.old.books.cause }
         ensures shape { SameShape (S.meaning self.old.store) (S.meaning self.new.store) }
         ensures reserved { S.reserved self.new.store ≡ S.reserved self.old.store }
+        ensures peaks { S.peaks self.new.store ≡ S.peaks self.old.store }
         ensures unused { (j : ℕ) → IsUnused ((S.meaning self.new.store).part j) }
         ensures core { (w : Worlds) → core_of w (S.meaning self.new.store) self.new.books ≡ idle_core (core_of w (S.meaning self.old.store) self.old.books) }
     {
@@ -190,6 +194,7 @@ impl<'p, C: Client, S: SegStore, I: Source, O: Sink, E: Sink> Core<'p, C, S, I, 
         requires none { NoneSolo self.old.books.hands.items }
         ensures good { IsGoodCore I.state O.state E.state C.prog C.sound S.reserved S.meaning self.new }
         ensures job { SameJob S.meaning self.old self.new }
+        ensures peaks { S.peaks (core_store self.new) ≡ S.peaks (core_store self.old) }
         ensures unused { (j : ℕ) → IsUnused ((S.meaning self.new.store).part j) }
         ensures idle { Leads I.state O.state E.state C.prog S.meaning self.old self.new (λ o o1. o1 ≡ record o { core = idle_core o.core }) }
     {
@@ -220,6 +225,7 @@ impl<'p, C: Client, S: SegStore, I: Source, O: Sink, E: Sink> Core<'p, C, S, I, 
             result.state result.failed result.history.entries result.conflicts.entries (S.meaning result.store).image o o1
             × IsFullKept (S.reserved result.store) (S.meaning result.store).limit o1.core.cause }
         ensures shape { ((S.meaning result.store).segments ≡ (core_limits S.meaning self.entry).segments) × ((S.meaning result.store).limit ≡ (core_limits S.meaning self.entry).words) }
+        ensures peaks { S.peaks result.store ≡ S.peaks (core_store self.entry) }
         ensures unused { (j : ℕ) → IsUnused ((S.meaning result.store).part j) }
     {
         self.settle_solo();

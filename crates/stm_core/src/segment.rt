@@ -144,6 +144,7 @@ impl<'a, T: Drop, S: SegStore, I, O, E> SegView<'a, T, S, I, O, E> {
         ensures books { self.new.books.now ≡ self.old.books.now }
         ensures progress { self.new.progress.now ≡ self.old.progress.now }
         ensures reserved { S.reserved self.new.store.now ≡ S.reserved self.old.store.now }
+        ensures peaks { S.peaks self.new.store.now ≡ S.peaks self.old.store.now }
     {
         if self.is_seen(a) {
             return Ok(());
@@ -160,6 +161,7 @@ impl<'a, T: Drop, S: SegStore, I, O, E> SegView<'a, T, S, I, O, E> {
         requires runs { runs_at self.old.books.now.hands.items j ≡ true }
         ensures store { S.meaning self.new.store.now ≡ after_drop j (S.meaning self.old.store.now) }
         ensures reserved { S.reserved self.new.store.now ≡ S.reserved self.old.store.now }
+        ensures peaks { S.peaks self.new.store.now ≡ S.peaks self.old.store.now }
         ensures books { self.new.books.now ≡ record self.old.books.now { hands = self.new.books.now.hands; pending = self.new.books.now.pending; conflicts = self.new.books.now.conflicts } }
         ensures hands { self.new.books.now.hands.items ≡ slice_set self.old.books.now.hands.items j (Hand.Doomed f) }
         ensures conflicts { self.new.books.now.conflicts.entries ≡ self.old.books.now.conflicts.entries ++ f ∷ [] }

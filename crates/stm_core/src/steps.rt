@@ -44,6 +44,8 @@ impl<'p, C: Client, S: SegStore, I: Source, O: Sink, E: Sink> Core<'p, C, S, I, 
     ghost use Rattle.stm_core.specs.CoreState.{CoreState};
     ghost use Rattle.stm_core.specs.Advance.{Tried};
     ghost use Rattle.stm_core.specs.inner.Trying.{SaneShown, core_with};
+    ghost use Rattle.stm_core.specs.InUse.{IfTold};
+    ghost use Rattle.stm_core.specs.inner.Rising.{RisesInStep, RisesOut};
     ghost use Rattle.stm_core.specs.inner.Pauses.{done_by, PauseCount};
     ghost use Rattle.stm_core.specs.inner.Pausing.{DevicesGrow, Paused, SaneAfter};
 
@@ -57,6 +59,8 @@ impl<'p, C: Client, S: SegStore, I: Source, O: Sink, E: Sink> Core<'p, C, S, I, 
         ensures store { IsStore (S.reserved self.new.store) (S.meaning self.new.store) }
         ensures rest { self.new ≡ record self.old { store = self.new.store; books = self.new.books; devices = self.new.devices } }
         ensures reserved { S.reserved self.old.store ≤ S.reserved self.new.store }
+        ensures peaks { (t e : Option (List ℕ)) (w : Worlds) → Shown work.old.solo t e (device_state I.state O.state E.state self.old.devices) w.own
+            → IfTold (S.peaks self.old.store) (S.peaks self.new.store) (RisesInStep (C.prog self.old.client.now) w k (S.meaning self.old.store) self.old.books work.old) }
         ensures same { (work.new.thread ≡ work.old.thread) × (work.new.begun ≡ work.old.begun) × (work.new.steps ≡ work.old.steps) × (work.new.solo ≡ work.old.solo) }
         ensures image { (S.meaning self.new.store).image ≡ (S.meaning self.old.store).image }
         ensures shape { SameShape (S.meaning self.old.store) (S.meaning self.new.store) }
@@ -109,6 +113,8 @@ impl<'p, C: Client, S: SegStore, I: Source, O: Sink, E: Sink> Core<'p, C, S, I, 
         ensures solo { work.new.solo ≡ work.old.solo }
         ensures shape { SameShape (S.meaning self.old.store) (S.meaning self.new.store) }
         ensures reserved { S.reserved self.old.store ≤ S.reserved self.new.store }
+        ensures peaks { (t e : Option (List ℕ)) (w : Worlds) → Shown work.old.solo t e (device_state I.state O.state E.state self.old.devices) w.own
+            → IfTold (S.peaks self.old.store) (S.peaks self.new.store) (RisesOut (C.prog self.old.client.now) length k (S.meaning self.old.store) (core_with w k (S.meaning self.old.store) self.old.books work.old)) }
         ensures broken { self.new.books.broken ≡ self.old.books.broken }
         ensures devices { DevicesGrow work.old.solo result (device_state I.state O.state E.state self.old.devices) (device_state I.state O.state E.state self.new.devices) }
     {
@@ -154,6 +160,8 @@ impl<'p, C: Client, S: SegStore, I: Source, O: Sink, E: Sink> Core<'p, C, S, I, 
         ensures count { PauseCount most result.0 result.1 }
         ensures shape { SameShape (S.meaning self.old.store) (S.meaning self.new.store) }
         ensures reserved { S.reserved self.old.store ≤ S.reserved self.new.store }
+        ensures peaks { (t e : Option (List ℕ)) (w : Worlds) → Shown work.old.solo t e (device_state I.state O.state E.state self.old.devices) w.own
+            → IfTold (S.peaks self.old.store) (S.peaks self.new.store) (RisesOut (C.prog self.old.client.now) length k (S.meaning self.old.store) (core_with w k (S.meaning self.old.store) self.old.books work.old)) }
         ensures broken { self.new.books.broken ≡ self.old.books.broken }
         ensures devices { DevicesGrow work.old.solo result.1 (device_state I.state O.state E.state self.old.devices) (device_state I.state O.state E.state self.new.devices) }
     {
@@ -178,6 +186,7 @@ impl<'p, C: Client, S: SegStore, I: Source, O: Sink, E: Sink> Core<'p, C, S, I, 
         ensures room { self.new.books ≡ record self.old.books { pending = self.new.books.pending } }
         ensures store { S.meaning self.new.store ≡ after_drop k (S.meaning self.old.store) }
         ensures reserved { S.reserved self.new.store ≡ S.reserved self.old.store }
+        ensures peaks { S.peaks self.new.store ≡ S.peaks self.old.store }
     {
         self.books.forget(work.progress.started.len());
         self.store.drop_changes(k);
@@ -194,6 +203,7 @@ impl<'p, C: Client, S: SegStore, I: Source, O: Sink, E: Sink> Core<'p, C, S, I, 
         ensures core { (world : Worlds) → core_of world (S.meaning self.new.store) self.new.books ≡ with_conflict f (core_of world (S.meaning self.old.store) self.old.books) }
         ensures store { S.meaning self.new.store ≡ after_drop k (S.meaning self.old.store) }
         ensures reserved { S.reserved self.new.store ≡ S.reserved self.old.store }
+        ensures peaks { S.peaks self.new.store ≡ S.peaks self.old.store }
     {
         self.drop_out(k, work);
         self.books.note(f);
@@ -211,6 +221,7 @@ impl<'p, C: Client, S: SegStore, I: Source, O: Sink, E: Sink> Core<'p, C, S, I, 
         ensures count { CountsSteps self.new.spent self.new.books.history.entries }
         ensures shape { SameShape (S.meaning self.old.store) (S.meaning self.new.store) }
         ensures reserved { S.reserved self.new.store ≡ S.reserved self.old.store }
+        ensures peaks { S.peaks self.new.store ≡ S.peaks self.old.store }
         ensures core { (w : Worlds) → (w1 : Worlds) × (core_of w1 (S.meaning self.new.store) self.new.books ≡ up_to_whole k (S.meaning self.old.store).segments (transaction w.own ((S.meaning self.old.store).part k) work) work.steps (core_with w k (S.meaning self.old.store) self.old.books work)) }
     {
         if work.steps == 0 {
@@ -233,6 +244,7 @@ impl<'p, C: Client, S: SegStore, I: Source, O: Sink, E: Sink> Core<'p, C, S, I, 
         ensures count { CountsSteps self.new.spent self.new.books.history.entries }
         ensures shape { SameShape (S.meaning self.old.store) (S.meaning self.new.store) }
         ensures reserved { S.reserved self.new.store ≡ S.reserved self.old.store }
+        ensures peaks { S.peaks self.new.store ≡ S.peaks self.old.store }
         ensures broken { self.new.books.broken ≡ Some (record { thread = work.thread; turns = length self.new.books.history.entries }) }
         ensures cause { self.new.books.cause ≡ first_cause self.old.books.cause cause }
         ensures core { (w : Worlds) → (w1 : Worlds) × (core_of w1 (S.meaning self.new.store) self.new.books ≡ with_cause cause (up_to_whole k (S.meaning self.old.store).segments (transaction w.own ((S.meaning self.old.store).part k) work) work.steps (core_with w k (S.meaning self.old.store) self.old.books work))) }
@@ -254,6 +266,7 @@ impl<'p, C: Client, S: SegStore, I: Source, O: Sink, E: Sink> Core<'p, C, S, I, 
         ensures core { (world : Worlds) → core_of world (S.meaning self.new.store) self.new.books ≡ with_cause cause (core_of world (S.meaning self.old.store) self.old.books) }
         ensures store { S.meaning self.new.store ≡ after_drop k (S.meaning self.old.store) }
         ensures reserved { S.reserved self.new.store ≡ S.reserved self.old.store }
+        ensures peaks { S.peaks self.new.store ≡ S.peaks self.old.store }
     {
         self.drop_out(k, work);
         self.books.keep(cause);
@@ -272,6 +285,7 @@ impl<'p, C: Client, S: SegStore, I: Source, O: Sink, E: Sink> Core<'p, C, S, I, 
         ensures count { CountsSteps self.new.spent self.new.books.history.entries }
         ensures shape { SameShape (S.meaning self.old.store) (S.meaning self.new.store) }
         ensures reserved { S.reserved self.new.store ≡ S.reserved self.old.store }
+        ensures peaks { S.peaks self.new.store ≡ S.peaks self.old.store }
         ensures cause { self.new.books.cause ≡ first_cause self.old.books.cause cause }
         ensures mortal { work.solo ≡ false → (self.new.books.broken ≡ self.old.books.broken) × ((w : Worlds) → core_of w (S.meaning self.new.store) self.new.books ≡ with_cause cause (core_of w (S.meaning self.old.store) self.old.books)) }
         ensures solo { work.solo ≡ true → (self.new.books.broken ≡ Some (record { thread = work.thread; turns = length self.new.books.history.entries }))
