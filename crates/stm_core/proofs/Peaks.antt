@@ -6,7 +6,7 @@ use Rattle.py_data.specs.declared.stop.Side.{Side}
 use Rattle.py_data.specs.declared.change.Change.{Change}
 use Rattle.py_data.specs.declared.stop.Conflict.{Conflict}
 use Rattle.py_data.specs.Changes.{after}
-use Rattle.py_data.specs.Heap.{Heap, at}
+use Rattle.py_data.specs.Heap.{Heap, Rec, at}
 use Rattle.py_data.specs.Row.{Edit}
 use Rattle.seg_store.specs.Extents.{extents, extents_of}
 use Rattle.seg_store.specs.Meaning.{Meaning, sees}
@@ -85,6 +85,12 @@ pub rises_wider : (p q : Option (ℕ → ℕ)) (most wide : ℕ → ℕ) → ((c
     IfTold p q (λ f g. RisesUpTo f g most) → IfTold p q (λ f g. RisesUpTo f g wide)
 rises_wider p q most wide l = told_weaker p q (λ f g. RisesUpTo f g most) (λ f g. RisesUpTo f g wide)
     (λ f g a c lo. elim (a c lo) [ inl x ↦ inl x | inr x ↦ let z = l c in inr (omega arith) ])
+
+-- a new record that was refused
+pub made_told : (p q : Option (ℕ → ℕ)) (m : Meaning) (r : Rec) → RisesTo p q (use_with m None r) →
+    IfTold p q (λ f g. RisesUpTo f g (λ c. in_use m c + extents r c))
+made_told p q m r a = rises_wider p q (use_with m None r) (λ c. in_use m c + extents r c) (λ c. omega arith)
+    (rises_to_told p q (use_with m None r) a)
 
 -- ---- calls of a segment's view
 

@@ -1,13 +1,14 @@
-use Rattle.std.proofs.Common.{None, sym, ◌∙◌, ap, subst, ◌≤◌}
+use Rattle.std.proofs.Common.{None, refl, sym, ◌∙◌, ap, subst, ◌≤◌}
 use Rattle.py_data.specs.Made.{rec_of}
-use Rattle.seg_store.specs.Extents.{Wants}
+use Rattle.seg_store.specs.Extents.{Wants, extents}
 use Rattle.stm_core.specs.Devices.{device_state}
 use Rattle.stm_core.specs.inner.Hold.{FaultWhy}
+use Rattle.stm_core.proofs.Peaks.{there_done, there_refused}
 use Rattle.stm_core.proofs.Seeing.{make_done, make_refused}
 use Rattle.stm_core.proofs.view.SegViewView.make.Goals as goal
 
 pub returns-in-Ok : goal.returns-in-Ok
-returns-in-Ok g c = (
+returns-in-Ok g c = ((
   make_done c.args.self.now.segment c.args.self.now.side (g.S.SegStore.meaning c.args.self.now.store.now)
       (g.S.SegStore.meaning c.name_made.new.self.store.now) (g.S.SegStore.reserved c.args.self.now.store.now)
       (g.S.SegStore.reserved c.name_made.new.self.store.now) c.args.self.now.books.now c.name_made.new.self.books.now
@@ -27,10 +28,14 @@ returns-in-Ok g c = (
     );
   },
   tt,
-)
+), there_done c.name_made.new.self.segment (g.S.SegStore.reserved c.name_made.new.self.store.now)
+      (g.S.SegStore.meaning c.name_made.new.self.store.now) c.name_made.new.self.books.now
+      c.name_made.new.self.progress.now (g.S.SegStore.peaks c.args.self.now.store.now)
+      (g.S.SegStore.peaks c.args.self.now.store.now) (g.S.SegStore.peaks c.name_made.new.self.store.now)
+      c.known.ensures.store c.name_made.new.self.fits refl c.in-Ok.ensures.peaks)
 
 pub returns-in-Err : goal.returns-in-Err
-returns-in-Err g c = (
+returns-in-Err g c = ((
   make_refused c.args.self.now.segment c.args.self.now.side (g.S.SegStore.meaning c.args.self.now.store.now)
       (g.S.SegStore.meaning c.refuse.new.self.store.now) (g.S.SegStore.reserved c.args.self.now.store.now)
       (g.S.SegStore.reserved c.refuse.new.self.store.now) c.args.self.now.books.now c.refuse.new.self.books.now
@@ -57,4 +62,9 @@ returns-in-Err g c = (
     );
   },
   tt,
-)
+), there_refused c.args.self.now.segment (g.S.SegStore.reserved c.name_made.new.self.store.now)
+      (g.S.SegStore.meaning c.args.self.now.store.now) (g.S.SegStore.meaning c.name_made.new.self.store.now)
+      c.args.self.now.books.now c.args.self.now.progress.now (extents (rec_of c.args.r.now))
+      (g.S.SegStore.peaks c.args.self.now.store.now) (g.S.SegStore.peaks c.name_made.new.self.store.now)
+      (g.S.SegStore.peaks c.refuse.new.self.store.now) c.known-in-Err.ensures.store c.in-Err.ensures.err
+      c.args.self.now.fits (ap g.S.SegStore.peaks c.refuse.ensures.store) c.in-Err.ensures.peaks_err)

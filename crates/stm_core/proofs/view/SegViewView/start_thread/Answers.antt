@@ -5,7 +5,7 @@ use Rattle.stm_core.proofs.Seeing.{start_done, start_refused}
 use Rattle.stm_core.proofs.view.SegViewView.start_thread.Goals as goal
 
 pub returns-in-Ok : goal.returns-in-Ok
-returns-in-Ok g c = (
+returns-in-Ok g c = ((
   start_done c.args.self.now.segment c.args.self.now.side (g.S.SegStore.meaning c.args.self.now.store.now)
       (g.S.SegStore.reserved c.args.self.now.store.now) c.args.self.now.books.now c.start.new.self
       c.args.self.now.progress.now c.start.new.progress
@@ -14,10 +14,10 @@ returns-in-Ok g c = (
   refl,
   record { segment_is = refl; me_is = refl; same_is = (refl, refl, refl, refl) },
   tt,
-)
+), refl)
 
 pub returns-in-Err : goal.returns-in-Err
-returns-in-Err g c = (
+returns-in-Err g c = ((
   start_refused c.args.self.now.segment c.args.self.now.side c.args.s (g.S.SegStore.meaning c.args.self.now.store.now)
       (g.S.SegStore.meaning c.fail.new.self.store.now) (g.S.SegStore.reserved c.args.self.now.store.now)
       (g.S.SegStore.reserved c.fail.new.self.store.now)
@@ -39,7 +39,7 @@ returns-in-Err g c = (
     );
   },
   tt,
-)
+), ap g.S.SegStore.peaks c.fail.ensures.store)
 
 pub invariant_of-self : goal.invariant_of-self
 invariant_of-self g c = record {
