@@ -1,10 +1,9 @@
 -- How peaks rise over calls of a store and of a segment's view.
-use Rattle.std.proofs.Common.{◌≡◌, ◌⊎◌, inl, inr, ℕ, ◌+◌, ◌-◌, ◌/◌, ◌≤◌, true, false, leb, max, List, Option, Some, None, refl, sym, ap, subst, ◌∙◌, arith, Result, OnErr}
+use Rattle.std.proofs.Common.{◌≡◌, ◌⊎◌, inl, inr, ℕ, ◌+◌, ◌-◌, ◌/◌, ◌≤◌, leb, max, Option, Some, None, sym, ap, subst, ◌∙◌, arith, Result, OnErr}
 use Rattle.std.proofs.lemmas.Result.{on_err_weaker}
 use Rattle.std.proofs.lemmas.Bool.{cases_Bool, leb-true, leb-false}
 use Rattle.py_data.specs.declared.stop.Side.{Side}
 use Rattle.py_data.specs.declared.change.Change.{Change}
-use Rattle.py_data.specs.declared.stop.Conflict.{Conflict}
 use Rattle.py_data.specs.Changes.{after}
 use Rattle.py_data.specs.Heap.{Heap, Rec, at}
 use Rattle.py_data.specs.Row.{Edit}
@@ -15,9 +14,8 @@ use Rattle.seg_store.specs.Telling.{in_use, use_with, Rises, RisesTo}
 use Rattle.stm_core.specs.declared.books.Progress.{Progress}
 use Rattle.stm_core.specs.declared.books.Books.{Books}
 use Rattle.stm_core.specs.Books.{Worlds, core_of, Fit}
-use Rattle.stm_core.specs.CoreState.{CoreState}
 use Rattle.stm_core.specs.InUse.{core_use, wants_more, RisesUpTo, IfTold}
-use Rattle.stm_core.specs.inner.Hold.{Hold, Dooms, Beside, Holds}
+use Rattle.stm_core.specs.inner.Hold.{Hold, Beside, Holds}
 use Rattle.stm_core.specs.inner.SegSense.{seg_use, RisesThere}
 use Rattle.stm_core.proofs.Used.{in_use_is, dooms_less}
 

@@ -1,5 +1,5 @@
 -- How the peaks of a view's store rise over a row: at most to what is in use at some place of it.
-use Rattle.std.proofs.Common.{◌≡◌, ◌⊎◌, inl, inr, ℕ, ◌+◌, ◌≤◌, Option, refl, sym, ap, subst, ◌∙◌, arith}
+use Rattle.std.proofs.Common.{◌≡◌, ◌⊎◌, inl, inr, ℕ, ◌+◌, ◌≤◌, Option, sym, ap, subst, arith}
 use Rattle.py_data.specs.declared.stop.Side.{Side}
 use Rattle.py_data.specs.declared.stop.Stop.{Stop}
 use Rattle.py_data.specs.Row.{Call, Reply, Row, Ret, Do, Read, Find, Edit, Make, Start, Put, Take, MidLine, SetMidLine}
@@ -11,7 +11,7 @@ use Rattle.stm_core.specs.Books.{Worlds}
 use Rattle.stm_core.specs.Devices.{DeviceState}
 use Rattle.stm_core.specs.InUse.{wants_more, next_more, RisesUpTo, IfTold}
 use Rattle.stm_core.specs.inner.Hold.{Hold}
-use Rattle.stm_core.specs.inner.SegSense.{seg_use, RisesThere, seg_sense, Tells, TellsRefused, told_sense}
+use Rattle.stm_core.specs.inner.SegSense.{seg_use, seg_sense, Tells, TellsRefused, told_sense}
 use Rattle.stm_core.proofs.Peaks.{told_same, told_then, rises_none}
 
 module _ {S X : Type 0} (hold : X → Hold S) (devices : X → DeviceState) (segment : X → ℕ) (me : X → Side)

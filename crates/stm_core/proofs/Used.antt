@@ -1,19 +1,18 @@
 -- What a core has in use: the store's count of it, and what dooms take away from it.
-use Rattle.std.proofs.Common.{◌≡◌, inl, inr, ℕ, zero, suc, ◌+◌, ◌-◌, ◌/◌, ◌<◌, ◌≤◌, Bool, true, false, cond, eqb, List, [], ◌∷◌, Option, Some, None, is_some, slice_get, refl, sym, ap, subst, ◌∙◌, arith}
+use Rattle.std.proofs.Common.{◌≡◌, inl, inr, ℕ, zero, suc, ◌+◌, ◌/◌, ◌<◌, ◌≤◌, Bool, true, false, cond, eqb, List, [], ◌∷◌, Option, Some, None, is_some, slice_get, refl, sym, ap, subst, ◌∙◌, arith}
 use Rattle.std.proofs.lemmas.Bool.{cases_Bool, both_ways, eqb-true, eqb-false, cond-true, cond-false}
 use Rattle.py_data.specs.declared.stop.Side.{Side}
 use Rattle.py_data.specs.declared.stop.Conflict.{Conflict}
 use Rattle.py_data.specs.Heap.{Heap, Rec}
 use Rattle.seg_store.specs.Meaning.{Meaning, over, sees, holds}
 use Rattle.seg_store.specs.Store.{IsStore}
-use Rattle.seg_store.specs.Extents.{extents_of}
 use Rattle.seg_store.specs.Sums.{sum_below, asked, gained}
 use Rattle.seg_store.specs.Telling.{in_use}
 use Rattle.stm_core.specs.declared.books.Progress.{Progress}
 use Rattle.stm_core.specs.declared.books.Books.{Books}
 use Rattle.stm_core.specs.declared.books.Hand.{Hand}
 use Rattle.stm_core.specs.declared.books.Hand.TheVariants as hand
-use Rattle.stm_core.specs.Books.{Worlds, is_running, segment_of, core_of, Fit}
+use Rattle.stm_core.specs.Books.{Worlds, is_running, segment_of, Fit}
 use Rattle.stm_core.specs.CoreState.{Segment, Doomed, CoreState, with_segment, with_conflict}
 use Rattle.stm_core.specs.InUse.{seg_view, core_use}
 use Rattle.stm_core.specs.inner.Hold.{Dooms}

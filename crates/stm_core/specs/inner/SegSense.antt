@@ -105,8 +105,8 @@ module _ {T X : Type 0} (hold : X → Hold T) (devices : X → DeviceState) (seg
     abbrev pub SamePeaks : X → X → Type 0
     SamePeaks v w = peaks w ≡ peaks v
 
-    -- A call that was done: a change and a new record let no peak pass what is in use once they are done, and the others
-    -- leave the peaks.
+    -- A call that was done: a change and a new record let no peak pass what is in use once they are done, and the
+    -- others leave the peaks.
     abbrev pub Tells : (c : Call T) → X → Reply c → X → Type 0
     Tells (Edit a x) v r w = RisesThere (segment w) (hold w).meaning (hold w).books (λ c. 0) (peaks v) (peaks w)
     Tells (Make q) v r w = RisesThere (segment w) (hold w).meaning (hold w).books (λ c. 0) (peaks v) (peaks w)

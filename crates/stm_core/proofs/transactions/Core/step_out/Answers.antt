@@ -75,10 +75,10 @@ cut_seg g row = seg_cut (hold g) (devices g) (segment g) (me g) (same g) (peaks 
 same_then_view : (g : given.Over) (c : goal.After-step-result g) → same g c.new-view.result c.step-result.new.v
 same_then_view g c =
     (step_keeps (hold g) (devices g) (segment g) (me g) (same g) (same_refl g) (same_then g) _ _ _ c.new-view.result _
-    _ c.step-result.result c.step-result.new.s c.step-result.new.v refl refl refl refl (done_seg g _ c.step-result.result
-    c.new-view.result c.step-result.new.s c.step-result.new.v c.step-result.ensures.ok)
-    (cut_seg g _ c.step-result.result
-    c.new-view.result c.step-result.new.v c.step-result.ensures.err)).same_is
+    _ c.step-result.result c.step-result.new.s c.step-result.new.v refl refl refl refl
+    (done_seg g _ c.step-result.result c.new-view.result c.step-result.new.s c.step-result.new.v
+    c.step-result.ensures.ok)
+    (cut_seg g _ c.step-result.result c.new-view.result c.step-result.new.v c.step-result.ensures.err)).same_is
 
 pub shape_of-self : goal.shape_of-self
 shape_of-self g c = sym ((same_then_view g c).3 ∙ c.new-view.ensures.refs.3)
@@ -102,9 +102,10 @@ kept g c =
     _ c.new-view.result (made_of g c) (told g c) c.step-result.result c.step-result.new.s c.step-result.new.v
     c.new-view.ensures.holds (ap (device_state g.I.Source.state g.O.Sink.state g.E.Sink.state)
     c.new-view.ensures.tells)
-    c.new-view.ensures.stays.0 c.new-view.ensures.stays.1 (done_seg g _ c.step-result.result
-    c.new-view.result c.step-result.new.s c.step-result.new.v c.step-result.ensures.ok) (cut_seg g _ c.step-result.result
-    c.new-view.result c.step-result.new.v c.step-result.ensures.err)
+    c.new-view.ensures.stays.0 c.new-view.ensures.stays.1
+    (done_seg g _ c.step-result.result c.new-view.result c.step-result.new.s c.step-result.new.v
+    c.step-result.ensures.ok)
+    (cut_seg g _ c.step-result.result c.new-view.result c.step-result.new.v c.step-result.ensures.err)
 
 fits : (g : given.Over) (c : goal.After-known g) →
     Fit c.args.k (hold g c.step-result.new.v).meaning (hold g c.step-result.new.v).books
@@ -152,8 +153,9 @@ returns-clause-life g c =
     c.step-result.new.s c.new-view.result o c.step-result.new.v c.new-view.ensures.stays.0
     c.new-view.ensures.stays.1 c.requires.lives
     (g.met.C.Client.asks_to_print c.args.self.now.client.now c.args.work.now.state)
-    (g.met.C.Client.outcomes c.args.self.now.client.now) h) (done_seg g _ c.step-result.result
-    c.new-view.result c.step-result.new.s c.step-result.new.v c.step-result.ensures.ok)
+    (g.met.C.Client.outcomes c.args.self.now.client.now) h)
+    (done_seg g _ c.step-result.result c.new-view.result c.step-result.new.s c.step-result.new.v
+    c.step-result.ensures.ok)
 
 pub returns-clause-done : goal.returns-clause-done
 returns-clause-done g c =
@@ -166,8 +168,9 @@ returns-clause-done g c =
     c.new-view.ensures.stays.0 (c.new-view.ensures.stays.1 ∙ c.side-side.ensures) h.1
     c.requires.fit (fits g c) c.known.ensures.store c.requires.lives
     (g.met.C.Client.asks_to_print c.args.self.now.client.now c.args.work.now.state) shown o
-    (g.met.C.Client.waits_quietly c.args.self.now.client.now) h.2) (done_seg g _ c.step-result.result
-    c.new-view.result c.step-result.new.s c.step-result.new.v c.step-result.ensures.ok)
+    (g.met.C.Client.waits_quietly c.args.self.now.client.now) h.2)
+    (done_seg g _ c.step-result.result c.new-view.result c.step-result.new.s c.step-result.new.v
+    c.step-result.ensures.ok)
 
 pub returns-clause-cut : goal.returns-clause-cut
 returns-clause-cut g c =
@@ -180,8 +183,7 @@ returns-clause-cut g c =
     c.new-view.ensures.stays.0 (c.new-view.ensures.stays.1 ∙ c.side-side.ensures) h.2
     c.requires.fit (fits g c) c.known.ensures.store c.requires.lives
     (g.met.C.Client.asks_to_print c.args.self.now.client.now c.args.work.now.state) shown stop state h.1 h.3 h.4)
-    (cut_seg g _ c.step-result.result
-    c.new-view.result c.step-result.new.v c.step-result.ensures.err) c.step-result.ensures.state
+    (cut_seg g _ c.step-result.result c.new-view.result c.step-result.new.v c.step-result.ensures.err) c.step-result.ensures.state
 
 pub returns-clause-broke : goal.returns-clause-broke
 returns-clause-broke g c =
@@ -194,8 +196,8 @@ returns-clause-broke g c =
     c.new-view.ensures.stays.0 (c.new-view.ensures.stays.1 ∙ c.side-side.ensures) h.2
     c.requires.fit (fits g c) c.known.ensures.store c.requires.lives
     (g.met.C.Client.asks_to_print c.args.self.now.client.now c.args.work.now.state) (λ y. shows) stop state h.1 h.3
-    h.4 solo) (cut_seg g _ c.step-result.result
-    c.new-view.result c.step-result.new.v c.step-result.ensures.err) c.step-result.ensures.state
+    h.4 solo)
+    (cut_seg g _ c.step-result.result c.new-view.result c.step-result.new.v c.step-result.ensures.err) c.step-result.ensures.state
 
 -- ---- how far the peaks rise
 
