@@ -183,7 +183,8 @@ returns-clause-cut g c =
     c.new-view.ensures.stays.0 (c.new-view.ensures.stays.1 ∙ c.side-side.ensures) h.2
     c.requires.fit (fits g c) c.known.ensures.store c.requires.lives
     (g.met.C.Client.asks_to_print c.args.self.now.client.now c.args.work.now.state) shown stop state h.1 h.3 h.4)
-    (cut_seg g _ c.step-result.result c.new-view.result c.step-result.new.v c.step-result.ensures.err) c.step-result.ensures.state
+    (cut_seg g _ c.step-result.result c.new-view.result c.step-result.new.v c.step-result.ensures.err)
+    c.step-result.ensures.state
 
 pub returns-clause-broke : goal.returns-clause-broke
 returns-clause-broke g c =
@@ -197,7 +198,8 @@ returns-clause-broke g c =
     c.requires.fit (fits g c) c.known.ensures.store c.requires.lives
     (g.met.C.Client.asks_to_print c.args.self.now.client.now c.args.work.now.state) (λ y. shows) stop state h.1 h.3
     h.4 solo)
-    (cut_seg g _ c.step-result.result c.new-view.result c.step-result.new.v c.step-result.ensures.err) c.step-result.ensures.state
+    (cut_seg g _ c.step-result.result c.new-view.result c.step-result.new.v c.step-result.ensures.err)
+    c.step-result.ensures.state
 
 -- ---- how far the peaks rise
 
