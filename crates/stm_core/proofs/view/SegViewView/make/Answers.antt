@@ -16,7 +16,8 @@ returns-in-Ok g c = (
         c.args.self.now.progress.now c.name_made.new.self.progress.now c.args.self.now.stopped
         c.name_made.new.self.stopped
         (rec_of c.args.r.now) c.in-Ok.n c.args.self.now.fits.out c.requires.live c.in-Ok.ensures.fresh
-        c.in-Ok.ensures.ok c.name_made.ensures.reserved c.name_made.ensures.books c.in-Ok.ensures.names c.name_made.ensures.stopped,
+        c.in-Ok.ensures.ok
+        c.name_made.ensures.reserved c.name_made.ensures.books c.in-Ok.ensures.names c.name_made.ensures.stopped,
     ap (λ z. device_state g.I.Source.state g.O.Sink.state g.E.Sink.state z.now) c.name_made.ensures.stays.2,
     record {
       segment_is = c.name_made.ensures.stays.0;
@@ -51,7 +52,8 @@ returns-in-Err g c = (
         (c.refuse.ensures.books ∙ c.name_made.ensures.books)
         (c.refuse.ensures.progress ∙ c.in-Err.ensures.same) c.refuse.ensures.same c.refuse.ensures.stopped
         (subst (λ n. FaultWhy (Wants None (rec_of c.args.r.now)) n
-        (g.S.SegStore.meaning c.args.self.now.store.now).limit c.in-Err.fault) (sym (ap g.S.SegStore.reserved c.refuse.ensures.store)) c.in-Err.ensures.cause),
+        (g.S.SegStore.meaning c.args.self.now.store.now).limit
+        c.in-Err.fault) (sym (ap g.S.SegStore.reserved c.refuse.ensures.store)) c.in-Err.ensures.cause),
     ap (λ z. device_state g.I.Source.state g.O.Sink.state g.E.Sink.state z.now)
         (c.refuse.ensures.stays.2 ∙ c.name_made.ensures.stays.2),
     record {
