@@ -5,6 +5,8 @@ pub mod New
 pub mod Looking
 pub mod Fits
 pub mod Holding
+pub mod Used
+pub mod Peaks
 pub mod Changing
 pub mod Seeing
 pub mod Telling
@@ -16,6 +18,8 @@ pub mod Stopping
 pub mod Wholes
 pub mod Soundness
 pub mod Afresh
+pub mod Richer
+pub mod RowPeaks
 pub mod StepOut
 pub mod Pausing
 pub mod Advancing
