@@ -40,6 +40,7 @@ pub mod Endings
 pub mod Advanced
 pub mod Calling
 pub mod TakenSteps
+pub mod PeaksRising
 pub mod EventSteps
 pub mod PieceEvents
 pub mod OutsideLemmas
