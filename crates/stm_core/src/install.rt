@@ -64,7 +64,7 @@ impl<'p, C: Client, S: SegStore, I: Source, O: Sink, E: Sink> Core<'p, C, S, I, 
         ensures count { CountsSteps self.new.spent self.new.books.history.entries }
         ensures shape { SameShape (S.meaning self.old.store) (S.meaning self.new.store) }
         ensures reserved { S.reserved self.old.store ≤ S.reserved self.new.store }
-        ensures peaks { IfTold (S.peaks self.old.store) (S.peaks self.new.store) NoneRises }
+        ensures peaks { S.peaks self.new.store ≡ S.peaks self.old.store }
         ensures steps { IfOk result (λ n. n ≡ steps) }
         ensures ok { OnOk result (HasPutIn k edits.now steps last (S.meaning self.old.store) self.old.books work (S.meaning self.new.store) self.new.books) }
         ensures err { OnErr result (HasFailed k (S.meaning self.old.store) self.old.books work (S.meaning self.new.store) self.new.books) }
