@@ -58,14 +58,7 @@ told_then (Some f) None c P Q R j s t = absurd s
 told_then None None (Some h) P Q R j s t = absurd t
 told_then (Some f) (Some g) None P Q R j s t = absurd t
 
--- ---- that none rose
-
-pub none_then : (a b c : Option Peaks) → IfTold a b NoneRises → IfTold b c NoneRises → IfTold a c NoneRises
-none_then a b c = told_then a b c NoneRises NoneRises NoneRises go
-  where
-    go : (f g h : Peaks) → NoneRises f g → NoneRises g h → NoneRises f h
-    go f g h s t cl le = let x = s cl le in let y = t cl le in omega (arith, x, y)
-
+-- none of the same peaks rose
 pub none_same : (a b : Option Peaks) → b ≡ a → IfTold a b NoneRises
 none_same a b e = told_same a b NoneRises (λ f cl le. omega arith) e
 

@@ -172,21 +172,25 @@ returns-in-Err-clause-sane g c =
     (tried_none (g.C.Client.prog c.args.self.now.client.now) c.args.length c.args.k true c0))
 
 pub returns-in-Ok-Waits-clause-peaks : goal.returns-in-Ok-Waits-clause-peaks
-returns-in-Ok-Waits-clause-peaks g c = λ t e w shown. step_told (g.C.Client.prog c.args.self.now.client.now) c.args.length
-    c.args.k w (g.S.SegStore.meaning c.args.self.now.store) c.args.self.now.books c.args.work.now c.requires.lives
+returns-in-Ok-Waits-clause-peaks g c = λ t e w shown.
+    step_told (g.C.Client.prog c.args.self.now.client.now) c.args.length c.args.k w
+    (g.S.SegStore.meaning c.args.self.now.store) c.args.self.now.books c.args.work.now c.requires.lives
     (let q = c.requires.short in omega (arith, q)) _ _ (c.step_out.ensures.peaks t e w shown)
 
 pub returns-in-Ok-Done-clause-peaks : goal.returns-in-Ok-Done-clause-peaks
-returns-in-Ok-Done-clause-peaks g c = λ t e w shown. step_told (g.C.Client.prog c.args.self.now.client.now) c.args.length
-    c.args.k w (g.S.SegStore.meaning c.args.self.now.store) c.args.self.now.books c.args.work.now c.requires.lives
+returns-in-Ok-Done-clause-peaks g c = λ t e w shown.
+    step_told (g.C.Client.prog c.args.self.now.client.now) c.args.length c.args.k w
+    (g.S.SegStore.meaning c.args.self.now.store) c.args.self.now.books c.args.work.now c.requires.lives
     (let q = c.requires.short in omega (arith, q)) _ _ (c.step_out.ensures.peaks t e w shown)
 
 pub returns-in-Ok-Ended-clause-peaks : goal.returns-in-Ok-Ended-clause-peaks
-returns-in-Ok-Ended-clause-peaks g c = λ t e w shown. step_told (g.C.Client.prog c.args.self.now.client.now) c.args.length
-    c.args.k w (g.S.SegStore.meaning c.args.self.now.store) c.args.self.now.books c.args.work.now c.requires.lives
+returns-in-Ok-Ended-clause-peaks g c = λ t e w shown.
+    step_told (g.C.Client.prog c.args.self.now.client.now) c.args.length c.args.k w
+    (g.S.SegStore.meaning c.args.self.now.store) c.args.self.now.books c.args.work.now c.requires.lives
     (let q = c.requires.short in omega (arith, q)) _ _ (c.step_out.ensures.peaks t e w shown)
 
 pub returns-in-Err-clause-peaks : goal.returns-in-Err-clause-peaks
-returns-in-Err-clause-peaks g c = λ t e w shown. step_told (g.C.Client.prog c.args.self.now.client.now) c.args.length
-    c.args.k w (g.S.SegStore.meaning c.args.self.now.store) c.args.self.now.books c.args.work.now c.requires.lives
+returns-in-Err-clause-peaks g c = λ t e w shown.
+    step_told (g.C.Client.prog c.args.self.now.client.now) c.args.length c.args.k w
+    (g.S.SegStore.meaning c.args.self.now.store) c.args.self.now.books c.args.work.now c.requires.lives
     (let q = c.requires.short in omega (arith, q)) _ _ (c.step_out.ensures.peaks t e w shown)
