@@ -17,7 +17,7 @@ use Rattle.stm_core.specs.Devices.{DeviceState, Shown}
 use Rattle.stm_core.specs.Books.{Worlds, with_own, transaction}
 use Rattle.stm_core.specs.Outside.{Outer}
 use Rattle.stm_core.specs.SaneCore.{StandsFor}
-use Rattle.stm_core.specs.InUse.{IfTold, NoneRises, Moment, used_then, RisesWithin}
+use Rattle.stm_core.specs.InUse.{IfTold, Moment, used_then, RisesWithin}
 use Rattle.stm_core.specs.inner.Whole.{SameShape}
 use Rattle.stm_core.specs.inner.Trying.{core_with}
 use Rattle.stm_core.specs.inner.Pausing.{Paused}
@@ -57,10 +57,6 @@ told_then None (Some g) c P Q R j s t = absurd s
 told_then (Some f) None c P Q R j s t = absurd s
 told_then None None (Some h) P Q R j s t = absurd t
 told_then (Some f) (Some g) None P Q R j s t = absurd t
-
--- none of the same peaks rose
-pub none_same : (a b : Option Peaks) → b ≡ a → IfTold a b NoneRises
-none_same a b e = told_same a b NoneRises (λ f cl le. omega arith) e
 
 -- ---- steps of a transaction
 

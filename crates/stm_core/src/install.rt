@@ -35,7 +35,6 @@ impl<'p, C: Client, S: SegStore, I: Source, O: Sink, E: Sink> Core<'p, C, S, I, 
     ghost use Rattle.stm_core.specs.Begun.{CountsSteps};
     ghost use Rattle.stm_core.specs.Books.{Fit};
     ghost use Rattle.stm_core.specs.CoreHeld.{core_client, core_limits, core_store, Says, Leads, IsGoodCore, SameJob};
-    ghost use Rattle.stm_core.specs.InUse.{IfTold, NoneRises};
     ghost use Rattle.stm_core.specs.Pieces.{FitsSegment, IsInstalled};
     ghost use Rattle.stm_core.specs.inner.PutIn.{HasPutIn, HasFailed};
     ghost use Rattle.stm_core.specs.inner.Replayed.{CanReplay};
@@ -99,7 +98,7 @@ impl<'p, C: Client, S: SegStore, I: Source, O: Sink, E: Sink> Core<'p, C, S, I, 
         ensures job { SameJob S.meaning self.old self.new }
         ensures installed { Leads I.state O.state E.state C.prog S.meaning self.old self.new
             (λ o o1. IsInstalled (C.prog (core_client self.old)) (core_limits S.meaning self.old).length k (core_limits S.meaning self.old).segments (S.reserved self.new.store) (core_limits S.meaning self.old).words (piece_state p.view).loaned (piece_state p.view).heap p.steps (last_of p.start p.last) result o o1) }
-        ensures peaks { IfTold (S.peaks (core_store self.old)) (S.peaks (core_store self.new)) NoneRises }
+        ensures peaks { S.peaks (core_store self.new) ≡ S.peaks (core_store self.old) }
     {
         self.store.known();
         match self.books.take(k) {
