@@ -1,5 +1,5 @@
 -- What pieces, loans and the end keep of what explains a core's peaks.
-use Rattle.std.proofs.Common.{◌≡◌, inl, inr, ℕ, ◌≤◌, Bool, true, false, Some, Result, Ok, Err, refl, sym, ap, subst}
+use Rattle.std.proofs.Common.{◌≡◌, inl, inr, ℕ, Bool, true, false, Result, Ok, Err, refl, sym, subst}
 use Rattle.std.specs.declared.alloc.AllocError.{AllocError}
 use Rattle.py_data.specs.Heap.{Heap}
 use Rattle.lock_run.specs.Prog.{Prog}
@@ -9,15 +9,13 @@ use Rattle.stm_core.specs.declared.answers.LoanError.{LoanError}
 use Rattle.stm_core.specs.declared.answers.LoanError.TheVariants as error
 use Rattle.stm_core.specs.declared.cause.Cause.TheVariants.{OutOfMemory}
 use Rattle.stm_core.specs.Advanced.{with_cause, Fails}
-use Rattle.stm_core.specs.CoreState.{Transaction, Idle, Running, CoreState, committed, with_segment}
+use Rattle.stm_core.specs.CoreState.{Transaction, Idle, Running, CoreState, with_segment}
 use Rattle.stm_core.specs.Finishing.{idle_core, SettlesSolo}
 use Rattle.stm_core.specs.Good.{Good}
-use Rattle.stm_core.specs.InUse.{NoneRises}
 use Rattle.stm_core.specs.Outside.{Outer}
 use Rattle.stm_core.specs.Pieces.{IsInstalled, IsLoaned}
 use Rattle.heap_bound.specs.Laws.{InstallLaw, LoanLaw, EndLaw}
 use Rattle.heap_bound.specs.Moments.{IsExplained}
-use Rattle.heap_bound.specs.Using.{Lifts}
 use Rattle.heap_bound.proofs.Calling.{committed_explained, whole_explained}
 use Rattle.heap_bound.proofs.Explaining.{explained_same, explained_kept, explained_still}
 

@@ -1,12 +1,12 @@
 -- From how far peaks rise at moments within the steps of a transaction to what was in use at once.
-use Rattle.std.proofs.Common.{◌≡◌, ◌⊎◌, inl, inr, ℕ, ◌+◌, ◌<◌, ◌≤◌, List, subst, arith}
+use Rattle.std.proofs.Common.{◌⊎◌, inl, inr, ℕ, ◌+◌, ◌<◌, ◌≤◌, List, subst, arith}
 use Rattle.py_data.specs.Heap.{Heap}
 use Rattle.lock_run.specs.Client.{WaitsQuietly, StaysSound, IsSafe}
 use Rattle.lock_run.specs.Prog.{Prog}
 use Rattle.lock_run.specs.Machine.{Machine}
 use Rattle.stm_core.specs.CoreState.{CoreState, committed}
 use Rattle.stm_core.specs.Good.{Good}
-use Rattle.stm_core.specs.InUse.{core_use, next_more, Moment, RisesWithin}
+use Rattle.stm_core.specs.InUse.{core_use, next_more, Moment}
 use Rattle.heap_bound.specs.Laws.{IsStart, WithinLaw}
 use Rattle.heap_bound.specs.Moments.{InUse}
 use Rattle.heap_bound.proofs.Calling.{GoodAfter}

@@ -1,6 +1,5 @@
 -- What a call of a core makes of what explains its peaks, by the laws of the bound on a full heap.
-use Rattle.std.proofs.Common.{◌≡◌, ℕ, ◌<◌, ◌≤◌, List, Option, Some, None, refl, sym, subst}
-use Rattle.py_data.specs.Heap.{Heap}
+use Rattle.std.proofs.Common.{◌≡◌, ℕ, Option, Some, None, sym, subst}
 use Rattle.stm_io.specs.Outside.{SourceState, SinkState}
 use Rattle.lock_run.specs.Machine.{Machine, begin_with}
 use Rattle.lock_run.specs.Prog.{Prog}

@@ -1,4 +1,3 @@
-use Rattle.stm_core.specs.CoreHeld.{core_limits}
 use Rattle.stm_pieces.specs.Ends.{last_of}
 use Rattle.stm_pieces.specs.PieceOf.{piece_state}
 use Rattle.stm_workers.specs.inner.GrowthLaws.{grows_same}
