@@ -88,6 +88,19 @@ module _ {S : Type 0} (p : Prog S) (start : Machine S) (most segments : ℕ) whe
           (sym commit_history) (wanted_later p start most u.history (turn_of x ∷ []) (committed u)
           (committed (after_commit k x js u)) (Some c) w commit_runs)
 
+    -- a commit up to the last whole step, for a cause
+    pub whole_explained : (k n : ℕ) (x : Transaction S) (c : Cause) → u.segments k ≡ Running x →
+        WantedBy p start most u.history (committed u) (Some c) → (j : ℕ) → x.steps ≡ j →
+        IsExplained p start most segments f (record (up_to_whole k n x j u) { cause = first_cause u.cause c })
+    whole_explained k n x c is w zero q = explained_kept p start most segments u
+        (record (with_segment k Idle u) { cause = first_cause u.cause c }) f c e w refl refl refl
+    whole_explained k n x c is w (suc j) q =
+        let js = range_with_len 0 n in
+        let some : 1 ≤ x.steps = omega (arith, q) in
+        explained_kept p start most segments (after_commit k x js u)
+        (record (after_commit k x js u) { cause = first_cause u.cause c }) f c (commit_explained k x js is some)
+        (commit_wanted k x js is some c w) refl refl (ap (λ z. first_cause z c) (sym (readers_doomed k x js u).cause))
+
     -- ---- the calls that leave the peaks
 
     pub begun_explained : (k t budget : ℕ) (r : Result (Unit {0}) BeginError) (c1 : CoreState S) →
@@ -193,27 +206,14 @@ module _ {S : Type 0} (p : Prog S) (sound : Heap → List S → Type 0) (law : S
       here : (z : Outer S) → o1 ≡ z → Explained z.core → Explained o1.core
       here z q w = subst (λ (y : Outer S). Explained y.core) (sym q) w
 
-      whole : (c : Cause) → MayStep p most v.core k x →
-          WantedBy p start most v.core.history (committed v.core) (Some c) → (j : ℕ) → x.steps ≡ j →
-          Explained (record (up_to_whole k n x j v.core) { cause = first_cause v.core.cause c })
-      whole c m w zero q = explained_kept p start most segments v.core
-          (record (with_segment k Idle v.core) { cause = first_cause v.core.cause c }) g c e w refl refl refl
-      whole c m w (suc j) q =
-          let js = range_with_len 0 n in
-          let some : 1 ≤ x.steps = omega (arith, q) in
-          explained_kept p start most segments (after_commit k x js v.core)
-          (record (after_commit k x js v.core) { cause = first_cause v.core.cause c }) g c
-          (commit_explained p start most segments g v.core good e k x js m.runs some)
-          (commit_wanted p start most segments g v.core good e k x js m.runs some c w) refl refl
-          (ap (λ z. first_cause z c) (sym (readers_doomed k x js v.core).cause))
-
       failed : MayStep p most v.core k x → (solo : Bool) (c : Cause) → Fails solo p k n reserved limit c v x o1 →
           Explained o1.core
       failed m false c w = here (record v { core = with_cause c (with_segment k Idle v.core) }) w.1
           (explained_kept p start most segments v.core (with_cause c (with_segment k Idle v.core)) g c e
           (step_wanted v.core good x m c w.0) refl refl refl)
       failed m true c w = subst (λ (y : Outer S). Explained y.core) (sym w.1.gives)
-          (whole c m (solo_wanted v.core good x m c w.0) x.steps refl)
+          (whole_explained p start most segments g v.core good e k n x c m.runs (solo_wanted v.core good x m c w.0) x.steps
+          refl)
 
       ends : v.core.segments k ≡ Running x → (asked done : ℕ) → (done < asked → suc x.steps ≤ most) →
           (r : Result Advance AdvanceError) → CountsDone asked done r → Ends p k n reserved limit v x r o1 →

@@ -93,6 +93,19 @@ pub explained_same : {S : Type 0} (p : Prog S) (start : Machine S) (most segment
 explained_same p start most segments k k1 f g good e lift h m c =
     explained_after p start most segments k k1 f g [] good e lift (h ∙ sym (append-nil k.history)) m c
 
+-- and the same peaks
+pub explained_still : {S : Type 0} (p : Prog S) (start : Machine S) (most segments : ℕ) (f : ℕ → ℕ) (k k1 : CoreState S)
+    → IsExplained p start most segments f k → k1.history ≡ k.history → committed k1 ≡ committed k →
+    k1.cause ≡ k.cause → IsExplained p start most segments f k1
+explained_still {S} p start most segments f k k1 e h m c = record {
+  peak = λ cl lo. subst (λ l. Once p start l (committed k1) (λ z. InUse p most segments z cl (f cl))) (sym h)
+      (subst (λ (z : Machine S). Once p start k.history z (λ y. InUse p most segments y cl (f cl))) (sym m)
+      (e.peak cl lo));
+  kept = subst (WantedBy p start most k1.history (committed k1)) (sym c)
+      (subst (λ l. WantedBy p start most l (committed k1) k.cause) (sym h)
+      (subst (λ (z : Machine S). WantedBy p start most k.history z k.cause) (sym m) e.kept));
+}
+
 -- with a cause kept, unless one was kept before
 pub explained_kept : {S : Type 0} (p : Prog S) (start : Machine S) (most segments : ℕ) (k k1 : CoreState S)
     (f : ℕ → ℕ) (e : Cause) → IsExplained p start most segments f k →

@@ -8,3 +8,5 @@ mod Bounding
 mod Explaining
 mod Unmoved
 mod Calling
+mod Within
+mod EndCalls

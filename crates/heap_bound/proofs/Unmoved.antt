@@ -1,11 +1,12 @@
 -- Moves but commits leave the history and the committed state, and so do the steps that a call tried.
 use Rattle.std.proofs.Common.{◌≡◌, ℕ, Bool, true, false, cond, eqb, List, [], ◌∷◌, map, Option, Some, None, All, refl, sym, subst, ◌∙◌}
-use Rattle.std.proofs.lemmas.List.Elements.{All-append, All-cons, All-nil, All-head, All-tail}
+use Rattle.std.proofs.lemmas.List.Elements.{All-append, All-cons, All-nil, All-head, All-tail, All-weaker}
 use Rattle.py_data.specs.declared.stop.Conflict.{Conflict}
 use Rattle.py_data.specs.Heap.{Heap}
 use Rattle.py_data.specs.World.{World}
 use Rattle.lock_run.specs.Prog.{Prog}
 use Rattle.stm_core.specs.Advance.{Try, moves_of, IsStepOf, IsTry, Tried}
+use Rattle.stm_core.specs.Advanced.{IsOwn, Led}
 use Rattle.stm_core.specs.CoreState.{Transaction, Segment, Idle, Doomed, Running, CoreState, committed}
 use Rattle.stm_core.specs.Moves.{Move, Begins, Drops, Dooms, Loses, Goes, Rests, Commits, Keeps, Next, Follows}
 use Rattle.stm_core.specs.Passes.{met, doom_met, doom_one, doom_readers}
@@ -68,6 +69,20 @@ module _ {S : Type 0} (p : Prog S) (most : ℕ) where
     pub tried_leaves : (done : Bool) (n : ℕ) (c c1 : CoreState S) → Tried p most k done n c c1 → SameRun c c1
     tried_leaves done n c c1 t = follows_leaves (moves_of t.tries) c c1
         (tries_go c.image c.world done t.tries t.kinds) t.follows
+
+    -- moves by which one segment goes on
+    own_goes : (mv : Move S) → IsOwn k mv → IsNoCommit mv
+    own_goes (Commits i x) h = absurd h
+    own_goes (Begins i t q) h = tt
+    own_goes (Drops i) h = tt
+    own_goes (Dooms f) h = tt
+    own_goes (Loses f) h = tt
+    own_goes (Goes i x x1) h = tt
+    own_goes (Rests i x x1) h = tt
+    own_goes (Keeps e) h = tt
+
+    pub led_leaves : (c c1 : CoreState S) → Led p most k c c1 → SameRun c c1
+    led_leaves c c1 l = follows_leaves l.moves c c1 (All-weaker (IsOwn k) IsNoCommit own_goes l.moves l.own) l.follows
 
 pub both_leave : {S : Type 0} (c u v : CoreState S) → SameRun c u → SameRun u v → SameRun c v
 both_leave c u v a b = same_then c u v a b

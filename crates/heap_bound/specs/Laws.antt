@@ -1,5 +1,6 @@
 -- Laws of the bound on a full heap, in the words in which `src/laws.rt` ensures them.
 -- States `docs/HEAP.md`, "The bound on a full heap".
+use Rattle.std.specs.declared.alloc.AllocError.{AllocError}
 use Rattle.std.specs.Prelude.{◌≡◌, ℕ, suc, ◌+◌, ◌/◌, ◌<◌, ◌≤◌, List, Some, None, Result}
 use Rattle.py_data.specs.declared.stop.Conflict.{Conflict}
 use Rattle.py_data.specs.Heap.{Heap}
@@ -20,6 +21,7 @@ use Rattle.stm_core.specs.declared.books.Progress.{Progress}
 use Rattle.stm_core.specs.Books.{Worlds, core_of, Fit}
 use Rattle.stm_core.specs.declared.answers.Advance.{Advance}
 use Rattle.stm_core.specs.declared.answers.AdvanceError.{AdvanceError}
+use Rattle.stm_core.specs.declared.answers.LoanError.{LoanError}
 use Rattle.stm_core.specs.declared.begin.BeginError.{BeginError}
 use Rattle.stm_core.specs.declared.commit.Commit.{Commit}
 use Rattle.stm_core.specs.declared.solo.SoloError.{SoloError}
@@ -27,7 +29,10 @@ use Rattle.stm_core.specs.declared.cause.Cause.TheVariants.{Full}
 use Rattle.stm_core.specs.Advanced.{Advanced}
 use Rattle.stm_core.specs.Begun.{Begun}
 use Rattle.stm_core.specs.Committed.{Committed}
+use Rattle.stm_core.specs.Finishing.{idle_core, SettlesSolo}
+use Rattle.stm_core.specs.InUse.{core_use, next_more, RisesUpTo, NoneRises, RisesWithin}
 use Rattle.stm_core.specs.Outside.{Outer, OuterMove, OuterNext}
+use Rattle.stm_core.specs.Pieces.{IsInstalled, IsLoaned}
 use Rattle.stm_core.specs.Solo.{Soloed}
 use Rattle.stm_core.specs.Asking.{CallWants}
 use Rattle.stm_core.specs.CoreState.{Transaction, CoreState, Running, committed, sight_of, core_new}
@@ -35,7 +40,7 @@ use Rattle.stm_core.specs.Good.{Good}
 use Rattle.stm_core.specs.Moves.{Move, Next}
 use Rattle.heap_bound.specs.Growth.{IsNearlyFull}
 use Rattle.heap_bound.specs.Moments.{IsAsked, IsWanted, IsExplained}
-use Rattle.stm_core.specs.InUse.{core_use, next_more, RisesUpTo}
+use Rattle.stm_pieces.specs.declared.loan.Loan.{Loan}
 use Rattle.heap_bound.specs.Using.{Lifts, KeepsWanted, OuterWanted}
 
 -- ---- a step that was cut asked for no more than some whole step
@@ -145,6 +150,13 @@ BoundLaw S =
 
 -- ---- what each call of a core keeps
 
+-- Where peaks rose only to what was in use at moments within the steps of one segment's transaction, from a state of
+-- the core on, they rose to what was in use at once, from its committed state on.
+abbrev pub WithinLaw : {S : Type 0} → Prog S → (Heap → List S → Type 0) → Type 0
+WithinLaw {S} p sound =
+    (start : Machine S) → IsStart sound start → (most segments n i : ℕ) (k : CoreState S) → Good p start most k →
+    i < segments → (f g : ℕ → ℕ) → RisesWithin p most n segments i k f g → Lifts p most segments (committed k) f g
+
 -- of a call of `advance`, in which peaks rise to what is in use at once, from the committed state on
 abbrev pub AdvanceLaw : {S : Type 0} → Prog S → (Heap → List S → Type 0) → Type 0
 AdvanceLaw {S} p sound =
@@ -171,3 +183,27 @@ CommitLaw S =
     (p : Prog S) (start : Machine S) (most segments : ℕ) (f : ℕ → ℕ) (c : CoreState S) → Good p start most c →
     IsExplained p start most segments f c → (k n : ℕ) (r : Result Commit Conflict) (c1 : CoreState S) →
     Committed p k n r c c1 → IsExplained p start most segments f c1
+
+-- ---- what pieces and the end keep
+
+-- a piece is installed, or given up for want of memory, and no peak rises
+abbrev pub InstallLaw : Type 0 → Type 0
+InstallLaw S =
+    (p : Prog S) (start : Machine S) (most segments : ℕ) (f g : ℕ → ℕ) (o o1 : Outer S) → Good p start most o.core →
+    IsExplained p start most segments f o.core → NoneRises f g → (k n reserved limit : ℕ) (loaned left : Heap)
+    (steps : ℕ) (last : S) (r : Result ℕ AllocError)
+    → IsInstalled p most k n reserved limit loaned left steps last r o o1 → IsExplained p start most segments g o1.core
+
+-- a segment is asked for a loan
+abbrev pub LoanLaw : Type 0 → Type 0
+LoanLaw S =
+    (p : Prog S) (start : Machine S) (most segments : ℕ) (f : ℕ → ℕ) (o o1 : Outer S) → Good p start most o.core →
+    IsExplained p start most segments f o.core → (k : ℕ) (r : Result (Loan S) LoanError) →
+    IsLoaned p most k r o o1 → IsExplained p start most segments f o1.core
+
+-- the solo transaction is committed, if there is one, and what else runs is dropped
+abbrev pub EndLaw : Type 0 → Type 0
+EndLaw S =
+    (p : Prog S) (start : Machine S) (most segments : ℕ) (f : ℕ → ℕ) (o o1 : Outer S) → Good p start most o.core →
+    IsExplained p start most segments f o.core → (n : ℕ) → SettlesSolo p n o o1 →
+    IsExplained p start most segments f (idle_core o1.core)

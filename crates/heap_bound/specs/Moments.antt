@@ -1,6 +1,6 @@
 -- At which moments so many extents were in use, and when words were wanted: why a store's peaks are what they are, and
 -- why a kept full heap wanted what it tells. States `docs/HEAP.md`, "The bound on a full heap".
-use Rattle.std.specs.Prelude.{◌≡◌, ◌⊎◌, ℕ, ◌+◌, ◌^◌, ◌<◌, ◌≤◌, List, ◌++◌, Option, Some, slice_get}
+use Rattle.std.specs.Prelude.{◌≡◌, ◌⊎◌, ℕ, ◌+◌, ◌^◌, ◌<◌, ◌≤◌, List, ◌++◌, Option, Some, None, slice_get}
 use Rattle.py_data.specs.Heap.{Heap}
 use Rattle.py_data.specs.Sight.{Sight, opened}
 use Rattle.lock_run.specs.declared.turn.Turn.{Turn}
@@ -72,3 +72,8 @@ pub record IsExplained {S : Type 0} (p : Prog S) (start : Machine S) (most segme
   pub peak : (c : ℕ) → 1 ≤ c →
       Once p start k.history (committed k) (λ m. InUse p most segments m c (peaks c))
   pub kept : WantedBy p start most k.history (committed k) k.cause
+
+-- a store tells its peaks, and these and a kept full heap are explained
+abbrev pub AreExplained : {S : Type 0} → Prog S → Machine S → (most segments : ℕ) → Option (ℕ → ℕ) → CoreState S → Type 0
+AreExplained p start most segments None k = ⊥
+AreExplained p start most segments (Some f) k = IsExplained p start most segments f k

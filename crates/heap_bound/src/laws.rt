@@ -1,6 +1,6 @@
 //! Laws of the bound on a full heap, as contracts: a call of such a function does nothing, and gives its caller's proof
 //! the facts of its clauses.
-ghost use Rattle.heap_bound.specs.Laws.{PlaceLaw, NextLaw, KeptLaw, RiseLaw, StoreLaw, UseLaw, TellsLaw, TellsRefusedLaw, ChainLaw, NewLaw, MoveLaw, OuterLaw, BoundLaw, AdvanceLaw, BeginLaw, SoloLaw, CommitLaw};
+ghost use Rattle.heap_bound.specs.Laws.{PlaceLaw, NextLaw, KeptLaw, RiseLaw, StoreLaw, UseLaw, TellsLaw, TellsRefusedLaw, ChainLaw, NewLaw, MoveLaw, OuterLaw, BoundLaw, WithinLaw, AdvanceLaw, BeginLaw, SoloLaw, CommitLaw, InstallLaw, LoanLaw, EndLaw};
 
 use lock_run::Client;
 use stm_core::good_law;
@@ -34,8 +34,10 @@ pub fn full_law<S>()
 {}
 
 /// A call of `advance` keeps the peaks and a kept full heap explained, where peaks rise to what was in use at once,
-/// from the committed state on; and each other call does, which leaves the peaks.
+/// from the committed state on, as they do where they rise to what was in use at moments within its steps; and each
+/// other call does, which leaves the peaks.
 pub fn call_law<C: Client>(client: &C)
+    ensures within { WithinLaw (C.prog client.now) (C.sound client.now) }
     ensures advance { AdvanceLaw (C.prog client.now) (C.sound client.now) }
     ensures begin { BeginLaw C.State }
     ensures solo { SoloLaw C.State }
@@ -43,3 +45,11 @@ pub fn call_law<C: Client>(client: &C)
 {
     good_law::<C::State>();
 }
+
+/// Installing a piece keeps the peaks and a kept full heap explained, where no peak rises; and so do a loan and the end,
+/// which leave the peaks.
+pub fn piece_law<S>()
+    ensures install { InstallLaw S }
+    ensures loan { LoanLaw S }
+    ensures end { EndLaw S }
+{}

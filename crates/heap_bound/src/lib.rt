@@ -4,4 +4,4 @@
 
 mod laws;
 
-pub use laws::{call_law, cut_law, full_law, use_law};
+pub use laws::{call_law, cut_law, full_law, piece_law, use_law};

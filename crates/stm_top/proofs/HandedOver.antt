@@ -28,6 +28,7 @@ use Rattle.stm_top.specs.declared.answer.Answer.TheVariants.{Done, Failed, Input
 use Rattle.stm_top.specs.Serial.{Ended, Whole, Cut, Serial, IsWhole, IsCutBy}
 use Rattle.stm_top.specs.TopCall.{Devices, Told, IsLeft, Faults, faults_of, RunEnded}
 use Rattle.stm_top.specs.inner.Ending.{answer_to, AnswerTo, RunEnds}
+use Rattle.stm_top.proofs.FullHeap.{NearlyFullAt}
 
 -- ---- how the telling to the devices ended
 module _ {S : Type 0} (p : Prog S) (first : Machine S) (most : ℕ) (o : Outer S) (h : Kept p first most o)
@@ -130,15 +131,18 @@ module _ {S : Type 0} (p : Prog S) (l : Limits) (a b : Devices) (mid was : Bool)
       (run_of s history conflicts h)
 
   -- a cause that was kept
-  module _ (full : IsFullKept reserved m.limit o1.core.cause) (words : m.limit ≡ l.words) where
+  module _ (full : IsFullKept reserved m.limit o1.core.cause) (words : m.limit ≡ l.words)
+      (nearly : NearlyFullAt p l a.input.told o1.core) where
     caused_end : (e : Cause) (history : List Turn) (conflicts : List Conflict)
         (h : Handed (state.Faulted e) history conflicts) → EndsAt (state.Faulted e) history conflicts h (answer_to e)
+    unfolding run_of
     caused_end (cause.Full r n x) history conflicts h =
         let f = subst (λ z. IsFullKept reserved m.limit z) h.outcome full in (
           lives (state.Faulted (cause.Full r n x)) history conflicts h (cause.Full r n x) h.outcome,
           f.0 ∙ words,
           f.2,
           (reserved, refl, f.1),
+          nearly r n x h.outcome,
         )
     caused_end cause.ReadFault history conflicts h = (
       cut_by (state.Faulted cause.ReadFault) history conflicts h cause.ReadFault h.outcome refl,
@@ -158,7 +162,7 @@ module _ {S : Type 0} (p : Prog S) (l : Limits) (a b : Devices) (mid was : Bool)
 -- how it ended, where the thread 0 failed or not
 module _ {S : Type 0} (p : Prog S) (l : Limits) (a b : Devices) (mid was : Bool) (m : Meaning) (reserved : ℕ)
     (o o1 : Outer S) (full : IsFullKept reserved m.limit o1.core.cause) (words : m.limit ≡ l.words)
-    (history : List Turn) (conflicts : List Conflict) where
+    (nearly : NearlyFullAt p l a.input.told o1.core) (history : List Turn) (conflicts : List Conflict) where
   abbrev EndsWith : (s : RunState) (failed : Bool) → HandedOut p l.length l.budget l.segments (telling a mid was)
       (telling b false false) s failed history conflicts m.image o o1 → Answer → Type 0
   EndsWith s failed h answer = RunEnded l (Some reserved) answer (faults_of a) (faults_of b)
@@ -186,18 +190,18 @@ module _ {S : Type 0} (p : Prog S) (l : Limits) (a b : Devices) (mid was : Bool)
       (elim h.outcome [ inl z ↦ z.1 | inr z ↦ one_lives p (committed o1.core) z.1.0 ])
   answered (state.Faulted c) failed h answer e =
       subst (EndsWith (state.Faulted c) failed h) (sym e)
-      (caused_end p l a b mid was m reserved failed o o1 full words c history conflicts h)
+      (caused_end p l a b mid was m reserved failed o o1 full words nearly c history conflicts h)
 
 -- what is handed out is the end of a run, whose lists and store are the report's
 pub handed_over : {S : Type 0} (p : Prog S) (l : Limits) (a b : Devices) (mid was : Bool) (m : Meaning) (reserved : ℕ)
     (o o1 : Outer S) (s : RunState) (failed : Bool) (t : Told) (answer : Answer)
     → HandedOut p l.length l.budget l.segments (telling a mid was) (telling b false false) s failed t.history
     t.conflicts m.image o o1
-    → IsFullKept reserved m.limit o1.core.cause → m.segments ≡ l.segments → m.limit ≡ l.words →
-    ((j : ℕ) → IsUnused (m.part j)) → t.store ≡ Some m → t.reserved ≡ Some reserved →
+    → IsFullKept reserved m.limit o1.core.cause → NearlyFullAt p l a.input.told o1.core → m.segments ≡ l.segments →
+    m.limit ≡ l.words → ((j : ℕ) → IsUnused (m.part j)) → t.store ≡ Some m → t.reserved ≡ Some reserved →
     AnswerTo s failed t.history answer → RunEnds p l answer a t b
 unfolding run_of
-handed_over {S} p l a b mid was m reserved o o1 s failed t answer h full segments words unused store taken e =
+handed_over {S} p l a b mid was m reserved o o1 s failed t answer h full nearly segments words unused store taken e =
     let same : record {
       history = o1.core.history;
       conflicts = o1.core.conflicts;
@@ -222,7 +226,7 @@ handed_over {S} p l a b mid was m reserved o o1 s failed t answer h full segment
       };
       ended = subst (λ z. RunEnded l z answer (faults_of a) (faults_of b)
           (run_of p l a b mid was m reserved failed o o1 s t.history t.conflicts h)) (sym taken)
-          (answered p l a b mid was m reserved o o1 full words t.history t.conflicts s failed h answer
+          (answered p l a b mid was m reserved o o1 full words nearly t.history t.conflicts s failed h answer
           (subst (λ z. AnswerTo s failed z answer) (sym h.history_is) e));
       counts = record { input = h.counts.reads; out = h.counts.writes; err = h.counts.errs };
     })

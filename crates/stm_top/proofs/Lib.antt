@@ -1,3 +1,4 @@
+pub mod FullHeap
 pub mod HandedOver
 mod OneAnswer
 mod SomeAnswer

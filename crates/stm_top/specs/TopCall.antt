@@ -8,11 +8,13 @@ use Rattle.stm_io.specs.declared.error.PutError.{PutError}
 use Rattle.stm_io.specs.Outside.{LoaderState, SourceState, SinkState, Rose, Puts, PutCause}
 use Rattle.lock_run.specs.declared.turn.Turn.{Turn}
 use Rattle.lock_run.specs.Prog.{Prog}
-use Rattle.lock_run.specs.RunState.{steps_done, SomeLives, IsDone, IsStuck, IsSpent}
+use Rattle.lock_run.specs.Machine.{begin_with}
+use Rattle.lock_run.specs.RunState.{first_world, steps_done, SomeLives, IsDone, IsStuck, IsSpent}
 use Rattle.seg_store.specs.Meaning.{Meaning}
 use Rattle.stm_core.specs.declared.cause.Cause.TheVariants.{ReadFault, WriteFault, ErrFault}
 use Rattle.stm_core.specs.Events.{Limits}
 use Rattle.stm_core.specs.Finishing.{IsUnused}
+use Rattle.heap_bound.specs.Growth.{IsNearlyFull}
 use Rattle.stm_words.specs.declared.call.Options.{Options}
 use Rattle.stm_words.specs.Options.{options_of}
 use Rattle.stm_top.specs.declared.status.Status.{Status}
@@ -106,8 +108,9 @@ RunEnded {p = p} l w Failed a b r = IsWhole r.ended × IsDone p r.machine × Fir
 RunEnded l w InputFailed a b r = IsCutBy ReadFault r.ended × Rose a.input b.input
 RunEnded l w OutputFailed a b r = IsCutBy WriteFault r.ended × Rose a.out b.out
 RunEnded l w ErrorOutputFailed a b r = IsCutBy ErrFault r.ended × Rose a.err b.err
-RunEnded {p = p} l w (HeapFull reserved need limit) a b r =
+RunEnded {p = p} {input = input} {history = history} l w (HeapFull reserved need limit) a b r =
     SomeLives p r.machine × (limit ≡ l.words) × (limit < reserved + need) × HasReserved reserved w
+    × IsNearlyFull p (begin_with p (first_world input)) l.length l.segments limit history r.machine.heap
 RunEnded {p = p} l w Stuck a b r = IsWhole r.ended × IsStuck p r.machine
 RunEnded {p = p} {history = history} l w (BudgetSpent steps) a b r =
     IsWhole r.ended × IsSpent p l.budget history r.machine × (steps ≡ steps_done history)

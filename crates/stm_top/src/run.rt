@@ -3,12 +3,15 @@ ghost use Rattle.std.specs.Prelude.{◌≡◌, [], None, IfSome};
 ghost use Rattle.lock_run.specs.Client.{IsSoundFirst};
 ghost use Rattle.lock_run.specs.RunState.{steps_done};
 ghost use Rattle.paged_store.specs.Stores.{paged_meaning, reserved_of};
-ghost use Rattle.stm_core.specs.CoreHeld.{core_client, core_limits, IsGoodCore, HasDevices};
+ghost use Rattle.stm_core.specs.CoreHeld.{core_client, core_limits, CoreStands, IsGoodCore, HasDevices};
+ghost use Rattle.stm_core.specs.Outside.{Outer};
+ghost use Rattle.stm_workers.specs.Growth.{HasExplained};
 ghost use Rattle.stm_words.specs.Options.{IsWithin};
 ghost use Rattle.stm_top.specs.TopCall.{devices_of, told_of};
 ghost use Rattle.stm_top.specs.inner.Ending.{answer_to, AnswerTo, RunEnds, ThreadsEnded};
 
 use crate::answer::Answer;
+use heap_bound::{full_law, piece_law};
 use lock_run::{Client, History};
 use paged_store::PagedStore;
 use py_data::Conflicts;
@@ -112,7 +115,8 @@ fn answer(state: RunState, failed: bool, history: &History) -> Answer
     }
 }
 
-/// Runs a core to its end, by a worker for each of its segments.
+/// Runs a core to its end, by a worker for each of its segments. Where the peaks of its store were explained, a heap that
+/// came to be full was nearly full.
 fn run_core<
     Rt: Threads + Wait + Sync,
     C: Client + Sync,
@@ -127,7 +131,8 @@ where
     C::State: Send,
     requires good { IsGoodCore I.state O.state E.state C.prog C.sound S.reserved S.meaning core }
     ensures loader { result.outside.loader ≡ loader }
-    ensures ended { (i : I) (o : O) (e : E) → HasDevices i o e core.entry → RunEnds (C.prog (core_client core.entry)) (core_limits S.meaning core.entry) result.answer (devices_of L.state I.state O.state E.state loader i o e)
+    ensures ended { (i : I) (o : O) (e : E) → HasDevices i o e core.entry → (first : Outer C.State) → CoreStands I.state O.state E.state C.prog S.meaning core.entry first → HasExplained I.state O.state E.state C.prog S.meaning S.peaks core.entry first
+        → RunEnds (C.prog (core_client core.entry)) (core_limits S.meaning core.entry) result.answer (devices_of L.state I.state O.state E.state loader i o e)
         (told_of S.meaning S.reserved result.history.entries result.conflicts.entries result.store) (devices_of L.state I.state O.state E.state result.outside.loader result.outside.input result.outside.out result.outside.err) }
 {
     let core = run_workers(rt, alloc, core, gate);
@@ -141,6 +146,9 @@ where
         out,
         err,
     } = core.finish();
+    store.known();
+    full_law::<C::State>();
+    piece_law::<C::State>();
     End {
         answer: answer(state, failed, &history),
         history,
@@ -199,7 +207,10 @@ where
         out,
         err,
     ) {
-        Ok(core) => run_core(rt, alloc, core, loader, gate),
+        Ok(core) => {
+            full_law::<C::State>();
+            run_core(rt, alloc, core, loader, gate)
+        }
         Err((_, input, out, err)) => nothing_ran(
             alloc,
             Answer::OutOfMemory,

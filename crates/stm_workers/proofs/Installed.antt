@@ -1,5 +1,6 @@
 -- What an installed piece makes of history and conflicts: nothing, or, where there was no memory, what a commit makes of them.
-use Rattle.std.proofs.Common.{◌≡◌, ℕ, zero, suc, Bool, true, false, cond, eqb, List, [], ◌∷◌, ◌++◌, Option, Some, None, Result, Ok, Err, refl, sym, ◌∙◌, ap, subst, append-nil}
+-- And what it and a loan make of what explains the peaks.
+use Rattle.std.proofs.Common.{◌≡◌, ℕ, zero, suc, Bool, true, false, cond, eqb, List, [], ◌∷◌, Option, Some, None, Result, Ok, Err, refl, sym, ◌∙◌, ap, subst, append-nil}
 use Rattle.std.specs.List.{range_with_len}
 use Rattle.std.specs.declared.alloc.AllocError.{AllocError}
 use Rattle.stm_io.specs.Outside.{SourceState, SinkState}
@@ -12,15 +13,18 @@ use Rattle.stm_core.specs.declared.answers.LoanError.{LoanError}
 use Rattle.stm_core.specs.declared.answers.LoanError.TheVariants as error
 use Rattle.stm_core.specs.Advanced.{with_cause, Fails}
 use Rattle.stm_core.specs.Conflict.{conflict}
-use Rattle.stm_core.specs.CoreHeld.{core_client, core_limits, Leads}
+use Rattle.stm_core.specs.CoreHeld.{core_client, core_limits, core_store, CoreStands, Leads, SameJob}
 use Rattle.stm_core.specs.CoreState.{Transaction, Segment, Idle, Doomed, Running, CoreState, turn_of, with_segment}
+use Rattle.stm_core.specs.InUse.{IfTold, NoneRises}
 use Rattle.stm_core.specs.Moves.{published}
 use Rattle.stm_core.specs.Outside.{Outer}
 use Rattle.stm_core.specs.Passes.{met, doom_met, doom_one, doom_readers, after_commit}
 use Rattle.stm_core.specs.Pieces.{IsInstalled, IsLoaned}
 use Rattle.stm_core.specs.Solo.{up_to_whole}
 use Rattle.stm_pieces.specs.declared.loan.Loan.{Loan}
-use Rattle.stm_workers.specs.Growth.{ListsGrow, Grows}
+use Rattle.heap_bound.specs.Laws.{InstallLaw, LoanLaw}
+use Rattle.stm_workers.specs.Growth.{ListsGrow, HasExplained, Grows}
+use Rattle.stm_workers.proofs.Explained.{StartOf, left, told, stands_good}
 use Rattle.stm_workers.specs.inner.GrowthLaws.{lists_same, lists_then}
 
 module _ {T : Type 0} where
@@ -110,27 +114,41 @@ module _ {T : Type 0} where
         subst (λ (z : Outer T). ListsGrow o.core z.core) (sym h.2) (lists_same o.core)
 
 module _ {C S I O E T : Type 0} (input : I → SourceState) (out : O → SinkState) (err : E → SinkState)
-    (prog : C → Prog T) (meaning : S → Meaning) (x y : Core C S I O E T) where
-  -- lists that grow in each state grow
-  lists_grows : (R : Outer T → Outer T → Type 0) → ((o o1 : Outer T) → R o o1 → ListsGrow o.core o1.core) →
-      Leads input out err prog meaning x y R → Grows input out err prog meaning x y
-  lists_grows R lists leads = record { leads = λ o stands. let u = leads o stands in (u.0, u.1, lists o u.0 u.2) }
+    (prog : C → Prog T) (meaning : S → Meaning) (peaks : S → Option (ℕ → ℕ)) (x y : Core C S I O E T)
+    (job : SameJob meaning x y) where
+  -- lists that grow in each state, in which the peaks stay explained, grow
+  lists_grows : (R : Outer T → Outer T → Type 0) → ((o o1 : Outer T) → R o o1 → ListsGrow o.core o1.core)
+      → ((o o1 : Outer T) → CoreStands input out err prog meaning x o → R o o1 →
+      HasExplained input out err prog meaning peaks x o → HasExplained input out err prog meaning peaks y o1)
+      → Leads input out err prog meaning x y R → Grows input out err prog meaning peaks x y
+  lists_grows R lists keeps leads = record {
+    leads = λ o stands. let u = leads o stands in (u.0, u.1, (lists o u.0 u.2, keeps o u.0 stands u.2));
+  }
 
-  pub install_grows : (k reserved : ℕ) (g g1 : Heap) (m : ℕ) (q : T) (result : Result ℕ AllocError) →
+  pub install_grows : InstallLaw T → IfTold (peaks (core_store x)) (peaks (core_store y)) NoneRises →
+      (k reserved : ℕ) (g g1 : Heap) (m : ℕ) (q : T) (result : Result ℕ AllocError) →
       Leads input out err prog meaning x y
       (λ o o1. IsInstalled (prog (core_client x)) (core_limits meaning x).length k (core_limits meaning x).segments
-      reserved (core_limits meaning x).words g g1 m q result o o1) → Grows input out err prog meaning x y
-  install_grows k reserved g g1 m q result =
+      reserved (core_limits meaning x).words g g1 m q result o o1) → Grows input out err prog meaning peaks x y
+  install_grows law none k reserved g g1 m q result =
       let l = core_limits meaning x in
-      lists_grows
-      (λ o o1. IsInstalled (prog (core_client x)) l.length k l.segments reserved l.words g g1 m q result o o1)
-      (install_lists (prog (core_client x)) l.length k l.segments reserved l.words g g1 m q result)
+      let p = prog (core_client x) in
+      lists_grows (λ o o1. IsInstalled p l.length k l.segments reserved l.words g g1 m q result o o1)
+      (install_lists p l.length k l.segments reserved l.words g g1 m q result)
+      (λ o o1 stands h. told input out err prog meaning peaks x y job o o1 NoneRises none (λ f f1 r e.
+      law p (StartOf input out err prog meaning peaks x y job x) l.length l.segments f f1 o o1
+      (stands_good input out err prog meaning peaks x y job o stands) e r k l.segments reserved l.words g g1 m q result
+      h))
 
-  pub loan_grows : (k : ℕ) (result : Result (Loan T) LoanError) →
-      Leads input out err prog meaning x y
+  pub loan_grows : LoanLaw T → peaks (core_store y) ≡ peaks (core_store x) → (k : ℕ)
+      (result : Result (Loan T) LoanError) → Leads input out err prog meaning x y
       (λ o o1. IsLoaned (prog (core_client x)) (core_limits meaning x).length k result o o1) →
-      Grows input out err prog meaning x y
-  loan_grows k result =
+      Grows input out err prog meaning peaks x y
+  loan_grows law same k result =
       let l = core_limits meaning x in
-      lists_grows (λ o o1. IsLoaned (prog (core_client x)) l.length k result o o1)
-      (loan_lists (prog (core_client x)) l.length k l.segments 0 l.words result)
+      let p = prog (core_client x) in
+      lists_grows (λ o o1. IsLoaned p l.length k result o o1)
+      (loan_lists p l.length k l.segments 0 l.words result)
+      (λ o o1 stands h. left input out err prog meaning peaks x y job o o1 same (λ f e.
+      law p (StartOf input out err prog meaning peaks x y job x) l.length l.segments f o o1
+      (stands_good input out err prog meaning peaks x y job o stands) e k result h))

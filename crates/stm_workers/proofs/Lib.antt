@@ -1,3 +1,4 @@
+pub mod Explained
 pub mod Growing
 pub mod Installed
 pub mod Jobs

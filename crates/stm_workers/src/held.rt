@@ -46,11 +46,11 @@ impl<'p, C: Client, S: SegStore, I: Source, O: Sink, E: Sink> Job for Held<'p, C
 
     ghost good = { λ h. IsGoodCore I.state O.state E.state C.prog C.sound S.reserved S.meaning h.core };
 
-    ghost grows = { λ x y. Grows I.state O.state E.state C.prog S.meaning x.core y.core };
+    ghost grows = { λ x y. Grows I.state O.state E.state C.prog S.meaning S.peaks x.core y.core };
 
-    ghost grows_same = { λ x. grows_same I.state O.state E.state C.prog S.meaning x.core };
+    ghost grows_same = { λ x. grows_same I.state O.state E.state C.prog S.meaning S.peaks x.core };
 
-    ghost grows_then = { λ x y z. grows_then I.state O.state E.state C.prog S.meaning x.core y.core z.core };
+    ghost grows_then = { λ x y z. grows_then I.state O.state E.state C.prog S.meaning S.peaks x.core y.core z.core };
 }
 
 /// A piece to be run: a loan of a core, and the core's client.
@@ -104,7 +104,7 @@ impl<'p, 'g, C: Client, S: SegStore, I: Source, O: Sink, E: Sink, G: Gate> Crew<
         requires done { IfSome done (IsPieceBy (C.prog (core_job S.meaning value.old.core).client)) }
         ensures good { IsGoodCore I.state O.state E.state C.prog C.sound S.reserved S.meaning value.new.core }
         ensures job { core_job S.meaning value.new.core ≡ core_job S.meaning value.old.core }
-        ensures grows { Grows I.state O.state E.state C.prog S.meaning value.old.core value.new.core }
+        ensures grows { Grows I.state O.state E.state C.prog S.meaning S.peaks value.old.core value.new.core }
         ensures errand { IfSome result.errand (CanRun C.prog C.sound (core_job S.meaning value.old.core).client) }
     {
         let core = &mut value.core;

@@ -9,6 +9,7 @@ ghost use Rattle.stm_workers.specs.Ended.{HasEnded};
 ghost use Rattle.stm_workers.specs.Errands.{IsRunnable};
 ghost use Rattle.stm_workers.specs.Growth.{Grows};
 
+use heap_bound::{call_law, piece_law};
 use lock_run::Client;
 use seg_store::SegStore;
 use stm_core::{Advance, AdvanceError, Core, RunState, Slot, SoloError, events_law};
@@ -84,12 +85,13 @@ fn commit<C: Client, S: SegStore, I: Source, O: Sink, E: Sink>(
     requires segment { k < (core_limits S.meaning core.old).segments }
     ensures good { IsGoodCore I.state O.state E.state C.prog C.sound S.reserved S.meaning core.new }
     ensures job { SameJob S.meaning core.old core.new }
-    ensures grows { Grows I.state O.state E.state C.prog S.meaning core.old core.new }
+    ensures grows { Grows I.state O.state E.state C.prog S.meaning S.peaks core.old core.new }
 {
     let slot = core.slot(k);
     if is_busy(slot) {
         let _ = core.commit(k);
         events_law::<C::State>();
+        call_law(core.client());
     }
 }
 
@@ -102,7 +104,7 @@ fn commit_whole<C: Client, S: SegStore, I: Source, O: Sink, E: Sink>(
     requires segment { k < (core_limits S.meaning core.old).segments }
     ensures good { IsGoodCore I.state O.state E.state C.prog C.sound S.reserved S.meaning core.new }
     ensures job { SameJob S.meaning core.old core.new }
-    ensures grows { Grows I.state O.state E.state C.prog S.meaning core.old core.new }
+    ensures grows { Grows I.state O.state E.state C.prog S.meaning S.peaks core.old core.new }
 {
     match core.slot(k) {
         Slot::Running { steps, .. } if steps < core.length() => (),
@@ -124,11 +126,12 @@ fn is_taken<C: Client, S: SegStore, I: Source, O: Sink, E: Sink>(
     requires segment { k < (core_limits S.meaning core.old).segments }
     ensures good { IsGoodCore I.state O.state E.state C.prog C.sound S.reserved S.meaning core.new }
     ensures job { SameJob S.meaning core.old core.new }
-    ensures grows { Grows I.state O.state E.state C.prog S.meaning core.old core.new }
+    ensures grows { Grows I.state O.state E.state C.prog S.meaning S.peaks core.old core.new }
 {
     if is_busy(core.slot(k)) {
         let answer = core.solo(k);
         events_law::<C::State>();
+        call_law(core.client());
         return names_another(answer);
     }
     false
@@ -144,7 +147,7 @@ fn go_solo<C: Client, S: SegStore, I: Source, O: Sink, E: Sink>(
     requires segment { k < (core_limits S.meaning core.old).segments }
     ensures good { IsGoodCore I.state O.state E.state C.prog C.sound S.reserved S.meaning core.new }
     ensures job { SameJob S.meaning core.old core.new }
-    ensures grows { Grows I.state O.state E.state C.prog S.meaning core.old core.new }
+    ensures grows { Grows I.state O.state E.state C.prog S.meaning S.peaks core.old core.new }
 {
     if is_taken(core, k) {
         commit(core, k);
@@ -161,7 +164,7 @@ fn follow<C: Client, S: SegStore, I: Source, O: Sink, E: Sink>(
     requires segment { k < (core_limits S.meaning core.old).segments }
     ensures good { IsGoodCore I.state O.state E.state C.prog C.sound S.reserved S.meaning core.new }
     ensures job { SameJob S.meaning core.old core.new }
-    ensures grows { Grows I.state O.state E.state C.prog S.meaning core.old core.new }
+    ensures grows { Grows I.state O.state E.state C.prog S.meaning S.peaks core.old core.new }
 {
     match answer {
         Ok(Advance::NeedSolo(_)) => go_solo(core, k),
@@ -181,8 +184,9 @@ fn step<C: Client, S: SegStore, I: Source, O: Sink, E: Sink>(
     requires may { Says I.state O.state E.state C.prog S.meaning core.old (λ o. may_make (core_limits S.meaning core.old) o.core (Event.Advance k steps) ≡ true) }
     ensures good { IsGoodCore I.state O.state E.state C.prog C.sound S.reserved S.meaning core.new }
     ensures job { SameJob S.meaning core.old core.new }
-    ensures grows { Grows I.state O.state E.state C.prog S.meaning core.old core.new }
+    ensures grows { Grows I.state O.state E.state C.prog S.meaning S.peaks core.old core.new }
 {
+    call_law(core.client());
     let answer = core.advance(k, steps);
     events_law::<C::State>();
     answer
@@ -199,7 +203,7 @@ fn advance<C: Client, S: SegStore, I: Source, O: Sink, E: Sink>(
     requires may { Says I.state O.state E.state C.prog S.meaning core.old (λ o. may_make (core_limits S.meaning core.old) o.core (Event.Advance k steps) ≡ true) }
     ensures good { IsGoodCore I.state O.state E.state C.prog C.sound S.reserved S.meaning core.new }
     ensures job { SameJob S.meaning core.old core.new }
-    ensures grows { Grows I.state O.state E.state C.prog S.meaning core.old core.new }
+    ensures grows { Grows I.state O.state E.state C.prog S.meaning S.peaks core.old core.new }
 {
     let answer = step(core, k, steps);
     follow(core, k, answer);
@@ -216,7 +220,7 @@ fn go_on<C: Client, S: SegStore, I: Source, O: Sink, E: Sink>(
     requires segment { k < (core_limits S.meaning core.old).segments }
     ensures good { IsGoodCore I.state O.state E.state C.prog C.sound S.reserved S.meaning core.new }
     ensures job { SameJob S.meaning core.old core.new }
-    ensures grows { Grows I.state O.state E.state C.prog S.meaning core.old core.new }
+    ensures grows { Grows I.state O.state E.state C.prog S.meaning S.peaks core.old core.new }
 {
     let slot = core.slot(k);
     let steps = steps_of(slot, core.length(), most);
@@ -237,10 +241,11 @@ fn begin<C: Client, S: SegStore, I: Source, O: Sink, E: Sink>(
     requires segment { k < (core_limits S.meaning core.old).segments }
     ensures good { IsGoodCore I.state O.state E.state C.prog C.sound S.reserved S.meaning core.new }
     ensures job { SameJob S.meaning core.old core.new }
-    ensures grows { Grows I.state O.state E.state C.prog S.meaning core.old core.new }
+    ensures grows { Grows I.state O.state E.state C.prog S.meaning S.peaks core.old core.new }
 {
     let _ = core.begin(k, t);
     events_law::<C::State>();
+    call_law(core.client());
 }
 
 /// Where a segment has nothing in hand, begins a transaction of the next ready thread there, if there is one and it may begin.
@@ -252,7 +257,7 @@ fn begin_next<C: Client, S: SegStore, I: Source, O: Sink, E: Sink>(
     requires segment { k < (core_limits S.meaning core.old).segments }
     ensures good { IsGoodCore I.state O.state E.state C.prog C.sound S.reserved S.meaning core.new }
     ensures job { SameJob S.meaning core.old core.new }
-    ensures grows { Grows I.state O.state E.state C.prog S.meaning core.old core.new }
+    ensures grows { Grows I.state O.state E.state C.prog S.meaning S.peaks core.old core.new }
 {
     if is_busy(core.slot(k)) {
         return;
@@ -285,7 +290,7 @@ fn work<C: Client, S: SegStore, I: Source, O: Sink, E: Sink>(
     requires segment { k < (core_limits S.meaning core.old).segments }
     ensures good { IsGoodCore I.state O.state E.state C.prog C.sound S.reserved S.meaning core.new }
     ensures job { SameJob S.meaning core.old core.new }
-    ensures grows { Grows I.state O.state E.state C.prog S.meaning core.old core.new }
+    ensures grows { Grows I.state O.state E.state C.prog S.meaning S.peaks core.old core.new }
 {
     begin_next(core, k);
     let is_busy = is_busy(core.slot(k));
@@ -315,11 +320,12 @@ fn install<C: Client, S: SegStore, I: Source, O: Sink, E: Sink>(
     requires by { IsPieceBy (C.prog (core_client core.old)) piece }
     ensures good { IsGoodCore I.state O.state E.state C.prog C.sound S.reserved S.meaning core.new }
     ensures job { SameJob S.meaning core.old core.new }
-    ensures grows { Grows I.state O.state E.state C.prog S.meaning core.old core.new }
+    ensures grows { Grows I.state O.state E.state C.prog S.meaning S.peaks core.old core.new }
 {
     if !core.fits(k, &piece) {
         return 0;
     }
+    piece_law::<C::State>();
     core.install(k, piece).unwrap_or(0)
 }
 
@@ -335,7 +341,7 @@ fn take_in<C: Client, S: SegStore, I: Source, O: Sink, E: Sink>(
     requires by { IfSome piece (IsPieceBy (C.prog (core_client core.old))) }
     ensures good { IsGoodCore I.state O.state E.state C.prog C.sound S.reserved S.meaning core.new }
     ensures job { SameJob S.meaning core.old core.new }
-    ensures grows { Grows I.state O.state E.state C.prog S.meaning core.old core.new }
+    ensures grows { Grows I.state O.state E.state C.prog S.meaning S.peaks core.old core.new }
 {
     match piece {
         Some(piece) => {
@@ -356,12 +362,13 @@ fn lend<C: Client, S: SegStore, I: Source, O: Sink, E: Sink>(
     requires segment { k < (core_limits S.meaning core.old).segments }
     ensures good { IsGoodCore I.state O.state E.state C.prog C.sound S.reserved S.meaning core.new }
     ensures job { SameJob S.meaning core.old core.new }
-    ensures grows { Grows I.state O.state E.state C.prog S.meaning core.old core.new }
+    ensures grows { Grows I.state O.state E.state C.prog S.meaning S.peaks core.old core.new }
     ensures loan { IfSome result (IsRunnable C.prog C.sound (core_client core.old)) }
 {
     if core.store().segments() == 1 || !core.may_loan(k) {
         return None;
     }
+    piece_law::<C::State>();
     match core.loan(k) {
         Ok(loan) => Some(loan),
         Err(_) => None,
@@ -379,7 +386,7 @@ fn go_round<C: Client, S: SegStore, I: Source, O: Sink, E: Sink>(
     requires by { IfSome piece (IsPieceBy (C.prog (core_client core.old))) }
     ensures good { IsGoodCore I.state O.state E.state C.prog C.sound S.reserved S.meaning core.new }
     ensures job { SameJob S.meaning core.old core.new }
-    ensures grows { Grows I.state O.state E.state C.prog S.meaning core.old core.new }
+    ensures grows { Grows I.state O.state E.state C.prog S.meaning S.peaks core.old core.new }
     ensures over { result ≡ Finding.Ended → HasEnded I.state O.state E.state C.prog S.meaning core.new }
 {
     if has_ended(core) {
@@ -402,7 +409,7 @@ pub fn visit<C: Client, S: SegStore, I: Source, O: Sink, E: Sink>(
     requires segment { k < (core_limits S.meaning core.old).segments }
     ensures good { IsGoodCore I.state O.state E.state C.prog C.sound S.reserved S.meaning core.new }
     ensures job { core_job S.meaning core.new ≡ core_job S.meaning core.old }
-    ensures grows { Grows I.state O.state E.state C.prog S.meaning core.old core.new }
+    ensures grows { Grows I.state O.state E.state C.prog S.meaning S.peaks core.old core.new }
     ensures over { result ≡ Finding.Ended → HasEnded I.state O.state E.state C.prog S.meaning core.new }
 {
     go_round(core, k, None)
@@ -424,7 +431,7 @@ pub fn visit_with<C: Client, S: SegStore, I: Source, O: Sink, E: Sink>(
     requires by { IfSome piece (IsPieceBy (C.prog (core_client core.old))) }
     ensures good { IsGoodCore I.state O.state E.state C.prog C.sound S.reserved S.meaning core.new }
     ensures job { core_job S.meaning core.new ≡ core_job S.meaning core.old }
-    ensures grows { Grows I.state O.state E.state C.prog S.meaning core.old core.new }
+    ensures grows { Grows I.state O.state E.state C.prog S.meaning S.peaks core.old core.new }
     ensures over { result.0 ≡ Finding.Ended → HasEnded I.state O.state E.state C.prog S.meaning core.new }
     ensures loan { IfSome result.1 (IsRunnable C.prog C.sound (core_client core.old)) }
 {

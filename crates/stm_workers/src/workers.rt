@@ -28,7 +28,7 @@ fn finish<'p, C: Client, S: SegStore, I: Source, O: Sink, E: Sink, Rt: Wait>(
     requires segments { segments ≡ (core_limits S.meaning core).segments }
     ensures good { IsGoodCore I.state O.state E.state C.prog C.sound S.reserved S.meaning result }
     ensures job { core_job S.meaning result ≡ core_job S.meaning core.entry }
-    ensures grows { Grows I.state O.state E.state C.prog S.meaning core.entry result }
+    ensures grows { Grows I.state O.state E.state C.prog S.meaning S.peaks core.entry result }
     ensures ended { HasEnded I.state O.state E.state C.prog S.meaning result }
 {
     for _ in rt.forever() {
@@ -66,7 +66,7 @@ where
     requires job { IfSome seat.job (λ j. j.segments ≡ hands.now.workers) }
     ensures good { IsGoodCore I.state O.state E.state C.prog C.sound S.reserved S.meaning result.core }
     ensures job { seat.entry.job ≡ Some (core_job S.meaning result.core) }
-    ensures grows { All (λ y. Grows I.state O.state E.state C.prog S.meaning y.core result.core) seat.entry.seen }
+    ensures grows { All (λ y. Grows I.state O.state E.state C.prog S.meaning S.peaks y.core result.core) seat.entry.seen }
 {
     let workers = hands.workers;
     let seat = run_all(rt, &lock, seat, hands, workers, workers == 1);
@@ -96,7 +96,7 @@ where
     requires workers { (1 ≤ workers) × (workers ≡ (core_limits S.meaning held.core).segments) }
     ensures good { IsGoodCore I.state O.state E.state C.prog C.sound S.reserved S.meaning result.core }
     ensures job { core_job S.meaning result.core ≡ core_job S.meaning held.entry.core }
-    ensures grows { Grows I.state O.state E.state C.prog S.meaning held.entry.core result.core }
+    ensures grows { Grows I.state O.state E.state C.prog S.meaning S.peaks held.entry.core result.core }
 {
     match HeapLock::new(alloc, held, workers) {
         Ok((lock, seat)) => {
@@ -136,7 +136,7 @@ where
     requires good { IsGoodCore I.state O.state E.state C.prog C.sound S.reserved S.meaning core }
     ensures good { IsGoodCore I.state O.state E.state C.prog C.sound S.reserved S.meaning result }
     ensures job { core_job S.meaning result ≡ core_job S.meaning core.entry }
-    ensures grows { Grows I.state O.state E.state C.prog S.meaning core.entry result }
+    ensures grows { Grows I.state O.state E.state C.prog S.meaning S.peaks core.entry result }
     ensures ended { HasEnded I.state O.state E.state C.prog S.meaning result }
 {
     core.store().known();

@@ -1,7 +1,7 @@
 -- Nothing here is to be believed: it is proved that a good core has as many turns as its history tells, and that what
 -- has grown from it
 -- has no fewer.
-use Rattle.std.specs.Prelude.{◌≡◌, ◌≤◌, ◌++◌, ℕ, List, length}
+use Rattle.std.specs.Prelude.{◌≡◌, ◌≤◌, ◌++◌, ℕ, List, Option, length}
 use Rattle.std.proofs.Common.{subst, sym, ap, ◌∙◌}
 use Rattle.std.proofs.Math.Nat.{le-add_right}
 use Rattle.std.proofs.lemmas.List.{length-append}
@@ -29,11 +29,12 @@ module _ {C S I O E T : Type 0} (input : I → SourceState) (out : O → SinkSta
       ap (λ (l : List Turn). length l) (sym (says good.sane.state stands) ∙
       ap (λ (c : CoreState T). c.history) stands.core)
 
-  pub turns_grow : (x y : Core C S I O E T) → IsGoodCore input out err prog sound reserved meaning x →
-      Grows input out err prog meaning x y → turns_of x ≤ turns_of y
-  turns_grow x y good grows =
+  pub turns_grow : (peaks : S → Option (ℕ → ℕ)) (x y : Core C S I O E T) →
+      IsGoodCore input out err prog sound reserved meaning x → Grows input out err prog meaning peaks x y →
+      turns_of x ≤ turns_of y
+  turns_grow peaks x y good grows =
       let stands = good.sane.stands in
       let grown = grows.leads good.sane.state stands in
-      let same = sym (ap (λ (c : CoreState T). c.history) grown.1.core) ∙ grown.2.history ∙
-      ap (λ (c : CoreState T). c.history ++ grown.2.turns) stands.core in
-      no_shorter x.books.history.entries y.books.history.entries grown.2.turns same
+      let same = sym (ap (λ (c : CoreState T). c.history) grown.1.core) ∙ grown.2.0.history ∙
+      ap (λ (c : CoreState T). c.history ++ grown.2.0.turns) stands.core in
+      no_shorter x.books.history.entries y.books.history.entries grown.2.0.turns same

@@ -121,7 +121,7 @@ impl<'p, C: Client, S: SegStore, I: Source, O: Sink, E: Sink> Watch<Held<'p, C, 
         requires worker { k < (core_job S.meaning value.old.core).segments }
         ensures good { IsGoodCore I.state O.state E.state C.prog C.sound S.reserved S.meaning value.new.core }
         ensures job { core_job S.meaning value.new.core ≡ core_job S.meaning value.old.core }
-        ensures grows { Grows I.state O.state E.state C.prog S.meaning value.old.core value.new.core }
+        ensures grows { Grows I.state O.state E.state C.prog S.meaning S.peaks value.old.core value.new.core }
     {
         let core = &mut value.core;
         let _ = visit(core, k);

@@ -1,12 +1,13 @@
 use Rattle.std.proofs.Common.{◌≡◌, Some, refl, ◌∙◌, subst}
-use Rattle.stm_core.specs.CoreHeld.{core_client, core_limits}
+use Rattle.stm_core.specs.CoreHeld.{core_client, core_limits, core_store, first_devices}
 use Rattle.stm_top.specs.TopCall.{Devices, Told, devices_of, told_of}
 use Rattle.stm_top.specs.inner.Ending.{RunEnds}
+use Rattle.stm_top.proofs.FullHeap.{NearlyFullAt, full_heap}
 use Rattle.stm_top.proofs.HandedOver.{handed_over}
 use Rattle.stm_top.proofs.run.run_core.Goals as goal
 
 pub returns-clause-ended : goal.returns-clause-ended
-returns-clause-ended g c = λ i o e has.
+returns-clause-ended g c = λ i o e has first stands explained.
     let x = c.args.core in
     let y = c.run_workers-core.result in
     let job = c.run_workers-core.ensures.job in
@@ -16,17 +17,24 @@ returns-clause-ended g c = λ i o e has.
     r.err in
     let t : Told = told_of g.S.SegStore.meaning g.S.SegStore.reserved r.history.entries r.conflicts.entries
     (Some r.store) in
-    let sane = c.run_workers-core.ensures.good.sane in
-    let f = c.finish-state.ensures.finished sane.state sane.stands in
+    let lead = c.run_workers-core.ensures.grows.leads first stands in
+    let f = c.finish-state.ensures.finished lead.0 lead.1 in
+    let nearly : NearlyFullAt (g.C.Client.prog (core_client y)) (core_limits g.S.SegStore.meaning y)
+    (g.I.Source.state made.input).told f.0.core
+    = full_heap c.full_law.ensures.bound c.piece_law.ensures.end (g.C.Client.prog (core_client y))
+    (core_limits g.S.SegStore.meaning y) (first_devices g.I.Source.state g.O.Sink.state g.E.Sink.state y) _ r.state
+    r.failed r.history.entries r.conflicts.entries (g.S.SegStore.meaning r.store).image lead.0 f.0 f.1
+    lead.1.kept.good (g.S.SegStore.peaks (core_store y)) (g.S.SegStore.peaks r.store) c.finish-state.ensures.peaks
+    (lead.2.1 explained) (g.S.SegStore.reserved r.store) (g.S.SegStore.meaning r.store) c.known.ensures.told f.2 in
     let ends : RunEnds (g.C.Client.prog (core_client y)) (core_limits g.S.SegStore.meaning y) c.answer.result
     (devices_of g.L.Loader.state g.I.Source.state g.O.Sink.state g.E.Sink.state c.args.loader made.input made.out
     made.err) t left
     = handed_over (g.C.Client.prog (core_client y)) (core_limits g.S.SegStore.meaning y)
     (devices_of g.L.Loader.state g.I.Source.state g.O.Sink.state g.E.Sink.state c.args.loader made.input made.out
     made.err) left
-    made.mid made.was_mid (g.S.SegStore.meaning r.store) (g.S.SegStore.reserved r.store) sane.state f.0 r.state
+    made.mid made.was_mid (g.S.SegStore.meaning r.store) (g.S.SegStore.reserved r.store) lead.0 f.0 r.state
     r.failed t c.answer.result
-    f.1 f.2 c.finish-state.ensures.shape.0 c.finish-state.ensures.shape.1 c.finish-state.ensures.unused refl
+    f.1 f.2 nearly c.finish-state.ensures.shape.0 c.finish-state.ensures.shape.1 c.finish-state.ensures.unused refl
     refl c.answer.ensures in
     let ends1 = subst (λ z. RunEnds (g.C.Client.prog z) (core_limits g.S.SegStore.meaning y) c.answer.result
     (devices_of g.L.Loader.state g.I.Source.state g.O.Sink.state g.E.Sink.state c.args.loader made.input made.out

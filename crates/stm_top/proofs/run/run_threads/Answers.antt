@@ -1,9 +1,13 @@
-use Rattle.std.proofs.Common.{◌≡◌, inr, ap, ◌∙◌, subst}
-use Rattle.paged_store.specs.Stores.{paged_meaning, reserved_of}
-use Rattle.stm_core.specs.CoreHeld.{core_limits}
+use Rattle.std.proofs.Common.{◌≡◌, inr, Some, ap, ◌∙◌, subst}
+use Rattle.lock_run.specs.RunState.{first_world}
+use Rattle.paged_store.specs.Stores.{paged_meaning, reserved_of, peaks_of}
+use Rattle.stm_core.specs.CoreHeld.{core_client, core_limits, core_store}
+use Rattle.stm_core.specs.CoreState.{core_new}
 use Rattle.stm_core.specs.Events.{Limits}
+use Rattle.stm_core.specs.Outside.{outer_new}
 use Rattle.stm_top.specs.TopCall.{Told, devices_of, limits_of, told_of}
 use Rattle.stm_top.specs.inner.Ending.{RunEnds}
+use Rattle.stm_top.proofs.FullHeap.{made_explained}
 use Rattle.stm_top.proofs.run.run_threads.Goals as goal
 
 pub new-requires-2-clause-store : goal.new-requires-2-clause-store
@@ -26,7 +30,15 @@ returns-in-Ok-new g c =
       segments = (c.in-Ok.ensures.meaning k).segments;
       words = (c.in-Ok.ensures.meaning k).limit;
     }) in
-    let ends = c.run_core.ensures.ended c.args.outside.input c.args.outside.out c.args.outside.err n.devices in
+    let x = c.in-Ok-new.core in
+    let client = c.args.client.now in
+    let explained = made_explained c.full_law.ensures.new g.C.Client.prog g.I.Source.state client (core_client x)
+    c.args.outside.input x.made_with.value.input n.client n.devices.input_is (core_limits paged_meaning x).length
+    (core_limits paged_meaning x).segments (Some (peaks_of (core_store x))) (peaks_of c.in-Ok.store) n.peaks
+    c.in-Ok.ensures.empty.none in
+    let ends = c.run_core.ensures.ended c.args.outside.input c.args.outside.out c.args.outside.err n.devices
+    (outer_new (core_new (g.C.Client.prog client) (first_world (g.I.Source.state c.args.outside.input).told))) n.state
+    explained in
     let ends1 = subst (λ z. RunEnds (g.C.Client.prog z) (core_limits paged_meaning c.in-Ok-new.core) r.answer a t b)
     n.client ends in
     record {

@@ -3,4 +3,4 @@ use Rattle.stm_workers.proofs.visits.follow.Goals as goal
 
 pub returns-in-Err-clause-grows : goal.returns-in-Err-clause-grows
 returns-in-Err-clause-grows g c = grows_same g.I.Source.state g.O.Sink.state g.E.Sink.state g.C.Client.prog
-    g.S.SegStore.meaning c.args.core.now
+    g.S.SegStore.meaning g.S.SegStore.peaks c.args.core.now
