@@ -17,7 +17,7 @@ use Rattle.stm_core.specs.Pieces.{IsInstalled, IsLoaned}
 use Rattle.heap_bound.specs.Laws.{InstallLaw, LoanLaw, EndLaw}
 use Rattle.heap_bound.specs.Moments.{IsExplained}
 use Rattle.heap_bound.proofs.Calling.{committed_explained, whole_explained}
-use Rattle.heap_bound.proofs.Explaining.{explained_same, explained_kept, explained_still}
+use Rattle.heap_bound.proofs.Explaining.{explained_kept, explained_still}
 
 module _ {S : Type 0} (p : Prog S) (start : Machine S) (most segments : ℕ) (f : ℕ → ℕ) where
   abbrev Explained : CoreState S → Type 0
@@ -59,9 +59,8 @@ module _ {S : Type 0} (p : Prog S) (start : Machine S) (most segments : ℕ) (f 
   ]
 
 pub install_law : {S : Type 0} → InstallLaw S
-install_law p start most segments f g o o1 good e none k n reserved limit loaned left steps last r h =
-    installed p start most segments g k n reserved limit loaned left steps last r o o1 good
-    (explained_same p start most segments o.core o.core f g good e (λ c lo. inl (none c lo)) refl refl refl) h
+install_law p start most segments f o o1 good e k n reserved limit loaned left steps last r h =
+    installed p start most segments f k n reserved limit loaned left steps last r o o1 good e h
 
 pub loan_law : {S : Type 0} → LoanLaw S
 loan_law p start most segments f o o1 good e k r h = loaned p start most segments f k r o o1 e h

@@ -30,7 +30,7 @@ use Rattle.stm_core.specs.Advanced.{Advanced}
 use Rattle.stm_core.specs.Begun.{Begun}
 use Rattle.stm_core.specs.Committed.{Committed}
 use Rattle.stm_core.specs.Finishing.{idle_core, SettlesSolo}
-use Rattle.stm_core.specs.InUse.{core_use, next_more, RisesUpTo, NoneRises, RisesWithin}
+use Rattle.stm_core.specs.InUse.{core_use, next_more, RisesUpTo, RisesWithin}
 use Rattle.stm_core.specs.Outside.{Outer, OuterMove, OuterNext}
 use Rattle.stm_core.specs.Pieces.{IsInstalled, IsLoaned}
 use Rattle.stm_core.specs.Solo.{Soloed}
@@ -186,13 +186,13 @@ CommitLaw S =
 
 -- ---- what pieces and the end keep
 
--- a piece is installed, or given up for want of memory, and no peak rises
+-- a piece is installed, or given up for want of memory
 abbrev pub InstallLaw : Type 0 → Type 0
 InstallLaw S =
-    (p : Prog S) (start : Machine S) (most segments : ℕ) (f g : ℕ → ℕ) (o o1 : Outer S) → Good p start most o.core →
-    IsExplained p start most segments f o.core → NoneRises f g → (k n reserved limit : ℕ) (loaned left : Heap)
+    (p : Prog S) (start : Machine S) (most segments : ℕ) (f : ℕ → ℕ) (o o1 : Outer S) → Good p start most o.core →
+    IsExplained p start most segments f o.core → (k n reserved limit : ℕ) (loaned left : Heap)
     (steps : ℕ) (last : S) (r : Result ℕ AllocError)
-    → IsInstalled p most k n reserved limit loaned left steps last r o o1 → IsExplained p start most segments g o1.core
+    → IsInstalled p most k n reserved limit loaned left steps last r o o1 → IsExplained p start most segments f o1.core
 
 -- a segment is asked for a loan
 abbrev pub LoanLaw : Type 0 → Type 0

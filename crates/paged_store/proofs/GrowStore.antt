@@ -275,7 +275,7 @@ module _ (s : PagedStore) (k a : ℕ) (l : k < (paged_meaning s).segments) (c : 
   at_is = at_seen (table_of s.pages) (Segment k) (sees (paged_meaning s) k) (seen_by s k) (table_segment s k l) a
       (there s k a l c can)
 
-  full_there : Outgrows c (decode (words_of s k) a) → IsFull (sees (paged_meaning s) k) a c
+  pub full_there : Outgrows c (decode (words_of s k) a) → IsFull (sees (paged_meaning s) k) a c
   full_there h = subst (λ o. IfThere false o (Outgrows c)) (sym sees_is) h
 
   asks_there : (e : StoreFault) → AsksFor (Some (decode (words_of s k) a)) (after c (decode (words_of s k) a)) e

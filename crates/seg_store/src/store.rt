@@ -160,7 +160,8 @@ pub trait SegStore: Peek + Drop {
         ensures reserved { reserved self.new ≡ reserved self.old }
         ensures peaks { peaks self.new ≡ peaks self.old };
 
-    /// Adds a value at the end of a List. It meets a full heap only where the List's room is full.
+    /// Adds a value at the end of a List. It meets a full heap only where the List's room is full, and only there peaks may
+    /// rise.
     fn push_val(&mut self, k: u8, a: Addr, v: Value) -> Result<(), StoreFault>
         requires segment { k < (meaning self.old).segments }
         requires held { holds ((meaning self.old).part k) a.0 ≡ true }
@@ -171,7 +172,8 @@ pub trait SegStore: Peek + Drop {
         ensures asked { IfErr result (AsksFor (sees (meaning self.old) k a.0) (after (Push v) (at (sees (meaning self.old) k) a.0))) }
         ensures reserved { reserved self.old ≤ reserved self.new }
         ensures peaks { OnOk result (Rises (peaks self.old) (peaks self.new) (in_use (meaning self.new))) }
-        ensures peaks_err { OnErr result (RisesTo (peaks self.old) (peaks self.new) (use_with (meaning self.old) (sees (meaning self.old) k a.0) (after (Push v) (at (sees (meaning self.old) k) a.0)))) };
+        ensures peaks_err { OnErr result (RisesTo (peaks self.old) (peaks self.new) (use_with (meaning self.old) (sees (meaning self.old) k a.0) (after (Push v) (at (sees (meaning self.old) k) a.0)))) }
+        ensures roomy { (IsFull (sees (meaning self.old) k) a.0 (Push v) → ⊥) → peaks self.new ≡ peaks self.old };
 
     /// Leaves the first `n` values of a List. It never meets a full heap.
     fn truncate(&mut self, k: u8, a: Addr, n: usize) -> Result<(), StoreFault>
@@ -185,7 +187,7 @@ pub trait SegStore: Peek + Drop {
         ensures peaks { peaks self.new ≡ peaks self.old };
 
     /// Adds a key that isn't there, and its value, at the end of a Dict. It meets a full heap only where the Dict's room is
-    /// full.
+    /// full, and only there peaks may rise.
     fn push_pair(&mut self, k: u8, d: Addr, key: Value, v: Value) -> Result<(), StoreFault>
         requires segment { k < (meaning self.old).segments }
         requires held { holds ((meaning self.old).part k) d.0 ≡ true }
@@ -196,7 +198,8 @@ pub trait SegStore: Peek + Drop {
         ensures asked { IfErr result (AsksFor (sees (meaning self.old) k d.0) (after (Pair key v) (at (sees (meaning self.old) k) d.0))) }
         ensures reserved { reserved self.old ≤ reserved self.new }
         ensures peaks { OnOk result (Rises (peaks self.old) (peaks self.new) (in_use (meaning self.new))) }
-        ensures peaks_err { OnErr result (RisesTo (peaks self.old) (peaks self.new) (use_with (meaning self.old) (sees (meaning self.old) k d.0) (after (Pair key v) (at (sees (meaning self.old) k) d.0)))) };
+        ensures peaks_err { OnErr result (RisesTo (peaks self.old) (peaks self.new) (use_with (meaning self.old) (sees (meaning self.old) k d.0) (after (Pair key v) (at (sees (meaning self.old) k) d.0)))) }
+        ensures roomy { (IsFull (sees (meaning self.old) k) d.0 (Pair key v) → ⊥) → peaks self.new ≡ peaks self.old };
 
     /// Drops the pair of that number; those behind close the gap. It never meets a full heap.
     fn drop_pair(&mut self, k: u8, d: Addr, place: usize) -> Result<(), StoreFault>

@@ -5,6 +5,8 @@ pub mod New
 pub mod Looking
 pub mod Fits
 pub mod Holding
+pub mod Used
+pub mod Peaks
 pub mod Changing
 pub mod Seeing
 pub mod Telling
@@ -16,6 +18,8 @@ pub mod Stopping
 pub mod Wholes
 pub mod Soundness
 pub mod Afresh
+pub mod Richer
+pub mod RowPeaks
 pub mod StepOut
 pub mod Pausing
 pub mod Advancing
@@ -36,6 +40,7 @@ pub mod Endings
 pub mod Advanced
 pub mod Calling
 pub mod TakenSteps
+pub mod PeaksRising
 pub mod EventSteps
 pub mod PieceEvents
 pub mod OutsideLemmas

@@ -1,5 +1,5 @@
 -- One step of a client over a segment's view, as the core sees it.
-use Rattle.std.proofs.Common.{◌≡◌, ℕ, true, false, cond, List, [], ◌∷◌, length, take, Option, None, refl, sym, ◌∙◌, ap, subst, inl, inr, arith, Result, Ok, Err, IfErr, OnErr, All}
+use Rattle.std.proofs.Common.{◌≡◌, ℕ, ◌+◌, ◌/◌, ◌≤◌, true, false, cond, List, [], ◌∷◌, length, take, Option, None, refl, sym, ◌∙◌, ap, subst, inl, inr, arith, Result, Ok, Err, IfOk, IfErr, OnErr, All}
 use Rattle.std.proofs.lemmas.Bool.{cases_Bool, both_ways, or_left, cond-true, cond-false}
 use Rattle.std.proofs.lemmas.List.{take_all}
 use Rattle.py_data.specs.declared.value.Addr.{Addr}
@@ -9,10 +9,11 @@ use Rattle.py_data.specs.declared.stop.Stop.{Stop}
 use Rattle.py_data.specs.declared.stop.Stop.TheVariants.{Lost, NeedSolo, NeedHeap, Full, ReadFault, WriteFault, ErrFault, OutOfMemory}
 use Rattle.py_data.specs.World.{World}
 use Rattle.py_data.specs.Collection.{places}
-use Rattle.py_data.specs.Row.{Call, Reply, Row, Ret, Do}
+use Rattle.py_data.specs.Heap.{Heap}
+use Rattle.py_data.specs.Row.{Call, Reply, Row, Ret, Do, Read, Find, Edit, Make, Start, Put, Take, MidLine, SetMidLine}
 use Rattle.py_data.specs.Sense.{Run, Stopped, Upto}
 use Rattle.py_data.specs.Sight.{Sight, Does, mem, pure}
-use Rattle.py_data.specs.Steady.{AsksToPrint}
+use Rattle.py_data.specs.Steady.{AsksToPrint, Writes}
 use Rattle.lock_run.specs.declared.client.Outcome.{Outcome}
 use Rattle.lock_run.specs.declared.client.Outcome.TheVariants.{Waits as WaitsNow}
 use Rattle.lock_run.specs.declared.client.Life.TheVariants.{Lives}
@@ -25,19 +26,25 @@ use Rattle.seg_store.specs.Store.{IsStore}
 use Rattle.seg_store.proofs.Sees.{own_part, step_shows}
 use Rattle.stm_core.specs.declared.books.Work.{Work}
 use Rattle.stm_core.specs.declared.books.Books.{Books}
-use Rattle.stm_core.specs.CoreState.{sight_of}
+use Rattle.stm_core.specs.CoreState.{Running, sight_of}
 use Rattle.stm_core.specs.Conflict.{side}
 use Rattle.stm_core.specs.Moves.{Stays}
 use Rattle.stm_core.specs.Asking.{Reaches, AsksToChange, AsksOutside, AsksRoom, AskedFor}
 use Rattle.stm_core.specs.Books.{runs_at, Worlds, transaction, core_of, Fit}
 use Rattle.stm_core.specs.Devices.{DeviceState, ShowsWorld, Shown}
 use Rattle.stm_core.specs.inner.Hold.{Hold, holding, sight, Dooms, SegOpens, SegUndoes, LosesTo}
-use Rattle.stm_core.specs.inner.SegSense.{seg_sense, seg_bracket}
+use Rattle.stm_core.specs.InUse.{core_use, next_more, IfTold}
+use Rattle.stm_core.specs.inner.Rising.{RisesInStep}
+use Rattle.stm_core.specs.inner.SegSense.{seg_use, seg_sense, seg_bracket}
+use Rattle.stm_core.specs.inner.Trying.{core_with}
 use Rattle.stm_core.specs.inner.Whole.{stepped, StepDone, StepCut, StepBroke, StopsAt, CutWhy}
 use Rattle.stm_core.proofs.Holding.{core_own}
 use Rattle.stm_core.proofs.Telling.{world_now, shown_now, tells_same}
-use Rattle.stm_core.proofs.Way.{at_used, RowDone, row_done}
-use Rattle.stm_core.proofs.Keeping.{stop_keeps}
+use Rattle.stm_core.proofs.Used.{use_apart}
+use Rattle.stm_core.proofs.Peaks.{told_weaker, beside_less}
+use Rattle.stm_core.proofs.RowPeaks.{UsedAt, RisesOn}
+use Rattle.stm_core.proofs.Way.{at_used, Way, way, RowDone, row_done}
+use Rattle.stm_core.proofs.Keeping.{upto_keeps, stop_keeps}
 use Rattle.stm_core.proofs.Stepping.{world_of, sight_is, advances}
 use Rattle.stm_core.proofs.Stopping.{Stops, row_stopped, stays}
 use Rattle.stm_core.proofs.Afresh.{waits_afresh}
@@ -59,6 +66,32 @@ pub if_err_on : {T E : Type 0} {P Q : E → Type 0} {R : Type 0} (r : Result T E
     IfErr r P → OnErr r R → IfErr r Q
 if_err_on (Ok x) f p q = tt
 if_err_on (Err e) f p q = f e p q
+
+pub by_result : {T E : Type 0} {P : T → Type 0} {Q : E → Type 0} {R : Type 0} (r : Result T E) → IfOk r P → IfErr r Q →
+    ((x : T) → P x → R) → ((e : E) → Q e → R) → R
+by_result (Ok x) p q f g = f x p
+by_result (Err e) p q f g = g e q
+
+-- ---- what is in use
+
+le_three : (x y z v : ℕ) → x ≤ y → y ≡ z → z ≤ v → x ≤ v
+le_three x y z v a b c = omega arith
+
+le_both : (n x y z v : ℕ) → n ≤ x + y → x ≤ z → y ≤ v → n ≤ z + v
+le_both n x y z v a b c = omega arith
+
+-- a row that writes next wants no words
+writes_nothing : {S A : Type 0} (row : Row S A) (h : Heap) (c : ℕ) → Writes row → next_more row h c ≡ 0
+writes_nothing (Do (Put on bytes) f) h c y = refl
+writes_nothing (Ret a) h c y = absurd y
+writes_nothing (Do (Take most) f) h c y = absurd y
+writes_nothing (Do MidLine f) h c y = absurd y
+writes_nothing (Do (SetMidLine b) f) h c y = absurd y
+writes_nothing (Do (Read a) f) h c y = absurd y
+writes_nothing (Do (Find a x) f) h c y = absurd y
+writes_nothing (Do (Edit a x) f) h c y = absurd y
+writes_nothing (Do (Make x) f) h c y = absurd y
+writes_nothing (Do (Start x) f) h c y = absurd y
 
 -- ---- why a step was cut
 
@@ -172,6 +205,64 @@ module _ {S X : Type 0} (hold : X → Hold S) (devices : X → DeviceState) (seg
         -- the core's state once the step was opened
         core_begins : core_of w (hold v1).meaning (hold v1).books ≡ core_of w m b
         core_begins = ap (λ (z : Hold S). core_of w z.meaning z.books) op ∙ core_own w k (opened (m.part k)) m b fit.out
+
+        -- ---- how far the peaks of the view's store rise
+
+        -- a place of the row over the view is one of the row over what the segment sees
+        module _ (peaks : X → Option (ℕ → ℕ)) (c n : ℕ)
+            (h : UsedAt hold devices segment me same peaks w (prog.row x.state) v1 c n) where
+          at_k : segment h.place ≡ k
+          at_k = (upto_keeps hold devices segment me same same_refl same_then k s (prog.row x.state) v1 h.left h.place
+              h.upto (opens.2.segment_is ∙ ek) (opens.2.me_is ∙ es)).segment_is
+
+          on_way : Way t e k s (prog.row x.state) (world_of w x.solo) x.solo (hold v1) h.left (hold h.place)
+              (devices h.place)
+          on_way = way hold devices segment me same t e k s (prog.row x.state) v1 h.left h.place (world_of w x.solo)
+              x.solo (opens.2.segment_is ∙ ek) (opens.2.me_is ∙ es) shown_begins asks h.upto
+
+          abbrev own_view : Heap
+          own_view = sees (hold h.place).meaning k
+
+          -- the other segments as they were before the step
+          use_le : seg_use w k (hold h.place).meaning (hold h.place).books c ≤
+              core_use (m.limit / 2) m.segments k own_view (core_with w k m b x) c
+          use_le =
+              let a = beside_less _ k s (hold v1) (hold h.place) on_way.beside w own_view c in
+              let l = ap (λ (z : Hold S). core_use (z.meaning.limit / 2) z.meaning.segments k own_view
+              (core_of w (hold v1).meaning (hold v1).books) c) op ∙
+              ap (λ z. core_use (m.limit / 2) m.segments k own_view z c) core_begins in
+              let d = use_apart (m.limit / 2) m.segments k own_view (Running (transaction w.own (m.part k) x))
+              (core_of w m b) c in
+              le_three _ _ _ _ a l d
+
+          next_le : next_more h.left own_view c ≤ next_more on_way.next own_view c
+          next_le = elim on_way.ends [
+            | inl z ↦ subst (λ (y : Row S (Outcome × S)). next_more h.left own_view c ≤ next_more y own_view c)
+                (sym z.0) (omega arith)
+            | inr z ↦ let e = writes_nothing h.left own_view c z.2 in omega arith
+          ]
+
+          used_in_step : (left : Row S (Outcome × S)) × (place : Sight S) ×
+              Upto pure (prog.row x.state) (sight_of m.image w.committed (transaction w.own (m.part k) x)) left place ×
+              (n ≤ core_use (m.limit / 2) m.segments k place.heap (core_with w k m b x) c + next_more left place.heap c)
+          used_in_step = (
+            on_way.next,
+            at_used on_way.world on_way.used (sight k (hold h.place)),
+            subst (λ z. Upto pure (prog.row x.state) z on_way.next
+                (at_used on_way.world on_way.used (sight k (hold h.place)))) begins on_way.upto,
+            le_both _ _ _ _ _ (subst (λ i. n ≤ seg_use w i (hold h.place).meaning (hold h.place).books c +
+                next_more h.left (sees (hold h.place).meaning i) c) at_k h.most) use_le next_le,
+          )
+
+        pub step_rises : (peaks : X → Option (ℕ → ℕ)) (old : Option (ℕ → ℕ)) (u1 : X) → peaks v1 ≡ old →
+            IfTold (peaks v1) (peaks u1) (RisesOn hold devices segment me same peaks w (prog.row x.state) v1) →
+            peaks u ≡ peaks u1 → IfTold old (peaks u) (RisesInStep prog w k m b x)
+        step_rises peaks old u1 first rises last =
+            subst (λ z. IfTold z (peaks u) (RisesInStep prog w k m b x)) first
+            (subst (λ z. IfTold (peaks v1) z (RisesInStep prog w k m b x)) (sym last)
+            (told_weaker (peaks v1) (peaks u1) (RisesOn hold devices segment me same peaks w (prog.row x.state) v1)
+            (RisesInStep prog w k m b x)
+            (λ f g a c lo. elim (a c lo) [ inl z ↦ inl z | inr z ↦ inr (used_in_step peaks c (g c) z) ]) rises))
 
         -- ---- a step that was done
 

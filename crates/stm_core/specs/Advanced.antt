@@ -39,8 +39,7 @@ abbrev pub StepReaches : {S : Type 0} → Prog S → CoreState S → Transaction
 StepReaches p u x kind = Reaches (p.row x.state) (sight_of u.image u.world x) kind
 
 -- A cause that the next step of the transaction can meet: it comes to a call that wants so many words, which by the
--- store's
--- numbers aren't there; or there was no memory.
+-- store's numbers aren't there; or there was no memory.
 abbrev pub IsStepCause : {S : Type 0} → Prog S → CoreState S → Transaction S → ℕ → ℕ → Cause → Type 0
 IsStepCause p u x reserved limit (Full r n l) = StepReaches p u x (AsksRoom n) × (r ≡ reserved) × (l ≡ limit) ×
     (l < r + n)
@@ -52,8 +51,7 @@ abbrev pub with_cause : {S : Type 0} → Cause → CoreState S → CoreState S
 with_cause e c = record c { cause = first_cause c.cause e }
 
 -- why the next step of a solo transaction was cut for this cause: by a fault of a device, which is one of the call in
--- which it was
--- cut, or as that of another transaction
+-- which it was cut, or as that of another transaction
 abbrev pub IsSoloCause : {S : Type 0} → Prog S → CoreState S → Transaction S → ℕ → ℕ → Cause → Type 0
 IsSoloCause p u x reserved limit ReadFault = Unit {0}
 IsSoloCause p u x reserved limit WriteFault = Unit {0}
@@ -61,18 +59,16 @@ IsSoloCause p u x reserved limit ErrFault = Unit {0}
 IsSoloCause p u x reserved limit e = IsStepCause p u x reserved limit e
 
 -- What a cause makes of the core, which is kept: a transaction that isn't solo is dropped, and a solo one is committed
--- up to its last
--- whole step.
+-- up to its last whole step.
 abbrev pub Fails : {S : Type 0} → Bool → Prog S → ℕ → ℕ → ℕ → ℕ → Cause → Outer S → Transaction S → Outer S → Type 0
 Fails false p k n reserved limit e u x o1 =
     IsStepCause p u.core x reserved limit e × (o1 ≡ record u { core = with_cause e (with_segment k Idle u.core) })
 Fails true p k n reserved limit e u x o1 = IsSoloCause p u.core x reserved limit e × SoloFailed p k n e u x o1
 
 -- What comes after the steps, which led to u, where the transaction x runs on segment k of n: nothing more, since all
--- were done, or
--- the next one waits, or the thread ended, or the next one comes to a call that prints or reads and x isn't solo; or x,
--- which isn't
--- solo, loses a conflict that stands, since its next step asks to change the record that it names; or a cause is kept.
+-- were done, or the next one waits, or the thread ended, or the next one comes to a call that prints or reads and x
+-- isn't solo; or x, which isn't solo, loses a conflict that stands, since its next step asks to change the record that
+-- it names; or a cause is kept.
 abbrev pub Ends : {S : Type 0} → Prog S → ℕ → ℕ → ℕ → ℕ → Outer S → Transaction S → Result Advance AdvanceError →
     Outer S → Type 0
 Ends p k n reserved limit u x (Ok (Ran i)) o1 = (p.life x.state ≡ Lives) × (o1 ≡ u)
@@ -87,8 +83,7 @@ Ends p k n reserved limit u x (Err (Failed e)) o1 = (p.life x.state ≡ Lives) �
     o1
 
 -- Steps of segment k, each done before the next one was tried, and what came after them. A solo transaction told the
--- devices what
--- its steps did.
+-- devices what its steps did.
 pub record StepsTaken {S : Type 0} (p : Prog S) (length k n most reserved limit : ℕ) (o : Outer S)
     (result : Result Advance AdvanceError) (o1 : Outer S) : Type 0 where
   pub steps : ℕ
@@ -102,8 +97,7 @@ pub record StepsTaken {S : Type 0} (p : Prog S) (length k n most reserved limit 
       result o1
 
 -- The answer, by what the segment has in hand: a doomed one is told its conflict and is idle then; where the thread of
--- one that
--- runs has ended, nothing changes; and otherwise steps are taken.
+-- one that runs has ended, nothing changes; and otherwise steps are taken.
 abbrev pub AdvancedFrom : {S : Type 0} → Segment S → Prog S → ℕ → ℕ → ℕ → ℕ → ℕ → ℕ → Outer S →
     Result Advance AdvanceError → Outer S → Type 0
 AdvancedFrom Idle p length k n most reserved limit o result o1 = ⊥
@@ -132,8 +126,7 @@ IsOwn k (Keeps e) = Unit {0}
 IsOwn k _ = ⊥
 
 -- how an advance ends after such moves: as it is; or with a cause kept; or, where its transaction is solo, with that
--- committed, and a
--- cause kept
+-- committed, and a cause kept
 abbrev pub EndsSo : {S : Type 0} → ℕ → CoreState S → CoreState S → Type 0
 EndsSo {S} k u c1 =
     (c1 ≡ u) ⊎ ((e : Cause) × ((c1 ≡ with_cause e u) ⊎
@@ -158,8 +151,7 @@ pub record StoodBetween {S : Type 0} (p : Prog S) (length k : ℕ) (c c1 : CoreS
   pub stands : IsStanding p state f
 
 -- Only segment k went on: the committed state stays, the new conflicts are at the list's end, each of them stood on the
--- way, and
--- another segment has what it had, or is doomed by a new conflict.
+-- way, and another segment has what it had, or is doomed by a new conflict.
 pub record OnlyOwn {S : Type 0} (p : Prog S) (length k : ℕ) (c c1 : CoreState S) : Type 0 where
   pub image : c1.image ≡ c.image
   pub threads : c1.threads ≡ c.threads

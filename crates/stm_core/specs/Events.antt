@@ -73,8 +73,7 @@ is_within length m (slot.Running t n solo) = is_short length (n + m)
 is_within length m _ = true
 
 -- what stays the same in all events: the most steps of a transaction, the steps of the history at which none begins any
--- more,
--- how many segments there are, and the store's limit of words
+-- more, how many segments there are, and the store's limit of words
 pub record Limits : Type 0 where
   pub length : ℕ
   pub budget : ℕ

@@ -36,8 +36,7 @@ pub record IsQuiet {S : Type 0} (c c1 : CoreState S) : Type 0 where
   pub history : c1.history ≡ c.history
 
 -- A turn is added: the transaction x of segment k, of some steps, becomes the last of the history, and the image what
--- it saw. The
--- segment has nothing in hand then, and no transaction that goes on has looked at a record that x changed.
+-- it saw. The segment has nothing in hand then, and no transaction that goes on has looked at a record that x changed.
 pub record AddsTurn {S : Type 0} (l : Limits) (k : ℕ) (x : Transaction S) (c c1 : CoreState S) : Type 0 where
   pub some : 1 ≤ x.steps
   pub history : c1.history ≡ c.history ++ turn_of x ∷ []
@@ -85,8 +84,8 @@ pub record IsCutOff {S : Type 0} (p : Prog S) (l : Limits) (e : Event) (c c1 : C
   pub turn : AddsTurn l (event_segment e) x c c1
 
 -- Image, threads, world and history change by commits alone, each of which adds a turn: of an event that is replied the
--- number of
--- the turn, or of an advance or a piece that fails, whose solo transaction is committed. Any other event leaves them.
+-- number of the turn, or of an advance or a piece that fails, whose solo transaction is committed. Any other event
+-- leaves them.
 abbrev pub Publishes : {S : Type 0} → Prog S → Limits → Event → Reply → CoreState S → CoreState S → Type 0
 Publishes p l e (HasCommitted n) c c1 = IsCommit l e n c c1
 Publishes p l e (Failed y) c c1 = IsQuiet c c1 ⊎ IsCutOff p l e c c1
@@ -114,8 +113,7 @@ IsMadeBy (event.Commit k) c c1 f = IsLookedAt k f
 IsMadeBy (event.Piece k m) c c1 f = IsLookedAt k f × (f.writer.solo ≡ true) × (length c.history < length c1.history)
 
 -- how many steps an event's segment has done in it where a conflict stands: fewer than were asked for, since one more
--- was tried; a
--- commit does none
+-- was tried; a commit does none
 abbrev pub IsEarly : Event → ℕ → Type 0
 IsEarly (event.Advance k m) n = n < m
 IsEarly (event.Commit k) n = n ≡ 0
@@ -132,8 +130,7 @@ ComesToEnd (event.Piece k m) u c1 = EndsSo k u c1
 ComesToEnd _ u c1 = c1 ≡ u
 
 -- The conflict stood in a state that the event came through: moves of its segment, and dooms of others, lead to it from
--- the first
--- state, and from it to the event's end.
+-- the first state, and from it to the event's end.
 pub record HasStood {S : Type 0} (p : Prog S) (most : ℕ) (e : Event) (c c1 : CoreState S) (f : Conflict) : Type 0 where
   pub left : CoreState S
   pub stood : StoodBetween p most (event_segment e) c left f
@@ -150,8 +147,7 @@ pub record IsDoomed {S : Type 0} (j : ℕ) (fs : List Conflict) (s s1 : Segment 
   pub now : s1 ≡ Doomed conflict
 
 -- What an event does beside: new conflicts stand at the end of the list, each of them stood, and another segment has in
--- hand
--- what it had, or is doomed by one of them.
+-- hand what it had, or is doomed by one of them.
 pub record LeavesOthers {S : Type 0} (p : Prog S) (most : ℕ) (e : Event) (c c1 : CoreState S) : Type 0 where
   pub new : List Conflict
   pub conflicts : c1.conflicts ≡ c.conflicts ++ new
@@ -161,8 +157,7 @@ pub record LeavesOthers {S : Type 0} (p : Prog S) (most : ℕ) (e : Event) (c c1
       (c1.segments j)
 
 -- Where an event is replied a conflict, its segment has nothing in hand any more. It was doomed by that conflict
--- before, or, in an
--- advance or a commit, lost it in this event.
+-- before, or, in an advance or a commit, lost it in this event.
 abbrev pub IsToldLost : {S : Type 0} → ℕ → Reply → List Conflict → CoreState S → CoreState S → Type 0
 IsToldLost k (Lost f) new c c1 = (c1.segments k ≡ Idle) ×
     ((c.segments k ≡ Doomed f) ⊎ (Contains new f × ((loser f).segment ≡ k)))
@@ -194,9 +189,8 @@ has_failed (Failed y) = true
 has_failed _ = false
 
 -- From the first event to the last the history grows by turns, and the conflicts grow. The numbers that were replied
--- ascend, and each
--- is the place of a new turn; every other new turn is one of an event that failed. Where no turn was added the
--- committed state stays.
+-- ascend, and each is the place of a new turn; every other new turn is one of an event that failed. Where no turn was
+-- added the committed state stays.
 pub record IsGrown {S : Type 0} (rs : List Reply) (c c1 : CoreState S) : Type 0 where
   pub turns : List Turn
   pub history : c1.history ≡ c.history ++ turns

@@ -43,10 +43,6 @@ next_more (Do call f) h c = wants_more call h c
 abbrev pub RisesUpTo : (ℕ → ℕ) → (ℕ → ℕ) → (ℕ → ℕ) → Type 0
 RisesUpTo f g most = (c : ℕ) → 1 ≤ c → (g c ≤ f c) ⊎ (g c ≤ most c)
 
--- none of them rose
-abbrev pub NoneRises : (ℕ → ℕ) → (ℕ → ℕ) → Type 0
-NoneRises f g = (c : ℕ) → 1 ≤ c → g c ≤ f c
-
 -- this holds of the peaks before and after, where a store tells them; it neither begins nor ceases to tell them
 abbrev pub IfTold : Option (ℕ → ℕ) → Option (ℕ → ℕ) → ((ℕ → ℕ) → (ℕ → ℕ) → Type 0) → Type 0
 IfTold None None holds = Unit {0}

@@ -35,7 +35,6 @@ impl<'p, C: Client, S: SegStore, I: Source, O: Sink, E: Sink> Core<'p, C, S, I, 
     ghost use Rattle.stm_core.specs.Begun.{CountsSteps};
     ghost use Rattle.stm_core.specs.Books.{Fit};
     ghost use Rattle.stm_core.specs.CoreHeld.{core_client, core_limits, core_store, Says, Leads, IsGoodCore, SameJob};
-    ghost use Rattle.stm_core.specs.InUse.{IfTold, NoneRises};
     ghost use Rattle.stm_core.specs.Pieces.{FitsSegment, IsInstalled};
     ghost use Rattle.stm_core.specs.inner.PutIn.{HasPutIn, HasFailed};
     ghost use Rattle.stm_core.specs.inner.Replayed.{CanReplay};
@@ -64,7 +63,7 @@ impl<'p, C: Client, S: SegStore, I: Source, O: Sink, E: Sink> Core<'p, C, S, I, 
         ensures count { CountsSteps self.new.spent self.new.books.history.entries }
         ensures shape { SameShape (S.meaning self.old.store) (S.meaning self.new.store) }
         ensures reserved { S.reserved self.old.store ≤ S.reserved self.new.store }
-        ensures peaks { IfTold (S.peaks self.old.store) (S.peaks self.new.store) NoneRises }
+        ensures peaks { S.peaks self.new.store ≡ S.peaks self.old.store }
         ensures steps { IfOk result (λ n. n ≡ steps) }
         ensures ok { OnOk result (HasPutIn k edits.now steps last (S.meaning self.old.store) self.old.books work (S.meaning self.new.store) self.new.books) }
         ensures err { OnErr result (HasFailed k (S.meaning self.old.store) self.old.books work (S.meaning self.new.store) self.new.books) }
@@ -99,7 +98,7 @@ impl<'p, C: Client, S: SegStore, I: Source, O: Sink, E: Sink> Core<'p, C, S, I, 
         ensures job { SameJob S.meaning self.old self.new }
         ensures installed { Leads I.state O.state E.state C.prog S.meaning self.old self.new
             (λ o o1. IsInstalled (C.prog (core_client self.old)) (core_limits S.meaning self.old).length k (core_limits S.meaning self.old).segments (S.reserved self.new.store) (core_limits S.meaning self.old).words (piece_state p.view).loaned (piece_state p.view).heap p.steps (last_of p.start p.last) result o o1) }
-        ensures peaks { IfTold (S.peaks (core_store self.old)) (S.peaks (core_store self.new)) NoneRises }
+        ensures peaks { S.peaks (core_store self.new) ≡ S.peaks (core_store self.old) }
     {
         self.store.known();
         match self.books.take(k) {

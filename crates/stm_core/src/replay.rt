@@ -5,7 +5,6 @@ ghost use Rattle.seg_store.specs.declared.store.StoreFault.TheVariants.{OutOfMem
 ghost use Rattle.seg_store.specs.Meaning.{sees, holds};
 ghost use Rattle.seg_store.specs.Calls.{after_change};
 ghost use Rattle.seg_store.specs.Store.{CanChange, IsFull};
-ghost use Rattle.stm_core.specs.InUse.{IfTold, NoneRises};
 ghost use Rattle.stm_core.specs.inner.Replayed.{replayed, CanReplay, OnlyChanges};
 
 use py_data::{Addr, Change, NoMemory};
@@ -22,7 +21,7 @@ fn make_change<S: SegStore>(store: &mut S, k: u8, a: Addr, change: Change) -> Re
     ensures err { OnErr result (S.meaning store.new ≡ S.meaning store.old) }
     ensures cause { IfErr result (λ e. e ≡ OutOfMemory) }
     ensures reserved { S.reserved store.old ≤ S.reserved store.new }
-    ensures peaks { IfTold (S.peaks store.old) (S.peaks store.new) NoneRises }
+    ensures peaks { S.peaks store.new ≡ S.peaks store.old }
 {
     match change {
         Change::Set(i, v) => store.set_val(k, a, i, v),
@@ -41,7 +40,7 @@ pub fn replay<S: SegStore>(store: &mut S, k: u8, edits: &[(Addr, Change)]) -> Re
     ensures ok { OnOk result (S.meaning store.new ≡ replayed k edits.now (S.meaning store.old)) }
     ensures err { OnErr result (OnlyChanges k (S.meaning store.old) (S.meaning store.new)) }
     ensures reserved { S.reserved store.old ≤ S.reserved store.new }
-    ensures peaks { IfTold (S.peaks store.old) (S.peaks store.new) NoneRises }
+    ensures peaks { S.peaks store.new ≡ S.peaks store.old }
 {
     for edit in edits {
         match make_change(store, k, edit.0, edit.1) {

@@ -15,7 +15,10 @@ ghost use Rattle.stm_core.specs.Asking.{ChangeWants};
 ghost use Rattle.stm_core.specs.Conflict.{wins};
 ghost use Rattle.stm_core.specs.Books.{Fit, runs_at};
 ghost use Rattle.py_data.specs.Row.{Call, Read, Edit};
-ghost use Rattle.stm_core.specs.inner.SegSense.{Seen};
+ghost use Rattle.seg_store.specs.Extents.{extents};
+ghost use Rattle.seg_store.specs.Telling.{in_use};
+ghost use Rattle.stm_core.specs.InUse.{wants_more, RisesUpTo, IfTold};
+ghost use Rattle.stm_core.specs.inner.SegSense.{Seen, RisesThere};
 ghost use Rattle.stm_core.specs.inner.Hold.{holding, SegDoes, SegWhy, SegRefuses, FaultWhy, Holds, Fails, is_noted, Looks, stop_of};
 
 use crate::books::{Books, Hand, Progress};
@@ -59,6 +62,7 @@ impl<'a, T: Drop, S: SegStore, I, O, E> SegView<'a, T, S, I, O, E> {
     ) -> SegView<'a, T, S, I, O, E>
         requires { Fit segment (S.meaning store.old) books.old progress.old }
         ensures holds { holding (S.meaning result.store.now) (S.reserved result.store.now) result.books.now result.progress.now result.stopped ≡ holding (S.meaning store.old) (S.reserved store.old) books.old progress.old None }
+        ensures peaks { S.peaks result.store.now ≡ S.peaks store.old }
         ensures tells { result.devices.now ≡ devices.old }
         ensures stays { (result.segment ≡ segment) × (result.side ≡ side) }
         ensures refs { (result.store.ghost_name ≡ store.entry.ghost_name) × (result.books.ghost_name ≡ books.entry.ghost_name) × (result.progress.ghost_name ≡ progress.entry.ghost_name) × (result.devices.ghost_name ≡ devices.entry.ghost_name) }
@@ -183,6 +187,7 @@ impl<'a, T: Drop, S: SegStore, I, O, E> SegView<'a, T, S, I, O, E> {
         ensures err { IfErr result (λ e. Fails self.old.segment self.old.side a.0 (holding (S.meaning self.old.store.now) (S.reserved self.old.store.now) self.old.books.now self.old.progress.now self.old.stopped) e (holding (S.meaning self.new.store.now) (S.reserved self.new.store.now) self.new.books.now self.new.progress.now self.new.stopped)) }
         ensures stays { (self.new.segment ≡ self.old.segment) × (self.new.side ≡ self.old.side) × (self.new.devices ≡ self.old.devices) }
         ensures refs { (self.new.store.ghost_name ≡ self.old.store.ghost_name) × (self.new.books.ghost_name ≡ self.old.books.ghost_name) × (self.new.progress.ghost_name ≡ self.old.progress.ghost_name) }
+        ensures peaks { S.peaks self.new.store.now ≡ S.peaks self.old.store.now }
     {
         self.look(a)
     }
@@ -196,6 +201,7 @@ impl<'a, T: Drop, S: SegStore, I, O, E> SegView<'a, T, S, I, O, E> {
         ensures err { IfErr result (λ e. Fails self.old.segment self.old.side a.0 (holding (S.meaning self.old.store.now) (S.reserved self.old.store.now) self.old.books.now self.old.progress.now self.old.stopped) e (holding (S.meaning self.new.store.now) (S.reserved self.new.store.now) self.new.books.now self.new.progress.now self.new.stopped)) }
         ensures stays { (self.new.segment ≡ self.old.segment) × (self.new.side ≡ self.old.side) × (self.new.devices ≡ self.old.devices) }
         ensures refs { (self.new.store.ghost_name ≡ self.old.store.ghost_name) × (self.new.books.ghost_name ≡ self.old.books.ghost_name) × (self.new.progress.ghost_name ≡ self.old.progress.ghost_name) }
+        ensures peaks { S.peaks self.new.store.now ≡ S.peaks self.old.store.now }
     {
         self.store.known();
         match self.store.lock(self.segment, a) {
@@ -215,6 +221,7 @@ impl<'a, T: Drop, S: SegStore, I, O, E> SegView<'a, T, S, I, O, E> {
         ensures err { IfErr result (λ e. Fails self.old.segment self.old.side a.0 (holding (S.meaning self.old.store.now) (S.reserved self.old.store.now) self.old.books.now self.old.progress.now self.old.stopped) e (holding (S.meaning self.new.store.now) (S.reserved self.new.store.now) self.new.books.now self.new.progress.now self.new.stopped)) }
         ensures stays { (self.new.segment ≡ self.old.segment) × (self.new.side ≡ self.old.side) × (self.new.devices ≡ self.old.devices) }
         ensures refs { (self.new.store.ghost_name ≡ self.old.store.ghost_name) × (self.new.books.ghost_name ≡ self.old.books.ghost_name) × (self.new.progress.ghost_name ≡ self.old.progress.ghost_name) }
+        ensures peaks { S.peaks self.new.store.now ≡ S.peaks self.old.store.now }
     {
         self.store.known();
         let writer = self.books.side(j);
@@ -247,6 +254,7 @@ impl<'a, T: Drop, S: SegStore, I, O, E> SegView<'a, T, S, I, O, E> {
         ensures err { IfErr result (λ e. Fails self.old.segment self.old.side a.0 (holding (S.meaning self.old.store.now) (S.reserved self.old.store.now) self.old.books.now self.old.progress.now self.old.stopped) e (holding (S.meaning self.new.store.now) (S.reserved self.new.store.now) self.new.books.now self.new.progress.now self.new.stopped)) }
         ensures stays { (self.new.segment ≡ self.old.segment) × (self.new.side ≡ self.old.side) × (self.new.devices ≡ self.old.devices) }
         ensures refs { (self.new.store.ghost_name ≡ self.old.store.ghost_name) × (self.new.books.ghost_name ≡ self.old.books.ghost_name) × (self.new.progress.ghost_name ≡ self.old.progress.ghost_name) }
+        ensures peaks { S.peaks self.new.store.now ≡ S.peaks self.old.store.now }
     {
         self.note(a);
         match self.store.holder(a) {
@@ -274,6 +282,8 @@ impl<'a, T: Drop, S: SegStore, I, O, E> SegView<'a, T, S, I, O, E> {
         ensures stopped { self.new.stopped ≡ self.old.stopped }
         ensures stays { (self.new.segment ≡ self.old.segment) × (self.new.side ≡ self.old.side) × (self.new.devices ≡ self.old.devices) }
         ensures refs { (self.new.store.ghost_name ≡ self.old.store.ghost_name) × (self.new.books.ghost_name ≡ self.old.books.ghost_name) × (self.new.progress.ghost_name ≡ self.old.progress.ghost_name) }
+        ensures peaks { OnOk result (IfTold (S.peaks self.old.store.now) (S.peaks self.new.store.now) (λ f g. RisesUpTo f g (in_use (S.meaning self.new.store.now)))) }
+        ensures peaks_err { OnErr result (IfTold (S.peaks self.old.store.now) (S.peaks self.new.store.now) (λ f g. RisesUpTo f g (λ c. in_use (S.meaning self.old.store.now) c + wants_more {S = T} (Edit a.0 change) (sees (S.meaning self.old.store.now) self.old.segment) c))) }
     {
         match change {
             Change::Set(i, v) => self.store.set_val(self.segment, a, i, v),
@@ -292,11 +302,19 @@ impl<'a, T: Drop, S: SegStore, I, O, E> SegView<'a, T, S, I, O, E> {
         ensures err { IfErr result (λ e. SegRefuses self.old.segment self.old.side (Edit a.0 change) (holding (S.meaning self.old.store.now) (S.reserved self.old.store.now) self.old.books.now self.old.progress.now self.old.stopped) e (holding (S.meaning self.new.store.now) (S.reserved self.new.store.now) self.new.books.now self.new.progress.now self.new.stopped)) }
         ensures stays { (self.new.segment ≡ self.old.segment) × (self.new.side ≡ self.old.side) × (self.new.devices ≡ self.old.devices) }
         ensures refs { (self.new.store.ghost_name ≡ self.old.store.ghost_name) × (self.new.books.ghost_name ≡ self.old.books.ghost_name) × (self.new.progress.ghost_name ≡ self.old.progress.ghost_name) }
+        ensures tells { OnOk result (RisesThere self.new.segment (S.meaning self.new.store.now) self.new.books.now (λ c. 0) (S.peaks self.old.store.now) (S.peaks self.new.store.now)) }
+        ensures tells_err { OnErr result (RisesThere self.old.segment (S.meaning self.old.store.now) self.old.books.now (wants_more {S = T} (Edit a.0 change) (sees (S.meaning self.old.store.now) self.old.segment)) (S.peaks self.old.store.now) (S.peaks self.new.store.now)) }
     {
         match self.hold(a) {
             Ok(()) => match self.change_held(a, change) {
-                Ok(()) => Ok(()),
-                Err(fault) => Err(self.refuse(fault)),
+                Ok(()) => {
+                    self.store.known();
+                    Ok(())
+                }
+                Err(fault) => {
+                    self.store.known();
+                    Err(self.refuse(fault))
+                }
             },
             Err(stop) => Err(stop),
         }
@@ -318,6 +336,8 @@ impl<'a, T: Drop, S: SegStore, I, O, E> SegView<'a, T, S, I, O, E> {
         ensures stopped { self.new.stopped ≡ self.old.stopped }
         ensures stays { (self.new.segment ≡ self.old.segment) × (self.new.side ≡ self.old.side) × (self.new.devices ≡ self.old.devices) }
         ensures refs { (self.new.store.ghost_name ≡ self.old.store.ghost_name) × (self.new.books.ghost_name ≡ self.old.books.ghost_name) × (self.new.progress.ghost_name ≡ self.old.progress.ghost_name) }
+        ensures peaks { OnOk result (IfTold (S.peaks self.old.store.now) (S.peaks self.new.store.now) (λ f g. RisesUpTo f g (in_use (S.meaning self.new.store.now)))) }
+        ensures peaks_err { OnErr result (IfTold (S.peaks self.old.store.now) (S.peaks self.new.store.now) (λ f g. RisesUpTo f g (λ c. in_use (S.meaning self.old.store.now) c + extents (rec_of r.now) c))) }
     {
         let last = self.progress.names.len();
         self.progress.names.push(Addr(0))?;
@@ -395,6 +415,7 @@ impl<'a, T: Drop, S: SegStore, I, O, E> SegView<'a, T, S, I, O, E> {
         ensures unsure { IfErr result (λ e. Seen a.0 self.old.segment (holding (S.meaning self.old.store.now) (S.reserved self.old.store.now) self.old.books.now self.old.progress.now self.old.stopped) → ⊥) }
         ensures stays { (self.new.segment ≡ self.old.segment) × (self.new.side ≡ self.old.side) × (self.new.devices ≡ self.old.devices) }
         ensures refs { (self.new.store.ghost_name ≡ self.old.store.ghost_name) × (self.new.books.ghost_name ≡ self.old.books.ghost_name) × (self.new.progress.ghost_name ≡ self.old.progress.ghost_name) }
+        ensures peaks { S.peaks self.new.store.now ≡ S.peaks self.old.store.now }
     {
         self.note(a);
         self.look(a)

@@ -9,24 +9,24 @@ impl<'a, T: Drop, S: SegStore, I: Source, O: Sink, E: Sink> View<T> for SegView<
     ghost use Rattle.std.specs.Prelude.{◌≡◌};
     ghost use Rattle.stm_core.specs.Devices.{device_state};
     ghost use Rattle.stm_core.specs.inner.Hold.{holding};
-    ghost use Rattle.stm_core.specs.inner.SegSense.{seg_sense, seg_bracket};
-    ghost use Rattle.stm_core.specs.inner.SegLaws.{seg_lawful, seg_bracketed};
+    ghost use Rattle.stm_core.specs.inner.SegSense.{told_sense, told_bracket};
+    ghost use Rattle.stm_core.specs.inner.SegLaws.{told_lawful, told_bracketed};
 
-    ghost sense = { seg_sense (λ v. holding (S.meaning v.store.now) (S.reserved v.store.now) v.books.now v.progress.now v.stopped)
+    ghost sense = { told_sense (λ v. holding (S.meaning v.store.now) (S.reserved v.store.now) v.books.now v.progress.now v.stopped)
         (λ v. device_state I.state O.state E.state v.devices.now) (λ v. v.segment) (λ v. v.side)
-        (λ v w. (w.store.ghost_name ≡ v.store.ghost_name) × (w.books.ghost_name ≡ v.books.ghost_name) × (w.progress.ghost_name ≡ v.progress.ghost_name) × (w.devices.ghost_name ≡ v.devices.ghost_name)) };
+        (λ v w. (w.store.ghost_name ≡ v.store.ghost_name) × (w.books.ghost_name ≡ v.books.ghost_name) × (w.progress.ghost_name ≡ v.progress.ghost_name) × (w.devices.ghost_name ≡ v.devices.ghost_name)) (λ v. S.peaks v.store.now) };
 
-    ghost bracket = { seg_bracket (λ v. holding (S.meaning v.store.now) (S.reserved v.store.now) v.books.now v.progress.now v.stopped)
+    ghost bracket = { told_bracket (λ v. holding (S.meaning v.store.now) (S.reserved v.store.now) v.books.now v.progress.now v.stopped)
         (λ v. device_state I.state O.state E.state v.devices.now) (λ v. v.segment) (λ v. v.side)
-        (λ v w. (w.store.ghost_name ≡ v.store.ghost_name) × (w.books.ghost_name ≡ v.books.ghost_name) × (w.progress.ghost_name ≡ v.progress.ghost_name) × (w.devices.ghost_name ≡ v.devices.ghost_name)) };
+        (λ v w. (w.store.ghost_name ≡ v.store.ghost_name) × (w.books.ghost_name ≡ v.books.ghost_name) × (w.progress.ghost_name ≡ v.progress.ghost_name) × (w.devices.ghost_name ≡ v.devices.ghost_name)) (λ v. S.peaks v.store.now) };
 
-    ghost lawful = { seg_lawful (λ v. holding (S.meaning v.store.now) (S.reserved v.store.now) v.books.now v.progress.now v.stopped)
+    ghost lawful = { told_lawful (λ v. holding (S.meaning v.store.now) (S.reserved v.store.now) v.books.now v.progress.now v.stopped)
         (λ v. device_state I.state O.state E.state v.devices.now) (λ v. v.segment) (λ v. v.side)
-        (λ v w. (w.store.ghost_name ≡ v.store.ghost_name) × (w.books.ghost_name ≡ v.books.ghost_name) × (w.progress.ghost_name ≡ v.progress.ghost_name) × (w.devices.ghost_name ≡ v.devices.ghost_name)) };
+        (λ v w. (w.store.ghost_name ≡ v.store.ghost_name) × (w.books.ghost_name ≡ v.books.ghost_name) × (w.progress.ghost_name ≡ v.progress.ghost_name) × (w.devices.ghost_name ≡ v.devices.ghost_name)) (λ v. S.peaks v.store.now) };
 
-    ghost bracketed = { seg_bracketed (λ v. holding (S.meaning v.store.now) (S.reserved v.store.now) v.books.now v.progress.now v.stopped)
+    ghost bracketed = { told_bracketed (λ v. holding (S.meaning v.store.now) (S.reserved v.store.now) v.books.now v.progress.now v.stopped)
         (λ v. device_state I.state O.state E.state v.devices.now) (λ v. v.segment) (λ v. v.side)
-        (λ v w. (w.store.ghost_name ≡ v.store.ghost_name) × (w.books.ghost_name ≡ v.books.ghost_name) × (w.progress.ghost_name ≡ v.progress.ghost_name) × (w.devices.ghost_name ≡ v.devices.ghost_name)) };
+        (λ v w. (w.store.ghost_name ≡ v.store.ghost_name) × (w.books.ghost_name ≡ v.books.ghost_name) × (w.progress.ghost_name ≡ v.progress.ghost_name) × (w.devices.ghost_name ≡ v.devices.ghost_name)) (λ v. S.peaks v.store.now) };
 
     fn open_step(&mut self) {
         self.store.open_step(self.segment);
@@ -162,8 +162,14 @@ impl<'a, T: Drop, S: SegStore, I: Source, O: Sink, E: Sink> View<T> for SegView<
     #[tactic(auto, unfolding(py_data::specs::Sense::Asks, py_data::specs::Heap::at))]
     fn make(&mut self, r: &Record) -> Result<Addr, Stop> {
         match self.name_made(r) {
-            Ok(n) => Ok(n),
-            Err(fault) => Err(self.refuse(fault)),
+            Ok(n) => {
+                self.store.known();
+                Ok(n)
+            }
+            Err(fault) => {
+                self.store.known();
+                Err(self.refuse(fault))
+            }
         }
     }
 

@@ -12,7 +12,7 @@ use Rattle.seg_store.specs.Telling.{IsTelling}
 use Rattle.stm_core.specs.declared.cause.Cause.TheVariants.{Full}
 use Rattle.stm_core.specs.declared.standing.RunState.{RunState}
 use Rattle.stm_core.specs.CoreHeld.{IsFullKept}
-use Rattle.stm_core.specs.CoreState.{CoreState, core_new}
+use Rattle.stm_core.specs.CoreState.{CoreState, committed, core_new}
 use Rattle.stm_core.specs.Devices.{DeviceState}
 use Rattle.stm_core.specs.Events.{Limits}
 use Rattle.stm_core.specs.Finishing.{HandedOut, SettlesSolo, idle_core}
@@ -20,12 +20,13 @@ use Rattle.stm_core.specs.Good.{Good}
 use Rattle.stm_core.specs.Outside.{Outer}
 use Rattle.heap_bound.specs.Growth.{IsNearlyFull}
 use Rattle.heap_bound.specs.Laws.{NewLaw, BoundLaw, EndLaw}
-use Rattle.heap_bound.specs.Moments.{AreExplained}
+use Rattle.heap_bound.specs.Moments.{AreExplained, IsWanted, Once, WantedBy}
 
--- where a core keeps a full heap, that was nearly full
+-- where a core keeps a full heap, that was nearly full, and its need was wanted once
 abbrev pub NearlyFullAt : {S : Type 0} → Prog S → Limits → Option (List ℕ) → CoreState S → Type 0
 NearlyFullAt p l input c = (reserved need limit : ℕ) → c.cause ≡ Some (Full reserved need limit) →
-    IsNearlyFull p (begin_with p (first_world input)) l.length l.segments limit c.history c.image
+    IsNearlyFull p (begin_with p (first_world input)) l.length l.segments limit c.history c.image ×
+    Once p (begin_with p (first_world input)) c.history (committed c) (λ m. IsWanted p l.length m need)
 
 module _ {S : Type 0} (p : Prog S) (l : Limits) (input : Option (List ℕ)) where
   abbrev start : Machine S
@@ -37,8 +38,10 @@ module _ {S : Type 0} (p : Prog S) (l : Limits) (input : Option (List ℕ)) wher
       IsFullKept reserved limit c.cause → NearlyFullAt p l input c
   of_peaks law None c reserved limit m good e tells full r n x is = absurd e
   of_peaks law (Some f) c reserved limit m good e tells full r n x is =
-      let kept : IsFullKept reserved limit (Some (Full r n x)) = subst (IsFullKept reserved limit) is full in
-      law p start (λ a. refl) l.length l.segments c f good e reserved r n x tells.words is kept.1 kept.2
+      let kept : IsFullKept reserved limit (Some (Full r n x)) = subst (IsFullKept reserved limit) is full in (
+        law p start (λ a. refl) l.length l.segments c f good e reserved r n x tells.words is kept.1 kept.2,
+        subst (WantedBy p start l.length c.history (committed c)) is e.kept,
+      )
 
   -- the end keeps them explained
   at_end : EndLaw S → (v : Option (ℕ → ℕ)) (o u : Outer S) → Good p start l.length o.core →

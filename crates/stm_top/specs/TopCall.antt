@@ -15,6 +15,7 @@ use Rattle.stm_core.specs.declared.cause.Cause.TheVariants.{ReadFault, WriteFaul
 use Rattle.stm_core.specs.Events.{Limits}
 use Rattle.stm_core.specs.Finishing.{IsUnused}
 use Rattle.heap_bound.specs.Growth.{IsNearlyFull}
+use Rattle.heap_bound.specs.Moments.{IsWanted, Once}
 use Rattle.stm_words.specs.declared.call.Options.{Options}
 use Rattle.stm_words.specs.Options.{options_of}
 use Rattle.stm_top.specs.declared.status.Status.{Status}
@@ -111,6 +112,7 @@ RunEnded l w ErrorOutputFailed a b r = IsCutBy ErrFault r.ended × Rose a.err b.
 RunEnded {p = p} {input = input} {history = history} l w (HeapFull reserved need limit) a b r =
     SomeLives p r.machine × (limit ≡ l.words) × (limit < reserved + need) × HasReserved reserved w
     × IsNearlyFull p (begin_with p (first_world input)) l.length l.segments limit history r.machine.heap
+    × Once p (begin_with p (first_world input)) history r.machine (λ m. IsWanted p l.length m need)
 RunEnded {p = p} l w Stuck a b r = IsWhole r.ended × IsStuck p r.machine
 RunEnded {p = p} {history = history} l w (BudgetSpent steps) a b r =
     IsWhole r.ended × IsSpent p l.budget history r.machine × (steps ≡ steps_done history)

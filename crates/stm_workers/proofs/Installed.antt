@@ -15,7 +15,6 @@ use Rattle.stm_core.specs.Advanced.{with_cause, Fails}
 use Rattle.stm_core.specs.Conflict.{conflict}
 use Rattle.stm_core.specs.CoreHeld.{core_client, core_limits, core_store, CoreStands, Leads, SameJob}
 use Rattle.stm_core.specs.CoreState.{Transaction, Segment, Idle, Doomed, Running, CoreState, turn_of, with_segment}
-use Rattle.stm_core.specs.InUse.{IfTold, NoneRises}
 use Rattle.stm_core.specs.Moves.{published}
 use Rattle.stm_core.specs.Outside.{Outer}
 use Rattle.stm_core.specs.Passes.{met, doom_met, doom_one, doom_readers, after_commit}
@@ -24,7 +23,7 @@ use Rattle.stm_core.specs.Solo.{up_to_whole}
 use Rattle.stm_pieces.specs.declared.loan.Loan.{Loan}
 use Rattle.heap_bound.specs.Laws.{InstallLaw, LoanLaw}
 use Rattle.stm_workers.specs.Growth.{ListsGrow, HasExplained, Grows}
-use Rattle.stm_workers.proofs.Explained.{StartOf, left, told, stands_good}
+use Rattle.stm_workers.proofs.Explained.{StartOf, left, stands_good}
 use Rattle.stm_workers.specs.inner.GrowthLaws.{lists_same, lists_then}
 
 module _ {T : Type 0} where
@@ -125,19 +124,19 @@ module _ {C S I O E T : Type 0} (input : I → SourceState) (out : O → SinkSta
     leads = λ o stands. let u = leads o stands in (u.0, u.1, (lists o u.0 u.2, keeps o u.0 stands u.2));
   }
 
-  pub install_grows : InstallLaw T → IfTold (peaks (core_store x)) (peaks (core_store y)) NoneRises →
+  pub install_grows : InstallLaw T → peaks (core_store y) ≡ peaks (core_store x) →
       (k reserved : ℕ) (g g1 : Heap) (m : ℕ) (q : T) (result : Result ℕ AllocError) →
       Leads input out err prog meaning x y
       (λ o o1. IsInstalled (prog (core_client x)) (core_limits meaning x).length k (core_limits meaning x).segments
       reserved (core_limits meaning x).words g g1 m q result o o1) → Grows input out err prog meaning peaks x y
-  install_grows law none k reserved g g1 m q result =
+  install_grows law same k reserved g g1 m q result =
       let l = core_limits meaning x in
       let p = prog (core_client x) in
       lists_grows (λ o o1. IsInstalled p l.length k l.segments reserved l.words g g1 m q result o o1)
       (install_lists p l.length k l.segments reserved l.words g g1 m q result)
-      (λ o o1 stands h. told input out err prog meaning peaks x y job o o1 NoneRises none (λ f f1 r e.
-      law p (StartOf input out err prog meaning peaks x y job x) l.length l.segments f f1 o o1
-      (stands_good input out err prog meaning peaks x y job o stands) e r k l.segments reserved l.words g g1 m q result
+      (λ o o1 stands h. left input out err prog meaning peaks x y job o o1 same (λ f e.
+      law p (StartOf input out err prog meaning peaks x y job x) l.length l.segments f o o1
+      (stands_good input out err prog meaning peaks x y job o stands) e k l.segments reserved l.words g g1 m q result
       h))
 
   pub loan_grows : LoanLaw T → peaks (core_store y) ≡ peaks (core_store x) → (k : ℕ)

@@ -12,6 +12,8 @@ mod code_rows;
 #[cfg(test)]
 mod device_rows;
 #[cfg(test)]
+mod gate_rows;
+#[cfg(test)]
 mod history_rows;
 #[cfg(test)]
 mod names_rows;

@@ -1,5 +1,6 @@
 -- What code and proofs say to each other: nothing public rests on it.
--- How far the store's peaks rise while a transaction is out of its hand. States `docs/HEAP.md`, "The bound on a full heap".
+-- How far the store's peaks rise while a transaction is out of its hand. States `docs/HEAP.md`, "The bound on a full
+-- heap".
 use Rattle.std.specs.Prelude.{◌⊎◌, ℕ, ◌+◌, ◌/◌, ◌≤◌}
 use Rattle.py_data.specs.Row.{Row}
 use Rattle.py_data.specs.Sense.{Upto}
@@ -14,9 +15,9 @@ use Rattle.stm_core.specs.Books.{Worlds, transaction}
 use Rattle.stm_core.specs.InUse.{core_use, next_more, RisesWithin}
 use Rattle.stm_core.specs.inner.Trying.{core_with}
 
--- One step of the transaction x of segment k, done or cut: each peak, from class 1 on, is at most what it was, or at most
--- what is in use at a place to which the step's row comes, with what its next call would add, and with the other segments
--- as they were before the step.
+-- One step of the transaction x of segment k, done or cut: each peak, from class 1 on, is at most what it was, or at
+-- most what is in use at a place to which the step's row comes, with what its next call would add, and with the other
+-- segments as they were before the step.
 abbrev pub RisesInStep : {S : Type 0} → Prog S → Worlds → ℕ → Meaning → Books S → Work S → (ℕ → ℕ) → (ℕ → ℕ) → Type 0
 RisesInStep {S} p w k m b x f g = (c : ℕ) → 1 ≤ c → (g c ≤ f c) ⊎ ((left : Row S (Outcome × S)) × (place : Sight S) ×
     Upto pure (p.row x.state) (sight_of m.image w.committed (transaction w.own (m.part k) x)) left place ×

@@ -14,7 +14,7 @@ use Rattle.seg_store.specs.Extents.{Wants}
 use Rattle.py_data.specs.Heap.{Rec, Heap, is_tracked, put_at}
 use Rattle.py_data.specs.Shape.{find}
 use Rattle.py_data.specs.Row.{Call, Read, Find, Edit, Make, Start, Put, Take, MidLine, SetMidLine, Reply}
-use Rattle.py_data.specs.Sense.{Lawful, IsBracket, Effect, Edits, can_refuse, touches, WantsRoom, IfFull, IfThere}
+use Rattle.py_data.specs.Sense.{Sense, Bracket, Lawful, IsBracket, Effect, Edits, can_refuse, touches, WantsRoom, IfFull, IfThere}
 use Rattle.py_data.specs.Sight.{Sight, Edited, looked_at}
 use Rattle.py_data.proofs.Steps.{at-is}
 use Rattle.py_data.proofs.Grow.{act_grows, grows_refl, with_rec_here}
@@ -24,7 +24,7 @@ use Rattle.seg_store.specs.Calls.{after_open, after_undo, opened, undone}
 use Rattle.stm_core.specs.Devices.{DeviceState}
 use Rattle.stm_core.specs.inner.Hold.{Hold, sight, SegDoes, SegWhy, Inside, LeavesHold}
 use Rattle.stm_core.specs.inner.Outer.{OuterDoes}
-use Rattle.stm_core.specs.inner.SegSense.{Seen, seg_stops, seg_sense, seg_bracket}
+use Rattle.stm_core.specs.inner.SegSense.{Seen, seg_stops, with_more, with_both, seg_sense, seg_bracket, SamePeaks, Tells, TellsRefused, told_sense, told_bracket}
 
 -- what a call that was done shows of itself: it is done on sights, or leaves what the view holds
 inside : {T : Type 0} (k : ℕ) (me : Side) (c : Call T) (d : Hold T) (r : Reply c) (e : Hold T) → SegDoes k me c d r e →
@@ -163,6 +163,31 @@ undo_shown : (k : ℕ) (m : Meaning) → sees (after_undo k m) k ≡ saw m k
 undo_shown k m = ap (λ p. overlay m.image p.changes)
     (cond-true (eqb k k) (undone (m.part k)) (m.part k) (eq-eqb k k refl))
 
+-- a view that says more keeps the laws of views
+module _ {S X : Type 0} (u : Sense S X) (more : (c : Call S) → X → Reply c → X → Type 0)
+    (refused : Call S → X → Stop → X → Type 0) where
+  lawful_more : Lawful u → Lawful (with_more u more refused)
+  lawful_more l = record {
+    effect = λ c v r w d. l.effect c v r w d.0;
+    live = λ c v r w d. l.live c v r w d.0;
+    seen = λ c v r w a d t. l.seen c v r w a d.0 t;
+    stays = λ c v r w a d s. l.stays c v r w a d.0 s;
+    same = λ a v r w s d. l.same a v r w s d.0;
+    sure = λ a v e w s d. l.sure a v e w s d.0;
+    halts = λ c v e w d. l.halts c v e w d.0;
+    cause = λ c v e w d. l.cause c v e w d.0;
+  }
+
+  bracket_more : (b : Bracket S X) (kept : X → X → Type 0) → IsBracket u b →
+      IsBracket (with_more u more refused) (with_both b kept)
+  bracket_more b kept l = record {
+    keeps = λ c v r w d. l.keeps c v r w d.0;
+    keeps_refused = λ c v e w d. l.keeps_refused c v e w d.0;
+    opened = λ v w h. l.opened v w h.0;
+    undone = λ v w h. l.undone v w h.0;
+    put = λ v w bytes d. l.put v w bytes d.0;
+  }
+
 module _ {T X : Type 0} (hold : X → Hold T) (devices : X → DeviceState) (segment : X → ℕ) (me : X → Side)
     (same : X → X → Type 0) where
   pub seg_lawful : Lawful (seg_sense hold devices segment me same)
@@ -205,3 +230,13 @@ module _ {T X : Type 0} (hold : X → Hold T) (devices : X → DeviceState) (seg
     );
     put = λ v w bytes d. d.1.0;
   }
+
+  pub told_lawful : (peaks : X → Option (ℕ → ℕ)) → Lawful (told_sense hold devices segment me same peaks)
+  told_lawful peaks = lawful_more (seg_sense hold devices segment me same)
+      (Tells hold devices segment me same peaks) (TellsRefused hold devices segment me same peaks) seg_lawful
+
+  pub told_bracketed : (peaks : X → Option (ℕ → ℕ)) →
+      IsBracket (told_sense hold devices segment me same peaks) (told_bracket hold devices segment me same peaks)
+  told_bracketed peaks = bracket_more (seg_sense hold devices segment me same)
+      (Tells hold devices segment me same peaks) (TellsRefused hold devices segment me same peaks)
+      (seg_bracket hold devices segment me same) (SamePeaks hold devices segment me same peaks) seg_bracketed

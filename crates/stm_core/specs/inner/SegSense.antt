@@ -1,14 +1,17 @@
 -- What code and proofs say to each other: nothing public rests on it.
 -- What a segment's view says of itself as a view. States `docs/HEAP.md`, "The view of a segment" and "Views".
-use Rattle.std.specs.Prelude.{◌≡◌, ℕ, Bool, true, false, Some}
+use Rattle.std.specs.Prelude.{◌≡◌, ℕ, ◌+◌, ◌/◌, Bool, true, false, Option, Some}
 use Rattle.py_data.specs.declared.stop.Side.{Side}
 use Rattle.py_data.specs.declared.stop.Stop.{Stop}
 use Rattle.py_data.specs.declared.stop.Stop.TheVariants.{NeedHeap}
 use Rattle.py_data.specs.Heap.{Rec, is_tracked}
-use Rattle.py_data.specs.Row.{Call, Read}
+use Rattle.py_data.specs.Row.{Call, Reply, Read, Edit, Make}
 use Rattle.py_data.specs.Sense.{Sense, Bracket}
-use Rattle.seg_store.specs.Meaning.{sees, saw}
+use Rattle.seg_store.specs.Meaning.{Meaning, sees, saw}
+use Rattle.stm_core.specs.declared.books.Books.{Books}
+use Rattle.stm_core.specs.Books.{Worlds, core_of}
 use Rattle.stm_core.specs.Devices.{DeviceState}
+use Rattle.stm_core.specs.InUse.{core_use, wants_more, RisesUpTo, IfTold}
 use Rattle.stm_core.specs.inner.Hold.{Hold, SegDoes, SegRefuses, SegOpens, SegUndoes}
 use Rattle.stm_core.specs.inner.Outer.{OuterDoes, OuterRefuses, OuterOpens, OuterUndoes}
 
@@ -22,6 +25,36 @@ pub record Seen {T : Type 0} (a k : ℕ) (d : Hold T) : Type 0 where
   pub entry : Rec
   pub is : sees d.meaning k a ≡ Some entry
   pub noted : is_tracked entry.kind ≡ true → (d.meaning.part k).looked a ≡ true
+
+-- ---- how far a call lets the store's peaks rise
+
+-- what is in use while segment k, whose transaction is out of its hand, sees what it does
+abbrev pub seg_use : {S : Type 0} → Worlds → ℕ → Meaning → Books S → ℕ → ℕ
+seg_use w k m b = core_use (m.limit / 2) m.segments k (sees m k) (core_of w m b)
+
+-- In whatever worlds, each peak is at most what it was, or at most what is in use then and so many more of its class.
+pub record RisesThere {S : Type 0} (k : ℕ) (m : Meaning) (b : Books S) (more : ℕ → ℕ) (p q : Option (ℕ → ℕ)) :
+    Type 0 where
+  pub rises : (w : Worlds) → IfTold p q (λ f g. RisesUpTo f g (λ c. seg_use w k m b c + more c))
+
+-- ---- a view that says more than another one
+
+-- the same view, with one fact more of each call that is done, and of each that is refused
+abbrev pub with_more : {S X : Type 0} → Sense S X → ((c : Call S) → X → Reply c → X → Type 0) →
+    (Call S → X → Stop → X → Type 0) → Sense S X
+with_more u more refused = record u {
+  does = λ c v r w. u.does c v r w × more c v r w;
+  refuses = λ c v e w. u.refuses c v e w × refused c v e w;
+}
+
+-- and of how a step is opened and taken back
+abbrev pub with_both : {S X : Type 0} → Bracket S X → (X → X → Type 0) → Bracket S X
+with_both b more = record b {
+  opens = λ v w. b.opens v w × more v w;
+  undoes = λ v w. b.undoes v w × more v w;
+}
+
+-- ---- the view
 
 -- a view of type X: what it holds, its devices, its segment, the side that it acts for, and that two values of it
 -- borrow the same
@@ -65,3 +98,30 @@ module _ {T X : Type 0} (hold : X → Hold T) (devices : X → DeviceState) (seg
     opens = λ v w. SegOpens (segment v) (hold v) (hold w) × OuterOpens (devices v) (devices w) × Stays v w;
     undoes = λ v w. SegUndoes (segment v) (hold v) (hold w) × OuterUndoes (devices v) (devices w) × Stays v w;
   }
+
+  -- ---- the same of a view whose store may tell its peaks
+
+  module _ (peaks : X → Option (ℕ → ℕ)) where
+    abbrev pub SamePeaks : X → X → Type 0
+    SamePeaks v w = peaks w ≡ peaks v
+
+    -- A call that was done: a change and a new record let no peak pass what is in use once they are done, and the
+    -- others leave the peaks.
+    abbrev pub Tells : (c : Call T) → X → Reply c → X → Type 0
+    Tells (Edit a x) v r w = RisesThere (segment w) (hold w).meaning (hold w).books (λ c. 0) (peaks v) (peaks w)
+    Tells (Make q) v r w = RisesThere (segment w) (hold w).meaning (hold w).books (λ c. 0) (peaks v) (peaks w)
+    Tells c v r w = SamePeaks v w
+
+    -- One that was refused: nor what would be in use if it had been done.
+    abbrev pub TellsRefused : Call T → X → Stop → X → Type 0
+    TellsRefused (Edit a x) v e w = RisesThere (segment v) (hold v).meaning (hold v).books
+        (wants_more {S = T} (Edit a x) (sees (hold v).meaning (segment v))) (peaks v) (peaks w)
+    TellsRefused (Make q) v e w = RisesThere (segment v) (hold v).meaning (hold v).books
+        (wants_more {S = T} (Make q) (sees (hold v).meaning (segment v))) (peaks v) (peaks w)
+    TellsRefused c v e w = SamePeaks v w
+
+    abbrev pub told_sense : Sense T X
+    told_sense = with_more seg_sense Tells TellsRefused
+
+    abbrev pub told_bracket : Bracket T X
+    told_bracket = with_both seg_bracket SamePeaks

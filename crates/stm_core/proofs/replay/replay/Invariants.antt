@@ -1,4 +1,4 @@
-use Rattle.std.specs.Prelude.{◌≤◌, ◌<◌}
+use Rattle.std.specs.Prelude.{◌≡◌, ◌≤◌, ◌<◌}
 use Rattle.stm_core.specs.inner.Replayed.{Replaying}
 use Rattle.stm_core.proofs.replay.replay.Given as goal
 
@@ -7,4 +7,5 @@ invariant-loop-edit g l = record {
   segment : l.k < (g.S.SegStore.meaning l.store).segments;
   replaying : Replaying l.k l.edits (g.S.SegStore.meaning l.fn.store) l.edit-index (g.S.SegStore.meaning l.store);
   reserved : g.S.SegStore.reserved l.fn.store ≤ g.S.SegStore.reserved l.store;
+  peaks : g.S.SegStore.peaks l.store ≡ g.S.SegStore.peaks l.fn.store;
 }

@@ -4,6 +4,7 @@ use Rattle.seg_store.specs.Meaning.{sees}
 use Rattle.stm_core.specs.Asking.{ChangeWants}
 use Rattle.stm_core.specs.inner.Hold.{holding, FaultWhy}
 use Rattle.stm_core.proofs.Changing.{can_ready, can_moved, change_done, change_refused, change_held_at, runs_moved, after_moved}
+use Rattle.stm_core.proofs.Peaks.{there_none, there_done, there_refused, there_held}
 use Rattle.stm_core.proofs.segment.SegView.change.Goals as goal
 
 pub hold-requires-clause-tracked : goal.hold-requires-clause-tracked
@@ -58,3 +59,34 @@ returns-in-Err-change_held-clause-err g c =
     (g.S.SegStore.reserved c.refuse.new.self.store.now) m.limit c.in-Err-change_held.fault) c.in-Ok.ensures.stays.0
     (subst (λ n. FaultWhy (ChangeWants c.args.change (sees m c.hold.new.self.segment) c.args.a.0) n m.limit
     c.in-Err-change_held.fault) same c.in-Err-change_held.ensures.cause))
+
+pub returns-in-Ok-change_held-clause-tells : goal.returns-in-Ok-change_held-clause-tells
+returns-in-Ok-change_held-clause-tells g c =
+    there_done c.change_held.new.self.segment (g.S.SegStore.reserved c.change_held.new.self.store.now)
+    (g.S.SegStore.meaning c.change_held.new.self.store.now) c.change_held.new.self.books.now
+    c.change_held.new.self.progress.now (g.S.SegStore.peaks c.args.self.now.store.now)
+    (g.S.SegStore.peaks c.hold.new.self.store.now) (g.S.SegStore.peaks c.change_held.new.self.store.now)
+    c.known.ensures.store c.change_held.new.self.fits c.in-Ok.ensures.peaks c.in-Ok-change_held.ensures.peaks
+
+pub returns-in-Err-change_held-clause-tells_err : goal.returns-in-Err-change_held-clause-tells_err
+returns-in-Err-change_held-clause-tells_err g c =
+    let m = g.S.SegStore.meaning c.hold.new.self.store.now in
+    there_held c.args.self.now.segment c.args.self.now.side c.args.a.0 c.args.change
+    (holding (g.S.SegStore.meaning c.args.self.now.store.now) (g.S.SegStore.reserved c.args.self.now.store.now)
+    c.args.self.now.books.now c.args.self.now.progress.now c.args.self.now.stopped)
+    (holding m (g.S.SegStore.reserved c.hold.new.self.store.now) c.hold.new.self.books.now
+    c.hold.new.self.progress.now c.hold.new.self.stopped) c.hold.new.self.segment
+    (g.S.SegStore.peaks c.args.self.now.store.now) (g.S.SegStore.peaks c.hold.new.self.store.now)
+    (g.S.SegStore.peaks c.refuse.new.self.store.now) c.in-Ok.ensures.ok c.in-Ok.ensures.stays.0 c.in-Ok.ensures.peaks
+    (there_refused c.hold.new.self.segment (g.S.SegStore.reserved c.change_held.new.self.store.now) m
+    (g.S.SegStore.meaning c.change_held.new.self.store.now) c.hold.new.self.books.now c.hold.new.self.progress.now _
+    (g.S.SegStore.peaks c.hold.new.self.store.now) (g.S.SegStore.peaks c.change_held.new.self.store.now)
+    (g.S.SegStore.peaks c.refuse.new.self.store.now) c.known-in-Err-change_held.ensures.store
+    c.in-Err-change_held.ensures.err c.hold.new.self.fits (ap g.S.SegStore.peaks c.refuse.ensures.store)
+    c.in-Err-change_held.ensures.peaks_err)
+
+pub returns-in-Err-clause-tells_err : goal.returns-in-Err-clause-tells_err
+returns-in-Err-clause-tells_err g c =
+    there_none c.args.self.now.segment (g.S.SegStore.meaning c.args.self.now.store.now) c.args.self.now.books.now _
+    (g.S.SegStore.peaks c.args.self.now.store.now) (g.S.SegStore.peaks c.hold.new.self.store.now)
+    c.in-Err.ensures.peaks

@@ -2,6 +2,7 @@ use Rattle.std.proofs.Common.{refl, sym, ap, subst}
 use Rattle.py_data.specs.Made.{rec_of}
 use Rattle.stm_core.specs.Books.{Fit}
 use Rattle.stm_core.proofs.Seeing.{fit_made, name_set, name_back}
+use Rattle.stm_core.proofs.Peaks.{rises_told, made_told}
 use Rattle.stm_core.proofs.segment.SegView.name_made.Goals as goal
 
 pub invariant_of-self-in-Ok : goal.invariant_of-self-in-Ok
@@ -30,3 +31,10 @@ invariant_of-self-in-Err g c = record {
       (sym (name_back c.args.self.now.progress.now.names c.push.new.self c.truncate.new.self _ c.len-last.result
       c.in_ok-push.ensures.ok c.len-last.ensures c.truncate.ensures)) c.args.self.now.fits);
 }
+
+pub returns-in-Ok-clause-peaks : goal.returns-in-Ok-clause-peaks
+returns-in-Ok-clause-peaks g c = rises_told _ _ _ c.in-Ok.ensures.peaks
+
+pub returns-in-Err-clause-peaks_err : goal.returns-in-Err-clause-peaks_err
+returns-in-Err-clause-peaks_err g c =
+    made_told _ _ (g.S.SegStore.meaning c.args.self.now.store.now) (rec_of c.args.r.now) c.in-Err.ensures.peaks_err

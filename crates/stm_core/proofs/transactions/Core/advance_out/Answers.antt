@@ -1,7 +1,9 @@
-use Rattle.std.proofs.Common.{◌≡◌, inl, sym, ◌∙◌, ap, subst, arith}
+use Rattle.std.proofs.Common.{◌≡◌, ◌/◌, inl, sym, ◌∙◌, ap, subst, arith}
 use Rattle.stm_core.specs.Begun.{CountsSteps}
 use Rattle.stm_core.specs.Devices.{device_state}
+use Rattle.stm_core.specs.inner.Trying.{core_with}
 use Rattle.stm_core.specs.inner.Settled.{Rises}
+use Rattle.stm_core.proofs.PeaksRising.{within_same}
 use Rattle.stm_core.proofs.TakenSteps.{counts_same, settled_as, ended_out}
 use Rattle.stm_core.proofs.Calling.{blank}
 use Rattle.stm_core.proofs.transactions.Core.advance_out.Goals as goal
@@ -32,6 +34,10 @@ returns-in_default g c =
       });
       shape = (λ i. (g.S.SegStore.meaning (rest i).store).segments, λ i. (g.S.SegStore.meaning (rest i).store).limit);
       reserved = omega (arith, reserved);
+      peaks = λ t e w shown.
+          let m = g.S.SegStore.meaning x.store in
+          within_same (g.C.Client.prog x.client.now) c.args.length (m.limit / 2) m.segments c.args.k
+          (core_with w c.args.k m x.books c.args.work) _ _ (λ i. g.S.SegStore.peaks (rest i).store);
       whole = c.put_back.ensures.whole;
       count = ap (λ s. s.spent) rest ∙ subst (λ l. CountsSteps x.spent l)
           (sym (ap (λ k. k.history) (c.put_back.ensures.core blank))) c.requires.count;

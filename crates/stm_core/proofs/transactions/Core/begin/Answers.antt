@@ -119,6 +119,7 @@ returns-in-Ok g c =
           g.S.SegStore.reserved g.S.SegStore.meaning x y _ q c.requires.good;
       begun = quiet_leads g.I.Source.state g.O.Sink.state g.E.Sink.state g.C.Client.prog g.C.Client.sound
           g.S.SegStore.reserved g.S.SegStore.meaning x y _ q c.requires.good;
+      peaks = c.start.ensures.peaks ∙ ap (λ z. g.S.SegStore.peaks z.store) e.rest;
     }
 
 pub returns-in-Err : goal.returns-in-Err
@@ -190,4 +191,5 @@ returns-in-Err g c =
           g.S.SegStore.reserved g.S.SegStore.meaning x y _ q c.requires.good;
       begun = quiet_leads g.I.Source.state g.O.Sink.state g.E.Sink.state g.C.Client.prog g.C.Client.sound
           g.S.SegStore.reserved g.S.SegStore.meaning x y _ q c.requires.good;
+      peaks = ap (λ z. g.S.SegStore.peaks z.store) e.rest;
     }

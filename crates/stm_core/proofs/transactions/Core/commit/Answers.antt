@@ -91,6 +91,7 @@ returns-in-Runs g c =
           g.S.SegStore.reserved g.S.SegStore.meaning x y _ q c.requires.good;
       committed = quiet_leads g.I.Source.state g.O.Sink.state g.E.Sink.state g.C.Client.prog g.C.Client.sound
           g.S.SegStore.reserved g.S.SegStore.meaning x y _ q c.requires.good;
+      peaks = e.peaks;
     }
 
 pub returns-in-Doomed : goal.returns-in-Doomed
@@ -129,4 +130,5 @@ returns-in-Doomed g c =
           g.S.SegStore.reserved g.S.SegStore.meaning x y _ q c.requires.good;
       committed = quiet_leads g.I.Source.state g.O.Sink.state g.E.Sink.state g.C.Client.prog g.C.Client.sound
           g.S.SegStore.reserved g.S.SegStore.meaning x y _ q c.requires.good;
+      peaks = refl;
     }

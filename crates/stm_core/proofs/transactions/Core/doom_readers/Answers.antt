@@ -27,6 +27,7 @@ segments-preserved g c =
       part = e.part ∙ v.part;
       shape = (e.shape.0 ∙ v.shape.0, e.shape.1 ∙ v.shape.1);
       reserved = e.reserved ∙ v.reserved;
+      peaks = e.peaks ∙ v.peaks;
       core = λ w.
           let tx = transaction w.own (m0.part c.args.k) c.args.work.now in
           let u = core_with w c.args.k m c.segments.self.books c.args.work.now in

@@ -22,6 +22,7 @@ invariant-segments g l = record {
   part : (g.S.SegStore.meaning l.self.store).part l.k ≡ (g.S.SegStore.meaning l.initial.self.store).part l.k;
   shape : SameShape (g.S.SegStore.meaning l.initial.self.store) (g.S.SegStore.meaning l.self.store);
   reserved : g.S.SegStore.reserved l.self.store ≡ g.S.SegStore.reserved l.initial.self.store;
+  peaks : g.S.SegStore.peaks l.self.store ≡ g.S.SegStore.peaks l.initial.self.store;
   core : (w : Worlds) → doom_readers l.k
       (transaction w.own ((g.S.SegStore.meaning l.initial.self.store).part l.k) l.work)
       (range_with_len l.j ((g.S.SegStore.meaning l.initial.self.store).segments - l.j))

@@ -22,6 +22,7 @@ slots-preserved g c =
       cause = e.cause ∙ v.cause;
       shape = (e.shape.0 ∙ v.shape.0, e.shape.1 ∙ v.shape.1);
       reserved = e.reserved ∙ v.reserved;
+      peaks = e.peaks ∙ v.peaks;
       idle = λ w i lt. ap (λ z. z.segments i) (e.core w) ∙
           still_idle c.slots.k i (core_of w (g.S.SegStore.meaning c.slots.self.store) c.slots.self.books)
           (λ h. v.idle w i h) lt;

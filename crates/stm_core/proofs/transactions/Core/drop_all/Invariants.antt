@@ -19,6 +19,7 @@ invariant-slots g l = record {
   cause : l.self.books.cause ≡ l.initial.self.books.cause;
   shape : SameShape (g.S.SegStore.meaning l.initial.self.store) (g.S.SegStore.meaning l.self.store);
   reserved : g.S.SegStore.reserved l.self.store ≡ g.S.SegStore.reserved l.initial.self.store;
+  peaks : g.S.SegStore.peaks l.self.store ≡ g.S.SegStore.peaks l.initial.self.store;
   idle : (w : Worlds) (i : ℕ) → i < l.k → (core_of w (g.S.SegStore.meaning l.self.store) l.self.books).segments i ≡
       Idle;
   core : (w : Worlds) → idle_core (core_of w (g.S.SegStore.meaning l.self.store) l.self.books) ≡ idle_core

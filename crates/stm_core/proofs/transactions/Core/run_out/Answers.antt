@@ -1,12 +1,15 @@
-use Rattle.std.proofs.Common.{◌≡◌, ◌+◌, ℕ, List, Option, refl, sym, ◌∙◌, ap, subst, arith, add-zero}
+use Rattle.std.proofs.Common.{◌≡◌, ◌+◌, ◌/◌, ℕ, List, Option, refl, sym, ◌∙◌, ap, subst, arith, add-zero}
 use Rattle.stm_core.specs.declared.steps.Pause.TheVariants.{Whole, Waits, Ended, Stopped}
 use Rattle.stm_core.specs.Books.{Worlds, with_own}
 use Rattle.stm_core.specs.Devices.{Shown, device_state}
+use Rattle.stm_core.specs.InUse.{IfTold}
 use Rattle.stm_core.specs.inner.Trying.{core_with}
 use Rattle.stm_core.specs.inner.Pausing.{Paused}
+use Rattle.stm_core.specs.inner.Rising.{RisesOut}
 use Rattle.stm_core.proofs.Advancing.{sane_paused}
 use Rattle.stm_core.proofs.Counting.{counts_same, counts_then}
 use Rattle.stm_core.proofs.Pausing.{paused_none, paused_then, alone_then}
+use Rattle.stm_core.proofs.PeaksRising.{within_same, out_then}
 use Rattle.stm_core.proofs.transactions.Core.run_out.Given as given
 use Rattle.stm_core.proofs.transactions.Core.run_out.Goals as goal
 
@@ -35,6 +38,10 @@ turns-init g c = record {
       (device_state g.I.Source.state g.O.Sink.state g.E.Sink.state c.args.self.now.devices)
       (g.S.SegStore.meaning c.args.self.now.store) (g.S.SegStore.reserved c.args.self.now.store) c.args.self.now.books
       c.args.work.now c.requires.lives shown;
+  peaks = λ t e w shown.
+      let m = g.S.SegStore.meaning c.args.self.now.store in
+      within_same (g.C.Client.prog c.args.self.now.client.now) c.args.length (m.limit / 2) m.segments c.args.k
+      (core_with w c.args.k m c.args.self.now.books c.args.work.now) _ _ refl;
 }
 
 pub returns-in-Waits-clause-paused : goal.returns-in-Waits-clause-paused
@@ -125,6 +132,25 @@ whole g c t e w shown =
     (λ s h. c.in-Whole.ensures.paused t e (with_own (c.turns.invariant.paused t e w shown).own w) c.turns.done
     (core_with w c.args.k (g.S.SegStore.meaning c.args.self.now.store) c.args.self.now.books c.args.work.now) s h)
 
+-- the peaks then
+risen : (g : given.Over) (c : goal.In-Whole g) (t e : Option (List ℕ)) (w : Worlds) →
+    Shown c.args.work.now.solo t e (device_state g.I.Source.state g.O.Sink.state g.E.Sink.state
+    c.args.self.now.devices) w.own
+    → IfTold (g.S.SegStore.peaks c.args.self.now.store) (g.S.SegStore.peaks c.step_on.new.self.store)
+    (RisesOut (g.C.Client.prog c.args.self.now.client.now) c.args.length c.args.k
+    (g.S.SegStore.meaning c.args.self.now.store)
+    (core_with w c.args.k (g.S.SegStore.meaning c.args.self.now.store) c.args.self.now.books c.args.work.now))
+risen g c t e w shown =
+    let v = c.turns.invariant in
+    let u = v.paused t e w shown in
+    let m = g.S.SegStore.meaning c.args.self.now.store in
+    out_then (g.C.Client.prog c.args.self.now.client.now) (g.C.Client.prog c.turns.self.client.now) c.args.length
+    c.args.k c.turns.done t e w (device_state g.I.Source.state g.O.Sink.state g.E.Sink.state c.turns.self.devices) m
+    (g.S.SegStore.meaning c.turns.self.store) (g.S.SegStore.reserved c.turns.self.store) c.turns.self.books
+    c.turns.work (core_with w c.args.k m c.args.self.now.books c.args.work.now) _ _ _
+    (λ i. g.C.Client.prog (v.client i).now) v.shape u (v.peaks t e w shown)
+    (λ s. c.step_on.ensures.peaks t e (with_own u.own w) s)
+
 pub turns-preserved : goal.turns-preserved
 turns-preserved g c =
     let v = c.turns.invariant in
@@ -162,6 +188,7 @@ turns-preserved g c =
       steps = (let a = c.in-Whole.ensures.steps in let b = v.steps in omega (arith, a, b));
       solo = e.solo ∙ v.solo;
       paused = λ t e w shown. whole g c t e w shown;
+      peaks = λ t e w shown. risen g c t e w shown;
     }
 
 pub returns-clause-paused : goal.returns-clause-paused
@@ -175,3 +202,39 @@ returns-clause-paused g c = λ t e w c0 shown is.
     Whole (g.S.SegStore.meaning c.turns.self.store) (g.S.SegStore.reserved c.turns.self.store) c.turns.self.books
     c.turns.work (device_state g.I.Source.state g.O.Sink.state g.E.Sink.state c.turns.self.devices)) all
     (c.turns.invariant.paused t e w shown))
+
+pub returns-in-Waits-clause-peaks : goal.returns-in-Waits-clause-peaks
+returns-in-Waits-clause-peaks g c = λ t e w shown.
+    let v = c.turns.invariant in
+    let u = v.paused t e w shown in
+    let m = g.S.SegStore.meaning c.args.self.now.store in
+    out_then (g.C.Client.prog c.args.self.now.client.now) (g.C.Client.prog c.turns.self.client.now) c.args.length
+    c.args.k c.turns.done t e w (device_state g.I.Source.state g.O.Sink.state g.E.Sink.state c.turns.self.devices) m
+    (g.S.SegStore.meaning c.turns.self.store) (g.S.SegStore.reserved c.turns.self.store) c.turns.self.books
+    c.turns.work (core_with w c.args.k m c.args.self.now.books c.args.work.now) _ _ _
+    (λ i. g.C.Client.prog (v.client i).now) v.shape u (v.peaks t e w shown)
+    (λ s. c.step_on.ensures.peaks t e (with_own u.own w) s)
+
+pub returns-in-Ended-clause-peaks : goal.returns-in-Ended-clause-peaks
+returns-in-Ended-clause-peaks g c = λ t e w shown.
+    let v = c.turns.invariant in
+    let u = v.paused t e w shown in
+    let m = g.S.SegStore.meaning c.args.self.now.store in
+    out_then (g.C.Client.prog c.args.self.now.client.now) (g.C.Client.prog c.turns.self.client.now) c.args.length
+    c.args.k c.turns.done t e w (device_state g.I.Source.state g.O.Sink.state g.E.Sink.state c.turns.self.devices) m
+    (g.S.SegStore.meaning c.turns.self.store) (g.S.SegStore.reserved c.turns.self.store) c.turns.self.books
+    c.turns.work (core_with w c.args.k m c.args.self.now.books c.args.work.now) _ _ _
+    (λ i. g.C.Client.prog (v.client i).now) v.shape u (v.peaks t e w shown)
+    (λ s. c.step_on.ensures.peaks t e (with_own u.own w) s)
+
+pub returns-in-Stopped-clause-peaks : goal.returns-in-Stopped-clause-peaks
+returns-in-Stopped-clause-peaks g c = λ t e w shown.
+    let v = c.turns.invariant in
+    let u = v.paused t e w shown in
+    let m = g.S.SegStore.meaning c.args.self.now.store in
+    out_then (g.C.Client.prog c.args.self.now.client.now) (g.C.Client.prog c.turns.self.client.now) c.args.length
+    c.args.k c.turns.done t e w (device_state g.I.Source.state g.O.Sink.state g.E.Sink.state c.turns.self.devices) m
+    (g.S.SegStore.meaning c.turns.self.store) (g.S.SegStore.reserved c.turns.self.store) c.turns.self.books
+    c.turns.work (core_with w c.args.k m c.args.self.now.books c.args.work.now) _ _ _
+    (λ i. g.C.Client.prog (v.client i).now) v.shape u (v.peaks t e w shown)
+    (λ s. c.step_on.ensures.peaks t e (with_own u.own w) s)

@@ -4,10 +4,12 @@ use Rattle.seg_store.specs.Store.{IsStore}
 use Rattle.stm_core.specs.declared.books.Hand.TheVariants.{Idle}
 use Rattle.stm_core.specs.declared.steps.Pause.TheVariants.{Whole}
 use Rattle.stm_core.specs.Books.{Worlds, Fit}
+use Rattle.stm_core.specs.InUse.{IfTold}
 use Rattle.stm_core.specs.Devices.{device_state, Shown, CountsGrow, IsLeftAlone}
 use Rattle.stm_core.specs.inner.Whole.{SameShape}
 use Rattle.stm_core.specs.inner.Trying.{SaneShown, core_with}
 use Rattle.stm_core.specs.inner.Pausing.{Paused}
+use Rattle.stm_core.specs.inner.Rising.{RisesOut}
 use Rattle.stm_core.proofs.transactions.Core.run_out.Given as goal
 
 abbrev pub invariant-turns : goal.invariant-turns
@@ -42,4 +44,10 @@ invariant-turns g l = record {
       (core_with w l.k (g.S.SegStore.meaning l.initial.self.store) l.initial.self.books l.initial.work) l.done
       Whole (g.S.SegStore.meaning l.self.store) (g.S.SegStore.reserved l.self.store) l.self.books l.work
       (device_state g.I.Source.state g.O.Sink.state g.E.Sink.state l.self.devices);
+  peaks : (t e : Option (List ℕ)) (w : Worlds) →
+      Shown l.initial.work.solo t e (device_state g.I.Source.state g.O.Sink.state g.E.Sink.state
+      l.initial.self.devices) w.own
+      → IfTold (g.S.SegStore.peaks l.initial.self.store) (g.S.SegStore.peaks l.self.store)
+      (RisesOut (g.C.Client.prog l.initial.self.client.now) l.length l.k (g.S.SegStore.meaning l.initial.self.store)
+      (core_with w l.k (g.S.SegStore.meaning l.initial.self.store) l.initial.self.books l.initial.work));
 }

@@ -82,6 +82,7 @@ returns-in-Doomed g c =
           g.S.SegStore.reserved g.S.SegStore.meaning x y _ (doomed g c) c.requires.good;
       soloed = quiet_leads g.I.Source.state g.O.Sink.state g.E.Sink.state g.C.Client.prog g.C.Client.sound
           g.S.SegStore.reserved g.S.SegStore.meaning x y _ (doomed g c) c.requires.good;
+      peaks = refl;
     }
 
 went : (g : given.Over) (c : After-solo_out g) → Quiet g.I.Source.state g.O.Sink.state g.E.Sink.state g.C.Client.prog
@@ -135,4 +136,5 @@ returns-in-Runs g c =
           g.S.SegStore.reserved g.S.SegStore.meaning x y _ (went g c) c.requires.good;
       soloed = quiet_leads g.I.Source.state g.O.Sink.state g.E.Sink.state g.C.Client.prog g.C.Client.sound
           g.S.SegStore.reserved g.S.SegStore.meaning x y _ (went g c) c.requires.good;
+      peaks = ap (λ z. g.S.SegStore.peaks z.store) c.solo_out.ensures.rest;
     }

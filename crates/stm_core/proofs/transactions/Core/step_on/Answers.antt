@@ -7,6 +7,7 @@ use Rattle.stm_core.specs.Devices.{device_state}
 use Rattle.stm_core.specs.inner.Trying.{Sane, core_with}
 use Rattle.stm_core.specs.inner.Pausing.{Paused}
 use Rattle.stm_core.proofs.Advancing.{sane_stands, sane_paused, gone_good, gone_cut, tried_none, done_others, done_not_waits, ended_not_waits}
+use Rattle.stm_core.proofs.PeaksRising.{step_told}
 use Rattle.stm_core.proofs.Pausing.{numbers_apart, paused_waits, paused_whole, paused_ended, paused_cut}
 use Rattle.stm_core.proofs.transactions.Core.step_on.Given as given
 use Rattle.stm_core.proofs.transactions.Core.step_on.Goals.{After-step_out, In-Err}
@@ -169,3 +170,27 @@ returns-in-Err-clause-sane g c =
     c.args.self.now.books c.step_out.new.self.books c.args.work.now c.step_out.new.work s
     (returns-in-Err-clause-paused g c s.out s.err s.sane.worlds 0 c0 s.shown
     (tried_none (g.C.Client.prog c.args.self.now.client.now) c.args.length c.args.k true c0))
+
+pub returns-in-Ok-Waits-clause-peaks : goal.returns-in-Ok-Waits-clause-peaks
+returns-in-Ok-Waits-clause-peaks g c = λ t e w shown.
+    step_told (g.C.Client.prog c.args.self.now.client.now) c.args.length c.args.k w
+    (g.S.SegStore.meaning c.args.self.now.store) c.args.self.now.books c.args.work.now c.requires.lives
+    (let q = c.requires.short in omega (arith, q)) _ _ (c.step_out.ensures.peaks t e w shown)
+
+pub returns-in-Ok-Done-clause-peaks : goal.returns-in-Ok-Done-clause-peaks
+returns-in-Ok-Done-clause-peaks g c = λ t e w shown.
+    step_told (g.C.Client.prog c.args.self.now.client.now) c.args.length c.args.k w
+    (g.S.SegStore.meaning c.args.self.now.store) c.args.self.now.books c.args.work.now c.requires.lives
+    (let q = c.requires.short in omega (arith, q)) _ _ (c.step_out.ensures.peaks t e w shown)
+
+pub returns-in-Ok-Ended-clause-peaks : goal.returns-in-Ok-Ended-clause-peaks
+returns-in-Ok-Ended-clause-peaks g c = λ t e w shown.
+    step_told (g.C.Client.prog c.args.self.now.client.now) c.args.length c.args.k w
+    (g.S.SegStore.meaning c.args.self.now.store) c.args.self.now.books c.args.work.now c.requires.lives
+    (let q = c.requires.short in omega (arith, q)) _ _ (c.step_out.ensures.peaks t e w shown)
+
+pub returns-in-Err-clause-peaks : goal.returns-in-Err-clause-peaks
+returns-in-Err-clause-peaks g c = λ t e w shown.
+    step_told (g.C.Client.prog c.args.self.now.client.now) c.args.length c.args.k w
+    (g.S.SegStore.meaning c.args.self.now.store) c.args.self.now.books c.args.work.now c.requires.lives
+    (let q = c.requires.short in omega (arith, q)) _ _ (c.step_out.ensures.peaks t e w shown)

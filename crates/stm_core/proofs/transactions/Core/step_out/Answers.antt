@@ -1,12 +1,17 @@
-use Rattle.std.proofs.Common.{◌≡◌, ℕ, None, sym, ◌∙◌, ap, subst, refl}
+use Rattle.std.proofs.Common.{◌≡◌, ℕ, Option, Result, None, sym, ◌∙◌, ap, subst, refl}
 use Rattle.std.proofs.lemmas.Result.{IfOk-weaker}
 use Rattle.py_data.specs.declared.stop.Side.{Side}
+use Rattle.py_data.specs.declared.stop.Stop.{Stop}
+use Rattle.py_data.specs.Row.{Row}
+use Rattle.lock_run.specs.declared.client.Outcome.{Outcome}
 use Rattle.stm_core.specs.declared.segment.SegView.{SegView}
 use Rattle.stm_core.specs.Books.{Fit}
 use Rattle.stm_core.specs.Devices.{DeviceState, device_state}
 use Rattle.stm_core.specs.inner.Hold.{Hold, holding}
 use Rattle.stm_core.proofs.Keeping.{StepKept, step_keeps}
-use Rattle.stm_core.proofs.StepOut.{if_err_on, step_lives, step_done, step_cut, step_broke}
+use Rattle.stm_core.proofs.Richer.{ToldDone, SegDone, seg_done, ToldCut, SegCut, seg_cut}
+use Rattle.stm_core.proofs.RowPeaks.{run_on, stop_on}
+use Rattle.stm_core.proofs.StepOut.{if_err_on, by_result, step_lives, step_done, step_cut, step_broke, step_rises}
 use Rattle.stm_core.proofs.transactions.Core.step_out.Given as given
 use Rattle.stm_core.proofs.transactions.Core.step_out.Goals as goal
 
@@ -35,6 +40,9 @@ abbrev same : (g : given.Over) → View g → View g → Type 0
 same g v w = (w.store.ghost_name ≡ v.store.ghost_name) × (w.books.ghost_name ≡ v.books.ghost_name) ×
     (w.progress.ghost_name ≡ v.progress.ghost_name) × (w.devices.ghost_name ≡ v.devices.ghost_name)
 
+abbrev peaks : (g : given.Over) → View g → Option (ℕ → ℕ)
+peaks g v = g.S.SegStore.peaks v.store.now
+
 same_refl : (g : given.Over) (v : View g) → same g v v
 same_refl g v = (refl, refl, refl, refl)
 
@@ -49,13 +57,28 @@ made_of g c = holding (g.S.SegStore.meaning c.args.self.now.store) (g.S.SegStore
 abbrev told : (g : given.Over) → goal.After-known g → DeviceState
 told g c = device_state g.I.Source.state g.O.Sink.state g.E.Sink.state c.args.self.now.devices
 
+-- ---- what the step says but for the peaks
+
+done_seg : (g : given.Over) (row : Row (State g) (Outcome × State g)) (r : Result Outcome Stop) (v : View g)
+    (s : State g) (u : View g) →
+    ToldDone (hold g) (devices g) (segment g) (me g) (same g) (peaks g) row r v s u →
+    SegDone (hold g) (devices g) (segment g) (me g) (same g) (peaks g) row r v s u
+done_seg g row = seg_done (hold g) (devices g) (segment g) (me g) (same g) (peaks g) row
+
+cut_seg : (g : given.Over) (row : Row (State g) (Outcome × State g)) (r : Result Outcome Stop) (v u : View g) →
+    ToldCut (hold g) (devices g) (segment g) (me g) (same g) (peaks g) row r v u →
+    SegCut (hold g) (devices g) (segment g) (me g) (same g) (peaks g) row r v u
+cut_seg g row = seg_cut (hold g) (devices g) (segment g) (me g) (same g) (peaks g) row
+
 -- ---- what was lent comes back
 
 same_then_view : (g : given.Over) (c : goal.After-step-result g) → same g c.new-view.result c.step-result.new.v
 same_then_view g c =
     (step_keeps (hold g) (devices g) (segment g) (me g) (same g) (same_refl g) (same_then g) _ _ _ c.new-view.result _
-    _ c.step-result.result c.step-result.new.s c.step-result.new.v refl refl refl refl c.step-result.ensures.ok
-    c.step-result.ensures.err).same_is
+    _ c.step-result.result c.step-result.new.s c.step-result.new.v refl refl refl refl
+    (done_seg g _ c.step-result.result c.new-view.result c.step-result.new.s c.step-result.new.v
+    c.step-result.ensures.ok)
+    (cut_seg g _ c.step-result.result c.new-view.result c.step-result.new.v c.step-result.ensures.err)).same_is
 
 pub shape_of-self : goal.shape_of-self
 shape_of-self g c = sym ((same_then_view g c).3 ∙ c.new-view.ensures.refs.3)
@@ -79,7 +102,10 @@ kept g c =
     _ c.new-view.result (made_of g c) (told g c) c.step-result.result c.step-result.new.s c.step-result.new.v
     c.new-view.ensures.holds (ap (device_state g.I.Source.state g.O.Sink.state g.E.Sink.state)
     c.new-view.ensures.tells)
-    c.new-view.ensures.stays.0 c.new-view.ensures.stays.1 c.step-result.ensures.ok c.step-result.ensures.err
+    c.new-view.ensures.stays.0 c.new-view.ensures.stays.1
+    (done_seg g _ c.step-result.result c.new-view.result c.step-result.new.s c.step-result.new.v
+    c.step-result.ensures.ok)
+    (cut_seg g _ c.step-result.result c.new-view.result c.step-result.new.v c.step-result.ensures.err)
 
 fits : (g : given.Over) (c : goal.After-known g) →
     Fit c.args.k (hold g c.step-result.new.v).meaning (hold g c.step-result.new.v).books
@@ -127,7 +153,9 @@ returns-clause-life g c =
     c.step-result.new.s c.new-view.result o c.step-result.new.v c.new-view.ensures.stays.0
     c.new-view.ensures.stays.1 c.requires.lives
     (g.met.C.Client.asks_to_print c.args.self.now.client.now c.args.work.now.state)
-    (g.met.C.Client.outcomes c.args.self.now.client.now) h) c.step-result.ensures.ok
+    (g.met.C.Client.outcomes c.args.self.now.client.now) h)
+    (done_seg g _ c.step-result.result c.new-view.result c.step-result.new.s c.step-result.new.v
+    c.step-result.ensures.ok)
 
 pub returns-clause-done : goal.returns-clause-done
 returns-clause-done g c =
@@ -140,7 +168,9 @@ returns-clause-done g c =
     c.new-view.ensures.stays.0 (c.new-view.ensures.stays.1 ∙ c.side-side.ensures) h.1
     c.requires.fit (fits g c) c.known.ensures.store c.requires.lives
     (g.met.C.Client.asks_to_print c.args.self.now.client.now c.args.work.now.state) shown o
-    (g.met.C.Client.waits_quietly c.args.self.now.client.now) h.2) c.step-result.ensures.ok
+    (g.met.C.Client.waits_quietly c.args.self.now.client.now) h.2)
+    (done_seg g _ c.step-result.result c.new-view.result c.step-result.new.s c.step-result.new.v
+    c.step-result.ensures.ok)
 
 pub returns-clause-cut : goal.returns-clause-cut
 returns-clause-cut g c =
@@ -153,7 +183,8 @@ returns-clause-cut g c =
     c.new-view.ensures.stays.0 (c.new-view.ensures.stays.1 ∙ c.side-side.ensures) h.2
     c.requires.fit (fits g c) c.known.ensures.store c.requires.lives
     (g.met.C.Client.asks_to_print c.args.self.now.client.now c.args.work.now.state) shown stop state h.1 h.3 h.4)
-    c.step-result.ensures.err c.step-result.ensures.state
+    (cut_seg g _ c.step-result.result c.new-view.result c.step-result.new.v c.step-result.ensures.err)
+    c.step-result.ensures.state
 
 pub returns-clause-broke : goal.returns-clause-broke
 returns-clause-broke g c =
@@ -166,4 +197,34 @@ returns-clause-broke g c =
     c.new-view.ensures.stays.0 (c.new-view.ensures.stays.1 ∙ c.side-side.ensures) h.2
     c.requires.fit (fits g c) c.known.ensures.store c.requires.lives
     (g.met.C.Client.asks_to_print c.args.self.now.client.now c.args.work.now.state) (λ y. shows) stop state h.1 h.3
-    h.4 solo) c.step-result.ensures.err c.step-result.ensures.state
+    h.4 solo)
+    (cut_seg g _ c.step-result.result c.new-view.result c.step-result.new.v c.step-result.ensures.err)
+    c.step-result.ensures.state
+
+-- ---- how far the peaks rise
+
+pub returns-clause-peaks : goal.returns-clause-peaks
+returns-clause-peaks g c = λ t e w shown.
+    let row = (g.C.Client.prog c.args.self.now.client.now).row c.args.work.now.state in
+    by_result c.step-result.result c.step-result.ensures.ok c.step-result.ensures.err
+    (λ o h. step_rises (hold g) (devices g) (segment g) (me g) (same g) (same_refl g) (same_then g) t e
+    (g.C.Client.prog c.args.self.now.client.now) w c.args.k (g.S.SegStore.meaning c.args.self.now.store)
+    (g.S.SegStore.reserved c.args.self.now.store) c.args.self.now.books c.args.work.now
+    (told g c) c.new-view.result h.0 c.step-result.new.v c.step-result.new.s c.new-view.ensures.holds
+    (ap (device_state g.I.Source.state g.O.Sink.state g.E.Sink.state) c.new-view.ensures.tells)
+    c.new-view.ensures.stays.0 (c.new-view.ensures.stays.1 ∙ c.side-side.ensures) h.1.0
+    c.requires.fit (fits g c) c.known.ensures.store c.requires.lives
+    (g.met.C.Client.asks_to_print c.args.self.now.client.now c.args.work.now.state) shown (peaks g)
+    (g.S.SegStore.peaks c.args.self.now.store) c.step-result.new.v (h.1.1 ∙ c.new-view.ensures.peaks)
+    (run_on (hold g) (devices g) (segment g) (me g) (same g) (peaks g) w row h.0 (o, c.step-result.new.s)
+    c.step-result.new.v h.2) refl)
+    (λ stop h. step_rises (hold g) (devices g) (segment g) (me g) (same g) (same_refl g) (same_then g) t e
+    (g.C.Client.prog c.args.self.now.client.now) w c.args.k (g.S.SegStore.meaning c.args.self.now.store)
+    (g.S.SegStore.reserved c.args.self.now.store) c.args.self.now.books c.args.work.now
+    (told g c) c.new-view.result h.0 c.step-result.new.v c.step-result.new.s c.new-view.ensures.holds
+    (ap (device_state g.I.Source.state g.O.Sink.state g.E.Sink.state) c.new-view.ensures.tells)
+    c.new-view.ensures.stays.0 (c.new-view.ensures.stays.1 ∙ c.side-side.ensures) h.2.0
+    c.requires.fit (fits g c) c.known.ensures.store c.requires.lives
+    (g.met.C.Client.asks_to_print c.args.self.now.client.now c.args.work.now.state) shown (peaks g)
+    (g.S.SegStore.peaks c.args.self.now.store) h.1 (h.2.1 ∙ c.new-view.ensures.peaks)
+    (stop_on (hold g) (devices g) (segment g) (me g) (same g) (peaks g) w row h.0 stop h.1 h.3) h.4.1)

@@ -3,7 +3,9 @@ use Rattle.stm_core.specs.Books.{with_own}
 use Rattle.stm_core.specs.Begun.{CountsSteps}
 use Rattle.stm_core.specs.Devices.{device_state}
 use Rattle.stm_core.specs.inner.Trying.{core_with}
+use Rattle.stm_core.specs.InUse.{IfTold}
 use Rattle.stm_core.specs.inner.Pausing.{PauseWhy}
+use Rattle.stm_core.specs.inner.Rising.{RisesOut}
 use Rattle.stm_core.specs.inner.Settled.{KeepsOrRose, Rises}
 use Rattle.stm_core.proofs.TakenSteps.{sane_paused, thread_out, history_paused, cause_paused, settled_now}
 use Rattle.stm_core.proofs.transactions.Core.take_steps.Goals as goal
@@ -82,3 +84,11 @@ returns-clause-taken g c = λ t e w o at.
     (g.S.SegStore.reserved z.store) d2 (g.S.SegStore.meaning z.store) z.books c.settle.result r.shape.0
     c.settle.ensures.tried
     (c.settle.ensures.counted c.args.most r.count) c.requires.short r.steps (c.settle.ensures.settled t e)
+
+pub returns-clause-peaks : goal.returns-clause-peaks
+returns-clause-peaks g c = λ t e w shown.
+    let x = c.args.self.now in
+    let m = g.S.SegStore.meaning x.store in
+    subst (λ z. IfTold (g.S.SegStore.peaks x.store) z
+    (RisesOut (g.C.Client.prog x.client.now) c.args.length c.args.k m (core_with w c.args.k m x.books c.args.work)))
+    (sym c.settle.ensures.peaks) (c.run_out-done.ensures.peaks t e w shown)
