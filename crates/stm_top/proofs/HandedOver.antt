@@ -137,7 +137,8 @@ module _ {S : Type 0} (p : Prog S) (l : Limits) (a b : Devices) (mid was : Bool)
           f.0 ∙ words,
           f.2,
           (reserved, refl, f.1),
-          nearly r n x h.outcome,
+          (nearly r n x h.outcome).0,
+          (nearly r n x h.outcome).1,
         )
     caused_end cause.ReadFault history conflicts h = (
       cut_by (state.Faulted cause.ReadFault) history conflicts h cause.ReadFault h.outcome refl,
