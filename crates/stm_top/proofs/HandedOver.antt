@@ -1,32 +1,27 @@
 -- What a core hands out at its end is what the call says of a run.
-use Rattle.std.proofs.Common.{◌≡◌, ◌⊎◌, inl, inr, ℕ, ◌<◌, Bool, true, false, List, Option, Some, None, refl, sym, ◌∙◌, ap, subst, ◌+◌, arith}
+use Rattle.std.proofs.Common.{◌≡◌, inl, inr, ℕ, Bool, true, false, List, Option, Some, None, refl, sym, ◌∙◌, ap, subst}
 use Rattle.py_data.specs.declared.stop.Conflict.{Conflict}
-use Rattle.py_data.specs.Heap.{Heap}
-use Rattle.py_data.specs.World.{World}
-use Rattle.stm_io.specs.Outside.{Rose}
 use Rattle.lock_run.specs.declared.turn.Turn.{Turn}
 use Rattle.lock_run.specs.RunState.{first_world}
 use Rattle.lock_run.specs.Prog.{Prog}
 use Rattle.lock_run.specs.Cut.{Broken}
 use Rattle.lock_run.specs.Machine.{Machine, begin_with}
-use Rattle.lock_run.specs.RunState.{SomeLives, SomeReady, steps_done}
+use Rattle.lock_run.specs.RunState.{SomeLives, SomeReady}
 use Rattle.seg_store.specs.Meaning.{Meaning}
 use Rattle.stm_core.specs.declared.cause.Cause.{Cause}
 use Rattle.stm_core.specs.declared.cause.Cause.TheVariants as cause
 use Rattle.stm_core.specs.declared.standing.RunState.{RunState}
 use Rattle.stm_core.specs.declared.standing.RunState.TheVariants as state
-use Rattle.stm_core.specs.CoreState.{Transaction, Idle, Running, CoreState, committed}
+use Rattle.stm_core.specs.CoreState.{Transaction, Idle, Running, committed}
 use Rattle.stm_core.specs.CoreHeld.{IsFullKept}
 use Rattle.stm_core.specs.Devices.{DeviceState}
 use Rattle.stm_core.specs.Events.{Limits}
 use Rattle.stm_core.specs.Finishing.{IsUnused, HandedOut}
 use Rattle.stm_core.specs.Outside.{Outer, Kept, is_device}
 use Rattle.stm_core.specs.SaneCore.{CauseRose}
-use Rattle.stm_core.specs.Standing.{IsOutcome}
 use Rattle.stm_top.specs.declared.answer.Answer.{Answer}
-use Rattle.stm_top.specs.declared.answer.Answer.TheVariants.{Done, Failed, InputFailed, OutputFailed, ErrorOutputFailed, HeapFull, Stuck, BudgetSpent, OutOfMemory}
 use Rattle.stm_top.specs.Serial.{Ended, Whole, Cut, Serial, IsWhole, IsCutBy}
-use Rattle.stm_top.specs.TopCall.{Devices, Told, IsLeft, Faults, faults_of, RunEnded}
+use Rattle.stm_top.specs.TopCall.{Devices, Told, faults_of, RunEnded}
 use Rattle.stm_top.specs.inner.Ending.{answer_to, AnswerTo, RunEnds}
 use Rattle.stm_top.proofs.FullHeap.{NearlyFullAt}
 
@@ -142,7 +137,8 @@ module _ {S : Type 0} (p : Prog S) (l : Limits) (a b : Devices) (mid was : Bool)
           f.0 ∙ words,
           f.2,
           (reserved, refl, f.1),
-          nearly r n x h.outcome,
+          (nearly r n x h.outcome).0,
+          (nearly r n x h.outcome).1,
         )
     caused_end cause.ReadFault history conflicts h = (
       cut_by (state.Faulted cause.ReadFault) history conflicts h cause.ReadFault h.outcome refl,

@@ -17,11 +17,11 @@ use Rattle.stm_top.specs.declared.status.Status.TheVariants as status
 use Rattle.stm_top.specs.Script.{Origin}
 use Rattle.stm_top.specs.Serial.{IsWhole}
 use Rattle.stm_top.specs.TopCall.{Devices, Told, limits_of, faults_of, TextPut, Ran, Answered}
-use Rattle.top_laws.specs.Known.{Leads}
+use Rattle.top_laws.specs.Known.{Leads, start_of}
 use Rattle.top_laws.specs.Ends.{StandsAt, LeftBy, LeftAt}
 use Rattle.top_laws.specs.Laws.{LeadsLaw, StandsLaw, DoneLaw, StuckLaw, ReadyLaw, SameLaw, HeapLaw, LeftLaw}
 use Rattle.top_laws.proofs.Telling.{taken_text, taken_rest}
-use Rattle.top_laws.proofs.Standing.{CountAt, run_stands, run_counts, counts_on, whole_told, one_status, where_done, where_stuck, where_ready}
+use Rattle.top_laws.proofs.Standing.{CountAt, FullAt, run_stands, run_full, run_counts, counts_on, whole_told, one_status, where_done, where_stuck, where_ready}
 use Rattle.top_laws.proofs.Causes.{some_or_none, same_some, is_some, answer_or, caused_ran}
 use Rattle.top_laws.proofs.Opening.{RanAt, no_text, no_text_failed}
 
@@ -66,8 +66,9 @@ module _ {P S : Type 0} (is_code : List ℕ → P → Type 0) (refused : List �
 
   -- the run's program and machine are those to which the history leads
   record Led (o : Options) (a : Devices) (t : Told) (b : Devices) (r : Ran is_code refused rows o a t b) (p : P)
-      (m : Machine S) : Type 0 where
+      (m : Machine S) (l : Leads is_code rows o.script a t.history p m) : Type 0 where
     told : IsSome r.source.told
+    rest : r.source.told ≡ Some l.rest
     program : r.program ≡ p
     machine : r.serial.machine ≡ m
 
@@ -80,7 +81,7 @@ module _ {P S : Type 0} (is_code : List ℕ → P → Type 0) (refused : List �
       runs_along (rows p) ts (begin_with (rows p) (first_world (Some rest))) m m1 refl s l
 
   led : (o : Options) (a : Devices) (t : Told) (b : Devices) (r : Ran is_code refused rows o a t b) (p : P)
-      (m : Machine S) → Leads is_code rows o.script a t.history p m → Led o a t b r p m
+      (m : Machine S) → (l : Leads is_code rows o.script a t.history p m) → Led o a t b r p m l
   led o a t b r p m l =
       let y : Origin = record { loader = b.loader; input = r.source } in
       let text = taken_text o.script l.text r.text a y l.whole r.taken in
@@ -88,6 +89,7 @@ module _ {P S : Type 0} (is_code : List ℕ → P → Type 0) (refused : List �
       let program = one l.text r.program p (subst (λ (x : List ℕ). is_code x r.program) text r.is) l.is in
       record {
         told = is_some r.source.told l.rest rest;
+        rest = rest;
         program = program;
         machine = same_machine r.program p r.source.told l.rest t.history m r.serial.machine program rest r.serial.run
             l.run;
@@ -96,8 +98,10 @@ module _ {P S : Type 0} (is_code : List ℕ → P → Type 0) (refused : List �
   -- ---- what the run says of it
 
   -- how it stands, the counts of failures, the heap, and what the devices were left with
-  record Stood (o : Options) (a : Devices) (t : Told) (b : Devices) (p : P) (m : Machine S) (x : Status) : Type 0 where
+  record Stood (o : Options) (a : Devices) (t : Told) (b : Devices) (p : P) (m : Machine S)
+      (l : Leads is_code rows o.script a t.history p m) (x : Status) : Type 0 where
     stands : StandsAt (rows p) o.budget t.history m x
+    full : FullAt (rows p) (limits_of o) (start_of l) t.history m x
     counts : CountAt a b x
     heap : (store : Meaning) → t.store ≡ Some store → store.image ≡ m.heap
     told : ToldAt a b m.world x
@@ -120,8 +124,8 @@ module _ {P S : Type 0} (is_code : List ℕ → P → Type 0) (refused : List �
   ran_told _ o a t b h = tt
 
   ran_stood : (x : Status) (o : Options) (a : Devices) (t : Told) (b : Devices) (p : P) (m : Machine S) →
-      RanAt is_code refused rows x o a t b → Leads is_code rows o.script a t.history p m →
-      Stood o a t b p m x
+      RanAt is_code refused rows x o a t b → (l : Leads is_code rows o.script a t.history p m) →
+      Stood o a t b p m l x
   ran_stood x o a t b p m h l =
       let r = h.0 in
       let k = led o a t b r p m l in
@@ -132,6 +136,15 @@ module _ {P S : Type 0} (is_code : List ℕ → P → Type 0) (refused : List �
         stands = subst (λ (y : Machine S). StandsAt (rows p) o.budget t.history y x) k.machine
             (subst (λ (q : P). StandsAt (rows q) o.budget t.history r.serial.machine x) k.program
             own);
+        full =
+            let all = limits_of o in
+            let own = run_full (rows r.program) o.length r.source.told a.out.told a.err.told t.history t.conflicts
+            b.input.told b.out.told b.err.told all (faults_of a) (faults_of b) r.serial x h.1 in
+            subst (λ (y : Machine S). FullAt (rows p) all (start_of l) t.history y x) k.machine
+            (subst (λ (i : Option (List ℕ)). FullAt (rows p) all (begin_with (rows p) (first_world i)) t.history
+            r.serial.machine x) k.rest
+            (subst (λ (q : P). FullAt (rows q) all (begin_with (rows q) (first_world r.source.told)) t.history
+            r.serial.machine x) k.program own));
         counts = run_counts (rows r.program) o.length r.source.told a.out.told a.err.told t.history t.conflicts
             b.input.told b.out.told b.err.told (limits_of o) a b r.serial x h.1;
         heap = λ store e. ap (λ (x : Meaning). x.image)
@@ -149,8 +162,8 @@ module _ {P S : Type 0} (is_code : List ℕ → P → Type 0) (refused : List �
 
   answer_stood : (words : List (List ℕ)) (a : Devices) (x : Status) (text : List ℕ) (t : Told) (b : Devices)
       (o : Options) (p : P) (m : Machine S) → (h : Answered is_code refused rows words a x text t b) →
-      options_of words ≡ Some o → t.store ≢ None → Leads is_code rows o.script a t.history p m →
-      Stood o a t (record b { err = h.err_before }) p m x
+      options_of words ≡ Some o → t.store ≢ None → (l : Leads is_code rows o.script a t.history p m) →
+      Stood o a t (record b { err = h.err_before }) p m l x
   answer_stood words a x text t b o p m h e s l =
       ran_stood x o a t (record b { err = h.err_before }) p m (answer_ran words a x text t b o h e s) l
 
@@ -159,6 +172,13 @@ module _ {P S : Type 0} (is_code : List ℕ → P → Type 0) (refused : List �
   pub stands_law : StandsLaw is_code refused rows
   stands_law words a x text t b o store p m h e s l =
       (answer_stood words a x text t b o p m h e (some_or_none t.store store s) l).stands
+
+  pub full_law : (words : List (List ℕ)) (a : Devices) (x : Status) (text : List ℕ) (t : Told) (b : Devices)
+      (o : Options) (store : Meaning) (p : P) (m : Machine S) → Answered is_code refused rows words a x text t b →
+      options_of words ≡ Some o → t.store ≡ Some store → (l : Leads is_code rows o.script a t.history p m) →
+      FullAt (rows p) (limits_of o) (start_of l) t.history m x
+  full_law words a x text t b o store p m h e s l =
+      (answer_stood words a x text t b o p m h e (some_or_none t.store store s) l).full
 
   pub counts_law : (words : List (List ℕ)) (a : Devices) (x : Status) (text : List ℕ) (t : Told) (b : Devices)
       (o : Options) (store : Meaning) (p : P) (m : Machine S) → Answered is_code refused rows words a x text t b →

@@ -1,15 +1,16 @@
 -- What each status says of its cause. An answer is a thing of `stm_top` alone: what tells the answers apart is their
 -- status.
-use Rattle.std.proofs.Common.{◌≡◌, ◌⊎◌, inl, inr, ℕ, List, [], false, Option, Some, None, slice_get, refl, ap, subst, arith, rules}
+use Rattle.std.proofs.Common.{◌≡◌, ◌⊎◌, inl, inr, ℕ, List, [], false, Option, Some, None, refl, ap, subst, arith, rules}
 use Rattle.py_base.specs.declared.refusal.Refusal.{Refusal}
 use Rattle.py_data.specs.declared.stop.Conflict.{Conflict}
 use Rattle.stm_io.specs.Outside.{Rose}
-use Rattle.lock_run.specs.declared.client.Life.TheVariants.{Lives}
 use Rattle.lock_run.specs.declared.turn.Turn.{Turn}
 use Rattle.lock_run.specs.Prog.{Prog}
-use Rattle.lock_run.specs.RunState.{SomeLives, IsDone, IsStuck, IsSpent}
+use Rattle.lock_run.specs.Machine.{begin_with}
+use Rattle.lock_run.specs.RunState.{first_world, SomeLives, IsDone, IsStuck, IsSpent}
 use Rattle.stm_core.specs.declared.cause.Cause.TheVariants.{ReadFault, WriteFault, ErrFault}
 use Rattle.stm_core.specs.Events.{Limits}
+use Rattle.heap_bound.specs.Growth.{IsNearlyFull}
 use Rattle.stm_words.specs.declared.call.Options.{Options}
 use Rattle.stm_words.specs.Options.{options_of}
 use Rattle.stm_top.specs.declared.status.Status.{Status}
@@ -39,7 +40,8 @@ EndedAt {p = p} Failed l a b r = IsWhole r.ended × IsDone p r.machine × FirstF
 EndedAt InputFailed l a b r = IsCutBy ReadFault r.ended × Rose a.input b.input
 EndedAt OutputFailed l a b r = IsCutBy WriteFault r.ended × Rose a.out b.out
 EndedAt ErrorOutputFailed l a b r = IsCutBy ErrFault r.ended × Rose a.err b.err
-EndedAt {p = p} HeapFull l a b r = SomeLives p r.machine
+EndedAt {p = p} {input = input} {history = history} HeapFull l a b r = SomeLives p r.machine × IsNearlyFull p
+    (begin_with p (first_world input)) l.length l.segments l.words history r.machine.heap
 EndedAt {p = p} Stuck l a b r = IsWhole r.ended × IsStuck p r.machine
 EndedAt {p = p} {history = history} BudgetSpent l a b r = IsWhole r.ended × IsSpent p l.budget history r.machine
 EndedAt {p = p} OutOfMemory l a b r = SomeLives p r.machine
@@ -81,10 +83,15 @@ module _ {P S : Type 0} (is_code : List ℕ → P → Type 0) (refused : List �
         (text ≡ refusal_text r) ⊎ (text ≡ []) → Fact (CausedIn Refused words text a t b)
     why o r e h says = Holds (o, e, (r, h, says))
 
-    full : (o : Options) (r : Ran is_code refused rows o a t b) (k : ℕ) (q : S) → options_of words ≡ Some o →
-        slice_get r.serial.machine.threads k ≡ Some q → (rows r.program).life q ≡ Lives →
-        Fact (CausedIn HeapFull words text a t b)
-    full o r k q e is lives = Holds (o, e, (r, (k, q, is, lives)))
+    full : (o : Options) (r : Ran is_code refused rows o a t b) (limit : ℕ) → options_of words ≡ Some o →
+        SomeLives (rows r.program) r.serial.machine → limit ≡ (limits_of o).words →
+        IsNearlyFull (rows r.program) (begin_with (rows r.program) (first_world r.source.told)) o.length o.segments
+        limit t.history r.serial.machine.heap → Fact (CausedIn HeapFull words text a t b)
+    full o r limit e lives is nearly = Holds (o, e, (r, (
+      lives,
+      subst (λ n. IsNearlyFull (rows r.program) (begin_with (rows r.program) (first_world r.source.told)) o.length
+          o.segments n t.history r.serial.machine.heap) is nearly,
+    )))
 
     -- at 10 the answer is told by its steps, which are those of the history
     spent : (answer : _) → status_of answer ≡ BudgetSpent → Caused is_code refused rows answer words a t b →

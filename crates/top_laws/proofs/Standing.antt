@@ -12,12 +12,13 @@ use Rattle.lock_run.specs.RunState.{steps_done, first_world, SomeLives, SomeRead
 use Rattle.lock_run.specs.Machine.{Machine, begin_with}
 use Rattle.stm_core.specs.declared.cause.Cause.TheVariants.{ReadFault, WriteFault, ErrFault}
 use Rattle.stm_core.specs.Events.{Limits}
+use Rattle.heap_bound.specs.Growth.{IsNearlyFull}
 use Rattle.stm_top.specs.declared.status.Status.{Status}
 use Rattle.stm_top.specs.declared.status.Status.TheVariants as status
 use Rattle.stm_top.specs.Serial.{Ended, Whole, Cut, IsWhole, Serial}
 use Rattle.stm_top.specs.TopCall.{Devices, Faults, faults_of}
-use Rattle.top_laws.specs.Ends.{AtUntaken, StandsAt, EndsItself, AtDone, AtStuck, AtReady, AtFinished}
-use Rattle.top_laws.specs.Known.{NoneRose}
+use Rattle.top_laws.specs.Ends.{AtUntaken, StandsAt, EndsItself, AtDone, AtStuck, AtReady, AtFinished, AtComplete}
+use Rattle.top_laws.specs.Known.{HasRoom, NoneRose}
 use Rattle.top_laws.proofs.Opening.{EndedAt}
 use Rattle.top_laws.proofs.Keeping.{cut_lives}
 
@@ -38,11 +39,23 @@ run_stands p length input out err history conflicts input1 out1 err1 l f g r sta
 run_stands p length input out err history conflicts input1 out1 err1 l f g r status.ErrorOutputFailed k h =
     cut_lives p (begin_with p (first_world input)) history r.machine r.machine.world r.told ErrFault r.ended k r.run
     h.0
-run_stands p length input out err history conflicts input1 out1 err1 l f g r status.HeapFull k h = h
+run_stands p length input out err history conflicts input1 out1 err1 l f g r status.HeapFull k h = h.0
 run_stands p length input out err history conflicts input1 out1 err1 l f g r status.Stuck k h = h.1
 run_stands p length input out err history conflicts input1 out1 err1 l f g r status.BudgetSpent k h = h.1
 run_stands p length input out err history conflicts input1 out1 err1 l f g r status.OutOfMemory k h = h
 run_stands p length input out err history conflicts input1 out1 err1 l f g r _ k h = absurd h
+
+-- at 8 the heap was nearly full
+abbrev pub FullAt : {S : Type 0} → Prog S → Limits → Machine S → List Turn → Machine S → Status → Type 0
+FullAt p l first history m status.HeapFull = IsNearlyFull p first l.length l.segments l.words history m.heap
+FullAt p l first history m _ = Unit {0}
+
+pub run_full : {S : Type 0} (p : Prog S) (length : ℕ) (input out err : Option (List ℕ)) (history : List Turn)
+    (conflicts : List Conflict) (input1 out1 err1 : Option (List ℕ)) (l : Limits) (f g : Faults)
+    (r : Serial p length input out err history conflicts input1 out1 err1) (x : Status) → EndedAt x l f g r →
+    FullAt p l (begin_with p (first_world input)) history r.machine x
+run_full p length input out err history conflicts input1 out1 err1 l f g r status.HeapFull h = h.1
+run_full p length input out err history conflicts input1 out1 err1 l f g r _ h = tt
 
 -- at 5, 6 and 7 the count of that device rose
 abbrev pub CountAt : Devices → Devices → Status → Type 0
@@ -160,22 +173,37 @@ module _ {S : Type 0} (p : Prog S) (budget : ℕ) (history : List Turn) (m : Mac
   where_ready a b status.OutOfMemory h k s = tt
   where_ready a b _ h k s = absurd h
 
-  pub where_free : (a b : Devices) (x : Status) → StandsAt p budget history m x → CountAt a b x → NoneRose a b →
-      (IsStuck p m → ⊥) → steps_done history < budget → AtFinished p m x
-  where_free a b status.Done h k none go below = h
-  where_free a b status.Failed h k none go below = h
-  where_free a b status.InputFailed h k none go below = absurd (none.input k)
-  where_free a b status.OutputFailed h k none go below = absurd (none.out k)
-  where_free a b status.ErrorOutputFailed h k none go below = absurd (none.err k)
-  where_free a b status.HeapFull h k none go below = h
-  where_free a b status.Stuck h k none go below = absurd (go h)
-  where_free a b status.BudgetSpent h k none go below = let spent = h.1 in absurd (omega arith)
-  where_free a b status.OutOfMemory h k none go below = tt
-  where_free a b _ h k none go below = absurd h
+  -- where nothing stands in the way
+  module _ (l : Limits) (first : Machine S) where
+    pub where_free : (a b : Devices) (x : Status) → StandsAt p budget history m x → FullAt p l first history m x →
+        CountAt a b x → NoneRose a b → (IsStuck p m → ⊥) → steps_done history < budget →
+        AtFinished p l first history m x
+    where_free a b status.Done h f k none go below = h
+    where_free a b status.Failed h f k none go below = h
+    where_free a b status.InputFailed h f k none go below = absurd (none.input k)
+    where_free a b status.OutputFailed h f k none go below = absurd (none.out k)
+    where_free a b status.ErrorOutputFailed h f k none go below = absurd (none.err k)
+    where_free a b status.HeapFull h f k none go below = (h, f)
+    where_free a b status.Stuck h f k none go below = absurd (go h)
+    where_free a b status.BudgetSpent h f k none go below = let spent = h.1 in absurd (omega arith)
+    where_free a b status.OutOfMemory h f k none go below = tt
+    where_free a b _ h f k none go below = absurd h
 
-  -- and where nothing ran
-  pub where_idle : (a b : Devices) (x : Status) → AtUntaken a b x → NoneRose a b → AtFinished p m x
-  where_idle a b status.LoaderFailed h none = absurd (none.loader h)
-  where_idle a b status.InputFailed h none = absurd (none.input h)
-  where_idle a b status.OutOfMemory h none = tt
-  where_idle a b _ h none = absurd h
+    -- and where nothing ran
+    pub where_idle : (a b : Devices) (x : Status) → AtUntaken a b x → NoneRose a b → AtFinished p l first history m x
+    where_idle a b status.LoaderFailed h none = absurd (none.loader h)
+    where_idle a b status.InputFailed h none = absurd (none.input h)
+    where_idle a b status.OutOfMemory h none = tt
+    where_idle a b _ h none = absurd h
+
+    -- and there is room for all
+    pub where_roomy : (x : Status) → AtFinished p l first history m x → HasRoom p l first history m →
+        AtComplete p m x
+    where_roomy status.Done h room = h
+    where_roomy status.Failed h room = h
+    where_roomy status.HeapFull h room =
+        let full = h.1 room.bound room.bounds in
+        let enough = room.room in
+        absurd (omega arith)
+    where_roomy status.OutOfMemory h room = tt
+    where_roomy _ h room = absurd h

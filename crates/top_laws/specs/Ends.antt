@@ -7,6 +7,8 @@ use Rattle.lock_run.specs.declared.turn.Turn.{Turn}
 use Rattle.lock_run.specs.Prog.{Prog}
 use Rattle.lock_run.specs.RunState.{steps_done, SomeLives, IsDone, IsStuck, IsSpent}
 use Rattle.lock_run.specs.Machine.{Machine}
+use Rattle.stm_core.specs.Events.{Limits}
+use Rattle.heap_bound.specs.Growth.{IsNearlyFull}
 use Rattle.stm_top.specs.declared.status.Status.{Status}
 use Rattle.stm_top.specs.declared.status.Status.TheVariants.{Done, Failed, Usage, Refused, LoaderFailed, InputFailed, OutputFailed, ErrorOutputFailed, HeapFull, Stuck, BudgetSpent, OutOfMemory, ScriptTooLong}
 use Rattle.stm_top.specs.Answer.{refusal_text}
@@ -112,13 +114,21 @@ abbrev pub AtReady : ℕ → List Turn → Devices → Devices → Status → Ty
 AtReady budget history a b BudgetSpent = budget ≤ steps_done history
 AtReady budget history a b status = IsBrokenOff a b status
 
--- nothing stands in the way: all threads have ended, and it is 0 or 1; or 11, or 8 while a thread lives
-abbrev pub AtFinished : {S : Type 0} → Prog S → Machine S → Status → Type 0
-AtFinished p m Done = IsDone p m × (FirstFailed p m → ⊥)
-AtFinished p m Failed = IsDone p m × FirstFailed p m
-AtFinished p m HeapFull = SomeLives p m
-AtFinished p m OutOfMemory = Unit {0}
-AtFinished p m _ = ⊥
+-- Nothing stands in the way: all threads have ended, and it is 0 or 1; or 11; or 8, while a thread lives, and then the
+-- heap to which the history led from its first machine was nearly full.
+abbrev pub AtFinished : {S : Type 0} → Prog S → Limits → Machine S → List Turn → Machine S → Status → Type 0
+AtFinished p l first history m Done = IsDone p m × (FirstFailed p m → ⊥)
+AtFinished p l first history m Failed = IsDone p m × FirstFailed p m
+AtFinished p l first history m HeapFull = SomeLives p m × IsNearlyFull p first l.length l.segments l.words history m.heap
+AtFinished p l first history m OutOfMemory = Unit {0}
+AtFinished p l first history m _ = ⊥
+
+-- and there is room for all: 0 or 1, and all threads have ended; or 11
+abbrev pub AtComplete : {S : Type 0} → Prog S → Machine S → Status → Type 0
+AtComplete p m Done = IsDone p m × (FirstFailed p m → ⊥)
+AtComplete p m Failed = IsDone p m × FirstFailed p m
+AtComplete p m OutOfMemory = Unit {0}
+AtComplete p m _ = ⊥
 
 -- ---- what the devices are left with
 

@@ -1,11 +1,13 @@
 -- What is known of a call from outside, before it and by its report: the script that the words name, the machine to
 -- which the history leads, and that no device failed. States `docs/LANGUAGE.md`, "The top call".
-use Rattle.std.specs.Prelude.{◌≡◌, ℕ, ◌≤◌, List, [], length, Some}
+use Rattle.std.specs.Prelude.{◌≡◌, ℕ, ◌+◌, ◌*◌, ◌≤◌, List, [], length, Some}
 use Rattle.stm_io.specs.Outside.{Rose}
 use Rattle.lock_run.specs.declared.turn.Turn.{Turn}
 use Rattle.lock_run.specs.Prog.{Prog}
 use Rattle.lock_run.specs.RunState.{first_world}
 use Rattle.lock_run.specs.Machine.{Machine, Runs, begin_with}
+use Rattle.stm_core.specs.Events.{Limits}
+use Rattle.heap_bound.specs.Growth.{words_of, names_in, BoundsGrowth}
 use Rattle.stm_words.specs.declared.call.Script.{Script}
 use Rattle.stm_words.specs.declared.call.Script.TheVariants.{Source, File, Demo}
 use Rattle.stm_words.specs.Demo.{demo_of}
@@ -42,6 +44,21 @@ pub record Leads {P S : Type 0} (is_code : List ℕ → P → Type 0) (rows : P 
   pub rest : List ℕ
   pub input : IsInputOf script rest a
   pub run : Runs (rows program) (begin_with (rows program) (first_world (Some rest))) history machine
+
+-- the machine with which its threads begin, over that input
+abbrev pub start_of : {P S : Type 0} {is_code : List ℕ → P → Type 0} {rows : P → Prog S} {script : Script} {a : Devices}
+    {history : List Turn} {program : P} {machine : Machine S} → Leads is_code rows script a history program machine →
+    Machine S
+start_of {rows = rows} {program = program} l = begin_with (rows program) (first_world (Some l.rest))
+
+-- The heap has room for all that the history asked for, whatever the order in which workers came to it: a number bounds
+-- each growth of the history, and the words are at least the first two, those of the history, and 21 times that number
+-- for each segment and once more.
+pub record HasRoom {S : Type 0} (p : Prog S) (l : Limits) (first : Machine S) (history : List Turn)
+    (m : Machine S) : Type 0 where
+  pub bound : ℕ
+  pub bounds : BoundsGrowth p first l.length history bound
+  pub room : 2 + words_of m.heap (names_in history) + (21 * l.segments + 1) * bound ≤ l.words
 
 -- no device failed: no count of failures rose, or stands at its last number
 pub record NoneRose (a b : Devices) : Type 0 where

@@ -10,9 +10,9 @@ use Rattle.stm_words.specs.declared.call.Options.{Options}
 use Rattle.stm_words.specs.Options.{options_of}
 use Rattle.stm_top.specs.declared.status.Status.{Status}
 use Rattle.stm_top.specs.declared.status.Status.TheVariants.{Usage}
-use Rattle.stm_top.specs.TopCall.{Devices, Told, Answered}
-use Rattle.top_laws.specs.Known.{IsScriptOf, IsInputOf, IsShort, IsLong, Leads, NoneRose}
-use Rattle.top_laws.specs.Ends.{MayBeIdle, MayHaveRun, AtNoOptions, AtRefused, AtTooLong, AtUntaken, StandsAt, EndsItself, AtDone, AtStuck, AtReady, LeftAt, AtFinished}
+use Rattle.stm_top.specs.TopCall.{Devices, Told, limits_of, Answered}
+use Rattle.top_laws.specs.Known.{IsScriptOf, IsInputOf, IsShort, IsLong, Leads, start_of, HasRoom, NoneRose}
+use Rattle.top_laws.specs.Ends.{MayBeIdle, MayHaveRun, AtNoOptions, AtRefused, AtTooLong, AtUntaken, StandsAt, EndsItself, AtDone, AtStuck, AtReady, LeftAt, AtFinished, AtComplete}
 
 module _ {P S : Type 0} (is_code : List ℕ → P → Type 0) (refused : List ℕ → Refusal → Type 0) (rows : P → Prog S) where
   -- ---- by the report's store
@@ -148,4 +148,15 @@ module _ {P S : Type 0} (is_code : List ℕ → P → Type 0) (refused : List �
       (o : Options) (p : P) (m : Machine S) →
       Answered is_code refused rows words a status text t b → options_of words ≡ Some o →
       (l : Leads is_code rows o.script a t.history p m) → IsShort o.script l.text → NoneRose a b →
-      (IsStuck (rows p) m → ⊥) → steps_done t.history < o.budget → AtFinished (rows p) m status
+      (IsStuck (rows p) m → ⊥) → steps_done t.history < o.budget →
+      AtFinished (rows p) (limits_of o) (start_of l) t.history m status
+
+  -- And the heap has room for all that the history asked for.
+  abbrev pub CompleteLaw : Type 0
+  CompleteLaw =
+      (words : List (List ℕ)) (a : Devices) (status : Status) (text : List ℕ) (t : Told) (b : Devices)
+      (o : Options) (p : P) (m : Machine S) →
+      Answered is_code refused rows words a status text t b → options_of words ≡ Some o →
+      (l : Leads is_code rows o.script a t.history p m) → IsShort o.script l.text → NoneRose a b →
+      (IsStuck (rows p) m → ⊥) → steps_done t.history < o.budget →
+      HasRoom (rows p) (limits_of o) (start_of l) t.history m → AtComplete (rows p) m status

@@ -2,7 +2,7 @@
 //! proof the facts of its clauses. Their premise is what `run_words` ensures.
 ghost use Rattle.py_frames.specs.Laws.{prog_of};
 ghost use Rattle.stm_top.specs.TextCode.{HasCode, IsRefused};
-ghost use Rattle.top_laws.specs.Laws.{IdleLaw, RanLaw, NoOptionsLaw, OptionsLaw, RefusedLaw, TooLongLaw, ProgramLaw, LeadsLaw, StandsLaw, DoneLaw, StuckLaw, ReadyLaw, SameLaw, HeapLaw, LeftLaw, FinishedLaw};
+ghost use Rattle.top_laws.specs.Laws.{IdleLaw, RanLaw, NoOptionsLaw, OptionsLaw, RefusedLaw, TooLongLaw, ProgramLaw, LeadsLaw, StandsLaw, DoneLaw, StuckLaw, ReadyLaw, SameLaw, HeapLaw, LeftLaw, FinishedLaw, CompleteLaw};
 
 use stm_top::text_law;
 
@@ -49,9 +49,11 @@ pub fn left_law()
 
 /// A run is finished where nothing stands in its way. Where the words give options, the script is told, isn't too long
 /// and has a program, no device failed, not each living thread waits, and the history has fewer steps than the budget,
-/// the status is 0 or 1 and all threads have ended; or it is 11, or 8 while a thread lives.
+/// the status is 0 or 1 and all threads have ended; or it is 11; or 8, while a thread lives, and then the heap was nearly
+/// full. Where besides the heap has room for all that the history asked for, it is 0 or 1, or 11.
 pub fn finished_law()
-    ensures { FinishedLaw HasCode IsRefused prog_of }
+    ensures finished { FinishedLaw HasCode IsRefused prog_of }
+    ensures complete { CompleteLaw HasCode IsRefused prog_of }
 {
     text_law();
 }

@@ -3,5 +3,8 @@ use Rattle.stm_top.specs.TextCode.{HasCode, IsRefused}
 use Rattle.top_laws.proofs.Finishing as free
 use Rattle.top_laws.proofs.laws.finished_law.Goals as goal
 
-pub returns : goal.returns
-returns c = free.finished_law HasCode IsRefused prog_of c.text_law.ensures.program c.text_law.ensures.none
+pub returns-clause-finished : goal.returns-clause-finished
+returns-clause-finished c = free.finished_law HasCode IsRefused prog_of c.text_law.ensures.program c.text_law.ensures.none
+
+pub returns-clause-complete : goal.returns-clause-complete
+returns-clause-complete c = free.complete_law HasCode IsRefused prog_of c.text_law.ensures.program c.text_law.ensures.none
