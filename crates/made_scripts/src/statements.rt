@@ -38,7 +38,7 @@ const STATEMENTS: [&str; 42] = [
     "print len(d), d.get(@n), d.values()",
     "if @t:\n    @b",
     "if @t:\n    @b\nelse:\n    @b",
-    "if @t: @s\nelif @t:\n    @b\nelse: pass",
+    "if @t: print @v\nelif @t:\n    @b\nelse: pass",
     "for a in range(@k):\n    @b\n    @o",
     "for c in @l:\n    @o\n    @s\nelse:\n    print 'else', c",
     "n@i = @k\nwhile n@i > 0:\n    n@i -= 1\n    @b\n    @o",
