@@ -59,8 +59,8 @@ fn is_refused(script: &[u8], report: &SureReport) -> bool {
     let Ok(line) = str::from_utf8(report.text.as_slice()) else {
         return false;
     };
-    let is_alone =
-        report.err.written() == report.text.as_slice() && report.out.written().is_empty();
+    let is_alone = report.err.written() == report.text.as_slice()
+        && report.out.written().is_empty();
     is_alone && is_refused_line(line, most_lines(script)) == Some(true)
 }
 

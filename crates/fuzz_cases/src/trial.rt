@@ -108,10 +108,14 @@ impl<W: Write + Drop> Trial<W> {
     }
 
     /// Writes what was counted. It fails where something was wrong.
-    pub(crate) fn finish(mut self) -> Result<()> {
-        let tally = &self.tally;
-        writeln!(self.told, "{tally}")?;
-        let faults = self.tally.faults();
+    pub(crate) fn finish(self) -> Result<()> {
+        let Trial {
+            alloc: _,
+            mut told,
+            tally,
+        } = self;
+        writeln!(told, "{tally}")?;
+        let faults = tally.faults();
         if faults > 0 {
             bail!("{faults} runs are not what they should be");
         }

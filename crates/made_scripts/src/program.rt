@@ -84,8 +84,13 @@ print total, shared, own, log
 ",
 ];
 
-/// What stands between.
-const PIECES: [&str; 3] = ["@s\n", "@c\n", "@c\n@s\n"];
+/// What stands in the module. Most of what raises is caught, so that the program goes on.
+const PIECES: [&str; 4] = [
+    "@s\n",
+    "@c\n",
+    "try:\n    @c\n    @c\nexcept Exception, e:\n    print 'raised', e\n",
+    "try:\n    @s\n    @c\nexcept StandardError, e:\n    print e\nelse:\n    @s\n",
+];
 
 /// How many forms are drawn into one another at most.
 const LEVEL: u8 = 5;

@@ -119,9 +119,13 @@ fn a_list_grows_to_its_limit(rt: HostRuntime) -> Tested {
         shown.starts_with("1~start;~thread 0, line 4: MemoryError;~"),
         "{shown}"
     );
-    let counts = "a = [];while 1:;    try:;        a.append(1);    except MemoryError:;        break;print len(a);";
-    let shown = answer(&rt, rt.alloc(), "--segments 1 -", counts)?;
-    assert!(rt; shown.starts_with("0~1048576;~~"), "{shown}");
+    let told =
+        "print 'start';a = [];try:;    while 1:;        a.append(1);finally:;    print len(a);";
+    let shown = answer(&rt, rt.alloc(), "--segments 1 -", told)?;
+    assert!(rt;
+        shown.starts_with("1~start;1048576;~thread 0, line 3: MemoryError;~"),
+        "{shown}"
+    );
     Ok(())
 }
 
