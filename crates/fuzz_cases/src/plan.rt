@@ -17,7 +17,7 @@ pub(crate) struct Plan {
 }
 
 /// How many pages a run has: enough for each script, and few, since a run is made ready in a time that grows with them.
-const PAGES: &str = "1024";
+const PAGES: &str = "512";
 
 /// How a text is run.
 pub(crate) const TEXT_PLAN: Plan = Plan {

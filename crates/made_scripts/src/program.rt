@@ -93,7 +93,7 @@ const PIECES: [&str; 4] = [
 ];
 
 /// How many forms are drawn into one another at most.
-const LEVEL: u8 = 5;
+const LEVEL: u8 = 4;
 
 /// A program of the language.
 #[derive(Debug, Drop)]
