@@ -52,7 +52,7 @@ impl<W: Write + Drop> Trial<W> {
     ) -> Result<()> {
         let text = made_text(self.alloc, number)?;
         let report = run_plan(rt, self.alloc, text.as_slice(), TEXT_PLAN)?;
-        self.tally.add_text(report.status);
+        self.tally.add_text();
         let fault = text_fault(self.alloc, text.as_slice(), &report)?;
         self.tell("text", number, TEXT_PLAN, fault)
     }
@@ -93,7 +93,7 @@ impl<W: Write + Drop> Trial<W> {
     ) -> Result<()> {
         let made = made_program(self.alloc, number)?;
         let first = run_plan(rt, self.alloc, made.text.as_slice(), TEXT_PLAN)?;
-        self.tally.add_program(made.is_threaded, first.status);
+        self.tally.add_program();
         for segments in SEGMENTS {
             for length in LENGTHS {
                 let plan = Plan {
