@@ -9,10 +9,10 @@ use std::alloc::{AllocError, Global};
 /// How many bytes a text has at most.
 pub const TEXT_LIMIT: usize = 6_000;
 
-/// How many bytes a text of random bytes has, and one more, at most.
+/// A text of random bytes has fewer bytes than this.
 const BYTES: u32 = 200;
 
-/// How many times two tokens change places, and one more, at most.
+/// How many times two tokens change places at most.
 const SWAPS: u32 = 8;
 
 /// What a byte of a program may be a part of.
