@@ -46,8 +46,7 @@ pub fn call_law<C: Client>(client: &C)
     good_law::<C::State>();
 }
 
-/// Installing a piece keeps the peaks and a kept full heap explained, where no peak rises; and so do a loan and the end,
-/// which leave the peaks.
+/// Installing a piece, a loan and the end keep the peaks and a kept full heap explained: they leave the peaks.
 pub fn piece_law<S>()
     ensures install { InstallLaw S }
     ensures loan { LoanLaw S }

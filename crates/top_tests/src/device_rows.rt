@@ -1,6 +1,7 @@
 //! Devices that fail at each of their calls in turn, before their first byte and behind it: the status, what was written up to then, the
 //! conflicts, and the steps of each turn, which are those before the step that failed. Written by hand from the code of the scripts.
-use crate::call_rows::{NO_FAILURE, Plan, turns};
+use crate::call_rows::{NO_FAILURE, Plan, lines_of, report_with, told, turns, words_in};
+use py_data::NoMemory;
 use std::alloc::Global;
 use std::process::Abort;
 use std::sync::Wait;
@@ -125,6 +126,79 @@ fn input_fails_at_each_call(rt: HostRuntime) -> Tested {
             ..NO_FAILURE
         };
         check(&rt, rt.alloc(), script, plan, wanted)?;
+    }
+    Ok(())
+}
+
+/// A script that prints two items and asks for a line, prints that, and ends by an exception.
+const ASKS: &str = "print 1, 2;x = raw_input('? ');print x;[][0];";
+
+/// What that script answers as a file, where the source has one line.
+fn asked<Rt: Abort + Threads + Wait + Sync>(
+    rt: &Rt,
+    alloc: Global,
+    plan: Plan,
+) -> Result<String, NoMemory> {
+    let words = words_in(alloc, "FILE")?;
+    let file = lines_of(alloc, ASKS)?;
+    let left = report_with(rt, alloc, words.as_slice(), b"ab\n", file.as_slice(), plan)?;
+    told(alloc, &left)
+}
+
+/// Its output is six calls: two items, a newline, the prompt, the item and a newline.
+#[test]
+fn each_output_of_a_script_that_asks_fails(rt: HostRuntime) -> Tested {
+    let rows = [
+        (1, 0, "6~~pystm: cannot write the output;"),
+        (1, 1, "6~1~pystm: cannot write the output;"),
+        (2, 0, "6~1~pystm: cannot write the output;"),
+        (2, 1, "6~1 ~pystm: cannot write the output;"),
+        (3, 0, "6~1 2~pystm: cannot write the output;"),
+        (3, 1, "6~1 2;~pystm: cannot write the output;"),
+        (4, 0, "6~1 2;~pystm: cannot write the output;"),
+        (4, 1, "6~1 2;?~pystm: cannot write the output;"),
+        (5, 0, "6~1 2;? ~pystm: cannot write the output;"),
+        (5, 1, "6~1 2;? a~pystm: cannot write the output;"),
+        (6, 0, "6~1 2;? ab~pystm: cannot write the output;"),
+        (6, 1, "6~1 2;? ab;~pystm: cannot write the output;"),
+    ];
+    for (puts, bytes, wanted) in rows {
+        let plan = Plan {
+            puts,
+            bytes,
+            ..NO_FAILURE
+        };
+        let shown = asked(&rt, rt.alloc(), plan)?;
+        assert_eq!(rt; shown.as_str(), wanted, "call {puts}, {bytes} bytes");
+    }
+    Ok(())
+}
+
+/// What that script answers where no device fails.
+const ASKED: &str = "1~1 2;? ab;~thread 0, line 4: IndexError: index out of range;";
+
+/// The other devices of that script fail at their first calls. A seventh call of the output and a second one of the error output are
+/// never made.
+#[test]
+fn each_device_of_a_script_that_asks_fails(rt: HostRuntime) -> Tested {
+    let none = NO_FAILURE;
+    let rows = [
+        (none, ASKED),
+        (Plan { puts: 7, ..none }, ASKED),
+        (Plan { errs: 2, ..none }, ASKED),
+        (Plan { errs: 1, ..none }, "7~1 2;? ab;~"),
+        (
+            Plan { takes: 1, ..none },
+            "5~1 2;? ~pystm: cannot read the input;",
+        ),
+        (
+            Plan { loads: 1, ..none },
+            "4~~pystm: cannot load the script;",
+        ),
+    ];
+    for (plan, wanted) in rows {
+        let shown = asked(&rt, rt.alloc(), plan)?;
+        assert_eq!(rt; shown.as_str(), wanted);
     }
     Ok(())
 }

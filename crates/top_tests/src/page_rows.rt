@@ -48,6 +48,7 @@ fn full<Rt: Abort + Threads + Wait + Sync>(
         "8~start;~pystm: heap full: reserved {taken}, needed {need}, limit {limit} words;~{taken} of {limit}"
     )?;
     assert_eq!(rt; shown.as_str(), wanted.as_str());
+    assert!(rt; taken.saturating_add(need) > limit, "{pages} pages");
     Ok(())
 }
 
@@ -77,6 +78,11 @@ fn a_list_fills_six_pages(rt: HostRuntime) -> Tested {
 }
 
 #[test]
+fn a_list_fills_seven_pages(rt: HostRuntime) -> Tested {
+    full(&rt, rt.alloc(), 7, 2_708, 2_048)
+}
+
+#[test]
 fn a_list_fills_eight_pages(rt: HostRuntime) -> Tested {
     full(&rt, rt.alloc(), 8, 2_708, 2_048)
 }
@@ -90,6 +96,36 @@ fn one_page_is_too_small(rt: HostRuntime) -> Tested {
         "{shown}"
     );
     assert!(rt; shown.ends_with(" limit 512 words;~506 of 512"), "{shown}");
+    Ok(())
+}
+
+/// A script that begins with an output doesn't come to it on one page.
+#[test]
+fn a_list_has_no_start_on_one_page(rt: HostRuntime) -> Tested {
+    let shown = answer(&rt, rt.alloc(), "--pages 1 -", GROWS)?;
+    assert!(rt;
+        shown.starts_with("8~~pystm: heap full: reserved "),
+        "{shown}"
+    );
+    assert!(rt; shown.ends_with(" limit 512 words;~506 of 512"), "{shown}");
+    Ok(())
+}
+
+/// With pages enough the list grows to the most items that a list may have.
+#[test]
+fn a_list_grows_to_its_limit(rt: HostRuntime) -> Tested {
+    let shown = answer(&rt, rt.alloc(), "--segments 1 -", GROWS)?;
+    assert!(rt;
+        shown.starts_with("1~start;~thread 0, line 4: MemoryError;~"),
+        "{shown}"
+    );
+    let told =
+        "print 'start';a = [];try:;    while 1:;        a.append(1);finally:;    print len(a);";
+    let shown = answer(&rt, rt.alloc(), "--segments 1 -", told)?;
+    assert!(rt;
+        shown.starts_with("1~start;1048576;~thread 0, line 3: MemoryError;~"),
+        "{shown}"
+    );
     Ok(())
 }
 

@@ -1,10 +1,11 @@
-use Rattle.std.proofs.Common.{MatchBool, subst}
+use Rattle.std.proofs.Common.{◌+◌, ◌*◌, ◌<◌, ◌≤◌, MatchBool, subst}
 use Rattle.py_data.specs.declared.change.Change.TheVariants.{Pair}
 use Rattle.seg_store.proofs.Stores.{told}
 use Rattle.paged_store.specs.Stores.{paged_of, peaks_of}
+use Rattle.paged_store.specs.Words.{body_size, count_by}
 use Rattle.paged_store.proofs.GrowStore.{full_there, dict_full}
 use Rattle.paged_store.proofs.PeakLemmas.{still_rises, still_rises_to}
-use Rattle.paged_store.proofs.StoreChanges.{readable, dict_rooms}
+use Rattle.paged_store.proofs.StoreChanges.{words_of, readable, dict_rooms}
 use Rattle.paged_store.proofs.segments.PagedStoreSegStore.push_pair.Goals as goal
 
 pub has_room-requires-clause-there : goal.has_room-requires-clause-there
@@ -26,6 +27,9 @@ returns-in_ok-add_pair-clause-peaks c = still_rises (paged_of c.args.self.now) (
 pub returns-else-has_room-clause-roomy : goal.returns-else-has_room-clause-roomy
 returns-else-has_room-clause-roomy c = λ roomy.
     let s = c.args.self.now in
-    let small = subst (λ b. MatchBool b _ _) c.if-has_room.false c.has_room.ensures in
+    let size = body_size (words_of s c.args.k) c.args.d.0 in
+    let wanted = 2 * (count_by (words_of s c.args.k) c.args.d.0 + 2) in
+    let small : size < wanted = subst (λ b. MatchBool b (wanted ≤ size) (size < wanted)) c.if-has_room.false
+    c.has_room.ensures in
     absurd (roomy (full_there s c.args.k c.args.d.0 c.requires.segment (Pair c.args.key c.args.v) c.requires.there
     (dict_full s c.args.k c.args.d.0 c.requires.segment c.requires.held c.args.key c.args.v c.requires.there small)))
