@@ -212,7 +212,8 @@ module _ {S : Type 0} (p : Prog S) (sound : Heap → List S → Type 0) (law : S
           (explained_kept p start most segments v.core (with_cause c (with_segment k Idle v.core)) g c e
           (step_wanted v.core good x m c w.0) refl refl refl)
       failed m true c w = subst (λ (y : Outer S). Explained y.core) (sym w.1.gives)
-          (whole_explained p start most segments g v.core good e k n x c m.runs (solo_wanted v.core good x m c w.0) x.steps
+          (whole_explained p start most segments g v.core good e k n x c m.runs (solo_wanted v.core good x m c w.0)
+          x.steps
           refl)
 
       ends : v.core.segments k ≡ Running x → (asked done : ℕ) → (done < asked → suc x.steps ≤ most) →

@@ -74,6 +74,7 @@ pub record IsExplained {S : Type 0} (p : Prog S) (start : Machine S) (most segme
   pub kept : WantedBy p start most k.history (committed k) k.cause
 
 -- a store tells its peaks, and these and a kept full heap are explained
-abbrev pub AreExplained : {S : Type 0} → Prog S → Machine S → (most segments : ℕ) → Option (ℕ → ℕ) → CoreState S → Type 0
+abbrev pub AreExplained : {S : Type 0} → Prog S → Machine S → (most segments : ℕ) → Option (ℕ → ℕ) → CoreState S →
+    Type 0
 AreExplained p start most segments None k = ⊥
 AreExplained p start most segments (Some f) k = IsExplained p start most segments f k

@@ -44,7 +44,8 @@ module _ {C S I O E T : Type 0} (input : I → SourceState) (out : O → SinkSta
 
   -- the same in the words of a core of the same job
   by_job : (v : Option (ℕ → ℕ)) (c : CoreState T) →
-      AreExplained (prog (core_client x)) (StartOf x) (core_limits meaning x).length (core_limits meaning x).segments v c
+      AreExplained (prog (core_client x)) (StartOf x) (core_limits meaning x).length (core_limits meaning x).segments v
+      c
       → AreExplained (prog (core_client y)) (StartOf y) (core_limits meaning y).length
       (core_limits meaning y).segments v c
   by_job v c e =

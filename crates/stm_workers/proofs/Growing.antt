@@ -1,5 +1,5 @@
--- What a call of a core makes of its history, its conflicts and its store's peaks, by the law of events and those of the
--- bound on a full heap.
+-- What a call of a core makes of its history, its conflicts and its store's peaks, by the law of events and those
+-- of the bound on a full heap.
 use Rattle.std.proofs.Common.{◌≡◌, ◌<◌, ◌/◌, ℕ, true, false, Bool, ◌&&◌, nat_lt, List, [], ◌∷◌, Option, Result, refl, sym, ◌∙◌, ap, subst}
 use Rattle.std.proofs.lemmas.Bool.{lt-ltb, ltb-true}
 use Rattle.py_data.specs.Heap.{Heap, no_records}

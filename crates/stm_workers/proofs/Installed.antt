@@ -1,4 +1,5 @@
--- What an installed piece makes of history and conflicts: nothing, or, where there was no memory, what a commit makes of them.
+-- What an installed piece makes of history and conflicts: nothing, or, where there was no memory, what a commit makes
+-- of them.
 -- And what it and a loan make of what explains the peaks.
 use Rattle.std.proofs.Common.{◌≡◌, ℕ, zero, suc, Bool, true, false, cond, eqb, List, [], ◌∷◌, Option, Some, None, Result, Ok, Err, refl, sym, ◌∙◌, ap, subst, append-nil}
 use Rattle.std.specs.List.{range_with_len}

@@ -87,11 +87,18 @@ module _ {P S : Type 0} (is_code : List ℕ → P → Type 0) (refused : List �
         SomeLives (rows r.program) r.serial.machine → limit ≡ (limits_of o).words →
         IsNearlyFull (rows r.program) (begin_with (rows r.program) (first_world r.source.told)) o.length o.segments
         limit t.history r.serial.machine.heap → Fact (CausedIn HeapFull words text a t b)
-    full o r limit e lives is nearly = Holds (o, e, (r, (
-      lives,
-      subst (λ n. IsNearlyFull (rows r.program) (begin_with (rows r.program) (first_world r.source.told)) o.length
-          o.segments n t.history r.serial.machine.heap) is nearly,
-    )))
+    full o r limit e lives is nearly = Holds (
+      o,
+      e,
+      (
+        r,
+        (
+          lives,
+          subst (λ n. IsNearlyFull (rows r.program) (begin_with (rows r.program) (first_world r.source.told)) o.length
+              o.segments n t.history r.serial.machine.heap) is nearly,
+        ),
+      ),
+    )
 
     -- at 10 the answer is told by its steps, which are those of the history
     spent : (answer : _) → status_of answer ≡ BudgetSpent → Caused is_code refused rows answer words a t b →

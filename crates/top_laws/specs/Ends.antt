@@ -119,7 +119,8 @@ AtReady budget history a b status = IsBrokenOff a b status
 abbrev pub AtFinished : {S : Type 0} → Prog S → Limits → Machine S → List Turn → Machine S → Status → Type 0
 AtFinished p l first history m Done = IsDone p m × (FirstFailed p m → ⊥)
 AtFinished p l first history m Failed = IsDone p m × FirstFailed p m
-AtFinished p l first history m HeapFull = SomeLives p m × IsNearlyFull p first l.length l.segments l.words history m.heap
+AtFinished p l first history m HeapFull = SomeLives p m × IsNearlyFull p first l.length l.segments l.words history
+    m.heap
 AtFinished p l first history m OutOfMemory = Unit {0}
 AtFinished p l first history m _ = ⊥
 

@@ -12,6 +12,7 @@ pub returns-clause-grows : goal.returns-clause-grows
 returns-clause-grows g c =
     let p = c.args.piece in
     install_grows g.I.Source.state g.O.Sink.state g.E.Sink.state g.C.Client.prog g.S.SegStore.meaning g.S.SegStore.peaks
-    c.args.core.now c.install.new.self c.install.ensures.job c.piece_law.ensures.install c.install.ensures.peaks c.args.k (g.S.SegStore.reserved c.install.new.self.store)
+    c.args.core.now c.install.new.self c.install.ensures.job c.piece_law.ensures.install c.install.ensures.peaks
+    c.args.k (g.S.SegStore.reserved c.install.new.self.store)
     (piece_state p.view).loaned (piece_state p.view).heap p.steps (last_of p.start p.last) c.install.result
     c.install.ensures.installed

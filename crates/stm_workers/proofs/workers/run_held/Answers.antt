@@ -15,7 +15,8 @@ returns-in-Ok-clause-grows g c =
 pub returns-in-Err-clause-grows : goal.returns-in-Err-clause-grows
 returns-in-Err-clause-grows g c =
     subst (λ (y : Held g.row.C.Denot g.row.S.Denot g.row.I.Denot g.row.O.Denot g.row.E.Denot g.row.C-State.Denot).
-    Grows g.I.Source.state g.O.Sink.state g.E.Sink.state g.C.Client.prog g.S.SegStore.meaning g.S.SegStore.peaks c.args.held.core
+    Grows g.I.Source.state g.O.Sink.state g.E.Sink.state g.C.Client.prog g.S.SegStore.meaning g.S.SegStore.peaks
+    c.args.held.core
     y.core)
     (sym c.in-Err.ensures.back) (grows_same g.I.Source.state g.O.Sink.state g.E.Sink.state g.C.Client.prog
     g.S.SegStore.meaning g.S.SegStore.peaks c.args.held.core)
