@@ -1,5 +1,5 @@
--- What a core's history, its conflicts and its store's peaks are to those of a core that comes of it. States
--- `docs/HEAP.md`, "Workers".
+-- What a core's history, its conflicts and its store's peaks are to those of a core that comes of it.
+-- States `docs/HEAP.md`, "Workers".
 use Rattle.std.specs.Prelude.{◌≡◌, ℕ, List, ◌++◌, Option}
 use Rattle.py_data.specs.declared.stop.Conflict.{Conflict}
 use Rattle.stm_io.specs.Outside.{SourceState, SinkState}
