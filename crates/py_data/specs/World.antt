@@ -1,7 +1,6 @@
--- What is outside of a program: the input that is left, what was written to the two outputs, and whether the output is
--- in
--- the middle of a line. States `docs/LANGUAGE.md`, "Print" and "Input".
-use Rattle.std.specs.Prelude.{◌≡◌, ℕ, ◌≤◌, Bool, List, ◌++◌, length, take, drop, Option, Some, None}
+-- What is outside of a program: the input that is left, how often it was found to be at its end, what was written to the
+-- two outputs, and whether the output is in the middle of a line. States `docs/LANGUAGE.md`, "Print" and "Input".
+use Rattle.std.specs.Prelude.{◌≡◌, ℕ, ◌+◌, ◌-◌, ◌^◌, ◌≤◌, min, Bool, List, [], ◌∷◌, ◌++◌, length, take, drop, Option, Some, None}
 use Rattle.std.specs.Io.BufRead.{take_through}
 use Rattle.py_data.specs.declared.stop.Out.{Out}
 use Rattle.py_data.specs.declared.stop.Out.TheVariants.{Output, ErrorOutput}
@@ -9,6 +8,7 @@ use Rattle.py_data.specs.declared.stop.Out.TheVariants.{Output, ErrorOutput}
 -- The input is known only where the source tells its bytes.
 pub record World : Type 0 where
   pub input : Option (List ℕ)
+  pub ends : ℕ
   pub out : List ℕ
   pub err : List ℕ
   pub mid : Bool
@@ -37,6 +37,15 @@ abbrev pub grown : Option (List ℕ) → List ℕ → Option (List ℕ)
 grown None b = None
 grown (Some xs) b = Some (xs ++ b)
 
+-- one more, in 64 bits: the last number stays
+abbrev pub counted : ℕ → ℕ
+counted n = min (n + 1) (2 ^ 64 - 1)
+
+-- an empty line is the end of an input, which is counted
+abbrev pub ends_after : List ℕ → ℕ → ℕ
+ends_after [] n = counted n
+ends_after (b ∷ bs) n = n
+
 -- the world once a line was taken
 abbrev pub took : List ℕ → World → World
-took l w = record w { input = shrunk w.input (length l) }
+took l w = record w { input = shrunk w.input (length l); ends = ends_after l w.ends }

@@ -1,6 +1,6 @@
 //! A source whose input goes on behind an end.
 ghost use Rattle.std.specs.Prelude.{None};
-ghost use Rattle.stm_io.specs.Outside.{ends_after};
+ghost use Rattle.py_data.specs.World.{ends_after};
 
 use std::alloc::Global;
 use stm_io::{Source, SureSource, TakeError};

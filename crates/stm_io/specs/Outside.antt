@@ -1,6 +1,6 @@
 -- What devices tell of themselves, and what each call does to it. States `docs/LANGUAGE.md`, "Devices".
-use Rattle.std.specs.Prelude.{◌≡◌, ◌⊎◌, ℕ, ◌+◌, ◌-◌, ◌^◌, ◌≤◌, min, List, [], ◌∷◌, ◌++◌, Option, Result, Ok, Err, take}
-use Rattle.py_data.specs.World.{grown, shrunk}
+use Rattle.std.specs.Prelude.{◌≡◌, ◌⊎◌, ℕ, ◌≤◌, List, [], ◌∷◌, ◌++◌, Option, Result, Ok, Err, take}
+use Rattle.py_data.specs.World.{counted, grown, shrunk}
 use Rattle.stm_io.specs.declared.error.LoadError.{LoadError}
 use Rattle.stm_io.specs.declared.error.LoadError.TheVariants.{Failed as LoadFailed, OutOfMemory as LoadMemory}
 use Rattle.stm_io.specs.declared.error.TakeError.{TakeError}
@@ -25,18 +25,9 @@ pub record SinkState : Type 0 where
   pub told : Option (List ℕ)
   pub faults : ℕ
 
--- one more, in 64 bits: the last number stays
-abbrev pub counted : ℕ → ℕ
-counted n = min (n + 1) (2 ^ 64 - 1)
-
 -- a count that rose, or stands at its last number
 abbrev pub Rose : ℕ → ℕ → Type 0
 Rose before now = counted before ≤ now
-
--- an empty answer is the end
-abbrev pub ends_after : List ℕ → ℕ → ℕ
-ends_after [] n = counted n
-ends_after (b ∷ bs) n = n
 
 -- a load without an answer: a failure is counted, and the name is among those asked for; at want of memory it may be
 -- missing

@@ -1,7 +1,8 @@
 //! The four ways to the outside.
 ghost use Rattle.std.specs.Prelude.{◌≡◌, ℕ, ◌≤◌, List, [], ◌∷◌, ◌++◌, IfOk, IfErr, IfSome, OnOk, length, take};
 ghost use Rattle.py_data.specs.World.{IsLine, shrunk};
-ghost use Rattle.stm_io.specs.Outside.{LoaderState, SourceState, SinkState, ends_after, LoadStops, TakeStops, Puts, PutCause};
+ghost use Rattle.py_data.specs.World.{ends_after};
+ghost use Rattle.stm_io.specs.Outside.{LoaderState, SourceState, SinkState, LoadStops, TakeStops, Puts, PutCause};
 
 use crate::error::{LoadError, PutError, TakeError};
 
