@@ -1,6 +1,7 @@
 -- What contracts see of devices over files and readers. States `docs/LANGUAGE.md`, "Devices".
 use Rattle.std.specs.Prelude.{ℕ, List, None, Result, Ok, Err}
-use Rattle.stm_io.specs.Outside.{LoaderState, counted}
+use Rattle.py_data.specs.World.{counted}
+use Rattle.stm_io.specs.Outside.{LoaderState}
 use Rattle.stm_io.specs.declared.error.LoadError.{LoadError}
 use Rattle.stm_io.specs.declared.error.LoadError.TheVariants.{Failed as LoadFailed, OutOfMemory as LoadMemory}
 use Rattle.stm_io.specs.declared.error.TakeError.{TakeError}

@@ -1,7 +1,7 @@
 //! Sinks over writers.
 ghost use Rattle.std.specs.Prelude.{◌≡◌, ℕ, ◌≤◌, length, take, None, OnOk, OnErr, IsOkUnless};
 ghost use Rattle.std.specs.Io.KnownBytes.{Appends};
-ghost use Rattle.stm_io.specs.Outside.{counted};
+ghost use Rattle.py_data.specs.World.{counted};
 
 use crate::steady::write_some;
 use std::io;

@@ -1,8 +1,7 @@
 //! Sources over readers.
 ghost use Rattle.std.specs.Prelude.{◌≡◌, ◌≤◌, [], length, None, IfSome, IfOk, OnErr};
 ghost use Rattle.std.specs.Io.KnownBytes.{Consumes, Keeps, prepend_known};
-ghost use Rattle.py_data.specs.World.{line_of};
-ghost use Rattle.stm_io.specs.Outside.{ends_after};
+ghost use Rattle.py_data.specs.World.{ends_after, line_of};
 ghost use Rattle.pystm.specs.Devices.{faults_after_take};
 
 use crate::buffer::LineBuffer;

@@ -1,6 +1,7 @@
 -- Devices in memory: what contracts see of them, and what they tell. States `docs/LANGUAGE.md`, "Devices".
 use Rattle.std.specs.Prelude.{◌≡◌, ◌≢◌, ◌⊎◌, ℕ, List, ◌++◌, Option, Some, None, Result, Ok, Err, IsSome, IsSomeAnd, take, drop, find, option_map, bytes_eq, ◌==◌, if◌then◌else◌}
-use Rattle.stm_io.specs.Outside.{LoaderState, SourceState, SinkState, counted}
+use Rattle.py_data.specs.World.{counted}
+use Rattle.stm_io.specs.Outside.{LoaderState, SourceState, SinkState}
 use Rattle.stm_io.specs.declared.error.LoadError.{LoadError}
 use Rattle.stm_io.specs.declared.error.LoadError.TheVariants.{Failed as LoadFailed, OutOfMemory as LoadMemory}
 use Rattle.stm_io.specs.declared.error.TakeError.{TakeError}

@@ -1,7 +1,6 @@
 //! The four ways to the outside.
 ghost use Rattle.std.specs.Prelude.{◌≡◌, ℕ, ◌≤◌, List, [], ◌∷◌, ◌++◌, IfOk, IfErr, IfSome, OnOk, length, take};
-ghost use Rattle.py_data.specs.World.{IsLine, shrunk};
-ghost use Rattle.py_data.specs.World.{ends_after};
+ghost use Rattle.py_data.specs.World.{ends_after, IsLine, shrunk};
 ghost use Rattle.stm_io.specs.Outside.{LoaderState, SourceState, SinkState, LoadStops, TakeStops, Puts, PutCause};
 
 use crate::error::{LoadError, PutError, TakeError};

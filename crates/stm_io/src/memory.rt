@@ -1,8 +1,7 @@
 //! Devices in memory whose calls fail as planned. Each holds one that never fails.
 ghost use Rattle.std.specs.Prelude.{◌≡◌, ◌≤◌, [], ◌∷◌, ◌++◌, length, drop, take, IfOk, IfErr, OnOk};
-ghost use Rattle.py_data.specs.World.{line_of};
+ghost use Rattle.py_data.specs.World.{ends_after, line_of};
 ghost use Rattle.stm_io.specs.Memory.{called, planned, mem_loader_state, mem_source_state, mem_sink_state, MemLoads, MemTakes, MemPuts};
-ghost use Rattle.py_data.specs.World.{ends_after};
 ghost use Rattle.stm_io.specs.Outside.{LoadStops};
 
 use crate::device::{Loader, Sink, Source};

@@ -1,8 +1,7 @@
 //! Devices that never fail.
 ghost use Rattle.std.specs.Prelude.{◌≡◌, ◌≤◌, ℕ, List, [], ◌∷◌, ◌++◌, length, drop, take, IfOk, IfErr, OnOk, OnErr, IsOkUnless};
-ghost use Rattle.py_data.specs.World.{line_of};
+ghost use Rattle.py_data.specs.World.{ends_after, line_of};
 ghost use Rattle.stm_io.specs.Memory.{sure_loader_state, sure_source_state, sure_sink_state};
-ghost use Rattle.py_data.specs.World.{ends_after};
 ghost use Rattle.stm_io.specs.Outside.{LoadStops};
 
 use crate::device::{Gate, Loader, Sink, Source};

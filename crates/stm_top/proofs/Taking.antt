@@ -3,8 +3,8 @@ use Rattle.std.proofs.Common.{◌≡◌, ◌≢◌, ℕ, zero, suc, ◌+◌, ◌
 use Rattle.std.specs.Result.{IsErrAnd}
 use Rattle.std.specs.Io.BufRead.{take_through}
 use Rattle.std.proofs.Math.Seq.{drop-append-add, drop-append_seam}
-use Rattle.py_data.specs.World.{line_of, IsLine, shrunk}
-use Rattle.stm_io.specs.Outside.{SourceState, counted, Rose, ends_after, TakeStops}
+use Rattle.py_data.specs.World.{counted, ends_after, line_of, IsLine, shrunk}
+use Rattle.stm_io.specs.Outside.{SourceState, Rose, TakeStops}
 use Rattle.stm_io.specs.declared.error.TakeError.{TakeError}
 use Rattle.stm_io.specs.declared.error.TakeError.TheVariants.{Failed, OutOfMemory}
 use Rattle.stm_top.specs.Script.{TakenFrom, TakenSoFar, ScriptTaken, TakingFailed, TakingWanted, TakingStopped}
