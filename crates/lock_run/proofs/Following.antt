@@ -8,7 +8,7 @@ use Rattle.py_data.specs.Shape.{Fits, find}
 use Rattle.py_data.specs.Row.{Call, Reply, Row, Ret, Do, Read, Find, Edit, Make, Start, Put, Take, MidLine, SetMidLine}
 use Rattle.py_data.specs.Sense.{Sense, Bracket, Run, Upto}
 use Rattle.py_data.specs.Sight.{Sight, Act, Does, looked_at, edited, made_new, started_one, in_world, pure}
-use Rattle.py_data.specs.World.{IsLine, wrote, took, shrunk, grown}
+use Rattle.py_data.specs.World.{IsLine, wrote, took, ends_after, shrunk, grown}
 use Rattle.py_data.proofs.Whole.{run_follows, upto_follows, run_steps, upto_steps}
 use Rattle.lock_run.specs.PlainState.{PlainState, PlainDoes, PlainRefuses, PlainOpens, PlainUndoes, Named}
 
@@ -25,6 +25,7 @@ pub record Shows {S : Type 0} (o e : Option (List ℕ)) (st : List S) (d : Plain
   pub made : x.made ≡ d.made
   pub started : x.started ≡ st ++ d.started
   pub input : x.world.input ≡ d.input
+  pub ends : x.world.ends ≡ d.ends
   pub out : d.out ≡ grown o x.world.out
   pub err : d.err ≡ grown e x.world.err
   pub mid : x.world.mid ≡ d.mid
@@ -48,6 +49,7 @@ act_shown {S} o e st (Read a) d r d1 x h s = (
         made = s.made;
         started = s.started;
         input = s.input;
+        ends = s.ends;
         out = s.out;
         err = s.err;
         mid =
@@ -69,6 +71,7 @@ act_shown {S} o e st (Find a key) d r d1 x h s = (
         made = s.made;
         started = s.started;
         input = s.input;
+        ends = s.ends;
         out = s.out;
         err = s.err;
         mid =
@@ -84,6 +87,7 @@ act_shown {S} o e st (Edit a c) d r d1 x h s = (
         made = s.made;
         started = s.started;
         input = s.input;
+        ends = s.ends;
         out = s.out;
         err = s.err;
         mid = s.mid;
@@ -97,8 +101,8 @@ act_shown {S} o e st (Make q) d n d1 x h s = (
         heap = ap (λ g. put_at g n q) s.heap;
         made = ap (λ l. l ++ n ∷ []) s.made;
         started = s.started;
-        input =
-            s.input;
+        input = s.input;
+        ends = s.ends;
         out = s.out;
         err = s.err;
         mid = s.mid;
@@ -114,6 +118,7 @@ act_shown {S} o e st (Start p) d r d1 x h s = (
         started = ap (λ l. l ++ p ∷ []) s.started ∙
             append_assoc st d.started (p ∷ []);
         input = s.input;
+        ends = s.ends;
         out = s.out;
         err = s.err;
         mid = s.mid;
@@ -128,6 +133,7 @@ act_shown {S} o e st (Put Output b) d r d1 x h s = (
         made = s.made;
         started = s.started;
         input = s.input;
+        ends = s.ends;
         out = ap (λ l. grown l b) s.out ∙
             grown_then o x.world.out b;
         err = s.err;
@@ -143,6 +149,7 @@ act_shown {S} o e st (Put ErrorOutput b) d r d1 x h s = (
         made = s.made;
         started = s.started;
         input = s.input;
+        ends = s.ends;
         out = s.out;
         err =
             ap (λ l. grown l b) s.err ∙ grown_then e x.world.err b;
@@ -158,6 +165,7 @@ act_shown {S} o e st (Take most) d l d1 x h s = (
         made = s.made;
         started = s.started;
         input = ap (λ i. shrunk i (length l)) s.input;
+        ends = ap (ends_after l) s.ends;
         out =
             s.out;
         err = s.err;
@@ -173,6 +181,7 @@ act_shown {S} o e st MidLine d r d1 x h s = (
         made = s.made;
         started = s.started;
         input = s.input;
+        ends = s.ends;
         out = s.out;
         err = s.err;
         mid =
@@ -188,6 +197,7 @@ act_shown {S} o e st (SetMidLine mid) d r d1 x h s = (
         made = s.made;
         started = s.started;
         input = s.input;
+        ends = s.ends;
         out = s.out;
         err = s.err;
         mid =

@@ -129,6 +129,7 @@ module _ {S : Type 0} (p : Prog S) (t k : ℕ) (names : List ℕ) (o e : Option 
         made = g.made;
         started = sym (append-nil g.sight.started);
         input = g.input;
+        ends = g.ends;
         out = g.out;
         err = g.err;
         mid = g.mid;
@@ -165,6 +166,7 @@ module _ {S : Type 0} (p : Prog S) (t k : ℕ) (names : List ℕ) (o e : Option 
         heap = sh.heap;
         made = sh.made;
         input = sh.input;
+        ends = sh.ends;
         out = sh.out;
         err = sh.err;
         mid = sh.mid;
@@ -202,6 +204,7 @@ module _ {S : Type 0} (p : Prog S) (t k : ℕ) (names : List ℕ) (o e : Option 
     out = g.out;
     err = g.err;
     input = sym g.input;
+    ends = sym g.ends;
   }
 
   pub nothing_here : LeavesNothing cut_here
@@ -222,10 +225,10 @@ module _ {S : Type 0} (p : Prog S) (t k : ℕ) (names : List ℕ) (o e : Option 
   -- was cut
   abbrev pub cut_part : (left : Row S (Outcome × S)) (y : Sight S) (told : World) (x w d1 : PlainState S)
       → Upto pure (p.row g.after) g.sight left y → Keeps (state_opened d) x → w.base ≡ x.base → w.was_mid ≡ x.was_mid
-      → w.out ≡ grown o told.out → w.err ≡ grown e told.err → w.input ≡ told.input → PlainUndoes w d1 →
-      PartOf left y.world told
+      → w.out ≡ grown o told.out → w.err ≡ grown e told.err → w.input ≡ told.input → w.ends ≡ told.ends →
+      PlainUndoes w d1 → PartOf left y.world told
       → CutIn p t k o e m d1 ts
-  cut_part left y told x w d1 up kp base mid out err input un part = record {
+  cut_part left y told x w d1 up kp base mid out err input ends un part = record {
     before = g.before;
     after = g.after;
     sight = g.sight;
@@ -239,15 +242,17 @@ module _ {S : Type 0} (p : Prog S) (t k : ℕ) (names : List ℕ) (o e : Option 
     out = ap (λ z. z.out) un ∙ out;
     err = ap (λ z. z.err) un ∙ err;
     input = ap (λ z. z.input) un ∙ input;
+    ends = ap (λ z. z.ends) un ∙ ends;
   }
 
   -- the call that was cut told the devices nothing
   abbrev pub cut_still : (left : Row S (Outcome × S)) (y : Sight S) (x w d1 : PlainState S)
       → Upto pure (p.row g.after) g.sight left y → Shows o e g.sight.started x y → Keeps (state_opened d) x
-      → w.base ≡ x.base → w.was_mid ≡ x.was_mid → w.out ≡ x.out → w.err ≡ x.err → w.input ≡ x.input → PlainUndoes w d1
-      → CutIn p t k o e m d1 ts
-  cut_still left y x w d1 up sh kp base mid out err input un =
-      cut_part left y y.world x w d1 up kp base mid (out ∙ sh.out) (err ∙ sh.err) (input ∙ sym sh.input) un
+      → w.base ≡ x.base → w.was_mid ≡ x.was_mid → w.out ≡ x.out → w.err ≡ x.err → w.input ≡ x.input → w.ends ≡ x.ends
+      → PlainUndoes w d1 → CutIn p t k o e m d1 ts
+  cut_still left y x w d1 up sh kp base mid out err input ends un =
+      cut_part left y y.world x w d1 up kp base mid (out ∙ sh.out) (err ∙ sh.err) (input ∙ sym sh.input)
+      (ends ∙ sym sh.ends) un
       (part_still left y.world)
 
   -- the names that stay given are those of the steps before
@@ -323,7 +328,8 @@ module _ {S : Type 0} (p : Prog S) (t k : ℕ) (names : List ℕ) (o e : Option 
       let l : d0.reads ≤ x.reads = let a = g.reads in let b = kp.reads in omega arith in (
         cut_part (Do (Take most) f) y (record y.world { input = shrunk y.world.input h.0.0 }) x w d1 up kp rf.0.base
             rf.0.was_mid
-            (rf.1.1.same ∙ sh.out) (rf.1.2.same ∙ sh.err) (h.0.1 ∙ ap (λ i. shrunk i h.0.0) (sym sh.input)) un
+            (rf.1.1.same ∙ sh.out) (rf.1.2.same ∙ sh.err) (h.0.1 ∙ ap (λ i. shrunk i h.0.0) (sym sh.input))
+            (h.2 ∙ sym sh.ends) un
             (h.0.0, refl),
         made_part x w d1 rf.0.kept kp un,
         (ls, most, (f, refl), rose_by d0.reads x.reads w.reads d1.reads l h.1 (ap (λ z. z.reads) un)),
@@ -335,7 +341,7 @@ module _ {S : Type 0} (p : Prog S) (t k : ℕ) (names : List ℕ) (o e : Option 
         cut_part (Do (Put Output bytes) f) y (wrote Output (take h.0.0 bytes) y.world) x w d1 up kp rf.0.base
             rf.0.was_mid
             (h.0.1 ∙ ap (λ l. grown l (take h.0.0 bytes)) sh.out ∙ grown_then o y.world.out (take h.0.0 bytes))
-            (rf.1.2.same ∙ sh.err) (rf.1.1.same ∙ sym sh.input) un (h.0.0, refl),
+            (rf.1.2.same ∙ sh.err) (rf.1.1.same ∙ sym sh.input) (rf.1.1.ends ∙ sym sh.ends) un (h.0.0, refl),
         made_part x w d1 rf.0.kept kp un,
         (ls, bytes, (f, refl), rose_by d0.writes x.writes w.writes d1.writes l h.1 (ap (λ z. z.writes) un)),
         begins_part x w d1 rf.0.free kp un,
@@ -346,7 +352,7 @@ module _ {S : Type 0} (p : Prog S) (t k : ℕ) (names : List ℕ) (o e : Option 
         cut_part (Do (Put ErrorOutput bytes) f) y (wrote ErrorOutput (take h.0.0 bytes) y.world) x w d1 up kp rf.0.base
             rf.0.was_mid
             (rf.1.2.same ∙ sh.out) (h.0.1 ∙ ap (λ l. grown l (take h.0.0 bytes)) sh.err ∙
-            grown_then e y.world.err (take h.0.0 bytes)) (rf.1.1.same ∙ sym sh.input) un (h.0.0, refl),
+            grown_then e y.world.err (take h.0.0 bytes)) (rf.1.1.same ∙ sym sh.input) (rf.1.1.ends ∙ sym sh.ends) un (h.0.0, refl),
         made_part x w d1 rf.0.kept kp un,
         (ls, bytes, (f, refl), rose_by d0.errs x.errs w.errs d1.errs l h.1 (ap (λ z. z.errs) un)),
         begins_part x w d1 rf.0.free kp un,
@@ -381,7 +387,7 @@ module _ {S : Type 0} (p : Prog S) (t k : ℕ) (names : List ℕ) (o e : Option 
             let bad : (D w).bad ≡ false = ap (λ z. z.bad) un ∙ ap (λ z. z.bad) same ∙ kp.bad in
             let cut : CutIn p t k o e m (D w) ts = cut_still at.left sh.0 (D at.place) (D w1) (D w) up sh.2 kp
             (ap (λ z. z.base) same) (ap (λ z. z.was_mid) same)
-            (ap (λ z. z.out) same) (ap (λ z. z.err) same) (ap (λ z. z.input) same) un in
+            (ap (λ z. z.out) same) (ap (λ z. z.err) same) (ap (λ z. z.input) same) (ap (λ z. z.ends) same) un in
             let P : TurnWhy → Type 0 = λ y. Told (D w) y in
             let wy : why_of_stop c (D w).bad ≡ OutOfMemory = ap (λ z. why_of_stop z (D w).bad) own.0 ∙
             ap (λ z. memory_why z) bad in
@@ -436,6 +442,7 @@ going_moved p t k names o e m d0 d d1 ts ts1 ed el g = record {
   heap = g.heap ∙ sym (ap (λ z. z.heap) ed);
   made = g.made ∙ sym (ap (λ z. z.made) ed);
   input = g.input ∙ sym (ap (λ z. z.input) ed);
+  ends = g.ends ∙ sym (ap (λ z. z.ends) ed);
   out = ap (λ z. z.out) ed ∙ g.out;
   err = ap (λ z. z.err) ed ∙ g.err;
   mid = g.mid ∙ sym (ap (λ z. z.mid) ed);
@@ -459,7 +466,7 @@ cut_moved p t why a m b ev et f = λ k names o e q d0 go.
 
 -- the sight of a thread that begins over a view
 abbrev sight_of : {S : Type 0} → PlainState S → Sight S
-sight_of {S} d = record (opened S d.heap (record { input = d.input; out = []; err = []; mid = d.mid }))
+sight_of {S} d = record (opened S d.heap (record { input = d.input; ends = d.ends; out = []; err = []; mid = d.mid }))
     { made = d.made }
 
 -- a step over a plain view is one by its meaning
@@ -478,6 +485,7 @@ step_does {S} p u b D i s s1 c v w st =
       made = refl;
       started = refl;
       input = refl;
+      ends = refl;
       out = sym (grown_none d.out);
       err =
           sym (grown_none d.err);
@@ -510,7 +518,7 @@ sound_after {S} p sound law u b D i ts t s s1 c v w so gs ls st =
     subst (λ l. sound (D w).heap l) (set_front ts (D w).started t s s1 gs)
     (subst (λ (h : Heap). sound h (slice_set (ts ++ (D w).started) t s1)) hy
     (subst (λ (l : List S). sound y.heap (slice_set (ts ++ l) t s1)) sy
-    (law ts t s d.heap (record { input = d.input; out = []; err = []; mid = d.mid }) c s1 y so gs ls f.does)))
+    (law ts t s d.heap (record { input = d.input; ends = d.ends; out = []; err = []; mid = d.mid }) c s1 y so gs ls f.does)))
 
 -- what is taken back is as before
 pub undone_run : {S X : Type 0} (p : Prog S) (u : Sense S X) (b : Bracket S X) (D : X → PlainState S)

@@ -77,6 +77,7 @@ module _ {S : Type 0} (p : Prog S) (thread : ℕ) (a : LockState S) (d1 : PlainS
         heap = st.heap ∙ sym (ap (λ z. z.heap) ed);
         made = sym (ap (λ z. z.made) ed);
         input = st.input ∙ sym (ap (λ z. z.input) ed);
+        ends = st.ends ∙ sym (ap (λ z. z.ends) ed);
         out = ap (λ z. z.out) ed ∙ st.out;
         err = ap (λ z. z.err) ed ∙ st.err;
         mid = st.mid ∙ sym (ap (λ z. z.mid) ed);
@@ -98,7 +99,7 @@ module _ {S : Type 0} (p : Prog S) (thread : ℕ) (a : LockState S) (d1 : PlainS
         let names : g.sight.made ≡ places t.names = g.made ∙ sym (append-nil c.view.made) ∙
         sym (ap (λ l. c.view.made ++ l) none) ∙ g.named fr in (
           machine_after m thread g.after g.sight,
-          record { heap = g.heap; threads = sym g.threads; input = g.input; out = g.out; err = g.err; mid = g.mid },
+          record { heap = g.heap; threads = sym g.threads; input = g.input; ends = g.ends; out = g.out; err = g.err; mid = g.mid },
           record {
             before = g.before;
             after = g.after;
@@ -189,6 +190,8 @@ module _ {S : Type 0} (p : Prog S) (thread most : ℕ) (a b : LockState S) (d1 d
             threads = sym g.threads;
             input = g.input ∙
                 sym (ap (λ z. z.input) ed);
+            ends = g.ends ∙
+                sym (ap (λ z. z.ends) ed);
             out = ap (λ z. z.out) ed ∙ g.out;
             err = ap (λ z. z.err) ed ∙ g.err;
             mid =
@@ -218,13 +221,16 @@ module _ {S : Type 0} (p : Prog S) (thread most : ℕ) (a b : LockState S) (d1 d
     stays c made n why =
         let out : b.view.out ≡ grown o c.sight.world.out = c.out ∙ ap (λ x. grown o x.out) n in
         let err : b.view.err ≡ grown e c.sight.world.err = c.err ∙ ap (λ x. grown e x.err) n in
-        let input : b.view.input ≡ c.sight.world.input = c.input ∙ ap (λ x. x.input) n in (
+        let input : b.view.input ≡ c.sight.world.input = c.input ∙ ap (λ x. x.input) n in
+        let ends : b.view.ends ≡ c.sight.world.ends = c.ends ∙ ap (λ x. x.ends) n in (
           machine_after m thread c.after c.sight,
           record {
             heap = sym c.heap ∙ sym (ap (λ z. z.heap) ed);
             threads = sym c.threads;
             input = sym input ∙
                 sym (ap (λ z. z.input) ed);
+            ends = sym ends ∙
+                sym (ap (λ z. z.ends) ed);
             out = ap (λ z. z.out) ed ∙ out;
             err = ap (λ z. z.err) ed ∙ err;
             mid =
@@ -288,6 +294,7 @@ module _ {S : Type 0} (p : Prog S) (thread most : ℕ) (a b : LockState S) (d1 d
     out = ap (λ z. z.out) ed ∙ c.out;
     err = ap (λ z. z.err) ed ∙ c.err;
     input = ap (λ z. z.input) ed ∙ c.input;
+    ends = ap (λ z. z.ends) ed ∙ c.ends;
   }
 
   rose_after : (x y z : ℕ) → z ≡ y → Rose x y → Rose x z

@@ -8,7 +8,7 @@ use Rattle.lock_run.specs.Cut.{PartOf}
 
 -- the input has three bytes left, and nothing was written yet
 abbrev three : World
-three = record { input = Some (1 ∷ 2 ∷ 3 ∷ []); out = []; err = []; mid = false }
+three = record { input = Some (1 ∷ 2 ∷ 3 ∷ []); ends = 0; out = []; err = []; mid = false }
 
 -- a row writes two bytes, takes a line, looks at a record, or ends
 abbrev writes : Row ℕ ℕ

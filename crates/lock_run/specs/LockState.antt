@@ -31,6 +31,7 @@ IsSound sound s = sound s.view.heap s.threads
 -- the devices of a machine are these, as far as they tell of themselves
 pub record HasDevices {S : Type 0} (s : LockState S) (source : SourceState) (sink error_sink : SinkState) : Type 0 where
   pub input : s.view.input ≡ source.told
+  pub ends : s.view.ends ≡ source.ends
   pub out : s.view.out ≡ sink.told
   pub err : s.view.err ≡ error_sink.told
   pub reads : s.view.reads ≡ source.faults

@@ -28,6 +28,7 @@ plain_state input out err v = record {
   mid = v.mid;
   was_mid = v.was_mid;
   input = (input v.input).told;
+  ends = (input v.input).ends;
   out = (out v.output).told;
   err = (err v.errors).told;
   reads = (input v.input).faults;

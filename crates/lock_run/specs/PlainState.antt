@@ -8,7 +8,7 @@ use Rattle.py_data.specs.Changes.{after, Allows}
 use Rattle.py_data.specs.Heap.{Heap, Rec, put_at}
 use Rattle.py_data.specs.Shape.{Fits, find}
 use Rattle.py_data.specs.Row.{Call, Read, Find, Edit, Make, Start, Put, Take, MidLine, SetMidLine, Reply}
-use Rattle.py_data.specs.World.{IsLine, shrunk, grown}
+use Rattle.py_data.specs.World.{IsLine, ends_after, shrunk, grown}
 use Rattle.stm_io.specs.Outside.{Rose}
 
 -- the records and the base of the step, the names, the started states, the flag, and the devices
@@ -26,6 +26,7 @@ pub record PlainState (S : Type 0) : Type 0 where
   pub mid : Bool
   pub was_mid : Bool  -- the flag when the step began
   pub input : Option (List ℕ)
+  pub ends : ℕ  -- how often the input came to its end
   pub out : Option (List ℕ)
   pub err : Option (List ℕ)
   pub reads : ℕ  -- the counts of faults
@@ -53,7 +54,8 @@ PlainDoes (Start s) d r e = e ≡ record d { started = d.started ++ s ∷ [] }
 PlainDoes (Put Output b) d r e = (e ≡ record d { out = grown d.out b; writes = e.writes }) × (d.writes ≤ e.writes)
 PlainDoes (Put ErrorOutput b) d r e = (e ≡ record d { err = grown d.err b; errs = e.errs }) × (d.errs ≤ e.errs)
 PlainDoes (Take most) d l e =
-    IsLine d.input most l × (length l ≤ most) × (e ≡ record d { input = shrunk d.input (length l); reads = e.reads }) ×
+    IsLine d.input most l × (length l ≤ most) ×
+    (e ≡ record d { input = shrunk d.input (length l); ends = ends_after l d.ends; reads = e.reads }) ×
     (d.reads ≤ e.reads)
 PlainDoes MidLine d b e = (b ≡ d.mid) × (e ≡ d)
 PlainDoes (SetMidLine b) d r e = e ≡ record d { mid = b }
@@ -78,6 +80,7 @@ pub record Steady {S : Type 0} (d e : PlainState S) (s : Stop) : Type 0 where
 -- the input was left alone
 pub record SameIn {S : Type 0} (d e : PlainState S) : Type 0 where
   pub same : e.input ≡ d.input
+  pub ends : e.ends ≡ d.ends
 
 -- the output was left alone
 pub record SameOut {S : Type 0} (d e : PlainState S) : Type 0 where
@@ -91,9 +94,9 @@ pub record SameErr {S : Type 0} (d e : PlainState S) : Type 0 where
 pub record SameBad {S : Type 0} (d e : PlainState S) : Type 0 where
   pub same : e.bad ≡ d.bad
 
--- a failed input: some bytes may be gone, and its count of faults rose
+-- a failed input: some bytes may be gone, no end was counted, and its count of faults rose
 abbrev pub ReadStops : {S : Type 0} → Call S → PlainState S → PlainState S → Type 0
-ReadStops (Take most) d e = ((k : ℕ) × (e.input ≡ shrunk d.input k)) × Rose d.reads e.reads
+ReadStops (Take most) d e = ((k : ℕ) × (e.input ≡ shrunk d.input k)) × Rose d.reads e.reads × (e.ends ≡ d.ends)
 ReadStops _ d e = ⊥
 
 -- a failed output: a front of the bytes may be written, and its count of faults rose

@@ -14,9 +14,9 @@ abbrev pub IsReady : {S : Type 0} → Prog S → S → Heap → Bool → Type 0
 IsReady p s h true = (p.life s ≡ Lives) × Going (p.row s) h
 IsReady p s h false = p.life s ≡ Lives → Waiting (p.row s) h
 
--- the world at the beginning of a run: an input that tells this, nothing written yet
-abbrev pub first_world : Option (List ℕ) → World
-first_world input = record { input = input; out = []; err = []; mid = false }
+-- the world at the beginning of a run: an input that tells this and came to its end so often, nothing written yet
+abbrev pub first_world : Option (List ℕ) → ℕ → World
+first_world input ends = record { input = input; ends = ends; out = []; err = []; mid = false }
 
 -- how many steps turns have, all together
 abbrev pub steps_done : List Turn → ℕ

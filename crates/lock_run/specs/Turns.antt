@@ -36,6 +36,7 @@ pub record Stands {S : Type 0} (o e : Option (List ℕ)) (d : PlainState S) (ts 
   pub heap : m.heap ≡ d.heap
   pub threads : m.threads ≡ ts
   pub input : m.world.input ≡ d.input
+  pub ends : m.world.ends ≡ d.ends
   pub out : d.out ≡ grown o m.world.out
   pub err : d.err ≡ grown e m.world.err
   pub mid : m.world.mid ≡ d.mid
@@ -69,6 +70,7 @@ pub record CutIn {S : Type 0} (p : Prog S) (t done : ℕ) (o e : Option (List �
   pub out : d1.out ≡ grown o told.out
   pub err : d1.err ≡ grown e told.err
   pub input : d1.input ≡ told.input
+  pub ends : d1.ends ≡ told.ends
 
 -- nothing of the next step is left: what stands is what the steps before it left
 abbrev pub LeavesNothing : {S : Type 0} {p : Prog S} {t done : ℕ} {o e : Option (List ℕ)} {m : Machine S}
@@ -118,6 +120,7 @@ pub record Going {S : Type 0} (p : Prog S) (t k : ℕ) (names : List ℕ) (o e :
   pub heap : sight.heap ≡ d.heap
   pub made : sight.made ≡ d.made
   pub input : sight.world.input ≡ d.input
+  pub ends : sight.world.ends ≡ d.ends
   pub out : d.out ≡ grown o sight.world.out
   pub err : d.err ≡ grown e sight.world.err
   pub mid : sight.world.mid ≡ d.mid

@@ -97,7 +97,7 @@ impl<'p, C: Client, I: Source, O: Sink, E: Sink> LockRun<'p, C, I, O, E> {
     ) -> Result<LockRun<'p, C, I, O, E>, (NoMemory, I, O, E)>
         requires first { IsSoundFirst (C.prog client.now) (C.sound client.now) }
         ensures client { IfOk result (λ run. lock_client run ≡ client.now) }
-        ensures begins { IfOk result (λ run. (o e : _) → o ≡ (O.state out).told → e ≡ (E.state err).told → Stands o e (lock_state I.state O.state E.state run).view (lock_state I.state O.state E.state run).threads (begin_with (C.prog client.now) (first_world (I.state input).told))) }
+        ensures begins { IfOk result (λ run. (o e : _) → o ≡ (O.state out).told → e ≡ (E.state err).told → Stands o e (lock_state I.state O.state E.state run).view (lock_state I.state O.state E.state run).threads (begin_with (C.prog client.now) (first_world (I.state input).told (I.state input).ends))) }
         ensures sound { IfOk result (λ run. IsSound (C.sound client.now) (lock_state I.state O.state E.state run)) }
         ensures devices { IfOk result (λ run. HasDevices (lock_state I.state O.state E.state run) (I.state input) (O.state out) (E.state err)) }
         ensures back { IfErr result (λ e. (e.1 ≡ input) × (e.2 ≡ out) × (e.3 ≡ err)) }
