@@ -275,7 +275,7 @@ module _ {S : Type 0} (p : Prog S) (t k : ℕ) (names : List ℕ) (o e : Option 
       PlainRefuses c x MemoryStop w → PlainUndoes w d1
       → Told d1 (memory_why bad)
   refused_memory c f y x w d1 ls false eb up sh kp rf un = (
-    cut_still (Do c f) y x w d1 up sh kp rf.0.base rf.0.was_mid rf.1.2.same rf.1.3.same rf.1.1.same un,
+    cut_still (Do c f) y x w d1 up sh kp rf.0.base rf.0.was_mid rf.1.2.same rf.1.3.same rf.1.1.same rf.1.1.ends un,
     made_part x w d1 rf.0.kept kp un,
     tt,
     begins_part x w d1 rf.0.free kp un,
@@ -285,7 +285,7 @@ module _ {S : Type 0} (p : Prog S) (t k : ℕ) (names : List ℕ) (o e : Option 
       elim rf.1.0 [
         | inl h ↦ absurd (let q : true ≡ false = sym bd ∙ h ∙ kp.bad in cc)
         | inr h ↦ (
-          cut_still (Do (Make q) f) y x w d1 up sh kp rf.0.base rf.0.was_mid rf.1.2.same rf.1.3.same rf.1.1.same un,
+          cut_still (Do (Make q) f) y x w d1 up sh kp rf.0.base rf.0.was_mid rf.1.2.same rf.1.3.same rf.1.1.same rf.1.1.ends un,
           made_part x w d1 rf.0.kept kp un,
           (
             ls,
