@@ -422,7 +422,7 @@ module _ {S : Type 0} (p : Prog S) (t k : ℕ) (names : List ℕ) (o e : Option 
       let lv : p.life g.after ≡ Lives = subst (λ (q : S). p.life q ≡ Lives) es ls in
       let still = (quiet g.after s1 g.sight r.0 dw).1 in (
         cut_still (Ret (c, s1)) r.0 (D w) (D w) d1 (run_upto pure (p.row g.after) g.sight (c, s1) r.0 dd) r.2 kp refl
-            refl refl refl refl un,
+            refl refl refl refl refl un,
         made_part (D w) (D w) d1 refl kp un,
         (lv, still.world, s1, dw, still),
         begins_part (D w) (D w) d1 refl kp un,
