@@ -71,9 +71,9 @@ kept_err solo p q told m h le = record {
   alone = λ n. absurd (both_ways solo n m);
 }
 
-kept_in : (solo : Bool) (p q : DeviceState) (told : Option (List ℕ)) → solo ≡ true →
-    q ≡ record p { input = told; reads = q.reads } → p.reads ≤ q.reads → DevicesKept solo p q
-kept_in solo p q told m h le = record {
+kept_in : (solo : Bool) (p q : DeviceState) (told : Option (List ℕ)) (ends : ℕ) → solo ≡ true →
+    q ≡ record p { input = told; ends = ends; reads = q.reads } → p.reads ≤ q.reads → DevicesKept solo p q
+kept_in solo p q told ends m h le = record {
   counts = record {
     reads = le;
     writes = let a : q.writes ≡ p.writes = ap (λ (z : DeviceState). z.writes) h in
@@ -89,7 +89,7 @@ pub does_keeps : {S : Type 0} (me : Side) (c : Call S) (p : DeviceState) (r : Re
     OuterDoes me c p r q → DevicesKept me.solo p q
 does_keeps me (Put Output bytes) p r q h = kept_out me.solo p q _ h.0 h.1 h.2
 does_keeps me (Put ErrorOutput bytes) p r q h = kept_err me.solo p q _ h.0 h.1 h.2
-does_keeps me (Take most) p r q h = kept_in me.solo p q _ h.0 h.3 h.4
+does_keeps me (Take most) p r q h = kept_in me.solo p q _ _ h.0 h.3 h.4
 does_keeps me MidLine p r q h = kept_same me.solo p q h.1
 does_keeps me (SetMidLine b) p r q h = record {
   counts = counts_same p q (ap (λ (z : DeviceState). z.reads) h.1) (ap (λ (z : DeviceState). z.writes) h.1)
@@ -119,8 +119,8 @@ err_keeps _ me bytes p q h = kept_err me.solo p q p.err h.0 h.1 h.2
 
 take_keeps : (s : Stop) (me : Side) (p q : DeviceState) → TakeRefused s me p q → DevicesKept me.solo p q
 take_keeps NeedSolo me p q h = kept_same me.solo p q h
-take_keeps ReadFault me p q h = kept_in me.solo p q _ h.0 h.1.1 h.2
-take_keeps _ me p q h = kept_in me.solo p q p.input h.0 h.1 h.2
+take_keeps ReadFault me p q h = kept_in me.solo p q _ p.ends h.0 h.1.1 h.2
+take_keeps _ me p q h = kept_in me.solo p q p.input p.ends h.0 h.1 h.2
 
 pub refuses_keeps : {S : Type 0} (me : Side) (c : Call S) (s : Stop) (p q : DeviceState) → OuterRefuses me c s p q →
     DevicesKept me.solo p q

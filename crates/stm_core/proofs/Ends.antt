@@ -93,29 +93,29 @@ module _ {S : Type 0} (p : Prog S) (m : Meaning) (b : Books S) (e : (a : ℕ) �
 
     -- it stands for the core as it is made
     new_stands : (most : ℕ) (d : DeviceState) → d.mid ≡ false →
-        StandsFor p most d d m b (outer_new (core_new p (first_world d.input)))
+        StandsFor p most d d m b (outer_new (core_new p (first_world d.input d.ends)))
     new_stands most d dry =
-        let w : Worlds = record { committed = first_world d.input; own = no_world } in
+        let w : Worlds = record { committed = first_world d.input d.ends; own = no_world } in
         record {
           worlds = w;
           core = sym (core_is_new w);
           broken = sym (ap broken_of n.broken);
-          tells = record { input = refl; out = grown_none d.out; err = grown_none d.err };
+          tells = record { input = refl; ends = refl; out = grown_none d.out; err = grown_none d.err };
           mid = λ e. sym dry;
-          kept = kept_new p (first_world d.input) most;
+          kept = kept_new p (first_world d.input d.ends) most;
         }
 
     -- for devices that are as they were when it was made
     module _ (most : ℕ) (first d : DeviceState) (same : first ≡ d) (dry : d.mid ≡ false) where
-      pub stands_first : StandsFor p most first d m b (outer_new (core_new p (first_world d.input)))
-      stands_first = subst (λ z. StandsFor p most z d m b (outer_new (core_new p (first_world d.input)))) (sym same)
+      pub stands_first : StandsFor p most first d m b (outer_new (core_new p (first_world d.input d.ends)))
+      stands_first = subst (λ z. StandsFor p most z d m b (outer_new (core_new p (first_world d.input d.ends)))) (sym same)
           (new_stands most d dry)
 
       pub new_sane : (sound : Heap → List S → Type 0) → sound no_records (p.first ∷ []) →
           SaneCore p sound most first d m b
       new_sane sound h = record {
         first_sound = h;
-        state = outer_new (core_new p (first_world d.input));
+        state = outer_new (core_new p (first_world d.input d.ends));
         stands = stands_first;
         counts = subst (λ z. CountsGrow z d) (sym same)
             (record { reads = omega arith; writes = omega arith; errs = omega arith });

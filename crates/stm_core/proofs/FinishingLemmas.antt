@@ -101,7 +101,7 @@ module _ {S : Type 0} (p : Prog S) (most : ℕ) (first d : DeviceState) (m : Mea
       Beaten p k (transaction s.worlds.own (m.part k) x) f o.core → ⊥
   solo_wins k x e solo f v =
       let at : (loser f).segment ≡ k = ap (λ l. (cond (eqb l 0) f.writer f.other).segment) v.lost ∙ v.writer in
-      let r = mortal_loses p (begin_with p (first_world first.input)) most o.core f s.kept.good v.stands in
+      let r = mortal_loses p (begin_with p (first_world first.input first.ends)) most o.core f s.kept.good v.stands in
       both_ways x.solo (r.1 (transaction s.worlds.own (m.part k) x) (ap o.core.segments at ∙ shown k x e)) solo
 
   -- the commit of a solo transaction goes
@@ -245,7 +245,7 @@ module _ {C S I O E T : Type 0} (input : I → SourceState) (out : O → SinkSta
     history_is = ap (λ (c : CoreState T). c.history) t.core;
     conflicts_are = ap (λ (c : CoreState T). c.conflicts) t.core;
     image_is = ap (λ (c : CoreState T). c.image) t.core;
-    tells = record { input = t.tells.input; out = t.tells.out; err = t.tells.err };
+    tells = record { input = t.tells.input; ends = t.tells.ends; out = t.tells.out; err = t.tells.err };
     counts = record { reads = good.sane.counts.reads; writes = good.sane.counts.writes; errs = good.sane.counts.errs };
     rose = subst (λ (e : Option Cause). CauseRose e (first_devices input out err z)
         (bare (core_devices input out err z))) (sym (ap (λ (c : CoreState T). c.cause) t.core))

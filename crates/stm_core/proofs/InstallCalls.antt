@@ -116,7 +116,7 @@ module _ {S : Type 0} (p : Prog S) (most k : ℕ) (first d : DeviceState) (m : M
   idle_now = set_here k m b bt IdleHand set (slice_get_within b.hands.items k (Runs x) at)
 
   abbrev start : Machine S
-  start = begin_with p (first_world first.input)
+  start = begin_with p (first_world first.input first.ends)
 
   broken_same : bt.broken ≡ b.broken
   broken_same = ap (λ (z : Books S). z.broken) set.rest

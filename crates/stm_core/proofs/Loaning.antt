@@ -91,7 +91,7 @@ module _ {S : Type 0} (p : Prog S) (most k : ℕ) (first d : DeviceState) (m : M
         let locked = (piece_state l.view).locked in
         subst (λ z. StandsIn sound true z l.state) (sym l.fresh.heap)
         (subst (λ q. StandsIn sound true g q) (sym h.loan.state)
-        (loan_stands p sound (begin_with p (first_world first.input)) most k (core_of w m b)
+        (loan_stands p sound (begin_with p (first_world first.input first.ends)) most k (core_of w m b)
         (transaction w.own (m.part k) x) g locked law s.first_sound (good_now s) (ap (segment_of w.own (m.part k)) h.is)
         (lent_loan w.own m k x g locked (whole.works k x h.is) h.loan.lent)))
 

@@ -28,7 +28,7 @@ module _ {S : Type 0} (p : Prog S) (most : ℕ) (first d d1 : DeviceState) (m m1
         tells = tells;
         mid = mid;
         kept =
-            kept_after p (begin_with p (first_world first.input)) most o o1 ms s.kept f;
+            kept_after p (begin_with p (first_world first.input first.ends)) most o o1 ms s.kept f;
       }
 
 -- where nothing was told and no step broke
@@ -43,8 +43,8 @@ stands_told p most first d m m1 b b1 o s w same ms f =
 -- the state for which it stands is good, in its worlds
 pub good_now : {S : Type 0} {p : Prog S} {sound : Heap → List S → Type 0} {most : ℕ} {first d : DeviceState}
     {m : Meaning} {b : Books S} (s : SaneCore p sound most first d m b) →
-    Good p (begin_with p (first_world first.input)) most (core_of s.stands.worlds m b)
-good_now {p = p} {most = most} {first = first} s = subst (Good p (begin_with p (first_world first.input)) most)
+    Good p (begin_with p (first_world first.input first.ends)) most (core_of s.stands.worlds m b)
+good_now {p = p} {most = most} {first = first} s = subst (Good p (begin_with p (first_world first.input first.ends)) most)
     s.stands.core s.stands.kept.good
 
 -- one call and then another

@@ -199,7 +199,7 @@ module _ {S X : Type 0} (hold : X → Hold S) (devices : X → DeviceState) (seg
             let z : ShowsWorld t e (devices v1) w.own =
             subst (λ (d : DeviceState). ShowsWorld t e d w.own)
             (sym (opens.1 ∙ ap (λ (d : DeviceState). record d { was_mid = d.mid }) pv))
-            (record { tells = record { input = y.tells.input; out = y.tells.out; err = y.tells.err }; mid = y.mid }) in
+            (record { tells = record { input = y.tells.input; ends = y.tells.ends; out = y.tells.out; err = y.tells.err }; mid = y.mid }) in
             subst (ShowsWorld t e (devices v1)) (sym (cond-true x.solo w.own w.committed solo)) z
 
         -- the core's state once the step was opened
@@ -440,6 +440,7 @@ module _ {S X : Type 0} (hold : X → Hold S) (devices : X → DeviceState) (seg
               record {
                 told = y.told;
                 tells = tells_same t e (devices u1) (devices u) y.told y.tells (ap (λ (d : DeviceState). d.input) undo)
+                    (ap (λ (d : DeviceState). d.ends) undo)
                     (ap (λ (d : DeviceState). d.out) undo) (ap (λ (d : DeviceState). d.err) undo);
                 cut = record {
                   left = cut.at.left;

@@ -116,7 +116,7 @@ module _ {S A : Type 0} (t e : Option (List ℕ)) (k : ℕ) (me : Side) (row : R
       beside = y.beside;
       why = inl why;
     };
-    told = λ solo. told_none t e y.next y.world p p (y.shown solo).tells refl refl refl;
+    told = λ solo. told_none t e y.next y.world p p (y.shown solo).tells refl refl refl refl;
     fault = subst (λ z. StopOf z y.next) (sym why) tt;
   }
 

@@ -89,6 +89,7 @@ alone_tells : (t e : Option (List ℕ)) (d d1 : DeviceState) (w : World) → IsL
     Tells t e d1 w
 alone_tells t e d d1 w a h = record {
   input = h.input ∙ ap (λ (z : DeviceState). z.input) (sym a);
+  ends = h.ends ∙ ap (λ (z : DeviceState). z.ends) (sym a);
   out = ap (λ (z : DeviceState). z.out) a ∙ h.out;
   err = ap (λ (z : DeviceState). z.err) a ∙ h.err;
 }
@@ -214,7 +215,7 @@ module _ {S : Type 0} (p : Prog S) (most k : ℕ) (first d : DeviceState) (m : M
   shown_out : (o : Outer S) (s : StandsFor p most first d m b o) → Shown x.solo first.out first.err d s.worlds.own
   shown_out o s y =
       let tx = transaction s.worlds.own (m.part k) x in
-      let h = solo_told p (begin_with p (first_world first.input)) most k o tx s.kept (runs_in o s) y in
+      let h = solo_told p (begin_with p (first_world first.input first.ends)) most k o tx s.kept (runs_in o s) y in
       let own : o.told ≡ s.worlds.own = h.1 ∙ cond-true x.solo s.worlds.own no_world y in
       record {
         tells = subst (Tells first.out first.err d) own s.tells;
@@ -236,9 +237,9 @@ module _ {S : Type 0} (p : Prog S) (most k : ℕ) (first d : DeviceState) (m : M
   sane_out sound h = record {
     sane = record {
       worlds = h.stands.worlds;
-      start = begin_with p (first_world first.input);
+      start = begin_with p (first_world first.input first.ends);
       first = h.first_sound;
-      good = subst (Good p (begin_with p (first_world first.input)) most)
+      good = subst (Good p (begin_with p (first_world first.input first.ends)) most)
           (sym (core_taken k m b b1 h.stands.worlds x at set)) (good_now h);
     };
     out = first.out;
@@ -259,7 +260,7 @@ module _ {S : Type 0} (p : Prog S) (most k : ℕ) (first d : DeviceState) (m : M
       let made : Advanced p most k m.segments steps r l o result z.state =
       subst (λ (q : Segment S). AdvancedFrom q p most k m.segments steps r l o result z.state) (sym (runs_in o s))
       z.is in
-      let led = advanced_led p (begin_with p (first_world first.input)) most k m.segments steps r l o z.state result
+      let led = advanced_led p (begin_with p (first_world first.input first.ends)) most k m.segments steps r l o z.state result
       s.kept (stands_within p most first d m b o len s) made in (
         z.state,
         stands_after p most first d d1 m m1 b b2 o s z.state z.worlds led.0 led.1 z.core z.broken z.tells
@@ -284,7 +285,7 @@ doomed_led {S} p most k first d m b b1 f at set steps r l len o s =
     let made : Advanced p most k m.segments steps r l o (Err (Lost f)) o1 =
     subst (λ (q : Segment S). AdvancedFrom q p most k m.segments steps r l o (Err (Lost f)) o1) (sym there)
     (refl, (λ i. record o { core = gives i })) in
-    let led = advanced_led p (begin_with p (first_world first.input)) most k m.segments steps r l o o1 (Err (Lost f))
+    let led = advanced_led p (begin_with p (first_world first.input first.ends)) most k m.segments steps r l o o1 (Err (Lost f))
     s.kept (stands_within p most first d m b o len s) made in (
       o1,
       stands_after p most first d d m m b b1 o s o1 s.worlds led.0 led.1 refl (s.broken ∙ ap broken_of (sym eb))

@@ -1,11 +1,11 @@
 -- What calls of a segment's view tell the devices, and the world that they show then.
-use Rattle.std.proofs.Common.{◌≡◌, ℕ, List, [], take, Option, Some, None, refl, sym, ◌∙◌, ap, subst, append-nil}
+use Rattle.std.proofs.Common.{◌≡◌, ℕ, List, [], length, take, Option, Some, None, refl, sym, ◌∙◌, ap, subst, append-nil}
 use Rattle.py_data.specs.declared.stop.Side.{Side}
 use Rattle.py_data.specs.declared.stop.Stop.{Stop}
 use Rattle.py_data.specs.declared.stop.Stop.TheVariants.{Lost, NeedSolo, NeedHeap, Full, ReadFault, WriteFault, ErrFault, OutOfMemory}
 use Rattle.py_data.specs.declared.stop.Out.TheVariants.{Output, ErrorOutput}
 use Rattle.py_data.specs.Heap.{Heap}
-use Rattle.py_data.specs.World.{World, wrote, grown, shrunk}
+use Rattle.py_data.specs.World.{World, ends_after, wrote, took, grown, shrunk}
 use Rattle.py_data.specs.Row.{Call, Reply, Row, Ret, Do, Read, Find, Edit, Make, Start, Put, Take, MidLine, SetMidLine}
 use Rattle.lock_run.specs.Cut.{PartOf}
 use Rattle.lock_run.proofs.Following.{grown_then}
@@ -18,10 +18,10 @@ use Rattle.stm_core.specs.inner.Whole.{StopOf}
 
 -- devices always show a world: the one whose outputs are empty now
 abbrev pub world_now : DeviceState → World
-world_now p = record { input = p.input; out = []; err = []; mid = p.mid }
+world_now p = record { input = p.input; ends = p.ends; out = []; err = []; mid = p.mid }
 
 pub shown_now : (p : DeviceState) → ShowsWorld p.out p.err p (world_now p)
-shown_now p = record { tells = record { input = refl; out = none p.out; err = none p.err }; mid = refl }
+shown_now p = record { tells = record { input = refl; ends = refl; out = none p.out; err = none p.err }; mid = refl }
   where
     none : (o : Option (List ℕ)) → o ≡ grown o []
     none None = refl
@@ -33,6 +33,7 @@ shows_out t e p q w bytes s h = subst (λ (z : DeviceState). ShowsWorld t e z (w
     (record {
       tells = record {
         input = s.tells.input;
+        ends = s.tells.ends;
         out = ap (λ l. grown l bytes) s.tells.out ∙
             grown_then t w.out bytes;
         err = s.tells.err;
@@ -46,6 +47,7 @@ shows_err t e p q w bytes s h = subst (λ (z : DeviceState). ShowsWorld t e z (w
     (record {
       tells = record {
         input = s.tells.input;
+        ends = s.tells.ends;
         out = s.tells.out;
         err = ap (λ l. grown l bytes) s.tells.err ∙
             grown_then e w.err bytes;
@@ -58,14 +60,38 @@ pub shows_in : (t e : Option (List ℕ)) (p q : DeviceState) (w : World) (n : �
     ShowsWorld t e q (record w { input = shrunk w.input n })
 shows_in t e p q w n s h = subst (λ (z : DeviceState). ShowsWorld t e z (record w { input = shrunk w.input n })) (sym h)
     (record {
-      tells = record { input = ap (λ l. shrunk l n) s.tells.input; out = s.tells.out; err = s.tells.err };
+      tells = record {
+        input = ap (λ l. shrunk l n) s.tells.input;
+        ends = s.tells.ends;
+        out = s.tells.out;
+        err = s.tells.err;
+      };
+      mid = s.mid;
+    })
+
+pub shows_took : (t e : Option (List ℕ)) (p q : DeviceState) (w : World) (l : List ℕ) → ShowsWorld t e p w →
+    q ≡ record p { input = shrunk p.input (length l); ends = ends_after l p.ends; reads = q.reads } →
+    ShowsWorld t e q (took l w)
+shows_took t e p q w l s h = subst (λ (z : DeviceState). ShowsWorld t e z (took l w)) (sym h)
+    (record {
+      tells = record {
+        input = ap (λ i. shrunk i (length l)) s.tells.input;
+        ends = ap (ends_after l) s.tells.ends;
+        out = s.tells.out;
+        err = s.tells.err;
+      };
       mid = s.mid;
     })
 
 -- only counts and flags differ
 pub tells_same : (t e : Option (List ℕ)) (p q : DeviceState) (w : World) → Tells t e p w → q.input ≡ p.input →
-    q.out ≡ p.out → q.err ≡ p.err → Tells t e q w
-tells_same t e p q w h a b c = record { input = h.input ∙ sym a; out = b ∙ h.out; err = c ∙ h.err }
+    q.ends ≡ p.ends → q.out ≡ p.out → q.err ≡ p.err → Tells t e q w
+tells_same t e p q w h a n b c = record {
+  input = h.input ∙ sym a;
+  ends = h.ends ∙ sym n;
+  out = b ∙ h.out;
+  err = c ∙ h.err;
+}
 
 -- ---- a call that was refused
 
@@ -110,13 +136,13 @@ pub record Told {S A : Type 0} (t e : Option (List ℕ)) (row : Row S A) (w : Wo
 
 -- nothing was told
 pub told_none : {S A : Type 0} (t e : Option (List ℕ)) (row : Row S A) (w : World) (p q : DeviceState) →
-    Tells t e p w → q.input ≡ p.input → q.out ≡ p.out → q.err ≡ p.err → Told t e row w q
-told_none t e row w p q h a b c = record { told = w; tells = tells_same t e p q w h a b c; part = part_none row w }
+    Tells t e p w → q.input ≡ p.input → q.ends ≡ p.ends → q.out ≡ p.out → q.err ≡ p.err → Told t e row w q
+told_none t e row w p q h a n b c = record { told = w; tells = tells_same t e p q w h a n b c; part = part_none row w }
 
 told_same : {S A : Type 0} (t e : Option (List ℕ)) (row : Row S A) (w : World) (p q : DeviceState) → Tells t e p w →
     q ≡ p → Told t e row w q
 told_same t e row w p q h same = told_none t e row w p q h (ap (λ (z : DeviceState). z.input) same)
-    (ap (λ (z : DeviceState). z.out) same) (ap (λ (z : DeviceState). z.err) same)
+    (ap (λ (z : DeviceState). z.ends) same) (ap (λ (z : DeviceState). z.out) same) (ap (λ (z : DeviceState). z.err) same)
 
 write_told : {S A : Type 0} (t e : Option (List ℕ)) (bytes : List ℕ) (f : Unit {0} → Row S A) (w : World) (s : Stop)
     (me : Side) (p q : DeviceState) → ShowsWorld t e p w → WriteRefused s me bytes p q →
@@ -130,7 +156,7 @@ write_told t e bytes f w WriteFault me p q h r = let n = r.1.0 in
           (n, refl);
     }
 write_told t e bytes f w _ me p q h r = told_none t e (Do (Put Output bytes) f) w p q h.tells
-    (ap (λ (z : DeviceState). z.input) r.1) (ap (λ (z : DeviceState). z.out) r.1) (ap (λ (z : DeviceState). z.err) r.1)
+    (ap (λ (z : DeviceState). z.input) r.1) (ap (λ (z : DeviceState). z.ends) r.1) (ap (λ (z : DeviceState). z.out) r.1) (ap (λ (z : DeviceState). z.err) r.1)
 
 err_told : {S A : Type 0} (t e : Option (List ℕ)) (bytes : List ℕ) (f : Unit {0} → Row S A) (w : World) (s : Stop)
     (me : Side) (p q : DeviceState) → ShowsWorld t e p w → ErrRefused s me bytes p q →
@@ -143,7 +169,7 @@ err_told t e bytes f w ErrFault me p q h r = let n = r.1.0 in
       part = (n, refl);
     }
 err_told t e bytes f w _ me p q h r = told_none t e (Do (Put ErrorOutput bytes) f) w p q h.tells
-    (ap (λ (z : DeviceState). z.input) r.1) (ap (λ (z : DeviceState). z.out) r.1) (ap (λ (z : DeviceState). z.err) r.1)
+    (ap (λ (z : DeviceState). z.input) r.1) (ap (λ (z : DeviceState). z.ends) r.1) (ap (λ (z : DeviceState). z.out) r.1) (ap (λ (z : DeviceState). z.err) r.1)
 
 take_told : {S A : Type 0} (t e : Option (List ℕ)) (most : ℕ) (f : List ℕ → Row S A) (w : World) (s : Stop) (me : Side)
     (p q : DeviceState) → ShowsWorld t e p w → TakeRefused s me p q → Told t e (Do (Take most) f) w q
@@ -156,7 +182,7 @@ take_told t e most f w ReadFault me p q h r = let n = r.1.0 in
           (n, refl);
     }
 take_told t e most f w _ me p q h r = told_none t e (Do (Take most) f) w p q h.tells
-    (ap (λ (z : DeviceState). z.input) r.1) (ap (λ (z : DeviceState). z.out) r.1) (ap (λ (z : DeviceState). z.err) r.1)
+    (ap (λ (z : DeviceState). z.input) r.1) (ap (λ (z : DeviceState). z.ends) r.1) (ap (λ (z : DeviceState). z.out) r.1) (ap (λ (z : DeviceState). z.err) r.1)
 
 -- of a call that was refused a part was told
 pub call_told : {S A : Type 0} (t e : Option (List ℕ)) (c : Call S) (f : Reply c → Row S A) (w : World) (s : Stop)

@@ -15,7 +15,7 @@ use Rattle.stm_core.specs.inner.Hold.{Hold, sight, Beside, SegDoes}
 use Rattle.stm_core.specs.inner.Outer.{OuterDoes}
 use Rattle.stm_core.specs.inner.SegSense.{seg_sense}
 use Rattle.stm_core.proofs.Holding.{beside_refl, beside_then, beside_weaker}
-use Rattle.stm_core.proofs.Telling.{shows_out, shows_err, shows_in}
+use Rattle.stm_core.proofs.Telling.{shows_out, shows_err, shows_took}
 
 -- a sight with another world, that was used or not
 abbrev pub at_used : {S : Type 0} → World → Bool → Sight S → Sight S
@@ -86,12 +86,12 @@ acts t e k me (Put ErrorOutput bytes) f w u d p r d1 q then h o s =
 acts t e k me (Take most) f w u d p r d1 q then h o s =
     inr (acts_solo t e k me (Take most) w u d r d1 q o.0 (took r w)
     (subst (λ l. IsLine l most r) (sym (s o.0).tells.input) o.1, ap (λ z. at_used (took r w) true (sight k z)) h.0)
-    (shows_in t e p q w (length r) (s o.0) o.3))
+    (shows_took t e p q w r (s o.0) o.3))
 acts t e k me (SetMidLine b) f w u d p r d1 q then h o s =
     inr (acts_solo t e k me (SetMidLine b) w u d r d1 q o.0 (record w { mid = b })
     (ap (λ z. at_used (record w { mid = b }) true (sight k z)) h.0)
     (subst (λ (z : DeviceState). ShowsWorld t e z (record w { mid = b })) (sym o.1)
-    (let y = (s o.0).tells in record { tells = record { input = y.input; out = y.out; err = y.err }; mid = refl })))
+    (let y = (s o.0).tells in record { tells = record { input = y.input; ends = y.ends; out = y.out; err = y.err }; mid = refl })))
 acts t e k me MidLine f w u d p r d1 q then h o s = elim (cases_Bool me.solo) [
   | inl solo ↦ inr (acts_solo t e k me MidLine w u d r d1 q solo w
       (o.0 ∙ sym (s solo).mid, ap (λ z. at_used w true (sight k z)) h.0)

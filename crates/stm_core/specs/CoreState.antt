@@ -16,7 +16,7 @@ use Rattle.stm_core.specs.declared.cause.Cause.{Cause}
 
 -- the world of a transaction that isn't solo, at which no step of it looks
 abbrev pub no_world : World
-no_world = record { input = None; out = []; err = []; mid = false }
+no_world = record { input = None; ends = 0; out = []; err = []; mid = false }
 
 -- a transaction that runs: its thread, the steps done so far, and what they changed, locked, looked at, made and
 -- started

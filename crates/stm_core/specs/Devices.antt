@@ -6,10 +6,11 @@ use Rattle.py_data.specs.World.{World, grown}
 use Rattle.stm_io.specs.Outside.{SourceState, SinkState, Rose}
 use Rattle.stm_core.specs.declared.devices.Devices.{Devices}
 
--- what they tell, whether the output is in the middle of a line, whether it was when the open step began, and the
--- counts of faults
+-- what they tell, how often the input came to its end, whether the output is in the middle of a line, whether it was
+-- when the open step began, and the counts of faults
 pub record DeviceState : Type 0 where
   pub input : Option (List ℕ)
+  pub ends : ℕ
   pub out : Option (List ℕ)
   pub err : Option (List ℕ)
   pub mid : Bool
@@ -22,6 +23,7 @@ abbrev pub device_state : {I O E : Type 0} → (I → SourceState) → (O → Si
     DeviceState
 device_state input out err d = record {
   input = (input d.input).told;
+  ends = (input d.input).ends;
   out = (out d.out).told;
   err = (err d.err).told;
   mid = d.mid;
@@ -34,6 +36,7 @@ device_state input out err d = record {
 -- They were told the world w, whose outputs were empty when theirs stood at t and e.
 pub record Tells (t e : Option (List ℕ)) (d : DeviceState) (w : World) : Type 0 where
   pub input : w.input ≡ d.input
+  pub ends : w.ends ≡ d.ends
   pub out : d.out ≡ grown t w.out
   pub err : d.err ≡ grown e w.err
 

@@ -50,7 +50,7 @@ pub record HandedOut {S : Type 0} (p : Prog S) (most budget n : ℕ) (first d : 
   pub settled : Outer S
   pub settles : SettlesSolo p n o settled
   pub idle : o1 ≡ record settled { core = idle_core settled.core }
-  pub kept : Kept p (begin_with p (first_world first.input)) most o1
+  pub kept : Kept p (begin_with p (first_world first.input first.ends)) most o1
   pub outcome : IsOutcome p budget o1.core state
   pub failed_is : HasFailedIf p o1.core failed
   pub history_is : o1.core.history ≡ history

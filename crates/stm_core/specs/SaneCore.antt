@@ -24,7 +24,7 @@ pub record StandsFor {S : Type 0} (p : Prog S) (most : ℕ) (first d : DeviceSta
   pub broken : o.broken ≡ broken_of b.broken
   pub tells : Tells first.out first.err d o.told
   pub mid : b.broken ≡ None → o.told.mid ≡ d.mid
-  pub kept : Kept p (begin_with p (first_world first.input)) most o
+  pub kept : Kept p (begin_with p (first_world first.input first.ends)) most o
 
 -- of a kept fault of a device: its count rose since
 abbrev pub CauseRose : Option Cause → DeviceState → DeviceState → Type 0

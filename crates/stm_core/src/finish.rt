@@ -100,7 +100,7 @@ impl<'p, C: Client, S: SegStore, I: Source, O: Sink, E: Sink> Core<'p, C, S, I, 
         ensures client { IfOk result (λ x. core_client x ≡ client.now) }
         ensures limits { IfOk result (λ x. core_limits S.meaning x ≡ record { length = length; budget = budget; segments = (S.meaning store).segments; words = (S.meaning store).limit }) }
         ensures devices { IfOk result (HasDevices input out err) }
-        ensures state { IfOk result (λ x. CoreStands I.state O.state E.state C.prog S.meaning x (outer_new (core_new (C.prog client.now) (first_world (I.state input).told)))) }
+        ensures state { IfOk result (λ x. CoreStands I.state O.state E.state C.prog S.meaning x (outer_new (core_new (C.prog client.now) (first_world (I.state input).told (I.state input).ends)))) }
         ensures peaks { IfOk result (λ x. S.peaks (core_store x) ≡ S.peaks store) }
         ensures back { IfErr result (λ e. (e.1 ≡ input) × (e.2 ≡ out) × (e.3 ≡ err)) }
     {

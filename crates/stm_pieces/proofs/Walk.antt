@@ -93,7 +93,7 @@ pub ended_not_waits : Ended ≢ Waits
 ended_not_waits e = cc
 
 pub some_world : World
-some_world = record { input = None; out = []; err = []; mid = false }
+some_world = record { input = None; ends = 0; out = []; err = []; mid = false }
 
 -- the records that a view shows at first, as the sight of a step that begins
 pub begins_follows : {S : Type 0} (d0 d : PieceState) (s : Sight S) (w : World) → Follows d0 d s →

@@ -6,7 +6,7 @@ use Rattle.py_data.specs.declared.stop.Out.TheVariants.{Output, ErrorOutput}
 use Rattle.py_data.specs.declared.stop.Stop.{Stop}
 use Rattle.py_data.specs.declared.stop.Stop.TheVariants.{NeedSolo, ReadFault, WriteFault, ErrFault}
 use Rattle.py_data.specs.Row.{Call, Reply, Put, Take, MidLine, SetMidLine}
-use Rattle.py_data.specs.World.{grown, shrunk, IsLine}
+use Rattle.py_data.specs.World.{ends_after, grown, shrunk, IsLine}
 use Rattle.stm_io.specs.Outside.{Rose}
 use Rattle.stm_core.specs.Devices.{DeviceState}
 
@@ -20,7 +20,7 @@ OuterDoes me (Put ErrorOutput bytes) p r q =
     (me.solo ≡ true) × (q ≡ record p { err = grown p.err bytes; errs = q.errs }) × (p.errs ≤ q.errs)
 OuterDoes me (Take most) p l q =
     (me.solo ≡ true) × IsLine p.input most l × (length l ≤ most) ×
-    (q ≡ record p { input = shrunk p.input (length l); reads = q.reads }) × (p.reads ≤ q.reads)
+    (q ≡ record p { input = shrunk p.input (length l); ends = ends_after l p.ends; reads = q.reads }) × (p.reads ≤ q.reads)
 OuterDoes me MidLine p b q = (b ≡ p.mid) × (q ≡ p)
 OuterDoes me (SetMidLine b) p r q = (me.solo ≡ true) × (q ≡ record p { mid = b })
 OuterDoes me c p r q = q ≡ p
