@@ -57,6 +57,7 @@ module _ {S : Type 0} (p : Prog S) (first : Machine S) (most : ℕ) (o : Outer S
 abbrev pub telling : Devices → Bool → Bool → DeviceState
 telling d mid was = record {
   input = d.input.told;
+  ends = d.input.ends;
   out = d.out.told;
   err = d.err.told;
   mid = mid;
@@ -76,14 +77,14 @@ module _ {S : Type 0} (p : Prog S) (l : Limits) (a b : Devices) (mid was : Bool)
       failed history conflicts m.image o o1
 
   first : Machine S
-  first = begin_with p (first_world a.input.told)
+  first = begin_with p (first_world a.input.told a.input.ends)
 
   idle_at : (s : RunState) (history : List Turn) (conflicts : List Conflict) → Handed s history conflicts → (i : ℕ) →
       o1.core.segments i ≡ Idle
   idle_at s history conflicts h i = ap (λ (z : Outer S). z.core.segments i) h.idle
 
   abbrev RunOf : List Turn → List Conflict → Type 0
-  RunOf history conflicts = Serial p l.length a.input.told a.out.told a.err.told history conflicts b.input.told
+  RunOf history conflicts = Serial p l.length a.input a.out.told a.err.told history conflicts b.input
       b.out.told b.err.told
 
   module _ (s : RunState) (history : List Turn) (conflicts : List Conflict) (h : Handed s history conflicts) where
@@ -92,9 +93,10 @@ module _ {S : Type 0} (p : Prog S) (l : Limits) (a b : Devices) (mid was : Bool)
       machine = committed o1.core;
       run = h.kept.good.run;
       told = o1.told;
-      ended = ended_at p (begin_with p (first_world a.input.told)) l.length o1 h.kept (idle_at s history conflicts h)
+      ended = ended_at p (begin_with p (first_world a.input.told a.input.ends)) l.length o1 h.kept (idle_at s history conflicts h)
           o1.broken refl;
       input_left = sym h.tells.input;
+      ends = sym h.tells.ends;
       output = h.tells.out;
       errors = h.tells.err;
       short = h.kept.good.short;
@@ -104,17 +106,17 @@ module _ {S : Type 0} (p : Prog S) (l : Limits) (a b : Devices) (mid was : Bool)
 
     whole : o1.core.cause ≡ None → IsWhole run_of.ended
     unfolding run_of
-    whole n = whole_at p (begin_with p (first_world a.input.told)) l.length o1 h.kept (idle_at s history conflicts h)
+    whole n = whole_at p (begin_with p (first_world a.input.told a.input.ends)) l.length o1 h.kept (idle_at s history conflicts h)
         o1.broken refl n
 
     cut_by : (d : Cause) → o1.core.cause ≡ Some d → is_device d ≡ true → IsCutBy d run_of.ended
     unfolding run_of
-    cut_by d c dev = cut_at p (begin_with p (first_world a.input.told)) l.length o1 h.kept
+    cut_by d c dev = cut_at p (begin_with p (first_world a.input.told a.input.ends)) l.length o1 h.kept
         (idle_at s history conflicts h) o1.broken refl d c dev
 
     lives : (d : Cause) → o1.core.cause ≡ Some d → SomeLives p run_of.machine
     unfolding run_of
-    lives d c = lives_on p (begin_with p (first_world a.input.told)) l.length o1 h.kept (idle_at s history conflicts h)
+    lives d c = lives_on p (begin_with p (first_world a.input.told a.input.ends)) l.length o1 h.kept (idle_at s history conflicts h)
         d c
 
     rose_with : (d : Cause) → o1.core.cause ≡ Some d → CauseRose (Some d) (telling a mid was) (telling b false false)
@@ -127,7 +129,7 @@ module _ {S : Type 0} (p : Prog S) (l : Limits) (a b : Devices) (mid was : Bool)
 
   -- a cause that was kept
   module _ (full : IsFullKept reserved m.limit o1.core.cause) (words : m.limit ≡ l.words)
-      (nearly : NearlyFullAt p l a.input.told o1.core) where
+      (nearly : NearlyFullAt p l a.input.told a.input.ends o1.core) where
     caused_end : (e : Cause) (history : List Turn) (conflicts : List Conflict)
         (h : Handed (state.Faulted e) history conflicts) → EndsAt (state.Faulted e) history conflicts h (answer_to e)
     unfolding run_of

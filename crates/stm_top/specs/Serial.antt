@@ -4,6 +4,7 @@
 use Rattle.std.specs.Prelude.{◌≡◌, ◌≢◌, ℕ, ◌≤◌, List, Option, Some, slice_get, All, AllPairs}
 use Rattle.py_data.specs.declared.stop.Conflict.{Conflict}
 use Rattle.py_data.specs.World.{World, grown}
+use Rattle.stm_io.specs.Outside.{SourceState}
 use Rattle.lock_run.specs.declared.client.Life.TheVariants.{Failed}
 use Rattle.lock_run.specs.declared.turn.Turn.{Turn}
 use Rattle.lock_run.specs.RunState.{first_world}
@@ -27,17 +28,18 @@ pub data Ended {S : Type 0} (p : Prog S) (first : Machine S) (history : List Tur
 -- then what a beginning of the next step of one thread writes, a thread that has no later turn. No turn is longer than
 -- `length`.
 -- Each transaction that was aborted had lost a conflict that stood, once, and was not inevitable.
-pub record Serial {S : Type 0} (p : Prog S) (length : ℕ) (input out err : Option (List ℕ)) (history : List Turn)
-    (conflicts : List Conflict) (input1 out1 err1 : Option (List ℕ)) : Type 0 where
+pub record Serial {S : Type 0} (p : Prog S) (length : ℕ) (input : SourceState) (out err : Option (List ℕ))
+    (history : List Turn) (conflicts : List Conflict) (input1 : SourceState) (out1 err1 : Option (List ℕ)) : Type 0 where
   pub machine : Machine S
-  pub run : Runs p (begin_with p (first_world input)) history machine
+  pub run : Runs p (begin_with p (first_world input.told input.ends)) history machine
   pub told : World
-  pub ended : Ended p (begin_with p (first_world input)) history machine.world told
-  pub input_left : input1 ≡ told.input
+  pub ended : Ended p (begin_with p (first_world input.told input.ends)) history machine.world told
+  pub input_left : input1.told ≡ told.input
+  pub ends : input1.ends ≡ told.ends
   pub output : out1 ≡ grown out told.out
   pub errors : err1 ≡ grown err told.err
   pub short : All (λ (t : Turn). t.steps ≤ length) history
-  pub stood : All (Stood p (begin_with p (first_world input)) history) conflicts
+  pub stood : All (Stood p (begin_with p (first_world input.told input.ends)) history) conflicts
   pub once : AllPairs (λ (f g : Conflict). (loser f).begun ≢ (loser g).begun) conflicts
 
 -- ---- how it ended

@@ -101,8 +101,8 @@ HasReserved words reserved = (most : ℕ) × (reserved ≡ Some most) × (words 
 
 -- why a run came to its end, with the words that the report's store has reserved, and the counts of failures before the
 -- run and after it
-abbrev pub RunEnded : {S : Type 0} {p : Prog S} {length : ℕ} {input out err : Option (List ℕ)} {history : List Turn}
-    {conflicts : List Conflict} {input1 out1 err1 : Option (List ℕ)} → Limits → Option ℕ → Answer → Faults → Faults
+abbrev pub RunEnded : {S : Type 0} {p : Prog S} {length : ℕ} {input : SourceState} {out err : Option (List ℕ)}
+    {history : List Turn} {conflicts : List Conflict} {input1 : SourceState} {out1 err1 : Option (List ℕ)} → Limits → Option ℕ → Answer → Faults → Faults
     → Serial p length input out err history conflicts input1 out1 err1 → Type 0
 RunEnded {p = p} l w Done a b r = IsWhole r.ended × IsDone p r.machine × (FirstFailed p r.machine → ⊥)
 RunEnded {p = p} l w Failed a b r = IsWhole r.ended × IsDone p r.machine × FirstFailed p r.machine
@@ -111,8 +111,8 @@ RunEnded l w OutputFailed a b r = IsCutBy WriteFault r.ended × Rose a.out b.out
 RunEnded l w ErrorOutputFailed a b r = IsCutBy ErrFault r.ended × Rose a.err b.err
 RunEnded {p = p} {input = input} {history = history} l w (HeapFull reserved need limit) a b r =
     SomeLives p r.machine × (limit ≡ l.words) × (limit < reserved + need) × HasReserved reserved w
-    × IsNearlyFull p (begin_with p (first_world input)) l.length l.segments limit history r.machine.heap
-    × Once p (begin_with p (first_world input)) history r.machine (λ m. IsWanted p l.length m need)
+    × IsNearlyFull p (begin_with p (first_world input.told input.ends)) l.length l.segments limit history r.machine.heap
+    × Once p (begin_with p (first_world input.told input.ends)) history r.machine (λ m. IsWanted p l.length m need)
 RunEnded {p = p} l w Stuck a b r = IsWhole r.ended × IsStuck p r.machine
 RunEnded {p = p} {history = history} l w (BudgetSpent steps) a b r =
     IsWhole r.ended × IsSpent p l.budget history r.machine × (steps ≡ steps_done history)
@@ -152,7 +152,7 @@ module _ {P S : Type 0} (is_code : List ℕ → P → Type 0) (refused : List �
     pub taken : Taken o.script text (origin a) (record { loader = b.loader; input = source })
     pub program : P
     pub is : is_code text program
-    pub serial : Serial (rows program) o.length source.told a.out.told a.err.told t.history t.conflicts b.input.told
+    pub serial : Serial (rows program) o.length source a.out.told a.err.told t.history t.conflicts b.input
         b.out.told b.err.told
     pub store : IsLeft (limits_of o) serial.machine.heap t.store
     pub counts : NoneFell (faults_of a) (faults_of b)

@@ -17,10 +17,10 @@ use Rattle.stm_top.specs.declared.status.Status.TheVariants as status
 use Rattle.stm_top.specs.Script.{Origin}
 use Rattle.stm_top.specs.Serial.{IsWhole}
 use Rattle.stm_top.specs.TopCall.{Devices, Told, limits_of, faults_of, TextPut, Ran, Answered}
-use Rattle.top_laws.specs.Known.{Leads, start_of}
+use Rattle.top_laws.specs.Known.{Leads, ends_behind, start_of}
 use Rattle.top_laws.specs.Ends.{StandsAt, LeftBy, LeftAt}
 use Rattle.top_laws.specs.Laws.{LeadsLaw, StandsLaw, DoneLaw, StuckLaw, ReadyLaw, SameLaw, HeapLaw, LeftLaw}
-use Rattle.top_laws.proofs.Telling.{taken_text, taken_rest}
+use Rattle.top_laws.proofs.Telling.{taken_text, taken_rest, taken_ends}
 use Rattle.top_laws.proofs.Standing.{CountAt, FullAt, run_stands, run_full, run_counts, counts_on, whole_told, one_status, where_done, where_stuck, where_ready}
 use Rattle.top_laws.proofs.Causes.{some_or_none, same_some, is_some, answer_or, caused_ran}
 use Rattle.top_laws.proofs.Opening.{RanAt, no_text, no_text_failed}
@@ -30,6 +30,7 @@ use Rattle.top_laws.proofs.Opening.{RanAt, no_text, no_text_failed}
 -- the input that is left and what was written, by the world that the machine left
 record ToldBy (a b : Devices) (w : World) : Type 0 where
   input : b.input.told ≡ w.input
+  ends : b.input.ends ≡ w.ends
   out : b.out.told ≡ grown a.out.told w.out
   err : b.err.told ≡ grown a.err.told w.err
 
@@ -43,7 +44,7 @@ ToldAt a b w _ = Unit {0}
 
 left_by : {S : Type 0} (a b : Devices) (s : SinkState) (m : Machine S) (text : List ℕ) →
     ToldBy a (record b { err = s }) m.world → TextPut text s b.err → LeftBy a text b m
-left_by a b s m text h put = record { input = h.input; out = h.out; err_before = s; errors = h.err; put = put }
+left_by a b s m text h put = record { input = h.input; ends = h.ends; out = h.out; err_before = s; errors = h.err; put = put }
 
 left_silent : {S : Type 0} (a b : Devices) (s : SinkState) (m : Machine S) (text : List ℕ) →
     ToldBy a (record b { err = s }) m.world → text ≡ [] → TextPut text s b.err →
@@ -69,16 +70,18 @@ module _ {P S : Type 0} (is_code : List ℕ → P → Type 0) (refused : List �
       (m : Machine S) (l : Leads is_code rows o.script a t.history p m) : Type 0 where
     told : IsSome r.source.told
     rest : r.source.told ≡ Some l.rest
+    ends : r.source.ends ≡ ends_behind o.script a
     program : r.program ≡ p
     machine : r.serial.machine ≡ m
 
-  same_machine : (q p : P) (i : Option (List ℕ)) (rest : List ℕ) (ts : List Turn) (m m1 : Machine S) → q ≡ p →
-      i ≡ Some rest → Runs (rows q) (begin_with (rows q) (first_world i)) ts m1 →
-      Runs (rows p) (begin_with (rows p) (first_world (Some rest))) ts m → m1 ≡ m
-  same_machine q p i rest ts m m1 e f r s =
-      let k = subst (λ (x : P). Runs (rows x) (begin_with (rows x) (first_world i)) ts m1) e r in
-      let l = subst (λ (x : Option (List ℕ)). Runs (rows p) (begin_with (rows p) (first_world x)) ts m1) f k in
-      runs_along (rows p) ts (begin_with (rows p) (first_world (Some rest))) m m1 refl s l
+  same_machine : (q p : P) (i : Option (List ℕ)) (rest : List ℕ) (n k : ℕ) (ts : List Turn) (m m1 : Machine S) →
+      q ≡ p → i ≡ Some rest → n ≡ k → Runs (rows q) (begin_with (rows q) (first_world i n)) ts m1 →
+      Runs (rows p) (begin_with (rows p) (first_world (Some rest) k)) ts m → m1 ≡ m
+  same_machine q p i rest n k ts m m1 e f g r s =
+      let own = subst (λ (x : P). Runs (rows x) (begin_with (rows x) (first_world i n)) ts m1) e r in
+      let told = subst (λ (x : Option (List ℕ)). Runs (rows p) (begin_with (rows p) (first_world x n)) ts m1) f own in
+      let all = subst (λ (x : ℕ). Runs (rows p) (begin_with (rows p) (first_world (Some rest) x)) ts m1) g told in
+      runs_along (rows p) ts (begin_with (rows p) (first_world (Some rest) k)) m m1 refl s all
 
   led : (o : Options) (a : Devices) (t : Told) (b : Devices) (r : Ran is_code refused rows o a t b) (p : P)
       (m : Machine S) → (l : Leads is_code rows o.script a t.history p m) → Led o a t b r p m l
@@ -90,9 +93,10 @@ module _ {P S : Type 0} (is_code : List ℕ → P → Type 0) (refused : List �
       record {
         told = is_some r.source.told l.rest rest;
         rest = rest;
+        ends = taken_ends o.script r.text a y r.taken;
         program = program;
-        machine = same_machine r.program p r.source.told l.rest t.history m r.serial.machine program rest r.serial.run
-            l.run;
+        machine = same_machine r.program p r.source.told l.rest r.source.ends (ends_behind o.script a) t.history m
+            r.serial.machine program rest (taken_ends o.script r.text a y r.taken) r.serial.run l.run;
       }
 
   -- ---- what the run says of it
@@ -110,9 +114,9 @@ module _ {P S : Type 0} (is_code : List ℕ → P → Type 0) (refused : List �
       IsWhole r.serial.ended → ToldBy a b r.serial.machine.world
   serial_told o a t b r whole =
       let s = r.serial in
-      let k = whole_told (rows r.program) (begin_with (rows r.program) (first_world r.source.told)) t.history
+      let k = whole_told (rows r.program) (begin_with (rows r.program) (first_world r.source.told r.source.ends)) t.history
       s.machine.world s.told s.ended whole in
-      let own : ToldBy a b s.told = record { input = s.input_left; out = s.output; err = s.errors } in
+      let own : ToldBy a b s.told = record { input = s.input_left; ends = s.ends; out = s.output; err = s.errors } in
       subst (λ (w : World). ToldBy a b w) k own
 
   ran_told : (x : Status) (o : Options) (a : Devices) (t : Told) (b : Devices) →
@@ -129,8 +133,8 @@ module _ {P S : Type 0} (is_code : List ℕ → P → Type 0) (refused : List �
   ran_stood x o a t b p m h l =
       let r = h.0 in
       let k = led o a t b r p m l in
-      let own = run_stands (rows r.program) o.length r.source.told a.out.told a.err.told t.history t.conflicts
-      b.input.told b.out.told b.err.told (limits_of o) (faults_of a) (faults_of b) r.serial x k.told
+      let own = run_stands (rows r.program) o.length r.source a.out.told a.err.told t.history t.conflicts
+      b.input b.out.told b.err.told (limits_of o) (faults_of a) (faults_of b) r.serial x k.told
       h.1 in
       record {
         stands = subst (λ (y : Machine S). StandsAt (rows p) o.budget t.history y x) k.machine
@@ -138,15 +142,17 @@ module _ {P S : Type 0} (is_code : List ℕ → P → Type 0) (refused : List �
             own);
         full =
             let all = limits_of o in
-            let own = run_full (rows r.program) o.length r.source.told a.out.told a.err.told t.history t.conflicts
-            b.input.told b.out.told b.err.told all (faults_of a) (faults_of b) r.serial x h.1 in
+            let own = run_full (rows r.program) o.length r.source a.out.told a.err.told t.history t.conflicts
+            b.input b.out.told b.err.told all (faults_of a) (faults_of b) r.serial x h.1 in
             subst (λ (y : Machine S). FullAt (rows p) all (start_of l) t.history y x) k.machine
-            (subst (λ (i : Option (List ℕ)). FullAt (rows p) all (begin_with (rows p) (first_world i)) t.history
-            r.serial.machine x) k.rest
-            (subst (λ (q : P). FullAt (rows q) all (begin_with (rows q) (first_world r.source.told)) t.history
-            r.serial.machine x) k.program own));
-        counts = run_counts (rows r.program) o.length r.source.told a.out.told a.err.told t.history t.conflicts
-            b.input.told b.out.told b.err.told (limits_of o) a b r.serial x h.1;
+            (subst (λ (n : ℕ). FullAt (rows p) all (begin_with (rows p) (first_world (Some l.rest) n)) t.history
+            r.serial.machine x) k.ends
+            (subst (λ (i : Option (List ℕ)). FullAt (rows p) all (begin_with (rows p) (first_world i r.source.ends))
+            t.history r.serial.machine x) k.rest
+            (subst (λ (q : P). FullAt (rows q) all (begin_with (rows q) (first_world r.source.told r.source.ends)) t.history
+            r.serial.machine x) k.program own)));
+        counts = run_counts (rows r.program) o.length r.source a.out.told a.err.told t.history t.conflicts
+            b.input b.out.told b.err.told (limits_of o) a b r.serial x h.1;
         heap = λ store e. ap (λ (x : Meaning). x.image)
             (same_some t.store store r.store.meaning e r.store.is) ∙ r.store.image ∙
             ap (λ (x : Machine S). x.heap) k.machine;
@@ -231,7 +237,10 @@ module _ {P S : Type 0} (is_code : List ℕ → P → Type 0) (refused : List �
           is = subst (λ (x : List ℕ). is_code x r.program) same r.is;
           rest = rest;
           input = input;
-          run = subst (λ (i : Option (List ℕ)). Runs (rows r.program) (begin_with (rows r.program) (first_world i))
-              t.history r.serial.machine) behind r.serial.run;
+          run = subst (λ (n : ℕ). Runs (rows r.program) (begin_with (rows r.program) (first_world (Some rest) n))
+              t.history r.serial.machine) (taken_ends o.script r.text a y r.taken)
+              (subst (λ (i : Option (List ℕ)). Runs (rows r.program)
+              (begin_with (rows r.program) (first_world i r.source.ends)) t.history r.serial.machine) behind
+              r.serial.run);
         },
       )

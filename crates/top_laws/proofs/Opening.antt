@@ -3,7 +3,7 @@
 use Rattle.std.proofs.Common.{◌≡◌, ◌⊎◌, inl, inr, ℕ, List, [], false, Option, Some, None, refl, ap, subst, arith, rules}
 use Rattle.py_base.specs.declared.refusal.Refusal.{Refusal}
 use Rattle.py_data.specs.declared.stop.Conflict.{Conflict}
-use Rattle.stm_io.specs.Outside.{Rose}
+use Rattle.stm_io.specs.Outside.{SourceState, Rose}
 use Rattle.lock_run.specs.declared.turn.Turn.{Turn}
 use Rattle.lock_run.specs.Prog.{Prog}
 use Rattle.lock_run.specs.Machine.{begin_with}
@@ -32,8 +32,8 @@ fact (Holds x) = x
 -- ---- the end of a run
 
 -- at each status
-abbrev pub EndedAt : {S : Type 0} {p : Prog S} {length : ℕ} {input out err : Option (List ℕ)} {history : List Turn}
-    {conflicts : List Conflict} {input1 out1 err1 : Option (List ℕ)} → Status → Limits → Faults → Faults →
+abbrev pub EndedAt : {S : Type 0} {p : Prog S} {length : ℕ} {input : SourceState} {out err : Option (List ℕ)} {history : List Turn}
+    {conflicts : List Conflict} {input1 : SourceState} {out1 err1 : Option (List ℕ)} → Status → Limits → Faults → Faults →
     Serial p length input out err history conflicts input1 out1 err1 → Type 0
 EndedAt {p = p} Done l a b r = IsWhole r.ended × IsDone p r.machine × (FirstFailed p r.machine → ⊥)
 EndedAt {p = p} Failed l a b r = IsWhole r.ended × IsDone p r.machine × FirstFailed p r.machine
@@ -41,7 +41,7 @@ EndedAt InputFailed l a b r = IsCutBy ReadFault r.ended × Rose a.input b.input
 EndedAt OutputFailed l a b r = IsCutBy WriteFault r.ended × Rose a.out b.out
 EndedAt ErrorOutputFailed l a b r = IsCutBy ErrFault r.ended × Rose a.err b.err
 EndedAt {p = p} {input = input} {history = history} HeapFull l a b r = SomeLives p r.machine × IsNearlyFull p
-    (begin_with p (first_world input)) l.length l.segments l.words history r.machine.heap
+    (begin_with p (first_world input.told input.ends)) l.length l.segments l.words history r.machine.heap
 EndedAt {p = p} Stuck l a b r = IsWhole r.ended × IsStuck p r.machine
 EndedAt {p = p} {history = history} BudgetSpent l a b r = IsWhole r.ended × IsSpent p l.budget history r.machine
 EndedAt {p = p} OutOfMemory l a b r = SomeLives p r.machine
@@ -85,7 +85,7 @@ module _ {P S : Type 0} (is_code : List ℕ → P → Type 0) (refused : List �
 
     full : (o : Options) (r : Ran is_code refused rows o a t b) (limit : ℕ) → options_of words ≡ Some o →
         SomeLives (rows r.program) r.serial.machine → limit ≡ (limits_of o).words →
-        IsNearlyFull (rows r.program) (begin_with (rows r.program) (first_world r.source.told)) o.length o.segments
+        IsNearlyFull (rows r.program) (begin_with (rows r.program) (first_world r.source.told r.source.ends)) o.length o.segments
         limit t.history r.serial.machine.heap → Fact (CausedIn HeapFull words text a t b)
     full o r limit e lives is nearly = Holds (
       o,
@@ -94,7 +94,7 @@ module _ {P S : Type 0} (is_code : List ℕ → P → Type 0) (refused : List �
         r,
         (
           lives,
-          subst (λ n. IsNearlyFull (rows r.program) (begin_with (rows r.program) (first_world r.source.told)) o.length
+          subst (λ n. IsNearlyFull (rows r.program) (begin_with (rows r.program) (first_world r.source.told r.source.ends)) o.length
               o.segments n t.history r.serial.machine.heap) is nearly,
         ),
       ),

@@ -8,7 +8,7 @@ use Rattle.stm_words.specs.declared.call.Script.{Script}
 use Rattle.stm_words.specs.declared.call.Script.TheVariants.{Source, File, Demo}
 use Rattle.stm_top.specs.Script.{TakenFrom, ScriptTaken, Origin, Taken, TooLong, NotLoaded, NotTaken}
 use Rattle.stm_top.specs.TopCall.{Devices, origin}
-use Rattle.top_laws.specs.Known.{IsScriptOf, IsInputOf, IsShort, IsLong}
+use Rattle.top_laws.specs.Known.{IsScriptOf, IsInputOf, IsShort, IsLong, ends_behind}
 
 -- ---- a front of a file
 
@@ -62,6 +62,13 @@ pub taken_rest : (s : Script) (script text rest : List ℕ) (a : Devices) (y : O
 taken_rest Source script text rest a y e i h = (source_text script text a.input y.input e h.0).1 ∙ ap Some (sym i)
 taken_rest (File name) script text rest a y e i h = ap (λ (x : SourceState). x.told) h.2 ∙ i
 taken_rest (Demo n) script text rest a y e i h = ap (λ (x : SourceState). x.told) h.2 ∙ i
+
+-- and so often it had come to its end
+pub taken_ends : (s : Script) (text : List ℕ) (a : Devices) (y : Origin) → Taken s text (origin a) y →
+    y.input.ends ≡ ends_behind s a
+taken_ends Source text a y h = h.0.ends
+taken_ends (File name) text a y h = ap (λ (x : SourceState). x.ends) h.2
+taken_ends (Demo n) text a y h = ap (λ (x : SourceState). x.ends) h.2
 
 -- a script that is too long isn't taken
 pub long_taken : (s : Script) (script text : List ℕ) (a : Devices) (y : Origin) → IsScriptOf s script a →

@@ -1,6 +1,7 @@
 -- What is known of a call from outside, before it and by its report: the script that the words name, the machine to
 -- which the history leads, and that no device failed. States `docs/LANGUAGE.md`, "The top call".
 use Rattle.std.specs.Prelude.{◌≡◌, ℕ, ◌+◌, ◌*◌, ◌≤◌, List, [], length, Some}
+use Rattle.py_data.specs.World.{counted}
 use Rattle.stm_io.specs.Outside.{Rose}
 use Rattle.lock_run.specs.declared.turn.Turn.{Turn}
 use Rattle.lock_run.specs.Prog.{Prog}
@@ -24,6 +25,11 @@ abbrev pub IsInputOf : Script → List ℕ → Devices → Type 0
 IsInputOf Source input a = input ≡ []
 IsInputOf _ input a = a.input.told ≡ Some input
 
+-- how often the source had come to its end once the script was taken: a script of the source ends there
+abbrev pub ends_behind : Script → Devices → ℕ
+ends_behind Source a = counted a.input.ends
+ends_behind _ a = a.input.ends
+
 -- no longer than a script may be, as each workload is
 abbrev pub IsShort : Script → List ℕ → Type 0
 IsShort (Demo n) text = Unit {0}
@@ -43,13 +49,14 @@ pub record Leads {P S : Type 0} (is_code : List ℕ → P → Type 0) (rows : P 
   pub is : is_code text program
   pub rest : List ℕ
   pub input : IsInputOf script rest a
-  pub run : Runs (rows program) (begin_with (rows program) (first_world (Some rest))) history machine
+  pub run : Runs (rows program) (begin_with (rows program) (first_world (Some rest) (ends_behind script a))) history machine
 
 -- the machine with which its threads begin, over that input
 abbrev pub start_of : {P S : Type 0} {is_code : List ℕ → P → Type 0} {rows : P → Prog S} {script : Script} {a : Devices}
     {history : List Turn} {program : P} {machine : Machine S} → Leads is_code rows script a history program machine →
     Machine S
-start_of {rows = rows} {program = program} l = begin_with (rows program) (first_world (Some l.rest))
+start_of {rows = rows} {script = script} {a = a} {program = program} l = begin_with (rows program)
+    (first_world (Some l.rest) (ends_behind script a))
 
 -- The heap has room for all that the history asked for, whatever the order in which workers came to it: a number bounds
 -- each growth of the history, and the words are at least the first two, those of the history, and 21 times that number

@@ -20,7 +20,7 @@ returns-clause-ended g c = λ i o e has first stands explained.
     let lead = c.run_workers-core.ensures.grows.leads first stands in
     let f = c.finish-state.ensures.finished lead.0 lead.1 in
     let nearly : NearlyFullAt (g.C.Client.prog (core_client y)) (core_limits g.S.SegStore.meaning y)
-    (g.I.Source.state made.input).told f.0.core
+    (g.I.Source.state made.input).told (g.I.Source.state made.input).ends f.0.core
     = full_heap c.full_law.ensures.bound c.piece_law.ensures.end (g.C.Client.prog (core_client y))
     (core_limits g.S.SegStore.meaning y) (first_devices g.I.Source.state g.O.Sink.state g.E.Sink.state y) _ r.state
     r.failed r.history.entries r.conflicts.entries (g.S.SegStore.meaning r.store).image lead.0 f.0 f.1
