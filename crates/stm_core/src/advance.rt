@@ -15,7 +15,7 @@ impl<'p, C: Client, S: SegStore, I: Source, O: Sink, E: Sink> Core<'p, C, S, I, 
     ghost use Rattle.seg_store.specs.Store.{IsStore};
     ghost use Rattle.stm_core.specs.CoreState.{IsShort, Running};
     ghost use Rattle.stm_core.specs.Outside.{Outer};
-    ghost use Rattle.stm_core.specs.Devices.{DeviceState, Shown, device_state};
+    ghost use Rattle.stm_core.specs.Devices.{DeviceState, Shown, StopRose, device_state};
     ghost use Rattle.stm_core.specs.Books.{Fit, Worlds, transaction};
     ghost use Rattle.stm_core.specs.inner.Whole.{Whole, SameShape};
     ghost use Rattle.stm_core.specs.inner.Trying.{SaneShown, core_with};
@@ -24,10 +24,10 @@ impl<'p, C: Client, S: SegStore, I: Source, O: Sink, E: Sink> Core<'p, C, S, I, 
     ghost use Rattle.stm_core.specs.Begun.{CountsSteps};
     ghost use Rattle.stm_core.specs.Events.{may_make};
     ghost use Rattle.stm_core.specs.declared.events.Event.{Event};
-    ghost use Rattle.stm_core.specs.CoreHeld.{core_client, core_limits, core_store, Says, Leads, IsGoodCore, SameJob};
+    ghost use Rattle.stm_core.specs.CoreHeld.{core_client, core_devices, core_limits, core_store, Says, Leads, IsGoodCore, SameJob};
     ghost use Rattle.stm_core.specs.inner.Pauses.{tried_by, PauseCount};
     ghost use Rattle.stm_core.specs.inner.Pausing.{PauseWhy, PauseRose};
-    ghost use Rattle.stm_core.specs.Advanced.{CountsDone, tried_after, Ends, StepsTaken, AdvancedFrom, Advanced};
+    ghost use Rattle.stm_core.specs.Advanced.{CountsDone, tried_after, Ends, StepsTaken, AdvancedFrom, Advanced, FaultRose, HasCounted};
     ghost use Rattle.stm_core.specs.inner.Settled.{IsOut, IsTakenOut, SettledTo, KeepsOrRose, Rises};
 
     /// What comes of a transaction of segment k, which was taken out of its hand, once its next step was cut.
@@ -52,6 +52,7 @@ impl<'p, C: Client, S: SegStore, I: Source, O: Sink, E: Sink> Core<'p, C, S, I, 
         ensures counted { (most : ℕ) → done < most → CountsDone most done result }
         ensures tried { tried_after result ≡ 1 }
         ensures rose { (d d1 : DeviceState) → PauseRose (Pause.Stopped stop) d d1 → KeepsOrRose self.old.books.cause self.new.books.cause d d1 }
+        ensures fault { (d d1 : DeviceState) → StopRose stop d d1 → FaultRose result d d1 }
         ensures settled { (t e : Option (List ℕ)) (w : Worlds) (o : Outer C.State) → IsOut (C.prog self.old.client.now) t e (device_state I.state O.state E.state self.old.devices) w k (Pause.Stopped stop) (S.meaning self.old.store) (S.reserved self.old.store) self.old.books work o
             → SettledTo t e (device_state I.state O.state E.state self.new.devices) (S.meaning self.new.store) self.new.books
             (Ends (C.prog self.old.client.now) k (S.meaning self.old.store).segments (S.reserved self.new.store) (S.meaning self.new.store).limit o (transaction w.own ((S.meaning self.old.store).part k) work) result) }
@@ -108,6 +109,7 @@ impl<'p, C: Client, S: SegStore, I: Source, O: Sink, E: Sink> Core<'p, C, S, I, 
         ensures counted { (most : ℕ) → PauseCount most done pause → CountsDone most done result }
         ensures tried { tried_after result ≡ tried_by pause }
         ensures rose { (d d1 : DeviceState) → PauseRose pause d d1 → KeepsOrRose self.old.books.cause self.new.books.cause d d1 }
+        ensures fault { (d d1 : DeviceState) → PauseRose pause d d1 → FaultRose result d d1 }
         ensures settled { (t e : Option (List ℕ)) (w : Worlds) (o : Outer C.State) → IsOut (C.prog self.old.client.now) t e (device_state I.state O.state E.state self.old.devices) w k pause (S.meaning self.old.store) (S.reserved self.old.store) self.old.books work o
             → SettledTo t e (device_state I.state O.state E.state self.new.devices) (S.meaning self.new.store) self.new.books
             (Ends (C.prog self.old.client.now) k (S.meaning self.old.store).segments (S.reserved self.new.store) (S.meaning self.new.store).limit o (transaction w.own ((S.meaning self.old.store).part k) work) result) }
@@ -153,6 +155,7 @@ impl<'p, C: Client, S: SegStore, I: Source, O: Sink, E: Sink> Core<'p, C, S, I, 
         ensures whole { Whole (S.meaning self.new.store) self.new.books }
         ensures count { CountsSteps self.new.spent self.new.books.history.entries }
         ensures rises { Rises self.old.books.cause self.new.books.cause (device_state I.state O.state E.state self.old.devices) (device_state I.state O.state E.state self.new.devices) }
+        ensures fault { FaultRose result (device_state I.state O.state E.state self.old.devices) (device_state I.state O.state E.state self.new.devices) }
         ensures taken { (t e : Option (List ℕ)) (w : Worlds) (o : Outer C.State) → IsTakenOut t e (device_state I.state O.state E.state self.old.devices) w k (S.meaning self.old.store) self.old.books work o
             → SettledTo t e (device_state I.state O.state E.state self.new.devices) (S.meaning self.new.store) self.new.books
             (StepsTaken (C.prog self.old.client.now) length k (S.meaning self.old.store).segments most (S.reserved self.new.store) (S.meaning self.new.store).limit o result) }
@@ -184,6 +187,7 @@ impl<'p, C: Client, S: SegStore, I: Source, O: Sink, E: Sink> Core<'p, C, S, I, 
         ensures whole { Whole (S.meaning self.new.store) self.new.books }
         ensures count { CountsSteps self.new.spent self.new.books.history.entries }
         ensures rises { Rises self.old.books.cause self.new.books.cause (device_state I.state O.state E.state self.old.devices) (device_state I.state O.state E.state self.new.devices) }
+        ensures fault { FaultRose result (device_state I.state O.state E.state self.old.devices) (device_state I.state O.state E.state self.new.devices) }
         ensures advanced { (t e : Option (List ℕ)) (w : Worlds) (o : Outer C.State) → IsTakenOut t e (device_state I.state O.state E.state self.old.devices) w k (S.meaning self.old.store) self.old.books work o
             → SettledTo t e (device_state I.state O.state E.state self.new.devices) (S.meaning self.new.store) self.new.books
             (AdvancedFrom (Running (transaction w.own ((S.meaning self.old.store).part k) work)) (C.prog self.old.client.now) length k (S.meaning self.old.store).segments most (S.reserved self.new.store) (S.meaning self.new.store).limit o result) }
@@ -207,6 +211,7 @@ impl<'p, C: Client, S: SegStore, I: Source, O: Sink, E: Sink> Core<'p, C, S, I, 
         ensures job { SameJob S.meaning self.old self.new }
         ensures advanced { Leads I.state O.state E.state C.prog S.meaning self.old self.new
             (λ o o1. Advanced (C.prog (core_client self.old)) (core_limits S.meaning self.old).length k (core_limits S.meaning self.old).segments most (S.reserved self.new.store) (core_limits S.meaning self.old).words o result o1) }
+        ensures counted { HasCounted result (core_devices I.state O.state E.state self.old) (core_devices I.state O.state E.state self.new) }
         ensures peaks { Says I.state O.state E.state C.prog S.meaning self.old
             (λ o. IfTold (S.peaks (core_store self.old)) (S.peaks (core_store self.new)) (RisesWithin (C.prog (core_client self.old)) (core_limits S.meaning self.old).length ((core_limits S.meaning self.old).words / 2) (core_limits S.meaning self.old).segments k o.core)) }
     {

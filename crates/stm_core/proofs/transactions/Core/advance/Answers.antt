@@ -1,4 +1,4 @@
-use Rattle.std.proofs.Common.{◌≡◌, ◌/◌, refl, sym, ap, subst, Err, arith}
+use Rattle.std.proofs.Common.{◌≡◌, ◌/◌, tt, refl, sym, ap, subst, Err, arith}
 use Rattle.std.proofs.lemmas.Option.{slice_get_within}
 use Rattle.stm_core.specs.declared.answers.AdvanceError.TheVariants.{Lost}
 use Rattle.stm_core.specs.declared.books.Hand.TheVariants.{Idle, Doomed, Runs}
@@ -12,7 +12,7 @@ use Rattle.stm_core.proofs.Wholes.{set_here, taken}
 use Rattle.stm_core.proofs.Publishing.{emptied}
 use Rattle.stm_core.proofs.Calling.{Kept, good_again, same_again, leads_again, sane_led, Quiet, quiet_good, quiet_job, quiet_leads, full_same, rose_same, le_same, going_now}
 use Rattle.stm_core.proofs.PeaksRising.{within_same, told_out}
-use Rattle.stm_core.proofs.TakenSteps.{counts_on, rose_on, sane_out, running_led, doomed_led, full_led}
+use Rattle.stm_core.proofs.TakenSteps.{counts_same, counts_on, rose_on, sane_out, running_led, doomed_led, full_led}
 use Rattle.stm_core.proofs.transactions.Core.advance.Goals as goal
 
 pub take-requires : goal.take-requires
@@ -86,6 +86,7 @@ returns-in-Doomed g c =
           g.S.SegStore.reserved g.S.SegStore.meaning x y _ q c.requires.good;
       advanced = quiet_leads g.I.Source.state g.O.Sink.state g.E.Sink.state g.C.Client.prog g.C.Client.sound
           g.S.SegStore.reserved g.S.SegStore.meaning x y _ q c.requires.good;
+      counted = record { counts = counts_same (core_devices g.I.Source.state g.O.Sink.state g.E.Sink.state x); rose = tt };
       peaks = λ o s. within_same p x.length (m.limit / 2) m.segments c.args.k o.core _ _ refl;
     }
 
@@ -134,6 +135,7 @@ returns-in-Runs g c =
           g.S.SegStore.reserved g.S.SegStore.meaning x y kept;
       advanced = leads_again g.I.Source.state g.O.Sink.state g.E.Sink.state g.C.Client.prog g.C.Client.sound
           g.S.SegStore.reserved g.S.SegStore.meaning x y _ kept led;
+      counted = record { counts = rises.counts; rose = e.fault };
       peaks = told_out p x.length c.args.k first d m x.books c.take.new.self c.in-Runs.work c.in-Runs.ensures.hand
           (record { rest = c.take.ensures.rest; hands = c.take.ensures.hands }) _ _ e.peaks;
     }

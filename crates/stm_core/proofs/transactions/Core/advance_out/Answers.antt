@@ -1,4 +1,4 @@
-use Rattle.std.proofs.Common.{◌≡◌, ◌/◌, inl, sym, ◌∙◌, ap, subst, arith}
+use Rattle.std.proofs.Common.{◌≡◌, ◌/◌, tt, inl, sym, ◌∙◌, ap, subst, arith}
 use Rattle.stm_core.specs.Begun.{CountsSteps}
 use Rattle.stm_core.specs.Devices.{device_state}
 use Rattle.stm_core.specs.inner.Trying.{core_with}
@@ -42,6 +42,7 @@ returns-in_default g c =
       count = ap (λ s. s.spent) rest ∙ subst (λ l. CountsSteps x.spent l)
           (sym (ap (λ k. k.history) (c.put_back.ensures.core blank))) c.requires.count;
       rises = subst (Rises x.books.cause y.books.cause d) (sym same) rises;
+      fault = tt;
       advanced = λ t e w o at. ended_out (g.C.Client.prog x.client.now) c.args.length c.args.k t e d w
           (g.S.SegStore.meaning x.store) x.books y.books c.args.work o at
           (λ h. c.in_default.not-Lives (c.life.ensures ∙ h)) (g.S.SegStore.meaning x.store).segments c.args.most

@@ -1,7 +1,8 @@
-use Rattle.std.proofs.Common.{sym, ap, subst, ◌∙◌, inl}
+use Rattle.std.proofs.Common.{sym, ap, subst, ◌∙◌, inl, tt}
 use Rattle.stm_core.specs.Begun.{CountsSteps}
 use Rattle.stm_core.specs.Devices.{device_state}
 use Rattle.stm_core.specs.inner.Pauses.{PauseCount}
+use Rattle.stm_core.specs.inner.Pausing.{PauseRose}
 use Rattle.stm_core.proofs.Endings.{ran_ends, waits_ends, ended_ends}
 use Rattle.stm_core.proofs.Calling.{blank}
 use Rattle.stm_core.proofs.transactions.Core.settle.Goals as goal
@@ -69,3 +70,16 @@ returns-in-Ended-clause-rose g c = λ d d1 h. inl (ap (λ k. k.cause) (c.put_bac
 pub returns-in-Stopped-clause-counted : goal.returns-in-Stopped-clause-counted
 returns-in-Stopped-clause-counted g c = λ most h.
     c.settle_stop.ensures.counted most (subst (PauseCount most c.args.done) c.in-Stopped.is h)
+
+pub returns-in-Whole-clause-fault : goal.returns-in-Whole-clause-fault
+returns-in-Whole-clause-fault g c = λ d d1 h. tt
+
+pub returns-in-Waits-clause-fault : goal.returns-in-Waits-clause-fault
+returns-in-Waits-clause-fault g c = λ d d1 h. tt
+
+pub returns-in-Ended-clause-fault : goal.returns-in-Ended-clause-fault
+returns-in-Ended-clause-fault g c = λ d d1 h. tt
+
+pub returns-in-Stopped-clause-fault : goal.returns-in-Stopped-clause-fault
+returns-in-Stopped-clause-fault g c = λ d d1 h.
+    c.settle_stop.ensures.fault d d1 (subst (λ p. PauseRose p d d1) c.in-Stopped.is h)

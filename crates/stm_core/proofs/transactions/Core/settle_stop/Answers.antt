@@ -1,5 +1,6 @@
-use Rattle.std.proofs.Common.{sym, ap, subst, ◌∙◌, inl}
-use Rattle.stm_core.specs.Devices.{device_state}
+use Rattle.std.proofs.Common.{sym, ap, subst, ◌∙◌, inl, tt, Err}
+use Rattle.stm_core.specs.Devices.{device_state, StopRose}
+use Rattle.stm_core.specs.Advanced.{FaultRose}
 use Rattle.stm_core.specs.Begun.{CountsSteps}
 use Rattle.stm_core.proofs.Endings.{solo_ends, lost_ends, full_ends, memory_ends, read_ends, write_ends, err_ends}
 use Rattle.stm_core.proofs.Calling.{blank}
@@ -111,3 +112,29 @@ returns-in-ErrFault-clause-settled g c = λ t e w o out.
     (λ q. let h = c.fail_out-in-ErrFault.ensures.mortal q in record { broken = h.0; core = h.1 })
     (λ q. let h = c.fail_out-in-ErrFault.ensures.solo q in record { broken = h.0; core = h.1 })
     c.fail_out-in-ErrFault.result c.fail_out-in-ErrFault.ensures.same
+
+pub returns-in-Full-clause-fault : goal.returns-in-Full-clause-fault
+returns-in-Full-clause-fault g c = λ d d1 h.
+    subst (λ e. FaultRose (Err e) d d1) (sym c.fail_out.ensures.same) tt
+
+pub returns-in-OutOfMemory-clause-fault : goal.returns-in-OutOfMemory-clause-fault
+returns-in-OutOfMemory-clause-fault g c = λ d d1 h.
+    subst (λ e. FaultRose (Err e) d d1) (sym c.fail_out-in-OutOfMemory.ensures.same) tt
+
+pub returns-in-ReadFault-clause-fault : goal.returns-in-ReadFault-clause-fault
+returns-in-ReadFault-clause-fault g c = λ d d1 h.
+    subst (λ e. FaultRose (Err e) d d1) (sym c.fail_out-in-ReadFault.ensures.same) (subst (λ s. StopRose s d d1) c.in-ReadFault.is h)
+
+pub returns-in-WriteFault-clause-fault : goal.returns-in-WriteFault-clause-fault
+returns-in-WriteFault-clause-fault g c = λ d d1 h.
+    subst (λ e. FaultRose (Err e) d d1) (sym c.fail_out-in-WriteFault.ensures.same) (subst (λ s. StopRose s d d1) c.in-WriteFault.is h)
+
+pub returns-in-ErrFault-clause-fault : goal.returns-in-ErrFault-clause-fault
+returns-in-ErrFault-clause-fault g c = λ d d1 h.
+    subst (λ e. FaultRose (Err e) d d1) (sym c.fail_out-in-ErrFault.ensures.same) (subst (λ s. StopRose s d d1) c.in-ErrFault.is h)
+
+pub returns-in-NeedSolo-clause-fault : goal.returns-in-NeedSolo-clause-fault
+returns-in-NeedSolo-clause-fault g c = λ d d1 h. tt
+
+pub returns-in-Lost-clause-fault : goal.returns-in-Lost-clause-fault
+returns-in-Lost-clause-fault g c = λ d d1 h. tt

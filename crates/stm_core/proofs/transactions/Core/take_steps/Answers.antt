@@ -1,4 +1,5 @@
 use Rattle.std.proofs.Common.{refl, sym, ◌∙◌, ap, subst}
+use Rattle.stm_core.specs.Advanced.{FaultRose}
 use Rattle.stm_core.specs.Books.{with_own}
 use Rattle.stm_core.specs.Begun.{CountsSteps}
 use Rattle.stm_core.specs.Devices.{device_state}
@@ -92,3 +93,11 @@ returns-clause-peaks g c = λ t e w shown.
     subst (λ z. IfTold (g.S.SegStore.peaks x.store) z
     (RisesOut (g.C.Client.prog x.client.now) c.args.length c.args.k m (core_with w c.args.k m x.books c.args.work)))
     (sym c.settle.ensures.peaks) (c.run_out-done.ensures.peaks t e w shown)
+
+pub returns-clause-fault : goal.returns-clause-fault
+returns-clause-fault g c =
+    let d = device_state g.I.Source.state g.O.Sink.state g.E.Sink.state c.args.self.now.devices in
+    let d1 = device_state g.I.Source.state g.O.Sink.state g.E.Sink.state c.run_out-done.new.self.devices in
+    subst (FaultRose c.settle.result d)
+    (sym (λ i. device_state g.I.Source.state g.O.Sink.state g.E.Sink.state (c.settle.ensures.rest i).devices))
+    (c.settle.ensures.fault d d1 c.run_out-done.ensures.devices.rose)
