@@ -202,3 +202,66 @@ fn each_device_of_a_script_that_asks_fails(rt: HostRuntime) -> Tested {
     }
     Ok(())
 }
+
+/// A script that asks until there is no more line, and then once more.
+const ASKS_ON: &str = "n = 0;try:;  while 1:;    raw_input();    n += 1;except EOFError:;  print n;raw_input();";
+
+/// What it answers from the source or as a file, over a source that has these bytes, with the ends that the source has counted.
+fn asked_on<Rt: Abort + Threads + Wait + Sync>(
+    rt: &Rt,
+    alloc: Global,
+    word: &str,
+    source: &str,
+    plan: Plan,
+) -> Result<String, NoMemory> {
+    let words = words_in(alloc, word)?;
+    let input = lines_of(alloc, source)?;
+    let file = lines_of(alloc, ASKS_ON)?;
+    let left = report_with(
+        rt,
+        alloc,
+        words.as_slice(),
+        input.as_slice(),
+        file.as_slice(),
+        plan,
+    )?;
+    let shown = told(alloc, &left)?;
+    format!(in alloc; "{shown}~{}", left.input.ends())
+}
+
+/// The source counts an end for each empty line that the run took, and one more where the script was the source's.
+#[test]
+fn a_run_counts_the_ends_of_its_input(rt: HostRuntime) -> Tested {
+    let none = NO_FAILURE;
+    let rows = [
+        (
+            "-",
+            ASKS_ON,
+            none,
+            "1~0;~thread 0, line 8: EOFError: EOF when reading a line;~3",
+        ),
+        (
+            "FILE",
+            "a;b;",
+            none,
+            "1~2;~thread 0, line 8: EOFError: EOF when reading a line;~2",
+        ),
+        (
+            "FILE",
+            "a;b;",
+            Plan { takes: 3, ..none },
+            "5~~pystm: cannot read the input;~0",
+        ),
+        (
+            "FILE",
+            "a;b;",
+            Plan { takes: 4, ..none },
+            "5~2;~pystm: cannot read the input;~1",
+        ),
+    ];
+    for (word, source, plan, wanted) in rows {
+        let shown = asked_on(&rt, rt.alloc(), word, source, plan)?;
+        assert_eq!(rt; shown.as_str(), wanted, "{word}");
+    }
+    Ok(())
+}
