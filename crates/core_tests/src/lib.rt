@@ -1,5 +1,5 @@
-//! The one-lock machine and the transactional core, tried by scripts. It has tests alone, so the crates that it tries are
-//! proved once and wait for no test.
+//! The one-lock machine and the transactional core, tried by scripts. It has tests alone, so the crates that it tries
+//! are proved once and wait for no test.
 #![tactic(auto)]
 
 #[cfg(test)]

@@ -82,8 +82,8 @@ fn stands(rt: &impl Abort, run: &MemRun<'_>, t: u32) -> (Life, bool)
     (run.life(t), run.ready(t))
 }
 
-/// The names that the step of thread 0 gave: those of two Cells and the List. Afterwards thread 0 has ended, and two more
-/// are ready.
+/// The names that the step of thread 0 gave: those of two Cells and the List. Afterwards thread 0 has ended, and two
+/// more are ready.
 fn prelude(rt: &impl Abort, run: &mut MemRun<'_>) -> Result<Names, test::Fail>
     requires { IsSound ScriptSound (lock_state mem_source_state mem_sink_state mem_sink_state run.old) }
     ensures { IsSound ScriptSound (lock_state mem_source_state mem_sink_state mem_sink_state run.new) }

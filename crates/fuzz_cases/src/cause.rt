@@ -76,8 +76,8 @@ fn is_spent(report: &SureReport) -> bool {
     text.starts_with(b"pystm: budget spent: ") && text.ends_with(b" steps\n")
 }
 
-/// What a run of a script wrote tells the cause of its status. No device fails, there are pages and memory enough, and the words are
-/// right, so the other statuses have none.
+/// What a run of a script wrote tells the cause of its status. No device fails, there are pages and memory enough,
+/// and the words are right, so the other statuses have none.
 pub(crate) fn is_told(script: &[u8], report: &SureReport) -> bool {
     match report.status {
         Status::Done => report.text.len() == 0 && !first_thread_failed(report),

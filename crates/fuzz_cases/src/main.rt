@@ -1,5 +1,5 @@
-//! `fuzz_cases`: runs made texts and programs by the top call, and says where a run isn't what it should be. Its words are the first
-//! number, how many texts, and how many programs; `README.md` says what is asked of each run.
+//! `fuzz_cases`: runs made texts and programs by the top call, and says where a run isn't what it should be. Its
+//! words are the first number, how many texts, and how many programs; `README.md` says what is asked of each run.
 #![tactic(auto)]
 
 mod cause;

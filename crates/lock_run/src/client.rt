@@ -32,9 +32,10 @@ pub enum Life {
 /// What the threads of a machine do, step by step, over any view.
 ///
 /// Contracts see a client as a program: the row of each state's next step, which states live, and the first state. Its
-/// threads share one heap, and which lists of states may stand over which heaps is the client's own to say: that is what
-/// it needs to run, and each step keeps it. That the first state alone may stand over no records is for those to show who
-/// make a machine (`IsSoundFirst`): of some values of a client's type, as of a program that isn't right, it doesn't hold.
+/// threads share one heap, and which lists of states may stand over which heaps is the client's own to say: that is
+/// what it needs to run, and each step keeps it. That the first state alone may stand over no records is for those to
+/// show who make a machine (`IsSoundFirst`): of some values of a client's type, as of a program that isn't right, it
+/// doesn't hold.
 pub trait Client {
     type State: Drop;
 
@@ -48,8 +49,9 @@ pub trait Client {
     fn first(&self, alloc: Global) -> Result<Self::State, NoMemory>
         ensures { IfOk result (λ s. s ≡ (prog self.now).first) };
 
-    /// One step of a thread that lives. At a Stop the state is as before, and the view's step was taken back. Over a view of a
-    /// part of a heap the state stands over some heap with the part's records, and what the step does holds for each such heap.
+    /// One step of a thread that lives. At a Stop the state is as before, and the view's step was taken back. Over a
+    /// view of a part of a heap the state stands over some heap with the part's records, and what the step does holds
+    /// for each such heap.
     fn step<V: View<Self::State>>(
         &self,
         alloc: Global,

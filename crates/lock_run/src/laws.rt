@@ -1,5 +1,5 @@
-//! Laws of turns and runs, as contracts: a call of such a function does nothing, and gives its caller's proof the facts of
-//! its clauses.
+//! Laws of turns and runs, as contracts: a call of such a function does nothing, and gives its caller's proof the
+//! facts of its clauses.
 ghost use Rattle.std.specs.Prelude.{ℕ};
 ghost use Rattle.py_data.specs.Sight.{Sight};
 ghost use Rattle.py_data.specs.Frames.{Grows};
@@ -13,8 +13,8 @@ pub fn accept_law<S>()
     ensures { AcceptLaw S }
 {}
 
-/// A turn leads from a machine to one machine only, where the source tells its bytes, and after it the source tells them
-/// still. So a turn that was done leads to the machine that the turn leads to.
+/// A turn leads from a machine to one machine only, where the source tells its bytes, and after it the source tells
+/// them still. So a turn that was done leads to the machine that the turn leads to.
 pub fn turn_law<S>()
     ensures one { OneTurnLaw S }
     ensures done { DoneLaw S }

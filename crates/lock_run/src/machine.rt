@@ -64,10 +64,10 @@ fn ends_turn(cut: Cut) -> bool
 
 /// Threads of a client that take turns over one heap: the interpreter under one global lock.
 ///
-/// Contracts see of it a `LockState`: what its view holds, and the states of its threads (`specs/Turns.antt`). A step changes
-/// the thread's state in its place, and nothing can fail after it: the threads that it started stay with the view until the
-/// next step begins. After a turn that was cut the machine can be used on: it shows what the steps that stay left, but for
-/// what the step that was cut wrote and took.
+/// Contracts see of it a `LockState`: what its view holds, and the states of its threads (`specs/Turns.antt`). A step
+/// changes the thread's state in its place, and nothing can fail after it: the threads that it started stay with the
+/// view until the next step begins. After a turn that was cut the machine can be used on: it shows what the steps
+/// that stay left, but for what the step that was cut wrote and took.
 #[derive(Drop)]
 pub struct LockRun<'p, C: Client, I, O, E> {
     alloc: Global,
@@ -86,8 +86,8 @@ impl<'p, C: Client, I: Source, O: Sink, E: Sink> LockRun<'p, C, I, O, E> {
     ghost use Rattle.lock_run.specs.Machine.{begin_with};
     ghost use Rattle.lock_run.specs.Turns.{NoneFall, Stands, TurnDone, TurnCut, FreeDone, FreeCut, StepGoes, StepCut, Reach, ReachCut};
 
-    /// A machine at its first state: an empty heap and the client's first thread, which may stand over it. At want of memory
-    /// the devices come back.
+    /// A machine at its first state: an empty heap and the client's first thread, which may stand over it. At want of
+    /// memory the devices come back.
     pub fn new(
         alloc: Global,
         client: &'p C,
@@ -97,9 +97,13 @@ impl<'p, C: Client, I: Source, O: Sink, E: Sink> LockRun<'p, C, I, O, E> {
     ) -> Result<LockRun<'p, C, I, O, E>, (NoMemory, I, O, E)>
         requires first { IsSoundFirst (C.prog client.now) (C.sound client.now) }
         ensures client { IfOk result (λ run. lock_client run ≡ client.now) }
-        ensures begins { IfOk result (λ run. (o e : _) → o ≡ (O.state out).told → e ≡ (E.state err).told → Stands o e (lock_state I.state O.state E.state run).view (lock_state I.state O.state E.state run).threads (begin_with (C.prog client.now) (first_world (I.state input).told (I.state input).ends))) }
+        ensures begins { IfOk result (λ run. (o e : _) → o ≡ (O.state out).told → e ≡ (E.state err).told
+            → Stands o e (lock_state I.state O.state E.state run).view
+            (lock_state I.state O.state E.state run).threads
+            (begin_with (C.prog client.now) (first_world (I.state input).told (I.state input).ends))) }
         ensures sound { IfOk result (λ run. IsSound (C.sound client.now) (lock_state I.state O.state E.state run)) }
-        ensures devices { IfOk result (λ run. HasDevices (lock_state I.state O.state E.state run) (I.state input) (O.state out) (E.state err)) }
+        ensures devices { IfOk result (λ run. HasDevices (lock_state I.state O.state E.state run) (I.state input)
+            (O.state out) (E.state err)) }
         ensures back { IfErr result (λ e. (e.1 ≡ input) × (e.2 ≡ out) × (e.3 ≡ err)) }
     {
         let first = match client.first(alloc) {
@@ -128,7 +132,8 @@ impl<'p, C: Client, I: Source, O: Sink, E: Sink> LockRun<'p, C, I, O, E> {
     /// Whether a thread lives, and how it ended.
     pub fn life(&self, t: u32) -> Life
         requires { t < length (lock_state I.state O.state E.state self.now).threads }
-        ensures { IfSome (slice_get (lock_state I.state O.state E.state self.now).threads t) (λ s. result ≡ (C.prog (lock_client self.now)).life s) }
+        ensures { IfSome (slice_get (lock_state I.state O.state E.state self.now).threads t)
+            (λ s. result ≡ (C.prog (lock_client self.now)).life s) }
     {
         let moved = self.threads.len();
         if t < moved {
@@ -142,7 +147,9 @@ impl<'p, C: Client, I: Source, O: Sink, E: Sink> LockRun<'p, C, I, O, E> {
     pub fn ready(&self, t: u32) -> bool
         requires there { t < length (lock_state I.state O.state E.state self.now).threads }
         requires sound { IsSound (C.sound (lock_client self.now)) (lock_state I.state O.state E.state self.now) }
-        ensures { IfSome (slice_get (lock_state I.state O.state E.state self.now).threads t) (λ s. IsReady (C.prog (lock_client self.now)) s (lock_state I.state O.state E.state self.now).view.heap result) }
+        ensures { IfSome (slice_get (lock_state I.state O.state E.state self.now).threads t)
+            (λ s. IsReady (C.prog (lock_client self.now)) s (lock_state I.state O.state E.state self.now).view.heap
+            result) }
     {
         let moved = self.threads.len();
         if t < moved {
@@ -154,8 +161,10 @@ impl<'p, C: Client, I: Source, O: Sink, E: Sink> LockRun<'p, C, I, O, E> {
 
     /// A thread of this state lives, and its next step wouldn't wait.
     fn can_go(&self, s: &C::State) -> bool
-        requires { Standing (C.sound self.now.client.now (lock_state I.state O.state E.state self.now).view.heap) s.now }
-        ensures { IsReady (C.prog self.now.client.now) s.now (lock_state I.state O.state E.state self.now).view.heap result }
+        requires { Standing (C.sound self.now.client.now (lock_state I.state O.state E.state self.now).view.heap)
+            s.now }
+        ensures { IsReady (C.prog self.now.client.now) s.now (lock_state I.state O.state E.state self.now).view.heap
+            result }
     {
         match self.client.life(s) {
             Life::Lives => !self.client.blocked(s, &self.view),
@@ -171,9 +180,12 @@ impl<'p, C: Client, I: Source, O: Sink, E: Sink> LockRun<'p, C, I, O, E> {
         ensures client { self.new.client ≡ self.old.client }
         ensures free { self.new.view.free ≡ self.old.view.free }
         ensures there { t < length (lock_state I.state O.state E.state self.new).threads }
-        ensures counts { NoneFall (lock_state I.state O.state E.state self.old).view (lock_state I.state O.state E.state self.new).view }
-        ensures done { OnOk result (StepGoes (C.prog self.old.client.now) t (lock_state I.state O.state E.state self.old) (lock_state I.state O.state E.state self.new)) }
-        ensures cut { IfErr result (λ w. StepCut (C.prog self.old.client.now) t w (lock_state I.state O.state E.state self.old) (lock_state I.state O.state E.state self.new)) }
+        ensures counts { NoneFall (lock_state I.state O.state E.state self.old).view
+            (lock_state I.state O.state E.state self.new).view }
+        ensures done { OnOk result (StepGoes (C.prog self.old.client.now) t
+            (lock_state I.state O.state E.state self.old) (lock_state I.state O.state E.state self.new)) }
+        ensures cut { IfErr result (λ w. StepCut (C.prog self.old.client.now) t w
+            (lock_state I.state O.state E.state self.old) (lock_state I.state O.state E.state self.new)) }
     {
         match self.view.move_started(&mut self.threads) {
             Ok(()) => (),
@@ -185,8 +197,8 @@ impl<'p, C: Client, I: Source, O: Sink, E: Sink> LockRun<'p, C, I, O, E> {
         }
     }
 
-    /// One step of a thread that lives, where all started threads have moved. At a Stop, and where it waits, its state is as
-    /// before.
+    /// One step of a thread that lives, where all started threads have moved. At a Stop, and where it waits, its
+    /// state is as before.
     fn step_living(&mut self, t: u32) -> Result<(), TurnWhy>
         requires there { t < length self.old.threads }
         requires lives { IfSome (slice_get self.old.threads t) (λ s. (C.prog self.old.client.now).life s ≡ Lives) }
@@ -195,9 +207,12 @@ impl<'p, C: Client, I: Source, O: Sink, E: Sink> LockRun<'p, C, I, O, E> {
         ensures client { self.new.client ≡ self.old.client }
         ensures free { self.new.view.free ≡ self.old.view.free }
         ensures there { t < length (lock_state I.state O.state E.state self.new).threads }
-        ensures counts { NoneFall (moved_state I.state O.state E.state self.old).view (lock_state I.state O.state E.state self.new).view }
-        ensures done { OnOk result (StepGoes (C.prog self.old.client.now) t (moved_state I.state O.state E.state self.old) (lock_state I.state O.state E.state self.new)) }
-        ensures cut { IfErr result (λ w. StepCut (C.prog self.old.client.now) t w (moved_state I.state O.state E.state self.old) (lock_state I.state O.state E.state self.new)) }
+        ensures counts { NoneFall (moved_state I.state O.state E.state self.old).view
+            (lock_state I.state O.state E.state self.new).view }
+        ensures done { OnOk result (StepGoes (C.prog self.old.client.now) t
+            (moved_state I.state O.state E.state self.old) (lock_state I.state O.state E.state self.new)) }
+        ensures cut { IfErr result (λ w. StepCut (C.prog self.old.client.now) t w
+            (moved_state I.state O.state E.state self.old) (lock_state I.state O.state E.state self.new)) }
     {
         let s = self.threads.at_mut(t);
         match self.client.step(self.alloc, s, &mut self.view) {
@@ -219,9 +234,12 @@ impl<'p, C: Client, I: Source, O: Sink, E: Sink> LockRun<'p, C, I, O, E> {
         ensures sound { IsSound (C.sound self.new.client.now) (lock_state I.state O.state E.state self.new) }
         ensures client { self.new.client ≡ self.old.client }
         ensures free { self.new.view.free ≡ self.old.view.free }
-        ensures counts { NoneFall (lock_state I.state O.state E.state self.old).view (lock_state I.state O.state E.state self.new).view }
-        ensures done { OnOk result (Reach (C.prog self.old.client.now) t steps (lock_state I.state O.state E.state self.old) (lock_state I.state O.state E.state self.new)) }
-        ensures cut { IfErr result (λ f. ReachCut (C.prog self.old.client.now) t steps f.done f.why (lock_state I.state O.state E.state self.old) (lock_state I.state O.state E.state self.new)) }
+        ensures counts { NoneFall (lock_state I.state O.state E.state self.old).view
+            (lock_state I.state O.state E.state self.new).view }
+        ensures done { OnOk result (Reach (C.prog self.old.client.now) t steps
+            (lock_state I.state O.state E.state self.old) (lock_state I.state O.state E.state self.new)) }
+        ensures cut { IfErr result (λ f. ReachCut (C.prog self.old.client.now) t steps f.done f.why
+            (lock_state I.state O.state E.state self.old) (lock_state I.state O.state E.state self.new)) }
     {
         for done in 0..steps {
             match self.step_one(t) {
@@ -240,10 +258,13 @@ impl<'p, C: Client, I: Source, O: Sink, E: Sink> LockRun<'p, C, I, O, E> {
         requires sound { IsSound (C.sound (lock_client self.old)) (lock_state I.state O.state E.state self.old) }
         ensures sound { IsSound (C.sound (lock_client self.new)) (lock_state I.state O.state E.state self.new) }
         ensures client { lock_client self.new ≡ lock_client self.old }
-        ensures counts { NoneFall (lock_state I.state O.state E.state self.old).view (lock_state I.state O.state E.state self.new).view }
-        ensures done { OnOk result (TurnDone (C.prog (lock_client self.old)) (record { thread = thread; steps = steps; names = names.now })
+        ensures counts { NoneFall (lock_state I.state O.state E.state self.old).view
+            (lock_state I.state O.state E.state self.new).view }
+        ensures done { OnOk result (TurnDone (C.prog (lock_client self.old))
+            (record { thread = thread; steps = steps; names = names.now })
             (lock_state I.state O.state E.state self.old) (lock_state I.state O.state E.state self.new)) }
-        ensures cut { IfErr result (λ f. TurnCut (C.prog (lock_client self.old)) (record { thread = thread; steps = steps; names = names.now }) f.done f.why
+        ensures cut { IfErr result (λ f. TurnCut (C.prog (lock_client self.old))
+            (record { thread = thread; steps = steps; names = names.now }) f.done f.why
             (lock_state I.state O.state E.state self.old) (lock_state I.state O.state E.state self.new)) }
         ensures names { IfErr result (λ f. f.names ≡ []) }
     {
@@ -293,9 +314,12 @@ impl<'p, C: Client, I: Source, O: Sink, E: Sink> LockRun<'p, C, I, O, E> {
         requires sound { IsSound (C.sound (lock_client self.old)) (lock_state I.state O.state E.state self.old) }
         ensures sound { IsSound (C.sound (lock_client self.new)) (lock_state I.state O.state E.state self.new) }
         ensures client { lock_client self.new ≡ lock_client self.old }
-        ensures counts { NoneFall (lock_state I.state O.state E.state self.old).view (lock_state I.state O.state E.state self.new).view }
-        ensures done { IfOk result (λ t. FreeDone (C.prog (lock_client self.old)) thread most t (lock_state I.state O.state E.state self.old) (lock_state I.state O.state E.state self.new)) }
-        ensures cut { IfErr result (λ f. FreeCut (C.prog (lock_client self.old)) thread most f.done (places f.names) f.why
+        ensures counts { NoneFall (lock_state I.state O.state E.state self.old).view
+            (lock_state I.state O.state E.state self.new).view }
+        ensures done { IfOk result (λ t. FreeDone (C.prog (lock_client self.old)) thread most t
+            (lock_state I.state O.state E.state self.old) (lock_state I.state O.state E.state self.new)) }
+        ensures cut { IfErr result (λ f. FreeCut (C.prog (lock_client self.old)) thread most f.done
+            (places f.names) f.why
             (lock_state I.state O.state E.state self.old) (lock_state I.state O.state E.state self.new)) }
     {
         if thread >= self.threads() {
@@ -334,7 +358,8 @@ impl<'p, C: Client, I: Source, O: Sink, E: Sink> LockRun<'p, C, I, O, E> {
 
     /// The three devices.
     pub fn finish(self) -> (I, O, E)
-        ensures { HasDevices (lock_state I.state O.state E.state self.entry) (I.state result.0) (O.state result.1) (E.state result.2) }
+        ensures { HasDevices (lock_state I.state O.state E.state self.entry) (I.state result.0) (O.state result.1)
+            (E.state result.2) }
     {
         let LockRun {
             alloc: _,

@@ -9,12 +9,12 @@ use py_data::{
 use std::alloc::Global;
 use stm_io::{PutError, Sink, Source, TakeError};
 
-/// A heap as a map, with the three devices: the view of a machine whose threads take turns. It may print and read at any
-/// step, it loses no conflict, and it has no limit of words. It gives the Stops ReadFault, WriteFault, ErrFault and
-/// OutOfMemory.
+/// A heap as a map, with the three devices: the view of a machine whose threads take turns. It may print and read at
+/// any step, it loses no conflict, and it has no limit of words. It gives the Stops ReadFault, WriteFault, ErrFault
+/// and OutOfMemory.
 ///
-/// A change takes time of what it changes, beside the look for the record, and `find_key` goes through the pairs. A new record
-/// gets the next planned name; or, where names are free, the first unused one from the last fresh one on.
+/// A change takes time of what it changes, beside the look for the record, and `find_key` goes through the pairs. A
+/// new record gets the next planned name; or, where names are free, the first unused one from the last fresh one on.
 #[derive(Drop)]
 pub struct PlainView<S, I, O, E> {
     alloc: Global,
@@ -109,7 +109,13 @@ impl<S: Drop, I: Source, O: Sink, E: Sink> PlainView<S, I, O, E> {
         ensures left { places (drop self.new.next self.new.plan) ≡ places plan }
         ensures made { given_all self.new.given ≡ [] }
         ensures kept { given_kept self.new.given ≡ [] }
-        ensures rest { self.new ≡ record self.old { plan = plan; next = 0; mark = 0; free = false; given = self.new.given } }
+        ensures rest { self.new ≡ record self.old {
+          plan = plan;
+          next = 0;
+          mark = 0;
+          free = false;
+          given = self.new.given;
+        } }
     {
         self.plan = plan;
         self.next = 0;
@@ -148,7 +154,8 @@ impl<S: Drop, I: Source, O: Sink, E: Sink> PlainView<S, I, O, E> {
         ensures unused { IfSome result (λ n. space_heap self.now.space n.0 ≡ None) }
         ensures planned { IfSome result (λ n. self.now.free ≡ false → slice_get self.now.plan self.now.next ≡ Some n) }
         ensures within { IfSome result (λ n. self.now.free ≡ false → self.now.next + 1 < 2 ^ 64) }
-        ensures none { result ≡ None → self.now.free ≡ false → NoName (space_heap self.now.space) (places (drop self.now.next self.now.plan)) }
+        ensures none { result ≡ None → self.now.free ≡ false
+            → NoName (space_heap self.now.space) (places (drop self.now.next self.now.plan)) }
     {
         if self.free {
             return self.fresh_name();
@@ -193,7 +200,8 @@ impl<S: Drop, I: Source, O: Sink, E: Sink> PlainView<S, I, O, E> {
     fn pass_name(&mut self, n: Addr)
         requires planned { self.old.free ≡ false → slice_get self.old.plan self.old.next ≡ Some n }
         requires within { self.old.free ≡ false → self.old.next + 1 < 2 ^ 64 }
-        ensures left { Named self.old.free n.0 (places (drop self.old.next self.old.plan)) (places (drop self.new.next self.new.plan)) }
+        ensures left { Named self.old.free n.0 (places (drop self.old.next self.old.plan))
+            (places (drop self.new.next self.new.plan)) }
         ensures rest { self.new ≡ record self.old { next = self.new.next; fresh = self.new.fresh } }
     {
         if self.free {

@@ -260,9 +260,9 @@ fn are_same(a: &Names, b: &Names) -> bool
     a.as_slice() == b.as_slice()
 }
 
-/// Threads that do given acts, as a client. The only step of thread 0 makes the Cells, which hold 0, and one empty List, in
-/// this order, and starts threads 1, 2 and so on, one for each list of acts. Each act is a step of its thread, and the last
-/// one ends it. No step waits.
+/// Threads that do given acts, as a client. The only step of thread 0 makes the Cells, which hold 0, and one empty
+/// List, in this order, and starts threads 1, 2 and so on, one for each list of acts. Each act is a step of its
+/// thread, and the last one ends it. No step waits.
 #[derive(Debug, Drop)]
 pub struct Script {
     cells: u32,
@@ -273,8 +273,8 @@ impl Script {
     ghost use Rattle.std.specs.Prelude.{◌≡◌, ◌<◌, ◌+◌, ◌^◌, length, true, false, IfSome};
     ghost use Rattle.lock_run.specs.Script.{cells_in, lists_in, act_at, AreFit};
 
-    /// Whether these can make a script: there are fewer than 2^32 - 1 lists, none is empty, and each Cell that an act names
-    /// is one of so many.
+    /// Whether these can make a script: there are fewer than 2^32 - 1 lists, none is empty, and each Cell that an act
+    /// names is one of so many.
     pub fn fits(cells: u32, lists: &[Acts]) -> bool
         ensures few { result ≡ true → length lists.now + 1 < 2 ^ 32 }
         ensures fit { result ≡ true → AreFit cells lists.now }

@@ -65,9 +65,9 @@ fn note(journal: &mut Vec<(u32, Option<Undo>)>, a: u32, undo: Option<Undo>)
     }
 }
 
-/// The records of a heap, and a journal of what the open step did to them, the last one last: at each address what takes the
-/// change back, or nothing where the record was made. A look takes time of the logarithm of how many records there are, a
-/// change besides only that of what it changes, and taking a step back goes through its journal.
+/// The records of a heap, and a journal of what the open step did to them, the last one last: at each address what
+/// takes the change back, or nothing where the record was made. A look takes time of the logarithm of how many
+/// records there are, a change besides only that of what it changes, and taking a step back goes through its journal.
 #[derive(Drop)]
 pub struct Space {
     records: BTreeMap<u32, Entry>,

@@ -9,8 +9,9 @@ use std::marker::Model;
 /// The most threads of one list.
 const MOST: usize = 2_147_483_647;
 
-/// States of threads. A machine has two such lists, the second of those threads that its last step started, and its threads
-/// have numbers of 32 bits: so in one list there is no place for 2^31 of them, and starting one more is want of memory.
+/// States of threads. A machine has two such lists, the second of those threads that its last step started, and its
+/// threads have numbers of 32 bits: so in one list there is no place for 2^31 of them, and starting one more is want
+/// of memory.
 #[derive(Drop)]
 pub struct Threads<S> {
     states: Vec<S>,

@@ -1,5 +1,5 @@
-//! `memory_cases`: runs the script of the standard input, writes what it wrote, its status, and whether that is what its history
-//! writes. `bench/memory` runs it with each growth of memory refused in turn.
+//! `memory_cases`: runs the script of the standard input, writes what it wrote, its status, and whether that is what
+//! its history writes. `bench/memory` runs it with each growth of memory refused in turn.
 #![tactic(auto)]
 
 use anyhow::Result;

@@ -46,10 +46,13 @@ impl LineBuffer {
     /// and no newline but as its last byte. It reads until it holds that line. Without an answer nothing is lost.
     pub fn take_line<R: Read>(&mut self, reader: &mut R, most: usize) -> Result<Vec<u8>, TakeError>
         requires { 1 ≤ most }
-        ensures line { IfOk result (λ l. IfSome (prepend_known self.old (R.remaining reader.old)) (λ xs. l.items ≡ line_of most xs)) }
+        ensures line { IfOk result (λ l. IfSome (prepend_known self.old (R.remaining reader.old))
+            (λ xs. l.items ≡ line_of most xs)) }
         ensures short { IfOk result (λ l. length l.items ≤ most) }
-        ensures rest { IfOk result (λ l. Consumes (prepend_known self.old (R.remaining reader.old)) (prepend_known self.new (R.remaining reader.new)) l.items) }
-        ensures kept { OnErr result (Keeps (prepend_known self.old (R.remaining reader.old)) (prepend_known self.new (R.remaining reader.new))) }
+        ensures rest { IfOk result (λ l. Consumes (prepend_known self.old (R.remaining reader.old))
+            (prepend_known self.new (R.remaining reader.new)) l.items) }
+        ensures kept { OnErr result (Keeps (prepend_known self.old (R.remaining reader.old))
+            (prepend_known self.new (R.remaining reader.new))) }
     {
         let length = self.hold_line(reader, most)?;
         let line = Vec::from_slice(self.alloc, &self.held()[..length])?;
@@ -76,11 +79,14 @@ impl LineBuffer {
         }
     }
 
-    /// Reads until it holds the first line whole, and answers its length. Each turn of the loop reads at least one byte.
+    /// Reads until it holds the first line whole, and answers its length. Each turn of the loop reads at least one
+    /// byte.
     fn hold_line<R: Read>(&mut self, reader: &mut R, most: usize) -> Result<usize, TakeError>
-        ensures line { IfOk result (λ n. IfSome (prepend_known self.old (R.remaining reader.old)) (λ xs. take n self.new ≡ line_of most xs)) }
+        ensures line { IfOk result (λ n. IfSome (prepend_known self.old (R.remaining reader.old))
+            (λ xs. take n self.new ≡ line_of most xs)) }
         ensures within { IfOk result (λ n. (n ≤ most) × (n ≤ length self.new)) }
-        ensures kept { Keeps (prepend_known self.old (R.remaining reader.old)) (prepend_known self.new (R.remaining reader.new)) }
+        ensures kept { Keeps (prepend_known self.old (R.remaining reader.old))
+            (prepend_known self.new (R.remaining reader.new)) }
     {
         let mut seen = 0;
         while seen < most {
@@ -108,7 +114,8 @@ impl LineBuffer {
     /// One read, whose bytes it then holds too. None means the end.
     fn read_more<R: Read>(&mut self, reader: &mut R) -> Result<usize, TakeError>
         ensures more { IfOk result (λ n. length self.new ≡ length self.old + n) }
-        ensures bytes { OnOk result (Keeps (prepend_known self.old (R.remaining reader.old)) (prepend_known self.new (R.remaining reader.new))) }
+        ensures bytes { OnOk result (Keeps (prepend_known self.old (R.remaining reader.old))
+            (prepend_known self.new (R.remaining reader.new))) }
         ensures front { OnOk result (take (length self.old) self.new ≡ self.old) }
         ensures end { IfOk result (λ n. n ≡ 0 → IsAtEnd (R.remaining reader.new)) }
         ensures kept { OnErr result ((self.new ≡ self.old) × Keeps (R.remaining reader.old) (R.remaining reader.new)) }

@@ -69,7 +69,8 @@ impl<F: Files + Drop> Loader for FileLoader<F> {
     fn load(&mut self, name: &str, most: usize) -> Result<Vec<u8>, LoadError>
         ensures short { IfOk result (λ v. length v.items ≤ most) }
         ensures asked { OnOk result (self.new.asked ≡ self.old.asked ++ name.now ∷ []) }
-        ensures stops { IfErr result (λ e. LoadStops name.now e (file_loader_state self.old) (file_loader_state self.new)) }
+        ensures stops { IfErr result (λ e. LoadStops name.now e (file_loader_state self.old)
+            (file_loader_state self.new)) }
 
         // Each failure is counted, and nothing else is.
         ensures counts { self.new.faults ≡ faults_after_load result self.old.faults }

@@ -1,5 +1,5 @@
-//! `pystm`: runs a script of a subset of Python 2.7. Here are the adapters over the real outside, and the process's words
-//! and status. What a script means stands below.
+//! `pystm`: runs a script of a subset of Python 2.7. Here are the adapters over the real outside, and the process's
+//! words and status. What a script means stands below.
 #![tactic(auto)]
 
 mod buffer;

@@ -37,7 +37,8 @@ impl<W: Write + Drop> Sink for WriterSink<W> {
     fn put(&mut self, bytes: &[u8]) -> Result<(), PutError>
         // What the writer is known to hold grows by all the bytes, or by a front of them at a failure.
         ensures all { OnOk result (Appends (W.contents self.old.writer) (W.contents self.new.writer) bytes.now) }
-        ensures front { OnErr result ((k : ℕ) × Appends (W.contents self.old.writer) (W.contents self.new.writer) (take k bytes.now)) }
+        ensures front { OnErr result ((k : ℕ) × Appends (W.contents self.old.writer) (W.contents self.new.writer)
+            (take k bytes.now)) }
         ensures sure { IsOkUnless result PutError.Failed }
 
         // Each failure is counted, and nothing else is.
@@ -60,7 +61,8 @@ impl<W: Write + Drop> Sink for WriterSink<W> {
 /// Writes all the bytes and flushes. Each turn of the loop writes at least one byte.
 fn write_whole<W: Write>(writer: &mut W, bytes: &[u8]) -> io::Result<()>
     ensures all { OnOk result (Appends (W.contents writer.old) (W.contents writer.new) bytes.now) }
-    ensures front { OnErr result ((k : ℕ) × Appends (W.contents writer.old) (W.contents writer.new) (take k bytes.now)) }
+    ensures front { OnErr result ((k : ℕ) × Appends (W.contents writer.old) (W.contents writer.new)
+        (take k bytes.now)) }
 {
     let mut done = 0;
     while done < bytes.len() {

@@ -51,11 +51,15 @@ impl<R: Read + Drop> Source for ReaderSource<R> {
     fn take_line(&mut self, most: usize) -> Result<Vec<u8>, TakeError>
         requires { 1 ≤ most }
 
-        // What the buffer and the reader are known to have gives its first line, and loses it. Without an answer it stays.
-        ensures line { IfOk result (λ l. IfSome (prepend_known self.old.buffer (R.remaining self.old.reader)) (λ xs. l.items ≡ line_of most xs)) }
+        // What the buffer and the reader are known to have gives its first line, and loses it. Without an answer it
+        // stays.
+        ensures line { IfOk result (λ l. IfSome (prepend_known self.old.buffer (R.remaining self.old.reader))
+            (λ xs. l.items ≡ line_of most xs)) }
         ensures short { IfOk result (λ l. length l.items ≤ most) }
-        ensures rest { IfOk result (λ l. Consumes (prepend_known self.old.buffer (R.remaining self.old.reader)) (prepend_known self.new.buffer (R.remaining self.new.reader)) l.items) }
-        ensures kept { OnErr result (Keeps (prepend_known self.old.buffer (R.remaining self.old.reader)) (prepend_known self.new.buffer (R.remaining self.new.reader))) }
+        ensures rest { IfOk result (λ l. Consumes (prepend_known self.old.buffer (R.remaining self.old.reader))
+            (prepend_known self.new.buffer (R.remaining self.new.reader)) l.items) }
+        ensures kept { OnErr result (Keeps (prepend_known self.old.buffer (R.remaining self.old.reader))
+            (prepend_known self.new.buffer (R.remaining self.new.reader))) }
 
         // Each empty answer and each failure is counted, and nothing else is.
         ensures ends { IfOk result (λ l. self.new.ends ≡ ends_after l.items self.old.ends) }

@@ -1,5 +1,5 @@
-//! `script_cases`: runs each script of a list by the top call, and writes what it wrote and its status. The list comes by the
-//! standard input; `README.md` says how it is laid out.
+//! `script_cases`: runs each script of a list by the top call, and writes what it wrote and its status. The list
+//! comes by the standard input; `README.md` says how it is laid out.
 #![tactic(auto)]
 
 mod case;
@@ -75,7 +75,8 @@ fn is_told(alloc: Global, case: &Case, report: &SureReport) -> Result<bool, Allo
     is_serial(alloc, case.script.as_slice(), case.input.as_slice(), report)
 }
 
-/// Runs a case alone, which is told, and shared. Says so where one of the runs isn't what its history is, or where they differ.
+/// Runs a case alone, which is told, and shared. Says so where one of the runs isn't what its history is, or where
+/// they differ.
 fn try_case<Rt: Threads + Wait + Sync, W: Write>(
     rt: &Rt,
     alloc: Global,

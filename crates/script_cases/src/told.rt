@@ -3,8 +3,8 @@
 use std::io;
 use std::io::Write;
 
-/// Writes what a script of that name wrote to the output and to the error output, and its status. A backslash stands behind an
-/// output that doesn't end in a newline, and each line of the error output has a mark in front.
+/// Writes what a script of that name wrote to the output and to the error output, and its status. A backslash stands
+/// behind an output that doesn't end in a newline, and each line of the error output has a mark in front.
 pub fn tell<W: Write>(
     told: &mut W,
     name: &str,

@@ -23,8 +23,10 @@ pub struct Written {
 
 /// Does a turn: whether it could be done whole.
 fn turn_again(run: &mut SureRun<'_>, turn: &Turn) -> bool
-    requires { IsSound (Sound (program_in (lock_client run.old))) (lock_state sure_source_state sure_sink_state sure_sink_state run.old) }
-    ensures { IsSound (Sound (program_in (lock_client run.new))) (lock_state sure_source_state sure_sink_state sure_sink_state run.new) }
+    requires { IsSound (Sound (program_in (lock_client run.old)))
+        (lock_state sure_source_state sure_sink_state sure_sink_state run.old) }
+    ensures { IsSound (Sound (program_in (lock_client run.new)))
+        (lock_state sure_source_state sure_sink_state sure_sink_state run.new) }
 {
     if turn.steps == 0 {
         return false;
@@ -37,8 +39,10 @@ fn turn_again(run: &mut SureRun<'_>, turn: &Turn) -> bool
 
 /// Does the turn of that number, from 0: whether there is one, and it could be done whole.
 fn next_again(run: &mut SureRun<'_>, history: &History, i: usize) -> bool
-    requires { IsSound (Sound (program_in (lock_client run.old))) (lock_state sure_source_state sure_sink_state sure_sink_state run.old) }
-    ensures { IsSound (Sound (program_in (lock_client run.new))) (lock_state sure_source_state sure_sink_state sure_sink_state run.new) }
+    requires { IsSound (Sound (program_in (lock_client run.old)))
+        (lock_state sure_source_state sure_sink_state sure_sink_state run.old) }
+    ensures { IsSound (Sound (program_in (lock_client run.new)))
+        (lock_state sure_source_state sure_sink_state sure_sink_state run.new) }
 {
     match history.get(i) {
         Some(turn) => turn_again(run, turn),
@@ -48,7 +52,8 @@ fn next_again(run: &mut SureRun<'_>, history: &History, i: usize) -> bool
 
 /// Does the turns of a history: whether each of them could be done whole.
 fn turns_again(run: &mut SureRun<'_>, history: &History) -> bool
-    requires { IsSound (Sound (program_in (lock_client run.old))) (lock_state sure_source_state sure_sink_state sure_sink_state run.old) }
+    requires { IsSound (Sound (program_in (lock_client run.old)))
+        (lock_state sure_source_state sure_sink_state sure_sink_state run.old) }
 {
     'turns: for i in 0..history.len() {
         if !next_again(run, history, i) {
@@ -82,8 +87,8 @@ fn written_by(
     }
 }
 
-/// What the turns of a history of a script write, done one after another under one lock, if each of them can be done. `input` stands
-/// behind the script in the source.
+/// What the turns of a history of a script write, done one after another under one lock, if each of them can be done.
+/// `input` stands behind the script in the source.
 pub fn written_again(
     alloc: Global,
     script: &[u8],

@@ -38,8 +38,8 @@ pub fn run<Rt: Threads + Wait + Sync>(
     ))
 }
 
-/// A run wrote what the turns of its history write, one after another, with its text behind the lines of the error output. Where
-/// there is no program it has no history, and wrote nothing.
+/// A run wrote what the turns of its history write, one after another, with its text behind the lines of the error
+/// output. Where there is no program it has no history, and wrote nothing.
 pub fn is_serial(
     alloc: Global,
     script: &[u8],

@@ -42,8 +42,13 @@ impl<'p, C: Client, S: SegStore, I: Source, O: Sink, E: Sink> Core<'p, C, S, I, 
         requires idle { slice_get self.old.books.hands.items k ≡ Some Hand.Idle }
         requires thread { work.thread < length self.old.books.threads.entries }
         requires count { CountsSteps self.old.spent self.old.books.history.entries }
-        requires why { (w : Worlds) × PauseWhy (C.prog self.old.client.now) w k (Pause.Stopped stop) (S.meaning self.old.store) (S.reserved self.old.store) self.old.books work }
-        ensures rest { self.new ≡ record self.old { store = self.new.store; books = self.new.books; spent = self.new.spent } }
+        requires why { (w : Worlds) × PauseWhy (C.prog self.old.client.now) w k (Pause.Stopped stop)
+            (S.meaning self.old.store) (S.reserved self.old.store) self.old.books work }
+        ensures rest { self.new ≡ record self.old {
+          store = self.new.store;
+          books = self.new.books;
+          spent = self.new.spent;
+        } }
         ensures shape { SameShape (S.meaning self.old.store) (S.meaning self.new.store) }
         ensures reserved { S.reserved self.new.store ≡ S.reserved self.old.store }
         ensures peaks { S.peaks self.new.store ≡ S.peaks self.old.store }
@@ -51,11 +56,17 @@ impl<'p, C: Client, S: SegStore, I: Source, O: Sink, E: Sink> Core<'p, C, S, I, 
         ensures count { CountsSteps self.new.spent self.new.books.history.entries }
         ensures counted { (most : ℕ) → done < most → CountsDone most done result }
         ensures tried { tried_after result ≡ 1 }
-        ensures rose { (d d1 : DeviceState) → PauseRose (Pause.Stopped stop) d d1 → KeepsOrRose self.old.books.cause self.new.books.cause d d1 }
+        ensures rose { (d d1 : DeviceState) → PauseRose (Pause.Stopped stop) d d1
+            → KeepsOrRose self.old.books.cause self.new.books.cause d d1 }
         ensures fault { (d d1 : DeviceState) → StopRose stop d d1 → FaultRose result d d1 }
-        ensures settled { (t e : Option (List ℕ)) (w : Worlds) (o : Outer C.State) → IsOut (C.prog self.old.client.now) t e (device_state I.state O.state E.state self.old.devices) w k (Pause.Stopped stop) (S.meaning self.old.store) (S.reserved self.old.store) self.old.books work o
-            → SettledTo t e (device_state I.state O.state E.state self.new.devices) (S.meaning self.new.store) self.new.books
-            (Ends (C.prog self.old.client.now) k (S.meaning self.old.store).segments (S.reserved self.new.store) (S.meaning self.new.store).limit o (transaction w.own ((S.meaning self.old.store).part k) work) result) }
+        ensures settled { (t e : Option (List ℕ)) (w : Worlds) (o : Outer C.State)
+            → IsOut (C.prog self.old.client.now) t e (device_state I.state O.state E.state self.old.devices) w k
+            (Pause.Stopped stop) (S.meaning self.old.store) (S.reserved self.old.store) self.old.books work o
+            → SettledTo t e (device_state I.state O.state E.state self.new.devices) (S.meaning self.new.store)
+            self.new.books
+            (Ends (C.prog self.old.client.now) k (S.meaning self.old.store).segments (S.reserved self.new.store)
+            (S.meaning self.new.store).limit o (transaction w.own ((S.meaning self.old.store).part k) work)
+            result) }
     {
         match stop {
             Stop::NeedSolo => {
@@ -99,8 +110,13 @@ impl<'p, C: Client, S: SegStore, I: Source, O: Sink, E: Sink> Core<'p, C, S, I, 
         requires idle { slice_get self.old.books.hands.items k ≡ Some Hand.Idle }
         requires thread { work.thread < length self.old.books.threads.entries }
         requires count { CountsSteps self.old.spent self.old.books.history.entries }
-        requires why { (w : Worlds) × PauseWhy (C.prog self.old.client.now) w k pause (S.meaning self.old.store) (S.reserved self.old.store) self.old.books work }
-        ensures rest { self.new ≡ record self.old { store = self.new.store; books = self.new.books; spent = self.new.spent } }
+        requires why { (w : Worlds) × PauseWhy (C.prog self.old.client.now) w k pause (S.meaning self.old.store)
+            (S.reserved self.old.store) self.old.books work }
+        ensures rest { self.new ≡ record self.old {
+          store = self.new.store;
+          books = self.new.books;
+          spent = self.new.spent;
+        } }
         ensures shape { SameShape (S.meaning self.old.store) (S.meaning self.new.store) }
         ensures reserved { S.reserved self.new.store ≡ S.reserved self.old.store }
         ensures peaks { S.peaks self.new.store ≡ S.peaks self.old.store }
@@ -108,11 +124,17 @@ impl<'p, C: Client, S: SegStore, I: Source, O: Sink, E: Sink> Core<'p, C, S, I, 
         ensures count { CountsSteps self.new.spent self.new.books.history.entries }
         ensures counted { (most : ℕ) → PauseCount most done pause → CountsDone most done result }
         ensures tried { tried_after result ≡ tried_by pause }
-        ensures rose { (d d1 : DeviceState) → PauseRose pause d d1 → KeepsOrRose self.old.books.cause self.new.books.cause d d1 }
+        ensures rose { (d d1 : DeviceState) → PauseRose pause d d1
+            → KeepsOrRose self.old.books.cause self.new.books.cause d d1 }
         ensures fault { (d d1 : DeviceState) → PauseRose pause d d1 → FaultRose result d d1 }
-        ensures settled { (t e : Option (List ℕ)) (w : Worlds) (o : Outer C.State) → IsOut (C.prog self.old.client.now) t e (device_state I.state O.state E.state self.old.devices) w k pause (S.meaning self.old.store) (S.reserved self.old.store) self.old.books work o
-            → SettledTo t e (device_state I.state O.state E.state self.new.devices) (S.meaning self.new.store) self.new.books
-            (Ends (C.prog self.old.client.now) k (S.meaning self.old.store).segments (S.reserved self.new.store) (S.meaning self.new.store).limit o (transaction w.own ((S.meaning self.old.store).part k) work) result) }
+        ensures settled { (t e : Option (List ℕ)) (w : Worlds) (o : Outer C.State)
+            → IsOut (C.prog self.old.client.now) t e (device_state I.state O.state E.state self.old.devices) w k pause
+            (S.meaning self.old.store) (S.reserved self.old.store) self.old.books work o
+            → SettledTo t e (device_state I.state O.state E.state self.new.devices) (S.meaning self.new.store)
+            self.new.books
+            (Ends (C.prog self.old.client.now) k (S.meaning self.old.store).segments (S.reserved self.new.store)
+            (S.meaning self.new.store).limit o (transaction w.own ((S.meaning self.old.store).part k) work)
+            result) }
     {
         match pause {
             Pause::Whole => {
@@ -131,8 +153,8 @@ impl<'p, C: Client, S: SegStore, I: Source, O: Sink, E: Sink> Core<'p, C, S, I, 
         }
     }
 
-    /// At most so many steps of the transaction of segment k, which was taken out of its hand and whose thread lives, and
-    /// what comes of them.
+    /// At most so many steps of the transaction of segment k, which was taken out of its hand and whose thread lives,
+    /// and what comes of them.
     fn take_steps(
         &mut self,
         k: u8,
@@ -144,21 +166,37 @@ impl<'p, C: Client, S: SegStore, I: Source, O: Sink, E: Sink> Core<'p, C, S, I, 
         requires store { IsStore (S.reserved self.old.store) (S.meaning self.old.store) }
         requires idle { slice_get self.old.books.hands.items k ≡ Some Hand.Idle }
         requires count { CountsSteps self.old.spent self.old.books.history.entries }
-        requires sane { SaneShown (C.prog self.old.client.now) (C.sound self.old.client.now) length k (device_state I.state O.state E.state self.old.devices) (S.meaning self.old.store) self.old.books work }
+        requires sane { SaneShown (C.prog self.old.client.now) (C.sound self.old.client.now) length k
+            (device_state I.state O.state E.state self.old.devices) (S.meaning self.old.store) self.old.books work }
         requires lives { (C.prog self.old.client.now).life work.state ≡ Lives }
         requires short { IsShort length (work.steps + most) }
-        ensures rest { self.new ≡ record self.old { store = self.new.store; books = self.new.books; devices = self.new.devices; spent = self.new.spent } }
+        ensures rest { self.new ≡ record self.old {
+          store = self.new.store;
+          books = self.new.books;
+          devices = self.new.devices;
+          spent = self.new.spent;
+        } }
         ensures shape { SameShape (S.meaning self.old.store) (S.meaning self.new.store) }
         ensures reserved { S.reserved self.old.store ≤ S.reserved self.new.store }
-        ensures peaks { (t e : Option (List ℕ)) (w : Worlds) → Shown work.solo t e (device_state I.state O.state E.state self.old.devices) w.own
-            → IfTold (S.peaks self.old.store) (S.peaks self.new.store) (RisesOut (C.prog self.old.client.now) length k (S.meaning self.old.store) (core_with w k (S.meaning self.old.store) self.old.books work)) }
+        ensures peaks { (t e : Option (List ℕ)) (w : Worlds)
+            → Shown work.solo t e (device_state I.state O.state E.state self.old.devices) w.own
+            → IfTold (S.peaks self.old.store) (S.peaks self.new.store)
+            (RisesOut (C.prog self.old.client.now) length k (S.meaning self.old.store)
+            (core_with w k (S.meaning self.old.store) self.old.books work)) }
         ensures whole { Whole (S.meaning self.new.store) self.new.books }
         ensures count { CountsSteps self.new.spent self.new.books.history.entries }
-        ensures rises { Rises self.old.books.cause self.new.books.cause (device_state I.state O.state E.state self.old.devices) (device_state I.state O.state E.state self.new.devices) }
-        ensures fault { FaultRose result (device_state I.state O.state E.state self.old.devices) (device_state I.state O.state E.state self.new.devices) }
-        ensures taken { (t e : Option (List ℕ)) (w : Worlds) (o : Outer C.State) → IsTakenOut t e (device_state I.state O.state E.state self.old.devices) w k (S.meaning self.old.store) self.old.books work o
-            → SettledTo t e (device_state I.state O.state E.state self.new.devices) (S.meaning self.new.store) self.new.books
-            (StepsTaken (C.prog self.old.client.now) length k (S.meaning self.old.store).segments most (S.reserved self.new.store) (S.meaning self.new.store).limit o result) }
+        ensures rises { Rises self.old.books.cause self.new.books.cause
+            (device_state I.state O.state E.state self.old.devices)
+            (device_state I.state O.state E.state self.new.devices) }
+        ensures fault { FaultRose result (device_state I.state O.state E.state self.old.devices)
+            (device_state I.state O.state E.state self.new.devices) }
+        ensures taken { (t e : Option (List ℕ)) (w : Worlds) (o : Outer C.State)
+            → IsTakenOut t e (device_state I.state O.state E.state self.old.devices) w k (S.meaning self.old.store)
+            self.old.books work o
+            → SettledTo t e (device_state I.state O.state E.state self.new.devices) (S.meaning self.new.store)
+            self.new.books
+            (StepsTaken (C.prog self.old.client.now) length k (S.meaning self.old.store).segments most
+            (S.reserved self.new.store) (S.meaning self.new.store).limit o result) }
     {
         let mut going = work;
         let (done, pause) = self.run_out(k, &mut going, length, most);
@@ -177,20 +215,37 @@ impl<'p, C: Client, S: SegStore, I: Source, O: Sink, E: Sink> Core<'p, C, S, I, 
         requires store { IsStore (S.reserved self.old.store) (S.meaning self.old.store) }
         requires idle { slice_get self.old.books.hands.items k ≡ Some Hand.Idle }
         requires count { CountsSteps self.old.spent self.old.books.history.entries }
-        requires sane { SaneShown (C.prog self.old.client.now) (C.sound self.old.client.now) length k (device_state I.state O.state E.state self.old.devices) (S.meaning self.old.store) self.old.books work }
+        requires sane { SaneShown (C.prog self.old.client.now) (C.sound self.old.client.now) length k
+            (device_state I.state O.state E.state self.old.devices) (S.meaning self.old.store) self.old.books work }
         requires short { IsShort length (work.steps + most) }
-        ensures rest { self.new ≡ record self.old { store = self.new.store; books = self.new.books; devices = self.new.devices; spent = self.new.spent } }
+        ensures rest { self.new ≡ record self.old {
+          store = self.new.store;
+          books = self.new.books;
+          devices = self.new.devices;
+          spent = self.new.spent;
+        } }
         ensures shape { SameShape (S.meaning self.old.store) (S.meaning self.new.store) }
         ensures reserved { S.reserved self.old.store ≤ S.reserved self.new.store }
-        ensures peaks { (t e : Option (List ℕ)) (w : Worlds) → Shown work.solo t e (device_state I.state O.state E.state self.old.devices) w.own
-            → IfTold (S.peaks self.old.store) (S.peaks self.new.store) (RisesOut (C.prog self.old.client.now) length k (S.meaning self.old.store) (core_with w k (S.meaning self.old.store) self.old.books work)) }
+        ensures peaks { (t e : Option (List ℕ)) (w : Worlds)
+            → Shown work.solo t e (device_state I.state O.state E.state self.old.devices) w.own
+            → IfTold (S.peaks self.old.store) (S.peaks self.new.store)
+            (RisesOut (C.prog self.old.client.now) length k (S.meaning self.old.store)
+            (core_with w k (S.meaning self.old.store) self.old.books work)) }
         ensures whole { Whole (S.meaning self.new.store) self.new.books }
         ensures count { CountsSteps self.new.spent self.new.books.history.entries }
-        ensures rises { Rises self.old.books.cause self.new.books.cause (device_state I.state O.state E.state self.old.devices) (device_state I.state O.state E.state self.new.devices) }
-        ensures fault { FaultRose result (device_state I.state O.state E.state self.old.devices) (device_state I.state O.state E.state self.new.devices) }
-        ensures advanced { (t e : Option (List ℕ)) (w : Worlds) (o : Outer C.State) → IsTakenOut t e (device_state I.state O.state E.state self.old.devices) w k (S.meaning self.old.store) self.old.books work o
-            → SettledTo t e (device_state I.state O.state E.state self.new.devices) (S.meaning self.new.store) self.new.books
-            (AdvancedFrom (Running (transaction w.own ((S.meaning self.old.store).part k) work)) (C.prog self.old.client.now) length k (S.meaning self.old.store).segments most (S.reserved self.new.store) (S.meaning self.new.store).limit o result) }
+        ensures rises { Rises self.old.books.cause self.new.books.cause
+            (device_state I.state O.state E.state self.old.devices)
+            (device_state I.state O.state E.state self.new.devices) }
+        ensures fault { FaultRose result (device_state I.state O.state E.state self.old.devices)
+            (device_state I.state O.state E.state self.new.devices) }
+        ensures advanced { (t e : Option (List ℕ)) (w : Worlds) (o : Outer C.State)
+            → IsTakenOut t e (device_state I.state O.state E.state self.old.devices) w k (S.meaning self.old.store)
+            self.old.books work o
+            → SettledTo t e (device_state I.state O.state E.state self.new.devices) (S.meaning self.new.store)
+            self.new.books
+            (AdvancedFrom (Running (transaction w.own ((S.meaning self.old.store).part k) work))
+            (C.prog self.old.client.now) length k (S.meaning self.old.store).segments most
+            (S.reserved self.new.store) (S.meaning self.new.store).limit o result) }
     {
         match self.client.life(&work.state) {
             Life::Lives => self.take_steps(k, work, most, length),
@@ -201,19 +256,26 @@ impl<'p, C: Client, S: SegStore, I: Source, O: Sink, E: Sink> Core<'p, C, S, I, 
         }
     }
 
-    /// At most `most` steps of the transaction that segment `k` has in hand, which is told if it is doomed. It copies no
-    /// state; its steps take memory as they need. Where a step of a solo transaction is cut, by a fault of a device, a full heap or want
-    /// of memory, the transaction is committed up to its last whole step, and what the step has told the devices stays.
+    /// At most `most` steps of the transaction that segment `k` has in hand, which is told if it is doomed. It copies
+    /// no state; its steps take memory as they need. Where a step of a solo transaction is cut, by a fault of a
+    /// device, a full heap or want of memory, the transaction is committed up to its last whole step, and what the
+    /// step has told the devices stays.
     pub fn advance(&mut self, k: u8, most: u64) -> Result<Advance, AdvanceError>
-        requires may { Says I.state O.state E.state C.prog S.meaning self.old (λ o. may_make (core_limits S.meaning self.old) o.core (Event.Advance k most) ≡ true) }
+        requires may { Says I.state O.state E.state C.prog S.meaning self.old
+            (λ o. may_make (core_limits S.meaning self.old) o.core (Event.Advance k most) ≡ true) }
         requires good { IsGoodCore I.state O.state E.state C.prog C.sound S.reserved S.meaning self.old }
         ensures good { IsGoodCore I.state O.state E.state C.prog C.sound S.reserved S.meaning self.new }
         ensures job { SameJob S.meaning self.old self.new }
         ensures advanced { Leads I.state O.state E.state C.prog S.meaning self.old self.new
-            (λ o o1. Advanced (C.prog (core_client self.old)) (core_limits S.meaning self.old).length k (core_limits S.meaning self.old).segments most (S.reserved self.new.store) (core_limits S.meaning self.old).words o result o1) }
-        ensures counted { HasCounted result (core_devices I.state O.state E.state self.old) (core_devices I.state O.state E.state self.new) }
+            (λ o o1. Advanced (C.prog (core_client self.old)) (core_limits S.meaning self.old).length k
+            (core_limits S.meaning self.old).segments most (S.reserved self.new.store)
+            (core_limits S.meaning self.old).words o result o1) }
+        ensures counted { HasCounted result (core_devices I.state O.state E.state self.old)
+            (core_devices I.state O.state E.state self.new) }
         ensures peaks { Says I.state O.state E.state C.prog S.meaning self.old
-            (λ o. IfTold (S.peaks (core_store self.old)) (S.peaks (core_store self.new)) (RisesWithin (C.prog (core_client self.old)) (core_limits S.meaning self.old).length ((core_limits S.meaning self.old).words / 2) (core_limits S.meaning self.old).segments k o.core)) }
+            (λ o. IfTold (S.peaks (core_store self.old)) (S.peaks (core_store self.new))
+            (RisesWithin (C.prog (core_client self.old)) (core_limits S.meaning self.old).length
+            ((core_limits S.meaning self.old).words / 2) (core_limits S.meaning self.old).segments k o.core)) }
     {
         self.store.known();
         match self.books.take(k) {

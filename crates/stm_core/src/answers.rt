@@ -14,7 +14,8 @@ pub enum Advance {
     Ran(u64),
     /// The next step waits, over what the transaction sees.
     Waits(u64),
-    /// The last step was the thread's last. The number is 0 where the thread had ended in its transaction before the call.
+    /// The last step was the thread's last. The number is 0 where the thread had ended in its transaction before the
+    /// call.
     Ended(u64),
     /// The next step prints or reads, which only a solo transaction may.
     NeedSolo(u64),
@@ -24,8 +25,8 @@ pub enum Advance {
 /// transaction whose step was cut, the whole steps are committed.
 #[derive(Clone, Copy, Debug, Drop, Error, PartialEq, Eq)]
 pub enum AdvanceError {
-    /// The transaction lost this conflict: before the call, or to another transaction that has changed the record which the next
-    /// step asks to change.
+    /// The transaction lost this conflict: before the call, or to another transaction that has changed the record
+    /// which the next step asks to change.
     #[error("the transaction lost a conflict")]
     Lost(Conflict),
     /// The heap is full, there was no memory, or, in a step of a solo transaction, a device failed. The core keeps the

@@ -46,13 +46,20 @@ impl<'p, C: Client, S: SegStore, I: Source, O: Sink, E: Sink> Core<'p, C, S, I, 
     fn make_work(&mut self, t: u32) -> Result<Work<C::State>, NoMemory>
         requires there { t < length self.old.books.threads.entries }
         requires few { length self.old.books.hands.items ≤ 8 }
-        ensures rest { self.new ≡ record self.old { books = record self.old.books { history = self.new.books.history; conflicts = self.new.books.conflicts } } }
+        ensures rest { self.new ≡ record self.old {
+          books = record self.old.books {
+            history = self.new.books.history;
+            conflicts = self.new.books.conflicts;
+          };
+        } }
         ensures turns { self.new.books.history.entries ≡ self.old.books.history.entries }
         ensures turns_kept { self.old.books.history.room ≤ self.new.books.history.room }
         ensures losses { self.new.books.conflicts.entries ≡ self.old.books.conflicts.entries }
         ensures losses_kept { self.old.books.conflicts.room ≤ self.new.books.conflicts.room }
-        ensures turn_room { IfOk result (λ x. sum_by one_running self.old.books.hands.items < self.new.books.history.room) }
-        ensures loss_room { IfOk result (λ x. sum_by one_running self.old.books.hands.items < self.new.books.conflicts.room) }
+        ensures turn_room { IfOk result
+            (λ x. sum_by one_running self.old.books.hands.items < self.new.books.history.room) }
+        ensures loss_room { IfOk result
+            (λ x. sum_by one_running self.old.books.hands.items < self.new.books.conflicts.room) }
         ensures fresh { IfOk result (IsFresh t self.old.books) }
     {
         let state = self.client.copy(self.alloc, self.books.threads.at(t))?;
@@ -89,7 +96,8 @@ impl<'p, C: Client, S: SegStore, I: Source, O: Sink, E: Sink> Core<'p, C, S, I, 
         ensures reserved { S.reserved self.new.store ≡ S.reserved self.old.store }
         ensures peaks { S.peaks self.new.store ≡ S.peaks self.old.store }
         ensures broken { self.new.books.broken ≡ self.old.books.broken }
-        ensures core { (w : Worlds) → core_of w (S.meaning self.new.store) self.new.books ≡ begun_at k work.thread work.state (core_of w (S.meaning self.old.store) self.old.books) }
+        ensures core { (w : Worlds) → core_of w (S.meaning self.new.store) self.new.books ≡ begun_at k work.thread
+            work.state (core_of w (S.meaning self.old.store) self.old.books) }
     {
         self.store.known();
         self.store.begin(k);
@@ -105,7 +113,8 @@ impl<'p, C: Client, S: SegStore, I: Source, O: Sink, E: Sink> Core<'p, C, S, I, 
         requires good { IsGoodCore I.state O.state E.state C.prog C.sound S.reserved S.meaning self.old }
         ensures good { IsGoodCore I.state O.state E.state C.prog C.sound S.reserved S.meaning self.new }
         ensures job { SameJob S.meaning self.old self.new }
-        ensures begun { Leads I.state O.state E.state C.prog S.meaning self.old self.new (InCore (Begun (C.prog (core_client self.old)) k t (core_limits S.meaning self.old).budget result)) }
+        ensures begun { Leads I.state O.state E.state C.prog S.meaning self.old self.new
+            (InCore (Begun (C.prog (core_client self.old)) k t (core_limits S.meaning self.old).budget result)) }
         ensures peaks { S.peaks (core_store self.new) ≡ S.peaks (core_store self.old) }
     {
         self.store.known();

@@ -1,5 +1,5 @@
-//! What a core keeps beside its store: the committed states of the threads, what each segment has in hand, the history and
-//! the conflicts.
+//! What a core keeps beside its store: the committed states of the threads, what each segment has in hand, the
+//! history and the conflicts.
 ghost use Rattle.std.specs.Prelude.{◌≡◌, ◌<◌, ◌≤◌, ◌+◌, ◌-◌, ◌^◌, ◌++◌, [], ◌∷◌, length, true, false, slice_set, slice_get, Some, take, OnOk, OnErr};
 ghost use Rattle.stm_core.specs.Books.{runs_at, started_at, side_of};
 ghost use Rattle.stm_core.specs.Moves.{first_cause};
@@ -13,8 +13,8 @@ use py_data::{Conflict, Conflicts, Names, NoMemory, Side};
 use std::alloc::AllocError;
 use std::mem;
 
-/// The names that a transaction gave and the threads that it started, and how many of them there were when its open step
-/// began; and the records that its steps looked at last.
+/// The names that a transaction gave and the threads that it started, and how many of them there were when its open
+/// step began; and the records that its steps looked at last.
 #[derive(Drop)]
 pub struct Progress<T> {
     pub names: Names,
@@ -77,7 +77,10 @@ pub struct Books<T> {
 impl<T: Drop> Progress<T> {
     /// A step begins: what stands now is kept.
     pub fn open(&mut self)
-        ensures { self.new ≡ record self.old { kept_names = length self.old.names; kept_started = length self.old.started } }
+        ensures { self.new ≡ record self.old {
+          kept_names = length self.old.names;
+          kept_started = length self.old.started;
+        } }
     {
         self.kept_names = self.names.len();
         self.kept_started = self.started.len();
@@ -85,7 +88,10 @@ impl<T: Drop> Progress<T> {
 
     /// Takes back the names and the threads of the step, and tells how many threads these were.
     pub fn undo(&mut self) -> usize
-        ensures back { self.new ≡ record self.old { names = take self.old.kept_names self.old.names; started = take self.old.kept_started self.old.started } }
+        ensures back { self.new ≡ record self.old {
+          names = take self.old.kept_names self.old.names;
+          started = take self.old.kept_started self.old.started;
+        } }
         ensures count { result + length self.new.started ≡ length self.old.started }
     {
         let before = self.started.len();
@@ -106,7 +112,12 @@ impl<T: Drop> Work<T> {
 
     /// The transaction of a segment, as a side of a conflict.
     pub fn side(&self, segment: u8) -> Side
-        ensures { result ≡ record { segment = segment; thread = self.now.thread; begun = self.now.begun; solo = self.now.solo } }
+        ensures { result ≡ record {
+          segment = segment;
+          thread = self.now.thread;
+          begun = self.now.begun;
+          solo = self.now.solo;
+        } }
     {
         Side {
             segment,
@@ -123,7 +134,9 @@ impl<T: Drop> Books<T> {
         ensures rest { self.new ≡ record self.old { threads = self.new.threads; pending = self.new.pending } }
         ensures threads { self.new.threads.entries ≡ self.old.threads.entries }
         ensures room { self.old.threads.room ≤ self.new.threads.room }
-        ensures ok { OnOk result ((self.new.pending ≡ self.old.pending + 1) × (self.new.pending ≤ self.new.threads.room) × (progress.new ≡ record progress.old { started = progress.old.started ++ s ∷ [] })) }
+        ensures ok { OnOk result ((self.new.pending ≡ self.old.pending + 1)
+            × (self.new.pending ≤ self.new.threads.room)
+            × (progress.new ≡ record progress.old { started = progress.old.started ++ s ∷ [] })) }
         ensures err { OnErr result ((self.new.pending ≡ self.old.pending) × (progress.new ≡ progress.old)) }
     {
         let Some(pending) = self.pending.checked_add(1) else {
@@ -203,7 +216,11 @@ impl<T: Drop> Books<T> {
         requires runs { runs_at self.old.hands.items j ≡ true }
         requires pending { started_at self.old.hands.items j ≤ self.old.pending }
         requires room { 0 < self.old.conflicts.room }
-        ensures rest { self.new ≡ record self.old { hands = self.new.hands; pending = self.new.pending; conflicts = self.new.conflicts } }
+        ensures rest { self.new ≡ record self.old {
+          hands = self.new.hands;
+          pending = self.new.pending;
+          conflicts = self.new.conflicts;
+        } }
         ensures hands { self.new.hands.items ≡ slice_set self.old.hands.items j (Hand.Doomed f) }
         ensures pending { self.new.pending + started_at self.old.hands.items j ≡ self.old.pending }
         ensures conflicts { self.new.conflicts.entries ≡ self.old.conflicts.entries ++ f ∷ [] }

@@ -46,17 +46,27 @@ impl<T: Drop> Books<T> {
         matches!(self.hands[j as usize], Hand::Runs(_))
     }
 
-    /// Commits a transaction: its turn, the state of its thread, and the threads that it started. There is room for them.
+    /// Commits a transaction: its turn, the state of its thread, and the threads that it started. There is room for
+    /// them.
     fn add_turn(&mut self, work: Work<T>)
         requires thread { work.thread < length self.old.threads.entries }
         requires turns { 0 < self.old.history.room }
         requires pending { length work.progress.started ≤ self.old.pending }
         requires threads { self.old.pending ≤ self.old.threads.room }
-        ensures rest { self.new ≡ record self.old { threads = self.new.threads; pending = self.new.pending; history = self.new.history } }
-        ensures threads { self.new.threads.entries ≡ slice_set self.old.threads.entries work.thread work.state ++ work.progress.started }
+        ensures rest { self.new ≡ record self.old {
+          threads = self.new.threads;
+          pending = self.new.pending;
+          history = self.new.history;
+        } }
+        ensures threads { self.new.threads.entries ≡ slice_set self.old.threads.entries work.thread
+            work.state ++ work.progress.started }
         ensures thread_room { self.old.threads.room ≤ self.new.threads.room + length work.progress.started }
         ensures pending { self.new.pending + length work.progress.started ≡ self.old.pending }
-        ensures history { self.new.history.entries ≡ self.old.history.entries ++ record { thread = work.thread; steps = work.steps; names = work.progress.names } ∷ [] }
+        ensures history { self.new.history.entries ≡ self.old.history.entries ++ record {
+          thread = work.thread;
+          steps = work.steps;
+          names = work.progress.names;
+        } ∷ [] }
         ensures history_room { self.old.history.room ≤ self.new.history.room + 1 }
     {
         let Work {
@@ -121,8 +131,8 @@ impl<'p, C: Client, S: SegStore, I: Source, O: Sink, E: Sink> Core<'p, C, S, I, 
         }
     }
 
-    /// The conflict by which the writer `me` of segment k loses to the transaction of segment j, if that is a reader that
-    /// wins.
+    /// The conflict by which the writer `me` of segment k loses to the transaction of segment j, if that is a reader
+    /// that wins.
     fn beaten_by(&self, k: u8, me: Side, j: u8) -> Option<Conflict>
         requires writer { k < (S.meaning self.now.store).segments }
         requires reader { j < (S.meaning self.now.store).segments }
@@ -152,7 +162,8 @@ impl<'p, C: Client, S: SegStore, I: Source, O: Sink, E: Sink> Core<'p, C, S, I, 
     fn beaten(&self, k: u8, me: Side) -> Option<Conflict>
         requires writer { k < (S.meaning self.now.store).segments }
         requires hands { length self.now.books.hands.items ≡ (S.meaning self.now.store).segments }
-        ensures { FirstBeats self.now.books.hands.items (S.meaning self.now.store) k me (S.meaning self.now.store).segments result }
+        ensures { FirstBeats self.now.books.hands.items (S.meaning self.now.store) k me
+            (S.meaning self.now.store).segments result }
     {
         let count = self.store.segments();
         for j in 0..count {
@@ -164,8 +175,8 @@ impl<'p, C: Client, S: SegStore, I: Source, O: Sink, E: Sink> Core<'p, C, S, I, 
         None
     }
 
-    /// The transaction of segment j is doomed, where it has looked at what the transaction of segment k, which was taken out
-    /// of its hand, changed.
+    /// The transaction of segment j is doomed, where it has looked at what the transaction of segment k, which was
+    /// taken out of its hand, changed.
     fn doom_reader(&mut self, k: u8, work: &Work<C::State>, j: u8)
         requires fit { Fit k (S.meaning self.old.store) self.old.books work.now.progress }
         requires reader { j < (S.meaning self.old.store).segments }
@@ -180,7 +191,9 @@ impl<'p, C: Client, S: SegStore, I: Source, O: Sink, E: Sink> Core<'p, C, S, I, 
         ensures cause { self.new.books.cause ≡ self.old.books.cause }
         ensures core { (w : Worlds) → core_with w k (S.meaning self.new.store) self.new.books work.now
             ≡ cond (eqb j k) (core_with w k (S.meaning self.old.store) self.old.books work.now)
-            (doom_one k (transaction w.own ((S.meaning self.old.store).part k) work.now) j (core_with w k (S.meaning self.old.store) self.old.books work.now) ((core_with w k (S.meaning self.old.store) self.old.books work.now).segments j)) }
+            (doom_one k (transaction w.own ((S.meaning self.old.store).part k) work.now) j
+            (core_with w k (S.meaning self.old.store) self.old.books work.now)
+            ((core_with w k (S.meaning self.old.store) self.old.books work.now).segments j)) }
     {
         match self.read_by(k, j) {
             None => (),
@@ -229,12 +242,18 @@ impl<'p, C: Client, S: SegStore, I: Source, O: Sink, E: Sink> Core<'p, C, S, I, 
         requires count { CountsSteps self.old.spent self.old.books.history.entries }
         ensures whole { Whole (S.meaning self.new.store) self.new.books }
         ensures count { CountsSteps self.new.spent self.new.books.history.entries }
-        ensures rest { self.new ≡ record self.old { store = self.new.store; books = self.new.books; spent = self.new.spent } }
+        ensures rest { self.new ≡ record self.old {
+          store = self.new.store;
+          books = self.new.books;
+          spent = self.new.spent;
+        } }
         ensures shape { SameShape (S.meaning self.old.store) (S.meaning self.new.store) }
         ensures reserved { S.reserved self.new.store ≡ S.reserved self.old.store }
         ensures peaks { S.peaks self.new.store ≡ S.peaks self.old.store }
         ensures place { result ≡ length self.old.books.history.entries }
-        ensures core { (w : Worlds) → core_of (worlds_after w work) (S.meaning self.new.store) self.new.books ≡ published k (transaction w.own ((S.meaning self.old.store).part k) work) (core_with w k (S.meaning self.old.store) self.old.books work) }
+        ensures core { (w : Worlds) → core_of (worlds_after w work) (S.meaning self.new.store)
+            self.new.books ≡ published k (transaction w.own ((S.meaning self.old.store).part k) work)
+            (core_with w k (S.meaning self.old.store) self.old.books work) }
         ensures broken { self.new.books.broken ≡ self.old.books.broken }
         ensures cause { self.new.books.cause ≡ self.old.books.cause }
     {
@@ -251,18 +270,26 @@ impl<'p, C: Client, S: SegStore, I: Source, O: Sink, E: Sink> Core<'p, C, S, I, 
         requires fit { Fit k (S.meaning self.old.store) self.old.books work.progress }
         requires idle { slice_get self.old.books.hands.items k ≡ Some Hand.Idle }
         requires thread { work.thread < length self.old.books.threads.entries }
-        requires numbers { (j : ℕ) (y : Work C.State) → slice_get self.old.books.hands.items j ≡ Some (Hand.Runs y) → y.begun ≢ work.begun }
+        requires numbers { (j : ℕ) (y : Work C.State) → slice_get self.old.books.hands.items j ≡ Some (Hand.Runs y)
+            → y.begun ≢ work.begun }
         requires count { CountsSteps self.old.spent self.old.books.history.entries }
         ensures whole { Whole (S.meaning self.new.store) self.new.books }
         ensures count { CountsSteps self.new.spent self.new.books.history.entries }
-        ensures rest { self.new ≡ record self.old { store = self.new.store; books = self.new.books; spent = self.new.spent } }
+        ensures rest { self.new ≡ record self.old {
+          store = self.new.store;
+          books = self.new.books;
+          spent = self.new.spent;
+        } }
         ensures shape { SameShape (S.meaning self.old.store) (S.meaning self.new.store) }
         ensures reserved { S.reserved self.new.store ≡ S.reserved self.old.store }
         ensures peaks { S.peaks self.new.store ≡ S.peaks self.old.store }
         ensures broken { self.new.books.broken ≡ self.old.books.broken }
         ensures cause { self.new.books.cause ≡ self.old.books.cause }
-        ensures ends { (w : Worlds) → (w1 : Worlds) × CommitEnds (C.prog self.old.client.now) k (S.meaning self.old.store).segments (transaction w.own ((S.meaning self.old.store).part k) work) result
-            (core_with w k (S.meaning self.old.store) self.old.books work) (core_of w1 (S.meaning self.new.store) self.new.books) }
+        ensures ends { (w : Worlds) → (w1 : Worlds)
+            × CommitEnds (C.prog self.old.client.now) k (S.meaning self.old.store).segments
+            (transaction w.own ((S.meaning self.old.store).part k) work) result
+            (core_with w k (S.meaning self.old.store) self.old.books work)
+            (core_of w1 (S.meaning self.new.store) self.new.books) }
     {
         if work.steps == 0 {
             self.drop_out(k, work);
@@ -283,17 +310,19 @@ impl<'p, C: Client, S: SegStore, I: Source, O: Sink, E: Sink> Core<'p, C, S, I, 
 
     /// Ends what segment `k` has in hand, which becomes a turn, or loses. The slot is idle then.
     ///
-    /// A doomed slot answers the conflict that it lost. A transaction that has run no step is dropped. Otherwise there are two
-    /// passes. Where a running transaction that wins has looked at a record that this one changed, the answer is that
-    /// conflict, and all other slots stay as they are. Where none wins, all that have looked at one are doomed, the changes
-    /// become the image's, the state of the thread and the threads that it started become committed, and the turn is added
-    /// to the history.
+    /// A doomed slot answers the conflict that it lost. A transaction that has run no step is dropped. Otherwise
+    /// there are two passes. Where a running transaction that wins has looked at a record that this one changed, the
+    /// answer is that conflict, and all other slots stay as they are. Where none wins, all that have looked at one
+    /// are doomed, the changes become the image's, the state of the thread and the threads that it started become
+    /// committed, and the turn is added to the history.
     pub fn commit(&mut self, k: u8) -> Result<Commit, Conflict>
-        requires may { Says I.state O.state E.state C.prog S.meaning self.old (λ o. may_make (core_limits S.meaning self.old) o.core (Event.Commit k) ≡ true) }
+        requires may { Says I.state O.state E.state C.prog S.meaning self.old
+            (λ o. may_make (core_limits S.meaning self.old) o.core (Event.Commit k) ≡ true) }
         requires good { IsGoodCore I.state O.state E.state C.prog C.sound S.reserved S.meaning self.old }
         ensures good { IsGoodCore I.state O.state E.state C.prog C.sound S.reserved S.meaning self.new }
         ensures job { SameJob S.meaning self.old self.new }
-        ensures committed { Leads I.state O.state E.state C.prog S.meaning self.old self.new (InCore (Committed (C.prog (core_client self.old)) k (core_limits S.meaning self.old).segments result)) }
+        ensures committed { Leads I.state O.state E.state C.prog S.meaning self.old self.new
+            (InCore (Committed (C.prog (core_client self.old)) k (core_limits S.meaning self.old).segments result)) }
         ensures peaks { S.peaks (core_store self.new) ≡ S.peaks (core_store self.old) }
     {
         match self.books.take(k) {

@@ -29,9 +29,9 @@ pub enum Event {
 /// What an event was answered.
 #[derive(Clone, Copy, Debug, Drop, PartialEq, Eq)]
 pub enum Reply {
-    /// The condition of the call didn't hold, and it wasn't made: there is no such segment; nothing is in hand to advance or
-    /// to commit; no step is asked for; or the steps would be more than the length. Of a piece it also says that the
-    /// thread has ended in its transaction.
+    /// The condition of the call didn't hold, and it wasn't made: there is no such segment; nothing is in hand to
+    /// advance or to commit; no step is asked for; or the steps would be more than the length. Of a piece it also
+    /// says that the thread has ended in its transaction.
     Skipped,
     Begun,
     Refused(BeginError),

@@ -76,12 +76,12 @@ impl<'p, C: Client, S: SegStore, I: Source, O: Sink, E: Sink> Core<'p, C, S, I, 
     ghost use Rattle.stm_core.specs.Finishing.{idle_core, IsUnused, HasFailed, SettlesSolo, HandedOut};
     ghost use Rattle.stm_core.specs.CoreHeld.{core_client, core_devices, core_limits, core_store, first_devices, CoreStands, HasDevices, IsFullKept, IsGoodCore, Leads, SameJob, Says};
 
-    /// A core over an empty store, whose only thread is the client's first, which may stand over no records. At want of memory
-    /// the devices come back.
+    /// A core over an empty store, whose only thread is the client's first, which may stand over no records. At want
+    /// of memory the devices come back.
     ///
-    /// `length` is the most steps of a transaction, from 1 to `LENGTH_LIMIT`; with `budget` steps in the history, from 1 to
-    /// `BUDGET_LIMIT`, no transaction begins. What is told to the devices from now on is told of as a world whose outputs are empty
-    /// and whose input is what the source tells now.
+    /// `length` is the most steps of a transaction, from 1 to `LENGTH_LIMIT`; with `budget` steps in the history,
+    /// from 1 to `BUDGET_LIMIT`, no transaction begins. What is told to the devices from now on is told of as a world
+    /// whose outputs are empty and whose input is what the source tells now.
     pub fn new(
         alloc: Global,
         client: &'p C,
@@ -98,9 +98,15 @@ impl<'p, C: Client, S: SegStore, I: Source, O: Sink, E: Sink> Core<'p, C, S, I, 
         requires budget { (1 ≤ budget) × (budget ≤ BUDGET_LIMIT) }
         ensures good { IfOk result (IsGoodCore I.state O.state E.state C.prog C.sound S.reserved S.meaning) }
         ensures client { IfOk result (λ x. core_client x ≡ client.now) }
-        ensures limits { IfOk result (λ x. core_limits S.meaning x ≡ record { length = length; budget = budget; segments = (S.meaning store).segments; words = (S.meaning store).limit }) }
+        ensures limits { IfOk result (λ x. core_limits S.meaning x ≡ record {
+          length = length;
+          budget = budget;
+          segments = (S.meaning store).segments;
+          words = (S.meaning store).limit;
+        }) }
         ensures devices { IfOk result (HasDevices input out err) }
-        ensures state { IfOk result (λ x. CoreStands I.state O.state E.state C.prog S.meaning x (outer_new (core_new (C.prog client.now) (first_world (I.state input).told (I.state input).ends)))) }
+        ensures state { IfOk result (λ x. CoreStands I.state O.state E.state C.prog S.meaning x
+            (outer_new (core_new (C.prog client.now) (first_world (I.state input).told (I.state input).ends)))) }
         ensures peaks { IfOk result (λ x. S.peaks (core_store x) ≡ S.peaks store) }
         ensures back { IfErr result (λ e. (e.1 ≡ input) × (e.2 ≡ out) × (e.3 ≡ err)) }
     {
@@ -136,7 +142,8 @@ impl<'p, C: Client, S: SegStore, I: Source, O: Sink, E: Sink> Core<'p, C, S, I, 
         requires good { IsGoodCore I.state O.state E.state C.prog C.sound S.reserved S.meaning self.old }
         ensures good { IsGoodCore I.state O.state E.state C.prog C.sound S.reserved S.meaning self.new }
         ensures job { SameJob S.meaning self.old self.new }
-        ensures settles { Leads I.state O.state E.state C.prog S.meaning self.old self.new (SettlesSolo (C.prog (core_client self.old)) (core_limits S.meaning self.old).segments) }
+        ensures settles { Leads I.state O.state E.state C.prog S.meaning self.old self.new
+            (SettlesSolo (C.prog (core_client self.old)) (core_limits S.meaning self.old).segments) }
         ensures peaks { S.peaks (core_store self.new) ≡ S.peaks (core_store self.old) }
         ensures none { NoneSolo self.new.books.hands.items }
     {
@@ -160,7 +167,8 @@ impl<'p, C: Client, S: SegStore, I: Source, O: Sink, E: Sink> Core<'p, C, S, I, 
         ensures shape { SameShape (S.meaning self.old.store) (S.meaning self.new.store) }
         ensures reserved { S.reserved self.new.store ≡ S.reserved self.old.store }
         ensures peaks { S.peaks self.new.store ≡ S.peaks self.old.store }
-        ensures core { (w : Worlds) → core_of w (S.meaning self.new.store) self.new.books ≡ with_segment k Idle (core_of w (S.meaning self.old.store) self.old.books) }
+        ensures core { (w : Worlds) → core_of w (S.meaning self.new.store) self.new.books ≡ with_segment k Idle
+            (core_of w (S.meaning self.old.store) self.old.books) }
     {
         match self.books.take(k) {
             Hand::Runs(work) => self.drop_out(k, work),
@@ -180,7 +188,8 @@ impl<'p, C: Client, S: SegStore, I: Source, O: Sink, E: Sink> Core<'p, C, S, I, 
         ensures reserved { S.reserved self.new.store ≡ S.reserved self.old.store }
         ensures peaks { S.peaks self.new.store ≡ S.peaks self.old.store }
         ensures unused { (j : ℕ) → IsUnused ((S.meaning self.new.store).part j) }
-        ensures core { (w : Worlds) → core_of w (S.meaning self.new.store) self.new.books ≡ idle_core (core_of w (S.meaning self.old.store) self.old.books) }
+        ensures core { (w : Worlds) → core_of w (S.meaning self.new.store) self.new.books ≡ idle_core
+            (core_of w (S.meaning self.old.store) self.old.books) }
     {
         let count = self.store.segments();
         'slots: for k in 0..count {
@@ -196,7 +205,8 @@ impl<'p, C: Client, S: SegStore, I: Source, O: Sink, E: Sink> Core<'p, C, S, I, 
         ensures job { SameJob S.meaning self.old self.new }
         ensures peaks { S.peaks (core_store self.new) ≡ S.peaks (core_store self.old) }
         ensures unused { (j : ℕ) → IsUnused ((S.meaning self.new.store).part j) }
-        ensures idle { Leads I.state O.state E.state C.prog S.meaning self.old self.new (λ o o1. o1 ≡ record o { core = idle_core o.core }) }
+        ensures idle { Leads I.state O.state E.state C.prog S.meaning self.old self.new
+            (λ o o1. o1 ≡ record o { core = idle_core o.core }) }
     {
         self.drop_all();
         self.store.known();
@@ -204,8 +214,10 @@ impl<'p, C: Client, S: SegStore, I: Source, O: Sink, E: Sink> Core<'p, C, S, I, 
 
     /// Whether thread 0 ended by an exception.
     fn has_failed(&self) -> bool
-        ensures yes { result ≡ true → (w : Worlds) → HasFailed (C.prog self.now.client.now) (core_of w (S.meaning self.now.store) self.now.books) }
-        ensures not { result ≡ false → (w : Worlds) → HasFailed (C.prog self.now.client.now) (core_of w (S.meaning self.now.store) self.now.books) → ⊥ }
+        ensures yes { result ≡ true → (w : Worlds)
+            → HasFailed (C.prog self.now.client.now) (core_of w (S.meaning self.now.store) self.now.books) }
+        ensures not { result ≡ false → (w : Worlds)
+            → HasFailed (C.prog self.now.client.now) (core_of w (S.meaning self.now.store) self.now.books) → ⊥ }
     {
         if self.books.threads.len() == 0 {
             return false;
@@ -216,15 +228,21 @@ impl<'p, C: Client, S: SegStore, I: Source, O: Sink, E: Sink> Core<'p, C, S, I, 
         }
     }
 
-    /// Commits the transaction that is solo, drops what else runs, and hands out the rest. The image of the store is the committed one,
-    /// and no segment has changes in it.
+    /// Commits the transaction that is solo, drops what else runs, and hands out the rest. The image of the store is
+    /// the committed one, and no segment has changes in it.
     pub fn finish(mut self) -> Finished<S, I, O, E>
         requires good { IsGoodCore I.state O.state E.state C.prog C.sound S.reserved S.meaning self }
-        ensures finished { (o : Outer C.State) → CoreStands I.state O.state E.state C.prog S.meaning self.entry o → (o1 : Outer C.State)
-            × HandedOut (C.prog (core_client self.entry)) (core_limits S.meaning self.entry).length (core_limits S.meaning self.entry).budget (core_limits S.meaning self.entry).segments (first_devices I.state O.state E.state self.entry) (device_state I.state O.state E.state (record { input = result.input; out = result.out; err = result.err; mid = false; was_mid = false }))
+        ensures finished { (o : Outer C.State) → CoreStands I.state O.state E.state C.prog S.meaning self.entry o
+            → (o1 : Outer C.State)
+            × HandedOut (C.prog (core_client self.entry)) (core_limits S.meaning self.entry).length
+            (core_limits S.meaning self.entry).budget (core_limits S.meaning self.entry).segments
+            (first_devices I.state O.state E.state self.entry)
+            (device_state I.state O.state E.state
+            (record { input = result.input; out = result.out; err = result.err; mid = false; was_mid = false }))
             result.state result.failed result.history.entries result.conflicts.entries (S.meaning result.store).image o o1
             × IsFullKept (S.reserved result.store) (S.meaning result.store).limit o1.core.cause }
-        ensures shape { ((S.meaning result.store).segments ≡ (core_limits S.meaning self.entry).segments) × ((S.meaning result.store).limit ≡ (core_limits S.meaning self.entry).words) }
+        ensures shape { ((S.meaning result.store).segments ≡ (core_limits S.meaning self.entry).segments)
+            × ((S.meaning result.store).limit ≡ (core_limits S.meaning self.entry).words) }
         ensures peaks { S.peaks result.store ≡ S.peaks (core_store self.entry) }
         ensures unused { (j : ℕ) → IsUnused ((S.meaning result.store).part j) }
     {

@@ -48,7 +48,8 @@ fn has_part<S: SegStore>(
     requires there { Has (sees (S.meaning store.now) k) a.0 }
     requires within { from + length part.now ≤ length (at (sees (S.meaning store.now) k) a.0).bytes }
     requires room { length room.old ≡ length part.now }
-    ensures { IsTrue result ↔ take (length part.now) (drop from (at (sees (S.meaning store.now) k) a.0).bytes) ≡ part.now }
+    ensures { IsTrue result ↔ take (length part.now) (drop from (at (sees (S.meaning store.now) k) a.0).bytes)
+        ≡ part.now }
 {
     store.copy_bytes(k, a, from, room);
     *room == *part
@@ -122,7 +123,8 @@ fn is_known<S: SegStore>(store: &S, k: u8, a: Addr, kind: Kind) -> bool
 /// Whether a record that is loaned is one that the segment sees and has looked at, if looks at it are noted.
 fn is_shown<S: SegStore>(store: &S, k: u8, a: Addr, r: &Entry) -> bool
     requires { k < (S.meaning store.now).segments }
-    ensures { IsTrue result ↔ (sees (S.meaning store.now) k a.0 ≡ Some r.now × (is_tracked r.now.kind ≡ true → ((S.meaning store.now).part k).looked a.0 ≡ true)) }
+    ensures { IsTrue result ↔ (sees (S.meaning store.now) k a.0 ≡ Some r.now
+        × (is_tracked r.now.kind ≡ true → ((S.meaning store.now).part k).looked a.0 ≡ true)) }
 {
     is_known(store, k, a, r.kind()) && sees_record(store, k, a, r)
 }
@@ -137,7 +139,8 @@ fn is_owned<S: SegStore>(store: &S, k: u8, a: Addr, locked: bool) -> bool
 /// Whether what is loaned at an address is as the segment sees it.
 fn is_lent<S: SegStore>(store: &S, k: u8, view: &PieceView, a: Addr) -> bool
     requires { k < (S.meaning store.now).segments }
-    ensures { IsTrue result ↔ IsLentAt (S.meaning store.now) k (piece_state view.now).loaned (piece_state view.now).locked a.0 }
+    ensures { IsTrue result ↔ IsLentAt (S.meaning store.now) k (piece_state view.now).loaned
+        (piece_state view.now).locked a.0 }
 {
     if !is_owned(store, k, a, view.is_locked(a.0)) {
         return false;
@@ -151,7 +154,8 @@ fn is_lent<S: SegStore>(store: &S, k: u8, view: &PieceView, a: Addr) -> bool
 /// Whether all that is loaned is as the segment sees it.
 fn are_lent<S: SegStore>(store: &S, k: u8, view: &PieceView) -> bool
     requires { k < (S.meaning store.now).segments }
-    ensures { IsTrue result ↔ AreLent (S.meaning store.now) k (piece_state view.now).loaned (piece_state view.now).locked }
+    ensures { IsTrue result ↔ AreLent (S.meaning store.now) k (piece_state view.now).loaned
+        (piece_state view.now).locked }
 {
     view.known();
     let mut rest = view.names();
@@ -174,7 +178,8 @@ impl<'p, C: Client, S: SegStore, I: Source, O: Sink, E: Sink> Core<'p, C, S, I, 
     /// Whether a piece fits this work.
     fn fits_work(&self, k: u8, work: &Work<C::State>, p: &Piece<C::State>) -> bool
         requires { k < (S.meaning self.now.store).segments }
-        ensures { IsTrue result ↔ FitsWork (S.meaning self.now.store) k self.now.length work.now p.now.start (piece_state p.now.view).loaned (piece_state p.now.view).locked p.now.steps }
+        ensures { IsTrue result ↔ FitsWork (S.meaning self.now.store) k self.now.length work.now p.now.start
+            (piece_state p.now.view).loaned (piece_state p.now.view).locked p.now.steps }
     {
         if p.steps > self.length || work.steps > self.length - p.steps {
             return false;
@@ -185,13 +190,16 @@ impl<'p, C: Client, S: SegStore, I: Source, O: Sink, E: Sink> Core<'p, C, S, I, 
         are_lent(&self.store, k, &p.view)
     }
 
-    /// Whether a piece fits the transaction that segment `k` has in hand: it begins with the transaction's state, what was loaned
-    /// to it is as the segment sees it, was looked at where looks are noted, and is held where the piece may change it, and
-    /// its steps are within the length. It takes time of what was loaned.
+    /// Whether a piece fits the transaction that segment `k` has in hand: it begins with the transaction's state,
+    /// what was loaned to it is as the segment sees it, was looked at where looks are noted, and is held where the
+    /// piece may change it, and its steps are within the length. It takes time of what was loaned.
     pub fn fits(&self, k: u8, p: &Piece<C::State>) -> bool
         requires segment { k < (core_limits S.meaning self.now).segments }
         requires good { IsGoodCore I.state O.state E.state C.prog C.sound S.reserved S.meaning self.now }
-        ensures { Says I.state O.state E.state C.prog S.meaning self.now (λ o. IsTrue result ↔ FitsSegment (core_limits S.meaning self.now).length o.core.image (o.core.segments k) p.now.start (piece_state p.now.view).loaned (piece_state p.now.view).locked p.now.steps) }
+        ensures { Says I.state O.state E.state C.prog S.meaning self.now
+            (λ o. IsTrue result ↔ FitsSegment (core_limits S.meaning self.now).length o.core.image
+            (o.core.segments k) p.now.start (piece_state p.now.view).loaned (piece_state p.now.view).locked
+            p.now.steps) }
     {
         match &self.books.hands[k as usize] {
             Hand::Runs(work) => self.fits_work(k, work, p),

@@ -40,9 +40,10 @@ impl<'p, C: Client, S: SegStore, I: Source, O: Sink, E: Sink> Core<'p, C, S, I, 
     ghost use Rattle.stm_core.specs.inner.Replayed.{CanReplay};
     ghost use Rattle.stm_core.specs.inner.Whole.{Whole, SameShape};
 
-    /// The transaction of segment k, which was taken out of its hand, makes these changes in one step of the store, and goes
-    /// on by so many steps, to this last state if it is told. Then it is put back. At want of memory the changes are taken
-    /// back, and that cause is kept: it is dropped, or, where it is solo, committed up to its last whole step.
+    /// The transaction of segment k, which was taken out of its hand, makes these changes in one step of the store,
+    /// and goes on by so many steps, to this last state if it is told. Then it is put back. At want of memory the
+    /// changes are taken back, and that cause is kept: it is dropped, or, where it is solo, committed up to its last
+    /// whole step.
     fn install_out(
         &mut self,
         k: u8,
@@ -58,15 +59,21 @@ impl<'p, C: Client, S: SegStore, I: Source, O: Sink, E: Sink> Core<'p, C, S, I, 
         requires count { CountsSteps self.old.spent self.old.books.history.entries }
         requires may { CanReplay k edits.now (after_open k (S.meaning self.old.store)) }
         requires short { IsShort most (work.steps + steps) }
-        ensures rest { self.new ≡ record self.old { store = self.new.store; books = self.new.books; spent = self.new.spent } }
+        ensures rest { self.new ≡ record self.old {
+          store = self.new.store;
+          books = self.new.books;
+          spent = self.new.spent;
+        } }
         ensures whole { Whole (S.meaning self.new.store) self.new.books }
         ensures count { CountsSteps self.new.spent self.new.books.history.entries }
         ensures shape { SameShape (S.meaning self.old.store) (S.meaning self.new.store) }
         ensures reserved { S.reserved self.old.store ≤ S.reserved self.new.store }
         ensures peaks { S.peaks self.new.store ≡ S.peaks self.old.store }
         ensures steps { IfOk result (λ n. n ≡ steps) }
-        ensures ok { OnOk result (HasPutIn k edits.now steps last (S.meaning self.old.store) self.old.books work (S.meaning self.new.store) self.new.books) }
-        ensures err { OnErr result (HasFailed k (S.meaning self.old.store) self.old.books work (S.meaning self.new.store) self.new.books) }
+        ensures ok { OnOk result (HasPutIn k edits.now steps last (S.meaning self.old.store) self.old.books work
+            (S.meaning self.new.store) self.new.books) }
+        ensures err { OnErr result (HasFailed k (S.meaning self.old.store) self.old.books work
+            (S.meaning self.new.store) self.new.books) }
     {
         let mut going = work;
         self.store.open_step(k);
@@ -85,19 +92,24 @@ impl<'p, C: Client, S: SegStore, I: Source, O: Sink, E: Sink> Core<'p, C, S, I, 
         }
     }
 
-    /// Installs a piece that fits the transaction of segment `k`: its changes are made again, and its steps count as the
-    /// transaction's. It answers how many these are. It takes memory as the store needs it. At want of memory that cause is
-    /// kept, and the transaction is dropped; a solo one is committed as it was before the piece, if it has done a step.
+    /// Installs a piece that fits the transaction of segment `k`: its changes are made again, and its steps count as
+    /// the transaction's. It answers how many these are. It takes memory as the store needs it. At want of memory
+    /// that cause is kept, and the transaction is dropped; a solo one is committed as it was before the piece, if it
+    /// has done a step.
     pub fn install(&mut self, k: u8, p: Piece<C::State>) -> Result<u64, NoMemory>
         requires segment { k < (core_limits S.meaning self.old).segments }
         requires good { IsGoodCore I.state O.state E.state C.prog C.sound S.reserved S.meaning self.old }
         requires fits { Says I.state O.state E.state C.prog S.meaning self.old
-            (λ o. FitsSegment (core_limits S.meaning self.old).length o.core.image (o.core.segments k) p.start (piece_state p.view).loaned (piece_state p.view).locked p.steps) }
+            (λ o. FitsSegment (core_limits S.meaning self.old).length o.core.image (o.core.segments k) p.start
+            (piece_state p.view).loaned (piece_state p.view).locked p.steps) }
         requires by { IsPieceBy (C.prog (core_client self.old)) p }
         ensures good { IsGoodCore I.state O.state E.state C.prog C.sound S.reserved S.meaning self.new }
         ensures job { SameJob S.meaning self.old self.new }
         ensures installed { Leads I.state O.state E.state C.prog S.meaning self.old self.new
-            (λ o o1. IsInstalled (C.prog (core_client self.old)) (core_limits S.meaning self.old).length k (core_limits S.meaning self.old).segments (S.reserved self.new.store) (core_limits S.meaning self.old).words (piece_state p.view).loaned (piece_state p.view).heap p.steps (last_of p.start p.last) result o o1) }
+            (λ o o1. IsInstalled (C.prog (core_client self.old)) (core_limits S.meaning self.old).length k
+            (core_limits S.meaning self.old).segments (S.reserved self.new.store)
+            (core_limits S.meaning self.old).words (piece_state p.view).loaned (piece_state p.view).heap p.steps
+            (last_of p.start p.last) result o o1) }
         ensures peaks { S.peaks (core_store self.new) ≡ S.peaks (core_store self.old) }
     {
         self.store.known();

@@ -44,7 +44,8 @@ fn lend<T, S: SegStore>(
     loan: &mut Loan<T>,
 ) -> Result<(), NoMemory>
     requires segment { k < (S.meaning store.now).segments }
-    requires lent { AreLent (S.meaning store.now) k (piece_state loan.old.view).loaned (piece_state loan.old.view).locked }
+    requires lent { AreLent (S.meaning store.now) k (piece_state loan.old.view).loaned
+        (piece_state loan.old.view).locked }
     ensures { Lends (S.meaning store.now) k loan.old loan.new }
 {
     if loan.has(a) || !may_lend(store, k, a) {
@@ -76,7 +77,8 @@ fn lend_key<T, S: SegStore>(
     loan: &mut Loan<T>,
 ) -> Result<(), NoMemory>
     requires segment { k < (S.meaning store.now).segments }
-    requires lent { AreLent (S.meaning store.now) k (piece_state loan.old.view).loaned (piece_state loan.old.view).locked }
+    requires lent { AreLent (S.meaning store.now) k (piece_state loan.old.view).loaned
+        (piece_state loan.old.view).locked }
     ensures { Lends (S.meaning store.now) k loan.old loan.new }
 {
     match key {
@@ -110,7 +112,8 @@ fn lend_keys<T, S: SegStore>(
     loan: &mut Loan<T>,
 ) -> Result<(), NoMemory>
     requires segment { k < (S.meaning store.now).segments }
-    requires lent { AreLent (S.meaning store.now) k (piece_state loan.old.view).loaned (piece_state loan.old.view).locked }
+    requires lent { AreLent (S.meaning store.now) k (piece_state loan.old.view).loaned
+        (piece_state loan.old.view).locked }
     ensures { Lends (S.meaning store.now) k loan.old loan.new }
 {
     if !loan.has(d) {
@@ -131,7 +134,8 @@ fn lend_recent<T, S: SegStore>(
     loan: &mut Loan<T>,
 ) -> Result<(), NoMemory>
     requires segment { k < (S.meaning store.now).segments }
-    requires lent { AreLent (S.meaning store.now) k (piece_state loan.old.view).loaned (piece_state loan.old.view).locked }
+    requires lent { AreLent (S.meaning store.now) k (piece_state loan.old.view).loaned
+        (piece_state loan.old.view).locked }
     ensures { Lends (S.meaning store.now) k loan.old loan.new }
 {
     'recent: for i in 0..RECENT_LIMIT {
@@ -163,12 +167,14 @@ impl<'p, C: Client, S: SegStore, I: Source, O: Sink, E: Sink> Core<'p, C, S, I, 
         self.client
     }
 
-    /// Whether segment `k` may be asked for a loan: it is doomed, or its transaction has done fewer steps than the length
-    /// and its thread lives.
+    /// Whether segment `k` may be asked for a loan: it is doomed, or its transaction has done fewer steps than the
+    /// length and its thread lives.
     pub fn may_loan(&self, k: u8) -> bool
         requires segment { k < (core_limits S.meaning self.now).segments }
         requires good { IsGoodCore I.state O.state E.state C.prog C.sound S.reserved S.meaning self.now }
-        ensures { Says I.state O.state E.state C.prog S.meaning self.now (λ o. IsTrue result ↔ MayLoan (C.prog (core_client self.now)) (core_limits S.meaning self.now).length (o.core.segments k)) }
+        ensures { Says I.state O.state E.state C.prog S.meaning self.now
+            (λ o. IsTrue result ↔ MayLoan (C.prog (core_client self.now)) (core_limits S.meaning self.now).length
+            (o.core.segments k)) }
     {
         match &self.books.hands[k as usize] {
             Hand::Idle => false,
@@ -199,8 +205,10 @@ impl<'p, C: Client, S: SegStore, I: Source, O: Sink, E: Sink> Core<'p, C, S, I, 
     fn lend_from(&self, k: u8) -> Result<Loan<C::State>, LoanError>
         requires segment { k < (S.meaning self.now.store).segments }
         requires runs { runs_at self.now.books.hands.items k ≡ true }
-        requires short { (x : Work C.State) → slice_get self.now.books.hands.items k ≡ Some (Runs x) → x.steps < self.now.length }
-        ensures loan { IfOk result (IsLoanFrom (S.meaning self.now.store) k self.now.length self.now.books.hands.items) }
+        requires short { (x : Work C.State) → slice_get self.now.books.hands.items k ≡ Some (Runs x)
+            → x.steps < self.now.length }
+        ensures loan { IfOk result (IsLoanFrom (S.meaning self.now.store) k self.now.length
+            self.now.books.hands.items) }
         ensures want { IfErr result (λ e. e ≡ OutOfMemory) }
     {
         match &self.books.hands[k as usize] {
@@ -209,19 +217,24 @@ impl<'p, C: Client, S: SegStore, I: Source, O: Sink, E: Sink> Core<'p, C, S, I, 
         }
     }
 
-    /// Lends the state of segment `k`'s transaction and the records that its steps looked at last, for the steps that it still has.
-    /// Of those the records are copied that have at most 1,024 values or bytes and as much room, and the strings that are
-    /// keys of dictionaries of at most 32 pairs. A segment that was doomed has nothing in hand then.
+    /// Lends the state of segment `k`'s transaction and the records that its steps looked at last, for the steps that
+    /// it still has. Of those the records are copied that have at most 1,024 values or bytes and as much room, and
+    /// the strings that are keys of dictionaries of at most 32 pairs. A segment that was doomed has nothing in hand
+    /// then.
     pub fn loan(&mut self, k: u8) -> Result<Loan<C::State>, LoanError>
         requires segment { k < (core_limits S.meaning self.old).segments }
         requires good { IsGoodCore I.state O.state E.state C.prog C.sound S.reserved S.meaning self.old }
-        requires may { Says I.state O.state E.state C.prog S.meaning self.old (λ o. MayLoan (C.prog (core_client self.old)) (core_limits S.meaning self.old).length (o.core.segments k)) }
+        requires may { Says I.state O.state E.state C.prog S.meaning self.old
+            (λ o. MayLoan (C.prog (core_client self.old)) (core_limits S.meaning self.old).length
+            (o.core.segments k)) }
         ensures good { IsGoodCore I.state O.state E.state C.prog C.sound S.reserved S.meaning self.new }
         ensures job { SameJob S.meaning self.old self.new }
         ensures lives { IfOk result (λ l. (C.prog (core_client self.old)).life l.state ≡ Lives) }
-        ensures stands { IfOk result (λ l. StandsIn (C.sound (core_client self.old)) true (piece_state l.view).heap l.state) }
+        ensures stands { IfOk result (λ l. StandsIn (C.sound (core_client self.old)) true
+            (piece_state l.view).heap l.state) }
         ensures some { IfOk result (λ l. 1 ≤ l.most) }
-        ensures loaned { Leads I.state O.state E.state C.prog S.meaning self.old self.new (λ o o1. IsLoaned (C.prog (core_client self.old)) (core_limits S.meaning self.old).length k result o o1) }
+        ensures loaned { Leads I.state O.state E.state C.prog S.meaning self.old self.new
+            (λ o o1. IsLoaned (C.prog (core_client self.old)) (core_limits S.meaning self.old).length k result o o1) }
         ensures peaks { S.peaks (core_store self.new) ≡ S.peaks (core_store self.old) }
     {
         self.store.known();

@@ -6,8 +6,8 @@ use std::cell::Cell;
 /// The most records that are kept.
 pub const RECENT_LIMIT: usize = 64;
 
-/// The addresses of the different records that were looked at last, the last one first. They are kept in cells, of whose
-/// contents no clause says anything: a note changes nothing that a contract sees.
+/// The addresses of the different records that were looked at last, the last one first. They are kept in cells, of
+/// whose contents no clause says anything: a note changes nothing that a contract sees.
 #[derive(Drop)]
 pub struct Recent {
     places: Vec<Cell<Option<Addr>>>,
@@ -33,8 +33,8 @@ impl Recent {
         }
     }
 
-    /// A record was looked at: its address is the first from now on, and the last one is let go where there are too many. It
-    /// takes no memory, and the time of the places up to the one where the address stood.
+    /// A record was looked at: its address is the first from now on, and the last one is let go where there are too
+    /// many. It takes no memory, and the time of the places up to the one where the address stood.
     pub fn note(&self, a: Addr) {
         let mut next = a;
         'places: for place in &self.places {

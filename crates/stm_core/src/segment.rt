@@ -61,11 +61,16 @@ impl<'a, T: Drop, S: SegStore, I, O, E> SegView<'a, T, S, I, O, E> {
         side: Side,
     ) -> SegView<'a, T, S, I, O, E>
         requires { Fit segment (S.meaning store.old) books.old progress.old }
-        ensures holds { holding (S.meaning result.store.now) (S.reserved result.store.now) result.books.now result.progress.now result.stopped ≡ holding (S.meaning store.old) (S.reserved store.old) books.old progress.old None }
+        ensures holds { holding (S.meaning result.store.now) (S.reserved result.store.now) result.books.now
+            result.progress.now result.stopped ≡ holding (S.meaning store.old) (S.reserved store.old) books.old
+            progress.old None }
         ensures peaks { S.peaks result.store.now ≡ S.peaks store.old }
         ensures tells { result.devices.now ≡ devices.old }
         ensures stays { (result.segment ≡ segment) × (result.side ≡ side) }
-        ensures refs { (result.store.ghost_name ≡ store.entry.ghost_name) × (result.books.ghost_name ≡ books.entry.ghost_name) × (result.progress.ghost_name ≡ progress.entry.ghost_name) × (result.devices.ghost_name ≡ devices.entry.ghost_name) }
+        ensures refs { (result.store.ghost_name ≡ store.entry.ghost_name)
+            × (result.books.ghost_name ≡ books.entry.ghost_name)
+            × (result.progress.ghost_name ≡ progress.entry.ghost_name)
+            × (result.devices.ghost_name ≡ devices.entry.ghost_name) }
     {
         SegView {
             store,
@@ -82,13 +87,23 @@ impl<'a, T: Drop, S: SegStore, I, O, E> SegView<'a, T, S, I, O, E> {
     pub fn fail(&mut self, stop: Stop) -> Stop
         ensures same { result ≡ stop }
         ensures stopped { self.new.stopped ≡ Some stop }
-        ensures stays { (self.new.segment ≡ self.old.segment) × (self.new.side ≡ self.old.side) × (self.new.devices ≡ self.old.devices) }
-        ensures refs { (self.new.store.ghost_name ≡ self.old.store.ghost_name) × (self.new.books.ghost_name ≡ self.old.books.ghost_name) × (self.new.progress.ghost_name ≡ self.old.progress.ghost_name) }
+        ensures stays { (self.new.segment ≡ self.old.segment) × (self.new.side ≡ self.old.side)
+            × (self.new.devices ≡ self.old.devices) }
+        ensures refs { (self.new.store.ghost_name ≡ self.old.store.ghost_name)
+            × (self.new.books.ghost_name ≡ self.old.books.ghost_name)
+            × (self.new.progress.ghost_name ≡ self.old.progress.ghost_name) }
         ensures store { self.new.store.now ≡ self.old.store.now }
         ensures books { self.new.books.now ≡ self.old.books.now }
         ensures progress { self.new.progress.now ≡ self.old.progress.now }
-        ensures refuses { (c : Call T) → SegWhy self.old.segment self.old.side stop c (sees (S.meaning self.old.store.now) self.old.segment) (holding (S.meaning self.new.store.now) (S.reserved self.new.store.now) self.new.books.now self.new.progress.now self.new.stopped)
-            → SegRefuses self.old.segment self.old.side c (holding (S.meaning self.old.store.now) (S.reserved self.old.store.now) self.old.books.now self.old.progress.now self.old.stopped) stop (holding (S.meaning self.new.store.now) (S.reserved self.new.store.now) self.new.books.now self.new.progress.now self.new.stopped) }
+        ensures refuses { (c : Call T)
+            → SegWhy self.old.segment self.old.side stop c (sees (S.meaning self.old.store.now) self.old.segment)
+            (holding (S.meaning self.new.store.now) (S.reserved self.new.store.now) self.new.books.now
+            self.new.progress.now self.new.stopped)
+            → SegRefuses self.old.segment self.old.side c
+            (holding (S.meaning self.old.store.now) (S.reserved self.old.store.now) self.old.books.now
+            self.old.progress.now self.old.stopped) stop
+            (holding (S.meaning self.new.store.now) (S.reserved self.new.store.now) self.new.books.now
+            self.new.progress.now self.new.stopped) }
     {
         self.stopped = Some(stop);
         stop
@@ -98,8 +113,11 @@ impl<'a, T: Drop, S: SegStore, I, O, E> SegView<'a, T, S, I, O, E> {
     pub fn refuse(&mut self, fault: StoreFault) -> Stop
         ensures same { result ≡ stop_of fault }
         ensures stopped { self.new.stopped ≡ Some result }
-        ensures stays { (self.new.segment ≡ self.old.segment) × (self.new.side ≡ self.old.side) × (self.new.devices ≡ self.old.devices) }
-        ensures refs { (self.new.store.ghost_name ≡ self.old.store.ghost_name) × (self.new.books.ghost_name ≡ self.old.books.ghost_name) × (self.new.progress.ghost_name ≡ self.old.progress.ghost_name) }
+        ensures stays { (self.new.segment ≡ self.old.segment) × (self.new.side ≡ self.old.side)
+            × (self.new.devices ≡ self.old.devices) }
+        ensures refs { (self.new.store.ghost_name ≡ self.old.store.ghost_name)
+            × (self.new.books.ghost_name ≡ self.old.books.ghost_name)
+            × (self.new.progress.ghost_name ≡ self.old.progress.ghost_name) }
         ensures store { self.new.store.now ≡ self.old.store.now }
         ensures books { self.new.books.now ≡ self.old.books.now }
         ensures progress { self.new.progress.now ≡ self.old.progress.now }
@@ -126,7 +144,8 @@ impl<'a, T: Drop, S: SegStore, I, O, E> SegView<'a, T, S, I, O, E> {
     /// The record was seen already, or a look at it isn't noted.
     fn is_seen(&self, a: Addr) -> bool
         requires there { Has (sees (S.meaning self.now.store.now) self.now.segment) a.0 }
-        ensures { result ≡ is_noted (sees (S.meaning self.now.store.now) self.now.segment a.0) (((S.meaning self.now.store.now).part self.now.segment).looked a.0) }
+        ensures { result ≡ is_noted (sees (S.meaning self.now.store.now) self.now.segment a.0)
+            (((S.meaning self.now.store.now).part self.now.segment).looked a.0) }
     {
         if is_tracked_kind(self.store.kind(self.segment, a)) {
             self.store.has_looked(self.segment, a)
@@ -138,13 +157,20 @@ impl<'a, T: Drop, S: SegStore, I, O, E> SegView<'a, T, S, I, O, E> {
     /// Notes a look at a record, where looks at it are noted and it wasn't seen yet.
     fn look(&mut self, a: Addr) -> Result<(), Stop>
         requires there { Has (sees (S.meaning self.old.store.now) self.old.segment) a.0 }
-        ensures done { OnOk result (Looks a.0 self.old.segment (S.meaning self.old.store.now) (S.meaning self.new.store.now)) }
+        ensures done { OnOk result (Looks a.0 self.old.segment (S.meaning self.old.store.now)
+            (S.meaning self.new.store.now)) }
         ensures stopped { OnOk result (self.new.stopped ≡ self.old.stopped) }
-        ensures quiet { is_noted (sees (S.meaning self.old.store.now) self.old.segment a.0) (((S.meaning self.old.store.now).part self.old.segment).looked a.0) ≡ true → self.new ≡ self.old }
-        ensures err { IfErr result (λ e. (e ≡ OutOfMemory) × (self.new.stopped ≡ Some OutOfMemory) × (S.meaning self.new.store.now ≡ S.meaning self.old.store.now)) }
-        ensures unsure { IfErr result (λ e. is_noted (sees (S.meaning self.old.store.now) self.old.segment a.0) (((S.meaning self.old.store.now).part self.old.segment).looked a.0) ≡ false) }
-        ensures stays { (self.new.segment ≡ self.old.segment) × (self.new.side ≡ self.old.side) × (self.new.devices ≡ self.old.devices) }
-        ensures refs { (self.new.store.ghost_name ≡ self.old.store.ghost_name) × (self.new.books.ghost_name ≡ self.old.books.ghost_name) × (self.new.progress.ghost_name ≡ self.old.progress.ghost_name) }
+        ensures quiet { is_noted (sees (S.meaning self.old.store.now) self.old.segment a.0)
+            (((S.meaning self.old.store.now).part self.old.segment).looked a.0) ≡ true → self.new ≡ self.old }
+        ensures err { IfErr result (λ e. (e ≡ OutOfMemory) × (self.new.stopped ≡ Some OutOfMemory)
+            × (S.meaning self.new.store.now ≡ S.meaning self.old.store.now)) }
+        ensures unsure { IfErr result (λ e. is_noted (sees (S.meaning self.old.store.now) self.old.segment a.0)
+            (((S.meaning self.old.store.now).part self.old.segment).looked a.0) ≡ false) }
+        ensures stays { (self.new.segment ≡ self.old.segment) × (self.new.side ≡ self.old.side)
+            × (self.new.devices ≡ self.old.devices) }
+        ensures refs { (self.new.store.ghost_name ≡ self.old.store.ghost_name)
+            × (self.new.books.ghost_name ≡ self.old.books.ghost_name)
+            × (self.new.progress.ghost_name ≡ self.old.progress.ghost_name) }
         ensures books { self.new.books.now ≡ self.old.books.now }
         ensures progress { self.new.progress.now ≡ self.old.progress.now }
         ensures reserved { S.reserved self.new.store.now ≡ S.reserved self.old.store.now }
@@ -166,13 +192,20 @@ impl<'a, T: Drop, S: SegStore, I, O, E> SegView<'a, T, S, I, O, E> {
         ensures store { S.meaning self.new.store.now ≡ after_drop j (S.meaning self.old.store.now) }
         ensures reserved { S.reserved self.new.store.now ≡ S.reserved self.old.store.now }
         ensures peaks { S.peaks self.new.store.now ≡ S.peaks self.old.store.now }
-        ensures books { self.new.books.now ≡ record self.old.books.now { hands = self.new.books.now.hands; pending = self.new.books.now.pending; conflicts = self.new.books.now.conflicts } }
+        ensures books { self.new.books.now ≡ record self.old.books.now {
+          hands = self.new.books.now.hands;
+          pending = self.new.books.now.pending;
+          conflicts = self.new.books.now.conflicts;
+        } }
         ensures hands { self.new.books.now.hands.items ≡ slice_set self.old.books.now.hands.items j (Hand.Doomed f) }
         ensures conflicts { self.new.books.now.conflicts.entries ≡ self.old.books.now.conflicts.entries ++ f ∷ [] }
         ensures progress { self.new.progress.now ≡ self.old.progress.now }
         ensures stopped { self.new.stopped ≡ self.old.stopped }
-        ensures stays { (self.new.segment ≡ self.old.segment) × (self.new.side ≡ self.old.side) × (self.new.devices ≡ self.old.devices) }
-        ensures refs { (self.new.store.ghost_name ≡ self.old.store.ghost_name) × (self.new.books.ghost_name ≡ self.old.books.ghost_name) × (self.new.progress.ghost_name ≡ self.old.progress.ghost_name) }
+        ensures stays { (self.new.segment ≡ self.old.segment) × (self.new.side ≡ self.old.side)
+            × (self.new.devices ≡ self.old.devices) }
+        ensures refs { (self.new.store.ghost_name ≡ self.old.store.ghost_name)
+            × (self.new.books.ghost_name ≡ self.old.books.ghost_name)
+            × (self.new.progress.ghost_name ≡ self.old.progress.ghost_name) }
     {
         self.books.doom(j, f);
         self.store.drop_changes(j);
@@ -183,10 +216,21 @@ impl<'a, T: Drop, S: SegStore, I, O, E> SegView<'a, T, S, I, O, E> {
         requires there { Has (sees (S.meaning self.old.store.now) self.old.segment) a.0 }
         requires tracked { is_tracked (at (sees (S.meaning self.old.store.now) self.old.segment) a.0).kind ≡ true }
         requires held { holds ((S.meaning self.old.store.now).part self.old.segment) a.0 ≡ true }
-        ensures ok { OnOk result (Holds self.old.segment self.old.side a.0 (holding (S.meaning self.old.store.now) (S.reserved self.old.store.now) self.old.books.now self.old.progress.now self.old.stopped) (holding (S.meaning self.new.store.now) (S.reserved self.new.store.now) self.new.books.now self.new.progress.now self.new.stopped)) }
-        ensures err { IfErr result (λ e. Fails self.old.segment self.old.side a.0 (holding (S.meaning self.old.store.now) (S.reserved self.old.store.now) self.old.books.now self.old.progress.now self.old.stopped) e (holding (S.meaning self.new.store.now) (S.reserved self.new.store.now) self.new.books.now self.new.progress.now self.new.stopped)) }
-        ensures stays { (self.new.segment ≡ self.old.segment) × (self.new.side ≡ self.old.side) × (self.new.devices ≡ self.old.devices) }
-        ensures refs { (self.new.store.ghost_name ≡ self.old.store.ghost_name) × (self.new.books.ghost_name ≡ self.old.books.ghost_name) × (self.new.progress.ghost_name ≡ self.old.progress.ghost_name) }
+        ensures ok { OnOk result (Holds self.old.segment self.old.side a.0
+            (holding (S.meaning self.old.store.now) (S.reserved self.old.store.now) self.old.books.now
+            self.old.progress.now self.old.stopped)
+            (holding (S.meaning self.new.store.now) (S.reserved self.new.store.now) self.new.books.now
+            self.new.progress.now self.new.stopped)) }
+        ensures err { IfErr result (λ e. Fails self.old.segment self.old.side a.0
+            (holding (S.meaning self.old.store.now) (S.reserved self.old.store.now) self.old.books.now
+            self.old.progress.now self.old.stopped) e
+            (holding (S.meaning self.new.store.now) (S.reserved self.new.store.now) self.new.books.now
+            self.new.progress.now self.new.stopped)) }
+        ensures stays { (self.new.segment ≡ self.old.segment) × (self.new.side ≡ self.old.side)
+            × (self.new.devices ≡ self.old.devices) }
+        ensures refs { (self.new.store.ghost_name ≡ self.old.store.ghost_name)
+            × (self.new.books.ghost_name ≡ self.old.books.ghost_name)
+            × (self.new.progress.ghost_name ≡ self.old.progress.ghost_name) }
         ensures peaks { S.peaks self.new.store.now ≡ S.peaks self.old.store.now }
     {
         self.look(a)
@@ -197,10 +241,21 @@ impl<'a, T: Drop, S: SegStore, I, O, E> SegView<'a, T, S, I, O, E> {
         requires there { Has (sees (S.meaning self.old.store.now) self.old.segment) a.0 }
         requires tracked { is_tracked (at (sees (S.meaning self.old.store.now) self.old.segment) a.0).kind ≡ true }
         requires free { NoOther (S.meaning self.old.store.now) self.old.segment a.0 }
-        ensures ok { OnOk result (Holds self.old.segment self.old.side a.0 (holding (S.meaning self.old.store.now) (S.reserved self.old.store.now) self.old.books.now self.old.progress.now self.old.stopped) (holding (S.meaning self.new.store.now) (S.reserved self.new.store.now) self.new.books.now self.new.progress.now self.new.stopped)) }
-        ensures err { IfErr result (λ e. Fails self.old.segment self.old.side a.0 (holding (S.meaning self.old.store.now) (S.reserved self.old.store.now) self.old.books.now self.old.progress.now self.old.stopped) e (holding (S.meaning self.new.store.now) (S.reserved self.new.store.now) self.new.books.now self.new.progress.now self.new.stopped)) }
-        ensures stays { (self.new.segment ≡ self.old.segment) × (self.new.side ≡ self.old.side) × (self.new.devices ≡ self.old.devices) }
-        ensures refs { (self.new.store.ghost_name ≡ self.old.store.ghost_name) × (self.new.books.ghost_name ≡ self.old.books.ghost_name) × (self.new.progress.ghost_name ≡ self.old.progress.ghost_name) }
+        ensures ok { OnOk result (Holds self.old.segment self.old.side a.0
+            (holding (S.meaning self.old.store.now) (S.reserved self.old.store.now) self.old.books.now
+            self.old.progress.now self.old.stopped)
+            (holding (S.meaning self.new.store.now) (S.reserved self.new.store.now) self.new.books.now
+            self.new.progress.now self.new.stopped)) }
+        ensures err { IfErr result (λ e. Fails self.old.segment self.old.side a.0
+            (holding (S.meaning self.old.store.now) (S.reserved self.old.store.now) self.old.books.now
+            self.old.progress.now self.old.stopped) e
+            (holding (S.meaning self.new.store.now) (S.reserved self.new.store.now) self.new.books.now
+            self.new.progress.now self.new.stopped)) }
+        ensures stays { (self.new.segment ≡ self.old.segment) × (self.new.side ≡ self.old.side)
+            × (self.new.devices ≡ self.old.devices) }
+        ensures refs { (self.new.store.ghost_name ≡ self.old.store.ghost_name)
+            × (self.new.books.ghost_name ≡ self.old.books.ghost_name)
+            × (self.new.progress.ghost_name ≡ self.old.progress.ghost_name) }
         ensures peaks { S.peaks self.new.store.now ≡ S.peaks self.old.store.now }
     {
         self.store.known();
@@ -217,10 +272,21 @@ impl<'a, T: Drop, S: SegStore, I, O, E> SegView<'a, T, S, I, O, E> {
         requires there { Has (sees (S.meaning self.old.store.now) self.old.segment) a.0 }
         requires tracked { is_tracked (at (sees (S.meaning self.old.store.now) self.old.segment) a.0).kind ≡ true }
         requires held { holds ((S.meaning self.old.store.now).part j) a.0 ≡ true }
-        ensures ok { OnOk result (Holds self.old.segment self.old.side a.0 (holding (S.meaning self.old.store.now) (S.reserved self.old.store.now) self.old.books.now self.old.progress.now self.old.stopped) (holding (S.meaning self.new.store.now) (S.reserved self.new.store.now) self.new.books.now self.new.progress.now self.new.stopped)) }
-        ensures err { IfErr result (λ e. Fails self.old.segment self.old.side a.0 (holding (S.meaning self.old.store.now) (S.reserved self.old.store.now) self.old.books.now self.old.progress.now self.old.stopped) e (holding (S.meaning self.new.store.now) (S.reserved self.new.store.now) self.new.books.now self.new.progress.now self.new.stopped)) }
-        ensures stays { (self.new.segment ≡ self.old.segment) × (self.new.side ≡ self.old.side) × (self.new.devices ≡ self.old.devices) }
-        ensures refs { (self.new.store.ghost_name ≡ self.old.store.ghost_name) × (self.new.books.ghost_name ≡ self.old.books.ghost_name) × (self.new.progress.ghost_name ≡ self.old.progress.ghost_name) }
+        ensures ok { OnOk result (Holds self.old.segment self.old.side a.0
+            (holding (S.meaning self.old.store.now) (S.reserved self.old.store.now) self.old.books.now
+            self.old.progress.now self.old.stopped)
+            (holding (S.meaning self.new.store.now) (S.reserved self.new.store.now) self.new.books.now
+            self.new.progress.now self.new.stopped)) }
+        ensures err { IfErr result (λ e. Fails self.old.segment self.old.side a.0
+            (holding (S.meaning self.old.store.now) (S.reserved self.old.store.now) self.old.books.now
+            self.old.progress.now self.old.stopped) e
+            (holding (S.meaning self.new.store.now) (S.reserved self.new.store.now) self.new.books.now
+            self.new.progress.now self.new.stopped)) }
+        ensures stays { (self.new.segment ≡ self.old.segment) × (self.new.side ≡ self.old.side)
+            × (self.new.devices ≡ self.old.devices) }
+        ensures refs { (self.new.store.ghost_name ≡ self.old.store.ghost_name)
+            × (self.new.books.ghost_name ≡ self.old.books.ghost_name)
+            × (self.new.progress.ghost_name ≡ self.old.progress.ghost_name) }
         ensures peaks { S.peaks self.new.store.now ≡ S.peaks self.old.store.now }
     {
         self.store.known();
@@ -250,10 +316,21 @@ impl<'a, T: Drop, S: SegStore, I, O, E> SegView<'a, T, S, I, O, E> {
     fn hold(&mut self, a: Addr) -> Result<(), Stop>
         requires there { Has (sees (S.meaning self.old.store.now) self.old.segment) a.0 }
         requires tracked { is_tracked (at (sees (S.meaning self.old.store.now) self.old.segment) a.0).kind ≡ true }
-        ensures ok { OnOk result (Holds self.old.segment self.old.side a.0 (holding (S.meaning self.old.store.now) (S.reserved self.old.store.now) self.old.books.now self.old.progress.now self.old.stopped) (holding (S.meaning self.new.store.now) (S.reserved self.new.store.now) self.new.books.now self.new.progress.now self.new.stopped)) }
-        ensures err { IfErr result (λ e. Fails self.old.segment self.old.side a.0 (holding (S.meaning self.old.store.now) (S.reserved self.old.store.now) self.old.books.now self.old.progress.now self.old.stopped) e (holding (S.meaning self.new.store.now) (S.reserved self.new.store.now) self.new.books.now self.new.progress.now self.new.stopped)) }
-        ensures stays { (self.new.segment ≡ self.old.segment) × (self.new.side ≡ self.old.side) × (self.new.devices ≡ self.old.devices) }
-        ensures refs { (self.new.store.ghost_name ≡ self.old.store.ghost_name) × (self.new.books.ghost_name ≡ self.old.books.ghost_name) × (self.new.progress.ghost_name ≡ self.old.progress.ghost_name) }
+        ensures ok { OnOk result (Holds self.old.segment self.old.side a.0
+            (holding (S.meaning self.old.store.now) (S.reserved self.old.store.now) self.old.books.now
+            self.old.progress.now self.old.stopped)
+            (holding (S.meaning self.new.store.now) (S.reserved self.new.store.now) self.new.books.now
+            self.new.progress.now self.new.stopped)) }
+        ensures err { IfErr result (λ e. Fails self.old.segment self.old.side a.0
+            (holding (S.meaning self.old.store.now) (S.reserved self.old.store.now) self.old.books.now
+            self.old.progress.now self.old.stopped) e
+            (holding (S.meaning self.new.store.now) (S.reserved self.new.store.now) self.new.books.now
+            self.new.progress.now self.new.stopped)) }
+        ensures stays { (self.new.segment ≡ self.old.segment) × (self.new.side ≡ self.old.side)
+            × (self.new.devices ≡ self.old.devices) }
+        ensures refs { (self.new.store.ghost_name ≡ self.old.store.ghost_name)
+            × (self.new.books.ghost_name ≡ self.old.books.ghost_name)
+            × (self.new.progress.ghost_name ≡ self.old.progress.ghost_name) }
         ensures peaks { S.peaks self.new.store.now ≡ S.peaks self.old.store.now }
     {
         self.note(a);
@@ -273,17 +350,27 @@ impl<'a, T: Drop, S: SegStore, I, O, E> SegView<'a, T, S, I, O, E> {
     fn change_held(&mut self, a: Addr, change: Change) -> Result<(), StoreFault>
         requires held { holds ((S.meaning self.old.store.now).part self.old.segment) a.0 ≡ true }
         requires can { CanChange (sees (S.meaning self.old.store.now) self.old.segment) a.0 change }
-        ensures ok { OnOk result (S.meaning self.new.store.now ≡ after_change self.old.segment a.0 (after change) (S.meaning self.old.store.now)) }
+        ensures ok { OnOk result (S.meaning self.new.store.now ≡ after_change self.old.segment a.0 (after change)
+            (S.meaning self.old.store.now)) }
         ensures err { OnErr result (S.meaning self.new.store.now ≡ S.meaning self.old.store.now) }
-        ensures cause { IfErr result (FaultWhy (ChangeWants change (sees (S.meaning self.old.store.now) self.old.segment) a.0) (S.reserved self.new.store.now) (S.meaning self.old.store.now).limit) }
+        ensures cause { IfErr result (FaultWhy
+            (ChangeWants change (sees (S.meaning self.old.store.now) self.old.segment) a.0)
+            (S.reserved self.new.store.now) (S.meaning self.old.store.now).limit) }
         ensures reserved { S.reserved self.old.store.now ≤ S.reserved self.new.store.now }
         ensures books { self.new.books.now ≡ self.old.books.now }
         ensures progress { self.new.progress.now ≡ self.old.progress.now }
         ensures stopped { self.new.stopped ≡ self.old.stopped }
-        ensures stays { (self.new.segment ≡ self.old.segment) × (self.new.side ≡ self.old.side) × (self.new.devices ≡ self.old.devices) }
-        ensures refs { (self.new.store.ghost_name ≡ self.old.store.ghost_name) × (self.new.books.ghost_name ≡ self.old.books.ghost_name) × (self.new.progress.ghost_name ≡ self.old.progress.ghost_name) }
-        ensures peaks { OnOk result (IfTold (S.peaks self.old.store.now) (S.peaks self.new.store.now) (λ f g. RisesUpTo f g (in_use (S.meaning self.new.store.now)))) }
-        ensures peaks_err { OnErr result (IfTold (S.peaks self.old.store.now) (S.peaks self.new.store.now) (λ f g. RisesUpTo f g (λ c. in_use (S.meaning self.old.store.now) c + wants_more {S = T} (Edit a.0 change) (sees (S.meaning self.old.store.now) self.old.segment) c))) }
+        ensures stays { (self.new.segment ≡ self.old.segment) × (self.new.side ≡ self.old.side)
+            × (self.new.devices ≡ self.old.devices) }
+        ensures refs { (self.new.store.ghost_name ≡ self.old.store.ghost_name)
+            × (self.new.books.ghost_name ≡ self.old.books.ghost_name)
+            × (self.new.progress.ghost_name ≡ self.old.progress.ghost_name) }
+        ensures peaks { OnOk result (IfTold (S.peaks self.old.store.now) (S.peaks self.new.store.now)
+            (λ f g. RisesUpTo f g (in_use (S.meaning self.new.store.now)))) }
+        ensures peaks_err { OnErr result
+            (IfTold (S.peaks self.old.store.now) (S.peaks self.new.store.now)
+            (λ f g. RisesUpTo f g (λ c. in_use (S.meaning self.old.store.now) c + wants_more {S = T} (Edit a.0 change)
+            (sees (S.meaning self.old.store.now) self.old.segment) c))) }
     {
         match change {
             Change::Set(i, v) => self.store.set_val(self.segment, a, i, v),
@@ -298,12 +385,27 @@ impl<'a, T: Drop, S: SegStore, I, O, E> SegView<'a, T, S, I, O, E> {
     pub fn change(&mut self, a: Addr, change: Change) -> Result<(), Stop>
         requires live { self.old.stopped ≡ None }
         requires can { CanChange (sees (S.meaning self.old.store.now) self.old.segment) a.0 change }
-        ensures ok { OnOk result (SegDoes self.old.segment self.old.side (Edit a.0 change) (holding (S.meaning self.old.store.now) (S.reserved self.old.store.now) self.old.books.now self.old.progress.now self.old.stopped) tt (holding (S.meaning self.new.store.now) (S.reserved self.new.store.now) self.new.books.now self.new.progress.now self.new.stopped)) }
-        ensures err { IfErr result (λ e. SegRefuses self.old.segment self.old.side (Edit a.0 change) (holding (S.meaning self.old.store.now) (S.reserved self.old.store.now) self.old.books.now self.old.progress.now self.old.stopped) e (holding (S.meaning self.new.store.now) (S.reserved self.new.store.now) self.new.books.now self.new.progress.now self.new.stopped)) }
-        ensures stays { (self.new.segment ≡ self.old.segment) × (self.new.side ≡ self.old.side) × (self.new.devices ≡ self.old.devices) }
-        ensures refs { (self.new.store.ghost_name ≡ self.old.store.ghost_name) × (self.new.books.ghost_name ≡ self.old.books.ghost_name) × (self.new.progress.ghost_name ≡ self.old.progress.ghost_name) }
-        ensures tells { OnOk result (RisesThere self.new.segment (S.meaning self.new.store.now) self.new.books.now (λ c. 0) (S.peaks self.old.store.now) (S.peaks self.new.store.now)) }
-        ensures tells_err { OnErr result (RisesThere self.old.segment (S.meaning self.old.store.now) self.old.books.now (wants_more {S = T} (Edit a.0 change) (sees (S.meaning self.old.store.now) self.old.segment)) (S.peaks self.old.store.now) (S.peaks self.new.store.now)) }
+        ensures ok { OnOk result (SegDoes self.old.segment self.old.side (Edit a.0 change)
+            (holding (S.meaning self.old.store.now) (S.reserved self.old.store.now) self.old.books.now
+            self.old.progress.now self.old.stopped) tt
+            (holding (S.meaning self.new.store.now) (S.reserved self.new.store.now) self.new.books.now
+            self.new.progress.now self.new.stopped)) }
+        ensures err { IfErr result (λ e. SegRefuses self.old.segment self.old.side (Edit a.0 change)
+            (holding (S.meaning self.old.store.now) (S.reserved self.old.store.now) self.old.books.now
+            self.old.progress.now self.old.stopped) e
+            (holding (S.meaning self.new.store.now) (S.reserved self.new.store.now) self.new.books.now
+            self.new.progress.now self.new.stopped)) }
+        ensures stays { (self.new.segment ≡ self.old.segment) × (self.new.side ≡ self.old.side)
+            × (self.new.devices ≡ self.old.devices) }
+        ensures refs { (self.new.store.ghost_name ≡ self.old.store.ghost_name)
+            × (self.new.books.ghost_name ≡ self.old.books.ghost_name)
+            × (self.new.progress.ghost_name ≡ self.old.progress.ghost_name) }
+        ensures tells { OnOk result (RisesThere self.new.segment (S.meaning self.new.store.now) self.new.books.now
+            (λ c. 0) (S.peaks self.old.store.now) (S.peaks self.new.store.now)) }
+        ensures tells_err { OnErr result
+            (RisesThere self.old.segment (S.meaning self.old.store.now) self.old.books.now
+            (wants_more {S = T} (Edit a.0 change) (sees (S.meaning self.old.store.now) self.old.segment))
+            (S.peaks self.old.store.now) (S.peaks self.new.store.now)) }
     {
         match self.hold(a) {
             Ok(()) => match self.change_held(a, change) {
@@ -326,18 +428,27 @@ impl<'a, T: Drop, S: SegStore, I, O, E> SegView<'a, T, S, I, O, E> {
         requires values { length r.now.values ≤ LENGTH_LIMIT }
         requires bytes { length r.now.bytes ≤ LENGTH_LIMIT }
         ensures fresh { IfOk result (λ n. IsFree (S.meaning self.old.store.now) n.0) }
-        ensures ok { IfOk result (λ n. S.meaning self.new.store.now ≡ after_make self.old.segment n.0 (rec_of r.now) (S.meaning self.old.store.now)) }
-        ensures names { IfOk result (λ n. self.new.progress.now ≡ record self.old.progress.now { names = self.old.progress.now.names ++ n ∷ [] }) }
+        ensures ok { IfOk result (λ n. S.meaning self.new.store.now ≡ after_make self.old.segment n.0 (rec_of r.now)
+            (S.meaning self.old.store.now)) }
+        ensures names { IfOk result (λ n. self.new.progress.now ≡ record self.old.progress.now
+            { names = self.old.progress.now.names ++ n ∷ [] }) }
         ensures err { OnErr result (S.meaning self.new.store.now ≡ S.meaning self.old.store.now) }
         ensures same { OnErr result (self.new.progress.now ≡ self.old.progress.now) }
-        ensures cause { IfErr result (FaultWhy (Wants None (rec_of r.now)) (S.reserved self.new.store.now) (S.meaning self.old.store.now).limit) }
+        ensures cause { IfErr result (FaultWhy (Wants None (rec_of r.now)) (S.reserved self.new.store.now)
+            (S.meaning self.old.store.now).limit) }
         ensures reserved { S.reserved self.old.store.now ≤ S.reserved self.new.store.now }
         ensures books { self.new.books.now ≡ self.old.books.now }
         ensures stopped { self.new.stopped ≡ self.old.stopped }
-        ensures stays { (self.new.segment ≡ self.old.segment) × (self.new.side ≡ self.old.side) × (self.new.devices ≡ self.old.devices) }
-        ensures refs { (self.new.store.ghost_name ≡ self.old.store.ghost_name) × (self.new.books.ghost_name ≡ self.old.books.ghost_name) × (self.new.progress.ghost_name ≡ self.old.progress.ghost_name) }
-        ensures peaks { OnOk result (IfTold (S.peaks self.old.store.now) (S.peaks self.new.store.now) (λ f g. RisesUpTo f g (in_use (S.meaning self.new.store.now)))) }
-        ensures peaks_err { OnErr result (IfTold (S.peaks self.old.store.now) (S.peaks self.new.store.now) (λ f g. RisesUpTo f g (λ c. in_use (S.meaning self.old.store.now) c + extents (rec_of r.now) c))) }
+        ensures stays { (self.new.segment ≡ self.old.segment) × (self.new.side ≡ self.old.side)
+            × (self.new.devices ≡ self.old.devices) }
+        ensures refs { (self.new.store.ghost_name ≡ self.old.store.ghost_name)
+            × (self.new.books.ghost_name ≡ self.old.books.ghost_name)
+            × (self.new.progress.ghost_name ≡ self.old.progress.ghost_name) }
+        ensures peaks { OnOk result (IfTold (S.peaks self.old.store.now) (S.peaks self.new.store.now)
+            (λ f g. RisesUpTo f g (in_use (S.meaning self.new.store.now)))) }
+        ensures peaks_err { OnErr result
+            (IfTold (S.peaks self.old.store.now) (S.peaks self.new.store.now)
+            (λ f g. RisesUpTo f g (λ c. in_use (S.meaning self.old.store.now) c + extents (rec_of r.now) c))) }
     {
         let last = self.progress.names.len();
         self.progress.names.push(Addr(0))?;
@@ -381,7 +492,8 @@ impl<'a, T: Drop, S: SegStore, I, O, E> SegView<'a, T, S, I, O, E> {
 
     /// A value of a record. No look is noted.
     pub fn value_of(&self, a: Addr, i: usize) -> Value
-        requires { IfThere false ((sees (S.meaning self.now.store.now) self.now.segment) a.0) (λ r. i < length r.values) }
+        requires { IfThere false ((sees (S.meaning self.now.store.now) self.now.segment) a.0)
+            (λ r. i < length r.values) }
         ensures { result ≡ value_at (at (sees (S.meaning self.now.store.now) self.now.segment) a.0).values i }
     {
         self.store.val(self.segment, a, i)
@@ -389,8 +501,10 @@ impl<'a, T: Drop, S: SegStore, I, O, E> SegView<'a, T, S, I, O, E> {
 
     /// Copies bytes of a record. No look is noted.
     pub fn bytes_of(&self, a: Addr, from: usize, out: &mut [u8])
-        requires { IfThere false ((sees (S.meaning self.now.store.now) self.now.segment) a.0) (λ r. from + length out.old ≤ length r.bytes) }
-        ensures { out.new ≡ take (length out.old) (drop from (at (sees (S.meaning self.now.store.now) self.now.segment) a.0).bytes) }
+        requires { IfThere false ((sees (S.meaning self.now.store.now) self.now.segment) a.0)
+            (λ r. from + length out.old ≤ length r.bytes) }
+        ensures { out.new ≡ take (length out.old)
+            (drop from (at (sees (S.meaning self.now.store.now) self.now.segment) a.0).bytes) }
     {
         self.store.copy_bytes(self.segment, a, from, out);
     }
@@ -398,7 +512,8 @@ impl<'a, T: Drop, S: SegStore, I, O, E> SegView<'a, T, S, I, O, E> {
     /// The number of the pair of a dictionary with an equal key. No look is noted.
     pub fn place_of(&self, d: Addr, key: Value) -> Option<usize>
         requires { CanFind (sees (S.meaning self.now.store.now) self.now.segment) d.0 key }
-        ensures found { result ≡ find (sees (S.meaning self.now.store.now) self.now.segment) (at (sees (S.meaning self.now.store.now) self.now.segment) d.0).values key }
+        ensures found { result ≡ find (sees (S.meaning self.now.store.now) self.now.segment)
+            (at (sees (S.meaning self.now.store.now) self.now.segment) d.0).values key }
         ensures fits { IfSome result (λ i. 2 * i + 1 < LENGTH_LIMIT) }
     {
         self.store.find_key(self.segment, d, key)
@@ -408,13 +523,29 @@ impl<'a, T: Drop, S: SegStore, I, O, E> SegView<'a, T, S, I, O, E> {
     pub fn see(&mut self, a: Addr) -> Result<(), Stop>
         requires live { self.old.stopped ≡ None }
         requires there { Has (sees (S.meaning self.old.store.now) self.old.segment) a.0 }
-        ensures ok { OnOk result (SegDoes self.old.segment self.old.side (Read a.0) (holding (S.meaning self.old.store.now) (S.reserved self.old.store.now) self.old.books.now self.old.progress.now self.old.stopped) (at (sees (S.meaning self.old.store.now) self.old.segment) a.0) (holding (S.meaning self.new.store.now) (S.reserved self.new.store.now) self.new.books.now self.new.progress.now self.new.stopped)) }
-        ensures same { OnOk result (sees (S.meaning self.new.store.now) self.new.segment ≡ sees (S.meaning self.old.store.now) self.old.segment) }
-        ensures quiet { Seen a.0 self.old.segment (holding (S.meaning self.old.store.now) (S.reserved self.old.store.now) self.old.books.now self.old.progress.now self.old.stopped) → self.new ≡ self.old }
-        ensures err { IfErr result (λ e. SegRefuses self.old.segment self.old.side (Read a.0) (holding (S.meaning self.old.store.now) (S.reserved self.old.store.now) self.old.books.now self.old.progress.now self.old.stopped) e (holding (S.meaning self.new.store.now) (S.reserved self.new.store.now) self.new.books.now self.new.progress.now self.new.stopped)) }
-        ensures unsure { IfErr result (λ e. Seen a.0 self.old.segment (holding (S.meaning self.old.store.now) (S.reserved self.old.store.now) self.old.books.now self.old.progress.now self.old.stopped) → ⊥) }
-        ensures stays { (self.new.segment ≡ self.old.segment) × (self.new.side ≡ self.old.side) × (self.new.devices ≡ self.old.devices) }
-        ensures refs { (self.new.store.ghost_name ≡ self.old.store.ghost_name) × (self.new.books.ghost_name ≡ self.old.books.ghost_name) × (self.new.progress.ghost_name ≡ self.old.progress.ghost_name) }
+        ensures ok { OnOk result (SegDoes self.old.segment self.old.side (Read a.0)
+            (holding (S.meaning self.old.store.now) (S.reserved self.old.store.now) self.old.books.now
+            self.old.progress.now self.old.stopped) (at (sees (S.meaning self.old.store.now) self.old.segment) a.0)
+            (holding (S.meaning self.new.store.now) (S.reserved self.new.store.now) self.new.books.now
+            self.new.progress.now self.new.stopped)) }
+        ensures same { OnOk result (sees (S.meaning self.new.store.now) self.new.segment ≡ sees
+            (S.meaning self.old.store.now) self.old.segment) }
+        ensures quiet { Seen a.0 self.old.segment
+            (holding (S.meaning self.old.store.now) (S.reserved self.old.store.now) self.old.books.now
+            self.old.progress.now self.old.stopped) → self.new ≡ self.old }
+        ensures err { IfErr result (λ e. SegRefuses self.old.segment self.old.side (Read a.0)
+            (holding (S.meaning self.old.store.now) (S.reserved self.old.store.now) self.old.books.now
+            self.old.progress.now self.old.stopped) e
+            (holding (S.meaning self.new.store.now) (S.reserved self.new.store.now) self.new.books.now
+            self.new.progress.now self.new.stopped)) }
+        ensures unsure { IfErr result (λ e. Seen a.0 self.old.segment
+            (holding (S.meaning self.old.store.now) (S.reserved self.old.store.now) self.old.books.now
+            self.old.progress.now self.old.stopped) → ⊥) }
+        ensures stays { (self.new.segment ≡ self.old.segment) × (self.new.side ≡ self.old.side)
+            × (self.new.devices ≡ self.old.devices) }
+        ensures refs { (self.new.store.ghost_name ≡ self.old.store.ghost_name)
+            × (self.new.books.ghost_name ≡ self.old.books.ghost_name)
+            × (self.new.progress.ghost_name ≡ self.old.progress.ghost_name) }
         ensures peaks { S.peaks self.new.store.now ≡ S.peaks self.old.store.now }
     {
         self.note(a);

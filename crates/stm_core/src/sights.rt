@@ -94,8 +94,8 @@ fn bytes_of<S: SegStore>(alloc: Global, store: &S, k: u8, a: Addr) -> Result<Byt
     Ok(Bytes::from_slice(alloc, room.as_slice())?)
 }
 
-/// A record of so many values or bytes, and of this room, is copied. One of a kind that has rooms has no more values than
-/// its room.
+/// A record of so many values or bytes, and of this room, is copied. One of a kind that has rooms has no more values
+/// than its room.
 fn is_small(kind: Kind, count: usize, room: usize) -> bool
     ensures { result ≡ true → has_rooms kind ≡ true → count ≤ room }
 {

@@ -32,15 +32,19 @@ impl<'p, C: Client, S: SegStore, I: Source, O: Sink, E: Sink> Core<'p, C, S, I, 
     ghost use Rattle.stm_core.specs.declared.solo.SoloError.TheVariants.{Taken};
     ghost use Rattle.stm_core.specs.CoreHeld.{core_client, core_limits, core_store, Says, Leads, IsGoodCore, SameJob};
 
-    /// The transaction of segment k, which was taken out of its hand, becomes solo, unless another one is, and is put back.
+    /// The transaction of segment k, which was taken out of its hand, becomes solo, unless another one is, and is put
+    /// back.
     fn solo_out(&mut self, k: u8, work: Work<C::State>) -> Result<(), SoloError>
         requires fit { Fit k (S.meaning self.old.store) self.old.books work.progress }
         requires idle { slice_get self.old.books.hands.items k ≡ Some Hand.Idle }
         requires few { length self.old.books.hands.items ≤ 8 }
         ensures rest { self.new ≡ record self.old { books = record self.old.books { hands = self.new.books.hands } } }
         ensures whole { Whole (S.meaning self.new.store) self.new.books }
-        ensures ok { OnOk result (NoneSolo self.old.books.hands.items × (self.new.books.hands.items ≡ slice_set self.old.books.hands.items k (Hand.Runs (record work { solo = true })))) }
-        ensures back { OnErr result (self.new.books.hands.items ≡ slice_set self.old.books.hands.items k (Hand.Runs work)) }
+        ensures ok { OnOk result (NoneSolo self.old.books.hands.items
+            × (self.new.books.hands.items ≡ slice_set self.old.books.hands.items k
+            (Hand.Runs (record work { solo = true })))) }
+        ensures back { OnErr result (self.new.books.hands.items ≡ slice_set self.old.books.hands.items k
+            (Hand.Runs work)) }
         ensures taken { IfErr result (λ e. (by : ℕ) × (e ≡ Taken by) × IsSoloAt self.old.books.hands.items (Some by)) }
     {
         match self.books.solo_segment() {
@@ -57,10 +61,11 @@ impl<'p, C: Client, S: SegStore, I: Source, O: Sink, E: Sink> Core<'p, C, S, I, 
         }
     }
 
-    /// The transaction that segment `k` has in hand becomes solo. From then on its steps print and read, it wins each conflict, and its
-    /// commit always goes. One transaction at most is solo. One that is solo stays so.
+    /// The transaction that segment `k` has in hand becomes solo. From then on its steps print and read, it wins each
+    /// conflict, and its commit always goes. One transaction at most is solo. One that is solo stays so.
     pub fn solo(&mut self, k: u8) -> Result<(), SoloError>
-        requires may { Says I.state O.state E.state C.prog S.meaning self.old (λ o. may_make (core_limits S.meaning self.old) o.core (Event.Solo k) ≡ true) }
+        requires may { Says I.state O.state E.state C.prog S.meaning self.old
+            (λ o. may_make (core_limits S.meaning self.old) o.core (Event.Solo k) ≡ true) }
         requires good { IsGoodCore I.state O.state E.state C.prog C.sound S.reserved S.meaning self.old }
         ensures good { IsGoodCore I.state O.state E.state C.prog C.sound S.reserved S.meaning self.new }
         ensures job { SameJob S.meaning self.old self.new }

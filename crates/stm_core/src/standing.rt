@@ -86,8 +86,10 @@ impl<T: Drop> Books<T> {
 
     /// Whether a segment runs the thread.
     pub fn runs_thread(&self, t: u32) -> bool
-        ensures yes { result ≡ true → (j : ℕ) × (y : Work T) × (slice_get self.now.hands.items j ≡ Some (Hand.Runs y)) × (y.thread ≡ t) }
-        ensures not { result ≡ false → (j : ℕ) (y : Work T) → slice_get self.now.hands.items j ≡ Some (Hand.Runs y) → t ≢ y.thread }
+        ensures yes { result ≡ true → (j : ℕ) × (y : Work T) × (slice_get self.now.hands.items j ≡ Some (Hand.Runs y))
+            × (y.thread ≡ t) }
+        ensures not { result ≡ false → (j : ℕ) (y : Work T) → slice_get self.now.hands.items j ≡ Some (Hand.Runs y)
+            → t ≢ y.thread }
     {
         for hand in &self.hands {
             if let Hand::Runs(work) = hand {
@@ -135,11 +137,14 @@ impl<'p, C: Client, S: SegStore, I: Source, O: Sink, E: Sink> Core<'p, C, S, I, 
         }
     }
 
-    /// Whether a transaction of the thread may begin: the thread lives, no segment runs it, and over the image it doesn't wait.
+    /// Whether a transaction of the thread may begin: the thread lives, no segment runs it, and over the image it
+    /// doesn't wait.
     pub fn is_ready(&self, t: u32) -> bool
         requires { C.sound self.now.client.now (S.meaning self.now.store).image self.now.books.threads.entries }
-        ensures yes { result ≡ true → (w : Worlds) → IsReady (C.prog self.now.client.now) (core_of w (S.meaning self.now.store) self.now.books) t }
-        ensures not { result ≡ false → (w : Worlds) → IsUnready (C.prog self.now.client.now) (core_of w (S.meaning self.now.store) self.now.books) t }
+        ensures yes { result ≡ true → (w : Worlds)
+            → IsReady (C.prog self.now.client.now) (core_of w (S.meaning self.now.store) self.now.books) t }
+        ensures not { result ≡ false → (w : Worlds)
+            → IsUnready (C.prog self.now.client.now) (core_of w (S.meaning self.now.store) self.now.books) t }
     {
         if t >= self.books.threads.len() || self.books.runs_thread(t) {
             return false;
@@ -154,7 +159,8 @@ impl<'p, C: Client, S: SegStore, I: Source, O: Sink, E: Sink> Core<'p, C, S, I, 
     /// The first ready thread of those from one number on and below another.
     fn first_ready(&self, from: u32, to: u32) -> Option<u32>
         requires { C.sound self.now.client.now (S.meaning self.now.store).image self.now.books.threads.entries }
-        ensures { (w : Worlds) → FirstReady (C.prog self.now.client.now) (core_of w (S.meaning self.now.store) self.now.books) from to result }
+        ensures { (w : Worlds) → FirstReady (C.prog self.now.client.now)
+            (core_of w (S.meaning self.now.store) self.now.books) from to result }
     {
         for t in from..to {
             if self.is_ready(t) {
@@ -164,11 +170,12 @@ impl<'p, C: Client, S: SegStore, I: Source, O: Sink, E: Sink> Core<'p, C, S, I, 
         None
     }
 
-    /// The thread whose transaction is to begin next: the least ready one above the thread that began last, else the least
-    /// ready one. There is none exactly where no thread that lives, and that no segment runs, can go on.
+    /// The thread whose transaction is to begin next: the least ready one above the thread that began last, else the
+    /// least ready one. There is none exactly where no thread that lives, and that no segment runs, can go on.
     pub fn next_ready(&self) -> Option<u32>
         requires good { IsGoodCore I.state O.state E.state C.prog C.sound S.reserved S.meaning self.now }
-        ensures { Says I.state O.state E.state C.prog S.meaning self.now (λ o. IsNext (C.prog (core_client self.now)) o.core result) }
+        ensures { Says I.state O.state E.state C.prog S.meaning self.now
+            (λ o. IsNext (C.prog (core_client self.now)) o.core result) }
     {
         let count = self.books.threads.len();
         let Some(last) = self.books.last else {
@@ -185,8 +192,11 @@ impl<'p, C: Client, S: SegStore, I: Source, O: Sink, E: Sink> Core<'p, C, S, I, 
 
     /// Whether a thread lives.
     fn some_lives(&self) -> bool
-        ensures yes { result ≡ true → (w : Worlds) → SomeLives (C.prog self.now.client.now) (committed (core_of w (S.meaning self.now.store) self.now.books)) }
-        ensures not { result ≡ false → (w : Worlds) → IsDone (C.prog self.now.client.now) (committed (core_of w (S.meaning self.now.store) self.now.books)) }
+        ensures yes { result ≡ true → (w : Worlds)
+            → SomeLives (C.prog self.now.client.now)
+            (committed (core_of w (S.meaning self.now.store) self.now.books)) }
+        ensures not { result ≡ false → (w : Worlds)
+            → IsDone (C.prog self.now.client.now) (committed (core_of w (S.meaning self.now.store) self.now.books)) }
     {
         for t in 0..self.books.threads.len() {
             if let Life::Lives = self.client.life(self.books.threads.at(t)) {
@@ -196,11 +206,12 @@ impl<'p, C: Client, S: SegStore, I: Source, O: Sink, E: Sink> Core<'p, C, S, I, 
         false
     }
 
-    /// How the run stands, by the first of these that holds: the cause that is kept; all threads have ended; a segment runs;
-    /// each thread that lives waits; the history has the budget's steps; it goes on.
+    /// How the run stands, by the first of these that holds: the cause that is kept; all threads have ended; a
+    /// segment runs; each thread that lives waits; the history has the budget's steps; it goes on.
     pub fn outcome(&self) -> RunState
         requires good { IsGoodCore I.state O.state E.state C.prog C.sound S.reserved S.meaning self.now }
-        ensures { Says I.state O.state E.state C.prog S.meaning self.now (λ o. IsOutcome (C.prog (core_client self.now)) (core_limits S.meaning self.now).budget o.core result) }
+        ensures { Says I.state O.state E.state C.prog S.meaning self.now
+            (λ o. IsOutcome (C.prog (core_client self.now)) (core_limits S.meaning self.now).budget o.core result) }
     {
         if let Some(cause) = self.books.cause {
             return RunState::Faulted(cause);

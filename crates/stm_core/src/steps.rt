@@ -49,35 +49,57 @@ impl<'p, C: Client, S: SegStore, I: Source, O: Sink, E: Sink> Core<'p, C, S, I, 
     ghost use Rattle.stm_core.specs.inner.Pauses.{done_by, PauseCount};
     ghost use Rattle.stm_core.specs.inner.Pausing.{DevicesGrow, Paused, SaneAfter};
 
-    /// One step of the transaction of segment k, which was taken out of its hand. A solo one prints and reads; what a step of it told
-    /// the devices stays told where the step is cut.
+    /// One step of the transaction of segment k, which was taken out of its hand. A solo one prints and reads; what a
+    /// step of it told the devices stays told where the step is cut.
     fn step_out(&mut self, k: u8, work: &mut Work<C::State>) -> Result<Outcome, Stop>
         requires fit { Fit k (S.meaning self.old.store) self.old.books work.old.progress }
         requires stands { Standing (C.sound self.old.client.now (sees (S.meaning self.old.store) k)) work.old.state }
         requires lives { (C.prog self.old.client.now).life work.old.state ≡ Lives }
         ensures fit { Fit k (S.meaning self.new.store) self.new.books work.new.progress }
         ensures store { IsStore (S.reserved self.new.store) (S.meaning self.new.store) }
-        ensures rest { self.new ≡ record self.old { store = self.new.store; books = self.new.books; devices = self.new.devices } }
+        ensures rest { self.new ≡ record self.old {
+          store = self.new.store;
+          books = self.new.books;
+          devices = self.new.devices;
+        } }
         ensures reserved { S.reserved self.old.store ≤ S.reserved self.new.store }
-        ensures peaks { (t e : Option (List ℕ)) (w : Worlds) → Shown work.old.solo t e (device_state I.state O.state E.state self.old.devices) w.own
-            → IfTold (S.peaks self.old.store) (S.peaks self.new.store) (RisesInStep (C.prog self.old.client.now) w k (S.meaning self.old.store) self.old.books work.old) }
-        ensures same { (work.new.thread ≡ work.old.thread) × (work.new.begun ≡ work.old.begun) × (work.new.steps ≡ work.old.steps) × (work.new.solo ≡ work.old.solo) }
+        ensures peaks { (t e : Option (List ℕ)) (w : Worlds)
+            → Shown work.old.solo t e (device_state I.state O.state E.state self.old.devices) w.own
+            → IfTold (S.peaks self.old.store) (S.peaks self.new.store)
+            (RisesInStep (C.prog self.old.client.now) w k (S.meaning self.old.store) self.old.books work.old) }
+        ensures same { (work.new.thread ≡ work.old.thread) × (work.new.begun ≡ work.old.begun)
+            × (work.new.steps ≡ work.old.steps) × (work.new.solo ≡ work.old.solo) }
         ensures image { (S.meaning self.new.store).image ≡ (S.meaning self.old.store).image }
         ensures shape { SameShape (S.meaning self.old.store) (S.meaning self.new.store) }
-        ensures hand { slice_get self.old.books.hands.items k ≡ Some Hand.Idle → slice_get self.new.books.hands.items k ≡ Some Hand.Idle }
+        ensures hand { slice_get self.old.books.hands.items k ≡ Some Hand.Idle
+            → slice_get self.new.books.hands.items k ≡ Some Hand.Idle }
         ensures broken { self.new.books.broken ≡ self.old.books.broken }
-        ensures counts { CountsGrow (device_state I.state O.state E.state self.old.devices) (device_state I.state O.state E.state self.new.devices) }
-        ensures alone { work.old.solo ≡ false → IsLeftAlone (device_state I.state O.state E.state self.old.devices) (device_state I.state O.state E.state self.new.devices) }
+        ensures counts { CountsGrow (device_state I.state O.state E.state self.old.devices)
+            (device_state I.state O.state E.state self.new.devices) }
+        ensures alone { work.old.solo ≡ false → IsLeftAlone (device_state I.state O.state E.state self.old.devices)
+            (device_state I.state O.state E.state self.new.devices) }
         ensures flag { OnErr result (self.new.devices.mid ≡ self.old.devices.mid) }
         ensures life { IfOk result (λ o. LifeAfter o ((C.prog self.old.client.now).life work.new.state)) }
         ensures state { OnErr result (work.new.state ≡ work.old.state) }
-        ensures rose { IfErr result (λ stop. StopRose stop (device_state I.state O.state E.state self.old.devices) (device_state I.state O.state E.state self.new.devices)) }
-        ensures done { IfOk result (λ o. (t e : Option (List ℕ)) (w : Worlds) → Shown work.old.solo t e (device_state I.state O.state E.state self.old.devices) w.own
-            → (own : World) × Shown work.old.solo t e (device_state I.state O.state E.state self.new.devices) own × StepDone (C.prog self.old.client.now) w own k (side k (transaction w.own ((S.meaning self.old.store).part k) work.old)) o (S.meaning self.old.store) self.old.books work.old (S.meaning self.new.store) self.new.books work.new) }
-        ensures cut { IfErr result (λ stop. (t e : Option (List ℕ)) (w : Worlds) → Shown work.old.solo t e (device_state I.state O.state E.state self.old.devices) w.own
-            → StepCut (C.prog self.old.client.now) w k (side k (transaction w.own ((S.meaning self.old.store).part k) work.old)) stop (S.meaning self.old.store) self.old.books work.old (S.meaning self.new.store) (S.reserved self.new.store) self.new.books work.new) }
-        ensures broke { IfErr result (λ stop. work.old.solo ≡ true → (t e : Option (List ℕ)) (w : Worlds) → ShowsWorld t e (device_state I.state O.state E.state self.old.devices) w.own
-            → StepBroke (C.prog self.old.client.now) t e (S.meaning self.old.store).image w.committed (transaction w.own ((S.meaning self.old.store).part k) work.old) stop (device_state I.state O.state E.state self.new.devices)) }
+        ensures rose { IfErr result (λ stop. StopRose stop (device_state I.state O.state E.state self.old.devices)
+            (device_state I.state O.state E.state self.new.devices)) }
+        ensures done { IfOk result (λ o. (t e : Option (List ℕ)) (w : Worlds)
+            → Shown work.old.solo t e (device_state I.state O.state E.state self.old.devices) w.own
+            → (own : World) × Shown work.old.solo t e (device_state I.state O.state E.state self.new.devices) own
+            × StepDone (C.prog self.old.client.now) w own k
+            (side k (transaction w.own ((S.meaning self.old.store).part k) work.old)) o (S.meaning self.old.store)
+            self.old.books work.old (S.meaning self.new.store) self.new.books work.new) }
+        ensures cut { IfErr result (λ stop. (t e : Option (List ℕ)) (w : Worlds)
+            → Shown work.old.solo t e (device_state I.state O.state E.state self.old.devices) w.own
+            → StepCut (C.prog self.old.client.now) w k
+            (side k (transaction w.own ((S.meaning self.old.store).part k) work.old)) stop
+            (S.meaning self.old.store) self.old.books work.old (S.meaning self.new.store)
+            (S.reserved self.new.store) self.new.books work.new) }
+        ensures broke { IfErr result (λ stop. work.old.solo ≡ true → (t e : Option (List ℕ)) (w : Worlds)
+            → ShowsWorld t e (device_state I.state O.state E.state self.old.devices) w.own
+            → StepBroke (C.prog self.old.client.now) t e (S.meaning self.old.store).image w.committed
+            (transaction w.own ((S.meaning self.old.store).part k) work.old) stop
+            (device_state I.state O.state E.state self.new.devices)) }
     {
         let side = work.side(k);
         let mut view = SegView::new(
@@ -98,25 +120,41 @@ impl<'p, C: Client, S: SegStore, I: Source, O: Sink, E: Sink> Core<'p, C, S, I, 
     fn step_on(&mut self, k: u8, work: &mut Work<C::State>, length: u64) -> Pause
         requires fit { Fit k (S.meaning self.old.store) self.old.books work.old.progress }
         requires idle { slice_get self.old.books.hands.items k ≡ Some Hand.Idle }
-        requires sane { SaneShown (C.prog self.old.client.now) (C.sound self.old.client.now) length k (device_state I.state O.state E.state self.old.devices) (S.meaning self.old.store) self.old.books work.old }
+        requires sane { SaneShown (C.prog self.old.client.now) (C.sound self.old.client.now) length k
+            (device_state I.state O.state E.state self.old.devices) (S.meaning self.old.store) self.old.books
+            work.old }
         requires lives { (C.prog self.old.client.now).life work.old.state ≡ Lives }
         requires short { IsShort length (work.old.steps + 1) }
         ensures fit { Fit k (S.meaning self.new.store) self.new.books work.new.progress }
         ensures store { IsStore (S.reserved self.new.store) (S.meaning self.new.store) }
         ensures idle { slice_get self.new.books.hands.items k ≡ Some Hand.Idle }
-        ensures rest { self.new ≡ record self.old { store = self.new.store; books = self.new.books; devices = self.new.devices } }
-        ensures sane { SaneAfter (C.prog self.old.client.now) (C.sound self.old.client.now) length k result (device_state I.state O.state E.state self.new.devices) (S.meaning self.new.store) self.new.books work.new }
-        ensures paused { (t e : Option (List ℕ)) (w : Worlds) (n : ℕ) (c : CoreState C.State) → Shown work.old.solo t e (device_state I.state O.state E.state self.old.devices) w.own
-            → Tried (C.prog self.old.client.now) length k true n c (core_with w k (S.meaning self.old.store) self.old.books work.old)
-            → Paused (C.prog self.old.client.now) length k t e w c (n + done_by result) result (S.meaning self.new.store) (S.reserved self.new.store) self.new.books work.new (device_state I.state O.state E.state self.new.devices) }
+        ensures rest { self.new ≡ record self.old {
+          store = self.new.store;
+          books = self.new.books;
+          devices = self.new.devices;
+        } }
+        ensures sane { SaneAfter (C.prog self.old.client.now) (C.sound self.old.client.now) length k result
+            (device_state I.state O.state E.state self.new.devices) (S.meaning self.new.store) self.new.books
+            work.new }
+        ensures paused { (t e : Option (List ℕ)) (w : Worlds) (n : ℕ) (c : CoreState C.State)
+            → Shown work.old.solo t e (device_state I.state O.state E.state self.old.devices) w.own
+            → Tried (C.prog self.old.client.now) length k true n c
+            (core_with w k (S.meaning self.old.store) self.old.books work.old)
+            → Paused (C.prog self.old.client.now) length k t e w c (n + done_by result) result
+            (S.meaning self.new.store) (S.reserved self.new.store) self.new.books work.new
+            (device_state I.state O.state E.state self.new.devices) }
         ensures steps { work.new.steps ≡ work.old.steps + done_by result }
         ensures solo { work.new.solo ≡ work.old.solo }
         ensures shape { SameShape (S.meaning self.old.store) (S.meaning self.new.store) }
         ensures reserved { S.reserved self.old.store ≤ S.reserved self.new.store }
-        ensures peaks { (t e : Option (List ℕ)) (w : Worlds) → Shown work.old.solo t e (device_state I.state O.state E.state self.old.devices) w.own
-            → IfTold (S.peaks self.old.store) (S.peaks self.new.store) (RisesOut (C.prog self.old.client.now) length k (S.meaning self.old.store) (core_with w k (S.meaning self.old.store) self.old.books work.old)) }
+        ensures peaks { (t e : Option (List ℕ)) (w : Worlds)
+            → Shown work.old.solo t e (device_state I.state O.state E.state self.old.devices) w.own
+            → IfTold (S.peaks self.old.store) (S.peaks self.new.store)
+            (RisesOut (C.prog self.old.client.now) length k (S.meaning self.old.store)
+            (core_with w k (S.meaning self.old.store) self.old.books work.old)) }
         ensures broken { self.new.books.broken ≡ self.old.books.broken }
-        ensures devices { DevicesGrow work.old.solo result (device_state I.state O.state E.state self.old.devices) (device_state I.state O.state E.state self.new.devices) }
+        ensures devices { DevicesGrow work.old.solo result (device_state I.state O.state E.state self.old.devices)
+            (device_state I.state O.state E.state self.new.devices) }
     {
         match self.step_out(k, work) {
             Ok(Outcome::Waits) => Pause::Waits,
@@ -132,8 +170,8 @@ impl<'p, C: Client, S: SegStore, I: Source, O: Sink, E: Sink> Core<'p, C, S, I, 
         }
     }
 
-    /// At most so many steps of the transaction of segment k, which was taken out of its hand: how many were done, and why
-    /// they came to an end.
+    /// At most so many steps of the transaction of segment k, which was taken out of its hand: how many were done,
+    /// and why they came to an end.
     pub fn run_out(
         &mut self,
         k: u8,
@@ -144,26 +182,41 @@ impl<'p, C: Client, S: SegStore, I: Source, O: Sink, E: Sink> Core<'p, C, S, I, 
         requires fit { Fit k (S.meaning self.old.store) self.old.books work.old.progress }
         requires store { IsStore (S.reserved self.old.store) (S.meaning self.old.store) }
         requires idle { slice_get self.old.books.hands.items k ≡ Some Hand.Idle }
-        requires sane { SaneShown (C.prog self.old.client.now) (C.sound self.old.client.now) length k (device_state I.state O.state E.state self.old.devices) (S.meaning self.old.store) self.old.books work.old }
+        requires sane { SaneShown (C.prog self.old.client.now) (C.sound self.old.client.now) length k
+            (device_state I.state O.state E.state self.old.devices) (S.meaning self.old.store) self.old.books
+            work.old }
         requires lives { (C.prog self.old.client.now).life work.old.state ≡ Lives }
         requires short { IsShort length (work.old.steps + most) }
         ensures fit { Fit k (S.meaning self.new.store) self.new.books work.new.progress }
         ensures store { IsStore (S.reserved self.new.store) (S.meaning self.new.store) }
         ensures idle { slice_get self.new.books.hands.items k ≡ Some Hand.Idle }
-        ensures rest { self.new ≡ record self.old { store = self.new.store; books = self.new.books; devices = self.new.devices } }
-        ensures sane { SaneAfter (C.prog self.old.client.now) (C.sound self.old.client.now) length k result.1 (device_state I.state O.state E.state self.new.devices) (S.meaning self.new.store) self.new.books work.new }
-        ensures paused { (t e : Option (List ℕ)) (w : Worlds) (c : CoreState C.State) → Shown work.old.solo t e (device_state I.state O.state E.state self.old.devices) w.own
+        ensures rest { self.new ≡ record self.old {
+          store = self.new.store;
+          books = self.new.books;
+          devices = self.new.devices;
+        } }
+        ensures sane { SaneAfter (C.prog self.old.client.now) (C.sound self.old.client.now) length k result.1
+            (device_state I.state O.state E.state self.new.devices) (S.meaning self.new.store) self.new.books
+            work.new }
+        ensures paused { (t e : Option (List ℕ)) (w : Worlds) (c : CoreState C.State)
+            → Shown work.old.solo t e (device_state I.state O.state E.state self.old.devices) w.own
             → c ≡ core_with w k (S.meaning self.old.store) self.old.books work.old
-            → Paused (C.prog self.old.client.now) length k t e w c result.0 result.1 (S.meaning self.new.store) (S.reserved self.new.store) self.new.books work.new (device_state I.state O.state E.state self.new.devices) }
+            → Paused (C.prog self.old.client.now) length k t e w c result.0 result.1 (S.meaning self.new.store)
+            (S.reserved self.new.store) self.new.books work.new
+            (device_state I.state O.state E.state self.new.devices) }
         ensures steps { work.new.steps ≡ work.old.steps + result.0 }
         ensures solo { work.new.solo ≡ work.old.solo }
         ensures count { PauseCount most result.0 result.1 }
         ensures shape { SameShape (S.meaning self.old.store) (S.meaning self.new.store) }
         ensures reserved { S.reserved self.old.store ≤ S.reserved self.new.store }
-        ensures peaks { (t e : Option (List ℕ)) (w : Worlds) → Shown work.old.solo t e (device_state I.state O.state E.state self.old.devices) w.own
-            → IfTold (S.peaks self.old.store) (S.peaks self.new.store) (RisesOut (C.prog self.old.client.now) length k (S.meaning self.old.store) (core_with w k (S.meaning self.old.store) self.old.books work.old)) }
+        ensures peaks { (t e : Option (List ℕ)) (w : Worlds)
+            → Shown work.old.solo t e (device_state I.state O.state E.state self.old.devices) w.own
+            → IfTold (S.peaks self.old.store) (S.peaks self.new.store)
+            (RisesOut (C.prog self.old.client.now) length k (S.meaning self.old.store)
+            (core_with w k (S.meaning self.old.store) self.old.books work.old)) }
         ensures broken { self.new.books.broken ≡ self.old.books.broken }
-        ensures devices { DevicesGrow work.old.solo result.1 (device_state I.state O.state E.state self.old.devices) (device_state I.state O.state E.state self.new.devices) }
+        ensures devices { DevicesGrow work.old.solo result.1 (device_state I.state O.state E.state self.old.devices)
+            (device_state I.state O.state E.state self.new.devices) }
     {
         'turns: for done in 0..most {
             match self.step_on(k, work, length) {
@@ -182,7 +235,8 @@ impl<'p, C: Client, S: SegStore, I: Source, O: Sink, E: Sink> Core<'p, C, S, I, 
         requires idle { slice_get self.old.books.hands.items k ≡ Some Hand.Idle }
         ensures rest { self.new ≡ record self.old { store = self.new.store; books = self.new.books } }
         ensures whole { Whole (S.meaning self.new.store) self.new.books }
-        ensures core { (world : Worlds) → core_of world (S.meaning self.new.store) self.new.books ≡ core_of world (S.meaning self.old.store) self.old.books }
+        ensures core { (world : Worlds) → core_of world (S.meaning self.new.store) self.new.books ≡ core_of world
+            (S.meaning self.old.store) self.old.books }
         ensures room { self.new.books ≡ record self.old.books { pending = self.new.books.pending } }
         ensures store { S.meaning self.new.store ≡ after_drop k (S.meaning self.old.store) }
         ensures reserved { S.reserved self.new.store ≡ S.reserved self.old.store }
@@ -200,7 +254,8 @@ impl<'p, C: Client, S: SegStore, I: Source, O: Sink, E: Sink> Core<'p, C, S, I, 
         ensures whole { Whole (S.meaning self.new.store) self.new.books }
         ensures broken { self.new.books.broken ≡ self.old.books.broken }
         ensures cause { self.new.books.cause ≡ self.old.books.cause }
-        ensures core { (world : Worlds) → core_of world (S.meaning self.new.store) self.new.books ≡ with_conflict f (core_of world (S.meaning self.old.store) self.old.books) }
+        ensures core { (world : Worlds) → core_of world (S.meaning self.new.store) self.new.books ≡ with_conflict f
+            (core_of world (S.meaning self.old.store) self.old.books) }
         ensures store { S.meaning self.new.store ≡ after_drop k (S.meaning self.old.store) }
         ensures reserved { S.reserved self.new.store ≡ S.reserved self.old.store }
         ensures peaks { S.peaks self.new.store ≡ S.peaks self.old.store }
@@ -209,20 +264,27 @@ impl<'p, C: Client, S: SegStore, I: Source, O: Sink, E: Sink> Core<'p, C, S, I, 
         self.books.note(f);
     }
 
-    /// The solo transaction of segment k, which was taken out of its hand, is committed up to its last whole step, and dropped where
-    /// it has done none.
+    /// The solo transaction of segment k, which was taken out of its hand, is committed up to its last whole step,
+    /// and dropped where it has done none.
     fn commit_whole(&mut self, k: u8, work: Work<C::State>)
         requires fit { Fit k (S.meaning self.old.store) self.old.books work.progress }
         requires idle { slice_get self.old.books.hands.items k ≡ Some Hand.Idle }
         requires thread { work.thread < length self.old.books.threads.entries }
         requires count { CountsSteps self.old.spent self.old.books.history.entries }
-        ensures rest { self.new ≡ record self.old { store = self.new.store; books = self.new.books; spent = self.new.spent } }
+        ensures rest { self.new ≡ record self.old {
+          store = self.new.store;
+          books = self.new.books;
+          spent = self.new.spent;
+        } }
         ensures whole { Whole (S.meaning self.new.store) self.new.books }
         ensures count { CountsSteps self.new.spent self.new.books.history.entries }
         ensures shape { SameShape (S.meaning self.old.store) (S.meaning self.new.store) }
         ensures reserved { S.reserved self.new.store ≡ S.reserved self.old.store }
         ensures peaks { S.peaks self.new.store ≡ S.peaks self.old.store }
-        ensures core { (w : Worlds) → (w1 : Worlds) × (core_of w1 (S.meaning self.new.store) self.new.books ≡ up_to_whole k (S.meaning self.old.store).segments (transaction w.own ((S.meaning self.old.store).part k) work) work.steps (core_with w k (S.meaning self.old.store) self.old.books work)) }
+        ensures core { (w : Worlds) → (w1 : Worlds)
+            × (core_of w1 (S.meaning self.new.store) self.new.books ≡ up_to_whole k
+            (S.meaning self.old.store).segments (transaction w.own ((S.meaning self.old.store).part k) work)
+            work.steps (core_with w k (S.meaning self.old.store) self.old.books work)) }
     {
         if work.steps == 0 {
             self.drop_out(k, work);
@@ -232,22 +294,31 @@ impl<'p, C: Client, S: SegStore, I: Source, O: Sink, E: Sink> Core<'p, C, S, I, 
         }
     }
 
-    /// The next step of the solo transaction of segment k, which was taken out of its hand, was cut for good, for this cause, which is
-    /// kept.
+    /// The next step of the solo transaction of segment k, which was taken out of its hand, was cut for good, for
+    /// this cause, which is kept.
     fn break_off(&mut self, k: u8, work: Work<C::State>, cause: Cause)
         requires fit { Fit k (S.meaning self.old.store) self.old.books work.progress }
         requires idle { slice_get self.old.books.hands.items k ≡ Some Hand.Idle }
         requires thread { work.thread < length self.old.books.threads.entries }
         requires count { CountsSteps self.old.spent self.old.books.history.entries }
-        ensures rest { self.new ≡ record self.old { store = self.new.store; books = self.new.books; spent = self.new.spent } }
+        ensures rest { self.new ≡ record self.old {
+          store = self.new.store;
+          books = self.new.books;
+          spent = self.new.spent;
+        } }
         ensures whole { Whole (S.meaning self.new.store) self.new.books }
         ensures count { CountsSteps self.new.spent self.new.books.history.entries }
         ensures shape { SameShape (S.meaning self.old.store) (S.meaning self.new.store) }
         ensures reserved { S.reserved self.new.store ≡ S.reserved self.old.store }
         ensures peaks { S.peaks self.new.store ≡ S.peaks self.old.store }
-        ensures broken { self.new.books.broken ≡ Some (record { thread = work.thread; turns = length self.new.books.history.entries }) }
+        ensures broken { self.new.books.broken ≡ Some
+            (record { thread = work.thread; turns = length self.new.books.history.entries }) }
         ensures cause { self.new.books.cause ≡ first_cause self.old.books.cause cause }
-        ensures core { (w : Worlds) → (w1 : Worlds) × (core_of w1 (S.meaning self.new.store) self.new.books ≡ with_cause cause (up_to_whole k (S.meaning self.old.store).segments (transaction w.own ((S.meaning self.old.store).part k) work) work.steps (core_with w k (S.meaning self.old.store) self.old.books work))) }
+        ensures core { (w : Worlds) → (w1 : Worlds)
+            × (core_of w1 (S.meaning self.new.store) self.new.books ≡ with_cause cause
+            (up_to_whole k (S.meaning self.old.store).segments
+            (transaction w.own ((S.meaning self.old.store).part k) work) work.steps
+            (core_with w k (S.meaning self.old.store) self.old.books work))) }
     {
         let thread = work.thread;
         self.commit_whole(k, work);
@@ -263,7 +334,8 @@ impl<'p, C: Client, S: SegStore, I: Source, O: Sink, E: Sink> Core<'p, C, S, I, 
         ensures rest { self.new ≡ record self.old { store = self.new.store; books = self.new.books } }
         ensures whole { Whole (S.meaning self.new.store) self.new.books }
         ensures broken { self.new.books.broken ≡ self.old.books.broken }
-        ensures core { (world : Worlds) → core_of world (S.meaning self.new.store) self.new.books ≡ with_cause cause (core_of world (S.meaning self.old.store) self.old.books) }
+        ensures core { (world : Worlds) → core_of world (S.meaning self.new.store) self.new.books ≡ with_cause cause
+            (core_of world (S.meaning self.old.store) self.old.books) }
         ensures store { S.meaning self.new.store ≡ after_drop k (S.meaning self.old.store) }
         ensures reserved { S.reserved self.new.store ≡ S.reserved self.old.store }
         ensures peaks { S.peaks self.new.store ≡ S.peaks self.old.store }
@@ -272,24 +344,36 @@ impl<'p, C: Client, S: SegStore, I: Source, O: Sink, E: Sink> Core<'p, C, S, I, 
         self.books.keep(cause);
     }
 
-    /// A step of the transaction of segment k, which was taken out of its hand, was cut for this cause, which is kept: a solo one is
-    /// committed up to its last whole step, and another one is dropped.
+    /// A step of the transaction of segment k, which was taken out of its hand, was cut for this cause, which is
+    /// kept: a solo one is committed up to its last whole step, and another one is dropped.
     pub fn fail_out(&mut self, k: u8, work: Work<C::State>, cause: Cause) -> AdvanceError
         requires fit { Fit k (S.meaning self.old.store) self.old.books work.progress }
         requires idle { slice_get self.old.books.hands.items k ≡ Some Hand.Idle }
         requires thread { work.thread < length self.old.books.threads.entries }
         requires count { CountsSteps self.old.spent self.old.books.history.entries }
         ensures same { result ≡ AdvanceError.Failed cause }
-        ensures rest { self.new ≡ record self.old { store = self.new.store; books = self.new.books; spent = self.new.spent } }
+        ensures rest { self.new ≡ record self.old {
+          store = self.new.store;
+          books = self.new.books;
+          spent = self.new.spent;
+        } }
         ensures whole { Whole (S.meaning self.new.store) self.new.books }
         ensures count { CountsSteps self.new.spent self.new.books.history.entries }
         ensures shape { SameShape (S.meaning self.old.store) (S.meaning self.new.store) }
         ensures reserved { S.reserved self.new.store ≡ S.reserved self.old.store }
         ensures peaks { S.peaks self.new.store ≡ S.peaks self.old.store }
         ensures cause { self.new.books.cause ≡ first_cause self.old.books.cause cause }
-        ensures mortal { work.solo ≡ false → (self.new.books.broken ≡ self.old.books.broken) × ((w : Worlds) → core_of w (S.meaning self.new.store) self.new.books ≡ with_cause cause (core_of w (S.meaning self.old.store) self.old.books)) }
-        ensures solo { work.solo ≡ true → (self.new.books.broken ≡ Some (record { thread = work.thread; turns = length self.new.books.history.entries }))
-            × ((w : Worlds) → (w1 : Worlds) × (core_of w1 (S.meaning self.new.store) self.new.books ≡ with_cause cause (up_to_whole k (S.meaning self.old.store).segments (transaction w.own ((S.meaning self.old.store).part k) work) work.steps (core_with w k (S.meaning self.old.store) self.old.books work)))) }
+        ensures mortal { work.solo ≡ false → (self.new.books.broken ≡ self.old.books.broken)
+            × ((w : Worlds) → core_of w (S.meaning self.new.store) self.new.books ≡ with_cause cause
+            (core_of w (S.meaning self.old.store) self.old.books)) }
+        ensures solo { work.solo ≡ true
+            → (self.new.books.broken ≡ Some
+            (record { thread = work.thread; turns = length self.new.books.history.entries }))
+            × ((w : Worlds) → (w1 : Worlds)
+            × (core_of w1 (S.meaning self.new.store) self.new.books ≡ with_cause cause
+            (up_to_whole k (S.meaning self.old.store).segments
+            (transaction w.own ((S.meaning self.old.store).part k) work) work.steps
+            (core_with w k (S.meaning self.old.store) self.old.books work)))) }
     {
         if work.solo {
             self.break_off(k, work, cause);
@@ -306,7 +390,9 @@ impl<'p, C: Client, S: SegStore, I: Source, O: Sink, E: Sink> Core<'p, C, S, I, 
         ensures rest { self.new ≡ record self.old { books = self.new.books } }
         ensures whole { Whole (S.meaning self.new.store) self.new.books }
         ensures broken { self.new.books.broken ≡ self.old.books.broken }
-        ensures core { (world : Worlds) → core_of world (S.meaning self.new.store) self.new.books ≡ with_segment k (Running (transaction world.own ((S.meaning self.old.store).part k) work)) (core_of world (S.meaning self.old.store) self.old.books) }
+        ensures core { (world : Worlds) → core_of world (S.meaning self.new.store) self.new.books ≡ with_segment k
+            (Running (transaction world.own ((S.meaning self.old.store).part k) work))
+            (core_of world (S.meaning self.old.store) self.old.books) }
     {
         self.books.put(k, work);
     }

@@ -1,4 +1,5 @@
-//! The states of threads: the committed ones, in the order of the threads' numbers, and those that a transaction started.
+//! The states of threads: the committed ones, in the order of the threads' numbers, and those that a transaction
+//! started.
 ghost use Rattle.std.specs.Prelude.{◌≡◌, ◌<◌, ◌≤◌, ◌+◌, ◌++◌, [], ◌∷◌, length, take, slice_get, slice_set, Some, IfOk, OnOk, OnErr};
 ghost use Rattle.py_base.specs.Collection.{Logged};
 
@@ -54,8 +55,8 @@ impl<T: Drop> Started<T> {
     }
 }
 
-/// The committed states of the threads, with room for more. Threads have numbers of 32 bits, so there is no room for 2^32 of
-/// them: making it is want of memory.
+/// The committed states of the threads, with room for more. Threads have numbers of 32 bits, so there is no room for
+/// 2^32 of them: making it is want of memory.
 #[derive(Drop)]
 pub struct Threads<T> {
     states: Vec<T>,
@@ -67,7 +68,10 @@ impl<T> Model for Threads<T> {
 
     ghost Value = { Logged T };
 
-    ghost view = { λ a. record { entries = a.states.items; room = min (vec_capacity a.states) (2 ^ 32 - 1) - vec_len a.states } };
+    ghost view = { λ a. record {
+      entries = a.states.items;
+      room = min (vec_capacity a.states) (2 ^ 32 - 1) - vec_len a.states;
+    } };
 
     ghost invariant = { λ a. length a.states.items < 2 ^ 32 };
 }

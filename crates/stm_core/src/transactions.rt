@@ -19,19 +19,20 @@ pub const LENGTH_LIMIT: u64 = 1_000_000;
 /// The greatest budget.
 pub const BUDGET_LIMIT: u64 = 1_000_000_000_000_000;
 
-/// Several transactions of a client's threads on the segments of a store, each of which is aborted or becomes a turn of the
-/// history.
+/// Several transactions of a client's threads on the segments of a store, each of which is aborted or becomes a turn
+/// of the history.
 ///
-/// A segment's number is below the store's count of segments. A call that doesn't say otherwise takes no memory. Contracts speak
-/// of the states for which a core stands (`Outer`): its transactions and history, and what its devices were told.
+/// A segment's number is below the store's count of segments. A call that doesn't say otherwise takes no memory.
+/// Contracts speak of the states for which a core stands (`Outer`): its transactions and history, and what its
+/// devices were told.
 #[derive(Drop)]
 pub struct Core<'p, C: Client, S, I, O, E> {
     pub(crate) alloc: Global,
     pub(crate) client: &'p C,
     pub(crate) store: S,
     pub(crate) books: Books<C::State>,
-    /// How many steps the turns of the history have, all together; where they have more than there are numbers, the last
-    /// number.
+    /// How many steps the turns of the history have, all together; where they have more than there are numbers, the
+    /// last number.
     pub(crate) spent: u64,
     /// The most steps of a transaction.
     pub(crate) length: u64,
@@ -80,7 +81,8 @@ impl<'p, C: Client, S: SegStore, I: Source, O: Sink, E: Sink> Core<'p, C, S, I, 
     /// The condition of an event holds.
     fn can_make(&self, event: Event) -> bool
         requires good { IsGoodCore I.state O.state E.state C.prog C.sound S.reserved S.meaning self.now }
-        ensures { Says I.state O.state E.state C.prog S.meaning self.now (λ o. result ≡ may_make (core_limits S.meaning self.now) o.core event) }
+        ensures { Says I.state O.state E.state C.prog S.meaning self.now
+            (λ o. result ≡ may_make (core_limits S.meaning self.now) o.core event) }
     {
         match event {
             Event::Begin(k, _) => k < self.store.segments(),
@@ -126,7 +128,8 @@ impl<'p, C: Client, S: SegStore, I: Source, O: Sink, E: Sink> Core<'p, C, S, I, 
         requires good { IsGoodCore I.state O.state E.state C.prog C.sound S.reserved S.meaning self.old }
         ensures good { IsGoodCore I.state O.state E.state C.prog C.sound S.reserved S.meaning self.new }
         ensures job { SameJob S.meaning self.old self.new }
-        ensures made { Leads I.state O.state E.state C.prog S.meaning self.old self.new (EventMade (C.prog (core_client self.old)) (core_limits S.meaning self.old) event result) }
+        ensures made { Leads I.state O.state E.state C.prog S.meaning self.old self.new
+            (EventMade (C.prog (core_client self.old)) (core_limits S.meaning self.old) event result) }
     {
         if !self.can_make(event) {
             return Reply::Skipped;
@@ -140,15 +143,16 @@ impl<'p, C: Client, S: SegStore, I: Source, O: Sink, E: Sink> Core<'p, C, S, I, 
         }
     }
 
-    /// Makes the events of a list, one after another, and gives the reply of each. An event whose condition doesn't hold is
-    /// skipped. Room for all replies is made first; where there is no memory for it, no event is made.
+    /// Makes the events of a list, one after another, and gives the reply of each. An event whose condition doesn't
+    /// hold is skipped. Room for all replies is made first; where there is no memory for it, no event is made.
     pub fn run_events(&mut self, list: &[Event]) -> Result<Vec<Reply>, NoMemory>
         requires good { IsGoodCore I.state O.state E.state C.prog C.sound S.reserved S.meaning self.old }
         ensures good { IsGoodCore I.state O.state E.state C.prog C.sound S.reserved S.meaning self.new }
         ensures job { SameJob S.meaning self.old self.new }
         ensures made { IfOk result (λ replies. Leads I.state O.state E.state C.prog S.meaning self.old self.new (λ o o1.
             EventsMade (C.prog (core_client self.old)) (core_limits S.meaning self.old) list.now replies.items o o1
-            × AllLeave (C.prog (core_client self.old)) (core_limits S.meaning self.old) list.now replies.items o.core o1.core
+            × AllLeave (C.prog (core_client self.old)) (core_limits S.meaning self.old) list.now replies.items o.core
+            o1.core
             × IsGrown replies.items o.core o1.core)) }
         ensures none { OnErr result (self.new ≡ self.old) }
     {

@@ -12,21 +12,33 @@ impl<'a, T: Drop, S: SegStore, I: Source, O: Sink, E: Sink> View<T> for SegView<
     ghost use Rattle.stm_core.specs.inner.SegSense.{told_sense, told_bracket};
     ghost use Rattle.stm_core.specs.inner.SegLaws.{told_lawful, told_bracketed};
 
-    ghost sense = { told_sense (λ v. holding (S.meaning v.store.now) (S.reserved v.store.now) v.books.now v.progress.now v.stopped)
+    ghost sense = { told_sense (λ v. holding (S.meaning v.store.now) (S.reserved v.store.now) v.books.now
+        v.progress.now v.stopped)
         (λ v. device_state I.state O.state E.state v.devices.now) (λ v. v.segment) (λ v. v.side)
-        (λ v w. (w.store.ghost_name ≡ v.store.ghost_name) × (w.books.ghost_name ≡ v.books.ghost_name) × (w.progress.ghost_name ≡ v.progress.ghost_name) × (w.devices.ghost_name ≡ v.devices.ghost_name)) (λ v. S.peaks v.store.now) };
+        (λ v w. (w.store.ghost_name ≡ v.store.ghost_name) × (w.books.ghost_name ≡ v.books.ghost_name)
+        × (w.progress.ghost_name ≡ v.progress.ghost_name) × (w.devices.ghost_name ≡ v.devices.ghost_name))
+        (λ v. S.peaks v.store.now) };
 
-    ghost bracket = { told_bracket (λ v. holding (S.meaning v.store.now) (S.reserved v.store.now) v.books.now v.progress.now v.stopped)
+    ghost bracket = { told_bracket
+        (λ v. holding (S.meaning v.store.now) (S.reserved v.store.now) v.books.now v.progress.now v.stopped)
         (λ v. device_state I.state O.state E.state v.devices.now) (λ v. v.segment) (λ v. v.side)
-        (λ v w. (w.store.ghost_name ≡ v.store.ghost_name) × (w.books.ghost_name ≡ v.books.ghost_name) × (w.progress.ghost_name ≡ v.progress.ghost_name) × (w.devices.ghost_name ≡ v.devices.ghost_name)) (λ v. S.peaks v.store.now) };
+        (λ v w. (w.store.ghost_name ≡ v.store.ghost_name) × (w.books.ghost_name ≡ v.books.ghost_name)
+        × (w.progress.ghost_name ≡ v.progress.ghost_name) × (w.devices.ghost_name ≡ v.devices.ghost_name))
+        (λ v. S.peaks v.store.now) };
 
-    ghost lawful = { told_lawful (λ v. holding (S.meaning v.store.now) (S.reserved v.store.now) v.books.now v.progress.now v.stopped)
+    ghost lawful = { told_lawful (λ v. holding (S.meaning v.store.now) (S.reserved v.store.now) v.books.now
+        v.progress.now v.stopped)
         (λ v. device_state I.state O.state E.state v.devices.now) (λ v. v.segment) (λ v. v.side)
-        (λ v w. (w.store.ghost_name ≡ v.store.ghost_name) × (w.books.ghost_name ≡ v.books.ghost_name) × (w.progress.ghost_name ≡ v.progress.ghost_name) × (w.devices.ghost_name ≡ v.devices.ghost_name)) (λ v. S.peaks v.store.now) };
+        (λ v w. (w.store.ghost_name ≡ v.store.ghost_name) × (w.books.ghost_name ≡ v.books.ghost_name)
+        × (w.progress.ghost_name ≡ v.progress.ghost_name) × (w.devices.ghost_name ≡ v.devices.ghost_name))
+        (λ v. S.peaks v.store.now) };
 
-    ghost bracketed = { told_bracketed (λ v. holding (S.meaning v.store.now) (S.reserved v.store.now) v.books.now v.progress.now v.stopped)
+    ghost bracketed = { told_bracketed
+        (λ v. holding (S.meaning v.store.now) (S.reserved v.store.now) v.books.now v.progress.now v.stopped)
         (λ v. device_state I.state O.state E.state v.devices.now) (λ v. v.segment) (λ v. v.side)
-        (λ v w. (w.store.ghost_name ≡ v.store.ghost_name) × (w.books.ghost_name ≡ v.books.ghost_name) × (w.progress.ghost_name ≡ v.progress.ghost_name) × (w.devices.ghost_name ≡ v.devices.ghost_name)) (λ v. S.peaks v.store.now) };
+        (λ v w. (w.store.ghost_name ≡ v.store.ghost_name) × (w.books.ghost_name ≡ v.books.ghost_name)
+        × (w.progress.ghost_name ≡ v.progress.ghost_name) × (w.devices.ghost_name ≡ v.devices.ghost_name))
+        (λ v. S.peaks v.store.now) };
 
     fn open_step(&mut self) {
         self.store.open_step(self.segment);

@@ -9,8 +9,8 @@ use std::marker::Model;
 pub struct Fail {
     /// The number of the call that fails, from 1.
     pub call: u64,
-    /// After how many bytes taken from a source or written to a sink it fails; where there are fewer, after all of them.
-    /// Of a loader it plays no part.
+    /// After how many bytes taken from a source or written to a sink it fails; where there are fewer, after all of
+    /// them. Of a loader it plays no part.
     pub bytes: usize,
 }
 

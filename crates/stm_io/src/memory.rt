@@ -27,13 +27,25 @@ impl Model for MemLoader {
 
     ghost Value = { MemLoaderValue };
 
-    ghost view = { λ a. record { name = a.name.items; text = a.loader.text; asked = a.loader.asked; plan = a.schedule; faults = a.faults } };
+    ghost view = { λ a. record {
+      name = a.name.items;
+      text = a.loader.text;
+      asked = a.loader.asked;
+      plan = a.schedule;
+      faults = a.faults;
+    } };
 }
 
 impl MemLoader {
     /// A loader of that text under that name. Its calls fail as planned, and so does each call for another name.
     pub fn new(alloc: Global, name: Vec<u8>, text: Vec<u8>, fails: Vec<Fail>) -> MemLoader
-        ensures { result ≡ record { name = name.items; text = text.items; asked = []; plan = planned fails.items; faults = 0 } }
+        ensures { result ≡ record {
+          name = name.items;
+          text = text.items;
+          asked = [];
+          plan = planned fails.items;
+          faults = 0;
+        } }
     {
         MemLoader {
             name,
@@ -58,7 +70,8 @@ impl Loader for MemLoader {
         ensures text { IfOk result (λ v. v.items ≡ take most self.old.text) }
         ensures short { IfOk result (λ v. length v.items ≤ most) }
         ensures asked { OnOk result (self.new.asked ≡ self.old.asked ++ name.now ∷ []) }
-        ensures stops { IfErr result (λ e. LoadStops name.now e (mem_loader_state self.old) (mem_loader_state self.new)) }
+        ensures stops { IfErr result (λ e. LoadStops name.now e (mem_loader_state self.old)
+            (mem_loader_state self.new)) }
         ensures same_name { self.new.name ≡ self.old.name }
         ensures same_text { self.new.text ≡ self.old.text }
 

@@ -71,7 +71,8 @@ impl Loader for SureLoader {
         ensures text { IfOk result (λ v. v.items ≡ take most self.old.text) }
         ensures short { IfOk result (λ v. length v.items ≤ most) }
         ensures asked { OnOk result (self.new.asked ≡ self.old.asked ++ name.now ∷ []) }
-        ensures stops { IfErr result (λ e. LoadStops name.now e (sure_loader_state self.old) (sure_loader_state self.new)) }
+        ensures stops { IfErr result (λ e. LoadStops name.now e (sure_loader_state self.old)
+            (sure_loader_state self.new)) }
         ensures same { self.new.text ≡ self.old.text }
         ensures sure { IsOkUnless result LoadError.OutOfMemory }
     {

@@ -53,8 +53,10 @@ fn own(
     a: u32,
 ) -> Result<(), NoMemory>
     requires { IsSome (laid_over (space_heap changed.old) (λ b. loaned_in (tree.get nat_cmp loaned.now b)) a) }
-    ensures own { OnOk result (space_heap changed.new a ≡ laid_over (space_heap changed.old) (λ b. loaned_in (tree.get nat_cmp loaned.now b)) a) }
-    ensures heap { laid_over (space_heap changed.new) (λ b. loaned_in (tree.get nat_cmp loaned.now b)) ≡ laid_over (space_heap changed.old) (λ b. loaned_in (tree.get nat_cmp loaned.now b)) }
+    ensures own { OnOk result (space_heap changed.new a ≡ laid_over (space_heap changed.old)
+        (λ b. loaned_in (tree.get nat_cmp loaned.now b)) a) }
+    ensures heap { laid_over (space_heap changed.new) (λ b. loaned_in (tree.get nat_cmp loaned.now b)) ≡ laid_over
+        (space_heap changed.old) (λ b. loaned_in (tree.get nat_cmp loaned.now b)) }
     ensures base { space_base changed.new ≡ space_base changed.old }
 {
     if changed.has(a) {

@@ -118,8 +118,10 @@ pub fn run_piece<C: Client>(alloc: Global, client: &C, loan: Loan<C::State>) -> 
     requires stands { StandsIn (C.sound client.now) true (piece_state loan.view).heap loan.state }
     ensures start { result.start ≡ loan.state }
     ensures few { result.steps ≤ loan.most }
-    ensures piece { IsPiece (C.prog client.now) (piece_state loan.view).heap (piece_state loan.view).locked result.steps loan.state (last_of result.start result.last) (piece_state result.view).heap }
-    ensures end { EndsSo (C.prog client.now) loan.most result.steps (last_of result.start result.last) (piece_state result.view) result.end }
+    ensures piece { IsPiece (C.prog client.now) (piece_state loan.view).heap (piece_state loan.view).locked
+        result.steps loan.state (last_of result.start result.last) (piece_state result.view).heap }
+    ensures end { EndsSo (C.prog client.now) loan.most result.steps (last_of result.start result.last)
+        (piece_state result.view) result.end }
     ensures terms { SameTerms (piece_state loan.view) (piece_state result.view) }
     ensures by { IsPieceBy (C.prog client.now) result }
     ensures loaned { (piece_state result.view).loaned ≡ (piece_state loan.view).loaned }

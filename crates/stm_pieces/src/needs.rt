@@ -33,7 +33,8 @@ pub fn has_room(r: &Entry, c: &Change) -> bool
 
 /// The key of a new pair can be looked for in its dictionary: its record and those of all keys are here.
 pub fn keys_known<R: Records>(heap: &R, r: &Entry, c: &Change) -> bool
-    ensures yes { result ≡ true → Suits true (R.records heap.now) c.now r.now → Suits false (R.records heap.now) c.now r.now }
+    ensures yes { result ≡ true → Suits true (R.records heap.now) c.now r.now
+        → Suits false (R.records heap.now) c.now r.now }
     ensures not { result ≡ false → Suits false (R.records heap.now) c.now r.now → ⊥ }
 {
     match c {

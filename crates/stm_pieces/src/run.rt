@@ -53,8 +53,10 @@ fn step_here<C: Client>(
 ) -> Result<bool, PieceEnd>
     requires lives { (C.prog client.now).life state.old ≡ Lives }
     requires stands { StandsIn (C.sound client.now) true (piece_state view.old).heap state.old }
-    ensures ok { IfOk result (λ on. OneStep (C.prog client.now) (C.sound client.now) state.old (piece_state view.old) on state.new (piece_state view.new)) }
-    ensures err { IfErr result (λ e. NoStep (C.prog client.now) (C.sound client.now) state.old (piece_state view.old) e state.new (piece_state view.new)) }
+    ensures ok { IfOk result (λ on. OneStep (C.prog client.now) (C.sound client.now) state.old
+        (piece_state view.old) on state.new (piece_state view.new)) }
+    ensures err { IfErr result (λ e. NoStep (C.prog client.now) (C.sound client.now) state.old
+        (piece_state view.old) e state.new (piece_state view.new)) }
 {
     match client.step(alloc, state, view) {
         Ok(Outcome::Done) => Ok(true),
@@ -81,7 +83,8 @@ pub fn run_steps<C: Client>(
     requires stands { StandsIn (C.sound client.now) true (piece_state view.old).heap state.old }
     requires tight { IsTight (piece_state view.old) }
     requires alone { (piece_state view.old).solo ≡ false }
-    ensures piece { IsPiece (C.prog client.now) (piece_state view.old).heap (piece_state view.old).locked result.0 state.old state.new (piece_state view.new).heap }
+    ensures piece { IsPiece (C.prog client.now) (piece_state view.old).heap (piece_state view.old).locked result.0
+        state.old state.new (piece_state view.new).heap }
     ensures few { result.0 ≤ most }
     ensures end { EndsSo (C.prog client.now) most result.0 state.new (piece_state view.new) result.1 }
     ensures terms { SameTerms (piece_state view.old) (piece_state view.new) }

@@ -115,8 +115,8 @@ fn answer(state: RunState, failed: bool, history: &History) -> Answer
     }
 }
 
-/// Runs a core to its end, by a worker for each of its segments. Where the peaks of its store were explained, a heap that
-/// came to be full was nearly full.
+/// Runs a core to its end, by a worker for each of its segments. Where the peaks of its store were explained, a heap
+/// that came to be full was nearly full.
 fn run_core<
     Rt: Threads + Wait + Sync,
     C: Client + Sync,
@@ -131,9 +131,14 @@ where
     C::State: Send,
     requires good { IsGoodCore I.state O.state E.state C.prog C.sound S.reserved S.meaning core }
     ensures loader { result.outside.loader ≡ loader }
-    ensures ended { (i : I) (o : O) (e : E) → HasDevices i o e core.entry → (first : Outer C.State) → CoreStands I.state O.state E.state C.prog S.meaning core.entry first → HasExplained I.state O.state E.state C.prog S.meaning S.peaks core.entry first
-        → RunEnds (C.prog (core_client core.entry)) (core_limits S.meaning core.entry) result.answer (devices_of L.state I.state O.state E.state loader i o e)
-        (told_of S.meaning S.reserved result.history.entries result.conflicts.entries result.store) (devices_of L.state I.state O.state E.state result.outside.loader result.outside.input result.outside.out result.outside.err) }
+    ensures ended { (i : I) (o : O) (e : E) → HasDevices i o e core.entry → (first : Outer C.State)
+        → CoreStands I.state O.state E.state C.prog S.meaning core.entry first
+        → HasExplained I.state O.state E.state C.prog S.meaning S.peaks core.entry first
+        → RunEnds (C.prog (core_client core.entry)) (core_limits S.meaning core.entry) result.answer
+        (devices_of L.state I.state O.state E.state loader i o e)
+        (told_of S.meaning S.reserved result.history.entries result.conflicts.entries result.store)
+        (devices_of L.state I.state O.state E.state result.outside.loader result.outside.input result.outside.out
+        result.outside.err) }
 {
     let core = run_workers(rt, alloc, core, gate);
     let Finished {
@@ -184,8 +189,11 @@ where
     C::State: Send,
     requires first { IsSoundFirst (C.prog client.now) (C.sound client.now) }
     requires options { IsWithin options.now }
-    ensures ended { ThreadsEnded (C.prog client.now) options.now result.answer (devices_of L.state I.state O.state E.state outside.loader outside.input outside.out outside.err)
-        (told_of paged_meaning reserved_of result.history.entries result.conflicts.entries result.store) (devices_of L.state I.state O.state E.state result.outside.loader result.outside.input result.outside.out result.outside.err) }
+    ensures ended { ThreadsEnded (C.prog client.now) options.now result.answer
+        (devices_of L.state I.state O.state E.state outside.loader outside.input outside.out outside.err)
+        (told_of paged_meaning reserved_of result.history.entries result.conflicts.entries result.store)
+        (devices_of L.state I.state O.state E.state result.outside.loader result.outside.input result.outside.out
+        result.outside.err) }
 {
     let store = match PagedStore::new(alloc, options.segments, options.pages) {
         Ok(store) => store,

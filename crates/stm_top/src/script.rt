@@ -11,11 +11,12 @@ use stm_words::{Name, Script, demo_text};
 /// How many bytes a script may have.
 pub const SCRIPT_LIMIT: usize = 4_194_304;
 
-/// Takes the script, line by line, to the source's end: its bytes, or nothing where there are more than a script may have.
-/// Of a longer text it takes one byte more than a script may have. The memory grows with the script.
+/// Takes the script, line by line, to the source's end: its bytes, or nothing where there are more than a script may
+/// have. Of a longer text it takes one byte more than a script may have. The memory grows with the script.
 #[tactic(auto, using(crate::proofs::Taking::stopped_there))]
 fn take_lines<I: Source>(alloc: Global, input: &mut I) -> Result<Option<Vec<u8>>, TakeError>
-    ensures whole { IfOk result (λ t. IfSome t (λ script. ScriptTaken script.items (I.state input.old) (I.state input.new))) }
+    ensures whole { IfOk result (λ t. IfSome t
+        (λ script. ScriptTaken script.items (I.state input.old) (I.state input.new))) }
     ensures long { result ≡ Ok None → TooMuchTaken (I.state input.old) (I.state input.new) }
     ensures stopped { IfErr result (λ e. TakingStopped e (I.state input.old) (I.state input.new)) }
 {
@@ -36,8 +37,12 @@ fn take_source<L: Loader, I: Source>(
     loader: &L,
     input: &mut I,
 ) -> Result<Vec<u8>, Answer>
-    ensures taken { IfOk result (λ text. Taken Script.Source text.items (record { loader = L.state loader.now; input = I.state input.old }) (record { loader = L.state loader.now; input = I.state input.new })) }
-    ensures none { IfErr result (λ answer. NoScript answer Script.Source (record { loader = L.state loader.now; input = I.state input.old }) (record { loader = L.state loader.now; input = I.state input.new })) }
+    ensures taken { IfOk result (λ text. Taken Script.Source text.items
+        (record { loader = L.state loader.now; input = I.state input.old })
+        (record { loader = L.state loader.now; input = I.state input.new })) }
+    ensures none { IfErr result (λ answer. NoScript answer Script.Source
+        (record { loader = L.state loader.now; input = I.state input.old })
+        (record { loader = L.state loader.now; input = I.state input.new })) }
 {
     match take_lines(alloc, input) {
         Ok(Some(text)) => Ok(text),
@@ -53,8 +58,12 @@ fn load_file<L: Loader, I: Source>(
     input: &I,
     name: &Name,
 ) -> Result<Vec<u8>, Answer>
-    ensures taken { IfOk result (λ text. Taken (Script.File name.now) text.items (record { loader = L.state loader.old; input = I.state input.now }) (record { loader = L.state loader.new; input = I.state input.now })) }
-    ensures none { IfErr result (λ answer. NoScript answer (Script.File name.now) (record { loader = L.state loader.old; input = I.state input.now }) (record { loader = L.state loader.new; input = I.state input.now })) }
+    ensures taken { IfOk result (λ text. Taken (Script.File name.now) text.items
+        (record { loader = L.state loader.old; input = I.state input.now })
+        (record { loader = L.state loader.new; input = I.state input.now })) }
+    ensures none { IfErr result (λ answer. NoScript answer (Script.File name.now)
+        (record { loader = L.state loader.old; input = I.state input.now })
+        (record { loader = L.state loader.new; input = I.state input.now })) }
 {
     match loader.load(name.as_text(), SCRIPT_LIMIT + 1) {
         Ok(text) => {
@@ -76,8 +85,12 @@ pub(crate) fn take_script<L: Loader, I: Source>(
     loader: &mut L,
     input: &mut I,
 ) -> Result<Vec<u8>, Answer>
-    ensures taken { IfOk result (λ text. Taken script.now text.items (record { loader = L.state loader.old; input = I.state input.old }) (record { loader = L.state loader.new; input = I.state input.new })) }
-    ensures none { IfErr result (λ answer. NoScript answer script.now (record { loader = L.state loader.old; input = I.state input.old }) (record { loader = L.state loader.new; input = I.state input.new })) }
+    ensures taken { IfOk result (λ text. Taken script.now text.items
+        (record { loader = L.state loader.old; input = I.state input.old })
+        (record { loader = L.state loader.new; input = I.state input.new })) }
+    ensures none { IfErr result (λ answer. NoScript answer script.now
+        (record { loader = L.state loader.old; input = I.state input.old })
+        (record { loader = L.state loader.new; input = I.state input.new })) }
 {
     match script {
         Script::Source => take_source(alloc, loader, input),

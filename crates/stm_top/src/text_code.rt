@@ -23,8 +23,8 @@ use thiserror::Error;
 /// Why `compile_text` gives no program.
 #[derive(Clone, Copy, Debug, Drop, Error, PartialEq, Eq)]
 pub enum TextFault {
-    /// The text is none of the language, or its program is too large: the first refusal in the order tokens, tree, scopes,
-    /// code, with the line, from 1, of the earliest place.
+    /// The text is none of the language, or its program is too large: the first refusal in the order tokens, tree,
+    /// scopes, code, with the line, from 1, of the earliest place.
     #[error("the text is refused")]
     Refused(Refusal),
     /// There was no memory for the program, or on the way to it.
@@ -92,8 +92,8 @@ fn program_of(
     }
 }
 
-/// The program of a text, ready for a machine: its tokens, their tree, the scopes of its bodies and the code of each, by
-/// `docs/LANGUAGE.md`, and then tested by `verify`, which refuses none of them.
+/// The program of a text, ready for a machine: its tokens, their tree, the scopes of its bodies and the code of each,
+/// by `docs/LANGUAGE.md`, and then tested by `verify`, which refuses none of them.
 pub fn compile_text(alloc: Global, text: &[u8]) -> Result<Verified, TextFault>
     requires { length text.now < 2 ^ 32 }
     ensures program { IfOk result (λ verified. HasCode text.now verified) }

@@ -26,8 +26,8 @@ use stm_words::{Options, WordsError, read_words};
 #[derive(Drop)]
 pub struct Report<L, I, O, E> {
     pub status: Status,
-    /// What was put to the error output at the end: a line with its newline, or nothing. Where there was no memory for it
-    /// it is empty.
+    /// What was put to the error output at the end: a line with its newline, or nothing. Where there was no memory
+    /// for it it is empty.
     pub text: Bytes,
     /// The turns that were committed, in order. It is empty where nothing ran.
     pub history: History,
@@ -59,8 +59,11 @@ fn run_text<
 ) -> End<PagedStore, L, I, O, E>
     requires short { length text.now ≤ 4194304 }
     requires options { IsWithin options.now }
-    ensures ended { TextEnded HasCode IsRefused prog_of text.now options.now result.answer (devices_of L.state I.state O.state E.state outside.loader outside.input outside.out outside.err)
-        (told_of paged_meaning reserved_of result.history.entries result.conflicts.entries result.store) (devices_of L.state I.state O.state E.state result.outside.loader result.outside.input result.outside.out result.outside.err) }
+    ensures ended { TextEnded HasCode IsRefused prog_of text.now options.now result.answer
+        (devices_of L.state I.state O.state E.state outside.loader outside.input outside.out outside.err)
+        (told_of paged_meaning reserved_of result.history.entries result.conflicts.entries result.store)
+        (devices_of L.state I.state O.state E.state result.outside.loader result.outside.input result.outside.out
+        result.outside.err) }
 {
     let program = match compile_text(alloc, text) {
         Ok(program) => program,
@@ -91,8 +94,11 @@ fn run_script<
     gate: &G,
 ) -> End<PagedStore, L, I, O, E>
     requires options { IsWithin options.now }
-    ensures cause { CausedBy HasCode IsRefused prog_of result.answer options.now (devices_of L.state I.state O.state E.state outside.loader outside.input outside.out outside.err)
-        (told_of paged_meaning reserved_of result.history.entries result.conflicts.entries result.store) (devices_of L.state I.state O.state E.state result.outside.loader result.outside.input result.outside.out result.outside.err) }
+    ensures cause { CausedBy HasCode IsRefused prog_of result.answer options.now
+        (devices_of L.state I.state O.state E.state outside.loader outside.input outside.out outside.err)
+        (told_of paged_meaning reserved_of result.history.entries result.conflicts.entries result.store)
+        (devices_of L.state I.state O.state E.state result.outside.loader result.outside.input result.outside.out
+        result.outside.err) }
 {
     match take_script(
         alloc,
@@ -120,8 +126,11 @@ fn run_named<
     outside: Outside<L, I, O, E>,
     gate: &G,
 ) -> End<PagedStore, L, I, O, E>
-    ensures cause { Caused HasCode IsRefused prog_of result.answer (bytes_of words.now) (devices_of L.state I.state O.state E.state outside.loader outside.input outside.out outside.err)
-        (told_of paged_meaning reserved_of result.history.entries result.conflicts.entries result.store) (devices_of L.state I.state O.state E.state result.outside.loader result.outside.input result.outside.out result.outside.err) }
+    ensures cause { Caused HasCode IsRefused prog_of result.answer (bytes_of words.now)
+        (devices_of L.state I.state O.state E.state outside.loader outside.input outside.out outside.err)
+        (told_of paged_meaning reserved_of result.history.entries result.conflicts.entries result.store)
+        (devices_of L.state I.state O.state E.state result.outside.loader result.outside.input result.outside.out
+        result.outside.err) }
 {
     match read_words(alloc, words) {
         Ok(options) => run_script(rt, alloc, &options, outside, gate),
@@ -141,14 +150,16 @@ fn put_text<E: Sink>(err: &mut E, text: &[u8])
 
 /// Runs the script that the words name.
 ///
-/// The words are those after the program's name: options, and where the script comes from. `-` takes it from `input`, to its end; a
-/// name has `loader` load the file of that name; `--demo N` is a workload. Of a longer script than `SCRIPT_LIMIT` one byte more is
-/// taken. Its threads run as transactions on the segments that the options ask for. What they write goes to `out` and `err`. What is
-/// wrong is told by the status and by the text, which is put to `err` last.
+/// The words are those after the program's name: options, and where the script comes from. `-` takes it from `input`,
+/// to its end; a name has `loader` load the file of that name; `--demo N` is a workload. Of a longer script than
+/// `SCRIPT_LIMIT` one byte more is taken. Its threads run as transactions on the segments that the options ask for.
+/// What they write goes to `out` and `err`. What is wrong is told by the status and by the text, which is put to
+/// `err` last.
 ///
-/// For each segment a worker runs, in a thread of the machine below, the caller's among them; they take the heap in turn. In
-/// between each of them runs steps of its thread on copies of records, and passes the gate before. Nothing is claimed of when the call
-/// returns: a wait for the heap that never ends, and one at the gate, are the only ways in which it doesn't.
+/// For each segment a worker runs, in a thread of the machine below, the caller's among them; they take the heap in
+/// turn. In between each of them runs steps of its thread on copies of records, and passes the gate before. Nothing
+/// is claimed of when the call returns: a wait for the heap that never ends, and one at the gate, are the only ways
+/// in which it doesn't.
 ///
 /// `specs/TopCall.antt` says what each status means, by its cause, and `specs/Serial.antt` what the run was.
 pub fn run_words<
@@ -168,8 +179,10 @@ pub fn run_words<
     err: E,
     gate: &G,
 ) -> Report<L, I, O, E>
-    ensures answered { Answered HasCode IsRefused prog_of (bytes_of words.now) (devices_of L.state I.state O.state E.state loader input out err) result.status result.text
-        (told_of paged_meaning reserved_of result.history.entries result.conflicts.entries result.store) (devices_of L.state I.state O.state E.state result.loader result.input result.out result.err) }
+    ensures answered { Answered HasCode IsRefused prog_of (bytes_of words.now)
+        (devices_of L.state I.state O.state E.state loader input out err) result.status result.text
+        (told_of paged_meaning reserved_of result.history.entries result.conflicts.entries result.store)
+        (devices_of L.state I.state O.state E.state result.loader result.input result.out result.err) }
 {
     let outside = Outside {
         loader,

@@ -10,8 +10,8 @@ use std::thread::{Threads, join, yield_now};
 /// The longest pause of a worker that finds nothing to do, in times that it lets others run.
 const LONGEST_PAUSE: u32 = 64;
 
-/// What the workers of a crew do with a value of a job, and between their visits to it. A visit may leave an errand `L` to its worker,
-/// to be run before the next one; what comes of it, `P`, the worker brings to its next visit.
+/// What the workers of a crew do with a value of a job, and between their visits to it. A visit may leave an errand
+/// `L` to its worker, to be run before the next one; what comes of it, `P`, the worker brings to its next visit.
 pub(crate) trait Crew<T: Job, L, P> {
     /// The crew is for this job.
     ghost serves: { Self → T.Description → Type 0 };
@@ -49,8 +49,8 @@ pub(crate) struct Visit<E> {
     pub errand: Option<E>,
 }
 
-/// The pause after a visit that found this, where the pause before it was so long: it doubles while there is nothing to do. A
-/// worker that is alone makes none.
+/// The pause after a visit that found this, where the pause before it was so long: it doubles while there is nothing
+/// to do. A worker that is alone makes none.
 fn pause_after(found: Finding, pause: u32, alone: bool) -> u32 {
     if alone {
         return 0;
@@ -87,8 +87,9 @@ fn run_between<T: Job, L: Drop, P: Drop, W: Crew<T, L, P>>(
     }
 }
 
-/// The visits of the worker `k`, up to the last. In between it runs what a visit left to it, or lets other threads run, unless it is
-/// alone. What has grown from all that the seat has seen then has grown from all that it had seen before.
+/// The visits of the worker `k`, up to the last. In between it runs what a visit left to it, or lets other threads
+/// run, unless it is alone. What has grown from all that the seat has seen then has grown from all that it had seen
+/// before.
 fn make_visits<T: Job, L: Drop, P: Drop, W: Crew<T, L, P>, Rt: Wait>(
     rt: &Rt,
     lock: &HeapLock<T>,
@@ -119,8 +120,8 @@ fn make_visits<T: Job, L: Drop, P: Drop, W: Crew<T, L, P>, Rt: Wait>(
     unreachable!()
 }
 
-/// One worker for each part of the seat, each in a thread of its own, the caller's among them. `alone` says that no others share the
-/// lock.
+/// One worker for each part of the seat, each in a thread of its own, the caller's among them. `alone` says that no
+/// others share the lock.
 pub(crate) fn run_all<
     T: Job + Send,
     L: Drop + Send,
@@ -144,12 +145,15 @@ pub(crate) fn run_all<
     let (mut seat, other) = join(
         rt,
         move || -> Seat<T>
-            requires { IsSync Rt.row × (seat.lock ≡ lock.now.id) × (seat.holds ≡ false) × IfSome seat.job (W.serves crew.now) × (rest ≤ W.workers crew.now) × (0 < rest) × (length seat.parts ≡ rest) }
+            requires { IsSync Rt.row × (seat.lock ≡ lock.now.id) × (seat.holds ≡ false)
+                × IfSome seat.job (W.serves crew.now) × (rest ≤ W.workers crew.now) × (0 < rest)
+                × (length seat.parts ≡ rest) }
             ensures same { result ≡ record seat { seen = result.seen; taken = result.taken } }
             ensures seen { (x : T) → All (λ y. T.grows y x) result.seen → All (λ y. T.grows y x) seat.seen }
         { run_all(rt, lock, seat, crew, rest, alone) },
         move || -> Seat<T>
-            requires { (other.lock ≡ lock.now.id) × (other.holds ≡ false) × IfSome other.job (W.serves crew.now) × (rest < W.workers crew.now) }
+            requires { (other.lock ≡ lock.now.id) × (other.holds ≡ false) × IfSome other.job (W.serves crew.now)
+                × (rest < W.workers crew.now) }
             ensures same { result ≡ record other { seen = result.seen; taken = result.taken } }
             ensures seen { (x : T) → All (λ y. T.grows y x) result.seen → All (λ y. T.grows y x) other.seen }
         { make_visits(rt, lock, other, crew, rest, alone) },

@@ -118,7 +118,8 @@ impl<'p, 'g, C: Client, S: SegStore, I: Source, O: Sink, E: Sink, G: Gate> Crew<
 
     fn run(&self, k: u8, errand: Errand<'p, C>) -> Piece<C::State>
         requires { (j : CoreJob C I O E) × CanRun C.prog C.sound j.client errand }
-        ensures { (j : CoreJob C I O E) → CanRun C.prog C.sound j.client errand.entry → IsPieceBy (C.prog j.client) result }
+        ensures { (j : CoreJob C I O E) → CanRun C.prog C.sound j.client errand.entry
+            → IsPieceBy (C.prog j.client) result }
     {
         self.gate.enter(k, errand.loan.thread);
         run_piece(self.alloc, errand.client, errand.loan)

@@ -43,8 +43,9 @@ const VISIT_STEPS: u64 = 100;
 /// A piece of fewer steps isn't worth the copies that it takes.
 const WORTHY_STEPS: u64 = 16;
 
-/// How many steps a visit does where the piece that was brought to it did so many. After a piece that went far it is one step, for
-/// which the piece ended; otherwise there are as many as without pieces, since the records that a piece wants are met so.
+/// How many steps a visit does where the piece that was brought to it did so many. After a piece that went far it is
+/// one step, for which the piece ended; otherwise there are as many as without pieces, since the records that a piece
+/// wants are met so.
 fn steps_after(piece: u64) -> u64 {
     if piece < WORTHY_STEPS { VISIT_STEPS } else { 1 }
 }
@@ -59,8 +60,8 @@ fn is_busy(slot: Slot) -> bool
     }
 }
 
-/// How many steps a segment does in one visit of at most so many. There are none for a transaction that has as many as the length,
-/// and for a doomed one.
+/// How many steps a segment does in one visit of at most so many. There are none for a transaction that has as many
+/// as the length, and for a doomed one.
 fn steps_of(slot: Slot, length: u64, most: u64) -> u64
     ensures { 1 ≤ result → is_within length result slot ≡ true }
 {
@@ -76,7 +77,8 @@ fn steps_of(slot: Slot, length: u64, most: u64) -> u64
     }
 }
 
-/// Commits what a segment has in hand, if anything. A doomed one is told so, and is idle then, as is one without a step.
+/// Commits what a segment has in hand, if anything. A doomed one is told so, and is idle then, as is one without a
+/// step.
 fn commit<C: Client, S: SegStore, I: Source, O: Sink, E: Sink>(
     core: &mut Core<'_, C, S, I, O, E>,
     k: u8,
@@ -137,8 +139,8 @@ fn is_taken<C: Client, S: SegStore, I: Source, O: Sink, E: Sink>(
     false
 }
 
-/// Makes what a segment has in hand solo. Where another one is, it is committed, so that no thread waits for that one with a
-/// transaction in hand.
+/// Makes what a segment has in hand solo. Where another one is, it is committed, so that no thread waits for that one
+/// with a transaction in hand.
 fn go_solo<C: Client, S: SegStore, I: Source, O: Sink, E: Sink>(
     core: &mut Core<'_, C, S, I, O, E>,
     k: u8,
@@ -181,7 +183,8 @@ fn step<C: Client, S: SegStore, I: Source, O: Sink, E: Sink>(
     steps: u64,
 ) -> Result<Advance, AdvanceError>
     requires good { IsGoodCore I.state O.state E.state C.prog C.sound S.reserved S.meaning core.old }
-    requires may { Says I.state O.state E.state C.prog S.meaning core.old (λ o. may_make (core_limits S.meaning core.old) o.core (Event.Advance k steps) ≡ true) }
+    requires may { Says I.state O.state E.state C.prog S.meaning core.old
+        (λ o. may_make (core_limits S.meaning core.old) o.core (Event.Advance k steps) ≡ true) }
     ensures good { IsGoodCore I.state O.state E.state C.prog C.sound S.reserved S.meaning core.new }
     ensures job { SameJob S.meaning core.old core.new }
     ensures grows { Grows I.state O.state E.state C.prog S.meaning S.peaks core.old core.new }
@@ -200,7 +203,8 @@ fn advance<C: Client, S: SegStore, I: Source, O: Sink, E: Sink>(
 )
     requires good { IsGoodCore I.state O.state E.state C.prog C.sound S.reserved S.meaning core.old }
     requires segment { k < (core_limits S.meaning core.old).segments }
-    requires may { Says I.state O.state E.state C.prog S.meaning core.old (λ o. may_make (core_limits S.meaning core.old) o.core (Event.Advance k steps) ≡ true) }
+    requires may { Says I.state O.state E.state C.prog S.meaning core.old
+        (λ o. may_make (core_limits S.meaning core.old) o.core (Event.Advance k steps) ≡ true) }
     ensures good { IsGoodCore I.state O.state E.state C.prog C.sound S.reserved S.meaning core.new }
     ensures job { SameJob S.meaning core.old core.new }
     ensures grows { Grows I.state O.state E.state C.prog S.meaning S.peaks core.old core.new }
@@ -209,8 +213,8 @@ fn advance<C: Client, S: SegStore, I: Source, O: Sink, E: Sink>(
     follow(core, k, answer);
 }
 
-/// Goes on with what a segment has in hand, by at most so many steps. It is committed at the length, and where its thread waits or
-/// has ended.
+/// Goes on with what a segment has in hand, by at most so many steps. It is committed at the length, and where its
+/// thread waits or has ended.
 fn go_on<C: Client, S: SegStore, I: Source, O: Sink, E: Sink>(
     core: &mut Core<'_, C, S, I, O, E>,
     k: u8,
@@ -248,7 +252,8 @@ fn begin<C: Client, S: SegStore, I: Source, O: Sink, E: Sink>(
     call_law(core.client());
 }
 
-/// Where a segment has nothing in hand, begins a transaction of the next ready thread there, if there is one and it may begin.
+/// Where a segment has nothing in hand, begins a transaction of the next ready thread there, if there is one and it
+/// may begin.
 fn begin_next<C: Client, S: SegStore, I: Source, O: Sink, E: Sink>(
     core: &mut Core<'_, C, S, I, O, E>,
     k: u8,
@@ -280,7 +285,8 @@ fn has_ended<C: Client, S: SegStore, I: Source, O: Sink, E: Sink>(
     }
 }
 
-/// What a segment has in hand goes on, by at most so many steps, be it that a transaction begins there now: whether it has something.
+/// What a segment has in hand goes on, by at most so many steps, be it that a transaction begins there now: whether
+/// it has something.
 fn work<C: Client, S: SegStore, I: Source, O: Sink, E: Sink>(
     core: &mut Core<'_, C, S, I, O, E>,
     k: u8,
@@ -329,8 +335,8 @@ fn install<C: Client, S: SegStore, I: Source, O: Sink, E: Sink>(
     core.install(k, piece).unwrap_or(0)
 }
 
-/// A piece that was brought is installed, if it fits, and what then has as many steps as the length is committed: how many steps the
-/// piece added.
+/// A piece that was brought is installed, if it fits, and what then has as many steps as the length is committed: how
+/// many steps the piece added.
 fn take_in<C: Client, S: SegStore, I: Source, O: Sink, E: Sink>(
     core: &mut Core<'_, C, S, I, O, E>,
     k: u8,
@@ -353,7 +359,8 @@ fn take_in<C: Client, S: SegStore, I: Source, O: Sink, E: Sink>(
     }
 }
 
-/// A loan of what a segment has in hand, if that may go on. A worker that is alone gets none, as it would copy records for nobody.
+/// A loan of what a segment has in hand, if that may go on. A worker that is alone gets none, as it would copy
+/// records for nobody.
 fn lend<C: Client, S: SegStore, I: Source, O: Sink, E: Sink>(
     core: &mut Core<'_, C, S, I, O, E>,
     k: u8,
@@ -398,9 +405,9 @@ fn go_round<C: Client, S: SegStore, I: Source, O: Sink, E: Sink>(
 
 /// One visit of the worker of segment `k` without pieces, and what it found.
 ///
-/// Where nothing is in hand a transaction of the next ready thread begins. Then at most `VISIT_STEPS` steps are done, up to the
-/// length. What has as many steps as the length, or waits, or has ended, is committed; what is to print or read becomes solo, or is
-/// committed where another one is solo.
+/// Where nothing is in hand a transaction of the next ready thread begins. Then at most `VISIT_STEPS` steps are done,
+/// up to the length. What has as many steps as the length, or waits, or has ended, is committed; what is to print or
+/// read becomes solo, or is committed where another one is solo.
 pub fn visit<C: Client, S: SegStore, I: Source, O: Sink, E: Sink>(
     core: &mut Core<'_, C, S, I, O, E>,
     k: u8,
@@ -415,12 +422,12 @@ pub fn visit<C: Client, S: SegStore, I: Source, O: Sink, E: Sink>(
     go_round(core, k, None)
 }
 
-/// One visit of the worker of segment `k`, which brings the piece that it has run since the last one, if it has: what it found, and
-/// a loan for the next piece.
+/// One visit of the worker of segment `k`, which brings the piece that it has run since the last one, if it has: what
+/// it found, and a loan for the next piece.
 ///
-/// A piece that fits is installed, and what has as many steps as the length then is committed. The visit goes on as one without
-/// pieces does, but by one step where the piece went far. Then, where a transaction that may go on is in hand, its thread's state and
-/// records that its steps have looked at are loaned.
+/// A piece that fits is installed, and what has as many steps as the length then is committed. The visit goes on as
+/// one without pieces does, but by one step where the piece went far. Then, where a transaction that may go on is in
+/// hand, its thread's state and records that its steps have looked at are loaned.
 pub fn visit_with<C: Client, S: SegStore, I: Source, O: Sink, E: Sink>(
     core: &mut Core<'_, C, S, I, O, E>,
     k: u8,

@@ -66,14 +66,16 @@ where
     requires job { IfSome seat.job (λ j. j.segments ≡ hands.now.workers) }
     ensures good { IsGoodCore I.state O.state E.state C.prog C.sound S.reserved S.meaning result.core }
     ensures job { seat.entry.job ≡ Some (core_job S.meaning result.core) }
-    ensures grows { All (λ y. Grows I.state O.state E.state C.prog S.meaning S.peaks y.core result.core) seat.entry.seen }
+    ensures grows { All (λ y. Grows I.state O.state E.state C.prog S.meaning S.peaks y.core result.core)
+        seat.entry.seen }
 {
     let workers = hands.workers;
     let seat = run_all(rt, &lock, seat, hands, workers, workers == 1);
     lock.close(seat)
 }
 
-/// The workers at a lock round the value, and the value once they have ended. Where there is no memory for the lock, it comes back.
+/// The workers at a lock round the value, and the value once they have ended. Where there is no memory for the lock,
+/// it comes back.
 fn run_held<
     'p,
     Rt: Threads + Wait + Sync,
@@ -111,16 +113,16 @@ where
     }
 }
 
-/// Runs a core's threads until its run has ended, by one worker for each segment of its store, each in a thread of the machine below,
-/// the caller's among them.
+/// Runs a core's threads until its run has ended, by one worker for each segment of its store, each in a thread of
+/// the machine below, the caller's among them.
 ///
-/// A worker takes the core out of a lock, does some steps on its own segment and gives the core back, so that each worker sees the
-/// core as any order of such visits leaves it. In between it passes the gate and runs a piece: steps of its transaction's thread over
-/// copies of records, which its next visit installs if it fits. Where there is no memory for the lock, the caller makes the visits by
-/// itself, without pieces.
+/// A worker takes the core out of a lock, does some steps on its own segment and gives the core back, so that each
+/// worker sees the core as any order of such visits leaves it. In between it passes the gate and runs a piece: steps
+/// of its transaction's thread over copies of records, which its next visit installs if it fits. Where there is no
+/// memory for the lock, the caller makes the visits by itself, without pieces.
 ///
-/// Nothing is claimed of when it returns. Once it has, the core is good, of the same job, its history and conflicts have those that it
-/// had as their beginnings, and its run doesn't go on.
+/// Nothing is claimed of when it returns. Once it has, the core is good, of the same job, its history and conflicts
+/// have those that it had as their beginnings, and its run doesn't go on.
 pub fn run_workers<
     'p,
     Rt: Threads + Wait + Sync,

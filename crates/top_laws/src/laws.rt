@@ -49,8 +49,8 @@ pub fn left_law()
 
 /// A run is finished where nothing stands in its way. Where the words give options, the script is told, isn't too long
 /// and has a program, no device failed, not each living thread waits, and the history has fewer steps than the budget,
-/// the status is 0 or 1 and all threads have ended; or it is 11; or 8, while a thread lives, and then the heap was nearly
-/// full. Where besides the heap has room for all that the history asked for, it is 0 or 1, or 11.
+/// the status is 0 or 1 and all threads have ended; or it is 11; or 8, while a thread lives, and then the heap was
+/// nearly full. Where besides the heap has room for all that the history asked for, it is 0 or 1, or 11.
 pub fn finished_law()
     ensures finished { FinishedLaw HasCode IsRefused prog_of }
     ensures complete { CompleteLaw HasCode IsRefused prog_of }

@@ -1,5 +1,5 @@
-//! Canonical texts, by hand from `docs/LANGUAGE.md`, "The canonical text". A row is a text, `?` and the canonical text of its
-//! tree; `$` is a line end.
+//! Canonical texts, by hand from `docs/LANGUAGE.md`, "The canonical text". A row is a text, `?` and the canonical
+//! text of its tree; `$` is a line end.
 use crate::text_rows::{text_of, tree_of};
 use py_data::{Bytes, NoMemory};
 use py_tree::module_text;

@@ -1,5 +1,6 @@
-//! Listings of scripts' programs, by hand from `docs/LANGUAGE.md`, "Code of a tree" and "Listing". A row is a listing without
-//! its roots, from the slots of the module on and with one space where it has several, `?` and a text; `$` is a line end.
+//! Listings of scripts' programs, by hand from `docs/LANGUAGE.md`, "Code of a tree" and "Listing". A row is a listing
+//! without its roots, from the slots of the module on and with one space where it has several, `?` and a text; `$` is
+//! a line end.
 use crate::text_rows::text_of;
 use py_code::{Program, listing};
 use py_data::NoMemory;

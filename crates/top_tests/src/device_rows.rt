@@ -1,5 +1,6 @@
-//! Devices that fail at each of their calls in turn, before their first byte and behind it: the status, what was written up to then, the
-//! conflicts, and the steps of each turn, which are those before the step that failed. Written by hand from the code of the scripts.
+//! Devices that fail at each of their calls in turn, before their first byte and behind it: the status, what was
+//! written up to then, the conflicts, and the steps of each turn, which are those before the step that failed.
+//! Written by hand from the code of the scripts.
 use crate::call_rows::{NO_FAILURE, Plan, lines_of, report_with, told, turns, words_in};
 use py_data::NoMemory;
 use std::alloc::Global;
@@ -25,7 +26,8 @@ fn check<Rt: Abort + Threads + Wait + Sync>(
     Ok(())
 }
 
-/// SETUP, two instructions for each item, one for each newline, and two at the end; a call for each item and for each newline.
+/// SETUP, two instructions for each item, one for each newline, and two at the end; a call for each item and for each
+/// newline.
 #[test]
 fn output_fails_at_each_call(rt: HostRuntime) -> Tested {
     let rows = [
@@ -52,7 +54,8 @@ fn output_fails_at_each_call(rt: HostRuntime) -> Tested {
     Ok(())
 }
 
-/// The line of a thread that dies is one call, and the step that writes it the thread's last; an instruction that raises is done.
+/// The line of a thread that dies is one call, and the step that writes it the thread's last; an instruction that
+/// raises is done.
 #[test]
 fn error_output_fails_at_each_call(rt: HostRuntime) -> Tested {
     let script = "import thread;def f(): y;thread.start_new_thread(f, ());print 1;y;";
@@ -100,7 +103,8 @@ fn the_last_text_fails(rt: HostRuntime) -> Tested {
     Ok(())
 }
 
-/// The script's two lines and its end are three calls of the source, and `raw_input` is the fourth, whose prompt is written.
+/// The script's two lines and its end are three calls of the source, and `raw_input` is the fourth, whose prompt is
+/// written.
 #[test]
 fn input_fails_at_each_call(rt: HostRuntime) -> Tested {
     let script = "x = raw_input('?');print x;";
@@ -177,8 +181,8 @@ fn each_output_of_a_script_that_asks_fails(rt: HostRuntime) -> Tested {
 /// What that script answers where no device fails.
 const ASKED: &str = "1~1 2;? ab;~thread 0, line 4: IndexError: index out of range;";
 
-/// The other devices of that script fail at their first calls. A seventh call of the output and a second one of the error output are
-/// never made.
+/// The other devices of that script fail at their first calls. A seventh call of the output and a second one of the
+/// error output are never made.
 #[test]
 fn each_device_of_a_script_that_asks_fails(rt: HostRuntime) -> Tested {
     let none = NO_FAILURE;
@@ -204,9 +208,11 @@ fn each_device_of_a_script_that_asks_fails(rt: HostRuntime) -> Tested {
 }
 
 /// A script that asks until there is no more line, and then once more.
-const ASKS_ON: &str = "n = 0;try:;  while 1:;    raw_input();    n += 1;except EOFError:;  print n;raw_input();";
+const ASKS_ON: &str =
+    "n = 0;try:;  while 1:;    raw_input();    n += 1;except EOFError:;  print n;raw_input();";
 
-/// What it answers from the source or as a file, over a source that has these bytes, with the ends that the source has counted.
+/// What it answers from the source or as a file, over a source that has these bytes, with the ends that the source
+/// has counted.
 fn asked_on<Rt: Abort + Threads + Wait + Sync>(
     rt: &Rt,
     alloc: Global,

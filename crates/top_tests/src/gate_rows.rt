@@ -1,5 +1,5 @@
-//! Workers that run pieces of different threads at the same time: a gate holds the first piece of each thread until a piece of
-//! every one of them has come.
+//! Workers that run pieces of different threads at the same time: a gate holds the first piece of each thread until a
+//! piece of every one of them has come.
 use crate::call_rows::words_in;
 use std::alloc::Global;
 use std::process::Abort;

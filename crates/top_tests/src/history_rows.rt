@@ -29,8 +29,10 @@ fn turn_again(
     turn: &Turn,
     names: &Names,
 ) -> Result<Option<u64>, test::Fail>
-    requires { IsSound (Sound (program_in (lock_client run.old))) (lock_state mem_source_state mem_sink_state mem_sink_state run.old) }
-    ensures { IsSound (Sound (program_in (lock_client run.new))) (lock_state mem_source_state mem_sink_state mem_sink_state run.new) }
+    requires { IsSound (Sound (program_in (lock_client run.old)))
+        (lock_state mem_source_state mem_sink_state mem_sink_state run.old) }
+    ensures { IsSound (Sound (program_in (lock_client run.new)))
+        (lock_state mem_source_state mem_sink_state mem_sink_state run.new) }
 {
     assert!(rt; turn.steps >= 1);
     match run.turn(turn.thread, turn.steps, names) {
@@ -49,8 +51,10 @@ fn next_turn(
     history: &History,
     i: usize,
 ) -> Result<(), test::Fail>
-    requires { IsSound (Sound (program_in (lock_client run.old))) (lock_state mem_source_state mem_sink_state mem_sink_state run.old) }
-    ensures { IsSound (Sound (program_in (lock_client run.new))) (lock_state mem_source_state mem_sink_state mem_sink_state run.new) }
+    requires { IsSound (Sound (program_in (lock_client run.old)))
+        (lock_state mem_source_state mem_sink_state mem_sink_state run.old) }
+    ensures { IsSound (Sound (program_in (lock_client run.new)))
+        (lock_state mem_source_state mem_sink_state mem_sink_state run.new) }
 {
     let turn = history.get(i).ok_or("a turn is missing")?;
     assert!(rt; turn_again(rt, run, turn, &turn.names)?.is_none());
@@ -82,15 +86,16 @@ fn changed(alloc: Global, names: &Names, change: Change) -> Result<Names, test::
     Ok(names)
 }
 
-/// Does the first turn with these names, and then the others, where it isn't cut. Answers the steps that stay done where it
-/// is.
+/// Does the first turn with these names, and then the others, where it isn't cut. Answers the steps that stay done
+/// where it is.
 fn turns_again(
     rt: &impl Abort,
     run: &mut MemRun<'_>,
     history: &History,
     names: &Names,
 ) -> Result<Option<u64>, test::Fail>
-    requires { IsSound (Sound (program_in (lock_client run.old))) (lock_state mem_source_state mem_sink_state mem_sink_state run.old) }
+    requires { IsSound (Sound (program_in (lock_client run.old)))
+        (lock_state mem_source_state mem_sink_state mem_sink_state run.old) }
 {
     let turn = history.get(0).ok_or("no turn")?;
     let done = turn_again(rt, run, turn, names)?;
@@ -102,7 +107,8 @@ fn turns_again(
     Ok(done)
 }
 
-/// Runs a history again. Answers the steps of the first turn that stay done where it is cut, and the bytes that were written.
+/// Runs a history again. Answers the steps of the first turn that stay done where it is cut, and the bytes that were
+/// written.
 fn replayed(
     rt: &impl Abort,
     alloc: Global,
@@ -124,8 +130,8 @@ fn replayed(
     }
 }
 
-/// Runs the history of a script again. Answers the steps of the first turn that stay done where it is cut, and the bytes that were
-/// written.
+/// Runs the history of a script again. Answers the steps of the first turn that stay done where it is cut, and the
+/// bytes that were written.
 fn rerun(
     rt: &impl Abort,
     alloc: Global,
@@ -157,8 +163,8 @@ fn how_many(done: Option<u64>, turn: &Turn) -> &'static str {
     }
 }
 
-/// Runs a script, and its history again, where the first turn's names are changed. Answers how many steps of that turn stay done,
-/// and whether the output was the same.
+/// Runs a script, and its history again, where the first turn's names are changed. Answers how many steps of that
+/// turn stay done, and whether the output was the same.
 fn replay<Rt: Abort + Threads + Wait + Sync>(
     rt: &Rt,
     alloc: Global,
@@ -187,7 +193,8 @@ fn history_runs_again(rt: HostRuntime) -> Tested {
     Ok(())
 }
 
-/// Runs a script by these words, and its history again. Answers whether the output was the same, and how many conflicts there were.
+/// Runs a script by these words, and its history again. Answers whether the output was the same, and how many
+/// conflicts there were.
 fn same_again<Rt: Abort + Threads + Wait + Sync>(
     rt: &Rt,
     alloc: Global,

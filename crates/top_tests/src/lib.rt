@@ -1,6 +1,6 @@
-//! The top call and the front end from texts on, tried by hand: scopes, canonical texts, listings and refusals of texts, runs of
-//! scripts over devices in memory, and histories that are run again. It has tests alone, so the crates that it tries are proved
-//! once and wait for no test.
+//! The top call and the front end from texts on, tried by hand: scopes, canonical texts, listings and refusals of
+//! texts, runs of scripts over devices in memory, and histories that are run again. It has tests alone, so the crates
+//! that it tries are proved once and wait for no test.
 #![tactic(auto)]
 
 #[cfg(test)]

@@ -1,6 +1,6 @@
-//! Scopes and refused names, by hand from `docs/LANGUAGE.md`, "Names and their scopes". A row is an answer, `?` and a text; `$`
-//! is a line end. The scopes of a module's bodies are written one after another, each as its local names, a bar and the
-//! others.
+//! Scopes and refused names, by hand from `docs/LANGUAGE.md`, "Names and their scopes". A row is an answer, `?` and a
+//! text; `$` is a line end. The scopes of a module's bodies are written one after another, each as its local names, a
+//! bar and the others.
 use crate::text_rows::{text_of, tree_of};
 use py_data::{Bytes, NoMemory, Refusal};
 use py_names::{NameFault, Scope, Scopes, resolve};

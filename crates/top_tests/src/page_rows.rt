@@ -1,4 +1,5 @@
-//! Scripts over few pages: where the heap is full, and what is told of it. Written by hand, from the words that records take.
+//! Scripts over few pages: where the heap is full, and what is told of it. Written by hand, from the words that
+//! records take.
 use crate::call_rows::{NO_FAILURE, lines_of, report, told, words_in};
 use py_data::NoMemory;
 use std::alloc::Global;
@@ -33,7 +34,8 @@ fn answer<Rt: Abort + Threads + Wait + Sync>(
     }
 }
 
-/// What a list that grows answers where it can't: the words that are taken then, those that it needs, and those of the pages.
+/// What a list that grows answers where it can't: the words that are taken then, those that it needs, and those of
+/// the pages.
 fn full<Rt: Abort + Threads + Wait + Sync>(
     rt: &Rt,
     alloc: Global,

@@ -1,4 +1,5 @@
-//! Texts and their programs, or why they have none. A row is a refusal's number and line, `?` and a text; `$` is a line end.
+//! Texts and their programs, or why they have none. A row is a refusal's number and line, `?` and a text; `$` is a
+//! line end.
 use crate::text_rows::text_of;
 use py_data::NoMemory;
 use std::alloc::Global;

@@ -1,4 +1,5 @@
-//! Scripts of several threads, as a user writes them, whose answer is one however the workers come to the heap. Written by hand.
+//! Scripts of several threads, as a user writes them, whose answer is one however the workers come to the heap.
+//! Written by hand.
 use crate::call_rows::{NO_FAILURE, report, told, words_in};
 use crate::program_rows::COUNTER;
 use py_data::NoMemory;

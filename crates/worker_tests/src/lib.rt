@@ -1,4 +1,5 @@
-//! Threads of the tests' own that visit a core by its lock, and workers that run pieces. It has tests alone, so what it tries is proved once and waits for no test.
+//! Threads of the tests' own that visit a core by its lock, and workers that run pieces. It has tests alone, so what
+//! it tries is proved once and waits for no test.
 #![tactic(auto)]
 
 #[cfg(test)]

@@ -44,7 +44,8 @@ trait Watch<T: Job> {
         ensures { result ≡ turns value.now };
 }
 
-/// The worker `k` takes the value so often, visits it and gives it back. True: it never found fewer turns than it had left.
+/// The worker `k` takes the value so often, visits it and gives it back. True: it never found fewer turns than it had
+/// left.
 fn visit_often<T: Job, W: Watch<T>, Rt: Wait>(
     rt: &Rt,
     lock: &HeapLock<T>,
@@ -92,12 +93,15 @@ fn watch_both<T: Job + Send, W: Watch<T> + Sync, Rt: Threads + Wait + Sync>(
     let ((mut seat, first), (other, second)) = join(
         rt,
         move || -> (Seat<T>, bool)
-            requires { IsSync Rt.row × (seat.lock ≡ lock.now.id) × (seat.holds ≡ false) × IfSome seat.job (λ j. 2 ≤ W.workers j) × ((x y : T) → T.good x → T.grows x y → W.turns x ≤ W.turns y) }
+            requires { IsSync Rt.row × (seat.lock ≡ lock.now.id) × (seat.holds ≡ false)
+                × IfSome seat.job (λ j. 2 ≤ W.workers j)
+                × ((x y : T) → T.good x → T.grows x y → W.turns x ≤ W.turns y) }
             ensures same { result.0 ≡ record seat { seen = result.0.seen; taken = result.0.taken } }
             ensures none_fewer { result.1 ≡ true }
         { visit_often(rt, lock, seat, crew, 0, times) },
         move || -> (Seat<T>, bool)
-            requires { (other.lock ≡ lock.now.id) × (other.holds ≡ false) × IfSome other.job (λ j. 2 ≤ W.workers j) × ((x y : T) → T.good x → T.grows x y → W.turns x ≤ W.turns y) }
+            requires { (other.lock ≡ lock.now.id) × (other.holds ≡ false) × IfSome other.job (λ j. 2 ≤ W.workers j)
+                × ((x y : T) → T.good x → T.grows x y → W.turns x ≤ W.turns y) }
             ensures same { result.0 ≡ record other { seen = result.0.seen; taken = result.0.taken } }
             ensures none_fewer { result.1 ≡ true }
         { visit_often(rt, lock, other, crew, 1, times) },
