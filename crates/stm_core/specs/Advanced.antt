@@ -1,5 +1,5 @@
 -- What a call of `advance` answers, and what it leaves. States `docs/HEAP.md`, "Advance".
-use Rattle.std.specs.Prelude.{◌≡◌, ◌≢◌, ℕ, suc, ◌+◌, ◌<◌, ◌≤◌, Bool, true, false, cond, List, ◌++◌, Some, Result, Ok, Err, All, ◌⊎◌, Contains}
+use Rattle.std.specs.Prelude.{◌≡◌, ◌≢◌, ℕ, suc, ◌+◌, ◌<◌, ◌≤◌, Bool, true, false, cond, List, ◌++◌, Result, Ok, Err, All, ◌⊎◌, Contains}
 use Rattle.py_data.specs.declared.stop.Conflict.{Conflict}
 use Rattle.py_data.specs.Row.{Call}
 use Rattle.py_data.specs.Sight.{Sight}
@@ -16,8 +16,6 @@ use Rattle.stm_core.specs.Asking.{WaitsThere, Reaches, AsksOutside, AsksRoom}
 use Rattle.stm_core.specs.Conflict.{loser, IsStanding, AsksFrom}
 use Rattle.stm_core.specs.Moves.{first_cause, published, Move, Drops, Dooms, Loses, Goes, Rests, Keeps, Follows}
 use Rattle.stm_core.specs.Outside.{Outer}
-use Rattle.stm_core.specs.Devices.{DeviceState, CountsGrow}
-use Rattle.stm_core.specs.SaneCore.{CauseRose}
 use Rattle.stm_core.specs.Solo.{SoloFailed}
 use Rattle.stm_core.specs.Advance.{Gone}
 
@@ -114,18 +112,6 @@ abbrev pub Advanced : {S : Type 0} → Prog S → ℕ → ℕ → ℕ → ℕ �
     Type 0
 Advanced p length k n most reserved limit o result o1 = AdvancedFrom (o.core.segments k) p length k n most reserved
     limit o result o1
-
--- ---- what it leaves of the devices' counts
-
--- at a fault of a device that device's count rose, or stands at its last number, whichever cause is kept
-abbrev pub FaultRose : Result Advance AdvanceError → DeviceState → DeviceState → Type 0
-FaultRose (Err (Failed e)) d d1 = CauseRose (Some e) d d1
-FaultRose _ d d1 = Unit {0}
-
--- no count of faults fell, and that of a fault that is told rose
-pub record HasCounted (result : Result Advance AdvanceError) (d d1 : DeviceState) : Type 0 where
-  pub counts : CountsGrow d d1
-  pub rose : FaultRose result d d1
 
 -- ---- what it leaves alone
 

@@ -17,6 +17,7 @@ pub mod Advanced
 pub mod InUse
 pub mod Pieces
 pub mod SaneCore
+pub mod Counted
 pub mod Events
 pub mod History
 mod HistoryWorked

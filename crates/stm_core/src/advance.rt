@@ -24,10 +24,11 @@ impl<'p, C: Client, S: SegStore, I: Source, O: Sink, E: Sink> Core<'p, C, S, I, 
     ghost use Rattle.stm_core.specs.Begun.{CountsSteps};
     ghost use Rattle.stm_core.specs.Events.{may_make};
     ghost use Rattle.stm_core.specs.declared.events.Event.{Event};
+    ghost use Rattle.stm_core.specs.Counted.{FaultRose, HasCounted};
     ghost use Rattle.stm_core.specs.CoreHeld.{core_client, core_devices, core_limits, core_store, Says, Leads, IsGoodCore, SameJob};
     ghost use Rattle.stm_core.specs.inner.Pauses.{tried_by, PauseCount};
     ghost use Rattle.stm_core.specs.inner.Pausing.{PauseWhy, PauseRose};
-    ghost use Rattle.stm_core.specs.Advanced.{CountsDone, tried_after, Ends, StepsTaken, AdvancedFrom, Advanced, FaultRose, HasCounted};
+    ghost use Rattle.stm_core.specs.Advanced.{CountsDone, tried_after, Ends, StepsTaken, AdvancedFrom, Advanced};
     ghost use Rattle.stm_core.specs.inner.Settled.{IsOut, IsTakenOut, SettledTo, KeepsOrRose, Rises};
 
     /// What comes of a transaction of segment k, which was taken out of its hand, once its next step was cut.

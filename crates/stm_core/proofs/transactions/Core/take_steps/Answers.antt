@@ -1,5 +1,5 @@
 use Rattle.std.proofs.Common.{refl, sym, ◌∙◌, ap, subst}
-use Rattle.stm_core.specs.Advanced.{FaultRose}
+use Rattle.stm_core.specs.Counted.{FaultRose}
 use Rattle.stm_core.specs.Books.{with_own}
 use Rattle.stm_core.specs.Begun.{CountsSteps}
 use Rattle.stm_core.specs.Devices.{device_state}
