@@ -1,5 +1,6 @@
 //! Canonical texts, by hand from `docs/LANGUAGE.md`, "The canonical text". A row is a text, `?` and the canonical
 //! text of its tree; `$` is a line end.
+use crate::tables::check_rows;
 use crate::text_rows::{text_of, tree_of};
 use py_data::{Bytes, NoMemory};
 use py_tree::module_text;
@@ -32,24 +33,6 @@ fn pair_holds(alloc: Global, first: &str, second: &str) -> Result<bool, NoMemory
     let given = gives(alloc, text.as_slice(), want.as_slice());
     let again = gives(alloc, want.as_slice(), want.as_slice());
     Ok(given && again)
-}
-
-fn row_holds(alloc: Global, row: &str) -> Result<bool, NoMemory> {
-    match row.split_once('?') {
-        None => Ok(false),
-        Some((first, second)) => pair_holds(alloc, first, second),
-    }
-}
-
-/// How many rows hold.
-fn held(alloc: Global, rows: &str) -> Result<u32, NoMemory> {
-    let mut count: u32 = 0;
-    for row in rows.split('\n') {
-        if row_holds(alloc, row)? {
-            count = count.saturating_add(1);
-        }
-    }
-    Ok(count)
 }
 
 const SIMPLE: &str = "x?x $
@@ -158,24 +141,24 @@ x,?( x , ) $
 
 #[test]
 fn simple_statements_have_canonical_texts(rt: HostRuntime) -> Tested {
-    assert_eq!(rt; held(rt.alloc(), SIMPLE)?, 31);
+    assert_eq!(rt; check_rows(&rt, rt.alloc(), SIMPLE, pair_holds)?, 31);
     Ok(())
 }
 
 #[test]
 fn compound_statements_have_canonical_texts(rt: HostRuntime) -> Tested {
-    assert_eq!(rt; held(rt.alloc(), COMPOUND)?, 16);
+    assert_eq!(rt; check_rows(&rt, rt.alloc(), COMPOUND, pair_holds)?, 16);
     Ok(())
 }
 
 #[test]
 fn each_statement_stands_on_its_line(rt: HostRuntime) -> Tested {
-    assert_eq!(rt; held(rt.alloc(), LAYOUTS)?, 21);
+    assert_eq!(rt; check_rows(&rt, rt.alloc(), LAYOUTS, pair_holds)?, 21);
     Ok(())
 }
 
 #[test]
 fn expressions_have_canonical_texts(rt: HostRuntime) -> Tested {
-    assert_eq!(rt; held(rt.alloc(), EXPRESSIONS)?, 32);
+    assert_eq!(rt; check_rows(&rt, rt.alloc(), EXPRESSIONS, pair_holds)?, 32);
     Ok(())
 }

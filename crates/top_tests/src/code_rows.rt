@@ -1,6 +1,7 @@
 //! Listings of scripts' programs, by hand from `docs/LANGUAGE.md`, "Code of a tree" and "Listing". A row is a listing
 //! without its roots, from the slots of the module on and with one space where it has several, `?` and a text; `$` is
 //! a line end.
+use crate::tables::check_rows;
 use crate::text_rows::text_of;
 use py_code::{Program, listing};
 use py_data::NoMemory;
@@ -68,24 +69,6 @@ fn row_gives(alloc: Global, want: &str, row: &str) -> Result<bool, NoMemory> {
     let text = text_of(alloc, row)?;
     let want = text_of(alloc, want)?;
     gives(alloc, text.as_slice(), want.as_slice())
-}
-
-fn row_holds(alloc: Global, row: &str) -> Result<bool, NoMemory> {
-    match row.split_once('?') {
-        None => Ok(false),
-        Some((want, text)) => row_gives(alloc, want, text),
-    }
-}
-
-/// How many rows hold.
-fn held(alloc: Global, rows: &str) -> Result<u32, NoMemory> {
-    let mut count: u32 = 0;
-    for row in rows.split('\n') {
-        if row_holds(alloc, row)? {
-            count = count.saturating_add(1);
-        }
-    }
-    Ok(count)
 }
 
 /// 14 rows: expressions.
@@ -198,31 +181,31 @@ Code 0: <module>
 
 #[test]
 fn expressions_have_code(rt: HostRuntime) -> Tested {
-    assert_eq!(rt; held(rt.alloc(), EXPRESSIONS)?, 14);
+    assert_eq!(rt; check_rows(&rt, rt.alloc(), EXPRESSIONS, row_gives)?, 14);
     Ok(())
 }
 
 #[test]
 fn simple_statements_have_code(rt: HostRuntime) -> Tested {
-    assert_eq!(rt; held(rt.alloc(), SIMPLE)?, 10);
+    assert_eq!(rt; check_rows(&rt, rt.alloc(), SIMPLE, row_gives)?, 10);
     Ok(())
 }
 
 #[test]
 fn compound_statements_have_code(rt: HostRuntime) -> Tested {
-    assert_eq!(rt; held(rt.alloc(), COMPOUND)?, 7);
+    assert_eq!(rt; check_rows(&rt, rt.alloc(), COMPOUND, row_gives)?, 7);
     Ok(())
 }
 
 #[test]
 fn ways_out_have_code(rt: HostRuntime) -> Tested {
-    assert_eq!(rt; held(rt.alloc(), LEAVING)?, 6);
+    assert_eq!(rt; check_rows(&rt, rt.alloc(), LEAVING, row_gives)?, 6);
     Ok(())
 }
 
 #[test]
 fn bodies_have_code(rt: HostRuntime) -> Tested {
-    assert_eq!(rt; held(rt.alloc(), BODIES)?, 6);
+    assert_eq!(rt; check_rows(&rt, rt.alloc(), BODIES, row_gives)?, 6);
     Ok(())
 }
 

@@ -22,6 +22,8 @@ mod page_rows;
 #[cfg(test)]
 mod program_rows;
 #[cfg(test)]
+mod tables;
+#[cfg(test)]
 mod text_rows;
 #[cfg(test)]
 mod worker_rows;

@@ -1,6 +1,7 @@
 //! Scopes and refused names, by hand from `docs/LANGUAGE.md`, "Names and their scopes". A row is an answer, `?` and a
 //! text; `$` is a line end. The scopes of a module's bodies are written one after another, each as its local names, a
 //! bar and the others.
+use crate::tables::check_rows;
 use crate::text_rows::{text_of, tree_of};
 use py_data::{Bytes, NoMemory, Refusal};
 use py_names::{NameFault, Scope, Scopes, resolve};
@@ -71,24 +72,6 @@ fn gives(alloc: Global, text: &[u8], want: &[u8]) -> Result<bool, NoMemory> {
 fn row_gives(alloc: Global, want: &str, row: &str) -> Result<bool, NoMemory> {
     let text = text_of(alloc, row)?;
     gives(alloc, text.as_slice(), want.as_bytes())
-}
-
-fn row_holds(alloc: Global, row: &str) -> Result<bool, NoMemory> {
-    match row.split_once('?') {
-        None => Ok(false),
-        Some((want, text)) => row_gives(alloc, want, text),
-    }
-}
-
-/// How many rows hold.
-fn held(alloc: Global, rows: &str) -> Result<u32, NoMemory> {
-    let mut count: u32 = 0;
-    for row in rows.split('\n') {
-        if row_holds(alloc, row)? {
-            count = count.saturating_add(1);
-        }
-    }
-    Ok(count)
 }
 
 /// 15 rows.
@@ -167,25 +150,25 @@ Closure 3?def f(x):$ def g():$  h(a=x, a=1)";
 /// Each body's names, local ones and others, in the order of first mention.
 #[test]
 fn names_have_scopes(rt: HostRuntime) -> Tested {
-    assert_eq!(rt; held(rt.alloc(), SCOPES)?, 15);
+    assert_eq!(rt; check_rows(&rt, rt.alloc(), SCOPES, row_gives)?, 15);
     Ok(())
 }
 
 #[test]
 fn what_may_stand_is_taken(rt: HostRuntime) -> Tested {
-    assert_eq!(rt; held(rt.alloc(), ALLOWED)?, 14);
+    assert_eq!(rt; check_rows(&rt, rt.alloc(), ALLOWED, row_gives)?, 14);
     Ok(())
 }
 
 #[test]
 fn what_is_misplaced_is_refused(rt: HostRuntime) -> Tested {
-    assert_eq!(rt; held(rt.alloc(), MISPLACED)?, 22);
+    assert_eq!(rt; check_rows(&rt, rt.alloc(), MISPLACED, row_gives)?, 22);
     Ok(())
 }
 
 /// Doubled names, closures, and the earliest of several places.
 #[test]
 fn the_earliest_place_is_refused(rt: HostRuntime) -> Tested {
-    assert_eq!(rt; held(rt.alloc(), OTHERS)?, 14);
+    assert_eq!(rt; check_rows(&rt, rt.alloc(), OTHERS, row_gives)?, 14);
     Ok(())
 }

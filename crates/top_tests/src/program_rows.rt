@@ -1,5 +1,6 @@
 //! Texts and their programs, or why they have none. A row is a refusal's number and line, `?` and a text; `$` is a
 //! line end.
+use crate::tables::check_rows;
 use crate::text_rows::text_of;
 use py_data::NoMemory;
 use std::alloc::Global;
@@ -145,10 +146,7 @@ fn row_text(number: u8, line: u32, alloc: Global) -> Result<String, NoMemory> {
 }
 
 /// Whether a row's text is refused as the row says.
-fn row_holds(alloc: Global, row: &str) -> Result<bool, NoMemory> {
-    let Some((wanted, part)) = row.split_once('?') else {
-        return Ok(false);
-    };
+fn is_refused_so(alloc: Global, wanted: &str, part: &str) -> Result<bool, NoMemory> {
     let text = text_of(alloc, part)?;
     match outcome_of(alloc, text.as_slice()) {
         Outcome::Refused(number, line) => {
@@ -159,18 +157,8 @@ fn row_holds(alloc: Global, row: &str) -> Result<bool, NoMemory> {
     }
 }
 
-fn held(alloc: Global, rows: &str) -> Result<u32, NoMemory> {
-    let mut count: u32 = 0;
-    for row in rows.split('\n') {
-        if row_holds(alloc, row)? {
-            count = count.saturating_add(1);
-        }
-    }
-    Ok(count)
-}
-
 #[test]
 fn texts_are_refused(rt: HostRuntime) -> Tested {
-    assert_eq!(rt; held(rt.alloc(), REFUSALS)?, 15);
+    assert_eq!(rt; check_rows(&rt, rt.alloc(), REFUSALS, is_refused_so)?, 15);
     Ok(())
 }
