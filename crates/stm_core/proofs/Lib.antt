@@ -54,3 +54,4 @@ pub mod Came
 mod Leaving
 mod Histories
 pub mod Ends
+mod StaysOver

@@ -64,7 +64,7 @@ fn first_books<C: Client>(alloc: Global, client: &C, count: u8) -> Result<Books<
 }
 
 impl<'p, C: Client, S: SegStore, I: Source, O: Sink, E: Sink> Core<'p, C, S, I, O, E> {
-    ghost use Rattle.std.specs.Prelude.{◌≡◌, ℕ, ◌<◌, ◌≤◌, true, false, length, IfOk, IfErr};
+    ghost use Rattle.std.specs.Prelude.{◌≡◌, ◌≢◌, ℕ, ◌<◌, ◌≤◌, true, false, length, IfOk, IfErr};
     ghost use Rattle.lock_run.specs.Client.{IsSoundFirst};
     ghost use Rattle.seg_store.specs.Store.{IsEmpty};
     ghost use Rattle.stm_core.specs.CoreState.{Idle, core_new, with_segment};
@@ -73,6 +73,7 @@ impl<'p, C: Client, S: SegStore, I: Source, O: Sink, E: Sink> Core<'p, C, S, I, 
     ghost use Rattle.stm_core.specs.Devices.{device_state};
     ghost use Rattle.stm_core.specs.Books.{Worlds, NoneSolo, core_of};
     ghost use Rattle.stm_core.specs.inner.Whole.{Whole, SameShape};
+    ghost use Rattle.stm_core.specs.Standing.{IsOutcome};
     ghost use Rattle.stm_core.specs.Finishing.{idle_core, IsUnused, HasFailed, SettlesSolo, HandedOut};
     ghost use Rattle.stm_core.specs.CoreHeld.{core_client, core_devices, core_limits, core_store, first_devices, CoreStands, HasDevices, IsFullKept, IsGoodCore, Leads, SameJob, Says};
 
@@ -241,6 +242,9 @@ impl<'p, C: Client, S: SegStore, I: Source, O: Sink, E: Sink> Core<'p, C, S, I, 
             (record { input = result.input; out = result.out; err = result.err; mid = false; was_mid = false }))
             result.state result.failed result.history.entries result.conflicts.entries (S.meaning result.store).image o o1
             × IsFullKept (S.reserved result.store) (S.meaning result.store).limit o1.core.cause }
+        ensures over { (o : Outer C.State) (s : RunState) → CoreStands I.state O.state E.state C.prog S.meaning self.entry o
+            → IsOutcome (C.prog (core_client self.entry)) (core_limits S.meaning self.entry).budget o.core s
+            → s ≢ RunState.Running → result.state ≢ RunState.Running }
         ensures shape { ((S.meaning result.store).segments ≡ (core_limits S.meaning self.entry).segments)
             × ((S.meaning result.store).limit ≡ (core_limits S.meaning self.entry).words) }
         ensures peaks { S.peaks result.store ≡ S.peaks (core_store self.entry) }

@@ -160,7 +160,7 @@ module _ {S : Type 0} (p : Prog S) (l : Limits) (a b : Devices) (mid was : Bool)
 -- how it ended, where the thread 0 failed or not
 module _ {S : Type 0} (p : Prog S) (l : Limits) (a b : Devices) (mid was : Bool) (m : Meaning) (reserved : ℕ)
     (o o1 : Outer S) (full : IsFullKept reserved m.limit o1.core.cause) (words : m.limit ≡ l.words)
-    (nearly : NearlyFullAt p l a.input.told o1.core) (history : List Turn) (conflicts : List Conflict) where
+    (nearly : NearlyFullAt p l a.input.told a.input.ends o1.core) (history : List Turn) (conflicts : List Conflict) where
   abbrev EndsWith : (s : RunState) (failed : Bool) → HandedOut p l.length l.budget l.segments (telling a mid was)
       (telling b false false) s failed history conflicts m.image o o1 → Answer → Type 0
   EndsWith s failed h answer = RunEnded l (Some reserved) answer (faults_of a) (faults_of b)
@@ -183,9 +183,7 @@ module _ {S : Type 0} (p : Prog S) (l : Limits) (a b : Devices) (mid was : Bool)
       (whole p l a b mid was m reserved failed o o1 state.Spent history conflicts h h.outcome.0.0, h.outcome.1, e.2)
   answered state.Spent failed h answer (inr e) =
       subst (EndsWith state.Spent failed h) (sym e) (one_lives p (committed o1.core) h.outcome.1.0)
-  answered state.Running failed h answer e =
-      subst (EndsWith state.Running failed h) (sym e)
-      (elim h.outcome [ inl z ↦ z.1 | inr z ↦ one_lives p (committed o1.core) z.1.0 ])
+  answered state.Running failed h answer e = absurd e
   answered (state.Faulted c) failed h answer e =
       subst (EndsWith (state.Faulted c) failed h) (sym e)
       (caused_end p l a b mid was m reserved failed o o1 full words nearly c history conflicts h)
@@ -195,7 +193,7 @@ pub handed_over : {S : Type 0} (p : Prog S) (l : Limits) (a b : Devices) (mid wa
     (o o1 : Outer S) (s : RunState) (failed : Bool) (t : Told) (answer : Answer)
     → HandedOut p l.length l.budget l.segments (telling a mid was) (telling b false false) s failed t.history
     t.conflicts m.image o o1
-    → IsFullKept reserved m.limit o1.core.cause → NearlyFullAt p l a.input.told o1.core → m.segments ≡ l.segments →
+    → IsFullKept reserved m.limit o1.core.cause → NearlyFullAt p l a.input.told a.input.ends o1.core → m.segments ≡ l.segments →
     m.limit ≡ l.words → ((j : ℕ) → IsUnused (m.part j)) → t.store ≡ Some m → t.reserved ≡ Some reserved →
     AnswerTo s failed t.history answer → RunEnds p l answer a t b
 unfolding run_of

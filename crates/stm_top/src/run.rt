@@ -1,5 +1,5 @@
 //! The run of a program's threads, as transactions on a core.
-ghost use Rattle.std.specs.Prelude.{◌≡◌, [], None, IfSome};
+ghost use Rattle.std.specs.Prelude.{◌≡◌, ◌≢◌, [], None, IfSome};
 ghost use Rattle.lock_run.specs.Client.{IsSoundFirst};
 ghost use Rattle.lock_run.specs.RunState.{steps_done};
 ghost use Rattle.paged_store.specs.Stores.{paged_meaning, reserved_of};
@@ -101,6 +101,7 @@ fn caused(cause: Cause) -> Answer
 
 /// What is told of a run, by how it stands and whether thread 0 ended by an exception.
 fn answer(state: RunState, failed: bool, history: &History) -> Answer
+    requires { state ≢ RunState.Running }
     ensures { AnswerTo state failed history.now.entries result }
 {
     match state {
@@ -110,7 +111,7 @@ fn answer(state: RunState, failed: bool, history: &History) -> Answer
             Some(steps) => Answer::BudgetSpent { steps },
             None => Answer::OutOfMemory,
         },
-        RunState::Running => Answer::OutOfMemory,
+        RunState::Running => unreachable!(),
         RunState::Faulted(cause) => caused(cause),
     }
 }

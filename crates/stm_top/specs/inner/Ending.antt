@@ -37,23 +37,20 @@ answer_to cause.WriteFault = OutputFailed
 answer_to cause.ErrFault = ErrorOutputFailed
 answer_to cause.OutOfMemory = OutOfMemory
 
--- What is told of a run, by how it stands and whether thread 0 failed. A run that could go on ended for want of memory,
--- or of
--- numbers.
+-- What is told of a run, by how it stands and whether thread 0 failed. No run is handed out that could go on.
 abbrev pub AnswerTo : RunState → Bool → List Turn → Answer → Type 0
 AnswerTo state.Done false history answer = answer ≡ Done
 AnswerTo state.Done true history answer = answer ≡ Failed
 AnswerTo state.Stuck failed history answer = answer ≡ Stuck
 AnswerTo state.Spent failed history answer =
     ((steps : ℕ) × (answer ≡ BudgetSpent steps) × (steps ≡ steps_done history)) ⊎ (answer ≡ OutOfMemory)
-AnswerTo state.Running failed history answer = answer ≡ OutOfMemory
+AnswerTo state.Running failed history answer = ⊥
 AnswerTo (state.Faulted e) failed history answer = answer ≡ answer_to e
 
 -- threads ran over these devices, and came to their end
 pub record RunEnds {S : Type 0} (p : Prog S) (l : Limits) (answer : Answer) (a : Devices) (t : Told)
     (b : Devices) : Type 0 where
-  pub serial : Serial p l.length a.input.told a.out.told a.err.told t.history t.conflicts b.input.told b.out.told
-      b.err.told
+  pub serial : Serial p l.length a.input a.out.told a.err.told t.history t.conflicts b.input b.out.told b.err.told
   pub store : IsLeft l serial.machine.heap t.store
   pub ended : RunEnded l t.reserved answer (faults_of a) (faults_of b) serial
   pub counts : NoneFell (faults_of a) (faults_of b)

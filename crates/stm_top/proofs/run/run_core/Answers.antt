@@ -6,6 +6,12 @@ use Rattle.stm_top.proofs.FullHeap.{NearlyFullAt, full_heap}
 use Rattle.stm_top.proofs.HandedOver.{handed_over}
 use Rattle.stm_top.proofs.run.run_core.Goals as goal
 
+pub answer-requires : goal.answer-requires
+answer-requires g c =
+    let over = c.run_workers-core.ensures.ended in
+    let sane = c.run_workers-core.ensures.good.sane in
+    c.finish-state.ensures.over sane.state over.state sane.stands (over.is sane.state sane.stands) over.over
+
 pub returns-clause-ended : goal.returns-clause-ended
 returns-clause-ended g c = λ i o e has first stands explained.
     let x = c.args.core in

@@ -1,5 +1,11 @@
 use Rattle.stm_core.proofs.Calling.{same_then}
+use Rattle.std.proofs.Common.{ap, subst}
+use Rattle.lock_run.specs.RunState.{first_world}
+use Rattle.lock_run.specs.Machine.{begin_with}
+use Rattle.stm_core.specs.Standing.{IsOutcome}
+use Rattle.stm_core.specs.CoreHeld.{core_client, core_limits, first_devices}
 use Rattle.stm_core.proofs.FinishingLemmas.{handed_out}
+use Rattle.stm_core.proofs.StaysOver.{stays_over}
 use Rattle.stm_core.proofs.transactions.Core.finish.Goals as goal
 
 pub returns-clause-finished : goal.returns-clause-finished
@@ -16,3 +22,14 @@ returns-clause-finished g c = λ o s.
     c.outcome-state.result c.has_failed-failed.result c.outcome-state.ensures c.has_failed-failed.ensures.yes
     c.has_failed-failed.ensures.not o a.0 b.0 a.2 b.1 b.2 in
     (b.0, h.0, h.1)
+
+pub returns-clause-over : goal.returns-clause-over
+returns-clause-over g c = λ o s stands is over.
+    let x = c.args.self in
+    let first = first_devices g.I.Source.state g.O.Sink.state g.E.Sink.state x in
+    let p = g.C.Client.prog (core_client x) in
+    let l = core_limits g.S.SegStore.meaning x in
+    let h = (returns-clause-finished g c o stands).1 in
+    stays_over p (begin_with p (first_world first.input first.ends)) l.length l.budget l.segments o h.settled s _
+    stands.kept.good is over h.settles
+    (subst (λ z. IsOutcome p l.budget z _) (ap (λ z. z.core) h.idle) h.outcome)
