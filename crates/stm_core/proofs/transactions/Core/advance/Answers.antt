@@ -1,4 +1,4 @@
-use Rattle.std.proofs.Common.{◌≡◌, ◌/◌, tt, refl, sym, ap, subst, Err, arith}
+use Rattle.std.proofs.Common.{◌≡◌, ◌/◌, refl, sym, ap, subst, Err, arith}
 use Rattle.std.proofs.lemmas.Option.{slice_get_within}
 use Rattle.stm_core.specs.declared.answers.AdvanceError.TheVariants.{Lost}
 use Rattle.stm_core.specs.declared.books.Hand.TheVariants.{Idle, Doomed, Runs}

@@ -1,4 +1,4 @@
-use Rattle.std.proofs.Common.{◌≡◌, ◌/◌, tt, inl, sym, ◌∙◌, ap, subst, arith}
+use Rattle.std.proofs.Common.{◌≡◌, ◌/◌, inl, sym, ◌∙◌, ap, subst, arith}
 use Rattle.stm_core.specs.Begun.{CountsSteps}
 use Rattle.stm_core.specs.Devices.{device_state}
 use Rattle.stm_core.specs.inner.Trying.{core_with}

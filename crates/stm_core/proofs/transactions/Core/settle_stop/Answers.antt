@@ -1,4 +1,4 @@
-use Rattle.std.proofs.Common.{sym, ap, subst, ◌∙◌, inl, tt, Err}
+use Rattle.std.proofs.Common.{sym, ap, subst, ◌∙◌, inl, Err}
 use Rattle.stm_core.specs.Devices.{device_state, StopRose}
 use Rattle.stm_core.specs.Counted.{FaultRose}
 use Rattle.stm_core.specs.Begun.{CountsSteps}
