@@ -2,6 +2,8 @@ use Rattle.stm_core.proofs.Calling.{same_then}
 use Rattle.std.proofs.Common.{ap, subst}
 use Rattle.lock_run.specs.RunState.{first_world}
 use Rattle.lock_run.specs.Machine.{begin_with}
+use Rattle.stm_core.specs.CoreState.{CoreState}
+use Rattle.stm_core.specs.Outside.{Outer}
 use Rattle.stm_core.specs.Standing.{IsOutcome}
 use Rattle.stm_core.specs.CoreHeld.{core_client, core_limits, first_devices}
 use Rattle.stm_core.proofs.FinishingLemmas.{handed_out}
@@ -30,6 +32,7 @@ returns-clause-over g c = λ o s stands is over.
     let p = g.C.Client.prog (core_client x) in
     let l = core_limits g.S.SegStore.meaning x in
     let h = (returns-clause-finished g c o stands).1 in
-    stays_over p (begin_with p (first_world first.input first.ends)) l.length l.budget l.segments o h.settled s _
-    stands.kept.good is over h.settles
-    (subst (λ z. IsOutcome p l.budget z _) (ap (λ z. z.core) h.idle) h.outcome)
+    stays_over p (begin_with p (first_world first.input first.ends)) l.length l.budget l.segments o h.settled s
+    c.outcome-state.result stands.kept.good is over h.settles
+    (subst (λ (z : CoreState _). IsOutcome p l.budget z c.outcome-state.result)
+    (ap (λ (z : Outer _). z.core) h.idle) h.outcome)
