@@ -1,20 +1,20 @@
 -- A run that has ended stays so where the core is handed out.
-use Rattle.std.proofs.Common.{◌≡◌, ◌≢◌, ℕ, suc, cond, eqb, Bool, true, false, List, [], ◌∷◌, Option, Some, None, Ok, refl, sym, ◌∙◌, ap, subst, inl, inr, arith}
+use Rattle.std.proofs.Common.{◌≡◌, ◌≢◌, ℕ, cond, eqb, Bool, true, false, List, [], ◌∷◌, Option, Some, None, Ok, refl, sym, ◌∙◌, ap, subst, inl, inr, arith}
 use Rattle.std.specs.List.{range_with_len}
 use Rattle.lock_run.specs.Prog.{Prog}
 use Rattle.lock_run.specs.Machine.{Machine}
-use Rattle.lock_run.specs.RunState.{IsDone, IsRunning, SomeReady}
+use Rattle.lock_run.specs.RunState.{IsDone, SomeReady}
 use Rattle.stm_core.specs.declared.cause.Cause.{Cause}
 use Rattle.stm_core.specs.declared.commit.Commit.{Commit}
 use Rattle.stm_core.specs.declared.commit.Commit.TheVariants.{Committed as AtTurn, Nothing}
 use Rattle.stm_core.specs.declared.standing.RunState.{RunState}
 use Rattle.stm_core.specs.declared.standing.RunState.TheVariants.{Running as GoesOn, Done, Stuck, Spent, Faulted}
-use Rattle.stm_core.specs.CoreState.{Transaction, Segment, Idle, Doomed, Running, CoreState, committed, with_segment}
+use Rattle.stm_core.specs.CoreState.{Transaction, Segment, Idle, Doomed, Running, CoreState, committed}
 use Rattle.stm_core.specs.Good.{Good}
 use Rattle.stm_core.specs.Outside.{Outer}
 use Rattle.stm_core.specs.Passes.{doom_met, doom_one, doom_readers, met}
 use Rattle.stm_core.specs.Committed.{CommitEnds, CommitOf}
-use Rattle.stm_core.specs.Standing.{IsOutcome, NoneRuns, SomeRuns}
+use Rattle.stm_core.specs.Standing.{IsOutcome, SomeRuns}
 use Rattle.stm_core.specs.Finishing.{SettlesSolo, idle_core}
 
 -- ---- a commit leaves the cause
