@@ -10,3 +10,4 @@ mod Unmoved
 mod Calling
 mod Within
 mod EndCalls
+pub mod GrowthRows

@@ -8,18 +8,24 @@ use Rattle.py_data.specs.declared.change.Change.TheVariants.{Push}
 use Rattle.py_data.specs.declared.value.Addr.{Addr}
 use Rattle.py_data.specs.Sight.{no_marks}
 use Rattle.py_data.specs.Heap.{Rec, Heap, at, new_rec, no_records, put_at, room_of}
-use Rattle.py_data.specs.Row.{Edit, Make, Read}
+use Rattle.py_data.specs.Row.{Row, Ret, Do, Edit, Make, Read}
 use Rattle.seg_store.specs.Extents.{class_holding, extents, words_in, words_at}
 use Rattle.seg_store.specs.Sums.{sum_below}
 use Rattle.seg_store.specs.Worked.{nones, a_list}
-use Rattle.stm_core.specs.CoreState.{Transaction, Idle, Running, CoreState, no_world}
+use Rattle.stm_core.specs.CoreState.{Transaction, Idle, Running, CoreState, no_world, fresh, core_new, with_segment}
+use Rattle.lock_run.specs.declared.client.Life.{Life}
+use Rattle.lock_run.specs.declared.client.Life.TheVariants.{Lives, Ended as HasEnded}
+use Rattle.lock_run.specs.declared.client.Outcome.{Outcome}
+use Rattle.lock_run.specs.declared.client.Outcome.TheVariants.{Done, Ended}
 use Rattle.lock_run.specs.declared.turn.Turn.{Turn}
+use Rattle.lock_run.specs.Machine.{Machine, begin_with}
+use Rattle.lock_run.specs.Prog.{Prog}
 use Rattle.heap_bound.specs.Growth.{words_of, names_in}
 use Rattle.stm_core.specs.InUse.{core_use, wants_more, RisesUpTo}
 
 -- ---- words of names
 
-abbrev a_cell : Rec
+abbrev pub a_cell : Rec
 a_cell = new_rec Cell (nones 1) []
 
 -- a Cell, and a List of 256 values with room for no more
@@ -120,3 +126,49 @@ to_use c l = inr (omega arith)
 
 beyond_use : RisesUpTo (λ c. 3) (λ c. 5) (λ c. 4) → ⊥
 beyond_use h = elim (h 1 (omega arith)) [ inl l ↦ absurd (omega arith) | inr l ↦ absurd (omega arith) ]
+
+-- ---- a thread that makes a Cell in its first step, and ends in its second
+
+pub data Stage : Type 0 where
+  Making : Stage
+  Ending : Stage
+  Over : Stage
+
+abbrev pub stage_row : Stage → Row Stage (Outcome × Stage)
+stage_row Making = Do (Make a_cell) (λ a. Ret (Done, Ending))
+stage_row Ending = Ret (Ended, Over)
+stage_row Over = Ret (Ended, Over)
+
+abbrev pub stage_life : Stage → Life
+stage_life Making = Lives
+stage_life Ending = Lives
+stage_life Over = HasEnded
+
+abbrev pub one_cell : Prog Stage
+one_cell = record { row = stage_row; life = stage_life; first = Making }
+
+-- its machine before and after both steps, which are one turn
+abbrev pub cell_begins : Machine Stage
+cell_begins = begin_with one_cell no_world
+
+abbrev pub cell_turn : Turn
+cell_turn = record { thread = 0; steps = 2; names = a_name 1 ∷ [] }
+
+abbrev pub cell_ends : Machine Stage
+cell_ends = record { heap = put_at no_records 1 a_cell; threads = Over ∷ []; world = no_world }
+
+pub cell_words : words_at (Some a_cell) ≡ 6
+unfolding class_holding extents words_in room_of
+cell_words = refl
+
+-- with 6 as the bound, what the bound on a full heap says of two segments
+pub cell_room : 2 + words_of cell_ends.heap (names_in (cell_turn ∷ [])) + (21 * 2 + 1) * 6 ≡ 266
+unfolding class_holding extents words_in room_of
+cell_room = refl
+
+-- a core whose first segment runs that thread, which has done no step
+abbrev pub cell_maker : Transaction Stage
+cell_maker = fresh (core_new one_cell no_world) 0 Making
+
+abbrev pub cell_core : CoreState Stage
+cell_core = with_segment 0 (Running cell_maker) (core_new one_cell no_world)

@@ -7,3 +7,4 @@ mod Wording
 mod Refusing
 mod Leading
 mod Finishing
+mod RoomRows
