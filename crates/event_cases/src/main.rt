@@ -19,22 +19,22 @@ use stm_io::{MemSink, MemSource};
 struct Came {
     /// What each was replied.
     replies: Vec<Reply>,
-    /// The address of the second Cell, if it was made.
-    second: Option<Addr>,
+    /// The address of the Cell, if it was made.
+    cell: Option<Addr>,
     /// Want of memory is the kept cause.
     kept: bool,
 }
 
-/// Thread 1 sets both Cells; thread 2 looks at the first and sets the second.
+/// Both threads look at the Cell and set it.
 fn lists(alloc: Global) -> Result<Vec<Acts>, AllocError> {
     let mut lists = Vec::new(alloc);
-    lists.push(Acts::from_slice(alloc, &[Act::Set(0, 1), Act::Set(1, 1)])?)?;
-    lists.push(Acts::from_slice(alloc, &[Act::Look(0), Act::Set(1, 5)])?)?;
+    lists.push(Acts::from_slice(alloc, &[Act::Look(0), Act::Set(0, 1)])?)?;
+    lists.push(Acts::from_slice(alloc, &[Act::Look(0), Act::Set(0, 2)])?)?;
     Ok(lists)
 }
 
-/// Makes the events on a new core of two segments, where there is memory for it, and tells what came of them, or that there
-/// was no memory for their replies.
+/// Makes the events on a new core of two segments, where there is memory for it, and tells what came of them, or that
+/// there was no memory for their replies.
 #[tactic(auto, using(lock_run::specs::inner::ScriptLaws::script_sound_first))]
 fn play(alloc: Global, client: &Script) -> Result<Option<Came>, AllocError> {
     let store = PagedStore::new(alloc, 2, 64)?;
@@ -44,14 +44,14 @@ fn play(alloc: Global, client: &Script) -> Result<Option<Came>, AllocError> {
     match Core::new(alloc, client, store, 4, 1_000, input, out, err) {
         Ok(mut core) => Ok(match core.run_events(&EVENTS) {
             Ok(replies) => {
-                let second = match core.history().get(0) {
-                    Some(turn) => turn.names.get(1).copied(),
+                let cell = match core.history().get(0) {
+                    Some(turn) => turn.names.get(0).copied(),
                     None => None,
                 };
                 let kept = core.outcome() == RunState::Faulted(Cause::OutOfMemory);
                 Some(Came {
                     replies,
-                    second,
+                    cell,
                     kept,
                 })
             }
@@ -61,11 +61,11 @@ fn play(alloc: Global, client: &Script) -> Result<Option<Came>, AllocError> {
     }
 }
 
-/// Whether the replies are those of the row, with want of memory at a place of it or at none, and the cause is kept where it
-/// was told and nowhere else.
+/// Whether the replies are those of the row, with want of memory at a place of it or at none, and the cause is kept
+/// where it was told and nowhere else.
 fn is_right(came: &Came, place: Option<usize>) -> bool {
-    let second = came.second.unwrap_or(Addr(0));
-    let right = came.replies.as_slice() == wanted(place, second).as_slice();
+    let cell = came.cell.unwrap_or(Addr(0));
+    let right = came.replies.as_slice() == wanted(place, cell).as_slice();
     right && came.kept == place.is_some()
 }
 
@@ -73,11 +73,11 @@ fn main(rt: HostRuntime) -> Result<()> {
     let alloc = rt.alloc();
     let mut out = rt.stdout();
     let lists = lists(alloc)?;
-    if !Script::fits(2, lists.as_slice()) {
+    if !Script::fits(1, lists.as_slice()) {
         writeln!(out, "otherwise: no script")?;
         return Ok(());
     }
-    let client = Script::new(2, lists);
+    let client = Script::new(1, lists);
     match play(alloc, &client) {
         Ok(Some(came)) => {
             let place = place_of_want(came.replies.as_slice());

@@ -3,11 +3,12 @@
 use py_data::{Addr, Conflict, Side};
 use stm_core::{Advance, BeginError, Cause, Event, Reply};
 
-/// Thread 0 makes the Cells; threads 1 and 2 begin, and go on by two steps each; the first of them is committed.
+/// Thread 0 makes the Cell, on segment 1; threads 1 and 2 begin, and go on by two steps each; the first of them is
+/// committed.
 pub const EVENTS: [Event; 8] = [
-    Event::Begin(0, 0),
-    Event::Advance(0, 1),
-    Event::Commit(0),
+    Event::Begin(1, 0),
+    Event::Advance(1, 1),
+    Event::Commit(1),
     Event::Begin(0, 1),
     Event::Begin(1, 2),
     Event::Advance(0, 2),
@@ -38,7 +39,7 @@ fn side(segment: u8, thread: u32, begun: u64) -> Side {
     }
 }
 
-/// Thread 2 asks to change the second Cell, which thread 1 has locked, and thread 1 began earlier.
+/// Thread 2 asks to change the Cell, which thread 1 has locked, and thread 1 began earlier.
 fn lost(at: Addr) -> Conflict {
     Conflict {
         at,
@@ -49,9 +50,9 @@ fn lost(at: Addr) -> Conflict {
     }
 }
 
-/// What the events are to be replied where the one of that number, from 0, is told that there is no memory, or none is. From
-/// then on no transaction begins, and what has nothing in hand is skipped. Commits take no memory.
-pub fn wanted(place: Option<usize>, second: Addr) -> [Reply; 8] {
+/// What the events are to be replied where the one of that number, from 0, is told that there is no memory, or none
+/// is. From then on no transaction begins, and what has nothing in hand is skipped. Commits take no memory.
+pub fn wanted(place: Option<usize>, cell: Addr) -> [Reply; 8] {
     let begun = Reply::Begun;
     let skipped = Reply::Skipped;
     let first = Reply::Committed(0);
@@ -76,7 +77,7 @@ pub fn wanted(place: Option<usize>, second: Addr) -> [Reply; 8] {
             begun,
             begun,
             ENDED,
-            Reply::Lost(lost(second)),
+            Reply::Lost(lost(cell)),
             next,
         ],
     }
