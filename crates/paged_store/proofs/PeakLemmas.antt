@@ -6,9 +6,10 @@ use Rattle.py_data.specs.Heap.{Rec}
 use Rattle.seg_store.specs.declared.store.StoreFault.{StoreFault}
 use Rattle.seg_store.specs.declared.store.StoreFault.TheVariants.{Full, OutOfMemory}
 use Rattle.seg_store.specs.Extents.{extents, extents_of, words_in}
-use Rattle.seg_store.specs.Telling.{in_use, use_with, Rises, RisesTo, IsOver}
-use Rattle.seg_store.proofs.WordSums.{words_more}
-use Rattle.page_table.specs.Pages.{Table}
+use Rattle.seg_store.specs.Telling.{in_use, use_with, Rises, RisesTo, Fits, IsOver, IsTelling}
+use Rattle.seg_store.specs.Store.{IsStore}
+use Rattle.seg_store.proofs.WordSums.{words_le, words_more}
+use Rattle.page_table.specs.Pages.{Table, limit}
 use Rattle.paged_store.specs.Words.{Words}
 use Rattle.paged_store.specs.inner.Claiming.{extent_for, times, RisesBy, Denies}
 use Rattle.paged_store.specs.inner.Growing.{grown_class, grown_index, grown_extents}
@@ -57,6 +58,10 @@ total_of p c = (p.table.shelf c).total
 abbrev pub used_in : Paged → ℕ → ℕ
 used_in p = in_use (meaning_in (state_of p))
 
+limit_is : (p : Paged) → (meaning_in (state_of p)).limit ≡ limit p.table
+unfolding meaning_in state_of
+limit_is p = refl
+
 pub counted_use : (p : Paged) → Fine p → (c : ℕ) → 1 ≤ c → used_in p c + spare_of p c ≡ total_of p c
 counted_use p f c l = in_use_counted (meaning_in (state_of p)) (counts_of p) f.counted c l
 
@@ -83,6 +88,41 @@ taken_rises p q f g wanted rises count = λ c l.
     let x = counted_use p f c l in
     let y = counted_use q g c l in
     omega (arith, low, high, n, x, y)
+
+-- and the words with them are within the limit
+pub taken_fits : (p q : Paged) → Fine p → Fine q → (wanted : List ℕ) (o : Option Rec) (r : Rec) →
+    RisesBy wanted p.table q.table →
+    ((c : ℕ) → 1 ≤ c → times c wanted + spare_of q c + total_of p c ≡ spare_of p c + total_of q c) →
+    ((c : ℕ) → 1 ≤ c → extents r c ≡ extents_of o c + times c wanted) →
+    q.table.reserved ≡ 2 + words_in (total_of q) → q.table.reserved ≤ limit p.table →
+    Fits (Some (total_of p)) (use_with (meaning_in (state_of p)) o r) (meaning_in (state_of p)).limit
+taken_fits p q f g wanted o r rises count more filled within =
+    let now : ℕ → ℕ = use_with (meaning_in (state_of p)) o r in
+    let words : words_in (λ c. max (total_of p c) (now c)) ≤ words_in (total_of q) =
+    words_le (λ c. max (total_of p c) (now c)) (total_of q) less in
+    let e = limit_is p in
+    omega (arith, words, filled, within, e)
+  where
+    less : (c : ℕ) → 1 ≤ c → max (total_of p c) (use_with (meaning_in (state_of p)) o r c) ≤ total_of q c
+    less c l =
+        let rise : total_of q c ≡ max (total_of p c) (used_in q c) = taken_rises p q f g wanted rises count c l in
+        let n = count c l in
+        let x = counted_use p f c l in
+        let y = counted_use q g c l in
+        let m = more c l in
+        omega (arith, rise, n, x, y, m)
+
+-- a record with as many extents takes no words
+pub still_fits : (p : Paged) (o : Option Rec) (r : Rec) → IsStore p.table.reserved (meaning_in (state_of p)) →
+    IsTelling p.table.reserved (meaning_in (state_of p)) (total_of p) →
+    ((c : ℕ) → 1 ≤ c → extents r c ≡ extents_of o c + times c []) →
+    Fits (Some (total_of p)) (use_with (meaning_in (state_of p)) o r) (meaning_in (state_of p)).limit
+still_fits p o r store tells same =
+    let now : ℕ → ℕ = use_with (meaning_in (state_of p)) o r in
+    let words : words_in (λ c. max (total_of p c) (now c)) ≤ words_in (total_of p) =
+    words_le (λ c. max (total_of p c) (now c)) (total_of p)
+    (λ c l. let e = same c l in let w = tells.within c l in omega (arith, e, w)) in
+    omega (arith, words, tells.words, store.room)
 
 -- they can't be had, and what is ever new rises no further
 pub refused_rises : (p : Paged) (u : Table) → Fine p → (wanted : List ℕ) (o : Option Rec) (r : Rec) →

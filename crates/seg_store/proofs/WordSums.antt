@@ -1,10 +1,11 @@
 -- Words of extents, over all classes.
 use Rattle.std.proofs.Common.{◌≡◌, ℕ, zero, suc, ◌+◌, ◌*◌, ◌^◌, ◌<◌, ◌≤◌, max, Some, inl, inr, ap, arith}
 use Rattle.std.proofs.lemmas.Bool.Decides.{eqb_tells}
+use Rattle.seg_store.specs.declared.store.StoreFault.TheVariants.{Full}
 use Rattle.seg_store.specs.Extents.{words_from, words_in}
 use Rattle.seg_store.specs.Meaning.{Meaning}
 use Rattle.seg_store.specs.Store.{IsStore}
-use Rattle.seg_store.specs.Telling.{in_use, Rises, IsTelling, words_with}
+use Rattle.seg_store.specs.Telling.{in_use, Rises, Fits, IsOver, IsTelling}
 
 suc_times : (n x : ℕ) → suc n * x ≡ n * x + x
 suc_times n x = grind arith
@@ -68,8 +69,13 @@ words_more c f g low high more h = from_more 21 1 c f g low (omega (arith, high)
 -- ---- a call that was done
 
 pub done_fits : (reserved : ℕ) (m : Meaning) (f g : ℕ → ℕ) → IsStore reserved m → IsTelling reserved m g →
-    Rises (Some f) (Some g) (in_use m) → words_with f (in_use m) ≤ m.limit
+    Rises (Some f) (Some g) (in_use m) → Fits (Some f) (in_use m) m.limit
 done_fits reserved m f g store tells rises =
     let words : words_in (λ c. max (f c) (in_use m c)) ≤ words_in g =
     words_le (λ c. max (f c) (in_use m c)) g (λ c l. let e = rises c l in omega (arith, e)) in
     omega (arith, words, tells.words, store.room)
+
+-- what is over doesn't fit
+pub over_not_fits : (f now : ℕ → ℕ) (reserved need limit : ℕ) → IsOver (Some f) now (Full reserved need limit) →
+    Fits (Some f) now limit → ⊥
+over_not_fits f now reserved need limit o l = let m = o.over in omega (arith, l, m)

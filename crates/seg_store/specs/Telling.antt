@@ -2,7 +2,7 @@
 use Rattle.std.specs.Prelude.{◌≡◌, ℕ, ◌+◌, ◌-◌, ◌/◌, ◌^◌, ◌<◌, ◌≤◌, max, Option, Some, None}
 use Rattle.py_data.specs.Heap.{Rec}
 use Rattle.seg_store.specs.declared.store.StoreFault.{StoreFault}
-use Rattle.seg_store.specs.declared.store.StoreFault.TheVariants.{Full, OutOfMemory}
+use Rattle.seg_store.specs.declared.store.StoreFault.TheVariants.{Full}
 use Rattle.seg_store.specs.Meaning.{Meaning, sees}
 use Rattle.seg_store.specs.Extents.{extents, extents_of, words_in}
 use Rattle.seg_store.specs.Sums.{sum_below, asked, gained}
@@ -42,6 +42,11 @@ pub record Exceeds (f now : ℕ → ℕ) (need limit : ℕ) : Type 0 where
   pub words : need ≡ 2 ^ class
   pub more : f class < now class
   pub over : limit < words_with f now
+
+-- A call was done, with which so many extents would be in use: where a store tells its extents, the call fitted.
+abbrev pub Fits : Option (ℕ → ℕ) → (ℕ → ℕ) → ℕ → Type 0
+Fits (Some f) now limit = words_with f now ≤ limit
+Fits None now limit = Unit {0}
 
 -- A call was refused, with which so many extents would be in use: where the heap is full and a store tells its extents,
 -- the call doesn't fit.

@@ -10,7 +10,7 @@ use Rattle.seg_store.specs.Meaning.{Part, Meaning, no_part}
 use Rattle.seg_store.specs.declared.store.StoreFault.TheVariants.{Full, OutOfMemory}
 use Rattle.seg_store.specs.Extents.{class_holding, extents, one_if, words_in}
 use Rattle.seg_store.specs.Sums.{sum_below}
-use Rattle.seg_store.specs.Telling.{in_use, use_with, words_with, Rises, RisesTo, IsOver, IsTelling}
+use Rattle.seg_store.specs.Telling.{in_use, use_with, words_with, Rises, RisesTo, Fits, IsOver, IsTelling}
 use Rattle.seg_store.specs.Worked.{nones, a_list}
 
 abbrev a_cell : Rec
@@ -186,8 +186,8 @@ cell_words : words_with (in_use full_store) (use_with full_store None a_cell) �
 unfolding in_use sum_below class_holding extents words_in room_of
 cell_words = refl
 
-cell_fits : IsOver (Some (in_use full_store)) (use_with full_store None a_cell) (Full 1_684 4 2_048) → ⊥
-cell_fits o = let e = cell_words in let l = o.over in omega arith
+cell_fits : Fits (Some (in_use full_store)) (use_with full_store None a_cell) 2_048
+cell_fits = let e = cell_words in omega arith
 
 -- Where an extent of the class was in use before, the next body fits, though no word is left: that extent was given back.
 abbrev one_spare : ℕ → ℕ
@@ -197,9 +197,8 @@ spare_words : words_with one_spare (use_with full_store (Some (a_list 256 256 0)
 unfolding in_use sum_below class_holding extents words_in room_of
 spare_words = refl
 
-spare_serves : IsOver (Some one_spare) (use_with full_store (Some (a_list 256 256 0)) grown) (Full 2_708 1_024 2_708)
-    → ⊥
-spare_serves o = let e = spare_words in let l = o.over in omega arith
+spare_serves : Fits (Some one_spare) (use_with full_store (Some (a_list 256 256 0)) grown) 2_708
+spare_serves = let e = spare_words in omega arith
 
 -- of want of memory nothing is said
 memory_free : IsOver (Some (in_use full_store)) (use_with full_store None a_cell) OutOfMemory

@@ -6,7 +6,7 @@ use Rattle.page_table.specs.Lists.{table_of}
 use Rattle.paged_store.proofs.StoreCalls.{segment_in}
 use Rattle.paged_store.proofs.StoreEnds.{table_segment}
 use Rattle.paged_store.proofs.GrowStore.{keeps, dict_grows, dict_refuses, dict_asks, ungrown_stands, dict_gains, grow_refused, grow_over}
-use Rattle.paged_store.proofs.GrowPair.{can_index, is_blank, dict_stands, dict_rises}
+use Rattle.paged_store.proofs.GrowPair.{can_index, is_blank, dict_stands, dict_rises, dict_fits}
 use Rattle.paged_store.proofs.store.PagedStore.grow_pair.Goals as goal
 
 pub index_mut-draft-requires : goal.index_mut-draft-requires
@@ -104,3 +104,14 @@ returns-clause-rises c = dict_rises c.args.self.now c.args.k c.args.d.0 c.requir
     c.index_mut-draft.ensures.value c.grow.new.draft c.grow.new.pages c.grow.ensures.most c.args.key c.args.v
     c.requires.there c.requires.full c.known_value.ensures c.known_value-2.ensures c.in_ok-grow.ensures.ok
     c.fill_index.new.pages c.fill_index.ensures.puts c.fill_index.ensures.index)
+
+pub returns-clause-fits : goal.returns-clause-fits
+returns-clause-fits c = dict_fits c.args.self.now c.args.k c.args.d.0 c.requires.segment c.requires.held
+    c.index_mut-draft.result.now c.index_mut-draft.ensures.value c.grow.new.draft c.grow.new.pages c.grow.ensures.most
+    c.args.key c.args.v c.requires.there c.requires.full c.known_value.ensures c.known_value-2.ensures
+    c.in_ok-grow.ensures.ok c.fill_index.new.pages c.fill_index.ensures.puts _ c.grow.ensures.rises
+    (dict_stands c.args.self.now c.args.k c.args.d.0 c.requires.segment c.requires.held
+    c.index_mut-draft.result.now
+    c.index_mut-draft.ensures.value c.grow.new.draft c.grow.new.pages c.grow.ensures.most c.args.key c.args.v
+    c.requires.there c.requires.full c.known_value.ensures c.known_value-2.ensures c.in_ok-grow.ensures.ok
+    c.fill_index.new.pages c.fill_index.ensures.puts c.fill_index.ensures.index) c.grow.ensures.filled
