@@ -1,5 +1,5 @@
 -- Extents that are claimed, one after the other, and given back.
-use Rattle.std.proofs.Common.{◌≡◌, ◌≢◌, ◌⊎◌, ℕ, zero, suc, ◌+◌, ◌-◌, ◌^◌, ◌<◌, ◌≤◌, Bool, true, false, ◌&&◌, eqb, ltb, leb, List, [], ◌∷◌, ◌++◌, length, length-append, get_or, Result, Ok, Err, IfOk, inl, inr, refl, sym, ◌∙◌, ap, subst, arith}
+use Rattle.std.proofs.Common.{◌≡◌, ◌≢◌, ◌⊎◌, ℕ, zero, suc, ◌+◌, ◌-◌, ◌^◌, ◌<◌, ◌≤◌, Bool, true, false, ◌&&◌, eqb, ltb, leb, List, [], ◌∷◌, ◌++◌, length, length-append, get_or, Result, Ok, Err, IfOk, IfErr, inl, inr, refl, sym, ◌∙◌, ap, subst, arith}
 use Rattle.std.proofs.lemmas.Bool.{cases_lt, cond-true, cond-false, lt-ltb, le-ltb, le-leb, lt-leb}
 use Rattle.std.proofs.lemmas.Bool.Decides.{eqb_tells}
 use Rattle.std.proofs.lemmas.List.{length_push, get_or_append_left, get_or-append_right, get_or-append-add}
@@ -318,6 +318,35 @@ given_one class place t u low high e =
 
 -- ---- refusals
 
+times_self : (c : ℕ) → times c (c ∷ []) ≡ 1
+times_self c = elim (eqb_tells c c) [
+  | inl y ↦ (let one = ap one_if y.0 in omega (arith, one))
+  | inr n ↦ absurd (n.1 refl)
+]
+
+-- where none of a class can be had, all that were ever new are in use
+pub denied_one : (class : ℕ) (t u : Table) (r : Result ℕ StoreFault) → 1 ≤ class → class ≤ 21 →
+    Reserves class t u r → IfErr r (Denies (class ∷ []) t u)
+denied_one class t u (Ok p) low high h = tt
+denied_one class t u (Err OutOfMemory) low high h = tt
+denied_one class t u (Err (Full r n l)) low high h =
+    let same : u ≡ t = h.0 in
+    let k = h.1 in
+    let none : length (t.shelf class).spare ≡ 0 = ap (λ (xs : List ℕ). length xs) k.none_spare in
+    let one = times_self class in
+    let total : (u.shelf class).total ≡ (t.shelf class).total = ap (λ (z : Table). (z.shelf class).total) same in
+    record {
+      class = class;
+      low = low;
+      high = high;
+      few = omega (arith, none, one);
+      short = omega (arith, none, one, total);
+      reserved = k.reserved ∙ sym (ap (λ (z : Table). z.reserved) same);
+      need = k.need;
+      limit = k.limit;
+      over = k.over;
+    }
+
 pub times_both : (k : ℕ) (ws vs : List ℕ) → times k (ws ++ vs) ≡ times k ws + times k vs
 times_both k [] vs = omega arith
 times_both k (x ∷ ws) vs = let e = times_both k ws vs in omega (arith, e)
@@ -329,6 +358,7 @@ denies_more ws vs t u (Full r n l) k = record {
   low = k.low;
   high = k.high;
   few = let f = k.few in let m = times_both k.class ws vs in omega (arith, f, m);
+  short = let f = k.short in let m = times_both k.class ws vs in omega (arith, f, m);
   reserved = k.reserved;
   need = k.need;
   limit = k.limit;
@@ -339,19 +369,21 @@ denies_more ws vs t u OutOfMemory k = tt
 -- one that is refused after others were taken, which are then given back
 pub denies_later : (ws : List ℕ) (c : ℕ) (xs : List Extent) (t u w : Table) (e : StoreFault) → Claims xs t u →
     ((k : ℕ) → 1 ≤ k → of_class k xs ≡ times k ws) → w.reserved ≡ u.reserved
-    → Denies (c ∷ []) u u e → Denies (ws ++ c ∷ []) t w e
-denies_later ws c xs t u w (Full r n l) a same reserved k = record {
+    → ((k : ℕ) → (w.shelf k).total ≡ (u.shelf k).total) → Denies (c ∷ []) u u e → Denies (ws ++ c ∷ []) t w e
+denies_later ws c xs t u w (Full r n l) a same reserved total k = record {
   class = k.class;
   low = k.low;
   high = k.high;
   few = let f = k.few in let g = a.count k.class in let h = a.total k.class in let s = same k.class k.low in let m =
       times_both k.class ws (c ∷ []) in omega (arith, f, g, h, s, m);
+  short = let f = k.short in let g = a.count k.class in let s = same k.class k.low in let m =
+      times_both k.class ws (c ∷ []) in let e = total k.class in omega (arith, f, g, s, m, e);
   reserved = k.reserved ∙ sym reserved;
   need = k.need;
   limit = k.limit ∙ ap limit a.others;
   over = k.over;
 }
-denies_later ws c xs t u w OutOfMemory a same reserved k = tt
+denies_later ws c xs t u w OutOfMemory a same reserved total k = tt
 
 -- what was taken is given back where the next is refused
 module _ (ws : List ℕ) (c : ℕ) (xs : List Extent) (t u v w : Table) (a : Claims xs t u) (e : v ≡ u)
@@ -365,7 +397,7 @@ module _ (ws : List ℕ) (c : ℕ) (xs : List Extent) (t u v w : Table) (a : Cla
   pub denied : (x : StoreFault) → ((k : ℕ) → 1 ≤ k → of_class k xs ≡ times k ws) → Denies (c ∷ []) u v x →
       Denies (ws ++ c ∷ []) t w x
   denied x same d = denies_later ws c xs t u w x a same (ap (λ (z : Table). z.reserved) given_then.others)
-      (subst (λ z. Denies (c ∷ []) u z x) e d)
+      given_then.total (subst (λ z. Denies (c ∷ []) u z x) e d)
 
 -- the extents for one class, and for two
 pub same_one : (class place : ℕ) → (k : ℕ) → 1 ≤ k → of_class k (extent_for class place) ≡ times k (class ∷ [])

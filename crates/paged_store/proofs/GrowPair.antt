@@ -6,12 +6,13 @@ use Rattle.py_data.specs.declared.change.Change.{Change}
 use Rattle.py_data.specs.declared.change.Change.TheVariants.{Pair}
 use Rattle.py_data.specs.declared.value.Value.{Value}
 use Rattle.py_data.specs.Changes.{after}
-use Rattle.py_data.specs.Heap.{Rec, Has, with_pair}
+use Rattle.py_data.specs.Heap.{Rec, Has, at, with_pair}
 use Rattle.py_data.specs.Shape.{ArePairs}
 use Rattle.py_data.proofs.PairLists.{pairs_last}
 use Rattle.dict_index.specs.Index.{IsBlank}
 use Rattle.seg_store.specs.Meaning.{Meaning, sees, holds}
-use Rattle.seg_store.specs.Telling.{Rises}
+use Rattle.seg_store.specs.Extents.{words_in}
+use Rattle.seg_store.specs.Telling.{use_with, Rises, Fits}
 use Rattle.seg_store.specs.Calls.{after_change}
 use Rattle.seg_store.specs.Store.{CanChange}
 use Rattle.page_table.specs.Pages.{Table, limit}
@@ -32,7 +33,7 @@ use Rattle.paged_store.specs.inner.Writing.{Desk, desk, CanPut, next_index_size}
 use Rattle.paged_store.specs.inner.Written.{Changed}
 use Rattle.paged_store.specs.Stores.{paged_of, paged_meaning, peaks_of}
 use Rattle.paged_store.proofs.GrowCall.{Filled, head_is_held, now as grown, taken_extents, taken_turns, puts_now, word_now, reserved_now, may_index_now, freed_now, grows_then}
-use Rattle.paged_store.proofs.GrowStore.{address, dict_full, dict_big, dict_grows, dict_gains, old, grew_desk, grew_stands, grew_rises}
+use Rattle.paged_store.proofs.GrowStore.{address, dict_full, dict_big, dict_grows, dict_gains, old, grew_desk, grew_stands, grew_rises, grew_fits}
 use Rattle.paged_store.proofs.GrownWords.{part, with_index, with_index_size, with_blank, pair_grown}
 use Rattle.paged_store.proofs.NewIndex.{new_stands, each_avoids, each_stands, keys_each, key_avoids, key_readable}
 use Rattle.paged_store.proofs.SightLemmas.{seen_there}
@@ -267,3 +268,16 @@ module _ (s : PagedStore) (k a : ℕ) (l : k < (paged_meaning s).segments)
     dict_rises m rises = let P : Table → Type 0 = λ x.
         RisesBy (grown_class w a ∷ grown_index w a ∷ 0 ∷ []) (table_of s.pages) x in
         grew_rises s k a l held g is d q most_then vs m dict_filled (subst P (sym puts.same) rises)
+
+    -- and the words with it grown are within the limit
+    pub dict_fits : (m : Meaning)
+        → RisesBy (grown_class w a ∷ grown_index w a ∷ 0 ∷ []) (table_of s.pages) (table_of u)
+        → StoreStands q s.present.items s.marks (slice_set s.drafts.items k d) m
+        → (table_of u).reserved ≡ 2 + words_in (λ n. ((table_of u).shelf n).total)
+        → Fits (Some (peaks_of s)) (use_with (paged_meaning s) (sees (paged_meaning s) k a)
+        (after c (at (sees (paged_meaning s) k) a))) (paged_meaning s).limit
+    dict_fits m rises stands filled =
+        let P : Table → Type 0 = λ x. RisesBy (grown_class w a ∷ grown_index w a ∷ 0 ∷ []) (table_of s.pages) x in
+        let Q : Table → Type 0 = λ x. x.reserved ≡ 2 + words_in (λ n. (x.shelf n).total) in
+        grew_fits s k a l held g is d q most_then vs c m can (dict_gains s k a l held key v can small) dict_filled
+        (subst P (sym puts.same) rises) stands (subst Q (sym puts.same) filled)

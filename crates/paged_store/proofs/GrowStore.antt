@@ -17,8 +17,8 @@ use Rattle.py_data.specs.Shape.{ArePairs}
 use Rattle.seg_store.specs.declared.store.StoreFault.{StoreFault}
 use Rattle.seg_store.specs.declared.store.StoreFault.TheVariants.{Full, OutOfMemory}
 use Rattle.seg_store.specs.Asking.{AsksFor}
-use Rattle.seg_store.specs.Extents.{extents, extents_of, Wants}
-use Rattle.seg_store.specs.Telling.{use_with, Rises, RisesTo}
+use Rattle.seg_store.specs.Extents.{extents, extents_of, words_in, Wants}
+use Rattle.seg_store.specs.Telling.{use_with, Rises, RisesTo, Fits, IsOver}
 use Rattle.seg_store.specs.Meaning.{Meaning, sees, holds}
 use Rattle.seg_store.specs.Calls.{after_change}
 use Rattle.seg_store.specs.Store.{CanChange, IsFull, Refuses}
@@ -44,7 +44,7 @@ use Rattle.paged_store.proofs.GrowWords.{room_next, doubled_above, doubled_far, 
 use Rattle.paged_store.proofs.ExtentLemmas.{list_wants, dict_wants, dict_wants_index, push_doubles, pair_doubles}
 use Rattle.paged_store.proofs.IndexFrame.{Renews, list_renews}
 use Rattle.paged_store.proofs.ExtentCounts.{GainsGrown, list_grown, dict_grown}
-use Rattle.paged_store.proofs.PeakLemmas.{grown_classes, total_of, used_in, taken_rises, refused_rises}
+use Rattle.paged_store.proofs.PeakLemmas.{grown_classes, total_of, used_in, taken_rises, taken_fits, refused_rises, refused_over}
 use Rattle.paged_store.proofs.StandLemmas.{at_seen}
 use Rattle.paged_store.proofs.StoreCalls.{Stands as StoreStands}
 use Rattle.paged_store.proofs.StoreEnds.{table_segment}
@@ -285,6 +285,18 @@ module _ (s : PagedStore) (k a : ℕ) (l : k < (paged_meaning s).segments) (c : 
       let R : Rec → Type 0 = λ q. P (Some (decode (words_of s k) a)) q in
       subst Q (sym sees_is) (subst R (sym at_is) h)
 
+  -- the extents that it has more, as the segment sees it
+  pub gains_seen : (wanted : List ℕ)
+      → ((n : ℕ) → 1 ≤ n → extents (after c (decode (words_of s k) a)) n
+      ≡ extents (decode (words_of s k) a) n + times n wanted) → (n : ℕ) → 1 ≤ n →
+      extents (after c (at (sees (paged_meaning s) k) a)) n ≡ extents_of (sees (paged_meaning s) k a) n + times n wanted
+  gains_seen wanted more =
+      let P : Option Rec → Rec → Type 0 = λ o q. (n : ℕ) → 1 ≤ n →
+      extents (after c q) n ≡ extents_of o n + times n wanted in
+      let Q : Option Rec → Type 0 = λ o. P o (at (sees (paged_meaning s) k) a) in
+      let R : Rec → Type 0 = λ q. P (Some (decode (words_of s k) a)) q in
+      subst Q (sym sees_is) (subst R (sym at_is) more)
+
   -- where it can't, what is ever new of a class rises at most to what would be in use with it grown
   pub grow_refused : (u : Table) → ((n : ℕ) → 1 ≤ n → GainsGrown (words_of s k) a c n)
       → RisesBy (grown_class (words_of s k) a ∷ grown_index (words_of s k) a ∷ 0 ∷ []) (table_of s.pages) u
@@ -292,12 +304,20 @@ module _ (s : PagedStore) (k a : ℕ) (l : k < (paged_meaning s).segments) (c : 
       (use_with (paged_meaning s) (sees (paged_meaning s) k a) (after c (at (sees (paged_meaning s) k) a)))
   grow_refused u more rises =
       let wanted : List ℕ = grown_class (words_of s k) a ∷ grown_index (words_of s k) a ∷ 0 ∷ [] in
-      let P : Option Rec → Rec → Type 0 = λ o q. (n : ℕ) → 1 ≤ n →
-      extents (after c q) n ≡ extents_of o n + times n wanted in
-      let Q : Option Rec → Type 0 = λ o. P o (at (sees (paged_meaning s) k) a) in
-      let R : Rec → Type 0 = λ q. P (Some (decode (words_of s k) a)) q in
       refused_rises (paged_of s) u s.sound.fine wanted (sees (paged_meaning s) k a)
-      (after c (at (sees (paged_meaning s) k) a)) rises (subst Q (sym sees_is) (subst R (sym at_is) more))
+      (after c (at (sees (paged_meaning s) k) a)) rises (gains_seen wanted more)
+
+  -- and where it can't since the heap is full, the words would be above the limit with it grown
+  pub grow_over : (u : Table) (e : StoreFault) → ((n : ℕ) → 1 ≤ n → GainsGrown (words_of s k) a c n)
+      → u.reserved ≡ 2 + words_in (λ n. (u.shelf n).total)
+      → RisesBy (grown_class (words_of s k) a ∷ grown_index (words_of s k) a ∷ 0 ∷ []) (table_of s.pages) u
+      → Denies (grown_class (words_of s k) a ∷ grown_index (words_of s k) a ∷ 0 ∷ []) (table_of s.pages) u e
+      → IsOver (Some (peaks_of s))
+      (use_with (paged_meaning s) (sees (paged_meaning s) k a) (after c (at (sees (paged_meaning s) k) a))) e
+  grow_over u e more filled rises denies =
+      let wanted : List ℕ = grown_class (words_of s k) a ∷ grown_index (words_of s k) a ∷ 0 ∷ [] in
+      refused_over (paged_of s) u s.sound.fine wanted (sees (paged_meaning s) k a)
+      (after c (at (sees (paged_meaning s) k) a)) e filled rises denies (gains_seen wanted more)
 
 module _ (s : PagedStore) (k a : ℕ) (l : k < (paged_meaning s).segments)
     (held : holds ((paged_meaning s).part k) a ≡ true) (u : Table)
@@ -449,3 +469,20 @@ module _ (s : PagedStore) (k a : ℕ) (l : k < (paged_meaning s).segments)
       (grown_class (words_of s k) a ∷ grown_index (words_of s k) a ∷ 0 ∷ []) rises
       (λ n low. let t = grown_turns (paged_of s) k a s.sound.fine (table_segment s k l) held (desk u d) most vs z in
       let e = t.count n in let q = grown_classes n (words_of s k) a z.grew.body z.grew.index low in omega (arith, e, q))
+
+  -- and the words with it grown are within the limit
+  pub grew_fits : (vs : List Value) (c : Change) (m : Meaning) → CanChange (sees (paged_meaning s) k) a c →
+      ((n : ℕ) → 1 ≤ n → GainsGrown (words_of s k) a c n) → Filled k a vs old (desk u d)
+      → RisesBy (grown_class (words_of s k) a ∷ grown_index (words_of s k) a ∷ 0 ∷ []) (table_of s.pages) (table_of u)
+      → StoreStands u s.present.items s.marks (slice_set s.drafts.items k d) m
+      → (table_of u).reserved ≡ 2 + words_in (λ n. ((table_of u).shelf n).total)
+      → Fits (Some (peaks_of s)) (use_with (paged_meaning s) (sees (paged_meaning s) k a)
+      (after c (at (sees (paged_meaning s) k) a))) (paged_meaning s).limit
+  grew_fits vs c m can more z rises v filled =
+      let wanted : List ℕ = grown_class (words_of s k) a ∷ grown_index (words_of s k) a ∷ 0 ∷ [] in
+      let t = grown_turns (paged_of s) k a s.sound.fine (table_segment s k l) held (desk u d) most vs z in
+      taken_fits (paged_of s) (paged_by u s.present.items s.marks (slice_set s.drafts.items k d))
+      s.sound.fine v.sound.fine wanted (sees (paged_meaning s) k a) (after c (at (sees (paged_meaning s) k) a)) rises
+      (λ n low. let e = t.count n in let q = grown_classes n (words_of s k) a z.grew.body z.grew.index low in
+      omega (arith, e, q))
+      (gains_seen s k a l c can wanted more) filled (let e = t.pages in omega (arith, most, e))

@@ -87,6 +87,7 @@ denies_from c c1 i i1 t t1 u (Full r n l) ec ei es ep d =
       low = d3.low;
       high = d3.high;
       few = d3.few;
+      short = d3.short;
       reserved = d3.reserved;
       need = d3.need;
       limit = d3.limit;

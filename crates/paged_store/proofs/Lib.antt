@@ -88,6 +88,7 @@ pub mod GrownWords
 pub mod TakeCall
 pub mod GrowCall
 pub mod GrowStore
+pub mod FitStore
 pub mod NewIndex
 pub mod GrowPair
 pub mod MakeTakes

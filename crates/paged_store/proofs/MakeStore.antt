@@ -13,8 +13,8 @@ use Rattle.py_data.specs.Shape.{HasShape, OnlyStrings, IsShaped}
 use Rattle.seg_store.specs.declared.store.StoreFault.{StoreFault}
 use Rattle.seg_store.specs.declared.store.StoreFault.TheVariants.{Full, OutOfMemory}
 use Rattle.seg_store.specs.Asking.{AsksFor}
-use Rattle.seg_store.specs.Extents.{Wants}
-use Rattle.seg_store.specs.Telling.{use_with, Rises, RisesTo}
+use Rattle.seg_store.specs.Extents.{words_in, Wants}
+use Rattle.seg_store.specs.Telling.{use_with, Rises, RisesTo, Fits, IsOver}
 use Rattle.seg_store.specs.Meaning.{Meaning}
 use Rattle.seg_store.specs.Meaning.{sees}
 use Rattle.seg_store.specs.Calls.{after_make}
@@ -43,7 +43,7 @@ use Rattle.paged_store.proofs.MakeWords.{made_holds, dict_made}
 use Rattle.paged_store.proofs.ExtentLemmas.{make_wants_header, make_wants_body, make_wants_index}
 use Rattle.paged_store.proofs.StockMove.{stocked_sound}
 use Rattle.paged_store.proofs.ExtentCounts.{made_extents_are}
-use Rattle.paged_store.proofs.PeakLemmas.{made_classes, total_of, used_in, taken_rises, refused_rises}
+use Rattle.paged_store.proofs.PeakLemmas.{made_classes, total_of, used_in, taken_rises, taken_fits, refused_rises, refused_over}
 use Rattle.paged_store.proofs.FineLemmas.{known_of, Leaves, leaves_by}
 use Rattle.paged_store.proofs.IndexedLemmas.{stocked_indexed}
 use Rattle.paged_store.proofs.SegmentDrafts.{drafts_in, read_draft, set_draft}
@@ -109,6 +109,16 @@ pub make_refused : (s : PagedStore) (u : Table) (r : Record) →
     → RisesTo (Some (peaks_of s)) (Some (λ n. (u.shelf n).total)) (use_with (paged_meaning s) None (rec_of r))
 make_refused s u r rises = refused_rises (paged_of s) u s.sound.fine (2 ∷ body_class r ∷ index_class r ∷ []) None
     (rec_of r) rises (λ n low. let e = made_extents_are r n low in omega (arith, e))
+
+-- and where none can be made since the heap is full, the words would be above the limit with it
+pub make_over : (s : PagedStore) (u : Table) (r : Record) (e : StoreFault) →
+    u.reserved ≡ 2 + words_in (λ n. (u.shelf n).total)
+    → RisesBy (2 ∷ body_class r ∷ index_class r ∷ []) (table_of s.pages) u
+    → Denies (2 ∷ body_class r ∷ index_class r ∷ []) (table_of s.pages) u e
+    → IsOver (Some (peaks_of s)) (use_with (paged_meaning s) None (rec_of r)) e
+make_over s u r e filled rises denies =
+    refused_over (paged_of s) u s.sound.fine (2 ∷ body_class r ∷ index_class r ∷ []) None (rec_of r) e filled rises
+    denies (λ n low. let q = made_extents_are r n low in omega (arith, q))
 
 -- ---- the shape of a record
 
@@ -351,6 +361,30 @@ module _ (s : PagedStore) (k : ℕ) (l : k < (paged_meaning s).segments) where
               let x = ap (λ (z : Desk). length (z.table.shelf n).spare) is_new in
               let y = ap (λ (z : Desk). (z.table.shelf n).total) is_new in
               omega (arith, e, q, x, y))
+
+          -- and the words with it are within the limit
+          pub placed_fits : (m : Marked)
+              → RisesBy (2 ∷ body_class r ∷ index_class r ∷ []) (table_of s.pages) (table_of u)
+              → (table_of u).reserved ≤ limit (table_of u)
+              → (table_of u).reserved ≡ 2 + words_in (λ n. ((table_of u).shelf n).total)
+              → Fine (paged_by v s.present.items m (slice_set s.drafts.items k d))
+              → Fits (Some (peaks_of s)) (use_with (paged_meaning s) None (rec_of r)) (paged_meaning s).limit
+          placed_fits m rises most filled fine =
+              let P : Table → Type 0 = λ x. x.reserved ≤ limit x in
+              let Q : Table → Type 0 = λ x. x.reserved ≡ 2 + words_in (λ n. (x.shelf n).total) in
+              let within : P (table_of v) = subst P (sym puts.same) most in
+              let pages = ap (λ (z : Desk). z.table.pages) is_new in
+              let same = turns.pages in
+              taken_fits (paged_of s) (paged_by v s.present.items m (slice_set s.drafts.items k d))
+              s.sound.fine fine (2 ∷ body_class r ∷ index_class r ∷ []) None (rec_of r)
+              (rises_kept (2 ∷ body_class r ∷ index_class r ∷ []) (table_of s.pages) (table_of u) (table_of v) rises
+              (ap (λ (x : Table). x.shelf) puts.same))
+              (λ n low. let e = turns.count n in let q = made_classes n r (2 * a) placed.body placed.index low in
+              let x = ap (λ (z : Desk). length (z.table.shelf n).spare) is_new in
+              let y = ap (λ (z : Desk). (z.table.shelf n).total) is_new in
+              omega (arith, e, q, x, y))
+              (λ n low. let e = made_extents_are r n low in omega (arith, e))
+              (subst Q (sym puts.same) filled) (omega (arith, within, pages, same))
 
           -- the address has a granule
           pub placed_within : (table_of u).reserved ≤ limit (table_of u) → a < granules s.marks

@@ -37,7 +37,7 @@ pub(crate) fn has_room(pages: &Pages, k: u8, a: u32, more: usize) -> bool
 
 impl PagedStore {
     ghost use Rattle.std.specs.Prelude.{Some};
-    ghost use Rattle.seg_store.specs.Telling.{in_use, use_with, Rises, RisesTo};
+    ghost use Rattle.seg_store.specs.Telling.{in_use, use_with, Rises, RisesTo, Fits, IsOver};
     ghost use Rattle.paged_store.specs.Stores.{paged_meaning, reserved_of, peaks_of, Fills};
 
     /// Puts another value in a place of a record that a segment holds.
@@ -132,6 +132,11 @@ impl PagedStore {
         ensures err { OnErr result (paged_meaning self.new ≡ paged_meaning self.old) }
         ensures cause { IfErr result (Refuses (IsFull (sees (paged_meaning self.old) k) a.0 (Push v)) (Fills self.old) (reserved_of self.new) (paged_meaning self.old).limit) }
         ensures asked { IfErr result (AsksFor (sees (paged_meaning self.old) k a.0) (after (Push v) (at (sees (paged_meaning self.old) k) a.0))) }
+        ensures fits { OnOk result (Fits (Some (peaks_of self.old)) (use_with (paged_meaning self.old)
+            (sees (paged_meaning self.old) k a.0) (after (Push v) (at (sees (paged_meaning self.old) k) a.0)))
+            (paged_meaning self.old).limit) }
+        ensures over { IfErr result (IsOver (Some (peaks_of self.old)) (use_with (paged_meaning self.old)
+            (sees (paged_meaning self.old) k a.0) (after (Push v) (at (sees (paged_meaning self.old) k) a.0)))) }
         ensures reserved { reserved_of self.old ≤ reserved_of self.new }
         ensures rises { OnOk result (Rises (Some (peaks_of self.old)) (Some (peaks_of self.new)) (in_use (paged_meaning self.new))) }
         ensures rises_err { OnErr result (RisesTo (Some (peaks_of self.old)) (Some (peaks_of self.new)) (use_with (paged_meaning self.old) (sees (paged_meaning self.old) k a.0) (after (Push v) (at (sees (paged_meaning self.old) k) a.0)))) }
@@ -152,6 +157,11 @@ impl PagedStore {
         ensures err { OnErr result (paged_meaning self.new ≡ paged_meaning self.old) }
         ensures cause { IfErr result (Refuses (IsFull (sees (paged_meaning self.old) k) d.0 (Pair key v)) (Fills self.old) (reserved_of self.new) (paged_meaning self.old).limit) }
         ensures asked { IfErr result (AsksFor (sees (paged_meaning self.old) k d.0) (after (Pair key v) (at (sees (paged_meaning self.old) k) d.0))) }
+        ensures fits { OnOk result (Fits (Some (peaks_of self.old)) (use_with (paged_meaning self.old)
+            (sees (paged_meaning self.old) k d.0) (after (Pair key v) (at (sees (paged_meaning self.old) k) d.0)))
+            (paged_meaning self.old).limit) }
+        ensures over { IfErr result (IsOver (Some (peaks_of self.old)) (use_with (paged_meaning self.old)
+            (sees (paged_meaning self.old) k d.0) (after (Pair key v) (at (sees (paged_meaning self.old) k) d.0)))) }
         ensures reserved { reserved_of self.old ≤ reserved_of self.new }
         ensures rises { OnOk result (Rises (Some (peaks_of self.old)) (Some (peaks_of self.new)) (in_use (paged_meaning self.new))) }
         ensures rises_err { OnErr result (RisesTo (Some (peaks_of self.old)) (Some (peaks_of self.new)) (use_with (paged_meaning self.old) (sees (paged_meaning self.old) k d.0) (after (Pair key v) (at (sees (paged_meaning self.old) k) d.0)))) }

@@ -2,6 +2,7 @@
 ghost use Rattle.std.specs.Prelude.{◌≡◌, ◌+◌, ◌*◌, ◌<◌, ◌≤◌, [], ◌∷◌, length, IfErr, OnOk, OnErr};
 ghost use Rattle.page_table.specs.Pages.{limit};
 ghost use Rattle.page_table.specs.Lists.{table_of};
+ghost use Rattle.seg_store.specs.Extents.{words_in};
 ghost use Rattle.paged_store.specs.Words.{size_of, count_by, body_by, body_size};
 ghost use Rattle.paged_store.specs.inner.Claiming.{Denies, RisesBy};
 ghost use Rattle.paged_store.specs.inner.Growing.{grown_with, grown_class, grown_index, MayGrow, KeepsBody, CanGrow, Grew, Ungrown};
@@ -139,6 +140,7 @@ pub(crate) fn grow(
     ensures rises { let w = (table_of pages.old).word k in
         RisesBy (grown_class w a ∷ grown_index w a ∷ 0 ∷ []) (table_of pages.old) (table_of pages.new) }
     ensures most { (table_of pages.new).reserved ≤ limit (table_of pages.new) }
+    ensures filled { (table_of pages.new).reserved ≡ 2 + words_in (λ c. ((table_of pages.new).shelf c).total) }
 {
     match try_grow(pages, draft, k, a, vs) {
         Ok(()) => {

@@ -2,6 +2,7 @@
 ghost use Rattle.std.specs.Prelude.{◌≡◌, ℕ, ◌+◌, ◌*◌, ◌<◌, ◌≤◌, [], ◌∷◌, length, IfOk, IfErr, OnErr};
 ghost use Rattle.page_table.specs.Pages.{limit};
 ghost use Rattle.page_table.specs.Lists.{table_of};
+ghost use Rattle.seg_store.specs.Extents.{words_in};
 ghost use Rattle.py_data.specs.Heap.{length_by};
 ghost use Rattle.paged_store.specs.inner.Claiming.{Denies, RisesBy};
 ghost use Rattle.paged_store.specs.inner.Making.{made_length, body_class, index_class, FitsBody, Places};
@@ -36,6 +37,7 @@ pub(crate) fn make(
     ensures cause { IfErr result (Denies (2 ∷ body_class r.now ∷ index_class r.now ∷ []) (table_of pages.old) (table_of pages.new)) }
     ensures rises { RisesBy (2 ∷ body_class r.now ∷ index_class r.now ∷ []) (table_of pages.old) (table_of pages.new) }
     ensures within { (table_of pages.new).reserved ≤ limit (table_of pages.new) }
+    ensures filled { (table_of pages.new).reserved ≡ 2 + words_in (λ c. ((table_of pages.new).shelf c).total) }
 {
     pages.known();
     let before = draft.made.len();

@@ -67,7 +67,7 @@ fn index_made(pages: &mut Pages, k: u8, a: u32, kind: Kind)
 
 impl PagedStore {
     ghost use Rattle.std.specs.Prelude.{Some};
-    ghost use Rattle.seg_store.specs.Telling.{in_use, use_with, Rises, RisesTo};
+    ghost use Rattle.seg_store.specs.Telling.{in_use, use_with, Rises, RisesTo, Fits, IsOver};
     ghost use Rattle.paged_store.specs.Stores.{paged_meaning, reserved_of, peaks_of, Fills};
 
     /// Makes a record that a segment holds, and answers its address.
@@ -81,6 +81,9 @@ impl PagedStore {
         ensures err { OnErr result (paged_meaning self.new ≡ paged_meaning self.old) }
         ensures cause { IfErr result (Refuses (Unit {0}) (Fills self.old) (reserved_of self.new) (paged_meaning self.old).limit) }
         ensures asked { IfErr result (AsksFor None (rec_of r.now)) }
+        ensures fits { OnOk result (Fits (Some (peaks_of self.old)) (use_with (paged_meaning self.old) None (rec_of r.now))
+            (paged_meaning self.old).limit) }
+        ensures over { IfErr result (IsOver (Some (peaks_of self.old)) (use_with (paged_meaning self.old) None (rec_of r.now))) }
         ensures reserved { reserved_of self.old ≤ reserved_of self.new }
         ensures rises { OnOk result (Rises (Some (peaks_of self.old)) (Some (peaks_of self.new)) (in_use (paged_meaning self.new))) }
         ensures rises_err { OnErr result (RisesTo (Some (peaks_of self.old)) (Some (peaks_of self.new)) (use_with (paged_meaning self.old) None (rec_of r.now))) }

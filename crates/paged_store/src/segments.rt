@@ -78,6 +78,7 @@ impl SegStore for PagedStore {
     }
 
     fn push_val(&mut self, k: u8, a: Addr, v: Value) -> Result<(), StoreFault> {
+        self.is_known();
         if has_room(&self.pages, k, a.0, 1) {
             self.add_value(k, a, v)?;
             Ok(())
@@ -92,6 +93,7 @@ impl SegStore for PagedStore {
     }
 
     fn push_pair(&mut self, k: u8, d: Addr, key: Value, v: Value) -> Result<(), StoreFault> {
+        self.is_known();
         if has_room(&self.pages, k, d.0, 2) {
             self.add_pair(k, d, key, v)?;
             Ok(())

@@ -1,5 +1,5 @@
 //! A store of records in words.
-ghost use Rattle.std.specs.Prelude.{◌≡◌, ℕ, ◌*◌, ◌<◌, ◌≤◌, false, [], is_some, length, slice_get, Some, OnOk, OnErr, IfOk};
+ghost use Rattle.std.specs.Prelude.{◌≡◌, ℕ, ◌*◌, ◌<◌, ◌≤◌, false, [], is_some, length, slice_get, Some, IsOk, OnOk, OnErr, IfOk};
 ghost use Rattle.py_data.specs.Heap.{Has};
 ghost use Rattle.seg_store.specs.Meaning.{sees, holds};
 ghost use Rattle.seg_store.specs.Store.{NoOther, IsHolder, IsStore, IsEmpty};
@@ -104,10 +104,11 @@ impl PagedStore {
         self.marks.begin(k);
     }
 
-    /// A segment looks at a record.
+    /// A segment looks at a record. It takes no memory.
     pub fn note_look(&mut self, k: u8, a: Addr) -> Result<(), NoMemory>
         requires segment { k < (paged_meaning self.old).segments }
         requires there { Has (sees (paged_meaning self.old) k) a.0 }
+        ensures done { IsOk result }
         ensures ok { OnOk result (paged_meaning self.new ≡ after_mark k a.0 (paged_meaning self.old)) }
         ensures err { OnErr result (paged_meaning self.new ≡ paged_meaning self.old) }
         ensures reserved { reserved_of self.new ≡ reserved_of self.old }

@@ -10,3 +10,4 @@ pub mod Parts
 pub mod Stores
 pub mod Knowing
 pub mod Placing
+pub mod WordSums

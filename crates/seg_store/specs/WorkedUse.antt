@@ -1,12 +1,16 @@
 -- The extents that are in use in a store, worked by hand. States `docs/HEAP.md`, "Extents".
-use Rattle.std.specs.Prelude.{◌≡◌, ℕ, cond, eqb, [], ◌∷◌, refl, Some, None}
-use Rattle.std.proofs.Common.{arith}
-use Rattle.py_base.specs.declared.kind.Kind.TheVariants.{Cell}
+use Rattle.std.specs.Prelude.{◌≡◌, ◌≢◌, ℕ, ◌+◌, ◌^◌, ◌<◌, ◌≤◌, cond, eqb, [], ◌∷◌, refl, Some, None}
+use Rattle.std.proofs.Common.{inl, inr, subst, arith}
+use Rattle.std.proofs.Math.Pow.{pow-lt}
+use Rattle.std.proofs.lemmas.Bool.{cases_lt}
+use Rattle.std.proofs.lemmas.Bool.Decides.{eqb_tells}
+use Rattle.py_base.specs.declared.kind.Kind.TheVariants.{Cell, Tuple}
 use Rattle.py_data.specs.Heap.{Rec, Heap, new_rec, no_records, put_at, room_of}
 use Rattle.seg_store.specs.Meaning.{Part, Meaning, no_part}
-use Rattle.seg_store.specs.Extents.{class_holding, extents, words_in}
+use Rattle.seg_store.specs.declared.store.StoreFault.TheVariants.{Full, OutOfMemory}
+use Rattle.seg_store.specs.Extents.{class_holding, extents, one_if, words_in}
 use Rattle.seg_store.specs.Sums.{sum_below}
-use Rattle.seg_store.specs.Telling.{in_use, use_with, Rises, RisesTo, IsTelling}
+use Rattle.seg_store.specs.Telling.{in_use, use_with, words_with, Rises, RisesTo, Fits, IsOver, IsTelling}
 use Rattle.seg_store.specs.Worked.{nones, a_list}
 
 abbrev a_cell : Rec
@@ -106,3 +110,96 @@ none_ceases x = x
 
 none_begins : RisesTo None (Some (λ c. 0)) (λ c. 0) → ⊥
 none_begins x = x
+
+-- ---- a full heap
+
+abbrev a_tuple : ℕ → Rec
+a_tuple n = new_rec Tuple (nones n) []
+
+-- the List, and Tuples of 2, 64 and 256 values, in a store of 2,048 words
+abbrev full_store : Meaning
+full_store = record {
+  image = put_at (put_at (put_at (put_at no_records 1 (a_tuple 2)) 4 (a_list 256 256 0)) 6 (a_tuple 64)) 9 (a_tuple 256);
+  part = λ k. no_part;
+  segments = 2;
+  limit = 2_048;
+}
+
+-- two words, 8, 1,026, 132 and 516
+full_words : IsTelling 1_684 full_store (in_use full_store)
+unfolding in_use sum_below class_holding extents words_in room_of
+full_words = record { within = λ c l. omega arith; words = refl }
+
+-- The next body of the List has 1,024 words, and none of its class was in use before: with it 2,708 words would be taken.
+next_words : words_with (in_use full_store) (use_with full_store (Some (a_list 256 256 0)) grown) ≡ 2_708
+unfolding in_use sum_below class_holding extents words_in room_of
+next_words = refl
+
+unused : in_use full_store 10 ≡ 0
+unfolding in_use sum_below class_holding extents room_of
+unused = refl
+
+would_use : use_with full_store (Some (a_list 256 256 0)) grown 10 ≡ 1
+unfolding in_use sum_below class_holding extents room_of
+would_use = refl
+
+next_over : IsOver (Some (in_use full_store)) (use_with full_store (Some (a_list 256 256 0)) grown)
+    (Full 1_684 1_024 2_048)
+next_over = record {
+  class = 10;
+  low = omega arith;
+  high = omega arith;
+  words = refl;
+  more = let u = unused in let w = would_use in omega arith;
+  over = let e = next_words in omega arith;
+}
+
+-- no extent of another class is needed
+used_before : in_use full_store 9 ≡ 2
+unfolding in_use sum_below class_holding extents room_of
+used_before = refl
+
+used_then : use_with full_store (Some (a_list 256 256 0)) grown 9 ≡ 2
+unfolding in_use sum_below class_holding extents room_of
+used_then = refl
+
+other_class : IsOver (Some (in_use full_store)) (use_with full_store (Some (a_list 256 256 0)) grown)
+    (Full 1_684 512 2_048) → ⊥
+other_class o = let e = o.words in elim (eqb_tells o.class 9) [
+  | inl y ↦
+      let more : in_use full_store 9 < use_with full_store (Some (a_list 256 256 0)) grown 9 =
+      subst (λ c. in_use full_store c < use_with full_store (Some (a_list 256 256 0)) grown c) y.1 o.more in
+      let u = used_before in
+      let w = used_then in
+      omega arith
+  | inr n ↦ elim (cases_lt o.class 9) [
+    | inl l ↦ let p : 2 ^ o.class < 512 = pow-lt l in omega arith
+    | inr l ↦ let m = n.1 in let p : 512 < 2 ^ o.class = pow-lt (other_above o.class l m) in omega arith
+  ]
+]
+  where
+    other_above : (c : ℕ) → 9 ≤ c → c ≢ 9 → 9 < c
+    other_above c l m = grind arith
+
+-- a Cell fits
+cell_words : words_with (in_use full_store) (use_with full_store None a_cell) ≡ 1_690
+unfolding in_use sum_below class_holding extents words_in room_of
+cell_words = refl
+
+cell_fits : Fits (Some (in_use full_store)) (use_with full_store None a_cell) 2_048
+cell_fits = let e = cell_words in omega arith
+
+-- Where an extent of the class was in use before, the next body fits, though no word is left: that extent was given back.
+abbrev one_spare : ℕ → ℕ
+one_spare c = in_use full_store c + one_if (eqb c 10)
+
+spare_words : words_with one_spare (use_with full_store (Some (a_list 256 256 0)) grown) ≡ 2_708
+unfolding in_use sum_below class_holding extents words_in room_of
+spare_words = refl
+
+spare_serves : Fits (Some one_spare) (use_with full_store (Some (a_list 256 256 0)) grown) 2_708
+spare_serves = let e = spare_words in omega arith
+
+-- of want of memory nothing is said
+memory_free : IsOver (Some (in_use full_store)) (use_with full_store None a_cell) OutOfMemory
+memory_free = tt

@@ -1,12 +1,15 @@
-//! Laws of what a segment sees, and of what a push wants, as contracts: a call of this function does nothing, and gives its caller's proof the facts of
-//! its clauses.
+//! Laws of what a segment sees, of what a push wants, and of what fits, as contracts: a call of such a function does
+//! nothing, and gives its caller's proof the facts of its clauses.
 ghost use Rattle.std.specs.Prelude.{◌≡◌, ℕ, Some, length};
 ghost use Rattle.py_base.specs.declared.kind.Kind.TheVariants.{List as ListKind};
 ghost use Rattle.py_data.specs.declared.value.Value.{Value};
 ghost use Rattle.py_data.specs.Heap.{Rec, with_push};
+ghost use Rattle.seg_store.specs.declared.store.StoreFault.TheVariants.{Full};
 ghost use Rattle.seg_store.specs.Extents.{Wants};
 ghost use Rattle.seg_store.specs.Meaning.{Part, Meaning};
 ghost use Rattle.seg_store.specs.Laws.{PartSet, LockLaw, ChangeShows, MakeShows, StepShows, EndShows};
+ghost use Rattle.seg_store.specs.Store.{IsStore};
+ghost use Rattle.seg_store.specs.Telling.{in_use, Rises, Fits, IsOver, IsTelling};
 
 /// What a segment sees and holds after each call of a store.
 pub fn sees_law()
@@ -21,4 +24,14 @@ pub fn sees_law()
 /// A List wants an extent for a value more only where its room is full.
 pub fn wants_law()
     ensures { (r : Rec) (v : Value) (n : ℕ) → r.kind ≡ ListKind → Wants (Some r) (with_push v r) n → length r.values ≡ r.room }
+{}
+
+/// Where a store tells its extents, the heap is full exactly for the calls that don't fit. The words with the peaks that a
+/// call leaves are within the limit, and a call that is refused since the heap is full doesn't fit (`over` of the calls),
+/// so it is none that is done (`fits`).
+pub fn fits_law()
+    ensures left { (reserved : ℕ) (m : Meaning) (f g : ℕ → ℕ) → IsStore reserved m → IsTelling reserved m g
+        → Rises (Some f) (Some g) (in_use m) → Fits (Some f) (in_use m) m.limit }
+    ensures apart { (f now : ℕ → ℕ) (reserved need limit : ℕ) → IsOver (Some f) now (Full reserved need limit)
+        → Fits (Some f) now limit → ⊥ }
 {}

@@ -9,7 +9,7 @@ mod space;
 mod store;
 mod table;
 
-pub use laws::{sees_law, wants_law};
+pub use laws::{fits_law, sees_law, wants_law};
 pub use looks::Looks;
 pub use plain::PlainStore;
 pub use store::{SegStore, StoreFault};

@@ -9,7 +9,7 @@ ghost use Rattle.py_data.specs.Made.{rec_of};
 ghost use Rattle.seg_store.specs.declared.store.StoreFault.TheVariants.{OutOfMemory};
 ghost use Rattle.seg_store.specs.Asking.{AsksFor};
 ghost use Rattle.seg_store.specs.Meaning.{Meaning, sees, holds};
-ghost use Rattle.seg_store.specs.Telling.{in_use, use_with, Rises, RisesTo, IsTelling};
+ghost use Rattle.seg_store.specs.Telling.{in_use, use_with, Rises, RisesTo, Fits, IsOver, IsTelling};
 ghost use Rattle.seg_store.specs.Calls.{after_begin, after_mark, after_lock, after_change, after_make, after_open, after_undo, after_publish, after_drop};
 ghost use Rattle.seg_store.specs.Store.{HasPlace, HasBytes, CanFind, CanChange, IsFull, NoOther, IsHolder, IsFree, Refuses, IsStore};
 
@@ -169,7 +169,11 @@ pub trait SegStore: Peek + Drop {
         ensures ok { OnOk result (meaning self.new ≡ after_change k a.0 (after (Push v)) (meaning self.old)) }
         ensures err { OnErr result (meaning self.new ≡ meaning self.old) }
         ensures cause { IfErr result (Refuses (IsFull (sees (meaning self.old) k) a.0 (Push v)) (fills self.old) (reserved self.new) (meaning self.old).limit) }
+        ensures fits { OnOk result (Fits (peaks self.old) (use_with (meaning self.old) (sees (meaning self.old) k a.0)
+            (after (Push v) (at (sees (meaning self.old) k) a.0))) (meaning self.old).limit) }
         ensures asked { IfErr result (AsksFor (sees (meaning self.old) k a.0) (after (Push v) (at (sees (meaning self.old) k) a.0))) }
+        ensures over { IfErr result (IsOver (peaks self.old) (use_with (meaning self.old) (sees (meaning self.old) k a.0)
+            (after (Push v) (at (sees (meaning self.old) k) a.0)))) }
         ensures reserved { reserved self.old ≤ reserved self.new }
         ensures peaks { OnOk result (Rises (peaks self.old) (peaks self.new) (in_use (meaning self.new))) }
         ensures peaks_err { OnErr result (RisesTo (peaks self.old) (peaks self.new) (use_with (meaning self.old) (sees (meaning self.old) k a.0) (after (Push v) (at (sees (meaning self.old) k) a.0)))) }
@@ -195,7 +199,11 @@ pub trait SegStore: Peek + Drop {
         ensures ok { OnOk result (meaning self.new ≡ after_change k d.0 (after (Pair key v)) (meaning self.old)) }
         ensures err { OnErr result (meaning self.new ≡ meaning self.old) }
         ensures cause { IfErr result (Refuses (IsFull (sees (meaning self.old) k) d.0 (Pair key v)) (fills self.old) (reserved self.new) (meaning self.old).limit) }
+        ensures fits { OnOk result (Fits (peaks self.old) (use_with (meaning self.old) (sees (meaning self.old) k d.0)
+            (after (Pair key v) (at (sees (meaning self.old) k) d.0))) (meaning self.old).limit) }
         ensures asked { IfErr result (AsksFor (sees (meaning self.old) k d.0) (after (Pair key v) (at (sees (meaning self.old) k) d.0))) }
+        ensures over { IfErr result (IsOver (peaks self.old) (use_with (meaning self.old) (sees (meaning self.old) k d.0)
+            (after (Pair key v) (at (sees (meaning self.old) k) d.0)))) }
         ensures reserved { reserved self.old ≤ reserved self.new }
         ensures peaks { OnOk result (Rises (peaks self.old) (peaks self.new) (in_use (meaning self.new))) }
         ensures peaks_err { OnErr result (RisesTo (peaks self.old) (peaks self.new) (use_with (meaning self.old) (sees (meaning self.old) k d.0) (after (Pair key v) (at (sees (meaning self.old) k) d.0)))) }
@@ -222,7 +230,9 @@ pub trait SegStore: Peek + Drop {
         ensures ok { IfOk result (λ n. meaning self.new ≡ after_make k n.0 (rec_of r.now) (meaning self.old)) }
         ensures err { OnErr result (meaning self.new ≡ meaning self.old) }
         ensures cause { IfErr result (Refuses (Unit {0}) (fills self.old) (reserved self.new) (meaning self.old).limit) }
+        ensures fits { OnOk result (Fits (peaks self.old) (use_with (meaning self.old) None (rec_of r.now)) (meaning self.old).limit) }
         ensures asked { IfErr result (AsksFor None (rec_of r.now)) }
+        ensures over { IfErr result (IsOver (peaks self.old) (use_with (meaning self.old) None (rec_of r.now))) }
         ensures reserved { reserved self.old ≤ reserved self.new }
         ensures peaks { OnOk result (Rises (peaks self.old) (peaks self.new) (in_use (meaning self.new))) }
         ensures peaks_err { OnErr result (RisesTo (peaks self.old) (peaks self.new) (use_with (meaning self.old) None (rec_of r.now))) };

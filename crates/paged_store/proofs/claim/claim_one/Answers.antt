@@ -1,6 +1,6 @@
 use Rattle.std.proofs.Common.{arith}
 use Rattle.page_table.specs.Lists.{table_of}
-use Rattle.paged_store.proofs.ClaimLemmas.{claimed_one, ends_within, grows_by}
+use Rattle.paged_store.proofs.ClaimLemmas.{claimed_one, denied_one, ends_within, grows_by}
 use Rattle.paged_store.proofs.PartLemmas.{size_of_none}
 use Rattle.paged_store.proofs.RiseLemmas.{rises_one}
 use Rattle.paged_store.proofs.claim.claim_one.Goals as goal
@@ -19,6 +19,11 @@ returns-else-class-eq0-clause-within c =
 
 pub returns-else-class-eq0-clause-most : goal.returns-else-class-eq0-clause-most
 returns-else-class-eq0-clause-most c = grows_by c.args.class _ _ c.reserve.result (omega (arith, c.if-class-eq0.false))
+    c.reserve.ensures.extent
+
+pub returns-else-class-eq0-clause-cause : goal.returns-else-class-eq0-clause-cause
+returns-else-class-eq0-clause-cause c = denied_one c.args.class (table_of c.args.pages.now)
+    (table_of c.reserve.new.self) c.reserve.result (omega (arith, c.if-class-eq0.false)) c.requires
     c.reserve.ensures.extent
 
 pub returns-else-class-eq0-clause-rises : goal.returns-else-class-eq0-clause-rises

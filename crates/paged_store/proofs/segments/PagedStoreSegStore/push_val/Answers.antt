@@ -3,6 +3,7 @@ use Rattle.py_data.specs.declared.change.Change.TheVariants.{Push}
 use Rattle.seg_store.proofs.Stores.{told}
 use Rattle.paged_store.specs.Stores.{paged_of, peaks_of}
 use Rattle.paged_store.specs.Words.{body_size, count_by}
+use Rattle.paged_store.proofs.FitStore.{list_fits}
 use Rattle.paged_store.proofs.GrowStore.{full_there, list_full}
 use Rattle.paged_store.proofs.PeakLemmas.{still_rises, still_rises_to}
 use Rattle.paged_store.proofs.StoreChanges.{words_of, readable, list_rooms}
@@ -33,3 +34,11 @@ returns-else-has_room-clause-roomy c = λ roomy.
     c.has_room.ensures in
     absurd (roomy (full_there s c.args.k c.args.a.0 c.requires.segment (Push c.args.v) c.requires.there
     (list_full s c.args.k c.args.a.0 c.requires.segment c.requires.held c.args.v c.requires.there small)))
+
+pub returns-in_ok-add_value-clause-fits : goal.returns-in_ok-add_value-clause-fits
+returns-in_ok-add_value-clause-fits c =
+    let s = c.args.self.now in
+    let size = body_size (words_of s c.args.k) c.args.a.0 in
+    let wanted = 2 * (count_by (words_of s c.args.k) c.args.a.0 + 1) in
+    list_fits s c.args.k c.args.a.0 c.requires.segment c.is_known.ensures.store c.is_known.ensures.told c.args.v
+    c.requires.there (subst (λ b. MatchBool b (wanted ≤ size) (size < wanted)) c.if-has_room.true c.has_room.ensures)

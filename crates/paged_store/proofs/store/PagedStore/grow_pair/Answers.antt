@@ -5,8 +5,8 @@ use Rattle.seg_store.proofs.Stores.{told}
 use Rattle.page_table.specs.Lists.{table_of}
 use Rattle.paged_store.proofs.StoreCalls.{segment_in}
 use Rattle.paged_store.proofs.StoreEnds.{table_segment}
-use Rattle.paged_store.proofs.GrowStore.{keeps, dict_grows, dict_refuses, dict_asks, ungrown_stands, dict_gains, grow_refused}
-use Rattle.paged_store.proofs.GrowPair.{can_index, is_blank, dict_stands, dict_rises}
+use Rattle.paged_store.proofs.GrowStore.{keeps, dict_grows, dict_refuses, dict_asks, ungrown_stands, dict_gains, grow_refused, grow_over}
+use Rattle.paged_store.proofs.GrowPair.{can_index, is_blank, dict_stands, dict_rises, dict_fits}
 use Rattle.paged_store.proofs.store.PagedStore.grow_pair.Goals as goal
 
 pub index_mut-draft-requires : goal.index_mut-draft-requires
@@ -72,6 +72,14 @@ returns-in_err-grow-clause-asked c =
     (table_of c.grow.new.pages) _ c.in_err-grow.ensures.cause
     c.args.key c.args.v c.requires.there c.requires.full)
 
+pub returns-in_err-grow-clause-over : goal.returns-in_err-grow-clause-over
+returns-in_err-grow-clause-over c =
+    let p = err_from_is_err_and c.from_residual.result c.from_residual.ensures.1 in
+    rw (p.1, p.2) (grow_over c.args.self.now c.args.k c.args.d.0 c.requires.segment (Pair c.args.key c.args.v)
+    c.requires.there (table_of c.grow.new.pages) _
+    (dict_gains c.args.self.now c.args.k c.args.d.0 c.requires.segment c.requires.held c.args.key c.args.v
+    c.requires.there c.requires.full) c.grow.ensures.filled c.grow.ensures.rises c.in_err-grow.ensures.cause)
+
 pub returns-clause-ok : goal.returns-clause-ok
 returns-clause-ok c = (dict_stands c.args.self.now c.args.k c.args.d.0 c.requires.segment c.requires.held
     c.index_mut-draft.result.now
@@ -96,3 +104,14 @@ returns-clause-rises c = dict_rises c.args.self.now c.args.k c.args.d.0 c.requir
     c.index_mut-draft.ensures.value c.grow.new.draft c.grow.new.pages c.grow.ensures.most c.args.key c.args.v
     c.requires.there c.requires.full c.known_value.ensures c.known_value-2.ensures c.in_ok-grow.ensures.ok
     c.fill_index.new.pages c.fill_index.ensures.puts c.fill_index.ensures.index)
+
+pub returns-clause-fits : goal.returns-clause-fits
+returns-clause-fits c = dict_fits c.args.self.now c.args.k c.args.d.0 c.requires.segment c.requires.held
+    c.index_mut-draft.result.now c.index_mut-draft.ensures.value c.grow.new.draft c.grow.new.pages c.grow.ensures.most
+    c.args.key c.args.v c.requires.there c.requires.full c.known_value.ensures c.known_value-2.ensures
+    c.in_ok-grow.ensures.ok c.fill_index.new.pages c.fill_index.ensures.puts _ c.grow.ensures.rises
+    (dict_stands c.args.self.now c.args.k c.args.d.0 c.requires.segment c.requires.held
+    c.index_mut-draft.result.now
+    c.index_mut-draft.ensures.value c.grow.new.draft c.grow.new.pages c.grow.ensures.most c.args.key c.args.v
+    c.requires.there c.requires.full c.known_value.ensures c.known_value-2.ensures c.in_ok-grow.ensures.ok
+    c.fill_index.new.pages c.fill_index.ensures.puts c.fill_index.ensures.index) c.grow.ensures.filled

@@ -5,7 +5,7 @@ use Rattle.seg_store.proofs.Stores.{either, told}
 use Rattle.page_table.specs.Lists.{table_of}
 use Rattle.paged_store.proofs.StoreCalls.{segment_in}
 use Rattle.paged_store.proofs.StoreEnds.{table_segment}
-use Rattle.paged_store.proofs.GrowStore.{keeps, list_grows, list_filled, list_stands, list_refuses, list_asks, ungrown_stands, list_gains, grow_refused, grew_rises}
+use Rattle.paged_store.proofs.GrowStore.{keeps, list_grows, list_filled, list_stands, list_refuses, list_asks, ungrown_stands, list_gains, grow_refused, grow_over, grew_rises, grew_fits}
 use Rattle.paged_store.proofs.store.PagedStore.grow_value.Goals as goal
 
 pub index_mut-draft-requires : goal.index_mut-draft-requires
@@ -54,6 +54,14 @@ returns-in_err-grow-clause-asked c =
     (table_of c.grow.new.pages) _ c.in_err-grow.ensures.cause
     c.args.v c.requires.there c.requires.full)
 
+pub returns-in_err-grow-clause-over : goal.returns-in_err-grow-clause-over
+returns-in_err-grow-clause-over c =
+    let p = err_from_is_err_and c.from_residual.result c.from_residual.ensures.1 in
+    rw (p.1, p.2) (grow_over c.args.self.now c.args.k c.args.a.0 c.requires.segment (Push c.args.v) c.requires.there
+    (table_of c.grow.new.pages) _
+    (list_gains c.args.self.now c.args.k c.args.a.0 c.requires.segment c.requires.held c.args.v c.requires.there
+    c.requires.full) c.grow.ensures.filled c.grow.ensures.rises c.in_err-grow.ensures.cause)
+
 pub returns-clause-ok : goal.returns-clause-ok
 returns-clause-ok c = (list_stands c.args.self.now c.args.k c.args.a.0 c.requires.segment c.requires.held
     c.index_mut-draft.result.now
@@ -78,3 +86,17 @@ returns-clause-rises c = grew_rises c.args.self.now c.args.k c.args.a.0 c.requir
     c.index_mut-draft.result.now
     c.index_mut-draft.ensures.value c.grow.new.draft c.grow.new.pages c.grow.ensures.most c.args.v c.requires.there
     c.requires.full c.known_value.ensures c.in_ok-grow.ensures.ok)
+
+pub returns-clause-fits : goal.returns-clause-fits
+returns-clause-fits c = grew_fits c.args.self.now c.args.k c.args.a.0 c.requires.segment c.requires.held
+    c.index_mut-draft.result.now c.index_mut-draft.ensures.value c.grow.new.draft c.grow.new.pages c.grow.ensures.most
+    (c.args.v ∷ []) (Push c.args.v) _ c.requires.there
+    (list_gains c.args.self.now c.args.k c.args.a.0 c.requires.segment c.requires.held c.args.v c.requires.there
+    c.requires.full)
+    (list_filled c.args.self.now c.args.k c.args.a.0 c.requires.segment c.requires.held c.index_mut-draft.result.now
+    c.index_mut-draft.ensures.value c.grow.new.draft c.grow.new.pages c.grow.ensures.most c.args.v
+    c.in_ok-grow.ensures.ok) c.grow.ensures.rises
+    (list_stands c.args.self.now c.args.k c.args.a.0 c.requires.segment c.requires.held
+    c.index_mut-draft.result.now
+    c.index_mut-draft.ensures.value c.grow.new.draft c.grow.new.pages c.grow.ensures.most c.args.v c.requires.there
+    c.requires.full c.known_value.ensures c.in_ok-grow.ensures.ok) c.grow.ensures.filled

@@ -11,7 +11,7 @@ use Rattle.paged_store.specs.Stores.{paged_meaning}
 use Rattle.paged_store.specs.inner.Making.{FitsBody}
 use Rattle.paged_store.proofs.StoreCalls.{segment_in, segment_marks, free_granule}
 use Rattle.paged_store.proofs.StoreEnds.{table_segment}
-use Rattle.paged_store.proofs.MakeStore.{make_refused, placed_rises, shape_one, made_short, made_body, make_refuses, make_asks, untaken_stands, placed_free, placed_can, placed_blank, placed_within, placed_stands}
+use Rattle.paged_store.proofs.MakeStore.{make_refused, make_over, placed_rises, placed_fits, shape_one, made_short, made_body, make_refuses, make_asks, untaken_stands, placed_free, placed_can, placed_blank, placed_within, placed_stands}
 use Rattle.paged_store.proofs.store.PagedStore.make_record.Goals as goal
 
 -- a record of its kind's shape fits the body that it is made with
@@ -54,6 +54,12 @@ returns-in_err-a-clause-asked c =
     let p = err_from_is_err_and c.from_residual.result c.from_residual.ensures.1 in
     rw (p.1, p.2) (make_asks c.args.r.now (table_of c.args.self.now.pages) (table_of c.make.new.pages) _
     c.in_err-a.ensures.cause)
+
+pub returns-in_err-a-clause-over : goal.returns-in_err-a-clause-over
+returns-in_err-a-clause-over c =
+    let p = err_from_is_err_and c.from_residual.result c.from_residual.ensures.1 in
+    rw (p.1, p.2) (make_over c.args.self.now (table_of c.make.new.pages) c.args.r.now _ c.make.ensures.filled
+    c.make.ensures.rises c.in_err-a.ensures.cause)
 
 pub index_made-requires-clause-can : goal.index_made-requires-clause-can
 index_made-requires-clause-can c = placed_can c.args.self.now c.args.k c.requires.segment
@@ -119,6 +125,20 @@ returns-clause-rises c = placed_rises c.args.self.now c.args.k c.requires.segmen
     c.in_ok-a.a.0 (fits_body c.args.self.now c.args.k c.args.r.now c.requires.shape c.requires.values c.requires.bytes)
     c.in_ok-a.ensures.ok c.requires.values c.requires.bytes c.requires.shape c.known_record.ensures
     c.index_made.new.pages c.index_made.ensures.puts c.lock.new.self c.make.ensures.rises
+    (placed_stands c.args.self.now c.args.k c.requires.segment c.index_mut-draft.result.now
+    c.index_mut-draft.ensures.value c.make.new.draft c.make.new.pages c.args.r.now
+    c.in_ok-a.a.0 (fits_body c.args.self.now c.args.k c.args.r.now c.requires.shape c.requires.values c.requires.bytes)
+    c.in_ok-a.ensures.ok c.requires.values c.requires.bytes c.requires.shape c.known_record.ensures
+    c.index_made.new.pages c.index_made.ensures.puts c.make.ensures.within c.lock.new.self c.lock.ensures.sizes
+    c.lock.ensures.marks c.lock.ensures.holders c.index_made.ensures.index).sound.fine
+
+pub returns-clause-fits : goal.returns-clause-fits
+returns-clause-fits c = placed_fits c.args.self.now c.args.k c.requires.segment c.index_mut-draft.result.now
+    c.index_mut-draft.ensures.value c.make.new.draft c.make.new.pages c.args.r.now
+    c.in_ok-a.a.0 (fits_body c.args.self.now c.args.k c.args.r.now c.requires.shape c.requires.values c.requires.bytes)
+    c.in_ok-a.ensures.ok c.requires.values c.requires.bytes c.requires.shape c.known_record.ensures
+    c.index_made.new.pages c.index_made.ensures.puts c.lock.new.self c.make.ensures.rises c.make.ensures.within
+    c.make.ensures.filled
     (placed_stands c.args.self.now c.args.k c.requires.segment c.index_mut-draft.result.now
     c.index_mut-draft.ensures.value c.make.new.draft c.make.new.pages c.args.r.now
     c.in_ok-a.a.0 (fits_body c.args.self.now c.args.k c.args.r.now c.requires.shape c.requires.values c.requires.bytes)
