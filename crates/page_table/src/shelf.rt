@@ -22,7 +22,8 @@ impl Model for Shelf {
 
     ghost view = { λ s. record { spare = s.places.items; total = s.total } };
 
-    ghost invariant = { λ s. (length s.places.items ≤ s.total) × (s.total ≤ vec_capacity s.places) × (s.total < 2 ^ 40) };
+    ghost invariant = { λ s. (length s.places.items ≤ s.total) × (s.total ≤ vec_capacity s.places)
+        × (s.total < 2 ^ 40) };
 }
 
 impl Shelf {

@@ -45,7 +45,8 @@ impl PagedStore {
         requires segment { k < (paged_meaning self.old).segments }
         requires held { holds ((paged_meaning self.old).part k) a.0 ≡ true }
         requires there { CanChange (sees (paged_meaning self.old) k) a.0 (Set i v) }
-        ensures ok { OnOk result (paged_meaning self.new ≡ after_change k a.0 (after (Set i v)) (paged_meaning self.old)) }
+        ensures ok { OnOk result (paged_meaning self.new ≡ after_change k a.0 (after (Set i v))
+            (paged_meaning self.old)) }
         ensures err { OnErr result (paged_meaning self.new ≡ paged_meaning self.old) }
         ensures reserved { reserved_of self.new ≡ reserved_of self.old }
         ensures peaks { peaks_of self.new ≡ peaks_of self.old }
@@ -62,7 +63,8 @@ impl PagedStore {
         requires held { holds ((paged_meaning self.old).part k) a.0 ≡ true }
         requires there { CanChange (sees (paged_meaning self.old) k) a.0 (Push v) }
         requires room { let w = (table_of self.old.pages).word k in 2 * (count_by w a.0 + 1) ≤ body_size w a.0 }
-        ensures ok { OnOk result (paged_meaning self.new ≡ after_change k a.0 (after (Push v)) (paged_meaning self.old)) }
+        ensures ok { OnOk result (paged_meaning self.new ≡ after_change k a.0 (after (Push v))
+            (paged_meaning self.old)) }
         ensures err { OnErr result (paged_meaning self.new ≡ paged_meaning self.old) }
         ensures reserved { reserved_of self.new ≡ reserved_of self.old }
         ensures peaks { peaks_of self.new ≡ peaks_of self.old }
@@ -73,13 +75,15 @@ impl PagedStore {
         Ok(())
     }
 
-    /// Adds a key that isn't there, and its value, at the end of a Dict that a segment holds, whose body has room for them.
+    /// Adds a key that isn't there, and its value, at the end of a Dict that a segment holds, whose body has room for
+    /// them.
     pub fn add_pair(&mut self, k: u8, d: Addr, key: Value, v: Value) -> Result<(), NoMemory>
         requires segment { k < (paged_meaning self.old).segments }
         requires held { holds ((paged_meaning self.old).part k) d.0 ≡ true }
         requires there { CanChange (sees (paged_meaning self.old) k) d.0 (Pair key v) }
         requires room { let w = (table_of self.old.pages).word k in 2 * (count_by w d.0 + 2) ≤ body_size w d.0 }
-        ensures ok { OnOk result (paged_meaning self.new ≡ after_change k d.0 (after (Pair key v)) (paged_meaning self.old)) }
+        ensures ok { OnOk result (paged_meaning self.new ≡ after_change k d.0 (after (Pair key v))
+            (paged_meaning self.old)) }
         ensures err { OnErr result (paged_meaning self.new ≡ paged_meaning self.old) }
         ensures reserved { reserved_of self.new ≡ reserved_of self.old }
         ensures peaks { peaks_of self.new ≡ peaks_of self.old }
@@ -96,7 +100,8 @@ impl PagedStore {
         requires segment { k < (paged_meaning self.old).segments }
         requires held { holds ((paged_meaning self.old).part k) a.0 ≡ true }
         requires there { CanChange (sees (paged_meaning self.old) k) a.0 (Cut n) }
-        ensures ok { OnOk result (paged_meaning self.new ≡ after_change k a.0 (after (Cut n)) (paged_meaning self.old)) }
+        ensures ok { OnOk result (paged_meaning self.new ≡ after_change k a.0 (after (Cut n))
+            (paged_meaning self.old)) }
         ensures err { OnErr result (paged_meaning self.new ≡ paged_meaning self.old) }
         ensures reserved { reserved_of self.new ≡ reserved_of self.old }
         ensures peaks { peaks_of self.new ≡ peaks_of self.old }
@@ -112,7 +117,8 @@ impl PagedStore {
         requires segment { k < (paged_meaning self.old).segments }
         requires held { holds ((paged_meaning self.old).part k) d.0 ≡ true }
         requires there { CanChange (sees (paged_meaning self.old) k) d.0 (Unpair place) }
-        ensures ok { OnOk result (paged_meaning self.new ≡ after_change k d.0 (after (Unpair place)) (paged_meaning self.old)) }
+        ensures ok { OnOk result (paged_meaning self.new ≡ after_change k d.0 (after (Unpair place))
+            (paged_meaning self.old)) }
         ensures err { OnErr result (paged_meaning self.new ≡ paged_meaning self.old) }
         ensures reserved { reserved_of self.new ≡ reserved_of self.old }
         ensures peaks { peaks_of self.new ≡ peaks_of self.old }
@@ -128,18 +134,25 @@ impl PagedStore {
         requires held { holds ((paged_meaning self.old).part k) a.0 ≡ true }
         requires there { CanChange (sees (paged_meaning self.old) k) a.0 (Push v) }
         requires full { let w = (table_of self.old.pages).word k in body_size w a.0 < 2 * (count_by w a.0 + 1) }
-        ensures ok { OnOk result (paged_meaning self.new ≡ after_change k a.0 (after (Push v)) (paged_meaning self.old)) }
+        ensures ok { OnOk result (paged_meaning self.new ≡ after_change k a.0 (after (Push v))
+            (paged_meaning self.old)) }
         ensures err { OnErr result (paged_meaning self.new ≡ paged_meaning self.old) }
-        ensures cause { IfErr result (Refuses (IsFull (sees (paged_meaning self.old) k) a.0 (Push v)) (Fills self.old) (reserved_of self.new) (paged_meaning self.old).limit) }
-        ensures asked { IfErr result (AsksFor (sees (paged_meaning self.old) k a.0) (after (Push v) (at (sees (paged_meaning self.old) k) a.0))) }
+        ensures cause { IfErr result (Refuses (IsFull (sees (paged_meaning self.old) k) a.0 (Push v)) (Fills self.old)
+            (reserved_of self.new) (paged_meaning self.old).limit) }
+        ensures asked { IfErr result (AsksFor (sees (paged_meaning self.old) k a.0)
+            (after (Push v) (at (sees (paged_meaning self.old) k) a.0))) }
         ensures fits { OnOk result (Fits (Some (peaks_of self.old)) (use_with (paged_meaning self.old)
             (sees (paged_meaning self.old) k a.0) (after (Push v) (at (sees (paged_meaning self.old) k) a.0)))
             (paged_meaning self.old).limit) }
         ensures over { IfErr result (IsOver (Some (peaks_of self.old)) (use_with (paged_meaning self.old)
             (sees (paged_meaning self.old) k a.0) (after (Push v) (at (sees (paged_meaning self.old) k) a.0)))) }
         ensures reserved { reserved_of self.old ≤ reserved_of self.new }
-        ensures rises { OnOk result (Rises (Some (peaks_of self.old)) (Some (peaks_of self.new)) (in_use (paged_meaning self.new))) }
-        ensures rises_err { OnErr result (RisesTo (Some (peaks_of self.old)) (Some (peaks_of self.new)) (use_with (paged_meaning self.old) (sees (paged_meaning self.old) k a.0) (after (Push v) (at (sees (paged_meaning self.old) k) a.0)))) }
+        ensures rises { OnOk result (Rises (Some (peaks_of self.old)) (Some (peaks_of self.new))
+            (in_use (paged_meaning self.new))) }
+        ensures rises_err { OnErr result
+            (RisesTo (Some (peaks_of self.old)) (Some (peaks_of self.new))
+            (use_with (paged_meaning self.old) (sees (paged_meaning self.old) k a.0)
+            (after (Push v) (at (sees (paged_meaning self.old) k) a.0)))) }
     {
         known_value(v);
         let draft = &mut self.drafts[k as usize];
@@ -147,24 +160,32 @@ impl PagedStore {
         Ok(())
     }
 
-    /// Adds a key that isn't there, and its value, at the end of a Dict that a segment holds, whose body has no room for them.
+    /// Adds a key that isn't there, and its value, at the end of a Dict that a segment holds, whose body has no room
+    /// for them.
     pub fn grow_pair(&mut self, k: u8, d: Addr, key: Value, v: Value) -> Result<(), StoreFault>
         requires segment { k < (paged_meaning self.old).segments }
         requires held { holds ((paged_meaning self.old).part k) d.0 ≡ true }
         requires there { CanChange (sees (paged_meaning self.old) k) d.0 (Pair key v) }
         requires full { let w = (table_of self.old.pages).word k in body_size w d.0 < 2 * (count_by w d.0 + 2) }
-        ensures ok { OnOk result (paged_meaning self.new ≡ after_change k d.0 (after (Pair key v)) (paged_meaning self.old)) }
+        ensures ok { OnOk result (paged_meaning self.new ≡ after_change k d.0 (after (Pair key v))
+            (paged_meaning self.old)) }
         ensures err { OnErr result (paged_meaning self.new ≡ paged_meaning self.old) }
-        ensures cause { IfErr result (Refuses (IsFull (sees (paged_meaning self.old) k) d.0 (Pair key v)) (Fills self.old) (reserved_of self.new) (paged_meaning self.old).limit) }
-        ensures asked { IfErr result (AsksFor (sees (paged_meaning self.old) k d.0) (after (Pair key v) (at (sees (paged_meaning self.old) k) d.0))) }
+        ensures cause { IfErr result (Refuses (IsFull (sees (paged_meaning self.old) k) d.0 (Pair key v))
+            (Fills self.old) (reserved_of self.new) (paged_meaning self.old).limit) }
+        ensures asked { IfErr result (AsksFor (sees (paged_meaning self.old) k d.0)
+            (after (Pair key v) (at (sees (paged_meaning self.old) k) d.0))) }
         ensures fits { OnOk result (Fits (Some (peaks_of self.old)) (use_with (paged_meaning self.old)
             (sees (paged_meaning self.old) k d.0) (after (Pair key v) (at (sees (paged_meaning self.old) k) d.0)))
             (paged_meaning self.old).limit) }
         ensures over { IfErr result (IsOver (Some (peaks_of self.old)) (use_with (paged_meaning self.old)
             (sees (paged_meaning self.old) k d.0) (after (Pair key v) (at (sees (paged_meaning self.old) k) d.0)))) }
         ensures reserved { reserved_of self.old ≤ reserved_of self.new }
-        ensures rises { OnOk result (Rises (Some (peaks_of self.old)) (Some (peaks_of self.new)) (in_use (paged_meaning self.new))) }
-        ensures rises_err { OnErr result (RisesTo (Some (peaks_of self.old)) (Some (peaks_of self.new)) (use_with (paged_meaning self.old) (sees (paged_meaning self.old) k d.0) (after (Pair key v) (at (sees (paged_meaning self.old) k) d.0)))) }
+        ensures rises { OnOk result (Rises (Some (peaks_of self.old)) (Some (peaks_of self.new))
+            (in_use (paged_meaning self.new))) }
+        ensures rises_err { OnErr result
+            (RisesTo (Some (peaks_of self.old)) (Some (peaks_of self.new))
+            (use_with (paged_meaning self.old) (sees (paged_meaning self.old) k d.0)
+            (after (Pair key v) (at (sees (paged_meaning self.old) k) d.0)))) }
     {
         known_value(key);
         known_value(v);

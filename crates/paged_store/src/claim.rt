@@ -43,9 +43,12 @@ pub fn return_one(pages: &mut Pages, class: u8, place: u32)
 fn claim_two(pages: &mut Pages, first: u8, second: u8) -> Result<(u32, u32), StoreFault>
     requires first { first ≤ 21 }
     requires second { second ≤ 21 }
-    ensures ok { IfOk result (λ p. Claims (extent_for first p.0 ++ extent_for second p.1) (table_of pages.old) (table_of pages.new)) }
-    ensures within { IfOk result (λ p. (p.0 + size_of first ≤ (table_of pages.new).reserved) × (p.1 + size_of second ≤ (table_of pages.new).reserved)) }
-    ensures most { IfOk result (λ p. (table_of pages.new).reserved ≤ (table_of pages.old).reserved + size_of first + size_of second) }
+    ensures ok { IfOk result (λ p. Claims (extent_for first p.0 ++ extent_for second p.1) (table_of pages.old)
+        (table_of pages.new)) }
+    ensures within { IfOk result (λ p. (p.0 + size_of first ≤ (table_of pages.new).reserved)
+        × (p.1 + size_of second ≤ (table_of pages.new).reserved)) }
+    ensures most { IfOk result (λ p. (table_of pages.new).reserved ≤ (table_of pages.old).reserved + size_of
+        first + size_of second) }
     ensures err { OnErr result (Claims [] (table_of pages.old) (table_of pages.new)) }
     ensures cause { IfErr result (Denies (first ∷ second ∷ []) (table_of pages.old) (table_of pages.new)) }
     ensures rises { RisesBy (first ∷ second ∷ []) (table_of pages.old) (table_of pages.new) }
@@ -61,8 +64,8 @@ fn claim_two(pages: &mut Pages, first: u8, second: u8) -> Result<(u32, u32), Sto
     }
 }
 
-/// Takes extents of three classes, for which it answers their places, or none. For class 0 no extent is taken, and the place
-/// is 0.
+/// Takes extents of three classes, for which it answers their places, or none. For class 0 no extent is taken, and
+/// the place is 0.
 pub fn claim(
     pages: &mut Pages,
     first: u8,
@@ -72,9 +75,13 @@ pub fn claim(
     requires first { first ≤ 21 }
     requires second { second ≤ 21 }
     requires third { third ≤ 21 }
-    ensures ok { IfOk result (λ p. Claims (extent_for first p.0 ++ extent_for second p.1 ++ extent_for third p.2) (table_of pages.old) (table_of pages.new)) }
-    ensures within { IfOk result (λ p. (p.0 + size_of first ≤ (table_of pages.new).reserved) × (p.1 + size_of second ≤ (table_of pages.new).reserved) × (p.2 + size_of third ≤ (table_of pages.new).reserved)) }
-    ensures most { IfOk result (λ p. (table_of pages.new).reserved ≤ (table_of pages.old).reserved + size_of first + size_of second + size_of third) }
+    ensures ok { IfOk result (λ p. Claims (extent_for first p.0 ++ extent_for second p.1 ++ extent_for third p.2)
+        (table_of pages.old) (table_of pages.new)) }
+    ensures within { IfOk result (λ p. (p.0 + size_of first ≤ (table_of pages.new).reserved)
+        × (p.1 + size_of second ≤ (table_of pages.new).reserved)
+        × (p.2 + size_of third ≤ (table_of pages.new).reserved)) }
+    ensures most { IfOk result (λ p. (table_of pages.new).reserved ≤ (table_of pages.old).reserved + size_of
+        first + size_of second + size_of third) }
     ensures err { OnErr result (Claims [] (table_of pages.old) (table_of pages.new)) }
     ensures cause { IfErr result (Denies (first ∷ second ∷ third ∷ []) (table_of pages.old) (table_of pages.new)) }
     ensures rises { RisesBy (first ∷ second ∷ third ∷ []) (table_of pages.old) (table_of pages.new) }

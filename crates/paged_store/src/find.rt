@@ -105,8 +105,8 @@ fn same(pages: &Pages, seen: Seen, x: Value, y: Value) -> bool
     }
 }
 
-/// The number, from 0, of the pair whose key is equal. It goes through the slots of the index, from the key's home to an
-/// empty one.
+/// The number, from 0, of the pair whose key is equal. It goes through the slots of the index, from the key's home to
+/// an empty one.
 pub fn find_key(pages: &Pages, seen: Seen, d: u32, key: Value) -> Option<usize>
     requires there { CanRead (table_of pages.now) seen d }
     requires kind { (record_seen (table_of pages.now) seen d).kind ≡ Dict }
@@ -116,8 +116,10 @@ pub fn find_key(pages: &Pages, seen: Seen, d: u32, key: Value) -> Option<usize>
         index_by w d + index_size w d ≤ (table_of pages.now).reserved }
     requires index { IsIndexed (words_seen (table_of pages.now) seen) d }
     requires pairs { ArePairs (heap_seen (table_of pages.now) seen) (record_seen (table_of pages.now) seen d).values }
-    requires differ { KeysDiffer (heap_seen (table_of pages.now) seen) (record_seen (table_of pages.now) seen d).values }
-    ensures found { result ≡ find (heap_seen (table_of pages.now) seen) (record_seen (table_of pages.now) seen d).values key }
+    requires differ { KeysDiffer (heap_seen (table_of pages.now) seen)
+        (record_seen (table_of pages.now) seen d).values }
+    ensures found { result ≡ find (heap_seen (table_of pages.now) seen)
+        (record_seen (table_of pages.now) seen d).values key }
     ensures within { IfSome result (λ i. 2 * i + 1 < length (record_seen (table_of pages.now) seen d).values) }
     ensures heap { (h : Heap)
         → KnowsKeys h (words_seen (table_of pages.now) seen) (record_seen (table_of pages.now) seen d).values key

@@ -78,12 +78,13 @@ fn values_place(pages: &Pages, k: u8, a: u32, words: u32) -> u32
     }
 }
 
-/// Copies the values of a record into a body of the next class, which stands at `body`, makes a Dict's index, which stands
-/// at `index`, empty, and adds values at its end. Where the record has no index, `index` is no place.
+/// Copies the values of a record into a body of the next class, which stands at `body`, makes a Dict's index, which
+/// stands at `index`, empty, and adds values at its end. Where the record has no index, `index` is no place.
 fn write_grown(pages: &mut Pages, k: u8, a: u32, body: u32, index: u32, vs: &[Value])
     requires segment { k < (table_of pages.old).segments }
     requires can { CanGrow k a body index (length vs.now) (table_of pages.old) }
-    ensures { table_of pages.new ≡ with_words k (grown_with ((table_of pages.old).word k) a body index vs.now) (table_of pages.old) }
+    ensures { table_of pages.new ≡ with_words k (grown_with ((table_of pages.old).word k) a body index vs.now)
+        (table_of pages.old) }
 {
     pages.known();
     let next = Header::of(pages.word(k, 2 * a)).next();

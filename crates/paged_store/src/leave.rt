@@ -48,7 +48,8 @@ fn pull(pages: &mut Pages, k: u8, d: u32, place: u32, n: usize, hole: usize, at:
     ensures puts { Puts k place n (table_of pages.old) (table_of pages.new) }
     ensures closing { let w = (table_of pages.old).word k in (p start j : ℕ) → start < n → j < n → at ≡ slot n start j
         → Closing (home_by w d) n (words_from w place) (pairs_by w d) p start hole j
-        → Closing (home_by w d) n (words_from ((table_of pages.new).word k) place) (pairs_by w d) p start result (j + 1) }
+        → Closing (home_by w d) n (words_from ((table_of pages.new).word k) place) (pairs_by w d) p start result
+        (j + 1) }
 {
     pages.known();
     let seen = Seen::Segment(k);

@@ -34,7 +34,8 @@ pub(crate) fn make(
     requires fits { FitsBody r.now }
     ensures ok { IfOk result (λ a. Places k a.0 r.now (desk pages.old draft.old) (desk pages.new draft.new)) }
     ensures err { OnErr result (Takes k [] (desk pages.old draft.old) (desk pages.new draft.new)) }
-    ensures cause { IfErr result (Denies (2 ∷ body_class r.now ∷ index_class r.now ∷ []) (table_of pages.old) (table_of pages.new)) }
+    ensures cause { IfErr result (Denies (2 ∷ body_class r.now ∷ index_class r.now ∷ []) (table_of pages.old)
+        (table_of pages.new)) }
     ensures rises { RisesBy (2 ∷ body_class r.now ∷ index_class r.now ∷ []) (table_of pages.old) (table_of pages.new) }
     ensures within { (table_of pages.new).reserved ≤ limit (table_of pages.new) }
     ensures filled { (table_of pages.new).reserved ≡ 2 + words_in (λ c. ((table_of pages.new).shelf c).total) }

@@ -77,16 +77,23 @@ impl PagedStore {
         requires values { length r.now.values ≤ LENGTH_LIMIT }
         requires bytes { length r.now.bytes ≤ LENGTH_LIMIT }
         ensures fresh { IfOk result (λ n. IsFree (paged_meaning self.old) n.0) }
-        ensures ok { IfOk result (λ n. paged_meaning self.new ≡ after_make k n.0 (rec_of r.now) (paged_meaning self.old)) }
+        ensures ok { IfOk result (λ n. paged_meaning self.new ≡ after_make k n.0 (rec_of r.now)
+            (paged_meaning self.old)) }
         ensures err { OnErr result (paged_meaning self.new ≡ paged_meaning self.old) }
-        ensures cause { IfErr result (Refuses (Unit {0}) (Fills self.old) (reserved_of self.new) (paged_meaning self.old).limit) }
-        ensures asked { IfErr result (AsksFor None (rec_of r.now)) }
-        ensures fits { OnOk result (Fits (Some (peaks_of self.old)) (use_with (paged_meaning self.old) None (rec_of r.now))
+        ensures cause { IfErr result (Refuses (Unit {0}) (Fills self.old) (reserved_of self.new)
             (paged_meaning self.old).limit) }
-        ensures over { IfErr result (IsOver (Some (peaks_of self.old)) (use_with (paged_meaning self.old) None (rec_of r.now))) }
+        ensures asked { IfErr result (AsksFor None (rec_of r.now)) }
+        ensures fits { OnOk result (Fits (Some (peaks_of self.old))
+            (use_with (paged_meaning self.old) None (rec_of r.now))
+            (paged_meaning self.old).limit) }
+        ensures over { IfErr result (IsOver (Some (peaks_of self.old))
+            (use_with (paged_meaning self.old) None (rec_of r.now))) }
         ensures reserved { reserved_of self.old ≤ reserved_of self.new }
-        ensures rises { OnOk result (Rises (Some (peaks_of self.old)) (Some (peaks_of self.new)) (in_use (paged_meaning self.new))) }
-        ensures rises_err { OnErr result (RisesTo (Some (peaks_of self.old)) (Some (peaks_of self.new)) (use_with (paged_meaning self.old) None (rec_of r.now))) }
+        ensures rises { OnOk result (Rises (Some (peaks_of self.old)) (Some (peaks_of self.new))
+            (in_use (paged_meaning self.new))) }
+        ensures rises_err { OnErr result
+            (RisesTo (Some (peaks_of self.old)) (Some (peaks_of self.new))
+            (use_with (paged_meaning self.old) None (rec_of r.now))) }
     {
         known_record(r);
         self.pages.known();

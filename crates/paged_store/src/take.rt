@@ -53,8 +53,8 @@ fn open_extents(pages: &mut Pages, k: u8, extents: &[Extent]) -> Result<(), NoMe
     Ok(())
 }
 
-/// Takes extents of three classes, for which it answers their places, or none of them. For class 0 no extent is taken, and
-/// the place is 0.
+/// Takes extents of three classes, for which it answers their places, or none of them. For class 0 no extent is
+/// taken, and the place is 0.
 pub(crate) fn take(
     pages: &mut Pages,
     draft: &mut Draft,
@@ -67,9 +67,13 @@ pub(crate) fn take(
     requires first { first ≤ 21 }
     requires second { second ≤ 21 }
     requires third { third ≤ 21 }
-    ensures ok { IfOk result (λ p. Takes k (extent_for first p.0 ++ extent_for second p.1 ++ extent_for third p.2) (desk pages.old draft.old) (desk pages.new draft.new)) }
-    ensures within { IfOk result (λ p. (p.0 + size_of first ≤ (table_of pages.new).reserved) × (p.1 + size_of second ≤ (table_of pages.new).reserved) × (p.2 + size_of third ≤ (table_of pages.new).reserved)) }
-    ensures most { IfOk result (λ p. (table_of pages.new).reserved ≤ (table_of pages.old).reserved + size_of first + size_of second + size_of third) }
+    ensures ok { IfOk result (λ p. Takes k (extent_for first p.0 ++ extent_for second p.1 ++ extent_for third p.2)
+        (desk pages.old draft.old) (desk pages.new draft.new)) }
+    ensures within { IfOk result (λ p. (p.0 + size_of first ≤ (table_of pages.new).reserved)
+        × (p.1 + size_of second ≤ (table_of pages.new).reserved)
+        × (p.2 + size_of third ≤ (table_of pages.new).reserved)) }
+    ensures most { IfOk result (λ p. (table_of pages.new).reserved ≤ (table_of pages.old).reserved + size_of
+        first + size_of second + size_of third) }
     ensures err { OnErr result (Takes k [] (desk pages.old draft.old) (desk pages.new draft.new)) }
     ensures cause { IfErr result (Denies (first ∷ second ∷ third ∷ []) (table_of pages.old) (table_of pages.new)) }
     ensures rises { RisesBy (first ∷ second ∷ third ∷ []) (table_of pages.old) (table_of pages.new) }

@@ -148,8 +148,8 @@ impl Header {
             + 16_777_216 * u64::from(self.first)
     }
 
-    /// The header of a record that is made: its body holds what it is made with, or has its first room, and a Dict has an
-    /// index of half as many words as its body.
+    /// The header of a record that is made: its body holds what it is made with, or has its first room, and a Dict
+    /// has an index of half as many words as its body.
     pub fn made(kind: Kind, n: usize) -> Header
         requires { n ≤ LENGTH_LIMIT }
         ensures kind { result.kind ≡ kind }

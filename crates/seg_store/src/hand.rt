@@ -164,7 +164,8 @@ impl Hand {
     pub fn publish(&mut self, image: &mut Vec<Option<Entry>>)
         requires { Reaches (part_of self.old).changes (length image.old.items) }
         ensures part { part_of self.new ≡ ended (part_of self.old) }
-        ensures image { image_in (slice_get image.new.items) ≡ overlay (image_in (slice_get image.old.items)) (part_of self.old).changes }
+        ensures image { image_in (slice_get image.new.items) ≡ overlay (image_in (slice_get image.old.items))
+            (part_of self.old).changes }
         ensures length { length image.new.items ≡ length image.old.items }
     {
         self.held.give(image);

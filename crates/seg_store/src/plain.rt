@@ -26,7 +26,8 @@ pub struct PlainStore {
     alloc: Global,
     image: Vec<Option<Entry>>,
     hands: Vec<Hand>,
-    ghost sound: { IsSound (meaning_in (slice_get image.items) (slice_get hands.items) (length hands.items)) (length image.items) },
+    ghost sound: { IsSound (meaning_in (slice_get image.items) (slice_get hands.items) (length hands.items))
+        (length image.items) },
 }
 
 impl PlainStore {

@@ -124,7 +124,8 @@ impl Space {
     /// Moves all records into an image, at their addresses. It takes no memory.
     pub fn give(&mut self, image: &mut Vec<Option<Entry>>)
         requires { Reaches (space_heap self.old) (length image.old.items) }
-        ensures image { image_in (slice_get image.new.items) ≡ overlay (image_in (slice_get image.old.items)) (space_heap self.old) }
+        ensures image { image_in (slice_get image.new.items) ≡ overlay (image_in (slice_get image.old.items))
+            (space_heap self.old) }
         ensures length { length image.new.items ≡ length image.old.items }
         ensures heap { space_heap self.new ≡ no_records }
         ensures base { space_base self.new ≡ no_records }

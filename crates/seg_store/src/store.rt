@@ -20,8 +20,8 @@ use thiserror::Error;
 /// Why a store refuses a change of a record.
 #[derive(Clone, Copy, Debug, Drop, Error, PartialEq, Eq)]
 pub enum StoreFault {
-    /// The heap has no room: `reserved + need > limit`, in words of 8 bytes. What is needed is one extent, so `need` is a
-    /// power of two.
+    /// The heap has no room: `reserved + need > limit`, in words of 8 bytes. What is needed is one extent, so `need`
+    /// is a power of two.
     #[error("the heap is full: {reserved} words reserved, {need} needed, limit {limit}")]
     Full {
         reserved: u64,
@@ -41,15 +41,15 @@ impl From<AllocError> for StoreFault {
     }
 }
 
-/// A heap of records that segments share: a committed image, which `Peek` reads, and for each segment what its transaction
-/// has in hand.
+/// A heap of records that segments share: a committed image, which `Peek` reads, and for each segment what its
+/// transaction has in hand.
 ///
-/// A segment sees the image with its own changes laid over it. It holds the records that it has locked or made, and changes
-/// those alone; no record is held by two segments.
+/// A segment sees the image with its own changes laid over it. It holds the records that it has locked or made, and
+/// changes those alone; no record is held by two segments.
 ///
-/// Contracts see a store as its meaning (`specs/Meaning.antt`). Each call that changes a store makes of the meaning what
-/// `specs/Calls.antt` says, which touches no other segment's part, and a call that is refused leaves the meaning as it was.
-/// Want of memory may come without a cause; the calls that answer no Result take no memory.
+/// Contracts see a store as its meaning (`specs/Meaning.antt`). Each call that changes a store makes of the meaning
+/// what `specs/Calls.antt` says, which touches no other segment's part, and a call that is refused leaves the meaning
+/// as it was. Want of memory may come without a cause; the calls that answer no Result take no memory.
 pub trait SegStore: Peek + Drop {
     /// The image, and what each segment has in hand.
     ghost meaning: { Self → Meaning };
@@ -57,8 +57,8 @@ pub trait SegStore: Peek + Drop {
     /// The end of the words taken so far.
     ghost reserved: { Self → ℕ };
 
-    /// From a store, a call may come to want so many words, the second number, that can't be had while the first number is
-    /// reserved.
+    /// From a store, a call may come to want so many words, the second number, that can't be had while the first
+    /// number is reserved.
     ghost fills: { Self → ℕ → ℕ → Type 0 };
 
     /// Where a store tells its extents: of each class, the most that were in use at once.
@@ -109,9 +109,9 @@ pub trait SegStore: Peek + Drop {
         requires there { HasPlace (sees (meaning self.now) k) a.0 i }
         ensures { result ≡ value_at (at (sees (meaning self.now) k) a.0).values i };
 
-    /// The room of a record that the segment sees, and the room that it had when it was made, in values: 0 and 0 for a record
-    /// that is no List and no Dict. No script can tell them. A copy of the record that is to run on as the record would
-    /// needs them.
+    /// The room of a record that the segment sees, and the room that it had when it was made, in values: 0 and 0 for
+    /// a record that is no List and no Dict. No script can tell them. A copy of the record that is to run on as the
+    /// record would needs them.
     fn rooms(&self, k: u8, a: Addr) -> (usize, usize)
         requires segment { k < (meaning self.now).segments }
         requires there { Has (sees (meaning self.now) k) a.0 }
@@ -160,23 +160,29 @@ pub trait SegStore: Peek + Drop {
         ensures reserved { reserved self.new ≡ reserved self.old }
         ensures peaks { peaks self.new ≡ peaks self.old };
 
-    /// Adds a value at the end of a List. It meets a full heap only where the List's room is full, and only there peaks may
-    /// rise.
+    /// Adds a value at the end of a List. It meets a full heap only where the List's room is full, and only there
+    /// peaks may rise.
     fn push_val(&mut self, k: u8, a: Addr, v: Value) -> Result<(), StoreFault>
         requires segment { k < (meaning self.old).segments }
         requires held { holds ((meaning self.old).part k) a.0 ≡ true }
         requires there { CanChange (sees (meaning self.old) k) a.0 (Push v) }
         ensures ok { OnOk result (meaning self.new ≡ after_change k a.0 (after (Push v)) (meaning self.old)) }
         ensures err { OnErr result (meaning self.new ≡ meaning self.old) }
-        ensures cause { IfErr result (Refuses (IsFull (sees (meaning self.old) k) a.0 (Push v)) (fills self.old) (reserved self.new) (meaning self.old).limit) }
+        ensures cause { IfErr result (Refuses (IsFull (sees (meaning self.old) k) a.0 (Push v)) (fills self.old)
+            (reserved self.new) (meaning self.old).limit) }
         ensures fits { OnOk result (Fits (peaks self.old) (use_with (meaning self.old) (sees (meaning self.old) k a.0)
             (after (Push v) (at (sees (meaning self.old) k) a.0))) (meaning self.old).limit) }
-        ensures asked { IfErr result (AsksFor (sees (meaning self.old) k a.0) (after (Push v) (at (sees (meaning self.old) k) a.0))) }
-        ensures over { IfErr result (IsOver (peaks self.old) (use_with (meaning self.old) (sees (meaning self.old) k a.0)
+        ensures asked { IfErr result (AsksFor (sees (meaning self.old) k a.0)
+            (after (Push v) (at (sees (meaning self.old) k) a.0))) }
+        ensures over { IfErr result (IsOver (peaks self.old)
+            (use_with (meaning self.old) (sees (meaning self.old) k a.0)
             (after (Push v) (at (sees (meaning self.old) k) a.0)))) }
         ensures reserved { reserved self.old ≤ reserved self.new }
         ensures peaks { OnOk result (Rises (peaks self.old) (peaks self.new) (in_use (meaning self.new))) }
-        ensures peaks_err { OnErr result (RisesTo (peaks self.old) (peaks self.new) (use_with (meaning self.old) (sees (meaning self.old) k a.0) (after (Push v) (at (sees (meaning self.old) k) a.0)))) }
+        ensures peaks_err { OnErr result
+            (RisesTo (peaks self.old) (peaks self.new)
+            (use_with (meaning self.old) (sees (meaning self.old) k a.0)
+            (after (Push v) (at (sees (meaning self.old) k) a.0)))) }
         ensures roomy { (IsFull (sees (meaning self.old) k) a.0 (Push v) → ⊥) → peaks self.new ≡ peaks self.old };
 
     /// Leaves the first `n` values of a List. It never meets a full heap.
@@ -190,23 +196,29 @@ pub trait SegStore: Peek + Drop {
         ensures reserved { reserved self.new ≡ reserved self.old }
         ensures peaks { peaks self.new ≡ peaks self.old };
 
-    /// Adds a key that isn't there, and its value, at the end of a Dict. It meets a full heap only where the Dict's room is
-    /// full, and only there peaks may rise.
+    /// Adds a key that isn't there, and its value, at the end of a Dict. It meets a full heap only where the Dict's
+    /// room is full, and only there peaks may rise.
     fn push_pair(&mut self, k: u8, d: Addr, key: Value, v: Value) -> Result<(), StoreFault>
         requires segment { k < (meaning self.old).segments }
         requires held { holds ((meaning self.old).part k) d.0 ≡ true }
         requires there { CanChange (sees (meaning self.old) k) d.0 (Pair key v) }
         ensures ok { OnOk result (meaning self.new ≡ after_change k d.0 (after (Pair key v)) (meaning self.old)) }
         ensures err { OnErr result (meaning self.new ≡ meaning self.old) }
-        ensures cause { IfErr result (Refuses (IsFull (sees (meaning self.old) k) d.0 (Pair key v)) (fills self.old) (reserved self.new) (meaning self.old).limit) }
+        ensures cause { IfErr result (Refuses (IsFull (sees (meaning self.old) k) d.0 (Pair key v)) (fills self.old)
+            (reserved self.new) (meaning self.old).limit) }
         ensures fits { OnOk result (Fits (peaks self.old) (use_with (meaning self.old) (sees (meaning self.old) k d.0)
             (after (Pair key v) (at (sees (meaning self.old) k) d.0))) (meaning self.old).limit) }
-        ensures asked { IfErr result (AsksFor (sees (meaning self.old) k d.0) (after (Pair key v) (at (sees (meaning self.old) k) d.0))) }
-        ensures over { IfErr result (IsOver (peaks self.old) (use_with (meaning self.old) (sees (meaning self.old) k d.0)
+        ensures asked { IfErr result (AsksFor (sees (meaning self.old) k d.0)
+            (after (Pair key v) (at (sees (meaning self.old) k) d.0))) }
+        ensures over { IfErr result (IsOver (peaks self.old)
+            (use_with (meaning self.old) (sees (meaning self.old) k d.0)
             (after (Pair key v) (at (sees (meaning self.old) k) d.0)))) }
         ensures reserved { reserved self.old ≤ reserved self.new }
         ensures peaks { OnOk result (Rises (peaks self.old) (peaks self.new) (in_use (meaning self.new))) }
-        ensures peaks_err { OnErr result (RisesTo (peaks self.old) (peaks self.new) (use_with (meaning self.old) (sees (meaning self.old) k d.0) (after (Pair key v) (at (sees (meaning self.old) k) d.0)))) }
+        ensures peaks_err { OnErr result
+            (RisesTo (peaks self.old) (peaks self.new)
+            (use_with (meaning self.old) (sees (meaning self.old) k d.0)
+            (after (Pair key v) (at (sees (meaning self.old) k) d.0)))) }
         ensures roomy { (IsFull (sees (meaning self.old) k) d.0 (Pair key v) → ⊥) → peaks self.new ≡ peaks self.old };
 
     /// Drops the pair of that number; those behind close the gap. It never meets a full heap.
@@ -229,13 +241,16 @@ pub trait SegStore: Peek + Drop {
         ensures fresh { IfOk result (λ n. IsFree (meaning self.old) n.0) }
         ensures ok { IfOk result (λ n. meaning self.new ≡ after_make k n.0 (rec_of r.now) (meaning self.old)) }
         ensures err { OnErr result (meaning self.new ≡ meaning self.old) }
-        ensures cause { IfErr result (Refuses (Unit {0}) (fills self.old) (reserved self.new) (meaning self.old).limit) }
-        ensures fits { OnOk result (Fits (peaks self.old) (use_with (meaning self.old) None (rec_of r.now)) (meaning self.old).limit) }
+        ensures cause { IfErr result (Refuses (Unit {0}) (fills self.old) (reserved self.new)
+            (meaning self.old).limit) }
+        ensures fits { OnOk result (Fits (peaks self.old) (use_with (meaning self.old) None (rec_of r.now))
+            (meaning self.old).limit) }
         ensures asked { IfErr result (AsksFor None (rec_of r.now)) }
         ensures over { IfErr result (IsOver (peaks self.old) (use_with (meaning self.old) None (rec_of r.now))) }
         ensures reserved { reserved self.old ≤ reserved self.new }
         ensures peaks { OnOk result (Rises (peaks self.old) (peaks self.new) (in_use (meaning self.new))) }
-        ensures peaks_err { OnErr result (RisesTo (peaks self.old) (peaks self.new) (use_with (meaning self.old) None (rec_of r.now))) };
+        ensures peaks_err { OnErr result
+            (RisesTo (peaks self.old) (peaks self.new) (use_with (meaning self.old) None (rec_of r.now))) };
 
     /// A step begins: what stands now is what `undo_step` gives back.
     fn open_step(&mut self, k: u8)

@@ -160,7 +160,8 @@ impl Table {
     /// Moves all records to their addresses in an image, in the place of those that stand there. It takes no memory.
     pub fn give(&mut self, image: &mut Vec<Option<Entry>>)
         requires { Reaches (table_heap self.old) (length image.old.items) }
-        ensures image { image_in (slice_get image.new.items) ≡ overlay (image_in (slice_get image.old.items)) (table_heap self.old) }
+        ensures image { image_in (slice_get image.new.items) ≡ overlay (image_in (slice_get image.old.items))
+            (table_heap self.old) }
         ensures length { length image.new.items ≡ length image.old.items }
         ensures records { table_heap self.new ≡ no_records }
     {
