@@ -81,9 +81,10 @@ impl PagedStore {
         ensures err { OnErr result (paged_meaning self.new ≡ paged_meaning self.old) }
         ensures cause { IfErr result (Refuses (Unit {0}) (Fills self.old) (reserved_of self.new) (paged_meaning self.old).limit) }
         ensures asked { IfErr result (AsksFor None (rec_of r.now)) }
-        ensures fits { OnOk result (Fits (Some (peaks_of self.old)) (use_with (paged_meaning self.old) None (rec_of r.now))
-            (paged_meaning self.old).limit) }
-        ensures over { IfErr result (IsOver (Some (peaks_of self.old)) (use_with (paged_meaning self.old) None (rec_of r.now))) }
+        ensures fits { OnOk result (Fits (Some (peaks_of self.old))
+            (use_with (paged_meaning self.old) None (rec_of r.now)) (paged_meaning self.old).limit) }
+        ensures over { IfErr result (IsOver (Some (peaks_of self.old))
+            (use_with (paged_meaning self.old) None (rec_of r.now))) }
         ensures reserved { reserved_of self.old ≤ reserved_of self.new }
         ensures rises { OnOk result (Rises (Some (peaks_of self.old)) (Some (peaks_of self.new)) (in_use (paged_meaning self.new))) }
         ensures rises_err { OnErr result (RisesTo (Some (peaks_of self.old)) (Some (peaks_of self.new)) (use_with (paged_meaning self.old) None (rec_of r.now))) }

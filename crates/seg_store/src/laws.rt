@@ -26,9 +26,9 @@ pub fn wants_law()
     ensures { (r : Rec) (v : Value) (n : ℕ) → r.kind ≡ ListKind → Wants (Some r) (with_push v r) n → length r.values ≡ r.room }
 {}
 
-/// Where a store tells its extents, the heap is full exactly for the calls that don't fit. The words with the peaks that a
-/// call leaves are within the limit, and a call that is refused since the heap is full doesn't fit (`over` of the calls),
-/// so it is none that is done (`fits`).
+/// Where a store tells its extents, the heap is full exactly for the calls that don't fit: a push or a make that was
+/// done fitted (`fits`), and one that is refused since the heap is full doesn't (`over`). The two exclude each other;
+/// and what a call that was done left fits too.
 pub fn fits_law()
     ensures left { (reserved : ℕ) (m : Meaning) (f g : ℕ → ℕ) → IsStore reserved m → IsTelling reserved m g
         → Rises (Some f) (Some g) (in_use m) → Fits (Some f) (in_use m) m.limit }

@@ -49,7 +49,8 @@ impl From<AllocError> for StoreFault {
 ///
 /// Contracts see a store as its meaning (`specs/Meaning.antt`). Each call that changes a store makes of the meaning what
 /// `specs/Calls.antt` says, which touches no other segment's part, and a call that is refused leaves the meaning as it was.
-/// Want of memory may come without a cause; the calls that answer no Result take no memory.
+/// Want of memory may come without a cause; the calls that answer no Result take no memory. Where a store tells its
+/// extents, a push or a make meets a full heap exactly where it doesn't fit (`docs/HEAP.md`, "Extents").
 pub trait SegStore: Peek + Drop {
     /// The image, and what each segment has in hand.
     ghost meaning: { Self → Meaning };
@@ -169,10 +170,12 @@ pub trait SegStore: Peek + Drop {
         ensures ok { OnOk result (meaning self.new ≡ after_change k a.0 (after (Push v)) (meaning self.old)) }
         ensures err { OnErr result (meaning self.new ≡ meaning self.old) }
         ensures cause { IfErr result (Refuses (IsFull (sees (meaning self.old) k) a.0 (Push v)) (fills self.old) (reserved self.new) (meaning self.old).limit) }
-        ensures fits { OnOk result (Fits (peaks self.old) (use_with (meaning self.old) (sees (meaning self.old) k a.0)
-            (after (Push v) (at (sees (meaning self.old) k) a.0))) (meaning self.old).limit) }
         ensures asked { IfErr result (AsksFor (sees (meaning self.old) k a.0) (after (Push v) (at (sees (meaning self.old) k) a.0))) }
-        ensures over { IfErr result (IsOver (peaks self.old) (use_with (meaning self.old) (sees (meaning self.old) k a.0)
+        ensures fits { OnOk result (Fits (peaks self.old)
+            (use_with (meaning self.old) (sees (meaning self.old) k a.0)
+            (after (Push v) (at (sees (meaning self.old) k) a.0))) (meaning self.old).limit) }
+        ensures over { IfErr result (IsOver (peaks self.old)
+            (use_with (meaning self.old) (sees (meaning self.old) k a.0)
             (after (Push v) (at (sees (meaning self.old) k) a.0)))) }
         ensures reserved { reserved self.old ≤ reserved self.new }
         ensures peaks { OnOk result (Rises (peaks self.old) (peaks self.new) (in_use (meaning self.new))) }
@@ -199,10 +202,12 @@ pub trait SegStore: Peek + Drop {
         ensures ok { OnOk result (meaning self.new ≡ after_change k d.0 (after (Pair key v)) (meaning self.old)) }
         ensures err { OnErr result (meaning self.new ≡ meaning self.old) }
         ensures cause { IfErr result (Refuses (IsFull (sees (meaning self.old) k) d.0 (Pair key v)) (fills self.old) (reserved self.new) (meaning self.old).limit) }
-        ensures fits { OnOk result (Fits (peaks self.old) (use_with (meaning self.old) (sees (meaning self.old) k d.0)
-            (after (Pair key v) (at (sees (meaning self.old) k) d.0))) (meaning self.old).limit) }
         ensures asked { IfErr result (AsksFor (sees (meaning self.old) k d.0) (after (Pair key v) (at (sees (meaning self.old) k) d.0))) }
-        ensures over { IfErr result (IsOver (peaks self.old) (use_with (meaning self.old) (sees (meaning self.old) k d.0)
+        ensures fits { OnOk result (Fits (peaks self.old)
+            (use_with (meaning self.old) (sees (meaning self.old) k d.0)
+            (after (Pair key v) (at (sees (meaning self.old) k) d.0))) (meaning self.old).limit) }
+        ensures over { IfErr result (IsOver (peaks self.old)
+            (use_with (meaning self.old) (sees (meaning self.old) k d.0)
             (after (Pair key v) (at (sees (meaning self.old) k) d.0)))) }
         ensures reserved { reserved self.old ≤ reserved self.new }
         ensures peaks { OnOk result (Rises (peaks self.old) (peaks self.new) (in_use (meaning self.new))) }
@@ -230,8 +235,9 @@ pub trait SegStore: Peek + Drop {
         ensures ok { IfOk result (λ n. meaning self.new ≡ after_make k n.0 (rec_of r.now) (meaning self.old)) }
         ensures err { OnErr result (meaning self.new ≡ meaning self.old) }
         ensures cause { IfErr result (Refuses (Unit {0}) (fills self.old) (reserved self.new) (meaning self.old).limit) }
-        ensures fits { OnOk result (Fits (peaks self.old) (use_with (meaning self.old) None (rec_of r.now)) (meaning self.old).limit) }
         ensures asked { IfErr result (AsksFor None (rec_of r.now)) }
+        ensures fits { OnOk result (Fits (peaks self.old) (use_with (meaning self.old) None (rec_of r.now))
+            (meaning self.old).limit) }
         ensures over { IfErr result (IsOver (peaks self.old) (use_with (meaning self.old) None (rec_of r.now))) }
         ensures reserved { reserved self.old ≤ reserved self.new }
         ensures peaks { OnOk result (Rises (peaks self.old) (peaks self.new) (in_use (meaning self.new))) }
