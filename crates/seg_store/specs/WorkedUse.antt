@@ -117,20 +117,20 @@ abbrev a_tuple : ℕ → Rec
 a_tuple n = new_rec Tuple (nones n) []
 
 -- the List, and Tuples of 2, 64 and 256 values, in a store of 2,048 words
+abbrev full_image : Heap
+full_image = put_at (put_at (put_at (put_at no_records 1 (a_tuple 2)) 4 (a_list 256 256 0)) 6 (a_tuple 64)) 9
+    (a_tuple 256)
+
 abbrev full_store : Meaning
-full_store = record {
-  image = put_at (put_at (put_at (put_at no_records 1 (a_tuple 2)) 4 (a_list 256 256 0)) 6 (a_tuple 64)) 9 (a_tuple 256);
-  part = λ k. no_part;
-  segments = 2;
-  limit = 2_048;
-}
+full_store = record { image = full_image; part = λ k. no_part; segments = 2; limit = 2_048 }
 
 -- two words, 8, 1,026, 132 and 516
 full_words : IsTelling 1_684 full_store (in_use full_store)
 unfolding in_use sum_below class_holding extents words_in room_of
 full_words = record { within = λ c l. omega arith; words = refl }
 
--- The next body of the List has 1,024 words, and none of its class was in use before: with it 2,708 words would be taken.
+-- The next body of the List has 1,024 words, and none of its class was in use before: with it 2,708 words would be
+-- taken.
 next_words : words_with (in_use full_store) (use_with full_store (Some (a_list 256 256 0)) grown) ≡ 2_708
 unfolding in_use sum_below class_holding extents words_in room_of
 next_words = refl
@@ -189,7 +189,8 @@ cell_words = refl
 cell_fits : Fits (Some (in_use full_store)) (use_with full_store None a_cell) 2_048
 cell_fits = let e = cell_words in omega arith
 
--- Where an extent of the class was in use before, the next body fits, though no word is left: that extent was given back.
+-- Where an extent of the class was in use before, the next body fits, though no word is left: that extent was given
+-- back.
 abbrev one_spare : ℕ → ℕ
 one_spare c = in_use full_store c + one_if (eqb c 10)
 

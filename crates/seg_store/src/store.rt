@@ -246,6 +246,8 @@ pub trait SegStore: Peek + Drop {
         ensures fits { OnOk result (Fits (peaks self.old) (use_with (meaning self.old) None (rec_of r.now))
             (meaning self.old).limit) }
         ensures asked { IfErr result (AsksFor None (rec_of r.now)) }
+        ensures fits { OnOk result (Fits (peaks self.old) (use_with (meaning self.old) None (rec_of r.now))
+            (meaning self.old).limit) }
         ensures over { IfErr result (IsOver (peaks self.old) (use_with (meaning self.old) None (rec_of r.now))) }
         ensures reserved { reserved self.old ≤ reserved self.new }
         ensures peaks { OnOk result (Rises (peaks self.old) (peaks self.new) (in_use (meaning self.new))) }

@@ -43,8 +43,8 @@ abbrev pub RisesBy : List ℕ → Table → Table → Type 0
 RisesBy wanted t u = (c : ℕ) → 1 ≤ c → ((t.shelf c).total ≤ (u.shelf c).total)
     × ((u.shelf c).total ≤ max (t.shelf c).total (in_use t c + times c wanted))
 
--- An extent of a class that was wanted can't be had: fewer were given back than are wanted, fewer were ever new than would
--- be in use with all that are wanted, and there are not so many words behind those that are reserved now.
+-- An extent of a class that was wanted can't be had: fewer were given back than are wanted, fewer were ever new than
+-- would be in use with all that are wanted, and there are not so many words behind those that are reserved now.
 pub record NoneLeft (wanted : List ℕ) (t u : Table) (r n l : ℕ) : Type 0 where
   pub class : ℕ
   pub low : 1 ≤ class
