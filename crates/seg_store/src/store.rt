@@ -243,8 +243,6 @@ pub trait SegStore: Peek + Drop {
         ensures err { OnErr result (meaning self.new ≡ meaning self.old) }
         ensures cause { IfErr result (Refuses (Unit {0}) (fills self.old) (reserved self.new)
             (meaning self.old).limit) }
-        ensures fits { OnOk result (Fits (peaks self.old) (use_with (meaning self.old) None (rec_of r.now))
-            (meaning self.old).limit) }
         ensures asked { IfErr result (AsksFor None (rec_of r.now)) }
         ensures fits { OnOk result (Fits (peaks self.old) (use_with (meaning self.old) None (rec_of r.now))
             (meaning self.old).limit) }
