@@ -1,10 +1,12 @@
 //! The states of the threads of a program, and the rows of their steps.
 #![tactic(auto)]
 
+mod few;
 mod laws;
 mod next;
 mod state;
 
+pub use few::Few;
 pub use laws::{never_lacks_law, outcome_law, sound_law, steady_law, wait_law};
 pub use next::Next;
 pub use state::{Block, Blocks, Dying, Frame};

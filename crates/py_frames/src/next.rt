@@ -1,16 +1,17 @@
 //! What an instruction leads to.
 
+use crate::few::Few;
 use crate::state::Frame;
-use py_data::{Addr, Value, Values};
+use py_data::{Addr, Value};
 
 /// What an instruction leads to. Its operands are taken from the stack, but where the exception is raised within the
 /// frame, or the thread waits.
 #[derive(Debug, Drop)]
 pub enum Next {
     /// These values are pushed, and the next place follows.
-    Goes(Values),
+    Goes(Few),
     /// These values are pushed, and that place follows.
-    Jumps(u32, Values),
+    Jumps(u32, Few),
     /// The slot holds the value, and the next place follows.
     Stores(u32, Value),
     /// A block with that handler begins, and the next place follows.

@@ -5,11 +5,11 @@ ghost use Rattle.py_data.specs.Sense.{Meets, Safe, IsLive};
 ghost use Rattle.py_frames.specs.declared.next.Next.TheVariants.{Goes};
 ghost use Rattle.py_frames.specs.Raising.{base_fault, done, fail_row, give, place_in, raise_row, raised_fault, values_row};
 
-use obj_class::{make_fault, one};
+use obj_class::make_fault;
 use obj_ops::values_of;
 use py_data::exception::{MEMORY_ERROR, RUNTIME_ERROR, TYPE_ERROR};
 use py_data::{Addr, Bytes, Fault, Got, NoMemory, Stop, Value, Values, View, With};
-use py_frames::Next;
+use py_frames::{Few, Next};
 use std::alloc::Global;
 
 /// The address in a value; 0 where it has none.
@@ -23,27 +23,24 @@ pub fn place_in(x: Value) -> Addr
 }
 
 /// A value is pushed.
-pub fn push(alloc: Global, x: Value) -> Result<Next, NoMemory>
-    ensures { IfOk result (λ n. n ≡ Goes (x ∷ [])) }
+pub fn push(x: Value) -> Next
+    ensures { result ≡ Goes (x ∷ []) }
 {
-    Ok(Next::Goes(one(alloc, x)?))
+    Next::Goes(Few::one(x))
 }
 
 /// Two values are pushed, the second on top.
-pub fn push_two(alloc: Global, x: Value, y: Value) -> Result<Next, NoMemory>
-    ensures { IfOk result (λ n. n ≡ Goes (x ∷ y ∷ [])) }
+pub fn push_two(x: Value, y: Value) -> Next
+    ensures { result ≡ Goes (x ∷ y ∷ []) }
 {
-    let mut values = Values::new(alloc);
-    values.push(x)?;
-    values.push(y)?;
-    Ok(Next::Goes(values))
+    Next::Goes(Few::two(x, y))
 }
 
 /// Nothing is pushed.
-pub fn pass(alloc: Global) -> Next
+pub fn pass() -> Next
     ensures { result ≡ Goes [] }
 {
-    Next::Goes(Values::new(alloc))
+    Next::Goes(Few::none())
 }
 
 /// An instruction raises an exception.
@@ -119,7 +116,7 @@ pub fn give<S, V: View<S>>(
     ensures { Meets V.sense (give roots.0 got) v.old v.new result }
 {
     match got {
-        Got::Is(x) => Ok(push(alloc, x)?),
+        Got::Is(x) => Ok(push(x)),
         Got::Raise(e) => raise_row(alloc, v, roots, &e),
     }
 }
@@ -137,7 +134,7 @@ pub fn done<S, T: Drop, V: View<S>>(
     ensures { Meets V.sense (done roots.0 got) v.old v.new result }
 {
     match got {
-        Got::Is(_) => Ok(pass(alloc)),
+        Got::Is(_) => Ok(pass()),
         Got::Raise(e) => raise_row(alloc, v, roots, &e),
     }
 }

@@ -20,7 +20,7 @@ use crate::place::place_of;
 use py_base::{first, skip};
 use py_code::Instr;
 use py_data::{Kind, NoMemory, Stop, Value, Values, View};
-use py_frames::Next;
+use py_frames::{Few, Next};
 use py_instrs::{
     Given, Site, binary_instr, build_dict_row, class_body_row, code_name, compare_instr, const_row,
     del_attr_instr, del_global_row, del_item_instr, exc_match_row, in_place_instr, iter_instr,
@@ -37,7 +37,7 @@ use std::alloc::Global;
 fn push_all(alloc: Global, xs: &[Value]) -> Result<Next, NoMemory>
     ensures { IfOk result (λ n. n ≡ Goes xs.now) }
 {
-    Ok(Next::Goes(Values::from_slice(alloc, xs)?))
+    Ok(Next::Goes(Few::from_slice(alloc, xs)?))
 }
 
 /// LOAD_LOCAL.
@@ -320,8 +320,8 @@ pub fn instr_row<V: View<ThreadState>>(
     let z = value_or_unset(xs, 2);
     match i {
         Instr::Setup => setup_row(alloc, v, s.program),
-        Instr::Const(c) => const_row(alloc, v, s.roots, c),
-        Instr::Pop => Ok(pass(alloc)),
+        Instr::Const(c) => const_row(v, s.roots, c),
+        Instr::Pop => Ok(pass()),
         Instr::Dup => Ok(push_all(alloc, &[x, x])?),
         Instr::Rot2 => Ok(push_all(alloc, &[y, x])?),
         Instr::Dup2 => Ok(push_all(alloc, &[x, y, x, y])?),
@@ -330,7 +330,7 @@ pub fn instr_row<V: View<ThreadState>>(
         Instr::StoreLocal(j) => Ok(Next::Stores(j, x)),
         Instr::DelLocal(j) => del_local(alloc, v, s, t, j),
         Instr::LoadGlobal(g) => load_global(alloc, v, s, g),
-        Instr::StoreGlobal(g) => store_global_row(alloc, v, s.roots, g, x),
+        Instr::StoreGlobal(g) => store_global_row(v, s.roots, g, x),
         Instr::DelGlobal(g) => del_global_row(alloc, v, s.roots, g, root_name(s.program, g)),
         Instr::LoadName(n) => load_name(alloc, v, s, t, n),
         Instr::StoreName(n) => store_name(alloc, v, s, t, n, x),
@@ -344,14 +344,14 @@ pub fn instr_row<V: View<ThreadState>>(
         Instr::DelItem => del_item_instr(alloc, v, s.roots, x, y),
         Instr::Slice => slice_instr(alloc, v, s.roots, x, y, z),
         Instr::Unary(o) => unary_instr(alloc, v, s.roots, o, x),
-        Instr::Not => not_row(alloc, v, x),
+        Instr::Not => not_row(v, x),
         Instr::Binary(o) => binary_instr(alloc, v, s.roots, o, x, y),
         Instr::InPlace(o) => in_place_instr(alloc, v, s.roots, o, x, y),
         Instr::Compare(o) => compare_instr(alloc, v, s.roots, o, x, y),
-        Instr::Jump(place) => Ok(Next::Jumps(place, Values::new(alloc))),
-        Instr::JumpFalse(place) => jump_false_row(alloc, v, place, x),
-        Instr::KeepFalse(place) => keep_false_row(alloc, v, place, x),
-        Instr::KeepTrue(place) => keep_true_row(alloc, v, place, x),
+        Instr::Jump(place) => Ok(Next::Jumps(place, Few::none())),
+        Instr::JumpFalse(place) => jump_false_row(v, place, x),
+        Instr::KeepFalse(place) => keep_false_row(v, place, x),
+        Instr::KeepTrue(place) => keep_true_row(v, place, x),
         Instr::BuildTuple(_) => build(alloc, v, s, Kind::Tuple, xs),
         Instr::BuildList(_) => build(alloc, v, s, Kind::List, xs),
         Instr::BuildDict(_) => build_dict_row(alloc, v, s.roots, xs),
@@ -369,6 +369,6 @@ pub fn instr_row<V: View<ThreadState>>(
         Instr::MakeRaised(n) => made_raised(alloc, v, s, xs, n),
         Instr::Raise => raise_value(alloc, v, s.roots, x),
         Instr::PrintItem => print_item_row(alloc, v, s.roots, x),
-        Instr::PrintNewline => print_newline_row(alloc, v),
+        Instr::PrintNewline => print_newline_row(v),
     }
 }
