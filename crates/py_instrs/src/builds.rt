@@ -19,7 +19,7 @@ use py_data::{
     Addr, Bytes, Fault, Got, Kind, LENGTH_LIMIT, NoMemory, Record, Stop, Value, Values, View, With,
     kind,
 };
-use py_frames::{Few, Next};
+use py_frames::{Pushed, Next};
 use std::alloc::Global;
 
 /// Makes a tuple or a list of these values, and pushes it.
@@ -233,14 +233,14 @@ pub fn build_dict_row<S, V: View<S>>(
 }
 
 /// The values in the opposite order.
-fn reversed(alloc: Global, values: &[Value]) -> Result<Few, NoMemory>
+fn reversed(alloc: Global, values: &[Value]) -> Result<Pushed, NoMemory>
     ensures { IfOk result (λ ys. ys ≡ reverse values.now) }
 {
     match values {
-        [x, y] => Ok(Few::two(*y, *x)),
+        [x, y] => Ok(Pushed::two(*y, *x)),
         _ => {
             let turned: Vec<Value> = values.iter().rev().copied().collect(alloc)?;
-            Few::from_slice(alloc, turned.as_slice())
+            Pushed::from_slice(alloc, turned.as_slice())
         }
     }
 }
@@ -371,7 +371,7 @@ fn next_or_end<S, V: View<S>>(
 {
     match got {
         Got::Is(Some(y)) => Ok(push_two(it, y)),
-        Got::Is(None) => Ok(Next::Jumps(t, Few::none())),
+        Got::Is(None) => Ok(Next::Jumps(t, Pushed::none())),
         Got::Raise(e) => raise_row(alloc, v, roots, &e),
     }
 }

@@ -9,7 +9,7 @@ ghost use Rattle.py_data.specs.declared.value.Value.TheVariants.{Ref};
 use crate::named::push_unset;
 use crate::programs::slots_at;
 use crate::raising::{
-    base_fault, depth_fault, fail_row, memory_fault, operand_fault, place_in, push, raise_row,
+    base_fault, depth_fault, enter, fail_row, memory_fault, operand_fault, place_in, push, raise_row,
 };
 use crate::site::Site;
 use obj_class::{make_record, make_text, three};
@@ -140,7 +140,8 @@ fn new_body<S, V: View<S>>(
     ensures { Meets V.sense (new_body n slots base) v.old v.new result }
 {
     let d = make_record(alloc, v, Kind::Dict, Values::new(alloc))?;
-    Ok(Next::Enters(body_frame(alloc, n, slots, base, d)?))
+    let f = body_frame(alloc, n, slots, base, d)?;
+    Ok(enter(alloc, f)?)
 }
 
 /// CLASS_BODY over a base of a kind, from one of so many frames.

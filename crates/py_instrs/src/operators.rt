@@ -7,7 +7,7 @@ ghost use Rattle.py_frames.specs.OperatorRows as rows;
 use crate::raising::{give, push};
 use obj_ops::{binary, compare, in_place, truth, unary};
 use py_data::{Addr, Stop, Value, View};
-use py_frames::{Few, Next};
+use py_frames::{Pushed, Next};
 use std::alloc::Global;
 
 /// UNARY: an operator of one operand, by its number.
@@ -102,9 +102,9 @@ fn fall_or_jump(t: u32, b: bool) -> Next
     ensures { result ≡ rows.fall_or_jump t b }
 {
     if b {
-        Next::Goes(Few::none())
+        Next::Goes(Pushed::none())
     } else {
-        Next::Jumps(t, Few::none())
+        Next::Jumps(t, Pushed::none())
     }
 }
 
@@ -125,9 +125,9 @@ fn pop_or_keep(t: u32, x: Value, b: bool) -> Next
     ensures { result ≡ rows.pop_or_keep t x b }
 {
     if b {
-        Next::Goes(Few::none())
+        Next::Goes(Pushed::none())
     } else {
-        Next::Jumps(t, Few::one(x))
+        Next::Jumps(t, Pushed::one(x))
     }
 }
 

@@ -2,14 +2,14 @@
 ghost use Rattle.std.specs.Prelude.{◌≡◌, IfOk, [], ◌∷◌};
 ghost use Rattle.py_data.specs.Fault.{depth_fault, memory_fault, operand_fault, text_fault};
 ghost use Rattle.py_data.specs.Sense.{Meets, Safe, IsLive};
-ghost use Rattle.py_frames.specs.declared.next.Next.TheVariants.{Goes};
+ghost use Rattle.py_frames.specs.declared.next.Next.TheVariants.{Enters, Goes};
 ghost use Rattle.py_frames.specs.Raising.{base_fault, done, fail_row, give, place_in, raise_row, raised_fault, values_row};
 
 use obj_class::make_fault;
 use obj_ops::values_of;
 use py_data::exception::{MEMORY_ERROR, RUNTIME_ERROR, TYPE_ERROR};
 use py_data::{Addr, Bytes, Fault, Got, NoMemory, Stop, Value, Values, View, With};
-use py_frames::{Few, Next};
+use py_frames::{Entered, Pushed, Frame, Next};
 use std::alloc::Global;
 
 /// The address in a value; 0 where it has none.
@@ -26,21 +26,28 @@ pub fn place_in(x: Value) -> Addr
 pub fn push(x: Value) -> Next
     ensures { result ≡ Goes (x ∷ []) }
 {
-    Next::Goes(Few::one(x))
+    Next::Goes(Pushed::one(x))
 }
 
 /// Two values are pushed, the second on top.
 pub fn push_two(x: Value, y: Value) -> Next
     ensures { result ≡ Goes (x ∷ y ∷ []) }
 {
-    Next::Goes(Few::two(x, y))
+    Next::Goes(Pushed::two(x, y))
 }
 
 /// Nothing is pushed.
 pub fn pass() -> Next
     ensures { result ≡ Goes [] }
 {
-    Next::Goes(Few::none())
+    Next::Goes(Pushed::none())
+}
+
+/// A frame is entered.
+pub fn enter(alloc: Global, f: Frame) -> Result<Next, NoMemory>
+    ensures { IfOk result (λ n. n ≡ Enters f) }
+{
+    Ok(Next::Enters(Entered::new(alloc, f)?))
 }
 
 /// An instruction raises an exception.

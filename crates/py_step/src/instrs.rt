@@ -20,13 +20,13 @@ use crate::place::place_of;
 use py_base::{first, skip};
 use py_code::Instr;
 use py_data::{Kind, NoMemory, Stop, Value, Values, View};
-use py_frames::{Few, Next};
+use py_frames::{Pushed, Next};
 use py_instrs::{
     Given, Site, binary_instr, build_dict_row, class_body_row, code_name, compare_instr, const_row,
     del_attr_instr, del_global_row, del_item_instr, exc_match_row, in_place_instr, iter_instr,
     jump_false_row, keep_false_row, keep_true_row, keys_at, load_attr_row, load_item_row,
     load_method_row, made_alone, made_valued, make_function_row, next_instr, not_row, pass,
-    print_item_row, print_newline_row, raise_value, root_name, setup_row, slice_instr, slot_name,
+    print_item_row, print_newline_row, push_two, raise_value, root_name, setup_row, slice_instr, slot_name,
     store_attr_row, store_global_row, store_item_row, store_name_row, unary_instr, unpack_row,
     value_call, value_or_unset,
 };
@@ -37,7 +37,7 @@ use std::alloc::Global;
 fn push_all(alloc: Global, xs: &[Value]) -> Result<Next, NoMemory>
     ensures { IfOk result (λ n. n ≡ Goes xs.now) }
 {
-    Ok(Next::Goes(Few::from_slice(alloc, xs)?))
+    Ok(Next::Goes(Pushed::from_slice(alloc, xs)?))
 }
 
 /// LOAD_LOCAL.
@@ -322,8 +322,8 @@ pub fn instr_row<V: View<ThreadState>>(
         Instr::Setup => setup_row(alloc, v, s.program),
         Instr::Const(c) => const_row(v, s.roots, c),
         Instr::Pop => Ok(pass()),
-        Instr::Dup => Ok(push_all(alloc, &[x, x])?),
-        Instr::Rot2 => Ok(push_all(alloc, &[y, x])?),
+        Instr::Dup => Ok(push_two(x, x)),
+        Instr::Rot2 => Ok(push_two(y, x)),
         Instr::Dup2 => Ok(push_all(alloc, &[x, y, x, y])?),
         Instr::Rot3 => Ok(push_all(alloc, &[z, x, y])?),
         Instr::LoadLocal(j) => load_local(alloc, v, s, t, j),
@@ -348,7 +348,7 @@ pub fn instr_row<V: View<ThreadState>>(
         Instr::Binary(o) => binary_instr(alloc, v, s.roots, o, x, y),
         Instr::InPlace(o) => in_place_instr(alloc, v, s.roots, o, x, y),
         Instr::Compare(o) => compare_instr(alloc, v, s.roots, o, x, y),
-        Instr::Jump(place) => Ok(Next::Jumps(place, Few::none())),
+        Instr::Jump(place) => Ok(Next::Jumps(place, Pushed::none())),
         Instr::JumpFalse(place) => jump_false_row(v, place, x),
         Instr::KeepFalse(place) => keep_false_row(v, place, x),
         Instr::KeepTrue(place) => keep_true_row(v, place, x),

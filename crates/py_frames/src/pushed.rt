@@ -5,7 +5,7 @@ use py_data::{NoMemory, Value, Values};
 use std::alloc::Global;
 use std::marker::Model;
 
-/// Where a few values are held.
+/// Where the values are held.
 #[derive(Debug, Drop)]
 enum Held {
     Nothing,
@@ -14,14 +14,14 @@ enum Held {
     More(Values),
 }
 
-/// Values that are pushed: up to two of them in place, so that they take no memory, and more in a list. Contracts see them in
-/// their order.
+/// Values that are pushed: up to two of them in place, so that they take no memory, and more in a list. Contracts see
+/// them in their order.
 #[derive(Debug, Drop)]
-pub struct Few {
+pub struct Pushed {
     held: Held,
 }
 
-impl Model for Few {
+impl Model for Pushed {
     ghost use Rattle.std.specs.Prelude.{List};
     ghost use Rattle.py_data.specs.declared.value.Value.{Value as Operand};
 
@@ -32,52 +32,52 @@ impl Model for Few {
     ghost view = { λ a. held_values a.held };
 }
 
-impl Few {
+impl Pushed {
     /// No value.
-    pub fn none() -> Few
+    pub fn none() -> Pushed
         ensures { result ≡ [] }
     {
-        Few {
+        Pushed {
             held: Held::Nothing,
         }
     }
 
     /// One value.
-    pub fn one(x: Value) -> Few
+    pub fn one(x: Value) -> Pushed
         ensures { result ≡ x ∷ [] }
     {
-        Few {
+        Pushed {
             held: Held::One([x]),
         }
     }
 
     /// Two values, the second on top.
-    pub fn two(x: Value, y: Value) -> Few
+    pub fn two(x: Value, y: Value) -> Pushed
         ensures { result ≡ x ∷ y ∷ [] }
     {
-        Few {
+        Pushed {
             held: Held::Two([x, y]),
         }
     }
 
     /// The values of a list, the last on top.
-    pub fn of(values: Values) -> Few
+    pub fn of(values: Values) -> Pushed
         ensures { result ≡ values }
     {
-        Few {
+        Pushed {
             held: Held::More(values),
         }
     }
 
     /// The values of a slice, the last on top. Up to two of them take no memory.
-    pub fn from_slice(alloc: Global, xs: &[Value]) -> Result<Few, NoMemory>
+    pub fn from_slice(alloc: Global, xs: &[Value]) -> Result<Pushed, NoMemory>
         ensures { IfOk result (λ a. a ≡ xs.now) }
     {
         match xs.len() {
-            0 => Ok(Few::none()),
-            1 => Ok(Few::one(xs[0])),
-            2 => Ok(Few::two(xs[0], xs[1])),
-            _ => Ok(Few::of(Values::from_slice(alloc, xs)?)),
+            0 => Ok(Pushed::none()),
+            1 => Ok(Pushed::one(xs[0])),
+            2 => Ok(Pushed::two(xs[0], xs[1])),
+            _ => Ok(Pushed::of(Values::from_slice(alloc, xs)?)),
         }
     }
 
