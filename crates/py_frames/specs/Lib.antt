@@ -18,3 +18,4 @@ pub mod Sound
 pub mod Fits
 pub mod Laws
 pub mod Worked
+pub mod inner

@@ -143,8 +143,8 @@ fn found_method<S, V: View<S>>(
     ensures { Meets V.sense (found_method roots.0 o name.0 found) v.old v.new result }
 {
     match found {
-        Some(Found::Plain(x)) => Ok(push_two(alloc, x, Value::Unset)?),
-        Some(Found::Bound(f)) => Ok(push_two(alloc, f, o)?),
+        Some(Found::Plain(x)) => Ok(push_two(x, Value::Unset)),
+        Some(Found::Bound(f)) => Ok(push_two(f, o)),
         None => missing_method(alloc, v, roots, name),
     }
 }

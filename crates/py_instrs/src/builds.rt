@@ -11,15 +11,15 @@ ghost use Rattle.obj_dict.specs.Dict.{key_row};
 ghost use Rattle.py_frames.specs.BuildRows as rows;
 ghost use Rattle.py_frames.specs.Raising as raising;
 
-use crate::raising::{give, memory_fault, place_in, raise_operand, raise_row, told};
-use obj_class::{make_record, one};
+use crate::raising::{give, memory_fault, place_in, push, push_two, raise_operand, raise_row, told};
+use obj_class::make_record;
 use obj_seq::{gather, make_iter, next as next_item};
 use py_data::exception::{MEMORY_ERROR, TYPE_ERROR, VALUE_ERROR};
 use py_data::{
     Addr, Bytes, Fault, Got, Kind, LENGTH_LIMIT, NoMemory, Record, Stop, Value, Values, View, With,
     kind,
 };
-use py_frames::Next;
+use py_frames::{Pushed, Next};
 use std::alloc::Global;
 
 /// Makes a tuple or a list of these values, and pushes it.
@@ -35,7 +35,7 @@ fn built_row<S, V: View<S>>(
     ensures { Meets V.sense (rows.built_row kind values) v.old v.new result }
 {
     let x = make_record(alloc, v, kind, values)?;
-    Ok(Next::Goes(one(alloc, x)?))
+    Ok(push(x))
 }
 
 /// BUILD_TUPLE and BUILD_LIST: a new record of that kind has the values. MemoryError where there are too many.
@@ -104,7 +104,7 @@ fn dict_or_raise<S, V: View<S>>(
     ensures { Meets V.sense (rows.dict_or_raise roots.0 d got) v.old v.new result }
 {
     match got {
-        Got::Is(_) => Ok(Next::Goes(one(alloc, d)?)),
+        Got::Is(_) => Ok(push(d)),
         Got::Raise(e) => raise_row(alloc, v, roots, &e),
     }
 }
@@ -233,11 +233,16 @@ pub fn build_dict_row<S, V: View<S>>(
 }
 
 /// The values in the opposite order.
-fn reversed(alloc: Global, values: &[Value]) -> Result<Values, NoMemory>
+fn reversed(alloc: Global, values: &[Value]) -> Result<Pushed, NoMemory>
     ensures { IfOk result (λ ys. ys ≡ reverse values.now) }
 {
-    let turned: Vec<Value> = values.iter().rev().copied().collect(alloc)?;
-    Values::from_slice(alloc, turned.as_slice())
+    match values {
+        [x, y] => Ok(Pushed::two(*y, *x)),
+        _ => {
+            let turned: Vec<Value> = values.iter().rev().copied().collect(alloc)?;
+            Pushed::from_slice(alloc, turned.as_slice())
+        }
+    }
 }
 
 /// The exception of values of another number.
@@ -350,16 +355,6 @@ pub fn iter_instr<S, V: View<S>>(
     give(alloc, v, roots, got)
 }
 
-/// Two values as a list.
-fn two(alloc: Global, x: Value, y: Value) -> Result<Values, NoMemory>
-    ensures { IfOk result (λ vs. vs ≡ x ∷ y ∷ []) }
-{
-    let mut values = Values::new(alloc);
-    values.push(x)?;
-    values.push(y)?;
-    Ok(values)
-}
-
 /// The iterator and its next item are pushed, or it is at its end.
 #[tactic(auto, using(py_data::proofs::Rows::row_steps, py_data::proofs::Steps::call_steps), unfolding(py_frames::specs::BuildRows::next_or_end))]
 fn next_or_end<S, V: View<S>>(
@@ -375,8 +370,8 @@ fn next_or_end<S, V: View<S>>(
     ensures { Meets V.sense (rows.next_or_end roots.0 t it got) v.old v.new result }
 {
     match got {
-        Got::Is(Some(y)) => Ok(Next::Goes(two(alloc, it, y)?)),
-        Got::Is(None) => Ok(Next::Jumps(t, Values::new(alloc))),
+        Got::Is(Some(y)) => Ok(push_two(it, y)),
+        Got::Is(None) => Ok(Next::Jumps(t, Pushed::none())),
         Got::Raise(e) => raise_row(alloc, v, roots, &e),
     }
 }

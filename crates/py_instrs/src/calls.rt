@@ -8,11 +8,10 @@ ghost use Rattle.py_frames.specs.CallRows as call_rows;
 use crate::binding::bound_row;
 use crate::class_calls::{class_call, entered_row};
 use crate::named::value_or_unset;
-use crate::raising::{place_in, raise_row, raise_text, values_row};
+use crate::raising::{place_in, push, raise_row, raise_text, values_row};
 use crate::site::{Given, Site, with_first};
 use crate::starts::start_row;
 use obj_builtins::call;
-use obj_class::one;
 use obj_threads::Answer;
 use py_base::{skip, split};
 use py_data::exception::TYPE_ERROR;
@@ -52,7 +51,7 @@ fn answered<V: View<ThreadState>>(
 {
     match got {
         Got::Is(answer) => match answer {
-            Answer::Value(x) => Ok(Next::Goes(one(alloc, x)?)),
+            Answer::Value(x) => Ok(push(x)),
             Answer::Waits => Ok(Next::Waits),
             Answer::Start {
                 target,

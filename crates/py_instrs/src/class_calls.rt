@@ -9,7 +9,7 @@ ghost use Rattle.py_frames.specs.Raising as raising;
 use crate::binding::bound_row;
 use crate::instances::new_instance;
 use crate::programs::text_number;
-use crate::raising::{give, place_in, raise_row, raise_text};
+use crate::raising::{enter, give, place_in, raise_row, raise_text};
 use crate::site::{Given, Site, with_first};
 use obj_class::{inherited, is_sub};
 use py_code::Program;
@@ -52,7 +52,7 @@ pub fn entered_row<S, V: View<S>>(
     match got {
         Got::Is(f) => {
             if s.depth < MOST_FRAMES {
-                Ok(Next::Enters(f))
+                Ok(enter(alloc, f)?)
             } else {
                 raise_depth(alloc, v, s.roots)
             }
@@ -186,7 +186,7 @@ fn with_instance<S, V: View<S>>(
     ensures { Meets V.sense (class_calls.with_instance s.now f got) v.old v.new result }
 {
     match got {
-        Got::Is(x) => Ok(Next::Enters(made_by(f, x))),
+        Got::Is(x) => Ok(enter(alloc, made_by(f, x))?),
         Got::Raise(e) => raise_row(alloc, v, s.roots, &e),
     }
 }

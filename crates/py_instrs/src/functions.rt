@@ -9,10 +9,10 @@ ghost use Rattle.py_data.specs.declared.value.Value.TheVariants.{Ref};
 use crate::named::push_unset;
 use crate::programs::slots_at;
 use crate::raising::{
-    base_fault, depth_fault, fail_row, memory_fault, operand_fault, place_in, raise_row,
+    base_fault, depth_fault, enter, fail_row, memory_fault, operand_fault, place_in, push, raise_row,
 };
 use crate::site::Site;
-use obj_class::{make_record, make_text, one, three};
+use obj_class::{make_record, make_text, three};
 use py_code::Program;
 use py_data::{Addr, Kind, LENGTH_LIMIT, NoMemory, Stop, Value, Values, View, kind};
 use py_frames::{Blocks, Frame, Next};
@@ -36,7 +36,7 @@ fn function_of<S, V: View<S>>(
 {
     let values = three(alloc, name, Value::Int(n as i64), defaults)?;
     let f = make_record(alloc, v, Kind::Function, values)?;
-    Ok(Next::Goes(one(alloc, f)?))
+    Ok(push(f))
 }
 
 /// Makes the tuple of the defaults, and the function.
@@ -140,7 +140,8 @@ fn new_body<S, V: View<S>>(
     ensures { Meets V.sense (new_body n slots base) v.old v.new result }
 {
     let d = make_record(alloc, v, Kind::Dict, Values::new(alloc))?;
-    Ok(Next::Enters(body_frame(alloc, n, slots, base, d)?))
+    let f = body_frame(alloc, n, slots, base, d)?;
+    Ok(enter(alloc, f)?)
 }
 
 /// CLASS_BODY over a base of a kind, from one of so many frames.

@@ -59,7 +59,7 @@ fn unbound_row<S, V: View<S>>(
     ensures { Meets V.sense (unbound_row roots.0 name.now o) v.old v.new result }
 {
     match o {
-        Some(c) => const_row(alloc, v, roots, c),
+        Some(c) => const_row(v, roots, c),
         None => raise_unbound(alloc, v, roots, name),
     }
 }
@@ -97,7 +97,7 @@ fn bound_row<S, V: View<S>>(
 {
     match x {
         Value::Unset => named_builtin(alloc, v, roots, p, name),
-        _ => Ok(push(alloc, x)?),
+        _ => Ok(push(x)),
     }
 }
 
@@ -140,19 +140,18 @@ pub fn load_global_row<S, V: View<S>>(
 
 /// Puts a value into a cell.
 #[tactic(auto, using(py_data::proofs::Rows::change_steps), unfolding(py_frames::specs::GlobalRows::set_cell_row))]
-fn set_cell_row<S, V: View<S>>(alloc: Global, v: &mut V, a: Addr, x: Value) -> Result<Next, Stop>
+fn set_cell_row<S, V: View<S>>(v: &mut V, a: Addr, x: Value) -> Result<Next, Stop>
     requires live { IsLive V.sense v.old }
     requires safe { Safe V.sense.partial (set_cell_row {S = S} a.0 x) (V.sense.heap v.old) }
     ensures { Meets V.sense (set_cell_row a.0 x) v.old v.new result }
 {
     v.set_val(a, 0, x)?;
-    Ok(pass(alloc))
+    Ok(pass())
 }
 
 /// STORE_GLOBAL, in the cell that is the root of number `g`.
 #[tactic(auto, using(py_data::proofs::Rows::row_steps, py_data::proofs::Steps::call_steps), unfolding(py_frames::specs::GlobalRows::store_global_row))]
 pub fn store_global_row<S, V: View<S>>(
-    alloc: Global,
     v: &mut V,
     roots: Addr,
     g: u32,
@@ -163,7 +162,7 @@ pub fn store_global_row<S, V: View<S>>(
     ensures { Meets V.sense (store_global_row roots.0 g x) v.old v.new result }
 {
     let cell = look(v, roots, g as usize)?;
-    set_cell_row(alloc, v, place_in(cell), x)
+    set_cell_row(v, place_in(cell), x)
 }
 
 /// Empties a cell that holds `x`.
@@ -182,7 +181,7 @@ fn cleared_row<S, V: View<S>>(
 {
     match x {
         Value::Unset => raise_unbound(alloc, v, roots, name),
-        _ => set_cell_row(alloc, v, a, Value::Unset),
+        _ => set_cell_row(v, a, Value::Unset),
     }
 }
 
@@ -272,7 +271,7 @@ fn named_row<S, V: View<S>>(
     ensures { Meets V.sense (named_row roots.0 name.now (builtin_named p.now name.now) (cell_number p.now name.now) x) v.old v.new result }
 {
     match x {
-        Some(x) => Ok(push(alloc, x)?),
+        Some(x) => Ok(push(x)),
         None => global_row(alloc, v, roots, p, name),
     }
 }
@@ -366,7 +365,7 @@ fn gone_row<S, V: View<S>>(
     ensures { Meets V.sense (gone_row roots.0 name.now got) v.old v.new result }
 {
     match got {
-        Got::Is(_) => Ok(pass(alloc)),
+        Got::Is(_) => Ok(pass()),
         Got::Raise(_) => raise_unbound(alloc, v, roots, name),
     }
 }

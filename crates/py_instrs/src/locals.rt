@@ -14,33 +14,28 @@ use std::alloc::Global;
 
 /// Pushes the root of a number.
 #[tactic(auto, using(py_data::proofs::Rows::row_steps, py_data::proofs::Steps::call_steps), unfolding(py_frames::specs::LocalRows::const_row))]
-fn push_root<S, V: View<S>>(alloc: Global, v: &mut V, roots: Addr, n: u32) -> Result<Next, Stop>
+fn push_root<S, V: View<S>>(v: &mut V, roots: Addr, n: u32) -> Result<Next, Stop>
     requires live { IsLive V.sense v.old }
     requires safe { Safe V.sense.partial (const_row {S = S} roots.0 (Root n)) (V.sense.heap v.old) }
     ensures { Meets V.sense (const_row roots.0 (Root n)) v.old v.new result }
 {
     let x = look(v, roots, n as usize)?;
-    Ok(push(alloc, x)?)
+    Ok(push(x))
 }
 
 /// CONST.
 #[tactic(auto, using(py_data::proofs::Rows::row_steps), unfolding(py_frames::specs::LocalRows::const_row))]
-pub fn const_row<S, V: View<S>>(
-    alloc: Global,
-    v: &mut V,
-    roots: Addr,
-    c: Constant,
-) -> Result<Next, Stop>
+pub fn const_row<S, V: View<S>>(v: &mut V, roots: Addr, c: Constant) -> Result<Next, Stop>
     requires live { IsLive V.sense v.old }
     requires safe { Safe V.sense.partial (const_row {S = S} roots.0 c) (V.sense.heap v.old) }
     ensures { Meets V.sense (const_row roots.0 c) v.old v.new result }
 {
     match c {
-        Constant::None => Ok(push(alloc, Value::None)?),
-        Constant::Truth(b) => Ok(push(alloc, Value::Bool(b))?),
-        Constant::Int(n) => Ok(push(alloc, Value::Int(n))?),
-        Constant::Builtin(b) => Ok(push(alloc, Value::Builtin(b))?),
-        Constant::Root(n) => push_root(alloc, v, roots, n),
+        Constant::None => Ok(push(Value::None)),
+        Constant::Truth(b) => Ok(push(Value::Bool(b))),
+        Constant::Int(n) => Ok(push(Value::Int(n))),
+        Constant::Builtin(b) => Ok(push(Value::Builtin(b))),
+        Constant::Root(n) => push_root(v, roots, n),
     }
 }
 
@@ -88,7 +83,7 @@ pub fn load_local_row<S, V: View<S>>(
 {
     match x {
         Value::Unset => raise_unbound(alloc, v, roots, name),
-        _ => Ok(push(alloc, x)?),
+        _ => Ok(push(x)),
     }
 }
 

@@ -80,7 +80,7 @@ fn alone_by<S, V: View<S>>(
 {
     match kind {
         Kind::Class => class_raised(alloc, v, s, a),
-        Kind::Instance => Ok(push(alloc, Value::Ref(a))?),
+        Kind::Instance => Ok(push(Value::Ref(a))),
         _ => raise_row(alloc, v, s.roots, &raised_fault(alloc)?),
     }
 }
@@ -167,7 +167,7 @@ fn same_or_called<S, V: View<S>>(
     ensures { Meets V.sense (same_or_called s.now c.0 x same) v.old v.new result }
 {
     if same {
-        Ok(push(alloc, x)?)
+        Ok(push(x))
     } else {
         called_with(alloc, v, s, c, x)
     }
@@ -242,7 +242,7 @@ fn instance_valued<S, V: View<S>>(
     ensures { Meets V.sense (instance_valued s.now a.0 x) v.old v.new result }
 {
     match x {
-        Value::None => Ok(push(alloc, Value::Ref(a))?),
+        Value::None => Ok(push(Value::Ref(a))),
         _ => raise_row(alloc, v, s.roots, &raised_fault(alloc)?),
     }
 }

@@ -1,15 +1,13 @@
 //! Operators and jumps.
-ghost use Rattle.std.specs.Prelude.{◌≡◌, ◌<◌, length, MatchResult};
-ghost use Rattle.py_data.specs.declared.stop.Stop.TheVariants.{OutOfMemory};
+ghost use Rattle.std.specs.Prelude.{◌≡◌, ◌<◌, length};
 ghost use Rattle.py_base.specs.Numbers.{binary_signs, compare_signs, unary_signs};
 ghost use Rattle.py_data.specs.Sense.{Meets, Safe, IsLive};
 ghost use Rattle.py_frames.specs.OperatorRows as rows;
 
-use crate::raising::give;
-use obj_class::one;
+use crate::raising::{give, push};
 use obj_ops::{binary, compare, in_place, truth, unary};
-use py_data::{Addr, Stop, Value, Values, View};
-use py_frames::Next;
+use py_data::{Addr, Stop, Value, View};
+use py_frames::{Pushed, Next};
 use std::alloc::Global;
 
 /// UNARY: an operator of one operand, by its number.
@@ -32,13 +30,13 @@ pub fn unary_instr<S, V: View<S>>(
 
 /// NOT.
 #[tactic(auto, using(py_data::proofs::Rows::row_steps, py_data::proofs::Steps::call_steps), unfolding(py_frames::specs::OperatorRows::not_row))]
-pub fn not_row<S, V: View<S>>(alloc: Global, v: &mut V, x: Value) -> Result<Next, Stop>
+pub fn not_row<S, V: View<S>>(v: &mut V, x: Value) -> Result<Next, Stop>
     requires live { IsLive V.sense v.old }
     requires safe { Safe V.sense.partial (rows.not_row {S = S} x) (V.sense.heap v.old) }
     ensures { Meets V.sense (rows.not_row x) v.old v.new result }
 {
     let b = truth(v, x)?;
-    Ok(Next::Goes(one(alloc, Value::Bool(!b))?))
+    Ok(push(Value::Bool(!b)))
 }
 
 /// BINARY: an operator of two operands, by its number.
@@ -100,72 +98,57 @@ pub fn compare_instr<S, V: View<S>>(
 
 /// Where a jump leads that is made for what isn't true.
 #[tactic(auto, unfolding(py_frames::specs::OperatorRows::fall_or_jump))]
-fn fall_or_jump(alloc: Global, t: u32, b: bool) -> Next
+fn fall_or_jump(t: u32, b: bool) -> Next
     ensures { result ≡ rows.fall_or_jump t b }
 {
     if b {
-        Next::Goes(Values::new(alloc))
+        Next::Goes(Pushed::none())
     } else {
-        Next::Jumps(t, Values::new(alloc))
+        Next::Jumps(t, Pushed::none())
     }
 }
 
 /// JUMP_FALSE.
 #[tactic(auto, using(py_data::proofs::Rows::row_steps, py_data::proofs::Steps::call_steps), unfolding(py_frames::specs::OperatorRows::jump_false_row))]
-pub fn jump_false_row<S, V: View<S>>(
-    alloc: Global,
-    v: &mut V,
-    t: u32,
-    x: Value,
-) -> Result<Next, Stop>
+pub fn jump_false_row<S, V: View<S>>(v: &mut V, t: u32, x: Value) -> Result<Next, Stop>
     requires live { IsLive V.sense v.old }
     requires safe { Safe V.sense.partial (rows.jump_false_row {S = S} t x) (V.sense.heap v.old) }
     ensures { Meets V.sense (rows.jump_false_row t x) v.old v.new result }
 {
     let b = truth(v, x)?;
-    Ok(fall_or_jump(alloc, t, b))
+    Ok(fall_or_jump(t, b))
 }
 
 /// Where a jump leads that keeps the value, and is made for what isn't true.
 #[tactic(auto, unfolding(py_frames::specs::OperatorRows::pop_or_keep))]
-fn pop_or_keep(alloc: Global, t: u32, x: Value, b: bool) -> Result<Next, Stop>
-    ensures { MatchResult result (λ next. next ≡ rows.pop_or_keep t x b) (λ e. e ≡ OutOfMemory) }
+fn pop_or_keep(t: u32, x: Value, b: bool) -> Next
+    ensures { result ≡ rows.pop_or_keep t x b }
 {
     if b {
-        Ok(Next::Goes(Values::new(alloc)))
+        Next::Goes(Pushed::none())
     } else {
-        Ok(Next::Jumps(t, one(alloc, x)?))
+        Next::Jumps(t, Pushed::one(x))
     }
 }
 
 /// KEEP_FALSE.
 #[tactic(auto, using(py_data::proofs::Rows::row_steps, py_data::proofs::Steps::call_steps), unfolding(py_frames::specs::OperatorRows::keep_false_row))]
-pub fn keep_false_row<S, V: View<S>>(
-    alloc: Global,
-    v: &mut V,
-    t: u32,
-    x: Value,
-) -> Result<Next, Stop>
+pub fn keep_false_row<S, V: View<S>>(v: &mut V, t: u32, x: Value) -> Result<Next, Stop>
     requires live { IsLive V.sense v.old }
     requires safe { Safe V.sense.partial (rows.keep_false_row {S = S} t x) (V.sense.heap v.old) }
     ensures { Meets V.sense (rows.keep_false_row t x) v.old v.new result }
 {
     let b = truth(v, x)?;
-    pop_or_keep(alloc, t, x, b)
+    Ok(pop_or_keep(t, x, b))
 }
 
 /// KEEP_TRUE.
 #[tactic(auto, using(py_data::proofs::Rows::row_steps, py_data::proofs::Steps::call_steps), unfolding(py_frames::specs::OperatorRows::keep_true_row))]
-pub fn keep_true_row<S, V: View<S>>(
-    alloc: Global,
-    v: &mut V,
-    t: u32,
-    x: Value,
-) -> Result<Next, Stop>
+pub fn keep_true_row<S, V: View<S>>(v: &mut V, t: u32, x: Value) -> Result<Next, Stop>
     requires live { IsLive V.sense v.old }
     requires safe { Safe V.sense.partial (rows.keep_true_row {S = S} t x) (V.sense.heap v.old) }
     ensures { Meets V.sense (rows.keep_true_row t x) v.old v.new result }
 {
     let b = truth(v, x)?;
-    pop_or_keep(alloc, t, x, !b)
+    Ok(pop_or_keep(t, x, !b))
 }

@@ -73,7 +73,7 @@ fn put_row<S, V: View<S>>(alloc: Global, v: &mut V, text: &[u8], mid: bool) -> R
     let all = spaced(alloc, mid, text)?;
     v.put(Out::Output, all.as_slice())?;
     v.set_mid_line(stays_mid(text));
-    Ok(pass(alloc))
+    Ok(pass())
 }
 
 /// Writes a text, with a space before it where the output is in the middle of a line.
@@ -107,14 +107,14 @@ pub fn print_item_row<S, V: View<S>>(
 
 /// PRINT_NEWLINE.
 #[tactic(auto, using(py_data::proofs::Rows::row_steps, py_data::proofs::Steps::call_steps), unfolding(py_frames::specs::PrintRows::print_newline_row))]
-pub fn print_newline_row<S, V: View<S>>(alloc: Global, v: &mut V) -> Result<Next, Stop>
+pub fn print_newline_row<S, V: View<S>>(v: &mut V) -> Result<Next, Stop>
     requires live { IsLive V.sense v.old }
     requires safe { Safe V.sense.partial (print_newline_row {S = S}) (V.sense.heap v.old) }
     ensures { Meets V.sense print_newline_row v.old v.new result }
 {
     v.put(Out::Output, b"\n")?;
     v.set_mid_line(false);
-    Ok(pass(alloc))
+    Ok(pass())
 }
 
 /// The text of an exception behind the name of its class.

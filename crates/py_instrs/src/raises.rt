@@ -177,7 +177,6 @@ fn catches_row<S, V: View<S>>(v: &mut V, roots: Addr, e: Addr, c: Value) -> Resu
 /// Pushes whether a value catches an exception of the class `e`.
 #[tactic(auto, using(py_data::proofs::Rows::row_steps, py_data::proofs::Steps::call_steps), unfolding(py_frames::specs::RaiseRows::told_match))]
 fn told_match<S, V: View<S>>(
-    alloc: Global,
     v: &mut V,
     roots: Addr,
     c: Value,
@@ -188,13 +187,12 @@ fn told_match<S, V: View<S>>(
     ensures { Meets V.sense (told_match roots.0 c e.0) v.old v.new result }
 {
     let b = catches_row(v, roots, e, c)?;
-    Ok(push(alloc, Value::Bool(b))?)
+    Ok(push(Value::Bool(b)))
 }
 
 /// The same for the class of an instance.
 #[tactic(auto, using(py_data::proofs::Rows::row_steps, py_data::proofs::Steps::call_steps), unfolding(py_frames::specs::RaiseRows::class_match))]
 fn class_match<S, V: View<S>>(
-    alloc: Global,
     v: &mut V,
     roots: Addr,
     c: Value,
@@ -205,7 +203,7 @@ fn class_match<S, V: View<S>>(
     ensures { Meets V.sense (class_match roots.0 c a.0) v.old v.new result }
 {
     let e = look(v, a, 0)?;
-    told_match(alloc, v, roots, c, place_in(e))
+    told_match(v, roots, c, place_in(e))
 }
 
 /// EXC_MATCH for a record of a kind.
@@ -223,7 +221,7 @@ fn match_by<S, V: View<S>>(
     ensures { Meets V.sense (match_by roots.0 c a.0 kind) v.old v.new result }
 {
     match kind {
-        Kind::Instance => class_match(alloc, v, roots, c, a),
+        Kind::Instance => class_match(v, roots, c, a),
         _ => raise_row(alloc, v, roots, &operand_fault(alloc)?),
     }
 }

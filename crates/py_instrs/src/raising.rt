@@ -2,14 +2,14 @@
 ghost use Rattle.std.specs.Prelude.{◌≡◌, IfOk, [], ◌∷◌};
 ghost use Rattle.py_data.specs.Fault.{depth_fault, memory_fault, operand_fault, text_fault};
 ghost use Rattle.py_data.specs.Sense.{Meets, Safe, IsLive};
-ghost use Rattle.py_frames.specs.declared.next.Next.TheVariants.{Goes};
+ghost use Rattle.py_frames.specs.declared.next.Next.TheVariants.{Enters, Goes};
 ghost use Rattle.py_frames.specs.Raising.{base_fault, done, fail_row, give, place_in, raise_row, raised_fault, values_row};
 
-use obj_class::{make_fault, one};
+use obj_class::make_fault;
 use obj_ops::values_of;
 use py_data::exception::{MEMORY_ERROR, RUNTIME_ERROR, TYPE_ERROR};
 use py_data::{Addr, Bytes, Fault, Got, NoMemory, Stop, Value, Values, View, With};
-use py_frames::Next;
+use py_frames::{Entered, Pushed, Frame, Next};
 use std::alloc::Global;
 
 /// The address in a value; 0 where it has none.
@@ -23,27 +23,31 @@ pub fn place_in(x: Value) -> Addr
 }
 
 /// A value is pushed.
-pub fn push(alloc: Global, x: Value) -> Result<Next, NoMemory>
-    ensures { IfOk result (λ n. n ≡ Goes (x ∷ [])) }
+pub fn push(x: Value) -> Next
+    ensures { result ≡ Goes (x ∷ []) }
 {
-    Ok(Next::Goes(one(alloc, x)?))
+    Next::Goes(Pushed::one(x))
 }
 
 /// Two values are pushed, the second on top.
-pub fn push_two(alloc: Global, x: Value, y: Value) -> Result<Next, NoMemory>
-    ensures { IfOk result (λ n. n ≡ Goes (x ∷ y ∷ [])) }
+pub fn push_two(x: Value, y: Value) -> Next
+    ensures { result ≡ Goes (x ∷ y ∷ []) }
 {
-    let mut values = Values::new(alloc);
-    values.push(x)?;
-    values.push(y)?;
-    Ok(Next::Goes(values))
+    Next::Goes(Pushed::two(x, y))
 }
 
 /// Nothing is pushed.
-pub fn pass(alloc: Global) -> Next
+pub fn pass() -> Next
     ensures { result ≡ Goes [] }
 {
-    Next::Goes(Values::new(alloc))
+    Next::Goes(Pushed::none())
+}
+
+/// A frame is entered.
+pub fn enter(alloc: Global, f: Frame) -> Result<Next, NoMemory>
+    ensures { IfOk result (λ n. n ≡ Enters f) }
+{
+    Ok(Next::Enters(Entered::new(alloc, f)?))
 }
 
 /// An instruction raises an exception.
@@ -119,7 +123,7 @@ pub fn give<S, V: View<S>>(
     ensures { Meets V.sense (give roots.0 got) v.old v.new result }
 {
     match got {
-        Got::Is(x) => Ok(push(alloc, x)?),
+        Got::Is(x) => Ok(push(x)),
         Got::Raise(e) => raise_row(alloc, v, roots, &e),
     }
 }
@@ -137,7 +141,7 @@ pub fn done<S, T: Drop, V: View<S>>(
     ensures { Meets V.sense (done roots.0 got) v.old v.new result }
 {
     match got {
-        Got::Is(_) => Ok(pass(alloc)),
+        Got::Is(_) => Ok(pass()),
         Got::Raise(e) => raise_row(alloc, v, roots, &e),
     }
 }

@@ -5,9 +5,8 @@ ghost use Rattle.py_frames.specs.Binding as binding;
 ghost use Rattle.py_frames.specs.CallRows as call_rows;
 
 use crate::binding::{bound_row, count_in};
-use crate::raising::{place_in, raise_row, values_row};
+use crate::raising::{place_in, push, raise_row, values_row};
 use crate::site::{Given, Site, with_first};
-use obj_class::one;
 use py_data::{Addr, Got, Kind, NoMemory, Stop, Value, View, kind, look};
 use py_frames::{Frame, Next};
 use py_states::ThreadState;
@@ -43,10 +42,9 @@ fn counted_row<V: View<ThreadState>>(
     ensures { Meets V.sense (call_rows.counted_row roots.0 thread f.now count.0 n x) v.old v.new result }
 {
     let state = new_state(alloc, n, roots, thread, f)?;
-    let pushed = one(alloc, x)?;
     v.set_val(count, 0, Value::Int(n as i64 + 1))?;
     v.start_thread(state)?;
-    Ok(Next::Goes(pushed))
+    Ok(push(x))
 }
 
 /// The Thread record gets its number, and the answer is None; without one the answer is the number.

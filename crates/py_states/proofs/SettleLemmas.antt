@@ -1,5 +1,5 @@
 -- What each end of an instruction comes to, where there is a frame.
-use Rattle.std.proofs.Common.{arith, ◌≡◌, ℕ, ◌+◌, ◌-◌, ◌<◌, List, [], ◌∷◌, length, drop, get_or, Some, Result, Ok, Err, IfOk, sym, ap, ◌∙◌}
+use Rattle.std.proofs.Common.{arith, ◌≡◌, ℕ, ◌+◌, ◌-◌, ◌<◌, List, [], ◌∷◌, length, drop, get_or, Some, Result, Ok, Err, IfOk, sym, ap, subst, ◌∙◌}
 use Rattle.py_data.specs.declared.value.Addr.{Addr}
 use Rattle.py_data.specs.declared.value.Value.{Value}
 use Rattle.py_code.specs.declared.program.Program.{Program}
@@ -59,12 +59,14 @@ unfolding settled
 closes_is p s n next [] e l = absurd (omega (arith, l))
 closes_is p s n next (f ∷ fs) e l = sym (ap (settled p s n f fs) e)
 
-pub enters_is : (p : Program) (s : State) (n : ℕ) (next : Next) (g : Frame) (fs : List Frame) → next ≡ Enters g →
-    0 < length fs
-    → Ends p s n next fs (Done, with_frames s (g ∷ on_top (passed n) fs))
+pub enters_is : (p : Program) (s : State) (n : ℕ) (next : Next) (h g : Frame) (fs : List Frame) → next ≡ Enters g →
+    h ≡ g → 0 < length fs
+    → Ends p s n next fs (Done, with_frames s (h ∷ on_top (passed n) fs))
 unfolding settled
-enters_is p s n next g [] e l = absurd (omega (arith, l))
-enters_is p s n next g (f ∷ fs) e l = sym (ap (settled p s n f fs) e)
+enters_is p s n next h g [] e q l = absurd (omega (arith, l))
+enters_is p s n next h g (f ∷ fs) e q l =
+    let make : Frame → Outcome × State = λ z. (Done, with_frames s (z ∷ passed n f ∷ fs)) in
+    ap make q ∙ sym (ap (settled p s n f fs) e)
 
 pub leaves_is : (p : Program) (s : State) (n : ℕ) (next : Next) (x : Value) (fs : List Frame) → next ≡ Leaves x →
     0 < length fs
@@ -81,33 +83,29 @@ begins_is p s n next a [] e l = absurd (omega (arith, l))
 begins_is p s n next a (f ∷ fs) e l = sym (ap (settled p s n f fs) e)
 
 -- the line of the innermost frame's instruction
-lined : (p : Program) (line code pc : ℕ) (f : Frame) → (let c = code_at p code in line ≡ get_or c.lines pc 0) →
+pub lined : (p : Program) (line code pc : ℕ) (f : Frame) → (let c = code_at p code in line ≡ get_or c.lines pc 0) →
     code ≡ f.code → pc ≡ f.pc → line ≡ line_at p f
 lined p line code pc f e q r =
     let at : ℕ → ℕ → ℕ = λ i j. let c = code_at p i in get_or c.lines j 0 in
     e ∙ (λ i. at (q i) (r i))
 
-pub fails_is : (p : Program) (s : State) (n line code pc : ℕ) (next : Next) (x : Value) (fs : List Frame) →
-    next ≡ Fails x → 0 < length fs
-    → (let c = code_at p code in line ≡ get_or c.lines pc 0) → (let f = innermost fs in code ≡ f.code) →
-    (let f = innermost fs in pc ≡ f.pc)
-    → Ends p s n next fs (Done, thrown_to s x line (unwound x (drop 1 fs)))
-unfolding settled
-fails_is p s n line code pc next x [] e l a b c = absurd (omega (arith, l))
-fails_is p s n line code pc next x (f ∷ fs) e l a b c =
-    let make : ℕ → Outcome × State = λ k. (Done, thrown_to s x k (unwound x fs)) in
-    ap make (lined p line code pc f a b c) ∙ sym (ap (settled p s n f fs) e)
+-- an exception that is raised at this line
+pub thrown_at : {E : Type 0} (s t : State) (x : Value) (line other : ℕ) (gs : List Frame) (r : Result Outcome E) →
+    IfOk r (λ o. Settles (Done, thrown_to s x line gs) o t) → line ≡ other →
+    IfOk r (λ o. Settles (Done, thrown_to s x other gs) o t)
+thrown_at s t x line other gs r h e = subst (λ k. IfOk r (λ o. Settles (Done, thrown_to s x k gs) o t)) e h
 
-pub throws_is : (p : Program) (s : State) (n line code pc : ℕ) (next : Next) (x : Value) (fs : List Frame) →
-    next ≡ Throws x → 0 < length fs
-    → (let c = code_at p code in line ≡ get_or c.lines pc 0) → (let f = innermost fs in code ≡ f.code) →
-    (let f = innermost fs in pc ≡ f.pc)
-    → Ends p s n next fs (Done, thrown_to s x line (unwound x (drop 0 fs)))
+pub fails_is : (p : Program) (s : State) (n : ℕ) (next : Next) (x : Value) (fs : List Frame) → next ≡ Fails x →
+    0 < length fs → Ends p s n next fs (Done, thrown_to s x (line_at p (innermost fs)) (unwound x (drop 1 fs)))
 unfolding settled
-throws_is p s n line code pc next x [] e l a b c = absurd (omega (arith, l))
-throws_is p s n line code pc next x (f ∷ fs) e l a b c =
-    let make : ℕ → Outcome × State = λ k. (Done, thrown_to s x k (unwound x (f ∷ fs))) in
-    ap make (lined p line code pc f a b c) ∙ sym (ap (settled p s n f fs) e)
+fails_is p s n next x [] e l = absurd (omega (arith, l))
+fails_is p s n next x (f ∷ fs) e l = sym (ap (settled p s n f fs) e)
+
+pub throws_is : (p : Program) (s : State) (n : ℕ) (next : Next) (x : Value) (fs : List Frame) → next ≡ Throws x →
+    0 < length fs → Ends p s n next fs (Done, thrown_to s x (line_at p (innermost fs)) (unwound x (drop 0 fs)))
+unfolding settled
+throws_is p s n next x [] e l = absurd (omega (arith, l))
+throws_is p s n next x (f ∷ fs) e l = sym (ap (settled p s n f fs) e)
 
 pub waits_is : (p : Program) (s t : State) (n : ℕ) (next : Next) (fs : List Frame) → next ≡ Waits → t ≡ s →
     0 < length fs → Settles (settled_in p s n next fs) WaitsNow t

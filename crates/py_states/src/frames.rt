@@ -176,6 +176,14 @@ impl Frames {
         self.blocks.reserve(blocks)
     }
 
+    /// Makes room for so many values more.
+    pub fn make_room_for_values(&mut self, values: usize) -> Result<(), NoMemory>
+        ensures same { self.new.frames ≡ self.old.frames }
+        ensures ok { OnOk result (values ≤ self.new.more_values) }
+    {
+        self.values.reserve(values)
+    }
+
     /// Cuts the innermost frame's stack to its first `m` values, and puts these on top.
     #[tactic(auto, using(crate::proofs::LaidLemmas::restacked_laid))]
     pub fn restack(&mut self, m: usize, ys: &[Value])

@@ -53,7 +53,7 @@ impl Frames {
         ensures ok { OnOk result (self.new.frames ≡ on_top (advanced n ys.now place) self.old.frames) }
         ensures err { OnErr result (self.new.frames ≡ self.old.frames) }
     {
-        self.make_room(ys.len(), 0, 0)?;
+        self.make_room_for_values(ys.len())?;
         self.go_on(n, ys, place);
         Ok(())
     }
@@ -64,7 +64,7 @@ impl Frames {
         ensures ok { OnOk result (self.new.frames ≡ on_top (pushed x) (drop 1 self.old.frames)) }
         ensures err { OnErr result (self.new.frames ≡ self.old.frames) }
     {
-        self.make_room(1, 0, 0)?;
+        self.make_room_for_values(1)?;
         self.pop();
         let height = self.height();
         self.restack(height, &[x]);

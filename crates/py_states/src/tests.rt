@@ -5,7 +5,7 @@ use lock_run::{Life, Outcome};
 use py_base::NoMemory;
 use py_code::{Codes, Program, Roots};
 use py_data::{Addr, Items, Value, Values};
-use py_frames::{Frame, Next};
+use py_frames::{Entered, Pushed, Frame, Next};
 use std::alloc::Global;
 use std::test::Fail;
 
@@ -46,10 +46,9 @@ fn called(alloc: Global) -> Result<ThreadState, NoMemory> {
     let mut thread = begun(alloc)?;
     let program = program(alloc);
     thread.settle(&program, 0, Next::Opens(9))?;
-    let pushed = Values::from_slice(alloc, &[Value::Int(13)])?;
-    thread.settle(&program, 0, Next::Goes(pushed))?;
+    thread.settle(&program, 0, Next::Goes(Pushed::one(Value::Int(13))))?;
     let frame = frame(alloc, 5, &[Value::Int(20), Value::Unset], &[Value::Int(21)])?;
-    thread.settle(&program, 1, Next::Enters(frame))?;
+    thread.settle(&program, 1, Next::Enters(Entered::new(alloc, frame)?))?;
     Ok(thread)
 }
 

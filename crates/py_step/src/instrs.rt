@@ -20,13 +20,13 @@ use crate::place::place_of;
 use py_base::{first, skip};
 use py_code::Instr;
 use py_data::{Kind, NoMemory, Stop, Value, Values, View};
-use py_frames::Next;
+use py_frames::{Pushed, Next};
 use py_instrs::{
     Given, Site, binary_instr, build_dict_row, class_body_row, code_name, compare_instr, const_row,
     del_attr_instr, del_global_row, del_item_instr, exc_match_row, in_place_instr, iter_instr,
     jump_false_row, keep_false_row, keep_true_row, keys_at, load_attr_row, load_item_row,
     load_method_row, made_alone, made_valued, make_function_row, next_instr, not_row, pass,
-    print_item_row, print_newline_row, raise_value, root_name, setup_row, slice_instr, slot_name,
+    print_item_row, print_newline_row, push_two, raise_value, root_name, setup_row, slice_instr, slot_name,
     store_attr_row, store_global_row, store_item_row, store_name_row, unary_instr, unpack_row,
     value_call, value_or_unset,
 };
@@ -37,7 +37,7 @@ use std::alloc::Global;
 fn push_all(alloc: Global, xs: &[Value]) -> Result<Next, NoMemory>
     ensures { IfOk result (λ n. n ≡ Goes xs.now) }
 {
-    Ok(Next::Goes(Values::from_slice(alloc, xs)?))
+    Ok(Next::Goes(Pushed::from_slice(alloc, xs)?))
 }
 
 /// LOAD_LOCAL.
@@ -320,17 +320,17 @@ pub fn instr_row<V: View<ThreadState>>(
     let z = value_or_unset(xs, 2);
     match i {
         Instr::Setup => setup_row(alloc, v, s.program),
-        Instr::Const(c) => const_row(alloc, v, s.roots, c),
-        Instr::Pop => Ok(pass(alloc)),
-        Instr::Dup => Ok(push_all(alloc, &[x, x])?),
-        Instr::Rot2 => Ok(push_all(alloc, &[y, x])?),
+        Instr::Const(c) => const_row(v, s.roots, c),
+        Instr::Pop => Ok(pass()),
+        Instr::Dup => Ok(push_two(x, x)),
+        Instr::Rot2 => Ok(push_two(y, x)),
         Instr::Dup2 => Ok(push_all(alloc, &[x, y, x, y])?),
         Instr::Rot3 => Ok(push_all(alloc, &[z, x, y])?),
         Instr::LoadLocal(j) => load_local(alloc, v, s, t, j),
         Instr::StoreLocal(j) => Ok(Next::Stores(j, x)),
         Instr::DelLocal(j) => del_local(alloc, v, s, t, j),
         Instr::LoadGlobal(g) => load_global(alloc, v, s, g),
-        Instr::StoreGlobal(g) => store_global_row(alloc, v, s.roots, g, x),
+        Instr::StoreGlobal(g) => store_global_row(v, s.roots, g, x),
         Instr::DelGlobal(g) => del_global_row(alloc, v, s.roots, g, root_name(s.program, g)),
         Instr::LoadName(n) => load_name(alloc, v, s, t, n),
         Instr::StoreName(n) => store_name(alloc, v, s, t, n, x),
@@ -344,14 +344,14 @@ pub fn instr_row<V: View<ThreadState>>(
         Instr::DelItem => del_item_instr(alloc, v, s.roots, x, y),
         Instr::Slice => slice_instr(alloc, v, s.roots, x, y, z),
         Instr::Unary(o) => unary_instr(alloc, v, s.roots, o, x),
-        Instr::Not => not_row(alloc, v, x),
+        Instr::Not => not_row(v, x),
         Instr::Binary(o) => binary_instr(alloc, v, s.roots, o, x, y),
         Instr::InPlace(o) => in_place_instr(alloc, v, s.roots, o, x, y),
         Instr::Compare(o) => compare_instr(alloc, v, s.roots, o, x, y),
-        Instr::Jump(place) => Ok(Next::Jumps(place, Values::new(alloc))),
-        Instr::JumpFalse(place) => jump_false_row(alloc, v, place, x),
-        Instr::KeepFalse(place) => keep_false_row(alloc, v, place, x),
-        Instr::KeepTrue(place) => keep_true_row(alloc, v, place, x),
+        Instr::Jump(place) => Ok(Next::Jumps(place, Pushed::none())),
+        Instr::JumpFalse(place) => jump_false_row(v, place, x),
+        Instr::KeepFalse(place) => keep_false_row(v, place, x),
+        Instr::KeepTrue(place) => keep_true_row(v, place, x),
         Instr::BuildTuple(_) => build(alloc, v, s, Kind::Tuple, xs),
         Instr::BuildList(_) => build(alloc, v, s, Kind::List, xs),
         Instr::BuildDict(_) => build_dict_row(alloc, v, s.roots, xs),
@@ -369,6 +369,6 @@ pub fn instr_row<V: View<ThreadState>>(
         Instr::MakeRaised(n) => made_raised(alloc, v, s, xs, n),
         Instr::Raise => raise_value(alloc, v, s.roots, x),
         Instr::PrintItem => print_item_row(alloc, v, s.roots, x),
-        Instr::PrintNewline => print_newline_row(alloc, v),
+        Instr::PrintNewline => print_newline_row(v),
     }
 }

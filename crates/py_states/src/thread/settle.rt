@@ -1,7 +1,7 @@
 //! What an instruction leads to, done to the state of the thread.
 ghost use Rattle.std.specs.Prelude.{◌≡◌, ◌+◌, ◌-◌, [], ◌∷◌, length, drop, get_or, Some, IfOk, OnErr};
 ghost use Rattle.lock_run.specs.declared.client.Outcome.TheVariants.{Done};
-ghost use Rattle.py_frames.specs.State.{advanced, closed, code_at, opened, passed, returned, stored, thrown_to, unwound, with_frames};
+ghost use Rattle.py_frames.specs.State.{advanced, closed, code_at, line_at as line_of, opened, passed, returned, stored, thrown_to, unwound, with_frames};
 ghost use Rattle.py_states.specs.Innermost.{innermost, settled_in, Settles};
 ghost use Rattle.py_states.specs.Leading.{leads};
 ghost use Rattle.py_states.specs.inner.Changes.{on_top, with_top};
@@ -140,6 +140,15 @@ impl ThreadState {
         Ok(Outcome::Done)
     }
 
+    /// The same, at the line of the innermost frame's instruction.
+    fn raises(&mut self, program: &Program, first: usize, x: Value) -> Result<Outcome, NoMemory>
+        ensures ok { IfOk result (λ o. Settles (Done, thrown_to self.old x (line_of program.now (innermost self.old.frames)) (unwound x (drop first self.old.frames))) o self.new) }
+        ensures err { OnErr result (self.new ≡ self.old) }
+    {
+        let line = line_at(program, self.frames.code(), self.frames.pc());
+        self.throws(first, x, line)
+    }
+
     /// What an instruction that takes `n` operands leads to, done in time of what it changes; only an exception that no block
     /// takes, once in the life of a thread, looks through all frames. At want of memory the state stays as it is, and so it
     /// does where it has no frame.
@@ -150,18 +159,17 @@ impl ThreadState {
         if self.frames.len() == 0 {
             return Ok(Outcome::Waits);
         }
-        let line = line_at(program, self.frames.code(), self.frames.pc());
         match next {
             Next::Goes(ys) => self.goes(n, ys.as_slice()),
             Next::Jumps(place, ys) => self.jumps(n, place, ys.as_slice()),
             Next::Stores(i, x) => self.stores(n, i, x),
             Next::Opens(handler) => self.opens(n, handler),
             Next::Closes => self.closes(n),
-            Next::Enters(frame) => self.enters(n, &frame),
+            Next::Enters(entered) => self.enters(n, entered.frame()),
             Next::Leaves(x) => self.leaves(x),
-            Next::Fails(x) => self.throws(1, x, line),
+            Next::Fails(x) => self.raises(program, 1, x),
             Next::Begins(roots) => self.begins(n, roots),
-            Next::Throws(x) => self.throws(0, x, line),
+            Next::Throws(x) => self.raises(program, 0, x),
             Next::Waits => Ok(Outcome::Waits),
         }
     }

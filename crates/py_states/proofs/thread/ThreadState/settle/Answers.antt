@@ -1,18 +1,10 @@
-use Rattle.std.proofs.Common.{arith, ◌≡◌, ℕ, ◌<◌, List, length, refl, ap, ◌∙◌}
-use Rattle.py_frames.specs.declared.state.Frame.{Frame}
+use Rattle.std.proofs.Common.{arith, ◌≡◌, ◌<◌, length, refl, ap}
 use Rattle.py_frames.specs.State.{State}
-use Rattle.py_states.specs.Innermost.{innermost}
 use Rattle.py_states.proofs.SettleLemmas.{ended, goes_is, jumps_is, stores_is, opens_is, closes_is, enters_is, leaves_is, begins_is, fails_is, throws_is, waits_is}
 use Rattle.py_states.proofs.thread.ThreadState.settle.Goals as goal
 
 frames_same : {s t : State} → s ≡ t → s.frames ≡ t.frames
 frames_same e = ap (λ (z : State). z.frames) e
-
-abbrev code_in : List Frame → ℕ
-code_in fs = (innermost fs).code
-
-abbrev pc_in : List Frame → ℕ
-pc_in fs = (innermost fs).pc
 
 pub returns-in-Goes-clause-ok : goal.returns-in-Goes-clause-ok
 returns-in-Goes-clause-ok c =
@@ -48,7 +40,7 @@ pub returns-in-Enters-clause-ok : goal.returns-in-Enters-clause-ok
 returns-in-Enters-clause-ok c =
     let same = frames_same c.self.view_is in
     let some : 0 < length c.args.self.now.frames = omega (arith, c.len.ensures, ap length same, c.if-len-eq0.false) in
-    ended _ _ _ _ c.enters.ensures.ok (enters_is _ _ _ _ _ _ c.in-Enters.is some)
+    ended _ _ _ _ c.enters.ensures.ok (enters_is _ _ _ _ _ _ _ c.in-Enters.is c.frame.ensures some)
 
 pub returns-in-Leaves-clause-ok : goal.returns-in-Leaves-clause-ok
 returns-in-Leaves-clause-ok c =
@@ -60,8 +52,7 @@ pub returns-in-Fails-clause-ok : goal.returns-in-Fails-clause-ok
 returns-in-Fails-clause-ok c =
     let same = frames_same c.self.view_is in
     let some : 0 < length c.args.self.now.frames = omega (arith, c.len.ensures, ap length same, c.if-len-eq0.false) in
-    ended _ _ _ _ c.throws.ensures.ok (fails_is _ _ _ _ _ _ _ _ _ c.in-Fails.is some c.line_at-line.ensures
-    (c.code.ensures ∙ ap code_in same) (c.pc.ensures ∙ ap pc_in same))
+    ended _ _ _ _ c.raises.ensures.ok (fails_is _ _ _ _ _ _ c.in-Fails.is some)
 
 pub returns-in-Begins-clause-ok : goal.returns-in-Begins-clause-ok
 returns-in-Begins-clause-ok c =
@@ -73,9 +64,7 @@ pub returns-in-Throws-clause-ok : goal.returns-in-Throws-clause-ok
 returns-in-Throws-clause-ok c =
     let same = frames_same c.self.view_is in
     let some : 0 < length c.args.self.now.frames = omega (arith, c.len.ensures, ap length same, c.if-len-eq0.false) in
-    ended _ _ _ _ c.throws-in-Throws.ensures.ok
-    (throws_is _ _ _ _ _ _ _ _ _ c.in-Throws.is some c.line_at-line.ensures (c.code.ensures ∙ ap code_in same)
-    (c.pc.ensures ∙ ap pc_in same))
+    ended _ _ _ _ c.raises-in-Throws.ensures.ok (throws_is _ _ _ _ _ _ c.in-Throws.is some)
 
 pub returns-in-Waits-clause-ok : goal.returns-in-Waits-clause-ok
 returns-in-Waits-clause-ok c =
