@@ -1,2 +1,2 @@
--- What code and proofs say to each other of values in place. Nothing public rests on it.
+-- What code and proofs say to each other: nothing public rests on it.
 pub mod Held

@@ -15,8 +15,8 @@ pub fn outcome_law()
     ensures { OutcomeLaw }
 {}
 
-/// In the course of a step no record is longer than before it, or than at its end; and a step that asks whether the output
-/// is in mid line goes on to write.
+/// In the course of a step no record is longer than before it, or than at its end; and a step that asks whether the
+/// output is in mid line goes on to write.
 pub fn steady_law()
     ensures lengths { SteadyStepLaw }
     ensures asks { AskLaw }

@@ -59,7 +59,8 @@ fn bound_slots(
     g: &Given<'_>,
     defaults: &[Value],
 ) -> Result<Values, NoMemory>
-    ensures { IfOk result (λ xs. xs ≡ binding.bound_slots (state.code_at p.now n) g.now.args (map (state.root_name p.now) g.now.names) g.now.values defaults.now) }
+    ensures { IfOk result (λ xs. xs ≡ binding.bound_slots (state.code_at p.now n) g.now.args
+        (map (state.root_name p.now) g.now.names) g.now.values defaults.now) }
 {
     let names = skip(parameters(p, n), g.args.len());
     let beside = last_defaults(alloc, names.len(), defaults)?;

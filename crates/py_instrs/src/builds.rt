@@ -11,7 +11,9 @@ ghost use Rattle.obj_dict.specs.Dict.{key_row};
 ghost use Rattle.py_frames.specs.BuildRows as rows;
 ghost use Rattle.py_frames.specs.Raising as raising;
 
-use crate::raising::{give, memory_fault, place_in, push, push_two, raise_operand, raise_row, told};
+use crate::raising::{
+    give, memory_fault, place_in, push, push_two, raise_operand, raise_row, told,
+};
 use obj_class::make_record;
 use obj_seq::{gather, make_iter, next as next_item};
 use py_data::exception::{MEMORY_ERROR, TYPE_ERROR, VALUE_ERROR};
@@ -19,7 +21,7 @@ use py_data::{
     Addr, Bytes, Fault, Got, Kind, LENGTH_LIMIT, NoMemory, Record, Stop, Value, Values, View, With,
     kind,
 };
-use py_frames::{Pushed, Next};
+use py_frames::{Next, Pushed};
 use std::alloc::Global;
 
 /// Makes a tuple or a list of these values, and pushes it.

@@ -113,7 +113,8 @@ fn keys_row<S, V: View<S>>(
     values: &[Value],
 ) -> Result<Values, Stop>
     requires live { IsLive V.sense v.old }
-    requires safe { Safe V.sense.partial (call_rows.keys_row {S = S} roots.0 names.now values.now) (V.sense.heap v.old) }
+    requires safe { Safe V.sense.partial (call_rows.keys_row {S = S} roots.0 names.now values.now)
+        (V.sense.heap v.old) }
     ensures { Meets V.sense (call_rows.keys_row roots.0 names.now values.now) v.old v.new result }
 {
     match names {
@@ -154,7 +155,8 @@ fn function_first<S, V: View<S>>(
     f: Addr,
 ) -> Result<Next, Stop>
     requires live { IsLive V.sense v.old }
-    requires safe { Safe V.sense.partial (call_rows.function_call {S = S} s.now (binding.with_first own g.now) f.0) (V.sense.heap v.old) }
+    requires safe { Safe V.sense.partial (call_rows.function_call {S = S} s.now (binding.with_first own g.now) f.0)
+        (V.sense.heap v.old) }
     ensures { Meets V.sense (call_rows.function_call s.now (binding.with_first own g.now) f.0) v.old v.new result }
 {
     let args = with_first(alloc, own, g.args)?;
@@ -255,7 +257,8 @@ fn record_first<V: View<ThreadState>>(
     kind: Kind,
 ) -> Result<Next, Stop>
     requires live { IsLive V.sense v.old }
-    requires safe { Safe V.sense.partial (call_rows.record_call s.now (binding.with_first own g.now) a.0 kind) (V.sense.heap v.old) }
+    requires safe { Safe V.sense.partial (call_rows.record_call s.now (binding.with_first own g.now) a.0 kind)
+        (V.sense.heap v.old) }
     ensures { Meets V.sense (call_rows.record_call s.now (binding.with_first own g.now) a.0 kind) v.old v.new result }
 {
     let args = with_first(alloc, own, g.args)?;
@@ -279,7 +282,8 @@ fn record_owned<V: View<ThreadState>>(
     kind: Kind,
 ) -> Result<Next, Stop>
     requires live { IsLive V.sense v.old }
-    requires safe { Safe V.sense.partial (call_rows.record_call s.now (binding.with_own own g.now) a.0 kind) (V.sense.heap v.old) }
+    requires safe { Safe V.sense.partial (call_rows.record_call s.now (binding.with_own own g.now) a.0 kind)
+        (V.sense.heap v.old) }
     ensures { Meets V.sense (call_rows.record_call s.now (binding.with_own own g.now) a.0 kind) v.old v.new result }
 {
     match own {

@@ -125,7 +125,8 @@ fn given_instance<S, V: View<S>>(
     exception: bool,
 ) -> Result<Next, Stop>
     requires live { IsLive V.sense v.old }
-    requires safe { Safe V.sense.partial (class_calls.given_instance {S = S} s.now c.0 g.now exception) (V.sense.heap v.old) }
+    requires safe { Safe V.sense.partial (class_calls.given_instance {S = S} s.now c.0 g.now exception)
+        (V.sense.heap v.old) }
     ensures { Meets V.sense (class_calls.given_instance s.now c.0 g.now exception) v.old v.new result }
 {
     let x = new_instance(alloc, v, c, g.args, exception)?;
@@ -143,7 +144,8 @@ fn bare_call<S, V: View<S>>(
     exception: bool,
 ) -> Result<Next, Stop>
     requires live { IsLive V.sense v.old }
-    requires safe { Safe V.sense.partial (class_calls.bare_call {S = S} s.now c.0 g.now exception) (V.sense.heap v.old) }
+    requires safe { Safe V.sense.partial (class_calls.bare_call {S = S} s.now c.0 g.now exception)
+        (V.sense.heap v.old) }
     ensures { Meets V.sense (class_calls.bare_call s.now c.0 g.now exception) v.old v.new result }
 {
     if takes(exception, g) {
@@ -203,7 +205,8 @@ fn making_row<S, V: View<S>>(
     f: Frame,
 ) -> Result<Next, Stop>
     requires live { IsLive V.sense v.old }
-    requires safe { Safe V.sense.partial (class_calls.making_row {S = S} s.now c.0 g.now exception f) (V.sense.heap v.old) }
+    requires safe { Safe V.sense.partial (class_calls.making_row {S = S} s.now c.0 g.now exception f)
+        (V.sense.heap v.old) }
     ensures { Meets V.sense (class_calls.making_row s.now c.0 g.now exception f) v.old v.new result }
 {
     let x = new_instance(alloc, v, c, g.args, exception)?;
@@ -222,7 +225,8 @@ fn init_entered<S, V: View<S>>(
     got: Got<Frame>,
 ) -> Result<Next, Stop>
     requires live { IsLive V.sense v.old }
-    requires safe { Safe V.sense.partial (class_calls.init_entered {S = S} s.now c.0 g.now exception got) (V.sense.heap v.old) }
+    requires safe { Safe V.sense.partial (class_calls.init_entered {S = S} s.now c.0 g.now exception got)
+        (V.sense.heap v.old) }
     ensures { Meets V.sense (class_calls.init_entered s.now c.0 g.now exception got) v.old v.new result }
 {
     match got {
@@ -248,7 +252,8 @@ fn bound_first<S, V: View<S>>(
     f: Addr,
 ) -> Result<Got<Frame>, Stop>
     requires live { IsLive V.sense v.old }
-    requires safe { Safe V.sense.partial (binding.bound_row {S = S} p.now (binding.with_first x g.now) f.0) (V.sense.heap v.old) }
+    requires safe { Safe V.sense.partial (binding.bound_row {S = S} p.now (binding.with_first x g.now) f.0)
+        (V.sense.heap v.old) }
     ensures { Meets V.sense (binding.bound_row p.now (binding.with_first x g.now) f.0) v.old v.new result }
 {
     let args = with_first(alloc, x, g.args)?;
@@ -273,7 +278,8 @@ fn function_init<S, V: View<S>>(
     f: Addr,
 ) -> Result<Next, Stop>
     requires live { IsLive V.sense v.old }
-    requires safe { Safe V.sense.partial (class_calls.function_init {S = S} s.now c.0 g.now exception f.0) (V.sense.heap v.old) }
+    requires safe { Safe V.sense.partial (class_calls.function_init {S = S} s.now c.0 g.now exception f.0)
+        (V.sense.heap v.old) }
     ensures { Meets V.sense (class_calls.function_init s.now c.0 g.now exception f.0) v.old v.new result }
 {
     let x = bound_first(alloc, v, s.program, Value::Unset, g, f)?;
@@ -293,7 +299,8 @@ fn record_init<S, V: View<S>>(
     kind: Kind,
 ) -> Result<Next, Stop>
     requires live { IsLive V.sense v.old }
-    requires safe { Safe V.sense.partial (class_calls.record_init {S = S} s.now c.0 g.now exception f.0 kind) (V.sense.heap v.old) }
+    requires safe { Safe V.sense.partial (class_calls.record_init {S = S} s.now c.0 g.now exception f.0 kind)
+        (V.sense.heap v.old) }
     ensures { Meets V.sense (class_calls.record_init s.now c.0 g.now exception f.0 kind) v.old v.new result }
 {
     match kind {
@@ -314,7 +321,8 @@ fn value_init<S, V: View<S>>(
     x: Value,
 ) -> Result<Next, Stop>
     requires live { IsLive V.sense v.old }
-    requires safe { Safe V.sense.partial (class_calls.value_init {S = S} s.now c.0 g.now exception x) (V.sense.heap v.old) }
+    requires safe { Safe V.sense.partial (class_calls.value_init {S = S} s.now c.0 g.now exception x)
+        (V.sense.heap v.old) }
     ensures { Meets V.sense (class_calls.value_init s.now c.0 g.now exception x) v.old v.new result }
 {
     match x {
@@ -338,7 +346,8 @@ fn init_or_bare<S, V: View<S>>(
     exception: bool,
 ) -> Result<Next, Stop>
     requires live { IsLive V.sense v.old }
-    requires safe { Safe V.sense.partial (class_calls.init_or_bare {S = S} s.now c.0 g.now init exception) (V.sense.heap v.old) }
+    requires safe { Safe V.sense.partial (class_calls.init_or_bare {S = S} s.now c.0 g.now init exception)
+        (V.sense.heap v.old) }
     ensures { Meets V.sense (class_calls.init_or_bare s.now c.0 g.now init exception) v.old v.new result }
 {
     match init {

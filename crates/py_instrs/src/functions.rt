@@ -9,7 +9,8 @@ ghost use Rattle.py_data.specs.declared.value.Value.TheVariants.{Ref};
 use crate::named::push_unset;
 use crate::programs::slots_at;
 use crate::raising::{
-    base_fault, depth_fault, enter, fail_row, memory_fault, operand_fault, place_in, push, raise_row,
+    base_fault, depth_fault, enter, fail_row, memory_fault, operand_fault, place_in, push,
+    raise_row,
 };
 use crate::site::Site;
 use obj_class::{make_record, make_text, three};
@@ -85,7 +86,8 @@ pub fn make_function_row<S, V: View<S>>(
     defaults: &[Value],
 ) -> Result<Next, Stop>
     requires live { IsLive V.sense v.old }
-    requires safe { Safe V.sense.partial (make_function_row {S = S} roots.0 name.now n defaults.now) (V.sense.heap v.old) }
+    requires safe { Safe V.sense.partial (make_function_row {S = S} roots.0 name.now n defaults.now)
+        (V.sense.heap v.old) }
     ensures { Meets V.sense (make_function_row roots.0 name.now n defaults.now) v.old v.new result }
 {
     if name.len() <= LENGTH_LIMIT && defaults.len() <= LENGTH_LIMIT {
@@ -359,7 +361,8 @@ pub fn return_by<S, V: View<S>>(
     names: Option<Addr>,
 ) -> Result<Next, Stop>
     requires live { IsLive V.sense v.old }
-    requires safe { Safe V.sense.partial (return_by {S = S} roots.0 thread name.now depth x made names) (V.sense.heap v.old) }
+    requires safe { Safe V.sense.partial (return_by {S = S} roots.0 thread name.now depth x made names)
+        (V.sense.heap v.old) }
     ensures { Meets V.sense (return_by roots.0 thread name.now depth x made names) v.old v.new result }
 {
     match names {

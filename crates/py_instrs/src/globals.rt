@@ -74,7 +74,8 @@ fn named_builtin<S, V: View<S>>(
     name: &[u8],
 ) -> Result<Next, Stop>
     requires live { IsLive V.sense v.old }
-    requires safe { Safe V.sense.partial (unbound_row {S = S} roots.0 name.now (builtin_named p.now name.now)) (V.sense.heap v.old) }
+    requires safe { Safe V.sense.partial (unbound_row {S = S} roots.0 name.now (builtin_named p.now name.now))
+        (V.sense.heap v.old) }
     ensures { Meets V.sense (unbound_row roots.0 name.now (builtin_named p.now name.now)) v.old v.new result }
 {
     let o = builtin_named(p, name)?;
@@ -92,7 +93,8 @@ fn bound_row<S, V: View<S>>(
     x: Value,
 ) -> Result<Next, Stop>
     requires live { IsLive V.sense v.old }
-    requires safe { Safe V.sense.partial (bound_row {S = S} roots.0 name.now (builtin_named p.now name.now) x) (V.sense.heap v.old) }
+    requires safe { Safe V.sense.partial (bound_row {S = S} roots.0 name.now (builtin_named p.now name.now) x)
+        (V.sense.heap v.old) }
     ensures { Meets V.sense (bound_row roots.0 name.now (builtin_named p.now name.now) x) v.old v.new result }
 {
     match x {
@@ -112,15 +114,16 @@ fn load_cell_row<S, V: View<S>>(
     a: Addr,
 ) -> Result<Next, Stop>
     requires live { IsLive V.sense v.old }
-    requires safe { Safe V.sense.partial (load_cell_row {S = S} roots.0 name.now (builtin_named p.now name.now) a.0) (V.sense.heap v.old) }
+    requires safe { Safe V.sense.partial (load_cell_row {S = S} roots.0 name.now (builtin_named p.now name.now) a.0)
+        (V.sense.heap v.old) }
     ensures { Meets V.sense (load_cell_row roots.0 name.now (builtin_named p.now name.now) a.0) v.old v.new result }
 {
     let x = look(v, a, 0)?;
     bound_row(alloc, v, roots, p, name, x)
 }
 
-/// LOAD_GLOBAL, of the cell that is the root of number `g`, of that name. Only where the cell holds nothing the program's
-/// builtins are looked through.
+/// LOAD_GLOBAL, of the cell that is the root of number `g`, of that name. Only where the cell holds nothing the
+/// program's builtins are looked through.
 #[tactic(auto, using(py_data::proofs::Rows::row_steps, py_data::proofs::Steps::call_steps), unfolding(py_frames::specs::GlobalRows::load_global_row))]
 pub fn load_global_row<S, V: View<S>>(
     alloc: Global,
@@ -131,7 +134,8 @@ pub fn load_global_row<S, V: View<S>>(
     name: &[u8],
 ) -> Result<Next, Stop>
     requires live { IsLive V.sense v.old }
-    requires safe { Safe V.sense.partial (load_global_row {S = S} roots.0 g name.now (builtin_named p.now name.now)) (V.sense.heap v.old) }
+    requires safe { Safe V.sense.partial (load_global_row {S = S} roots.0 g name.now (builtin_named p.now name.now))
+        (V.sense.heap v.old) }
     ensures { Meets V.sense (load_global_row roots.0 g name.now (builtin_named p.now name.now)) v.old v.new result }
 {
     let cell = look(v, roots, g as usize)?;
@@ -230,7 +234,8 @@ fn outer_row<S, V: View<S>>(
     g: Option<u32>,
 ) -> Result<Next, Stop>
     requires live { IsLive V.sense v.old }
-    requires safe { Safe V.sense.partial (outer_row {S = S} roots.0 name.now (builtin_named p.now name.now) g) (V.sense.heap v.old) }
+    requires safe { Safe V.sense.partial (outer_row {S = S} roots.0 name.now (builtin_named p.now name.now) g)
+        (V.sense.heap v.old) }
     ensures { Meets V.sense (outer_row roots.0 name.now (builtin_named p.now name.now) g) v.old v.new result }
 {
     match g {
@@ -249,8 +254,10 @@ fn global_row<S, V: View<S>>(
     name: &[u8],
 ) -> Result<Next, Stop>
     requires live { IsLive V.sense v.old }
-    requires safe { Safe V.sense.partial (outer_row {S = S} roots.0 name.now (builtin_named p.now name.now) (cell_number p.now name.now)) (V.sense.heap v.old) }
-    ensures { Meets V.sense (outer_row roots.0 name.now (builtin_named p.now name.now) (cell_number p.now name.now)) v.old v.new result }
+    requires safe { Safe V.sense.partial (outer_row {S = S} roots.0 name.now (builtin_named p.now name.now)
+        (cell_number p.now name.now)) (V.sense.heap v.old) }
+    ensures { Meets V.sense (outer_row roots.0 name.now (builtin_named p.now name.now) (cell_number p.now name.now))
+        v.old v.new result }
 {
     let g = cell_number(p, name)?;
     outer_row(alloc, v, roots, p, name, g)
@@ -267,8 +274,10 @@ fn named_row<S, V: View<S>>(
     x: Option<Value>,
 ) -> Result<Next, Stop>
     requires live { IsLive V.sense v.old }
-    requires safe { Safe V.sense.partial (named_row {S = S} roots.0 name.now (builtin_named p.now name.now) (cell_number p.now name.now) x) (V.sense.heap v.old) }
-    ensures { Meets V.sense (named_row roots.0 name.now (builtin_named p.now name.now) (cell_number p.now name.now) x) v.old v.new result }
+    requires safe { Safe V.sense.partial (named_row {S = S} roots.0 name.now (builtin_named p.now name.now)
+        (cell_number p.now name.now) x) (V.sense.heap v.old) }
+    ensures { Meets V.sense (named_row roots.0 name.now (builtin_named p.now name.now) (cell_number p.now name.now) x)
+        v.old v.new result }
 {
     match x {
         Some(x) => Ok(push(x)),
@@ -288,15 +297,17 @@ fn own_or_outer<S, V: View<S>>(
     key: Value,
 ) -> Result<Next, Stop>
     requires live { IsLive V.sense v.old }
-    requires safe { Safe V.sense.partial (own_or_outer {S = S} roots.0 d.0 name.now (builtin_named p.now name.now) (cell_number p.now name.now) key) (V.sense.heap v.old) }
-    ensures { Meets V.sense (own_or_outer roots.0 d.0 name.now (builtin_named p.now name.now) (cell_number p.now name.now) key) v.old v.new result }
+    requires safe { Safe V.sense.partial (own_or_outer {S = S} roots.0 d.0 name.now (builtin_named p.now name.now)
+        (cell_number p.now name.now) key) (V.sense.heap v.old) }
+    ensures { Meets V.sense (own_or_outer roots.0 d.0 name.now (builtin_named p.now name.now)
+        (cell_number p.now name.now) key) v.old v.new result }
 {
     let x = held(v, d, key)?;
     named_row(alloc, v, roots, p, name, x)
 }
 
-/// LOAD_NAME, of the name that is the root of number `n`, in the dictionary `d` of a class body: where it hasn't the name,
-/// the program's global of that name, or else the builtin.
+/// LOAD_NAME, of the name that is the root of number `n`, in the dictionary `d` of a class body: where it hasn't the
+/// name, the program's global of that name, or else the builtin.
 #[tactic(auto, using(py_data::proofs::Rows::row_steps, py_data::proofs::Steps::call_steps), unfolding(py_frames::specs::GlobalRows::load_name_row))]
 pub fn load_name_row<S, V: View<S>>(
     alloc: Global,
@@ -308,8 +319,10 @@ pub fn load_name_row<S, V: View<S>>(
     name: &[u8],
 ) -> Result<Next, Stop>
     requires live { IsLive V.sense v.old }
-    requires safe { Safe V.sense.partial (load_name_row {S = S} roots.0 d.0 n name.now (builtin_named p.now name.now) (cell_number p.now name.now)) (V.sense.heap v.old) }
-    ensures { Meets V.sense (load_name_row roots.0 d.0 n name.now (builtin_named p.now name.now) (cell_number p.now name.now)) v.old v.new result }
+    requires safe { Safe V.sense.partial (load_name_row {S = S} roots.0 d.0 n name.now (builtin_named p.now name.now)
+        (cell_number p.now name.now)) (V.sense.heap v.old) }
+    ensures { Meets V.sense (load_name_row roots.0 d.0 n name.now (builtin_named p.now name.now)
+        (cell_number p.now name.now)) v.old v.new result }
 {
     let key = look(v, roots, n as usize)?;
     own_or_outer(alloc, v, roots, p, d, name, key)

@@ -71,7 +71,8 @@ pub fn new_instance<S, V: View<S>>(
     exception: bool,
 ) -> Result<Got<Value>, Stop>
     requires live { IsLive V.sense v.old }
-    requires safe { Safe V.sense.partial (class_calls.new_instance {S = S} c.0 args.now exception) (V.sense.heap v.old) }
+    requires safe { Safe V.sense.partial (class_calls.new_instance {S = S} c.0 args.now exception)
+        (V.sense.heap v.old) }
     ensures { Meets V.sense (class_calls.new_instance c.0 args.now exception) v.old v.new result }
 {
     if args.len() <= LENGTH_LIMIT {

@@ -107,7 +107,8 @@ pub fn push_filled(
     values: &[Value],
     defaults: &[Value],
 ) -> Result<(), NoMemory>
-    ensures { OnOk result (out.new ≡ out.old ++ binding.filled names.now (map (state.root_name p.now) keys.now) values.now defaults.now) }
+    ensures { OnOk result (out.new ≡ out.old ++ binding.filled names.now (map (state.root_name p.now) keys.now)
+        values.now defaults.now) }
 {
     let mut rest = names;
     let mut left = defaults;

@@ -7,7 +7,7 @@ ghost use Rattle.py_frames.specs.OperatorRows as rows;
 use crate::raising::{give, push};
 use obj_ops::{binary, compare, in_place, truth, unary};
 use py_data::{Addr, Stop, Value, View};
-use py_frames::{Pushed, Next};
+use py_frames::{Next, Pushed};
 use std::alloc::Global;
 
 /// UNARY: an operator of one operand, by its number.

@@ -176,12 +176,7 @@ fn catches_row<S, V: View<S>>(v: &mut V, roots: Addr, e: Addr, c: Value) -> Resu
 
 /// Pushes whether a value catches an exception of the class `e`.
 #[tactic(auto, using(py_data::proofs::Rows::row_steps, py_data::proofs::Steps::call_steps), unfolding(py_frames::specs::RaiseRows::told_match))]
-fn told_match<S, V: View<S>>(
-    v: &mut V,
-    roots: Addr,
-    c: Value,
-    e: Addr,
-) -> Result<Next, Stop>
+fn told_match<S, V: View<S>>(v: &mut V, roots: Addr, c: Value, e: Addr) -> Result<Next, Stop>
     requires live { IsLive V.sense v.old }
     requires safe { Safe V.sense.partial (told_match {S = S} roots.0 c e.0) (V.sense.heap v.old) }
     ensures { Meets V.sense (told_match roots.0 c e.0) v.old v.new result }
@@ -192,12 +187,7 @@ fn told_match<S, V: View<S>>(
 
 /// The same for the class of an instance.
 #[tactic(auto, using(py_data::proofs::Rows::row_steps, py_data::proofs::Steps::call_steps), unfolding(py_frames::specs::RaiseRows::class_match))]
-fn class_match<S, V: View<S>>(
-    v: &mut V,
-    roots: Addr,
-    c: Value,
-    a: Addr,
-) -> Result<Next, Stop>
+fn class_match<S, V: View<S>>(v: &mut V, roots: Addr, c: Value, a: Addr) -> Result<Next, Stop>
     requires live { IsLive V.sense v.old }
     requires safe { Safe V.sense.partial (class_match {S = S} roots.0 c a.0) (V.sense.heap v.old) }
     ensures { Meets V.sense (class_match roots.0 c a.0) v.old v.new result }

@@ -9,7 +9,7 @@ use obj_class::make_fault;
 use obj_ops::values_of;
 use py_data::exception::{MEMORY_ERROR, RUNTIME_ERROR, TYPE_ERROR};
 use py_data::{Addr, Bytes, Fault, Got, NoMemory, Stop, Value, Values, View, With};
-use py_frames::{Entered, Pushed, Frame, Next};
+use py_frames::{Entered, Frame, Next, Pushed};
 use std::alloc::Global;
 
 /// The address in a value; 0 where it has none.

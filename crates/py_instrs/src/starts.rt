@@ -121,8 +121,10 @@ fn bound_plainly<S, V: View<S>>(
     f: Addr,
 ) -> Result<Got<Frame>, Stop>
     requires live { IsLive V.sense v.old }
-    requires safe { let p = s.now in Safe V.sense.partial (binding.bound_row {S = S} p.program (binding.plainly args.now) f.0) (V.sense.heap v.old) }
-    ensures { let p = s.now in Meets V.sense (binding.bound_row p.program (binding.plainly args.now) f.0) v.old v.new result }
+    requires safe { let p = s.now in Safe V.sense.partial
+        (binding.bound_row {S = S} p.program (binding.plainly args.now) f.0) (V.sense.heap v.old) }
+    ensures { let p = s.now in Meets V.sense (binding.bound_row p.program (binding.plainly args.now) f.0) v.old v.new
+        result }
 {
     let g = Given {
         args,
@@ -162,7 +164,8 @@ fn first_start<V: View<ThreadState>>(
     f: Addr,
 ) -> Result<Next, Stop>
     requires live { IsLive V.sense v.old }
-    requires safe { Safe V.sense.partial (call_rows.function_start s.now thread (own ∷ args.now) f.0) (V.sense.heap v.old) }
+    requires safe { Safe V.sense.partial (call_rows.function_start s.now thread (own ∷ args.now) f.0)
+        (V.sense.heap v.old) }
     ensures { Meets V.sense (call_rows.function_start s.now thread (own ∷ args.now) f.0) v.old v.new result }
 {
     let all = with_first(alloc, own, args)?;

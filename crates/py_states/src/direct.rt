@@ -2,8 +2,8 @@
 
 use py_data::Value;
 
-/// What an instruction leads to that asks nothing of the heap, in a form for which no memory is asked. Its operands are taken
-/// from the stack.
+/// What an instruction leads to that asks nothing of the heap, in a form for which no memory is asked. Its operands
+/// are taken from the stack.
 #[derive(Clone, Copy, Debug, Drop, PartialEq, Eq)]
 pub enum Direct {
     /// The next place follows.

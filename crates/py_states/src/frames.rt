@@ -16,8 +16,8 @@ use py_frames::{Block, Frame};
 use std::alloc::Global;
 use std::marker::Model;
 
-/// Frames, the innermost first. Their values lie in one list, those of the innermost frame last: its slots, and behind them
-/// its stack. Their blocks lie in one pile, those of the innermost frame on top.
+/// Frames, the innermost first. Their values lie in one list, those of the innermost frame last: its slots, and
+/// behind them its stack. Their blocks lie in one pile, those of the innermost frame on top.
 #[derive(Debug, Drop)]
 pub struct Frames {
     heads: Pile<Head>,

@@ -35,7 +35,8 @@ impl Frames {
         self.make_room(values, 1, g.blocks.len())
     }
 
-    /// The innermost frame goes on at a place, with these values in the place of its `n` operands, for which there is room.
+    /// The innermost frame goes on at a place, with these values in the place of its `n` operands, for which there is
+    /// room.
     #[tactic(auto, using(crate::proofs::TopLemmas::go_on_is))]
     pub fn go_on(&mut self, n: usize, ys: &[Value], place: u32)
         requires { length ys.now ≤ self.old.more_values }
@@ -102,8 +103,8 @@ impl Frames {
         }
     }
 
-    /// An exception is raised in the innermost frame, where so many are left out. The first frame that has an open block takes
-    /// it. Where there is none, the answer is false, and the frames stay.
+    /// An exception is raised in the innermost frame, where so many are left out. The first frame that has an open
+    /// block takes it. Where there is none, the answer is false, and the frames stay.
     #[tactic(auto, using(crate::proofs::TopLemmas::thrown_none, crate::proofs::TopLemmas::thrown_some))]
     pub fn raise(&mut self, first: usize, x: Value) -> Result<bool, NoMemory>
         ensures ok { IfOk result (IsThrown (unwound x (drop first self.old.frames)) self.old.frames self.new.frames) }

@@ -5,7 +5,7 @@ use lock_run::{Life, Outcome};
 use py_base::NoMemory;
 use py_code::{Codes, Program, Roots};
 use py_data::{Addr, Items, Value, Values};
-use py_frames::{Entered, Pushed, Frame, Next};
+use py_frames::{Entered, Frame, Next, Pushed};
 use std::alloc::Global;
 use std::test::Fail;
 

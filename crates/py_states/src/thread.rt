@@ -14,8 +14,8 @@ use py_frames::{Dying, Frame};
 use std::alloc::Global;
 use std::marker::Model;
 
-/// The state of a thread. In memory it is three lists, so that a copy is three plain copies at any depth, and a step costs
-/// what it changes.
+/// The state of a thread. In memory it is three lists, so that a copy is three plain copies at any depth, and a step
+/// costs what it changes.
 #[derive(Debug, Drop)]
 pub struct ThreadState {
     number: u32,

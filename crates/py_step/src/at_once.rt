@@ -1,4 +1,5 @@
-//! Instructions that ask nothing of the heap and raise nothing: what they lead to, told without a row and without memory.
+//! Instructions that ask nothing of the heap and raise nothing: what they lead to, told without a row and without
+//! memory.
 ghost use Rattle.std.specs.Prelude.{◌≡◌, [], ◌∷◌, Some, IfSome, option_map};
 ghost use Rattle.obj_ops.specs.Compare.{comparison_of};
 ghost use Rattle.obj_ops.specs.Numbers.{calculated, divided, narrowed, operator_of};
@@ -209,8 +210,8 @@ fn over_two(t: &ThreadState, x: Value, y: Value, i: Instr) -> Option<Direct>
     }
 }
 
-/// What an instruction leads to over these operands, the lowest first, in the innermost frame, where it asks nothing of the heap
-/// and raises nothing.
+/// What an instruction leads to over these operands, the lowest first, in the innermost frame, where it asks nothing
+/// of the heap and raises nothing.
 pub fn direct(t: &ThreadState, xs: &[Value], i: Instr) -> Option<Direct>
     ensures { Tells (innermost t.now.frames) xs.now i result }
 {

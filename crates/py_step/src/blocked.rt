@@ -44,8 +44,8 @@ fn with_object(own: Value, operands: &[Value], m: u32) -> &[Value]
     }
 }
 
-/// Whether CALL would wait over these operands, without keywords. `me` is the Thread record of the thread that calls, if it
-/// has one.
+/// Whether CALL would wait over these operands, without keywords. `me` is the Thread record of the thread that calls,
+/// if it has one.
 fn call_waits<P: Peek>(heap: &P, me: Option<Addr>, xs: &[Value], m: u32) -> bool
     requires closed { AreClosed (P.image heap.now) }
     requires refer { Every (Refers (P.image heap.now)) xs.now }
@@ -89,7 +89,8 @@ fn instr_waits<P: Peek>(p: &Program, s: &ThreadState, heap: &P, xs: &[Value], i:
     }
 }
 
-/// Whether an instruction would wait over the operands that it takes. It raises where one of them is Unset that may not be.
+/// Whether an instruction would wait over the operands that it takes. It raises where one of them is Unset that may
+/// not be.
 fn guarded_waits<P: Peek>(p: &Program, s: &ThreadState, heap: &P, i: Instr) -> bool
     requires closed { AreClosed (P.image heap.now) }
     requires refer { let f = innermost s.now.frames in Every (Refers (P.image heap.now)) f.stack }

@@ -41,8 +41,8 @@ fn first_state(alloc: Global, p: &Program) -> Result<ThreadState, NoMemory>
     ThreadState::entered(alloc, 0, None, None, &frame)
 }
 
-/// A program that passed the test, as the threads of a machine. Its first thread begins in the module's code, and each step
-/// of a thread is an instruction, but for the last one of a thread that dies, which writes why.
+/// A program that passed the test, as the threads of a machine. Its first thread begins in the module's code, and
+/// each step of a thread is an instruction, but for the last one of a thread that dies, which writes why.
 #[derive(Drop)]
 pub struct PyClient {
     program: Verified,

@@ -64,7 +64,8 @@ pub fn guarded_row<V: View<ThreadState>>(
 ) -> Result<Next, Stop>
     requires operator { HasOperator i }
     requires live { IsLive V.sense v.old }
-    requires safe { Safe V.sense.partial (steps.guarded_row s.now (innermost t.now.frames) xs.now i) (V.sense.heap v.old) }
+    requires safe { Safe V.sense.partial (steps.guarded_row s.now (innermost t.now.frames) xs.now i)
+        (V.sense.heap v.old) }
     ensures { Meets V.sense (steps.guarded_row s.now (innermost t.now.frames) xs.now i) v.old v.new result }
 {
     if lacks_operand(i, xs) {

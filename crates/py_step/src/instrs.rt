@@ -20,15 +20,15 @@ use crate::place::place_of;
 use py_base::{first, skip};
 use py_code::Instr;
 use py_data::{Kind, NoMemory, Stop, Value, Values, View};
-use py_frames::{Pushed, Next};
+use py_frames::{Next, Pushed};
 use py_instrs::{
     Given, Site, binary_instr, build_dict_row, class_body_row, code_name, compare_instr, const_row,
     del_attr_instr, del_global_row, del_item_instr, exc_match_row, in_place_instr, iter_instr,
     jump_false_row, keep_false_row, keep_true_row, keys_at, load_attr_row, load_item_row,
     load_method_row, made_alone, made_valued, make_function_row, next_instr, not_row, pass,
-    print_item_row, print_newline_row, push_two, raise_value, root_name, setup_row, slice_instr, slot_name,
-    store_attr_row, store_global_row, store_item_row, store_name_row, unary_instr, unpack_row,
-    value_call, value_or_unset,
+    print_item_row, print_newline_row, push_two, raise_value, root_name, setup_row, slice_instr,
+    slot_name, store_attr_row, store_global_row, store_item_row, store_name_row, unary_instr,
+    unpack_row, value_call, value_or_unset,
 };
 use py_states::ThreadState;
 use std::alloc::Global;
@@ -50,8 +50,12 @@ fn load_local<S, V: View<S>>(
     i: u32,
 ) -> Result<Next, Stop>
     requires live { IsLive V.sense v.old }
-    requires safe { let f = innermost t.now.frames in Safe V.sense.partial (locals.load_local_row {S = S} s.now.roots (state.slot_name s.now.program f i) (value_at f.slots i)) (V.sense.heap v.old) }
-    ensures { let f = innermost t.now.frames in Meets V.sense (locals.load_local_row s.now.roots (state.slot_name s.now.program f i) (value_at f.slots i)) v.old v.new result }
+    requires safe { let f = innermost t.now.frames in Safe V.sense.partial
+        (locals.load_local_row {S = S} s.now.roots (state.slot_name s.now.program f i) (value_at f.slots i))
+        (V.sense.heap v.old) }
+    ensures { let f = innermost t.now.frames in Meets V.sense
+        (locals.load_local_row s.now.roots (state.slot_name s.now.program f i) (value_at f.slots i)) v.old v.new
+        result }
 {
     let name = slot_name(s.program, t.code(), i);
     py_instrs::load_local_row(alloc, v, s.roots, name, t.slot(i as usize))
@@ -67,8 +71,12 @@ fn del_local<S, V: View<S>>(
     i: u32,
 ) -> Result<Next, Stop>
     requires live { IsLive V.sense v.old }
-    requires safe { let f = innermost t.now.frames in Safe V.sense.partial (locals.del_local_row {S = S} s.now.roots (state.slot_name s.now.program f i) i (value_at f.slots i)) (V.sense.heap v.old) }
-    ensures { let f = innermost t.now.frames in Meets V.sense (locals.del_local_row s.now.roots (state.slot_name s.now.program f i) i (value_at f.slots i)) v.old v.new result }
+    requires safe { let f = innermost t.now.frames in Safe V.sense.partial
+        (locals.del_local_row {S = S} s.now.roots (state.slot_name s.now.program f i) i (value_at f.slots i))
+        (V.sense.heap v.old) }
+    ensures { let f = innermost t.now.frames in Meets V.sense
+        (locals.del_local_row s.now.roots (state.slot_name s.now.program f i) i (value_at f.slots i)) v.old v.new
+        result }
 {
     let name = slot_name(s.program, t.code(), i);
     py_instrs::del_local_row(alloc, v, s.roots, name, i, t.slot(i as usize))
@@ -78,8 +86,11 @@ fn del_local<S, V: View<S>>(
 #[tactic(auto, using(py_data::proofs::Rows::row_steps))]
 fn load_global<S, V: View<S>>(alloc: Global, v: &mut V, s: &Site<'_>, g: u32) -> Result<Next, Stop>
     requires live { IsLive V.sense v.old }
-    requires safe { Safe V.sense.partial (let name = state.root_name s.now.program g in globals.load_global_row {S = S} s.now.roots g name (globals.builtin_named s.now.program name)) (V.sense.heap v.old) }
-    ensures { Meets V.sense (let name = state.root_name s.now.program g in globals.load_global_row s.now.roots g name (globals.builtin_named s.now.program name)) v.old v.new result }
+    requires safe { Safe V.sense.partial
+        (let name = state.root_name s.now.program g in globals.load_global_row {S = S} s.now.roots g name
+        (globals.builtin_named s.now.program name)) (V.sense.heap v.old) }
+    ensures { Meets V.sense (let name = state.root_name s.now.program g in globals.load_global_row s.now.roots g name
+        (globals.builtin_named s.now.program name)) v.old v.new result }
 {
     let name = root_name(s.program, g);
     py_instrs::load_global_row(alloc, v, s.roots, s.program, g, name)
@@ -95,8 +106,13 @@ fn load_name<S, V: View<S>>(
     n: u32,
 ) -> Result<Next, Stop>
     requires live { IsLive V.sense v.old }
-    requires safe { let f = innermost t.now.frames in Safe V.sense.partial (let name = state.root_name s.now.program n in globals.load_name_row {S = S} s.now.roots (raising.place_of f.names) n name (globals.builtin_named s.now.program name) (globals.cell_number s.now.program name)) (V.sense.heap v.old) }
-    ensures { let f = innermost t.now.frames in Meets V.sense (let name = state.root_name s.now.program n in globals.load_name_row s.now.roots (raising.place_of f.names) n name (globals.builtin_named s.now.program name) (globals.cell_number s.now.program name)) v.old v.new result }
+    requires safe { let f = innermost t.now.frames in Safe V.sense.partial
+        (let name = state.root_name s.now.program n in globals.load_name_row {S = S} s.now.roots
+        (raising.place_of f.names) n name (globals.builtin_named s.now.program name)
+        (globals.cell_number s.now.program name)) (V.sense.heap v.old) }
+    ensures { let f = innermost t.now.frames in Meets V.sense
+        (let name = state.root_name s.now.program n in globals.load_name_row s.now.roots (raising.place_of f.names) n
+        name (globals.builtin_named s.now.program name) (globals.cell_number s.now.program name)) v.old v.new result }
 {
     let name = root_name(s.program, n);
     py_instrs::load_name_row(alloc, v, s.roots, s.program, place_of(t.names()), n, name)
@@ -113,8 +129,10 @@ fn store_name<S, V: View<S>>(
     x: Value,
 ) -> Result<Next, Stop>
     requires live { IsLive V.sense v.old }
-    requires safe { let f = innermost t.now.frames in Safe V.sense.partial (globals.store_name_row {S = S} s.now.roots (raising.place_of f.names) n x) (V.sense.heap v.old) }
-    ensures { let f = innermost t.now.frames in Meets V.sense (globals.store_name_row s.now.roots (raising.place_of f.names) n x) v.old v.new result }
+    requires safe { let f = innermost t.now.frames in Safe V.sense.partial
+        (globals.store_name_row {S = S} s.now.roots (raising.place_of f.names) n x) (V.sense.heap v.old) }
+    ensures { let f = innermost t.now.frames in Meets V.sense
+        (globals.store_name_row s.now.roots (raising.place_of f.names) n x) v.old v.new result }
 {
     store_name_row(alloc, v, s.roots, place_of(t.names()), n, x)
 }
@@ -129,8 +147,12 @@ fn del_name<S, V: View<S>>(
     n: u32,
 ) -> Result<Next, Stop>
     requires live { IsLive V.sense v.old }
-    requires safe { let f = innermost t.now.frames in Safe V.sense.partial (globals.del_name_row {S = S} s.now.roots (raising.place_of f.names) n (state.root_name s.now.program n)) (V.sense.heap v.old) }
-    ensures { let f = innermost t.now.frames in Meets V.sense (globals.del_name_row s.now.roots (raising.place_of f.names) n (state.root_name s.now.program n)) v.old v.new result }
+    requires safe { let f = innermost t.now.frames in Safe V.sense.partial
+        (globals.del_name_row {S = S} s.now.roots (raising.place_of f.names) n (state.root_name s.now.program n))
+        (V.sense.heap v.old) }
+    ensures { let f = innermost t.now.frames in Meets V.sense
+        (globals.del_name_row s.now.roots (raising.place_of f.names) n (state.root_name s.now.program n)) v.old v.new
+        result }
 {
     let name = root_name(s.program, n);
     py_instrs::del_name_row(alloc, v, s.roots, place_of(t.names()), n, name)
@@ -167,8 +189,11 @@ fn call_given<V: View<ThreadState>>(
     f: Value,
 ) -> Result<Next, Stop>
     requires live { IsLive V.sense v.old }
-    requires safe { Safe V.sense.partial (calls.value_call s.now own (steps.given_in s.now (innermost t.now.frames) m l xs.now) f) (V.sense.heap v.old) }
-    ensures { Meets V.sense (calls.value_call s.now own (steps.given_in s.now (innermost t.now.frames) m l xs.now) f) v.old v.new result }
+    requires safe { Safe V.sense.partial
+        (calls.value_call s.now own (steps.given_in s.now (innermost t.now.frames) m l xs.now) f)
+        (V.sense.heap v.old) }
+    ensures { Meets V.sense (calls.value_call s.now own (steps.given_in s.now (innermost t.now.frames) m l xs.now) f)
+        v.old v.new result }
 {
     let g = Given {
         args: first(xs, m as usize),
@@ -190,8 +215,12 @@ fn call<V: View<ThreadState>>(
     xs: &[Value],
 ) -> Result<Next, Stop>
     requires live { IsLive V.sense v.old }
-    requires safe { let f = innermost t.now.frames in Safe V.sense.partial (calls.value_call s.now Unset (steps.given_in s.now f m l (drop 1 xs.now)) (value_at xs.now 0)) (V.sense.heap v.old) }
-    ensures { let f = innermost t.now.frames in Meets V.sense (calls.value_call s.now Unset (steps.given_in s.now f m l (drop 1 xs.now)) (value_at xs.now 0)) v.old v.new result }
+    requires safe { let f = innermost t.now.frames in Safe V.sense.partial
+        (calls.value_call s.now Unset (steps.given_in s.now f m l (drop 1 xs.now)) (value_at xs.now 0))
+        (V.sense.heap v.old) }
+    ensures { let f = innermost t.now.frames in Meets V.sense
+        (calls.value_call s.now Unset (steps.given_in s.now f m l (drop 1 xs.now)) (value_at xs.now 0)) v.old v.new
+        result }
 {
     call_given(
         alloc,
@@ -218,8 +247,12 @@ fn call_method<V: View<ThreadState>>(
     xs: &[Value],
 ) -> Result<Next, Stop>
     requires live { IsLive V.sense v.old }
-    requires safe { let f = innermost t.now.frames in Safe V.sense.partial (calls.value_call s.now (value_at xs.now 1) (steps.given_in s.now f m l (drop 2 xs.now)) (value_at xs.now 0)) (V.sense.heap v.old) }
-    ensures { let f = innermost t.now.frames in Meets V.sense (calls.value_call s.now (value_at xs.now 1) (steps.given_in s.now f m l (drop 2 xs.now)) (value_at xs.now 0)) v.old v.new result }
+    requires safe { let f = innermost t.now.frames in Safe V.sense.partial
+        (calls.value_call s.now (value_at xs.now 1) (steps.given_in s.now f m l (drop 2 xs.now)) (value_at xs.now 0))
+        (V.sense.heap v.old) }
+    ensures { let f = innermost t.now.frames in Meets V.sense
+        (calls.value_call s.now (value_at xs.now 1) (steps.given_in s.now f m l (drop 2 xs.now)) (value_at xs.now 0))
+        v.old v.new result }
 {
     let own = value_or_unset(xs, 1);
     call_given(
@@ -245,8 +278,12 @@ fn leave<S, V: View<S>>(
     x: Value,
 ) -> Result<Next, Stop>
     requires live { IsLive V.sense v.old }
-    requires safe { let f = innermost t.now.frames in Safe V.sense.partial (functions.return_row {S = S} s.now.roots s.now.thread (state.code_at s.now.program f.code).name (s.now.depth - 1) f x) (V.sense.heap v.old) }
-    ensures { let f = innermost t.now.frames in Meets V.sense (functions.return_row s.now.roots s.now.thread (state.code_at s.now.program f.code).name (s.now.depth - 1) f x) v.old v.new result }
+    requires safe { let f = innermost t.now.frames in Safe V.sense.partial
+        (functions.return_row {S = S} s.now.roots s.now.thread (state.code_at s.now.program f.code).name
+        (s.now.depth - 1) f x) (V.sense.heap v.old) }
+    ensures { let f = innermost t.now.frames in Meets V.sense
+        (functions.return_row s.now.roots s.now.thread (state.code_at s.now.program f.code).name
+        (s.now.depth - 1) f x) v.old v.new result }
 {
     let name = code_name(s.program, t.code());
     let below = s.depth.saturating_sub(1);
@@ -273,8 +310,11 @@ fn make_function<S, V: View<S>>(
     xs: &[Value],
 ) -> Result<Next, Stop>
     requires live { IsLive V.sense v.old }
-    requires safe { Safe V.sense.partial (functions.make_function_row {S = S} s.now.roots (state.code_at s.now.program n).name n xs.now) (V.sense.heap v.old) }
-    ensures { Meets V.sense (functions.make_function_row s.now.roots (state.code_at s.now.program n).name n xs.now) v.old v.new result }
+    requires safe { Safe V.sense.partial
+        (functions.make_function_row {S = S} s.now.roots (state.code_at s.now.program n).name n xs.now)
+        (V.sense.heap v.old) }
+    ensures { Meets V.sense (functions.make_function_row s.now.roots (state.code_at s.now.program n).name n xs.now)
+        v.old v.new result }
 {
     make_function_row(alloc, v, s.roots, code_name(s.program, n), n, xs)
 }
@@ -312,7 +352,8 @@ pub fn instr_row<V: View<ThreadState>>(
 ) -> Result<Next, Stop>
     requires operator { HasOperator i }
     requires live { IsLive V.sense v.old }
-    requires safe { Safe V.sense.partial (steps.instr_row s.now (innermost t.now.frames) xs.now i) (V.sense.heap v.old) }
+    requires safe { Safe V.sense.partial (steps.instr_row s.now (innermost t.now.frames) xs.now i)
+        (V.sense.heap v.old) }
     ensures { Meets V.sense (steps.instr_row s.now (innermost t.now.frames) xs.now i) v.old v.new result }
 {
     let x = value_or_unset(xs, 0);

@@ -59,8 +59,10 @@ fn go_by_row<V: View<ThreadState>>(
     requires count { n ≡ state.pops p.now (innermost s.old.frames) i }
     requires operator { HasOperator i }
     requires live { IsLive V.sense v.old }
-    requires safe { Safe V.sense.partial (steps.step_at p.now s.old (innermost s.old.frames) (drop 1 s.old.frames) (Some i)) (V.sense.heap v.old) }
-    ensures { Moves V.sense (steps.step_at p.now s.old (innermost s.old.frames) (drop 1 s.old.frames) (Some i)) v.old s.old v.new s.new result }
+    requires safe { Safe V.sense.partial (steps.step_at p.now s.old (innermost s.old.frames) (drop 1 s.old.frames)
+        (Some i)) (V.sense.heap v.old) }
+    ensures { Moves V.sense (steps.step_at p.now s.old (innermost s.old.frames) (drop 1 s.old.frames) (Some i)) v.old
+        s.old v.new s.new result }
 {
     let next = next_of(alloc, v, p, s, n, i)?;
     let outcome = s.settle(p, n, next)?;
@@ -87,8 +89,10 @@ fn go_on<V: View<ThreadState>>(
     requires some { 0 < length s.old.frames }
     requires operator { HasOperator i }
     requires live { IsLive V.sense v.old }
-    requires safe { Safe V.sense.partial (steps.step_at p.now s.old (innermost s.old.frames) (drop 1 s.old.frames) (Some i)) (V.sense.heap v.old) }
-    ensures { Moves V.sense (steps.step_at p.now s.old (innermost s.old.frames) (drop 1 s.old.frames) (Some i)) v.old s.old v.new s.new result }
+    requires safe { Safe V.sense.partial (steps.step_at p.now s.old (innermost s.old.frames) (drop 1 s.old.frames)
+        (Some i)) (V.sense.heap v.old) }
+    ensures { Moves V.sense (steps.step_at p.now s.old (innermost s.old.frames) (drop 1 s.old.frames) (Some i)) v.old
+        s.old v.new s.new result }
 {
     let n = pops(p, s, i);
     match direct(s, s.operands(n), i) {

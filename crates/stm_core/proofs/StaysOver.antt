@@ -1,5 +1,5 @@
 -- A run that has ended stays so where the core is handed out.
-use Rattle.std.proofs.Common.{◌≡◌, ◌≢◌, ℕ, cond, eqb, Bool, true, false, List, [], ◌∷◌, Option, Some, None, Ok, refl, sym, ◌∙◌, ap, subst, inl, inr, arith}
+use Rattle.std.proofs.Common.{◌≡◌, ◌≢◌, ℕ, Some, None, Ok, refl, sym, ◌∙◌, ap, subst, inl, inr, arith}
 use Rattle.std.specs.List.{range_with_len}
 use Rattle.lock_run.specs.Prog.{Prog}
 use Rattle.lock_run.specs.Machine.{Machine}
@@ -12,39 +12,17 @@ use Rattle.stm_core.specs.declared.standing.RunState.TheVariants.{Running as Goe
 use Rattle.stm_core.specs.CoreState.{Transaction, Segment, Idle, Doomed, Running, CoreState, committed}
 use Rattle.stm_core.specs.Good.{Good}
 use Rattle.stm_core.specs.Outside.{Outer}
-use Rattle.stm_core.specs.Passes.{doom_met, doom_one, doom_readers, met}
 use Rattle.stm_core.specs.Committed.{CommitEnds, CommitOf}
 use Rattle.stm_core.specs.Standing.{IsOutcome, SomeRuns}
 use Rattle.stm_core.specs.Finishing.{SettlesSolo, idle_core}
+use Rattle.stm_core.proofs.SoloMoves.{doom_leaves}
 
 -- ---- a commit leaves the cause
-
-met_cause : {S : Type 0} (i : ℕ) (x : Transaction S) (j : ℕ) (y : Transaction S) (c : CoreState S) (o : Option ℕ) →
-    (doom_met i x j y c o).cause ≡ c.cause
-met_cause i x j y c None = refl
-met_cause i x j y c (Some a) = refl
-
-one_cause : {S : Type 0} (i : ℕ) (x : Transaction S) (j : ℕ) (c : CoreState S) (s : Segment S) →
-    (doom_one i x j c s).cause ≡ c.cause
-one_cause i x j c Idle = refl
-one_cause i x j c (Doomed f) = refl
-one_cause i x j c (Running y) = met_cause i x j y c (met x.changed y.looked)
-
-turn_cause : {S : Type 0} (b : Bool) (i : ℕ) (x : Transaction S) (j : ℕ) (c : CoreState S) →
-    (cond b c (doom_one i x j c (c.segments j))).cause ≡ c.cause
-turn_cause true i x j c = refl
-turn_cause false i x j c = one_cause i x j c (c.segments j)
-
-readers_cause : {S : Type 0} (i : ℕ) (x : Transaction S) (js : List ℕ) (c : CoreState S) →
-    (doom_readers i x js c).cause ≡ c.cause
-readers_cause i x [] c = refl
-readers_cause i x (j ∷ js) c = readers_cause i x js (cond (eqb j i) c (doom_one i x j c (c.segments j))) ∙
-    turn_cause (eqb j i) i x j c
 
 ends_cause : {S : Type 0} (p : Prog S) (k n : ℕ) (x : Transaction S) (r : Commit) (c c1 : CoreState S) →
     CommitEnds p k n x (Ok r) c c1 → c1.cause ≡ c.cause
 ends_cause p k n x Nothing c c1 h = ap (λ z. z.cause) h.1
-ends_cause p k n x (AtTurn i) c c1 h = ap (λ z. z.cause) h.3 ∙ readers_cause k x (range_with_len 0 n) c
+ends_cause p k n x (AtTurn i) c c1 h = ap (λ z. z.cause) h.3 ∙ (doom_leaves k x (range_with_len 0 n) c).cause
 
 -- ---- what has ended doesn't go on
 

@@ -1,4 +1,5 @@
--- The values that are held. What code and proofs say to each other; nothing public rests on it.
+-- What code and proofs say to each other: nothing public rests on it.
+-- The values that are held in place, or in a list.
 use Rattle.std.specs.Prelude.{List, []}
 use Rattle.py_data.specs.declared.value.Value.{Value}
 use Rattle.py_frames.specs.declared.pushed.Held.{Held}

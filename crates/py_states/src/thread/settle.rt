@@ -40,7 +40,8 @@ fn line_at(program: &Program, code: u32, pc: u32) -> u32
 impl ThreadState {
     /// Values are pushed, and the next place follows.
     fn goes(&mut self, n: usize, ys: &[Value]) -> Result<Outcome, NoMemory>
-        ensures ok { IfOk result (λ o. Settles (Done, with_top self.old (λ f. advanced n ys.now (f.pc + 1) f)) o self.new) }
+        ensures ok { IfOk result (λ o. Settles (Done, with_top self.old (λ f. advanced n ys.now (f.pc + 1) f)) o
+            self.new) }
         ensures err { OnErr result (self.new ≡ self.old) }
     {
         let place = self.frames.next_place()?;
@@ -70,7 +71,8 @@ impl ThreadState {
 
     /// A block begins, and the next place follows.
     fn opens(&mut self, n: usize, handler: u32) -> Result<Outcome, NoMemory>
-        ensures ok { IfOk result (λ o. Settles (Done, with_top self.old (λ f. opened handler (length f.stack - n) (passed n f))) o self.new) }
+        ensures ok { IfOk result (λ o. Settles
+            (Done, with_top self.old (λ f. opened handler (length f.stack - n) (passed n f))) o self.new) }
         ensures err { OnErr result (self.new ≡ self.old) }
     {
         let place = self.frames.next_place()?;
@@ -94,7 +96,8 @@ impl ThreadState {
 
     /// A frame is entered. The one round it stands on the next place.
     fn enters(&mut self, n: usize, frame: &Frame) -> Result<Outcome, NoMemory>
-        ensures ok { IfOk result (λ o. Settles (Done, with_frames self.old (frame.now ∷ on_top (passed n) self.old.frames)) o self.new) }
+        ensures ok { IfOk result (λ o. Settles
+            (Done, with_frames self.old (frame.now ∷ on_top (passed n) self.old.frames)) o self.new) }
         ensures err { OnErr result (self.new ≡ self.old) }
     {
         let place = self.frames.next_place()?;
@@ -119,7 +122,8 @@ impl ThreadState {
 
     /// The program's roots stand there, and the next place follows.
     fn begins(&mut self, n: usize, roots: Addr) -> Result<Outcome, NoMemory>
-        ensures ok { IfOk result (λ o. Settles (Done, record (with_top self.old (passed n)) { roots = Some roots }) o self.new) }
+        ensures ok { IfOk result (λ o. Settles (Done, record (with_top self.old (passed n)) { roots = Some roots }) o
+            self.new) }
         ensures err { OnErr result (self.new ≡ self.old) }
     {
         let place = self.frames.next_place()?;
@@ -130,7 +134,8 @@ impl ThreadState {
 
     /// An exception is raised at a line, in the innermost frame, where so many are left out.
     fn throws(&mut self, first: usize, x: Value, line: u32) -> Result<Outcome, NoMemory>
-        ensures ok { IfOk result (λ o. Settles (Done, thrown_to self.old x line (unwound x (drop first self.old.frames))) o self.new) }
+        ensures ok { IfOk result (λ o. Settles
+            (Done, thrown_to self.old x line (unwound x (drop first self.old.frames))) o self.new) }
         ensures err { OnErr result (self.new ≡ self.old) }
     {
         let caught = self.frames.raise(first, x)?;
@@ -142,16 +147,20 @@ impl ThreadState {
 
     /// The same, at the line of the innermost frame's instruction.
     fn raises(&mut self, program: &Program, first: usize, x: Value) -> Result<Outcome, NoMemory>
-        ensures ok { IfOk result (λ o. Settles (Done, thrown_to self.old x (line_of program.now (innermost self.old.frames)) (unwound x (drop first self.old.frames))) o self.new) }
+        ensures ok { IfOk result (λ o. Settles (
+          Done,
+          thrown_to self.old x (line_of program.now (innermost self.old.frames))
+              (unwound x (drop first self.old.frames)),
+        ) o self.new) }
         ensures err { OnErr result (self.new ≡ self.old) }
     {
         let line = line_at(program, self.frames.code(), self.frames.pc());
         self.throws(first, x, line)
     }
 
-    /// What an instruction that takes `n` operands leads to, done in time of what it changes; only an exception that no block
-    /// takes, once in the life of a thread, looks through all frames. At want of memory the state stays as it is, and so it
-    /// does where it has no frame.
+    /// What an instruction that takes `n` operands leads to, done in time of what it changes; only an exception that
+    /// no block takes, once in the life of a thread, looks through all frames. At want of memory the state stays as
+    /// it is, and so it does where it has no frame.
     pub fn settle(&mut self, program: &Program, n: usize, next: Next) -> Result<Outcome, NoMemory>
         ensures ok { IfOk result (λ o. Settles (settled_in program.now self.old n next self.old.frames) o self.new) }
         ensures err { OnErr result (self.new ≡ self.old) }
@@ -176,7 +185,8 @@ impl ThreadState {
 
     /// The same of what an instruction leads to that asks nothing of the heap, whatever the program.
     pub fn settle_directly(&mut self, n: usize, next: Direct) -> Result<Outcome, NoMemory>
-        ensures ok { (p : Compiled) → IfOk result (λ o. Settles (settled_in p self.old n (leads next) self.old.frames) o self.new) }
+        ensures ok { (p : Compiled) → IfOk result
+            (λ o. Settles (settled_in p self.old n (leads next) self.old.frames) o self.new) }
         ensures err { OnErr result (self.new ≡ self.old) }
     {
         if self.frames.len() == 0 {

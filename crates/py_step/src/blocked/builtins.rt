@@ -1,4 +1,5 @@
-//! Whether the call of a builtin would wait, over a committed heap: `acquire` of a held lock, and `join` of a thread that has not ended.
+//! Whether the call of a builtin would wait, over a committed heap: `acquire` of a held lock, and `join` of a thread
+//! that has not ended.
 ghost use Rattle.std.specs.Prelude.{◌≡◌, ℕ, ◌==◌, [], length, codes, option_map, MatchOption};
 ghost use Rattle.py_base.specs.Numbers.{builtin_number};
 ghost use Rattle.py_data.specs.declared.value.Value.TheVariants.{Ref};
@@ -100,7 +101,8 @@ fn lock_waits<P: Peek>(heap: &P, own: Value, args: &[Value]) -> bool
     requires closed { AreClosed (P.image heap.now) }
     requires own { Refers (P.image heap.now) own }
     requires refer { Every (Refers (P.image heap.now)) args.now }
-    ensures { Tells {S = State} result AnswersWait (P.image heap.now) (lock_row (builtin_number (codes "lock.acquire")) own args.now []) }
+    ensures { Tells {S = State} result AnswersWait (P.image heap.now)
+        (lock_row (builtin_number (codes "lock.acquire")) own args.now []) }
 {
     match record_of(heap, own, Kind::Lock) {
         Some(a) => acquire_waits(heap, a, args),
@@ -125,13 +127,14 @@ fn thread_waits<P: Peek>(heap: &P, me: Option<Addr>, own: Value, args: &[Value])
     }
 }
 
-/// Whether the call of the builtin of a number would wait, without keywords. `me` is the Thread record of the thread that calls, if it
-/// has one, `own` the object of a method.
+/// Whether the call of the builtin of a number would wait, without keywords. `me` is the Thread record of the thread
+/// that calls, if it has one, `own` the object of a method.
 pub fn builtin_waits<P: Peek>(heap: &P, me: Option<Addr>, b: u8, own: Value, args: &[Value]) -> bool
     requires closed { AreClosed (P.image heap.now) }
     requires own { Refers (P.image heap.now) own }
     requires refer { Every (Refers (P.image heap.now)) args.now }
-    ensures { (roots : ℕ) → Tells {S = State} result AnswersWait (P.image heap.now) (call_row roots (option_map (λ m. m.0) me) b own args.now []) }
+    ensures { (roots : ℕ) → Tells {S = State} result AnswersWait (P.image heap.now)
+        (call_row roots (option_map (λ m. m.0) me) b own args.now []) }
 {
     if b == LOCK_ACQUIRE {
         return lock_waits(heap, own, args);

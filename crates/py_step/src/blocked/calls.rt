@@ -26,7 +26,8 @@ fn method_waits<P: Peek>(heap: &P, me: Option<Addr>, a: Addr, args: &[Value]) ->
     }
 }
 
-/// Whether the call of a value would wait, without keywords. An object may stand in front; then `all` are the arguments behind it.
+/// Whether the call of a value would wait, without keywords. An object may stand in front; then `all` are the
+/// arguments behind it.
 pub fn value_waits<P: Peek>(
     heap: &P,
     me: Option<Addr>,
@@ -40,7 +41,8 @@ pub fn value_waits<P: Peek>(
     requires called { Refers (P.image heap.now) called }
     requires some { Every (Refers (P.image heap.now)) args.now }
     requires every { Every (Refers (P.image heap.now)) all.now }
-    ensures { (s : Site) (g : Given) → s.thread ≡ me → g.args ≡ args.now → (with_own own g).args ≡ all.now → g.names ≡ []
+    ensures { (s : Site) (g : Given) → s.thread ≡ me → g.args ≡ args.now → (with_own own g).args ≡ all.now
+        → g.names ≡ []
         → Tells result LeadsToWait (P.image heap.now) (value_call s own g called) }
 {
     match called {

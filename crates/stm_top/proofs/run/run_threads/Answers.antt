@@ -36,8 +36,7 @@ returns-in-Ok-new g c =
     (core_limits paged_meaning x).segments (Some (peaks_of (core_store x))) (peaks_of c.in-Ok.store) n.peaks
     c.in-Ok.ensures.empty.none in
     let ends = c.run_core.ensures.ended c.args.outside.input c.args.outside.out c.args.outside.err n.devices
-    (outer_new (core_new (g.C.Client.prog client) (first_world (g.I.Source.state c.args.outside.input).told (g.I.Source.state c.args.outside.input).ends))) n.state
-    explained in
+    (outer_new (core_new (g.C.Client.prog client) (first_world a.input.told a.input.ends))) n.state explained in
     let ends1 = subst (λ z. RunEnds (g.C.Client.prog z) (core_limits paged_meaning c.in-Ok-new.core) r.answer a t b)
     n.client ends in
     record {
