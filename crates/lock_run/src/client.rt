@@ -1,10 +1,12 @@
 //! A client: what the threads of a machine do, over any view.
 ghost use Rattle.std.specs.Prelude.{◌≡◌, ◌↔◌, IsTrue, true, false, List, IfOk, IfErr, OnErr};
 ghost use Rattle.py_data.specs.Heap.{Heap};
+ghost use Rattle.py_data.specs.Row.{Ret};
 ghost use Rattle.py_data.specs.Steady.{AsksToPrint};
 ghost use Rattle.lock_run.specs.Client.{Standing, StandsIn, Stepped, StepStopped, StaysSound, IsSafe, TellsLife, WaitsQuietly, Waiting, Going};
 ghost use Rattle.lock_run.specs.Prog.{Prog};
 ghost use Rattle.lock_run.specs.declared.client.Life.TheVariants.{Lives};
+ghost use Rattle.lock_run.specs.declared.client.Outcome.TheVariants.{Done};
 
 use py_data::{NoMemory, Peek, Stop, View};
 use std::alloc::Global;
@@ -63,6 +65,13 @@ pub trait Client {
         ensures ok { IfOk result (λ o. Stepped V.sense V.bracket ((prog self.now).row s.old) v.old o s.new v.new) }
         ensures err { IfErr result (λ e. StepStopped V.sense V.bracket ((prog self.now).row s.old) v.old e v.new) }
         ensures state { OnErr result (s.new ≡ s.old) };
+
+    /// One step of a thread that lives, if its row asks nothing and the thread lives on: whether it was done. It takes
+    /// no view, so it costs less than `step`, and may leave any step to that: what wasn't done left the state as it was.
+    fn step_pure(&self, s: &mut Self::State) -> bool
+        requires lives { (prog self.now).life s.old ≡ Lives }
+        ensures done { result ≡ true → (prog self.now).row s.old ≡ Ret (Done, s.new) }
+        ensures not { result ≡ false → s.new ≡ s.old };
 
     /// The thread's next step over that heap would wait. It takes no memory.
     fn blocked<P: Peek>(&self, s: &Self::State, heap: &P) -> bool

@@ -4,7 +4,7 @@ use crate::space::Space;
 use crate::threads::Threads;
 use py_data::{
     Addr, Change, Entry, Kind, LENGTH_LIMIT, Names, NoMemory, Out, Peek, Record, Stop, Value, View,
-    find_pair,
+    find_pair, value_or_unset,
 };
 use std::alloc::Global;
 use stm_io::{PutError, Sink, Source, TakeError};
@@ -295,6 +295,14 @@ impl<S: Drop, I: Source, O: Sink, E: Sink> View<S> for PlainView<S, I, O, E> {
     fn val(&mut self, a: Addr, i: usize) -> Result<Value, Stop> {
         match self.space.look(a.0) {
             Some(r) => Ok(r.values()[i]),
+            None => unreachable!(),
+        }
+    }
+
+    #[tactic(auto, unfolding(py_data::specs::Sense::Asks, py_data::specs::Heap::at))]
+    fn find_val(&mut self, a: Addr, i: usize) -> Result<Value, Stop> {
+        match self.space.look(a.0) {
+            Some(r) => Ok(value_or_unset(r.values(), i)),
             None => unreachable!(),
         }
     }

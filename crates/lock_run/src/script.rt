@@ -382,6 +382,10 @@ impl Client for Script {
         }
     }
 
+    fn step_pure(&self, s: &mut ScriptState) -> bool {
+        false
+    }
+
     fn blocked<P: Peek>(&self, s: &ScriptState, heap: &P) -> bool {
         false
     }

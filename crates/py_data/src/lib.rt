@@ -32,5 +32,5 @@ pub use py_base::{
 pub use record::{Fault, Got, LENGTH_LIMIT, Record, With};
 pub use stop::{Conflict, Conflicts, Out, Side, Stop};
 pub use undo::Undo;
-pub use value::{Addr, Names, Value, Values};
+pub use value::{Addr, Names, Value, Values, value_or_unset};
 pub use view::{Peek, View};

@@ -31,17 +31,11 @@ pub fn size<S, V: View<S>>(v: &mut V, a: Addr) -> Result<usize, Stop>
 }
 
 /// The value of a record at a place; Unset where it has none there.
-#[tactic(auto, using(crate::proofs::Rows::row_steps, crate::proofs::Looked::value_past), unfolding(crate::specs::Looking::look_row))]
+#[tactic(auto, using(crate::proofs::Rows::row_steps), unfolding(crate::specs::Looking::look_row))]
 pub fn look<S, V: View<S>>(v: &mut V, a: Addr, i: usize) -> Result<Value, Stop>
     requires live { IsLive V.sense v.old }
     requires safe { Safe V.sense.partial (look_row {S = S} a.0 i) (V.sense.heap v.old) }
     ensures { Meets V.sense (look_row a.0 i) v.old v.new result }
 {
-    let n = v.len(a)?;
-    if i < n {
-        let x = v.val(a, i)?;
-        Ok(x)
-    } else {
-        Ok(Value::Unset)
-    }
+    v.find_val(a, i)
 }

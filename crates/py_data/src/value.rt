@@ -1,4 +1,7 @@
 //! Addresses and values.
+ghost use Rattle.std.specs.Prelude.{◌≡◌};
+ghost use Rattle.py_data.specs.Heap.{value_at};
+
 use py_base::Items;
 
 /// The address of a record in the heap.
@@ -24,3 +27,14 @@ pub type Values = Items<Value>;
 
 /// The addresses that a turn's new records got, in order.
 pub type Names = Items<Addr>;
+
+/// A value of a list; Unset where it has none there.
+pub fn value_or_unset(values: &[Value], i: usize) -> Value
+    ensures { result ≡ value_at values.now i }
+{
+    if i < values.len() {
+        values[i]
+    } else {
+        Value::Unset
+    }
+}

@@ -64,6 +64,12 @@ pub trait View<S> {
         requires there { IfThere sense.partial (sense.heap self.old a.0) (λ r. i < length r.values) }
         ensures { Shows sense a.0 (λ r. value_at r.values i) self.old self.new result };
 
+    /// The value of a record at a place; Unset where it has none there.
+    fn find_val(&mut self, a: Addr, i: usize) -> Result<Value, Stop>
+        requires live { IsLive sense self.old }
+        requires there { Asks {S = S} sense.partial (Read a.0) (sense.heap self.old) }
+        ensures { Shows sense a.0 (λ r. value_at r.values i) self.old self.new result };
+
     /// The count of a record's bytes.
     fn byte_len(&mut self, a: Addr) -> Result<usize, Stop>
         requires live { IsLive sense self.old }

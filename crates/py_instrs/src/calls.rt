@@ -7,7 +7,6 @@ ghost use Rattle.py_frames.specs.CallRows as call_rows;
 
 use crate::binding::bound_row;
 use crate::class_calls::{class_call, entered_row};
-use crate::named::value_or_unset;
 use crate::raising::{place_in, push, raise_row, raise_text, values_row};
 use crate::site::{Given, Site, with_first};
 use crate::starts::start_row;
@@ -15,7 +14,9 @@ use obj_builtins::call;
 use obj_threads::Answer;
 use py_base::{skip, split};
 use py_data::exception::TYPE_ERROR;
-use py_data::{Addr, Got, Kind, NoMemory, Stop, Value, Values, View, kind, look};
+use py_data::{
+    Addr, Got, Kind, NoMemory, Stop, Value, Values, View, kind, look, value_or_unset,
+};
 use py_frames::Next;
 use py_states::ThreadState;
 use std::alloc::Global;

@@ -33,7 +33,7 @@ pub use globals::{
 pub use items::{del_item_instr, load_item_row, slice_instr, store_item_row};
 pub use locals::{const_row, del_local_row, load_local_row};
 pub use made_raised::{made_alone, made_valued};
-pub use named::{push_unset, value_or_unset};
+pub use named::push_unset;
 pub use operators::{
     binary_instr, compare_instr, in_place_instr, jump_false_row, keep_false_row, keep_true_row,
     not_row, unary_instr,

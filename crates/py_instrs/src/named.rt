@@ -8,19 +8,8 @@ ghost use Rattle.py_frames.specs.State as state;
 use crate::programs::root_name;
 use py_base::{Bytes, NoMemory, skip, split};
 use py_code::Program;
-use py_data::{Value, Values};
+use py_data::{Value, Values, value_or_unset};
 use std::alloc::Global;
-
-/// A value of a list; Unset where it has none there.
-pub fn value_or_unset(values: &[Value], i: usize) -> Value
-    ensures { result ≡ value_at values.now i }
-{
-    if i < values.len() {
-        values[i]
-    } else {
-        Value::Unset
-    }
-}
 
 /// Whether a name is among these.
 fn has(names: &[Bytes], name: &[u8]) -> bool

@@ -1,7 +1,6 @@
 //! The state of a thread in memory: three lists, whatever the depth of its calls.
 #![tactic(auto)]
 
-mod direct;
 mod frames;
 mod head;
 mod moves;
@@ -12,5 +11,4 @@ mod tests;
 mod thread;
 mod track;
 
-pub use direct::Direct;
 pub use thread::ThreadState;

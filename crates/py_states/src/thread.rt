@@ -4,12 +4,13 @@ ghost use Rattle.py_data.specs.Heap.{value_at};
 ghost use Rattle.py_frames.specs.State.{life_of, operands, with_frames};
 ghost use Rattle.py_states.specs.Innermost.{innermost, from_top};
 
+mod at_once;
 mod settle;
 
 use crate::frames::Frames;
 use lock_run::Life;
 use py_base::{NoMemory, skip};
-use py_data::{Addr, Value};
+use py_data::{Addr, Value, value_or_unset};
 use py_frames::{Dying, Frame};
 use std::alloc::Global;
 use std::marker::Model;
@@ -37,17 +38,6 @@ impl Model for ThreadState {
       frames = a.frames.frames;
       dying = a.dying;
     } };
-}
-
-/// A value of a list; Unset where it has none there.
-fn value_or_unset(values: &[Value], i: usize) -> Value
-    ensures { result ≡ value_at values.now i }
-{
-    if i < values.len() {
-        values[i]
-    } else {
-        Value::Unset
-    }
 }
 
 impl ThreadState {

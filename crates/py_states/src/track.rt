@@ -53,12 +53,19 @@ impl<T: Copy> Track<T> {
     }
 
     /// Adds the elements of a slice at the end, where there is room.
+    #[inline(always)]
     pub fn extend(&mut self, xs: &[T])
         requires { length xs.now ≤ self.old.room }
         ensures entries { self.new.entries ≡ self.old.entries ++ xs.now }
         ensures room { self.old.room ≤ self.new.room + length xs.now }
     {
-        let _ = self.items.extend_from_slice(xs);
+        match xs {
+            [] => (),
+            [x] => self.items.push_reserved(*x),
+            _ => {
+                let _ = self.items.extend_from_slice(xs);
+            }
+        }
     }
 
     /// Keeps the first `n` elements, or all where there are fewer.

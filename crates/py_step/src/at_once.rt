@@ -1,5 +1,5 @@
-//! Instructions that ask nothing of the heap and raise nothing: what they lead to, told without a row and without
-//! memory.
+//! Instructions that ask nothing of the heap and raise nothing, done at once: without a view, and without memory for
+//! what they push.
 ghost use Rattle.std.specs.Prelude.{◌≡◌, [], ◌∷◌, Some, IfSome, option_map};
 ghost use Rattle.obj_ops.specs.Compare.{comparison_of};
 ghost use Rattle.obj_ops.specs.Numbers.{calculated, divided, narrowed, operator_of};
@@ -15,7 +15,7 @@ use py_code::{Constant, Instr};
 use py_data::Value;
 use py_data::arithmetic::{floor_divide, floor_modulo};
 use py_data::operator::{binary, compare};
-use py_states::{Direct, ThreadState};
+use py_states::ThreadState;
 use std::cmp::Ordering;
 
 /// A number, where 64 bits hold it.
@@ -103,122 +103,120 @@ fn value_of(c: Constant) -> Option<Value>
     }
 }
 
-/// CONST.
-fn constant(t: &ThreadState, c: Constant) -> Option<Direct>
-    ensures { Tells (innermost t.now.frames) [] (Const c) result }
+/// CONST of a value that is no root's.
+fn constant(s: &mut ThreadState, c: Constant) -> bool
+    ensures { IsAtOnce s.old (Const c) result s.new }
 {
     match value_of(c) {
-        Some(x) => Some(Direct::Gives(x)),
-        None => None,
+        Some(x) => s.gives(0, x),
+        None => false,
     }
 }
 
 /// LOAD_LOCAL of a slot that holds a value.
-fn local(t: &ThreadState, j: u32) -> Option<Direct>
-    ensures { Tells (innermost t.now.frames) [] (LoadLocal j) result }
+fn load(s: &mut ThreadState, j: u32) -> bool
+    ensures { IsAtOnce s.old (LoadLocal j) result s.new }
 {
-    match t.slot(j as usize) {
-        Value::Unset => None,
-        x => Some(Direct::Gives(x)),
-    }
-}
-
-/// An instruction without operands.
-fn over_none(t: &ThreadState, i: Instr) -> Option<Direct>
-    ensures { Tells (innermost t.now.frames) [] i result }
-{
-    match i {
-        Instr::Const(c) => constant(t, c),
-        Instr::LoadLocal(j) => local(t, j),
-        Instr::Jump(place) => Some(Direct::Jumps(place)),
-        _ => None,
+    match s.slot(j as usize) {
+        Value::Unset => false,
+        x => s.gives(0, x),
     }
 }
 
 /// STORE_LOCAL of a value.
-fn store(t: &ThreadState, j: u32, x: Value) -> Option<Direct>
-    ensures { Tells (innermost t.now.frames) (x ∷ []) (StoreLocal j) result }
+fn store(s: &mut ThreadState, j: u32) -> bool
+    ensures { IsAtOnce s.old (StoreLocal j) result s.new }
 {
-    match x {
-        Value::Unset => None,
-        _ => Some(Direct::Stores(j, x)),
+    match s.operand(1, 0) {
+        Value::Unset => false,
+        x => s.keeps(1, j, x),
     }
+}
+
+/// POP of a value.
+fn pop(s: &mut ThreadState) -> bool
+    ensures { IsAtOnce s.old Pop result s.new }
+{
+    s.passes_on(1)
 }
 
 /// JUMP_FALSE over a truth value.
-fn branch(t: &ThreadState, place: u32, x: Value) -> Option<Direct>
-    ensures { Tells (innermost t.now.frames) (x ∷ []) (JumpFalse place) result }
+fn branch(s: &mut ThreadState, place: u32) -> bool
+    ensures { IsAtOnce s.old (JumpFalse place) result s.new }
 {
-    match x {
-        Value::Bool(true) => Some(Direct::Passes),
-        Value::Bool(false) => Some(Direct::Jumps(place)),
+    match s.operand(1, 0) {
+        Value::Bool(true) => s.passes_on(1),
+        Value::Bool(false) => s.jumps_on(1, place),
+        _ => false,
+    }
+}
+
+/// RETURN of a value from a function that another one called, if its frame makes nothing.
+fn leave(s: &mut ThreadState) -> bool
+    ensures { IsAtOnce s.old Return result s.new }
+{
+    match (s.operand(1, 0), s.made(), s.names()) {
+        (Value::Unset, _, _) => false,
+        (x, Value::Unset, None) => s.returns(1, x),
+        _ => false,
+    }
+}
+
+/// The two operands, if they are numbers.
+fn two_numbers(s: &ThreadState) -> Option<(i64, i64)>
+    ensures { IfSome result (λ z. operands 2 (innermost s.now.frames) ≡ Number z.0 ∷ Number z.1 ∷ []) }
+{
+    match s.operands(2) {
+        [Value::Int(a), Value::Int(b)] => Some((*a, *b)),
         _ => None,
     }
 }
 
-/// An instruction with one operand.
-fn over_one(t: &ThreadState, x: Value, i: Instr) -> Option<Direct>
-    ensures { Tells (innermost t.now.frames) (x ∷ []) i result }
+/// BINARY and INPLACE of two numbers.
+fn number(s: &mut ThreadState, op: u8) -> bool
+    ensures binary { IsAtOnce s.old (Binary op) result s.new }
+    ensures in_place { IsAtOnce s.old (InPlace op) result s.new }
+{
+    match two_numbers(s) {
+        Some((a, b)) => match calculate(op, a, b) {
+            Some(z) => s.gives(2, Value::Int(z)),
+            None => false,
+        },
+        None => false,
+    }
+}
+
+/// COMPARE of two numbers.
+fn truth(s: &mut ThreadState, op: u8) -> bool
+    ensures { IsAtOnce s.old (Compare op) result s.new }
+{
+    match two_numbers(s) {
+        Some((a, b)) => match order(op, a, b) {
+            Some(z) => s.gives(2, Value::Bool(z)),
+            None => false,
+        },
+        None => false,
+    }
+}
+
+/// Does an instruction of a thread that has a frame, if it asks nothing of the heap and raises nothing: whether it was
+/// done.
+pub fn do_at_once(s: &mut ThreadState, i: Instr) -> bool
+    ensures { IsAtOnce s.old i result s.new }
 {
     match i {
-        Instr::StoreLocal(j) => store(t, j, x),
-        Instr::Pop => Some(Direct::Passes),
-        Instr::JumpFalse(place) => branch(t, place, x),
-        _ => None,
-    }
-}
-
-/// What an operator on two numbers gives, as an end of its instruction.
-fn given(z: Option<i64>) -> Option<Direct>
-    ensures { result ≡ option_map (λ z. Gives (Number z)) z }
-{
-    match z {
-        Some(z) => Some(Direct::Gives(Value::Int(z))),
-        None => None,
-    }
-}
-
-/// What a comparison of two numbers gives, as an end of its instruction.
-fn told(b: Option<bool>) -> Option<Direct>
-    ensures { result ≡ option_map (λ b. Gives (Truth b)) b }
-{
-    match b {
-        Some(b) => Some(Direct::Gives(Value::Bool(b))),
-        None => None,
-    }
-}
-
-/// An instruction over two numbers.
-fn over_numbers(t: &ThreadState, a: i64, b: i64, i: Instr) -> Option<Direct>
-    ensures { Tells (innermost t.now.frames) (Number a ∷ Number b ∷ []) i result }
-{
-    match i {
-        Instr::Binary(op) => given(calculate(op, a, b)),
-        Instr::InPlace(op) => given(calculate(op, a, b)),
-        Instr::Compare(op) => told(order(op, a, b)),
-        _ => None,
-    }
-}
-
-/// An instruction with two operands.
-fn over_two(t: &ThreadState, x: Value, y: Value, i: Instr) -> Option<Direct>
-    ensures { Tells (innermost t.now.frames) (x ∷ y ∷ []) i result }
-{
-    match (x, y) {
-        (Value::Int(a), Value::Int(b)) => over_numbers(t, a, b, i),
-        _ => None,
-    }
-}
-
-/// What an instruction leads to over these operands, the lowest first, in the innermost frame, where it asks nothing
-/// of the heap and raises nothing.
-pub fn direct(t: &ThreadState, xs: &[Value], i: Instr) -> Option<Direct>
-    ensures { Tells (innermost t.now.frames) xs.now i result }
-{
-    match xs.len() {
-        0 => over_none(t, i),
-        1 => over_one(t, xs[0], i),
-        2 => over_two(t, xs[0], xs[1], i),
-        _ => None,
+        Instr::Const(c) => constant(s, c),
+        Instr::LoadLocal(j) => load(s, j),
+        Instr::StoreLocal(j) => store(s, j),
+        Instr::Pop => pop(s),
+        Instr::Jump(place) => s.jumps_on(0, place),
+        Instr::JumpFalse(place) => branch(s, place),
+        Instr::Binary(op) => number(s, op),
+        Instr::InPlace(op) => number(s, op),
+        Instr::Compare(op) => truth(s, op),
+        Instr::Try(handler) => s.tries(0, handler),
+        Instr::PopTry => s.has_tried(0),
+        Instr::Return => leave(s),
+        _ => false,
     }
 }

@@ -25,8 +25,8 @@ use crate::place::instr_at;
 use calls::value_waits;
 use py_base::{first, skip};
 use py_code::{Instr, Program};
-use py_data::{Addr, Peek, Value};
-use py_instrs::{keys_at, value_or_unset};
+use py_data::{Addr, Peek, Value, value_or_unset};
+use py_instrs::keys_at;
 use py_states::ThreadState;
 
 /// So many arguments of CALL_METHOD, behind its object, if there is one.

@@ -6,7 +6,7 @@ ghost use Rattle.py_frames.specs.Laws.{prog_of};
 ghost use Rattle.py_frames.specs.Sound.{Sound, first_state, module_frame};
 
 use crate::blocked::would_wait;
-use crate::step::step_row;
+use crate::step::{step_at_once, step_row};
 use lock_run::{Client, Life, Outcome};
 use py_code::Program;
 use py_data::{Items, NoMemory, Peek, Stop, Value, Values, View};
@@ -102,6 +102,10 @@ impl Client for PyClient {
                 Err(stop)
             }
         }
+    }
+
+    fn step_pure(&self, s: &mut ThreadState) -> bool {
+        step_at_once(self.program.program(), s)
     }
 
     fn blocked<P: Peek>(&self, s: &ThreadState, heap: &P) -> bool {

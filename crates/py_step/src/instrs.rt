@@ -19,7 +19,7 @@ ghost use Rattle.py_step.specs.inner.Operators.{HasOperator};
 use crate::place::place_of;
 use py_base::{first, skip};
 use py_code::Instr;
-use py_data::{Kind, NoMemory, Stop, Value, Values, View};
+use py_data::{Kind, NoMemory, Stop, Value, Values, View, value_or_unset};
 use py_frames::{Next, Pushed};
 use py_instrs::{
     Given, Site, binary_instr, build_dict_row, class_body_row, code_name, compare_instr, const_row,
@@ -28,7 +28,7 @@ use py_instrs::{
     load_method_row, made_alone, made_valued, make_function_row, next_instr, not_row, pass,
     print_item_row, print_newline_row, push_two, raise_value, root_name, setup_row, slice_instr,
     slot_name, store_attr_row, store_global_row, store_item_row, store_name_row, unary_instr,
-    unpack_row, value_call, value_or_unset,
+    unpack_row, value_call,
 };
 use py_states::ThreadState;
 use std::alloc::Global;

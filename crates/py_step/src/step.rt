@@ -12,7 +12,7 @@ ghost use Rattle.py_states.specs.Leading.{leads};
 ghost use Rattle.py_step.specs.inner.Moves.{Moves, dying_step, dying_words};
 ghost use Rattle.py_step.specs.inner.Operators.{HasOperator, IsOperable};
 
-use crate::at_once::direct;
+use crate::at_once::do_at_once;
 use crate::guard::guarded_row;
 use crate::operands::pops;
 use crate::place::{instr_at, place_of, site};
@@ -21,7 +21,7 @@ use py_code::{Instr, Program};
 use py_data::{Stop, View};
 use py_frames::{Dying, Next};
 use py_instrs::dying_row;
-use py_states::{Direct, ThreadState};
+use py_states::ThreadState;
 use std::alloc::Global;
 
 /// Does the instruction at hand of a thread that has a frame, over its `n` operands.
@@ -52,38 +52,6 @@ fn go_by_row<V: View<ThreadState>>(
     v: &mut V,
     p: &Program,
     s: &mut ThreadState,
-    n: usize,
-    i: Instr,
-) -> Result<Outcome, Stop>
-    requires some { 0 < length s.old.frames }
-    requires count { n ≡ state.pops p.now (innermost s.old.frames) i }
-    requires operator { HasOperator i }
-    requires live { IsLive V.sense v.old }
-    requires safe { Safe V.sense.partial (steps.step_at p.now s.old (innermost s.old.frames) (drop 1 s.old.frames)
-        (Some i)) (V.sense.heap v.old) }
-    ensures { Moves V.sense (steps.step_at p.now s.old (innermost s.old.frames) (drop 1 s.old.frames) (Some i)) v.old
-        s.old v.new s.new result }
-{
-    let next = next_of(alloc, v, p, s, n, i)?;
-    let outcome = s.settle(p, n, next)?;
-    Ok(outcome)
-}
-
-/// What an instruction that asks nothing of the heap leads to.
-fn go_at_once(s: &mut ThreadState, n: usize, next: Direct) -> Result<Outcome, Stop>
-    ensures ok { (p : Compiled) → IfOk result (λ o. Settles (settled_in p s.old n (leads next) s.old.frames) o s.new) }
-    ensures err { IfErr result (λ e. (e ≡ OutOfMemory) × (s.new ≡ s.old)) }
-{
-    let outcome = s.settle_directly(n, next)?;
-    Ok(outcome)
-}
-
-/// The step of a thread that has a frame: at once where the instruction asks nothing of the heap, else by its row.
-fn go_on<V: View<ThreadState>>(
-    alloc: Global,
-    v: &mut V,
-    p: &Program,
-    s: &mut ThreadState,
     i: Instr,
 ) -> Result<Outcome, Stop>
     requires some { 0 < length s.old.frames }
@@ -95,9 +63,24 @@ fn go_on<V: View<ThreadState>>(
         s.old v.new s.new result }
 {
     let n = pops(p, s, i);
-    match direct(s, s.operands(n), i) {
-        Some(next) => go_at_once(s, n, next),
-        None => go_by_row(alloc, v, p, s, n, i),
+    let next = next_of(alloc, v, p, s, n, i)?;
+    let outcome = s.settle(p, n, next)?;
+    Ok(outcome)
+}
+
+/// The step of a thread that lives, if it is of an instruction that asks nothing of the heap and raises nothing:
+/// whether it was done.
+pub fn step_at_once(p: &Program, s: &mut ThreadState) -> bool
+    requires lives { state.life_of s.old ≡ Lives }
+    ensures done { result ≡ true → steps.step_row p.now s.old ≡ Ret (Done, s.new) }
+    ensures not { result ≡ false → s.new ≡ s.old }
+{
+    if s.dying().is_some() {
+        return false;
+    }
+    match instr_at(p, s) {
+        Some(i) => do_at_once(s, i),
+        None => false,
     }
 }
 
@@ -157,7 +140,7 @@ pub fn step_row<V: View<ThreadState>>(
         return die(alloc, v, s, d);
     }
     match instr_at(p, s) {
-        Some(i) => go_on(alloc, v, p, s, i),
+        Some(i) => go_by_row(alloc, v, p, s, i),
         None => Ok(end(s)),
     }
 }

@@ -3,11 +3,21 @@ use py_data::{Addr, NoMemory};
 use std::alloc::Global;
 use std::cell::Cell;
 
-/// The most records that are kept.
-pub const RECENT_LIMIT: usize = 64;
+/// The most records that are kept: four in each of sixteen sets.
+pub const RECENT_LIMIT: usize = SET_LIMIT * 16;
 
-/// The addresses of the different records that were looked at last, the last one first. They are kept in cells, of
-/// whose contents no clause says anything: a note changes nothing that a contract sees.
+/// The most records of a set.
+const SET_LIMIT: usize = 4;
+
+/// What spreads addresses over sets: a set is told by the upper four bits of the product.
+const SPREAD: u32 = 2_654_435_769;
+
+/// How many products one set has.
+const SET_SHARE: u32 = 0x1000_0000;
+
+/// The addresses of different records that were looked at last: of each set of addresses the last ones, the very last
+/// one first. They are kept in cells, of whose contents no clause says anything: a note changes nothing that a contract
+/// sees.
 #[derive(Drop)]
 pub struct Recent {
     places: Vec<Cell<Option<Addr>>>,
@@ -33,11 +43,15 @@ impl Recent {
         }
     }
 
-    /// A record was looked at: its address is the first from now on, and the last one is let go where there are too
-    /// many. It takes no memory, and the time of the places up to the one where the address stood.
+    /// A record was looked at: its address is the first of its set from now on, and the last one of the set is let go
+    /// where there are too many. It takes no memory.
     pub fn note(&self, a: Addr) {
+        let first = (a.0.wrapping_mul(SPREAD) / SET_SHARE) as usize * SET_LIMIT;
         let mut next = a;
-        'places: for place in &self.places {
+        'places: for i in first..first + SET_LIMIT {
+            let Some(place) = self.places.get(i) else {
+                return;
+            };
             match place.replace(Some(next)) {
                 Some(here) if here.0 != a.0 => next = here,
                 _ => return,

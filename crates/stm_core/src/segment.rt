@@ -147,10 +147,10 @@ impl<'a, T: Drop, S: SegStore, I, O, E> SegView<'a, T, S, I, O, E> {
         ensures { result ≡ is_noted (sees (S.meaning self.now.store.now) self.now.segment a.0)
             (((S.meaning self.now.store.now).part self.now.segment).looked a.0) }
     {
-        if is_tracked_kind(self.store.kind(self.segment, a)) {
-            self.store.has_looked(self.segment, a)
-        } else {
+        if self.store.has_looked(self.segment, a) {
             true
+        } else {
+            !is_tracked_kind(self.store.kind(self.segment, a))
         }
     }
 
@@ -497,6 +497,18 @@ impl<'a, T: Drop, S: SegStore, I, O, E> SegView<'a, T, S, I, O, E> {
         ensures { result ≡ value_at (at (sees (S.meaning self.now.store.now) self.now.segment) a.0).values i }
     {
         self.store.val(self.segment, a, i)
+    }
+
+    /// The value of a record at a place; Unset where it has none there. No look is noted.
+    pub fn value_if_any(&self, a: Addr, i: usize) -> Value
+        requires { IfThere false ((sees (S.meaning self.now.store.now) self.now.segment) a.0) (λ r. Unit {0}) }
+        ensures { result ≡ value_at (at (sees (S.meaning self.now.store.now) self.now.segment) a.0).values i }
+    {
+        if i < self.count_of(a) {
+            self.value_of(a, i)
+        } else {
+            Value::Unset
+        }
     }
 
     /// Copies bytes of a record. No look is noted.

@@ -101,6 +101,9 @@ impl<'p, C: Client, S: SegStore, I: Source, O: Sink, E: Sink> Core<'p, C, S, I, 
             (transaction w.own ((S.meaning self.old.store).part k) work.old) stop
             (device_state I.state O.state E.state self.new.devices)) }
     {
+        if self.client.step_pure(&mut work.state) {
+            return Ok(Outcome::Done);
+        }
         let side = work.side(k);
         let mut view = SegView::new(
             &mut self.store,

@@ -111,6 +111,15 @@ impl<'a, T: Drop, S: SegStore, I: Source, O: Sink, E: Sink> View<T> for SegView<
     }
 
     #[tactic(auto, unfolding(py_data::specs::Sense::Asks))]
+    fn find_val(&mut self, a: Addr, i: usize) -> Result<Value, Stop> {
+        let value = self.value_if_any(a, i);
+        match self.see(a) {
+            Ok(()) => Ok(value),
+            Err(stop) => Err(stop),
+        }
+    }
+
+    #[tactic(auto, unfolding(py_data::specs::Sense::Asks))]
     fn byte_len(&mut self, a: Addr) -> Result<usize, Stop> {
         let count = self.byte_count_of(a);
         match self.see(a) {

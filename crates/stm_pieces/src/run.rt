@@ -58,6 +58,9 @@ fn step_here<C: Client>(
     ensures err { IfErr result (λ e. NoStep (C.prog client.now) (C.sound client.now) state.old
         (piece_state view.old) e state.new (piece_state view.new)) }
 {
+    if client.step_pure(state) {
+        return Ok(true);
+    }
     match client.step(alloc, state, view) {
         Ok(Outcome::Done) => Ok(true),
         Ok(Outcome::Ended) => Ok(false),

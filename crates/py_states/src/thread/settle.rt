@@ -3,12 +3,9 @@ ghost use Rattle.std.specs.Prelude.{◌≡◌, ◌+◌, ◌-◌, [], ◌∷◌, 
 ghost use Rattle.lock_run.specs.declared.client.Outcome.TheVariants.{Done};
 ghost use Rattle.py_frames.specs.State.{advanced, closed, code_at, line_at as line_of, opened, passed, returned, stored, thrown_to, unwound, with_frames};
 ghost use Rattle.py_states.specs.Innermost.{innermost, settled_in, Settles};
-ghost use Rattle.py_states.specs.Leading.{leads};
 ghost use Rattle.py_states.specs.inner.Changes.{on_top, with_top};
-ghost use Rattle.py_code.specs.declared.program.Program.{Program as Compiled};
 
 use super::ThreadState;
-use crate::direct::Direct;
 use lock_run::Outcome;
 use py_base::NoMemory;
 use py_code::{Code, Program};
@@ -39,7 +36,7 @@ fn line_at(program: &Program, code: u32, pc: u32) -> u32
 
 impl ThreadState {
     /// Values are pushed, and the next place follows.
-    fn goes(&mut self, n: usize, ys: &[Value]) -> Result<Outcome, NoMemory>
+    pub(super) fn goes(&mut self, n: usize, ys: &[Value]) -> Result<Outcome, NoMemory>
         ensures ok { IfOk result (λ o. Settles (Done, with_top self.old (λ f. advanced n ys.now (f.pc + 1) f)) o
             self.new) }
         ensures err { OnErr result (self.new ≡ self.old) }
@@ -50,7 +47,7 @@ impl ThreadState {
     }
 
     /// Values are pushed, and a place follows.
-    fn jumps(&mut self, n: usize, place: u32, ys: &[Value]) -> Result<Outcome, NoMemory>
+    pub(super) fn jumps(&mut self, n: usize, place: u32, ys: &[Value]) -> Result<Outcome, NoMemory>
         ensures ok { IfOk result (λ o. Settles (Done, with_top self.old (advanced n ys.now place)) o self.new) }
         ensures err { OnErr result (self.new ≡ self.old) }
     {
@@ -59,7 +56,7 @@ impl ThreadState {
     }
 
     /// A slot holds a value, and the next place follows.
-    fn stores(&mut self, n: usize, i: u32, x: Value) -> Result<Outcome, NoMemory>
+    pub(super) fn stores(&mut self, n: usize, i: u32, x: Value) -> Result<Outcome, NoMemory>
         ensures ok { IfOk result (λ o. Settles (Done, with_top self.old (λ f. stored i x (passed n f))) o self.new) }
         ensures err { OnErr result (self.new ≡ self.old) }
     {
@@ -70,7 +67,7 @@ impl ThreadState {
     }
 
     /// A block begins, and the next place follows.
-    fn opens(&mut self, n: usize, handler: u32) -> Result<Outcome, NoMemory>
+    pub(super) fn opens(&mut self, n: usize, handler: u32) -> Result<Outcome, NoMemory>
         ensures ok { IfOk result (λ o. Settles
             (Done, with_top self.old (λ f. opened handler (length f.stack - n) (passed n f))) o self.new) }
         ensures err { OnErr result (self.new ≡ self.old) }
@@ -84,7 +81,7 @@ impl ThreadState {
     }
 
     /// The innermost block ends, and the next place follows.
-    fn closes(&mut self, n: usize) -> Result<Outcome, NoMemory>
+    pub(super) fn closes(&mut self, n: usize) -> Result<Outcome, NoMemory>
         ensures ok { IfOk result (λ o. Settles (Done, with_top self.old (λ f. closed (passed n f))) o self.new) }
         ensures err { OnErr result (self.new ≡ self.old) }
     {
@@ -108,7 +105,7 @@ impl ThreadState {
     }
 
     /// The innermost frame is left with a value.
-    fn leaves(&mut self, x: Value) -> Result<Outcome, NoMemory>
+    pub(super) fn leaves(&mut self, x: Value) -> Result<Outcome, NoMemory>
         ensures ok { IfOk result (λ o. Settles (returned self.old x (drop 1 self.old.frames)) o self.new) }
         ensures err { OnErr result (self.new ≡ self.old) }
     {
@@ -180,23 +177,6 @@ impl ThreadState {
             Next::Begins(roots) => self.begins(n, roots),
             Next::Throws(x) => self.raises(program, 0, x),
             Next::Waits => Ok(Outcome::Waits),
-        }
-    }
-
-    /// The same of what an instruction leads to that asks nothing of the heap, whatever the program.
-    pub fn settle_directly(&mut self, n: usize, next: Direct) -> Result<Outcome, NoMemory>
-        ensures ok { (p : Compiled) → IfOk result
-            (λ o. Settles (settled_in p self.old n (leads next) self.old.frames) o self.new) }
-        ensures err { OnErr result (self.new ≡ self.old) }
-    {
-        if self.frames.len() == 0 {
-            return Ok(Outcome::Waits);
-        }
-        match next {
-            Direct::Passes => self.goes(n, &[]),
-            Direct::Gives(x) => self.goes(n, &[x]),
-            Direct::Jumps(place) => self.jumps(n, place, &[]),
-            Direct::Stores(i, x) => self.stores(n, i, x),
         }
     }
 }

@@ -38,10 +38,8 @@ compares NotIn i j = None
 compares Identical i j = Some (int_eq i j)
 compares IsNot i j = Some (not (int_eq i j))
 
--- wherever the thread stands, the instruction over these operands asks nothing, and leads to this
-abbrev pub LeadsTo : Frame → List Value → Instr → Direct → Type 0
-LeadsTo f xs i d = (s : Site) → guarded_row s f xs i ≡ Ret (leads d)
-
--- where something is told of the instruction, it leads to that
-abbrev pub Tells : Frame → List Value → Instr → Option Direct → Type 0
-Tells f xs i told = IfSome told (LeadsTo f xs i)
+-- The instruction is at hand and was done, whatever the program, and the thread lives on; or the state is as it was.
+abbrev pub IsAtOnce : State → Instr → Bool → State → Type 0
+IsAtOnce s i true s1 = (p : Program) →
+    step_at p s (innermost s.frames) (drop 1 s.frames) (Some i) ≡ Ret (Done, s1)
+IsAtOnce s i false s1 = s1 ≡ s
