@@ -383,3 +383,8 @@ pub upto_none : {S X A : Type 0} (u : Sense S X) (row : Row S A) (v : X) → Upt
 unfolding Upto
 upto_none u (Ret x) v = (refl, refl)
 upto_none u (Do c f) v = inl (refl, refl)
+
+-- a row that asks nothing is done, and leaves what it began with
+pub done_pure : {S A : Type 0} (row : Row S A) (s : Sight S) (a : A) → row ≡ Ret a → Does row s a s
+unfolding Run
+done_pure row s a e = subst (λ r. Does r s a s) (sym e) (refl, refl)

@@ -15,6 +15,7 @@ pub mod Way
 pub mod Keeping
 pub mod Stepping
 pub mod Stopping
+pub mod Pure
 pub mod Wholes
 pub mod Soundness
 pub mod Afresh

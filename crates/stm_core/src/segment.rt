@@ -500,6 +500,7 @@ impl<'a, T: Drop, S: SegStore, I, O, E> SegView<'a, T, S, I, O, E> {
     }
 
     /// The value of a record at a place; Unset where it has none there. No look is noted.
+    #[tactic(auto, using(py_data::proofs::Looked::value_past))]
     pub fn value_if_any(&self, a: Addr, i: usize) -> Value
         requires { IfThere false ((sees (S.meaning self.now.store.now) self.now.segment) a.0) (λ r. Unit {0}) }
         ensures { result ≡ value_at (at (sees (S.meaning self.now.store.now) self.now.segment) a.0).values i }

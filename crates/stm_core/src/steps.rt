@@ -101,9 +101,6 @@ impl<'p, C: Client, S: SegStore, I: Source, O: Sink, E: Sink> Core<'p, C, S, I, 
             (transaction w.own ((S.meaning self.old.store).part k) work.old) stop
             (device_state I.state O.state E.state self.new.devices)) }
     {
-        if self.client.step_pure(&mut work.state) {
-            return Ok(Outcome::Done);
-        }
         let side = work.side(k);
         let mut view = SegView::new(
             &mut self.store,
@@ -119,7 +116,7 @@ impl<'p, C: Client, S: SegStore, I: Source, O: Sink, E: Sink> Core<'p, C, S, I, 
     }
 
     /// One step more of the transaction of segment k, which was taken out of its hand and has done fewer steps than the
-    /// length.
+    /// length. A step whose row asks nothing needs no view.
     fn step_on(&mut self, k: u8, work: &mut Work<C::State>, length: u64) -> Pause
         requires fit { Fit k (S.meaning self.old.store) self.old.books work.old.progress }
         requires idle { slice_get self.old.books.hands.items k ≡ Some Hand.Idle }
@@ -159,6 +156,11 @@ impl<'p, C: Client, S: SegStore, I: Source, O: Sink, E: Sink> Core<'p, C, S, I, 
         ensures devices { DevicesGrow work.old.solo result (device_state I.state O.state E.state self.old.devices)
             (device_state I.state O.state E.state self.new.devices) }
     {
+        if self.client.step_pure(&mut work.state) {
+            self.store.known();
+            work.count_step();
+            return Pause::Whole;
+        }
         match self.step_out(k, work) {
             Ok(Outcome::Waits) => Pause::Waits,
             Ok(Outcome::Done) => {

@@ -2,12 +2,15 @@
 use Rattle.std.proofs.Common.{◌≡◌, true, false, List, sym, ◌∙◌, subst}
 use Rattle.py_data.specs.Heap.{Heap}
 use Rattle.py_data.specs.declared.stop.Stop.{Stop}
+use Rattle.py_data.specs.Row.{Ret}
+use Rattle.py_data.specs.Sight.{opened}
 use Rattle.py_data.specs.Steady.{AsksToPrint}
 use Rattle.lock_run.specs.declared.client.Outcome.{Outcome}
 use Rattle.lock_run.specs.declared.client.Outcome.TheVariants.{Done, Waits, Ended}
 use Rattle.lock_run.specs.declared.client.Life.TheVariants.{Lives}
 use Rattle.lock_run.specs.Prog.{Prog}
 use Rattle.lock_run.specs.Client.{Stepped, StepStopped, StaysSound, WaitsQuietly, TellsLife, LifeAfter, Waiting}
+use Rattle.lock_run.proofs.Following.{done_pure}
 use Rattle.stm_pieces.specs.declared.run.PieceEnd.TheVariants as end
 use Rattle.stm_pieces.specs.PieceState.{PieceState}
 use Rattle.stm_pieces.specs.PieceSense.{piece_sense, piece_bracket}
@@ -15,7 +18,7 @@ use Rattle.stm_pieces.specs.Ends.{Hindered}
 use Rattle.stm_pieces.specs.inner.Ending.{end_for}
 use Rattle.stm_pieces.specs.inner.Walked.{Walked}
 use Rattle.stm_pieces.specs.inner.Stepwise.{OneStep, NoStep}
-use Rattle.stm_pieces.proofs.Walk.{walked_next, walked_same, life_next, state_waits, waits_here, done_back, stopped_back, done_not_waits, ended_not_waits}
+use Rattle.stm_pieces.proofs.Walk.{walked_next, walked_pure, walked_same, some_world, life_next, state_waits, waits_here, done_back, stopped_back, done_not_waits, ended_not_waits}
 use Rattle.stm_pieces.proofs.Coming.{hindered_stop}
 
 module _ {S X : Type 0} (state : X → PieceState) (p : Prog S) (sound : Heap → List S → Type 0)
@@ -28,6 +31,15 @@ module _ {S X : Type 0} (state : X → PieceState) (p : Prog S) (sound : Heap �
     walked_next state p sound {v = v} k law prints lives o q1 w (λ f. done_not_waits (sym e ∙ f)) d,
     subst (λ z. LifeAfter z (p.life q1)) e (life_next state p sound {v = v} k tells prints lives o q1 w d),
   )
+
+  -- a step whose row asks nothing
+  pub turn_pure : StaysSound p sound → TellsLife p → (q1 : S) → p.row q ≡ Ret (Done, q1) →
+      OneStep p sound q (state v) true q1 (state v)
+  turn_pure law tells q1 e = λ d0 n q0 k.
+      let s = opened S (state v).heap some_world in (
+        walked_pure state p sound {v = v} k law lives q1 e,
+        tells q q1 s s Done lives (done_pure (p.row q) s (Done, q1) e),
+      )
 
   -- the thread's last step
   pub turn_ended : StaysSound p sound → TellsLife p → (o : Outcome) (q1 : S) (w : X) → o ≡ Ended →

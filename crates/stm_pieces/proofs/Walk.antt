@@ -5,7 +5,7 @@ use Rattle.std.proofs.lemmas.Option.{slice_get_within}
 use Rattle.py_data.specs.Heap.{Heap, Has}
 use Rattle.py_data.specs.World.{World}
 use Rattle.py_data.specs.declared.stop.Stop.{Stop}
-use Rattle.py_data.specs.Row.{Call, Reply, Row}
+use Rattle.py_data.specs.Row.{Call, Reply, Row, Ret}
 use Rattle.py_data.specs.Sense.{IsPart, Run, Stopped, Upto}
 use Rattle.py_data.specs.Sight.{Sight, Does, opened}
 use Rattle.py_data.specs.Steady.{AsksToPrint, NoLonger}
@@ -15,6 +15,7 @@ use Rattle.lock_run.specs.declared.client.Outcome.TheVariants.{Done, Waits, Ende
 use Rattle.lock_run.specs.declared.client.Life.TheVariants.{Lives}
 use Rattle.lock_run.specs.Prog.{Prog}
 use Rattle.lock_run.specs.Client.{StandsIn, Stepped, StepStopped, StaysSound, WaitsQuietly, TellsLife, LifeAfter, Waiting}
+use Rattle.lock_run.proofs.Following.{done_pure}
 use Rattle.stm_pieces.specs.Piece.{IsPiece}
 use Rattle.stm_pieces.specs.PieceState.{PieceState, PieceDoes, SameTerms, IsTight, Replayed}
 use Rattle.stm_pieces.specs.PieceSense.{piece_sense, piece_bracket}
@@ -272,6 +273,40 @@ module _ {S X : Type 0} (state : X → PieceState) (p : Prog S) (sound : Heap �
           );
       stands = next_stands law prints lives o q1 w d;
     }
+
+    -- one step more, whose row asks nothing
+    pub walked_pure : StaysSound p sound → p.life q ≡ Lives → (q1 : S) → p.row q ≡ Ret (Done, q1) →
+        Walked p sound d0 (suc n) q0 q1 (state v)
+    walked_pure law lives q1 e =
+        let i = k.stands in
+        let ss = i.standing.0 in
+        let th = i.standing.1 in
+        let is = i.standing.2 in
+        let first = opened S i.heap some_world in
+        record {
+          steps = λ x.
+              let s = k.steps x in (
+                s.0,
+                (
+                  q,
+                  s.0,
+                  s.1,
+                  record { lives = lives; outcome = Done; goes_on = done_not_waits; does = done_pure (p.row q) s.0 (Done, q1) e },
+                  subst (λ h. NoLonger h d0.heap) (sym s.2.heap) s.2.within,
+                ),
+                s.2,
+              );
+          stands = record {
+            heap = i.heap;
+            shown = i.shown;
+            standing = (
+              slice_set (ss ++ []) th q1,
+              th,
+              get_set (ss ++ []) th q1 (slice_get_within (ss ++ []) th q (get_front ss [] th q is)),
+              law ss th q i.heap some_world Done q1 first i.standing.3 is lives (done_pure (p.row q) first (Done, q1) e),
+            );
+          };
+        }
 
     -- whether the thread lives on
     pub life_next : TellsLife p → ((s : S) → AsksToPrint (p.row s)) → p.life q ≡ Lives → (o : Outcome) (q1 : S)

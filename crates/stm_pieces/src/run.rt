@@ -43,8 +43,33 @@ fn end_for(stop: Stop) -> PieceEnd
     }
 }
 
-/// The client's next step, if it can be done over the view, and whether the thread lives on. Otherwise state and
+/// The client's next step over the view, if it can be done, and whether the thread lives on. Otherwise state and
 /// records are as before.
+fn step_over<C: Client>(
+    alloc: Global,
+    client: &C,
+    state: &mut C::State,
+    view: &mut PieceView,
+) -> Result<bool, PieceEnd>
+    requires lives { (C.prog client.now).life state.old ≡ Lives }
+    requires stands { StandsIn (C.sound client.now) true (piece_state view.old).heap state.old }
+    ensures ok { IfOk result (λ on. OneStep (C.prog client.now) (C.sound client.now) state.old
+        (piece_state view.old) on state.new (piece_state view.new)) }
+    ensures err { IfErr result (λ e. NoStep (C.prog client.now) (C.sound client.now) state.old
+        (piece_state view.old) e state.new (piece_state view.new)) }
+{
+    match client.step(alloc, state, view) {
+        Ok(Outcome::Done) => Ok(true),
+        Ok(Outcome::Ended) => Ok(false),
+        Ok(Outcome::Waits) => {
+            View::<C::State>::undo_step(view);
+            Err(PieceEnd::Waits)
+        }
+        Err(stop) => Err(end_for(stop)),
+    }
+}
+
+/// The same, without the view where the step asks nothing of it.
 fn step_here<C: Client>(
     alloc: Global,
     client: &C,
@@ -61,15 +86,7 @@ fn step_here<C: Client>(
     if client.step_pure(state) {
         return Ok(true);
     }
-    match client.step(alloc, state, view) {
-        Ok(Outcome::Done) => Ok(true),
-        Ok(Outcome::Ended) => Ok(false),
-        Ok(Outcome::Waits) => {
-            View::<C::State>::undo_step(view);
-            Err(PieceEnd::Waits)
-        }
-        Err(stop) => Err(end_for(stop)),
-    }
+    step_over(alloc, client, state, view)
 }
 
 /// Runs steps of a living thread over a piece view, until so many were run, the thread has ended, or the next step
