@@ -1,5 +1,6 @@
 -- What each end of an instruction comes to, where there is a frame.
-use Rattle.std.proofs.Common.{arith, ◌≡◌, ℕ, ◌+◌, ◌-◌, ◌<◌, List, [], ◌∷◌, length, drop, get_or, Some, Result, Ok, Err, IfOk, sym, ap, subst, ◌∙◌}
+use Rattle.std.proofs.Common.{arith, ◌≡◌, ℕ, ◌+◌, ◌-◌, ◌<◌, List, [], ◌∷◌, length, drop, get_or, Some, Bool, Result, Ok, Err, IfOk, refl, sym, ap, subst, ◌∙◌}
+use Rattle.std.specs.Prelude.{is_ok, OnErr}
 use Rattle.py_data.specs.declared.value.Addr.{Addr}
 use Rattle.py_data.specs.declared.value.Value.{Value}
 use Rattle.py_code.specs.declared.program.Program.{Program}
@@ -9,7 +10,7 @@ use Rattle.py_frames.specs.declared.state.Frame.{Frame}
 use Rattle.py_frames.specs.declared.next.Next.{Next}
 use Rattle.py_frames.specs.declared.next.Next.TheVariants.{Goes, Jumps, Stores, Opens, Closes, Enters, Leaves, Fails, Begins, Throws, Waits}
 use Rattle.py_frames.specs.State.{State, advanced, closed, code_at, line_at, opened, passed, returned, settled, stored, thrown_to, unwound, with_frames}
-use Rattle.py_states.specs.Innermost.{innermost, settled_in, Settles}
+use Rattle.py_states.specs.Innermost.{innermost, settled_in, Follows, Settles}
 use Rattle.py_states.specs.inner.Changes.{on_top}
 
 -- an end that is the same one
@@ -114,3 +115,19 @@ waits_is p s t n next [] e q l = absurd (omega (arith, l))
 waits_is p s t n next (f ∷ fs) e q l =
     let make : State → Outcome × State = λ z. (WaitsNow, z) in
     ap make q ∙ sym (ap (settled p s n f fs) e)
+
+-- a step of which is told alone that the thread lives on
+pub followed : {E : Type 0} (s t : State) (n : ℕ) (next : Next) (x : Outcome × State) (r : Result Outcome E) (b : Bool) →
+    b ≡ is_ok r → IfOk r (λ o. Settles x o t) → OnErr r (t ≡ s) → x.0 ≡ Done →
+    ((p : Program) → Ends p s n next s.frames x) → Follows s n next b t
+followed s t n next x (Ok o) b e i j d h =
+    let make : Outcome → Outcome × State = λ q. (q, t) in
+    subst (λ b. Follows s n next b t) (sym e)
+    (λ p. ap make (sym (ap (λ (z : Outcome × State). z.0) i ∙ d)) ∙ (i ∙ h p))
+followed s t n next x (Err z) b e i j d h = subst (λ b. Follows s n next b t) (sym e) j
+
+-- behind a return to a frame the thread lives on
+pub stays : (s : State) (x : Value) (fs : List Frame) → 1 < length fs → (returned s x (drop 1 fs)).0 ≡ Done
+stays s x [] l = absurd (omega (arith, l))
+stays s x (f ∷ []) l = absurd (omega (arith, l))
+stays s x (f ∷ g ∷ fs) l = refl
