@@ -117,8 +117,8 @@ waits_is p s t n next (f ∷ fs) e q l =
     ap make q ∙ sym (ap (settled p s n f fs) e)
 
 -- a step of which is told alone that the thread lives on
-pub followed : {E : Type 0} (s t : State) (n : ℕ) (next : Next) (x : Outcome × State) (r : Result Outcome E) (b : Bool) →
-    b ≡ is_ok r → IfOk r (λ o. Settles x o t) → OnErr r (t ≡ s) → x.0 ≡ Done →
+pub followed : {E : Type 0} (s t : State) (n : ℕ) (next : Next) (x : Outcome × State) (r : Result Outcome E)
+    (b : Bool) → b ≡ is_ok r → IfOk r (λ o. Settles x o t) → OnErr r (t ≡ s) → x.0 ≡ Done →
     ((p : Program) → Ends p s n next s.frames x) → Follows s n next b t
 followed s t n next x (Ok o) b e i j d h =
     let make : Outcome → Outcome × State = λ q. (q, t) in

@@ -1,5 +1,6 @@
 -- Steps of a thread, by the instruction at hand.
-use Rattle.std.proofs.Common.{arith, ◌≡◌, ℕ, ◌<◌, List, [], ◌∷◌, length, drop, Option, Some, None, Result, Ok, Err, IfOk, IfErr, refl, sym, ap, subst, ◌∙◌}
+use Rattle.std.proofs.Common.{arith, ◌≡◌, ℕ, ◌<◌, Bool, true, false, List, [], ◌∷◌, length, drop, Option, Some, None, Result, Ok, Err, refl, sym, ap, subst, ◌∙◌}
+use Rattle.std.specs.Prelude.{is_some}
 use Rattle.py_data.specs.declared.stop.Stop.{Stop}
 use Rattle.py_data.specs.declared.stop.Stop.TheVariants.{OutOfMemory}
 use Rattle.py_data.specs.Heap.{Heap}
@@ -11,7 +12,7 @@ use Rattle.py_data.proofs.Steps.{as-err, safe-first}
 use Rattle.py_code.specs.declared.instr.Instr.{Instr}
 use Rattle.py_code.specs.declared.program.Program.{Program}
 use Rattle.lock_run.specs.declared.client.Outcome.{Outcome}
-use Rattle.lock_run.specs.declared.client.Outcome.TheVariants.{Ended}
+use Rattle.lock_run.specs.declared.client.Outcome.TheVariants.{Done, Ended}
 use Rattle.lock_run.specs.declared.client.Life.TheVariants.{Lives, Failed, Ended as HasEnded}
 use Rattle.py_frames.specs.declared.state.Dying.{Dying}
 use Rattle.py_frames.specs.declared.state.Frame.{Frame}
@@ -20,10 +21,7 @@ use Rattle.py_frames.specs.State.{State, instr_at, life_by, life_of, pops, opera
 use Rattle.py_frames.specs.Steps.{guarded_row, site_of, step_at, step_by, step_row}
 use Rattle.py_states.specs.Innermost.{innermost, settled_in, Settles}
 use Rattle.py_states.proofs.Running.{there_is, settled_there}
-use Rattle.py_data.specs.declared.value.Value.{Value}
-use Rattle.py_states.specs.declared.direct.Direct.{Direct}
-use Rattle.py_states.specs.Leading.{leads}
-use Rattle.py_step.specs.inner.Directly.{LeadsTo}
+use Rattle.py_step.specs.inner.Directly.{IsAtOnce}
 use Rattle.py_step.specs.inner.Moves.{Moves, dying_step, dying_words}
 use Rattle.py_step.specs.inner.Operators.{HasOperator, IsOperable}
 
@@ -58,6 +56,17 @@ at_is p s o l e at =
 pub operator_here : (p : Program) (s : State) (i : Instr) → IsOperable p s → life_of s ≡ Lives → s.dying ≡ None →
     instr_at p (innermost s.frames) ≡ Some i → HasOperator i
 operator_here p s i o l e at = o.each (innermost s.frames) (drop 1 s.frames) i e (frames_are s l) at
+
+-- ---- a step that is done at once
+
+pub lives_on : (d o : Option Dying) (b : Bool) → o ≡ d → b ≡ is_some o → b ≡ false → d ≡ None
+lives_on d None b e q r = sym e
+lives_on d (Some x) b e q r = absurd (let w : true ≡ false = sym q ∙ r in cc)
+
+pub done_here : (p : Program) (s : State) (i : Instr) (b : Bool) (t : State) → life_of s ≡ Lives → s.dying ≡ None →
+    instr_at p (innermost s.frames) ≡ Some i → IsAtOnce s i b t → b ≡ true → step_row p s ≡ Ret (Done, t)
+done_here p s i true t l d e h q = at_is p s (Some i) l d e ∙ h p
+done_here p s i false t l d e h q = absurd (let r : false ≡ true = q in cc)
 
 module _ {X : Type 0} (u : Sense State X) (p : Program) (s : State) where
   pub over : (f : Frame) (fs : List Frame) (v : X) → Run u (step_at p s f fs None) v (Ended, with_frames s []) v
@@ -108,33 +117,11 @@ module _ {X : Type 0} (u : Sense State X) (p : Program) (s : State) where
         (run-bind u part rest v w w next z m
         (subst (λ y. Run u (rest next) w y w) (sym q) (run-ret u (settled p s n f fs next) w)))
 
-    -- the instruction asks nothing of the heap: its row is at its end
-    pub told_here : (xs : List Value) (d : Direct) → xs ≡ operands n f → LeadsTo f xs i d → part ≡ Ret (leads d)
-    told_here xs d q h = subst (λ xs. guarded_row (site_of p s fs) f xs i ≡ Ret (leads d)) q (h (site_of p s fs))
-
-    pub told_moved : (v : X) (next : Next) (t : State) (r : Result Outcome Stop) → part ≡ Ret next →
-        IfOk r (λ o. ◌≡◌ {A = Outcome × State} (o, t) (settled p s n f fs next)) →
-        IfErr r (λ x. (x ≡ OutOfMemory) × (t ≡ s)) → Moves u (step_at p s f fs (Some i)) v s v t r
-    unfolding Meets
-    told_moved v next t (Ok o) q k h =
-        settled_so v v next (o, t) (subst (λ row. Run u row v next v) (sym q) (run-ret u next v)) k
-    told_moved v next t (Err x) q k h = (
-      subst (λ x. Stopped u (step_at p s f fs (Some i)) v x v) (sym h.0)
-          (stopped_behind v v next (subst (λ row. Run u row v next v) (sym q) (run-ret u next v))),
-      h.1,
-    )
-
   -- the state's own frames
   pub settled_is : (n : ℕ) (next : Next) (o : Outcome) (t : State) → 0 < length s.frames →
       Settles (settled_in p s n next s.frames) o t
       → ◌≡◌ {A = Outcome × State} (o, t) (settled p s n (innermost s.frames) (drop 1 s.frames) next)
   settled_is n next o t l q = q ∙ settled_there p s n next (innermost s.frames) (drop 1 s.frames) (there_is s.frames l)
-
-  pub settled_ok : (n : ℕ) (next : Next) (r : Result Outcome Stop) (t : State) → 0 < length s.frames →
-      IfOk r (λ o. Settles (settled_in p s n next s.frames) o t) →
-      IfOk r (λ o. ◌≡◌ {A = Outcome × State} (o, t) (settled p s n (innermost s.frames) (drop 1 s.frames) next))
-  settled_ok n next (Ok o) t l q = settled_is n next o t l q
-  settled_ok n next (Err x) t l q = tt
 
 -- ---- a thread that dies
 module _ {X : Type 0} (u : Sense State X) (s : State) (d : Dying) where

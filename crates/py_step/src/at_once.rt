@@ -1,15 +1,15 @@
 //! Instructions that ask nothing of the heap and raise nothing, done at once: without a view, and without memory for
 //! what they push.
-ghost use Rattle.std.specs.Prelude.{◌≡◌, [], ◌∷◌, Some, IfSome, option_map};
+ghost use Rattle.std.specs.Prelude.{◌≡◌, [], ◌∷◌, Some, IfSome};
 ghost use Rattle.obj_ops.specs.Compare.{comparison_of};
 ghost use Rattle.obj_ops.specs.Numbers.{calculated, divided, narrowed, operator_of};
 ghost use Rattle.py_data.specs.Arithmetic.{floor_quotient, floor_remainder};
 ghost use Rattle.py_data.specs.declared.record.Got.TheVariants.{Is};
-ghost use Rattle.py_data.specs.declared.value.Value.TheVariants.{Bool as Truth, Int as Number};
-ghost use Rattle.py_code.specs.declared.instr.Instr.TheVariants.{Const, JumpFalse, LoadLocal, StoreLocal};
+ghost use Rattle.py_data.specs.declared.value.Value.TheVariants.{Int as Number};
+ghost use Rattle.py_code.specs.declared.instr.Instr.TheVariants.{Binary, Compare, Const, InPlace, JumpFalse, LoadLocal, Pop, Return, StoreLocal};
+ghost use Rattle.py_frames.specs.State.{operands};
 ghost use Rattle.py_states.specs.Innermost.{innermost};
-ghost use Rattle.py_states.specs.declared.direct.Direct.TheVariants.{Gives};
-ghost use Rattle.py_step.specs.inner.Directly.{Tells, compares, constant_value};
+ghost use Rattle.py_step.specs.inner.Directly.{IsAtOnce, compares, constant_value};
 
 use py_code::{Constant, Instr};
 use py_data::Value;

@@ -1,14 +1,12 @@
 //! A step of a thread.
-ghost use Rattle.std.specs.Prelude.{◌≡◌, ◌<◌, [], IfErr, IfOk, Some, drop, length};
+ghost use Rattle.std.specs.Prelude.{◌≡◌, ◌<◌, [], true, false, Some, drop, length};
 ghost use Rattle.lock_run.specs.declared.client.Life.TheVariants.{Lives};
-ghost use Rattle.lock_run.specs.declared.client.Outcome.TheVariants.{Ended};
+ghost use Rattle.lock_run.specs.declared.client.Outcome.TheVariants.{Done, Ended};
+ghost use Rattle.py_data.specs.Row.{Ret};
 ghost use Rattle.py_data.specs.Sense.{Meets, Safe, IsLive};
 ghost use Rattle.py_frames.specs.State as state;
 ghost use Rattle.py_frames.specs.Steps as steps;
-ghost use Rattle.py_code.specs.declared.program.Program.{Program as Compiled};
-ghost use Rattle.py_data.specs.declared.stop.Stop.TheVariants.{OutOfMemory};
-ghost use Rattle.py_states.specs.Innermost.{innermost, settled_in, Settles};
-ghost use Rattle.py_states.specs.Leading.{leads};
+ghost use Rattle.py_states.specs.Innermost.{innermost};
 ghost use Rattle.py_step.specs.inner.Moves.{Moves, dying_step, dying_words};
 ghost use Rattle.py_step.specs.inner.Operators.{HasOperator, IsOperable};
 
@@ -38,9 +36,11 @@ fn next_of<V: View<ThreadState>>(
     requires operator { HasOperator i }
     requires live { IsLive V.sense v.old }
     requires safe { let f = innermost s.now.frames in
-        Safe V.sense.partial (steps.guarded_row (steps.site_of p.now s.now (drop 1 s.now.frames)) f (state.operands n f) i) (V.sense.heap v.old) }
+        Safe V.sense.partial (steps.guarded_row (steps.site_of p.now s.now (drop 1 s.now.frames)) f
+        (state.operands n f) i) (V.sense.heap v.old) }
     ensures { let f = innermost s.now.frames in
-        Meets V.sense (steps.guarded_row (steps.site_of p.now s.now (drop 1 s.now.frames)) f (state.operands n f) i) v.old v.new result }
+        Meets V.sense (steps.guarded_row (steps.site_of p.now s.now (drop 1 s.now.frames)) f
+        (state.operands n f) i) v.old v.new result }
 {
     let site = site(p, s);
     guarded_row(alloc, v, &site, s, s.operands(n), i)

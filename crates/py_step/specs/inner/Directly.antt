@@ -1,6 +1,6 @@
 -- What code and proofs say to each other: nothing public rests on it.
 -- Instructions that ask nothing of the heap and raise nothing. States `docs/LANGUAGE.md`, "Instructions".
-use Rattle.std.specs.Prelude.{◌≡◌, ℤ, Bool, not, List, Option, Some, None, IfSome}
+use Rattle.std.specs.Prelude.{◌≡◌, ℤ, Bool, true, false, not, drop, Option, Some, None}
 use Rattle.std.specs.Ordering.{int_cmp, int_eq}
 use Rattle.py_data.specs.declared.value.Value.{Value}
 use Rattle.py_data.specs.Row.{Ret}
@@ -11,11 +11,11 @@ use Rattle.py_code.specs.declared.instr.Instr.{Instr}
 use Rattle.obj_ops.specs.declared.operator.Comparison.{Comparison}
 use Rattle.obj_ops.specs.declared.operator.Comparison.TheVariants.{Less, Greater, Equal, GreaterEqual, LessEqual, NotEqual, In, NotIn, Is as Identical, IsNot}
 use Rattle.obj_ops.specs.Compare.{is_below, is_above}
-use Rattle.py_frames.specs.declared.state.Frame.{Frame}
-use Rattle.py_frames.specs.ClassCalls.{Site}
-use Rattle.py_frames.specs.Steps.{guarded_row}
-use Rattle.py_states.specs.declared.direct.Direct.{Direct}
-use Rattle.py_states.specs.Leading.{leads}
+use Rattle.py_code.specs.declared.program.Program.{Program}
+use Rattle.lock_run.specs.declared.client.Outcome.TheVariants.{Done}
+use Rattle.py_frames.specs.State.{State}
+use Rattle.py_frames.specs.Steps.{step_at}
+use Rattle.py_states.specs.Innermost.{innermost}
 
 -- the value of a constant; a root's stands in the heap
 abbrev pub constant_value : Constant → Option Value

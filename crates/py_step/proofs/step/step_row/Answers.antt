@@ -10,8 +10,8 @@ pub returns-in-Some : goal.returns-in-Some
 returns-in-Some g c = moves_as g.V.View.sense _ _ _ _ _ _ _
     (dying_is c.args.p.now c.args.s.now c.in-Some.d c.requires.lives (sym c.in-Some.ensures)) c.die.ensures
 
-pub go_on-requires-clause-safe : goal.go_on-requires-clause-safe
-go_on-requires-clause-safe g c =
+pub go_by_row-requires-clause-safe : goal.go_by_row-requires-clause-safe
+go_by_row-requires-clause-safe g c =
     safe_as g.V.View.sense _ _ _ (at_is c.args.p.now c.args.s.now (Some c.in-Some-instr_at.i) c.requires.lives
     (sym c.in_default.ensures) (sym c.in-Some-instr_at.ensures)) c.requires.safe
 
@@ -19,7 +19,7 @@ pub returns-in-Some-instr_at : goal.returns-in-Some-instr_at
 returns-in-Some-instr_at g c =
     moves_as g.V.View.sense _ _ _ _ _ _ _
     (at_is c.args.p.now c.args.s.now (Some c.in-Some-instr_at.i) c.requires.lives (sym c.in_default.ensures)
-    (sym c.in-Some-instr_at.ensures)) c.go_on.ensures
+    (sym c.in-Some-instr_at.ensures)) c.go_by_row.ensures
 
 pub returns-in-None : goal.returns-in-None
 returns-in-None g c =

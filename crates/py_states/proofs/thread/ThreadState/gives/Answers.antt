@@ -6,4 +6,5 @@ use Rattle.py_states.proofs.thread.ThreadState.gives.Goals as goal
 pub returns-then-has_frame : goal.returns-then-has_frame
 returns-then-has_frame c =
     followed _ _ _ _ _ _ _ c.is_ok.ensures.value c.goes.ensures.ok c.goes.ensures.err refl
-    (λ p. goes_is p _ _ (Goes (c.args.x ∷ [])) _ (c.args.x ∷ []) _ refl refl (c.has_frame.ensures.0 c.if-has_frame.true))
+    (λ p. goes_is p _ _ (Goes (c.args.x ∷ [])) _ (c.args.x ∷ []) _ refl refl
+    (c.has_frame.ensures.0 c.if-has_frame.true))

@@ -6,4 +6,5 @@ use Rattle.py_states.proofs.thread.ThreadState.jumps_on.Goals as goal
 pub returns-then-has_frame : goal.returns-then-has_frame
 returns-then-has_frame c =
     followed _ _ _ _ _ _ _ c.is_ok.ensures.value c.jumps.ensures.ok c.jumps.ensures.err refl
-    (λ p. jumps_is p _ _ c.args.place (Jumps c.args.place []) _ [] _ refl refl (c.has_frame.ensures.0 c.if-has_frame.true))
+    (λ p. jumps_is p _ _ c.args.place (Jumps c.args.place []) _ [] _ refl refl
+    (c.has_frame.ensures.0 c.if-has_frame.true))

@@ -6,4 +6,5 @@ use Rattle.py_states.proofs.thread.ThreadState.keeps.Goals as goal
 pub returns-then-has_frame : goal.returns-then-has_frame
 returns-then-has_frame c =
     followed _ _ _ _ _ _ _ c.is_ok.ensures.value c.stores.ensures.ok c.stores.ensures.err refl
-    (λ p. stores_is p _ _ c.args.i (Stores c.args.i c.args.x) c.args.x _ refl (c.has_frame.ensures.0 c.if-has_frame.true))
+    (λ p. stores_is p _ _ c.args.i (Stores c.args.i c.args.x) c.args.x _ refl
+    (c.has_frame.ensures.0 c.if-has_frame.true))
