@@ -185,7 +185,6 @@ impl Frames {
     }
 
     /// Cuts the innermost frame's stack to its first `m` values, and puts these on top.
-    #[inline(always)]
     #[tactic(auto, using(crate::proofs::LaidLemmas::restacked_laid))]
     pub fn restack(&mut self, m: usize, ys: &[Value])
         requires { length ys.now ≤ self.old.more_values }
@@ -202,7 +201,6 @@ impl Frames {
     }
 
     /// The innermost frame goes on at that place.
-    #[inline(always)]
     pub fn place(&mut self, pc: u32)
         ensures frames { self.new.frames ≡ on_top (placed pc) self.old.frames }
         ensures values { self.old.more_values ≤ self.new.more_values }
@@ -214,7 +212,6 @@ impl Frames {
     }
 
     /// Puts a value into a slot of the innermost frame, if it has that slot.
-    #[inline(always)]
     #[tactic(auto, using(crate::proofs::LaidLemmas::stored_laid))]
     pub fn store(&mut self, i: usize, x: Value)
         ensures { self.new.frames ≡ on_top (stored i x) self.old.frames }

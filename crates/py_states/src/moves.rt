@@ -37,7 +37,6 @@ impl Frames {
 
     /// The innermost frame goes on at a place, with these values in the place of its `n` operands, for which there is
     /// room.
-    #[inline(always)]
     #[tactic(auto, using(crate::proofs::TopLemmas::go_on_is))]
     pub fn go_on(&mut self, n: usize, ys: &[Value], place: u32)
         requires { length ys.now ≤ self.old.more_values }
@@ -51,7 +50,6 @@ impl Frames {
     }
 
     /// The same, where room has to be made.
-    #[inline(always)]
     pub fn advance(&mut self, n: usize, ys: &[Value], place: u32) -> Result<(), NoMemory>
         ensures ok { OnOk result (self.new.frames ≡ on_top (advanced n ys.now place) self.old.frames) }
         ensures err { OnErr result (self.new.frames ≡ self.old.frames) }

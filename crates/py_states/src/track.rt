@@ -53,7 +53,6 @@ impl<T: Copy> Track<T> {
     }
 
     /// Adds the elements of a slice at the end, where there is room.
-    #[inline(always)]
     pub fn extend(&mut self, xs: &[T])
         requires { length xs.now ≤ self.old.room }
         ensures entries { self.new.entries ≡ self.old.entries ++ xs.now }
