@@ -14,9 +14,7 @@ use obj_builtins::call;
 use obj_threads::Answer;
 use py_base::{skip, split};
 use py_data::exception::TYPE_ERROR;
-use py_data::{
-    Addr, Got, Kind, NoMemory, Stop, Value, Values, View, kind, look, value_or_unset,
-};
+use py_data::{Addr, Got, Kind, NoMemory, Stop, Value, Values, View, kind, look, value_or_unset};
 use py_frames::Next;
 use py_states::ThreadState;
 use std::alloc::Global;
