@@ -3,8 +3,8 @@ use crate::given::Given;
 use crate::space::Space;
 use crate::threads::Threads;
 use py_data::{
-    Addr, Change, Entry, Kind, LENGTH_LIMIT, Names, NoMemory, Out, Peek, Record, Stop, Value, View,
-    find_pair, value_or_unset,
+    Addr, Change, Entry, Head, Kind, LENGTH_LIMIT, Names, NoMemory, Out, Peek, Record, Stop, Value,
+    View, find_pair, value_or_unset,
 };
 use std::alloc::Global;
 use stm_io::{PutError, Sink, Source, TakeError};
@@ -303,6 +303,14 @@ impl<S: Drop, I: Source, O: Sink, E: Sink> View<S> for PlainView<S, I, O, E> {
     fn find_val(&mut self, a: Addr, i: usize) -> Result<Value, Stop> {
         match self.space.look(a.0) {
             Some(r) => Ok(value_or_unset(r.values(), i)),
+            None => unreachable!(),
+        }
+    }
+
+    #[tactic(auto, unfolding(py_data::specs::Sense::Asks, py_data::specs::Heap::at))]
+    fn head(&mut self, a: Addr) -> Result<Head, Stop> {
+        match self.space.look(a.0) {
+            Some(r) => Ok(r.head()),
             None => unreachable!(),
         }
     }

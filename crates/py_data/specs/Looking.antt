@@ -1,12 +1,15 @@
 -- Rows that only look, over one heap: each look has what it needs, and what the row answers has a property; and the
 -- rows that
 -- loops have. States `docs/HEAP.md`, "Rows that hold".
-use Rattle.std.specs.Prelude.{ℕ, zero, suc, ◌+◌, Bool, false, cond, List, length, Result, Ok, Err}
+use Rattle.std.specs.Prelude.{◌≡◌, ℕ, zero, suc, ◌+◌, pos, Bool, false, cond, List, [], ◌∷◌, length, Result, Ok, Err, refl}
 use Rattle.py_base.specs.declared.kind.Kind.{Kind}
+use Rattle.py_base.specs.declared.kind.Kind.TheVariants.{Tuple}
 use Rattle.py_data.specs.declared.value.Value.{Value}
+use Rattle.py_data.specs.declared.value.Value.TheVariants.{Unset, Int}
 use Rattle.py_data.specs.declared.record.Got.{Got}
 use Rattle.py_data.specs.declared.record.Got.TheVariants.{Is, Raise}
-use Rattle.py_data.specs.Heap.{Heap, value_at}
+use Rattle.py_data.specs.declared.record.Head.{Head}
+use Rattle.py_data.specs.Heap.{Heap, Rec, new_rec, value_at}
 use Rattle.py_data.specs.Row.{Call, Reply, Row, Ret, Do, Read, Find, bind}
 use Rattle.py_data.specs.Sense.{Asks, Effect}
 
@@ -34,6 +37,21 @@ size_row a = Do (Read a) (λ r. Ret (length r.values))
 -- its value at a place, and Unset where it has none there
 unfoldable pub look_row : {S : Type 0} → ℕ → ℕ → Row S Value
 look_row a i = Do (Read a) (λ r. Ret (value_at r.values i))
+
+-- its kind, how many values it has, and the first three of them
+abbrev pub head_of : Rec → Head
+head_of r = record {
+  kind = r.kind;
+  count = length r.values;
+  first = value_at r.values 0;
+  second = value_at r.values 1;
+  third = value_at r.values 2;
+}
+
+-- of a Tuple of two
+two_at_once : head_of (new_rec Tuple (Int (pos 7) ∷ Int (pos 8) ∷ []) []) ≡
+    record { kind = Tuple; count = 2; first = Int (pos 7); second = Int (pos 8); third = Unset }
+two_at_once = refl
 
 -- its bytes
 unfoldable pub bytes_row : {S : Type 0} → ℕ → Row S (List ℕ)

@@ -88,7 +88,7 @@ can_refuse_change _ = true
 
 -- making a record: as a change, but it loses no conflict, since no other transaction sees a new record
 abbrev pub can_refuse_make : Stop → Bool
-can_refuse_make (Lost c) = false
+can_refuse_make Lost = false
 can_refuse_make e = can_refuse_change e
 
 -- a look, and a thread to be started: a record that is not among those given, or no memory
@@ -172,7 +172,7 @@ WantsRoom _ h = ⊥
 
 -- this holds if the Stop is that the heap has no room
 abbrev pub IfFull : Stop → Type 0 → Type 0
-IfFull (Full reserved need limit) P = P
+IfFull Full P = P
 IfFull _ P = Unit {0}
 
 -- what holds of each view

@@ -3,9 +3,9 @@ ghost use Rattle.std.specs.Prelude.{◌≡◌, ℕ, ◌+◌, ◌*◌, ◌^◌, �
 ghost use Rattle.py_data.specs.Heap.{has_rooms, room_of, room_for, power_above, with_pair_at};
 
 use crate::change::Change;
-use crate::record::{LENGTH_LIMIT, Record};
+use crate::record::{Head, LENGTH_LIMIT, Record};
 use crate::undo::Undo;
-use crate::value::{Value, Values};
+use crate::value::{Value, Values, value_or_unset};
 use py_base::{Bytes, Kind, NoMemory};
 use std::alloc::Global;
 use std::marker::Model;
@@ -39,6 +39,7 @@ impl Model for Entry {
 
 impl Entry {
     ghost use Rattle.py_data.specs.Changes.{Allows, IsShort};
+    ghost use Rattle.py_data.specs.Looking.{head_of};
     ghost use Rattle.py_data.specs.Made.{rec_of};
     ghost use Rattle.py_data.specs.Undo.{before, CanTakeBack, HasPlaces, IsUndo};
     ghost use Rattle.py_data.specs.declared.change.Change.TheVariants as change;
@@ -119,6 +120,21 @@ impl Entry {
         ensures short { IsShort self.now }
     {
         self.bytes.as_slice()
+    }
+
+    /// Its kind, the count of its values and the first three.
+    pub fn head(&self) -> Head
+        ensures shows { result ≡ head_of self.now }
+        ensures short { IsShort self.now }
+    {
+        let values = self.values();
+        Head {
+            kind: self.kind,
+            count: values.len(),
+            first: value_or_unset(values, 0),
+            second: value_or_unset(values, 1),
+            third: value_or_unset(values, 2),
+        }
     }
 
     /// Its room, and its first room.

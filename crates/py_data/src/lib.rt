@@ -29,7 +29,7 @@ pub use order::{Demands, Property};
 pub use py_base::{
     Bytes, Construct, Duplicate, Items, Kind, Log, NoMemory, Refusal, builtin, operator,
 };
-pub use record::{Fault, Got, LENGTH_LIMIT, Record, With};
+pub use record::{Fault, Got, Head, LENGTH_LIMIT, Record, With};
 pub use stop::{Conflict, Conflicts, Out, Side, Stop};
 pub use undo::Undo;
 pub use value::{Addr, Names, Value, Values, value_or_unset};

@@ -13,6 +13,17 @@ pub struct Record {
     pub bytes: Bytes,
 }
 
+/// What a look at a record shows at once: its kind, the count of its values, and the first three of them; Unset where
+/// it has none there.
+#[derive(Clone, Copy, Debug, Drop)]
+pub struct Head {
+    pub kind: Kind,
+    pub count: usize,
+    pub first: Value,
+    pub second: Value,
+    pub third: Value,
+}
+
 /// What an exception says besides its class.
 #[derive(Debug, Drop)]
 pub enum With {

@@ -53,21 +53,18 @@ impl Duplicate for Conflict {
 /// Conflicts in the order in which they came.
 pub type Conflicts = Log<Conflict>;
 
-/// Why a call of a view was refused. Which of these a view can give is a part of its contract.
+/// Why a call of a view was refused, in a word: a view that has more to say of it keeps that. Which of these a view can
+/// give is a part of its contract.
 #[derive(Clone, Copy, Debug, Drop, PartialEq, Eq)]
 pub enum Stop {
     /// The transaction lost a conflict.
-    Lost(Conflict),
+    Lost,
     /// The step prints or reads, and the transaction isn't solo.
     NeedSolo,
     /// The record isn't among those that the view was given, or may not be changed there.
     NeedHeap,
-    /// The heap has no room: `reserved + need > limit`, in words of 8 bytes.
-    Full {
-        reserved: u64,
-        need: u64,
-        limit: u64,
-    },
+    /// The heap has no room.
+    Full,
     /// The input failed, and counted it.
     ReadFault,
     /// The output failed, and counted it.

@@ -4,9 +4,10 @@ ghost use Rattle.py_data.specs.declared.change.Change.TheVariants.{Set, Push, Cu
 ghost use Rattle.py_data.specs.Row.{Read, Find, Edit, Make, Start, Put, Take, MidLine, SetMidLine};
 ghost use Rattle.py_data.specs.Sense.{Sense, Lawful, Bracket, IsBracket, IsLive, Asks, IfThere, Shows, Answers};
 ghost use Rattle.py_data.specs.Heap.{at, value_at, length_of, Has, Heap};
+ghost use Rattle.py_data.specs.Looking.{head_of};
 ghost use Rattle.py_data.specs.Made.{rec_of};
 
-use crate::record::{LENGTH_LIMIT, Record};
+use crate::record::{Head, LENGTH_LIMIT, Record};
 use crate::stop::{Out, Stop};
 use crate::value::{Addr, Value};
 use py_base::Kind;
@@ -69,6 +70,13 @@ pub trait View<S> {
         requires live { IsLive sense self.old }
         requires there { Asks {S = S} sense.partial (Read a.0) (sense.heap self.old) }
         ensures { Shows sense a.0 (λ r. value_at r.values i) self.old self.new result };
+
+    /// A record's kind, the count of its values, and the first three.
+    fn head(&mut self, a: Addr) -> Result<Head, Stop>
+        requires live { IsLive sense self.old }
+        requires there { Asks {S = S} sense.partial (Read a.0) (sense.heap self.old) }
+        ensures shows { Shows sense a.0 head_of self.old self.new result }
+        ensures fits { IfOk result (λ h. h.count ≤ LENGTH_LIMIT) };
 
     /// The count of a record's bytes.
     fn byte_len(&mut self, a: Addr) -> Result<usize, Stop>

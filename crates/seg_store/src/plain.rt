@@ -6,7 +6,8 @@ ghost use Rattle.seg_store.specs.inner.Tables.{IsSound, meaning_in, part_in};
 use crate::hand::Hand;
 use crate::store::{SegStore, StoreFault};
 use py_data::{
-    Addr, Change, Entry, Kind, LENGTH_LIMIT, NoMemory, Peek, Record, Records, Value, find_pair,
+    Addr, Change, Entry, Head, Kind, LENGTH_LIMIT, NoMemory, Peek, Record, Records, Value, find_pair,
+    value_or_unset,
 };
 use std::alloc::Global;
 
@@ -282,6 +283,22 @@ impl SegStore for PlainStore {
     fn val(&self, k: u8, a: Addr, i: usize) -> Value {
         match self.seen(k, a.0) {
             Some(r) => r.values()[i],
+            None => unreachable!(),
+        }
+    }
+
+    #[tactic(auto, unfolding(py_data::specs::Heap::at))]
+    fn find_val(&self, k: u8, a: Addr, i: usize) -> Value {
+        match self.seen(k, a.0) {
+            Some(r) => value_or_unset(r.values(), i),
+            None => unreachable!(),
+        }
+    }
+
+    #[tactic(auto, unfolding(py_data::specs::Heap::at))]
+    fn head(&self, k: u8, a: Addr) -> Head {
+        match self.seen(k, a.0) {
+            Some(r) => r.head(),
             None => unreachable!(),
         }
     }

@@ -4,6 +4,7 @@ ghost use Rattle.py_data.specs.declared.record.TheConstants.{LENGTH_LIMIT};
 ghost use Rattle.py_data.specs.declared.change.Change.TheVariants.{Set, Push, Cut, Pair, Unpair};
 ghost use Rattle.py_data.specs.Changes.{after};
 ghost use Rattle.py_data.specs.Heap.{Has, at, value_at, length_of};
+ghost use Rattle.py_data.specs.Looking.{head_of};
 ghost use Rattle.py_data.specs.Shape.{IsShaped, find};
 ghost use Rattle.py_data.specs.Made.{rec_of};
 ghost use Rattle.seg_store.specs.declared.store.StoreFault.TheVariants.{OutOfMemory};
@@ -13,7 +14,7 @@ ghost use Rattle.seg_store.specs.Telling.{in_use, use_with, Rises, RisesTo, Fits
 ghost use Rattle.seg_store.specs.Calls.{after_begin, after_mark, after_lock, after_change, after_make, after_open, after_undo, after_publish, after_drop};
 ghost use Rattle.seg_store.specs.Store.{HasPlace, HasBytes, CanFind, CanChange, IsFull, NoOther, IsHolder, IsFree, Refuses, IsStore};
 
-use py_data::{Addr, Kind, LENGTH_LIMIT, NoMemory, Peek, Record, Value};
+use py_data::{Addr, Head, Kind, LENGTH_LIMIT, NoMemory, Peek, Record, Value};
 use std::alloc::AllocError;
 use thiserror::Error;
 
@@ -108,6 +109,19 @@ pub trait SegStore: Peek + Drop {
         requires segment { k < (meaning self.now).segments }
         requires there { HasPlace (sees (meaning self.now) k) a.0 i }
         ensures { result ≡ value_at (at (sees (meaning self.now) k) a.0).values i };
+
+    /// The value at a place of a record, from 0; Unset where it has none there.
+    fn find_val(&self, k: u8, a: Addr, i: usize) -> Value
+        requires segment { k < (meaning self.now).segments }
+        requires there { Has (sees (meaning self.now) k) a.0 }
+        ensures { result ≡ value_at (at (sees (meaning self.now) k) a.0).values i };
+
+    /// The kind of a record, the count of its values and the first three.
+    fn head(&self, k: u8, a: Addr) -> Head
+        requires segment { k < (meaning self.now).segments }
+        requires there { Has (sees (meaning self.now) k) a.0 }
+        ensures shows { result ≡ head_of (at (sees (meaning self.now) k) a.0) }
+        ensures fits { result.count ≤ LENGTH_LIMIT };
 
     /// The room of a record that the segment sees, and the room that it had when it was made, in values: 0 and 0 for
     /// a record that is no List and no Dict. No script can tell them. A copy of the record that is to run on as the

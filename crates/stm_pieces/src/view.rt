@@ -6,7 +6,7 @@ use crate::lent::Lent;
 use crate::needs::{growth, has_room, keys_known};
 use crate::noted::Noted;
 use py_data::{
-    Addr, Change, Entry, Kind, NoMemory, Out, Record, Records, Stop, Value, View, find_pair,
+    Addr, Change, Entry, Head, Kind, NoMemory, Out, Record, Records, Stop, Value, View, find_pair,
     value_or_unset,
 };
 use std::alloc::Global;
@@ -213,6 +213,14 @@ impl<S: Drop> View<S> for PieceView {
     fn find_val(&mut self, a: Addr, i: usize) -> Result<Value, Stop> {
         match self.records.look(a.0) {
             Some(r) => Ok(value_or_unset(r.values(), i)),
+            None => Err(self.fail(Stop::NeedHeap)),
+        }
+    }
+
+    #[tactic(auto, unfolding(py_data::specs::Heap::at))]
+    fn head(&mut self, a: Addr) -> Result<Head, Stop> {
+        match self.records.look(a.0) {
+            Some(r) => Ok(r.head()),
             None => Err(self.fail(Stop::NeedHeap)),
         }
     }
