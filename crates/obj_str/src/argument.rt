@@ -9,6 +9,7 @@ ghost use Rattle.py_data.specs.Sense.{Meets, Safe, IsLive};
 ghost use Rattle.py_data.specs.Fault.{argument_fault};
 ghost use Rattle.obj_str.specs.Methods as methods;
 
+use crate::text::SHORT;
 use py_data::exception::{TYPE_ERROR, raise};
 use py_data::{Addr, Bytes, Got, Kind, Stop, Value, View};
 use std::alloc::Global;
@@ -48,6 +49,11 @@ fn copied<S, V: View<S>>(alloc: Global, v: &mut V, a: Addr) -> Result<Bytes, Sto
     ensures { Meets V.sense (Ret (at (V.sense.heap v.old) a.0).bytes) v.old v.new result }
 {
     let n = v.byte_len(a)?;
+    if n <= SHORT {
+        let mut room = [0; SHORT];
+        v.copy_bytes(a, 0, &mut room[..n])?;
+        return Ok(Bytes::from_slice(alloc, &room[..n])?);
+    }
     let mut room = vec![in alloc; 0; n]?;
     v.copy_bytes(a, 0, room.as_mut_slice())?;
     Ok(Bytes::from_slice(alloc, room.as_slice())?)

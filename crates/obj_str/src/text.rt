@@ -13,6 +13,9 @@ use py_data::{
 };
 use std::alloc::Global;
 
+/// The most bytes of a string that is copied by way of the stack, as names are.
+pub(crate) const SHORT: usize = 32;
+
 /// The bytes of a record; nothing of one that isn't a string. One look at the record.
 #[tactic(auto, using(py_data::proofs::Rows::row_steps), unfolding(py_data::specs::Looking::bytes_row))]
 pub fn bytes_of<S, V: View<S>>(alloc: Global, v: &mut V, a: Addr) -> Result<Bytes, Stop>
@@ -21,6 +24,11 @@ pub fn bytes_of<S, V: View<S>>(alloc: Global, v: &mut V, a: Addr) -> Result<Byte
     ensures { Meets V.sense (bytes_row a.0) v.old v.new result }
 {
     let n = v.byte_len(a)?;
+    if n <= SHORT {
+        let mut room = [0; SHORT];
+        v.copy_bytes(a, 0, &mut room[..n])?;
+        return Ok(Bytes::from_slice(alloc, &room[..n])?);
+    }
     let mut room = vec![in alloc; 0; n]?;
     v.copy_bytes(a, 0, room.as_mut_slice())?;
     Ok(Bytes::from_slice(alloc, room.as_slice())?)
