@@ -1,7 +1,6 @@
 -- Rows that make an iterator, and let one go on.
-use Rattle.std.proofs.Common.{◌≡◌, ℕ, true, false, [], ◌∷◌, slice_get, Option, Some, refl, sym, ap, subst, ◌∙◌}
-use Rattle.std.proofs.lemmas.Bool.{cond-true, cond-false}
-use Rattle.py_data.specs.declared.value.Value.{Value}
+use Rattle.std.proofs.Common.{◌≡◌, ℕ, false, [], ◌∷◌, Option, Some, refl, sym, ap, subst, ◌∙◌}
+use Rattle.std.proofs.lemmas.Bool.{cond-false}
 use Rattle.py_data.specs.declared.value.Value.TheVariants.{Ref}
 use Rattle.py_base.specs.declared.kind.Kind.TheVariants.{Str}
 use Rattle.py_data.specs.Heap.{Rec, at, new_rec}
@@ -11,7 +10,7 @@ use Rattle.obj_seq.specs.declared.advance.Parts.{Parts}
 use Rattle.py_data.proofs.Steps.{leads-begin, leads-do}
 use Rattle.py_data.specs.inner.Rest.{Leads}
 use Rattle.py_data.proofs.Rows.{again}
-use Rattle.obj_seq.specs.Iter.{count_of, is_iter, iter_of, make_iter_row, next_over, next_with, parts_of, go_or_end, byte_or_end, pick, has_changed, is_str, next_row}
+use Rattle.obj_seq.specs.Iter.{count_of, is_iter, iter_of, make_iter_row, next_with, parts_of, go_or_end, byte_or_end, next_row}
 use Rattle.obj_seq.proofs.AfterLook.{leads-looked, looked-record}
 
 pub iter-leads : {S X : Type 0} {u : Sense S X} (L : Lawful u) {a : ℕ} {v m x : X} {q : Rec} (o : Option ℕ) →
@@ -26,40 +25,6 @@ iter-leads {S = S} {u = u} L {a = a} {v = v} {m = m} {x = x} {q = q} o d g none 
     let here = looked-record L d same ∙ sym (looked-record L d refl) in
     subst (λ c. Leads u (Do (Read a) (iter_of {S = S} a)) v (make_iter_row a c) x)
     (ap (λ r. count_of r.kind r.values r.bytes) here ∙ sym e) l
-
--- going on over a string, and over what else there is
-module _ {S X : Type 0} {u : Sense S X} (L : Lawful u) {a : ℕ} {v m : X} (it place count : ℕ)
-    (looked : u.does (Read a) v (at (u.heap v) a) m)
-    (safe : Safe {S = S} u.partial (Do (Read a) (next_over it place count)) (u.heap v)) (live : IsLive u v) where
-  pub byte-leads : {x : X} {q : Rec} (b : Option ℕ) → u.does (Read a) m q x → is_str (at (u.heap v) a).kind ≡ true →
-      b ≡ slice_get (at (u.heap m) a).bytes place
-      → Leads u (Do (Read a) (next_over {S = S} it place count)) v (byte_or_end it place b) x
-  byte-leads {x = x} {q = q} b g is e =
-      let same = again L a v m x (at (u.heap v) a) q looked g in
-      let l = leads-looked L looked same (next_over it place count)
-      (λ r. byte_or_end it place (slice_get r.bytes place)) safe live (cond-true _ _ _ is) in
-      let here = looked-record L looked same ∙ sym (looked-record L looked refl) in
-      subst (λ o. Leads u (Do (Read a) (next_over {S = S} it place count)) v (byte_or_end it place o) x)
-      (ap (λ r. slice_get r.bytes place) here ∙ sym e) l
-
-  module _ {n : X} {q : Rec} (second : u.does (Read a) m q n) (not_str : is_str (at (u.heap v) a).kind ≡ false) where
-    same-here : at (u.heap m) a ≡ at (u.heap v) a
-    same-here = looked-record L looked refl
-
-    pub pick-leads : {x : X} {p : Rec} (o : Option Value) → u.does (Read a) n p x →
-        has_changed (at (u.heap m) a).kind (at (u.heap m) a).values count ≡ false →
-        o ≡ pick (at (u.heap n) a).kind (at (u.heap n) a).values place
-        → Leads u (Do (Read a) (next_over {S = S} it place count)) v (go_or_end it place o) x
-    pick-leads {x = x} {p = p} o g unchanged e =
-        let same2 = again L a v m n (at (u.heap v) a) q looked second in
-        let same = again L a m n x q p second g ∙ same2 in
-        let unchanged1 = ap (λ r. has_changed r.kind r.values count) (sym same-here) ∙ unchanged in
-        let l = leads-looked L looked same (next_over it place count)
-        (λ r. go_or_end it place (pick r.kind r.values place)) safe live
-        (cond-false _ _ _ not_str ∙ cond-false _ _ _ unchanged1) in
-        let here = looked-record L looked same ∙ sym (looked-record L looked same2) in
-        subst (λ o. Leads u (Do (Read a) (next_over {S = S} it place count)) v (go_or_end it place o) x)
-        (ap (λ r. pick r.kind r.values place) here ∙ sym e) l
 
 -- what is left once a string of one byte was made
 pub made-leads : {S X : Type 0} {u : Sense S X} (L : Lawful u) (it place : ℕ) {byte : ℕ} {v m : X} (o : Option ℕ)

@@ -15,3 +15,4 @@ pub mod HoldingIters
 pub mod HoldingGather
 pub mod SteadyRows
 pub mod GatherSteps
+pub mod Heads

@@ -4,3 +4,4 @@ pub mod Iter
 pub mod Gather
 pub mod Laws
 pub mod HoldsLaws
+pub mod inner

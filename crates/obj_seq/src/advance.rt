@@ -6,10 +6,11 @@ ghost use Rattle.py_data.specs.Made.{rec_of};
 ghost use Rattle.py_data.specs.Heap.{new_rec};
 ghost use Rattle.py_data.specs.Row.{Read, Do};
 ghost use Rattle.py_data.specs.Range.{range_length};
-ghost use Rattle.obj_seq.specs.Iter.{next_row, next_with, next_over, go_or_end, byte_or_end, number_in, pick, has_changed, is_str, parts_in, parts_of, span_of};
+ghost use Rattle.obj_seq.specs.Iter.{next_row, next_with, next_over, go_or_end, byte_or_end, number_in, parts_in, parts_of};
+ghost use Rattle.obj_seq.specs.inner.Heads.{ahead_of, LeavesRoom};
 
 use crate::range::{range_item, range_length};
-use crate::span::{Span, read_span, three};
+use crate::span::{Span, span_in, three, three_in};
 use py_data::exception::{RUNTIME_ERROR, raise};
 use py_data::{Addr, Bytes, Got, Kind, LENGTH_LIMIT, NoMemory, Record, Stop, Value, Values, View};
 use std::alloc::Global;
@@ -55,22 +56,6 @@ fn read_parts<S, V: View<S>>(v: &mut V, it: Addr) -> Result<Option<Parts>, Stop>
     Ok(parts_in(values))
 }
 
-/// The value at a place of a record, if it has that place.
-#[tactic(auto, using(py_data::proofs::Rows::row_steps))]
-fn value_at<S, V: View<S>>(v: &mut V, a: Addr, at: u64) -> Result<Option<Value>, Stop>
-    requires live { IsLive V.sense v.old }
-    requires there { Asks {S = S} V.sense.partial (Read a.0) (V.sense.heap v.old) }
-    ensures shows { Shows V.sense a.0 (λ r. slice_get r.values at) v.old v.new result }
-    ensures fits { IfOk result (λ o. IfSome o (λ _. at < LENGTH_LIMIT)) }
-{
-    let n = v.len(a)?;
-    if at < n as u64 {
-        Ok(Some(v.val(a, at as usize)?))
-    } else {
-        Ok(None)
-    }
-}
-
 /// The byte at a place of a string, if it has that place.
 #[tactic(auto, using(py_data::proofs::Rows::row_steps))]
 fn byte_at<S, V: View<S>>(v: &mut V, a: Addr, at: u64) -> Result<Option<u8>, Stop>
@@ -108,56 +93,46 @@ fn number_in(span: Option<Span>, at: u64) -> Option<Value>
     }
 }
 
-/// The number at a place of a range's record.
-#[tactic(auto, using(py_data::proofs::Rows::row_steps))]
-fn number_at<S, V: View<S>>(v: &mut V, a: Addr, at: u64) -> Result<Option<Value>, Stop>
-    requires live { IsLive V.sense v.old }
-    requires there { Asks {S = S} V.sense.partial (Read a.0) (V.sense.heap v.old) }
-    ensures shows { Shows V.sense a.0 (λ r. number_in (span_of r.values) at) v.old v.new result }
-    ensures fits { IfOk result (λ o. IfSome o (λ _. at + 1 < 2 ^ 63)) }
-{
-    let span = read_span(v, a)?;
-    Ok(number_in(span, at))
+/// What an iterator comes to, as far as one look at what it goes over tells.
+#[derive(Clone, Copy)]
+enum Ahead {
+    Text,
+    Changed,
+    Item(Option<Value>),
 }
 
-/// What a record has at a place: its item, the key of its pair, or its number.
-#[tactic(auto, using(py_data::proofs::Rows::row_steps))]
-fn pick<S, V: View<S>>(v: &mut V, a: Addr, at: u64) -> Result<Option<Value>, Stop>
+/// What an iterator comes to at a place of a record, which had so many pairs at its start if it is a dictionary.
+#[tactic(auto, using(py_data::proofs::Rows::row_steps, crate::proofs::Heads::three_of_head))]
+fn look_ahead<S, V: View<S>>(v: &mut V, a: Addr, at: u64, count: u64) -> Result<Ahead, Stop>
     requires live { IsLive V.sense v.old }
     requires there { Asks {S = S} V.sense.partial (Read a.0) (V.sense.heap v.old) }
     requires fits { at < 2 ^ 63 }
-    ensures shows { Shows V.sense a.0 (λ r. pick r.kind r.values at) v.old v.new result }
-    ensures fits { IfOk result (λ o. IfSome o (λ _. at + 1 < 2 ^ 63)) }
+    ensures shows { Shows V.sense a.0 (λ r. ahead_of r.kind r.values at count) v.old v.new result }
+    ensures fits { IfOk result (λ x. LeavesRoom x at) }
 {
-    match v.kind(a)? {
-        Kind::List | Kind::Tuple => value_at(v, a, at),
-        Kind::Dict => value_at(v, a, 2 * at),
-        Kind::Range => number_at(v, a, at),
-        _ => Ok(None),
+    let head = v.head(a)?;
+    let n = head.count as u64;
+    match head.kind {
+        Kind::Str => Ok(Ahead::Text),
+        Kind::List | Kind::Tuple => {
+            if at < n {
+                Ok(Ahead::Item(Some(v.val(a, at as usize)?)))
+            } else {
+                Ok(Ahead::Item(None))
+            }
+        }
+        Kind::Dict => {
+            if n / 2 != count {
+                Ok(Ahead::Changed)
+            } else if 2 * at < n {
+                Ok(Ahead::Item(Some(v.val(a, (2 * at) as usize)?)))
+            } else {
+                Ok(Ahead::Item(None))
+            }
+        }
+        Kind::Range => Ok(Ahead::Item(number_in(span_in(three_in(head)), at))),
+        _ => Ok(Ahead::Item(None)),
     }
-}
-
-/// Whether a record is a dictionary that hasn't so many pairs.
-#[tactic(auto, using(py_data::proofs::Rows::row_steps))]
-fn has_changed<S, V: View<S>>(v: &mut V, a: Addr, count: u64) -> Result<bool, Stop>
-    requires live { IsLive V.sense v.old }
-    requires there { Asks {S = S} V.sense.partial (Read a.0) (V.sense.heap v.old) }
-    ensures { Shows V.sense a.0 (λ r. has_changed r.kind r.values count) v.old v.new result }
-{
-    match v.kind(a)? {
-        Kind::Dict => Ok((v.len(a)? / 2) as u64 != count),
-        _ => Ok(false),
-    }
-}
-
-/// Whether a record is a string.
-#[tactic(auto, using(py_data::proofs::Rows::row_steps))]
-fn is_str<S, V: View<S>>(v: &mut V, a: Addr) -> Result<bool, Stop>
-    requires live { IsLive V.sense v.old }
-    requires there { Asks {S = S} V.sense.partial (Read a.0) (V.sense.heap v.old) }
-    ensures { Shows V.sense a.0 (λ r. is_str r.kind) v.old v.new result }
-{
-    Ok(matches!(v.kind(a)?, Kind::Str))
 }
 
 /// Answers a value, and lets the iterator go on to the next place; or answers that it is at its end.
@@ -233,19 +208,18 @@ fn next_over<S, V: View<S>>(
     ensures { Meets V.sense (Do (Read parts.over.0) (next_over it.0 parts.at parts.count)) v.old v.new result }
 {
     let over = parts.over;
-    if is_str(v, over)? {
-        let byte = byte_at(v, over, parts.at)?;
-        return byte_or_end(alloc, v, it, parts.at, byte);
-    }
-    if has_changed(v, over, parts.count)? {
-        return raise(
+    match look_ahead(v, over, parts.at, parts.count)? {
+        Ahead::Text => {
+            let byte = byte_at(v, over, parts.at)?;
+            byte_or_end(alloc, v, it, parts.at, byte)
+        }
+        Ahead::Changed => raise(
             alloc,
             RUNTIME_ERROR,
             b"dictionary changed size during iteration",
-        );
+        ),
+        Ahead::Item(x) => go_or_end(v, it, parts.at, x),
     }
-    let x = pick(v, over, parts.at)?;
-    go_or_end(v, it, parts.at, x)
 }
 
 /// The next item of an iterator, or none at its end: of a list or tuple an item, of a string a new string of one byte, of a

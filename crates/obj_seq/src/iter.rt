@@ -4,9 +4,9 @@ ghost use Rattle.py_data.specs.declared.value.Value.TheVariants.{Ref};
 ghost use Rattle.py_data.specs.Sense.{Meets, Safe, IsLive, Asks, Shows};
 ghost use Rattle.py_data.specs.Row.{Read};
 ghost use Rattle.py_data.specs.Range.{range_length};
-ghost use Rattle.obj_seq.specs.Iter.{iter_row, make_iter_row, iter_values, count_of, count_span, is_iter, span_of};
+ghost use Rattle.obj_seq.specs.Iter.{iter_row, make_iter_row, iter_values, count_of, count_span, is_iter};
 
-use crate::span::{Span, read_span};
+use crate::span::{Span, span_in, three_in};
 use py_data::exception::{TYPE_ERROR, raise};
 use py_data::{Addr, Bytes, Got, Kind, NoMemory, Record, Stop, Value, Values, View};
 use std::alloc::Global;
@@ -37,31 +37,20 @@ fn count_span(span: Option<Span>) -> Option<u64>
     }
 }
 
-/// The length of a range's record.
-#[tactic(auto, using(py_data::proofs::Rows::row_steps))]
-fn count_range<S, V: View<S>>(v: &mut V, a: Addr) -> Result<Option<u64>, Stop>
-    requires live { IsLive V.sense v.old }
-    requires there { Asks {S = S} V.sense.partial (Read a.0) (V.sense.heap v.old) }
-    ensures fits { IfOk result (λ o. IfSome o (λ n. n < 2 ^ 63)) }
-    ensures shows { Shows V.sense a.0 (λ r. count_span (span_of r.values)) v.old v.new result }
-{
-    let span = read_span(v, a)?;
-    Ok(count_span(span))
-}
-
 /// The length of a record that can be gone through: of its items, its bytes, its pairs or its numbers.
-#[tactic(auto, using(py_data::proofs::Rows::row_steps))]
+#[tactic(auto, using(py_data::proofs::Rows::row_steps, crate::proofs::Heads::three_of_head))]
 fn count<S, V: View<S>>(v: &mut V, a: Addr) -> Result<Option<u64>, Stop>
     requires live { IsLive V.sense v.old }
     requires there { Asks {S = S} V.sense.partial (Read a.0) (V.sense.heap v.old) }
     ensures shows { Shows V.sense a.0 (λ r. count_of r.kind r.values r.bytes) v.old v.new result }
     ensures fits { IfOk result (λ o. IfSome o (λ n. n < 2 ^ 63)) }
 {
-    match v.kind(a)? {
-        Kind::List | Kind::Tuple => Ok(Some(v.len(a)? as u64)),
+    let head = v.head(a)?;
+    match head.kind {
+        Kind::List | Kind::Tuple => Ok(Some(head.count as u64)),
         Kind::Str => Ok(Some(v.byte_len(a)? as u64)),
-        Kind::Dict => Ok(Some((v.len(a)? / 2) as u64)),
-        Kind::Range => count_range(v, a),
+        Kind::Dict => Ok(Some((head.count / 2) as u64)),
+        Kind::Range => Ok(count_span(span_in(three_in(head)))),
         _ => Ok(None),
     }
 }

@@ -4,24 +4,31 @@ ghost use Rattle.py_data.specs.Sense.{IsLive, Asks, Shows};
 ghost use Rattle.py_data.specs.Range.{range_length};
 ghost use Rattle.py_data.specs.Row.{Read};
 ghost use Rattle.obj_seq.specs.Iter.{three, is_range, span_in, span_of};
+ghost use Rattle.obj_seq.specs.inner.Heads.{three_in};
 
 use crate::range::range_length;
-use py_data::{Addr, Stop, Value, View};
+use py_data::{Addr, Head, Stop, Value, View};
+
+/// The values of a record that has three, by a look at it.
+pub fn three_in(head: Head) -> Option<(Value, Value, Value)>
+    ensures { result ≡ three_in head }
+{
+    if head.count == 3 {
+        Some((head.first, head.second, head.third))
+    } else {
+        None
+    }
+}
 
 /// The values of a record that has three, as those of an iterator and of a range have.
-#[tactic(auto, using(py_data::proofs::Rows::row_steps))]
+#[tactic(auto, using(py_data::proofs::Rows::row_steps, crate::proofs::Heads::three_of_head))]
 pub fn three<S, V: View<S>>(v: &mut V, a: Addr) -> Result<Option<(Value, Value, Value)>, Stop>
     requires live { IsLive V.sense v.old }
     requires there { Asks {S = S} V.sense.partial (Read a.0) (V.sense.heap v.old) }
     ensures { Shows V.sense a.0 (λ r. three r.values) v.old v.new result }
 {
-    if v.len(a)? != 3 {
-        return Ok(None);
-    }
-    let first = v.val(a, 0)?;
-    let second = v.val(a, 1)?;
-    let third = v.val(a, 2)?;
-    Ok(Some((first, second, third)))
+    let head = v.head(a)?;
+    Ok(three_in(head))
 }
 
 /// A range: its start, its stop and its step, which isn't 0.
@@ -55,7 +62,7 @@ fn is_range(start: i64, stop: i64, step: i64) -> bool
 }
 
 /// What three values say of a range.
-fn span_in(values: Option<(Value, Value, Value)>) -> Option<Span>
+pub fn span_in(values: Option<(Value, Value, Value)>) -> Option<Span>
     ensures value { result ≡ span_in values }
     ensures some { IfSome result (λ s. s.step ≢ pos 0) }
     ensures fits { IfSome result (λ s. range_length s.start s.stop s.step < 2 ^ 63) }
