@@ -1,6 +1,6 @@
 -- Over each heap in order the methods of strings hold, and no record is longer in their course than before them or at
 -- their end.
-use Rattle.std.proofs.Common.{arith, ◌≡◌, ℕ, zero, suc, ◌≤◌, ◌==◌, Bool, true, false, cond, ◌||◌, ◌&&◌, List, [], ◌∷◌, ◌++◌, length, Option, Some, None, refl, sym, subst, lit<, length-append}
+use Rattle.std.proofs.Common.{arith, ◌≡◌, ℕ, zero, suc, ◌≤◌, ◌==◌, Bool, true, false, cond, List, [], ◌∷◌, ◌++◌, length, Option, Some, None, refl, sym, subst, lit<, length-append}
 use Rattle.std.specs.Prelude.{leb, pos, negsuc, is_some, IfSome, ◌+◌, ◌-◌, filter}
 use Rattle.std.proofs.lemmas.Bool.{leb-true}
 use Rattle.py_base.specs.declared.kind.Kind.TheVariants.{List as ListKind, Str}
@@ -18,7 +18,7 @@ use Rattle.py_data.specs.Heap.{Heap, Rec, new_rec}
 use Rattle.py_data.specs.Holds.{Holds}
 use Rattle.py_data.specs.Looking.{bytes_row, got_row}
 use Rattle.py_data.specs.Order.{Rules, IsOrdered, Extends}
-use Rattle.py_data.specs.Row.{Row, Ret, Do, Read, Make, bind}
+use Rattle.py_data.specs.Row.{Row, Ret, bind}
 use Rattle.py_data.specs.Steady.{Steady, Calm}
 use Rattle.py_data.proofs.CalmRows.{ret_calm, read_calm, make_calm, cond_calm, bind_steady, bind_calm, got_calm, bytes_calm}
 use Rattle.py_data.proofs.EveryLemmas.{every_and, every_weaken}

@@ -6,8 +6,8 @@ ghost use Rattle.seg_store.specs.inner.Tables.{IsSound, meaning_in, part_in};
 use crate::hand::Hand;
 use crate::store::{SegStore, StoreFault};
 use py_data::{
-    Addr, Change, Entry, Head, Kind, LENGTH_LIMIT, NoMemory, Peek, Record, Records, Value, find_pair,
-    value_or_unset,
+    Addr, Change, Entry, Head, Kind, LENGTH_LIMIT, NoMemory, Peek, Record, Records, Value,
+    find_pair, value_or_unset,
 };
 use std::alloc::Global;
 
