@@ -64,7 +64,8 @@ fn bound_slots(
 {
     let names = skip(parameters(p, n), g.args.len());
     let beside = last_defaults(alloc, names.len(), defaults)?;
-    let mut slots = Values::from_slice(alloc, g.args)?;
+    let mut slots = Values::new(alloc);
+    slots.extend_from_slice(g.args)?;
     push_filled(&mut slots, p, names, g.names, g.values, beside.as_slice())?;
     push_unset(
         &mut slots,

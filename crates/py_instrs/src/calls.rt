@@ -244,55 +244,9 @@ fn record_call<V: View<ThreadState>>(
     }
 }
 
-/// The same, where one argument more stands before all others.
-#[tactic(auto, using(py_data::proofs::Rows::row_steps))]
-fn record_first<V: View<ThreadState>>(
-    alloc: Global,
-    v: &mut V,
-    s: &Site<'_>,
-    own: Value,
-    g: &Given<'_>,
-    a: Addr,
-    kind: Kind,
-) -> Result<Next, Stop>
-    requires live { IsLive V.sense v.old }
-    requires safe { Safe V.sense.partial (call_rows.record_call s.now (binding.with_first own g.now) a.0 kind)
-        (V.sense.heap v.old) }
-    ensures { Meets V.sense (call_rows.record_call s.now (binding.with_first own g.now) a.0 kind) v.old v.new result }
-{
-    let args = with_first(alloc, own, g.args)?;
-    let owned = Given {
-        args: args.as_slice(),
-        names: g.names,
-        values: g.values,
-    };
-    record_call(alloc, v, s, &owned, a, kind)
-}
-
-/// The same, where an object may stand in front.
-#[tactic(auto, using(py_data::proofs::Rows::row_steps))]
-fn record_owned<V: View<ThreadState>>(
-    alloc: Global,
-    v: &mut V,
-    s: &Site<'_>,
-    own: Value,
-    g: &Given<'_>,
-    a: Addr,
-    kind: Kind,
-) -> Result<Next, Stop>
-    requires live { IsLive V.sense v.old }
-    requires safe { Safe V.sense.partial (call_rows.record_call s.now (binding.with_own own g.now) a.0 kind)
-        (V.sense.heap v.old) }
-    ensures { Meets V.sense (call_rows.record_call s.now (binding.with_own own g.now) a.0 kind) v.old v.new result }
-{
-    match own {
-        Value::Unset => record_call(alloc, v, s, g, a, kind),
-        _ => record_first(alloc, v, s, own, g, a, kind),
-    }
-}
-
 /// The call of a value, where an object may stand in front: it is a builtin's own object, and the first argument of
-/// all else. TypeError for a value that can't be called.
+/// all else. `g` is what the call gives, and `all` the same with the object in front. TypeError for a value that can't
+/// be called.
 #[tactic(auto, using(py_data::proofs::Rows::row_steps, py_data::proofs::Steps::call_steps), unfolding(py_frames::specs::CallRows::value_call))]
 pub fn value_call<V: View<ThreadState>>(
     alloc: Global,
@@ -300,16 +254,18 @@ pub fn value_call<V: View<ThreadState>>(
     s: &Site<'_>,
     own: Value,
     g: &Given<'_>,
+    all: &Given<'_>,
     f: Value,
 ) -> Result<Next, Stop>
     requires live { IsLive V.sense v.old }
+    requires all { all.now ≡ binding.with_own own g.now }
     requires safe { Safe V.sense.partial (call_rows.value_call s.now own g.now f) (V.sense.heap v.old) }
     ensures { Meets V.sense (call_rows.value_call s.now own g.now f) v.old v.new result }
 {
     match f {
         Value::Ref(a) => {
             let kind = kind(v, a)?;
-            record_owned(alloc, v, s, own, g, a, kind)
+            record_call(alloc, v, s, all, a, kind)
         }
         Value::Builtin(b) => builtin_call(alloc, v, s, own, g, b),
         _ => raise_text(alloc, v, s.roots, TYPE_ERROR, b"not callable"),

@@ -5,6 +5,7 @@ ghost use Rattle.py_data.specs.Heap.{value_at};
 ghost use Rattle.py_data.specs.Sense.{Meets, Safe, IsLive};
 ghost use Rattle.py_data.specs.declared.value.Value.TheVariants.{Unset};
 ghost use Rattle.py_frames.specs.declared.next.Next.TheVariants.{Goes};
+ghost use Rattle.py_frames.specs.Binding.{with_own};
 ghost use Rattle.py_frames.specs.BuildRows as builds;
 ghost use Rattle.py_frames.specs.CallRows as calls;
 ghost use Rattle.py_frames.specs.FunctionRows as functions;
@@ -175,32 +176,32 @@ fn build<S, V: View<S>>(
     py_instrs::build_row(alloc, v, s.roots, kind, values)
 }
 
-/// What is called, behind its operands: so many arguments, and the values of a keyword list.
-#[tactic(auto, using(py_data::proofs::Rows::row_steps))]
-fn call_given<V: View<ThreadState>>(
-    alloc: Global,
-    v: &mut V,
-    s: &Site<'_>,
-    t: &ThreadState,
-    own: Value,
-    m: u32,
-    l: u32,
-    xs: &[Value],
-    f: Value,
-) -> Result<Next, Stop>
-    requires live { IsLive V.sense v.old }
-    requires safe { Safe V.sense.partial
-        (calls.value_call s.now own (steps.given_in s.now (innermost t.now.frames) m l xs.now) f)
-        (V.sense.heap v.old) }
-    ensures { Meets V.sense (calls.value_call s.now own (steps.given_in s.now (innermost t.now.frames) m l xs.now) f)
-        v.old v.new result }
+/// What a call gives, in these values: so many arguments, and behind them the values of a keyword list.
+fn given<'a>(s: &Site<'a>, t: &ThreadState, m: u32, l: u32, xs: &'a [Value]) -> Given<'a>
+    ensures { result ≡ steps.given_in s.now (innermost t.now.frames) m l xs.now }
 {
-    let g = Given {
+    Given {
         args: first(xs, m as usize),
         names: keys_at(s.program, t.code(), l),
         values: skip(xs, m as usize),
-    };
-    value_call(alloc, v, s, own, &g, f)
+    }
+}
+
+/// What the call of a method gives, whose operands are these: the object, if there is one, is an argument too. It
+/// stands before the others already.
+fn given_all<'a>(s: &Site<'a>, t: &ThreadState, m: u32, l: u32, xs: &'a [Value]) -> Given<'a>
+    ensures { result ≡ with_own (value_at xs.now 1)
+        (steps.given_in s.now (innermost t.now.frames) m l (drop 2 xs.now)) }
+{
+    let g = given(s, t, m, l, skip(xs, 2));
+    match value_or_unset(xs, 1) {
+        Value::Unset => g,
+        _ => Given {
+            args: first(skip(xs, 1), m as usize + 1),
+            names: g.names,
+            values: g.values,
+        },
+    }
 }
 
 /// CALL.
@@ -222,17 +223,8 @@ fn call<V: View<ThreadState>>(
         (calls.value_call s.now Unset (steps.given_in s.now f m l (drop 1 xs.now)) (value_at xs.now 0)) v.old v.new
         result }
 {
-    call_given(
-        alloc,
-        v,
-        s,
-        t,
-        Value::Unset,
-        m,
-        l,
-        skip(xs, 1),
-        value_or_unset(xs, 0),
-    )
+    let g = given(s, t, m, l, skip(xs, 1));
+    value_call(alloc, v, s, Value::Unset, &g, &g, value_or_unset(xs, 0))
 }
 
 /// CALL_METHOD.
@@ -254,18 +246,10 @@ fn call_method<V: View<ThreadState>>(
         (calls.value_call s.now (value_at xs.now 1) (steps.given_in s.now f m l (drop 2 xs.now)) (value_at xs.now 0))
         v.old v.new result }
 {
+    let g = given(s, t, m, l, skip(xs, 2));
+    let all = given_all(s, t, m, l, xs);
     let own = value_or_unset(xs, 1);
-    call_given(
-        alloc,
-        v,
-        s,
-        t,
-        own,
-        m,
-        l,
-        skip(xs, 2),
-        value_or_unset(xs, 0),
-    )
+    value_call(alloc, v, s, own, &g, &all, value_or_unset(xs, 0))
 }
 
 /// RETURN.
