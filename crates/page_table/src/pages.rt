@@ -148,6 +148,29 @@ impl Pages {
         self.sheets[k as usize].word(&self.shared, place as usize)
     }
 
+    /// The two words of a segment from an even place on. They lie in one page, which is found once.
+    pub fn two_words(&self, k: u8, place: u32) -> (u64, u64)
+        requires segment { k < (table_of self.now).segments }
+        requires span { place + 1 < (table_of self.now).reserved }
+        requires even { place % 2 ≡ 0 }
+        ensures first { result.0 ≡ (table_of self.now).word k place }
+        ensures second { result.1 ≡ (table_of self.now).word k (place + 1) }
+    {
+        self.sheets[k as usize].two_words(&self.shared, place as usize)
+    }
+
+    /// The three words of a segment from an even place on. Where they lie in one page it is found once.
+    pub fn three_words(&self, k: u8, place: u32) -> (u64, u64, u64)
+        requires segment { k < (table_of self.now).segments }
+        requires span { place + 2 < (table_of self.now).reserved }
+        requires even { place % 2 ≡ 0 }
+        ensures first { result.0 ≡ (table_of self.now).word k place }
+        ensures second { result.1 ≡ (table_of self.now).word k (place + 1) }
+        ensures third { result.2 ≡ (table_of self.now).word k (place + 2) }
+    {
+        self.sheets[k as usize].three_words(&self.shared, place as usize)
+    }
+
     /// The shared words of a span.
     pub fn shared_words(&self, place: u32, n: u32) -> &[u64]
         requires { place + n ≤ (table_of self.now).reserved }
