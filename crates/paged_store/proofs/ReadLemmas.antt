@@ -59,6 +59,14 @@ value_within w reserved a i r h =
     let fits : 2 * count_by w a ≤ body_size w a = count_fits w a (has_values w a i h) r.formed in
     omega (arith, fits, r.body, value_counted w a i h)
 
+-- and begin at an even place
+pub value_even : (w : Words) (reserved a i : ℕ) → Stands w reserved a → i < length (decode w a).values →
+    body_by w a % 2 ≡ 0
+value_even w reserved a i r h =
+    let fits : 2 * count_by w a ≤ body_size w a = count_fits w a (has_values w a i h) r.formed in
+    let inside : i < count_by w a = value_counted w a i h in
+    r.formed.even (omega (arith, fits, inside))
+
 pub value_there : (w : Words) (reserved a b i : ℕ) → Stands w reserved a → i < length (decode w a).values →
     b ≡ body_by w a → value_of (w (b + 2 * i)) (w (b + 2 * i + 1)) ≡ value_at (decode w a).values i
 value_there w reserved a b i r h e =
@@ -97,6 +105,11 @@ values_counted w a n k e f is = is ∙ sym (values_length w a (ap has_bytes (sym
 pub value_span : (w : Words) (reserved a b n i : ℕ) → Stands w reserved a → n ≡ length (decode w a).values →
     b ≡ body_by w a → i < n → b + 2 * i + 2 ≤ reserved
 value_span w reserved a b n i r e f h = omega (arith, f, value_within w reserved a i r (omega (arith, h, e)))
+
+-- and they begin at an even place
+pub body_even : (w : Words) (reserved a b n i : ℕ) → Stands w reserved a → n ≡ length (decode w a).values →
+    b ≡ body_by w a → i < n → b % 2 ≡ 0
+body_even w reserved a b n i r e f h = ap (λ z. z % 2) f ∙ value_even w reserved a i r (omega (arith, h, e))
 
 -- the value at a place, by its two words where there is one, and Unset where there is none
 pub value_found : (w : Words) (reserved a b n i : ℕ) (v : Value) → Stands w reserved a →

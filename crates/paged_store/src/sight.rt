@@ -31,7 +31,7 @@ pub fn word(pages: &Pages, seen: Seen, place: u32) -> u64
 }
 
 /// The two words from an even place on, which lie in one page.
-fn even_words(pages: &Pages, seen: Seen, place: u32) -> (u64, u64)
+fn two_words(pages: &Pages, seen: Seen, place: u32) -> (u64, u64)
     requires segment { IsSeen (table_of pages.now) seen }
     requires span { place + 1 < (table_of pages.now).reserved }
     requires even { place % 2 ≡ 0 }
@@ -44,26 +44,11 @@ fn even_words(pages: &Pages, seen: Seen, place: u32) -> (u64, u64)
     }
 }
 
-/// The two words from a place on. Where the place is even they are found at once.
-fn two_words(pages: &Pages, seen: Seen, place: u32) -> (u64, u64)
-    requires segment { IsSeen (table_of pages.now) seen }
-    requires span { place + 1 < (table_of pages.now).reserved }
-    ensures first { result.0 ≡ words_seen (table_of pages.now) seen place }
-    ensures second { result.1 ≡ words_seen (table_of pages.now) seen (place + 1) }
-{
-    pages.known();
-    if place % 2 == 0 {
-        even_words(pages, seen, place)
-    } else {
-        (word(pages, seen, place), word(pages, seen, place + 1))
-    }
-}
-
-/// The value whose first word is at a place. Every body begins at an even place, so both of its words are found at
-/// once.
+/// The value whose first word is at an even place, as those of every body are.
 pub fn value(pages: &Pages, seen: Seen, place: u32) -> Value
     requires segment { IsSeen (table_of pages.now) seen }
     requires span { place + 2 ≤ (table_of pages.now).reserved }
+    requires even { place % 2 ≡ 0 }
     ensures { let w = words_seen (table_of pages.now) seen in result ≡ value_of (w place) (w (place + 1)) }
 {
     let (tag, payload) = two_words(pages, seen, place);
@@ -156,6 +141,7 @@ fn outline(pages: &Pages, seen: Seen, a: u32) -> (Kind, usize, usize)
 fn value_in(pages: &Pages, seen: Seen, body: usize, count: usize, i: usize) -> Value
     requires segment { IsSeen (table_of pages.now) seen }
     requires span { i < count → body + 2 * i + 2 ≤ (table_of pages.now).reserved }
+    requires even { i < count → body % 2 ≡ 0 }
     ensures there { let w = words_seen (table_of pages.now) seen in
         i < count → result ≡ value_of (w (body + 2 * i)) (w (body + 2 * i + 1)) }
     ensures none { count ≤ i → result ≡ Unset }

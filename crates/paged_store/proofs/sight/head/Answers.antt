@@ -1,4 +1,4 @@
-use Rattle.paged_store.proofs.ReadLemmas.{value_span, value_found}
+use Rattle.paged_store.proofs.ReadLemmas.{value_span, body_even, value_found}
 use Rattle.paged_store.proofs.sight.head.Goals as goal
 
 pub value_in-requires-clause-span : goal.value_in-requires-clause-span
@@ -14,6 +14,21 @@ value_in-requires-2-clause-span c = λ h.
 pub value_in-requires-3-clause-span : goal.value_in-requires-3-clause-span
 value_in-requires-3-clause-span c = λ h.
     value_span _ _ c.args.a c.outline-kind.result.2 _ 2 c.requires.stands c.outline-kind.ensures.count
+    c.outline-kind.ensures.body h
+
+pub value_in-requires-clause-even : goal.value_in-requires-clause-even
+value_in-requires-clause-even c = λ h.
+    body_even _ _ c.args.a c.outline-kind.result.2 _ 0 c.requires.stands c.outline-kind.ensures.count
+    c.outline-kind.ensures.body h
+
+pub value_in-requires-2-clause-even : goal.value_in-requires-2-clause-even
+value_in-requires-2-clause-even c = λ h.
+    body_even _ _ c.args.a c.outline-kind.result.2 _ 1 c.requires.stands c.outline-kind.ensures.count
+    c.outline-kind.ensures.body h
+
+pub value_in-requires-3-clause-even : goal.value_in-requires-3-clause-even
+value_in-requires-3-clause-even c = λ h.
+    body_even _ _ c.args.a c.outline-kind.result.2 _ 2 c.requires.stands c.outline-kind.ensures.count
     c.outline-kind.ensures.body h
 
 pub returns : goal.returns
