@@ -1,5 +1,5 @@
 //! Pages of words that segments share, and their extents.
-ghost use Rattle.std.specs.Prelude.{◌≡◌, ℕ, ◌+◌, ◌-◌, ◌*◌, ◌/◌, ◌%◌, ◌<◌, ◌≤◌, ◌^◌, true, [], length, min, slice_index, IfOk, OnOk, OnErr};
+ghost use Rattle.std.specs.Prelude.{◌≡◌, ℕ, ◌+◌, ◌-◌, ◌*◌, ◌/◌, ◌%◌, ◌<◌, ◌≤◌, ◌^◌, true, [], length, IfOk, OnOk, OnErr};
 ghost use Rattle.std.specs.Prelude.{vec_capacity};
 ghost use Rattle.page_table.specs.Pages.{Lies, IsTable, limit, new_table, over, after_open, after_write, after_push, after_restore};
 ghost use Rattle.page_table.specs.Reserving.{Reserves, after_give_back};
@@ -169,29 +169,6 @@ impl Pages {
         ensures third { result.2 ≡ (table_of self.now).word k (place + 2) }
     {
         self.sheets[k as usize].three_words(&self.shared, place as usize)
-    }
-
-    /// The shared words of a span.
-    pub fn shared_words(&self, place: u32, n: u32) -> &[u64]
-        requires { place + n ≤ (table_of self.now).reserved }
-        ensures length { length result.now ≡ n }
-        ensures words { (i : ℕ) → i < n → slice_index result.now i ≡ (table_of self.now).shared (place + i) }
-    {
-        let start = place as usize;
-        &self.shared[start..start + n as usize]
-    }
-
-    /// The words of a segment from a place on, as many of `n` as lie in the page of that place. So two words at an even
-    /// place are always both there.
-    #[tactic(auto, unfolding(crate::specs::Lists::word_at))]
-    pub fn words(&self, k: u8, place: u32, n: u32) -> &[u64]
-        requires segment { k < (table_of self.now).segments }
-        requires span { place + n ≤ (table_of self.now).reserved }
-        ensures length { length result.now ≡ min n (512 - place % 512) }
-        ensures words { (i : ℕ) → i < length result.now → slice_index result.now i
-            ≡ (table_of self.now).word k (place + i) }
-    {
-        self.sheets[k as usize].words(&self.shared, place as usize, n as usize)
     }
 
     /// Whether a segment has a page of its own.

@@ -119,20 +119,6 @@ impl Sheet {
         }
     }
 
-    /// The words from a place on, over the shared words: as many of `n` as lie in the page of that place.
-    pub fn words<'a>(&'a self, shared: &'a [u64], place: usize, n: usize) -> &'a [u64]
-        requires { place + n ≤ length shared.now }
-        ensures length { length result.now ≡ min n (512 - place % 512) }
-        ensures words { (i : ℕ) → i < length result.now → word_at result.now i
-            ≡ word_over (sheet_in self.now) (word_at shared.now) (place + i) }
-    {
-        let n = in_page(place, n);
-        match self.page(place / 512) {
-            Some(page) => page.words(place % 512, n),
-            None => &shared[place..place + n],
-        }
-    }
-
     /// Makes a page its own, with the shared words. At want of memory nothing changes.
     pub fn open(&mut self, alloc: Global, shared: &[u64], page: usize) -> Result<(), NoMemory>
         requires { page < 65536 }
