@@ -92,8 +92,8 @@ module _ (s : PagedStore) (k a : ℕ) (l : k < (paged_meaning s).segments)
 
   -- the body begins at an even place
   even : z.body % 2 ≡ 0
-  even = first_even (grown_class w a) z.body _ (extent_for (grown_index w a) z.index) (let b = grows.room in omega arith)
-      z.takes.claims.lie
+  even = first_even (grown_class w a) z.body _ (extent_for (grown_index w a) z.index)
+      (let b = grows.room in omega arith) z.takes.claims.lie
 
   -- what holds of any account by which the extents were nobody's
   abbrev Places : (Words → Words → Type 0) → Type 0

@@ -452,7 +452,8 @@ module _ (s : PagedStore) (k a : ℕ) (l : k < (paged_meaning s).segments)
       (with_push v (decode w a))
       (λ own role lays fresh once. (
         with_index w a body index own role (address s k a l held) f lays rooms m.class fresh once even (v ∷ []) m.room,
-        with_index_size w a body index own role (address s k a l held) f lays rooms m.class fresh once even (v ∷ []) m.room,
+        with_index_size w a body index own role (address s k a l held) f lays rooms m.class fresh once even (v ∷ [])
+            m.room,
       ))
       (λ own role lays fresh once.
       push_grown w a body index own role (address s k a l held) f lays rooms m.class fresh once even v
