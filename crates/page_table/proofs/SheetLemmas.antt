@@ -74,6 +74,15 @@ pub word_of_page : (sheet : Sheet) (below : ℕ → ℕ) (p : ℕ) (o : Option (
 unfolding word_over
 word_of_page sheet below p o e = ap (λ x. word_in x (p % 512) (below p)) e
 
+-- the word at a place further on in the same page
+pub word_further : (sheet : Sheet) (below : ℕ → ℕ) (p n : ℕ) (o : Option (List ℕ)) → p % 512 + n < 512
+    → sheet (p / 512) ≡ o → word_over sheet below (p + n) ≡ word_in o (p % 512 + n) (below (p + n))
+word_further sheet below p n o within e =
+    word_of_page sheet below (p + n) o
+    (ap sheet (let q : (p + n) / 512 ≡ p / 512 = omega (arith, within) in q) ∙ e)
+    ∙ ap (λ i. word_in o i (below (p + n)))
+    (let i : (p + n) % 512 ≡ p % 512 + n = omega (arith, within) in i)
+
 word_of_other : (sheet : Sheet) (q : ℕ) (page : Option (List ℕ)) (below : ℕ → ℕ) (p : ℕ) → (p / 512 ≡ q → ⊥)
     → word_over (put q page sheet) below p ≡ word_over sheet below p
 unfolding word_over

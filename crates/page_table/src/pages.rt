@@ -1,5 +1,5 @@
 //! Pages of words that segments share, and their extents.
-ghost use Rattle.std.specs.Prelude.{◌≡◌, ℕ, ◌+◌, ◌-◌, ◌*◌, ◌/◌, ◌%◌, ◌<◌, ◌≤◌, ◌^◌, true, [], length, min, slice_index, IfOk, OnOk, OnErr};
+ghost use Rattle.std.specs.Prelude.{◌≡◌, ℕ, ◌+◌, ◌-◌, ◌*◌, ◌/◌, ◌%◌, ◌<◌, ◌≤◌, ◌^◌, true, [], length, IfOk, OnOk, OnErr};
 ghost use Rattle.std.specs.Prelude.{vec_capacity};
 ghost use Rattle.page_table.specs.Pages.{Lies, IsTable, limit, new_table, over, after_open, after_write, after_push, after_restore};
 ghost use Rattle.page_table.specs.Reserving.{Reserves, after_give_back};
@@ -148,27 +148,27 @@ impl Pages {
         self.sheets[k as usize].word(&self.shared, place as usize)
     }
 
-    /// The shared words of a span.
-    pub fn shared_words(&self, place: u32, n: u32) -> &[u64]
-        requires { place + n ≤ (table_of self.now).reserved }
-        ensures length { length result.now ≡ n }
-        ensures words { (i : ℕ) → i < n → slice_index result.now i ≡ (table_of self.now).shared (place + i) }
+    /// The two words of a segment from an even place on. They lie in one page, which is found once.
+    pub fn two_words(&self, k: u8, place: u32) -> (u64, u64)
+        requires segment { k < (table_of self.now).segments }
+        requires span { place + 1 < (table_of self.now).reserved }
+        requires even { place % 2 ≡ 0 }
+        ensures first { result.0 ≡ (table_of self.now).word k place }
+        ensures second { result.1 ≡ (table_of self.now).word k (place + 1) }
     {
-        let start = place as usize;
-        &self.shared[start..start + n as usize]
+        self.sheets[k as usize].two_words(&self.shared, place as usize)
     }
 
-    /// The words of a segment from a place on, as many of `n` as lie in the page of that place. So two words at an even
-    /// place are always both there.
-    #[tactic(auto, unfolding(crate::specs::Lists::word_at))]
-    pub fn words(&self, k: u8, place: u32, n: u32) -> &[u64]
+    /// The three words of a segment from an even place on. Where they lie in one page it is found once.
+    pub fn three_words(&self, k: u8, place: u32) -> (u64, u64, u64)
         requires segment { k < (table_of self.now).segments }
-        requires span { place + n ≤ (table_of self.now).reserved }
-        ensures length { length result.now ≡ min n (512 - place % 512) }
-        ensures words { (i : ℕ) → i < length result.now → slice_index result.now i
-            ≡ (table_of self.now).word k (place + i) }
+        requires span { place + 2 < (table_of self.now).reserved }
+        requires even { place % 2 ≡ 0 }
+        ensures first { result.0 ≡ (table_of self.now).word k place }
+        ensures second { result.1 ≡ (table_of self.now).word k (place + 1) }
+        ensures third { result.2 ≡ (table_of self.now).word k (place + 2) }
     {
-        self.sheets[k as usize].words(&self.shared, place as usize, n as usize)
+        self.sheets[k as usize].three_words(&self.shared, place as usize)
     }
 
     /// Whether a segment has a page of its own.

@@ -87,17 +87,35 @@ impl Sheet {
         }
     }
 
-    /// The words from a place on, over the shared words: as many of `n` as lie in the page of that place.
-    pub fn words<'a>(&'a self, shared: &'a [u64], place: usize, n: usize) -> &'a [u64]
-        requires { place + n ≤ length shared.now }
-        ensures length { length result.now ≡ min n (512 - place % 512) }
-        ensures words { (i : ℕ) → i < length result.now → word_at result.now i
-            ≡ word_over (sheet_in self.now) (word_at shared.now) (place + i) }
+    /// The two words from an even place on, over the shared words. Both lie in one page.
+    pub fn two_words(&self, shared: &[u64], place: usize) -> (u64, u64)
+        requires within { place + 1 < length shared.now }
+        requires even { place % 2 ≡ 0 }
+        ensures first { result.0 ≡ word_over (sheet_in self.now) (word_at shared.now) place }
+        ensures second { result.1 ≡ word_over (sheet_in self.now) (word_at shared.now) (place + 1) }
     {
-        let n = in_page(place, n);
         match self.page(place / 512) {
-            Some(page) => page.words(place % 512, n),
-            None => &shared[place..place + n],
+            Some(page) => (page.get(place % 512), page.get(place % 512 + 1)),
+            None => (shared[place], shared[place + 1]),
+        }
+    }
+
+    /// The three words from an even place on, over the shared words. They lie in one page, but for those at its end.
+    pub fn three_words(&self, shared: &[u64], place: usize) -> (u64, u64, u64)
+        requires within { place + 2 < length shared.now }
+        requires even { place % 2 ≡ 0 }
+        ensures first { result.0 ≡ word_over (sheet_in self.now) (word_at shared.now) place }
+        ensures second { result.1 ≡ word_over (sheet_in self.now) (word_at shared.now) (place + 1) }
+        ensures third { result.2 ≡ word_over (sheet_in self.now) (word_at shared.now) (place + 2) }
+    {
+        let i = place % 512;
+        if i == 510 {
+            let (first, second) = self.two_words(shared, place);
+            return (first, second, self.word(shared, place + 2));
+        }
+        match self.page(place / 512) {
+            Some(page) => (page.get(i), page.get(i + 1), page.get(i + 2)),
+            None => (shared[place], shared[place + 1], shared[place + 2]),
         }
     }
 

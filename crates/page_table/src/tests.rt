@@ -60,15 +60,20 @@ fn restore(rt: &impl Abort, pages: &mut Pages, k: u8, place: u32, n: u32) {
     pages.restore_words(k, place, n);
 }
 
-/// How many of `n` words from a place on lie together, and the last of them.
-fn run_of(rt: &impl Abort, pages: &Pages, k: u8, place: u32, n: u32) -> (usize, u64) {
+/// The two words of a segment from an even place on.
+fn two(rt: &impl Abort, pages: &Pages, k: u8, place: u32) -> (u64, u64) {
     assert!(rt; k < pages.segments());
-    assert!(rt; u64::from(place) + u64::from(n) <= pages.reserved());
-    let words = pages.words(k, place, n);
-    match words.last() {
-        Some(w) => (words.len(), *w),
-        None => (0, 0),
-    }
+    assert!(rt; u64::from(place) + 1 < pages.reserved());
+    assert!(rt; place % 2 == 0);
+    pages.two_words(k, place)
+}
+
+/// The three words of a segment from an even place on.
+fn three(rt: &impl Abort, pages: &Pages, k: u8, place: u32) -> (u64, u64, u64) {
+    assert!(rt; k < pages.segments());
+    assert!(rt; u64::from(place) + 2 < pages.reserved());
+    assert!(rt; place % 2 == 0);
+    pages.three_words(k, place)
 }
 
 /// What a call for an extent is refused with, as reserved, need and limit.
@@ -205,17 +210,19 @@ fn a_restore_takes_back_one_segment(rt: HostRuntime) -> Result<(), Fail> {
 }
 
 #[test]
-fn runs_end_with_their_page(rt: HostRuntime) -> Result<(), Fail> {
+fn words_are_read_across_pages(rt: HostRuntime) -> Result<(), Fail> {
     let mut pages = Pages::new(rt.alloc(), 2, 2)?;
     assert_eq!(rt; reserve(&rt, &mut pages, 9)?, 2);
-    set(&rt, &mut pages, 1, 511, 3)?;
-    for (k, last) in [(0, 0), (1, 3)] {
-        assert_eq!(rt; run_of(&rt, &pages, k, 508, 4), (4, last), "{k}");
-        assert_eq!(rt; run_of(&rt, &pages, k, 510, 4), (2, last), "{k}");
-        assert_eq!(rt; run_of(&rt, &pages, k, 512, 2), (2, 0), "{k}");
-    }
-    push(&rt, &mut pages, 1, 511, 1);
-    assert!(rt; pages.reserved() == 514);
-    assert_eq!(rt; pages.shared_words(510, 4), [0, 3, 0, 0].as_slice());
+    set(&rt, &mut pages, 1, 510, 3)?;
+    set(&rt, &mut pages, 1, 511, 4)?;
+    assert_eq!(rt; two(&rt, &pages, 1, 510), (3, 4));
+    assert_eq!(rt; two(&rt, &pages, 0, 510), (0, 0));
+    assert_eq!(rt; three(&rt, &pages, 1, 508), (0, 0, 3));
+    set(&rt, &mut pages, 0, 512, 5)?;
+    assert_eq!(rt; three(&rt, &pages, 0, 510), (0, 0, 5));
+    assert_eq!(rt; three(&rt, &pages, 1, 510), (3, 4, 0));
+    push(&rt, &mut pages, 0, 512, 1);
+    assert_eq!(rt; three(&rt, &pages, 1, 510), (3, 4, 5));
+    assert_eq!(rt; two(&rt, &pages, 1, 512), (5, 0));
     Ok(())
 }

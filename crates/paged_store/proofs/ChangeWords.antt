@@ -1,9 +1,9 @@
 -- Changes of a record in the words that it has.
-use Rattle.std.proofs.Common.{◌≡◌, ℕ, ◌+◌, ◌*◌, ◌<◌, ◌≤◌, Bool, true, false, List, [], ◌∷◌, ◌++◌, take, set, sym, ap, subst, ◌∙◌, arith}
+use Rattle.std.proofs.Common.{◌≡◌, ℕ, ◌+◌, ◌*◌, ◌<◌, ◌≤◌, Bool, true, false, List, [], ◌∷◌, ◌++◌, take, set, sym, ap, subst, ◌∙◌, arith, ◌%◌}
 use Rattle.std.specs.List.{remove}
 use Rattle.py_data.specs.declared.value.Value.{Value}
 use Rattle.py_data.specs.Heap.{Rec, has_bytes, with_value, cut_to, without_pair}
-use Rattle.paged_store.specs.Words.{Words, listed, value_of, value_in, payload_of, decode, kind_by, count_by, body_by, index_by, body_size, in_body}
+use Rattle.paged_store.specs.Words.{Words, listed, value_of, value_in, payload_of, decode, kind_by, count_by, body_by, index_by, body_size, in_body, size_of, class_in}
 use Rattle.paged_store.specs.inner.Formed.{Formed, Lays, FitsValue, words_for}
 use Rattle.paged_store.specs.inner.Moves.{never}
 use Rattle.paged_store.specs.inner.Written.{ValueAt, InPlace, KeepsFirst, SetsValue, PushesValue, PushesPair, Cuts, DropsPair, Changed}
@@ -55,6 +55,7 @@ formed_in_place w now a n k f l h c = record {
   first = rw h.first f.first;
   index = rw h.first f.index;
   holds = rw (h.first, c) (values_words (has_bytes (kind_by w a)) n (body_size w a) k l);
+  even = λ s. ap (λ z. z % 2) h.body ∙ f.even (subst (λ x. 0 < size_of (class_in x)) h.first s);
 }
 
 pub in_place : (own role w now : Words) (a n : ℕ) (vs : List Value) → Formed w a → Lays own role w a →

@@ -1,5 +1,5 @@
 -- A key is found in words as in a heap that has the records that they stand for.
-use Rattle.std.proofs.Common.{◌≡◌, ◌≢◌, ℕ, suc, ◌+◌, ◌-◌, ◌*◌, ◌/◌, ◌<◌, ◌≤◌, true, false, cond, eqb, List, [], ◌∷◌, length, Some, None, refl, sym, ap, ◌∙◌, subst, arith}
+use Rattle.std.proofs.Common.{◌%◌, ◌≡◌, ◌≢◌, ℕ, suc, ◌+◌, ◌-◌, ◌*◌, ◌/◌, ◌<◌, ◌≤◌, true, false, cond, eqb, List, [], ◌∷◌, length, Some, None, refl, sym, ap, ◌∙◌, subst, arith}
 use Rattle.py_data.specs.declared.value.Value.{Value}
 use Rattle.py_data.specs.declared.value.Value.TheVariants.{Ref}
 use Rattle.py_data.specs.Heap.{Heap, value_at}
@@ -15,7 +15,7 @@ use Rattle.paged_store.specs.declared.sight.Seen.{Seen}
 use Rattle.paged_store.specs.Words.{Words, value_of, decode, body_by, index_by, index_size}
 use Rattle.paged_store.specs.inner.Indexed.{class_by, index_words, home_by, pairs_by, IsIndexed}
 use Rattle.paged_store.specs.inner.Sight.{Stands, records_in, IsKeySeen, KeysSeen, IsKnown, KnowsKeys}
-use Rattle.paged_store.proofs.ReadLemmas.{value_within, value_there}
+use Rattle.paged_store.proofs.ReadLemmas.{value_within, value_even, value_there}
 
 -- ---- another heap
 
@@ -58,6 +58,10 @@ key_seen t seen values n x k h e = subst (IsKeySeen t seen) (sym e) (k.each n (o
 pub key_within : (w : Words) (reserved d b n : ℕ) → Stands w reserved d → b ≡ body_by w d →
     n < length (decode w d).values / 2 → b + 4 * n + 2 ≤ reserved
 key_within w reserved d b n r e h = omega (arith, e, value_within w reserved d (2 * n) r (omega (arith, h)))
+
+pub key_even : (w : Words) (reserved d b n : ℕ) → Stands w reserved d → b ≡ body_by w d →
+    n < length (decode w d).values / 2 → (b + 4 * n) % 2 ≡ 0
+key_even w reserved d b n r e h = omega (arith, e, value_even w reserved d (2 * n) r (omega (arith, h)))
 
 -- ---- the walk over the slots of an index
 

@@ -1,5 +1,5 @@
 -- What is said of a record depends on the words of its own places alone.
-use Rattle.std.proofs.Common.{◌≡◌, ℕ, suc, ◌+◌, ◌*◌, ◌<◌, true, cond, ltb, refl, sym, ◌∙◌, inl, inr, arith}
+use Rattle.std.proofs.Common.{ap, ◌≡◌, ℕ, suc, ◌+◌, ◌*◌, ◌<◌, true, cond, ltb, refl, sym, ◌∙◌, inl, inr, arith, ◌%◌, subst}
 use Rattle.std.proofs.lemmas.Bool.Decides.{leb_tells}
 use Rattle.paged_store.specs.Words.{Words, clipped, record_of, decode, size_of, class_in, count_by, body_by, index_by, body_size, body_words, in_head, in_body, in_index, in_record}
 use Rattle.paged_store.specs.inner.Formed.{Formed, Lays, AgreeOn}
@@ -41,6 +41,7 @@ formed_same w v a s f = record {
   first = rw s.first at f.first;
   index = rw s.first at f.index;
   holds = rw (s.first, s.count) at f.holds;
+  even = λ h. sym (ap (λ z. z % 2) s.body) ∙ f.even (subst (λ x. 0 < size_of (class_in x)) (sym s.first) h);
 }
 
 -- the same places, whatever the count

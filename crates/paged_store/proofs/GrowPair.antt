@@ -1,5 +1,5 @@
 -- A segment's Dict grows, on a store's fields in memory, and its pairs are entered in the new index.
-use Rattle.std.proofs.Common.{◌≡◌, ℕ, ◌+◌, ◌*◌, ◌<◌, ◌≤◌, true, [], ◌∷◌, ◌++◌, List, Some, slice_index_or, slice_set, refl, sym, ◌∙◌, ap, subst, arith, append_assoc}
+use Rattle.std.proofs.Common.{◌≡◌, ℕ, ◌+◌, ◌*◌, ◌<◌, ◌≤◌, true, [], ◌∷◌, ◌++◌, List, Some, slice_index_or, slice_set, refl, sym, ◌∙◌, ap, subst, arith, append_assoc, ◌%◌}
 use Rattle.std.proofs.Props.{props}
 use Rattle.std.proofs.Math.Logic.{∥∥₁_elim}
 use Rattle.py_data.specs.declared.change.Change.{Change}
@@ -26,7 +26,7 @@ use Rattle.paged_store.specs.inner.State.{Sound}
 use Rattle.paged_store.specs.inner.Paged.{Paged, state_of, extents_at, spare_at, paged_by}
 use Rattle.paged_store.specs.inner.Sight.{Stands, IsKeySeen}
 use Rattle.paged_store.specs.inner.Growing.{grown_class, grown_index, MayGrow, Grew}
-use Rattle.paged_store.specs.inner.Claiming.{RisesBy}
+use Rattle.paged_store.specs.inner.Claiming.{RisesBy, extent_for}
 use Rattle.paged_store.specs.inner.Indexed.{index_words, IsIndexed}
 use Rattle.paged_store.specs.inner.Indexing.{Avoids, KeyAvoids, CanIndex, Puts}
 use Rattle.paged_store.specs.inner.Writing.{Desk, desk, CanPut, next_index_size}
@@ -44,6 +44,7 @@ use Rattle.paged_store.proofs.StoreChanges.{words_of, there, stands, allowed, di
 use Rattle.paged_store.proofs.TakeCall.{Freed}
 use Rattle.paged_store.proofs.WriteCall.{Turns}
 use Rattle.paged_store.proofs.PeakLemmas.{total_of, used_in}
+use Rattle.paged_store.proofs.GrowTakes.{first_even}
 
 module _ (s : PagedStore) (k a : ℕ) (l : k < (paged_meaning s).segments)
     (held : holds ((paged_meaning s).part k) a ≡ true)
@@ -89,6 +90,11 @@ module _ (s : PagedStore) (k a : ℕ) (l : k < (paged_meaning s).segments)
   more : (table_of s.pages).reserved ≤ t.reserved
   more = let m = turns.more in omega (arith, m, reserved_is)
 
+  -- the body begins at an even place
+  even : z.body % 2 ≡ 0
+  even = first_even (grown_class w a) z.body _ (extent_for (grown_index w a) z.index)
+      (let b = grows.room in omega arith) z.takes.claims.lie
+
   -- what holds of any account by which the extents were nobody's
   abbrev Places : (Words → Words → Type 0) → Type 0
   Places P = (own role : Words) → Lays own role w a → ((q : ℕ) → 0 < e q → own q ≡ 0) → ((q : ℕ) → e q ≤ 1) → P own role
@@ -96,14 +102,14 @@ module _ (s : PagedStore) (k a : ℕ) (l : k < (paged_meaning s).segments)
   places : Places (λ own role. (index_by now a ≡ z.index) × (index_size now a ≡ next_index_size w a))
   places own role lays fresh once = (
     with_index w a z.body z.index own role (address s k a l held) (stands s k a l c can).formed lays
-        (dict_rooms s k a l key v can) grows.class fresh once vs grows.room,
+        (dict_rooms s k a l key v can) grows.class fresh once even vs grows.room,
     with_index_size w a z.body z.index own role (address s k a l held) (stands s k a l c can).formed lays
-        (dict_rooms s k a l key v can) grows.class fresh once vs grows.room,
+        (dict_rooms s k a l key v can) grows.class fresh once even vs grows.room,
   )
 
   grown_to : Places (λ own role. Changed own role w now a e (part w a z.body z.index) (with_pair key v (decode w a)))
   grown_to own role lays fresh once = pair_grown w a z.body z.index own role (address s k a l held)
-      (stands s k a l c can).formed lays (dict_rooms s k a l key v can) grows.class fresh once key v
+      (stands s k a l c can).formed lays (dict_rooms s k a l key v can) grows.class fresh once even key v
       (dict_full s k a l held key v can small) (dict_big s k a l held key v can small) grows.room fits_key fits
 
   -- ---- of any account of whose the places are
@@ -123,7 +129,7 @@ module _ (s : PagedStore) (k a : ℕ) (l : k < (paged_meaning s).segments)
 
     blank_at : (n : ℕ) → n < next_index_size w a → now (z.index + n) ≡ 0
     blank_at n = with_blank w a z.body z.index own role (address s k a l held) (stands s k a l c can).formed lays
-        (dict_rooms s k a l key v can) grows.class fresh freed.once vs n grows.room
+        (dict_rooms s k a l key v can) grows.class fresh freed.once even vs n grows.room
 
     changed : Changed own role w now a e (part w a z.body z.index) (with_pair key v (decode w a))
     changed = grown_to own role lays fresh freed.once

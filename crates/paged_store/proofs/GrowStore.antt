@@ -1,5 +1,5 @@
 -- A segment's record grows, on a store's fields in memory.
-use Rattle.std.proofs.Common.{◌≡◌, ◌≢◌, ◌⊎◌, ℕ, zero, suc, ◌+◌, ◌*◌, ◌^◌, ◌<◌, ◌≤◌, Bool, true, false, eqb, List, [], ◌∷◌, length, Option, Some, slice_index_or, slice_set, inl, inr, refl, sym, ◌∙◌, ap, subst, arith}
+use Rattle.std.proofs.Common.{◌≡◌, ◌≢◌, ◌⊎◌, ℕ, zero, suc, ◌+◌, ◌*◌, ◌^◌, ◌<◌, ◌≤◌, Bool, true, false, eqb, List, [], ◌∷◌, length, Option, Some, slice_index_or, slice_set, inl, inr, refl, sym, ◌∙◌, ap, subst, arith, ◌%◌}
 use Rattle.std.proofs.Props.{props}
 use Rattle.std.proofs.Math.Logic.{∥∥₁_elim}
 use Rattle.std.proofs.Math.Nat.{pow-succ'}
@@ -33,7 +33,7 @@ use Rattle.paged_store.specs.inner.State.{meaning_in, Sound}
 use Rattle.paged_store.specs.inner.Paged.{Paged, state_of, one_if, paged_by}
 use Rattle.paged_store.specs.inner.Written.{next_index}
 use Rattle.paged_store.specs.Stores.{paged_of, paged_meaning, peaks_of, Fills}
-use Rattle.paged_store.specs.inner.Claiming.{times, RisesBy, Denies}
+use Rattle.paged_store.specs.inner.Claiming.{times, RisesBy, Denies, extent_for}
 use Rattle.paged_store.specs.inner.Growing.{grown_class, grown_index, MayGrow, KeepsBody, Grew, Ungrown}
 use Rattle.paged_store.specs.inner.Writing.{Desk, desk, next_body_size}
 use Rattle.paged_store.proofs.OwnerLemmas.{place_own, body_place}
@@ -51,6 +51,7 @@ use Rattle.paged_store.proofs.StoreEnds.{table_segment}
 use Rattle.paged_store.proofs.GrowCall.{Filled, not_filled, ungrown_turns, grown_turns, ungrown_leaves, grown_leaves, GrowsTo, grows_then}
 use Rattle.paged_store.proofs.GrownWords.{with_index, with_index_size, push_grown}
 use Rattle.paged_store.proofs.StoreChanges.{words_of, seen_by_store, reserved_in, seen_by, there, stands, allowed, counted, bodied, list_rooms, dict_rooms, read, turn_stands}
+use Rattle.paged_store.proofs.GrowTakes.{first_even}
 
 -- ---- rooms
 
@@ -444,15 +445,18 @@ module _ (s : PagedStore) (k a : ℕ) (l : k < (paged_meaning s).segments)
       let body : ℕ = z.grew.body in
       let index : ℕ = z.grew.index in
       let w : Words = words_of s k in
+      let even : body % 2 ≡ 0 = first_even (grown_class w a) body _ (extent_for (grown_index w a) index)
+      (let b = m.room in omega arith) z.grew.takes.claims.lie in
       grew_stands (v ∷ []) c can z
       (grows_then (paged_of s) k a s.sound.fine (table_segment s k l) held (desk u d) most (v ∷ []) z
       (with_push v (decode w a))
       (λ own role lays fresh once. (
-        with_index w a body index own role (address s k a l held) f lays rooms m.class fresh once (v ∷ []) m.room,
-        with_index_size w a body index own role (address s k a l held) f lays rooms m.class fresh once (v ∷ []) m.room,
+        with_index w a body index own role (address s k a l held) f lays rooms m.class fresh once even (v ∷ []) m.room,
+        with_index_size w a body index own role (address s k a l held) f lays rooms m.class fresh once even (v ∷ [])
+            m.room,
       ))
       (λ own role lays fresh once.
-      push_grown w a body index own role (address s k a l held) f lays rooms m.class fresh once v
+      push_grown w a body index own role (address s k a l held) f lays rooms m.class fresh once even v
       (list_full s k a l held v can small) m.room fits))
       (list_gains s k a l held v can small)
       (list_renews (seen_by_store s k) w ((table_of u).word k) a (with_push v (decode w a)) (allowed s k a l c can).0.0)

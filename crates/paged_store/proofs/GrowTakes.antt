@@ -1,5 +1,5 @@
 -- The extents that a record takes when it grows, or is made.
-use Rattle.std.proofs.Common.{◌≡◌, ◌⊎◌, ℕ, zero, suc, ◌+◌, ◌*◌, ◌/◌, ◌^◌, ◌<◌, ◌≤◌, Bool, true, false, ◌||◌, ◌&&◌, eqb, ltb, List, [], ◌∷◌, ◌++◌, length, refl, sym, ◌∙◌, ap, subst, inl, inr, arith}
+use Rattle.std.proofs.Common.{◌≡◌, ◌⊎◌, ℕ, zero, suc, ◌+◌, ◌*◌, ◌/◌, ◌%◌, ◌^◌, ◌<◌, ◌≤◌, Bool, true, false, ◌||◌, ◌&&◌, eqb, ltb, List, [], ◌∷◌, ◌++◌, length, refl, sym, ◌∙◌, ap, subst, inl, inr, arith}
 use Rattle.std.proofs.lemmas.Bool.{or_left, or_right, cond-false, ltb-true, cases_lt, lt-leb}
 use Rattle.std.proofs.lemmas.Bool.Decides.{eqb_tells}
 use Rattle.std.proofs.lemmas.List.{append-nil}
@@ -10,6 +10,7 @@ use Rattle.py_data.specs.declared.value.Value.{Value}
 use Rattle.paged_store.specs.declared.extent.Extent.{Extent}
 use Rattle.paged_store.specs.Words.{Words, in_span, size_of, in_head, in_body}
 use Rattle.paged_store.specs.inner.Paged.{in_extents, extents_at, one_if, spare_at}
+use Rattle.paged_store.specs.inner.Ending.{ExtentsLie}
 use Rattle.paged_store.specs.inner.Claiming.{extent_for, newly, Claims, NoneLeft, Denies}
 use Rattle.paged_store.specs.inner.Taking.{Takes}
 use Rattle.paged_store.specs.inner.Growing.{grown_with, grown_class, grown_index, grown_extents, MayGrow, KeepsBody, CanGrow, Grew}
@@ -41,6 +42,29 @@ extent_times (suc c) place p = elim (eqb_tells (suc c) 0) [
   | inr e ↦ (let x = ap (λ xs. extents_at xs p)
       (cond-false (eqb (suc c) 0) [] (record { place = place; class = suc c } ∷ []) e.0) in
       let y = ap (λ n. one_if (in_span place n p)) (size_of_next c) in omega (arith, x, y))
+]
+
+-- ---- where extents begin
+
+-- one that was taken begins at an even place, and so does one behind it
+pub first_even : (c place end : ℕ) (xs : List Extent) → 0 < size_of c → ExtentsLie end (extent_for c place ++ xs) →
+    place % 2 ≡ 0
+first_even zero place end xs some lie = absurd (let z = size_of_zero in omega (arith, some, z))
+first_even (suc c) place end xs some lie = elim (eqb_tells (suc c) 0) [
+  | inl e ↦ absurd (let z : suc c ≡ 0 = e.1 in omega arith)
+  | inr e ↦ (let x : Extent = record { place = place; class = suc c } in
+      let one = cond-false (eqb (suc c) 0) [] (x ∷ []) e.0 in
+      (subst (λ ys. ExtentsLie end (ys ++ xs)) one lie 0 x (omega arith)).even)
+]
+
+pub next_even : (b head c place end : ℕ) (xs : List Extent) → 0 < size_of c →
+    ExtentsLie end (extent_for (suc b) head ++ extent_for c place ++ xs) → place % 2 ≡ 0
+next_even b head c place end xs some lie = elim (eqb_tells (suc b) 0) [
+  | inl e ↦ absurd (let z : suc b ≡ 0 = e.1 in omega arith)
+  | inr e ↦ (let x : Extent = record { place = head; class = suc b } in
+      let one = cond-false (eqb (suc b) 0) [] (x ∷ []) e.0 in
+      first_even c place end xs some (λ i y l.
+      subst (λ ys. ExtentsLie end (ys ++ extent_for c place ++ xs)) one lie (suc i) y (omega (arith, l))))
 ]
 
 -- ---- places that were nobody's

@@ -147,6 +147,7 @@ module _ (own role w now : Words) (a : ℕ) (e part : ℕ → ℕ) (f : Formed w
         (index_class_in (w (2 * a))) f.index);
     holds = values_words (has_bytes (kind_by now a)) (count_by now a) (body_size now a)
         (rw grown_kind (rooms_no_bytes (kind_by w a) k)) grown_holds;
+    even = λ s. g.even;
   }
 
   grown_room : room_in (class_in (now (2 * a))) ≡ doubled (room_in (class_in (w (2 * a))))

@@ -1,5 +1,5 @@
 -- The words of a record that has grown.
-use Rattle.std.proofs.Common.{◌≡◌, ◌≢◌, ◌⊎◌, ℕ, ◌+◌, ◌*◌, ◌<◌, ◌≤◌, Bool, true, false, cond, List, [], ◌∷◌, length, inl, inr, refl, sym, ◌∙◌, ap, subst, arith}
+use Rattle.std.proofs.Common.{◌≡◌, ◌≢◌, ◌⊎◌, ℕ, ◌+◌, ◌*◌, ◌<◌, ◌≤◌, Bool, true, false, cond, List, [], ◌∷◌, length, inl, inr, refl, sym, ◌∙◌, ap, subst, arith, ◌%◌}
 use Rattle.std.proofs.lemmas.Bool.{both_ways, cond-true, cond-false}
 use Rattle.std.proofs.lemmas.Bool.Decides.{nat_tests}
 use Rattle.py_data.specs.declared.value.Value.{Value}
@@ -101,7 +101,8 @@ module _ (w : Words) (a body index : ℕ) where
 
   module _ (own role : Words) (some : a ≢ 0) (f : Formed w a) (l : Lays own role w a)
       (k : has_rooms (kind_by w a) ≡ true)
-      (c : class_in (w (2 * a)) < 21) (fresh : (p : ℕ) → 0 < e p → own p ≡ 0) (once : (p : ℕ) → e p ≤ 1) where
+      (c : class_in (w (2 * a)) < 21) (fresh : (p : ℕ) → 0 < e p → own p ≡ 0) (once : (p : ℕ) → e p ≤ 1)
+      (even : body % 2 ≡ 0) where
     count_small : 2 * count_by w a ≤ size
     count_small = size_grows (class_in (w (2 * a))) (2 * count_by w a)
         (count_fits w a (rooms_no_bytes (kind_by w a) k) f)
@@ -168,7 +169,7 @@ module _ (w : Words) (a body index : ℕ) where
 
     grows : Grows w mid a
     grows = grow_puts w (put_word (2 * a + 3) index base) a body base_count
-        (λ j h. off_head (body + j) (on_body (body + j) (in_new j h))) base_words
+        (λ j h. off_head (body + j) (on_body (body + j) (in_new j h))) base_words even
 
     next : NextHead (w (2 * a))
     next = next_of w a f c

@@ -1,5 +1,5 @@
 -- The words of a record that is made.
-use Rattle.std.proofs.Common.{◌≡◌, ℕ, zero, suc, ◌+◌, ◌*◌, ◌/◌, ◌^◌, ◌<◌, ◌≤◌, Bool, true, false, cond, List, [], ◌∷◌, ◌++◌, length, inl, refl, sym, ◌∙◌, ap, subst, arith}
+use Rattle.std.proofs.Common.{◌≡◌, ℕ, zero, suc, ◌+◌, ◌*◌, ◌/◌, ◌^◌, ◌<◌, ◌≤◌, Bool, true, false, cond, List, [], ◌∷◌, ◌++◌, length, inl, refl, sym, ◌∙◌, ap, subst, arith, ◌%◌}
 use Rattle.std.proofs.lemmas.Bool.{both_ways, cond-true, cond-false}
 use Rattle.std.proofs.lemmas.Bool.Decides.{nat_tests}
 use Rattle.py_data.specs.declared.record.Record.{Record}
@@ -256,11 +256,12 @@ module _ (w : Words) (a body index : ℕ) (r : Record) where
           ∙ laid_on body ((length r.bytes + 7) / 8) j (packed r.bytes) base h
 
       pub made_changed : (own role : Words) → made_length r ≤ 2 ^ 20 → OneList r.kind r.values r.bytes → FitsRecord r
-          → Changed own role w now a e part (new_rec r.kind r.values r.bytes)
-      made_changed own role short one each = make_changed own role w now a e part r.kind r.values r.bytes short one
+          → (0 < size → body % 2 ≡ 0) → Changed own role w now a e part (new_rec r.kind r.values r.bytes)
+      made_changed own role short one each even = make_changed own role w now a e part r.kind r.values r.bytes short one
           each.values each.bytes (record {
             first = now_first;
             count = now_count;
             values = made_values_there one;
             bytes = made_bytes_there;
+            even = λ s. ap (λ z. z % 2) now_body ∙ even (subst (λ n. 0 < n) now_body_size s);
           }) (takes own)

@@ -1,5 +1,5 @@
 -- A segment makes a record, on a store's fields.
-use Rattle.std.proofs.Common.{◌≡◌, ◌≢◌, ◌⊎◌, ℕ, ◌+◌, ◌*◌, ◌<◌, ◌≤◌, ◌^◌, Bool, true, false, ◌||◌, cond, eqb, List, [], ◌∷◌, ◌++◌, length, take, drop, Some, inl, inr, refl, sym, ◌∙◌, ap, subst, arith, length-append, get_or}
+use Rattle.std.proofs.Common.{◌≡◌, ◌≢◌, ◌⊎◌, ℕ, ◌+◌, ◌*◌, ◌<◌, ◌≤◌, ◌^◌, Bool, true, false, ◌||◌, cond, eqb, List, [], ◌∷◌, ◌++◌, length, take, drop, Some, inl, inr, refl, sym, ◌∙◌, ap, subst, arith, length-append, get_or, ◌%◌}
 use Rattle.std.proofs.Props.{props}
 use Rattle.std.proofs.Math.Logic.{∥∥₁_elim, ∥∥₁_map}
 use Rattle.std.proofs.lemmas.Bool.{both_ways, or_left, or_parts, lt-ltb}
@@ -52,6 +52,8 @@ use Rattle.paged_store.proofs.TakeCall.{Freed, turned_then, may_extent, took, to
 use Rattle.paged_store.proofs.PutLemmas.{words_at, words_then}
 use Rattle.paged_store.proofs.MadeWords.{part, e_of, index_off, index_is, made_off, made_changed}
 use Rattle.paged_store.proofs.ReindexLemmas.{changed_again}
+use Rattle.paged_store.proofs.GrowTakes.{next_even}
+use Rattle.paged_store.specs.inner.Claiming.{extent_for}
 
 pub limit_of : (p : Paged) → (meaning_in (state_of p)).limit ≡ limit p.table
 unfolding meaning_in state_of
@@ -227,12 +229,17 @@ module _ (p : Paged) (k a : ℕ) (f : Fine p) (l : k < p.table.segments) (r : Re
       draft = ap (λ (d : Desk). d.draft) z.puts i;
     }
 
+    -- its body begins at an even place
+    body_even : 0 < size_of (body_class r) → z.body % 2 ≡ 0
+    body_even some = next_even 1 z.head (body_class r) z.body _ (extent_for (index_class r) z.index) some
+        z.takes.claims.lie
+
     -- the words stand for the record
     v_changed : ((q : ℕ) → e q ≤ 1) → (own role : Words) → made_length r ≤ 2 ^ 20
         → OneList r.kind r.values r.bytes → FitsRecord r
         → Changed own role w v a e (part w a z.body z.index r) (rec_of r)
     v_changed once own role short one each = changed_again own role w now v a e (part w a z.body z.index r) (rec_of r)
-        (made_changed w a z.body z.index r fits once own role short one each)
+        (made_changed w a z.body z.index r fits once own role short one each body_even)
         (λ q n. x.off q (sym (index_is w a z.body z.index r fits q) ∙ n) ∙ ap (λ (y : Words). y q) placed_is)
 
     -- ---- the fields

@@ -35,6 +35,8 @@ use Rattle.paged_store.proofs.PutLemmas.{can_still}
 use Rattle.paged_store.proofs.MakeTakes.{index_can}
 use Rattle.paged_store.proofs.MadeWords.{part, index_taken, now_body, now_body_size, now_index, now_index_size, made_blank, made_changed}
 use Rattle.paged_store.proofs.MakeCall.{taken_turns, freed, placed_is, placed_off}
+use Rattle.paged_store.proofs.GrowTakes.{next_even}
+use Rattle.paged_store.specs.inner.Claiming.{extent_for}
 
 -- what holds of keys, and of no value, holds of the values at even places
 pub pairs_each : (h : Heap) (P : Value → Type 0) → P Unset → ((v : Value) → IsKey h v → P v) → (vs : List Value)
@@ -164,7 +166,9 @@ module _ (p : Paged) (k a : ℕ) (f : Fine p) (l : k < p.table.segments) (r : Re
       (shape : IsShaped h (rec_of r)) (is_dict : r.kind ≡ Dict) where
     its : Changed never never w v a e (part w a z.body z.index r) (rec_of r)
     its = subst (λ y. Changed never never w y a e (part w a z.body z.index r) (rec_of r)) (sym is_now)
-        (made_changed w a z.body z.index r fits once never never short one each)
+        (made_changed w a z.body z.index r fits once never never short one each
+        (λ some. next_even 1 z.head (body_class r) z.body _ (extent_for (index_class r) z.index) some
+        z.takes.claims.lie))
 
     its_values : (decode v a).values ≡ r.values
     its_values = ap (λ (q : Rec). q.values) its.means

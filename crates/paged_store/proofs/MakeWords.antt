@@ -195,6 +195,7 @@ module _ (now : Words) (a : ℕ) (kind : Kind) (vs : List Value) (bs : List ℕ)
     first = rw (made_class_is, made_first_is) (omega arith);
     index = rw (made_kind_is, made_class_is, made_index_is) (made_index_fits kind (length_by kind vs bs));
     holds = rw made_kind_is made_fits;
+    even = m.even;
   }
 
   pub decode_made : decode now a ≡ new_rec kind vs bs

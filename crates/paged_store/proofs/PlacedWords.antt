@@ -1,5 +1,5 @@
 -- The words of a record that has grown, or that is new, are those that are asked of it.
-use Rattle.std.proofs.Common.{◌≡◌, ℕ, zero, suc, ◌+◌, ◌*◌, ◌/◌, ◌<◌, ◌≤◌, Bool, true, false, List, [], ◌∷◌, length, refl, sym, ap, subst, ◌∙◌, inl, inr, arith}
+use Rattle.std.proofs.Common.{◌≡◌, ℕ, zero, suc, ◌+◌, ◌*◌, ◌/◌, ◌<◌, ◌≤◌, Bool, true, false, List, [], ◌∷◌, length, refl, sym, ap, subst, ◌∙◌, inl, inr, arith, ◌%◌}
 use Rattle.std.proofs.lemmas.Bool.{cases_Bool}
 use Rattle.std.proofs.lemmas.Bool.Decides.{nat_tests}
 use Rattle.py_base.specs.declared.kind.Kind.{Kind}
@@ -87,14 +87,14 @@ module _ (w : Words) (a body index : ℕ) (small : 2 * count_by w a ≤ body_siz
       (s.body_off_index (body + j) (in_new j h))
       ∙ copied_word (body_by w a) body (2 * count_by w a) j w h
 
-  pub grown_grows : Grows w (grown_words w a body index) a
-  grown_grows = grow_puts w (put_word (2 * a + 3) index
+  pub grown_grows : body % 2 ≡ 0 → Grows w (grown_words w a body index) a
+  grown_grows even = grow_puts w (put_word (2 * a + 3) index
       (cleared index (next_index_size w a) (copied (body_by w a) body (2 * count_by w a) w))) a body
       (put_miss (2 * a + 3) (2 * a + 1) index
       (cleared index (next_index_size w a) (copied (body_by w a) body (2 * count_by w a) w)) (λ e. omega arith) ∙
       count_kept)
       (λ j h. s.body_off_head (body + j) (in_new j h))
-      word_copied
+      word_copied even
 
   pub grown_body : body_by (grown_words w a body index) a ≡ body
   grown_body = headed_body a (next_head (w (2 * a))) body index
@@ -238,8 +238,8 @@ module _ (w : Words) (a first n body index size blanks : ℕ) (vs : List Value) 
         }
 
     pub filled_makes : (kind : Kind) → OneList kind vs bs → first ≡ made_head kind (length_by kind vs bs) →
-        n ≡ length_by kind vs bs → Makes (filled_words w a first n body index blanks vs bs) a kind vs bs
-    filled_makes kind one ef en = record {
+        n ≡ length_by kind vs bs → body % 2 ≡ 0 → Makes (filled_words w a first n body index blanks vs bs) a kind vs bs
+    filled_makes kind one ef en even = record {
       first = headed_first a first body index
           (put_word (2 * a + 1) n (cleared index blanks
           (laid body ((length bs + 7) / 8) (packed bs) (put_values body vs w)))) ∙ ef;
@@ -253,6 +253,7 @@ module _ (w : Words) (a first n body index size blanks : ℕ) (vs : List Value) 
           subst P (sym filled_body) (value_there kind i one h));
       bytes = λ j h. ap (λ z. filled_words w a first n body index blanks vs bs (z + j)) filled_body ∙
           filled_word j (omega arith) ∙ laid_hit body ((length bs + 7) / 8) j (packed bs) (put_values body vs w) h;
+      even = λ s. ap (λ z. z % 2) filled_body ∙ even;
     }
 
 -- ---- a new record that is written on a desk

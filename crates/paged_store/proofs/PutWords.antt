@@ -1,5 +1,5 @@
 -- Words that are put one by one make the changes of a record.
-use Rattle.std.proofs.Common.{◌≡◌, ◌≢◌, ℕ, ◌+◌, ◌-◌, ◌*◌, ◌<◌, ◌≤◌, true, false, cond, refl, sym, ap, ◌∙◌, inl, inr, arith}
+use Rattle.std.proofs.Common.{◌≡◌, ◌≢◌, ℕ, ◌+◌, ◌-◌, ◌*◌, ◌<◌, ◌≤◌, true, false, cond, refl, sym, ap, ◌∙◌, inl, inr, arith, ◌%◌}
 use Rattle.std.proofs.lemmas.Bool.Decides.{eqb_tells, nat_tests}
 use Rattle.py_data.specs.declared.value.Value.{Value}
 use Rattle.paged_store.specs.Words.{Words, in_span, tag_of, payload_of, count_by, body_by, body_size, in_head, in_body}
@@ -177,9 +177,9 @@ module _ (own role w : Words) (a : ℕ) (l : Lays own role w a) where
 -- once the words are copied to the new place, the header is put
 pub grow_puts : (w u : Words) (a place : ℕ) → u (2 * a + 1) ≡ count_by w a →
     ((j : ℕ) → j < 2 * count_by w a → in_head a (place + j) ≡ false) →
-    ((j : ℕ) → j < 2 * count_by w a → u (place + j) ≡ w (body_by w a + j)) →
+    ((j : ℕ) → j < 2 * count_by w a → u (place + j) ≡ w (body_by w a + j)) → place % 2 ≡ 0 →
     Grows w (put_word (2 * a) (next_head (w (2 * a))) (put_word (2 * a + 2) place u)) a
-grow_puts w u a place count off words =
+grow_puts w u a place count off words even =
     let t : Words = put_word (2 * a + 2) place u in
     let x : ℕ = next_head (w (2 * a)) in
     let body : body_by (put_word (2 * a) x t) a ≡ place = put_miss (2 * a) (2 * a + 2) x t (λ e. omega arith) ∙
@@ -193,6 +193,7 @@ grow_puts w u a place count off words =
           put_miss (2 * a + 2) (place + j) place u (off_head a (place + j) (2 * a + 2) (off j h)
           (head_at a 2 (omega arith))) ∙
           words j h;
+      even = ap (λ z. z % 2) body ∙ even;
     }
 
 -- the words of the old body once they are copied

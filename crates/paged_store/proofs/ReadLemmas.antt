@@ -3,7 +3,8 @@ use Rattle.std.proofs.Common.{◌≡◌, ◌⊎◌, ℕ, zero, suc, ◌+◌, ◌
 use Rattle.std.specs.Int.{to_le_bytes}
 use Rattle.std.specs.List.{slice_range}
 use Rattle.std.proofs.Math.Seq.{take-add}
-use Rattle.std.proofs.lemmas.List.{ext_get_or, get_or-take, get_or-drop, length-take, length-take-le}
+use Rattle.std.proofs.lemmas.Bool.Decides.{leb_tells}
+use Rattle.std.proofs.lemmas.List.{ext_get_or, get_or_past, get_or-take, get_or-drop, length-take, length-take-le}
 use Rattle.std.proofs.lemmas.List.Edits.{get_or-between, length-between}
 use Rattle.std.proofs.lemmas.Slice.{take-put_mid}
 use borrow.Rule.Slice.PartMut.{put_mid}
@@ -58,6 +59,14 @@ value_within w reserved a i r h =
     let fits : 2 * count_by w a ≤ body_size w a = count_fits w a (has_values w a i h) r.formed in
     omega (arith, fits, r.body, value_counted w a i h)
 
+-- and begin at an even place
+pub value_even : (w : Words) (reserved a i : ℕ) → Stands w reserved a → i < length (decode w a).values →
+    body_by w a % 2 ≡ 0
+value_even w reserved a i r h =
+    let fits : 2 * count_by w a ≤ body_size w a = count_fits w a (has_values w a i h) r.formed in
+    let inside : i < count_by w a = value_counted w a i h in
+    r.formed.even (omega (arith, fits, inside))
+
 pub value_there : (w : Words) (reserved a b i : ℕ) → Stands w reserved a → i < length (decode w a).values →
     b ≡ body_by w a → value_of (w (b + 2 * i)) (w (b + 2 * i + 1)) ≡ value_at (decode w a).values i
 value_there w reserved a b i r h e =
@@ -66,6 +75,50 @@ value_there w reserved a b i r h e =
   where
     shift : body_by w a + (2 * i + 1) ≡ b + 2 * i + 1
     shift = omega (arith, e)
+
+-- ---- values that there may be none of
+
+pub no_text_of : (k : Kind) → (k ≡ Str → ⊥) → has_bytes k ≡ false
+no_text_of Str n = absurd (n refl)
+no_text_of Tuple n = refl
+no_text_of ListKind n = refl
+no_text_of Dict n = refl
+no_text_of Cell n = refl
+no_text_of Function n = refl
+no_text_of Class n = refl
+no_text_of Instance n = refl
+no_text_of Method n = refl
+no_text_of Iter n = refl
+no_text_of Range n = refl
+no_text_of Lock n = refl
+no_text_of Thread n = refl
+
+-- a Str has no values, and a record of another kind as many as it counts
+pub no_values_counted : (w : Words) (a : ℕ) (k : Kind) → k ≡ kind_by w a → k ≡ Str → 0 ≡ length (decode w a).values
+no_values_counted w a k e f = sym (ap (λ (xs : List Value). length xs) (no_values w a (ap has_bytes (sym e ∙ f))))
+
+pub values_counted : (w : Words) (a n : ℕ) (k : Kind) → k ≡ kind_by w a → (k ≡ Str → ⊥) → n ≡ count_by w a →
+    n ≡ length (decode w a).values
+values_counted w a n k e f is = is ∙ sym (values_length w a (ap has_bytes (sym e) ∙ no_text_of k f))
+
+-- the two words of a value stand within what is reserved, where there is such a value
+pub value_span : (w : Words) (reserved a b n i : ℕ) → Stands w reserved a → n ≡ length (decode w a).values →
+    b ≡ body_by w a → i < n → b + 2 * i + 2 ≤ reserved
+value_span w reserved a b n i r e f h = omega (arith, f, value_within w reserved a i r (omega (arith, h, e)))
+
+-- and they begin at an even place
+pub body_even : (w : Words) (reserved a b n i : ℕ) → Stands w reserved a → n ≡ length (decode w a).values →
+    b ≡ body_by w a → i < n → b % 2 ≡ 0
+body_even w reserved a b n i r e f h = ap (λ z. z % 2) f ∙ value_even w reserved a i r (omega (arith, h, e))
+
+-- the value at a place, by its two words where there is one, and Unset where there is none
+pub value_found : (w : Words) (reserved a b n i : ℕ) (v : Value) → Stands w reserved a →
+    n ≡ length (decode w a).values → b ≡ body_by w a → (i < n → v ≡ value_of (w (b + 2 * i)) (w (b + 2 * i + 1))) →
+    (n ≤ i → v ≡ Unset) → v ≡ value_at (decode w a).values i
+value_found w reserved a b n i v r e f there none = elim (leb_tells (suc i) n) [
+  | inl h ↦ there (omega (arith, h.1)) ∙ value_there w reserved a b i r (omega (arith, h.1, e)) f
+  | inr h ↦ none (omega (arith, h.1)) ∙ sym (get_or_past (decode w a).values i Unset (omega (arith, h.1, e)))
+]
 
 -- ---- rooms
 

@@ -1,9 +1,9 @@
 //! The store as the transactional core uses it.
 use crate::changes::has_room;
 use crate::find::find_key;
-use crate::sight::{Seen, copy_bytes, kind, len, rooms, val};
+use crate::sight::{Seen, copy_bytes, find_val, head, kind, len, rooms, val};
 use crate::store::PagedStore;
-use py_data::{Addr, Kind, NoMemory, Record, Value};
+use py_data::{Addr, Head, Kind, NoMemory, Record, Value};
 use seg_store::{SegStore, StoreFault};
 
 impl SegStore for PagedStore {
@@ -50,6 +50,14 @@ impl SegStore for PagedStore {
 
     fn val(&self, k: u8, a: Addr, i: usize) -> Value {
         val(&self.pages, Seen::Segment(k), a.0, i)
+    }
+
+    fn find_val(&self, k: u8, a: Addr, i: usize) -> Value {
+        find_val(&self.pages, Seen::Segment(k), a.0, i)
+    }
+
+    fn head(&self, k: u8, a: Addr) -> Head {
+        head(&self.pages, Seen::Segment(k), a.0)
     }
 
     fn rooms(&self, k: u8, a: Addr) -> (usize, usize) {

@@ -1,13 +1,15 @@
 //! Records as they are read in words: in those of the image, or in a segment's.
-ghost use Rattle.std.specs.Prelude.{◌≡◌, ℕ, ◌+◌, ◌-◌, ◌*◌, ◌%◌, ◌<◌, ◌≤◌, length, min, take, drop, slice_index};
+ghost use Rattle.std.specs.Prelude.{◌≡◌, ℕ, ◌+◌, ◌-◌, ◌*◌, ◌%◌, ◌<◌, ◌≤◌, length, take, drop, slice_index};
+ghost use Rattle.py_data.specs.declared.value.Value.TheVariants.{Unset};
 ghost use Rattle.py_data.specs.Heap.{length_of, value_at};
+ghost use Rattle.py_data.specs.Looking.{head_of};
 ghost use Rattle.page_table.specs.Lists.{table_of};
 ghost use Rattle.paged_store.specs.Words.{value_of, kind_by, class_in, index_class_in, first_in, count_by, body_by, room_in};
 ghost use Rattle.paged_store.specs.inner.Sight.{words_seen, record_seen, IsSeen, CanRead};
 
 use crate::value::{Header, value_at};
 use page_table::Pages;
-use py_data::{Kind, Value};
+use py_data::{Head, Kind, Value};
 
 /// Whose words are read: the image's, or those of the segment of that number.
 #[derive(Clone, Copy, Debug, Drop)]
@@ -28,34 +30,29 @@ pub fn word(pages: &Pages, seen: Seen, place: u32) -> u64
     }
 }
 
-/// The words from a place on: `n` of them, or as many as lie in the page of that place.
-pub fn words(pages: &Pages, seen: Seen, place: u32, n: u32) -> &[u64]
+/// The two words from an even place on, which lie in one page.
+fn two_words(pages: &Pages, seen: Seen, place: u32) -> (u64, u64)
     requires segment { IsSeen (table_of pages.now) seen }
-    requires span { place + n ≤ (table_of pages.now).reserved }
-    ensures some { min n (512 - place % 512) ≤ length result.now }
-    ensures most { length result.now ≤ n }
-    ensures words { (i : ℕ) → i < length result.now
-        → slice_index result.now i ≡ words_seen (table_of pages.now) seen (place + i) }
+    requires span { place + 1 < (table_of pages.now).reserved }
+    requires even { place % 2 ≡ 0 }
+    ensures first { result.0 ≡ words_seen (table_of pages.now) seen place }
+    ensures second { result.1 ≡ words_seen (table_of pages.now) seen (place + 1) }
 {
     match seen {
-        Seen::Image => pages.shared_words(place, n),
-        Seen::Segment(k) => pages.words(k, place, n),
+        Seen::Image => (pages.shared_word(place), pages.shared_word(place + 1)),
+        Seen::Segment(k) => pages.two_words(k, place),
     }
 }
 
-/// The value whose first word is at a place. Where the place is even both of its words lie in one page, and are found
-/// at once.
+/// The value whose first word is at an even place, as those of every body are.
 pub fn value(pages: &Pages, seen: Seen, place: u32) -> Value
     requires segment { IsSeen (table_of pages.now) seen }
     requires span { place + 2 ≤ (table_of pages.now).reserved }
+    requires even { place % 2 ≡ 0 }
     ensures { let w = words_seen (table_of pages.now) seen in result ≡ value_of (w place) (w (place + 1)) }
 {
-    pages.known();
-    let two = words(pages, seen, place, 2);
-    if two.len() == 2 {
-        return value_at(two[0], two[1]);
-    }
-    value_at(word(pages, seen, place), word(pages, seen, place + 1))
+    let (tag, payload) = two_words(pages, seen, place);
+    value_at(tag, payload)
 }
 
 /// What the first word of a record's header tells.
@@ -104,6 +101,81 @@ pub fn val(pages: &Pages, seen: Seen, a: u32, i: usize) -> Value
 {
     pages.known();
     value(pages, seen, (body(pages, seen, a) + 2 * i) as u32)
+}
+
+/// The first three words of a record's header: its kind and classes, its count, and where its body begins.
+fn head_words(pages: &Pages, seen: Seen, a: u32) -> (u64, u64, u64)
+    requires { CanRead (table_of pages.now) seen a }
+    ensures first { result.0 ≡ words_seen (table_of pages.now) seen (2 * a) }
+    ensures count { result.1 ≡ count_by (words_seen (table_of pages.now) seen) a }
+    ensures body { result.2 ≡ body_by (words_seen (table_of pages.now) seen) a }
+{
+    pages.known();
+    match seen {
+        Seen::Image => (
+            pages.shared_word(2 * a),
+            pages.shared_word(2 * a + 1),
+            pages.shared_word(2 * a + 2),
+        ),
+        Seen::Segment(k) => pages.three_words(k, 2 * a),
+    }
+}
+
+/// Its kind, how many values it has, of which a Str has none, and where its body begins, if it has one. The header is
+/// read once.
+fn outline(pages: &Pages, seen: Seen, a: u32) -> (Kind, usize, usize)
+    requires { CanRead (table_of pages.now) seen a }
+    ensures kind { result.0 ≡ (record_seen (table_of pages.now) seen a).kind }
+    ensures count { result.1 ≡ length (record_seen (table_of pages.now) seen a).values }
+    ensures body { result.2 ≡ body_by (words_seen (table_of pages.now) seen) a }
+{
+    let (first, count, body) = head_words(pages, seen, a);
+    let kind = Header::of(first).kind;
+    match kind {
+        Kind::Str => (kind, 0, body as usize),
+        _ => (kind, count as usize, body as usize),
+    }
+}
+
+/// The value at a place of a body that has `count`; Unset where it has none there.
+fn value_in(pages: &Pages, seen: Seen, body: usize, count: usize, i: usize) -> Value
+    requires segment { IsSeen (table_of pages.now) seen }
+    requires span { i < count → body + 2 * i + 2 ≤ (table_of pages.now).reserved }
+    requires even { i < count → body % 2 ≡ 0 }
+    ensures there { let w = words_seen (table_of pages.now) seen in
+        i < count → result ≡ value_of (w (body + 2 * i)) (w (body + 2 * i + 1)) }
+    ensures none { count ≤ i → result ≡ Unset }
+{
+    pages.known();
+    if i < count {
+        value(pages, seen, (body + 2 * i) as u32)
+    } else {
+        Value::Unset
+    }
+}
+
+/// Its value at a place, from 0; Unset where it has none there.
+pub fn find_val(pages: &Pages, seen: Seen, a: u32, i: usize) -> Value
+    requires { CanRead (table_of pages.now) seen a }
+    ensures { result ≡ value_at (record_seen (table_of pages.now) seen a).values i }
+{
+    let (_, count, body) = outline(pages, seen, a);
+    value_in(pages, seen, body, count, i)
+}
+
+/// Its kind, the count of its values and the first three.
+pub fn head(pages: &Pages, seen: Seen, a: u32) -> Head
+    requires { CanRead (table_of pages.now) seen a }
+    ensures { result ≡ head_of (record_seen (table_of pages.now) seen a) }
+{
+    let (kind, count, body) = outline(pages, seen, a);
+    Head {
+        kind,
+        count,
+        first: value_in(pages, seen, body, count, 0),
+        second: value_in(pages, seen, body, count, 1),
+        third: value_in(pages, seen, body, count, 2),
+    }
 }
 
 /// The values that a body of a class has room for.

@@ -1,12 +1,12 @@
 -- What a record's words are once it is written. What code and proofs say to each other: nothing public rests on it.
-use Rattle.std.specs.Prelude.{◌≡◌, ◌≢◌, ℕ, ◌+◌, ◌-◌, ◌*◌, ◌/◌, ◌<◌, ◌≤◌, true, false, cond, eqb, List, length}
+use Rattle.std.specs.Prelude.{◌≡◌, ◌≢◌, ℕ, ◌+◌, ◌-◌, ◌*◌, ◌/◌, ◌<◌, ◌≤◌, true, false, cond, eqb, List, length, ◌%◌}
 use Rattle.py_base.specs.declared.kind.Kind.{Kind}
 use Rattle.py_base.specs.declared.kind.Kind.TheVariants.{Dict}
 use Rattle.py_data.specs.declared.value.Value.{Value}
 use Rattle.py_data.specs.Heap.{Rec, has_bytes, has_rooms, room_of, length_by, value_at}
 use Rattle.seg_store.specs.Extents.{class_holding, class_of_room}
 use Rattle.dict_index.specs.Packed.{packed}
-use Rattle.paged_store.specs.Words.{Words, in_span, tag_of, payload_of, kind_in, class_in, index_class_in, first_in, head_word, decode, count_by, body_by, in_head, in_body, in_index}
+use Rattle.paged_store.specs.Words.{Words, in_span, tag_of, payload_of, kind_in, class_in, index_class_in, first_in, head_word, decode, count_by, body_by, in_head, in_body, in_index, body_size}
 use Rattle.paged_store.specs.inner.Formed.{Formed, Lays, words_for}
 
 -- another word at one place
@@ -105,6 +105,7 @@ pub record Grows (w now : Words) (a : ℕ) : Type 0 where
   pub first : now (2 * a) ≡ next_head (w (2 * a))
   pub count : count_by now a ≡ count_by w a
   pub words : (j : ℕ) → j < 2 * count_by w a → now (body_by now a + j) ≡ w (body_by w a + j)
+  pub even : body_by now a % 2 ≡ 0
 
 -- The extents of e are those of the body and the index that the record at a has, in places that were nobody's; no
 -- place of another record has another word, and none that was nobody's but theirs.
@@ -135,6 +136,7 @@ pub record Makes (now : Words) (a : ℕ) (kind : Kind) (vs : List Value) (bs : L
   pub count : count_by now a ≡ length_by kind vs bs
   pub values : (i : ℕ) → i < length vs → ValueAt now (body_by now a + 2 * i) (value_at vs i)
   pub bytes : (j : ℕ) → j < (length bs + 7) / 8 → now (body_by now a + j) ≡ packed bs j
+  pub even : 0 < body_size now a → body_by now a % 2 ≡ 0
 
 -- The extents of e are those of the record at a; no other place has another word.
 pub record TakesRecord (own w now : Words) (a : ℕ) (e part : ℕ → ℕ) : Type 0 where

@@ -4,7 +4,7 @@ use Rattle.dict_index.proofs.Circle.{slot_zero, next_within}
 use Rattle.dict_index.proofs.Walking.{walks_on}
 use Rattle.dict_index.proofs.Seeking.{none_passed}
 use Rattle.paged_store.specs.inner.Sight.{words_seen, record_seen}
-use Rattle.paged_store.proofs.FindLemmas.{find_known, key_there, key_seen, key_within, slot_word, pair_there, pair_compared, pair_found, key_nowhere}
+use Rattle.paged_store.proofs.FindLemmas.{find_known, key_there, key_seen, key_within, key_even, slot_word, pair_there, pair_compared, pair_found, key_nowhere}
 use Rattle.paged_store.proofs.find.find_key.Goals as goal
 
 pub slots-init : goal.slots-init
@@ -43,6 +43,11 @@ overflow_cast-body c = omega (
 
 pub value-requires-clause-span : goal.value-requires-clause-span
 value-requires-clause-span c = key_within _ _ c.args.d c.body-body.result _ c.requires.there.stands c.body-body.ensures
+    (pair_there _ c.args.d _ c.args.key c.requires.index c.slots-place.ensures.size c.slots-place.result.0 c.slots.at
+    c.word-word.result c.slots-place.ensures.place c.slots.invariant.within c.word-word.ensures c.if-word-eq0.false)
+
+pub value-requires-clause-even : goal.value-requires-clause-even
+value-requires-clause-even c = key_even _ _ c.args.d c.body-body.result _ c.requires.there.stands c.body-body.ensures
     (pair_there _ c.args.d _ c.args.key c.requires.index c.slots-place.ensures.size c.slots-place.result.0 c.slots.at
     c.word-word.result c.slots-place.ensures.place c.slots.invariant.within c.word-word.ensures c.if-word-eq0.false)
 

@@ -1,6 +1,6 @@
 use Rattle.std.proofs.Common.{◌+◌, ◌*◌, ◌≤◌, ◌∙◌, arith}
 use Rattle.page_table.specs.Lists.{table_of}
-use Rattle.paged_store.proofs.ReadLemmas.{value_within, value_there}
+use Rattle.paged_store.proofs.ReadLemmas.{value_within, value_even, value_there}
 use Rattle.paged_store.proofs.sight.val.Goals as goal
 
 within : (c : goal.After-body) → c.body.result + 2 * c.args.i + 2 ≤ (table_of c.args.pages.now).reserved
@@ -17,6 +17,13 @@ overflow_add-body c = omega (arith, within c)
 
 pub value-requires-clause-span : goal.value-requires-clause-span
 value-requires-clause-span c = within c
+
+pub value-requires-clause-even : goal.value-requires-clause-even
+value-requires-clause-even c = omega (
+  arith,
+  c.body.ensures,
+  value_even _ _ c.args.a c.args.i c.requires.there.stands c.requires.place,
+)
 
 pub returns : goal.returns
 returns c = c.value.ensures ∙
