@@ -2,13 +2,15 @@
 use Rattle.std.proofs.Common.{◌≡◌, ℕ, List, [], length, take, Option, Some, None, refl, sym, ◌∙◌, ap, subst, append-nil}
 use Rattle.py_data.specs.declared.stop.Side.{Side}
 use Rattle.py_data.specs.declared.stop.Stop.{Stop}
-use Rattle.py_data.specs.declared.stop.Stop.TheVariants.{Lost, NeedSolo, NeedHeap, Full, ReadFault, WriteFault, ErrFault, OutOfMemory}
+use Rattle.py_data.specs.declared.stop.Stop.TheVariants.{NeedSolo, ReadFault, WriteFault, ErrFault}
 use Rattle.py_data.specs.declared.stop.Out.TheVariants.{Output, ErrorOutput}
 use Rattle.py_data.specs.Heap.{Heap}
 use Rattle.py_data.specs.World.{World, ends_after, wrote, took, grown, shrunk}
 use Rattle.py_data.specs.Row.{Call, Reply, Row, Ret, Do, Read, Find, Edit, Make, Start, Put, Take, MidLine, SetMidLine}
 use Rattle.lock_run.specs.Cut.{PartOf}
 use Rattle.lock_run.proofs.Following.{grown_then}
+use Rattle.stm_core.specs.declared.halt.Halt.{Halt}
+use Rattle.stm_core.specs.declared.halt.Halt.TheVariants as halt
 use Rattle.stm_core.specs.Devices.{DeviceState, Tells, ShowsWorld}
 use Rattle.stm_core.specs.inner.Hold.{Hold, SegWhy}
 use Rattle.stm_core.specs.inner.Outer.{WriteRefused, ErrRefused, TakeRefused, OuterRefuses}
@@ -114,19 +116,18 @@ part_none (Do (Make x) f) w = refl
 part_none (Do (Start x) f) w = refl
 
 -- a fault of a device is one of the call that was refused
-pub fault_of : {S A : Type 0} (k : ℕ) (me : Side) (s : Stop) (c : Call S) (f : Reply c → Row S A) (h : Heap)
+pub fault_of : {S A : Type 0} (k : ℕ) (me : Side) (s : Halt) (c : Call S) (f : Reply c → Row S A) (h : Heap)
     (d : Hold S) → SegWhy k me s c h d → StopOf s (Do c f)
-fault_of k me ReadFault (Take most) f h d w = tt
-fault_of k me ReadFault _ f h d w = absurd w.1
-fault_of k me WriteFault (Put Output bytes) f h d w = tt
-fault_of k me WriteFault _ f h d w = absurd w.1
-fault_of k me ErrFault (Put ErrorOutput bytes) f h d w = tt
-fault_of k me ErrFault _ f h d w = absurd w.1
-fault_of k me (Lost c) q f h d w = tt
-fault_of k me NeedSolo c f h d w = tt
-fault_of k me NeedHeap c f h d w = tt
-fault_of k me (Full i l j) c f h d w = tt
-fault_of k me OutOfMemory c f h d w = tt
+fault_of k me halt.ReadFault (Take most) f h d w = tt
+fault_of k me halt.ReadFault _ f h d w = absurd w.1
+fault_of k me halt.WriteFault (Put Output bytes) f h d w = tt
+fault_of k me halt.WriteFault _ f h d w = absurd w.1
+fault_of k me halt.ErrFault (Put ErrorOutput bytes) f h d w = tt
+fault_of k me halt.ErrFault _ f h d w = absurd w.1
+fault_of k me (halt.Lost c) q f h d w = tt
+fault_of k me halt.NeedSolo c f h d w = tt
+fault_of k me (halt.Full i l j) c f h d w = tt
+fault_of k me halt.OutOfMemory c f h d w = tt
 
 -- From the world w on, the devices were told this, which is a part of the row's next call.
 pub record Told {S A : Type 0} (t e : Option (List ℕ)) (row : Row S A) (w : World) (q : DeviceState) : Type 0 where

@@ -1,4 +1,5 @@
-use Rattle.std.proofs.Common.{Some, refl, arith}
+use Rattle.std.proofs.Common.{refl, arith}
+use Rattle.stm_core.specs.inner.Halts.{gave}
 use Rattle.stm_core.proofs.Seeing.{refused_alone}
 use Rattle.stm_core.proofs.segment.SegView.fail.Goals as goal
 
@@ -7,5 +8,5 @@ returns-clause-refuses g c = λ q why.
     let v = c.args.self.now in
     refused_alone v.segment v.side q (g.S.SegStore.meaning v.store.now) (g.S.SegStore.meaning v.store.now)
     (g.S.SegStore.reserved v.store.now) (g.S.SegStore.reserved v.store.now) v.books.now v.books.now v.progress.now
-    v.progress.now v.stopped (Some c.args.stop) c.args.stop
+    v.progress.now v.stopped (gave c.args.halt) c.args.halt
     refl (omega arith) refl refl refl why
