@@ -19,25 +19,25 @@ pub halt_given : (e : Stop) (h : Halt) → e ≡ stop_of h → halt_for e h ≡ 
 halt_given e h w = ap (λ z. halt_for z h) w ∙ given_again h
 
 -- what a step answers, with why it was cut
-pub if_ok_halted : {T : Type 0} {P : T → Type 0} (r : Result T Stop) (q : Result T Halt) (h : Halt) → q ≡ halted r h →
+pub if_ok_halted : {T : Type 0} (P : T → Type 0) (r : Result T Stop) (q : Result T Halt) (h : Halt) → q ≡ halted r h →
     IfOk r P → IfOk q P
-if_ok_halted {T} {P} r q h e k = subst (λ z. IfOk z P) (sym e) (go r k)
+if_ok_halted {T} P r q h e k = subst (λ z. IfOk z P) (sym e) (go r k)
   where
     go : (s : Result T Stop) → IfOk s P → IfOk (halted s h) P
     go (Ok a) k = k
     go (Err a) k = tt
 
-pub if_err_halted : {T : Type 0} {P : Halt → Type 0} (r : Result T Stop) (q : Result T Halt) (h : Halt) →
+pub if_err_halted : {T : Type 0} (P : Halt → Type 0) (r : Result T Stop) (q : Result T Halt) (h : Halt) →
     q ≡ halted r h → IfErr r (λ e. P (halt_for e h)) → IfErr q P
-if_err_halted {T} {P} r q h e k = subst (λ z. IfErr z P) (sym e) (go r k)
+if_err_halted {T} P r q h e k = subst (λ z. IfErr z P) (sym e) (go r k)
   where
     go : (s : Result T Stop) → IfErr s (λ e. P (halt_for e h)) → IfErr (halted s h) P
     go (Ok a) k = tt
     go (Err a) k = k
 
-pub on_err_halted : {T P : Type 0} (r : Result T Stop) (q : Result T Halt) (h : Halt) → q ≡ halted r h → OnErr r P →
+pub on_err_halted : {T : Type 0} (P : Type 0) (r : Result T Stop) (q : Result T Halt) (h : Halt) → q ≡ halted r h → OnErr r P →
     OnErr q P
-on_err_halted {T} {P} r q h e k = subst (λ z. OnErr z P) (sym e) (go r k)
+on_err_halted {T} P r q h e k = subst (λ z. OnErr z P) (sym e) (go r k)
   where
     go : (s : Result T Stop) → OnErr s P → OnErr (halted s h) P
     go (Ok a) k = tt

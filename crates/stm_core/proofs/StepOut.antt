@@ -365,9 +365,6 @@ module _ {S X : Type 0} (hold : X → Hold S) (devices : X → DeviceState) (seg
           abbrev pub halt : Halt
           halt = halt_for stop (hold u).last.halt
 
-          halt_same : halt_for stop (hold u1).last.halt ≡ halt
-          halt_same = ap (λ (z : Hold S). halt_for stop z.last.halt) (sym un)
-
           cut : Stops t e k s (prog.row x.state) (world_of w x.solo) x.solo (hold v1)
               (halt_for stop (hold u1).last.halt) (hold u1) (devices u1)
           cut = row_stopped hold devices segment me same same_refl same_then t e k s (prog.row x.state) v1 stop u1
@@ -380,6 +377,9 @@ module _ {S X : Type 0} (hold : X → Hold S) (devices : X → DeviceState) (seg
 
           un : SegUndoes k (hold u1) (hold u)
           un = subst (λ i. SegUndoes i (hold u1) (hold u)) at_end undoes.0
+
+          halt_same : halt_for stop (hold u1).last.halt ≡ halt
+          halt_same = ap (λ (z : Hold S). halt_for stop z.last.halt) (sym un)
 
           part_ends : m1.part k ≡ undone ((hold u1).meaning.part k)
           part_ends = ap (λ (z : Hold S). z.meaning.part k) un ∙

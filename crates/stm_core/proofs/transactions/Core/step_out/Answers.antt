@@ -74,7 +74,7 @@ cut_seg g row = seg_cut (hold g) (devices g) (segment g) (me g) (same g) (peaks 
 
 -- ---- what was lent comes back
 
-same_then_view : (g : given.Over) (c : goal.After-step-answer g) → same g c.new-view.result c.step-answer.new.v
+same_then_view : (g : given.Over) (c : goal.After-halted-result g) → same g c.new-view.result c.step-answer.new.v
 same_then_view g c =
     (step_keeps (hold g) (devices g) (segment g) (me g) (same g) (same_refl g) (same_then g) _ _ _ c.new-view.result _
     _ c.step-answer.result c.step-answer.new.s c.step-answer.new.v refl refl refl refl
@@ -140,16 +140,19 @@ pub returns-clause-alone : goal.returns-clause-alone
 returns-clause-alone g c = λ mortal. (kept g c).leaves.alone (ap (λ z. z.solo) c.side-side.ensures ∙ mortal)
 
 pub returns-clause-flag : goal.returns-clause-flag
-returns-clause-flag g c = (kept g c).flag
+returns-clause-flag g c =
+    on_err_halted _ c.step-answer.result c.halted-result.result _ c.halted-result.ensures (kept g c).flag
 
 pub returns-clause-rose : goal.returns-clause-rose
-returns-clause-rose g c = (kept g c).rose
+returns-clause-rose g c =
+    if_err_halted _ c.step-answer.result c.halted-result.result _ c.halted-result.ensures (kept g c).rose
 
 -- ---- how it ends
 
 pub returns-clause-life : goal.returns-clause-life
 returns-clause-life g c =
-    IfOk-weaker c.step-answer.result _ _
+    if_ok_halted _ c.step-answer.result c.halted-result.result _ c.halted-result.ensures
+    (IfOk-weaker c.step-answer.result _ _
     (λ o h. step_lives (hold g) (devices g) (segment g) (me g) (same g) (same_refl g) (same_then g)
     (g.C.Client.prog c.args.self.now.client.now) c.args.k c.side-side.result c.args.work.now.state
     c.step-answer.new.s c.new-view.result o c.step-answer.new.v c.new-view.ensures.stays.0
@@ -157,11 +160,12 @@ returns-clause-life g c =
     (g.met.C.Client.asks_to_print c.args.self.now.client.now c.args.work.now.state)
     (g.met.C.Client.outcomes c.args.self.now.client.now) h)
     (done_seg g _ c.step-answer.result c.new-view.result c.step-answer.new.s c.step-answer.new.v
-    c.step-answer.ensures.ok)
+    c.step-answer.ensures.ok))
 
 pub returns-clause-done : goal.returns-clause-done
 returns-clause-done g c =
-    IfOk-weaker c.step-answer.result _ _
+    if_ok_halted _ c.step-answer.result c.halted-result.result _ c.halted-result.ensures
+    (IfOk-weaker c.step-answer.result _ _
     (λ o h t e w shown. step_done (hold g) (devices g) (segment g) (me g) (same g) (same_refl g) (same_then g) t e
     (g.C.Client.prog c.args.self.now.client.now) w c.args.k (g.S.SegStore.meaning c.args.self.now.store)
     (g.S.SegStore.reserved c.args.self.now.store) c.args.self.now.books c.args.work.now
@@ -172,11 +176,12 @@ returns-clause-done g c =
     (g.met.C.Client.asks_to_print c.args.self.now.client.now c.args.work.now.state) shown o
     (g.met.C.Client.waits_quietly c.args.self.now.client.now) h.2)
     (done_seg g _ c.step-answer.result c.new-view.result c.step-answer.new.s c.step-answer.new.v
-    c.step-answer.ensures.ok)
+    c.step-answer.ensures.ok))
 
 pub returns-clause-cut : goal.returns-clause-cut
 returns-clause-cut g c =
-    if_err_on c.step-answer.result (λ stop h state t e w shown.
+    if_err_halted _ c.step-answer.result c.halted-result.result _ c.halted-result.ensures
+    (if_err_on c.step-answer.result (λ stop h state t e w shown.
     step_cut (hold g) (devices g) (segment g) (me g) (same g) (same_refl g) (same_then g) t e
     (g.C.Client.prog c.args.self.now.client.now) w c.args.k (g.S.SegStore.meaning c.args.self.now.store)
     (g.S.SegStore.reserved c.args.self.now.store) c.args.self.now.books c.args.work.now
@@ -186,11 +191,12 @@ returns-clause-cut g c =
     c.requires.fit (fits g c) c.known.ensures.store c.requires.lives
     (g.met.C.Client.asks_to_print c.args.self.now.client.now c.args.work.now.state) shown stop state h.1 h.3 h.4)
     (cut_seg g _ c.step-answer.result c.new-view.result c.step-answer.new.v c.step-answer.ensures.err)
-    c.step-answer.ensures.state
+    c.step-answer.ensures.state)
 
 pub returns-clause-broke : goal.returns-clause-broke
 returns-clause-broke g c =
-    if_err_on c.step-answer.result (λ stop h state solo t e w shows.
+    if_err_halted _ c.step-answer.result c.halted-result.result _ c.halted-result.ensures
+    (if_err_on c.step-answer.result (λ stop h state solo t e w shows.
     step_broke (hold g) (devices g) (segment g) (me g) (same g) (same_refl g) (same_then g) t e
     (g.C.Client.prog c.args.self.now.client.now) w c.args.k (g.S.SegStore.meaning c.args.self.now.store)
     (g.S.SegStore.reserved c.args.self.now.store) c.args.self.now.books c.args.work.now
@@ -201,7 +207,7 @@ returns-clause-broke g c =
     (g.met.C.Client.asks_to_print c.args.self.now.client.now c.args.work.now.state) (λ y. shows) stop state h.1 h.3
     h.4 solo)
     (cut_seg g _ c.step-answer.result c.new-view.result c.step-answer.new.v c.step-answer.ensures.err)
-    c.step-answer.ensures.state
+    c.step-answer.ensures.state)
 
 -- ---- how far the peaks rise
 
