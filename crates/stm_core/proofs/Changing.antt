@@ -157,7 +157,8 @@ fault_why k me a c m h r b p o (FullStore u n l) w = w
 fault_why k me a c m h r b p o NoMemoryLeft w = tt
 
 -- the store refused the change of a record that was held
-pub change_refused : {S : Type 0} (k : ℕ) (me : Side) (a : ℕ) (c : Change) (d e e2 : Hold S) (x : StoreFault) → Holds k me a d e → e2.meaning ≡ e.meaning → e.reserved ≤ e2.reserved → e2.books ≡ e.books →
+pub change_refused : {S : Type 0} (k : ℕ) (me : Side) (a : ℕ) (c : Change) (d e e2 : Hold S) (x : StoreFault) →
+    Holds k me a d e → e2.meaning ≡ e.meaning → e.reserved ≤ e2.reserved → e2.books ≡ e.books →
     e2.progress ≡ e.progress
     → e2.last ≡ gave (halt_of x) → FaultWhy (ChangeWants c (sees e.meaning k) a) e2.reserved e.meaning.limit x
     → SegRefuses k me (Edit a c) d e2.last.halt e2

@@ -35,8 +35,8 @@ if_err_halted {T} P r q h e k = subst (λ z. IfErr z P) (sym e) (go r k)
     go (Ok a) k = tt
     go (Err a) k = k
 
-pub on_err_halted : {T : Type 0} (P : Type 0) (r : Result T Stop) (q : Result T Halt) (h : Halt) → q ≡ halted r h → OnErr r P →
-    OnErr q P
+pub on_err_halted : {T : Type 0} (P : Type 0) (r : Result T Stop) (q : Result T Halt) (h : Halt) →
+    q ≡ halted r h → OnErr r P → OnErr q P
 on_err_halted {T} P r q h e k = subst (λ z. OnErr z P) (sym e) (go r k)
   where
     go : (s : Result T Stop) → OnErr s P → OnErr (halted s h) P

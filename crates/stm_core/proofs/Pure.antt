@@ -39,7 +39,8 @@ module _ {S : Type 0} (p : Prog S) (w : Worlds) (k : ℕ) (m : Meaning) (r : ℕ
   abbrev held : Hold S
   held = holding m r b x.progress gave_none
 
-  begins : at_used (world_of w x.solo) x.solo (sight k held) ≡ sight_of m.image w.committed (transaction w.own (m.part k) x)
+  begins : at_used (world_of w x.solo) x.solo (sight k held) ≡
+      sight_of m.image w.committed (transaction w.own (m.part k) x)
   begins = sight_is w k m x held fit.own_names refl refl refl refl refl
 
   -- what the step begins with, and ends with
@@ -53,8 +54,8 @@ module _ {S : Type 0} (p : Prog S) (w : Worlds) (k : ℕ) (m : Meaning) (r : ℕ
   pure_done = record {
     dooms = [];
     others = refl;
-    goes = λ n. advances p w w.own k m m r x (stepped (record x { state = q })) held held Done (world_of w x.solo) x.solo
-        lives n does begins refl refl refl fit.own_names store (fit.locked k) refl refl refl refl
+    goes = λ n. advances p w w.own k m m r x (stepped (record x { state = q })) held held Done (world_of w x.solo)
+        x.solo lives n does begins refl refl refl fit.own_names store (fit.locked k) refl refl refl refl
         (λ y. sym (cond-true x.solo w.own w.committed y)) (λ y. y);
     waits = λ n. absurd (done_not_waits n);
     mortal = λ y. refl;

@@ -1,5 +1,5 @@
 -- One step of a client over a segment's view, as the core sees it.
-use Rattle.std.proofs.Common.{◌≡◌, ℕ, ◌+◌, ◌/◌, ◌≤◌, true, false, cond, List, [], ◌∷◌, length, take, Option, None, refl, sym, ◌∙◌, ap, subst, inl, inr, arith, Result, Ok, Err, IfOk, IfErr, OnErr, All}
+use Rattle.std.proofs.Common.{◌≡◌, ℕ, ◌+◌, ◌/◌, ◌≤◌, true, false, cond, List, [], ◌∷◌, length, take, Option, refl, sym, ◌∙◌, ap, subst, inl, inr, arith, Result, Ok, Err, IfOk, IfErr, OnErr, All}
 use Rattle.std.proofs.lemmas.Bool.{cases_Bool, both_ways, or_left, cond-true, cond-false}
 use Rattle.std.proofs.lemmas.List.{take_all}
 use Rattle.py_data.specs.declared.value.Addr.{Addr}
@@ -200,7 +200,10 @@ module _ {S X : Type 0} (hold : X → Hold S) (devices : X → DeviceState) (seg
             let z : ShowsWorld t e (devices v1) w.own =
             subst (λ (d : DeviceState). ShowsWorld t e d w.own)
             (sym (opens.1 ∙ ap (λ (d : DeviceState). record d { was_mid = d.mid }) pv))
-            (record { tells = record { input = y.tells.input; ends = y.tells.ends; out = y.tells.out; err = y.tells.err }; mid = y.mid }) in
+            (record {
+              tells = record { input = y.tells.input; ends = y.tells.ends; out = y.tells.out; err = y.tells.err };
+              mid = y.mid;
+            }) in
             subst (ShowsWorld t e (devices v1)) (sym (cond-true x.solo w.own w.committed solo)) z
 
         -- the core's state once the step was opened

@@ -3,7 +3,6 @@ use Rattle.std.proofs.Common.{◌≡◌, ℕ, Bool, true, false, cond, List, Opt
 use Rattle.std.proofs.lemmas.Bool.{both_ways, or_cases, or_left, or_right}
 use Rattle.py_data.specs.declared.stop.Side.{Side}
 use Rattle.py_data.specs.declared.stop.Stop.{Stop}
-use Rattle.py_data.specs.declared.stop.Stop.TheVariants as word
 use Rattle.py_data.specs.declared.stop.Out.{Out}
 use Rattle.py_data.specs.declared.stop.Out.TheVariants.{Output, ErrorOutput}
 use Rattle.py_data.specs.Heap.{Heap}
@@ -202,8 +201,8 @@ module _ {S X : Type 0} (hold : X → Hold S) (devices : X → DeviceState) (seg
       let a = stopped_at (seg_sense hold devices segment me same) row v stop x h in
       let y = way hold devices segment me same t e k s row v a.left a.place w u ek es shown asks a.upto in
       elim a.why [
-        | inl z ↦ subst (λ (q : X). Stops t e k s row w u (hold v) (halt_for stop (hold q).last.halt) (hold q) (devices q))
-            (sym z.1) (stops_none t e k s row w u (hold v) a.left (hold a.place) (devices a.place) y
+        | inl z ↦ subst (λ (q : X). Stops t e k s row w u (hold v) (halt_for stop (hold q).last.halt) (hold q)
+            (devices q)) (sym z.1) (stops_none t e k s row w u (hold v) a.left (hold a.place) (devices a.place) y
             (halt_for stop (hold a.place).last.halt) (ap (λ e. halt_for e (hold a.place).last.halt) z.0))
         | inr z ↦
             let b = upto_keeps hold devices segment me same same_refl same_then k s row v a.left a.place a.upto ek es in

@@ -143,7 +143,8 @@ told_none t e row w p q h a n b c = record { told = w; tells = tells_same t e p 
 told_same : {S A : Type 0} (t e : Option (List ℕ)) (row : Row S A) (w : World) (p q : DeviceState) → Tells t e p w →
     q ≡ p → Told t e row w q
 told_same t e row w p q h same = told_none t e row w p q h (ap (λ (z : DeviceState). z.input) same)
-    (ap (λ (z : DeviceState). z.ends) same) (ap (λ (z : DeviceState). z.out) same) (ap (λ (z : DeviceState). z.err) same)
+    (ap (λ (z : DeviceState). z.ends) same) (ap (λ (z : DeviceState). z.out) same)
+    (ap (λ (z : DeviceState). z.err) same)
 
 write_told : {S A : Type 0} (t e : Option (List ℕ)) (bytes : List ℕ) (f : Unit {0} → Row S A) (w : World) (s : Stop)
     (me : Side) (p q : DeviceState) → ShowsWorld t e p w → WriteRefused s me bytes p q →
@@ -157,7 +158,8 @@ write_told t e bytes f w WriteFault me p q h r = let n = r.1.0 in
           (n, refl);
     }
 write_told t e bytes f w _ me p q h r = told_none t e (Do (Put Output bytes) f) w p q h.tells
-    (ap (λ (z : DeviceState). z.input) r.1) (ap (λ (z : DeviceState). z.ends) r.1) (ap (λ (z : DeviceState). z.out) r.1) (ap (λ (z : DeviceState). z.err) r.1)
+    (ap (λ (z : DeviceState). z.input) r.1) (ap (λ (z : DeviceState). z.ends) r.1)
+    (ap (λ (z : DeviceState). z.out) r.1) (ap (λ (z : DeviceState). z.err) r.1)
 
 err_told : {S A : Type 0} (t e : Option (List ℕ)) (bytes : List ℕ) (f : Unit {0} → Row S A) (w : World) (s : Stop)
     (me : Side) (p q : DeviceState) → ShowsWorld t e p w → ErrRefused s me bytes p q →
@@ -170,7 +172,8 @@ err_told t e bytes f w ErrFault me p q h r = let n = r.1.0 in
       part = (n, refl);
     }
 err_told t e bytes f w _ me p q h r = told_none t e (Do (Put ErrorOutput bytes) f) w p q h.tells
-    (ap (λ (z : DeviceState). z.input) r.1) (ap (λ (z : DeviceState). z.ends) r.1) (ap (λ (z : DeviceState). z.out) r.1) (ap (λ (z : DeviceState). z.err) r.1)
+    (ap (λ (z : DeviceState). z.input) r.1) (ap (λ (z : DeviceState). z.ends) r.1)
+    (ap (λ (z : DeviceState). z.out) r.1) (ap (λ (z : DeviceState). z.err) r.1)
 
 take_told : {S A : Type 0} (t e : Option (List ℕ)) (most : ℕ) (f : List ℕ → Row S A) (w : World) (s : Stop) (me : Side)
     (p q : DeviceState) → ShowsWorld t e p w → TakeRefused s me p q → Told t e (Do (Take most) f) w q
@@ -183,7 +186,8 @@ take_told t e most f w ReadFault me p q h r = let n = r.1.0 in
           (n, refl);
     }
 take_told t e most f w _ me p q h r = told_none t e (Do (Take most) f) w p q h.tells
-    (ap (λ (z : DeviceState). z.input) r.1) (ap (λ (z : DeviceState). z.ends) r.1) (ap (λ (z : DeviceState). z.out) r.1) (ap (λ (z : DeviceState). z.err) r.1)
+    (ap (λ (z : DeviceState). z.input) r.1) (ap (λ (z : DeviceState). z.ends) r.1)
+    (ap (λ (z : DeviceState). z.out) r.1) (ap (λ (z : DeviceState). z.err) r.1)
 
 -- of a call that was refused a part was told
 pub call_told : {S A : Type 0} (t e : Option (List ℕ)) (c : Call S) (f : Reply c → Row S A) (w : World) (s : Stop)

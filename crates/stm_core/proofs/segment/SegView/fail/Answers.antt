@@ -13,6 +13,7 @@ returns-clause-refuses g c = λ q why.
     let r = g.S.SegStore.reserved v.store.now in
     let last : LastStop = record { stopped = Some c.stop-stop.result; halt = c.args.halt } in
     let is : last ≡ gave c.args.halt = ap (λ z. record { stopped = Some z; halt = c.args.halt }) c.stop-stop.ensures in
-    refused_alone v.segment v.side q m m r r v.books.now v.books.now v.progress.now v.progress.now v.last last c.args.halt
-    refl (omega arith) refl refl is
-    (subst (λ z. SegWhy v.segment v.side c.args.halt q (sees m v.segment) (holding m r v.books.now v.progress.now z)) is why)
+    refused_alone v.segment v.side q m m r r v.books.now v.books.now v.progress.now v.progress.now v.last last
+    c.args.halt refl (omega arith) refl refl is
+    (subst (λ z. SegWhy v.segment v.side c.args.halt q (sees m v.segment)
+    (holding m r v.books.now v.progress.now z)) is why)

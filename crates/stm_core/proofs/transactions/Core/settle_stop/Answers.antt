@@ -123,15 +123,18 @@ returns-in-OutOfMemory-clause-fault g c = λ d d1 h.
 
 pub returns-in-ReadFault-clause-fault : goal.returns-in-ReadFault-clause-fault
 returns-in-ReadFault-clause-fault g c = λ d d1 h.
-    subst (λ e. FaultRose (Err e) d d1) (sym c.fail_out-in-ReadFault.ensures.same) (subst (λ s. StopRose s d d1) c.in-ReadFault.is h)
+    subst (λ e. FaultRose (Err e) d d1) (sym c.fail_out-in-ReadFault.ensures.same)
+    (subst (λ s. StopRose s d d1) c.in-ReadFault.is h)
 
 pub returns-in-WriteFault-clause-fault : goal.returns-in-WriteFault-clause-fault
 returns-in-WriteFault-clause-fault g c = λ d d1 h.
-    subst (λ e. FaultRose (Err e) d d1) (sym c.fail_out-in-WriteFault.ensures.same) (subst (λ s. StopRose s d d1) c.in-WriteFault.is h)
+    subst (λ e. FaultRose (Err e) d d1) (sym c.fail_out-in-WriteFault.ensures.same)
+    (subst (λ s. StopRose s d d1) c.in-WriteFault.is h)
 
 pub returns-in-ErrFault-clause-fault : goal.returns-in-ErrFault-clause-fault
 returns-in-ErrFault-clause-fault g c = λ d d1 h.
-    subst (λ e. FaultRose (Err e) d d1) (sym c.fail_out-in-ErrFault.ensures.same) (subst (λ s. StopRose s d d1) c.in-ErrFault.is h)
+    subst (λ e. FaultRose (Err e) d d1) (sym c.fail_out-in-ErrFault.ensures.same)
+    (subst (λ s. StopRose s d d1) c.in-ErrFault.is h)
 
 pub returns-in-NeedSolo-clause-fault : goal.returns-in-NeedSolo-clause-fault
 returns-in-NeedSolo-clause-fault g c = λ d d1 h. tt

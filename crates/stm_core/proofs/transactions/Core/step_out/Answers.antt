@@ -1,4 +1,4 @@
-use Rattle.std.proofs.Common.{◌≡◌, ℕ, Option, Result, None, sym, ◌∙◌, ap, subst, refl}
+use Rattle.std.proofs.Common.{◌≡◌, ℕ, Option, Result, sym, ◌∙◌, ap, subst, refl}
 use Rattle.std.proofs.lemmas.Result.{IfOk-weaker}
 use Rattle.py_data.specs.declared.stop.Side.{Side}
 use Rattle.py_data.specs.declared.stop.Stop.{Stop}
