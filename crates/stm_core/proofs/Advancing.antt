@@ -4,7 +4,6 @@ use Rattle.std.proofs.lemmas.List.Elements.{All-cons, All-nil, All-push, All-wea
 use Rattle.std.proofs.lemmas.Bool.{cases_Bool, eq-eqb, eqb-false, ne_eqb, cond-true, cond-false}
 use Rattle.py_data.specs.declared.stop.Side.{Side}
 use Rattle.py_data.specs.declared.stop.Conflict.{Conflict}
-use Rattle.py_data.specs.declared.stop.Stop.{Stop}
 use Rattle.py_data.specs.Heap.{Heap}
 use Rattle.py_data.specs.World.{World}
 use Rattle.py_data.specs.Row.{Row, Ret}
@@ -24,6 +23,7 @@ use Rattle.stm_core.specs.Conflict.{side, AsksFrom}
 use Rattle.stm_core.specs.Moves.{Advances, Stays, IsFree, Move, Dooms as DoomsMove, Goes, Rests, Next, Follows}
 use Rattle.stm_core.specs.Books.{Worlds, with_own, transaction, segment_of, core_of, Fit}
 use Rattle.stm_core.specs.declared.steps.Pause.{Pause}
+use Rattle.stm_core.specs.declared.halt.Halt.{Halt}
 use Rattle.stm_core.specs.declared.steps.Pause.TheVariants.{Whole, Waits, Ended as EndedPause, Stopped}
 use Rattle.stm_core.specs.inner.Hold.{Dooms}
 use Rattle.stm_core.specs.Asking.{Reaches, AsksToChange, AskedFor, Went}
@@ -270,7 +270,7 @@ module _ {S : Type 0} (p : Prog S) (most k n : ℕ) (w : Worlds) (m m1 : Meaning
       gone_wait own o waits d = gone_rest d.dooms d.others (d.waits waits).1 (Ret d.last) d.went
 
       -- a step that was cut
-      pub gone_cut : (e : Stop) → StepCut p w k (side k tx) e m b x m1 r1 b1 x1 →
+      pub gone_cut : (e : Halt) → StepCut p w k (side k tx) e m b x m1 r1 b1 x1 →
           Gone p most k (n + 0) 1 c0 (core_with w k m1 b1 x1)
       gone_cut e d = gone_rest d.dooms d.others d.stays d.left d.went
 

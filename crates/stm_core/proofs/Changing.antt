@@ -2,8 +2,9 @@
 use Rattle.std.proofs.Common.{◌≡◌, ◌⊎◌, ◌≤◌, ℕ, true, false, eqb, List, Option, Some, None, Result, Ok, Err, OnOk, OnErr, IfErr, refl, sym, ◌∙◌, ap, subst, inl, inr, IsSome, unwrap_or}
 use Rattle.std.proofs.lemmas.Bool.{both_ways, or_cases, or_left, eqb-true, eq-eqb}
 use Rattle.py_data.specs.declared.stop.Side.{Side}
-use Rattle.py_data.specs.declared.stop.Stop.{Stop}
-use Rattle.py_data.specs.declared.stop.Stop.TheVariants.{Lost, OutOfMemory}
+use Rattle.stm_core.specs.declared.halt.Halt.{Halt}
+use Rattle.stm_core.specs.declared.halt.LastStop.{LastStop}
+use Rattle.stm_core.specs.declared.halt.Halt.TheVariants.{Lost, OutOfMemory}
 use Rattle.py_data.specs.declared.change.Change.{Change}
 use Rattle.py_data.specs.Changes.{after, Allows, Outgrows}
 use Rattle.py_data.specs.Heap.{Rec, Heap, Has, at, is_tracked, put_at, blank}
@@ -24,7 +25,8 @@ use Rattle.stm_core.specs.declared.books.Progress.{Progress}
 use Rattle.stm_core.specs.declared.books.Books.{Books}
 use Rattle.stm_core.specs.declared.books.Hand.{Hand}
 use Rattle.stm_core.specs.Books.{runs_at, Fit}
-use Rattle.stm_core.specs.inner.Hold.{Hold, sight, Beside, Holds, Fails, FailWhy, SegDoes, SegRefuses, SegWhy, FaultWhy, holding, stop_of}
+use Rattle.stm_core.specs.inner.Halts.{gave}
+use Rattle.stm_core.specs.inner.Hold.{Hold, sight, Beside, Holds, Fails, FailWhy, SegDoes, SegRefuses, SegWhy, FaultWhy, holding, halt_of}
 use Rattle.stm_core.proofs.Holding.{beside_then, beside_own}
 use Rattle.stm_core.proofs.Seeing.{refused_alone}
 use Rattle.stm_core.proofs.Fits.{fit_own}
@@ -83,20 +85,20 @@ pub beside_change : {S : Type 0} {asks : ℕ → Type 0} (k : ℕ) (me : Side) (
     e2.progress ≡ e.progress → Beside k me asks d e2
 beside_change {S} {asks} k me a f d e e2 out g em er eb ep =
     let q = changed a (f (at (sees e.meaning k) a)) (e.meaning.part k) in
-    let own : Beside k me asks e (holding (with_part k q e.meaning) e2.reserved e.books e.progress e2.stopped) =
-    beside_own k me e.meaning q e.reserved e2.reserved e.books e.progress e.stopped e2.stopped out er refl refl
+    let own : Beside k me asks e (holding (with_part k q e.meaning) e2.reserved e.books e.progress e2.last) =
+    beside_own k me e.meaning q e.reserved e2.reserved e.books e.progress e.last e2.last out er refl refl
     (λ c h. h) (λ c h. h) in
-    beside_then k me d e e2 g (subst (λ z. Beside k me asks e (holding z e2.reserved e2.books e2.progress e2.stopped))
+    beside_then k me d e e2 g (subst (λ z. Beside k me asks e (holding z e2.reserved e2.books e2.progress e2.last))
     (sym em) (subst (λ z. Beside k me asks e
-    (holding (after_change k a f e.meaning) e2.reserved z e2.progress e2.stopped)) (sym eb)
-    (subst (λ z. Beside k me asks e (holding (after_change k a f e.meaning) e2.reserved e.books z e2.stopped)) (sym ep)
+    (holding (after_change k a f e.meaning) e2.reserved z e2.progress e2.last)) (sym eb)
+    (subst (λ z. Beside k me asks e (holding (after_change k a f e.meaning) e2.reserved e.books z e2.last)) (sym ep)
     own)))
 
 -- the sight once the record was held and changed
 pub change_done : {S : Type 0} (k : ℕ) (me : Side) (a : ℕ) (c : Change) (d e e2 : Hold S) →
-    CanChange (sees d.meaning k) a c → d.stopped ≡ None → runs_at e.books.hands.items k ≡ false → Holds k me a d e
+    CanChange (sees d.meaning k) a c → d.last.stopped ≡ None → runs_at e.books.hands.items k ≡ false → Holds k me a d e
     → e2.meaning ≡ after_change k a (after c) e.meaning → e.reserved ≤ e2.reserved → e2.books ≡ e.books →
-    e2.progress ≡ e.progress → e2.stopped ≡ e.stopped → SegDoes k me (Edit a c) d tt e2
+    e2.progress ≡ e.progress → e2.last ≡ e.last → SegDoes k me (Edit a c) d tt e2
 change_done {S} k me a c d e e2 can live out h em er eb ep es =
     let r = can_ready c (sees d.meaning k) a can in
     let s = change_shows k a (after c) e.meaning in
@@ -124,8 +126,7 @@ change_done {S} k me a c d e e2 can live out h em er eb ep es =
     } in (
       (r.entry, r.is, r.allows, sights),
       beside_change k me a (after c) d e e2 out h.beside em er eb ep,
-      es ∙
-          h.stopped ∙ live,
+      ap (λ z. z.stopped) (es ∙ h.last) ∙ live,
     )
 
 -- ---- a change that was refused
@@ -148,50 +149,50 @@ wants_more c h a fills r l (FullStore u n k) w s = (go (h a) w.0 s, w.2, w.3, w.
     go None f g = f
     go (Some q) f g = (f, g)
 
--- the Stop of a store's fault has its cause
+-- the Halt of a store's fault has its cause
 fault_why : {S : Type 0} (k : ℕ) (me : Side) (a : ℕ) (c : Change) (m : Meaning) (h : Heap) (r : ℕ) (b : Books S)
-    (p : Progress S) (o : Option Stop) (x : StoreFault) → FaultWhy (ChangeWants c h a) r m.limit x →
-    SegWhy k me (stop_of x) (Edit a c) h (holding m r b p o)
+    (p : Progress S) (o : LastStop) (x : StoreFault) → FaultWhy (ChangeWants c h a) r m.limit x →
+    SegWhy k me (halt_of x) (Edit a c) h (holding m r b p o)
 fault_why k me a c m h r b p o (FullStore u n l) w = w
 fault_why k me a c m h r b p o NoMemoryLeft w = tt
 
 -- the store refused the change of a record that was held
-pub change_refused : {S : Type 0} (k : ℕ) (me : Side) (a : ℕ) (c : Change) (d e e2 : Hold S) (x : StoreFault)
-    (s : Stop) → Holds k me a d e → e2.meaning ≡ e.meaning → e.reserved ≤ e2.reserved → e2.books ≡ e.books →
+pub change_refused : {S : Type 0} (k : ℕ) (me : Side) (a : ℕ) (c : Change) (d e e2 : Hold S) (x : StoreFault) →
+    Holds k me a d e → e2.meaning ≡ e.meaning → e.reserved ≤ e2.reserved → e2.books ≡ e.books →
     e2.progress ≡ e.progress
-    → s ≡ stop_of x → e2.stopped ≡ Some s → FaultWhy (ChangeWants c (sees e.meaning k) a) e2.reserved e.meaning.limit x
-    → SegRefuses k me (Edit a c) d s e2
-change_refused {S} k me a c d e e2 x s h em er eb ep es eo why =
-    let w : SegWhy k me s (Edit a c) (sees e.meaning k) (holding e.meaning e2.reserved e.books e.progress (Some s)) =
-    subst (λ z. SegWhy k me z (Edit a c) (sees e.meaning k)
-    (holding e.meaning e2.reserved e.books e.progress (Some s))) (sym es)
-    (fault_why k me a c e.meaning (sees e.meaning k) e2.reserved e.books e.progress (Some s) x why) in
+    → e2.last ≡ gave (halt_of x) → FaultWhy (ChangeWants c (sees e.meaning k) a) e2.reserved e.meaning.limit x
+    → SegRefuses k me (Edit a c) d e2.last.halt e2
+change_refused {S} k me a c d e e2 x h em er eb ep eo why =
+    let s = halt_of x in
+    let w : SegWhy k me s (Edit a c) (sees e.meaning k) (holding e.meaning e2.reserved e.books e.progress (gave s)) =
+    fault_why k me a c e.meaning (sees e.meaning k) e2.reserved e.books e.progress (gave s) x why in
     let last = refused_alone k me (Edit a c) e.meaning e2.meaning e.reserved e2.reserved e.books e2.books e.progress
-    e2.progress e.stopped e2.stopped s em er eb ep eo w in
-    record {
-      stopped = eo;
+    e2.progress e.last e2.last s em er eb ep eo w in
+    subst (λ z. SegRefuses k me (Edit a c) d z e2) (sym (ap (λ z. z.halt) eo))
+    (record {
+      last = eo;
       beside = beside_then k me d e e2 h.beside last.beside;
       why = subst (λ z. SegWhy k me s (Edit a c) z e2) h.shown last.why;
       looked = λ b l. marks b (ap (λ (z : Meaning). (z.part k).looked b) (sym em) ∙ l);
       locks = λ b l. h.locks b (ap (λ (z : Meaning). mem b (z.part k).changed) (sym em) ∙ l);
-    }
+    })
   where
     marks : (b : ℕ) → (e.meaning.part k).looked b ≡ true → ((d.meaning.part k).looked b ≡ true) ⊎ (Some a ≡ Some b)
     marks b l = elim (or_cases (eqb b a) ((d.meaning.part k).looked b) (sym (ap (λ f. f b) h.looked) ∙ l))
         [ inl y ↦ inr (ap Some (sym (eqb-true b a y))) | inr y ↦ inl y ]
 
 -- a record that can't be held can't be changed
-pub hold_refused : {S : Type 0} (k : ℕ) (me : Side) (a : ℕ) (c : Change) (d : Hold S) (s : Stop) (e : Hold S) →
+pub hold_refused : {S : Type 0} (k : ℕ) (me : Side) (a : ℕ) (c : Change) (d : Hold S) (s : Halt) (e : Hold S) →
     Fails k me a d s e → SegRefuses k me (Edit a c) d s e
 hold_refused {S} k me a c d s e f = record {
-  stopped = f.stopped;
+  last = f.last;
   beside = f.beside;
   why = reason s f.why;
   looked = λ b l. elim (f.looked b l) [ inl x ↦ inl x | inr x ↦ inr (ap Some (sym x)) ];
   locks = f.locks;
 }
   where
-    reason : (z : Stop) → FailWhy k me a z e → SegWhy k me z (Edit a c) (sees d.meaning k) e
+    reason : (z : Halt) → FailWhy k me a z e → SegWhy k me z (Edit a c) (sees d.meaning k) e
     reason (Lost q) w = w
     reason OutOfMemory w = tt
     reason _ w = absurd w

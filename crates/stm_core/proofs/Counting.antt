@@ -4,11 +4,14 @@ use Rattle.std.proofs.Common.{◌≡◌, ◌≤◌, ℕ, Bool, true, false, List
 use Rattle.std.proofs.lemmas.Bool.{both_ways}
 use Rattle.py_data.specs.declared.stop.Side.{Side}
 use Rattle.py_data.specs.declared.stop.Stop.{Stop}
-use Rattle.py_data.specs.declared.stop.Stop.TheVariants.{Lost, NeedSolo, NeedHeap, Full, ReadFault, WriteFault, ErrFault, OutOfMemory}
+use Rattle.py_data.specs.declared.stop.Stop.TheVariants.{NeedSolo, ReadFault, WriteFault, ErrFault}
 use Rattle.py_data.specs.declared.stop.Out.TheVariants.{Output, ErrorOutput}
 use Rattle.py_data.specs.Heap.{Heap}
 use Rattle.py_data.specs.Row.{Call, Reply, Read, Find, Edit, Make, Start, Put, Take, MidLine, SetMidLine}
 use Rattle.stm_io.specs.Outside.{Rose}
+use Rattle.stm_core.specs.declared.halt.Halt.{Halt}
+use Rattle.stm_core.specs.declared.halt.Halt.TheVariants as halt
+use Rattle.stm_core.specs.inner.Halts.{stop_of}
 use Rattle.stm_core.specs.Devices.{DeviceState, IsLeftAlone, CountsGrow, StopRose}
 use Rattle.stm_core.specs.inner.Hold.{Hold, SegWhy}
 use Rattle.stm_core.specs.inner.Outer.{OuterDoes, WriteRefused, ErrRefused, TakeRefused, OuterRefuses, OuterOpens, OuterUndoes}
@@ -136,38 +139,37 @@ refuses_keeps me (Make x) s p q h = kept_same me.solo p q h
 refuses_keeps me (Start x) s p q h = kept_same me.solo p q h
 
 -- the count of the device that failed rose
-pub refuses_rose : {S : Type 0} (k : ℕ) (me : Side) (c : Call S) (s : Stop) (p q : DeviceState) (h : Heap) (d : Hold S)
-    → SegWhy k me s c h d → OuterRefuses me c s p q → StopRose s p q
-refuses_rose k me (Take most) ReadFault p q h d w o = o.3
-refuses_rose k me _ ReadFault p q h d w o = absurd w.1
-refuses_rose k me (Put Output bytes) WriteFault p q h d w o = o.3
-refuses_rose k me _ WriteFault p q h d w o = absurd w.1
-refuses_rose k me (Put ErrorOutput bytes) ErrFault p q h d w o = o.3
-refuses_rose k me _ ErrFault p q h d w o = absurd w.1
-refuses_rose k me c (Lost f) p q h d w o = tt
-refuses_rose k me c NeedSolo p q h d w o = tt
-refuses_rose k me c NeedHeap p q h d w o = tt
-refuses_rose k me c (Full i l j) p q h d w o = tt
-refuses_rose k me c OutOfMemory p q h d w o = tt
+pub refuses_rose : {S : Type 0} (k : ℕ) (me : Side) (c : Call S) (s : Halt) (p q : DeviceState) (h : Heap) (d : Hold S)
+    → SegWhy k me s c h d → OuterRefuses me c (stop_of s) p q → StopRose s p q
+refuses_rose k me (Take most) halt.ReadFault p q h d w o = o.3
+refuses_rose k me _ halt.ReadFault p q h d w o = absurd w.1
+refuses_rose k me (Put Output bytes) halt.WriteFault p q h d w o = o.3
+refuses_rose k me _ halt.WriteFault p q h d w o = absurd w.1
+refuses_rose k me (Put ErrorOutput bytes) halt.ErrFault p q h d w o = o.3
+refuses_rose k me _ halt.ErrFault p q h d w o = absurd w.1
+refuses_rose k me c (halt.Lost f) p q h d w o = tt
+refuses_rose k me c halt.NeedSolo p q h d w o = tt
+refuses_rose k me c (halt.Full i l j) p q h d w o = tt
+refuses_rose k me c halt.OutOfMemory p q h d w o = tt
 
 -- and it rose from an earlier number, which isn't higher
 rose_from : (a b c : ℕ) → a ≤ b → Rose b c → Rose a c
 rose_from a b c le h = omega arith
 
-pub rose_after : (s : Stop) (p q r : DeviceState) → CountsGrow p q → StopRose s q r → StopRose s p r
-rose_after ReadFault p q r a h = rose_from p.reads q.reads r.reads a.reads h
-rose_after WriteFault p q r a h = rose_from p.writes q.writes r.writes a.writes h
-rose_after ErrFault p q r a h = rose_from p.errs q.errs r.errs a.errs h
+pub rose_after : (s : Halt) (p q r : DeviceState) → CountsGrow p q → StopRose s q r → StopRose s p r
+rose_after halt.ReadFault p q r a h = rose_from p.reads q.reads r.reads a.reads h
+rose_after halt.WriteFault p q r a h = rose_from p.writes q.writes r.writes a.writes h
+rose_after halt.ErrFault p q r a h = rose_from p.errs q.errs r.errs a.errs h
 rose_after _ p q r a h = tt
 
 -- to a later number, which isn't lower
 rose_to : (a b c : ℕ) → Rose a b → b ≤ c → Rose a c
 rose_to a b c h le = omega arith
 
-rose_before : (s : Stop) (p q r : DeviceState) → StopRose s p q → CountsGrow q r → StopRose s p r
-rose_before ReadFault p q r h a = rose_to p.reads q.reads r.reads h a.reads
-rose_before WriteFault p q r h a = rose_to p.writes q.writes r.writes h a.writes
-rose_before ErrFault p q r h a = rose_to p.errs q.errs r.errs h a.errs
+rose_before : (s : Halt) (p q r : DeviceState) → StopRose s p q → CountsGrow q r → StopRose s p r
+rose_before halt.ReadFault p q r h a = rose_to p.reads q.reads r.reads h a.reads
+rose_before halt.WriteFault p q r h a = rose_to p.writes q.writes r.writes h a.writes
+rose_before halt.ErrFault p q r h a = rose_to p.errs q.errs r.errs h a.errs
 rose_before _ p q r h a = tt
 
 -- ---- a step
@@ -209,7 +211,7 @@ flag_cut solo p p1 q1 q op k un = ap (λ (z : DeviceState). z.mid) un ∙ k.was_
     ap (λ (z : DeviceState). z.was_mid) op
 
 -- and the count of the device that failed rose
-pub rose_cut : (s : Stop) (p p1 q1 q : DeviceState) → OuterOpens p p1 → StopRose s p1 q1 → OuterUndoes q1 q →
+pub rose_cut : (s : Halt) (p p1 q1 q : DeviceState) → OuterOpens p p1 → StopRose s p1 q1 → OuterUndoes q1 q →
     StopRose s p q
 rose_cut s p p1 q1 q op h un = rose_before s p q1 q (rose_after s p p1 q1 (counts_opened p p1 op) h)
     (counts_undone q1 q un)

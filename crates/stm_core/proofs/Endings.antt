@@ -2,8 +2,6 @@
 use Rattle.std.proofs.Common.{◌≡◌, ℕ, true, false, List, length, slice_get, Option, Some, None, Result, Ok, Err, refl, sym, ◌∙◌, ap, subst, inl, inr}
 use Rattle.std.proofs.lemmas.Bool.{cases_Bool, both_ways}
 use Rattle.py_data.specs.declared.stop.Conflict.{Conflict}
-use Rattle.py_data.specs.declared.stop.Stop.{Stop}
-use Rattle.py_data.specs.declared.stop.Stop.TheVariants as stop
 use Rattle.py_data.specs.declared.stop.Out.TheVariants.{Output, ErrorOutput}
 use Rattle.py_data.specs.Row.{Row, Do, Put, Take}
 use Rattle.py_data.specs.Sense.{Upto}
@@ -16,6 +14,8 @@ use Rattle.stm_core.specs.declared.books.Work.{Work}
 use Rattle.stm_core.specs.declared.books.Hand.TheVariants.{Idle as IdleHand}
 use Rattle.stm_core.specs.declared.books.Books.{Books}
 use Rattle.stm_core.specs.declared.steps.Pause.{Pause}
+use Rattle.stm_core.specs.declared.halt.Halt.{Halt}
+use Rattle.stm_core.specs.declared.halt.Halt.TheVariants as halt
 use Rattle.stm_core.specs.declared.steps.Pause.TheVariants.{Whole, Waits, Ended, Stopped}
 use Rattle.stm_core.specs.declared.answers.Advance.{Advance}
 use Rattle.stm_core.specs.declared.answers.AdvanceError.{AdvanceError}
@@ -40,15 +40,15 @@ use Rattle.stm_core.proofs.Breaking.{whole_cause}
 
 -- ---- the fault of a device
 
-read_fault : {S A : Type 0} (left : Row S A) → StopOf stop.ReadFault left → FaultOf ReadFault left
+read_fault : {S A : Type 0} (left : Row S A) → StopOf halt.ReadFault left → FaultOf ReadFault left
 read_fault (Do (Take most) f) h = tt
 read_fault r h = absurd h
 
-write_fault : {S A : Type 0} (left : Row S A) → StopOf stop.WriteFault left → FaultOf WriteFault left
+write_fault : {S A : Type 0} (left : Row S A) → StopOf halt.WriteFault left → FaultOf WriteFault left
 write_fault (Do (Put Output bytes) f) h = tt
 write_fault r h = absurd h
 
-err_fault : {S A : Type 0} (left : Row S A) → StopOf stop.ErrFault left → FaultOf ErrFault left
+err_fault : {S A : Type 0} (left : Row S A) → StopOf halt.ErrFault left → FaultOf ErrFault left
 err_fault (Do (Put ErrorOutput bytes) f) h = tt
 err_fault r h = absurd h
 
@@ -108,16 +108,16 @@ module _ {S : Type 0} (p : Prog S) (t e : Option (List ℕ)) (d : DeviceState) (
     ended_ends i pause is at h eb = let out : Out Ended = subst Out is at in
         back (Ok (answer.Ended i)) Ended out out.told h eb (out.why, refl)
 
-    abbrev Cut_at : Stop → Type 0
+    abbrev Cut_at : Halt → Type 0
     Cut_at z = Out (Stopped z)
 
     -- it wants to be solo, and was put back
-    pub solo_ends : (i : ℕ) (z : Stop) → z ≡ stop.NeedSolo → Cut_at z → core_of w m1 b1 ≡ core_with w k m b x →
+    pub solo_ends : (i : ℕ) (z : Halt) → z ≡ halt.NeedSolo → Cut_at z → core_of w m1 b1 ≡ core_with w k m b x →
         b1.broken ≡ b.broken → To (Ok (answer.NeedSolo i))
     solo_ends i z is at h eb =
-        let out : Cut_at stop.NeedSolo = subst Cut_at is at in
+        let out : Cut_at halt.NeedSolo = subst Cut_at is at in
         let q = out.why.1 in
-        stays (Ok (answer.NeedSolo i)) (Stopped stop.NeedSolo) out (out.tells q.1) (out.mid q.1) o.core
+        stays (Ok (answer.NeedSolo i)) (Stopped halt.NeedSolo) out (out.tells q.1) (out.mid q.1) o.core
         (h ∙ sym out.core) eb (
           out.why.0,
           q.1,
@@ -127,12 +127,12 @@ module _ {S : Type 0} (p : Prog S) (t e : Option (List ℕ)) (d : DeviceState) (
         )
 
     -- it lost a conflict
-    pub lost_ends : (f : Conflict) (z : Stop) → z ≡ stop.Lost f → Cut_at z → slice_get b.hands.items k ≡ Some IdleHand →
+    pub lost_ends : (f : Conflict) (z : Halt) → z ≡ halt.Lost f → Cut_at z → slice_get b.hands.items k ≡ Some IdleHand →
         core_of w m1 b1 ≡ with_conflict f (core_of w m b) → b1.broken ≡ b.broken → To (Err (Lost f))
     lost_ends f z is at idle h eb =
-        let out : Cut_at (stop.Lost f) = subst Cut_at is at in
+        let out : Cut_at (halt.Lost f) = subst Cut_at is at in
         let q = out.why.1 in
-        stays (Err (Lost f)) (Stopped (stop.Lost f)) out (out.tells q.2) (out.mid q.2)
+        stays (Err (Lost f)) (Stopped (halt.Lost f)) out (out.tells q.2) (out.mid q.2)
         (with_conflict f (with_segment k Idle o.core)) (lost_with w k m b x f (core_of w m1 b1) idle h ∙
         ap (λ c. with_conflict f (with_segment k Idle c)) (sym out.core)) eb
         (out.why.0, q.2, subst (λ c. IsStanding p c f) (sym out.core) q.0, q.1, refl)
@@ -150,7 +150,7 @@ module _ {S : Type 0} (p : Prog S) (t e : Option (List ℕ)) (d : DeviceState) (
           (core_of v1 m1 b1 ≡ with_cause y
           (up_to_whole k m.segments (transaction v.own (m.part k) x) x.steps (core_with v k m b x)))
 
-    module _ (y : Cause) (z : Stop) (out : Cut_at z) where
+    module _ (y : Cause) (z : Halt) (out : Cut_at z) where
       abbrev here : CoreState S
       here = core_with w k m b x
 
@@ -228,7 +228,7 @@ module _ {S : Type 0} (p : Prog S) (t e : Option (List ℕ)) (d : DeviceState) (
           mid = λ none. absurd (let q = sym none ∙ f.broken in cc);
         }
 
-    failed_ends : (y : Cause) (z : Stop) (out : Cut_at z) → slice_get b.hands.items k ≡ Some IdleHand →
+    failed_ends : (y : Cause) (z : Halt) (out : Cut_at z) → slice_get b.hands.items k ≡ Some IdleHand →
         (x.solo ≡ false → IsStepCause p (core_with w k m b x) tx r1 m1.limit y) →
         IsSoloCause p (core_with w k m b x) tx r1 m1.limit y
         → ((left : Row S (Outcome × S)) → StopOf z left → FaultOf y left) → (x.solo ≡ false → Mortal y) →
@@ -241,46 +241,46 @@ module _ {S : Type 0} (p : Prog S) (t e : Option (List ℕ)) (d : DeviceState) (
     failed_as : (y : Cause) (v : AdvanceError) → v ≡ Failed y → To (Err (Failed y)) → To (Err v)
     failed_as y v ev h = subst (λ q. To (Err q)) (sym ev) h
 
-    pub full_ends : (i j l : ℕ) (z : Stop) → z ≡ stop.Full i j l → Cut_at z → slice_get b.hands.items k ≡ Some IdleHand
+    pub full_ends : (i j l : ℕ) (z : Halt) → z ≡ halt.Full i j l → Cut_at z → slice_get b.hands.items k ≡ Some IdleHand
         →
         r1 ≡ r → m1.limit ≡ m.limit → (x.solo ≡ false → Mortal (Full i j l)) → (x.solo ≡ true → Broke_off (Full i j l))
         →
         (v : AdvanceError) → v ≡ Failed (Full i j l) → To (Err v)
     full_ends i j l z is at idle er el f g v ev =
-        let out : Cut_at (stop.Full i j l) = subst Cut_at is at in
+        let out : Cut_at (halt.Full i j l) = subst Cut_at is at in
         let q = out.why.1 in
         let step : IsStepCause p (core_with w k m b x) tx r1 m1.limit (Full i j l) =
         (q.0, q.1 ∙ sym er, q.2 ∙ sym el, q.3) in
-        failed_as (Full i j l) v ev (failed_ends (Full i j l) (stop.Full i j l) out idle (λ n. step) step (λ left h. tt)
+        failed_as (Full i j l) v ev (failed_ends (Full i j l) (halt.Full i j l) out idle (λ n. step) step (λ left h. tt)
         f g)
 
-    pub memory_ends : (z : Stop) → z ≡ stop.OutOfMemory → Cut_at z → slice_get b.hands.items k ≡ Some IdleHand →
+    pub memory_ends : (z : Halt) → z ≡ halt.OutOfMemory → Cut_at z → slice_get b.hands.items k ≡ Some IdleHand →
         (x.solo ≡ false → Mortal OutOfMemory) → (x.solo ≡ true → Broke_off OutOfMemory) → (v : AdvanceError) →
         v ≡ Failed OutOfMemory → To (Err v)
     memory_ends z is at idle f g v ev = failed_as OutOfMemory v ev
-        (failed_ends OutOfMemory stop.OutOfMemory (subst Cut_at is at) idle (λ n. tt) tt (λ left h. tt) f g)
+        (failed_ends OutOfMemory halt.OutOfMemory (subst Cut_at is at) idle (λ n. tt) tt (λ left h. tt) f g)
 
-    pub read_ends : (z : Stop) → z ≡ stop.ReadFault → Cut_at z → slice_get b.hands.items k ≡ Some IdleHand →
+    pub read_ends : (z : Halt) → z ≡ halt.ReadFault → Cut_at z → slice_get b.hands.items k ≡ Some IdleHand →
         (x.solo ≡ false → Mortal ReadFault) → (x.solo ≡ true → Broke_off ReadFault) → (v : AdvanceError) →
         v ≡ Failed ReadFault → To (Err v)
     read_ends z is at idle f g v ev =
-        let out : Cut_at stop.ReadFault = subst Cut_at is at in
-        failed_as ReadFault v ev (failed_ends ReadFault stop.ReadFault out idle (λ n. both_ways x.solo n out.why.1) tt
+        let out : Cut_at halt.ReadFault = subst Cut_at is at in
+        failed_as ReadFault v ev (failed_ends ReadFault halt.ReadFault out idle (λ n. both_ways x.solo n out.why.1) tt
         read_fault f g)
 
-    pub write_ends : (z : Stop) → z ≡ stop.WriteFault → Cut_at z → slice_get b.hands.items k ≡ Some IdleHand →
+    pub write_ends : (z : Halt) → z ≡ halt.WriteFault → Cut_at z → slice_get b.hands.items k ≡ Some IdleHand →
         (x.solo ≡ false → Mortal WriteFault) → (x.solo ≡ true → Broke_off WriteFault) → (v : AdvanceError) →
         v ≡ Failed WriteFault → To (Err v)
     write_ends z is at idle f g v ev =
-        let out : Cut_at stop.WriteFault = subst Cut_at is at in
-        failed_as WriteFault v ev (failed_ends WriteFault stop.WriteFault out idle (λ n. both_ways x.solo n out.why.1)
+        let out : Cut_at halt.WriteFault = subst Cut_at is at in
+        failed_as WriteFault v ev (failed_ends WriteFault halt.WriteFault out idle (λ n. both_ways x.solo n out.why.1)
         tt
         write_fault f g)
 
-    pub err_ends : (z : Stop) → z ≡ stop.ErrFault → Cut_at z → slice_get b.hands.items k ≡ Some IdleHand →
+    pub err_ends : (z : Halt) → z ≡ halt.ErrFault → Cut_at z → slice_get b.hands.items k ≡ Some IdleHand →
         (x.solo ≡ false → Mortal ErrFault) → (x.solo ≡ true → Broke_off ErrFault) → (v : AdvanceError) →
         v ≡ Failed ErrFault → To (Err v)
     err_ends z is at idle f g v ev =
-        let out : Cut_at stop.ErrFault = subst Cut_at is at in
-        failed_as ErrFault v ev (failed_ends ErrFault stop.ErrFault out idle (λ n. both_ways x.solo n out.why.1) tt
+        let out : Cut_at halt.ErrFault = subst Cut_at is at in
+        failed_as ErrFault v ev (failed_ends ErrFault halt.ErrFault out idle (λ n. both_ways x.solo n out.why.1) tt
         err_fault f g)

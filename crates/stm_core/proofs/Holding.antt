@@ -4,8 +4,9 @@ use Rattle.std.proofs.lemmas.List.Elements.{All-append, All-cons, All-nil, All-w
 use Rattle.std.proofs.lemmas.Bool.{cases_Bool, both_ways, or_cases, or_left, or_right, eqb-true, eqb-false, cond-true, cond-false}
 use Rattle.py_data.specs.declared.stop.Side.{Side}
 use Rattle.py_data.specs.declared.stop.Conflict.{Conflict}
-use Rattle.py_data.specs.declared.stop.Stop.{Stop}
-use Rattle.py_data.specs.declared.stop.Stop.TheVariants.{Lost, OutOfMemory}
+use Rattle.stm_core.specs.declared.halt.Halt.{Halt}
+use Rattle.stm_core.specs.declared.halt.LastStop.{LastStop}
+use Rattle.stm_core.specs.declared.halt.Halt.TheVariants.{Lost, OutOfMemory}
 use Rattle.py_data.specs.Heap.{Rec, Marks, Has, at, is_tracked}
 use Rattle.py_data.specs.Sight.{mem, with_mark}
 use Rattle.py_data.proofs.Grow.{mem_append}
@@ -22,6 +23,7 @@ use Rattle.stm_core.specs.CoreState.{Transaction, Segment, Running, CoreState, w
 use Rattle.stm_core.specs.Conflict.{side, wins}
 use Rattle.stm_core.specs.CoreState as model
 use Rattle.stm_core.specs.Books.{is_running, runs_at, side_of, Worlds, transaction, segment_of, core_of}
+use Rattle.stm_core.specs.inner.Halts.{gave}
 use Rattle.stm_core.specs.inner.Hold.{Hold, Dooms, Beside, LosesTo, Holds, Fails, FailWhy, is_noted, Looks, holding}
 use Rattle.stm_core.proofs.Publish.{get_set_other}
 use Rattle.stm_core.proofs.Looking.{noted_tracked}
@@ -125,7 +127,7 @@ core_own {S} w k q m b out i = record (core_of w m b) { segments = λ j. same j 
 
 -- a call that changes the segment's own part alone
 pub beside_own : {S : Type 0} {asks : ℕ → Type 0} (k : ℕ) (me : Side) (m : Meaning) (q : Part) (r r1 : ℕ) (b : Books S)
-    (p : Progress S) (o o1 : Option Stop) → runs_at b.hands.items k ≡ false → r ≤ r1
+    (p : Progress S) (o o1 : LastStop) → runs_at b.hands.items k ≡ false → r ≤ r1
     → overlay m.image q.kept ≡ saw m k → q.kept_made ≡ (m.part k).kept_made →
     ((a : ℕ) → (m.part k).looked a ≡ true → q.looked a ≡ true) →
     ((a : ℕ) → mem a (m.part k).changed ≡ true → mem a q.changed ≡ true)
@@ -239,7 +241,7 @@ dooms_hand {S} k me j f m b b1 n ds rest hs = record {
 }
 
 beside_doom : {S : Type 0} {asks : ℕ → Type 0} (k : ℕ) (me : Side) (j : ℕ) (f : Conflict) (m : Meaning) (rs : ℕ)
-    (b b1 : Books S) (p : Progress S) (o : Option Stop) → DoomsHand k me j f m b b1 → asks f.at.0
+    (b b1 : Books S) (p : Progress S) (o : LastStop) → DoomsHand k me j f m b b1 → asks f.at.0
     → Beside k me asks (holding m rs b p o) (holding (after_drop j m) rs b1 p o)
 beside_doom {asks = asks} k me j f m rs b b1 p o ds why = let e =
     other_part j (ended (m.part j)) m k (λ q. ds.other (sym q)) in record {
@@ -316,7 +318,7 @@ looks_mark a k m m1 there t h = elim (cases_Bool (is_noted (sees m k a) ((m.part
 
 -- a look leaves the rest
 pub looks_beside : {S : Type 0} {asks : ℕ → Type 0} (me : Side) (a k : ℕ) (m m1 : Meaning) (r : ℕ) (b : Books S)
-    (p : Progress S) (o o1 : Option Stop) → runs_at b.hands.items k ≡ false → Looks a k m m1
+    (p : Progress S) (o o1 : LastStop) → runs_at b.hands.items k ≡ false → Looks a k m m1
     → Beside k me asks (holding m r b p o) (holding m1 r b p o1)
 looks_beside {S} {asks} me a k m m1 r b p o o1 out h = elim (looks_part a k m m1 h) [
   | inl e ↦ subst (λ z. Beside k me asks (holding m r b p o) (holding z r b p o1)) (sym e)
@@ -371,7 +373,7 @@ looks_same a k m m1 h = elim (looks_part a k m m1 h) [
 
 -- a look at a record that the segment holds
 pub holds_looked : {S : Type 0} (me : Side) (a k : ℕ) (m m1 : Meaning) (r r1 : ℕ) (b b1 : Books S) (p p1 : Progress S)
-    (o o1 : Option Stop) → runs_at b.hands.items k ≡ false → Has (sees m k) a → is_tracked (at (sees m k) a).kind ≡ true
+    (o o1 : LastStop) → runs_at b.hands.items k ≡ false → Has (sees m k) a → is_tracked (at (sees m k) a).kind ≡ true
     → holds (m.part k) a ≡ true → Looks a k m m1 → r1 ≡ r → b1 ≡ b → p1 ≡ p → o1 ≡ o →
     Holds k me a (holding m r b p o) (holding m1 r1 b1 p1 o1)
 holds_looked {S} me a k m m1 r r1 b b1 p p1 o o1 out there t held h er eb ep eo =
@@ -382,7 +384,7 @@ holds_looked {S} me a k m m1 r r1 b b1 p p1 o o1 out there t held h er eb ep eo 
       looked = looks_mark a k m m1 there t h;
       made = s.2;
       progress = refl;
-      stopped = refl;
+      last = refl;
       beside = looks_beside me a k m m1 r b p o o out h;
       locks = λ c l. inl (ap (mem c) (sym s.3) ∙ l);
     } in
@@ -393,7 +395,7 @@ holds_looked {S} me a k m m1 r r1 b b1 p p1 o o1 out there t held h er eb ep eo 
 
 -- a record that no other segment holds is locked
 pub holds_locked : {S : Type 0} (me : Side) (a k : ℕ) (m m1 : Meaning) (r r1 : ℕ) (b b1 : Books S) (p p1 : Progress S)
-    (o o1 : Option Stop) → runs_at b.hands.items k ≡ false → IsStore r m → Has (sees m k) a
+    (o o1 : LastStop) → runs_at b.hands.items k ≡ false → IsStore r m → Has (sees m k) a
     → m1 ≡ after_lock k a m → r1 ≡ r → b1 ≡ b → p1 ≡ p → o1 ≡ o →
     Holds k me a (holding m r b p o) (holding m1 r1 b1 p1 o1)
 holds_locked {S} me a k m m1 r r1 b b1 p p1 o o1 out s there em er eb ep eo =
@@ -405,7 +407,7 @@ holds_locked {S} me a k m m1 r r1 b b1 p p1 o o1 out s there em er eb ep eo =
       looked = ap (λ (z : Part). z.looked) (own_part k q m) ∙ marks (holds (m.part k) a);
       made = ap (λ (z : Part). z.made) (own_part k q m) ∙ makes (holds (m.part k) a);
       progress = refl;
-      stopped = refl;
+      last = refl;
       beside = beside_own k me m q r r b p o o out (omega arith)
           (ap (λ (z : Part). overlay m.image z.kept) (sym (own_part k q m)) ∙ l.before) (kept (holds (m.part k) a))
           (λ c h. ap (λ (f : Marks). f c) (marks (holds (m.part k) a)) ∙ or_right (eqb c a) ((m.part k).looked c) h)
@@ -453,7 +455,7 @@ holds_locked {S} me a k m m1 r r1 b b1 p p1 o o1 out s there em er eb ep eo =
 
 -- first a doom of another segment, and then the record is held
 pub holds_after : {S : Type 0} (k : ℕ) (me : Side) (a j : ℕ) (f : Conflict) (m : Meaning) (r : ℕ) (b b1 : Books S)
-    (p : Progress S) (o : Option Stop) (e : Hold S) → DoomsHand k me j f m b b1 → f.at.0 ≡ a →
+    (p : Progress S) (o : LastStop) (e : Hold S) → DoomsHand k me j f m b b1 → f.at.0 ≡ a →
     Holds k me a (holding (after_drop j m) r b1 p o) e → Holds k me a (holding m r b p o) e
 holds_after k me a j f m r b b1 p o e ds at h =
     let q = other_part j (ended (m.part j)) m k (λ x. ds.other (sym x)) in
@@ -463,7 +465,7 @@ holds_after k me a j f m r b b1 p o e ds at h =
       looked = h.looked ∙ ap (λ (z : Part). with_mark a z.looked) q;
       made = h.made ∙ ap (λ (z : Part). z.made) q;
       progress = h.progress;
-      stopped = h.stopped;
+      last = h.last;
       beside = beside_then k me (holding m r b p o) (holding (after_drop j m) r b1 p o) e
           (beside_doom k me j f m r b b1 p o ds at) h.beside;
       locks = λ c x. elim (h.locks c x) [
@@ -477,7 +479,7 @@ holds_after k me a j f m r b b1 p o e ds at h =
 
 -- nothing but the Stop changed
 pub beside_stop : {S : Type 0} {asks : ℕ → Type 0} (k : ℕ) (me : Side) (m : Meaning) (r r1 : ℕ) (b : Books S)
-    (p : Progress S) (o o1 : Option Stop) → r ≤ r1 → Beside k me asks (holding m r b p o) (holding m r1 b p o1)
+    (p : Progress S) (o o1 : LastStop) → r ≤ r1 → Beside k me asks (holding m r b p o) (holding m r1 b p o1)
 beside_stop {asks = asks} k me m r r1 b p o o1 le = record {
   saw = refl;
   image = refl;
@@ -500,12 +502,12 @@ beside_stop {asks = asks} k me m r r1 b p o o1 le = record {
 
 -- the call was refused and the store, the books and the progress are as before
 pub fails_alone : {S : Type 0} (k : ℕ) (me : Side) (a : ℕ) (m m1 : Meaning) (r r1 : ℕ) (b b1 : Books S)
-    (p p1 : Progress S) (o o1 : Option Stop) (s : Stop) → m1 ≡ m → r ≤ r1 → b1 ≡ b → p1 ≡ p → o1 ≡ Some s
-    → FailWhy k me a s (holding m r1 b p (Some s)) → Fails k me a (holding m r b p o) s (holding m1 r1 b1 p1 o1)
+    (p p1 : Progress S) (o o1 : LastStop) (s : Halt) → m1 ≡ m → r ≤ r1 → b1 ≡ b → p1 ≡ p → o1 ≡ gave s
+    → FailWhy k me a s (holding m r1 b p (gave s)) → Fails k me a (holding m r b p o) s (holding m1 r1 b1 p1 o1)
 fails_alone {S} k me a m m1 r r1 b b1 p p1 o o1 s em le eb ep eo why =
-    let base : Fails k me a (holding m r b p o) s (holding m r1 b p (Some s)) = record {
-      stopped = refl;
-      beside = beside_stop k me m r r1 b p o (Some s) le;
+    let base : Fails k me a (holding m r b p o) s (holding m r1 b p (gave s)) = record {
+      last = refl;
+      beside = beside_stop k me m r r1 b p o (gave s) le;
       why = why;
       looked = λ c h. inl h;
       locks = λ c h. inl h;
@@ -517,21 +519,21 @@ fails_alone {S} k me a m m1 r r1 b b1 p p1 o o1 s em le eb ep eo why =
 
 -- it found no memory
 pub fails_memory : {S : Type 0} (k : ℕ) (me : Side) (a : ℕ) (m m1 : Meaning) (r r1 : ℕ) (b b1 : Books S)
-    (p p1 : Progress S) (o o1 : Option Stop) (e : Stop) → e ≡ OutOfMemory → o1 ≡ Some OutOfMemory → m1 ≡ m → r1 ≡ r →
-    b1 ≡ b → p1 ≡ p
-    → Fails k me a (holding m r b p o) e (holding m1 r1 b1 p1 o1)
-fails_memory {S} k me a m m1 r r1 b b1 p p1 o o1 e ee eo em er eb ep =
-    subst (λ z. Fails k me a (holding m r b p o) z (holding m1 r1 b1 p1 o1)) (sym ee)
+    (p p1 : Progress S) (o o1 : LastStop) → o1 ≡ gave OutOfMemory → m1 ≡ m → r1 ≡ r → b1 ≡ b → p1 ≡ p
+    → Fails k me a (holding m r b p o) o1.halt (holding m1 r1 b1 p1 o1)
+fails_memory {S} k me a m m1 r r1 b b1 p p1 o o1 eo em er eb ep =
+    subst (λ z. Fails k me a (holding m r b p o) z (holding m1 r1 b1 p1 o1)) (sym (ap (λ z. z.halt) eo))
     (fails_alone k me a m m1 r r1 b b1 p p1 o o1 OutOfMemory em (omega (arith, er)) eb ep eo tt)
 
 -- the segment loses to another one
 pub fails_lost : {S : Type 0} (k : ℕ) (me : Side) (a j : ℕ) (f : Conflict) (m m1 : Meaning) (r r1 : ℕ) (b b1 : Books S)
-    (p p1 : Progress S) (o o1 : Option Stop) (s : Stop) → s ≡ Lost f → j ≢ k → runs_at b.hands.items j ≡ true →
+    (p p1 : Progress S) (o o1 : LastStop) → j ≢ k → runs_at b.hands.items j ≡ true →
     f.at.0 ≡ a
     → f.writer ≡ side_of j f.writer (slice_get b.hands.items j) → f.other ≡ me → f.asks ≡ true → f.lost ≡ 1 →
     wins me f.writer ≡ false → mem a (m.part j).changed ≡ true
-    → m1 ≡ m → r1 ≡ r → b1 ≡ b → p1 ≡ p → o1 ≡ Some s → Fails k me a (holding m r b p o) s (holding m1 r1 b1 p1 o1)
-fails_lost {S} k me a j f m m1 r r1 b b1 p p1 o o1 s es n run at wr ot as' lo wi held em er eb ep eo =
+    → m1 ≡ m → r1 ≡ r → b1 ≡ b → p1 ≡ p → o1 ≡ gave (Lost f)
+    → Fails k me a (holding m r b p o) o1.halt (holding m1 r1 b1 p1 o1)
+fails_lost {S} k me a j f m m1 r r1 b b1 p p1 o o1 n run at wr ot as' lo wi held em er eb ep eo =
     let x = work_at b.hands.items j run in
     let why : (w : Worlds) → LosesTo k me f (core_of w m b) = λ w.
     let q : f.writer ≡ side j (transaction w.own (m.part j) x.0) = side_is w m b.hands.items j f.writer x.0 x.1 wr in
@@ -549,17 +551,17 @@ fails_lost {S} k me a j f m m1 r r1 b b1 p p1 o o1 s es n run at wr ot as' lo wi
       lost = lo;
       loses = wi;
     } in
-    subst (λ z. Fails k me a (holding m r b p o) z (holding m1 r1 b1 p1 o1)) (sym es)
-    (fails_alone k me a m m1 r r1 b b1 p p1 o o1 (Lost f) em (omega (arith, er)) eb ep (eo ∙ ap Some es) (at, why))
+    subst (λ z. Fails k me a (holding m r b p o) z (holding m1 r1 b1 p1 o1)) (sym (ap (λ z. z.halt) eo))
+    (fails_alone k me a m m1 r r1 b b1 p p1 o o1 (Lost f) em (omega (arith, er)) eb ep eo (at, why))
 
 -- first a doom of another segment, and then the call failed
 pub fails_after : {S : Type 0} (k : ℕ) (me : Side) (a j : ℕ) (f : Conflict) (m : Meaning) (r : ℕ) (b b1 : Books S)
-    (p : Progress S) (o : Option Stop) (s : Stop) (e : Hold S) → DoomsHand k me j f m b b1 → f.at.0 ≡ a →
+    (p : Progress S) (o : LastStop) (s : Halt) (e : Hold S) → DoomsHand k me j f m b b1 → f.at.0 ≡ a →
     Fails k me a (holding (after_drop j m) r b1 p o) s e → Fails k me a (holding m r b p o) s e
 fails_after k me a j f m r b b1 p o s e ds at h =
     let q = other_part j (ended (m.part j)) m k (λ x. ds.other (sym x)) in
     record {
-      stopped = h.stopped;
+      last = h.last;
       beside = beside_then k me (holding m r b p o) (holding (after_drop j m) r b1 p o) e
           (beside_doom k me j f m r b b1 p o ds at) h.beside;
       why = h.why;
@@ -577,22 +579,22 @@ on_ok_two (Err x) f p q = tt
 
 -- the view once another segment was doomed
 pub record AfterDoom {S : Type 0} (k : ℕ) (me : Side) (j : ℕ) (f : Conflict) (m : Meaning) (r : ℕ) (b : Books S)
-    (p : Progress S) (o : Option Stop) (k1 : ℕ) (me1 : Side) (m1 : Meaning) (r1 : ℕ) (b1 : Books S) (p1 : Progress S)
-    (o1 : Option Stop) : Type 0 where
+    (p : Progress S) (o : LastStop) (k1 : ℕ) (me1 : Side) (m1 : Meaning) (r1 : ℕ) (b1 : Books S) (p1 : Progress S)
+    (o1 : LastStop) : Type 0 where
   pub dooms : DoomsHand k me j f m b b1
   pub segment : k1 ≡ k
   pub me_is : me1 ≡ me
   pub meaning : m1 ≡ after_drop j m
   pub reserved : r1 ≡ r
   pub progress : p1 ≡ p
-  pub stopped : o1 ≡ o
+  pub last : o1 ≡ o
 
 module _ {S : Type 0} (k : ℕ) (me : Side) (j : ℕ) (f : Conflict) (m : Meaning) (r : ℕ) (b : Books S) (p : Progress S)
-    (o : Option Stop) (k1 : ℕ) (me1 : Side) (m1 : Meaning) (r1 : ℕ) (b1 : Books S) (p1 : Progress S) (o1 : Option Stop)
+    (o : LastStop) (k1 : ℕ) (me1 : Side) (m1 : Meaning) (r1 : ℕ) (b1 : Books S) (p1 : Progress S) (o1 : LastStop)
     (d : AfterDoom k me j f m r b p o k1 me1 m1 r1 b1 p1 o1) (a : ℕ) (at : f.at.0 ≡ a) (e : Hold S) where
   moved : (P : ℕ → Side → Hold S → Type 0) → P k1 me1 (holding m1 r1 b1 p1 o1) →
       P k me (holding (after_drop j m) r b1 p o)
-  moved P h = subst (λ z. P k me (holding (after_drop j m) r b1 p z)) d.stopped
+  moved P h = subst (λ z. P k me (holding (after_drop j m) r b1 p z)) d.last
       (subst (λ z. P k me (holding (after_drop j m) r b1 z o1)) d.progress
       (subst (λ z. P k me (holding (after_drop j m) z b1 p1 o1)) d.reserved
       (subst (λ z. P k me (holding z r1 b1 p1 o1)) d.meaning
@@ -602,5 +604,5 @@ module _ {S : Type 0} (k : ℕ) (me : Side) (j : ℕ) (f : Conflict) (m : Meanin
   pub holds_then : Holds k1 me1 a (holding m1 r1 b1 p1 o1) e → Holds k me a (holding m r b p o) e
   holds_then h = holds_after k me a j f m r b b1 p o e d.dooms at (moved (λ i s z. Holds i s a z e) h)
 
-  pub fails_then : (s : Stop) → Fails k1 me1 a (holding m1 r1 b1 p1 o1) s e → Fails k me a (holding m r b p o) s e
+  pub fails_then : (s : Halt) → Fails k1 me1 a (holding m1 r1 b1 p1 o1) s e → Fails k me a (holding m r b p o) s e
   fails_then s h = fails_after k me a j f m r b b1 p o s e d.dooms at (moved (λ i z x. Fails i z a x s e) h)

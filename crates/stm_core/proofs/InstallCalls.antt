@@ -26,7 +26,7 @@ use Rattle.stm_core.specs.declared.answers.AdvanceError.TheVariants.{Failed}
 use Rattle.stm_core.specs.declared.cause.Cause.{Cause}
 use Rattle.stm_core.specs.declared.cause.Cause.TheVariants.{OutOfMemory}
 use Rattle.stm_core.specs.declared.steps.Pause.TheVariants.{Stopped}
-use Rattle.py_data.specs.declared.stop.Stop.TheVariants as stop
+use Rattle.stm_core.specs.declared.halt.Halt.TheVariants as halt
 use Rattle.stm_core.specs.CoreState.{no_world, Transaction, Segment, Idle, Running, CoreState, sight_of, with_segment}
 use Rattle.stm_core.specs.Moves.{first_cause}
 use Rattle.stm_core.specs.Outside.{Outer, Kept, OuterLed}
@@ -123,7 +123,7 @@ module _ {S : Type 0} (p : Prog S) (most k : ℕ) (first d : DeviceState) (m : M
 
   -- the next step is cut before its first call
   out_cut : (r : ℕ) (o : Outer S) (s : StandsFor p most first d m b o) → p.life x.state ≡ Lives →
-      IsOut p first.out first.err d s.worlds k (Stopped stop.OutOfMemory) m r bt x o
+      IsOut p first.out first.err d s.worlds k (Stopped halt.OutOfMemory) m r bt x o
   out_cut r o s lives =
       let w = s.worlds in
       let out = out_of p most k first d m b bt x at set o s in
@@ -162,7 +162,7 @@ module _ {S : Type 0} (p : Prog S) (most k : ℕ) (first d : DeviceState) (m : M
       let w = s.worlds in
       let tx = transaction w.own (m.part k) x in
       let runs = runs_in p most k first d m b bt x at set o s in
-      let z = memory_ends p first.out first.err d w k m 0 bt x o d refl m1 r1 b1 stop.OutOfMemory refl
+      let z = memory_ends p first.out first.err d w k m 0 bt x o d refl m1 r1 b1 halt.OutOfMemory refl
       (out_cut 0 o s lives) idle_now (λ q. let g = h.mortal q in record { broken = g.0; core = g.1 })
       (λ q. let g = h.solo q in record { broken = g.0; core = g.1 }) (Failed OutOfMemory) refl in
       let fails : Fails tx.solo p k n r1 l OutOfMemory o tx z.state =

@@ -9,10 +9,13 @@ use Rattle.lock_run.specs.declared.client.Outcome.{Outcome}
 use Rattle.lock_run.specs.Client.{Stepped, StepStopped}
 use Rattle.lock_run.proofs.Following.{run_upto}
 use Rattle.stm_core.specs.Asking.{Changes}
+use Rattle.stm_core.specs.declared.halt.Halt.{Halt}
 use Rattle.stm_core.specs.Devices.{DeviceState, StopRose}
+use Rattle.stm_core.specs.inner.Halts.{stop_of, halt_for}
 use Rattle.stm_core.specs.inner.Hold.{Hold, Beside, SegRefuses, SegOpens, SegUndoes}
 use Rattle.stm_core.specs.inner.Outer.{OuterRefuses}
 use Rattle.stm_core.specs.inner.SegSense.{seg_sense, seg_bracket}
+use Rattle.stm_core.proofs.Halting.{halt_given}
 use Rattle.stm_core.proofs.Counting.{DevicesKept, kept_same, kept_then, does_keeps, refuses_keeps, refuses_rose, rose_after, rose_cut, StepLeaves, leaves_done, leaves_cut, flag_cut}
 use Rattle.stm_core.proofs.Way.{call_beside, done_at}
 
@@ -119,11 +122,13 @@ module _ {S X : Type 0} (hold : X → Hold S) (devices : X → DeviceState) (seg
   -- a call that was refused, of this segment and side
   pub refused_at : (c : Call S) (v : X) (e : Stop) (w : X) → segment v ≡ k → me v ≡ s →
       (seg_sense hold devices segment me same).refuses c v e w →
-      SegRefuses k s c (hold v) e (hold w) × OuterRefuses s c e (devices v) (devices w)
+      SegRefuses k s c (hold v) (hold w).last.halt (hold w) × OuterRefuses s c e (devices v) (devices w) ×
+      (e ≡ stop_of (hold w).last.halt)
   refused_at c v e w ek es d = (
-    subst (λ i. SegRefuses i s c (hold v) e (hold w)) ek
-        (subst (λ z. SegRefuses (segment v) z c (hold v) e (hold w)) es d.0),
+    subst (λ i. SegRefuses i s c (hold v) (hold w).last.halt (hold w)) ek
+        (subst (λ z. SegRefuses (segment v) z c (hold v) (hold w).last.halt (hold w)) es d.0),
     subst (λ z. OuterRefuses z c e (devices v) (devices w)) es d.1,
+    d.4,
   )
 
   refused_keeps : (c : Call S) (v : X) (e : Stop) (w : X) → (seg_sense hold devices segment me same).refuses c v e w →
@@ -147,18 +152,25 @@ module _ {S X : Type 0} (hold : X → Hold S) (devices : X → DeviceState) (seg
   -- a row that was stopped
   pub stop_keeps : {A : Type 0} (row : Row S A) (v : X) (e : Stop) (w : X) →
       Stopped (seg_sense hold devices segment me same) row v e w → segment v ≡ k → me v ≡ s →
-      Kept v w × StopRose e (devices v) (devices w)
+      Kept v w × StopRose (halt_for e (hold w).last.halt) (devices v) (devices w)
   stop_keeps row v e w h ek es =
       let u = seg_sense hold devices segment me same in
       let a = stopped_at u row v e w h in
       let b = upto_keeps row v a.left a.place a.upto ek es in
       elim a.why [
-        | inl x ↦ (subst (Kept v) (sym x.1) b, subst (λ z. StopRose z (devices v) (devices w)) (sym x.0) tt)
-        | inr x ↦ let r = refused_at x.0 a.place e w b.segment_is b.me_is x.3 in (
-          keeps_join v a.place w (λ p q. b) (refused_keeps x.0 a.place e w x.3) ek es,
-          rose_after e (devices v) (devices a.place) (devices w) b.tells.counts
-              (refuses_rose k s x.0 e (devices a.place) (devices w) _ (hold w) r.0.why r.1),
+        | inl x ↦ (
+          subst (Kept v) (sym x.1) b,
+          subst (λ z. StopRose (halt_for z (hold w).last.halt) (devices v) (devices w)) (sym x.0) tt,
         )
+        | inr x ↦
+            let r = refused_at x.0 a.place e w b.segment_is b.me_is x.3 in
+            let halt : Halt = (hold w).last.halt in (
+              keeps_join v a.place w (λ p q. b) (refused_keeps x.0 a.place e w x.3) ek es,
+              subst (λ z. StopRose z (devices v) (devices w)) (sym (halt_given e halt r.2))
+                  (rose_after halt (devices v) (devices a.place) (devices w) b.tells.counts
+                  (refuses_rose k s x.0 halt (devices a.place) (devices w) _ (hold w) r.0.why
+                  (subst (λ z. OuterRefuses s x.0 z (devices a.place) (devices w)) r.2 r.1))),
+            )
       ]
 
   -- what a step keeps, from the view v on, which holds d and whose devices tell p
@@ -168,7 +180,7 @@ module _ {S X : Type 0} (hold : X → Hold S) (devices : X → DeviceState) (seg
     pub holds : HoldKept k d (hold u)
     pub leaves : StepLeaves s.solo p (devices u)
     pub flag : OnErr r ((devices u).mid ≡ p.mid)
-    pub rose : IfErr r (λ e. StopRose e p (devices u))
+    pub rose : IfErr r (λ e. StopRose (halt_for e (hold u).last.halt) p (devices u))
 
   step_kept : (row : Row S (Outcome × S)) (v : X) (r : Result Outcome Stop) (q : S) (u : X) → segment v ≡ k → me v ≡ s
       → IfOk r (λ o. Stepped (seg_sense hold devices segment me same) (seg_bracket hold devices segment me same) row v
@@ -201,7 +213,9 @@ module _ {S X : Type 0} (hold : X → Hold S) (devices : X → DeviceState) (seg
             (hold_then k (hold v1) (hold u1) (hold u) b.0.holds (hold_undone k (hold u1) (hold u) un));
         leaves = leaves_cut s.solo (devices v) (devices v1) (devices u1) (devices u) err.2.1 b.0.tells err.4.1;
         flag = flag_cut s.solo (devices v) (devices v1) (devices u1) (devices u) err.2.1 b.0.tells err.4.1;
-        rose = rose_cut e (devices v) (devices v1) (devices u1) (devices u) err.2.1 b.1 err.4.1;
+        rose = subst (λ (z : Hold S). StopRose (halt_for e z.last.halt) (devices v) (devices u)) (sym un)
+            (rose_cut (halt_for e (hold u1).last.halt) (devices v) (devices v1) (devices u1) (devices u) err.2.1 b.1
+            err.4.1);
       }
 
   pub step_keeps : (row : Row S (Outcome × S)) (v : X) (d : Hold S) (p : DeviceState) (r : Result Outcome Stop) (q : S)

@@ -4,6 +4,7 @@ pub mod TwoPasses
 pub mod New
 pub mod Looking
 pub mod Fits
+pub mod Halting
 pub mod Holding
 pub mod Used
 pub mod Peaks

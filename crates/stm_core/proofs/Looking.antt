@@ -1,8 +1,7 @@
 -- Looks at records, as a segment's view notes them.
-use Rattle.std.proofs.Common.{◌≡◌, ℕ, ◌<◌, arith, length, inl, inr, Bool, true, false, not, ◌||◌, Option, Some, None, sym, ◌∙◌, ap, IsSome, unwrap_or}
+use Rattle.std.proofs.Common.{◌≡◌, ℕ, inl, inr, Bool, true, false, not, ◌||◌, Option, Some, None, sym, ◌∙◌, ap, IsSome, unwrap_or}
 use Rattle.std.proofs.lemmas.Bool.{cases_Bool, cond-true, cond-false}
 use Rattle.py_data.specs.Heap.{Rec, Heap, Has, at, is_tracked, blank}
-use Rattle.py_data.specs.Sense.{IfThere}
 use Rattle.seg_store.specs.Meaning.{Meaning, sees}
 use Rattle.seg_store.specs.Calls.{after_mark}
 use Rattle.stm_core.specs.inner.Hold.{is_noted, Looks}
@@ -37,17 +36,6 @@ noted_unlooked h a b there e = elim (cases_Bool (is_tracked (at h a).kind)) [
   | inl t ↦ noted_tracked h a b there t ∙ e ∙ sym (ap not t)
   | inr f ↦ noted_fixed h a b there f ∙ sym (ap not f)
 ]
-
--- a place within the values of a record that is there
-pub place_there : (h : Heap) (a i n : ℕ) → IfThere false (h a) (λ r. Unit {0}) → n ≡ length (at h a).values → i < n →
-    IfThere false (h a) (λ r. i < length r.values)
-unfolding at
-place_there h a i n there e l = go (h a) there e
-  where
-    go : (o : Option Rec) → IfThere false o (λ r. Unit {0}) → n ≡ length (unwrap_or o blank).values →
-        IfThere false o (λ r. i < length r.values)
-    go None t e = t
-    go (Some r) t e = omega (arith, e, l)
 
 pub looks_noted : (a k : ℕ) (m : Meaning) → is_noted (sees m k a) ((m.part k).looked a) ≡ true → Looks a k m m
 looks_noted a k m e = sym (cond-true (is_noted (sees m k a) ((m.part k).looked a)) m (after_mark k a m) e)

@@ -3,8 +3,6 @@ use Rattle.std.proofs.Common.{◌≡◌, ◌≢◌, ◌||◌, ◌&&◌, not, ℕ
 use Rattle.std.proofs.lemmas.Bool.{eq-eqb, ne_eqb, cond-true, cond-false}
 use Rattle.py_data.specs.declared.stop.Side.{Side}
 use Rattle.py_data.specs.declared.stop.Conflict.{Conflict}
-use Rattle.py_data.specs.declared.stop.Stop.{Stop}
-use Rattle.py_data.specs.declared.stop.Stop.TheVariants.{Lost, NeedSolo, NeedHeap, Full, ReadFault, WriteFault, ErrFault, OutOfMemory}
 use Rattle.py_data.specs.Heap.{Heap}
 use Rattle.py_data.specs.Row.{Call}
 use Rattle.py_data.specs.Sight.{Sight, Does, pure}
@@ -19,6 +17,8 @@ use Rattle.lock_run.specs.Prog.{Prog}
 use Rattle.seg_store.specs.Meaning.{Meaning, sees, over}
 use Rattle.seg_store.specs.Store.{IsStore}
 use Rattle.stm_core.specs.declared.steps.Pause.{Pause}
+use Rattle.stm_core.specs.declared.halt.Halt.{Halt}
+use Rattle.stm_core.specs.declared.halt.Halt.TheVariants.{Lost, NeedSolo, Full, ReadFault, WriteFault, ErrFault, OutOfMemory}
 use Rattle.stm_core.specs.declared.steps.Pause.TheVariants.{Whole, Waits, Ended, Stopped}
 use Rattle.stm_core.specs.declared.books.Work.{Work}
 use Rattle.stm_core.specs.declared.books.Books.{Books}
@@ -132,7 +132,7 @@ module _ {S : Type 0} (p : Prog S) (w : Worlds) (k : ℕ) (m : Meaning) (b : Boo
       )
 
 -- a step that was cut
-pub why_cut : {S : Type 0} (p : Prog S) (k : ℕ) (w : Worlds) (e : Stop) (m m1 : Meaning) (r1 : ℕ) (b b1 : Books S)
+pub why_cut : {S : Type 0} (p : Prog S) (k : ℕ) (w : Worlds) (e : Halt) (m m1 : Meaning) (r1 : ℕ) (b b1 : Books S)
     (x x1 : Work S) → m1.image ≡ m.image →
     ((j : ℕ) (y : Transaction S) → j ≢ k → (core_of w m1 b1).segments j ≡ Running y → y.begun ≢ x1.begun)
     → StepCut p w k (side k (transaction w.own (m.part k) x)) e m b x m1 r1 b1 x1 → StopWhy p w k e m1 r1 b1 x1
@@ -150,7 +150,7 @@ why_cut {S} p k w e m m1 r1 b b1 x x1 im numbers z = why e z.why
     first_false false r h = refl
     first_false true r h = h
 
-    why : (y : Stop) → CutWhy k (side k (transaction w.own (m.part k) x)) y (p.row x.state)
+    why : (y : Halt) → CutWhy k (side k (transaction w.own (m.part k) x)) y (p.row x.state)
         (sight_of m.image w.committed (transaction w.own (m.part k) x)) (core_of w m1 b1) r1 m1.limit →
         StopWhy p w k y m1 r1 b1 x1
     why (Lost f) h =
@@ -160,7 +160,6 @@ why_cut {S} p k w e m m1 r1 b b1 x x1 im numbers z = why e z.why
     why NeedSolo h = (now AsksOutside outside_of_heap h.1, z.stays.solo ∙ h.0)
     why (Full r n l) h = (now (AsksRoom n) (room_of_heap n) h.0, h.1, h.2, h.3)
     why OutOfMemory h = tt
-    why NeedHeap h = h
     why ReadFault h = z.stays.solo ∙ h
     why WriteFault h = z.stays.solo ∙ h
     why ErrFault h = z.stays.solo ∙ h
@@ -211,7 +210,7 @@ module _ {S : Type 0} (p : Prog S) (most k n : ℕ) (t e : Option (List ℕ)) (w
       }
 
     -- it was cut
-    pub paused_cut : (stop : Stop) → StepCut p w k (side k (transaction w.own (m.part k) x)) stop m b x m1 r1 b1 x1 →
+    pub paused_cut : (stop : Halt) → StepCut p w k (side k (transaction w.own (m.part k) x)) stop m b x m1 r1 b1 x1 →
         ((j : ℕ) (y : Transaction S) → j ≢ k → (core_of w m1 b1).segments j ≡ Running y → y.begun ≢ x1.begun)
         → (x.solo ≡ true → StepBroke p t e m.image w.committed (transaction w.own (m.part k) x) stop d1) →
         Paused p most k t e w c0 (n + 0) (Stopped stop) m1 r1 b1 x1 d1

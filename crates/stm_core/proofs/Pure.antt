@@ -15,6 +15,7 @@ use Rattle.stm_core.specs.declared.books.Books.{Books}
 use Rattle.stm_core.specs.CoreState.{no_world, sight_of}
 use Rattle.stm_core.specs.Conflict.{side}
 use Rattle.stm_core.specs.Books.{Worlds, transaction, Fit}
+use Rattle.stm_core.specs.inner.Halts.{gave_none}
 use Rattle.stm_core.specs.inner.Hold.{Hold, holding, sight}
 use Rattle.stm_core.specs.inner.Whole.{stepped, StepDone}
 use Rattle.stm_core.proofs.Advancing.{done_not_waits}
@@ -36,9 +37,10 @@ module _ {S : Type 0} (p : Prog S) (w : Worlds) (k : ℕ) (m : Meaning) (r : ℕ
     (fit : Fit k m b x.progress) (store : IsStore r m) (lives : p.life x.state ≡ Lives)
     (asks_nothing : p.row x.state ≡ Ret (Done, q)) where
   abbrev held : Hold S
-  held = holding m r b x.progress None
+  held = holding m r b x.progress gave_none
 
-  begins : at_used (world_of w x.solo) x.solo (sight k held) ≡ sight_of m.image w.committed (transaction w.own (m.part k) x)
+  begins : at_used (world_of w x.solo) x.solo (sight k held) ≡
+      sight_of m.image w.committed (transaction w.own (m.part k) x)
   begins = sight_is w k m x held fit.own_names refl refl refl refl refl
 
   -- what the step begins with, and ends with
@@ -52,8 +54,8 @@ module _ {S : Type 0} (p : Prog S) (w : Worlds) (k : ℕ) (m : Meaning) (r : ℕ
   pure_done = record {
     dooms = [];
     others = refl;
-    goes = λ n. advances p w w.own k m m r x (stepped (record x { state = q })) held held Done (world_of w x.solo) x.solo
-        lives n does begins refl refl refl fit.own_names store (fit.locked k) refl refl refl refl
+    goes = λ n. advances p w w.own k m m r x (stepped (record x { state = q })) held held Done (world_of w x.solo)
+        x.solo lives n does begins refl refl refl fit.own_names store (fit.locked k) refl refl refl refl
         (λ y. sym (cond-true x.solo w.own w.committed y)) (λ y. y);
     waits = λ n. absurd (done_not_waits n);
     mortal = λ y. refl;

@@ -7,8 +7,9 @@ use Rattle.py_data.specs.declared.stop.Conflict.{Conflict}
 use Rattle.py_data.specs.declared.value.Addr.{Addr}
 use Rattle.py_data.specs.declared.value.Value.{Value}
 use Rattle.py_data.specs.declared.stop.Side.{Side}
-use Rattle.py_data.specs.declared.stop.Stop.{Stop}
-use Rattle.py_data.specs.declared.stop.Stop.TheVariants.{Lost, NeedSolo, NeedHeap, Full, ReadFault, WriteFault, ErrFault, OutOfMemory}
+use Rattle.stm_core.specs.declared.halt.Halt.{Halt}
+use Rattle.stm_core.specs.declared.halt.LastStop.{LastStop}
+use Rattle.stm_core.specs.declared.halt.Halt.TheVariants.{Lost, NeedSolo, Full, ReadFault, WriteFault, ErrFault, OutOfMemory}
 use Rattle.py_data.specs.Heap.{Rec, Heap, Marks, Has, at, is_tracked, blank, put_at, length_by}
 use Rattle.py_base.specs.declared.kind.Kind.TheVariants.{Str as StrKind}
 use Rattle.py_base.specs.declared.kind.Kind.{Kind}
@@ -26,7 +27,8 @@ use Rattle.seg_store.proofs.Sees.{same_marks, own_part, make_shows}
 use Rattle.stm_core.specs.declared.books.Progress.{Progress}
 use Rattle.stm_core.specs.declared.books.Books.{Books}
 use Rattle.stm_core.specs.Books.{runs_at, Worlds, segment_of, core_of, Fit}
-use Rattle.stm_core.specs.inner.Hold.{Hold, sight, Beside, SegDoes, SegRefuses, SegWhy, holding, is_noted, Looks, FaultWhy, stop_of}
+use Rattle.stm_core.specs.inner.Halts.{gave}
+use Rattle.stm_core.specs.inner.Hold.{Hold, sight, Beside, SegDoes, SegRefuses, SegWhy, holding, is_noted, Looks, FaultWhy, halt_of}
 use Rattle.seg_store.specs.Extents.{Wants}
 use Rattle.stm_core.specs.inner.SegSense.{Seen}
 use Rattle.stm_core.proofs.Looking.{noted_fixed}
@@ -60,8 +62,8 @@ marks_fixed a t m e = same_marks m (λ b. (eqb b a && t) || m b) (λ b. ap (λ z
 
 -- a look at a record, as a call
 pub see_done : {S : Type 0} (me : Side) (a k : ℕ) (m m1 : Meaning) (r r1 : ℕ) (b b1 : Books S) (p p1 : Progress S)
-    (o o1 : Option Stop) → runs_at b.hands.items k ≡ false → Has (sees m k) a → Looks a k m m1 → r1 ≡ r → b1 ≡ b →
-    p1 ≡ p → o1 ≡ o → o ≡ None
+    (o o1 : LastStop) → runs_at b.hands.items k ≡ false → Has (sees m k) a → Looks a k m m1 → r1 ≡ r → b1 ≡ b →
+    p1 ≡ p → o1 ≡ o → o.stopped ≡ None
     → SegDoes k me (Read a) (holding m r b p o) (at (sees m k) a) (holding m1 r1 b1 p1 o1)
 see_done {S} me a k m m1 r r1 b b1 p p1 o o1 out there h er eb ep eo live =
     let s = looks_same a k m m1 h in
@@ -84,14 +86,14 @@ see_done {S} me a k m m1 r r1 b b1 p p1 o o1 out there h er eb ep eo live =
 
 -- a call that stopped and changed nothing
 pub refused_alone : {S : Type 0} (k : ℕ) (me : Side) (c : Call S) (m m1 : Meaning) (r r1 : ℕ) (b b1 : Books S)
-    (p p1 : Progress S) (o o1 : Option Stop) (s : Stop) → m1 ≡ m → r ≤ r1 → b1 ≡ b → p1 ≡ p → o1 ≡ Some s
-    → SegWhy k me s c (sees m k) (holding m r1 b p (Some s)) →
+    (p p1 : Progress S) (o o1 : LastStop) (s : Halt) → m1 ≡ m → r ≤ r1 → b1 ≡ b → p1 ≡ p → o1 ≡ gave s
+    → SegWhy k me s c (sees m k) (holding m r1 b p (gave s)) →
     SegRefuses k me c (holding m r b p o) s (holding m1 r1 b1 p1 o1)
 refused_alone {S} k me c m m1 r r1 b b1 p p1 o o1 s em le eb ep eo why =
-    let base : SegRefuses k me c (holding m r b p o) s (holding m r1 b p (Some s)) =
+    let base : SegRefuses k me c (holding m r b p o) s (holding m r1 b p (gave s)) =
     record {
-      stopped = refl;
-      beside = beside_stop k me m r r1 b p o (Some s) le;
+      last = refl;
+      beside = beside_stop k me m r r1 b p o (gave s) le;
       why = why;
       looked = λ x h. inl h;
       locks = λ x h. inl h;
@@ -117,10 +119,10 @@ see_same a k k1 m m1 e h = ap (sees m1) e ∙ (looks_same a k m m1 h).0
 
 -- a look that found no memory
 pub see_refused : {S : Type 0} (me : Side) (a k : ℕ) (m m1 : Meaning) (r r1 : ℕ) (b b1 : Books S) (p p1 : Progress S)
-    (o o1 : Option Stop) (e : Stop) → e ≡ OutOfMemory → o1 ≡ Some OutOfMemory → m1 ≡ m → r1 ≡ r → b1 ≡ b → p1 ≡ p
-    → SegRefuses k me (Read a) (holding m r b p o) e (holding m1 r1 b1 p1 o1)
-see_refused {S} me a k m m1 r r1 b b1 p p1 o o1 e ee eo em er eb ep =
-    subst (λ z. SegRefuses k me (Read a) (holding m r b p o) z (holding m1 r1 b1 p1 o1)) (sym ee)
+    (o o1 : LastStop) → o1 ≡ gave OutOfMemory → m1 ≡ m → r1 ≡ r → b1 ≡ b → p1 ≡ p
+    → SegRefuses k me (Read a) (holding m r b p o) o1.halt (holding m1 r1 b1 p1 o1)
+see_refused {S} me a k m m1 r r1 b b1 p p1 o o1 eo em er eb ep =
+    subst (λ z. SegRefuses k me (Read a) (holding m r b p o) z (holding m1 r1 b1 p1 o1)) (sym (ap (λ z. z.halt) eo))
     (refused_alone k me (Read a) m m1 r r1 b b1 p p1 o o1 OutOfMemory em (omega (arith, er)) eb ep eo tt)
 
 -- ---- the search of a dictionary
@@ -134,10 +136,10 @@ find_done {S} k me a key d e o there h f = ((at (sees d.meaning k) a, h.0.0, fit
     fits : Fits (sees d.meaning k) (at (sees d.meaning k) a) key
     fits = subst (λ q. IfThere false q (λ r. Fits (sees d.meaning k) r key)) h.0.0 there
 
-pub find_refused : {S : Type 0} (k : ℕ) (me : Side) (a : ℕ) (key : Value) (d : Hold S) (s : Stop) (e : Hold S) →
+pub find_refused : {S : Type 0} (k : ℕ) (me : Side) (a : ℕ) (key : Value) (d : Hold S) (s : Halt) (e : Hold S) →
     SegRefuses k me (Read a) d s e → SegRefuses k me (Find a key) d s e
 find_refused k me a key d s e h = record {
-  stopped = h.stopped;
+  last = h.last;
   beside = h.beside;
   why = reason s h.why;
   looked =
@@ -145,12 +147,11 @@ find_refused k me a key d s e h = record {
   locks = h.locks;
 }
   where
-    reason : (z : Stop) → SegWhy k me z (Read a) (sees d.meaning k) e → SegWhy k me z (Find a key) (sees d.meaning k) e
+    reason : (z : Halt) → SegWhy k me z (Read a) (sees d.meaning k) e → SegWhy k me z (Find a key) (sees d.meaning k) e
     reason (Lost q) w = absurd w.0
     reason NeedSolo w = w
     reason (Full r n l) w = absurd w.0
     reason OutOfMemory w = w
-    reason NeedHeap w = w
     reason ReadFault w = w
     reason WriteFault w = w
     reason ErrFault w = w
@@ -186,7 +187,7 @@ core_started {S} w m b b1 eb et i = record {
 }
 
 pub start_done : {S : Type 0} (k : ℕ) (me : Side) (m : Meaning) (r : ℕ) (b b1 : Books S) (p p1 : Progress S)
-    (o : Option Stop) (s : S) → runs_at b.hands.items k ≡ false → o ≡ None
+    (o : LastStop) (s : S) → runs_at b.hands.items k ≡ false → o.stopped ≡ None
     → b1 ≡ record b { threads = b1.threads; pending = b1.pending } → b1.threads.entries ≡ b.threads.entries →
     p1 ≡ record p { started = p.started ++ s ∷ [] }
     → SegDoes k me (Start s) (holding m r b p o) tt (holding m r b1 p1 o)
@@ -242,7 +243,7 @@ fit_made {S} k n q m b p p1 a f an ep =
     places_more (y ∷ ys) x i e = ap (λ z. y.0 ∷ z) (places_more ys x i e)
 
 pub make_done : {S : Type 0} (k : ℕ) (me : Side) (m m1 : Meaning) (r r1 : ℕ) (b b1 : Books S) (p p1 : Progress S)
-    (o o1 : Option Stop) (q : Rec) (a : Addr) → runs_at b.hands.items k ≡ false → o ≡ None → IsFree m a.0 →
+    (o o1 : LastStop) (q : Rec) (a : Addr) → runs_at b.hands.items k ≡ false → o.stopped ≡ None → IsFree m a.0 →
     m1 ≡ after_make k a.0 q m → r ≤ r1
     → b1 ≡ b → p1 ≡ record p { names = p.names ++ a ∷ [] } → o1 ≡ o →
     SegDoes k me (Make q) (holding m r b p o) a.0 (holding m1 r1 b1 p1 o1)
@@ -298,40 +299,40 @@ make_done {S} k me m m1 r r1 b b1 p p1 o o1 q a out live free em er eb ep eo =
         looked = moved.looked;
         locks = moved.locks;
       },
-      eo ∙ live,
+      ap (λ z. z.stopped) eo ∙ live,
     )
 
 pub make_refused : {S : Type 0} (k : ℕ) (me : Side) (m m1 : Meaning) (r r1 : ℕ) (b b1 : Books S) (p p1 : Progress S)
-    (o o1 : Option Stop) (q : Rec) (x : StoreFault) (s : Stop) → m1 ≡ m → r ≤ r1 → b1 ≡ b → p1 ≡ p → s ≡ stop_of x →
-    o1 ≡ Some s
-    → FaultWhy (Wants None q) r1 m.limit x → SegRefuses k me (Make q) (holding m r b p o) s (holding m1 r1 b1 p1 o1)
-make_refused {S} k me m m1 r r1 b b1 p p1 o o1 q x s em er eb ep es eo why =
-    subst (λ z. SegRefuses k me (Make q) (holding m r b p o) z (holding m1 r1 b1 p1 o1)) (sym es)
-    (refused_alone k me (Make q) m m1 r r1 b b1 p p1 o o1 (stop_of x) em er eb ep (eo ∙ ap Some es) (reason x why))
+    (o o1 : LastStop) (q : Rec) (x : StoreFault) → m1 ≡ m → r ≤ r1 → b1 ≡ b → p1 ≡ p → o1 ≡ gave (halt_of x)
+    → FaultWhy (Wants None q) r1 m.limit x →
+    SegRefuses k me (Make q) (holding m r b p o) o1.halt (holding m1 r1 b1 p1 o1)
+make_refused {S} k me m m1 r r1 b b1 p p1 o o1 q x em er eb ep eo why =
+    subst (λ z. SegRefuses k me (Make q) (holding m r b p o) z (holding m1 r1 b1 p1 o1)) (sym (ap (λ z. z.halt) eo))
+    (refused_alone k me (Make q) m m1 r r1 b b1 p p1 o o1 (halt_of x) em er eb ep eo (reason x why))
   where
     reason : (y : StoreFault) → FaultWhy (Wants None q) r1 m.limit y →
-        SegWhy k me (stop_of y) (Make q) (sees m k) (holding m r1 b p (Some (stop_of x)))
+        SegWhy k me (halt_of y) (Make q) (sees m k) (holding m r1 b p (gave (halt_of x)))
     reason (FullStore u n l) w = w
     reason NoMemoryLeft w = tt
 
 -- a thread that can't be started
 pub start_refused : {S : Type 0} (k : ℕ) (me : Side) (x : S) (m m1 : Meaning) (r r1 : ℕ) (b b1 b2 : Books S)
-    (p p1 p2 : Progress S) (o o1 : Option Stop) (s : Stop) → s ≡ OutOfMemory → o1 ≡ Some OutOfMemory → m1 ≡ m → r1 ≡ r
+    (p p1 p2 : Progress S) (o o1 : LastStop) → o1 ≡ gave OutOfMemory → m1 ≡ m → r1 ≡ r
     → b1 ≡ record b { threads = b1.threads; pending = b1.pending } → b1.threads.entries ≡ b.threads.entries → b2 ≡ b1 →
-    p1 ≡ p → p2 ≡ p1 → SegRefuses k me (Start x) (holding m r b p o) s (holding m1 r1 b2 p2 o1)
-start_refused {S} k me x m m1 r r1 b b1 b2 p p1 p2 o o1 s es eo em er eb et eb2 ep ep2 =
-    let base : SegRefuses k me (Start x) (holding m r b1 p (Some OutOfMemory)) OutOfMemory
-    (holding m r b1 p (Some OutOfMemory)) =
+    p1 ≡ p → p2 ≡ p1 → SegRefuses k me (Start x) (holding m r b p o) o1.halt (holding m1 r1 b2 p2 o1)
+start_refused {S} k me x m m1 r r1 b b1 b2 p p1 p2 o o1 eo em er eb et eb2 ep ep2 =
+    let base : SegRefuses k me (Start x) (holding m r b1 p (gave OutOfMemory)) OutOfMemory
+    (holding m r b1 p (gave OutOfMemory)) =
     record {
-      stopped = refl;
-      beside = beside_stop k me m r r b1 p (Some OutOfMemory) (Some OutOfMemory) (omega arith);
+      last = refl;
+      beside = beside_stop k me m r r b1 p (gave OutOfMemory) (gave OutOfMemory) (omega arith);
       why = tt;
       looked = λ a h. inl h;
       locks = λ a h. inl h;
     } in
-    let full : SegRefuses k me (Start x) (holding m r b p o) OutOfMemory (holding m r b1 p (Some OutOfMemory)) =
+    let full : SegRefuses k me (Start x) (holding m r b p o) OutOfMemory (holding m r b1 p (gave OutOfMemory)) =
     record {
-      stopped = refl;
+      last = refl;
       beside = record {
         saw = refl;
         image = refl;
@@ -355,7 +356,7 @@ start_refused {S} k me x m m1 r r1 b b1 b2 p p1 p2 o o1 s es eo em er eb et eb2 
       looked = λ a h. inl h;
       locks = λ a h. inl h;
     } in
-    subst (λ z. SegRefuses k me (Start x) (holding m r b p o) z (holding m1 r1 b2 p2 o1)) (sym es)
+    subst (λ z. SegRefuses k me (Start x) (holding m r b p o) z (holding m1 r1 b2 p2 o1)) (sym (ap (λ z. z.halt) eo))
     (subst (λ z. SegRefuses k me (Start x) (holding m r b p o) OutOfMemory (holding z r1 b2 p2 o1)) (sym em)
     (subst (λ z. SegRefuses k me (Start x) (holding m r b p o) OutOfMemory (holding m z b2 p2 o1)) (sym er)
     (subst (λ z. SegRefuses k me (Start x) (holding m r b p o) OutOfMemory (holding m r z p2 o1)) (sym eb2)

@@ -1,12 +1,11 @@
 -- One step of a client over a segment's view, as the core sees it.
-use Rattle.std.proofs.Common.{◌≡◌, ℕ, ◌+◌, ◌/◌, ◌≤◌, true, false, cond, List, [], ◌∷◌, length, take, Option, None, refl, sym, ◌∙◌, ap, subst, inl, inr, arith, Result, Ok, Err, IfOk, IfErr, OnErr, All}
+use Rattle.std.proofs.Common.{◌≡◌, ℕ, ◌+◌, ◌/◌, ◌≤◌, true, false, cond, List, [], ◌∷◌, length, take, Option, refl, sym, ◌∙◌, ap, subst, inl, inr, arith, Result, Ok, Err, IfOk, IfErr, OnErr, All}
 use Rattle.std.proofs.lemmas.Bool.{cases_Bool, both_ways, or_left, cond-true, cond-false}
 use Rattle.std.proofs.lemmas.List.{take_all}
 use Rattle.py_data.specs.declared.value.Addr.{Addr}
 use Rattle.py_data.specs.declared.stop.Side.{Side}
 use Rattle.py_data.specs.declared.stop.Conflict.{Conflict}
 use Rattle.py_data.specs.declared.stop.Stop.{Stop}
-use Rattle.py_data.specs.declared.stop.Stop.TheVariants.{Lost, NeedSolo, NeedHeap, Full, ReadFault, WriteFault, ErrFault, OutOfMemory}
 use Rattle.py_data.specs.World.{World}
 use Rattle.py_data.specs.Collection.{places}
 use Rattle.py_data.specs.Heap.{Heap}
@@ -26,18 +25,21 @@ use Rattle.seg_store.specs.Store.{IsStore}
 use Rattle.seg_store.proofs.Sees.{own_part, step_shows}
 use Rattle.stm_core.specs.declared.books.Work.{Work}
 use Rattle.stm_core.specs.declared.books.Books.{Books}
+use Rattle.stm_core.specs.declared.halt.Halt.{Halt}
+use Rattle.stm_core.specs.declared.halt.Halt.TheVariants.{Lost, NeedSolo, Full, ReadFault, WriteFault, ErrFault, OutOfMemory}
 use Rattle.stm_core.specs.CoreState.{Running, sight_of}
 use Rattle.stm_core.specs.Conflict.{side}
 use Rattle.stm_core.specs.Moves.{Stays}
 use Rattle.stm_core.specs.Asking.{Reaches, AsksToChange, AsksOutside, AsksRoom, AskedFor}
 use Rattle.stm_core.specs.Books.{runs_at, Worlds, transaction, core_of, Fit}
 use Rattle.stm_core.specs.Devices.{DeviceState, ShowsWorld, Shown}
+use Rattle.stm_core.specs.inner.Halts.{gave_none, halt_for}
 use Rattle.stm_core.specs.inner.Hold.{Hold, holding, sight, Dooms, SegOpens, SegUndoes, LosesTo}
 use Rattle.stm_core.specs.InUse.{core_use, next_more, IfTold}
 use Rattle.stm_core.specs.inner.Rising.{RisesInStep}
 use Rattle.stm_core.specs.inner.SegSense.{seg_use, seg_sense, seg_bracket}
 use Rattle.stm_core.specs.inner.Trying.{core_with}
-use Rattle.stm_core.specs.inner.Whole.{stepped, StepDone, StepCut, StepBroke, StopsAt, CutWhy}
+use Rattle.stm_core.specs.inner.Whole.{stepped, StepDone, StepCut, StepBroke, StopsAt, StopOf, CutWhy}
 use Rattle.stm_core.proofs.Holding.{core_own}
 use Rattle.stm_core.proofs.Telling.{world_now, shown_now, tells_same}
 use Rattle.stm_core.proofs.Used.{use_apart}
@@ -96,7 +98,7 @@ writes_nothing (Do (Start x) f) h c y = absurd y
 -- ---- why a step was cut
 
 -- the row comes to the call that was refused
-reaches_call : {S A : Type 0} {k : ℕ} {s : Side} {row : Row S A} {z z1 : Sight S} {y : Stop} {d0 d : Hold S}
+reaches_call : {S A : Type 0} {k : ℕ} {s : Side} {row : Row S A} {z z1 : Sight S} {y : Halt} {d0 d : Hold S}
     (kind : Call S → Sight S → Type 0) → z ≡ z1 → (a : StopsAt k s row z y d0 d) → (c : Call S) (f : Reply c → Row S A)
     → a.left ≡ Do c f → kind c a.place → Reaches row z1 kind
 reaches_call {row = row} {z = z} kind e a c f q h =
@@ -110,7 +112,7 @@ reaches_call {row = row} {z = z} kind e a c f q h =
     })
 
 cut_why : {S A : Type 0} (w : Worlds) (k : ℕ) (s : Side) (m1 : Meaning) (r1 : ℕ) (b1 : Books S) {row : Row S A}
-    {z z1 : Sight S} (y : Stop) {d0 d : Hold S} → z ≡ z1 → core_of w d.meaning d.books ≡ core_of w m1 b1 →
+    {z z1 : Sight S} (y : Halt) {d0 d : Hold S} → z ≡ z1 → core_of w d.meaning d.books ≡ core_of w m1 b1 →
     r1 ≡ d.reserved → m1.limit ≡ d.meaning.limit → StopsAt k s row z y d0 d
     → CutWhy k s y row z1 (core_of w m1 b1) r1 m1.limit
 cut_why w k s m1 r1 b1 (Lost f) e c r l a =
@@ -128,7 +130,6 @@ cut_why w k s m1 r1 b1 (Full i n j) e c r l a =
           (reaches_call (AsksRoom n) e a q.0 q.1 q.2 q.3.0, q.3.1 ∙ sym r, q.3.2 ∙ sym l, q.3.3)
     ]
 cut_why w k s m1 r1 b1 OutOfMemory e c r l a = tt
-cut_why w k s m1 r1 b1 NeedHeap e c r l a = elim a.why [ inl q ↦ (let p = q in absurd cc) | inr q ↦ absurd q.3.1 ]
 cut_why w k s m1 r1 b1 ReadFault e c r l a = elim a.why [ inl q ↦ (let p = q in absurd cc) | inr q ↦ q.3.0 ]
 cut_why w k s m1 r1 b1 WriteFault e c r l a = elim a.why [ inl q ↦ (let p = q in absurd cc) | inr q ↦ q.3.0 ]
 cut_why w k s m1 r1 b1 ErrFault e c r l a = elim a.why [ inl q ↦ (let p = q in absurd cc) | inr q ↦ q.3.0 ]
@@ -156,7 +157,7 @@ module _ {S X : Type 0} (hold : X → Hold S) (devices : X → DeviceState) (seg
     -- meaning m, the books b and the devices p, and opened as v1. The step leaves the view u and the state q.
     module _ (t e : Option (List ℕ)) (prog : Prog S) (w : Worlds) (k : ℕ) (m : Meaning) (r : ℕ) (b : Books S)
         (x : Work S) (p : DeviceState) (v v1 u : X) (q : S)
-        (ev : hold v ≡ holding m r b x.progress None) (pv : devices v ≡ p) (ek : segment v ≡ k)
+        (ev : hold v ≡ holding m r b x.progress gave_none) (pv : devices v ≡ p) (ek : segment v ≡ k)
         (es : me v ≡ side k (transaction w.own (m.part k) x))
         (opens : (seg_bracket hold devices segment me same).opens v v1)
         (fit : Fit k m b x.progress) (fit1 : Fit k (hold u).meaning (hold u).books (hold u).progress)
@@ -176,7 +177,7 @@ module _ {S X : Type 0} (hold : X → Hold S) (devices : X → DeviceState) (seg
         abbrev pub x1 : Work S
         x1 = record x { state = q; progress = (hold u).progress }
 
-        op : SegOpens k (holding m r b x.progress None) (hold v1)
+        op : SegOpens k (holding m r b x.progress gave_none) (hold v1)
         op = subst (λ d. SegOpens k d (hold v1)) ev (subst (λ i. SegOpens i (hold v) (hold v1)) ek opens.0)
 
         part_begins : (hold v1).meaning.part k ≡ opened (m.part k)
@@ -199,7 +200,10 @@ module _ {S X : Type 0} (hold : X → Hold S) (devices : X → DeviceState) (seg
             let z : ShowsWorld t e (devices v1) w.own =
             subst (λ (d : DeviceState). ShowsWorld t e d w.own)
             (sym (opens.1 ∙ ap (λ (d : DeviceState). record d { was_mid = d.mid }) pv))
-            (record { tells = record { input = y.tells.input; ends = y.tells.ends; out = y.tells.out; err = y.tells.err }; mid = y.mid }) in
+            (record {
+              tells = record { input = y.tells.input; ends = y.tells.ends; out = y.tells.out; err = y.tells.err };
+              mid = y.mid;
+            }) in
             subst (ShowsWorld t e (devices v1)) (sym (cond-true x.solo w.own w.committed solo)) z
 
         -- the core's state once the step was opened
@@ -360,7 +364,12 @@ module _ {S X : Type 0} (hold : X → Hold S) (devices : X → DeviceState) (seg
         module _ (stop : Stop) (state : q ≡ x.state) (u1 : X)
             (stopped : Stopped (seg_sense hold devices segment me same) (prog.row x.state) v1 stop u1)
             (undoes : (seg_bracket hold devices segment me same).undoes u1 u) where
-          cut : Stops t e k s (prog.row x.state) (world_of w x.solo) x.solo (hold v1) stop (hold u1) (devices u1)
+          -- why it was cut
+          abbrev pub halt : Halt
+          halt = halt_for stop (hold u).last.halt
+
+          cut : Stops t e k s (prog.row x.state) (world_of w x.solo) x.solo (hold v1)
+              (halt_for stop (hold u1).last.halt) (hold u1) (devices u1)
           cut = row_stopped hold devices segment me same same_refl same_then t e k s (prog.row x.state) v1 stop u1
               (world_of w x.solo) x.solo (opens.2.segment_is ∙ ek) (opens.2.me_is ∙ es) shown_begins asks stopped
 
@@ -371,6 +380,9 @@ module _ {S X : Type 0} (hold : X → Hold S) (devices : X → DeviceState) (seg
 
           un : SegUndoes k (hold u1) (hold u)
           un = subst (λ i. SegUndoes i (hold u1) (hold u)) at_end undoes.0
+
+          halt_same : halt_for stop (hold u1).last.halt ≡ halt
+          halt_same = ap (λ (z : Hold S). halt_for stop z.last.halt) (sym un)
 
           part_ends : m1.part k ≡ undone ((hold u1).meaning.part k)
           part_ends = ap (λ (z : Hold S). z.meaning.part k) un ∙
@@ -409,7 +421,7 @@ module _ {S X : Type 0} (hold : X → Hold S) (devices : X → DeviceState) (seg
               (λ a l. ap (λ (z : Part). mem a z.changed) part_ends ∙
               z.locks a (ap (λ (z : Part). mem a z.changed) part_begins ∙ l))
 
-          pub step_cut : StepCut prog w k s stop m b x m1 (hold u).reserved b1 x1
+          pub step_cut : StepCut prog w k s halt m b x m1 (hold u).reserved b1 x1
           step_cut =
               let z = cut.at in
               record {
@@ -427,12 +439,14 @@ module _ {S X : Type 0} (hold : X → Hold S) (devices : X → DeviceState) (seg
                   asked = subst (λ y. All (λ (f : Conflict). AskedFor (prog.row x.state) y z.left z.place f.at.0)
                       z.beside.dooms) begins z.beside.asked;
                 };
-                why = cut_why w k s m1 (hold u).reserved b1 stop begins (sym core_ends)
-                    (ap (λ (y : Hold S). y.reserved) un) (ap (λ (y : Hold S). y.meaning.limit) un) z;
+                why = subst (λ h. CutWhy k s h (prog.row x.state) (sight_of m.image w.committed
+                    (transaction w.own (m.part k) x)) (core_of w m1 b1) (hold u).reserved m1.limit) halt_same
+                    (cut_why w k s m1 (hold u).reserved b1 (halt_for stop (hold u1).last.halt) begins (sym core_ends)
+                    (ap (λ (y : Hold S). y.reserved) un) (ap (λ (y : Hold S). y.meaning.limit) un) z);
               }
 
           -- of a solo one, and what the devices were told
-          pub step_broke : x.solo ≡ true → StepBroke prog t e m.image w.committed (transaction w.own (m.part k) x) stop
+          pub step_broke : x.solo ≡ true → StepBroke prog t e m.image w.committed (transaction w.own (m.part k) x) halt
               (devices u)
           step_broke solo =
               let y = cut.told solo in
@@ -450,5 +464,5 @@ module _ {S X : Type 0} (hold : X → Hold S) (devices : X → DeviceState) (seg
                   part =
                       y.part;
                 };
-                fault = cut.fault;
+                fault = subst (λ h. StopOf h cut.at.left) halt_same cut.fault;
               }

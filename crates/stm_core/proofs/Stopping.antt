@@ -3,7 +3,6 @@ use Rattle.std.proofs.Common.{◌≡◌, ℕ, Bool, true, false, cond, List, Opt
 use Rattle.std.proofs.lemmas.Bool.{both_ways, or_cases, or_left, or_right}
 use Rattle.py_data.specs.declared.stop.Side.{Side}
 use Rattle.py_data.specs.declared.stop.Stop.{Stop}
-use Rattle.py_data.specs.declared.stop.Stop.TheVariants.{Lost, NeedSolo, Full, OutOfMemory}
 use Rattle.py_data.specs.declared.stop.Out.{Out}
 use Rattle.py_data.specs.declared.stop.Out.TheVariants.{Output, ErrorOutput}
 use Rattle.py_data.specs.Heap.{Heap}
@@ -18,15 +17,19 @@ use Rattle.lock_run.proofs.Following.{upto_none}
 use Rattle.seg_store.specs.Meaning.{Meaning, sees, over}
 use Rattle.seg_store.specs.Store.{IsStore}
 use Rattle.stm_core.specs.declared.books.Work.{Work}
+use Rattle.stm_core.specs.declared.halt.Halt.{Halt}
+use Rattle.stm_core.specs.declared.halt.Halt.TheVariants.{Lost, NeedSolo, Full, OutOfMemory}
 use Rattle.stm_core.specs.CoreState.{no_world}
 use Rattle.stm_core.specs.Moves.{Stays}
 use Rattle.stm_core.specs.Asking.{IsOuter, Changes, AskedFor, LooksNext, ChangesNext}
 use Rattle.stm_core.specs.Books.{transaction, is_lock}
 use Rattle.stm_core.specs.Devices.{DeviceState, Shown}
+use Rattle.stm_core.specs.inner.Halts.{stop_of, halt_for}
 use Rattle.stm_core.specs.inner.Hold.{Hold, sight, SegRefuses, SegWhy}
 use Rattle.stm_core.specs.inner.Outer.{WriteRefused, ErrRefused, OuterRefuses}
 use Rattle.stm_core.specs.inner.SegSense.{seg_sense}
 use Rattle.stm_core.specs.inner.Whole.{StopsAt, StopOf}
+use Rattle.stm_core.proofs.Halting.{halt_given}
 use Rattle.stm_core.proofs.Holding.{beside_then, beside_weaker}
 use Rattle.stm_core.proofs.Telling.{Told, told_none, call_told, fault_of}
 use Rattle.stm_core.proofs.Way.{at_used, Way, way}
@@ -64,20 +67,20 @@ writes_apart (Start x) f a h = absurd h
 
 -- it is refused for no other cause than that it isn't solo
 needs_solo : {S : Type 0} (k : ℕ) (me : Side) (on : Out) (bytes : List ℕ) (h : Heap) (d : Hold S) → me.solo ≡ false →
-    (z : Stop) → SegWhy k me z (Put on bytes) h d → (z ≡ OutOfMemory → me.solo ≡ true) → z ≡ NeedSolo
+    (z : Halt) → SegWhy k me z (Put on bytes) h d → (z ≡ OutOfMemory → me.solo ≡ true) → z ≡ NeedSolo
 needs_solo k me on bytes h d m NeedSolo y n = refl
 needs_solo k me on bytes h d m (Lost g) y n = absurd y.0
 needs_solo k me on bytes h d m (Full i l j) y n = absurd y.0
 needs_solo k me on bytes h d m OutOfMemory y n = absurd (both_ways me.solo m (n refl))
 needs_solo k me on bytes h d m _ y n = absurd (both_ways me.solo m y.0)
 
-write_alone : {S A : Type 0} (k : ℕ) (me : Side) (s : Stop) (c : Call S) (f : Reply c → Row S A) (h : Heap)
+write_alone : {S A : Type 0} (k : ℕ) (me : Side) (s : Halt) (c : Call S) (f : Reply c → Row S A) (h : Heap)
     (d : Hold S) (p q : DeviceState) → me.solo ≡ false → Writes (Do c f) → SegWhy k me s c h d →
-    OuterRefuses me c s p q → s ≡ NeedSolo
+    OuterRefuses me c (stop_of s) p q → s ≡ NeedSolo
 write_alone k me s (Put Output bytes) f h d p q m t w o =
-    needs_solo k me Output bytes h d m s w (λ e. (subst (λ z. WriteRefused z me bytes p q) e o).0)
+    needs_solo k me Output bytes h d m s w (λ e. (subst (λ z. WriteRefused (stop_of z) me bytes p q) e o).0)
 write_alone k me s (Put ErrorOutput bytes) f h d p q m t w o =
-    needs_solo k me ErrorOutput bytes h d m s w (λ e. (subst (λ z. ErrRefused z me bytes p q) e o).0)
+    needs_solo k me ErrorOutput bytes h d m s w (λ e. (subst (λ z. ErrRefused (stop_of z) me bytes p q) e o).0)
 write_alone k me s (Take most) f h d p q m t w o = absurd t
 write_alone k me s MidLine f h d p q m t w o = absurd t
 write_alone k me s (SetMidLine b) f h d p q m t w o = absurd t
@@ -91,7 +94,7 @@ write_alone k me s (Start x) f h d p q m t w o = absurd t
 
 -- Where a row was stopped, and what the devices were told of the next call where the transaction is solo.
 pub record Stops {S A : Type 0} (t e : Option (List ℕ)) (k : ℕ) (me : Side) (row : Row S A) (w : World) (u : Bool)
-    (d : Hold S) (stop : Stop) (d1 : Hold S) (q : DeviceState) : Type 0 where
+    (d : Hold S) (stop : Halt) (d1 : Hold S) (q : DeviceState) : Type 0 where
   pub at : StopsAt k me row (at_used w u (sight k d)) stop d d1
   pub told : me.solo ≡ true → Told t e at.left at.place.world q
   pub fault : StopOf stop at.left
@@ -105,7 +108,7 @@ module _ {S A : Type 0} (t e : Option (List ℕ)) (k : ℕ) (me : Side) (row : R
   place = at_used y.world y.used (sight k d1)
 
   -- the code found no memory
-  stops_none : (stop : Stop) → stop ≡ OutOfMemory → Stops t e k me row w u d stop d1 p
+  stops_none : (stop : Halt) → stop ≡ OutOfMemory → Stops t e k me row w u d stop d1 p
   stops_none stop why = record {
     at = record {
       left = y.next;
@@ -121,8 +124,8 @@ module _ {S A : Type 0} (t e : Option (List ℕ)) (k : ℕ) (me : Side) (row : R
   }
 
   -- the next call was refused
-  stops_next : (c : Call S) (f : Reply c → Row S A) (stop : Stop) (d2 : Hold S) (q : DeviceState) → y.next ≡ Do c f →
-      SegRefuses k me c d1 stop d2 → OuterRefuses me c stop p q → Stops t e k me row w u d stop d2 q
+  stops_next : (c : Call S) (f : Reply c → Row S A) (stop : Halt) (d2 : Hold S) (q : DeviceState) → y.next ≡ Do c f →
+      SegRefuses k me c d1 stop d2 → OuterRefuses me c (stop_of stop) p q → Stops t e k me row w u d stop d2 q
   stops_next c f stop d2 q next h o =
       let asked : (a : ℕ) → Changes a c → AskedFor row start y.next place a = λ a x. record {
         call = c;
@@ -148,13 +151,13 @@ module _ {S A : Type 0} (t e : Option (List ℕ)) (k : ℕ) (me : Side) (row : R
           why = inr (c, f, next, h.why);
         };
         told = λ solo. subst (λ z. Told t e z y.world q) (sym next)
-            (call_told t e c f y.world stop me p q (y.shown solo) o);
+            (call_told t e c f y.world (stop_of stop) me p q (y.shown solo) o);
         fault = subst (λ z. StopOf stop z) (sym next) (fault_of k me stop c f (sees d1.meaning k) d2 h.why);
       }
 
   -- one that isn't solo writes next, by the flag that it was told and in its own world
-  stops_write : (c : Call S) (f : Reply c → Row S A) (stop : Stop) (d2 : Hold S) (q : DeviceState) → me.solo ≡ false →
-      Writes y.next → Writes (Do c f) → SegRefuses k me c d1 stop d2 → OuterRefuses me c stop p q →
+  stops_write : (c : Call S) (f : Reply c → Row S A) (stop : Halt) (d2 : Hold S) (q : DeviceState) → me.solo ≡ false →
+      Writes y.next → Writes (Do c f) → SegRefuses k me c d1 stop d2 → OuterRefuses me c (stop_of stop) p q →
       Stops t e k me row w u d stop d2 q
   stops_write c f stop d2 q mortal next told h o =
       let n = writes_call y.next next in
@@ -179,8 +182,8 @@ module _ {S A : Type 0} (t e : Option (List ℕ)) (k : ℕ) (me : Side) (row : R
         fault = subst (λ z. StopOf z y.next) (sym need) tt;
       }
 
-  stops_refused : (c : Call S) (f : Reply c → Row S A) (stop : Stop) (d2 : Hold S) (q : DeviceState) → left ≡ Do c f →
-      SegRefuses k me c d1 stop d2 → OuterRefuses me c stop p q → Stops t e k me row w u d stop d2 q
+  stops_refused : (c : Call S) (f : Reply c → Row S A) (stop : Halt) (d2 : Hold S) (q : DeviceState) → left ≡ Do c f →
+      SegRefuses k me c d1 stop d2 → OuterRefuses me c (stop_of stop) p q → Stops t e k me row w u d stop d2 q
   stops_refused c f stop d2 q same h o = elim y.ends [
     | inl x ↦ stops_next c f stop d2 q (x.0 ∙ same) h o
     | inr x ↦ stops_write c f stop d2 q x.0 x.1 (subst (λ (z : Row S A). Writes z) same x.2) h o
@@ -193,19 +196,22 @@ module _ {S X : Type 0} (hold : X → Hold S) (devices : X → DeviceState) (seg
   pub row_stopped : {A : Type 0} (row : Row S A) (v : X) (stop : Stop) (x : X) (w : World) (u : Bool) → segment v ≡ k →
       me v ≡ s → Shown s.solo t e (devices v) w → AsksToPrint row
       → Stopped (seg_sense hold devices segment me same) row v stop x →
-      Stops t e k s row w u (hold v) stop (hold x) (devices x)
+      Stops t e k s row w u (hold v) (halt_for stop (hold x).last.halt) (hold x) (devices x)
   row_stopped row v stop x w u ek es shown asks h =
       let a = stopped_at (seg_sense hold devices segment me same) row v stop x h in
       let y = way hold devices segment me same t e k s row v a.left a.place w u ek es shown asks a.upto in
       elim a.why [
-        | inl z ↦ subst (λ (q : X). Stops t e k s row w u (hold v) stop (hold q) (devices q)) (sym z.1)
-            (stops_none t e k s row w u (hold v) a.left (hold a.place) (devices a.place) y stop z.0)
+        | inl z ↦ subst (λ (q : X). Stops t e k s row w u (hold v) (halt_for stop (hold q).last.halt) (hold q)
+            (devices q)) (sym z.1) (stops_none t e k s row w u (hold v) a.left (hold a.place) (devices a.place) y
+            (halt_for stop (hold a.place).last.halt) (ap (λ e. halt_for e (hold a.place).last.halt) z.0))
         | inr z ↦
             let b = upto_keeps hold devices segment me same same_refl same_then k s row v a.left a.place a.upto ek es in
             let r = refused_at hold devices segment me same same_refl same_then k s z.0 a.place stop x b.segment_is
             b.me_is z.3 in
-            stops_refused t e k s row w u (hold v) a.left (hold a.place) (devices a.place) y z.0 z.1 stop (hold x)
-            (devices x) z.2 r.0 r.1
+            let halt : Halt = (hold x).last.halt in
+            subst (λ h. Stops t e k s row w u (hold v) h (hold x) (devices x)) (sym (halt_given stop halt r.2))
+            (stops_refused t e k s row w u (hold v) a.left (hold a.place) (devices a.place) y z.0 z.1 halt (hold x)
+            (devices x) z.2 r.0 (subst (λ h. OuterRefuses s z.0 h (devices a.place) (devices x)) r.2 r.1))
       ]
 
 -- ---- a step that leaves looks and locks alone

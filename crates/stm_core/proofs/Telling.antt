@@ -2,13 +2,15 @@
 use Rattle.std.proofs.Common.{◌≡◌, ℕ, List, [], length, take, Option, Some, None, refl, sym, ◌∙◌, ap, subst, append-nil}
 use Rattle.py_data.specs.declared.stop.Side.{Side}
 use Rattle.py_data.specs.declared.stop.Stop.{Stop}
-use Rattle.py_data.specs.declared.stop.Stop.TheVariants.{Lost, NeedSolo, NeedHeap, Full, ReadFault, WriteFault, ErrFault, OutOfMemory}
+use Rattle.py_data.specs.declared.stop.Stop.TheVariants.{NeedSolo, ReadFault, WriteFault, ErrFault}
 use Rattle.py_data.specs.declared.stop.Out.TheVariants.{Output, ErrorOutput}
 use Rattle.py_data.specs.Heap.{Heap}
 use Rattle.py_data.specs.World.{World, ends_after, wrote, took, grown, shrunk}
 use Rattle.py_data.specs.Row.{Call, Reply, Row, Ret, Do, Read, Find, Edit, Make, Start, Put, Take, MidLine, SetMidLine}
 use Rattle.lock_run.specs.Cut.{PartOf}
 use Rattle.lock_run.proofs.Following.{grown_then}
+use Rattle.stm_core.specs.declared.halt.Halt.{Halt}
+use Rattle.stm_core.specs.declared.halt.Halt.TheVariants as halt
 use Rattle.stm_core.specs.Devices.{DeviceState, Tells, ShowsWorld}
 use Rattle.stm_core.specs.inner.Hold.{Hold, SegWhy}
 use Rattle.stm_core.specs.inner.Outer.{WriteRefused, ErrRefused, TakeRefused, OuterRefuses}
@@ -114,19 +116,18 @@ part_none (Do (Make x) f) w = refl
 part_none (Do (Start x) f) w = refl
 
 -- a fault of a device is one of the call that was refused
-pub fault_of : {S A : Type 0} (k : ℕ) (me : Side) (s : Stop) (c : Call S) (f : Reply c → Row S A) (h : Heap)
+pub fault_of : {S A : Type 0} (k : ℕ) (me : Side) (s : Halt) (c : Call S) (f : Reply c → Row S A) (h : Heap)
     (d : Hold S) → SegWhy k me s c h d → StopOf s (Do c f)
-fault_of k me ReadFault (Take most) f h d w = tt
-fault_of k me ReadFault _ f h d w = absurd w.1
-fault_of k me WriteFault (Put Output bytes) f h d w = tt
-fault_of k me WriteFault _ f h d w = absurd w.1
-fault_of k me ErrFault (Put ErrorOutput bytes) f h d w = tt
-fault_of k me ErrFault _ f h d w = absurd w.1
-fault_of k me (Lost c) q f h d w = tt
-fault_of k me NeedSolo c f h d w = tt
-fault_of k me NeedHeap c f h d w = tt
-fault_of k me (Full i l j) c f h d w = tt
-fault_of k me OutOfMemory c f h d w = tt
+fault_of k me halt.ReadFault (Take most) f h d w = tt
+fault_of k me halt.ReadFault _ f h d w = absurd w.1
+fault_of k me halt.WriteFault (Put Output bytes) f h d w = tt
+fault_of k me halt.WriteFault _ f h d w = absurd w.1
+fault_of k me halt.ErrFault (Put ErrorOutput bytes) f h d w = tt
+fault_of k me halt.ErrFault _ f h d w = absurd w.1
+fault_of k me (halt.Lost c) q f h d w = tt
+fault_of k me halt.NeedSolo c f h d w = tt
+fault_of k me (halt.Full i l j) c f h d w = tt
+fault_of k me halt.OutOfMemory c f h d w = tt
 
 -- From the world w on, the devices were told this, which is a part of the row's next call.
 pub record Told {S A : Type 0} (t e : Option (List ℕ)) (row : Row S A) (w : World) (q : DeviceState) : Type 0 where
@@ -142,7 +143,8 @@ told_none t e row w p q h a n b c = record { told = w; tells = tells_same t e p 
 told_same : {S A : Type 0} (t e : Option (List ℕ)) (row : Row S A) (w : World) (p q : DeviceState) → Tells t e p w →
     q ≡ p → Told t e row w q
 told_same t e row w p q h same = told_none t e row w p q h (ap (λ (z : DeviceState). z.input) same)
-    (ap (λ (z : DeviceState). z.ends) same) (ap (λ (z : DeviceState). z.out) same) (ap (λ (z : DeviceState). z.err) same)
+    (ap (λ (z : DeviceState). z.ends) same) (ap (λ (z : DeviceState). z.out) same)
+    (ap (λ (z : DeviceState). z.err) same)
 
 write_told : {S A : Type 0} (t e : Option (List ℕ)) (bytes : List ℕ) (f : Unit {0} → Row S A) (w : World) (s : Stop)
     (me : Side) (p q : DeviceState) → ShowsWorld t e p w → WriteRefused s me bytes p q →
@@ -156,7 +158,8 @@ write_told t e bytes f w WriteFault me p q h r = let n = r.1.0 in
           (n, refl);
     }
 write_told t e bytes f w _ me p q h r = told_none t e (Do (Put Output bytes) f) w p q h.tells
-    (ap (λ (z : DeviceState). z.input) r.1) (ap (λ (z : DeviceState). z.ends) r.1) (ap (λ (z : DeviceState). z.out) r.1) (ap (λ (z : DeviceState). z.err) r.1)
+    (ap (λ (z : DeviceState). z.input) r.1) (ap (λ (z : DeviceState). z.ends) r.1)
+    (ap (λ (z : DeviceState). z.out) r.1) (ap (λ (z : DeviceState). z.err) r.1)
 
 err_told : {S A : Type 0} (t e : Option (List ℕ)) (bytes : List ℕ) (f : Unit {0} → Row S A) (w : World) (s : Stop)
     (me : Side) (p q : DeviceState) → ShowsWorld t e p w → ErrRefused s me bytes p q →
@@ -169,7 +172,8 @@ err_told t e bytes f w ErrFault me p q h r = let n = r.1.0 in
       part = (n, refl);
     }
 err_told t e bytes f w _ me p q h r = told_none t e (Do (Put ErrorOutput bytes) f) w p q h.tells
-    (ap (λ (z : DeviceState). z.input) r.1) (ap (λ (z : DeviceState). z.ends) r.1) (ap (λ (z : DeviceState). z.out) r.1) (ap (λ (z : DeviceState). z.err) r.1)
+    (ap (λ (z : DeviceState). z.input) r.1) (ap (λ (z : DeviceState). z.ends) r.1)
+    (ap (λ (z : DeviceState). z.out) r.1) (ap (λ (z : DeviceState). z.err) r.1)
 
 take_told : {S A : Type 0} (t e : Option (List ℕ)) (most : ℕ) (f : List ℕ → Row S A) (w : World) (s : Stop) (me : Side)
     (p q : DeviceState) → ShowsWorld t e p w → TakeRefused s me p q → Told t e (Do (Take most) f) w q
@@ -182,7 +186,8 @@ take_told t e most f w ReadFault me p q h r = let n = r.1.0 in
           (n, refl);
     }
 take_told t e most f w _ me p q h r = told_none t e (Do (Take most) f) w p q h.tells
-    (ap (λ (z : DeviceState). z.input) r.1) (ap (λ (z : DeviceState). z.ends) r.1) (ap (λ (z : DeviceState). z.out) r.1) (ap (λ (z : DeviceState). z.err) r.1)
+    (ap (λ (z : DeviceState). z.input) r.1) (ap (λ (z : DeviceState). z.ends) r.1)
+    (ap (λ (z : DeviceState). z.out) r.1) (ap (λ (z : DeviceState). z.err) r.1)
 
 -- of a call that was refused a part was told
 pub call_told : {S A : Type 0} (t e : Option (List ℕ)) (c : Call S) (f : Reply c → Row S A) (w : World) (s : Stop)

@@ -1,10 +1,10 @@
 -- The devices of a core as values, and the world that they show. States `docs/HEAP.md`, "What the devices were told".
 use Rattle.std.specs.Prelude.{◌≡◌, ℕ, ◌≤◌, Bool, true, List, Option}
-use Rattle.py_data.specs.declared.stop.Stop.{Stop}
-use Rattle.py_data.specs.declared.stop.Stop.TheVariants.{ReadFault, WriteFault, ErrFault}
 use Rattle.py_data.specs.World.{World, grown}
 use Rattle.stm_io.specs.Outside.{SourceState, SinkState, Rose}
 use Rattle.stm_core.specs.declared.devices.Devices.{Devices}
+use Rattle.stm_core.specs.declared.halt.Halt.{Halt}
+use Rattle.stm_core.specs.declared.halt.Halt.TheVariants.{ReadFault, WriteFault, ErrFault}
 
 -- what they tell, how often the input came to its end, whether the output is in the middle of a line, whether it was
 -- when the open step began, and the counts of faults
@@ -59,8 +59,8 @@ pub record CountsGrow (d d1 : DeviceState) : Type 0 where
   pub writes : d.writes ≤ d1.writes
   pub errs : d.errs ≤ d1.errs
 
--- the count of the device whose fault a Stop is rose, or stands at its last number
-abbrev pub StopRose : Stop → DeviceState → DeviceState → Type 0
+-- the count of the device whose fault a Halt tells rose, or stands at its last number
+abbrev pub StopRose : Halt → DeviceState → DeviceState → Type 0
 StopRose ReadFault d d1 = Rose d.reads d1.reads
 StopRose WriteFault d d1 = Rose d.writes d1.writes
 StopRose ErrFault d d1 = Rose d.errs d1.errs

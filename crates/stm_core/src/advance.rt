@@ -2,10 +2,10 @@
 use crate::answers::{Advance, AdvanceError};
 use crate::books::{Hand, Work};
 use crate::cause::Cause;
+use crate::halt::Halt;
 use crate::steps::Pause;
 use crate::transactions::Core;
 use lock_run::{Client, Life};
-use py_data::Stop;
 use seg_store::SegStore;
 use stm_io::{Sink, Source};
 
@@ -37,13 +37,13 @@ impl<'p, C: Client, S: SegStore, I: Source, O: Sink, E: Sink> Core<'p, C, S, I, 
         k: u8,
         work: Work<C::State>,
         done: u64,
-        stop: Stop,
+        halt: Halt,
     ) -> Result<Advance, AdvanceError>
         requires fit { Fit k (S.meaning self.old.store) self.old.books work.progress }
         requires idle { slice_get self.old.books.hands.items k ≡ Some Hand.Idle }
         requires thread { work.thread < length self.old.books.threads.entries }
         requires count { CountsSteps self.old.spent self.old.books.history.entries }
-        requires why { (w : Worlds) × PauseWhy (C.prog self.old.client.now) w k (Pause.Stopped stop)
+        requires why { (w : Worlds) × PauseWhy (C.prog self.old.client.now) w k (Pause.Stopped halt)
             (S.meaning self.old.store) (S.reserved self.old.store) self.old.books work }
         ensures rest { self.new ≡ record self.old {
           store = self.new.store;
@@ -57,28 +57,28 @@ impl<'p, C: Client, S: SegStore, I: Source, O: Sink, E: Sink> Core<'p, C, S, I, 
         ensures count { CountsSteps self.new.spent self.new.books.history.entries }
         ensures counted { (most : ℕ) → done < most → CountsDone most done result }
         ensures tried { tried_after result ≡ 1 }
-        ensures rose { (d d1 : DeviceState) → PauseRose (Pause.Stopped stop) d d1
+        ensures rose { (d d1 : DeviceState) → PauseRose (Pause.Stopped halt) d d1
             → KeepsOrRose self.old.books.cause self.new.books.cause d d1 }
-        ensures fault { (d d1 : DeviceState) → StopRose stop d d1 → FaultRose result d d1 }
+        ensures fault { (d d1 : DeviceState) → StopRose halt d d1 → FaultRose result d d1 }
         ensures settled { (t e : Option (List ℕ)) (w : Worlds) (o : Outer C.State)
             → IsOut (C.prog self.old.client.now) t e (device_state I.state O.state E.state self.old.devices) w k
-            (Pause.Stopped stop) (S.meaning self.old.store) (S.reserved self.old.store) self.old.books work o
+            (Pause.Stopped halt) (S.meaning self.old.store) (S.reserved self.old.store) self.old.books work o
             → SettledTo t e (device_state I.state O.state E.state self.new.devices) (S.meaning self.new.store)
             self.new.books
             (Ends (C.prog self.old.client.now) k (S.meaning self.old.store).segments (S.reserved self.new.store)
             (S.meaning self.new.store).limit o (transaction w.own ((S.meaning self.old.store).part k) work)
             result) }
     {
-        match stop {
-            Stop::NeedSolo => {
+        match halt {
+            Halt::NeedSolo => {
                 self.put_back(k, work);
                 Ok(Advance::NeedSolo(done))
             }
-            Stop::Lost(f) => {
+            Halt::Lost(f) => {
                 self.lose_out(k, work, f);
                 Err(AdvanceError::Lost(f))
             }
-            Stop::Full {
+            Halt::Full {
                 reserved,
                 need,
                 limit,
@@ -91,11 +91,10 @@ impl<'p, C: Client, S: SegStore, I: Source, O: Sink, E: Sink> Core<'p, C, S, I, 
                     limit,
                 },
             )),
-            Stop::ReadFault => Err(self.fail_out(k, work, Cause::ReadFault)),
-            Stop::WriteFault => Err(self.fail_out(k, work, Cause::WriteFault)),
-            Stop::ErrFault => Err(self.fail_out(k, work, Cause::ErrFault)),
-            Stop::OutOfMemory => Err(self.fail_out(k, work, Cause::OutOfMemory)),
-            Stop::NeedHeap => unreachable!(),
+            Halt::ReadFault => Err(self.fail_out(k, work, Cause::ReadFault)),
+            Halt::WriteFault => Err(self.fail_out(k, work, Cause::WriteFault)),
+            Halt::ErrFault => Err(self.fail_out(k, work, Cause::ErrFault)),
+            Halt::OutOfMemory => Err(self.fail_out(k, work, Cause::OutOfMemory)),
         }
     }
 
@@ -150,7 +149,7 @@ impl<'p, C: Client, S: SegStore, I: Source, O: Sink, E: Sink> Core<'p, C, S, I, 
                 self.put_back(k, work);
                 Ok(Advance::Ended(done))
             }
-            Pause::Stopped(stop) => self.settle_stop(k, work, done, stop),
+            Pause::Stopped(halt) => self.settle_stop(k, work, done, halt),
         }
     }
 

@@ -77,7 +77,7 @@ impl<'p, C: Client, S: SegStore, I: Source, O: Sink, E: Sink> Core<'p, C, S, I, 
                 kept_names: 0,
                 started: Started::new(self.alloc),
                 kept_started: 0,
-                recent: Recent::new(self.alloc),
+                recent: Recent::new(self.alloc, self.store.segments()),
             },
         })
     }

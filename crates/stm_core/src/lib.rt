@@ -11,6 +11,7 @@ mod devices;
 mod events;
 mod finish;
 mod fitting;
+mod halt;
 mod install;
 mod laws;
 mod loans;

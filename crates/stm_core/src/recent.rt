@@ -33,8 +33,14 @@ fn empty_places(alloc: Global) -> Result<Vec<Cell<Option<Addr>>>, NoMemory> {
 }
 
 impl Recent {
-    /// No records. At want of memory none is ever kept.
-    pub fn new(alloc: Global) -> Recent {
+    /// No records yet, of a transaction on a store with so many segments. Where there is only one nothing is ever lent,
+    /// and none is kept; nor at want of memory.
+    pub fn new(alloc: Global, segments: u8) -> Recent {
+        if segments <= 1 {
+            return Recent {
+                places: Vec::new(alloc),
+            };
+        }
         match empty_places(alloc) {
             Ok(places) => Recent { places },
             Err(_) => Recent {
@@ -46,6 +52,9 @@ impl Recent {
     /// A record was looked at: its address is the first of its set from now on, and the last one of the set is let go
     /// where there are too many. It takes no memory.
     pub fn note(&self, a: Addr) {
+        if self.places.is_empty() {
+            return;
+        }
         let first = (a.0.wrapping_mul(SPREAD) / SET_SHARE) as usize * SET_LIMIT;
         let mut next = a;
         'places: for i in first..first + SET_LIMIT {

@@ -1,9 +1,9 @@
 //! A segment's view: the sight of a transaction that shares the heap with others. Here is how it looks at records and
 //! comes to hold them; its calls stand in `view`.
 ghost use Rattle.std.specs.Prelude.{◌≡◌, ◌≢◌, ◌<◌, ◌≤◌, ◌+◌, ◌*◌, ◌++◌, [], ◌∷◌, true, false, length, take, drop, slice_set, Some, None, OnOk, OnErr, IfOk, IfErr, IfSome};
-ghost use Rattle.py_data.specs.declared.stop.Stop.TheVariants.{OutOfMemory};
 ghost use Rattle.py_data.specs.Heap.{Has, at, value_at, is_tracked};
 ghost use Rattle.py_data.specs.Changes.{after};
+ghost use Rattle.py_data.specs.Looking.{head_of};
 ghost use Rattle.py_data.specs.Shape.{IsShaped, find};
 ghost use Rattle.py_data.specs.Sense.{IfThere};
 ghost use Rattle.py_data.specs.Made.{rec_of};
@@ -19,12 +19,15 @@ ghost use Rattle.seg_store.specs.Extents.{extents};
 ghost use Rattle.seg_store.specs.Telling.{in_use};
 ghost use Rattle.stm_core.specs.InUse.{wants_more, RisesUpTo, IfTold};
 ghost use Rattle.stm_core.specs.inner.SegSense.{Seen, RisesThere};
-ghost use Rattle.stm_core.specs.inner.Hold.{holding, SegDoes, SegWhy, SegRefuses, FaultWhy, Holds, Fails, is_noted, Looks, stop_of};
+ghost use Rattle.stm_core.specs.declared.halt.Halt.TheVariants.{OutOfMemory};
+ghost use Rattle.stm_core.specs.inner.Halts.{stop_of, gave, gave_none};
+ghost use Rattle.stm_core.specs.inner.Hold.{holding, halt_of, SegDoes, SegWhy, SegRefuses, FaultWhy, Holds, Fails, is_noted, Looks};
 
 use crate::books::{Books, Hand, Progress};
 use crate::devices::Devices;
+use crate::halt::{Halt, LastStop};
 use crate::sights::{byte_count, is_tracked_kind, value_count};
-use py_data::{Addr, Change, Conflict, Kind, LENGTH_LIMIT, Record, Side, Stop, Value};
+use py_data::{Addr, Change, Conflict, Head, Kind, LENGTH_LIMIT, Record, Side, Stop, Value};
 use seg_store::{SegStore, StoreFault};
 
 /// Of two sides of a conflict the first one wins: the solo one does, and otherwise the one that began earlier.
@@ -45,8 +48,8 @@ pub struct SegView<'a, T, S: SegStore, I, O, E> {
     pub(crate) devices: &'a mut Devices<I, O, E>,
     pub(crate) segment: u8,
     pub(crate) side: Side,
-    /// The Stop that was given since the step was opened.
-    pub(crate) stopped: Option<Stop>,
+    /// What it gave last.
+    pub(crate) last: LastStop,
     ghost fits: { Fit segment (S.meaning store.now) books.now progress.now },
 }
 
@@ -62,8 +65,8 @@ impl<'a, T: Drop, S: SegStore, I, O, E> SegView<'a, T, S, I, O, E> {
     ) -> SegView<'a, T, S, I, O, E>
         requires { Fit segment (S.meaning store.old) books.old progress.old }
         ensures holds { holding (S.meaning result.store.now) (S.reserved result.store.now) result.books.now
-            result.progress.now result.stopped ≡ holding (S.meaning store.old) (S.reserved store.old) books.old
-            progress.old None }
+            result.progress.now result.last ≡ holding (S.meaning store.old) (S.reserved store.old) books.old
+            progress.old gave_none }
         ensures peaks { S.peaks result.store.now ≡ S.peaks store.old }
         ensures tells { result.devices.now ≡ devices.old }
         ensures stays { (result.segment ≡ segment) × (result.side ≡ side) }
@@ -79,14 +82,18 @@ impl<'a, T: Drop, S: SegStore, I, O, E> SegView<'a, T, S, I, O, E> {
             devices,
             segment,
             side,
-            stopped: None,
+            last: LastStop {
+                stopped: None,
+                halt: Halt::OutOfMemory,
+            },
         }
     }
 
-    /// Keeps a Stop, and hands it on. A call for which it has a cause is refused so.
-    pub fn fail(&mut self, stop: Stop) -> Stop
-        ensures same { result ≡ stop }
-        ensures stopped { self.new.stopped ≡ Some stop }
+    /// Keeps why a call is refused, and says it in a word. A call for which it has a cause is refused so.
+    pub fn fail(&mut self, halt: Halt) -> Stop
+        ensures same { result ≡ stop_of halt }
+        ensures word { result ≡ stop_of self.new.last.halt }
+        ensures last { self.new.last ≡ gave halt }
         ensures stays { (self.new.segment ≡ self.old.segment) × (self.new.side ≡ self.old.side)
             × (self.new.devices ≡ self.old.devices) }
         ensures refs { (self.new.store.ghost_name ≡ self.old.store.ghost_name)
@@ -96,23 +103,27 @@ impl<'a, T: Drop, S: SegStore, I, O, E> SegView<'a, T, S, I, O, E> {
         ensures books { self.new.books.now ≡ self.old.books.now }
         ensures progress { self.new.progress.now ≡ self.old.progress.now }
         ensures refuses { (c : Call T)
-            → SegWhy self.old.segment self.old.side stop c (sees (S.meaning self.old.store.now) self.old.segment)
+            → SegWhy self.old.segment self.old.side halt c (sees (S.meaning self.old.store.now) self.old.segment)
             (holding (S.meaning self.new.store.now) (S.reserved self.new.store.now) self.new.books.now
-            self.new.progress.now self.new.stopped)
+            self.new.progress.now self.new.last)
             → SegRefuses self.old.segment self.old.side c
             (holding (S.meaning self.old.store.now) (S.reserved self.old.store.now) self.old.books.now
-            self.old.progress.now self.old.stopped) stop
+            self.old.progress.now self.old.last) self.new.last.halt
             (holding (S.meaning self.new.store.now) (S.reserved self.new.store.now) self.new.books.now
-            self.new.progress.now self.new.stopped) }
+            self.new.progress.now self.new.last) }
     {
-        self.stopped = Some(stop);
+        let stop = halt.stop();
+        self.last = LastStop {
+            stopped: Some(stop),
+            halt,
+        };
         stop
     }
 
-    /// Keeps why the store refused a change, as a Stop.
+    /// Keeps why the store refused a change, and says it in a word.
     pub fn refuse(&mut self, fault: StoreFault) -> Stop
-        ensures same { result ≡ stop_of fault }
-        ensures stopped { self.new.stopped ≡ Some result }
+        ensures word { result ≡ stop_of self.new.last.halt }
+        ensures last { self.new.last ≡ gave (halt_of fault) }
         ensures stays { (self.new.segment ≡ self.old.segment) × (self.new.side ≡ self.old.side)
             × (self.new.devices ≡ self.old.devices) }
         ensures refs { (self.new.store.ghost_name ≡ self.old.store.ghost_name)
@@ -127,12 +138,12 @@ impl<'a, T: Drop, S: SegStore, I, O, E> SegView<'a, T, S, I, O, E> {
                 reserved,
                 need,
                 limit,
-            } => self.fail(Stop::Full {
+            } => self.fail(Halt::Full {
                 reserved,
                 need,
                 limit,
             }),
-            StoreFault::OutOfMemory => self.fail(Stop::OutOfMemory),
+            StoreFault::OutOfMemory => self.fail(Halt::OutOfMemory),
         }
     }
 
@@ -159,10 +170,11 @@ impl<'a, T: Drop, S: SegStore, I, O, E> SegView<'a, T, S, I, O, E> {
         requires there { Has (sees (S.meaning self.old.store.now) self.old.segment) a.0 }
         ensures done { OnOk result (Looks a.0 self.old.segment (S.meaning self.old.store.now)
             (S.meaning self.new.store.now)) }
-        ensures stopped { OnOk result (self.new.stopped ≡ self.old.stopped) }
+        ensures last { OnOk result (self.new.last ≡ self.old.last) }
         ensures quiet { is_noted (sees (S.meaning self.old.store.now) self.old.segment a.0)
             (((S.meaning self.old.store.now).part self.old.segment).looked a.0) ≡ true → self.new ≡ self.old }
-        ensures err { IfErr result (λ e. (e ≡ OutOfMemory) × (self.new.stopped ≡ Some OutOfMemory)
+        ensures word { IfErr result (λ e. e ≡ stop_of self.new.last.halt) }
+        ensures err { OnErr result ((self.new.last ≡ gave OutOfMemory)
             × (S.meaning self.new.store.now ≡ S.meaning self.old.store.now)) }
         ensures unsure { IfErr result (λ e. is_noted (sees (S.meaning self.old.store.now) self.old.segment a.0)
             (((S.meaning self.old.store.now).part self.old.segment).looked a.0) ≡ false) }
@@ -181,7 +193,7 @@ impl<'a, T: Drop, S: SegStore, I, O, E> SegView<'a, T, S, I, O, E> {
         }
         match self.store.mark(self.segment, a) {
             Ok(()) => Ok(()),
-            Err(_) => Err(self.fail(Stop::OutOfMemory)),
+            Err(_) => Err(self.fail(Halt::OutOfMemory)),
         }
     }
 
@@ -200,7 +212,7 @@ impl<'a, T: Drop, S: SegStore, I, O, E> SegView<'a, T, S, I, O, E> {
         ensures hands { self.new.books.now.hands.items ≡ slice_set self.old.books.now.hands.items j (Hand.Doomed f) }
         ensures conflicts { self.new.books.now.conflicts.entries ≡ self.old.books.now.conflicts.entries ++ f ∷ [] }
         ensures progress { self.new.progress.now ≡ self.old.progress.now }
-        ensures stopped { self.new.stopped ≡ self.old.stopped }
+        ensures last { self.new.last ≡ self.old.last }
         ensures stays { (self.new.segment ≡ self.old.segment) × (self.new.side ≡ self.old.side)
             × (self.new.devices ≡ self.old.devices) }
         ensures refs { (self.new.store.ghost_name ≡ self.old.store.ghost_name)
@@ -218,14 +230,15 @@ impl<'a, T: Drop, S: SegStore, I, O, E> SegView<'a, T, S, I, O, E> {
         requires held { holds ((S.meaning self.old.store.now).part self.old.segment) a.0 ≡ true }
         ensures ok { OnOk result (Holds self.old.segment self.old.side a.0
             (holding (S.meaning self.old.store.now) (S.reserved self.old.store.now) self.old.books.now
-            self.old.progress.now self.old.stopped)
+            self.old.progress.now self.old.last)
             (holding (S.meaning self.new.store.now) (S.reserved self.new.store.now) self.new.books.now
-            self.new.progress.now self.new.stopped)) }
-        ensures err { IfErr result (λ e. Fails self.old.segment self.old.side a.0
+            self.new.progress.now self.new.last)) }
+        ensures word { IfErr result (λ e. e ≡ stop_of self.new.last.halt) }
+        ensures err { OnErr result (Fails self.old.segment self.old.side a.0
             (holding (S.meaning self.old.store.now) (S.reserved self.old.store.now) self.old.books.now
-            self.old.progress.now self.old.stopped) e
+            self.old.progress.now self.old.last) self.new.last.halt
             (holding (S.meaning self.new.store.now) (S.reserved self.new.store.now) self.new.books.now
-            self.new.progress.now self.new.stopped)) }
+            self.new.progress.now self.new.last)) }
         ensures stays { (self.new.segment ≡ self.old.segment) × (self.new.side ≡ self.old.side)
             × (self.new.devices ≡ self.old.devices) }
         ensures refs { (self.new.store.ghost_name ≡ self.old.store.ghost_name)
@@ -243,14 +256,15 @@ impl<'a, T: Drop, S: SegStore, I, O, E> SegView<'a, T, S, I, O, E> {
         requires free { NoOther (S.meaning self.old.store.now) self.old.segment a.0 }
         ensures ok { OnOk result (Holds self.old.segment self.old.side a.0
             (holding (S.meaning self.old.store.now) (S.reserved self.old.store.now) self.old.books.now
-            self.old.progress.now self.old.stopped)
+            self.old.progress.now self.old.last)
             (holding (S.meaning self.new.store.now) (S.reserved self.new.store.now) self.new.books.now
-            self.new.progress.now self.new.stopped)) }
-        ensures err { IfErr result (λ e. Fails self.old.segment self.old.side a.0
+            self.new.progress.now self.new.last)) }
+        ensures word { IfErr result (λ e. e ≡ stop_of self.new.last.halt) }
+        ensures err { OnErr result (Fails self.old.segment self.old.side a.0
             (holding (S.meaning self.old.store.now) (S.reserved self.old.store.now) self.old.books.now
-            self.old.progress.now self.old.stopped) e
+            self.old.progress.now self.old.last) self.new.last.halt
             (holding (S.meaning self.new.store.now) (S.reserved self.new.store.now) self.new.books.now
-            self.new.progress.now self.new.stopped)) }
+            self.new.progress.now self.new.last)) }
         ensures stays { (self.new.segment ≡ self.old.segment) × (self.new.side ≡ self.old.side)
             × (self.new.devices ≡ self.old.devices) }
         ensures refs { (self.new.store.ghost_name ≡ self.old.store.ghost_name)
@@ -261,7 +275,7 @@ impl<'a, T: Drop, S: SegStore, I, O, E> SegView<'a, T, S, I, O, E> {
         self.store.known();
         match self.store.lock(self.segment, a) {
             Ok(()) => Ok(()),
-            Err(_) => Err(self.fail(Stop::OutOfMemory)),
+            Err(_) => Err(self.fail(Halt::OutOfMemory)),
         }
     }
 
@@ -274,14 +288,15 @@ impl<'a, T: Drop, S: SegStore, I, O, E> SegView<'a, T, S, I, O, E> {
         requires held { holds ((S.meaning self.old.store.now).part j) a.0 ≡ true }
         ensures ok { OnOk result (Holds self.old.segment self.old.side a.0
             (holding (S.meaning self.old.store.now) (S.reserved self.old.store.now) self.old.books.now
-            self.old.progress.now self.old.stopped)
+            self.old.progress.now self.old.last)
             (holding (S.meaning self.new.store.now) (S.reserved self.new.store.now) self.new.books.now
-            self.new.progress.now self.new.stopped)) }
-        ensures err { IfErr result (λ e. Fails self.old.segment self.old.side a.0
+            self.new.progress.now self.new.last)) }
+        ensures word { IfErr result (λ e. e ≡ stop_of self.new.last.halt) }
+        ensures err { OnErr result (Fails self.old.segment self.old.side a.0
             (holding (S.meaning self.old.store.now) (S.reserved self.old.store.now) self.old.books.now
-            self.old.progress.now self.old.stopped) e
+            self.old.progress.now self.old.last) self.new.last.halt
             (holding (S.meaning self.new.store.now) (S.reserved self.new.store.now) self.new.books.now
-            self.new.progress.now self.new.stopped)) }
+            self.new.progress.now self.new.last)) }
         ensures stays { (self.new.segment ≡ self.old.segment) × (self.new.side ≡ self.old.side)
             × (self.new.devices ≡ self.old.devices) }
         ensures refs { (self.new.store.ghost_name ≡ self.old.store.ghost_name)
@@ -299,7 +314,7 @@ impl<'a, T: Drop, S: SegStore, I, O, E> SegView<'a, T, S, I, O, E> {
                 asks: true,
                 lost: 1,
             };
-            return Err(self.fail(Stop::Lost(lost)));
+            return Err(self.fail(Halt::Lost(lost)));
         }
         let won = Conflict {
             at: a,
@@ -318,14 +333,15 @@ impl<'a, T: Drop, S: SegStore, I, O, E> SegView<'a, T, S, I, O, E> {
         requires tracked { is_tracked (at (sees (S.meaning self.old.store.now) self.old.segment) a.0).kind ≡ true }
         ensures ok { OnOk result (Holds self.old.segment self.old.side a.0
             (holding (S.meaning self.old.store.now) (S.reserved self.old.store.now) self.old.books.now
-            self.old.progress.now self.old.stopped)
+            self.old.progress.now self.old.last)
             (holding (S.meaning self.new.store.now) (S.reserved self.new.store.now) self.new.books.now
-            self.new.progress.now self.new.stopped)) }
-        ensures err { IfErr result (λ e. Fails self.old.segment self.old.side a.0
+            self.new.progress.now self.new.last)) }
+        ensures word { IfErr result (λ e. e ≡ stop_of self.new.last.halt) }
+        ensures err { OnErr result (Fails self.old.segment self.old.side a.0
             (holding (S.meaning self.old.store.now) (S.reserved self.old.store.now) self.old.books.now
-            self.old.progress.now self.old.stopped) e
+            self.old.progress.now self.old.last) self.new.last.halt
             (holding (S.meaning self.new.store.now) (S.reserved self.new.store.now) self.new.books.now
-            self.new.progress.now self.new.stopped)) }
+            self.new.progress.now self.new.last)) }
         ensures stays { (self.new.segment ≡ self.old.segment) × (self.new.side ≡ self.old.side)
             × (self.new.devices ≡ self.old.devices) }
         ensures refs { (self.new.store.ghost_name ≡ self.old.store.ghost_name)
@@ -359,7 +375,7 @@ impl<'a, T: Drop, S: SegStore, I, O, E> SegView<'a, T, S, I, O, E> {
         ensures reserved { S.reserved self.old.store.now ≤ S.reserved self.new.store.now }
         ensures books { self.new.books.now ≡ self.old.books.now }
         ensures progress { self.new.progress.now ≡ self.old.progress.now }
-        ensures stopped { self.new.stopped ≡ self.old.stopped }
+        ensures last { self.new.last ≡ self.old.last }
         ensures stays { (self.new.segment ≡ self.old.segment) × (self.new.side ≡ self.old.side)
             × (self.new.devices ≡ self.old.devices) }
         ensures refs { (self.new.store.ghost_name ≡ self.old.store.ghost_name)
@@ -383,18 +399,19 @@ impl<'a, T: Drop, S: SegStore, I, O, E> SegView<'a, T, S, I, O, E> {
 
     /// Takes the write lock of a record, and changes it.
     pub fn change(&mut self, a: Addr, change: Change) -> Result<(), Stop>
-        requires live { self.old.stopped ≡ None }
+        requires live { self.old.last.stopped ≡ None }
         requires can { CanChange (sees (S.meaning self.old.store.now) self.old.segment) a.0 change }
         ensures ok { OnOk result (SegDoes self.old.segment self.old.side (Edit a.0 change)
             (holding (S.meaning self.old.store.now) (S.reserved self.old.store.now) self.old.books.now
-            self.old.progress.now self.old.stopped) tt
+            self.old.progress.now self.old.last) tt
             (holding (S.meaning self.new.store.now) (S.reserved self.new.store.now) self.new.books.now
-            self.new.progress.now self.new.stopped)) }
-        ensures err { IfErr result (λ e. SegRefuses self.old.segment self.old.side (Edit a.0 change)
+            self.new.progress.now self.new.last)) }
+        ensures word { IfErr result (λ e. e ≡ stop_of self.new.last.halt) }
+        ensures err { OnErr result (SegRefuses self.old.segment self.old.side (Edit a.0 change)
             (holding (S.meaning self.old.store.now) (S.reserved self.old.store.now) self.old.books.now
-            self.old.progress.now self.old.stopped) e
+            self.old.progress.now self.old.last) self.new.last.halt
             (holding (S.meaning self.new.store.now) (S.reserved self.new.store.now) self.new.books.now
-            self.new.progress.now self.new.stopped)) }
+            self.new.progress.now self.new.last)) }
         ensures stays { (self.new.segment ≡ self.old.segment) × (self.new.side ≡ self.old.side)
             × (self.new.devices ≡ self.old.devices) }
         ensures refs { (self.new.store.ghost_name ≡ self.old.store.ghost_name)
@@ -438,7 +455,7 @@ impl<'a, T: Drop, S: SegStore, I, O, E> SegView<'a, T, S, I, O, E> {
             (S.meaning self.old.store.now).limit) }
         ensures reserved { S.reserved self.old.store.now ≤ S.reserved self.new.store.now }
         ensures books { self.new.books.now ≡ self.old.books.now }
-        ensures stopped { self.new.stopped ≡ self.old.stopped }
+        ensures last { self.new.last ≡ self.old.last }
         ensures stays { (self.new.segment ≡ self.old.segment) × (self.new.side ≡ self.old.side)
             × (self.new.devices ≡ self.old.devices) }
         ensures refs { (self.new.store.ghost_name ≡ self.old.store.ghost_name)
@@ -499,17 +516,21 @@ impl<'a, T: Drop, S: SegStore, I, O, E> SegView<'a, T, S, I, O, E> {
         self.store.val(self.segment, a, i)
     }
 
+    /// A record's kind, the count of its values, and the first three. No look is noted.
+    pub fn head_of(&self, a: Addr) -> Head
+        requires { IfThere false ((sees (S.meaning self.now.store.now) self.now.segment) a.0) (λ r. Unit {0}) }
+        ensures shows { result ≡ head_of (at (sees (S.meaning self.now.store.now) self.now.segment) a.0) }
+        ensures fits { result.count ≤ LENGTH_LIMIT }
+    {
+        self.store.head(self.segment, a)
+    }
+
     /// The value of a record at a place; Unset where it has none there. No look is noted.
-    #[tactic(auto, using(py_data::proofs::Looked::value_past))]
     pub fn value_if_any(&self, a: Addr, i: usize) -> Value
         requires { IfThere false ((sees (S.meaning self.now.store.now) self.now.segment) a.0) (λ r. Unit {0}) }
         ensures { result ≡ value_at (at (sees (S.meaning self.now.store.now) self.now.segment) a.0).values i }
     {
-        if i < self.count_of(a) {
-            self.value_of(a, i)
-        } else {
-            Value::Unset
-        }
+        self.store.find_val(self.segment, a, i)
     }
 
     /// Copies bytes of a record. No look is noted.
@@ -534,26 +555,27 @@ impl<'a, T: Drop, S: SegStore, I, O, E> SegView<'a, T, S, I, O, E> {
 
     /// Looks at a record.
     pub fn see(&mut self, a: Addr) -> Result<(), Stop>
-        requires live { self.old.stopped ≡ None }
+        requires live { self.old.last.stopped ≡ None }
         requires there { Has (sees (S.meaning self.old.store.now) self.old.segment) a.0 }
         ensures ok { OnOk result (SegDoes self.old.segment self.old.side (Read a.0)
             (holding (S.meaning self.old.store.now) (S.reserved self.old.store.now) self.old.books.now
-            self.old.progress.now self.old.stopped) (at (sees (S.meaning self.old.store.now) self.old.segment) a.0)
+            self.old.progress.now self.old.last) (at (sees (S.meaning self.old.store.now) self.old.segment) a.0)
             (holding (S.meaning self.new.store.now) (S.reserved self.new.store.now) self.new.books.now
-            self.new.progress.now self.new.stopped)) }
+            self.new.progress.now self.new.last)) }
         ensures same { OnOk result (sees (S.meaning self.new.store.now) self.new.segment ≡ sees
             (S.meaning self.old.store.now) self.old.segment) }
         ensures quiet { Seen a.0 self.old.segment
             (holding (S.meaning self.old.store.now) (S.reserved self.old.store.now) self.old.books.now
-            self.old.progress.now self.old.stopped) → self.new ≡ self.old }
-        ensures err { IfErr result (λ e. SegRefuses self.old.segment self.old.side (Read a.0)
+            self.old.progress.now self.old.last) → self.new ≡ self.old }
+        ensures word { IfErr result (λ e. e ≡ stop_of self.new.last.halt) }
+        ensures err { OnErr result (SegRefuses self.old.segment self.old.side (Read a.0)
             (holding (S.meaning self.old.store.now) (S.reserved self.old.store.now) self.old.books.now
-            self.old.progress.now self.old.stopped) e
+            self.old.progress.now self.old.last) self.new.last.halt
             (holding (S.meaning self.new.store.now) (S.reserved self.new.store.now) self.new.books.now
-            self.new.progress.now self.new.stopped)) }
+            self.new.progress.now self.new.last)) }
         ensures unsure { IfErr result (λ e. Seen a.0 self.old.segment
             (holding (S.meaning self.old.store.now) (S.reserved self.old.store.now) self.old.books.now
-            self.old.progress.now self.old.stopped) → ⊥) }
+            self.old.progress.now self.old.last) → ⊥) }
         ensures stays { (self.new.segment ≡ self.old.segment) × (self.new.side ≡ self.old.side)
             × (self.new.devices ≡ self.old.devices) }
         ensures refs { (self.new.store.ghost_name ≡ self.old.store.ghost_name)

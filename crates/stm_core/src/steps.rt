@@ -4,10 +4,11 @@ ghost use Rattle.std.specs.Prelude.{◌≡◌, ◌<◌, IfOk, IfErr};
 use crate::answers::AdvanceError;
 use crate::books::{Cut, Hand, Work};
 use crate::cause::Cause;
+use crate::halt::Halt;
 use crate::segment::SegView;
 use crate::transactions::Core;
 use lock_run::{Client, Outcome};
-use py_data::{Conflict, Stop};
+use py_data::Conflict;
 use seg_store::SegStore;
 use stm_io::{Sink, Source};
 
@@ -21,7 +22,7 @@ pub enum Pause {
     /// The last one was the thread's last.
     Ended,
     /// The next one was cut, and taken back.
-    Stopped(Stop),
+    Stopped(Halt),
 }
 
 impl<'p, C: Client, S: SegStore, I: Source, O: Sink, E: Sink> Core<'p, C, S, I, O, E> {
@@ -51,7 +52,7 @@ impl<'p, C: Client, S: SegStore, I: Source, O: Sink, E: Sink> Core<'p, C, S, I, 
 
     /// One step of the transaction of segment k, which was taken out of its hand. A solo one prints and reads; what a
     /// step of it told the devices stays told where the step is cut.
-    fn step_out(&mut self, k: u8, work: &mut Work<C::State>) -> Result<Outcome, Stop>
+    fn step_out(&mut self, k: u8, work: &mut Work<C::State>) -> Result<Outcome, Halt>
         requires fit { Fit k (S.meaning self.old.store) self.old.books work.old.progress }
         requires stands { Standing (C.sound self.old.client.now (sees (S.meaning self.old.store) k)) work.old.state }
         requires lives { (C.prog self.old.client.now).life work.old.state ≡ Lives }
@@ -81,7 +82,7 @@ impl<'p, C: Client, S: SegStore, I: Source, O: Sink, E: Sink> Core<'p, C, S, I, 
         ensures flag { OnErr result (self.new.devices.mid ≡ self.old.devices.mid) }
         ensures life { IfOk result (λ o. LifeAfter o ((C.prog self.old.client.now).life work.new.state)) }
         ensures state { OnErr result (work.new.state ≡ work.old.state) }
-        ensures rose { IfErr result (λ stop. StopRose stop (device_state I.state O.state E.state self.old.devices)
+        ensures rose { IfErr result (λ halt. StopRose halt (device_state I.state O.state E.state self.old.devices)
             (device_state I.state O.state E.state self.new.devices)) }
         ensures done { IfOk result (λ o. (t e : Option (List ℕ)) (w : Worlds)
             → Shown work.old.solo t e (device_state I.state O.state E.state self.old.devices) w.own
@@ -89,16 +90,16 @@ impl<'p, C: Client, S: SegStore, I: Source, O: Sink, E: Sink> Core<'p, C, S, I, 
             × StepDone (C.prog self.old.client.now) w own k
             (side k (transaction w.own ((S.meaning self.old.store).part k) work.old)) o (S.meaning self.old.store)
             self.old.books work.old (S.meaning self.new.store) self.new.books work.new) }
-        ensures cut { IfErr result (λ stop. (t e : Option (List ℕ)) (w : Worlds)
+        ensures cut { IfErr result (λ halt. (t e : Option (List ℕ)) (w : Worlds)
             → Shown work.old.solo t e (device_state I.state O.state E.state self.old.devices) w.own
             → StepCut (C.prog self.old.client.now) w k
-            (side k (transaction w.own ((S.meaning self.old.store).part k) work.old)) stop
+            (side k (transaction w.own ((S.meaning self.old.store).part k) work.old)) halt
             (S.meaning self.old.store) self.old.books work.old (S.meaning self.new.store)
             (S.reserved self.new.store) self.new.books work.new) }
-        ensures broke { IfErr result (λ stop. work.old.solo ≡ true → (t e : Option (List ℕ)) (w : Worlds)
+        ensures broke { IfErr result (λ halt. work.old.solo ≡ true → (t e : Option (List ℕ)) (w : Worlds)
             → ShowsWorld t e (device_state I.state O.state E.state self.old.devices) w.own
             → StepBroke (C.prog self.old.client.now) t e (S.meaning self.old.store).image w.committed
-            (transaction w.own ((S.meaning self.old.store).part k) work.old) stop
+            (transaction w.own ((S.meaning self.old.store).part k) work.old) halt
             (device_state I.state O.state E.state self.new.devices)) }
     {
         let side = work.side(k);
@@ -110,7 +111,8 @@ impl<'p, C: Client, S: SegStore, I: Source, O: Sink, E: Sink> Core<'p, C, S, I, 
             k,
             side,
         );
-        let result = self.client.step(self.alloc, &mut work.state, &mut view);
+        let answer = self.client.step(self.alloc, &mut work.state, &mut view);
+        let result = view.last.halted(answer);
         self.store.known();
         result
     }
@@ -171,7 +173,7 @@ impl<'p, C: Client, S: SegStore, I: Source, O: Sink, E: Sink> Core<'p, C, S, I, 
                 work.count_step();
                 Pause::Ended
             }
-            Err(stop) => Pause::Stopped(stop),
+            Err(halt) => Pause::Stopped(halt),
         }
     }
 
@@ -228,7 +230,7 @@ impl<'p, C: Client, S: SegStore, I: Source, O: Sink, E: Sink> Core<'p, C, S, I, 
                 Pause::Whole => (),
                 Pause::Waits => return (done, Pause::Waits),
                 Pause::Ended => return (done + 1, Pause::Ended),
-                Pause::Stopped(stop) => return (done, Pause::Stopped(stop)),
+                Pause::Stopped(halt) => return (done, Pause::Stopped(halt)),
             }
         }
         (most, Pause::Whole)

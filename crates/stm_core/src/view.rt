@@ -1,7 +1,8 @@
 //! The calls of a segment's view: over the heap that its transaction shares with others, and over the devices where
 //! it is solo.
+use crate::halt::Halt;
 use crate::segment::SegView;
-use py_data::{Addr, Change, Kind, Out, Record, Stop, Value, View};
+use py_data::{Addr, Change, Head, Kind, Out, Record, Stop, Value, View};
 use seg_store::SegStore;
 use stm_io::{PutError, Sink, Source, TakeError};
 
@@ -13,28 +14,28 @@ impl<'a, T: Drop, S: SegStore, I: Source, O: Sink, E: Sink> View<T> for SegView<
     ghost use Rattle.stm_core.specs.inner.SegLaws.{told_lawful, told_bracketed};
 
     ghost sense = { told_sense (λ v. holding (S.meaning v.store.now) (S.reserved v.store.now) v.books.now
-        v.progress.now v.stopped)
+        v.progress.now v.last)
         (λ v. device_state I.state O.state E.state v.devices.now) (λ v. v.segment) (λ v. v.side)
         (λ v w. (w.store.ghost_name ≡ v.store.ghost_name) × (w.books.ghost_name ≡ v.books.ghost_name)
         × (w.progress.ghost_name ≡ v.progress.ghost_name) × (w.devices.ghost_name ≡ v.devices.ghost_name))
         (λ v. S.peaks v.store.now) };
 
     ghost bracket = { told_bracket
-        (λ v. holding (S.meaning v.store.now) (S.reserved v.store.now) v.books.now v.progress.now v.stopped)
+        (λ v. holding (S.meaning v.store.now) (S.reserved v.store.now) v.books.now v.progress.now v.last)
         (λ v. device_state I.state O.state E.state v.devices.now) (λ v. v.segment) (λ v. v.side)
         (λ v w. (w.store.ghost_name ≡ v.store.ghost_name) × (w.books.ghost_name ≡ v.books.ghost_name)
         × (w.progress.ghost_name ≡ v.progress.ghost_name) × (w.devices.ghost_name ≡ v.devices.ghost_name))
         (λ v. S.peaks v.store.now) };
 
     ghost lawful = { told_lawful (λ v. holding (S.meaning v.store.now) (S.reserved v.store.now) v.books.now
-        v.progress.now v.stopped)
+        v.progress.now v.last)
         (λ v. device_state I.state O.state E.state v.devices.now) (λ v. v.segment) (λ v. v.side)
         (λ v w. (w.store.ghost_name ≡ v.store.ghost_name) × (w.books.ghost_name ≡ v.books.ghost_name)
         × (w.progress.ghost_name ≡ v.progress.ghost_name) × (w.devices.ghost_name ≡ v.devices.ghost_name))
         (λ v. S.peaks v.store.now) };
 
     ghost bracketed = { told_bracketed
-        (λ v. holding (S.meaning v.store.now) (S.reserved v.store.now) v.books.now v.progress.now v.stopped)
+        (λ v. holding (S.meaning v.store.now) (S.reserved v.store.now) v.books.now v.progress.now v.last)
         (λ v. device_state I.state O.state E.state v.devices.now) (λ v. v.segment) (λ v. v.side)
         (λ v w. (w.store.ghost_name ≡ v.store.ghost_name) × (w.books.ghost_name ≡ v.books.ghost_name)
         × (w.progress.ghost_name ≡ v.progress.ghost_name) × (w.devices.ghost_name ≡ v.devices.ghost_name))
@@ -44,18 +45,18 @@ impl<'a, T: Drop, S: SegStore, I: Source, O: Sink, E: Sink> View<T> for SegView<
         self.store.open_step(self.segment);
         self.progress.open();
         self.devices.was_mid = self.devices.mid;
-        self.stopped = None;
+        self.last.stopped = None;
     }
 
     fn undo_step(&mut self) {
         self.store.undo_step(self.segment);
         self.books.pending -= self.progress.undo();
         self.devices.mid = self.devices.was_mid;
-        self.stopped = None;
+        self.last.stopped = None;
     }
 
     fn stopped(&self) -> Option<Stop> {
-        self.stopped
+        self.last.stopped
     }
 
     #[tactic(auto, unfolding(py_data::specs::Sense::Asks, py_data::specs::Heap::at))]
@@ -120,6 +121,15 @@ impl<'a, T: Drop, S: SegStore, I: Source, O: Sink, E: Sink> View<T> for SegView<
     }
 
     #[tactic(auto, unfolding(py_data::specs::Sense::Asks))]
+    fn head(&mut self, a: Addr) -> Result<Head, Stop> {
+        let head = self.head_of(a);
+        match self.see(a) {
+            Ok(()) => Ok(head),
+            Err(stop) => Err(stop),
+        }
+    }
+
+    #[tactic(auto, unfolding(py_data::specs::Sense::Asks))]
     fn byte_len(&mut self, a: Addr) -> Result<usize, Stop> {
         let count = self.byte_count_of(a);
         match self.see(a) {
@@ -145,30 +155,30 @@ impl<'a, T: Drop, S: SegStore, I: Source, O: Sink, E: Sink> View<T> for SegView<
 
     fn put(&mut self, on: Out, bytes: &[u8]) -> Result<(), Stop> {
         if !self.side.solo {
-            return Err(self.fail(Stop::NeedSolo));
+            return Err(self.fail(Halt::NeedSolo));
         }
         match on {
             Out::Output => match self.devices.out.put(bytes) {
                 Ok(()) => Ok(()),
-                Err(PutError::Failed) => Err(self.fail(Stop::WriteFault)),
-                Err(PutError::OutOfMemory) => Err(self.fail(Stop::OutOfMemory)),
+                Err(PutError::Failed) => Err(self.fail(Halt::WriteFault)),
+                Err(PutError::OutOfMemory) => Err(self.fail(Halt::OutOfMemory)),
             },
             Out::ErrorOutput => match self.devices.err.put(bytes) {
                 Ok(()) => Ok(()),
-                Err(PutError::Failed) => Err(self.fail(Stop::ErrFault)),
-                Err(PutError::OutOfMemory) => Err(self.fail(Stop::OutOfMemory)),
+                Err(PutError::Failed) => Err(self.fail(Halt::ErrFault)),
+                Err(PutError::OutOfMemory) => Err(self.fail(Halt::OutOfMemory)),
             },
         }
     }
 
     fn take_line(&mut self, most: usize) -> Result<Vec<u8>, Stop> {
         if !self.side.solo {
-            return Err(self.fail(Stop::NeedSolo));
+            return Err(self.fail(Halt::NeedSolo));
         }
         match self.devices.input.take_line(most) {
             Ok(line) => Ok(line),
-            Err(TakeError::Failed) => Err(self.fail(Stop::ReadFault)),
-            Err(TakeError::OutOfMemory) => Err(self.fail(Stop::OutOfMemory)),
+            Err(TakeError::Failed) => Err(self.fail(Halt::ReadFault)),
+            Err(TakeError::OutOfMemory) => Err(self.fail(Halt::OutOfMemory)),
         }
     }
 
@@ -197,7 +207,7 @@ impl<'a, T: Drop, S: SegStore, I: Source, O: Sink, E: Sink> View<T> for SegView<
     fn start_thread(&mut self, s: T) -> Result<(), Stop> {
         match self.books.start(self.progress, s) {
             Ok(()) => Ok(()),
-            Err(_) => Err(self.fail(Stop::OutOfMemory)),
+            Err(_) => Err(self.fail(Halt::OutOfMemory)),
         }
     }
 }

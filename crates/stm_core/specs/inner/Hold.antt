@@ -4,8 +4,6 @@
 use Rattle.std.specs.Prelude.{◌≡◌, ◌≢◌, ℕ, ◌+◌, ◌<◌, ◌≤◌, ◌⊎◌, Bool, true, false, cond, not, ◌||◌, List, [], ◌∷◌, Option, Some, None, length, take, slice_get, All}
 use Rattle.py_data.specs.declared.stop.Side.{Side}
 use Rattle.py_data.specs.declared.stop.Conflict.{Conflict}
-use Rattle.py_data.specs.declared.stop.Stop.{Stop}
-use Rattle.py_data.specs.declared.stop.Stop.TheVariants.{Lost, NeedSolo, Full, ReadFault, WriteFault, ErrFault, OutOfMemory}
 use Rattle.py_data.specs.declared.stop.Out.TheVariants.{Output, ErrorOutput}
 use Rattle.py_data.specs.Heap.{Rec, Heap, is_tracked}
 use Rattle.py_data.specs.Sense.{touches}
@@ -17,18 +15,22 @@ use Rattle.seg_store.specs.Meaning.{Meaning, sees, saw, holds}
 use Rattle.seg_store.specs.Calls.{after_open, after_undo, after_mark}
 use Rattle.stm_core.specs.declared.books.Progress.{Progress}
 use Rattle.stm_core.specs.declared.books.Books.{Books}
+use Rattle.stm_core.specs.declared.halt.Halt.{Halt}
+use Rattle.stm_core.specs.declared.halt.Halt.TheVariants.{Lost, NeedSolo, Full, ReadFault, WriteFault, ErrFault, OutOfMemory}
+use Rattle.stm_core.specs.declared.halt.LastStop.{LastStop}
+use Rattle.stm_core.specs.inner.Halts.{gave, goes_on}
 use Rattle.stm_core.specs.Asking.{Changes, IsOuter, CallWants}
 use Rattle.stm_core.specs.CoreState.{Transaction, Doomed, Running, CoreState, no_world, with_segment, with_conflict}
 use Rattle.stm_core.specs.Conflict.{side, wins}
 use Rattle.stm_core.specs.Books.{Worlds, core_of}
 
--- the store, the books and the progress of the segment's transaction, and the Stop since its open step began
+-- the store, the books and the progress of the segment's transaction, and what the view gave last
 pub record Hold (S : Type 0) : Type 0 where
   pub meaning : Meaning
   pub reserved : ℕ
   pub books : Books S
   pub progress : Progress S
-  pub stopped : Option Stop
+  pub last : LastStop
 
 -- what the thread sees and has done
 abbrev pub sight : {S : Type 0} → ℕ → Hold S → Sight S
@@ -97,11 +99,11 @@ pub record Beside {S : Type 0} (k : ℕ) (me : Side) (asks : ℕ → Type 0) (d 
 -- ---- calls that are done
 
 abbrev pub Inside : {S : Type 0} → ℕ → Side → (c : Call S) → Hold S → Reply c → Hold S → Type 0
-Inside k me c d r e = Act c (sight k d) r (sight k e) × Beside k me (λ a. Changes a c) d e × (e.stopped ≡ None)
+Inside k me c d r e = Act c (sight k d) r (sight k e) × Beside k me (λ a. Changes a c) d e × (e.last.stopped ≡ None)
 
 -- a call to the outside leaves all that the view holds
 abbrev pub LeavesHold : {S : Type 0} → Hold S → Hold S → Type 0
-LeavesHold d e = (e ≡ d) × (e.stopped ≡ None)
+LeavesHold d e = (e ≡ d) × (e.last.stopped ≡ None)
 
 -- what each call does to what the view holds
 abbrev pub SegDoes : {S : Type 0} → ℕ → Side → (c : Call S) → Hold S → Reply c → Hold S → Type 0
@@ -123,8 +125,8 @@ IsHeld MidLine = ⊥
 IsHeld (SetMidLine b) = ⊥
 IsHeld _ = Unit {0}
 
--- a call to the device whose fault the Stop is
-abbrev pub IsFaultOf : {S : Type 0} → Stop → Call S → Type 0
+-- a call to the device whose fault the Halt tells
+abbrev pub IsFaultOf : {S : Type 0} → Halt → Call S → Type 0
 IsFaultOf ReadFault (Take most) = Unit {0}
 IsFaultOf WriteFault (Put Output bytes) = Unit {0}
 IsFaultOf ErrFault (Put ErrorOutput bytes) = Unit {0}
@@ -136,10 +138,10 @@ pub record LosesTo {S : Type 0} (k : ℕ) (me : Side) (f : Conflict) (c : CoreSt
   pub lost : f.lost ≡ 1
   pub loses : wins me f.writer ≡ false
 
--- Why each Stop comes, where the call was asked for over the heap h: only one that isn't solo wants to be, and only a
+-- Why each Halt comes, where the call was asked for over the heap h: only one that isn't solo wants to be, and only a
 -- solo one
 -- meets a fault of a device.
-abbrev pub SegWhy : {S : Type 0} → ℕ → Side → Stop → Call S → Heap → Hold S → Type 0
+abbrev pub SegWhy : {S : Type 0} → ℕ → Side → Halt → Call S → Heap → Hold S → Type 0
 SegWhy k me (Lost f) c h e = Changes f.at.0 c × ((w : Worlds) → LosesTo k me f (core_of w e.meaning e.books))
 SegWhy k me NeedSolo c h e = (me.solo ≡ false) × IsOuter c
 SegWhy k me (Full r n l) c h e = CallWants c h n × (r ≡ e.reserved) × (l ≡ e.meaning.limit) × (l < r + n)
@@ -149,8 +151,8 @@ SegWhy k me s c h e = (me.solo ≡ true) × IsFaultOf s c
 -- A call that was refused: at most one record more was looked at, the one that the call asks for, and at most one more
 -- locked,
 -- the one that it changes.
-pub record SegRefuses {S : Type 0} (k : ℕ) (me : Side) (c : Call S) (d : Hold S) (s : Stop) (e : Hold S) : Type 0 where
-  pub stopped : e.stopped ≡ Some s
+pub record SegRefuses {S : Type 0} (k : ℕ) (me : Side) (c : Call S) (d : Hold S) (s : Halt) (e : Hold S) : Type 0 where
+  pub last : e.last ≡ gave s
   pub beside : Beside k me (λ a. Changes a c) d e
   pub why : SegWhy k me s c (sees d.meaning k) e
   pub looked : (a : ℕ) → (e.meaning.part k).looked a ≡ true →
@@ -164,7 +166,7 @@ abbrev pub SegOpens : {S : Type 0} → ℕ → Hold S → Hold S → Type 0
 SegOpens k d e = e ≡ record d {
   meaning = after_open k d.meaning;
   progress = record d.progress { kept_names = length d.progress.names; kept_started = length d.progress.started };
-  stopped = None;
+  last = goes_on d.last;
 }
 
 abbrev pub SegUndoes : {S : Type 0} → ℕ → Hold S → Hold S → Type 0
@@ -176,7 +178,7 @@ SegUndoes k d e = e ≡ record d {
     started =
         take d.progress.kept_started d.progress.started;
   };
-  stopped = None;
+  last = goes_on d.last;
 }
 
 -- ---- parts of calls
@@ -190,14 +192,14 @@ is_noted (Some r) marked = not (is_tracked r.kind) || marked
 abbrev pub Looks : ℕ → ℕ → Meaning → Meaning → Type 0
 Looks a k m m1 = m1 ≡ cond (is_noted (sees m k a) ((m.part k).looked a)) m (after_mark k a m)
 
--- a store's fault as a Stop
-abbrev pub stop_of : StoreFault → Stop
-stop_of (FullStore r n l) = Full r n l
-stop_of NoMemoryLeft = OutOfMemory
+-- a store's fault as a Halt
+abbrev pub halt_of : StoreFault → Halt
+halt_of (FullStore r n l) = Full r n l
+halt_of NoMemoryLeft = OutOfMemory
 
 -- what a view holds, put together
-abbrev pub holding : {S : Type 0} → Meaning → ℕ → Books S → Progress S → Option Stop → Hold S
-holding m r b p o = record { meaning = m; reserved = r; books = b; progress = p; stopped = o }
+abbrev pub holding : {S : Type 0} → Meaning → ℕ → Books S → Progress S → LastStop → Hold S
+holding m r b p o = record { meaning = m; reserved = r; books = b; progress = p; last = o }
 
 -- the segment holds the record, and sees what it saw
 pub record Holds {S : Type 0} (k : ℕ) (me : Side) (a : ℕ) (d e : Hold S) : Type 0 where
@@ -206,19 +208,19 @@ pub record Holds {S : Type 0} (k : ℕ) (me : Side) (a : ℕ) (d e : Hold S) : T
   pub looked : (e.meaning.part k).looked ≡ with_mark a (d.meaning.part k).looked
   pub made : (e.meaning.part k).made ≡ (d.meaning.part k).made
   pub progress : e.progress ≡ d.progress
-  pub stopped : e.stopped ≡ d.stopped
+  pub last : e.last ≡ d.last
   pub beside : Beside k me (λ b. b ≡ a) d e
   pub locks : (b : ℕ) → mem b (e.meaning.part k).changed ≡ true → (mem b (d.meaning.part k).changed ≡ true) ⊎ (b ≡ a)
 
 -- why the record a can't be held
-abbrev pub FailWhy : {S : Type 0} → ℕ → Side → ℕ → Stop → Hold S → Type 0
+abbrev pub FailWhy : {S : Type 0} → ℕ → Side → ℕ → Halt → Hold S → Type 0
 FailWhy k me a (Lost f) e = (f.at.0 ≡ a) × ((w : Worlds) → LosesTo k me f (core_of w e.meaning e.books))
 FailWhy k me a OutOfMemory e = Unit {0}
 FailWhy k me a _ e = ⊥
 
 -- the record a can't be held: at most that record more was looked at or locked
-pub record Fails {S : Type 0} (k : ℕ) (me : Side) (a : ℕ) (d : Hold S) (s : Stop) (e : Hold S) : Type 0 where
-  pub stopped : e.stopped ≡ Some s
+pub record Fails {S : Type 0} (k : ℕ) (me : Side) (a : ℕ) (d : Hold S) (s : Halt) (e : Hold S) : Type 0 where
+  pub last : e.last ≡ gave s
   pub beside : Beside k me (λ b. b ≡ a) d e
   pub why : FailWhy k me a s e
   pub looked : (b : ℕ) → (e.meaning.part k).looked b ≡ true → ((d.meaning.part k).looked b ≡ true) ⊎ (b ≡ a)

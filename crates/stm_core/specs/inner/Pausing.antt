@@ -1,8 +1,6 @@
 -- What code and proofs say to each other: nothing public rests on it.
 -- Why steps of a transaction came to an end, as the core is then. States `docs/HEAP.md`, "Events".
 use Rattle.std.specs.Prelude.{◌≡◌, ◌≢◌, ℕ, ◌+◌, ◌<◌, Bool, true, false, List, Option}
-use Rattle.py_data.specs.declared.stop.Stop.{Stop}
-use Rattle.py_data.specs.declared.stop.Stop.TheVariants.{Lost, NeedSolo, NeedHeap, Full, OutOfMemory}
 use Rattle.py_data.specs.Heap.{Heap}
 use Rattle.py_data.specs.World.{World}
 use Rattle.lock_run.specs.declared.client.Life.TheVariants.{Lives}
@@ -10,6 +8,8 @@ use Rattle.lock_run.specs.Prog.{Prog}
 use Rattle.seg_store.specs.Meaning.{Meaning}
 use Rattle.stm_core.specs.declared.books.Work.{Work}
 use Rattle.stm_core.specs.declared.books.Books.{Books}
+use Rattle.stm_core.specs.declared.halt.Halt.{Halt}
+use Rattle.stm_core.specs.declared.halt.Halt.TheVariants.{Lost, NeedSolo, Full, OutOfMemory}
 use Rattle.stm_core.specs.declared.steps.Pause.{Pause}
 use Rattle.stm_core.specs.declared.steps.Pause.TheVariants.{Whole, Waits, Ended, Stopped}
 use Rattle.stm_core.specs.CoreState.{CoreState, sight_of}
@@ -27,7 +27,7 @@ use Rattle.stm_core.specs.inner.Trying.{core_with, Sane, SaneShown}
 -- a conflict that stands, prints or reads, or wants words that the store doesn't have; or there was no memory, or, of a
 -- solo one, a
 -- device failed.
-abbrev pub StopWhy : {S : Type 0} → Prog S → Worlds → ℕ → Stop → Meaning → ℕ → Books S → Work S → Type 0
+abbrev pub StopWhy : {S : Type 0} → Prog S → Worlds → ℕ → Halt → Meaning → ℕ → Books S → Work S → Type 0
 StopWhy p w k (Lost f) m reserved b x = IsStanding p (core_with w k m b x) f × AsksFrom k 1 f × (x.solo ≡ false)
 StopWhy p w k NeedSolo m reserved b x = Reaches (p.row x.state)
     (sight_of m.image w.committed (transaction w.own (m.part k) x)) AsksOutside × (x.solo ≡ false)
@@ -35,7 +35,6 @@ StopWhy p w k (Full r n l) m reserved b x =
     Reaches (p.row x.state) (sight_of m.image w.committed (transaction w.own (m.part k) x)) (AsksRoom n) ×
     (r ≡ reserved) × (l ≡ m.limit) × (l < r + n)
 StopWhy p w k OutOfMemory m reserved b x = Unit {0}
-StopWhy p w k NeedHeap m reserved b x = ⊥
 StopWhy p w k _ m reserved b x = x.solo ≡ true
 
 -- The transaction x of segment k came to here. Either its thread lives no more; or it lives, and all steps that were

@@ -6,7 +6,6 @@ use Rattle.std.proofs.Common.{ap, refl, ◌∙◌, sym, subst, inl, inr, IsSome}
 use Rattle.std.proofs.lemmas.Bool.{or_left, and_from, eq-eqb, cond-true}
 use Rattle.py_data.specs.declared.stop.Side.{Side}
 use Rattle.py_data.specs.declared.stop.Stop.{Stop}
-use Rattle.py_data.specs.declared.stop.Stop.TheVariants.{Lost, NeedSolo, NeedHeap, Full, ReadFault, WriteFault, ErrFault, OutOfMemory}
 use Rattle.py_data.specs.declared.stop.Out.TheVariants.{Output, ErrorOutput}
 use Rattle.py_data.specs.declared.change.Change.{Change}
 use Rattle.py_data.specs.Changes.{after, Outgrows}
@@ -21,7 +20,10 @@ use Rattle.py_data.proofs.Grow.{act_grows, grows_refl, with_rec_here}
 use Rattle.py_data.specs.Frames.{Grows}
 use Rattle.seg_store.specs.Meaning.{Meaning, sees, saw, overlay}
 use Rattle.seg_store.specs.Calls.{after_open, after_undo, opened, undone}
+use Rattle.stm_core.specs.declared.halt.Halt.{Halt}
+use Rattle.stm_core.specs.declared.halt.Halt.TheVariants.{Lost, NeedSolo, Full, ReadFault, WriteFault, ErrFault, OutOfMemory}
 use Rattle.stm_core.specs.Devices.{DeviceState}
+use Rattle.stm_core.specs.inner.Halts.{stop_of}
 use Rattle.stm_core.specs.inner.Hold.{Hold, sight, SegDoes, SegWhy, Inside, LeavesHold}
 use Rattle.stm_core.specs.inner.Outer.{OuterDoes}
 use Rattle.stm_core.specs.inner.SegSense.{Seen, seg_stops, with_more, with_both, seg_sense, seg_bracket, SamePeaks, Tells, TellsRefused, told_sense, told_bracket}
@@ -114,7 +116,7 @@ seen_stays k me c d r e a h s =
     record { entry = q.0; is = q.1; noted = λ t. g.looked a (s.noted (ap is_tracked (sym q.2.kind) ∙ t)) }
 
 live : {T : Type 0} (k : ℕ) (me : Side) (c : Call T) (d : Hold T) (r : Reply c) (e : Hold T) → SegDoes k me c d r e →
-    e.stopped ≡ None
+    e.last.stopped ≡ None
 live k me c d r e h = elim (inside k me c d r e h) [ inl i ↦ i.2 | inr q ↦ q.1 ]
 
 kept_base : {T : Type 0} (k : ℕ) (me : Side) (c : Call T) (d : Hold T) (r : Reply c) (e : Hold T) →
@@ -128,8 +130,8 @@ outgrown c None n w = w
 outgrown c (Some r) n w = w.0
 
 -- each Stop is one that such a call can meet, and one of those that a segment's view gives
-cause : {T : Type 0} (k : ℕ) (me : Side) (s : Stop) (c : Call T) (h : Heap) (e : Hold T) → SegWhy k me s c h e →
-    (can_refuse c s ≡ true) × (seg_stops s ≡ true) × IfFull s (WantsRoom c h)
+cause : {T : Type 0} (k : ℕ) (me : Side) (s : Halt) (c : Call T) (h : Heap) (e : Hold T) → SegWhy k me s c h e →
+    (can_refuse c (stop_of s) ≡ true) × (seg_stops (stop_of s) ≡ true) × IfFull (stop_of s) (WantsRoom c h)
 cause k me (Lost f) (Edit a x) h e w = (refl, refl, tt)
 cause k me (Lost f) _ h e w = absurd w.0
 cause k me NeedSolo (Put Output b) h e w = (refl, refl, tt)
@@ -150,7 +152,6 @@ cause k me WriteFault (Put Output b) h e w = (refl, refl, tt)
 cause k me WriteFault _ h e w = absurd w.1
 cause k me ErrFault (Put ErrorOutput b) h e w = (refl, refl, tt)
 cause k me ErrFault _ h e w = absurd w.1
-cause k me NeedHeap c h e w = absurd w.1
 
 opens_shown : (k : ℕ) (m : Meaning) → (sees (after_open k m) k ≡ sees m k) × (saw (after_open k m) k ≡ sees m k)
 opens_shown k m = (
@@ -201,8 +202,10 @@ module _ {T X : Type 0} (hold : X → Hold T) (devices : X → DeviceState) (seg
         (seen_stays (segment v) (me v) c (hold v) r (hold w) a d.0 s);
     same = λ a v r w s d. d.3 s;
     sure = λ a v e w s h. h.3 s;
-    halts = λ c v e w h. h.0.stopped;
-    cause = λ c v e w h. cause (segment v) (me v) e c (sees (hold v).meaning (segment v)) (hold w) h.0.why;
+    halts = λ c v e w h. ap (λ z. z.stopped) h.0.last ∙ ap Some (sym h.4);
+    cause = λ c v e w h. subst (λ z. (can_refuse c z ≡ true) × (seg_stops z ≡ true) ×
+        IfFull z (WantsRoom c (sees (hold v).meaning (segment v)))) (sym h.4)
+        (cause (segment v) (me v) (hold w).last.halt c (sees (hold v).meaning (segment v)) (hold w) h.0.why);
   }
 
   pub seg_bracketed : IsBracket (seg_sense hold devices segment me same) (seg_bracket hold devices segment me same)
@@ -221,12 +224,12 @@ module _ {T X : Type 0} (hold : X → Hold T) (devices : X → DeviceState) (seg
           (opens_shown (segment v) (hold v).meaning).0,
       ap (saw (hold w).meaning) h.2.segment_is ∙ ap (λ z. saw z.meaning (segment v)) h.0 ∙
           (opens_shown (segment v) (hold v).meaning).1,
-      ap (λ z. z.stopped) h.0,
+      ap (λ z. z.last.stopped) h.0,
     );
     undone = λ v w h. (
       ap (sees (hold w).meaning) h.2.segment_is ∙ ap (λ z. sees z.meaning (segment v)) h.0 ∙
           undo_shown (segment v) (hold v).meaning,
-      ap (λ z. z.stopped) h.0,
+      ap (λ z. z.last.stopped) h.0,
     );
     put = λ v w bytes d. d.1.0;
   }

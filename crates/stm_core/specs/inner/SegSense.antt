@@ -12,6 +12,7 @@ use Rattle.stm_core.specs.declared.books.Books.{Books}
 use Rattle.stm_core.specs.Books.{Worlds, core_of}
 use Rattle.stm_core.specs.Devices.{DeviceState}
 use Rattle.stm_core.specs.InUse.{core_use, wants_more, RisesUpTo, IfTold}
+use Rattle.stm_core.specs.inner.Halts.{stop_of}
 use Rattle.stm_core.specs.inner.Hold.{Hold, SegDoes, SegRefuses, SegOpens, SegUndoes}
 use Rattle.stm_core.specs.inner.Outer.{OuterDoes, OuterRefuses, OuterOpens, OuterUndoes}
 
@@ -81,12 +82,12 @@ module _ {T X : Type 0} (hold : X → Hold T) (devices : X → DeviceState) (seg
   seg_sense = record {
     heap = λ v. sees (hold v).meaning (segment v);
     partial = false;
-    stopped = λ v. (hold v).stopped;
+    stopped = λ v. (hold v).last.stopped;
     can_stop = seg_stops;
     does = λ c v r w. SegDoes (segment v) (me v) c (hold v) r (hold w) × OuterDoes (me v) c (devices v) r (devices w) ×
         Stays v w × Quiet c v w;
-    refuses = λ c v e w. SegRefuses (segment v) (me v) c (hold v) e (hold w) × OuterRefuses (me v) c e (devices v)
-        (devices w) × Stays v w × Unsure c v;
+    refuses = λ c v e w. SegRefuses (segment v) (me v) c (hold v) (hold w).last.halt (hold w) ×
+        OuterRefuses (me v) c e (devices v) (devices w) × Stays v w × Unsure c v × (e ≡ stop_of (hold w).last.halt);
     seen = λ a v. Seen a (segment v) (hold v);
   }
 

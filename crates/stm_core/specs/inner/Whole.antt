@@ -6,8 +6,6 @@ use Rattle.std.specs.Prelude.{◌≡◌, ◌≢◌, ◌⊎◌, ℕ, ◌+◌, ◌
 use Rattle.std.specs.List.{sum_by}
 use Rattle.py_data.specs.declared.stop.Side.{Side}
 use Rattle.py_data.specs.declared.stop.Conflict.{Conflict}
-use Rattle.py_data.specs.declared.stop.Stop.{Stop}
-use Rattle.py_data.specs.declared.stop.Stop.TheVariants.{Lost, NeedSolo, NeedHeap, Full, ReadFault, WriteFault, ErrFault, OutOfMemory}
 use Rattle.py_data.specs.Heap.{Heap}
 use Rattle.py_data.specs.World.{World}
 use Rattle.py_data.specs.declared.stop.Out.TheVariants.{Output, ErrorOutput}
@@ -22,6 +20,8 @@ use Rattle.seg_store.specs.Meaning.{Meaning, holds}
 use Rattle.stm_core.specs.declared.books.Work.{Work}
 use Rattle.stm_core.specs.declared.books.Hand.TheVariants.{Runs}
 use Rattle.stm_core.specs.declared.books.Books.{Books}
+use Rattle.stm_core.specs.declared.halt.Halt.{Halt}
+use Rattle.stm_core.specs.declared.halt.Halt.TheVariants.{Lost, NeedSolo, Full, ReadFault, WriteFault, ErrFault, OutOfMemory}
 use Rattle.stm_core.specs.CoreState.{Transaction, CoreState, sight_of}
 use Rattle.stm_core.specs.Moves.{Advances, Stays}
 use Rattle.stm_core.specs.Books.{WorkFits, runs_at, one_running, one_started, is_lock, Worlds, transaction, core_of}
@@ -70,7 +70,7 @@ pub record StepDone {S : Type 0} (p : Prog S) (w : Worlds) (own : World) (k : �
 -- Where a row, from the sight s, was stopped: its calls were done up to a place, and there the code found no memory, or
 -- the next
 -- call was refused.
-pub record StopsAt {S A : Type 0} (k : ℕ) (me : Side) (row : Row S A) (s : Sight S) (e : Stop) (c d : Hold S) : Type 0
+pub record StopsAt {S A : Type 0} (k : ℕ) (me : Side) (row : Row S A) (s : Sight S) (e : Halt) (c d : Hold S) : Type 0
   where
     pub left : Row S A
     pub place : Sight S
@@ -84,17 +84,16 @@ pub record StopsAt {S A : Type 0} (k : ℕ) (me : Side) (row : Row S A) (s : Sig
 -- Why a step wasn't done: from the sight s its row comes to a call that was refused, as the core is afterwards. Only
 -- one that isn't
 -- solo meets a lock that wins, or wants to be solo; only a solo one meets a fault of a device.
-abbrev pub CutWhy : {S A : Type 0} → ℕ → Side → Stop → Row S A → Sight S → CoreState S → ℕ → ℕ → Type 0
+abbrev pub CutWhy : {S A : Type 0} → ℕ → Side → Halt → Row S A → Sight S → CoreState S → ℕ → ℕ → Type 0
 CutWhy k me (Lost f) row s c reserved limit = LosesTo k me f c × Reaches row s (AsksToChange f.at.0)
 CutWhy k me NeedSolo row s c reserved limit = (me.solo ≡ false) × Reaches row s AsksOutside
 CutWhy k me (Full r n l) row s c reserved limit = Reaches row s (AsksRoom n) × (r ≡ reserved) × (l ≡ limit) ×
     (l < r + n)
 CutWhy k me OutOfMemory row s c reserved limit = Unit {0}
-CutWhy k me NeedHeap row s c reserved limit = ⊥
 CutWhy k me _ row s c reserved limit = me.solo ≡ true
 
 -- Other segments were doomed by these conflicts, and then the step was cut and taken back: looks and locks stay.
-pub record StepCut {S : Type 0} (p : Prog S) (w : Worlds) (k : ℕ) (me : Side) (e : Stop) (m : Meaning) (b : Books S)
+pub record StepCut {S : Type 0} (p : Prog S) (w : Worlds) (k : ℕ) (me : Side) (e : Halt) (m : Meaning) (b : Books S)
     (x : Work S) (m1 : Meaning) (r1 : ℕ) (b1 : Books S) (x1 : Work S) : Type 0 where
   pub dooms : List Conflict
   pub others : Dooms k me dooms (core_of w m b) (core_of w m1 b1)
@@ -105,8 +104,8 @@ pub record StepCut {S : Type 0} (p : Prog S) (w : Worlds) (k : ℕ) (me : Side) 
   pub why : CutWhy k me e (p.row x.state) (sight_of m.image w.committed (transaction w.own (m.part k) x))
       (core_of w m1 b1) r1 m1.limit
 
--- a fault of a device that a Stop tells is one of the call that was cut
-abbrev pub StopOf : {S A : Type 0} → Stop → Row S A → Type 0
+-- a fault of a device that a Halt tells is one of the call that was cut
+abbrev pub StopOf : {S A : Type 0} → Halt → Row S A → Type 0
 StopOf ReadFault (Do (Take most) f) = Unit {0}
 StopOf ReadFault _ = ⊥
 StopOf WriteFault (Do (Put Output bytes) f) = Unit {0}
@@ -118,7 +117,7 @@ StopOf _ _ = Unit {0}
 -- What the devices were told by the step of a solo transaction that was cut: its row's calls up to a place, and a part
 -- of the next.
 pub record StepBroke {S : Type 0} (p : Prog S) (t e : Option (List ℕ)) (image : Heap) (w : World) (x : Transaction S)
-    (stop : Stop) (d1 : DeviceState) : Type 0 where
+    (stop : Halt) (d1 : DeviceState) : Type 0 where
   pub told : World
   pub tells : Tells t e d1 told
   pub cut : RowCut (p.row x.state) (sight_of image w x) told

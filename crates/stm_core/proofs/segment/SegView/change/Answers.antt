@@ -20,19 +20,19 @@ pub returns-in-Ok-change_held-clause-ok : goal.returns-in-Ok-change_held-clause-
 returns-in-Ok-change_held-clause-ok g c =
     change_done c.args.self.now.segment c.args.self.now.side c.args.a.0 c.args.change
     (holding (g.S.SegStore.meaning c.args.self.now.store.now) (g.S.SegStore.reserved c.args.self.now.store.now)
-    c.args.self.now.books.now c.args.self.now.progress.now c.args.self.now.stopped)
+    c.args.self.now.books.now c.args.self.now.progress.now c.args.self.now.last)
     (holding (g.S.SegStore.meaning c.hold.new.self.store.now) (g.S.SegStore.reserved c.hold.new.self.store.now)
-    c.hold.new.self.books.now c.hold.new.self.progress.now c.hold.new.self.stopped)
+    c.hold.new.self.books.now c.hold.new.self.progress.now c.hold.new.self.last)
     (holding (g.S.SegStore.meaning c.change_held.new.self.store.now)
     (g.S.SegStore.reserved c.change_held.new.self.store.now) c.change_held.new.self.books.now
-    c.change_held.new.self.progress.now c.change_held.new.self.stopped)
+    c.change_held.new.self.progress.now c.change_held.new.self.last)
     c.requires.can c.requires.live (runs_moved c.hold.new.self.books.now.hands.items c.hold.new.self.segment
     c.args.self.now.segment c.in-Ok.ensures.stays.0 c.hold.new.self.fits.out) c.in-Ok.ensures.ok
     (after_moved c.args.self.now.segment c.hold.new.self.segment c.args.a.0 (after c.args.change)
     (g.S.SegStore.meaning c.hold.new.self.store.now) (g.S.SegStore.meaning c.change_held.new.self.store.now)
     c.in-Ok.ensures.stays.0 c.in-Ok-change_held.ensures.ok)
     c.change_held.ensures.reserved c.change_held.ensures.books c.change_held.ensures.progress
-    c.change_held.ensures.stopped
+    c.change_held.ensures.last
 
 pub change_held-requires-clause-can : goal.change_held-requires-clause-can
 change_held-requires-clause-can g c = can_moved c.args.self.now.segment c.hold.new.self.segment c.args.a.0
@@ -45,16 +45,16 @@ returns-in-Err-change_held-clause-err g c =
     let same = sym (ap g.S.SegStore.reserved c.refuse.ensures.store) in
     change_refused c.args.self.now.segment c.args.self.now.side c.args.a.0 c.args.change
     (holding (g.S.SegStore.meaning c.args.self.now.store.now) (g.S.SegStore.reserved c.args.self.now.store.now)
-    c.args.self.now.books.now c.args.self.now.progress.now c.args.self.now.stopped)
+    c.args.self.now.books.now c.args.self.now.progress.now c.args.self.now.last)
     (holding (g.S.SegStore.meaning c.hold.new.self.store.now) (g.S.SegStore.reserved c.hold.new.self.store.now)
-    c.hold.new.self.books.now c.hold.new.self.progress.now c.hold.new.self.stopped)
+    c.hold.new.self.books.now c.hold.new.self.progress.now c.hold.new.self.last)
     (holding (g.S.SegStore.meaning c.refuse.new.self.store.now) (g.S.SegStore.reserved c.refuse.new.self.store.now)
-    c.refuse.new.self.books.now c.refuse.new.self.progress.now c.refuse.new.self.stopped)
-    c.in-Err-change_held.fault c.refuse.result c.in-Ok.ensures.ok (ap g.S.SegStore.meaning c.refuse.ensures.store ∙
+    c.refuse.new.self.books.now c.refuse.new.self.progress.now c.refuse.new.self.last)
+    c.in-Err-change_held.fault c.in-Ok.ensures.ok (ap g.S.SegStore.meaning c.refuse.ensures.store ∙
     c.in-Err-change_held.ensures.err)
     (subst (λ n. g.S.SegStore.reserved c.hold.new.self.store.now ≤ n) same c.change_held.ensures.reserved)
     (c.refuse.ensures.books ∙ c.change_held.ensures.books) (c.refuse.ensures.progress ∙ c.change_held.ensures.progress)
-    c.refuse.ensures.same c.refuse.ensures.stopped
+    c.refuse.ensures.last
     (subst (λ k. FaultWhy (ChangeWants c.args.change (sees m k) c.args.a.0)
     (g.S.SegStore.reserved c.refuse.new.self.store.now) m.limit c.in-Err-change_held.fault) c.in-Ok.ensures.stays.0
     (subst (λ n. FaultWhy (ChangeWants c.args.change (sees m c.hold.new.self.segment) c.args.a.0) n m.limit
@@ -73,9 +73,9 @@ returns-in-Err-change_held-clause-tells_err g c =
     let m = g.S.SegStore.meaning c.hold.new.self.store.now in
     there_held c.args.self.now.segment c.args.self.now.side c.args.a.0 c.args.change
     (holding (g.S.SegStore.meaning c.args.self.now.store.now) (g.S.SegStore.reserved c.args.self.now.store.now)
-    c.args.self.now.books.now c.args.self.now.progress.now c.args.self.now.stopped)
+    c.args.self.now.books.now c.args.self.now.progress.now c.args.self.now.last)
     (holding m (g.S.SegStore.reserved c.hold.new.self.store.now) c.hold.new.self.books.now
-    c.hold.new.self.progress.now c.hold.new.self.stopped) c.hold.new.self.segment
+    c.hold.new.self.progress.now c.hold.new.self.last) c.hold.new.self.segment
     (g.S.SegStore.peaks c.args.self.now.store.now) (g.S.SegStore.peaks c.hold.new.self.store.now)
     (g.S.SegStore.peaks c.refuse.new.self.store.now) c.in-Ok.ensures.ok c.in-Ok.ensures.stays.0 c.in-Ok.ensures.peaks
     (there_refused c.hold.new.self.segment (g.S.SegStore.reserved c.change_held.new.self.store.now) m

@@ -17,7 +17,7 @@ returns-in-Ok-clause-ok g c =
     (g.S.SegStore.meaning c.args.self.now.store.now) (g.S.SegStore.meaning c.lock.new.self)
     (g.S.SegStore.reserved c.args.self.now.store.now) (g.S.SegStore.reserved c.lock.new.self)
     c.args.self.now.books.now c.args.self.now.books.now c.args.self.now.progress.now c.args.self.now.progress.now
-    c.args.self.now.stopped c.args.self.now.stopped c.args.self.now.fits.out c.known.ensures.store c.requires.there
+    c.args.self.now.last c.args.self.now.last c.args.self.now.fits.out c.known.ensures.store c.requires.there
     c.in-Ok.ensures.ok c.lock.ensures.reserved refl refl refl
 
 pub returns-in-Err-clause-err : goal.returns-in-Err-clause-err
@@ -26,7 +26,7 @@ returns-in-Err-clause-err g c =
     (g.S.SegStore.meaning c.args.self.now.store.now) (g.S.SegStore.meaning c.fail.new.self.store.now)
     (g.S.SegStore.reserved c.args.self.now.store.now) (g.S.SegStore.reserved c.fail.new.self.store.now)
     c.args.self.now.books.now c.fail.new.self.books.now c.args.self.now.progress.now c.fail.new.self.progress.now
-    c.args.self.now.stopped c.fail.new.self.stopped c.fail.result c.fail.ensures.same c.fail.ensures.stopped
+    c.args.self.now.last c.fail.new.self.last c.fail.ensures.last
     (ap g.S.SegStore.meaning c.fail.ensures.store ∙ c.in-Err.ensures.err)
     (ap g.S.SegStore.reserved c.fail.ensures.store ∙ c.lock.ensures.reserved) c.fail.ensures.books
     c.fail.ensures.progress

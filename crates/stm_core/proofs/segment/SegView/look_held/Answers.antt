@@ -1,4 +1,4 @@
-use Rattle.std.proofs.lemmas.Result.{IfErr-weaker}
+use Rattle.std.proofs.lemmas.Result.{on_err_weaker}
 use Rattle.stm_core.proofs.Holding.{holds_looked, fails_memory, on_ok_two}
 use Rattle.stm_core.proofs.segment.SegView.look_held.Goals as goal
 
@@ -8,16 +8,16 @@ returns-clause-ok g c =
     (g.S.SegStore.meaning c.args.self.now.store.now) (g.S.SegStore.meaning c.look.new.self.store.now)
     (g.S.SegStore.reserved c.args.self.now.store.now) (g.S.SegStore.reserved c.look.new.self.store.now)
     c.args.self.now.books.now c.look.new.self.books.now c.args.self.now.progress.now c.look.new.self.progress.now
-    c.args.self.now.stopped c.look.new.self.stopped c.args.self.now.fits.out c.requires.there c.requires.tracked
+    c.args.self.now.last c.look.new.self.last c.args.self.now.fits.out c.requires.there c.requires.tracked
     c.requires.held h c.look.ensures.reserved c.look.ensures.books c.look.ensures.progress e)
-    c.look.ensures.done c.look.ensures.stopped
+    c.look.ensures.done c.look.ensures.last
 
 pub returns-clause-err : goal.returns-clause-err
 returns-clause-err g c =
-    IfErr-weaker c.look.result _ _ (λ e h. fails_memory c.args.self.now.segment c.args.self.now.side c.args.a.0
+    on_err_weaker c.look.result (λ h. fails_memory c.args.self.now.segment c.args.self.now.side c.args.a.0
     (g.S.SegStore.meaning c.args.self.now.store.now) (g.S.SegStore.meaning c.look.new.self.store.now)
     (g.S.SegStore.reserved c.args.self.now.store.now) (g.S.SegStore.reserved c.look.new.self.store.now)
     c.args.self.now.books.now c.look.new.self.books.now c.args.self.now.progress.now c.look.new.self.progress.now
-    c.args.self.now.stopped c.look.new.self.stopped e h.0 h.1 h.2 c.look.ensures.reserved c.look.ensures.books
+    c.args.self.now.last c.look.new.self.last h.0 h.1 c.look.ensures.reserved c.look.ensures.books
     c.look.ensures.progress)
     c.look.ensures.err

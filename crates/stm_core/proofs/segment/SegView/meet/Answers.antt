@@ -1,5 +1,5 @@
-use Rattle.std.proofs.Common.{refl, sym, ◌∙◌, ap, Some}
-use Rattle.std.proofs.lemmas.Result.{on_ok_weaker, IfErr-weaker}
+use Rattle.std.proofs.Common.{refl, ap}
+use Rattle.std.proofs.lemmas.Result.{on_ok_weaker, on_err_weaker}
 use Rattle.stm_core.specs.inner.Hold.{holding}
 use Rattle.stm_core.proofs.Holding.{meets_lock, dooms_one, dooms_hand, holds_then, fails_then, fails_lost}
 use Rattle.stm_core.proofs.segment.SegView.meet.Goals as goal
@@ -10,22 +10,22 @@ returns-then-not-wins-clause-err g c =
     (g.S.SegStore.meaning c.args.self.now.store.now) (g.S.SegStore.meaning c.fail.new.self.store.now)
     (g.S.SegStore.reserved c.args.self.now.store.now) (g.S.SegStore.reserved c.fail.new.self.store.now)
     c.args.self.now.books.now c.fail.new.self.books.now c.args.self.now.progress.now c.fail.new.self.progress.now
-    c.args.self.now.stopped c.fail.new.self.stopped c.fail.result c.fail.ensures.same c.requires.other c.requires.runs
+    c.args.self.now.last c.fail.new.self.last c.requires.other c.requires.runs
     refl c.side-writer.ensures refl refl refl (cc)
     (meets_lock (g.S.SegStore.reserved c.args.self.now.store.now) (g.S.SegStore.meaning c.args.self.now.store.now)
     c.args.j c.args.self.now.segment c.args.a.0 c.known.ensures.store c.requires.other c.requires.there
     c.requires.held)
     (ap g.S.SegStore.meaning c.fail.ensures.store) (ap g.S.SegStore.reserved c.fail.ensures.store) c.fail.ensures.books
-    c.fail.ensures.progress (c.fail.ensures.stopped ∙ ap Some (sym c.fail.ensures.same))
+    c.fail.ensures.progress c.fail.ensures.last
 
 pub returns-clause-ok : goal.returns-clause-ok
 returns-clause-ok g c =
     on_ok_weaker c.lock.result (holds_then c.args.self.now.segment c.args.self.now.side c.args.j _
     (g.S.SegStore.meaning c.args.self.now.store.now) (g.S.SegStore.reserved c.args.self.now.store.now)
-    c.args.self.now.books.now c.args.self.now.progress.now c.args.self.now.stopped
+    c.args.self.now.books.now c.args.self.now.progress.now c.args.self.now.last
     c.doom.new.self.segment c.doom.new.self.side (g.S.SegStore.meaning c.doom.new.self.store.now)
     (g.S.SegStore.reserved c.doom.new.self.store.now) c.doom.new.self.books.now c.doom.new.self.progress.now
-    c.doom.new.self.stopped
+    c.doom.new.self.last
     (record {
       dooms = dooms_hand c.args.self.now.segment c.args.self.now.side c.args.j _
           (g.S.SegStore.meaning c.args.self.now.store.now) c.args.self.now.books.now c.doom.new.self.books.now
@@ -43,19 +43,19 @@ returns-clause-ok g c =
       meaning = c.doom.ensures.store;
       reserved = c.doom.ensures.reserved;
       progress = c.doom.ensures.progress;
-      stopped = c.doom.ensures.stopped;
+      last = c.doom.ensures.last;
     }) c.args.a.0 refl (holding (g.S.SegStore.meaning c.lock.new.self.store.now)
     (g.S.SegStore.reserved c.lock.new.self.store.now) c.lock.new.self.books.now c.lock.new.self.progress.now
-    c.lock.new.self.stopped)) c.lock.ensures.ok
+    c.lock.new.self.last)) c.lock.ensures.ok
 
 pub returns-clause-err : goal.returns-clause-err
 returns-clause-err g c =
-    IfErr-weaker c.lock.result _ _ (fails_then c.args.self.now.segment c.args.self.now.side c.args.j _
+    on_err_weaker c.lock.result (fails_then c.args.self.now.segment c.args.self.now.side c.args.j _
     (g.S.SegStore.meaning c.args.self.now.store.now) (g.S.SegStore.reserved c.args.self.now.store.now)
-    c.args.self.now.books.now c.args.self.now.progress.now c.args.self.now.stopped
+    c.args.self.now.books.now c.args.self.now.progress.now c.args.self.now.last
     c.doom.new.self.segment c.doom.new.self.side (g.S.SegStore.meaning c.doom.new.self.store.now)
     (g.S.SegStore.reserved c.doom.new.self.store.now) c.doom.new.self.books.now c.doom.new.self.progress.now
-    c.doom.new.self.stopped
+    c.doom.new.self.last
     (record {
       dooms = dooms_hand c.args.self.now.segment c.args.self.now.side c.args.j _
           (g.S.SegStore.meaning c.args.self.now.store.now) c.args.self.now.books.now c.doom.new.self.books.now
@@ -73,7 +73,7 @@ returns-clause-err g c =
       meaning = c.doom.ensures.store;
       reserved = c.doom.ensures.reserved;
       progress = c.doom.ensures.progress;
-      stopped = c.doom.ensures.stopped;
+      last = c.doom.ensures.last;
     }) c.args.a.0 refl (holding (g.S.SegStore.meaning c.lock.new.self.store.now)
     (g.S.SegStore.reserved c.lock.new.self.store.now) c.lock.new.self.books.now c.lock.new.self.progress.now
-    c.lock.new.self.stopped)) c.lock.ensures.err
+    c.lock.new.self.last) c.lock.new.self.last.halt) c.lock.ensures.err

@@ -89,19 +89,19 @@ returns-in-Ended-clause-paused g c = λ t e w c0 shown is.
 pub returns-in-Stopped-clause-paused : goal.returns-in-Stopped-clause-paused
 returns-in-Stopped-clause-paused g c = λ t e w c0 shown is.
     subst (λ z. Paused (g.C.Client.prog c.args.self.now.client.now) c.args.length c.args.k t e w z (c.turns.done)
-    (Stopped c.in-Stopped.stop) (g.S.SegStore.meaning c.step_on.new.self.store)
+    (Stopped c.in-Stopped.halt) (g.S.SegStore.meaning c.step_on.new.self.store)
     (g.S.SegStore.reserved c.step_on.new.self.store) c.step_on.new.self.books c.step_on.new.work
     (device_state g.I.Source.state g.O.Sink.state g.E.Sink.state c.step_on.new.self.devices)) (sym is)
     (subst (λ z. Paused (g.C.Client.prog c.args.self.now.client.now) c.args.length c.args.k t e w
     (core_with w c.args.k (g.S.SegStore.meaning c.args.self.now.store) c.args.self.now.books c.args.work.now) z
-    (Stopped c.in-Stopped.stop) (g.S.SegStore.meaning c.step_on.new.self.store)
+    (Stopped c.in-Stopped.halt) (g.S.SegStore.meaning c.step_on.new.self.store)
     (g.S.SegStore.reserved c.step_on.new.self.store) c.step_on.new.self.books c.step_on.new.work
     (device_state g.I.Source.state g.O.Sink.state g.E.Sink.state c.step_on.new.self.devices))
     (add-zero c.turns.done)
     (paused_then (g.C.Client.prog c.args.self.now.client.now) (g.C.Client.prog c.turns.self.client.now) c.args.length
     c.args.k c.turns.done 0 t e w (device_state g.I.Source.state g.O.Sink.state g.E.Sink.state
     c.turns.self.devices) (device_state g.I.Source.state g.O.Sink.state g.E.Sink.state c.step_on.new.self.devices)
-    (Stopped c.in-Stopped.stop) (g.S.SegStore.meaning c.turns.self.store)
+    (Stopped c.in-Stopped.halt) (g.S.SegStore.meaning c.turns.self.store)
     (g.S.SegStore.meaning c.step_on.new.self.store) (g.S.SegStore.reserved c.turns.self.store)
     (g.S.SegStore.reserved c.step_on.new.self.store) c.turns.self.books c.step_on.new.self.books c.turns.work
     c.step_on.new.work (core_with w c.args.k (g.S.SegStore.meaning c.args.self.now.store) c.args.self.now.books

@@ -29,7 +29,7 @@ returns-in-NeedSolo-clause-settled g c = λ t e w o out.
     (g.S.SegStore.reserved x.store) x.books c.args.work o
     (device_state g.I.Source.state g.O.Sink.state g.E.Sink.state y.devices)
     (λ i. device_state g.I.Source.state g.O.Sink.state g.E.Sink.state (c.put_back.ensures.rest i).devices)
-    (g.S.SegStore.meaning y.store) (g.S.SegStore.reserved y.store) y.books c.args.done c.args.stop c.in-NeedSolo.is
+    (g.S.SegStore.meaning y.store) (g.S.SegStore.reserved y.store) y.books c.args.done c.args.halt c.in-NeedSolo.is
     out (c.put_back.ensures.core w) c.put_back.ensures.broken
 
 pub returns-in-Lost-clause-settled : goal.returns-in-Lost-clause-settled
@@ -40,7 +40,7 @@ returns-in-Lost-clause-settled g c = λ t e w o out.
     (g.S.SegStore.reserved x.store) x.books c.args.work o
     (device_state g.I.Source.state g.O.Sink.state g.E.Sink.state y.devices)
     (λ i. device_state g.I.Source.state g.O.Sink.state g.E.Sink.state (c.lose_out.ensures.rest i).devices)
-    (g.S.SegStore.meaning y.store) (g.S.SegStore.reserved y.store) y.books c.in-Lost.f c.args.stop c.in-Lost.is out
+    (g.S.SegStore.meaning y.store) (g.S.SegStore.reserved y.store) y.books c.in-Lost.f c.args.halt c.in-Lost.is out
     c.requires.idle (c.lose_out.ensures.core w) c.lose_out.ensures.broken
 
 pub returns-in-Full-clause-settled : goal.returns-in-Full-clause-settled
@@ -52,7 +52,7 @@ returns-in-Full-clause-settled g c = λ t e w o out.
     (device_state g.I.Source.state g.O.Sink.state g.E.Sink.state y.devices)
     (λ i. device_state g.I.Source.state g.O.Sink.state g.E.Sink.state (c.fail_out.ensures.rest i).devices)
     (g.S.SegStore.meaning y.store) (g.S.SegStore.reserved y.store) y.books c.in-Full.reserved c.in-Full.need
-    c.in-Full.limit c.args.stop c.in-Full.is out c.requires.idle c.fail_out.ensures.reserved
+    c.in-Full.limit c.args.halt c.in-Full.is out c.requires.idle c.fail_out.ensures.reserved
     c.fail_out.ensures.shape.1 (λ q. let h = c.fail_out.ensures.mortal q in record { broken = h.0; core = h.1 })
     (λ q. let h = c.fail_out.ensures.solo q in record { broken = h.0; core = h.1 }) c.fail_out.result
     c.fail_out.ensures.same
@@ -66,7 +66,7 @@ returns-in-OutOfMemory-clause-settled g c = λ t e w o out.
     (device_state g.I.Source.state g.O.Sink.state g.E.Sink.state y.devices)
     (λ i. device_state g.I.Source.state g.O.Sink.state g.E.Sink.state
     (c.fail_out-in-OutOfMemory.ensures.rest i).devices) (g.S.SegStore.meaning y.store)
-    (g.S.SegStore.reserved y.store) y.books c.args.stop c.in-OutOfMemory.is out c.requires.idle
+    (g.S.SegStore.reserved y.store) y.books c.args.halt c.in-OutOfMemory.is out c.requires.idle
     (λ q. let h = c.fail_out-in-OutOfMemory.ensures.mortal q in record { broken = h.0; core = h.1 })
     (λ q. let h = c.fail_out-in-OutOfMemory.ensures.solo q in record { broken = h.0; core = h.1 })
     c.fail_out-in-OutOfMemory.result c.fail_out-in-OutOfMemory.ensures.same
@@ -80,7 +80,7 @@ returns-in-ReadFault-clause-settled g c = λ t e w o out.
     (device_state g.I.Source.state g.O.Sink.state g.E.Sink.state y.devices)
     (λ i. device_state g.I.Source.state g.O.Sink.state g.E.Sink.state
     (c.fail_out-in-ReadFault.ensures.rest i).devices) (g.S.SegStore.meaning y.store)
-    (g.S.SegStore.reserved y.store) y.books c.args.stop c.in-ReadFault.is out c.requires.idle
+    (g.S.SegStore.reserved y.store) y.books c.args.halt c.in-ReadFault.is out c.requires.idle
     (λ q. let h = c.fail_out-in-ReadFault.ensures.mortal q in record { broken = h.0; core = h.1 })
     (λ q. let h = c.fail_out-in-ReadFault.ensures.solo q in record { broken = h.0; core = h.1 })
     c.fail_out-in-ReadFault.result c.fail_out-in-ReadFault.ensures.same
@@ -94,7 +94,7 @@ returns-in-WriteFault-clause-settled g c = λ t e w o out.
     (device_state g.I.Source.state g.O.Sink.state g.E.Sink.state y.devices)
     (λ i. device_state g.I.Source.state g.O.Sink.state g.E.Sink.state
     (c.fail_out-in-WriteFault.ensures.rest i).devices) (g.S.SegStore.meaning y.store)
-    (g.S.SegStore.reserved y.store) y.books c.args.stop c.in-WriteFault.is out c.requires.idle
+    (g.S.SegStore.reserved y.store) y.books c.args.halt c.in-WriteFault.is out c.requires.idle
     (λ q. let h = c.fail_out-in-WriteFault.ensures.mortal q in record { broken = h.0; core = h.1 })
     (λ q. let h = c.fail_out-in-WriteFault.ensures.solo q in record { broken = h.0; core = h.1 })
     c.fail_out-in-WriteFault.result c.fail_out-in-WriteFault.ensures.same
@@ -108,7 +108,7 @@ returns-in-ErrFault-clause-settled g c = λ t e w o out.
     (device_state g.I.Source.state g.O.Sink.state g.E.Sink.state y.devices)
     (λ i. device_state g.I.Source.state g.O.Sink.state g.E.Sink.state
     (c.fail_out-in-ErrFault.ensures.rest i).devices) (g.S.SegStore.meaning y.store) (g.S.SegStore.reserved y.store)
-    y.books c.args.stop c.in-ErrFault.is out c.requires.idle
+    y.books c.args.halt c.in-ErrFault.is out c.requires.idle
     (λ q. let h = c.fail_out-in-ErrFault.ensures.mortal q in record { broken = h.0; core = h.1 })
     (λ q. let h = c.fail_out-in-ErrFault.ensures.solo q in record { broken = h.0; core = h.1 })
     c.fail_out-in-ErrFault.result c.fail_out-in-ErrFault.ensures.same
@@ -123,15 +123,18 @@ returns-in-OutOfMemory-clause-fault g c = λ d d1 h.
 
 pub returns-in-ReadFault-clause-fault : goal.returns-in-ReadFault-clause-fault
 returns-in-ReadFault-clause-fault g c = λ d d1 h.
-    subst (λ e. FaultRose (Err e) d d1) (sym c.fail_out-in-ReadFault.ensures.same) (subst (λ s. StopRose s d d1) c.in-ReadFault.is h)
+    subst (λ e. FaultRose (Err e) d d1) (sym c.fail_out-in-ReadFault.ensures.same)
+    (subst (λ s. StopRose s d d1) c.in-ReadFault.is h)
 
 pub returns-in-WriteFault-clause-fault : goal.returns-in-WriteFault-clause-fault
 returns-in-WriteFault-clause-fault g c = λ d d1 h.
-    subst (λ e. FaultRose (Err e) d d1) (sym c.fail_out-in-WriteFault.ensures.same) (subst (λ s. StopRose s d d1) c.in-WriteFault.is h)
+    subst (λ e. FaultRose (Err e) d d1) (sym c.fail_out-in-WriteFault.ensures.same)
+    (subst (λ s. StopRose s d d1) c.in-WriteFault.is h)
 
 pub returns-in-ErrFault-clause-fault : goal.returns-in-ErrFault-clause-fault
 returns-in-ErrFault-clause-fault g c = λ d d1 h.
-    subst (λ e. FaultRose (Err e) d d1) (sym c.fail_out-in-ErrFault.ensures.same) (subst (λ s. StopRose s d d1) c.in-ErrFault.is h)
+    subst (λ e. FaultRose (Err e) d d1) (sym c.fail_out-in-ErrFault.ensures.same)
+    (subst (λ s. StopRose s d d1) c.in-ErrFault.is h)
 
 pub returns-in-NeedSolo-clause-fault : goal.returns-in-NeedSolo-clause-fault
 returns-in-NeedSolo-clause-fault g c = λ d d1 h. tt

@@ -36,8 +36,10 @@ returns-in-Ok-Waits-clause-paused g c = λ t e w n c0 shown h.
     (device_state g.I.Source.state g.O.Sink.state g.E.Sink.state c.step_out.new.self.devices)
     (g.S.SegStore.meaning c.args.self.now.store) (g.S.SegStore.meaning c.step_out.new.self.store)
     (g.S.SegStore.reserved c.step_out.new.self.store) c.args.self.now.books c.step_out.new.self.books
-    (record c.args.work.now { state = c.step_pure.new.s }) c.step_out.new.work c0 c.step_out.ensures.image c.step_out.ensures.store c.step_out.ensures.fit
-    (ap (g.C.Client.prog c.args.self.now.client.now).life (c.step_pure.ensures.not c.if-step_pure.false) ∙ c.requires.lives) c.step_out.ensures.same.3 h1 z.0 c.in-Ok-Waits.field-0 c.in-Ok-Waits.field-0-is z.2 z.1
+    (record c.args.work.now { state = c.step_pure.new.s }) c.step_out.new.work c0 c.step_out.ensures.image
+    c.step_out.ensures.store c.step_out.ensures.fit
+    (ap (g.C.Client.prog c.args.self.now.client.now).life (c.step_pure.ensures.not c.if-step_pure.false) ∙
+    c.requires.lives) c.step_out.ensures.same.3 h1 z.0 c.in-Ok-Waits.field-0 c.in-Ok-Waits.field-0-is z.2 z.1
 
 pub returns-in-Ok-Waits-clause-sane : goal.returns-in-Ok-Waits-clause-sane
 returns-in-Ok-Waits-clause-sane g c =
@@ -79,8 +81,11 @@ returns-in-Ok-Done-clause-paused g c = λ t e w n c0 shown h.
     (device_state g.I.Source.state g.O.Sink.state g.E.Sink.state c.step_out.new.self.devices)
     (g.S.SegStore.meaning c.args.self.now.store) (g.S.SegStore.meaning c.step_out.new.self.store)
     (g.S.SegStore.reserved c.step_out.new.self.store) c.args.self.now.books c.step_out.new.self.books
-    (record c.args.work.now { state = c.step_pure.new.s }) c.step_out.new.work c0 c.step_out.ensures.image c.step_out.ensures.store c.step_out.ensures.fit
-    (ap (g.C.Client.prog c.args.self.now.client.now).life (c.step_pure.ensures.not c.if-step_pure.false) ∙ c.requires.lives) c.step_out.ensures.same.3 h1 z.0 o goes z.2 (let q = c.requires.short in omega (arith, q))
+    (record c.args.work.now { state = c.step_pure.new.s }) c.step_out.new.work c0 c.step_out.ensures.image
+    c.step_out.ensures.store c.step_out.ensures.fit
+    (ap (g.C.Client.prog c.args.self.now.client.now).life (c.step_pure.ensures.not c.if-step_pure.false) ∙
+    c.requires.lives) c.step_out.ensures.same.3 h1 z.0 o goes z.2
+    (let q = c.requires.short in omega (arith, q))
     others z.1 (subst (λ v. LifeAfter v
     ((g.C.Client.prog c.args.self.now.client.now).life c.step_out.new.work.state)) c.in-Ok-Done.field-0-is
     c.in-Ok-Done.ensures.life))
@@ -125,8 +130,11 @@ returns-in-Ok-Ended-clause-paused g c = λ t e w n c0 shown h.
     (device_state g.I.Source.state g.O.Sink.state g.E.Sink.state c.step_out.new.self.devices)
     (g.S.SegStore.meaning c.args.self.now.store) (g.S.SegStore.meaning c.step_out.new.self.store)
     (g.S.SegStore.reserved c.step_out.new.self.store) c.args.self.now.books c.step_out.new.self.books
-    (record c.args.work.now { state = c.step_pure.new.s }) c.step_out.new.work c0 c.step_out.ensures.image c.step_out.ensures.store c.step_out.ensures.fit
-    (ap (g.C.Client.prog c.args.self.now.client.now).life (c.step_pure.ensures.not c.if-step_pure.false) ∙ c.requires.lives) c.step_out.ensures.same.3 h1 z.0 o goes z.2 (let q = c.requires.short in omega (arith, q))
+    (record c.args.work.now { state = c.step_pure.new.s }) c.step_out.new.work c0 c.step_out.ensures.image
+    c.step_out.ensures.store c.step_out.ensures.fit
+    (ap (g.C.Client.prog c.args.self.now.client.now).life (c.step_pure.ensures.not c.if-step_pure.false) ∙
+    c.requires.lives) c.step_out.ensures.same.3 h1 z.0 o goes z.2
+    (let q = c.requires.short in omega (arith, q))
     others z.1 (subst (λ v. LifeAfter v
     ((g.C.Client.prog c.args.self.now.client.now).life c.step_out.new.work.state)) c.in-Ok-Ended.field-0-is
     c.in-Ok-Ended.ensures.life))
@@ -157,12 +165,14 @@ sane_cut g c =
     (sym (same_work c.args.work.now c.step_pure.new.s (c.step_pure.ensures.not c.if-step_pure.false)))
     c.requires.sane in
     let w = s.sane.worlds in
-    let c0 = core_with w c.args.k (g.S.SegStore.meaning c.args.self.now.store) c.args.self.now.books (record c.args.work.now { state = c.step_pure.new.s }) in
+    let c0 = core_with w c.args.k (g.S.SegStore.meaning c.args.self.now.store) c.args.self.now.books
+    (record c.args.work.now { state = c.step_pure.new.s }) in
     let gone = gone_cut (g.C.Client.prog c.args.self.now.client.now) c.args.length c.args.k 0 w
     (g.S.SegStore.meaning c.args.self.now.store) (g.S.SegStore.meaning c.step_out.new.self.store)
     (g.S.SegStore.reserved c.step_out.new.self.store) c.args.self.now.books c.step_out.new.self.books
-    (record c.args.work.now { state = c.step_pure.new.s }) c.step_out.new.work c0 c.step_out.ensures.image c.step_out.ensures.store c.step_out.ensures.fit
-    (tried_none (g.C.Client.prog c.args.self.now.client.now) c.args.length c.args.k true c0) c.in-Err.stop
+    (record c.args.work.now { state = c.step_pure.new.s }) c.step_out.new.work c0 c.step_out.ensures.image
+    c.step_out.ensures.store c.step_out.ensures.fit
+    (tried_none (g.C.Client.prog c.args.self.now.client.now) c.args.length c.args.k true c0) c.in-Err.halt
     (c.in-Err.ensures.cut s.out s.err w s.shown) in
     record {
       worlds = w;
@@ -182,8 +192,10 @@ returns-in-Err-clause-paused g c = λ t e w n c0 shown h.
     (device_state g.I.Source.state g.O.Sink.state g.E.Sink.state c.step_out.new.self.devices)
     (g.S.SegStore.meaning c.args.self.now.store) (g.S.SegStore.meaning c.step_out.new.self.store)
     (g.S.SegStore.reserved c.step_out.new.self.store) c.args.self.now.books c.step_out.new.self.books
-    (record c.args.work.now { state = c.step_pure.new.s }) c.step_out.new.work c0 c.step_out.ensures.image c.step_out.ensures.store c.step_out.ensures.fit
-    (ap (g.C.Client.prog c.args.self.now.client.now).life (c.step_pure.ensures.not c.if-step_pure.false) ∙ c.requires.lives) c.step_out.ensures.same.3 h1 c.in-Err.stop (c.in-Err.ensures.cut t e w shown)
+    (record c.args.work.now { state = c.step_pure.new.s }) c.step_out.new.work c0 c.step_out.ensures.image
+    c.step_out.ensures.store c.step_out.ensures.fit
+    (ap (g.C.Client.prog c.args.self.now.client.now).life (c.step_pure.ensures.not c.if-step_pure.false) ∙
+    c.requires.lives) c.step_out.ensures.same.3 h1 c.in-Err.halt (c.in-Err.ensures.cut t e w shown)
     (numbers_apart (g.C.Client.prog c.args.self.now.client.now) (g.C.Client.sound c.args.self.now.client.now)
     c.args.length c.args.k (g.S.SegStore.meaning c.step_out.new.self.store) c.step_out.new.self.books
     c.step_out.new.work (sane_cut g c) w) (λ q. c.in-Err.ensures.broke q t e w (shown q))
@@ -194,7 +206,7 @@ returns-in-Err-clause-sane g c =
     let c0 = core_with s.sane.worlds c.args.k (g.S.SegStore.meaning c.args.self.now.store) c.args.self.now.books
     c.args.work.now in
     sane_paused (g.C.Client.prog c.args.self.now.client.now) (g.C.Client.sound c.args.self.now.client.now)
-    c.args.length c.args.k 0 (g.S.SegStore.reserved c.step_out.new.self.store) (Stopped c.in-Err.stop)
+    c.args.length c.args.k 0 (g.S.SegStore.reserved c.step_out.new.self.store) (Stopped c.in-Err.halt)
     (device_state g.I.Source.state g.O.Sink.state g.E.Sink.state c.args.self.now.devices)
     (device_state g.I.Source.state g.O.Sink.state g.E.Sink.state c.step_out.new.self.devices)
     (g.S.SegStore.meaning c.args.self.now.store) (g.S.SegStore.meaning c.step_out.new.self.store)

@@ -1,4 +1,4 @@
-use Rattle.std.proofs.Common.{◌≡◌, ℕ, Option, Result, None, sym, ◌∙◌, ap, subst, refl}
+use Rattle.std.proofs.Common.{◌≡◌, ℕ, Option, Result, sym, ◌∙◌, ap, subst, refl}
 use Rattle.std.proofs.lemmas.Result.{IfOk-weaker}
 use Rattle.py_data.specs.declared.stop.Side.{Side}
 use Rattle.py_data.specs.declared.stop.Stop.{Stop}
@@ -7,7 +7,9 @@ use Rattle.lock_run.specs.declared.client.Outcome.{Outcome}
 use Rattle.stm_core.specs.declared.segment.SegView.{SegView}
 use Rattle.stm_core.specs.Books.{Fit}
 use Rattle.stm_core.specs.Devices.{DeviceState, device_state}
+use Rattle.stm_core.specs.inner.Halts.{gave_none}
 use Rattle.stm_core.specs.inner.Hold.{Hold, holding}
+use Rattle.stm_core.proofs.Halting.{if_ok_halted, if_err_halted, on_err_halted}
 use Rattle.stm_core.proofs.Keeping.{StepKept, step_keeps}
 use Rattle.stm_core.proofs.Richer.{ToldDone, SegDone, seg_done, ToldCut, SegCut, seg_cut}
 use Rattle.stm_core.proofs.RowPeaks.{run_on, stop_on}
@@ -25,7 +27,7 @@ View g = SegView (State g) g.row.S.Denot g.row.I.Denot g.row.O.Denot g.row.E.Den
 
 abbrev hold : (g : given.Over) → View g → Hold (State g)
 hold g v = holding (g.S.SegStore.meaning v.store.now) (g.S.SegStore.reserved v.store.now) v.books.now v.progress.now
-    v.stopped
+    v.last
 
 abbrev devices : (g : given.Over) → View g → DeviceState
 devices g v = device_state g.I.Source.state g.O.Sink.state g.E.Sink.state v.devices.now
@@ -52,7 +54,7 @@ same_then g u v w a b = (b.0 ∙ a.0, b.1 ∙ a.1, b.2 ∙ a.2, b.3 ∙ a.3)
 -- what it is made of
 abbrev made_of : (g : given.Over) → goal.After-known g → Hold (State g)
 made_of g c = holding (g.S.SegStore.meaning c.args.self.now.store) (g.S.SegStore.reserved c.args.self.now.store)
-    c.args.self.now.books c.args.work.now.progress None
+    c.args.self.now.books c.args.work.now.progress gave_none
 
 abbrev told : (g : given.Over) → goal.After-known g → DeviceState
 told g c = device_state g.I.Source.state g.O.Sink.state g.E.Sink.state c.args.self.now.devices
@@ -72,13 +74,13 @@ cut_seg g row = seg_cut (hold g) (devices g) (segment g) (me g) (same g) (peaks 
 
 -- ---- what was lent comes back
 
-same_then_view : (g : given.Over) (c : goal.After-step-result g) → same g c.new-view.result c.step-result.new.v
+same_then_view : (g : given.Over) (c : goal.After-halted-result g) → same g c.new-view.result c.step-answer.new.v
 same_then_view g c =
     (step_keeps (hold g) (devices g) (segment g) (me g) (same g) (same_refl g) (same_then g) _ _ _ c.new-view.result _
-    _ c.step-result.result c.step-result.new.s c.step-result.new.v refl refl refl refl
-    (done_seg g _ c.step-result.result c.new-view.result c.step-result.new.s c.step-result.new.v
-    c.step-result.ensures.ok)
-    (cut_seg g _ c.step-result.result c.new-view.result c.step-result.new.v c.step-result.ensures.err)).same_is
+    _ c.step-answer.result c.step-answer.new.s c.step-answer.new.v refl refl refl refl
+    (done_seg g _ c.step-answer.result c.new-view.result c.step-answer.new.s c.step-answer.new.v
+    c.step-answer.ensures.ok)
+    (cut_seg g _ c.step-answer.result c.new-view.result c.step-answer.new.v c.step-answer.ensures.err)).same_is
 
 pub shape_of-self : goal.shape_of-self
 shape_of-self g c = sym ((same_then_view g c).3 ∙ c.new-view.ensures.refs.3)
@@ -96,22 +98,22 @@ shape_of-work g c = sym ((same_then_view g c).2 ∙ c.new-view.ensures.refs.2)
 
 kept : (g : given.Over) (c : goal.After-known g) → StepKept (hold g) (devices g) (segment g) (me g) (same g)
     (same_refl g) (same_then g) c.args.k c.side-side.result c.new-view.result (made_of g c) (told g c)
-    c.step-result.new.v c.step-result.result
+    c.step-answer.new.v c.step-answer.result
 kept g c =
     step_keeps (hold g) (devices g) (segment g) (me g) (same g) (same_refl g) (same_then g) c.args.k c.side-side.result
-    _ c.new-view.result (made_of g c) (told g c) c.step-result.result c.step-result.new.s c.step-result.new.v
+    _ c.new-view.result (made_of g c) (told g c) c.step-answer.result c.step-answer.new.s c.step-answer.new.v
     c.new-view.ensures.holds (ap (device_state g.I.Source.state g.O.Sink.state g.E.Sink.state)
     c.new-view.ensures.tells)
     c.new-view.ensures.stays.0 c.new-view.ensures.stays.1
-    (done_seg g _ c.step-result.result c.new-view.result c.step-result.new.s c.step-result.new.v
-    c.step-result.ensures.ok)
-    (cut_seg g _ c.step-result.result c.new-view.result c.step-result.new.v c.step-result.ensures.err)
+    (done_seg g _ c.step-answer.result c.new-view.result c.step-answer.new.s c.step-answer.new.v
+    c.step-answer.ensures.ok)
+    (cut_seg g _ c.step-answer.result c.new-view.result c.step-answer.new.v c.step-answer.ensures.err)
 
 fits : (g : given.Over) (c : goal.After-known g) →
-    Fit c.args.k (hold g c.step-result.new.v).meaning (hold g c.step-result.new.v).books
-    (hold g c.step-result.new.v).progress
-fits g c = subst (λ k. Fit k (hold g c.step-result.new.v).meaning (hold g c.step-result.new.v).books
-    (hold g c.step-result.new.v).progress) (kept g c).segment_is c.step-result.new.v.fits
+    Fit c.args.k (hold g c.step-answer.new.v).meaning (hold g c.step-answer.new.v).books
+    (hold g c.step-answer.new.v).progress
+fits g c = subst (λ k. Fit k (hold g c.step-answer.new.v).meaning (hold g c.step-answer.new.v).books
+    (hold g c.step-answer.new.v).progress) (kept g c).segment_is c.step-answer.new.v.fits
 
 pub returns-clause-fit : goal.returns-clause-fit
 returns-clause-fit g c = fits g c
@@ -138,90 +140,96 @@ pub returns-clause-alone : goal.returns-clause-alone
 returns-clause-alone g c = λ mortal. (kept g c).leaves.alone (ap (λ z. z.solo) c.side-side.ensures ∙ mortal)
 
 pub returns-clause-flag : goal.returns-clause-flag
-returns-clause-flag g c = (kept g c).flag
+returns-clause-flag g c =
+    on_err_halted _ c.step-answer.result c.halted-result.result _ c.halted-result.ensures (kept g c).flag
 
 pub returns-clause-rose : goal.returns-clause-rose
-returns-clause-rose g c = (kept g c).rose
+returns-clause-rose g c =
+    if_err_halted _ c.step-answer.result c.halted-result.result _ c.halted-result.ensures (kept g c).rose
 
 -- ---- how it ends
 
 pub returns-clause-life : goal.returns-clause-life
 returns-clause-life g c =
-    IfOk-weaker c.step-result.result _ _
+    if_ok_halted _ c.step-answer.result c.halted-result.result _ c.halted-result.ensures
+    (IfOk-weaker c.step-answer.result _ _
     (λ o h. step_lives (hold g) (devices g) (segment g) (me g) (same g) (same_refl g) (same_then g)
     (g.C.Client.prog c.args.self.now.client.now) c.args.k c.side-side.result c.args.work.now.state
-    c.step-result.new.s c.new-view.result o c.step-result.new.v c.new-view.ensures.stays.0
+    c.step-answer.new.s c.new-view.result o c.step-answer.new.v c.new-view.ensures.stays.0
     c.new-view.ensures.stays.1 c.requires.lives
     (g.met.C.Client.asks_to_print c.args.self.now.client.now c.args.work.now.state)
     (g.met.C.Client.outcomes c.args.self.now.client.now) h)
-    (done_seg g _ c.step-result.result c.new-view.result c.step-result.new.s c.step-result.new.v
-    c.step-result.ensures.ok)
+    (done_seg g _ c.step-answer.result c.new-view.result c.step-answer.new.s c.step-answer.new.v
+    c.step-answer.ensures.ok))
 
 pub returns-clause-done : goal.returns-clause-done
 returns-clause-done g c =
-    IfOk-weaker c.step-result.result _ _
+    if_ok_halted _ c.step-answer.result c.halted-result.result _ c.halted-result.ensures
+    (IfOk-weaker c.step-answer.result _ _
     (λ o h t e w shown. step_done (hold g) (devices g) (segment g) (me g) (same g) (same_refl g) (same_then g) t e
     (g.C.Client.prog c.args.self.now.client.now) w c.args.k (g.S.SegStore.meaning c.args.self.now.store)
     (g.S.SegStore.reserved c.args.self.now.store) c.args.self.now.books c.args.work.now
-    (told g c) c.new-view.result h.0 c.step-result.new.v c.step-result.new.s c.new-view.ensures.holds
+    (told g c) c.new-view.result h.0 c.step-answer.new.v c.step-answer.new.s c.new-view.ensures.holds
     (ap (device_state g.I.Source.state g.O.Sink.state g.E.Sink.state) c.new-view.ensures.tells)
     c.new-view.ensures.stays.0 (c.new-view.ensures.stays.1 ∙ c.side-side.ensures) h.1
     c.requires.fit (fits g c) c.known.ensures.store c.requires.lives
     (g.met.C.Client.asks_to_print c.args.self.now.client.now c.args.work.now.state) shown o
     (g.met.C.Client.waits_quietly c.args.self.now.client.now) h.2)
-    (done_seg g _ c.step-result.result c.new-view.result c.step-result.new.s c.step-result.new.v
-    c.step-result.ensures.ok)
+    (done_seg g _ c.step-answer.result c.new-view.result c.step-answer.new.s c.step-answer.new.v
+    c.step-answer.ensures.ok))
 
 pub returns-clause-cut : goal.returns-clause-cut
 returns-clause-cut g c =
-    if_err_on c.step-result.result (λ stop h state t e w shown.
+    if_err_halted _ c.step-answer.result c.halted-result.result _ c.halted-result.ensures
+    (if_err_on c.step-answer.result (λ stop h state t e w shown.
     step_cut (hold g) (devices g) (segment g) (me g) (same g) (same_refl g) (same_then g) t e
     (g.C.Client.prog c.args.self.now.client.now) w c.args.k (g.S.SegStore.meaning c.args.self.now.store)
     (g.S.SegStore.reserved c.args.self.now.store) c.args.self.now.books c.args.work.now
-    (told g c) c.new-view.result h.0 c.step-result.new.v c.step-result.new.s c.new-view.ensures.holds
+    (told g c) c.new-view.result h.0 c.step-answer.new.v c.step-answer.new.s c.new-view.ensures.holds
     (ap (device_state g.I.Source.state g.O.Sink.state g.E.Sink.state) c.new-view.ensures.tells)
     c.new-view.ensures.stays.0 (c.new-view.ensures.stays.1 ∙ c.side-side.ensures) h.2
     c.requires.fit (fits g c) c.known.ensures.store c.requires.lives
     (g.met.C.Client.asks_to_print c.args.self.now.client.now c.args.work.now.state) shown stop state h.1 h.3 h.4)
-    (cut_seg g _ c.step-result.result c.new-view.result c.step-result.new.v c.step-result.ensures.err)
-    c.step-result.ensures.state
+    (cut_seg g _ c.step-answer.result c.new-view.result c.step-answer.new.v c.step-answer.ensures.err)
+    c.step-answer.ensures.state)
 
 pub returns-clause-broke : goal.returns-clause-broke
 returns-clause-broke g c =
-    if_err_on c.step-result.result (λ stop h state solo t e w shows.
+    if_err_halted _ c.step-answer.result c.halted-result.result _ c.halted-result.ensures
+    (if_err_on c.step-answer.result (λ stop h state solo t e w shows.
     step_broke (hold g) (devices g) (segment g) (me g) (same g) (same_refl g) (same_then g) t e
     (g.C.Client.prog c.args.self.now.client.now) w c.args.k (g.S.SegStore.meaning c.args.self.now.store)
     (g.S.SegStore.reserved c.args.self.now.store) c.args.self.now.books c.args.work.now
-    (told g c) c.new-view.result h.0 c.step-result.new.v c.step-result.new.s c.new-view.ensures.holds
+    (told g c) c.new-view.result h.0 c.step-answer.new.v c.step-answer.new.s c.new-view.ensures.holds
     (ap (device_state g.I.Source.state g.O.Sink.state g.E.Sink.state) c.new-view.ensures.tells)
     c.new-view.ensures.stays.0 (c.new-view.ensures.stays.1 ∙ c.side-side.ensures) h.2
     c.requires.fit (fits g c) c.known.ensures.store c.requires.lives
     (g.met.C.Client.asks_to_print c.args.self.now.client.now c.args.work.now.state) (λ y. shows) stop state h.1 h.3
     h.4 solo)
-    (cut_seg g _ c.step-result.result c.new-view.result c.step-result.new.v c.step-result.ensures.err)
-    c.step-result.ensures.state
+    (cut_seg g _ c.step-answer.result c.new-view.result c.step-answer.new.v c.step-answer.ensures.err)
+    c.step-answer.ensures.state)
 
 -- ---- how far the peaks rise
 
 pub returns-clause-peaks : goal.returns-clause-peaks
 returns-clause-peaks g c = λ t e w shown.
     let row = (g.C.Client.prog c.args.self.now.client.now).row c.args.work.now.state in
-    by_result c.step-result.result c.step-result.ensures.ok c.step-result.ensures.err
+    by_result c.step-answer.result c.step-answer.ensures.ok c.step-answer.ensures.err
     (λ o h. step_rises (hold g) (devices g) (segment g) (me g) (same g) (same_refl g) (same_then g) t e
     (g.C.Client.prog c.args.self.now.client.now) w c.args.k (g.S.SegStore.meaning c.args.self.now.store)
     (g.S.SegStore.reserved c.args.self.now.store) c.args.self.now.books c.args.work.now
-    (told g c) c.new-view.result h.0 c.step-result.new.v c.step-result.new.s c.new-view.ensures.holds
+    (told g c) c.new-view.result h.0 c.step-answer.new.v c.step-answer.new.s c.new-view.ensures.holds
     (ap (device_state g.I.Source.state g.O.Sink.state g.E.Sink.state) c.new-view.ensures.tells)
     c.new-view.ensures.stays.0 (c.new-view.ensures.stays.1 ∙ c.side-side.ensures) h.1.0
     c.requires.fit (fits g c) c.known.ensures.store c.requires.lives
     (g.met.C.Client.asks_to_print c.args.self.now.client.now c.args.work.now.state) shown (peaks g)
-    (g.S.SegStore.peaks c.args.self.now.store) c.step-result.new.v (h.1.1 ∙ c.new-view.ensures.peaks)
-    (run_on (hold g) (devices g) (segment g) (me g) (same g) (peaks g) w row h.0 (o, c.step-result.new.s)
-    c.step-result.new.v h.2) refl)
+    (g.S.SegStore.peaks c.args.self.now.store) c.step-answer.new.v (h.1.1 ∙ c.new-view.ensures.peaks)
+    (run_on (hold g) (devices g) (segment g) (me g) (same g) (peaks g) w row h.0 (o, c.step-answer.new.s)
+    c.step-answer.new.v h.2) refl)
     (λ stop h. step_rises (hold g) (devices g) (segment g) (me g) (same g) (same_refl g) (same_then g) t e
     (g.C.Client.prog c.args.self.now.client.now) w c.args.k (g.S.SegStore.meaning c.args.self.now.store)
     (g.S.SegStore.reserved c.args.self.now.store) c.args.self.now.books c.args.work.now
-    (told g c) c.new-view.result h.0 c.step-result.new.v c.step-result.new.s c.new-view.ensures.holds
+    (told g c) c.new-view.result h.0 c.step-answer.new.v c.step-answer.new.s c.new-view.ensures.holds
     (ap (device_state g.I.Source.state g.O.Sink.state g.E.Sink.state) c.new-view.ensures.tells)
     c.new-view.ensures.stays.0 (c.new-view.ensures.stays.1 ∙ c.side-side.ensures) h.2.0
     c.requires.fit (fits g c) c.known.ensures.store c.requires.lives

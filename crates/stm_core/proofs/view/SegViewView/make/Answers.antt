@@ -13,11 +13,11 @@ returns-in-Ok g c = (
     make_done c.args.self.now.segment c.args.self.now.side (g.S.SegStore.meaning c.args.self.now.store.now)
         (g.S.SegStore.meaning c.name_made.new.self.store.now) (g.S.SegStore.reserved c.args.self.now.store.now)
         (g.S.SegStore.reserved c.name_made.new.self.store.now) c.args.self.now.books.now c.name_made.new.self.books.now
-        c.args.self.now.progress.now c.name_made.new.self.progress.now c.args.self.now.stopped
-        c.name_made.new.self.stopped
+        c.args.self.now.progress.now c.name_made.new.self.progress.now c.args.self.now.last
+        c.name_made.new.self.last
         (rec_of c.args.r.now) c.in-Ok.n c.args.self.now.fits.out c.requires.live c.in-Ok.ensures.fresh
         c.in-Ok.ensures.ok
-        c.name_made.ensures.reserved c.name_made.ensures.books c.in-Ok.ensures.names c.name_made.ensures.stopped,
+        c.name_made.ensures.reserved c.name_made.ensures.books c.in-Ok.ensures.names c.name_made.ensures.last,
     ap (λ z. device_state g.I.Source.state g.O.Sink.state g.E.Sink.state z.now) c.name_made.ensures.stays.2,
     record {
       segment_is = c.name_made.ensures.stays.0;
@@ -44,13 +44,13 @@ returns-in-Err g c = (
     make_refused c.args.self.now.segment c.args.self.now.side (g.S.SegStore.meaning c.args.self.now.store.now)
         (g.S.SegStore.meaning c.refuse.new.self.store.now) (g.S.SegStore.reserved c.args.self.now.store.now)
         (g.S.SegStore.reserved c.refuse.new.self.store.now) c.args.self.now.books.now c.refuse.new.self.books.now
-        c.args.self.now.progress.now c.refuse.new.self.progress.now c.args.self.now.stopped c.refuse.new.self.stopped
-        (rec_of c.args.r.now) c.in-Err.fault c.refuse.result (ap g.S.SegStore.meaning c.refuse.ensures.store ∙
+        c.args.self.now.progress.now c.refuse.new.self.progress.now c.args.self.now.last c.refuse.new.self.last
+        (rec_of c.args.r.now) c.in-Err.fault (ap g.S.SegStore.meaning c.refuse.ensures.store ∙
         c.in-Err.ensures.err)
         (subst (λ n. g.S.SegStore.reserved c.args.self.now.store.now ≤ n)
         (sym (ap g.S.SegStore.reserved c.refuse.ensures.store)) c.name_made.ensures.reserved)
         (c.refuse.ensures.books ∙ c.name_made.ensures.books)
-        (c.refuse.ensures.progress ∙ c.in-Err.ensures.same) c.refuse.ensures.same c.refuse.ensures.stopped
+        (c.refuse.ensures.progress ∙ c.in-Err.ensures.same) c.refuse.ensures.last
         (subst (λ n. FaultWhy (Wants None (rec_of c.args.r.now)) n
         (g.S.SegStore.meaning c.args.self.now.store.now).limit
         c.in-Err.fault) (sym (ap g.S.SegStore.reserved c.refuse.ensures.store)) c.in-Err.ensures.cause),
@@ -68,6 +68,7 @@ returns-in-Err g c = (
       );
     },
     tt,
+    c.refuse.ensures.word,
   ),
   there_refused c.args.self.now.segment (g.S.SegStore.reserved c.name_made.new.self.store.now)
       (g.S.SegStore.meaning c.args.self.now.store.now) (g.S.SegStore.meaning c.name_made.new.self.store.now)

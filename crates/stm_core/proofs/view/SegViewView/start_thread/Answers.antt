@@ -10,7 +10,7 @@ returns-in-Ok g c = (
     start_done c.args.self.now.segment c.args.self.now.side (g.S.SegStore.meaning c.args.self.now.store.now)
         (g.S.SegStore.reserved c.args.self.now.store.now) c.args.self.now.books.now c.start.new.self
         c.args.self.now.progress.now c.start.new.progress
-        c.args.self.now.stopped c.args.s c.args.self.now.fits.out c.requires.live c.start.ensures.rest
+        c.args.self.now.last c.args.s c.args.self.now.fits.out c.requires.live c.start.ensures.rest
         c.start.ensures.threads c.in-Ok.ensures.ok.2,
     refl,
     record { segment_is = refl; me_is = refl; same_is = (refl, refl, refl, refl) },
@@ -26,8 +26,8 @@ returns-in-Err g c = (
         (g.S.SegStore.meaning c.fail.new.self.store.now) (g.S.SegStore.reserved c.args.self.now.store.now)
         (g.S.SegStore.reserved c.fail.new.self.store.now)
         c.args.self.now.books.now c.start.new.self c.fail.new.self.books.now c.args.self.now.progress.now
-        c.start.new.progress c.fail.new.self.progress.now c.args.self.now.stopped c.fail.new.self.stopped
-        c.fail.result c.fail.ensures.same c.fail.ensures.stopped
+        c.start.new.progress c.fail.new.self.progress.now c.args.self.now.last c.fail.new.self.last
+        c.fail.ensures.last
         (ap g.S.SegStore.meaning c.fail.ensures.store) (ap g.S.SegStore.reserved c.fail.ensures.store)
         c.start.ensures.rest c.start.ensures.threads c.fail.ensures.books c.in-Err.ensures.err.1
         c.fail.ensures.progress,
@@ -43,6 +43,7 @@ returns-in-Err g c = (
       );
     },
     tt,
+    c.fail.ensures.word,
   ),
   ap g.S.SegStore.peaks c.fail.ensures.store,
 )
