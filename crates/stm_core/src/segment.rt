@@ -153,7 +153,7 @@ impl<'a, T: Drop, S: SegStore, I, O, E> SegView<'a, T, S, I, O, E> {
     }
 
     /// The record was seen already, or a look at it isn't noted.
-    fn is_seen(&self, a: Addr) -> bool
+    pub fn is_seen(&self, a: Addr) -> bool
         requires there { Has (sees (S.meaning self.now.store.now) self.now.segment) a.0 }
         ensures { result ≡ is_noted (sees (S.meaning self.now.store.now) self.now.segment a.0)
             (((S.meaning self.now.store.now).part self.now.segment).looked a.0) }
@@ -165,9 +165,25 @@ impl<'a, T: Drop, S: SegStore, I, O, E> SegView<'a, T, S, I, O, E> {
         }
     }
 
-    /// Notes a look at a record, where looks at it are noted and it wasn't seen yet.
-    fn look(&mut self, a: Addr) -> Result<(), Stop>
+    /// The same of a record of this kind, which needn't be read once more.
+    pub fn is_seen_as(&self, a: Addr, kind: Kind) -> bool
+        requires there { Has (sees (S.meaning self.now.store.now) self.now.segment) a.0 }
+        requires kind { kind ≡ (at (sees (S.meaning self.now.store.now) self.now.segment) a.0).kind }
+        ensures { result ≡ is_noted (sees (S.meaning self.now.store.now) self.now.segment a.0)
+            (((S.meaning self.now.store.now).part self.now.segment).looked a.0) }
+    {
+        if is_tracked_kind(kind) {
+            self.store.has_looked(self.segment, a)
+        } else {
+            true
+        }
+    }
+
+    /// Notes a look at a record, unless it was seen.
+    fn look(&mut self, a: Addr, seen: bool) -> Result<(), Stop>
         requires there { Has (sees (S.meaning self.old.store.now) self.old.segment) a.0 }
+        requires seen { seen ≡ is_noted (sees (S.meaning self.old.store.now) self.old.segment a.0)
+            (((S.meaning self.old.store.now).part self.old.segment).looked a.0) }
         ensures done { OnOk result (Looks a.0 self.old.segment (S.meaning self.old.store.now)
             (S.meaning self.new.store.now)) }
         ensures last { OnOk result (self.new.last ≡ self.old.last) }
@@ -188,7 +204,7 @@ impl<'a, T: Drop, S: SegStore, I, O, E> SegView<'a, T, S, I, O, E> {
         ensures reserved { S.reserved self.new.store.now ≡ S.reserved self.old.store.now }
         ensures peaks { S.peaks self.new.store.now ≡ S.peaks self.old.store.now }
     {
-        if self.is_seen(a) {
+        if seen {
             return Ok(());
         }
         match self.store.mark(self.segment, a) {
@@ -246,7 +262,8 @@ impl<'a, T: Drop, S: SegStore, I, O, E> SegView<'a, T, S, I, O, E> {
             × (self.new.progress.ghost_name ≡ self.old.progress.ghost_name) }
         ensures peaks { S.peaks self.new.store.now ≡ S.peaks self.old.store.now }
     {
-        self.look(a)
+        let seen = self.is_seen(a);
+        self.look(a, seen)
     }
 
     /// Takes the write lock of a record that no other segment holds.
@@ -553,10 +570,12 @@ impl<'a, T: Drop, S: SegStore, I, O, E> SegView<'a, T, S, I, O, E> {
         self.store.find_key(self.segment, d, key)
     }
 
-    /// Looks at a record.
-    pub fn see(&mut self, a: Addr) -> Result<(), Stop>
+    /// Looks at a record, which was seen or wasn't.
+    pub fn see(&mut self, a: Addr, seen: bool) -> Result<(), Stop>
         requires live { self.old.last.stopped ≡ None }
         requires there { Has (sees (S.meaning self.old.store.now) self.old.segment) a.0 }
+        requires seen { seen ≡ is_noted (sees (S.meaning self.old.store.now) self.old.segment a.0)
+            (((S.meaning self.old.store.now).part self.old.segment).looked a.0) }
         ensures ok { OnOk result (SegDoes self.old.segment self.old.side (Read a.0)
             (holding (S.meaning self.old.store.now) (S.reserved self.old.store.now) self.old.books.now
             self.old.progress.now self.old.last) (at (sees (S.meaning self.old.store.now) self.old.segment) a.0)
@@ -584,6 +603,6 @@ impl<'a, T: Drop, S: SegStore, I, O, E> SegView<'a, T, S, I, O, E> {
         ensures peaks { S.peaks self.new.store.now ≡ S.peaks self.old.store.now }
     {
         self.note(a);
-        self.look(a)
+        self.look(a, seen)
     }
 }

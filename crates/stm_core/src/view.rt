@@ -87,7 +87,8 @@ impl<'a, T: Drop, S: SegStore, I: Source, O: Sink, E: Sink> View<T> for SegView<
     #[tactic(auto, unfolding(py_data::specs::Sense::Asks))]
     fn kind(&mut self, a: Addr) -> Result<Kind, Stop> {
         let kind = self.kind_of(a);
-        match self.see(a) {
+        let seen = self.is_seen_as(a, kind);
+        match self.see(a, seen) {
             Ok(()) => Ok(kind),
             Err(stop) => Err(stop),
         }
@@ -96,7 +97,8 @@ impl<'a, T: Drop, S: SegStore, I: Source, O: Sink, E: Sink> View<T> for SegView<
     #[tactic(auto, unfolding(py_data::specs::Sense::Asks))]
     fn len(&mut self, a: Addr) -> Result<usize, Stop> {
         let count = self.count_of(a);
-        match self.see(a) {
+        let seen = self.is_seen_as(a, self.kind_of(a));
+        match self.see(a, seen) {
             Ok(()) => Ok(count),
             Err(stop) => Err(stop),
         }
@@ -105,7 +107,8 @@ impl<'a, T: Drop, S: SegStore, I: Source, O: Sink, E: Sink> View<T> for SegView<
     #[tactic(auto, unfolding(py_data::specs::Sense::Asks))]
     fn val(&mut self, a: Addr, i: usize) -> Result<Value, Stop> {
         let value = self.value_of(a, i);
-        match self.see(a) {
+        let seen = self.is_seen(a);
+        match self.see(a, seen) {
             Ok(()) => Ok(value),
             Err(stop) => Err(stop),
         }
@@ -114,7 +117,8 @@ impl<'a, T: Drop, S: SegStore, I: Source, O: Sink, E: Sink> View<T> for SegView<
     #[tactic(auto, unfolding(py_data::specs::Sense::Asks))]
     fn find_val(&mut self, a: Addr, i: usize) -> Result<Value, Stop> {
         let value = self.value_if_any(a, i);
-        match self.see(a) {
+        let seen = self.is_seen_as(a, self.kind_of(a));
+        match self.see(a, seen) {
             Ok(()) => Ok(value),
             Err(stop) => Err(stop),
         }
@@ -123,7 +127,8 @@ impl<'a, T: Drop, S: SegStore, I: Source, O: Sink, E: Sink> View<T> for SegView<
     #[tactic(auto, unfolding(py_data::specs::Sense::Asks))]
     fn head(&mut self, a: Addr) -> Result<Head, Stop> {
         let head = self.head_of(a);
-        match self.see(a) {
+        let seen = self.is_seen_as(a, head.kind);
+        match self.see(a, seen) {
             Ok(()) => Ok(head),
             Err(stop) => Err(stop),
         }
@@ -132,7 +137,8 @@ impl<'a, T: Drop, S: SegStore, I: Source, O: Sink, E: Sink> View<T> for SegView<
     #[tactic(auto, unfolding(py_data::specs::Sense::Asks))]
     fn byte_len(&mut self, a: Addr) -> Result<usize, Stop> {
         let count = self.byte_count_of(a);
-        match self.see(a) {
+        let seen = self.is_seen_as(a, self.kind_of(a));
+        match self.see(a, seen) {
             Ok(()) => Ok(count),
             Err(stop) => Err(stop),
         }
@@ -141,13 +147,15 @@ impl<'a, T: Drop, S: SegStore, I: Source, O: Sink, E: Sink> View<T> for SegView<
     #[tactic(auto, unfolding(py_data::specs::Sense::Asks))]
     fn copy_bytes(&mut self, a: Addr, from: usize, out: &mut [u8]) -> Result<(), Stop> {
         self.bytes_of(a, from, out);
-        self.see(a)
+        let seen = self.is_seen_as(a, self.kind_of(a));
+        self.see(a, seen)
     }
 
     #[tactic(auto, unfolding(py_data::specs::Sense::Asks))]
     fn find_key(&mut self, d: Addr, key: Value) -> Result<Option<usize>, Stop> {
         let place = self.place_of(d, key);
-        match self.see(d) {
+        let seen = self.is_seen(d);
+        match self.see(d, seen) {
             Ok(()) => Ok(place),
             Err(stop) => Err(stop),
         }
