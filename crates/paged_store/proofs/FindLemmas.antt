@@ -2,7 +2,8 @@
 use Rattle.std.proofs.Common.{◌%◌, ◌≡◌, ◌≢◌, ℕ, suc, ◌+◌, ◌-◌, ◌*◌, ◌/◌, ◌<◌, ◌≤◌, true, false, cond, eqb, List, [], ◌∷◌, length, Some, None, refl, sym, ap, ◌∙◌, subst, arith}
 use Rattle.py_data.specs.declared.value.Value.{Value}
 use Rattle.py_data.specs.declared.value.Value.TheVariants.{Ref}
-use Rattle.py_data.specs.Heap.{Heap, value_at}
+use Rattle.py_base.specs.declared.kind.Kind.TheVariants.{Dict}
+use Rattle.py_data.specs.Heap.{Rec, Heap, value_at, length_by, length_of}
 use Rattle.py_data.specs.Shape.{same_key, same_text, text_in, find, find_from, ArePairs, KeysDiffer}
 use Rattle.dict_index.specs.Keys.{home_of}
 use Rattle.dict_index.specs.Slots.{slot}
@@ -48,6 +49,10 @@ key_there w reserved d b n r e h = (λ t. value_of (w (twice t)) (w (twice t + 1
   where
     twice : b + 4 * n ≡ b + 2 * (2 * n)
     twice = omega arith
+
+-- a pair of a dictionary, of which there are half as many as values
+pub pair_in : (r : Rec) (n i : ℕ) → r.kind ≡ Dict → n ≡ length_of r → i < n / 2 → i < length r.values / 2
+pair_in r n i k e l = subst (λ m. i < m / 2) (e ∙ ap (λ z. length_by z r.values r.bytes) k) l
 
 -- a key is among those of a dictionary
 pub key_seen : (t : Table) (seen : Seen) (values : List Value) (n : ℕ) (x : Value) → KeysSeen t seen values →

@@ -1,7 +1,8 @@
 //! The pair of a dictionary in words with an equal key.
 ghost use Rattle.std.specs.Prelude.{◌≡◌, ℕ, ◌+◌, ◌*◌, ◌/◌, ◌^◌, ◌<◌, ◌≤◌, eqb, length, Some, true, IfSome, MatchBool};
 ghost use Rattle.py_base.specs.declared.kind.Kind.TheVariants.{Str, Dict};
-ghost use Rattle.py_data.specs.Heap.{Heap};
+ghost use Rattle.py_data.specs.declared.value.Value.TheVariants.{Ref};
+ghost use Rattle.py_data.specs.Heap.{Heap, value_at};
 ghost use Rattle.py_data.specs.Shape.{find, same_key, same_bytes, same_text, text_in, ArePairs, KeysDiffer};
 ghost use Rattle.page_table.specs.Lists.{table_of};
 ghost use Rattle.paged_store.specs.Words.{body_by, index_by, index_size};
@@ -10,10 +11,11 @@ ghost use Rattle.paged_store.specs.inner.Sight.{words_seen, record_seen, IsSeen,
 
 use crate::hash::home;
 use crate::index::slots;
-use crate::sight::{Seen, body, kind, len, value, word};
+use crate::sight::{Seen, body, kind, len, two_words, value, word};
+use crate::value::{known_value, payload, tag};
 use dict_index::slots::next;
 use page_table::Pages;
-use py_data::{Kind, Value};
+use py_data::{Addr, Kind, Value};
 
 /// Whether the first `n` words from two places on are the same.
 fn same_words(pages: &Pages, seen: Seen, x: usize, y: usize, n: usize) -> bool
@@ -105,8 +107,51 @@ fn same(pages: &Pages, seen: Seen, x: Value, y: Value) -> bool
     }
 }
 
-/// The number, from 0, of the pair whose key is equal. It goes through the slots of the index, from the key's home to
-/// an empty one.
+/// The most pairs of a dictionary whose keys are looked through before one is hashed.
+const FEW: usize = 8;
+
+/// The number, from 0, of a pair of a dictionary whose key is the record at an address, where the pairs are few and one
+/// is.
+fn same_place(pages: &Pages, seen: Seen, d: u32, body: usize, a: Addr) -> Option<usize>
+    requires there { CanRead (table_of pages.now) seen d }
+    requires kind { (record_seen (table_of pages.now) seen d).kind ≡ Dict }
+    requires body { body ≡ body_by (words_seen (table_of pages.now) seen) d }
+    ensures { let xs = (record_seen (table_of pages.now) seen d).values in
+        IfSome result (λ i. (i < length xs / 2) × (value_at xs (2 * i) ≡ Ref a)) }
+{
+    pages.known();
+    let pairs = len(pages, seen, d) / 2;
+    if pairs > FEW {
+        return None;
+    }
+    let key = Value::Ref(a);
+    let (first, second) = (tag(key), payload(key));
+    known_value(key);
+    'pairs: for i in 0..pairs {
+        let (x, y) = two_words(pages, seen, (body + 4 * i) as u32);
+        if x == first && y == second {
+            return Some(i);
+        }
+    }
+    None
+}
+
+/// The same for a key, which may be another value.
+fn same_record(pages: &Pages, seen: Seen, d: u32, body: usize, key: Value) -> Option<usize>
+    requires there { CanRead (table_of pages.now) seen d }
+    requires kind { (record_seen (table_of pages.now) seen d).kind ≡ Dict }
+    requires body { body ≡ body_by (words_seen (table_of pages.now) seen) d }
+    ensures { let xs = (record_seen (table_of pages.now) seen d).values in IfSome result (λ i. (i < length xs / 2)
+        × (same_key (heap_seen (table_of pages.now) seen) (value_at xs (2 * i)) key ≡ true)) }
+{
+    match key {
+        Value::Ref(a) => same_place(pages, seen, d, body, a),
+        _ => None,
+    }
+}
+
+/// The number, from 0, of the pair whose key is equal. Where the pairs are few and one has this very record as its key,
+/// that is seen at once. Else it goes through the slots of the index, from the key's home to an empty one.
 pub fn find_key(pages: &Pages, seen: Seen, d: u32, key: Value) -> Option<usize>
     requires there { CanRead (table_of pages.now) seen d }
     requires kind { (record_seen (table_of pages.now) seen d).kind ≡ Dict }
@@ -128,6 +173,9 @@ pub fn find_key(pages: &Pages, seen: Seen, d: u32, key: Value) -> Option<usize>
     pages.known();
     let (place, n) = slots(pages, seen, d);
     let body = body(pages, seen, d);
+    if let Some(pair) = same_record(pages, seen, d, body, key) {
+        return Some(pair);
+    }
     let start = home(pages, seen, key, n);
     let mut at = start;
     'slots: for j in 0..n {

@@ -31,7 +31,7 @@ pub fn word(pages: &Pages, seen: Seen, place: u32) -> u64
 }
 
 /// The two words from an even place on, which lie in one page.
-fn two_words(pages: &Pages, seen: Seen, place: u32) -> (u64, u64)
+pub(crate) fn two_words(pages: &Pages, seen: Seen, place: u32) -> (u64, u64)
     requires segment { IsSeen (table_of pages.now) seen }
     requires span { place + 1 < (table_of pages.now).reserved }
     requires even { place % 2 ≡ 0 }

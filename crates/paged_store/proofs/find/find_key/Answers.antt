@@ -2,8 +2,8 @@ use Rattle.std.proofs.Common.{◌-◌, ◌/◌, ◌<◌, length, inl, inr, sym, 
 use Rattle.page_table.specs.Lists.{table_of}
 use Rattle.dict_index.proofs.Circle.{slot_zero, next_within}
 use Rattle.dict_index.proofs.Walking.{walks_on}
-use Rattle.dict_index.proofs.Seeking.{none_passed}
-use Rattle.paged_store.specs.inner.Sight.{words_seen, record_seen}
+use Rattle.dict_index.proofs.Seeking.{here, none_passed}
+use Rattle.paged_store.specs.inner.Sight.{words_seen, record_seen, heap_seen}
 use Rattle.paged_store.proofs.FindLemmas.{find_known, key_there, key_seen, key_within, key_even, slot_word, pair_there, pair_compared, pair_found, key_nowhere}
 use Rattle.paged_store.proofs.find.find_key.Goals as goal
 
@@ -13,6 +13,16 @@ slots-init c = record {
   within = c.home-start.ensures.within;
   passed = none_passed _ _ _ _ _ _;
 }
+
+pub returns-in-Some-clause-found : goal.returns-in-Some-clause-found
+returns-in-Some-clause-found c =
+    here (heap_seen (table_of c.args.pages.now) c.args.seen)
+    (record_seen (table_of c.args.pages.now) c.args.seen c.args.d).values c.args.key c.in-Some.pair c.requires.pairs
+    c.requires.differ (omega (arith, c.in-Some.ensures.0)) c.in-Some.ensures.1
+
+pub returns-in-Some-clause-heap : goal.returns-in-Some-clause-heap
+returns-in-Some-clause-heap c =
+    λ h k. returns-in-Some-clause-found c ∙ find_known h _ _ c.args.key k
 
 pub returns-then-word-eq0-clause-found : goal.returns-then-word-eq0-clause-found
 returns-then-word-eq0-clause-found c =
