@@ -16,16 +16,22 @@ pub pairs-init : goal.pairs-init
 pairs-init c = tt
 
 pub overflow_add-body : goal.overflow_add-body
-overflow_add-body c = omega (arith,
-    key_within _ _ c.args.d c.args.body c.pairs.i c.requires.there.stands c.requires.body (inside c))
+overflow_add-body c = omega (
+  arith,
+  key_within _ _ c.args.d c.args.body c.pairs.i c.requires.there.stands c.requires.body (inside c),
+)
 
 pub overflow_cast-body : goal.overflow_cast-body
-overflow_cast-body c = omega (arith,
-    key_within _ _ c.args.d c.args.body c.pairs.i c.requires.there.stands c.requires.body (inside c))
+overflow_cast-body c = omega (
+  arith,
+  key_within _ _ c.args.d c.args.body c.pairs.i c.requires.there.stands c.requires.body (inside c),
+)
 
 pub two_words-x-requires-clause-span : goal.two_words-x-requires-clause-span
-two_words-x-requires-clause-span c = omega (arith,
-    key_within _ _ c.args.d c.args.body c.pairs.i c.requires.there.stands c.requires.body (inside c))
+two_words-x-requires-clause-span c = omega (
+  arith,
+  key_within _ _ c.args.d c.args.body c.pairs.i c.requires.there.stands c.requires.body (inside c),
+)
 
 pub two_words-x-requires-clause-even : goal.two_words-x-requires-clause-even
 two_words-x-requires-clause-even c =
