@@ -52,7 +52,7 @@ impl SegStore for PagedStore {
         val(&self.pages, Seen::Segment(k), a.0, i)
     }
 
-    fn find_val(&self, k: u8, a: Addr, i: usize) -> Value {
+    fn find_val(&self, k: u8, a: Addr, i: usize) -> (Kind, Value) {
         find_val(&self.pages, Seen::Segment(k), a.0, i)
     }
 

@@ -154,13 +154,14 @@ fn value_in(pages: &Pages, seen: Seen, body: usize, count: usize, i: usize) -> V
     }
 }
 
-/// Its value at a place, from 0; Unset where it has none there.
-pub fn find_val(pages: &Pages, seen: Seen, a: u32, i: usize) -> Value
+/// Its kind, and its value at a place, from 0; Unset where it has none there.
+pub fn find_val(pages: &Pages, seen: Seen, a: u32, i: usize) -> (Kind, Value)
     requires { CanRead (table_of pages.now) seen a }
-    ensures { result ≡ value_at (record_seen (table_of pages.now) seen a).values i }
+    ensures kind { result.0 ≡ (record_seen (table_of pages.now) seen a).kind }
+    ensures value { result.1 ≡ value_at (record_seen (table_of pages.now) seen a).values i }
 {
-    let (_, count, body) = outline(pages, seen, a);
-    value_in(pages, seen, body, count, i)
+    let (kind, count, body) = outline(pages, seen, a);
+    (kind, value_in(pages, seen, body, count, i))
 }
 
 /// Its kind, the count of its values and the first three.

@@ -288,9 +288,9 @@ impl SegStore for PlainStore {
     }
 
     #[tactic(auto, unfolding(py_data::specs::Heap::at))]
-    fn find_val(&self, k: u8, a: Addr, i: usize) -> Value {
+    fn find_val(&self, k: u8, a: Addr, i: usize) -> (Kind, Value) {
         match self.seen(k, a.0) {
-            Some(r) => value_or_unset(r.values(), i),
+            Some(r) => (r.kind(), value_or_unset(r.values(), i)),
             None => unreachable!(),
         }
     }

@@ -110,11 +110,12 @@ pub trait SegStore: Peek + Drop {
         requires there { HasPlace (sees (meaning self.now) k) a.0 i }
         ensures { result ≡ value_at (at (sees (meaning self.now) k) a.0).values i };
 
-    /// The value at a place of a record, from 0; Unset where it has none there.
-    fn find_val(&self, k: u8, a: Addr, i: usize) -> Value
+    /// The kind of a record, and its value at a place, from 0; Unset where it has none there.
+    fn find_val(&self, k: u8, a: Addr, i: usize) -> (Kind, Value)
         requires segment { k < (meaning self.now).segments }
         requires there { Has (sees (meaning self.now) k) a.0 }
-        ensures { result ≡ value_at (at (sees (meaning self.now) k) a.0).values i };
+        ensures kind { result.0 ≡ (at (sees (meaning self.now) k) a.0).kind }
+        ensures value { result.1 ≡ value_at (at (sees (meaning self.now) k) a.0).values i };
 
     /// The kind of a record, the count of its values and the first three.
     fn head(&self, k: u8, a: Addr) -> Head

@@ -542,10 +542,11 @@ impl<'a, T: Drop, S: SegStore, I, O, E> SegView<'a, T, S, I, O, E> {
         self.store.head(self.segment, a)
     }
 
-    /// The value of a record at a place; Unset where it has none there. No look is noted.
-    pub fn value_if_any(&self, a: Addr, i: usize) -> Value
+    /// The kind of a record, and its value at a place; Unset where it has none there. No look is noted.
+    pub fn value_if_any(&self, a: Addr, i: usize) -> (Kind, Value)
         requires { IfThere false ((sees (S.meaning self.now.store.now) self.now.segment) a.0) (λ r. Unit {0}) }
-        ensures { result ≡ value_at (at (sees (S.meaning self.now.store.now) self.now.segment) a.0).values i }
+        ensures kind { result.0 ≡ (at (sees (S.meaning self.now.store.now) self.now.segment) a.0).kind }
+        ensures value { result.1 ≡ value_at (at (sees (S.meaning self.now.store.now) self.now.segment) a.0).values i }
     {
         self.store.find_val(self.segment, a, i)
     }

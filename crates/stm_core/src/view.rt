@@ -116,8 +116,8 @@ impl<'a, T: Drop, S: SegStore, I: Source, O: Sink, E: Sink> View<T> for SegView<
 
     #[tactic(auto, unfolding(py_data::specs::Sense::Asks))]
     fn find_val(&mut self, a: Addr, i: usize) -> Result<Value, Stop> {
-        let value = self.value_if_any(a, i);
-        let seen = self.is_seen_as(a, self.kind_of(a));
+        let (kind, value) = self.value_if_any(a, i);
+        let seen = self.is_seen_as(a, kind);
         match self.see(a, seen) {
             Ok(()) => Ok(value),
             Err(stop) => Err(stop),
