@@ -1,6 +1,6 @@
 //! Why a step of a transaction was cut, and what a view gave last.
 ghost use Rattle.std.specs.Prelude.{◌≡◌};
-ghost use Rattle.stm_core.specs.inner.Halts.{stop_of, halt_for, halted};
+ghost use Rattle.stm_core.specs.inner.Halts.{stop_of, halt_for, told};
 
 use lock_run::Outcome;
 use py_data::{Conflict, Stop};
@@ -72,13 +72,12 @@ impl LastStop {
         }
     }
 
-    /// What a step over the view answered, with why it was cut in place of the word.
-    pub fn halted(&self, answer: Result<Outcome, Stop>) -> Result<Outcome, Halt>
-        ensures { result ≡ halted answer self.now.halt }
+    /// Writes down why a step over the view was cut, where its answer says that it was.
+    pub fn tell(&self, answer: Result<Outcome, Stop>, halt: &mut Halt)
+        ensures { halt.new ≡ told answer halt.old self.now.halt }
     {
-        match answer {
-            Ok(outcome) => Ok(outcome),
-            Err(stop) => Err(self.halt_for(stop)),
+        if let Err(stop) = answer {
+            *halt = self.halt_for(stop);
         }
     }
 }

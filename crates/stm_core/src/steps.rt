@@ -1,5 +1,5 @@
 //! The steps of a transaction that was taken out of its hand, and where it goes then.
-ghost use Rattle.std.specs.Prelude.{◌≡◌, ◌<◌, IfOk, IfErr};
+ghost use Rattle.std.specs.Prelude.{◌≡◌, ◌<◌, IfOk};
 
 use crate::answers::AdvanceError;
 use crate::books::{Cut, Hand, Work};
@@ -8,7 +8,7 @@ use crate::halt::Halt;
 use crate::segment::SegView;
 use crate::transactions::Core;
 use lock_run::{Client, Outcome};
-use py_data::Conflict;
+use py_data::{Conflict, Stop};
 use seg_store::SegStore;
 use stm_io::{Sink, Source};
 
@@ -25,8 +25,21 @@ pub enum Pause {
     Stopped(Halt),
 }
 
+/// How one step went.
+#[derive(Clone, Copy, Debug, Drop)]
+pub enum Went {
+    /// It was done.
+    Whole,
+    /// It waits.
+    Waits,
+    /// It was done, and was the thread's last.
+    Ended,
+    /// It was cut, and taken back.
+    Cut,
+}
+
 impl<'p, C: Client, S: SegStore, I: Source, O: Sink, E: Sink> Core<'p, C, S, I, O, E> {
-    ghost use Rattle.std.specs.Prelude.{◌≡◌, ◌<◌, ◌≤◌, ◌+◌, ◌-◌, ℕ, List, Option, IfOk, IfErr, OnErr, true, false, length, slice_get, Some, []};
+    ghost use Rattle.std.specs.Prelude.{◌≡◌, ◌<◌, ◌≤◌, ◌+◌, ◌-◌, ℕ, List, Option, IfOk, OnErr, true, false, length, slice_get, Some, []};
     ghost use Rattle.py_data.specs.World.{World};
     ghost use Rattle.lock_run.specs.Client.{Standing, LifeAfter};
     ghost use Rattle.lock_run.specs.declared.client.Life.TheVariants.{Lives};
@@ -47,12 +60,17 @@ impl<'p, C: Client, S: SegStore, I: Source, O: Sink, E: Sink> Core<'p, C, S, I, 
     ghost use Rattle.stm_core.specs.inner.Trying.{SaneShown, core_with};
     ghost use Rattle.stm_core.specs.InUse.{IfTold};
     ghost use Rattle.stm_core.specs.inner.Rising.{RisesInStep, RisesOut};
-    ghost use Rattle.stm_core.specs.inner.Pauses.{done_by, PauseCount};
+    ghost use Rattle.stm_core.specs.inner.Pauses.{pause_of, done_by, PauseCount};
     ghost use Rattle.stm_core.specs.inner.Pausing.{DevicesGrow, Paused, SaneAfter};
 
     /// One step of the transaction of segment k, which was taken out of its hand. A solo one prints and reads; what a
-    /// step of it told the devices stays told where the step is cut.
-    fn step_out(&mut self, k: u8, work: &mut Work<C::State>) -> Result<Outcome, Halt>
+    /// step of it told the devices stays told where the step is cut. `halt` tells then why it was cut.
+    fn step_out(
+        &mut self,
+        k: u8,
+        work: &mut Work<C::State>,
+        halt: &mut Halt,
+    ) -> Result<Outcome, Stop>
         requires fit { Fit k (S.meaning self.old.store) self.old.books work.old.progress }
         requires stands { Standing (C.sound self.old.client.now (sees (S.meaning self.old.store) k)) work.old.state }
         requires lives { (C.prog self.old.client.now).life work.old.state ≡ Lives }
@@ -82,7 +100,7 @@ impl<'p, C: Client, S: SegStore, I: Source, O: Sink, E: Sink> Core<'p, C, S, I, 
         ensures flag { OnErr result (self.new.devices.mid ≡ self.old.devices.mid) }
         ensures life { IfOk result (λ o. LifeAfter o ((C.prog self.old.client.now).life work.new.state)) }
         ensures state { OnErr result (work.new.state ≡ work.old.state) }
-        ensures rose { IfErr result (λ halt. StopRose halt (device_state I.state O.state E.state self.old.devices)
+        ensures rose { OnErr result (StopRose halt.new (device_state I.state O.state E.state self.old.devices)
             (device_state I.state O.state E.state self.new.devices)) }
         ensures done { IfOk result (λ o. (t e : Option (List ℕ)) (w : Worlds)
             → Shown work.old.solo t e (device_state I.state O.state E.state self.old.devices) w.own
@@ -90,16 +108,16 @@ impl<'p, C: Client, S: SegStore, I: Source, O: Sink, E: Sink> Core<'p, C, S, I, 
             × StepDone (C.prog self.old.client.now) w own k
             (side k (transaction w.own ((S.meaning self.old.store).part k) work.old)) o (S.meaning self.old.store)
             self.old.books work.old (S.meaning self.new.store) self.new.books work.new) }
-        ensures cut { IfErr result (λ halt. (t e : Option (List ℕ)) (w : Worlds)
+        ensures cut { OnErr result ((t e : Option (List ℕ)) (w : Worlds)
             → Shown work.old.solo t e (device_state I.state O.state E.state self.old.devices) w.own
             → StepCut (C.prog self.old.client.now) w k
-            (side k (transaction w.own ((S.meaning self.old.store).part k) work.old)) halt
+            (side k (transaction w.own ((S.meaning self.old.store).part k) work.old)) halt.new
             (S.meaning self.old.store) self.old.books work.old (S.meaning self.new.store)
             (S.reserved self.new.store) self.new.books work.new) }
-        ensures broke { IfErr result (λ halt. work.old.solo ≡ true → (t e : Option (List ℕ)) (w : Worlds)
+        ensures broke { OnErr result (work.old.solo ≡ true → (t e : Option (List ℕ)) (w : Worlds)
             → ShowsWorld t e (device_state I.state O.state E.state self.old.devices) w.own
             → StepBroke (C.prog self.old.client.now) t e (S.meaning self.old.store).image w.committed
-            (transaction w.own ((S.meaning self.old.store).part k) work.old) halt
+            (transaction w.own ((S.meaning self.old.store).part k) work.old) halt.new
             (device_state I.state O.state E.state self.new.devices)) }
     {
         let side = work.side(k);
@@ -112,14 +130,15 @@ impl<'p, C: Client, S: SegStore, I: Source, O: Sink, E: Sink> Core<'p, C, S, I, 
             side,
         );
         let answer = self.client.step(self.alloc, &mut work.state, &mut view);
-        let result = view.last.halted(answer);
+        view.last.tell(answer, halt);
         self.store.known();
-        result
+        answer
     }
 
     /// One step more of the transaction of segment k, which was taken out of its hand and has done fewer steps than the
-    /// length. A step whose row asks nothing needs no view.
-    fn step_on(&mut self, k: u8, work: &mut Work<C::State>, length: u64) -> Pause
+    /// length. A step whose row asks nothing needs no view. Why a step was cut is written down in `halt`, so that one
+    /// that is done makes no large value.
+    fn step_on(&mut self, k: u8, work: &mut Work<C::State>, length: u64, halt: &mut Halt) -> Went
         requires fit { Fit k (S.meaning self.old.store) self.old.books work.old.progress }
         requires idle { slice_get self.old.books.hands.items k ≡ Some Hand.Idle }
         requires sane { SaneShown (C.prog self.old.client.now) (C.sound self.old.client.now) length k
@@ -135,17 +154,17 @@ impl<'p, C: Client, S: SegStore, I: Source, O: Sink, E: Sink> Core<'p, C, S, I, 
           books = self.new.books;
           devices = self.new.devices;
         } }
-        ensures sane { SaneAfter (C.prog self.old.client.now) (C.sound self.old.client.now) length k result
-            (device_state I.state O.state E.state self.new.devices) (S.meaning self.new.store) self.new.books
-            work.new }
+        ensures sane { SaneAfter (C.prog self.old.client.now) (C.sound self.old.client.now) length k
+            (pause_of result halt.new) (device_state I.state O.state E.state self.new.devices)
+            (S.meaning self.new.store) self.new.books work.new }
         ensures paused { (t e : Option (List ℕ)) (w : Worlds) (n : ℕ) (c : CoreState C.State)
             → Shown work.old.solo t e (device_state I.state O.state E.state self.old.devices) w.own
             → Tried (C.prog self.old.client.now) length k true n c
             (core_with w k (S.meaning self.old.store) self.old.books work.old)
-            → Paused (C.prog self.old.client.now) length k t e w c (n + done_by result) result
-            (S.meaning self.new.store) (S.reserved self.new.store) self.new.books work.new
+            → Paused (C.prog self.old.client.now) length k t e w c (n + done_by (pause_of result halt.new))
+            (pause_of result halt.new) (S.meaning self.new.store) (S.reserved self.new.store) self.new.books work.new
             (device_state I.state O.state E.state self.new.devices) }
-        ensures steps { work.new.steps ≡ work.old.steps + done_by result }
+        ensures steps { work.new.steps ≡ work.old.steps + done_by (pause_of result halt.new) }
         ensures solo { work.new.solo ≡ work.old.solo }
         ensures shape { SameShape (S.meaning self.old.store) (S.meaning self.new.store) }
         ensures reserved { S.reserved self.old.store ≤ S.reserved self.new.store }
@@ -155,25 +174,26 @@ impl<'p, C: Client, S: SegStore, I: Source, O: Sink, E: Sink> Core<'p, C, S, I, 
             (RisesOut (C.prog self.old.client.now) length k (S.meaning self.old.store)
             (core_with w k (S.meaning self.old.store) self.old.books work.old)) }
         ensures broken { self.new.books.broken ≡ self.old.books.broken }
-        ensures devices { DevicesGrow work.old.solo result (device_state I.state O.state E.state self.old.devices)
+        ensures devices { DevicesGrow work.old.solo (pause_of result halt.new)
+            (device_state I.state O.state E.state self.old.devices)
             (device_state I.state O.state E.state self.new.devices) }
     {
         if self.client.step_pure(&mut work.state) {
             self.store.known();
             work.count_step();
-            return Pause::Whole;
+            return Went::Whole;
         }
-        match self.step_out(k, work) {
-            Ok(Outcome::Waits) => Pause::Waits,
+        match self.step_out(k, work, halt) {
+            Ok(Outcome::Waits) => Went::Waits,
             Ok(Outcome::Done) => {
                 work.count_step();
-                Pause::Whole
+                Went::Whole
             }
             Ok(Outcome::Ended) => {
                 work.count_step();
-                Pause::Ended
+                Went::Ended
             }
-            Err(halt) => Pause::Stopped(halt),
+            Err(_) => Went::Cut,
         }
     }
 
@@ -225,12 +245,13 @@ impl<'p, C: Client, S: SegStore, I: Source, O: Sink, E: Sink> Core<'p, C, S, I, 
         ensures devices { DevicesGrow work.old.solo result.1 (device_state I.state O.state E.state self.old.devices)
             (device_state I.state O.state E.state self.new.devices) }
     {
+        let mut halt = Halt::OutOfMemory;
         'turns: for done in 0..most {
-            match self.step_on(k, work, length) {
-                Pause::Whole => (),
-                Pause::Waits => return (done, Pause::Waits),
-                Pause::Ended => return (done + 1, Pause::Ended),
-                Pause::Stopped(halt) => return (done, Pause::Stopped(halt)),
+            match self.step_on(k, work, length, &mut halt) {
+                Went::Whole => (),
+                Went::Waits => return (done, Pause::Waits),
+                Went::Ended => return (done + 1, Pause::Ended),
+                Went::Cut => return (done, Pause::Stopped(halt)),
             }
         }
         (most, Pause::Whole)

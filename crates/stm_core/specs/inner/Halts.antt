@@ -22,10 +22,10 @@ abbrev pub halt_for : Stop → Halt → Halt
 halt_for word.OutOfMemory h = OutOfMemory
 halt_for _ h = h
 
--- the same of what a step answers
-abbrev pub halted : {A : Type 0} → Result A Stop → Halt → Result A Halt
-halted (Ok a) h = Ok a
-halted (Err e) h = Err (halt_for e h)
+-- the Halt that is told once such a step answered: the one that was told before, where it wasn't cut
+abbrev pub told : {A : Type 0} → Result A Stop → Halt → Halt → Halt
+told (Ok a) before h = before
+told (Err e) before h = halt_for e h
 
 -- a view that gave no Stop yet
 abbrev pub gave_none : LastStop

@@ -86,28 +86,28 @@ returns-in-Ended-clause-paused g c = λ t e w c0 shown is.
     (λ s h. c.in-Ended.ensures.paused t e (with_own (c.turns.invariant.paused t e w shown).own w) c.turns.done
     (core_with w c.args.k (g.S.SegStore.meaning c.args.self.now.store) c.args.self.now.books c.args.work.now) s h))
 
-pub returns-in-Stopped-clause-paused : goal.returns-in-Stopped-clause-paused
-returns-in-Stopped-clause-paused g c = λ t e w c0 shown is.
+pub returns-in-Cut-clause-paused : goal.returns-in-Cut-clause-paused
+returns-in-Cut-clause-paused g c = λ t e w c0 shown is.
     subst (λ z. Paused (g.C.Client.prog c.args.self.now.client.now) c.args.length c.args.k t e w z (c.turns.done)
-    (Stopped c.in-Stopped.halt) (g.S.SegStore.meaning c.step_on.new.self.store)
+    (Stopped c.step_on.new.halt) (g.S.SegStore.meaning c.step_on.new.self.store)
     (g.S.SegStore.reserved c.step_on.new.self.store) c.step_on.new.self.books c.step_on.new.work
     (device_state g.I.Source.state g.O.Sink.state g.E.Sink.state c.step_on.new.self.devices)) (sym is)
     (subst (λ z. Paused (g.C.Client.prog c.args.self.now.client.now) c.args.length c.args.k t e w
     (core_with w c.args.k (g.S.SegStore.meaning c.args.self.now.store) c.args.self.now.books c.args.work.now) z
-    (Stopped c.in-Stopped.halt) (g.S.SegStore.meaning c.step_on.new.self.store)
+    (Stopped c.step_on.new.halt) (g.S.SegStore.meaning c.step_on.new.self.store)
     (g.S.SegStore.reserved c.step_on.new.self.store) c.step_on.new.self.books c.step_on.new.work
     (device_state g.I.Source.state g.O.Sink.state g.E.Sink.state c.step_on.new.self.devices))
     (add-zero c.turns.done)
     (paused_then (g.C.Client.prog c.args.self.now.client.now) (g.C.Client.prog c.turns.self.client.now) c.args.length
     c.args.k c.turns.done 0 t e w (device_state g.I.Source.state g.O.Sink.state g.E.Sink.state
     c.turns.self.devices) (device_state g.I.Source.state g.O.Sink.state g.E.Sink.state c.step_on.new.self.devices)
-    (Stopped c.in-Stopped.halt) (g.S.SegStore.meaning c.turns.self.store)
+    (Stopped c.step_on.new.halt) (g.S.SegStore.meaning c.turns.self.store)
     (g.S.SegStore.meaning c.step_on.new.self.store) (g.S.SegStore.reserved c.turns.self.store)
     (g.S.SegStore.reserved c.step_on.new.self.store) c.turns.self.books c.step_on.new.self.books c.turns.work
     c.step_on.new.work (core_with w c.args.k (g.S.SegStore.meaning c.args.self.now.store) c.args.self.now.books
     c.args.work.now) (λ i. g.C.Client.prog (c.turns.invariant.client i).now) c.step_on.ensures.solo
     (c.turns.invariant.paused t e w shown)
-    (λ s h. c.in-Stopped.ensures.paused t e (with_own (c.turns.invariant.paused t e w shown).own w) c.turns.done
+    (λ s h. c.in-Cut.ensures.paused t e (with_own (c.turns.invariant.paused t e w shown).own w) c.turns.done
     (core_with w c.args.k (g.S.SegStore.meaning c.args.self.now.store) c.args.self.now.books c.args.work.now) s h)))
 
 -- one step more was done
@@ -227,8 +227,8 @@ returns-in-Ended-clause-peaks g c = λ t e w shown.
     (λ i. g.C.Client.prog (v.client i).now) v.shape u (v.peaks t e w shown)
     (λ s. c.step_on.ensures.peaks t e (with_own u.own w) s)
 
-pub returns-in-Stopped-clause-peaks : goal.returns-in-Stopped-clause-peaks
-returns-in-Stopped-clause-peaks g c = λ t e w shown.
+pub returns-in-Cut-clause-peaks : goal.returns-in-Cut-clause-peaks
+returns-in-Cut-clause-peaks g c = λ t e w shown.
     let v = c.turns.invariant in
     let u = v.paused t e w shown in
     let m = g.S.SegStore.meaning c.args.self.now.store in

@@ -172,7 +172,7 @@ sane_cut g c =
     (g.S.SegStore.reserved c.step_out.new.self.store) c.args.self.now.books c.step_out.new.self.books
     (record c.args.work.now { state = c.step_pure.new.s }) c.step_out.new.work c0 c.step_out.ensures.image
     c.step_out.ensures.store c.step_out.ensures.fit
-    (tried_none (g.C.Client.prog c.args.self.now.client.now) c.args.length c.args.k true c0) c.in-Err.halt
+    (tried_none (g.C.Client.prog c.args.self.now.client.now) c.args.length c.args.k true c0) c.step_out.new.halt
     (c.in-Err.ensures.cut s.out s.err w s.shown) in
     record {
       worlds = w;
@@ -195,7 +195,7 @@ returns-in-Err-clause-paused g c = λ t e w n c0 shown h.
     (record c.args.work.now { state = c.step_pure.new.s }) c.step_out.new.work c0 c.step_out.ensures.image
     c.step_out.ensures.store c.step_out.ensures.fit
     (ap (g.C.Client.prog c.args.self.now.client.now).life (c.step_pure.ensures.not c.if-step_pure.false) ∙
-    c.requires.lives) c.step_out.ensures.same.3 h1 c.in-Err.halt (c.in-Err.ensures.cut t e w shown)
+    c.requires.lives) c.step_out.ensures.same.3 h1 c.step_out.new.halt (c.in-Err.ensures.cut t e w shown)
     (numbers_apart (g.C.Client.prog c.args.self.now.client.now) (g.C.Client.sound c.args.self.now.client.now)
     c.args.length c.args.k (g.S.SegStore.meaning c.step_out.new.self.store) c.step_out.new.self.books
     c.step_out.new.work (sane_cut g c) w) (λ q. c.in-Err.ensures.broke q t e w (shown q))
@@ -206,7 +206,7 @@ returns-in-Err-clause-sane g c =
     let c0 = core_with s.sane.worlds c.args.k (g.S.SegStore.meaning c.args.self.now.store) c.args.self.now.books
     c.args.work.now in
     sane_paused (g.C.Client.prog c.args.self.now.client.now) (g.C.Client.sound c.args.self.now.client.now)
-    c.args.length c.args.k 0 (g.S.SegStore.reserved c.step_out.new.self.store) (Stopped c.in-Err.halt)
+    c.args.length c.args.k 0 (g.S.SegStore.reserved c.step_out.new.self.store) (Stopped c.step_out.new.halt)
     (device_state g.I.Source.state g.O.Sink.state g.E.Sink.state c.args.self.now.devices)
     (device_state g.I.Source.state g.O.Sink.state g.E.Sink.state c.step_out.new.self.devices)
     (g.S.SegStore.meaning c.args.self.now.store) (g.S.SegStore.meaning c.step_out.new.self.store)

@@ -1,15 +1,18 @@
-use Rattle.std.proofs.Common.{◌≡◌, ℕ, Option, Result, sym, ◌∙◌, ap, subst, refl}
+use Rattle.std.proofs.Common.{◌≡◌, ℕ, List, Option, Result, true, sym, ◌∙◌, ap, subst, refl}
 use Rattle.std.proofs.lemmas.Result.{IfOk-weaker}
 use Rattle.py_data.specs.declared.stop.Side.{Side}
 use Rattle.py_data.specs.declared.stop.Stop.{Stop}
 use Rattle.py_data.specs.Row.{Row}
 use Rattle.lock_run.specs.declared.client.Outcome.{Outcome}
+use Rattle.stm_core.specs.declared.halt.Halt.{Halt}
 use Rattle.stm_core.specs.declared.segment.SegView.{SegView}
-use Rattle.stm_core.specs.Books.{Fit}
-use Rattle.stm_core.specs.Devices.{DeviceState, device_state}
+use Rattle.stm_core.specs.Books.{Fit, Worlds, transaction}
+use Rattle.stm_core.specs.Conflict.{side}
+use Rattle.stm_core.specs.Devices.{DeviceState, device_state, Shown, ShowsWorld, StopRose}
 use Rattle.stm_core.specs.inner.Halts.{gave_none}
 use Rattle.stm_core.specs.inner.Hold.{Hold, holding}
-use Rattle.stm_core.proofs.Halting.{if_ok_halted, if_err_halted, on_err_halted}
+use Rattle.stm_core.specs.inner.Whole.{StepCut, StepBroke}
+use Rattle.stm_core.proofs.Halting.{on_err_told}
 use Rattle.stm_core.proofs.Keeping.{StepKept, step_keeps}
 use Rattle.stm_core.proofs.Richer.{ToldDone, SegDone, seg_done, ToldCut, SegCut, seg_cut}
 use Rattle.stm_core.proofs.RowPeaks.{run_on, stop_on}
@@ -74,7 +77,7 @@ cut_seg g row = seg_cut (hold g) (devices g) (segment g) (me g) (same g) (peaks 
 
 -- ---- what was lent comes back
 
-same_then_view : (g : given.Over) (c : goal.After-halted-result g) → same g c.new-view.result c.step-answer.new.v
+same_then_view : (g : given.Over) (c : goal.After-tell g) → same g c.new-view.result c.step-answer.new.v
 same_then_view g c =
     (step_keeps (hold g) (devices g) (segment g) (me g) (same g) (same_refl g) (same_then g) _ _ _ c.new-view.result _
     _ c.step-answer.result c.step-answer.new.s c.step-answer.new.v refl refl refl refl
@@ -140,19 +143,18 @@ pub returns-clause-alone : goal.returns-clause-alone
 returns-clause-alone g c = λ mortal. (kept g c).leaves.alone (ap (λ z. z.solo) c.side-side.ensures ∙ mortal)
 
 pub returns-clause-flag : goal.returns-clause-flag
-returns-clause-flag g c =
-    on_err_halted _ c.step-answer.result c.halted-result.result _ c.halted-result.ensures (kept g c).flag
+returns-clause-flag g c = (kept g c).flag
 
 pub returns-clause-rose : goal.returns-clause-rose
 returns-clause-rose g c =
-    if_err_halted _ c.step-answer.result c.halted-result.result _ c.halted-result.ensures (kept g c).rose
+    on_err_told (λ halt. StopRose halt (told g c) (devices g c.step-answer.new.v)) c.step-answer.result
+    c.tell.new.halt _ _ c.tell.ensures (kept g c).rose
 
 -- ---- how it ends
 
 pub returns-clause-life : goal.returns-clause-life
 returns-clause-life g c =
-    if_ok_halted _ c.step-answer.result c.halted-result.result _ c.halted-result.ensures
-    (IfOk-weaker c.step-answer.result _ _
+    IfOk-weaker c.step-answer.result _ _
     (λ o h. step_lives (hold g) (devices g) (segment g) (me g) (same g) (same_refl g) (same_then g)
     (g.C.Client.prog c.args.self.now.client.now) c.args.k c.side-side.result c.args.work.now.state
     c.step-answer.new.s c.new-view.result o c.step-answer.new.v c.new-view.ensures.stays.0
@@ -160,12 +162,11 @@ returns-clause-life g c =
     (g.met.C.Client.asks_to_print c.args.self.now.client.now c.args.work.now.state)
     (g.met.C.Client.outcomes c.args.self.now.client.now) h)
     (done_seg g _ c.step-answer.result c.new-view.result c.step-answer.new.s c.step-answer.new.v
-    c.step-answer.ensures.ok))
+    c.step-answer.ensures.ok)
 
 pub returns-clause-done : goal.returns-clause-done
 returns-clause-done g c =
-    if_ok_halted _ c.step-answer.result c.halted-result.result _ c.halted-result.ensures
-    (IfOk-weaker c.step-answer.result _ _
+    IfOk-weaker c.step-answer.result _ _
     (λ o h t e w shown. step_done (hold g) (devices g) (segment g) (me g) (same g) (same_refl g) (same_then g) t e
     (g.C.Client.prog c.args.self.now.client.now) w c.args.k (g.S.SegStore.meaning c.args.self.now.store)
     (g.S.SegStore.reserved c.args.self.now.store) c.args.self.now.books c.args.work.now
@@ -176,11 +177,29 @@ returns-clause-done g c =
     (g.met.C.Client.asks_to_print c.args.self.now.client.now c.args.work.now.state) shown o
     (g.met.C.Client.waits_quietly c.args.self.now.client.now) h.2)
     (done_seg g _ c.step-answer.result c.new-view.result c.step-answer.new.s c.step-answer.new.v
-    c.step-answer.ensures.ok))
+    c.step-answer.ensures.ok)
+
+-- the next step was cut so
+abbrev is_cut : (g : given.Over) → goal.After-known g → Halt → Type 0
+is_cut g c halt = (t e : Option (List ℕ)) (w : Worlds) → Shown c.args.work.now.solo t e (told g c) w.own →
+    StepCut (g.C.Client.prog c.args.self.now.client.now) w c.args.k
+    (side c.args.k (transaction w.own ((g.S.SegStore.meaning c.args.self.now.store).part c.args.k) c.args.work.now))
+    halt (g.S.SegStore.meaning c.args.self.now.store) c.args.self.now.books c.args.work.now
+    (hold g c.step-answer.new.v).meaning (hold g c.step-answer.new.v).reserved (hold g c.step-answer.new.v).books
+    (record c.args.work.now { state = c.step-answer.new.s; progress = (hold g c.step-answer.new.v).progress })
+
+-- and of a solo one the devices were told so much
+abbrev broke : (g : given.Over) → goal.After-known g → Halt → Type 0
+broke g c halt = c.args.work.now.solo ≡ true → (t e : Option (List ℕ)) (w : Worlds) →
+    ShowsWorld t e (told g c) w.own →
+    StepBroke (g.C.Client.prog c.args.self.now.client.now) t e (g.S.SegStore.meaning c.args.self.now.store).image
+    w.committed
+    (transaction w.own ((g.S.SegStore.meaning c.args.self.now.store).part c.args.k) c.args.work.now) halt
+    (devices g c.step-answer.new.v)
 
 pub returns-clause-cut : goal.returns-clause-cut
 returns-clause-cut g c =
-    if_err_halted _ c.step-answer.result c.halted-result.result _ c.halted-result.ensures
+    on_err_told (is_cut g c) c.step-answer.result c.tell.new.halt _ _ c.tell.ensures
     (if_err_on c.step-answer.result (λ stop h state t e w shown.
     step_cut (hold g) (devices g) (segment g) (me g) (same g) (same_refl g) (same_then g) t e
     (g.C.Client.prog c.args.self.now.client.now) w c.args.k (g.S.SegStore.meaning c.args.self.now.store)
@@ -195,7 +214,7 @@ returns-clause-cut g c =
 
 pub returns-clause-broke : goal.returns-clause-broke
 returns-clause-broke g c =
-    if_err_halted _ c.step-answer.result c.halted-result.result _ c.halted-result.ensures
+    on_err_told (broke g c) c.step-answer.result c.tell.new.halt _ _ c.tell.ensures
     (if_err_on c.step-answer.result (λ stop h state solo t e w shows.
     step_broke (hold g) (devices g) (segment g) (me g) (same g) (same_refl g) (same_then g) t e
     (g.C.Client.prog c.args.self.now.client.now) w c.args.k (g.S.SegStore.meaning c.args.self.now.store)
