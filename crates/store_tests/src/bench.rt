@@ -13,7 +13,7 @@ ghost use Rattle.seg_store.specs.inner.Looks.{marks_of};
 ghost use Rattle.seg_store.specs.Store.{CanFind, NoOther};
 ghost use Rattle.store_tests.specs.Known.{Knows};
 
-use py_data::{Addr, Kind, LENGTH_LIMIT, Record, Value};
+use py_data::{Addr, Head, Kind, LENGTH_LIMIT, Record, Value};
 use seg_store::{Looks, SegStore, StoreFault};
 use std::alloc::Global;
 use std::process::Abort;
@@ -145,6 +145,16 @@ impl<S: SegStore> Bench<S> {
         let n = self.count(rt, k, a);
         assert!(rt; i < n);
         self.store.val(k, a, i)
+    }
+
+    pub fn find_val(&self, rt: &impl Abort, k: u8, a: Addr, i: usize) -> (Kind, Value) {
+        let _kind = self.kind(rt, k, a);
+        self.store.find_val(k, a, i)
+    }
+
+    pub fn head(&self, rt: &impl Abort, k: u8, a: Addr) -> Head {
+        let _kind = self.kind(rt, k, a);
+        self.store.head(k, a)
     }
 
     #[tactic(auto, using(crate::proofs::There::bytes_there))]

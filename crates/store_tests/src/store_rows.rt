@@ -122,6 +122,37 @@ fn begun_pages(rt: HostRuntime) -> Tested {
     begun(&rt, rt.alloc(), paged(&rt, rt.alloc(), 2, 1)?)
 }
 
+/// One look at a record shows its kind, its count and its first values, or its kind and one value; Unset where it has
+/// none there, as a string has nowhere.
+fn looked_at<S: SegStore>(rt: &impl Abort, alloc: Global, mut store: Bench<S>) -> Tested {
+    let a = make(rt, alloc, &mut store, 0, Kind::List, &[])?;
+    assert_eq!(rt; store.head(rt, 0, a).count, 0);
+    push_numbers(rt, &mut store, 0, a, 5, 7);
+    let two = store.head(rt, 0, a);
+    assert!(rt; two.kind == Kind::List && two.count == 2);
+    assert!(rt; two.first == Value::Int(5) && two.second == Value::Int(6) && two.third == Value::Unset);
+    assert!(rt; store.find_val(rt, 0, a, 1) == (Kind::List, Value::Int(6)));
+    assert!(rt; store.find_val(rt, 0, a, 2) == (Kind::List, Value::Unset));
+    push_numbers(rt, &mut store, 0, a, 7, 9);
+    let four = store.head(rt, 0, a);
+    assert!(rt; four.count == 4 && four.third == Value::Int(7));
+    let s = make_text(rt, alloc, &mut store, 0, b"four")?;
+    let text = store.head(rt, 0, s);
+    assert!(rt; text.kind == Kind::Str && text.count == 0 && text.first == Value::Unset);
+    assert!(rt; store.find_val(rt, 0, s, 0) == (Kind::Str, Value::Unset));
+    Ok(())
+}
+
+#[test]
+fn looked_at_maps(rt: HostRuntime) -> Tested {
+    looked_at(&rt, rt.alloc(), maps(&rt, rt.alloc(), 1)?)
+}
+
+#[test]
+fn looked_at_pages(rt: HostRuntime) -> Tested {
+    looked_at(&rt, rt.alloc(), paged(&rt, rt.alloc(), 1, 1)?)
+}
+
 /// A list that grows and is cut.
 fn lists<S: SegStore>(rt: &impl Abort, alloc: Global, mut store: Bench<S>) -> Tested {
     let a = make(rt, alloc, &mut store, 0, Kind::List, &[])?;
