@@ -130,7 +130,9 @@ fn looked_at<S: SegStore>(rt: &impl Abort, alloc: Global, mut store: Bench<S>) -
     push_numbers(rt, &mut store, 0, a, 5, 7);
     let two = store.head(rt, 0, a);
     assert!(rt; two.kind == Kind::List && two.count == 2);
-    assert!(rt; two.first == Value::Int(5) && two.second == Value::Int(6) && two.third == Value::Unset);
+    assert!(rt;
+        two.first == Value::Int(5) && two.second == Value::Int(6) && two.third == Value::Unset
+    );
     assert!(rt; store.find_val(rt, 0, a, 1) == (Kind::List, Value::Int(6)));
     assert!(rt; store.find_val(rt, 0, a, 2) == (Kind::List, Value::Unset));
     push_numbers(rt, &mut store, 0, a, 7, 9);
