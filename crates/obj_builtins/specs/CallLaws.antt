@@ -1,8 +1,6 @@
 -- Over each heap in order the call of any builtin holds; in its course no record is longer than before or at the end;
--- and a
--- call that waits, or that lets a thread start, has done nothing but look. States `docs/LANGUAGE.md`, "Builtins" and
--- "Locks
--- and threads", and `docs/HEAP.md`, "Rows that hold".
+-- and a call that waits, or that lets a thread start, has done nothing but look. States `docs/LANGUAGE.md`, "Builtins"
+-- and "Locks and threads", and `docs/HEAP.md`, "Rows that hold".
 use Rattle.std.specs.Prelude.{ℕ, false, List, Option}
 use Rattle.py_data.specs.declared.value.Value.{Value}
 use Rattle.py_data.specs.Answers.{IsGot}

@@ -1,6 +1,6 @@
 -- The call of a builtin by its number: the methods of strings, lists and dictionaries, the functions, `raw_input`, and
--- what
--- `thread` and `threading` have. States `docs/LANGUAGE.md`, "Builtins", "Locks and threads" and "Numbers and names".
+-- what `thread` and `threading` have. States `docs/LANGUAGE.md`, "Builtins", "Locks and threads" and "Numbers and
+-- names".
 use Rattle.std.specs.Prelude.{ℕ, ◌==◌, Bool, ◌||◌, cond, codes, List, length, nat_lt, Option}
 use Rattle.py_base.specs.declared.kind.Kind.{Kind}
 use Rattle.py_base.specs.declared.kind.Kind.TheVariants.{Str, List as ListKind, Dict}
@@ -87,10 +87,8 @@ other_row roots me b own args keys = cond (b == builtin_number (codes "raw_input
     (thread_call_row roots me b own args keys)
 
 -- The call of the builtin of number b, with arguments and with keywords as name, value, name, value; each name is the
--- address of
--- a string. `own` is the object of a method. At `roots` stands the list of roots, at `me` the Thread record of the
--- calling
--- thread, if it has one.
+-- address of a string. `own` is the object of a method. At `roots` stands the list of roots, at `me` the Thread record
+-- of the calling thread, if it has one.
 unfoldable pub call_row : {S : Type 0} → ℕ → Option ℕ → ℕ → Value → List Value → List Value → Row S (Got Answer)
 call_row roots me b own args keys =
     cond (is_object_method b) (object_row b own args keys)

@@ -1,6 +1,5 @@
 -- Over each heap in order each builtin function holds; and no record is longer in its course than before it or at its
--- end.
--- States `docs/LANGUAGE.md`, "Builtins", and `docs/HEAP.md`, "Rows that hold".
+-- end. States `docs/LANGUAGE.md`, "Builtins", and `docs/HEAP.md`, "Rows that hold".
 use Rattle.std.specs.Prelude.{ℕ, false, List}
 use Rattle.py_data.specs.declared.value.Value.{Value}
 use Rattle.py_data.specs.Answers.{IsAnswer}
@@ -14,8 +13,7 @@ use Rattle.obj_class.specs.Roots.{IsRoots}
 use Rattle.obj_builtins.specs.Functions.{function_row}
 
 -- with the program's list of roots and with items for its arguments each function may be begun, leaves a heap in order,
--- and
--- answers an item or an exception
+-- and answers an item or an exception
 pub record FunctionsHold {S : Type 0} (rules : Rules) (stands : Heap → S → Type 0) : Type 0 where
   pub function : (h : Heap) (roots b : ℕ) (args : List Value) → IsOrdered rules h → IsRoots h roots →
       Every (IsItem h) args → Holds rules stands IsAnswer (function_row roots b args) h

@@ -1,8 +1,6 @@
 -- Over each heap in order the operations on classes, attributes and exceptions hold; and no record is longer in their
--- course
--- than before or at the end. States `docs/LANGUAGE.md`, "Classes and instances", "Attributes", "Exceptions" and "Texts
--- of
--- exceptions", and `docs/HEAP.md`, "Rows that hold".
+-- course than before or at the end. States `docs/LANGUAGE.md`, "Classes and instances", "Attributes", "Exceptions" and
+-- "Texts of exceptions", and `docs/HEAP.md`, "Rows that hold".
 use Rattle.std.specs.Prelude.{◌≡◌, ℕ, pos, Bool, List, [], ◌∷◌, Option, Some, None, false}
 use Rattle.py_base.specs.declared.kind.Kind.TheVariants.{Str, Class, Method}
 use Rattle.py_data.specs.declared.value.Value.{Value}

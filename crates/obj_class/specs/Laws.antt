@@ -1,8 +1,6 @@
 -- What is below what, which attribute comes first, which classes are exception classes, and how attributes are set and
--- deleted,
--- and how exceptions are written, in the words in which `src/laws.rt` ensures them. States `docs/LANGUAGE.md`, "Classes
--- and instances", "Attributes" and
--- "Exceptions".
+-- deleted, and how exceptions are written, in the words in which `src/laws.rt` ensures them. States `docs/LANGUAGE.md`,
+-- "Classes and instances", "Attributes" and "Exceptions".
 use Rattle.std.specs.Prelude.{◌≡◌, ◌≢◌, ℕ, suc, ◌<◌, ◌≤◌, ◌==◌, true, false, codes, List, [], Some, None, option_map}
 use Rattle.py_base.specs.declared.kind.Kind.TheVariants.{Class, Instance}
 use Rattle.py_base.specs.Numbers.{class_count, class_number}
@@ -71,8 +69,7 @@ done_or_missing (Is x) name = Is tt
 done_or_missing (Raise e) name = Raise (attribute_fault name)
 
 -- How setting and deleting an attribute follow from the operations on dictionaries, over each view: by the laws of
--- these a name
--- that is set again keeps its place, a new one comes last, and a deleted one is gone.
+-- these a name that is set again keeps its place, a new one comes last, and a deleted one is gone.
 pub record OwnLaw {S X : Type 0} (u : Sense S X) : Type 0 where
   -- of an instance and a class it is the dictionary's own operation, over the same records
   pub set : (x y : Value) (name : ℕ) (d : Addr) (v w : X) (res : Got (Unit {0})) → IsItem (u.heap v) x →
@@ -93,8 +90,7 @@ pub record OwnLaw {S X : Type 0} (u : Sense S X) : Type 0 where
 -- ---- texts of exceptions
 
 -- what an operation has raised is told by: nothing, the bytes of its text, or the value in hand, which KeyError alone
--- tells in
--- quotes; the value has the levels that the exception leaves
+-- tells in quotes; the value has the levels that the exception leaves
 abbrev pub text_of_told : Heap → List Value → ℕ → With → Got (List ℕ)
 text_of_told h vs n Nothing = Is []
 text_of_told h vs n (Text t) = Is t

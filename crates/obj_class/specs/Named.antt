@@ -1,6 +1,5 @@
 -- What has attributes by a rule of the language: the methods of strings, lists, dictionaries, locks and threads, and
--- what the
--- modules have. States `docs/LANGUAGE.md`, "Attributes".
+-- what the modules have. States `docs/LANGUAGE.md`, "Attributes".
 use Rattle.std.specs.Prelude.{ℕ, Bool, cond, ◌==◌, ◌&&◌, codes, List, [], ◌∷◌, ◌++◌, map, Option}
 use Rattle.std.specs.Str.{bytes_eq}
 use Rattle.py_base.specs.declared.kind.Kind.{Kind}

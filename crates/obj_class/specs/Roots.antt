@@ -46,8 +46,7 @@ pub record HasClass (h : Heap) (vs : List Value) (n : ℕ) : Type 0 where
   pub base : value_at class.values 1 ≡ root_base vs n
 
 -- The record at an address is the list of roots of a program: the Cell of the count of threads, and then the classes.
--- What
--- stands in the Cell is for a client to say, and so are the strings and the Cells behind the classes.
+-- What stands in the Cell is for a client to say, and so are the strings and the Cells behind the classes.
 pub record IsRoots (h : Heap) (roots : ℕ) : Type 0 where
   pub list : Rec
   pub here : h roots ≡ Some list

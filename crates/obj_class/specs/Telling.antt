@@ -1,6 +1,5 @@
 -- The texts of values, those of exceptions among them: what is meant, and the row, look by look. States
--- `docs/LANGUAGE.md`,
--- "Texts of exceptions", and `docs/HEAP.md`, "Texts".
+-- `docs/LANGUAGE.md`, "Texts of exceptions", and `docs/HEAP.md`, "Texts".
 use Rattle.std.specs.Prelude.{ℕ, zero, suc, ◌+◌, ◌*◌, ◌/◌, ◌==◌, Bool, true, false, cond, codes, List, [], ◌∷◌, Option, Some, None}
 use Rattle.std.specs.Str.{bytes_eq}
 use Rattle.py_base.specs.declared.kind.Kind.{Kind}
@@ -125,8 +124,7 @@ told_within h vs zero = told_under h vs None 0
 told_within h vs (suc d) = told_under h vs (Some (told_within h vs d)) (suc d)
 
 -- The text of a value, by the address of the list of roots: as it stands within others (`quoted`), or by itself.
--- RuntimeError,
--- where values are nested deeper than 100 levels.
+-- RuntimeError, where values are nested deeper than 100 levels.
 abbrev pub text_of : Heap → ℕ → Value → Bool → Got (List ℕ)
 text_of h roots x quoted = told_within h (values_in (h roots)) DEPTH_LIMIT quoted x
 

@@ -1,5 +1,5 @@
--- Classes and attributes worked by hand, over one small heap.
--- States `docs/LANGUAGE.md`, "Classes and instances" and "Attributes".
+-- Classes and attributes worked by hand, over one small heap. States `docs/LANGUAGE.md`, "Classes and instances" and
+-- "Attributes".
 use Rattle.std.specs.Prelude.{◌≡◌, pos, codes, true, false, List, [], ◌∷◌, slice_get, Some, None, refl, get_or}
 use Rattle.py_base.specs.Numbers.{builtin_number, class_number}
 use Rattle.py_base.specs.declared.kind.Kind.TheVariants.{Str, Tuple, List as ListKind, Dict, Function, Class, Instance, Thread}
@@ -11,8 +11,7 @@ use Rattle.obj_class.specs.Bases.{ref, is_below}
 use Rattle.obj_class.specs.Roots.{base_names, own_name}
 
 -- Class A has the function m and x = 1; class B, whose base is A, has x = 2; the first instance of B has y = 3, the
--- second
--- m = 5. The roots have at the place of `thread.error` the class A.
+-- second m = 5. The roots have at the place of `thread.error` the class A.
 abbrev records : List Rec
 records = new_rec Str [] (codes "A") ∷ new_rec Dict (ref 10 ∷ ref 12 ∷ ref 11 ∷ Int (pos 1) ∷ []) [] ∷ new_rec Class
     (ref 0 ∷ NoneValue ∷ ref 1 ∷ []) [] ∷ new_rec Str [] (codes "B") ∷ new_rec Dict (ref 11 ∷ Int (pos 2) ∷ []) [] ∷

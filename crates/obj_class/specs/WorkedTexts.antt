@@ -10,8 +10,7 @@ use Rattle.obj_class.specs.Bases.{ref}
 use Rattle.obj_class.specs.Telling.{text_of, told_within}
 
 -- The roots (0) have BaseException (1) and KeyError (2) at their places; I (3) is below BaseException, and C (4) below
--- none. 6 is
--- the string `args`, 7 the string a. Behind them come tuples, dictionaries and instances.
+-- none. 6 is the string `args`, 7 the string a. Behind them come tuples, dictionaries and instances.
 abbrev records : List Rec
 records =
     new_rec Tuple (NoneValue ∷ NoneValue ∷ ref 1 ∷ NoneValue ∷ NoneValue ∷ NoneValue ∷ NoneValue ∷ NoneValue ∷

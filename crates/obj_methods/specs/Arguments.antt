@@ -1,6 +1,5 @@
 -- What methods of lists and dictionaries take of their arguments. States `docs/LANGUAGE.md`, "Methods of lists" and
--- "Methods of
--- dictionaries".
+-- "Methods of dictionaries".
 use Rattle.std.specs.Prelude.{ℤ, List, [], ◌∷◌, Option, Some, None}
 use Rattle.py_data.specs.declared.value.Value.{Value}
 use Rattle.py_data.specs.Comparing.{number_of}

@@ -1,7 +1,6 @@
 -- Over each heap in order each method of a list or a dictionary, and sorting, holds; and no record is longer in its
--- course than
--- before it or at its end. States `docs/LANGUAGE.md`, "Methods of lists", "Methods of dictionaries" and "Sorting", and
--- `docs/HEAP.md`, "Rows that hold".
+-- course than before it or at its end. States `docs/LANGUAGE.md`, "Methods of lists", "Methods of dictionaries" and
+-- "Sorting", and `docs/HEAP.md`, "Rows that hold".
 use Rattle.std.specs.Prelude.{◌≡◌, ℕ, false, List, length}
 use Rattle.py_data.specs.declared.value.Value.{Value}
 use Rattle.py_data.specs.Answers.{IsAnswer, IsGot}

@@ -1,6 +1,5 @@
 -- What the methods of dictionaries answer and leave, in words of the place of a key. States `docs/LANGUAGE.md`,
--- "Methods of
--- dictionaries".
+-- "Methods of dictionaries".
 use Rattle.std.specs.Prelude.{◌≡◌, ℕ, is_some, Option, Some, None, option_and_then, remove, true, false, unwrap_or}
 use Rattle.py_data.specs.declared.record.Got.{Got}
 use Rattle.py_data.specs.declared.record.Got.TheVariants.{Is, Raise}

@@ -69,8 +69,7 @@ pub record IsFirst (h : Heap) (x : Value) (vs : List Value) (k : ℕ) : Type 0 w
   pub before : NoneBefore h x vs k
 
 -- over a heap in order, of a list: the least place whose item is equal, ValueError where none is, and what a comparison
--- before
--- it raises; nothing is done but to look
+-- before it raises; nothing is done but to look
 pub record SearchLaw (S : Type 0) (rules : Rules) : Type 0 where
   pub found : (h : Heap) (a : ℕ) (r : Rec) (x : Value) (k : ℕ) → IsOrdered rules h → h a ≡ Some r → r.kind ≡ ListKind →
       IsItem h x → IsFirst h x r.values k

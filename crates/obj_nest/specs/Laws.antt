@@ -61,8 +61,7 @@ abbrev pub IsString : Heap → Value → Type 0
 IsString h x = RefTo h Str x
 
 -- On such values: of two, one comes first, or they are equal, and then `==` says so too; turned round the order is the
--- opposite;
--- and what comes before a value comes before all that come behind it.
+-- opposite; and what comes before a value comes before all that come behind it.
 pub record TotalLaw (has : Heap → Value → Type 0) : Type 0 where
   pub one : (h : Heap) (x y : Value) → has h x → has h y → (o : Ordering) × (order h x y ≡ Is o)
   pub equal : (h : Heap) (x y : Value) → has h x → has h y → (order h x y ≡ Is Equal) ↔ (equal h x y ≡ Is true)

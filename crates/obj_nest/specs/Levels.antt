@@ -1,5 +1,5 @@
--- What the rows of equality, order, truth and texts share: levels, and how two records are compared.
--- States `docs/HEAP.md`, "Equality and order".
+-- What the rows of equality, order, truth and texts share: levels, and how two records are compared. States
+-- `docs/HEAP.md`, "Equality and order".
 use Rattle.std.specs.Prelude.{ℕ, zero, suc, Option, Some, None}
 use Rattle.py_base.specs.declared.kind.Kind.{Kind}
 use Rattle.py_base.specs.declared.kind.Kind.TheVariants.{Str, Tuple, List as ListKind, Dict, Method}
@@ -14,8 +14,7 @@ use Rattle.obj_nest.specs.declared.pairing.Pairing.TheVariants.{Texts, Items, Pa
 -- ---- levels
 
 -- What works on the parts of containers, where so many levels are left; none, where no level is. `f` is what works on a
--- value,
--- given what works on its parts.
+-- value, given what works on its parts.
 unfoldable pub below : {U : Type 0} → (Option U → U) → ℕ → Option U
 below f zero = None
 below f (suc d) = Some (f (below f d))

@@ -1,6 +1,5 @@
 -- The texts of values, as `repr` and `str` write them: the row, look by look, which writes behind a text. States
--- `docs/HEAP.md`,
--- "Texts".
+-- `docs/HEAP.md`, "Texts".
 use Rattle.std.specs.Prelude.{ℕ, ◌+◌, ◌*◌, ◌/◌, Bool, true, false, cond, List, [], ◌++◌, Option, codes, ◌==◌, unwrap_or, slice_get}
 use Rattle.std.specs.Fmt.{signed_decimal}
 use Rattle.py_base.specs.declared.kind.Kind.{Kind}
@@ -36,8 +35,7 @@ alone_within h d (Ref a) = alone_by_kind h d (Ref a) (at h a.0).kind (at h a.0)
 alone_within h d x = repr_within spelling h d x
 
 -- The text of a value, with so many levels left: as it stands within others, or by itself. An exception is written as
--- any other
--- instance is.
+-- any other instance is.
 abbrev pub text_within : Heap → ℕ → Value → Bool → Got (List ℕ)
 text_within h d x true = repr_within spelling h d x
 text_within h d x false = alone_within h d x
@@ -177,8 +175,7 @@ alone_row d (Ref a) = alone_at d a.0
 alone_row d x = repr_row d x
 
 -- The text of a value, with so many levels left: as it stands within others (`quoted`), or by itself. An exception is
--- written
--- as any other instance is.
+-- written as any other instance is.
 unfoldable pub text_row : {S : Type 0} → ℕ → Value → Bool → Row S (Got (List ℕ))
 text_row d x true = repr_row d x
 text_row d x false = alone_row d x

@@ -1,6 +1,5 @@
 -- The rows of UNARY and BINARY: what the operands are, the left one first, and then one case for each class of
--- operands.
--- States `docs/LANGUAGE.md`, "Arithmetic", "Operators on sequences" and "The % operator".
+-- operands. States `docs/LANGUAGE.md`, "Arithmetic", "Operators on sequences" and "The % operator".
 use Rattle.std.specs.Prelude.{ℕ, ℤ, Option, Some, None}
 use Rattle.py_data.specs.declared.value.Value.{Value}
 use Rattle.py_data.specs.declared.record.Got.{Got}

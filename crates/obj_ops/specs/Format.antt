@@ -36,8 +36,7 @@ takes (Text n) = 1
 takes _ = 0
 
 -- each other byte stands for itself; the flag says whether a percent sign was just read, the number how many arguments
--- were
--- taken so far
+-- were taken so far
 unfoldable pub pieces : Bool → ℕ → List ℕ → List Piece
 pieces false n [] = []
 pieces true n [] = Unknown ∷ []

@@ -1,6 +1,5 @@
 -- What operands are to an operator, and what it does with two of them. States `docs/LANGUAGE.md`, "Arithmetic",
--- "Operators on
--- sequences" and "The % operator".
+-- "Operators on sequences" and "The % operator".
 use Rattle.std.specs.Prelude.{ℤ, Bool, Option, Some, None}
 use Rattle.py_base.specs.declared.kind.Kind.{Kind}
 use Rattle.py_base.specs.declared.kind.Kind.TheVariants.{Str, Tuple, List as ListKind}

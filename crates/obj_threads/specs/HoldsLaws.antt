@@ -1,6 +1,6 @@
 -- Over each heap in order the calls of builtins of `thread` and `threading` hold; and no record is longer in their
--- course than
--- before or at the end. States `docs/LANGUAGE.md`, "Locks and threads", and `docs/HEAP.md`, "Rows that hold".
+-- course than before or at the end. States `docs/LANGUAGE.md`, "Locks and threads", and `docs/HEAP.md`, "Rows that
+-- hold".
 use Rattle.std.specs.Prelude.{◌≡◌, ◌⊎◌, ℕ, true, false, List, Option, Some, IfSome}
 use Rattle.py_base.specs.declared.kind.Kind.TheVariants.{Tuple, Function, Method, Thread}
 use Rattle.py_data.specs.declared.value.Value.{Value}
@@ -41,8 +41,7 @@ pub record IsUnstarted (h : Heap) (a : ℕ) : Type 0 where
   pub number : value_at thread.values 2 ≡ NoneValue
 
 -- What the call of a builtin answers, where these are the roots: an item; that it waits; or that a thread is to be
--- started,
--- for which there is room.
+-- started, for which there is room.
 abbrev pub IsCalled : ℕ → Answer → Heap → Type 0
 IsCalled roots (ValueAnswer x) h = IsItem h x
 IsCalled roots Waits h = Unit {0}

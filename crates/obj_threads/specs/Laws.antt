@@ -1,5 +1,5 @@
--- What locks and threads are for, in the words in which `src/laws.rt` ensures it.
--- States `docs/LANGUAGE.md`, "Locks and threads".
+-- What locks and threads are for, in the words in which `src/laws.rt` ensures it. States `docs/LANGUAGE.md`, "Locks and
+-- threads".
 use Rattle.std.specs.Prelude.{◌≡◌, ◌≢◌, ◌⊎◌, ℕ, ℤ, Bool, true, false, codes, List, [], ◌∷◌, Option, Some}
 use Rattle.py_base.specs.declared.kind.Kind.TheVariants.{Lock, Thread}
 use Rattle.py_base.specs.Numbers.{builtin_number}

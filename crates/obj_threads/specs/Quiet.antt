@@ -1,6 +1,6 @@
 -- Calls that wait, or that let a thread start, have done nothing but look; and no call of a builtin of this crate
--- touches the
--- world or starts a thread itself. States `docs/LANGUAGE.md`, "Locks and threads", and `docs/HEAP.md`, "Clients".
+-- touches the world or starts a thread itself. States `docs/LANGUAGE.md`, "Locks and threads", and `docs/HEAP.md`,
+-- "Clients".
 use Rattle.std.specs.Prelude.{◌≡◌, ◌⊎◌, ℕ, List, Option}
 use Rattle.py_data.specs.declared.value.Value.{Value}
 use Rattle.py_data.specs.declared.record.Got.{Got}
@@ -30,8 +30,7 @@ Never p (Ret a) = p a → ⊥
 Never p (Do c k) = (r : Reply c) → Never p (k r)
 
 -- Such an answer comes only where nothing but looks came before it: the row looks, and then goes on so; or no answer
--- from here
--- on is such a one.
+-- from here on is such a one.
 unfoldable pub BehindLooks : {S A : Type 0} → (A → Type 0) → Row S A → Type 0
 BehindLooks p (Ret a) = Unit {0}
 BehindLooks p (Do c k) = (IsLook c × ((r : Reply c) → BehindLooks p (k r))) ⊎ ((r : Reply c) → Never p (k r))

@@ -56,8 +56,7 @@ all_named [] keys = true
 all_named (n ∷ ns) keys = has n keys && all_named ns keys
 
 -- Of parameters that have no argument the last ones have so many defaults; the keywords are among them, and those that
--- have no
--- default are named.
+-- have no default are named.
 abbrev pub are_filled : List (List ℕ) → List (List ℕ) → ℕ → Bool
 are_filled names keys d = are_named names keys && all_named (take (length names - d) names) keys
 

@@ -1,6 +1,5 @@
 -- The row of the call of a class, which makes an instance. States `docs/LANGUAGE.md`, "Calls and frames" and "Classes
--- and
--- instances".
+-- and instances".
 use Rattle.std.specs.Prelude.{ℕ, Bool, true, false, cond, leb, ltb, ◌&&◌, List, [], ◌∷◌, length, slice_set, Option, Some, None, codes}
 use Rattle.py_base.specs.Numbers.{class_number}
 use Rattle.py_base.specs.declared.kind.Kind.{Kind}

@@ -1,6 +1,5 @@
 -- The rows that make functions and classes, and that leave frames. States `docs/LANGUAGE.md`, "Instructions", "Calls
--- and frames"
--- and "Sizes".
+-- and frames" and "Sizes".
 use Rattle.std.specs.Prelude.{ℕ, pos, zero, suc, cond, leb, ltb, true, ◌&&◌, List, [], ◌∷◌, length, Option, Some, None}
 use Rattle.py_base.specs.declared.kind.Kind.{Kind}
 use Rattle.py_base.specs.declared.kind.Kind.TheVariants.{Str, Tuple, Dict, Function, Class}

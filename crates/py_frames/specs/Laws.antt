@@ -47,8 +47,7 @@ abbrev pub WaitLaw : Type 0
 WaitLaw = (p : Program) → WaitsQuietly (prog_of p)
 
 -- The innermost frame of a thread that may stand over the heap, and doesn't die, lacks nothing: it has its code, an
--- instruction
--- at its place, the operands above the innermost block, and what the instruction names.
+-- instruction at its place, the operands above the innermost block, and what the instruction names.
 pub record IsEquipped (p : Program) (f : Frame) : Type 0 where
   pub code : f.code < length p.codes
   pub instr : Instr

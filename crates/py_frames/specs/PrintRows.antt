@@ -1,6 +1,5 @@
 -- The rows that write: PRINT_ITEM, PRINT_NEWLINE, and the last step of a thread that dies. States `docs/LANGUAGE.md`,
--- "Print" and
--- "Exceptions".
+-- "Print" and "Exceptions".
 use Rattle.std.specs.Prelude.{ℕ, pos, Bool, false, cond, not, ◌||◌, ◌==◌, List, [], ◌∷◌, ◌++◌, Option, Some, None, codes}
 use Rattle.std.specs.Fmt.{signed_decimal}
 use Rattle.std.specs.List.{last_or}

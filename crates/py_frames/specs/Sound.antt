@@ -25,8 +25,7 @@ use Rattle.py_frames.specs.State.{State, code_at, limits}
 -- ---- what a program asks of the heap
 
 -- a Function's values: its name, the number of a code that is neither the module's nor a class body's, and a Tuple of
--- defaults,
--- which are no more than the code's parameters
+-- defaults, which are no more than the code's parameters
 pub record IsFunctionOf (p : Program) (h : Heap) (vs : List Value) : Type 0 where
   pub name : Value
   pub number : ℕ
@@ -50,8 +49,7 @@ unfoldable pub rules_of : Program → ℕ → Rules
 rules_of p count = record { function = IsFunctionOf p; cell = λ a v. a ≡ count → IsThreadCount v }
 
 -- The list of a program's roots: the Cell of the count, the classes, the strings, and the Cells of the global names,
--- none of
--- which is that of the count.
+-- none of which is that of the count.
 pub record AreRoots (p : Program) (h : Heap) (count roots : ℕ) : Type 0 where
   pub known : IsRoots h roots
   pub counts : value_at known.list.values 0 ≡ ref count
@@ -65,8 +63,7 @@ abbrev pub heights : List Block → List ℕ
 heights bs = map (λ b. b.height) bs
 
 -- Each open block, from the innermost on, is no higher than what stands above the blocks round it, and its handler
--- finds those
--- blocks, and the exception on a stack of the block's height.
+-- finds those blocks, and the exception on a stack of the block's height.
 abbrev pub BlocksFit : List (Option Sh) → ℕ → ℕ → List Block → Type 0
 BlocksFit t first n [] = Unit {0}
 BlocksFit t first n (b ∷ bs) =
@@ -85,8 +82,7 @@ HasNames h (Some d) made = RefTo h Dict (Ref d) × RefTo h Class made
 HasNames h None made = IsMade h made
 
 -- A frame fits a typing of its code, with so many values still to come: none of the innermost frame, and of another one
--- the value
--- that the frame above it leaves.
+-- the value that the frame above it leaves.
 pub record IsFrame (p : Program) (h : Heap) (extra : ℕ) (f : Frame) : Type 0 where
   pub is : f.code < length p.codes
   pub typing : List (Option Sh)

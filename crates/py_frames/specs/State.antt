@@ -78,8 +78,7 @@ life_of s = life_by s.dying s.frames
 -- ---- raising
 
 -- The innermost open block of a frame takes an exception: the stack is cut to the block's height, the exception is
--- pushed, and
--- the handler follows.
+-- pushed, and the handler follows.
 abbrev pub handled : Value → Frame → Block → List Block → Frame
 handled x f b bs = record f { pc = b.handler; stack = take b.height f.stack ++ x ∷ []; blocks = bs }
 
@@ -130,8 +129,7 @@ abbrev pub closed : Frame → Frame
 closed f = record f { blocks = drop 1 f.blocks }
 
 -- The line of an exception is that of the instruction which ends. A frame that is entered stands on the one that goes
--- on
--- behind the call.
+-- on behind the call.
 unfoldable pub settled : Program → State → ℕ → Frame → List Frame → Next → Outcome × State
 settled p s n f fs (Goes ys) = (Done, with_frames s (advanced n ys (f.pc + 1) f ∷ fs))
 settled p s n f fs (Jumps t ys) = (Done, with_frames s (advanced n ys t f ∷ fs))

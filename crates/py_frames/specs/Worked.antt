@@ -1,6 +1,5 @@
 -- States, arguments and names worked by hand. States `docs/LANGUAGE.md`, "States of threads", "Calls and frames",
--- "Numbers and
--- names", "Print" and "Exceptions".
+-- "Numbers and names", "Print" and "Exceptions".
 use Rattle.std.specs.Fmt.{digits}
 use Rattle.std.specs.Prelude.{◌≡◌, ℕ, pos, true, false, [], ◌∷◌, ◌++◌, Some, None, codes, refl}
 use Rattle.py_base.specs.Numbers.{builtin_number, class_number, class_count}

@@ -1,6 +1,5 @@
 -- The headline: what a run of threads leaves is what one interpreter under one lock leaves. States `docs/LANGUAGE.md`,
--- "The top
--- call".
+-- "The top call".
 use Rattle.std.specs.Prelude.{◌≡◌, ◌≢◌, ℕ, ◌≤◌, List, Option, Some, slice_get, All, AllPairs}
 use Rattle.py_data.specs.declared.stop.Conflict.{Conflict}
 use Rattle.py_data.specs.World.{World, grown}
@@ -22,12 +21,10 @@ pub data Ended {S : Type 0} (p : Prog S) (first : Machine S) (history : List Tur
   Cut : (b : Broken) → Broke p first history w told b → Ended p first history w told
 
 -- THE HEADLINE. The transactions in the history, run as turns one after another by one interpreter under one lock, from
--- its first
--- state over this input, give `machine`. The outputs are those at entry, and then what that run wrote; where a step
--- broke, and
--- then what a beginning of the next step of one thread writes, a thread that has no later turn. No turn is longer than
--- `length`.
--- Each transaction that was aborted had lost a conflict that stood, once, and was not inevitable.
+-- its first state over this input, give `machine`. The outputs are those at entry, and then what that run wrote; where
+-- a step broke, and then what a beginning of the next step of one thread writes, a thread that has no later turn. No
+-- turn is longer than `length`. Each transaction that was aborted had lost a conflict that stood, once, and was not
+-- inevitable.
 pub record Serial {S : Type 0} (p : Prog S) (length : ℕ) (input : SourceState) (out err : Option (List ℕ))
     (history : List Turn) (conflicts : List Conflict) (input1 : SourceState) (out1 err1 : Option (List ℕ)) : Type 0 where
   pub machine : Machine S

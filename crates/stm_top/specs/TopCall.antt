@@ -144,8 +144,7 @@ pub record TextPut (text : List ℕ) (before now : SinkState) : Type 0 where
 -- do
 module _ {P S : Type 0} (is_code : List ℕ → P → Type 0) (refused : List ℕ → Refusal → Type 0) (rows : P → Prog S) where
   -- A script was taken that has a program, and transactions of its threads ran. The report's store has the heap that
-  -- the history
-  -- gives.
+  -- the history gives.
   pub record Ran (o : Options) (a : Devices) (t : Told) (b : Devices) : Type 0 where
     pub text : List ℕ
     pub source : SourceState

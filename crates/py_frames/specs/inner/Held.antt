@@ -1,5 +1,4 @@
--- What code and proofs say to each other: nothing public rests on it.
--- The values that are held in place, or in a list.
+-- What code and proofs say to each other: nothing public rests on it. The values that are held in place, or in a list.
 use Rattle.std.specs.Prelude.{List, []}
 use Rattle.py_data.specs.declared.value.Value.{Value}
 use Rattle.py_frames.specs.declared.pushed.Held.{Held}

@@ -1,5 +1,5 @@
--- What code and proofs say to each other: nothing public rests on it.
--- Instructions that ask nothing of the heap and raise nothing. States `docs/LANGUAGE.md`, "Instructions".
+-- What code and proofs say to each other: nothing public rests on it. Instructions that ask nothing of the heap and
+-- raise nothing. States `docs/LANGUAGE.md`, "Instructions".
 use Rattle.std.specs.Prelude.{◌≡◌, ℤ, Bool, true, false, not, drop, Option, Some, None}
 use Rattle.std.specs.Ordering.{int_cmp, int_eq}
 use Rattle.py_data.specs.declared.value.Value.{Value}

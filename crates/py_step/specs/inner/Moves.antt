@@ -1,5 +1,5 @@
--- What code and proofs say to each other: nothing public rests on it.
--- What the code of a step does over a view. States `docs/LANGUAGE.md`, "States of threads".
+-- What code and proofs say to each other: nothing public rests on it. What the code of a step does over a view. States
+-- `docs/LANGUAGE.md`, "States of threads".
 use Rattle.std.specs.Prelude.{◌≡◌, [], Result, Ok, Err}
 use Rattle.py_data.specs.declared.stop.Stop.{Stop}
 use Rattle.py_data.specs.Row.{Row, Ret, bind}
@@ -12,8 +12,7 @@ use Rattle.py_frames.specs.Raising.{place_of}
 use Rattle.py_frames.specs.State.{State, with_frames}
 
 -- The row was done, its answer is how the step ended and the state that it left; or it was stopped, and the state
--- stayed as it
--- was.
+-- stayed as it was.
 abbrev pub Moves : {X : Type 0} → Sense State X → Row State (Outcome × State) → X → State → X → State →
     Result Outcome Stop → Type 0
 Moves u row v s w t (Ok o) = Run u row v (o, t) w

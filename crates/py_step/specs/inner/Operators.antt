@@ -1,6 +1,5 @@
--- What code and proofs say to each other: nothing public rests on it.
--- Which numbers an instruction may have for its operator, and what a step needs to know of the instruction at hand.
--- States `docs/LANGUAGE.md`, "Right programs".
+-- What code and proofs say to each other: nothing public rests on it. Which numbers an instruction may have for its
+-- operator, and what a step needs to know of the instruction at hand. States `docs/LANGUAGE.md`, "Right programs".
 use Rattle.std.specs.Prelude.{◌≡◌, ◌<◌, List, ◌∷◌, length, Some, None}
 use Rattle.py_base.specs.Numbers.{unary_signs, binary_signs, compare_signs}
 use Rattle.py_code.specs.declared.instr.Instr.{Instr}

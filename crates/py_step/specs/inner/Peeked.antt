@@ -1,6 +1,5 @@
 -- What a row comes to over one heap by looks alone: what the code that tells whether a step would wait, and its proofs,
--- say to
--- each other: nothing public rests on it.
+-- say to each other: nothing public rests on it.
 use Rattle.std.specs.Prelude.{◌≡◌, Bool, true, false}
 use Rattle.py_base.specs.declared.kind.Kind.{Kind}
 use Rattle.py_data.specs.declared.value.Value.{Value}
