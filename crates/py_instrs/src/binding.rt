@@ -1,5 +1,5 @@
 //! How the arguments of a call are bound to the slots of a new frame.
-ghost use Rattle.std.specs.Prelude.{◌≡◌, map, IfOk};
+ghost use Rattle.std.specs.Prelude.{◌≡◌, ◌∷◌, ◌++◌, length, map, OnOk, IfOk};
 ghost use Rattle.py_data.specs.Sense.{Meets, Safe, IsLive};
 ghost use Rattle.py_frames.specs.Binding as binding;
 ghost use Rattle.py_frames.specs.Raising as raising;
@@ -8,7 +8,7 @@ ghost use Rattle.py_frames.specs.State as state;
 use crate::named::{all_named, are_named, last_defaults, push_filled, push_unset};
 use crate::programs::{parameters, params_at, slots_at};
 use crate::raising::{place_in, told, values_row};
-use crate::site::Given;
+use crate::site::{Given, Passed};
 use obj_ops::values_of;
 use py_base::{Bytes, first, skip};
 use py_code::Program;
@@ -51,22 +51,48 @@ fn fits_call(p: &Program, n: u32, args: usize, keys: &[u32], defaults: usize) ->
     args <= params_at(p, n) && are_filled(p, skip(parameters(p, n), args), keys, defaults)
 }
 
+/// What the parameters without an argument get, of which the last ones have these defaults.
+fn push_others(
+    alloc: Global,
+    out: &mut Values,
+    p: &Program,
+    names: &[Bytes],
+    g: &Passed<'_>,
+    defaults: &[Value],
+) -> Result<(), NoMemory>
+    ensures { OnOk result (out.new ≡ out.old ++ binding.filled names.now (map (state.root_name p.now) g.now.names)
+        g.now.values (binding.last_defaults (length names.now) defaults.now)) }
+{
+    if names.is_empty() {
+        return Ok(());
+    }
+    let beside = last_defaults(alloc, names.len(), defaults)?;
+    push_filled(out, p, names, g.names, g.values, beside.as_slice())
+}
+
 /// The slots of the frame: the arguments, what the other parameters get, and nothing in the slots behind them.
 fn bound_slots(
     alloc: Global,
     p: &Program,
     n: u32,
-    g: &Given<'_>,
+    g: &Passed<'_>,
+    count: usize,
     defaults: &[Value],
 ) -> Result<Values, NoMemory>
+    requires { count ≡ length g.now.args }
     ensures { IfOk result (λ xs. xs ≡ binding.bound_slots (state.code_at p.now n) g.now.args
         (map (state.root_name p.now) g.now.names) g.now.values defaults.now) }
 {
-    let names = skip(parameters(p, n), g.args.len());
-    let beside = last_defaults(alloc, names.len(), defaults)?;
     let mut slots = Values::new(alloc);
-    slots.extend_from_slice(g.args)?;
-    push_filled(&mut slots, p, names, g.names, g.values, beside.as_slice())?;
+    g.push_args(&mut slots)?;
+    push_others(
+        alloc,
+        &mut slots,
+        p,
+        skip(parameters(p, n), count),
+        g,
+        defaults,
+    )?;
     push_unset(
         &mut slots,
         slots_at(p, n).len().saturating_sub(params_at(p, n)),
@@ -94,14 +120,15 @@ fn entered(alloc: Global, n: u32, slots: Values) -> Frame
 fn bound_to(
     alloc: Global,
     p: &Program,
-    g: &Given<'_>,
+    g: &Passed<'_>,
     n: u32,
     defaults: &[Value],
 ) -> Result<Got<Frame>, NoMemory>
     ensures { IfOk result (λ x. x ≡ binding.bound_to p.now g.now n defaults.now) }
 {
-    if fits_call(p, n, g.args.len(), g.names, defaults.len()) {
-        let slots = bound_slots(alloc, p, n, g, defaults)?;
+    let count = g.count()?;
+    if fits_call(p, n, count, g.names, defaults.len()) {
+        let slots = bound_slots(alloc, p, n, g, count, defaults)?;
         Ok(Got::Is(entered(alloc, n, slots)))
     } else {
         Ok(Got::Raise(told(alloc, TYPE_ERROR, b"wrong arguments")?))
@@ -114,7 +141,7 @@ fn defaulted_row<S, V: View<S>>(
     alloc: Global,
     v: &mut V,
     p: &Program,
-    g: &Given<'_>,
+    g: &Passed<'_>,
     n: u32,
     d: Addr,
 ) -> Result<Got<Frame>, Stop>
@@ -132,7 +159,7 @@ fn numbered_row<S, V: View<S>>(
     alloc: Global,
     v: &mut V,
     p: &Program,
-    g: &Given<'_>,
+    g: &Passed<'_>,
     f: Addr,
     n: u32,
 ) -> Result<Got<Frame>, Stop>
@@ -144,8 +171,25 @@ fn numbered_row<S, V: View<S>>(
     defaulted_row(alloc, v, p, g, n, place_in(d))
 }
 
-/// What the call of the Function at an address enters: its frame, or TypeError.
+/// What the call of the Function at an address enters, by what is passed on to it.
 #[tactic(auto, using(py_data::proofs::Rows::row_steps, py_data::proofs::Steps::call_steps), unfolding(py_frames::specs::Binding::bound_row))]
+fn passed_row<S, V: View<S>>(
+    alloc: Global,
+    v: &mut V,
+    p: &Program,
+    g: &Passed<'_>,
+    f: Addr,
+) -> Result<Got<Frame>, Stop>
+    requires live { IsLive V.sense v.old }
+    requires safe { Safe V.sense.partial (binding.bound_row {S = S} p.now g.now f.0) (V.sense.heap v.old) }
+    ensures { Meets V.sense (binding.bound_row p.now g.now f.0) v.old v.new result }
+{
+    let n = look(v, f, 1)?;
+    numbered_row(alloc, v, p, g, f, count_in(n)?)
+}
+
+/// What the call of the Function at an address enters: its frame, or TypeError.
+#[tactic(auto, using(py_data::proofs::Rows::row_steps))]
 pub fn bound_row<S, V: View<S>>(
     alloc: Global,
     v: &mut V,
@@ -157,6 +201,23 @@ pub fn bound_row<S, V: View<S>>(
     requires safe { Safe V.sense.partial (binding.bound_row {S = S} p.now g.now f.0) (V.sense.heap v.old) }
     ensures { Meets V.sense (binding.bound_row p.now g.now f.0) v.old v.new result }
 {
-    let n = look(v, f, 1)?;
-    numbered_row(alloc, v, p, g, f, count_in(n)?)
+    passed_row(alloc, v, p, &Passed::new(&[], g), f)
+}
+
+/// The same, where one argument more stands before all others.
+#[tactic(auto, using(py_data::proofs::Rows::row_steps))]
+pub fn bound_first<S, V: View<S>>(
+    alloc: Global,
+    v: &mut V,
+    p: &Program,
+    x: Value,
+    g: &Given<'_>,
+    f: Addr,
+) -> Result<Got<Frame>, Stop>
+    requires live { IsLive V.sense v.old }
+    requires safe { Safe V.sense.partial (binding.bound_row {S = S} p.now (binding.with_first x g.now) f.0)
+        (V.sense.heap v.old) }
+    ensures { Meets V.sense (binding.bound_row p.now (binding.with_first x g.now) f.0) v.old v.new result }
+{
+    passed_row(alloc, v, p, &Passed::new(&[x], g), f)
 }

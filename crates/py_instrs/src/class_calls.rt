@@ -2,17 +2,15 @@
 ghost use Rattle.std.specs.Prelude.{◌≡◌};
 ghost use Rattle.py_data.specs.Fault.{depth_fault};
 ghost use Rattle.py_data.specs.Sense.{Meets, Safe, IsLive};
-ghost use Rattle.py_frames.specs.Binding as binding;
 ghost use Rattle.py_frames.specs.ClassCalls as class_calls;
 ghost use Rattle.py_frames.specs.Raising as raising;
 
-use crate::binding::bound_row;
+use crate::binding::bound_first;
 use crate::instances::new_instance;
 use crate::programs::text_number;
 use crate::raising::{enter, give, place_in, raise_row, raise_text};
-use crate::site::{Given, Site, with_first};
+use crate::site::{Given, Site};
 use obj_class::{inherited, is_sub};
-use py_code::Program;
 use py_data::exception::{BASE_EXCEPTION, RUNTIME_ERROR, TYPE_ERROR};
 use py_data::{Addr, Got, Kind, Stop, Value, View, kind, look};
 use py_frames::{Frame, Next};
@@ -239,30 +237,6 @@ fn init_entered<S, V: View<S>>(
         }
         Got::Raise(e) => raise_row(alloc, v, s.roots, &e),
     }
-}
-
-/// What the call of the Function at an address enters, where one argument more stands before all others.
-#[tactic(auto, using(py_data::proofs::Rows::row_steps))]
-fn bound_first<S, V: View<S>>(
-    alloc: Global,
-    v: &mut V,
-    p: &Program,
-    x: Value,
-    g: &Given<'_>,
-    f: Addr,
-) -> Result<Got<Frame>, Stop>
-    requires live { IsLive V.sense v.old }
-    requires safe { Safe V.sense.partial (binding.bound_row {S = S} p.now (binding.with_first x g.now) f.0)
-        (V.sense.heap v.old) }
-    ensures { Meets V.sense (binding.bound_row p.now (binding.with_first x g.now) f.0) v.old v.new result }
-{
-    let args = with_first(alloc, x, g.args)?;
-    let owned = Given {
-        args: args.as_slice(),
-        names: g.names,
-        values: g.values,
-    };
-    bound_row(alloc, v, p, &owned, f)
 }
 
 /// The call of a class whose `__init__` is the Function at an address. The arguments are bound before the instance is
