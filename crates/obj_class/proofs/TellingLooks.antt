@@ -1,6 +1,5 @@
 -- The rows of texts, those of exceptions among them, only look, may be begun over a heap in order with its list of
--- roots, and
--- answer what is meant.
+-- roots, and answer what is meant.
 use Rattle.std.proofs.Common.{arith, ◌≡◌, ℕ, zero, suc, ◌+◌, ◌*◌, ◌/◌, ◌<◌, Bool, true, false, cond, codes, List, [], ◌∷◌, length, drop, Option, Some, None, refl, sym, ap, subst, ◌∙◌, lit<}
 use Rattle.std.specs.Prelude.{IfSome, is_some, eqb}
 use Rattle.std.specs.Str.{bytes_eq}

@@ -1,6 +1,5 @@
 -- Elements in order: they are the same elements, none is less than one before it, and ties stand as they stood; there
--- is one such
--- order, and what std's stable sort ensures is that one.
+-- is one such order, and what std's stable sort ensures is that one.
 use Rattle.std.proofs.Common.{arith, ◌≡◌, ℕ, zero, suc, ◌+◌, ◌<◌, Bool, true, false, cond, not, ◌&&◌, List, [], ◌∷◌, length, map, refl, sym, ap, subst, ◌∙◌, inl, inr, get_or}
 use Rattle.std.specs.List.{filter}
 use Rattle.std.specs.List.Sorted.{IsPermutation, IsSortedBy, IsStableBy, ties}

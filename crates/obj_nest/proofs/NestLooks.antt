@@ -1,6 +1,5 @@
 -- The rows of equality, order, truth and texts only look, may be begun over every heap in order, and answer what the
--- definitions
--- say: with these four a proof above needs nothing else of these rows.
+-- definitions say: with these four a proof above needs nothing else of these rows.
 use Rattle.std.proofs.Common.{◌≡◌, ℕ, Bool, true, false}
 use Rattle.py_data.specs.declared.value.Value.{Value}
 use Rattle.py_data.specs.Heap.{Heap}

@@ -1,6 +1,5 @@
 -- Equality of lists and of dictionaries, part by part: what it says where it is true, and that it is symmetric and
--- transitive
--- where that of the parts is.
+-- transitive where that of the parts is.
 use Rattle.std.proofs.Common.{arith, ◌≡◌, Bool, true, false, cond, List, [], ◌∷◌, length, Option, Some, None, refl, sym, ap, subst, ◌∙◌, ◌⊎◌, inl, inr}
 use Rattle.std.specs.Prelude.{eqb}
 use Rattle.std.proofs.lemmas.Bool.{eqb-true}

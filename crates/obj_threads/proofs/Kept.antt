@@ -1,6 +1,5 @@
 -- Rows that look, set values and make records, and give such an answer as waits or lets a thread start behind looks
--- alone: how
--- they are put together, and what follows.
+-- alone: how they are put together, and what follows.
 use Rattle.std.proofs.Common.{◌≡◌, ℕ, zero, suc, ◌+◌, Bool, true, false, cond, inl, inr, ◌&&◌, ◌||◌, refl, sym, ap, subst, ◌∙◌}
 use Rattle.py_data.specs.declared.change.Change.TheVariants.{Set}
 use Rattle.py_data.specs.declared.value.Value.{Value}

@@ -1,6 +1,5 @@
 -- Each call of a builtin of `thread` or `threading` looks, sets values and makes records, and waits or lets a thread
--- start
--- behind looks alone.
+-- start behind looks alone.
 use Rattle.std.proofs.Common.{ℕ, ◌==◌, true, false, List, [], ◌∷◌, length, codes, Option, Some, None}
 use Rattle.std.specs.Prelude.{◌/◌, ◌*◌, ◌+◌}
 use Rattle.py_base.specs.declared.kind.Kind.{Kind}

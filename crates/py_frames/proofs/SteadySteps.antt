@@ -1,6 +1,5 @@
 -- In the course of a step no record is longer than before it, or than at its end, and a step that asks whether the
--- output is in
--- mid line goes on to write.
+-- output is in mid line goes on to write.
 use Rattle.std.proofs.Common.{ℕ, zero, suc, Bool, true, false, cond, List, [], ◌∷◌, Option, Some, None, refl}
 use Rattle.std.specs.Prelude.{option_map}
 use Rattle.py_base.specs.declared.kind.Kind.{Kind}
