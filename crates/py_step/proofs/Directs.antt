@@ -32,7 +32,7 @@ use Rattle.py_frames.specs.declared.next.Next.{Next}
 use Rattle.py_frames.specs.declared.next.Next.TheVariants.{Goes, Jumps, Stores, Opens, Closes, Leaves}
 use Rattle.py_frames.specs.declared.state.Frame.{Frame}
 use Rattle.py_frames.specs.ClassCalls.{Site}
-use Rattle.py_frames.specs.FunctionRows.{return_by, value_or_instance, leave_row}
+use Rattle.py_frames.specs.FunctionRows.{return_by, value_or_instance, leave_row, instance_row}
 use Rattle.py_frames.specs.LocalRows.{const_row, load_local_row}
 use Rattle.py_frames.specs.OperatorRows.{binary_instr, in_place_instr, compare_instr, jump_false_row, fall_or_jump}
 use Rattle.py_frames.specs.Raising.{give}
@@ -245,6 +245,23 @@ module _ (z : Site) (f : Frame) where
   return_row_is (Ref a) n u d e q = returned_row_is (Ref a) (z.depth - 1) n f.made f.names d e q
   return_row_is (Builtin b) n u d e q = returned_row_is (Builtin b) (z.depth - 1) n f.made f.names d e q
 
+  -- a frame that makes an instance
+  made_row_is : (m : Value) (names : Option Addr) → (m ≡ Unset → ⊥) → names ≡ None →
+      return_by {S = State} z.roots z.thread (code_at z.program f.code).name (z.depth - 1) NoneValue m names
+      ≡ Ret (Leaves m)
+  unfolding return_by value_or_instance instance_row
+  made_row_is m (Some d) u q = absurd (let r : Some d ≡ None = q in cc)
+  made_row_is Unset None u q = absurd (u refl)
+  made_row_is NoneValue None u q = refl
+  made_row_is (Truth b) None u q = refl
+  made_row_is (Int i) None u q = refl
+  made_row_is (Ref a) None u q = refl
+  made_row_is (Builtin b) None u q = refl
+
+  init_row_is : (f.made ≡ Unset → ⊥) → f.names ≡ None → guarded_row z f (NoneValue ∷ []) Return ≡ Ret (Leaves f.made)
+  unfolding guarded_row instr_row
+  init_row_is u q = made_row_is f.made f.names u q
+
 -- ---- their steps
 
 -- over these operands
@@ -336,6 +353,17 @@ module _ (s s1 : State) (done : Bool) where
         (λ z. compare_row_is z top a b op c q)) h
 
 -- ---- RETURN
+
+-- of None, from a frame that makes an instance
+pub made_done : (s s1 : State) (b : Bool) (x m : Value) → x ≡ value_at (operands 1 (innermost s.frames)) 0 →
+    x ≡ NoneValue → m ≡ (innermost s.frames).made → (m ≡ Unset → ⊥) → (innermost s.frames).names ≡ None →
+    Follows s 1 (Leaves m) b s1 → IsAtOnce s Return b s1
+made_done s s1 b x m e n d u q h =
+    let top = innermost s.frames in
+    let unset : NoneValue ≡ Unset → ⊥ = λ r. cc in
+    followed s s1 1 Return (Leaves m) b (λ p. refl)
+    (over_operands s.frames 1 Return (Leaves m) (NoneValue ∷ []) (one_of top NoneValue (sym n ∙ e) unset)
+    (λ z. init_row_is z top (λ r. u (d ∙ r)) q ∙ ap (λ m. Ret (Leaves m)) (sym d))) h
 
 -- the thread lives on, so the innermost frame stands on another one
 left_by : (p : Program) (s s1 : State) (x : Value) (fs : List Frame) → operands 1 (innermost fs) ≡ x ∷ [] →

@@ -151,13 +151,15 @@ fn branch(s: &mut ThreadState, place: u32) -> bool
     }
 }
 
-/// RETURN of a value from a function that another one called, if its frame makes nothing.
+/// RETURN from a function that another one called: of a value, where its frame makes nothing, or of None from one that
+/// makes an instance.
 fn leave(s: &mut ThreadState) -> bool
     ensures { IsAtOnce s.old Return result s.new }
 {
     match (s.operand(1, 0), s.made(), s.names()) {
         (Value::Unset, _, _) => false,
         (x, Value::Unset, None) => s.returns(1, x),
+        (Value::None, made, None) => s.returns(1, made),
         _ => false,
     }
 }
