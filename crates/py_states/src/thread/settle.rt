@@ -61,8 +61,7 @@ impl ThreadState {
         ensures err { OnErr result (self.new ≡ self.old) }
     {
         let place = self.frames.next_place()?;
-        self.frames.go_on(n, &[], place);
-        self.frames.store(i as usize, x);
+        self.frames.keep(n, i as usize, x, place);
         Ok(Outcome::Done)
     }
 
@@ -75,7 +74,7 @@ impl ThreadState {
         let place = self.frames.next_place()?;
         let height = self.frames.height_below(n)?;
         self.frames.make_room(0, 0, 1)?;
-        self.frames.go_on(n, &[], place);
+        self.frames.pass(n, place);
         self.frames.open(Block { handler, height });
         Ok(Outcome::Done)
     }
@@ -86,7 +85,7 @@ impl ThreadState {
         ensures err { OnErr result (self.new ≡ self.old) }
     {
         let place = self.frames.next_place()?;
-        self.frames.go_on(n, &[], place);
+        self.frames.pass(n, place);
         self.frames.close();
         Ok(Outcome::Done)
     }
@@ -99,7 +98,7 @@ impl ThreadState {
     {
         let place = self.frames.next_place()?;
         self.frames.make_room_for(frame)?;
-        self.frames.go_on(n, &[], place);
+        self.frames.pass(n, place);
         self.frames.push(frame);
         Ok(Outcome::Done)
     }
@@ -124,7 +123,7 @@ impl ThreadState {
         ensures err { OnErr result (self.new ≡ self.old) }
     {
         let place = self.frames.next_place()?;
-        self.frames.go_on(n, &[], place);
+        self.frames.pass(n, place);
         self.roots = Some(roots);
         Ok(Outcome::Done)
     }
