@@ -52,6 +52,7 @@ impl Frames {
     }
 
     /// The innermost frame goes on at a place, with these values in the place of its `n` operands.
+    #[inline(always)]
     pub fn advance(&mut self, n: usize, ys: &[Value], place: u32) -> Result<(), NoMemory>
         ensures ok { OnOk result (self.new.frames ≡ on_top (advanced n ys.now place) self.old.frames) }
         ensures err { OnErr result (self.new.frames ≡ self.old.frames) }

@@ -66,6 +66,7 @@ impl ThreadState {
     }
 
     /// A block begins, and the next place follows.
+    #[inline(never)]
     pub(super) fn opens(&mut self, n: usize, handler: u32) -> Result<Outcome, NoMemory>
         ensures ok { IfOk result (λ o. Settles
             (Done, with_top self.old (λ f. opened handler (length f.stack - n) (passed n f))) o self.new) }
@@ -80,6 +81,7 @@ impl ThreadState {
     }
 
     /// The innermost block ends, and the next place follows.
+    #[inline(never)]
     pub(super) fn closes(&mut self, n: usize) -> Result<Outcome, NoMemory>
         ensures ok { IfOk result (λ o. Settles (Done, with_top self.old (λ f. closed (passed n f))) o self.new) }
         ensures err { OnErr result (self.new ≡ self.old) }
@@ -91,6 +93,7 @@ impl ThreadState {
     }
 
     /// A frame is entered. The one round it stands on the next place.
+    #[inline(never)]
     fn enters(&mut self, n: usize, frame: &Frame) -> Result<Outcome, NoMemory>
         ensures ok { IfOk result (λ o. Settles
             (Done, with_frames self.old (frame.now ∷ on_top (passed n) self.old.frames)) o self.new) }
@@ -104,6 +107,7 @@ impl ThreadState {
     }
 
     /// The innermost frame is left with a value.
+    #[inline(never)]
     pub(super) fn leaves(&mut self, x: Value) -> Result<Outcome, NoMemory>
         ensures ok { IfOk result (λ o. Settles (returned self.old x (drop 1 self.old.frames)) o self.new) }
         ensures err { OnErr result (self.new ≡ self.old) }
@@ -117,6 +121,7 @@ impl ThreadState {
     }
 
     /// The program's roots stand there, and the next place follows.
+    #[inline(never)]
     fn begins(&mut self, n: usize, roots: Addr) -> Result<Outcome, NoMemory>
         ensures ok { IfOk result (λ o. Settles (Done, record (with_top self.old (passed n)) { roots = Some roots }) o
             self.new) }
@@ -142,6 +147,7 @@ impl ThreadState {
     }
 
     /// The same, at the line of the innermost frame's instruction.
+    #[inline(never)]
     fn raises(&mut self, program: &Program, first: usize, x: Value) -> Result<Outcome, NoMemory>
         ensures ok { IfOk result (λ o. Settles (
           Done,
