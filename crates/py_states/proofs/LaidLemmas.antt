@@ -2,14 +2,15 @@
 use Rattle.std.proofs.Common.{arith, ◌≡◌, ℕ, zero, suc, min, ◌+◌, ◌-◌, ◌<◌, ◌≤◌, ◌==◌, cond, List, [], ◌∷◌, ◌++◌, length, take, drop, Option, Some, ◌≢◌, refl, sym, ap, subst, ◌∙◌, slice_set, eq-eqb}
 use Rattle.std.proofs.Math.Dec.{eqb-suc-zero}
 use Rattle.std.proofs.lemmas.Bool.{ne_eqb}
-use Rattle.std.proofs.lemmas.List.{length-drop, length-take, length-take-le, take-take, take-append-le, drop-append-le, drop-take, take_min, append-nil, take-set-le, set_past, drop-set-add, drop-set-lt}
+use Rattle.std.proofs.lemmas.List.{length-drop, length-take, length-take-le, take-take, take-append-le, drop-append-le, drop-take, take_min, append-nil, take-set-le, set_past, take_all, drop-set-add, drop-set-lt}
 use Rattle.py_data.specs.declared.value.Value.{Value}
 use Rattle.py_frames.specs.declared.state.Block.{Block}
 use Rattle.py_frames.specs.declared.state.Frame.{Frame}
-use Rattle.py_frames.specs.State.{advanced, stored}
+use Rattle.py_frames.specs.State.{advanced, pushed, stored}
 use Rattle.py_states.specs.declared.head.Head.{Head}
 use Rattle.py_states.specs.inner.Laid.{frame_of, laid, moved, IsLaid, opening}
 use Rattle.py_states.specs.inner.Changes.{on_top, restacked, placed, catching, catching_by}
+use Rattle.py_states.proofs.TopLemmas.{pushed_is}
 
 -- there is a frame for each head
 pub length_laid : (hs : List Head) (vs : List Value) (bs : List Block) → length (laid hs vs bs) ≡ length hs
@@ -86,6 +87,26 @@ restacked_laid h hs m k vs ys bs e laid_so is =
     let whole : IsLaid (h ∷ drop 1 hs) vs bs = subst (λ z. IsLaid z vs bs) e laid_so in
     subst (λ z. laid z (take k vs ++ ys) bs ≡ on_top (restacked m ys) (laid z vs bs)) (sym e)
     (restacked_cons h (drop 1 hs) m k vs ys bs whole.0 is)
+
+-- one value more
+pushed_cons : (x : Value) (h : Head) (hs : List Head) (vs : List Value) (bs : List Block) →
+    h.base + h.slots ≤ length vs → laid (h ∷ hs) (vs ++ x ∷ []) bs ≡ on_top (pushed x) (laid (h ∷ hs) vs bs)
+pushed_cons x h hs vs bs low =
+    let n : ℕ = length vs in
+    let m : ℕ = n - h.base - h.slots in
+    let own : length (drop h.base vs) ≡ n - h.base = length-drop h.base vs in
+    let tall : length (drop h.slots (drop h.base vs)) ≡ m =
+    length-drop h.slots (drop h.base vs) ∙ ap (λ z. z - h.slots) own in
+    ap (λ z. laid (h ∷ hs) (z ++ x ∷ []) bs) (sym (take_all n vs (omega arith)))
+    ∙ (restacked_cons h hs m n vs (x ∷ []) bs low (omega (arith, low))
+    ∙ pushed_is m x (laid (h ∷ hs) vs bs) (sym tall))
+
+pub pushed_laid : (x : Value) (h : Head) (hs : List Head) (vs : List Value) (bs : List Block) → hs ≡ h ∷ drop 1 hs →
+    IsLaid hs vs bs → laid hs (vs ++ x ∷ []) bs ≡ on_top (pushed x) (laid hs vs bs)
+pushed_laid x h hs vs bs e laid_so =
+    let whole : IsLaid (h ∷ drop 1 hs) vs bs = subst (λ z. IsLaid z vs bs) e laid_so in
+    subst (λ z. laid z (vs ++ x ∷ []) bs ≡ on_top (pushed x) (laid z vs bs)) (sym e)
+    (pushed_cons x h (drop 1 hs) vs bs whole.0)
 
 -- the innermost frame at another place, with others in the place of its n operands
 advanced_cons : (h : Head) (hs : List Head) (n t k : ℕ) (vs ys : List Value) (bs : List Block) →

@@ -4,7 +4,7 @@ ghost use Rattle.py_states.specs.Innermost.{innermost};
 ghost use Rattle.py_states.specs.inner.Changes.{on_top, restacked, placed, catching};
 ghost use Rattle.py_states.specs.inner.Framed.{HasRoom};
 ghost use Rattle.py_states.specs.inner.Laid.{opening};
-ghost use Rattle.py_frames.specs.State.{advanced, stored, opened, closed};
+ghost use Rattle.py_frames.specs.State.{advanced, pushed, stored, opened, closed};
 
 use crate::head::Head;
 use crate::pile::Pile;
@@ -216,6 +216,17 @@ impl Frames {
             let left = self.values.len() - height.saturating_sub(m);
             self.values.truncate(left);
             self.values.extend(ys);
+        }
+    }
+
+    /// Puts a value on the innermost frame's stack, for which there is room.
+    #[tactic(auto, using(crate::proofs::LaidLemmas::pushed_laid))]
+    pub fn push_value(&mut self, x: Value)
+        requires { 0 < self.old.more_values }
+        ensures { self.new.frames ≡ on_top (pushed x) self.old.frames }
+    {
+        if let Some(_) = self.heads.top() {
+            self.values.push(x);
         }
     }
 

@@ -74,15 +74,13 @@ impl Frames {
     }
 
     /// Leaves the innermost frame; the one round it gets its value.
-    #[tactic(auto, using(crate::proofs::TopLemmas::pushed_is))]
     pub fn leave(&mut self, x: Value) -> Result<(), NoMemory>
         ensures ok { OnOk result (self.new.frames ≡ on_top (pushed x) (drop 1 self.old.frames)) }
         ensures err { OnErr result (self.new.frames ≡ self.old.frames) }
     {
         self.make_room_for_values(1)?;
         self.pop();
-        let height = self.height();
-        self.restack(height, &[x]);
+        self.push_value(x);
         Ok(())
     }
 
