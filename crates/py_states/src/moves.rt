@@ -1,5 +1,5 @@
 //! What the frames of a thread do, of changes of the innermost one.
-ghost use Rattle.std.specs.Prelude.{◌≡◌, ◌+◌, ◌-◌, ◌≤◌, [], ◌∷◌, length, drop, OnOk, OnErr, IfOk};
+ghost use Rattle.std.specs.Prelude.{◌≡◌, ◌+◌, ◌-◌, ◌≤◌, [], length, drop, OnOk, OnErr, IfOk};
 ghost use Rattle.py_states.specs.Innermost.{innermost};
 ghost use Rattle.py_states.specs.inner.Framed.{HasRoom};
 ghost use Rattle.py_states.specs.inner.Changes.{on_top, caught, IsThrown};
@@ -37,7 +37,6 @@ impl Frames {
 
     /// The innermost frame goes on at a place, with these values in the place of its `n` operands, for which room has
     /// to be made.
-    #[cold]
     #[inline(never)]
     #[tactic(auto, using(crate::proofs::TopLemmas::go_on_is))]
     fn advance_by_more(&mut self, n: usize, ys: &[Value], place: u32) -> Result<(), NoMemory>
@@ -62,12 +61,9 @@ impl Frames {
                 self.pass(n, place);
                 Ok(())
             }
-            [x] => {
-                if self.has_room_for_value() {
-                    self.give(n, *x, place);
-                    return Ok(());
-                }
-                self.advance_by_more(n, ys, place)
+            [x] if self.has_room_for_value() => {
+                self.give(n, *x, place);
+                Ok(())
             }
             _ => self.advance_by_more(n, ys, place),
         }

@@ -1,5 +1,5 @@
 //! What an instruction leads to, done to the state of the thread.
-ghost use Rattle.std.specs.Prelude.{◌≡◌, ◌+◌, ◌-◌, [], ◌∷◌, length, drop, get_or, Some, IfOk, OnErr};
+ghost use Rattle.std.specs.Prelude.{◌≡◌, ◌+◌, ◌-◌, ◌∷◌, length, drop, get_or, Some, IfOk, OnErr};
 ghost use Rattle.lock_run.specs.declared.client.Outcome.TheVariants.{Done};
 ghost use Rattle.py_frames.specs.State.{advanced, closed, code_at, line_at as line_of, opened, passed, returned, stored, thrown_to, unwound, with_frames};
 ghost use Rattle.py_states.specs.Innermost.{innermost, settled_in, Settles};
