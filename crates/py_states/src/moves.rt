@@ -1,5 +1,5 @@
 //! What the frames of a thread do, of changes of the innermost one.
-ghost use Rattle.std.specs.Prelude.{◌≡◌, ◌+◌, ◌-◌, ◌≤◌, [], length, drop, OnOk, OnErr, IfOk};
+ghost use Rattle.std.specs.Prelude.{◌≡◌, ◌+◌, ◌-◌, ◌≤◌, [], ◌∷◌, length, drop, OnOk, OnErr, IfOk};
 ghost use Rattle.py_states.specs.Innermost.{innermost};
 ghost use Rattle.py_states.specs.inner.Framed.{HasRoom};
 ghost use Rattle.py_states.specs.inner.Changes.{on_top, caught, IsThrown};
@@ -35,8 +35,20 @@ impl Frames {
         self.make_room(values, 1, g.blocks.len())
     }
 
-    /// The innermost frame goes on at a place, with these values in the place of its `n` operands, for which room has
-    /// to be made.
+    /// The innermost frame goes on at a place, with a value in the place of its `n` operands, for which room has to be
+    /// made.
+    #[cold]
+    #[inline(never)]
+    fn give_beyond(&mut self, n: usize, x: Value, place: u32) -> Result<(), NoMemory>
+        ensures ok { OnOk result (self.new.frames ≡ on_top (advanced n (x ∷ []) place) self.old.frames) }
+        ensures err { OnErr result (self.new.frames ≡ self.old.frames) }
+    {
+        self.make_room_for_values(1)?;
+        self.give(n, x, place);
+        Ok(())
+    }
+
+    /// The same with several values.
     #[inline(never)]
     #[tactic(auto, using(crate::proofs::TopLemmas::go_on_is))]
     fn advance_by_more(&mut self, n: usize, ys: &[Value], place: u32) -> Result<(), NoMemory>
@@ -65,6 +77,7 @@ impl Frames {
                 self.give(n, *x, place);
                 Ok(())
             }
+            [x] => self.give_beyond(n, *x, place),
             _ => self.advance_by_more(n, ys, place),
         }
     }
